@@ -1,13 +1,13 @@
 -- What an update changes: place by place, and document by document.
-use Rattle.std.proofs.Common.{◌≡◌, ℕ, suc, ◌+◌, ◌<◌, ◌≤◌, List, [], ◌∷◌, ◌++◌, length, map, drop, refl, sym, ap, ◌∙◌, subst, append-nil, append_assoc, add-one, arith}
+use Rattle.std.proofs.Common.{refl, append_assoc, ◌≡◌, ℕ, suc, ◌+◌, ◌<◌, ◌≤◌, List, [], ◌∷◌, ◌++◌, length, map, drop, sym, ap, ◌∙◌, subst, append-nil, add-one, arith}
 use Rattle.std.proofs.lemmas.List.{drop_all}
 use Rattle.yq_flow_scalars.specs.Tree.{Node}
 use Rattle.yq_documents.specs.Documents.{Document}
 use Rattle.yq_meaning.specs.Changes.{Room, Changed, put_at, at_each, with_value, changes_at, changes_in, changes_from}
-use Rattle.yq_meaning.specs.Judgement.{MatchFails, Judgement, and_then, gives, refuses}
+use Rattle.yq_meaning.specs.Judgement.{MatchFails, Judgement, and_then, gives}
 use Rattle.yq_meaning.specs.Meaning.{roots_of}
-use Rattle.yq_matching.specs.PlaceView.{places_of, put_behind}
-use Rattle.yq_meaning.specs.Places.{Place, root_place, for_each}
+use Rattle.yq_matching.specs.PlaceView.{put_behind}
+use Rattle.yq_meaning.specs.Places.{Place, for_each}
 use Rattle.yq_program.specs.Program.{Stage, Term, Update, assign}
 use Rattle.yq_meaning.specs.RightValues.{right_value}
 use Rattle.yq_matching.specs.declared.matching.place.Place as declared
@@ -42,22 +42,12 @@ module _ (doc : ℕ) (room : Room) (root : Node) (left : List Stage) (op : Opera
       ap (λ (us : List Term). at_each root (λ p. and_then (put_at p) (right_value doc us p)) ps) same
       ∙ ap (λ (o : Operator). changes_at doc room root (assign left o right) ps) (sym is)
 
--- as many places of the code as they stand for
-pub some_places : (ps : List declared.Place) → 0 < length ps → 0 < length (places_of ps)
-some_places [] h = absurd (omega (arith, h))
-some_places (p ∷ ps) h = omega arith
-
--- the right side of an update, evaluated from the root
-pub from_root : (doc : ℕ) (root : Node) (ts : List Term) (p : Place) → p ≡ root_place root → right_value doc ts p ≡ right_value doc ts (root_place root)
-from_root doc root ts p at = ap (right_value doc ts) at
-
 -- ---- documents
 
 -- the changes of one document before those of others
 put_one : {B : Type 0} (before : List B) (j : Judgement B) (k : Judgement (List B)) → put_behind before (and_then (λ first. and_then (λ others. gives (first ∷ others)) k) j) ≡ and_then (λ first. put_behind (before ++ first ∷ []) k) j
 put_one before (gives x) (gives xs) = ap gives (sym (append_assoc before (x ∷ []) xs))
-put_one before (gives x) (refuses why) = refl
-put_one before (refuses why) k = refl
+put_one before _ _ = refl
 
 module _ (u : Update) (rooms : ℕ → Room) where
   -- those from one document on, that one being known

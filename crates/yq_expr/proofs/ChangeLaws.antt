@@ -1,7 +1,7 @@
 -- Changes at a place: steps that are missing, and what is added.
-use Rattle.std.proofs.Common.{◌≡◌, ℕ, zero, suc, ◌-◌, ◌≤◌, true, false, cond, List, [], ◌∷◌, ◌++◌, length, map, take, drop, get_or, reverse, Some, None, refl, sym, ap, ◌∙◌, arith}
+use Rattle.std.proofs.Common.{◌≡◌, ℕ, zero, suc, ◌-◌, ◌≤◌, Bool, cond, List, [], ◌∷◌, ◌++◌, length, map, take, drop, get_or, Some, None, refl, sym, ap, ◌∙◌, arith}
 use Rattle.std.specs.List.{list_any}
-use Rattle.std.proofs.lemmas.List.{map_push, reverse-append, take_rest}
+use Rattle.std.proofs.lemmas.List.{map_push, take_rest}
 use Rattle.yq_flow_scalars.specs.Tree as tree
 use Rattle.yq_flow_scalars.specs.Tree.{Node, none, child}
 use Rattle.yq_documents.specs.TreeEdits.{new_label}
@@ -15,16 +15,13 @@ use Rattle.yq_program.specs.Program.{is_index, Step, key, index, each}
 pub nested_last : (ms : List Step) (m : Step) (v : Node) → nested (ms ++ m ∷ []) v ≡ nested ms (nested (m ∷ []) v)
 nested_last [] m v = refl
 nested_last (key k ∷ ms) m v = ap (λ (n : Node). tree.map None (child (new_label (Some k)) n none)) (nested_last ms m v)
-nested_last (index i ∷ ms) m v = nested_last ms m v
-nested_last (each ∷ ms) m v = nested_last ms m v
+nested_last (_ ∷ ms) m v = nested_last ms m v
 
 -- a list, its last element apart
 last_apart : {X : Type 0} (xs : List X) (n : ℕ) (x : X) → length xs ≡ suc n → x ≡ get_or xs n x → xs ≡ take n xs ++ x ∷ []
-last_apart [] n x long is = absurd (omega (arith, long))
 last_apart (y ∷ []) zero x long is = ap (λ z. z ∷ []) (sym is)
-last_apart (y ∷ []) (suc n) x long is = absurd (omega (arith, long))
-last_apart (y ∷ (z ∷ zs)) zero x long is = absurd (omega (arith, long))
 last_apart (y ∷ (z ∷ zs)) (suc n) x long is = ap (λ ys. y ∷ ys) (last_apart (z ∷ zs) n x (omega (arith, long)) is)
+last_apart _ _ x long is = absurd (omega (arith, long))
 
 split_last : {X : Type 0} (xs : List X) (x : X) → 1 ≤ length xs → x ≡ get_or xs (length xs - 1) x → xs ≡ take (length xs - 1) xs ++ x ∷ []
 split_last xs x some is = last_apart xs (length xs - 1) x (omega (arith, some)) is
@@ -43,26 +40,11 @@ split_first : {X : Type 0} (xs : List X) (x : X) → 1 ≤ length xs → x ≡ g
 split_first [] x some is = absurd (omega (arith, some))
 split_first (y ∷ ys) x some is = ap (λ z. z ∷ ys) (sym is) ∙ ap (λ zs. x ∷ zs) (sym (take_rest (y ∷ ys) 1))
 
--- a view of a list that is turned round
-pub reverse_map : {X A : Type 0} (f : X → A) (xs : List X) → map f (reverse xs) ≡ reverse (map f xs)
-reverse_map f [] = refl
-reverse_map {X} {A} f (x ∷ xs) =
-    ap (map f) (turned x xs) ∙ (map_push f (reverse xs) x ∙ (ap (λ (ys : List A). ys ++ f x ∷ []) (reverse_map f xs) ∙ sym (turned (f x) (map f xs))))
-  where
-    turned : {Y : Type 0} (y : Y) (ys : List Y) → reverse (y ∷ ys) ≡ reverse ys ++ y ∷ []
-    turned y ys = reverse-append (y ∷ []) ys
-
--- no item is made
-pub put_no_item : {X : Type 0} (f : X → Step) (n : Node) (xs : List X) (x : X) (v : Node) → 1 ≤ length xs → x ≡ get_or xs 0 x → list_any (λ s. is_index (f s)) xs ≡ true → put_below n (map f xs) v ≡ refuses IndexOutOfRange
-put_no_item {X} f n xs x v some is indexed =
+-- below a node no item is made, and entries are
+pub put_first : {X : Type 0} (f : X → Step) (n : Node) (xs : List X) (x : X) (v : Node) (b : Bool) → 1 ≤ length xs →
+    x ≡ get_or xs 0 x → list_any (λ s. is_index (f s)) xs ≡ b →
+    put_below n (map f xs) v ≡ cond b (refuses IndexOutOfRange) (gives (created n (f x) (map f (take (length xs - 1) (drop 1 xs))) v))
+put_first {X} f n xs x v b some is indexed =
     ap (λ (ys : List X). put_below n (map f ys) v) (split_first xs x some is)
-    ∙ ap (λ b. cond b (refuses IndexOutOfRange) (gives (created n (f x) (map f (take (length xs - 1) (drop 1 xs))) v)))
-    (list_any_map is_index f (x ∷ take (length xs - 1) (drop 1 xs)) ∙ (ap (list_any (λ s. is_index (f s))) (sym (split_first xs x some is)) ∙ indexed))
-
--- entries are
-pub put_created : {X : Type 0} (f : X → Step) (n : Node) (xs : List X) (x : X) (v : Node) → 1 ≤ length xs → x ≡ get_or xs 0 x → list_any (λ s. is_index (f s)) xs ≡ false →
-    put_below n (map f xs) v ≡ gives (created n (f x) (map f (take (length xs - 1) (drop 1 xs))) v)
-put_created {X} f n xs x v some is indexed =
-    ap (λ (ys : List X). put_below n (map f ys) v) (split_first xs x some is)
-    ∙ ap (λ b. cond b (refuses IndexOutOfRange) (gives (created n (f x) (map f (take (length xs - 1) (drop 1 xs))) v)))
+    ∙ ap (λ c. cond c (refuses IndexOutOfRange) (gives (created n (f x) (map f (take (length xs - 1) (drop 1 xs))) v)))
     (list_any_map is_index f (x ∷ take (length xs - 1) (drop 1 xs)) ∙ (ap (list_any (λ s. is_index (f s))) (sym (split_first xs x some is)) ∙ indexed))

@@ -1,6 +1,5 @@
 -- What is changed at the items or values of a node, one after the other.
-use Rattle.std.proofs.Common.{◌≡◌, ℕ, suc, ◌+◌, List, [], ◌∷◌, map, refl, sym, ap, ◌∙◌, add-one, append-nil, arith}
-use Rattle.yq_flow_scalars.specs.Paths as paths
+use Rattle.std.proofs.Common.{◌≡◌, ℕ, suc, ◌+◌, List, ◌∷◌, map, refl, sym, ap, ◌∙◌, add-one, append-nil, arith}
 use Rattle.yq_flow_scalars.specs.Tree.{Label, Node, Children, none, child}
 use Rattle.yq_matching.specs.PlaceView.{put_behind}
 use Rattle.yq_matching.proofs.EachLaws.{each_more, each_fails}

@@ -1,14 +1,13 @@
 -- The sum of two scalars with which a right side begins.
-use Rattle.std.proofs.Common.{◌≡◌, ℕ, cond, false, List, [], ◌∷◌, length, map, get_or, None, refl, sym, ap, ◌∙◌, arith}
+use Rattle.std.proofs.Common.{refl, ◌≡◌, ℕ, cond, false, List, [], ◌∷◌, length, map, get_or, None, sym, ap, ◌∙◌, arith}
 use Rattle.yq_flow_scalars.specs.declared.kind.Kind.{Kind}
-use Rattle.yq_flow_scalars.specs.declared.kind.Kind.TheVariants as scalars
 use Rattle.yq_flow_scalars.specs.Tree as tree
 use Rattle.yq_flow_scalars.specs.Tree.{Node, alias, scalar, list}
 use Rattle.yq_document_nodes.specs.Nodes.{kind_of, text_of}
 use Rattle.yq_document_nodes.specs.declared.nodes.node.NodeKind.TheVariants as kinds
 use Rattle.yq_expr.specs.Summand.{IsSummand}
 use Rattle.yq_meaning.specs.Copies.{copy}
-use Rattle.yq_meaning.specs.Judgement.{Judgement, and_then, gives, refuses}
+use Rattle.yq_meaning.specs.Judgement.{Judgement, and_then, gives}
 use Rattle.yq_meaning.specs.Places.{Place}
 use Rattle.yq_meaning.specs.RightValues.{is_null, scalar_sum, value_sum, sum, term_value, right_value}
 use Rattle.yq_program.specs.Program.{Term}
@@ -16,7 +15,7 @@ use Rattle.yq_program.specs.Program.{Term}
 -- nothing more comes of a last step that gives what it has
 then_same : (j : Judgement Node) → and_then (λ (u : Node). gives u) j ≡ j
 then_same (gives x) = refl
-then_same (refuses why) = refl
+then_same _ = refl
 
 -- the sum of two scalars that are not null
 scalars_added : (k l : Kind) (s r : List ℕ) → is_null (scalar None k s) ≡ false → is_null (scalar None l r) ≡ false → sum (scalar None k s) (scalar None l r) ≡ scalar_sum k s l r
@@ -41,15 +40,5 @@ two_added view doc p (a ∷ (b ∷ (c ∷ cs))) x y k l s r long is at one two =
 
 -- a scalar is copied as it is
 pub scalar_copied : (n : Node) (k : Kind) → kind_of n ≡ kinds.Scalar k → copy n ≡ gives (scalar None k (text_of n))
-scalar_copied (alias name) k e = absurd (cc)
 scalar_copied (scalar anchor kind text) k e = cc
-scalar_copied (list anchor cs) k e = absurd (cc)
-scalar_copied (tree.map anchor cs) k e = absurd (cc)
-
--- no kind but null is that of null
-pub is_some : (k : Kind) (t : List ℕ) → ¬ (k ≡ scalars.Null) → is_null (scalar None k t) ≡ false
-is_some scalars.Null t other = absurd (other refl)
-is_some scalars.Bool t other = refl
-is_some scalars.Int t other = refl
-is_some scalars.Float t other = refl
-is_some scalars.Text t other = refl
+scalar_copied _ k e = absurd (cc)

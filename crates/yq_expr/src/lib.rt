@@ -1,6 +1,7 @@
 //! Programs matched in documents, and planned on them.
 #![tactic(auto)]
 
+mod at_places;
 mod changes;
 mod effect;
 mod matched;

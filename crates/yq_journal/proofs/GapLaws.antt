@@ -1,10 +1,9 @@
 -- What stands before and behind a cursor, as bytes go over it.
-use Rattle.std.proofs.Common.{◌≡◌, ◌≢◌, ℕ, suc, ◌+◌, ◌<◌, List, [], ◌++◌, length, take, drop, refl, sym, ap, ◌∙◌, arith, append_assoc, append-nil, length-append, Some, None}
+use Rattle.std.proofs.Common.{◌≡◌, ◌≢◌, ℕ, ◌+◌, ◌<◌, List, ◌++◌, length, take, drop, refl, sym, ap, ◌∙◌, arith, append_assoc, append-nil, length-append, Some, None, rules}
 use Rattle.std.specs.Prelude.{reverse}
 use Rattle.std.proofs.lemmas.Grind.{common_steps}
 use Rattle.std.proofs.Math.Seq.{drop-append_seam, take-append_seam}
 use Rattle.std.proofs.lemmas.List.{reverse-append, reverse-reverse, take-append-drop, nil_from_length}
-use Prim.Native.Nat.{zero}
 use Rattle.yq_script.specs.Splice.{Splice, Exchanges, change_done}
 use Rattle.yq_script.proofs.SpliceLaws.{done-from_exchanges, exchanges-from_done}
 use Rattle.yq_journal.specs.GapBuffer.{change}
@@ -18,14 +17,7 @@ append_same xs ys zs ws long same =
 
 -- bytes go from behind the cursor to before it, those that were moved back first
 pub moved_over : (front back rest front' back' : List ℕ) (n : ℕ) → front' ++ reverse back' ≡ front ++ reverse back → (0 < n → length back' ≡ 0) → (front' ++ take n rest) ++ (reverse back' ++ drop n rest) ≡ front ++ (reverse back ++ rest)
-moved_over front back rest front' back' zero same used =
-    ap (λ x. x ++ (reverse back' ++ rest)) (append-nil front')
-    ∙ sym (append_assoc front' (reverse back') rest) ∙ ap (λ x. x ++ rest) same ∙ append_assoc front (reverse back) rest
-moved_over front back rest front' back' (suc n) same used =
-    let none : back' ≡ [] = nil_from_length back' (used (omega arith)) in
-    let whole : front' ≡ front ++ reverse back = sym (append-nil front') ∙ ap (λ x. front' ++ reverse x) (sym none) ∙ same in
-    ap (λ x. (front' ++ take (suc n) rest) ++ (reverse x ++ drop (suc n) rest)) none
-    ∙ over_rest front' rest (suc n) ∙ ap (λ x. x ++ rest) whole ∙ append_assoc front (reverse back) rest
+moved_over front back rest front' back' n h1 h2 = search (rules, append-nil, append_assoc, nil_from_length, over_rest)
 
 -- bytes go from before the cursor to behind it
 pub moved_back : (front back rest front' back' : List ℕ) → back' ++ reverse front' ≡ back ++ reverse front → front' ++ (reverse back' ++ rest) ≡ front ++ (reverse back ++ rest)

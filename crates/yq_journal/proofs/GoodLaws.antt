@@ -1,5 +1,5 @@
 -- What an open move, and settling it, make of a journal that describes a history.
-use Rattle.std.proofs.Common.{◌≡◌, ◌≢◌, inl, inr, ◌==◌, ℕ, suc, ◌-◌, ◌<◌, List, [], ◌∷◌, length, Option, Some, None, true, false, nat_le, refl, sym, ap, ◌∙◌, subst, arith, if◌then◌else◌}
+use Rattle.std.proofs.Common.{◌≡◌, ◌≢◌, ◌⊎◌, inl, inr, ◌==◌, ℕ, suc, ◌-◌, ◌<◌, List, [], ◌∷◌, length, Option, Some, None, true, false, nat_le, refl, sym, ap, ◌∙◌, subst, arith, if◌then◌else◌, rules}
 use Rattle.std.specs.Prelude.{option_and_then, slice_get}
 use Rattle.std.specs.Str.{bytes_eq}
 use Prim.Native.Nat.{zero}
@@ -14,19 +14,16 @@ use Rattle.yq_journal.specs.declared.moves.Move.TheVariants.{Edit, Undo, Redo}
 use Rattle.yq_journal.specs.Good.{AtRest, Underway, DescribesPending, Describes, Rests, step_fault, after_move}
 use Rattle.yq_journal.specs.History.{History, text_behind}
 use Rattle.yq_journal.specs.Record.{Record, done, undone}
-use Rattle.yq_journal.specs.Refusals.{most_records, no_way, if_moves, way_fault}
+use Rattle.yq_journal.specs.Refusals.{no_way, if_moves, way_fault}
 use Rattle.yq_journal.specs.State.{State, Pending, moved_text, moved, closed, opened, settled, settled_pending, is_text}
 use Rattle.yq_journal.proofs.HistoryLaws.{same_length, leads_at, move_moves}
 use Rattle.yq_journal.proofs.RecordLaws.{undone_after_done}
 
-bytes_same : (t : List ℕ) → bytes_eq t t ≡ true
+pub bytes_same : (t : List ℕ) → bytes_eq t t ≡ true
 bytes_same t = (bytes_eq-Decides t t).1 refl
 
-bytes_differ : (t u : List ℕ) → t ≢ u → bytes_eq t u ≡ false
-bytes_differ t u d = elim (bytes_eq t u) as (λ b. bytes_eq t u ≡ b → b ≡ false) [
-  | true ↦ λ e. absurd (d ((bytes_eq-Decides t u).0 e))
-  | false ↦ λ e. refl
-] refl
+pub bytes_differ : (t u : List ℕ) → t ≢ u → bytes_eq t u ≡ false
+bytes_differ t u d = search (rules, bytes_eq-Decides)
 
 -- a journal with no open move that describes a history is at rest
 pub at_rest : (s : State) (t : List ℕ) (h : History) → s.pending ≡ None → Describes s t h → AtRest s t h
@@ -36,45 +33,32 @@ at_rest s t h none d = subst (λ o. DescribesPending s o t h) none d
 pub describes : (s : State) (t : List ℕ) (h : History) → s.pending ≡ None → AtRest s t h → Describes s t h
 describes s t h none k = subst (λ o. DescribesPending s o t h) (sym none) k
 
--- a move is opened: beside the old text the history is what it was
-pub open_before : (s : State) (h : History) (t u : List ℕ) (step : Move) → AtRest s t h → moved_text s.records s.at step t ≡ Some u → u ≢ t → Describes (opened s step t) t h
-open_before s h t u step k m d = record {
-  before = h;
-  reports = record { leads = k.reports.leads; cursor = k.reports.cursor; within = k.reports.within };
-  from = k.text;
-  to = u;
-  moves = m;
-  changes = d;
-  stands = inl (refl, refl);
-}
+module _ (s : State) (h : History) (t u : List ℕ) (step : Move) (k : AtRest s t h) (m : moved_text s.records s.at step t ≡ Some u) (d : u ≢ t) where
+  underway : (v : List ℕ) (g : History) → ((v ≡ t) × (g ≡ h)) ⊎ ((v ≡ u) × (g ≡ after_move h step u)) → Describes (opened s step t) v g
+  underway v g stands = record {
+    before = h;
+    reports = record { leads = k.reports.leads; cursor = k.reports.cursor; within = k.reports.within };
+    from = k.text;
+    to = u;
+    moves = m;
+    changes = d;
+    stands = stands;
+  }
 
--- and beside the new text it is the one after the move
-pub open_after : (s : State) (h : History) (t u : List ℕ) (step : Move) → AtRest s t h → moved_text s.records s.at step t ≡ Some u → u ≢ t → Describes (opened s step t) u (after_move h step u)
-open_after s h t u step k m d = record {
-  before = h;
-  reports = record { leads = k.reports.leads; cursor = k.reports.cursor; within = k.reports.within };
-  from = k.text;
-  to = u;
-  moves = m;
-  changes = d;
-  stands = inr (refl, refl);
-}
+  -- a move is opened: beside the old text the history is what it was
+  pub open_before : Describes (opened s step t) t h
+  open_before = underway t h (inl (refl, refl))
 
-moved_closed : (s : State) (step : Move) → (moved s step).pending ≡ None
+  -- and beside the new text it is the one after the move
+  pub open_after : Describes (opened s step t) u (after_move h step u)
+  open_after = underway u (after_move h step u) (inr (refl, refl))
+
+pub moved_closed : (s : State) (step : Move) → (moved s step).pending ≡ None
 moved_closed s (Edit r) = refl
-moved_closed s Undo = refl
-moved_closed s Redo = refl
+moved_closed s _ = refl
 
 settles_before : (s : State) (p : Pending) (t : List ℕ) (h : History) (k : Underway s p t h) → t ≡ p.from → h ≡ k.before → Rests (settled_pending s (Some p) t) t h
-settles_before s p t h k is same = record {
-  rest = closed s;
-  is = ap (λ b. if b then Some (closed s) else if is_text (moved_text s.records s.at p.step p.from) t then Some (moved s p.step) else None) (ap (bytes_eq p.from) is ∙ bytes_same p.from);
-  at_rest = subst (λ g. AtRest (closed s) t g) (sym same) (record {
-    reports = record { leads = k.reports.leads; cursor = k.reports.cursor; within = k.reports.within };
-    text = is ∙ k.from;
-  });
-  closed = refl;
-}
+settles_before s p t h k is same = search (rules, bytes_same, at_rest)
 
 settles_after : (s : State) (p : Pending) (t : List ℕ) (h : History) (k : Underway s p t h) → t ≡ k.to → h ≡ after_move k.before p.step k.to → Rests (settled_pending s (Some p) t) t h
 settles_after s p t h k is same = record {
@@ -90,11 +74,7 @@ settles_after s p t h k is same = record {
 }
 
 settles_pending : (s : State) (o : Option Pending) (t : List ℕ) (h : History) → s.pending ≡ o → DescribesPending s o t h → Rests (settled_pending s o t) t h
-settles_pending s None t h none k = record { rest = s; is = refl; at_rest = k; closed = none }
-settles_pending s (Some p) t h is k = elim k.stands [
-  | inl a ↦ settles_before s p t h k a.0 a.1
-  | inr a ↦ settles_after s p t h k a.0 a.1
-]
+settles_pending s o t h h1 h2 = search (rules, at_rest, settles_before, settles_after)
 
 -- a journal that describes a history can be settled, and then is at rest with that history
 pub settles : (s : State) (t : List ℕ) (h : History) → Describes s t h → Rests (settled s t) t h
@@ -102,10 +82,7 @@ settles s t h d = settles_pending s s.pending t h refl d
 
 -- what settling gives is at rest with the history
 pub settled_rests : (s r : State) (t : List ℕ) (h : History) → Describes s t h → settled s t ≡ Some r → AtRest r t h × (r.pending ≡ None)
-settled_rests s r t h d is =
-    let k = settles s t h d in
-    let same : k.rest ≡ r = same_Some k.rest r (sym k.is ∙ is) in
-    (subst (λ x. AtRest x t h) same k.at_rest, subst (λ (x : State). x.pending ≡ None) same k.closed)
+settled_rests s r t h d is = search (rules, settles, same_Some)
 
 -- a record of the journal at a place before its end
 get_at : (rs : List Record) (n : ℕ) → n < length rs → (r : Record) × (slice_get rs n ≡ Some r)
@@ -137,11 +114,7 @@ redo_stands s h t k fits =
 
 -- whether a move has a way is the history's to say
 pub way_of : (s : State) (t : List ℕ) (h : History) (step : Move) → AtRest s t h → no_way s.records s.at step ≡ step_fault h step
-way_of s t h (Edit r) k = ap (λ n. if nat_le most_records n then Some fault.JournalFull else None) k.reports.cursor
-way_of s t h Undo k = ap (λ n. if n == 0 then Some fault.NothingToUndo else None) k.reports.cursor
-way_of s t h Redo k =
-    ap (λ n. if nat_le (length s.records) n then Some fault.NothingToRedo else None) k.reports.cursor
-    ∙ ap (λ n. if nat_le n h.at then Some fault.NothingToRedo else None) (same_length h.first s.records h.later k.reports.leads)
+way_of s t h step h1 = search (rules, same_length)
 
 -- an undo of a journal at rest stands wherever the history has one
 pub undo_fault : (s : State) (t : List ℕ) (h : History) → AtRest s t h → way_fault s.records s.at Undo t ≡ step_fault h Undo

@@ -1,10 +1,10 @@
 -- Moves of a journal are moves of its history.
-use Rattle.std.proofs.Common.{◌≡◌, ◌==◌, ℕ, suc, ◌+◌, ◌-◌, ◌≤◌, ◌<◌, List, [], ◌∷◌, ◌++◌, length, take, Some, None, true, false, refl, sym, ap, ◌∙◌, subst, arith, add-one, if◌then◌else◌}
-use Rattle.std.specs.Prelude.{option_and_then, slice_get}
+use Rattle.std.proofs.Common.{◌≡◌, ◌==◌, ℕ, suc, ◌+◌, ◌-◌, ◌≤◌, ◌<◌, List, [], ◌∷◌, ◌++◌, length, take, Option, Some, None, Bool, true, false, refl, sym, ap, ◌∙◌, arith, add-one, if◌then◌else◌, rules}
+use Rattle.std.specs.Prelude.{slice_get}
 use Prim.Native.Nat.{zero}
 use Rattle.std.proofs.lemmas.Bool.Decides.{nat_tests}
 use Rattle.std.proofs.lemmas.Grind.{common_steps}
-use Rattle.std.proofs.lemmas.Option.{slice_get_within, same_Some}
+use Rattle.std.proofs.lemmas.Option.{option_and_then_some, slice_get_within, same_Some}
 use Rattle.yq_journal.specs.declared.moves.Move.{Move}
 use Rattle.yq_journal.specs.declared.moves.Move.TheVariants.{Edit, Undo, Redo}
 use Rattle.yq_journal.specs.Good.{Leads, AtRest, after_move}
@@ -16,24 +16,21 @@ use Rattle.yq_journal.proofs.RecordLaws.{undone_after_done}
 pub same_length : (t : List ℕ) (rs : List Record) (es : List Revision) → Leads t rs es → length rs ≡ length es
 same_length t [] [] l = refl
 same_length t (r ∷ rs) (e ∷ es) l = ap suc (same_length e.text rs es l.2)
-same_length t [] (e ∷ es) l = absurd l
-same_length t (r ∷ rs) [] l = absurd l
+same_length t _ _ l = absurd l
 
 -- the record at a place leads from the text there to the next one
 pub leads_at : (t : List ℕ) (rs : List Record) (es : List Revision) (n : ℕ) (r : Record) → Leads t rs es → slice_get rs n ≡ Some r → done r (text_behind t es n) ≡ Some (text_behind t es (suc n))
 leads_at t [] [] n r l e = cc
 leads_at t (q ∷ rs) (e ∷ es) zero r l is = let same : q ≡ r = cc in ap (λ p. done p t) (sym same) ∙ l.1
 leads_at t (q ∷ rs) (e ∷ es) (suc n) r l is = leads_at e.text rs es n r l.2 is
-leads_at t [] (e ∷ es) n r l is = absurd l
-leads_at t (r ∷ rs) [] n q l is = absurd l
+leads_at t _ _ n _ l is = absurd l
 
 -- a record that leads on from the text at a place
 leads_on : (t u : List ℕ) (rs : List Record) (es : List Revision) (n : ℕ) (r : Record) → Leads t rs es → n ≤ length es → done r (text_behind t es n) ≡ Some u → Leads t (take n rs ++ r ∷ []) (take n es ++ record { expr = r.expr; text = u } ∷ [])
 leads_on t u rs es zero r l fits d = (refl, d, tt)
 leads_on t u [] [] (suc n) r l fits d = absurd (omega arith)
 leads_on t u (q ∷ rs) (e ∷ es) (suc n) r l fits d = (l.0, l.1, leads_on e.text u rs es n r l.2 (omega arith) d)
-leads_on t u [] (e ∷ es) (suc n) r l fits d = absurd l
-leads_on t u (q ∷ rs) [] (suc n) r l fits d = absurd l
+leads_on t u _ _ (suc n) r l fits d = absurd l
 
 text_after_suc : (t : List ℕ) (e : Revision) (es : List Revision) (n : ℕ) → n ≤ length es → text_behind t (take n es ++ e ∷ []) (suc n) ≡ e.text
 text_after_suc t e es zero fits = refl
@@ -47,15 +44,7 @@ positive : (n : ℕ) → (n == 0) ≡ false → 0 < n
 positive n e = grind (arith, nat_tests)
 
 edit_moves : (s : State) (h : History) (t u : List ℕ) (r : Record) → AtRest s t h → done r t ≡ Some u → AtRest (moved s (Edit r)) u (after_edit h r.expr u)
-edit_moves s h t u r k d = record {
-  reports = record {
-    leads = subst (λ n. Leads h.first (take n s.records ++ r ∷ []) (take h.at h.later ++ record { expr = r.expr; text = u } ∷ [])) (sym k.reports.cursor)
-        (leads_on h.first u s.records h.later h.at r k.reports.leads k.reports.within (ap (done r) (sym k.text) ∙ d));
-    cursor = ap (λ n. n + 1) k.reports.cursor;
-    within = let fits : h.at ≤ length h.later = k.reports.within in grind (arith, common_steps);
-  };
-  text = sym (text_after h.first (record { expr = r.expr; text = u }) h.later h.at k.reports.within);
-}
+edit_moves s h t u r k d = search (rules, leads_on, common_steps, text_after)
 
 undo_moves : (s : State) (h : History) (t u : List ℕ) (r : Record) → AtRest s t h → 0 < s.at → slice_get s.records (s.at - 1) ≡ Some r → undone r t ≡ Some u → AtRest (moved s Undo) u (after_undo h)
 undo_moves s h t u r k pos is d =
@@ -73,32 +62,16 @@ undo_moves s h t u r k pos is d =
     }
 
 redo_moves : (s : State) (h : History) (t u : List ℕ) (r : Record) → AtRest s t h → slice_get s.records s.at ≡ Some r → done r t ≡ Some u → AtRest (moved s Redo) u (after_redo h)
-redo_moves s h t u r k is d =
-    let leads : done r t ≡ Some (text_behind h.first h.later (suc s.at)) =
-    ap (done r) (k.text ∙ ap (text_behind h.first h.later) (sym k.reports.cursor)) ∙ leads_at h.first s.records h.later s.at r k.reports.leads is in
-    record {
-      reports = record {
-        leads = k.reports.leads;
-        cursor = ap (λ n. n + 1) k.reports.cursor;
-        within = omega (arith, k.reports.cursor, slice_get_within s.records s.at r is, same_length h.first s.records h.later k.reports.leads);
-      };
-      text = same_Some u (text_at (after_redo h)) (sym d ∙ leads ∙ ap (λ n. Some (text_behind h.first h.later n)) (sym (add-one s.at) ∙ ap (λ n. n + 1) k.reports.cursor));
-    }
+redo_moves s h t u r k is d = search (rules, leads_at, slice_get_within, same_length, same_Some, add-one)
+
+if_not : {A : Type 0} {o : Option A} {y : A} (b : Bool) → (if b then None else o) ≡ Some y → (b ≡ false) × (o ≡ Some y)
+if_not true h = cc
+if_not false h = (refl, h)
 
 -- where a move stands, the journal and its history go on together
 pub move_moves : (s : State) (h : History) (t u : List ℕ) (step : Move) → AtRest s t h → moved_text s.records s.at step t ≡ Some u → AtRest (moved s step) u (after_move h step u)
 move_moves s h t u (Edit r) k m = edit_moves s h t u r k m
 move_moves s h t u Undo k m =
-    elim (s.at == 0) as (λ b. (s.at == 0) ≡ b → (if b then None else option_and_then (λ r. undone r t) (slice_get s.records (s.at - 1))) ≡ Some u → AtRest (moved s Undo) u (after_undo h)) [
-      | true ↦ λ _ n. cc
-      | false ↦ λ z n.
-          elim (slice_get s.records (s.at - 1)) as (λ o. slice_get s.records (s.at - 1) ≡ o → option_and_then (λ r. undone r t) o ≡ Some u → AtRest (moved s Undo) u (after_undo h)) [
-            | None ↦ λ _ x. cc
-            | Some r ↦ λ is d. undo_moves s h t u r k (positive s.at z) is d
-          ] refl n
-    ] refl m
-move_moves s h t u Redo k m =
-    elim (slice_get s.records s.at) as (λ o. slice_get s.records s.at ≡ o → option_and_then (λ r. done r t) o ≡ Some u → AtRest (moved s Redo) u (after_redo h)) [
-      | None ↦ λ _ x. cc
-      | Some r ↦ λ is d. redo_moves s h t u r k is d
-    ] refl m
+    let p = if_not (s.at == 0) m in
+    option_and_then_some (λ r. undone r t) (slice_get s.records (s.at - 1)) u p.1 (λ r is d. undo_moves s h t u r k (positive s.at p.0) is d)
+move_moves s h t u Redo k m = option_and_then_some (λ r. done r t) (slice_get s.records s.at) u m (λ r is d. redo_moves s h t u r k is d)

@@ -1,9 +1,8 @@
 -- Records joined one after the other.
-use Rattle.std.proofs.Common.{◌≡◌, ℕ, ◌≤◌, ◌<◌, List, [], ◌∷◌, ◌++◌, length, suc, Option, Some, None, Result, Err, IfErr, true, refl, ap, ◌∙◌, subst, arith}
-use Rattle.std.specs.Prelude.{◌==◌, ◌&&◌, Bool, false, option_and_then, slice_get, take}
+use Rattle.std.proofs.Common.{◌≡◌, ℕ, ◌≤◌, ◌<◌, List, [], ◌∷◌, ◌++◌, length, suc, Option, Some, None, Result, Err, IfErr, true, refl, ap, ◌∙◌, subst, arith, rules}
+use Rattle.std.specs.Prelude.{◌==◌, ◌&&◌, Bool, false, slice_get, take}
 use Prim.Native.Nat.{zero}
 use Rattle.std.proofs.lemmas.Bool.{eqb-true, and_parts}
-use Rattle.yq_script.specs.Splice.{lengths_done}
 use Rattle.yq_script.proofs.SpliceLaws.{lengths_done-append}
 use Rattle.std.specs.Prelude.{◌+◌, ◌-◌, drop, if◌then◌else◌, nat_le}
 use Rattle.std.specs.Cmp.Derive.{both_true}
@@ -20,9 +19,8 @@ use Rattle.yq_journal.specs.Record.{Record, IsRecord, join, joined, meet}
 
 -- fewer than two records meet
 pub short_meet : (rs : List Record) → length rs < 2 → meet rs ≡ true
-short_meet [] h = refl
-short_meet (r ∷ []) h = refl
 short_meet (r ∷ q ∷ rs) h = absurd (omega arith)
+short_meet _ h = refl
 
 -- one more record is joined to those before it
 pub joined-push : (r : Record) (rs : List Record) (q : Record) → joined r (rs ++ q ∷ []) ≡ join (joined r rs) q
@@ -31,10 +29,7 @@ joined-push r (p ∷ rs) q = joined-push (join r p) rs q
 
 -- records that meet are one record together
 pub IsRecord-join : (r q : Record) → IsRecord r → IsRecord q → r.after_len ≡ q.before_len → IsRecord (join r q)
-IsRecord-join r q h k meets = record {
-  counted = omega (arith, h.counted);
-  lengths = lengths_done-append r.changes q.changes r.before_len ∙ ap (option_and_then (lengths_done q.changes)) h.lengths ∙ ap (lengths_done q.changes) meets ∙ k.lengths;
-}
+IsRecord-join r q h k meets = search (rules, lengths_done-append)
 
 meet_join : (r p : Record) (rs : List Record) → meet (p ∷ rs) ≡ true → meet (join r p ∷ rs) ≡ true
 meet_join r p [] h = refl
@@ -65,10 +60,7 @@ good_count rs at n some fits h = ap (λ b. if b then None else Some BadCount) (b
 
 -- a list that isn't empty is its first element and the rest
 pub split_first : (rs : List Record) (r : Record) → 1 ≤ length rs → r ≡ get_or rs 0 r → rs ≡ r ∷ take (length rs - 1) (drop 1 rs)
-split_first [] r some is = absurd (omega arith)
-split_first (q ∷ rs) r some is =
-    let one : suc (length rs) - 1 ≡ length rs = omega arith in
-    ap (λ x. x ∷ rs) (sym is) ∙ ap (λ l. r ∷ l) (sym (take_all (length rs) rs (omega arith)) ∙ ap (λ n. take n rs) (sym one))
+split_first rs r h1 h2 = search (rules, take_all)
 
 -- want of memory is told where there is no fault
 pub reports_memory : {T : Type 0} (r : Result T JournalError) (e : JournalError) (o : Option JournalFault) → r ≡ Err e → e ≡ error.Memory → o ≡ None → IfErr r (λ x. Reports x o)

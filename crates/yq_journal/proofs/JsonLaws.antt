@@ -1,11 +1,11 @@
 -- Members that are counted, lists that are read item by item, and tests that are facts.
-use Rattle.std.proofs.Common.{◌≡◌, ◌==◌, ℕ, suc, List, [], ◌∷◌, ◌++◌, length, String, Option, Some, None, true, false, refl, sym, ap, ◌∙◌, if◌then◌else◌, ◌+◌, ◌<◌, take, map, ap₂, get_or}
+use Rattle.std.proofs.Common.{◌≡◌, ◌==◌, ℕ, suc, List, [], ◌∷◌, ◌++◌, length, String, Option, Some, None, true, false, refl, sym, ap, ◌∙◌, if◌then◌else◌, ◌+◌, ◌<◌, take, map, ap₂, get_or, rules}
 use Rattle.std.specs.Cmp.Derive.{both_true}
 use Rattle.std.proofs.lemmas.List.{take_more, map-append}
-use Rattle.std.specs.Prelude.{◌≢◌, ◌&&◌, not, is_some, nat_le}
+use Rattle.std.specs.Prelude.{◌≢◌, not, is_some}
 use Rattle.std.specs.Option.{ForSome}
 use Rattle.std.specs.declared.alloc.Global.{Global}
-use Rattle.std.specs.Str.{IsUtf8, bytes_eq, is_utf8}
+use Rattle.std.specs.Str.{IsUtf8, is_utf8}
 use Rattle.std.proofs.lemmas.Bool.{le-leb, leb-true, and_parts}
 use Rattle.std.proofs.lemmas.Slice.Eq.{bytes_eq-Decides}
 use Rattle.std.proofs.lemmas.Str.{is_utf8-from_IsUtf8, IsUtf8-from_is_utf8}
@@ -13,7 +13,7 @@ use Rattle.serde_json.specs.Data.{Data, Items, Members}
 use Rattle.serde_json.specs.Read.{read}
 use Rattle.serde_json.specs.View.{items_of, members_view}
 use Rattle.serde_json.specs.declared.value.Value.{Value}
-use Rattle.yq_journal.specs.Json.{count_members, counts, and_more, all_of, can_move, is_sound, record_of, pending_of, state_from, state_of, journal_of, journal_object}
+use Rattle.yq_journal.specs.Json.{count_members, counts, and_more, all_of, can_move, is_sound, record_of, pending_of, state_of, journal_of, journal_object}
 use Rattle.yq_journal.specs.Record.{Record}
 use Rattle.yq_journal.specs.Refusals.{most_records, CanMove, IsSound, way_fault}
 use Rattle.yq_journal.specs.State.{Pending, State, moved_text, is_text}
@@ -41,30 +41,15 @@ none_of None h = refl
 none_of (Some x) h = cc
 
 not_reached : (o : Option (List ℕ)) (t : List ℕ) → not (is_text o t) ≡ true → o ≢ Some t
-not_reached None t h e = cc
-not_reached (Some u) t h e =
-    let same : u ≡ t = cc in
-    let yes : bytes_eq u t ≡ true = (bytes_eq-Decides u t).1 same in
-    let no : not true ≡ true = ap not (sym yes) ∙ h in
-    cc
+not_reached o t h1 = search (rules, bytes_eq-Decides)
 
 can_move-move : (rs : List Record) (at : ℕ) (p : Pending) → can_move rs at (Some p) ≡ true → CanMove rs at p.step p.from
-can_move-move rs at p h = record {
-  stands = none_of (way_fault rs at p.step p.from) (and_parts (not (is_some (way_fault rs at p.step p.from))) _ h).0;
-  changes = not_reached (moved_text rs at p.step p.from) p.from (and_parts (not (is_some (way_fault rs at p.step p.from))) _ h).1;
-}
+can_move-move rs at p h = search (rules, none_of, and_parts, not_reached)
 
 -- a journal that passes the test is sound
 pub IsSound-from_is_sound : (s : State) → is_sound s ≡ true → IsSound s
 unfolding is_sound
-IsSound-from_is_sound s h =
-    let front = (and_parts (nat_le (length s.records) most_records && nat_le s.at (length s.records)) (can_move s.records s.at s.pending) h).0 in
-    let open_ok : can_move s.records s.at s.pending ≡ true = (and_parts (nat_le (length s.records) most_records && nat_le s.at (length s.records)) (can_move s.records s.at s.pending) h).1 in
-    record {
-      within = leb-true s.at (length s.records) (and_parts (nat_le (length s.records) most_records) _ front).1;
-      limit = leb-true (length s.records) most_records (and_parts (nat_le (length s.records) most_records) _ front).0;
-      open_move = λ p is. can_move-move s.records s.at p (ap (can_move s.records s.at) (sym is) ∙ open_ok);
-    }
+IsSound-from_is_sound s h = search (rules, and_parts, leb-true, can_move-move)
 
 -- one more of a list that is read
 pub all_of_push : {A : Type 0} (f : Data → Option A) (vs : List Data) (d : Data) (xs : List A) (x : A) → all_of f (items_of vs) ≡ Some xs → f d ≡ Some x → all_of f (items_of (vs ++ d ∷ [])) ≡ Some (xs ++ x ∷ [])
@@ -98,11 +83,7 @@ is_some-none : {A : Type 0} (o : Option A) → o ≡ None → not (is_some o) �
 is_some-none o e = ap (λ p. not (is_some p)) e
 
 reached_other : (o : Option (List ℕ)) (t : List ℕ) → o ≢ Some t → not (is_text o t) ≡ true
-reached_other None t d = refl
-reached_other (Some u) t d = elim (bytes_eq u t) as (λ b. bytes_eq u t ≡ b → not b ≡ true) [
-  | true ↦ λ e. absurd (d (ap Some ((bytes_eq-Decides u t).0 e)))
-  | false ↦ λ e. refl
-] refl
+reached_other o t h1 = search (rules, bytes_eq-Decides)
 
 move-can_move : (rs : List Record) (at : ℕ) (o : Option Pending) → ForSome o (λ p. CanMove rs at p.step p.from) → can_move rs at o ≡ true
 move-can_move rs at None h = refl
@@ -119,7 +100,4 @@ is_sound-from_IsSound s h =
 pub journal_reads : (s : State) (open_value : Data) (record_values : Items) → pending_of true open_value ≡ Some s.pending → all_of (record_of true) record_values ≡ Some s.records → IsSound s
     → journal_of (journal_object s.at open_value record_values) ≡ Some s
 unfolding journal_of state_of
-journal_reads s p rs pending records sound =
-    ap (λ o. state_from (Some s.at) o (all_of (record_of true) rs)) pending
-    ∙ ap (state_from (Some s.at) (Some s.pending)) records
-    ∙ ap (λ b. if b then Some s else None) (is_sound-from_IsSound s sound)
+journal_reads s p rs pending records sound = cc (is_sound-from_IsSound s sound)

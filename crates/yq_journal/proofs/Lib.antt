@@ -4,7 +4,6 @@ pub mod HistoryLaws
 pub mod JoinLaws
 pub mod JsonLaws
 pub mod LineFeed
-pub mod MoveLaws
 pub mod OpenTextLaws
 pub mod RecordLaws
 pub mod RunLaws

@@ -1,5 +1,5 @@
 -- A line feed behind a printed JSON text changes nothing of what is read.
-use Rattle.std.proofs.Common.{◌≡◌, ℕ, Bool, true, false, cond, ◌&&◌, List, [], ◌∷◌, ◌++◌, refl, sym, ap, ap₂, ◌∙◌, subst, append_assoc, append-nil, arith}
+use Rattle.std.proofs.Common.{◌≡◌, ℕ, Bool, true, false, cond, ◌&&◌, List, [], ◌∷◌, ◌++◌, refl, sym, ap, ap₂, ◌∙◌, subst, append_assoc, append-nil, arith, rules}
 use Rattle.json.specs.Token.{Token, begin_object, end_object, begin_array, end_array, key, string, number, boolean, null, bad}
 use Rattle.json.specs.Word.{ends_word, word}
 use Rattle.json.specs.Lex.{Lexeme, token, comma, colon, string_token, lex, between, fresh, punctuate, tokens}
@@ -34,15 +34,7 @@ ends_with : (ts : List Token) (r : List ℕ) → ends_word r ≡ true → ends_w
 unfolding print_from
 ends_with [] r h = h
 ends_with (begin_object ∷ ts) r h = refl
-ends_with (end_object ∷ ts) r h = refl
-ends_with (begin_array ∷ ts) r h = refl
-ends_with (end_array ∷ ts) r h = refl
-ends_with (key s ∷ ts) r h = refl
-ends_with (string s ∷ ts) r h = refl
-ends_with (number s ∷ ts) r h = refl
-ends_with (boolean b ∷ ts) r h = refl
-ends_with (null ∷ ts) r h = refl
-ends_with (bad ∷ ts) r h = refl
+ends_with (_ ∷ ts) r h = refl
 
 lex-quoted : (s r : List ℕ) → lex between (quoted s ++ r) ≡ token (string s) ∷ lex between r
 unfolding lex
@@ -52,17 +44,7 @@ lex-quoted s r =
 
 lex-token_text : (t : Token) (r : List ℕ) → IsPrintable t → (ends t ≡ true → ends_word r ≡ true) → lex between (token_text t ++ r) ≡ token_lexemes t ++ lex between r
 unfolding lex word
-lex-token_text begin_object r h ended = refl
-lex-token_text end_object r h ended = refl
-lex-token_text begin_array r h ended = refl
-lex-token_text end_array r h ended = refl
-lex-token_text (key s) r h ended = ap (lex between) (append_assoc (quoted s) (58 ∷ []) r) ∙ lex-quoted s (58 ∷ r)
-lex-token_text (string s) r h ended = lex-quoted s r
-lex-token_text (number s) r h ended = lex-number s r h (ended refl)
-lex-token_text (boolean true) r h ended = ap₂ (λ b l. token (cond b (boolean true) bad) ∷ l) (ended refl) (in_word-ended r (ended refl))
-lex-token_text (boolean false) r h ended = ap₂ (λ b l. token (cond b (boolean false) bad) ∷ l) (ended refl) (in_word-ended r (ended refl))
-lex-token_text null r h ended = ap₂ (λ b l. token (cond b null bad) ∷ l) (ended refl) (in_word-ended r (ended refl))
-lex-token_text bad r h ended = absurd h
+lex-token_text t r h1 h2 = search (rules, append_assoc, lex-quoted, lex-number, ap₂, in_word-ended)
 
 lex-separator : (b : Bool) (r : List ℕ) → lex between (cond b (44 ∷ []) [] ++ r) ≡ cond b (comma ∷ []) [] ++ lex between r
 unfolding lex

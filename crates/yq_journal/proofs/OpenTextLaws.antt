@@ -1,5 +1,5 @@
 -- The text of a journal with an open move, written in pieces, is that of its value, and is read back.
-use Rattle.std.proofs.Common.{◌≡◌, ◌≤◌, ◌<◌, ◌/◌, ◌%◌, ◌*◌, ◌+◌, ◌^◌, ℕ, zero, suc, List, [], ◌∷◌, ◌++◌, Bool, true, false, Option, Some, None, Ok, codes, replicate, slice_index, decimal, refl, sym, ap, ap₂, ◌∙◌, subst, arith, append_assoc, append-nil, if◌then◌else◌}
+use Rattle.std.proofs.Common.{◌≡◌, ◌≤◌, ◌<◌, ◌/◌, ◌%◌, ◌*◌, ◌+◌, ◌^◌, ℕ, zero, suc, List, [], ◌∷◌, ◌++◌, Bool, true, false, Option, Some, None, Ok, codes, replicate, slice_index, decimal, refl, sym, ap, ap₂, ◌∙◌, subst, arith, append_assoc, append-nil, if◌then◌else◌, rules}
 use Rattle.std.specs.Prelude.{max, option_and_then, option_map, ⊤}
 use Rattle.std.specs.Result.{result_ok}
 use Rattle.std.specs.Str.{IsUtf8, bytes_eq}
@@ -21,13 +21,13 @@ use Rattle.json.proofs.Numbered.{ArePrintableOrBad-tokens, value-HasNumbers}
 use Rattle.json.proofs.Printed.Decimals.{IsNumber-decimal}
 use Rattle.json.proofs.Printed.Tokens.{tokens-print}
 use Rattle.json.proofs.Printed.Trees.{value-json_tokens, ArePrintable-json_tokens}
-use Rattle.serde_json.specs.Data.{unsigned, Data, null, boolean, number, string, array, object, Items, no_items, item, Members, no_members, member, put, depth, items_depth, members_depth}
+use Rattle.serde_json.specs.Data.{unsigned, Data, number, string, array, object, Items, no_items, item, Members, no_members, member, put, depth, items_depth, members_depth}
 use Rattle.serde_json.specs.Read.{read, max_depth, of_json}
 use Rattle.serde_json.specs.Written.{IsInOrder, compact_text, has_float, outline, items_outline, members_outline}
 use Rattle.serde_json.proofs.Numbers.{number_of-decimal}
 use Rattle.serde_json.proofs.Texts.{tokens_from_order, print-outline}
 use Rattle.yq_journal.specs.declared.moves.Move.{Move}
-use Rattle.yq_journal.specs.declared.moves.Move.TheVariants.{Edit, Undo, Redo}
+use Rattle.yq_journal.specs.declared.moves.Move.TheVariants.{Edit}
 use Rattle.yq_journal.specs.Json.{all_of, bytes_data, journal_data, journal_in, journal_object, journal_of, journal_text, kind_text, list_data, move_data, move_of, open_from, open_of, pending_data, pending_of, record_data, record_of}
 use Rattle.yq_journal.specs.OpenText.{IsWritten, text_before, text_behind}
 use Rattle.yq_journal.specs.Refusals.{IsSound}
@@ -97,12 +97,9 @@ base64_escapes m h = escape_kept (encode_of standard m) (kept_append (encode_sym
 
 mutual
   same_depth : (d : Data) → tree.depth (outline d) ≡ depth d
-  same_depth null = refl
-  same_depth (boolean b) = refl
-  same_depth (number n) = refl
-  same_depth (string s) = refl
   same_depth (array ds) = ap suc (same_items_depth ds)
   same_depth (object ms) = ap suc (same_members_depth ms)
+  same_depth _ = refl
 
   same_items_depth : (ds : Items) → tree.items_depth (items_outline ds) ≡ items_depth ds
   same_items_depth no_items = refl
@@ -151,20 +148,9 @@ pending_reads : (p : Pending) → of_json (outline (move_data p.step)) ≡ Some 
 pending_reads p e =
     ap (λ o. option_map object (option_and_then (λ d. Some (put (codes "record") d (put (codes "kind") (string (kind_text p.step)) (put (codes "from") (bytes_data p.from) no_members)))) o)) e
 
-abbrev object_from : Option Data → Option Data → Option Data → Option Data → Option Data
-object_from a p r v =
-    option_map object (option_and_then (λ x. option_and_then (λ y. option_and_then (λ z. option_and_then (λ w.
-    Some (put (codes "version") w (put (codes "records") z (put (codes "pending") y (put (codes "at") x no_members))))) v) r) p) a)
-
 object_reads : (n : ℕ) (p : Data) (rs : Items) → n < 2 ^ 64 → of_json (outline p) ≡ Some p → of_json (outline (array rs)) ≡ Some (array rs)
     → of_json (outline (journal_object n p rs)) ≡ Some (journal_object n p rs)
-object_reads n p rs h e f =
-    let a = Some (number (unsigned n)) in
-    let v = of_json (outline (number (unsigned 2))) in
-    ap (λ o. object_from o (of_json (outline p)) (of_json (outline (array rs))) v) (number_reads n h)
-    ∙ ap (λ o. object_from a o (of_json (outline (array rs))) v) e
-    ∙ ap (λ o. object_from a (Some p) o v) f
-    ∙ ap (λ o. object_from a (Some p) (Some (array rs)) o) (number_reads 2 (omega arith))
+object_reads n p rs h e f = cc (number_reads n h, number_reads 2 (omega arith))
 
 open_reads : (p : Pending) → move_of true (kind_text p.step) (move_data p.step) ≡ Some p.step → decode_of standard (encode_of standard p.from) ≡ Ok p.from
     → pending_of true (pending_data (Some p)) ≡ Some (Some p)
@@ -209,22 +195,14 @@ regroup a e k h r = simp append_assoc
 kind_kept : (step : Move) → escape (kind_text step) ≡ kind_text step
 unfolding escape_byte
 kind_kept (Edit r) = refl
-kind_kept Undo = refl
-kind_kept Redo = refl
+kind_kept _ = refl
 
 text_of : (at : ℕ) (p : Pending) (rs : Items)
     → text_behind (text_before at ++ escape (encode_of standard p.from)) (kind_text p.step) (compact_text (move_data p.step)) (compact_text (array rs))
     ≡ compact_text (journal_object at (pending_data (Some p)) rs) ++ 10 ∷ []
 unfolding escape_byte
-text_of at p rs =
-    let e = escape (encode_of standard p.from) in
-    let held = compact_text (move_data p.step) in
-    regroup (decimal at) e (kind_text p.step) held (compact_text (array rs))
-    ∙ ap₂ (λ k v. pieces (decimal at) e k held (compact_text (array rs)) v) (sym (kind_kept p.step)) (sym (decimal_digit 2 (omega arith)))
+text_of at p rs = search (rules, regroup, decimal, ap₂, kind_kept, decimal_digit)
 
 pub whole_text : (s : State) (p : Pending) (held records text : List ℕ) → ArePieces s p held records
     → text ≡ text_behind (text_before s.at ++ escape (encode_of standard p.from)) (kind_text p.step) held records → text ≡ journal_text s
-whole_text s p held records text k is =
-    is ∙ ap₂ (λ x y. text_behind (text_before s.at ++ escape (encode_of standard p.from)) (kind_text p.step) x y) k.held_is.text_is k.records_are.text_is
-    ∙ text_of s.at p (list_data record_data s.records)
-    ∙ ap (λ o. compact_text (journal_object s.at (pending_data o) (list_data record_data s.records)) ++ 10 ∷ []) (sym k.is_open)
+whole_text s p held records text k is = cc (k.held_is.text_is, k.records_are.text_is, text_of s.at p (list_data record_data s.records), k.is_open)

@@ -1,8 +1,9 @@
 -- What a record does to a text is undone, and what was undone is done again.
-use Rattle.std.proofs.Common.{◌≡◌, ◌==◌, ℕ, ◌-◌, ◌≤◌, ◌<◌, true, false, List, [], ◌∷◌, ◌++◌, length, take, Option, Some, None, refl, sym, ap, ◌∙◌, arith, if◌then◌else◌, eq-eqb, get_or}
+use Rattle.std.proofs.Common.{◌≡◌, ◌==◌, ℕ, ◌-◌, ◌≤◌, ◌<◌, List, [], ◌∷◌, ◌++◌, length, take, Option, Some, None, sym, ap, ◌∙◌, arith, if◌then◌else◌, eq-eqb, get_or, rules}
 use Rattle.std.specs.Prelude.{option_and_then}
 use Rattle.std.proofs.lemmas.Bool.{eqb-true}
 use Rattle.std.proofs.lemmas.Grind.{common_steps}
+use Rattle.std.proofs.lemmas.Option.{cond_some}
 use Rattle.yq_script.specs.Splice.{Splice, swapped, change_done, all_done, flipped}
 use Rattle.yq_script.proofs.SpliceLaws.{taken_back, done_again, flipped-append}
 use Rattle.yq_journal.specs.Record.{Record, if_length, done, undone}
@@ -14,25 +15,15 @@ pub record Stands (before_len after_len : ℕ) (changes : List Splice) (b c : Li
   pub ends : length c ≡ after_len
 
 pub of_stands : (n m : ℕ) (ss : List Splice) (b c : List ℕ) → Stands n m ss b c → (if length b == n then if_length m (all_done ss b) else None) ≡ Some c
-of_stands n m ss b c h =
-    ap (λ t. if t then if_length m (all_done ss b) else None) (eq-eqb (length b) n h.starts)
-    ∙ ap (if_length m) h.leads
-    ∙ ap (λ t. if t then Some c else None) (eq-eqb (length c) m h.ends)
+of_stands n m ss b c h = cc (eq-eqb (length b) n h.starts, h.leads, eq-eqb (length c) m h.ends)
 
 stands_if_length : (n m : ℕ) (ss : List Splice) (b c : List ℕ) (r : Option (List ℕ)) → length b ≡ n → all_done ss b ≡ r → if_length m r ≡ Some c → Stands n m ss b c
 stands_if_length n m ss b c None e is h = cc
 stands_if_length n m ss b c (Some d) e is h =
-    elim (length d == m) as (λ t. (length d == m) ≡ t → (if t then Some d else None) ≡ Some c → Stands n m ss b c) [
-      | true ↦ λ t k. let same : d ≡ c = cc in record { starts = e; leads = is ∙ k; ends = ap length (sym same) ∙ eqb-true (length d) m t }
-      | false ↦ λ t k. cc
-    ] refl h
+    let p = cond_some _ _ _ h in record { starts = e; leads = is ∙ ap Some p.1; ends = ap length (sym p.1) ∙ eqb-true (length d) m p.0 }
 
 pub stands_of : (n m : ℕ) (ss : List Splice) (b c : List ℕ) → (if length b == n then if_length m (all_done ss b) else None) ≡ Some c → Stands n m ss b c
-stands_of n m ss b c h =
-    elim (length b == n) as (λ t. (length b == n) ≡ t → (if t then if_length m (all_done ss b) else None) ≡ Some c → Stands n m ss b c) [
-      | true ↦ λ t k. stands_if_length n m ss b c (all_done ss b) (eqb-true (length b) n t) refl k
-      | false ↦ λ t k. cc
-    ] refl h
+stands_of n m ss b c h = search (rules, stands_if_length, eqb-true)
 
 -- what was done is undone, on every text on which it was done
 pub undone_after_done : (r : Record) (b c : List ℕ) → done r b ≡ Some c → undone r c ≡ Some b

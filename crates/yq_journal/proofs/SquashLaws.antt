@@ -1,11 +1,10 @@
 -- Joining the last done records of a journal is a squash of its history.
-use Rattle.std.proofs.Common.{◌≡◌, ℕ, suc, ◌+◌, ◌-◌, ◌≤◌, ◌<◌, ◌&&◌, List, [], ◌∷◌, ◌++◌, length, take, drop, Some, None, true, nat_le, refl, sym, ap, ap₂, ◌∙◌, subst, arith, append_assoc, length-append, length-drop, if◌then◌else◌, eq-eqb}
-use Rattle.std.specs.Prelude.{option_and_then, codes, is_some}
+use Rattle.std.proofs.Common.{◌≡◌, ℕ, suc, ◌+◌, ◌-◌, ◌≤◌, ◌<◌, ◌&&◌, List, [], ◌∷◌, ◌++◌, length, take, drop, Some, None, true, nat_le, refl, sym, ap, ap₂, ◌∙◌, subst, arith, append_assoc, length-append, length-drop, if◌then◌else◌, eq-eqb, rules}
+use Rattle.std.specs.Prelude.{codes, is_some}
 use Rattle.std.specs.Cmp.Derive.{both_true}
 use Prim.Native.Nat.{zero}
 use Rattle.std.proofs.Math.Bool.{and-true}
 use Rattle.std.proofs.lemmas.List.{length-take-le, take-append-drop, take-take}
-use Rattle.yq_script.specs.Splice.{all_done}
 use Rattle.yq_script.proofs.SpliceLaws.{all_done-append}
 use Rattle.yq_journal.specs.declared.fault.JournalFault.TheVariants.{BadCount, Unsettled}
 use Rattle.yq_journal.specs.Good.{Leads, AtRest, squash_refusal}
@@ -17,14 +16,7 @@ use Rattle.yq_journal.proofs.RecordLaws.{stands_of, of_stands}
 
 -- one record done after the other is their join done
 done_join : (r q : Record) (b c d : List ℕ) → done r b ≡ Some c → done q c ≡ Some d → done (join r q) b ≡ Some d
-done_join r q b c d e f =
-    let h = stands_of r.before_len r.after_len r.changes b c e in
-    let k = stands_of q.before_len q.after_len q.changes c d f in
-    of_stands r.before_len q.after_len (r.changes ++ q.changes) b d (record {
-      starts = h.starts;
-      leads = all_done-append r.changes q.changes b ∙ ap (option_and_then (all_done q.changes)) h.leads ∙ k.leads;
-      ends = k.ends;
-    })
+done_join r q b c d e f = search (rules, stands_of, of_stands, all_done-append)
 
 -- the text behind all of these
 text_end : List ℕ → List Revision → List ℕ
@@ -51,23 +43,20 @@ leads_take : (t : List ℕ) (rs : List Record) (es : List Revision) (n : ℕ) �
 leads_take t rs es zero l = tt
 leads_take t [] [] (suc n) l = tt
 leads_take t (r ∷ rs) (e ∷ es) (suc n) l = (l.0, l.1, leads_take e.text rs es n l.2)
-leads_take t [] (e ∷ es) (suc n) l = absurd l
-leads_take t (r ∷ rs) [] (suc n) l = absurd l
+leads_take t _ _ (suc n) l = absurd l
 
 leads_drop : (t : List ℕ) (rs : List Record) (es : List Revision) (n : ℕ) → Leads t rs es → Leads (text_end t (take n es)) (drop n rs) (drop n es)
 unfolding text_end
 leads_drop t rs es zero l = l
 leads_drop t [] [] (suc n) l = tt
 leads_drop t (r ∷ rs) (e ∷ es) (suc n) l = leads_drop e.text rs es n l.2
-leads_drop t [] (e ∷ es) (suc n) l = absurd l
-leads_drop t (r ∷ rs) [] (suc n) l = absurd l
+leads_drop t _ _ (suc n) l = absurd l
 
 leads_append : (t : List ℕ) (rs qs : List Record) (es fs : List Revision) → Leads t rs es → Leads (text_end t es) qs fs → Leads t (rs ++ qs) (es ++ fs)
 unfolding text_end
 leads_append t [] qs [] fs l k = k
 leads_append t (r ∷ rs) qs (e ∷ es) fs l k = (l.0, l.1, leads_append e.text rs qs es fs l.2 k)
-leads_append t [] qs (e ∷ es) fs l k = absurd l
-leads_append t (r ∷ rs) qs [] fs l k = absurd l
+leads_append t _ qs _ fs l k = absurd l
 
 -- a run of records and its join lead from the one text to the other
 leads_joined : (t : List ℕ) (r : Record) (rs : List Record) (e : Revision) (es : List Revision) → Leads t (r ∷ rs) (e ∷ es) → Leads t (joined r rs ∷ []) (latest e es ∷ [])
@@ -75,14 +64,10 @@ leads_joined t r [] e [] l = (l.0, l.1, tt)
 leads_joined t r (q ∷ rs) e (f ∷ es) l =
     leads_joined t (join r q) rs (record { expr = e.expr ++ codes " | " ++ f.expr; text = f.text }) es
     (ap (λ x. x ++ codes " | " ++ q.expr) l.0 ∙ ap (λ x. e.expr ++ codes " | " ++ x) l.2.0, done_join r q t e.text f.text l.1 l.2.1, l.2.2)
-leads_joined t r [] e (f ∷ es) l = absurd l.2
-leads_joined t r (q ∷ rs) e [] l = absurd l.2
+leads_joined t r _ e _ l = absurd l.2
 
 leads_joined_of : (t : List ℕ) (rs : List Record) (es : List Revision) → Leads t rs es → Leads t (joined_of rs) (latest_of es)
-leads_joined_of t [] [] l = tt
-leads_joined_of t (r ∷ rs) (e ∷ es) l = leads_joined t r rs e es l
-leads_joined_of t [] (e ∷ es) l = absurd l
-leads_joined_of t (r ∷ rs) [] l = absurd l
+leads_joined_of t rs es h1 = search (rules, leads_joined)
 
 latest-text : (e : Revision) (es : List Revision) → (latest e es).text ≡ text_end e.text es
 unfolding text_end
@@ -100,14 +85,13 @@ length-latest_of (e ∷ es) h = refl
 
 -- records that lead through texts have lengths that meet
 leads_meet : (t : List ℕ) (rs : List Record) (es : List Revision) → Leads t rs es → meet rs ≡ true
-leads_meet t [] es l = refl
-leads_meet t (r ∷ []) es l = refl
 leads_meet t (r ∷ q ∷ rs) (e ∷ f ∷ es) l =
     let h = stands_of r.before_len r.after_len r.changes t e.text l.1 in
     let k = stands_of q.before_len q.after_len q.changes e.text f.text l.2.1 in
     both_true (eq-eqb r.after_len q.before_len (sym h.ends ∙ k.starts)) (leads_meet e.text (q ∷ rs) (f ∷ es) l.2)
 leads_meet t (r ∷ q ∷ rs) [] l = absurd l
 leads_meet t (r ∷ q ∷ rs) (e ∷ []) l = absurd l.2
+leads_meet t _ es l = refl
 
 -- the done records from a place on lead from the text there to the one at the cursor
 last_leads : (s : State) (t : List ℕ) (h : History) (n : ℕ) → AtRest s t h → Leads (text_end h.first (take (h.at - n) (take h.at h.later))) (last_done s.records s.at n) (drop (h.at - n) (take h.at h.later))
@@ -130,38 +114,34 @@ squashed_front h n = take (h.at - n) h.later ++ latest_of (drop (h.at - n) (take
 
 length-squashed_front : (h : History) (n : ℕ) → 1 ≤ n → n ≤ h.at → h.at ≤ length h.later → length (squashed_front h n) ≡ h.at - n + 1
 unfolding squashed_front
-length-squashed_front h n some fits within =
-    let long : length (take h.at h.later) ≡ h.at = length-take-le h.at h.later within in
-    let front : length (take (h.at - n) h.later) ≡ h.at - n = length-take-le (h.at - n) h.later (omega arith) in
-    let left : length (drop (h.at - n) (take h.at h.later)) ≡ h.at - (h.at - n) = length-drop (h.at - n) (take h.at h.later) ∙ ap (λ m. m - (h.at - n)) long in
-    let last : length (latest_of (drop (h.at - n) (take h.at h.later))) ≡ 1 = length-latest_of (drop (h.at - n) (take h.at h.later)) (omega (arith, left)) in
-    length-append (take (h.at - n) h.later) (latest_of (drop (h.at - n) (take h.at h.later))) ∙ omega (arith, front, last)
+length-squashed_front h n some fits within = search (rules, length-take-le, length-drop, length-latest_of, length-append)
+
+-- the text behind the joined edits is that behind these
+end_of_squash : (h : History) (n : ℕ)
+    → text_end (text_end h.first (take (h.at - n) h.later)) (latest_of (drop (h.at - n) (take h.at h.later))) ≡ text_end h.first (take h.at h.later)
+end_of_squash h n =
+    let inner = take h.at h.later in
+    text_end-latest_of (text_end h.first (take (h.at - n) h.later)) (drop (h.at - n) inner)
+    ∙ ap (λ es. text_end (text_end h.first es) (drop (h.at - n) inner)) (sym (take-take (h.at - n) h.at h.later (omega arith)))
+    ∙ sym (text_end-append h.first (take (h.at - n) inner) (drop (h.at - n) inner))
+    ∙ ap (text_end h.first) (take-append-drop (h.at - n) inner)
 
 text_end-squashed_front : (h : History) (n : ℕ) → h.at ≤ length h.later → text_end h.first (squashed_front h n) ≡ text_at h
 unfolding squashed_front
 text_end-squashed_front h n within =
-    let inner = take h.at h.later in
-    text_end-append h.first (take (h.at - n) h.later) (latest_of (drop (h.at - n) inner))
-    ∙ text_end-latest_of (text_end h.first (take (h.at - n) h.later)) (drop (h.at - n) inner)
-    ∙ ap (λ es. text_end (text_end h.first es) (drop (h.at - n) inner)) (sym (take-take (h.at - n) h.at h.later (omega arith)))
-    ∙ sym (text_end-append h.first (take (h.at - n) inner) (drop (h.at - n) inner))
-    ∙ ap (text_end h.first) (take-append-drop (h.at - n) inner)
-    ∙ text_end-take h.first h.later h.at within
+    text_end-append h.first (take (h.at - n) h.later) (latest_of (drop (h.at - n) (take h.at h.later)))
+    ∙ end_of_squash h n ∙ text_end-take h.first h.later h.at within
 
 squash_leads : (s : State) (t : List ℕ) (h : History) (n : ℕ) → AtRest s t h → Leads h.first (squashed s n).records (after_squash h n).later
 squash_leads s t h n k =
     let inner = take h.at h.later in
-    let front : text_end h.first (take (h.at - n) h.later) ≡ text_end h.first (take (h.at - n) inner) =
-    ap (text_end h.first) (sym (take-take (h.at - n) h.at h.later (omega arith))) in
+    let front : text_end h.first (take (h.at - n) inner) ≡ text_end h.first (take (h.at - n) h.later) =
+    ap (text_end h.first) (take-take (h.at - n) h.at h.later (omega arith)) in
     let run : Leads (text_end h.first (take (h.at - n) h.later)) (joined_of (last_done s.records s.at n)) (latest_of (drop (h.at - n) inner)) =
-    leads_joined_of _ (last_done s.records s.at n) (drop (h.at - n) inner) (subst (λ u. Leads u (last_done s.records s.at n) (drop (h.at - n) inner)) (sym front) (last_leads s t h n k)) in
-    let end : text_end (text_end h.first (take (h.at - n) h.later)) (latest_of (drop (h.at - n) inner)) ≡ text_end h.first inner =
-    text_end-latest_of (text_end h.first (take (h.at - n) h.later)) (drop (h.at - n) inner)
-    ∙ ap (λ u. text_end u (drop (h.at - n) inner)) front
-    ∙ sym (text_end-append h.first (take (h.at - n) inner) (drop (h.at - n) inner))
-    ∙ ap (text_end h.first) (take-append-drop (h.at - n) inner) in
+    leads_joined_of _ (last_done s.records s.at n) (drop (h.at - n) inner)
+    (subst (λ u. Leads u (last_done s.records s.at n) (drop (h.at - n) inner)) front (last_leads s t h n k)) in
     let tail : Leads (text_end (text_end h.first (take (h.at - n) h.later)) (latest_of (drop (h.at - n) inner))) (drop s.at s.records) (drop h.at h.later) =
-    subst (λ u. Leads u (drop s.at s.records) (drop h.at h.later)) (sym end)
+    subst (λ u. Leads u (drop s.at s.records) (drop h.at h.later)) (sym (end_of_squash h n))
     (subst (λ a. Leads (text_end h.first inner) (drop a s.records) (drop h.at h.later)) (sym k.reports.cursor) (leads_drop h.first s.records h.later h.at k.reports.leads)) in
     subst (λ a. Leads h.first (take (a - n) s.records ++ (joined_of (last_done s.records s.at n) ++ drop s.at s.records)) (take (h.at - n) h.later ++ (latest_of (drop (h.at - n) inner) ++ drop h.at h.later))) (sym k.reports.cursor)
     (leads_append h.first (take (h.at - n) s.records) (joined_of (last_done s.records s.at n) ++ drop s.at s.records) (take (h.at - n) h.later) (latest_of (drop (h.at - n) inner) ++ drop h.at h.later)
@@ -187,9 +167,8 @@ squash_rests s t h n k some fits =
     }
 
 one_latest : (es : List Revision) → length es ≡ 1 → latest_of es ≡ es
-one_latest [] h = absurd (omega (arith, h))
 one_latest (e ∷ []) h = refl
-one_latest (e ∷ f ∷ es) h = absurd (omega (arith, h))
+one_latest _ h = absurd (omega (arith, h))
 
 -- a squash of one edit leaves the history
 pub squash_one : (h : History) → 1 ≤ h.at → h.at ≤ length h.later → after_squash h 1 ≡ h

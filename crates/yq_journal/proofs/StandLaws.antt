@@ -1,13 +1,12 @@
 -- Splices that can be done, told from the bytes of the text before them.
-use Rattle.std.proofs.Common.{◌≡◌, ◌≢◌, ◌⊎◌, inl, inr, ℕ, suc, ◌+◌, ◌-◌, ◌≤◌, ◌<◌, ◌&&◌, Bool, true, false, List, [], ◌∷◌, ◌++◌, length, take, drop, nat_le, nat_lt, Option, Some, None, refl, sym, ap, ◌∙◌, subst, arith, length-append, if◌then◌else◌, eq-eqb}
+use Rattle.std.proofs.Common.{◌≡◌, ◌≢◌, ◌⊎◌, ℕ, suc, ◌+◌, ◌-◌, ◌≤◌, ◌<◌, Bool, true, false, List, [], ◌∷◌, ◌++◌, length, take, drop, nat_le, Option, Some, None, refl, sym, ap, ◌∙◌, subst, arith, length-append, if◌then◌else◌, eq-eqb, rules}
 use Rattle.std.specs.Prelude.{◌==◌, ◌^◌, option_and_then, slice_get, is_some}
 use Prim.Native.Nat.{zero}
-use Rattle.std.specs.Cmp.Derive.{both_true}
 use Rattle.std.proofs.Math.Seq.{drop-append_seam, take-append_seam}
-use Rattle.std.proofs.lemmas.Bool.{le-leb, leb-true, lt-ltb, ltb-true}
+use Rattle.std.proofs.lemmas.Bool.{and_parts, le-leb, leb-true, lt-ltb, ltb-true}
 use Rattle.std.proofs.lemmas.Bool.Decides.{nat_tests}
 use Rattle.std.proofs.lemmas.List.{take-append-drop, length-take-le}
-use Rattle.std.proofs.lemmas.Option.{none-some, same_Some}
+use Rattle.std.proofs.lemmas.Option.{cond_some, none-some, option_and_then_some, same_Some}
 use Rattle.yq_script.specs.Splice.{Splice, swapped, change_done, all_done, flipped, length_done, lengths_done}
 use Rattle.yq_script.proofs.PlaceInList.{split_at, take_next}
 use Rattle.yq_script.proofs.SpliceLaws.{done-from_exchanges, exchanges-from_done, all_done-append, lengths_done-append}
@@ -62,25 +61,11 @@ record Lengths (s : Splice) (n m : ℕ) : Type 0 where
 
 parts_of_length : (s : Splice) (n m : ℕ) → length_done s n ≡ Some m → Lengths s n m
 unfolding length_done
-parts_of_length s n m h =
-    elim (nat_le (s.at + length s.old) n) as (λ t. nat_le (s.at + length s.old) n ≡ t → (if t && nat_lt (n - length s.old + length s.new) (2 ^ 64) then Some (n - length s.old + length s.new) else None) ≡ Some m → Lengths s n m) [
-      | true ↦ λ e k.
-          elim (nat_lt (n - length s.old + length s.new) (2 ^ 64)) as (λ t. nat_lt (n - length s.old + length s.new) (2 ^ 64) ≡ t → (if t then Some (n - length s.old + length s.new) else None) ≡ Some m → Lengths s n m) [
-            | true ↦ λ f q.
-                let same : n - length s.old + length s.new ≡ m = same_Some (n - length s.old + length s.new) m q in
-                record { fits = leb-true (s.at + length s.old) n e; small = subst (λ x. x < 2 ^ 64) same (ltb-true (n - length s.old + length s.new) (2 ^ 64) f); is = sym same }
-            | false ↦ λ f q. cc
-          ] refl k
-      | false ↦ λ e k. cc
-    ] refl h
+parts_of_length s n m h = search (rules, cond_some, and_parts, leb-true, ltb-true)
 
 length_of_parts : (s : Splice) (n m : ℕ) → Lengths s n m → length_done s n ≡ Some m
 unfolding length_done
-length_of_parts s n m p =
-    let small : n - length s.old + length s.new < 2 ^ 64 = subst (λ x. x < 2 ^ 64) p.is p.small in
-    ap (λ t. if t then Some (n - length s.old + length s.new) else None)
-    (both_true (le-leb (s.at + length s.old) n p.fits) (lt-ltb (n - length s.old + length s.new) (2 ^ 64) small))
-    ∙ ap Some (sym p.is)
+length_of_parts s n m p = search (rules, le-leb, lt-ltb)
 
 -- the lengths of a text before and after a splice
 record Grown (s : Splice) (b c : List ℕ) : Type 0 where
@@ -95,56 +80,39 @@ grown s b c e =
     let offset : length x.front ≡ s.at = x.offset in
     record { within = omega (arith, old, offset); long = omega (arith, old, new, offset) }
 
--- lengths that are reached are those of the texts
-pub lengths_follow : (ss : List Splice) (b c : List ℕ) → all_done ss b ≡ Some c → lengths_done ss (length b) ≢ None → lengths_done ss (length b) ≡ Some (length c)
-lengths_follow [] b c e h = ap Some (ap length (same_Some b c e))
-lengths_follow (s ∷ ss) b c e h =
-    elim (change_done s b) as (λ r. change_done s b ≡ r → option_and_then (all_done ss) r ≡ Some c → option_and_then (lengths_done ss) (length_done s (length b)) ≡ Some (length c)) [
-      | None ↦ λ _ k. cc
-      | Some d ↦ λ is k.
-          elim (length_done s (length b)) as (λ o. length_done s (length b) ≡ o → option_and_then (lengths_done ss) o ≢ None → option_and_then (lengths_done ss) o ≡ Some (length c)) [
-            | None ↦ λ _ q. absurd (q refl)
-            | Some n ↦ λ to q.
-                let same : n ≡ length d = (parts_of_length s (length b) n to).is ∙ sym (grown s b d is).long in
-                ap (lengths_done ss) same ∙ lengths_follow ss d c k (λ none. q (ap (lengths_done ss) same ∙ none))
-          ] refl h
-    ] refl e
-
-lengths_small : (ss : List Splice) (n m : ℕ) → lengths_done ss n ≡ Some m → n < 2 ^ 64 → m < 2 ^ 64
-lengths_small [] n m e h = subst (λ x. x < 2 ^ 64) (same_Some n m e) h
-lengths_small (s ∷ ss) n m e h =
-    elim (length_done s n) as (λ o. length_done s n ≡ o → option_and_then (lengths_done ss) o ≡ Some m → m < 2 ^ 64) [
-      | None ↦ λ _ k. cc
-      | Some x ↦ λ is k. lengths_small ss x m k (parts_of_length s n x is).small
-    ] refl e
-
--- splices taken back lead back from the one length to the other
-pub lengths_flip : (ss : List Splice) (n m : ℕ) → lengths_done ss n ≡ Some m → n < 2 ^ 64 → lengths_done (flipped ss) m ≡ Some n
-lengths_flip [] n m e h = sym e
-lengths_flip (s ∷ ss) n m e h =
-    elim (length_done s n) as (λ o. length_done s n ≡ o → option_and_then (lengths_done ss) o ≡ Some m → lengths_done (flipped ss ++ swapped s ∷ []) m ≡ Some n) [
-      | None ↦ λ _ k. cc
-      | Some x ↦ λ is k.
-          let p = parts_of_length s n x is in
-          let fits : s.at + length s.old ≤ n = p.fits in
-          let long : x ≡ n - length s.old + length s.new = p.is in
-          let back : length_done (swapped s) x ≡ Some n = length_of_parts (swapped s) x n (record { fits = omega (arith, fits, long); small = h; is = omega (arith, fits, long) }) in
-          lengths_done-append (flipped ss) (swapped s ∷ []) m
-          ∙ ap (option_and_then (lengths_done (swapped s ∷ []))) (lengths_flip ss x m k p.small)
-          ∙ ap (option_and_then (λ d. Some d)) back
-    ] refl e
-
 and_then_some : {A B : Type 0} (f : A → Option B) (o : Option A) → option_and_then f o ≢ None → (x : A) × (o ≡ Some x) × (f x ≢ None)
 and_then_some f None h = absurd (h refl)
 and_then_some f (Some x) h = (x, refl, h)
 
+-- lengths that are reached are those of the texts
+pub lengths_follow : (ss : List Splice) (b c : List ℕ) → all_done ss b ≡ Some c → lengths_done ss (length b) ≢ None → lengths_done ss (length b) ≡ Some (length c)
+lengths_follow [] b c e h = ap Some (ap length (same_Some b c e))
+lengths_follow (s ∷ ss) b c e h = option_and_then_some (all_done ss) (change_done s b) c e (λ d is k.
+    let there = and_then_some (lengths_done ss) (length_done s (length b)) h in
+    let same : there.0 ≡ length d = (parts_of_length s (length b) there.0 there.1).is ∙ sym (grown s b d is).long in
+    ap (option_and_then (lengths_done ss)) (there.1 ∙ ap Some same) ∙ lengths_follow ss d c k (λ none. there.2 (ap (lengths_done ss) same ∙ none)))
+
+lengths_small : (ss : List Splice) (n m : ℕ) → lengths_done ss n ≡ Some m → n < 2 ^ 64 → m < 2 ^ 64
+lengths_small [] n m e h = subst (λ x. x < 2 ^ 64) (same_Some n m e) h
+lengths_small (s ∷ ss) n m e h =
+    option_and_then_some (lengths_done ss) (length_done s n) m e (λ x is k. lengths_small ss x m k (parts_of_length s n x is).small)
+
+-- splices taken back lead back from the one length to the other
+pub lengths_flip : (ss : List Splice) (n m : ℕ) → lengths_done ss n ≡ Some m → n < 2 ^ 64 → lengths_done (flipped ss) m ≡ Some n
+lengths_flip [] n m e h = sym e
+lengths_flip (s ∷ ss) n m e h = option_and_then_some (lengths_done ss) (length_done s n) m e (λ x is k.
+    let p = parts_of_length s n x is in
+    let fits : s.at + length s.old ≤ n = p.fits in
+    let long : x ≡ n - length s.old + length s.new = p.is in
+    let back : length_done (swapped s) x ≡ Some n =
+    length_of_parts (swapped s) x n (record { fits = omega (arith, fits, long); small = h; is = omega (arith, fits, long) }) in
+    lengths_done-append (flipped ss) (swapped s ∷ []) m
+    ∙ ap (option_and_then (lengths_done (swapped s ∷ []))) (lengths_flip ss x m k p.small)
+    ∙ ap (option_and_then (λ d. Some d)) back)
+
 -- the lengths up to a place of splices whose lengths are all within
 lengths_up_to : (ss rest : List Splice) (text b : List ℕ) → lengths_done (ss ++ rest) (length text) ≢ None → all_done ss text ≡ Some b → (lengths_done ss (length text) ≡ Some (length b)) × (lengths_done rest (length b) ≢ None)
-lengths_up_to ss rest text b h e =
-    let there = and_then_some (lengths_done rest) (lengths_done ss (length text)) (λ none. h (lengths_done-append ss rest (length text) ∙ none)) in
-    let reached : lengths_done ss (length text) ≡ Some (length b) = lengths_follow ss text b e (λ none. none-some there.0 (sym none ∙ there.1)) in
-    let same : there.0 ≡ length b = same_Some there.0 (length b) (sym there.1 ∙ reached) in
-    (reached, λ none. there.2 (ap (lengths_done rest) same ∙ none))
+lengths_up_to ss rest text b h e = search (rules, and_then_some, lengths_done-append, lengths_follow, none-some, same_Some)
 
 -- each splice lies within the text that it finds
 pub lies_within : (ss : List Splice) (k : ℕ) (s : Splice) (text b : List ℕ) → lengths_done ss (length text) ≢ None → all_done (take k ss) text ≡ Some b → slice_get ss k ≡ Some s → s.at + length s.old ≤ length b
@@ -200,14 +168,7 @@ before s b c e =
 
 -- where a byte came from over a splice
 pub came_from : (s : Splice) (b c : List ℕ) (i j : ℕ) → Before s b c → i < length c → ((i < s.at) × (j ≡ i)) ⊎ ((s.at + length s.new ≤ i) × (j ≡ i - length s.new + length s.old)) → (j < length b) × (slice_get b j ≡ slice_get c i)
-came_from s b c i j x h (inl (low, is)) =
-    let long : length c ≡ length b - length s.old + length s.new = x.long in
-    let within : s.at + length s.old ≤ length b = x.within in
-    (omega (arith, low, is, within), ap (slice_get b) is ∙ sym (x.front i low))
-came_from s b c i j x h (inr (high, is)) =
-    let long : length c ≡ length b - length s.old + length s.new = x.long in
-    let within : s.at + length s.old ≤ length b = x.within in
-    (omega (arith, high, is, within, long), ap (slice_get b) is ∙ sym (x.behind i high))
+came_from s b c i j h1 h2 h3 = search rules
 
 -- the text before a splice that was done
 pub record Earlier (ss : List Splice) (text : List ℕ) (k : ℕ) (s : Splice) (c : List ℕ) : Type 0 where
@@ -218,11 +179,8 @@ pub record Earlier (ss : List Splice) (text : List ℕ) (k : ℕ) (s : Splice) (
 
 pub earlier : (ss : List Splice) (text : List ℕ) (k : ℕ) (s : Splice) (c : List ℕ) → lengths_done ss (length text) ≢ None → length text < 2 ^ 64 → slice_get ss k ≡ Some s → all_done (take (k + 1) ss) text ≡ Some c → Earlier ss text k s c
 earlier ss text k s c h small is e =
-    let one = sym (done_next ss k s text is) ∙ e in
-    elim (all_done (take k ss) text) as (λ o. all_done (take k ss) text ≡ o → option_and_then (change_done s) o ≡ Some c → Earlier ss text k s c) [
-      | None ↦ λ _ q. cc
-      | Some b ↦ λ to q. record { text_before = b; is = to; bytes = before s b c q; small = stays_small ss k text b h to small }
-    ] refl one
+    option_and_then_some (change_done s) (all_done (take k ss) text) c (sym (done_next ss k s text is) ∙ e)
+    (λ b to q. record { text_before = b; is = to; bytes = before s b c q; small = stays_small ss k text b h to small })
 
 -- the same, from a place down
 pub one_earlier : (ss : List Splice) (text : List ℕ) (n : ℕ) (s : Splice) (c : List ℕ) → 0 < n → lengths_done ss (length text) ≢ None → length text < 2 ^ 64 → slice_get ss (n - 1) ≡ Some s → all_done (take n ss) text ≡ Some c → Earlier ss text (n - 1) s c
@@ -249,11 +207,7 @@ found_there s b within is = (
 )
 
 pub not_there : (s : Splice) (b : List ℕ) → take (length s.old) (drop s.at b) ≢ s.old → change_done s b ≡ None
-not_there s b other = none_done s b (λ c x.
-    other (ap (λ l. take (length s.old) (drop s.at l)) x.before
-    ∙ ap (λ n. take (length s.old) (drop n (x.front ++ (s.old ++ x.rest)))) (sym x.offset)
-    ∙ ap (take (length s.old)) (drop-append_seam x.front (s.old ++ x.rest))
-    ∙ take-append_seam s.old x.rest))
+not_there s b other = search (rules, none_done, drop-append_seam, take-append_seam)
 
 pub length-turned : (back : Bool) (ss : List Splice) → length (turned back ss) ≡ length ss
 length-turned false ss = refl
@@ -261,13 +215,4 @@ length-turned true ss = length-flipped ss
 
 -- where lengths are within, splices that are done end with the length that is told
 pub ends_alike : (ss : List Splice) (n m : ℕ) (b : List ℕ) → lengths_done ss n ≡ Some m → length b ≡ n → is_some (all_done ss b) ≡ is_some (if length b == n then if_length m (all_done ss b) else None)
-ends_alike ss n m b lengths long =
-    elim (all_done ss b) as (λ o. all_done ss b ≡ o → is_some o ≡ is_some (if_length m o)) [
-      | None ↦ λ e. refl
-      | Some c ↦ λ e.
-          let reached : lengths_done ss (length b) ≡ Some m = ap (lengths_done ss) long ∙ lengths in
-          let follow = lengths_follow ss b c e (λ none. none-some m (sym none ∙ reached)) in
-          let same : length c ≡ m = same_Some (length c) m (sym follow ∙ reached) in
-          sym (ap (λ t. is_some (if t then Some c else None)) (eq-eqb (length c) m same))
-    ] refl
-    ∙ sym (ap (λ t. is_some (if t then if_length m (all_done ss b) else None)) (eq-eqb (length b) n long))
+ends_alike ss n m b lengths long = search (rules, lengths_follow, none-some, same_Some, eq-eqb)

@@ -1,19 +1,18 @@
 -- A journal's value has no float and is shallow, so its text is read back, also with its line feed.
-use Rattle.std.proofs.Common.{◌≡◌, ◌≤◌, ℕ, List, [], ◌∷◌, ◌++◌, false, ◌||◌, Option, Some, None, map, refl, ap, ◌∙◌, arith, if◌then◌else◌}
+use Rattle.std.proofs.Common.{◌≡◌, ◌≤◌, ℕ, List, [], ◌∷◌, ◌++◌, false, ◌||◌, Option, Some, map, refl, ap, ◌∙◌, arith, rules}
 use Prim.Native.Nat.{zero}
-use Rattle.std.specs.Prelude.{◌<◌, option_and_then, slice_index, suc}
+use Rattle.std.specs.Prelude.{◌<◌, slice_index, suc}
 use Rattle.std.specs.Str.{IsUtf8}
 use Rattle.std.proofs.lemmas.Str.{is_utf8-from_IsUtf8, IsUtf8-append, IsUtf8-from_ascii}
 use Rattle.json.specs.Lex.{tokens}
 use Rattle.json.specs.Print.{print}
-use Rattle.json.specs.Json as json
 use Rattle.serde_json.specs.Data.{Data, array, depth, items_depth}
-use Rattle.serde_json.specs.Read.{read, max_depth, of_json}
+use Rattle.serde_json.specs.Read.{read, max_depth}
 use Rattle.serde_json.specs.View.{items_of}
 use Rattle.serde_json.specs.Written.{IsInOrder, has_float, items_have_float}
 use Rattle.yq_script.specs.Splice.{Splice}
 use Rattle.yq_journal.specs.declared.moves.Move.{Move}
-use Rattle.yq_journal.specs.declared.moves.Move.TheVariants.{Edit, Undo, Redo}
+use Rattle.yq_journal.specs.declared.moves.Move.TheVariants.{Edit}
 use Rattle.yq_journal.specs.Json.{change_data, record_data, move_data, pending_data, journal_data, journal_of, journal_in}
 use Rattle.yq_journal.specs.Record.{Record}
 use Rattle.yq_journal.specs.State.{Pending, State}
@@ -34,16 +33,10 @@ no_float_records (r ∷ rs) = ap (λ b. b || items_have_float (items_of (map rec
 -- nor has that of a move
 pub no_float_move : (step : Move) → has_float (move_data step) ≡ false
 no_float_move (Edit r) = no_float_record r
-no_float_move Undo = refl
-no_float_move Redo = refl
+no_float_move _ = refl
 
 no_float_pending : (o : Option Pending) → has_float (pending_data o) ≡ false
-no_float_pending None = refl
-no_float_pending (Some p) = elim p.step as (λ m. has_float (pending_data (Some (record { step = m; from = p.from }))) ≡ false) [
-  | Edit r ↦ ap (λ b. b || false) (no_float_record r)
-  | Undo ↦ refl
-  | Redo ↦ refl
-]
+no_float_pending o = search (rules, no_float_record)
 
 -- a journal's value has no float
 pub no_float : (s : State) → has_float (journal_data s) ≡ false
@@ -68,26 +61,17 @@ flat_records (r ∷ rs) =
 -- a move's value and that of records are shallow
 pub shallow_move : (step : Move) → depth (move_data step) ≤ max_depth
 shallow_move (Edit r) = let f : depth (record_data r) ≤ 3 = flat_record r in omega arith
-shallow_move Undo = omega arith
-shallow_move Redo = omega arith
+shallow_move _ = omega arith
 
 pub shallow_records : (rs : List Record) → depth (array (items_of (map record_data rs))) ≤ max_depth
 shallow_records rs = let f : items_depth (items_of (map record_data rs)) ≤ 3 = flat_records rs in omega arith
 
 flat_pending : (o : Option Pending) → depth (pending_data o) ≤ 4
-flat_pending None = omega arith
-flat_pending (Some p) = elim p.step as (λ m. depth (pending_data (Some (record { step = m; from = p.from }))) ≤ 4) [
-  | Edit r ↦ let f : depth (record_data r) ≤ 3 = flat_record r in omega arith
-  | Undo ↦ omega arith
-  | Redo ↦ omega arith
-]
+flat_pending o = search (rules, flat_record)
 
 -- and is shallow
 pub shallow : (s : State) → depth (journal_data s) ≤ max_depth
-shallow s =
-    let p : depth (pending_data s.pending) ≤ 4 = flat_pending s.pending in
-    let rs : items_depth (items_of (map record_data s.records)) ≤ 3 = flat_records s.records in
-    omega arith
+shallow s = search (rules, flat_pending, flat_records)
 
 small : (i : ℕ) → slice_index (10 ∷ []) i < 128
 small zero = omega arith
@@ -98,8 +82,4 @@ line_feed = IsUtf8-from_ascii (10 ∷ []) small
 
 -- the text of a value that is a journal, with its line feed, is that journal
 pub line_reads : (bs : List ℕ) (d : Data) (s : State) → IsUtf8 bs → IsInOrder bs d → bs ≡ print (tokens bs) → read bs ≡ Some d → journal_of d ≡ Some s → journal_in (bs ++ 10 ∷ []) ≡ Some s
-line_reads bs d s u w compact r q =
-    ap (λ b. if b then option_and_then journal_of (read (bs ++ 10 ∷ [])) else None) (is_utf8-from_IsUtf8 (bs ++ 10 ∷ []) (IsUtf8-append bs (10 ∷ []) u line_feed))
-    ∙ ap (λ ts. option_and_then journal_of (option_and_then of_json (option_and_then (λ p. json.if_last p.0 p.1) (json.value max_depth ts)))) (tokens_of_line bs d w compact)
-    ∙ ap (option_and_then journal_of) r
-    ∙ q
+line_reads bs d s u w compact r q = cc (is_utf8-from_IsUtf8 (bs ++ 10 ∷ []) (IsUtf8-append bs (10 ∷ []) u line_feed), tokens_of_line bs d w compact)

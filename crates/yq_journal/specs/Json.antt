@@ -116,10 +116,6 @@ records_of counted d = option_and_then (all_of (record_of counted)) (as_array d)
 
 -- ---- an open move
 
--- this move, under a record of null (own)
-abbrev pub with_null : Move → Data → Option Move
-with_null step d = if is_some (as_null d) then Some step else None
-
 -- the move of a kind that has no record (own)
 abbrev pub bare_move : List ℕ → Option Move
 bare_move kind = if bytes_eq kind (codes "undo") then Some Undo else if bytes_eq kind (codes "redo") then Some Redo else None

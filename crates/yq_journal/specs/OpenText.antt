@@ -9,9 +9,14 @@ use Rattle.serde_json.specs.Written.{compact_text, outline}
 abbrev pub text_before : ℕ → List ℕ
 text_before at = (codes "{\"at\":" ++ decimal at) ++ codes ",\"pending\":{\"from\":\""
 
+-- the text up to the move's kind: that up to there, with the base64, is before it (own)
+abbrev pub text_to_kind : List ℕ → List ℕ
+text_to_kind before = before ++ codes "\",\"kind\":\""
+
 -- the text up to there, with the base64, and what is behind it: the move's kind, its record, and the records (own)
 abbrev pub text_behind : List ℕ → List ℕ → List ℕ → List ℕ → List ℕ
-text_behind before kind held records = ((((((before ++ codes "\",\"kind\":\"") ++ kind) ++ codes "\",\"record\":") ++ held) ++ codes "},\"records\":") ++ records) ++ codes ",\"version\":2}\n"
+text_behind before kind held records =
+    (((((text_to_kind before ++ kind) ++ codes "\",\"record\":") ++ held) ++ codes "},\"records\":") ++ records) ++ codes ",\"version\":2}\n"
 
 -- a value's text is that, its numbers are numbers of JSON, and what it is read as is that value (RFC 8259)
 pub record IsWritten (text : List ℕ) (d : Data) : Type 0 where

@@ -17,6 +17,7 @@ pub fn moves_go_on()
 
 /// With a move open that changes the text, the journal describes the history
 /// before it beside the old text, and the one after it beside the new text.
+#[tactic(auto, using(crate::proofs::GoodLaws::open_before, crate::proofs::GoodLaws::open_after))]
 pub fn open_moves_describe()
     ensures before { (s : State) (h : History) (t u : List ℕ) (step : Move) → AtRest s t h →
         moved_text s.records s.at step t ≡ Some u → u ≢ t → Describes (opened s step t) t h }
@@ -27,12 +28,14 @@ pub fn open_moves_describe()
 
 /// A journal that describes a history is settled beside its text, never
 /// refused, and is then at rest with that history.
+#[tactic(auto, using(crate::proofs::GoodLaws::settles))]
 pub fn settling_rests()
     ensures { (s : State) (t : List ℕ) (h : History) → Describes s t h → Rests (settled s t) t h }
 {}
 
 /// A move of a journal at rest is refused exactly where its history refuses
 /// it: an undo or a redo always stands where there is one.
+#[tactic(auto, using(crate::proofs::GoodLaws::undo_fault, crate::proofs::GoodLaws::redo_fault, crate::proofs::GoodLaws::edit_fault))]
 pub fn faults_are_of_history()
     ensures undo { (s : State) (t : List ℕ) (h : History) → AtRest s t h →
         way_fault s.records s.at Undo t ≡ step_fault h Undo }
@@ -46,6 +49,7 @@ pub fn faults_are_of_history()
 
 /// Joining the last done records of a journal is a squash of its history; of
 /// one record, it leaves the history.
+#[tactic(auto, using(crate::proofs::SquashLaws::squash_one))]
 pub fn squashes_go_on()
     ensures one { (h : History) → 1 ≤ h.at → h.at ≤ length h.later → after_squash h 1 ≡ h }
     ensures rests { (s : State) (t : List ℕ) (h : History) (n : ℕ) → AtRest s t h → 1 ≤ n →

@@ -17,9 +17,11 @@ fn splice_value(alloc: Global, splice: &Splice) -> Result<Value, AllocError>
     ensures reads_back { IfOk result (λ v. spec.change_of (view v) ≡ Some splice.now) }
 {
     let at = splice.at;
-    let old = STANDARD.encode(alloc, &splice.old)?;
-    let new = STANDARD.encode(alloc, &splice.new)?;
-    json!(in alloc; {"at": at, "old": old, "new": new})
+    json!(in alloc; {
+        "at": at,
+        "old": STANDARD.encode(alloc, &splice.old)?,
+        "new": STANDARD.encode(alloc, &splice.new)?
+    })
 }
 
 fn splice_values(alloc: Global, splices: &[Splice]) -> Result<Vec<Value>, AllocError>
@@ -40,7 +42,6 @@ fn record_value(alloc: Global, patch: &Record) -> Result<Value, AllocError>
     ensures written { IfOk result (λ v. view v ≡ spec.record_data patch.now) }
     ensures reads_back { IfOk result (λ v. spec.record_of true (view v) ≡ Some patch.now) }
 {
-    let splices = Value::Array(splice_values(alloc, &patch.splices)?);
     let after_len = patch.after_len;
     let before_len = patch.before_len;
     let count = patch.count;
@@ -50,7 +51,7 @@ fn record_value(alloc: Global, patch: &Record) -> Result<Value, AllocError>
         "before_len": before_len,
         "count": count,
         "expr": expr,
-        "splices": splices
+        "splices": Value::Array(splice_values(alloc, &patch.splices)?)
     })
 }
 
@@ -96,10 +97,12 @@ fn open_value(alloc: Global, open: &Open) -> Result<Value, AllocError>
     ensures written { IfOk result (λ v. view v ≡ spec.pending_data (Some open.now)) }
     ensures reads_back { IfOk result (λ v. spec.open_of true (view v) ≡ Some open.now) }
 {
-    let from = STANDARD.encode(alloc, &open.from)?;
     let kind = kind(&open.step);
-    let held = move_value(alloc, &open.step)?;
-    json!(in alloc; {"from": from, "kind": kind, "record": held})
+    json!(in alloc; {
+        "from": STANDARD.encode(alloc, &open.from)?,
+        "kind": kind,
+        "record": move_value(alloc, &open.step)?
+    })
 }
 
 /// An open move as a value, null where there is none.

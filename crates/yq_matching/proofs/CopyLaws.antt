@@ -1,5 +1,5 @@
 -- Copies of items and entries, one behind the other.
-use Rattle.std.proofs.Common.{◌≡◌, ℕ, ◌<◌, ◌≤◌, List, [], ◌∷◌, ◌++◌, None, refl, sym, ap, ◌∙◌, append_assoc, arith}
+use Rattle.std.proofs.Common.{◌≡◌, ℕ, ◌<◌, ◌≤◌, List, [], ◌∷◌, ◌++◌, None, sym, ap, ◌∙◌, arith}
 use Rattle.yq_flow_scalars.specs.Keys.{depth, deepest}
 use Rattle.yq_flow_scalars.specs.Tree as tree
 use Rattle.yq_flow_scalars.specs.Tree.{Label, Node, alias, scalar, list, Children, child, children_of}
@@ -8,17 +8,14 @@ use Rattle.yq_lines.specs.Counts.{count}
 use Rattle.yq_document_nodes.specs.Nodes.{kind_of}
 use Rattle.yq_document_nodes.specs.declared.nodes.node.NodeKind.TheVariants as kinds
 use Rattle.yq_meaning.specs.Copies.{and_others, keyed, copy, item_copies, entry_copies}
-use Rattle.yq_meaning.specs.Judgement.{Judgement, and_then, gives, refuses}
+use Rattle.yq_meaning.specs.Judgement.{Judgement, and_then, gives}
 use Rattle.yq_matching.specs.PlaceView.{put_behind}
+use Rattle.yq_matching.proofs.EachLaws.{put_first}
 
 -- one more behind what is there
 put_one : {V A : Type 0} (g : V → A) (before : List A) (v : V) (j : Judgement V) (others : Judgement (List A)) → j ≡ gives v →
     put_behind before (and_then (λ w. and_others others (g w)) j) ≡ put_behind (before ++ g v ∷ []) others
-put_one {V} {A} g before v j others h = ap (λ k. put_behind before (and_then (λ w. and_others others (g w)) k)) h ∙ go others
-  where
-    go : (k : Judgement (List A)) → put_behind before (and_others k (g v)) ≡ put_behind (before ++ g v ∷ []) k
-    go (gives xs) = ap gives (sym (append_assoc before (g v ∷ []) xs))
-    go (refuses why) = refl
+put_one g before v j others h = put_first g before j others ∙ ap (and_then (λ w. put_behind (before ++ g w ∷ []) others)) h
 
 -- one more item's copy
 pub items_more : (before : List Node) (cs rest : Children) (label : Label) (n v : Node) (all : Judgement (List Node)) → cs ≡ child label n rest → copy n ≡ gives v → put_behind before (item_copies cs) ≡ all →
@@ -34,14 +31,11 @@ entries_more before cs rest label n v all is h so_far =
 
 -- a mapping's copy has copies of its entries
 pub map_copied : (n : Node) (es : List (List ℕ × Node)) → kinds.Map ≡ kind_of n → entry_copies (children_of n) ≡ gives es → copy n ≡ gives (tree.map None (entries es))
-map_copied (alias name) es is h = absurd (cc)
-map_copied (scalar anchor kind text) es is h = absurd (cc)
-map_copied (list anchor cs) es is h = absurd (cc)
 map_copied (tree.map anchor cs) es is h = ap (and_then (λ xs. gives (tree.map None (entries xs)))) h
+map_copied _ es is h = absurd (cc)
 
 -- collections are nested less deep in an item or entry than in its node
 pub depth_below : (n m : Node) (label : Label) (cs rest : Children) → cs ≡ child label m rest → count cs ≤ count (children_of n) → deepest cs ≤ deepest (children_of n) → depth m < depth n
-depth_below (alias name) m label cs rest is some deep = let counted = ap count is in absurd (omega arith)
-depth_below (scalar anchor kind text) m label cs rest is some deep = let counted = ap count is in absurd (omega arith)
 depth_below (list anchor ds) m label cs rest is some deep = let reaches = ap deepest is in omega arith
 depth_below (tree.map anchor ds) m label cs rest is some deep = let reaches = ap deepest is in omega arith
+depth_below _ m label cs rest is some deep = let counted = ap count is in absurd (omega arith)

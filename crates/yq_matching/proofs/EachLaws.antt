@@ -1,5 +1,5 @@
 -- What comes of each of several, one behind the other, and of several that act in turn.
-use Rattle.std.proofs.Common.{◌≡◌, ℕ, suc, ◌+◌, ◌<◌, List, ◌∷◌, ◌++◌, length, map, drop, get_or, Result, Err, refl, sym, ap, ◌∙◌, subst, append_assoc, add-one, drop-cons}
+use Rattle.std.proofs.Common.{◌≡◌, ℕ, suc, ◌+◌, ◌<◌, List, [], ◌∷◌, ◌++◌, length, map, drop, get_or, Result, Err, refl, sym, ap, ◌∙◌, subst, append_assoc, add-one, drop-cons}
 use Rattle.yq_meaning.specs.Judgement.{MatchFails, Judgement, Judges, and_then, gives, refuses}
 use Rattle.yq_matching.specs.PlaceView.{put_behind}
 use Rattle.yq_meaning.specs.Places.{for_each, chained}
@@ -22,8 +22,13 @@ reached v xs i x within is = ap (map v) (drop-cons xs i x within) ∙ (ap (λ y.
 -- what comes of the first ones and of the others, behind what is there
 pub put_both : {B : Type 0} (before : List B) (j k : Judgement (List B)) → put_behind before (and_then (λ first. and_then (λ others. gives (first ++ others)) k) j) ≡ and_then (λ ys. put_behind ys k) (put_behind before j)
 put_both before (gives q) (gives o) = ap gives (sym (append_assoc before q o))
-put_both before (gives q) (refuses why) = refl
-put_both before (refuses why) k = refl
+put_both before _ _ = refl
+
+-- what comes of one and then of the others, behind what is there
+pub put_first : {V A : Type 0} (g : V → A) (before : List A) (j : Judgement V) (k : Judgement (List A)) →
+    put_behind before (and_then (λ v. and_then (λ others. gives (g v ∷ others)) k) j) ≡ and_then (λ v. put_behind (before ++ g v ∷ []) k) j
+put_first g before (gives v) (gives xs) = ap gives (sym (append_assoc before (g v ∷ []) xs))
+put_first g before _ _ = refl
 
 -- what comes of one and of the others, behind what is there
 put_each : {A B : Type 0} (f : A → Judgement (List B)) (before : List B) (x : A) (xs : List A) → put_behind before (for_each f (x ∷ xs)) ≡ and_then (λ ys. put_behind ys (for_each f xs)) (put_behind before (f x))

@@ -7,7 +7,7 @@ use Rattle.yq_meaning.specs.Places.{root_place, for_each, step_on, chained, trav
 use Rattle.yq_program.specs.Program.{Step, Stage, each, path}
 
 -- nothing more comes of a last step that gives what it has
-then_same : {A : Type 0} (j : Judgement A) → and_then (λ x. gives x) j ≡ j
+pub then_same : {A : Type 0} (j : Judgement A) → and_then (λ x. gives x) j ≡ j
 then_same (gives x) = refl
 then_same (refuses why) = refl
 

@@ -64,28 +64,22 @@ find_has s cs h x e = go (child_at s cs) refl (gives_same e)
 
 scalar_finds : (why : Refusal) (kind : Kind) → FindsScalars (in_scalar why kind)
 scalar_finds why kinds.Null x e = absurd (cc)
-scalar_finds why kinds.Bool x e = absurd (cc)
-scalar_finds why kinds.Int x e = absurd (cc)
-scalar_finds why kinds.Float x e = absurd (cc)
-scalar_finds why kinds.Text x e = absurd (cc)
+scalar_finds why _ x e = absurd (cc)
 
 key_finds : (k : List ℕ) (n : Node) → HasScalars n → FindsScalars (key_step k n)
-key_finds k (alias name) h x e = absurd (cc)
 key_finds k (scalar anchor kind text) h x e = scalar_finds NotAMap kind x e
-key_finds k (list anchor cs) h x e = absurd (cc)
 key_finds k (tree.map anchor cs) h x e = find_has (paths.To k) cs h x e
+key_finds k _ h x e = absurd (cc)
 
 index_finds : (i : ℤ) (n : Node) → HasScalars n → FindsScalars (index_step i n)
-index_finds i (alias name) h x e = absurd (cc)
 index_finds i (scalar anchor kind text) h x e = scalar_finds NotASequence kind x e
 index_finds i (list anchor cs) h x e =
     let at = then_gives (λ (n : ℕ). gives (find (paths.Nth n) cs)) (item_number i cs) (Some x) e in find_has (paths.Nth at.0) cs h x at.2
-index_finds i (tree.map anchor cs) h x e = absurd (cc)
+index_finds i _ h x e = absurd (cc)
 
 miss_has : (s : Step) (p : Place) → HasScalars p.node → HaveScalars (miss s p)
-miss_has (key k) p h = (h, tt)
-miss_has (index i) p h = (h, tt)
 miss_has each p h = tt
+miss_has _ p h = (h, tt)
 
 found_have : (s : Step) (p : Place) (j : Judgement ChildFound) (qs : List Place) → HasScalars p.node → FindsScalars j → and_then (λ x. gives (found_place s p x)) j ≡ gives qs → HaveScalars qs
 found_have s p j qs h finds e =

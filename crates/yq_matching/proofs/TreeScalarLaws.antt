@@ -25,10 +25,8 @@ use Rattle.yq_matching.specs.TreeScalars.{HasScalars, EachHasScalars}
 
 of_kind_is : (t : List ℕ) (k : Kind) → resolve t ≡ k → IsScalar (of_kind k t).kind (of_kind k t).text
 of_kind_is t kinds.Null h = refl
-of_kind_is t kinds.Bool h = h
-of_kind_is t kinds.Int h = h
-of_kind_is t kinds.Float h = h
 of_kind_is t kinds.Text h = tt
+of_kind_is t _ h = h
 
 plain_is : (t : List ℕ) → IsScalar (plain_of t).kind (plain_of t).text
 plain_is t = of_kind_is t (resolve t) refl
@@ -43,9 +41,7 @@ scalar_is p = go (is_quoted p)
 
 name_has : (a : List ℕ) (n : Node) → HasScalars n → HasScalars (with_name a n)
 name_has a (tree.alias name) h = h
-name_has a (tree.scalar b kind text) h = h
-name_has a (tree.list b cs) h = h
-name_has a (tree.map b cs) h = h
+name_has a _ h = h
 
 collection_has : (b : Bool) (cs : Children) → EachHasScalars cs → HasScalars (cond b (tree.map None cs) (tree.list None cs))
 collection_has true cs h = h
@@ -88,9 +84,8 @@ node_head_has (inline.coll k gap is) = tree_has (inline.coll k gap is)
 node_head_has (inline.anchored name gap n) = node_head_has n
 
 head_has : (c : rows.Content) → HeadHas (head_of c)
-head_has (rows.Nothing tail) = tt
 head_has (rows.Inline space node tail) = node_head_has node
-head_has (rows.Block space anchor block) = tt
+head_has _ = tt
 
 from_has : (above : List (List ℕ)) (column : ℕ) (dashes : List ℕ) (mark : rows.Mark) (c : rows.Content) → LinesHave (lines_from above column dashes mark c)
 from_has above column [] mark c = (head_has c, tt)
@@ -129,9 +124,7 @@ group_has (l ∷ ls) h =
 
 anchored_has : (a : Option (List ℕ)) (n : Node) → HasScalars n → HasScalars (anchored a n)
 anchored_has a (tree.alias name) h = h
-anchored_has a (tree.scalar b kind text) h = h
-anchored_has a (tree.list b cs) h = h
-anchored_has a (tree.map b cs) h = h
+anchored_has a _ h = h
 
 head_or_has : (head : Option Node) (n : Node) → HeadHas head → HasScalars n → HasScalars (head_or head n)
 head_or_has None n h k = k
@@ -140,8 +133,7 @@ head_or_has (Some m) n h k = h
 coll_has : (mark : Mark) (cs : Children) → EachHasScalars cs → HasScalars (outline.collection mark cs)
 coll_has Bare tree.none h = refl
 coll_has Bare (tree.child label n cs) h = h.0
-coll_has (Key k) cs h = h
-coll_has Dash cs h = h
+coll_has _ cs h = h
 
 shaped_has : (o : Outline) (cs : Children) → EachHasScalars cs → HasScalars (shaped o cs)
 shaped_has end cs h = refl

@@ -1,5 +1,5 @@
 -- The content of a string, run by run.
-use Rattle.std.proofs.Common.{◌≡◌, ℕ, ◌<◌, true, false, ◌==◌, not, List, [], ◌∷◌, ◌++◌, Option, Some, None, option_map, refl, sym, ap, ◌∙◌, subst, inl, inr, arith, eqb-true, append_assoc, append-nil}
+use Rattle.std.proofs.Common.{◌≡◌, ℕ, ◌<◌, true, false, ◌==◌, not, List, [], ◌∷◌, ◌++◌, Some, None, refl, sym, ap, ◌∙◌, subst, inl, inr, arith, eqb-true, append_assoc, append-nil, rules}
 use Rattle.std.proofs.lemmas.Bool.{not-true, false≢true, and_parts, cases_Bool}
 use Rattle.std.specs.List.{prefix_len}
 use Rattle.std.specs.Str.{IsCharBoundary}
@@ -7,8 +7,7 @@ use Rattle.yq_flow_scalars.specs.Text.{unless, upto, cut}
 use Rattle.yq_flow_scalars.proofs.Boundaries.{boundary_ends}
 use Rattle.yq_flow_scalars.proofs.Bools.{guard_then}
 use Rattle.yq_flow_scalars.proofs.Upto.{upto_ends, upto_unless}
-use Rattle.yq_program.specs.Tokens.{escape, put}
-use Rattle.yq_parsing.specs.Lexing.{content, content_escaped, is_plain, escape_front}
+use Rattle.yq_parsing.specs.Lexing.{content, is_plain, escape_front}
 
 plain_ends : (b : ℕ) (bs : List ℕ) → unless is_plain (b ∷ bs) ≡ true → b < 128
 plain_ends b bs h = grind arith
@@ -30,40 +29,11 @@ content_run (b ∷ bs) = elim (cases_Bool (is_plain b)) [
 
 content_escape : (t c rest : List ℕ) → escape_front t ≡ Some (c, rest) → content t ≡ c ++ content rest
 unfolding content
-content_escape [] c rest h = cc
-content_escape (b ∷ []) c rest h = cc
-content_escape (b ∷ (d ∷ bs)) c rest h =
-    let g = guard_then (b == 92) h in
-    let b_is : b ≡ 92 = eqb-true b 92 g.0 in
-    rw b_is (go (escape d) g.1)
-  where
-    go : (e : Option ℕ) → option_map {U = List ℕ × List ℕ} (λ x. (x ∷ [], bs)) e ≡ Some (c, rest) → put e (content bs) ≡ c ++ content rest
-    go None k = cc
-    go (Some x) k =
-        let p : ◌≡◌ {A = List ℕ × List ℕ} (x ∷ [], bs) (c, rest) = cc in
-        subst (λ (y : List ℕ × List ℕ). x ∷ content bs ≡ y.0 ++ content y.1) p refl
+content_escape t c rest h1 = search (rules, guard_then, eqb-true)
 
 content_stops : (t : List ℕ) → unless is_plain t ≡ true → escape_front t ≡ None → content t ≡ []
 unfolding content
-content_stops [] u h = refl
-content_stops (b ∷ bs) u h = elim (cases_Bool (b == 34)) [
-  | inl quote ↦ rw quote refl
-  | inr on ↦ elim (cases_Bool (b == 92)) [
-    | inl back ↦ let e : b ≡ 92 = eqb-true b 92 back in rw e (go bs (subst (λ (x : ℕ). escape_front (x ∷ bs) ≡ None) e h))
-    | inr other ↦
-        let plain : is_plain b ≡ true = rw (on, other) refl in
-        let not_plain : unless is_plain (b ∷ bs) ≡ false = rw plain refl in
-        absurd (false≢true (sym not_plain ∙ u))
-  ]
-]
-  where
-    none : (bs : List ℕ) (e : Option ℕ) → option_map {U = List ℕ × List ℕ} (λ x. (x ∷ [], bs)) e ≡ None → put e (content bs) ≡ []
-    none bs None k = refl
-    none bs (Some x) k = cc
-
-    go : (bs : List ℕ) → escape_front (92 ∷ bs) ≡ None → content_escaped bs ≡ []
-    go [] k = refl
-    go (d ∷ bs) k = none bs (escape d) k
+content_stops t h1 h2 = search (rules, cases_Bool, eqb-true, false≢true)
 
 cut_parts : (t run end : List ℕ) → (run, end) ≡ cut (unless is_plain) t → content t ≡ run ++ content end
 cut_parts t run end e = subst (λ (p : List ℕ × List ℕ). content t ≡ p.0 ++ content p.1) (sym e) (content_run t)

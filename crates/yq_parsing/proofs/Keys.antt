@@ -1,9 +1,9 @@
 -- Keys that differ, as a test.
-use Rattle.std.proofs.Common.{◌≡◌, ◌≢◌, ℕ, suc, ◌<◌, Bool, true, false, List, [], ◌∷◌, length, get_or, refl, sym, ap, ◌∙◌, inl, inr, arith, rules, map, ◌-◌, Option, Some, None, IsTrue, ◌↔◌}
+use Rattle.std.proofs.Common.{◌≡◌, ◌≢◌, ℕ, zero, suc, not, ◌<◌, Bool, true, false, List, [], ◌∷◌, get_or, refl, sym, ap, ◌∙◌, arith, rules, map, ◌-◌, Some, None, IsTrue, ◌↔◌}
 use Rattle.std.specs.Str.{bytes_eq}
 use Rattle.std.specs.List.{list_any, All}
-use Rattle.std.proofs.lemmas.Bool.{not-true, false≢true, false_from_ne_true, and_parts, cases_Bool}
-use Rattle.std.proofs.lemmas.List.Folds.{list_any_at, Any-from_list_any}
+use Rattle.std.proofs.lemmas.Bool.{and_from, not-true, false≢true, false_from_ne_true, and_parts}
+use Rattle.std.proofs.lemmas.List.Folds.{list_any_at, list_any_none}
 use Rattle.std.proofs.lemmas.List.Kept.{AllPairs-cons}
 use Rattle.std.proofs.lemmas.Slice.Eq.{bytes_eq-Decides}
 use Rattle.yq_flow_scalars.specs.Keys.{AreDistinct, are_distinct}
@@ -31,15 +31,11 @@ distinct_keys (k ∷ ks) h =
 pub distinct_again : (ks : List (List ℕ)) → AreDistinct ks → are_distinct ks ≡ true
 distinct_again [] h = refl
 distinct_again (k ∷ ks) h =
-    let tail : AreDistinct ks = λ i j d lt last. h (suc i) (suc j) d (omega arith) (omega arith) in
-    elim (cases_Bool (list_any (bytes_eq k) ks)) [
-      | inl some ↦
-          let found = Any-from_list_any (bytes_eq k) ks some in
-          let lt : found.0 < length ks = found.2 in
-          let same : k ≡ get_or ks found.0 found.1 = (bytes_eq-Decides k found.1).0 found.4 ∙ sym found.3 in
-          absurd (h 0 (suc found.0) found.1 (omega arith) (omega arith) same)
-      | inr none ↦ rw none (distinct_again ks tail)
-    ]
+    let fresh : list_any (bytes_eq k) ks ≡ false =
+    list_any_none (bytes_eq k) ks (λ j d within. false_from_ne_true _ (λ e.
+    h zero (suc j) d (omega arith) (omega arith) ((bytes_eq-Decides k (get_or ks j d)).0 e))) in
+    and_from (not (list_any (bytes_eq k) ks)) (are_distinct ks) (ap not fresh)
+    (distinct_again ks (λ i j d lt within. h (suc i) (suc j) d (omega arith) (omega arith)))
 
 -- a test that tells whether they differ is that test
 pub tested : (b : Bool) (ks : List (List ℕ)) → IsTrue b ↔ AreDistinct ks → b ≡ are_distinct ks
@@ -55,8 +51,3 @@ pub map_is : (depth : ℕ) (ts r : List Token) (x : List (List ℕ × Node) × L
     → listed_at (codes "}") (field_at (literal_at (depth - 1))) r ≡ Some x → are_distinct (map (λ e. e.0) x.0) ≡ true → literal_at depth ts ≡ Some (tree.map None (entries x.0), x.1)
 unfolding literal_at
 map_is depth ts r x h1 = search rules
-
--- what is no value is nothing
-pub none_by : {A : Type 0} (o : Option A) → ((x : A) → o ≡ Some x → ⊥) → o ≡ None
-none_by None h = refl
-none_by (Some x) h = absurd (h x refl)

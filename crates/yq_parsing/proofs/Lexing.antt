@@ -1,5 +1,5 @@
 -- Where tokens end, and that the tokens of a text are those in front and those of what follows.
-use Rattle.std.proofs.Common.{◌≡◌, ◌⊎◌, ℕ, zero, suc, ◌+◌, ◌<◌, ◌≤◌, Bool, true, false, cond, ◌&&◌, ◌||◌, ◌==◌, List, [], ◌∷◌, length, take, drop, get_or, Option, Some, None, is_some, refl, sym, ap, subst, inl, inr, arith, add-one, eqb-true, length-drop, rules}
+use Rattle.std.proofs.Common.{◌≡◌, ◌⊎◌, ℕ, suc, ◌+◌, ◌<◌, ◌≤◌, Bool, true, false, cond, ◌&&◌, ◌||◌, ◌==◌, List, [], ◌∷◌, length, take, drop, get_or, Option, Some, None, is_some, refl, ap, subst, inl, inr, arith, add-one, eqb-true, length-drop, rules}
 use Rattle.std.proofs.lemmas.Bool.{and_parts, cases_Bool}
 use Rattle.std.proofs.lemmas.List.{get_or-drop}
 use Rattle.std.proofs.lemmas.List.Sums.{prefix_len_passes, prefix_len-le-length}
@@ -112,10 +112,7 @@ dotted_ends (b ∷ bs) y h = elim (chosen (b == 46) h) [
 ]
 
 ends_after : (t : List ℕ) (n m : ℕ) → EndsAscii (drop n t) m → EndsAscii t (n + m)
-ends_after t n m h =
-    let short : h.0 < length (drop n t) = h.2 in
-    let at : get_or t (n + h.0) 0 ≡ get_or (drop n t) h.0 0 = sym (get_or-drop n t h.0 0) in
-    (n + h.0, omega (arith, h.1), omega (arith, length-drop n t), rw at h.3)
+ends_after t n m h = search (rules, get_or-drop, length-drop)
 
 fraction_ends : (t : List ℕ) → (fraction_len t ≡ 0) ⊎ EndsAscii t (fraction_len t)
 fraction_ends [] = inl refl
@@ -142,9 +139,6 @@ foreign_ascii b h = grind arith
 
 mark_ascii : (b : ℕ) → is_mark b ≡ true → b < 128
 mark_ascii b h = grind arith
-
-before_ascii : (b : ℕ) → is_mark_before b ≡ true → b < 128
-before_ascii b h = grind arith
 
 two_end : (b : ℕ) (bs : List ℕ) → front (λ c. c == 61) bs ≡ true → EndsAscii (b ∷ bs) 2
 two_end b [] h = cc
@@ -214,10 +208,9 @@ ahead_same f g (Some x) h = ap (λ ts. x.0 ∷ ts) (h x refl)
 
 enough : (n m : ℕ) (t : List ℕ) → length t < n → length t < m → tokens_in n t ≡ tokens_in m t
 unfolding tokens_in
-enough zero m t h k = absurd (omega arith)
-enough (suc n) zero t h k = absurd (omega arith)
 enough (suc n) (suc m) t h k = ahead_same (tokens_in n) (tokens_in m) (next t)
     (λ x e. let lt = next_shorter t x e in enough n m x.1 (omega arith) (omega arith))
+enough _ _ t h k = absurd (omega arith)
 
 -- the tokens of a text are the one in front and those of what follows
 pub tokens_next : (t : List ℕ) → tokens t ≡ ahead tokens (next t)

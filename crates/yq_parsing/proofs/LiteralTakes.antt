@@ -1,12 +1,12 @@
 -- The scalars and literals that are read are those of the grammar, and each has a token at least.
-use Rattle.std.proofs.Common.{◌≡◌, ℕ, zero, suc, true, List, [], ◌∷◌, length, map, Some, refl, ap, ◌∙◌, subst, inl, inr, arith}
+use Rattle.std.proofs.Common.{◌≡◌, ℕ, zero, suc, true, List, [], ◌∷◌, length, map, Some, refl, ap, ◌∙◌, subst, inl, inr, arith, rules}
 use Rattle.std.proofs.lemmas.Option.{cond_some}
 use Rattle.std.specs.Prelude.{codes}
 use Rattle.yq_flow_scalars.specs.Tree.{Node}
 use Rattle.yq_flow_scalars.proofs.Bools.{bind_some}
 use Rattle.yq_flow_scalars.specs.Keys.{are_distinct}
 use Rattle.yq_flow_scalars.specs.SchemaReading.{is_one_of}
-use Rattle.yq_program.specs.Tokens.{Token, string, symbol, scalar_words}
+use Rattle.yq_program.specs.Tokens.{Token, symbol, scalar_words}
 use Rattle.yq_parsing.specs.Lexing.{after, taken, as_number, as_string}
 use Rattle.yq_program.specs.Grammar.{Production, HasSymbol, AreParted, IsPlainLiteral, AreListed, IsField, IsScalarNode, IsLiteral}
 use Rattle.yq_parsing.specs.Parse.{Parse, parted_at, word_at, scalar_at, listed_at, field_at, mapping_of, scalar_node_at, literal_at}
@@ -14,19 +14,7 @@ use Rattle.yq_parsing.proofs.Keys.{distinct_keys}
 use Rattle.yq_parsing.proofs.Readers.{either_cases, after_takes, string_takes, number_takes, Takes, Shortens, same_form, parted_takes, closed_takes, parted_shortens, between_shortens}
 
 word_takes : (ts : List Token) (x : List ℕ × List Token) → word_at ts ≡ Some x → (is_one_of scalar_words x.0 ≡ true) × (ts ≡ symbol x.0 ∷ x.1)
-word_takes ts x h = elim (either_cases (after (codes "true") ts) h) [
-  | inl w ↦ same_form Word ts w.2 (refl, after_takes (codes "true") ts w.0 w.1)
-  | inr on ↦ elim (either_cases (after (codes "false") ts) on.1) [
-    | inl w ↦ same_form Word ts w.2 (refl, after_takes (codes "false") ts w.0 w.1)
-    | inr other ↦ elim (either_cases (after (codes "null") ts) other.1) [
-      | inl w ↦ same_form Word ts w.2 (refl, after_takes (codes "null") ts w.0 w.1)
-      | inr none ↦ cc
-    ]
-  ]
-]
-  where
-    Word : Production (List ℕ)
-    Word w ts rest = (is_one_of scalar_words w ≡ true) × (ts ≡ symbol w ∷ rest)
+word_takes ts x h = search (rules, either_cases, same_form, after_takes)
 
 pub scalar_takes : Takes scalar_at IsPlainLiteral
 unfolding scalar_at
@@ -62,13 +50,7 @@ listed_takes opening closing at Is takes all ts x o h = elim (either_cases (afte
 ]
 
 pub field_takes : {A : Type 0} (at : Parse A) (Is : Production A) → Takes at Is → Takes (field_at at) (IsField Is)
-field_takes at Is takes ts x h =
-    let k = bind_some (taken as_string ts) h in
-    let r = bind_some (after (codes ":") k.0.1) k.2 in
-    let v = bind_some (at r.0) r.2 in
-    let a : ts ≡ string k.0.0 ∷ k.0.1 = string_takes ts k.0 k.1 in
-    let b : k.0.1 ≡ symbol (codes ":") ∷ r.0 = after_takes (codes ":") k.0.1 r.0 r.1 in
-    same_form (IsField Is) ts v.2 (r.0, cc, takes r.0 v.0 v.1)
+field_takes at Is takes ts x h = search (rules, bind_some, string_takes, after_takes, same_form)
 
 mapping_takes : (depth : ℕ) (all : List Token) (y : List (List ℕ × Node) × List Token) (x : Node × List Token)
     → AreListed (codes "{") (codes "}") (IsField (IsLiteral depth)) y.0 all y.1 → mapping_of y ≡ Some x → IsLiteral (suc depth) x.0 all x.1

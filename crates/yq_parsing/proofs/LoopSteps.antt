@@ -44,9 +44,8 @@ loop_end next less xs ts w h e = sym (turned next less xs ts w h (Some None) e) 
 pub loop_fails : {A : Type 0} (next : List Token → Option (Option (A × List Token))) → Lessens next → (xs : List A) (ts : List Token) (w : Option (List A × List Token))
     → onto xs (many next ts) ≡ w → (e : ParseError) → ParseFails e (next ts) → ParseFails e w
 loop_fails next less xs ts w h error.Syntax f = sym (turned next less xs ts w h None f)
-loop_fails next less xs ts w h error.NotInProfile f = f
-loop_fails next less xs ts w h error.Pattern f = f
 loop_fails next less xs ts w h error.Memory f = tt
+loop_fails next less xs ts w h _ f = f
 
 -- ---- the same of loops of the code
 

@@ -54,16 +54,10 @@ counted-add true x y = omega arith
 counted-add false x y = refl
 
 deep_later : (a b : ℕ) (t : Token) (ts : List Token) (n : ℕ) → DeepFrom (counted (is_opening t) a) (counted (is_closing t) b) ts n → DeepFrom a b (t ∷ ts) (suc n)
-deep_later a b t ts n h =
-    let o = counted-add (is_opening t) (opened (take n ts)) a in
-    let c = counted-add (is_closing t) (closed (take n ts)) b in
-    rw (o, c) h
+deep_later a b t ts n h = search (rules, counted-add)
 
 deep_before : (a b : ℕ) (t : Token) (ts : List Token) (n : ℕ) → DeepFrom a b (t ∷ ts) (suc n) → DeepFrom (counted (is_opening t) a) (counted (is_closing t) b) ts n
-deep_before a b t ts n h =
-    let o = counted-add (is_opening t) (opened (take n ts)) a in
-    let c = counted-add (is_closing t) (closed (take n ts)) b in
-    rw (o, c) at h
+deep_before a b t ts n h = search (rules, counted-add)
 
 refused_in : (ts : List Token) (o : Bool) (a b : ℕ) → surveyed o a b ts ≡ Some true → (o ≡ true) ⊎ HasForeign ts ⊎ ((n : ℕ) × DeepFrom a b ts n)
 unfolding surveyed
@@ -90,10 +84,7 @@ refused_in (t ∷ ts) o a b h = elim (chosen (is_unread t) h) [
 
 -- the flag after a token is down only if nothing was found
 flag_down : (o : Bool) (t : Token) (a b : ℕ) → (o || is_foreign_token t || nat_lt (b + 64) a) ≡ false → (o ≡ false) × (t ≡ foreign → ⊥) × (b + 64 < a → ⊥)
-flag_down o t a b h =
-    let x = or_parts (o || is_foreign_token t) (nat_lt (b + 64) a) h in
-    let y = or_parts o (is_foreign_token t) x.0 in
-    (y.0, no_foreign t y.1, λ lt. false≢true (sym x.1 ∙ lt-ltb (b + 64) a lt))
+flag_down o t a b h = search (rules, or_parts, no_foreign, false≢true, lt-ltb)
 
 -- the flag is never taken down
 flag_stays : (ts : List Token) (o : Bool) (a b : ℕ) → surveyed o a b ts ≡ Some false → o ≡ false
@@ -133,13 +124,7 @@ too_deep : (ts : List Token) (n : ℕ) → DeepFrom 0 0 ts n → IsTooDeep ts
 too_deep ts n d = (n, omega arith)
 
 pub survey_refuses : (text : List ℕ) → surveyed false 0 0 (tokens text) ≡ Some true → ExprRefused error.NotInProfile text
-survey_refuses text h = elim (refused_in (tokens text) false 0 0 h) [
-  | inl before ↦ cc
-  | inr found ↦ elim found [
-    | inl other ↦ (tokens text, tokens_take text (all_read (tokens text) false 0 0 true h), inl other)
-    | inr deep ↦ (tokens text, tokens_take text (all_read (tokens text) false 0 0 true h), inr (too_deep (tokens text) deep.0 deep.1))
-  ]
-]
+survey_refuses text h = search (rules, refused_in, tokens_take, all_read, too_deep)
 
 pub survey_fails : (text : List ℕ) → surveyed false 0 0 (tokens text) ≡ None → (ts : List Token) → AreTokens ts text → ⊥
 survey_fails text h ts are = unread_in (tokens text) false 0 0 h (let read = tokens_again ts text are in subst AreRead (sym read.0) read.1)
@@ -157,11 +142,7 @@ pub surveys : (ts : List Token) → AreRead ts → (HasForeign ts → ⊥) → (
 surveys ts h1 h2 h3 o h4 = search (rules, unread_in, refused_in, too_deep)
 
 pub derives_again : (text : List ℕ) (p : Program) → Derives text p → (surveyed false 0 0 (tokens text) ≡ Some false) × (program_at literal_depth (tokens text) ≡ Some p)
-derives_again text p h =
-    let read = tokens_again h.0 text h.1 in
-    let s = surveys h.0 read.1 h.2 h.3 (surveyed false 0 0 h.0) refl in
-    let r = program_again p h.0 h.4 in
-    rw read.0 (s, r)
+derives_again text p h = search (rules, tokens_again, surveys, program_again)
 
 pub one_of : (text : List ℕ) (p q : Program) → Derives text p → Derives text q → p ≡ q
 one_of text p q h k = let a = (derives_again text p h).1 in let b = (derives_again text q k).1 in let e : Some p ≡ Some q = sym a ∙ b in cc

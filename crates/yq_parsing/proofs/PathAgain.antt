@@ -1,8 +1,8 @@
 -- Steps and paths of the grammar are read again.
-use Rattle.std.proofs.Common.{◌≡◌, ◌⊎◌, ℕ, List, [], ◌∷◌, Some, None, refl, inl, inr, rules}
+use Rattle.std.proofs.Common.{◌≡◌, ◌⊎◌, ℕ, false, List, [], ◌∷◌, Some, None, refl, inl, inr, rules}
 use Rattle.std.specs.Prelude.{codes}
 use Rattle.yq_program.specs.Program.{Step}
-use Rattle.yq_program.specs.Tokens.{Token, step}
+use Rattle.yq_program.specs.Tokens.{Token, is_symbol, step, symbol}
 use Rattle.yq_parsing.specs.Lexing.{after, taken, as_step}
 use Rattle.yq_program.specs.Grammar.{HasSymbol, IsBracket, IsNamed, IsFirst, IsNext, Are, IsPath}
 use Rattle.yq_parsing.specs.Parse.{many, bracketed_at, bracket_at, step_at, path_at}
@@ -45,19 +45,19 @@ path_begins [] ts rest h = inr (rest, h)
 path_begins (s ∷ steps) ts rest h = first_begins s ts h.0 h.1
 
 -- so it begins with no other mark
-no_bracket : (ts : List Token) → BeginsPath ts → after (codes "[") ts ≡ None
-no_bracket ts (inl h) = rw h.2 refl
-no_bracket ts (inr h) = rw h.1 refl
+pub no_mark : (s : List ℕ) (ts : List Token) → is_symbol s (symbol (codes ".")) ≡ false → BeginsPath ts → after s ts ≡ None
+no_mark s ts other (inl h) = rw h.2 refl
+no_mark s ts other (inr h) = rw h.1 (rw other refl)
 
 pub path_again : Again path_at IsPath Ends
 unfolding path_at step_at
 path_again [] ts rest h f =
-    let closed = no_bracket ts (inr (rest, h)) in
+    let closed = no_mark (codes "[") ts refl (inr (rest, h)) in
     let none : step_at ts ≡ Some None = rw h (rw f.1 refl) in
     let read = steps_again [] ts ts refl none in
     rw (closed, read) (rw h refl)
 path_again (s ∷ steps) ts rest h f =
-    let closed = no_bracket ts (first_begins s ts h.0 h.1) in
+    let closed = no_mark (codes "[") ts refl (first_begins s ts h.0 h.1) in
     let read = steps_again (s ∷ steps) ts rest (h.0, go h.0 h.1, h.2) (step_ends rest f) in
     rw (closed, read) refl
   where

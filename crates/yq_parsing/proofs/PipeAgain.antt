@@ -1,31 +1,26 @@
 -- Conditions, stages and pipes of the grammar are read again.
 use Rattle.std.proofs.Common.{◌≡◌, Bool, true, false, List, [], ◌∷◌, Some, None, refl, sym, subst, inl, inr, rules}
 use Rattle.std.specs.Prelude.{codes}
-use Rattle.yq_program.specs.Program.{is_simple, Step, key, index, each, Operand, value_at, document_index, compares, has, Stage, path, select}
+use Rattle.yq_program.specs.Program.{is_simple, Step, each, Operand, value_at, document_index, compares, has, Stage, path, select}
 use Rattle.yq_program.specs.Tokens.{Token, symbol}
 use Rattle.yq_parsing.specs.Lexing.{after}
 use Rattle.yq_program.specs.Grammar.{Production, HasSymbol, IsSimple, IsOperand, comparison, IsCondition, InParentheses, IsStage, IsPipe, IsLeft}
 use Rattle.yq_parsing.specs.Parse.{Parse, parenthesized_at, operand_at, comparison_at, condition_at, stage_at, pipe_at, left_at, begins_left}
 use Rattle.yq_parsing.proofs.LoopSteps.{stage_lessens}
 use Rattle.yq_parsing.proofs.FormsAgain.{after_again, Again, parted_again, Anything, Ends}
-use Rattle.yq_parsing.proofs.PathAgain.{path_begins, path_again}
+use Rattle.yq_parsing.proofs.PathAgain.{no_mark, path_begins, path_again}
 use Rattle.yq_parsing.proofs.LiteralAgain.{scalar_again}
 
 simple_again : (steps : List Step) → IsSimple steps → is_simple steps ≡ true
 simple_again [] h = refl
-simple_again (key k ∷ steps) h = simple_again steps h
-simple_again (index n ∷ steps) h = simple_again steps h
 simple_again (each ∷ steps) h = absurd h
+simple_again (_ ∷ steps) h = simple_again steps h
 
 operand_again : Again operand_at IsOperand Ends
 unfolding operand_at
 operand_again (value_at steps) ts rest h f =
-    let simple = simple_again steps h.0 in
-    let read = path_again steps ts rest h.1 f in
-    elim (path_begins steps ts rest h.1) [
-      | inl b ↦ let di : after (codes "di") ts ≡ None = rw b.2 refl in let word : after (codes "document_index") ts ≡ None = rw b.2 refl in rw (di, word, read, simple) refl
-      | inr b ↦ let di : after (codes "di") ts ≡ None = rw b.1 refl in let word : after (codes "document_index") ts ≡ None = rw b.1 refl in rw (di, word, read, simple) refl
-    ]
+    let begins = path_begins steps ts rest h.1 in
+    rw (no_mark (codes "di") ts refl begins, no_mark (codes "document_index") ts refl begins, path_again steps ts rest h.1 f, simple_again steps h.0) refl
 operand_again document_index ts rest (inl h) f = rw h refl
 operand_again document_index ts rest (inr h) f = rw h refl
 
@@ -47,20 +42,11 @@ condition_again (has k) ts rest h f = rw h refl
 
 parenthesized_again : {A : Type 0} (at : Parse A) (Is : Production A) (Follows : List Token → Type 0) → Again at Is Follows → ((r : List Token) → Follows (symbol (codes ")") ∷ r))
     → Again (parenthesized_at at) (InParentheses Is) Anything
-parenthesized_again at Is Follows again mark x ts rest h f =
-    let follows : Follows h.1 = subst Follows (sym h.4) (mark rest) in
-    let read = again x h.0 h.1 h.3 follows in
-    let end = after_again (codes ")") h.1 rest h.4 in
-    rw h.2 (rw (read, end) refl)
+parenthesized_again at Is Follows again mark x ts rest h f = search (rules, after_again)
 
 stage_again : Again stage_at IsStage Ends
 unfolding stage_at
-stage_again (path steps) ts rest h f =
-    let read = path_again steps ts rest h f in
-    elim (path_begins steps ts rest h) [
-      | inl b ↦ let none : after (codes "select") ts ≡ None = rw b.2 refl in rw (none, read) refl
-      | inr b ↦ let none : after (codes "select") ts ≡ None = rw b.1 refl in rw (none, read) refl
-    ]
+stage_again (path steps) ts rest h f = rw (no_mark (codes "select") ts refl (path_begins steps ts rest h), path_again steps ts rest h f) refl
 stage_again (select c) ts rest h f =
     let read = parenthesized_again condition_at IsCondition Anything condition_again (λ r. tt) c h.0 rest h.2 tt in
     rw h.1 (rw read refl)
@@ -78,12 +64,7 @@ parenthesized_pipe = parenthesized_again pipe_at IsPipe EndsPipe (λ x ts rest h
 
 pub left_again : Again left_at IsLeft Ends
 unfolding left_at
-left_again stages ts rest (inl h) f =
-    let read = path_again h.0 ts rest h.2 f in
-    elim (path_begins h.0 ts rest h.2) [
-      | inl b ↦ let none : after (codes "(") ts ≡ None = rw b.2 refl in rw (none, read, h.1) refl
-      | inr b ↦ let none : after (codes "(") ts ≡ None = rw b.1 refl in rw (none, read, h.1) refl
-    ]
+left_again stages ts rest (inl h) f = rw (no_mark (codes "(") ts refl (path_begins h.0 ts rest h.2), path_again h.0 ts rest h.2 f, h.1) refl
 left_again stages ts rest (inr h) f =
     let follows : EndsPipe h.1 = subst EndsPipe (sym h.4) ((refl, refl, refl), refl) in
     let read = pipe_again stages h.0 h.1 h.3 follows.0 follows.1 in

@@ -1,9 +1,9 @@
 -- The conditions, stages and pipes that are read are those of the grammar, and each has a token at least.
-use Rattle.std.proofs.Common.{◌≡◌, Bool, true, List, [], ◌∷◌, length, Some, refl, ap, subst, inl, inr, arith}
+use Rattle.std.proofs.Common.{◌≡◌, Bool, true, List, [], ◌∷◌, length, Some, refl, ap, inl, inr, arith, rules}
 use Rattle.std.proofs.lemmas.Option.{cond_some}
 use Rattle.std.specs.Prelude.{codes}
 use Rattle.yq_flow_scalars.proofs.Bools.{bind_some}
-use Rattle.yq_program.specs.Program.{is_simple, Step, key, index, each, Operand, value_at, document_index, compares, has, path, select}
+use Rattle.yq_program.specs.Program.{is_simple, Step, each, value_at, document_index, compares, has, path, select}
 use Rattle.yq_program.specs.Tokens.{Token, string, symbol}
 use Rattle.yq_parsing.specs.Lexing.{after, taken, as_string}
 use Rattle.yq_program.specs.Grammar.{Production, HasSymbol, IsSimple, IsOperand, comparison, IsCondition, InParentheses, IsStage, IsPipe, IsLeft}
@@ -14,36 +14,18 @@ use Rattle.yq_parsing.proofs.LiteralTakes.{scalar_takes, scalar_shortens}
 
 simple_is : (steps : List Step) → is_simple steps ≡ true → IsSimple steps
 simple_is [] h = tt
-simple_is (key k ∷ steps) h = simple_is steps h
-simple_is (index n ∷ steps) h = simple_is steps h
 simple_is (each ∷ steps) h = cc
+simple_is (_ ∷ steps) h = simple_is steps h
 
 pub operand_takes : Takes operand_at IsOperand
 unfolding operand_at
-operand_takes ts x h = elim (either_cases (after (codes "di") ts) h) [
-  | inl di ↦ same_form IsOperand ts di.2 (inl (after_takes (codes "di") ts di.0 di.1))
-  | inr on ↦ elim (either_cases (after (codes "document_index") ts) on.1) [
-    | inl word ↦ same_form IsOperand ts word.2 (inr (after_takes (codes "document_index") ts word.0 word.1))
-    | inr other ↦
-        let y = bind_some (path_at ts) other.1 in
-        let g = cond_some (is_simple y.0.0) _ _ y.2 in
-        subst (λ (p : Operand × List Token). IsOperand p.0 ts p.1) g.1 (simple_is y.0.0 g.0, path_takes ts y.0 y.1)
-  ]
-]
+operand_takes ts x h = search (rules, either_cases, same_form, after_takes, bind_some, cond_some, simple_is, path_takes)
 
 comparison_takes : (ts : List Token) (x : Bool × List Token) → comparison_at ts ≡ Some x → HasSymbol (comparison x.0) ts x.1
-comparison_takes ts x h = elim (either_cases (after (codes "==") ts) h) [
-  | inl equal ↦ same_form (λ b. HasSymbol (comparison b)) ts equal.2 (after_takes (codes "==") ts equal.0 equal.1)
-  | inr on ↦
-      let r = bind_some (after (codes "!=") ts) on.1 in
-      same_form (λ b. HasSymbol (comparison b)) ts r.2 (after_takes (codes "!=") ts r.0 r.1)
-]
+comparison_takes ts x h = search (rules, either_cases, same_form, after_takes, bind_some)
 
 pub parenthesized_takes : {A : Type 0} (at : Parse A) (Is : Production A) → Takes at Is → Takes (parenthesized_at at) (InParentheses Is)
-parenthesized_takes at Is takes ts x h =
-    let r = bind_some (after (codes "(") ts) h in
-    let y = closed_takes (codes ")") at Is takes r.0 x r.2 in
-    (r.0, y.0, after_takes (codes "(") ts r.0 r.1, y.1, y.2)
+parenthesized_takes at Is takes ts x h = search (rules, bind_some, closed_takes, after_takes)
 
 pub condition_takes : Takes condition_at IsCondition
 unfolding condition_at
@@ -62,14 +44,7 @@ condition_takes ts x h = elim (either_cases (after (codes "has") ts) h) [
 
 pub stage_takes : Takes stage_at IsStage
 unfolding stage_at
-stage_takes ts x h = elim (either_cases (after (codes "select") ts) h) [
-  | inl word ↦
-      let y = bind_some (parenthesized_at condition_at word.0) word.2 in
-      same_form IsStage ts y.2 (word.0, after_takes (codes "select") ts word.0 word.1, parenthesized_takes condition_at IsCondition condition_takes word.0 y.0 y.1)
-  | inr on ↦
-      let y = bind_some (path_at ts) on.1 in
-      same_form IsStage ts y.2 (path_takes ts y.0 y.1)
-]
+stage_takes ts x h = search (rules, either_cases, bind_some, same_form, after_takes, parenthesized_takes, condition_takes, path_takes)
 
 operand_shortens : Shortens IsOperand
 operand_shortens (value_at steps) ts rest h = path_shortens steps ts rest h.1
@@ -77,11 +52,7 @@ operand_shortens document_index ts rest (inl h) = omega (arith, ap length h)
 operand_shortens document_index ts rest (inr h) = omega (arith, ap length h)
 
 condition_shortens : Shortens IsCondition
-condition_shortens (compares o b k t) ts rest h =
-    let last = scalar_shortens (record { kind = k; text = t }) h.1 rest h.4 in
-    let mid = ap length h.3 in
-    let front = operand_shortens o ts h.0 h.2 in
-    omega arith
+condition_shortens (compares o b k t) ts rest h = search (rules, scalar_shortens, operand_shortens)
 condition_shortens (has k) ts rest h = omega (arith, ap length h)
 
 pub stage_shortens : Shortens IsStage

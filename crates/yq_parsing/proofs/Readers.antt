@@ -96,12 +96,7 @@ unfolding many
 many_takes next Is takes ts = many_in_takes next Is takes (1 + length ts) ts
 
 pub behind_takes : {A : Type 0} (s : List ℕ) (at : Parse A) (Is : Production A) → Takes at Is → TakesMaybe (behind_at s at) (Behind s Is)
-behind_takes s at Is takes ts x h = elim (either_cases (after s ts) h) [
-  | inl some ↦
-      let y = bind_some (at some.0) some.2 in
-      (some.0, after_takes s ts some.0 some.1, same_form Is some.0 (same_Some _ _ y.2) (takes some.0 y.0 y.1))
-  | inr none ↦ cc
-]
+behind_takes s at Is takes ts x h = search (rules, either_cases, bind_some, after_takes, same_form, same_Some)
 
 pub parted_takes : {A : Type 0} (s : List ℕ) (at : Parse A) (Is : Production A) → Takes at Is → Takes (parted_at s at) (AreParted s Is)
 parted_takes s at Is takes ts x h =
@@ -115,10 +110,7 @@ abbrev pub Closed : {A : Type 0} → List ℕ → Production A → Production A
 Closed s Is x ts rest = (end : List Token) × Is x ts end × HasSymbol s end rest
 
 pub closed_takes : {A : Type 0} (s : List ℕ) (at : Parse A) (Is : Production A) → Takes at Is → Takes (closed_at s at) (Closed s Is)
-closed_takes s at Is takes ts x h =
-    let y = bind_some (at ts) h in
-    let r = bind_some (after s y.0.1) y.2 in
-    same_form (Closed s Is) ts r.2 (y.0.1, takes ts y.0 y.1, after_takes s y.0.1 r.0 r.1)
+closed_takes s at Is takes ts x h = search (rules, bind_some, same_form, after_takes)
 
 -- forms after the first, each a step further
 pub many_shortens : {A : Type 0} (Is : Production A) → Shortens Is → (xs : List A) (ts rest : List Token) → Are Is xs ts rest → length rest ≤ length ts
@@ -157,12 +149,11 @@ Lessens {A} next = (ts : List Token) (x : A × List Token) → next ts ≡ Some 
 enough : {A : Type 0} (next : List Token → Option (Option (A × List Token))) → Lessens next → (n m : ℕ) (ts : List Token) → length ts < n → length ts < m
     → many_in next n ts ≡ many_in next m ts
 unfolding many_in
-enough next less zero m ts h k = absurd (omega arith)
-enough next less (suc n) zero ts h k = absurd (omega arith)
 enough next less (suc n) (suc m) ts h k =
     bind_same (next ts) _ _ λ o is. either_same o _ _ _ λ x some.
     let lt = less ts x (is ∙ ap Some some) in
     ap (with_front x.0) (enough next less n m x.1 (omega arith) (omega arith))
+enough next less _ _ ts h k = absurd (omega arith)
 
 pub many_next : {A : Type 0} (next : List Token → Option (Option (A × List Token))) → Lessens next → (ts : List Token)
     → many next ts ≡ (next ts >>= λ o. either o (λ x. with_front x.0 (many next x.1)) (Some ([], ts)))

@@ -1,5 +1,6 @@
 -- Maps by texts: one entry or alias more.
-use Rattle.std.proofs.Common.{◌≡◌, ℕ, Bool, true, false, ◌||◌, cond, List, Option, Some, None, is_some, option_map, refl, sym, ap, ◌∙◌, bytes_eq}
+use Rattle.std.proofs.lemmas.Bool.{cases_Bool}
+use Rattle.std.proofs.Common.{◌≡◌, ℕ, Bool, true, false, ◌||◌, cond, List, Option, Some, None, is_some, option_map, refl, sym, ap, ◌∙◌, bytes_eq, rules}
 use Rattle.std.proofs.lemmas.Bool.{false≢true}
 use Rattle.std.proofs.lemmas.Map.Text.{btree_map_updates_str}
 use Rattle.std.proofs.lemmas.Slice.Eq.{bytes_eq-Decides}
@@ -10,7 +11,6 @@ use Rattle.std.specs.Borrow.{Bor}
 use Rattle.std.specs.Cmp.Lexicographic.{slice_cmp}
 use Rattle.std.specs.List.{list_any}
 use Rattle.std.specs.Ordering.{nat_cmp}
-use Rattle.yq_flow_scalars.specs.Paths.{key_is}
 use Rattle.yq_flow_scalars.specs.Tree as tree
 use Rattle.yq_flow_scalars.specs.Tree.{Label, Node}
 use Rattle.yq_flow_scalars.specs.Anchors.{Name, names_of}
@@ -31,30 +31,13 @@ put_text m n a v h k = btree_map_updates_str a m n (Some v) h k
 
 -- the entry of a key for which there is none is kept
 pub new_kept : (a k : List ℕ) (f : List ℕ → Option Node) (label : Label) (n : Node) → label.key ≡ Some a → is_some (f a) ≡ false → cond (bytes_eq a k) (Some n) (f k) ≡ kept_first k (f k) label n
-new_kept a k f label n h absent = go (bytes_eq a k) (f k) refl refl
-  where
-    here : (b : Bool) → bytes_eq a k ≡ b → cond b (Some n) None ≡ kept_first k None label n
-    here b e = ap (λ c. cond c (Some n) None) (sym e ∙ sym (ap (key_is k) h))
-
-    go : (b : Bool) (o : Option Node) → bytes_eq a k ≡ b → f k ≡ o → cond b (Some n) o ≡ kept_first k o label n
-    go true (Some old) e is = absurd (false≢true (sym absent ∙ ap is_some (ap f ((bytes_eq-Decides a k).0 e) ∙ is)))
-    go true None e is = here true e
-    go false (Some old) e is = refl
-    go false None e is = here false e
+new_kept a k f label n h absent = search (rules, bytes_eq, false≢true, bytes_eq-Decides, cases_Bool)
 
 -- ---- aliases
 
 -- one more alias
 pub alias_put : {X : Type 0} (a k : List ℕ) (v : X) (o : Option X) (n : Node) → n ≡ tree.alias a → is_some (cond (bytes_eq a k) (Some v) o) ≡ (is_some o || list_any (refers_to k) (names_of n))
-alias_put {X} a k v o n is = go (bytes_eq a k) (bytes_eq k a) (equal_back a k) o ∙ ap (λ (m : Node). is_some o || list_any (refers_to k) (names_of m)) (sym is)
-  where
-    go : (b c : Bool) → b ≡ c → (o : Option X) → is_some (cond b (Some v) o) ≡ (is_some o || (c || false))
-    go true true e None = refl
-    go true true e (Some u) = refl
-    go false false e None = refl
-    go false false e (Some u) = refl
-    go true false e o = absurd (false≢true (sym e))
-    go false true e o = absurd (false≢true e)
+alias_put {X} a k v o n is = search (rules, bytes_eq, equal_back, false≢true)
 
 -- an empty map has no alias
 pub no_aliases : {X : Type 0} (names : List Name) (m : BTreeMap (Bor (List ℕ)) X) → maps.IsEmpty m → HasAliases names m → (k : List ℕ) → list_any (refers_to k) names ≡ false
@@ -76,10 +59,4 @@ map_none f (Some x) h = h
 
 -- the number of an entry whose key has none is kept
 pub new_number : (a k : List ℕ) (f : List ℕ → Option ℕ) (n : ℕ) → is_some (f a) ≡ false → cond (bytes_eq a k) (Some n) (f k) ≡ number_kept k (f k) a n
-new_number a k f n absent = go (bytes_eq a k) (f k) refl refl
-  where
-    go : (b : Bool) (o : Option ℕ) → bytes_eq a k ≡ b → f k ≡ o → cond b (Some n) o ≡ number_kept k o a n
-    go true (Some old) e is = absurd (false≢true (sym absent ∙ ap is_some (ap f ((bytes_eq-Decides a k).0 e) ∙ is)))
-    go true None e is = ap (λ c. cond c (Some n) None) (sym e)
-    go false (Some old) e is = refl
-    go false None e is = ap (λ c. cond c (Some n) None) (sym e)
+new_number a k f n absent = search (rules, bytes_eq, false≢true, bytes_eq-Decides, cases_Bool)

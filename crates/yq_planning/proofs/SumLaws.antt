@@ -1,12 +1,12 @@
 -- Sums of values: the int that is written, one item, entry or term more.
-use Rattle.std.proofs.Common.{◌≡◌, ℕ, zero, suc, ◌+◌, ◌-◌, ◌<◌, ◌^◌, Bool, true, false, List, [], ◌∷◌, ◌++◌, Option, Some, None, is_some, option_map, length, map, drop, take, get_or, set, FitsSigned, refl, sym, ap, ◌∙◌, arith, cond}
+use Rattle.std.proofs.Common.{◌≡◌, ℕ, zero, suc, ◌+◌, ◌-◌, ◌<◌, ◌^◌, Bool, true, false, List, [], ◌∷◌, ◌++◌, Option, Some, None, is_some, option_map, length, map, drop, take, get_or, set, FitsSigned, refl, sym, ap, ◌∙◌, arith, cond, rules}
 use mir.Syntax.{w64}
 use Rattle.std.specs.Prelude.{ℤ, pos, negsuc}
 use Rattle.std.specs.Fmt.{decimal, signed_decimal}
 use Rattle.std.specs.Str.{bytes_eq}
 use Rattle.std.proofs.lemmas.Fmt.{decimal_is_IsNumeral}
 use Rattle.std.proofs.lemmas.Int.{to_z-of_z}
-use Rattle.std.proofs.lemmas.List.{length-map, map_push, take_more, take_rest}
+use Rattle.std.proofs.lemmas.List.{length-map, length-take-le, map_push, take_more, take_rest}
 use mir.Val.{to_z, of_z}
 use Rattle.yq_nodes.specs.Values.{items, entries}
 use Rattle.yq_flow_scalars.specs.Numbers as numbers
@@ -106,11 +106,7 @@ number_within k (e ∷ es) i h = go (bytes_eq e.0 k) (number_within k es) h
 -- its value is changed where its entry is
 changed_there : (k : List ℕ) (es : List (List ℕ × Node)) (i : ℕ) (j : List ℕ) (v : Node) (d : List ℕ × Node) → entry_number k es ≡ Some i → (get_or es i d).0 ≡ j → change_child (To k) (λ old. v) (entries es) ≡ entries (set es i (j, v))
 changed_there k [] i j v d h is = absurd (cc)
-changed_there k (e ∷ es) zero j v d h is = go (bytes_eq e.0 k) h
-  where
-    go : (b : Bool) → cond b (Some 0) (option_map suc (entry_number k es)) ≡ Some 0 → cond b (child (new_label (Some e.0)) v (entries es)) (child (new_label (Some e.0)) e.1 (change_child (To k) (λ old. v) (entries es))) ≡ child (new_label (Some j)) v (entries es)
-    go true h = ap (λ (key : List ℕ). child (new_label (Some key)) v (entries es)) is
-    go false h = let n = mapped_some (entry_number k es) 0 h in absurd (omega (arith, n.2))
+changed_there k (e ∷ es) zero j v d h is = search (rules, mapped_some, set)
 changed_there k (e ∷ es) (suc i) j v d h is = go (bytes_eq e.0 k) (λ g. changed_there k es i j v d g is) h
   where
     go : (b : Bool) → (entry_number k es ≡ Some i → change_child (To k) (λ old. v) (entries es) ≡ entries (set es i (j, v))) → cond b (Some 0) (option_map suc (entry_number k es)) ≡ Some (suc i)
@@ -131,11 +127,7 @@ with_absent k es v h = rw (none_there k es h) (entry_last k v es)
 
 -- one more entry
 pub number_last : (k : List ℕ) (es : List (List ℕ × Node)) (e : List ℕ × Node) → entry_number k (es ++ e ∷ []) ≡ number_kept k (entry_number k es) e.0 (length es)
-number_last k [] e = go (bytes_eq e.0 k)
-  where
-    go : (b : Bool) → cond b (Some 0) (option_map suc None) ≡ cond b (Some 0) None
-    go true = refl
-    go false = refl
+number_last k [] e = search rules
 number_last k (x ∷ es) e = go (bytes_eq x.0 k) (number_last k es e)
   where
     cases : (b : Bool) → option_map suc (cond b (Some (length es)) None) ≡ cond b (Some (suc (length es))) None
@@ -158,46 +150,24 @@ number_same k (e ∷ es) zero j v d within is = ap (λ (key : List ℕ). cond (b
 number_same k (e ∷ es) (suc i) j v d within is = ap (λ o. cond (bytes_eq e.0 k) (Some 0) (option_map suc o)) (number_same k es i j v d (omega (arith, within)) is)
 
 counted : {X Y : Type 0} (f : X → Y) (xs : List X) (i : ℕ) → i < length xs → length (map f (take i xs)) ≡ i
-counted f [] i within = absurd (omega (arith, within))
-counted f (x ∷ xs) zero within = refl
-counted f (x ∷ xs) (suc i) within = ap suc (counted f xs i (omega (arith, within)))
+counted f xs i within = length-map (take i xs) f ∙ length-take-le i xs (omega arith)
 
 -- one more entry of several
 pub numbered_more : {X : Type 0} (f : X → List ℕ × Node) (xs : List X) (i : ℕ) (x : X) (key k : List ℕ) (old new : Option ℕ) → i < length xs → x ≡ get_or xs i x → key ≡ (f x).0 →
     old ≡ entry_number k (map f (take i xs)) → new ≡ number_kept k old key i → new ≡ entry_number k (map f (take (i + 1) xs))
 numbered_more {X} f xs i x key k old new within is named before kept =
     let es : List (List ℕ × Node) = map f (take i xs) in
-    kept
-    ∙ (ap (λ o. number_kept k o key i) before
-    ∙ (ap (λ j. number_kept k (entry_number k es) j i) named
-    ∙ (ap (number_kept k (entry_number k es) (f x).0) (sym (counted f xs i within))
-    ∙ (sym (number_last k es (f x))
-    ∙ (ap (entry_number k) (sym (map_push f (take i xs) x))
-    ∙ ap (λ (ys : List X). entry_number k (map f ys)) (sym (take_more xs i x within ∙ ap (λ y. take i xs ++ y ∷ []) (sym is))))))))
+    cc (counted f xs i within, number_last k es (f x), map_push f (take i xs) x, take_more xs i x within)
 
 -- one behind all
 pub numbered_push : {X : Type 0} (f : X → List ℕ × Node) (xs all : List X) (x : X) (key k : List ℕ) (n : ℕ) (old new : Option ℕ) → key ≡ (f x).0 → n ≡ length xs →
     old ≡ entry_number k (map f xs) → new ≡ number_kept k old key n → all ≡ xs ++ x ∷ [] → new ≡ entry_number k (map f all)
-numbered_push {X} f xs all x key k n old new named many before kept pushed =
-    let es : List (List ℕ × Node) = map f xs in
-    kept
-    ∙ (ap (λ o. number_kept k o key n) before
-    ∙ (ap (λ j. number_kept k (entry_number k es) j n) named
-    ∙ (ap (number_kept k (entry_number k es) (f x).0) (many ∙ sym (length-map xs f))
-    ∙ (sym (number_last k es (f x))
-    ∙ (ap (entry_number k) (sym (map_push f xs x)) ∙ ap (λ (ys : List X). entry_number k (map f ys)) (sym pushed))))))
-
--- a view of a list with one element exchanged
-pub map_set : {A B : Type 0} (f : A → B) (xs : List A) (i : ℕ) (x : A) → map f (set xs i x) ≡ set (map f xs) i (f x)
-map_set f [] i x = refl
-map_set f (y ∷ xs) zero x = refl
-map_set f (y ∷ xs) (suc i) x = ap (λ ys. f y ∷ ys) (map_set f xs i x)
+numbered_push {X} f xs all x key k n old new named many before kept pushed = search (rules, length-map, number_last, map_push)
 
 -- a view of one element
 pub map_get : {A B : Type 0} (f : A → B) (xs : List A) (i : ℕ) (d : A) → get_or (map f xs) i (f d) ≡ f (get_or xs i d)
-map_get f [] i d = refl
-map_get f (y ∷ xs) zero d = refl
 map_get f (y ∷ xs) (suc i) d = map_get f xs i d
+map_get f _ _ d = refl
 
 -- the entries of two mappings
 pub map_sum : (n m : Node) (es ds : List (List ℕ × Node)) (cs : Children) → n ≡ tree.map None (entries es) → m ≡ tree.map None (entries ds) → cs ≡ with_entries (entries es) (entries ds) → value_sum n m ≡ gives (tree.map None cs)
@@ -230,7 +200,4 @@ sum_chained doc p (t ∷ ts) v =
 pub right_on : {X : Type 0} (view : X → Term) (doc : ℕ) (p : Place) (xs : List X) (x : X) (v : Node) → 0 < length xs → x ≡ get_or xs 0 x → term_value doc p (view x) ≡ gives v →
     right_value doc (map view xs) p ≡ chained (with_term doc p) (map view (take (length xs - 1) (drop 1 xs))) v
 right_on view doc p [] x v some is h = absurd (omega (arith, some))
-right_on {X} view doc p (y ∷ ys) x v some is h =
-    ap (λ (z : X). and_then (λ w. sum_from doc p w (map view ys)) (term_value doc p (view z))) (sym is)
-    ∙ (ap (and_then (λ w. sum_from doc p w (map view ys))) h
-    ∙ (sum_chained doc p (map view ys) v ∙ ap (λ (zs : List X). chained (with_term doc p) (map view zs) v) (sym (take_rest (y ∷ ys) 1))))
+right_on {X} view doc p (y ∷ ys) x v some is h = cc (sum_chained doc p (map view ys) v, take_rest (y ∷ ys) 1)

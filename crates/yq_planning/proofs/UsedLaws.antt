@@ -77,9 +77,7 @@ takes_there root n x (sets_comment place text) h = refl
 -- an alias by its name
 pub alias_is : (n : Node) → kinds.Alias ≡ kind_of n → n ≡ alias (text_of n)
 alias_is (alias name) is = refl
-alias_is (scalar a kind text) is = absurd (cc)
-alias_is (list a cs) is = absurd (cc)
-alias_is (tree.map a cs) is = absurd (cc)
+alias_is _ is = absurd (cc)
 
 -- without aliases nothing is taken
 pub none_taken : (names : List Name) (n : Node) (c : Change) → ((k : List ℕ) → list_any (refers_to k) names ≡ false) → false ≡ takes_at names n c

@@ -9,8 +9,7 @@ use Rattle.yq_flow_scalars.specs.Tree as tree
 use Rattle.yq_flow_scalars.specs.Tree.{Node, alias, scalar, list, Children, none, child, children_of}
 use Rattle.yq_nodes.specs.Values.{items, entries}
 use Rattle.yq_documents.specs.Documents.{Document}
-use Rattle.yq_meaning.specs.Conditions.{node_there, value_of}
-use Rattle.yq_meaning.specs.Copies.{and_others, keyed, copy, item_copies, entry_copies, copy_at, match_at, matches_in, matches_from, matches}
+use Rattle.yq_meaning.specs.Copies.{and_others, keyed, copy, item_copies, entry_copies, match_at, matches_in, matches_from, matches}
 use Rattle.yq_meaning.specs.Judgement.{Judges, gives}
 use Rattle.yq_plans.specs.MatchTrees.{IsMatch, AreMatches}
 use Rattle.yq_meaning.specs.Pipes.{places}
@@ -80,13 +79,6 @@ mutual
 
 -- ---- a match
 
--- what is at a place in a node that may be a match may be one
-value_matches : (root : Node) (p : Place) → IsMatch root → IsTree p.node → IsIn root p → IsMatch (value_of p)
-value_matches root p is tree at = go p.missing where
-  go : (missing : List Step) → IsMatch (node_there missing p.node)
-  go [] = let below : depth p.node ≤ depth root = node_depth p.path root p.node at in record { tree = tree; nested = omega (arith, below, is.nested) }
-  go (m ∷ ms) = record { tree = tt; nested = omega arith }
-
 copy_matches : (n v : Node) → IsMatch n → copy n ≡ gives v → IsMatch v
 copy_matches n v is h = let below : depth v ≤ depth n = copy_depth n v h in record { tree = (copy_pure n v is.tree h).0; nested = omega (arith, below, is.nested) }
 
@@ -95,9 +87,7 @@ join [] ns h k = k
 join (m ∷ ms) ns h k = (h.0, join ms ns h.1 k)
 
 place_matches : (doc : ℕ) (root : Node) (p : Place) (ms : List (ℕ × Node)) → IsMatch root → IsTree p.node → IsIn root p → match_at doc p ≡ gives ms → AreMatches ms
-place_matches doc root p ms is tree at h =
-    let x = then_gives (λ (v : Node). gives ((doc, v) ∷ [])) (copy_at p) ms h in
-    subst AreMatches (gives_same x.2) (copy_matches (value_of p) x.0 (value_matches root p is tree at) x.1, tt)
+place_matches doc root p ms is tree at h = search (rules, then_gives, gives_same, copy_matches, node_depth)
 
 each_matches : (doc : ℕ) (root : Node) (ps : List Place) (ms : List (ℕ × Node)) → IsMatch root → AreSound root ps → for_each (match_at doc) ps ≡ gives ms → AreMatches ms
 each_matches doc root [] ms is sound h = subst AreMatches (gives_same h) tt

@@ -22,7 +22,7 @@ use Rattle.clap.specs.declared.error.Error.{Error}
 use Rattle.clap.specs.declared.error.kind.ErrorKind.{ErrorKind}
 use Rattle.clap.proofs.OnLiterals.{clap_on_literals}
 use Rattle.clap.proofs.WalkLemmas.{both}
-use Rattle.yq_words.specs.Line.{yq}
+use Rattle.yq_words.specs.Line.{yq, four_commands, two_commands}
 
 -- neither of two steps fails
 neither : (a b : Kinds) → or_else a b ≡ [] → (a ≡ []) × (b ≡ [])
@@ -65,10 +65,7 @@ action_passes SetTrue again a values rows e = set_passes again a values rows e
 action_passes SetFalse again a values rows e = set_passes again a values rows e
 action_passes Append again a values rows e = values_pass a values e
 action_passes Count again a values rows e = count_passes a values rows e
-action_passes Help again a values rows e = cc
-action_passes HelpShort again a values rows e = cc
-action_passes HelpLong again a values rows e = cc
-action_passes Version again a values rows e = cc
+action_passes _ again a values rows e = cc
 
 -- as many values as are wanted
 in_range : (least most n : ℕ) → range_kinds least most n ≡ [] → (nat_le least n ≡ true) × (nat_le n most ≡ true)
@@ -177,9 +174,6 @@ word_passes s names true waiting word h e = refl
 word_passes s names false waiting word h e = other_passes s (subcommand_met names waiting word) word h e
 
 step_taken : (s : Shape) (position : ℕ) (h : Held) (step : Step) → fault.step_fault s position h step ≡ [] → pass.step_passes s position h step ≡ true
-step_taken s position h (next waiting) e = refl
-step_taken s position h (trailing i) e = refl
-step_taken s position h (subcommand name) e = refl
 step_taken s position h value e = by_rule (arg_by_index s.rules position) e where
   stray : (b : Bool) → (if b then ErrorKind.UnknownArgument ∷ [] else ErrorKind.UnknownArgument ∷ ErrorKind.InvalidSubcommand ∷ []) ≡ [] → false ≡ true
   stray true e = cc
@@ -188,6 +182,7 @@ step_taken s position h value e = by_rule (arg_by_index s.rules position) e wher
   by_rule : (o : Option Rule) → option_map_or (λ a. fault.positional_fault s.rules s.args_override_self a h) o (fault.stray_fault s) ≡ [] → option_map_or (λ a. pass.positional_passes s.rules s.args_override_self a h) o false ≡ true
   by_rule None e = stray s.is_leaf e
   by_rule (Some a) e = positional_passes s.rules s.args_override_self a h e
+step_taken s position h _ e = refl
 
 turn_passes : (s : Shape) (names : Names) (w : Walk) (word : Text) → fault.turn_fault s names w word ≡ [] → pass.turn_passes s names w word ≡ true
 turn_passes s names w word e = by_stop (is_some w.stopped) (word_met s.rules names w.is_trailing w.waiting w.position word w.held) e where
@@ -285,11 +280,11 @@ built_takes a h words usual e =
 
 -- the words of the program's command line
 pub taken_where_none_fails : (words : List Text) → fault_of yq words ≡ [] → takes yq words ≡ true
-unfolding clap_on_literals
+unfolding clap_on_literals yq four_commands two_commands
 taken_where_none_fails words e = built_takes (built yq) nothing_held (argument_words yq words) refl e
 
 yq_free : is_simple_and_free yq ≡ true
-unfolding clap_on_literals
+unfolding clap_on_literals yq four_commands two_commands
 yq_free = refl
 
 -- ---- what clap answers

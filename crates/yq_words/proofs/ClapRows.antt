@@ -70,19 +70,14 @@ set_filled : (id : Text) (how : Reading) (values : List Text) (rows : List Row) 
 set_filled id how values rows some h = values_filled id how CommandLine values (without id rows) some (without_filled id rows h)
 
 action_filled : (x : ArgAction) (id : Text) (how : Reading) (values : List Text) (rows : List Row) → (is_request x ≡ true) ⊎ (0 < length values) → AreFilled rows → AreFilled (used_as x id how values rows)
-action_filled Set id how values rows (inl never) h = cc
-action_filled Set id how values rows (inr some) h = set_filled id how values rows some h
-action_filled SetTrue id how values rows (inl never) h = cc
-action_filled SetTrue id how values rows (inr some) h = set_filled id how values rows some h
-action_filled SetFalse id how values rows (inl never) h = cc
-action_filled SetFalse id how values rows (inr some) h = set_filled id how values rows some h
-action_filled Append id how values rows (inl never) h = cc
 action_filled Append id how values rows (inr some) h = values_filled id how CommandLine values rows some h
 action_filled Count id how values rows some h = counted_filled id how values rows h
 action_filled Help id how values rows some h = h
 action_filled HelpShort id how values rows some h = h
 action_filled HelpLong id how values rows some h = h
 action_filled Version id how values rows some h = h
+action_filled _ id how values rows (inl never) h = cc
+action_filled _ id how values rows (inr some) h = set_filled id how values rows some h
 
 pub used_filled : (again : Bool) (a : Rule) (values : List Text) (rows : List Row) → fills a ≡ true → use_passes again a values rows ≡ true → AreFilled rows → AreFilled (used a values rows)
 used_filled again a values rows f passes h =

@@ -77,18 +77,16 @@ module _ (c : List Rule) (again : Bool) (f : list_all fills c ≡ true) where
 
   -- a word
   plain_filled : (waiting : Waiting) (word : Text) (h : Held) → AreFilled h.rows → AreFilled (plain_word c waiting word h).0.rows
-  plain_filled idle word h k = k
-  plain_filled positional word h k = k
   plain_filled (option id) word h k = go (arg_by_id c id) where
     go : (o : Option Rule) → AreFilled (option_word o id word h).0.rows
     go None = k
     go (Some a) = k
+  plain_filled _ word h k = k
 
   after_filled : (waiting : Waiting) (word : Text) (h : Held) (o : Outcome) → AreFilled h.rows → AreFilled (after_flag c waiting word h o).0.rows
-  after_filled waiting word h done k = k
-  after_filled waiting word h (waits id) k = k
   after_filled waiting word h plain k = plain_filled waiting word h k
   after_filled waiting word h refused k = plain_filled waiting word h k
+  after_filled waiting word h _ k = k
 
   short_word_filled : (waiting : Waiting) (word : Text) (o : Option Text) (h : Held) → option_map_or (λ flags. bundle_passes c again flags h) o true ≡ true → AreFilled h.rows → AreFilled (short_or_plain c waiting word o h).0.rows
   short_word_filled waiting word None h p k = plain_filled waiting word h k
@@ -130,10 +128,8 @@ module _ (c : List Rule) (again : Bool) (f : list_all fills c ≡ true) where
     by_kept false p = settled_filled h p k
 
   pub step_filled : (w : Walk) (word : Text) (h : Held) (step : Step) → (step ≡ value → option_map_or (λ a. positional_passes c again a h) (arg_by_index c w.position) false ≡ true) → AreFilled h.rows → AreFilled (after_step c word w h step).held.rows
-  step_filled w word h (next waiting) p k = k
-  step_filled w word h (trailing position) p k = k
-  step_filled w word h (subcommand name) p k = k
   step_filled w word h value p k = go (arg_by_index c w.position) (p refl) where
     go : (o : Option Rule) → option_map_or (λ a. positional_passes c again a h) o false ≡ true → AreFilled (to_positional c o word w h).held.rows
     go None p = k
     go (Some a) p = held_filled a word h p k
+  step_filled w word h _ p k = k

@@ -11,8 +11,8 @@ use Rattle.clap.specs.Takes.{is_given, takes}
 use Rattle.clap.specs.Walk.{Row, Rule, Text, answers_to, first_of, nothing_held, rows_after, walk_from, walked}
 use Rattle.clap.proofs.OnLiterals.{clap_on_literals}
 use Rattle.clap.proofs.WalkLemmas.{both}
-use Rattle.yq_words.specs.Asked.{checks, count_in, WordsRefused, IsNotTaken, finds, full_words, is_command_word, name_fits, names_fit, words_fit}
-use Rattle.yq_words.specs.Line.{yq}
+use Rattle.yq_words.specs.Asked.{checks, command_words, count_in, WordsRefused, IsNotTaken, finds, full_words, is_command_word, name_fits, names_fit, words_fit}
+use Rattle.yq_words.specs.Line.{yq, four_commands, two_commands}
 use Rattle.yq_words.specs.declared.command.Command.{Command}
 use Rattle.yq_words.specs.declared.words_error.WordsError.{WordsError}
 use Rattle.yq_words.proofs.ClapLevel.{Passed, stops_at, sub_found, sub_passed}
@@ -42,6 +42,7 @@ record Taken (name : Text) (s : Shape) (rest : List Text) : Type 0 where
 
 command_taken : (name : Text) (s : Shape) (rest : List Text) → (walked (built yq).top.rules (names_of (built yq)) (walk_from nothing_held) name).stopped ≡ Some (name, []) → find (λ x. answers_to name (label_of x)) (built yq).subs ≡ Some s →
     list_all fills s.rules ≡ true → takes yq (codes "yq" ∷ name ∷ rest) ≡ true → Taken name s rest
+unfolding yq four_commands two_commands
 command_taken name s rest stop found f taken =
     let at = stops_at (built yq).top.rules (names_of (built yq)) name name rest stop in
     record {
@@ -96,50 +97,46 @@ count_refused name s rest t file count fit e =
     checks_taken name s rest t (squash_refused rows file count (sym (ap (λ b. names_fit (first_of (codes "file") rows) (first_of (codes "journal") rows) && b) (fit rows)) ∙ (sym (ap finds t.found) ∙ e)))
 
 eval_refused : (rest : List Text) → Refused (codes "yq" ∷ codes "eval" ∷ rest)
-unfolding clap_on_literals
+unfolding clap_on_literals yq four_commands two_commands
 eval_refused rest taken e =
     let t = command_taken (codes "eval") _ rest refl refl refl taken in
     file_refused (codes "eval") _ rest t (required_text _ rest (codes "file") refl refl t.passed) (required_text _ rest (codes "expr") refl refl t.passed) e
 
 undo_refused : (rest : List Text) → Refused (codes "yq" ∷ codes "undo" ∷ rest)
-unfolding clap_on_literals
+unfolding clap_on_literals yq four_commands two_commands
 undo_refused rest taken e = simple_refused (codes "undo") _ rest (command_taken (codes "undo") _ rest refl refl refl taken) refl refl (λ rows. refl) e
 
 redo_refused : (rest : List Text) → Refused (codes "yq" ∷ codes "redo" ∷ rest)
-unfolding clap_on_literals
+unfolding clap_on_literals yq four_commands two_commands
 redo_refused rest taken e = simple_refused (codes "redo") _ rest (command_taken (codes "redo") _ rest refl refl refl taken) refl refl (λ rows. refl) e
 
 history_refused : (rest : List Text) → Refused (codes "yq" ∷ codes "history" ∷ rest)
-unfolding clap_on_literals
+unfolding clap_on_literals yq four_commands two_commands
 history_refused rest taken e = simple_refused (codes "history") _ rest (command_taken (codes "history") _ rest refl refl refl taken) refl refl (λ rows. refl) e
 
 squash_words_refused : (rest : List Text) → Refused (codes "yq" ∷ codes "squash" ∷ rest)
-unfolding clap_on_literals
+unfolding clap_on_literals yq four_commands two_commands
 squash_words_refused rest taken e =
     let t = command_taken (codes "squash") _ rest refl refl refl taken in
     count_refused (codes "squash") _ rest t (required_text _ rest (codes "file") refl refl t.passed) (required_text _ rest (codes "n") refl refl t.passed) (λ rows. refl) e
 
+-- each of these words begins words that are refused
+abbrev AreRefused : List Text → List Text → Type 0
+AreRefused rest [] = Unit {0}
+AreRefused rest (name ∷ names) = Refused (codes "yq" ∷ name ∷ rest) × AreRefused rest names
+
+any_refused : (names : List Text) (word : Text) (rest : List Text) → AreRefused rest names → list_any (λ name. bytes_eq word name) names ≡ true →
+    Refused (codes "yq" ∷ word ∷ rest)
+any_refused [] word rest h some = absurd (false≢true some)
+any_refused (name ∷ names) word rest h some = elim (or_cases (bytes_eq word name) _ some) [
+  | inl is ↦ subst (λ w. Refused (codes "yq" ∷ w ∷ rest)) (sym ((bytes_eq-Decides word name).0 is)) h.0
+  | inr more ↦ any_refused names word rest h.1 more
+]
+
 -- each word that names a command
 word_refused : (word : Text) (rest : List Text) → is_command_word word ≡ true → Refused (codes "yq" ∷ word ∷ rest)
-word_refused word rest h = elim (or_cases (bytes_eq word (codes "eval")) _ h) [
-  | inl is ↦ by (codes "eval") is (eval_refused rest)
-  | inr h ↦ elim (or_cases (bytes_eq word (codes "undo")) _ h) [
-    | inl is ↦ by (codes "undo") is (undo_refused rest)
-    | inr h ↦ elim (or_cases (bytes_eq word (codes "redo")) _ h) [
-      | inl is ↦ by (codes "redo") is (redo_refused rest)
-      | inr h ↦ elim (or_cases (bytes_eq word (codes "history")) _ h) [
-        | inl is ↦ by (codes "history") is (history_refused rest)
-        | inr h ↦ elim (or_cases (bytes_eq word (codes "squash")) _ h) [
-          | inl is ↦ by (codes "squash") is (squash_words_refused rest)
-          | inr none ↦ absurd (false≢true none)
-        ]
-      ]
-    ]
-  ]
-]
-  where
-    by : (name : Text) → bytes_eq word name ≡ true → Refused (codes "yq" ∷ name ∷ rest) → Refused (codes "yq" ∷ word ∷ rest)
-    by name is refused = subst (λ w. Refused (codes "yq" ∷ w ∷ rest)) (sym ((bytes_eq-Decides word name).0 is)) refused
+word_refused word rest h =
+    any_refused command_words word rest (eval_refused rest, (undo_refused rest, (redo_refused rest, (history_refused rest, (squash_words_refused rest, tt))))) h
 
 words_refused : (words : List Text) → Refused (full_words words)
 words_refused [] = eval_refused []

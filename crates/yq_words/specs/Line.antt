@@ -35,13 +35,13 @@ eval_command =
     with_rule (with_rule (with_rule switches_command journal_option) (positional (codes "expr"))) (positional (codes "file"))
 
 -- the commands `eval` and `undo`
-abbrev pub two_commands : App
+unfoldable pub two_commands : App
 two_commands = with_subcommand (with_subcommand (new_app (codes "yq")) eval_command.top) (file_command (codes "undo")).top
 
 -- these two, and `redo` and `history`
-abbrev pub four_commands : App
+unfoldable pub four_commands : App
 four_commands = with_subcommand (with_subcommand two_commands (file_command (codes "redo")).top) (file_command (codes "history")).top
 
 -- the whole command line: these four, and `squash`
-abbrev pub yq : App
+unfoldable pub yq : App
 yq = with_subcommand four_commands squash_command.top

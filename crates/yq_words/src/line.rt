@@ -96,25 +96,42 @@ fn eval_command<'a>(alloc: Global) -> Result<Command<'a>, AllocError>
     with_arg(command, positional(alloc, "file"))
 }
 
+/// A command with `undo`, `redo` or `history` below it.
+fn with_file_command<'a>(
+    alloc: Global,
+    command: Command<'a>,
+    name: &'a str,
+) -> Result<Command<'a>, AllocError>
+    requires { (fields_of command).has_globals ≡ false }
+    ensures app { IfOk result (λ c. app_of c ≡ with_subcommand (app_of command.entry)
+        (spec.file_command name.entry.now).top) }
+    ensures local { IfOk result (λ c. (fields_of c).has_globals ≡ false) }
+{
+    with_sub(command, file_command(alloc, name)?)
+}
+
 /// `eval` and `undo`.
+#[tactic(auto, unfolding(crate::specs::Line::two_commands))]
 fn two_commands<'a>(alloc: Global) -> Result<Command<'a>, AllocError>
     ensures app { IfOk result (λ c. app_of c ≡ spec.two_commands) }
     ensures local { IfOk result (λ c. (fields_of c).has_globals ≡ false) }
 {
     let command = with_sub(Command::new(alloc, "yq"), eval_command(alloc)?)?;
-    with_sub(command, file_command(alloc, "undo")?)
+    with_file_command(alloc, command, "undo")
 }
 
 /// And `redo` and `history`.
+#[tactic(auto, unfolding(crate::specs::Line::four_commands, crate::specs::Line::two_commands))]
 fn four_commands<'a>(alloc: Global) -> Result<Command<'a>, AllocError>
     ensures app { IfOk result (λ c. app_of c ≡ spec.four_commands) }
     ensures local { IfOk result (λ c. (fields_of c).has_globals ≡ false) }
 {
-    let command = with_sub(two_commands(alloc)?, file_command(alloc, "redo")?)?;
-    with_sub(command, file_command(alloc, "history")?)
+    let command = with_file_command(alloc, two_commands(alloc)?, "redo")?;
+    with_file_command(alloc, command, "history")
 }
 
 /// The whole command line.
+#[tactic(auto, unfolding(crate::specs::Line::yq))]
 fn line<'a>(alloc: Global) -> Result<Command<'a>, AllocError>
     ensures app { IfOk result (λ c. app_of c ≡ spec.yq) }
 {
@@ -122,6 +139,7 @@ fn line<'a>(alloc: Global) -> Result<Command<'a>, AllocError>
 }
 
 /// What `clap` finds in the words, of which the first is the program's name.
+#[tactic(auto, unfolding(crate::specs::Line::yq, crate::specs::Line::four_commands, crate::specs::Line::two_commands))]
 pub fn matched<'a>(alloc: Global, words: &'a [&'a str]) -> Result<ArgMatches<'a>, Error>
     ensures ok { IfOk result (λ m. subcommand_rows_of m ≡ subcommand_of spec.yq
         (map (λ w. w.now) words.entry.now)) }

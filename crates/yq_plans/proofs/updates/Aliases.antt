@@ -3,13 +3,12 @@ use Rattle.std.proofs.Common.{◌≡◌, ℕ, suc, ◌⊎◌, Bool, true, false,
 use Rattle.std.proofs.lemmas.Bool.{cond_both}
 use Rattle.std.proofs.lemmas.Option.{none-some, same_Some}
 use Rattle.yq_flow_scalars.specs.Tree as tree
-use Rattle.yq_flow_scalars.specs.Tree.{Label, Node, alias, scalar, list, Children, none, child}
-use Rattle.yq_flow_scalars.specs.Paths.{Step, To, is_here, further, change_child, append_child, within}
-use Rattle.yq_meaning.specs.Changes.{Addition, appends, overwrites, Change, replaces, adds, sets_comment, Changed, value_in}
-use Rattle.yq_meaning.specs.NodeEdits.{NodeEdit, becomes, line, head, goes, NodeEdits, step_to, under, done_at, child_by, inside, each_at_once, at_once, same_path, done_by}
+use Rattle.yq_flow_scalars.specs.Tree.{Label, Node, list, Children, none, child}
+use Rattle.yq_flow_scalars.specs.Paths.{Step, is_here, further, change_child, append_child, within}
+use Rattle.yq_meaning.specs.Changes.{Addition, Change, replaces, adds, Changed, value_in}
+use Rattle.yq_meaning.specs.NodeEdits.{NodeEdit, becomes, NodeEdits, step_to, under, done_at, child_by, inside, each_at_once, at_once, same_path, done_by}
 use Rattle.yq_meaning.specs.Meaning.{add_to, add_all, placed_edit, node_edit_of}
-use Rattle.yq_documents.specs.TreeEdits.{replaced, headed, led, new_label}
-use Rattle.yq_meaning.specs.Changes as changes
+use Rattle.yq_documents.specs.TreeEdits.{replaced, led}
 use Rattle.yq_plans.proofs.updates.Mentions.{Mentions, AnyMentions, HasNoAlias, MentionsNoMore}
 use Rattle.yq_plans.proofs.updates.Each.{Each}
 use Rattle.yq_plans.proofs.updates.Spares.{child_kept_or_gone}
@@ -17,9 +16,7 @@ use Rattle.yq_plans.proofs.updates.Spares.{child_kept_or_gone}
 -- what is done at a place brings no alias
 abbrev BringsNone : NodeEdit → Type 0
 BringsNone (becomes g) = (m : Node) → MentionsNoMore (g m) m
-BringsNone (line text) = Unit {0}
-BringsNone (head texts) = Unit {0}
-BringsNone goes = Unit {0}
+BringsNone _ = Unit {0}
 
 abbrev pub BringNone : NodeEdits → Type 0
 BringNone f = (q : List Step) (x : NodeEdit) → f q ≡ Some x → BringsNone x
@@ -32,16 +29,13 @@ child_no_more a d label m n rest cs f g =
 done_no_more : (a : List ℕ) (d : Option NodeEdit) → ((x : NodeEdit) → d ≡ Some x → BringsNone x) → (n m : Node) → (Mentions a m → Mentions a n) → Mentions a (done_at d n m) → Mentions a n
 done_no_more a None b n m f h = f h
 done_no_more a (Some (becomes g)) b n m f h = b (becomes g) refl n a h
-done_no_more a (Some (line text)) b n m f h = h
-done_no_more a (Some (head texts)) b n m f h = h
-done_no_more a (Some goes) b n m f h = h
+done_no_more a (Some _) b n m f h = h
 
 mutual
   inside_no_more : (a : List ℕ) (f : NodeEdits) → BringNone f → (n : Node) → Mentions a (inside f n) → Mentions a n
-  inside_no_more a f b (alias name) h = h
-  inside_no_more a f b (scalar anchor kind text) h = h
   inside_no_more a f b (list anchor cs) h = each_no_more a f b 0 cs h
   inside_no_more a f b (tree.map anchor cs) h = each_no_more a f b 0 cs h
+  inside_no_more a f b _ h = h
 
   each_no_more : (a : List ℕ) (f : NodeEdits) → BringNone f → (i : ℕ) (cs : Children) → AnyMentions a (each_at_once f i cs) → AnyMentions a cs
   each_no_more a f b i none h = h
@@ -59,12 +53,8 @@ at_once_no_more f b n a h = done_no_more a (f []) (b []) n (inside f n) (inside_
 replaced_mentions : (a : List ℕ) (v old : Node) → Mentions a (replaced v old) → Mentions a v
 replaced_mentions a v old h1 = search rules
 
-headed_mentions : (a : List ℕ) (texts : List (List ℕ)) (cs : Children) → AnyMentions a (headed texts cs) → AnyMentions a cs
-headed_mentions a texts none h = h
-headed_mentions a texts (child label n cs) h = h
-
 led_mentions : (a : List ℕ) (block : Bool) (lead : List (List ℕ)) (p : List Step) (v : Node) → Mentions a (led block lead p v) → Mentions a v
-led_mentions a block lead p v h1 = search (rules, headed_mentions)
+led_mentions a block lead p v h1 = search rules
 
 append_mentions : (a : List ℕ) (label : Label) (v : Node) (cs : Children) → AnyMentions a (append_child label v cs) → Mentions a v ⊎ AnyMentions a cs
 append_mentions a label v none (inl h) = inl h
@@ -83,12 +73,8 @@ change_mentions a s v (child label n cs) h = go (is_here s label) (change_mentio
     go false ih (inl e) = inr (inl e)
     go false ih (inr e) = elim (ih e) [ inl k ↦ inl k | inr k ↦ inr (inr k) ]
 
-add_mentions : (a : List ℕ) (x : Addition) (cs : Children) → AnyMentions a (add_to x cs) → Mentions a (value_in x) ⊎ AnyMentions a cs
-add_mentions a (appends k v) cs h = append_mentions a (new_label k) v cs h
-add_mentions a (overwrites k v) cs h = change_mentions a (To k) v cs h
-
 added_mentions : (a : List ℕ) (x : Addition) (n : Node) → Mentions a (within (add_to x) n) → Mentions a (value_in x) ⊎ Mentions a n
-added_mentions a x n h1 = search (rules, add_mentions)
+added_mentions a x n h1 = search (rules, append_mentions, change_mentions)
 
 -- values without aliases are added
 abbrev pub AddNone : List Addition → Type 0
@@ -105,8 +91,7 @@ all_no_more (x ∷ xs) free n a h = one_no_more x free.0 n a (all_no_more xs fre
 abbrev pub WritesNone : Change → Type 0
 WritesNone (replaces v) = HasNoAlias v
 WritesNone (adds xs) = AddNone xs
-WritesNone changes.removes = Unit {0}
-WritesNone (sets_comment place text) = Unit {0}
+WritesNone _ = Unit {0}
 
 abbrev pub AllWriteNone : List Changed → Type 0
 AllWriteNone cs = Each (λ (c : Changed). WritesNone c.1) cs

@@ -1,11 +1,11 @@
 -- Rooms that are alike for operations say the same of them.
-use Rattle.std.proofs.Common.{◌≡◌, ◌⊎◌, ℕ, zero, suc, Bool, true, false, ◌==◌, List, [], ◌∷◌, refl, sym, ap, subst, ◌∙◌, inl, inr, Some, option_map, rules}
+use Rattle.std.proofs.lemmas.Bool.{cases_Bool}
+use Rattle.std.proofs.Common.{◌≡◌, ◌⊎◌, ℕ, zero, suc, Bool, List, [], ◌∷◌, refl, sym, ap, subst, ◌∙◌, inl, inr, Some, option_map, rules}
 use Rattle.std.specs.List.{slice_get}
 use Rattle.std.proofs.lemmas.Bool.{eqb-true, eqb-false}
 use Rattle.yq_flow_scalars.specs.Tree.{Node}
 use Rattle.yq_documents.specs.Documents.{Document}
 use Rattle.yq_documents.specs.TreeEdits.{change_nth}
-use Rattle.yq_program.specs.declared.program.CommentPlace.TheVariants as comments
 use Rattle.yq_meaning.specs.After.{document_of, done_to, after_op, all_after}
 use Rattle.yq_meaning.specs.Changes.{Room}
 use Rattle.yq_meaning.specs.Fits.{FitsRoot, Fits, AllFit}
@@ -41,10 +41,6 @@ module _ (old new : ℕ → Room) where
       subst (λ (after : List Document). (KeepsBlockIn op after ⊎ NoneOn (document_of op) ops) × BlockLasts new ops after) (sym (after_alike op docs a.0))
       (h.0, lasts_alike ops (after_op old op docs) a.1 h.1)
 
-  -- and may follow by either
-  pub follow_alike : (ops : List Operation) (docs : List Document) → AreAlike old new ops → MayFollow old ops docs → MayFollow new ops docs
-  follow_alike ops docs a h = record { fit = all_fit_alike ops docs a h.fit; last = record { block = lasts_alike ops docs a h.last.block; comments = h.last.comments } }
-
 -- ---- the rooms after an operation
 
 nth_changed : {A : Type 0} (n : ℕ) (f : A → A) (xs : List A) (x : A) → slice_get xs n ≡ Some x → slice_get (change_nth n f xs) n ≡ Some (f x)
@@ -59,11 +55,7 @@ there_after rooms op docs fits = (done_to (rooms (document_of op)).block op fits
 module _ (op : Operation) (old new : ℕ → Room) (docs : List Document) (left : LeavesRooms op old new docs) (there : (d : Document) × (slice_get docs (document_of op) ≡ Some d)) where
   -- by what is so of the room of the operation's document, and of that of any other
   by_document : (P : ℕ → Type 0) → P (document_of op) → ((i : ℕ) → (i ≡ document_of op → ⊥) → P i) → (i : ℕ) → P i
-  by_document P here other i = go (i == document_of op) refl
-    where
-      go : (b : Bool) → (i == document_of op) ≡ b → P i
-      go true is = subst P (sym (eqb-true i (document_of op) is)) here
-      go false is = other i (eqb-false i (document_of op) is)
+  by_document P here other i = search (rules, eqb-true, eqb-false, cases_Bool)
 
   all_same : SetsComment op → (others : List Operation) → AreAlike old new others
   all_same set [] = tt
@@ -95,7 +87,7 @@ module _ (op : Operation) (ops : List Operation) (old new : ℕ → Room) (docs 
 
   -- the later operations may follow, by the rooms that the first one leaves
   pub rest_follow : MayFollow new ops (after_op old op docs)
-  rest_follow = follow_alike old new ops (after_op old op docs) alike (record { fit = h.fit.1; last = record { block = h.last.block.1; comments = rest_comments op ops h.last.comments } })
+  rest_follow = search (rules, alike, rest_comments, all_fit_alike, lasts_alike)
 
   -- and make the same of documents
   pub rest_after : all_after new ops (after_op old op docs) ≡ all_after old (op ∷ ops) docs

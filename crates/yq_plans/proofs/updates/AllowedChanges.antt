@@ -1,22 +1,20 @@
 -- What is allowed may be done.
 use Rattle.std.proofs.Common.{◌≡◌, ◌≢◌, ℕ, suc, Bool, true, false, cond, ◌||◌, List, [], ◌∷◌, ◌++◌, length, map, Option, Some, None, is_some, refl, sym, ap, subst, ◌∙◌, rules}
-use Rattle.std.specs.Prelude.{ℤ}
 use Rattle.std.specs.List.{list_any}
 use Rattle.yq_flow_scalars.specs.Tree as tree
-use Rattle.yq_flow_scalars.specs.Tree.{Node, alias, scalar, list, Children, none, child}
+use Rattle.yq_flow_scalars.specs.Tree.{Node, list, Children, none, child}
 use Rattle.yq_flow_scalars.specs.Paths as paths
 use Rattle.yq_flow_scalars.specs.Paths.{To, key_is, child_at, node_at, change_child, append_child}
 use Rattle.yq_flow_scalars.specs.Anchors.{names_of}
 use Rattle.yq_meaning.specs.Judgement.{Judgement, gives}
-use Rattle.yq_meaning.specs.Matching.{find, key_step, index_step}
+use Rattle.yq_meaning.specs.Matching.{key_step}
 use Rattle.yq_meaning.specs.Changes.{Addition, appends, overwrites, addition, additions, is_long, has_long_key, writes_long_key, value_in, is_deep, is_used_inside, overwrites_used}
-use Rattle.yq_meaning.specs.Conditions.{holds}
 use Rattle.yq_meaning.specs.Meaning.{add_to}
-use Rattle.yq_meaning.specs.Pipes.{kept, places, select_on}
-use Rattle.yq_meaning.specs.Places.{Place, root_place, child_place, for_each, miss, step_there, step_from, step_on}
+use Rattle.yq_meaning.specs.Pipes.{places, select_on}
+use Rattle.yq_meaning.specs.Places.{Place, root_place, child_place, for_each, miss, step_there, step_on}
 use Rattle.yq_flow_scalars.specs.Shapes.{IsNew, AreItems, AreEntries, IsTree, AreTrees}
 use Rattle.yq_documents.specs.TreeEdits.{new_label}
-use Rattle.yq_program.specs.Program.{Step, key, index, each, Condition, Stage}
+use Rattle.yq_program.specs.Program.{Step, key, Condition, Stage}
 use Rattle.yq_meaning.proofs.JudgementLaws.{then_gives, gives_same}
 use Rattle.yq_meaning.proofs.ChildPlaces.{node_further}
 use Rattle.yq_meaning.proofs.PathLaws.{bytes_differ, bytes_same}
@@ -25,18 +23,16 @@ use Rattle.std.proofs.lemmas.Bool.{false≢true, cond-false, or_parts}
 use Rattle.std.proofs.lemmas.Option.{none-some}
 use mathlib.Core.List.{cons≢nil}
 use Rattle.yq_plans.proofs.updates.Each.{Each, each_given}
-use Rattle.yq_plans.proofs.updates.PipePlaces.{pipe_keeps}
+use Rattle.yq_plans.proofs.updates.PipePlaces.{pipe_keeps, select_keeps}
+use Rattle.yq_plans.proofs.updates.StepPlaces.{step_keeps}
 
 -- ---- what is missing
 
 -- a node lacks what a step leads to, if it is a mapping
 abbrev Lacks : Step → Node → Type 0
-Lacks s (alias name) = Unit {0}
-Lacks s (scalar anchor kind text) = Unit {0}
-Lacks s (list anchor cs) = Unit {0}
 Lacks (key k) (tree.map anchor cs) = child_at (To k) cs ≡ None
-Lacks (index i) (tree.map anchor cs) = ⊥
-Lacks each (tree.map anchor cs) = ⊥
+Lacks _ (tree.map anchor cs) = ⊥
+Lacks s _ = Unit {0}
 
 abbrev pub IsMissed : List Step → Node → Type 0
 IsMissed [] n = Unit {0}
@@ -55,39 +51,20 @@ children_missed : (p : Place) (xs : List (paths.Step × Node)) → AreMissed (ma
 children_missed p [] = tt
 children_missed p (x ∷ xs) = (tt, children_missed p xs)
 
-find_none : (s : paths.Step) (cs : Children) → find s cs ≡ None → child_at s cs ≡ None
-find_none s cs h = search (rules, none-some)
-
 key_lacks : (k : List ℕ) (n : Node) → key_step k n ≡ gives None → Lacks (key k) n
-key_lacks k n h1 = search (rules, find_none, gives_same)
-
-index_lacks : (i : ℤ) (n : Node) → index_step i n ≡ gives None → Lacks (index i) n
-index_lacks i n h1 = search rules
-
--- one more step is missing
-more_missed : (missing : List Step) (s : Step) (n : Node) → IsMissed missing n → (missing ≡ [] → Lacks s n) → IsMissed (missing ++ s ∷ []) n
-more_missed [] s n h k = k refl
-more_missed (m ∷ ms) s n h k = h
+key_lacks k n h1 = search (rules, gives_same, none-some)
 
 miss_missed : (s : Step) (p : Place) → IsMissed p.missing p.node → (p.missing ≡ [] → Lacks s p.node) → AreMissed (miss s p)
-miss_missed s p h1 h2 = search (rules, more_missed)
+miss_missed s p h1 h2 = search rules
 
 there_missed : (s : Step) → Keeps (step_there s)
-there_missed s = search (rules, then_gives, gives_same, miss_missed, key_lacks, index_lacks, children_missed)
+there_missed s = search (rules, then_gives, gives_same, miss_missed, key_lacks, children_missed)
 
 step_missed : (s : Step) → Keeps (step_on s)
-step_missed s p qs m h = go p.missing refl h
-  where
-    go : (missing : List Step) → p.missing ≡ missing → step_from missing s p ≡ gives qs → AreMissed qs
-    go [] is e = there_missed s p qs m e
-    go (x ∷ xs) is e = subst AreMissed (gives_same e) (miss_missed s p m (λ there. absurd (cons≢nil (sym is ∙ there))))
+step_missed s p qs m h = step_keeps AreMissed s p qs (there_missed s p qs m) (λ x xs is. miss_missed s p m (λ there. absurd (cons≢nil (sym is ∙ there)))) h
 
 select_missed : (doc : ℕ) (c : Condition) → Keeps (select_on doc c)
-select_missed doc c p qs m h = let x = then_gives (λ (b : Bool). gives (kept p b)) (holds doc c p) qs h in subst AreMissed (gives_same x.2) (go x.0)
-  where
-    go : (b : Bool) → AreMissed (kept p b)
-    go true = (m, tt)
-    go false = tt
+select_missed doc c p qs m h = select_keeps AreMissed doc c p qs (m, tt) tt h
 
 -- of what is missing nothing is there
 pub places_missed : (doc : ℕ) (pipe : List Stage) (root : Node) (ps : List Place) → places doc pipe root ≡ gives ps → AreMissed ps
@@ -101,11 +78,7 @@ abbrev pub Unrefused : Node → List paths.Step → List Addition → Type 0
 Unrefused root p xs = (list_any writes_long_key xs ≡ false) × (list_any (λ x. is_deep (suc (length p)) (value_in x)) xs ≡ false) × (list_any (overwrites_used root p) xs ≡ false)
 
 unrefused_rest : (root : Node) (p : List paths.Step) (x : Addition) (xs : List Addition) → Unrefused root p (x ∷ xs) → Unrefused root p xs
-unrefused_rest root p x xs h = (
-  (or_parts (writes_long_key x) (list_any writes_long_key xs) h.0).1,
-  (or_parts (is_deep (suc (length p)) (value_in x)) (list_any (λ y. is_deep (suc (length p)) (value_in y)) xs) h.1).1,
-  (or_parts (overwrites_used root p x) (list_any (overwrites_used root p) xs) h.2).1,
-)
+unrefused_rest root p x xs h = search (rules, or_parts)
 
 -- items for a sequence
 pub list_fits : (root : Node) (p : List paths.Step) (a : Option (List ℕ)) (cs ds : Children) → AreItems ds → AreTrees ds → Unrefused root p (additions none ds) → FitAdds root p (list a cs) (additions none ds)

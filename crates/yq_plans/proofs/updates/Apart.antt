@@ -1,5 +1,5 @@
 -- What is done at one place leaves the node of another as it is, and two such changes may be made in either order.
-use Rattle.std.proofs.Common.{◌≡◌, ◌≢◌, ℕ, zero, suc, ◌+◌, ◌<◌, ◌⊎◌, Bool, true, false, cond, List, [], ◌∷◌, Option, Some, None, option_map, option_and_then, refl, sym, ap, subst, ◌∙◌, inl, inr, arith, rules}
+use Rattle.std.proofs.Common.{◌≡◌, ◌≢◌, ℕ, zero, suc, ◌+◌, ◌<◌, Bool, true, false, cond, List, [], ◌∷◌, Option, Some, None, option_map, option_and_then, refl, sym, ap, subst, ◌∙◌, inl, inr, arith, rules}
 use Rattle.std.proofs.lemmas.Bool.{cases_Bool, cond-false, cond-true, cond_both}
 use Rattle.std.specs.Str.{bytes_eq}
 use Rattle.yq_flow_scalars.specs.Tree as tree
@@ -85,11 +85,8 @@ find_item (suc r) m f free behind i is (child label n cs) items =
     (at_once (under (Nth i) f) n) (each_at_once f (suc i) cs)
     ∙ find_item r m f free behind (suc i) next cs items.1)
 
-find_each : (s : Step) (f : NodeEdits) → f (s ∷ []) ≡ None → ((m i : ℕ) → s ≡ Nth m → f (Nth i ∷ []) ≡ Some goes → m < i) → (cs : Children) → AreItems cs ⊎ AreEntries cs → child_at s (each_at_once f 0 cs) ≡ done_child s f (child_at s cs)
-find_each s f h1 h2 cs h3 = search (rules, find_key, find_item, no_entry_done, no_entry)
-
 find_inside : (s : Step) (f : NodeEdits) → f (s ∷ []) ≡ None → ((m i : ℕ) → s ≡ Nth m → f (Nth i ∷ []) ≡ Some goes → m < i) → (n : Node) → IsTree n → child_at s (children_of (inside f n)) ≡ done_child s f (child_at s (children_of n))
-find_inside s f h1 h2 n h3 = search (rules, find_each)
+find_inside s f h1 h2 n h3 = search (rules, find_key, find_item, no_entry_done, no_entry)
 
 -- what is done elsewhere leaves the node at a path as it is
 pub node_spared : (p : List Step) (f : NodeEdits) (n : Node) → IsTree n → Spares f p → node_at p (at_once f n) ≡ node_at p n

@@ -2,7 +2,7 @@
 use Rattle.std.proofs.Common.{◌≡◌, ◌≢◌, ℕ, suc, ◌+◌, ◌<◌, ◌⊎◌, Bool, true, false, cond, List, [], ◌∷◌, Option, Some, None, refl, sym, ap, subst, ◌∙◌, inl, inr, arith, zero, ◌&&◌, rules}
 use Rattle.std.proofs.lemmas.Bool.{cases_Bool, cond-false, cond-true}
 use Rattle.std.proofs.lemmas.Option.{none-some, same_Some}
-use Rattle.yq_flow_scalars.specs.Tree.{Label, Node, alias, scalar, list, Children, none, child, map}
+use Rattle.yq_flow_scalars.specs.Tree.{Label, Node, list, Children, none, child, map}
 use Rattle.yq_flow_scalars.specs.Paths.{To, Nth, key_is, is_here, further, Step, within}
 use Rattle.yq_meaning.specs.NodeEdits.{step_to, NodeEdit, goes, NodeEdits, under, done_at, child_by, inside, each_at_once, at_once, same_path, and_at, at_child, here, one_at}
 use Rattle.yq_meaning.specs.Places.{step_by}
@@ -183,10 +183,9 @@ and_here [] x f h = refl
 and_here (s ∷ p) x f h = h
 
 in_tree : (s : Step) (x : NodeEdit) (p : List Step) (f g : NodeEdits) → More s x p f g → (n : Node) → IsTree n → inside f n ≡ within (at_child s (there x p)) (inside g n)
-in_tree s x p f g more (alias name) tree = refl
-in_tree s x p f g more (scalar anchor kind text) tree = refl
 in_tree s x p f g more (list anchor cs) tree = ap (list anchor) (more_each s x p f g more cs (inl tree.0) tree.1)
 in_tree s x p f g more (map anchor cs) tree = ap (map anchor) (more_each s x p f g more cs (inr tree.0) tree.1)
+in_tree s x p f g more _ tree = refl
 
 -- one thing more is done at once as it is done alone, after the others
 pub one_more : (p : List Step) (x : NodeEdit) (f : NodeEdits) (n : Node) → IsTree n → Spares f p → at_once (and_at p x f) n ≡ one_at p x (at_once f n)
@@ -202,6 +201,4 @@ one_more (s ∷ p) x f n tree spared =
       within_it = λ m is. ap (λ (k : NodeEdits). at_once k m) (and_under s p x f) ∙ one_more p x (under s f) m is below;
       behind = λ m i is gone. spares_behind m i p (subst (λ (t : Step). Before (t ∷ p) (Nth i ∷ [])) is (subst (λ (d : Option NodeEdit). IsSpared d (s ∷ p) (Nth i ∷ [])) gone (spared (Nth i ∷ []))));
     } in
-    ap (λ (d : Option NodeEdit). done_at d n (inside (and_at (s ∷ p) x f) n)) free
-    ∙ (in_tree s x p (and_at (s ∷ p) x f) f more n tree
-    ∙ ap (λ (d : Option NodeEdit). within (at_child s (there x p)) (done_at d n (inside f n))) (sym free))
+    cc (in_tree s x p (and_at (s ∷ p) x f) f more n tree)

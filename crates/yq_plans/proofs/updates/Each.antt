@@ -1,5 +1,5 @@
 -- Elements of lists that are each so, and what judgements give that are joined.
-use Rattle.std.proofs.Common.{◌≡◌, ℕ, List, [], ◌∷◌, ◌++◌, reverse, sym, subst}
+use Rattle.std.proofs.Common.{◌≡◌, ℕ, List, [], ◌∷◌, ◌++◌, reverse, sym, subst, rules}
 use Rattle.std.proofs.lemmas.List.{reverse-append}
 use Rattle.yq_meaning.specs.Changes.{Changed}
 use Rattle.yq_meaning.specs.Judgement.{Judgement, gives, and_then}
@@ -36,10 +36,7 @@ each_op doc P Q so (c ∷ cs) h = each_join Q (change_ops doc c) (ops_of doc cs)
 -- what two judgements give, one behind the other
 pub joined_gives : {X : Type 0} (j k : Judgement (List X)) (xs : List X) → and_then (λ first. and_then (λ others. gives (first ++ others)) k) j ≡ gives xs →
     (first : List X) × (others : List X) × (j ≡ gives first) × (k ≡ gives others) × (first ++ others ≡ xs)
-joined_gives {X} j k xs h =
-    let one = then_gives (λ first. and_then (λ others. gives (first ++ others)) k) j xs h in
-    let two = then_gives (λ (others : List X). gives (one.0 ++ others)) k xs one.2 in
-    (one.0, two.0, one.1, two.1, gives_same two.2)
+joined_gives {X} j k xs h = search (rules, then_gives, gives_same)
 
 -- all that is given for elements is so, where what is given for each one is
 pub each_given : {A X : Type 0} (R : List A → Type 0) (Q : X → Type 0) (f : A → Judgement (List X)) → ((a : A) (more : List A) → R (a ∷ more) → ((xs : List X) → f a ≡ gives xs → Each Q xs) × R more) →

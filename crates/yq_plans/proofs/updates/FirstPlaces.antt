@@ -1,19 +1,17 @@
 -- Of the places to which a pipe leads, none but the first one is at the first item or entry of the root.
-use Rattle.std.proofs.Common.{◌≡◌, ◌≢◌, ℕ, ◌⊎◌, Bool, true, false, List, [], ◌∷◌, ◌++◌, map, Some, None, refl, sym, ap, subst, ◌∙◌, inl, inr, rules}
+use Rattle.std.proofs.Common.{◌≡◌, ◌≢◌, ℕ, ◌⊎◌, List, [], ◌∷◌, ◌++◌, map, refl, sym, ap, subst, ◌∙◌, inl, inr, rules}
 use Rattle.std.proofs.lemmas.Option.{same_Some}
 use mathlib.Core.List.{head-eq_of_cons-eq, tail-eq_of_cons-eq}
 use Rattle.yq_flow_scalars.specs.Tree as tree
 use Rattle.yq_flow_scalars.specs.Tree.{Label, Node, alias, scalar, list, Children, none, child, children_of}
 use Rattle.yq_flow_scalars.specs.Paths as paths
 use Rattle.yq_flow_scalars.specs.Paths.{node_at}
-use Rattle.yq_meaning.specs.declared.refusal.Refusal.TheVariants.{NotASequence}
 use Rattle.yq_meaning.specs.Judgement.{Judgement, and_then, gives}
-use Rattle.yq_meaning.specs.Matching.{ChildFound, in_scalar, key_step, index_step}
+use Rattle.yq_meaning.specs.Matching.{ChildFound, key_step, index_step}
 use Rattle.yq_program.specs.Program.{Step, key, index, each, Condition, Stage}
-use Rattle.yq_meaning.specs.Conditions.{holds}
 use Rattle.yq_meaning.specs.NodeEdits.{step_to}
-use Rattle.yq_meaning.specs.Pipes.{kept, select_on, places}
-use Rattle.yq_meaning.specs.Places.{Place, root_place, child_place, for_each, miss, found_place, stepped, all_steps, step_there, step_from, step_on}
+use Rattle.yq_meaning.specs.Pipes.{select_on, places}
+use Rattle.yq_meaning.specs.Places.{Place, root_place, child_place, for_each, miss, found_place, stepped, all_steps, step_there, step_on}
 use Rattle.yq_meaning.specs.PlacesApart.{IsBeforeAll, IsIn}
 use Rattle.yq_flow_scalars.specs.PathOrder.{Before}
 use Rattle.yq_flow_scalars.specs.Shapes.{AreItems, AreEntries, IsTree}
@@ -21,8 +19,8 @@ use Rattle.yq_meaning.proofs.JudgementLaws.{then_gives, gives_same}
 use Rattle.yq_meaning.proofs.PathLaws.{parts_differ}
 use Rattle.yq_meaning.proofs.GoodPlaces.{LieIn, AreSound, LeadsSo, AreGood, each_good}
 use Rattle.yq_meaning.proofs.ChildPlaces.{StepsBefore, StepsApart, items_apart, entries_apart}
-use Rattle.yq_plans.proofs.updates.StepPlaces.{leads_step}
-use Rattle.yq_plans.proofs.updates.PipePlaces.{leads_select, pipe_keeps}
+use Rattle.yq_plans.proofs.updates.StepPlaces.{leads_step, step_keeps}
+use Rattle.yq_plans.proofs.updates.PipePlaces.{leads_select, pipe_keeps, select_keeps}
 use Rattle.yq_plans.proofs.updates.Each.{Each, each_given, each_join, joined_gives}
 
 -- the step to the first item or entry of a root
@@ -38,13 +36,8 @@ abbrev pub NoPlaceLater : paths.Step → List Place → Type 0
 NoPlaceLater s [] = Unit {0}
 NoPlaceLater s (p ∷ ps) = NoPlaceAt s ps
 
-no_later : (s : paths.Step) (ps : List Place) → NoPlaceAt s ps → NoPlaceLater s ps
-no_later s [] h = tt
-no_later s (p ∷ ps) h = h.1
-
 later_join : (s : paths.Step) (ps qs : List Place) → NoPlaceLater s ps → NoPlaceAt s qs → NoPlaceLater s (ps ++ qs)
-later_join s [] qs h k = no_later s qs k
-later_join s (p ∷ ps) qs h k = each_join (λ (r : Place). r.path ≢ s ∷ []) ps qs h k
+later_join s ps qs h1 h2 = search (rules, each_join)
 
 no_nil : (p : List paths.Step) (t : paths.Step) → p ++ t ∷ [] ≡ [] → ⊥
 no_nil [] t e = cc
@@ -56,10 +49,9 @@ front_nil (s ∷ p) r e = absurd (cc)
 
 -- what lies below a place that isn't there, and isn't the root, isn't there
 lying_other : (s : paths.Step) (x p : List paths.Step) (r : List paths.Step) → Before x p → p ≢ s ∷ [] → p ++ r ≢ s ∷ []
-lying_other s [] p r b d e = b
-lying_other s (y ∷ x) [] r b d e = b
 lying_other s (y ∷ x) (t ∷ p) r b d e =
     d (ap (λ (u : paths.Step). u ∷ p) (head-eq_of_cons-eq e) ∙ ap (λ (q : List paths.Step). s ∷ q) (front_nil p r (tail-eq_of_cons-eq e)))
+lying_other s _ _ r b d e = b
 
 lying_none : (s : paths.Step) (x p : List paths.Step) (qs : List Place) → Before x p → p ≢ s ∷ [] → LieIn p qs → NoPlaceAt s qs
 lying_none s x p [] b d l = tt
@@ -112,44 +104,27 @@ miss_later : (s : paths.Step) (step : Step) (p : Place) → NoPlaceLater s (miss
 miss_later s step p = search rules
 
 found_later : (s : paths.Step) (step : Step) (p : Place) (j : Judgement ChildFound) (qs : List Place) → and_then (λ x. gives (found_place step p x)) j ≡ gives qs → NoPlaceLater s qs
-found_later s step p j qs h =
-    let x = then_gives (λ (x : ChildFound). gives (found_place step p x)) j qs h in subst (NoPlaceLater s) (gives_same x.2) (go x.0)
-  where
-    go : (x : ChildFound) → NoPlaceLater s (found_place step p x)
-    go None = miss_later s step p
-    go (Some y) = tt
+found_later s step p j qs h = search (rules, then_gives, gives_same, miss_later)
 
 all_later : (root : Node) (s : paths.Step) → IsFirstStep root s → (p : Place) (n : Node) → p.node ≡ n → IsTree p.node → IsIn root p → (qs : List Place) → and_then (λ xs. gives (map (child_place p) xs))
     (all_steps n) ≡ gives qs → NoPlaceLater s qs
 all_later root s first p (alias name) is tree at qs h = absurd (cc)
-all_later root s first p (scalar anchor kind text) is tree at qs h =
-    let x = then_gives (λ (xs : List (paths.Step × Node)). gives (map (child_place p) xs)) (all_steps (scalar anchor kind text)) qs h in
-    let y = then_gives (λ (nothing : ChildFound). gives []) (in_scalar NotASequence kind) x.0 x.1 in
-    subst (NoPlaceLater s) (gives_same x.2) (subst (λ (xs : List (paths.Step × Node)). NoPlaceLater s (map (child_place p) xs)) (gives_same y.2) tt)
+all_later root s first p (scalar anchor kind text) is tree at qs h = search (rules, then_gives, gives_same, first_children)
 all_later root s first p (list anchor cs) is tree at qs h =
     subst (NoPlaceLater s) (gives_same h) (first_children root s first p at cs (ap children_of is) (inl (subst IsTree is tree).0))
 all_later root s first p (tree.map anchor cs) is tree at qs h =
     subst (NoPlaceLater s) (gives_same h) (first_children root s first p at cs (ap children_of is) (inr (subst IsTree is tree).0))
 
 step_first : (root : Node) (s : paths.Step) → IsFirstStep root s → (step : Step) → LeadsFirst root s (step_on step)
-step_first root s first step p qs tree at h = go p.missing h
+step_first root s first step p qs tree at h = step_keeps (NoPlaceLater s) step p qs (there step) (λ m ms is. miss_later s step p) h
   where
     there : (step : Step) → step_there step p ≡ gives qs → NoPlaceLater s qs
     there (key k) e = found_later s (key k) p (key_step k p.node) qs e
     there (index i) e = found_later s (index i) p (index_step i p.node) qs e
     there each e = all_later root s first p p.node refl tree at qs e
 
-    go : (missing : List Step) → step_from missing step p ≡ gives qs → NoPlaceLater s qs
-    go [] e = there step e
-    go (m ∷ ms) e = subst (NoPlaceLater s) (gives_same e) (miss_later s step p)
-
 select_first : (root : Node) (s : paths.Step) (doc : ℕ) (c : Condition) → LeadsFirst root s (select_on doc c)
-select_first root s doc c p qs tree at h =
-    let x = then_gives (λ (b : Bool). gives (kept p b)) (holds doc c p) qs h in subst (NoPlaceLater s) (gives_same x.2) (go x.0)
-  where
-    go : (b : Bool) → NoPlaceLater s (kept p b)
-    go true = tt
-    go false = tt
+select_first root s doc c p qs tree at h = select_keeps (NoPlaceLater s) doc c p qs tt tt h
 
 -- the first item or entry of the root comes first
 pub places_first : (doc : ℕ) (pipe : List Stage) (root : Node) (ps : List Place) (s : paths.Step) → IsTree root → IsFirstStep root s → places doc pipe root ≡ gives ps → NoPlaceLater s ps

@@ -1,18 +1,15 @@
 -- Each operation of a plan fits at its turn.
-use Rattle.std.proofs.Common.{◌≡◌, ℕ, Bool, true, false, cond, ◌&&◌, List, [], ◌∷◌, length, Option, Some, None, refl, sym, ap, subst, ◌∙◌, inl, inr, rules}
+use Rattle.std.proofs.lemmas.Bool.{cases_Bool}
+use Rattle.std.proofs.Common.{◌≡◌, ℕ, Bool, true, false, cond, List, [], ◌∷◌, length, Option, Some, None, refl, sym, ap, subst, ◌∙◌, inl, inr, rules}
 use Rattle.std.proofs.lemmas.Bool.{and_parts, or_parts}
-use Rattle.std.specs.List.{list_any}
 use Rattle.yq_flow_scalars.specs.Tree as tree
-use Rattle.yq_flow_scalars.specs.Tree.{Node, alias, scalar, list, Children, none, child}
-use Rattle.yq_flow_scalars.specs.Paths as paths
-use Rattle.yq_flow_scalars.specs.Paths.{node_at}
+use Rattle.yq_flow_scalars.specs.Tree.{Node, scalar, list, Children, none, child}
 use Rattle.yq_flow_scalars.specs.Anchors.{names_of}
 use Rattle.yq_program.specs.declared.program.CommentPlace.{CommentPlace}
 use Rattle.yq_program.specs.declared.program.Operator.TheVariants as operator
-use Rattle.yq_meaning.specs.declared.refusal.Refusal.TheVariants.{IndexOutOfRange, NoPlaceForComment, AnchorInUse, TooDeep, KeyTooLong}
-use Rattle.yq_meaning.specs.Judgement.{Judgement, and_then, gives, refuses}
-use Rattle.yq_meaning.specs.Changes.{Change, replaces, sets_comment, Changed, Room, nested, created, put_below, put_at, addition, additions, added, add_below, add_at}
-use Rattle.yq_meaning.specs.Changes.{remove_below, remove_at, is_there, comment_at, is_too_long, is_too_deep, is_used_inside, is_used_in, takes_used, allowed, all_allowed, at_each, with_value, changes_at, left_of, changes_in}
+use Rattle.yq_meaning.specs.Judgement.{Judgement, and_then, gives}
+use Rattle.yq_meaning.specs.Changes.{Change, replaces, Changed, Room, nested, created, put_at, addition, additions, added, add_below, add_at}
+use Rattle.yq_meaning.specs.Changes.{remove_at, comment_at, is_too_long, is_too_deep, is_used_inside, takes_used, allowed, all_allowed, at_each, with_value, changes_at, left_of, changes_in}
 use Rattle.yq_meaning.specs.Changes.{is_comment, has_comment, value_in}
 use Rattle.yq_plans.proofs.updates.Mentions.{HasNoAlias, IsPure}
 use Rattle.yq_meaning.specs.Pipes.{places}
@@ -20,7 +17,7 @@ use Rattle.yq_meaning.specs.Places.{Place, root_place}
 use Rattle.yq_meaning.specs.PlacesApart.{IsIn}
 use Rattle.yq_meaning.specs.RightValues.{is_null, as_items, sum, right_value}
 use Rattle.yq_flow_scalars.specs.Shapes.{IsTree}
-use Rattle.yq_program.specs.Program.{is_index, SumHolds, UpdatesHold, Step, key, index, each, Term, Update, assign, delete, comment}
+use Rattle.yq_program.specs.Program.{SumHolds, UpdatesHold, Step, key, Term, Update, assign, delete, comment}
 use Rattle.yq_plans.proofs.updates.Aliases.{AddNone, WritesNone}
 use Rattle.yq_plans.proofs.updates.AllowedChanges.{IsMissed, AreMissed, places_missed, list_fits, entries_fit}
 use Rattle.yq_plans.proofs.updates.FitsInOrder.{MayChange, AreFit}
@@ -45,14 +42,7 @@ abbrev EachIfFree : Room → Node → List Changed → Type 0
 EachIfFree room root cs = Each (IfFree room root) cs
 
 allowed_free : (root : Node) (c d : Changed) → allowed root c ≡ gives d → (c ≡ d) × IsFree root c
-allowed_free root c d h = go (is_too_long c.1) (is_too_deep (length c.0) c.1) (takes_used root c.0 c.1) refl refl refl h
-  where
-    go : (x y z : Bool) → is_too_long c.1 ≡ x → is_too_deep (length c.0) c.1 ≡ y → takes_used root c.0 c.1 ≡ z →
-        cond x (refuses KeyTooLong) (cond y (refuses TooDeep) (cond z (refuses AnchorInUse) (gives c))) ≡ gives d → (c ≡ d) × IsFree root c
-    go true y z i j k e = absurd (cc)
-    go false true z i j k e = absurd (cc)
-    go false false true i j k e = absurd (cc)
-    go false false false i j k e = (gives_same e, (i, j, k))
+allowed_free root c d h = search (rules, gives_same)
 
 all_free : (room : Room) (root : Node) (cs ds : List Changed) → EachIfFree room root cs → all_allowed root cs ≡ gives ds → AreFit room root ds
 all_free room root cs ds f h =
@@ -84,33 +74,18 @@ puts_fit room root p v at pure = (pure.1, λ f. ((pure.0, f.0, f.1), (p.node, at
 nested_free : (ms : List Step) (v : Node) → HasNoAlias v → HasNoAlias (nested ms v)
 nested_free [] v free = free
 nested_free (key k ∷ ms) v free = λ a m. elim m [ inl e ↦ nested_free ms v free a e | inr e ↦ e ]
-nested_free (index i ∷ ms) v free = nested_free ms v free
-nested_free (each ∷ ms) v free = nested_free ms v free
+nested_free (_ ∷ ms) v free = nested_free ms v free
 
 nested_tree : (ms : List Step) (v : Node) → IsTree v → IsTree (nested ms v)
 nested_tree [] v h = h
 nested_tree (key k ∷ ms) v h = (((k, refl, tt), tt), (nested_tree ms v h, tt))
-nested_tree (index i ∷ ms) v h = nested_tree ms v h
-nested_tree (each ∷ ms) v h = nested_tree ms v h
+nested_tree (_ ∷ ms) v h = nested_tree ms v h
 
 nested_pure : (ms : List Step) (v : Node) → IsPure v → IsPure (nested ms v)
 nested_pure ms v h = (nested_tree ms v h.0, nested_free ms v h.1)
 
-created_fit : (room : Room) (root : Node) (p : Place) (v : Node) (m : Step) (ms : List Step) (n : Node) → p.node ≡ n → IsIn root p → IsMissed (m ∷ ms) n → IsPure v → IfFree room root (p.path, created n m ms v)
-created_fit room root p v m ms n h1 h2 h3 h4 = search (rules, puts_fit, nested_pure, nested_free, or_parts, nested_tree)
-
 put_fits : (room : Room) (root : Node) (v : Node) → IsPure v → SoFits room root (λ p. put_at p v)
-put_fits room root v pure p cs tree at miss h =
-    let x = then_gives (λ (c : Change). gives ((p.path, c) ∷ [])) (put_below p.node p.missing v) cs h in
-    subst (EachIfFree room root) (gives_same x.2) (go p.missing miss x.0 x.1, tt)
-  where
-    go : (missing : List Step) → IsMissed missing p.node → (c : Change) → put_below p.node missing v ≡ gives c → IfFree room root (p.path, c)
-    go [] m c e = subst (λ (d : Change). IfFree room root (p.path, d)) (gives_same e) (puts_fit room root p v at pure)
-    go (y ∷ ys) m c e = by (list_any is_index (y ∷ ys)) e
-      where
-        by : (b : Bool) → cond b (refuses IndexOutOfRange) (gives (created p.node y ys v)) ≡ gives c → IfFree room root (p.path, c)
-        by true k = absurd (cc)
-        by false k = subst (λ (d : Change). IfFree room root (p.path, d)) (gives_same k) (created_fit room root p v y ys p.node refl at m pure)
+put_fits room root v pure p cs tree at miss h = search (rules, then_gives, gives_same, puts_fit, nested_pure, nested_free, or_parts, nested_tree, cases_Bool)
 
 addition_value : (cs : Children) (o : Option (List ℕ)) (v : Node) → value_in (addition cs o v) ≡ v
 addition_value cs o v = search rules
@@ -120,19 +95,16 @@ adds_none cs none free = tt
 adds_none cs (child label v ds) free = (subst HasNoAlias (sym (addition_value cs label.key v)) (λ a m. free a (inl m)), adds_none cs ds (λ a m. free a (inr m)))
 
 added_fit : (room : Room) (root : Node) (p : Place) (v : Node) (n : Node) → p.node ≡ n → IsIn root p → IsPure v → (c : Change) → added n v ≡ gives c → IfFree room root (p.path, c)
-added_fit room root p v (alias name) is at pure c h = absurd (cc)
 added_fit room root p v (scalar anchor kind text) is at pure c h =
     let x = then_gives (λ (w : Node). gives (replaces w)) (sum (scalar None kind text) v) c h in
     subst (λ (d : Change). IfFree room root (p.path, d)) (gives_same x.2) (puts_fit room root p x.0 at (sum_pure (scalar None kind text) v x.0 (tt, λ a m. m) pure x.1))
 added_fit room root p v (list anchor cs) is at pure c h =
     subst (λ (d : Change). IfFree room root (p.path, d)) (gives_same h)
     (adds_none none (as_items v) (items_free v pure).1, λ f. (list anchor cs, at ∙ ap Some is, list_fits root p.path anchor cs (as_items v) (items_items v pure) (items_free v pure).0 f))
-added_fit room root p (alias name) (tree.map anchor cs) is at pure c h = absurd (cc)
-added_fit room root p (scalar a k t) (tree.map anchor cs) is at pure c h = absurd (cc)
-added_fit room root p (list a ds) (tree.map anchor cs) is at pure c h = absurd (cc)
 added_fit room root p (tree.map a ds) (tree.map anchor cs) is at pure c h =
     subst (λ (d : Change). IfFree room root (p.path, d)) (gives_same h)
     (adds_none cs ds (λ b m. pure.1 b m), λ f. (tree.map anchor cs, at ∙ ap Some is, entries_fit root p.path anchor anchor cs (at ∙ ap Some is) ds cs pure.0.0 pure.0.1 (λ k not_new. refl) f))
+added_fit room root p _ _ is at pure c h = absurd (cc)
 
 add_fits : (room : Room) (root : Node) (v : Node) → IsPure v → SoFits room root (λ p. add_at p v)
 add_fits room root v pure p cs tree at miss h = go (is_null v) h
@@ -148,21 +120,10 @@ add_fits room root v pure p cs tree at miss h = go (is_null v) h
     go false e = below p.missing refl e
 
 remove_fits : (room : Room) (root : Node) → SoFits room root remove_at
-remove_fits room root p cs tree at miss h = go p.missing p.path refl h
-  where
-    go : (missing : List Step) (x : List paths.Step) → p.path ≡ x → remove_below missing x ≡ gives cs → EachIfFree room root cs
-    go (m ∷ ms) x is e = subst (EachIfFree room root) (gives_same e) tt
-    go [] [] is e = absurd (cc)
-    go [] (s ∷ x) is e =
-        let there : node_at (s ∷ x) root ≡ Some p.node = ap (λ (y : List paths.Step). node_at y root) (sym is) ∙ at in
-        subst (EachIfFree room root) (gives_same e) ((tt, λ f. (tt, (p.node, there, ap (is_used_in (names_of root)) (sym there) ∙ f.2))), tt)
+remove_fits room root p cs tree at miss h = search (rules, gives_same)
 
 say_fits : (room : Room) (root : Node) (place : CommentPlace) (text : List ℕ) → is_comment place text ≡ true → SoFits room root (comment_at room place text)
-say_fits room root place text good p cs tree at miss h = go (is_there p.missing && room.has place p.path) refl h
-  where
-    go : (b : Bool) → (is_there p.missing && room.has place p.path) ≡ b → cond b (gives ((p.path, sets_comment place text) ∷ [])) (refuses NoPlaceForComment) ≡ gives cs → EachIfFree room root cs
-    go true is e = subst (EachIfFree room root) (gives_same e) ((tt, λ f. ((and_parts (is_there p.missing) (room.has place p.path) is).1, good, (p.node, at))), tt)
-    go false is e = absurd (cc)
+say_fits room root place text good p cs tree at miss h = search (rules, gives_same, and_parts, cases_Bool)
 
 -- ---- of an update
 

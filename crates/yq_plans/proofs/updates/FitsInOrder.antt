@@ -3,7 +3,7 @@ use Rattle.std.proofs.Common.{◌≡◌, ℕ, suc, Bool, true, false, cond, List
 use Rattle.std.proofs.lemmas.List.{reverse-reverse}
 use Rattle.std.proofs.lemmas.Option.{same_Some}
 use Rattle.yq_flow_scalars.specs.Tree as tree
-use Rattle.yq_flow_scalars.specs.Tree.{Node, alias, scalar, list, Children, none, child, children_of}
+use Rattle.yq_flow_scalars.specs.Tree.{Node, alias, list, Children, none, child, children_of}
 use Rattle.yq_flow_scalars.specs.Paths.{Step, To, is_here, further, child_at, node_at, change_child, within, change}
 use Rattle.yq_flow_scalars.specs.Anchors.{names_of}
 use Rattle.yq_program.specs.declared.program.CommentPlace.TheVariants as comments
@@ -89,10 +89,9 @@ child_no_more a s f less (child label n cs) h = go (is_here s label) (child_no_m
 
 change_no_more : (p : List Step) (f : Node → Node) → ((m : Node) → MentionsNoMore (f m) m) → (r : Node) → MentionsNoMore (change p f r) r
 change_no_more [] f less r a h = less r a h
-change_no_more (s ∷ p) f less (alias name) a h = h
-change_no_more (s ∷ p) f less (scalar anchor kind text) a h = h
 change_no_more (s ∷ p) f less (list anchor cs) a h = child_no_more a s (change p f) (change_no_more p f less) cs h
 change_no_more (s ∷ p) f less (tree.map anchor cs) a h = child_no_more a s (change p f) (change_no_more p f less) cs h
+change_no_more (s ∷ p) f less _ a h = h
 
 node_join : (p : List Step) (s : Step) (r n : Node) → node_at p r ≡ Some n → node_at (p ++ s ∷ []) r ≡ child_at s (children_of n)
 node_join p s r n h = node_further p s r n h

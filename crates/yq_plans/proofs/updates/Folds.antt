@@ -3,10 +3,9 @@ use Rattle.std.proofs.Common.{◌≡◌, ℕ, Bool, true, false, cond, List, [],
 use Rattle.std.proofs.lemmas.List.{reverse-reverse}
 use Rattle.yq_flow_scalars.specs.Tree.{Node}
 use Rattle.yq_flow_scalars.specs.Paths.{Step}
-use Rattle.yq_meaning.specs.Changes.{Change, replaces, adds, sets_comment, Changed}
+use Rattle.yq_meaning.specs.Changes.{Change, sets_comment, Changed}
 use Rattle.yq_meaning.specs.NodeEdits.{NodeEdit, NodeEdits, at_once, same_step, same_path, and_at, done_by}
 use Rattle.yq_meaning.specs.Meaning.{placed_edit, node_edit_of}
-use Rattle.yq_meaning.specs.Operations.{Operation}
 use Rattle.yq_meaning.specs.Plans.{change_ops, ops_of, is_removal, ordered}
 use Rattle.yq_program.specs.Program.{Update, assign, delete, comment}
 use Rattle.yq_flow_scalars.specs.PathOrder.{Before, Apart}
@@ -26,11 +25,10 @@ step_same s t h1 = search (rules, bytes_same, false≢true, eqb-true)
 
 pub path_same : (p q : List Step) → same_path p q ≡ true → p ≡ q
 path_same [] [] h = refl
-path_same [] (t ∷ q) h = absurd (false≢true h)
-path_same (s ∷ p) [] h = absurd (false≢true h)
 path_same (s ∷ p) (t ∷ q) h =
     let parts = and_parts (same_step s t) (same_path p q) h in
     ap (λ (r : Step). r ∷ p) (step_same s t parts.0) ∙ ap (λ (r : List Step). t ∷ r) (path_same p q parts.1)
+path_same _ _ h = absurd (false≢true h)
 
 before_irrefl : (p : List Step) → Before p p → ⊥
 before_irrefl [] h = h
@@ -76,43 +74,33 @@ AllAre P cs = Each (λ (c : Changed). P c.1) cs
 
 -- nothing is removed
 abbrev pub IsKept : Change → Type 0
-IsKept (replaces v) = Unit {0}
-IsKept (adds xs) = Unit {0}
 IsKept changes.removes = ⊥
-IsKept (sets_comment place text) = Unit {0}
+IsKept _ = Unit {0}
 
 abbrev pub AreKept : List Changed → Type 0
 AreKept cs = AllAre IsKept cs
 
 -- something is removed
 abbrev pub IsGone : Change → Type 0
-IsGone (replaces v) = ⊥
-IsGone (adds xs) = ⊥
 IsGone changes.removes = Unit {0}
-IsGone (sets_comment place text) = ⊥
+IsGone _ = ⊥
 
 abbrev pub AreGone : List Changed → Type 0
 AreGone cs = AllAre IsGone cs
 
 -- nodes are exchanged, or get items or entries
 abbrev pub IsWritten : Change → Type 0
-IsWritten (replaces v) = Unit {0}
-IsWritten (adds xs) = Unit {0}
 IsWritten changes.removes = ⊥
 IsWritten (sets_comment place text) = ⊥
+IsWritten _ = Unit {0}
 
 -- a comment is set
 abbrev pub IsSaid : Change → Type 0
-IsSaid (replaces v) = ⊥
-IsSaid (adds xs) = ⊥
-IsSaid changes.removes = ⊥
 IsSaid (sets_comment place text) = Unit {0}
+IsSaid _ = ⊥
 
 written_kept : (c : Change) → IsWritten c → IsKept c
 written_kept c h1 = search rules
-
-said_kept : (c : Change) → IsSaid c → IsKept c
-said_kept c h1 = search rules
 
 -- each is of the kind of the update
 abbrev pub IsOf : Update → Change → Type 0
@@ -126,7 +114,7 @@ MayFold true cs = AreGone cs
 MayFold false cs = AreKept cs
 
 pub of_may_fold : (u : Update) (cs : List Changed) → AllAre (IsOf u) cs → MayFold (is_removal u) cs
-of_may_fold u cs h1 = search (rules, each_weaker, written_kept, said_kept)
+of_may_fold u cs h1 = search (rules, each_weaker, written_kept)
 
 -- ---- what is done is the same in any order
 
@@ -185,13 +173,15 @@ module _ (block : Bool) (lead : List (List ℕ)) where
   pub fold_back : (doc : ℕ) (n : Node) → IsTree n → (cs : List Changed) → AreSpared cs → roots_after block lead (ops_of doc (reverse cs)) n ≡ at_once (node_edits_of cs) n
   fold_back doc n tree [] h = sym (idle (node_edits_of []) n (λ q. refl))
   fold_back doc n tree (c ∷ cs) h =
-      ap (λ (xs : List Changed). roots_after block lead (ops_of doc xs) n) (reverse-cons c cs)
-      ∙ (ap (λ (ops : List Operation). roots_after block lead ops n) (ops_join doc (reverse cs) (c ∷ []))
-      ∙ (roots_join block lead (ops_of doc (reverse cs)) (ops_of doc (c ∷ [])) n
-      ∙ (ap (roots_after block lead (change_ops doc c ++ [])) (fold_back doc n tree cs h.1)
-      ∙ (ap (λ (ops : List Operation). roots_after block lead ops (at_once (node_edits_of cs) n)) (append-nil (change_ops doc c))
-      ∙ (change_after block lead doc c (at_once (node_edits_of cs) n)
-      ∙ sym (one_more c.0 (node_edit_of block lead c) (node_edits_of cs) n tree h.0))))))
+      cc (
+        reverse-cons c cs,
+        ops_join doc (reverse cs) (c ∷ []),
+        roots_join block lead (ops_of doc (reverse cs)) (ops_of doc (c ∷ [])) n,
+        fold_back doc n tree cs h.1,
+        append-nil (change_ops doc c),
+        change_after block lead doc c (at_once (node_edits_of cs) n),
+        one_more c.0 (node_edit_of block lead c) (node_edits_of cs) n tree h.0,
+      )
 
   spared_kept : (c : Changed) → IsKept c.1 → (p : List Step) → Apart p c.0 → IsSpared (Some (node_edit_of block lead c)) p c.0
   spared_kept c h1 p h2 = search rules

@@ -13,14 +13,14 @@ use Rattle.yq_meaning.proofs.GoodPlaces.{AreSound, LeadsInto, LeadsSo, AreGood, 
 use Rattle.yq_meaning.proofs.ChildPlaces.{leads_none, leads_self}
 use Rattle.yq_plans.proofs.updates.StepPlaces.{leads_step}
 
-pub leads_select : (root : Node) (doc : ℕ) (c : Condition) → LeadsSo root (select_on doc c)
-leads_select root doc c p qs tree at h =
+-- what is so of a place alone and of none is so of what a condition keeps
+pub select_keeps : (R : List Place → Type 0) (doc : ℕ) (c : Condition) (p : Place) (qs : List Place) → R (p ∷ []) → R [] → select_on doc c p ≡ gives qs → R qs
+select_keeps R doc c p qs here none h =
     let x = then_gives (λ (b : Bool). gives (kept p b)) (holds doc c p) qs h in
-    subst (LeadsInto root p) (gives_same x.2) (go x.0)
-  where
-    go : (b : Bool) → LeadsInto root p (kept p b)
-    go true = leads_self root p p refl refl tree at
-    go false = leads_none root p
+    subst R (gives_same x.2) (elim x.0 as (λ b. R (kept p b)) [ true ↦ here | false ↦ none ])
+
+pub leads_select : (root : Node) (doc : ℕ) (c : Condition) → LeadsSo root (select_on doc c)
+leads_select root doc c p qs tree at h = select_keeps (LeadsInto root p) doc c p qs (leads_self root p p refl refl tree at) (leads_none root p) h
 
 -- what is so of places, and of those to which each step and each condition leads from such, is so of those to which a pipe leads
 pub pipe_keeps : (doc : ℕ) (R : List Place → Type 0) → ((s : Step) (ps qs : List Place) → R ps → for_each (step_on s) ps ≡ gives qs → R qs) →

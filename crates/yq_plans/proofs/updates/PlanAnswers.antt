@@ -23,8 +23,7 @@ update_holds (assign left op right ∷ us) zero u h at = let same : assign left 
 update_holds (delete left ∷ us) zero u h at = let same : delete left ≡ u = cc in subst (λ (v : Update). UpdatesHold (v ∷ [])) same tt
 update_holds (comment left place text ∷ us) zero u h at = let same : comment left place text ≡ u = cc in subst (λ (v : Update). UpdatesHold (v ∷ [])) same tt
 update_holds (assign left op right ∷ us) (suc n) u h at = update_holds us n u h.1 at
-update_holds (delete left ∷ us) (suc n) u h at = update_holds us n u h at
-update_holds (comment left place text ∷ us) (suc n) u h at = update_holds us n u h at
+update_holds (_ ∷ us) (suc n) u h at = update_holds us n u h at
 
 -- literals of an update of a program are values, where all of the program are
 pub literals_hold : (p : Program) (n : ℕ) (u : Update) → LiteralsHold p → update_at n p ≡ Some u → UpdatesHold (u ∷ [])

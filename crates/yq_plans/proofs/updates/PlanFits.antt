@@ -1,12 +1,11 @@
 -- Each operation of a plan fits at its turn.
-use Rattle.std.proofs.Common.{◌≡◌, ℕ, suc, Bool, true, false, cond, List, [], ◌∷◌, ◌++◌, length, reverse, Some, refl, sym, ap, subst, ◌∙◌, inl, inr, append_assoc, arith, length-append, rules}
+use Rattle.std.proofs.Common.{◌≡◌, ℕ, suc, Bool, true, false, List, [], ◌∷◌, ◌++◌, length, reverse, Some, refl, sym, ap, subst, ◌∙◌, append_assoc, arith, length-append, rules}
 use Rattle.std.specs.List.{slice_get}
 use Rattle.yq_flow_scalars.specs.Tree.{Node}
 use Rattle.yq_documents.specs.Documents.{Document}
-use Rattle.yq_meaning.specs.declared.refusal.Refusal.TheVariants.{BadCommentText}
-use Rattle.yq_meaning.specs.Judgement.{and_then, gives, refuses}
+use Rattle.yq_meaning.specs.Judgement.{and_then, gives}
 use Rattle.yq_meaning.specs.After.{root_after, done_to, after_op, all_after}
-use Rattle.yq_meaning.specs.Changes.{Changed, Room, created, changes_in, has_comment, changes_from, changes_of}
+use Rattle.yq_meaning.specs.Changes.{Changed, Room, created, changes_in, has_comment, changes_from}
 use Rattle.yq_meaning.specs.Fits.{FitsRoot, AllFit}
 use Rattle.yq_meaning.specs.Meaning.{changed_at_once, roots_of, AreReady}
 use Rattle.yq_meaning.specs.Operations.{Operation}
@@ -15,10 +14,10 @@ use Rattle.yq_flow_scalars.specs.PathOrder.{Before}
 use Rattle.yq_program.specs.Program.{UpdatesHold, Update}
 use Rattle.yq_plans.proofs.updates.FitsInOrder.{AllFitRoot, all_fit, AreFit}
 use Rattle.yq_plans.proofs.updates.Folds.{InPairs, IsGone, AreGone, MayFold}
-use Rattle.yq_plans.proofs.updates.RootLeads.{document_after, document_folds, AllKeepSome, op_any_lead, PutsOrKeeps, puts_or_keeps, KeepsSome}
+use Rattle.yq_plans.proofs.updates.RootLeads.{document_after, document_folds, AllKeepSome, op_any_lead, puts_or_keeps, KeepsSome}
 use Rattle.yq_meaning.proofs.JudgementLaws.{then_gives, gives_same}
 use Rattle.yq_plans.proofs.updates.Planned.{AreOrdered, update_ordered, removal_first}
-use Rattle.yq_plans.proofs.updates.PlanMeans.{AreOf, ops_are_of, after_at, all_after_at}
+use Rattle.yq_plans.proofs.updates.PlanMeans.{AreOf, ops_are_of, after_at, all_after_at, plan_parts}
 use Rattle.yq_plans.proofs.updates.FitChanges.{update_fit}
 use Rattle.yq_plans.proofs.updates.Each.{Each, each_op, each_reverse, each_weaker}
 
@@ -51,11 +50,7 @@ any_fit block lead room (op ∷ ops) d l h =
 document_fits : (block : Bool) (room : Room) (doc : ℕ) (d : Document) (removal : Bool) (cs : List Changed) → InPairs Before cs → MayFold removal cs → AllFitRoot block d.lead room (ops_of doc (ordered removal cs)) d.root →
     AllFitDocument block room (ops_of doc (ordered removal cs)) d
 document_fits block room doc d true cs p k h = any_fit block d.lead room (ops_of doc (reverse cs)) d (all_gone_any block doc (reverse cs) (each_reverse (λ (c : Changed). IsGone c.1) cs k)) h
-document_fits block room doc d false cs p k h = go (puts_or_keeps doc cs p k) h
-  where
-    go : PutsOrKeeps doc cs → AllFitRoot block d.lead room (ops_of doc cs) d.root → AllFitDocument block room (ops_of doc cs) d
-    go (inl x) f = subst (λ (xs : List Changed). AllFitRoot block d.lead room (ops_of doc xs) d.root → AllFitDocument block room (ops_of doc xs) d) (sym x.1) (λ e. (e.0, tt)) f
-    go (inr l) f = any_fit block d.lead room (ops_of doc cs) d (leave_any block (ops_of doc cs) l) f
+document_fits block room doc d false cs p k h = search (rules, any_fit, all_gone_any, each_reverse, puts_or_keeps, leave_any)
 
 -- ---- on documents
 
@@ -102,9 +97,4 @@ from_fits u rooms n (d ∷ ds) front css is ready pure good h =
 -- each operation of a plan fits at its turn
 pub plan_fits : (u : Update) (rooms : ℕ → Room) (docs : List Document) (ops : List Operation) → AreReady rooms 0 docs → UpdatesHold (u ∷ []) → plan u rooms docs ≡ gives ops → AllFit rooms ops docs
 plan_fits u rooms docs ops ready pure h =
-    let x = then_gives (λ (css : List (List Changed)). gives (all_ops (is_removal u) 0 css)) (changes_of u rooms (roots_of docs)) ops h in
-    subst (λ (os : List Operation). AllFit rooms os docs) (gives_same x.2) (go (has_comment u) refl x.0 x.1)
-  where
-    go : (b : Bool) → has_comment u ≡ b → (css : List (List Changed)) → cond b (changes_from u rooms 0 (roots_of docs)) (refuses BadCommentText) ≡ gives css → AllFit rooms (all_ops (is_removal u) 0 css) docs
-    go true good css e = from_fits u rooms 0 docs [] css refl ready pure good e
-    go false good css e = absurd (cc)
+    let x = plan_parts u rooms docs ops h in subst (λ (os : List Operation). AllFit rooms os docs) x.4 (from_fits u rooms 0 docs [] x.0 refl ready pure x.1 x.2)

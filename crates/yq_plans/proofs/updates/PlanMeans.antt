@@ -1,10 +1,10 @@
 -- What is planned leads to what is meant.
-use Rattle.std.proofs.Common.{◌≡◌, ℕ, suc, Bool, true, false, cond, List, [], ◌∷◌, ◌++◌, length, map, refl, sym, ap, subst, ◌∙◌, append_assoc, arith, length-append, rules}
+use Rattle.std.proofs.Common.{◌≡◌, ℕ, suc, true, List, [], ◌∷◌, ◌++◌, length, map, refl, sym, ap, subst, ◌∙◌, inl, inr, append_assoc, arith, length-append, rules}
 use Rattle.yq_flow_scalars.specs.Paths as paths
+use Rattle.yq_flow_scalars.proofs.Bools.{chosen}
 use Rattle.yq_documents.specs.Documents.{Document}
 use Rattle.yq_program.specs.declared.program.CommentPlace.TheVariants as comments
 use Rattle.yq_meaning.specs.declared.refusal.Refusal.{Refusal}
-use Rattle.yq_meaning.specs.declared.refusal.Refusal.TheVariants.{BadCommentText}
 use Rattle.yq_meaning.specs.Judgement.{Judgement, and_then, gives, refuses}
 use Rattle.yq_meaning.specs.After.{document_of, done_to, after_op, all_after}
 use Rattle.yq_meaning.specs.Changes.{Addition, appends, overwrites, replaces, adds, sets_comment, Changed, Room, has_comment, changes_in, changes_from, changes_of}
@@ -78,17 +78,21 @@ from_means u rooms n (d ∷ ds) front css is ready h =
     ∙ (from_means u rooms (suc n) ds (front ++ new ∷ []) two.0 longer ready.1 two.1
     ∙ append_assoc front (new ∷ []) (all_changed rooms (suc n) two.0 ds))))
 
+-- a plan comes of changes, where a comment's text may stand
+pub plan_parts : (u : Update) (rooms : ℕ → Room) (docs : List Document) (ops : List Operation) → plan u rooms docs ≡ gives ops →
+    (css : List (List Changed)) × (has_comment u ≡ true)
+    × (changes_from u rooms 0 (roots_of docs) ≡ gives css) × (changes_of u rooms (roots_of docs) ≡ gives css) × (all_ops (is_removal u) 0 css ≡ ops)
+plan_parts u rooms docs ops h =
+    let x = then_gives (λ (css : List (List Changed)). gives (all_ops (is_removal u) 0 css)) (changes_of u rooms (roots_of docs)) ops h in
+    elim (chosen (has_comment u) x.1) [ inl c ↦ (x.0, c.0, c.1, x.1, gives_same x.2) | inr c ↦ absurd (let e = c.1 in cc) ]
+
 -- the operations of a plan, one after the other, make what the update means
 pub plan_means : (u : Update) (rooms : ℕ → Room) (docs : List Document) (ops : List Operation) → AreReady rooms 0 docs → plan u rooms docs ≡ gives ops → meaning u rooms docs ≡ gives (all_after rooms ops docs)
 plan_means u rooms docs ops ready h =
-    let x = then_gives (λ (css : List (List Changed)). gives (all_ops (is_removal u) 0 css)) (changes_of u rooms (roots_of docs)) ops h in
-    ap (and_then (λ css. gives (all_changed rooms 0 css docs))) x.1
-    ∙ (ap (λ (ds : List Document). gives ds) (sym (from_means u rooms 0 docs [] x.0 refl ready (judged (has_comment u) x.0 x.1)))
-    ∙ ap (λ (os : List Operation). gives (all_after rooms os docs)) (gives_same x.2))
-  where
-    judged : (b : Bool) (css : List (List Changed)) → cond b (changes_from u rooms 0 (roots_of docs)) (refuses BadCommentText) ≡ gives css → changes_from u rooms 0 (roots_of docs) ≡ gives css
-    judged true css e = e
-    judged false css e = absurd (cc)
+    let x = plan_parts u rooms docs ops h in
+    ap (and_then (λ css. gives (all_changed rooms 0 css docs))) x.3
+    ∙ (ap (λ (ds : List Document). gives ds) (sym (from_means u rooms 0 docs [] x.0 refl ready x.2))
+    ∙ ap (λ (os : List Operation). gives (all_after rooms os docs)) x.4)
 
 -- what comes of both steps, where the second one gives something, refuses as the first
 then_refuses : {A B C : Type 0} (f : A → B) (g : A → C) (j : Judgement A) (why : Refusal) → and_then (λ x. gives (f x)) j ≡ refuses why → and_then (λ x. gives (g x)) j ≡ refuses why

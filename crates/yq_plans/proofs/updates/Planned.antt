@@ -1,21 +1,21 @@
 -- What an update changes stands in order.
-use Rattle.std.proofs.Common.{◌≡◌, ◌≢◌, ℕ, Bool, true, false, cond, ◌&&◌, List, [], ◌∷◌, ◌++◌, refl, sym, ap, subst, ◌∙◌, rules}
+use Rattle.std.proofs.lemmas.Bool.{cases_Bool}
+use Rattle.std.proofs.Common.{◌≡◌, ◌≢◌, ℕ, Bool, true, List, [], ◌∷◌, ◌++◌, refl, sym, ap, subst, ◌∙◌, rules}
 use Rattle.yq_flow_scalars.specs.Tree as tree
 use Rattle.yq_flow_scalars.specs.Tree.{Node, Children, none, child, children_of}
 use Rattle.yq_flow_scalars.specs.Paths as paths
 use Rattle.yq_program.specs.declared.program.CommentPlace.{CommentPlace}
 use Rattle.yq_program.specs.declared.program.Operator.TheVariants as operator
-use Rattle.yq_meaning.specs.declared.refusal.Refusal.TheVariants.{NoPlaceForComment}
-use Rattle.yq_meaning.specs.Judgement.{Judgement, and_then, gives, refuses}
+use Rattle.yq_meaning.specs.Judgement.{Judgement, and_then, gives}
 use Rattle.yq_program.specs.Program.{Step, Term, Update, assign, delete, comment}
-use Rattle.yq_meaning.specs.Changes.{Change, sets_comment, Changed, Room, created, put_below, put_at, added_entries, added, add_below, add_at, remove_below, remove_at, is_there, comment_at}
+use Rattle.yq_meaning.specs.Changes.{Change, Changed, Room, put_below, put_at, added, add_at, remove_at, comment_at}
 use Rattle.yq_meaning.specs.Changes.{allowed, all_allowed, at_each, with_value, changes_at, left_of, changes_in}
 use Rattle.yq_meaning.specs.NodeEdits.{step_to}
 use Rattle.yq_meaning.specs.Pipes.{places}
 use Rattle.yq_meaning.specs.Places.{Place, root_place, for_each}
 use Rattle.yq_meaning.specs.PlacesApart.{IsBeforeAll, AreApart}
 use Rattle.yq_meaning.specs.Plans.{is_removal}
-use Rattle.yq_meaning.specs.RightValues.{is_null, right_value}
+use Rattle.yq_meaning.specs.RightValues.{right_value}
 use Rattle.yq_flow_scalars.specs.PathOrder.{Before}
 use Rattle.yq_flow_scalars.specs.Shapes.{IsTree}
 use Rattle.yq_plans.proofs.updates.Folds.{ToEach, InPairs, AllAre, IsGone, IsWritten, IsSaid, IsOf, MayFold, of_may_fold}
@@ -86,51 +86,26 @@ at_ordered root P f so ps cs a h = each_ordered P (λ p. and_then (all_allowed r
 single : (P : Change → Type 0) (p : Place) (c : Change) (cs : List Changed) → P c → gives ((p.path, c) ∷ []) ≡ gives cs → FromPlace P p cs
 single P p c cs k h = subst (FromPlace P p) (gives_same h) (refl, (k, tt))
 
-created_written : (n : Node) (m : Step) (ms : List Step) (v : Node) → IsWritten (created n m ms v)
-created_written n m ms v = search rules
-
 put_written : (n : Node) (missing : List Step) (v : Node) (c : Change) → put_below n missing v ≡ gives c → IsWritten c
-put_written n missing v c h1 = search (rules, gives_same, created_written)
+put_written n missing v c h1 = search (rules, gives_same)
 
 put_so : (v : Node) → IsSo IsWritten (λ p. put_at p v)
-put_so v p cs h =
-    let x = then_gives (λ (c : Change). gives ((p.path, c) ∷ [])) (put_below p.node p.missing v) cs h in
-    single IsWritten p x.0 cs (put_written p.node p.missing v x.0 x.1) x.2
+put_so v p cs h = search (rules, then_gives, single, put_written)
 
 modify_so : (doc : ℕ) (right : List Term) → IsSo IsWritten (λ p. and_then (put_at p) (right_value doc right p))
 modify_so doc right p cs h = let x = then_gives (put_at p) (right_value doc right p) cs h in put_so x.0 p cs x.2
 
-entries_written : (cs : Children) (v : Node) (c : Change) → added_entries cs v ≡ gives c → IsWritten c
-entries_written cs v c h1 = search (rules, gives_same)
-
 added_written : (n v : Node) (c : Change) → added n v ≡ gives c → IsWritten c
-added_written n v c h1 = search (rules, then_gives, gives_same, entries_written)
+added_written n v c h1 = search (rules, then_gives, gives_same)
 
 add_so : (v : Node) → IsSo IsWritten (λ p. add_at p v)
-add_so v p cs h = go (is_null v) h
-  where
-    below : (missing : List Step) → add_below missing p v ≡ gives cs → FromPlace IsWritten p cs
-    below [] e = let x = then_gives (λ (c : Change). gives ((p.path, c) ∷ [])) (added p.node v) cs e in single IsWritten p x.0 cs (added_written p.node v x.0 x.1) x.2
-    below (m ∷ ms) e = put_so v p cs e
-
-    go : (b : Bool) → cond b (gives []) (add_below p.missing p v) ≡ gives cs → FromPlace IsWritten p cs
-    go true e = subst (FromPlace IsWritten p) (gives_same e) (tt, tt)
-    go false e = below p.missing e
+add_so v p cs h = search (rules, then_gives, single, added_written, put_so, gives_same, cases_Bool)
 
 remove_so : IsSo IsGone remove_at
-remove_so p cs h = go p.missing p.path refl h
-  where
-    go : (missing : List Step) (x : List paths.Step) → x ≡ p.path → remove_below missing x ≡ gives cs → FromPlace IsGone p cs
-    go (m ∷ ms) x is e = subst (FromPlace IsGone p) (gives_same e) (tt, tt)
-    go [] [] is e = absurd (cc)
-    go [] (s ∷ x) is e = subst (FromPlace IsGone p) (gives_same e) (is, (tt, tt))
+remove_so p cs h = search (rules, gives_same)
 
 say_so : (room : Room) (place : CommentPlace) (text : List ℕ) → IsSo IsSaid (comment_at room place text)
-say_so room place text p cs h = go (is_there p.missing && room.has place p.path) h
-  where
-    go : (b : Bool) → cond b (gives ((p.path, sets_comment place text) ∷ [])) (refuses NoPlaceForComment) ≡ gives cs → FromPlace IsSaid p cs
-    go true e = single IsSaid p (sets_comment place text) cs tt e
-    go false e = absurd (cc)
+say_so room place text p cs h = search (rules, single, cases_Bool)
 
 -- ---- of an update
 
@@ -163,15 +138,11 @@ update_ordered u doc room root cs tree h = let k = update_kind u doc room root c
 
 -- ---- what is first
 
-none_later : (s : paths.Step) (cs : List Changed) → NoneAt s cs → NoneLater s cs
-none_later s [] h = tt
-none_later s (c ∷ cs) h = h.1
-
 one_none : (s : paths.Step) (p : List paths.Step) (cs : List Changed) → p ≢ s ∷ [] → AtOne p cs → NoneAt s cs
 one_none s p cs h1 h2 = search rules
 
 one_later : (s : paths.Step) (p : List paths.Step) (cs ds : List Changed) → AtOne p cs → NoneAt s ds → NoneLater s (cs ++ ds)
-one_later s p cs ds h1 h2 = search (rules, none_later)
+one_later s p cs ds h1 h2 = search rules
 
 each_none : (P : Change → Type 0) (f : Place → Judgement (List Changed)) → IsSo P f → (s : paths.Step) (ps : List Place) (cs : List Changed) → NoPlaceAt s ps → for_each f ps ≡ gives cs → NoneAt s cs
 each_none P f so s ps cs n h = each_given (NoPlaceAt s) (λ (c : Changed). c.0 ≢ s ∷ []) f (λ p more none. ((λ ds e. one_none s p.path ds none.0 (so p ds e).0), none.1)) ps cs n h
@@ -183,8 +154,6 @@ each_later P f so s (p ∷ ps) cs n h =
 
 -- of what is removed, the first item or entry of the root comes first
 pub removal_first : (u : Update) (doc : ℕ) (room : Room) (root : Node) (cs : List Changed) → is_removal u ≡ true → IsTree root → changes_in u doc room root ≡ gives cs → IsFirst root cs
-removal_first (assign left op right) doc room root cs is tree h = absurd (cc)
-removal_first (comment left place text) doc room root cs is tree h = absurd (cc)
 removal_first (delete left) doc room root cs is tree h =
     let x = then_gives (λ ps. at_each root remove_at ps) (places doc left root) cs h in
     go (children_of root) refl (λ s first. each_later IsGone (λ p. and_then (all_allowed root) (remove_at p)) (each_so root IsGone remove_at remove_so) s x.0 cs (places_first doc left root x.0 s tree first x.1) x.2)
@@ -192,3 +161,4 @@ removal_first (delete left) doc room root cs is tree h =
     go : (kids : Children) → children_of root ≡ kids → ((s : paths.Step) → IsFirstStep root s → NoneLater s cs) → IsFirst root cs
     go none is later = subst (λ (k : Children). FirstIn k cs) (sym is) tt
     go (child label n ds) is later = subst (λ (k : Children). FirstIn k cs) (sym is) (later (step_to 0 label) (label, n, ds, is, refl))
+removal_first _ doc room root cs is tree h = absurd (cc)

@@ -1,5 +1,5 @@
 -- Copies are trees without aliases.
-use Rattle.std.proofs.Common.{◌≡◌, ℕ, ◌⊎◌, List, [], ◌∷◌, Option, Some, None, refl, sym, ap, subst, ◌∙◌, inl, inr}
+use Rattle.std.proofs.Common.{◌≡◌, ℕ, List, [], ◌∷◌, Option, Some, None, refl, sym, ap, subst, ◌∙◌, rules}
 use Rattle.yq_flow_scalars.specs.Shapes.{IsNew, AreItems, AreEntries, IsTree, AreTrees}
 use Rattle.yq_flow_scalars.specs.Tree as tree
 use Rattle.yq_flow_scalars.specs.Tree.{Label, Node, alias, scalar, list, Children, none, child}
@@ -12,16 +12,12 @@ use Rattle.yq_meaning.proofs.JudgementLaws.{then_gives, gives_same}
 abbrev pub HaveNoAlias : Children → Type 0
 HaveNoAlias cs = (a : List ℕ) → AnyMentions a cs → ⊥
 
-pub either_of : {A B : Type 0} → (A → ⊥) → (B → ⊥) → A ⊎ B → ⊥
-either_of f g (inl a) = f a
-either_of f g (inr b) = g b
-
 -- items or entries whose nodes are trees without aliases
 abbrev pub AreFree : Children → Type 0
 AreFree cs = AreTrees cs × HaveNoAlias cs
 
 pub free_child : (label : Label) (n : Node) (cs : Children) → IsPure n → AreFree cs → AreFree (child label n cs)
-free_child label n cs p f = ((p.0, f.0), λ a m. either_of (p.1 a) (f.1 a) m)
+free_child label n cs p f = search rules
 
 items_are : (vs : List Node) → AreItems (items vs)
 items_are [] = tt
@@ -36,10 +32,7 @@ abbrev First : Label → Node → Children → List (List ℕ × Node) → Type 
 First label n cs es = (v : Node) × (rest : List (List ℕ × Node)) × (copy n ≡ gives v) × (entry_copies cs ≡ gives rest) × ((keyed label.key v ∷ rest) ≡ es)
 
 first_copy : (label : Label) (n : Node) (cs : Children) (es : List (List ℕ × Node)) → entry_copies (child label n cs) ≡ gives es → First label n cs es
-first_copy label n cs es h =
-    let x = then_gives (λ (v : Node). and_others (entry_copies cs) (keyed label.key v)) (copy n) es h in
-    let y = then_gives (λ (rest : List (List ℕ × Node)). gives (keyed label.key x.0 ∷ rest)) (entry_copies cs) es x.2 in
-    (x.0, y.0, x.1, y.1, gives_same y.2)
+first_copy label n cs es h = search (rules, then_gives, gives_same)
 
 entries_new : (k : List ℕ) (cs : Children) (es : List (List ℕ × Node)) → AreEntries cs → IsNew k cs → entry_copies cs ≡ gives es → IsNew k (entries es)
 entries_new k none es t new h = subst (λ (fs : List (List ℕ × Node)). IsNew k (entries fs)) (gives_same h) tt

@@ -1,27 +1,26 @@
 -- The room that the operations of a plan ask for lasts.
-use Rattle.std.proofs.Common.{◌≡◌, ◌<◌, ◌⊎◌, ℕ, suc, Bool, true, false, cond, List, [], ◌∷◌, ◌++◌, map, option_and_then, Some, refl, sym, subst, ◌∙◌, inl, inr, arith, rules}
+use Rattle.std.proofs.Common.{◌≡◌, ◌<◌, ◌⊎◌, ℕ, suc, Bool, List, [], ◌∷◌, ◌++◌, map, option_and_then, refl, sym, subst, ◌∙◌, inl, inr, arith, rules}
 use Rattle.std.proofs.lemmas.Option.{same_Some}
 use Rattle.yq_flow_scalars.specs.PathOrder.{Before}
-use Rattle.yq_flow_scalars.specs.Paths.{Step, node_at}
-use Rattle.yq_flow_scalars.specs.Tree.{Node, children_of}
+use Rattle.yq_flow_scalars.specs.Paths.{Step}
+use Rattle.yq_flow_scalars.specs.Tree.{Node}
 use Rattle.yq_documents.specs.Documents.{Document}
 use Rattle.yq_program.specs.declared.program.CommentPlace.TheVariants as comments
-use Rattle.yq_meaning.specs.declared.refusal.Refusal.TheVariants.{BadCommentText}
 use Rattle.yq_meaning.specs.After.{document_of, after_op}
 use Rattle.yq_meaning.specs.Changes as changes
-use Rattle.yq_meaning.specs.Changes.{Addition, appends, overwrites, replaces, adds, sets_comment, Changed, Room, changes_in, has_comment, changes_from, changes_of}
-use Rattle.yq_meaning.specs.Fits.{IsBelow, AllFit}
-use Rattle.yq_meaning.specs.Judgement.{and_then, gives, refuses}
+use Rattle.yq_meaning.specs.Changes.{Addition, appends, overwrites, replaces, adds, sets_comment, Changed, Room, changes_in, changes_from}
+use Rattle.yq_meaning.specs.Fits.{AllFit}
+use Rattle.yq_meaning.specs.Judgement.{and_then, gives}
 use Rattle.yq_meaning.specs.Meaning.{roots_of, AreReady}
-use Rattle.yq_meaning.specs.Operations.{Operation, replace, append, remove, line_comment, head_comment}
+use Rattle.yq_meaning.specs.Operations.{Operation, remove}
 use Rattle.yq_meaning.specs.Plans.{add_op, ops_of, is_removal, ordered, all_ops, plan}
-use Rattle.yq_program.specs.Program.{UpdatesHold, Update, assign, delete, comment}
-use Rattle.yq_meaning.specs.RoomsKept.{HasSome, KeepsBlock, KeepsBlockIn, NoneOn, BlockLasts, SetComments, SetNoComment, RoomsLast, MayFollow}
+use Rattle.yq_program.specs.Program.{UpdatesHold, Update, comment}
+use Rattle.yq_meaning.specs.RoomsKept.{KeepsBlock, KeepsBlockIn, NoneOn, BlockLasts, SetComments, SetNoComment, MayFollow}
 use Rattle.yq_meaning.proofs.JudgementLaws.{then_gives, gives_same}
 use Rattle.yq_plans.proofs.updates.Folds.{InPairs, AllAre, AreGone, IsWritten, IsSaid, IsOf, MayFold, of_may_fold}
 use Rattle.yq_plans.proofs.updates.Planned.{update_kind}
 use Rattle.yq_plans.proofs.updates.PlanFits.{plan_fits}
-use Rattle.yq_plans.proofs.updates.PlanMeans.{AreOf, ops_are_of}
+use Rattle.yq_plans.proofs.updates.PlanMeans.{AreOf, ops_are_of, plan_parts}
 use Rattle.yq_plans.proofs.updates.RootLeads.{KeepsSome, AllKeepSome, puts_or_keeps}
 use Rattle.yq_plans.proofs.updates.Each.{each_reverse}
 
@@ -32,23 +31,16 @@ some_keeps_block op h1 root = search rules
 
 -- an operation removes something, and the next one does too, in the same document
 abbrev RemovesMore : Operation → List Operation → Type 0
-RemovesMore (replace doc path v) ops = ⊥
-RemovesMore (append doc path k v) ops = ⊥
 RemovesMore (remove doc path) ops = (q : List Step) × (rest : List Operation) × (ops ≡ remove doc q ∷ rest)
-RemovesMore (line_comment doc path text) ops = ⊥
-RemovesMore (head_comment doc path text) ops = ⊥
+RemovesMore _ ops = ⊥
 
 -- each operation leaves items and entries, or is the last one of its document, or removes what isn't the last
 abbrev KeepBlocks : List Operation → Type 0
 KeepBlocks [] = Unit {0}
 KeepBlocks (op ∷ ops) = (KeepsSome op ⊎ (NoneOn (document_of op) ops ⊎ RemovesMore op ops)) × KeepBlocks ops
 
--- where a path leads below a root, there are items or entries
-some_below : (path : List Step) (root n : Node) → IsBelow path → node_at path root ≡ Some n → HasSome (children_of root)
-some_below path root n h1 h2 = search (rules, option_and_then)
-
 removes_keeps : (rooms : ℕ → Room) (op : Operation) (ops : List Operation) (docs : List Document) → RemovesMore op ops → AllFit rooms ops docs → KeepsBlockIn op docs
-removes_keeps rooms op ops docs h1 h2 = search (rules, same_Some, some_below)
+removes_keeps rooms op ops docs h1 h2 = search (rules, same_Some, option_and_then)
 
 keep_last : (rooms : ℕ → Room) (ops : List Operation) (docs : List Document) → KeepBlocks ops → AllFit rooms ops docs → BlockLasts rooms ops docs
 keep_last rooms [] docs t f = tt
@@ -83,15 +75,11 @@ keep_leave (op ∷ ops) others l t = (inl l.0, keep_leave ops others l.1 t)
 
 keep_gone : (n : ℕ) (cs : List Changed) (others : List Operation) → AreGone cs → NoneOn n others → KeepBlocks others → KeepBlocks (ops_of n cs ++ others)
 keep_gone n [] others g away t = t
-keep_gone n ((p, replaces v) ∷ cs) others g away t = absurd g.0
-keep_gone n ((p, adds xs) ∷ cs) others g away t = absurd g.0
 keep_gone n ((p, changes.removes) ∷ []) others g away t = (inr (inl away), t)
-keep_gone n ((p, changes.removes) ∷ ((q, replaces v) ∷ cs)) others g away t = absurd g.1.0
-keep_gone n ((p, changes.removes) ∷ ((q, adds xs) ∷ cs)) others g away t = absurd g.1.0
 keep_gone n ((p, changes.removes) ∷ ((q, changes.removes) ∷ cs)) others g away t =
     (inr (inr (q, ops_of n cs ++ others, refl)), keep_gone n ((q, changes.removes) ∷ cs) others g.1 away t)
-keep_gone n ((p, changes.removes) ∷ ((q, sets_comment place text) ∷ cs)) others g away t = absurd g.1.0
-keep_gone n ((p, sets_comment place text) ∷ cs) others g away t = absurd g.0
+keep_gone n ((p, changes.removes) ∷ (q, _) ∷ cs) others g away t = absurd g.1.0
+keep_gone n ((p, _) ∷ cs) others g away t = absurd g.0
 
 document_keep : (removal : Bool) (n : ℕ) (cs : List Changed) (others : List Operation) → InPairs Before cs → MayFold removal cs → NoneOn n others → KeepBlocks others → KeepBlocks (ops_of n (ordered removal cs) ++ others)
 document_keep removal n cs others h1 h2 h3 h4 = search (rules, keep_gone, each_reverse, puts_or_keeps, keep_leave)
@@ -115,29 +103,23 @@ written_no : (n : ℕ) (cs : List Changed) → AllAre IsWritten cs → SetNoComm
 written_no n [] h = tt
 written_no n ((p, replaces v) ∷ cs) h = ((λ k. k), written_no n cs h.1)
 written_no n ((p, adds xs) ∷ cs) h = no_join (map (add_op n p) xs) (ops_of n cs) (adds_no n p xs) (written_no n cs h.1)
-written_no n ((p, changes.removes) ∷ cs) h = absurd h.0
-written_no n ((p, sets_comment place text) ∷ cs) h = absurd h.0
+written_no n ((p, _) ∷ cs) h = absurd h.0
 
 gone_no : (n : ℕ) (cs : List Changed) → AreGone cs → SetNoComment (ops_of n cs)
 gone_no n [] h = tt
-gone_no n ((p, replaces v) ∷ cs) h = absurd h.0
-gone_no n ((p, adds xs) ∷ cs) h = absurd h.0
 gone_no n ((p, changes.removes) ∷ cs) h = ((λ k. k), gone_no n cs h.1)
-gone_no n ((p, sets_comment place text) ∷ cs) h = absurd h.0
+gone_no n ((p, _) ∷ cs) h = absurd h.0
 
 said_set : (n : ℕ) (cs : List Changed) → AllAre IsSaid cs → SetComments (ops_of n cs)
 said_set n [] h = tt
-said_set n ((p, replaces v) ∷ cs) h = absurd h.0
-said_set n ((p, adds xs) ∷ cs) h = absurd h.0
-said_set n ((p, changes.removes) ∷ cs) h = absurd h.0
 said_set n ((p, sets_comment comments.Line text) ∷ cs) h = (tt, said_set n cs h.1)
 said_set n ((p, sets_comment comments.Head text) ∷ cs) h = (tt, said_set n cs h.1)
+said_set n ((p, _) ∷ cs) h = absurd h.0
 
 -- what the operations of an update say of comments
 abbrev Say : Update → List Operation → Type 0
-Say (assign left operator right) ops = SetNoComment ops
-Say (delete left) ops = SetNoComment ops
 Say (comment left place text) ops = SetComments ops
+Say _ ops = SetNoComment ops
 
 say_none : (u : Update) → Say u []
 say_none u = search rules
@@ -162,18 +144,6 @@ from_keep u rooms n (d ∷ ds) css ready h =
     subst (λ (xs : List (List Changed)). KeepBlocks (all_ops (is_removal u) n xs) × Say u (all_ops (is_removal u) n xs)) (gives_same two.2)
     (document_keep (is_removal u) n one.0 others kind.0 (of_may_fold u one.0 kind.1) (none_before (is_removal u) n (suc n) two.0 (omega arith)) rest.0, say_join u n one.0 others kind.1 rest.1)
 
--- the room that the operations of a plan ask for lasts, where each fits at its turn
-rooms_last : (u : Update) (rooms : ℕ → Room) (docs : List Document) (ops : List Operation) → AreReady rooms 0 docs → plan u rooms docs ≡ gives ops → AllFit rooms ops docs → RoomsLast rooms ops docs
-rooms_last u rooms docs ops ready h fit =
-    let x = then_gives (λ (css : List (List Changed)). gives (all_ops (is_removal u) 0 css)) (changes_of u rooms (roots_of docs)) ops h in
-    let y = subst (λ (os : List Operation). KeepBlocks os × Say u os) (gives_same x.2) (go (has_comment u) x.0 x.1) in
-    record { block = keep_last rooms ops docs y.0 fit; comments = say_alone u ops y.1 }
-  where
-    go : (b : Bool) (css : List (List Changed)) → cond b (changes_from u rooms 0 (roots_of docs)) (refuses BadCommentText) ≡ gives css → KeepBlocks (all_ops (is_removal u) 0 css) × Say u (all_ops (is_removal u) 0 css)
-    go true css e = from_keep u rooms 0 docs css ready e
-    go false css e = absurd (cc)
-
 -- the operations of a plan may follow one another
 pub plan_follows : (u : Update) (rooms : ℕ → Room) (docs : List Document) (ops : List Operation) → AreReady rooms 0 docs → UpdatesHold (u ∷ []) → plan u rooms docs ≡ gives ops → MayFollow rooms ops docs
-plan_follows u rooms docs ops ready holds h =
-    let fit : AllFit rooms ops docs = plan_fits u rooms docs ops ready holds h in record { fit = fit; last = rooms_last u rooms docs ops ready h fit }
+plan_follows u rooms docs ops ready holds h = search (rules, plan_fits, plan_parts, from_keep, keep_last, say_alone)

@@ -9,13 +9,13 @@ use Rattle.yq_documents.specs.Documents.{Document}
 use Rattle.yq_program.specs.declared.program.CommentPlace.TheVariants as comments
 use Rattle.yq_meaning.specs.After.{root_after, done_to}
 use Rattle.yq_meaning.specs.Changes.{Addition, appends, overwrites, replaces, adds, sets_comment, Changed}
-use Rattle.yq_meaning.specs.NodeEdits.{NodeEdits, same_path, step_to, each_at_once, at_once}
+use Rattle.yq_meaning.specs.NodeEdits.{NodeEdits, same_path, step_to, at_once}
 use Rattle.yq_meaning.specs.Meaning.{head_of, line_of, node_edit_of, changed_at_once, IsLed}
 use Rattle.yq_meaning.specs.Operations.{Operation, replace, append, remove, line_comment, head_comment}
 use Rattle.yq_meaning.specs.Plans.{add_op, change_ops, ops_of, ordered}
 use Rattle.yq_flow_scalars.specs.PathOrder.{Before}
 use Rattle.yq_flow_scalars.specs.Shapes.{IsTree}
-use Rattle.yq_documents.specs.TreeEdits.{replaced, at_end, with_line_comment, with_head_comment, led, lead_by, with_tree, new_label}
+use Rattle.yq_documents.specs.TreeEdits.{replaced, at_end, with_line_comment, with_head_comment, lead_by, with_tree, new_label}
 use Rattle.yq_meaning.specs.Changes as changes
 use Rattle.yq_plans.proofs.updates.AtOnce.{one_more}
 use Rattle.yq_plans.proofs.updates.Spares.{idle, spares_root}
@@ -42,10 +42,8 @@ IsNone (child label n cs) = ⊥
 -- an operation that leaves items or entries, if there are any, and asks for no lead
 abbrev pub KeepsSome : Operation → Type 0
 KeepsSome (replace doc path v) = (s : Step) × (p : List Step) × (path ≡ s ∷ p)
-KeepsSome (append doc path k v) = Unit {0}
 KeepsSome (remove doc path) = ⊥
-KeepsSome (line_comment doc path text) = Unit {0}
-KeepsSome (head_comment doc path text) = Unit {0}
+KeepsSome _ = Unit {0}
 
 abbrev pub AllKeepSome : List Operation → Type 0
 AllKeepSome ops = Each KeepsSome ops
@@ -83,12 +81,8 @@ ops_leave : (block : Bool) (lead : List (List ℕ)) (ops : List Operation) → A
 ops_leave block lead [] l n h = h
 ops_leave block lead (op ∷ ops) l n h = op_keeps_some block lead op l.0 n (ops_leave block lead ops l.1 (root_after block lead op n) h)
 
-led_under : (block : Bool) (lead other : List (List ℕ)) (p : List Step) (v : Node) → ((s : Step) × (q : List Step) × (p ≡ s ∷ q)) → led block lead p v ≡ led block other p v
-led_under block lead other [] v l = absurd (nil≢cons l.2)
-led_under block lead other (s ∷ p) v l = refl
-
 pub op_any_lead : (block : Bool) (lead other : List (List ℕ)) (op : Operation) → KeepsSome op → (n : Node) → root_after block lead op n ≡ root_after block other op n
-op_any_lead block lead other op h1 n = search (rules, led_under)
+op_any_lead block lead other op h1 n = search rules
 
 ops_any_lead : (block : Bool) (lead other : List (List ℕ)) (ops : List Operation) → AllKeepSome ops → (n : Node) → roots_after block lead ops n ≡ roots_after block other ops n
 ops_any_lead block lead other [] l n = refl
@@ -135,9 +129,8 @@ first_below [] q h = absurd h
 first_below (s ∷ p) q h = (s, p, refl)
 
 second_below : (p q : List Step) → Before p q → (s : Step) × (r : List Step) × (q ≡ s ∷ r)
-second_below [] q h = absurd h
-second_below (t ∷ p) [] h = absurd h
 second_below (t ∷ p) (s ∷ q) h = (s, q, refl)
+second_below _ _ h = absurd h
 
 all_below : (doc : ℕ) (p : List Step) (cs : List Changed) → ToEach Before p cs → AreKept cs → AllKeepSome (ops_of doc cs)
 all_below doc p [] h k = tt
@@ -185,12 +178,8 @@ abbrev FirstFree : NodeEdits → Children → Type 0
 FirstFree f none = Unit {0}
 FirstFree f (child label n cs) = f (step_to 0 label ∷ []) ≡ None
 
--- the lead that one tree gives is that of another which has the same first item or entry
-lead_kept : (block : Bool) (f : NodeEdits) (lead : List (List ℕ)) (cs ds : Children) → FirstFree f cs → ds ≡ each_at_once f 0 cs → lead_by block ds lead ≡ lead_by block cs lead
-lead_kept block f lead cs ds h1 h2 = search rules
-
 root_kept : (block : Bool) (f : NodeEdits) (lead : List (List ℕ)) (root : Node) → f [] ≡ None → FirstFree f (children_of root) → lead_by block (children_of (at_once f root)) lead ≡ lead_by block (children_of root) lead
-root_kept block f lead root free h = search (rules, lead_kept)
+root_kept block f lead root free h = search rules
 
 module _ (block : Bool) (doc : ℕ) (d : Document) (is : IsLed block d) (tree : IsTree d.root) where
   -- nothing is done at a path at which there is no change
@@ -220,14 +209,14 @@ module _ (block : Bool) (doc : ℕ) (d : Document) (is : IsLed block d) (tree : 
       let kept : lead_by block (children_of root) d.lead ≡ d.lead = root_kept block later d.lead d.root (spares_root later c.0 spared.0) (first_free (children_of d.root) c cs f) ∙ is in
       let created : roots_after block d.lead (change_ops doc c) root ≡ at_once (node_edits_of block d.lead (c ∷ cs)) d.root =
       change_after block d.lead doc c root ∙ sym (one_more c.0 (node_edit_of block d.lead c) later d.root tree spared.0) in
-      ap (λ (xs : List Changed). document_after block (ops_of doc xs) d) (reverse-cons c cs)
-      ∙ (ap (λ (ops : List Operation). document_after block ops d) (ops_join block d.lead doc (reverse cs) (c ∷ []))
-      ∙ (document_join block (ops_of doc (reverse cs)) (change_ops doc c ++ []) d
-      ∙ (ap (document_after block (change_ops doc c ++ [])) (removed_document cs h.1 g.1 (first_rest (children_of d.root) c cs f))
-      ∙ (ap (λ (ops : List Operation). document_after block ops (with_tree block root d)) (append-nil (change_ops doc c))
-      ∙ (ap (λ (lead : List (List ℕ)). document_after block (change_ops doc c) (record { lead = lead; root = root })) kept
-      ∙ (gone_ops c d.lead g.0 root
-      ∙ ap (λ (n : Node). with_tree block n d) created))))))
+      cc (
+        reverse-cons c cs,
+        ops_join block d.lead doc (reverse cs) (c ∷ []),
+        document_join block (ops_of doc (reverse cs)) (change_ops doc c ++ []) d,
+        removed_document cs h.1 g.1 (first_rest (children_of d.root) c cs f),
+        append-nil (change_ops doc c),
+        gone_ops c d.lead g.0 root,
+      )
 
   -- the operations of changes, one after the other, make all of them in a document
   pub document_folds : (removal : Bool) (cs : List Changed) → InPairs Before cs → MayFold removal cs → (removal ≡ true → IsFirst d.root cs) → document_after block (ops_of doc (ordered removal cs)) d ≡ changed_at_once block cs d

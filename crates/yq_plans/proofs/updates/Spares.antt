@@ -1,8 +1,8 @@
 -- What is done spares a path: it is apart from it, and what goes stands behind.
 use Rattle.std.proofs.Common.{◌≡◌, ℕ, suc, ◌<◌, List, [], ◌∷◌, Option, Some, None, refl, ap, ◌∙◌, inl, inr, rules}
-use Rattle.yq_flow_scalars.specs.Tree.{Label, Node, alias, scalar, list, Children, none, child, map}
+use Rattle.yq_flow_scalars.specs.Tree.{Label, Node, list, Children, none, child, map}
 use Rattle.yq_flow_scalars.specs.Paths.{Nth, Step}
-use Rattle.yq_meaning.specs.NodeEdits.{step_to, NodeEdit, becomes, line, head, goes, NodeEdits, under, done_at, child_by, inside, each_at_once, at_once}
+use Rattle.yq_meaning.specs.NodeEdits.{step_to, NodeEdit, line, head, goes, NodeEdits, under, done_at, child_by, inside, each_at_once, at_once}
 use Rattle.yq_flow_scalars.specs.PathOrder.{Before, Apart}
 use Rattle.yq_meaning.proofs.PathLaws.{before_not_in, before_under, apart_under, apart_root, apart_not_in}
 
@@ -13,19 +13,16 @@ node_edits_same f g h = λ i q. h q i
 -- What is done at a child leaves a child with the same key in front of those behind it, or these alone: so is what is so of both.
 pub child_kept_or_gone : (P : (Children → Children) → Type 0) (d : Option NodeEdit) (label : Label) (m : Node) →
     ((hc : List (List ℕ)) (lc : Option (List ℕ)) → P (λ rest. child (record { key = label.key; head_comment = hc; line_comment = lc }) m rest)) → (d ≡ Some goes → P (λ rest. rest)) → P (λ rest. child_by d label m rest)
-child_kept_or_gone P None label m kept gone = kept label.head_comment label.line_comment
-child_kept_or_gone P (Some (becomes g)) label m kept gone = kept label.head_comment label.line_comment
 child_kept_or_gone P (Some (line text)) label m kept gone = kept label.head_comment text
 child_kept_or_gone P (Some (head texts)) label m kept gone = kept texts label.line_comment
 child_kept_or_gone P (Some goes) label m kept gone = gone refl
+child_kept_or_gone P _ label m kept gone = kept label.head_comment label.line_comment
 
 -- what is done at a path leaves another one's place where it is
 abbrev pub IsSpared : Option NodeEdit → List Step → List Step → Type 0
 IsSpared None p q = Unit {0}
-IsSpared (Some (becomes g)) p q = Apart p q
-IsSpared (Some (line text)) p q = Apart p q
-IsSpared (Some (head texts)) p q = Apart p q
 IsSpared (Some goes) p q = Before p q
+IsSpared (Some _) p q = Apart p q
 
 -- the same of all that is done
 abbrev pub Spares : NodeEdits → List Step → Type 0
@@ -34,11 +31,8 @@ Spares f p = (q : List Step) → IsSpared (f q) p q
 spared_apart : (x : NodeEdit) (p q : List Step) → IsSpared (Some x) p q → Apart p q
 spared_apart x p q h1 = search rules
 
-spared_under : (s : Step) (p q : List Step) (d : Option NodeEdit) → IsSpared d (s ∷ p) (s ∷ q) → IsSpared d p q
-spared_under s p q d h1 = search (rules, apart_under, before_under)
-
 pub spares_under : (f : NodeEdits) (s : Step) (p : List Step) → Spares f (s ∷ p) → Spares (under s f) p
-spares_under f s p h q = spared_under s p q (f (s ∷ q)) (h (s ∷ q))
+spares_under f s p h q = search (rules, apart_under, before_under)
 
 -- nothing is done at a place that is apart from none
 pub nothing : (d : Option NodeEdit) (p q : List Step) → (Apart p q → ⊥) → IsSpared d p q → d ≡ None
@@ -62,10 +56,9 @@ child_done f label n rest = child_by (f []) label (at_once f n) rest
 
 mutual
   idle_inside : (f : NodeEdits) (n : Node) → ((q : List Step) → f q ≡ None) → inside f n ≡ n
-  idle_inside f (alias name) h = refl
-  idle_inside f (scalar anchor kind text) h = refl
   idle_inside f (list anchor cs) h = ap (list anchor) (idle_each f 0 cs h)
   idle_inside f (map anchor cs) h = ap (map anchor) (idle_each f 0 cs h)
+  idle_inside f _ h = refl
 
   idle_each : (f : NodeEdits) (i : ℕ) (cs : Children) → ((q : List Step) → f q ≡ None) → each_at_once f i cs ≡ cs
   idle_each f i none h = refl

@@ -1,6 +1,5 @@
 -- Sums are trees without aliases.
-use Rattle.std.proofs.Common.{◌≡◌, ◌≢◌, ℕ, Bool, true, false, cond, List, [], ◌∷◌, Option, Some, None, is_some, refl, sym, ap, subst, ◌∙◌, inl, inr, rules}
-use Rattle.std.specs.Prelude.{ℤ}
+use Rattle.std.proofs.Common.{◌≡◌, ◌≢◌, ℕ, Bool, true, false, cond, List, [], ◌∷◌, Option, Some, None, refl, sym, ap, subst, ◌∙◌, inl, inr, rules}
 use Rattle.std.proofs.lemmas.Bool.{false≢true}
 use Rattle.std.proofs.lemmas.Option.{none-some}
 use Rattle.yq_flow_scalars.specs.declared.kind.Kind.{Kind}
@@ -15,7 +14,7 @@ use Rattle.yq_plans.proofs.updates.Mentions.{literal_pure, IsPure}
 use Rattle.yq_meaning.specs.Pipes.{pipe_on}
 use Rattle.yq_meaning.specs.Places.{Place}
 use Rattle.yq_meaning.specs.PlacesApart.{IsIn}
-use Rattle.yq_meaning.specs.RightValues.{is_null, int_sum, scalar_sum, as_items, with_entry, with_entries, value_sum, sum, only_copy, term_value, sum_from, right_value}
+use Rattle.yq_meaning.specs.RightValues.{is_null, scalar_sum, as_items, with_entry, with_entries, value_sum, sum, only_copy, term_value, sum_from, right_value}
 use Rattle.yq_flow_scalars.specs.Shapes.{IsNew, AreItems, AreEntries, IsTree}
 use Rattle.yq_documents.specs.TreeEdits.{new_label}
 use Rattle.yq_meaning.proofs.JudgementLaws.{then_gives, gives_same}
@@ -101,11 +100,7 @@ abbrev AreMap : Children → Type 0
 AreMap cs = AreEntries cs × AreFree cs
 
 with_one : (k : List ℕ) (v : Node) (cs : Children) → IsPure v → AreMap cs → AreMap (with_entry (Some k) v cs)
-with_one k v cs p m = go (child_at (To k) cs) refl
-  where
-    go : (o : Option Node) → child_at (To k) cs ≡ o → AreMap (cond (is_some o) (change_child (To k) (λ old. v) cs) (append_child (new_label (Some k)) v cs))
-    go None is = (entries_append k v cs (not_found k cs is) m.0, free_append (new_label (Some k)) v cs p m.1)
-    go (Some x) is = (entries_change k (λ old. v) cs m.0, free_change k v cs p m.1)
+with_one k v cs p m = search (rules, entries_append, not_found, free_append, entries_change, free_change)
 
 with_all : (cs ds : Children) → AreMap cs → AreMap ds → AreMap (with_entries cs ds)
 with_all cs none m n = m
@@ -114,27 +109,14 @@ with_all cs (child label v ds) m n =
     (subst (λ (o : Option (List ℕ)). AreMap (with_entry o v cs)) (sym n.0.0.1) (with_one n.0.0.0 v cs (free_first label v ds n.1) m))
     (n.0.1, free_rest label v ds n.1)
 
-int_pure : (m n : Option ℤ) (w : Node) → int_sum m n ≡ gives w → IsPure w
-int_pure m n w h1 = search (rules, gives_same)
-
 scalar_pure : (k : Kind) (t : List ℕ) (j : Kind) (u : List ℕ) (w : Node) → scalar_sum k t j u ≡ gives w → IsPure w
-scalar_pure k t j u w h1 = search (rules, int_pure, gives_same)
+scalar_pure k t j u w h1 = search (rules, gives_same)
 
 value_pure : (n v w : Node) → IsPure n → IsPure v → value_sum n v ≡ gives w → IsPure w
-value_pure (alias name) v w p q h = absurd (cc)
-value_pure (scalar a k t) (alias name) w p q h = absurd (cc)
 value_pure (scalar a k t) (scalar b j u) w p q h = scalar_pure k t j u w h
-value_pure (scalar a k t) (list b ds) w p q h = absurd (cc)
-value_pure (scalar a k t) (tree.map b ds) w p q h = absurd (cc)
-value_pure (list a cs) v w p q h =
-    let free : AreFree (append_children cs (as_items v)) = free_join cs (as_items v) (p.0.1, λ x m. p.1 x m) (items_free v q) in
-    subst IsPure (gives_same h) ((items_join cs (as_items v) p.0.0 (items_items v q), free.0), λ x m. free.1 x m)
-value_pure (tree.map a cs) (alias name) w p q h = absurd (cc)
-value_pure (tree.map a cs) (scalar b j u) w p q h = absurd (cc)
-value_pure (tree.map a cs) (list b ds) w p q h = absurd (cc)
-value_pure (tree.map a cs) (tree.map b ds) w p q h =
-    let all : AreMap (with_entries cs ds) = with_all cs ds (p.0.0, (p.0.1, λ x m. p.1 x m)) (q.0.0, (q.0.1, λ x m. q.1 x m)) in
-    subst IsPure (gives_same h) ((all.0, all.1.0), λ x m. all.1.1 x m)
+value_pure (list a cs) v w p q h = search (rules, scalar_pure, free_join, items_free, gives_same, items_join, items_items, with_all)
+value_pure (tree.map a cs) (tree.map b ds) w p q h = search (rules, scalar_pure, free_join, items_free, gives_same, items_join, items_items, with_all)
+value_pure _ _ w p q h = absurd (cc)
 
 pub sum_pure : (n v w : Node) → IsPure n → IsPure v → sum n v ≡ gives w → IsPure w
 sum_pure n v w p q h = go (is_null n) (is_null v) h
@@ -154,9 +136,8 @@ at_pure p v t h = copy_pure (value_of p) v (go p.missing) h
     go (m ∷ ms) = tt
 
 only_pure : (root : Node) (ps : List Place) (v : Node) → AreSound root ps → only_copy ps ≡ gives v → IsPure v
-only_pure root [] v s h = absurd (cc)
 only_pure root (p ∷ []) v s h = at_pure p v s.0.0 h
-only_pure root (p ∷ (q ∷ qs)) v s h = absurd (cc)
+only_pure root _ v s h = absurd (cc)
 
 module _ (root : Node) (doc : ℕ) (p : Place) (tree : IsTree p.node) (at : IsIn root p) where
   term_pure : (t : Term) (ts : List Term) (v : Node) → SumHolds (t ∷ ts) → term_value doc p t ≡ gives v → IsPure v

@@ -1,7 +1,7 @@
-use Rattle.std.proofs.Common.{◌≡◌, ◌∷◌, ◌-◌, [], take, drop, true, sym, ap, ◌∙◌, arith}
+use Rattle.std.proofs.Common.{◌∷◌, ◌-◌, [], take, drop, true, sym, ap, ◌∙◌, arith, rules}
 use Rattle.std.proofs.lemmas.Result.{err_from_is_err_and}
 use Rattle.yq_journal.specs.Record.{meet}
-use Rattle.yq_journal.specs.State.{joined_of, last_done}
+use Rattle.yq_journal.specs.State.{joined_of}
 use Rattle.yq_journal.proofs.JoinLaws.{slice_run, bad_count, good_count, split_first, reports_memory}
 use Rattle.yq_journal.proofs.squash.join_last.Goals as goal
 
@@ -21,8 +21,4 @@ returns-in_ok-join_all-in-len1-up-clause-ok c =
     ap joined_of (sym run ∙ split_first (take (c.args.at - (c.args.at - c.args.n)) (drop (c.args.at - c.args.n) c.args.records.now)) c.first-item.result c.in-len1-up.len_at_least c.first-item.is) ∙ ap (λ r. r ∷ []) (sym c.in_ok-join_all-in-len1-up.ensures)
 
 pub returns-in_err-join_all-in-len1-up-clause-err : goal.returns-in_err-join_all-in-len1-up-clause-err
-returns-in_err-join_all-in-len1-up-clause-err c =
-    let p = err_from_is_err_and c.from_residual.result c.from_residual.ensures.1 in
-    let meets : meet (last_done c.args.records.now c.args.at c.args.n) ≡ true =
-    ap meet (sym (slice_run c.args.records.now c.args.at (c.args.at - c.args.n) (omega arith))) ∙ sym c.meets.ensures ∙ c.if-not-meets.false in
-    reports_memory c.from_residual.result p.0 _ p.1 p.2 (good_count c.args.records.now c.args.at c.args.n (omega arith) (omega arith) meets)
+returns-in_err-join_all-in-len1-up-clause-err c = search (rules, err_from_is_err_and, slice_run, reports_memory, good_count)

@@ -1,7 +1,5 @@
-use Rattle.std.proofs.Common.{◌≡◌, ◌≤◌, ◌<◌, ◌+◌, ◌-◌, ◌^◌, length, take, sym, ap, ◌∙◌, arith, refl}
+use Rattle.std.proofs.Common.{◌≡◌, ◌≤◌, ◌<◌, ◌+◌, ◌-◌, ◌^◌, length, sym, ◌∙◌, arith, refl, rules}
 use Rattle.std.proofs.lemmas.Option.{same_Some}
-use Rattle.std.specs.Prelude.{slice_get}
-use Rattle.yq_script.specs.Splice.{all_done}
 use Rattle.yq_journal.specs.Turned.{turned}
 use Rattle.yq_journal.proofs.StandLaws.{one_earlier, came_from}
 use Rattle.yq_journal.proofs.stands.byte_after.Goals as goal
@@ -34,8 +32,4 @@ returns-in-None c = λ b0 e.
     c.byte_at.ensures ∙ sym (x.bytes.inside c.splices.i inside.0 inside.1) ∙ b.3
 
 pub returns : goal.returns
-returns c = λ b0 e.
-    let b = c.splices.invariant.here b0 e in
-    let none : c.splices.left ≡ 0 = omega arith in
-    let same : c.args.text.now ≡ b.0 = same_Some c.args.text.now b.0 (ap (λ n. all_done (take n (turned c.args.back c.args.splices.now)) c.args.text.now) (sym none) ∙ b.1) in
-    c.byte_at-2.ensures ∙ ap (λ t. slice_get t c.splices.i) same ∙ b.3
+returns c = search (rules, same_Some)

@@ -1,11 +1,10 @@
-use Rattle.std.proofs.Common.{◌≡◌, ◌++◌, ℕ, true, Some, Ok, Vec, Global, IsUtf8, string_bytes, sym, ap, ap₂, ◌∙◌, subst, arith}
+use Rattle.std.proofs.Common.{◌≡◌, ◌++◌, ℕ, Some, Vec, Global, IsUtf8, string_bytes, sym, ap, ap₂, ◌∙◌, subst, rules}
 use Rattle.std.proofs.str.Laws.{IsUtf8-had}
 use Rattle.base64.specs.Engines.{standard}
-use Rattle.base64.specs.GeneralPurpose.{decode_of, encode_of}
+use Rattle.base64.specs.GeneralPurpose.{encode_of}
 use Rattle.json.specs.Print.{escape}
-use Rattle.serde_json.specs.Data.{array}
-use Rattle.yq_journal.specs.Json.{all_of, journal_in, journal_text, kind_text, list_data, record_data, record_of}
-use Rattle.yq_journal.specs.OpenText.{IsWritten, text_before, text_behind}
+use Rattle.yq_journal.specs.Json.{journal_in, journal_text, kind_text}
+use Rattle.yq_journal.specs.OpenText.{text_before, text_behind}
 use Rattle.yq_journal.specs.State.{Pending, State, state}
 use Rattle.yq_journal.proofs.OpenTextLaws.{ArePieces, reads_back, whole_text}
 use Rattle.yq_journal.proofs.journal.Journal.open_text.Goals as goal
@@ -20,16 +19,7 @@ move_seen c = record { step = c.pending.inside.step; from = c.pending.inside.fro
 -- what is known of the pieces
 pieces : (c : goal.After-drop-held-2) → ArePieces (seen c) (move_seen c) (string_bytes c.in_ok-held.held) (string_bytes c.in_ok-records.records)
 unfolding seen move_seen
-pieces c = record {
-  sound = c.self.invariant;
-  is_open = ap (λ (t : State). t.pending) c.self.view_is ∙ c.requires ∙ ap Some (sym c.pending.view_is);
-  fits = omega (arith, c.self.invariant.within, c.self.invariant.limit);
-  held_is = c.in_ok-held.ensures.written;
-  records_are = subst (λ rs. IsWritten (string_bytes c.in_ok-records.records) (array (list_data record_data rs))) c.deref.ensures.value c.in_ok-records.ensures.written;
-  step_reads = c.in_ok-held.ensures.reads_back;
-  records_read = subst (λ rs. all_of (record_of true) (list_data record_data rs) ≡ Some rs) c.deref.ensures.value c.in_ok-records.ensures.reads_back;
-  from_reads = subst (λ b. decode_of standard (encode_of standard b) ≡ Ok b) c.deref-2.ensures.value c.in_ok-push_base64.ensures.reads_back;
-}
+pieces c = search (rules, string_bytes)
 
 -- the text, by them
 whole : (c : goal.After-drop-held-2) → c.into_bytes.result.items ≡ journal_text (seen c)

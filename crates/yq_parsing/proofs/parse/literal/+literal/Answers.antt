@@ -1,4 +1,4 @@
-use Rattle.std.proofs.Common.{rules, arith, ◌<◌, ◌≡◌, ◌∙◌, length, sym, refl, Some, None, map, true}
+use Rattle.std.proofs.Common.{rules, arith, ◌≡◌, ◌∙◌, sym, refl, Some, None, map, true}
 use Rattle.std.specs.Prelude.{codes}
 use Rattle.std.proofs.lemmas.Grind.{common_steps}
 use Rattle.std.proofs.lemmas.Result.{err_from_is_err_and}
@@ -17,14 +17,7 @@ items-returns-in_err-item-clause-value t c =
     (loop_fails (behind_at (codes ",") (literal_at c.args.depth)) (item_lessens c.args.depth) _ _ _ c.items.invariant.2 _ c.in_err-item.ensures.value)
 
 pub items-items-preserved : goal.items-items-preserved
-items-items-preserved t c =
-    let less : length c.in-Some.behind.now < length c.items.rest.now = before_some _ _ _ _ c.in_ok-item.ensures.shorter c.in-Some.is in
-    let within = c.items.invariant.1 in (
-      search rules,
-      omega arith,
-      rw c.in_ok-push-in-Some.ensures.items
-          (step_more node_of (behind_at (codes ",") (literal_at c.args.depth)) (item_lessens c.args.depth) _ _ _ c.items.invariant.2 _ c.in_ok-item.ensures.value _ _ c.in-Some.is),
-    )
+items-items-preserved t c = search (rules, before_some, step_more, item_lessens)
 
 pub items-returns-in-None-clause-value : goal.items-returns-in-None-clause-value
 items-returns-in-None-clause-value t c = step_end node_of (behind_at (codes ",") (literal_at c.args.depth)) (item_lessens c.args.depth) _ _ _ c.items.invariant.2 _ c.in_ok-item.ensures.value c.in-None.is
@@ -35,14 +28,7 @@ fields-returns-in_err-field-clause-value t c =
     (loop_fails (behind_at (codes ",") (field_at (literal_at c.args.depth))) (field_lessens c.args.depth) _ _ _ c.fields.invariant.2 _ c.in_err-field.ensures.value)
 
 pub fields-fields-preserved : goal.fields-fields-preserved
-fields-fields-preserved t c =
-    let less : length c.in-Some.behind.now < length c.fields.rest.now = before_some _ _ _ _ c.in_ok-field.ensures.shorter c.in-Some.is in
-    let within = c.fields.invariant.1 in (
-      search rules,
-      omega arith,
-      rw c.in_ok-push-in-Some.ensures.items
-          (step_more field_of (behind_at (codes ",") (field_at (literal_at c.args.depth))) (field_lessens c.args.depth) _ _ _ c.fields.invariant.2 _ c.in_ok-field.ensures.value _ _ c.in-Some.is),
-    )
+fields-fields-preserved t c = search (rules, before_some, step_more, field_lessens)
 
 pub fields-returns-in-None-clause-value : goal.fields-returns-in-None-clause-value
 fields-returns-in-None-clause-value t c = step_end field_of (behind_at (codes ",") (field_at (literal_at c.args.depth))) (field_lessens c.args.depth) _ _ _ c.fields.invariant.2 _ c.in_ok-field.ensures.value c.in-None.is

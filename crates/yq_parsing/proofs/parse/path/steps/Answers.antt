@@ -1,4 +1,4 @@
-use Rattle.std.proofs.Common.{rules, arith, ◌<◌, length}
+use Rattle.std.proofs.Common.{rules}
 use Rattle.std.proofs.lemmas.Result.{err_from_is_err_and}
 use Rattle.yq_parsing.proofs.LoopSteps.{step_more, step_end, loop_fails, failed, before_some, step_lessens}
 use Rattle.yq_parsing.specs.Parse.{step_at}
@@ -11,15 +11,7 @@ returns-in_err-step-clause-value c =
     (loop_fails step_at step_lessens _ _ _ c.steps.invariant.3 _ c.in_err-step.ensures.value)
 
 pub steps-preserved : goal.steps-preserved
-steps-preserved c =
-    let less : length c.in-Some.behind.now < length c.steps.rest.now = before_some _ _ _ _ c.in_ok-step.ensures.shorter c.in-Some.is in
-    let within = c.steps.invariant.1 in (
-      search rules,
-      omega arith,
-      λ some. omega arith,
-      rw c.in_ok-push-in-Some.ensures.items
-          (step_more step_of step_at step_lessens _ _ _ c.steps.invariant.3 _ c.in_ok-step.ensures.value _ _ c.in-Some.is),
-    )
+steps-preserved c = search (rules, before_some, step_more, step_lessens)
 
 pub returns-in-None-clause-value : goal.returns-in-None-clause-value
 returns-in-None-clause-value c = step_end step_of step_at step_lessens _ _ _ c.steps.invariant.3 _ c.in_ok-step.ensures.value c.in-None.is

@@ -1,4 +1,4 @@
-use Rattle.std.proofs.Common.{rules, arith, ◌<◌, length}
+use Rattle.std.proofs.Common.{rules}
 use Rattle.std.specs.Prelude.{codes}
 use Rattle.std.proofs.lemmas.Result.{err_from_is_err_and}
 use Rattle.yq_parsing.proofs.LoopSteps.{step_more, step_end, loop_fails, failed, before_some, stage_lessens}
@@ -12,14 +12,7 @@ returns-in_err-stage-clause-value c =
     (loop_fails (behind_at (codes "|") stage_at) stage_lessens _ _ _ c.stages.invariant.2 _ c.in_err-stage.ensures.value)
 
 pub stages-preserved : goal.stages-preserved
-stages-preserved c =
-    let less : length c.in-Some.behind.now < length c.stages.rest.now = before_some _ _ _ _ c.in_ok-stage.ensures.shorter c.in-Some.is in
-    let within = c.stages.invariant.1 in (
-      search rules,
-      omega arith,
-      rw c.in_ok-push-in-Some.ensures.items
-          (step_more stage_of (behind_at (codes "|") stage_at) stage_lessens _ _ _ c.stages.invariant.2 _ c.in_ok-stage.ensures.value _ _ c.in-Some.is),
-    )
+stages-preserved c = search (rules, before_some, step_more, stage_lessens)
 
 pub returns-in-None-clause-value : goal.returns-in-None-clause-value
 returns-in-None-clause-value c = step_end stage_of (behind_at (codes "|") stage_at) stage_lessens _ _ _ c.stages.invariant.2 _ c.in_ok-stage.ensures.value c.in-None.is

@@ -1,4 +1,4 @@
-use Rattle.std.proofs.Common.{rules, arith, ◌<◌, length}
+use Rattle.std.proofs.Common.{rules}
 use Rattle.std.specs.Prelude.{codes}
 use Rattle.std.proofs.lemmas.Result.{err_from_is_err_and}
 use Rattle.yq_parsing.proofs.LoopSteps.{step_more, step_end, loop_fails, failed, before_some, term_lessens}
@@ -13,14 +13,7 @@ returns-in_err-term-clause-value c =
     (loop_fails (behind_at (codes "+") (term_at literal_depth)) term_lessens _ _ _ c.terms.invariant.2 _ c.in_err-term.ensures.value)
 
 pub terms-preserved : goal.terms-preserved
-terms-preserved c =
-    let less : length c.in-Some.behind.now < length c.terms.rest.now = before_some _ _ _ _ c.in_ok-term.ensures.shorter c.in-Some.is in
-    let within = c.terms.invariant.1 in (
-      search rules,
-      omega arith,
-      rw c.in_ok-push-in-Some.ensures.items
-          (step_more term_of (behind_at (codes "+") (term_at literal_depth)) term_lessens _ _ _ c.terms.invariant.2 _ c.in_ok-term.ensures.value _ _ c.in-Some.is),
-    )
+terms-preserved c = search (rules, before_some, step_more, term_lessens)
 
 pub returns-in-None-clause-value : goal.returns-in-None-clause-value
 returns-in-None-clause-value c = step_end term_of (behind_at (codes "+") (term_at literal_depth)) term_lessens _ _ _ c.terms.invariant.2 _ c.in_ok-term.ensures.value c.in-None.is

@@ -1,4 +1,4 @@
-use Rattle.std.proofs.Common.{rules, arith, ◌<◌, length}
+use Rattle.std.proofs.Common.{rules}
 use Rattle.std.specs.Prelude.{codes}
 use Rattle.std.proofs.lemmas.Result.{err_from_is_err_and}
 use Rattle.yq_parsing.proofs.LoopSteps.{step_more, step_end, loop_fails, failed, before_some, update_lessens}
@@ -13,14 +13,7 @@ returns-in_err-update-clause-value c =
     (loop_fails (behind_at (codes "|") (update_at literal_depth)) update_lessens _ _ _ c.updates.invariant.2 _ c.in_err-update.ensures.value)
 
 pub updates-preserved : goal.updates-preserved
-updates-preserved c =
-    let less : length c.in-Some.behind.now < length c.updates.rest.now = before_some _ _ _ _ c.in_ok-update.ensures.shorter c.in-Some.is in
-    let within = c.updates.invariant.1 in (
-      search rules,
-      omega arith,
-      rw c.in_ok-push-in-Some.ensures.items
-          (step_more update_of (behind_at (codes "|") (update_at literal_depth)) update_lessens _ _ _ c.updates.invariant.2 _ c.in_ok-update.ensures.value _ _ c.in-Some.is),
-    )
+updates-preserved c = search (rules, before_some, step_more, update_lessens)
 
 pub returns-in-None-clause-value : goal.returns-in-None-clause-value
 returns-in-None-clause-value c = step_end update_of (behind_at (codes "|") (update_at literal_depth)) update_lessens _ _ _ c.updates.invariant.2 _ c.in_ok-update.ensures.value c.in-None.is

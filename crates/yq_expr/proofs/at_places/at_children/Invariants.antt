@@ -14,7 +14,7 @@ use Rattle.yq_meaning.specs.Places.{child_place, stepped}
 use Rattle.yq_meaning.specs.PlacesApart.{AreIn}
 use Rattle.yq_meaning.specs.Rooms.{room_of}
 use Rattle.yq_matching.specs.TreeScalars.{HaveScalars}
-use Rattle.yq_expr.proofs.changes.at_children.Given as goal
+use Rattle.yq_expr.proofs.at_places.at_children.Given as goal
 
 abbrev pub invariant-children : goal.invariant-children
 invariant-children l =

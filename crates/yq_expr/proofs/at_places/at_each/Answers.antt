@@ -11,7 +11,7 @@ use Rattle.yq_meaning.specs.Rooms.{room_of}
 use Rattle.yq_matching.specs.TreeScalars.{HaveScalars}
 use Rattle.yq_expr.proofs.AllChanges.{each_done}
 use Rattle.yq_matching.proofs.EachLaws.{each_more, each_fails, failed, reached}
-use Rattle.yq_expr.proofs.changes.at_each.Goals as goal
+use Rattle.yq_expr.proofs.at_places.at_each.Goals as goal
 
 pub returns-in_err-push_effect : goal.returns-in_err-push_effect
 returns-in_err-push_effect c = λ root named within.

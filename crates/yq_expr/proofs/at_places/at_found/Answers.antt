@@ -9,7 +9,7 @@ use Rattle.yq_meaning.specs.PlacesApart.{AreIn}
 use Rattle.yq_meaning.specs.Rooms.{room_of}
 use Rattle.yq_planning.specs.ChangeView.{changed_of}
 use Rattle.yq_planning.specs.declared.updating.change.Changed.{Changed}
-use Rattle.yq_expr.proofs.changes.at_found.Goals as goal
+use Rattle.yq_expr.proofs.at_places.at_found.Goals as goal
 
 pub returns-in-Children : goal.returns-in-Children
 returns-in-Children c = λ root named within.

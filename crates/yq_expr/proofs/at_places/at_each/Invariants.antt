@@ -9,7 +9,7 @@ use Rattle.yq_matching.specs.PlaceView.{places_of, put_behind}
 use Rattle.yq_meaning.specs.PlacesApart.{AreIn}
 use Rattle.yq_meaning.specs.Rooms.{room_of}
 use Rattle.yq_matching.specs.TreeScalars.{HaveScalars}
-use Rattle.yq_expr.proofs.changes.at_each.Given as goal
+use Rattle.yq_expr.proofs.at_places.at_each.Given as goal
 
 abbrev pub invariant-places : goal.invariant-places
 invariant-places l = record {

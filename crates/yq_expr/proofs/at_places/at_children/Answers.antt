@@ -16,7 +16,7 @@ use Rattle.yq_matching.specs.TreeScalars.{HasScalars, HaveScalars}
 use Rattle.yq_expr.proofs.ChildPlaces.{first_child, child_more, child_fails, children_done}
 use Rattle.yq_matching.proofs.EachLaws.{failed}
 use Rattle.yq_matching.proofs.PlaceLaws.{none_counted}
-use Rattle.yq_expr.proofs.changes.at_children.Goals as goal
+use Rattle.yq_expr.proofs.at_places.at_children.Goals as goal
 
 pub push_effect-requires : goal.push_effect-requires
 push_effect-requires c =
