@@ -19,8 +19,6 @@ from measured import used_by
 from services import services
 
 COUNTS = (1_000, 10_000, 25_000, 100_000)
-# A longer word can't be handed to a process.
-LONGEST = 131_072
 
 # What is asked of the items of a text, which stand at the root.
 IN_ALL = (".[] = 77", ".[] |= . + 1", "del(.[])")
@@ -44,7 +42,7 @@ def mappings(n):
 
 
 def appended(n):
-    return "a:\n  - 0\n", ".a += [" + ", ".join(str(i) for i in range(n)) + "]"
+    return "a:\n  - 0\nb:\n" + "".join(f"  - {i}\n" for i in range(n)), ".a += .b"
 
 
 def cases(n):
@@ -54,9 +52,7 @@ def cases(n):
             yield name, text, update
     yield "zeros and ones", "".join(f"- {i % 2}\n" for i in range(n)), "del(.[] | select(. == 1))"
     yield "mappings", mappings(n), ".[].x = 1"
-    text, update = appended(n)
-    if len(update) < LONGEST:
-        yield "a block sequence of one", text, update
+    yield "a block sequence of one", *appended(n)
 
 
 def seconds(folder, yq, expression):

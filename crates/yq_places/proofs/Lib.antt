@@ -65,6 +65,7 @@ pub mod FlowViewLaws
 pub mod HeadSteps
 pub mod FlowNodeLaws
 pub mod DashLaws
+pub mod KnownEndLaws
 pub mod KnownFronts
 mod HalvesLaws
 mod FirstBreakLaws

@@ -32,7 +32,7 @@ pub(crate) fn on_the_way<'d, 't>(cut: &CutText<'d, 't>, op: &'d Op) -> CutText<'
 {
     match op {
         Op::Replace(path, _) => cut.to_line(path),
-        Op::Append(path, _, _) => cut.to_line(path).to_end(path),
+        Op::Append(path, _, _) => cut.to_end(path),
         Op::Remove(path) => cut.to_line(path),
         Op::LineComment(path, _) => cut.to_line(path),
         Op::HeadComment(path, _) => cut.to_line(path),

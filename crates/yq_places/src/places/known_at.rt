@@ -217,18 +217,20 @@ impl<'d, 't> CutText<'d, 't> {
         )
     }
 
-    /// The same text, where the end of the collection at a path is known as well.
-    pub fn to_end(&self, path: &Path) -> CutText<'d, 't>
+    /// The same, where the end of the collection at the path is known as well. It is looked for from an item
+    /// of that on that is known.
+    pub fn to_end(&self, path: &'d Path) -> CutText<'d, 't>
         ensures { result ≡ self.now }
     {
         let text = self.whole();
         let rows = self.rows();
-        let known = self.known();
         let Some(document) = self.stretch(path.doc) else {
-            return CutText::resumed(text, rows, known);
+            return CutText::resumed(text, rows, KnownItems::none());
         };
-        let end = known_end(rows, document, known, &path.steps);
-        CutText::with_line(text, rows, with_item(rows, known, end), self.line())
+        let (known, at) = known_along(rows, document, self.known(), &path.steps);
+        let line = line_known(rows, document, &path.steps, at);
+        let end = known_end(rows, document, self.known(), line, &path.steps);
+        CutText::with_line(text, rows, with_item(rows, known, end), line)
     }
 
     /// The items that are known, or those before them, as far as walks may go on from there in each text

@@ -10,12 +10,13 @@ ghost use Rattle.yq_places.specs.RowWalk.{IsKnownLine};
 ghost use Rattle.yq_places.specs.StandingReading as reading;
 
 use crate::cut_text::CutText;
+use crate::places::known_end::row_behind;
 use crate::places::known_line::{KnownLine, line_by};
 use yq_cut::Rows;
 use yq_documents::Path;
 use yq_nodes::Step;
 use yq_row_lines::{KnownItems, Stretch};
-use yq_walk::{level_at, lines_before_mark, rows_under};
+use yq_walk::{level_at, lines_before_mark};
 
 /// The rows of an item or entry.
 #[derive(Clone, Copy, Debug)]
@@ -50,11 +51,12 @@ fn entry_along(
 {
     let at = line_by(rows, document, known, line, steps)?;
     let level = level_at(rows, at);
+    let dashes = lines_before_mark(rows, at.row);
     Some(RowsOfEntry {
         row: at.row,
         line: at.line,
-        dashes: lines_before_mark(rows, at.row),
-        end: rows_under(rows, at.row + 1, document.end, level),
+        dashes,
+        end: row_behind(rows, document, known, at, dashes, level),
     })
 }
 

@@ -2,6 +2,10 @@ use Rattle.yq_documents.specs.Reading.{cut_of}
 use Rattle.yq_places.proofs.WalkDocuments.{found_document}
 use Rattle.yq_places.proofs.cut_text.CutText.to_end.Goals as goal
 
+pub known_along-at-requires-clause-document : goal.known_along-at-requires-clause-document
+known_along-at-requires-clause-document c =
+    (found_document c.args.self.now c.rows-rows.result.now (cut_of c.args.self.now) c.args.path.now.doc c.in-Some.document c.whole-text.ensures.cut c.rows-rows.ensures c.in-Some.ensures.place c.in-Some.ensures.sound).document
+
 pub known_end-end-requires-clause-document : goal.known_end-end-requires-clause-document
 known_end-end-requires-clause-document c =
     (found_document c.args.self.now c.rows-rows.result.now (cut_of c.args.self.now) c.args.path.now.doc c.in-Some.document c.whole-text.ensures.cut c.rows-rows.ensures c.in-Some.ensures.place c.in-Some.ensures.sound).document

@@ -8,5 +8,5 @@ returns-in_err-at c = rw c.from_residual.ensures (λ h. none_along c.args.docume
 
 pub returns : goal.returns
 returns c = λ h.
-    entry_row_agrees c.args.rows.now c.args.document h.stand c.in_ok-at.at c.in_ok-at.ensures.within (map step_of c.args.steps.now) c.level_at-level.result c.lines_before_mark.result c.rows_under.result c.level_at-level.ensures
-    c.lines_before_mark.ensures c.rows_under.ensures.value (c.in_ok-at.ensures.found h)
+    entry_row_agrees c.args.rows.now c.args.document h.stand c.in_ok-at.at c.in_ok-at.ensures.within (map step_of c.args.steps.now) c.level_at-level.result c.lines_before_mark-dashes.result c.row_behind.result c.level_at-level.ensures
+    c.lines_before_mark-dashes.ensures c.row_behind.ensures (c.in_ok-at.ensures.found h)
