@@ -9,7 +9,7 @@ use Rattle.yq_row_lines.specs.declared.line_position.Position.{Position}
 use Rattle.yq_row_lines.specs.declared.line_position.Stretch.{Stretch}
 use Rattle.yq_row_lines.proofs.KnownLaws.{one_there}
 use Rattle.yq_row_lines.proofs.KnownWalks.{end_later, row_later}
-use Rattle.yq_row_lines.proofs.Siblings.{get_taken}
+use Rattle.yq_row_lines.proofs.WalkPositions.{get_taken}
 use Rattle.yq_row_lines.proofs.WalkRows.{under_more}
 
 module _ (s : RowsView) (d : Stretch) (h : HasRows s d) (row : ℕ) (under : Position) (floor : ℕ) (k : KnownItem) (among : IsKnownIn s.rows under floor d.end k) where
