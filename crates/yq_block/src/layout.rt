@@ -4,7 +4,7 @@ use yq_block_scalars::Break;
 
 /// The break between lines, and by how many columns a mapping, and a sequence, stands deeper than
 /// its key (YAML 1.2.2, 8.2).
-#[derive(Clone, Copy, Debug)]
+#[derive(Clone, Copy)]
 pub struct Layout {
     pub br: Break,
     pub mapping: usize,

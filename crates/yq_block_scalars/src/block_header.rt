@@ -7,7 +7,7 @@ ghost use Rattle.yq_block_scalars.specs.BlockReading as reading;
 use yq_flow_scalars::{FaultKind, Style, is_blank, is_line, is_white, line_len, past_white};
 
 /// How the breaks of a block scalar are read.
-#[derive(Clone, Copy, Debug, PartialEq, Eq)]
+#[derive(Clone, Copy, PartialEq, Eq)]
 pub enum BlockStyle {
     /// As they are, behind `|`.
     Literal,
@@ -16,7 +16,7 @@ pub enum BlockStyle {
 }
 
 /// What becomes of the breaks at the end.
-#[derive(Clone, Copy, Debug, PartialEq, Eq)]
+#[derive(Clone, Copy, PartialEq, Eq)]
 pub enum Chomping {
     /// They go, behind `-`.
     Strip,

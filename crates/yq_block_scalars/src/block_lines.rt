@@ -10,7 +10,7 @@ use yq_flow_scalars::{
 };
 
 /// The indentation of a block scalar's text, in columns, and whether a digit or a text line gives it.
-#[derive(Clone, Copy, Debug, PartialEq, Eq)]
+#[derive(Clone, Copy, PartialEq, Eq)]
 pub struct TextIndent {
     pub columns: usize,
     pub known: bool,

@@ -2,7 +2,7 @@
 ghost use Rattle.yq_block_scalars.specs.declared.block_types.Before.TheVariants.{Nothing};
 
 /// What stands before a line of folded text.
-#[derive(Clone, Copy, Debug, PartialEq, Eq)]
+#[derive(Clone, Copy, PartialEq, Eq)]
 pub enum Before {
     /// Empty lines alone.
     Nothing,

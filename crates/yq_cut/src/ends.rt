@@ -6,7 +6,7 @@ ghost use Rattle.yq_cut.specs.Offsets.{AreCuts, Ends};
 ghost use Rattle.yq_cut.specs.View.{bound_view};
 
 /// The end of a part: the rows between two markers or the ends of the text.
-#[derive(Clone, Copy, Debug)]
+#[derive(Clone, Copy)]
 pub struct Bound<'t> {
     /// How many rows stand before it, from the beginning of the text.
     pub rows: usize,
@@ -19,7 +19,7 @@ pub struct Bound<'t> {
 /// Where a part ends in its text: how many rows stand before it, where the gap there begins, and how
 /// long that gap and the line of the marker are, in bytes, each below the limit of a text's length,
 /// which a `u32` holds.
-#[derive(Clone, Copy, Debug)]
+#[derive(Clone, Copy)]
 pub struct EndPlace {
     /// How many rows stand before it, from the beginning of the text.
     pub rows: usize,

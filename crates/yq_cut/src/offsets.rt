@@ -13,7 +13,7 @@ use std::mem::size_of;
 
 /// Where a row begins in its text, and how long its pieces are, in bytes, each below the limit of a
 /// text's length, which a `u32` holds. It takes 48 bytes, a `Row` 176.
-#[derive(Clone, Copy, Debug)]
+#[derive(Clone, Copy)]
 pub struct Offsets {
     pub start: u32,
     pub gap: u32,

@@ -17,7 +17,7 @@ use yq_text::Halves;
 /// is between two of them. Rows in front of it are kept by how far from the text's beginning they stand,
 /// those behind it by how far from its end, the last one first: so that rows stay as they are where the
 /// text changes between the two.
-#[derive(Debug, Drop)]
+#[derive(Drop)]
 pub struct Places {
     /// The rows in front of the split, each by how far from the beginning of the text it begins.
     pub front: Vec<Offsets>,

@@ -3,7 +3,7 @@ ghost use Rattle.std.specs.Prelude.{◌≡◌};
 ghost use Rattle.yq_cut.specs.View.{view};
 
 /// A row, as slices of its text.
-#[derive(Clone, Copy, Debug)]
+#[derive(Clone, Copy)]
 pub struct Row<'t> {
     pub gap: &'t str,
     /// Below the limit of a text's length, which a `u32` holds.

@@ -20,7 +20,7 @@ use yq_text::Halves;
 
 /// The rows of a text in two halves, and the gaps and markers that belong to no row. A row is kept by
 /// where it stands in one of the halves, and made anew each time.
-#[derive(Debug, Drop)]
+#[derive(Drop)]
 pub struct Rows<'t> {
     pub(crate) text: Halves<'t>,
     pub(crate) places: Places,

@@ -53,7 +53,7 @@ pub fn last_run(gap: &str) -> &str
 }
 
 /// The texts of the comment lines that end a gap, in order.
-#[derive(Clone, Debug, Drop)]
+#[derive(Clone, Drop)]
 pub struct Comments<'d> {
     lines: &'d str,
 }

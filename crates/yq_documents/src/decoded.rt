@@ -4,7 +4,7 @@ use yq_lines::Head;
 
 /// What a row spells that its text doesn't lend: a key with escapes, a scalar with escapes or of several
 /// lines, an alias or a flow collection.
-#[derive(Debug, Drop)]
+#[derive(Drop)]
 pub struct Decoded<'t> {
     /// How many rows of the text stand before the row.
     pub row: usize,

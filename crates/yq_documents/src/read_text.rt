@@ -21,7 +21,7 @@ use yq_cut::Rows;
 use yq_row_lines::Stretch;
 
 /// The rows of a document among those of a text, and the gap that its lead ends.
-#[derive(Clone, Copy, Debug)]
+#[derive(Clone, Copy)]
 pub struct DocumentRows<'t> {
     pub lead: &'t str,
     pub first: usize,
@@ -30,7 +30,7 @@ pub struct DocumentRows<'t> {
 
 /// A text that reads as documents, by its rows and by what these spell that the text doesn't lend. It is
 /// known by its text.
-#[derive(Debug, Drop)]
+#[derive(Drop)]
 pub struct ReadText<'t> {
     text: &'t str,
     rows: Rows<'t>,

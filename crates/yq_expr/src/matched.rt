@@ -24,7 +24,7 @@ use yq_tree::Documents;
 
 /// A match: its document, counted from 0, and a copy of the value there, which
 /// has no anchors and no comments. What is missing is null.
-#[derive(Debug, Drop)]
+#[derive(Drop)]
 pub struct Match {
     pub doc: usize,
     pub value: Value,

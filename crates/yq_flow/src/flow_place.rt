@@ -10,7 +10,7 @@ use yq_nodes::{Form, Inline};
 
 /// Where an edit changes a text, in bytes: what stands from `start` to `end` gives way to `lead` and,
 /// behind that, to what is written.
-#[derive(Clone, Copy, Debug)]
+#[derive(Clone, Copy)]
 pub struct EditPlace {
     pub start: usize,
     pub end: usize,

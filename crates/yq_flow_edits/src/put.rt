@@ -22,7 +22,7 @@ use yq_places::{CutText, FlowHead};
 use yq_script::Segments;
 
 /// What it comes to that a value is put in the place of a content.
-#[derive(Debug, Drop)]
+#[derive(Drop)]
 pub struct PartPut {
     /// The place, in the text that begins with the node in the head.
     pub place: EditPlace,

@@ -15,7 +15,7 @@ use yq_nodes::Value;
 use yq_places::{CutText, NodeAt};
 
 /// An empty collection, and the place of the one that it takes.
-#[derive(Debug, Drop)]
+#[derive(Drop)]
 pub struct EmptyPut {
     pub place: Path,
     pub value: Value,

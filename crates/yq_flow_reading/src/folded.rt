@@ -10,7 +10,7 @@ use crate::quoted::escape;
 use yq_flow_scalars::text::{is_break, is_space};
 
 /// What bytes of a plain or quoted scalar stand for.
-#[derive(Clone, Copy, Debug)]
+#[derive(Clone, Copy)]
 pub enum Folded<'t> {
     /// That text.
     Text(&'t str),
@@ -21,7 +21,7 @@ pub enum Folded<'t> {
 }
 
 /// A run of bytes that stand for themselves, two single quotes, or an escape.
-#[derive(Clone, Copy, Debug)]
+#[derive(Clone, Copy)]
 pub struct Item<'t> {
     pub folded: Folded<'t>,
     /// What follows it.

@@ -9,7 +9,7 @@ use crate::characters::is_text_byte;
 use std::simd::prelude::*;
 
 /// What a run is made of.
-#[derive(Clone, Copy, Debug)]
+#[derive(Clone, Copy)]
 pub enum Run {
     /// Bytes that stand in characters of a text alone.
     Text,

@@ -16,7 +16,7 @@ pub enum Style {
 }
 
 /// Where a scalar stands.
-#[derive(Clone, Copy, Debug, PartialEq, Eq)]
+#[derive(Clone, Copy, PartialEq, Eq)]
 pub enum Place {
     /// As a node outside flow collections.
     Block,

@@ -5,7 +5,7 @@ ghost use Rattle.yq_history.specs.Report as spec;
 use std::alloc::Global;
 
 /// What a command that is carried out shows.
-#[derive(Debug, Drop)]
+#[derive(Drop)]
 pub struct Report {
     /// What it prints.
     pub text: String,

@@ -6,7 +6,7 @@ use yq_flow_scalars::Kind;
 use yq_nodes::Inline;
 
 /// A text that a key or scalar stands for.
-#[derive(Debug, Drop)]
+#[derive(Drop)]
 pub enum Content<'t> {
     /// As it is written.
     Slice(&'t str),
@@ -27,7 +27,7 @@ impl Content<'_> {
 }
 
 /// What stands behind a line's mark and its anchor.
-#[derive(Debug, Drop)]
+#[derive(Drop)]
 pub enum Head<'t> {
     /// Nothing: the node is that of the lines under this one, or null.
     Nothing,

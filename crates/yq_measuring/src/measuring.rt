@@ -16,7 +16,7 @@ use yq_inline::read_gap;
 use yq_nodes::strip;
 
 /// What a node is, behind its anchor.
-#[derive(Clone, Copy, Debug)]
+#[derive(Clone, Copy)]
 pub enum NodeKind {
     /// Nothing.
     Nothing,
@@ -31,7 +31,7 @@ pub enum NodeKind {
 }
 
 /// A node in front of a text, without its parts.
-#[derive(Clone, Copy, Debug)]
+#[derive(Clone, Copy)]
 pub struct Measured<'t> {
     /// Whether it has an anchor.
     pub anchored: bool,

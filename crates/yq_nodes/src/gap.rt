@@ -7,7 +7,7 @@ ghost use Rattle.yq_nodes.specs.declared.gap.Before.TheVariants.{Token as token}
 use yq_flow_scalars::text::is_space;
 
 /// What stands before the next byte.
-#[derive(Clone, Copy, Debug)]
+#[derive(Clone, Copy)]
 pub enum Before {
     /// A token.
     Token,

@@ -3,7 +3,7 @@
 use yq_flow_scalars::{Piece, Scalar};
 
 /// An inline node of a text, by offsets in bytes.
-#[derive(Debug, Drop)]
+#[derive(Drop)]
 #[cycle(inline)]
 pub struct Inline<'t> {
     /// The name behind `&`.
@@ -18,7 +18,7 @@ pub struct Inline<'t> {
 }
 
 /// What an inline node is.
-#[derive(Debug, Drop)]
+#[derive(Drop)]
 #[cycle(inline)]
 pub enum Form<'t> {
     /// Nothing, which is null.

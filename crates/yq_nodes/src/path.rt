@@ -18,7 +18,7 @@ pub enum Step {
 }
 
 /// An item or entry of a collection, or the node at which a path begins.
-#[derive(Clone, Copy, Debug)]
+#[derive(Clone, Copy)]
 pub struct Entry<'n, 't> {
     /// The key's content and piece; an item has no key.
     pub key: Option<(&'n str, Piece)>,

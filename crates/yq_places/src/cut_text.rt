@@ -16,7 +16,7 @@ use yq_row_lines::KnownItems;
 use yq_text::Halves;
 
 /// A text that reads as documents, with its cut. It is known by its text.
-#[derive(Debug, Drop)]
+#[derive(Drop)]
 pub struct CutText<'d, 't> {
     pub(crate) text: Halves<'t>,
     pub(crate) rows: &'d Rows<'t>,

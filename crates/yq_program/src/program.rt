@@ -9,7 +9,7 @@ use yq_flow_scalars::Scalar;
 use yq_nodes::Value;
 
 /// A program, known by its syntax tree. Each literal is a value as it may be written.
-#[derive(Debug, Drop)]
+#[derive(Drop)]
 pub struct Program {
     syntax: Syntax,
 }
@@ -31,7 +31,7 @@ impl Model for Program {
 }
 
 /// The syntax tree of a program: a read, or updates that are done one after the other.
-#[derive(Debug, Drop)]
+#[derive(Drop)]
 pub enum Syntax {
     /// The stages of a pipe, one or more.
     Read(Vec<Stage>),
@@ -40,7 +40,7 @@ pub enum Syntax {
 }
 
 /// A stage of a pipe, which takes each location that it is given to others.
-#[derive(Debug, Drop)]
+#[derive(Drop)]
 pub enum Stage {
     /// The steps of a path: none for `.`.
     Path(Vec<Step>),
@@ -60,7 +60,7 @@ pub enum Step {
 }
 
 /// What `select` asks of a location.
-#[derive(Debug, Drop)]
+#[derive(Drop)]
 pub enum Condition {
     Compare(Comparison),
     /// A mapping there has that key.
@@ -68,7 +68,7 @@ pub enum Condition {
 }
 
 /// A value is compared with a scalar.
-#[derive(Debug, Drop)]
+#[derive(Drop)]
 pub struct Comparison {
     pub operand: Operand,
     /// `==`, and not `!=`.
@@ -77,7 +77,7 @@ pub struct Comparison {
 }
 
 /// What is compared.
-#[derive(Debug, Drop)]
+#[derive(Drop)]
 pub enum Operand {
     /// The value that these steps lead to. None of them is `Each`.
     Path(Vec<Step>),
@@ -86,7 +86,7 @@ pub enum Operand {
 }
 
 /// An update of the documents.
-#[derive(Debug, Drop)]
+#[derive(Drop)]
 pub enum Update {
     Assign(Assignment),
     /// Removes what the pipe finds.
@@ -95,7 +95,7 @@ pub enum Update {
 }
 
 /// A sum of terms is assigned to each location that a pipe finds.
-#[derive(Debug, Drop)]
+#[derive(Drop)]
 pub struct Assignment {
     pub left: Vec<Stage>,
     pub operator: Operator,
@@ -104,7 +104,7 @@ pub struct Assignment {
 }
 
 /// How the right side of an assignment is taken.
-#[derive(Clone, Copy, PartialEq, Eq, Debug)]
+#[derive(Clone, Copy, PartialEq, Eq)]
 pub enum Operator {
     /// `=`: found from the root.
     Set,
@@ -115,7 +115,7 @@ pub enum Operator {
 }
 
 /// A term of a sum.
-#[derive(Debug, Drop)]
+#[derive(Drop)]
 pub enum Term {
     Literal(Value),
     /// The value that the pipe finds.
@@ -123,7 +123,7 @@ pub enum Term {
 }
 
 /// A comment is set at each location that a pipe finds.
-#[derive(Debug, Drop)]
+#[derive(Drop)]
 pub struct Comment {
     pub left: Vec<Stage>,
     pub place: CommentPlace,
@@ -131,7 +131,7 @@ pub struct Comment {
 }
 
 /// Where a comment stands.
-#[derive(Clone, Copy, PartialEq, Eq, Debug)]
+#[derive(Clone, Copy, PartialEq, Eq)]
 pub enum CommentPlace {
     /// Behind the entry, on its line.
     Line,

@@ -18,7 +18,7 @@ use yq_row_lines::{Position, Stretch};
 use yq_walk::rank_at;
 
 /// A document of a text whose rows are cut, with what is made of these.
-#[derive(Clone, Copy, Debug)]
+#[derive(Clone, Copy)]
 pub(crate) struct Checked<'a, 't> {
     pub(crate) text: &'t str,
     pub(crate) rows: &'a Rows<'t>,

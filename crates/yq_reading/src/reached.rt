@@ -15,7 +15,7 @@ use yq_row_lines::Position;
 use yq_walk::{level_at, next};
 
 /// A line of a document with how deep it is, or the end behind its rows, which is at level 0.
-#[derive(Clone, Copy, Debug)]
+#[derive(Clone, Copy)]
 pub(crate) struct Reached<'a, 't> {
     pub(crate) position: Position,
     pub(crate) level: usize,

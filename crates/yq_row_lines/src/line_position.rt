@@ -3,7 +3,7 @@ ghost use Rattle.std.specs.Prelude.{◌≡◌, ◌<◌, ◌-◌, None};
 ghost use Rattle.yq_lines.specs.Outline.{level};
 
 /// The rows of a document: those of a text from one up to another one.
-#[derive(Clone, Copy, Debug)]
+#[derive(Clone, Copy)]
 pub struct Stretch {
     pub first: usize,
     pub end: usize,
@@ -11,7 +11,7 @@ pub struct Stretch {
 
 /// A line of a document by its row, of those of the text, and by how many lines of that row stand
 /// before it; or the end behind the document's rows.
-#[derive(Clone, Copy, Debug)]
+#[derive(Clone, Copy)]
 pub struct Position {
     pub row: usize,
     pub line: usize,
@@ -19,7 +19,7 @@ pub struct Position {
 
 /// An item of a collection of rows, from which a walk over the items behind it may go on: how many
 /// of them stand before its row.
-#[derive(Clone, Copy, Debug)]
+#[derive(Clone, Copy)]
 pub struct KnownItem {
     /// The line of the collection's first item.
     pub under: Position,
@@ -34,7 +34,7 @@ pub struct KnownItem {
 }
 
 /// Items from which walks over a text may go on: the two on the way of a path that passed most rows.
-#[derive(Clone, Copy, Debug)]
+#[derive(Clone, Copy)]
 pub struct KnownItems {
     pub far: Option<KnownItem>,
     pub near: Option<KnownItem>,
@@ -54,7 +54,7 @@ impl KnownItems {
 }
 
 /// Where a step leads.
-#[derive(Clone, Copy, Debug)]
+#[derive(Clone, Copy)]
 pub enum Next {
     /// To a line.
     Line(Position),

@@ -26,7 +26,7 @@ use yq_nodes::{DEPTH_LIMIT, first_is, is_quoted, strip};
 use yq_scalar::read_block;
 
 /// What stands behind a mark, by its pieces.
-#[derive(Clone, Copy, Debug)]
+#[derive(Clone, Copy)]
 pub struct Filling<'t> {
     pub space: &'t str,
     pub anchor: &'t str,

@@ -7,7 +7,7 @@ ghost use Rattle.yq_rows.specs.ReadPieces.{limit_view};
 use yq_flow_scalars::{Place, further_spaces};
 
 /// What a row asks of the next one.
-#[derive(Clone, Copy, Debug)]
+#[derive(Clone, Copy)]
 pub(crate) struct Limit {
     /// Below which column that row stands, if this is asked.
     column: Option<usize>,

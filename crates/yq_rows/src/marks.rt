@@ -19,7 +19,7 @@ use yq_flow_scalars::text::{separates, split_spaces, split_white};
 use yq_nodes::first_is;
 
 /// What a row begins with behind the dashes before it.
-#[derive(Clone, Copy, Debug)]
+#[derive(Clone, Copy)]
 pub enum Mark<'t> {
     /// Neither a dash nor a key.
     Bare,
@@ -30,7 +30,7 @@ pub enum Mark<'t> {
 }
 
 /// How a row begins behind its indentation.
-#[derive(Clone, Copy, Debug)]
+#[derive(Clone, Copy)]
 pub struct Begin<'t> {
     /// The dashes, also one that is the mark.
     pub dashes: &'t str,

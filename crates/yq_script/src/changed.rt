@@ -3,7 +3,7 @@
 use crate::splice::Splice;
 
 /// What an edit changes of a text whose ends stay.
-#[derive(Debug, Drop)]
+#[derive(Drop)]
 pub struct Changed {
     /// How many bytes stay in front of all that gives way; all, where nothing does.
     pub front: usize,

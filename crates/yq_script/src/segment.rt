@@ -7,7 +7,7 @@ use std::marker::Model;
 use yq_text::Halves;
 
 /// A segment of a text, which stands in two halves.
-#[derive(Debug, Drop)]
+#[derive(Drop)]
 pub enum Segment<'t> {
     /// It stays.
     Keep(Halves<'t>),
@@ -17,7 +17,7 @@ pub enum Segment<'t> {
 
 /// Segments of a text, in its order. What they keep and what gives way is borrowed from the text, and what
 /// comes is owned.
-#[derive(Debug, Drop)]
+#[derive(Drop)]
 pub struct Segments<'t> {
     pub(crate) segments: Vec<Segment<'t>>,
 }

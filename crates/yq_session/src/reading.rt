@@ -15,7 +15,7 @@ use yq_rows::{Meter, read_region};
 use yq_text::Halves;
 
 /// Rows and ends of parts that come in the place of others.
-#[derive(Debug, Drop)]
+#[derive(Drop)]
 pub(crate) struct Come {
     pub places: Places,
     /// How many bytes were read.

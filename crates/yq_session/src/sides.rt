@@ -9,7 +9,7 @@ use crate::kept::Kept;
 use yq_cut::{EndPlace, Offsets, Places};
 
 /// How many rows, ends of parts and bytes stand in front of a place in a text.
-#[derive(Clone, Copy, Debug)]
+#[derive(Clone, Copy)]
 pub(crate) struct Side {
     pub rows: usize,
     pub ends: usize,
@@ -17,7 +17,7 @@ pub(crate) struct Side {
 }
 
 /// The rows and ends of parts that a change touches.
-#[derive(Clone, Copy, Debug)]
+#[derive(Clone, Copy)]
 pub(crate) struct Touched {
     /// What stands in front of them.
     pub front: Side,

@@ -32,7 +32,7 @@ use yq_script::Edited;
 use yq_segments::{comment_written, is_kept_in_row};
 
 /// A text that an operation puts in a row, in the place of what stands between two places.
-#[derive(Debug, Drop)]
+#[derive(Drop)]
 pub(crate) struct RowPut {
     /// The row's document.
     pub(crate) doc: usize,

@@ -13,7 +13,7 @@ use yq_script::{Edited, Splice};
 use yq_text::Halves;
 
 /// What values put one behind the other made of a text so far.
-#[derive(Debug, Drop)]
+#[derive(Drop)]
 pub(crate) struct Run {
     /// What stands in the new text up to the end of the last one.
     pub(crate) text: String,

@@ -35,7 +35,7 @@ use yq_tree::read;
 /// operations are applied to it one after the other, each passes what stands between its place and the last
 /// one's, and of the rows only those that it touches are read again. The way to the next one's place goes on
 /// from an item on the way of the last one.
-#[derive(Debug, Drop)]
+#[derive(Drop)]
 pub struct Session {
     alloc: Global,
     text: SplitText,

@@ -4,7 +4,7 @@ ghost use Rattle.std.specs.Str.{IsCharBoundary};
 ghost use Rattle.yq_text.specs.Halves.{whole};
 
 /// A text in two halves, one behind the other.
-#[derive(Clone, Copy, Debug)]
+#[derive(Clone, Copy)]
 pub struct Halves<'t> {
     pub front: &'t str,
     pub back: &'t str,

@@ -11,7 +11,7 @@ use std::marker::Model;
 
 /// A text that is kept in two halves with room between them: what is written there moves no other byte,
 /// and to move the split costs the bytes between its old place and its new one.
-#[derive(Debug, Drop)]
+#[derive(Drop)]
 pub struct SplitText {
     bytes: Vec<u8>,
     /// How many bytes stand in front of the split.

@@ -5,7 +5,7 @@ use yq_flow_scalars::Kind;
 use yq_nodes::Inline;
 
 /// What a node is, but for the anchor before it.
-#[derive(Clone, Copy, Debug)]
+#[derive(Clone, Copy)]
 pub(crate) enum Body<'d, 't> {
     /// A null of which nothing is written.
     Null,
@@ -20,7 +20,7 @@ pub(crate) enum Body<'d, 't> {
 }
 
 /// A node, with the anchor before it.
-#[derive(Clone, Copy, Debug)]
+#[derive(Clone, Copy)]
 pub(crate) struct Named<'d, 't> {
     pub(crate) anchor: Option<&'t str>,
     pub(crate) body: Body<'d, 't>,

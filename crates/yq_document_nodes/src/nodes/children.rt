@@ -16,7 +16,7 @@ use yq_nodes::{Form, Inline};
 use yq_walk::behind;
 
 /// What is left of the items or entries of a node.
-#[derive(Clone, Copy, Debug)]
+#[derive(Clone, Copy)]
 pub(crate) enum Rest<'d, 't> {
     /// None.
     Nothing,
@@ -29,7 +29,7 @@ pub(crate) enum Rest<'d, 't> {
 }
 
 /// The items of a sequence, or the values of the entries of a mapping, in order.
-#[derive(Clone, Debug, Drop)]
+#[derive(Clone, Drop)]
 pub struct Children<'d, 't> {
     rest: Rest<'d, 't>,
 }

@@ -27,7 +27,7 @@ use yq_nodes::Inline;
 use yq_row_lines::Position;
 
 /// What a node is.
-#[derive(Clone, Copy, PartialEq, Eq, Debug)]
+#[derive(Clone, Copy, PartialEq, Eq)]
 pub enum NodeKind {
     /// A name in the place of an earlier node.
     Alias,
@@ -40,7 +40,7 @@ pub enum NodeKind {
 }
 
 /// What is written about the entry or item of a line.
-#[derive(Clone, Copy, Debug)]
+#[derive(Clone, Copy)]
 pub(crate) struct Written<'d, 't> {
     /// Its key, if it has one.
     pub(crate) key: Option<&'d str>,
@@ -51,7 +51,7 @@ pub(crate) struct Written<'d, 't> {
 }
 
 /// Where a node stands.
-#[derive(Clone, Copy, Debug)]
+#[derive(Clone, Copy)]
 pub(crate) enum Slot<'d, 't> {
     /// It is the root of a document.
     Root,
@@ -62,7 +62,7 @@ pub(crate) enum Slot<'d, 't> {
 }
 
 /// A node, which lends what it says of its text.
-#[derive(Clone, Copy, Debug)]
+#[derive(Clone, Copy)]
 pub struct Node<'d, 't> {
     pub(crate) slot: Slot<'d, 't>,
     pub(crate) named: Named<'d, 't>,

@@ -7,7 +7,7 @@ use yq_documents::ReadText;
 use yq_row_lines::Position;
 
 /// The lines of a document from one on that are deeper than a level.
-#[derive(Clone, Copy, Debug)]
+#[derive(Clone, Copy)]
 pub(crate) struct Under<'d, 't> {
     pub(crate) text: &'d ReadText<'t>,
     /// Which document, counted from 0.

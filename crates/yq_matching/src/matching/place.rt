@@ -13,7 +13,7 @@ use yq_document_nodes::Node;
 use yq_program::Step;
 
 /// A step to a node of a document.
-#[derive(Clone, Copy, Debug)]
+#[derive(Clone, Copy)]
 pub enum NodeStep<'a> {
     /// To the value of a key.
     Key(&'a str),

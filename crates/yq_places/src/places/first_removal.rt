@@ -13,7 +13,7 @@ use yq_documents::Path;
 use yq_text::Halves;
 
 /// What is taken out of a text with the first item or entry of a compact collection.
-#[derive(Clone, Copy, Debug)]
+#[derive(Clone, Copy)]
 pub struct FirstRemoval<'d> {
     /// The text before what goes.
     pub before: Halves<'d>,

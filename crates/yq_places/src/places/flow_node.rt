@@ -14,7 +14,7 @@ use yq_lines::Head;
 use yq_nodes::{Form, Inline, Step};
 
 /// The node in the head of a line, and the steps that lead in it to a flow collection.
-#[derive(Debug, Drop)]
+#[derive(Drop)]
 pub struct FlowHead<'s, 't> {
     /// The node, with the places of its parts in the text that begins with it.
     pub node: Box<Inline<'t>>,

@@ -20,7 +20,7 @@ use yq_text::Halves;
 use yq_walk::{head_place, line_column};
 
 /// A key or dash of a text.
-#[derive(Clone, Copy, Debug)]
+#[derive(Clone, Copy)]
 pub struct Mark {
     /// Its column, counted from 0.
     pub column: usize,
@@ -32,7 +32,7 @@ pub struct Mark {
 }
 
 /// A key or dash of a text, with what it holds.
-#[derive(Clone, Copy, Debug)]
+#[derive(Clone, Copy)]
 pub struct Held<'t> {
     /// The key or dash.
     pub mark: Mark,

@@ -20,7 +20,7 @@ use yq_row_lines::Position;
 use yq_walk::{front_len, lines_before_mark};
 
 /// A key or dash of a text whose line is the last one of its row, with what that row holds behind it.
-#[derive(Clone, Copy, Debug)]
+#[derive(Clone, Copy)]
 pub struct HeldRow<'t> {
     /// How many rows of the text stand before it.
     pub row: usize,

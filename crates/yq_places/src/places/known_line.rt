@@ -13,7 +13,7 @@ use yq_row_lines::{KnownItems, Position, Stretch};
 use yq_walk::{line_at, reach};
 
 /// The line to which all steps of a path lead in a document.
-#[derive(Clone, Copy, Debug)]
+#[derive(Clone, Copy)]
 pub(crate) struct KnownLine<'s> {
     pub(crate) document: Stretch,
     pub(crate) steps: &'s [Step],

@@ -12,7 +12,7 @@ use yq_text::Halves;
 use yq_walk::row_start;
 
 /// The lines above a row of a text.
-#[derive(Clone, Copy, Debug)]
+#[derive(Clone, Copy)]
 pub struct LinesAbove<'d> {
     /// The text before the run of comment lines that ends them.
     pub before: Halves<'d>,

@@ -13,7 +13,7 @@ use yq_flow_scalars::text::split_white;
 use yq_text::Halves;
 
 /// Lines of a text, less their last break, with what is before and behind them.
-#[derive(Clone, Copy, Debug)]
+#[derive(Clone, Copy)]
 pub(crate) struct LinesCut<'t> {
     pub(crate) before: Halves<'t>,
     /// Whether there are none.
@@ -25,7 +25,7 @@ pub(crate) struct LinesCut<'t> {
 }
 
 /// The end of a row's line: the white space and the comment that end it, and its break.
-#[derive(Clone, Copy, Debug)]
+#[derive(Clone, Copy)]
 pub(crate) struct TailCut<'t> {
     pub(crate) white: &'t str,
     pub(crate) comment: &'t str,

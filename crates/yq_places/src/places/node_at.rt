@@ -28,7 +28,7 @@ use yq_row_lines::{Position, Stretch};
 use yq_walk::{behind, is_deeper, is_item_at};
 
 /// What a node is, as far as updates ask.
-#[derive(Debug, Drop)]
+#[derive(Drop)]
 pub enum NodeAt<'t> {
     Alias,
     Scalar(Kind, Content<'t>),

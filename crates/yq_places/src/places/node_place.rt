@@ -15,7 +15,7 @@ use yq_row_lines::{KnownItems, Position, Stretch};
 use yq_walk::{begins_with_node, has_head, level_at, next};
 
 /// Where a node is written.
-#[derive(Clone, Copy, Debug)]
+#[derive(Clone, Copy)]
 pub(crate) enum NodePlace {
     /// In the head of a line.
     Head(Position),

@@ -31,7 +31,7 @@ use yq_text::Halves;
 use yq_walk::{behind, row_start};
 
 /// What a gap that comes to stand behind a block scalar asks.
-#[derive(Clone, Copy, Debug)]
+#[derive(Clone, Copy)]
 pub struct Seam {
     /// Whether the scalar keeps the empty lines at its end.
     pub keeps: bool,
@@ -42,7 +42,7 @@ pub struct Seam {
 }
 
 /// What is taken out of a text with an item or entry.
-#[derive(Clone, Copy, Debug)]
+#[derive(Clone, Copy)]
 pub struct Removal<'d> {
     /// The text before the lines that go.
     pub before: Halves<'d>,

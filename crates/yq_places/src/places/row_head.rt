@@ -14,7 +14,7 @@ use yq_text::Halves;
 use yq_walk::head_place;
 
 /// The head of a row, with the text that begins with it.
-#[derive(Debug, Drop)]
+#[derive(Drop)]
 pub(crate) struct RowHead<'t> {
     /// The head, with its places in the text.
     pub(crate) head: Head<'t>,

@@ -19,7 +19,7 @@ use yq_row_lines::{KnownItems, Stretch};
 use yq_walk::{level_at, lines_before_mark};
 
 /// The rows of an item or entry.
-#[derive(Clone, Copy, Debug)]
+#[derive(Clone, Copy)]
 pub(crate) struct RowsOfEntry {
     /// How many rows of the text stand before the first one.
     pub(crate) row: usize,

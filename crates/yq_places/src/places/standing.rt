@@ -12,7 +12,7 @@ use yq_documents::Path;
 use yq_text::Halves;
 
 /// A node that is alone on its line: under a key or dash, or as a root.
-#[derive(Clone, Copy, Debug)]
+#[derive(Clone, Copy)]
 pub struct Lone<'t> {
     /// The text before it, with its anchor.
     pub before: Halves<'t>,
@@ -23,7 +23,7 @@ pub struct Lone<'t> {
 }
 
 /// A collection of a text that begins on the line of a dash.
-#[derive(Clone, Copy, Debug)]
+#[derive(Clone, Copy)]
 pub struct Compact<'t> {
     /// The dash.
     pub mark: Mark,
@@ -40,7 +40,7 @@ pub struct Compact<'t> {
 }
 
 /// A block collection of a text that is a root.
-#[derive(Clone, Copy, Debug)]
+#[derive(Clone, Copy)]
 pub struct BlockRoot<'t> {
     /// The column of its items or entries, counted from 0.
     pub column: usize,
@@ -55,7 +55,7 @@ pub struct BlockRoot<'t> {
 }
 
 /// A document of a text without rows.
-#[derive(Clone, Copy, Debug)]
+#[derive(Clone, Copy)]
 pub struct NoRows<'t> {
     /// The text up to the end of its gap.
     pub before: Halves<'t>,
@@ -64,7 +64,7 @@ pub struct NoRows<'t> {
 }
 
 /// What stands in a text where a path leads, outside flow collections.
-#[derive(Clone, Copy, Debug)]
+#[derive(Clone, Copy)]
 pub enum Standing<'t> {
     /// A node alone on its line.
     Alone(Lone<'t>),

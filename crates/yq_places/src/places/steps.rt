@@ -13,7 +13,7 @@ use yq_row_lines::{Position, Stretch};
 use yq_walk::{level_at, lines_before_mark};
 
 /// How much deeper than its key a mapping, and a sequence, stands in a document.
-#[derive(Clone, Copy, Debug)]
+#[derive(Clone, Copy)]
 pub struct Steps {
     /// Of mappings, in columns.
     pub mapping: usize,

@@ -16,7 +16,7 @@ use yq_row_lines::{KnownItems, Stretch};
 use yq_walk::{line_at, lines_before_mark};
 
 /// A line of a row.
-#[derive(Clone, Copy, Debug)]
+#[derive(Clone, Copy)]
 pub(crate) struct RowLine {
     /// How many rows of the text stand before the row.
     pub(crate) row: usize,

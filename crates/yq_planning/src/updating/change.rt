@@ -4,7 +4,7 @@ use yq_nodes::{Step, Value};
 use yq_program::CommentPlace;
 
 /// What a collection gets.
-#[derive(Debug, Drop)]
+#[derive(Drop)]
 pub enum Addition {
     /// One item more, or one entry more with that key.
     Appends(Option<String>, Value),
@@ -13,7 +13,7 @@ pub enum Addition {
 }
 
 /// What is changed at a node.
-#[derive(Debug, Drop)]
+#[derive(Drop)]
 pub enum Change {
     /// It gives way to a value.
     Replaces(Value),
@@ -26,7 +26,7 @@ pub enum Change {
 }
 
 /// A change, and the steps from the root to its node.
-#[derive(Debug, Drop)]
+#[derive(Drop)]
 pub struct Changed {
     pub path: Vec<Step>,
     pub change: Change,

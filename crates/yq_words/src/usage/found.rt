@@ -3,7 +3,7 @@
 use crate::usage::options::is_known;
 
 /// What stands in the words behind the command's.
-#[derive(Clone, Copy, Debug)]
+#[derive(Clone, Copy)]
 pub struct Found<'w> {
     /// The first option that the command doesn't have.
     pub unknown: Option<&'w str>,

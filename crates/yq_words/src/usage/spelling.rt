@@ -1,7 +1,7 @@
 //! Words that stand where a command's name may, and name none.
 
 /// What may have been meant.
-#[derive(Clone, Copy, Debug)]
+#[derive(Clone, Copy)]
 pub enum Meant {
     /// The name of a command.
     Name(&'static str),
