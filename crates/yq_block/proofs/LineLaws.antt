@@ -16,7 +16,7 @@ use Rattle.yq_lines.specs.Grammar.{IsNode, mapping, sequence, AreEntries, no_mor
 use Rattle.yq_row_lines.specs.Lines.{mark_line, dash_line, lines_of}
 use Rattle.yq_lines.specs.Outline.{Mark, Bare, Key, Dash, Line, rank, level, anchored, label}
 use Rattle.yq_lines.proofs.NodeLaws.{anchored_none}
-use Rattle.yq_places.proofs.UnderExchange.{lines_append}
+use Rattle.yq_row_places.proofs.UnderExchange.{lines_append}
 use Rattle.yq_block.specs.BlockRows.{behind_dash, block_key, children_rows, column_below, end_before, entry_rows, indent_step, inline_of, item_column, node_rows}
 use Rattle.yq_block.specs.BlockValues.{IsFilled, entry_level, level_at}
 use Rattle.yq_block.specs.declared.layout.Layout.{Layout}

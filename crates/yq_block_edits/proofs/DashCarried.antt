@@ -18,10 +18,10 @@ use Rattle.yq_cut.specs.Rows.{Cut, Nothing, Row, cut_text, mark_column, rows_tex
 use Rattle.yq_cut.proofs.NothingLaws.{tail_apart}
 use Rattle.yq_cut.proofs.PlaceLaws.{row_front-append}
 use Rattle.yq_documents.specs.Reading.{outline_of, read_at, root_of}
-use Rattle.yq_places.specs.RowPieces.{upto_dash}
-use Rattle.yq_places.specs.PrintedLines.{last_break, less_break}
-use Rattle.yq_places.specs.Standings.{Compact, RowsOfEntry, compact_in, dash_text, rows_of_entry}
-use Rattle.yq_places.proofs.PrintedTexts.{less_is}
+use Rattle.yq_row_places.specs.RowPieces.{upto_dash}
+use Rattle.yq_row_places.specs.PrintedLines.{last_break, less_break}
+use Rattle.yq_row_places.specs.Standings.{Compact, RowsOfEntry, compact_in, dash_text, rows_of_entry}
+use Rattle.yq_row_places.proofs.PrintedTexts.{less_is}
 use Rattle.yq_change.specs.Appends.{inserted}
 use Rattle.yq_change.specs.Changed.{put_document}
 use Rattle.yq_change.specs.SoundRoots.{MayReplace}

@@ -15,12 +15,12 @@ use Rattle.yq_cut.specs.Rows.{Cut, Row, behind_dashes, cut_text, print_row, rows
 use Rattle.yq_cut.proofs.PlaceLaws.{row_then}
 use Rattle.yq_documents.specs.TreeEdits.{anchor_of}
 use Rattle.yq_documents.specs.Reading.{read_at}
-use Rattle.yq_places.specs.RowPieces.{past_dash, upto_dash}
-use Rattle.yq_places.specs.PrintedLines.{last_break}
-use Rattle.yq_places.specs.Standings.{RowsOfEntry, before_entry, behind_entry, dash_text, rows_of_entry}
-use Rattle.yq_places.proofs.CommentPieceLaws.{Ended}
-use Rattle.yq_places.proofs.DashLaws.{front_is, row_cut}
-use Rattle.yq_places.proofs.RunSpans.{rows_then}
+use Rattle.yq_row_places.specs.RowPieces.{past_dash, upto_dash}
+use Rattle.yq_row_places.specs.PrintedLines.{last_break}
+use Rattle.yq_row_places.specs.Standings.{RowsOfEntry, before_entry, behind_entry, dash_text, rows_of_entry}
+use Rattle.yq_row_places.proofs.CommentPieceLaws.{Ended}
+use Rattle.yq_row_places.proofs.DashLaws.{front_is, row_cut}
+use Rattle.yq_row_places.proofs.RunSpans.{rows_then}
 use Rattle.yq_change.specs.Siblings.{HasEntries}
 use Rattle.yq_change.specs.StandingLaws.{StandsThere}
 use Rattle.yq_change.specs.TextPieces.{IsPiece}

@@ -13,8 +13,8 @@ use Rattle.yq_cut.specs.Grammar.{IsContent, IsMark}
 use Rattle.yq_cut.specs.Rows.{Content, Row, content_text, parent_indent, print_row, rows_text, Cut}
 use Rattle.yq_cut.specs.View.{slices}
 use Rattle.yq_cut.proofs.NodeExchange.{mark_apart}
-use Rattle.yq_places.specs.RowPieces.{anchor_before, space_before}
-use Rattle.yq_places.specs.Standings.{Held, RowsOfEntry, held}
+use Rattle.yq_row_places.specs.RowPieces.{anchor_before, space_before}
+use Rattle.yq_row_places.specs.Standings.{Held, RowsOfEntry, held}
 use Rattle.yq_documents.specs.Reading.{read_at}
 use Rattle.yq_change.specs.Appends.{inserted}
 use Rattle.yq_change.specs.Changed.{put_document}

@@ -11,7 +11,7 @@ use Rattle.yq_lines.proofs.Finding.{FoundNode, path_node}
 use Rattle.yq_cut.specs.Items.{rows_items}
 use Rattle.yq_cut.specs.Rows.{Row, print_row, rows_text, Cut, cut_text}
 use Rattle.yq_documents.specs.Reading.{outline_of, read_at, root_of}
-use Rattle.yq_places.specs.Standings.{Held, RowsOfEntry, behind_entry, held}
+use Rattle.yq_row_places.specs.Standings.{Held, RowsOfEntry, behind_entry, held}
 use Rattle.yq_change.specs.Appends.{inserted}
 use Rattle.yq_change.specs.Changed.{put_document}
 use Rattle.yq_change.specs.SoundRoots.{MayReplace}

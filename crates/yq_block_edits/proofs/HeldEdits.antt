@@ -9,7 +9,7 @@ use Rattle.yq_flow_scalars.specs.declared.style.Place.TheVariants.{Block as InBl
 use Rattle.yq_flow.specs.Valued.{IsValueTree}
 use Rattle.yq_cut.specs.Rows.{Cut}
 use Rattle.yq_cut.specs.Seams.{is_block}
-use Rattle.yq_places.specs.Standings.{Held, RowsOfEntry, held}
+use Rattle.yq_row_places.specs.Standings.{Held, RowsOfEntry, held}
 use Rattle.yq_change.specs.StandingLaws.{StandsThere}
 use Rattle.yq_block.specs.declared.layout.Layout.{Layout}
 use Rattle.yq_block.specs.BlockReading.{is_filled}

@@ -17,9 +17,9 @@ use Rattle.yq_cut.specs.View.{slices}
 use Rattle.yq_cut.proofs.PlaceLaws.{row_front-append}
 use Rattle.yq_row_lines.specs.Lines.{head_of}
 use Rattle.yq_documents.specs.Reading.{read_at}
-use Rattle.yq_places.specs.CommentPlaces.{LineEnd, end_before}
-use Rattle.yq_places.specs.PrintedLines.{last_break}
-use Rattle.yq_places.specs.Standings.{Held, RowsOfEntry, before_entry, held}
+use Rattle.yq_row_places.specs.CommentPlaces.{LineEnd, end_before}
+use Rattle.yq_row_places.specs.PrintedLines.{last_break}
+use Rattle.yq_row_places.specs.Standings.{Held, RowsOfEntry, before_entry, held}
 use Rattle.yq_change.specs.Appends.{inserted}
 use Rattle.yq_change.specs.Changed.{put_document}
 use Rattle.yq_change.specs.StandingLaws.{StandsThere}

@@ -12,7 +12,7 @@ use Rattle.yq_cut.specs.Rows.{Row, Cut, cut_text}
 use Rattle.yq_cut.specs.View.{slices}
 use Rattle.yq_row_lines.specs.Lines.{content_anchor}
 use Rattle.yq_documents.specs.TreeEdits.{anchor_of}
-use Rattle.yq_places.specs.Standings.{RowsOfEntry, held, is_alone}
+use Rattle.yq_row_places.specs.Standings.{RowsOfEntry, held, is_alone}
 use Rattle.yq_change.specs.TextPieces.{IsPiece}
 use Rattle.yq_change.specs.StandingLaws.{HoldsPieces, StandsThere, held_text}
 use Rattle.yq_block_edits.proofs.NodeRowLaws.{rest}

@@ -11,8 +11,8 @@ use Rattle.yq_cut.specs.Gap.{IsBreak}
 use Rattle.yq_cut.specs.Grammar.{IsTail}
 use Rattle.yq_cut.specs.Rows.{Content, Row, mark_column, print_row, rows_text, Cut}
 use Rattle.yq_cut.specs.View.{slices}
-use Rattle.yq_places.specs.RowPieces.{anchor_before}
-use Rattle.yq_places.specs.Standings.{Held, RowsOfEntry, held}
+use Rattle.yq_row_places.specs.RowPieces.{anchor_before}
+use Rattle.yq_row_places.specs.Standings.{Held, RowsOfEntry, held}
 use Rattle.yq_change.specs.StandingLaws.{StandsThere}
 use Rattle.yq_change.specs.TextPieces.{IsPiece}
 use Rattle.yq_change.proofs.RemovalPieceLaws.{spaces_piece}

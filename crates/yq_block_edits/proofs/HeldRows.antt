@@ -20,13 +20,13 @@ use Rattle.yq_cut.proofs.CharacterLaws.{pairs_back}
 use Rattle.yq_row_lines.specs.Lines.{content_anchor, head_of, lines_of, row_lines}
 use Rattle.yq_documents.specs.TreeEdits.{anchor_of}
 use Rattle.yq_documents.specs.Reading.{outline_of, read_at}
-use Rattle.yq_places.specs.CommentPlaces.{LineEnd, end_before, line_text}
-use Rattle.yq_places.specs.PrintedLines.{last_break}
-use Rattle.yq_places.specs.Standings.{RowsOfEntry, before_entry, behind_entry, held, rows_of_entry}
-use Rattle.yq_places.proofs.CommentPieceLaws.{Ended}
-use Rattle.yq_places.proofs.LastBreakLaws.{lf_last}
-use Rattle.yq_places.proofs.LineEndLaws.{line_tail}
-use Rattle.yq_places.proofs.RunSpans.{rows_then}
+use Rattle.yq_row_places.specs.CommentPlaces.{LineEnd, end_before, line_text}
+use Rattle.yq_row_places.specs.PrintedLines.{last_break}
+use Rattle.yq_row_places.specs.Standings.{RowsOfEntry, before_entry, behind_entry, held, rows_of_entry}
+use Rattle.yq_row_places.proofs.CommentPieceLaws.{Ended}
+use Rattle.yq_row_places.proofs.LastBreakLaws.{lf_last}
+use Rattle.yq_row_places.proofs.LineEndLaws.{line_tail}
+use Rattle.yq_row_places.proofs.RunSpans.{rows_then}
 use Rattle.yq_change.specs.Siblings.{HasEntries}
 use Rattle.yq_change.specs.StandingLaws.{StandsThere}
 use Rattle.yq_change.specs.TextPieces.{IsPiece}

@@ -12,7 +12,7 @@ use Rattle.yq_cut.proofs.NodeExchange.{mark_apart}
 use Rattle.yq_cut.proofs.PlaceLaws.{row_front-append}
 use Rattle.yq_row_lines.specs.Lines.{content_anchor}
 use Rattle.yq_documents.proofs.RowLineLaws.{tail_is}
-use Rattle.yq_places.specs.Standings.{RowsOfEntry, before_entry, held}
+use Rattle.yq_row_places.specs.Standings.{RowsOfEntry, before_entry, held}
 use Rattle.yq_change.specs.DocumentRows.{behind_document}
 use Rattle.yq_change.specs.StandingLaws.{StandsThere}
 use Rattle.yq_change.proofs.CoreLaws.{put_core}

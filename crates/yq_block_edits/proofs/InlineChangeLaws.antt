@@ -3,7 +3,7 @@ use Rattle.std.proofs.Common.{◌≡◌, List, [], ◌∷◌, ◌++◌, is_some,
 use Rattle.yq_flow_scalars.specs.declared.style.Place.TheVariants.{Block as InBlock}
 use Rattle.yq_cut.specs.Exchange.{with_content}
 use Rattle.yq_cut.specs.Rows.{Row, parent_indent}
-use Rattle.yq_places.specs.Standings.{held}
+use Rattle.yq_row_places.specs.Standings.{held}
 use Rattle.yq_change.proofs.StandingRows.{rows_stand}
 use Rattle.yq_edits.specs.Layouts.{layout_of}
 use Rattle.yq_edits.specs.RowChanges.{InlineValuesChangeRows}

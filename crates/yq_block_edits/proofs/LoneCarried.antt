@@ -18,14 +18,14 @@ use Rattle.yq_cut.proofs.seams.SeamLaws.{rows_text-append}
 use Rattle.yq_documents.specs.Documents.{lead_of}
 use Rattle.yq_documents.specs.Reading.{documents, read_at, root_of}
 use Rattle.yq_documents.specs.TreeEdits.{replaced}
-use Rattle.yq_places.specs.PlacedRows.{PlacedPart, PlacedRow, placed_document}
-use Rattle.yq_places.specs.RowPaths.{IsReadable}
-use Rattle.yq_places.specs.Standings.{Lone, lone}
-use Rattle.yq_places.proofs.CommentEndLaws.{row_text_parts}
-use Rattle.yq_places.proofs.CommentPieceLaws.{gap_end}
-use Rattle.yq_places.proofs.LineEndLaws.{line_tail}
-use Rattle.yq_places.proofs.RemovalLines.{LiesIn, LineSeam, lies_in, seam_join}
-use Rattle.yq_places.proofs.RunSpans.{rows_then}
+use Rattle.yq_row_places.specs.PlacedRows.{PlacedPart, PlacedRow, placed_document}
+use Rattle.yq_row_places.specs.RowPaths.{IsReadable}
+use Rattle.yq_row_places.specs.Standings.{Lone, lone}
+use Rattle.yq_row_places.proofs.CommentEndLaws.{row_text_parts}
+use Rattle.yq_row_places.proofs.CommentPieceLaws.{gap_end}
+use Rattle.yq_row_places.proofs.LineEndLaws.{line_tail}
+use Rattle.yq_row_places.proofs.RemovalLines.{LiesIn, LineSeam, lies_in, seam_join}
+use Rattle.yq_row_places.proofs.RunSpans.{rows_then}
 use Rattle.yq_change.specs.Changed.{IsChanged, put_document}
 use Rattle.yq_change.specs.DocumentRows.{IsDocumentPart, behind_document}
 use Rattle.yq_change.specs.InlineRows.{LeadsToLone}

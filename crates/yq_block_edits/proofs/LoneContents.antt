@@ -31,13 +31,13 @@ use Rattle.yq_row_lines.specs.Lines.{lines_of, mark_line, mark_of}
 use Rattle.yq_documents.specs.Reading.{outline_of, read_at, root_of}
 use Rattle.yq_documents.specs.Ready.{begins_no_node}
 use Rattle.yq_documents.specs.TreeEdits.{replaced}
-use Rattle.yq_places.specs.RowPaths.{IsReadable}
+use Rattle.yq_row_places.specs.RowPaths.{IsReadable}
 use Rattle.yq_documents.proofs.PartRows.{each}
-use Rattle.yq_places.proofs.ReadLaws.{text_takes}
-use Rattle.yq_places.proofs.RemovalLines.{front_some}
-use Rattle.yq_places.proofs.RowPathLaws.{document_fine}
-use Rattle.yq_places.proofs.RunSpans.{rows_then}
-use Rattle.yq_places.proofs.HeadSpanLaws.{may_follow}
+use Rattle.yq_row_places.proofs.ReadLaws.{text_takes}
+use Rattle.yq_row_places.proofs.RemovalLines.{front_some}
+use Rattle.yq_row_places.proofs.RowPathLaws.{document_fine}
+use Rattle.yq_row_places.proofs.RunSpans.{rows_then}
+use Rattle.yq_row_places.proofs.HeadSpanLaws.{may_follow}
 use Rattle.yq_change.specs.Changed.{IsChanged, put_document}
 use Rattle.yq_change.specs.Contents.{TakesContent, recontent}
 use Rattle.yq_change.specs.DocumentRows.{IsDocumentPart, behind_document}

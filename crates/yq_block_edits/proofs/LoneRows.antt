@@ -21,13 +21,13 @@ use Rattle.yq_cut.proofs.seams.SeamLaws.{rows_text-append}
 use Rattle.yq_row_lines.specs.Lines.{lines_from, lines_of, mark_line, mark_of, row_lines}
 use Rattle.yq_documents.specs.Reading.{outline_of, read_at}
 use Rattle.yq_documents.specs.LinesInRows.{RowLine, row_line_of}
-use Rattle.yq_places.specs.PlacedRows.{PlacedPart, placed_document}
-use Rattle.yq_places.specs.Standings.{RowsOfEntry, before_entry, behind_entry, entry_rows_at, is_alone, lone, rows_of_entry}
-use Rattle.yq_places.proofs.CommentPieceLaws.{Ended}
-use Rattle.yq_places.proofs.PrintedTexts.{map_some}
-use Rattle.yq_places.proofs.RemovalLines.{LineSeam}
-use Rattle.yq_places.proofs.RunSpans.{rows_then}
-use Rattle.yq_places.proofs.UnderExchange.{lines_append}
+use Rattle.yq_row_places.specs.PlacedRows.{PlacedPart, placed_document}
+use Rattle.yq_row_places.specs.Standings.{RowsOfEntry, before_entry, behind_entry, entry_rows_at, is_alone, lone, rows_of_entry}
+use Rattle.yq_row_places.proofs.CommentPieceLaws.{Ended}
+use Rattle.yq_row_places.proofs.PrintedTexts.{map_some}
+use Rattle.yq_row_places.proofs.RemovalLines.{LineSeam}
+use Rattle.yq_row_places.proofs.RunSpans.{rows_then}
+use Rattle.yq_row_places.proofs.UnderExchange.{lines_append}
 use Rattle.yq_change.specs.DocumentRows.{IsDocumentPart, behind_document}
 use Rattle.yq_change.specs.InlineRows.{LeadsBelow, IsRootRow}
 use Rattle.yq_change.specs.PlacedParts.{StandsAt}

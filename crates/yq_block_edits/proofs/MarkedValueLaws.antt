@@ -9,11 +9,11 @@ use Rattle.yq_cut.specs.Rows.{Content, Nothing, Inline, Block, Row, Cut, cut_tex
 use Rattle.yq_cut.specs.Seams.{is_block}
 use Rattle.yq_cut.specs.View.{content_cut, slices}
 use Rattle.yq_documents.specs.Reading.{read_at}
-use Rattle.yq_places.specs.NodesAt.{node_in}
-use Rattle.yq_places.specs.PlacedRows.{PlacedPart, placed_document}
-use Rattle.yq_places.specs.Standings as standings
-use Rattle.yq_places.specs.Standings.{RowsOfEntry, Standing, before_entry, behind_entry, behind_mark, below, compact_in, entry_standing, held, is_alone, lone, rows_of_entry, root_standing}
-use Rattle.yq_places.proofs.PrintedTexts.{map_some}
+use Rattle.yq_row_places.specs.NodesAt.{node_in}
+use Rattle.yq_row_places.specs.PlacedRows.{PlacedPart, placed_document}
+use Rattle.yq_row_places.specs.Standings as standings
+use Rattle.yq_row_places.specs.Standings.{RowsOfEntry, Standing, before_entry, behind_entry, behind_mark, below, compact_in, entry_standing, held, is_alone, lone, rows_of_entry, root_standing}
+use Rattle.yq_row_places.proofs.PrintedTexts.{map_some}
 use Rattle.yq_change.specs.StandingLaws.{StandsThere}
 use Rattle.yq_change.proofs.StandingRows.{entry_within, rows_stand}
 use Rattle.yq_meaning.specs.Operations.{replace}

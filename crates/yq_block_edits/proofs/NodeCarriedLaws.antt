@@ -6,7 +6,7 @@ use Rattle.yq_lines.specs.Places.{content}
 use Rattle.yq_cut.specs.Rows.{Row, print_row, rows_text, Cut, cut_text}
 use Rattle.yq_cut.proofs.splices.SpliceTexts.{own_end}
 use Rattle.yq_documents.specs.Reading.{read_at, root_of}
-use Rattle.yq_places.specs.RowPaths.{IsReadable}
+use Rattle.yq_row_places.specs.RowPaths.{IsReadable}
 use Rattle.yq_change.specs.Appends.{inserted}
 use Rattle.yq_change.specs.Changed.{put_document}
 use Rattle.yq_change.specs.DocumentRows.{behind_document}

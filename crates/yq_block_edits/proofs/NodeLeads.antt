@@ -8,7 +8,7 @@ use Rattle.yq_cut.specs.View.{content_cut, slices}
 use Rattle.yq_cut.proofs.PlaceLaws.{dashes_then, row_front-append}
 use Rattle.yq_cut.proofs.seams.JoinLaws.{dashes_text-append}
 use Rattle.yq_cut.proofs.SliceLaws.{content_slices}
-use Rattle.yq_places.specs.RowPieces.{anchor_before, space_before}
+use Rattle.yq_row_places.specs.RowPieces.{anchor_before, space_before}
 use Rattle.yq_cut.specs.Items.{rows_items}
 use Rattle.yq_block.specs.BlockPlaces.{IsUpto, at_mark, at_dash}
 use Rattle.yq_edits.specs.Local.{InFirst}

@@ -17,8 +17,8 @@ use Rattle.yq_documents.specs.Documents.{document_parts}
 use Rattle.yq_row_lines.specs.Lines.{mark_of, lines_of}
 use Rattle.yq_documents.specs.Reading.{outline_of, read_at}
 use Rattle.yq_documents.proofs.PartRows.{each}
-use Rattle.yq_places.proofs.ReadLaws.{text_takes}
-use Rattle.yq_places.proofs.RowPathLaws.{StartsAt, document_fine, found_starts}
+use Rattle.yq_row_places.proofs.ReadLaws.{text_takes}
+use Rattle.yq_row_places.proofs.RowPathLaws.{StartsAt, document_fine, found_starts}
 use Rattle.yq_change.specs.Changed.{put_document}
 use Rattle.yq_change.specs.DocumentRows.{IsDocumentPart, behind_document}
 use Rattle.yq_change.specs.LineRows.{Begins}

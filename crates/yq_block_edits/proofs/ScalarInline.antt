@@ -21,7 +21,7 @@ use Rattle.yq_cut.proofs.PlaceLaws.{row_front-append}
 use Rattle.yq_cut.proofs.seams.RowSeams.{block_no_space}
 use Rattle.yq_row_lines.specs.Lines.{block_anchor}
 use Rattle.yq_documents.proofs.RowLineLaws.{tail_is}
-use Rattle.yq_places.specs.Standings.{Held, RowsOfEntry, held}
+use Rattle.yq_row_places.specs.Standings.{Held, RowsOfEntry, held}
 use Rattle.yq_change.specs.InlineRows.{IsValueNode}
 use Rattle.yq_change.specs.StandingLaws.{StandsThere}
 use Rattle.yq_change.proofs.CoreLaws.{recore, anchored_node, core_anchor, core_bare, core_head, core_keys}

@@ -31,9 +31,9 @@ use Rattle.yq_cut.proofs.PlaceLaws.{row_front-append}
 use Rattle.yq_cut.proofs.seams.RowSeams.{block_no_space}
 use Rattle.yq_row_lines.specs.Lines.{head_of, tail_of}
 use Rattle.yq_lines.specs.Comments.{line_comment}
-use Rattle.yq_places.specs.NodesAt.{node_in, scalar_in}
-use Rattle.yq_places.specs.RowPieces.{anchor_before, space_before}
-use Rattle.yq_places.specs.Standings.{Held, RowsOfEntry, held}
+use Rattle.yq_row_places.specs.NodesAt.{node_in, scalar_in}
+use Rattle.yq_row_places.specs.RowPieces.{anchor_before, space_before}
+use Rattle.yq_row_places.specs.Standings.{Held, RowsOfEntry, held}
 use Rattle.yq_change.specs.StandingLaws.{StandsThere}
 use Rattle.yq_change.proofs.PathTailLaws.{anchor_other}
 use Rattle.yq_meaning.specs.Operations.{replace}

@@ -10,8 +10,8 @@ use Rattle.yq_lines.specs.Comments.{line_comment}
 use Rattle.yq_cut.specs.Grammar.{IsTail}
 use Rattle.yq_cut.specs.Rows.{Anchor, Block, Cut}
 use Rattle.yq_cut.specs.View.{slices}
-use Rattle.yq_places.specs.Standings.{Held, RowsOfEntry, held}
-use Rattle.yq_places.proofs.LineEndLaws.{header_tail}
+use Rattle.yq_row_places.specs.Standings.{Held, RowsOfEntry, held}
+use Rattle.yq_row_places.proofs.LineEndLaws.{header_tail}
 use Rattle.yq_change.specs.StandingLaws.{StandsThere}
 use Rattle.yq_change.proofs.TextPieceLaws.{pieces_joined}
 use Rattle.yq_block.specs.declared.layout.Layout.{Layout}

@@ -4,7 +4,7 @@ use Rattle.yq_flow_scalars.specs.Paths.{Step}
 use Rattle.yq_lines.specs.Outline.{flatten}
 use Rattle.yq_cut.specs.Rows.{Cut, Row}
 use Rattle.yq_row_lines.specs.Lines.{lines_of}
-use Rattle.yq_places.specs.Standings.{RowsOfEntry, behind_entry}
+use Rattle.yq_row_places.specs.Standings.{RowsOfEntry, behind_entry}
 use Rattle.yq_change.specs.StandingLaws.{StandsThere}
 use Rattle.yq_change.proofs.StandingMarks.{behind_there, entry_there}
 use Rattle.yq_block.specs.BlockPlaces.{IsUpto, at_mark}

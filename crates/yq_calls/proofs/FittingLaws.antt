@@ -4,7 +4,7 @@ use Rattle.std.proofs.lemmas.Option.{slice_get-get_or}
 use Rattle.yq_documents.specs.Documents.{Document, Reads}
 use Rattle.yq_documents.specs.Reading.{documents_of}
 use Rattle.yq_documents.specs.Ready.{TextIsReady}
-use Rattle.yq_places.proofs.ReadLaws.{one_reading}
+use Rattle.yq_row_places.proofs.ReadLaws.{one_reading}
 use Rattle.yq_meaning.specs.After.{after_op}
 use Rattle.yq_meaning.specs.Judgement.{gives}
 use Rattle.yq_meaning.specs.Operations.{Operation, operation_of, operations_of}

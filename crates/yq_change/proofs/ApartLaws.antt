@@ -18,7 +18,7 @@ use Rattle.yq_lines.specs.Places.{Context, here, below, beside, lines_before, li
 use Rattle.yq_lines.proofs.Allowing.{Allows}
 use Rattle.yq_lines.proofs.PlaceLaws.{at}
 use Rattle.yq_lines.proofs.Values.{If, rank_small}
-use Rattle.yq_places.proofs.RowPathLaws.{allowed_level}
+use Rattle.yq_row_places.proofs.RowPathLaws.{allowed_level}
 use Rattle.yq_change.specs.Siblings.{HasEntries, NodeLines, lines_at}
 use Rattle.yq_change.proofs.NodeLineLaws.{Under, lines_found, lines_even, under_even, after_under}
 use Rattle.yq_change.specs.LineRows.{Begins, StandApart, RowBegins, LinesApart, lines_behind, EntriesApart, AreDeep, AreClosed, EvenClosed}

@@ -13,8 +13,8 @@ use Rattle.yq_row_lines.specs.Lines.{lines_from, lines_of}
 use Rattle.yq_lines.specs.Outline.{Line, end}
 use Rattle.yq_documents.specs.Reading.{root_of, document_of, is_document, all_documents, read_at}
 use Rattle.yq_lines.proofs.ByRules.{rules_from}
-use Rattle.yq_places.proofs.DocumentLaws.{is_document_of}
-use Rattle.yq_places.proofs.ReadLaws.{text_takes, text_again}
+use Rattle.yq_row_places.proofs.DocumentLaws.{is_document_of}
+use Rattle.yq_row_places.proofs.ReadLaws.{text_takes, text_again}
 use Rattle.yq_flow_scalars.proofs.Bools.{guard_then}
 use Rattle.yq_change.specs.Changed.{put_part, put_document, KeepsRows, DocumentPut, changed, PartStands, DocumentChanged, first_comment, LeadIsFirst}
 use Rattle.yq_documents.specs.TreeEdits.{change_nth}

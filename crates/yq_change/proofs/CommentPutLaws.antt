@@ -16,7 +16,7 @@ use Rattle.yq_row_lines.specs.Lines.{tail_of, mark_line, lines_of}
 use Rattle.yq_lines.specs.Outline.{Line, level, flatten, label}
 use Rattle.yq_lines.specs.Places.{lines_before, lines_after, FoundLine}
 use Rattle.yq_documents.specs.Reading.{outline_of}
-use Rattle.yq_places.specs.RowPaths.{IsReadable}
+use Rattle.yq_row_places.specs.RowPaths.{IsReadable}
 use Rattle.yq_lines.proofs.Decides.{flatten-group}
 use Rattle.yq_cut.proofs.splices.SpliceTexts.{own_gap}
 use Rattle.yq_change.specs.Changed.{put_document}
@@ -34,8 +34,8 @@ use Rattle.yq_change.specs.LineComments.{retailed, LineCommented}
 use Rattle.yq_change.proofs.LineLaws.{above_mark, mark_behind, dashes_count}
 use Rattle.yq_change.proofs.PartLaws.{part_numbered, rows_put, document_known, is_put}
 use Rattle.yq_documents.specs.TreeEdits.{with_line_comment}
-use Rattle.yq_places.proofs.RemovalLines.{front_some}
-use Rattle.yq_places.proofs.UnderExchange.{lines_append}
+use Rattle.yq_row_places.proofs.RemovalLines.{front_some}
+use Rattle.yq_row_places.proofs.UnderExchange.{lines_append}
 
 -- The line of an item or entry, and the lines with another in its place.
 pub record OneLine (p : Part) (h : NodeLines) (f : FoundLine) (a : List Line) (x : Line) (z : List Line) : Type 0 where

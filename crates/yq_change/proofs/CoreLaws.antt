@@ -10,7 +10,7 @@ use Rattle.yq_cut.specs.Rows.{Content, Nothing, Inline, Block}
 use Rattle.yq_cut.proofs.Fronts.{node_starts}
 use Rattle.yq_cut.proofs.EmptyTexts.{none_is}
 use Rattle.yq_documents.specs.Documents.{HasFitKeys}
-use Rattle.yq_places.specs.RowPaths.{apart}
+use Rattle.yq_row_places.specs.RowPaths.{apart}
 use Rattle.yq_nodes.proofs.AlikePieces.{none_unless}
 
 -- a node in the place of another one, behind its anchor

@@ -19,12 +19,12 @@ use Rattle.yq_documents.specs.Reading.{is_document, outline_of, read_at, root_of
 use Rattle.yq_lines.proofs.Allowing as allowing
 use Rattle.yq_lines.proofs.Allowing.{Allows}
 use Rattle.yq_lines.proofs.Decides.{flatten-group, even_from}
-use Rattle.yq_places.proofs.DocumentLaws.{document_is}
+use Rattle.yq_row_places.proofs.DocumentLaws.{document_is}
 use Rattle.yq_lines.proofs.Finding.{IsFoundIn, FoundNode, path_node, path_whole}
 use Rattle.yq_lines.proofs.PlaceLaws.{at, exchanged}
 use Rattle.yq_lines.proofs.Plug.{allows_from}
-use Rattle.yq_places.proofs.ReadLaws.{text_takes}
-use Rattle.yq_places.proofs.RowPathLaws.{document_fine}
+use Rattle.yq_row_places.proofs.ReadLaws.{text_takes}
+use Rattle.yq_row_places.proofs.RowPathLaws.{document_fine}
 use Rattle.yq_lines.proofs.Values.{same_rank, same_entry}
 use Rattle.yq_lines.proofs.NameLaws.{each_front, each_back}
 use Rattle.yq_lines.proofs.NodeLaws.{anchored_none}

@@ -30,11 +30,11 @@ use Rattle.yq_row_lines.specs.Lines as lines
 use Rattle.yq_lines.specs.Outline.{Line, flatten}
 use Rattle.yq_lines.specs.Places.{lines_before, lines_after}
 use Rattle.yq_documents.specs.Reading.{outline_of}
-use Rattle.yq_places.specs.RowPaths.{IsReadable}
+use Rattle.yq_row_places.specs.RowPaths.{IsReadable}
 use Rattle.yq_lines.proofs.Decides.{flatten-group}
 use Rattle.yq_lines.proofs.HeadLaws.{end_no_hash}
-use Rattle.yq_places.proofs.RemovalLines.{front_some}
-use Rattle.yq_places.proofs.UnderExchange.{lines_append}
+use Rattle.yq_row_places.proofs.RemovalLines.{front_some}
+use Rattle.yq_row_places.proofs.UnderExchange.{lines_append}
 use Rattle.yq_change.specs.Changed.{put_document}
 use Rattle.yq_change.specs.Moved.{dash_lines}
 use Rattle.yq_change.specs.Siblings.{put_lines}

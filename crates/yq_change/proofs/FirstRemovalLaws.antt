@@ -22,15 +22,15 @@ use Rattle.yq_cut.proofs.splices.SpliceTexts.{own_gap, own_end}
 use Rattle.yq_cut.specs.Reading.{begins_gap}
 use Rattle.yq_documents.specs.declared.path.Part.TheVariants.{Entry}
 use Rattle.yq_documents.specs.Documents.{document_parts, lead_of}
-use Rattle.yq_places.specs.FirstPlaces.{less_spaces, end_spaces, FirstOut, first_out, first_removal}
+use Rattle.yq_row_places.specs.FirstPlaces.{less_spaces, end_spaces, FirstOut, first_out, first_removal}
 use Rattle.yq_row_lines.specs.Lines.{lines_from, lines_of}
-use Rattle.yq_places.specs.PathPieces.{PrintedDocument, piece_in}
+use Rattle.yq_row_places.specs.PathPieces.{PrintedDocument, piece_in}
 use Rattle.yq_documents.specs.Reading.{outline_of, read_at, root_of}
-use Rattle.yq_places.specs.RowPaths.{IsReadable}
+use Rattle.yq_row_places.specs.RowPaths.{IsReadable}
 use Rattle.yq_documents.specs.LinesInRows.{RowLine, row_line}
 use Rattle.yq_documents.proofs.PartRows.{each}
-use Rattle.yq_places.proofs.ReadLaws.{text_takes}
-use Rattle.yq_places.proofs.RowPathLaws.{document_fine}
+use Rattle.yq_row_places.proofs.ReadLaws.{text_takes}
+use Rattle.yq_row_places.proofs.RowPathLaws.{document_fine}
 use Rattle.yq_change.specs.Appends.{inserted}
 use Rattle.yq_change.specs.Changed.{IsChanged, put_document}
 use Rattle.yq_change.specs.Conditions.{AreSpared}

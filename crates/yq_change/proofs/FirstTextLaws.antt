@@ -20,15 +20,15 @@ use Rattle.yq_cut.proofs.seams.FrontSeams.{rows_some}
 use Rattle.yq_documents.specs.declared.path.Part.TheVariants.{Entry}
 use Rattle.yq_row_lines.specs.Lines.{dash_line, lines_of}
 use Rattle.yq_row_lines.proofs.RowLaws.{lines_count as lines_count_from}
-use Rattle.yq_places.specs.PathPieces.{BlockEntry, found_entry, piece_in, piece_in_entry}
+use Rattle.yq_row_places.specs.PathPieces.{BlockEntry, found_entry, piece_in, piece_in_entry}
 use Rattle.yq_documents.specs.Pieces.{TextPiece}
-use Rattle.yq_places.specs.PrintedLines.{PrintedLine, line_front, print_lines, printed_from, printed_lines, printed_row, line_in, run_piece}
+use Rattle.yq_row_places.specs.PrintedLines.{PrintedLine, line_front, print_lines, printed_from, printed_lines, printed_row, line_in, run_piece}
 use Rattle.yq_documents.specs.LinesInRows.{RowLine, row_line}
-use Rattle.yq_places.proofs.FoundEntries.{lines_count}
-use Rattle.yq_places.proofs.PrintedLaws.{lines_are}
-use Rattle.yq_places.proofs.PrintedTexts.{lines_then, rows_are}
-use Rattle.yq_places.proofs.PrintedRowLines.{row_begin, printed_line, row_count}
-use Rattle.yq_places.proofs.UnderCounts.{end_is}
+use Rattle.yq_row_places.proofs.FoundEntries.{lines_count}
+use Rattle.yq_row_places.proofs.PrintedLaws.{lines_are}
+use Rattle.yq_row_places.proofs.PrintedTexts.{lines_then, rows_are}
+use Rattle.yq_row_places.proofs.PrintedRowLines.{row_begin, printed_line, row_count}
+use Rattle.yq_row_places.proofs.UnderCounts.{end_is}
 use Rattle.yq_change.specs.LineRows.{line_number}
 use Rattle.yq_change.specs.Siblings.{NodeLines}
 use Rattle.yq_change.proofs.FirstBreakLaws.{IsOneBreak, lines_break, rows_break}

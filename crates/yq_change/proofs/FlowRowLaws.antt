@@ -37,8 +37,8 @@ use Rattle.yq_cut.proofs.splices.SpliceTexts.{own_gap}
 use Rattle.yq_documents.specs.Documents.{HaveFitKeys, HasShortRoot, is_long_plain}
 use Rattle.yq_row_lines.specs.Lines.{mark_line, lines_of}
 use Rattle.yq_documents.specs.Reading.{outline_of}
-use Rattle.yq_places.proofs.FlowPieces.{named_is, none_anchored, twice}
-use Rattle.yq_places.proofs.RemovalLines.{front_some}
+use Rattle.yq_row_places.proofs.FlowPieces.{named_is, none_anchored, twice}
+use Rattle.yq_row_places.proofs.RemovalLines.{front_some}
 use Rattle.yq_change.specs.DocumentRows.{Known, behind_document}
 use Rattle.yq_change.specs.FlowChanges.{with_head}
 use Rattle.yq_change.specs.FlowRows.{InlineRow, coll_at, with_node, IsFlowAt, FlowStands, FlowEdited}

@@ -14,8 +14,8 @@ use Rattle.yq_cut.specs.Exchange.{behind_row}
 use Rattle.yq_cut.specs.Rows.{Cut, cut_text}
 use Rattle.yq_documents.specs.Reading.{read_at}
 use Rattle.yq_documents.specs.LinesInRows.{document_row}
-use Rattle.yq_places.proofs.FlowSpanLaws.{entry_spans}
-use Rattle.yq_places.proofs.HeadSpanLaws.{node_spans}
+use Rattle.yq_row_places.proofs.FlowSpanLaws.{entry_spans}
+use Rattle.yq_row_places.proofs.HeadSpanLaws.{node_spans}
 use Rattle.yq_change.specs.FlowRows.{behind_node, FlowAt}
 use Rattle.yq_change.proofs.FlowPathLaws.{row_in_cut, row_texts}
 use Rattle.yq_change.proofs.FlowRowLaws.{flow_stands}

@@ -24,13 +24,13 @@ use Rattle.yq_documents.specs.PartNumbers.{number_from, part_number}
 use Rattle.yq_documents.specs.Reading.{outline_of}
 use Rattle.yq_documents.specs.LinesInRows.{RowLine, document_row, row_line}
 use Rattle.yq_row_lines.specs.Lines.{head_of, lines_of}
-use Rattle.yq_places.specs.FlowNodes.{bare_line, content_flow, find_head, flow_collection, head_line, line_collection}
-use Rattle.yq_places.specs.FlowViews.{LeadsToHead}
-use Rattle.yq_places.specs.NodeReading.{head_at}
-use Rattle.yq_places.proofs.FlowNodeLaws.{collection_is, rows_collection}
-use Rattle.yq_places.proofs.FlowViewLaws.{head_found, numbered}
-use Rattle.yq_places.proofs.RemovalLines.{front_some}
-use Rattle.yq_places.proofs.WalkDocuments.{row_line_number}
+use Rattle.yq_row_places.specs.FlowNodes.{bare_line, content_flow, find_head, flow_collection, head_line, line_collection}
+use Rattle.yq_row_places.specs.FlowViews.{LeadsToHead}
+use Rattle.yq_row_places.specs.NodeReading.{head_at}
+use Rattle.yq_row_places.proofs.FlowNodeLaws.{collection_is, rows_collection}
+use Rattle.yq_row_places.proofs.FlowViewLaws.{head_found, numbered}
+use Rattle.yq_row_places.proofs.RemovalLines.{front_some}
+use Rattle.yq_row_places.proofs.WalkDocuments.{row_line_number}
 use Rattle.yq_change.specs.Changed.{put_document, put_part}
 use Rattle.yq_change.specs.DocumentRows.{behind_document}
 use Rattle.yq_change.specs.FlowRows.{FlowAt, InlineRow, behind_node, with_node}
@@ -40,7 +40,7 @@ use Rattle.yq_change.proofs.FlowKeptLaws.{one_other}
 use Rattle.yq_change.proofs.FlowPathLaws.{InCut, row_in_cut}
 use Rattle.yq_change.proofs.FlowRowLaws.{node_holds}
 use Rattle.yq_change.proofs.ShapeLaws.{before_strip, find_strip, group_strip, head_strip, rows_strip, strip_found, strip_outline, strip_pair, compose_strip, shapes_lines, stripped}
-use Rattle.yq_places.proofs.RemovalViewLaws.{slice_seam}
+use Rattle.yq_row_places.proofs.RemovalViewLaws.{slice_seam}
 
 -- ---- among lines
 

@@ -19,7 +19,7 @@ use Rattle.yq_cut.proofs.seams.SeamLaws.{rows_drop}
 use Rattle.yq_cut.proofs.seams.TailLaws.{fits_by}
 use Rattle.yq_row_lines.specs.Lines.{mark_of, mark_line, row_lines, lines_of}
 use Rattle.yq_documents.specs.Reading.{outline_of}
-use Rattle.yq_places.proofs.RowPathLaws.{StartsAt, found_starts}
+use Rattle.yq_row_places.proofs.RowPathLaws.{StartsAt, found_starts}
 use Rattle.yq_change.specs.DocumentRows.{IsDocumentPart, behind_document}
 use Rattle.yq_change.specs.InlineRows.{LeadsBelow, IsRootRow, LeadsToLone}
 use Rattle.yq_change.specs.LineRows.{Begins}

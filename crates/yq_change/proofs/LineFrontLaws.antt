@@ -24,7 +24,7 @@ use Rattle.yq_cut.proofs.RowAgain.{row_starts}
 use Rattle.yq_cut.proofs.seams.NodeSeams.{plain_text}
 use Rattle.yq_cut.proofs.seams.ScalarSeams.{ends_return}
 use Rattle.yq_cut.proofs.seams.TailLaws.{content_joined}
-use Rattle.yq_places.proofs.CommentPieceLaws.{Ended, gap_end}
+use Rattle.yq_row_places.proofs.CommentPieceLaws.{Ended, gap_end}
 use Rattle.yq_change.specs.LineFronts.{CleanCut, LineEndsClean}
 use Rattle.yq_change.proofs.TextPieceLaws.{piece_back}
 

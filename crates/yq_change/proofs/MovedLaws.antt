@@ -5,7 +5,7 @@ use Rattle.yq_cut.specs.Rows as rows
 use Rattle.yq_cut.specs.Rows.{Content, Nothing, behind_columns}
 use Rattle.yq_row_lines.specs.Lines.{dash_line, lines_from, row_lines, lines_of}
 use Rattle.yq_lines.specs.Outline.{Line, Dash}
-use Rattle.yq_places.proofs.UnderExchange.{lines_append}
+use Rattle.yq_row_places.proofs.UnderExchange.{lines_append}
 use Rattle.yq_change.specs.Moved.{dash_lines, moved_up, emptied, DashesFirst, FirstMoved, FirstEmptied}
 
 -- the lines of dashes, and those behind them

@@ -15,10 +15,10 @@ use Rattle.yq_lines.proofs.Decides.{flatten-group}
 use Rattle.yq_cut.specs.Rows.{Row, Part}
 use Rattle.yq_row_lines.specs.Lines.{row_lines, lines_of}
 use Rattle.yq_documents.specs.Reading.{outline_of}
-use Rattle.yq_places.specs.RemovalPlaces.{OwnRows, row_count}
+use Rattle.yq_row_places.specs.RemovalPlaces.{OwnRows, row_count}
 use Rattle.yq_documents.specs.LinesInRows.{RowLine, row_line}
 use Rattle.yq_row_lines.proofs.RowLaws.{lines_count}
-use Rattle.yq_places.proofs.UnderCounts.{count_under}
+use Rattle.yq_row_places.proofs.UnderCounts.{count_under}
 use Rattle.yq_change.specs.EntryRows.{HasWholeRows}
 use Rattle.yq_change.specs.LineRows.{Begins, lines_behind}
 use Rattle.yq_change.specs.RemovalChanges.{OwnRowsStand}

@@ -16,12 +16,12 @@ use Rattle.yq_cut.specs.Seams.{are_seamed}
 use Rattle.yq_cut.specs.SpliceFits.{is_after, SpliceFits}
 use Rattle.yq_documents.specs.Documents.{HaveFitKeys, HasShortRoot, begins_bare, document_parts, has_begin, parts_from}
 use Rattle.yq_documents.specs.Reading.{is_document, read_at}
-use Rattle.yq_places.specs.RowPaths.{IsReadable}
+use Rattle.yq_row_places.specs.RowPaths.{IsReadable}
 use Rattle.yq_lines.proofs.Decides.{even_from}
 use Rattle.yq_cut.proofs.splices.SpliceCases.{open_part}
-use Rattle.yq_places.proofs.DocumentLaws.{document_is}
-use Rattle.yq_places.proofs.ReadLaws.{text_takes}
-use Rattle.yq_places.proofs.RowPathLaws.{document_fine}
+use Rattle.yq_row_places.proofs.DocumentLaws.{document_is}
+use Rattle.yq_row_places.proofs.ReadLaws.{text_takes}
+use Rattle.yq_row_places.proofs.RowPathLaws.{document_fine}
 use Rattle.yq_change.specs.Changed.{put_part, put_document}
 use Rattle.yq_change.specs.Edited.{IsPut}
 use Rattle.yq_change.specs.DocumentRows.{IsDocumentPart, behind_document, PartNumbered, RowsPut, DocumentKnown, RowsFit, DocumentSpliced}

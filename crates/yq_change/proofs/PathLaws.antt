@@ -16,7 +16,7 @@ use Rattle.yq_documents.specs.Reading.{outline_of}
 use Rattle.yq_lines.specs.Ends.{found_line, line_of}
 use Rattle.yq_documents.specs.LinesInRows.{RowLine, row_line}
 use Rattle.yq_lines.proofs.Values.{If}
-use Rattle.yq_places.proofs.FlowViewLaws.{before_under}
+use Rattle.yq_row_places.proofs.FlowViewLaws.{before_under}
 use Rattle.yq_change.specs.Siblings.{IsEntry, HasEntries, NodeLines, lines_at, lines_below, under_line}
 use Rattle.yq_change.proofs.NodeLineLaws.{Under, lines_found}
 use Rattle.yq_change.specs.PathRows.{IsEntryLine, PathIsEntry, PathLineCommented, PathHeadCommented}
@@ -25,7 +25,7 @@ use Rattle.yq_change.proofs.HeadLaws.{head_commented}
 use Rattle.yq_change.proofs.LineLaws.{row_line_splits}
 use Rattle.yq_change.proofs.PartLaws.{document_known}
 use Rattle.yq_change.proofs.CommentPutLaws.{line_commented}
-use Rattle.yq_places.proofs.FoundLaws.{before_inside}
+use Rattle.yq_row_places.proofs.FoundLaws.{before_inside}
 
 -- the line to which steps lead; the root has none
 abbrev found_at : List Step → Outline → Option (FoundLine × List Step)

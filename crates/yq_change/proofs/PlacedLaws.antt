@@ -16,7 +16,7 @@ use Rattle.yq_lines.proofs.Decides.{flatten-group}
 use Rattle.yq_lines.proofs.Finding.{IsFoundIn, path_whole}
 use Rattle.yq_lines.proofs.PlaceLaws.{at, placed}
 use Rattle.yq_lines.proofs.Values.{If}
-use Rattle.yq_places.proofs.UnderExchange.{lines_append}
+use Rattle.yq_row_places.proofs.UnderExchange.{lines_append}
 use Rattle.yq_change.specs.Placed.{SameParts, RowsInParts, LinePlaced, EntryPlaced, FoundIsEntry}
 use Rattle.yq_change.specs.Siblings.{NodeLines, lines_at, put_lines}
 use Rattle.yq_change.proofs.CollectionLaws.{some_at}

@@ -17,12 +17,12 @@ use Rattle.yq_cut.specs.Grammar.{AreParts}
 use Rattle.yq_cut.specs.Rows.{Row, rows_text, Cut, cut_text}
 use Rattle.yq_cut.specs.Splices.{behind_first, first_gap}
 use Rattle.yq_cut.proofs.seams.GapFronts.{gap_lines}
-use Rattle.yq_places.specs.PlacedRows.{PlacedPart, placed_document}
-use Rattle.yq_places.specs.RemovalPlaces.{Seam, kept_gap, rows_out}
-use Rattle.yq_places.proofs.CommentPieceLaws.{Ended, gap_end}
-use Rattle.yq_places.proofs.PlacedPartLaws.{part_stands}
-use Rattle.yq_places.proofs.RemovalLines.{LineSeam, line_seam, lies_in, are_lines}
-use Rattle.yq_places.proofs.RemovalTexts.{old_text}
+use Rattle.yq_row_places.specs.PlacedRows.{PlacedPart, placed_document}
+use Rattle.yq_row_places.specs.RemovalPlaces.{Seam, kept_gap, rows_out}
+use Rattle.yq_row_places.proofs.CommentPieceLaws.{Ended, gap_end}
+use Rattle.yq_row_places.proofs.PlacedPartLaws.{part_stands}
+use Rattle.yq_row_places.proofs.RemovalLines.{LineSeam, line_seam, lies_in, are_lines}
+use Rattle.yq_row_places.proofs.RemovalTexts.{old_text}
 use Rattle.yq_change.specs.RemovalChanges.{mended}
 use Rattle.yq_change.specs.TextPieces.{IsPiece}
 use Rattle.yq_change.proofs.TextPieceLaws.{line_cut, piece_back, pieces_joined}

@@ -6,9 +6,9 @@ use Rattle.yq_flow_scalars.specs.Text.{joined, lines_of as text_lines}
 use Rattle.yq_cut.specs.Removal.{hold_comment, seam_gap}
 use Rattle.yq_cut.specs.Rows.{part_text}
 use Rattle.yq_cut.proofs.seams.SeamLaws.{gap_text, rows_text-append}
-use Rattle.yq_places.specs.PlacedRows.{PlacedPart}
-use Rattle.yq_places.specs.RemovalPlaces.{OwnRows, Seam, seam_behind, rows_out}
-use Rattle.yq_places.proofs.RemovalTexts.{texts_then}
+use Rattle.yq_row_places.specs.PlacedRows.{PlacedPart}
+use Rattle.yq_row_places.specs.RemovalPlaces.{OwnRows, Seam, seam_behind, rows_out}
+use Rattle.yq_row_places.proofs.RemovalTexts.{texts_then}
 use Rattle.yq_change.specs.RemovalChanges.{mended}
 use Rattle.yq_change.specs.Removes.{without}
 

@@ -21,7 +21,7 @@ use Rattle.yq_cut.proofs.splices.PartPlaces.{part_in}
 use Rattle.yq_documents.specs.Pieces.{before_run, last_run}
 use Rattle.yq_documents.specs.Documents.{HaveFitKeys, HasShortRoot, is_long_plain, lead_of}
 use Rattle.yq_flow_scalars.specs.Anchors.{names_of}
-use Rattle.yq_places.proofs.RemovalTexts.{run_parts}
+use Rattle.yq_row_places.proofs.RemovalTexts.{run_parts}
 use Rattle.yq_lines.specs.Group.{level_or}
 use Rattle.yq_lines.specs.Laws.{with_lines}
 use Rattle.yq_row_lines.specs.Lines.{row_lines, lines_of}
@@ -29,8 +29,8 @@ use Rattle.yq_lines.specs.Outline.{Line, level, Outline, flatten}
 use Rattle.yq_lines.specs.Outline.{row}
 use Rattle.yq_lines.specs.Places.{lines_before, lines_after, plug, FoundLine, content}
 use Rattle.yq_documents.specs.Reading.{outline_of, root_of}
-use Rattle.yq_places.specs.RowPaths.{IsReadable}
-use Rattle.yq_places.proofs.UnderExchange.{lines_append}
+use Rattle.yq_row_places.specs.RowPaths.{IsReadable}
+use Rattle.yq_row_places.proofs.UnderExchange.{lines_append}
 use Rattle.yq_change.specs.Changed.{IsChanged, put_document}
 use Rattle.yq_change.specs.Conditions.{AreSpared, BeginsEntry}
 use Rattle.yq_change.specs.EntryRows.{HasWholeRows}

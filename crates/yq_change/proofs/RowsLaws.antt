@@ -5,7 +5,7 @@ use Rattle.yq_lines.specs.Outline.{Line, flatten}
 use Rattle.yq_lines.specs.Places.{lines_before, lines_after}
 use Rattle.yq_documents.specs.Reading.{outline_of}
 use Rattle.yq_lines.proofs.Decides.{flatten-group}
-use Rattle.yq_places.proofs.UnderExchange.{lines_append}
+use Rattle.yq_row_places.proofs.UnderExchange.{lines_append}
 use Rattle.yq_change.proofs.CollectionLaws.{relabelled}
 use Rattle.yq_change.proofs.PlacedLaws.{around, same_parts}
 use Rattle.yq_change.specs.LineRows.{lines_behind}

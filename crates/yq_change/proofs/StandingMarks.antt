@@ -11,8 +11,8 @@ use Rattle.yq_cut.proofs.PlaceLaws.{row_then}
 use Rattle.yq_cut.proofs.seams.SeamLaws.{rows_text-append}
 use Rattle.yq_row_lines.specs.Lines.{lines_of, row_lines}
 use Rattle.yq_documents.specs.Reading.{outline_of}
-use Rattle.yq_places.specs.Standings.{RowsOfEntry, behind_entry}
-use Rattle.yq_places.proofs.CommentPieceLaws.{Ended}
+use Rattle.yq_row_places.specs.Standings.{RowsOfEntry, behind_entry}
+use Rattle.yq_row_places.proofs.CommentPieceLaws.{Ended}
 use Rattle.yq_change.specs.DocumentRows.{behind_document}
 use Rattle.yq_change.specs.StandingLaws.{StandsThere}
 use Rattle.yq_change.specs.Unders.{HasUnder}

@@ -10,7 +10,7 @@ use Rattle.yq_documents.specs.PartNumbers.{part_number}
 use Rattle.yq_lines.specs.Group.{level_or}
 use Rattle.yq_lines.specs.Outline.{IsEven}
 use Rattle.yq_documents.specs.Reading.{document_of, outline_of, read_at}
-use Rattle.yq_places.specs.RowPaths.{IsReadable}
+use Rattle.yq_row_places.specs.RowPaths.{IsReadable}
 use Rattle.yq_change.specs.Changed.{put_document}
 
 -- Document k of a text that reads as a cut is this part.

@@ -9,7 +9,7 @@ use Rattle.yq_documents.specs.Documents.{lead_of}
 use Rattle.yq_row_lines.specs.Lines.{lines_of}
 use Rattle.yq_lines.specs.Places.{FoundLine}
 use Rattle.yq_documents.specs.Reading.{outline_of}
-use Rattle.yq_places.specs.RowPaths.{IsReadable}
+use Rattle.yq_row_places.specs.RowPaths.{IsReadable}
 use Rattle.yq_change.specs.Changed.{IsChanged, put_document}
 use Rattle.yq_change.specs.Siblings.{IsEntryAt, NodeLines}
 use Rattle.yq_change.specs.LineRows.{line_number}

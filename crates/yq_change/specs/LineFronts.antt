@@ -7,7 +7,7 @@ use Rattle.yq_cut.specs.Grammar.{IsRow, Limit}
 use Rattle.yq_cut.specs.Rows.{Row, print_row}
 use Rattle.yq_cut.specs.View.{slices}
 use Rattle.yq_cut.proofs.seams.ScalarSeams.{ends_return}
-use Rattle.yq_places.specs.CommentPlaces.{line_text}
+use Rattle.yq_row_places.specs.CommentPlaces.{line_text}
 use Rattle.yq_change.specs.TextPieces.{IsPiece}
 
 -- A text cut in two, where no CR stands before an LF, is in pieces.

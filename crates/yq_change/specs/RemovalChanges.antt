@@ -8,9 +8,9 @@ use Rattle.yq_flow_scalars.specs.Anchors.{names_of}
 use Rattle.yq_lines.specs.Places.{FoundLine}
 use Rattle.yq_cut.specs.Rows.{Part, Cut, cut_text}
 use Rattle.yq_documents.specs.Documents.{document_parts, lead_of}
-use Rattle.yq_places.specs.FirstPlaces.{FirstOut, first_removal}
+use Rattle.yq_row_places.specs.FirstPlaces.{FirstOut, first_removal}
 use Rattle.yq_documents.specs.Reading.{outline_of, read_at, root_of}
-use Rattle.yq_places.specs.RemovalPlaces.{OwnRows, own_rows, Seam, Removal, removal_place, has_others}
+use Rattle.yq_row_places.specs.RemovalPlaces.{OwnRows, own_rows, Seam, Removal, removal_place, has_others}
 use Rattle.yq_documents.specs.TreeEdits.{at_end}
 use Rattle.yq_change.specs.Changed.{IsChanged, KeepsRows, put_document}
 use Rattle.yq_change.specs.Conditions.{AreSpared}

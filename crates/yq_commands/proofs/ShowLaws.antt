@@ -7,7 +7,7 @@ use Rattle.yq_flow_scalars.specs.Answers.{ReadFails}
 use Rattle.yq_flow_scalars.specs.Tree.{Node}
 use Rattle.yq_flow_scalars.specs.declared.fault.ReadError.{ReadError}
 use Rattle.yq_flow_scalars.specs.declared.fault.ReadError.TheVariants as reading
-use Rattle.yq_places.specs.Answers.{IsNotUtf8}
+use Rattle.yq_row_places.specs.Answers.{IsNotUtf8}
 use Rattle.yq_documents.specs.Documents.{Document}
 use Rattle.yq_documents.specs.Reading.{documents, read_at}
 use Rattle.yq_meaning.specs.Copies.{matches}

@@ -9,10 +9,10 @@ use Rattle.yq_flow_scalars.specs.Tree.{Node}
 use Rattle.yq_flow_scalars.specs.Text.{is_line}
 use Rattle.yq_lines.specs.Outline.{flatten}
 use Rattle.yq_cut.specs.Rows.{print_row, Row, rows_text, Part, Cut, cut_text}
-use Rattle.yq_places.specs.CollectionEnds.{CollectionEnd}
+use Rattle.yq_row_places.specs.CollectionEnds.{CollectionEnd}
 use Rattle.yq_row_lines.specs.Lines.{lines_of}
 use Rattle.yq_documents.specs.Reading.{read_at}
-use Rattle.yq_places.specs.RowPaths.{IsReadable}
+use Rattle.yq_row_places.specs.RowPaths.{IsReadable}
 use Rattle.yq_block.specs.declared.layout.Layout.{Layout}
 use Rattle.yq_block.specs.Alone.{alone}
 use Rattle.yq_block.specs.BlockRows.{node_rows}
@@ -27,7 +27,7 @@ use Rattle.yq_script.specs.Script.{Segment, new_text}
 use Rattle.yq_cut.specs.Appending.{closed_by}
 use Rattle.yq_cut.proofs.PlaceLaws.{row_then}
 use Rattle.yq_cut.proofs.seams.SeamLaws.{rows_text-append}
-use Rattle.yq_places.proofs.RunSpans.{rows_then}
+use Rattle.yq_row_places.proofs.RunSpans.{rows_then}
 use Rattle.yq_cut.specs.Items.{rows_items}
 use Rattle.yq_edits.specs.Local.{IsLocal, IsLocalTo}
 use Rattle.yq_edits.proofs.ItemsLocal.{first_within, last_nothing}

@@ -14,10 +14,10 @@ use Rattle.yq_lines.specs.Places.{content}
 use Rattle.yq_cut.specs.Grammar.{unlimited, AreRows, no_rows, Limit, allows}
 use Rattle.yq_cut.specs.Rows.{rows_text, Part, Cut, cut_text}
 use Rattle.yq_cut.proofs.seams.SeamLaws.{rows_text-append}
-use Rattle.yq_places.specs.CollectionEnds.{CollectionEnd}
+use Rattle.yq_row_places.specs.CollectionEnds.{CollectionEnd}
 use Rattle.yq_documents.specs.Documents.{document_parts, lead_of}
 use Rattle.yq_documents.specs.Reading.{outline_of, read_at, root_of}
-use Rattle.yq_places.proofs.CommentPieceLaws.{Ended}
+use Rattle.yq_row_places.proofs.CommentPieceLaws.{Ended}
 use Rattle.yq_block.specs.declared.layout.Layout.{Layout}
 use Rattle.yq_block.specs.Alone.{alone}
 use Rattle.yq_block.specs.BlockRows.{node_rows}

@@ -16,9 +16,9 @@ use Rattle.yq_cut.specs.Rows.{Content, Nothing, Inline, Block, dashes_text, mark
 use Rattle.yq_cut.specs.View.{Slices, content_cut}
 use Rattle.yq_cut.proofs.NodePieces.{BeginsAscii, before_ascii, behind_ascii}
 use Rattle.yq_cut.proofs.seams.ScalarSeams.{ends_return}
-use Rattle.yq_places.specs.PrintedLines.{is_last_break, less_break, last_break}
-use Rattle.yq_places.specs.RowPieces.{anchor_before, space_before}
-use Rattle.yq_places.proofs.PrintedTexts.{less_is}
+use Rattle.yq_row_places.specs.PrintedLines.{is_last_break, less_break, last_break}
+use Rattle.yq_row_places.specs.RowPieces.{anchor_before, space_before}
+use Rattle.yq_row_places.proofs.PrintedTexts.{less_is}
 use Rattle.yq_change.specs.TextPieces.{IsPiece}
 use Rattle.yq_change.proofs.LineFrontLaws.{clean_cut, ends_more}
 use Rattle.yq_change.proofs.TextPieceLaws.{byte_cut}

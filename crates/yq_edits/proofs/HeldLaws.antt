@@ -6,14 +6,14 @@ use Rattle.yq_flow_scalars.specs.Text.{is_empty}
 use Rattle.yq_cut.specs.Exchange.{row_front}
 use Rattle.yq_cut.specs.Rows.{Row, Cut, cut_text, print_row, rows_text}
 use Rattle.yq_cut.specs.View.{Slices, slices}
-use Rattle.yq_places.specs.CommentPlaces.{LineEnd, end_before, line_text}
-use Rattle.yq_places.specs.PrintedLines.{last_break, less_break}
-use Rattle.yq_places.specs.RowPieces.{anchor_before, space_before}
-use Rattle.yq_places.proofs.PrintedTexts.{less_is}
-use Rattle.yq_places.proofs.RunSpans.{rows_then}
+use Rattle.yq_row_places.specs.CommentPlaces.{LineEnd, end_before, line_text}
+use Rattle.yq_row_places.specs.PrintedLines.{last_break, less_break}
+use Rattle.yq_row_places.specs.RowPieces.{anchor_before, space_before}
+use Rattle.yq_row_places.proofs.PrintedTexts.{less_is}
+use Rattle.yq_row_places.proofs.RunSpans.{rows_then}
 use Rattle.yq_edits.proofs.CommentRowLaws.{end_parts, entry_is_row, entry_row, found_text, line_whole, row_found}
 use Rattle.yq_change.specs.StandingLaws.{held_text}
-use Rattle.yq_places.specs.Standings.{RowsOfEntry, before_entry, behind_entry, rows_of_entry, held}
+use Rattle.yq_row_places.specs.Standings.{RowsOfEntry, before_entry, behind_entry, rows_of_entry, held}
 use Rattle.yq_cut.proofs.EmptyTexts.{empty_is}
 
 -- ---- the pieces of a row

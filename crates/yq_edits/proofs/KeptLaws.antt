@@ -15,7 +15,7 @@ use Rattle.yq_documents.specs.TreeEdits.{led, replaced}
 use Rattle.yq_change.specs.Changed.{changed, IsChanged, put_document}
 use Rattle.yq_change.proofs.LeadLaws.{same_lead_goes}
 use Rattle.yq_meaning.specs.Operations.{replace}
-use Rattle.yq_places.specs.NodesAt.{scalar_in}
+use Rattle.yq_row_places.specs.NodesAt.{scalar_in}
 use Rattle.yq_edits.specs.Replacing.{are_same}
 use Rattle.yq_edits.specs.EditLaws.{EqualScalarsStay}
 use Rattle.yq_edits.specs.ReadsAfter.{ReadsAfter}

@@ -5,9 +5,9 @@ use Rattle.yq_block_scalars.specs.BlockWritten.{break_text}
 use Rattle.yq_flow_scalars.specs.Paths.{Step}
 use Rattle.yq_flow_scalars.specs.Text.{is_empty}
 use Rattle.yq_cut.specs.Rows.{Cut, behind_gap, cut_text, rows_text}
-use Rattle.yq_places.specs.CommentPlaces.{LinesAbove, gap_above}
-use Rattle.yq_places.specs.FirstBreak.{first_break}
-use Rattle.yq_places.specs.Standings.{Held, RowsOfEntry, before_entry, behind_entry, held, rows_of_entry}
+use Rattle.yq_row_places.specs.CommentPlaces.{LinesAbove, gap_above}
+use Rattle.yq_row_places.specs.FirstBreak.{first_break}
+use Rattle.yq_row_places.specs.Standings.{Held, RowsOfEntry, before_entry, behind_entry, held, rows_of_entry}
 use Rattle.yq_meaning.specs.Meaning.{head_of}
 use Rattle.yq_script.specs.Script.{Segment, keep, put}
 

@@ -5,7 +5,7 @@ use Rattle.yq_flow_scalars.specs.Tree.{Node}
 use Rattle.yq_cut.specs.Rows.{Part, Cut, cut_text}
 use Rattle.yq_documents.specs.Documents.{document_parts, lead_of}
 use Rattle.yq_documents.specs.Reading.{read_at, root_of}
-use Rattle.yq_places.specs.RowPaths.{IsReadable}
+use Rattle.yq_row_places.specs.RowPaths.{IsReadable}
 use Rattle.yq_change.specs.Changed.{IsChanged, KeepsRows, put_document}
 use Rattle.yq_change.specs.Rooms.{is_block_root, LeadGoes, EqualRoom}
 use Rattle.yq_change.specs.TextPieces.{IsPiece}

@@ -8,11 +8,11 @@ use Rattle.yq_flow_scalars.specs.Tree.{Node}
 use Rattle.yq_nodes.specs.Collections.{CollPieces}
 use Rattle.yq_cut.specs.Rows.{Cut, cut_text}
 use Rattle.yq_documents.specs.Reading.{documents, read_at}
-use Rattle.yq_places.specs.FirstBreak.{first_break}
-use Rattle.yq_places.specs.FlowNodes.{flow_collection}
-use Rattle.yq_places.specs.NodesAt.{node_in}
-use Rattle.yq_places.specs.RemovalPlaces.{has_others_at}
-use Rattle.yq_places.specs.Standings.{FlowPart, RowsOfEntry, Standing, flow_standing, last_step, rows_of_entry, standing_at}
+use Rattle.yq_row_places.specs.FirstBreak.{first_break}
+use Rattle.yq_row_places.specs.FlowNodes.{flow_collection}
+use Rattle.yq_row_places.specs.NodesAt.{node_in}
+use Rattle.yq_row_places.specs.RemovalPlaces.{has_others_at}
+use Rattle.yq_row_places.specs.Standings.{FlowPart, RowsOfEntry, Standing, flow_standing, last_step, rows_of_entry, standing_at}
 use Rattle.yq_meaning.specs.Fits.{Fits}
 use Rattle.yq_meaning.specs.Operations.{Operation, replace, append, remove, line_comment, head_comment}
 use Rattle.yq_meaning.specs.Rooms.{room_of}

@@ -7,9 +7,9 @@ use Rattle.yq_flow_scalars.specs.Paths.{Step}
 use Rattle.yq_flow_scalars.specs.Text.{is_empty}
 use Rattle.yq_flow_scalars.specs.Tree.{Node}
 use Rattle.yq_cut.specs.Rows.{Cut}
-use Rattle.yq_places.specs.FirstPlaces.{first_removal}
-use Rattle.yq_places.specs.RemovalPlaces.{removal_place}
-use Rattle.yq_places.specs.Standings.{Held, Standing, alone, beside, under, compact, block, root, no_rows, standing_at}
+use Rattle.yq_row_places.specs.FirstPlaces.{first_removal}
+use Rattle.yq_row_places.specs.RemovalPlaces.{removal_place}
+use Rattle.yq_row_places.specs.Standings.{Held, Standing, alone, beside, under, compact, block, root, no_rows, standing_at}
 use Rattle.yq_block.specs.declared.layout.Layout.{Layout}
 use Rattle.yq_block.specs.Alone as single
 use Rattle.yq_block.specs.BlockText.{block_value}

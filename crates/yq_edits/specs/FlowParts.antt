@@ -10,7 +10,7 @@ use Rattle.yq_nodes.specs.Scalars.{style_of}
 use Rattle.yq_nodes.specs.Written.{flow_key, flow_of}
 use Rattle.yq_flow.specs.FlowEdits.{FlowEdit, appending, content_node, replacing}
 use Rattle.yq_flow.specs.Removals.{removing}
-use Rattle.yq_places.specs.Standings.{FlowPart}
+use Rattle.yq_row_places.specs.Standings.{FlowPart}
 use Rattle.yq_script.specs.Script.{Segment, keep, put, text_before}
 use Rattle.yq_edits.specs.Style.{style_in}
 

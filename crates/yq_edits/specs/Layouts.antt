@@ -2,8 +2,8 @@
 use Rattle.std.specs.Prelude.{◌≡◌, ℕ, true}
 use Rattle.yq_flow_scalars.specs.Tree.{Node}
 use Rattle.yq_cut.specs.Rows.{Cut, cut_text}
-use Rattle.yq_places.specs.FirstBreak.{first_break}
-use Rattle.yq_places.specs.Steps.{document_steps}
+use Rattle.yq_row_places.specs.FirstBreak.{first_break}
+use Rattle.yq_row_places.specs.Steps.{document_steps}
 use Rattle.yq_block.specs.BlockReading.{is_filled}
 use Rattle.yq_block.specs.declared.layout.Layout.{Layout}
 

@@ -3,7 +3,7 @@ use Rattle.std.specs.Prelude.{ℕ, List, [], ◌∷◌, ◌++◌, replicate, Opt
 use Rattle.yq_block_scalars.specs.BlockRepair.{is_short, is_outside}
 use Rattle.yq_flow_scalars.specs.Lines.{is_blank}
 use Rattle.yq_flow_scalars.specs.Text.{cut, no_white, past_white, joined, lines_of}
-use Rattle.yq_places.specs.RemovalPlaces.{Seam, Removal}
+use Rattle.yq_row_places.specs.RemovalPlaces.{Seam, Removal}
 use Rattle.yq_script.specs.Script.{Segment, keep, put}
 
 -- the white space in front of a line gives way to so many spaces (own)

@@ -5,7 +5,7 @@ use Rattle.yq_flow_scalars.specs.Answers.{◌>>=◌}
 use Rattle.yq_flow_scalars.specs.Scalar.{ScalarText}
 use Rattle.yq_flow_scalars.specs.Tree.{Node}
 use Rattle.yq_flow_scalars.specs.declared.kind.Kind.TheVariants.{Null}
-use Rattle.yq_places.specs.NodesAt.{scalar_in}
+use Rattle.yq_row_places.specs.NodesAt.{scalar_in}
 use Rattle.yq_edits.specs.Style.{is_same, table_row}
 
 -- whether there are two scalars, and they are equal (own)

@@ -6,7 +6,7 @@ use Rattle.yq_flow_scalars.specs.declared.style.Place.{Place}
 use Rattle.yq_flow_scalars.specs.declared.style.Place.TheVariants.{Block as InBlock}
 use Rattle.yq_nodes.specs.Scalars.{style_of}
 use Rattle.yq_nodes.specs.Written.{flow_text}
-use Rattle.yq_places.specs.Standings.{Mark}
+use Rattle.yq_row_places.specs.Standings.{Mark}
 use Rattle.yq_block.specs.declared.layout.Layout.{Layout}
 use Rattle.yq_block.specs.BlockReading.{is_filled}
 use Rattle.yq_block.specs.BlockRows.{indent_step, item_column}

@@ -2,7 +2,7 @@
 ghost use Rattle.std.specs.Prelude.{◌≡◌, ◌∷◌, ◌++◌, IfOk, OnOk, string_bytes};
 ghost use Rattle.yq_nodes.specs.Values.{node_of};
 ghost use Rattle.yq_block_scalars.specs.BlockWritten.{break_text};
-ghost use Rattle.yq_places.specs.StandingViews.{held_mark_view};
+ghost use Rattle.yq_row_places.specs.StandingViews.{held_mark_view};
 ghost use Rattle.yq_block.specs.BlockRows.{item_column};
 ghost use Rattle.yq_block.specs.BlockText.{block_value};
 ghost use Rattle.yq_edits.specs.WrittenValues as spec;
@@ -15,7 +15,7 @@ use yq_flow_reading::push_spaces;
 use yq_flow_scalars::Place;
 use yq_inline::style_of;
 use yq_nodes::Value;
-use yq_places::Mark;
+use yq_row_places::Mark;
 use yq_scalar::block_written::break_text;
 use yq_scalar::write_scalar;
 

@@ -12,9 +12,9 @@ use Rattle.yq_nodes.specs.Nodes.{key_text}
 use Rattle.yq_nodes.specs.Places.{Placed, placed, sequence, mapping, Parts, locate, locate_items}
 use Rattle.yq_nodes.specs.Written.{flow_key, flow_of, flow_text}
 use Rattle.yq_cut.specs.Rows.{Cut, cut_text}
-use Rattle.yq_places.specs.FlowNodes.{flow_collection}
-use Rattle.yq_places.specs.FlowViews.{behind_anchor, placed_collection}
-use Rattle.yq_places.specs.declared.places.flow_node.FlowHead.{FlowHead}
+use Rattle.yq_row_places.specs.FlowNodes.{flow_collection}
+use Rattle.yq_row_places.specs.FlowViews.{behind_anchor, placed_collection}
+use Rattle.yq_row_places.specs.declared.places.flow_node.FlowHead.{FlowHead}
 use Rattle.yq_edits.specs.FlowParts.{flow_more, flow_segments, takes_key}
 use Rattle.yq_flow_edits.specs.EditPlaces.{content_takes, moved_on, placed_takes}
 use Rattle.yq_flow_edits.proofs.FlowAnswers.{CollFound, EditFound, edit_found}

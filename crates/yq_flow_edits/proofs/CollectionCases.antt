@@ -9,7 +9,7 @@ use Rattle.yq_lines.specs.Outline.{Mark, Bare, Key, Dash, Outline, end, row, anc
 use Rattle.yq_lines.specs.Places.{here, FoundLine, find, in_head, inside, content}
 use Rattle.yq_lines.specs.Positions.{is_bare}
 use Rattle.yq_lines.proofs.Finding.{path_node}
-use Rattle.yq_places.specs.FlowNodes.{bare_line, find_head, head_line}
+use Rattle.yq_row_places.specs.FlowNodes.{bare_line, find_head, head_line}
 use Rattle.yq_change.specs.Siblings.{HasEntries, IsCollectionAt, IsEntry, NodeLines, lines_below, under_line}
 use Rattle.yq_flow_edits.proofs.FlowHeldNodes.{FlowContent, HeldAt, held, held_anchored}
 

@@ -2,7 +2,7 @@
 use Rattle.std.proofs.Common.{◌≡◌, Option, Some, None, option_map, refl}
 use Rattle.yq_flow_scalars.specs.Answers.{◌>>=◌}
 use Rattle.yq_flow_scalars.specs.Tree.{Node}
-use Rattle.yq_places.specs.NodesAt.{node_in}
+use Rattle.yq_row_places.specs.NodesAt.{node_in}
 use Rattle.yq_edits.specs.Edits.{emptied, replaced}
 use Rattle.yq_flow_edits.specs.Emptying.{Emptied, SoleByEmptying}
 

@@ -22,13 +22,13 @@ use Rattle.yq_lines.proofs.Plug.{allows_from}
 use Rattle.yq_cut.specs.Exchange.{behind_row}
 use Rattle.yq_cut.specs.Rows.{Content, Nothing, Inline, Block, Row, Part, Cut, cut_text, mark_column}
 use Rattle.yq_documents.specs.Documents.{document_parts}
-use Rattle.yq_places.specs.FlowNodes.{bare_line, content_flow, find_head, flow_collection, head_line, line_collection, part_collection}
+use Rattle.yq_row_places.specs.FlowNodes.{bare_line, content_flow, find_head, flow_collection, head_line, line_collection, part_collection}
 use Rattle.yq_row_lines.specs.Lines.{content_anchor, head_of, lines_of, mark_line}
 use Rattle.yq_documents.specs.Reading.{outline_of, read_at, root_of}
 use Rattle.yq_documents.specs.LinesInRows.{document_row, RowLine, row_line}
-use Rattle.yq_places.proofs.FlowPieces.{head_tree}
-use Rattle.yq_places.proofs.FlowPlaceLaws.{TakesSteps, mark_row_line}
-use Rattle.yq_places.proofs.FoundEntries.{middle}
+use Rattle.yq_row_places.proofs.FlowPieces.{head_tree}
+use Rattle.yq_row_places.proofs.FlowPlaceLaws.{TakesSteps, mark_row_line}
+use Rattle.yq_row_places.proofs.FoundEntries.{middle}
 use Rattle.yq_change.specs.LineRows.{IsRowLine}
 use Rattle.yq_change.specs.Moved.{dash_lines}
 use Rattle.yq_change.proofs.FlowLineLaws.{head_takes, head_whole}

@@ -31,8 +31,8 @@ use Rattle.yq_documents.specs.Documents.{EachHasFitKeys, HasFitKey, HasFitKeys, 
 use Rattle.yq_documents.specs.TreeEdits.{anchor_of}
 use Rattle.yq_documents.specs.Reading.{documents, read_at, root_of}
 use Rattle.yq_documents.specs.TreeEdits.{replaced}
-use Rattle.yq_places.specs.FlowViews.{LeadsToHead}
-use Rattle.yq_places.proofs.FlowPieces.{named_is, none_anchored}
+use Rattle.yq_row_places.specs.FlowViews.{LeadsToHead}
+use Rattle.yq_row_places.proofs.FlowPieces.{named_is, none_anchored}
 use Rattle.yq_change.specs.FlowRows.{FlowAt, behind_node}
 use Rattle.yq_change.specs.Rooms.{is_block_root}
 use Rattle.yq_change.specs.SoundRoots.{IsSoundRoot}
@@ -46,7 +46,7 @@ use Rattle.yq_meaning.specs.Fits.{Fits}
 use Rattle.yq_meaning.specs.Operations.{replace}
 use Rattle.yq_meaning.specs.Rooms.{room_of}
 use Rattle.yq_script.specs.Script.{new_text}
-use Rattle.yq_places.specs.Standings.{FlowPart, last_step}
+use Rattle.yq_row_places.specs.Standings.{FlowPart, last_step}
 use Rattle.yq_edits.specs.EditLaws.{CarriedOut, FlowValuesArePut, IsEdit}
 use Rattle.yq_edits.specs.FlowParts.{content_written, flow_put, flow_segments, flow_value}
 use Rattle.yq_edits.specs.Style.{style_in}

@@ -30,8 +30,8 @@ use Rattle.yq_meaning.specs.Fits.{Fits}
 use Rattle.yq_meaning.specs.Operations.{remove}
 use Rattle.yq_meaning.specs.Rooms.{room_of}
 use Rattle.yq_script.specs.Script.{new_text}
-use Rattle.yq_places.specs.FlowNodes.{flow_collection}
-use Rattle.yq_places.specs.Standings.{last_step}
+use Rattle.yq_row_places.specs.FlowNodes.{flow_collection}
+use Rattle.yq_row_places.specs.Standings.{last_step}
 use Rattle.yq_edits.specs.EditLaws.{CarriedOut, FlowPartIsRemoved, IsEdit}
 use Rattle.yq_edits.specs.FlowParts.{flow_segments}
 use Rattle.yq_edits.proofs.DoneLaws.{nth_map}

@@ -7,7 +7,7 @@ use Rattle.yq_flow_scalars.specs.Paths.{Step, change, child_at, node_at, remove_
 use Rattle.yq_flow_scalars.specs.Tree.{Node, children_of}
 use Rattle.yq_flow_scalars.specs.Anchors.{Name, Anchors, Refers, IsAmong, names_of}
 use Rattle.yq_documents.specs.TreeEdits.{at_end}
-use Rattle.yq_places.specs.Standings.{last_step}
+use Rattle.yq_row_places.specs.Standings.{last_step}
 use Rattle.yq_change.specs.Conditions.{AreSpared, anchors_in, aliases_in}
 use Rattle.yq_change.specs.SoundRoots.{IsSoundRoot}
 use Rattle.yq_change.proofs.AfterLaws.{end_is_change}

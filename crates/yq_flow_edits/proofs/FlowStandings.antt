@@ -16,11 +16,11 @@ use Rattle.yq_nodes.specs.Spans.{HasSpans}
 use Rattle.yq_nodes.proofs.PathLaws.{path_places}
 use Rattle.yq_cut.specs.Rows.{Cut, cut_text}
 use Rattle.yq_cut.proofs.CharacterLaws.{all_text}
-use Rattle.yq_places.specs.FlowNodes.{flow_collection}
+use Rattle.yq_row_places.specs.FlowNodes.{flow_collection}
 use Rattle.yq_documents.specs.Reading.{outline_of, read_at}
-use Rattle.yq_places.specs.Standings.{FlowPart, flow_standing, last_step}
-use Rattle.yq_places.proofs.FlowSpanLaws.{entry_spans}
-use Rattle.yq_places.proofs.HeadSteps.{stem_found}
+use Rattle.yq_row_places.specs.Standings.{FlowPart, flow_standing, last_step}
+use Rattle.yq_row_places.proofs.FlowSpanLaws.{entry_spans}
+use Rattle.yq_row_places.proofs.HeadSteps.{stem_found}
 use Rattle.yq_change.specs.DocumentRows.{IsDocumentPart}
 use Rattle.yq_change.specs.FlowRows.{coll_at, FlowAt, NodeStands}
 use Rattle.yq_change.specs.TextPieces.{IsPiece}

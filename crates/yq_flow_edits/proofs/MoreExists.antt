@@ -26,9 +26,9 @@ use Rattle.yq_cut.specs.View.{anchor_cut, content_cut, slices}
 use Rattle.yq_documents.specs.Documents.{document_parts}
 use Rattle.yq_row_lines.specs.Lines.{head_of, lines_from, lines_of, mark_of}
 use Rattle.yq_documents.specs.Reading.{outline_of, read_at, root_of}
-use Rattle.yq_places.specs.FlowNodes.{find_head, flow_collection}
-use Rattle.yq_places.specs.PlacedRows.{PlacedPart}
-use Rattle.yq_places.specs.Standings.{RowsOfEntry, Standing, behind_entry, behind_mark, below, beside, entry_standing, held, is_alone, root_standing, standing_at}
+use Rattle.yq_row_places.specs.FlowNodes.{find_head, flow_collection}
+use Rattle.yq_row_places.specs.PlacedRows.{PlacedPart}
+use Rattle.yq_row_places.specs.Standings.{RowsOfEntry, Standing, behind_entry, behind_mark, below, beside, entry_standing, held, is_alone, root_standing, standing_at}
 use Rattle.yq_change.specs.Siblings.{HasEntries, IsCollectionAt, IsEntry, NodeLines}
 use Rattle.yq_change.specs.StandingLaws.{StandsThere}
 use Rattle.yq_change.proofs.NodeLineLaws.{lines_found}

@@ -17,7 +17,7 @@ use Rattle.yq_lines.specs.Counts.{count}
 use Rattle.yq_cut.specs.Rows.{Cut, cut_text}
 use Rattle.yq_documents.specs.Documents.{Document}
 use Rattle.yq_documents.specs.Reading.{documents, documents_of, read_at, root_of}
-use Rattle.yq_places.specs.RemovalPlaces.{has_others_at, has_several}
+use Rattle.yq_row_places.specs.RemovalPlaces.{has_others_at, has_several}
 use Rattle.yq_documents.specs.TreeEdits.{change_nth, led, replaced}
 use Rattle.yq_change.proofs.AfterLaws.{end_is_change}
 use Rattle.yq_change.proofs.PartLaws.{document_known}
@@ -30,7 +30,7 @@ use Rattle.yq_meaning.specs.Operations.{replace, remove}
 use Rattle.yq_meaning.specs.Rooms.{room_of}
 use Rattle.yq_meaning.specs.RoomsKept.{HasSome}
 use Rattle.yq_script.specs.Script.{new_text}
-use Rattle.yq_places.specs.NodesAt.{node_in}
+use Rattle.yq_row_places.specs.NodesAt.{node_in}
 use Rattle.yq_edits.specs.EditLaws.{IsEdit, SoleIsRemoved}
 use Rattle.yq_edits.specs.Edits.{emptied}
 use Rattle.yq_edits.specs.ReadsAfter.{ReadsAfter}

@@ -6,8 +6,8 @@ use Rattle.yq_flow_scalars.specs.Paths.{Step}
 use Rattle.yq_flow_scalars.specs.Tree.{Node}
 use Rattle.yq_lines.specs.Outline.{Outline}
 use Rattle.yq_lines.specs.Places.{FoundLine, find, in_head, inside}
-use Rattle.yq_places.specs.FlowNodes.{bare_line, find_head, head_line}
-use Rattle.yq_places.proofs.HeadSteps.{stem_found}
+use Rattle.yq_row_places.specs.FlowNodes.{bare_line, find_head, head_line}
+use Rattle.yq_row_places.proofs.HeadSteps.{stem_found}
 use Rattle.yq_flow_edits.proofs.EntryLines.{found_at}
 
 abbrev Reached : Type 0

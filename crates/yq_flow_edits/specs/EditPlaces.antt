@@ -7,7 +7,7 @@ use Rattle.yq_flow_scalars.specs.Tree.{Node}
 use Rattle.yq_nodes.specs.Places.{Content, nothing, name, text, sequence, mapping, Placed, placed}
 use Rattle.yq_flow.specs.FlowPlaces.{PlacedEdit}
 use Rattle.yq_cut.specs.Rows.{Cut, cut_text}
-use Rattle.yq_places.specs.FlowNodes.{flow_collection}
+use Rattle.yq_row_places.specs.FlowNodes.{flow_collection}
 use Rattle.yq_script.specs.Script.{Segment, keep, put}
 use Rattle.yq_edits.specs.FlowParts.{flow_more}
 

@@ -6,8 +6,8 @@ use Rattle.yq_flow_scalars.specs.Tree.{Node, list, map, none}
 use Rattle.yq_nodes.specs.Values.{node_of}
 use Rattle.yq_cut.specs.Rows.{Cut}
 use Rattle.yq_documents.specs.Located.{steps_of}
-use Rattle.yq_places.specs.NodesAt as nodes
-use Rattle.yq_places.specs.NodesAt.{NodeAt, node_in}
+use Rattle.yq_row_places.specs.NodesAt as nodes
+use Rattle.yq_row_places.specs.NodesAt.{NodeAt, node_in}
 use Rattle.yq_edits.specs.Edits.{emptied, replaced, sole_removed}
 use Rattle.yq_flow_edits.specs.declared.sole.EmptyPut.{EmptyPut}
 

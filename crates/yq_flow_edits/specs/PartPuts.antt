@@ -10,11 +10,11 @@ use Rattle.yq_flow.specs.FlowPlaces.{edit_view, place_edit}
 use Rattle.yq_flow.specs.declared.flow_place.EditPlace.{EditPlace}
 use Rattle.yq_cut.specs.Rows.{Cut, cut_text}
 use Rattle.yq_documents.specs.Reading.{cut_of}
-use Rattle.yq_places.specs.FlowNodes.{flow_collection}
-use Rattle.yq_places.specs.FlowViews.{FlowAgrees}
-use Rattle.yq_places.specs.NodesAt.{node_in}
-use Rattle.yq_places.specs.Standings.{FlowPart, flow_standing, last_step}
-use Rattle.yq_places.specs.declared.places.flow_node.FlowHead.{FlowHead}
+use Rattle.yq_row_places.specs.FlowNodes.{flow_collection}
+use Rattle.yq_row_places.specs.FlowViews.{FlowAgrees}
+use Rattle.yq_row_places.specs.NodesAt.{node_in}
+use Rattle.yq_row_places.specs.Standings.{FlowPart, flow_standing, last_step}
+use Rattle.yq_row_places.specs.declared.places.flow_node.FlowHead.{FlowHead}
 use Rattle.yq_script.specs.Script.{Segment, keep}
 use Rattle.yq_edits.specs.FlowParts.{content_written, flow_put, flow_value}
 use Rattle.yq_edits.specs.Replacing.{is_kept}

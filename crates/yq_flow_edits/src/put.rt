@@ -5,8 +5,8 @@ ghost use Rattle.yq_nodes.specs.Values.{node_of};
 ghost use Rattle.yq_nodes.specs.View.{view};
 ghost use Rattle.yq_documents.specs.Located.{steps_of};
 ghost use Rattle.yq_documents.specs.Reading.{cut_of};
-ghost use Rattle.yq_places.specs.NodesAt.{scalar_in};
-ghost use Rattle.yq_places.specs.Standings as standings;
+ghost use Rattle.yq_row_places.specs.NodesAt.{scalar_in};
+ghost use Rattle.yq_row_places.specs.Standings as standings;
 ghost use Rattle.yq_edits.specs.Answers.{GivesSegments};
 ghost use Rattle.yq_edits.specs.Replacing.{are_same, is_kept};
 ghost use Rattle.yq_flow_edits.specs.PartPuts as spec;
@@ -18,7 +18,8 @@ use yq_edits::value_text;
 use yq_flow::{EditPlace, replace_place};
 use yq_flow_scalars::{Kind, Place};
 use yq_nodes::{Form, Inline, Value};
-use yq_places::{CutText, FlowHead};
+use yq_places::CutText;
+use yq_row_places::FlowHead;
 use yq_script::Segments;
 
 /// What it comes to that a value is put in the place of a content.

@@ -1,7 +1,7 @@
 //! Items and entries removed from flow collections.
 ghost use Rattle.yq_documents.specs.Located.{steps_of};
 ghost use Rattle.yq_documents.specs.Reading.{cut_of};
-ghost use Rattle.yq_places.specs.Standings.{last_step};
+ghost use Rattle.yq_row_places.specs.Standings.{last_step};
 ghost use Rattle.yq_edits.specs.Answers.{GivesSegments};
 ghost use Rattle.yq_edits.specs.Edits.{part_removed};
 

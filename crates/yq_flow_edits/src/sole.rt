@@ -3,8 +3,8 @@ ghost use Rattle.std.specs.Prelude.{◌≡◌, IfOk, option_map};
 ghost use Rattle.yq_nodes.specs.Values as values;
 ghost use Rattle.yq_documents.specs.Located.{steps_of};
 ghost use Rattle.yq_documents.specs.Reading.{cut_of};
-ghost use Rattle.yq_places.specs.NodesAt.{node_view};
-ghost use Rattle.yq_places.specs.Standings as standings;
+ghost use Rattle.yq_row_places.specs.NodesAt.{node_view};
+ghost use Rattle.yq_row_places.specs.Standings as standings;
 ghost use Rattle.yq_flow_edits.specs.Emptying as spec;
 
 use crate::edit::last_step;
@@ -12,7 +12,8 @@ use std::alloc::{AllocError, Global};
 use yq_documents::Path;
 use yq_meaning::copied_steps;
 use yq_nodes::Value;
-use yq_places::{CutText, NodeAt};
+use yq_places::CutText;
+use yq_row_places::NodeAt;
 
 /// An empty collection, and the place of the one that it takes.
 #[derive(Drop)]

@@ -6,13 +6,12 @@ ghost use Rattle.yq_cut.specs.Grammar.{IsCut};
 ghost use Rattle.yq_cut.specs.View.{rows_view};
 ghost use Rattle.yq_documents.specs.Reading.{all_documents, cut_of, read_at};
 ghost use Rattle.yq_row_lines.specs.RowWalk.{AreKnown};
-ghost use Rattle.yq_places.specs.RowWalk.{HasCut, IsKnownLine};
+ghost use Rattle.yq_row_places.specs.RowWalk.{HasCut, IsKnownLine};
 
-use crate::places::halves::is_text;
-use crate::places::known_line::KnownLine;
 use std::marker::Model;
 use yq_cut::Rows;
 use yq_row_lines::KnownItems;
+use yq_row_places::{KnownLine, is_text};
 use yq_text::Halves;
 
 /// A text that reads as documents, with its cut. It is known by its text.

@@ -8,13 +8,7 @@ mod places;
 pub use cut_text::CutText;
 pub use laws::path_laws::comments_stand;
 pub use laws::piece_laws::{contents_spell, entries_spell, pieces_exist, pieces_hold};
-pub use places::first_removal::FirstRemoval;
-pub use places::flow_node::{FlowHead, collection_along};
-pub use places::halves::split_break;
-pub use places::held::{Held, Mark};
-pub use places::held_row::HeldRow;
-pub use places::lines_above::LinesAbove;
-pub use places::node_at::NodeAt;
-pub use places::removal_place::{Removal, Seam};
-pub use places::standing::{BlockRoot, Compact, Lone, NoRows, Standing};
-pub use places::steps::Steps;
+pub use yq_row_places::{
+    BlockRoot, Compact, FirstRemoval, FlowHead, Held, HeldRow, LinesAbove, Lone, Mark, NoRows,
+    NodeAt, Removal, Seam, Standing, Steps, collection_along, split_break,
+};

@@ -15,12 +15,12 @@ use Rattle.yq_cut.proofs.splices.PartPlaces.{part_ends}
 use Rattle.yq_row_lines.specs.Lines.{lines_of}
 use Rattle.yq_documents.specs.Reading.{read_at}
 use Rattle.yq_documents.specs.Ready.{begins_no_node}
-use Rattle.yq_places.specs.PlacedRows.{PlacedPart, placed_document}
-use Rattle.yq_places.specs.PrintedLines.{last_break, less_break}
-use Rattle.yq_places.specs.Standings.{BlockRoot, is_alone}
-use Rattle.yq_places.proofs.CommentPieceLaws.{Ended, gap_end}
-use Rattle.yq_places.proofs.PrintedTexts.{less_is}
-use Rattle.yq_places.proofs.RemovalLines.{LineSeam, LiesIn, lies_in, seam_join}
+use Rattle.yq_row_places.specs.PlacedRows.{PlacedPart, placed_document}
+use Rattle.yq_row_places.specs.PrintedLines.{last_break, less_break}
+use Rattle.yq_row_places.specs.Standings.{BlockRoot, is_alone}
+use Rattle.yq_row_places.proofs.CommentPieceLaws.{Ended, gap_end}
+use Rattle.yq_row_places.proofs.PrintedTexts.{less_is}
+use Rattle.yq_row_places.proofs.RemovalLines.{LineSeam, LiesIn, lies_in, seam_join}
 use Rattle.yq_change.specs.DocumentRows.{IsDocumentPart}
 use Rattle.yq_documents.specs.PartNumbers.{part_number}
 use Rattle.yq_change.specs.PlacedParts.{StandsAt}

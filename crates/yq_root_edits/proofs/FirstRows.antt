@@ -9,10 +9,10 @@ use Rattle.yq_cut.specs.Rows.{Content, Row, behind_indent, content_text, mark_te
 use Rattle.yq_cut.proofs.PlaceLaws.{content_then}
 use Rattle.yq_row_lines.specs.Lines.{lines_of, mark_of}
 use Rattle.yq_documents.specs.Ready.{begins_no_node}
-use Rattle.yq_places.specs.PrintedLines.{last_break}
-use Rattle.yq_places.specs.Standings.{is_alone}
-use Rattle.yq_places.proofs.CommentPieceLaws.{Ended}
-use Rattle.yq_places.proofs.LastBreakLaws.{lf_last}
+use Rattle.yq_row_places.specs.PrintedLines.{last_break}
+use Rattle.yq_row_places.specs.Standings.{is_alone}
+use Rattle.yq_row_places.proofs.CommentPieceLaws.{Ended}
+use Rattle.yq_row_places.proofs.LastBreakLaws.{lf_last}
 use Rattle.yq_change.proofs.FirstBreakLaws.{IsOneBreak}
 use Rattle.yq_edits.proofs.BreakLaws.{last_is}
 use Rattle.yq_cut.proofs.NothingLaws.{some_behind}

@@ -10,8 +10,8 @@ use Rattle.yq_cut.specs.Rows.{Part, part_text, Cut, last, marked, cut_text}
 use Rattle.yq_cut.proofs.PlaceLaws.{part_then}
 use Rattle.yq_documents.specs.Documents.{begins_bare, has_begin, with_part, parts_from, document_parts}
 use Rattle.yq_documents.specs.PartNumbers.{number_from, part_number}
-use Rattle.yq_places.specs.PlacedRows.{PlacedPart, before_part, placed_at, placed_document}
-use Rattle.yq_places.proofs.PlacedPartLaws.{part_stands}
+use Rattle.yq_row_places.specs.PlacedRows.{PlacedPart, before_part, placed_at, placed_document}
+use Rattle.yq_row_places.proofs.PlacedPartLaws.{part_stands}
 use Rattle.yq_change.specs.Changed.{put_document, put_part}
 use Rattle.yq_cut.specs.Items.{Item, end_item, rows_items, items_of}
 use Rattle.yq_change.proofs.DocumentItemLaws.{rows_before}

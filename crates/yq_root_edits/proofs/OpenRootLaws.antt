@@ -19,12 +19,12 @@ use Rattle.yq_cut.specs.Rows.{Row, Part, part_text, Cut, cut_text}
 use Rattle.yq_cut.proofs.CharacterLaws.{pairs_back}
 use Rattle.yq_cut.proofs.splices.MarkerLaws.{marker_appended}
 use Rattle.yq_cut.proofs.GapLaws.{some_more}
-use Rattle.yq_places.specs.PlacedRows.{PlacedPart}
+use Rattle.yq_row_places.specs.PlacedRows.{PlacedPart}
 use Rattle.yq_documents.specs.Reading.{all_documents, is_document, read_at}
-use Rattle.yq_places.specs.Standings.{NoRows}
-use Rattle.yq_places.specs.RowPaths.{IsReadable}
-use Rattle.yq_places.proofs.ReadLaws.{text_again, text_takes}
-use Rattle.yq_places.proofs.RemovalLines.{LineSeam}
+use Rattle.yq_row_places.specs.Standings.{NoRows}
+use Rattle.yq_row_places.specs.RowPaths.{IsReadable}
+use Rattle.yq_row_places.proofs.ReadLaws.{text_again, text_takes}
+use Rattle.yq_row_places.proofs.RemovalLines.{LineSeam}
 use Rattle.yq_block.specs.declared.layout.Layout.{Layout}
 use Rattle.yq_block.specs.BlockText.{block_value}
 use Rattle.yq_block.proofs.LaidRows.{no_gap_here}

@@ -7,8 +7,8 @@ use Rattle.yq_flow_scalars.specs.Tree.{Node}
 use Rattle.yq_flow.specs.Valued.{IsValueTree}
 use Rattle.yq_cut.specs.Rows.{behind_gap, behind_indent, print_row, part_text, Cut, cut_text}
 use Rattle.yq_documents.specs.Reading.{documents, read_at}
-use Rattle.yq_places.specs.RowPaths.{IsReadable}
-use Rattle.yq_places.specs.Standings.{BlockRoot, NoRows}
+use Rattle.yq_row_places.specs.RowPaths.{IsReadable}
+use Rattle.yq_row_places.specs.Standings.{BlockRoot, NoRows}
 use Rattle.yq_change.specs.Replaces.{rooted}
 use Rattle.yq_change.specs.TextPieces.{IsPiece}
 use Rattle.yq_change.proofs.FirstBreakLaws.{IsOneBreak}

@@ -15,10 +15,10 @@ use Rattle.yq_cut.specs.SpliceFits.{is_after}
 use Rattle.yq_cut.specs.Splices.{first_gap, marker_before}
 use Rattle.yq_documents.specs.Documents.{Document, document_parts, lead_of}
 use Rattle.yq_documents.specs.TreeEdits.{anchor_of}
-use Rattle.yq_places.specs.PlacedRows.{PlacedPart}
+use Rattle.yq_row_places.specs.PlacedRows.{PlacedPart}
 use Rattle.yq_documents.specs.Reading as reading
 use Rattle.yq_documents.specs.Reading.{root_of, read_at}
-use Rattle.yq_places.specs.RowPaths.{IsReadable}
+use Rattle.yq_row_places.specs.RowPaths.{IsReadable}
 use Rattle.yq_documents.specs.TreeEdits.{headed, lead_by, led, replaced}
 use Rattle.yq_block.specs.declared.layout.Layout.{Layout}
 use Rattle.yq_block.specs.BlockText.{block_value}

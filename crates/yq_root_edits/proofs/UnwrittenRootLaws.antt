@@ -22,14 +22,14 @@ use Rattle.yq_cut.proofs.GapLaws.{some_more}
 use Rattle.yq_block.proofs.EndLaws.{break_tail}
 use Rattle.yq_block.proofs.LaidRows.{no_gap_here}
 use Rattle.yq_documents.specs.Documents.{lead_of}
-use Rattle.yq_places.specs.PlacedRows.{PlacedPart, before_part, placed_document}
+use Rattle.yq_row_places.specs.PlacedRows.{PlacedPart, before_part, placed_document}
 use Rattle.yq_documents.specs.Reading.{read_at}
 use Rattle.yq_documents.specs.Ready.{begins_no_node}
 use Rattle.yq_row_lines.specs.Lines.{lines_of}
-use Rattle.yq_places.specs.Standings.{NoRows}
-use Rattle.yq_places.proofs.CommentPieceLaws.{gap_end}
-use Rattle.yq_places.proofs.PlacedPartLaws.{part_stands}
-use Rattle.yq_places.proofs.RemovalLines.{LineSeam, LiesIn, lies_in, seam_join}
+use Rattle.yq_row_places.specs.Standings.{NoRows}
+use Rattle.yq_row_places.proofs.CommentPieceLaws.{gap_end}
+use Rattle.yq_row_places.proofs.PlacedPartLaws.{part_stands}
+use Rattle.yq_row_places.proofs.RemovalLines.{LineSeam, LiesIn, lies_in, seam_join}
 use Rattle.yq_change.specs.DocumentRows.{IsDocumentPart}
 use Rattle.yq_documents.specs.PartNumbers.{part_number}
 use Rattle.yq_change.specs.PlacedParts.{StandsAt}

@@ -4,7 +4,7 @@ use Rattle.yq_flow_scalars.specs.Paths.{Step}
 use Rattle.yq_flow_scalars.specs.Tree.{Node}
 use Rattle.yq_cut.specs.Rows.{Cut, cut_text}
 use Rattle.yq_documents.specs.Reading.{read_at}
-use Rattle.yq_places.specs.Standings.{BlockRoot, NoRows, root, no_rows, standing_at}
+use Rattle.yq_row_places.specs.Standings.{BlockRoot, NoRows, root, no_rows, standing_at}
 use Rattle.yq_meaning.specs.Operations.{replace}
 use Rattle.yq_edits.specs.EditLaws.{IsEdit}
 use Rattle.yq_edits.specs.Layouts.{layout_of}

@@ -15,12 +15,12 @@ use Rattle.yq_cut.specs.Seams.{is_block, tail_behind, ends_in_block, ends_in_lin
 use Rattle.yq_cut.specs.Splices.{first_gap, behind_first}
 use Rattle.yq_cut.proofs.seams.SeamLaws.{rows_text-append}
 use Rattle.yq_cut.proofs.splices.SpliceTexts.{own_gap, own_end, first_text}
-use Rattle.yq_places.specs.CollectionEnds.{CollectionEnd, is_broken}
+use Rattle.yq_row_places.specs.CollectionEnds.{CollectionEnd, is_broken}
 use Rattle.yq_documents.specs.Documents.{lead_of}
 use Rattle.yq_row_lines.specs.Lines.{lines_from, lines_of}
 use Rattle.yq_documents.specs.Ready.{begins_no_node}
 use Rattle.yq_documents.specs.Reading.{read_at}
-use Rattle.yq_places.specs.RowPaths.{IsReadable}
+use Rattle.yq_row_places.specs.RowPaths.{IsReadable}
 use Rattle.yq_block.specs.declared.layout.Layout.{Layout}
 use Rattle.yq_block.specs.Alone.{alone}
 use Rattle.yq_block.specs.BlockRows.{node_rows}

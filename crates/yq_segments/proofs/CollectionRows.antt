@@ -9,8 +9,8 @@ use Rattle.yq_lines.specs.Outline as outlines
 use Rattle.yq_lines.specs.Positions.{is_bare}
 use Rattle.yq_cut.specs.Grammar.{AreRows, unlimited}
 use Rattle.yq_cut.specs.Rows.{Row, behind_columns, dashes_text, print_row, rows_text}
-use Rattle.yq_places.specs.CollectionEnds.{is_broken}
-use Rattle.yq_places.specs.PrintedLines.{last_break}
+use Rattle.yq_row_places.specs.CollectionEnds.{is_broken}
+use Rattle.yq_row_places.specs.PrintedLines.{last_break}
 use Rattle.yq_row_lines.proofs.WalkLevels.{RowsAgree, RowAgrees}
 use Rattle.yq_change.specs.Siblings.{IsEntry}
 use Rattle.yq_change.proofs.EndedRowLaws.{row_there, rows_then}

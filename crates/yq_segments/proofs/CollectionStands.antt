@@ -19,11 +19,11 @@ use Rattle.yq_cut.specs.View.{slices}
 use Rattle.yq_documents.specs.Documents.{document_parts}
 use Rattle.yq_row_lines.specs.Lines.{dash_line, head_of, lines_from, lines_of, mark_line, mark_of, row_lines}
 use Rattle.yq_documents.specs.Reading.{outline_of}
-use Rattle.yq_places.specs.CollectionEnds.{CollectionEnd, is_broken}
-use Rattle.yq_places.specs.Standings.{RowsOfEntry, before_entry, behind_entry, is_alone}
-use Rattle.yq_places.proofs.FlowViewLaws.{before_under}
-use Rattle.yq_places.proofs.RowPathLaws.{found_lines}
-use Rattle.yq_places.proofs.UnderExchange.{lines_append}
+use Rattle.yq_row_places.specs.CollectionEnds.{CollectionEnd, is_broken}
+use Rattle.yq_row_places.specs.Standings.{RowsOfEntry, before_entry, behind_entry, is_alone}
+use Rattle.yq_row_places.proofs.FlowViewLaws.{before_under}
+use Rattle.yq_row_places.proofs.RowPathLaws.{found_lines}
+use Rattle.yq_row_places.proofs.UnderExchange.{lines_append}
 use Rattle.yq_row_lines.proofs.WalkLevels.{RowsAgree, IsLineOf, RowAgrees, line_in}
 use Rattle.yq_row_lines.proofs.WalkRows.{rows_agree}
 use Rattle.yq_change.specs.Changed.{put_document}

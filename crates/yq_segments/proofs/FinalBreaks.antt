@@ -21,14 +21,14 @@ use Rattle.yq_cut.proofs.PlaceLaws.{row_front-append}
 use Rattle.yq_cut.proofs.RowAgain.{row_starts}
 use Rattle.yq_cut.proofs.SliceLaws.{content_slices}
 use Rattle.yq_cut.proofs.seams.ScalarSeams.{last_no_space}
-use Rattle.yq_places.specs.CollectionEnds.{is_broken}
+use Rattle.yq_row_places.specs.CollectionEnds.{is_broken}
 use Rattle.yq_row_lines.specs.Lines.{mark_of}
 use Rattle.yq_lines.specs.Positions.{is_bare}
-use Rattle.yq_places.specs.Standings.{is_alone}
-use Rattle.yq_places.specs.PrintedLines.{end_break, last_break, less_break}
-use Rattle.yq_places.proofs.ContentEndLaws.{Ends, content_ends, tail_ends}
-use Rattle.yq_places.proofs.LastBreakLaws.{lf_last}
-use Rattle.yq_places.proofs.PrintedTexts.{less_is}
+use Rattle.yq_row_places.specs.Standings.{is_alone}
+use Rattle.yq_row_places.specs.PrintedLines.{end_break, last_break, less_break}
+use Rattle.yq_row_places.proofs.ContentEndLaws.{Ends, content_ends, tail_ends}
+use Rattle.yq_row_places.proofs.LastBreakLaws.{lf_last}
+use Rattle.yq_row_places.proofs.PrintedTexts.{less_is}
 use Rattle.yq_change.proofs.EndedRowLaws.{many_lf}
 use Rattle.yq_change.proofs.LineFrontLaws.{items_close}
 use Rattle.yq_edits.proofs.BreakLaws.{last_is}

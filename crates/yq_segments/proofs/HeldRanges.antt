@@ -10,10 +10,10 @@ use Rattle.yq_cut.specs.Grammar.{IsRow, IsTail, unlimited}
 use Rattle.yq_cut.specs.Rows.{Cut, cut_text, parent_indent, rows_text}
 use Rattle.yq_cut.specs.View.{slices}
 use Rattle.yq_documents.specs.Reading.{read_at}
-use Rattle.yq_places.specs.CommentPlaces.{LineEnd, end_before}
-use Rattle.yq_places.specs.PrintedLines.{last_break}
-use Rattle.yq_places.specs.Standings.{Held, RowsOfEntry, behind_entry, held, rows_of_entry}
-use Rattle.yq_places.proofs.LineEndLaws.{line_tail}
+use Rattle.yq_row_places.specs.CommentPlaces.{LineEnd, end_before}
+use Rattle.yq_row_places.specs.PrintedLines.{last_break}
+use Rattle.yq_row_places.specs.Standings.{Held, RowsOfEntry, behind_entry, held, rows_of_entry}
+use Rattle.yq_row_places.proofs.LineEndLaws.{line_tail}
 use Rattle.yq_change.specs.StandingLaws.{StandsThere}
 use Rattle.yq_change.proofs.StandingMarks.{row_there}
 use Rattle.yq_change.proofs.StandingRows.{rows_stand}

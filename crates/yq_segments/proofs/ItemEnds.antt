@@ -11,7 +11,7 @@ use Rattle.yq_cut.proofs.ItemLaws.{items_text-append}
 use Rattle.yq_cut.proofs.KeptLaws.{items_apart}
 use Rattle.yq_cut.proofs.NothingLaws.{some_behind}
 use Rattle.yq_cut.proofs.seams.MarkerSeams.{marker_line_is}
-use Rattle.yq_places.proofs.CommentPieceLaws.{Ended}
+use Rattle.yq_row_places.proofs.CommentPieceLaws.{Ended}
 use Rattle.yq_change.proofs.EndedRowLaws.{row_ended}
 use Rattle.yq_edits.proofs.ItemsLocal.{item_apart}
 use Rattle.yq_segments.proofs.TouchLaws.{size_one}

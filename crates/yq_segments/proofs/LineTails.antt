@@ -13,9 +13,9 @@ use Rattle.yq_cut.specs.Rows.{Content, Nothing, Inline, Block, Row, print_row, P
 use Rattle.yq_cut.specs.Splices.{first_gap}
 use Rattle.yq_cut.specs.View.{content_cut, slices}
 use Rattle.yq_cut.proofs.LineEnds.{white_none, text_line, white_again, behind_comment}
-use Rattle.yq_places.specs.CommentPlaces.{line_text}
+use Rattle.yq_row_places.specs.CommentPlaces.{line_text}
 use Rattle.yq_documents.specs.Documents.{lead_of}
-use Rattle.yq_places.proofs.CommentEndLaws.{row_text_parts}
+use Rattle.yq_row_places.proofs.CommentEndLaws.{row_text_parts}
 use Rattle.yq_change.specs.PathTails.{with_line_tail, IsLineTail, tailed}
 use Rattle.yq_change.specs.Rooms.{row_shape}
 use Rattle.yq_meaning.specs.Meaning.{line_of}

@@ -5,8 +5,8 @@ use Rattle.yq_flow_scalars.specs.Paths.{Step}
 use Rattle.yq_flow_scalars.specs.Tree.{Node}
 use Rattle.yq_flow_scalars.specs.declared.style.Place.TheVariants.{Block as InBlock}
 use Rattle.yq_cut.specs.Rows.{Cut}
-use Rattle.yq_places.specs.NodesAt.{node_in, scalar_in}
-use Rattle.yq_places.specs.Standings.{Mark, Standing, alone, beside, under, compact, block, root, no_rows, standing_at}
+use Rattle.yq_row_places.specs.NodesAt.{node_in, scalar_in}
+use Rattle.yq_row_places.specs.Standings.{Mark, Standing, alone, beside, under, compact, block, root, no_rows, standing_at}
 use Rattle.yq_block.specs.BlockReading.{is_filled}
 use Rattle.yq_block.specs.declared.layout.Layout.{Layout}
 use Rattle.yq_script.specs.Script.{Segment, keep, put}

@@ -5,7 +5,7 @@ use Rattle.yq_block_scalars.specs.BlockRepair.{is_short}
 use Rattle.yq_flow_scalars.specs.Lines.{is_blank}
 use Rattle.yq_flow_scalars.specs.Text.{joined, lines_of}
 use Rattle.yq_block_scalars.proofs.LineLaws.{joined_lines}
-use Rattle.yq_places.specs.RemovalPlaces.{Seam}
+use Rattle.yq_row_places.specs.RemovalPlaces.{Seam}
 use Rattle.yq_script.specs.Script.{Segment, keep}
 use Rattle.yq_edits.specs.Removing.{indented, blank_mended, comment_mended, lines_mended}
 

@@ -9,8 +9,8 @@ use Rattle.yq_block_scalars.specs.BlockWritten.{break_text}
 use Rattle.yq_cut.specs.Rows.{Content, Nothing, Inline, Block, cut_text}
 use Rattle.yq_cut.specs.Seams.{is_block}
 use Rattle.yq_cut.specs.View.{content_cut}
-use Rattle.yq_places.specs.NodesAt.{node_in}
-use Rattle.yq_places.specs.Standings.{RowsOfEntry, behind_mark, below, beside, compact, compact_in, entry_standing, flow_standing, held, last_step, standing_at}
+use Rattle.yq_row_places.specs.NodesAt.{node_in}
+use Rattle.yq_row_places.specs.Standings.{RowsOfEntry, behind_mark, below, beside, compact, compact_in, entry_standing, flow_standing, held, last_step, standing_at}
 use Rattle.yq_script.specs.Script.{Segment, keep}
 use Rattle.yq_edits.specs.CommentEdits.{comment_put, line_comment_put}
 use Rattle.yq_edits.specs.FlowParts.{flow_put}

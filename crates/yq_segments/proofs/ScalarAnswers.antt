@@ -4,7 +4,7 @@ use Rattle.std.proofs.lemmas.Bool.{false≢true}
 use Rattle.yq_flow_scalars.specs.Answers.{◌>>=◌}
 use Rattle.yq_flow_scalars.specs.Scalar.{ScalarText}
 use Rattle.yq_flow_scalars.specs.Tree.{Node}
-use Rattle.yq_places.specs.NodesAt.{scalar_in}
+use Rattle.yq_row_places.specs.NodesAt.{scalar_in}
 use Rattle.yq_edits.specs.ReplaceEdits.{has_text, holds_text}
 use Rattle.yq_edits.specs.Replacing.{are_same, is_kept}
 

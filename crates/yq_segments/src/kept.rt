@@ -2,10 +2,10 @@
 ghost use Rattle.std.specs.Prelude.{◌≡◌, IfOk, Some, is_some, true};
 ghost use Rattle.yq_flow_scalars.specs.Scalar.{plain_of};
 ghost use Rattle.yq_nodes.specs.Values as values;
-ghost use Rattle.yq_places.specs.NodesAt.{node_in, scalar_in};
+ghost use Rattle.yq_row_places.specs.NodesAt.{node_in, scalar_in};
 ghost use Rattle.yq_documents.specs.Located.{steps_of};
 ghost use Rattle.yq_documents.specs.Reading.{cut_of};
-ghost use Rattle.yq_places.specs.StandingViews.{IsHeldRow};
+ghost use Rattle.yq_row_places.specs.StandingViews.{IsHeldRow};
 ghost use Rattle.yq_edits.specs.Replacing as spec;
 ghost use Rattle.yq_edits.specs.Style as style;
 
@@ -15,7 +15,8 @@ use yq_edits::is_same;
 use yq_flow_scalars::{Kind, Scalar, resolve};
 use yq_heads::is_short_plain;
 use yq_nodes::Value;
-use yq_places::{CutText, HeldRow};
+use yq_places::CutText;
+use yq_row_places::HeldRow;
 
 /// Whether a value is a scalar.
 fn holds_scalar(value: &Value) -> bool

@@ -3,13 +3,14 @@ ghost use Rattle.std.specs.Prelude.{◌≡◌, IfOk, string_bytes};
 ghost use Rattle.yq_documents.specs.Located.{steps_of};
 ghost use Rattle.yq_documents.specs.Reading.{cut_of};
 ghost use Rattle.yq_script.specs.Segments.{segment_of};
-ghost use Rattle.yq_places.specs.StandingViews.{held_view};
+ghost use Rattle.yq_row_places.specs.StandingViews.{held_view};
 ghost use Rattle.yq_edits.specs.CommentEdits as spec;
 ghost use Rattle.yq_edits.specs.Answers.{GivesSegments};
 
 use std::alloc::{AllocError, Global};
 use yq_documents::Path;
-use yq_places::{CutText, Held};
+use yq_places::CutText;
+use yq_row_places::Held;
 use yq_script::{Segment, Segments};
 use yq_text::Halves;
 

@@ -6,8 +6,8 @@ ghost use Rattle.yq_flow_scalars.specs.Tree.{Node as NodeOf};
 ghost use Rattle.yq_flow_scalars.specs.Text.{is_feed};
 ghost use Rattle.yq_documents.specs.Located.{steps_of};
 ghost use Rattle.yq_documents.specs.Reading.{cut_of};
-ghost use Rattle.yq_places.specs.NodesAt.{node_in};
-ghost use Rattle.yq_places.specs.StandingViews.{standing_view};
+ghost use Rattle.yq_row_places.specs.NodesAt.{node_in};
+ghost use Rattle.yq_row_places.specs.StandingViews.{standing_view};
 ghost use Rattle.yq_block.specs.declared.layout.Layout.{Layout as LayoutOf};
 ghost use Rattle.yq_edits.specs.ReplaceEdits as spec;
 ghost use Rattle.yq_edits.specs.Answers.{GivesSegments};
@@ -24,7 +24,8 @@ use std::alloc::{AllocError, Global};
 use yq_block::{Layout, is_filled};
 use yq_documents::Path;
 use yq_nodes::Value;
-use yq_places::{CutText, Standing};
+use yq_places::CutText;
+use yq_row_places::Standing;
 use yq_script::Segments;
 
 /// A value in the place of what stands there; `has_text` tells of a block scalar whether it has a

@@ -5,7 +5,7 @@ use Rattle.yq_flow_scalars.specs.Characters.{text_limit}
 use Rattle.yq_cut.specs.Rows.{Cut, cut_text}
 use Rattle.yq_documents.specs.Documents.{Reads}
 use Rattle.yq_documents.specs.Reading.{documents, documents_of, read_at}
-use Rattle.yq_places.proofs.ReadLaws.{parts_read, read_takes}
+use Rattle.yq_row_places.proofs.ReadLaws.{parts_read, read_takes}
 use Rattle.yq_meaning.specs.After.{after_op}
 use Rattle.yq_meaning.specs.Fits.{Fits}
 use Rattle.yq_meaning.specs.Operations.{Operation}

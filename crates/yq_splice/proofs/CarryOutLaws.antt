@@ -9,11 +9,11 @@ use Rattle.yq_flow_scalars.proofs.Bools.{bind_some}
 use Rattle.yq_flow.proofs.RemoveTexts.{either}
 use Rattle.yq_cut.specs.Rows.{Cut, cut_text}
 use Rattle.yq_documents.specs.Reading.{read_at}
-use Rattle.yq_places.specs.FlowNodes.{flow_collection}
-use Rattle.yq_places.specs.NodesAt.{node_in}
-use Rattle.yq_places.specs.RemovalPlaces.{has_others_at}
-use Rattle.yq_places.specs.Standings.{flow_standing, last_step, rows_of_entry, standing_at}
-use Rattle.yq_places.proofs.PrintedTexts.{map_some}
+use Rattle.yq_row_places.specs.FlowNodes.{flow_collection}
+use Rattle.yq_row_places.specs.NodesAt.{node_in}
+use Rattle.yq_row_places.specs.RemovalPlaces.{has_others_at}
+use Rattle.yq_row_places.specs.Standings.{flow_standing, last_step, rows_of_entry, standing_at}
+use Rattle.yq_row_places.proofs.PrintedTexts.{map_some}
 use Rattle.yq_meaning.specs.Operations.{replace, append, remove, line_comment, head_comment}
 use Rattle.yq_script.specs.Script.{Segment, keep}
 use Rattle.yq_edits.specs.EditLaws.{KindsCarryOut, EditsCarryOut, IsEdit}

@@ -4,7 +4,7 @@ use Rattle.std.proofs.lemmas.Option.{none-some}
 use Rattle.std.specs.Option.{option_or}
 use Rattle.yq_script.specs.Script.{Segment, keep}
 use Rattle.yq_flow_scalars.specs.Tree.{Node}
-use Rattle.yq_places.specs.Standings.{FlowPart}
+use Rattle.yq_row_places.specs.Standings.{FlowPart}
 use Rattle.yq_edits.specs.FlowParts.{flow_put}
 use Rattle.yq_flow_edits.specs.PartPuts.{part_put}
 use Rattle.yq_edits.specs.Answers.{GivesSegments}

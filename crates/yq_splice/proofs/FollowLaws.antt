@@ -16,9 +16,9 @@ use Rattle.yq_cut.proofs.MeterLaws.{counted_within}
 use Rattle.yq_documents.specs.Documents.{Document, Reads}
 use Rattle.yq_documents.specs.Reading.{documents, cut_of, read_at}
 use Rattle.yq_row_lines.specs.RowWalk.{AreKnown}
-use Rattle.yq_places.specs.RowWalk.{StayKnown}
+use Rattle.yq_row_places.specs.RowWalk.{StayKnown}
 use Rattle.yq_row_lines.specs.declared.line_position.KnownItems.{KnownItems}
-use Rattle.yq_places.proofs.ReadLaws.{parts_read}
+use Rattle.yq_row_places.proofs.ReadLaws.{parts_read}
 use Rattle.yq_meaning.specs.Fits.{Fits}
 use Rattle.yq_meaning.specs.Operations.{Operation}
 use Rattle.yq_meaning.specs.Rooms.{room_of}

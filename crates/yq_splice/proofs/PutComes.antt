@@ -12,8 +12,8 @@ use Rattle.yq_nodes.specs.Trees.{tree_of}
 use Rattle.yq_flow.specs.FlowEdits.{FlowEdit}
 use Rattle.yq_cut.specs.Rows.{Cut, cut_text}
 use Rattle.yq_documents.specs.Reading.{read_at}
-use Rattle.yq_places.specs.NodesAt.{node_in}
-use Rattle.yq_places.specs.Standings.{FlowPart, Standing, flow_part, flow_standing, last_step, standing_at}
+use Rattle.yq_row_places.specs.NodesAt.{node_in}
+use Rattle.yq_row_places.specs.Standings.{FlowPart, Standing, flow_part, flow_standing, last_step, standing_at}
 use Rattle.yq_meaning.specs.Operations.{replace}
 use Rattle.yq_meaning.specs.declared.refusal.Refusal.TheVariants.{TooLarge}
 use Rattle.yq_script.specs.Exchanging as exchange

@@ -15,16 +15,16 @@ use Rattle.yq_row_lines.specs.Lines.{lines_of}
 use Rattle.yq_documents.specs.Pieces.{TextPiece}
 use Rattle.yq_documents.specs.Reading.{read_at}
 use Rattle.yq_documents.specs.LinesInRows.{RowLine, row_line, row_line_of}
-use Rattle.yq_places.specs.FirstPlaces.{first_entry, first_out, first_removal}
-use Rattle.yq_places.specs.PathPieces.{BlockEntry, PrintedDocument, entry_piece, found_entry, piece_in, piece_in_entry, printed_document}
-use Rattle.yq_places.specs.PlacedRows.{PlacedPart}
-use Rattle.yq_places.specs.PrintedLines.{line_in}
-use Rattle.yq_places.specs.RemovalPlaces.{OwnRows, in_three, own_rows, removal_place, row_count, rows_out}
-use Rattle.yq_places.specs.Standings.{RowsOfEntry, rows_of_entry}
-use Rattle.yq_places.proofs.FoundEntries.{entry_there, middle}
-use Rattle.yq_places.proofs.PrintedLaws.{lines_are}
-use Rattle.yq_places.proofs.RowPathLaws.{found_lines}
-use Rattle.yq_places.proofs.DashLineLaws.{row_line_found}
+use Rattle.yq_row_places.specs.FirstPlaces.{first_entry, first_out, first_removal}
+use Rattle.yq_row_places.specs.PathPieces.{BlockEntry, PrintedDocument, entry_piece, found_entry, piece_in, piece_in_entry, printed_document}
+use Rattle.yq_row_places.specs.PlacedRows.{PlacedPart}
+use Rattle.yq_row_places.specs.PrintedLines.{line_in}
+use Rattle.yq_row_places.specs.RemovalPlaces.{OwnRows, in_three, own_rows, removal_place, row_count, rows_out}
+use Rattle.yq_row_places.specs.Standings.{RowsOfEntry, rows_of_entry}
+use Rattle.yq_row_places.proofs.FoundEntries.{entry_there, middle}
+use Rattle.yq_row_places.proofs.PrintedLaws.{lines_are}
+use Rattle.yq_row_places.proofs.RowPathLaws.{found_lines}
+use Rattle.yq_row_places.proofs.DashLineLaws.{row_line_found}
 use Rattle.yq_change.specs.StandingLaws.{StandsThere}
 use Rattle.yq_change.proofs.StandingRows.{rows_stand}
 use Rattle.yq_script.specs.Script.{Segment}

@@ -13,13 +13,13 @@ use Rattle.yq_cut.specs.Rows.{Cut, cut_text, parent_indent, rows_text}
 use Rattle.yq_cut.specs.View.{slices}
 use Rattle.yq_row_lines.specs.Lines.{content_anchor, head_of}
 use Rattle.yq_documents.specs.Reading.{cut_of, read_at}
-use Rattle.yq_places.specs.CommentPlaces.{end_before}
-use Rattle.yq_places.specs.StandingViews.{IsHeldRow}
-use Rattle.yq_places.specs.declared.places.held_row.HeldRow.{HeldRow}
-use Rattle.yq_places.specs.NodesAt.{node_in}
-use Rattle.yq_places.specs.PrintedLines.{less_break}
-use Rattle.yq_places.specs.Standings.{Held, RowsOfEntry, behind_entry, held, rows_of_entry}
-use Rattle.yq_places.proofs.HeldRowLaws.{no_root_rows}
+use Rattle.yq_row_places.specs.CommentPlaces.{end_before}
+use Rattle.yq_row_places.specs.StandingViews.{IsHeldRow}
+use Rattle.yq_row_places.specs.declared.places.held_row.HeldRow.{HeldRow}
+use Rattle.yq_row_places.specs.NodesAt.{node_in}
+use Rattle.yq_row_places.specs.PrintedLines.{less_break}
+use Rattle.yq_row_places.specs.Standings.{Held, RowsOfEntry, behind_entry, held, rows_of_entry}
+use Rattle.yq_row_places.proofs.HeldRowLaws.{no_root_rows}
 use Rattle.yq_change.specs.RowStays.{StandsStill}
 use Rattle.yq_change.specs.StandingLaws.{HoldsPieces, StandsThere}
 use Rattle.yq_change.specs.TextPieces.{IsPiece}

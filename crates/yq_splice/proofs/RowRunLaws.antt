@@ -9,8 +9,8 @@ use Rattle.yq_flow_scalars.specs.Characters.{text_limit}
 use Rattle.yq_flow_scalars.specs.Paths.{Step}
 use Rattle.yq_cut.specs.Rows.{Cut, cut_text}
 use Rattle.yq_documents.specs.Reading.{documents, read_at}
-use Rattle.yq_places.specs.Standings.{RowsOfEntry, rows_of_entry}
-use Rattle.yq_places.proofs.ReadLaws.{parts_read}
+use Rattle.yq_row_places.specs.Standings.{RowsOfEntry, rows_of_entry}
+use Rattle.yq_row_places.proofs.ReadLaws.{parts_read}
 use Rattle.yq_change.specs.Appends.{inserted}
 use Rattle.yq_change.specs.Changed.{put_document}
 use Rattle.yq_change.specs.RowStays.{IsBehind, StandsStill, StaysFrom}

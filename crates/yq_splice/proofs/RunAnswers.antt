@@ -13,10 +13,10 @@ use Rattle.yq_nodes.specs.declared.path.Step as declared
 use Rattle.yq_flow.specs.FlowPlaces.{edit_view}
 use Rattle.yq_cut.specs.Rows.{Cut, cut_text}
 use Rattle.yq_documents.specs.Reading.{cut_of, read_at}
-use Rattle.yq_places.specs.FlowViews.{LeadsToHead, ReportsHead}
-use Rattle.yq_places.specs.NodesAt.{node_in}
-use Rattle.yq_places.specs.Standings.{last_step}
-use Rattle.yq_places.specs.declared.places.flow_node.FlowHead.{FlowHead}
+use Rattle.yq_row_places.specs.FlowViews.{LeadsToHead, ReportsHead}
+use Rattle.yq_row_places.specs.NodesAt.{node_in}
+use Rattle.yq_row_places.specs.Standings.{last_step}
+use Rattle.yq_row_places.specs.declared.places.flow_node.FlowHead.{FlowHead}
 use Rattle.yq_meaning.specs.Operations.{Operation, replace}
 use Rattle.yq_script.specs.Script.{splice_at}
 use Rattle.yq_script.specs.Splice.{Splice}

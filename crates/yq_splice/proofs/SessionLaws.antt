@@ -21,9 +21,9 @@ use Rattle.yq_cut.specs.declared.places.Places.{Places}
 use Rattle.yq_cut.proofs.PlacedLaws.{split_boundary}
 use Rattle.yq_documents.specs.Reading.{all_documents, documents, cut_of, read_at}
 use Rattle.yq_row_lines.specs.RowWalk.{AreKnown}
-use Rattle.yq_places.specs.RowWalk.{HasCut, StayKnown}
+use Rattle.yq_row_places.specs.RowWalk.{HasCut, StayKnown}
 use Rattle.yq_row_lines.specs.declared.line_position.KnownItems.{KnownItems}
-use Rattle.yq_places.proofs.ReadLaws.{text_takes, read_takes}
+use Rattle.yq_row_places.proofs.ReadLaws.{text_takes, read_takes}
 use Rattle.yq_meaning.specs.Operations.{Operation}
 use Rattle.yq_script.specs.Changing.{IsChange}
 use Rattle.yq_script.specs.Script.{Segment, new_text, old_text}

@@ -8,7 +8,7 @@ use Rattle.yq_flow_scalars.specs.declared.ReadFault.{ReadFault}
 use Rattle.yq_flow_scalars.specs.declared.fault.FaultKind.TheVariants.{NotUtf8}
 use Rattle.yq_flow_scalars.specs.declared.fault.ReadError.{ReadError}
 use Rattle.yq_flow_scalars.specs.declared.fault.ReadError.TheVariants as reading
-use Rattle.yq_places.specs.Answers.{IsNotUtf8}
+use Rattle.yq_row_places.specs.Answers.{IsNotUtf8}
 use Rattle.yq_documents.specs.Reading.{read_at}
 use Rattle.yq_splice.specs.Answers.{EditFails, of_reading}
 use Rattle.yq_splice.specs.Edit.{Edit, unreadable}

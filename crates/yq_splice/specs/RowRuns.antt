@@ -9,7 +9,7 @@ use Rattle.yq_flow_scalars.specs.declared.style.Place.TheVariants.{Block as InBl
 use Rattle.yq_cut.specs.Rows.{Cut, cut_text}
 use Rattle.yq_documents.specs.LinesInRows.{document_row}
 use Rattle.yq_documents.specs.Reading.{documents, read_at}
-use Rattle.yq_places.specs.Standings.{RowsOfEntry, rows_of_entry}
+use Rattle.yq_row_places.specs.Standings.{RowsOfEntry, rows_of_entry}
 use Rattle.yq_change.specs.RowStays.{IsBehind, StandsStill}
 use Rattle.yq_meaning.specs.After.{document_of}
 use Rattle.yq_meaning.specs.Fits.{Fits}

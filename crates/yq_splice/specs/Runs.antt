@@ -10,10 +10,10 @@ use Rattle.yq_flow.specs.FlowEdits.{content_node}
 use Rattle.yq_flow.specs.Valued.{IsValueTree}
 use Rattle.yq_cut.specs.Rows.{Cut, cut_text}
 use Rattle.yq_documents.specs.Reading.{cut_of, read_at}
-use Rattle.yq_places.specs.FlowViews.{LeadsToHead}
-use Rattle.yq_places.specs.NodesAt.{node_in}
-use Rattle.yq_places.specs.Standings.{FlowPart, flow_standing, last_step}
-use Rattle.yq_places.specs.declared.places.flow_node.FlowHead.{FlowHead}
+use Rattle.yq_row_places.specs.FlowViews.{LeadsToHead}
+use Rattle.yq_row_places.specs.NodesAt.{node_in}
+use Rattle.yq_row_places.specs.Standings.{FlowPart, flow_standing, last_step}
+use Rattle.yq_row_places.specs.declared.places.flow_node.FlowHead.{FlowHead}
 use Rattle.yq_meaning.specs.Operations.{Operation, replace}
 use Rattle.yq_meaning.specs.declared.refusal.Refusal.TheVariants.{TooLarge}
 use Rattle.yq_script.specs.Script.{splice_at}

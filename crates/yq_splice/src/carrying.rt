@@ -3,7 +3,7 @@ ghost use Rattle.std.specs.Prelude.{◌≡◌, ◌++◌, Some, IfErr, IfOk, stri
 ghost use Rattle.yq_meaning.specs.Operations.{operation_of, operations_of};
 ghost use Rattle.yq_documents.specs.Reading.{cut_of, read_at};
 ghost use Rattle.yq_script.specs.Changing.{IsChange};
-ghost use Rattle.yq_places.specs.RowWalk.{StayKnown};
+ghost use Rattle.yq_row_places.specs.RowWalk.{StayKnown};
 ghost use Rattle.yq_splice.specs.Answers.{Edits, EditFails};
 ghost use Rattle.yq_splice.specs.Carried as spec;
 ghost use Rattle.yq_splice.specs.Edit.{behind};

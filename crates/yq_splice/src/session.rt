@@ -6,7 +6,7 @@ ghost use Rattle.yq_cut.specs.Meter.{counted, line_count};
 ghost use Rattle.yq_flow_scalars.specs.Answers.{Gives};
 ghost use Rattle.yq_script.specs.Changing.{IsChange};
 ghost use Rattle.yq_text.specs.Halves.{whole};
-ghost use Rattle.yq_places.specs.RowWalk.{StayKnown};
+ghost use Rattle.yq_row_places.specs.RowWalk.{StayKnown};
 ghost use Rattle.yq_splice.specs.Answers.{Edits, EditFails};
 ghost use Rattle.yq_splice.specs.Carried.{carried};
 ghost use Rattle.yq_splice.specs.Edit.{behind, gives};

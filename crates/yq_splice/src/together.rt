@@ -4,7 +4,7 @@ ghost use Rattle.std.specs.Prelude.{◌≡◌, true, map, IfErr, IfOk, IfSome, s
 ghost use Rattle.yq_nodes.specs.Entries.{step_of};
 ghost use Rattle.yq_documents.specs.Located.{steps_of};
 ghost use Rattle.yq_documents.specs.Reading.{cut_of};
-ghost use Rattle.yq_places.specs.FlowViews.{ReportsHead};
+ghost use Rattle.yq_row_places.specs.FlowViews.{ReportsHead};
 ghost use Rattle.yq_meaning.specs.Operations.{operation_of, operations_of};
 ghost use Rattle.yq_splice.specs.Answers.{EditFails};
 ghost use Rattle.yq_splice.specs.Carried.{carry_all, carried};
@@ -21,7 +21,8 @@ use yq_documents::Path;
 use yq_expr::Op;
 use yq_flow_edits::{PartPut, last_step, put_at_part};
 use yq_nodes::Step;
-use yq_places::{CutText, FlowHead};
+use yq_places::CutText;
+use yq_row_places::FlowHead;
 use yq_script::Edited;
 
 /// Whether steps are the same.

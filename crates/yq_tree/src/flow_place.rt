@@ -5,7 +5,7 @@ ghost use Rattle.yq_lines.specs.View.{head_flow};
 ghost use Rattle.yq_documents.specs.Decoded.{decoded_flow};
 ghost use Rattle.yq_documents.specs.Pieces.{span};
 ghost use Rattle.yq_documents.specs.Reading.{cut_of};
-ghost use Rattle.yq_places.specs.EntryReading as spec;
+ghost use Rattle.yq_row_places.specs.EntryReading as spec;
 
 use crate::document::Documents;
 use yq_documents::{Decoded, Path, Span};

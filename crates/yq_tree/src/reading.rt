@@ -5,7 +5,7 @@ ghost use Rattle.yq_flow_scalars.specs.declared.fault.FaultKind.TheVariants.{Not
 ghost use Rattle.yq_flow_scalars.specs.Answers.{Gives, IsOfText};
 ghost use Rattle.yq_cut.specs.Grammar.{IsCut};
 ghost use Rattle.yq_cut.specs.Rows.{Cut};
-ghost use Rattle.yq_places.specs.Answers.{IsNotUtf8};
+ghost use Rattle.yq_row_places.specs.Answers.{IsNotUtf8};
 ghost use Rattle.yq_documents.specs.Documents.{Document, Reads};
 ghost use Rattle.yq_documents.specs.Reading as spec;
 ghost use Rattle.yq_documents.specs.Ready.{TextIsReady};

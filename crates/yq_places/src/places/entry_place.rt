@@ -1,58 +1,12 @@
 //! Where entries and items stand in block collections.
-ghost use Rattle.std.specs.Prelude.{◌≡◌, ◌<◌, ◌-◌, map, option_map, Some};
-ghost use Rattle.yq_nodes.specs.Entries.{step_of};
-ghost use Rattle.yq_places.specs.EntryReading as spec;
-ghost use Rattle.yq_row_lines.specs.Extents.{IsRowsView};
-ghost use Rattle.yq_row_lines.specs.RowWalk.{AreKnown, AreLinesTo, HasDocument, IsLine};
-ghost use Rattle.yq_places.specs.RowWalk.{InEach};
+ghost use Rattle.std.specs.Prelude.{◌≡◌, ◌<◌, ◌-◌, option_map};
+ghost use Rattle.yq_row_places.specs.EntryReading as spec;
 ghost use Rattle.yq_documents.specs.Pieces.{span};
 ghost use Rattle.yq_documents.specs.Reading.{cut_of};
 
 use crate::cut_text::CutText;
-use crate::places::row_place::{line_start, row_end};
-use yq_cut::Rows;
 use yq_documents::{Path, Span};
-use yq_nodes::Step;
-use yq_row_lines::{KnownItems, Position, Stretch};
-use yq_walk::{behind, line_at};
-
-/// The place from the beginning of a line of a document to the end of the last row before another one.
-pub(crate) fn lines_place(rows: &Rows<'_>, document: Stretch, from: Position, to: Position) -> Span
-    requires rows_view { IsRowsView rows.now }
-    requires document { HasDocument rows.now document }
-    requires lines { AreLinesTo rows.now document from to }
-    requires some { from.row < to.row }
-    ensures { InEach rows.now document (λ first c rs n. Some (span result) ≡
-        spec.lines_place first c rs (n from) (n to - 1)) }
-{
-    Span {
-        start: line_start(rows, from),
-        end: row_end(rows, to.row - 1),
-    }
-}
-
-/// The place of the entry or item of a line.
-fn line_entry(rows: &Rows<'_>, document: Stretch, at: Position) -> Span
-    requires rows_view { IsRowsView rows.now }
-    requires document { HasDocument rows.now document }
-    requires at { IsLine rows.now document at }
-    ensures { InEach rows.now document (λ first c rs n. Some (span result) ≡
-        spec.line_entry first c rs (n at)) }
-{
-    lines_place(rows, document, at, behind(rows, document, at))
-}
-
-/// The place of the entry or item of the line to which steps lead.
-fn entry_of(rows: &Rows<'_>, document: Stretch, known: KnownItems, steps: &[Step]) -> Option<Span>
-    requires rows_view { IsRowsView rows.now }
-    requires document { HasDocument rows.now document }
-    requires known { AreKnown rows.now.rows known }
-    ensures { InEach rows.now document (λ first c rs n. option_map span result ≡
-        spec.line_entry_of first c rs (map step_of steps.now)) }
-{
-    let at = line_at(rows, document, known, steps)?;
-    Some(line_entry(rows, document, at))
-}
+use yq_row_places::entry_of;
 
 impl CutText<'_, '_> {
     /// The place of the entry or item at a path, unless it stands in flow.

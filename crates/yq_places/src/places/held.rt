@@ -1,118 +1,12 @@
 //! Keys and dashes of a text, with what they hold.
-ghost use Rattle.std.specs.Prelude.{◌≡◌, ◌||◌, not, option_map};
-ghost use Rattle.yq_text.specs.Halves.{whole};
-ghost use Rattle.yq_flow_scalars.specs.Text.{is_empty};
-ghost use Rattle.yq_cut.specs.View.{view};
+ghost use Rattle.std.specs.Prelude.{◌≡◌, option_map};
 ghost use Rattle.yq_documents.specs.Located.{steps_of};
 ghost use Rattle.yq_documents.specs.Reading.{cut_of};
-ghost use Rattle.yq_places.specs.RowPieces as pieces;
-ghost use Rattle.yq_places.specs.Standings as spec;
-ghost use Rattle.yq_places.specs.StandingReading.{HasEntry, IsEntryIn};
-ghost use Rattle.yq_places.specs.StandingViews as row_agrees;
+ghost use Rattle.yq_row_places.specs.StandingViews as row_agrees;
 
 use crate::cut_text::CutText;
-use crate::places::lines_cut::{cut_lines, cut_tail, either};
-use crate::places::row_place::row_stop;
-use crate::places::rows_of_entry::RowsOfEntry;
-use yq_cut::{Row, Rows};
 use yq_documents::Path;
-use yq_text::Halves;
-use yq_walk::{head_place, line_column};
-
-/// A key or dash of a text.
-#[derive(Clone, Copy)]
-pub struct Mark {
-    /// Its column, counted from 0.
-    pub column: usize,
-    /// Whether it is a key.
-    pub keyed: bool,
-    /// Whether its row has an anchor before what is written behind its last mark, or a comment behind
-    /// that.
-    pub noted: bool,
-}
-
-/// A key or dash of a text, with what it holds.
-#[derive(Clone, Copy)]
-pub struct Held<'t> {
-    /// The key or dash.
-    pub mark: Mark,
-    /// The text up to it, or to its anchor, with these.
-    pub before: Halves<'t>,
-    /// The white space behind that.
-    pub space: &'t str,
-    /// What is written there: an inline node, the header of a block scalar or nothing.
-    pub head: &'t str,
-    /// The white space that ends its line, or stands before the line's comment.
-    pub white: &'t str,
-    /// The comment, if the line has one.
-    pub comment: &'t str,
-    /// The line's break, where lines are under it; empty where none are.
-    pub line_break: &'t str,
-    /// The lines under it, less the break of the last one.
-    pub lines: Halves<'t>,
-    /// The break that ends it all: of the last line under it, or of its own line.
-    pub last: &'t str,
-    /// The text behind.
-    pub behind: Halves<'t>,
-}
-
-/// Whether a row has an anchor or a comment.
-pub(crate) fn is_noted(row: &Row<'_>, comment: &str) -> bool
-    ensures { result ≡ (not (is_empty (view row.now).anchor) || not (is_empty comment.now)) }
-{
-    !row.anchor().is_empty() || !comment.is_empty()
-}
-
-/// Whether a row has a key.
-fn has_key(row: &Row<'_>) -> bool
-    ensures { result ≡ not (is_empty (view row.now).colon) }
-{
-    !row.colon().is_empty()
-}
-
-/// The white space before the head of a row. Without a head there is none, it is in the tail.
-fn space_before<'t>(row: &Row<'t>) -> &'t str
-    ensures { result.now ≡ pieces.space_before (view row.now) }
-{
-    if row.anchor().is_empty() {
-        row.space()
-    } else {
-        row.apart()
-    }
-}
-
-/// What the key or dash of rows holds.
-pub(crate) fn held_in<'t>(rows: &Rows<'t>, text: Halves<'t>, at: RowsOfEntry) -> Held<'t>
-    requires { HasEntry (whole text) rows.now at }
-    ensures { (e : spec.RowsOfEntry) → IsEntryIn (whole text.entry) rows.now e at →
-        row_agrees.held_view result ≡ spec.held e }
-{
-    let row = rows.row(at.row);
-    let (_, end) = head_place(rows, at.row);
-    let stop = row_stop(rows, at.end - 1);
-    let lower = cut_lines(text, end + row.tail().len(), stop);
-    let space = space_before(&row);
-    let (before, _) = lower
-        .before
-        .split_at(end - (space.len() + row.head().len()));
-    let tail = cut_tail(&row);
-    Held {
-        mark: Mark {
-            column: line_column(&row, at.dashes),
-            keyed: has_key(&row),
-            noted: is_noted(&row, tail.comment),
-        },
-        before,
-        space,
-        head: row.head(),
-        white: tail.white,
-        comment: tail.comment,
-        line_break: either(lower.none, "", tail.line_break),
-        lines: lower.lines,
-        last: either(lower.none, tail.line_break, lower.last),
-        behind: lower.behind,
-    }
-}
+use yq_row_places::{Held, held_in};
 
 impl<'t> CutText<'_, 't> {
     /// The key or dash of the item or entry at a path, with what it holds, if its line is the last one

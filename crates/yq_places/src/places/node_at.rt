@@ -1,148 +1,18 @@
 //! What the nodes at paths are, each read from the rows that tell it.
 ghost use Rattle.std.specs.Prelude.{◌≡◌, map, option_and_then, option_map, false, IfOk, None};
 ghost use Rattle.yq_nodes.specs.Entries.{step_of};
-ghost use Rattle.yq_nodes.specs.Trees.{placed_tree};
-ghost use Rattle.yq_nodes.specs.View as inline;
-ghost use Rattle.yq_lines.specs.Ends.{part};
-ghost use Rattle.yq_lines.specs.Outline.{value};
-ghost use Rattle.yq_lines.specs.Positions.{begins_with_node};
-ghost use Rattle.yq_lines.specs.View.{head_view};
-ghost use Rattle.yq_row_lines.specs.Lines.{lines_of};
 ghost use Rattle.yq_documents.specs.Located.{steps_of};
 ghost use Rattle.yq_documents.specs.Reading.{cut_of};
-ghost use Rattle.yq_row_lines.specs.Extents.{IsRowsView};
-ghost use Rattle.yq_places.specs.NodeReading as reading;
-ghost use Rattle.yq_places.specs.NodesAt as spec;
-ghost use Rattle.yq_places.specs.RemovalPlaces.{has_others_at};
-ghost use Rattle.yq_row_lines.specs.RowWalk.{HasRows, IsPosition, line_number};
+ghost use Rattle.yq_row_places.specs.NodesAt as spec;
+ghost use Rattle.yq_row_places.specs.RemovalPlaces.{has_others_at};
 
 use crate::cut_text::CutText;
-use crate::places::node_place::{NodePlace, node_place, place_line};
 use std::alloc::{AllocError, Global};
-use yq_cut::Rows;
 use yq_documents::Path;
 use yq_flow_scalars::Kind;
-use yq_lines::{Content, Head};
-use yq_nodes::{Form, Inline, Step};
-use yq_row_lines::{Position, Stretch};
-use yq_walk::{behind, is_deeper, is_item_at};
-
-/// What a node is, as far as updates ask.
-#[derive(Drop)]
-pub enum NodeAt<'t> {
-    Alias,
-    Scalar(Kind, Content<'t>),
-    /// A sequence, and whether it has several items.
-    List(bool),
-    /// A mapping, and whether it has several entries.
-    Map(bool),
-}
-
-impl<'t> NodeAt<'t> {
-    /// The scalar that it is, if it is one.
-    fn scalar(self) -> Option<(Kind, Content<'t>)>
-        ensures { option_map spec.scalar_view result ≡
-            spec.summary_scalar (spec.node_view self.entry) }
-    {
-        match self {
-            NodeAt::Scalar(kind, text) => Some((kind, text)),
-            NodeAt::Alias | NodeAt::List(_) | NodeAt::Map(_) => None,
-        }
-    }
-
-    /// Whether it has several items or entries.
-    fn has_several(&self) -> bool
-        ensures { result ≡ spec.summary_several (spec.node_view self.now) }
-    {
-        match self {
-            NodeAt::Alias | NodeAt::Scalar(..) => false,
-            NodeAt::List(several) | NodeAt::Map(several) => *several,
-        }
-    }
-}
-
-/// What an inline node is.
-fn inline_node<'t>(alloc: Global, node: &Inline<'t>) -> Result<NodeAt<'t>, AllocError>
-    ensures { IfOk result (λ n. spec.node_view n ≡ spec.node_summary
-        (placed_tree (inline.view node.now))) }
-{
-    match &node.form {
-        Form::Empty => Ok(NodeAt::Scalar(Kind::Null, Content::Slice("null"))),
-        Form::Alias(_) => Ok(NodeAt::Alias),
-        Form::Scalar(scalar, _) => {
-            let text = String::from_str(alloc, scalar.text())?;
-            Ok(NodeAt::Scalar(scalar.kind(), Content::Own(text)))
-        }
-        Form::List(items) => Ok(NodeAt::List(items.len() > 1)),
-        Form::Map(entries) => Ok(NodeAt::Map(entries.len() > 1)),
-    }
-}
-
-/// What the node is to which steps lead in a head, if there is one.
-fn head_node<'t>(
-    alloc: Global,
-    head: Head<'t>,
-    steps: &[Step],
-) -> Result<Option<NodeAt<'t>>, AllocError>
-    ensures { IfOk result (λ o. option_map spec.node_view o ≡
-        reading.summary_in_head (map step_of steps.now) (head_view head.entry)) }
-{
-    match head {
-        Head::Nothing => Ok(None),
-        Head::Scalar(kind, text) => {
-            if !steps.is_empty() {
-                return Ok(None);
-            }
-            Ok(Some(NodeAt::Scalar(kind, text)))
-        }
-        Head::Inline(node) => {
-            let Some(entry) = node.entry(steps) else {
-                return Ok(None);
-            };
-            let found = inline_node(alloc, entry.node)?;
-            Ok(Some(found))
-        }
-    }
-}
-
-/// What the node is for which the lines stand, from one on, that are deeper than a level, where the
-/// first of them is no node itself.
-fn lines_node<'t>(rows: &Rows<'_>, document: Stretch, under: Position, floor: usize) -> NodeAt<'t>
-    requires rows_view { IsRowsView rows.now }
-    requires document { HasRows rows.now document }
-    requires under { IsPosition rows.now document under }
-    ensures { (h : HasRows rows.now document) →
-        begins_with_node (part (lines_of h.rows) (line_number document h.rows under) floor) ≡
-        false → spec.node_view result ≡ spec.node_summary
-        (value (part (lines_of h.rows) (line_number document h.rows under) floor)) }
-{
-    if !is_deeper(rows, document, under, floor) {
-        return NodeAt::Scalar(Kind::Null, Content::Slice("null"));
-    }
-    let others = behind(rows, document, under);
-    let several = is_deeper(rows, document, others, floor);
-    if is_item_at(rows, document, under, 0) {
-        NodeAt::List(several)
-    } else {
-        NodeAt::Map(several)
-    }
-}
-
-/// What the node is that is written in the head of no line.
-fn block_node<'t>(rows: &Rows<'_>, document: Stretch, place: NodePlace) -> Option<NodeAt<'t>>
-    requires rows_view { IsRowsView rows.now }
-    requires document { HasRows rows.now document }
-    requires place { reading.IsPlace rows.now document place }
-    ensures { (h : HasRows rows.now document) →
-        reading.place_line (lines_of h.rows) (reading.place_view document h.rows place) ≡ None →
-        option_map spec.node_view result ≡
-        reading.summary_of_lines (lines_of h.rows) (reading.place_view document h.rows place) }
-{
-    match place {
-        NodePlace::Head(_) => None,
-        NodePlace::Lines(under, floor) => Some(lines_node(rows, document, under, floor)),
-    }
-}
+use yq_lines::Content;
+use yq_nodes::Step;
+use yq_row_places::{NodeAt, block_node, head_node, node_place, place_line};
 
 impl<'t> CutText<'_, 't> {
     /// What the node at a path of document `doc`, counted from 0, is.

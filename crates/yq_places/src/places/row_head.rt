@@ -1,42 +1,16 @@
 //! The heads of rows, read again.
-ghost use Rattle.std.specs.Prelude.{◌≡◌, ◌<◌, length, slice_get, true, IfOk, IfSome, Some};
+ghost use Rattle.std.specs.Prelude.{◌≡◌, ◌<◌, length, slice_get, true, IfOk, Some};
 ghost use Rattle.yq_text.specs.Halves.{whole};
 ghost use Rattle.yq_cut.specs.Rows.{Row as RowOf};
 ghost use Rattle.yq_cut.specs.View.{rows_of};
 ghost use Rattle.yq_documents.specs.Reading.{content_is_fit, cut_of};
-ghost use Rattle.yq_places.specs.HeadReading.{IsRowHead};
+ghost use Rattle.yq_row_places.specs.HeadReading.{IsRowHead};
 
 use crate::cut_text::CutText;
 use std::alloc::{AllocError, Global};
 use yq_heads::row_head;
-use yq_lines::Head;
-use yq_text::Halves;
+use yq_row_places::{RowHead, in_one};
 use yq_walk::head_place;
-
-/// The head of a row, with the text that begins with it.
-#[derive(Drop)]
-pub(crate) struct RowHead<'t> {
-    /// The head, with its places in the text.
-    pub(crate) head: Head<'t>,
-    /// The text from the head to the end of the row.
-    pub(crate) text: &'t str,
-    /// How many bytes stand before it.
-    pub(crate) before: usize,
-}
-
-/// A text of which one half is empty, as one. A row has no split inside.
-fn in_one(text: Halves<'_>) -> Option<&str>
-    ensures { IfSome result (λ t. t.now ≡ whole text.entry) }
-{
-    if text.front.is_empty() {
-        return Some(text.back);
-    }
-    if text.back.is_empty() {
-        Some(text.front)
-    } else {
-        None
-    }
-}
 
 impl<'t> CutText<'_, 't> {
     /// The head of row `i`, in which keys are fit.

@@ -2,7 +2,7 @@
 ghost use Rattle.std.specs.Prelude.{◌≡◌, ℕ, List, [], false, IfOk, string_bytes};
 ghost use Rattle.yq_nodes.specs.Values.{node_of};
 ghost use Rattle.yq_block_scalars.specs.BlockWritten.{break_text};
-ghost use Rattle.yq_places.specs.StandingViews.{compact_view, held_view, held_mark_view};
+ghost use Rattle.yq_row_places.specs.StandingViews.{compact_view, held_view, held_mark_view};
 ghost use Rattle.yq_block.specs.BlockReading.{is_filled as filled};
 ghost use Rattle.yq_block.specs.BlockRows.{item_column};
 ghost use Rattle.yq_block.specs.BlockText.{block_value};
@@ -15,7 +15,7 @@ use yq_block::{Layout, is_filled};
 use yq_edits::{behind_space, break_and_lines, compact_text, takes_compact, value_text};
 use yq_flow_scalars::Place;
 use yq_nodes::Value;
-use yq_places::{Compact, Held};
+use yq_row_places::{Compact, Held};
 use yq_script::{Segment, Segments};
 use yq_text::Halves;
 

@@ -8,7 +8,7 @@ use Rattle.yq_nodes.specs.View.{view}
 use Rattle.yq_flow_scalars.specs.Tree.{Node}
 use Rattle.yq_documents.specs.Located.{steps_of}
 use Rattle.yq_documents.specs.Reading.{cut_of}
-use Rattle.yq_places.specs.Standings.{flow_part, flow_standing, last_step}
+use Rattle.yq_row_places.specs.Standings.{flow_part, flow_standing, last_step}
 use Rattle.yq_edits.specs.Replacing.{is_kept}
 use Rattle.yq_edits.specs.WrittenValues.{value_text}
 use Rattle.yq_flow_edits.specs.PartPuts.{IsHeadOf}

@@ -4,7 +4,7 @@ use Rattle.yq_nodes.specs.Entries.{step_of}
 use Rattle.yq_nodes.specs.View.{view}
 use Rattle.yq_flow.specs.FlowPlaces.{edit_view}
 use Rattle.yq_documents.specs.Located.{steps_of}
-use Rattle.yq_places.specs.Standings.{last_step}
+use Rattle.yq_row_places.specs.Standings.{last_step}
 use Rattle.yq_edits.specs.Answers.{GivesSegments}
 use Rattle.yq_flow_edits.specs.EditPlaces.{edit_segments, moved_on}
 use Rattle.yq_flow_edits.proofs.FlowAnswers.{coll_found, whole_text}

@@ -1,7 +1,7 @@
 use Rattle.std.proofs.Common.{◌≡◌, ◌++◌, List, sym, ap, ◌∙◌, subst}
 use Rattle.std.specs.Prelude.{OnOk}
 use Rattle.yq_block_scalars.specs.BlockRepair.{is_short}
-use Rattle.yq_places.specs.RemovalReading.{seam_view}
+use Rattle.yq_row_places.specs.RemovalReading.{seam_view}
 use Rattle.yq_script.specs.Script.{Segment}
 use Rattle.yq_segments.proofs.PushedLaws.{long_blank}
 use Rattle.yq_segments.proofs.removing.push_blank.Goals as goal

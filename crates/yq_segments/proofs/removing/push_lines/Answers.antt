@@ -2,7 +2,7 @@ use Rattle.std.proofs.Common.{rules, [], ◌∷◌, ◌++◌, sym, ap, ◌∙◌
 use Rattle.yq_flow_scalars.specs.Lines.{is_blank}
 use Rattle.yq_block_scalars.proofs.BlockSteps.{at_cut, at_end}
 use Rattle.yq_script.specs.Script.{keep}
-use Rattle.yq_places.specs.RemovalReading.{seam_view}
+use Rattle.yq_row_places.specs.RemovalReading.{seam_view}
 use Rattle.yq_segments.proofs.PushedLaws.{all_done, blank_done, comment_done}
 use Rattle.yq_segments.proofs.removing.push_lines.Goals as goal
 

@@ -4,7 +4,7 @@ use Rattle.std.specs.Prelude.{not}
 use Rattle.yq_flow_scalars.specs.Text.{is_feed}
 use Rattle.yq_documents.specs.Located.{steps_of}
 use Rattle.yq_documents.specs.Reading.{cut_of}
-use Rattle.yq_places.specs.NodesAt.{node_in, scalar_view}
+use Rattle.yq_row_places.specs.NodesAt.{node_in, scalar_view}
 use Rattle.yq_segments.proofs.ScalarAnswers.{no_text, has_text_agrees}
 use Rattle.yq_segments.proofs.replace.has_text.Goals as goal
 

@@ -2,7 +2,7 @@ use Rattle.std.proofs.Common.{Option, option_map, sym, ap, ◌∙◌, subst}
 use Rattle.yq_flow_scalars.specs.Answers.{◌>>=◌}
 use Rattle.yq_documents.specs.Located.{steps_of}
 use Rattle.yq_documents.specs.Reading.{cut_of}
-use Rattle.yq_places.specs.Standings.{last_step}
+use Rattle.yq_row_places.specs.Standings.{last_step}
 use Rattle.yq_edits.specs.Answers.{GivesSegments}
 use Rattle.yq_edits.specs.Edits.{replaced}
 use Rattle.yq_flow_edits.specs.Emptying.{Emptied, emptied_view}

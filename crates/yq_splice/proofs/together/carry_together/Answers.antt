@@ -4,8 +4,8 @@ use Rattle.std.specs.Prelude.{IfSome}
 use Rattle.yq_flow_scalars.specs.Paths.{Step}
 use Rattle.yq_nodes.specs.Entries.{step_of}
 use Rattle.yq_documents.specs.Reading.{cut_of}
-use Rattle.yq_places.specs.FlowViews.{IsHeadFor, ReportsHead}
-use Rattle.yq_places.specs.declared.places.flow_node.FlowHead.{FlowHead}
+use Rattle.yq_row_places.specs.FlowViews.{IsHeadFor, ReportsHead}
+use Rattle.yq_row_places.specs.declared.places.flow_node.FlowHead.{FlowHead}
 use Rattle.yq_splice.proofs.RunAnswers.{stem_is}
 use Rattle.yq_splice.proofs.together.carry_together.Goals as goal
 

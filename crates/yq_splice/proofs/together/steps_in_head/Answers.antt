@@ -3,7 +3,7 @@ use Rattle.std.proofs.lemmas.List.{map-append}
 use Rattle.yq_flow_scalars.specs.Paths.{Step}
 use Rattle.yq_nodes.specs.Entries.{step_of}
 use Rattle.yq_documents.specs.Located.{steps_of}
-use Rattle.yq_places.specs.Standings.{last_step}
+use Rattle.yq_row_places.specs.Standings.{last_step}
 use Rattle.yq_splice.proofs.RunAnswers.{ends_there}
 use Rattle.yq_splice.proofs.together.steps_in_head.Goals as goal
 

@@ -1,5 +1,5 @@
 use Rattle.yq_documents.specs.Reading.{cut_of}
-use Rattle.yq_places.proofs.WalkDocuments.{found_document}
+use Rattle.yq_row_places.proofs.WalkDocuments.{found_document}
 use Rattle.yq_places.proofs.cut_text.CutText.along.Goals as goal
 
 pub known_along-requires-clause-document : goal.known_along-requires-clause-document

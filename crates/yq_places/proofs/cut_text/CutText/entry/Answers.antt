@@ -3,8 +3,8 @@ use Rattle.yq_nodes.specs.Entries.{step_of}
 use Rattle.yq_documents.specs.Located.{steps_of}
 use Rattle.yq_documents.specs.Reading.{cut_of}
 use Rattle.yq_documents.specs.LinesInRows.{row_line_of}
-use Rattle.yq_places.specs.StandingReading.{numbers_of_entry}
-use Rattle.yq_places.proofs.WalkDocuments.{found_document, no_place_found, place_found}
+use Rattle.yq_row_places.specs.StandingReading.{numbers_of_entry}
+use Rattle.yq_row_places.proofs.WalkDocuments.{found_document, no_place_found, place_found}
 use Rattle.yq_places.proofs.cut_text.CutText.entry.Goals as goal
 
 pub returns-in_err-document : goal.returns-in_err-document

@@ -2,8 +2,8 @@ use Rattle.std.proofs.Common.{List, ℕ, map, ap, ◌∙◌}
 use Rattle.yq_nodes.specs.Entries.{step_of}
 use Rattle.yq_documents.specs.Located.{steps_of}
 use Rattle.yq_documents.specs.Reading.{cut_of}
-use Rattle.yq_places.specs.EntryReading.{line_entry_of}
-use Rattle.yq_places.proofs.WalkDocuments.{found_document, no_place_found, place_found}
+use Rattle.yq_row_places.specs.EntryReading.{line_entry_of}
+use Rattle.yq_row_places.proofs.WalkDocuments.{found_document, no_place_found, place_found}
 use Rattle.yq_places.proofs.cut_text.CutText.entry_place.Goals as goal
 
 pub returns-in_err-document : goal.returns-in_err-document

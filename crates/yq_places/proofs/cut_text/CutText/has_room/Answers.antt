@@ -1,5 +1,5 @@
-use Rattle.yq_places.specs.RowLineReading.{line_view}
-use Rattle.yq_places.proofs.WalkDocuments.{room_agrees}
+use Rattle.yq_row_places.specs.RowLineReading.{line_view}
+use Rattle.yq_row_places.proofs.WalkDocuments.{room_agrees}
 use Rattle.yq_places.proofs.cut_text.CutText.has_room.Goals as goal
 
 pub returns : goal.returns

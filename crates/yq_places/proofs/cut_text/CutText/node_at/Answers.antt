@@ -6,11 +6,11 @@ use Rattle.yq_flow_scalars.specs.Paths.{Step}
 use Rattle.yq_row_lines.specs.Lines.{lines_of}
 use Rattle.yq_documents.specs.Reading.{cut_of}
 use Rattle.yq_lines.specs.View.{head_view}
-use Rattle.yq_places.specs.NodeReading.{NodePlace, place_node, place_view}
-use Rattle.yq_places.proofs.NodeAtLaws.{node_among, block_numbers_of, head_agrees, node_is}
-use Rattle.yq_places.proofs.RowHeads.{line_fit, line_within}
-use Rattle.yq_places.proofs.WalkDocuments.{found_document, found_in_cut, place_found}
-use Rattle.yq_places.proofs.WalkNodes.{row_is, row_in_cut}
+use Rattle.yq_row_places.specs.NodeReading.{NodePlace, place_node, place_view}
+use Rattle.yq_row_places.proofs.NodeAtLaws.{node_among, block_numbers_of, head_agrees, node_is}
+use Rattle.yq_row_places.proofs.RowHeads.{line_fit, line_within}
+use Rattle.yq_row_places.proofs.WalkDocuments.{found_document, found_in_cut, place_found}
+use Rattle.yq_row_places.proofs.WalkNodes.{row_is, row_in_cut}
 use Rattle.yq_places.proofs.cut_text.CutText.node_at.Goals as goal
 
 pub node_place-requires-clause-document : goal.node_place-requires-clause-document

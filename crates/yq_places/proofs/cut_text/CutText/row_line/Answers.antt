@@ -1,7 +1,7 @@
 use Rattle.std.proofs.Common.{map, ap}
 use Rattle.yq_nodes.specs.Entries.{step_of}
 use Rattle.yq_documents.specs.Reading.{cut_of}
-use Rattle.yq_places.proofs.WalkDocuments.{found_document, row_line_found}
+use Rattle.yq_row_places.proofs.WalkDocuments.{found_document, row_line_found}
 use Rattle.yq_places.proofs.cut_text.CutText.row_line.Goals as goal
 
 pub row_line_along-requires-clause-document : goal.row_line_along-requires-clause-document

@@ -1,8 +1,8 @@
 use Rattle.std.proofs.Common.{ap, ◌∙◌}
 use Rattle.yq_documents.specs.Reading.{cut_of}
-use Rattle.yq_places.specs.Steps.{Steps}
-use Rattle.yq_places.proofs.StepLaws.{steps_found}
-use Rattle.yq_places.proofs.WalkDocuments.{found_document}
+use Rattle.yq_row_places.specs.Steps.{Steps}
+use Rattle.yq_row_places.proofs.StepLaws.{steps_found}
+use Rattle.yq_row_places.proofs.WalkDocuments.{found_document}
 use Rattle.yq_places.proofs.cut_text.CutText.steps.Goals as goal
 
 pub first_step-requires-clause-document : goal.first_step-requires-clause-document

@@ -4,9 +4,9 @@ use Rattle.std.specs.Prelude.{IfSome}
 use Rattle.yq_nodes.specs.Entries.{step_of}
 use Rattle.yq_documents.specs.Located.{steps_of}
 use Rattle.yq_documents.specs.Reading.{cut_of}
-use Rattle.yq_places.specs.RowWalk.{IsLineAt}
-use Rattle.yq_places.proofs.HeldRowLaws.{held_row_is, line_in}
-use Rattle.yq_places.proofs.WalkDocuments.{found_document}
+use Rattle.yq_row_places.specs.RowWalk.{IsLineAt}
+use Rattle.yq_row_places.proofs.HeldRowLaws.{held_row_is, line_in}
+use Rattle.yq_row_places.proofs.WalkDocuments.{found_document}
 use Rattle.yq_places.proofs.cut_text.CutText.to_held_row.Goals as goal
 
 pub known_along-at-requires-clause-document : goal.known_along-at-requires-clause-document

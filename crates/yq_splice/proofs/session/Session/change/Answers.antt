@@ -3,7 +3,7 @@ use Rattle.yq_text.specs.Split.{joined}
 use Rattle.yq_documents.specs.Reading.{cut_of}
 use Rattle.yq_meaning.specs.Operations.{operation_of}
 use Rattle.yq_script.specs.Changing.{IsChange}
-use Rattle.yq_places.specs.RowWalk.{StayKnown}
+use Rattle.yq_row_places.specs.RowWalk.{StayKnown}
 use Rattle.yq_splice.specs.Answers.{EditFails}
 use Rattle.yq_splice.specs.Carried.{carried}
 use Rattle.yq_splice.specs.Edit.{Edit}

@@ -1,0 +1,9 @@
+use Rattle.std.proofs.Common.{rules}
+use Rattle.yq_row_places.proofs.HalvesLaws.{gap_break, gap_hash}
+use Rattle.yq_row_places.proofs.places.halves.begins_gap.Goals as goal
+
+pub returns-then-is_break : goal.returns-then-is_break
+returns-then-is_break c = search (rules, gap_break)
+
+pub returns-else-is_break : goal.returns-else-is_break
+returns-else-is_break c = search (rules, gap_hash)

@@ -1,0 +1,19 @@
+use Rattle.std.proofs.Common.{◌≡◌, length, map, option_map}
+use Rattle.std.specs.Prelude.{IfSome}
+use Rattle.yq_nodes.specs.Entries.{step_of}
+use Rattle.yq_lines.specs.Ends.{reached}
+use Rattle.yq_lines.specs.Positions.{reach_from}
+use Rattle.yq_row_lines.specs.Lines.{lines_of}
+use Rattle.yq_row_lines.specs.RowWalk.{AreKnown, HasDocument, IsLine, line_number}
+use Rattle.yq_row_places.proofs.places.known_at.known_along.Given as goal
+
+abbrev pub decreases-steps : goal.decreases-steps
+decreases-steps l = length l.left
+
+-- the line that was found is one from which the steps that are left lead where all do, and the items that passed most rows are known
+abbrev pub invariant-steps : goal.invariant-steps
+invariant-steps l = record {
+  from : IfSome l.from (IsLine l.rows l.document);
+  leads : (h : HasDocument l.rows l.document) → reach_from (lines_of h.stand.rows) (option_map (line_number l.document h.stand.rows) l.from) (map step_of l.left) ≡ reached (map step_of l.steps) (lines_of h.stand.rows);
+  known : AreKnown l.rows.rows l.found;
+}

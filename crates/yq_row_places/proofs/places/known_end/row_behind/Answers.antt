@@ -1,0 +1,5 @@
+use Rattle.std.proofs.Common.{◌∙◌}
+use Rattle.yq_row_places.proofs.places.known_end.row_behind.Goals as goal
+
+pub returns : goal.returns
+returns c = c.rows_under.ensures.value ∙ c.search_under-begin.ensures.value

@@ -1,0 +1,10 @@
+use Rattle.std.proofs.Common.{◌≡◌, length, map}
+use Rattle.yq_nodes.specs.Entries.{step_of}
+use Rattle.yq_row_places.proofs.places.known_line.are_same.Given as goal
+
+abbrev pub decreases-steps : goal.decreases-steps
+decreases-steps l = length l.left
+
+-- the steps are the same where those that are left are
+abbrev pub invariant-steps : goal.invariant-steps
+invariant-steps l = map step_of l.left ≡ map step_of l.rest → map step_of l.steps ≡ map step_of l.others

@@ -1,0 +1,71 @@
+//! Keys and dashes whose line is the last one of its row, with that row and what it holds behind them.
+ghost use Rattle.std.specs.Prelude.{[], ◌≡◌, ◌<◌, ◌&&◌, length, not, slice_get, IfSome, Some};
+ghost use Rattle.yq_flow_scalars.specs.Text.{is_empty};
+ghost use Rattle.yq_cut.specs.Rows.{Cut, Row as RowOf};
+ghost use Rattle.yq_cut.specs.View.{rows_of, rows_view};
+ghost use Rattle.yq_documents.specs.RowReading.{is_block_head};
+ghost use Rattle.yq_row_lines.specs.Extents.{IsRowsView};
+ghost use Rattle.yq_row_places.specs.CommentPlaces.{end_before};
+ghost use Rattle.yq_row_places.specs.StandingViews as row_agrees;
+
+use yq_cut::Rows;
+use yq_documents::is_block_head;
+use yq_flow_scalars::lines::split_at_break;
+use yq_flow_scalars::text::split_white;
+use yq_row_lines::Position;
+use yq_walk::{front_len, lines_before_mark};
+
+/// A key or dash of a text whose line is the last one of its row, with what that row holds behind it.
+#[derive(Clone, Copy)]
+pub struct HeldRow<'t> {
+    /// How many rows of the text stand before it.
+    pub row: usize,
+    /// Whether an inline node is written there.
+    pub inline: bool,
+    /// How many bytes of the text stand before what is written there.
+    pub start: usize,
+    /// What is written there: an inline node, the header of a block scalar or nothing.
+    pub head: &'t str,
+    /// The end of the line behind that, with its break.
+    pub tail: &'t str,
+}
+
+impl<'t> HeldRow<'t> {
+    /// The white space that ends its line, or stands before the line's comment, and that comment, if the
+    /// line has one.
+    pub fn line_end(&self) -> (&'t str, &'t str)
+        ensures white { result.0.now ≡ (end_before [] self.now.tail.now).white }
+        ensures comment { result.1.now ≡ (end_before [] self.now.tail.now).comment }
+    {
+        let (white, line) = split_white(self.tail);
+        (white, split_at_break(line).0)
+    }
+}
+
+/// Whether the head of a row is an inline node.
+fn is_inline(head: &str) -> bool
+    ensures { result ≡ (not (is_empty head.now) && not (is_block_head head.now)) }
+{
+    !(head.is_empty() || is_block_head(head.as_bytes()))
+}
+
+/// The row of a line, with what it holds behind that, if it is its last one.
+pub fn row_of_last<'t>(rows: &Rows<'t>, at: Position) -> Option<HeldRow<'t>>
+    requires within { at.row < length rows.now.rows }
+    requires rows_view { IsRowsView rows.now }
+    ensures { IfSome result (λ x. (c : Cut) → rows.now ≡ rows_view c → (r : RowOf) →
+        slice_get (rows_of c) at.row ≡ Some r → row_agrees.IsLastOf c at r x) }
+{
+    if at.line != lines_before_mark(rows, at.row) {
+        return None;
+    }
+    let row = rows.row(at.row);
+    let head = row.head();
+    Some(HeldRow {
+        row: at.row,
+        inline: is_inline(head),
+        start: rows.start(at.row) + front_len(&row),
+        head,
+        tail: row.tail(),
+    })
+}

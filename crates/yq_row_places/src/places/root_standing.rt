@@ -1,0 +1,49 @@
+//! What stands at roots.
+ghost use Rattle.std.specs.Prelude.{◌≡◌, ◌<◌, ◌∷◌};
+ghost use Rattle.yq_text.specs.Halves.{whole};
+ghost use Rattle.yq_row_places.specs.Standings as spec;
+ghost use Rattle.yq_row_places.specs.StandingReading.{IsRootOf};
+ghost use Rattle.yq_row_places.specs.StandingViews as row_agrees;
+
+use crate::places::entry_standing::{is_alone, lone_in};
+use crate::places::lines_cut::cut_lines;
+use crate::places::row_place::{line_start, row_stop};
+use crate::places::standing::{BlockRoot, Standing};
+use yq_cut::Rows;
+use yq_row_lines::{Position, Stretch};
+use yq_text::Halves;
+
+/// The root of a document as a block collection: from its first key or dash to its last line.
+fn block_root_in<'t>(rows: &Rows<'t>, text: Halves<'t>, document: Stretch) -> BlockRoot<'t>
+    requires { IsRootOf (whole text) rows.now document }
+    ensures { (h : IsRootOf (whole text.entry) rows.now document) →
+        row_agrees.root_view result ≡ spec.block_root h.part h.row h.under }
+{
+    let position = Position {
+        row: document.first,
+        line: 0,
+    };
+    let column = rows.row(document.first).column();
+    let stop = row_stop(rows, document.end - 1);
+    let lower = cut_lines(text, line_start(rows, position), stop);
+    BlockRoot {
+        column,
+        before: lower.before,
+        old: lower.lines,
+        last: lower.last,
+        behind: lower.behind,
+    }
+}
+
+/// What stands at the root of a document with rows.
+pub fn rows_standing<'t>(rows: &Rows<'t>, text: Halves<'t>, document: Stretch) -> Standing<'t>
+    requires { IsRootOf (whole text) rows.now document }
+    ensures { (h : IsRootOf (whole text.entry) rows.now document) →
+        row_agrees.standing_view result ≡ spec.root_standing h.part (h.row ∷ h.under) }
+{
+    if is_alone(&rows.row(document.first)) {
+        Standing::Alone(lone_in(rows, text, document.first))
+    } else {
+        Standing::Root(block_root_in(rows, text, document))
+    }
+}

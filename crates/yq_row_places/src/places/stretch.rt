@@ -1,0 +1,44 @@
+//! The rows of documents among those of a text, and lines of them at paths.
+ghost use Rattle.std.specs.Prelude.{◌≡◌, ◌-◌, map, option_map};
+ghost use Rattle.yq_nodes.specs.Entries.{step_of};
+ghost use Rattle.yq_documents.specs.LinesInRows.{row_line_of};
+ghost use Rattle.yq_row_lines.specs.Extents.{IsRowsView};
+ghost use Rattle.yq_row_lines.specs.RowWalk.{AreKnown, HasDocument};
+ghost use Rattle.yq_row_places.specs.RowLineReading.{numbers, line_view};
+
+use yq_cut::Rows;
+use yq_nodes::Step;
+use yq_row_lines::{KnownItems, Stretch};
+use yq_walk::{line_at, lines_before_mark};
+
+/// A line of a row.
+#[derive(Clone, Copy)]
+pub struct RowLine {
+    /// How many rows of the text stand before the row.
+    pub row: usize,
+    /// How many lines of the row stand before this one.
+    pub line: usize,
+    /// How many lines of the row stand before that of its mark.
+    pub dashes: usize,
+}
+
+/// The line of the entry or item to which steps lead in a document, if one of a row is.
+pub fn row_line_along(
+    rows: &Rows<'_>,
+    document: Stretch,
+    known: KnownItems,
+    steps: &[Step],
+) -> Option<RowLine>
+    requires rows_view { IsRowsView rows.now }
+    requires document { HasDocument rows.now document }
+    requires known { AreKnown rows.now.rows known }
+    ensures { (h : HasDocument rows.now document) → option_map line_view result ≡
+        option_map (numbers document.first) (row_line_of (map step_of steps.now) h.stand.rows) }
+{
+    let position = line_at(rows, document, known, steps)?;
+    Some(RowLine {
+        row: position.row,
+        line: position.line,
+        dashes: lines_before_mark(rows, position.row),
+    })
+}

@@ -1,0 +1,24 @@
+//! A text in three pieces.
+ghost use Rattle.std.specs.Prelude.{◌≡◌, ◌≤◌, ◌-◌, drop, take};
+ghost use Rattle.std.specs.Str.{IsCharBoundary};
+ghost use Rattle.yq_text.specs.Halves.{whole};
+
+use yq_text::Halves;
+
+/// A text in three pieces, of which the second one begins and ends at these places.
+pub fn cut_at<'t>(
+    text: Halves<'t>,
+    start: usize,
+    end: usize,
+) -> (Halves<'t>, Halves<'t>, Halves<'t>)
+    requires order { start ≤ end }
+    requires start { IsCharBoundary (whole text) start }
+    requires end { IsCharBoundary (drop start (whole text)) (end - start) }
+    ensures before { whole result.0 ≡ take start (whole text.entry) }
+    ensures middle { whole result.1 ≡ take (end - start) (drop start (whole text.entry)) }
+    ensures behind { whole result.2 ≡ drop (end - start) (drop start (whole text.entry)) }
+{
+    let (before, rest) = text.split_at(start);
+    let (middle, behind) = rest.split_at(end - start);
+    (before, middle, behind)
+}
