@@ -26,3 +26,4 @@ pub mod LastRows
 pub mod HeldLaws
 pub mod HeldCuts
 pub mod HeldPieces
+pub mod ScalarAnswers

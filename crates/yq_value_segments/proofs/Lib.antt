@@ -1,0 +1,2 @@
+pub mod ClosedLaws
+pub mod PlacedValueLaws
