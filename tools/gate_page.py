@@ -4,7 +4,7 @@ import os
 import re
 import time
 
-from crates import ROOT, libraries
+from crates import ROOT, folder, libraries
 from watch import EDITS, PROOF, TESTS
 
 PAGE = os.path.join(ROOT, "docs", "GATE.md")
@@ -45,10 +45,17 @@ def rows_of_page():
     return rows
 
 
+def of_now(crate, row):
+    """The row of a crate without what it no longer has: wrong bodies that are tried."""
+    if not os.path.isdir(os.path.join(folder(crate), "must-fail")):
+        row.seconds.pop(EDITS, None)
+    return row
+
+
 def with_tasks(rows, tasks):
     """The row of each crate behind a run, and the crates of which the run did something."""
     now = time.strftime("%Y-%m-%d", time.gmtime())
-    new = {crate: rows.get(crate, Row()) for crate in libraries()}
+    new = {crate: of_now(crate, rows.get(crate, Row())) for crate in libraries()}
     for (crate, kind), task in tasks.items():
         if crate in new:
             new[crate].seconds[kind] = round(task.seconds())
