@@ -1,5 +1,6 @@
 //! The calls of yq_journal.
 
+mod called;
 mod records;
 mod refused_memory;
 

@@ -1,6 +1,7 @@
 //! The calls of yq_splice.
 
 mod growths;
+mod largest;
 mod operations;
 mod planned;
 mod sessions;

@@ -21,14 +21,21 @@ fn mapping(alloc: Global) -> Result<String, AllocError> {
     Ok(text)
 }
 
+/// A piece so often that a word can't hold it, with what stands in front and behind.
+fn repeated(alloc: Global, front: &str, piece: &str, behind: &str) -> Result<String, AllocError> {
+    let mut text = String::from_str(alloc, front)?;
+    text.push_str(&piece.repeat(alloc, 150_000)?)?;
+    text.push_str(behind)?;
+    Ok(text)
+}
+
 #[test]
 fn are_programs(rt: HostRuntime) -> Result<(), Fail> {
     let alloc = rt.alloc();
     'rows: for (front, piece, behind) in &REPEATED {
-        let pieces = piece.repeat(alloc, 150_000)?;
-        let text = format!(in alloc; "{front}{}{behind}", pieces.as_str())?;
-        assert_eq!(rt; parse_expr(alloc, &text).err(), None, "{piece:?}");
+        let text = repeated(alloc, front, piece, behind)?;
+        assert!(rt; parse_expr(alloc, &text).is_ok(), "{piece}");
     }
-    assert_eq!(rt; parse_expr(alloc, &mapping(alloc)?).err(), None);
+    assert!(rt; parse_expr(alloc, &mapping(alloc)?).is_ok());
     Ok(())
 }

@@ -3,7 +3,7 @@
 use std::alloc::{AllocError, Global};
 use std::test::Fail;
 use yq_flow_scalars::ReadError;
-use yq_tree::{Part, Path, Step, read};
+use yq_tree::{Node, Part, Path, Span, Step, read};
 
 /// A step by its word: an index or a key.
 fn step(alloc: Global, word: &str) -> Result<Step, AllocError> {
@@ -29,7 +29,15 @@ const BLOCK: &str = "# c\na: &x # d\nb:\r\n  # e\n  - - {k: 1} # f\n    - [&y 2,
 const SEVERAL: &str = "a: |+ # h\n  t\n\n---\nb:\n- é # i";
 
 /// A text, a document and a path in it, a part, and where that begins, with its text.
-static PARTS: [(&str, usize, &str, Part, Option<(usize, &str)>); 18] = [
+type PartRow = (
+    &'static str,
+    usize,
+    &'static str,
+    Part,
+    Option<(usize, &'static str)>,
+);
+
+static PARTS: [PartRow; 18] = [
     (BLOCK, 0, "", Part::Entry, None),
     (BLOCK, 0, "/a", Part::HeadComment, Some((0, "# c\n"))),
     (BLOCK, 0, "/a", Part::Entry, Some((4, "a: &x # d"))),
@@ -76,42 +84,84 @@ static NODES: [(&str, &str, Option<&str>); 5] = [
     ("b: [p, {q: r}]\n", "/b/2", None),
 ];
 
-/// The node at a path in the first document of a text: its five words, with a `/` behind each.
-fn described(alloc: Global, text: &str, words: &str) -> Result<Option<String>, ReadError> {
-    let documents = read(alloc, text.as_bytes())?;
-    let path = path(alloc, 0, words)?;
-    let Some(node) = documents.locate(&path) else {
-        return Ok(None);
-    };
-    let (key, anchor) = (node.key().unwrap_or(""), node.anchor().unwrap_or(""));
-    let mut all = format!(in alloc; "{key}/{anchor}/{}/", node.count())?;
+/// The comments above a node, with a `+` behind each.
+fn head_comment_of(alloc: Global, node: Node<'_, '_>) -> Result<String, AllocError> {
+    let mut all = String::new(alloc);
     'above: for comment in node.head_comment() {
         all.push_str(comment)?;
         all.push_str("+")?;
     }
-    all.push_str("/")?;
-    all.push_str(node.line_comment().unwrap_or(""))?;
-    all.push_str("/")?;
-    Ok(Some(all))
+    Ok(all)
+}
+
+/// Adds a word with a `/` behind it.
+fn push_word(words: &mut String, word: &str) -> Result<(), AllocError> {
+    words.push_str(word)?;
+    words.push_str("/")
+}
+
+/// A node: its five words, with a `/` behind each.
+fn described(alloc: Global, node: Node<'_, '_>) -> Result<String, AllocError> {
+    let mut words = String::new(alloc);
+    push_word(&mut words, node.key().unwrap_or(""))?;
+    push_word(&mut words, node.anchor().unwrap_or(""))?;
+    push_word(&mut words, &node.count().to_string(alloc)?)?;
+    push_word(&mut words, &head_comment_of(alloc, node)?)?;
+    push_word(&mut words, node.line_comment().unwrap_or(""))?;
+    Ok(words)
+}
+
+/// Whether a node is the wanted one, or there is none and none is wanted.
+fn is_wanted(
+    alloc: Global,
+    node: Option<Node<'_, '_>>,
+    wanted: Option<&str>,
+) -> Result<bool, AllocError> {
+    match (node, wanted) {
+        (Some(node), Some(wanted)) => Ok(described(alloc, node)?.as_str() == wanted),
+        (None, None) => Ok(true),
+        _ => Ok(false),
+    }
+}
+
+/// Whether the node at a path in the first document of a text is the wanted one.
+fn has_node(
+    alloc: Global,
+    text: &str,
+    words: &str,
+    wanted: Option<&str>,
+) -> Result<bool, ReadError> {
+    let documents = read(alloc, text.as_bytes())?;
+    let path = path(alloc, 0, words)?;
+    Ok(is_wanted(alloc, documents.locate(&path), wanted)?)
+}
+
+/// Whether a part stands at the wanted place, or there is none and none is wanted.
+fn stands_at(span: Option<Span>, wanted: Option<(usize, &str)>) -> bool {
+    match (span, wanted) {
+        (Some(span), Some((start, piece))) => {
+            span.start == start && span.end == start.saturating_add(piece.len())
+        }
+        (None, None) => true,
+        _ => false,
+    }
+}
+
+/// Whether a part of the node at a path stands where it is wanted.
+fn has_part(alloc: Global, row: &PartRow) -> Result<bool, ReadError> {
+    let (text, doc, words, part, wanted) = row;
+    let documents = read(alloc, text.as_bytes())?;
+    let path = path(alloc, *doc, words)?;
+    Ok(stands_at(documents.extent(&path, *part), *wanted))
 }
 
 #[test]
 fn stand_at_paths(rt: HostRuntime) -> Result<(), Fail> {
-    let alloc = rt.alloc();
-    'parts: for (text, doc, words, part, wanted) in &PARTS {
-        let documents = read(alloc, text.as_bytes())?;
-        let span = documents.extent(&path(alloc, *doc, words)?, *part);
-        let place = wanted.map(|(start, piece)| (start, start.saturating_add(piece.len())));
-        assert_eq!(rt;
-            span.map(|span| (span.start, span.end)),
-            place,
-            "{part:?} of {words:?}"
-        );
+    'parts: for row in &PARTS {
+        assert!(rt; has_part(rt.alloc(), row)?, "{}", row.2);
     }
     'nodes: for (text, words, wanted) in &NODES {
-        let got = described(alloc, text, words)?;
-        let got = got.as_ref().map(|got| got.as_str());
-        assert_eq!(rt; got, *wanted, "{words:?} of {text:?}");
+        assert!(rt; has_node(rt.alloc(), text, words, *wanted)?, "{words}");
     }
     Ok(())
 }

@@ -1,12 +1,11 @@
 //! Each growth in a list refused in turn: nothing is run, or a command is answered want of memory, or that its
 //! output failed, and the list goes on.
 
-use crate::stores::{FILE, JOURNAL, holds, store_with};
-use std::alloc::Global;
-use std::process::Abort;
+use crate::stores::{FILE, JOURNAL, commands_of, holds, store_with};
+use std::alloc::{AllocError, Global};
 use std::test::Fail;
-use yq_commands::Answer::{Done, Refused};
-use yq_commands::{Answer, MemoryOut, command_of, run_list};
+use yq_commands::Answer::{Done, NoMatch, Refused};
+use yq_commands::{Answer, MemoryOut, run_list};
 use yq_history::Fault;
 use yq_store::MemoryStore;
 use yq_text_calls::all_memory;
@@ -33,69 +32,87 @@ const MAX_GROWTHS: usize = 512;
 /// What the list prints.
 const PRINTED: &str = "1\n1 undone \".n = 2 | .n = 3\"\n";
 
-/// Why the first command was refused, if one was: those before it are carried out.
-fn first_refused(rt: &impl Abort, answers: &[Answer]) -> Option<Fault> {
+/// What a run of the list comes to: nothing is run, the first command that isn't carried out wants memory or
+/// its output failed, all are carried out, or something else.
+enum Outcome {
+    NothingRun,
+    OutOfMemory,
+    OutFailed,
+    CarriedOut,
+    Other,
+}
+
+/// What the answers come to.
+fn outcome_of(answers: &[Answer]) -> Outcome {
     'answers: for answer in answers {
         match answer {
-            Refused(fault) => {
-                assert!(rt;
-                    *fault == Fault::OutOfMemory || *fault == Fault::OutFailed,
-                    "{fault:?}"
-                );
-                return Some(*fault);
-            }
-            _ => assert_eq!(rt; *answer, Done),
+            Done => (),
+            Refused(Fault::OutOfMemory) => return Outcome::OutOfMemory,
+            Refused(Fault::OutFailed) => return Outcome::OutFailed,
+            Refused(_) | NoMatch => return Outcome::Other,
         }
     }
-    None
+    Outcome::CarriedOut
+}
+
+/// Runs the list over a store.
+fn run_over(alloc: Global, store: &mut MemoryStore, commands: &[Command]) -> Outcome {
+    let mut out = MemoryOut::new(alloc);
+    let before = store.calls();
+    let Ok(answers) = run_list(alloc, store, &mut out, commands) else {
+        return if store.calls() == before {
+            Outcome::NothingRun
+        } else {
+            Outcome::Other
+        };
+    };
+    match outcome_of(&answers) {
+        Outcome::CarriedOut if out.bytes() != PRINTED.as_bytes() => Outcome::Other,
+        outcome => outcome,
+    }
 }
 
 /// Runs the list over each of the stores, with memory for one growth more each time, until all is carried out:
-/// how often nothing was run, a command was refused first, and an output failed first.
-fn refused_list(
-    rt: &impl Abort,
+/// whether there was a run before in which nothing was run, one in which a command was refused, and no other but
+/// those whose output failed.
+fn is_refused_first(
     alloc: Global,
     stores: &mut [MemoryStore],
     commands: &[Command],
-) -> Result<[u32; 3], Fail> {
-    let [mut lists, mut refused, mut outputs] = [0u32; 3];
+) -> Result<bool, AllocError> {
+    let (mut is_list_refused, mut is_command_refused) = (false, false);
     let mut held = all_memory(alloc)?;
     'stores: for store in stores {
-        let mut out = MemoryOut::new(alloc);
-        let before = store.calls();
-        match run_list(alloc, store, &mut out, commands) {
-            Err(_) => {
-                assert_eq!(rt; store.calls(), before);
-                lists = lists.saturating_add(1);
+        match run_over(alloc, store, commands) {
+            Outcome::NothingRun => is_list_refused = true,
+            Outcome::OutOfMemory => is_command_refused = true,
+            Outcome::OutFailed => (),
+            Outcome::CarriedOut => {
+                let is_carried_out = holds(store, FILE, "n: 1\n")
+                    && holds(store, JOURNAL, SQUASHED);
+                return Ok(is_carried_out && is_list_refused && is_command_refused);
             }
-            Ok(answers) => match first_refused(rt, &answers) {
-                Some(Fault::OutFailed) => outputs = outputs.saturating_add(1),
-                Some(_) => refused = refused.saturating_add(1),
-                None => {
-                    holds(rt, store, FILE, "n: 1\n");
-                    holds(rt, store, JOURNAL, SQUASHED);
-                    assert_eq!(rt; out.bytes(), PRINTED.as_bytes());
-                    return Ok([lists, refused, outputs]);
-                }
-            },
+            Outcome::Other => return Ok(false),
         }
         let _ = held.pop();
     }
-    Err(Fail::new("never carried out"))
+    Ok(false)
+}
+
+/// A store for each growth.
+fn stores(alloc: Global) -> Result<Vec<MemoryStore>, Fail> {
+    let mut stores = Vec::with_capacity(alloc, MAX_GROWTHS)?;
+    'stores: for _ in 0..MAX_GROWTHS {
+        stores.push(store_with(alloc, "n: 1\n")?)?;
+    }
+    Ok(stores)
 }
 
 #[test]
 fn each_growth_of_a_list(rt: HostRuntime) -> Result<(), Fail> {
     let alloc = rt.alloc();
-    let mut commands = Vec::new(alloc);
-    'words: for words in &LIST {
-        commands.push(command_of(alloc, words)?)?;
-    }
-    let mut stores = Vec::new(alloc);
-    'stores: for _ in 0..MAX_GROWTHS {
-        stores.push(store_with(alloc, "n: 1\n")?)?;
-    }
-    let [lists, refused, outputs] = refused_list(&rt, alloc, &mut stores, &commands)?;
-    assert!(rt; lists > 0 && refused > 0, "{lists}, {refused}, {outputs}");
+    let commands = commands_of(alloc, &LIST)?;
+    let mut stores = stores(alloc)?;
+    assert!(rt; is_refused_first(alloc, &mut stores, &commands)?);
     Ok(())
 }

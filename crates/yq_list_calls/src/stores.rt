@@ -1,9 +1,11 @@
-//! Stores of two names, a file and its journal.
+//! Stores of two names, a file and its journal, and lists of commands over them.
 
-use std::alloc::Global;
-use std::process::Abort;
+use std::alloc::{AllocError, Global};
 use std::test::Fail;
+use yq_commands::{Answer, MemoryOut, command_of, run_list};
+use yq_history::Fault;
 use yq_store::{MemoryStore, Store};
+use yq_words::Command;
 
 /// The name of the file, and that of its journal.
 pub const FILE: &str = "f";
@@ -17,10 +19,29 @@ pub fn store_with(alloc: Global, text: &str) -> Result<MemoryStore, Fail> {
     Ok(store)
 }
 
-/// A name holds this text.
-pub fn holds(rt: &impl Abort, store: &MemoryStore, name: &str, text: &str) {
+/// Whether a name holds this text.
+pub fn holds(store: &MemoryStore, name: &str, text: &str) -> bool {
     match store.bytes(name) {
-        Some(bytes) => assert_eq!(rt; bytes.as_slice(), text.as_bytes(), "{name}"),
-        None => assert!(rt; false, "{name} is not there"),
+        Some(bytes) => bytes.as_slice() == text.as_bytes(),
+        None => false,
     }
+}
+
+/// The commands that words ask for.
+pub fn commands_of(alloc: Global, list: &[&[&str]]) -> Result<Vec<Command>, Fault> {
+    let mut commands = Vec::with_capacity(alloc, list.len())?;
+    'words: for words in list {
+        commands.push(command_of(alloc, words)?)?;
+    }
+    Ok(commands)
+}
+
+/// The answers to a list of commands, whose output isn't looked at.
+pub fn answers_to(
+    alloc: Global,
+    store: &mut MemoryStore,
+    commands: &[Command],
+) -> Result<Vec<Answer>, AllocError> {
+    let mut out = MemoryOut::new(alloc);
+    run_list(alloc, store, &mut out, commands)
 }

@@ -3,6 +3,8 @@
 #![tactic(auto)]
 
 #[cfg(test)]
+mod called;
+#[cfg(test)]
 mod calls;
 mod memory;
 

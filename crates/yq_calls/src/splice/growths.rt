@@ -1,65 +1,98 @@
 //! Edits and printed values, each growth of a call refused in turn.
 
 use super::worked::{ROWS, Row, are_spliced};
-use std::alloc::Global;
-use std::process::Abort;
+use std::alloc::{AllocError, Global};
 use std::test::Fail;
-use yq_expr::{Value, matches, parse_expr};
-use yq_splice::{EditError, edit, print};
+use yq_expr::{Match, Program, Value, matches, parse_expr};
+use yq_splice::{EditError, Edited, edit, print};
 use yq_text_calls::all_memory;
 use yq_tree::read;
 
-/// With memory for so many more growths, the answer is want of memory, and
-/// then the edit: how many growths were refused before.
-fn edit_growths(rt: &impl Abort, alloc: Global, row: &Row) -> Result<u32, Fail> {
-    let (text, expr, wanted, exchanges) = row;
-    let program = parse_expr(alloc, expr)?;
+/// With memory for so many more growths, the answer is want of memory, and then the edit: none where less
+/// than two growths were refused before.
+fn edit_refused_first(
+    alloc: Global,
+    text: &str,
+    program: &Program,
+) -> Result<Option<Edited>, EditError> {
     let mut held = all_memory(alloc)?;
     'growths: for nth_growth in 0..4096u32 {
-        match edit(alloc, text, &program) {
-            Ok(edited) => {
-                assert_eq!(rt; edited.text.as_str(), *wanted);
-                are_spliced(rt, &edited.splices, exchanges);
-                return Ok(nth_growth);
-            }
-            Err(error) => {
-                assert_eq!(rt; error, EditError::Memory);
+        match edit(alloc, text, program) {
+            Err(EditError::Memory) => {
                 let _ = held.pop();
             }
+            Ok(edited) if nth_growth > 1 => return Ok(Some(edited)),
+            Ok(_) => return Ok(None),
+            Err(error) => return Err(error),
         }
     }
-    Err(Fail::new("never edited"))
+    Ok(None)
 }
 
-/// The same of a printed value.
-fn print_growths(rt: &impl Abort, alloc: Global, value: &Value, wanted: &str) -> Result<u32, Fail> {
+/// Whether the edit of a row is refused first, and then as it is wanted.
+fn is_refused_first(alloc: Global, row: &Row) -> Result<bool, Fail> {
+    let (text, expr, wanted, exchanges) = row;
+    let program = parse_expr(alloc, expr)?;
+    match edit_refused_first(alloc, text, &program)? {
+        Some(edited) => {
+            Ok(edited.text.as_str() == *wanted && are_spliced(&edited.splices, exchanges))
+        }
+        None => Ok(false),
+    }
+}
+
+/// The same of a printed value, of which more than three growths are refused.
+fn is_print_refused_first(alloc: Global, value: &Value, wanted: &str) -> Result<bool, AllocError> {
     let mut held = all_memory(alloc)?;
     'growths: for nth_growth in 0..4096u32 {
         match print(alloc, value) {
-            Ok(text) => {
-                assert_eq!(rt; text.as_str(), wanted);
-                return Ok(nth_growth);
-            }
+            Ok(text) => return Ok(nth_growth > 3 && text.as_str() == wanted),
             Err(_) => {
                 let _ = held.pop();
             }
         }
     }
-    Err(Fail::new("never printed"))
+    Ok(false)
+}
+
+/// Whether each value that was found is printed so.
+fn are_printed(alloc: Global, found: &[Match], wanted: &str) -> Result<bool, AllocError> {
+    'values: for found in found {
+        if !is_print_refused_first(alloc, &found.value, wanted)? {
+            return Ok(false);
+        }
+    }
+    Ok(true)
+}
+
+/// What an expression finds in a text.
+fn found_in(alloc: Global, program: &Program, text: &str) -> Result<Vec<Match>, Fail> {
+    if !program.is_read() {
+        return Err(Fail::new("an update"));
+    }
+    let documents = read(alloc, text.as_bytes())?;
+    Ok(matches(alloc, program, &documents)?)
+}
+
+/// Whether each document of a text is printed so.
+fn is_printed(alloc: Global, text: &str, wanted: &str) -> Result<bool, Fail> {
+    let program = parse_expr(alloc, ".")?;
+    let found = found_in(alloc, &program, text)?;
+    Ok(are_printed(alloc, &found, wanted)?)
 }
 
 #[test]
 fn each_growth_is_refused(rt: HostRuntime) -> Result<(), Fail> {
-    let alloc = rt.alloc();
     'rows: for row in &ROWS {
-        assert!(rt; edit_growths(&rt, alloc, row)? > 1);
+        assert!(rt;
+            is_refused_first(rt.alloc(), row)?,
+            "{} on {:?}",
+            row.1,
+            row.0
+        );
     }
-    let documents = read(alloc, b"a: [b, {c: 'true', \"null\": {}}]\n")?;
-    let program = parse_expr(alloc, ".")?;
-    assert!(rt; program.is_read());
+    let text = "a: [b, {c: 'true', \"null\": {}}]\n";
     let printed = "a:\n  - b\n  - c: \"true\"\n    \"null\": {}\n";
-    'values: for found in &matches(alloc, &program, &documents)? {
-        assert!(rt; print_growths(&rt, alloc, &found.value, printed)? > 3);
-    }
+    assert!(rt; is_printed(rt.alloc(), text, printed)?);
     Ok(())
 }

@@ -3,9 +3,8 @@ ghost use Rattle.std.specs.Prelude.{IfOk};
 ghost use Rattle.yq_meaning.specs.Operations.{operation_of};
 ghost use Rattle.yq_carrying.specs.Theorems.{IsApplied, IsFitting};
 
-use super::texts::{has_text, text_of};
+use super::texts::has_text;
 use std::alloc::Global;
-use std::process::Abort;
 use std::test::Fail;
 use yq_expr::Op;
 use yq_flow_scalars::ReadError;
@@ -13,66 +12,63 @@ use yq_splice::{EditError, Edited, Session, Splice, apply_op};
 use yq_text_calls::all_memory;
 
 /// An operation applied by itself, behind answers that memory is wanting.
-pub(super) fn by_itself(rt: &impl Abort, alloc: Global, text: &str, op: &Op) -> Result<Edited, Fail>
+pub(super) fn by_itself(alloc: Global, text: &str, op: &Op) -> Result<Edited, Fail>
     requires { IsFitting (operation_of op.now) text.now }
 {
     let mut held = all_memory(alloc)?;
     'growths: for nth_growth in 0..4096u32 {
         match apply_op(alloc, text, op) {
-            Ok(edited) => {
-                assert!(rt; nth_growth > 1);
-                return Ok(edited);
-            }
-            Err(error) => {
-                assert_eq!(rt; error, EditError::Memory);
+            Err(EditError::Memory) => {
                 let _ = held.pop();
             }
+            Ok(edited) if nth_growth > 1 => return Ok(edited),
+            Ok(_) => return Err(Fail::new("applied too early")),
+            Err(_) => return Err(Fail::new("refused")),
         }
     }
     Err(Fail::new("never applied"))
 }
 
 /// A session opened, behind the same answers.
-pub(super) fn opened(rt: &impl Abort, alloc: Global, text: &str) -> Result<Session, Fail> {
+pub(super) fn opened(alloc: Global, text: &str) -> Result<Session, Fail> {
     let mut held = all_memory(alloc)?;
     'growths: for _ in 0..4096u32 {
         match Session::open(alloc, text) {
             Ok(session) => return Ok(session),
-            Err(error) => {
-                assert_eq!(rt; error, ReadError::Memory);
+            Err(ReadError::Memory) => {
                 let _ = held.pop();
             }
+            Err(_) => return Err(Fail::new("no document")),
         }
     }
     Err(Fail::new("never opened"))
 }
 
+/// Whether a session stands at that text, and has read as many lines.
+pub(super) fn is_left(session: &Session, text: &str, scanned: u64) -> bool {
+    has_text(session, text) && session.scanned() == scanned
+}
+
 /// An operation applied to a session, which stays as it was behind each such answer.
 pub(super) fn in_session(
-    rt: &impl Abort,
     alloc: Global,
     session: &mut Session,
+    text: &str,
     op: &Op,
 ) -> Result<Vec<Splice>, Fail>
     requires { IsFitting (operation_of op.now) session.old.text }
     ensures { IfOk result (λ cs. IsApplied (operation_of op.now) session.old.text session.new.text
         cs.items) }
 {
-    let text = text_of(alloc, session)?;
     let scanned = session.scanned();
     let mut held = all_memory(alloc)?;
     'growths: for nth_growth in 0..4096u32 {
         match session.apply(op) {
-            Ok(splices) => {
-                assert!(rt; nth_growth > 1);
-                return Ok(splices);
-            }
-            Err(error) => {
-                assert_eq!(rt; error, EditError::Memory);
-                assert!(rt; has_text(session, &text));
-                assert_eq!(rt; session.scanned(), scanned);
+            Ok(splices) if nth_growth > 1 => return Ok(splices),
+            Err(EditError::Memory) if is_left(session, text, scanned) => {
                 let _ = held.pop();
             }
+            _ => return Err(Fail::new("applied too early, or refused otherwise")),
         }
     }
     Err(Fail::new("never applied"))

@@ -7,16 +7,14 @@ ghost use Rattle.yq_calls.specs.Fitting.{AreFitting};
 use super::operations::{by_itself, in_session, opened};
 use super::planned::planned;
 use super::texts::{has_text, text_of};
-use super::worked::{ROWS, TEXTS, are_spliced};
-use std::alloc::Global;
-use std::process::Abort;
+use super::worked::{ROWS, Row, TEXTS, are_spliced};
+use std::alloc::{AllocError, Global};
 use std::test::Fail;
-use yq_expr::{Op, Program, Refusal, parse_expr};
-use yq_splice::{EditError, Session, Splice, edit};
+use yq_expr::{Op, Program, parse_expr};
+use yq_splice::{Session, Splice};
 
 /// An operation applied to a session. Where each growth is to be `refused`, it is applied by itself, too.
 fn applied(
-    rt: &impl Abort,
     alloc: Global,
     session: &mut Session,
     op: &Op,
@@ -30,16 +28,17 @@ fn applied(
         return Ok(session.apply(op)?);
     }
     let text = text_of(alloc, session)?;
-    let edited = by_itself(rt, alloc, &text, op)?;
-    let splices = in_session(rt, alloc, session, op)?;
-    assert!(rt; has_text(session, &edited.text));
-    assert_eq!(rt; edited.splices.len(), splices.len());
-    Ok(splices)
+    let edited = by_itself(alloc, &text, op)?;
+    let splices = in_session(alloc, session, &text, op)?;
+    if has_text(session, &edited.text) && edited.splices.len() == splices.len() {
+        Ok(splices)
+    } else {
+        Err(Fail::new("a session edits otherwise"))
+    }
 }
 
 /// Operations that fit one after the other, applied to a session.
 fn apply_each(
-    rt: &impl Abort,
     alloc: Global,
     session: &mut Session,
     ops: &[Op],
@@ -50,16 +49,31 @@ fn apply_each(
     let mut splices = Vec::new(alloc);
     let mut rest = ops;
     'operations: while let [op, after @ ..] = rest {
-        let mut next = applied(rt, alloc, session, op, refused)?;
+        let mut next = applied(alloc, session, op, refused)?;
         splices.append(&mut next)?;
         rest = after;
     }
     Ok(splices)
 }
 
-/// A program carried out through a session: each update as planned on the text that the one before gave.
+/// An update of a program carried out through a session, as planned on its text.
+fn carry_out_update(
+    alloc: Global,
+    session: &mut Session,
+    program: &Program,
+    nth: usize,
+    refused: bool,
+) -> Result<Vec<Splice>, Fail> {
+    if nth >= program.updates() {
+        return Err(Fail::new("no update"));
+    }
+    let text = text_of(alloc, session)?;
+    let ops = planned(alloc, &text, program, nth)?;
+    apply_each(alloc, session, &ops, refused)
+}
+
+/// A program carried out through a session: each update on the text that the one before gave.
 fn carry_out(
-    rt: &impl Abort,
     alloc: Global,
     session: &mut Session,
     program: &Program,
@@ -67,68 +81,100 @@ fn carry_out(
 ) -> Result<Vec<Splice>, Fail> {
     let mut splices = Vec::new(alloc);
     'updates: for nth in 0..program.updates() {
-        assert!(rt; nth < program.updates());
-        let text = text_of(alloc, session)?;
-        let ops = planned(alloc, &text, program, nth)?;
-        let mut next = apply_each(rt, alloc, session, &ops, refused)?;
+        let mut next = carry_out_update(alloc, session, program, nth, refused)?;
         splices.append(&mut next)?;
     }
     Ok(splices)
 }
 
-/// The same of a text, which comes to be the wanted one.
-fn edited(
-    rt: &impl Abort,
+/// An expression carried out through a session.
+pub(super) fn carry_out_text(
     alloc: Global,
-    text: &str,
+    session: &mut Session,
     expr: &str,
-    wanted: &str,
     refused: bool,
 ) -> Result<Vec<Splice>, Fail> {
     let program = parse_expr(alloc, expr)?;
-    let mut session = if refused {
-        opened(rt, alloc, text)?
-    } else {
-        Session::open(alloc, text)?
-    };
-    let splices = carry_out(rt, alloc, &mut session, &program, refused)?;
-    let closed = session.close();
-    assert_eq!(rt; closed.as_str(), wanted, "{expr} on {text:?}");
-    Ok(splices)
+    carry_out(alloc, session, &program, refused)
+}
+
+/// Whether a row's text comes to be the wanted one by the wanted splices, each growth refused first.
+fn is_edited(alloc: Global, row: &Row) -> Result<bool, Fail> {
+    let (text, expr, wanted, exchanges) = row;
+    let mut session = opened(alloc, text)?;
+    let splices = carry_out_text(alloc, &mut session, expr, true)?;
+    Ok(session.close().as_str() == *wanted && are_spliced(&splices, exchanges))
+}
+
+/// Whether a text comes to be the wanted one.
+fn comes_to(alloc: Global, text: &str, expr: &str, wanted: &str) -> Result<bool, Fail> {
+    let mut session = Session::open(alloc, text)?;
+    let _splices = carry_out_text(alloc, &mut session, expr, false)?;
+    Ok(session.close().as_str() == wanted)
 }
 
 #[test]
 fn worked_edits(rt: HostRuntime) -> Result<(), Fail> {
-    'rows: for (text, expr, wanted, exchanges) in &ROWS {
-        let splices = edited(&rt, rt.alloc(), text, expr, wanted, true)?;
-        are_spliced(&rt, &splices, exchanges);
+    'rows: for row in &ROWS {
+        assert!(rt; is_edited(rt.alloc(), row)?, "{} on {:?}", row.1, row.0);
     }
     'texts: for (text, expr, wanted) in &TEXTS {
-        let _splices = edited(&rt, rt.alloc(), text, expr, wanted, false)?;
+        assert!(rt;
+            comes_to(rt.alloc(), text, expr, wanted)?,
+            "{expr} on {text:?}"
+        );
     }
     Ok(())
 }
 
-/// Each of many values is exchanged: no row but its own is read again.
+/// How many entries many are.
+const MANY: u64 = 1000;
+
+/// A mapping of many entries, whose values are their numbers or all `x`.
+fn mapping(alloc: Global, is_numbered: bool) -> Result<String, AllocError> {
+    let mut text = String::new(alloc);
+    'lines: for i in 0..MANY {
+        let line = if is_numbered {
+            format!(in alloc; "k{i}: {i}\n")?
+        } else {
+            format!(in alloc; "k{i}: x\n")?
+        };
+        text.push_str(&line)?;
+    }
+    Ok(text)
+}
+
+/// Carries out an expression, and says by how many splices. None where more than so many lines are read.
+fn splices_made(
+    alloc: Global,
+    session: &mut Session,
+    expr: &str,
+    most: u64,
+) -> Result<Option<usize>, Fail> {
+    let before = session.scanned();
+    let splices = carry_out_text(alloc, session, expr, false)?;
+    let is_within = session.scanned() <= before.saturating_add(most);
+    Ok(if is_within { Some(splices.len()) } else { None })
+}
+
+/// Whether each of many values is exchanged by one splice, and no row but its own is read again.
+fn are_exchanged(alloc: Global, session: &mut Session) -> Result<bool, Fail> {
+    'rows: for i in 0..MANY {
+        let expr = format!(in alloc; ".k{i} = \"x\"")?;
+        if splices_made(alloc, session, &expr, 1)? != Some(1) {
+            return Ok(false);
+        }
+    }
+    Ok(true)
+}
+
 #[test]
 fn many_rows(rt: HostRuntime) -> Result<(), Fail> {
     let alloc = rt.alloc();
-    let mut text = String::new(alloc);
-    let mut wanted = String::new(alloc);
-    'lines: for i in 0..1000u32 {
-        text.push_str(&format!(in alloc; "k{i}: {i}\n")?)?;
-        wanted.push_str(&format!(in alloc; "k{i}: x\n")?)?;
-    }
-    let mut session = Session::open(alloc, &text)?;
-    assert_eq!(rt; session.scanned(), 1000);
-    'rows: for i in 0..1000u32 {
-        let program = parse_expr(alloc, &format!(in alloc; ".k{i} = \"x\"")?)?;
-        let before = session.scanned();
-        let splices = carry_out(&rt, alloc, &mut session, &program, false)?;
-        assert_eq!(rt; splices.len(), 1);
-        assert!(rt; session.scanned() <= before.saturating_add(1), "{i}");
-    }
-    assert_eq!(rt; session.close().as_str(), wanted.as_str());
+    let mut session = Session::open(alloc, &mapping(alloc, true)?)?;
+    assert!(rt; session.scanned() == MANY);
+    assert!(rt; are_exchanged(alloc, &mut session)?);
+    assert!(rt; session.close().as_str() == mapping(alloc, false)?.as_str());
     Ok(())
 }
 
@@ -143,62 +189,20 @@ static TOUCHED: [(&str, &str, u64); 6] = [
     ("a: 1\nb: 2\n", ".a = 1", 0),
 ];
 
+/// Whether an expression on a text reads that many lines at most.
+fn reads_few(alloc: Global, text: &str, expr: &str, most: u64) -> Result<bool, Fail> {
+    let mut session = Session::open(alloc, text)?;
+    Ok(splices_made(alloc, &mut session, expr, most)?.is_some())
+}
+
 /// The lines of these are counted at most: that of a marker that stays isn't.
 #[test]
 fn touched_lines(rt: HostRuntime) -> Result<(), Fail> {
-    let alloc = rt.alloc();
     'rows: for (text, expr, most) in &TOUCHED {
-        let program = parse_expr(alloc, expr)?;
-        let mut session = Session::open(alloc, text)?;
-        let before = session.scanned();
-        let _splices = carry_out(&rt, alloc, &mut session, &program, false)?;
         assert!(rt;
-            session.scanned() <= before.saturating_add(*most),
+            reads_few(rt.alloc(), text, expr, *most)?,
             "{expr} on {text:?}"
         );
     }
-    Ok(())
-}
-
-/// An operation makes a larger text than may be: it is refused, and the session stays.
-fn is_too_large(
-    rt: &impl Abort,
-    alloc: Global,
-    session: &mut Session,
-    text: &str,
-    program: &Program,
-) -> Result<(), Fail> {
-    assert!(rt; program.updates() > 0);
-    let own = text_of(alloc, session)?;
-    let ops = planned(alloc, &own, program, 0)?;
-    let scanned = session.scanned();
-    match ops.as_slice() {
-        [op] => {
-            let answer = session.apply(op).err();
-            assert_eq!(rt; answer, Some(EditError::Refused(Refusal::TooLarge)));
-            assert!(rt; has_text(session, text));
-            assert_eq!(rt; session.scanned(), scanned);
-            Ok(())
-        }
-        _ => Err(Fail::new("not one operation")),
-    }
-}
-
-/// A text of as many bytes as may be.
-#[test]
-fn the_largest_text(rt: HostRuntime) -> Result<(), Fail> {
-    let alloc = rt.alloc();
-    let comment = "x".repeat(alloc, 16_777_209)?;
-    let text = format!(in alloc; "a: 1\n#{}\n", comment.as_str())?;
-    let wanted = format!(in alloc; "a: 2\n#{}\n", comment.as_str())?;
-    let larger = parse_expr(alloc, ".a = 12")?;
-    let answer = edit(alloc, &text, &larger).err();
-    assert_eq!(rt; answer, Some(EditError::Refused(Refusal::TooLarge)));
-    let mut session = Session::open(alloc, &text)?;
-    is_too_large(&rt, alloc, &mut session, &text, &larger)?;
-    let program = parse_expr(alloc, ".a = 2")?;
-    let splices = carry_out(&rt, alloc, &mut session, &program, false)?;
-    are_spliced(&rt, &splices, &[(3, "1", "2")]);
-    assert!(rt; session.close().as_str() == wanted.as_str());
     Ok(())
 }

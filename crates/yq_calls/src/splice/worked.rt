@@ -1,6 +1,5 @@
 //! Worked edits, and their splices.
 
-use std::process::Abort;
 use yq_splice::Splice;
 
 /// What gives way to what, and where.
@@ -127,12 +126,17 @@ pub(super) static TEXTS: [(&str, &str, &str); 22] = [
     ("n: 2\n", ".n = 5", "n: 5\n"),
 ];
 
-/// The splices are these.
-pub(super) fn are_spliced(rt: &impl Abort, splices: &[Splice], wanted: &[Exchange]) {
-    assert_eq!(rt; splices.len(), wanted.len());
-    'splices: for (splice, (at, old, new)) in splices.iter().zip(wanted.iter()) {
-        assert_eq!(rt; splice.at, *at);
-        assert_eq!(rt; splice.old.as_slice(), old.as_bytes());
-        assert_eq!(rt; splice.new.as_slice(), new.as_bytes());
+/// Whether the splices are these.
+pub(super) fn are_spliced(splices: &[Splice], wanted: &[Exchange]) -> bool {
+    if splices.len() != wanted.len() {
+        return false;
     }
+    'splices: for (splice, (at, old, new)) in splices.iter().zip(wanted.iter()) {
+        let exchanged = splice.old.as_slice() == old.as_bytes()
+            && splice.new.as_slice() == new.as_bytes();
+        if splice.at != *at || !exchanged {
+            return false;
+        }
+    }
+    true
 }

@@ -4,7 +4,7 @@ use Rattle.yq_calls.specs.Fitting.{AreFitting}
 use Rattle.yq_calls.proofs.splice.sessions.apply_each.Given as goal
 
 abbrev pub invariant-operations : goal.invariant-operations
-invariant-operations g l = AreFitting (operations_of l.rest) l.session.text
+invariant-operations l = AreFitting (operations_of l.rest) l.session.text
 
 abbrev pub decreases-operations : goal.decreases-operations
-decreases-operations g l = length l.rest
+decreases-operations l = length l.rest
