@@ -14,9 +14,9 @@ use Rattle.serde_json.specs.Read.{read}
 use Rattle.serde_json.specs.View.{items_of, members_view}
 use Rattle.serde_json.specs.declared.value.Value.{Value}
 use Rattle.yq_journal.specs.Json.{count_members, counts, and_more, all_of, can_move, is_sound, record_of, pending_of, state_of, journal_of, journal_object}
-use Rattle.yq_journal.specs.Record.{Record}
-use Rattle.yq_journal.specs.Refusals.{most_records, CanMove, IsSound, way_fault}
-use Rattle.yq_journal.specs.State.{Pending, State, moved_text, is_text}
+use Rattle.yq_records.specs.Record.{Record}
+use Rattle.yq_records.specs.Refusals.{most_records, CanMove, IsSound, way_fault}
+use Rattle.yq_records.specs.State.{Pending, State, moved_text, is_text}
 
 count_members-members_view : (es : List (String Global × Value)) → count_members (members_view es) ≡ length es
 count_members-members_view [] = refl

@@ -2,7 +2,8 @@
 
 use crate::journal::PORT;
 use std::test::Fail;
-use yq_journal::{Journal, JournalFault, stands_after, stands_before};
+use yq_journal::{Journal, stands_after, stands_before};
+use yq_records::JournalFault;
 
 /// A text, and whether the record of `PORT` stands before it and after it.
 static TEXTS: [(&str, bool, bool); 4] = [

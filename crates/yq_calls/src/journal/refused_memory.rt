@@ -6,7 +6,8 @@ use std::alloc::{AllocError, Global};
 use std::process::Abort;
 use std::test::Fail;
 use yq_expr::parse_expr;
-use yq_journal::{Journal, JournalError, JournalFault, Move, Record, redo_record, undo_record};
+use yq_journal::Journal;
+use yq_records::{JournalError, JournalFault, Move, Record, redo_record, undo_record};
 use yq_splice::edit;
 use yq_text_calls::all_memory;
 
