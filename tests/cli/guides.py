@@ -11,7 +11,7 @@ from pages import examples, lines_of
 MAN = os.path.join("man", "yq.1")
 LINK = re.compile(r"\]\(([^)\s]+)\)")
 CODE = re.compile(r'"([A-Z]\d+)\b')
-FAULT = re.compile(r'#\[error\("([A-Z]\d+ [a-z ]+)"\)\]')
+FAULT = re.compile(r'\bFault::\w+(?:\(_\))? => "([A-Z]\d+ [a-z ]+)"')
 KIND = re.compile(r'FaultKind::(\w+) => "([\w ]+)"')
 
 

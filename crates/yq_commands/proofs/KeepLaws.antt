@@ -5,12 +5,12 @@ use Rattle.std.specs.Str.{bytes_eq}
 use Rattle.std.specs.FinMap.{get}
 use Rattle.std.specs.String.{string_bytes}
 use Rattle.yq_program.specs.Program.{Program}
-use Rattle.yq_journal.specs.declared.moves.Move.{Move}
-use Rattle.yq_journal.specs.declared.moves.Move.TheVariants as move
+use Rattle.yq_records.specs.declared.moves.Move.{Move}
+use Rattle.yq_records.specs.declared.moves.Move.TheVariants as move
 use Rattle.yq_journal.specs.Good.{Good, journal_beside}
 use Rattle.yq_journal.specs.History.{History}
-use Rattle.yq_journal.specs.Refusals.{most_records, no_way, squash_fault}
-use Rattle.yq_journal.specs.State.{State, moved, moved_text, opened, settled, squashed}
+use Rattle.yq_records.specs.Refusals.{most_records, no_way, squash_fault}
+use Rattle.yq_records.specs.State.{State, moved, moved_text, opened, settled, squashed}
 use Rattle.yq_commands.specs.declared.answer.Answer.{Answer}
 use Rattle.yq_commands.specs.declared.answer.Answer.TheVariants.{Done, Refused}
 use Rattle.yq_words.specs.declared.command.Command.{Command}

@@ -6,11 +6,11 @@ use Rattle.std.specs.List.{list_all}
 use Rattle.std.specs.Str.{bytes_eq}
 use Rattle.std.specs.String.{string_bytes}
 use Rattle.yq_program.specs.Program.{Program}
-use Rattle.yq_journal.specs.declared.moves.Move.{Move}
-use Rattle.yq_journal.specs.declared.moves.Move.TheVariants as move
+use Rattle.yq_records.specs.declared.moves.Move.{Move}
+use Rattle.yq_records.specs.declared.moves.Move.TheVariants as move
 use Rattle.yq_journal.specs.Good.{after_move, squash_refusal, step_fault}
 use Rattle.yq_journal.specs.History.{History, text_at, after_edit, after_squash}
-use Rattle.yq_journal.specs.Refusals.{most_records}
+use Rattle.yq_records.specs.Refusals.{most_records}
 use Rattle.yq_commands.specs.declared.answer.Answer.{Answer}
 use Rattle.yq_commands.specs.declared.answer.Answer.TheVariants.{Done, NoMatch, Refused}
 use Rattle.yq_words.specs.declared.command.Command.{Command}

@@ -3,10 +3,10 @@ use Rattle.std.specs.Prelude.{◌≡◌, ◌≢◌, ℕ, List, [], length, nat_l
 use Rattle.std.specs.Str.{bytes_eq}
 use Rattle.std.specs.String.{string_bytes}
 use Rattle.yq_program.specs.Program.{Program}
-use Rattle.yq_journal.specs.declared.moves.Move.TheVariants as move
-use Rattle.yq_journal.specs.Record.{Record}
-use Rattle.yq_journal.specs.Refusals.{most_records}
-use Rattle.yq_journal.specs.State.{State, moved, opened}
+use Rattle.yq_records.specs.declared.moves.Move.TheVariants as move
+use Rattle.yq_records.specs.Record.{Record}
+use Rattle.yq_records.specs.Refusals.{most_records}
+use Rattle.yq_records.specs.State.{State, moved, opened}
 use Rattle.yq_words.specs.declared.command.Command.{Command}
 use Rattle.yq_words.specs.declared.command.Command.TheVariants.{Eval, Undo, Redo, History as Lists, Squash}
 use Rattle.yq_history.specs.declared.fault.Fault.{Fault}

@@ -17,8 +17,10 @@ ghost use Rattle.yq_commands.specs.CommandSteps.{update_cause, update_next};
 use crate::editing::edit_text;
 use std::alloc::{AllocError, Global};
 use yq_expr::Program;
-use yq_history::{Fault, carry_out};
-use yq_journal::{Journal, Move, Record};
+use yq_history::Fault;
+use yq_journal::Journal;
+use yq_moves::carry_out;
+use yq_records::{Move, Record};
 use yq_splice::{Edited, Splice};
 use yq_store::Store;
 

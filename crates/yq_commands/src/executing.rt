@@ -19,8 +19,9 @@ use crate::editing::parse;
 use crate::evaluating::evaluate;
 use crate::help::help;
 use std::alloc::Global;
-use yq_history::{Direction, Fault, Report, listing, move_file, open_pair, squash};
+use yq_history::{Direction, Fault, Report, listing, open_pair, squash};
 use yq_store::Store;
+use yq_undoing::move_file;
 use yq_words::Command;
 
 /// Edits a file in place.

@@ -1,78 +1,99 @@
 //! Why a command is refused.
 
-use thiserror::Error;
+use std::error::Error;
+use std::fmt::{self, Display, Formatter, Write};
 use yq_flow_scalars::{FaultKind, ReadFault};
 use yq_words::UsageCause;
 
 /// Why a command is refused. Its text is the line that the program prints.
-#[derive(Clone, Copy, Debug, PartialEq, Eq, Error)]
+#[derive(Clone, Copy, Debug, PartialEq, Eq)]
 pub enum Fault {
-    #[error("U1 usage")]
     Usage(UsageCause),
-    #[error("E1 syntax")]
     Syntax,
-    #[error("E2 not in profile")]
     NotInProfile,
-    #[error("E3 pattern")]
     Pattern,
-    #[error("S1 not there")]
     NotThere,
-    #[error("S2 read failed")]
     ReadFailed,
-    #[error("S3 write failed")]
     WriteFailed,
-    #[error("S4 out failed")]
     OutFailed,
-    #[error("J1 nothing to undo")]
     NothingToUndo,
-    #[error("J2 nothing to redo")]
     NothingToRedo,
-    #[error("J3 does not stand")]
     DoesNotStand,
-    #[error("J4 bad journal")]
     BadJournal,
-    #[error("J5 unsettled")]
     Unsettled,
-    #[error("J6 journal full")]
     JournalFull,
-    #[error("J7 bad count")]
     BadCount,
-    #[error("{} line {}: {}", number_of(.0.kind), .0.line, words_of(.0.kind))]
     Unreadable(ReadFault),
-    #[error("X1 not a map")]
     NotAMap,
-    #[error("X2 not a sequence")]
     NotASequence,
-    #[error("X3 index out of range")]
     IndexOutOfRange,
-    #[error("X4 through alias")]
     ThroughAlias,
-    #[error("X5 anchor in use")]
     AnchorInUse,
-    #[error("X6 not one value")]
     NotOneValue,
-    #[error("X7 kind mismatch")]
     KindMismatch,
-    #[error("X8 integer range")]
     IntegerRange,
-    #[error("X9 float arithmetic")]
     FloatArithmetic,
-    #[error("X10 no place for comment")]
     NoPlaceForComment,
-    #[error("X11 bad comment text")]
     BadCommentText,
-    #[error("X12 root delete")]
     RootDelete,
-    #[error("X13 too deep")]
     TooDeep,
-    #[error("X14 too large")]
     TooLarge,
-    #[error("X15 not an update")]
     NotAnUpdate,
-    #[error("X16 key too long")]
     KeyTooLong,
-    #[error("M1 out of memory")]
     OutOfMemory,
+}
+
+impl Display for Fault {
+    fn fmt<W: Write>(&self, f: &mut Formatter<W>) -> fmt::Result {
+        match self {
+            Fault::Unreadable(fault) => {
+                let (number, words) = (number_of(fault.kind), words_of(fault.kind));
+                write!(f, "{number} line {}: {words}", fault.line)
+            }
+            fault => f.write_str(line_of(fault)),
+        }
+    }
+}
+
+impl Error for Fault {}
+
+/// The line of a fault; of one of reading its words alone, without its number and place.
+fn line_of(fault: &Fault) -> &'static str {
+    match fault {
+        Fault::Usage(_) => "U1 usage",
+        Fault::Syntax => "E1 syntax",
+        Fault::NotInProfile => "E2 not in profile",
+        Fault::Pattern => "E3 pattern",
+        Fault::NotThere => "S1 not there",
+        Fault::ReadFailed => "S2 read failed",
+        Fault::WriteFailed => "S3 write failed",
+        Fault::OutFailed => "S4 out failed",
+        Fault::NothingToUndo => "J1 nothing to undo",
+        Fault::NothingToRedo => "J2 nothing to redo",
+        Fault::DoesNotStand => "J3 does not stand",
+        Fault::BadJournal => "J4 bad journal",
+        Fault::Unsettled => "J5 unsettled",
+        Fault::JournalFull => "J6 journal full",
+        Fault::BadCount => "J7 bad count",
+        Fault::NotAMap => "X1 not a map",
+        Fault::NotASequence => "X2 not a sequence",
+        Fault::IndexOutOfRange => "X3 index out of range",
+        Fault::ThroughAlias => "X4 through alias",
+        Fault::AnchorInUse => "X5 anchor in use",
+        Fault::NotOneValue => "X6 not one value",
+        Fault::KindMismatch => "X7 kind mismatch",
+        Fault::IntegerRange => "X8 integer range",
+        Fault::FloatArithmetic => "X9 float arithmetic",
+        Fault::NoPlaceForComment => "X10 no place for comment",
+        Fault::BadCommentText => "X11 bad comment text",
+        Fault::RootDelete => "X12 root delete",
+        Fault::TooDeep => "X13 too deep",
+        Fault::TooLarge => "X14 too large",
+        Fault::NotAnUpdate => "X15 not an update",
+        Fault::KeyTooLong => "X16 key too long",
+        Fault::OutOfMemory => "M1 out of memory",
+        Fault::Unreadable(fault) => words_of(fault.kind),
+    }
 }
 
 /// The number of a fault of reading.

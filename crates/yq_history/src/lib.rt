@@ -4,7 +4,6 @@
 mod causes;
 mod direction;
 mod fault;
-mod moves;
 mod pair;
 mod printing;
 mod report;
@@ -12,8 +11,7 @@ mod squashing;
 
 pub use direction::Direction;
 pub use fault::Fault;
-pub use moves::{carry_out, move_file};
-pub use pair::open_pair;
+pub use pair::{open_pair, write_journal};
 pub use printing::listing;
 pub use report::Report;
 pub use squashing::squash;

@@ -9,13 +9,13 @@ use Rattle.std.specs.Cmp.Derive.{both_true}
 use Rattle.std.proofs.Common.{sym, get_or, take_all}
 use Rattle.std.proofs.lemmas.Bool.{le-leb}
 use Rattle.std.proofs.lemmas.List.{drop-take}
-use Rattle.yq_journal.specs.declared.fault.JournalError.{JournalError}
-use Rattle.yq_journal.specs.declared.fault.JournalError.TheVariants as error
-use Rattle.yq_journal.specs.declared.fault.JournalFault.{JournalFault}
-use Rattle.yq_journal.specs.declared.fault.JournalFault.TheVariants.{BadCount}
-use Rattle.yq_journal.specs.Refusals.{Reports, count_fault}
-use Rattle.yq_journal.specs.State.{last_done}
-use Rattle.yq_journal.specs.Record.{Record, IsRecord, join, joined, meet}
+use Rattle.yq_records.specs.declared.fault.JournalError.{JournalError}
+use Rattle.yq_records.specs.declared.fault.JournalError.TheVariants as error
+use Rattle.yq_records.specs.declared.fault.JournalFault.{JournalFault}
+use Rattle.yq_records.specs.declared.fault.JournalFault.TheVariants.{BadCount}
+use Rattle.yq_records.specs.Refusals.{Reports, count_fault}
+use Rattle.yq_records.specs.State.{last_done}
+use Rattle.yq_records.specs.Record.{Record, IsRecord, join, joined, meet}
 
 -- fewer than two records meet
 pub short_meet : (rs : List Record) → length rs < 2 → meet rs ≡ true

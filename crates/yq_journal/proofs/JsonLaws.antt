@@ -1,7 +1,7 @@
 -- Members that are counted, lists that are read item by item, and tests that are facts.
-use Rattle.std.proofs.Common.{◌≡◌, ◌==◌, ℕ, suc, List, [], ◌∷◌, ◌++◌, length, String, Option, Some, None, true, false, refl, sym, ap, ◌∙◌, if◌then◌else◌, ◌+◌, ◌<◌, take, map, ap₂, get_or, rules}
+use Rattle.std.proofs.Common.{◌≡◌, ◌==◌, ℕ, suc, List, [], ◌∷◌, ◌++◌, length, String, Option, Some, None, true, false, refl, sym, ap, ◌∙◌, if◌then◌else◌, ◌+◌, ◌<◌, take, drop, map, ap₂, get_or, append_assoc, option_map, rules}
 use Rattle.std.specs.Cmp.Derive.{both_true}
-use Rattle.std.proofs.lemmas.List.{take_more, map-append}
+use Rattle.std.proofs.lemmas.List.{take_more, drop_more, map-append}
 use Rattle.std.specs.Prelude.{◌≢◌, not, is_some}
 use Rattle.std.specs.Option.{ForSome}
 use Rattle.std.specs.declared.alloc.Global.{Global}
@@ -11,12 +11,12 @@ use Rattle.std.proofs.lemmas.Slice.Eq.{bytes_eq-Decides}
 use Rattle.std.proofs.lemmas.Str.{is_utf8-from_IsUtf8, IsUtf8-from_is_utf8}
 use Rattle.serde_json.specs.Data.{Data, Items, Members}
 use Rattle.serde_json.specs.Read.{read}
-use Rattle.serde_json.specs.View.{items_of, members_view}
+use Rattle.serde_json.specs.View.{view, items_of, items_view, members_view}
 use Rattle.serde_json.specs.declared.value.Value.{Value}
 use Rattle.yq_journal.specs.Json.{count_members, counts, and_more, all_of, can_move, is_sound, record_of, pending_of, state_of, journal_of, journal_object}
-use Rattle.yq_journal.specs.Record.{Record}
-use Rattle.yq_journal.specs.Refusals.{most_records, CanMove, IsSound, way_fault}
-use Rattle.yq_journal.specs.State.{Pending, State, moved_text, is_text}
+use Rattle.yq_records.specs.Record.{Record}
+use Rattle.yq_records.specs.Refusals.{most_records, CanMove, IsSound, way_fault}
+use Rattle.yq_records.specs.State.{Pending, State, moved_text, is_text}
 
 count_members-members_view : (es : List (String Global × Value)) → count_members (members_view es) ≡ length es
 count_members-members_view [] = refl
@@ -101,3 +101,20 @@ pub journal_reads : (s : State) (open_value : Data) (record_values : Items) → 
     → journal_of (journal_object s.at open_value record_values) ≡ Some s
 unfolding journal_of state_of
 journal_reads s p rs pending records sound = cc (is_sound-from_IsSound s sound)
+
+-- ---- a list, read item by item
+
+item_left : (vs : List Value) (i : ℕ) (v : Value) → i < length vs → v ≡ get_or vs i v → drop i vs ≡ v ∷ drop (i + 1) vs
+item_left vs i v within is = drop_more vs i v within ∙ ap (λ x. x ∷ drop (i + 1) vs) (sym is)
+
+found_more : {A : Type 0} (found : List A) (y : A) (o : Option (List A)) → option_map (λ ys. (found ++ y ∷ []) ++ ys) o ≡ option_map (λ ys. found ++ ys) (and_more (Some y) o)
+found_more found y None = refl
+found_more found y (Some ys) = ap Some (append_assoc found (y ∷ []) ys)
+
+-- one more item of a list that is read
+pub read_more : {A : Type 0} (f : Data → Option A) (vs : List Value) (i : ℕ) (v : Value) (found : List A) (y : A) (target : Option (List A)) → i < length vs → v ≡ get_or vs i v → f (view v) ≡ Some y
+    → option_map (λ ys. found ++ ys) (all_of f (items_view (drop i vs))) ≡ target → option_map (λ ys. (found ++ y ∷ []) ++ ys) (all_of f (items_view (drop (i + 1) vs))) ≡ target
+read_more f vs i v found y target within is reads so_far =
+    found_more found y (all_of f (items_view (drop (i + 1) vs)))
+    ∙ ap (λ o. option_map (λ ys. found ++ ys) (and_more o (all_of f (items_view (drop (i + 1) vs))))) (sym reads)
+    ∙ sym (ap (λ l. option_map (λ ys. found ++ ys) (all_of f (items_view l))) (item_left vs i v within is)) ∙ so_far

@@ -1,11 +1,9 @@
-pub mod GapLaws
 pub mod GoodLaws
 pub mod HistoryLaws
 pub mod JoinLaws
 pub mod JsonLaws
 pub mod LineFeed
 pub mod OpenTextLaws
-pub mod RecordLaws
 pub mod RunLaws
 pub mod SquashLaws
 pub mod StandLaws

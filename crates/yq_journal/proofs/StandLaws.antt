@@ -10,9 +10,9 @@ use Rattle.std.proofs.lemmas.Option.{cond_some, none-some, option_and_then_some,
 use Rattle.yq_script.specs.Splice.{Splice, swapped, change_done, all_done, flipped, length_done, lengths_done}
 use Rattle.yq_script.proofs.PlaceInList.{split_at, take_next}
 use Rattle.yq_script.proofs.SpliceLaws.{done-from_exchanges, exchanges-from_done, all_done-append, lengths_done-append}
-use Rattle.yq_journal.specs.Turned.{turned}
-use Rattle.yq_journal.proofs.GapLaws.{none_done}
-use Rattle.yq_journal.specs.Record.{if_length}
+use Rattle.yq_records.specs.Turned.{turned}
+use Rattle.yq_records.proofs.GapLaws.{none_done}
+use Rattle.yq_records.specs.Record.{if_length}
 
 and_then_one : (o : Option (List ℕ)) (s : Splice) → option_and_then (all_done (s ∷ [])) o ≡ option_and_then (change_done s) o
 and_then_one None s = refl

@@ -10,11 +10,11 @@ use Rattle.serde_json.specs.Written.{compact_text}
 use Rattle.base64.specs.GeneralPurpose.{encode_of, decode_of}
 use Rattle.base64.specs.Engines.{standard}
 use Rattle.yq_script.specs.Splice.{Splice, lengths_done}
-use Rattle.yq_journal.specs.declared.moves.Move.{Move}
-use Rattle.yq_journal.specs.declared.moves.Move.TheVariants.{Edit, Undo, Redo}
-use Rattle.yq_journal.specs.Record.{Record}
-use Rattle.yq_journal.specs.State.{Pending, State, state, moved_text, is_text}
-use Rattle.yq_journal.specs.Refusals.{most_records, way_fault}
+use Rattle.yq_records.specs.declared.moves.Move.{Move}
+use Rattle.yq_records.specs.declared.moves.Move.TheVariants.{Edit, Undo, Redo}
+use Rattle.yq_records.specs.Record.{Record, is_length}
+use Rattle.yq_records.specs.State.{Pending, State, state, moved_text, is_text}
+use Rattle.yq_records.specs.Refusals.{most_records, way_fault}
 
 -- how many members there are (own)
 abbrev pub count_members : Members → ℕ
@@ -71,11 +71,6 @@ abbrev pub changes_of : Data → Option (List Splice)
 changes_of d = option_and_then (all_of change_of) (as_array d)
 
 -- ---- a record
-
--- whether it is the length that was reached (own)
-abbrev pub is_length : Option ℕ → ℕ → Bool
-is_length None n = false
-is_length (Some m) n = m == n
 
 -- whether a record stands for an edit at least, and its splices lead from its one length to its other (own)
 abbrev pub is_record : Record → Bool

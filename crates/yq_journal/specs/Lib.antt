@@ -1,10 +1,5 @@
-pub mod GapBuffer
 pub mod Good
 pub mod History
 pub mod Json
 pub mod OpenText
-pub mod Record
-pub mod Refusals
-pub mod State
-pub mod Turned
 pub use Rattle.yq_script.specs.Splice

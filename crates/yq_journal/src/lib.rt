@@ -1,24 +1,22 @@
 //! A journal of edits: records of splices, a cursor and an open move.
 #![tactic(auto)]
 
-mod fault;
-mod gap;
 mod journal;
 mod laws;
-mod moves;
+mod members;
 mod open_text;
 mod opening;
 mod read;
-mod record;
 mod squash;
 mod stands;
+mod ways;
 mod write;
 
-pub use fault::{JournalError, JournalFault};
 pub use journal::Journal;
 pub use laws::{
     faults_are_of_history, moves_go_on, open_moves_describe, settling_rests, squashes_go_on,
 };
-pub use moves::Move;
-pub use record::{Record, record_inverts, redo_record, undo_record};
 pub use stands::{stands_after, stands_before};
+pub use yq_records::{
+    JournalError, JournalFault, Move, Record, record_inverts, redo_record, undo_record,
+};

@@ -1,11 +1,11 @@
 //! The open move of a journal: opened on a text, and settled beside it or the text to which it leads.
 ghost use Rattle.std.specs.Prelude.{◌≡◌, ◌≢◌, ◌⊎◌, None, Some, IfErr, IfSome, OnOk, OnErr, IsNone, IsOk};
-ghost use Rattle.yq_journal.specs.Refusals.{ErrorIs, move_fault, no_way};
-ghost use Rattle.yq_journal.specs.State.{moved_text, opened, settled};
+ghost use Rattle.yq_records.specs.Refusals.{ErrorIs, move_fault, no_way};
+ghost use Rattle.yq_records.specs.State.{moved_text, opened, settled};
 
-use crate::fault::{JournalError, JournalFault};
 use crate::journal::{Journal, Open};
-use crate::moves::{Move, check_way, lead, make};
+use crate::ways::check_way;
+use yq_records::{JournalError, JournalFault, Move, leads_to, make};
 
 impl Journal {
     /// The first fault of a move that is to be opened on a text. The text to which it leads is not kept.
@@ -81,11 +81,14 @@ impl Journal {
             self.open = None;
             return Ok(());
         }
-        match lead(self.alloc, &self.records, self.at, &held.step, &held.from) {
-            Ok(patched) if patched.as_slice() == text => (),
-            Err(JournalError::Memory) => return Err(JournalError::Memory),
-            _ => return Err(JournalError::Fault(JournalFault::Unsettled)),
-        }
+        leads_to(
+            self.alloc,
+            &self.records,
+            self.at,
+            &held.step,
+            &held.from,
+            text,
+        )?;
         self.finish(text)
     }
 

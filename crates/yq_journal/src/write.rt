@@ -4,11 +4,10 @@ ghost use Rattle.serde_json.specs.View.{view, items_view};
 ghost use Rattle.yq_journal.specs.Json as spec;
 
 use crate::journal::{Journal, Open};
-use crate::moves::Move;
-use crate::record::Record;
-use base64::engine::general_purpose::STANDARD;
-use serde_json::{Value, json};
+use crate::members::{with, with_bytes, with_text};
+use serde_json::{Map, Value};
 use std::alloc::{AllocError, Global};
+use yq_records::{Move, Record};
 use yq_script::Splice;
 
 #[tactic(auto, unfolding(crate::specs::Json::change_of))]
@@ -16,12 +15,10 @@ fn splice_value(alloc: Global, splice: &Splice) -> Result<Value, AllocError>
     ensures written { IfOk result (λ v. view v ≡ spec.change_data splice.now) }
     ensures reads_back { IfOk result (λ v. spec.change_of (view v) ≡ Some splice.now) }
 {
-    let at = splice.at;
-    json!(in alloc; {
-        "at": at,
-        "old": STANDARD.encode(alloc, &splice.old)?,
-        "new": STANDARD.encode(alloc, &splice.new)?
-    })
+    let members = with(Map::new(alloc), alloc, "at", Value::from(splice.at))?;
+    let members = with_bytes(members, alloc, "new", &splice.new)?;
+    let members = with_bytes(members, alloc, "old", &splice.old)?;
+    Ok(Value::Object(members))
 }
 
 fn splice_values(alloc: Global, splices: &[Splice]) -> Result<Vec<Value>, AllocError>
@@ -42,17 +39,13 @@ fn record_value(alloc: Global, patch: &Record) -> Result<Value, AllocError>
     ensures written { IfOk result (λ v. view v ≡ spec.record_data patch.now) }
     ensures reads_back { IfOk result (λ v. spec.record_of true (view v) ≡ Some patch.now) }
 {
-    let after_len = patch.after_len;
-    let before_len = patch.before_len;
-    let count = patch.count;
-    let expr = patch.expr.as_str();
-    json!(in alloc; {
-        "after_len": after_len,
-        "before_len": before_len,
-        "count": count,
-        "expr": expr,
-        "splices": Value::Array(splice_values(alloc, &patch.splices)?)
-    })
+    let splices = splice_values(alloc, &patch.splices)?;
+    let members = with(Map::new(alloc), alloc, "splices", Value::Array(splices))?;
+    let members = with_text(members, alloc, "expr", &patch.expr)?;
+    let members = with(members, alloc, "count", Value::from(patch.count))?;
+    let members = with(members, alloc, "before_len", Value::from(patch.before_len))?;
+    let members = with(members, alloc, "after_len", Value::from(patch.after_len))?;
+    Ok(Value::Object(members))
 }
 
 pub(crate) fn record_values(alloc: Global, records: &[Record]) -> Result<Vec<Value>, AllocError>
@@ -97,12 +90,11 @@ fn open_value(alloc: Global, open: &Open) -> Result<Value, AllocError>
     ensures written { IfOk result (λ v. view v ≡ spec.pending_data (Some open.now)) }
     ensures reads_back { IfOk result (λ v. spec.open_of true (view v) ≡ Some open.now) }
 {
-    let kind = kind(&open.step);
-    json!(in alloc; {
-        "from": STANDARD.encode(alloc, &open.from)?,
-        "kind": kind,
-        "record": move_value(alloc, &open.step)?
-    })
+    let held = move_value(alloc, &open.step)?;
+    let members = with(Map::new(alloc), alloc, "record", held)?;
+    let members = with_text(members, alloc, "kind", kind(&open.step))?;
+    let members = with_bytes(members, alloc, "from", &open.from)?;
+    Ok(Value::Object(members))
 }
 
 /// An open move as a value, null where there is none.
@@ -126,8 +118,11 @@ fn journal_object(
     ensures { IfOk result (λ v. view v ≡ spec.journal_object at (view pending)
         (items_view records.items)) }
 {
-    let records = Value::Array(records);
-    json!(in alloc; {"at": at, "pending": pending, "records": records, "version": 2u64})
+    let members = with(Map::new(alloc), alloc, "records", Value::Array(records))?;
+    let members = with(members, alloc, "pending", pending)?;
+    let members = with(members, alloc, "at", Value::from(at))?;
+    let members = with(members, alloc, "version", Value::from(2u64))?;
+    Ok(Value::Object(members))
 }
 
 /// A journal as a value, in version 2.

@@ -1,5 +1,5 @@
 -- The segments so far and one more.
-use Rattle.std.proofs.Common.{◌≡◌, ℕ, ◌+◌, ◌<◌, List, [], ◌∷◌, ◌++◌, ◌-◌, ◌≤◌, length, take, get_or, refl, sym, ap, ◌∙◌, arith, append-nil, rules}
+use Rattle.std.proofs.Common.{◌≡◌, ℕ, ◌+◌, List, [], ◌∷◌, ◌++◌, ◌-◌, ◌≤◌, length, take, get_or, sym, ap, ◌∙◌, arith, rules}
 use Rattle.std.proofs.lemmas.List.{map-append, take_all, take_more}
 use Rattle.std.proofs.Common.{subst, String, Global}
 use Rattle.std.proofs.lemmas.Str.{IsUtf8-append}
@@ -7,23 +7,12 @@ use Rattle.std.specs.Str.{IsUtf8}
 use Rattle.std.specs.String.{string_bytes}
 use Rattle.yq_text.specs.Halves.{whole}
 use Rattle.yq_text.specs.declared.halves.Halves.{Halves}
-use Rattle.yq_script.specs.Splice.{Splice}
-use Rattle.yq_script.specs.Exchanging.{gives}
-use Rattle.yq_script.specs.Script.{Segment, keep, kept_front, kept_back, new_text, put_before, merged, splice_at, splices_at, changes_behind, to_last}
+use Rattle.yq_script.specs.Script.{Segment, keep, kept_front, kept_back, to_last}
 use Rattle.yq_script.specs.Segments.{segment_of, segments_of}
 use Rattle.yq_script.specs.declared.segment.Segment.{Segment as Held}
 use Rattle.yq_script.specs.declared.segment.Segment.TheVariants as held
 use Rattle.yq_script.proofs.BetweenLaws.{back_gives, to_last_put, last_stays}
 use Rattle.yq_script.proofs.KeptSegments.{back_last}
-
--- no segment is left
-pub none_left : (ss : List Held) → length ss < 1 → segments_of ss ≡ []
-none_left [] h = refl
-none_left (p ∷ ss) h = absurd (omega (arith, h))
-
-pub loop_done : (front : ℕ) (whole rest : List Segment) (bytes : List ℕ) (done all : List Splice) (n : ℕ) (o w : List ℕ) → rest ≡ [] → bytes ++ new_text rest ≡ new_text whole →
-    done ++ splices_at n (put_before o w (merged rest)) ≡ changes_behind front whole → all ≡ done ++ splice_at n o w → gives (new_text whole) (changes_behind front whole) ≡ gives bytes all
-loop_done front whole rest bytes done all n o w none so_far found last = search (rules, append-nil)
 
 -- segments with the last one behind the others
 module _ (xs : List Held) (x d : Held) (some : 1 ≤ length xs) (is : x ≡ get_or xs (length xs - 1) d) where

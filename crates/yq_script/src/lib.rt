@@ -4,6 +4,7 @@
 
 mod changed;
 mod changing;
+mod draft;
 mod edited;
 mod exchange_error;
 mod exchanging;

@@ -2,7 +2,8 @@
 
 use std::alloc::Global;
 use yq_expr::parse_expr;
-use yq_journal::{Journal, JournalError, JournalFault, Move, Record, redo_record, undo_record};
+use yq_journal::Journal;
+use yq_records::{JournalError, JournalFault, Move, Record, redo_record, undo_record};
 use yq_splice::edit;
 
 /// A call on a journal, or on its first record.

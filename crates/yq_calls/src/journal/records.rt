@@ -3,7 +3,8 @@
 use crate::journal::PORT;
 use std::alloc::{AllocError, Global};
 use std::test::Fail;
-use yq_journal::{Journal, JournalFault, Record, stands_after, stands_before};
+use yq_journal::{Journal, stands_after, stands_before};
+use yq_records::{JournalFault, Record};
 
 /// A text, and whether the record of `PORT` stands before it and after it.
 static TEXTS: [(&str, bool, bool); 4] = [

@@ -5,7 +5,8 @@ use crate::journal::PORT;
 use crate::journal::called::{Call, Opened, called};
 use std::alloc::{AllocError, Global};
 use std::test::Fail;
-use yq_journal::{Journal, JournalError};
+use yq_journal::Journal;
+use yq_records::JournalError;
 use yq_text_calls::all_memory;
 
 /// A journal: its cursor, its open move, and its records.

@@ -2,13 +2,12 @@
 ghost use Rattle.std.specs.Prelude.{◌≡◌, IfOk, option_map, option_and_then};
 ghost use Rattle.serde_json.specs.Find.{get};
 ghost use Rattle.serde_json.specs.View.{view};
-ghost use Rattle.yq_script.specs.Splice.{length_done, lengths_done};
 ghost use Rattle.yq_journal.specs.Json as spec;
 
 use super::fields::{bytes, has_keys, number, text};
-use crate::record::Record;
 use serde_json::Value;
 use std::alloc::{AllocError, Global};
+use yq_records::{Record, leads};
 use yq_script::Splice;
 
 /// A splice, whose keys are `at`, `new` and `old`.
@@ -46,34 +45,6 @@ fn splices(alloc: Global, value: &Value) -> Result<Option<Vec<Splice>>, AllocErr
         }
     }
     Ok(Some(found))
-}
-
-/// The length that a splice leaves, where it lies within the length before it.
-#[tactic(auto, unfolding(yq_script::specs::Splice::length_done))]
-fn length_after(splice: &Splice, length: u64) -> Option<u64>
-    ensures { result ≡ length_done splice.now length }
-{
-    let old = splice.old.len() as u64;
-    let end = splice.at.checked_add(old)?;
-    if end > length {
-        return None;
-    }
-    (length - old).checked_add(splice.new.len() as u64)
-}
-
-/// Whether splices lead from the one length to the other, each lying within
-/// the length reached so far.
-pub(crate) fn leads(splices: &[Splice], before_len: u64, after_len: u64) -> bool
-    ensures { result ≡ spec.is_length (lengths_done splices.now before_len) after_len }
-{
-    let mut length = before_len;
-    'splices: for splice in splices {
-        match length_after(splice, length) {
-            Some(next) => length = next,
-            None => return false,
-        }
-    }
-    length == after_len
 }
 
 /// How many edits a record stands for: before version 2 it is one, with no key.

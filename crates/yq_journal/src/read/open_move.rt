@@ -5,12 +5,11 @@ ghost use Rattle.yq_journal.specs.Json as spec;
 
 use super::edits::record;
 use super::fields::{bytes, has_keys, text};
-use crate::fault::JournalError;
 use crate::journal::Open;
-use crate::moves::{Move, target};
-use crate::record::Record;
+use crate::ways::target;
 use serde_json::Value;
 use std::alloc::{AllocError, Global};
+use yq_records::{JournalError, Move, Record};
 
 /// The move of a kind that has no record.
 fn bare_move(kind: &str) -> Option<Move>

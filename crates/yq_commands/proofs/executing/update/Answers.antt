@@ -1,5 +1,5 @@
 use Rattle.std.proofs.Common.{ℕ, List, Err, ap, ◌∙◌}
-use Rattle.yq_journal.specs.State.{State}
+use Rattle.yq_records.specs.State.{State}
 use Rattle.std.proofs.lemmas.Result.{err_from_is_err_and}
 use Rattle.yq_program.specs.View.{program_of}
 use Rattle.yq_commands.specs.Editing.{edits}

@@ -1,7 +1,7 @@
 use Rattle.std.proofs.Common.{Some, ap, ◌∙◌}
 use Rattle.serde_json.specs.View.{view, items_view}
 use Rattle.yq_journal.specs.Json.{journal_of}
-use Rattle.yq_journal.specs.State.{state}
+use Rattle.yq_records.specs.State.{state}
 use Rattle.yq_journal.proofs.JsonLaws.{journal_reads}
 use Rattle.yq_journal.proofs.write.journal_value.Goals as goal
 

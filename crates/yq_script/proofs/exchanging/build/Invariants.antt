@@ -6,9 +6,9 @@ use Rattle.yq_script.proofs.exchanging.build.Given as goal
 
 abbrev pub invariant-segments : goal.invariant-segments
 invariant-segments l = record {
-  place : l.fn.front + length (string_bytes l.text) ≡ l.at + length l.new.items;
-  so_far : string_bytes l.text ++ new_text (segments_of l.rest) ≡ new_text (segments_of l.fn.segments);
-  found : l.splices.items ++ splices_at l.at (put_before l.old.items l.new.items (merged (segments_of l.rest))) ≡ splices_at l.fn.front (merged (segments_of l.fn.segments));
+  place : l.draft.at + length l.draft.come.items + length (new_text (segments_of l.rest)) ≡ l.fn.front + length (new_text (segments_of l.fn.segments));
+  so_far : string_bytes l.draft.text ++ new_text (segments_of l.rest) ≡ new_text (segments_of l.fn.segments);
+  found : l.draft.splices.items ++ splices_at l.draft.at (put_before l.draft.gone.items l.draft.come.items (merged (segments_of l.rest))) ≡ splices_at l.fn.front (merged (segments_of l.fn.segments));
 }
 
 abbrev pub decreases-segments : goal.decreases-segments
