@@ -11,12 +11,11 @@ use Rattle.yq_cut.specs.declared.offsets.Offsets as declared
 use Rattle.yq_cut.specs.declared.places.Places.{Places}
 use Rattle.yq_cut.proofs.ItemLaws.{items_text-append}
 use Rattle.yq_cut.proofs.KeptLaws.{far_near, items_apart, near_joined}
-use Rattle.yq_session.specs.Sides.{AreAt, IsSplitAt, ends_before, nearer, not_in_back, side_of, text_length}
-use Rattle.yq_session.proofs.BeginLaws.{BackFound, back_found, begin_from, begin_where, ends_begin, joined_long, rows_begin}
-use Rattle.yq_session.proofs.CountLaws.{ends_joined, near_count}
-use Rattle.yq_session.proofs.ItemPlaces.{far_within}
-use Rattle.yq_session.proofs.SideLaws.{sides_same}
-use Rattle.yq_session.proofs.SplitLaws.{Within, ends_counted, nearer_split, prefix, turned_twice}
+use Rattle.yq_sides.specs.Sides.{AreAt, IsSplitAt, ends_before, nearer, not_in_back, side_of, text_length}
+use Rattle.yq_sides.proofs.BeginLaws.{BackFound, back_found, begin_from, begin_where, ends_begin, joined_long, rows_begin}
+use Rattle.yq_sides.proofs.CountLaws.{ends_joined, near_count}
+use Rattle.yq_sides.proofs.SideLaws.{sides_same}
+use Rattle.yq_sides.proofs.SplitLaws.{Within, ends_counted, far_within, nearer_split, prefix, turned_twice}
 
 -- lists
 pub record MapSplit (n : ℕ) (os xs ys : List declared.Offsets) : Type 0 where

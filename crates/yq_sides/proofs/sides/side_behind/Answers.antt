@@ -1,10 +1,10 @@
 use Rattle.std.proofs.Common.{◌≡◌, inl, inr, ◌+◌, ◌-◌, ℕ, List, length, reverse, ap, subst, ◌∙◌, arith}
 use Rattle.yq_cut.specs.declared.offsets.Offsets as declared
-use Rattle.yq_session.specs.Sides.{IsSplitAt, ends_before, nearer, not_in_back, side_of, text_length}
-use Rattle.yq_session.specs.declared.sides.Side.{Side}
-use Rattle.yq_session.proofs.BackLaws.{ByEnds, ByRows, behind_is}
-use Rattle.yq_session.proofs.sides.side_behind.Goals.{then-rows-gt0, else-rows-gt0, then-ends-len, else-ends-len}
-use Rattle.yq_session.proofs.sides.side_behind.Goals as goal
+use Rattle.yq_sides.specs.Sides.{IsSplitAt, ends_before, nearer, not_in_back, side_of, text_length}
+use Rattle.yq_sides.specs.declared.sides.Side.{Side}
+use Rattle.yq_sides.proofs.BackLaws.{ByEnds, ByRows, behind_is}
+use Rattle.yq_sides.proofs.sides.side_behind.Goals.{then-rows-gt0, else-rows-gt0, then-ends-len, else-ends-len}
+use Rattle.yq_sides.proofs.sides.side_behind.Goals as goal
 
 pub returns : goal.returns
 returns c xs at placed gap apart long =

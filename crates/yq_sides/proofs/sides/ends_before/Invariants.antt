@@ -1,6 +1,6 @@
 use Rattle.std.proofs.Common.{◌≡◌, ◌+◌, length}
-use Rattle.yq_session.specs.Sides.{ends_before}
-use Rattle.yq_session.proofs.sides.ends_before.Given as goal
+use Rattle.yq_sides.specs.Sides.{ends_before}
+use Rattle.yq_sides.proofs.sides.ends_before.Given as goal
 
 abbrev pub invariant-ends : goal.invariant-ends
 invariant-ends l = record {

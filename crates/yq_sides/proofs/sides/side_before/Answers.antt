@@ -1,8 +1,8 @@
 use Rattle.std.proofs.Common.{◌-◌, ℕ, ap, ◌∙◌, arith}
-use Rattle.yq_session.specs.Sides.{ends_before}
-use Rattle.yq_session.proofs.SideLaws.{NoEndBehind, before_end, before_none, before_row}
-use Rattle.yq_session.proofs.sides.side_before.Goals.{then-ends-gt0+else-end-rows, else-ends-gt0}
-use Rattle.yq_session.proofs.sides.side_before.Goals as goal
+use Rattle.yq_sides.specs.Sides.{ends_before}
+use Rattle.yq_sides.proofs.SideLaws.{NoEndBehind, before_end, before_none, before_row}
+use Rattle.yq_sides.proofs.sides.side_before.Goals.{then-ends-gt0+else-end-rows, else-ends-gt0}
+use Rattle.yq_sides.proofs.sides.side_before.Goals as goal
 
 pub returns-then-end-rows : goal.returns-then-end-rows
 returns-then-end-rows c xs placed gap within =

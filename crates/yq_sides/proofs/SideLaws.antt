@@ -13,11 +13,11 @@ use Rattle.yq_cut.specs.declared.ends.EndPlace.{EndPlace}
 use Rattle.yq_cut.specs.declared.offsets.Offsets as declared
 use Rattle.yq_cut.specs.declared.places.Places.{Places}
 use Rattle.yq_cut.proofs.KeptLaws.{near_joined}
-use Rattle.yq_session.specs.Sides.{AreAt, IsSplitAt, LastBefore, ends_before, side_of, text_length}
-use Rattle.yq_session.specs.declared.sides.Side.{Side}
-use Rattle.yq_session.proofs.BeginLaws.{FrontFound, begin_where, ends_begin, front_found, rows_begin}
-use Rattle.yq_session.proofs.CountLaws.{ends_joined, ends_rows}
-use Rattle.yq_session.proofs.SplitLaws.{ends_counted, first_turned, one_split}
+use Rattle.yq_sides.specs.Sides.{AreAt, IsSplitAt, LastBefore, ends_before, side_of, text_length}
+use Rattle.yq_sides.specs.declared.sides.Side.{Side}
+use Rattle.yq_sides.proofs.BeginLaws.{FrontFound, begin_where, ends_begin, front_found, rows_begin}
+use Rattle.yq_sides.proofs.CountLaws.{ends_joined, ends_rows}
+use Rattle.yq_sides.proofs.SplitLaws.{ends_counted, first_turned, one_split}
 
 -- Items in front, and one more, by the rows in front of the gap and the ends of parts that begin in front of an offset.
 pub record FrontKept (front : List Item) (first : Item) (rows : List declared.Offsets) (ends : List EndPlace) (count : ℕ) : Type 0 where

@@ -7,8 +7,8 @@ use Rattle.yq_cut.specs.Items.{Item, row_item, end_item}
 use Rattle.yq_cut.specs.Kept.{near, ends_near}
 use Rattle.yq_cut.specs.Rows.{print_row}
 use Rattle.yq_cut.specs.declared.ends.EndPlace.{EndPlace}
-use Rattle.yq_session.specs.Sides.{text_length}
-use Rattle.yq_session.proofs.BeginLaws.{first_long}
+use Rattle.yq_sides.specs.Sides.{text_length}
+use Rattle.yq_sides.proofs.BeginLaws.{first_long}
 
 -- ends of parts, one behind the other
 pub ends_joined : (n k : ℕ) (xs ys : List Item) → ends_near n k (xs ++ ys) ≡ ends_near n k xs ++ ends_near (n + text_length xs) (k + length (near n xs)) ys

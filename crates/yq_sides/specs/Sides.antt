@@ -7,7 +7,7 @@ use Rattle.yq_cut.specs.Touched.{in_front}
 use Rattle.yq_cut.specs.declared.ends.EndPlace.{EndPlace}
 use Rattle.yq_cut.specs.declared.offsets.Offsets as declared
 use Rattle.yq_cut.specs.declared.places.Places.{Places}
-use Rattle.yq_session.specs.declared.sides.Side.{Side}
+use Rattle.yq_sides.specs.declared.sides.Side.{Side}
 
 -- how long the text of items is (own)
 abbrev pub text_length : List Item → ℕ

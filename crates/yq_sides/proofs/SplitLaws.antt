@@ -1,12 +1,16 @@
 -- A list of places that is split in two ways.
 use Rattle.std.proofs.Common.{◌≡◌, ℕ, suc, ◌-◌, ◌<◌, ◌≤◌, Some, List, [], ◌∷◌, ◌++◌, length, map, reverse, slice_get, refl, sym, ap, ◌∙◌, subst, arith, append-nil, length-append, lt-ltb, le-ltb, rules}
 use Rattle.std.proofs.lemmas.List.{reverse-append, reverse-reverse}
-use Rattle.std.proofs.lemmas.List.Elements.{All-head, All-tail}
+use Rattle.std.proofs.lemmas.List.Elements.{All-cons, All-head, All-nil, All-tail}
 use Rattle.std.specs.List.{All}
-use Rattle.yq_cut.specs.Kept.{turned}
+use Rattle.yq_cut.specs.Items.{Item, row_item, end_item}
+use Rattle.yq_cut.specs.Kept.{far, turned}
+use Rattle.yq_cut.specs.Offsets.{offsets_of}
+use Rattle.yq_cut.specs.View.{slices}
 use Rattle.yq_cut.specs.declared.ends.EndPlace.{EndPlace}
 use Rattle.yq_cut.specs.declared.offsets.Offsets as declared
-use Rattle.yq_session.specs.Sides.{FirstFrom, ends_before, nearer}
+use Rattle.yq_sides.specs.Sides.{FirstFrom, ends_before, nearer, text_length}
+use Rattle.yq_sides.proofs.BeginLaws.{first_long}
 
 -- the last place of a list
 abbrev pub LastIs : (declared.Offsets → Type 0) → List declared.Offsets → Type 0
@@ -94,3 +98,10 @@ turned_one n o h = ap (λ (s : ℕ). record o { start = s }) (let s : n - (n - o
 pub turned_twice : (n : ℕ) (os : List declared.Offsets) → All (Within n) os → map (turned n) (map (turned n) os) ≡ os
 turned_twice n [] h = refl
 turned_twice n (o ∷ os) h = ap (λ (p : declared.Offsets). p ∷ map (turned n) (map (turned n) os)) (turned_one n o (All-head (Within n) o os h)) ∙ ap (λ l. o ∷ l) (turned_twice n os (All-tail (Within n) o os h))
+
+-- ---- rows by their distance from the end of a text
+
+pub far_within : (n : ℕ) (xs : List Item) → text_length xs ≤ n → All (Within n) (far xs)
+far_within n [] h = All-nil (Within n)
+far_within n (row_item r ∷ xs) h = All-cons (Within n) (offsets_of (text_length (row_item r ∷ xs)) (slices r)) (far xs) h (far_within n xs (omega (arith, h, first_long (row_item r) xs)))
+far_within n (end_item gap marker ∷ xs) h = far_within n xs (omega (arith, h, first_long (end_item gap marker) xs))

@@ -1,7 +1,7 @@
 use Rattle.std.proofs.Common.{◌∙◌, ◌-◌, ℕ, ap, subst}
-use Rattle.yq_session.specs.Sides.{IsSideBehind, IsSplitAt, marked_end}
+use Rattle.yq_sides.specs.Sides.{IsSideBehind, IsSplitAt, marked_end}
 use Rattle.yq_session.proofs.FollowLaws.{changes}
-use Rattle.yq_session.proofs.sides.find_touched.Goals as goal
+use Rattle.yq_session.proofs.touched.find_touched.Goals as goal
 
 pub returns : goal.returns
 returns c t new long h =

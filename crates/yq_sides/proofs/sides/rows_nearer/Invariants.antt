@@ -1,6 +1,6 @@
 use Rattle.std.proofs.Common.{◌≡◌, ◌≤◌, length, reverse}
-use Rattle.yq_session.specs.Sides.{nearer}
-use Rattle.yq_session.proofs.sides.rows_nearer.Given as goal
+use Rattle.yq_sides.specs.Sides.{nearer}
+use Rattle.yq_sides.proofs.sides.rows_nearer.Given as goal
 
 abbrev pub invariant-rows : goal.invariant-rows
 invariant-rows l = record {

@@ -13,7 +13,7 @@ use Rattle.yq_cut.specs.declared.ends.EndPlace.{EndPlace}
 use Rattle.yq_cut.specs.declared.offsets.Offsets as declared
 use Rattle.yq_cut.proofs.ItemLaws.{items_text-append}
 use Rattle.yq_cut.proofs.KeptLaws.{items_apart, print_then}
-use Rattle.yq_session.specs.Sides.{not_in_back, text_length}
+use Rattle.yq_sides.specs.Sides.{not_in_back, text_length}
 
 -- lengths
 pub first_long : (i : Item) (is : List Item) → text_length (i ∷ is) ≡ length (item_text i) + text_length is
