@@ -18,7 +18,7 @@ use Rattle.yq_plans.proofs.updates.AlikeRooms.{rest_follow}
 use Rattle.yq_plans.proofs.updates.PlanAnswers.{literals_hold}
 use Rattle.yq_plans.proofs.updates.RoomsLast.{plan_follows}
 use Rattle.yq_script.specs.Splice.{Splice}
-use Rattle.yq_carrying.specs.Theorems.{IsApplied, IsFitting}
+use Rattle.yq_outcomes.specs.Theorems.{IsApplied, IsFitting}
 use Rattle.yq_calls.specs.Fitting.{AreFitting}
 
 some_update : (p : Program) (n : ℕ) → n < update_count p → (u : Update) × (update_at n p ≡ Some u)

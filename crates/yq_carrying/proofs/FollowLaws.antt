@@ -39,14 +39,15 @@ use Rattle.yq_row_edits.proofs.NearLaws.{edits_are_near}
 use Rattle.yq_row_edits.proofs.TouchLaws.{local_touches}
 use Rattle.yq_row_edits.proofs.TouchedLaws.{near_touched}
 use Rattle.yq_flow_edits.proofs.CutLaws.{cut_read, cut_same, text_read}
-use Rattle.yq_carrying.specs.Carried.{carried}
-use Rattle.yq_carrying.specs.Edit.{gives}
+use Rattle.yq_outcomes.specs.Carried.{carried}
+use Rattle.yq_outcomes.specs.Edit.{gives}
 use Rattle.yq_carrying.specs.Session.{HasPlaces, KnowsItems, Scans}
-use Rattle.yq_carrying.specs.Theorems.{IsFitting, IsApplied}
-use Rattle.yq_carrying.specs.Valid.{segments_by}
-use Rattle.yq_carrying.proofs.ApplyLaws.{fits, applied_by}
-use Rattle.yq_carrying.proofs.EditsHold.{edit_is}
-use Rattle.yq_carrying.proofs.SessionLaws.{carried_by, text_utf8}
+use Rattle.yq_outcomes.specs.Theorems.{IsFitting, IsApplied}
+use Rattle.yq_outcomes.specs.Valid.{segments_by}
+use Rattle.yq_outcomes.proofs.ApplyLaws.{fits, applied_by}
+use Rattle.yq_outcomes.proofs.EditsHold.{edit_is}
+use Rattle.yq_carrying.proofs.SessionLaws.{carried_by}
+use Rattle.yq_outcomes.proofs.TextFaults.{text_utf8}
 
 -- ---- whether there are splices, by their number
 

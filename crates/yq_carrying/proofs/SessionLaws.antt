@@ -1,20 +1,18 @@
 -- A text with its cut, which a session keeps, and what is borrowed of it.
-use Rattle.std.proofs.Common.{◌≡◌, ℕ, ◌-◌, ◌<◌, ◌≤◌, ◌^◌, Bool, true, false, cond, ltb, List, [], ◌∷◌, ◌++◌, length, take, drop, Option, Some, None, refl, sym, ap, ◌∙◌, subst, arith, append-nil}
+use Rattle.std.proofs.Common.{◌≡◌, ℕ, ◌-◌, Bool, true, false, cond, ltb, List, [], ◌∷◌, ◌++◌, length, take, drop, Some, refl, sym, ap, ◌∙◌, subst, arith, append-nil}
 use Rattle.std.proofs.lemmas.Bool.{le-ltb}
 use Rattle.std.proofs.lemmas.List.{length-take-le, take-append-drop}
-use Rattle.std.proofs.lemmas.Str.{IsUtf8-from_is_utf8}
 use Rattle.std.specs.Str.{IsCharBoundary, IsUtf8, is_utf8}
 use Rattle.yq_text.specs.Halves.{whole}
 use Rattle.yq_text.specs.Split.{Split, joined}
 use Rattle.yq_text.specs.declared.halves.Halves.{Halves}
 use Rattle.yq_flow_scalars.specs.declared.fault.ReadError.{ReadError}
 use Rattle.yq_flow_scalars.specs.declared.fault.ReadError.TheVariants as reading
-use Rattle.yq_flow_scalars.specs.Characters.{text_limit}
 use Rattle.yq_flow_scalars.proofs.Bools.{guard_then}
 use Rattle.yq_cut.specs.Grammar.{IsCut}
 use Rattle.yq_cut.specs.Items.{Item, items_of, items_text}
 use Rattle.yq_cut.specs.Kept.{IsPlaced}
-use Rattle.yq_cut.specs.Rows.{Cut, cut_text}
+use Rattle.yq_cut.specs.Rows.{Cut}
 use Rattle.yq_cut.specs.Touched.{TouchesOnly, in_back, in_front, item_text}
 use Rattle.yq_cut.specs.View.{RowsView, rows_view}
 use Rattle.yq_cut.specs.declared.places.Places.{Places}
@@ -26,19 +24,17 @@ use Rattle.yq_row_lines.specs.declared.line_position.KnownItems.{KnownItems}
 use Rattle.yq_row_places.proofs.ReadLaws.{text_takes, read_takes}
 use Rattle.yq_meaning.specs.Operations.{Operation}
 use Rattle.yq_script.specs.Changing.{IsChange}
-use Rattle.yq_script.specs.Script.{Segment, new_text, old_text}
+use Rattle.yq_script.specs.Script.{new_text}
 use Rattle.yq_script.specs.declared.changed.Changed.{Changed}
 use Rattle.yq_session.specs.Following.{ArePlacesOf}
-use Rattle.yq_edits.specs.Edits.{edits, or_stay}
-use Rattle.yq_flow_edits.proofs.CutLaws.{cut_read, cut_same, text_read}
-use Rattle.yq_carrying.specs.Carried.{carry_one, carried}
-use Rattle.yq_carrying.specs.Edit.{gives, by_reading, exchange_edit}
+use Rattle.yq_flow_edits.proofs.CutLaws.{cut_read, cut_same}
+use Rattle.yq_outcomes.specs.Carried.{carry_one, carried}
+use Rattle.yq_outcomes.specs.Edit.{gives, by_reading, exchange_edit}
 use Rattle.yq_carrying.specs.Session.{HasPlaces, KnowsItems, NotOpened}
-use Rattle.yq_carrying.specs.Theorems.{HasReading}
-use Rattle.yq_carrying.specs.Valid.{segments_by}
-use Rattle.yq_carrying.proofs.TextFaults.{FailsToRead, text_unread}
-use Rattle.yq_carrying.proofs.EditsHold.{edit_is}
-use Rattle.yq_carrying.proofs.UpdateLaws.{no_reading}
+use Rattle.yq_outcomes.specs.Theorems.{HasReading}
+use Rattle.yq_outcomes.specs.Valid.{segments_by}
+use Rattle.yq_outcomes.proofs.TextFaults.{FailsToRead, text_unread}
+use Rattle.yq_outcomes.proofs.UpdateLaws.{no_reading}
 
 -- ---- a text with its cut
 
@@ -50,10 +46,6 @@ has_cut : (t : List ℕ) (c : Cut) (s : RowsView) → read_at t ≡ Some c → s
 has_cut t c s is shows =
     let same : c ≡ cut_of t = sym (cut_same t c is) in
     record { cut = subst (IsCut t) same (cut_read t c is); rows = shows ∙ ap rows_view same; sound = ap all_documents (sym same) ∙ documents_sound t c is }
-
-pub text_utf8 : (t : List ℕ) (c : Cut) → read_at t ≡ Some c → IsUtf8 t
-unfolding read_at
-text_utf8 t c is = IsUtf8-from_is_utf8 t (guard_then (is_utf8 t) is).0
 
 -- ---- opened
 
@@ -139,20 +131,6 @@ pub known_here : (n : ℕ) (t : List ℕ) (k : KnownItems) → StayKnown n (cut_
 known_here n t k stay = stay (cut_of t) 0 (touches_itself n (cut_of t))
 
 -- ---- an operation on it
-
--- its segments are of the text
-old_by : (op : Operation) (c : Cut) → read_at (cut_text c) ≡ Some c → old_text (segments_by op c) ≡ cut_text c
-old_by op c read = go (edits op c) refl
-  where
-    go : (o : Option (List Segment)) → edits op c ≡ o → old_text (or_stay c o) ≡ cut_text c
-    go None is = append-nil (cut_text c)
-    go (Some ss) is = (edit_is op c ss read is).old
-
-pub segments_short : (op : Operation) (t : List ℕ) (ss : List Segment) → read_at t ≡ Some (cut_of t) → ss ≡ segments_by op (cut_of t) → length (old_text ss) < 2 ^ 64
-segments_short op t ss read is =
-    let text : cut_text (cut_of t) ≡ t = text_read t (cut_of t) read in
-    let size : length t ≤ text_limit = (cut_read t (cut_of t) read).size in
-    omega (arith, size, ap length (ap old_text is ∙ (old_by op (cut_of t) (ap read_at text ∙ read) ∙ text)))
 
 -- what it comes to, by the cut of the text and by what it changes there
 pub carried_on : (op : Operation) (t x : List ℕ) (p : Places) → HasPlaces t p → x ≡ t → carry_one op (cut_of x) ≡ carried op t

@@ -1,73 +1,24 @@
 //! Carrying out: operations done on a text, one after the other.
-ghost use Rattle.std.specs.Prelude.{◌≡◌, ◌++◌, Some, IfErr, IfOk, string_bytes};
+ghost use Rattle.std.specs.Prelude.{◌≡◌, ◌++◌, Some, IfErr, IfOk, IfSome, string_bytes};
 ghost use Rattle.yq_meaning.specs.Operations.{operation_of, operations_of};
 ghost use Rattle.yq_documents.specs.Reading.{cut_of, read_at};
-ghost use Rattle.yq_script.specs.Changing.{IsChange};
-ghost use Rattle.yq_row_places.specs.RowWalk.{StayKnown};
-ghost use Rattle.yq_carrying.specs.Answers.{Edits, EditFails};
-ghost use Rattle.yq_carrying.specs.Carried as spec;
-ghost use Rattle.yq_carrying.specs.Edit.{behind};
+ghost use Rattle.yq_outcomes.specs.Answers.{Edits, EditFails};
+ghost use Rattle.yq_outcomes.specs.Carried as spec;
+ghost use Rattle.yq_outcomes.specs.Edit.{behind, gives};
 ghost use Rattle.yq_carrying.specs.Session.{HasPlaces};
-ghost use Rattle.yq_carrying.specs.Theorems.{IsApplied, IsFitting, OpRefused};
-ghost use Rattle.yq_carrying.specs.Valid.{AreServed, segments_by};
+ghost use Rattle.yq_outcomes.specs.Theorems.{IsApplied, IsFitting, OpRefused};
+ghost use Rattle.yq_outcomes.specs.Valid.{AreServed};
 
-use crate::edit_error::EditError;
-use crate::in_rows::carry_in_rows;
-use crate::op_segments::op_segments;
-use crate::operands::operand_holds;
-use crate::rows_gone::change;
 use crate::session::Session;
-use crate::together::carry_together;
 use std::alloc::{AllocError, Global};
 use yq_cut::Places;
 use yq_meaning::Op;
+use yq_operation::carry_one;
+use yq_outcomes::{EditError, operand_holds};
 use yq_places::CutText;
-use yq_row_lines::KnownItems;
-use yq_script::{Changed, Edited, Splice, exchange};
+use yq_runs::{carry_in_rows, carry_together};
+use yq_script::{Edited, Splice};
 use yq_tree::{Documents, read};
-
-/// The same text, where what stands on the way of an operation is known.
-pub(crate) fn on_the_way<'d, 't>(cut: &CutText<'d, 't>, op: &'d Op) -> CutText<'d, 't>
-    ensures { result ≡ cut.now }
-{
-    match op {
-        Op::Replace(path, _) => cut.to_line(path),
-        Op::Append(path, _, _) => cut.to_end(path),
-        Op::Remove(path) => cut.to_line(path),
-        Op::LineComment(path, _) => cut.to_line(path),
-        Op::HeadComment(path, _) => cut.to_line(path),
-    }
-}
-
-/// What an operation changes in a text with its cut, and what is known behind it of its way.
-pub(crate) fn change_one<'d>(
-    alloc: Global,
-    cut: &CutText<'d, '_>,
-    op: &'d Op,
-) -> Result<(Changed, KnownItems), EditError>
-    ensures ok { IfOk result (λ x. IsChange (segments_by (operation_of op.now) (cut_of cut.now))
-        x.0) }
-    ensures known { IfOk result (λ x. StayKnown x.0.front (cut_of cut.now) x.1) }
-    ensures err { IfErr result (λ e. EditFails e (spec.carry_one (operation_of op.now)
-        (cut_of cut.now))) }
-{
-    let cut = on_the_way(cut, op);
-    let changed = change(alloc, &cut, op)?;
-    let known = cut.known_in_front(changed.front);
-    Ok((changed, known))
-}
-
-/// An operation carried out on a text with its cut.
-pub(crate) fn carry_one<'d>(
-    alloc: Global,
-    cut: &CutText<'d, '_>,
-    op: &'d Op,
-) -> Result<Edited, EditError>
-    ensures { Edits result (spec.carry_one (operation_of op.now) (cut_of cut.now)) }
-{
-    let segments = op_segments(alloc, &on_the_way(cut, op), op)?;
-    Ok(exchange(alloc, &segments)?)
-}
 
 /// An operation carried out on a text.
 fn carry(alloc: Global, text: &str, op: &Op) -> Result<Edited, EditError>
@@ -142,9 +93,33 @@ pub(crate) fn edited_behind(splices: Vec<Splice>, edited: Edited) -> Result<Edit
     Ok(Edited { text, splices })
 }
 
-/// Several operations carried out on a text that was read, together where each changes one row, else one
-/// by one on a copy of the text; their splices come behind others.
-fn carry_by_rows(
+/// Operations carried out on a text with its cut, where no rows follow one of them: a sole one, values put in
+/// one flow collection, or operations that each change one row; nothing, where they are others.
+fn carry_at_once<'d>(
+    alloc: Global,
+    cut: &CutText<'d, '_>,
+    ops: &'d [Op],
+) -> Result<Option<Edited>, EditError>
+    requires read { read_at cut.now ≡ Some (cut_of cut.now) }
+    requires serves { AreServed (operations_of ops.now) cut.now }
+    ensures ok { IfOk result (λ o. IfSome o (λ e. spec.carry_all (operations_of ops.now) cut.now ≡
+        gives (string_bytes e.text) e.splices.items)) }
+    ensures err { IfErr result (λ e. EditFails e (spec.carry_all (operations_of ops.now)
+        cut.now)) }
+{
+    if let [op] = ops {
+        let edited = carry_one(alloc, cut, op)?;
+        return Ok(Some(edited));
+    }
+    let together = carry_together(alloc, cut, ops)?;
+    if together.is_some() {
+        return Ok(together);
+    }
+    carry_in_rows(alloc, cut, ops)
+}
+
+/// Operations carried out one by one on a copy of a text that was read; their splices come behind others.
+fn carry_each(
     alloc: Global,
     text: &str,
     documents: Documents<'_>,
@@ -157,35 +132,9 @@ fn carry_by_rows(
     ensures { Edits result (behind splices.items (spec.carry_all (operations_of ops.now)
         text.now)) }
 {
-    let in_rows = carry_in_rows(alloc, &documents.cut(), ops)?;
-    if let Some(edited) = in_rows {
-        return Ok(edited_behind(splices, edited)?);
-    }
     let places = documents.into_rows().into_places();
     let kept = String::from_str(alloc, text)?;
     carry_all(alloc, kept, places, splices, ops)
-}
-
-/// Several operations carried out on a text that was read, together where they put values in one flow
-/// collection, or each changes one row; their splices come behind others.
-fn carry_several(
-    alloc: Global,
-    text: &str,
-    documents: Documents<'_>,
-    splices: Vec<Splice>,
-    ops: &[Op],
-) -> Result<Edited, EditError>
-    requires same { documents ≡ text.now }
-    requires read { read_at text.now ≡ Some (cut_of documents) }
-    requires serves { AreServed (operations_of ops.now) text.now }
-    ensures { Edits result (behind splices.items (spec.carry_all (operations_of ops.now)
-        text.now)) }
-{
-    let together = carry_together(alloc, &documents.cut(), ops)?;
-    if let Some(edited) = together {
-        return Ok(edited_behind(splices, edited)?);
-    }
-    carry_by_rows(alloc, text, documents, splices, ops)
 }
 
 /// The operations of a plan carried out on a text that was read; their splices come behind others. For a
@@ -203,9 +152,9 @@ pub fn carry_plan(
     ensures { Edits result (behind splices.items (spec.carry_all (operations_of ops.now)
         text.now)) }
 {
-    if let [op] = ops {
-        let edited = carry_one(alloc, &documents.cut(), op)?;
+    let at_once = carry_at_once(alloc, &documents.cut(), ops)?;
+    if let Some(edited) = at_once {
         return Ok(edited_behind(splices, edited)?);
     }
-    carry_several(alloc, text, documents, splices, ops)
+    carry_each(alloc, text, documents, splices, ops)
 }

@@ -5,11 +5,11 @@ use Rattle.yq_flow_scalars.specs.declared.ReadFault.{ReadFault}
 use Rattle.yq_flow_scalars.specs.declared.fault.FaultKind.TheVariants.{NotUtf8}
 use Rattle.yq_documents.specs.Reading.{read_at, checked_at}
 use Rattle.yq_program.specs.Program.{Program}
-use Rattle.yq_carrying.specs.Carried.{edit_of, program_done}
-use Rattle.yq_carrying.specs.Edit.{by_reading}
-use Rattle.yq_carrying.specs.Answers.{EditFails}
-use Rattle.yq_carrying.specs.declared.edit_error.EditError.{EditError}
-use Rattle.yq_carrying.specs.declared.edit_error.EditError.TheVariants as error
+use Rattle.yq_outcomes.specs.Carried.{edit_of, program_done}
+use Rattle.yq_outcomes.specs.Edit.{by_reading}
+use Rattle.yq_outcomes.specs.Answers.{EditFails}
+use Rattle.yq_outcomes.specs.declared.edit_error.EditError.{EditError}
+use Rattle.yq_outcomes.specs.declared.edit_error.EditError.TheVariants as error
 use Rattle.yq_history.specs.declared.fault.Fault.{Fault}
 use Rattle.yq_history.specs.declared.fault.Fault.TheVariants.{OutOfMemory, Unreadable}
 use Rattle.yq_history.specs.Causes.{IsUnreadable}

@@ -3,10 +3,10 @@ use Rattle.std.proofs.Common.{◌≡◌, ◌≢◌, ℕ, List, false, Option, So
 use Rattle.std.proofs.lemmas.Option.{same_Some, none-some}
 use Rattle.yq_program.specs.Program.{Program, is_read, updates}
 use Rattle.yq_script.specs.declared.edited.Edited.{Edited}
-use Rattle.yq_carrying.specs.Answers.{Edits}
-use Rattle.yq_carrying.specs.Carried.{edit_of}
-use Rattle.yq_carrying.specs.Theorems.{IsEdited}
-use Rattle.yq_carrying.specs.declared.edit_error.EditError.{EditError}
+use Rattle.yq_outcomes.specs.Answers.{Edits}
+use Rattle.yq_outcomes.specs.Carried.{edit_of}
+use Rattle.yq_outcomes.specs.Theorems.{IsEdited}
+use Rattle.yq_outcomes.specs.declared.edit_error.EditError.{EditError}
 use Rattle.yq_history.specs.declared.fault.Fault.{Fault}
 use Rattle.yq_history.specs.declared.fault.Fault.TheVariants.{OutOfMemory}
 use Rattle.yq_commands.specs.CommandEffects.{IsUnparsed, fault_of}

@@ -5,8 +5,8 @@ use Rattle.yq_meaning.specs.declared.expr_error.ExprError.{ExprError}
 use Rattle.yq_meaning.specs.declared.expr_error.ExprError.TheVariants as matching
 use Rattle.yq_meaning.specs.declared.refusal.Refusal.{Refusal}
 use Rattle.yq_meaning.specs.declared.refusal.Refusal.TheVariants as refusal
-use Rattle.yq_carrying.specs.declared.edit_error.EditError.{EditError}
-use Rattle.yq_carrying.specs.declared.edit_error.EditError.TheVariants as error
+use Rattle.yq_outcomes.specs.declared.edit_error.EditError.{EditError}
+use Rattle.yq_outcomes.specs.declared.edit_error.EditError.TheVariants as error
 use Rattle.yq_words.specs.declared.words_error.WordsError.{WordsError}
 use Rattle.yq_words.specs.declared.words_error.WordsError.TheVariants as words
 use Rattle.yq_history.specs.declared.fault.Fault.{Fault}

@@ -4,9 +4,9 @@ use Rattle.yq_program.specs.Program.{Program}
 use Rattle.yq_parsing.specs.Parse.{outcome}
 use Rattle.yq_parsing.specs.Outcome as expr
 use Rattle.yq_script.specs.Splice.{Splice}
-use Rattle.yq_carrying.specs.Carried.{edit_of}
-use Rattle.yq_carrying.specs.Edit.{Edit}
-use Rattle.yq_carrying.specs.Edit as edit
+use Rattle.yq_outcomes.specs.Carried.{edit_of}
+use Rattle.yq_outcomes.specs.Edit.{Edit}
+use Rattle.yq_outcomes.specs.Edit as edit
 use Rattle.yq_history.specs.declared.fault.Fault.{Fault}
 use Rattle.yq_history.specs.Causes.{IsUnreadable}
 use Rattle.yq_commands.specs.CommandFaults.{of_parse, of_refusal}

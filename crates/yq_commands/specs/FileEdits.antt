@@ -4,9 +4,9 @@ use Rattle.std.specs.FinMap.{get}
 use Rattle.std.specs.String.{string_bytes}
 use Rattle.yq_program.specs.Program.{Program, Update, updates}
 use Rattle.yq_script.specs.Splice.{Splice}
-use Rattle.yq_carrying.specs.Carried.{edit_of}
-use Rattle.yq_carrying.specs.Edit.{gives}
-use Rattle.yq_carrying.specs.Theorems.{IsEdited}
+use Rattle.yq_outcomes.specs.Carried.{edit_of}
+use Rattle.yq_outcomes.specs.Edit.{gives}
+use Rattle.yq_outcomes.specs.Theorems.{IsEdited}
 use Rattle.yq_store.specs.FileMap.{FileMap}
 use Rattle.yq_words.specs.declared.command.Command.{Command}
 use Rattle.yq_words.specs.declared.command.Command.TheVariants.{Eval}

@@ -11,7 +11,7 @@ use Rattle.yq_session.specs.Following.{ArePlacesOf, Follows, IsPlacedIn, exchang
 use Rattle.yq_session.specs.Reading.{ArePlacesRead}
 use Rattle.yq_session.specs.declared.kept.Kept.{Kept}
 use Rattle.yq_session.specs.declared.reading.Come.{Come}
-use Rattle.yq_session.specs.declared.sides.Touched.{Touched}
+use Rattle.yq_session.specs.declared.touched.Touched.{Touched}
 use Rattle.yq_session.proofs.ItemPlaces.{BothSides, placed_in, places_of}
 
 -- before a change: places that were moved

@@ -24,12 +24,12 @@ use Rattle.yq_session.specs.Dropping.{DropsLast}
 use Rattle.yq_session.specs.Exchanging.{TextChange}
 use Rattle.yq_session.specs.Following.{ArePlacesOf, exchanged, read_text}
 use Rattle.yq_session.specs.Reading.{read_part, region_text}
-use Rattle.yq_session.specs.Sides.{AreAt, first_byte, text_length}
+use Rattle.yq_sides.specs.Sides.{AreAt, first_byte, text_length}
 use Rattle.yq_session.specs.declared.kept.Kept.{Kept}
-use Rattle.yq_session.specs.declared.sides.Side.{Side}
-use Rattle.yq_session.specs.declared.sides.Touched.{Touched}
-use Rattle.yq_session.proofs.BeginLaws.{joined_long}
-use Rattle.yq_session.proofs.CountLaws.{ends_joined}
+use Rattle.yq_sides.specs.declared.sides.Side.{Side}
+use Rattle.yq_session.specs.declared.touched.Touched.{Touched}
+use Rattle.yq_sides.proofs.BeginLaws.{joined_long}
+use Rattle.yq_sides.proofs.CountLaws.{ends_joined}
 use Rattle.yq_session.proofs.ExchangeLaws.{texts_first}
 use Rattle.yq_session.proofs.ItemPlaces.{BothSides, cut_long, placed_in, places_of, text_split}
 

@@ -13,12 +13,12 @@ use Rattle.yq_cut.specs.declared.offsets.Offsets as declared
 use Rattle.yq_cut.specs.declared.places.Places.{Places}
 use Rattle.yq_cut.proofs.KeptLaws.{near_joined, texts_joined}
 use Rattle.yq_session.specs.Exchanging.{GivesWay, IsMovable, joined_ends, moved_from}
-use Rattle.yq_session.specs.Sides.{origin, text_length}
+use Rattle.yq_sides.specs.Sides.{origin, text_length}
 use Rattle.yq_session.specs.declared.reading.Come.{Come}
-use Rattle.yq_session.specs.declared.sides.Side.{Side}
-use Rattle.yq_session.specs.declared.sides.Touched.{Touched}
-use Rattle.yq_session.proofs.BeginLaws.{begin_within, ends_begin, joined_long, rows_begin}
-use Rattle.yq_session.proofs.CountLaws.{ends_joined, ends_rows, near_count}
+use Rattle.yq_sides.specs.declared.sides.Side.{Side}
+use Rattle.yq_session.specs.declared.touched.Touched.{Touched}
+use Rattle.yq_sides.proofs.BeginLaws.{begin_within, ends_begin, joined_long, rows_begin}
+use Rattle.yq_sides.proofs.CountLaws.{ends_joined, ends_rows, near_count}
 
 -- one place more
 pub row_more : (by i : ℕ) (os : List declared.Offsets) (o : declared.Offsets) → slice_get os i ≡ Some o → map (raised by) (take (i + 1) os) ≡ map (raised by) (take i os) ++ raised by o ∷ []

@@ -21,13 +21,13 @@ use Rattle.yq_cut.proofs.ScanLaws.{one_cut}
 use Rattle.yq_session.specs.Exchanging.{TextChange}
 use Rattle.yq_session.specs.Following.{Follows, exchanged, read_text}
 use Rattle.yq_session.specs.Reading.{AreEdges, IsRead, IsUnread, read_part, region_text, unread_end}
-use Rattle.yq_session.specs.Sides.{AreAt, IsSplitAt, IsSideBefore, IsSideBehind, marked_end, not_in_back, side_of, text_length}
+use Rattle.yq_sides.specs.Sides.{AreAt, IsSplitAt, IsSideBefore, IsSideBehind, marked_end, not_in_back, side_of, text_length}
 use Rattle.yq_session.specs.declared.kept.Kept.{Kept}
-use Rattle.yq_session.specs.declared.sides.Side.{Side}
-use Rattle.yq_session.specs.declared.sides.Touched.{Touched}
-use Rattle.yq_session.proofs.BackLaws.{back_taken}
-use Rattle.yq_session.proofs.BeginLaws.{back_found, joined_long}
-use Rattle.yq_session.proofs.CountLaws.{near_count, ends_count, ends_joined}
+use Rattle.yq_sides.specs.declared.sides.Side.{Side}
+use Rattle.yq_session.specs.declared.touched.Touched.{Touched}
+use Rattle.yq_sides.proofs.BackLaws.{back_taken}
+use Rattle.yq_sides.proofs.BeginLaws.{back_found, joined_long}
+use Rattle.yq_sides.proofs.CountLaws.{near_count, ends_count, ends_joined}
 use Rattle.yq_session.proofs.EdgeLaws.{Pieces, begin_edge, back_edge, end_edge, region_ends, region_is}
 use Rattle.yq_session.proofs.ExchangeLaws.{kept_count, texts_first, texts_second}
 use Rattle.yq_session.proofs.KeptSides.{all_in_front, back_long, cut_some, front_long, last_long, some_behind}
@@ -35,7 +35,7 @@ use Rattle.yq_session.proofs.ItemPlaces.{cut_long, cut_places, text_split}
 use Rattle.yq_session.proofs.MarkedLaws.{KeepsEnd, KeepsMarker, agrees}
 use Rattle.yq_session.proofs.MarkerLaws.{marker_stays, marker_there}
 use Rattle.yq_session.proofs.ReadLaws.{unread_is, without, without_none}
-use Rattle.yq_session.proofs.SideLaws.{front_taken}
+use Rattle.yq_sides.proofs.SideLaws.{front_taken}
 
 -- the text of three lists of items
 three : (a b c : List Item) → items_text (a ++ (b ++ c)) [] ≡ items_text a [] ++ (items_text b [] ++ items_text c [])

@@ -1,7 +1,7 @@
 -- Places of the items of a cut, by what is borrowed of them, and on both sides of a split.
 use Rattle.std.proofs.Common.{◌≡◌, ℕ, ◌+◌, ◌<◌, ◌≤◌, ◌^◌, List, [], ◌∷◌, ◌++◌, length, map, reverse, refl, sym, ap, ◌∙◌, subst, arith, rules}
 use Rattle.std.proofs.lemmas.List.{reverse-append, reverse-reverse}
-use Rattle.std.proofs.lemmas.List.Elements.{All-cons, All-head, All-nil, All-push, All-tail}
+use Rattle.std.proofs.lemmas.List.Elements.{All-head, All-nil, All-push, All-tail}
 use Rattle.std.specs.List.{All}
 use Rattle.yq_cut.specs.Grammar.{IsCut}
 use Rattle.yq_cut.specs.Items.{Item, row_item, end_item, items_of, items_text, view_of_items}
@@ -16,9 +16,9 @@ use Rattle.yq_cut.proofs.KeptLaws.{far_near, items_apart, near_joined}
 use Rattle.yq_cut.proofs.PlacedLaws.{same_view}
 use Rattle.yq_cut.proofs.ScanLaws.{one_cut}
 use Rattle.yq_session.specs.Following.{ArePlacesOf, IsPlacedIn}
-use Rattle.yq_session.specs.Sides.{AreAt, first_byte, text_length}
-use Rattle.yq_session.proofs.BeginLaws.{begin_within, first_long, joined_long, rows_begin}
-use Rattle.yq_session.proofs.SplitLaws.{Within, turned_twice}
+use Rattle.yq_sides.specs.Sides.{AreAt, first_byte, text_length}
+use Rattle.yq_sides.proofs.BeginLaws.{begin_within, first_long, joined_long, rows_begin}
+use Rattle.yq_sides.proofs.SplitLaws.{Within, far_within, turned_twice}
 
 -- the text of items in front of a split and behind it
 pub text_split : (b z : List Item) → items_text (b ++ z) [] ≡ items_text b [] ++ items_text z []
@@ -43,11 +43,6 @@ pub cut_long : (t : List ℕ) (c : Cut) → IsCut t c → length t ≡ text_leng
 cut_long t c h = ap length (h.text ∙ sym (items_of_text c))
 
 -- ---- where rows stand
-
-pub far_within : (n : ℕ) (xs : List Item) → text_length xs ≤ n → All (Within n) (far xs)
-far_within n [] h = All-nil (Within n)
-far_within n (row_item r ∷ xs) h = All-cons (Within n) (offsets_of (text_length (row_item r ∷ xs)) (slices r)) (far xs) h (far_within n xs (omega (arith, h, first_long (row_item r) xs)))
-far_within n (end_item gap marker ∷ xs) h = far_within n xs (omega (arith, h, first_long (end_item gap marker) xs))
 
 all_reversed : (P : declared.Offsets → Type 0) (os : List declared.Offsets) → All P os → All P (reverse os)
 all_reversed P [] h = All-nil P

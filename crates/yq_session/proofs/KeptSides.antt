@@ -6,8 +6,8 @@ use Rattle.yq_cut.specs.Kept.{near, ends_near}
 use Rattle.yq_cut.specs.Regions.{no_items}
 use Rattle.yq_cut.specs.Rows.{Row, Cut, last, marked}
 use Rattle.yq_cut.specs.Touched.{in_back, in_front, item_text}
-use Rattle.yq_session.specs.Sides.{text_length}
-use Rattle.yq_session.proofs.BeginLaws.{first_long}
+use Rattle.yq_sides.specs.Sides.{text_length}
+use Rattle.yq_sides.proofs.BeginLaws.{first_long}
 
 -- a cut has items, and not all of them are in front of an offset within its text
 pub all_in_front : (xs : List Item) (n : ℕ) → in_front n xs ≡ xs → no_items xs ≡ false → text_length xs < n

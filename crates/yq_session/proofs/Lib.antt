@@ -1,9 +1,4 @@
-pub mod SplitLaws
-pub mod BeginLaws
 pub mod PassingLaws
-pub mod CountLaws
-pub mod SideLaws
-pub mod BackLaws
 pub mod ExchangeLaws
 pub mod ItemPlaces
 pub mod ReadLaws

@@ -13,11 +13,11 @@ use Rattle.yq_cut.specs.Rows.{Row}
 use Rattle.yq_cut.specs.View.{slices}
 use Rattle.yq_cut.specs.declared.ends.EndPlace.{EndPlace}
 use Rattle.yq_session.specs.Following.{kept_marker, last_marker, marker_of}
-use Rattle.yq_session.specs.Sides.{keeps_marker, marked_end, side_of, text_length}
-use Rattle.yq_session.specs.declared.sides.Side.{Side}
-use Rattle.yq_session.proofs.BeginLaws.{first_long, joined_long}
-use Rattle.yq_session.proofs.CountLaws.{ends_joined, ends_rows}
-use Rattle.yq_session.proofs.SideLaws.{ends_end, ends_row, rows_end, rows_row}
+use Rattle.yq_sides.specs.Sides.{keeps_marker, marked_end, side_of, text_length}
+use Rattle.yq_sides.specs.declared.sides.Side.{Side}
+use Rattle.yq_sides.proofs.BeginLaws.{first_long, joined_long}
+use Rattle.yq_sides.proofs.CountLaws.{ends_joined, ends_rows}
+use Rattle.yq_sides.proofs.SideLaws.{ends_end, ends_row, rows_end, rows_row}
 
 -- The last touched item is the end of a part whose marker the change keeps.
 pub record KeepsEnd (touched : List Item) (n : ℕ) (e : EndPlace) : Type 0 where

@@ -5,8 +5,8 @@ use Rattle.std.proofs.lemmas.List.Elements.{All-pop}
 use Rattle.std.specs.List.{All}
 use Rattle.yq_cut.specs.Kept.{turned}
 use Rattle.yq_cut.specs.declared.offsets.Offsets as declared
-use Rattle.yq_session.specs.Sides.{LastBefore, both_sides}
-use Rattle.yq_session.proofs.SplitLaws.{Within, last_of_joined, turned_one}
+use Rattle.yq_sides.specs.Sides.{LastBefore, both_sides}
+use Rattle.yq_sides.proofs.SplitLaws.{Within, last_of_joined, turned_one}
 
 pub popped : (old new : List declared.Offsets) (n m : ℕ) (r : Option declared.Offsets) (o : declared.Offsets) → old ≡ new ++ option_to_list r → ((d : declared.Offsets) → 0 < n → r ≡ Some (slice_index_or old (n - 1) d)) →
     m ≡ n → 0 < n → o ≡ slice_index_or old (m - 1) o → old ≡ new ++ o ∷ []

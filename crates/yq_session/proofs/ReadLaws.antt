@@ -21,13 +21,13 @@ use Rattle.yq_cut.specs.declared.places.Places.{Places}
 use Rattle.yq_cut.proofs.KeptLaws.{texts_joined}
 use Rattle.yq_session.specs.Following.{without_line}
 use Rattle.yq_session.specs.Reading.{ArePlacesRead, IsRead, IsUnread, marked_as, read_part, settled, unread_end, without_marker}
-use Rattle.yq_session.specs.Sides.{text_length}
+use Rattle.yq_sides.specs.Sides.{text_length}
 use Rattle.yq_session.specs.declared.reading.Come.{Come}
-use Rattle.yq_session.specs.declared.sides.Touched.{Touched}
-use Rattle.yq_session.proofs.CountLaws.{ends_joined}
+use Rattle.yq_session.specs.declared.touched.Touched.{Touched}
+use Rattle.yq_sides.proofs.CountLaws.{ends_joined}
 use Rattle.yq_session.proofs.ExchangeLaws.{alone_are, texts_first, texts_second}
 use Rattle.yq_session.proofs.ItemPlaces.{places_are, text_split}
-use Rattle.yq_session.proofs.SideLaws.{ends_end, rows_end}
+use Rattle.yq_sides.proofs.SideLaws.{ends_end, rows_end}
 
 -- The items that are read of a region, before others, and how the ends of parts that come of it are those of all its items.
 pub record Parted (text : List ℕ) (written : List Item) (u : Option EndPlace) (more : Bool) : Type 0 where

@@ -3,9 +3,9 @@ use Rattle.std.specs.Prelude.{◌≡◌, ℕ, ◌+◌, ◌<◌, false, length, r
 use Rattle.yq_cut.specs.Kept.{moved}
 use Rattle.yq_cut.specs.declared.ends.EndPlace.{EndPlace}
 use Rattle.yq_cut.specs.declared.places.Places.{Places}
-use Rattle.yq_session.specs.Sides.{first_byte}
+use Rattle.yq_sides.specs.Sides.{first_byte}
 use Rattle.yq_session.specs.declared.kept.Kept.{Kept}
-use Rattle.yq_session.specs.declared.sides.Touched.{Touched}
+use Rattle.yq_session.specs.declared.touched.Touched.{Touched}
 
 -- A change takes away the rows behind the split, up to the end of the text; of what stands in front of them it touches one row alone, which ends where
 -- they begin; and so the text ends then (own).

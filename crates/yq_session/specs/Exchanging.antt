@@ -9,11 +9,11 @@ use Rattle.yq_cut.specs.declared.ends.EndPlace.{EndPlace}
 use Rattle.yq_cut.specs.declared.places.Places.{Places}
 use Rattle.yq_session.specs.Following.{exchanged, read_text}
 use Rattle.yq_session.specs.Reading.{ArePlacesRead, IsRead, AreEdges, read_part, region_text}
-use Rattle.yq_session.specs.Sides.{AreAt, origin, side_of, text_length}
+use Rattle.yq_sides.specs.Sides.{AreAt, origin, side_of, text_length}
 use Rattle.yq_session.specs.declared.kept.Kept.{Kept}
 use Rattle.yq_session.specs.declared.reading.Come.{Come}
-use Rattle.yq_session.specs.declared.sides.Side.{Side}
-use Rattle.yq_session.specs.declared.sides.Touched.{Touched}
+use Rattle.yq_sides.specs.declared.sides.Side.{Side}
+use Rattle.yq_session.specs.declared.touched.Touched.{Touched}
 
 -- the end of a part that stood behind one place, behind another (own)
 abbrev pub moved_from : Side → Side → EndPlace → EndPlace

@@ -1,4 +1,3 @@
-pub mod Sides
 pub mod Following
 pub mod Reading
 pub mod Exchanging

@@ -8,7 +8,7 @@ use Rattle.yq_cut.specs.Regions.{IsReadAlone, ended, no_items}
 use Rattle.yq_cut.specs.declared.ends.EndPlace.{EndPlace}
 use Rattle.yq_session.specs.declared.kept.Kept.{Kept}
 use Rattle.yq_session.specs.declared.reading.Come.{Come}
-use Rattle.yq_session.specs.declared.sides.Touched.{Touched}
+use Rattle.yq_session.specs.declared.touched.Touched.{Touched}
 
 -- the text of what comes in the place of what a change touches: what stays of that in front, what comes, and what stays behind (own)
 abbrev pub region_text : List ℕ → Touched → Kept → List ℕ → List ℕ

@@ -6,8 +6,8 @@ ghost use Rattle.yq_cut.specs.Meter.{counted, line_count};
 ghost use Rattle.yq_session.specs.Dropping.{DropsLast};
 
 use crate::kept::Kept;
-use crate::sides::Touched;
 use crate::split::begin_of;
+use crate::touched::Touched;
 use yq_cut::{EndPlace, Places};
 use yq_rows::{Meter, count_lines};
 use yq_text::SplitText;

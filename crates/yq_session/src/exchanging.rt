@@ -4,12 +4,13 @@ ghost use Rattle.std.specs.List.{All};
 ghost use Rattle.std.specs.Vec.{vec_capacity, vec_len};
 ghost use Rattle.yq_cut.specs.Kept.{kept_rows, placed_rows, raised};
 ghost use Rattle.yq_session.specs.Exchanging.{RowsExchanged, GivesWay, IsMovable, SamePlaces, joined_ends, moved_from};
-ghost use Rattle.yq_session.specs.Sides.{origin};
+ghost use Rattle.yq_sides.specs.Sides.{origin};
 
 use crate::reading::Come;
-use crate::sides::{Side, Touched};
+use crate::touched::Touched;
 use std::alloc::{AllocError, Global};
 use yq_cut::{EndPlace, Offsets, Places};
+use yq_sides::Side;
 
 /// The end of a part that stood behind one place, behind another.
 fn moved_end(end: EndPlace, from: Side, to: Side) -> EndPlace

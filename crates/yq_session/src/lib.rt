@@ -6,8 +6,8 @@ mod exchanging;
 mod following;
 mod kept;
 mod reading;
-mod sides;
 mod split;
+mod touched;
 
 pub use following::follow;
 pub use kept::Kept;

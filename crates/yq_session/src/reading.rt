@@ -7,7 +7,7 @@ ghost use Rattle.yq_session.specs.Reading.{Comes};
 ghost use Rattle.yq_session.specs.Reading as spec;
 
 use crate::kept::Kept;
-use crate::sides::Touched;
+use crate::touched::Touched;
 use std::alloc::{AllocError, Global};
 use yq_cut::{EndPlace, Places};
 use yq_flow_scalars::ReadError;

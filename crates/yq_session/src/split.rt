@@ -3,7 +3,7 @@ ghost use Rattle.std.specs.Prelude.{◌≡◌, ◌<◌, ◌≤◌, ◌^◌, OnOk
 ghost use Rattle.std.specs.List.{All};
 ghost use Rattle.yq_text.specs.Split.{joined};
 ghost use Rattle.yq_session.specs.Following.{IsPlacedIn};
-ghost use Rattle.yq_session.specs.Sides.{IsSplitAt, LastBefore, FirstFrom, both_sides, first_byte};
+ghost use Rattle.yq_sides.specs.Sides.{IsSplitAt, LastBefore, FirstFrom, both_sides, first_byte};
 
 use std::alloc::AllocError;
 use yq_cut::{Offsets, Places};

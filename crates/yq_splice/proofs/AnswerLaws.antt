@@ -8,16 +8,16 @@ use Rattle.yq_program.specs.Program.{Program, Update, read, updates, update_at, 
 use Rattle.yq_script.specs.Splice.{Splice}
 use Rattle.yq_script.specs.declared.edited.Edited.{Edited}
 use Rattle.yq_script.proofs.PlaceInList.{get_some, split_at, take_next}
-use Rattle.yq_carrying.specs.Answers.{Edits, EditFails}
-use Rattle.yq_carrying.specs.Carried.{updated, program_done, edit_of}
-use Rattle.yq_carrying.specs.Edit.{unreadable, gives, and_then, by_reading, in_order}
-use Rattle.yq_carrying.specs.Theorems.{AreSplices, EditRefused, HasReading, InOrder, IsEdited, IsUpdated, UpdateRefused}
-use Rattle.yq_carrying.specs.Valid.{IsStep, UpdateFails, FailsAt, FailsEach}
-use Rattle.yq_carrying.specs.declared.edit_error.EditError.{EditError}
-use Rattle.yq_carrying.specs.declared.edit_error.EditError.TheVariants as error
-use Rattle.yq_carrying.proofs.OrderLaws.{leads_on, leads_so, leads_give, leads_fail, leads_stop}
+use Rattle.yq_outcomes.specs.Answers.{Edits, EditFails}
+use Rattle.yq_outcomes.specs.Carried.{updated, program_done, edit_of}
+use Rattle.yq_outcomes.specs.Edit.{unreadable, gives, and_then, by_reading, in_order}
+use Rattle.yq_outcomes.specs.Theorems.{AreSplices, EditRefused, HasReading, InOrder, IsEdited, IsUpdated, UpdateRefused}
+use Rattle.yq_outcomes.specs.Valid.{IsStep, UpdateFails, FailsAt, FailsEach}
+use Rattle.yq_outcomes.specs.declared.edit_error.EditError.{EditError}
+use Rattle.yq_outcomes.specs.declared.edit_error.EditError.TheVariants as error
+use Rattle.yq_outcomes.proofs.OrderLaws.{leads_on, leads_so, leads_give, leads_fail, leads_stop}
 use Rattle.yq_splice.proofs.SpliceLaws.{program_splices}
-use Rattle.yq_carrying.proofs.UpdateLaws.{no_reading, unread_updated}
+use Rattle.yq_outcomes.proofs.UpdateLaws.{no_reading, unread_updated}
 
 pub answer_splices : (r : Result Edited EditError) (p : Program) (t : List ℕ) →
     IfOk r (λ e. IsEdited p t (string_bytes e.text) e.splices.items) → IfOk r (λ e. AreSplices e.splices.items t (string_bytes e.text))

@@ -8,7 +8,7 @@ use Rattle.yq_script.specs.Splice.{Splice, all_done, lengths_done}
 use Rattle.yq_script.specs.Script.{Segment, old_text, new_text}
 use Rattle.yq_script.proofs.ScriptLaws.{changes_lead, changes_lengths}
 use Rattle.yq_script.proofs.SpliceLaws.{all_done-append, lengths_done-append}
-use Rattle.yq_carrying.specs.Theorems.{AreSplices, InOrder, IsApplied, IsEdited, IsUpdated, Leading}
+use Rattle.yq_outcomes.specs.Theorems.{AreSplices, InOrder, IsApplied, IsEdited, IsUpdated, Leading}
 
 -- splices one list after the other
 splices_join : (t m new : List ℕ) (ds es : List Splice) → AreSplices ds t m → AreSplices es m new → AreSplices (ds ++ es) t new

@@ -1,7 +1,7 @@
 //! Operations that are applied with so much memory that the call grows once more each time.
 ghost use Rattle.std.specs.Prelude.{IfOk};
 ghost use Rattle.yq_meaning.specs.Operations.{operation_of};
-ghost use Rattle.yq_carrying.specs.Theorems.{IsApplied, IsFitting};
+ghost use Rattle.yq_outcomes.specs.Theorems.{IsApplied, IsFitting};
 
 use super::texts::has_text;
 use std::alloc::Global;

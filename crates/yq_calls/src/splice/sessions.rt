@@ -1,7 +1,7 @@
 //! Programs carried out through sessions.
 ghost use Rattle.std.specs.Prelude.{IfOk};
 ghost use Rattle.yq_meaning.specs.Operations.{operation_of, operations_of};
-ghost use Rattle.yq_carrying.specs.Theorems.{IsApplied, IsFitting};
+ghost use Rattle.yq_outcomes.specs.Theorems.{IsApplied, IsFitting};
 ghost use Rattle.yq_calls.specs.Fitting.{AreFitting};
 
 use super::operations::{by_itself, in_session, opened};

@@ -1,5 +1,5 @@
 use Rattle.yq_meaning.specs.Operations.{operation_of}
-use Rattle.yq_carrying.proofs.ApplyLaws.{op_applied, op_refused}
+use Rattle.yq_outcomes.proofs.ApplyLaws.{op_applied, op_refused}
 use Rattle.yq_carrying.proofs.carrying.apply_op.Goals as goal
 
 pub returns-clause-done : goal.returns-clause-done

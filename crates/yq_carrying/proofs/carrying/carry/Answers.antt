@@ -1,9 +1,9 @@
 use Rattle.std.proofs.Common.{ap}
 use Rattle.std.proofs.lemmas.Result.{err_from_is_err_and}
 use Rattle.yq_meaning.specs.Operations.{operation_of}
-use Rattle.yq_carrying.specs.Carried as spec
-use Rattle.yq_carrying.specs.Edit.{by_reading}
-use Rattle.yq_carrying.proofs.TextFaults.{edit_not_read}
+use Rattle.yq_outcomes.specs.Carried as spec
+use Rattle.yq_outcomes.specs.Edit.{by_reading}
+use Rattle.yq_outcomes.proofs.TextFaults.{edit_not_read}
 use Rattle.yq_carrying.proofs.carrying.carry.Goals as goal
 
 pub returns-in_err-documents : goal.returns-in_err-documents

@@ -1,7 +1,7 @@
 use Rattle.std.proofs.Common.{ap, sym, ◌∙◌, subst, eqb-true}
-use Rattle.yq_carrying.specs.Answers.{Edits}
-use Rattle.yq_carrying.specs.Edit.{behind}
-use Rattle.yq_carrying.proofs.OperationsLaws.{last_comes, others_come, others_served}
+use Rattle.yq_outcomes.specs.Answers.{Edits}
+use Rattle.yq_outcomes.specs.Edit.{behind}
+use Rattle.yq_outcomes.proofs.OperationsLaws.{last_comes, others_come, others_served}
 use Rattle.yq_carrying.proofs.carrying.carry_all.Goals as goal
 
 pub operations-preserved : goal.operations-preserved

@@ -1,9 +1,9 @@
 use Rattle.std.proofs.Common.{◌≡◌, length}
 use Rattle.std.specs.String.{string_bytes}
 use Rattle.yq_meaning.specs.Operations.{operations_of}
-use Rattle.yq_carrying.specs.Carried.{carry_all}
-use Rattle.yq_carrying.specs.Edit.{behind}
-use Rattle.yq_carrying.specs.Valid.{AreServed}
+use Rattle.yq_outcomes.specs.Carried.{carry_all}
+use Rattle.yq_outcomes.specs.Edit.{behind}
+use Rattle.yq_outcomes.specs.Valid.{AreServed}
 use Rattle.yq_carrying.proofs.carrying.carry_all.Given as goal
 
 abbrev pub invariant-operations : goal.invariant-operations

@@ -3,8 +3,8 @@ use Rattle.std.specs.List.{All}
 use Rattle.yq_cut.specs.Kept.{raised, placed_rows}
 use Rattle.yq_cut.specs.declared.offsets.Offsets as declared
 use Rattle.yq_session.specs.Exchanging.{IsMovable, joined_ends}
-use Rattle.yq_session.specs.Sides.{origin}
-use Rattle.yq_session.specs.declared.sides.Side.{Side}
+use Rattle.yq_sides.specs.Sides.{origin}
+use Rattle.yq_sides.specs.declared.sides.Side.{Side}
 use Rattle.yq_session.proofs.ExchangeLaws.{ends_behind, ends_movable, exchanged, numbers, rows_movable}
 use Rattle.yq_session.proofs.exchanging.exchange.Goals as goal
 

@@ -1,6 +1,6 @@
 use Rattle.std.proofs.Common.{◌∙◌, ap, reverse}
 use Rattle.yq_cut.specs.declared.places.Places.{Places}
-use Rattle.yq_session.specs.Sides.{first_byte}
+use Rattle.yq_sides.specs.Sides.{first_byte}
 use Rattle.yq_session.proofs.ItemPlaces.{behind_in, front_in, moved_sides, placed_in}
 use Rattle.yq_session.proofs.split.move_split.Goals as goal
 

@@ -1,10 +1,10 @@
 use Rattle.std.proofs.Common.{◌≡◌, ◌∙◌, ◌++◌, ◌∷◌, [], List, ap, sym, subst, arith}
 use Rattle.std.proofs.lemmas.List.Elements.{All-push}
 use Rattle.std.specs.List.{All}
-use Rattle.yq_session.specs.Sides.{both_sides}
+use Rattle.yq_sides.specs.Sides.{both_sides}
 use Rattle.yq_cut.specs.declared.offsets.Offsets as declared
 use Rattle.yq_session.proofs.PassingLaws.{all_popped, passed_behind, popped}
-use Rattle.yq_session.proofs.SplitLaws.{Within}
+use Rattle.yq_sides.proofs.SplitLaws.{Within}
 use Rattle.yq_session.proofs.split.to_behind.Goals as goal
 
 pub rows-preserved : goal.rows-preserved

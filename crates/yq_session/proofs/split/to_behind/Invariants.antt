@@ -1,6 +1,6 @@
 use Rattle.std.proofs.Common.{◌≡◌, ◌≤◌, length}
 use Rattle.std.specs.List.{All}
-use Rattle.yq_session.specs.Sides.{both_sides}
+use Rattle.yq_sides.specs.Sides.{both_sides}
 use Rattle.yq_session.proofs.split.to_behind.Given as goal
 
 abbrev pub invariant-rows : goal.invariant-rows

@@ -1,8 +1,8 @@
 use Rattle.std.proofs.Common.{◌≡◌, ◌<◌, ◌∙◌, ◌++◌, ◌∷◌, [], List, ap, sym, subst, arith}
 use Rattle.yq_cut.specs.declared.offsets.Offsets as declared
-use Rattle.yq_session.specs.Sides.{LastBefore, both_sides}
+use Rattle.yq_sides.specs.Sides.{LastBefore, both_sides}
 use Rattle.yq_session.proofs.PassingLaws.{all_popped, last_pushed, passed_front, popped}
-use Rattle.yq_session.proofs.SplitLaws.{Within}
+use Rattle.yq_sides.proofs.SplitLaws.{Within}
 use Rattle.yq_session.proofs.split.to_front.Goals as goal
 
 pub rows-preserved : goal.rows-preserved

@@ -6,12 +6,12 @@ use Rattle.yq_documents.specs.Reading.{cut_of, documents, read_at}
 use Rattle.yq_meaning.specs.Operations.{Operation, operations_of}
 use Rattle.yq_meaning.specs.declared.op.Op.{Op}
 use Rattle.yq_program.specs.View.{program_of}
-use Rattle.yq_carrying.specs.Answers.{Edits}
-use Rattle.yq_carrying.specs.Carried.{carry_all}
-use Rattle.yq_carrying.specs.Edit.{behind}
-use Rattle.yq_carrying.specs.Valid.{AreServed, HaveOperands}
-use Rattle.yq_carrying.proofs.MeaningLaws.{plan_serves}
-use Rattle.yq_carrying.proofs.UpdateLaws.{update_not_read, update_unplanned, update_planned, update_holds, update_there, update_ok, update_err}
+use Rattle.yq_outcomes.specs.Answers.{Edits}
+use Rattle.yq_outcomes.specs.Carried.{carry_all}
+use Rattle.yq_outcomes.specs.Edit.{behind}
+use Rattle.yq_outcomes.specs.Valid.{AreServed, HaveOperands}
+use Rattle.yq_outcomes.proofs.MeaningLaws.{plan_serves}
+use Rattle.yq_outcomes.proofs.UpdateLaws.{update_not_read, update_unplanned, update_planned, update_holds, update_there, update_ok, update_err}
 use Rattle.yq_splice.proofs.editing.step.Goals as goal
 
 pub returns-in_err-documents-clause-err : goal.returns-in_err-documents-clause-err

@@ -3,10 +3,10 @@ use Rattle.std.proofs.lemmas.Result.{err_from_is_err_and}
 use Rattle.yq_text.specs.Split.{joined}
 use Rattle.yq_meaning.specs.Operations.{operation_of}
 use Rattle.yq_session.specs.Following.{CountsWritten, Follows, exchanged}
-use Rattle.yq_carrying.specs.Edit.{gives}
+use Rattle.yq_outcomes.specs.Edit.{gives}
 use Rattle.yq_carrying.specs.Session.{SessionState, HasPlaces, KnowsItems}
-use Rattle.yq_carrying.specs.Theorems.{IsApplied}
-use Rattle.yq_carrying.proofs.ApplyLaws.{refused_by}
+use Rattle.yq_outcomes.specs.Theorems.{IsApplied}
+use Rattle.yq_outcomes.proofs.ApplyLaws.{refused_by}
 use Rattle.yq_carrying.proofs.FollowLaws.{applied_none, applied_some, carried_none, carried_some, follows, kept_after, no_splices, scans, some_splices}
 use Rattle.yq_carrying.proofs.SessionLaws.{known_here, places_stay}
 use Rattle.yq_carrying.proofs.session.Session.apply.Goals as goal

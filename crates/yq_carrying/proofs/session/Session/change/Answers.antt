@@ -4,11 +4,11 @@ use Rattle.yq_documents.specs.Reading.{cut_of}
 use Rattle.yq_meaning.specs.Operations.{operation_of}
 use Rattle.yq_script.specs.Changing.{IsChange}
 use Rattle.yq_row_places.specs.RowWalk.{StayKnown}
-use Rattle.yq_carrying.specs.Answers.{EditFails}
-use Rattle.yq_carrying.specs.Carried.{carried}
-use Rattle.yq_carrying.specs.Edit.{Edit}
+use Rattle.yq_outcomes.specs.Answers.{EditFails}
+use Rattle.yq_outcomes.specs.Carried.{carried}
+use Rattle.yq_outcomes.specs.Edit.{Edit}
 use Rattle.yq_carrying.specs.Session.{SessionState, HasPlaces, KnowsItems}
-use Rattle.yq_carrying.specs.Valid.{segments_by}
+use Rattle.yq_outcomes.specs.Valid.{segments_by}
 use Rattle.yq_carrying.proofs.SessionLaws.{carried_on, cut_borrowed, known_borrowed, moved_same, places_back, places_borrowed, split_is, split_borrowed, whole_borrowed}
 use Rattle.yq_carrying.proofs.session.Session.change.Goals as goal
 

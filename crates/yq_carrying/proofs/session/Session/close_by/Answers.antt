@@ -2,11 +2,11 @@ use Rattle.std.proofs.Common.{string_bytes, sym, ap, ◌∙◌, subst}
 use Rattle.std.proofs.lemmas.Result.{err_from_is_err_and}
 use Rattle.yq_text.specs.Split.{joined}
 use Rattle.yq_meaning.specs.Operations.{operation_of}
-use Rattle.yq_carrying.specs.Answers.{EditFails}
-use Rattle.yq_carrying.specs.Carried.{carried}
-use Rattle.yq_carrying.specs.Edit.{behind, gives}
+use Rattle.yq_outcomes.specs.Answers.{EditFails}
+use Rattle.yq_outcomes.specs.Carried.{carried}
+use Rattle.yq_outcomes.specs.Edit.{behind, gives}
 use Rattle.yq_carrying.specs.Session.{SessionState}
-use Rattle.yq_carrying.proofs.OrderLaws.{fails_behind}
+use Rattle.yq_outcomes.proofs.OrderLaws.{fails_behind}
 use Rattle.yq_carrying.proofs.SessionLaws.{carried_on, cut_borrowed, known_borrowed, places_borrowed, split_is, split_borrowed, whole_borrowed}
 use Rattle.yq_carrying.proofs.session.Session.close_by.Goals as goal
 

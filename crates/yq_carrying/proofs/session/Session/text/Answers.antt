@@ -1,6 +1,6 @@
 use Rattle.std.proofs.Common.{subst}
 use Rattle.yq_carrying.specs.Session.{SessionState}
-use Rattle.yq_carrying.specs.Theorems.{HasReading}
+use Rattle.yq_outcomes.specs.Theorems.{HasReading}
 use Rattle.yq_carrying.proofs.SessionLaws.{has_reading}
 use Rattle.yq_carrying.proofs.session.Session.text.Goals as goal
 

@@ -1,7 +1,0 @@
-use Rattle.std.proofs.Common.{List, ℕ, subst}
-use Rattle.yq_documents.specs.Reading.{cut_of}
-use Rattle.yq_row_places.specs.RowWalk.{StayKnown}
-use Rattle.yq_carrying.proofs.carrying.change_one.Goals as goal
-
-pub returns-clause-known : goal.returns-clause-known
-returns-clause-known c = subst (λ (x : List ℕ). StayKnown c.in_ok-changed.changed.front (cut_of x) c.known_in_front-known.result) c.on_the_way-cut.ensures c.known_in_front-known.ensures

@@ -1,0 +1,43 @@
+//! One operation carried out on a text with its cut.
+ghost use Rattle.std.specs.Prelude.{IfErr, IfOk};
+ghost use Rattle.yq_meaning.specs.Operations.{operation_of};
+ghost use Rattle.yq_documents.specs.Reading.{cut_of};
+ghost use Rattle.yq_script.specs.Changing.{IsChange};
+ghost use Rattle.yq_row_places.specs.RowWalk.{StayKnown};
+ghost use Rattle.yq_outcomes.specs.Answers.{Edits, EditFails};
+ghost use Rattle.yq_outcomes.specs.Carried as spec;
+ghost use Rattle.yq_outcomes.specs.Valid.{segments_by};
+
+use std::alloc::Global;
+use yq_meaning::Op;
+use yq_op_segments::{change, op_segments};
+use yq_outcomes::{EditError, on_the_way};
+use yq_places::CutText;
+use yq_row_lines::KnownItems;
+use yq_script::{Changed, Edited, exchange};
+
+/// What an operation changes in a text with its cut, and what is known behind it of its way.
+pub fn change_one<'d>(
+    alloc: Global,
+    cut: &CutText<'d, '_>,
+    op: &'d Op,
+) -> Result<(Changed, KnownItems), EditError>
+    ensures ok { IfOk result (λ x. IsChange (segments_by (operation_of op.now) (cut_of cut.now))
+        x.0) }
+    ensures known { IfOk result (λ x. StayKnown x.0.front (cut_of cut.now) x.1) }
+    ensures err { IfErr result (λ e. EditFails e (spec.carry_one (operation_of op.now)
+        (cut_of cut.now))) }
+{
+    let cut = on_the_way(cut, op);
+    let changed = change(alloc, &cut, op)?;
+    let known = cut.known_in_front(changed.front);
+    Ok((changed, known))
+}
+
+/// An operation carried out on a text with its cut.
+pub fn carry_one<'d>(alloc: Global, cut: &CutText<'d, '_>, op: &'d Op) -> Result<Edited, EditError>
+    ensures { Edits result (spec.carry_one (operation_of op.now) (cut_of cut.now)) }
+{
+    let segments = op_segments(alloc, &on_the_way(cut, op), op)?;
+    Ok(exchange(alloc, &segments)?)
+}

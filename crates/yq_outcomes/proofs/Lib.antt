@@ -1,0 +1,12 @@
+pub mod TextFaults
+pub mod OrderLaws
+pub mod ApplyLaws
+pub mod ServeLaws
+pub mod MeaningLaws
+pub mod UpdateLaws
+pub mod OperationsLaws
+pub mod CarryOutLaws
+pub mod FittingExists
+pub mod EditsHold
+pub mod RemoveExists
+pub mod PrintedDocuments

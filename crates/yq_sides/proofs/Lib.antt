@@ -1,0 +1,5 @@
+pub mod SplitLaws
+pub mod BeginLaws
+pub mod CountLaws
+pub mod SideLaws
+pub mod BackLaws
