@@ -1,3 +1,2 @@
 pub mod AskedLaws
-pub mod ClosedLaws
 pub mod PlacedValueLaws

@@ -24,7 +24,8 @@ fn step_for(cut: &CutText<'_, '_>, doc: usize, keyed: bool, dashes: bool, value:
 /// How block style looks in document `doc`, as far as a value asks for it, which is put under a key, or
 /// elsewhere: with the text's first break, and that document's steps, in columns.
 pub(crate) fn layout_for(cut: &CutText<'_, '_>, doc: usize, keyed: bool, value: &Value) -> Layout
-    ensures { spec.LooksLike keyed (node_of value.now) result (spec.layout_of doc (cut_of cut.now)) }
+    ensures { spec.LooksLike keyed (node_of value.now) result
+        (spec.layout_of doc (cut_of cut.now)) }
 {
     Layout {
         br: cut.first_break(),

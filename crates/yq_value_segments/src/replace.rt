@@ -15,15 +15,14 @@ ghost use Rattle.yq_edits.specs.Answers.{GivesSegments};
 
 mod block;
 mod held;
-mod lone;
 
 use crate::layout::layout_for;
 use block::block_scalar_put;
 use held::{beside_put, compact_put, text_put, under_put};
-use lone::{lone_put, no_rows_put, root_put};
 use std::alloc::{AllocError, Global};
 use yq_block::{Layout, is_filled};
 use yq_documents::Path;
+use yq_lone_segments::{lone_put, no_rows_put, root_put};
 use yq_nodes::Value;
 use yq_places::CutText;
 use yq_row_places::Standing;
