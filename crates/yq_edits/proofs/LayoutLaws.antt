@@ -1,23 +1,24 @@
 -- The steps of a document's layout.
-use Rattle.std.proofs.Common.{◌≡◌, ℕ, ◌-◌, ◌≤◌, not, true, false, List, [], ◌∷◌, Option, Some, None, arith, rules}
-use Rattle.std.proofs.lemmas.Bool.{false≢true, ltb-true, and_parts}
+use Rattle.std.proofs.Common.{◌≡◌, ℕ, ◌+◌, ◌-◌, ◌≤◌, ◌&&◌, ◌||◌, not, Bool, true, false, List, [], ◌∷◌, ◌++◌, replicate, Option, Some, None, refl, ap, ◌∙◌, arith, rules}
+use Rattle.std.proofs.lemmas.Bool.{false≢true, ltb-true, and_parts, or_left, or_right}
 use Rattle.std.specs.List.{slice_get}
+use Rattle.std.specs.Option.{is_none, is_some}
 use Rattle.yq_block_scalars.specs.BlockWritten.{break_text}
 use Rattle.yq_flow_scalars.specs.Text.{is_empty}
-use Rattle.yq_flow_scalars.specs.Tree.{Node}
+use Rattle.yq_flow_scalars.specs.Tree.{Node, alias, scalar, list, map, Children, none, child}
 use Rattle.yq_nodes.specs.Nodes as inline
 use Rattle.yq_lines.specs.Outline.{Line, level}
 use Rattle.yq_cut.specs.Rows.{Part, Cut}
 use Rattle.yq_documents.specs.Documents.{document_parts}
 use Rattle.yq_row_lines.specs.Lines.{lines_of}
 use Rattle.yq_row_places.specs.Steps.{is_kind, begins_under, first_step, steps_of_part}
-use Rattle.yq_block.specs.Alone.{alone}
-use Rattle.yq_block.specs.BlockRows.{inline_of}
-use Rattle.yq_block.specs.BlockText.{block_node, block_value}
+use Rattle.yq_block.specs.BlockReading.{is_filled}
+use Rattle.yq_block.specs.BlockRows.{block_key, column_below, indent_step, inline_of}
+use Rattle.yq_block.specs.BlockText.{block_children, block_entry, block_node, block_value, inline_or, then_lines}
 use Rattle.yq_block.specs.declared.layout.Layout.{Layout}
 use Rattle.yq_edits.specs.ClosedTexts.{lines_put_behind}
 use Rattle.yq_edits.specs.EntryEdits.{entry_lines, more_lines}
-use Rattle.yq_edits.specs.Layouts.{LooksLike, layout_of}
+use Rattle.yq_edits.specs.Layouts.{LooksLike, ask_step, asks_step, is_filled_as, layout_of, step_of}
 
 -- a key that stands deeper than another one is in a later column
 key_step : (l m : Line) → begins_under (is_kind false) l m ≡ true → 1 ≤ m.column - l.column
@@ -37,20 +38,79 @@ steps_least (Some p) = step_least (lines_of p.rows)
 pub mapping_least : (n : ℕ) (c : Cut) → 1 ≤ (layout_of n c).mapping
 mapping_least n c = steps_least (slice_get (document_parts c) n)
 
--- ---- what is written of a value that asks for no steps
+-- ---- what is written of a value by a look that is like another one as far as the value asks for it
 
--- an item or entry
-inline_alone : (l k : Layout) (column : ℕ) (key : Option (List ℕ)) (v : Node) (node : inline.Node) → inline_of v ≡ Some node → block_value l column (alone key v) ≡ block_value k column (alone key v)
-unfolding block_node
-inline_alone l k column key v node is = search rules
+module _ (l k : Layout) where
+  -- the steps for which a test asks
+  abbrev SameSteps : (Bool → Bool) → Type 0
+  SameSteps asks = (dashes : Bool) → asks dashes ≡ true → step_of dashes l ≡ step_of dashes k
 
-entry_like : (v : Node) (l k : Layout) (column : ℕ) (key : Option (List ℕ)) → LooksLike v l k → entry_lines l column key v ≡ entry_lines k column key v
-entry_like v l k column key h = search (rules, inline_alone)
+  -- by how many columns a collection stands deeper than its key
+  pub indent_like : (v : Node) → SameSteps (λ dashes. is_filled_as dashes v) → is_filled v ≡ true → indent_step l v ≡ indent_step k v
+  indent_like (alias name) h filled = refl
+  indent_like (scalar a kind text) h filled = refl
+  indent_like (list a none) h filled = absurd (false≢true filled)
+  indent_like (list a (child label n cs)) h filled = h true refl
+  indent_like (map a none) h filled = absurd (false≢true filled)
+  indent_like (map a (child label n cs)) h filled = h false refl
 
--- one more item or entry
-pub more_like : (v : Node) (l k : Layout) (key : Option (List ℕ)) (column : ℕ) (last : List ℕ) → LooksLike v l k → more_lines l key v column last ≡ more_lines k key v column last
-more_like v l k key column last h = λ i. lines_put_behind (not (is_empty last)) (break_text (h.0 i)) (entry_like v l k column key h i)
+  columns_like : (column : ℕ) (key : Option (List ℕ)) (v : Node) → SameSteps (λ dashes. is_some key && is_filled_as dashes v) → is_filled v ≡ true →
+      column_below l column key v ≡ column_below k column key v
+  columns_like column None v h filled = refl
+  columns_like column (Some x) v h filled = ap (λ d. column + d) (indent_like v h filled)
+
+  module _ (same : l.br ≡ k.br) where
+    -- an item or entry by its columns, and lines behind it
+    entry_by : (a b : ℕ) (key : Option (List ℕ)) (node : Option inline.Node) (t u : List ℕ) → (is_none node ≡ true → a ≡ b) → (is_none node ≡ true → t ≡ u) →
+        block_entry l a key node t ≡ block_entry k b key node u
+    entry_by a b (Some x) (Some node) t u columns texts = refl
+    entry_by a b (Some x) None t u columns texts = λ i. block_key x ++ (58 ∷ (break_text (same i) ++ (replicate (columns refl i) 32 ++ texts refl i)))
+    entry_by a b None (Some node) t u columns texts = refl
+    entry_by a b None None t u columns texts = ap (λ (x : List ℕ). 45 ∷ 32 ∷ x) (texts refl)
+
+    then_like : (column : ℕ) (cs : Children) (t u : List ℕ) → t ≡ u → then_lines l column cs t ≡ then_lines k column cs u
+    then_like column none t u e = refl
+    then_like column (child label n cs) t u e = λ i. break_text (same i) ++ (replicate column 32 ++ e i)
+
+    one_like : (column : ℕ) (key : Option (List ℕ)) (v : Node) → SameSteps (λ dashes. is_some key && is_filled_as dashes v) → ((at : ℕ) → block_node l at v ≡ block_node k at v) →
+        block_entry l (column_below l column key v) key (inline_of v) (block_node l (column_below l column key v) v)
+        ≡ block_entry k (column_below k column key v) key (inline_of v) (block_node k (column_below k column key v) v)
+    one_like column key v h below =
+        let a : ℕ = column_below l column key v in
+        entry_by a (column_below k column key v) key (inline_of v) (block_node l a v) (block_node k (column_below k column key v) v) (columns_like column key v h)
+        (λ filled. below a ∙ ap (λ (at : ℕ). block_node k at v) (columns_like column key v h filled))
+
+    mutual
+      unfolding block_node block_children asks_step ask_step
+
+      pub node_like : (column : ℕ) (v : Node) → SameSteps (λ dashes. asks_step dashes v) → block_node l column v ≡ block_node k column v
+      node_like column (alias name) h = refl
+      node_like column (scalar a kind text) h = refl
+      node_like column (list a cs) h = children_like column cs h
+      node_like column (map a cs) h = children_like column cs h
+
+      children_like : (column : ℕ) (cs : Children) → SameSteps (λ dashes. ask_step dashes cs) → block_children l column cs ≡ block_children k column cs
+      children_like column none h = refl
+      children_like column (child label n cs) h = λ i.
+          one_like column label.key n
+          (λ dashes e. h dashes (or_left (is_some label.key && is_filled_as dashes n) (asks_step dashes n || ask_step dashes cs) e))
+          (λ at. node_like at n (λ dashes e. h dashes (or_right (is_some label.key && is_filled_as dashes n) _ (or_left (asks_step dashes n) (ask_step dashes cs) e)))) i
+          ++ then_like column cs _ _ (children_like column cs (λ dashes e. h dashes (or_right (is_some label.key && is_filled_as dashes n) _ (or_right (asks_step dashes n) (ask_step dashes cs) e)))) i
 
 -- a value
-pub value_like : (v : Node) (l k : Layout) (column : ℕ) → LooksLike v l k → block_value l column v ≡ block_value k column v
-value_like v l k column h = search rules
+pub value_like : (keyed : Bool) (v : Node) (l k : Layout) (column : ℕ) → LooksLike keyed v l k → block_value l column v ≡ block_value k column v
+value_like keyed v l k column h = ap (inline_or (inline_of v)) (node_like l k h.0 column v (λ dashes e. h.1 dashes (or_right (keyed && is_filled_as dashes v) (asks_step dashes v) e)))
+
+-- an item or entry
+entry_like : (key : Option (List ℕ)) (v : Node) (l k : Layout) (column : ℕ) → LooksLike (is_some key) v l k → entry_lines l column key v ≡ entry_lines k column key v
+unfolding block_node block_children
+entry_like None v l k column h =
+    ap (λ (t : List ℕ). replicate column 32 ++ (t ++ [])) (one_like l k h.0 column None v (λ dashes e. absurd (false≢true e)) (λ at. node_like l k h.0 at v h.1))
+entry_like (Some x) v l k column h =
+    let under : SameSteps l k (λ dashes. is_filled_as dashes v) = λ dashes e. h.1 dashes (or_left (is_filled_as dashes v) (asks_step dashes v) e) in
+    let inside : SameSteps l k (λ dashes. asks_step dashes v) = λ dashes e. h.1 dashes (or_right (is_filled_as dashes v) (asks_step dashes v) e) in
+    ap (λ (t : List ℕ). replicate column 32 ++ (t ++ [])) (one_like l k h.0 column (Some x) v under (λ at. node_like l k h.0 at v inside))
+
+-- one more item or entry
+pub more_like : (key : Option (List ℕ)) (v : Node) (l k : Layout) (column : ℕ) (last : List ℕ) → LooksLike (is_some key) v l k → more_lines l key v column last ≡ more_lines k key v column last
+more_like key v l k column last h = λ i. lines_put_behind (not (is_empty last)) (break_text (h.0 i)) (entry_like key v l k column h i)

@@ -1,9 +1,11 @@
 -- How block style looks in a document of a text (own).
-use Rattle.std.specs.Prelude.{◌≡◌, ℕ, true}
-use Rattle.yq_flow_scalars.specs.Tree.{Node}
+use Rattle.std.specs.Prelude.{◌≡◌, ℕ, ◌&&◌, ◌||◌, not, Bool, true, false, if◌then◌else◌}
+use Rattle.std.specs.Option.{is_some}
+use Rattle.yq_flow_scalars.specs.Tree.{Node, alias, scalar, list, map, Children, none, child}
 use Rattle.yq_cut.specs.Rows.{Cut, cut_text}
 use Rattle.yq_row_places.specs.FirstBreak.{first_break}
 use Rattle.yq_row_places.specs.Steps.{document_steps}
+use Rattle.yq_row_places.specs.Standings.{Standing, alone, beside, under, compact, block, root, no_rows}
 use Rattle.yq_block.specs.BlockReading.{is_filled}
 use Rattle.yq_block.specs.declared.layout.Layout.{Layout}
 
@@ -11,6 +13,44 @@ use Rattle.yq_block.specs.declared.layout.Layout.{Layout}
 abbrev pub layout_of : ℕ → Cut → Layout
 layout_of n c = record { br = first_break (cut_text c); mapping = (document_steps n c).mapping; sequence = (document_steps n c).sequence }
 
--- a look of block style is this one as far as a value asks for it: its break, and, where the value holds items or entries, its steps (own)
-abbrev pub LooksLike : Node → Layout → Layout → Type 0
-LooksLike v l k = (l.br ≡ k.br) × (is_filled v ≡ true → l ≡ k)
+-- by how many columns a sequence, or a mapping, stands deeper than its key (own)
+abbrev pub step_of : (dashes : Bool) → Layout → ℕ
+step_of dashes l = if dashes then l.sequence else l.mapping
+
+-- whether a node is a sequence, or a mapping, with items or entries, as the flag asks (own)
+abbrev pub is_filled_as : (dashes : Bool) → Node → Bool
+is_filled_as dashes (alias name) = false
+is_filled_as dashes (scalar a kind text) = false
+is_filled_as dashes (list a cs) = dashes && is_filled (list a cs)
+is_filled_as dashes (map a cs) = not dashes && is_filled (map a cs)
+
+unfoldable mutual
+  -- whether such a collection stands under a key in a node (own)
+  pub asks_step : (dashes : Bool) → Node → Bool
+  asks_step dashes (alias name) = false
+  asks_step dashes (scalar a kind text) = false
+  asks_step dashes (list a cs) = ask_step dashes cs
+  asks_step dashes (map a cs) = ask_step dashes cs
+
+  -- whether one of them is such a collection under its key, or has one in it (own)
+  pub ask_step : (dashes : Bool) → Children → Bool
+  ask_step dashes none = false
+  ask_step dashes (child label n cs) = (is_some label.key && is_filled_as dashes n) || (asks_step dashes n || ask_step dashes cs)
+
+-- whether a key holds what stands there (8.2.2)
+abbrev pub is_keyed : Standing → Bool
+is_keyed (alone w) = false
+is_keyed (beside h) = h.mark.keyed
+is_keyed (under h column) = h.mark.keyed
+is_keyed (compact p) = p.mark.keyed
+is_keyed (block h indent) = h.mark.keyed
+is_keyed (root w) = false
+is_keyed (no_rows w) = false
+
+-- whether a value asks for the step of such collections, where it is put under a key, or elsewhere (own)
+abbrev pub is_asked : (keyed dashes : Bool) → Node → Bool
+is_asked keyed dashes v = (keyed && is_filled_as dashes v) || asks_step dashes v
+
+-- a look of block style is this one as far as a value asks for it, under a key or elsewhere: its break, and the steps that are asked (own)
+abbrev pub LooksLike : (keyed : Bool) → Node → Layout → Layout → Type 0
+LooksLike keyed v l k = (l.br ≡ k.br) × ((dashes : Bool) → is_asked keyed dashes v ≡ true → step_of dashes l ≡ step_of dashes k)

@@ -1,2 +1,2 @@
-pub mod ClosedLaws
+pub mod AskedLaws
 pub mod PlacedValueLaws

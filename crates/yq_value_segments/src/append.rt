@@ -77,7 +77,7 @@ fn more_lines(
         (layouts.layout_of doc (cut_of cut.now)) (borrowed key.entry)
         (node_of value.now) column last.now) }
 {
-    let layout = layout_for(cut, doc, value);
+    let layout = layout_for(cut, doc, key.is_some(), value);
     entry_text(alloc, &layout, key, value, column, last)
 }
 

@@ -1,37 +1,35 @@
 //! How block style looks in documents.
-ghost use Rattle.std.specs.Prelude.{◌≡◌};
+ghost use Rattle.std.specs.Prelude.{◌≡◌, true};
 ghost use Rattle.yq_nodes.specs.Values.{node_of};
 ghost use Rattle.yq_documents.specs.Reading.{cut_of};
 ghost use Rattle.yq_edits.specs.Layouts as spec;
 
-use yq_block::{Layout, is_filled};
+use crate::asked::is_asked;
+use yq_block::Layout;
 use yq_nodes::Value;
 use yq_places::CutText;
 
-/// How block style looks in document `doc`: with the text's first break, and that document's steps,
-/// in columns.
-fn layout_of(cut: &CutText<'_, '_>, doc: usize) -> Layout
-    ensures { result ≡ spec.layout_of doc (cut_of cut.now) }
+/// By how many columns sequences, or mappings, stand deeper than their keys in document `doc`, if a value
+/// asks for it, since all rows of the document may be looked at.
+fn step_for(cut: &CutText<'_, '_>, doc: usize, keyed: bool, dashes: bool, value: &Value) -> usize
+    ensures { spec.is_asked keyed dashes (node_of value.now) ≡ true →
+        result ≡ spec.step_of dashes (spec.layout_of doc (cut_of cut.now)) }
 {
-    let steps = cut.steps(doc);
-    Layout {
-        br: cut.first_break(),
-        mapping: steps.mapping,
-        sequence: steps.sequence,
+    if is_asked(keyed, dashes, value) {
+        return cut.step(doc, dashes);
     }
+    0
 }
 
-/// The same as far as a value asks for it: the steps, for which all rows of the document may be looked
-/// at, only where it holds items or entries.
-pub(crate) fn layout_for(cut: &CutText<'_, '_>, doc: usize, value: &Value) -> Layout
-    ensures { spec.LooksLike (node_of value.now) result (spec.layout_of doc (cut_of cut.now)) }
+/// How block style looks in document `doc`, as far as a value asks for it, which is put under a key, or
+/// elsewhere: with the text's first break, and that document's steps, in columns.
+pub(crate) fn layout_for(cut: &CutText<'_, '_>, doc: usize, keyed: bool, value: &Value) -> Layout
+    ensures { spec.LooksLike keyed (node_of value.now) result
+        (spec.layout_of doc (cut_of cut.now)) }
 {
-    if is_filled(value) {
-        return layout_of(cut, doc);
-    }
     Layout {
         br: cut.first_break(),
-        mapping: 0,
-        sequence: 0,
+        mapping: step_for(cut, doc, keyed, false, value),
+        sequence: step_for(cut, doc, keyed, true, value),
     }
 }

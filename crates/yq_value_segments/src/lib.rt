@@ -3,6 +3,7 @@
 #![tactic(auto)]
 
 mod append;
+mod asked;
 mod layout;
 mod replace;
 

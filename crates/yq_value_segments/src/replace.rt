@@ -9,20 +9,20 @@ ghost use Rattle.yq_documents.specs.Reading.{cut_of};
 ghost use Rattle.yq_row_places.specs.NodesAt.{node_in};
 ghost use Rattle.yq_row_places.specs.StandingViews.{standing_view};
 ghost use Rattle.yq_block.specs.declared.layout.Layout.{Layout as LayoutOf};
+ghost use Rattle.yq_edits.specs.Layouts as layouts;
 ghost use Rattle.yq_edits.specs.ReplaceEdits as spec;
 ghost use Rattle.yq_edits.specs.Answers.{GivesSegments};
 
 mod block;
 mod held;
-mod lone;
 
 use crate::layout::layout_for;
 use block::block_scalar_put;
 use held::{beside_put, compact_put, text_put, under_put};
-use lone::{lone_put, no_rows_put, root_put};
 use std::alloc::{AllocError, Global};
 use yq_block::{Layout, is_filled};
 use yq_documents::Path;
+use yq_lone_segments::{lone_put, no_rows_put, root_put};
 use yq_nodes::Value;
 use yq_places::CutText;
 use yq_row_places::Standing;
@@ -96,12 +96,24 @@ fn text_there(
     }
 }
 
+/// Whether a key holds what stands there.
+fn is_keyed(standing: &Standing<'_>) -> bool
+    ensures { result ≡ layouts.is_keyed (standing_view standing.now) }
+{
+    match standing {
+        Standing::Beside(held) => held.mark.keyed,
+        Standing::Under(held, _) => held.mark.keyed,
+        Standing::Block(held, _) => held.mark.keyed,
+        Standing::Compact(compact) => compact.mark.keyed,
+        Standing::Alone(_) | Standing::Root(_) | Standing::NoRows(_) => false,
+    }
+}
+
 /// A value in the place of what stands at a path; `None` where nothing stands there outside flow
 /// collections.
 ///
 /// # Errors
 /// [`AllocError`] where memory is refused.
-#[tactic(auto, using(crate::proofs::PlacedValueLaws::placed_there))]
 pub fn value_put_at<'t>(
     alloc: Global,
     cut: &CutText<'_, 't>,
@@ -119,7 +131,7 @@ pub fn value_put_at<'t>(
     {
         return Ok(Some(text_put(alloc, held, value)?));
     }
-    let layout = layout_for(cut, path.doc, value);
+    let layout = layout_for(cut, path.doc, is_keyed(&standing), value);
     let text = text_there(alloc, cut, path, &standing)?;
     Ok(Some(value_put(alloc, text, &layout, value, &standing)?))
 }

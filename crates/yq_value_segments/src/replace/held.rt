@@ -14,20 +14,11 @@ use std::alloc::{AllocError, Global};
 use yq_block::{Layout, is_filled};
 use yq_edits::{behind_space, break_and_lines, compact_text, takes_compact, value_text};
 use yq_flow_scalars::Place;
+use yq_lone_segments::apart;
 use yq_nodes::Value;
 use yq_row_places::{Compact, Held};
 use yq_script::{Segment, Segments};
 use yq_text::Halves;
-
-/// A text as it is put in the place of another: behind a space, where none is there.
-pub(crate) fn apart(alloc: Global, old: &str, new: String) -> Result<String, AllocError>
-    ensures { IfOk result (λ s. string_bytes s ≡ spec.apart old.now (string_bytes new)) }
-{
-    if old.is_empty() {
-        return behind_space(alloc, &new);
-    }
-    Ok(new)
-}
 
 /// A text on one line in the place of the head; lines below go.
 pub(crate) fn put_inline<'t>(

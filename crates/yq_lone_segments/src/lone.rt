@@ -8,7 +8,7 @@ ghost use Rattle.yq_block.specs.BlockText.{block_value};
 ghost use Rattle.yq_edits.specs.ClosedTexts as closed;
 ghost use Rattle.yq_edits.specs.ReplaceEdits as spec;
 
-use crate::replace::held::apart;
+use crate::space::apart;
 use std::alloc::{AllocError, Global};
 use yq_block::{Layout, push_block};
 use yq_edits::value_text;
@@ -20,7 +20,10 @@ use yq_script::{Segment, Segments};
 use yq_text::Halves;
 
 /// A value in one line in the place of a node that is alone on its line.
-pub(crate) fn lone_put<'t>(
+///
+/// # Errors
+/// [`AllocError`] where memory is refused.
+pub fn lone_put<'t>(
     alloc: Global,
     lone: &Lone<'t>,
     value: &Value,
@@ -38,7 +41,10 @@ pub(crate) fn lone_put<'t>(
 }
 
 /// A value in block style in the place of a root that is a block collection.
-pub(crate) fn root_put<'t>(
+///
+/// # Errors
+/// [`AllocError`] where memory is refused.
+pub fn root_put<'t>(
     alloc: Global,
     layout: &Layout,
     root: &BlockRoot<'t>,
@@ -104,7 +110,10 @@ fn lines_behind(
 }
 
 /// A value in block style behind the gap of a document without rows.
-pub(crate) fn no_rows_put<'t>(
+///
+/// # Errors
+/// [`AllocError`] where memory is refused.
+pub fn no_rows_put<'t>(
     alloc: Global,
     layout: &Layout,
     place: &NoRows<'t>,

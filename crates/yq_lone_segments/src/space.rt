@@ -1,0 +1,19 @@
+//! A text in the place of another on a line.
+ghost use Rattle.std.specs.Prelude.{◌≡◌, IfOk, string_bytes};
+ghost use Rattle.yq_edits.specs.ReplaceEdits as spec;
+
+use std::alloc::{AllocError, Global};
+use yq_edits::behind_space;
+
+/// A text as it is put in the place of another: behind a space, where none is there.
+///
+/// # Errors
+/// [`AllocError`] where memory is refused.
+pub fn apart(alloc: Global, old: &str, new: String) -> Result<String, AllocError>
+    ensures { IfOk result (λ s. string_bytes s ≡ spec.apart old.now (string_bytes new)) }
+{
+    if old.is_empty() {
+        return behind_space(alloc, &new);
+    }
+    Ok(new)
+}

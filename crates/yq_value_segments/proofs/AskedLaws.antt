@@ -1,0 +1,18 @@
+-- Steps for which values of the code ask.
+use Rattle.std.proofs.Common.{◌≡◌, Bool, None, map, sym, ap, String, string_bytes}
+use Rattle.std.specs.declared.alloc.Global.{Global}
+use Rattle.std.specs.Prelude.{Vec}
+use Rattle.yq_flow_scalars.specs.Tree as tree
+use Rattle.yq_nodes.specs.declared.value.Value.{Value}
+use Rattle.yq_nodes.specs.declared.value.Value.TheVariants as values
+use Rattle.yq_nodes.specs.Values.{entries, entries_of, field_of, node_of}
+use Rattle.yq_nodes.proofs.WrittenLaws.{node_map, map_twice}
+use Rattle.yq_edits.specs.Layouts.{ask_step, asks_step}
+
+-- a mapping asks as its entries do
+map_node : (v : Vec (String Global × Value) Global) → node_of (values.Map v) ≡ tree.map None (entries (map field_of v.items))
+map_node v = simp (string_bytes, node_map, map_twice)
+
+pub map_asked : (dashes : Bool) (v : Vec (String Global × Value) Global) → ask_step dashes (entries_of v.items) ≡ asks_step dashes (node_of (values.Map v))
+unfolding asks_step
+map_asked dashes v = sym (ap (asks_step dashes) (map_node v))
