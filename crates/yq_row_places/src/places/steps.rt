@@ -10,15 +10,6 @@ use yq_cut::Rows;
 use yq_row_lines::{Position, Stretch};
 use yq_walk::{level_at, lines_before_mark};
 
-/// How much deeper than its key a mapping, and a sequence, stands in a document.
-#[derive(Clone, Copy)]
-pub struct Steps {
-    /// Of mappings, in columns.
-    pub mapping: usize,
-    /// Of sequences, in columns; 0 where they stand in their key's column.
-    pub sequence: usize,
-}
-
 /// Whether of two lines of these levels, one right behind the other, the first is a key and the other
 /// begins a collection under it, one of dashes or of keys.
 fn begins_under(above: usize, level: usize, dashes: bool) -> bool
