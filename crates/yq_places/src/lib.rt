@@ -10,5 +10,5 @@ pub use laws::path_laws::comments_stand;
 pub use laws::piece_laws::{contents_spell, entries_spell, pieces_exist, pieces_hold};
 pub use yq_row_places::{
     BlockRoot, Compact, FirstRemoval, FlowHead, Held, HeldRow, LinesAbove, Lone, Mark, NoRows,
-    NodeAt, Removal, Seam, Standing, Steps, collection_along, split_break,
+    NodeAt, Removal, Seam, Standing, collection_along, split_break,
 };
