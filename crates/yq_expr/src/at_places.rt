@@ -2,10 +2,9 @@
 ghost use Rattle.std.specs.Prelude.{◌≡◌, map};
 ghost use Rattle.yq_flow_scalars.specs.Tree.{Node as TreeNode};
 ghost use Rattle.yq_flow_scalars.specs.Anchors.{names_of};
-ghost use Rattle.yq_nodes.specs.Entries.{step_of as tree_step};
 ghost use Rattle.yq_document_nodes.specs.Nodes.{node_of};
 ghost use Rattle.yq_meaning.specs.Changes as spec;
-ghost use Rattle.yq_planning.specs.ChangeView.{changed_of, placed_change};
+ghost use Rattle.yq_planning.specs.ChangeView.{changed_of};
 ghost use Rattle.yq_expr.specs.EffectView.{effect_at};
 ghost use Rattle.yq_planning.specs.Indexes.{HasAliases};
 ghost use Rattle.yq_meaning.specs.Judgement.{Judges, and_then};
@@ -18,34 +17,12 @@ ghost use Rattle.yq_matching.specs.TreeScalars.{HasScalars, HaveScalars};
 use crate::effect::{Action, change_at};
 use crate::steps::path_steps;
 use std::alloc::Global;
-use yq_document_nodes::Node;
 use yq_documents::Path;
-use yq_matching::{FoundPlaces, NodePath, Place};
+use yq_matching::{FoundPlaces, Place};
 use yq_meaning::ExprError;
-use yq_nodes::Step as TreeStep;
-use yq_planning::{Aliases, Change, Changed, allow};
+use yq_placed_changes::push_change;
+use yq_planning::{Aliases, Changed};
 use yq_tree::{CutText, Documents};
-
-/// Puts a change of a place's node behind others, if nothing refuses it.
-fn push_change(
-    alloc: Global,
-    aliases: &Aliases<'_>,
-    place: Place<'_, '_>,
-    path: Vec<TreeStep>,
-    change: Change,
-    changes: &mut Vec<Changed>,
-) -> Result<(), ExprError>
-    requires { map tree_step path.items ≡ path_of place.path }
-    ensures { (root : TreeNode) → HasAliases (names_of root) aliases.now →
-        IsIn root (place_of place.entry) →
-        Judges (λ _. map changed_of changes.new.items) result
-        (put_behind (map changed_of changes.old.items)
-        (spec.all_allowed root (placed_change (place_of place.entry) change))) }
-{
-    allow(alloc, aliases, place.node, path.len(), &change)?;
-    changes.push(Changed { path, change })?;
-    Ok(())
-}
 
 /// Puts what is changed at a place behind other changes.
 fn push_effect<'a, 't>(
@@ -54,16 +31,16 @@ fn push_effect<'a, 't>(
     doc: usize,
     aliases: &Aliases<'_>,
     effect: Action<'a, '_>,
-    place: Place<'a, 't>,
+    place: &Place<'a, 't>,
     changes: &mut Vec<Changed>,
 ) -> Result<(), ExprError>
-    requires { HasScalars (place_of place).node }
+    requires { HasScalars (place_of place.now).node }
     ensures same { cut.new ≡ cut.old }
     ensures change { (root : TreeNode) → HasAliases (names_of root) aliases.now →
-        IsIn root (place_of place.entry) →
+        IsIn root (place_of place.now) →
         Judges (λ _. map changed_of changes.new.items) result
         (put_behind (map changed_of changes.old.items) (and_then (spec.all_allowed root)
-        (effect_at doc (room_of cut.old doc) effect.entry (place_of place.entry)))) }
+        (effect_at doc (room_of cut.old doc) effect.entry (place_of place.now)))) }
 {
     let path = Path {
         doc,
@@ -94,39 +71,38 @@ fn at_each<'a, 't>(
     let mut changes = Vec::new(alloc);
     let mut cut = documents.cut();
     'places: for place in places {
-        push_effect(alloc, &mut cut, doc, aliases, effect, *place, &mut changes)?;
+        push_effect(alloc, &mut cut, doc, aliases, effect, place, &mut changes)?;
     }
     Ok(changes)
 }
 
-/// What is changed at the places of all items or values of the node at a path.
+/// What is changed at the places of all items or values of the node at a place.
 fn at_children<'a, 't>(
     alloc: Global,
     documents: &Documents<'_>,
     doc: usize,
     aliases: &Aliases<'_>,
     effect: Action<'a, '_>,
-    path: &'a NodePath<'a>,
-    node: Node<'a, 't>,
+    parent: &'a Place<'a, 't>,
 ) -> Result<Vec<Changed>, ExprError>
-    requires { HaveScalars (child_places (path_of path.now) (node_of node)) }
+    requires { HaveScalars (child_places (path_of parent.now.path) (node_of parent.now.node)) }
     ensures { (root : TreeNode) → HasAliases (names_of root) aliases.now →
-        AreIn root (child_places (path_of path.now) (node_of node.entry)) →
+        AreIn root (child_places (path_of parent.now.path) (node_of parent.now.node)) →
         Judges (λ v. map changed_of v.items) result
         (spec.at_each root (effect_at doc (room_of documents.now doc) effect.entry)
-        (child_places (path_of path.now) (node_of node.entry))) }
+        (child_places (path_of parent.now.path) (node_of parent.now.node))) }
 {
-    let count = node.count();
+    let count = parent.node.count();
     let mut changes = Vec::with_capacity(alloc, count)?;
     let mut cut = documents.cut();
-    let mut children = node.children();
+    let mut children = parent.node.children();
     let mut before = 0;
     'children: while before < count {
         let Some(child) = children.next() else {
             return Ok(changes);
         };
-        let place = Place::nth_below(path, before, child);
-        push_effect(alloc, &mut cut, doc, aliases, effect, place, &mut changes)?;
+        let place = Place::nth_below(&parent.path, before, &child);
+        push_effect(alloc, &mut cut, doc, aliases, effect, &place, &mut changes)?;
         before += 1;
     }
     Ok(changes)
@@ -150,8 +126,8 @@ pub(crate) fn at_found<'a, 't>(
 {
     match places {
         FoundPlaces::Listed(places) => at_each(alloc, documents, doc, aliases, effect, places),
-        FoundPlaces::Children(path, node) => {
-            at_children(alloc, documents, doc, aliases, effect, path, *node)
+        FoundPlaces::Children(parent) => {
+            at_children(alloc, documents, doc, aliases, effect, parent)
         }
     }
 }

@@ -48,10 +48,10 @@ fn changes_at<'a, 't>(
     if places.is_empty() {
         return Ok(Vec::new(alloc));
     }
-    let aliases = aliases_of(alloc, root)?;
+    let aliases = aliases_of(alloc, &root)?;
     match update {
         Update::Assign(assignment) => assign(
-            alloc, documents, doc, root, &aliases, assignment, places,
+            alloc, documents, doc, &root, &aliases, assignment, places,
         ),
         Update::Delete(_) => at_found(alloc, documents, doc, &aliases, Action::Remove, places),
         Update::Comment(comment) => {
@@ -67,22 +67,22 @@ fn value_each<'a, 't>(
     alloc: Global,
     documents: &Documents<'_>,
     doc: usize,
-    root: Node<'a, 't>,
+    root: &Node<'a, 't>,
     aliases: &Aliases<'_>,
     adds: bool,
     right: &'a [Term],
     places: &FoundPlaces<'a, 't>,
 ) -> Result<Vec<Changed>, ExprError>
-    requires root { HasScalars (node_of root) }
+    requires root { HasScalars (node_of root.now) }
     requires scalars { HaveScalars (found_places places.now) }
-    requires within { AreIn (node_of root) (found_places places.now) }
-    requires aliases { HasAliases (names_of (node_of root)) aliases.now }
+    requires within { AreIn (node_of root.now) (found_places places.now) }
+    requires aliases { HasAliases (names_of (node_of root.now)) aliases.now }
     requires some { 0 < length (found_places places.now) }
-    ensures { Judges (λ v. map changed_of v.items) result (spec.with_value (node_of root.entry)
-        (right_sum doc (map term_of right.now) (root_place (node_of root.entry)))
+    ensures { Judges (λ v. map changed_of v.items) result (spec.with_value (node_of root.now)
+        (right_sum doc (map term_of right.now) (root_place (node_of root.now)))
         (if adds then spec.add_at else spec.put_at) (found_places places.now)) }
 {
-    let value = right_value(alloc, doc, right, Place::of_root(root))?;
+    let value = right_value(alloc, doc, right, &Place::of_root(root))?;
     if adds {
         return at_found(alloc, documents, doc, aliases, Action::Add(&value), places);
     }
@@ -94,18 +94,18 @@ fn assign<'a, 't>(
     alloc: Global,
     documents: &Documents<'_>,
     doc: usize,
-    root: Node<'a, 't>,
+    root: &Node<'a, 't>,
     aliases: &Aliases<'_>,
     assignment: &'a Assignment,
     places: &FoundPlaces<'a, 't>,
 ) -> Result<Vec<Changed>, ExprError>
-    requires root { HasScalars (node_of root) }
+    requires root { HasScalars (node_of root.now) }
     requires scalars { HaveScalars (found_places places.now) }
-    requires within { AreIn (node_of root) (found_places places.now) }
-    requires aliases { HasAliases (names_of (node_of root)) aliases.now }
+    requires within { AreIn (node_of root.now) (found_places places.now) }
+    requires aliases { HasAliases (names_of (node_of root.now)) aliases.now }
     requires some { 0 < length (found_places places.now) }
     ensures { Judges (λ v. map changed_of v.items) result
-        (spec.changes_at doc (room_of documents.now doc) (node_of root.entry)
+        (spec.changes_at doc (room_of documents.now doc) (node_of root.now)
         (update_of (Update.Assign assignment.now)) (found_places places.now)) }
 {
     let right: &[Term] = &assignment.right;

@@ -37,27 +37,29 @@ pub(crate) enum Action<'a, 'v> {
 }
 
 /// A value that is added at a place.
-fn add(alloc: Global, place: Place<'_, '_>, value: &Value) -> Result<Option<Change>, ExprError>
-    ensures { Judges (placed (place_of place.entry)) result
-        (spec.add_at (place_of place.entry) (node_of value.now)) }
+fn add(alloc: Global, place: &Place<'_, '_>, value: &Value) -> Result<Option<Change>, ExprError>
+    ensures { Judges (placed (place_of place.now)) result
+        (spec.add_at (place_of place.now) (node_of value.now)) }
 {
     if is_null(value) {
         return Ok(None);
     }
     match place.missing {
-        Missing::Nothing => Ok(Some(added(alloc, place.node, value)?)),
+        Missing::Nothing => Ok(Some(added(alloc, &place.node, value)?)),
         Missing::Further(..) => Ok(Some(put(alloc, place, copied(alloc, value)?)?)),
     }
 }
 
 /// What is removed at a place: what is missing is not, and a root can't be.
-fn remove(place: Place<'_, '_>) -> Result<Option<Change>, ExprError>
-    ensures { Judges (placed (place_of place.entry)) result (spec.remove_at (place_of place.entry)) }
+fn remove(place: &Place<'_, '_>) -> Result<Option<Change>, ExprError>
+    ensures { Judges (placed (place_of place.now)) result (spec.remove_at (place_of place.now)) }
 {
-    match (place.missing, place.path) {
-        (Missing::Further(..), _) => Ok(None),
-        (Missing::Nothing, NodePath::Root) => Err(ExprError::Refused(Refusal::RootDelete)),
-        (Missing::Nothing, NodePath::Below(..)) => Ok(Some(Change::Removes)),
+    if let Missing::Further(..) = place.missing {
+        return Ok(None);
+    }
+    match place.path {
+        NodePath::Root => Err(ExprError::Refused(Refusal::RootDelete)),
+        NodePath::Below(..) => Ok(Some(Change::Removes)),
     }
 }
 
@@ -88,12 +90,12 @@ fn set_comment(
     path: &Path,
     comment: CommentPlace,
     text: &str,
-    place: Place<'_, '_>,
+    place: &Place<'_, '_>,
 ) -> Result<Option<Change>, ExprError>
-    requires { steps_of path.now ≡ path_of place.path }
+    requires { steps_of path.now ≡ path_of place.now.path }
     ensures same { cut.new ≡ cut.old }
-    ensures change { Judges (placed (place_of place.entry)) result
-        (spec.comment_at (room_of cut.old path.now.doc) comment text.now (place_of place.entry)) }
+    ensures change { Judges (placed (place_of place.now)) result
+        (spec.comment_at (room_of cut.old path.now.doc) comment text.now (place_of place.now)) }
 {
     if let Missing::Further(..) = place.missing {
         return Err(ExprError::Refused(Refusal::NoPlaceForComment));
@@ -111,14 +113,14 @@ pub(crate) fn change_at<'a, 't>(
     cut: &mut CutText<'_, '_>,
     path: &Path,
     effect: Action<'a, '_>,
-    place: Place<'a, 't>,
+    place: &Place<'a, 't>,
 ) -> Result<Option<Change>, ExprError>
-    requires scalars { HasScalars (place_of place).node }
-    requires path { steps_of path.now ≡ path_of place.path }
+    requires scalars { HasScalars (place_of place.now).node }
+    requires path { steps_of path.now ≡ path_of place.now.path }
     ensures same { cut.new ≡ cut.old }
-    ensures change { Judges (placed (place_of place.entry)) result
+    ensures change { Judges (placed (place_of place.now)) result
         (effect_at path.now.doc (room_of cut.old path.now.doc) effect.entry
-        (place_of place.entry)) }
+        (place_of place.now)) }
 {
     match effect {
         Action::Put(value) => Ok(Some(put(alloc, place, copied(alloc, value)?)?)),

@@ -34,12 +34,12 @@ pub struct Match {
 fn push_match(
     alloc: Global,
     doc: usize,
-    place: Place<'_, '_>,
+    place: &Place<'_, '_>,
     matches: &mut Vec<Match>,
 ) -> Result<(), ExprError>
-    requires { HasScalars (value_of (place_of place)) }
+    requires { HasScalars (value_of (place_of place.now)) }
     ensures { Judges (λ _. matches_of matches.new.items) result
-        (put_behind (matches_of matches.old.items) (spec.match_at doc (place_of place.entry))) }
+        (put_behind (matches_of matches.old.items) (spec.match_at doc (place_of place.now))) }
 {
     let value = copy_at(alloc, place)?;
     matches.push(Match { doc, value })?;
@@ -59,7 +59,7 @@ fn push_copies(
         (for_each (spec.match_at doc) (places_of places.now))) }
 {
     'places: for place in places {
-        push_match(alloc, doc, *place, matches)?;
+        push_match(alloc, doc, place, matches)?;
     }
     Ok(())
 }

@@ -83,13 +83,13 @@ fn appended(alloc: Global, step: &Step, value: Value) -> Result<Change, AllocErr
 /// null gives way to a mapping.
 fn created(
     alloc: Global,
-    node: Node<'_, '_>,
+    node: &Node<'_, '_>,
     first: &Step,
     others: &[&Step],
     value: Value,
 ) -> Result<Change, AllocError>
     ensures { IfOk result (λ c. change_of c ≡
-        spec.created (node_of node.entry) (step_of first.now) (map (λ s. step_of s.now) others.now)
+        spec.created (node_of node.now) (step_of first.now) (map (λ s. step_of s.now) others.now)
         (value_node value)) }
 {
     let below = nested(alloc, others, value)?;
@@ -103,11 +103,11 @@ fn created(
 /// no item can be made.
 fn put_below(
     alloc: Global,
-    node: Node<'_, '_>,
+    node: &Node<'_, '_>,
     missing: &[&Step],
     value: Value,
 ) -> Result<Change, ExprError>
-    ensures { Judges change_of result (spec.put_below (node_of node.entry)
+    ensures { Judges change_of result (spec.put_below (node_of node.now)
         (map (λ s. step_of s.now) missing.now) (value_node value)) }
 {
     let [first, others @ ..] = missing else {
@@ -120,13 +120,13 @@ fn put_below(
 }
 
 /// What a value changes that is put at a place.
-pub fn put(alloc: Global, place: Place<'_, '_>, value: Value) -> Result<Change, ExprError>
-    ensures { Judges (placed_change (place_of place.entry)) result
-        (spec.put_at (place_of place.entry) (value_node value)) }
+pub fn put(alloc: Global, place: &Place<'_, '_>, value: Value) -> Result<Change, ExprError>
+    ensures { Judges (placed_change (place_of place.now)) result
+        (spec.put_at (place_of place.now) (value_node value)) }
 {
     if let Missing::Nothing = place.missing {
         return Ok(Change::Replaces(value));
     }
     let missing = missing_steps(alloc, place.missing)?;
-    put_below(alloc, place.node, &missing, value)
+    put_below(alloc, &place.node, &missing, value)
 }

@@ -27,7 +27,7 @@ fn only(alloc: Global, places: &[Place<'_, '_>]) -> Result<Value, ExprError>
     ensures { Judges node_of result (spec.only_copy (places_of places.now)) }
 {
     match places {
-        [place] => copy_at(alloc, *place),
+        [place] => copy_at(alloc, place),
         _ => Err(ExprError::Refused(Refusal::NotOneValue)),
     }
 }
@@ -37,15 +37,15 @@ fn found_value<'a, 't>(
     alloc: Global,
     doc: usize,
     pipe: &'a [Stage],
-    place: Place<'a, 't>,
+    place: &Place<'a, 't>,
 ) -> Result<Value, ExprError>
-    requires { HasScalars (place_of place).node }
+    requires { HasScalars (place_of place.now).node }
     ensures { Judges node_of result (and_then spec.only_copy
-        (pipe_on doc (map stage_of pipe.now) (place_of place.entry ∷ []))) }
+        (pipe_on doc (map stage_of pipe.now) (place_of place.now ∷ []))) }
 {
     let bump = Bump::new(alloc);
     let mut start = Vec::with_capacity(alloc, 1)?;
-    start.push(place)?;
+    start.push(*place)?;
     let places = pipe_on(alloc, &bump, doc, pipe, start)?;
     only(alloc, &places)
 }
@@ -55,10 +55,10 @@ fn term_value<'a, 't>(
     alloc: Global,
     doc: usize,
     term: &'a Term,
-    place: Place<'a, 't>,
+    place: &Place<'a, 't>,
 ) -> Result<Value, ExprError>
-    requires { HasScalars (place_of place).node }
-    ensures { Judges node_of result (spec.term_value doc (place_of place.entry) (term_of term.now)) }
+    requires { HasScalars (place_of place.now).node }
+    ensures { Judges node_of result (spec.term_value doc (place_of place.now) (term_of term.now)) }
 {
     match term {
         Term::Literal(value) => Ok(copied(alloc, value)?),
@@ -72,11 +72,11 @@ fn with_term<'a, 't>(
     doc: usize,
     total: Value,
     term: &'a Term,
-    place: Place<'a, 't>,
+    place: &Place<'a, 't>,
 ) -> Result<Value, ExprError>
-    requires { HasScalars (place_of place).node }
+    requires { HasScalars (place_of place.now).node }
     ensures { Judges node_of result (and_then (spec.sum (node_of total))
-        (spec.term_value doc (place_of place.entry) (term_of term.now))) }
+        (spec.term_value doc (place_of place.now) (term_of term.now))) }
 {
     let value = term_value(alloc, doc, term, place)?;
     sum(alloc, total, value)
@@ -88,11 +88,11 @@ fn with_terms<'a, 't>(
     doc: usize,
     first: Value,
     terms: &'a [Term],
-    place: Place<'a, 't>,
+    place: &Place<'a, 't>,
 ) -> Result<Value, ExprError>
-    requires { HasScalars (place_of place).node }
+    requires { HasScalars (place_of place.now).node }
     ensures { Judges node_of result (chained (λ t v. and_then (spec.sum v)
-        (spec.term_value doc (place_of place.entry) t)) (map term_of terms.now) (node_of first)) }
+        (spec.term_value doc (place_of place.now) t)) (map term_of terms.now) (node_of first)) }
 {
     let mut total = first;
     'terms: for term in terms {
@@ -112,9 +112,9 @@ fn stays(pipe: &[Stage]) -> bool
 }
 
 /// The scalar at a place, but for null, if that is what a term finds.
-fn scalar_there<'a>(term: &Term, place: Place<'a, '_>) -> Option<(Kind, &'a str)>
+fn scalar_there<'a>(term: &Term, place: &Place<'a, '_>) -> Option<(Kind, &'a str)>
     ensures { IfSome result (λ x. (doc : ℕ) → IsSummand x.0 x.1.now
-        (spec.term_value doc (place_of place.entry) (term_of term.now))) }
+        (spec.term_value doc (place_of place.now) (term_of term.now))) }
 {
     let Term::Pipe(stages) = term else {
         return None;
@@ -148,9 +148,9 @@ fn scalar_literal(term: &Term) -> Option<&Scalar>
 }
 
 /// The kind and text of a scalar at a place and a literal one, if terms are these and neither is null.
-fn scalar_terms<'a>(terms: &'a [Term], place: Place<'a, '_>) -> Option<(Kind, &'a str, &'a Scalar)>
+fn scalar_terms<'a>(terms: &'a [Term], place: &Place<'a, '_>) -> Option<(Kind, &'a str, &'a Scalar)>
     ensures { IfSome result (λ x. (doc : ℕ) →
-        spec.right_value doc (map term_of terms.now) (place_of place.entry) ≡
+        spec.right_value doc (map term_of terms.now) (place_of place.now) ≡
         spec.scalar_sum x.0 x.1.now x.2.now.kind x.2.now.text) }
 {
     let [one, other] = terms else {
@@ -166,11 +166,11 @@ pub fn right_value<'a, 't>(
     alloc: Global,
     doc: usize,
     terms: &'a [Term],
-    place: Place<'a, 't>,
+    place: &Place<'a, 't>,
 ) -> Result<Value, ExprError>
-    requires { HasScalars (place_of place).node }
+    requires { HasScalars (place_of place.now).node }
     ensures { Judges node_of result (spec.right_value doc (map term_of terms.now)
-        (place_of place.entry)) }
+        (place_of place.now)) }
 {
     if let Some((kind, text, added)) = scalar_terms(terms, place) {
         return scalar_sum(alloc, kind, text, added);

@@ -18,4 +18,4 @@ child_places x n = map (child_place (node_place x n)) (stepped 0 (children_of n)
 -- the places that those of the code stand for (own)
 abbrev pub found_places : found.FoundPlaces → List Place
 found_places (found.TheVariants.Listed ps) = places_of ps.items
-found_places (found.TheVariants.Children path n) = child_places (path_of path.now) (node_of n)
+found_places (found.TheVariants.Children p) = child_places (path_of p.now.path) (node_of p.now.node)

@@ -1,4 +1,5 @@
 -- The places that those of the code stand for.
+use Rattle.std.specs.Borrow.{Bor}
 use Rattle.std.specs.Prelude.{List, [], ◌∷◌, ◌++◌, map, Option, Some, None, option_map}
 use Rattle.yq_flow_scalars.specs.Paths as paths
 use Rattle.yq_flow_scalars.specs.Paths.{To, Nth}
@@ -50,9 +51,9 @@ abbrev pub places_of : List declared.Place → List Place
 places_of ps = map place_of ps
 
 -- the node that one of the code stands for, or null where there is none (own)
-abbrev pub node_or_null : Option nodes.Node → tree.Node
+abbrev pub node_or_null : Option (Bor nodes.Node) → tree.Node
 node_or_null None = null_node
-node_or_null (Some n) = node_of n
+node_or_null (Some n) = node_of n.now
 
 -- the item or entry that one of the code stands for, with the step that leads to it (own)
 abbrev pub found_of : Option (steps.NodeStep × nodes.Node) → ChildFound

@@ -54,9 +54,9 @@ fn same_scalar(kind: Kind, text: &str, scalar: &Scalar) -> bool
 }
 
 /// Whether a node is that scalar.
-fn node_is(node: Node<'_, '_>, scalar: &Scalar) -> Result<bool, ExprError>
+fn node_is(node: &Node<'_, '_>, scalar: &Scalar) -> Result<bool, ExprError>
     ensures { Judges (λ b. b) result (spec.is_scalar scalar.now.kind scalar.now.text
-        (node_of node.entry)) }
+        (node_of node.now)) }
 {
     match node.kind() {
         NodeKind::Alias => Err(ExprError::Refused(Refusal::ThroughAlias)),
@@ -66,9 +66,9 @@ fn node_is(node: Node<'_, '_>, scalar: &Scalar) -> Result<bool, ExprError>
 }
 
 /// Whether the value at a place is that scalar: null where a step is missing.
-fn place_is(place: Place<'_, '_>, scalar: &Scalar) -> Result<bool, ExprError>
+fn place_is(place: &Place<'_, '_>, scalar: &Scalar) -> Result<bool, ExprError>
     ensures { Judges (λ b. b) result (spec.is_scalar scalar.now.kind scalar.now.text
-        (spec.value_of (place_of place.entry))) }
+        (spec.value_of (place_of place.now))) }
 {
     match place.found() {
         Some(node) => node_is(node, scalar),
@@ -83,7 +83,7 @@ fn first_is(places: &[Place<'_, '_>], scalar: &Scalar) -> Result<bool, ExprError
 {
     match places {
         [] => Ok(false),
-        [first, ..] => place_is(*first, scalar),
+        [first, ..] => place_is(first, scalar),
     }
 }
 
@@ -93,14 +93,12 @@ fn value_is<'a, 't>(
     bump: &'a Bump,
     steps: &'a [Step],
     scalar: &Scalar,
-    place: Place<'a, 't>,
+    place: &Place<'a, 't>,
 ) -> Result<bool, ExprError>
     ensures { Judges (λ b. b) result (spec.operand_is 0 (value_at (map step_of steps.now))
-        scalar.now.kind scalar.now.text (place_of place.entry)) }
+        scalar.now.kind scalar.now.text (place_of place.now)) }
 {
-    let mut start = Vec::with_capacity(alloc, 1)?;
-    start.push(place)?;
-    let places = traverse(alloc, bump, steps, start)?;
+    let places = traverse(alloc, bump, steps, place.alone(alloc)?)?;
     first_is(&places, scalar)
 }
 
@@ -111,10 +109,10 @@ fn operand_is<'a, 't>(
     doc: usize,
     operand: &'a Operand,
     scalar: &Scalar,
-    place: Place<'a, 't>,
+    place: &Place<'a, 't>,
 ) -> Result<bool, ExprError>
     ensures { Judges (λ b. b) result (spec.operand_is doc (operand_of operand.now) scalar.now.kind
-        scalar.now.text (place_of place.entry)) }
+        scalar.now.text (place_of place.now)) }
 {
     match operand {
         Operand::Path(steps) => value_is(alloc, bump, steps, scalar, place),
@@ -126,8 +124,8 @@ fn operand_is<'a, 't>(
 }
 
 /// Whether a node is a mapping with that key.
-fn node_has(node: Node<'_, '_>, key: &str) -> Result<bool, ExprError>
-    ensures { Judges (λ b. b) result (spec.has_key key.now (node_of node.entry)) }
+fn node_has(node: &Node<'_, '_>, key: &str) -> Result<bool, ExprError>
+    ensures { Judges (λ b. b) result (spec.has_key key.now (node_of node.now)) }
 {
     match node.kind() {
         NodeKind::Alias => Err(ExprError::Refused(Refusal::ThroughAlias)),
@@ -137,8 +135,8 @@ fn node_has(node: Node<'_, '_>, key: &str) -> Result<bool, ExprError>
 }
 
 /// Whether the value at a place is a mapping with that key.
-fn place_has(place: Place<'_, '_>, key: &str) -> Result<bool, ExprError>
-    ensures { Judges (λ b. b) result (spec.has_key key.now (spec.value_of (place_of place.entry))) }
+fn place_has(place: &Place<'_, '_>, key: &str) -> Result<bool, ExprError>
+    ensures { Judges (λ b. b) result (spec.has_key key.now (spec.value_of (place_of place.now))) }
 {
     match place.found() {
         Some(node) => node_has(node, key),
@@ -160,9 +158,9 @@ pub(crate) fn holds<'a, 't>(
     match condition {
         Condition::Compare(comparison) => {
             let operand = &comparison.operand;
-            let same = operand_is(alloc, bump, doc, operand, &comparison.scalar, place)?;
+            let same = operand_is(alloc, bump, doc, operand, &comparison.scalar, &place)?;
             Ok(same_bool(comparison.equal, same))
         }
-        Condition::Has(key) => place_has(place, key.as_str()),
+        Condition::Has(key) => place_has(&place, key.as_str()),
     }
 }

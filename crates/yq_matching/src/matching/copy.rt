@@ -31,8 +31,8 @@ fn scalar_of(alloc: Global, kind: Kind, text: &str) -> Result<Scalar, AllocError
 }
 
 /// The key of an entry.
-fn key_of(alloc: Global, entry: Node<'_, '_>) -> Result<String, AllocError>
-    ensures { IfOk result (λ s. string_bytes s ≡ spec.key_or_empty (label_of entry.entry).key) }
+fn key_of(alloc: Global, entry: &Node<'_, '_>) -> Result<String, AllocError>
+    ensures { IfOk result (λ s. string_bytes s ≡ spec.key_or_empty (label_of entry.now).key) }
 {
     match entry.key() {
         Some(key) => String::from_str(alloc, key),
@@ -42,9 +42,9 @@ fn key_of(alloc: Global, entry: Node<'_, '_>) -> Result<String, AllocError>
 
 /// A copy of a node: it has no anchors and no comments.
 #[cycle(copy)]
-pub(crate) fn copy(alloc: Global, node: Node<'_, '_>) -> Result<Value, ExprError>
-    requires { HasScalars (node_of node) }
-    ensures { Judges value_node result (spec.copy (node_of node.entry)) }
+pub(crate) fn copy(alloc: Global, node: &Node<'_, '_>) -> Result<Value, ExprError>
+    requires { HasScalars (node_of node.now) }
+    ensures { Judges value_node result (spec.copy (node_of node.now)) }
 {
     match node.kind() {
         NodeKind::Alias => Err(ExprError::Refused(Refusal::ThroughAlias)),
@@ -56,39 +56,39 @@ pub(crate) fn copy(alloc: Global, node: Node<'_, '_>) -> Result<Value, ExprError
 
 /// Copies of a node's items.
 #[cycle(copy)]
-fn item_copies(alloc: Global, node: Node<'_, '_>) -> Result<Vec<Value>, ExprError>
-    requires { EachHasScalars (children_of (node_of node)) }
+fn item_copies(alloc: Global, node: &Node<'_, '_>) -> Result<Vec<Value>, ExprError>
+    requires { EachHasScalars (children_of (node_of node.now)) }
     ensures { Judges (λ v. map value_node v.items) result
-        (spec.item_copies (children_of (node_of node.entry))) }
+        (spec.item_copies (children_of (node_of node.now))) }
 {
     let mut copies = Vec::new(alloc);
     let mut items = node.children();
     'each: while let Some(item) = items.next() {
-        copies.push(copy(alloc, item)?)?;
+        copies.push(copy(alloc, &item)?)?;
     }
     Ok(copies)
 }
 
 /// Copies of a node's entries, with their keys.
 #[cycle(copy)]
-fn entry_copies(alloc: Global, node: Node<'_, '_>) -> Result<Vec<(String, Value)>, ExprError>
-    requires { EachHasScalars (children_of (node_of node)) }
+fn entry_copies(alloc: Global, node: &Node<'_, '_>) -> Result<Vec<(String, Value)>, ExprError>
+    requires { EachHasScalars (children_of (node_of node.now)) }
     ensures { Judges (λ v. map field_of v.items) result
-        (spec.entry_copies (children_of (node_of node.entry))) }
+        (spec.entry_copies (children_of (node_of node.now))) }
 {
     let mut copies = Vec::new(alloc);
     let mut entries = node.children();
     'each: while let Some(entry) = entries.next() {
-        let value = copy(alloc, entry)?;
-        copies.push((key_of(alloc, entry)?, value))?;
+        let value = copy(alloc, &entry)?;
+        copies.push((key_of(alloc, &entry)?, value))?;
     }
     Ok(copies)
 }
 
 /// A copy of the value at a place: null where a step is missing.
-pub fn copy_at(alloc: Global, place: Place<'_, '_>) -> Result<Value, ExprError>
-    requires { HasScalars (value_of (place_of place)) }
-    ensures { Judges value_node result (spec.copy_at (place_of place.entry)) }
+pub fn copy_at(alloc: Global, place: &Place<'_, '_>) -> Result<Value, ExprError>
+    requires { HasScalars (value_of (place_of place.now)) }
+    ensures { Judges value_node result (spec.copy_at (place_of place.now)) }
 {
     match place.found() {
         Some(node) => copy(alloc, node),

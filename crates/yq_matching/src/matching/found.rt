@@ -10,7 +10,7 @@ ghost use Rattle.yq_program.specs.Program.{each, path};
 ghost use Rattle.yq_program.specs.View.{stage_of, step_of};
 
 use crate::matching::pipe::find;
-use crate::matching::place::{Missing, NodePath, Place};
+use crate::matching::place::{Missing, Place};
 use crate::matching::traverse::{step_each, traverse};
 use bumpalo::Bump;
 use std::alloc::Global;
@@ -23,8 +23,8 @@ use yq_program::{Stage, Step};
 pub enum FoundPlaces<'a, 't> {
     /// These.
     Listed(Vec<Place<'a, 't>>),
-    /// Those of all items or values of the node at a path.
-    Children(&'a NodePath<'a>, Node<'a, 't>),
+    /// Those of all items or values of the node at a place.
+    Children(&'a Place<'a, 't>),
 }
 
 impl FoundPlaces<'_, '_> {
@@ -34,7 +34,7 @@ impl FoundPlaces<'_, '_> {
     {
         match self {
             FoundPlaces::Listed(places) => places.is_empty(),
-            FoundPlaces::Children(_, node) => node.children().next().is_none(),
+            FoundPlaces::Children(place) => place.node.children().next().is_none(),
         }
     }
 }
@@ -57,9 +57,9 @@ fn before_each(pipe: &[Stage]) -> Option<(&[Step], &Step)>
 }
 
 /// The one place that there is, if its node has items or values.
-fn parent<'a, 't>(places: &[Place<'a, 't>]) -> Option<Place<'a, 't>>
+fn parent<'p, 'a, 't>(places: &'p [Place<'a, 't>]) -> Option<&'p Place<'a, 't>>
     ensures { IfSome result (λ p. steps.for_each (steps.step_on each) (places_of places.now) ≡
-        gives (child_places (path_of p.path) (node_of p.node))) }
+        gives (child_places (path_of p.now.path) (node_of p.now.node))) }
 {
     let [place] = places else {
         return None;
@@ -68,7 +68,7 @@ fn parent<'a, 't>(places: &[Place<'a, 't>]) -> Option<Place<'a, 't>>
         return None;
     }
     match place.node.kind() {
-        NodeKind::List | NodeKind::Map => Some(*place),
+        NodeKind::List | NodeKind::Map => Some(place),
         NodeKind::Alias | NodeKind::Scalar(_) => None,
     }
 }
@@ -85,8 +85,8 @@ fn all_of<'a, 't>(
         (places_of places.now)) }
 {
     if let Some(place) = parent(places) {
-        let path = bump.try_alloc(place.path)?;
-        return Ok(FoundPlaces::Children(path, place.node));
+        let place = bump.try_alloc(*place)?;
+        return Ok(FoundPlaces::Children(place));
     }
     Ok(FoundPlaces::Listed(step_each(alloc, bump, last, places)?))
 }
@@ -105,8 +105,7 @@ pub fn find_places<'a, 't>(
     let Some((front, last)) = before_each(pipe) else {
         return Ok(FoundPlaces::Listed(find(alloc, bump, doc, pipe, root)?));
     };
-    let mut start = Vec::with_capacity(alloc, 1)?;
-    start.push(Place::of_root(root))?;
+    let start = Place::of_root(&root).alone(alloc)?;
     let places = traverse(alloc, bump, front, start)?;
     all_of(alloc, bump, last, &places)
 }

@@ -21,16 +21,16 @@ fn push_kept<'a, 't>(
     alloc: Global,
     doc: usize,
     condition: &'a Condition,
-    place: Place<'a, 't>,
+    place: &Place<'a, 't>,
     places: &mut Vec<Place<'a, 't>>,
 ) -> Result<(), ExprError>
     ensures { Judges (λ _. places_of places.new.items) result
         (put_behind (places_of places.old.items)
-        (spec.select_on doc (condition_of condition.now) (place_of place.entry))) }
+        (spec.select_on doc (condition_of condition.now) (place_of place.now))) }
 {
     let bump = Bump::new(alloc);
-    if holds(alloc, &bump, doc, condition, place)? {
-        places.push(place)?;
+    if holds(alloc, &bump, doc, condition, *place)? {
+        places.push(*place)?;
     }
     Ok(())
 }
@@ -47,7 +47,7 @@ fn select_each<'a, 't>(
 {
     let mut kept = Vec::new(alloc);
     'places: for place in places {
-        push_kept(alloc, doc, condition, *place, &mut kept)?;
+        push_kept(alloc, doc, condition, place, &mut kept)?;
     }
     Ok(kept)
 }
@@ -98,7 +98,6 @@ pub fn find<'a, 't>(
     ensures { Judges (λ v. places_of v.items) result
         (spec.places doc (map stage_of pipe.now) (node_of root.entry)) }
 {
-    let mut start = Vec::with_capacity(alloc, 1)?;
-    start.push(Place::of_root(root))?;
+    let start = Place::of_root(&root).alone(alloc)?;
     pipe_on(alloc, bump, doc, pipe, start)
 }

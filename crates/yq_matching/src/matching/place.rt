@@ -3,12 +3,12 @@
 ghost use Rattle.std.specs.Prelude.{◌≡◌, ◌++◌, ◌∷◌, [], IfOk};
 ghost use Rattle.yq_document_nodes.specs.Nodes.{label_of, node_of};
 ghost use Rattle.yq_meaning.specs.Conditions as conditions;
-ghost use Rattle.yq_matching.specs.PlaceView.{missing_of, node_step_of, path_of, node_or_null, place_of};
+ghost use Rattle.yq_matching.specs.PlaceView.{missing_of, node_step_of, path_of, node_or_null, place_of, places_of};
 ghost use Rattle.yq_meaning.specs.Places as spec;
 ghost use Rattle.yq_program.specs.View.{step_of};
 
 use bumpalo::Bump;
-use std::alloc::AllocError;
+use std::alloc::{AllocError, Global};
 use yq_document_nodes::Node;
 use yq_program::Step;
 
@@ -56,8 +56,8 @@ impl<'a> Missing<'a> {
 }
 
 /// The step to an item or entry before which so many stand.
-fn step_to<'a>(child: Node<'a, '_>, before: usize) -> NodeStep<'a>
-    ensures { node_step_of result ≡ spec.step_by before (label_of child.entry).key }
+fn step_to<'a>(child: &Node<'a, '_>, before: usize) -> NodeStep<'a>
+    ensures { node_step_of result ≡ spec.step_by before (label_of child.now).key }
 {
     match child.key() {
         Some(key) => NodeStep::Key(key),
@@ -67,12 +67,12 @@ fn step_to<'a>(child: Node<'a, '_>, before: usize) -> NodeStep<'a>
 
 impl<'a, 't> Place<'a, 't> {
     /// The place of a root.
-    pub fn of_root(node: Node<'a, 't>) -> Place<'a, 't>
-        ensures { place_of result ≡ spec.root_place (node_of node.entry) }
+    pub fn of_root(node: &Node<'a, 't>) -> Place<'a, 't>
+        ensures { place_of result ≡ spec.root_place (node_of node.now) }
     {
         Place {
             path: NodePath::Root,
-            node,
+            node: *node,
             missing: Missing::Nothing,
         }
     }
@@ -81,24 +81,24 @@ impl<'a, 't> Place<'a, 't> {
     pub(crate) fn below(
         path: &'a NodePath<'a>,
         step: NodeStep<'a>,
-        node: Node<'a, 't>,
+        node: &Node<'a, 't>,
     ) -> Place<'a, 't>
         ensures { (p : spec.Place) → p.path ≡ path_of path.now → place_of result ≡
-            spec.child_place p (node_step_of step.entry, node_of node.entry) }
+            spec.child_place p (node_step_of step.entry, node_of node.now) }
     {
         Place {
             path: NodePath::Below(path, step),
-            node,
+            node: *node,
             missing: Missing::Nothing,
         }
     }
 
     /// The place of an item or entry one step below a path, before which so many stand.
-    pub fn nth_below(path: &'a NodePath<'a>, before: usize, child: Node<'a, 't>) -> Place<'a, 't>
+    pub fn nth_below(path: &'a NodePath<'a>, before: usize, child: &Node<'a, 't>) -> Place<'a, 't>
         ensures { (p : spec.Place) → p.path ≡ path_of path.now → place_of result ≡
             spec.child_place p (
-              spec.step_by before (label_of child.entry).key,
-              node_of child.entry,
+              spec.step_by before (label_of child.now).key,
+              node_of child.now,
             ) }
     {
         Place::below(path, step_to(child, before), child)
@@ -106,22 +106,26 @@ impl<'a, 't> Place<'a, 't> {
 
     /// The place of an item or entry of its node.
     pub(crate) fn child(
-        self,
+        &self,
         bump: &'a Bump,
         step: NodeStep<'a>,
-        node: Node<'a, 't>,
+        node: &Node<'a, 't>,
     ) -> Result<Place<'a, 't>, AllocError>
-        ensures { IfOk result (λ p. place_of p ≡ spec.child_place (place_of self.entry)
-            (node_step_of step.entry, node_of node.entry)) }
+        ensures { IfOk result (λ p. place_of p ≡ spec.child_place (place_of self.now)
+            (node_step_of step.entry, node_of node.now)) }
     {
         let path = bump.try_alloc(self.path)?;
         Ok(Place::below(path, step, node))
     }
 
     /// The place from which one more step is missing.
-    pub(crate) fn further(self, bump: &'a Bump, step: &'a Step) -> Result<Place<'a, 't>, AllocError>
+    pub(crate) fn further(
+        &self,
+        bump: &'a Bump,
+        step: &'a Step,
+    ) -> Result<Place<'a, 't>, AllocError>
         ensures { IfOk result (λ p. place_of p ≡ spec.further_place (step_of step.now)
-            (place_of self.entry)) }
+            (place_of self.now)) }
     {
         let front = bump.try_alloc(self.missing)?;
         Ok(Place {
@@ -132,13 +136,21 @@ impl<'a, 't> Place<'a, 't> {
     }
 
     /// The node there, or none where a step is missing: it is null there.
-    #[tactic(auto, using(crate::proofs::PlaceLaws::null_there))]
-    pub fn found(self) -> Option<Node<'a, 't>>
-        ensures { node_or_null result ≡ conditions.value_of (place_of self.entry) }
+    pub fn found(&self) -> Option<&Node<'a, 't>>
+        ensures { node_or_null result ≡ conditions.value_of (place_of self.now) }
     {
         match self.missing {
-            Missing::Nothing => Some(self.node),
+            Missing::Nothing => Some(&self.node),
             Missing::Further(..) => None,
         }
+    }
+
+    /// This place alone.
+    pub fn alone(&self, alloc: Global) -> Result<Vec<Place<'a, 't>>, AllocError>
+        ensures { IfOk result (λ v. places_of v.items ≡ place_of self.now ∷ []) }
+    {
+        let mut places = Vec::with_capacity(alloc, 1)?;
+        places.push(*self)?;
+        Ok(places)
     }
 }

@@ -13,8 +13,8 @@ use yq_flow_scalars::Kind;
 use yq_meaning::{ExprError, Refusal};
 
 /// The entry of a key, if there is one, with the step that leads to it.
-fn entry<'a, 't>(node: Node<'a, 't>, key: &'a str) -> Option<(NodeStep<'a>, Node<'a, 't>)>
-    ensures { found_of result ≡ spec.find (To key.now) (children_of (node_of node.entry)) }
+fn entry<'a, 't>(node: &Node<'a, 't>, key: &'a str) -> Option<(NodeStep<'a>, Node<'a, 't>)>
+    ensures { found_of result ≡ spec.find (To key.now) (children_of (node_of node.now)) }
 {
     let value = node.entry(key)?;
     Some((NodeStep::Key(key), value))
@@ -22,10 +22,10 @@ fn entry<'a, 't>(node: Node<'a, 't>, key: &'a str) -> Option<(NodeStep<'a>, Node
 
 /// Where a key leads from a node.
 pub(crate) fn key_step<'a, 't>(
-    node: Node<'a, 't>,
+    node: &Node<'a, 't>,
     key: &'a str,
 ) -> Result<Option<(NodeStep<'a>, Node<'a, 't>)>, ExprError>
-    ensures { Judges found_of result (spec.key_step key.now (node_of node.entry)) }
+    ensures { Judges found_of result (spec.key_step key.now (node_of node.now)) }
 {
     match node.kind() {
         NodeKind::Alias => Err(ExprError::Refused(Refusal::ThroughAlias)),
@@ -36,8 +36,8 @@ pub(crate) fn key_step<'a, 't>(
 }
 
 /// The number from 0 of the item of an index.
-fn item_number(node: Node<'_, '_>, index: i64) -> Result<usize, ExprError>
-    ensures { Judges (λ n. n) result (spec.item_number index (children_of (node_of node.entry))) }
+fn item_number(node: &Node<'_, '_>, index: i64) -> Result<usize, ExprError>
+    ensures { Judges (λ n. n) result (spec.item_number index (children_of (node_of node.now))) }
 {
     if index >= 0 {
         return Ok(index as usize);
@@ -52,10 +52,10 @@ fn item_number(node: Node<'_, '_>, index: i64) -> Result<usize, ExprError>
 
 /// The item of an index, if there is one, with the step that leads to it.
 fn item<'a, 't>(
-    node: Node<'a, 't>,
+    node: &Node<'a, 't>,
     index: i64,
 ) -> Result<Option<(NodeStep<'a>, Node<'a, 't>)>, ExprError>
-    ensures { Judges found_of result (spec.item index (children_of (node_of node.entry))) }
+    ensures { Judges found_of result (spec.item index (children_of (node_of node.now))) }
 {
     let number = item_number(node, index)?;
     let Some(item) = node.item(number) else {
@@ -66,10 +66,10 @@ fn item<'a, 't>(
 
 /// Where an index leads from a node.
 pub(crate) fn index_step<'a, 't>(
-    node: Node<'a, 't>,
+    node: &Node<'a, 't>,
     index: i64,
 ) -> Result<Option<(NodeStep<'a>, Node<'a, 't>)>, ExprError>
-    ensures { Judges found_of result (spec.index_step index (node_of node.entry)) }
+    ensures { Judges found_of result (spec.index_step index (node_of node.now)) }
 {
     match node.kind() {
         NodeKind::Alias => Err(ExprError::Refused(Refusal::ThroughAlias)),

@@ -23,11 +23,11 @@ use yq_program::Step;
 fn push_missing<'a, 't>(
     bump: &'a Bump,
     step: &'a Step,
-    place: Place<'a, 't>,
+    place: &Place<'a, 't>,
     places: &mut Vec<Place<'a, 't>>,
 ) -> Result<(), AllocError>
     ensures { OnOk result (places_of places.new.items ≡ places_of places.old.items ++
-        spec.miss (step_of step.now) (place_of place.entry)) }
+        spec.miss (step_of step.now) (place_of place.now)) }
 {
     match step {
         Step::Key(_) | Step::Index(_) => {
@@ -43,18 +43,18 @@ fn push_missing<'a, 't>(
 fn push_found<'a, 't>(
     bump: &'a Bump,
     step: &'a Step,
-    place: Place<'a, 't>,
-    found: Option<(NodeStep<'a>, Node<'a, 't>)>,
+    place: &Place<'a, 't>,
+    found: &Option<(NodeStep<'a>, Node<'a, 't>)>,
     places: &mut Vec<Place<'a, 't>>,
 ) -> Result<(), AllocError>
     ensures { OnOk result (places_of places.new.items ≡
-        places_of places.old.items ++ spec.found_place (step_of step.now) (place_of place.entry)
-        (found_of found.entry)) }
+        places_of places.old.items ++ spec.found_place (step_of step.now) (place_of place.now)
+        (found_of found.now)) }
 {
     match found {
         None => push_missing(bump, step, place, places),
         Some((to, node)) => {
-            places.push(place.child(bump, to, node)?)?;
+            places.push(place.child(bump, *to, node)?)?;
             Ok(())
         }
     }
@@ -63,12 +63,12 @@ fn push_found<'a, 't>(
 /// Puts the places of all items or values of a place's node behind others.
 fn push_children<'a, 't>(
     bump: &'a Bump,
-    place: Place<'a, 't>,
+    place: &Place<'a, 't>,
     places: &mut Vec<Place<'a, 't>>,
 ) -> Result<(), AllocError>
     ensures { OnOk result (places_of places.new.items ≡
-        places_of places.old.items ++ map (spec.child_place (place_of place.entry))
-        (spec.stepped 0 (children_of (node_of place.entry.node)))) }
+        places_of places.old.items ++ map (spec.child_place (place_of place.now))
+        (spec.stepped 0 (children_of (node_of place.now.node)))) }
 {
     let path: &'a NodePath<'a> = bump.try_alloc(place.path)?;
     let count = place.node.count();
@@ -78,7 +78,7 @@ fn push_children<'a, 't>(
         let Some(child) = children.next() else {
             return Ok(());
         };
-        places.push(Place::nth_below(path, before, child))?;
+        places.push(Place::nth_below(path, before, &child))?;
         before += 1;
     }
     Ok(())
@@ -87,11 +87,11 @@ fn push_children<'a, 't>(
 /// Puts the places of all items or values of a place's node behind others.
 fn push_all<'a, 't>(
     bump: &'a Bump,
-    place: Place<'a, 't>,
+    place: &Place<'a, 't>,
     places: &mut Vec<Place<'a, 't>>,
 ) -> Result<(), ExprError>
     ensures { Judges (λ _. places_of places.new.items) result
-        (put_behind (places_of places.old.items) (spec.step_there each (place_of place.entry))) }
+        (put_behind (places_of places.old.items) (spec.step_there each (place_of place.now))) }
 {
     match place.node.kind() {
         NodeKind::Alias => Err(ExprError::Refused(Refusal::ThroughAlias)),
@@ -106,24 +106,24 @@ fn push_all<'a, 't>(
 fn push_step<'a, 't>(
     bump: &'a Bump,
     step: &'a Step,
-    place: Place<'a, 't>,
+    place: &Place<'a, 't>,
     places: &mut Vec<Place<'a, 't>>,
 ) -> Result<(), ExprError>
     ensures { Judges (λ _. places_of places.new.items) result
         (put_behind (places_of places.old.items)
-        (spec.step_on (step_of step.now) (place_of place.entry))) }
+        (spec.step_on (step_of step.now) (place_of place.now))) }
 {
     if let Missing::Further(..) = place.missing {
         return Ok(push_missing(bump, step, place, places)?);
     }
     match step {
         Step::Key(key) => {
-            let found = key_step(place.node, key.as_str())?;
-            Ok(push_found(bump, step, place, found, places)?)
+            let found = key_step(&place.node, key.as_str())?;
+            Ok(push_found(bump, step, place, &found, places)?)
         }
         Step::Index(index) => {
-            let found = index_step(place.node, *index)?;
-            Ok(push_found(bump, step, place, found, places)?)
+            let found = index_step(&place.node, *index)?;
+            Ok(push_found(bump, step, place, &found, places)?)
         }
         Step::Each => push_all(bump, place, places),
     }
@@ -141,7 +141,7 @@ pub(crate) fn step_each<'a, 't>(
 {
     let mut next = Vec::new(alloc);
     'places: for place in places {
-        push_step(bump, step, *place, &mut next)?;
+        push_step(bump, step, place, &mut next)?;
     }
     Ok(next)
 }

@@ -100,8 +100,8 @@ fn entries(
 }
 
 /// The entries of a value for a mapping.
-fn to_map(alloc: Global, node: Node<'_, '_>, value: &Value) -> Result<Change, ExprError>
-    ensures { Judges change_of result (spec.added_entries (children_of (node_of node.entry))
+fn to_map(alloc: Global, node: &Node<'_, '_>, value: &Value) -> Result<Change, ExprError>
+    ensures { Judges change_of result (spec.added_entries (children_of (node_of node.now))
         (value_node value.now)) }
 {
     let Value::Map(others) = value else {
@@ -112,9 +112,9 @@ fn to_map(alloc: Global, node: Node<'_, '_>, value: &Value) -> Result<Change, Ex
 }
 
 /// What a value changes that is added to a node.
-pub fn added(alloc: Global, node: Node<'_, '_>, value: &Value) -> Result<Change, ExprError>
+pub fn added(alloc: Global, node: &Node<'_, '_>, value: &Value) -> Result<Change, ExprError>
     requires { values.is_null (value_node value.now) ≡ false }
-    ensures { Judges change_of result (spec.added (node_of node.entry) (value_node value.now)) }
+    ensures { Judges change_of result (spec.added (node_of node.now) (value_node value.now)) }
 {
     match node.kind() {
         NodeKind::Alias => Err(ExprError::Refused(Refusal::ThroughAlias)),

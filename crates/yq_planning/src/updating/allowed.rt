@@ -38,11 +38,11 @@ fn overwrites_used(aliases: &Aliases<'_>, index: &EntryIndex<'_, '_>, addition: 
 fn some_overwrites_used(
     alloc: Global,
     aliases: &Aliases<'_>,
-    node: Node<'_, '_>,
+    node: &Node<'_, '_>,
     additions: &[Addition],
 ) -> Result<bool, AllocError>
     ensures { (names : List Name) → HasAliases names aliases.now →
-        IfOk result (λ b. b ≡ list_any (λ x. overwrites_at names (children_of (node_of node.entry))
+        IfOk result (λ b. b ≡ list_any (λ x. overwrites_at names (children_of (node_of node.now))
         (addition_of x)) additions.now) }
 {
     let index = index_of(alloc, node)?;
@@ -58,11 +58,11 @@ fn some_overwrites_used(
 fn takes_used(
     alloc: Global,
     aliases: &Aliases<'_>,
-    node: Node<'_, '_>,
+    node: &Node<'_, '_>,
     change: &Change,
 ) -> Result<bool, AllocError>
     ensures { (names : List Name) → HasAliases names aliases.now →
-        IfOk result (λ b. b ≡ takes_at names (node_of node.entry) (change_of change.now)) }
+        IfOk result (λ b. b ≡ takes_at names (node_of node.now) (change_of change.now)) }
 {
     if aliases.is_empty() {
         return Ok(false);
@@ -81,12 +81,12 @@ fn takes_used(
 pub fn allow(
     alloc: Global,
     aliases: &Aliases<'_>,
-    node: Node<'_, '_>,
+    node: &Node<'_, '_>,
     outer: usize,
     change: &Change,
 ) -> Result<(), ExprError>
     ensures { (root : TreeNode) (x : List TreeStep) → HasAliases (names_of root) aliases.now →
-        node_at x root ≡ Some (node_of node.entry) → length x ≡ outer →
+        node_at x root ≡ Some (node_of node.now) → length x ≡ outer →
         Judges (λ _. (x, change_of change.now)) result
         (spec.allowed root (x, change_of change.now)) }
 {

@@ -18,15 +18,15 @@ use Rattle.yq_expr.proofs.at_places.at_children.Given as goal
 
 abbrev pub invariant-children : goal.invariant-children
 invariant-children l =
-    let left = map (child_place (node_place (path_of l.path) (node_of l.fn.node))) (stepped l.before (left_of l.children)) in
+    let left = map (child_place (node_place (path_of l.parent.path) (node_of l.parent.node))) (stepped l.before (left_of l.children)) in
     record {
       same : l.cut ≡ l.documents;
       counted : l.before + count (left_of l.children) ≡ l.count;
       scalars : HaveScalars left;
-      within : (root : Node) → AreIn root (child_places (path_of l.path) (node_of l.fn.node)) → AreIn root left;
-      so_far : (root : Node) → HasAliases (names_of root) l.aliases → AreIn root (child_places (path_of l.path) (node_of l.fn.node)) →
+      within : (root : Node) → AreIn root (child_places (path_of l.parent.path) (node_of l.parent.node)) → AreIn root left;
+      so_far : (root : Node) → HasAliases (names_of root) l.aliases → AreIn root (child_places (path_of l.parent.path) (node_of l.parent.node)) →
           put_behind (map changed_of l.changes.items) (at_each root (effect_at l.doc (room_of l.documents l.doc) l.effect) left)
-          ≡ at_each root (effect_at l.doc (room_of l.documents l.doc) l.effect) (child_places (path_of l.path) (node_of l.fn.node));
+          ≡ at_each root (effect_at l.doc (room_of l.documents l.doc) l.effect) (child_places (path_of l.parent.path) (node_of l.parent.node));
     }
 
 abbrev pub decreases-children : goal.decreases-children

@@ -17,7 +17,7 @@ use Rattle.yq_expr.proofs.changes.value_each.Goals as goal
 
 pub returns-in_err-value : goal.returns-in_err-value
 returns-in_err-value c =
-    let root = node_of c.args.root in
+    let root = node_of c.args.root.now in
     let ts = map term_of c.args.right.now in
     let p = err_from_is_err_and c.from_residual.result c.from_residual.ensures.1 in
     failed _ _ _ _ (p.1 ∙ ap Err p.2)
@@ -26,7 +26,7 @@ returns-in_err-value c =
 
 pub returns-then-adds : goal.returns-then-adds
 returns-then-adds c =
-    let root = node_of c.args.root in
+    let root = node_of c.args.root.now in
     let ts = map term_of c.args.right.now in
     rw c.if-adds.true
     (subst (Judges (λ (v : Vec Changed Global). map changed_of v.items) c.at_found.result)
@@ -36,7 +36,7 @@ returns-then-adds c =
 
 pub returns : goal.returns
 returns c =
-    let root = node_of c.args.root in
+    let root = node_of c.args.root.now in
     let ts = map term_of c.args.right.now in
     rw c.if-adds.false
     (subst (Judges (λ (v : Vec Changed Global). map changed_of v.items) c.at_found-2.result)

@@ -8,11 +8,11 @@ use Rattle.yq_expr.proofs.put.put_below.Goals as goal
 
 pub returns-then-has_index : goal.returns-then-has_index
 returns-then-has_index c =
-    put_first (λ s. step_of s.now) (node_of c.args.node) c.args.missing.now c.first-item.result (value_node c.args.value) true
+    put_first (λ s. step_of s.now) (node_of c.args.node.now) c.args.missing.now c.first-item.result (value_node c.args.value) true
     c.in-len1-up.len_at_least c.first-item.is (sym c.has_index.ensures ∙ c.if-has_index.true)
 
 pub returns : goal.returns
 returns c =
-    put_first (λ s. step_of s.now) (node_of c.args.node) c.args.missing.now c.first-item.result (value_node c.args.value) false
+    put_first (λ s. step_of s.now) (node_of c.args.node.now) c.args.missing.now c.first-item.result (value_node c.args.value) false
     c.in-len1-up.len_at_least c.first-item.is (sym c.has_index.ensures ∙ c.if-has_index.false)
     ∙ ap gives (sym c.in_ok-created.ensures)

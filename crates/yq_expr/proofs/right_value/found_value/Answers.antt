@@ -10,8 +10,8 @@ use Rattle.yq_expr.proofs.right_value.found_value.Goals as goal
 
 pub only-requires : goal.only-requires
 only-requires c =
-    let started : places_of c.push.new.self.items ≡ place_of c.args.place ∷ [] = search rules in
-    let found : pipe_on c.args.doc (map stage_of c.args.pipe.now) (place_of c.args.place ∷ []) ≡ gives (places_of c.in_ok-places.places.items) =
+    let started : places_of c.push.new.self.items ≡ place_of c.args.place.now ∷ [] = search rules in
+    let found : pipe_on c.args.doc (map stage_of c.args.pipe.now) (place_of c.args.place.now ∷ []) ≡ gives (places_of c.in_ok-places.places.items) =
     ap (pipe_on c.args.doc (map stage_of c.args.pipe.now)) (sym started) ∙ c.in_ok-places.ensures in
     subst (λ (ps : List declared.Place). HaveScalars (places_of ps)) (sym c.deref.ensures.value)
-    (pipe_have c.args.doc (map stage_of c.args.pipe.now) (place_of c.args.place ∷ []) (places_of c.in_ok-places.places.items) (c.requires, tt) found)
+    (pipe_have c.args.doc (map stage_of c.args.pipe.now) (place_of c.args.place.now ∷ []) (places_of c.in_ok-places.places.items) (c.requires, tt) found)

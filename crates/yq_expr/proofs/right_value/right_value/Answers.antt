@@ -9,5 +9,5 @@ use Rattle.yq_expr.proofs.right_value.right_value.Goals as goal
 pub returns : goal.returns
 returns c =
     subst (Judges node_of c.with_terms.result)
-    (sym (right_on term_of c.args.doc (place_of c.args.place) c.args.terms.now c.term-item.result (node_of c.in_ok-first.first) (omega (arith, c.in-len1-up.len_at_least)) c.term-item.is c.in_ok-first.ensures))
+    (sym (right_on term_of c.args.doc (place_of c.args.place.now) c.args.terms.now c.term-item.result (node_of c.in_ok-first.first) (omega (arith, c.in-len1-up.len_at_least)) c.term-item.is c.in_ok-first.ensures))
     c.with_terms.ensures

@@ -16,12 +16,12 @@ pub returns-in-Scalar : goal.returns-in-Scalar
 returns-in-Scalar c = λ doc.
     let one : map stage_of c.in-Pipe.stages.items ≡ path [] ∷ [] = search (rules, c.stays.ensures) in
     let term : term_of c.args.term.now ≡ found (path [] ∷ []) = ap term_of c.in-Pipe.is ∙ ap found one in
-    let there : node_of c.in_ok-node.node ≡ value_of (place_of c.args.place) = search rules in
-    let kind : kind_of (node_of c.in_ok-node.node) ≡ kinds.Scalar c.in-Scalar.kind = search rules in
+    let there : node_of c.in_ok-node.node.now ≡ value_of (place_of c.args.place.now) = search rules in
+    let kind : kind_of (node_of c.in_ok-node.node.now) ≡ kinds.Scalar c.in-Scalar.kind = search rules in
     let some : is_null (scalar None c.in-Scalar.kind c.text.result.now) ≡ false = search rules in (
-      ap (term_value doc (place_of c.args.place)) term
+      ap (term_value doc (place_of c.args.place.now)) term
           ∙ (ap copy (sym there)
-          ∙ (scalar_copied (node_of c.in_ok-node.node) c.in-Scalar.kind kind
+          ∙ (scalar_copied (node_of c.in_ok-node.node.now) c.in-Scalar.kind kind
           ∙ ap (λ (t : List ℕ). gives (scalar None c.in-Scalar.kind t)) (sym c.text.ensures))),
       some,
     )

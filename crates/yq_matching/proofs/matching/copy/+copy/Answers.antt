@@ -15,12 +15,12 @@ use Rattle.yq_matching.proofs.matching.copy.+copy.Goals as goal
 
 pub copy-returns-in_ok-entry_copies-in-Map : goal.copy-returns-in_ok-entry_copies-in-Map
 copy-returns-in_ok-entry_copies-in-Map t c =
-    map_copied (node_of c.args.node) (map field_of c.in_ok-entry_copies-in-Map.field-0.items) (sym c.in-Map.is ∙ c.kind.ensures) c.in_ok-entry_copies-in-Map.ensures ∙ rw node_of-map refl
+    map_copied (node_of c.args.node.now) (map field_of c.in_ok-entry_copies-in-Map.field-0.items) (sym c.in-Map.is ∙ c.kind.ensures) c.in_ok-entry_copies-in-Map.ensures ∙ rw node_of-map refl
 
 pub entry_copies-copy-requires : goal.entry_copies-copy-requires
 entry_copies-copy-requires t c =
     let is = c.in-Some.ensures.steps in
-    let less = depth_below (node_of c.args.node) (node_of c.in-Some.entry) (label_of c.in-Some.entry) (left_of c.each.entries) (left_of c.next.new.self) is c.each.invariant.counted c.each.invariant.deep in
+    let less = depth_below (node_of c.args.node.now) (node_of c.in-Some.entry) (label_of c.in-Some.entry) (left_of c.each.entries) (left_of c.next.new.self) is c.each.invariant.counted c.each.invariant.deep in
     (omega (arith, less), (subst EachHasScalars is c.each.invariant.scalars).0)
 
 pub entry_copies-each-preserved : goal.entry_copies-each-preserved
@@ -41,7 +41,7 @@ entry_copies-each-preserved t c =
 pub item_copies-copy-requires : goal.item_copies-copy-requires
 item_copies-copy-requires t c =
     let is = c.in-Some.ensures.steps in
-    let less = depth_below (node_of c.args.node) (node_of c.in-Some.item) (label_of c.in-Some.item) (left_of c.each.items) (left_of c.next.new.self) is c.each.invariant.counted c.each.invariant.deep in
+    let less = depth_below (node_of c.args.node.now) (node_of c.in-Some.item) (label_of c.in-Some.item) (left_of c.each.items) (left_of c.next.new.self) is c.each.invariant.counted c.each.invariant.deep in
     (omega (arith, less), (subst EachHasScalars is c.each.invariant.scalars).0)
 
 pub item_copies-each-preserved : goal.item_copies-each-preserved

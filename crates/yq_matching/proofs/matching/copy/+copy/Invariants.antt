@@ -11,13 +11,13 @@ use Rattle.yq_matching.specs.TreeScalars.{EachHasScalars}
 use Rattle.yq_matching.proofs.matching.copy.+copy.Given as goal
 
 abbrev pub decreases-copy : goal.decreases-copy
-decreases-copy l = 2 * depth (node_of l.node) + 1
+decreases-copy l = 2 * depth (node_of l.node.now) + 1
 
 abbrev pub decreases-item_copies : goal.decreases-item_copies
-decreases-item_copies l = 2 * depth (node_of l.node)
+decreases-item_copies l = 2 * depth (node_of l.node.now)
 
 abbrev pub decreases-entry_copies : goal.decreases-entry_copies
-decreases-entry_copies l = 2 * depth (node_of l.node)
+decreases-entry_copies l = 2 * depth (node_of l.node.now)
 
 abbrev pub invariant-item_copies-each : goal.invariant-item_copies-each
 invariant-item_copies-each l = record {

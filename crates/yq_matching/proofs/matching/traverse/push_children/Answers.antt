@@ -10,7 +10,7 @@ use Rattle.yq_matching.proofs.matching.traverse.push_children.Goals as goal
 
 pub each-preserved : goal.each-preserved
 each-preserved c =
-    let p : Place = place_of c.args.place in
+    let p : Place = place_of c.args.place.now in
     let counted = ap count c.in-Some.ensures.steps in
     let place = c.nth_below.ensures p (sym c.each.invariant.path) in
     record {
@@ -23,7 +23,7 @@ each-preserved c =
 
 pub returns : goal.returns
 returns c =
-    let p : Place = place_of c.args.place in
+    let p : Place = place_of c.args.place.now in
     let zero : count (left_of c.each.children) ≡ 0 = omega (arith, c.each.invariant.counted, c.each-test.false) in
     sym (append-nil (places_of c.each.places.items))
     ∙ (ap (λ (cs : Children). places_of c.each.places.items ++ map (child_place p) (stepped c.each.before cs)) (sym (none_counted (left_of c.each.children) zero))

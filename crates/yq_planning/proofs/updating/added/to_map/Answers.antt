@@ -9,5 +9,5 @@ use Rattle.yq_planning.proofs.updating.added.to_map.Goals as goal
 
 pub returns : goal.returns
 returns c =
-    ap (added_entries (children_of (node_of c.args.node))) (ap value_node c.in-Map.is ∙ node_of-map c.in-Map.others)
-    ∙ ap (λ (xs : List Addition). gives (adds xs)) (sym (c.in_ok-entries.ensures (children_of (node_of c.args.node)) c.in_ok-index.ensures))
+    ap (added_entries (children_of (node_of c.args.node.now))) (ap value_node c.in-Map.is ∙ node_of-map c.in-Map.others)
+    ∙ ap (λ (xs : List Addition). gives (adds xs)) (sym (c.in_ok-entries.ensures (children_of (node_of c.args.node.now)) c.in_ok-index.ensures))

@@ -10,12 +10,12 @@ use Rattle.yq_planning.proofs.updating.allowed.allow.Goals as goal
 
 pub returns-then-branch-2 : goal.returns-then-branch-2
 returns-then-branch-2 c = λ root x named at long.
-    allowed_by root (node_of c.args.node) x (change_of c.args.change.now) c.in_ok-takes_used.field-0 (sym c.in_ok-is_too_long.ensures ∙ c.if-branch.false)
+    allowed_by root (node_of c.args.node.now) x (change_of c.args.change.now) c.in_ok-takes_used.field-0 (sym c.in_ok-is_too_long.ensures ∙ c.if-branch.false)
     (ap (λ n. is_too_deep n (change_of c.args.change.now)) long ∙ (sym c.is_too_deep.ensures ∙ c.if-is_too_deep.false)) (c.in_ok-takes_used.ensures (names_of root) named) at
     ∙ ap (λ b. cond b (refuses AnchorInUse) (gives (x, change_of c.args.change.now))) c.if-branch-2.true
 
 pub returns : goal.returns
 returns c = λ root x named at long.
-    allowed_by root (node_of c.args.node) x (change_of c.args.change.now) c.in_ok-takes_used.field-0 (sym c.in_ok-is_too_long.ensures ∙ c.if-branch.false)
+    allowed_by root (node_of c.args.node.now) x (change_of c.args.change.now) c.in_ok-takes_used.field-0 (sym c.in_ok-is_too_long.ensures ∙ c.if-branch.false)
     (ap (λ n. is_too_deep n (change_of c.args.change.now)) long ∙ (sym c.is_too_deep.ensures ∙ c.if-is_too_deep.false)) (c.in_ok-takes_used.ensures (names_of root) named) at
     ∙ ap (λ b. cond b (refuses AnchorInUse) (gives (x, change_of c.args.change.now))) c.if-branch-2.false

@@ -11,4 +11,4 @@ put_aliases-returns-in_ok-insert-in-Alias t c = λ k.
     let m = c.args.aliases.now in
     let a = c.text.result.now in
     ap is_some (put_text m c.insert.new.self a _ c.in_ok-insert-in-Alias.ensures.updates k)
-    ∙ alias_put a k _ (get_text k m) (node_of c.args.node) (alias_is (node_of c.args.node) (sym c.in-Alias.is ∙ c.kind.ensures) ∙ ap alias (sym c.text.ensures))
+    ∙ alias_put a k _ (get_text k m) (node_of c.args.node.now) (alias_is (node_of c.args.node.now) (sym c.in-Alias.is ∙ c.kind.ensures) ∙ ap alias (sym c.text.ensures))

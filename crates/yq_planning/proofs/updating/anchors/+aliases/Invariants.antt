@@ -11,10 +11,10 @@ use Rattle.yq_planning.specs.Indexes.{get_text}
 use Rattle.yq_planning.proofs.updating.anchors.+aliases.Given as goal
 
 abbrev pub decreases-put_aliases : goal.decreases-put_aliases
-decreases-put_aliases l = 2 * depth (node_of l.node) + 1
+decreases-put_aliases l = 2 * depth (node_of l.node.now) + 1
 
 abbrev pub decreases-put_aliases_below : goal.decreases-put_aliases_below
-decreases-put_aliases_below l = 2 * depth (node_of l.node)
+decreases-put_aliases_below l = 2 * depth (node_of l.node.now)
 
 abbrev pub invariant-put_aliases_below-each : goal.invariant-put_aliases_below-each
 invariant-put_aliases_below-each l = record {

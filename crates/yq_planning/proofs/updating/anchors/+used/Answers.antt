@@ -7,11 +7,11 @@ use Rattle.yq_planning.proofs.UsedLaws.{used_own, used_inside, used_more, used_h
 use Rattle.yq_planning.proofs.updating.anchors.+used.Goals as goal
 
 pub is_used_in-returns-then-is_named : goal.is_used_in-returns-then-is_named
-is_used_in-returns-then-is_named t c = λ names h. used_own names (node_of c.args.node) c.is_named.result (c.is_named.ensures names h) c.if-is_named.true
+is_used_in-returns-then-is_named t c = λ names h. used_own names (node_of c.args.node.now) c.is_named.result (c.is_named.ensures names h) c.if-is_named.true
 
 pub is_used_in-returns-else-is_named : goal.is_used_in-returns-else-is_named
 is_used_in-returns-else-is_named t c = λ names h.
-    used_inside names (node_of c.args.node) c.is_used_inside.result (sym (c.is_named.ensures names h) ∙ c.if-is_named.false) (c.is_used_inside.ensures names h)
+    used_inside names (node_of c.args.node.now) c.is_used_inside.result (sym (c.is_named.ensures names h) ∙ c.if-is_named.false) (c.is_used_inside.ensures names h)
 
 pub is_used_inside-returns-then-is_used_in : goal.is_used_inside-returns-then-is_used_in
 is_used_inside-returns-then-is_used_in t c = λ names h.

@@ -11,10 +11,10 @@ use Rattle.yq_planning.specs.Indexes.{HasAliases}
 use Rattle.yq_planning.proofs.updating.anchors.+used.Given as goal
 
 abbrev pub decreases-is_used_in : goal.decreases-is_used_in
-decreases-is_used_in l = 2 * depth (node_of l.node) + 1
+decreases-is_used_in l = 2 * depth (node_of l.node.now) + 1
 
 abbrev pub decreases-is_used_inside : goal.decreases-is_used_inside
-decreases-is_used_inside l = 2 * depth (node_of l.node)
+decreases-is_used_inside l = 2 * depth (node_of l.node.now)
 
 abbrev pub invariant-is_used_inside-each : goal.invariant-is_used_inside-each
 invariant-is_used_inside-each l = record {

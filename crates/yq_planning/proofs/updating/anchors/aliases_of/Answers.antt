@@ -6,5 +6,5 @@ use Rattle.yq_planning.proofs.updating.anchors.aliases_of.Goals as goal
 
 pub returns-then-not-may_refer : goal.returns-then-not-may_refer
 returns-then-not-may_refer c =
-    let names = names_of (node_of c.args.node) in
+    let names = names_of (node_of c.args.node.now) in
     without_aliases names c.new-aliases.result c.new-aliases.ensures.empty (λ k. none_refer names k (c.may_refer.ensures c.if-not-may_refer.true))

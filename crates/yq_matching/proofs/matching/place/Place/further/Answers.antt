@@ -8,6 +8,6 @@ use Rattle.yq_matching.proofs.matching.place.Place.further.Goals as goal
 
 pub returns : goal.returns
 returns c =
-    let p : Place = place_of c.args.self in
+    let p : Place = place_of c.args.self.now in
     ap (λ (steps : List Step). record p { missing = steps })
     (c.behind.ensures ∙ ap (λ (m : Missing). missing_of m ++ step_of c.args.step.now ∷ []) c.in_ok-front.ensures)

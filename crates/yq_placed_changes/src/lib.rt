@@ -1,0 +1,6 @@
+//! Changes at places, which nothing refuses.
+#![tactic(auto)]
+
+mod placed;
+
+pub use placed::push_change;
