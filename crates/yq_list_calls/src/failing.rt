@@ -7,7 +7,7 @@ use crate::stores::{FILE, holds, store_with};
 use std::alloc::Global;
 use std::process::Abort;
 use std::test::Fail;
-use yq_commands::{MemoryOut, command_of, run_list};
+use yq_lists::{MemoryOut, command_of, run_list};
 use yq_store::Left;
 use yq_words::Command;
 

@@ -2,9 +2,9 @@
 
 use crate::stores::{FILE, holds, store_with};
 use std::test::Fail;
-use yq_commands::Answer::{Done, NoMatch, Refused};
-use yq_commands::{MemoryOut, command_of, run_list};
 use yq_history::Fault;
+use yq_lists::Answer::{Done, NoMatch, Refused};
+use yq_lists::{MemoryOut, command_of, run_list};
 
 static LIST: [&[&str]; 13] = [
     &[".n", "f"],

@@ -4,8 +4,8 @@ use crate::stores::{FILE, JOURNAL, store_with};
 use std::alloc::Global;
 use std::process::Abort;
 use std::test::Fail;
-use yq_commands::Answer::Done;
-use yq_commands::{MemoryOut, command_of, run_list};
+use yq_lists::Answer::Done;
+use yq_lists::{MemoryOut, command_of, run_list};
 use yq_store::{Left, MemoryStore};
 
 /// The words of a command, the calls of the store that it makes, and whether it changes the file and the
