@@ -6,8 +6,8 @@ mod program;
 use crate::program::{answer_to_words, usage_lines};
 use std::io;
 use std::process::ExitCode;
-use yq_commands::{Answer, USAGE};
 use yq_history::Fault;
+use yq_lists::{Answer, USAGE};
 
 fn main(rt: HostRuntime) -> io::Result<ExitCode> {
     match answer_to_words(&rt) {

@@ -4,8 +4,8 @@ use std::alloc::AllocError;
 use std::fs::metadata;
 use std::io::{ErrorKind, IsTerminal};
 use std::path::Path;
-use yq_commands::{Answer, StandardOut, command_of, run_list};
 use yq_history::Fault;
+use yq_lists::{Answer, StandardOut, command_of, run_list};
 use yq_store::DiskStore;
 use yq_words::{Command, UsageCause, first_name, purpose_of, usage_text};
 

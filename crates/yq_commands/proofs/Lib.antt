@@ -1,10 +1,6 @@
-pub mod CountLaws
 pub mod EditEffects
 pub mod EditLaws
 pub mod EditingLaws
 pub mod FileEditLaws
-pub mod KeepLaws
-pub mod ListLaws
 pub mod ReadLaws
-pub mod ReplyLaws
 pub mod ShowLaws

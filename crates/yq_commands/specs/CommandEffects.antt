@@ -7,8 +7,8 @@ use Rattle.yq_records.specs.declared.moves.Move.TheVariants as move
 use Rattle.yq_records.specs.Record.{Record}
 use Rattle.yq_records.specs.Refusals.{most_records}
 use Rattle.yq_records.specs.State.{State, moved, opened}
-use Rattle.yq_words.specs.declared.command.Command.{Command}
-use Rattle.yq_words.specs.declared.command.Command.TheVariants.{Eval, Undo, Redo, History as Lists, Squash}
+use Rattle.yq_line.specs.declared.command.Command.{Command}
+use Rattle.yq_line.specs.declared.command.Command.TheVariants.{Eval, Undo, Redo, History as Lists, Squash}
 use Rattle.yq_history.specs.declared.fault.Fault.{Fault}
 use Rattle.yq_history.specs.declared.fault.Fault.TheVariants.{JournalFull, OutOfMemory}
 use Rattle.yq_commands.specs.Editing.{EditOutcome, unreadable, refused, edited, program_in, edits}

@@ -1,4 +1,4 @@
--- Faults of words and expressions as faults of a command (own).
+-- Faults of expressions as faults of a command (own).
 use Rattle.yq_parsing.specs.declared.error.ParseError.{ParseError}
 use Rattle.yq_parsing.specs.declared.error.ParseError.TheVariants as parse
 use Rattle.yq_meaning.specs.declared.expr_error.ExprError.{ExprError}
@@ -7,16 +7,9 @@ use Rattle.yq_meaning.specs.declared.refusal.Refusal.{Refusal}
 use Rattle.yq_meaning.specs.declared.refusal.Refusal.TheVariants as refusal
 use Rattle.yq_outcomes.specs.declared.edit_error.EditError.{EditError}
 use Rattle.yq_outcomes.specs.declared.edit_error.EditError.TheVariants as error
-use Rattle.yq_words.specs.declared.words_error.WordsError.{WordsError}
-use Rattle.yq_words.specs.declared.words_error.WordsError.TheVariants as words
 use Rattle.yq_history.specs.declared.fault.Fault.{Fault}
 use Rattle.yq_history.specs.declared.fault.Fault.TheVariants as fault
-use Rattle.yq_history.specs.declared.fault.Fault.TheVariants.{Usage, Syntax, NotInProfile, Pattern, OutOfMemory, Unreadable}
-
--- why words are no command
-abbrev pub of_words : WordsError → Fault
-of_words (words.Usage cause) = Usage cause
-of_words words.OutOfMemory = OutOfMemory
+use Rattle.yq_history.specs.declared.fault.Fault.TheVariants.{Syntax, NotInProfile, Pattern, OutOfMemory, Unreadable}
 
 -- why an expression has no program
 abbrev pub of_parse : ParseError → Fault

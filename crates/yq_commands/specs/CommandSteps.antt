@@ -6,8 +6,8 @@ use Rattle.yq_program.specs.Program.{Program}
 use Rattle.yq_records.specs.declared.moves.Move.TheVariants as move
 use Rattle.yq_journal.specs.History.{History, text_at, after_edit}
 use Rattle.yq_records.specs.Refusals.{most_records}
-use Rattle.yq_words.specs.declared.command.Command.{Command}
-use Rattle.yq_words.specs.declared.command.Command.TheVariants.{Eval, Undo, Redo, History as Lists, Squash, Help}
+use Rattle.yq_line.specs.declared.command.Command.{Command}
+use Rattle.yq_line.specs.declared.command.Command.TheVariants.{Eval, Undo, Redo, History as Lists, Squash, Help}
 use Rattle.yq_history.specs.declared.fault.Fault.{Fault}
 use Rattle.yq_history.specs.declared.fault.Fault.TheVariants.{NotThere, JournalFull}
 use Rattle.yq_history.specs.Causes.{Cause, named, no_reading}

@@ -8,8 +8,8 @@ use Rattle.yq_outcomes.specs.Carried.{edit_of}
 use Rattle.yq_outcomes.specs.Edit.{gives}
 use Rattle.yq_outcomes.specs.Theorems.{IsEdited}
 use Rattle.yq_store.specs.FileMap.{FileMap}
-use Rattle.yq_words.specs.declared.command.Command.{Command}
-use Rattle.yq_words.specs.declared.command.Command.TheVariants.{Eval}
+use Rattle.yq_line.specs.declared.command.Command.{Command}
+use Rattle.yq_line.specs.declared.command.Command.TheVariants.{Eval}
 use Rattle.yq_commands.specs.Editing.{program_in}
 
 -- A program makes one text of another: the defined one, to which each of its updates in order leads.

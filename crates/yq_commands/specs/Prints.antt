@@ -2,10 +2,8 @@
 use Rattle.std.specs.Prelude.{Bool, true, false, Option}
 use Rattle.std.specs.String.{string_bytes}
 use Rattle.yq_journal.specs.History.{History}
-use Rattle.yq_words.specs.declared.command.Command.{Command}
-use Rattle.yq_words.specs.declared.command.Command.TheVariants.{Eval, Undo, Redo, History as Lists, Squash, Help}
-use Rattle.yq_commands.specs.declared.answer.Answer.{Answer}
-use Rattle.yq_commands.specs.declared.answer.Answer.TheVariants.{Done, NoMatch}
+use Rattle.yq_line.specs.declared.command.Command.{Command}
+use Rattle.yq_line.specs.declared.command.Command.TheVariants.{Eval, Undo, Redo, History as Lists, Squash, Help}
 use Rattle.yq_commands.specs.Editing.{program_in}
 use Rattle.yq_commands.specs.Evaluation.{evaluated, report_in}
 use Rattle.yq_history.specs.Listing.{listing_output}
@@ -35,8 +33,3 @@ prints (Eval expr file journal false exit_status no_doc) = true
 prints (Lists file journal) = true
 prints Help = true
 prints _ = false
-
--- the answer to a command that was carried out
-abbrev pub answer_by : Bool → Answer
-answer_by true = Done
-answer_by false = NoMatch

@@ -17,12 +17,12 @@ ghost use Rattle.yq_commands.specs.CommandSteps.{cause_of, next_of, update_cause
 use crate::edit::edit_from;
 use crate::editing::parse;
 use crate::evaluating::evaluate;
-use crate::help::help;
 use std::alloc::Global;
 use yq_history::{Direction, Fault, Report, listing, open_pair, squash};
+use yq_line::Command;
+use yq_output::help::help;
 use yq_store::Store;
 use yq_undoing::move_file;
-use yq_words::Command;
 
 /// Edits a file in place.
 fn update<D: Store>(

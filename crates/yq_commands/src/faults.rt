@@ -1,21 +1,10 @@
-//! The fault of a command for each cause that words and expressions tell.
+//! The fault of a command for each cause that expressions tell.
 ghost use Rattle.std.specs.Prelude.{◌≡◌};
-ghost use Rattle.yq_commands.specs.CommandFaults.{of_edit, of_matching, of_parse, of_refusal, of_words};
+ghost use Rattle.yq_commands.specs.CommandFaults.{of_edit, of_matching, of_parse, of_refusal};
 
 use yq_expr::{ExprError, ParseError, Refusal};
 use yq_history::Fault;
 use yq_splice::EditError;
-use yq_words::WordsError;
-
-/// Why words are no command.
-pub fn words_fault(error: WordsError) -> Fault
-    ensures { result ≡ of_words error }
-{
-    match error {
-        WordsError::Usage(cause) => Fault::Usage(cause),
-        WordsError::OutOfMemory => Fault::OutOfMemory,
-    }
-}
 
 /// Why an expression has no program.
 pub fn parse_fault(error: ParseError) -> Fault

@@ -6,8 +6,8 @@ use crate::failing::digits::{Asked, Digits};
 use crate::stores::{FILE, answers_to, holds, store_with};
 use std::alloc::{AllocError, Global};
 use std::test::Fail;
-use yq_commands::{Answer, command_of};
 use yq_history::Fault;
+use yq_lists::{Answer, command_of};
 use yq_store::{Left, MemoryStore};
 use yq_words::Command;
 

@@ -3,9 +3,9 @@
 use crate::stores::{FILE, commands_of, holds, store_with};
 use std::alloc::Global;
 use std::test::Fail;
-use yq_commands::Answer::{Done, NoMatch, Refused};
-use yq_commands::{Answer, MemoryOut, run_list};
 use yq_history::Fault;
+use yq_lists::Answer::{Done, NoMatch, Refused};
+use yq_lists::{Answer, MemoryOut, run_list};
 use yq_store::MemoryStore;
 
 static LIST: [&[&str]; 13] = [

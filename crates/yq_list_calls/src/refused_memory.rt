@@ -4,9 +4,9 @@
 use crate::stores::{FILE, JOURNAL, commands_of, holds, store_with};
 use std::alloc::{AllocError, Global};
 use std::test::Fail;
-use yq_commands::Answer::{Done, NoMatch, Refused};
-use yq_commands::{Answer, MemoryOut, run_list};
 use yq_history::Fault;
+use yq_lists::Answer::{Done, NoMatch, Refused};
+use yq_lists::{Answer, MemoryOut, run_list};
 use yq_store::MemoryStore;
 use yq_text_calls::all_memory;
 use yq_words::Command;

@@ -2,8 +2,8 @@
 
 use std::alloc::{AllocError, Global};
 use std::test::Fail;
-use yq_commands::{Answer, MemoryOut, command_of, run_list};
 use yq_history::Fault;
+use yq_lists::{Answer, MemoryOut, command_of, run_list};
 use yq_store::{MemoryStore, Store};
 use yq_words::Command;
 

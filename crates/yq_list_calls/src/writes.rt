@@ -3,9 +3,9 @@
 use crate::stores::{FILE, JOURNAL, answers_to, store_with};
 use std::alloc::{AllocError, Global};
 use std::test::Fail;
-use yq_commands::Answer::Done;
-use yq_commands::command_of;
 use yq_history::Fault;
+use yq_lists::Answer::Done;
+use yq_lists::command_of;
 use yq_store::{Left, MemoryStore};
 
 /// The words of a command, the calls of the store that it makes, and whether it changes the file and the

@@ -1,6 +1,1 @@
-pub mod ClapRows
-pub mod ClapFaults
-pub mod ClapLevel
-pub mod ClapWalk
-pub mod Counts
 pub mod WordsFound

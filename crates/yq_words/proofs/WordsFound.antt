@@ -11,12 +11,13 @@ use Rattle.clap.specs.Takes.{is_given, takes}
 use Rattle.clap.specs.Walk.{Row, Rule, Text, answers_to, first_of, nothing_held, rows_after, walk_from, walked}
 use Rattle.clap.proofs.OnLiterals.{clap_on_literals}
 use Rattle.clap.proofs.WalkLemmas.{both}
-use Rattle.yq_words.specs.Asked.{checks, command_words, count_in, WordsRefused, IsNotTaken, finds, full_words, is_command_word, name_fits, names_fit, words_fit}
-use Rattle.yq_words.specs.Line.{yq, four_commands, two_commands}
-use Rattle.yq_words.specs.declared.command.Command.{Command}
-use Rattle.yq_words.specs.declared.words_error.WordsError.{WordsError}
-use Rattle.yq_words.proofs.ClapLevel.{Passed, stops_at, sub_found, sub_passed}
-use Rattle.yq_words.proofs.ClapRows.{fills, option_text}
+use Rattle.yq_usage.specs.CommandWords.{command_words, is_command_word}
+use Rattle.yq_line.specs.Asked.{checks, count_in, WordsRefused, IsNotTaken, finds, full_words, name_fits, names_fit, words_fit}
+use Rattle.yq_line.specs.Line.{yq, four_commands, two_commands}
+use Rattle.yq_line.specs.declared.command.Command.{Command}
+use Rattle.yq_line.specs.declared.words_error.WordsError.{WordsError}
+use Rattle.yq_line.proofs.ClapLevel.{Passed, stops_at, sub_found, sub_passed}
+use Rattle.yq_line.proofs.ClapRows.{fills, option_text}
 
 -- an argument that is required was given
 required_in : (rules : List Rule) (rows : List Row) (id : Text) → list_all (λ a. not a.required || is_given a.id rows) rules ≡ true → list_any (λ a. a.required && bytes_eq a.id id) rules ≡ true → is_given id rows ≡ true

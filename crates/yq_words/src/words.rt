@@ -1,38 +1,15 @@
 //! The words of the command line.
 ghost use Rattle.std.specs.Prelude.{◌≡◌, ◌≢◌, ◌⊎◌, ◌∷◌, IfOk, IfErr, MatchResult, [], map, true, false, Ok};
 ghost use Rattle.clap.specs.Words.{IsAmong, fault_of, subcommand_of, takes};
-ghost use Rattle.yq_words.specs.declared.command.Command.TheVariants.{Help};
-ghost use Rattle.yq_words.specs.Asked as spec;
-ghost use Rattle.yq_words.specs.Line.{yq};
+ghost use Rattle.yq_line.specs.declared.command.Command.TheVariants.{Help};
+ghost use Rattle.yq_line.specs.declared.words_error.WordsError.{WordsError};
+ghost use Rattle.yq_line.specs.Asked as spec;
+ghost use Rattle.yq_line.specs.Line.{yq};
 
-use crate::command::Command;
-use crate::line::matched;
-use crate::usage::UsageCause;
-use crate::words::asked::command_in;
-use crate::words_error::WordsError;
 use clap::error::ErrorKind;
 use std::alloc::{AllocError, Global};
-
-pub mod asked;
-
-/// Whether a word names a command.
-fn is_command_word(word: &str) -> bool
-    ensures { result ≡ spec.is_command_word word.now }
-{
-    word == "eval" || word == "undo" || word == "redo" || word == "history" || word == "squash"
-}
-
-/// The command's word, and the words behind it.
-pub(crate) fn split_command<'a, 'w>(words: &'w [&'a str]) -> (&'a str, &'w [&'a str])
-    ensures { result.0.now ∷ map (λ w. w.now) result.1.now ≡
-        spec.with_command (map (λ w. w.now) words.entry.now) }
-{
-    match words.split_first() {
-        Some((word, rest)) if is_command_word(word) => (word, rest),
-        Some((word, rest)) if *word == "e" => ("eval", rest),
-        _ => ("eval", words),
-    }
-}
+use yq_line::{Command, WordsError, command_in, matched};
+use yq_usage::{UsageCause, split_command};
 
 /// The words as `clap` reads them.
 fn full_words<'a>(alloc: Global, words: &[&'a str]) -> Result<Vec<&'a str>, AllocError>

@@ -1,8 +1,8 @@
 //! A history of digits, by which lists over a failing store are compared.
 
 use std::alloc::{AllocError, Global};
-use yq_commands::Answer;
 use yq_history::Fault;
+use yq_lists::Answer;
 use yq_store::Left;
 
 /// What a command asks of a file `n: D`.

@@ -1,5 +1,5 @@
 use Rattle.std.proofs.Common.{◌≡◌, map, length}
-use Rattle.yq_words.specs.Asked as spec
+use Rattle.yq_line.specs.Asked as spec
 use Rattle.yq_words.proofs.words.asks_help.Given as goal
 
 abbrev pub invariant-words : goal.invariant-words

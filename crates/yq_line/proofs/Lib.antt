@@ -1,0 +1,6 @@
+pub mod ClapRows
+pub mod ClapFaults
+pub mod ClapLevel
+pub mod ClapWalk
+pub mod Counts
+pub mod LineLaws

@@ -1,0 +1,18 @@
+-- The command line, one command more.
+use Rattle.std.proofs.Common.{◌≡◌, ◌∙◌, ◌≤◌, ◌-◌, ℕ, List, [], ◌∷◌, false, ap, arith, drop, get_or, length, take}
+use Rattle.std.proofs.lemmas.List.{take_all}
+use Rattle.clap.specs.Words.{App, AddsSubcommand, app_of, with_subcommand}
+use Rattle.clap.specs.declared.builder.command.Command.{Command}
+use Rattle.clap.specs.declared.builder.command.Command.TheViews.{out-Command as fields_of}
+use Rattle.yq_line.specs.declared.line.SubCommand.{SubCommand}
+use Rattle.yq_line.specs.declared.line.SubCommand.TheVariants.{Eval}
+use Rattle.yq_line.specs.Parts.{command_app, with_commands}
+
+-- what is left of the commands, one command more
+module _ (old sub new : Command) (adds : AddsSubcommand old sub new) (local : (fields_of sub).has_globals ≡ false) where
+  pub commands_more : (words : List SubCommand) (count : ℕ) → app_of sub ≡ command_app (get_or words 0 Eval) → 1 ≤ length words → length words ≤ count →
+      with_commands (app_of new) (take (count - 1) (drop 1 words)) ≡ with_commands (app_of old) words
+  commands_more [] count is some all = absurd (omega (arith, some))
+  commands_more (word ∷ words) count is some all =
+      ap (with_commands (app_of new)) (take_all (count - 1) words (omega (arith, all)))
+      ∙ ap (λ app. with_commands app words) (adds.shape local ∙ ap (λ (a : App). with_subcommand (app_of old) a.top) is)

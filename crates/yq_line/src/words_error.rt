@@ -1,0 +1,24 @@
+//! Why words are no command.
+
+use std::alloc::AllocError;
+use yq_usage::UsageCause;
+
+/// Why words are no command.
+#[derive(Clone, Copy, Debug, PartialEq, Eq)]
+pub enum WordsError {
+    /// They are no words of the command line.
+    Usage(UsageCause),
+    /// Memory ran out.
+    OutOfMemory,
+}
+
+impl From<AllocError> for WordsError {
+    ghost use Rattle.std.specs.Prelude.{◌≡◌};
+    ghost use Rattle.yq_line.specs.declared.words_error.WordsError.TheVariants.{OutOfMemory};
+
+    ghost from_gives = { λ _ e. e ≡ OutOfMemory };
+
+    fn from(_refused: AllocError) -> WordsError {
+        WordsError::OutOfMemory
+    }
+}

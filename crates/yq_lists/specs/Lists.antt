@@ -1,0 +1,179 @@
+-- Lists of commands as runs of a history (own).
+use Rattle.std.specs.Prelude.{◌≡◌, ◌≢◌, ◌⊎◌, ◌||◌, ◌+◌, ℕ, Bool, true, false, not, List, [], ◌∷◌, map, flat_map, All, if◌then◌else◌, MatchBool, MatchResult, Option, Some, None, Result, Ok, Err}
+use Rattle.std.specs.FinMap.{get}
+use Rattle.yq_journal.specs.History.{History}
+use Rattle.yq_output.specs.declared.answer.Answer.{Answer}
+use Rattle.yq_output.specs.declared.answer.Answer.TheVariants.{Done, NoMatch, Refused}
+use Rattle.yq_line.specs.declared.command.Command.{Command}
+use Rattle.yq_history.specs.declared.fault.Fault.{Fault}
+use Rattle.yq_history.specs.declared.fault.Fault.TheVariants.{OutFailed, OutOfMemory}
+use Rattle.yq_history.specs.Causes.{Cause, IsFor}
+use Rattle.yq_commands.specs.CommandNames.{IsOn, IsNotNamed}
+use Rattle.yq_store.specs.FileMap.{FileMap}
+use Rattle.yq_commands.specs.CommandEffects.{OfEffect, expression_fault}
+use Rattle.yq_commands.specs.FileEdits.{HasEdited}
+use Rattle.yq_history.specs.Effects.{Effect, Works, printed_by}
+use Rattle.yq_history.specs.Faults.{is_failure, is_outside, is_output}
+use Rattle.yq_history.specs.Pair.{GoodIn}
+use Rattle.yq_commands.specs.Prints.{report_of, prints}
+use Rattle.yq_history.specs.Report.{Report}
+use Rattle.yq_commands.specs.CommandSteps.{cause_of, next_of}
+
+-- the command shares no name with the file and the journal; or it isn't on them, and prints and writes no name
+abbrev pub IsUnrelated : List ℕ → List ℕ → Command → Type 0
+IsUnrelated file journal c = (IsNotNamed file c × IsNotNamed journal c) ⊎ ((IsOn file journal c → ⊥) × (prints c ≡ true))
+
+-- each command is on the pair, or apart from it
+abbrev pub AllOnOrApart : List ℕ → List ℕ → List Command → Type 0
+AllOnOrApart file journal cs = All (λ c. IsOn file journal c ⊎ IsUnrelated file journal c) cs
+
+-- what a command comes to: its answer, and the bytes that it printed
+pub record Reply : Type 0 where
+  pub answer : Answer
+  pub printed : List ℕ
+
+-- the answers of several
+abbrev pub answers_in : List Reply → List Answer
+answers_in rs = map (λ (r : Reply). r.answer) rs
+
+-- the bytes that they printed, one after the other
+abbrev pub printed_in : List Reply → List ℕ
+printed_in rs = flat_map (λ (r : Reply). r.printed) rs
+
+-- the answer to a command that was carried out
+abbrev pub answer_by : Bool → Answer
+answer_by true = Done
+answer_by false = NoMatch
+
+-- the answer to what a command came to that shows this: it was carried out, or its output failed, or it was refused
+abbrev pub IsAnswer : {T : Type 0} → Result T Fault → Answer → Report → Type 0
+IsAnswer r a s = MatchResult r (λ _. (a ≡ answer_by s.is_match) ⊎ ((a ≡ Refused OutFailed) × (s.printed ≢ []))) (λ x. a ≡ Refused x)
+
+-- a command was refused: its output failed, and the history stays; or, where a call of the store failed or memory was refused, it was carried out or not;
+-- or it was refused for its cause, and the history stays
+abbrev pub CommandRefused : Command → Option History → Fault → Option History → Type 0
+CommandRefused c h e k =
+    MatchBool (is_output e) ((cause_of c h ≡ None) × (k ≡ h))
+    (MatchBool (is_outside e) ((k ≡ h) ⊎ (k ≡ next_of c h)) (IsFor (cause_of c h) e × (k ≡ h)))
+
+-- a command was carried out: what it was asked for is there or not, and it printed these bytes
+abbrev pub IsCarriedOut : Command → Option History → Bool → List ℕ → Option History → Type 0
+IsCarriedOut c h is_match o k = (cause_of c h ≡ None) × (is_match ≡ (report_of c h).is_match) × (o ≡ (report_of c h).printed) × (k ≡ next_of c h)
+
+-- from a history, a command gives this answer, prints these bytes, and goes on to another history: it is carried out, or it is refused and prints nothing
+abbrev pub Steps : Command → Option History → Answer → List ℕ → Option History → Type 0
+Steps c h Done o k = IsCarriedOut c h true o k
+Steps c h NoMatch o k = IsCarriedOut c h false o k
+Steps c h (Refused e) o k = (o ≡ []) × CommandRefused c h e k
+
+-- a command on the pair steps its history, and one apart from it leaves it
+abbrev pub Goes : List ℕ → List ℕ → Command → Option History → Reply → Option History → Type 0
+Goes file journal c h r k = (IsOn file journal c × Steps c h r.answer r.printed k) ⊎ (IsUnrelated file journal c × (k ≡ h))
+
+-- one command after another
+abbrev pub Run : List ℕ → List ℕ → Option History → List Command → List Reply → Option History → Type 0
+Run file journal h [] [] k = k ≡ h
+Run file journal h (c ∷ cs) (r ∷ rs) k = (m : Option History) × Goes file journal c h r m × Run file journal m cs rs k
+Run file journal h [] (r ∷ rs) k = ⊥
+Run file journal h (c ∷ cs) [] k = ⊥
+
+-- ---- where nothing failed from outside
+
+-- the reply that a cause calls for: what is shown where there is none, and else a refusal that prints nothing
+abbrev pub IsReply : Option Cause → Report → Reply → Type 0
+IsReply None report r = (r.answer ≡ answer_by report.is_match) × (r.printed ≡ report.printed)
+IsReply (Some x) report r = ((e : Fault) × (r.answer ≡ Refused e) × IsFor (Some x) e) × (r.printed ≡ [])
+
+-- a command on the pair has the reply that its cause calls for, and steps its history; one apart leaves it
+abbrev pub GoesExactly : List ℕ → List ℕ → Command → Option History → Reply → Option History → Type 0
+GoesExactly file journal c h r k = (IsOn file journal c × IsReply (cause_of c h) (report_of c h) r × (k ≡ next_of c h)) ⊎ (IsUnrelated file journal c × (k ≡ h))
+
+-- one command after another
+abbrev pub RunExactly : List ℕ → List ℕ → Option History → List Command → List Reply → Option History → Type 0
+RunExactly file journal h [] [] k = k ≡ h
+RunExactly file journal h (c ∷ cs) (r ∷ rs) k = (m : Option History) × GoesExactly file journal c h r m × RunExactly file journal m cs rs k
+RunExactly file journal h [] (r ∷ rs) k = ⊥
+RunExactly file journal h (c ∷ cs) [] k = ⊥
+
+-- ---- what the store's names hold between two commands
+
+-- the answer is a refusal in which no call of the store failed and no memory was refused
+abbrev pub is_kept : Answer → Bool
+is_kept (Refused e) = not (is_outside e)
+is_kept _ = false
+
+-- what a command's answer and the bytes that it printed tell of an effect: it came about and printed its bytes; or it was refused and printed nothing;
+-- that the output failed tells nothing, and that there is no match is never told
+abbrev pub ReportsEffect : Effect → List ℕ → List ℕ → FileMap → FileMap → Answer → List ℕ → Type 0
+ReportsEffect x file journal old new Done o = Works x file journal old new {T = Unit {0}} (Ok tt) × (o ≡ printed_by x)
+ReportsEffect x file journal old new NoMatch o = ⊥
+ReportsEffect x file journal old new (Refused e) o = MatchBool (is_output e) (Unit {0}) (Works x file journal old new {T = Unit {0}} (Err e)) × (o ≡ [])
+
+-- the reply, and what the file and the journal then hold, are those of the command's effect on what they held, be they good for a history or not
+abbrev pub HasEffect : Command → Reply → FileMap → FileMap → Type 0
+HasEffect c r old new =
+    (file journal : List ℕ) → file ≢ journal → IsOn file journal c →
+    OfEffect c (get old file) (get old journal) (λ x. ReportsEffect x file journal old new r.answer r.printed)
+
+-- from every history for which a pair is good it goes on to one for which the pair is good then
+abbrev pub StepsHistory : Command → Reply → FileMap → FileMap → Type 0
+StepsHistory c r old new =
+    (file journal : List ℕ) → file ≢ journal → IsOn file journal c ⊎ IsUnrelated file journal c → (h : Option History) → GoodIn old file journal h →
+    (k : Option History) × Goes file journal c h r k × GoodIn new file journal k
+
+-- a command is refused for that fault, or for want of memory
+abbrev pub ReportsUnparsed : Fault → Answer → Type 0
+ReportsUnparsed f (Refused e) = e ≢ OutOfMemory → e ≡ f
+ReportsUnparsed f _ = ⊥
+
+-- A command that prints, or is refused so, leaves every name; any other leaves the names that it doesn't name; it has its effect, and steps histories.
+-- What was accepted of an expression with updates has edited the file's text; an expression that is no program is refused before all else.
+pub record RunsTo (c : Command) (r : Reply) (old new : FileMap) : Type 0 where
+  pub all : (prints c || is_kept r.answer) ≡ true → new ≡ old
+  pub others : (q : List ℕ) → IsNotNamed q c → get new q ≡ get old q
+  pub effect : HasEffect c r old new
+  pub steps : StepsHistory c r old new
+  pub edited : r.answer ≡ Done → HasEdited c old new r.printed
+  pub unparsed : (f : Fault) → expression_fault c ≡ Some f → ReportsUnparsed f r.answer
+
+-- one command after another
+abbrev pub Keeps : FileMap → List Command → List Reply → FileMap → Type 0
+Keeps old [] [] new = new ≡ old
+Keeps old (c ∷ cs) (r ∷ rs) new = (m : FileMap) × RunsTo c r old m × Keeps m cs rs new
+Keeps old [] (r ∷ rs) new = ⊥
+Keeps old (c ∷ cs) [] new = ⊥
+
+-- ---- answers
+
+-- memory was refused
+abbrev pub is_memory : Fault → Bool
+is_memory OutOfMemory = true
+is_memory _ = false
+
+-- the answer tells of a call of the store that failed
+abbrev pub reports_failure : Answer → Bool
+reports_failure (Refused e) = is_failure e
+reports_failure _ = false
+
+-- the answer tells that the output failed
+abbrev pub reports_output : Answer → Bool
+reports_output (Refused e) = is_output e
+reports_output _ = false
+
+-- how many answers tell it
+abbrev pub count_passing : (Answer → Bool) → List Answer → ℕ
+count_passing passes [] = 0
+count_passing passes (a ∷ as') = if passes a then count_passing passes as' + 1 else count_passing passes as'
+
+-- how many tell of a call of the store that failed
+abbrev pub failures_in : List Answer → ℕ
+failures_in as' = count_passing reports_failure as'
+
+-- how many tell that the output failed
+abbrev pub output_failures_in : List Answer → ℕ
+output_failures_in as' = count_passing reports_output as'
+
+-- the answer doesn't tell of want of memory
+abbrev pub has_memory : Answer → Bool
+has_memory (Refused e) = not (is_memory e)
+has_memory _ = true

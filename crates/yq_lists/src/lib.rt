@@ -1,0 +1,7 @@
+//! Lists of commands, carried out over a store, with an answer to each.
+#![tactic(auto)]
+
+mod run;
+
+pub use run::run_list;
+pub use yq_output::{Answer, MemoryOut, Out, PutError, StandardOut, USAGE, command_of};

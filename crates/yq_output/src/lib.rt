@@ -1,0 +1,14 @@
+//! What the program is told and what it tells: the command that its words ask for, answers, outputs and help.
+#![tactic(auto)]
+
+mod answer;
+pub mod help;
+mod output;
+mod words;
+
+pub use answer::Answer;
+pub use help::USAGE;
+pub use output::memory::MemoryOut;
+pub use output::standard::StandardOut;
+pub use output::{Out, PutError};
+pub use words::command_of;

@@ -1,0 +1,16 @@
+//! Why words are no command.
+
+/// Why words are no command.
+#[derive(Clone, Copy, Debug, PartialEq, Eq)]
+pub enum UsageCause {
+    /// A word isn't UTF-8.
+    NotText,
+    /// A word doesn't fit, or one is missing.
+    Words,
+    /// FILE is `-`.
+    FileIsDash,
+    /// The journal has the name of FILE.
+    JournalIsFile,
+    /// N is no number of 64 bits.
+    BadCount,
+}
