@@ -52,7 +52,7 @@ fn are_as_digits(
 
 /// Runs the list with one call failing, and says how many calls it made. None where answers or file are
 /// others than those of a history of digits, or another call failed.
-fn calls_made(
+fn call_count(
     alloc: Global,
     commands: &[Command],
     call: u64,
@@ -81,15 +81,15 @@ fn commands(alloc: Global) -> Result<Vec<Command>, Fault> {
 fn each_call_of_a_list(rt: HostRuntime) -> Result<(), Fail> {
     let alloc = rt.alloc();
     let commands = commands(alloc)?;
-    let calls = calls_made(alloc, &commands, 0, Left::OldBytes)?;
+    let calls = call_count(alloc, &commands, 0, Left::OldBytes)?;
     assert!(rt; calls == Some(LIST_CALLS));
     'calls: for call in 1..=LIST_CALLS {
         assert!(rt;
-            calls_made(alloc, &commands, call, Left::OldBytes)?.is_some(),
+            call_count(alloc, &commands, call, Left::OldBytes)?.is_some(),
             "{call}"
         );
         assert!(rt;
-            calls_made(alloc, &commands, call, Left::NewBytes)?.is_some(),
+            call_count(alloc, &commands, call, Left::NewBytes)?.is_some(),
             "{call}"
         );
     }

@@ -116,7 +116,7 @@ fn row_count(alloc: Global, text: &str) -> Result<Option<String>, ReadError> {
 }
 
 /// What the call gives, if it can be made and nothing but memory can be wanting.
-fn made(
+fn called_for_text(
     alloc: Global,
     value: &Value,
     call: Call,
@@ -146,6 +146,6 @@ pub fn called(
     match call {
         Call::Inline => node_of(alloc, text),
         Call::Rows => row_count(alloc, text),
-        _ => Ok(made(alloc, value, call, text)?),
+        _ => Ok(called_for_text(alloc, value, call, text)?),
     }
 }

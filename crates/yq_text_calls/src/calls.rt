@@ -59,9 +59,9 @@ static CALLS: [(Call, &str, &str, Option<usize>); 19] = [
 ];
 
 /// Whether a call gave what is wanted, and took memory as often.
-fn is_wanted(given: &String, want: &str, room: Option<usize>) -> bool {
-    let taken = room.unwrap_or(given.capacity());
-    given.as_str() == want && given.capacity() == taken
+fn is_wanted(text: &String, want: &str, room: Option<usize>) -> bool {
+    let taken = room.unwrap_or(text.capacity());
+    text.as_str() == want && text.capacity() == taken
 }
 
 /// With all memory held the call is refused; once enough is given back it gives what is wanted.
@@ -74,7 +74,7 @@ fn is_refused_first(
     let mut held = all_memory(alloc)?;
     'growths: for nth_growth in 0..4096u32 {
         match called(alloc, value, *call, text) {
-            Ok(Some(given)) => return Ok(nth_growth > 0 && is_wanted(&given, want, *room)),
+            Ok(Some(answer)) => return Ok(nth_growth > 0 && is_wanted(&answer, want, *room)),
             Err(ReadError::Memory) => {
                 let _ = held.pop();
             }
@@ -101,7 +101,7 @@ fn value_of(alloc: Global) -> Result<Value, AllocError> {
 }
 
 /// Whether copies are the same, and other scalars aren't.
-fn are_told_apart(alloc: Global) -> Result<bool, AllocError> {
+fn are_compared(alloc: Global) -> Result<bool, AllocError> {
     let scalar = Scalar::plain(alloc, "01")?;
     let other = Scalar::plain(alloc, "1")?;
     let copy = scalar.copy(alloc)?;
@@ -114,6 +114,6 @@ fn each_growth_of_a_call(rt: HostRuntime) -> Result<(), Fail> {
     'calls: for row in &CALLS {
         assert!(rt; is_refused_first(rt.alloc(), &value, row)?, "{}", row.1);
     }
-    assert!(rt; are_told_apart(rt.alloc())?);
+    assert!(rt; are_compared(rt.alloc())?);
     Ok(())
 }

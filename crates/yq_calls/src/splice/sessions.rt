@@ -145,7 +145,7 @@ fn mapping(alloc: Global, is_numbered: bool) -> Result<String, AllocError> {
 }
 
 /// Carries out an expression, and says by how many splices. None where more than so many lines are read.
-fn splices_made(
+fn splice_count(
     alloc: Global,
     session: &mut Session,
     expr: &str,
@@ -161,7 +161,7 @@ fn splices_made(
 fn are_exchanged(alloc: Global, session: &mut Session) -> Result<bool, Fail> {
     'rows: for i in 0..MANY {
         let expr = format!(in alloc; ".k{i} = \"x\"")?;
-        if splices_made(alloc, session, &expr, 1)? != Some(1) {
+        if splice_count(alloc, session, &expr, 1)? != Some(1) {
             return Ok(false);
         }
     }
@@ -192,7 +192,7 @@ static TOUCHED: [(&str, &str, u64); 6] = [
 /// Whether an expression on a text reads that many lines at most.
 fn reads_few(alloc: Global, text: &str, expr: &str, most: u64) -> Result<bool, Fail> {
     let mut session = Session::open(alloc, text)?;
-    Ok(splices_made(alloc, &mut session, expr, most)?.is_some())
+    Ok(splice_count(alloc, &mut session, expr, most)?.is_some())
 }
 
 /// The lines of these are counted at most: that of a marker that stays isn't.
