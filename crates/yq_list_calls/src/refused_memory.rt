@@ -101,7 +101,7 @@ fn is_refused_first(
 
 /// A store for each growth.
 fn stores(alloc: Global) -> Result<Vec<MemoryStore>, Fail> {
-    let mut stores = Vec::with_capacity(alloc, MAX_GROWTHS)?;
+    let mut stores = Vec::new(alloc);
     'stores: for _ in 0..MAX_GROWTHS {
         stores.push(store_with(alloc, "n: 1\n")?)?;
     }

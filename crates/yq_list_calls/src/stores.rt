@@ -29,7 +29,7 @@ pub fn holds(store: &MemoryStore, name: &str, text: &str) -> bool {
 
 /// The commands that words ask for.
 pub fn commands_of(alloc: Global, list: &[&[&str]]) -> Result<Vec<Command>, Fault> {
-    let mut commands = Vec::with_capacity(alloc, list.len())?;
+    let mut commands = Vec::new(alloc);
     'words: for words in list {
         commands.push(command_of(alloc, words)?)?;
     }
