@@ -2,7 +2,7 @@
 ghost use Rattle.yq_block_scalars.specs.declared.block_types.Before.TheVariants.{Nothing};
 
 /// What stands before a line of folded text.
-#[derive(Clone, Copy, PartialEq, Eq)]
+#[derive(Clone, Copy)]
 pub enum Before {
     /// Empty lines alone.
     Nothing,
@@ -13,7 +13,7 @@ pub enum Before {
 }
 
 /// The break that is written.
-#[derive(Clone, Copy, Debug, PartialEq, Eq)]
+#[derive(Clone, Copy)]
 pub enum Break {
     Lf,
     CrLf,

@@ -1,3 +1,4 @@
 pub mod DistinctKeys
 pub mod IntegerLaws
+pub mod LoopLaws
 pub mod SameContentLaws

@@ -31,7 +31,6 @@ pub struct Item<'t> {
 }
 
 /// How many bytes of white space and breaks are in front.
-#[tactic(auto, unfolding(yq_flow_scalars::specs::Text::upto))]
 fn space_len(text: &[u8]) -> usize
     ensures { result ≡ upto no_gap text.now }
 {
@@ -48,7 +47,6 @@ fn space_len(text: &[u8]) -> usize
 }
 
 /// How many breaks there are among white space and breaks.
-#[tactic(auto, unfolding(yq_flow_scalars::specs::ContentReading::breaks))]
 fn breaks(text: &[u8]) -> usize
     ensures { result ≡ spec.breaks text.now }
 {
@@ -108,7 +106,6 @@ fn ends_run(quote: u8, text: &[u8]) -> bool
 }
 
 /// How many bytes in front stand for themselves.
-#[tactic(auto, unfolding(yq_flow_scalars::specs::Text::upto))]
 fn run_len(quote: u8, text: &[u8]) -> usize
     ensures { result ≡ upto (spec.ends_run quote) text.now }
 {

@@ -4,7 +4,7 @@ ghost use Rattle.yq_flow_scalars.specs.Numbers.{is_i64};
 ghost use Rattle.yq_flow_scalars.specs.Schema.{IsIntOf};
 ghost use Rattle.yq_flow_scalars.specs.SchemaReading as spec;
 
-use yq_flow_scalars::are_digits;
+use yq_flow_scalars::{are_digits, has_base};
 
 /// The number that the text spells, if it is an int of the core schema (YAML 1.2.2, section 10.3.2)
 /// and its number is an `i64`.
@@ -26,16 +26,6 @@ fn number_of(text: &str) -> Option<i64>
         based_value(16, text.split_at(2).1)
     } else {
         decimal_value(text)
-    }
-}
-
-/// Whether the text begins with `0` and the letter of a base.
-fn has_base(letter: u8, text: &[u8]) -> bool
-    ensures { result ≡ spec.has_base letter text.now }
-{
-    match text {
-        [b'0', second, ..] => *second == letter,
-        _ => false,
     }
 }
 

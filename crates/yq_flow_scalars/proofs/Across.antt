@@ -18,6 +18,17 @@ rest_of r = take (length r - 1) (drop 1 r)
 pub rest_is : (b : ℕ) (bs : List ℕ) → rest_of (b ∷ bs) ≡ bs
 rest_is b bs = take_rest (b ∷ bs) 1
 
+-- steps of a loop over rests
+pub upto_next : (ends : List ℕ → Bool) (t : List ℕ) → 1 ≤ length t → ends t ≡ false → upto ends t ≡ 1 + upto ends (rest_of t)
+unfolding upto
+upto_next ends [] le h = absurd (omega arith)
+upto_next ends (b ∷ bs) le h = rw (h, rest_is) (omega arith)
+
+pub upto_none : (ends : List ℕ → Bool) (t : List ℕ) → length t < 1 → upto ends t ≡ 0
+unfolding upto
+upto_none ends [] lt = refl
+upto_none ends (b ∷ bs) lt = absurd (omega arith)
+
 pub rest_length : (n : ℕ) (r : List ℕ) (all : ℕ) → 1 ≤ length r → n + length r ≡ all → n + 1 + length (rest_of r) ≡ all
 rest_length n r all h e = rw (take_rest r 1) (omega (arith, length-drop 1 r))
 

@@ -5,7 +5,7 @@ use Rattle.std.proofs.lemmas.List.Sums.{position_or_len_is}
 use Rattle.std.specs.List.{position_or_len}
 use Rattle.std.specs.Option.{unwrap_or}
 use Rattle.memchr.specs.Find.{IsFirstByte, is_byte}
-use Rattle.yq_flow_scalars.specs.Text.{upto, at_feed, line_len, is_line, is_empty}
+use Rattle.yq_flow_scalars.specs.Text.{upto, at_feed, line_len, is_break, is_line, is_empty, ends_line}
 use Rattle.yq_flow_scalars.proofs.Upto.{upto_le_length}
 use Rattle.std.proofs.Math.Dec.{eqb-suc-suc, eqb-zero-suc}
 
@@ -31,6 +31,11 @@ line_len_here t n e h = omega (arith, line_len-feed t)
 
 pub line_len_last : (t : List ℕ) (n : ℕ) → n ≡ upto at_feed t → length t ≤ n → line_len t ≡ n
 line_len_last t n e h = omega (arith, line_len-feed t, upto_le_length at_feed t)
+
+-- where the end is not in front, a line ends at a break
+pub ends_line_is : (t : List ℕ) → 1 ≤ length t → ends_line t ≡ is_break t
+ends_line_is [] le = absurd (omega arith)
+ends_line_is (b ∷ bs) le = refl
 
 empty-length : (t : List ℕ) → is_empty t ≡ eqb 0 (length t)
 empty-length [] = refl

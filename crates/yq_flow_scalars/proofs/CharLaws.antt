@@ -10,6 +10,7 @@ use Rattle.yq_flow_scalars.specs.Quoted.{letters, beside, digit_counts, is_unico
 use Rattle.yq_flow_scalars.specs.SchemaReading.{is_digit}
 use Rattle.yq_flow_scalars.specs.QuotedReading.{hex, hex_digit, escape, coded, lettered}
 use Rattle.yq_flow_scalars.proofs.Bools.{chosen, bind_some}
+use Rattle.yq_flow_scalars.proofs.EscapeLaws.{escape_cases, none_escaped}
 
 -- digits in front are read as the number that they write
 pub hex_again : (v : ℕ) (digits rest : List ℕ) → AllDigits 16 digits → hex (length digits) v (digits ++ rest) ≡ Some (digits_value_after 16 v digits)
@@ -121,5 +122,8 @@ by_letter letter c k t h =
     }
 
 pub escape_takes : (t : List ℕ) (c k : ℕ) → escape t ≡ Some (c, k) → Escaped c k t
-unfolding escape
-escape_takes t c k h1 = search (rules, chosen, by_count, eqb-true, by_letter)
+escape_takes [] c k h = absurd (none_escaped c k h)
+escape_takes (b ∷ bs) c k h = elim (escape_cases b c k bs h) [
+  | inl x ↦ by_count b x.0 c k bs x.1 x.2
+  | inr x ↦ by_letter b c k bs x
+]

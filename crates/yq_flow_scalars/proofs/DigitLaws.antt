@@ -3,12 +3,13 @@ use Rattle.std.proofs.Common.{◌≡◌, ℕ, ◌≤◌, true, false, List, [], 
 use Rattle.std.specs.List.{prefix_len}
 use Rattle.std.specs.Str.Parse.{AllDigits, IsNumeral}
 use Rattle.std.proofs.lemmas.Bool.{false≢true, cases_Bool, ltb-true, lt-ltb}
-use Rattle.std.proofs.lemmas.List.Sums.{prefix_len-le-length}
 use Rattle.yq_flow_scalars.specs.Text.{is_empty, front}
-use Rattle.yq_flow_scalars.specs.SchemaReading.{is_digit, past_digits, are_digits}
+use Rattle.yq_flow_scalars.specs.SchemaReading.{is_digit, past_digits, are_digits, has_base}
 
-pub digits_within : (base : ℕ) (t : List ℕ) (n : ℕ) → n ≡ prefix_len (is_digit base) t → n ≤ length t
-digits_within base t n e = omega (arith, e, prefix_len-le-length (is_digit base) t)
+pub has_two : (letter : ℕ) (t : List ℕ) → has_base letter t ≡ true → 2 ≤ length t
+has_two letter [] h = absurd (false≢true h)
+has_two letter (a ∷ []) h = absurd (false≢true h)
+has_two letter (a ∷ b ∷ t) h = omega arith
 
 pub past_digit : (base b : ℕ) (bs : List ℕ) → is_digit base b ≡ true → past_digits base (b ∷ bs) ≡ past_digits base bs
 past_digit base b bs h = rw (h, one-add) refl

@@ -1,6 +1,7 @@
 pub mod Across
 pub mod TextChars
 pub mod PlainRuns
+pub mod Prefixes
 pub mod Bools
 pub mod Boundaries
 pub mod Breaks

@@ -1,6 +1,7 @@
 -- Runs of bytes: what lanes tell.
-use Rattle.std.proofs.Common.{◌≡◌, ℕ, ◌+◌, ◌%◌, ◌^◌, ◌<◌, ◌≤◌, Bool, true, false, cond, ◌||◌, not, eqb, List, [], ◌∷◌, map, length, drop, Fits, w8, refl, ap, ap₂, ◌∙◌, arith, rules}
-use Rattle.std.proofs.lemmas.Bool.{agree_below, agree_below_at, cases_Bool, cases_eq, eq-eqb, ne_eqb}
+use Rattle.std.proofs.Common.{◌≡◌, ℕ, ◌+◌, ◌%◌, ◌^◌, ◌<◌, ◌≤◌, Bool, true, false, cond, ◌||◌, ◌&&◌, not, eqb, suc, List, [], ◌∷◌, map, length, drop, Fits, w8, refl, ap, ap₂, ◌∙◌, arith, one-add}
+use Rattle.std.proofs.lemmas.Bool.{agree_below, agree_below_at, eq-eqb, ne_eqb}
+use Rattle.std.proofs.Math.Dec.{eqb-suc-suc, eqb-zero-suc}
 use Rattle.std.proofs.lemmas.List.{length-map}
 use Rattle.std.proofs.lemmas.List.Folds.{prefix_len-append}
 use Rattle.std.proofs.lemmas.List.Sums.{prefix_len-le-length}
@@ -24,14 +25,27 @@ each_byte f p all (x ∷ xs) fits = ap₂ (λ a b. a ∷ b) (agree_below_at (λ 
 abbrev pub lane : Bool → ℕ
 lane b = cond b 255 0
 
+three_lanes : (p q r : Bool) → top 7 (bit_or (bit_or (lane p) (lane q)) (lane r)) ≡ (p || q || r)
+three_lanes true true true = refl
+three_lanes true true false = refl
+three_lanes true false true = refl
+three_lanes true false false = refl
+three_lanes false true true = refl
+three_lanes false true false = refl
+three_lanes false false true = refl
+three_lanes false false false = refl
+
 -- lanes that are any of three bytes
 pub any_byte : (a b c : ℕ) (v : List ℕ) → map (top 7) (map (λ x. bit_or (bit_or (lane (eqb x a)) (lane (eqb x b))) (lane (eqb x c))) v) ≡ map (λ x. eqb x a || eqb x b || eqb x c) v
 any_byte a b c [] = refl
-any_byte a b c (x ∷ xs) = search (rules, ap₂, any_byte a b c xs)
+any_byte a b c (x ∷ xs) = ap₂ (λ h t. h ∷ t) (three_lanes (eqb x a) (eqb x b) (eqb x c)) (any_byte a b c xs)
 
 -- a run that ends in sixteen bytes, and one that goes over them
 pub run_ends : (q : ℕ → Bool) (d : List ℕ) (i : ℕ) → i + 16 ≤ length d → prefix_len q (chunk i 16 d) < 16 → prefix_len q (drop i d) ≡ prefix_len q (chunk i 16 d)
-run_ends q d i room short = search (rules, ne_eqb, length-chunk, chunk-drop, prefix_len-append)
+run_ends q d i room short =
+    let c = chunk i 16 d in
+    let some : eqb (prefix_len q c) (length c) ≡ false = ne_eqb _ _ (λ e. absurd (omega (arith, e, short, length-chunk i 16 d room))) in
+    ap (prefix_len q) (chunk-drop i 16 d) ∙ prefix_len-append q c (drop (i + 16) d) ∙ rw some refl
 
 pub run_over : (q : ℕ → Bool) (d : List ℕ) (i : ℕ) → i + 16 ≤ length d → 16 ≤ prefix_len q (chunk i 16 d) → prefix_len q (drop i d) ≡ 16 + prefix_len q (drop (i + 16) d)
 run_over q d i room whole =
@@ -50,6 +64,10 @@ spaces_run [] = refl
 spaces_run (b ∷ bs) = ap₂ (λ c n. cond c (1 + n) 0) (not_not (eqb b 32)) (spaces_run bs)
 
 -- a run of bytes of a text goes over all of them
+run_turn : (c : Bool) (n m : ℕ) → eqb (cond (not (not c)) (1 + n) 0) (suc m) ≡ (c && eqb n m)
+run_turn true n m = rw (one-add, eqb-suc-suc) refl
+run_turn false n m = eqb-zero-suc m
+
 pub text_run : (t : List ℕ) → eqb (prefix_len (goes_on Text) t) (length t) ≡ list_all is_text_byte t
 text_run [] = refl
-text_run (b ∷ bs) = search (rules, cases_eq, eq-eqb, ne_eqb, cases_Bool, text_run bs)
+text_run (b ∷ bs) = run_turn (is_text_byte b) _ _ ∙ ap (λ r. is_text_byte b && r) (text_run bs)

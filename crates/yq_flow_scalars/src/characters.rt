@@ -28,17 +28,7 @@ pub fn has_text_chars(text: &str) -> bool
     text.chars().all(|c| is_text_char(c))
 }
 
-/// Whether the byte stands in characters alone that a text may hold.
-pub(crate) fn is_text_byte(b: u8) -> bool
-    ensures { result ≡ spec.is_text_byte b }
-{
-    matches!(
-        b,
-        b'\t' | b'\n' | b'\r' | b' '..=b'~' | 128..=193 | 195..=238 | 240..=255
-    )
-}
-
-/// Whether each byte is such a one.
+/// Whether each byte stands in characters alone that a text may hold.
 fn has_text_bytes(text: &[u8]) -> bool
     ensures { result ≡ list_all spec.is_text_byte text.now }
 {

@@ -1,10 +1,11 @@
 //! Why a text is refused.
 
 use std::alloc::{AllocError, AllocFailed};
+use std::fmt::{self, Debug, Formatter, Write};
 use std::num::NonZeroU64;
 
 /// What is at fault in a text.
-#[derive(Clone, Copy, Debug, PartialEq, Eq)]
+#[derive(Clone, Copy)]
 pub enum FaultKind {
     /// The bytes are not UTF-8.
     NotUtf8,
@@ -49,19 +50,34 @@ pub enum FaultKind {
 }
 
 /// A fault, and the line, counted from 1, on which the construct at fault begins.
-#[derive(Clone, Copy, Debug, PartialEq, Eq)]
+#[derive(Clone, Copy)]
 pub struct ReadFault {
     pub kind: FaultKind,
     pub line: NonZeroU64,
 }
 
+impl Debug for ReadFault {
+    fn fmt<W: Write>(&self, f: &mut Formatter<W>) -> fmt::Result {
+        write!(f, "a fault on line {}", self.line)
+    }
+}
+
 /// Why a text was not read.
-#[derive(Clone, Copy, Debug, PartialEq, Eq)]
+#[derive(Clone, Copy)]
 pub enum ReadError {
     /// Memory ran out.
     Memory,
     /// The text is refused.
     Fault(ReadFault),
+}
+
+impl Debug for ReadError {
+    fn fmt<W: Write>(&self, f: &mut Formatter<W>) -> fmt::Result {
+        match self {
+            ReadError::Memory => f.write_str("memory ran out"),
+            ReadError::Fault(fault) => fault.fmt(f),
+        }
+    }
 }
 
 impl From<AllocError> for ReadError {

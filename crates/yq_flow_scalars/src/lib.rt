@@ -19,6 +19,6 @@ pub use lines::{is_line, line_len, split_at_break, split_line};
 pub use piece::{Piece, further_spaces, inline_piece};
 pub use runs::{Run, run_len};
 pub use scalar::Scalar;
-pub use schema::{are_digits, is_true_word, resolve};
+pub use schema::{are_digits, has_base, is_true_word, resolve};
 pub use style::{Place, Style};
 pub use text::{behind_spaces, ends_line, is_blank, is_white, past_white, spaces_len, split_white};

@@ -43,7 +43,6 @@ pub fn split_line(text: &str) -> (&str, &str)
 }
 
 /// How far it is to the next break, or to the end, in bytes.
-#[tactic(auto, unfolding(crate::specs::Text::upto))]
 pub fn text_len(text: &[u8]) -> usize
     ensures { result ≡ upto spec.ends_line text.now }
 {

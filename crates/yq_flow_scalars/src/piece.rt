@@ -8,7 +8,7 @@ use crate::style::{Place, Style};
 /// header from `start` to `head_end` and its raw lines from `raw_start` to `end`; `indent` is the
 /// indentation of its text, in columns, and `keep` tells a `+` in its header. In a piece of another
 /// style `head_end` and `raw_start` are `end`, `indent` is 0 and `keep` is false.
-#[derive(Clone, Copy, PartialEq, Eq)]
+#[derive(Clone, Copy)]
 pub struct Piece {
     pub style: Style,
     pub start: usize,

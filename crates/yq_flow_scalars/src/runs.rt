@@ -5,7 +5,6 @@ ghost use Rattle.std.specs.Simd.Lanes.{chunk, mask_l};
 ghost use Rattle.yq_flow_scalars.specs.Runs as spec;
 ghost use Rattle.yq_flow_scalars.specs.declared.runs.Run.TheVariants.{Plain, Quoted, Spaces, Text};
 
-use crate::characters::is_text_byte;
 use std::simd::prelude::*;
 
 /// What a run is made of.
@@ -27,7 +26,10 @@ fn is_stop(run: Run, b: u8) -> bool
     ensures { result ≡ spec.is_stop run b }
 {
     match run {
-        Run::Text => !is_text_byte(b),
+        Run::Text => !matches!(
+            b,
+            b'\t' | b'\n' | b'\r' | b' '..=b'~' | 128..=193 | 195..=238 | 240..=255
+        ),
         Run::Spaces => b != b' ',
         Run::Plain => b <= b' ' || matches!(b, b':' | b',' | b'[' | b']' | b'{' | b'}'),
         Run::Quoted(quote) => b == quote || matches!(b, b'\\' | b'\n'),
@@ -120,7 +122,11 @@ fn each_len(run: Run, text: &[u8]) -> usize
     ensures value { result ≡ prefix_len (spec.goes_on run) text.now }
     ensures within { result ≤ length text.now }
 {
-    text.iter().take_while(|b| !is_stop(run, **b)).count()
+    let mut n = 0;
+    'each: while n < text.len() && !is_stop(run, text[n]) {
+        n += 1;
+    }
+    n
 }
 
 /// How long the run in front is, in bytes.

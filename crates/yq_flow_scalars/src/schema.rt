@@ -1,6 +1,5 @@
 //! The core schema: the kind of a plain scalar.
 ghost use Rattle.std.specs.Prelude.{◌≡◌, ◌≤◌};
-ghost use Rattle.std.specs.List.{prefix_len};
 ghost use Rattle.yq_flow_scalars.specs.Schema.{null_words, bool_words, infinity_words, nan_words, Resolves};
 ghost use Rattle.yq_flow_scalars.specs.SchemaReading as spec;
 ghost use Rattle.yq_flow_scalars.specs.declared.kind.Kind.{Kind};
@@ -13,25 +12,25 @@ pub fn resolve(text: &str) -> Kind
     ensures found { Resolves text.now result }
     ensures only { (kind : Kind) → Resolves text.now kind → result ≡ kind }
 {
-    kind_of(text.as_bytes())
+    kind_of(text)
 }
 
 /// Whether a text is a word for true (YAML 1.2.2, section 10.3.2).
 pub fn is_true_word(text: &str) -> bool
     ensures { result ≡ spec.is_true_word text.now }
 {
-    text == "true" || text == "True" || text == "TRUE"
+    matches!(text, "true" | "True" | "TRUE")
 }
 
 #[tactic(auto, unfolding(crate::specs::SchemaReading::resolve))]
-fn kind_of(text: &[u8]) -> Kind
+fn kind_of(text: &str) -> Kind
     ensures { result ≡ spec.resolve text.now }
 {
     if is_null(text) {
         Kind::Null
     } else if is_bool(text) {
         Kind::Bool
-    } else if is_int(text) {
+    } else if is_int(text.as_bytes()) {
         Kind::Int
     } else if is_float(text) {
         Kind::Float
@@ -40,49 +39,61 @@ fn kind_of(text: &[u8]) -> Kind
     }
 }
 
-fn is_null(text: &[u8]) -> bool
+fn is_null(text: &str) -> bool
     ensures { result ≡ spec.is_one_of null_words text.now }
 {
-    matches!(text, b"null" | b"Null" | b"NULL" | b"~" | b"")
+    matches!(text, "null" | "Null" | "NULL" | "~" | "")
 }
 
-fn is_bool(text: &[u8]) -> bool
+fn is_bool(text: &str) -> bool
     ensures { result ≡ spec.is_one_of bool_words text.now }
 {
     matches!(
         text,
-        b"true" | b"True" | b"TRUE" | b"false" | b"False" | b"FALSE"
+        "true" | "True" | "TRUE" | "false" | "False" | "FALSE"
     )
 }
 
 fn is_infinity(text: &[u8]) -> bool
     ensures { result ≡ spec.is_one_of infinity_words text.now }
 {
-    matches!(text, b".inf" | b".Inf" | b".INF")
+    text == b".inf".as_slice() || text == b".Inf".as_slice() || text == b".INF".as_slice()
 }
 
-fn is_nan(text: &[u8]) -> bool
+fn is_nan(text: &str) -> bool
     ensures { result ≡ spec.is_one_of nan_words text.now }
 {
-    matches!(text, b".nan" | b".NaN" | b".NAN")
+    matches!(text, ".nan" | ".NaN" | ".NAN")
 }
 
-#[tactic(auto, unfolding(crate::specs::SchemaReading::is_int))]
+/// Whether the text begins with `0` and the letter of a base.
+pub fn has_base(letter: u8, text: &[u8]) -> bool
+    ensures { result ≡ spec.has_base letter text.now }
+{
+    match text {
+        [b'0', second, ..] => *second == letter,
+        _ => false,
+    }
+}
+
+#[tactic(auto, using(crate::proofs::DigitLaws::has_two), unfolding(crate::specs::SchemaReading::is_int))]
 fn is_int(text: &[u8]) -> bool
     ensures { result ≡ spec.is_int text.now }
 {
-    match text {
-        [b'0', b'o', digits @ ..] => are_digits(8, digits),
-        [b'0', b'x', digits @ ..] => are_digits(16, digits),
-        _ => are_digits(10, past_sign(text)),
+    if has_base(b'o', text) {
+        are_digits(8, text.split_at(2).1)
+    } else if has_base(b'x', text) {
+        are_digits(16, text.split_at(2).1)
+    } else {
+        are_digits(10, past_sign(text))
     }
 }
 
 #[tactic(auto, unfolding(crate::specs::SchemaReading::is_float))]
-fn is_float(text: &[u8]) -> bool
+fn is_float(text: &str) -> bool
     ensures { result ≡ spec.is_float text.now }
 {
-    let behind = past_sign(text);
+    let behind = past_sign(text.as_bytes());
     is_number(behind) || is_infinity(behind) || is_nan(text)
 }
 
@@ -102,8 +113,7 @@ fn is_exponent(text: &[u8]) -> bool
 {
     match text {
         [] => true,
-        [b'e' | b'E', rest @ ..] => are_digits(10, past_sign(rest)),
-        _ => false,
+        [first, rest @ ..] => (*first == b'e' || *first == b'E') && are_digits(10, past_sign(rest)),
     }
 }
 
@@ -135,21 +145,16 @@ pub fn are_digits(base: u32, text: &[u8]) -> bool
     !text.is_empty() && past_digits(base, text).is_empty()
 }
 
-#[tactic(auto, using(crate::proofs::DigitLaws::digits_within))]
 fn past_digits(base: u32, text: &[u8]) -> &[u8]
     requires low { 2 ≤ base }
     requires high { base ≤ 36 }
     ensures { result.now ≡ spec.past_digits base text.now }
 {
-    text.split_at(digits_len(base, text)).1
-}
-
-fn digits_len(base: u32, text: &[u8]) -> usize
-    requires low { 2 ≤ base }
-    requires high { base ≤ 36 }
-    ensures { result ≡ prefix_len (spec.is_digit base) text.now }
-{
-    text.iter().take_while(|b| is_digit(base, **b)).count()
+    let mut n = 0;
+    'digits: while n < text.len() && is_digit(base, text[n]) {
+        n += 1;
+    }
+    text.split_at(n).1
 }
 
 fn is_digit(base: u32, byte: u8) -> bool

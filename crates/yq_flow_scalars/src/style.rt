@@ -1,7 +1,7 @@
 //! How a scalar is written, and where.
 
 /// How a scalar is written (YAML 1.2.2, chapters 7.3 and 8.1).
-#[derive(Clone, Copy, Debug, PartialEq, Eq)]
+#[derive(Clone, Copy)]
 pub enum Style {
     /// Without quotes, as `text`.
     Plain,
@@ -16,7 +16,7 @@ pub enum Style {
 }
 
 /// Where a scalar stands.
-#[derive(Clone, Copy, PartialEq, Eq)]
+#[derive(Clone, Copy)]
 pub enum Place {
     /// As a node outside flow collections.
     Block,

@@ -25,7 +25,7 @@ pub fn is_break(text: &[u8]) -> bool
 pub fn is_space(text: &[u8]) -> bool
     ensures { result ≡ spec.is_space text.now }
 {
-    matches!(text, [b' ' | b'\t' | b'\n', ..] | [b'\r', b'\n', ..])
+    matches!(text, [b' ' | b'\t', ..]) || is_break(text)
 }
 
 /// A break or the end.
@@ -65,7 +65,11 @@ pub fn whites_len(text: &[u8]) -> usize
     ensures value { result ≡ prefix_len spec.is_white text.now }
     ensures within { result ≤ length text.now }
 {
-    text.iter().take_while(|b| is_white(**b)).count()
+    let mut n = 0;
+    'whites: while n < text.len() && is_white(text[n]) {
+        n += 1;
+    }
+    n
 }
 
 /// What follows the white space in front.

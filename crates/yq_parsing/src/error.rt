@@ -5,7 +5,7 @@ ghost use Rattle.yq_parsing.specs.declared.error.ParseError.TheVariants.{Memory}
 use std::alloc::{AllocError, AllocFailed};
 
 /// Why a text is not a program.
-#[derive(Clone, Copy, PartialEq, Eq, Debug)]
+#[derive(Clone, Copy, Debug)]
 pub enum ParseError {
     /// E1: it is not written as an expression.
     Syntax,
