@@ -7,6 +7,7 @@ pub mod Boundaries
 pub mod Breaks
 pub mod DigitLaws
 pub mod FloatLaws
+pub mod MarkerLaws
 pub mod NumberLaws
 pub mod PlainLaws
 pub mod SchemaLaws

@@ -2,6 +2,7 @@
 ghost use Rattle.std.specs.List.{prefix_len};
 ghost use Rattle.std.specs.Prelude.{◌≡◌, ◌==◌, ◌≤◌, length};
 ghost use Rattle.yq_flow_scalars.specs.Lines as lines_spec;
+ghost use Rattle.yq_flow_scalars.specs.PlainText.{begins_marker};
 ghost use Rattle.yq_flow_scalars.specs.Text as spec;
 ghost use Rattle.yq_flow_scalars.specs.Text.{cut};
 
@@ -42,14 +43,21 @@ pub fn separates(text: &[u8]) -> bool
     text.is_empty() || is_space(text)
 }
 
+/// Whether the text begins as a marker does.
+pub fn begins_marker(text: &[u8]) -> bool
+    ensures { result ≡ begins_marker text.now }
+{
+    matches!(text, [b'-', b'-', b'-', ..] | [b'.', b'.', b'.', ..])
+}
+
 /// `---` or `...`, before white space, a break or the end.
 pub fn is_marker(text: &[u8]) -> bool
     ensures { result ≡ spec.is_marker text.now }
 {
-    match text {
-        [b'-', b'-', b'-', rest @ ..] | [b'.', b'.', b'.', rest @ ..] => separates(rest),
-        _ => false,
+    if !begins_marker(text) {
+        return false;
     }
+    separates(text.split_at(3).1)
 }
 
 /// How many spaces are in front.
