@@ -7,7 +7,7 @@ ghost use Rattle.yq_nodes.specs.View.{view};
 ghost use Rattle.yq_flow.specs.FlowPlaces as spec;
 
 use crate::flow_place::{EditPlace, end_of};
-use yq_flow_reading::plain_text::begins_marker;
+use yq_flow_scalars::text::begins_marker;
 use yq_flow_scalars::Piece;
 use yq_nodes::{Form, Inline, Step, first_is, gap_len};
 

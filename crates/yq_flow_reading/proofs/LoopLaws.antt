@@ -1,5 +1,6 @@
 -- Steps of loops over the rests of a text.
-use Rattle.std.proofs.Common.{◌≡◌, ℕ, ◌+◌, ◌<◌, ◌≤◌, Bool, true, false, eqb, List, [], ◌∷◌, length, get_or, refl, arith}
+use Rattle.std.proofs.Common.{◌≡◌, ◌≢◌, ℕ, ◌+◌, ◌<◌, ◌≤◌, Bool, true, false, List, [], ◌∷◌, length, get_or, refl, arith}
+use Rattle.std.proofs.lemmas.Bool.{ne_eqb}
 use Rattle.yq_flow_scalars.specs.ContentReading.{breaks}
 use Rattle.yq_flow_scalars.specs.PlainText.{no_rest}
 use Rattle.yq_flow_scalars.proofs.Across.{rest_of, rest_is}
@@ -9,10 +10,10 @@ unfolding breaks
 breaks_feed [] le e = absurd (omega arith)
 breaks_feed (b ∷ bs) le e = rw (e, rest_is) (omega arith)
 
-pub breaks_other : (t : List ℕ) → 1 ≤ length t → eqb (get_or t 0 0) 10 ≡ false → breaks t ≡ breaks (rest_of t)
+pub breaks_other : (t : List ℕ) → 1 ≤ length t → get_or t 0 0 ≢ 10 → breaks t ≡ breaks (rest_of t)
 unfolding breaks
-breaks_other [] le e = absurd (omega arith)
-breaks_other (b ∷ bs) le e = rw (e, rest_is) refl
+breaks_other [] le other = absurd (omega arith)
+breaks_other (b ∷ bs) le other = rw (ne_eqb b 10 other, rest_is) refl
 
 pub breaks_none : (t : List ℕ) → length t < 1 → breaks t ≡ 0
 unfolding breaks

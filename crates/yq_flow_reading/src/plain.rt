@@ -103,12 +103,19 @@ fn across(flow: bool, spaces: Option<usize>, text: &[u8]) -> Option<usize>
 pub fn begins_plain(flow: bool, text: &[u8]) -> bool
     ensures { result ≡ spec.begins_plain flow text.now }
 {
-    match text {
-        [] => false,
-        [b'a'..=b'z' | b'A'..=b'Z' | b'0'..=b'9', ..] => true,
-        [b'-' | b'?' | b':', rest @ ..] => is_safe(flow, rest),
-        [first, ..] => !is_space(text) && !is_indicator(*first),
+    let [first, rest @ ..] = text else {
+        return false;
+    };
+    if first.is_ascii_alphanumeric() {
+        return true;
     }
+    if is_space(text) {
+        return false;
+    }
+    if matches!(first, b'-' | b'?' | b':') {
+        return is_safe(flow, rest);
+    }
+    !is_indicator(*first)
 }
 
 /// How far a plain scalar in front goes on, in bytes.

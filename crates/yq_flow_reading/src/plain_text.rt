@@ -2,10 +2,12 @@
 ghost use Rattle.std.specs.List.{list_all};
 ghost use Rattle.std.specs.Prelude.{◌≡◌};
 ghost use Rattle.std.specs.Str.{chars};
+ghost use Rattle.yq_flow_reading.specs.Held.{holds};
 ghost use Rattle.yq_flow_scalars.specs.PlainText as spec;
 
 use crate::plain::{is_flow_indicator, is_indicator};
 use yq_flow_scalars::is_text_char;
+use yq_flow_scalars::text::begins_marker;
 
 /// Whether a plain scalar holds the character as it is.
 pub fn is_plain_char(c: char) -> bool
@@ -14,11 +16,31 @@ pub fn is_plain_char(c: char) -> bool
     is_text_char(c) && !matches!(c, '\t' | '\n' | '\r' | '\u{85}' | '\u{2028}' | '\u{2029}')
 }
 
-/// Whether a plain scalar holds each character as it is.
-pub fn has_plain_chars(text: &str) -> bool
-    ensures { result ≡ list_all spec.is_plain_char (chars text.now) }
+/// In what a scalar's characters stand as they are.
+#[derive(Clone, Copy)]
+pub enum Holder {
+    Plain,
+    /// Single quotes.
+    Single,
+    Literal,
+}
+
+/// Whether the character stands there as it is.
+fn holds(holder: Holder, c: char) -> bool
+    ensures { result ≡ holds holder c }
 {
-    text.chars().all(|c| is_plain_char(c))
+    match holder {
+        Holder::Plain => is_plain_char(c),
+        Holder::Single => is_plain_char(c) || c == '\t',
+        Holder::Literal => is_plain_char(c) || c == '\t' || c == '\n',
+    }
+}
+
+/// Whether each character stands there as it is.
+pub fn holds_each(holder: Holder, text: &str) -> bool
+    ensures { result ≡ list_all (holds holder) (chars text.now) }
+{
+    text.chars().all(|c| holds(holder, c))
 }
 
 /// Whether a plain scalar may begin so.
@@ -61,14 +83,7 @@ fn needs_no_quotes(flow: bool, text: &[u8]) -> bool
 fn is_merge(text: &[u8]) -> bool
     ensures { result ≡ spec.is_merge text.now }
 {
-    matches!(text, [b'<', b'<'])
-}
-
-/// Whether the text begins as a marker does.
-pub fn begins_marker(text: &[u8]) -> bool
-    ensures { result ≡ spec.begins_marker text.now }
-{
-    matches!(text, [b'-', b'-', b'-', ..] | [b'.', b'.', b'.', ..])
+    text == b"<<".as_slice()
 }
 
 /// Whether the text may be written plain on one line, in flow or not.
@@ -76,7 +91,7 @@ pub fn is_plain_text(flow: bool, text: &str) -> bool
     ensures { result ≡ spec.is_plain_text flow text.now }
 {
     let bytes = text.as_bytes();
-    has_plain_chars(text)
+    holds_each(Holder::Plain, text)
         && begins_plainly(bytes)
         && needs_no_quotes(flow, bytes)
         && !is_merge(bytes)

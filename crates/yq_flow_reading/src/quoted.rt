@@ -98,12 +98,14 @@ fn coded(digits: usize, code: Option<u32>) -> Option<(char, usize)>
 pub fn escape(text: &[u8]) -> Option<(char, usize)>
     ensures { result ≡ spec.escape text.now }
 {
-    match text {
-        [] => None,
-        [b'x', digits @ ..] => coded(2, hex_two(0, digits)),
-        [b'u', digits @ ..] => coded(4, hex_four(0, digits)),
-        [b'U', digits @ ..] => coded(8, hex_eight(digits)),
-        [letter, ..] => Some((char_of(*letter)?, 1)),
+    let [letter, digits @ ..] = text else {
+        return None;
+    };
+    match letter {
+        b'x' => coded(2, hex_two(0, digits)),
+        b'u' => coded(4, hex_four(0, digits)),
+        b'U' => coded(8, hex_eight(digits)),
+        _ => Some((char_of(*letter)?, 1)),
     }
 }
 

@@ -1,11 +1,10 @@
 //! Which styles can write a scalar, and where.
-ghost use Rattle.std.specs.List.{list_all};
 ghost use Rattle.std.specs.Prelude.{◌≡◌};
-ghost use Rattle.std.specs.Str.{chars};
+ghost use Rattle.yq_flow_reading.specs.Held.{begins_literally};
 ghost use Rattle.yq_flow_scalars.specs.Writable as spec;
 
-use crate::plain_text::{is_plain_char, is_plain_text};
-use yq_flow_scalars::{Kind, Place, Scalar, Style, resolve};
+use crate::plain_text::{Holder, holds_each, is_plain_text};
+use yq_flow_scalars::{Kind, Place, Scalar, Style, is_white, resolve};
 
 /// Whether the kind is that of strings.
 fn is_string(kind: Kind) -> bool
@@ -30,19 +29,14 @@ fn can_write_plain(scalar: &Scalar, flow: bool) -> bool
     !is_string(scalar.kind()) || (is_string(resolve(text)) && is_plain_text(flow, text))
 }
 
-/// Whether single quotes hold each character as it is.
-fn has_single_chars(text: &str) -> bool
-    ensures { result ≡ list_all spec.is_single_char (chars text.now) }
+/// Whether neither white space nor an LF is in front, nor the end.
+fn begins_literally(text: &[u8]) -> bool
+    ensures { result ≡ begins_literally text.now }
 {
-    text.chars().all(|c| is_plain_char(c) || c == '\t')
-}
-
-/// Whether a literal scalar holds each character as it is.
-fn has_literal_chars(text: &str) -> bool
-    ensures { result ≡ list_all spec.is_literal_char (chars text.now) }
-{
-    text.chars()
-        .all(|c| is_plain_char(c) || c == '\t' || c == '\n')
+    match text {
+        [] => false,
+        [first, ..] => !is_white(*first) && *first != b'\n',
+    }
 }
 
 /// Whether a literal scalar holds the text as it is.
@@ -50,9 +44,7 @@ fn is_literal_text(text: &str) -> bool
     ensures { result ≡ spec.is_literal_text text.now }
 {
     let bytes = text.as_bytes();
-    !matches!(bytes, [] | [b' ' | b'\t' | b'\n', ..])
-        && !bytes.ends_with(b"\n\n")
-        && has_literal_chars(text)
+    begins_literally(bytes) && !bytes.ends_with(b"\n\n") && holds_each(Holder::Literal, text)
 }
 
 /// Whether the style can write the scalar at the place. No memory is taken.
@@ -63,7 +55,7 @@ pub fn can_write(scalar: &Scalar, style: Style, place: Place) -> bool
     let string = is_string(scalar.kind());
     match style {
         Style::Plain => can_write_plain(scalar, in_flow(place)),
-        Style::Single => string && has_single_chars(text),
+        Style::Single => string && holds_each(Holder::Single, text),
         Style::Double => string,
         Style::Literal => string && matches!(place, Place::Block) && is_literal_text(text),
         Style::Folded => false,

@@ -48,10 +48,7 @@ fn is_null(text: &str) -> bool
 fn is_bool(text: &str) -> bool
     ensures { result ≡ spec.is_one_of bool_words text.now }
 {
-    matches!(
-        text,
-        "true" | "True" | "TRUE" | "false" | "False" | "FALSE"
-    )
+    matches!(text, "true" | "True" | "TRUE" | "false" | "False" | "FALSE")
 }
 
 fn is_infinity(text: &[u8]) -> bool

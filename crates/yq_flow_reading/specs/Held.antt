@@ -1,0 +1,18 @@
+-- What plain, single-quoted and literal scalars hold as it is (own; a reader may skip it: only clauses inside this crate cite it).
+use Rattle.std.specs.Prelude.{ℕ, Bool, false, ◌&&◌, not, List, [], ◌∷◌}
+use Rattle.yq_flow_reading.specs.declared.plain_text.Holder.{Holder}
+use Rattle.yq_flow_reading.specs.declared.plain_text.Holder.TheVariants as holders
+use Rattle.yq_flow_scalars.specs.PlainText.{is_plain_char}
+use Rattle.yq_flow_scalars.specs.Text.{is_feed, is_white}
+use Rattle.yq_flow_scalars.specs.Writable.{is_single_char, is_literal_char}
+
+-- a character that stands there as it is (own)
+abbrev pub holds : Holder → ℕ → Bool
+holds holders.Plain c = is_plain_char c
+holds holders.Single c = is_single_char c
+holds holders.Literal c = is_literal_char c
+
+-- neither white space, an LF nor the end is in front (own)
+abbrev pub begins_literally : List ℕ → Bool
+begins_literally [] = false
+begins_literally (b ∷ bs) = not (is_white b) && not (is_feed b)
