@@ -7,8 +7,8 @@ ghost use Rattle.yq_nodes.specs.View.{view};
 ghost use Rattle.yq_flow.specs.FlowPlaces as spec;
 
 use crate::flow_place::{EditPlace, end_of};
-use yq_flow_scalars::text::begins_marker;
 use yq_flow_scalars::Piece;
+use yq_flow_scalars::text::begins_marker;
 use yq_nodes::{Form, Inline, Step, first_is, gap_len};
 
 /// What stands behind so many bytes.
