@@ -1,5 +1,6 @@
 pub mod Binds
 pub mod GapLaws
+pub mod GapLoops
 pub mod PieceLaws
 pub mod NodeTakes
 pub mod NodeAgain

@@ -6,7 +6,7 @@ use Rattle.yq_flow_scalars.specs.Tree.{children_of}
 use Rattle.yq_flow_scalars.specs.Tree as tree
 use Rattle.yq_nodes.specs.Nodes.{Node, empty, alias, scalar, coll, anchored, Items, none, item, key_text, sep_text, node_text, items_text, open_of, IsNode, AreItems}
 use Rattle.yq_nodes.specs.Entries.{PlacedEntry, EntryPieces, StandsIn, parts_of, part_at, placed_entry_at, pieces_text, locate_entry, item_at, inside, entry_pieces_at}
-use Rattle.yq_nodes.specs.Places.{Placed, placed, text, Parts, end, part, locate, locate_items}
+use Rattle.yq_nodes.specs.Places.{Placed, placed, Parts, end, part, locate, locate_items}
 use Rattle.yq_nodes.specs.Trees.{inner, named, key_content, placed_tree, parts_tree}
 use Rattle.yq_nodes.proofs.TreeLaws.{key_tree}
 use Rattle.yq_nodes.proofs.WrittenLaws.{key_append, sep_append, node_append}

@@ -44,8 +44,14 @@ fn next(before: Before, first: u8) -> Before
     }
 }
 
+/// Whether a line begins here.
+fn is_break(before: Before) -> bool
+    ensures { result ≡ spec.is_break before }
+{
+    matches!(before, Before::Break)
+}
+
 /// How long the gap in front is, in bytes, and whether what follows begins a line.
-#[tactic(auto, unfolding(crate::specs::Reading::gap_len, crate::specs::Reading::gap_end))]
 #[inline(always)]
 pub fn gap_len(text: &[u8]) -> (usize, bool)
     ensures len { result.0 ≡ reading.gap_len token text.now }
@@ -57,11 +63,11 @@ pub fn gap_len(text: &[u8]) -> (usize, bool)
     let mut rest = text;
     'bytes: while let [first, after @ ..] = rest {
         if !goes(before, *first, rest, after) {
-            return (n, matches!(before, Before::Break));
+            return (n, is_break(before));
         }
         before = next(before, *first);
         n += 1;
         rest = after;
     }
-    (n, matches!(before, Before::Break))
+    (n, is_break(before))
 }

@@ -48,7 +48,11 @@ fn blanks_len(text: &[u8]) -> usize
     ensures value { result ≡ prefix_len is_blank text.now }
     ensures within { result ≤ length text.now }
 {
-    text.iter().take_while(|b| is_blank_byte(**b)).count()
+    let mut n = 0;
+    'blanks: while n < text.len() && is_blank_byte(text[n]) {
+        n += 1;
+    }
+    n
 }
 
 /// What follows the white space in front.

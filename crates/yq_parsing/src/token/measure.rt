@@ -62,14 +62,22 @@ fn name_len(text: &[u8]) -> usize
     ensures value { result ≡ prefix_len is_name_byte text.now }
     ensures within { result ≤ length text.now }
 {
-    text.iter().take_while(|b| is_name_char(**b)).count()
+    let mut n = 0;
+    'name: while n < text.len() && is_name_char(text[n]) {
+        n += 1;
+    }
+    n
 }
 
 fn digits_len(text: &[u8]) -> usize
     ensures value { result ≡ prefix_len is_ascii_digit text.now }
     ensures within { result ≤ length text.now }
 {
-    text.iter().take_while(|b| b.is_ascii_digit()).count()
+    let mut n = 0;
+    'digits: while n < text.len() && text[n].is_ascii_digit() {
+        n += 1;
+    }
+    n
 }
 
 fn begins_number(text: &[u8]) -> bool

@@ -37,13 +37,21 @@ pub(super) fn past_dot(text: &str) -> &str
     }
 }
 
+fn is_plain(b: u8) -> bool
+    ensures { result ≡ spec.is_plain b }
+{
+    b != b'"' && b != b'\\'
+}
+
 fn plain_len(text: &[u8]) -> usize
     ensures value { result ≡ prefix_len spec.is_plain text.now }
     ensures within { result ≤ length text.now }
 {
-    text.iter()
-        .take_while(|b| **b != b'"' && **b != b'\\')
-        .count()
+    let mut n = 0;
+    'plain: while n < text.len() && is_plain(text[n]) {
+        n += 1;
+    }
+    n
 }
 
 /// The text cut before the first quote or backslash.
