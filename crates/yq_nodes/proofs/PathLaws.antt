@@ -1,13 +1,13 @@
 -- Where a path leads in a node, in its tree, and in its text.
-use Rattle.std.proofs.Common.{arith, ◌+◌, length, ◌≡◌, ℕ, zero, suc, Bool, true, cond, List, [], ◌∷◌, ◌++◌, Option, Some, None, option_map, option_and_then, refl, sym, ap, ◌∙◌, subst, append_assoc, rules}
+use Rattle.std.proofs.Common.{arith, ◌+◌, length, eqb, ◌≡◌, ℕ, zero, suc, Bool, true, false, cond, List, [], ◌∷◌, ◌++◌, Option, Some, None, option_map, option_and_then, refl, sym, ap, ◌∙◌, subst, append_assoc, rules}
 use Rattle.std.proofs.lemmas.Option.{same_Some}
 use Rattle.yq_flow_scalars.specs.Paths.{Step, is_here, further, child_at, node_at}
 use Rattle.yq_flow_scalars.specs.Tree.{children_of}
 use Rattle.yq_flow_scalars.specs.Tree as tree
 use Rattle.yq_nodes.specs.Nodes.{Node, empty, alias, scalar, coll, anchored, Items, none, item, key_text, sep_text, node_text, items_text, open_of, IsNode, AreItems}
-use Rattle.yq_nodes.specs.Entries.{PlacedEntry, EntryPieces, StandsIn, parts_of, part_at, placed_entry_at, pieces_text, locate_entry, item_at, inside, entry_pieces_at}
-use Rattle.yq_nodes.specs.Places.{Placed, placed, Parts, end, part, locate, locate_items}
-use Rattle.yq_nodes.specs.Trees.{inner, named, key_content, placed_tree, parts_tree}
+use Rattle.yq_nodes.specs.Entries.{PlacedEntry, EntryPieces, StandsIn, parts_in, parts_of, part_at, placed_entry_at, pieces_text, locate_entry, item_at, inside, entry_pieces_at}
+use Rattle.yq_nodes.specs.Places.{Placed, placed, sequence, mapping, holder, with_anchor, Parts, end, part, locate, locate_items}
+use Rattle.yq_nodes.specs.Trees.{inner, named, key_content, unplaced_key, placed_tree, parts_tree}
 use Rattle.yq_nodes.proofs.TreeLaws.{key_tree}
 use Rattle.yq_nodes.proofs.WrittenLaws.{key_append, sep_append, node_append}
 
@@ -21,9 +21,13 @@ placed_children (placed a s c e what) = search (rules, named_children)
 abbrev pub entry_tree : PlacedEntry → tree.Node
 entry_tree x = placed_tree x.1
 
+map_first : {A B : Type 0} {p : Option B} (f : A → B) (c : Bool) (x : A) (o : Option A) → option_map f o ≡ p → option_map f (cond c (Some x) o) ≡ cond c (Some (f x)) p
+map_first f true x o h = refl
+map_first f false x o h = h
+
 part_tree : (s : Step) (parts : Parts) → option_map entry_tree (part_at s parts) ≡ child_at s (parts_tree parts)
 part_tree s end = refl
-part_tree s (part key n parts) = search (rules, part_tree (further s) parts)
+part_tree s (part key n parts) = map_first entry_tree (is_here s (inner (unplaced_key key))) (key, n) (part_at (further s) parts) (part_tree (further s) parts)
 
 then_map : {A B C D : Type 0} (f : A → Option B) (g : C → Option D) (u : A → C) (v : B → D) → ((x : A) → option_map v (f x) ≡ g (u x)) → (o : Option A) → option_map v (option_and_then f o) ≡ option_and_then g (option_map u o)
 then_map f g u v h None = refl
@@ -39,15 +43,27 @@ path_tree (s ∷ ss) x =
 items_place : (total k : ℕ) (s : Step) (is : Items) (rest : List ℕ) → part_at s (locate_items total k is rest) ≡ option_map (locate_entry total) (item_at k s is rest)
 unfolding locate_items
 items_place total k s none rest = refl
-items_place total k s (item key n sep is) rest = search (rules, key_tree, items_place total k (further s) is rest)
+items_place total k s (item key n sep is) rest =
+    let here : EntryPieces = record { key = key; node = n; rest = sep_text sep (items_text k is rest) } in
+    ap (λ (label : Option (List ℕ)). cond (is_here s (inner label)) (Some (locate_entry total here)) (part_at (further s) (locate_items total k is rest))) (key_tree total (key_text key (node_text n (sep_text sep (items_text k is rest)))) key)
+    ∙ sym (map_first (locate_entry total) (is_here s (inner (key_content key))) here (item_at k (further s) is rest) (sym (items_place total k (further s) is rest)))
+
+held : (k : ℕ) (parts : Parts) → parts_in (holder k parts) ≡ parts
+held k parts = go (eqb k 125) where
+  go : (c : Bool) → parts_in (cond c (mapping parts) (sequence parts)) ≡ parts
+  go true = refl
+  go false = refl
+
+parts_anchored : (n : List ℕ) (at : ℕ) (p : Placed) → parts_of (with_anchor n at p) ≡ parts_of p
+parts_anchored n at (placed a s c e what) = refl
 
 inside_place : (total : ℕ) (s : Step) (node : Node) (rest : List ℕ) → part_at s (parts_of (locate total node rest)) ≡ option_map (locate_entry total) (inside s node rest)
 unfolding locate
 inside_place total s empty rest = refl
 inside_place total s (alias n) rest = refl
 inside_place total s (scalar p) rest = refl
-inside_place total s (coll k g is) rest = search (rules, items_place)
-inside_place total s (anchored n g node) rest = search (rules, inside_place total s node rest)
+inside_place total s (coll k g is) rest = ap (part_at s) (held k (locate_items total k is rest)) ∙ items_place total k s is rest
+inside_place total s (anchored n g node) rest = ap (part_at s) (parts_anchored n _ (locate total node rest)) ∙ inside_place total s node rest
 
 then_places : {A B : Type 0} (f : A → Option A) (g : B → Option B) (v : A → B) → ((x : A) → g (v x) ≡ option_map v (f x)) → (o : Option A) → option_and_then g (option_map v o) ≡ option_map v (option_and_then f o)
 then_places f g v h None = refl
@@ -56,7 +72,9 @@ then_places f g v h (Some x) = h x
 -- where a path leads stands at its place
 pub path_places : (total : ℕ) (ss : List Step) (x : EntryPieces) → placed_entry_at ss (locate_entry total x) ≡ option_map (locate_entry total) (entry_pieces_at ss x)
 path_places total [] x = refl
-path_places total (s ∷ ss) x = search (rules, option_and_then, inside_place, then_places, path_places total ss)
+path_places total (s ∷ ss) x =
+    ap (option_and_then (placed_entry_at ss)) (inside_place total s x.node x.rest)
+    ∙ then_places (entry_pieces_at ss) (placed_entry_at ss) (locate_entry total) (path_places total ss) (inside s x.node x.rest)
 
 -- in the text
 behind : (t u p : List ℕ) (x : EntryPieces) → t ≡ p ++ u → StandsIn u x → StandsIn t x
@@ -81,7 +99,8 @@ items_stand k s (item key n sep is) rest x h = go (is_here s (inner (key_content
       ∙ (ap (key_text key) (node_append n (sep_text sep []) tail) ∙ key_append key (node_text n (sep_text sep [])) tail)
 
   go : (c : Bool) → (item_at k (further s) is rest ≡ Some x → StandsIn tail x) → cond c (Some here) (item_at k (further s) is rest) ≡ Some x → StandsIn (key_text key (node_text n (sep_text sep tail))) x
-  go c h1 h2 = search (rules, same_Some, behind, cut, tail, front)
+  go true h1 h2 = subst (StandsIn (pieces_text here)) (same_Some here x h2) (record { before = []; text = refl })
+  go false h1 h2 = behind (pieces_text here) tail front x cut (h1 h2)
 
 inside_stands : (s : Step) (node : Node) (rest : List ℕ) (x : EntryPieces) → inside s node rest ≡ Some x → StandsIn (node_text node rest) x
 unfolding node_text
@@ -101,7 +120,8 @@ path_stands [] x y h = record { before = []; text = ap pieces_text (same_Some _ 
 path_stands (s ∷ ss) x y h =
     let z = then_some (inside s x.node x.rest) h in
     let first = inside_stands s x.node x.rest z.0 z.1 in
-    search (rules, behind, key_append, z, first, path_stands ss z.0 y z.2)
+    let inside_it = behind (node_text x.node x.rest) (pieces_text z.0) first.before y first.text (path_stands ss z.0 y z.2) in
+    behind (pieces_text x) (node_text x.node x.rest) (key_text x.key []) y (key_append x.key [] (node_text x.node x.rest)) inside_it
 
 -- and is a node there
 pub items_hold : (d k : ℕ) (s : Step) (is : Items) (rest : List ℕ) (x : EntryPieces) → AreItems d k is rest → item_at k s is rest ≡ Some x → IsNode true (Some 0) d x.node x.rest
@@ -112,7 +132,8 @@ items_hold d k s (item key n sep is) rest x a h = go (is_here s (inner (key_cont
   here = record { key = key; node = n; rest = sep_text sep (items_text k is rest) }
 
   go : (c : Bool) → (item_at k (further s) is rest ≡ Some x → IsNode true (Some 0) d x.node x.rest) → cond c (Some here) (item_at k (further s) is rest) ≡ Some x → IsNode true (Some 0) d x.node x.rest
-  go c h1 h2 = search (rules, same_Some)
+  go true h1 h2 = subst (λ (w : EntryPieces). IsNode true (Some 0) d w.node w.rest) (same_Some here x h2) a.2
+  go false h1 h2 = h1 h2
 
 inside_holds : (flow : Bool) (spaces : Option ℕ) (d : ℕ) (s : Step) (node : Node) (rest : List ℕ) (x : EntryPieces) → IsNode flow spaces d node rest → inside s node rest ≡ Some x → (e : ℕ) × (d ≡ suc e) × IsNode true (Some 0) e x.node x.rest
 unfolding IsNode

@@ -1,5 +1,5 @@
 -- The items and entries of the code, one after the other.
-use Rattle.std.proofs.Common.{◌≡◌, ℕ, zero, suc, ◌+◌, ◌<◌, ◌≤◌, true, false, ltb, List, [], ◌∷◌, length, drop, get_or, Option, Some, None, option_map, refl, sym, ap, ◌∙◌, ⊎_elim, arith, String, string_bytes, rules}
+use Rattle.std.proofs.Common.{◌≡◌, ℕ, zero, suc, ◌+◌, ◌<◌, ◌≤◌, true, false, ltb, List, [], ◌∷◌, length, drop, get_or, Option, Some, None, option_map, refl, sym, ap, ◌∙◌, inl, inr, arith, String, string_bytes}
 use Rattle.std.proofs.lemmas.Bool.{false≢true, ltb-true, lt-ltb, cases_lt}
 use Rattle.std.proofs.lemmas.List.{drop_more, drop_all}
 use Rattle.std.specs.declared.alloc.Global.{Global}
@@ -29,16 +29,31 @@ pub item_found : (is all : List Inline) (i : ℕ) (x d : Inline) → is ≡ all 
 item_found is all i x d same lt at = ap (λ (y : Inline). Some (None, view y)) at ∙ (sym (item_part is i d (ltb-true i (length is) (sym lt))) ∙ ap (λ (l : List Inline). part_at (Nth i) (items_end l)) same)
 
 pub item_missing : (is all : List Inline) (i : ℕ) → is ≡ all → false ≡ ltb i (length is) → None ≡ part_at (Nth i) (items_end all)
-item_missing is all i same ge = search (rules, ⊎_elim, false≢true, lt-ltb, no_item, cases_lt)
+item_missing is all i same ge = elim (cases_lt i (length is)) [
+  | inl lt ↦ absurd (false≢true (ge ∙ lt-ltb i (length is) lt))
+  | inr le ↦ sym (no_item is i le) ∙ ap (λ (l : List Inline). part_at (Nth i) (items_end l)) same
+]
 
 abbrev pub Field : Type 0
 Field = String Global × Piece × Inline
 
+first_entry : (key : List ℕ) (e : Field) (es : List Field) → bytes_eq (string_bytes e.0) key ≡ true → part_at (To key) (entries_end (e ∷ es)) ≡ Some (Some (string_bytes e.0, e.1), view e.2)
+first_entry key e es h = rw h refl
+
+next_entry : (key : List ℕ) (e : Field) (es : List Field) → bytes_eq (string_bytes e.0) key ≡ false → part_at (To key) (entries_end (e ∷ es)) ≡ part_at (To key) (entries_end es)
+next_entry key e es h = rw h refl
+
+entries_from : (key : List ℕ) (es : List Field) (i : ℕ) (e d : Field) → i < length es → e ≡ get_or es i d → part_at (To key) (entries_end (drop i es)) ≡ part_at (To key) (entries_end (e ∷ drop (i + 1) es))
+entries_from key es i e d lt at = ap (λ (l : List Field). part_at (To key) (entries_end l)) (drop_more es i d lt ∙ ap (λ (x : Field). x ∷ drop (i + 1) es) (sym at))
+
 pub entry_found : (key : List ℕ) (es : List Field) (i : ℕ) (e d : Field) (s : List ℕ) (all : Option PlacedEntry) → i < length es → e ≡ get_or es i d → s ≡ string_bytes e.0 → bytes_eq s key ≡ true → part_at (To key) (entries_end (drop i es)) ≡ all → Some (Some (s, e.1), view e.2) ≡ all
-entry_found key es i e d s all lt at text same so_far = search (rules, drop_more, string_bytes)
+entry_found key es i e d s all lt at text same so_far =
+    ap (λ (l : List ℕ). Some (Some (l, e.1), view e.2)) text
+    ∙ (sym (first_entry key e (drop (i + 1) es) (ap (λ (l : List ℕ). bytes_eq l key) (sym text) ∙ same)) ∙ (sym (entries_from key es i e d lt at) ∙ so_far))
 
 pub entry_past : (key : List ℕ) (es : List Field) (i : ℕ) (e d : Field) (s : List ℕ) (all : Option PlacedEntry) → i < length es → e ≡ get_or es i d → s ≡ string_bytes e.0 → bytes_eq s key ≡ false → part_at (To key) (entries_end (drop i es)) ≡ all → part_at (To key) (entries_end (drop (i + 1) es)) ≡ all
-entry_past key es i e d s all lt at text other so_far = search (rules, drop_more)
+entry_past key es i e d s all lt at text other so_far =
+    sym (next_entry key e (drop (i + 1) es) (ap (λ (l : List ℕ). bytes_eq l key) (sym text) ∙ other)) ∙ (sym (entries_from key es i e d lt at) ∙ so_far)
 
 pub entry_missing : (key : List ℕ) (es : List Field) (i : ℕ) (all : Option PlacedEntry) → length es ≤ i → part_at (To key) (entries_end (drop i es)) ≡ all → None ≡ all
 entry_missing key es i all ge so_far = ap (λ (l : List Field). part_at (To key) (entries_end l)) (sym (drop_all i es ge)) ∙ so_far
@@ -64,4 +79,5 @@ index_in_entries es i s same = sym (ap (λ (t : declared.Step). part_at (step_of
 pub by_tree : (r : Option Entry) (ss : List Step) (n : Inline) → option_map entry_view r ≡ placed_entry_at ss (None, view n) → option_map (λ e. placed_tree (view e.node.now)) r ≡ node_at ss (placed_tree (view n))
 by_tree r ss n h = go r ∙ (ap (option_map entry_tree) h ∙ path_tree ss (None, view n)) where
   go : (r : Option Entry) → option_map (λ e. placed_tree (view e.node.now)) r ≡ option_map entry_tree (option_map entry_view r)
-  go r = search rules
+  go None = refl
+  go (Some e) = refl
