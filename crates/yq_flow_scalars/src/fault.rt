@@ -5,7 +5,7 @@ use std::fmt::{self, Debug, Formatter, Write};
 use std::num::NonZeroU64;
 
 /// What is at fault in a text.
-#[derive(Clone, Copy)]
+#[derive(Clone, Copy, PartialEq, Eq)]
 pub enum FaultKind {
     /// The bytes are not UTF-8.
     NotUtf8,
@@ -50,7 +50,7 @@ pub enum FaultKind {
 }
 
 /// A fault, and the line, counted from 1, on which the construct at fault begins.
-#[derive(Clone, Copy)]
+#[derive(Clone, Copy, PartialEq, Eq)]
 pub struct ReadFault {
     pub kind: FaultKind,
     pub line: NonZeroU64,

@@ -6,7 +6,7 @@ use yq_flow_scalars::{FaultKind, ReadFault};
 use yq_usage::UsageCause;
 
 /// Why a command is refused. Its text is the line that the program prints.
-#[derive(Clone, Copy, Debug)]
+#[derive(Clone, Copy, Debug, PartialEq, Eq)]
 pub enum Fault {
     Usage(UsageCause),
     Syntax,

@@ -6,7 +6,7 @@ use yq_meaning::{ExprError, Refusal};
 use yq_script::ExchangeError;
 
 /// Why a text is not edited.
-#[derive(Clone, Copy, Debug)]
+#[derive(Clone, Copy, PartialEq, Eq, Debug)]
 pub enum EditError {
     /// The text has no reading.
     Read(ReadFault),

@@ -3,7 +3,7 @@
 use yq_history::Fault;
 
 /// What a command comes to.
-#[derive(Clone, Copy)]
+#[derive(Clone, Copy, Debug, PartialEq, Eq)]
 pub enum Answer {
     /// It was carried out.
     Done,
