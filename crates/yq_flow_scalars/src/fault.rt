@@ -5,7 +5,7 @@ use std::fmt::{self, Debug, Formatter, Write};
 use std::num::NonZeroU64;
 
 /// What is at fault in a text.
-#[derive(Clone, Copy, PartialEq, Eq)]
+#[derive(Clone, Copy, Debug, PartialEq, Eq)]
 pub enum FaultKind {
     /// The bytes are not UTF-8.
     NotUtf8,
@@ -58,7 +58,7 @@ pub struct ReadFault {
 
 impl Debug for ReadFault {
     fn fmt<W: Write>(&self, f: &mut Formatter<W>) -> fmt::Result {
-        write!(f, "a fault on line {}", self.line)
+        write!(f, "{:?} on line {}", self.kind, self.line)
     }
 }
 
