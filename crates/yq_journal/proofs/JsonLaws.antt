@@ -1,7 +1,7 @@
 -- Members that are counted, lists that are read item by item, and tests that are facts.
-use Rattle.std.proofs.Common.{◌≡◌, ◌==◌, ℕ, suc, List, [], ◌∷◌, ◌++◌, length, String, Option, Some, None, true, false, refl, sym, ap, ◌∙◌, if◌then◌else◌, ◌+◌, ◌<◌, take, drop, map, ap₂, get_or, append_assoc, option_map, rules}
+use Rattle.std.proofs.Common.{◌≡◌, ◌==◌, ℕ, suc, List, [], ◌∷◌, ◌++◌, length, String, Option, Some, None, true, false, refl, sym, ap, ◌∙◌, if◌then◌else◌, ◌+◌, ◌<◌, ◌≤◌, take, drop, map, ap₂, get_or, append_assoc, option_map, rules}
 use Rattle.std.specs.Cmp.Derive.{both_true}
-use Rattle.std.proofs.lemmas.List.{take_more, drop_more, map-append}
+use Rattle.std.proofs.lemmas.List.{take_more, drop_more, map-append, append-nil, at_drop_all}
 use Rattle.std.specs.Prelude.{◌≢◌, not, is_some}
 use Rattle.std.specs.Option.{ForSome}
 use Rattle.std.specs.declared.alloc.Global.{Global}
@@ -118,3 +118,16 @@ read_more f vs i v found y target within is reads so_far =
     found_more found y (all_of f (items_view (drop (i + 1) vs)))
     ∙ ap (λ o. option_map (λ ys. found ++ ys) (and_more o (all_of f (items_view (drop (i + 1) vs))))) (sym reads)
     ∙ sym (ap (λ l. option_map (λ ys. found ++ ys) (all_of f (items_view l))) (item_left vs i v within is)) ∙ so_far
+
+-- an item that stands for nothing, and so the list
+pub read_none : {A : Type 0} (f : Data → Option A) (vs : List Value) (i : ℕ) (v : Value) (found : List A) (target : Option (List A)) → i < length vs → v ≡ get_or vs i v → f (view v) ≡ None
+    → option_map (λ ys. found ++ ys) (all_of f (items_view (drop i vs))) ≡ target → None ≡ target
+read_none f vs i v found target within is reads so_far =
+    ap (λ o. option_map (λ ys. found ++ ys) (and_more o (all_of f (items_view (drop (i + 1) vs))))) (sym reads)
+    ∙ sym (ap (λ l. option_map (λ ys. found ++ ys) (all_of f (items_view l))) (item_left vs i v within is)) ∙ so_far
+
+-- all items are read
+pub read_all : {A : Type 0} (f : Data → Option A) (vs : List Value) (i : ℕ) (found : List A) (target : Option (List A)) → length vs ≤ i
+    → option_map (λ ys. found ++ ys) (all_of f (items_view (drop i vs))) ≡ target → Some found ≡ target
+read_all f vs i found target past so_far =
+    ap Some (sym (append-nil found)) ∙ sym (at_drop_all (λ l. option_map (λ ys. found ++ ys) (all_of f (items_view l))) vs i past) ∙ so_far

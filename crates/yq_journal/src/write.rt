@@ -4,8 +4,8 @@ ghost use Rattle.serde_json.specs.View.{view, items_view};
 ghost use Rattle.yq_journal.specs.Json as spec;
 
 use crate::journal::{Journal, Open};
-use crate::members::{with, with_bytes, with_text};
-use serde_json::{Map, Value};
+use crate::members::{add_bytes, add_text};
+use serde_json::{Map, Value, put};
 use std::alloc::{AllocError, Global};
 use yq_records::{Move, Record};
 use yq_script::Splice;
@@ -15,9 +15,10 @@ fn splice_value(alloc: Global, splice: &Splice) -> Result<Value, AllocError>
     ensures written { IfOk result (λ v. view v ≡ spec.change_data splice.now) }
     ensures reads_back { IfOk result (λ v. spec.change_of (view v) ≡ Some splice.now) }
 {
-    let members = with(Map::new(alloc), alloc, "at", Value::from(splice.at))?;
-    let members = with_bytes(members, alloc, "new", &splice.new)?;
-    let members = with_bytes(members, alloc, "old", &splice.old)?;
+    let mut members = Map::new(alloc);
+    put(&mut members, alloc, "at", Value::from(splice.at))?;
+    add_bytes(&mut members, alloc, "new", &splice.new)?;
+    add_bytes(&mut members, alloc, "old", &splice.old)?;
     Ok(Value::Object(members))
 }
 
@@ -40,11 +41,12 @@ fn record_value(alloc: Global, patch: &Record) -> Result<Value, AllocError>
     ensures reads_back { IfOk result (λ v. spec.record_of true (view v) ≡ Some patch.now) }
 {
     let splices = splice_values(alloc, &patch.splices)?;
-    let members = with(Map::new(alloc), alloc, "splices", Value::Array(splices))?;
-    let members = with_text(members, alloc, "expr", &patch.expr)?;
-    let members = with(members, alloc, "count", Value::from(patch.count))?;
-    let members = with(members, alloc, "before_len", Value::from(patch.before_len))?;
-    let members = with(members, alloc, "after_len", Value::from(patch.after_len))?;
+    let mut members = Map::new(alloc);
+    put(&mut members, alloc, "splices", Value::Array(splices))?;
+    add_text(&mut members, alloc, "expr", &patch.expr)?;
+    put(&mut members, alloc, "count", Value::from(patch.count))?;
+    put(&mut members, alloc, "before_len", Value::from(patch.before_len))?;
+    put(&mut members, alloc, "after_len", Value::from(patch.after_len))?;
     Ok(Value::Object(members))
 }
 
@@ -91,9 +93,10 @@ fn open_value(alloc: Global, open: &Open) -> Result<Value, AllocError>
     ensures reads_back { IfOk result (λ v. spec.open_of true (view v) ≡ Some open.now) }
 {
     let held = move_value(alloc, &open.step)?;
-    let members = with(Map::new(alloc), alloc, "record", held)?;
-    let members = with_text(members, alloc, "kind", kind(&open.step))?;
-    let members = with_bytes(members, alloc, "from", &open.from)?;
+    let mut members = Map::new(alloc);
+    put(&mut members, alloc, "record", held)?;
+    add_text(&mut members, alloc, "kind", kind(&open.step))?;
+    add_bytes(&mut members, alloc, "from", &open.from)?;
     Ok(Value::Object(members))
 }
 
@@ -118,10 +121,11 @@ fn journal_object(
     ensures { IfOk result (λ v. view v ≡ spec.journal_object at (view pending)
         (items_view records.items)) }
 {
-    let members = with(Map::new(alloc), alloc, "records", Value::Array(records))?;
-    let members = with(members, alloc, "pending", pending)?;
-    let members = with(members, alloc, "at", Value::from(at))?;
-    let members = with(members, alloc, "version", Value::from(2u64))?;
+    let mut members = Map::new(alloc);
+    put(&mut members, alloc, "records", Value::Array(records))?;
+    put(&mut members, alloc, "pending", pending)?;
+    put(&mut members, alloc, "at", Value::from(at))?;
+    put(&mut members, alloc, "version", Value::from(2u64))?;
     Ok(Value::Object(members))
 }
 
