@@ -8,6 +8,7 @@ ghost use Rattle.yq_row_places.specs.Standings as spec;
 ghost use Rattle.yq_row_places.specs.StandingReading.{AreRowsOf, HasEntry, BeginsRows, IsEntryIn};
 ghost use Rattle.yq_row_places.specs.StandingViews as row_agrees;
 
+use crate::places::halves::is_text;
 use crate::places::held::{held_in, mark_of};
 use crate::places::lines_cut::{cut_lines, cut_tail};
 use crate::places::row_place::{line_start, row_stop};
@@ -53,6 +54,7 @@ fn compact_in<'t>(rows: &Rows<'t>, text: Halves<'t>, at: RowsOfEntry) -> Compact
     ensures { (e : spec.RowsOfEntry) → IsEntryIn (whole text.entry) rows.now e at →
         row_agrees.compact_view result ≡ spec.compact_in e }
 {
+    is_text(text);
     let row = rows.row(at.row);
     let position = Position {
         row: at.row,

@@ -10,6 +10,7 @@ ghost use Rattle.yq_row_places.specs.Standings as spec;
 ghost use Rattle.yq_row_places.specs.StandingReading.{HasEntry, IsEntryIn};
 ghost use Rattle.yq_row_places.specs.StandingViews as row_agrees;
 
+use crate::places::halves::is_text;
 use crate::places::lines_cut::{cut_lines, cut_tail, either};
 use crate::places::row_place::row_stop;
 use crate::places::rows_of_entry::RowsOfEntry;
@@ -93,6 +94,7 @@ pub fn held_in<'t>(rows: &Rows<'t>, text: Halves<'t>, at: RowsOfEntry) -> Held<'
     ensures { (e : spec.RowsOfEntry) → IsEntryIn (whole text.entry) rows.now e at →
         row_agrees.held_view result ≡ spec.held e }
 {
+    is_text(text);
     let row = rows.row(at.row);
     let (_, end) = head_place(rows, at.row);
     let stop = row_stop(rows, at.end - 1);
