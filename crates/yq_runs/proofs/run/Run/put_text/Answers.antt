@@ -35,3 +35,6 @@ returns-clause-ok c =
           c.if-len-rest.false,
       );
     }
+
+pub len-rest-requires : goal.len-rest-requires
+len-rest-requires c = omega (arith, length-append c.split_at.result.1.front.now c.split_at.result.1.back.now)
