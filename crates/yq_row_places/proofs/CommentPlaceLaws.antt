@@ -35,14 +35,14 @@ tail_view before tail behind start e = go (front (λ b. eqb b 35) (past_white ta
 
 pub tail_fits : (start : ℕ) (tail white comment text rest : List ℕ) → (white, comment) ≡ cut no_white tail → (text, rest) ≡ cut ends_line comment → start + length tail ≤ text_limit → start + length white + length text ≤ text_limit
 tail_fits start tail white comment text rest e1 e2 h = omega (
-    arith,
-    h,
-    ap (λ (x : List ℕ × List ℕ). length x.0) e1,
-    ap (λ (x : List ℕ × List ℕ). length x.1) e1,
-    ap (λ (x : List ℕ × List ℕ). length x.0) e2,
-    length-take (upto no_white tail) tail,
-    length-drop (upto no_white tail) tail,
-    length-take (upto ends_line comment) comment,
+  arith,
+  h,
+  ap (λ (x : List ℕ × List ℕ). length x.0) e1,
+  ap (λ (x : List ℕ × List ℕ). length x.1) e1,
+  ap (λ (x : List ℕ × List ℕ). length x.0) e2,
+  length-take (upto no_white tail) tail,
+  length-drop (upto no_white tail) tail,
+  length-take (upto ends_line comment) comment,
 )
 
 -- where a row's tail begins

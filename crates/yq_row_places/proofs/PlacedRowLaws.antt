@@ -63,7 +63,7 @@ rows_at (suc i) (marked q marker c) j r is =
     let past = le-ltb m (length q.rows) (omega arith) in (
       ap (slice_get (q.rows ++ rows_of c)) at ∙ (get_behind q.rows (rows_of c) n ∙ x.0),
       ap (λ k. behind_row k (marked q marker c)) at
-      ∙ (cond-false (ltb m (length q.rows)) (behind_at m q.rows (q.end ++ (marker ++ cut_text c))) (behind_row (m - length q.rows) c) past ∙ (ap (λ k. behind_row k c) left ∙ x.1)),
+          ∙ (cond-false (ltb m (length q.rows)) (behind_at m q.rows (q.end ++ (marker ++ cut_text c))) (behind_row (m - length q.rows) c) past ∙ (ap (λ k. behind_row k c) left ∙ x.1)),
     )
 
 pub part_at : (n : ℕ) (c : Cut) (s : PlacedPart) → placed_document n c ≡ Some s → HasRowsAt c (document_row n c) s
