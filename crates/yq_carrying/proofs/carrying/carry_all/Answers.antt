@@ -30,13 +30,13 @@ pub apply-requires : goal.apply-requires
 apply-requires c = first_fits c.operations.rest.now c.op-item.result c.operations.session.text c.in-len1-up.len_at_least c.op-item.is c.operations.invariant.serves
 
 pub returns-in_err-next : goal.returns-in_err-next
-returns-in_err-next c = 
+returns-in_err-next c =
     let p = err_from_is_err_and c.from_residual.result c.from_residual.ensures.1 in
     rw (p.1, p.2)
     (subst (EditFails c.in_err-next.field-0.0) c.operations.invariant.whole
     (first_fails c.operations.rest.now c.op-item.result c.operations.session.text c.operations.splices.items c.in_err-next.field-0.0 c.in-len1-up.len_at_least c.op-item.is c.in_err-next.ensures.err))
 
 pub returns : goal.returns
-returns c = 
+returns c =
     sym c.operations.invariant.whole
     ∙ (none_come c.operations.rest.now c.operations.session.text c.operations.splices.items (omega (arith, c.in_default.len_below)) ∙ ap (λ (t : List ℕ). gives t c.operations.splices.items) (sym c.close.ensures))

@@ -19,14 +19,14 @@ pub carry_at_once-requires-clause-serves : goal.carry_at_once-requires-clause-se
 carry_at_once-requires-clause-serves c = subst (AreServed (operations_of c.args.ops.now)) (sym c.requires.same ∙ sym c.cut.ensures) c.requires.serves
 
 pub returns-in-Some : goal.returns-in-Some
-returns-in-Some c = 
+returns-in-Some c =
     let one =
-        subst (λ (o : Option Edited). IfSome o (λ e. carry_all (operations_of c.args.ops.now) c.cut.result ≡ gives (string_bytes e.text) e.splices.items)) c.in-Some.is c.in_ok-at_once.ensures.ok in
+    subst (λ (o : Option Edited). IfSome o (λ e. carry_all (operations_of c.args.ops.now) c.cut.result ≡ gives (string_bytes e.text) e.splices.items)) c.in-Some.is c.in_ok-at_once.ensures.ok in
     ap (behind c.args.splices.items) (ap (carry_all (operations_of c.args.ops.now)) (sym (c.cut.ensures ∙ c.requires.same)) ∙ one)
     ∙ λ i. gives (string_bytes (sym c.in_ok-edited_behind.ensures.0 i)) (sym c.in_ok-edited_behind.ensures.1 i)
 
 pub returns-in_err-at_once : goal.returns-in_err-at_once
-returns-in_err-at_once c = 
+returns-in_err-at_once c =
     let p = err_from_is_err_and c.from_residual.result c.from_residual.ensures.1 in
     rw (p.1, p.2)
     (fails_behind c.in_err-at_once.field-0.0 c.args.splices.items (carry_all (operations_of c.args.ops.now) c.args.text.now)

@@ -13,6 +13,6 @@ returns c =
     let old = c.split_at-2.ensures.back ∙ ap (drop start) c.split_at.ensures.front in
     ap Some
     (sym
-        (c.new.ensures
-        ∙ (ap segments_of c.in_ok-segments.ensures.items
-        ∙ λ i. keep (kept i) ∷ (put (old i) (c.in_ok-lead.ensures.ok i) ∷ (put (c.of.ensures.whole i) (string_bytes c.args.written) ∷ (keep (c.split_at.ensures.back i) ∷ []))))))
+    (c.new.ensures
+    ∙ (ap segments_of c.in_ok-segments.ensures.items
+    ∙ λ i. keep (kept i) ∷ (put (old i) (c.in_ok-lead.ensures.ok i) ∷ (put (c.of.ensures.whole i) (string_bytes c.args.written) ∷ (keep (c.split_at.ensures.back i) ∷ []))))))

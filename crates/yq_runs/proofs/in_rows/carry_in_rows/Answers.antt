@@ -57,12 +57,12 @@ pub put_one-requires-clause-run : goal.put_one-requires-clause-run
 put_one-requires-clause-run c = subst (λ (u : List ℕ). IsRowsRun (cut_of u) c.operations.last c.operations.run) (sym c.operations.invariant.same) c.operations.invariant.runs
 
 pub put_one-requires-clause-fits : goal.put_one-requires-clause-fits
-put_one-requires-clause-fits c = 
+put_one-requires-clause-fits c =
     subst (λ (u : List ℕ). IsFitting (operation_of c.op-item.result) (now_text (cut_of u) c.operations.run)) (sym c.operations.invariant.same)
     (first_fits c.operations.rest.now c.op-item.result (now_text (cut_of c.args.cut.now) c.operations.run) c.in-len1-up.len_at_least c.op-item.is c.operations.invariant.serves)
 
 pub returns-in_err-next-clause-err : goal.returns-in_err-next-clause-err
-returns-in_err-next-clause-err c = 
+returns-in_err-next-clause-err c =
     let p = err_from_is_err_and c.from_residual-in_err-next.result c.from_residual-in_err-next.ensures.1 in
     let e = c.in_err-next.field-0.0 in
     let t : List ℕ = now_text (cut_of c.args.cut.now) c.operations.run in
@@ -71,11 +71,11 @@ returns-in_err-next-clause-err c =
     (subst (EditFails e) c.operations.invariant.whole (first_fails c.operations.rest.now c.op-item.result t c.operations.run.splices.items e c.in-len1-up.len_at_least c.op-item.is first))
 
 pub end-requires : goal.end-requires
-end-requires c = 
+end-requires c =
     subst (λ (l : List ℕ). IsCharBoundary l c.operations.run.done) (sym (whole_text c.args.cut.now (whole c.text-text.result) c.text-text.ensures.read c.text-text.ensures.text)) c.operations.invariant.runs.run.edge
 
 pub returns-clause-ok : goal.returns-clause-ok
-returns-clause-ok c = 
+returns-clause-ok c =
     let t : List ℕ = c.args.cut.now in
     let same : whole c.text-text.result ≡ cut_text (cut_of t) = whole_text t (whole c.text-text.result) c.text-text.ensures.read c.text-text.ensures.text in
     sym c.operations.invariant.whole

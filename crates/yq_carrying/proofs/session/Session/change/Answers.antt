@@ -64,6 +64,6 @@ returns-clause-err c =
     subst (λ (x : Edit). IfErr c.change_one-changed.result (λ e. EditFails e x)) same c.change_one-changed.ensures.err
 
 pub returns-clause-same : goal.returns-clause-same
-returns-clause-same c = 
+returns-clause-same c =
     let text = moved_same (joined c.self.inside.text) c.replace-places.result.split c.move_split.new.self c.move_split.ensures.front c.move_split.ensures.back in
     (λ i. record { text = text i; scanned = c.self.inside.meter }) ∙ c.self.view_is

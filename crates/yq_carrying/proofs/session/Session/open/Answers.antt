@@ -19,7 +19,7 @@ returns-clause-text c =
     (search rules, has_reading c.args.text.now (cut_of c.in_ok-documents.documents) (ap read_at (sym c.as_bytes.ensures.value) ∙ c.in_ok-documents.ensures.exact))
 
 pub invariant_of-result : goal.invariant_of-result
-invariant_of-result c = 
+invariant_of-result c =
     let text : joined c.of-text.result ≡ c.args.text.now = (λ i. c.of-text.ensures.front i ++ c.of-text.ensures.back i) ∙ (append-nil _ ∙ c.in_ok-from_str.ensures.ok) in (
       record {
         cut = cut_of c.in_ok-documents.documents;
@@ -30,7 +30,7 @@ invariant_of-result c =
     )
 
 pub returns-clause-exact : goal.returns-clause-exact
-returns-clause-exact c = 
+returns-clause-exact c =
     let text : joined c.of-text.result ≡ c.args.text.now = (λ i. c.of-text.ensures.front i ++ c.of-text.ensures.back i) ∙ (append-nil _ ∙ c.in_ok-from_str.ensures.ok) in
     let documents = c.in_ok-documents.ensures.text ∙ (c.as_bytes.ensures.value ∙ sym text) in
     ap read_at (sym c.as_bytes.ensures.value) ∙ (c.in_ok-documents.ensures.exact ∙ ap (λ (t : List ℕ). Some (cut_of t)) documents)

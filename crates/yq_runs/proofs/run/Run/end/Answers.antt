@@ -3,7 +3,7 @@ use Rattle.std.specs.String.{string_bytes}
 use Rattle.yq_runs.proofs.run.Run.end.Goals as goal
 
 pub returns-clause-text : goal.returns-clause-text
-returns-clause-text c = 
+returns-clause-text c =
     let left = c.split_at.result.1 in
     c.in_ok-push_str-2.ensures.bytes
     ∙ (ap (λ (x : List ℕ). x ++ left.back.now) c.in_ok-push_str.ensures.bytes

@@ -12,10 +12,10 @@ pub overflow_sub-rest : goal.overflow_sub-rest
 overflow_sub-rest c = c.if-rest-gt-TEXT_LIMIT.false
 
 pub returns-clause-ok : goal.returns-clause-ok
-returns-clause-ok c = 
+returns-clause-ok c =
     let front = c.in_ok-push_str-2.ensures.bytes
-        ∙ (ap (λ (x : List ℕ). x ++ c.between-kept.result.back.now) c.in_ok-push_str.ensures.bytes
-        ∙ (append_assoc (string_bytes c.args.self.now.text) c.between-kept.result.front.now c.between-kept.result.back.now ∙ ap (λ (x : List ℕ). string_bytes c.args.self.now.text ++ x) c.between-kept.ensures)) in
+    ∙ (ap (λ (x : List ℕ). x ++ c.between-kept.result.back.now) c.in_ok-push_str.ensures.bytes
+    ∙ (append_assoc (string_bytes c.args.self.now.text) c.between-kept.result.front.now c.between-kept.result.back.now ∙ ap (λ (x : List ℕ). string_bytes c.args.self.now.text ++ x) c.between-kept.ensures)) in
     let text = c.in_ok-push_str-3.ensures.bytes ∙ (λ i. front i ++ c.deref.ensures i) in
     record {
       text = text;
@@ -24,15 +24,15 @@ returns-clause-ok c =
           c.in_ok-push_splice.ensures
           ∙ λ i. c.args.self.now.splices.items ++ splice_at ((c.len-at.ensures ∙ (c.push_str-2.new.self.bytes.ok.0 ∙ ap length front)) i) ((c.in_ok-old.ensures ∙ c.between.ensures) i) (c.into_bytes.ensures.value i).items;
       size = omega (
-          arith,
-          length-append (run_front (whole c.args.text) c.args.self.now c.args.start ++ string_bytes c.args.written) (drop c.args.end (whole c.args.text)),
-          ap length text,
-          ap length c.split_at.ensures.back,
-          c.len.ensures,
-          c.push_str-3.new.self.bytes.ok.0,
-          c.len-rest.ensures,
-          c.if-rest-gt-TEXT_LIMIT.false,
-          c.if-len-rest.false,
+        arith,
+        length-append (run_front (whole c.args.text) c.args.self.now c.args.start ++ string_bytes c.args.written) (drop c.args.end (whole c.args.text)),
+        ap length text,
+        ap length c.split_at.ensures.back,
+        c.len.ensures,
+        c.push_str-3.new.self.bytes.ok.0,
+        c.len-rest.ensures,
+        c.if-rest-gt-TEXT_LIMIT.false,
+        c.if-len-rest.false,
       );
     }
 
