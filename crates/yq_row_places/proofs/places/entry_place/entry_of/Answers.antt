@@ -1,4 +1,4 @@
-use Rattle.std.proofs.Common.{◌-◌, ℕ, Option, Some, ap, ◌∙◌, arith}
+use Rattle.std.proofs.Common.{◌-◌, ℕ, Option, ap, ◌∙◌, arith}
 use Rattle.std.proofs.lemmas.Option.{slice_get_within}
 use Rattle.yq_flow_scalars.specs.Answers.{◌>>=◌}
 use Rattle.yq_row_lines.specs.Lines.{lines_of}

@@ -1,4 +1,4 @@
-use Rattle.std.proofs.Common.{[], rules, ◌≡◌, ◌∙◌, ◌+◌, ◌<◌, suc, false, not, ◌||◌, length, refl, sym, ap, arith}
+use Rattle.std.proofs.Common.{[], ◌≡◌, ◌∙◌, ◌+◌, ◌<◌, suc, not, ◌||◌, length, refl, sym, ap, arith}
 use Rattle.std.proofs.lemmas.Option.{same_Some}
 use Rattle.yq_text.specs.Halves.{whole}
 use Rattle.yq_flow_scalars.specs.Text.{is_empty}

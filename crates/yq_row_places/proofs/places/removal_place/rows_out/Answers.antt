@@ -1,4 +1,4 @@
-use Rattle.std.proofs.Common.{rules, ◌+◌, ◌-◌, ℕ, ◌++◌, length, length-append, take, drop, option_map, ap, ◌∙◌, arith}
+use Rattle.std.proofs.Common.{◌+◌, ◌-◌, ℕ, ◌++◌, length, length-append, take, drop, option_map, ap, ◌∙◌, arith}
 use Rattle.yq_text.specs.Halves.{whole}
 use Rattle.yq_flow_scalars.specs.Text.{joined, lines_of}
 use Rattle.yq_cut.specs.Removal.{block_numbers, last_block}
