@@ -1,1 +1,3 @@
 pub mod MarkedValues
+pub mod RootEdits
+pub mod TouchedRanges

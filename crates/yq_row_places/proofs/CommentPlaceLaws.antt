@@ -1,8 +1,9 @@
 -- Where the comments of a row stand, by its pieces.
-use Rattle.std.proofs.Common.{◌≡◌, ℕ, ◌+◌, ◌-◌, ◌<◌, ◌≤◌, eqb, List, [], ◌++◌, length, Option, Some, None, option_map, Bool, true, false, cond, refl, sym, ap, ◌∙◌, arith, length-append, rules}
+use Rattle.std.proofs.Common.{◌≡◌, ℕ, ◌+◌, ◌-◌, ◌<◌, ◌≤◌, eqb, List, [], ◌++◌, length, Option, Some, None, option_map, Bool, true, false, cond, refl, sym, ap, ◌∙◌, arith, length-append, length-drop, length-take, rules}
 use Rattle.std.proofs.lemmas.Option.{slice_get-map}
 use Rattle.std.specs.List.{slice_get}
-use Rattle.yq_flow_scalars.specs.Text.{cut, front, ends_line, no_white, past_white, is_empty, joined, lines_of}
+use Rattle.yq_flow_scalars.specs.Characters.{text_limit}
+use Rattle.yq_flow_scalars.specs.Text.{cut, upto, front, ends_line, no_white, past_white, is_empty, joined, lines_of}
 use Rattle.yq_cut.specs.Exchange.{behind_row}
 use Rattle.yq_cut.specs.Rows.{Row, behind_gap, Cut}
 use Rattle.yq_cut.specs.View.{Slices, slices, rows_of, rows_view}
@@ -31,6 +32,18 @@ tail_view before tail behind start e = go (front (λ b. eqb b 35) (past_white ta
 
     go : (b : Bool) → cond b (Some (start + length white, start + length white + long)) None ≡ option_map piece_span (cond b (Some (record { before = before ++ white; text = (cut ends_line (past_white tail)).0; behind = (cut ends_line (past_white tail)).1 ++ behind })) None)
     go b = search (rules, pair, length-append)
+
+pub tail_fits : (start : ℕ) (tail white comment text rest : List ℕ) → (white, comment) ≡ cut no_white tail → (text, rest) ≡ cut ends_line comment → start + length tail ≤ text_limit → start + length white + length text ≤ text_limit
+tail_fits start tail white comment text rest e1 e2 h = omega (
+  arith,
+  h,
+  ap (λ (x : List ℕ × List ℕ). length x.0) e1,
+  ap (λ (x : List ℕ × List ℕ). length x.1) e1,
+  ap (λ (x : List ℕ × List ℕ). length x.0) e2,
+  length-take (upto no_white tail) tail,
+  length-drop (upto no_white tail) tail,
+  length-take (upto ends_line comment) comment,
+)
 
 -- where a row's tail begins
 before_length : (c : Cut) (i : ℕ) (r : Row) → slice_get (rows_of c) i ≡ Some r → row_start i (rows_view c) + front_length (slices r) + length (slices r).head ≡ length (before_tail i r c)

@@ -65,7 +65,7 @@ module _ (t : List ℕ) (s : RowsView) (e : RowsOfEntry) (row end : ℕ) (h : Ar
   pub row_within : row < length s.rows
   row_within = slice_get_within s.rows row (slices e.row) pieces_at
 
-  is_view : IsRowsView s
+  pub is_view : IsRowsView s
   is_view = record { cut = c; is = h.rows_view_is; size = omega (arith, ap length h.cut.text, h.cut.size) }
 
   pub column_fits : (y : Slices) → slice_get s.rows row ≡ Some y → y.column + length y.dashes ≤ text_limit

@@ -33,3 +33,7 @@ module _ (s : RowsView) (d : Stretch) (h : HasRows s d) (row : ℕ) (under : Pos
   pub end_from : (under.row ≡ row) ⊎ ((under.row ≡ row + 1) × (under.line ≡ 0)) → rows_end s d floor k.row ≡ rows_end s d floor (row + 1)
   end_from (inl same) = end_later s d h under floor k among ∙ ap (λ (n : ℕ). rows_end s d floor (n + 1)) same
   end_from (inr next) = end_behind next.0 next.1
+
+  pub later_from : (under.row ≡ row) ⊎ ((under.row ≡ row + 1) × (under.line ≡ 0)) → row < k.row
+  later_from (inl same) = omega (arith, row_later s d h under floor k among, same)
+  later_from (inr next) = omega (arith, row_later s d h under floor k among, next.0)

@@ -1,6 +1,6 @@
 -- What is told of the nodes at paths, as the code finds it.
 use Rattle.std.proofs.Common.{rules, ◌≡◌, ◌⊎◌, inl, inr, ℕ, zero, suc, ◌+◌, ◌-◌, ◌<◌, ◌≤◌, ltb, eqb, Bool, true, false, not, cond, List, [], ◌∷◌, length, take, map, Option, Some, None, option_map, option_and_then, refl, sym, ap, ◌∙◌, subst, arith}
-use Rattle.std.proofs.lemmas.Bool.{cases_lt, lt-ltb, le-ltb, eq-eqb, false≢true}
+use Rattle.std.proofs.lemmas.Bool.{cases_lt, lt-ltb, le-ltb, eq-eqb, ne_eqb, false≢true}
 use Rattle.std.proofs.lemmas.List.{length-map}
 use Rattle.std.proofs.lemmas.Option.{slice_get-map, same_Some}
 use Rattle.std.specs.List.{slice_get}
@@ -33,7 +33,7 @@ use Rattle.yq_documents.specs.Documents.{document_parts}
 use Rattle.yq_row_lines.specs.Lines.{head_of, lines_of}
 use Rattle.yq_documents.specs.Reading.{all_documents, document_of}
 use Rattle.yq_row_places.specs.NodeReading.{NodePlace, at_head, at_lines, line_place, with_line, node_place, place_line, summary_in_head, summary_in_line, summary_of_lines, line_or, place_node}
-use Rattle.yq_row_places.specs.NodesAt.{NodeAt, list, map as mapping, node_summary, node_in, summary_several, scalar_in, summary_scalar}
+use Rattle.yq_row_places.specs.NodesAt.{NodeAt, scalar, list, map as mapping, node_summary, node_in, summary_several, scalar_in, summary_scalar}
 use Rattle.yq_row_places.specs.RemovalPlaces.{has_several}
 use Rattle.yq_row_lines.specs.RowWalk.{HasRows, IsLine, line_number}
 use Rattle.yq_row_places.specs.RowWalk.{InCut}
@@ -80,6 +80,10 @@ entries_agrees node v n is size =
 pub scalar_steps : (ss : List Step) (kind : Kind) (text : List ℕ) → false ≡ eqb (length ss) 0 → None ≡ summary_in_head ss (Some (tree.scalar None kind text))
 scalar_steps [] kind text e = absurd (false≢true (e ∙ eq-eqb 0 0 refl))
 scalar_steps (s ∷ ss) kind text e = refl
+
+pub scalar_there : (ss : List Step) (kind : Kind) (text : List ℕ) → true ≡ eqb (length ss) 0 → Some (scalar (record { kind = kind; text = text })) ≡ summary_in_head ss (Some (tree.scalar None kind text))
+scalar_there [] kind text e = refl
+scalar_there (s ∷ ss) kind text e = absurd (false≢true (sym (e ∙ ne_eqb (suc (length ss)) 0 (λ h. omega (arith, h)))))
 
 -- ---- lines
 

@@ -1,7 +1,8 @@
 -- For which nodes there are pieces.
 use Rattle.std.proofs.Common.{◌≡◌, ℕ, List, [], ◌∷◌, ◌++◌, map, Option, Some, None, is_some, option_map, option_and_then, Bool, true, false, cond, not, ◌&&◌, ◌||◌, refl, sym, ap, ◌∙◌, subst, rules}
-use Rattle.std.proofs.lemmas.Bool.{or_parts}
+use Rattle.std.proofs.lemmas.Bool.{false≢true, or_parts}
 use Rattle.std.proofs.lemmas.Option.{slice_get-map, none-some, same_Some}
+use Rattle.std.specs.List.{slice_get}
 use Rattle.std.specs.Str.{is_utf8}
 use Rattle.yq_flow_scalars.specs.Answers.{◌>>=◌}
 use Rattle.yq_flow_scalars.specs.Paths.{Step, node_at}
@@ -11,7 +12,7 @@ use Rattle.yq_nodes.specs.Nodes.{Node, empty, anchored}
 use Rattle.yq_cut.specs.Rows.{Content, Cut}
 use Rattle.yq_documents.specs.declared.path.Path.{Path}
 use Rattle.yq_documents.specs.declared.path.Part.TheVariants as parts
-use Rattle.yq_documents.specs.Documents.{document_parts}
+use Rattle.yq_documents.specs.Documents.{Document, document_parts}
 use Rattle.yq_lines.specs.Group.{group, level_or, is_fine}
 use Rattle.yq_row_lines.specs.Lines.{head_of}
 use Rattle.yq_nodes.specs.Trees.{tree_of, with_name, node_head}
@@ -145,11 +146,11 @@ no_head h h1 = search rules
 
 in_null : (s : PrintedDocument) (t : Step) (ts : List Step) (e : BlockEntry) (f : FoundLine) (h n : tree.Node) (o : Option FlowEntry) → IsFound s e f → f.line.head ≡ Some h → line_inline e ≡ o → is_some (o >>= flow_at (t ∷ ts)) ≡ true →
     node_at (t ∷ ts) (content f.line f.under) ≡ Some n → or_false (o >>= λ x. option_map flow_written (flow_at (t ∷ ts) x)) ≡ false → IsNull n
-in_null s t ts e f h n None found head is some at none = cc
+in_null s t ts e f h n None found head is some at none = absurd (false≢true some)
 in_null s t ts e f h n (Some x) found head is some at none = go (flow_at (t ∷ ts) x) refl some none
   where
     go : (o : Option FlowEntry) → flow_at (t ∷ ts) x ≡ o → is_some o ≡ true → or_false (option_map flow_written o) ≡ false → IsNull n
-    go None there some none = cc
+    go None there some none = absurd (false≢true some)
     go (Some w) there some none =
         let labelled = (head_item_at s t ts e f h x w found head is there).labelled in
         subst IsNull (same_Some _ _ (ap (option_map (λ x. x.1)) (sym labelled) ∙ (labelled_path (t ∷ ts) (entry_of f.line f.under) ∙ at))) (headless w.node (no_head (node_head w.node) none))
@@ -189,7 +190,8 @@ no_document : (t : List ℕ) (c : Cut) (p : Path) → read_at t ≡ Some c → p
 unfolding read_at
 no_document t c p read is =
     let cut = text_takes t c (guard_then (is_utf8 t) read).1 in
-    cc (cut_is t c cut.0, slice_get-map document_of (document_parts c) p.doc, no_part p.doc c is)
+    ap (λ (x : Cut). option_and_then (λ (d : Document). node_at (steps_of p) d.root) (slice_get (map document_of (document_parts x)) p.doc)) (cut_is t c cut.0)
+    ∙ ap (option_and_then (λ (d : Document). node_at (steps_of p) d.root)) (slice_get-map document_of (document_parts c) p.doc ∙ ap (option_map document_of) (no_part p.doc c is))
 
 pub contents_exist : ContentsExist
 contents_exist t c p read = go (printed_document p.doc c) refl

@@ -8,8 +8,8 @@ use Rattle.yq_flow_scalars.specs.Paths.{Step, node_at}
 use Rattle.yq_flow_scalars.specs.Tree as tree
 use Rattle.yq_flow_scalars.proofs.Bools.{bind_some, guard_then}
 use Rattle.yq_nodes.specs.Entries.{inside}
-use Rattle.yq_nodes.specs.Nodes.{Node, empty, alias, scalar, coll, anchored, IsNode}
-use Rattle.yq_nodes.specs.Trees.{tree_of}
+use Rattle.yq_nodes.specs.Nodes.{Node, node_text, empty, alias, scalar, coll, anchored, IsNode}
+use Rattle.yq_nodes.specs.Trees.{node_anchor, tree_of}
 use Rattle.yq_cut.specs.Rows.{Content, Nothing, Inline, Block, Cut}
 use Rattle.yq_documents.specs.declared.path.Part.{Part as WhichPart}
 use Rattle.yq_documents.specs.declared.path.Part.TheVariants as parts
@@ -44,14 +44,18 @@ use Rattle.yq_row_places.proofs.FoundEntries.{IsIn, IsFound, entry_found}
 use Rattle.yq_row_places.proofs.FlowPieces.{none_anchored, twice, head_tree, head_item_at, head_there}
 
 -- an inline node
+piece_is : (node : Node) (before behind : List ℕ) (x : TextPiece) → node_anchor node ≡ None → Some (record { before = before; text = node_text node []; behind = behind }) ≡ Some x → IsValid node behind → IsInlinePiece x (tree_of node)
+piece_is node before behind x none e v =
+    let same = same_Some _ _ e in
+    record { node = node; unnamed = none; text = ap (λ (p : TextPiece). p.text) (sym same); valid = subst (λ (p : TextPiece). IsValid node p.behind) same v; tree = refl }
+
 pub node_spells : (before : List ℕ) (node : Node) (behind : List ℕ) (x : TextPiece) → node_piece before node behind ≡ Some x → IsValid node behind →
     (h : tree.Node) × (node_head node ≡ Some h) × IsInlinePiece x h
 unfolding IsNode
 node_spells before empty behind x e v = absurd (none-some _ e)
-node_spells before (alias name) behind x e v = (_, refl, record { node = alias name; unnamed = refl; text = ap (λ (p : TextPiece). p.text) (sym (same_Some _ _ e)); valid = subst (λ (p : TextPiece). IsValid (alias name) p.behind) (same_Some _ _ e) v; tree = refl })
-node_spells before (scalar p) behind x e v = (_, refl, record { node = scalar p; unnamed = refl; text = ap (λ (p : TextPiece). p.text) (sym (same_Some _ _ e)); valid = subst (λ (q : TextPiece). IsValid (scalar p) q.behind) (same_Some _ _ e) v; tree = refl })
-node_spells before (coll close gap items) behind x e v =
-    (_, refl, record { node = coll close gap items; unnamed = refl; text = ap (λ (p : TextPiece). p.text) (sym (same_Some _ _ e)); valid = subst (λ (p : TextPiece). IsValid (coll close gap items) p.behind) (same_Some _ _ e) v; tree = refl })
+node_spells before (alias name) behind x e v = (tree_of (alias name), refl, piece_is (alias name) before behind x refl e v)
+node_spells before (scalar p) behind x e v = (tree_of (scalar p), refl, piece_is (scalar p) before behind x refl e v)
+node_spells before (coll close gap items) behind x e v = (tree_of (coll close gap items), refl, piece_is (coll close gap items) before behind x refl e v)
 node_spells before (anchored name gap node) behind x e v = node_spells (before ++ 38 ∷ (name ++ gap)) node behind x e (v.0, v.1, v.2, v.3.4)
 
 -- what is written behind a mark
@@ -88,7 +92,10 @@ block_spells s before (l ∷ ls) behind x (row k u a) m inside e as_printed line
     first = cc
 
     go : (b : Bool) → is_bare l.line.mark ≡ b → cond b (head_piece (before ++ (line_front l ++ l.mark)) l.content (print_lines ls behind)) (Some (run_piece before l ls behind)) ≡ Some x → SpellsNode s x (value (row k u a))
-    go true t e = search (rules, bare_is, line_spells)
+    go true t e =
+        let bare = sym (ap (λ (j : Line). j.mark) first) ∙ bare_is l.line.mark t in
+        subst (SpellsNode s x) (ap (λ (j : Line). outlines.anchored j.anchor (head_or j.head (value u))) first ∙ sym (ap (λ (m : Mark). outlines.collection m (outlines.children (row k u a))) bare))
+        (line_spells s (before ++ (line_front l ++ l.mark)) l (print_lines ls behind) x as_printed.0 e (value u))
     go false t e = record {
       anchor = None;
       tree = value (row k u a);
@@ -113,7 +120,9 @@ content_spells s e f x m h even is = go e.line.line.head refl is
   where
     go : (o : Option tree.Node) → e.line.line.head ≡ o → cond (is_some o) (head_piece (e.before ++ (line_front e.line ++ e.line.mark)) e.line.content (print_lines e.under e.behind)) (lines_piece (e.before ++ print_line e.line []) e.under e.behind) ≡ Some x →
         SpellsNode s x (places.content f.line f.under)
-    go (Some k) head is = search (rules, line_spells)
+    go (Some k) head is =
+        subst (λ (j : Line). SpellsNode s x (outlines.anchored j.anchor (head_or j.head (value f.under)))) h.line
+        (line_spells s (e.before ++ (line_front e.line ++ e.line.mark)) e.line (print_lines e.under e.behind) x h.as_printed.0 is (value f.under))
     go None head is =
         subst (SpellsNode s x) (ap (λ j. outlines.anchored f.line.anchor (head_or j (value f.under))) (sym head ∙ ap (λ (j : Line). j.head) h.line))
         (behind_anchor s f.line.anchor x (value f.under) (block_spells s (e.before ++ print_line e.line []) e.under e.behind x f.under m (under_in s e h.inside) is h.as_printed.1 h.lines even))

@@ -1,11 +1,11 @@
 -- A document's rows in the text of a cut, and the row of a line, by the rows of all parts.
-use Rattle.std.proofs.Common.{◌≡◌, ℕ, zero, suc, ◌+◌, ◌-◌, List, [], ◌∷◌, ◌++◌, length, take, drop, Option, Some, None, option_map, refl, sym, ap, ◌∙◌, subst, arith, rules}
+use Rattle.std.proofs.Common.{◌≡◌, ℕ, zero, suc, ◌+◌, ◌-◌, ltb, List, [], ◌∷◌, ◌++◌, length, take, drop, Option, Some, None, option_map, refl, sym, ap, ◌∙◌, subst, arith, rules}
 use Rattle.std.proofs.lemmas.Bool.{lt-ltb, le-ltb, cond-true, cond-false}
 use Rattle.std.proofs.lemmas.Option.{slice_get_within, none-some, same_Some}
 use Rattle.std.specs.List.{slice_get}
 use Rattle.yq_flow_scalars.specs.Answers.{◌>>=◌}
 use Rattle.yq_cut.specs.Exchange.{behind_at, behind_row}
-use Rattle.yq_cut.specs.Rows.{Row, rows_text, Part, Cut, last, marked}
+use Rattle.yq_cut.specs.Rows.{Row, rows_text, Part, Cut, last, marked, cut_text}
 use Rattle.yq_cut.specs.Splices.{nth_part, behind_part}
 use Rattle.yq_cut.specs.View.{rows_of}
 use Rattle.yq_lines.specs.Ends.{line_of}
@@ -44,11 +44,27 @@ get_behind (x ∷ xs) ys n = let more : suc (length xs) + n ≡ suc (length xs +
 
 rows_at : (i : ℕ) (c : Cut) (j : ℕ) (r : Row) → slice_get (nth_part i c).rows j ≡ Some r →
     (slice_get (rows_of c) (rows_to i c + j) ≡ Some r) × (behind_row (rows_to i c + j) c ≡ rows_text (drop (suc j) (nth_part i c).rows) ((nth_part i c).end ++ behind_part i c))
-rows_at i (last p) j r is = search (rules, rows_behind)
-rows_at zero (marked p marker c) j r is = search (rules, lt-ltb, slice_get_within, get_front, cond-true, rows_behind)
+rows_at i (last p) j r is =
+    let at : 0 + j ≡ j = omega arith in
+    (ap (slice_get p.rows) at ∙ is, ap (λ n. behind_at n p.rows (p.end ++ [])) at ∙ rows_behind p.rows j (p.end ++ []))
+rows_at zero (marked p marker c) j r is =
+    let at : 0 + j ≡ j = omega arith in
+    let rest : List ℕ = p.end ++ (marker ++ cut_text c) in
+    let here = lt-ltb j (length p.rows) (slice_get_within p.rows j r is) in (
+      ap (slice_get (p.rows ++ rows_of c)) at ∙ get_front p.rows (rows_of c) j r is,
+      ap (λ n. behind_row n (marked p marker c)) at ∙ (cond-true (ltb j (length p.rows)) (behind_at j p.rows rest) (behind_row (j - length p.rows) c) here ∙ rows_behind p.rows j rest),
+    )
 rows_at (suc i) (marked q marker c) j r is =
     let x = rows_at i c j r is in
-    search (rules, le-ltb, get_behind, cond-false, x)
+    let n : ℕ = rows_to i c + j in
+    let m : ℕ = length q.rows + n in
+    let at : length q.rows + rows_to i c + j ≡ m = omega arith in
+    let left : m - length q.rows ≡ n = omega arith in
+    let past = le-ltb m (length q.rows) (omega arith) in (
+      ap (slice_get (q.rows ++ rows_of c)) at ∙ (get_behind q.rows (rows_of c) n ∙ x.0),
+      ap (λ k. behind_row k (marked q marker c)) at
+          ∙ (cond-false (ltb m (length q.rows)) (behind_at m q.rows (q.end ++ (marker ++ cut_text c))) (behind_row (m - length q.rows) c) past ∙ (ap (λ k. behind_row k c) left ∙ x.1)),
+    )
 
 pub part_at : (n : ℕ) (c : Cut) (s : PlacedPart) → placed_document n c ≡ Some s → HasRowsAt c (document_row n c) s
 part_at n c s e = search (rules, part_stands, rows_at, row_before, slice_get_within)

@@ -39,8 +39,11 @@ ends_at zero k (marked p marker c) j i some at =
       behind = λ h. (b, others, cond-true (eqb i (k + length p.rows)) (b ∷ others) others (eq-eqb i (k + length p.rows) (omega (arith, at, h))), refl);
     }
 ends_at (suc m) k (marked p marker c) j i some at =
+    let b : Bound = record { rows = k + length p.rows; end = p.end; marker = marker } in
+    let others : List Bound = bounds_at i (bounds_from (k + length p.rows) c) in
     let h = ends_at m (k + length p.rows) c j i some (omega (arith, at)) in
-    search (rules, cond-false, ne_eqb, h)
+    let past = cond-false (eqb i (k + length p.rows)) (b ∷ others) others (ne_eqb i (k + length p.rows) (λ e. omega (arith, e, at, some))) in
+    record { inside = λ x. past ∙ h.inside x; behind = λ x. let y = h.behind x in (y.0, y.1, past ∙ y.2, y.3) }
 
 -- the gap before the rows of a document behind some, and its column
 pub gap_behind : (n : ℕ) (c : Cut) (d : PlacedPart) (some back : List Row) → placed_document n c ≡ Some d → d.part.rows ≡ some ++ back → 0 < length some →

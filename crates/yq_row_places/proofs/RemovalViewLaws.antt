@@ -21,7 +21,7 @@ use Rattle.yq_cut.proofs.NodePieces.{BeginsAscii, before_ascii}
 use Rattle.yq_cut.proofs.seams.SeamLaws.{rows_text-append}
 use Rattle.yq_cut.proofs.splices.SpliceTexts.{first_text}
 use Rattle.yq_documents.specs.Documents.{document_parts}
-use Rattle.yq_row_lines.specs.Extents.{row_start}
+use Rattle.yq_row_lines.specs.Extents.{IsRowsView, row_start}
 use Rattle.yq_documents.specs.Pieces.{before_run}
 use Rattle.yq_documents.specs.Reading.{cut_of}
 use Rattle.yq_row_places.specs.PlacedRows.{PlacedPart, placed_document}
@@ -86,6 +86,9 @@ pub record OutAgrees (t : List ℕ) (s : RowsView) (d : PlacedPart) (x : OwnRows
   pub rows : drop first (rows_of (cut_of t)) ≡ d.part.rows ++ more
   pub front_size : at - first ≤ length d.part.rows
   pub front_is : take (at - first) d.part.rows ≡ x.front
+
+pub own_view : (t : List ℕ) (s : RowsView) (d : PlacedPart) (x : OwnRows) (m : RowCounts) → IsOwn t s d x m → IsRowsView s
+own_view t s d x m h = record { cut = cut_of t; is = h.rows_view_is; size = omega (arith, ap length h.cut.text, h.cut.size) }
 
 -- with the first own row named
 agrees_first : (t : List ℕ) (s : RowsView) (d : PlacedPart) (front : List Row) (r : Row) (rs back : List Row) (m : RowCounts) → IsOwn t s d (record { front = front; own = r ∷ rs; back = back }) m →

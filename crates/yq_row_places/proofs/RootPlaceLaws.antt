@@ -1,5 +1,5 @@
 -- Where a document ends in which no rows are, as the code counts it.
-use Rattle.std.proofs.Common.{◌≡◌, ℕ, zero, suc, ◌+◌, ◌-◌, ◌<◌, List, [], ◌∷◌, ◌++◌, length, map, take, drop, Option, Some, None, option_map, true, false, cond, refl, sym, ap, ◌∙◌, subst, arith, append_assoc, append-nil, length-append}
+use Rattle.std.proofs.Common.{◌≡◌, ℕ, zero, suc, ◌+◌, List, [], ◌∷◌, ◌++◌, length, map, take, drop, Option, Some, None, option_map, true, false, refl, sym, ap, ◌∙◌, subst, arith, append_assoc, append-nil, length-append}
 use Rattle.std.proofs.Math.Seq.{drop-append_seam, take-append_seam, take-append-add}
 use Rattle.std.proofs.lemmas.Bool.{false≢true, cond-true, cond-false}
 use Rattle.std.proofs.lemmas.List.{length-map, map-append, nil_from_length}
@@ -66,15 +66,6 @@ ends_at (suc i) n (marked p marker c) b e =
     let sum : length p.rows + rows_to i c + length (nth_part i c).rows ≡ length p.rows + size = omega arith in
     let rows = ap (λ (k : ℕ). sum_by row_length (take k (map slices (p.rows ++ rows_of c)))) sum ∙ rows_first p.rows (rows_of c) size in
     omega (arith, rows, sum_by-cons bound_length first (take i bs), ends_at i (n + length p.rows) c b e, part-length p marker, text)
-
--- a bound by its number
-pub agrees_bound : (s : RowsView) (k : ℕ) → k < length s.bounds → (b : Bound) × (slice_get s.bounds k ≡ Some b)
-agrees_bound s k within = go s.bounds k within
-  where
-    go : (bs : List Bound) (k : ℕ) → k < length bs → (b : Bound) × (slice_get bs k ≡ Some b)
-    go [] k h = absurd (omega (arith, h))
-    go (b ∷ bs) zero h = (b, refl)
-    go (b ∷ bs) (suc k) h = go bs k (omega (arith, h))
 
 -- ---- documents that were found
 

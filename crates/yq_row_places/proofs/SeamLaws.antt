@@ -93,7 +93,10 @@ row_seam (marked p marker c) i started r h is = go (cases_lt i (length p.rows)) 
   where
     go : (i < length p.rows) ⊎ (length p.rows ≤ i) → (slice_get (rows_of c) (i - length p.rows) ≡ Some r → IsSeam (before_row (i - length p.rows) c) (print_row r (behind_row (i - length p.rows) c))) →
         IsSeam (before_row i (marked p marker c)) (print_row r (behind_row i (marked p marker c)))
-    go (inl here) again = search (rules, lt-ltb, row_first, slice_front, rows_seam)
+    go (inl here) again =
+        let there : slice_get p.rows i ≡ Some r = slice_front p.rows (rows_of c) i r here is in
+        rw (lt-ltb i (length p.rows) here)
+        (subst (IsSeam (rows_text (take i p.rows) [])) (row_first p.rows i r (p.end ++ (marker ++ cut_text c)) there) (rows_seam p.rows i unlimited p.end (marker ++ cut_text c) h.0.rows))
     go (inr past) again =
         let test : ltb i (length p.rows) ≡ false = le-ltb i (length p.rows) past in
         let there : slice_get (rows_of c) (i - length p.rows) ≡ Some r = slice_back p.rows (rows_of c) i r past is in

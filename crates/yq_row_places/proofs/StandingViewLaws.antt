@@ -10,7 +10,6 @@ use Rattle.yq_cut.specs.Grammar.{IsMark}
 use Rattle.yq_cut.specs.Removal.{block_numbers, block_of}
 use Rattle.yq_cut.specs.Rows as rows
 use Rattle.yq_cut.specs.Rows.{Content, Nothing, Inline, Block, Row, dashes_text, print_row, rows_text, Cut}
-use Rattle.yq_cut.specs.Seams.{is_block}
 use Rattle.yq_cut.specs.View.{Slices, slices, colon_of, content_cut, last_dash, RowsView}
 use Rattle.yq_cut.proofs.seams.SeamLaws.{rows_text-append}
 use Rattle.yq_row_lines.specs.Lines.{mark_of}
@@ -118,12 +117,6 @@ some_block (Some b) z k e = let same : (k, z) ≡ block_numbers b = cc in (b, (r
 pub no_block : (o : Option BlockText) → None ≡ option_map block_numbers o → o ≡ None
 no_block None e = refl
 no_block (Some b) e = absurd (cc)
-
--- a content that has none is no block scalar
-pub none_is_block : (x : Content) → block_of x ≡ None → is_block x ≡ false
-none_is_block (Nothing tail) is = refl
-none_is_block (Inline space node tail) is = refl
-none_is_block (Block space anchor k) is = absurd (cc)
 
 block_mark : (e : RowsOfEntry) (x : Content) (b : BlockText) → block_of x ≡ Some b → block (held e) b.indent.columns ≡ behind_mark e x
 block_mark e (Nothing tail) b is = absurd (cc)

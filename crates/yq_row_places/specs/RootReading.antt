@@ -1,5 +1,5 @@
 -- Reading (own; a reader may skip it): documents without rows, by the bounds of parts, as the code counts.
-use Rattle.std.specs.Prelude.{ℕ, ◌+◌, ◌++◌, length, Option, Some, None, option_map, if◌then◌else◌}
+use Rattle.std.specs.Prelude.{ℕ, ◌++◌, length, Option, Some, None, option_map, if◌then◌else◌}
 use Rattle.yq_flow_scalars.specs.Answers.{◌>>=◌}
 use Rattle.yq_cut.specs.Grammar.{no_rows}
 use Rattle.yq_cut.specs.Rows.{Cut}

@@ -22,8 +22,8 @@ use Rattle.yq_edits.specs.CommentEdits.{comment_put, comment_written}
 use Rattle.yq_edits.specs.Operands.{HasOperand}
 use Rattle.yq_edits.specs.RowChanges.{comment_front, comment_old, takes_white}
 use Rattle.yq_edits.proofs.HeldPieces.{held_spells}
-use Rattle.yq_row_edits.proofs.LineCommentLaws.{line_comments_change_rows}
-use Rattle.yq_row_edits.proofs.RowEditLaws.{row_edits}
+use Rattle.yq_block_edits.proofs.LineCommentLaws.{line_comments_change_rows}
+use Rattle.yq_block_edits.proofs.RowEditLaws.{row_edits}
 use Rattle.yq_edits.proofs.TailPieces.{white_piece}
 use Rattle.yq_flow_edits.proofs.CutLaws.{cut_read, text_read}
 use Rattle.yq_block_edits.proofs.HeldRows.{mark_end, mark_tail}

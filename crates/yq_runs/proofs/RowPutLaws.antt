@@ -36,7 +36,7 @@ use Rattle.yq_edits.specs.Replacing.{is_kept}
 use Rattle.yq_edits.specs.RowChanges.{HoldsInline, inline_put}
 use Rattle.yq_edits.specs.WrittenValues.{value_text}
 use Rattle.yq_edits.proofs.HeldPieces.{held_spells}
-use Rattle.yq_row_edits.proofs.RowEditLaws.{row_edits}
+use Rattle.yq_block_edits.proofs.RowEditLaws.{row_edits}
 use Rattle.yq_flow_edits.proofs.CutLaws.{cut_read, text_read}
 use Rattle.yq_block_edits.proofs.HeldRows.{head_there, headless_there}
 use Rattle.yq_block_edits.proofs.InlineChangeLaws.{inline_values_change_rows}

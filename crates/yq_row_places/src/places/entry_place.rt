@@ -3,7 +3,7 @@ ghost use Rattle.std.specs.Prelude.{◌≡◌, ◌<◌, ◌-◌, map, option_map
 ghost use Rattle.yq_nodes.specs.Entries.{step_of};
 ghost use Rattle.yq_row_places.specs.EntryReading as spec;
 ghost use Rattle.yq_row_lines.specs.Extents.{IsRowsView};
-ghost use Rattle.yq_row_lines.specs.RowWalk.{AreKnown, AreLinesTo, HasDocument, IsLine};
+ghost use Rattle.yq_row_lines.specs.RowWalk.{AreKnown, AreLinesTo, HasDocument};
 ghost use Rattle.yq_row_places.specs.RowWalk.{InEach};
 ghost use Rattle.yq_documents.specs.Pieces.{span};
 
@@ -29,17 +29,6 @@ pub fn lines_place(rows: &Rows<'_>, document: Stretch, from: Position, to: Posit
     }
 }
 
-/// The place of the entry or item of a line.
-fn line_entry(rows: &Rows<'_>, document: Stretch, at: Position) -> Span
-    requires rows_view { IsRowsView rows.now }
-    requires document { HasDocument rows.now document }
-    requires at { IsLine rows.now document at }
-    ensures { InEach rows.now document (λ first c rs n. Some (span result) ≡
-        spec.line_entry first c rs (n at)) }
-{
-    lines_place(rows, document, at, behind(rows, document, at))
-}
-
 /// The place of the entry or item of the line to which steps lead.
 pub fn entry_of(
     rows: &Rows<'_>,
@@ -54,5 +43,6 @@ pub fn entry_of(
         spec.line_entry_of first c rs (map step_of steps.now)) }
 {
     let at = line_at(rows, document, known, steps)?;
-    Some(line_entry(rows, document, at))
+    let to = behind(rows, document, at);
+    Some(lines_place(rows, document, at, to))
 }

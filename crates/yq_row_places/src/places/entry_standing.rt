@@ -8,7 +8,8 @@ ghost use Rattle.yq_row_places.specs.Standings as spec;
 ghost use Rattle.yq_row_places.specs.StandingReading.{AreRowsOf, HasEntry, BeginsRows, IsEntryIn};
 ghost use Rattle.yq_row_places.specs.StandingViews as row_agrees;
 
-use crate::places::held::{Mark, held_in, is_noted};
+use crate::places::halves::is_text;
+use crate::places::held::{held_in, mark_of};
 use crate::places::lines_cut::{cut_lines, cut_tail};
 use crate::places::row_place::{line_start, row_stop};
 use crate::places::rows_of_entry::RowsOfEntry;
@@ -53,6 +54,7 @@ fn compact_in<'t>(rows: &Rows<'t>, text: Halves<'t>, at: RowsOfEntry) -> Compact
     ensures { (e : spec.RowsOfEntry) → IsEntryIn (whole text.entry) rows.now e at →
         row_agrees.compact_view result ≡ spec.compact_in e }
 {
+    is_text(text);
     let row = rows.row(at.row);
     let position = Position {
         row: at.row,
@@ -62,11 +64,7 @@ fn compact_in<'t>(rows: &Rows<'t>, text: Halves<'t>, at: RowsOfEntry) -> Compact
     let lower = cut_lines(text, line_start(rows, position) + 1, stop);
     let tail = cut_tail(&row);
     Compact {
-        mark: Mark {
-            column: line_column(&row, at.line),
-            keyed: false,
-            noted: is_noted(&row, tail.comment),
-        },
+        mark: mark_of(&row, at.line, false, tail.comment),
         column: line_column(&row, at.line + 1),
         before: lower.before,
         old: lower.lines,

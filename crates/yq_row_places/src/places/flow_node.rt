@@ -26,10 +26,7 @@ pub fn collection_along<'d, 't>(node: &'d Inline<'t>, steps: &[Step]) -> Option<
 {
     let entry = node.entry(steps)?;
     match &entry.node.form {
-        Form::List(_) => Some(entry.node),
-        Form::Map(_) => Some(entry.node),
-        Form::Empty => None,
-        Form::Alias(_) => None,
-        Form::Scalar(..) => None,
+        Form::List(_) | Form::Map(_) => Some(entry.node),
+        Form::Empty | Form::Alias(_) | Form::Scalar(..) => None,
     }
 }

@@ -1,13 +1,16 @@
 //! Keys and dashes of a text, with what they hold.
-ghost use Rattle.std.specs.Prelude.{◌≡◌, ◌||◌, not};
+ghost use Rattle.std.specs.Prelude.{◌≡◌, ◌≤◌, ◌+◌, ◌||◌, length, not};
 ghost use Rattle.yq_text.specs.Halves.{whole};
+ghost use Rattle.yq_flow_scalars.specs.Characters.{text_limit};
 ghost use Rattle.yq_flow_scalars.specs.Text.{is_empty};
 ghost use Rattle.yq_cut.specs.View.{view};
+ghost use Rattle.yq_row_lines.specs.RowWalk.{line_column};
 ghost use Rattle.yq_row_places.specs.RowPieces as pieces;
 ghost use Rattle.yq_row_places.specs.Standings as spec;
 ghost use Rattle.yq_row_places.specs.StandingReading.{HasEntry, IsEntryIn};
 ghost use Rattle.yq_row_places.specs.StandingViews as row_agrees;
 
+use crate::places::halves::is_text;
 use crate::places::lines_cut::{cut_lines, cut_tail, either};
 use crate::places::row_place::row_stop;
 use crate::places::rows_of_entry::RowsOfEntry;
@@ -52,11 +55,19 @@ pub struct Held<'t> {
     pub behind: Halves<'t>,
 }
 
-/// Whether a row has an anchor or a comment.
-pub fn is_noted(row: &Row<'_>, comment: &str) -> bool
-    ensures { result ≡ (not (is_empty (view row.now).anchor) || not (is_empty comment.now)) }
+/// The key or dash of a line of a row that ends with a comment, or with none.
+pub fn mark_of(row: &Row<'_>, line: usize, keyed: bool, comment: &str) -> Mark
+    requires { (view row.now).column + length (view row.now).dashes ≤ text_limit }
+    ensures column { result.column ≡ line_column line (view row.now) }
+    ensures keyed { result.keyed ≡ keyed }
+    ensures noted { result.noted ≡ (not (is_empty (view row.now).anchor) ||
+        not (is_empty comment.now)) }
 {
-    !row.anchor().is_empty() || !comment.is_empty()
+    Mark {
+        column: line_column(row, line),
+        keyed,
+        noted: !row.anchor().is_empty() || !comment.is_empty(),
+    }
 }
 
 /// Whether a row has a key.
@@ -83,24 +94,20 @@ pub fn held_in<'t>(rows: &Rows<'t>, text: Halves<'t>, at: RowsOfEntry) -> Held<'
     ensures { (e : spec.RowsOfEntry) → IsEntryIn (whole text.entry) rows.now e at →
         row_agrees.held_view result ≡ spec.held e }
 {
+    is_text(text);
     let row = rows.row(at.row);
     let (_, end) = head_place(rows, at.row);
     let stop = row_stop(rows, at.end - 1);
     let lower = cut_lines(text, end + row.tail().len(), stop);
     let space = space_before(&row);
-    let (before, _) = lower
-        .before
-        .split_at(end - (space.len() + row.head().len()));
+    let head = row.head();
+    let (before, _) = lower.before.split_at(end - (space.len() + head.len()));
     let tail = cut_tail(&row);
     Held {
-        mark: Mark {
-            column: line_column(&row, at.dashes),
-            keyed: has_key(&row),
-            noted: is_noted(&row, tail.comment),
-        },
+        mark: mark_of(&row, at.dashes, has_key(&row), tail.comment),
         before,
         space,
-        head: row.head(),
+        head,
         white: tail.white,
         comment: tail.comment,
         line_break: either(lower.none, "", tail.line_break),

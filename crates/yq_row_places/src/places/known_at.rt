@@ -13,25 +13,6 @@ use yq_nodes::Step;
 use yq_row_lines::{KnownItem, KnownItems, Next, Position, Stretch};
 use yq_walk::{item_before, known_to, level_at, next, next_at};
 
-/// Where what is under a line begins, or under the root, and how deep that line is.
-#[inline(always)]
-fn begin_under(rows: &Rows<'_>, document: Stretch, from: Option<Position>) -> (Position, usize)
-    requires rows_view { IsRowsView rows.now }
-    requires document { HasDocument rows.now document }
-    requires from { IfSome from (IsLine rows.now document) }
-{
-    match from {
-        Some(at) => (next(rows, document, at), level_at(rows, at)),
-        None => {
-            let first = Position {
-                row: document.first,
-                line: 0,
-            };
-            (first, 0)
-        }
-    }
-}
-
 /// How many rows a walk passes that goes on from an item.
 #[inline(always)]
 fn rows_passed(item: KnownItem) -> usize {
@@ -87,7 +68,16 @@ fn known_by(
     requires at { IsLine rows.now document at }
     ensures known { IfSome result (IsKnown rows.now.rows) }
 {
-    let (under, floor) = begin_under(rows, document, from);
+    let (under, floor) = match from {
+        Some(above) => (next(rows, document, above), level_at(rows, above)),
+        None => {
+            let first = Position {
+                row: document.first,
+                line: 0,
+            };
+            (first, 0)
+        }
+    };
     if under.row >= at.row {
         return None;
     }
@@ -146,13 +136,14 @@ pub fn line_known<'s>(
     })
 }
 
-/// A known item, or the one before it, if its row begins in front of so many bytes.
+/// A known item, or the one before it, if there is one and its row begins in front of so many bytes.
 #[inline(always)]
-fn begins_in_front(rows: &Rows<'_>, known: KnownItem, front: usize) -> Option<KnownItem>
-    requires known { IsKnown rows.now.rows known }
+pub fn if_in_front(rows: &Rows<'_>, known: Option<KnownItem>, front: usize) -> Option<KnownItem>
+    requires known { IfSome known (IsKnown rows.now.rows) }
     requires rows_view { IsRowsView rows.now }
     ensures { IfSome result (λ k. (c : Cut) → rows.now ≡ rows_view c → StaysKnown front c k) }
 {
+    let known = known?;
     if known.row >= rows.len() {
         return None;
     }
@@ -165,14 +156,4 @@ fn begins_in_front(rows: &Rows<'_>, known: KnownItem, front: usize) -> Option<Kn
     } else {
         None
     }
-}
-
-/// The same of an item, if there is one.
-#[inline(always)]
-pub fn if_in_front(rows: &Rows<'_>, known: Option<KnownItem>, front: usize) -> Option<KnownItem>
-    requires known { IfSome known (IsKnown rows.now.rows) }
-    requires rows_view { IsRowsView rows.now }
-    ensures { IfSome result (λ k. (c : Cut) → rows.now ≡ rows_view c → StaysKnown front c k) }
-{
-    begins_in_front(rows, known?, front)
 }

@@ -13,26 +13,29 @@ use yq_nodes::Step;
 use yq_row_lines::{KnownItem, KnownItems, Position, Stretch};
 use yq_walk::{counted, first_known, known_among, level_at, rows_under};
 
-/// The row from which on the end is looked for of the lines from one on that are deeper than a level: that
-/// of an item that is known, or the next one.
+/// The row from which on the end is looked for, behind a line, of lines that are deeper than a level, of which
+/// this is the first one: that of an item among them that is known, or the next one.
+#[inline(always)]
 fn search_row(
     rows: &Rows<'_>,
     document: Stretch,
     known: KnownItems,
-    from: Position,
+    at: Position,
+    first: Position,
     floor: usize,
 ) -> usize
     requires document { HasDocument rows.now document }
     requires known { AreKnown rows.now.rows known }
-    requires from { IsLine rows.now document from }
-    ensures later { from.row < result }
+    requires at { IsLine rows.now document at }
+    requires first { (first.row ≡ at.row) ⊎ ((first.row ≡ at.row + 1) × (first.line ≡ 0)) }
+    ensures later { at.row < result }
     ensures within { result ≤ document.end }
     ensures value { spec.rows_end rows.now document floor result ≡
-        spec.rows_end rows.now document floor (from.row + 1) }
+        spec.rows_end rows.now document floor (at.row + 1) }
 {
-    match known_among(rows, document, known, from, floor) {
+    match known_among(rows, document, known, first, floor) {
         Some(known) => known.row,
-        None => from.row + 1,
+        None => at.row + 1,
     }
 }
 
@@ -54,7 +57,7 @@ pub fn behind_all(
     ensures line { result.line ≡ 0 }
     ensures later { from.row < result.row }
 {
-    let begin = search_row(rows, document, known, from, floor);
+    let begin = search_row(rows, document, known, from, from, floor);
     Position {
         row: rows_under(rows, begin, document.end, floor),
         line: 0,
@@ -81,31 +84,6 @@ fn line_behind(document: Stretch, at: Position, last: usize) -> Position
     }
 }
 
-/// The row from which on the end is looked for of the lines under one of a level, in whose row so many stand
-/// before the last one: that of an item there that is known, or the next row.
-#[inline(always)]
-fn search_under(
-    rows: &Rows<'_>,
-    document: Stretch,
-    known: KnownItems,
-    at: Position,
-    last: usize,
-    floor: usize,
-) -> usize
-    requires document { HasDocument rows.now document }
-    requires known { AreKnown rows.now.rows known }
-    requires at { IsLine rows.now document at }
-    ensures within { result ≤ document.end }
-    ensures value { spec.rows_end rows.now document floor result ≡
-        spec.rows_end rows.now document floor (at.row + 1) }
-{
-    let first = line_behind(document, at, last);
-    match known_among(rows, document, known, first, floor) {
-        Some(known) => known.row,
-        None => at.row + 1,
-    }
-}
-
 /// The row behind those of a line of a level, in whose row so many stand before the last one, and of the
 /// lines under it.
 #[inline(always)]
@@ -123,7 +101,8 @@ pub fn row_behind(
     requires at { IsLine rows.now document at }
     ensures { result ≡ spec.rows_end rows.now document floor (at.row + 1) }
 {
-    let begin = search_under(rows, document, known, at, last, floor);
+    let first = line_behind(document, at, last);
+    let begin = search_row(rows, document, known, at, first, floor);
     rows_under(rows, begin, document.end, floor)
 }
 

@@ -16,6 +16,7 @@ ghost use Rattle.yq_row_places.specs.RemovalReading as reading;
 ghost use Rattle.yq_row_places.specs.RowWalk.{IsKnownLine};
 ghost use Rattle.yq_row_lines.specs.RowWalk.{AreKnown, HasDocument};
 
+use crate::places::halves::is_text;
 use crate::places::known_line::{KnownLine, line_by};
 use crate::places::row_place::row_stop;
 use yq_cut::Rows;
@@ -159,6 +160,7 @@ pub fn rows_out<'d>(rows: &Rows<'d>, text: Halves<'d>, marks: (usize, usize, usi
         reading.IsOwn (whole text.entry) rows.now d x (marks.0, marks.1, marks.2) →
         reading.removal_view result ≡ spec.rows_out d x }
 {
+    is_text(text);
     let (first, at, end) = marks;
     let (kept, _) = split_run(rows.row(at).gap());
     let start = row_start(rows, at) + kept.len();

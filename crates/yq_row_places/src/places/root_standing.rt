@@ -6,6 +6,7 @@ ghost use Rattle.yq_row_places.specs.StandingReading.{IsRootOf};
 ghost use Rattle.yq_row_places.specs.StandingViews as row_agrees;
 
 use crate::places::entry_standing::{is_alone, lone_in};
+use crate::places::halves::is_text;
 use crate::places::lines_cut::cut_lines;
 use crate::places::row_place::{line_start, row_stop};
 use crate::places::standing::{BlockRoot, Standing};
@@ -19,6 +20,7 @@ fn block_root_in<'t>(rows: &Rows<'t>, text: Halves<'t>, document: Stretch) -> Bl
     ensures { (h : IsRootOf (whole text.entry) rows.now document) →
         row_agrees.root_view result ≡ spec.block_root h.part h.row h.under }
 {
+    is_text(text);
     let position = Position {
         row: document.first,
         line: 0,

@@ -1,7 +1,11 @@
-use Rattle.std.proofs.Common.{ap, sym, ◌∙◌, subst, eqb-true}
-use Rattle.yq_outcomes.specs.Answers.{Edits}
-use Rattle.yq_outcomes.specs.Edit.{behind}
-use Rattle.yq_outcomes.proofs.OperationsLaws.{last_comes, others_come, others_served}
+use Rattle.std.proofs.Common.{ap, sym, ◌∙◌, subst, eqb-true, List, ℕ, arith}
+use Rattle.yq_outcomes.specs.Answers.{Edits, EditFails}
+use Rattle.yq_outcomes.specs.Edit.{behind, gives}
+use Rattle.yq_outcomes.proofs.OperationsLaws.{last_comes, others_come, others_served, first_fails, first_fits, none_come}
+use Rattle.std.proofs.lemmas.Result.{err_from_is_err_and}
+use Rattle.yq_meaning.specs.Operations.{operations_of}
+use Rattle.yq_outcomes.specs.Carried.{carry_all}
+use Rattle.yq_outcomes.specs.Valid.{AreServed}
 use Rattle.yq_carrying.proofs.carrying.carry_all.Goals as goal
 
 pub operations-preserved : goal.operations-preserved
@@ -15,3 +19,24 @@ pub returns-then-is_empty : goal.returns-then-is_empty
 returns-then-is_empty c =
     let last = last_comes c.operations.rest.now c.op-item.result c.operations.session.text c.in-len1-up.len_at_least c.op-item.is (eqb-true _ 0 (sym c.is_empty.ensures ∙ c.if-is_empty.true)) in
     subst (Edits c.close_by.result) (ap (behind c.operations.splices.items) last ∙ c.operations.invariant.whole) c.close_by.ensures
+
+pub operations-init : goal.operations-init
+operations-init c = record {
+  whole = ap (λ (t : List ℕ). behind c.args.splices.items (carry_all (operations_of c.args.ops.now) t)) c.of-session.ensures;
+  serves = subst (AreServed (operations_of c.args.ops.now)) (sym c.of-session.ensures) c.requires.serves;
+}
+
+pub apply-requires : goal.apply-requires
+apply-requires c = first_fits c.operations.rest.now c.op-item.result c.operations.session.text c.in-len1-up.len_at_least c.op-item.is c.operations.invariant.serves
+
+pub returns-in_err-next : goal.returns-in_err-next
+returns-in_err-next c =
+    let p = err_from_is_err_and c.from_residual.result c.from_residual.ensures.1 in
+    rw (p.1, p.2)
+    (subst (EditFails c.in_err-next.field-0.0) c.operations.invariant.whole
+    (first_fails c.operations.rest.now c.op-item.result c.operations.session.text c.operations.splices.items c.in_err-next.field-0.0 c.in-len1-up.len_at_least c.op-item.is c.in_err-next.ensures.err))
+
+pub returns : goal.returns
+returns c =
+    sym c.operations.invariant.whole
+    ∙ (none_come c.operations.rest.now c.operations.session.text c.operations.splices.items (omega (arith, c.in_default.len_below)) ∙ ap (λ (t : List ℕ). gives t c.operations.splices.items) (sym c.close.ensures))

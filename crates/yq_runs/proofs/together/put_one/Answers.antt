@@ -7,6 +7,7 @@ use Rattle.yq_meaning.specs.Operations.{operation_of}
 use Rattle.yq_flow_edits.specs.declared.put.PartPut.{PartPut}
 use Rattle.yq_runs.specs.Runs.{HasPut, PutFails, PutsAt}
 use Rattle.yq_runs.proofs.RunAnswers.{edge_in, kept_on, lies_in, put_fails, put_on}
+use Rattle.std.proofs.lemmas.Bool.{false≢true}
 use Rattle.yq_runs.proofs.together.put_one.Goals as goal
 
 pub overflow_add-start : goal.overflow_add-start
@@ -71,3 +72,9 @@ returns-clause-ok c =
     let behind = c.ends_before.ensures c.if-not-ends_before.false in
     λ _. put_on c.args.cut.now (whole c.text-text.result) c.args.doc (map step_of c.args.stem.now) (operation_of c.args.op.now) c.args.run.now c.part_put.new.head c.in-Some.field-0
     c.text-text.ensures.read c.text-text.ensures.text c.requires.run h behind.0 behind.1 c.requires.fits c.in-Some-written.written c.in-Some-written.is c.put.new.self has_put
+
+pub returns-in_default-clause-ok : goal.returns-in_default-clause-ok
+returns-in_default-clause-ok c = λ e. absurd (false≢true e)
+
+pub returns-then-not-ends_before-clause-ok : goal.returns-then-not-ends_before-clause-ok
+returns-then-not-ends_before-clause-ok c = λ e. absurd (false≢true e)

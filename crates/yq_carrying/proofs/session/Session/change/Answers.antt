@@ -62,3 +62,8 @@ returns-clause-err c =
     let whole = c.resumed-cut.ensures ∙ whole_borrowed (joined c.self.inside.text) c.replace-places.result h c.halves-text.result (c.halves-text.ensures.front ∙ c.move_split.ensures.front, c.halves-text.ensures.back ∙ c.move_split.ensures.back) in
     let same = carried_on (operation_of c.args.op.now) (joined c.self.inside.text) c.resumed-cut.result c.replace-places.result h whole ∙ ap (λ (s : SessionState). carried (operation_of c.args.op.now) s.text) c.self.view_is in
     subst (λ (x : Edit). IfErr c.change_one-changed.result (λ e. EditFails e x)) same c.change_one-changed.ensures.err
+
+pub returns-clause-same : goal.returns-clause-same
+returns-clause-same c =
+    let text = moved_same (joined c.self.inside.text) c.replace-places.result.split c.move_split.new.self c.move_split.ensures.front c.move_split.ensures.back in
+    (λ i. record { text = text i; scanned = c.self.inside.meter }) ∙ c.self.view_is

@@ -11,6 +11,7 @@ use Rattle.yq_row_places.proofs.FlowNodeLaws.{collection_is, agrees_for, head_li
 use Rattle.yq_row_places.proofs.RowHeads.{line_fit, line_within, row_start, row_text}
 use Rattle.yq_row_places.proofs.WalkDocuments.{found_document, found_in_cut, place_found}
 use Rattle.yq_row_places.proofs.WalkNodes.{row_is, row_in_cut}
+use Rattle.yq_places.proofs.CutRows.{rows_are_view, items_known, line_known}
 use Rattle.yq_places.proofs.cut_text.CutText.flow_head.Goals as goal
 
 pub node_place-requires-clause-document : goal.node_place-requires-clause-document
@@ -107,3 +108,15 @@ returns-clause-whole c =
 
 pub returns-clause-found : goal.returns-clause-found
 returns-clause-found c = agrees_for c.args.self.now (cut_of c.args.self.now) c.args.doc (map step_of c.args.steps.now) _ (returns-clause-whole c)
+
+pub node_place-requires-clause-rows_view : goal.node_place-requires-clause-rows_view
+node_place-requires-clause-rows_view c = rows_are_view c.args.self.now c.rows-rows.result.now c.whole-whole.ensures.cut c.rows-rows.ensures
+
+pub node_place-requires-clause-known : goal.node_place-requires-clause-known
+node_place-requires-clause-known c = items_known c.args.self.now c.rows-rows.result.now c.known.result c.rows-rows.ensures c.known.ensures
+
+pub node_place-requires-clause-line : goal.node_place-requires-clause-line
+node_place-requires-clause-line c = line_known c.args.self.now c.rows-rows.result.now c.line.result c.rows-rows.ensures c.line.ensures
+
+pub place_line-requires-clause-rows_view : goal.place_line-requires-clause-rows_view
+place_line-requires-clause-rows_view c = rows_are_view c.args.self.now c.rows-rows.result.now c.whole-whole.ensures.cut c.rows-rows.ensures

@@ -11,6 +11,7 @@ use Rattle.yq_row_places.proofs.NodeAtLaws.{node_among, block_numbers_of, head_a
 use Rattle.yq_row_places.proofs.RowHeads.{line_fit, line_within}
 use Rattle.yq_row_places.proofs.WalkDocuments.{found_document, found_in_cut, place_found}
 use Rattle.yq_row_places.proofs.WalkNodes.{row_is, row_in_cut}
+use Rattle.yq_places.proofs.CutRows.{rows_are_view, items_known, line_known}
 use Rattle.yq_places.proofs.cut_text.CutText.node_at.Goals as goal
 
 pub node_place-requires-clause-document : goal.node_place-requires-clause-document
@@ -65,3 +66,18 @@ returns c =
     (c.in_ok-head.ensures (row_is rows d (cut_of t) k q at) (row_in_cut rows d (cut_of t) k q at)).view)
     ∙ node_is (cut_of t) c.args.doc steps 0 c.whole-whole.ensures.documents in
     IfOk-weaker c.head_node.result _ _ (λ o is. is ∙ agrees) c.head_node.ensures
+
+pub node_place-requires-clause-rows_view : goal.node_place-requires-clause-rows_view
+node_place-requires-clause-rows_view c = rows_are_view c.args.self.now c.rows-rows.result.now c.whole-whole.ensures.cut c.rows-rows.ensures
+
+pub node_place-requires-clause-known : goal.node_place-requires-clause-known
+node_place-requires-clause-known c = items_known c.args.self.now c.rows-rows.result.now c.known.result c.rows-rows.ensures c.known.ensures
+
+pub node_place-requires-clause-line : goal.node_place-requires-clause-line
+node_place-requires-clause-line c = line_known c.args.self.now c.rows-rows.result.now c.line.result c.rows-rows.ensures c.line.ensures
+
+pub place_line-requires-clause-rows_view : goal.place_line-requires-clause-rows_view
+place_line-requires-clause-rows_view c = rows_are_view c.args.self.now c.rows-rows.result.now c.whole-whole.ensures.cut c.rows-rows.ensures
+
+pub block_node-requires-clause-rows_view : goal.block_node-requires-clause-rows_view
+block_node-requires-clause-rows_view c = rows_are_view c.args.self.now c.rows-rows.result.now c.whole-whole.ensures.cut c.rows-rows.ensures

@@ -5,6 +5,7 @@ use Rattle.yq_documents.specs.Reading.{cut_of}
 use Rattle.yq_row_places.specs.RemovalPlaces.{own_rows}
 use Rattle.yq_row_places.specs.RemovalReading.{marks}
 use Rattle.yq_row_places.proofs.WalkDocuments.{found_document, no_place_found, place_found}
+use Rattle.yq_places.proofs.CutRows.{rows_are_view, items_known, line_known}
 use Rattle.yq_places.proofs.cut_text.CutText.own.Goals as goal
 
 pub returns-in_err-document : goal.returns-in_err-document
@@ -20,3 +21,12 @@ returns c =
     let t : List ℕ = c.args.self.now in
     place_found t c.rows.result.now (cut_of t) c.args.path.now.doc c.in_ok-document.document _ (λ k cut rows. option_map (marks k) (own_rows (steps_of c.args.path.now) rows)) c.whole-whole.ensures.cut c.rows.ensures c.in_ok-document.ensures.place c.in_ok-document.ensures.sound
     (λ k. c.own_rows.ensures k.document ∙ ap (λ xs. option_map (marks c.in_ok-document.document.first) (own_rows (map step_of xs) k.document.stand.rows)) c.deref.ensures.value)
+
+pub own_rows-requires-clause-rows_view : goal.own_rows-requires-clause-rows_view
+own_rows-requires-clause-rows_view c = rows_are_view c.args.self.now c.rows.result.now c.whole-whole.ensures.cut c.rows.ensures
+
+pub own_rows-requires-clause-known : goal.own_rows-requires-clause-known
+own_rows-requires-clause-known c = items_known c.args.self.now c.rows.result.now c.known.result c.rows.ensures c.known.ensures
+
+pub own_rows-requires-clause-line : goal.own_rows-requires-clause-line
+own_rows-requires-clause-line c = line_known c.args.self.now c.rows.result.now c.line.result c.rows.ensures c.line.ensures

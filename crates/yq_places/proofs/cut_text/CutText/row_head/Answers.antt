@@ -8,6 +8,7 @@ use Rattle.yq_row_lines.specs.Extents.{IsRowsView}
 use Rattle.yq_row_places.proofs.FoundEntries.{within_some}
 use Rattle.yq_row_lines.proofs.LengthLaws.{row_fits, view_small}
 use Rattle.yq_row_places.proofs.RowHeads.{head_boundary, has_head, row_boundary, row_taken, slices_are}
+use Rattle.yq_places.proofs.CutRows.{row_within, rows_are_view}
 use Rattle.yq_places.proofs.cut_text.CutText.row_head.Goals as goal
 
 pub split_at-requires : goal.split_at-requires
@@ -60,3 +61,12 @@ returns c = λ r is.
     (view c.row-row.result) pieces c.head.result.now c.tail.result.now c.raw.result.now c.head.ensures c.tail.ensures c.raw.ensures) in
     let alone = has_head t (cut_of t) c.args.i r start u cut is at (view c.row-row.result) c.in-Some.text.now pieces own (c.requires.fit r is) in
     record { view = c.in_ok-row_head.ensures.view alone; flow = c.in_ok-row_head.ensures.flow alone; text = own; before = at }
+
+pub head_place-start-requires-clause-within : goal.head_place-start-requires-clause-within
+head_place-start-requires-clause-within c = row_within c.args.self.now c.rows-rows.result.now c.args.i c.rows-rows.ensures c.requires.within
+
+pub head_place-start-requires-clause-rows_view : goal.head_place-start-requires-clause-rows_view
+head_place-start-requires-clause-rows_view c = rows_are_view c.args.self.now c.rows-rows.result.now c.whole-whole.ensures.cut c.rows-rows.ensures
+
+pub row-row-requires : goal.row-row-requires
+row-row-requires c = row_within c.args.self.now c.rows-rows.result.now c.args.i c.rows-rows.ensures c.requires.within

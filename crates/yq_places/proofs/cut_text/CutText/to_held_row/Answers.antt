@@ -7,6 +7,9 @@ use Rattle.yq_documents.specs.Reading.{cut_of}
 use Rattle.yq_row_places.specs.RowWalk.{IsLineAt}
 use Rattle.yq_row_places.proofs.HeldRowLaws.{held_row_is, line_in}
 use Rattle.yq_row_places.proofs.WalkDocuments.{found_document}
+use Rattle.yq_places.proofs.CutRows.{rows_are_view, items_known}
+use Rattle.yq_text.specs.Halves.{whole}
+use Rattle.yq_row_places.proofs.HeldLaws.{cut_agrees}
 use Rattle.yq_places.proofs.cut_text.CutText.to_held_row.Goals as goal
 
 pub known_along-at-requires-clause-document : goal.known_along-at-requires-clause-document
@@ -29,3 +32,15 @@ returns-clause-row c =
     let y = line_in s d _ c.in_ok-at.field-0 (found_document t s (cut_of t) c.args.path.now.doc d c.whole-text.ensures.cut c.rows-rows.ensures c.in_ok-document.ensures.place c.in_ok-document.ensures.sound).document.stand there in
     IfSome_then c.row_of_last.result c.row_of_last.ensures
     (λ x says. held_row_is t s c.args.path.now.doc d (steps_of c.args.path.now) c.in_ok-at.field-0 x c.whole-text.ensures.cut c.rows-rows.ensures c.in_ok-document.ensures.place c.in_ok-document.ensures.sound there y.0 y.1.0 says)
+
+pub known_along-at-requires-clause-rows_view : goal.known_along-at-requires-clause-rows_view
+known_along-at-requires-clause-rows_view c = rows_are_view c.args.self.now c.rows-rows.result.now c.whole-text.ensures.cut c.rows-rows.ensures
+
+pub known_along-at-requires-clause-known : goal.known_along-at-requires-clause-known
+known_along-at-requires-clause-known c = items_known c.args.self.now c.rows-rows.result.now c.known.result c.rows-rows.ensures c.known.ensures
+
+pub row_of_last-requires-clause-rows_view : goal.row_of_last-requires-clause-rows_view
+row_of_last-requires-clause-rows_view c = rows_are_view c.args.self.now c.rows-rows.result.now c.whole-text.ensures.cut c.rows-rows.ensures
+
+pub resumed-requires-clause-cut : goal.resumed-requires-clause-cut
+resumed-requires-clause-cut c = cut_agrees (whole c.whole-text.result) c.args.self.now c.rows-rows.result.now c.whole-text.ensures.text c.whole-text.ensures.cut c.rows-rows.ensures c.whole-text.ensures.documents

@@ -1,7 +1,7 @@
 use Rattle.std.proofs.Common.{refl}
 use Rattle.yq_text.specs.Halves.{whole}
 use Rattle.yq_cut.specs.View.{view}
-use Rattle.yq_row_places.proofs.EntryRowLaws.{row_within}
+use Rattle.yq_row_places.proofs.EntryRowLaws.{row_within, is_view}
 use Rattle.yq_row_places.proofs.LoneLaws.{end_boundary, lone_is, start_boundary}
 use Rattle.yq_row_places.proofs.places.entry_standing.lone_in.Goals as goal
 
@@ -26,3 +26,6 @@ pub returns : goal.returns
 returns c = λ e end h a.
     lone_is (whole c.args.text) c.args.rows.now e c.args.i end h (c.head_place-start.result.0, c.head_place-start.result.1) c.head_place-start.ensures (view c.row-row.result) c.row-row.ensures (whole c.args.text) (whole c.split_at.result.0) (whole c.split_at-2.result.0) (whole c.split_at.result.1) c.head-head.result.now
     refl c.split_at.ensures.front c.split_at.ensures.back c.split_at-2.ensures.front c.head-head.ensures a
+
+pub head_place-start-requires-clause-rows_view : goal.head_place-start-requires-clause-rows_view
+head_place-start-requires-clause-rows_view c = let h = c.requires in is_view (whole c.args.text) c.args.rows.now h.entry c.args.i h.end h.is

@@ -1,10 +1,9 @@
-use Rattle.std.proofs.Common.{rules, ℕ, ◌+◌, ◌-◌, length, take, refl, sym, ap, ◌∙◌, arith}
-use Rattle.std.proofs.lemmas.Str.{IsUtf8-append}
+use Rattle.std.proofs.Common.{ℕ, refl, ap, ◌∙◌, arith}
 use Rattle.std.specs.Str.{IsUtf8}
 use Rattle.yq_text.specs.Halves.{whole}
 use Rattle.yq_cut.specs.View.{view}
 use Rattle.yq_row_places.specs.LineReading.{LinesIn, lines_view, tail_view}
-use Rattle.yq_row_places.proofs.EntryRowLaws.{column_fits, last_within, row_within}
+use Rattle.yq_row_places.proofs.EntryRowLaws.{column_fits, last_within, row_within, is_view}
 use Rattle.yq_row_places.proofs.HeldTexts.{before_boundary, held_is, lower_cut, lower_is, space_fits, tail_fits}
 use Rattle.yq_row_places.proofs.places.held.held_in.Goals as goal
 
@@ -20,7 +19,7 @@ row_stop-stop-requires-clause-within c = let h = c.requires in last_within (whol
 pub cut_lines-lower-requires : goal.cut_lines-lower-requires
 cut_lines-lower-requires c =
     let h = c.requires in
-    lower_cut (whole c.args.text) c.args.rows.now h.entry c.args.at.row c.args.at.end h.is.rows (IsUtf8-append c.args.text.front.now c.args.text.back.now (search rules) (search rules)) (c.head_place-end.result.0, c.head_place-end.result.1) c.head_place-end.ensures
+    lower_cut (whole c.args.text) c.args.rows.now h.entry c.args.at.row c.args.at.end h.is.rows c.is_text.ensures (c.head_place-end.result.0, c.head_place-end.result.1) c.head_place-end.ensures
     (view c.row-row.result) c.row-row.ensures c.row_stop-stop.result c.row_stop-stop.ensures (whole c.args.text) refl c.tail.result.now c.tail.ensures
 
 pub overflow_add-end : goal.overflow_add-end
@@ -28,38 +27,43 @@ overflow_add-end c =
     let h = c.requires in
     omega (
       arith,
-      tail_fits (whole c.args.text) c.args.rows.now h.entry c.args.at.row c.args.at.end h.is.rows (IsUtf8-append c.args.text.front.now c.args.text.back.now (search rules) (search rules)) (c.head_place-end.result.0, c.head_place-end.result.1) c.head_place-end.ensures
+      tail_fits (whole c.args.text) c.args.rows.now h.entry c.args.at.row c.args.at.end h.is.rows c.is_text.ensures (c.head_place-end.result.0, c.head_place-end.result.1) c.head_place-end.ensures
           (view c.row-row.result) c.row-row.ensures c.row_stop-stop.result c.row_stop-stop.ensures c.tail.result.now c.tail.ensures,
     )
 
 pub overflow_sub-end : goal.overflow_sub-end
 overflow_sub-end c =
     let h = c.requires in
-    space_fits (whole c.args.text) c.args.rows.now h.entry c.args.at.row c.args.at.end h.is.rows (IsUtf8-append c.args.text.front.now c.args.text.back.now (search rules) (search rules)) (c.head_place-end.result.0, c.head_place-end.result.1) c.head_place-end.ensures
-    (view c.row-row.result) c.row-row.ensures c.row_stop-stop.result c.row_stop-stop.ensures c.space_before-space.result.now c.head.result.now c.space_before-space.ensures c.head.ensures
+    space_fits (whole c.args.text) c.args.rows.now h.entry c.args.at.row c.args.at.end h.is.rows c.is_text.ensures (c.head_place-end.result.0, c.head_place-end.result.1) c.head_place-end.ensures
+    (view c.row-row.result) c.row-row.ensures c.row_stop-stop.result c.row_stop-stop.ensures c.space_before-space.result.now c.head-head.result.now c.space_before-space.ensures c.head-head.ensures
 
 pub split_at-requires : goal.split_at-requires
 split_at-requires c =
     let h = c.requires in
     let t = whole c.args.text in
     let s = c.args.rows.now in
-    let u : IsUtf8 t = IsUtf8-append c.args.text.front.now c.args.text.back.now (search rules) (search rules) in
+    let u : IsUtf8 t = c.is_text.ensures in
     let place : ℕ × ℕ = (c.head_place-end.result.0, c.head_place-end.result.1) in
     let lower = lower_is t s h.entry c.args.at.row c.args.at.end h.is.rows u place c.head_place-end.ensures (view c.row-row.result) c.row-row.ensures c.row_stop-stop.result c.row_stop-stop.ensures t refl c.tail.result.now c.tail.ensures (lines_view c.cut_lines-lower.result) c.cut_lines-lower.ensures in
-    before_boundary t s h.entry c.args.at.row c.args.at.end h.is.rows u place c.head_place-end.ensures (view c.row-row.result) c.row-row.ensures c.row_stop-stop.result c.row_stop-stop.ensures (whole c.cut_lines-lower.result.before) c.space_before-space.result.now c.head.result.now c.tail.result.now
-    (ap (λ (z : LinesIn). z.before) lower) c.space_before-space.ensures c.head.ensures c.tail.ensures c.space_before-space.utf8 c.head.utf8 c.tail.utf8
+    before_boundary t s h.entry c.args.at.row c.args.at.end h.is.rows u place c.head_place-end.ensures (view c.row-row.result) c.row-row.ensures c.row_stop-stop.result c.row_stop-stop.ensures (whole c.cut_lines-lower.result.before) c.space_before-space.result.now c.head-head.result.now c.tail.result.now
+    (ap (λ (z : LinesIn). z.before) lower) c.space_before-space.ensures c.head-head.ensures c.tail.ensures c.space_before-space.utf8 c.head-head.utf8 c.tail.utf8
 
-pub line_column-requires : goal.line_column-requires
-line_column-requires c = let h = c.requires in column_fits (whole c.args.text) c.args.rows.now h.entry c.args.at.row c.args.at.end h.is.rows (view c.row-row.result) c.row-row.ensures
+pub mark_of-requires : goal.mark_of-requires
+mark_of-requires c = let h = c.requires in column_fits (whole c.args.text) c.args.rows.now h.entry c.args.at.row c.args.at.end h.is.rows (view c.row-row.result) c.row-row.ensures
 
 pub returns : goal.returns
 returns c = λ e h.
     let t = whole c.args.text in
     let s = c.args.rows.now in
-    let u : IsUtf8 t = IsUtf8-append c.args.text.front.now c.args.text.back.now (search rules) (search rules) in
+    let u : IsUtf8 t = c.is_text.ensures in
     let place : ℕ × ℕ = (c.head_place-end.result.0, c.head_place-end.result.1) in
     let lower = lower_is t s e c.args.at.row c.args.at.end h.rows u place c.head_place-end.ensures (view c.row-row.result) c.row-row.ensures c.row_stop-stop.result c.row_stop-stop.ensures t refl c.tail.result.now c.tail.ensures (lines_view c.cut_lines-lower.result) c.cut_lines-lower.ensures in
-    let before = c.split_at.ensures.front ∙ (λ i. take (place.1 - (length c.space_before-space.result.now + length ((c.head.ensures ∙ sym c.head-2.ensures) i))) (whole c.cut_lines-lower.result.before)) in
     held_is t s e c.args.at.row c.args.at.end h.rows u place c.head_place-end.ensures (view c.row-row.result) c.row-row.ensures c.row_stop-stop.result c.row_stop-stop.ensures
-    c.line_column.result c.args.at.dashes c.has_key.result c.is_noted.result (whole c.split_at.result.0) c.space_before-space.result.now c.head-2.result.now c.either.result.now c.either-2.result.now (tail_view c.cut_tail-tail.result) (lines_view c.cut_lines-lower.result)
-    c.line_column.ensures.value h.dashes c.has_key.ensures c.cut_tail-tail.ensures c.is_noted.ensures lower c.space_before-space.ensures c.head-2.ensures before c.either.ensures c.either-2.ensures
+    c.mark_of.result.column c.args.at.dashes c.mark_of.result.keyed c.mark_of.result.noted (whole c.split_at.result.0) c.space_before-space.result.now c.head-head.result.now c.either.result.now c.either-2.result.now (tail_view c.cut_tail-tail.result) (lines_view c.cut_lines-lower.result)
+    c.mark_of.ensures.column h.dashes (c.mark_of.ensures.keyed ∙ c.has_key.ensures) c.cut_tail-tail.ensures c.mark_of.ensures.noted lower c.space_before-space.ensures c.head-head.ensures c.split_at.ensures.front c.either.ensures c.either-2.ensures
+
+pub row_stop-stop-requires-clause-rows_view : goal.row_stop-stop-requires-clause-rows_view
+row_stop-stop-requires-clause-rows_view c = let h = c.requires in is_view (whole c.args.text) c.args.rows.now h.entry c.args.at.row c.args.at.end h.is.rows
+
+pub head_place-end-requires-clause-rows_view : goal.head_place-end-requires-clause-rows_view
+head_place-end-requires-clause-rows_view c = let h = c.requires in is_view (whole c.args.text) c.args.rows.now h.entry c.args.at.row c.args.at.end h.is.rows

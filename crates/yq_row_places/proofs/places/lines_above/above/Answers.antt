@@ -1,4 +1,4 @@
-use Rattle.std.proofs.Common.{rules}
+use Rattle.std.proofs.Common.{◌++◌, length, length-append, ap, arith, rules}
 use Rattle.yq_text.specs.Halves.{whole}
 use Rattle.yq_row_places.proofs.CommentEndLaws.{above_fits, above_boundary, above_is}
 use Rattle.yq_row_places.proofs.places.lines_above.above.Goals as goal
@@ -11,3 +11,15 @@ split_at-requires-2 c = above_boundary (whole c.args.text) c.args.start c.args.g
 
 pub returns : goal.returns
 returns c = search (rules, above_is)
+
+pub overflow_add-end : goal.overflow_add-end
+overflow_add-end c =
+    let h = c.requires.gap in
+    omega (
+      arith,
+      ap length h.text,
+      h.start_is,
+      length-append c.args.text.front.now c.args.text.back.now,
+      length-append h.before (c.args.gap.now ++ h.rest),
+      length-append c.args.gap.now h.rest,
+    )

@@ -1,5 +1,4 @@
-use Rattle.std.proofs.Common.{rules, ◌+◌, ◌-◌, ℕ, ◌++◌, length, length-append, take, drop, option_map, ap, ◌∙◌, arith}
-use Rattle.std.proofs.lemmas.Str.{IsUtf8-append}
+use Rattle.std.proofs.Common.{◌+◌, ◌-◌, ℕ, ◌++◌, length, length-append, take, drop, option_map, ap, ◌∙◌, arith}
 use Rattle.yq_text.specs.Halves.{whole}
 use Rattle.yq_flow_scalars.specs.Text.{joined, lines_of}
 use Rattle.yq_cut.specs.Removal.{block_numbers, last_block}
@@ -7,7 +6,7 @@ use Rattle.yq_cut.specs.View.{view}
 use Rattle.yq_documents.specs.Pieces.{before_run}
 use Rattle.yq_documents.specs.Reading.{cut_of}
 use Rattle.yq_row_places.specs.RemovalPlaces.{seam_behind, rows_out}
-use Rattle.yq_row_places.proofs.RemovalViewLaws.{code_agrees, out_agrees}
+use Rattle.yq_row_places.proofs.RemovalViewLaws.{code_agrees, out_agrees, own_view}
 use Rattle.yq_row_places.proofs.places.removal_place.rows_out.Goals as goal
 
 pub row-requires : goal.row-requires
@@ -34,7 +33,7 @@ split_at-requires c =
     let o = out_agrees (whole c.args.text) c.args.rows.now c.requires.part c.requires.rows _ c.requires.is in
     let kept = c.split_run.ensures.kept ∙ ap (λ g. joined (before_run (lines_of g))) c.gap.ensures in
     let agrees = code_agrees (whole c.args.text) c.args.rows.now c.requires.part c.requires.rows c.args.marks.0 c.args.marks.1 c.args.marks.2 (view c.row.result) c.split_run.result.0.now c.gap_before-column.result.0.now c.row_start.result c.row_stop-stop.result c.gap_before-column.result.1
-    (IsUtf8-append c.args.text.front.now c.args.text.back.now (search rules) (search rules)) o c.row.ensures kept c.row_start.ensures (c.row_stop-stop.ensures o.final o.final_is) c.gap_before-column.ensures in
+    c.is_text.ensures o c.row.ensures kept c.row_start.ensures (c.row_stop-stop.ensures o.final o.final_is) c.gap_before-column.ensures in
     agrees.cuts.begins
 
 pub overflow_sub-stop : goal.overflow_sub-stop
@@ -42,7 +41,7 @@ overflow_sub-stop c =
     let o = out_agrees (whole c.args.text) c.args.rows.now c.requires.part c.requires.rows _ c.requires.is in
     let kept = c.split_run.ensures.kept ∙ ap (λ g. joined (before_run (lines_of g))) c.gap.ensures in
     let agrees = code_agrees (whole c.args.text) c.args.rows.now c.requires.part c.requires.rows c.args.marks.0 c.args.marks.1 c.args.marks.2 (view c.row.result) c.split_run.result.0.now c.gap_before-column.result.0.now c.row_start.result c.row_stop-stop.result c.gap_before-column.result.1
-    (IsUtf8-append c.args.text.front.now c.args.text.back.now (search rules) (search rules)) o c.row.ensures kept c.row_start.ensures (c.row_stop-stop.ensures o.final o.final_is) c.gap_before-column.ensures in
+    c.is_text.ensures o c.row.ensures kept c.row_start.ensures (c.row_stop-stop.ensures o.final o.final_is) c.gap_before-column.ensures in
     agrees.order
 
 pub split_at-requires-2 : goal.split_at-requires-2
@@ -50,7 +49,7 @@ split_at-requires-2 c =
     let o = out_agrees (whole c.args.text) c.args.rows.now c.requires.part c.requires.rows _ c.requires.is in
     let kept = c.split_run.ensures.kept ∙ ap (λ g. joined (before_run (lines_of g))) c.gap.ensures in
     let agrees = code_agrees (whole c.args.text) c.args.rows.now c.requires.part c.requires.rows c.args.marks.0 c.args.marks.1 c.args.marks.2 (view c.row.result) c.split_run.result.0.now c.gap_before-column.result.0.now c.row_start.result c.row_stop-stop.result c.gap_before-column.result.1
-    (IsUtf8-append c.args.text.front.now c.args.text.back.now (search rules) (search rules)) o c.row.ensures kept c.row_start.ensures (c.row_stop-stop.ensures o.final o.final_is) c.gap_before-column.ensures in
+    c.is_text.ensures o c.row.ensures kept c.row_start.ensures (c.row_stop-stop.ensures o.final o.final_is) c.gap_before-column.ensures in
     rw c.split_at.ensures.back agrees.cuts.stops
 
 pub split_at-requires-3 : goal.split_at-requires-3
@@ -58,7 +57,7 @@ split_at-requires-3 c =
     let o = out_agrees (whole c.args.text) c.args.rows.now c.requires.part c.requires.rows _ c.requires.is in
     let kept = c.split_run.ensures.kept ∙ ap (λ g. joined (before_run (lines_of g))) c.gap.ensures in
     let agrees = code_agrees (whole c.args.text) c.args.rows.now c.requires.part c.requires.rows c.args.marks.0 c.args.marks.1 c.args.marks.2 (view c.row.result) c.split_run.result.0.now c.gap_before-column.result.0.now c.row_start.result c.row_stop-stop.result c.gap_before-column.result.1
-    (IsUtf8-append c.args.text.front.now c.args.text.back.now (search rules) (search rules)) o c.row.ensures kept c.row_start.ensures (c.row_stop-stop.ensures o.final o.final_is) c.gap_before-column.ensures in
+    c.is_text.ensures o c.row.ensures kept c.row_start.ensures (c.row_stop-stop.ensures o.final o.final_is) c.gap_before-column.ensures in
     rw (c.split_at-2.ensures.back, c.split_at.ensures.back) agrees.cuts.ends
 
 pub returns : goal.returns
@@ -66,7 +65,7 @@ returns c = λ d x h.
     let o = out_agrees (whole c.args.text) c.args.rows.now d x _ h in
     let kept = c.split_run.ensures.kept ∙ ap (λ g. joined (before_run (lines_of g))) c.gap.ensures in
     let agrees = code_agrees (whole c.args.text) c.args.rows.now d x c.args.marks.0 c.args.marks.1 c.args.marks.2 (view c.row.result) c.split_run.result.0.now c.gap_before-column.result.0.now c.row_start.result c.row_stop-stop.result c.gap_before-column.result.1
-    (IsUtf8-append c.args.text.front.now c.args.text.back.now (search rules) (search rules)) o c.row.ensures kept c.row_start.ensures (c.row_stop-stop.ensures o.final o.final_is) c.gap_before-column.ensures in
+    c.is_text.ensures o c.row.ensures kept c.row_start.ensures (c.row_stop-stop.ensures o.final o.final_is) c.gap_before-column.ensures in
     let start : ℕ = c.row_start.result + length c.split_run.result.0.now in
     let size : ℕ = c.row_stop-stop.result - start in
     let gap : ℕ = length c.gap_before-column.result.0.now in
@@ -77,3 +76,9 @@ returns c = λ d x h.
     let behind = c.split_at-3.ensures.back ∙ (ap (drop gap) (c.split_at-2.ensures.back ∙ rest) ∙ agrees.cuts.behind_is) in
     let seam = c.seam_of.ensures (last_block x.front) block ∙ (λ i. seam_behind (last_block x.front) (agrees.column_is i) (agrees.kept_is i)) in
     λ i. record { before = before i; gone = gone i; gap = agrees.gap_is i; behind = behind i; seam = seam i }
+
+pub row_stop-stop-requires-clause-rows_view : goal.row_stop-stop-requires-clause-rows_view
+row_stop-stop-requires-clause-rows_view c = own_view (whole c.args.text) c.args.rows.now c.requires.part c.requires.rows (c.args.marks.0, c.args.marks.1, c.args.marks.2) c.requires.is
+
+pub row_start-requires-clause-rows_view : goal.row_start-requires-clause-rows_view
+row_start-requires-clause-rows_view c = own_view (whole c.args.text) c.args.rows.now c.requires.part c.requires.rows (c.args.marks.0, c.args.marks.1, c.args.marks.2) c.requires.is

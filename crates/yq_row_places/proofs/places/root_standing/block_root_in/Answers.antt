@@ -1,11 +1,10 @@
-use Rattle.std.proofs.Common.{rules, ◌∙◌, refl, sym, ap}
+use Rattle.std.proofs.Common.{◌∙◌, refl, sym, ap}
 use Rattle.std.proofs.lemmas.Option.{same_Some}
-use Rattle.std.proofs.lemmas.Str.{IsUtf8-append}
 use Rattle.yq_text.specs.Halves.{whole}
 use Rattle.yq_cut.specs.View.{Slices}
 use Rattle.yq_row_places.specs.LineReading.{lines_view}
 use Rattle.yq_row_places.specs.StandingReading.{root_entry}
-use Rattle.yq_row_places.proofs.EntryRowLaws.{last_within, pieces_at, row_within}
+use Rattle.yq_row_places.proofs.EntryRowLaws.{last_within, pieces_at, row_within, is_view}
 use Rattle.yq_row_places.proofs.RootStandingLaws.{root_cut, root_lines}
 use Rattle.yq_row_places.proofs.places.root_standing.block_root_in.Goals as goal
 
@@ -20,7 +19,7 @@ line_start-requires-clause-within c = let h = c.requires in row_within (whole c.
 
 pub cut_lines-lower-requires : goal.cut_lines-lower-requires
 cut_lines-lower-requires c =
-    root_cut (whole c.args.text) c.args.rows.now c.args.document c.requires (IsUtf8-append c.args.text.front.now c.args.text.back.now (search rules) (search rules)) c.line_start.result c.row_stop-stop.result c.line_start.ensures c.row_stop-stop.ensures (whole c.args.text) refl
+    root_cut (whole c.args.text) c.args.rows.now c.args.document c.requires c.is_text.ensures c.line_start.result c.row_stop-stop.result c.line_start.ensures c.row_stop-stop.ensures (whole c.args.text) refl
 
 pub returns : goal.returns
 returns c = λ h.
@@ -28,6 +27,12 @@ returns c = λ h.
     let s = c.args.rows.now in
     let e = root_entry h.part h.row h.under in
     let row = same_Some _ _ (sym (pieces_at t s e c.args.document.first c.args.document.end h.is) ∙ c.row.ensures) in
-    let lower = root_lines t s c.args.document h (IsUtf8-append c.args.text.front.now c.args.text.back.now (search rules) (search rules)) c.line_start.result c.row_stop-stop.result c.line_start.ensures c.row_stop-stop.ensures t refl (lines_view c.cut_lines-lower.result) c.cut_lines-lower.ensures in
+    let lower = root_lines t s c.args.document h c.is_text.ensures c.line_start.result c.row_stop-stop.result c.line_start.ensures c.row_stop-stop.ensures t refl (lines_view c.cut_lines-lower.result) c.cut_lines-lower.ensures in
     let column = c.column-column.ensures ∙ ap (λ (y : Slices). y.column) (sym row) in
     λ i. record { column = column i; before = (lower i).before; old = (lower i).lines; last = (lower i).last; behind = (lower i).behind }
+
+pub row_stop-stop-requires-clause-rows_view : goal.row_stop-stop-requires-clause-rows_view
+row_stop-stop-requires-clause-rows_view c = let h = c.requires in is_view (whole c.args.text) c.args.rows.now (root_entry h.part h.row h.under) c.args.document.first c.args.document.end h.is
+
+pub line_start-requires-clause-rows_view : goal.line_start-requires-clause-rows_view
+line_start-requires-clause-rows_view c = let h = c.requires in is_view (whole c.args.text) c.args.rows.now (root_entry h.part h.row h.under) c.args.document.first c.args.document.end h.is

@@ -1,4 +1,0 @@
-//! Laws on values that are put as roots.
-#![tactic(auto)]
-
-pub mod roots;
