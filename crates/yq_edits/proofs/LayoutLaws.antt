@@ -18,7 +18,7 @@ use Rattle.yq_block.specs.BlockText.{block_children, block_entry, block_node, bl
 use Rattle.yq_block.specs.declared.layout.Layout.{Layout}
 use Rattle.yq_edits.specs.ClosedTexts.{lines_put_behind}
 use Rattle.yq_edits.specs.EntryEdits.{entry_lines, more_lines}
-use Rattle.yq_edits.specs.Layouts.{LooksLike, ask_step, asks_step, is_filled_as, layout_of, step_of}
+use Rattle.yq_edits.specs.Layouts.{LooksLike, children_ask, node_asks, is_filled_as, layout_of, step_of}
 
 -- a key that stands deeper than another one is in a later column
 key_step : (l m : Line) → begins_under (is_kind false) l m ≡ true → 1 ≤ m.column - l.column
@@ -81,25 +81,25 @@ module _ (l k : Layout) where
         (λ filled. below a ∙ ap (λ (at : ℕ). block_node k at v) (columns_like column key v h filled))
 
     mutual
-      unfolding block_node block_children asks_step ask_step
+      unfolding block_node block_children node_asks children_ask
 
-      pub node_like : (column : ℕ) (v : Node) → SameSteps (λ dashes. asks_step dashes v) → block_node l column v ≡ block_node k column v
+      pub node_like : (column : ℕ) (v : Node) → SameSteps (λ dashes. node_asks dashes v) → block_node l column v ≡ block_node k column v
       node_like column (alias name) h = refl
       node_like column (scalar a kind text) h = refl
       node_like column (list a cs) h = children_like column cs h
       node_like column (map a cs) h = children_like column cs h
 
-      children_like : (column : ℕ) (cs : Children) → SameSteps (λ dashes. ask_step dashes cs) → block_children l column cs ≡ block_children k column cs
+      children_like : (column : ℕ) (cs : Children) → SameSteps (λ dashes. children_ask dashes cs) → block_children l column cs ≡ block_children k column cs
       children_like column none h = refl
       children_like column (child label n cs) h = λ i.
           one_like column label.key n
-          (λ dashes e. h dashes (or_left (is_some label.key && is_filled_as dashes n) (asks_step dashes n || ask_step dashes cs) e))
-          (λ at. node_like at n (λ dashes e. h dashes (or_right (is_some label.key && is_filled_as dashes n) _ (or_left (asks_step dashes n) (ask_step dashes cs) e)))) i
-          ++ then_like column cs _ _ (children_like column cs (λ dashes e. h dashes (or_right (is_some label.key && is_filled_as dashes n) _ (or_right (asks_step dashes n) (ask_step dashes cs) e)))) i
+          (λ dashes e. h dashes (or_left (is_some label.key && is_filled_as dashes n) (node_asks dashes n || children_ask dashes cs) e))
+          (λ at. node_like at n (λ dashes e. h dashes (or_right (is_some label.key && is_filled_as dashes n) _ (or_left (node_asks dashes n) (children_ask dashes cs) e)))) i
+          ++ then_like column cs _ _ (children_like column cs (λ dashes e. h dashes (or_right (is_some label.key && is_filled_as dashes n) _ (or_right (node_asks dashes n) (children_ask dashes cs) e)))) i
 
 -- a value
 pub value_like : (keyed : Bool) (v : Node) (l k : Layout) (column : ℕ) → LooksLike keyed v l k → block_value l column v ≡ block_value k column v
-value_like keyed v l k column h = ap (inline_or (inline_of v)) (node_like l k h.0 column v (λ dashes e. h.1 dashes (or_right (keyed && is_filled_as dashes v) (asks_step dashes v) e)))
+value_like keyed v l k column h = ap (inline_or (inline_of v)) (node_like l k h.0 column v (λ dashes e. h.1 dashes (or_right (keyed && is_filled_as dashes v) (node_asks dashes v) e)))
 
 -- an item or entry
 entry_like : (key : Option (List ℕ)) (v : Node) (l k : Layout) (column : ℕ) → LooksLike (is_some key) v l k → entry_lines l column key v ≡ entry_lines k column key v
@@ -107,8 +107,8 @@ unfolding block_node block_children
 entry_like None v l k column h =
     ap (λ (t : List ℕ). replicate column 32 ++ (t ++ [])) (one_like l k h.0 column None v (λ dashes e. absurd (false≢true e)) (λ at. node_like l k h.0 at v h.1))
 entry_like (Some x) v l k column h =
-    let under : SameSteps l k (λ dashes. is_filled_as dashes v) = λ dashes e. h.1 dashes (or_left (is_filled_as dashes v) (asks_step dashes v) e) in
-    let inside : SameSteps l k (λ dashes. asks_step dashes v) = λ dashes e. h.1 dashes (or_right (is_filled_as dashes v) (asks_step dashes v) e) in
+    let under : SameSteps l k (λ dashes. is_filled_as dashes v) = λ dashes e. h.1 dashes (or_left (is_filled_as dashes v) (node_asks dashes v) e) in
+    let inside : SameSteps l k (λ dashes. node_asks dashes v) = λ dashes e. h.1 dashes (or_right (is_filled_as dashes v) (node_asks dashes v) e) in
     ap (λ (t : List ℕ). replicate column 32 ++ (t ++ [])) (one_like l k h.0 column (Some x) v under (λ at. node_like l k h.0 at v inside))
 
 -- one more item or entry

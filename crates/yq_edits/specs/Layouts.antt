@@ -26,16 +26,16 @@ is_filled_as dashes (map a cs) = not dashes && is_filled (map a cs)
 
 unfoldable mutual
   -- whether such a collection stands under a key in a node (own)
-  pub asks_step : (dashes : Bool) → Node → Bool
-  asks_step dashes (alias name) = false
-  asks_step dashes (scalar a kind text) = false
-  asks_step dashes (list a cs) = ask_step dashes cs
-  asks_step dashes (map a cs) = ask_step dashes cs
+  pub node_asks : (dashes : Bool) → Node → Bool
+  node_asks dashes (alias name) = false
+  node_asks dashes (scalar a kind text) = false
+  node_asks dashes (list a cs) = children_ask dashes cs
+  node_asks dashes (map a cs) = children_ask dashes cs
 
   -- whether one of them is such a collection under its key, or has one in it (own)
-  pub ask_step : (dashes : Bool) → Children → Bool
-  ask_step dashes none = false
-  ask_step dashes (child label n cs) = (is_some label.key && is_filled_as dashes n) || (asks_step dashes n || ask_step dashes cs)
+  pub children_ask : (dashes : Bool) → Children → Bool
+  children_ask dashes none = false
+  children_ask dashes (child label n cs) = (is_some label.key && is_filled_as dashes n) || (node_asks dashes n || children_ask dashes cs)
 
 -- whether a key holds what stands there (8.2.2)
 abbrev pub is_keyed : Standing → Bool
@@ -49,7 +49,7 @@ is_keyed (no_rows w) = false
 
 -- whether a value asks for the step of such collections, where it is put under a key, or elsewhere (own)
 abbrev pub is_asked : (keyed dashes : Bool) → Node → Bool
-is_asked keyed dashes v = (keyed && is_filled_as dashes v) || asks_step dashes v
+is_asked keyed dashes v = (keyed && is_filled_as dashes v) || node_asks dashes v
 
 -- a look of block style is this one as far as a value asks for it, under a key or elsewhere: its break, and the steps that are asked (own)
 abbrev pub LooksLike : (keyed : Bool) → Node → Layout → Layout → Type 0

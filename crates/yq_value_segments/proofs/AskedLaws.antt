@@ -7,12 +7,12 @@ use Rattle.yq_nodes.specs.declared.value.Value.{Value}
 use Rattle.yq_nodes.specs.declared.value.Value.TheVariants as values
 use Rattle.yq_nodes.specs.Values.{entries, entries_of, field_of, node_of}
 use Rattle.yq_nodes.proofs.WrittenLaws.{node_map, map_twice}
-use Rattle.yq_edits.specs.Layouts.{ask_step, asks_step}
+use Rattle.yq_edits.specs.Layouts.{children_ask, node_asks}
 
 -- a mapping asks as its entries do
 map_node : (v : Vec (String Global × Value) Global) → node_of (values.Map v) ≡ tree.map None (entries (map field_of v.items))
 map_node v = simp (string_bytes, node_map, map_twice)
 
-pub map_asked : (dashes : Bool) (v : Vec (String Global × Value) Global) → ask_step dashes (entries_of v.items) ≡ asks_step dashes (node_of (values.Map v))
-unfolding asks_step
-map_asked dashes v = sym (ap (asks_step dashes) (map_node v))
+pub map_asked : (dashes : Bool) (v : Vec (String Global × Value) Global) → children_ask dashes (entries_of v.items) ≡ node_asks dashes (node_of (values.Map v))
+unfolding node_asks
+map_asked dashes v = sym (ap (node_asks dashes) (map_node v))

@@ -14,7 +14,7 @@ use Rattle.yq_block.specs.BlockText.{block_value}
 use Rattle.yq_block.specs.declared.layout.Layout.{Layout}
 use Rattle.yq_script.specs.Script.{Segment, keep, put}
 use Rattle.yq_edits.specs.ClosedTexts.{is_closed_text, lines_put_behind}
-use Rattle.yq_edits.specs.Layouts.{LooksLike, asks_step, is_filled_as, is_keyed, layout_of}
+use Rattle.yq_edits.specs.Layouts.{LooksLike, node_asks, is_filled_as, is_keyed, layout_of}
 use Rattle.yq_edits.specs.ReplaceEdits.{compact_put, has_text, held_put, block_scalar_put, value_put}
 use Rattle.yq_edits.specs.WrittenValues.{collection_at, column_under, compact_text, inline, lines, lines_in, takes_compact, value_text, written_at, written_under}
 use Rattle.yq_edits.proofs.LayoutLaws.{indent_like, value_like}
@@ -37,7 +37,7 @@ module _ (v : Node) (l k : Layout) where
     where
       go : (keyed : Bool) → LooksLike keyed v l k → cond keyed (m.column + indent_step l v) (item_column m.column) ≡ cond keyed (m.column + indent_step k v) (item_column m.column)
       go false h = refl
-      go true h = ap (λ d. m.column + d) (indent_like l k v (λ dashes e. h.1 dashes (or_left (is_filled_as dashes v) (asks_step dashes v) e)) filled)
+      go true h = ap (λ d. m.column + d) (indent_like l k v (λ dashes e. h.1 dashes (or_left (is_filled_as dashes v) (node_asks dashes v) e)) filled)
 
   lines_like : (m : Mark) → LooksLike m.keyed v l k → is_filled v ≡ true → lines_in l (column_under l m v) v ≡ lines_in k (column_under k m v) v
   lines_like m h filled = λ i. replicate (column_like m h filled i) 32 ++ (value_like m.keyed v l k (column_under l m v) h ∙ ap (λ n. block_value k n v) (column_like m h filled)) i

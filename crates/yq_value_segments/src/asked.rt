@@ -19,9 +19,9 @@ fn is_filled_as(dashes: bool, value: &Value) -> bool
 
 /// Whether such a collection stands under a key in a value.
 #[cycle(asks)]
-#[tactic(auto, unfolding(yq_edits::specs::Layouts::asks_step), using(crate::proofs::AskedLaws::map_asked))]
-fn asks_step(dashes: bool, value: &Value) -> bool
-    ensures { result ≡ spec.asks_step dashes (node_of value.now) }
+#[tactic(auto, unfolding(yq_edits::specs::Layouts::node_asks), using(crate::proofs::AskedLaws::map_asked))]
+fn node_asks(dashes: bool, value: &Value) -> bool
+    ensures { result ≡ spec.node_asks dashes (node_of value.now) }
 {
     match value {
         Value::Scalar(_) => false,
@@ -32,12 +32,12 @@ fn asks_step(dashes: bool, value: &Value) -> bool
 
 /// The same of items.
 #[cycle(asks)]
-#[tactic(auto, unfolding(yq_edits::specs::Layouts::ask_step))]
+#[tactic(auto, unfolding(yq_edits::specs::Layouts::children_ask))]
 fn items_ask(dashes: bool, items: &Vec<Value>) -> bool
-    ensures { result ≡ spec.ask_step dashes (items_of items.now.items) }
+    ensures { result ≡ spec.children_ask dashes (items_of items.now.items) }
 {
     'each: for item in items {
-        if asks_step(dashes, item) {
+        if node_asks(dashes, item) {
             return true;
         }
     }
@@ -46,12 +46,12 @@ fn items_ask(dashes: bool, items: &Vec<Value>) -> bool
 
 /// The same of entries: one's value may be such a collection.
 #[cycle(asks)]
-#[tactic(auto, unfolding(yq_edits::specs::Layouts::ask_step))]
+#[tactic(auto, unfolding(yq_edits::specs::Layouts::children_ask))]
 fn entries_ask(dashes: bool, entries: &Vec<(String, Value)>) -> bool
-    ensures { result ≡ spec.ask_step dashes (entries_of entries.now.items) }
+    ensures { result ≡ spec.children_ask dashes (entries_of entries.now.items) }
 {
     'each: for entry in entries {
-        if is_filled_as(dashes, &entry.1) || asks_step(dashes, &entry.1) {
+        if is_filled_as(dashes, &entry.1) || node_asks(dashes, &entry.1) {
             return true;
         }
     }
@@ -63,5 +63,5 @@ fn entries_ask(dashes: bool, entries: &Vec<(String, Value)>) -> bool
 pub(crate) fn is_asked(keyed: bool, dashes: bool, value: &Value) -> bool
     ensures { result ≡ spec.is_asked keyed dashes (node_of value.now) }
 {
-    (keyed && is_filled_as(dashes, value)) || asks_step(dashes, value)
+    (keyed && is_filled_as(dashes, value)) || node_asks(dashes, value)
 }

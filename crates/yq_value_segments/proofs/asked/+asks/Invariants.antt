@@ -1,10 +1,10 @@
 use Rattle.std.proofs.Common.{◌≡◌, drop}
 use Rattle.yq_nodes.specs.Values.{entries_of, items_of}
-use Rattle.yq_edits.specs.Layouts.{ask_step}
+use Rattle.yq_edits.specs.Layouts.{children_ask}
 use Rattle.yq_value_segments.proofs.asked.+asks.Given as goal
 
 abbrev pub invariant-items_ask-each : goal.invariant-items_ask-each
-invariant-items_ask-each l = ask_step l.dashes (items_of (drop l.item-index l.item-items)) ≡ ask_step l.dashes (items_of l.item-items)
+invariant-items_ask-each l = children_ask l.dashes (items_of (drop l.item-index l.item-items)) ≡ children_ask l.dashes (items_of l.item-items)
 
 abbrev pub invariant-entries_ask-each : goal.invariant-entries_ask-each
-invariant-entries_ask-each l = ask_step l.dashes (entries_of (drop l.entry-index l.entry-items)) ≡ ask_step l.dashes (entries_of l.entry-items)
+invariant-entries_ask-each l = children_ask l.dashes (entries_of (drop l.entry-index l.entry-items)) ≡ children_ask l.dashes (entries_of l.entry-items)
