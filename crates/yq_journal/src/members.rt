@@ -23,7 +23,12 @@ pub(crate) fn add_text(
     ensures { OnOk result (members_view members.new.entries ≡
         put key.now (string text.now) (members_view members.old.entries)) }
 {
-    put(members, alloc, key, Value::String(String::from_str(alloc, text)?))
+    put(
+        members,
+        alloc,
+        key,
+        Value::String(String::from_str(alloc, text)?),
+    )
 }
 
 /// Adds bytes in base64.
@@ -38,5 +43,10 @@ pub(crate) fn add_bytes(
     ensures reads_back { OnOk result (decode_of standard (encode_of standard bytes.now) ≡
         Ok bytes.now) }
 {
-    put(members, alloc, key, Value::String(STANDARD.encode(alloc, bytes)?))
+    put(
+        members,
+        alloc,
+        key,
+        Value::String(STANDARD.encode(alloc, bytes)?),
+    )
 }

@@ -45,8 +45,18 @@ fn record_value(alloc: Global, patch: &Record) -> Result<Value, AllocError>
     put(&mut members, alloc, "splices", Value::Array(splices))?;
     add_text(&mut members, alloc, "expr", &patch.expr)?;
     put(&mut members, alloc, "count", Value::from(patch.count))?;
-    put(&mut members, alloc, "before_len", Value::from(patch.before_len))?;
-    put(&mut members, alloc, "after_len", Value::from(patch.after_len))?;
+    put(
+        &mut members,
+        alloc,
+        "before_len",
+        Value::from(patch.before_len),
+    )?;
+    put(
+        &mut members,
+        alloc,
+        "after_len",
+        Value::from(patch.after_len),
+    )?;
     Ok(Value::Object(members))
 }
 
