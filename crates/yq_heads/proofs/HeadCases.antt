@@ -1,5 +1,5 @@
 -- The head of a row by cases: nothing, a block scalar, a quoted one, a plain one on one line, and any other inline node.
-use Rattle.std.proofs.Common.{◌≡◌, ℕ, ℤ, List, [], ◌∷◌, Bool, true, false, length, Some, None, refl, ◌∙◌, rules}
+use Rattle.std.proofs.Common.{◌≡◌, ℕ, ℤ, List, [], ◌∷◌, true, false, length, Some, None, refl, ◌∙◌, rules}
 use Rattle.std.specs.Prelude.{◌==◌}
 use Rattle.std.proofs.lemmas.Bool.{cond-true, cond-false}
 use Rattle.yq_flow_scalars.specs.Scalar.{plain_of}
