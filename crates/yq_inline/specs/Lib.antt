@@ -8,3 +8,4 @@ pub use Rattle.yq_flow_scalars.specs.Keys
 pub use Rattle.yq_flow_scalars.specs.Paths
 pub use Rattle.yq_flow_scalars.specs.Tree
 pub use Rattle.yq_flow_scalars.specs.Writable
+pub mod Forms

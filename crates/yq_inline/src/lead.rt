@@ -1,7 +1,8 @@
-//! The gap between two tokens, read.
+//! The gap between two tokens, and that behind an opening bracket, read.
 ghost use Rattle.std.specs.Prelude.{◌≢◌, ◌≤◌, IfErr, IfOk, length};
 ghost use Rattle.yq_flow_scalars.specs.Answers.{Reads};
 ghost use Rattle.yq_flow_scalars.specs.declared.fault.FaultKind.TheVariants.{NotUtf8};
+ghost use Rattle.yq_inline.specs.Forms.{opened};
 ghost use Rattle.yq_nodes.specs.Reading as reading;
 
 use crate::fault::fault;
@@ -22,4 +23,18 @@ pub fn read_gap<'t>(whole: &str, text: &'t str) -> Result<(&'t str, &'t str), Re
         return Err(fault(FaultKind::BadFlow, whole, rest));
     }
     Ok((gap, rest))
+}
+
+/// What follows an opening bracket and the gap behind it, where so many collections may be nested still.
+pub(crate) fn read_open<'t>(whole: &str, depth: usize, text: &'t str) -> Result<&'t str, ReadFault>
+    ensures read { Reads (λ x. x.now) result (opened depth text.now) }
+    ensures shorter { IfOk result (λ x. length x.now ≤ length text.now) }
+    ensures room { IfOk result (λ x. 1 ≤ depth) }
+    ensures fault { IfErr result (λ f. f.kind ≢ NotUtf8) }
+{
+    let (_, rest) = read_gap(whole, text)?;
+    if depth == 0 {
+        return Err(fault(FaultKind::TooDeep, whole, text));
+    }
+    Ok(rest)
 }

@@ -2,6 +2,7 @@
 #![tactic(auto)]
 
 pub mod fault;
+mod item;
 mod laws;
 mod lead;
 pub mod pieces;

@@ -2,13 +2,15 @@
 ghost use Rattle.std.specs.Prelude.{◌≡◌, ◌<◌, ◌≤◌, IfErr, IfOk, Some, length, true};
 ghost use Rattle.std.specs.String.{string_bytes};
 ghost use Rattle.yq_flow_scalars.specs.Answers.{Gives, IsOfText};
+ghost use Rattle.yq_inline.specs.Forms.{placed_form};
 ghost use Rattle.yq_nodes.specs.Places as spec;
 ghost use Rattle.yq_nodes.specs.PlacedReading as reading;
 ghost use Rattle.yq_nodes.specs.View.{entries_end, form_view, items_end, view};
 
-use crate::fault::{fault, flow_fault};
-use crate::lead::read_gap;
-use crate::pieces::{begins_content, no_node, read_lead, read_name, read_sep};
+use crate::fault::fault;
+use crate::item::read_behind;
+use crate::lead::read_open;
+use crate::pieces::{begins_content, read_lead, read_name, read_sep};
 use crate::scalar::{read_entry_key, read_text};
 use std::alloc::Global;
 use yq_flow_scalars::{FaultKind, Piece, ReadError};
@@ -84,7 +86,6 @@ fn put_anchor<'t>(
 
 /// The node in front, with at most `depth` collections nested, and what follows it.
 #[cycle(nodes)]
-#[tactic(auto, using(yq_nodes::proofs::Steps::node_steps))]
 pub fn read_node<'t>(
     alloc: Global,
     flow: bool,
@@ -112,7 +113,6 @@ pub fn read_node<'t>(
 
 /// The node in front, which has no anchor, and what follows it.
 #[cycle(nodes)]
-#[tactic(auto, unfolding(yq_nodes::specs::Reading::content_at, yq_nodes::specs::Reading::coll_at))]
 fn read_content<'t>(
     alloc: Global,
     flow: bool,
@@ -127,23 +127,42 @@ fn read_content<'t>(
         (reading.placed_content flow spaces (length whole.now) depth text.now) }
     ensures fault { IfErr result IsOfText }
 {
+    match read_form(alloc, flow, spaces, whole, depth, text) {
+        Ok((form, rest)) => Ok((placed_between(whole, text, rest, form), rest)),
+        Err(e) => Err(e),
+    }
+}
+
+/// What the node in front is, which has no anchor, and what follows it.
+#[cycle(nodes)]
+fn read_form<'t>(
+    alloc: Global,
+    flow: bool,
+    spaces: Option<usize>,
+    whole: &'t str,
+    depth: usize,
+    text: &'t str,
+) -> Result<(Form<'t>, &'t str), ReadError>
+    requires { length text.now ≤ length whole.now }
+    ensures shorter { IfOk result (λ x. length x.1.now ≤ length text.now) }
+    ensures read { Gives (λ x. (form_view x.0, x.1.now)) result
+        (placed_form flow spaces (length whole.now) depth text.now) }
+    ensures fault { IfErr result IsOfText }
+{
     if let Some(behind) = strip(b'*', text) {
         let (name, rest) = read_name(whole, behind)?;
-        return Ok((placed_between(whole, text, rest, Form::Alias(name)), rest));
+        return Ok((Form::Alias(name), rest));
     }
     if let Some(behind) = strip(b'[', text) {
-        let (form, rest) = read_sequence(alloc, whole, depth, behind)?;
-        return Ok((placed_between(whole, text, rest, form), rest));
+        return read_sequence(alloc, whole, depth, behind);
     }
     if let Some(behind) = strip(b'{', text) {
-        let (form, rest) = read_mapping(alloc, whole, depth, behind)?;
-        return Ok((placed_between(whole, text, rest, form), rest));
+        return read_mapping(alloc, whole, depth, behind);
     }
     if begins_content(flow, text.as_bytes()) {
-        let (form, rest) = read_text(alloc, flow, spaces, whole, text)?;
-        return Ok((placed_between(whole, text, rest, form), rest));
+        return read_text(alloc, flow, spaces, whole, text);
     }
-    Ok((placed_between(whole, text, text, Form::Empty), text))
+    Ok((Form::Empty, text))
 }
 
 /// A sequence behind its `[`, and what follows it.
@@ -160,12 +179,11 @@ fn read_sequence<'t>(
         (reading.placed_coll (length whole.now) depth 93 text.now) }
     ensures fault { IfErr result IsOfText }
 {
-    let (_, rest) = read_gap(whole, text)?;
-    if depth == 0 {
-        return Err(ReadError::from(fault(FaultKind::TooDeep, whole, text)));
+    let rest = read_open(whole, depth, text)?;
+    match read_items(alloc, whole, depth - 1, text, rest) {
+        Ok((items, rest)) => Ok((Form::List(items), rest)),
+        Err(e) => Err(e),
     }
-    let (items, rest) = read_items(alloc, whole, depth - 1, text, rest)?;
-    Ok((Form::List(items), rest))
 }
 
 /// A mapping behind its `{`, and what follows it.
@@ -182,12 +200,11 @@ fn read_mapping<'t>(
         (reading.placed_coll (length whole.now) depth 125 text.now) }
     ensures fault { IfErr result IsOfText }
 {
-    let (_, rest) = read_gap(whole, text)?;
-    if depth == 0 {
-        return Err(ReadError::from(fault(FaultKind::TooDeep, whole, text)));
+    let rest = read_open(whole, depth, text)?;
+    match read_entries(alloc, whole, depth - 1, text, rest) {
+        Ok((entries, rest)) => Ok((Form::Map(entries), rest)),
+        Err(e) => Err(e),
     }
-    let (entries, rest) = read_entries(alloc, whole, depth - 1, text, rest)?;
-    Ok((Form::Map(entries), rest))
 }
 
 /// The item in front up to behind its `,`, and what follows; behind the `[` stood `open`.
@@ -205,13 +222,13 @@ fn read_item<'t>(
         (reading.placed_item (length whole.now) depth text.now) }
     ensures fault { IfErr result IsOfText }
 {
-    let (item, rest) = read_node(alloc, true, Some(0), whole, depth, text)?;
-    if is_bare(&item) {
-        let kind = no_node(text.as_bytes(), FaultKind::BadFlow);
-        return Err(ReadError::from(flow_fault(kind, whole, open, text)));
+    match read_node(alloc, true, Some(0), whole, depth, text) {
+        Ok((item, rest)) => {
+            let behind = read_behind(whole, open, text, &item, rest)?;
+            Ok((item, behind))
+        }
+        Err(e) => Err(e),
     }
-    let rest = read_sep(b']', whole, open, rest)?;
-    Ok((item, rest))
 }
 
 /// The items in front, and what follows their `]`; behind their `[` stood `open`.

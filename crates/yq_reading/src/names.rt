@@ -10,7 +10,7 @@ use yq_flow_scalars::Piece;
 use yq_nodes::{Form, Inline};
 
 /// An anchor, or an alias, by its name; of an alias, the byte of the text where it begins.
-#[derive(Clone, Copy, PartialEq, Eq)]
+#[derive(Clone, Copy)]
 pub(crate) enum Name<'t> {
     Anchors(&'t str),
     Refers(&'t str, usize),

@@ -5,28 +5,31 @@ use Rattle.yq_nodes.specs.View.{behind_items, behind_entries}
 use Rattle.yq_inline.proofs.reading.+nodes.Given as goal
 
 abbrev pub decreases-read_node : goal.decreases-read_node
-decreases-read_node l = 5 * l.depth + 2
+decreases-read_node l = 6 * l.depth + 3
 
 abbrev pub decreases-read_content : goal.decreases-read_content
-decreases-read_content l = 5 * l.depth + 1
+decreases-read_content l = 6 * l.depth + 2
+
+abbrev pub decreases-read_form : goal.decreases-read_form
+decreases-read_form l = 6 * l.depth + 1
 
 abbrev pub decreases-read_sequence : goal.decreases-read_sequence
-decreases-read_sequence l = 5 * l.depth
+decreases-read_sequence l = 6 * l.depth
 
 abbrev pub decreases-read_mapping : goal.decreases-read_mapping
-decreases-read_mapping l = 5 * l.depth
+decreases-read_mapping l = 6 * l.depth
 
 abbrev pub decreases-read_item : goal.decreases-read_item
-decreases-read_item l = 5 * l.depth + 3
+decreases-read_item l = 6 * l.depth + 4
 
 abbrev pub decreases-read_items : goal.decreases-read_items
-decreases-read_items l = 5 * l.depth + 4
+decreases-read_items l = 6 * l.depth + 5
 
 abbrev pub decreases-read_entry : goal.decreases-read_entry
-decreases-read_entry l = 5 * l.depth + 3
+decreases-read_entry l = 6 * l.depth + 4
 
 abbrev pub decreases-read_entries : goal.decreases-read_entries
-decreases-read_entries l = 5 * l.depth + 4
+decreases-read_entries l = 6 * l.depth + 5
 
 abbrev pub decreases-read_items-each : goal.decreases-read_items-each
 decreases-read_items-each l = length l.rest

@@ -1,4 +1,5 @@
-use Rattle.std.proofs.Common.{map}
+use Rattle.std.proofs.Common.{arith, map}
+use Rattle.std.proofs.lemmas.Grind.{common_steps}
 use Rattle.yq_nodes.specs.Entries.{step_of}
 use Rattle.yq_row_lines.specs.Lines.{lines_of}
 use Rattle.yq_lines.proofs.PathLines.{from_root}
@@ -6,3 +7,12 @@ use Rattle.yq_walk.proofs.position_reach.reach.Goals as goal
 
 pub steps-init : goal.steps-init
 steps-init c = record { within = tt; leads = λ h. from_root (lines_of h.stand.rows) (map step_of c.args.steps.now) }
+
+pub steps-preserved : goal.steps-preserved
+steps-preserved c = grind (arith, common_steps)
+
+pub returns-in_err-at-2-clause-found : goal.returns-in_err-at-2-clause-found
+returns-in_err-at-2-clause-found c = grind (arith, common_steps)
+
+pub returns-clause-found : goal.returns-clause-found
+returns-clause-found c = grind (arith, common_steps)

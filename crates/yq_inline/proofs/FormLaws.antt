@@ -1,0 +1,141 @@
+-- Steps of reading a node's form, a collection and an item, as the code takes them.
+use Rattle.std.proofs.Common.{◌≡◌, ℕ, zero, suc, ◌-◌, Bool, true, false, cond, List, drop, Option, Some, None, refl, sym, ap, ◌∙◌, subst, Result, arith}
+use Rattle.std.proofs.lemmas.Bool.{cond-true, cond-false}
+use Rattle.std.proofs.lemmas.Option.{same_Some}
+use Rattle.yq_flow_scalars.specs.declared.fault.ReadError.{ReadError}
+use Rattle.yq_flow_scalars.specs.declared.fault.ReadError.TheVariants as errors
+use Rattle.yq_flow_scalars.specs.Answers.{◌>>=◌, Gives, ReadFails}
+use Rattle.yq_nodes.specs.Nodes.{Node, alias, begins_content, coll, first_is, scalar, Items}
+use Rattle.yq_nodes.specs.Places.{Content, Placed, bare_placed, holder, locate_items, name, nothing, Parts, placed_between}
+use Rattle.yq_nodes.specs.PlacedReading.{content_in, past_sep, placed_coll, placed_content, placed_item, placed_items, placed_node, placed_text}
+use Rattle.yq_nodes.specs.Reading.{all_items, coll_at, content_at, gap_at, kids_of, name_at, scalar_at}
+use Rattle.yq_nodes.proofs.Binds.{bind_bind}
+use Rattle.yq_inline.specs.Forms.{behind_item, opened, placed_form}
+
+-- forms
+module _ (flow : Bool) (spaces : Option ℕ) (total d : ℕ) (t : List ℕ) where
+  abbrev between : Content × List ℕ → Option (Placed × List ℕ)
+  between x = Some (placed_between total t x.1 x.0, x.1)
+
+  content_form : placed_content flow spaces total d t ≡ (placed_form flow spaces total d t >>= between)
+  content_form = sym (bind_bind (content_at flow spaces (kids_of d) t) (λ x. Some (content_in total t x.0 x.1, x.1)) between)
+
+  pub content_given : (x : Content) (r : List ℕ) → placed_form flow spaces total d t ≡ Some (x, r) → placed_content flow spaces total d t ≡ Some (placed_between total t r x, r)
+  content_given x r h = content_form ∙ ap (λ (o : Option (Content × List ℕ)). o >>= between) h
+
+  pub content_fails : (e : ReadError) → ReadFails e (placed_form flow spaces total d t) → ReadFails e (placed_content flow spaces total d t)
+  content_fails errors.Memory h = tt
+  content_fails (errors.Fault f) h = content_form ∙ ap (λ (o : Option (Content × List ℕ)). o >>= between) h
+
+  abbrev placing : Node × List ℕ → Option (Content × List ℕ)
+  placing x = Some (content_in total t x.0 x.1, x.1)
+
+  abbrev named : List ℕ × List ℕ → Option (Content × List ℕ)
+  named x = Some (name x.0, x.1)
+
+  coll_form : (k : ℕ) (u : List ℕ) → (coll_at (kids_of d) k u >>= placing) ≡ placed_coll total d k u
+  unfolding coll_at
+  coll_form k u = go (gap_at u) where
+    go : (o : Option (List ℕ × List ℕ)) → ((o >>= λ gap. kids_of d k gap.1 >>= λ items. Some (coll k gap.0 items.0, items.1)) >>= placing) ≡ (o >>= λ gap. kids_of d k gap.1 >>= λ x. Some (holder k (locate_items total k x.0 x.1), x.1))
+    go None = refl
+    go (Some gap) = bind_bind (kids_of d k gap.1) (λ items. Some (coll k gap.0 items.0, items.1)) placing
+
+  name_form : first_is 42 t ≡ true → placed_form flow spaces total d t ≡ (name_at (drop 1 t) >>= named)
+  unfolding content_at
+  name_form a = ap (λ o. o >>= placing) (cond-true _ _ _ a) ∙ bind_bind (name_at (drop 1 t)) (λ x. Some (alias x.0, x.1)) placing
+
+  pub form_alias : (u n r : List ℕ) → first_is 42 t ≡ true → u ≡ drop 1 t → name_at u ≡ Some (n, r) → placed_form flow spaces total d t ≡ Some (name n, r)
+  form_alias u n r a is h = name_form a ∙ ap (λ (o : Option (List ℕ × List ℕ)). o >>= named) (ap name_at (sym is) ∙ h)
+
+  pub form_unnamed : (u : List ℕ) → first_is 42 t ≡ true → u ≡ drop 1 t → name_at u ≡ None → placed_form flow spaces total d t ≡ None
+  form_unnamed u a is h = name_form a ∙ ap (λ (o : Option (List ℕ × List ℕ)). o >>= named) (ap name_at (sym is) ∙ h)
+
+  pub sequence_form : first_is 42 t ≡ false → first_is 91 t ≡ true → placed_form flow spaces total d t ≡ placed_coll total d 93 (drop 1 t)
+  unfolding content_at
+  sequence_form a b = ap (λ o. o >>= placing) (cond-false _ _ _ a ∙ cond-true _ _ _ b) ∙ coll_form 93 (drop 1 t)
+
+  pub mapping_form : first_is 42 t ≡ false → first_is 91 t ≡ false → first_is 123 t ≡ true → placed_form flow spaces total d t ≡ placed_coll total d 125 (drop 1 t)
+  unfolding content_at
+  mapping_form a b c = ap (λ o. o >>= placing) (cond-false _ _ _ a ∙ cond-false _ _ _ b ∙ cond-true _ _ _ c) ∙ coll_form 125 (drop 1 t)
+
+  pub text_form : first_is 42 t ≡ false → first_is 91 t ≡ false → first_is 123 t ≡ false → begins_content flow t ≡ true → placed_form flow spaces total d t ≡ placed_text flow spaces total t
+  unfolding content_at
+  text_form a b c e =
+      ap (λ o. o >>= placing) (cond-false _ _ _ a ∙ cond-false _ _ _ b ∙ cond-false _ _ _ c ∙ cond-true _ _ _ e) ∙ bind_bind (scalar_at flow spaces t) (λ x. Some (scalar x.0, x.1)) placing
+
+  pub no_form : first_is 42 t ≡ false → first_is 91 t ≡ false → first_is 123 t ≡ false → begins_content flow t ≡ false → placed_form flow spaces total d t ≡ Some (nothing, t)
+  unfolding content_at
+  no_form a b c e = ap (λ o. o >>= placing) (cond-false _ _ _ a ∙ cond-false _ _ _ b ∙ cond-false _ _ _ c ∙ cond-false _ _ _ e)
+
+-- an opening bracket
+pub unopened_gap : (d : ℕ) (t : List ℕ) → gap_at t ≡ None → opened d t ≡ None
+unopened_gap zero t h = refl
+unopened_gap (suc d) t h = rw h refl
+
+pub unopened_deep : (d : ℕ) (t : List ℕ) → d ≡ 0 → opened d t ≡ None
+unopened_deep d t h = rw h refl
+
+pub opened_gap : (d : ℕ) (t g r : List ℕ) → (d ≡ 0 → ⊥) → gap_at t ≡ Some (g, r) → opened d t ≡ Some r
+opened_gap zero t g r some h = absurd (some refl)
+opened_gap (suc d) t g r some h = rw h refl
+
+-- collections
+abbrev held : ℕ → ℕ → Items × List ℕ → Option (Content × List ℕ)
+held total k x = Some (holder k (locate_items total k x.0 x.1), x.1)
+
+abbrev inside : List ℕ × List ℕ → Option (List ℕ)
+inside gap = Some gap.1
+
+pub coll_unopened : (total d k : ℕ) (t : List ℕ) → opened d t ≡ None → placed_coll total d k t ≡ None
+coll_unopened total zero k t h = go (gap_at t) where
+  go : (o : Option (List ℕ × List ℕ)) → (o >>= λ gap. kids_of 0 k gap.1 >>= held total k) ≡ None
+  go None = refl
+  go (Some gap) = refl
+coll_unopened total (suc d) k t h = go (gap_at t) h where
+  go : (o : Option (List ℕ × List ℕ)) → (o >>= inside) ≡ None → (o >>= λ gap. kids_of (suc d) k gap.1 >>= held total k) ≡ None
+  go None e = refl
+  go (Some gap) e = cc
+
+coll_opened : (total d k : ℕ) (t r : List ℕ) → opened d t ≡ Some r → placed_coll total d k t ≡ (placed_items total (d - 1) k r >>= λ x. Some (holder k x.0, x.1))
+coll_opened total zero k t r h = cc
+coll_opened total (suc d) k t r h = go (gap_at t) h where
+  held_parts : Parts × List ℕ → Option (Content × List ℕ)
+  held_parts x = Some (holder k x.0, x.1)
+
+  go : (o : Option (List ℕ × List ℕ)) → (o >>= inside) ≡ Some r → (o >>= λ gap. kids_of (suc d) k gap.1 >>= held total k) ≡ (placed_items total (suc d - 1) k r >>= held_parts)
+  go None e = cc
+  go (Some gap) e =
+      let less : suc d - 1 ≡ d = omega arith in
+      ap (λ (g : List ℕ). all_items d k g >>= held total k) (same_Some _ _ e)
+      ∙ sym (ap (λ (n : ℕ). placed_items total n k r >>= held_parts) less ∙ bind_bind (all_items d k r) (λ x. Some (locate_items total k x.0 x.1, x.1)) held_parts)
+
+pub coll_given : (total d k : ℕ) (t r : List ℕ) (s : Parts) (u : List ℕ) → opened d t ≡ Some r → placed_items total (d - 1) k r ≡ Some (s, u) → placed_coll total d k t ≡ Some (holder k s, u)
+coll_given total d k t r s u h f = coll_opened total d k t r h ∙ rw f refl
+
+pub coll_fails : (e : ReadError) (total d k : ℕ) (t r : List ℕ) → opened d t ≡ Some r → ReadFails e (placed_items total (d - 1) k r) → ReadFails e (placed_coll total d k t)
+coll_fails errors.Memory total d k t r h f = tt
+coll_fails (errors.Fault x) total d k t r h f = coll_opened total d k t r h ∙ rw f refl
+
+-- items
+item_step : (total d : ℕ) (t : List ℕ) (x : Placed) (r : List ℕ) → placed_node true (Some 0) total d t ≡ Some (x, r) → placed_item total d t ≡ (behind_item x r >>= λ u. Some (x, u))
+item_step total d t x r h = rw h (go (bare_placed x)) where
+  with_item : List ℕ → Option (Placed × List ℕ)
+  with_item u = Some (x, u)
+
+  go : (b : Bool) → cond b None (past_sep 93 r >>= with_item) ≡ ((cond b None (past_sep 93 r)) >>= with_item)
+  go true = refl
+  go false = refl
+
+pub item_given : (total d : ℕ) (t : List ℕ) (x : Placed) (r u : List ℕ) → placed_node true (Some 0) total d t ≡ Some (x, r) → behind_item x r ≡ Some u → placed_item total d t ≡ Some (x, u)
+item_given total d t x r u h f = item_step total d t x r h ∙ rw f refl
+
+pub item_refused : (total d : ℕ) (t : List ℕ) (x : Placed) (r : List ℕ) → placed_node true (Some 0) total d t ≡ Some (x, r) → behind_item x r ≡ None → placed_item total d t ≡ None
+item_refused total d t x r h f = item_step total d t x r h ∙ rw f refl
+
+pub item_fails : (e : ReadError) (total d : ℕ) (t : List ℕ) → ReadFails e (placed_node true (Some 0) total d t) → ReadFails e (placed_item total d t)
+item_fails errors.Memory total d t h = tt
+item_fails (errors.Fault f) total d t h = rw h refl
+
+-- an answer stays that of what is read the same
+pub gives_same : {X Y : Type 0} (v : X → Y) (r : Result X ReadError) (o p : Option Y) → p ≡ o → Gives v r o → Gives v r p
+gives_same v r o p same answer = subst (Gives v r) (sym same) answer

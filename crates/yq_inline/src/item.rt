@@ -1,0 +1,34 @@
+//! What stands behind the items of a sequence.
+ghost use Rattle.std.specs.Prelude.{◌≡◌, ◌≢◌, ◌≤◌, IfErr, IfOk, false, length};
+ghost use Rattle.yq_flow_scalars.specs.Answers.{Reads};
+ghost use Rattle.yq_flow_scalars.specs.declared.fault.FaultKind.TheVariants.{NotUtf8};
+ghost use Rattle.yq_inline.specs.Forms as spec;
+ghost use Rattle.yq_nodes.specs.Places.{bare_placed};
+ghost use Rattle.yq_nodes.specs.View.{view};
+
+use crate::fault::flow_fault;
+use crate::pieces::{no_node, read_sep};
+use crate::reading::is_bare;
+use yq_flow_scalars::{FaultKind, ReadFault};
+use yq_nodes::Inline;
+
+/// What follows an item and the comma behind it, if there is one; the item, which is not to be nothing,
+/// is in front of `text`, and behind the `[` stood `open`.
+pub(crate) fn read_behind<'t>(
+    whole: &str,
+    open: &str,
+    text: &str,
+    item: &Inline<'_>,
+    rest: &'t str,
+) -> Result<&'t str, ReadFault>
+    ensures read { Reads (λ x. x.now) result (spec.behind_item (view item.now) rest.now) }
+    ensures some { IfOk result (λ x. bare_placed (view item.now) ≡ false) }
+    ensures shorter { IfOk result (λ x. length x.now ≤ length rest.now) }
+    ensures fault { IfErr result (λ f. f.kind ≢ NotUtf8) }
+{
+    if is_bare(item) {
+        let kind = no_node(text.as_bytes(), FaultKind::BadFlow);
+        return Err(flow_fault(kind, whole, open, text));
+    }
+    read_sep(b']', whole, open, rest)
+}
