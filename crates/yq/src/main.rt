@@ -3,24 +3,22 @@
 
 mod program;
 
-use crate::program::{answer_to_words, usage_lines};
+use crate::program::answer_to_words;
 use std::io;
 use std::process::ExitCode;
 use yq_history::Fault;
-use yq_lists::{Answer, USAGE};
+use yq_lists::{Answer, report_usage};
 
 fn main(rt: HostRuntime) -> io::Result<ExitCode> {
     match answer_to_words(&rt) {
         Answer::Done => return Ok(ExitCode::SUCCESS),
         Answer::NoMatch => eprintln!(rt; "Error: N1 no matches found")?,
-        Answer::Refused(Fault::Usage(cause)) => {
-            eprintln!(rt; "Error: U1 usage")?;
-            if let Ok(lines) = usage_lines(&rt, cause) {
-                eprint!(rt; "{lines}")?;
+        Answer::Refused(fault) => {
+            eprintln!(rt; "Error: {fault}")?;
+            if let Fault::Usage(cause) = fault {
+                report_usage(&rt, cause)?
             }
-            eprintln!(rt; "{USAGE}try 'yq --help'")?
         }
-        Answer::Refused(fault) => eprintln!(rt; "Error: {fault}")?,
     }
     Ok(ExitCode::from(1))
 }

@@ -1,12 +1,24 @@
--- The command line, one command more.
+-- The command line, one argument and one command more.
 use Rattle.std.proofs.Common.{◌≡◌, ◌∙◌, ◌≤◌, ◌-◌, ℕ, List, [], ◌∷◌, false, ap, arith, drop, get_or, length, take}
 use Rattle.std.proofs.lemmas.List.{take_all}
-use Rattle.clap.specs.Words.{App, AddsSubcommand, app_of, with_subcommand}
+use Rattle.clap.specs.Words.{App, AddsArg, AddsSubcommand, app_of, rule_of, with_rule, with_subcommand}
+use Rattle.clap.specs.declared.builder.arg.Arg.{Arg}
 use Rattle.clap.specs.declared.builder.command.Command.{Command}
 use Rattle.clap.specs.declared.builder.command.Command.TheViews.{out-Command as fields_of}
+use Rattle.yq_line.specs.declared.line.Argument.{Argument}
+use Rattle.yq_line.specs.declared.line.Argument.TheVariants.{Inplace}
 use Rattle.yq_line.specs.declared.line.SubCommand.{SubCommand}
 use Rattle.yq_line.specs.declared.line.SubCommand.TheVariants.{Eval}
-use Rattle.yq_line.specs.Parts.{command_app, with_commands}
+use Rattle.yq_line.specs.Parts.{argument_rule, command_app, with_arguments, with_commands}
+
+-- what is left of the arguments, one argument more
+module _ (old : Command) (arg : Arg) (new : Command) (adds : AddsArg old arg new) (local : arg.global ≡ false) where
+  pub arguments_more : (args : List Argument) (count : ℕ) → rule_of arg ≡ argument_rule (get_or args 0 Inplace) → 1 ≤ length args → length args ≤ count →
+      with_arguments (app_of new) (take (count - 1) (drop 1 args)) ≡ with_arguments (app_of old) args
+  arguments_more [] count is some all = absurd (omega (arith, some))
+  arguments_more (one ∷ args) count is some all =
+      ap (with_arguments (app_of new)) (take_all (count - 1) args (omega (arith, all)))
+      ∙ ap (λ app. with_arguments app args) (adds.shape local ∙ ap (with_rule (app_of old)) is)
 
 -- what is left of the commands, one command more
 module _ (old sub new : Command) (adds : AddsSubcommand old sub new) (local : (fields_of sub).has_globals ≡ false) where

@@ -3,7 +3,7 @@
 use yq_store::Purpose;
 
 /// What the words of a command line ask for. A command's journal has another name than its file.
-#[derive(Debug, Drop, PartialEq)]
+#[derive(Drop)]
 pub enum Command {
     /// Reads or edits a file by an expression.
     Eval {

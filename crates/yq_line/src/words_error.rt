@@ -4,7 +4,7 @@ use std::alloc::AllocError;
 use yq_usage::UsageCause;
 
 /// Why words are no command.
-#[derive(Clone, Copy, Debug, PartialEq, Eq)]
+#[derive(Clone, Copy, Debug)]
 pub enum WordsError {
     /// They are no words of the command line.
     Usage(UsageCause),

@@ -4,4 +4,6 @@
 mod run;
 
 pub use run::run_list;
-pub use yq_output::{Answer, MemoryOut, Out, PutError, StandardOut, USAGE, command_of};
+pub use yq_output::{
+    Answer, MemoryOut, Out, PutError, StandardOut, asked_command, command_of, report_usage,
+};

@@ -2,12 +2,13 @@
 #![tactic(auto)]
 
 mod answer;
+mod called;
 pub mod help;
 mod output;
 mod words;
 
 pub use answer::Answer;
-pub use help::USAGE;
+pub use called::{asked_command, report_usage};
 pub use output::memory::MemoryOut;
 pub use output::standard::StandardOut;
 pub use output::{Out, PutError};

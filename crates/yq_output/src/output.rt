@@ -6,7 +6,7 @@ pub mod memory;
 pub mod standard;
 
 /// An output took not all bytes, or none.
-#[derive(Clone, Copy, Debug, PartialEq, Eq)]
+#[derive(Clone, Copy, Debug)]
 pub struct PutError;
 
 /// What takes the program's output.

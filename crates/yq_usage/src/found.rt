@@ -2,34 +2,20 @@
 
 use crate::options::is_known;
 
+/// How many of the words that are no options are kept.
+const KEPT: usize = 3;
+
 /// What stands in the words behind the command's.
 #[derive(Clone, Copy)]
 pub struct Found<'w> {
     /// The first option that the command doesn't have.
     pub unknown: Option<&'w str>,
     /// The first three words that are no options; empty ones where there are fewer.
-    pub names: (&'w str, &'w str, &'w str),
+    pub names: [&'w str; KEPT],
     /// How many words are no options.
     pub count: usize,
     /// Whether no word stands behind `--journal`, or an option.
     pub lacks_path: bool,
-}
-
-/// The same with one more word that is no option.
-fn with_name<'w>(found: Found<'w>, word: &'w str) -> Found<'w> {
-    let (first, second, third) = found.names;
-    let names = match found.count {
-        0 => (word, second, third),
-        1 => (first, word, third),
-        2 => (first, second, word),
-        _ => found.names,
-    };
-    Found {
-        unknown: found.unknown,
-        names,
-        count: found.count.saturating_add(1),
-        lacks_path: found.lacks_path,
-    }
 }
 
 /// Whether a word begins with `-`, and is more than that.
@@ -41,7 +27,7 @@ fn is_option(word: &str) -> bool {
 pub fn find<'w>(command: &str, words: &[&'w str]) -> Found<'w> {
     let mut found = Found {
         unknown: None,
-        names: ("", "", ""),
+        names: [""; KEPT],
         count: 0,
         lacks_path: false,
     };
@@ -52,7 +38,10 @@ pub fn find<'w>(command: &str, words: &[&'w str]) -> Found<'w> {
             is_path = false;
             found.lacks_path = is_option(word);
         } else if only_names || !is_option(word) {
-            found = with_name(found, word);
+            if found.count < KEPT {
+                found.names[found.count] = word;
+            }
+            found.count = found.count.saturating_add(1);
         } else if *word == "--" {
             only_names = true;
         } else if *word == "--journal" {
@@ -66,12 +55,15 @@ pub fn find<'w>(command: &str, words: &[&'w str]) -> Found<'w> {
 }
 
 /// The first word that is one too many.
-pub fn surplus<'w>(command: &str, found: Found<'w>) -> Option<&'w str> {
-    let (_, second, third) = found.names;
-    match (command, found.count) {
-        ("eval" | "squash", 0..=2) => None,
-        ("eval" | "squash", _) => Some(third),
-        (_, 0..=1) => None,
-        _ => Some(second),
+pub fn surplus<'w>(command: &str, found: &Found<'w>) -> Option<&'w str> {
+    let most = if command == "eval" || command == "squash" {
+        2
+    } else {
+        1
+    };
+    if found.count > most {
+        Some(found.names[most])
+    } else {
+        None
     }
 }

@@ -4,104 +4,103 @@ use crate::cause::UsageCause;
 use crate::command_word::split_command;
 use crate::found::{Found, find, surplus};
 use crate::options::hint;
-use crate::spelling::{Meant, command_meant};
+use crate::spelling::end_of_command;
 use std::alloc::{AllocError, Global};
 
 /// How many characters of a word are shown.
 const MAX_CHARS: usize = 80;
 
+/// A line: what it tells, of which word if of one, and in what it ends.
+type Line<'w> = (&'static str, Option<&'w str>, &'static str);
+
 /// Adds a word in quotes, with `?` for each control character, and cut where it is long.
 fn push_word(text: &mut String, word: &str) -> Result<(), AllocError> {
-    text.push('\'')?;
+    text.push_str(" '")?;
     'chars: for c in word.chars().take(MAX_CHARS) {
         text.push(if c.is_control() { '?' } else { c })?;
     }
     text.push('\'')
 }
 
-/// Adds a line that tells of a word, and in what it ends.
-fn push_line(text: &mut String, about: &str, word: &str, end: &str) -> Result<(), AllocError> {
+/// Adds a line.
+fn push_line(text: &mut String, line: Line<'_>) -> Result<(), AllocError> {
+    let (about, word, end) = line;
     text.push_str(about)?;
-    text.push(' ')?;
-    push_word(text, word)?;
-    text.push_str(end)?;
-    text.push('\n')
-}
-
-/// Adds a line on an option that a command doesn't have.
-fn push_option(text: &mut String, command: &str, word: &str) -> Result<(), AllocError> {
-    text.push_str("unexpected option ")?;
-    push_word(text, word)?;
-    text.push_str(": ")?;
-    text.push_str(if command == "eval" {
-        hint(word)
-    } else {
-        "'--journal PATH' is the only one of this command"
-    })?;
-    text.push('\n')
-}
-
-/// Adds a line on a first word that names no command and stands where one may.
-fn push_command(text: &mut String, word: &str, meant: Meant) -> Result<(), AllocError> {
-    text.push_str("unknown command ")?;
-    push_word(text, word)?;
-    match meant {
-        Meant::Name(name) => {
-            text.push_str(": did you mean ")?;
-            push_word(text, name)?;
-            text.push('?')?;
-        }
-        Meant::Other(instead) => {
-            text.push_str(": ")?;
-            text.push_str(instead)?;
-        }
+    if let Some(word) = word {
+        push_word(text, word)?;
     }
+    text.push_str(end)?;
     text.push('\n')
 }
 
 /// What is missing, where a command has so many words that are no options.
 fn missing(command: &str, count: usize, is_file: bool) -> Option<&'static str> {
     match (command, count) {
-        ("eval", 0) => Some("no EXPR and no FILE\n"),
-        ("eval", 1) if is_file => Some("no EXPR: 'yq . FILE' prints the whole of FILE\n"),
-        ("eval", 1) => Some("no FILE: for standard input name /dev/stdin\n"),
-        ("squash", 0) => Some("no N and no FILE\n"),
-        ("squash", 1) => Some("no FILE, or no N before it\n"),
-        (_, 0) => Some("no FILE\n"),
+        ("eval", 0) => Some("no EXPR and no FILE"),
+        ("eval", 1) if is_file => Some("no EXPR: 'yq . FILE' prints the whole of FILE"),
+        ("eval", 1) => Some("no FILE: for standard input name /dev/stdin"),
+        ("squash", 0) => Some("no N and no FILE"),
+        ("squash", 1) => Some("no FILE, or no N before it"),
+        (_, 0) => Some("no FILE"),
         _ => None,
     }
 }
 
-/// Adds a line on words that `clap` doesn't take.
-fn push_words(
-    text: &mut String,
+/// The line on words that `clap` doesn't take.
+fn line_of_words<'w>(command: &str, is_named: bool, is_file: bool, found: &Found<'w>) -> Line<'w> {
+    let first = found.names[0];
+    if !is_named && let Some(end) = end_of_command(first) {
+        return ("unknown command", Some(first), end);
+    }
+    if found.lacks_path {
+        return ("no PATH behind '--journal'", None, "");
+    }
+    if let Some(option) = found.unknown {
+        let end = if command == "eval" {
+            hint(option)
+        } else {
+            ": '--journal PATH' is the only one of this command"
+        };
+        return ("unexpected option", Some(option), end);
+    }
+    if let Some(about) = missing(command, found.count, is_file) {
+        return (about, None, "");
+    }
+    match surplus(command, found) {
+        Some(word) => ("unexpected word", Some(word), ": each run takes one FILE"),
+        None => (
+            "an option stands twice, or has a value that it doesn't take",
+            None,
+            "",
+        ),
+    }
+}
+
+/// The line on what is the matter.
+fn line_of<'w>(
+    cause: UsageCause,
     command: &str,
     is_named: bool,
     is_file: bool,
-    found: Found<'_>,
-) -> Result<(), AllocError> {
-    if let (false, Some(meant)) = (is_named, command_meant(found.names.0)) {
-        return push_command(text, found.names.0, meant);
-    }
-    if found.lacks_path {
-        return text.push_str("no PATH behind '--journal'\n");
-    }
-    if let Some(option) = found.unknown {
-        return push_option(text, command, option);
-    }
-    if let Some(line) = missing(command, found.count, is_file) {
-        return text.push_str(line);
-    }
-    match surplus(command, found) {
-        Some(word) => push_line(text, "unexpected word", word, ": each run takes one FILE"),
-        None => text.push_str("an option stands twice, or has a value that it doesn't take\n"),
+    found: &Found<'w>,
+) -> Line<'w> {
+    match cause {
+        UsageCause::NotText => ("a word isn't UTF-8", None, ""),
+        UsageCause::FileIsDash => ("FILE is '-': for standard input name /dev/stdin", None, ""),
+        UsageCause::JournalIsFile => ("the journal has the name of FILE", None, ""),
+        UsageCause::BadCount => (
+            "no number N:",
+            Some(found.names[0]),
+            ", of the edits that are to be joined",
+        ),
+        UsageCause::Words => line_of_words(command, is_named, is_file, found),
     }
 }
 
 /// The first word that is neither a command's name nor an option; an empty one where there is none.
 pub fn first_name<'w>(words: &[&'w str]) -> &'w str {
     let (command, rest) = split_command(words);
-    find(command, rest).names.0
+    find(command, rest).names[0]
 }
 
 /// What a person should know whose words are no command, in lines: what is the matter, and what to do.
@@ -115,24 +114,13 @@ pub fn usage_text(
 ) -> Result<String, AllocError> {
     let (command, rest) = split_command(words);
     let found = find(command, rest);
+    let is_named = rest.len() < words.len();
     let mut text = String::new(alloc);
-    match cause {
-        UsageCause::NotText => text.push_str("a word isn't UTF-8\n")?,
-        UsageCause::FileIsDash => {
-            text.push_str("FILE is '-': for standard input name /dev/stdin\n")?
-        }
-        UsageCause::JournalIsFile => text.push_str("the journal has the name of FILE\n")?,
-        UsageCause::BadCount => push_line(
-            &mut text,
-            "no number N:",
-            found.names.0,
-            ", of the edits that are to be joined",
-        )?,
-        UsageCause::Words => {
-            push_words(&mut text, command, rest.len() < words.len(), is_file, found)?
-        }
-    }
-    if command == "eval" && is_file && found.names.1.starts_with('.') {
+    push_line(
+        &mut text,
+        line_of(cause, command, is_named, is_file, &found),
+    )?;
+    if command == "eval" && is_file && found.names[1].starts_with('.') {
         text.push_str("FILE and EXPR are in the other order?\n")?;
     }
     Ok(text)

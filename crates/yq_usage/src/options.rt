@@ -1,69 +1,106 @@
 //! Options: those of the commands, and what stands for others that are often written.
 
-/// Whether a letter is one of a command's options.
-fn is_letter(command: &str, letter: char) -> bool {
-    letter == 'h' || (command == "eval" && matches!(letter, 'i' | 'e' | 'N'))
+/// Options of other programs, by their letters and names, and what to do in place of them.
+struct ForeignOption {
+    letters: &'static [u8],
+    names: &'static [&'static str],
+    hint: &'static str,
+}
+
+/// The options that `eval` has not and that are often written.
+const FOREIGN: [ForeignOption; 10] = [
+    ForeignOption {
+        letters: b"r",
+        names: &["--unwrapScalar", "--raw-output"],
+        hint: ": values are printed without quotes already",
+    },
+    ForeignOption {
+        letters: b"n",
+        names: &["--null-input"],
+        hint: ": each run reads a FILE",
+    },
+    ForeignOption {
+        letters: b"P",
+        names: &["--prettyPrint"],
+        hint: ": values are printed in block style already",
+    },
+    ForeignOption {
+        letters: b"opj",
+        names: &["--output-format", "--input-format", "--tojson"],
+        hint: ": YAML is read and printed, and no other format",
+    },
+    ForeignOption {
+        letters: b"CM",
+        names: &["--colors", "--no-colors"],
+        hint: ": nothing is printed in colors",
+    },
+    ForeignOption {
+        letters: b"I",
+        names: &["--indent"],
+        hint: ": the indentation of FILE is kept",
+    },
+    ForeignOption {
+        letters: b"s",
+        names: &["--split-exp"],
+        hint: ": everything is printed to standard output",
+    },
+    ForeignOption {
+        letters: b".",
+        names: &["--inplace", "--in-place"],
+        hint: ": '-i' alone edits in place, and 'yq undo' takes an edit back",
+    },
+    ForeignOption {
+        letters: b"",
+        names: &["--from-file"],
+        hint: ": EXPR can be \"$(cat NAME)\"",
+    },
+    ForeignOption {
+        letters: b"",
+        names: &["--arg", "--argjson"],
+        hint: ": values come from the shell: man yq",
+    },
+];
+
+/// What to do in place of any other option.
+const OTHER: &str = ": a word behind '--' may begin with '-'";
+
+/// The first letter behind `-` that is none of a command's options.
+fn unknown_letter(command: &str, option: &str) -> Option<u8> {
+    let known: &[u8] = if command == "eval" { b"hieN" } else { b"h" };
+    let letters = option.strip_prefix('-').unwrap_or(option);
+    'letters: for letter in letters.as_bytes() {
+        if !known.contains(letter) {
+            return Some(*letter);
+        }
+    }
+    None
 }
 
 /// Whether a command has this option, or each of these that stand in one word.
 pub fn is_known(command: &str, option: &str) -> bool {
-    match option {
-        "--help" => true,
-        "--inplace" | "--exit-status" | "--no-doc" => command == "eval",
-        _ if option.starts_with("--") => option.starts_with("--journal="),
-        _ => option
-            .chars()
-            .skip(1)
-            .all(|letter| is_letter(command, letter)),
+    if !option.starts_with("--") {
+        return unknown_letter(command, option).is_none();
     }
+    option == "--help"
+        || option.starts_with("--journal=")
+        || command == "eval" && ["--inplace", "--exit-status", "--no-doc"].contains(&option)
 }
 
-/// What to do where a command has no option of this letter.
-fn letter_hint(letter: char) -> &'static str {
-    match letter {
-        'r' => "values are printed without quotes already",
-        'n' => "each run reads a FILE",
-        'P' => "values are printed in block style already",
-        'o' | 'p' | 'j' => "YAML is read and printed, and no other format",
-        'C' | 'M' => "nothing is printed in colors",
-        'I' => "the indentation of FILE is kept",
-        's' => "everything is printed to standard output",
-        'i' | '.' => "'-i' alone edits in place, and 'yq undo' takes an edit back",
-        _ => "a word behind '--' may begin with '-'",
+/// What to do in place of an option of this letter or name.
+fn hint_on(letter: u8, name: &str) -> &'static str {
+    'options: for option in &FOREIGN {
+        if option.letters.contains(&letter) || option.names.contains(&name) {
+            return option.hint;
+        }
     }
-}
-
-/// What to do where a command has no option of this name.
-fn name_hint(name: &str) -> &'static str {
-    match name {
-        "--unwrapScalar" | "--raw-output" => letter_hint('r'),
-        "--null-input" => letter_hint('n'),
-        "--prettyPrint" => letter_hint('P'),
-        "--output-format" | "--input-format" | "--tojson" => letter_hint('o'),
-        "--colors" | "--no-colors" => letter_hint('C'),
-        "--indent" => letter_hint('I'),
-        "--split-exp" => letter_hint('s'),
-        "--inplace" | "--in-place" => letter_hint('i'),
-        "--from-file" => "EXPR can be \"$(cat NAME)\"",
-        "--arg" | "--argjson" => "values come from the shell: man yq",
-        _ => letter_hint('-'),
-    }
+    OTHER
 }
 
 /// What to do where `eval` has no such option.
 pub fn hint(option: &str) -> &'static str {
-    if option.starts_with("--") {
-        return match option.split_once('=') {
-            Some((name, _)) => name_hint(name),
-            None => name_hint(option),
-        };
-    }
-    match option
-        .chars()
-        .skip(1)
-        .find(|letter| !is_letter("eval", *letter))
-    {
-        Some(letter) => letter_hint(letter),
-        None => letter_hint('-'),
+    let letter = unknown_letter("eval", option).unwrap_or(b'-');
+    match option.split_once('=') {
+        Some((name, _)) => hint_on(letter, name),
+        None => hint_on(letter, option),
     }
 }

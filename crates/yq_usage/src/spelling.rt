@@ -1,13 +1,29 @@
 //! Words that stand where a command's name may, and name none.
 
-/// What may have been meant.
-#[derive(Clone, Copy)]
-pub enum Meant {
-    /// The name of a command.
-    Name(&'static str),
-    /// Something that isn't there, in whose place this is to be done.
-    Other(&'static str),
-}
+/// The names of commands, and in what the line on a word ends that is near one.
+const NAMES: [(&str, &str); 5] = [
+    ("undo", ": did you mean 'undo'?"),
+    ("redo", ": did you mean 'redo'?"),
+    ("history", ": did you mean 'history'?"),
+    ("squash", ": did you mean 'squash'?"),
+    ("eval", ": did you mean 'eval'?"),
+];
+
+/// Words of other programs, and in what the line on each of them ends.
+const OTHERS: [(&str, &str); 12] = [
+    ("eval-all", ": each run reads one FILE"),
+    ("ea", ": each run reads one FILE"),
+    ("log", ": did you mean 'history'?"),
+    ("read", ": 'yq EXPR FILE' prints what EXPR reads"),
+    ("get", ": 'yq EXPR FILE' prints what EXPR reads"),
+    ("r", ": 'yq EXPR FILE' prints what EXPR reads"),
+    ("write", ": 'yq -i EXPR FILE' edits FILE"),
+    ("set", ": 'yq -i EXPR FILE' edits FILE"),
+    ("w", ": 'yq -i EXPR FILE' edits FILE"),
+    ("delete", ": 'yq -i del(PATH) FILE' edits FILE"),
+    ("d", ": 'yq -i del(PATH) FILE' edits FILE"),
+    ("help", ": did you mean '--help'?"),
+];
 
 /// How many bytes at their beginnings two words share.
 fn common_front(word: &[u8], name: &[u8]) -> usize {
@@ -65,20 +81,22 @@ fn is_near(word: &str, name: &str) -> bool {
     name.starts_with(word) || shared.saturating_add(1) >= longer || is_swapped
 }
 
-/// The command that a word may have been meant to name.
-pub fn command_meant(word: &str) -> Option<Meant> {
-    'names: for name in ["undo", "redo", "history", "squash", "eval"] {
-        if is_near(word, name) {
-            return Some(Meant::Name(name));
+/// In what the line on a word ends that is one of other programs.
+fn end_of_other(word: &str) -> Option<&'static str> {
+    'others: for (other, end) in &OTHERS {
+        if word == *other {
+            return Some(end);
         }
     }
-    match word {
-        "eval-all" | "ea" => Some(Meant::Other("each run reads one FILE")),
-        "log" => Some(Meant::Name("history")),
-        "read" | "get" | "r" => Some(Meant::Other("'yq EXPR FILE' prints what EXPR reads")),
-        "write" | "set" | "w" => Some(Meant::Other("'yq -i EXPR FILE' edits FILE")),
-        "delete" | "d" => Some(Meant::Other("'yq -i del(PATH) FILE' edits FILE")),
-        "help" => Some(Meant::Name("--help")),
-        _ => None,
+    None
+}
+
+/// In what the line on a word ends that may have been meant to name a command.
+pub fn end_of_command(word: &str) -> Option<&'static str> {
+    'names: for (name, end) in &NAMES {
+        if is_near(word, name) {
+            return Some(end);
+        }
     }
+    end_of_other(word)
 }

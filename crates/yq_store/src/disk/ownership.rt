@@ -46,7 +46,7 @@ fn is_allowed(changed: io::Result<()>) -> io::Result<bool> {
 }
 
 /// Who a file is to belong to, and who may do what with it.
-#[derive(Clone, Copy, PartialEq, Eq)]
+#[derive(Clone, Copy)]
 pub struct Rights {
     /// The owner and the group; nothing where these are its maker's.
     holder: Option<(u32, u32)>,

@@ -30,7 +30,7 @@ fn user_of_run<R: Files>(rt: &R) -> u32 {
 
 /// Who may put something in the place of a file or beside it, since they may write the file: the user
 /// of the run, root, the owner of the file, and whom its mode allows it.
-#[derive(Clone, Copy, PartialEq, Eq)]
+#[derive(Clone, Copy)]
 pub struct Trust {
     user: u32,
     owner: u32,
