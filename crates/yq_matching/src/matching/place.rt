@@ -7,7 +7,6 @@ ghost use Rattle.yq_matching.specs.PlaceView.{missing_of, node_step_of, path_of,
 ghost use Rattle.yq_meaning.specs.Places as spec;
 ghost use Rattle.yq_program.specs.View.{step_of};
 
-use bumpalo::Bump;
 use std::alloc::{AllocError, Global};
 use yq_document_nodes::Node;
 use yq_program::Step;
