@@ -50,11 +50,6 @@ abbrev pub PassesFirst : Under → Option Under → Type 0
 PassesFirst old None = outline.children (outline_of old) ≡ none
 PassesFirst old (Some new) = Passes old new
 
--- the first of these items or entries is given, and what is left behind it; or nothing where there is none (own)
-abbrev pub GivesFirst : {A : Type 0} → Children → (A → Children) → Option (Node × A) → Type 0
-GivesFirst all left None = all ≡ none
-GivesFirst all left (Some x) = all ≡ child (label_of x.0) (node_of x.0) (left x.1)
-
 -- the first of these items or entries is yielded, and the others are left; where there is none, nothing is yielded (own)
 abbrev pub YieldsChild : declared.Children → Option Node → declared.Children → Type 0
 YieldsChild old None new = (left_of old ≡ none) × (left_of new ≡ none)

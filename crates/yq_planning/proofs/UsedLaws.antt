@@ -57,6 +57,15 @@ used_here names cs rest label n all is used so_far =
     ∙ (sym (list_any-append (is_used names) (names_of n) (names_in rest))
     ∙ (ap (λ (ds : Children). list_any (is_used names) (names_in ds)) (sym is) ∙ so_far))
 
+-- one item or entry more, the aliases in which are counted in already
+pub named_more : (p : Name → Bool) (cs rest : Children) (label : Label) (n : Node) (old new all : Bool) → cs ≡ child label n rest → new ≡ (old || list_any p (names_of n)) →
+    (old || list_any p (names_in cs)) ≡ all → (new || list_any p (names_in rest)) ≡ all
+named_more p cs rest label n true new all is more so_far = ap (λ b. b || list_any p (names_in rest)) more ∙ so_far
+named_more p cs rest label n false new all is more so_far =
+    ap (λ b. b || list_any p (names_in rest)) more
+    ∙ (sym (list_any-append p (names_of n) (names_in rest))
+    ∙ (ap (λ (ds : Children). list_any p (names_in ds)) (sym is) ∙ so_far))
+
 -- ---- what a change takes
 
 -- by the node at a path

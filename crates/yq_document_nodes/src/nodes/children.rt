@@ -1,7 +1,7 @@
 //! The items or entries of a node, one after the other.
 ghost use Rattle.std.specs.Iterator.{at_most};
-ghost use Rattle.std.specs.Prelude.{◌≡◌, ◌<◌, IfSome, length};
-ghost use Rattle.yq_nodes.specs.Trees.{parts_tree, placed_tree};
+ghost use Rattle.std.specs.Prelude.{◌≡◌, ◌<◌, IfSome};
+ghost use Rattle.yq_nodes.specs.Trees.{placed_tree};
 ghost use Rattle.yq_nodes.specs.View as inline;
 ghost use Rattle.yq_flow_scalars.specs.Tree.{children_of};
 ghost use Rattle.yq_document_nodes.specs.Children as spec;
@@ -89,58 +89,6 @@ pub(crate) fn behind_first<'d, 't>(under: Under<'d, 't>) -> Option<Under<'d, 't>
     })
 }
 
-/// The first of the items or entries that lines begin, and what is left behind it.
-fn next_line<'d, 't>(under: Under<'d, 't>) -> Option<(Node<'d, 't>, Rest<'d, 't>)>
-    ensures gives { spec.GivesFirst (spec.rest_of (spec.lines_rest under.entry)) spec.rest_of
-        result }
-    ensures fewer { IfSome result (λ x. spec.rest_length x.1 < spec.lines_left under.entry) }
-{
-    let next = behind_first(under)?;
-    Some((
-        Node::of_line(under.text, under.document, under.first),
-        Rest::Lines(next),
-    ))
-}
-
-/// The first item of a flow sequence, and what is left behind it.
-fn next_item<'d, 't>(items: &'d [Inline<'t>]) -> Option<(Node<'d, 't>, Rest<'d, 't>)>
-    ensures gives { spec.GivesFirst (parts_tree (inline.items_end items.now)) spec.rest_of result }
-    ensures fewer { IfSome result (λ x. spec.rest_length x.1 < length items.now) }
-{
-    let [item, others @ ..] = items else {
-        return None;
-    };
-    Some((Node::of_inline(None, item), Rest::Items(others)))
-}
-
-/// The value of the first entry of a flow mapping, and what is left behind it.
-fn next_entry<'d, 't>(
-    entries: &'d [(String, Piece, Inline<'t>)],
-) -> Option<(Node<'d, 't>, Rest<'d, 't>)>
-    ensures gives { spec.GivesFirst (parts_tree (inline.entries_end entries.now)) spec.rest_of
-        result }
-    ensures fewer { IfSome result (λ x. spec.rest_length x.1 < length entries.now) }
-{
-    let [entry, others @ ..] = entries else {
-        return None;
-    };
-    let node = Node::of_inline(Some(entry.0.as_str()), &entry.2);
-    Some((node, Rest::Entries(others)))
-}
-
-/// The first of what is left, and what is left behind it.
-fn next_of<'d, 't>(rest: Rest<'d, 't>) -> Option<(Node<'d, 't>, Rest<'d, 't>)>
-    ensures gives { spec.GivesFirst (spec.rest_of rest.entry) spec.rest_of result }
-    ensures fewer { IfSome result (λ x. spec.rest_length x.1 < spec.rest_length rest.entry) }
-{
-    match rest {
-        Rest::Nothing => None,
-        Rest::Lines(under) => next_line(under),
-        Rest::Items(items) => next_item(items),
-        Rest::Entries(entries) => next_entry(entries),
-    }
-}
-
 impl<'d, 't> Iterator for Children<'d, 't> {
     type Item = Node<'d, 't>;
 
@@ -149,8 +97,29 @@ impl<'d, 't> Iterator for Children<'d, 't> {
     ghost remaining = { λ c. at_most (spec.rest_length c.rest) };
 
     fn next(&mut self) -> Option<Node<'d, 't>> {
-        let (node, rest) = next_of(self.rest)?;
-        self.rest = rest;
-        Some(node)
+        match self.rest {
+            Rest::Nothing => None,
+            Rest::Lines(under) => {
+                let Some(others) = behind_first(under) else {
+                    return None;
+                };
+                self.rest = Rest::Lines(others);
+                Some(Node::of_line(under.text, under.document, under.first))
+            }
+            Rest::Items(items) => {
+                let [item, others @ ..] = items else {
+                    return None;
+                };
+                self.rest = Rest::Items(others);
+                Some(Node::of_inline(None, item))
+            }
+            Rest::Entries(entries) => {
+                let [entry, others @ ..] = entries else {
+                    return None;
+                };
+                self.rest = Rest::Entries(others);
+                Some(Node::of_inline(Some(entry.0.as_str()), &entry.2))
+            }
+        }
     }
 }

@@ -7,7 +7,6 @@ ghost use Rattle.yq_matching.specs.PlaceView.{missing_of, node_step_of, path_of,
 ghost use Rattle.yq_meaning.specs.Places as spec;
 ghost use Rattle.yq_program.specs.View.{step_of};
 
-use bumpalo::Bump;
 use std::alloc::{AllocError, Global};
 use yq_document_nodes::Node;
 use yq_program::Step;
@@ -104,35 +103,16 @@ impl<'a, 't> Place<'a, 't> {
         Place::below(path, step_to(child, before), child)
     }
 
-    /// The place of an item or entry of its node.
-    pub(crate) fn child(
-        &self,
-        bump: &'a Bump,
-        step: NodeStep<'a>,
-        node: &Node<'a, 't>,
-    ) -> Result<Place<'a, 't>, AllocError>
-        ensures { IfOk result (λ p. place_of p ≡ spec.child_place (place_of self.now)
-            (node_step_of step.entry, node_of node.now)) }
+    /// The place from which one more step is missing than these, which are missing from here.
+    pub(crate) fn further(&self, front: &'a Missing<'a>, step: &'a Step) -> Place<'a, 't>
+        ensures { missing_of front.now ≡ missing_of self.now.missing → place_of result ≡
+            spec.further_place (step_of step.now) (place_of self.now) }
     {
-        let path = bump.try_alloc(self.path)?;
-        Ok(Place::below(path, step, node))
-    }
-
-    /// The place from which one more step is missing.
-    pub(crate) fn further(
-        &self,
-        bump: &'a Bump,
-        step: &'a Step,
-    ) -> Result<Place<'a, 't>, AllocError>
-        ensures { IfOk result (λ p. place_of p ≡ spec.further_place (step_of step.now)
-            (place_of self.now)) }
-    {
-        let front = bump.try_alloc(self.missing)?;
-        Ok(Place {
+        Place {
             path: self.path,
             node: self.node,
             missing: Missing::behind(front, step),
-        })
+        }
     }
 
     /// The node there, or none where a step is missing: it is null there.

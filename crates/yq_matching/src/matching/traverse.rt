@@ -1,6 +1,6 @@
 //! Where steps lead from places: each acts on all of them before the next one
 //! does.
-ghost use Rattle.std.specs.Prelude.{◌≡◌, ◌++◌, map, IfOk, OnOk};
+ghost use Rattle.std.specs.Prelude.{◌≡◌, ◌++◌, map, OnOk};
 ghost use Rattle.yq_flow_scalars.specs.Tree.{children_of};
 ghost use Rattle.yq_document_nodes.specs.Nodes.{node_of};
 ghost use Rattle.yq_meaning.specs.Judgement.{Judges};
@@ -31,7 +31,8 @@ fn push_missing<'a, 't>(
 {
     match step {
         Step::Key(_) | Step::Index(_) => {
-            places.push(place.further(bump, step)?)?;
+            let front: &'a Missing<'a> = bump.try_alloc(place.missing)?;
+            places.push(place.further(front, step))?;
             Ok(())
         }
         Step::Each => Ok(()),
@@ -54,7 +55,8 @@ fn push_found<'a, 't>(
     match found {
         None => push_missing(bump, step, place, places),
         Some((to, node)) => {
-            places.push(place.child(bump, *to, node)?)?;
+            let path: &'a NodePath<'a> = bump.try_alloc(place.path)?;
+            places.push(Place::below(path, *to, node))?;
             Ok(())
         }
     }

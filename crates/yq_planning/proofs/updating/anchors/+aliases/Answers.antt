@@ -1,9 +1,13 @@
-use Rattle.std.proofs.Common.{is_some, sym, ap, ◌∙◌}
+use Rattle.std.proofs.Common.{is_some, sym, ap, ◌∙◌, arith}
+use Rattle.yq_flow_scalars.specs.Keys.{deepest}
 use Rattle.yq_flow_scalars.specs.Tree.{alias}
-use Rattle.yq_document_nodes.specs.Nodes.{node_of}
+use Rattle.yq_document_nodes.specs.Children.{left_of}
+use Rattle.yq_lines.specs.Counts.{count}
+use Rattle.yq_document_nodes.specs.Nodes.{label_of, node_of}
+use Rattle.yq_meaning.specs.Changes.{refers_to}
 use Rattle.yq_planning.specs.Indexes.{get_text}
 use Rattle.yq_planning.proofs.IndexLaws.{put_text, alias_put}
-use Rattle.yq_planning.proofs.UsedLaws.{alias_is}
+use Rattle.yq_planning.proofs.UsedLaws.{alias_is, named_more}
 use Rattle.yq_planning.proofs.updating.anchors.+aliases.Goals as goal
 
 pub put_aliases-returns-in_ok-insert-in-Alias : goal.put_aliases-returns-in_ok-insert-in-Alias
@@ -12,3 +16,14 @@ put_aliases-returns-in_ok-insert-in-Alias t c = λ k.
     let a = c.text.result.now in
     ap is_some (put_text m c.insert.new.self a _ c.in_ok-insert-in-Alias.ensures.updates k)
     ∙ alias_put a k _ (get_text k m) (node_of c.args.node.now) (alias_is (node_of c.args.node.now) (sym c.in-Alias.is ∙ c.kind.ensures) ∙ ap alias (sym c.text.ensures))
+
+pub put_aliases_below-each-preserved : goal.put_aliases_below-each-preserved
+put_aliases_below-each-preserved t c =
+    let is = c.in-Some.ensures.steps in
+    let counted = ap count is in
+    let reaches = ap deepest is in
+    record {
+      counted = omega (arith, counted);
+      deep = omega (arith, reaches);
+      so_far = λ k. named_more (refers_to k) (left_of c.each.children) (left_of c.next.new.self) (label_of c.in-Some.child) (node_of c.in-Some.child) (is_some (get_text k c.each.aliases)) _ _ is (c.in_ok-put_aliases.ensures k) (c.each.invariant.so_far k);
+    }
