@@ -13,7 +13,7 @@ pub enum Before {
 }
 
 /// The break that is written.
-#[derive(Clone, Copy)]
+#[derive(Clone, Copy, Debug)]
 pub enum Break {
     Lf,
     CrLf,

@@ -3,7 +3,7 @@
 use yq_nodes::Step;
 
 /// Where a node stands: its document, counted from 0, and the steps from the root of that document.
-#[derive(Drop)]
+#[derive(Debug, Drop)]
 pub struct Path {
     pub doc: usize,
     pub steps: Vec<Step>,

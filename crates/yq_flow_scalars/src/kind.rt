@@ -1,7 +1,7 @@
 //! The kinds of scalars.
 
 /// The kind of a scalar, by the core schema (YAML 1.2.2, section 10.3).
-#[derive(Clone, Copy, PartialEq, Eq)]
+#[derive(Clone, Copy, Debug, PartialEq, Eq)]
 pub enum Kind {
     /// `null`.
     Null,

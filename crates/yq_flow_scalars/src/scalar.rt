@@ -10,7 +10,7 @@ use std::marker::Model;
 
 /// A scalar. A kind other than [`Kind::Text`] is what the core schema gives of the text, and the
 /// text of null is `null` (YAML 1.2.2, section 10.3.2).
-#[derive(Drop)]
+#[derive(Debug, Drop)]
 pub struct Scalar {
     kind: Kind,
     text: String,

@@ -1,7 +1,7 @@
 //! How a scalar is written, and where.
 
 /// How a scalar is written (YAML 1.2.2, chapters 7.3 and 8.1).
-#[derive(Clone, Copy)]
+#[derive(Clone, Copy, Debug)]
 pub enum Style {
     /// Without quotes, as `text`.
     Plain,

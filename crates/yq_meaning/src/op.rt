@@ -7,7 +7,7 @@ use yq_documents::Path;
 use yq_nodes::{Step, Value};
 
 /// An operation on documents. The keys of a mapping in its value differ.
-#[derive(Drop)]
+#[derive(Debug, Drop)]
 pub enum Op {
     /// The node at the path gives way to a value. Its anchor and the comments
     /// of its entry or item stay.

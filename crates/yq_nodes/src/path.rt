@@ -9,7 +9,7 @@ use crate::inline::{Form, Inline};
 use yq_flow_scalars::Piece;
 
 /// A step of a path.
-#[derive(Drop)]
+#[derive(Debug, Drop)]
 pub enum Step {
     /// To the value of the entry with this key.
     Key(String),

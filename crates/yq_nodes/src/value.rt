@@ -3,7 +3,7 @@
 use yq_flow_scalars::Scalar;
 
 /// A value: a node without anchors and comments. The keys of a mapping differ.
-#[derive(Drop)]
+#[derive(Debug, Drop)]
 pub enum Value {
     Scalar(Scalar),
     List(Vec<Value>),

@@ -49,7 +49,7 @@ pub enum Stage {
 }
 
 /// A step of a path.
-#[derive(Drop)]
+#[derive(Debug, Drop)]
 pub enum Step {
     /// To the value of a key.
     Key(String),
