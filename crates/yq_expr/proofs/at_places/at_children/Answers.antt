@@ -62,3 +62,6 @@ returns c = λ root named within.
     let f : Place → Judgement (List Changed) = λ q. and_then (all_allowed root) (effect_at c.args.doc (room_of c.args.documents.now c.args.doc) c.args.effect q) in
     let zero : count (left_of c.children.children) ≡ 0 = omega (arith, c.children.invariant.counted, c.children-test.false) in
     children_done f p c.children.before (left_of c.children.children) (map changed_of c.children.changes.items) _ (none_counted (left_of c.children.children) zero) (c.children.invariant.so_far root named within)
+
+pub overflow_add-before : goal.overflow_add-before
+overflow_add-before c = omega (arith, c.children-test.true)
