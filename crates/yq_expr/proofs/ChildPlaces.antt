@@ -1,9 +1,9 @@
 -- What is changed at the items or values of a node, one after the other.
-use Rattle.std.proofs.Common.{◌≡◌, ℕ, suc, ◌+◌, List, ◌∷◌, map, refl, sym, ap, ◌∙◌, add-one, append-nil, arith}
+use Rattle.std.proofs.Common.{◌≡◌, ℕ, suc, ◌+◌, List, [], ◌∷◌, map, refl, sym, ap, ◌∙◌, add-one, append-nil, arith}
 use Rattle.yq_flow_scalars.specs.Tree.{Label, Node, Children, none, child}
 use Rattle.yq_matching.specs.PlaceView.{put_behind}
 use Rattle.yq_matching.proofs.EachLaws.{each_more, each_fails}
-use Rattle.yq_meaning.specs.Judgement.{MatchFails, Judgement, gives}
+use Rattle.yq_meaning.specs.Judgement.{MatchFails, Judgement, gives, refuses}
 use Rattle.yq_meaning.specs.Places.{Place, child_place, for_each, step_by, stepped}
 use Rattle.yq_meaning.specs.declared.expr_error.ExprError.{ExprError}
 
@@ -35,3 +35,8 @@ pub children_done : {B : Type 0} (f : Place → Judgement (List B)) (p : Place) 
     put_behind before (for_each f (map (child_place p) (stepped b cs))) ≡ all → all ≡ gives before
 children_done f p b cs before all is so_far =
     sym so_far ∙ (ap (λ (ds : Children). put_behind before (for_each f (map (child_place p) (stepped b ds)))) is ∙ ap gives (append-nil before))
+
+-- behind nothing comes what comes
+pub nothing_before : {B : Type 0} (j : Judgement (List B)) → put_behind [] j ≡ j
+nothing_before (gives x) = refl
+nothing_before (refuses why) = refl

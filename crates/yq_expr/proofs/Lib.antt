@@ -2,3 +2,4 @@ pub mod ChangeLaws
 pub mod AllChanges
 pub mod ChildPlaces
 pub mod SummandLaws
+mod StepLists

@@ -3,17 +3,17 @@ use Rattle.std.proofs.lemmas.Result.{err_from_is_err_and}
 use Rattle.yq_document_nodes.specs.Children.{left_of}
 use Rattle.yq_document_nodes.specs.Nodes.{label_of, node_of}
 use Rattle.yq_lines.specs.Counts.{count}
-use Rattle.yq_meaning.specs.Changes.{Changed, all_allowed}
+use Rattle.yq_meaning.specs.Changes.{Changed, all_allowed, at_each}
 use Rattle.yq_planning.specs.ChangeView.{changed_of}
 use Rattle.yq_expr.specs.EffectView.{effect_at}
 use Rattle.yq_meaning.specs.Judgement.{MatchFails, Judgement, and_then, gives}
 use Rattle.yq_matching.specs.FoundView.{node_place}
 use Rattle.yq_matching.specs.PlaceView.{path_of, put_behind}
 use Rattle.yq_meaning.specs.PlacesApart.{AreIn, IsIn}
-use Rattle.yq_meaning.specs.Places.{Place}
+use Rattle.yq_meaning.specs.Places.{Place, child_place, stepped}
 use Rattle.yq_meaning.specs.Rooms.{room_of}
 use Rattle.yq_matching.specs.TreeScalars.{HasScalars, HaveScalars}
-use Rattle.yq_expr.proofs.ChildPlaces.{first_child, child_more, child_fails, children_done}
+use Rattle.yq_expr.proofs.ChildPlaces.{nothing_before, first_child, child_more, child_fails, children_done}
 use Rattle.yq_matching.proofs.EachLaws.{failed}
 use Rattle.yq_matching.proofs.PlaceLaws.{none_counted}
 use Rattle.yq_expr.proofs.at_places.at_children.Goals as goal
@@ -65,3 +65,24 @@ returns c = λ root named within.
 
 pub overflow_add-before : goal.overflow_add-before
 overflow_add-before c = omega (arith, c.children-test.true)
+
+pub children-init : goal.children-init
+children-init c =
+    let p : Place = node_place (path_of c.args.parent.now.path) (node_of c.args.parent.now.node) in
+    let all = c.children-children.ensures in
+    record {
+      same = c.cut-cut.ensures;
+      counted = let counted = ap count all ∙ sym c.count-count.ensures in omega (arith, counted);
+      scalars = subst (λ cs. HaveScalars (map (child_place p) (stepped 0 cs))) (sym all) c.requires;
+      within = λ root within. subst (λ cs. AreIn root (map (child_place p) (stepped 0 cs))) (sym all) within;
+      so_far = λ root named within.
+          ap (λ l. put_behind (map changed_of l) (at_each root (effect_at c.args.doc (room_of c.args.documents.now c.args.doc) c.args.effect) (map (child_place p) (stepped 0 (left_of c.children-children.result))))) c.in_ok-changes.ensures.items
+          ∙ nothing_before _
+          ∙ ap (λ cs. at_each root (effect_at c.args.doc (room_of c.args.documents.now c.args.doc) c.args.effect) (map (child_place p) (stepped 0 cs))) all;
+    }
+
+pub returns-in_default : goal.returns-in_default
+returns-in_default c = λ root named within.
+    let p : Place = node_place (path_of c.args.parent.now.path) (node_of c.args.parent.now.node) in
+    let f : Place → Judgement (List Changed) = λ q. and_then (all_allowed root) (effect_at c.args.doc (room_of c.args.documents.now c.args.doc) c.args.effect q) in
+    children_done f p c.children.before (left_of c.children.children) (map changed_of c.children.changes.items) _ c.in_default.ensures.steps.0 (c.children.invariant.so_far root named within)
