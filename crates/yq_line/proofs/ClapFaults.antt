@@ -1,6 +1,7 @@
 -- Words at which no step of clap's reading fails are words that clap takes.
 use Rattle.std.proofs.Common.{◌≡◌, ◌∙◌, ◌&&◌, ◌||◌, ◌==◌, not, subst, Result, Ok, Err, IfOk, ℕ, zero, suc, Bool, true, false, cond, List, [], ◌∷◌, length, drop, Option, Some, None, is_some, if◌then◌else◌, refl, ap, find, encode_utf8, slice_get, nat_le, nat_lt, min, ◌+◌, arith}
-use Rattle.std.proofs.lemmas.Bool.{and_from}
+use Rattle.std.proofs.lemmas.Bool.{and_from, and_parts}
+use Rattle.std.proofs.lemmas.Result.{IfOk-weaker}
 use Rattle.std.specs.List.{list_all, list_any}
 use Rattle.std.specs.Option.{option_map_or}
 use Rattle.std.specs.Str.{bytes_eq, chars}
@@ -10,7 +11,7 @@ use Rattle.clap.specs.Facts.{explicit_source, parser_of_value, unwrap_or_range}
 use Rattle.clap.specs.Faults as fault
 use Rattle.clap.specs.Kinds.{FailsBy, Kinds, or_else, range_kinds, value_kinds}
 use Rattle.clap.specs.Matches.{count_text}
-use Rattle.clap.specs.Simple.{App, Shape, argument_words, built, entered, label_of, names_of}
+use Rattle.clap.specs.Simple.{App, HasMatchesOf, Shape, argument_words, built, entered, is_simple, label_of, names_of, subcommand_of, subcommand_rows_of}
 use Rattle.clap.specs.Takes as pass
 use Rattle.clap.specs.Faults.{fault_of, is_simple_and_free}
 use Rattle.clap.specs.Takes.{takes}
@@ -19,6 +20,7 @@ use Rattle.clap.specs.Walk.{Held, Names, Row, Rule, Step, value, next, trailing,
 use Rattle.clap.specs.declared.builder.action.ArgAction.{ArgAction}
 use Rattle.clap.specs.declared.builder.action.ArgAction.TheVariants.{Set, Append, SetTrue, SetFalse, Count, Help, HelpShort, HelpLong, Version}
 use Rattle.clap.specs.declared.error.Error.{Error}
+use Rattle.clap.specs.declared.parser.matches.ArgMatches.{ArgMatches}
 use Rattle.clap.specs.declared.error.kind.ErrorKind.{ErrorKind}
 use Rattle.clap.proofs.OnLiterals.{clap_on_literals}
 use Rattle.clap.proofs.WalkLemmas.{both}
@@ -298,3 +300,9 @@ module _ {T : Type 0} (answer : Result T Error) (app : App) (words : List Text) 
     go : (r : Result T Error) → FailsBy (fault_of yq words) r → IfOk r (λ m. takes yq words ≡ true)
     go (Ok m) none = taken_where_none_fails words none
     go (Err e) kinds = tt
+
+-- what clap finds in the words, by the command line
+pub matched_rows : (answer : Result ArgMatches Error) (app : App) (words : List Text) → app ≡ yq → IfOk answer (HasMatchesOf app words) →
+    IfOk answer (λ m. subcommand_rows_of m ≡ subcommand_of yq words)
+matched_rows answer app words is =
+    IfOk-weaker answer _ _ (λ m h. (h (ap is_simple is ∙ (and_parts _ _ yq_free).0)).1 ∙ ap (λ a. subcommand_of a words) is)

@@ -3,4 +3,5 @@ pub mod ClapFaults
 pub mod ClapLevel
 pub mod ClapWalk
 pub mod Counts
+pub mod AskedLaws
 pub mod LineLaws

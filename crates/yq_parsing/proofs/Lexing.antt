@@ -1,5 +1,5 @@
 -- Where tokens end, and that the tokens of a text are those in front and those of what follows.
-use Rattle.std.proofs.Common.{◌≡◌, ◌⊎◌, ℕ, suc, ◌+◌, ◌<◌, ◌≤◌, Bool, true, false, cond, ◌&&◌, ◌||◌, ◌==◌, List, [], ◌∷◌, length, take, drop, get_or, Option, Some, None, is_some, refl, ap, subst, inl, inr, arith, add-one, eqb-true, length-drop, rules}
+use Rattle.std.proofs.Common.{◌≡◌, ◌⊎◌, ℕ, suc, ◌+◌, ◌<◌, ◌≤◌, Bool, true, false, cond, ◌&&◌, ◌||◌, ◌==◌, List, [], ◌∷◌, length, take, drop, get_or, Option, Some, None, is_some, refl, sym, ap, ◌∙◌, subst, inl, inr, arith, add-one, eqb-true, length-drop, rules}
 use Rattle.std.proofs.lemmas.Bool.{and_parts, cases_Bool}
 use Rattle.std.proofs.lemmas.List.{get_or-drop}
 use Rattle.std.proofs.lemmas.List.Sums.{prefix_len_passes, prefix_len-le-length}
@@ -216,3 +216,6 @@ enough _ _ t h k = absurd (omega arith)
 pub tokens_next : (t : List ℕ) → tokens t ≡ ahead tokens (next t)
 unfolding tokens tokens_in
 tokens_next t = search (rules, ahead_same, next_shorter, enough)
+
+pub tokens_some : (t : List ℕ) (x : Token × List ℕ) → Some x ≡ next t → tokens t ≡ x.0 ∷ tokens x.1
+tokens_some t x h = tokens_next t ∙ ap (ahead tokens) (sym h)

@@ -11,6 +11,7 @@ pub mod PathTakes
 pub mod PipeAgain
 pub mod PipeTakes
 pub mod ProgramAgain
+pub mod ReadSteps
 pub mod Readers
 pub mod RunLaws
 pub mod TextTokens
@@ -19,3 +20,6 @@ pub mod TokenTakes
 pub mod LoopSteps
 pub mod UpdateAgain
 pub mod UpdateTakes
+pub mod Closings
+pub mod Fronts
+pub mod Surveys

@@ -124,7 +124,13 @@ too_deep : (ts : List Token) (n : ℕ) → DeepFrom 0 0 ts n → IsTooDeep ts
 too_deep ts n d = (n, omega arith)
 
 pub survey_refuses : (text : List ℕ) → surveyed false 0 0 (tokens text) ≡ Some true → ExprRefused error.NotInProfile text
-survey_refuses text h = search (rules, refused_in, tokens_take, all_read, too_deep)
+survey_refuses text h = (tokens text, tokens_take text (all_read (tokens text) false 0 0 true h), found)
+  where
+    found : HasForeign (tokens text) ⊎ IsTooDeep (tokens text)
+    found = elim (refused_in (tokens text) false 0 0 h) [
+      | inl before ↦ absurd (false≢true before)
+      | inr later ↦ elim later [ inl foreign_is ↦ inl foreign_is | inr deep ↦ inr (too_deep (tokens text) deep.0 deep.1) ]
+    ]
 
 pub survey_fails : (text : List ℕ) → surveyed false 0 0 (tokens text) ≡ None → (ts : List Token) → AreTokens ts text → ⊥
 survey_fails text h ts are = unread_in (tokens text) false 0 0 h (let read = tokens_again ts text are in subst AreRead (sym read.0) read.1)
@@ -142,7 +148,9 @@ pub surveys : (ts : List Token) → AreRead ts → (HasForeign ts → ⊥) → (
 surveys ts h1 h2 h3 o h4 = search (rules, unread_in, refused_in, too_deep)
 
 pub derives_again : (text : List ℕ) (p : Program) → Derives text p → (surveyed false 0 0 (tokens text) ≡ Some false) × (program_at literal_depth (tokens text) ≡ Some p)
-derives_again text p h = search (rules, tokens_again, surveys, program_again)
+derives_again text p h =
+    let again = tokens_again h.0 text h.1 in
+    rw again.0 (surveys h.0 again.1 h.2 h.3 (surveyed false 0 0 h.0) refl, program_again p h.0 h.4)
 
 pub one_of : (text : List ℕ) (p q : Program) → Derives text p → Derives text q → p ≡ q
 one_of text p q h k = let a = (derives_again text p h).1 in let b = (derives_again text q k).1 in let e : Some p ≡ Some q = sym a ∙ b in cc

@@ -65,19 +65,25 @@ pub digit_first_in : (b : ℕ) (bs : List ℕ) → is_ascii_digit b ≡ true →
 unfolding measure
 digit_first_in b bs h = let no = digit_first b h in rw (no.0, no.1, no.2, h) refl
 
-pub word_again : (t : Token) (piece rest : List ℕ) → IsBareName piece rest → t ≡ cond (is_word piece) (symbol piece) foreign → Measures t piece rest
-unfolding measure
-word_again t [] rest h is = cc
-word_again t (b ∷ w) rest h is =
-    let no = name_first b h.0 in
-    let len : prefix_len is_name_byte ((b ∷ w) ++ rest) ≡ suc (length w) = run_len is_name_byte (b ∷ w) rest h.1 h.2 in
-    let cut : take (suc (length w)) ((b ∷ w) ++ rest) ≡ b ∷ w = take-append_seam (b ∷ w) rest in
-    let m : measure ((b ∷ w) ++ rest) ≡ Some (cond (is_word (b ∷ w)) form.Symbol form.Foreign, length (b ∷ w)) = search (rules, name_first_in, len, cut) in
-    (cond (is_word (b ∷ w)) form.Symbol form.Foreign, m, form_word (is_word (b ∷ w)) (b ∷ w) ∙ sym is)
+named_of : (t word : List ℕ) (n : ℕ) → prefix_len is_name_byte t ≡ n → take n t ≡ word → named t ≡ Some (cond (is_word word) form.Symbol form.Foreign, n)
+named_of t word n len cut = rw (len, cut) refl
+
+word_measured : (t : Token) (piece rest : List ℕ) → measure (piece ++ rest) ≡ Some (cond (is_word piece) form.Symbol form.Foreign, length piece)
+    → t ≡ cond (is_word piece) (symbol piece) foreign → Measures t piece rest
+word_measured t piece rest m is = (cond (is_word piece) form.Symbol form.Foreign, m, form_word (is_word piece) piece ∙ sym is)
   where
     form_word : (c : Bool) (w : List ℕ) → token_of (cond c form.Symbol form.Foreign) w ≡ cond c (symbol w) foreign
     form_word true w = refl
     form_word false w = refl
+
+named_front : (piece rest : List ℕ) → front begins_name piece ≡ true → measure (piece ++ rest) ≡ named (piece ++ rest)
+named_front [] rest h = absurd (false≢true h)
+named_front (b ∷ w) rest h = name_first_in b (w ++ rest) h
+
+pub word_again : (t : Token) (piece rest : List ℕ) → IsBareName piece rest → t ≡ cond (is_word piece) (symbol piece) foreign → Measures t piece rest
+word_again t piece rest h is =
+    word_measured t piece rest
+    (named_front piece rest h.0 ∙ named_of (piece ++ rest) piece (length piece) (run_len is_name_byte piece rest h.1 h.2) (take-append_seam piece rest)) is
 
 pub no_fraction : (rest : List ℕ) → begins_fraction rest ≡ false → fraction_len rest ≡ 0
 no_fraction [] h = refl

@@ -1,1 +1,3 @@
+mod Colons
+mod Columns
 pub mod MeasuredSlicing

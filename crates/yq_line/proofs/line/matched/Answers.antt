@@ -1,7 +1,7 @@
 use Rattle.std.proofs.Common.{ap, map, ◌∙◌}
 use Rattle.std.proofs.lemmas.Result.{IfErr-weaker}
 use Rattle.clap.specs.Words.{takes}
-use Rattle.yq_line.proofs.ClapFaults.{matched_kinds, matched_taken}
+use Rattle.yq_line.proofs.ClapFaults.{matched_kinds, matched_rows, matched_taken}
 use Rattle.yq_line.proofs.line.matched.Goals as goal
 
 pub returns-clause-passes : goal.returns-clause-passes
@@ -13,3 +13,6 @@ returns-clause-taken c = matched_taken c.try_get_matches_from.result _ (map (λ 
 
 pub returns-clause-kinds : goal.returns-clause-kinds
 returns-clause-kinds c = matched_kinds c.try_get_matches_from.result _ (map (λ w. w.now) c.args.words.now) c.in_ok-line.ensures.app c.try_get_matches_from.ensures.kinds
+
+pub returns-clause-ok : goal.returns-clause-ok
+returns-clause-ok c = matched_rows c.try_get_matches_from.result _ (map (λ w. w.now) c.args.words.now) c.in_ok-line.ensures.app c.try_get_matches_from.ensures.matches

@@ -1,4 +1,4 @@
-use Rattle.std.proofs.Common.{rules, w64}
+use Rattle.std.proofs.Common.{arith, rules, w64}
 use Rattle.std.proofs.lemmas.Int.{to_z-of_z}
 use Rattle.std.proofs.lemmas.Str.{IsCharBoundary-start}
 use Rattle.yq_block_scalars.proofs.BlockFound.{block_of_text}
@@ -30,3 +30,13 @@ pub returns-clause-read : goal.returns-clause-read
 returns-clause-read c =
     block_some c.args.parent c.args.space.now c.args.text.now _ _ _ _ _ _ _ _ _ c.in-Ok.piece c.split_apart.ensures c.if-anchor-eq1.false (rw (to_z-of_z w64 c.args.parent c.ranges.parent) at c.in-Ok.ensures.exact)
     c.split_at.ensures.front c.split_at.ensures.back c.split_at-2.ensures.front c.split_at-2.ensures.back c.split_at-3.ensures.front c.split_at-3.ensures.back
+
+pub overflow_sub-piece : goal.overflow_sub-piece
+overflow_sub-piece c =
+    let read = block_read c.args.parent c.split_apart.result.2.now c.in-Ok.piece (rw (to_z-of_z w64 c.args.parent c.ranges.parent) at c.in-Ok.ensures.exact) in
+    omega (arith, read.head_end, read.raw_start)
+
+pub overflow_sub-piece-2 : goal.overflow_sub-piece-2
+overflow_sub-piece-2 c =
+    let read = block_read c.args.parent c.split_apart.result.2.now c.in-Ok.piece (rw (to_z-of_z w64 c.args.parent c.ranges.parent) at c.in-Ok.ensures.exact) in
+    omega (arith, read.raw_start, read.end)

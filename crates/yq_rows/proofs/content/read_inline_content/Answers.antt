@@ -5,6 +5,7 @@ use Rattle.yq_flow_scalars.specs.Text.{is_empty}
 use Rattle.yq_cut.proofs.InlineSlicing.{lead_here, head_within, head_boundary, inline_some, inline_no_tail}
 use Rattle.yq_rows.proofs.MeasuredSlicing.{known, none_known}
 use Rattle.yq_rows.proofs.content.read_inline_content.Goals as goal
+use Rattle.yq_rows.proofs.content.read_inline_content.Goals.{in-Some-no_further_line, in-None-no_further_line}
 
 pub returns-in-Err-clause-read : goal.returns-in-Err-clause-read
 returns-in-Err-clause-read c =
@@ -40,3 +41,15 @@ returns-after-no_further_line-clause-read c =
     let spaces : c.further_spaces-spaces.result ≡ Some (deeper c.args.parent) = rw (to_z-of_z w64 c.args.parent c.ranges.parent) at c.further_spaces-spaces.ensures in
     let k = known c.args.parent c.further_spaces-spaces.result c.args.text.now c.in-Ok.node.rest.now c.in-Ok.node.anchored c.in-Ok.node.kind spaces c.in-Ok.ensures.read in
     inline_no_tail c.args.parent c.args.space.now c.args.text.now c.in-Ok.node.rest.now k.node k.read (sym c.in-None.ensures)
+
+pub fault-requires : goal.fault-requires
+fault-requires c = c.in-Some-no_further_line.ensures
+
+pub fault-requires-in-None-no_further_line : goal.fault-requires-in-None-no_further_line
+fault-requires-in-None-no_further_line c = c.no_tail.ensures
+
+pub returns-after-no_further_line-clause-fault : goal.returns-after-no_further_line-clause-fault
+returns-after-no_further_line-clause-fault c = elim c.match-no_further_line.branch [
+  | in-Some-no_further_line w ↦ rw w.result-is w.fault.ensures
+  | in-None-no_further_line w ↦ rw w.result-is w.fault-in-None-no_further_line.ensures
+]

@@ -1,8 +1,10 @@
-use Rattle.std.proofs.Common.{◌≡◌, ◌-◌, length, take, rules, sym, ap, ◌∙◌, true, false, arith}
-use Rattle.yq_cut.specs.Reading.{is_dash}
+use Rattle.std.proofs.Common.{◌≡◌, ◌-◌, length, take, rules, refl, sym, ap, ◌∙◌, true, false, arith}
+use Rattle.yq_cut.specs.Reading.{is_dash, marks_at}
+use Rattle.yq_cut.specs.Slicing.{begun}
 use Rattle.yq_cut.proofs.BeginSteps.{dash_further, dash_boundary, dash_last, no_dash, mark_within}
 use Rattle.yq_cut.proofs.DashSteps.{dash_goes, none_goes, key_goes, dash_keyed}
 use Rattle.yq_cut.proofs.FrontLaws.{front_join, front_boundary}
+use Rattle.yq_rows.proofs.Columns.{behind_dash, front_none}
 use Rattle.yq_rows.proofs.marks.read_begin.Goals as goal
 
 pub split_at-requires-in-Some : goal.split_at-requires-in-Some
@@ -60,3 +62,22 @@ returns-clause-read c =
 
 pub returns-clause-shorter : goal.returns-clause-shorter
 returns-clause-shorter c = omega (arith, mark_within c.dashes.rest.now c.read_mark.result.1.now _ c.read_mark.ensures, c.dashes.invariant.short)
+
+pub overflow_sub-text : goal.overflow_sub-text
+overflow_sub-text c = omega (arith, behind_dash c.dashes.rest.now c.split_at.result.1.now c.split_spaces.result.0.now c.split_spaces.result.1.now c.split_at.ensures.back_len c.split_spaces.ensures, c.dashes.invariant.short)
+
+pub overflow_sub-result : goal.overflow_sub-result
+overflow_sub-result c = omega (arith, behind_dash c.dashes.rest.now c.split_at.result.1.now c.split_spaces.result.0.now c.split_spaces.result.1.now c.split_at.ensures.back_len c.split_spaces.ensures, c.dashes.invariant.short)
+
+pub dashes-smaller : goal.dashes-smaller
+dashes-smaller c = behind_dash c.dashes.rest.now c.split_at.result.1.now c.split_spaces.result.0.now c.split_spaces.result.1.now c.split_at.ensures.back_len c.split_spaces.ensures
+
+pub dashes-init : goal.dashes-init
+dashes-init c =
+    let none : length c.args.text.now - length c.args.text.now ≡ 0 = omega arith in
+    record {
+      text = c.utf8.text;
+      short = omega arith;
+      stands = rw none refl;
+      so_far = rw none (front_none (begun (marks_at c.args.text.now)));
+    }

@@ -1,4 +1,4 @@
-use Rattle.std.proofs.Common.{◌≡◌, SFits, Some, ap, length, rules, sym, w64, ◌+◌, ◌∙◌}
+use Rattle.std.proofs.Common.{◌≡◌, SFits, Some, ap, arith, length, rules, sym, w64, ◌+◌, ◌∙◌}
 use Rattle.std.proofs.lemmas.Int.{to_z-of_z}
 use Rattle.yq_cut.specs.Grammar.{Limit}
 use Rattle.yq_cut.specs.Slicing.{limit_by}
@@ -9,6 +9,7 @@ use Rattle.yq_cut.specs.View.{Slices}
 use Rattle.yq_rows.specs.ReadPieces.{limit_view}
 use Rattle.yq_cut.proofs.Failing.{fails_by}
 use Rattle.yq_cut.proofs.RowSlicing.{row_as}
+use Rattle.yq_rows.proofs.Columns.{column_small}
 use Rattle.yq_rows.proofs.reading.read_row.Goals as goal
 
 pub returns-in-Err-clause-read : goal.returns-in-Err-clause-read
@@ -35,3 +36,15 @@ returns-clause-read c =
 
 pub returns-clause-place : goal.returns-clause-place
 returns-clause-place c = c.offsets_of-place.ensures.place ∙ ap (offsets_of _) (sym c.offsets_of-place.ensures.same)
+
+pub read_marked-requires : goal.read_marked-requires
+read_marked-requires c = record { columns = column_small c.args.text.now c.split_spaces.result.0.now c.split_spaces.result.1.now c.args.whole.now c.read_begin-begin.result.columns c.split_spaces.ensures c.read_begin-begin.ensures.within c.requires.short c.requires.small }
+
+pub overflow_add-column : goal.overflow_add-column
+overflow_add-column c = omega (arith, column_small c.args.text.now c.split_spaces.result.0.now c.split_spaces.result.1.now c.args.whole.now c.read_begin-begin.result.columns c.split_spaces.ensures c.read_begin-begin.ensures.within c.requires.short c.requires.small)
+
+pub parent_of-parent-requires : goal.parent_of-parent-requires
+parent_of-parent-requires c = omega (arith, column_small c.args.text.now c.split_spaces.result.0.now c.split_spaces.result.1.now c.args.whole.now c.read_begin-begin.result.columns c.split_spaces.ensures c.read_begin-begin.ensures.within c.requires.short c.requires.small)
+
+pub returns-clause-stands : goal.returns-clause-stands
+returns-clause-stands c = c.offsets_of-place.ensures.stands

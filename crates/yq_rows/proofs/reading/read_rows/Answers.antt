@@ -6,8 +6,12 @@ use Rattle.yq_cut.proofs.Failing.{fails_by}
 use Rattle.yq_cut.proofs.NearLaws.{rows_placed_end, rows_placed_none, rows_placed_step}
 use Rattle.yq_cut.proofs.OffsetLaws.{ends_next, row_then, rows_push}
 use Rattle.yq_cut.proofs.RowSlicing.{at_gap, gap_joined, loop_smaller, loop_step, no_row, row_joined, rows_end}
+use Rattle.yq_cut.specs.Grammar.{Limit, ends_part}
+use Rattle.yq_cut.specs.Kept.{rows_placed}
+use Rattle.yq_cut.specs.Reading.{all_rows}
+use Rattle.yq_cut.specs.Slicing.{rows_sliced}
+use Rattle.yq_rows.proofs.Columns.{ends_within}
 use Rattle.yq_rows.proofs.reading.read_rows.Goals as goal
-use Rattle.yq_cut.specs.Grammar.{ends_part}
 
 pub returns-then-ends_part-clause-found : goal.returns-then-ends_part-clause-found
 returns-then-ends_part-clause-found c =
@@ -60,3 +64,23 @@ rows-preserved c =
       so_far = loop_step (rows_in whole c.rows.rows.items) _ (limit_view c.rows.limit) (limit_view c.in-Ok.found.1) c.rows.at.now _ _ row after _ c.split_gap.ensures more c.in-Ok.ensures.read pushed c.rows.invariant.so_far;
       placed = rows_placed_step c.rows.rows.items _ c.in-Ok.found.0 whole (limit_view c.rows.limit) (limit_view c.in-Ok.found.1) c.rows.at.now _ _ row after _ c.rows.invariant.ends c.split_gap.ensures more c.in-Ok.ensures.read c.in_ok-push.ensures.items c.in-Ok.ensures.place c.rows.invariant.placed;
     }
+
+pub rows-init : goal.rows-init
+rows-init c =
+    let whole = c.args.whole.now in
+    let text = c.args.text.now in
+    let rows = c.args.rows.items in
+    record {
+      text = c.utf8.text;
+      ends = c.requires.ends;
+      stand = c.requires.stand;
+      so_far = ap (λ (l : Limit). rows_sliced (rows_in whole rows) (all_rows l text)) c.none-limit.ensures;
+      placed = ap (λ (l : Limit). rows_placed rows (length whole - length text) (all_rows l text)) c.none-limit.ensures;
+    }
+
+pub returns-then-ends_part-clause-behind : goal.returns-then-ends_part-clause-behind
+returns-then-ends_part-clause-behind c = ends_next c.args.whole.now c.rows.at.now c.split_gap.result.0.now c.split_gap.result.1.now c.rows.invariant.ends (gap_joined c.rows.at.now _ _ c.split_gap.ensures)
+
+pub read_row-requires-clause-short : goal.read_row-requires-clause-short
+read_row-requires-clause-short c =
+    ends_within c.split_gap.result.1.now c.args.whole.now (ends_next c.args.whole.now c.rows.at.now c.split_gap.result.0.now c.split_gap.result.1.now c.rows.invariant.ends (gap_joined c.rows.at.now _ _ c.split_gap.ensures))

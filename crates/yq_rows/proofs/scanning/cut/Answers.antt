@@ -1,4 +1,4 @@
-use Rattle.std.proofs.Common.{◌≡◌, ℕ, ◌+◌, List, [], ◌++◌, true, false, ◌-◌, Some, length, rules, refl, sym, subst, ap, ◌∙◌}
+use Rattle.std.proofs.Common.{◌≡◌, ℕ, ◌+◌, List, [], ◌++◌, true, false, ◌-◌, Some, length, rules, refl, sym, subst, ap, arith, ◌∙◌}
 use Rattle.std.proofs.lemmas.List.Elements.{All-push}
 use Rattle.yq_flow_scalars.specs.Text.{is_empty}
 use Rattle.yq_cut.specs.Grammar.{begins_document}
@@ -109,4 +109,17 @@ parts-preserved c =
           (record { part = part.part; read = part.read; some = some; line = c.in-Ok-read_marker.ensures.read }) c.in-Ok.ensures.placed c.parts.invariant.placed);
       ends_placed = rw is_open (ends_placed_step c.parts.ends.items _ c.end_of-in-parts.result c.args.text.now c.parts.is_open c.parts.rest.now c.in-Ok.part.2.now c.in-Ok-read_marker.line.0.now c.in-Ok-read_marker.line.1.now (length c.parts.rows.items) (length c.in-Ok.part.0.items) _
           (record { part = part.part; read = part.read; some = some; line = c.in-Ok-read_marker.ensures.read }) kept c.in_ok-push-2.ensures.items (sym (c.in-Ok.part.0.ok.0) ∙ (sym c.len-count.ensures ∙ rows)) c.parts.invariant.ends_placed);
+    }
+
+pub parts-init : goal.parts-init
+parts-init c =
+    let none : length c.args.text.now - length c.args.text.now ≡ 0 = omega arith in
+    record {
+      text = c.utf8.text;
+      ends = rw none refl;
+      stand = rw c.new-rows.ensures.items (search rules);
+      ends_stand = rw c.new-ends.ensures.items (search rules);
+      so_far = rw (c.new-rows.ensures.items, c.new-ends.ensures.items) refl;
+      placed = rw c.new-rows.ensures.items refl;
+      ends_placed = rw (c.new-rows.ensures.items, c.new-ends.ensures.items) refl;
     }

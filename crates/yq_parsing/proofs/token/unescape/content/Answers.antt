@@ -1,4 +1,6 @@
-use Rattle.std.proofs.Common.{◌≡◌, ◌++◌, ◌∙◌, ℕ, List, ap, sym, rules, string_bytes}
+use Rattle.std.proofs.Common.{◌≡◌, ◌++◌, ◌∙◌, ℕ, List, length, ap, sym, arith, rules, length-drop, string_bytes}
+use Rattle.yq_flow_scalars.specs.Text.{unless, upto}
+use Rattle.yq_parsing.specs.Lexing.{is_plain}
 use Rattle.yq_parsing.proofs.Content.{content_next, content_done}
 use Rattle.yq_parsing.proofs.token.unescape.content.Goals as goal
 
@@ -13,3 +15,7 @@ runs-preserved c =
 pub returns-in-None : goal.returns-in-None
 returns-in-None c =
     c.in_ok-push_str.ensures.bytes ∙ content_done _ _ c.runs.rest.now c.split_plain.result.0.now _ c.runs.invariant.1 c.split_plain.ensures (sym c.in-None.ensures.value)
+
+pub runs-smaller : goal.runs-smaller
+runs-smaller c =
+    omega (arith, c.in-Some.ensures.shorter, ap (λ (p : List ℕ × List ℕ). length p.1) c.split_plain.ensures, length-drop (upto (unless is_plain) c.runs.rest.now) c.runs.rest.now)

@@ -1,0 +1,95 @@
+-- What reading gives, a step at a time.
+use Rattle.std.proofs.Common.{◌≡◌, ℕ, suc, ◌-◌, ◌<◌, length, arith, List, [], ◌∷◌, ◌++◌, Bool, true, false, Option, Some, None, refl, sym, ap, ◌∙◌, subst, map, option_map}
+use Rattle.std.specs.Borrow.{Bor}
+use Rattle.std.specs.Prelude.{if◌then◌else◌, ◌==◌, is_some, codes}
+use Rattle.yq_flow_scalars.specs.Answers.{◌>>=◌}
+use Rattle.yq_flow_scalars.specs.Tree as tree
+use Rattle.yq_nodes.specs.Values.{items}
+use Rattle.yq_parsing.specs.declared.error.ParseError.{ParseError}
+use Rattle.yq_parsing.specs.declared.error.ParseError.TheVariants as error
+use Rattle.yq_program.specs.Program.{Step}
+use Rattle.yq_program.specs.Tokens.{Token}
+use Rattle.yq_parsing.specs.ReadAnswers.{ParseFails, with_tokens}
+use Rattle.yq_parsing.specs.Lexing.{tokens, after}
+use Rattle.yq_parsing.specs.Parse.{Parse, either, with_front, many, behind_at, parted_at, listed_at, field_at, literal_at, scalar_node_at, mapping_of, path_of}
+use Rattle.yq_parsing.proofs.Readers.{Lessens}
+use Rattle.yq_parsing.proofs.LoopSteps.{onto, step_more}
+
+-- a step gave something, and so does the next one
+pub bind_gives : {A B : Type 0} (f : A → Option B) (o : Option A) (x : A) (z : Option B) → o ≡ Some x → f x ≡ z → (o >>= f) ≡ z
+bind_gives f o x z e h = ap (λ o. o >>= f) e ∙ h
+
+pub bind_none : {A B : Type 0} (f : A → Option B) (o : Option A) → o ≡ None → (o >>= f) ≡ None
+bind_none f o e = ap (λ o. o >>= f) e
+
+pub either_some : {A B : Type 0} (f : A → B) (y : B) (o : Option A) (x : A) (z : B) → o ≡ Some x → f x ≡ z → either o f y ≡ z
+either_some f y o x z e h = ap (λ o. either o f y) e ∙ h
+
+pub either_none : {A B : Type 0} (f : A → B) (y : B) (o : Option A) (z : B) → o ≡ None → y ≡ z → either o f y ≡ z
+either_none f y o z e h = ap (λ o. either o f y) e ∙ h
+
+-- a step failed, and so does what follows it
+pub bind_fails : {A B : Type 0} (f : A → Option B) (o : Option A) (e : ParseError) → ParseFails e o → ParseFails e (o >>= f)
+bind_fails f o error.Syntax h = ap (λ o. o >>= f) h
+bind_fails f o error.Memory h = tt
+bind_fails f o _ h = h
+
+-- what fails is the same
+pub fails_as : {A : Type 0} (e : ParseError) (o z : Option A) → o ≡ z → ParseFails e z → ParseFails e o
+fails_as e o z is h = subst (ParseFails e) (sym is) h
+
+-- ---- forms one after the other, from the first one on
+
+pub onto_nothing : {A : Type 0} (o : Option (List A × List Token)) → onto [] o ≡ o
+onto_nothing None = refl
+onto_nothing (Some y) = refl
+
+onto_first : {A : Type 0} (x : A) (o : Option (List A × List Token)) → onto (x ∷ []) o ≡ with_front x o
+onto_first x None = refl
+onto_first x (Some y) = refl
+
+pub parted_first : {X Y : Type 0} (v : X → Y) (s : List ℕ) (form : Parse Y) (ts rest : List Token) (x : X) (xs : List X)
+    → form ts ≡ Some (v x, rest) → xs ≡ x ∷ [] → onto (map v xs) (many (behind_at s form) rest) ≡ parted_at s form ts
+parted_first v s form ts rest x xs e is =
+    ap (λ l. onto (map v l) (many (behind_at s form) rest)) is ∙ onto_first (v x) (many (behind_at s form) rest)
+    ∙ sym (ap (λ o. o >>= λ y. with_front y.0 (many (behind_at s form) y.1)) e)
+
+-- a test that doesn't hold
+pub test_fails : {A : Type 0} (b : Bool) (x y z : A) → b ≡ false → y ≡ z → (if b then x else y) ≡ z
+test_fails b x y z e h = ap (λ b. if b then x else y) e ∙ h
+
+pub test_holds : {A : Type 0} (b : Bool) (x y z : A) → b ≡ true → x ≡ z → (if b then x else y) ≡ z
+test_holds b x y z e h = ap (λ b. if b then x else y) e ∙ h
+
+-- a loop that keeps the form it read
+pub step_pushed : {X Y : Type 0} (v : X → Y) (next : List Token → Option (Option (Y × List Token))) → Lessens next → (xs : List X) (rest : List ℕ) (w : Option (List Y × List Token))
+    → onto (map v xs) (many next (tokens rest)) ≡ w → (o : Option (X × Bor (List ℕ))) → next (tokens rest) ≡ Some (option_map (with_tokens v) o)
+    → (x : X) (b : Bor (List ℕ)) → o ≡ Some (x, b) → (ys : List X) → ys ≡ xs ++ x ∷ [] → onto (map v ys) (many next (tokens b.now)) ≡ w
+step_pushed v next less xs rest w h o e x b is ys pushed =
+    ap (λ l. onto (map v l) (many next (tokens b.now))) pushed ∙ step_more v next less xs rest w h o e x b is
+
+-- a literal that may hold others
+deeper_at : (depth d : ℕ) (ts : List Token) → depth ≡ suc d
+    → literal_at depth ts ≡ either (after (codes "[") ts) (λ r. listed_at (codes "]") (literal_at d) r >>= λ x. Some (tree.list None (items x.0), x.1))
+    (either (after (codes "{") ts) (λ r. listed_at (codes "}") (field_at (literal_at d)) r >>= mapping_of) (scalar_node_at ts))
+unfolding literal_at
+deeper_at depth d ts is = ap (λ n. literal_at n ts) is
+
+pub deeper : (depth : ℕ) (ts : List Token) → 0 < depth
+    → literal_at depth ts ≡ either (after (codes "[") ts) (λ r. listed_at (codes "]") (literal_at (depth - 1)) r >>= λ x. Some (tree.list None (items x.0), x.1))
+    (either (after (codes "{") ts) (λ r. listed_at (codes "}") (field_at (literal_at (depth - 1))) r >>= mapping_of) (scalar_node_at ts))
+deeper depth ts h = deeper_at depth (depth - 1) ts (omega arith)
+
+-- ---- paths
+
+pub seen_as : {X Y : Type 0} (f : X → Y) (o : Option X) (b : Bool) → is_some o ≡ b → is_some (option_map f o) ≡ b
+seen_as f None b h = h
+seen_as f (Some x) b h = h
+
+pub path_plain : {X : Type 0} (v : X → Step) (xs : List X) (ts : List Token) → (length xs == 0) ≡ false → path_of (map v xs, ts) ≡ Some (map v xs, ts)
+path_plain v [] ts h = cc
+path_plain v (x ∷ xs) ts h = refl
+
+pub path_dot : {X : Type 0} (v : X → Step) (xs : List X) (ts r : List Token) → length xs ≡ 0 → after (codes ".") ts ≡ Some r → path_of (map v xs, ts) ≡ Some (map v xs, r)
+path_dot v [] ts r h e = ap (λ o. o >>= λ r. Some ([], r)) e
+path_dot v (x ∷ xs) ts r h e = absurd (omega (arith, h))

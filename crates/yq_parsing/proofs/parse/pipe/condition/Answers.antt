@@ -1,0 +1,18 @@
+use Rattle.std.proofs.Common.{arith, sym, refl}
+use Rattle.yq_parsing.proofs.ReadSteps.{bind_gives, either_some, either_none}
+use Rattle.yq_parsing.specs.Parse.{condition_at}
+use Rattle.yq_parsing.proofs.parse.pipe.condition.Goals as goal
+
+pub returns-clause-value : goal.returns-clause-value
+unfolding condition_at
+returns-clause-value c = either_none _ _ _ _ (sym c.in_default.ensures.value) (bind_gives _ _ _ _ c.in_ok-operand.ensures.value (bind_gives _ _ _ _ c.in_ok-equal.ensures.value (bind_gives _ _ _ _ c.in_ok-scalar.ensures.value refl)))
+
+pub returns-in-Some-clause-value : goal.returns-in-Some-clause-value
+unfolding condition_at
+returns-in-Some-clause-value c = either_some _ _ _ _ _ (sym c.in-Some.ensures.value) (bind_gives _ _ _ _ (bind_gives _ _ _ _ c.in_ok-rest.ensures.value (bind_gives _ _ _ _ c.in_ok-key.ensures.value (bind_gives _ _ _ _ c.in_ok-rest-2.ensures.value refl))) refl)
+
+pub returns-clause-shorter : goal.returns-clause-shorter
+returns-clause-shorter c = omega (arith, c.in_ok-scalar.ensures.shorter, c.in_ok-equal.ensures.shorter, c.in_ok-operand.ensures.shorter)
+
+pub returns-in-Some-clause-shorter : goal.returns-in-Some-clause-shorter
+returns-in-Some-clause-shorter c = omega (arith, c.in_ok-rest-2.ensures.shorter, c.in_ok-key.ensures.shorter, c.in_ok-rest.ensures.shorter, c.in-Some.ensures.shorter)

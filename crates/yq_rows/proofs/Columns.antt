@@ -1,0 +1,28 @@
+-- How long what the readers cut off is: no longer than the text.
+use Rattle.std.proofs.Common.{◌≡◌, ℕ, ◌+◌, ◌-◌, ◌<◌, ◌≤◌, List, ◌++◌, [], length, sym, ap, ◌∙◌, arith, length-append, length-drop}
+use Rattle.yq_flow_scalars.specs.Text.{cut, no_space}
+use Rattle.yq_flow_scalars.proofs.Upto.{cut_takes}
+use Rattle.yq_cut.specs.Offsets.{Ends}
+use Rattle.yq_cut.specs.Slicing.{Begun, behind_front}
+
+-- the spaces in front and what follows are the text
+spaces_length : (t s rest : List ℕ) → (s, rest) ≡ cut no_space t → length t ≡ length s + length rest
+spaces_length t s rest e = ap length (cut_takes no_space t ∙ ap (λ (y : List ℕ × List ℕ). y.0 ++ y.1) (sym e)) ∙ length-append s rest
+
+-- the column of a mark behind spaces
+pub column_small : (t s rest whole : List ℕ) (columns : ℕ) → (s, rest) ≡ cut no_space t → columns ≤ length rest → length t ≤ length whole → length whole < 4294967296 → length s + columns < 4294967296
+column_small t s rest whole columns e within short small = omega (arith, spaces_length t s rest e, within, short, small)
+
+-- what follows the dash in front and the spaces behind it
+pub behind_dash : (t behind s next : List ℕ) → length behind + 1 ≡ length t → (s, next) ≡ cut no_space behind → length next < length t
+behind_dash t behind s next one e = omega (arith, one, spaces_length behind s next e)
+
+pub ends_within : (t whole : List ℕ) → Ends t whole → length t ≤ length whole
+ends_within t whole h =
+    let is : length t ≡ length whole - (length whole - length t) = ap length (sym h) ∙ length-drop (length whole - length t) whole in
+    omega (arith, is)
+
+pub front_none : (b : Begun) → behind_front [] b ≡ b
+front_none b =
+    let none : 0 + b.columns ≡ b.columns = omega arith in
+    ap (λ (k : ℕ). record { dashes = b.dashes; columns = k; mark = b.mark; rest = b.rest }) none
