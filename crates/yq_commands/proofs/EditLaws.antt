@@ -15,11 +15,11 @@ use Rattle.yq_history.specs.declared.fault.Fault.{Fault}
 use Rattle.yq_history.specs.declared.fault.Fault.TheVariants.{JournalFull}
 use Rattle.yq_history.specs.Causes.{IsFor, named}
 use Rattle.yq_store.specs.FileMap.{FileMap}
-use Rattle.yq_commands.specs.Editing.{refused, edited, edits}
+use Rattle.yq_commands.specs.Editing.{edited, edits}
 use Rattle.yq_commands.specs.Edits.{edit_record}
 use Rattle.yq_history.specs.Pair.{Arrives, PairAtRest, PairStands}
 use Rattle.yq_commands.specs.CommandSteps.{edit_cause, edit_next, update_cause, update_next}
-use Rattle.yq_history.proofs.MoveLaws.{IsMove, bytes_differ, cut, is_refused, ends, same_content, fault_outside}
+use Rattle.yq_history.proofs.MoveLaws.{IsMove, bytes_differ, is_refused, ends, same_content, fault_outside}
 
 -- the record of an edit leads to its text
 pub edit_done : (expr : List ℕ) (cs : List Splice) (t u : List ℕ) → all_done cs t ≡ Some u → done (edit_record expr cs (length t) (length u)) t ≡ Some u

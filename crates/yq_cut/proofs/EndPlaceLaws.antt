@@ -1,5 +1,5 @@
 -- Ends of parts by where they stand in a text.
-use Rattle.std.proofs.Common.{◌≡◌, ℕ, ◌-◌, List, [], ◌∷◌, ◌++◌, length, take, drop, refl, sym, ap, ◌∙◌, subst, arith, length-append}
+use Rattle.std.proofs.Common.{◌≡◌, ℕ, Fits, w32, ◌-◌, ◌<◌, ◌≤◌, ◌^◌, List, [], ◌∷◌, ◌++◌, length, take, drop, refl, sym, ap, ◌∙◌, subst, arith, length-append, length-drop}
 use Rattle.std.proofs.Math.Seq.{drop-append_seam}
 use Rattle.std.proofs.lemmas.List.{take-append-drop, take_at}
 use Rattle.std.proofs.lemmas.Str.{IsUtf8-append}
@@ -29,3 +29,26 @@ end_same whole end marker rest k h =
 
 pub start_is : (whole end marker rest : List ℕ) (n : ℕ) → n ≡ ((length whole - length rest) - length marker) - length end → n ≡ length whole - length (end ++ (marker ++ rest))
 start_is whole end marker rest n e = omega (arith, e, length-append end (marker ++ rest), length-append marker rest)
+
+-- How long the parts of the end of a text are, which a `u32` holds.
+pub record EndFits (whole end marker rest : List ℕ) : Type 0 where
+  pub rest_le : length rest ≤ length whole
+  pub marker_le : length marker ≤ length whole - length rest
+  pub end_le : length end ≤ (length whole - length rest) - length marker
+  pub marker_fits : Fits w32 (length marker)
+  pub end_fits : Fits w32 (length end)
+
+pub end_lengths : (whole end marker rest : List ℕ) → length whole < 2 ^ 32 → Ends (end ++ (marker ++ rest)) whole → EndFits whole end marker rest
+end_lengths whole end marker rest small h =
+    let all = length-append end (marker ++ rest) in
+    let behind = length-append marker rest in
+    let same = ap length h in
+    let cut = length-drop (length whole - length (end ++ (marker ++ rest))) whole in
+    let le : length (end ++ (marker ++ rest)) ≤ length whole = omega (arith, same, cut) in
+    record {
+      rest_le = omega (arith, le, all, behind);
+      marker_le = omega (arith, le, all, behind);
+      end_le = omega (arith, le, all, behind);
+      marker_fits = omega (arith, le, all, behind, small);
+      end_fits = omega (arith, le, all, behind, small);
+    }

@@ -55,6 +55,7 @@ pub mod EndPlaceLaws
 pub mod EndsNear
 pub mod HalfLaws
 pub mod KeptPlaces
+pub mod KeptReads
 pub mod PlacedLaws
 pub mod RegionEnds
 pub mod WordFronts

@@ -1,9 +1,9 @@
 -- Before a tail, what stands behind a mark is no key and no dash.
-use Rattle.std.proofs.Common.{◌≡◌, inl, inr, ℕ, suc, true, false, not, eqb, List, [], ◌∷◌, ◌++◌, drop, Option, Some, None, refl, sym, ap, rules}
+use Rattle.std.proofs.Common.{◌≡◌, inl, inr, ℕ, suc, true, false, not, eqb, List, [], ◌∷◌, ◌++◌, ◌∙◌, ◌||◌, Bool, drop, if◌then◌else◌, take, Option, Some, None, refl, sym, ap, rules}
 use Rattle.std.proofs.lemmas.Bool.{false≢true, cond_both, not-true, not-false, and_parts, cases_Bool, or_parts}
 use Rattle.std.specs.Option.{option_or}
 use Rattle.yq_flow_scalars.specs.Plain.{begins_plain, ends_plain, follows, may_follow, last_line, no_gap, plain_at}
-use Rattle.yq_flow_scalars.specs.Text.{upto, cut, NoneIn, is_white, is_break, past_white}
+use Rattle.yq_flow_scalars.specs.Text.{upto, cut, NoneIn, is_space, is_white, is_break, no_white, past_white}
 use Rattle.yq_flow_scalars.proofs.Bools.{at_byte}
 use Rattle.yq_flow_scalars.proofs.QuotedFound.{quoted_again}
 use Rattle.yq_flow_scalars.proofs.Upto.{upto_here}
@@ -42,16 +42,42 @@ or_none (Some x) h = h
 break_no_colon : (b : ℕ) (bs : List ℕ) → is_break (b ∷ bs) ≡ true → is_colon (b ∷ bs) ≡ false
 break_no_colon b bs h = rw (at_byte (λ x. is_break (x ∷ bs)) b 58 h refl) refl
 
-line_no_colon : (t l : List ℕ) → last_line (cut no_gap t).0 ≡ Some l → is_colon (past_white t) ≡ false
+-- what is cut off in front of a text that begins with white space or a break, and where it begins with neither
+cut_space : (b : ℕ) (bs : List ℕ) → is_space (b ∷ bs) ≡ true → (cut no_gap (b ∷ bs)).0 ≡ b ∷ (cut no_gap bs).0
 unfolding upto
-line_no_colon [] l h = cc
+cut_space b bs h = ap (λ (s : Bool). take (if not s then 0 else suc (upto no_gap bs)) (b ∷ bs)) h
+
+cut_none : (b : ℕ) (bs : List ℕ) → is_space (b ∷ bs) ≡ false → (cut no_gap (b ∷ bs)).0 ≡ []
+unfolding upto
+cut_none b bs h = ap (λ (s : Bool). take (if not s then 0 else suc (upto no_gap bs)) (b ∷ bs)) h
+
+past_on : (b : ℕ) (bs : List ℕ) → is_white b ≡ true → past_white (b ∷ bs) ≡ past_white bs
+unfolding upto
+past_on b bs h = ap (λ (w : Bool). drop (if not w then 0 else suc (upto no_white bs)) (b ∷ bs)) h
+
+past_here : (b : ℕ) (bs : List ℕ) → is_white b ≡ false → past_white (b ∷ bs) ≡ b ∷ bs
+unfolding upto
+past_here b bs h = ap (λ (w : Bool). drop (if not w then 0 else suc (upto no_white bs)) (b ∷ bs)) h
+
+past_end : is_colon (past_white []) ≡ false
+unfolding upto
+past_end = refl
+
+no_line : (l : List ℕ) → last_line [] ≡ Some l → ⊥
+no_line l h = cc
+
+line_no_colon : (t l : List ℕ) → last_line (cut no_gap t).0 ≡ Some l → is_colon (past_white t) ≡ false
+line_no_colon [] l h = past_end
 line_no_colon (b ∷ bs) l h = elim (cases_Bool (is_white b)) [
   | inl w ↦ (
-      let less : option_or (last_line (cut no_gap bs).0) None ≡ Some l = rw (w, at_byte is_white b 10 w refl) at h in
-      rw w (line_no_colon bs l (or_none (last_line (cut no_gap bs).0) less)))
+      let gap = (cut no_gap bs).0 in
+      let last : last_line (b ∷ gap) ≡ option_or (last_line gap) None = ap (λ (f : Bool). option_or (last_line gap) (if f then Some gap else None))
+      (at_byte is_white b 10 w refl) in
+      let less : option_or (last_line gap) None ≡ Some l = sym (ap last_line (cut_space b bs (ap (λ (x : Bool). x || is_break (b ∷ bs)) w)) ∙ last) ∙ h in
+      ap is_colon (past_on b bs w) ∙ line_no_colon bs l (or_none (last_line gap) less))
   | inr w ↦ elim (cases_Bool (is_break (b ∷ bs))) [
-    | inl e ↦ rw w (break_no_colon b bs e)
-    | inr e ↦ absurd (let none : last_line [] ≡ Some l = rw (w, e) at h in cc)
+    | inl e ↦ ap is_colon (past_here b bs w) ∙ break_no_colon b bs e
+    | inr e ↦ absurd (no_line l (sym (ap last_line (cut_none b bs (λ i. w i || e i))) ∙ h))
   ]
 ]
 

@@ -5,7 +5,7 @@ use Rattle.std.proofs.lemmas.Bool.{false≢true, or_cases, and_parts, cases_Bool
 use Rattle.std.proofs.lemmas.Str.{IsCharBoundary-after_ascii, IsUtf8-take, IsUtf8-between}
 use Rattle.std.specs.List.{slice_get}
 use Rattle.std.specs.Str.{IsUtf8, IsCharBoundary}
-use Rattle.yq_flow_scalars.specs.Text.{front, ends_line, separates}
+use Rattle.yq_flow_scalars.specs.Text.{ends_line, separates}
 use Rattle.yq_flow_scalars.proofs.Boundaries.{white_ascii}
 use Rattle.yq_flow_scalars.specs.Lines.{is_hash}
 use Rattle.yq_nodes.specs.Nodes.{Node, node_text}

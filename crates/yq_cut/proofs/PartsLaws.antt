@@ -86,6 +86,20 @@ then_cut part marker read = read >>= λ parts. Some (marked part marker parts)
 abbrev parts_by : ℕ → Part × List ℕ → Option Cut
 parts_by n part = cond (is_empty part.1) (Some (last part.0)) (marker_at part.1 >>= λ marker. then_cut part.0 marker.0 (parts_at n (begins_document marker.0) marker.1))
 
+cond_alike : {A : Type 0} (b : Bool) (x y z : A) → (b ≡ false → y ≡ z) → cond b x y ≡ cond b x z
+cond_alike true x y z h = refl
+cond_alike false x y z h = h refl
+
+-- a part and those behind its marker, read in two ways that agree there
+marked_same : (f g : List ℕ × List ℕ → Option Cut) (part : Part × List ℕ) → ends_part part.1 ≡ true
+    → ((marker : List ℕ × List ℕ) → length marker.1 < length part.1 → f marker ≡ g marker)
+    → cond (is_empty part.1) (Some (last part.0)) (marker_at part.1 >>= λ marker. then_cut part.0 marker.0 (f marker))
+    ≡ cond (is_empty part.1) (Some (last part.0)) (marker_at part.1 >>= λ marker. then_cut part.0 marker.0 (g marker))
+marked_same f g part ends h =
+    cond_alike (is_empty part.1) (Some (last part.0)) _ _ (λ some.
+    bind_same (λ marker. then_cut part.0 marker.0 (f marker)) (λ marker. then_cut part.0 marker.0 (g marker)) (marker_at part.1) (λ marker is.
+    ap (then_cut part.0 marker.0) (h marker (marker_shorter part.1 marker (ends_marker part.1 ends some) is))))
+
 marked_fuel : (n m : ℕ) (part : Part × List ℕ) → ends_part part.1 ≡ true → ((marker : List ℕ × List ℕ) → length marker.1 < length part.1 → parts_at n (begins_document marker.0) marker.1 ≡ parts_at m (begins_document marker.0) marker.1) → parts_by n part ≡ parts_by m part
 marked_fuel n m part ends h = search (rules, cases_Bool, bind_same, marker_shorter, ends_marker)
 
@@ -103,7 +117,9 @@ abbrev pub parts_behind : Part × List ℕ → Option Cut
 parts_behind part = cond (is_empty part.1) (Some (last part.0)) (marker_at part.1 >>= λ marker. then_cut part.0 marker.0 (all_parts (begins_document marker.0) marker.1))
 
 marked_all : (n : ℕ) (part : Part × List ℕ) → ends_part part.1 ≡ true → length part.1 ≤ n → parts_by n part ≡ parts_behind part
-marked_all n part ends h = search (rules, cases_Bool, bind_same, marker_shorter, ends_marker, parts_fuel)
+marked_all n part ends h =
+    marked_same (λ marker. parts_at n (begins_document marker.0) marker.1) (λ marker. all_parts (begins_document marker.0) marker.1) part ends
+    (λ marker short. parts_fuel n (suc (length marker.1)) (begins_document marker.0) marker.1 (omega (arith, short, h)) (omega arith))
 
 pub parts_step : (started : Bool) (t : List ℕ) → all_parts started t ≡ (part_at started t >>= parts_behind)
 unfolding parts_at

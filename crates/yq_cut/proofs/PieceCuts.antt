@@ -3,7 +3,8 @@ use Rattle.std.proofs.Common.{◌≡◌, ◌<◌, ◌≤◌, ℕ, zero, suc, ◌
 use Rattle.std.proofs.lemmas.List.{drop-drop}
 use Rattle.std.proofs.lemmas.Str.{IsCharBoundary-from_rest}
 use Rattle.std.specs.Str.{IsCharBoundary}
-use Rattle.yq_cut.specs.Offsets.{AreCuts, lengths}
+use Rattle.yq_cut.specs.Offsets.{AreCuts, lengths, parent_by, pieces_of}
+use Rattle.yq_cut.specs.View.{Slices}
 use Rattle.yq_cut.specs.declared.offsets.Offsets as declared
 
 -- so many bytes and the first of these lengths
@@ -44,4 +45,54 @@ piece_at o i t at less h is =
       before = subst (λ (m : ℕ). IsCharBoundary t m) (sym is) cut.0;
       len = subst (λ (m : ℕ). IsCharBoundary (drop m t) n) (sym is) cut.1;
       is = ap (λ (m : ℕ). take n (drop m t)) is ∙ ap (take n) (sym (behind_sum o.gap i (drop 1 (lengths o)) t));
+    }
+
+-- texts, each of which stands behind a piece of the one before
+abbrev pub Follow : List ℕ → List ℕ → List (List ℕ) → Type 0
+Follow t ls [] = Unit {0}
+Follow t [] (u ∷ us) = (u ≡ t) × Follow u [] us
+Follow t (n ∷ ls) (u ∷ us) = (u ≡ drop n t) × Follow u ls us
+
+-- the text that stands behind all of them
+abbrev pub last_text : List ℕ → List (List ℕ) → List ℕ
+last_text t [] = t
+last_text t (u ∷ us) = last_text u us
+
+-- the text behind the first of them
+abbrev pub text_at : ℕ → List ℕ → List (List ℕ) → List ℕ
+text_at zero t us = t
+text_at (suc k) t [] = t
+text_at (suc k) t (u ∷ us) = text_at k u us
+
+-- it is what stands behind their lengths
+behind_is : (k : ℕ) (ls t : List ℕ) (us : List (List ℕ)) → k ≤ length us → Follow t ls us → text_at k t us ≡ behind k ls t
+behind_is zero ls t us less h = refl
+behind_is (suc k) ls t [] less h = absurd (omega (arith, less))
+behind_is (suc zero) [] t (u ∷ us) less h = h.0
+behind_is (suc (suc k)) [] t (u ∷ us) less h = behind_is (suc k) [] u us (omega (arith, less)) h.1 ∙ h.0
+behind_is (suc k) (n ∷ ls) t (u ∷ us) less h = behind_is k ls u us (omega (arith, less)) h.1 ∙ ap (behind k ls) h.0
+
+-- pieces of these texts are those of a row
+pub row_cut : (o : declared.Offsets) (t : List ℕ) (s : Slices) (indent dashes key colon space anchor apart head tail raw : List ℕ)
+    → Follow t (lengths o) (indent ∷ dashes ∷ key ∷ colon ∷ space ∷ anchor ∷ apart ∷ head ∷ tail ∷ raw ∷ [])
+    → s.gap ≡ take o.gap t → s.column ≡ o.column → s.dashes ≡ take o.dashes dashes → s.key ≡ take o.key key → s.colon ≡ take o.colon colon
+    → s.space ≡ take o.space space → s.anchor ≡ take o.anchor anchor → s.apart ≡ take o.apart apart → s.head ≡ take o.head head
+    → s.tail ≡ take o.tail tail → s.raw ≡ take o.raw raw → s.parent ≡ parent_by (o.column + o.dashes) o.colon → s ≡ pieces_of t o
+unfolding pieces_of
+row_cut o t s indent dashes key colon space anchor apart head tail raw h g c d k l p a f e b w n =
+    let us = indent ∷ dashes ∷ key ∷ colon ∷ space ∷ anchor ∷ apart ∷ head ∷ tail ∷ raw ∷ [] in
+    let at = λ (k : ℕ). λ (less : k ≤ 10). behind_is k (lengths o) t us less h in
+    λ i. record {
+      gap = g i;
+      column = c i;
+      dashes = (d ∙ ap (take o.dashes) (at 2 (omega arith))) i;
+      key = (k ∙ ap (take o.key) (at 3 (omega arith))) i;
+      colon = (l ∙ ap (take o.colon) (at 4 (omega arith))) i;
+      space = (p ∙ ap (take o.space) (at 5 (omega arith))) i;
+      anchor = (a ∙ ap (take o.anchor) (at 6 (omega arith))) i;
+      apart = (f ∙ ap (take o.apart) (at 7 (omega arith))) i;
+      head = (e ∙ ap (take o.head) (at 8 (omega arith))) i;
+      tail = (b ∙ ap (take o.tail) (at 9 (omega arith))) i;
+      raw = (w ∙ ap (take o.raw) (at 10 (omega arith))) i;
+      parent = n i;
     }

@@ -1,5 +1,6 @@
 -- Rows and ends of parts that are kept by their places alone, borrowed in their text again.
 use Rattle.std.proofs.Common.{◌≡◌, ℕ, ◌+◌, ◌≤◌, List, [], ◌∷◌, ◌++◌, length, take, take_at, reverse, ◌<◌, ◌^◌, append-nil, refl, sym, ap, ◌∙◌, subst, arith}
+use mathlib.Core.List.{head-eq_of_cons-eq, tail-eq_of_cons-eq}
 use Rattle.std.proofs.lemmas.List.{append_cancel_left, length-take-le}
 use Rattle.std.proofs.lemmas.List.Elements.{All-head, All-map, All-tail, All-weaker}
 use Rattle.std.proofs.lemmas.Str.{IsCharBoundary-at_seam, IsUtf8-drop, IsUtf8-nil, IsUtf8-take}
@@ -116,23 +117,26 @@ end_alike gap marker g m xs ys n k rest first second more =
       texts = λ h. (subst IsUtf8 first h.0, subst IsUtf8 second h.1, more.texts h.2);
     }
 
+no_cons : {A : Type 0} (x : A) (xs : List A) → [] ≡ x ∷ xs → ⊥
+no_cons x xs h = cc
+
 same_from : (xs ys : List Item) (n k : ℕ) (rest : List ℕ) → rows_in_items xs ≡ rows_in_items ys → bounds_in_items k xs ≡ bounds_in_items k ys → SameItems n k rest xs ys
 same_from [] [] n k rest rows ends = record { text = refl; near = refl; ends = refl; texts = λ h. h }
-same_from [] (row_item r ∷ ys) n k rest rows ends = absurd cc
-same_from [] (end_item gap marker ∷ ys) n k rest rows ends = absurd cc
-same_from (row_item r ∷ xs) [] n k rest rows ends = absurd cc
-same_from (end_item gap marker ∷ xs) [] n k rest rows ends = absurd cc
+same_from [] (row_item r ∷ ys) n k rest rows ends = absurd (no_cons _ _ rows)
+same_from [] (end_item gap marker ∷ ys) n k rest rows ends = absurd (no_cons _ _ ends)
+same_from (row_item r ∷ xs) [] n k rest rows ends = absurd (no_cons _ _ (sym rows))
+same_from (end_item gap marker ∷ xs) [] n k rest rows ends = absurd (no_cons _ _ (sym ends))
 same_from (row_item r ∷ xs) (row_item q ∷ ys) n k rest rows ends =
-    let own : slices r ≡ slices q = cc in
-    let behind : rows_in_items xs ≡ rows_in_items ys = cc in
+    let own : slices r ≡ slices q = head-eq_of_cons-eq rows in
+    let behind : rows_in_items xs ≡ rows_in_items ys = tail-eq_of_cons-eq rows in
     row_alike r q xs ys n k rest own (same_from xs ys (n + length (print_row r [])) (k + 1) rest behind ends)
 same_from (row_item r ∷ xs) (end_item gap marker ∷ ys) n k rest rows ends = absurd (let low = later (k + 1) xs (record { rows = k; end = gap; marker = marker }) (bounds_in_items k ys) ends in omega (arith, low))
 same_from (end_item gap marker ∷ xs) (row_item r ∷ ys) n k rest rows ends = absurd (let low = later (k + 1) ys (record { rows = k; end = gap; marker = marker }) (bounds_in_items k xs) (sym ends) in omega (arith, low))
 same_from (end_item gap marker ∷ xs) (end_item g m ∷ ys) n k rest rows ends =
     let b : Bound = record { rows = k; end = gap; marker = marker } in
     let d : Bound = record { rows = k; end = g; marker = m } in
-    let behind : bounds_in_items k xs ≡ bounds_in_items k ys = cc in
-    let own : b ≡ d = cc in
+    let behind : bounds_in_items k xs ≡ bounds_in_items k ys = tail-eq_of_cons-eq ends in
+    let own : b ≡ d = head-eq_of_cons-eq ends in
     end_alike gap marker g m xs ys n k rest (ap (λ (b : Bound). b.end) own) (ap (λ (b : Bound). b.marker) own) (same_from xs ys (n + length (gap ++ marker)) k rest rows behind)
 
 pub same_view : (xs ys : List Item) (n : ℕ) (rest : List ℕ) → view_of_items xs ≡ view_of_items ys → SameItems n 0 rest xs ys

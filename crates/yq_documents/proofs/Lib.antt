@@ -15,3 +15,4 @@ pub mod RunLaws
 pub mod PartNumberLaws
 pub mod PartRows
 pub mod WalkedRows
+pub mod RefersLaws

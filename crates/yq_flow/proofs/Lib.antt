@@ -20,3 +20,4 @@ pub mod Marks
 pub mod RemovePlaces
 pub mod FlowSpelled
 pub mod EditSpans
+pub mod ListedLaws

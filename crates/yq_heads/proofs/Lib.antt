@@ -1,1 +1,5 @@
 pub mod HeadCases
+pub mod NodeHeads
+pub mod KeyFaults
+pub mod KeySteps
+pub mod WantOfMemory

@@ -1,7 +1,7 @@
 -- Members that are counted, lists that are read item by item, and tests that are facts.
 use Rattle.std.proofs.Common.{◌≡◌, ◌==◌, ℕ, suc, List, [], ◌∷◌, ◌++◌, length, String, Option, Some, None, true, false, refl, sym, ap, ◌∙◌, if◌then◌else◌, ◌+◌, ◌<◌, ◌≤◌, take, drop, map, ap₂, get_or, append_assoc, option_map, rules}
 use Rattle.std.specs.Cmp.Derive.{both_true}
-use Rattle.std.proofs.lemmas.List.{take_more, drop_more, map-append, append-nil, at_drop_all}
+use Rattle.std.proofs.lemmas.List.{take_all, take_more, drop_more, map-append, append-nil, at_drop_all}
 use Rattle.std.specs.Prelude.{◌≢◌, not, is_some}
 use Rattle.std.specs.Option.{ForSome}
 use Rattle.std.specs.declared.alloc.Global.{Global}
@@ -13,7 +13,7 @@ use Rattle.serde_json.specs.Data.{Data, Items, Members}
 use Rattle.serde_json.specs.Read.{read}
 use Rattle.serde_json.specs.View.{view, items_of, items_view, members_view}
 use Rattle.serde_json.specs.declared.value.Value.{Value}
-use Rattle.yq_journal.specs.Json.{count_members, counts, and_more, all_of, can_move, is_sound, record_of, pending_of, state_of, journal_of, journal_object}
+use Rattle.yq_journal.specs.Json.{count_members, counts, and_more, all_of, can_move, is_sound, record_of, pending_of, state_from, state_of, journal_of, journal_object}
 use Rattle.yq_records.specs.Record.{Record}
 use Rattle.yq_records.specs.Refusals.{most_records, CanMove, IsSound, way_fault}
 use Rattle.yq_records.specs.State.{Pending, State, moved_text, is_text}
@@ -79,6 +79,9 @@ pushed to_data data_of f vs ws v xs i x within is more datum reads written reads
       reads_back = ap (λ l. all_of f (items_of l)) data_more ∙ all_of_push f (map to_data vs) (to_data v) (take i xs) x reads_back reads ∙ ap Some (sym one);
     }
 
+pub all_taken : {B : Type 0} (o : Option (List B)) (xs : List B) (i : ℕ) → length xs ≤ i → o ≡ Some (take i xs) → o ≡ Some xs
+all_taken o xs i past reads = reads ∙ ap Some (take_all i xs past)
+
 is_some-none : {A : Type 0} (o : Option A) → o ≡ None → not (is_some o) ≡ true
 is_some-none o e = ap (λ p. not (is_some p)) e
 
@@ -100,7 +103,8 @@ is_sound-from_IsSound s h =
 pub journal_reads : (s : State) (open_value : Data) (record_values : Items) → pending_of true open_value ≡ Some s.pending → all_of (record_of true) record_values ≡ Some s.records → IsSound s
     → journal_of (journal_object s.at open_value record_values) ≡ Some s
 unfolding journal_of state_of
-journal_reads s p rs pending records sound = cc (is_sound-from_IsSound s sound)
+journal_reads s p rs pending records sound =
+    (λ i. state_from (Some s.at) (pending i) (records i)) ∙ ap (λ b. if b then Some s else None) (is_sound-from_IsSound s sound)
 
 -- ---- a list, read item by item
 

@@ -8,3 +8,6 @@ pub mod RunLaws
 pub mod SquashLaws
 pub mod StandLaws
 pub mod WriteLaws
+pub mod ObjectLaws
+pub mod ThereLaws
+pub mod ReadLaws

@@ -150,7 +150,11 @@ pending_reads p e =
 
 object_reads : (n : ℕ) (p : Data) (rs : Items) → n < 2 ^ 64 → of_json (outline p) ≡ Some p → of_json (outline (array rs)) ≡ Some (array rs)
     → of_json (outline (journal_object n p rs)) ≡ Some (journal_object n p rs)
-object_reads n p rs h e f = cc (number_reads n h, number_reads 2 (omega arith))
+object_reads n p rs h e f =
+    λ i. option_map object (
+    option_and_then (λ a. option_and_then (λ b. option_and_then (λ c. option_and_then
+    (λ d. Some (put (codes "version") d (put (codes "records") c (put (codes "pending") b (put (codes "at") a no_members))))) (number_reads 2 (omega arith) i)) (f i)) (e i)) (number_reads n h i)
+    )
 
 open_reads : (p : Pending) → move_of true (kind_text p.step) (move_data p.step) ≡ Some p.step → decode_of standard (encode_of standard p.from) ≡ Ok p.from
     → pending_of true (pending_data (Some p)) ≡ Some (Some p)

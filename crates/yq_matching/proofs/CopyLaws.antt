@@ -1,8 +1,8 @@
 -- Copies of items and entries, one behind the other.
-use Rattle.std.proofs.Common.{◌≡◌, ℕ, ◌<◌, ◌≤◌, List, [], ◌∷◌, ◌++◌, None, sym, ap, ◌∙◌, arith}
+use Rattle.std.proofs.Common.{◌≡◌, ℕ, ◌<◌, ◌≤◌, List, [], ◌∷◌, ◌++◌, None, sym, ap, ◌∙◌, arith, append-nil}
 use Rattle.yq_flow_scalars.specs.Keys.{depth, deepest}
 use Rattle.yq_flow_scalars.specs.Tree as tree
-use Rattle.yq_flow_scalars.specs.Tree.{Label, Node, alias, scalar, list, Children, child, children_of}
+use Rattle.yq_flow_scalars.specs.Tree.{Label, Node, list, Children, child, children_of, none}
 use Rattle.yq_nodes.specs.Values.{entries}
 use Rattle.yq_lines.specs.Counts.{count}
 use Rattle.yq_document_nodes.specs.Nodes.{kind_of}
@@ -39,3 +39,22 @@ pub depth_below : (n m : Node) (label : Label) (cs rest : Children) → cs ≡ c
 depth_below (list anchor ds) m label cs rest is some deep = let reaches = ap deepest is in omega arith
 depth_below (tree.map anchor ds) m label cs rest is some deep = let reaches = ap deepest is in omega arith
 depth_below _ m label cs rest is some deep = let counted = ap count is in absurd (omega arith)
+
+-- behind the last item or entry
+pub items_done : (before : List Node) (cs : Children) (all : Judgement (List Node)) → cs ≡ none → put_behind before (item_copies cs) ≡ all → all ≡ gives before
+items_done before cs all is so_far = sym so_far ∙ (ap (λ ds. put_behind before (item_copies ds)) is ∙ ap gives (append-nil before))
+
+pub entries_done : (before : List (List ℕ × Node)) (cs : Children) (all : Judgement (List (List ℕ × Node))) → cs ≡ none → put_behind before
+    (entry_copies cs) ≡ all → all ≡ gives before
+entries_done before cs all is so_far = sym so_far ∙ (ap (λ ds. put_behind before (entry_copies ds)) is ∙ ap gives (append-nil before))
+
+-- fewer are left behind the first one
+pub fewer : (cs rest : Children) (label : Label) (n : Node) → cs ≡ child label n rest → count rest < count cs
+fewer cs rest label n is = omega (arith, ap count is)
+
+-- what is left is within what all are
+pub count_within : (cs rest : Children) (label : Label) (n : Node) (all : ℕ) → cs ≡ child label n rest → count cs ≤ all → count rest ≤ all
+count_within cs rest label n all is within = omega (arith, ap count is)
+
+pub deep_within : (cs rest : Children) (label : Label) (n : Node) (all : ℕ) → cs ≡ child label n rest → deepest cs ≤ all → deepest rest ≤ all
+deep_within cs rest label n all is within = omega (arith, ap deepest is)

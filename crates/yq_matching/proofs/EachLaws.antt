@@ -1,10 +1,11 @@
 -- What comes of each of several, one behind the other, and of several that act in turn.
-use Rattle.std.proofs.Common.{◌≡◌, ℕ, suc, ◌+◌, ◌<◌, List, [], ◌∷◌, ◌++◌, length, map, drop, get_or, Result, Err, refl, sym, ap, ◌∙◌, subst, append_assoc, add-one, drop-cons}
-use Rattle.yq_meaning.specs.Judgement.{MatchFails, Judgement, Judges, and_then, gives, refuses}
+use Rattle.std.proofs.Common.{◌≡◌, ℕ, suc, ◌+◌, ◌<◌, List, [], ◌∷◌, ◌++◌, length, map, drop, get_or, Result, Err, refl, sym, ap, ◌∙◌, subst, append_assoc, add-one, drop-cons, ◌≤◌, append-nil}
+use Rattle.yq_meaning.specs.Judgement.{MatchFails, Judgement, Judges, and_then, gives}
 use Rattle.yq_matching.specs.PlaceView.{put_behind}
 use Rattle.yq_meaning.specs.Places.{for_each, chained}
 use Rattle.yq_meaning.specs.declared.expr_error.ExprError.{ExprError}
 use Rattle.yq_meaning.specs.declared.expr_error.ExprError.TheVariants as error
+use Rattle.std.proofs.lemmas.List.{drop_all}
 
 -- an error on the first of two steps is one of both
 pub fails_then : {Y W : Type 0} (f : Y → Judgement W) (j : Judgement Y) (e : ExprError) → MatchFails e j → MatchFails e (and_then f j)
@@ -61,3 +62,14 @@ pub chain_fails : {X S A : Type 0} (v : X → S) (f : S → A → Judgement A) (
     i < length xs → x ≡ get_or xs i x → MatchFails e (f (v x) a) → chained f (map v (drop i xs)) a ≡ all → MatchFails e all
 chain_fails v f xs i x a all e within at h so_far =
     subst (MatchFails e) (ap (λ ys. chained f ys a) (sym (reached v xs i x within at)) ∙ so_far) (fails_then (chained f (map v (drop (i + 1) xs))) (f (v x) a) e h)
+
+-- all of several
+pub each_all : {X A B : Type 0} (v : X → A) (f : A → Judgement (List B)) (before : List B) (xs : List X) (i : ℕ) (all : Judgement (List B)) → length xs ≤ i
+    → put_behind before (for_each f (map v (drop i xs))) ≡ all → all ≡ gives before
+each_all v f before xs i all done so_far =
+    sym so_far ∙ (ap (λ ys. put_behind before (for_each f (map v ys))) (drop_all i xs done) ∙ ap gives (append-nil before))
+
+-- all in turn
+pub chain_all : {X S A : Type 0} (v : X → S) (f : S → A → Judgement A) (xs : List X) (i : ℕ) (a : A) (all : Judgement A) → length xs ≤ i → chained f
+    (map v (drop i xs)) a ≡ all → all ≡ gives a
+chain_all v f xs i a all done so_far = sym so_far ∙ ap (λ ys. chained f (map v ys) a) (drop_all i xs done)

@@ -4,3 +4,4 @@ pub mod CopyLaws
 pub mod TreeScalarLaws
 pub mod MatchLaws
 pub mod FoundLaws
+pub mod StepLaws

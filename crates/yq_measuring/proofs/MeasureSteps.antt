@@ -1,5 +1,5 @@
 -- Steps of finding the ends of nodes, as the code takes them.
-use Rattle.std.proofs.Common.{◌≡◌, ℕ, suc, ◌-◌, ◌<◌, Bool, true, false, cond, not, ◌&&◌, ◌||◌, List, length, drop, Option, Some, None, refl, ap, ◌∙◌, subst, arith}
+use Rattle.std.proofs.Common.{◌≡◌, ℕ, suc, ◌-◌, ◌<◌, ◌≤◌, Bool, true, false, cond, not, ◌&&◌, ◌||◌, List, length, drop, Option, Some, None, refl, ap, ◌∙◌, subst, arith}
 use Rattle.std.proofs.lemmas.Option.{same_Some}
 use Rattle.yq_flow_scalars.specs.Answers.{◌>>=◌}
 use Rattle.yq_flow_scalars.specs.Text.{is_empty}
@@ -17,6 +17,9 @@ use Rattle.yq_measuring.specs.declared.measuring.NodeKind.{NodeKind}
 use Rattle.yq_measuring.specs.declared.measuring.NodeKind.TheVariants as kinds
 use Rattle.yq_nodes.proofs.Loops.{node_shorter}
 use Rattle.yq_nodes.proofs.Steps.{items_end, items_more, entries_more, node_plain, node_anchored, node_no_name, node_no_lead}
+
+pub within : (a b c : ℕ) → a ≤ b → b ≤ c → a ≤ c
+within a b c h k = omega arith
 
 -- what was measured was read
 pub record Found (o : Option (Placed × List ℕ)) (a : Bool) (k : NodeKind) (r : List ℕ) : Type 0 where

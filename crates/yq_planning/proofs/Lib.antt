@@ -3,3 +3,5 @@ pub mod SumLaws
 pub mod LimitLaws
 pub mod IndexLaws
 pub mod UsedLaws
+pub mod LoopLaws
+pub mod AddedLaws

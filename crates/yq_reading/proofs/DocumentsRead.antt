@@ -27,6 +27,7 @@ use Rattle.yq_reading.specs.Decoding.{AreDecoded, IsCutInto}
 use Rattle.yq_reading.specs.Places.{AreLocated, all_sound, part_is_sound}
 use Rattle.yq_reading.proofs.DecodedRows.{each_fits}
 use Rattle.yq_reading.proofs.NoReferenceLaws.{ready_refers_not}
+use Rattle.yq_row_lines.specs.Extents.{IsRowsView}
 
 -- the cut of a text that has one
 pub cut_is : (t : List ℕ) (c : Cut) → IsCut t c → cut_of t ≡ c
@@ -152,3 +153,7 @@ module _ (t : List ℕ) (s : RowsView) (ms : List Decoded) (ds : List DocumentRo
     agrees = m.agrees;
     alias_free = λ e. alias_free (sym flag ∙ e);
   }
+
+-- rows of a text that is cut
+pub cut_view : (t : List ℕ) (s : RowsView) → IsCutInto t s → IsRowsView s
+cut_view t s k = record { cut = cut_of t; is = k.rows; size = subst (λ (y : List ℕ). length y ≤ text_limit) k.cut.text k.cut.size }

@@ -22,3 +22,4 @@ pub mod AllOf
 pub mod DecodedRows
 pub mod PartLaws
 pub mod DocumentsRead
+pub mod FlowSound

@@ -1,2 +1,4 @@
 pub mod GapLaws
 pub mod RecordLaws
+pub mod MoveLaws
+pub mod StepLaws

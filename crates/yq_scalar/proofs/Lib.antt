@@ -1,0 +1,2 @@
+pub mod PieceKinds
+pub mod Pushes

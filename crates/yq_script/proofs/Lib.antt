@@ -7,3 +7,5 @@ pub mod PlaceInList
 pub mod KeptSegments
 pub mod BetweenLaws
 pub mod ChangeLaws
+pub mod FirstSegment
+pub mod DraftLaws

@@ -1,5 +1,6 @@
 -- What a change that was followed leaves.
-use Rattle.std.proofs.Common.{◌≡◌, ℕ, List, ◌++◌, refl, sym, ap, ◌∙◌, subst, append_assoc, rules}
+use Rattle.std.proofs.Common.{◌≡◌, ℕ, List, ◌++◌, if◌then◌else◌, refl, sym, ap, ◌∙◌, subst, append_assoc, rules}
+use Rattle.std.specs.Prelude.{Err, Result, is_ok}
 use Rattle.yq_cut.specs.Grammar.{IsCut}
 use Rattle.yq_cut.specs.Items.{items_of}
 use Rattle.yq_cut.specs.Kept.{IsPlaced}
@@ -64,3 +65,7 @@ pub new_places : (t u v new : List ℕ) (kept : Kept) (p q : Places) (x : Touche
 new_places t u v new kept p q x come d text spliced k read done is =
     subst (λ (l : List ℕ). ArePlacesOf l q) (sym (spliced ∙ ap (λ (l : List ℕ). exchanged kept l new) text))
     (places_of (exchanged kept t new) q (placed_in (exchanged kept t new) q d is (new_sides t new kept p q x come d k read done is)))
+
+-- an error leaves the text, and nothing is said of the count
+pub stays : {T E : Type 0} (r : Result T E) (e : E) → r ≡ Err e → (u new old : List ℕ) → u ≡ old → u ≡ (if is_ok r then new else old)
+stays {T} {E} r e is u new old same = same ∙ sym (ap (λ (x : Result T E). if is_ok x then new else old) is)

@@ -1,7 +1,9 @@
 -- Rows and ends of parts of items between others that give way to those of other items, by their places.
-use Rattle.std.proofs.Common.{◌≡◌, ℕ, suc, ◌+◌, ◌<◌, ◌≤◌, ◌^◌, true, eqb, List, [], ◌∷◌, ◌++◌, length, map, reverse, take, drop, drop_at, get_or, slice_set, Some, slice_get, refl, sym, ap, ◌∙◌, subst, arith, eqb-true, append_assoc, append-nil, length-append, length-take, rules}
-use Rattle.std.proofs.lemmas.List.{drop_all, drop_more, length-map, length-reverse, map_more, set_split, take_at}
-use Rattle.std.proofs.lemmas.List.Elements.{All-weaker}
+use Rattle.std.proofs.Common.{◌≡◌, ℕ, suc, ◌+◌, ◌-◌, ◌<◌, ◌≤◌, ◌^◌, true, eqb, List, [], ◌∷◌, ◌++◌, length, map, reverse, take, drop, drop_at, get_or, slice_set, Some, slice_get, refl, sym, ap, ◌∙◌, subst, arith, eqb-true, append_assoc, append-nil, length-append, length-take, rules}
+use Rattle.std.proofs.Common.{slice_set, Some, slice_get, refl, sym, ap, ◌∙◌, subst, arith, eqb-true, append_assoc, append-nil, length-append, length-drop}
+use Rattle.std.proofs.Common.{length-take, rules}
+use Rattle.std.proofs.lemmas.List.{drop_all, drop_more, length-map, length-reverse, map_more, set_split, take_all, take_at}
+use Rattle.std.proofs.lemmas.List.Elements.{All-get_or, All-weaker}
 use Rattle.std.proofs.lemmas.Option.{get_or_from_slice_get, slice_get_within}
 use Rattle.std.specs.List.{All}
 use Rattle.yq_cut.specs.Items.{Item, row_item, end_item}
@@ -24,6 +26,35 @@ use Rattle.yq_sides.proofs.CountLaws.{ends_joined, ends_rows, near_count}
 pub row_more : (by i : ℕ) (os : List declared.Offsets) (o : declared.Offsets) → slice_get os i ≡ Some o → map (raised by) (take (i + 1) os) ≡ map (raised by) (take i os) ++ raised by o ∷ []
 row_more by i os o e =
     map_more (raised by) os i o (slice_get_within os i o e) ∙ ap (λ (p : declared.Offsets). map (raised by) (take i os) ++ raised by p ∷ []) (get_or_from_slice_get os i o o e)
+
+-- what is said of all places is true of each
+pub place_has : (P : declared.Offsets → Type 0) (os : List declared.Offsets) (i : ℕ) (o : declared.Offsets) → All P os → slice_get os i ≡ Some o → P o
+place_has P os i o h e = subst P (get_or_from_slice_get os i o o e) (All-get_or P os i o (slice_get_within os i o e) h)
+
+-- one end more, moved
+pub end_more : (from to : Side) (es was joined next : List EndPlace) (i : ℕ) (d e : EndPlace) → i < length es →
+    joined ≡ was ++ map (moved_from from to) (take i es) → next ≡ joined ++ e ∷ [] → e ≡ moved_from from to (get_or es i d) →
+    next ≡ was ++ map (moved_from from to) (take (i + 1) es)
+end_more from to es was joined next i d e within same pushed is =
+    pushed
+    ∙ ((λ j. same j ++ is j ∷ [])
+    ∙ (append_assoc was (map (moved_from from to) (take i es)) (moved_from from to (get_or es i d) ∷ [])
+    ∙ ap (λ (l : List EndPlace). was ++ l) (sym (map_more (moved_from from to) es i d within))))
+
+-- the ends behind so many
+pub ends_left : (es : List EndPlace) (n : ℕ) → take (length es - n) (drop n es) ≡ drop n es
+ends_left es n = take_all (length es - n) (drop n es) (omega (arith, length-drop n es))
+
+-- ends that were pushed, part by part
+pub ends_pushed : (front old new : Side) (es found j0 j1 j2 j3 : List EndPlace) → j0 ≡ [] → j1 ≡ j0 ++ take front.ends es →
+    j2 ≡ j1 ++ map (moved_from origin front) found →
+    j3 ≡ j2 ++ map (moved_from old new) (take (length es - old.ends) (drop old.ends es)) → j3 ≡ joined_ends front old new es found
+ends_pushed front old new es found j0 j1 j2 j3 e0 e1 e2 e3 =
+    let two : j2 ≡ take front.ends es ++ map (moved_from origin front) found = e2
+    ∙ ap (λ (l : List EndPlace). l ++ map (moved_from origin front) found) (e1 ∙ ap (λ (l : List EndPlace). l ++ take front.ends es) e0) in
+    e3
+    ∙ ((λ i. two i ++ map (moved_from old new) (ends_left es old.ends i))
+    ∙ append_assoc (take front.ends es) (map (moved_from origin front) found) (map (moved_from old new) (drop old.ends es)))
 
 -- places of items, behind other ones
 pub raised_near : (by n : ℕ) (xs : List Item) → map (raised by) (near n xs) ≡ near (n + by) xs

@@ -69,24 +69,34 @@ record Divided (m n : ℕ) (front behind : List declared.Offsets) (xs : List Ite
   pub behind_are : map (turned n) behind ≡ near (m + text_length before) later
   pub first : first_byte n behind ≡ m + text_length before
 
+-- the firsts of two lists that are one, and what is behind them
+firsts : {A : Type 0} (x y : A) (xs ys : List A) → x ∷ xs ≡ y ∷ ys → x ≡ y
+firsts x y xs ys e = cc
+
+others : {A : Type 0} (x y : A) (xs ys : List A) → x ∷ xs ≡ y ∷ ys → xs ≡ ys
+others x y xs ys e = cc
+
+some_none : {A : Type 0} (x : A) (xs : List A) → x ∷ xs ≡ [] → ⊥
+some_none x xs e = absurd cc
+
 divided : (xs : List Item) (m n : ℕ) (front behind : List declared.Offsets) → front ++ map (turned n) behind ≡ near m xs → m + text_length xs ≡ n → Divided m n front behind xs
 divided [] m n [] [] e long = record { before = []; later = []; items = refl; front_are = refl; behind_are = refl; first = sym long }
-divided [] m n [] (o ∷ os) e long = absurd cc
-divided [] m n (f ∷ front) behind e long = absurd cc
+divided [] m n [] (o ∷ os) e long = absurd (some_none _ _ e)
+divided [] m n (f ∷ front) behind e long = absurd (some_none _ _ e)
 divided (end_item gap marker ∷ xs) m n front behind e long =
     let own = length (gap ++ marker) in
     let d = divided xs (m + own) n front behind e (omega (arith, long, first_long (end_item gap marker) xs)) in
     let size : (m + own) + text_length d.before ≡ m + text_length (end_item gap marker ∷ d.before) = omega (arith, first_long (end_item gap marker) d.before) in
     record { before = end_item gap marker ∷ d.before; later = d.later; items = ap (λ l. end_item gap marker ∷ l) d.items; front_are = d.front_are; behind_are = d.behind_are ∙ ap (λ (k : ℕ). near k d.later) size; first = d.first ∙ size }
-divided (row_item r ∷ xs) m n [] [] e long = absurd cc
+divided (row_item r ∷ xs) m n [] [] e long = absurd (some_none _ _ (sym e))
 divided (row_item r ∷ xs) m n [] (o ∷ os) e long =
-    let first : turned n o ≡ offsets_of m (slices r) = cc in
+    let first : turned n o ≡ offsets_of m (slices r) = firsts _ _ _ _ e in
     let here : m ≡ m + text_length [] = omega arith in
     record { before = []; later = row_item r ∷ xs; items = refl; front_are = refl; behind_are = e ∙ ap (λ (k : ℕ). near k (row_item r ∷ xs)) here; first = ap (λ (x : declared.Offsets). x.start) first ∙ here }
 divided (row_item r ∷ xs) m n (f ∷ front) behind e long =
     let own = length (print_row r []) in
-    let first : f ≡ offsets_of m (slices r) = cc in
-    let rest : front ++ map (turned n) behind ≡ near (m + own) xs = cc in
+    let first : f ≡ offsets_of m (slices r) = firsts _ _ _ _ e in
+    let rest : front ++ map (turned n) behind ≡ near (m + own) xs = others _ _ _ _ e in
     let d = divided xs (m + own) n front behind rest (omega (arith, long, first_long (row_item r) xs)) in
     let size : (m + own) + text_length d.before ≡ m + text_length (row_item r ∷ d.before) = omega (arith, first_long (row_item r) d.before) in
     record { before = row_item r ∷ d.before; later = d.later; items = ap (λ l. row_item r ∷ l) d.items; front_are = (λ i. first i ∷ d.front_are i); behind_are = d.behind_are ∙ ap (λ (k : ℕ). near k d.later) size; first = d.first ∙ size }

@@ -1,4 +1,5 @@
 pub mod PassingLaws
+pub mod WriteLaws
 pub mod ExchangeLaws
 pub mod ItemPlaces
 pub mod ReadLaws

@@ -1,6 +1,9 @@
 -- The last end of a part among the touched items, and whether its marker is kept.
 use Rattle.std.proofs.Common.{◌≡◌, ◌⊎◌, inl, inr, ⊎_elim, ℕ, zero, suc, ◌+◌, ◌-◌, ◌<◌, ◌≤◌, Bool, true, false, eqb, ltb, leb, if◌then◌else◌, ◌&&◌, List, [], ◌∷◌, ◌++◌, length, Option, Some, None, slice_get, refl, sym, ap, ◌∙◌, arith, append_assoc, append-nil, length-append, rules}
-use Rattle.std.proofs.lemmas.Bool.{and_from, and_parts, cases_Bool, cases_lt, eq-eqb, false≢true, leb-true, le-leb, lt-leb, lt-ltb, ltb-true, ne_eqb}
+use Rattle.std.proofs.Common.{◌∷◌, ◌++◌, length, Option, Some, None, slice_get, refl, sym, ap, ◌∙◌, arith, append_assoc, append-nil}
+use Rattle.std.proofs.Common.{length-append, rules}
+use Rattle.std.proofs.lemmas.Bool.{and_from, and_parts, cases_Bool, cases_lt, cond-false, cond-true, eq-eqb, false≢true, leb-true, le-leb, lt-leb, lt-ltb, ltb-true, ne_eqb}
+use Rattle.std.proofs.lemmas.Bool.{ltb-true, ne_eqb}
 use Rattle.std.proofs.lemmas.List.Elements.{All-get_or}
 use Rattle.std.proofs.lemmas.Option.{get_or_from_slice_get}
 use Rattle.yq_flow_scalars.specs.Answers.{◌>>=◌}
@@ -75,6 +78,16 @@ test old at e = if keeps_marker e old.rows at then Some e else None
 
 chosen : (es : List EndPlace) (front old : Side) (at : ℕ) (o : Option EndPlace) → front.ends < old.ends → slice_get es (old.ends - 1) ≡ o → marked_end es front old at ≡ (o >>= test old at)
 chosen es front old at o h is = rw (lt-leb old.ends front.ends h, is) refl
+
+module _ (es : List EndPlace) (front old : Side) (at : ℕ) (some : front.ends < old.ends) where
+  pub none_marked : slice_get es (old.ends - 1) ≡ None → None ≡ marked_end es front old at
+  none_marked h = sym (chosen es front old at None some h)
+
+  pub marked_is : (e : EndPlace) → slice_get es (old.ends - 1) ≡ Some e → true ≡ keeps_marker e old.rows at → Some e ≡ marked_end es front old at
+  marked_is e h keeps = sym (chosen es front old at (Some e) some h ∙ cond-true (keeps_marker e old.rows at) (Some e) None (sym keeps))
+
+  pub unmarked : (e : EndPlace) → slice_get es (old.ends - 1) ≡ Some e → false ≡ keeps_marker e old.rows at → None ≡ marked_end es front old at
+  unmarked e h keeps = sym (chosen es front old at (Some e) some h ∙ cond-false (keeps_marker e old.rows at) (Some e) None (sym keeps))
 
 -- What stands before, among and behind the touched items, and how many bytes are kept behind.
 pub record Stretch (f touched z : List Item) (es : List EndPlace) (front old : Side) (len back : ℕ) : Type 0 where

@@ -1,7 +1,9 @@
 -- One row more, moved over the gap.
-use Rattle.std.proofs.Common.{◌≡◌, ℕ, ◌-◌, ◌<◌, Option, Some, List, [], ◌∷◌, ◌++◌, map, reverse, slice_index_or, option_to_list, sym, ap, ◌∙◌, subst, append_assoc, rules}
+use Rattle.std.proofs.Common.{◌≡◌, ℕ, ◌-◌, ◌<◌, ◌≤◌, Option, Some, List, [], ◌∷◌, ◌++◌, length, get_or, map, reverse, slice_index_or, option_to_list, sym, ap, ◌∙◌, subst, append_assoc, rules}
+use Rattle.std.proofs.Common.{reverse, slice_get, slice_index_or, option_to_list, sym, ap, ◌∙◌, subst, append_assoc, arith, rules}
 use Rattle.std.proofs.lemmas.List.{reverse-append}
 use Rattle.std.proofs.lemmas.List.Elements.{All-pop}
+use Rattle.std.proofs.lemmas.Option.{get_or_from_slice_get, slice_get_within}
 use Rattle.std.specs.List.{All}
 use Rattle.yq_cut.specs.Kept.{turned}
 use Rattle.yq_cut.specs.declared.offsets.Offsets as declared
@@ -25,3 +27,11 @@ last_pushed at front o less x e =
 
 pub all_popped : (P : declared.Offsets → Type 0) (old new : List declared.Offsets) (o : declared.Offsets) → old ≡ new ++ o ∷ [] → All P old → All P new × P o
 all_popped P old new o e h = let r = All-pop P old new (Some o) e h in (r.0, r.1)
+
+-- the last row is the one that was looked at
+pub last_is : (os : List declared.Offsets) (n : ℕ) (own : declared.Offsets) → n ≡ length os → own ≡ get_or os (n - 1) own → (o : declared.Offsets) →
+    slice_get os (length os - 1) ≡ Some o → own ≡ o
+last_is os n own long is o e = is ∙ (ap (λ (m : ℕ). get_or os (m - 1) own) long ∙ get_or_from_slice_get os (length os - 1) o own e)
+
+pub none_last : (os : List declared.Offsets) (n : ℕ) → n ≡ length os → n ≤ 0 → (o : declared.Offsets) → slice_get os (length os - 1) ≡ Some o → ⊥
+none_last os n long none o e = omega (arith, slice_get_within os (length os - 1) o e, long, none)

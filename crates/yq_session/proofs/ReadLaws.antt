@@ -1,6 +1,8 @@
 -- What is read of a region, and the places that come of it.
 use Rattle.std.proofs.Common.{◌≡◌, ℕ, ◌+◌, ◌-◌, ◌≤◌, Bool, true, false, not, List, [], ◌∷◌, ◌++◌, length, take, drop_at, get_or, slice_set, Option, Some, None, IfSome, if◌then◌else◌, ⊎_elim, take_all, refl, sym, ap, ◌∙◌, subst, arith, append-nil, append_assoc, length-append, length-take, rules}
-use Rattle.std.proofs.lemmas.Bool.{cases_Bool}
+use Rattle.std.proofs.Common.{slice_set, Option, Some, None, IfSome, if◌then◌else◌, ⊎_elim, take_all, refl, sym, ap, ◌∙◌, subst, arith, append-nil}
+use Rattle.std.proofs.Common.{append_assoc, length-append, length-take, rules}
+use Rattle.std.proofs.lemmas.Bool.{cases_Bool, cond-false, cond-true}
 use Rattle.std.proofs.lemmas.Option.{same_Some}
 use Rattle.std.proofs.lemmas.List.{drop_all, drop_more, set_split, take_at}
 use Rattle.std.proofs.lemmas.Str.{IsCharBoundary-at_seam}
@@ -9,6 +11,7 @@ use Rattle.yq_flow_scalars.specs.Answers.{ReadFails}
 use Rattle.yq_flow_scalars.specs.declared.fault.ReadError.{ReadError}
 use Rattle.yq_flow_scalars.specs.declared.fault.ReadError.TheVariants as reading
 use Rattle.yq_flow_scalars.specs.declared.fault.ReadFault.{ReadFault}
+use Rattle.yq_flow_scalars.specs.Text.{front}
 use Rattle.yq_cut.specs.Ends.{end_at}
 use Rattle.yq_cut.specs.Items.{Item, end_item, items_of, items_text, rows_items, view_of_items}
 use Rattle.yq_cut.specs.Kept.{IsPlaced, near, ends_near, TextsIn}
@@ -157,3 +160,14 @@ unread_is w e d is = go (begins_line w (length w - e.marker)) refl is
     go : (b : Bool) → begins_line w (length w - e.marker) ≡ b → (if b then Some e else None) ≡ Some d → (e ≡ d) × (begins_line w (length w - e.marker) ≡ true)
     go true t at = (same_Some _ _ at, t)
     go false t at = absurd cc
+
+-- the line of a marker that needn't be read, where one begins with it, and where none does
+module _ (t : List ℕ) (marked : Option EndPlace) (e : EndPlace) (at m : ℕ) (is : marked ≡ Some e) (at_is : at ≡ length t - m) (m_is : m ≡ e.marker) where
+  same_line : begins_line t (length t - e.marker) ≡ begins_line t at
+  same_line = ap (begins_line t) (sym (at_is ∙ ap (λ (n : ℕ). length t - n) m_is))
+
+  pub unread_there : begins_line t at ≡ true → Some e ≡ unread_end t marked
+  unread_there h = sym (ap (unread_end t) is ∙ cond-true (begins_line t (length t - e.marker)) (Some e) None (same_line ∙ h))
+
+  pub read_there : begins_line t at ≡ false → None ≡ unread_end t marked
+  read_there h = sym (ap (unread_end t) is ∙ cond-false (begins_line t (length t - e.marker)) (Some e) None (same_line ∙ h))

@@ -1,1 +1,3 @@
 pub mod SplitLaws
+pub mod HalvesLaws
+pub mod RoomLaws

@@ -11,23 +11,45 @@ use Rattle.yq_history.proofs.EffectLaws.{works_outside}
 use Rattle.yq_commands.proofs.EditEffects.{edit_works}
 use Rattle.yq_commands.proofs.edit.commit.Goals as goal
 
-pub returns-clause-arrives : goal.returns-clause-arrives
-returns-clause-arrives g c = λ keeps apart h p k gives.
+pub returns : goal.returns
+returns g c =
     let e = c.carry_out.ensures in
     let made = c.in_ok-edit.ensures ∙ ap (λ (b : List ℕ). edit_record c.args.expr.now c.args.splices.items (length b) (length c.args.new.now)) c.deref.ensures.value in
     let leads = ap (λ (r : Record). done r c.args.old.items) made ∙ edit_done c.args.expr.now _ c.args.old.items c.args.new.now c.requires.leads in
-    edit_ends _ _ _ h _ p _ _ k _ _ _ _ made gives c.requires.changes c.carry_out.result
-    (record {
-      leads = leads;
-      ok = e.ok keeps apart;
-      err = e.err keeps apart;
-      text = e.text keeps apart;
-      beside = e.moved keeps;
-      cut = e.cut keeps apart;
-      fault = e.fault;
-      refused = e.refused;
-      barred = e.barred keeps;
-    })
+    record {
+      arrives = λ keeps apart h p k gives.
+          edit_ends _ _ _ h _ p _ _ k _ _ _ _ made gives c.requires.changes c.carry_out.result
+          (record {
+            leads = leads;
+            ok = e.ok keeps apart;
+            err = e.err keeps apart;
+            text = e.text keeps apart;
+            beside = e.moved keeps;
+            cut = e.cut keeps apart;
+            fault = e.fault;
+            refused = e.refused;
+            barred = e.barred keeps;
+          });
+      text = λ keeps apart. e.text keeps apart;
+      effect = λ keeps apart p gives.
+          edit_works c.args.file.now c.args.journal.now (g.D.Store.content c.args.store.now) c.args.expr.now c.args.state.now c.args.old.items _ _ _ made
+          (edits p c.args.old.items) _ c.carry_out.result gives c.requires.changes
+          (record {
+            leads = leads;
+            ok = e.ok keeps apart;
+            err = e.err keeps apart;
+            text = e.text keeps apart;
+            beside = e.moved keeps;
+            cut = e.cut keeps apart;
+            fault = e.fault;
+            refused = e.refused;
+            barred = e.barred keeps;
+          });
+      kept = e.kept;
+      others = e.others;
+      no_output = e.no_output;
+      count = e.count;
+    }
 
 pub returns-in_err-edit-clause-effect : goal.returns-in_err-edit-clause-effect
 returns-in_err-edit-clause-effect g c = λ keeps apart p gives.
@@ -35,22 +57,3 @@ returns-in_err-edit-clause-effect g c = λ keeps apart p gives.
     let content = g.D.Store.content c.args.store.now in
     let effect = edit_effect c.args.expr.now (edits p c.args.old.items) c.args.old.items c.args.state.now in
     subst (Works effect c.args.file.now c.args.journal.now content content) (sym r.1) (works_outside (Unit {0}) effect c.args.file.now c.args.journal.now content r.0 (ap is_outside r.2))
-
-pub returns-clause-effect : goal.returns-clause-effect
-returns-clause-effect g c = λ keeps apart p gives.
-    let e = c.carry_out.ensures in
-    let made = c.in_ok-edit.ensures ∙ ap (λ (b : List ℕ). edit_record c.args.expr.now c.args.splices.items (length b) (length c.args.new.now)) c.deref.ensures.value in
-    let leads = ap (λ (r : Record). done r c.args.old.items) made ∙ edit_done c.args.expr.now _ c.args.old.items c.args.new.now c.requires.leads in
-    edit_works c.args.file.now c.args.journal.now (g.D.Store.content c.args.store.now) c.args.expr.now c.args.state.now c.args.old.items _ _ _ made
-    (edits p c.args.old.items) _ c.carry_out.result gives c.requires.changes
-    (record {
-      leads = leads;
-      ok = e.ok keeps apart;
-      err = e.err keeps apart;
-      text = e.text keeps apart;
-      beside = e.moved keeps;
-      cut = e.cut keeps apart;
-      fault = e.fault;
-      refused = e.refused;
-      barred = e.barred keeps;
-    })

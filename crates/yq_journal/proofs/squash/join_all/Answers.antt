@@ -1,5 +1,5 @@
 use Rattle.std.proofs.Common.{◌≡◌, ◌++◌, ◌∷◌, [], ◌<◌, ◌+◌, length, take, sym, ap, ◌∙◌, arith, refl}
-use Rattle.std.proofs.lemmas.List.{take_more}
+use Rattle.std.proofs.lemmas.List.{take_all, take_more}
 use Rattle.std.proofs.lemmas.Option.{slice_get_read}
 use Rattle.yq_records.specs.Record.{Record, join, joined}
 use Rattle.yq_journal.proofs.JoinLaws.{joined-push, joined_meets}
@@ -17,3 +17,6 @@ rest-preserved c =
           (ap (λ (p : Record). p.after_len) c.rest.invariant.same ∙ joined_meets c.args.first.now c.args.rest.now c.rest.next-index c.next-item.result c.requires
           (slice_get_read c.args.rest.now (length c.args.rest.now) c.rest.next-index c.next-item.result refl within c.next-item.is));
     }
+
+pub returns : goal.returns
+returns c = c.parts-2.view_is ∙ (c.rest.invariant.same ∙ ap (joined c.args.first.now) (take_all c.rest.next-index c.args.rest.now c.rest-test.false))

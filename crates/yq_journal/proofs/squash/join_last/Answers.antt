@@ -22,3 +22,7 @@ returns-in_ok-join_all-in-len1-up-clause-ok c =
 
 pub returns-in_err-join_all-in-len1-up-clause-err : goal.returns-in_err-join_all-in-len1-up-clause-err
 returns-in_err-join_all-in-len1-up-clause-err c = search (rules, err_from_is_err_and, slice_run, reports_memory, good_count)
+
+pub join_all-requires : goal.join_all-requires
+join_all-requires c =
+    ap meet (sym (split_first _ c.first-item.result c.in-len1-up.len_at_least c.first-item.is)) ∙ (sym c.meets.ensures ∙ c.if-not-meets.false)

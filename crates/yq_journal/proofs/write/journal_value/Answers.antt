@@ -1,6 +1,6 @@
 use Rattle.std.proofs.Common.{Some, ap, ◌∙◌}
 use Rattle.serde_json.specs.View.{view, items_view}
-use Rattle.yq_journal.specs.Json.{journal_of}
+use Rattle.yq_journal.specs.Json.{journal_data, journal_object, journal_of, list_data, record_data}
 use Rattle.yq_records.specs.State.{state}
 use Rattle.yq_journal.proofs.JsonLaws.{journal_reads}
 use Rattle.yq_journal.proofs.write.journal_value.Goals as goal
@@ -11,3 +11,8 @@ returns-clause-reads_back c =
     ∙ journal_reads (state c.journal.inside.records.items c.journal.inside.at c.journal.inside.open) (view c.in_ok-pending.pending) (items_view c.in_ok-records.records.items)
     c.in_ok-pending.ensures.reads_back (c.in_ok-records.ensures.reads_back ∙ ap Some c.deref.ensures.value) c.journal.invariant
     ∙ ap Some c.journal.view_is
+
+pub returns-clause-written : goal.returns-clause-written
+returns-clause-written c =
+    c.in_ok-value.ensures
+    ∙ ((λ i. journal_object c.journal.inside.at (c.in_ok-pending.ensures.written i) ((c.in_ok-records.ensures.written ∙ ap (list_data record_data) c.deref.ensures.value) i)) ∙ ap journal_data c.journal.view_is)

@@ -6,6 +6,7 @@ use Rattle.std.proofs.lemmas.Option.{same_Some}
 use Rattle.yq_cut.specs.View.{Slices, slices}
 use Rattle.yq_documents.specs.Reading.{cut_of}
 use Rattle.yq_reading.proofs.RowsRead.{fit_agrees, head_quoted, head_read, borrowed_fit, none_decoded, no_head, pieces_there, place_whole, read_decoded, row_at, text_ends, unfit_agrees}
+use Rattle.yq_reading.proofs.DocumentsRead.{cut_view}
 use Rattle.yq_reading.proofs.decoding.decode_head.Goals as goal
 
 pub returns-then-not-has_head-clause-fits : goal.returns-then-not-has_head-clause-fits
@@ -88,3 +89,6 @@ returns-in-Err-clause-fits c = λ r is.
     let f : SFits w64 c.parent_indent-parent.result = search rules in
     let parent = to_z-of_z w64 c.parent_indent-parent.result f ∙ (c.parent_indent-parent.ensures ∙ ap (λ (x : Slices). x.parent) (same_Some _ _ (sym c.row.ensures ∙ pieces))) in
     unfit_agrees c.in-Err.e _ _ _ (head_read c.args.text.now c.args.rows.now k c.args.i r is c.split_at.result.1.now c.head_place-start.result.0 c.split_at.ensures.back start _ c.head-head.result.now parent head) c.in-Err.ensures.view
+
+pub head_place-start-requires-clause-rows_view : goal.head_place-start-requires-clause-rows_view
+head_place-start-requires-clause-rows_view c = cut_view c.args.text.now c.args.rows.now c.requires.cut

@@ -7,6 +7,7 @@ use Rattle.yq_reading.specs.Places.{AreLocated, all_sound}
 use Rattle.yq_reading.proofs.DecidingLaws.{denies_as}
 use Rattle.yq_reading.proofs.DocumentsRead.{all_split, cut_into, held}
 use Rattle.yq_reading.proofs.PartLaws.{are_placed}
+use Rattle.yq_reading.specs.Decoding.{AreDecoded}
 use Rattle.yq_reading.proofs.reading.read_rows.Goals as goal
 
 pub decode_rows-requires : goal.decode_rows-requires
@@ -39,3 +40,6 @@ new-requires c =
 
 pub returns-clause-documents : goal.returns-clause-documents
 returns-clause-documents c = λ d h. sym (all_split c.args.text.now d h) ∙ (λ i. c.in-Ok.ensures.fits i && c.in-Ok-check_documents.ensures.sound i)
+
+pub check_documents-requires-clause-decoded : goal.check_documents-requires-clause-decoded
+check_documents-requires-clause-decoded c = subst (AreDecoded c.args.text.now) (sym c.deref-2.ensures.value) c.in-Ok.ensures.decoded

@@ -167,3 +167,17 @@ check_lines-returns-clause-reached t c = c.lines.invariant.at
 
 pub check_lines-returns-then-not-is_deeper-clause-reached : goal.check_lines-returns-then-not-is_deeper-clause-reached
 check_lines-returns-then-not-is_deeper-clause-reached t c = c.requires.start
+
+pub check_lines-check_line-requires : goal.check_lines-check_line-requires
+check_lines-check_line-requires t c =
+    let line = position_line c.args.x.rows.now c.args.x.document c.lines.at.position c.lines.invariant.at.position (c.lines-test.ensures.some refl) in
+    (omega (arith, c.lines.invariant.more), (c.requires.ready, (c.lines.invariant.at, line)))
+
+pub check_line-check_lines-requires : goal.check_line-check_lines-requires
+check_line-check_lines-requires t c = (omega arith, (c.requires.ready, c.line_behind-after.ensures.reached))
+
+pub check_lines-returns-then-not-are_distinct-clause-fault : goal.check_lines-returns-then-not-are_distinct-clause-fault
+check_lines-returns-then-not-are_distinct-clause-fault t c = c.row_fault-then-not-are_distinct.ensures
+
+pub check_lines-repeated_line-requires-clause-start : goal.check_lines-repeated_line-requires-clause-start
+check_lines-repeated_line-requires-clause-start t c = c.requires.start.position

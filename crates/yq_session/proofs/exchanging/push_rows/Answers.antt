@@ -1,7 +1,7 @@
-use Rattle.std.proofs.Common.{◌≡◌, ◌+◌, ◌++◌, ◌∷◌, [], List, map, take, is_ok, true, vec_len, ap, sym, ◌∙◌, append_assoc, arith}
+use Rattle.std.proofs.Common.{◌≡◌, ◌+◌, ◌++◌, ◌∷◌, [], List, map, take, is_ok, true, vec_len, ap, sym, ◌∙◌, append_assoc, arith, ◌<◌, ◌^◌}
 use Rattle.yq_cut.specs.Kept.{placed_rows, raised}
 use Rattle.yq_cut.specs.declared.offsets.Offsets as declared
-use Rattle.yq_session.proofs.ExchangeLaws.{row_more}
+use Rattle.yq_session.proofs.ExchangeLaws.{row_more, place_has}
 use Rattle.yq_session.proofs.exchanging.push_rows.Goals as goal
 
 pub rows-preserved : goal.rows-preserved
@@ -18,3 +18,7 @@ rows-preserved c =
           ∙ ap (λ (l : List declared.Offsets). c.args.rows.now.items ++ l) (ap (λ (o : declared.Offsets). map (raised c.args.by) (take c.rows.i all) ++ (o ∷ [])) c.raised-row.ensures ∙ sym more)));
       room = omega (arith, c.push.ensures.capacity, long);
     }
+
+pub raised-row-requires : goal.raised-row-requires
+raised-row-requires c =
+    place_has (λ o. o.start + c.args.by < 2 ^ 32) (placed_rows c.args.len c.args.found.now) c.rows.i c.place.result c.requires.within c.place.ensures

@@ -1,9 +1,9 @@
-use Rattle.std.proofs.Common.{◌≡◌, ◌∙◌, ◌++◌, ◌∷◌, [], List, ap, sym, subst, arith}
+use Rattle.std.proofs.Common.{◌≡◌, ◌∙◌, ◌++◌, ◌∷◌, [], List, ap, sym, subst, arith, ℕ, ◌<◌}
 use Rattle.std.proofs.lemmas.List.Elements.{All-push}
 use Rattle.std.specs.List.{All}
 use Rattle.yq_sides.specs.Sides.{both_sides}
 use Rattle.yq_cut.specs.declared.offsets.Offsets as declared
-use Rattle.yq_session.proofs.PassingLaws.{all_popped, passed_behind, popped}
+use Rattle.yq_session.proofs.PassingLaws.{all_popped, passed_behind, popped, last_is, none_last}
 use Rattle.yq_sides.proofs.SplitLaws.{Within}
 use Rattle.yq_session.proofs.split.to_behind.Goals as goal
 
@@ -21,3 +21,11 @@ rows-preserved c =
       within = held.0;
       later = subst (All (Within len)) (sym behind) (All-push (Within len) c.rows.behind.items c.turned.result c.rows.invariant.later (let own = ap (λ (o : declared.Offsets). o.start) c.turned.ensures in omega (arith, own)));
     }
+
+pub returns-then-start-at-clause-ok : goal.returns-then-start-at-clause-ok
+returns-then-start-at-clause-ok c = λ o e.
+    let same = last_is c.rows.front.items c.len-in-rows.result c.index.result.now (c.len-in-rows.ensures ∙ c.rows.front.ok.0) c.index.ensures o e in
+    subst (λ (p : declared.Offsets). p.start < c.args.at) same (subst (λ (n : ℕ). n < c.args.at) c.start.ensures c.if-start-at.true)
+
+pub returns-clause-ok : goal.returns-clause-ok
+returns-clause-ok c = λ o e. absurd (none_last c.rows.front.items c.len.result (c.len.ensures ∙ c.rows.front.ok.0) c.rows-test.false o e)

@@ -21,3 +21,6 @@ returns-in-Ok-read_text-clause-text c = c.in-Ok-read_text.ensures.text ∙ c.in-
 
 pub returns-in-Err-Fault-clause-only : goal.returns-in-Err-Fault-clause-only
 returns-in-Err-Fault-clause-only c = none_by c.args.bytes.now (read_as_text c.args.bytes.now c.in-Ok.text.now _ c.in-Ok.ensures (rw c.in-Err-Fault.field-0-is at c.in-Err-Fault.ensures.exact))
+
+pub returns-in-Ok-read_text-clause-exact : goal.returns-in-Ok-read_text-clause-exact
+returns-in-Ok-read_text-clause-exact c = read_as_text c.args.bytes.now c.in-Ok.text.now _ c.in-Ok.ensures c.in-Ok-read_text.ensures.exact

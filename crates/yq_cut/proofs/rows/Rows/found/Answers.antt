@@ -1,3 +1,4 @@
+use Rattle.yq_cut.proofs.KeptReads.{kept_within}
 use Rattle.std.proofs.Common.{arith, ◌-◌, List, ℕ, Some, ap, drop, length, slice_get, subst, sym, ◌∙◌}
 use Rattle.std.specs.Str.{IsCharBoundary}
 use Rattle.yq_cut.specs.Offsets.{AreCuts, lengths, pieces_of}
@@ -41,3 +42,6 @@ returns-clause-row c =
     ap (λ (v : RowsView). slice_get v.rows c.args.i) (sym c.self.view_is)
     ∙ (row_back c.self.inside.text c.self.inside.places c.args.i c.kept-row.result.now c.kept-row.ensures (omega (arith, c.self.inside.places.front.ok.0))
     ∙ ap (λ (t : List ℕ). Some (pieces_of t c.kept-row.result.now)) (ap (λ (n : ℕ). drop (length back - n) back) (sym c.start-2.ensures) ∙ sym c.split_at-2.ensures.back))
+
+pub kept-row-requires : goal.kept-row-requires
+kept-row-requires c = kept_within c.self.inside.text c.self.inside.places c.args.i c.args.self.now c.self.view_is c.requires

@@ -1,3 +1,4 @@
+use Rattle.yq_cut.proofs.KeptReads.{kept_within}
 use Rattle.std.proofs.Common.{◌<◌, ◌∙◌, ap, arith, length, length-append, subst, sym}
 use Rattle.yq_cut.specs.RowStarts.{row_start}
 use Rattle.yq_cut.specs.View.{RowsView}
@@ -26,3 +27,6 @@ returns c =
     rw (c.len-2.ensures, c.start-start.ensures)
     (start_back c.self.inside.text c.self.inside.places c.args.i c.kept.result.now c.self.invariant within c.kept.ensures (omega (arith, c.self.inside.places.front.ok.0))
     ∙ ap (row_start c.args.i) c.self.view_is)
+
+pub kept-requires : goal.kept-requires
+kept-requires c = kept_within c.self.inside.text c.self.inside.places c.args.i c.args.self.now c.self.view_is c.requires

@@ -9,15 +9,6 @@ use Rattle.yq_document_nodes.proofs.nodes.children.behind_first.Goals as goal
 pub document_rows-requires : goal.document_rows-requires
 document_rows-requires c = c.args.under.there
 
-pub behind-requires-clause-rows_view : goal.behind-requires-clause-rows_view
-behind-requires-clause-rows_view c = c.document_rows.ensures.small
-
-pub behind-requires-clause-document : goal.behind-requires-clause-document
-behind-requires-clause-document c = stands c.document_rows.ensures
-
-pub behind-requires-clause-position : goal.behind-requires-clause-position
-behind-requires-clause-position c = line_here c.document_rows.ensures (c.if-not-has_lines.ensures.some refl)
-
 pub returns-then-not-has_lines-clause-behind : goal.returns-then-not-has_lines-clause-behind
 returns-then-not-has_lines-clause-behind c = no_children _ c.if-not-has_lines.ensures.test
 
@@ -38,3 +29,12 @@ returns-clause-fewer c =
     let q = c.args.under.first in
     let ends = agrees_rows c.document_rows.ensures (λ ms num. IsEndOf ms (num q) (num c.behind.result)) c.behind.ensures.end in
     omega (arith, ends.0, ends.1)
+
+pub behind-requires-clause-rows_view : goal.behind-requires-clause-rows_view
+behind-requires-clause-rows_view c = c.document_rows.ensures.small
+
+pub behind-requires-clause-document : goal.behind-requires-clause-document
+behind-requires-clause-document c = stands c.document_rows.ensures
+
+pub behind-requires-clause-position : goal.behind-requires-clause-position
+behind-requires-clause-position c = line_here c.document_rows.ensures (c.if-not-has_lines.ensures.some refl)

@@ -8,12 +8,6 @@ use Rattle.yq_documents.proofs.WalkedRows.{line_here, located_in, of_line, row_i
 use Rattle.yq_documents.proofs.LineWritten.{head_none, head_quoted, head_some}
 use Rattle.yq_document_nodes.proofs.nodes.heads.line_head.Goals as goal
 
-pub has_head-requires-clause-document : goal.has_head-requires-clause-document
-has_head-requires-clause-document c = stands c.document_rows.ensures
-
-pub has_head-requires-clause-position : goal.has_head-requires-clause-position
-has_head-requires-clause-position c = line_here c.document_rows.ensures c.requires.line
-
 pub returns-then-not-has_head : goal.returns-then-not-has_head
 returns-then-not-has_head c = λ l e. head_none l.head (of_line c.document_rows.ensures c.args.at (λ m. false ≡ is_some m.head) c.if-not-has_head.ensures l e)
 
@@ -41,3 +35,9 @@ returns-in-None c = λ l e.
     ∙ (ap borrowed_head (c.head.ensures (slices k.row) k.pieces)
     ∙ (ap (λ o. decoded_or o (borrowed_head (slices k.row).head)) c.in-None.ensures
     ∙ (agrees.head ∙ head_some c.document_rows.ensures c.requires.line l e (of_line c.document_rows.ensures c.args.at (λ m. true ≡ is_some m.head) c.if-not-has_head.ensures l e))))
+
+pub has_head-requires-clause-document : goal.has_head-requires-clause-document
+has_head-requires-clause-document c = stands c.document_rows.ensures
+
+pub has_head-requires-clause-position : goal.has_head-requires-clause-position
+has_head-requires-clause-position c = line_here c.document_rows.ensures c.requires.line

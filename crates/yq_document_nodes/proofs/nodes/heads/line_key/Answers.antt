@@ -6,12 +6,6 @@ use Rattle.yq_documents.proofs.WalkedRows.{line_here, located_in, row_in, row_th
 use Rattle.yq_documents.proofs.LineWritten.{no_key, own_key}
 use Rattle.yq_document_nodes.proofs.nodes.heads.line_key.Goals as goal
 
-pub rank_at-requires-clause-within : goal.rank_at-requires-clause-within
-rank_at-requires-clause-within c = row_in c.document_rows.ensures c.requires.line
-
-pub rank_at-requires-clause-rows_view : goal.rank_at-requires-clause-rows_view
-rank_at-requires-clause-rows_view c = c.document_rows.ensures.small
-
 pub returns-then-rank_at-ne2 : goal.returns-then-rank_at-ne2
 returns-then-rank_at-ne2 c = λ l e. no_key c.document_rows.ensures c.requires.line l e c.rank_at.result c.rank_at.ensures c.if-rank_at-ne2.true
 
@@ -27,3 +21,9 @@ returns c = λ l e.
     let agrees = c.decoded.ensures k.row (row_there c.document_rows.ensures c.requires.line) in
     ap Some (c.decoded_key.ensures ∙ (ap (decoded_key (option_map (λ m. m.now) c.decoded.result)) (c.key.ensures (slices k.row) k.pieces) ∙ agrees.key))
     ∙ own_key c.document_rows.ensures c.requires.line l e c.rank_at.result c.rank_at.ensures c.if-rank_at-ne2.false
+
+pub rank_at-requires-clause-within : goal.rank_at-requires-clause-within
+rank_at-requires-clause-within c = row_in c.document_rows.ensures c.requires.line
+
+pub rank_at-requires-clause-rows_view : goal.rank_at-requires-clause-rows_view
+rank_at-requires-clause-rows_view c = c.document_rows.ensures.small

@@ -4,6 +4,9 @@ use Rattle.yq_flow_scalars.specs.Paths.{is_item}
 use Rattle.yq_documents.proofs.WalkedRows.{line_here, of_line, stands}
 use Rattle.yq_document_nodes.proofs.nodes.lines.begins_item.Goals as goal
 
+pub returns : goal.returns
+returns c = of_line c.document_rows.ensures c.args.at (λ l. c.is_item_at.result ≡ is_item (key_of l.mark)) c.is_item_at.ensures
+
 pub is_item_at-requires-clause-rows_view : goal.is_item_at-requires-clause-rows_view
 is_item_at-requires-clause-rows_view c = c.document_rows.ensures.small
 
@@ -12,6 +15,3 @@ is_item_at-requires-clause-document c = stands c.document_rows.ensures
 
 pub is_item_at-requires-clause-position : goal.is_item_at-requires-clause-position
 is_item_at-requires-clause-position c = line_here c.document_rows.ensures c.requires.line
-
-pub returns : goal.returns
-returns c = of_line c.document_rows.ensures c.args.at (λ l. c.is_item_at.result ≡ is_item (key_of l.mark)) c.is_item_at.ensures

@@ -3,6 +3,9 @@ use Rattle.yq_lines.specs.Positions.{is_bare}
 use Rattle.yq_documents.proofs.WalkedRows.{line_here, of_line, stands}
 use Rattle.yq_document_nodes.proofs.nodes.lines.begins_node.Goals as goal
 
+pub returns : goal.returns
+returns c = of_line c.document_rows.ensures c.args.at (λ l. c.is_bare.result ≡ is_bare l.mark) c.is_bare.ensures
+
 pub is_bare-requires-clause-rows_view : goal.is_bare-requires-clause-rows_view
 is_bare-requires-clause-rows_view c = c.document_rows.ensures.small
 
@@ -11,6 +14,3 @@ is_bare-requires-clause-document c = stands c.document_rows.ensures
 
 pub is_bare-requires-clause-position : goal.is_bare-requires-clause-position
 is_bare-requires-clause-position c = line_here c.document_rows.ensures c.requires.line
-
-pub returns : goal.returns
-returns c = of_line c.document_rows.ensures c.args.at (λ l. c.is_bare.result ≡ is_bare l.mark) c.is_bare.ensures

@@ -61,3 +61,9 @@ bare-preserved c =
 
 pub returns : goal.returns
 returns c = sym (ap (anchored (borrowed c.bare.anchor)) (no_value _ c.bare-test.ensures.test)) ∙ c.bare.invariant
+
+pub under_line-these-requires : goal.under_line-these-requires
+under_line-these-requires c = record { there = c.bare.these.there; line = c.bare-test.ensures.some refl }
+
+pub line_head-requires : goal.line_head-requires
+line_head-requires c = record { there = c.bare.these.there; line = c.bare-test.ensures.some refl }

@@ -1,4 +1,4 @@
-use Rattle.std.proofs.Common.{rules, ◌≡◌, List, [], ◌∷◌, Err, map, sym, ap, ◌∙◌, subst}
+use Rattle.std.proofs.Common.{◌≡◌, List, [], ◌∷◌, Err, map, sym, ap, ◌∙◌, subst}
 use Rattle.std.proofs.lemmas.Result.{err_from_is_err_and}
 use Rattle.yq_document_nodes.specs.Nodes.{node_of}
 use Rattle.yq_matching.specs.FoundView.{found_places}
@@ -15,7 +15,8 @@ use Rattle.yq_matching.proofs.matching.found.find_places.Goals as goal
 pub returns-in_err-places : goal.returns-in_err-places
 returns-in_err-places c =
     let p = err_from_is_err_and c.from_residual-in_err-places.result c.from_residual-in_err-places.ensures.1 in
-    let started : places_of c.in_ok-start.start.items ≡ root_place (node_of c.args.root) ∷ [] = search rules in
+    let started : places_of c.in_ok-start.start.items ≡ root_place (node_of c.args.root) ∷ [] = c.in_ok-start.ensures ∙ ap (λ (p : Place). p ∷ [])
+    c.of_root.ensures in
     failed _ _ _ _ (p.1 ∙ ap Err p.2)
     (subst (MatchFails c.in_err-places.field-0.0) (sym (each_last c.args.doc (map stage_of c.args.pipe.now) (map step_of c.in-Some.front.now) (node_of c.args.root) c.in-Some.ensures.1))
     (fails_then (for_each (step_on each)) (traverse (map step_of c.in-Some.front.now) (root_place (node_of c.args.root) ∷ [])) c.in_err-places.field-0.0
@@ -23,10 +24,14 @@ returns-in_err-places c =
 
 pub returns : goal.returns
 returns c =
-    let started : places_of c.in_ok-start.start.items ≡ root_place (node_of c.args.root) ∷ [] = search rules in
+    let started : places_of c.in_ok-start.start.items ≡ root_place (node_of c.args.root) ∷ [] = c.in_ok-start.ensures ∙ ap (λ (p : Place). p ∷ [])
+    c.of_root.ensures in
     subst (Judges found_places c.all_of.result)
     (sym (each_last c.args.doc (map stage_of c.args.pipe.now) (map step_of c.in-Some.front.now) (node_of c.args.root) c.in-Some.ensures.1
     ∙ (ap (λ (qs : List Place). and_then (for_each (step_on each)) (traverse (map step_of c.in-Some.front.now) qs)) (sym started)
     ∙ (ap (and_then (for_each (step_on each))) c.in_ok-places.ensures
     ∙ ap (λ (ps : List declared.Place). for_each (step_on each) (places_of ps)) (sym c.deref.ensures.value)))))
     c.all_of.ensures
+
+pub returns-in_default : goal.returns-in_default
+returns-in_default c = c.in_ok-find.ensures

@@ -3,7 +3,7 @@ use Rattle.std.proofs.lemmas.Result.{err_from_is_err_and}
 use Rattle.yq_meaning.specs.Pipes.{select_on}
 use Rattle.yq_matching.specs.PlaceView.{place_of, places_of}
 use Rattle.yq_program.specs.View.{condition_of}
-use Rattle.yq_matching.proofs.EachLaws.{each_more, each_fails, failed}
+use Rattle.yq_matching.proofs.EachLaws.{each_more, each_fails, failed, each_all}
 use Rattle.yq_matching.proofs.matching.pipe.select_each.Goals as goal
 
 pub returns-in_err-push_kept : goal.returns-in_err-push_kept
@@ -15,3 +15,8 @@ returns-in_err-push_kept c =
 pub places-preserved : goal.places-preserved
 places-preserved c =
     each_more place_of (select_on c.args.doc (condition_of c.args.condition.now)) (places_of c.places.kept.items) (places_of c.push_kept.new.places.items) c.args.places.now c.places.place-index c.place-item.result _ c.places-test.true c.place-item.is c.in_ok-push_kept.ensures c.places.invariant
+
+pub returns : goal.returns
+returns c =
+    each_all place_of (select_on c.args.doc (condition_of c.args.condition.now)) (places_of c.places.kept.items) c.args.places.now c.places.place-index _
+    c.places-test.false c.places.invariant

@@ -5,7 +5,7 @@ use Rattle.yq_lines.specs.Counts.{count}
 use Rattle.yq_document_nodes.specs.Nodes.{label_of, node_of}
 use Rattle.yq_matching.specs.PlaceView.{place_of, places_of}
 use Rattle.yq_meaning.specs.Places.{Place, child_place, stepped}
-use Rattle.yq_matching.proofs.PlaceLaws.{children_more, none_counted}
+use Rattle.yq_matching.proofs.PlaceLaws.{children_more, none_counted, next_fits}
 use Rattle.yq_matching.proofs.matching.traverse.push_children.Goals as goal
 
 pub each-preserved : goal.each-preserved
@@ -28,3 +28,6 @@ returns c =
     sym (append-nil (places_of c.each.places.items))
     ∙ (ap (λ (cs : Children). places_of c.each.places.items ++ map (child_place p) (stepped c.each.before cs)) (sym (none_counted (left_of c.each.children) zero))
     ∙ c.each.invariant.so_far)
+
+pub overflow_add-before : goal.overflow_add-before
+overflow_add-before c = next_fits c.each.before c.count-count.result c.each-test.true c.count-count.type_inv

@@ -6,7 +6,7 @@ use Rattle.yq_meaning.specs.Places as spec
 use Rattle.yq_program.specs.Program.{Step}
 use Rattle.yq_program.specs.View.{step_of}
 use Rattle.yq_matching.specs.declared.matching.place.Place as declared
-use Rattle.yq_matching.proofs.EachLaws.{chain_more, chain_fails, failed}
+use Rattle.yq_matching.proofs.EachLaws.{chain_more, chain_fails, failed, chain_all}
 use Rattle.yq_matching.proofs.matching.traverse.traverse.Goals as goal
 
 -- what a step does to all places
@@ -25,3 +25,6 @@ steps-preserved c =
     let same = ap (λ (ps : List declared.Place). spec.traverse (map step_of (drop c.steps.step-index c.args.steps.now)) (places_of ps)) c.deref.ensures.value in
     chain_more step_of on_all c.args.steps.now c.steps.step-index c.step-item.result (places_of c.deref.result.now) (places_of c.in_ok-places.places.items) _ c.steps-test.true c.step-item.is c.in_ok-places.ensures
     (same ∙ c.steps.invariant)
+
+pub returns : goal.returns
+returns c = chain_all step_of on_all c.args.steps.now c.steps.step-index (places_of c.steps.places.items) _ c.steps-test.false c.steps.invariant

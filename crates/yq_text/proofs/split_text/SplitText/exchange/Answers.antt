@@ -1,3 +1,5 @@
+use Rattle.yq_text.proofs.RoomLaws.{is_room}
+use Rattle.yq_text.specs.Split.{Split}
 use Rattle.std.proofs.Common.{sym, subst, length, ◌≤◌, ◌+◌}
 use Rattle.std.specs.Str.{IsCharBoundary}
 use Rattle.yq_text.proofs.SplitLaws.{kept_written, written_back}
@@ -12,3 +14,8 @@ pub returns-clause-back : goal.returns-clause-back
 returns-clause-back c = rw (← c.self.view_is, c.write.ensures) (written_back _ _ _ _ _ c.self.invariant
     (subst (λ s. IsCharBoundary s.back c.args.gone) (sym c.self.view_is) c.requires.gone)
     (subst (λ s. length c.args.text.now ≤ s.room + c.args.gone) (sym c.self.view_is) c.requires.room))
+
+pub overflow_add-self-2 : goal.overflow_add-self-2
+overflow_add-self-2 c = (is_room c.self.inside.bytes c.args.text.now c.self.inside.front c.self.inside.back c.args.gone c.self.invariant
+    (subst (λ (s : Split). IsCharBoundary s.back c.args.gone) (sym c.self.view_is) c.requires.gone)
+    (subst (λ (s : Split). length c.args.text.now ≤ s.room + c.args.gone) (sym c.self.view_is) c.requires.room)).fits

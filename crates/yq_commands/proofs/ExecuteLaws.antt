@@ -1,0 +1,78 @@
+-- What a command comes to, by the contract of the call that carries it out.
+use Rattle.std.proofs.Common.{◌≡◌, ◌≢◌, ℕ, Bool, List, Option, Result, Ok, Err, OnOk, sym, ◌∙◌, subst}
+use Rattle.std.specs.FinMap.{get}
+use Rattle.yq_records.specs.State.{State}
+use Rattle.yq_journal.specs.History.{History}
+use Rattle.yq_history.specs.declared.fault.Fault.{Fault}
+use Rattle.yq_history.specs.Causes.{Cause}
+use Rattle.yq_history.specs.Effects.{Effect, Works, from_names}
+use Rattle.yq_history.specs.Pair.{Arrives, GoodIn, OthersStay}
+use Rattle.yq_history.specs.Report.{Report}
+use Rattle.yq_store.specs.FileMap.{FileMap}
+use Rattle.yq_commands.specs.CommandEffects.{update_effect}
+use Rattle.yq_commands.specs.CommandNames.{Differs}
+use Rattle.yq_commands.specs.CommandSteps.{update_cause, update_next}
+use Rattle.yq_commands.specs.Editing.{program_in}
+use Rattle.yq_commands.specs.Evaluation.{cause_in, evaluated, report_in}
+use Rattle.yq_commands.specs.FileEdits.{IsFileEdited, PrintsEdited}
+
+-- ---- what is promised of a command, clause by clause
+
+-- ---- by the names of a file and a journal
+
+module _ (s t f j : List ℕ) (file_is : s ≡ f) (journal_is : t ≡ j) where
+  -- what holds of the names of a call holds of those on which its command works
+  pub by_names : (P : List ℕ → List ℕ → Type 0) (file journal : List ℕ) → (f ≡ file) × (j ≡ journal) → P s t → P file journal
+  by_names P file journal on h = subst (λ x. P x journal) (file_is ∙ on.0) (subst (P s) (journal_is ∙ on.1) h)
+
+  pub pair_arrives : (c d : FileMap) {T : Type 0} (r : Result T Fault) (cause : Option History → Option Cause) (next : Option History → Option History) →
+      (s ≢ t → (h : Option History) → GoodIn c s t h → Arrives d s t (cause h) h (next h) r) →
+      (file journal : List ℕ) → file ≢ journal → (f ≡ file) × (j ≡ journal) → (h : Option History) → GoodIn c file journal h → Arrives d file journal (cause h) h (next h) r
+  pair_arrives c d r cause next h file journal apart on =
+      by_names (λ x y. x ≢ y → (k : Option History) → GoodIn c x y k → Arrives d x y (cause k) k (next k) r) file journal on h apart
+
+  pub pair_works : (c d : FileMap) {T : Type 0} (r : Result T Fault) (go : List ℕ → State → Effect) → (s ≢ t → Works (from_names c s t go) s t c d r) →
+      (file journal : List ℕ) → file ≢ journal → (f ≡ file) × (j ≡ journal) → Works (from_names c file journal go) file journal c d r
+  pair_works c d r go h file journal apart on = by_names (λ x y. x ≢ y → Works (from_names c x y go) x y c d r) file journal on h apart
+
+  pub pair_others : (c d : FileMap) → OthersStay c d s t → (q : List ℕ) → Differs q f j → get d q ≡ get c q
+  pair_others c d h q apart = h q (λ is. apart.0 (is ∙ file_is)) (λ is. apart.1 (is ∙ journal_is))
+
+  -- an edit in place, by the bytes of its expression
+  pub update_arrives : (c d : FileMap) {T : Type 0} (r : Result T Fault) (e x : List ℕ) → e ≡ x →
+      (s ≢ t → (h : Option History) → GoodIn c s t h → Arrives d s t (update_cause (program_in e) h) h (update_next e (program_in e) h) r) →
+      (file journal : List ℕ) → file ≢ journal → (f ≡ file) × (j ≡ journal) → (h : Option History) → GoodIn c file journal h → Arrives d file journal (update_cause (program_in x) h) h (update_next x (program_in x) h) r
+  update_arrives c d r e x is h =
+      pair_arrives c d r (update_cause (program_in x)) (update_next x (program_in x))
+      (subst (λ y. s ≢ t → (k : Option History) → GoodIn c s t k → Arrives d s t (update_cause (program_in y) k) k (update_next y (program_in y) k) r) is h)
+
+  pub update_works : (c d : FileMap) {T : Type 0} (r : Result T Fault) (e x : List ℕ) → e ≡ x → (s ≢ t → Works (update_effect e (program_in e) (get c s) (get c t)) s t c d r) →
+      (file journal : List ℕ) → file ≢ journal → (f ≡ file) × (j ≡ journal) → Works (update_effect x (program_in x) (get c file) (get c journal)) file journal c d r
+  update_works c d r e x is h file journal apart on =
+      by_names (λ u v. u ≢ v → Works (update_effect x (program_in x) (get c u) (get c v)) u v c d r) file journal on
+      (subst (λ y. s ≢ t → Works (update_effect y (program_in y) (get c s) (get c t)) s t c d r) is h) apart
+
+  pub update_edits : (c d : FileMap) {T : Type 0} (r : Result T Fault) (e x : List ℕ) → e ≡ x → (s ≢ t → OnOk r (IsFileEdited e (get c s) (get d s))) → OnOk r (f ≢ j → IsFileEdited x (get c f) (get d f))
+  update_edits c d (Ok v) e x is h = λ apart.
+      subst (λ y. IsFileEdited y (get c f) (get d f)) is (subst (λ y. IsFileEdited e (get c y) (get d y)) file_is (h (λ same. apart (sym file_is ∙ same ∙ journal_is))))
+  update_edits c d (Err q) e x is h = tt
+
+-- ---- by the name of a file, and the bytes of an expression that isn't carried out in place
+
+module _ (s f : List ℕ) (file_is : s ≡ f) (e x : List ℕ) (is : e ≡ x) (exit_status no_doc : Bool) where
+  pub evaluate_arrives : (c d : FileMap) {T : Type 0} (r : Result T Fault) →
+      ((journal : List ℕ) (h : Option History) → GoodIn c s journal h → Arrives d s journal (cause_in (evaluated exit_status no_doc (program_in e) h)) h h r) →
+      (file journal : List ℕ) → f ≡ file → (h : Option History) → GoodIn c file journal h → Arrives d file journal (cause_in (evaluated exit_status no_doc (program_in x) h)) h h r
+  evaluate_arrives c d r h file journal on =
+      subst (λ y. (k : Option History) → GoodIn c y journal k → Arrives d y journal (cause_in (evaluated exit_status no_doc (program_in x) k)) k k r) (file_is ∙ on)
+      (subst (λ y. (k : Option History) → GoodIn c s journal k → Arrives d s journal (cause_in (evaluated exit_status no_doc (program_in y) k)) k k r) is (h journal))
+
+  pub evaluate_shows : (c : FileMap) {T : Type 0} (r : Result T Fault) (o : Report) →
+      ((journal : List ℕ) (h : Option History) → GoodIn c s journal h → OnOk r (o ≡ report_in (evaluated exit_status no_doc (program_in e) h))) →
+      (file journal : List ℕ) → f ≡ file → (h : Option History) → GoodIn c file journal h → OnOk r (o ≡ report_in (evaluated exit_status no_doc (program_in x) h))
+  evaluate_shows c r o h file journal on =
+      subst (λ y. (k : Option History) → GoodIn c y journal k → OnOk r (o ≡ report_in (evaluated exit_status no_doc (program_in x) k))) (file_is ∙ on)
+      (subst (λ y. (k : Option History) → GoodIn c s journal k → OnOk r (o ≡ report_in (evaluated exit_status no_doc (program_in y) k))) is (h journal))
+
+  pub evaluate_edits : (c : FileMap) {T : Type 0} (r : Result T Fault) (o : List ℕ) → OnOk r (PrintsEdited e (get c s) o) → OnOk r (PrintsEdited x (get c f) o)
+  evaluate_edits c r o h = subst (λ y. OnOk r (PrintsEdited y (get c f) o)) is (subst (λ y. OnOk r (PrintsEdited e (get c y) o)) file_is h)

@@ -1,0 +1,36 @@
+-- How a command ends, by how a call within it ended.
+use Rattle.std.proofs.Common.{◌≡◌, inl, inr, ℕ, List, Option, Some, None, Result, Ok, Err, IfErr, Vec, sym, ap, subst}
+use Rattle.std.specs.declared.alloc.Global.{Global}
+use Rattle.yq_journal.specs.History.{History}
+use Rattle.yq_records.specs.State.{State}
+use Rattle.yq_program.specs.Program.{Program}
+use Rattle.yq_store.specs.FileMap.{FileMap}
+use Rattle.yq_history.specs.declared.fault.Fault.{Fault}
+use Rattle.yq_history.specs.declared.fault.Fault.TheVariants.{NotThere}
+use Rattle.yq_history.specs.Causes.{Cause, IsFor, named}
+use Rattle.yq_history.specs.Faults.{is_outside}
+use Rattle.yq_history.specs.Pair.{Arrives, GoodIn, Opens, PairAtRest}
+use Rattle.yq_history.proofs.MoveLaws.{cut, is_refused}
+
+-- what is told of an error
+pub told : {T : Type 0} (P : Fault → Type 0) (r : Result T Fault) (e : Fault) → r ≡ Err e → P e → IfErr r P
+told P r e is h = subst (λ x. IfErr x P) (sym is) h
+
+-- the same, by what an expression is
+pub arrives_as : (c : FileMap) (f j : List ℕ) {T : Type 0} (r : Result T Fault) (cause : Result Program Fault → Option Cause) (next : Result Program Fault → Option History) (h : Option History) (p q : Result Program Fault) → p ≡ q →
+    Arrives c f j (cause p) h (next p) r → Arrives c f j (cause q) h (next q) r
+arrives_as c f j r cause next h p q is arrives = subst (λ x. Arrives c f j (cause x) h (next x) r) is arrives
+
+-- ---- from a pair that was opened, or was not
+
+module _ (cause : Option History → Option Cause) (next : Option History → Option History) (m d : FileMap) (f j : List ℕ) {T : Type 0} (r : Result T Fault) where
+  pub opened : (p : Vec ℕ Global × State) (h : Option History) → Opens m f j h (Ok p) →
+      ((x : History) → PairAtRest m f j p.1 p.0.items x → Arrives d f j (cause (Some x)) (Some x) (next (Some x)) r) → Arrives d f j (cause h) h (next h) r
+  opened p None opens go = absurd opens
+  opened p (Some x) opens go = go x opens
+
+  pub unopened : cause None ≡ Some (named NotThere) → (e : Fault) (h : Option History) → r ≡ Err e → Opens m f j h (Err e) → GoodIn m f j h → Arrives m f j (cause h) h (next h) r
+  unopened missed e None is (inl missing) good =
+      is_refused m f j (cause None) None (next None) r e is (ap is_outside missing) (subst (λ o. IsFor o e) (sym missed) missing) good
+  unopened missed e None is (inr out) good = cut m f j (cause None) None (next None) r e is out (inl good)
+  unopened missed e (Some x) is out good = cut m f j (cause (Some x)) (Some x) (next (Some x)) r e is out (inl good)

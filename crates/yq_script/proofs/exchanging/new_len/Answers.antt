@@ -1,0 +1,6 @@
+use Rattle.std.proofs.Common.{arith, length-append}
+use Rattle.yq_script.proofs.exchanging.new_len.Goals as goal
+
+pub len-len-requires : goal.len-len-requires
+len-len-requires c =
+    omega (arith, length-append c.new_of-new.result.front.now c.new_of-new.result.back.now, c.if-new-left.false, c.if-new-left-2.false)

@@ -1,0 +1,55 @@
+-- Where the split of a text may come to stand, in bytes, and what room there is.
+use Rattle.std.proofs.Common.{◌≡◌, ℕ, ◌+◌, ◌-◌, ◌≤◌, List, ◌++◌, Fits, Vec, w64, drop, length, take, arith, length-append, length-drop, length-take, refl, vec_len}
+use Rattle.std.specs.Global.{Global}
+use Rattle.std.specs.Str.{IsCharBoundary}
+use Rattle.yq_text.specs.Split.{IsKept}
+use Rattle.yq_text.proofs.SplitLaws.{reaches}
+
+-- how long a text is that is kept so
+pub kept_length : (xs : List ℕ) (f b n : ℕ) → IsKept xs f b → n ≡ length xs → f + (n - b) ≡ length (take f xs ++ drop b xs)
+kept_length xs f b n k e =
+    let both = length-append (take f xs) (drop b xs) in
+    omega (arith, e, k.order, k.within, both, length-take f xs, length-drop b xs)
+
+-- bytes that are written at the split, and those behind it that give way
+pub record IsRoom (v : Vec ℕ Global) (f b n gone : ℕ) : Type 0 where
+  pub within : f + n ≤ length v.items
+  pub fits : Fits w64 (b + gone)
+  pub left : ((b + gone) - (f + n)) + n ≡ (b - f) + gone
+
+pub is_room : (v : Vec ℕ Global) (ys : List ℕ) (f b gone : ℕ) → IsKept v.items f b → IsCharBoundary (drop b v.items) gone → length ys ≤ b - f + gone
+    → IsRoom v f b (length ys) gone
+is_room v ys f b gone k i l =
+    let r = reaches v.items ys f b gone k i l in
+    let order = k.order in
+    let first = v.ok.0 in
+    let second = v.ok.1 in
+    let small = v.small in
+    record {
+      within = omega (arith, r.0, r.1);
+      fits = omega (arith, r.1, first, second, small);
+      left = omega (arith, r.0, order);
+    }
+
+-- the split moved to the end
+pub record IsOn (v : Vec ℕ Global) (at f b : ℕ) : Type 0 where
+  pub fits : Fits w64 (b + (at - f))
+  pub within : b + (at - f) ≤ vec_len v
+  pub place : f + ((b + (at - f)) - b) ≤ vec_len v
+  pub room : (b + (at - f)) - at ≡ b - f
+
+pub is_on : (v : Vec ℕ Global) (at f b : ℕ) → IsKept v.items f b → IsCharBoundary (take f v.items ++ drop b v.items) at → f ≤ at → IsOn v at f b
+is_on v at f b k i le =
+    let order = k.order in
+    let in_bytes = k.within in
+    let first = v.ok.0 in
+    let second = v.ok.1 in
+    let small = v.small in
+    let all = kept_length v.items f b (length v.items) k refl in
+    let reach : at ≤ f + (length v.items - b) = omega (arith, i.0, all) in
+    record {
+      fits = omega (arith, reach, order, in_bytes, first, second, small, le);
+      within = omega (arith, reach, order, in_bytes, first, le);
+      place = omega (arith, reach, order, in_bytes, first, le);
+      room = omega (arith, order, le);
+    }
