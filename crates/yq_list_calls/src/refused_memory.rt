@@ -8,7 +8,7 @@ use yq_history::Fault;
 use yq_lists::Answer::{Done, NoMatch, Refused};
 use yq_lists::{Answer, MemoryOut, run_list};
 use yq_store::MemoryStore;
-use yq_text_calls::all_memory;
+use yq_calls::all_memory;
 use yq_words::Command;
 
 /// A list all of whose commands are carried out where there is memory.

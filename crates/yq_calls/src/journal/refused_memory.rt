@@ -7,7 +7,7 @@ use std::alloc::{AllocError, Global};
 use std::test::Fail;
 use yq_journal::Journal;
 use yq_records::JournalError;
-use yq_text_calls::all_memory;
+use crate::memory::all_memory;
 
 /// A journal: its cursor, its open move, and its records.
 type State = (&'static str, &'static str, &'static str);

@@ -9,7 +9,7 @@ use std::test::Fail;
 use yq_expr::Op;
 use yq_flow_scalars::ReadError;
 use yq_splice::{EditError, Edited, Session, Splice, apply_op};
-use yq_text_calls::all_memory;
+use crate::memory::all_memory;
 
 /// An operation applied by itself, behind answers that memory is wanting.
 pub(super) fn by_itself(alloc: Global, text: &str, op: &Op) -> Result<Edited, Fail>

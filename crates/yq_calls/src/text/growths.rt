@@ -1,7 +1,7 @@
 //! Each growth of a call refused in turn; with memory the call gives its answer, and some take memory
 //! once for it.
 
-use crate::called::{Call, called};
+use crate::text::called::{Call, called};
 use crate::memory::all_memory;
 use std::alloc::{AllocError, Global};
 use std::test::Fail;

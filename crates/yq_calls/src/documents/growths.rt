@@ -4,7 +4,7 @@ use std::alloc::{AllocError, Global};
 use std::test::Fail;
 use yq_expr::{ExprError, ParseError, Program, matches, parse_expr, plan};
 use yq_flow_scalars::ReadError;
-use yq_text_calls::all_memory;
+use crate::memory::all_memory;
 use yq_tree::{Documents, read};
 
 /// A call on an expression and a text: how many updates the expression has, how many documents the text,
