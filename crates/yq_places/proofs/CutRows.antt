@@ -5,9 +5,9 @@ use Rattle.std.specs.Prelude.{IfSome, Option}
 use Rattle.yq_cut.specs.Grammar.{IsCut}
 use Rattle.yq_cut.specs.View.{RowsView, rows_of, rows_view, slices}
 use Rattle.yq_documents.specs.Reading.{cut_of}
-use Rattle.yq_row_lines.specs.declared.line_position.KnownItems.{KnownItems}
-use Rattle.yq_row_lines.specs.Extents.{IsRowsView}
-use Rattle.yq_row_lines.specs.RowWalk.{AreKnown}
+use Rattle.yq_lines.specs.declared.line_position.KnownItems.{KnownItems}
+use Rattle.yq_lines.specs.Extents.{IsRowsView}
+use Rattle.yq_lines.specs.RowWalk.{AreKnown}
 use Rattle.yq_row_places.specs.declared.places.known_line.KnownLine.{KnownLine}
 use Rattle.yq_row_places.specs.RowWalk.{IsKnownLine}
 

@@ -11,9 +11,9 @@ use Rattle.yq_cut.specs.Grammar.{AreParts, IsCut, begins_document, no_rows}
 use Rattle.yq_cut.specs.Rows.{Row, Part, Cut, last, marked}
 use Rattle.yq_cut.specs.View.{RowsView, rows_of, rows_view}
 use Rattle.yq_cut.proofs.ScanLaws.{scan_again}
-use Rattle.yq_row_lines.specs.Lines.{lines_of}
-use Rattle.yq_row_lines.specs.RowWalk.{HasRows}
-use Rattle.yq_row_lines.specs.declared.line_position.Stretch.{Stretch}
+use Rattle.yq_lines.specs.Lines.{lines_of}
+use Rattle.yq_lines.specs.RowWalk.{HasRows}
+use Rattle.yq_lines.specs.declared.line_position.Stretch.{Stretch}
 use Rattle.yq_documents.specs.Documents.{begins_bare, document_parts, has_begin, parts_from, with_part}
 use Rattle.yq_documents.specs.Holding.{Holds, IsLocated}
 use Rattle.yq_documents.specs.Reading.{all_documents, cut_of, cut_or, has_short_root, have_fit_keys, is_document}

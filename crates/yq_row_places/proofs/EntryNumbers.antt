@@ -12,23 +12,23 @@ use Rattle.yq_cut.specs.Rows.{Row, Part, Cut}
 use Rattle.yq_cut.specs.View.{Slices, slices, RowsView, rows_view}
 use Rattle.yq_lines.specs.Ends.{line_of}
 use Rattle.yq_documents.specs.Documents.{document_parts}
-use Rattle.yq_row_lines.specs.Lines.{lines_of}
+use Rattle.yq_lines.specs.Lines.{lines_of}
 use Rattle.yq_documents.specs.Reading.{cut_of}
 use Rattle.yq_documents.specs.LinesInRows.{RowLine, document_row, row_line, row_line_of}
-use Rattle.yq_row_lines.specs.Extents.{lines_before_mark}
+use Rattle.yq_lines.specs.Extents.{lines_before_mark}
 use Rattle.yq_row_places.specs.PlacedRows.{PlacedPart, placed_document}
-use Rattle.yq_row_lines.specs.RowWalk.{HasRows, IsLine, deeper_rows, line_level, line_number}
+use Rattle.yq_lines.specs.RowWalk.{HasRows, IsLine, deeper_rows, line_level, line_number}
 use Rattle.yq_row_places.specs.Standings.{RowsOfEntry, entry_rows_at, rows_of_entry, under_count}
 use Rattle.yq_row_places.specs.StandingReading.{IsEntryIn, Numbers, numbers_at, numbers_of_entry, as_numbers}
 use Rattle.yq_row_places.specs.declared.places.rows_of_entry.RowsOfEntry as declared
-use Rattle.yq_row_lines.specs.declared.line_position.Position.{Position}
-use Rattle.yq_row_lines.specs.declared.line_position.Stretch.{Stretch}
+use Rattle.yq_lines.specs.declared.line_position.Position.{Position}
+use Rattle.yq_lines.specs.declared.line_position.Stretch.{Stretch}
 use Rattle.yq_row_places.proofs.EntryPlaceLaws.{row_line_is}
 use Rattle.yq_row_places.proofs.PlacedPartLaws.{map_some, part_stands, placed_is}
 use Rattle.yq_row_places.proofs.RowLineSpans.{steps_row}
 use Rattle.yq_row_places.proofs.WalkDocuments.{row_line_number}
-use Rattle.yq_row_lines.proofs.WalkRows.{rows_behind}
-use Rattle.yq_row_lines.proofs.WalkPositions.{located}
+use Rattle.yq_lines.proofs.WalkRows.{rows_behind}
+use Rattle.yq_lines.proofs.WalkPositions.{located}
 
 -- ---- where steps lead in a document
 

@@ -14,10 +14,10 @@ use Rattle.yq_cut.specs.Grammar.{IsContent, IsCut}
 use Rattle.yq_cut.specs.Rows.{Content, Row, parent_indent, Cut}
 use Rattle.yq_cut.specs.View.{Slices, slices, anchor_cut, content_cut, rows_of, RowsView, rows_view}
 use Rattle.yq_cut.proofs.PlaceLaws.{row_in}
-use Rattle.yq_row_lines.specs.Extents.{row_start, front_length, head_place, IsRowsView}
+use Rattle.yq_lines.specs.Extents.{row_start, front_length, head_place, IsRowsView}
 use Rattle.yq_documents.specs.RowReading.{is_block_head}
 use Rattle.yq_documents.proofs.HeadLaws.{block_marks}
-use Rattle.yq_row_lines.proofs.LengthLaws.{row_fits, view_small}
+use Rattle.yq_lines.proofs.LengthLaws.{row_fits, view_small}
 use Rattle.yq_row_places.specs.EntryReading.{ending, head_end, head_extent, through_row, head_finish}
 use Rattle.yq_row_places.proofs.RowStarts.{head_is, row_ends}
 

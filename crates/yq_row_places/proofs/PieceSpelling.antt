@@ -9,16 +9,14 @@ use Rattle.yq_flow_scalars.specs.Tree as tree
 use Rattle.yq_flow_scalars.proofs.Bools.{bind_some, guard_then}
 use Rattle.yq_nodes.specs.Entries.{inside}
 use Rattle.yq_nodes.specs.Nodes.{Node, node_text, empty, alias, scalar, coll, anchored, IsNode}
-use Rattle.yq_nodes.specs.Trees.{node_anchor, tree_of}
+use Rattle.yq_nodes.specs.Trees.{node_anchor, tree_of, node_head}
 use Rattle.yq_cut.specs.Rows.{Content, Nothing, Inline, Block, Cut}
 use Rattle.yq_documents.specs.declared.path.Part.{Part as WhichPart}
 use Rattle.yq_documents.specs.declared.path.Part.TheVariants as parts
 use Rattle.yq_documents.specs.declared.path.Path.{Path}
-use Rattle.yq_documents.specs.Documents.{document_parts}
+use Rattle.yq_documents.specs.Documents.{document_parts, Document}
 use Rattle.yq_lines.specs.Group.{group, level_or, is_fine}
-use Rattle.yq_row_lines.specs.Lines.{head_of, lines_of}
-use Rattle.yq_nodes.specs.Trees.{node_head}
-use Rattle.yq_documents.specs.Documents.{Document}
+use Rattle.yq_lines.specs.Lines.{head_of, lines_of}
 use Rattle.yq_lines.specs.Labelled.{Labelled, labelled_from}
 use Rattle.yq_lines.proofs.LabelPaths.{FoundEntry, path_entry}
 use Rattle.yq_documents.specs.Located.{steps_of, document_at, labelled_located, located, unlabelled}

@@ -21,7 +21,7 @@ use Rattle.yq_cut.proofs.NodePieces.{BeginsAscii, before_ascii}
 use Rattle.yq_cut.proofs.seams.SeamLaws.{rows_text-append}
 use Rattle.yq_cut.proofs.splices.SpliceTexts.{first_text}
 use Rattle.yq_documents.specs.Documents.{document_parts}
-use Rattle.yq_row_lines.specs.Extents.{IsRowsView, row_start}
+use Rattle.yq_lines.specs.Extents.{IsRowsView, row_start}
 use Rattle.yq_documents.specs.Pieces.{before_run}
 use Rattle.yq_documents.specs.Reading.{cut_of}
 use Rattle.yq_row_places.specs.PlacedRows.{PlacedPart, placed_document}
@@ -36,7 +36,7 @@ use Rattle.yq_row_places.proofs.RemovalLines.{LineSeam, are_lines, lies_in, line
 use Rattle.yq_row_places.proofs.RemovalPlaceLaws.{own_stands}
 use Rattle.yq_row_places.proofs.RemovalTexts.{old_text, texts_then}
 use Rattle.yq_documents.proofs.PartRows.{part_begins}
-use Rattle.yq_row_lines.proofs.KnownLaws.{get_dropped, get_front}
+use Rattle.yq_lines.proofs.KnownLaws.{get_dropped, get_front}
 use Rattle.yq_row_places.proofs.StartLaws.{start_agrees}
 
 -- ---- a text cut between lines

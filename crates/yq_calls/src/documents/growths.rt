@@ -1,10 +1,10 @@
 //! Each growth of a call refused in turn; with memory the call gives its answer.
 
+use crate::memory::all_memory;
 use std::alloc::{AllocError, Global};
 use std::test::Fail;
 use yq_expr::{ExprError, ParseError, Program, matches, parse_expr, plan};
 use yq_flow_scalars::ReadError;
-use crate::memory::all_memory;
 use yq_tree::{Documents, read};
 
 /// A call on an expression and a text: how many updates the expression has, how many documents the text,

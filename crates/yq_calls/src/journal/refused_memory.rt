@@ -3,11 +3,11 @@
 
 use crate::journal::PORT;
 use crate::journal::called::{Call, Opened, called};
+use crate::memory::all_memory;
 use std::alloc::{AllocError, Global};
 use std::test::Fail;
 use yq_journal::Journal;
 use yq_records::JournalError;
-use crate::memory::all_memory;
 
 /// A journal: its cursor, its open move, and its records.
 type State = (&'static str, &'static str, &'static str);

@@ -1,11 +1,11 @@
 //! Edits and printed values, each growth of a call refused in turn.
 
 use super::worked::{ROWS, Row, are_spliced};
+use crate::memory::all_memory;
 use std::alloc::{AllocError, Global};
 use std::test::Fail;
 use yq_expr::{Match, Program, Value, matches, parse_expr};
 use yq_splice::{EditError, Edited, edit, print};
-use crate::memory::all_memory;
 use yq_tree::read;
 
 /// With memory for so many more growths, the answer is want of memory, and then the edit: none where less

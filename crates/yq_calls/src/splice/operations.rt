@@ -4,12 +4,12 @@ ghost use Rattle.yq_meaning.specs.Operations.{operation_of};
 ghost use Rattle.yq_outcomes.specs.Theorems.{IsApplied, IsFitting};
 
 use super::texts::has_text;
+use crate::memory::all_memory;
 use std::alloc::Global;
 use std::test::Fail;
 use yq_expr::Op;
 use yq_flow_scalars::ReadError;
 use yq_splice::{EditError, Edited, Session, Splice, apply_op};
-use crate::memory::all_memory;
 
 /// An operation applied by itself, behind answers that memory is wanting.
 pub(super) fn by_itself(alloc: Global, text: &str, op: &Op) -> Result<Edited, Fail>

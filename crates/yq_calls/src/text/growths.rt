@@ -1,8 +1,8 @@
 //! Each growth of a call refused in turn; with memory the call gives its answer, and some take memory
 //! once for it.
 
-use crate::text::called::{Call, called};
 use crate::memory::all_memory;
+use crate::text::called::{Call, called};
 use std::alloc::{AllocError, Global};
 use std::test::Fail;
 use yq_block_scalars::Break;

@@ -3,9 +3,9 @@ use Rattle.yq_nodes.specs.Entries.{step_of}
 use Rattle.yq_lines.specs.View.{head_flow}
 use Rattle.yq_row_places.specs.FlowNodes.{flow_collection}
 use Rattle.yq_row_places.specs.NodeReading.{place_view}
-use Rattle.yq_row_lines.specs.RowWalk.{line_number}
+use Rattle.yq_lines.specs.RowWalk.{line_number}
 use Rattle.yq_flow_scalars.specs.Paths.{Step}
-use Rattle.yq_row_lines.specs.Lines.{lines_of}
+use Rattle.yq_lines.specs.Lines.{lines_of}
 use Rattle.yq_documents.specs.Reading.{cut_of}
 use Rattle.yq_row_places.proofs.FlowNodeLaws.{collection_is, agrees_for, head_line_at, head_for, no_collection, no_flow_agrees, no_head_at, other_head, rows_collection}
 use Rattle.yq_row_places.proofs.RowHeads.{line_fit, line_within, row_start, row_text}

@@ -4,9 +4,9 @@ use Rattle.yq_text.specs.Halves.{whole}
 use Rattle.yq_flow_scalars.specs.Characters.{text_limit}
 use Rattle.yq_cut.specs.View.{view, rows_of}
 use Rattle.yq_documents.specs.Reading.{cut_of}
-use Rattle.yq_row_lines.specs.Extents.{IsRowsView}
+use Rattle.yq_lines.specs.Extents.{IsRowsView}
 use Rattle.yq_row_places.proofs.FoundEntries.{within_some}
-use Rattle.yq_row_lines.proofs.LengthLaws.{row_fits, view_small}
+use Rattle.yq_lines.proofs.LengthLaws.{row_fits, view_small}
 use Rattle.yq_row_places.proofs.RowHeads.{head_boundary, has_head, row_boundary, row_taken, slices_are}
 use Rattle.yq_places.proofs.CutRows.{row_within, rows_are_view}
 use Rattle.yq_places.proofs.cut_text.CutText.row_head.Goals as goal

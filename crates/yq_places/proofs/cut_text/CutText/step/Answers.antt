@@ -1,7 +1,7 @@
 use Rattle.std.proofs.Common.{◌≡◌, Bool, true, false, cond, List, refl, ap, ◌∙◌}
 use Rattle.yq_lines.specs.Outline.{Line}
 use Rattle.yq_documents.specs.Reading.{cut_of}
-use Rattle.yq_row_lines.specs.Lines.{lines_of}
+use Rattle.yq_lines.specs.Lines.{lines_of}
 use Rattle.yq_row_places.specs.Steps.{Steps, first_step, is_kind, steps_in}
 use Rattle.yq_row_places.proofs.StepLaws.{steps_found}
 use Rattle.yq_row_places.proofs.WalkDocuments.{found_document}

@@ -5,7 +5,7 @@ use Rattle.yq_flow_scalars.specs.Text.{is_empty}
 use Rattle.yq_cut.specs.View.{Slices, view}
 use Rattle.yq_row_places.specs.CommentPlaces.{end_before}
 use Rattle.yq_row_places.specs.LineReading.{lines_view}
-use Rattle.yq_row_lines.specs.RowWalk.{line_column}
+use Rattle.yq_lines.specs.RowWalk.{line_column}
 use Rattle.yq_row_places.proofs.EntryRowLaws.{column_fits, last_within, pieces_at, row_within, is_view}
 use Rattle.yq_row_places.proofs.HeldTexts.{column_is}
 use Rattle.yq_row_places.proofs.LoneLaws.{dash_cut, dash_fits, dash_lines}
