@@ -1,16 +1,8 @@
-//! Tests of the public calls on parts of a text, documents, programs, edits,
-//! operations, sessions and journals, and of the printing of values: what
-//! their contracts leave open. [`all_memory`] is for all tests.
+//! Tests of the public calls on edits, operations, sessions and journals, and
+//! of the printing of values: what their contracts leave open.
 #![tactic(auto)]
 
 #[cfg(test)]
-mod documents;
-#[cfg(test)]
 mod journal;
-mod memory;
 #[cfg(test)]
 mod splice;
-#[cfg(test)]
-mod text;
-
-pub use memory::all_memory;

@@ -4,7 +4,7 @@
 use crate::stores::{FILE, JOURNAL, commands_of, holds, store_with};
 use std::alloc::{AllocError, Global};
 use std::test::Fail;
-use yq_calls::all_memory;
+use yq_document_calls::all_memory;
 use yq_history::Fault;
 use yq_lists::Answer::{Done, NoMatch, Refused};
 use yq_lists::{Answer, MemoryOut, run_list};

@@ -3,9 +3,9 @@
 
 use crate::journal::PORT;
 use crate::journal::called::{Call, Opened, called};
-use crate::memory::all_memory;
 use std::alloc::{AllocError, Global};
 use std::test::Fail;
+use yq_document_calls::all_memory;
 use yq_journal::Journal;
 use yq_records::JournalError;
 

@@ -1,9 +1,9 @@
 //! Edits and printed values, each growth of a call refused in turn.
 
 use super::worked::{ROWS, Row, are_spliced};
-use crate::memory::all_memory;
 use std::alloc::{AllocError, Global};
 use std::test::Fail;
+use yq_document_calls::all_memory;
 use yq_expr::{Match, Program, Value, matches, parse_expr};
 use yq_splice::{EditError, Edited, edit, print};
 use yq_tree::read;

@@ -4,9 +4,9 @@ ghost use Rattle.yq_meaning.specs.Operations.{operation_of};
 ghost use Rattle.yq_outcomes.specs.Theorems.{IsApplied, IsFitting};
 
 use super::texts::has_text;
-use crate::memory::all_memory;
 use std::alloc::Global;
 use std::test::Fail;
+use yq_document_calls::all_memory;
 use yq_expr::Op;
 use yq_flow_scalars::ReadError;
 use yq_splice::{EditError, Edited, Session, Splice, apply_op};
