@@ -9,7 +9,7 @@ use Rattle.yq_cut.specs.Rows.{Row}
 use Rattle.yq_flow_scalars.specs.Anchors.{names_of, names_in, AreBound}
 use Rattle.yq_lines.specs.LineAnchors.{HaveOneAnchorEach}
 use Rattle.yq_documents.specs.Documents.{MarkIsFit, ContentHasFitKeys, HaveFitKeys}
-use Rattle.yq_row_lines.specs.Lines.{content_anchor, lines_from, lines_of}
+use Rattle.yq_lines.specs.Lines.{content_anchor, lines_from, lines_of}
 use Rattle.yq_lines.specs.Outline.{Line}
 use Rattle.yq_block.specs.BlockRows.{children_rows, column_below, end_before, entry_rows, inline_of, node_rows}
 use Rattle.yq_block.specs.declared.layout.Layout.{Layout}

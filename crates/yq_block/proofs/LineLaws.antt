@@ -13,7 +13,7 @@ use Rattle.yq_lines.specs.Comments.{head_comment, line_comment}
 use Rattle.yq_cut.specs.Rows as rows
 use Rattle.yq_cut.specs.Rows.{Nothing, Inline, Row}
 use Rattle.yq_lines.specs.Grammar.{IsNode, mapping, sequence, AreEntries, no_more, entry, IsUnder, headed, deeper_lines}
-use Rattle.yq_row_lines.specs.Lines.{mark_line, dash_line, lines_of}
+use Rattle.yq_lines.specs.Lines.{mark_line, dash_line, lines_of}
 use Rattle.yq_lines.specs.Outline.{Mark, Bare, Key, Dash, Line, rank, level, anchored, label}
 use Rattle.yq_lines.proofs.NodeLaws.{anchored_none}
 use Rattle.yq_row_places.proofs.UnderExchange.{lines_append}
@@ -83,10 +83,10 @@ keyed_level false column = 3 * column + 3
 under_key : (l : Layout) (column : ℕ) (n : tree.Node) → 1 ≤ l.mapping → IsFilled n → keyed_level true column < level_at (column + indent_step l n) n
 under_key l column n h1 h2 = search rules
 
-key_label : (k : List ℕ) (column : ℕ) (c : rows.Content) → IsUtf8 k → line_comment (Rattle.yq_row_lines.specs.Lines.tail_of c) ≡ None → label (mark_line (head_comment []) column (rows.Key (block_key k) (58 ∷ [])) c) ≡ inner (Some k)
+key_label : (k : List ℕ) (column : ℕ) (c : rows.Content) → IsUtf8 k → line_comment (Rattle.yq_lines.specs.Lines.tail_of c) ≡ None → label (mark_line (head_comment []) column (rows.Key (block_key k) (58 ∷ [])) c) ≡ inner (Some k)
 key_label k column c u uncommented = λ i. record { key = Some (key_content_is k u i); head_comment = no_head i; line_comment = uncommented i }
 
-dash_label : (column : ℕ) (c : rows.Content) → line_comment (Rattle.yq_row_lines.specs.Lines.tail_of c) ≡ None → label (mark_line (head_comment []) column rows.Dash c) ≡ inner None
+dash_label : (column : ℕ) (c : rows.Content) → line_comment (Rattle.yq_lines.specs.Lines.tail_of c) ≡ None → label (mark_line (head_comment []) column rows.Dash c) ≡ inner None
 dash_label column c uncommented = λ i. record { key = None; head_comment = no_head i; line_comment = uncommented i }
 
 entry_lines : (l : Layout) (column : ℕ) (end : List ℕ) (keyed : Bool) (own_label : tree.Label) (n : tree.Node) (node : Option inline.Node) (below : List Row) (after : List Line) (cs : Children) → 1 ≤ l.mapping →

@@ -13,7 +13,7 @@ use Rattle.yq_cut.proofs.AlikeRows.{row_gap_alike, dashes_text_alike}
 use Rattle.yq_nodes.proofs.Alikes.{alike_append, alike_marker}
 use Rattle.yq_cut.proofs.ExchangeLaws.{one_row, relimit, chain}
 use Rattle.yq_cut.proofs.NodeExchange.{mark_apart}
-use Rattle.yq_row_lines.specs.Lines.{dash_line, lines_from, row_lines, lines_of}
+use Rattle.yq_lines.specs.Lines.{dash_line, lines_from, row_lines, lines_of}
 use Rattle.yq_lines.specs.Outline as outline
 use Rattle.yq_cut.specs.Joined.{dashed_row, compact_row}
 use Rattle.yq_cut.proofs.seams.JoinLaws.{space_apart, dashes_text-append, behind_columns-append}

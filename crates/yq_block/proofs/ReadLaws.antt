@@ -15,12 +15,12 @@ use Rattle.yq_cut.specs.Rows.{Bare, Inline, Row, rows_text, last}
 use Rattle.yq_cut.specs.Splices.{first_gap}
 use Rattle.yq_documents.specs.Documents.{IsRoot, HasShortRoot, is_long_plain, Reads, document_parts, AreDocuments}
 use Rattle.yq_lines.specs.Grammar.{IsNode, alone, mapping}
-use Rattle.yq_row_lines.specs.Lines.{lines_of}
+use Rattle.yq_lines.specs.Lines.{lines_of}
 use Rattle.yq_lines.specs.Outline.{Line}
 use Rattle.yq_block_scalars.specs.BlockWritten.{break_text}
 use Rattle.yq_cut.proofs.PlainEnds.{end_line}
 use Rattle.yq_nodes.proofs.Alikes.{no_first}
-use Rattle.yq_block.specs.BlockLaws.{ReadsAlone}
+use Rattle.yq_block.specs.BlockLaws.{ReadsAlone, IsHead}
 use Rattle.yq_block.specs.BlockRows.{node_rows}
 use Rattle.yq_block.specs.BlockText.{block_node, block_value}
 use Rattle.yq_block.specs.BlockValues.{HasNearKeys, IsCollection, IsFilled, MayBeRoot}
@@ -33,7 +33,6 @@ use Rattle.yq_block.proofs.LineLaws.{break_uncommented, unanchored, no_head, nod
 use Rattle.yq_block.proofs.RowLaws.{node_laid}
 use Rattle.yq_block.proofs.ScalarLaws.{heads}
 use Rattle.yq_block.proofs.TextLaws.{node_spelled}
-use Rattle.yq_block.specs.BlockLaws.{IsHead}
 use Rattle.yq_lines.specs.Comments.{head_comment}
 
 -- What is asked of rows that are all of a text, and stand for a node.

@@ -19,7 +19,7 @@ use Rattle.yq_cut.specs.Rows.{rows_text}
 use Rattle.yq_lines.specs.LineAnchors.{HaveOneAnchorEach}
 use Rattle.yq_documents.specs.Documents.{HasFitKeys, HaveFitKeys, Reads}
 use Rattle.yq_nodes.specs.Trees.{node_anchor, node_head}
-use Rattle.yq_row_lines.specs.Lines.{lines_of}
+use Rattle.yq_lines.specs.Lines.{lines_of}
 use Rattle.yq_lines.specs.Outline.{Stands}
 use Rattle.yq_block.specs.declared.layout.Layout.{Layout}
 use Rattle.yq_block.specs.BlockRows.{inline_of, column_below, node_rows}

@@ -8,7 +8,7 @@ use Rattle.yq_cut.specs.Exchange.{asked_behind, with_content}
 use Rattle.yq_cut.specs.Grammar.{IsContent, is_entry, Limit, allows, IsRow, AreRows}
 use Rattle.yq_cut.specs.Joined.{dashed_row, compact_row}
 use Rattle.yq_cut.specs.Rows.{Dash, Content, Nothing, content_text, Row, parent_indent, mark_column, print_row, rows_text}
-use Rattle.yq_row_lines.specs.Lines.{row_lines, lines_of}
+use Rattle.yq_lines.specs.Lines.{row_lines, lines_of}
 use Rattle.yq_block.specs.declared.layout.Layout.{Layout}
 use Rattle.yq_block.specs.BlockRows.{item_column, node_rows}
 use Rattle.yq_block.specs.BlockValues.{IsFilledValue, IsWritable}

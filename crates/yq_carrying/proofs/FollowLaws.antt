@@ -15,9 +15,9 @@ use Rattle.yq_cut.specs.declared.places.Places.{Places}
 use Rattle.yq_cut.proofs.MeterLaws.{counted_within}
 use Rattle.yq_documents.specs.Documents.{Document, Reads}
 use Rattle.yq_documents.specs.Reading.{documents, cut_of, read_at}
-use Rattle.yq_row_lines.specs.RowWalk.{AreKnown}
+use Rattle.yq_lines.specs.RowWalk.{AreKnown}
 use Rattle.yq_row_places.specs.RowWalk.{StayKnown}
-use Rattle.yq_row_lines.specs.declared.line_position.KnownItems.{KnownItems}
+use Rattle.yq_lines.specs.declared.line_position.KnownItems.{KnownItems}
 use Rattle.yq_row_places.proofs.ReadLaws.{parts_read}
 use Rattle.yq_meaning.specs.Fits.{Fits}
 use Rattle.yq_meaning.specs.Operations.{Operation}
@@ -33,12 +33,12 @@ use Rattle.yq_session.specs.declared.kept.Kept.{Kept}
 use Rattle.yq_edits.specs.Edits.{edits, or_stay}
 use Rattle.yq_edits.specs.Local.{IsLocalTo}
 use Rattle.yq_edits.specs.Operands.{HasOperand}
-use Rattle.yq_block_edits.specs.TouchedRanges.{IsLocalEdit}
+use Rattle.yq_node_edits.specs.TouchedRanges.{IsLocalEdit}
 use Rattle.yq_script.proofs.KeptSegments.{IsBetween, between}
-use Rattle.yq_block_edits.proofs.NearLaws.{edits_are_near}
-use Rattle.yq_block_edits.proofs.TouchLaws.{local_touches}
-use Rattle.yq_block_edits.proofs.TouchedLaws.{near_touched}
-use Rattle.yq_flow_edits.proofs.CutLaws.{cut_read, cut_same, text_read}
+use Rattle.yq_node_edits.proofs.NearLaws.{edits_are_near}
+use Rattle.yq_node_edits.proofs.TouchLaws.{local_touches}
+use Rattle.yq_node_edits.proofs.TouchedLaws.{near_touched}
+use Rattle.yq_node_edits.proofs.CutLaws.{cut_read, cut_same, text_read}
 use Rattle.yq_outcomes.specs.Carried.{carried}
 use Rattle.yq_outcomes.specs.Edit.{gives}
 use Rattle.yq_carrying.specs.Session.{HasPlaces, KnowsItems, Scans}

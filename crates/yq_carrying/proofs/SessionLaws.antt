@@ -18,16 +18,16 @@ use Rattle.yq_cut.specs.View.{RowsView, rows_view}
 use Rattle.yq_cut.specs.declared.places.Places.{Places}
 use Rattle.yq_cut.proofs.PlacedLaws.{split_boundary}
 use Rattle.yq_documents.specs.Reading.{all_documents, documents, cut_of, read_at}
-use Rattle.yq_row_lines.specs.RowWalk.{AreKnown}
+use Rattle.yq_lines.specs.RowWalk.{AreKnown}
 use Rattle.yq_row_places.specs.RowWalk.{HasCut, StayKnown}
-use Rattle.yq_row_lines.specs.declared.line_position.KnownItems.{KnownItems}
+use Rattle.yq_lines.specs.declared.line_position.KnownItems.{KnownItems}
 use Rattle.yq_row_places.proofs.ReadLaws.{text_takes, read_takes}
 use Rattle.yq_meaning.specs.Operations.{Operation}
 use Rattle.yq_script.specs.Changing.{IsChange}
 use Rattle.yq_script.specs.Script.{new_text}
 use Rattle.yq_script.specs.declared.changed.Changed.{Changed}
 use Rattle.yq_session.specs.Following.{ArePlacesOf}
-use Rattle.yq_flow_edits.proofs.CutLaws.{cut_read, cut_same}
+use Rattle.yq_node_edits.proofs.CutLaws.{cut_read, cut_same}
 use Rattle.yq_outcomes.specs.Carried.{carry_one, carried}
 use Rattle.yq_outcomes.specs.Edit.{gives, by_reading, exchange_edit}
 use Rattle.yq_carrying.specs.Session.{HasPlaces, KnowsItems, NotOpened}

@@ -10,15 +10,15 @@ use Rattle.yq_cut.specs.Touched.{TouchesOnly}
 use Rattle.yq_cut.specs.View.{rows_view}
 use Rattle.yq_cut.specs.declared.places.Places.{Places}
 use Rattle.yq_documents.specs.Reading.{cut_of, read_at}
-use Rattle.yq_row_lines.specs.RowWalk.{AreKnown}
-use Rattle.yq_row_lines.specs.declared.line_position.KnownItems.{KnownItems}
+use Rattle.yq_lines.specs.RowWalk.{AreKnown}
+use Rattle.yq_lines.specs.declared.line_position.KnownItems.{KnownItems}
 use Rattle.yq_meaning.specs.Operations.{Operation}
 use Rattle.yq_script.specs.Script.{Segment, kept_front, kept_back, new_text}
 use Rattle.yq_script.specs.Splice.{Splice}
 use Rattle.yq_session.specs.Following.{read_text}
 use Rattle.yq_session.specs.declared.kept.Kept.{Kept}
 use Rattle.yq_edits.specs.Edits.{edits}
-use Rattle.yq_block_edits.specs.TouchedRanges.{PutAreTouched}
+use Rattle.yq_node_edits.specs.TouchedRanges.{PutAreTouched}
 use Rattle.yq_outcomes.specs.Theorems.{HasReading}
 
 -- What a session is known by: its text, and how many lines were counted (own).

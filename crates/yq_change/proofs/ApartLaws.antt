@@ -1,6 +1,5 @@
 -- Where lines begin and end among rows, by their levels.
-use Rattle.std.proofs.Common.{◌≡◌, ◌⊎◌, inl, inr, ⊎_elim, ℕ, suc, ◌+◌, ◌*◌, ◌≤◌, List, [], ◌∷◌, ◌++◌, Option, Some, None, option_map, is_some, Bool, true, false, cond, refl, sym}
-use Rattle.std.proofs.Common.{ap, ◌∙◌, subst, arith}
+use Rattle.std.proofs.Common.{◌≡◌, ◌⊎◌, inl, inr, ⊎_elim, ℕ, suc, ◌+◌, ◌*◌, ◌≤◌, List, [], ◌∷◌, ◌++◌, Option, Some, None, option_map, is_some, Bool, true, false, cond, refl, sym, ap, ◌∙◌, subst, arith}
 use Rattle.std.proofs.lemmas.Bool.{false≢true}
 use Rattle.std.proofs.lemmas.Option.{same_Some}
 use mathlib.Core.List.{head-eq_of_cons-eq, tail-eq_of_cons-eq}
@@ -10,10 +9,8 @@ use Rattle.yq_lines.specs.Comments.{head_comment}
 use Rattle.yq_cut.specs.Rows as rows
 use Rattle.yq_cut.specs.Rows.{Content, Row}
 use Rattle.yq_lines.specs.Group.{level_or}
-use Rattle.yq_row_lines.specs.Lines.{mark_line, lines_from, row_lines, lines_of}
-use Rattle.yq_lines.specs.Outline.{Line, level, Outline, flatten, IsOpen, IsEven, label}
-use Rattle.yq_lines.specs.Outline.{end}
-use Rattle.yq_lines.specs.Outline.{row}
+use Rattle.yq_lines.specs.Lines.{mark_line, lines_from, row_lines, lines_of}
+use Rattle.yq_lines.specs.Outline.{Line, level, Outline, flatten, IsOpen, IsEven, label, end, row}
 use Rattle.yq_lines.specs.Places.{Context, here, below, beside, lines_before, lines_after, FoundLine, next_to, find_row}
 use Rattle.yq_lines.proofs.Allowing.{Allows}
 use Rattle.yq_lines.proofs.PlaceLaws.{at}

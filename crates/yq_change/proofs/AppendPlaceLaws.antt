@@ -19,7 +19,7 @@ use Rattle.yq_cut.proofs.seams.SeamLaws.{part_line}
 use Rattle.yq_cut.proofs.splices.PartPlaces.{part_in, part_ends}
 use Rattle.yq_cut.proofs.splices.SpliceTexts.{first_is}
 use Rattle.yq_row_places.specs.CollectionEnds.{CollectionEnd}
-use Rattle.yq_row_lines.specs.Lines.{mark_line, lines_from, row_lines, lines_of}
+use Rattle.yq_lines.specs.Lines.{mark_line, lines_from, row_lines, lines_of}
 use Rattle.yq_documents.specs.Reading.{outline_of}
 use Rattle.yq_row_places.proofs.UnderExchange.{lines_append}
 use Rattle.yq_change.specs.CollectionPlaces.{BeginsAt, IsCollectionEnd}

@@ -9,7 +9,7 @@ use Rattle.yq_cut.specs.Rows.{Row, Part, Cut, last, marked, cut_text}
 use Rattle.yq_documents.specs.Documents.{Document, parts_from, has_begin, begins_bare, document_parts, lead_of}
 use Rattle.yq_documents.specs.PartNumbers.{number_from}
 use Rattle.yq_cut.specs.Splices.{first_gap}
-use Rattle.yq_row_lines.specs.Lines.{lines_from, lines_of}
+use Rattle.yq_lines.specs.Lines.{lines_from, lines_of}
 use Rattle.yq_lines.specs.Outline.{Line, end}
 use Rattle.yq_documents.specs.Reading.{root_of, document_of, is_document, all_documents, read_at}
 use Rattle.yq_lines.proofs.ByRules.{rules_from}

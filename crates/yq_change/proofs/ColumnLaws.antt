@@ -1,6 +1,5 @@
 -- Where rows may stand, by the levels of lines.
-use Rattle.std.proofs.Common.{◌≡◌, ℕ, zero, suc, ◌+◌, ◌*◌, ◌-◌, ◌<◌, ◌≤◌, ℤ, pos, List, [], ◌∷◌, ◌++◌, Option, Some, None, is_some, true, refl, sym, ap, rules}
-use Rattle.std.proofs.Common.{◌∙◌, subst, arith, ⊎_elim, append_assoc}
+use Rattle.std.proofs.Common.{◌≡◌, ℕ, zero, suc, ◌+◌, ◌*◌, ◌-◌, ◌<◌, ◌≤◌, ℤ, pos, List, [], ◌∷◌, ◌++◌, Option, Some, None, is_some, true, refl, sym, ap, rules, ◌∙◌, subst, arith, ⊎_elim, append_assoc}
 use Rattle.std.proofs.lemmas.Bool.{false≢true, lt-ltb, ltb-true}
 use Rattle.std.proofs.lemmas.Option.{none-some, same_Some}
 use mathlib.Core.List.{head-eq_of_cons-eq}
@@ -12,7 +11,7 @@ use Rattle.yq_cut.specs.Grammar.{Limit, allows, limit_after, limit_behind, AreDa
 use Rattle.yq_cut.specs.Rows as rows
 use Rattle.yq_cut.specs.Rows.{Content, Row, behind_columns, before_column, mark_column, parent_of, parent_indent, rows_text}
 use Rattle.yq_cut.specs.Removal.{block_of, last_block, next_column, StandsLess}
-use Rattle.yq_row_lines.specs.Lines.{mark_line, lines_from, row_lines, lines_of, head_of}
+use Rattle.yq_lines.specs.Lines.{mark_line, lines_from, row_lines, lines_of, head_of}
 use Rattle.yq_lines.specs.Outline.{Line, level}
 use Rattle.yq_lines.proofs.Values.{rank_small}
 use Rattle.yq_change.specs.Moved.{dash_lines}
@@ -40,7 +39,7 @@ high_level l = omega (arith, rank_small l.mark)
 first_high : (above : List (List ℕ)) (column : ℕ) (ns : List ℕ) (m : rows.Mark) (c : Content) (rest : List Line) (l : Line) (ls : List Line) → lines_from above column ns m c ++ rest ≡ l ∷ ls →
     level l ≤ 3 * column + 3
 first_high above column [] m c rest l ls e = let high = high_level (mark_line above column m c) in let same = ap level (head-eq_of_cons-eq e) in omega (arith, high, same)
-first_high above column (n ∷ ns) m c rest l ls e = let x = Rattle.yq_row_lines.specs.Lines.dash_line above column in let high = high_level x in let same = ap level (head-eq_of_cons-eq e) in omega (arith, high, same)
+first_high above column (n ∷ ns) m c rest l ls e = let x = Rattle.yq_lines.specs.Lines.dash_line above column in let high = high_level x in let same = ap level (head-eq_of_cons-eq e) in omega (arith, high, same)
 
 bare_high : (n : ℕ) (above : List (List ℕ)) (column : ℕ) (c : Content) (rest : List Line) → AreDeep n (lines_from above column [] rows.Bare c ++ rest) → n ≤ 3 * column + 1
 unfolding level

@@ -12,7 +12,7 @@ use Rattle.yq_cut.proofs.splices.RowReplaced.{tail_replaced}
 use Rattle.yq_documents.specs.Documents.{HaveFitKeys, HasShortRoot, lead_of}
 use Rattle.yq_lines.specs.Group.{level_or}
 use Rattle.yq_lines.specs.Laws.{with_lines}
-use Rattle.yq_row_lines.specs.Lines.{tail_of, mark_line, lines_of}
+use Rattle.yq_lines.specs.Lines.{tail_of, mark_line, lines_of}
 use Rattle.yq_lines.specs.Outline.{Line, level, flatten, label}
 use Rattle.yq_lines.specs.Places.{lines_before, lines_after, FoundLine}
 use Rattle.yq_documents.specs.Reading.{outline_of}

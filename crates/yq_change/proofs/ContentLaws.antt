@@ -26,11 +26,10 @@ use Rattle.yq_cut.specs.SpliceFits.{StandsFor}
 use Rattle.yq_cut.specs.Splices.{asked_at, first_gap, nth_part, rest_behind, splice}
 use Rattle.yq_cut.proofs.splices.RowReplaced.{row_exchanged}
 use Rattle.yq_documents.specs.Documents.{HaveFitKeys, HasShortRoot, lead_of}
-use Rattle.yq_row_lines.specs.Lines.{block_anchor, content_anchor, head_of, mark_of, mark_line, lines_of}
-use Rattle.yq_documents.specs.TreeEdits.{anchor_of}
+use Rattle.yq_lines.specs.Lines.{block_anchor, content_anchor, head_of, mark_of, mark_line, lines_of}
+use Rattle.yq_documents.specs.TreeEdits.{anchor_of, replaced}
 use Rattle.yq_documents.specs.Reading.{outline_of, root_of}
 use Rattle.yq_row_places.specs.RowPaths.{spelled, IsReadable}
-use Rattle.yq_documents.specs.TreeEdits.{replaced}
 use Rattle.yq_change.specs.Changed.{IsChanged, put_document}
 use Rattle.yq_change.specs.Contents.{recontent, TakesContent, LowerContentReplaced, RootContentReplaced}
 use Rattle.yq_change.specs.Appends.{inserted}

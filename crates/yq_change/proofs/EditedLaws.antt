@@ -12,7 +12,7 @@ use Rattle.yq_lines.specs.LineAnchors.{IsFree, HaveOneAnchorEach}
 use Rattle.yq_documents.specs.Documents.{document_parts, lead_of}
 use Rattle.yq_lines.specs.Group.{level_or}
 use Rattle.yq_lines.specs.Laws.{with_lines}
-use Rattle.yq_row_lines.specs.Lines.{lines_of}
+use Rattle.yq_lines.specs.Lines.{lines_of}
 use Rattle.yq_lines.specs.Outline.{Mark, Bare, Key, Dash, Line, level, Outline, end, row, flatten, IsWhole, IsEven, anchored, head_or, label, collection, children, value}
 use Rattle.yq_lines.specs.Places.{lines_before, lines_after, plug, FoundLine, find, content}
 use Rattle.yq_documents.specs.Reading.{is_document, outline_of, read_at, root_of}
@@ -30,8 +30,7 @@ use Rattle.yq_lines.proofs.NameLaws.{each_front, each_back}
 use Rattle.yq_lines.proofs.NodeLaws.{anchored_none}
 use Rattle.yq_change.specs.Changed.{IsChanged, put_document, first_comment}
 use Rattle.yq_change.specs.Conditions.{last_anchor, BeginsEntry}
-use Rattle.yq_change.specs.Edited.{IsPut, OldIsEven, OldIsSound, LinesAreThere, LineExchanged, LinesExchanged, LinesAppended, LinesRemoved, LineRelabelled, LeadIsAbove}
-use Rattle.yq_change.specs.Edited.{first_above, RootHasLead}
+use Rattle.yq_change.specs.Edited.{IsPut, OldIsEven, OldIsSound, LinesAreThere, LineExchanged, LinesExchanged, LinesAppended, LinesRemoved, LineRelabelled, LeadIsAbove, first_above, RootHasLead}
 use Rattle.yq_change.specs.SoundRoots.{IsSoundRoot}
 use Rattle.yq_change.specs.Siblings.{append_outline, IsEntry, HasEntries, NodeLines, put_lines, StandsSomewhere}
 use Rattle.yq_change.proofs.AnchorLaws.{any_free, anchors_stay, after_anew, both_anew, collection_anew, lines_among}

@@ -1,6 +1,5 @@
 -- One item or entry more at the end of a text without a final break.
-use Rattle.std.proofs.Common.{◌≡◌, inl, inr, ℕ, suc, ◌+◌, ◌≤◌, List, [], ◌∷◌, ◌++◌, length, drop, eqb, ◌&&◌, Option, Some, None, true, false, cond, refl, sym, ap, ◌∙◌, subst, rules}
-use Rattle.std.proofs.Common.{arith, ⊎_elim, append_assoc, append-nil, length-append}
+use Rattle.std.proofs.Common.{◌≡◌, inl, inr, ℕ, suc, ◌+◌, ◌≤◌, List, [], ◌∷◌, ◌++◌, length, drop, eqb, ◌&&◌, Option, Some, None, true, false, cond, refl, sym, ap, ◌∙◌, subst, rules, arith, ⊎_elim, append_assoc, append-nil, length-append}
 use Rattle.std.proofs.lemmas.Bool.{false≢true, cond-true, cond-false, and_parts}
 use Rattle.yq_flow_scalars.specs.Characters.{is_text, pairs_returns, text_limit}
 use Rattle.yq_flow_scalars.specs.Lines.{is_hash}
@@ -25,8 +24,8 @@ use Rattle.yq_cut.proofs.splices.PartPlaces.{part_in}
 use Rattle.yq_cut.proofs.seams.TailLaws.{comment_closed, no_end_return, content_tail, tail_pairs}
 use Rattle.yq_documents.specs.Documents.{HaveFitKeys, HasShortRoot}
 use Rattle.yq_lines.specs.Group.{level_or}
-use Rattle.yq_row_lines.specs.Lines.{mark_line, lines_of}
-use Rattle.yq_row_lines.specs.Lines as lines
+use Rattle.yq_lines.specs.Lines.{mark_line, lines_of}
+use Rattle.yq_lines.specs.Lines as lines
 use Rattle.yq_lines.specs.Outline.{Line, flatten}
 use Rattle.yq_lines.specs.Places.{lines_before, lines_after}
 use Rattle.yq_documents.specs.Reading.{outline_of}

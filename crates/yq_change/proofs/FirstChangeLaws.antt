@@ -16,9 +16,9 @@ use Rattle.yq_cut.proofs.splices.SpliceTexts.{own_gap, own_end}
 use Rattle.yq_cut.proofs.seams.JoinLaws.{dashes_text-append}
 use Rattle.yq_documents.specs.Documents.{lead_of}
 use Rattle.yq_row_places.specs.FirstPlaces.{are_spaces, less_spaces}
-use Rattle.yq_row_lines.specs.Lines.{lines_from, lines_of}
+use Rattle.yq_lines.specs.Lines.{lines_from, lines_of}
 use Rattle.yq_documents.specs.Reading.{outline_of, root_of}
-use Rattle.yq_row_lines.proofs.RowLaws.{no_comments}
+use Rattle.yq_lines.proofs.RowLaws.{no_comments}
 use Rattle.yq_row_places.specs.RowPaths.{IsReadable}
 use Rattle.yq_row_places.proofs.RemovalTexts.{texts_then}
 use Rattle.yq_change.specs.Appends.{inserted}

@@ -12,10 +12,10 @@ use Rattle.yq_lines.proofs.Values.{rank_small}
 use Rattle.yq_cut.specs.Grammar.{AreDashes, is_entry}
 use Rattle.yq_cut.specs.Rows as rows
 use Rattle.yq_cut.specs.Rows.{Content, Row, behind_columns, Part}
-use Rattle.yq_row_lines.specs.Lines.{dash_line, lines_from, row_lines, lines_of}
+use Rattle.yq_lines.specs.Lines.{dash_line, lines_from, row_lines, lines_of}
 use Rattle.yq_documents.specs.Reading.{outline_of}
 use Rattle.yq_documents.specs.LinesInRows.{RowLine, row_line}
-use Rattle.yq_row_lines.proofs.RowLaws.{no_comments}
+use Rattle.yq_lines.proofs.RowLaws.{no_comments}
 use Rattle.yq_row_places.proofs.UnderExchange.{lines_append}
 use Rattle.yq_change.specs.LineRows.{Begins, StandApart, InRows, IsRowLine, line_number, lines_behind}
 use Rattle.yq_change.specs.Moved.{dash_lines}

@@ -7,7 +7,7 @@ use Rattle.yq_lines.specs.Group.{group}
 use Rattle.yq_lines.specs.Outline.{Line}
 use Rattle.yq_cut.specs.Rows as rows
 use Rattle.yq_cut.specs.Rows.{Content, Row}
-use Rattle.yq_row_lines.specs.Lines.{lines_from, lines_of}
+use Rattle.yq_lines.specs.Lines.{lines_from, lines_of}
 use Rattle.yq_change.specs.Siblings.{HasEntries}
 use Rattle.yq_change.proofs.FirstBreakLaws.{IsOneBreak}
 use Rattle.yq_change.proofs.RemovalChangeLaws.{FirstEntry}

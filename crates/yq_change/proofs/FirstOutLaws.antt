@@ -14,7 +14,7 @@ use Rattle.yq_cut.specs.Reading.{begins_gap}
 use Rattle.yq_documents.specs.declared.path.Part.TheVariants.{Entry}
 use Rattle.yq_documents.specs.Documents.{document_parts}
 use Rattle.yq_row_places.specs.FirstPlaces.{less_spaces, end_spaces, FirstOut, first_out, first_entry, first_removal}
-use Rattle.yq_row_lines.specs.Lines.{lines_of}
+use Rattle.yq_lines.specs.Lines.{lines_of}
 use Rattle.yq_row_places.specs.PathPieces.{printed_document, piece_in}
 use Rattle.yq_documents.specs.Pieces.{TextPiece}
 use Rattle.yq_documents.specs.LinesInRows.{RowLine, row_line, row_line_of}

@@ -23,7 +23,7 @@ use Rattle.yq_cut.specs.Reading.{begins_gap}
 use Rattle.yq_documents.specs.declared.path.Part.TheVariants.{Entry}
 use Rattle.yq_documents.specs.Documents.{document_parts, lead_of}
 use Rattle.yq_row_places.specs.FirstPlaces.{less_spaces, end_spaces, FirstOut, first_out, first_removal}
-use Rattle.yq_row_lines.specs.Lines.{lines_from, lines_of}
+use Rattle.yq_lines.specs.Lines.{lines_from, lines_of}
 use Rattle.yq_row_places.specs.PathPieces.{PrintedDocument, piece_in}
 use Rattle.yq_documents.specs.Reading.{outline_of, read_at, root_of}
 use Rattle.yq_row_places.specs.RowPaths.{IsReadable}

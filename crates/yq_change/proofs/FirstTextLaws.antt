@@ -18,8 +18,8 @@ use Rattle.yq_cut.specs.Rows as rows
 use Rattle.yq_cut.specs.Rows.{Content, Nothing, Row, behind_columns, rows_text, Part}
 use Rattle.yq_cut.proofs.seams.FrontSeams.{rows_some}
 use Rattle.yq_documents.specs.declared.path.Part.TheVariants.{Entry}
-use Rattle.yq_row_lines.specs.Lines.{dash_line, lines_of}
-use Rattle.yq_row_lines.proofs.RowLaws.{lines_count as lines_count_from}
+use Rattle.yq_lines.specs.Lines.{dash_line, lines_of}
+use Rattle.yq_lines.proofs.RowLaws.{lines_count as lines_count_from}
 use Rattle.yq_row_places.specs.PathPieces.{BlockEntry, found_entry, piece_in, piece_in_entry}
 use Rattle.yq_documents.specs.Pieces.{TextPiece}
 use Rattle.yq_row_places.specs.PrintedLines.{PrintedLine, line_front, print_lines, printed_from, printed_lines, printed_row, line_in, run_piece}

@@ -9,7 +9,7 @@ use Rattle.yq_lines.specs.LineAnchors.{IsFree, HaveOneAnchorEach}
 use Rattle.yq_documents.specs.Documents.{lead_of}
 use Rattle.yq_lines.specs.Group.{level_or}
 use Rattle.yq_lines.specs.Laws.{with_lines}
-use Rattle.yq_row_lines.specs.Lines.{lines_of}
+use Rattle.yq_lines.specs.Lines.{lines_of}
 use Rattle.yq_lines.specs.Outline.{Line, level, Outline, end, row, flatten, IsOpen, IsEven, anchored, head_or, value}
 use Rattle.yq_lines.specs.Places.{lines_before, plug, FoundLine, find, content}
 use Rattle.yq_documents.specs.Reading.{outline_of, root_of}

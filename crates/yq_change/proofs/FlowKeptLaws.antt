@@ -16,7 +16,7 @@ use Rattle.yq_cut.specs.Exchange.{with_content}
 use Rattle.yq_cut.specs.Rows.{Inline, Row, Part}
 use Rattle.yq_cut.proofs.splices.SpliceTexts.{own_gap}
 use Rattle.yq_documents.specs.Documents.{ContentHasFitKeys, EachHasFitKeys, HasFitKeys, HaveFitKeys}
-use Rattle.yq_row_lines.specs.Lines.{head_of}
+use Rattle.yq_lines.specs.Lines.{head_of}
 use Rattle.yq_change.specs.FlowKept.{with_items, FlowRooms, FlowKeys, LeftKeys}
 use Rattle.yq_change.specs.Rooms.{row_shape}
 use Rattle.yq_change.proofs.AnchorLaws.{fit_parts}

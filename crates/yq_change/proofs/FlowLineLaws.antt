@@ -18,7 +18,7 @@ use Rattle.yq_lines.proofs.Values.{anchored-within}
 use Rattle.yq_cut.specs.Rows.{Part, Cut}
 use Rattle.yq_documents.specs.Documents.{lead_of}
 use Rattle.yq_row_places.specs.FlowNodes.{bare_line, head_line, find_head}
-use Rattle.yq_row_lines.specs.Lines.{lines_of}
+use Rattle.yq_lines.specs.Lines.{lines_of}
 use Rattle.yq_documents.specs.Reading.{outline_of, root_of}
 use Rattle.yq_row_places.proofs.FlowPlaceLaws.{TakesSteps, Takes, takes_left}
 use Rattle.yq_change.specs.Changed.{IsChanged, put_document}

@@ -20,7 +20,7 @@ use Rattle.yq_cut.proofs.PlaceLaws.{place, new_place}
 use Rattle.yq_cut.proofs.splices.SpliceTexts.{own_gap, own_end}
 use Rattle.yq_documents.specs.Documents.{document_parts}
 use Rattle.yq_row_places.specs.FlowNodes.{content_flow, find_head}
-use Rattle.yq_row_lines.specs.Lines.{lines_of}
+use Rattle.yq_lines.specs.Lines.{lines_of}
 use Rattle.yq_documents.specs.Reading.{outline_of}
 use Rattle.yq_documents.specs.LinesInRows.{RowLine, row_line, document_row}
 use Rattle.yq_row_places.proofs.FlowPlaceLaws.{mark_row_line}

@@ -35,7 +35,7 @@ use Rattle.yq_cut.proofs.RowPlaces.{takes_place}
 use Rattle.yq_cut.proofs.seams.SeamLaws.{rows_drop}
 use Rattle.yq_cut.proofs.splices.SpliceTexts.{own_gap}
 use Rattle.yq_documents.specs.Documents.{HaveFitKeys, HasShortRoot, is_long_plain}
-use Rattle.yq_row_lines.specs.Lines.{mark_line, lines_of}
+use Rattle.yq_lines.specs.Lines.{mark_line, lines_of}
 use Rattle.yq_documents.specs.Reading.{outline_of}
 use Rattle.yq_row_places.proofs.FlowPieces.{named_is, none_anchored, twice}
 use Rattle.yq_row_places.proofs.RemovalLines.{front_some}

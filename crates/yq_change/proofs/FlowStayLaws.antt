@@ -23,7 +23,7 @@ use Rattle.yq_documents.specs.Documents.{begins_bare, document_parts, has_begin}
 use Rattle.yq_documents.specs.PartNumbers.{number_from, part_number}
 use Rattle.yq_documents.specs.Reading.{outline_of}
 use Rattle.yq_documents.specs.LinesInRows.{RowLine, document_row, row_line}
-use Rattle.yq_row_lines.specs.Lines.{head_of, lines_of}
+use Rattle.yq_lines.specs.Lines.{head_of, lines_of}
 use Rattle.yq_row_places.specs.FlowNodes.{bare_line, content_flow, find_head, flow_collection, head_line, line_collection}
 use Rattle.yq_row_places.specs.FlowViews.{LeadsToHead}
 use Rattle.yq_row_places.specs.NodeReading.{head_at}

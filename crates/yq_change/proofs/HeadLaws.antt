@@ -1,6 +1,5 @@
 -- Head comments of items and entries, put and taken away.
-use Rattle.std.proofs.Common.{◌≡◌, ℕ, zero, suc, ◌+◌, ◌<◌, List, [], ◌∷◌, ◌++◌, length, take, Option, Some, None, true, false, refl, sym, ap, ◌∙◌, subst, arith, rules}
-use Rattle.std.proofs.Common.{⊎_elim, append_assoc, replicate}
+use Rattle.std.proofs.Common.{◌≡◌, ℕ, zero, suc, ◌+◌, ◌<◌, List, [], ◌∷◌, ◌++◌, length, take, Option, Some, None, true, false, refl, sym, ap, ◌∙◌, subst, arith, rules, ⊎_elim, append_assoc, replicate}
 use Rattle.std.proofs.lemmas.Bool.{lt-ltb, and_from, cases_Bool}
 use Rattle.yq_block_scalars.specs.Block.{BlockText, Lines, ends_block, keeps}
 use Rattle.yq_block_scalars.specs.BlockRepair.{is_behind}
@@ -17,21 +16,20 @@ use Rattle.yq_cut.specs.Seams.{are_seamed}
 use Rattle.yq_cut.specs.Removal.{hold_comment, last_block}
 use Rattle.yq_cut.proofs.AlikeBlocks.{put_first}
 use Rattle.yq_cut.proofs.seams.GapSeams.{gap_lines_of, lines_before}
-use Rattle.yq_cut.proofs.seams.GapFronts.{ends_blank, ends_comment}
-use Rattle.yq_change.proofs.GapLaws.{head_joined}
+use Rattle.yq_cut.proofs.seams.GapFronts.{ends_blank, ends_comment, gap_joined}
+use Rattle.yq_change.proofs.GapLaws.{head_joined, none_before}
 use Rattle.yq_cut.proofs.seams.LessLaws.{starts_less}
 use Rattle.yq_cut.proofs.NothingLaws.{some_behind}
 use Rattle.yq_cut.proofs.seams.BlockFronts.{gap_front, last_none}
 use Rattle.yq_cut.proofs.RowAgain.{row_starts}
 use Rattle.yq_cut.proofs.seams.SeamLaws.{rows_drop}
 use Rattle.yq_cut.proofs.seams.FrontSeams.{behind_row_some, seams_any, seams_were}
-use Rattle.yq_cut.proofs.seams.GapFronts.{gap_joined}
 use Rattle.yq_cut.proofs.splices.PartPlaces.{part_in}
 use Rattle.yq_documents.specs.Pieces.{before_run, last_run}
 use Rattle.yq_documents.specs.Documents.{HaveFitKeys, HasShortRoot}
 use Rattle.yq_lines.specs.Group.{level_or}
 use Rattle.yq_lines.specs.Laws.{with_lines}
-use Rattle.yq_row_lines.specs.Lines.{mark_line, dash_line, lines_from, lines_of}
+use Rattle.yq_lines.specs.Lines.{mark_line, dash_line, lines_from, lines_of}
 use Rattle.yq_lines.specs.Outline.{Line, level, flatten, label}
 use Rattle.yq_documents.specs.Reading.{outline_of}
 use Rattle.yq_lines.proofs.Decides.{flatten-group}
@@ -45,7 +43,6 @@ use Rattle.yq_change.proofs.ApartLaws.{even_closed}
 use Rattle.yq_change.proofs.AppendLaws.{block_seam}
 use Rattle.yq_change.proofs.ColumnLaws.{apart_first, block_is_deeper, last_closed}
 use Rattle.yq_row_places.proofs.RemovalTexts.{run_parts}
-use Rattle.yq_change.proofs.GapLaws.{none_before}
 use Rattle.yq_change.proofs.PartLaws.{part_numbered, document_known, document_spliced, is_put, take_front, drop_front}
 use Rattle.yq_change.proofs.CommentPutLaws.{one_line}
 use Rattle.yq_documents.specs.TreeEdits.{with_head_comment}

@@ -17,7 +17,7 @@ use Rattle.yq_cut.specs.Rows.{Inline, Row, mark_column, parent_of, parent_indent
 use Rattle.yq_cut.proofs.ExchangeLaws.{relimit}
 use Rattle.yq_cut.proofs.seams.SeamLaws.{rows_drop}
 use Rattle.yq_cut.proofs.seams.TailLaws.{fits_by}
-use Rattle.yq_row_lines.specs.Lines.{mark_of, mark_line, row_lines, lines_of}
+use Rattle.yq_lines.specs.Lines.{mark_of, mark_line, row_lines, lines_of}
 use Rattle.yq_documents.specs.Reading.{outline_of}
 use Rattle.yq_row_places.proofs.RowPathLaws.{StartsAt, found_starts}
 use Rattle.yq_change.specs.DocumentRows.{IsDocumentPart, behind_document}

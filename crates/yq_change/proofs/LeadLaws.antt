@@ -5,7 +5,7 @@ use Rattle.yq_flow_scalars.specs.Tree.{children_of}
 use Rattle.yq_lines.specs.Group.{group}
 use Rattle.yq_lines.specs.Outline.{Line, value}
 use Rattle.yq_documents.specs.Documents.{lead_of}
-use Rattle.yq_row_lines.specs.Lines.{lines_of}
+use Rattle.yq_lines.specs.Lines.{lines_of}
 use Rattle.yq_documents.specs.Reading.{root_of}
 use Rattle.yq_documents.specs.Ready.{begins_no_node}
 use Rattle.yq_documents.specs.TreeEdits.{lead_by}

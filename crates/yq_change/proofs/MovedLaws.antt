@@ -3,7 +3,7 @@ use Rattle.std.proofs.Common.{◌≡◌, ℕ, suc, ◌+◌, List, [], ◌∷◌,
 use Rattle.yq_lines.specs.Comments.{head_comment, line_comment}
 use Rattle.yq_cut.specs.Rows as rows
 use Rattle.yq_cut.specs.Rows.{Content, Nothing, behind_columns}
-use Rattle.yq_row_lines.specs.Lines.{dash_line, lines_from, row_lines, lines_of}
+use Rattle.yq_lines.specs.Lines.{dash_line, lines_from, row_lines, lines_of}
 use Rattle.yq_lines.specs.Outline.{Line, Dash}
 use Rattle.yq_row_places.proofs.UnderExchange.{lines_append}
 use Rattle.yq_change.specs.Moved.{dash_lines, moved_up, emptied, DashesFirst, FirstMoved, FirstEmptied}

@@ -8,16 +8,15 @@ use Rattle.yq_flow_scalars.proofs.Bools.{bind_some}
 use Rattle.yq_lines.specs.Comments as comments
 use Rattle.yq_lines.specs.Ends.{deeper_count, line_of, lines_end}
 use Rattle.yq_lines.specs.Group.{level_or}
-use Rattle.yq_lines.specs.Outline.{Line, level, flatten, IsEven}
-use Rattle.yq_lines.specs.Outline.{row}
+use Rattle.yq_lines.specs.Outline.{Line, level, flatten, IsEven, row}
 use Rattle.yq_lines.specs.Places.{lines_before, lines_after, FoundLine}
 use Rattle.yq_lines.proofs.Decides.{flatten-group}
 use Rattle.yq_cut.specs.Rows.{Row, Part}
-use Rattle.yq_row_lines.specs.Lines.{row_lines, lines_of}
+use Rattle.yq_lines.specs.Lines.{row_lines, lines_of}
 use Rattle.yq_documents.specs.Reading.{outline_of}
 use Rattle.yq_row_places.specs.RemovalPlaces.{OwnRows, row_count}
 use Rattle.yq_documents.specs.LinesInRows.{RowLine, row_line}
-use Rattle.yq_row_lines.proofs.RowLaws.{lines_count}
+use Rattle.yq_lines.proofs.RowLaws.{lines_count}
 use Rattle.yq_row_places.proofs.UnderCounts.{count_under}
 use Rattle.yq_change.specs.EntryRows.{HasWholeRows}
 use Rattle.yq_change.specs.LineRows.{Begins, lines_behind}

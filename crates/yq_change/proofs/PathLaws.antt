@@ -7,10 +7,8 @@ use Rattle.yq_flow_scalars.specs.Paths.{Step}
 use Rattle.yq_flow_scalars.specs.Tree.{Node}
 use Rattle.yq_cut.specs.Rows.{Row}
 use Rattle.yq_lines.specs.Group.{level_or}
-use Rattle.yq_row_lines.specs.Lines.{lines_of}
-use Rattle.yq_lines.specs.Outline.{Mark, Bare, Key, Dash, Outline, IsEven}
-use Rattle.yq_lines.specs.Outline.{end}
-use Rattle.yq_lines.specs.Outline.{row}
+use Rattle.yq_lines.specs.Lines.{lines_of}
+use Rattle.yq_lines.specs.Outline.{Mark, Bare, Key, Dash, Outline, IsEven, end, row}
 use Rattle.yq_lines.specs.Places.{here, lines_before, FoundLine, find_row, inside, bare_or, in_head, find}
 use Rattle.yq_documents.specs.Reading.{outline_of}
 use Rattle.yq_lines.specs.Ends.{found_line, line_of}

@@ -21,7 +21,7 @@ use Rattle.yq_cut.specs.Grammar.{no_rows}
 use Rattle.yq_cut.specs.Rows.{Row, rows_text, Part, part_text, Cut, cut_text}
 use Rattle.yq_cut.specs.Splices.{first_gap, behind_first}
 use Rattle.yq_documents.specs.Documents.{lead_of}
-use Rattle.yq_row_lines.specs.Lines.{lines_of}
+use Rattle.yq_lines.specs.Lines.{lines_of}
 use Rattle.yq_documents.specs.Reading.{outline_of, read_at, root_of}
 use Rattle.yq_documents.specs.Ready.{begins_no_node}
 use Rattle.yq_row_places.specs.PlacedRows.{PlacedPart, placed_document}

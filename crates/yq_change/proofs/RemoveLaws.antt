@@ -24,9 +24,8 @@ use Rattle.yq_flow_scalars.specs.Anchors.{names_of}
 use Rattle.yq_row_places.proofs.RemovalTexts.{run_parts}
 use Rattle.yq_lines.specs.Group.{level_or}
 use Rattle.yq_lines.specs.Laws.{with_lines}
-use Rattle.yq_row_lines.specs.Lines.{row_lines, lines_of}
-use Rattle.yq_lines.specs.Outline.{Line, level, Outline, flatten}
-use Rattle.yq_lines.specs.Outline.{row}
+use Rattle.yq_lines.specs.Lines.{row_lines, lines_of}
+use Rattle.yq_lines.specs.Outline.{Line, level, Outline, flatten, row}
 use Rattle.yq_lines.specs.Places.{lines_before, lines_after, plug, FoundLine, content}
 use Rattle.yq_documents.specs.Reading.{outline_of, root_of}
 use Rattle.yq_row_places.specs.RowPaths.{IsReadable}
@@ -54,7 +53,7 @@ use Rattle.yq_change.proofs.PartLaws.{part_numbered, rows_put, document_known, i
 -- rows with another gap before them
 gap_lines : (gap : List ℕ) (back : List Row) (last : List ℕ) → (no_rows back ≡ false → head_comment gap ≡ head_comment (first_gap back last)) → lines_of (with_first_gap gap back) ≡ lines_of back
 gap_lines gap [] last h = refl
-gap_lines gap (r ∷ back) last h = ap (λ (above : List (List ℕ)). Rattle.yq_row_lines.specs.Lines.lines_from above r.column r.dashes r.mark r.content ++ lines_of back) (h refl)
+gap_lines gap (r ∷ back) last h = ap (λ (above : List (List ℕ)). Rattle.yq_lines.specs.Lines.lines_from above r.column r.dashes r.mark r.content ++ lines_of back) (h refl)
 
 gap_fit : (gap : List ℕ) (back : List Row) → HaveFitKeys back → HaveFitKeys (with_first_gap gap back)
 gap_fit gap [] h = h
@@ -67,8 +66,8 @@ entry_short r rest d h = go r.mark refl r.dashes refl
     go : (m : rows.Mark) → r.mark ≡ m → (ns : List ℕ) → r.dashes ≡ ns → is_long_plain r.mark r.content ≡ false
     go rows.Dash e ns f = ap (λ (m : rows.Mark). is_long_plain m r.content) e
     go (rows.Key key colon) e ns f = ap (λ (m : rows.Mark). is_long_plain m r.content) e
-    go rows.Bare e [] f = absurd (subst (λ (m : rows.Mark). BeginsEntry (Rattle.yq_row_lines.specs.Lines.lines_from (head_comment r.gap) r.column [] m r.content ++ rest)) e
-        (subst (λ (ns : List ℕ). BeginsEntry (Rattle.yq_row_lines.specs.Lines.lines_from (head_comment r.gap) r.column ns r.mark r.content ++ rest)) f h))
+    go rows.Bare e [] f = absurd (subst (λ (m : rows.Mark). BeginsEntry (Rattle.yq_lines.specs.Lines.lines_from (head_comment r.gap) r.column [] m r.content ++ rest)) e
+        (subst (λ (ns : List ℕ). BeginsEntry (Rattle.yq_lines.specs.Lines.lines_from (head_comment r.gap) r.column ns r.mark r.content ++ rest)) f h))
     go rows.Bare e (n ∷ ns) f = absurd (false≢true ((subst (λ (m : rows.Mark). AreDashes (n ∷ ns) m) e (subst (λ (x : List ℕ). AreDashes x r.mark) f d)).1))
 
 short_left : (front gone back : List Row) (gap : List ℕ) (limit : Limit) (last rest : List ℕ) → HasShortRoot (front ++ (gone ++ back)) → AreRows limit back last rest → BeginsEntry (lines_of back) →

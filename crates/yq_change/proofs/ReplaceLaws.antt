@@ -17,7 +17,7 @@ use Rattle.yq_cut.specs.Splices.{behind_first, first_gap}
 use Rattle.yq_cut.proofs.seams.FrontSeams.{seams_alike, seams_were}
 use Rattle.yq_cut.proofs.splices.SpliceTexts.{own_gap}
 use Rattle.yq_documents.specs.Documents.{HaveFitKeys, HasShortRoot}
-use Rattle.yq_row_lines.specs.Lines.{lines_of}
+use Rattle.yq_lines.specs.Lines.{lines_of}
 use Rattle.yq_documents.specs.Reading.{outline_of}
 use Rattle.yq_change.specs.Appends.{inserted}
 use Rattle.yq_change.specs.Conditions.{BeginsEntry}

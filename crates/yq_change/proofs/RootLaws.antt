@@ -9,7 +9,7 @@ use Rattle.yq_cut.specs.Splices.{behind_part, is_started, marker_before, nth_par
 use Rattle.yq_cut.proofs.splices.PartPlaces.{part_after}
 use Rattle.yq_cut.proofs.splices.SpliceLaws.{spliced}
 use Rattle.yq_documents.specs.Documents.{HaveFitKeys, HasShortRoot}
-use Rattle.yq_row_lines.specs.Lines.{lines_of}
+use Rattle.yq_lines.specs.Lines.{lines_of}
 use Rattle.yq_change.specs.DocumentRows.{RowsFit}
 use Rattle.yq_documents.specs.PartNumbers.{part_number}
 use Rattle.yq_change.specs.Replaces.{DocumentRooted, RootRowsReplaced, rooted}

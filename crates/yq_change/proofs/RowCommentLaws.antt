@@ -12,7 +12,7 @@ use Rattle.yq_cut.specs.Splices.{behind_first, first_gap}
 use Rattle.yq_cut.proofs.seams.SeamLaws.{rows_drop}
 use Rattle.yq_cut.proofs.splices.SpliceTexts.{first_is, first_text, own_gap}
 use Rattle.yq_documents.specs.Documents.{HaveFitKeys, HasShortRoot, lead_of}
-use Rattle.yq_row_lines.specs.Lines.{mark_line, tail_of, lines_of}
+use Rattle.yq_lines.specs.Lines.{mark_line, tail_of, lines_of}
 use Rattle.yq_documents.specs.TreeEdits.{with_line_comment}
 use Rattle.yq_change.specs.Appends.{inserted}
 use Rattle.yq_change.specs.Changed.{put_document}
@@ -90,8 +90,8 @@ pub block_commented : BlockCommented
 block_commented t c k p steps s h f front back r space anchor block tail old at is takes number text =
     let new : Content = with_header_tail tail space anchor block in
     content_commented t c k p steps s h f front back r new old at takes (record {
-      head_is = ap Rattle.yq_row_lines.specs.Lines.head_of (sym is);
-      anchor_is = ap Rattle.yq_row_lines.specs.Lines.content_anchor (sym is);
+      head_is = ap Rattle.yq_lines.specs.Lines.head_of (sym is);
+      anchor_is = ap Rattle.yq_lines.specs.Lines.content_anchor (sym is);
       keys = tt;
       short = search rules;
     }) number text

@@ -20,7 +20,7 @@ use Rattle.yq_documents.specs.PartNumbers.{number_from, part_number}
 use Rattle.yq_documents.specs.Reading.{document_of, outline_of}
 use Rattle.yq_documents.specs.TreeEdits.{change_nth}
 use Rattle.yq_documents.proofs.PartNumberLaws.{part_there}
-use Rattle.yq_row_lines.specs.Lines.{content_anchor, lines_of}
+use Rattle.yq_lines.specs.Lines.{content_anchor, lines_of}
 use Rattle.yq_row_places.specs.PlacedRows.{PlacedPart, before_part, placed_at, placed_document}
 use Rattle.yq_row_places.specs.Standings.{RowsOfEntry, entry_rows_at, rows_of_entry, under_count}
 use Rattle.yq_row_places.proofs.PlacedPartLaws.{StandsIn, map_some, part_stands}

@@ -13,7 +13,7 @@ use Rattle.yq_lines.specs.Places.{Context, here, below, beside, lines_before, co
 use Rattle.yq_cut.specs.Rows as rows
 use Rattle.yq_cut.specs.Rows.{Row, Content, Part}
 use Rattle.yq_documents.specs.declared.path.Part as places
-use Rattle.yq_row_lines.specs.Lines.{head_of, mark_of, lines_from, row_lines, lines_of}
+use Rattle.yq_lines.specs.Lines.{head_of, mark_of, lines_from, row_lines, lines_of}
 use Rattle.yq_documents.specs.Ready.{begins_no_node}
 use Rattle.yq_documents.specs.LinesInRows.{RowLine, behind_one, row_line, row_line_has_room}
 use Rattle.yq_change.specs.Rooms.{RowShape, row_shape, EqualRoom, ShapesAgree}

@@ -9,7 +9,7 @@ use Rattle.yq_cut.specs.Grammar.{AreRows, IsRow, Limit, is_entry, limit_after, u
 use Rattle.yq_cut.specs.Rows.{Cut, Row, cut_text, print_row, rows_text}
 use Rattle.yq_cut.proofs.PlaceLaws.{row_then}
 use Rattle.yq_cut.proofs.seams.SeamLaws.{rows_text-append}
-use Rattle.yq_row_lines.specs.Lines.{lines_of, row_lines}
+use Rattle.yq_lines.specs.Lines.{lines_of, row_lines}
 use Rattle.yq_documents.specs.Reading.{outline_of}
 use Rattle.yq_row_places.specs.Standings.{RowsOfEntry, behind_entry}
 use Rattle.yq_row_places.proofs.CommentPieceLaws.{Ended}

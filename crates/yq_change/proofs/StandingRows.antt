@@ -18,11 +18,11 @@ use Rattle.yq_cut.specs.View.{slices}
 use Rattle.yq_cut.specs.Grammar.{unlimited}
 use Rattle.yq_cut.proofs.splices.ContentPlaces.{count_front, rows_around}
 use Rattle.yq_documents.specs.Documents.{document_parts}
-use Rattle.yq_row_lines.specs.Lines.{lines_of, row_lines}
+use Rattle.yq_lines.specs.Lines.{lines_of, row_lines}
 use Rattle.yq_documents.specs.Reading.{read_at}
 use Rattle.yq_documents.specs.LinesInRows.{RowLine, row_line, row_line_of}
 use Rattle.yq_row_places.specs.PlacedRows.{PlacedPart, PlacedRow, placed_document, placed_row, row_of_path}
-use Rattle.yq_row_lines.specs.RowWalk.{deeper_rows, line_level}
+use Rattle.yq_lines.specs.RowWalk.{deeper_rows, line_level}
 use Rattle.yq_row_places.proofs.DashLaws.{line_within}
 use Rattle.yq_documents.proofs.PartRows.{each}
 use Rattle.yq_row_places.proofs.PrintedTexts.{map_some}
@@ -30,9 +30,9 @@ use Rattle.yq_row_places.proofs.ReadLaws.{text_takes}
 use Rattle.yq_row_places.proofs.RowPathLaws.{document_fine}
 use Rattle.yq_row_places.proofs.RowLineSpans.{steps_row}
 use Rattle.yq_row_places.proofs.UnderCounts.{end_is}
-use Rattle.yq_row_lines.proofs.WalkEnds.{ends_at, lines_upto}
-use Rattle.yq_row_lines.proofs.WalkLevels.{RowsAgree, IsLineOf, RowAgrees, level_is, line_in}
-use Rattle.yq_row_lines.proofs.WalkRows.{rows_agree}
+use Rattle.yq_lines.proofs.WalkEnds.{ends_at, lines_upto}
+use Rattle.yq_lines.proofs.WalkLevels.{RowsAgree, IsLineOf, RowAgrees, level_is, line_in}
+use Rattle.yq_lines.proofs.WalkRows.{rows_agree}
 use Rattle.yq_change.specs.DocumentRows.{IsDocumentPart, behind_document}
 use Rattle.yq_change.specs.PlacedParts.{StandsAt}
 use Rattle.yq_change.proofs.LineLaws.{row_count}

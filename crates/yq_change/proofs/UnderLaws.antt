@@ -9,7 +9,7 @@ use Rattle.yq_lines.specs.Places.{lines_before, lines_after}
 use Rattle.yq_lines.proofs.Decides.{flatten-group}
 use Rattle.yq_cut.specs.Grammar.{is_entry}
 use Rattle.yq_cut.specs.Rows.{Content, Row, mark_column, Part}
-use Rattle.yq_row_lines.specs.Lines.{mark_line, lines_of}
+use Rattle.yq_lines.specs.Lines.{mark_line, lines_of}
 use Rattle.yq_documents.specs.Reading.{outline_of}
 use Rattle.yq_change.specs.Moved.{dash_lines}
 use Rattle.yq_change.specs.Unders.{HasUnder}

@@ -17,7 +17,7 @@ use Rattle.yq_cut.specs.Rows as rows
 use Rattle.yq_cut.specs.Rows.{Content, content_text}
 use Rattle.yq_documents.specs.Documents.{ContentHasFitKeys, is_long_plain}
 use Rattle.yq_cut.specs.Seams.{is_block}
-use Rattle.yq_row_lines.specs.Lines.{content_anchor, head_of, tail_of}
+use Rattle.yq_lines.specs.Lines.{content_anchor, head_of, tail_of}
 use Rattle.yq_change.specs.InlineRows.{IsValueNode}
 use Rattle.yq_change.proofs.CoreLaws.{recore, put_core, core_head, core_anchor, core_keys, core_bare, core_more, core_node}
 

@@ -9,14 +9,13 @@ use Rattle.yq_cut.specs.Splices.{behind_first, first_gap}
 use Rattle.yq_cut.specs.Seams.{ends_in_block, ends_in_line}
 use Rattle.yq_lines.specs.LineAnchors.{HaveOneAnchorEach}
 use Rattle.yq_documents.specs.Documents.{HaveFitKeys, lead_of}
-use Rattle.yq_row_lines.specs.Lines.{lines_of}
+use Rattle.yq_lines.specs.Lines.{lines_of}
 use Rattle.yq_lines.specs.Outline.{Line, Outline, flatten, children, label}
 use Rattle.yq_lines.specs.Places.{lines_before, content}
 use Rattle.yq_documents.specs.Reading.{outline_of}
 use Rattle.yq_row_places.specs.RowPaths.{IsReadable}
 use Rattle.yq_change.specs.Changed.{IsChanged, put_document}
-use Rattle.yq_change.specs.SoundRoots.{IsNewValue}
-use Rattle.yq_change.specs.SoundRoots.{IsNewKey}
+use Rattle.yq_change.specs.SoundRoots.{IsNewValue, IsNewKey}
 use Rattle.yq_change.specs.Siblings.{NodeLines, IsCollectionAt, EntryFits}
 use Rattle.yq_change.specs.DocumentRows.{IsDocumentPart, behind_document, put_rows}
 

@@ -11,7 +11,7 @@ use Rattle.yq_flow_scalars.specs.Anchors.{names_of, AreBound}
 use Rattle.yq_lines.specs.LineAnchors.{HaveOneAnchorEach}
 use Rattle.yq_documents.specs.Documents.{Document, HaveFitKeys, HasShortRoot, IsDocument, document_parts, lead_of}
 use Rattle.yq_documents.specs.PartNumbers.{part_number}
-use Rattle.yq_row_lines.specs.Lines.{lines_of}
+use Rattle.yq_lines.specs.Lines.{lines_of}
 use Rattle.yq_lines.specs.Outline.{Line}
 use Rattle.yq_documents.specs.Reading.{documents, read_at, root_of}
 use Rattle.yq_change.specs.Siblings.{StandsSomewhere}

@@ -5,7 +5,7 @@ use Rattle.yq_cut.specs.Rows.{Row, rows_text, Part, part_text, Cut, cut_text}
 use Rattle.yq_lines.specs.Outline.{Outline, end, row, flatten}
 use Rattle.yq_lines.specs.Places.{lines_before}
 use Rattle.yq_row_places.specs.CollectionEnds.{CollectionEnd, is_broken}
-use Rattle.yq_row_lines.specs.Lines.{lines_of}
+use Rattle.yq_lines.specs.Lines.{lines_of}
 use Rattle.yq_documents.specs.Reading.{outline_of}
 use Rattle.yq_change.specs.Changed.{put_document}
 use Rattle.yq_change.specs.DocumentRows.{behind_document}

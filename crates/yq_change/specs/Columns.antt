@@ -5,7 +5,7 @@ use Rattle.yq_cut.specs.Exchange.{allows_first, asked_behind}
 use Rattle.yq_cut.specs.Grammar.{Limit, AreRows, no_rows}
 use Rattle.yq_cut.specs.Rows.{Row}
 use Rattle.yq_cut.specs.Removal.{last_block, next_column, StandsLess}
-use Rattle.yq_row_lines.specs.Lines.{lines_of}
+use Rattle.yq_lines.specs.Lines.{lines_of}
 use Rattle.yq_lines.specs.Outline.{Line, level}
 use Rattle.yq_change.specs.LineRows.{AreClosed, AreDeep, Begins, StandApart}
 

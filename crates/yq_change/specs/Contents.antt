@@ -10,7 +10,7 @@ use Rattle.yq_cut.specs.Grammar.{unlimited}
 use Rattle.yq_cut.specs.Rows.{Bare, Content, Row, rows_text, Part, Cut, cut_text}
 use Rattle.yq_cut.specs.SpliceFits.{StandsFor}
 use Rattle.yq_documents.specs.Documents.{ContentHasFitKeys, is_long_plain, lead_of}
-use Rattle.yq_row_lines.specs.Lines.{content_anchor, head_of, tail_of, lines_of}
+use Rattle.yq_lines.specs.Lines.{content_anchor, head_of, tail_of, lines_of}
 use Rattle.yq_documents.specs.Reading.{outline_of, root_of}
 use Rattle.yq_row_places.specs.RowPaths.{IsReadable}
 use Rattle.yq_documents.specs.TreeEdits.{replaced}

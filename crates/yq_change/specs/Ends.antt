@@ -5,7 +5,7 @@ use Rattle.yq_cut.specs.Grammar.{AreRows, limit_after}
 use Rattle.yq_cut.specs.Rows.{Row, Part, Cut, cut_text}
 use Rattle.yq_cut.specs.Appending.{closed_by, TakesBreak}
 use Rattle.yq_documents.specs.Documents.{lead_of}
-use Rattle.yq_row_lines.specs.Lines.{lines_of}
+use Rattle.yq_lines.specs.Lines.{lines_of}
 use Rattle.yq_lines.specs.Outline.{Line, Outline, flatten, label}
 use Rattle.yq_lines.specs.Places.{lines_before, content}
 use Rattle.yq_documents.specs.Reading.{outline_of}

@@ -11,7 +11,7 @@ use Rattle.yq_cut.specs.Exchange.{with_content}
 use Rattle.yq_cut.specs.Rows.{Inline, Row, parent_indent, rows_text, Part, Cut, cut_text}
 use Rattle.yq_documents.specs.Documents.{HasFitKeys, document_parts, lead_of}
 use Rattle.yq_row_places.specs.FlowNodes.{find_head, flow_collection}
-use Rattle.yq_row_lines.specs.Lines.{lines_of}
+use Rattle.yq_lines.specs.Lines.{lines_of}
 use Rattle.yq_documents.specs.Reading.{outline_of, read_at, root_of}
 use Rattle.yq_row_places.specs.RowPaths.{IsReadable}
 use Rattle.yq_change.specs.Appends.{inserted}

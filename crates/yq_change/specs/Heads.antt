@@ -7,7 +7,7 @@ use Rattle.yq_cut.specs.Gap.{IsGap}
 use Rattle.yq_cut.specs.Rows.{Row, behind_gap, rows_text, Part, Cut, cut_text}
 use Rattle.yq_documents.specs.Pieces.{before_run}
 use Rattle.yq_documents.specs.Documents.{lead_of}
-use Rattle.yq_row_lines.specs.Lines.{lines_of}
+use Rattle.yq_lines.specs.Lines.{lines_of}
 use Rattle.yq_lines.specs.Places.{FoundLine}
 use Rattle.yq_documents.specs.Reading.{outline_of}
 use Rattle.yq_row_places.specs.RowPaths.{IsReadable}

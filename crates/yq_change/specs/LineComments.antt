@@ -6,7 +6,7 @@ use Rattle.yq_cut.specs.Rows.{Row, parent_indent, rows_text, Part, Cut, cut_text
 use Rattle.yq_cut.specs.Seams.{TailFits, is_block, retail}
 use Rattle.yq_cut.specs.Splices.{first_gap}
 use Rattle.yq_documents.specs.Documents.{lead_of}
-use Rattle.yq_row_lines.specs.Lines.{lines_of}
+use Rattle.yq_lines.specs.Lines.{lines_of}
 use Rattle.yq_lines.specs.Places.{FoundLine}
 use Rattle.yq_documents.specs.Reading.{outline_of}
 use Rattle.yq_row_places.specs.RowPaths.{IsReadable}

@@ -2,7 +2,7 @@
 use Rattle.std.specs.Prelude.{◌≡◌, ℕ, ◌+◌, ◌≤◌, List, [], ◌∷◌, ◌++◌, length, Some, is_some, true, ⊤}
 use Rattle.yq_flow_scalars.specs.Paths.{Step}
 use Rattle.yq_cut.specs.Rows.{Row}
-use Rattle.yq_row_lines.specs.Lines.{lines_of}
+use Rattle.yq_lines.specs.Lines.{lines_of}
 use Rattle.yq_lines.specs.Outline.{Line, level, Outline, flatten, IsEven}
 use Rattle.yq_lines.specs.Places.{lines_before, lines_after, FoundLine}
 use Rattle.yq_documents.specs.LinesInRows.{RowLine, row_line}

@@ -3,7 +3,7 @@ use Rattle.std.specs.Prelude.{◌≡◌, ℕ, suc, ◌+◌, List, [], ◌∷◌,
 use Rattle.yq_lines.specs.Comments.{head_comment, line_comment}
 use Rattle.yq_cut.specs.Rows as rows
 use Rattle.yq_cut.specs.Rows.{Content, Nothing, Row, behind_columns}
-use Rattle.yq_row_lines.specs.Lines.{dash_line, lines_from, lines_of}
+use Rattle.yq_lines.specs.Lines.{dash_line, lines_from, lines_of}
 use Rattle.yq_lines.specs.Outline.{Line}
 
 -- the lines of dashes, from a column on

@@ -3,7 +3,7 @@ use Rattle.std.specs.Prelude.{◌≡◌, ℕ, ◌+◌, List, [], ◌∷◌, ◌+
 use Rattle.yq_flow_scalars.specs.Paths.{Step}
 use Rattle.yq_cut.specs.Rows.{Row, Part}
 use Rattle.yq_lines.specs.Laws.{with_lines}
-use Rattle.yq_row_lines.specs.Lines.{lines_of}
+use Rattle.yq_lines.specs.Lines.{lines_of}
 use Rattle.yq_lines.specs.Outline.{Line, flatten, IsEven}
 use Rattle.yq_lines.specs.Places.{lines_before, FoundLine, find}
 use Rattle.yq_documents.specs.Reading.{outline_of}

@@ -13,7 +13,7 @@ use Rattle.yq_cut.specs.Rows.{Row, behind_columns, rows_text, Part, Cut, cut_tex
 use Rattle.yq_cut.specs.SpliceFits.{is_after}
 use Rattle.yq_cut.specs.Splices.{behind_first, first_gap, marker_before}
 use Rattle.yq_documents.specs.Documents.{HaveFitKeys, HasShortRoot, lead_of}
-use Rattle.yq_row_lines.specs.Lines.{lines_from, lines_of}
+use Rattle.yq_lines.specs.Lines.{lines_from, lines_of}
 use Rattle.yq_documents.specs.Reading.{outline_of, root_of}
 use Rattle.yq_row_places.specs.RowPaths.{IsReadable}
 use Rattle.yq_documents.specs.TreeEdits.{replaced}

@@ -5,7 +5,7 @@ use Rattle.yq_flow_scalars.specs.Tree.{none, children_of}
 use Rattle.yq_cut.specs.Rows.{Mark, Row, Part}
 use Rattle.yq_documents.specs.declared.path.Part as places
 use Rattle.yq_documents.specs.Documents.{lead_of}
-use Rattle.yq_row_lines.specs.Lines.{head_of, lines_of}
+use Rattle.yq_lines.specs.Lines.{head_of, lines_of}
 use Rattle.yq_documents.specs.Reading.{outline_of, root_of}
 use Rattle.yq_documents.specs.Ready.{begins_no_node}
 use Rattle.yq_documents.specs.LinesInRows.{row_line_of, row_line_has_room}

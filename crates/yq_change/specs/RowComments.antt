@@ -11,7 +11,7 @@ use Rattle.yq_cut.specs.Rows.{Content, Block, Row, rows_text, Part, Cut, cut_tex
 use Rattle.yq_cut.specs.Seams.{TakesPlace}
 use Rattle.yq_cut.specs.Splices.{first_gap}
 use Rattle.yq_documents.specs.Documents.{ContentHasFitKeys, is_long_plain, lead_of}
-use Rattle.yq_row_lines.specs.Lines.{content_anchor, head_of, tail_of, lines_of}
+use Rattle.yq_lines.specs.Lines.{content_anchor, head_of, tail_of, lines_of}
 use Rattle.yq_documents.specs.Reading.{outline_of}
 use Rattle.yq_row_places.specs.RowPaths.{IsReadable}
 use Rattle.yq_documents.specs.TreeEdits.{with_line_comment}

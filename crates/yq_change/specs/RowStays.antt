@@ -6,7 +6,7 @@ use Rattle.yq_lines.specs.Outline.{anchored}
 use Rattle.yq_cut.specs.Rows.{Row, Part, Cut}
 use Rattle.yq_documents.specs.Documents.{document_parts}
 use Rattle.yq_documents.specs.LinesInRows.{RowLine, row_line_of}
-use Rattle.yq_row_lines.specs.Lines.{content_anchor, head_of}
+use Rattle.yq_lines.specs.Lines.{content_anchor, head_of}
 use Rattle.yq_row_places.specs.NodesAt.{node_in}
 use Rattle.yq_row_places.specs.Standings.{RowsOfEntry, rows_of_entry}
 use Rattle.yq_change.specs.Appends.{inserted}

@@ -8,7 +8,7 @@ use Rattle.yq_lines.specs.Outline.{flatten}
 use Rattle.yq_lines.specs.Places.{FoundLine, find, lines_before}
 use Rattle.yq_cut.specs.Rows.{Cut, Part, cut_text, part_text}
 use Rattle.yq_documents.specs.Documents.{document_parts}
-use Rattle.yq_row_lines.specs.Lines.{lines_of}
+use Rattle.yq_lines.specs.Lines.{lines_of}
 use Rattle.yq_documents.specs.Reading.{outline_of, read_at}
 use Rattle.yq_row_places.specs.NodesAt.{node_in}
 use Rattle.yq_row_places.specs.RemovalPlaces.{has_others_at}

@@ -5,7 +5,7 @@ use Rattle.yq_nodes.specs.Nodes as inline
 use Rattle.yq_lines.specs.Outline.{flatten}
 use Rattle.yq_lines.specs.Places.{lines_before, FoundLine, find}
 use Rattle.yq_cut.specs.Rows.{Content, Inline, Row, Part}
-use Rattle.yq_row_lines.specs.Lines.{lines_of}
+use Rattle.yq_lines.specs.Lines.{lines_of}
 use Rattle.yq_documents.specs.Reading.{outline_of}
 
 -- Steps lead to an item or entry whose line is that of a row's mark, with these rows under it, between others in front and others behind.

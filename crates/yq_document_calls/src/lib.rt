@@ -1,10 +1,12 @@
-//! Tests of the public calls on documents and programs: what their contracts
-//! leave open.
+//! Tests of the public calls on parts of a text, scalars, inline nodes, rows,
+//! documents and programs: what their contracts leave open. [`all_memory`] is
+//! for all tests.
 #![tactic(auto)]
 
 #[cfg(test)]
-mod growths;
+mod documents;
+mod memory;
 #[cfg(test)]
-mod long;
-#[cfg(test)]
-mod nodes;
+mod text;
+
+pub use memory::all_memory;

@@ -29,7 +29,7 @@ use Rattle.yq_cut.specs.Grammar.{IsContent}
 use Rattle.yq_cut.specs.Rows.{Content, Nothing, Inline, Block}
 use Rattle.yq_cut.specs.View.{anchor_cut, content_cut}
 use Rattle.yq_documents.specs.KeyReading.{EndsIn}
-use Rattle.yq_row_lines.specs.Lines.{head_of}
+use Rattle.yq_lines.specs.Lines.{head_of}
 use Rattle.yq_documents.specs.Reading.{has_fit_keys, content_is_fit}
 use Rattle.yq_documents.specs.RowReading.{placed_head, is_short_plain, is_block_head, string_head, block_head_at, fit_head, node_head_at, head_at}
 use Rattle.yq_documents.proofs.FlowKeyLaws.{keys_there}

@@ -9,8 +9,8 @@ use Rattle.yq_cut.specs.Grammar.{IsCut}
 use Rattle.yq_cut.specs.Rows.{Row, Part}
 use Rattle.yq_cut.specs.View.{rows_of, RowsView, rows_view}
 use Rattle.yq_flow_scalars.specs.Characters.{text_limit}
-use Rattle.yq_row_lines.specs.Extents.{IsRowsView}
-use Rattle.yq_row_lines.specs.declared.line_position.Stretch.{Stretch}
+use Rattle.yq_lines.specs.Extents.{IsRowsView}
+use Rattle.yq_lines.specs.declared.line_position.Stretch.{Stretch}
 use Rattle.yq_documents.specs.Documents.{Document, document_parts}
 use Rattle.yq_documents.specs.Holding.{Holds}
 use Rattle.yq_documents.specs.Located.{document_at}

@@ -15,4 +15,3 @@ pub mod RunLaws
 pub mod PartNumberLaws
 pub mod PartRows
 pub mod WalkedRows
-pub mod RefersLaws

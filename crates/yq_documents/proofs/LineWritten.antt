@@ -13,14 +13,14 @@ use Rattle.yq_cut.specs.View.{RowsView, Slices, slices}
 use Rattle.yq_flow_scalars.specs.Quoted.{IsQuotedText}
 use Rattle.yq_flow_scalars.specs.Text.{upto}
 use Rattle.yq_flow_scalars.specs.Tree.{Node}
-use Rattle.yq_row_lines.specs.Extents.{lines_before_mark}
-use Rattle.yq_row_lines.specs.Lines.{head_of}
-use Rattle.yq_row_lines.specs.RowWalk.{line_rank}
-use Rattle.yq_row_lines.specs.declared.line_position.Position.{Position}
-use Rattle.yq_row_lines.specs.declared.line_position.Stretch.{Stretch}
-use Rattle.yq_row_lines.proofs.RowLaws.{IsBeside, beside_in, no_comments}
-use Rattle.yq_row_lines.proofs.WalkMarks.{key_here, key_none}
-use Rattle.yq_row_lines.proofs.WalkPositions.{Located}
+use Rattle.yq_lines.specs.Extents.{lines_before_mark}
+use Rattle.yq_lines.specs.Lines.{head_of}
+use Rattle.yq_lines.specs.RowWalk.{line_rank}
+use Rattle.yq_lines.specs.declared.line_position.Position.{Position}
+use Rattle.yq_lines.specs.declared.line_position.Stretch.{Stretch}
+use Rattle.yq_lines.proofs.RowLaws.{IsBeside, beside_in, no_comments}
+use Rattle.yq_lines.proofs.WalkMarks.{key_here, key_none}
+use Rattle.yq_lines.proofs.WalkPositions.{Located}
 use Rattle.yq_documents.specs.RowReading.{name_in}
 use Rattle.yq_documents.specs.Stretches.{HasText, IsLineIn, document_lines, number_of}
 use Rattle.yq_documents.proofs.WalkedRows.{line_here, located_in, own_line, stands}

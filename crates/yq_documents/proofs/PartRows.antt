@@ -13,9 +13,9 @@ use Rattle.yq_cut.specs.Splices.{nth_part, behind_part}
 use Rattle.yq_cut.specs.View.{slices, rows_of, RowsView, rows_view}
 use Rattle.yq_cut.proofs.splices.PartPlaces.{part_in}
 use Rattle.yq_flow_scalars.specs.Anchors.{names_of}
-use Rattle.yq_row_lines.specs.Lines.{lines_of}
-use Rattle.yq_row_lines.specs.RowWalk.{HasDocument, HasRows}
-use Rattle.yq_row_lines.specs.declared.line_position.Stretch.{Stretch}
+use Rattle.yq_lines.specs.Lines.{lines_of}
+use Rattle.yq_lines.specs.RowWalk.{HasDocument, HasRows}
+use Rattle.yq_lines.specs.declared.line_position.Stretch.{Stretch}
 use Rattle.yq_documents.specs.Documents.{document_parts}
 use Rattle.yq_documents.specs.Reading.{all_documents, is_document, have_fit_keys, has_short_root, root_of}
 use Rattle.yq_documents.specs.PartNumbers.{part_number}

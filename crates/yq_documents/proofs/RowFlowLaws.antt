@@ -18,7 +18,7 @@ use Rattle.yq_cut.specs.Rows.{Content, Nothing, Inline, Block, parent_indent}
 use Rattle.yq_cut.specs.View.{Slices, anchor_cut, content_cut}
 use Rattle.yq_documents.specs.FlowReading.{kept, node_flow_at, head_flow_at, core, content_core, row_flow}
 use Rattle.yq_documents.specs.KeyReading.{EndsIn}
-use Rattle.yq_row_lines.specs.Lines.{tail_of}
+use Rattle.yq_lines.specs.Lines.{tail_of}
 use Rattle.yq_documents.specs.RowReading.{is_short_plain, is_block_head, HasHead}
 use Rattle.yq_documents.proofs.HeadLaws.{ends_drop, head_text, opens, block_marks, scalar_some_is}
 

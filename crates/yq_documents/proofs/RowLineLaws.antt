@@ -13,10 +13,10 @@ use Rattle.yq_nodes.specs.Scalars.{is_quoted}
 use Rattle.yq_cut.specs.Grammar.{IsContent}
 use Rattle.yq_cut.specs.Rows.{Content, Nothing, Inline, Block, parent_indent}
 use Rattle.yq_cut.specs.View.{Slices, anchor_cut, content_cut}
-use Rattle.yq_row_lines.specs.Lines.{content_anchor, head_of, tail_of}
+use Rattle.yq_lines.specs.Lines.{content_anchor, head_of, tail_of}
 use Rattle.yq_documents.specs.KeyReading.{EndsIn}
 use Rattle.yq_documents.specs.RowReading.{name_in, head_at, HasHead}
-use Rattle.yq_row_lines.proofs.RowLaws.{scalar_quoted}
+use Rattle.yq_lines.proofs.RowLaws.{scalar_quoted}
 use Rattle.yq_documents.proofs.HeadLaws.{fitting, head_is, opens}
 
 -- the pieces of a row tell its anchor and its tail

@@ -7,12 +7,12 @@ use Rattle.yq_lines.specs.Group.{group}
 use Rattle.yq_lines.specs.Outline.{Line, value}
 use Rattle.yq_cut.specs.Rows.{Row, Part, Cut}
 use Rattle.yq_cut.specs.View.{rows_of, RowsView}
-use Rattle.yq_row_lines.specs.Lines.{lines_of}
-use Rattle.yq_row_lines.specs.RowWalk.{HasDocument, HasRows, IsLine, IsPosition, OfLine, line_number}
-use Rattle.yq_row_lines.specs.declared.line_position.Position.{Position}
-use Rattle.yq_row_lines.specs.declared.line_position.Stretch.{Stretch}
-use Rattle.yq_row_lines.proofs.KnownLaws.{get_dropped, get_front}
-use Rattle.yq_row_lines.proofs.WalkPositions.{Located, first_number, located}
+use Rattle.yq_lines.specs.Lines.{lines_of}
+use Rattle.yq_lines.specs.RowWalk.{HasDocument, HasRows, IsLine, IsPosition, OfLine, line_number}
+use Rattle.yq_lines.specs.declared.line_position.Position.{Position}
+use Rattle.yq_lines.specs.declared.line_position.Stretch.{Stretch}
+use Rattle.yq_lines.proofs.KnownLaws.{get_dropped, get_front}
+use Rattle.yq_lines.proofs.WalkPositions.{Located, first_number, located}
 use Rattle.yq_documents.specs.Documents.{Document, document_parts}
 use Rattle.yq_documents.specs.Reading.{cut_of, document_of, documents_of}
 use Rattle.yq_documents.specs.LinesInRows.{document_row}

@@ -15,7 +15,7 @@ use Rattle.yq_cut.specs.Splices.{first_gap}
 use Rattle.yq_flow_scalars.specs.Anchors.{names_of, AreBound}
 use Rattle.yq_lines.specs.LineAnchors.{HaveOneAnchorEach}
 use Rattle.yq_lines.specs.Grammar.{IsNode}
-use Rattle.yq_row_lines.specs.Lines.{lines_of}
+use Rattle.yq_lines.specs.Lines.{lines_of}
 use Rattle.yq_lines.specs.Outline.{Line, null_node}
 
 -- A document: the comment before it and its root node (9.1; own).

@@ -9,7 +9,7 @@ use Rattle.yq_nodes.specs.Places.{Placed, placed, Content, nothing, name, text, 
 use Rattle.yq_nodes.specs.Scalars.{is_quoted}
 use Rattle.yq_cut.specs.Rows as rows
 use Rattle.yq_cut.specs.Rows.{Row}
-use Rattle.yq_row_lines.specs.Lines.{tail_of}
+use Rattle.yq_lines.specs.Lines.{tail_of}
 use Rattle.yq_documents.specs.RowReading.{is_block_head, is_short_plain}
 
 -- a node by its content, if it is an alias or a flow collection (own)

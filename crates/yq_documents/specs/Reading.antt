@@ -14,7 +14,7 @@ use Rattle.yq_cut.specs.Rows.{Content, Nothing, Inline, Block, Row, Part, Cut, l
 use Rattle.yq_flow_scalars.specs.Anchors.{names_of}
 use Rattle.yq_documents.specs.Documents.{Document, document_parts, lead_of, is_long_plain}
 use Rattle.yq_lines.specs.Group.{group}
-use Rattle.yq_row_lines.specs.Lines.{lines_of}
+use Rattle.yq_lines.specs.Lines.{lines_of}
 use Rattle.yq_lines.specs.LinesReading.{have_one_anchor_each, are_bound}
 use Rattle.yq_lines.specs.Outline.{Outline, value}
 use Rattle.yq_lines.specs.Sound.{is_sound}

@@ -8,7 +8,7 @@ use Rattle.yq_lines.specs.Outline.{Line}
 use Rattle.yq_lines.specs.Sound.{is_entry}
 use Rattle.yq_cut.specs.Rows.{Part}
 use Rattle.yq_documents.specs.Documents.{Document, document_parts}
-use Rattle.yq_row_lines.specs.Lines.{lines_of}
+use Rattle.yq_lines.specs.Lines.{lines_of}
 use Rattle.yq_documents.specs.Located.{document_at}
 use Rattle.yq_documents.specs.Reading.{cut_of}
 use Rattle.yq_documents.specs.TreeEdits.{lead_by}

@@ -5,11 +5,11 @@ use Rattle.yq_lines.specs.Outline.{Line, Outline, level}
 use Rattle.yq_cut.specs.Grammar.{IsCut}
 use Rattle.yq_cut.specs.Rows.{Row, Part}
 use Rattle.yq_cut.specs.View.{RowsView, rows_view}
-use Rattle.yq_row_lines.specs.Extents.{IsRowsView}
-use Rattle.yq_row_lines.specs.Lines.{lines_of}
-use Rattle.yq_row_lines.specs.RowWalk.{IsLine, IsPosition, line_number}
-use Rattle.yq_row_lines.specs.declared.line_position.Position.{Position}
-use Rattle.yq_row_lines.specs.declared.line_position.Stretch.{Stretch}
+use Rattle.yq_lines.specs.Extents.{IsRowsView}
+use Rattle.yq_lines.specs.Lines.{lines_of}
+use Rattle.yq_lines.specs.RowWalk.{IsLine, IsPosition, line_number}
+use Rattle.yq_lines.specs.declared.line_position.Position.{Position}
+use Rattle.yq_lines.specs.declared.line_position.Stretch.{Stretch}
 use Rattle.yq_documents.specs.Documents.{document_parts}
 use Rattle.yq_documents.specs.Reading.{all_documents, cut_of, documents_of}
 use Rattle.yq_documents.specs.LinesInRows.{document_row}

@@ -5,7 +5,7 @@ ghost use Rattle.yq_lines.specs.Names.{is_reference, line_names};
 ghost use Rattle.yq_cut.specs.Grammar.{IsCut};
 ghost use Rattle.yq_cut.specs.Rows.{Row as RowOf};
 ghost use Rattle.yq_cut.specs.View.{rows_of, rows_view};
-ghost use Rattle.yq_row_lines.specs.Extents.{IsRowsView};
+ghost use Rattle.yq_lines.specs.Extents.{IsRowsView};
 ghost use Rattle.yq_documents.specs.Documents.{Document};
 ghost use Rattle.yq_documents.specs.Decoded.{IsDecodedBy};
 ghost use Rattle.yq_documents.specs.Located.{document_at};
@@ -18,7 +18,7 @@ use crate::decoded::Decoded;
 use crate::of_row::decoded_at;
 use std::marker::Model;
 use yq_cut::Rows;
-use yq_row_lines::Stretch;
+use yq_lines::Stretch;
 
 /// The rows of a document among those of a text, and the gap that its lead ends.
 #[derive(Clone, Copy)]

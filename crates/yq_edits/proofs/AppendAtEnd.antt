@@ -10,7 +10,7 @@ use Rattle.yq_flow_scalars.specs.Text.{is_line}
 use Rattle.yq_lines.specs.Outline.{flatten}
 use Rattle.yq_cut.specs.Rows.{print_row, Row, rows_text, Part, Cut, cut_text}
 use Rattle.yq_row_places.specs.CollectionEnds.{CollectionEnd}
-use Rattle.yq_row_lines.specs.Lines.{lines_of}
+use Rattle.yq_lines.specs.Lines.{lines_of}
 use Rattle.yq_documents.specs.Reading.{read_at}
 use Rattle.yq_row_places.specs.RowPaths.{IsReadable}
 use Rattle.yq_block.specs.declared.layout.Layout.{Layout}
@@ -24,7 +24,7 @@ use Rattle.yq_change.specs.DocumentRows.{behind_document}
 use Rattle.yq_change.proofs.TextPieceLaws.{pieces_joined}
 use Rattle.yq_meaning.specs.Operations.{append}
 use Rattle.yq_script.specs.Script.{Segment, new_text}
-use Rattle.yq_cut.specs.Appending.{closed_by}
+use Rattle.yq_cut.specs.Appending.{closed_by, is_one_break}
 use Rattle.yq_cut.proofs.PlaceLaws.{row_then}
 use Rattle.yq_cut.proofs.seams.SeamLaws.{rows_text-append}
 use Rattle.yq_row_places.proofs.RunSpans.{rows_then}
@@ -38,7 +38,6 @@ use Rattle.yq_edits.specs.ReadsAfter.{ReadsAfter}
 use Rattle.yq_edits.proofs.CommentPieceLaws.{break_piece}
 use Rattle.yq_edits.proofs.SegmentLaws.{segments_readable}
 use Rattle.yq_cut.specs.Grammar.{IsTail, limit_after}
-use Rattle.yq_cut.specs.Appending.{is_one_break}
 use Rattle.yq_block.specs.BlockValues.{IsEnd}
 use Rattle.yq_change.specs.Ends.{TakesRowsLast, closed_with}
 use Rattle.yq_change.proofs.EndLaws.{end_of_text_appended}

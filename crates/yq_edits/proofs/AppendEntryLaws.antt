@@ -15,7 +15,7 @@ use Rattle.yq_cut.specs.Grammar.{Limit, limit_after, allows, AreRows}
 use Rattle.yq_cut.specs.Rows.{Row}
 use Rattle.yq_cut.specs.Splices.{first_gap}
 use Rattle.yq_documents.specs.Documents.{HaveFitKeys}
-use Rattle.yq_row_lines.specs.Lines.{lines_of}
+use Rattle.yq_lines.specs.Lines.{lines_of}
 use Rattle.yq_documents.specs.TreeEdits.{new_label}
 use Rattle.yq_block.specs.declared.layout.Layout.{Layout}
 use Rattle.yq_block.specs.Alone.{alone}

@@ -26,7 +26,7 @@ use Rattle.yq_cut.proofs.EmptyTexts.{empty_is}
 use Rattle.yq_cut.proofs.seams.SeamLaws.{rows_text-append}
 use Rattle.yq_cut.proofs.splices.ContentPlaces.{rows_around}
 use Rattle.yq_row_places.specs.CommentPlaces.{end_before, line_text}
-use Rattle.yq_row_lines.specs.Lines.{lines_from, lines_of}
+use Rattle.yq_lines.specs.Lines.{lines_from, lines_of}
 use Rattle.yq_row_places.specs.PlacedRows.{PlacedPart, PlacedRow, placed_document, placed_row, row_of_path}
 use Rattle.yq_documents.specs.Reading.{read_at}
 use Rattle.yq_documents.specs.Ready.{begins_no_node}

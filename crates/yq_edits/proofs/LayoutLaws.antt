@@ -10,7 +10,7 @@ use Rattle.yq_nodes.specs.Nodes as inline
 use Rattle.yq_lines.specs.Outline.{Line, level}
 use Rattle.yq_cut.specs.Rows.{Part, Cut}
 use Rattle.yq_documents.specs.Documents.{document_parts}
-use Rattle.yq_row_lines.specs.Lines.{lines_of}
+use Rattle.yq_lines.specs.Lines.{lines_of}
 use Rattle.yq_row_places.specs.Steps.{is_kind, begins_under, first_step, steps_of_part}
 use Rattle.yq_block.specs.BlockReading.{is_filled}
 use Rattle.yq_block.specs.BlockRows.{block_key, column_below, indent_step, inline_of}

@@ -1,15 +1,13 @@
 -- The items and entries of the code.
-use Rattle.std.proofs.Common.{◌≡◌, ℕ, zero, suc, ◌-◌, ◌≤◌, Bool, false, List, [], ◌∷◌, length, take, drop, slice_index_or, Option, Some, None, option_map, refl, sym, ap, ◌∙◌, arith, String, string_bytes}
-use Rattle.std.specs.Str.{bytes_eq}
-use Rattle.std.proofs.lemmas.Bool.{cond-false}
+use Rattle.std.proofs.Common.{◌≡◌, ℕ, zero, suc, ◌-◌, ◌≤◌, List, [], ◌∷◌, length, take, drop, slice_index_or, Option, Some, None, option_map, refl, sym, ap, ◌∙◌, arith, String, string_bytes}
 use Rattle.std.proofs.lemmas.List.{take_all}
 use Rattle.std.specs.Option.{option_or}
 use Rattle.std.specs.declared.alloc.Global.{Global}
 use Rattle.yq_flow_scalars.specs.Paths.{To, Nth}
 use Rattle.yq_nodes.specs.declared.inline.Inline.{Inline}
 use Rattle.yq_nodes.specs.declared.path.Step as declared
-use Rattle.yq_nodes.specs.Entries.{start_of, end_of, entry_start, step_of}
-use Rattle.yq_flow.specs.FlowPlaces.{first_start, last_end, only_end, remove_end, remove_part}
+use Rattle.yq_nodes.specs.Entries.{end_of, entry_start, step_of}
+use Rattle.yq_flow.specs.FlowPlaces.{last_end, only_end, remove_end, remove_part}
 use Rattle.yq_nodes.specs.View.{view, items_end, entries_end}
 use Rattle.yq_nodes.proofs.PathLoops.{Field}
 
@@ -67,34 +65,3 @@ item_further t (suc n) (x ∷ is) some more none =
     let less : suc n - 1 ≡ n = omega arith in
     let only : only_end (Nth n) (items_end is) ≡ None = sym (none ∙ (λ j. only_end (Nth (less j)) (items_end (tail j)))) in
     (λ j. remove_part t (Nth (less j)) (items_end (tail j))) ∙ sym (ap (λ (o : Option ℕ). option_or (option_map (remove_end t (entry_start (None, view x)) (end_of (view x))) o) (remove_part t (Nth n) (items_end is))) only)
-
--- those behind the first one
-tail_of : {A : Type 0} (x : A) (xs : List A) → take (length (x ∷ xs) - 1) xs ≡ xs
-tail_of x xs = take_all (length (x ∷ xs) - 1) xs (omega arith)
-
--- where the first one begins
-pub items_begin : (is : List Inline) (x : Inline) (n : ℕ) → 1 ≤ length is → x ≡ slice_index_or is 0 x → n ≡ start_of (view x) → Some n ≡ first_start
-    (items_end is)
-items_begin [] x n some at begins = absurd (omega (arith, some))
-items_begin (y ∷ is) x n some at begins = ap Some (begins ∙ ap (λ (z : Inline). start_of (view z)) at)
-
--- the entry of that key, as the code asks for it
-is_key : (e f : Field) (s key : List ℕ) (b : Bool) → e ≡ f → s ≡ string_bytes e.0 → bytes_eq s key ≡ b → bytes_eq (string_bytes f.0) key ≡ b
-is_key e f s key b at text same = ap (λ l. bytes_eq l key) (sym (text ∙ ap (λ (z : Field). string_bytes z.0) at)) ∙ same
-
--- what goes with an entry of another key
-other_entry : (t key : List ℕ) (g : Field) (es : List Field) → bytes_eq (string_bytes g.0) key ≡ false →
-    remove_part t (To key) (entries_end (g ∷ es)) ≡ option_or (option_map (remove_end t g.1.start (end_of (view g.2)))
-    (only_end (To key) (entries_end es))) (remove_part t (To key) (entries_end es))
-other_entry t key g es other = cond-false _ _ _ other
-
--- behind an entry that stays
-pub entry_further : (t key : List ℕ) (es : List Field) (f : Field) (s : List ℕ) → 1 ≤ length es → f ≡ slice_index_or es 0 f → s ≡ string_bytes f.0
-    → bytes_eq s key ≡ false → None ≡ only_end (To key) (entries_end (take (length es - 1) (drop 1 es))) →
-    remove_part t (To key) (entries_end (take (length es - 1) (drop 1 es))) ≡ remove_part t (To key) (entries_end es)
-entry_further t key [] f s some at text other none = absurd (omega (arith, some))
-entry_further t key (g ∷ es) f s some at text other none =
-    let only : None ≡ only_end (To key) (entries_end es) = none ∙ ap (λ l. only_end (To key) (entries_end l)) (tail_of g es) in
-    ap (λ l. remove_part t (To key) (entries_end l)) (tail_of g es)
-    ∙ (ap (λ (o : Option ℕ). option_or (option_map (remove_end t g.1.start (end_of (view g.2))) o) (remove_part t (To key) (entries_end es))) only
-    ∙ sym (other_entry t key g es (is_key f g s key false at text other)))

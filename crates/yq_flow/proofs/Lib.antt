@@ -20,4 +20,3 @@ pub mod Marks
 pub mod RemovePlaces
 pub mod FlowSpelled
 pub mod EditSpans
-pub mod ListedLaws

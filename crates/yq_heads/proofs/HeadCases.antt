@@ -13,14 +13,6 @@ pub same_empty : (t : List ℕ) → (length t == 0) ≡ is_empty t
 same_empty [] = refl
 same_empty (b ∷ bs) = search rules
 
-pub empty_head : (whole : List ℕ) (n : ℤ) (head t : List ℕ) → is_empty head ≡ true → head_at whole n head t ≡ Some None
-unfolding head_at
-empty_head whole n head t e = cond-true _ _ _ e
-
-pub empty_flow : (whole : List ℕ) (n : ℤ) (head t : List ℕ) → is_empty head ≡ true → head_flow_at whole n head t ≡ None
-unfolding head_flow_at
-empty_flow whole n head t e = cond-true _ _ _ e
-
 module _ (whole : List ℕ) (n : ℤ) (head t : List ℕ) (some : is_empty head ≡ false) where
   pub block_head : is_block_head head ≡ true → head_at whole n head t ≡ block_head_at n t
   unfolding head_at

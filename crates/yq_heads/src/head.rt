@@ -7,7 +7,7 @@ ghost use Rattle.yq_nodes.specs.View.{view as node_view};
 ghost use Rattle.yq_cut.specs.View.{view as row_view};
 ghost use Rattle.yq_documents.specs.FlowReading as flow;
 ghost use Rattle.yq_documents.specs.KeyReading.{EndsIn};
-ghost use Rattle.yq_row_lines.specs.Lines.{head_of};
+ghost use Rattle.yq_lines.specs.Lines.{head_of};
 ghost use Rattle.yq_documents.specs.RowReading as spec;
 ghost use Rattle.yq_lines.specs.View.{head_view, head_flow};
 

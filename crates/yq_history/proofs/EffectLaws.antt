@@ -14,6 +14,7 @@ use Rattle.yq_records.specs.Refusals.{ErrorIs, Reports, no_way, if_moves, way_fa
 use Rattle.yq_records.specs.State.{State, moved, moved_text, opened, settled, squashed}
 use Rattle.yq_history.specs.declared.fault.Fault.{Fault}
 use Rattle.yq_history.specs.declared.fault.Fault.TheVariants as fault
+use Rattle.yq_store.specs.declared.store.FileReadError.TheVariants as read
 use Rattle.yq_history.specs.declared.direction.Direction.{Direction}
 use Rattle.yq_store.specs.FileMap.{FileMap}
 use Rattle.yq_history.specs.Effects.{Effect, refuses, writes_nothing, writes_both, from_pair, from_journal, from_settled, leads_to, goes_to, move_effect, joins_to, squash_effect, IsCutShort, Works}

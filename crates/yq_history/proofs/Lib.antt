@@ -1,7 +1,6 @@
 pub mod CutLaws
 pub mod EffectLaws
 pub mod MoveLaws
-pub mod OpenLaws
 pub mod PairLaws
 pub mod PrintLaws
 pub mod SquashLaws

@@ -10,8 +10,7 @@ use Rattle.yq_journal.specs.History.{History, Revision}
 use Rattle.yq_records.specs.Record.{Record}
 use Rattle.yq_records.specs.State.{State}
 use Rattle.yq_store.specs.FileMap.{FileMap}
-use Rattle.yq_history.specs.Pair.{GoodIn, Opens}
-use Rattle.yq_history.specs.Steps.{listing_cause}
+use Rattle.yq_history.specs.Pair.{Opens}
 use Rattle.yq_history.specs.Listing.{edit_line, lines_behind, history_lines, listing_output}
 
 -- a line by other names of its texts
@@ -53,8 +52,3 @@ listed s t h k = ap₂ (λ at exprs. lines_behind 0 at exprs) k.reports.cursor (
 pub listed_output : (c : FileMap) (f j : List ℕ) (h : Option History) (v : Vec ℕ Global) (s : State) → Opens c f j h (Ok (v, s)) → lines_behind 0 s.at (map (λ (r : Record). r.expr) s.records) ≡ listing_output h
 listed_output c f j None v s opens = absurd opens
 listed_output c f j (Some x) v s opens = listed s v.items x opens.at_rest
-
--- a pair that was read is there, and good for its history
-pub listing_arrives : (c : FileMap) (f j : List ℕ) (h : Option History) (p : Vec ℕ Global × State) → Opens c f j h (Ok p) → (listing_cause h ≡ None) × GoodIn c f j h
-listing_arrives c f j None p opened = absurd opened
-listing_arrives c f j (Some h) p opened = (refl, opened.stands)

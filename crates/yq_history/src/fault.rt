@@ -3,7 +3,7 @@
 use std::error::Error;
 use std::fmt::{self, Display, Formatter, Write};
 use yq_flow_scalars::{FaultKind, ReadFault};
-use yq_usage::UsageCause;
+use yq_line::UsageCause;
 
 /// Why a command is refused. Its text is the line that the program prints.
 #[derive(Clone, Copy, Debug, PartialEq, Eq)]

@@ -11,7 +11,7 @@ use Rattle.yq_line.specs.declared.command.Command.{Command}
 use Rattle.yq_line.specs.declared.command.Command.TheVariants.{Eval, Undo, Redo, History, Squash, Help}
 use Rattle.yq_line.specs.declared.words_error.WordsError.{WordsError}
 use Rattle.yq_line.specs.declared.words_error.WordsError.TheVariants.{OutOfMemory, Usage}
-use Rattle.yq_usage.specs.CommandWords.{with_command}
+use Rattle.yq_line.specs.CommandWords.{with_command}
 use Rattle.yq_line.specs.Line.{yq}
 
 -- the words as clap reads them, behind the program's name

@@ -1,3 +1,4 @@
 pub mod Asked
 pub mod Line
 pub mod Parts
+pub mod CommandWords

@@ -5,11 +5,11 @@ ghost use Rattle.clap.specs.Words.{first_of, one_of, rows_of, found_of};
 ghost use Rattle.yq_line.specs.declared.command.Command.TheVariants.{Help};
 ghost use Rattle.yq_line.specs.Asked as spec;
 
+use crate::UsageCause;
 use crate::command::Command;
 use crate::words_error::WordsError;
 use clap::ArgMatches;
 use std::alloc::{AllocError, Global};
-use yq_usage::UsageCause;
 
 /// A text that was found.
 fn text_of<'a>(matches: &ArgMatches<'a>, id: &str) -> Option<&'a str>

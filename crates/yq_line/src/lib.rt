@@ -1,12 +1,23 @@
 //! The command line: what `clap` takes, and the command that it finds in the words.
+//! The words of the command line, as far as they can be read without `clap`: the word that names a command,
+//! and why words are no command, in lines for who wrote them.
 #![tactic(auto)]
 
 mod asked;
+mod cause;
 mod command;
+mod command_word;
+mod found;
 mod line;
+mod lines;
+mod options;
+mod spelling;
 mod words_error;
 
 pub use asked::command_in;
+pub use cause::UsageCause;
 pub use command::{Command, purpose_of};
+pub use command_word::split_command;
 pub use line::matched;
+pub use lines::{first_name, usage_text};
 pub use words_error::WordsError;

@@ -1,7 +1,7 @@
 //! Why words are no command.
 
+use crate::UsageCause;
 use std::alloc::AllocError;
-use yq_usage::UsageCause;
 
 /// Why words are no command.
 #[derive(Clone, Copy, Debug)]

@@ -24,3 +24,15 @@ pub mod SoundLaws
 pub mod PositionLaws
 pub mod Unique
 pub mod Values
+pub mod EntryKeys
+pub mod LengthLaws
+pub mod WalkLevels
+pub mod WalkRows
+pub mod WalkEnds
+pub mod WalkPositions
+pub mod KnownLaws
+pub mod KnownWalks
+pub mod FirstLevels
+pub mod RowLaws
+pub mod WalkMarks
+pub mod StopLaws

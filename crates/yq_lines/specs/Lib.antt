@@ -22,3 +22,6 @@ pub mod Comments
 pub mod View
 pub mod Bodies
 pub mod Counts
+pub mod Lines
+pub mod Extents
+pub mod RowWalk

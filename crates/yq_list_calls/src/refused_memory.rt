@@ -4,11 +4,11 @@
 use crate::stores::{FILE, JOURNAL, commands_of, holds, store_with};
 use std::alloc::{AllocError, Global};
 use std::test::Fail;
+use yq_document_calls::all_memory;
 use yq_history::Fault;
 use yq_lists::Answer::{Done, NoMatch, Refused};
 use yq_lists::{Answer, MemoryOut, run_list};
 use yq_store::MemoryStore;
-use yq_text_calls::all_memory;
 use yq_words::Command;
 
 /// A list all of whose commands are carried out where there is memory.

@@ -15,7 +15,7 @@ use Rattle.yq_nodes.specs.Trees.{tree_of, items_tree, with_name, node_head}
 use Rattle.yq_cut.specs.Rows as rows
 use Rattle.yq_documents.specs.Documents.{Document}
 use Rattle.yq_lines.specs.Group.{deeper, shallow, group}
-use Rattle.yq_row_lines.specs.Lines.{head_of, lines_from, row_lines, lines_of}
+use Rattle.yq_lines.specs.Lines.{head_of, lines_from, row_lines, lines_of}
 use Rattle.yq_lines.specs.Outline as outline
 use Rattle.yq_lines.specs.Outline.{Mark, Bare, Key, Dash, Line, level, Outline, end, row, anchored, head_or, shaped, children}
 use Rattle.yq_documents.specs.Reading.{document_of}

@@ -16,8 +16,8 @@ ghost use Rattle.yq_edits.specs.ReplaceEdits.{value_put_at as value_put_there};
 
 use std::alloc::{AllocError, Global};
 use yq_documents::Path;
-use yq_flow_edits::{append_in_flow, emptying, put_in_flow, remove_in_flow, unchanged};
 use yq_meaning::Op;
+use yq_node_edits::{append_in_flow, emptying, put_in_flow, remove_in_flow, unchanged};
 use yq_nodes::Value;
 use yq_places::CutText;
 use yq_script::Segments;

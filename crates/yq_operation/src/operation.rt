@@ -9,11 +9,11 @@ ghost use Rattle.yq_outcomes.specs.Carried as spec;
 ghost use Rattle.yq_outcomes.specs.Valid.{segments_by};
 
 use std::alloc::Global;
+use yq_lines::KnownItems;
 use yq_meaning::Op;
 use yq_op_segments::{change, op_segments};
 use yq_outcomes::{EditError, on_the_way};
 use yq_places::CutText;
-use yq_row_lines::KnownItems;
 use yq_script::{Changed, Edited, exchange};
 
 /// What an operation changes in a text with its cut, and what is known behind it of its way.

@@ -16,7 +16,7 @@ use Rattle.yq_meaning.specs.declared.refusal.Refusal.{Refusal}
 use Rattle.yq_meaning.specs.Plans.{plan}
 use Rattle.yq_program.specs.Program.{Update, UpdatesHold}
 use Rattle.yq_meaning.specs.Rooms.{room_of}
-use Rattle.yq_flow_edits.proofs.CutLaws.{cut_same}
+use Rattle.yq_node_edits.proofs.CutLaws.{cut_same}
 use Rattle.yq_outcomes.specs.Carried.{carry_all}
 use Rattle.yq_outcomes.specs.Edit.{Edit, unreadable, refuses, gives}
 use Rattle.yq_outcomes.specs.Theorems.{IsUpdated, UpdateRefused}

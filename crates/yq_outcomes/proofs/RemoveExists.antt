@@ -11,7 +11,7 @@ use Rattle.yq_lines.specs.Outline.{Line, flatten}
 use Rattle.yq_lines.specs.Places.{FoundLine, find, lines_after, lines_before}
 use Rattle.yq_cut.specs.Rows.{Part, Cut, cut_text}
 use Rattle.yq_documents.specs.declared.path.Part.TheVariants.{Entry}
-use Rattle.yq_row_lines.specs.Lines.{lines_of}
+use Rattle.yq_lines.specs.Lines.{lines_of}
 use Rattle.yq_documents.specs.Pieces.{TextPiece}
 use Rattle.yq_documents.specs.Reading.{read_at}
 use Rattle.yq_documents.specs.LinesInRows.{RowLine, row_line, row_line_of}
@@ -32,7 +32,7 @@ use Rattle.yq_edits.specs.EntryEdits.{one_removed}
 use Rattle.yq_edits.specs.Removing.{rows_removed}
 use Rattle.yq_edits.specs.RemovingFirst.{first_removed}
 use Rattle.yq_outcomes.proofs.PrintedDocuments.{printed_at}
-use Rattle.yq_flow_edits.proofs.StandingExists.{placed_there}
+use Rattle.yq_node_edits.proofs.StandingExists.{placed_there}
 
 module _ (n : ℕ) (s : Step) (ss : List Step) (c : Cut) (e : RowsOfEntry) (read : read_at (cut_text c) ≡ Some c) (x : StandsThere n s ss c e) where
   abbrev p : Part

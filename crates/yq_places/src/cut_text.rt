@@ -5,12 +5,12 @@ ghost use Rattle.yq_text.specs.Halves.{whole};
 ghost use Rattle.yq_cut.specs.Grammar.{IsCut};
 ghost use Rattle.yq_cut.specs.View.{rows_view};
 ghost use Rattle.yq_documents.specs.Reading.{all_documents, cut_of, read_at};
-ghost use Rattle.yq_row_lines.specs.RowWalk.{AreKnown};
+ghost use Rattle.yq_lines.specs.RowWalk.{AreKnown};
 ghost use Rattle.yq_row_places.specs.RowWalk.{HasCut, IsKnownLine};
 
 use std::marker::Model;
 use yq_cut::Rows;
-use yq_row_lines::KnownItems;
+use yq_lines::KnownItems;
 use yq_row_places::{KnownLine, is_text};
 use yq_text::Halves;
 

@@ -3,5 +3,3 @@ pub mod SumLaws
 pub mod LimitLaws
 pub mod IndexLaws
 pub mod UsedLaws
-pub mod LoopLaws
-pub mod AddedLaws

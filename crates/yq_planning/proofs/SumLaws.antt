@@ -1,16 +1,16 @@
 -- Sums of values: the int that is written, one item, entry or term more.
-use Rattle.std.proofs.Common.{◌≡◌, ℕ, zero, suc, ◌+◌, ◌-◌, ◌<◌, ◌^◌, Bool, true, false, List, [], ◌∷◌, ◌++◌, Option, Some, None, is_some, option_map, length, map, drop, take, get_or, set, FitsSigned, refl, sym, ap, ◌∙◌, arith, cond, rules, inl, inr}
+use Rattle.std.proofs.Common.{◌≡◌, ℕ, zero, suc, ◌+◌, ◌-◌, ◌<◌, ◌^◌, Bool, true, false, List, [], ◌∷◌, ◌++◌, Option, Some, None, is_some, option_map, length, map, drop, take, get_or, set, FitsSigned, refl, sym, ap, ◌∙◌, arith, cond, rules}
 use mir.Syntax.{w64}
-use Rattle.std.specs.Prelude.{ℤ, pos, negsuc, ◌+ℤ◌}
+use Rattle.std.specs.Prelude.{ℤ, pos, negsuc}
 use Rattle.std.specs.Fmt.{decimal, signed_decimal}
 use Rattle.std.specs.Str.{bytes_eq}
 use Rattle.std.proofs.lemmas.Fmt.{decimal_is_IsNumeral}
 use Rattle.std.proofs.lemmas.Int.{to_z-of_z}
 use Rattle.std.proofs.lemmas.List.{length-map, length-take-le, map_push, take_more, take_rest}
-use mir.Val.{to_z, of_z, SFits}
+use mir.Val.{to_z, of_z}
 use Rattle.yq_nodes.specs.Values.{items, entries}
 use Rattle.yq_flow_scalars.specs.Numbers as numbers
-use Rattle.yq_flow_scalars.specs.Numbers.{unsigned, minus, is_i64}
+use Rattle.yq_flow_scalars.specs.Numbers.{unsigned, minus}
 use Rattle.yq_flow_scalars.specs.Paths.{To, child_at, change_child, append_child, append_children}
 use Rattle.yq_flow_scalars.specs.SchemaReading.{resolve}
 use Rattle.yq_flow_scalars.specs.Tree as tree
@@ -22,9 +22,7 @@ use Rattle.yq_planning.specs.EntryNumbers.{entry_number, number_kept}
 use Rattle.yq_meaning.specs.Judgement.{Judgement, and_then, gives, refuses}
 use Rattle.yq_meaning.specs.Places.{Place, chained}
 use Rattle.yq_program.specs.Program.{Term}
-use Rattle.yq_meaning.specs.RightValues.{as_items, with_entry, with_entries, value_sum, sum, term_value, sum_from, right_value, int_sum}
-use Rattle.yq_meaning.specs.declared.refusal.Refusal.TheVariants.{IntegerRange}
-use Rattle.std.proofs.lemmas.Bool.{cases_Bool, lt-ltb, ltb-true}
+use Rattle.yq_meaning.specs.RightValues.{as_items, with_entry, with_entries, value_sum, sum, term_value, sum_from, right_value}
 
 -- ---- ints
 
@@ -203,35 +201,3 @@ pub right_on : {X : Type 0} (view : X → Term) (doc : ℕ) (p : Place) (xs : Li
     right_value doc (map view xs) p ≡ chained (with_term doc p) (map view (take (length xs - 1) (drop 1 xs))) v
 right_on view doc p [] x v some is h = absurd (omega (arith, some))
 right_on {X} view doc p (y ∷ ys) x v some is h = cc (sum_chained doc p (map view ys) v, take_rest (y ∷ ys) 1)
-
--- ---- scalars
-
--- the sum of two numbers, if it has 64 bits
-out_of_range : (z : ℤ) → (SFits w64 z → ⊥) → is_i64 z ≡ false
-out_of_range (pos n) h = elim (cases_Bool (is_i64 (pos n))) [
-  | inl e ↦ absurd (h (record { sfits = ltb-true n (2 ^ 63) e }))
-  | inr e ↦ e
-]
-out_of_range (negsuc n) h = elim (cases_Bool (is_i64 (negsuc n))) [
-  | inl e ↦ absurd (h (record { sfits = ltb-true n (2 ^ 63) e }))
-  | inr e ↦ e
-]
-
-in_range : (z : ℤ) → SFits w64 z → is_i64 z ≡ true
-in_range (pos n) h = lt-ltb n (2 ^ 63) h.sfits
-in_range (negsuc n) h = lt-ltb n (2 ^ 63) h.sfits
-
-module _ (o p : Option ℤ) (m n : ℤ) (one : Some m ≡ o) (other : Some n ≡ p) where
-  ints_sum : int_sum o p ≡ cond (is_i64 (m +ℤ n)) (gives (tree.scalar None kinds.Int (signed_decimal (m +ℤ n)))) (refuses IntegerRange)
-  ints_sum = λ j. int_sum (sym one j) (sym other j)
-
-  pub sum_too_large : (z : ℤ) → z ≡ m +ℤ n → (SFits w64 z → ⊥) → int_sum o p ≡ refuses IntegerRange
-  sum_too_large z is large =
-      ints_sum ∙ ap (λ b. cond b (gives (tree.scalar None kinds.Int (signed_decimal (m +ℤ n)))) (refuses IntegerRange))
-      (ap is_i64 (sym is) ∙ out_of_range z large)
-
-  pub sum_fits : (z : ℤ) → z ≡ m +ℤ n → SFits w64 z → int_sum o p ≡ gives (tree.scalar None kinds.Int (signed_decimal z))
-  sum_fits z is fits =
-      ints_sum
-      ∙ (ap (λ (x : ℤ). cond (is_i64 x) (gives (tree.scalar None kinds.Int (signed_decimal x))) (refuses IntegerRange)) (sym is)
-      ∙ ap (λ b. cond b (gives (tree.scalar None kinds.Int (signed_decimal z))) (refuses IntegerRange)) (in_range z fits))

@@ -23,7 +23,7 @@ use Rattle.yq_cut.specs.Grammar.{IsContent}
 use Rattle.yq_cut.specs.Rows as rows
 use Rattle.yq_cut.specs.Rows.{Content, Nothing, Inline, Block, Row}
 use Rattle.yq_cut.specs.View.{anchor_cut, content_cut}
-use Rattle.yq_row_lines.specs.Lines.{content_anchor, head_of, lines_from, row_lines}
+use Rattle.yq_lines.specs.Lines.{content_anchor, head_of, lines_from, row_lines}
 use Rattle.yq_documents.specs.RowReading.{name_in}
 
 -- whether a row has an anchor

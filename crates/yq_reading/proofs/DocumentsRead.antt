@@ -11,9 +11,9 @@ use Rattle.yq_cut.specs.Grammar.{AreParts, IsCut, begins_document, no_rows}
 use Rattle.yq_cut.specs.Rows.{Row, Part, Cut, last, marked}
 use Rattle.yq_cut.specs.View.{RowsView, rows_of, rows_view}
 use Rattle.yq_cut.proofs.ScanLaws.{scan_again}
-use Rattle.yq_row_lines.specs.Lines.{lines_of}
-use Rattle.yq_row_lines.specs.RowWalk.{HasRows}
-use Rattle.yq_row_lines.specs.declared.line_position.Stretch.{Stretch}
+use Rattle.yq_lines.specs.Lines.{lines_of}
+use Rattle.yq_lines.specs.RowWalk.{HasRows}
+use Rattle.yq_lines.specs.declared.line_position.Stretch.{Stretch}
 use Rattle.yq_documents.specs.Documents.{begins_bare, document_parts, has_begin, parts_from, with_part}
 use Rattle.yq_documents.specs.Holding.{Holds, IsLocated}
 use Rattle.yq_documents.specs.Reading.{all_documents, cut_of, cut_or, has_short_root, have_fit_keys, is_document}
@@ -27,7 +27,7 @@ use Rattle.yq_reading.specs.Decoding.{AreDecoded, IsCutInto}
 use Rattle.yq_reading.specs.Places.{AreLocated, all_sound, part_is_sound}
 use Rattle.yq_reading.proofs.DecodedRows.{each_fits}
 use Rattle.yq_reading.proofs.NoReferenceLaws.{ready_refers_not}
-use Rattle.yq_row_lines.specs.Extents.{IsRowsView}
+use Rattle.yq_lines.specs.Extents.{IsRowsView}
 
 -- the cut of a text that has one
 pub cut_is : (t : List ℕ) (c : Cut) → IsCut t c → cut_of t ≡ c

@@ -18,15 +18,14 @@ use Rattle.yq_nodes.proofs.PieceLaws.{front_not, scalar_begins, scalar_some}
 use Rattle.yq_cut.specs.Grammar.{Limit, AreRows, IsRow, IsMark, IsContent, AreDashes, is_plain}
 use Rattle.yq_cut.specs.Rows as rows
 use Rattle.yq_cut.specs.Rows.{Content, Nothing, Inline, Block, Row, dashes_text}
-use Rattle.yq_cut.specs.View.{Slices, last_dash, colon_of, anchor_cut, content_cut, slices}
+use Rattle.yq_cut.specs.View.{Slices, last_dash, colon_of, anchor_cut, content_cut, slices, RowsView}
 use Rattle.yq_documents.specs.Documents.{has_lines, is_long_plain}
 use Rattle.yq_documents.specs.Reading.{has_short_root}
 use Rattle.yq_reading.specs.FitReading.{is_plain_head, is_long}
-use Rattle.yq_cut.specs.View.{RowsView}
-use Rattle.yq_row_lines.specs.RowWalk.{HasRows}
-use Rattle.yq_row_lines.specs.declared.line_position.Stretch.{Stretch}
-use Rattle.yq_row_lines.proofs.RowLaws.{colon_some}
-use Rattle.yq_row_lines.proofs.WalkRows.{row_of, rows_length}
+use Rattle.yq_lines.specs.RowWalk.{HasRows}
+use Rattle.yq_lines.specs.declared.line_position.Stretch.{Stretch}
+use Rattle.yq_lines.proofs.RowLaws.{colon_some}
+use Rattle.yq_lines.proofs.WalkRows.{row_of, rows_length}
 
 or_none : (x : Bool) → not (x || false) ≡ not x
 or_none true = refl

@@ -7,12 +7,12 @@ use Rattle.yq_lines.specs.Outline.{level}
 use Rattle.yq_lines.proofs.EndsLaws.{deeper_line}
 use Rattle.yq_lines.proofs.LineEnds.{end_counted}
 use Rattle.yq_cut.specs.View.{RowsView}
-use Rattle.yq_row_lines.specs.Lines.{lines_of}
-use Rattle.yq_row_lines.specs.RowWalk.{HasRows, IsLine, IsPosition, OfLine, OfLines, line_number, lines_stop}
-use Rattle.yq_row_lines.specs.declared.line_position.Position.{Position}
-use Rattle.yq_row_lines.specs.declared.line_position.Stretch.{Stretch}
-use Rattle.yq_row_lines.proofs.StopLaws.{stop_step}
-use Rattle.yq_row_lines.proofs.WalkPositions.{located}
+use Rattle.yq_lines.specs.Lines.{lines_of}
+use Rattle.yq_lines.specs.RowWalk.{HasRows, IsLine, IsPosition, OfLine, OfLines, line_number, lines_stop}
+use Rattle.yq_lines.specs.declared.line_position.Position.{Position}
+use Rattle.yq_lines.specs.declared.line_position.Stretch.{Stretch}
+use Rattle.yq_lines.proofs.StopLaws.{stop_step}
+use Rattle.yq_lines.proofs.WalkPositions.{located}
 use Rattle.yq_reading.specs.Checking.{GivesStop, GivesEnd}
 use Rattle.yq_reading.proofs.PositionOrder.{head_last, last_alone, row_later, row_order}
 use Rattle.yq_reading.proofs.StopLaws.{count_none, count_one}

@@ -10,7 +10,7 @@ use Rattle.yq_cut.specs.Grammar.{Limit, limit_after, IsContent, AreRows}
 use Rattle.yq_cut.specs.Rows as rows
 use Rattle.yq_cut.specs.Rows.{Anchor, Content, Nothing, Inline, Row, parent_indent}
 use Rattle.yq_flow_scalars.specs.Anchors.{IsNoAlias}
-use Rattle.yq_row_lines.specs.Lines.{block_anchor, content_anchor, head_of, lines_from, row_lines, lines_of}
+use Rattle.yq_lines.specs.Lines.{block_anchor, content_anchor, head_of, lines_from, row_lines, lines_of}
 use Rattle.yq_lines.specs.Names.{IsUnnamed, MayBeNamed, HaveHeadsApart}
 use Rattle.yq_lines.specs.Outline.{Line}
 

@@ -5,10 +5,10 @@ use Rattle.std.specs.List.{slice_get}
 use Rattle.yq_lines.specs.Outline.{level}
 use Rattle.yq_cut.specs.Rows.{Row}
 use Rattle.yq_cut.specs.View.{Slices, slices, RowsView}
-use Rattle.yq_row_lines.specs.RowWalk.{IsLine, OfLine, line_level}
-use Rattle.yq_row_lines.specs.declared.line_position.Position.{Position}
-use Rattle.yq_row_lines.specs.declared.line_position.Stretch.{Stretch}
-use Rattle.yq_row_lines.proofs.WalkPositions.{located}
+use Rattle.yq_lines.specs.RowWalk.{IsLine, OfLine, line_level}
+use Rattle.yq_lines.specs.declared.line_position.Position.{Position}
+use Rattle.yq_lines.specs.declared.line_position.Stretch.{Stretch}
+use Rattle.yq_lines.proofs.WalkPositions.{located}
 
 -- a row by its pieces
 pub row_there : (rs : List Row) (i : ℕ) (x : Slices) → slice_get (map slices rs) i ≡ Some x → (r : Row) × (slice_get rs i ≡ Some r) × (slices r ≡ x)

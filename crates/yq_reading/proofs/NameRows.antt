@@ -13,12 +13,12 @@ use Rattle.yq_lines.specs.Names.{head_names, line_names}
 use Rattle.yq_lines.specs.Outline.{Line}
 use Rattle.yq_lines.specs.View.{head_flow, head_view}
 use Rattle.yq_cut.specs.Rows.{Row}
-use Rattle.yq_row_lines.specs.Lines.{content_anchor, head_of, lines_of}
+use Rattle.yq_lines.specs.Lines.{content_anchor, head_of, lines_of}
 use Rattle.yq_documents.specs.Decoded.{borrowed_head, borrowed_text, decoded_or, decoded_flow, decoded_head}
 use Rattle.yq_documents.specs.RowReading.{string_head}
 use Rattle.yq_documents.specs.declared.decoded.Decoded.{Decoded}
 use Rattle.yq_reading.specs.Named.{flow_names}
-use Rattle.yq_row_lines.proofs.WalkLevels.{names_row}
+use Rattle.yq_lines.proofs.WalkLevels.{names_row}
 use Rattle.yq_reading.proofs.RowContents.{lines_at}
 
 with-append : (a : Option (List ℕ)) (xs ys : List Name) → with_anchor a (xs ++ ys) ≡ with_anchor a xs ++ ys

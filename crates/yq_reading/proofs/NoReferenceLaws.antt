@@ -7,9 +7,9 @@ use Rattle.yq_flow_scalars.specs.Anchors.{Name, with_anchor}
 use Rattle.yq_lines.specs.Names.{head_names, is_reference, line_names}
 use Rattle.yq_cut.specs.Rows.{Row}
 use Rattle.yq_cut.specs.View.{RowsView, slices}
-use Rattle.yq_row_lines.specs.Lines.{content_anchor, head_of, lines_of}
-use Rattle.yq_row_lines.specs.declared.line_position.Stretch.{Stretch}
-use Rattle.yq_row_lines.proofs.WalkLevels.{names_row}
+use Rattle.yq_lines.specs.Lines.{content_anchor, head_of, lines_of}
+use Rattle.yq_lines.specs.declared.line_position.Stretch.{Stretch}
+use Rattle.yq_lines.proofs.WalkLevels.{names_row}
 use Rattle.yq_documents.specs.Decoded.{decoded_at, decoded_flow}
 use Rattle.yq_documents.specs.declared.decoded.Decoded.{Decoded}
 use Rattle.yq_reading.specs.Checking.{IsCheckable, decoded_refers, some_refer}

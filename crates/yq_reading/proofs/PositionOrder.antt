@@ -8,13 +8,13 @@ use Rattle.yq_lines.specs.Ends.{IsEndOf}
 use Rattle.yq_lines.specs.Outline.{Line}
 use Rattle.yq_lines.proofs.LineEnds.{end_agrees}
 use Rattle.yq_cut.specs.View.{slices, RowsView}
-use Rattle.yq_row_lines.specs.Lines.{lines_of}
-use Rattle.yq_row_lines.specs.Extents.{lines_before_mark}
-use Rattle.yq_row_lines.specs.RowWalk.{HasRows, IsLine, IsPosition, deeper_rows, line_level, line_number}
-use Rattle.yq_row_lines.specs.declared.line_position.Position.{Position}
-use Rattle.yq_row_lines.specs.declared.line_position.Stretch.{Stretch}
-use Rattle.yq_row_lines.proofs.WalkEnds.{lines_upto}
-use Rattle.yq_row_lines.proofs.WalkPositions.{behind_agrees, located, position_line}
+use Rattle.yq_lines.specs.Lines.{lines_of}
+use Rattle.yq_lines.specs.Extents.{lines_before_mark}
+use Rattle.yq_lines.specs.RowWalk.{HasRows, IsLine, IsPosition, deeper_rows, line_level, line_number}
+use Rattle.yq_lines.specs.declared.line_position.Position.{Position}
+use Rattle.yq_lines.specs.declared.line_position.Stretch.{Stretch}
+use Rattle.yq_lines.proofs.WalkEnds.{lines_upto}
+use Rattle.yq_lines.proofs.WalkPositions.{behind_agrees, located, position_line}
 
 -- a later line is of no earlier row
 pub row_order : (s : RowsView) (d : Stretch) (h : HasRows s d) (q e : Position) → IsLine s d q → IsPosition s d e → line_number d h.rows q < line_number d h.rows e → q.row ≤ e.row

@@ -9,13 +9,13 @@ use Rattle.yq_lines.specs.Outline.{Mark, Bare, Key, Dash, Line, key_of, level, r
 use Rattle.yq_lines.specs.Positions.{is_bare}
 use Rattle.yq_flow_scalars.specs.Paths.{is_item}
 use Rattle.yq_nodes.specs.Scalars.{content_of}
-use Rattle.yq_row_lines.specs.Lines.{lines_of}
+use Rattle.yq_lines.specs.Lines.{lines_of}
 use Rattle.yq_cut.specs.View.{Slices, slices, RowsView}
-use Rattle.yq_row_lines.specs.RowWalk.{HasRows, IsLine, IsPosition, line_level, line_number, line_rank}
-use Rattle.yq_row_lines.specs.declared.line_position.Position.{Position}
-use Rattle.yq_row_lines.specs.declared.line_position.Stretch.{Stretch}
-use Rattle.yq_row_lines.proofs.WalkMarks.{item_agrees, key_here}
-use Rattle.yq_row_lines.proofs.WalkPositions.{deeper_agrees, end_agrees, line_position, located}
+use Rattle.yq_lines.specs.RowWalk.{HasRows, IsLine, IsPosition, line_level, line_number, line_rank}
+use Rattle.yq_lines.specs.declared.line_position.Position.{Position}
+use Rattle.yq_lines.specs.declared.line_position.Stretch.{Stretch}
+use Rattle.yq_lines.proofs.WalkMarks.{item_agrees, key_here}
+use Rattle.yq_lines.proofs.WalkPositions.{deeper_agrees, end_agrees, line_position, located}
 use Rattle.yq_documents.specs.declared.decoded.Decoded.{Decoded}
 use Rattle.yq_reading.specs.Ahead.{IsAhead}
 use Rattle.yq_reading.specs.Checking.{IsReached}

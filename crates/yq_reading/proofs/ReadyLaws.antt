@@ -4,9 +4,9 @@ use Rattle.std.specs.List.{slice_get}
 use Rattle.yq_nodes.specs.Scalars.{content_of}
 use Rattle.yq_cut.specs.Rows.{Row}
 use Rattle.yq_cut.specs.View.{Slices, slices, RowsView, rows_of}
-use Rattle.yq_row_lines.specs.RowWalk.{HasRows, IsLine, IsPosition}
-use Rattle.yq_row_lines.specs.declared.line_position.Position.{Position}
-use Rattle.yq_row_lines.specs.declared.line_position.Stretch.{Stretch}
+use Rattle.yq_lines.specs.RowWalk.{HasRows, IsLine, IsPosition}
+use Rattle.yq_lines.specs.declared.line_position.Position.{Position}
+use Rattle.yq_lines.specs.declared.line_position.Stretch.{Stretch}
 use Rattle.yq_documents.specs.Decoded.{IsDecodedBy, decoded_at, decoded_key}
 use Rattle.yq_documents.specs.declared.decoded.Decoded.{Decoded}
 use Rattle.yq_reading.specs.Checking.{IsCheckable}

@@ -11,8 +11,8 @@ use Rattle.yq_cut.specs.View.{Slices, RowsView, key_of, rows_of, slices}
 use Rattle.yq_cut.proofs.KeyLines.{key_line}
 use Rattle.yq_cut.proofs.PlaceLaws.{RowIn, row_in}
 use Rattle.yq_flow_scalars.specs.Quoted.{IsQuotedText}
-use Rattle.yq_row_lines.specs.declared.line_position.Stretch.{Stretch}
-use Rattle.yq_row_lines.proofs.RowLaws.{mark_quoted}
+use Rattle.yq_lines.specs.declared.line_position.Stretch.{Stretch}
+use Rattle.yq_lines.proofs.RowLaws.{mark_quoted}
 use Rattle.yq_documents.specs.declared.decoded.Decoded.{Decoded}
 use Rattle.yq_reading.specs.Checking.{IsCheckable}
 use Rattle.yq_reading.proofs.LineLevelLaws.{row_there}

@@ -10,9 +10,9 @@ use Rattle.yq_lines.specs.Outline.{Line}
 use Rattle.yq_lines.proofs.EndsLaws.{drop_at}
 use Rattle.yq_cut.specs.Grammar.{AreRows, IsContent, Limit, limit_after}
 use Rattle.yq_cut.specs.Rows.{Row, parent_indent}
-use Rattle.yq_row_lines.specs.Lines.{content_anchor, lines_of, row_lines}
+use Rattle.yq_lines.specs.Lines.{content_anchor, lines_of, row_lines}
 use Rattle.yq_documents.specs.RowReading.{name_in}
-use Rattle.yq_row_lines.proofs.WalkLevels.{free_row}
+use Rattle.yq_lines.proofs.WalkLevels.{free_row}
 use Rattle.yq_reading.proofs.AnchorRows.{free_agrees}
 
 -- the content of a row is one

@@ -29,11 +29,11 @@ use Rattle.yq_documents.specs.KeyReading.{EndsIn}
 use Rattle.yq_documents.specs.Decoded.{borrowed_head, borrowed_text}
 use Rattle.yq_documents.specs.Reading.{content_is_fit, cut_of, mark_is_fit}
 use Rattle.yq_documents.specs.RowReading.{head_at}
-use Rattle.yq_row_lines.specs.Lines.{head_of}
+use Rattle.yq_lines.specs.Lines.{head_of}
 use Rattle.yq_documents.proofs.HeadLaws.{fitting, head_is, head_text}
 use Rattle.yq_documents.proofs.RowFlowLaws.{flow_is}
 use Rattle.yq_documents.proofs.RowLineLaws.{content_quoted}
-use Rattle.yq_row_lines.proofs.RowLaws.{colon_some, mark_quoted}
+use Rattle.yq_lines.proofs.RowLaws.{colon_some, mark_quoted}
 use Rattle.yq_lines.proofs.OneLine.{kept}
 use Rattle.yq_reading.specs.Checking.{borrows_head, borrows_text}
 use Rattle.yq_reading.specs.Deciding.{Denies}

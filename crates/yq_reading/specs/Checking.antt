@@ -8,12 +8,12 @@ use Rattle.yq_lines.specs.Ends.{IsEndOf, is_end, part}
 use Rattle.yq_cut.specs.Grammar.{IsCut}
 use Rattle.yq_cut.specs.Rows.{Row, Cut}
 use Rattle.yq_cut.specs.View.{rows_of, RowsView, rows_view}
-use Rattle.yq_row_lines.specs.Extents.{IsRowsView}
+use Rattle.yq_lines.specs.Extents.{IsRowsView}
 use Rattle.yq_lines.specs.Outline.{Line, level}
-use Rattle.yq_row_lines.specs.Lines.{lines_of}
-use Rattle.yq_row_lines.specs.RowWalk.{HasRows, IsPosition, OfLine, OfLines, line_number, lines_stop}
-use Rattle.yq_row_lines.specs.declared.line_position.Position.{Position}
-use Rattle.yq_row_lines.specs.declared.line_position.Stretch.{Stretch}
+use Rattle.yq_lines.specs.Lines.{lines_of}
+use Rattle.yq_lines.specs.RowWalk.{HasRows, IsPosition, OfLine, OfLines, line_number, lines_stop}
+use Rattle.yq_lines.specs.declared.line_position.Position.{Position}
+use Rattle.yq_lines.specs.declared.line_position.Stretch.{Stretch}
 use Rattle.yq_lines.specs.Names.{is_reference}
 use Rattle.yq_documents.specs.Decoded.{IsDecoded, Rise, decoded_flow}
 use Rattle.yq_reading.specs.Named.{flow_names}

@@ -8,7 +8,7 @@ use Rattle.yq_cut.specs.Exchange.{behind_row}
 use Rattle.yq_cut.specs.Grammar.{IsCut}
 use Rattle.yq_cut.specs.Rows.{Row}
 use Rattle.yq_cut.specs.View.{rows_of, slices, RowsView, rows_view}
-use Rattle.yq_row_lines.specs.Lines.{head_of}
+use Rattle.yq_lines.specs.Lines.{head_of}
 use Rattle.yq_documents.specs.FlowReading.{row_flow}
 use Rattle.yq_documents.specs.Decoded.{IsDecoded, Rise, borrowed_head, borrowed_text, decoded_or}
 use Rattle.yq_documents.specs.Reading.{cut_of}

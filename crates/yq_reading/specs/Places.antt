@@ -5,7 +5,7 @@ use Rattle.yq_lines.specs.LinesReading.{lines_are_sound}
 use Rattle.yq_cut.specs.Grammar.{begins_document}
 use Rattle.yq_cut.specs.Rows.{Part}
 use Rattle.yq_cut.specs.View.{Bound, Slices}
-use Rattle.yq_row_lines.specs.Lines.{lines_of}
+use Rattle.yq_lines.specs.Lines.{lines_of}
 use Rattle.yq_documents.specs.Documents.{document_parts}
 use Rattle.yq_documents.specs.Holding.{IsLocated}
 use Rattle.yq_documents.specs.Reading.{cut_of, has_short_root}

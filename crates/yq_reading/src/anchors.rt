@@ -3,12 +3,12 @@ ghost use Rattle.std.specs.Prelude.{◌≡◌, ◌&&◌, ◌||◌, is_none, not}
 ghost use Rattle.yq_nodes.specs.Nodes as nodes;
 ghost use Rattle.yq_flow_scalars.specs.Text.{is_empty};
 ghost use Rattle.yq_lines.specs.LinesReading as spec;
-ghost use Rattle.yq_row_lines.specs.RowWalk.{IsLine, OfLine, OfLines};
+ghost use Rattle.yq_lines.specs.RowWalk.{IsLine, OfLine, OfLines};
 ghost use Rattle.yq_reading.specs.Checking.{IsChecked};
 
 use crate::checked::Checked;
+use yq_lines::Position;
 use yq_nodes::first_is;
-use yq_row_lines::Position;
 use yq_walk::is_bare;
 
 /// Whether a node itself, written so, has no anchor and is no alias.

@@ -5,7 +5,7 @@ ghost use Rattle.yq_nodes.specs.Scalars.{content_of};
 ghost use Rattle.yq_lines.specs.Bodies.{borrowed};
 ghost use Rattle.yq_lines.specs.Outline as outline;
 ghost use Rattle.yq_cut.specs.View.{Slices};
-ghost use Rattle.yq_row_lines.specs.RowWalk.{IsLine, OfLine};
+ghost use Rattle.yq_lines.specs.RowWalk.{IsLine, OfLine};
 ghost use Rattle.yq_reading.specs.Ahead.{IsAhead};
 ghost use Rattle.yq_reading.specs.Checking.{IsChecked};
 
@@ -13,8 +13,8 @@ use crate::ahead::{ahead_from, decoded_here};
 use yq_cut::Rows;
 use yq_documents::{Decoded, decoded_key, fault_at};
 use yq_flow_scalars::{FaultKind, ReadFault};
+use yq_lines::{Position, Stretch};
 use yq_nodes::is_quoted;
-use yq_row_lines::{Position, Stretch};
 use yq_walk::rank_at;
 
 /// A document of a text whose rows are cut, with what is made of these.

@@ -3,7 +3,7 @@ ghost use Rattle.std.specs.Prelude.{◌≡◌, ◌&&◌, [], IfErr};
 ghost use Rattle.yq_flow_scalars.specs.Answers.{IsOfText};
 ghost use Rattle.yq_lines.specs.LinesReading as lines;
 ghost use Rattle.yq_lines.specs.Names.{line_names};
-ghost use Rattle.yq_row_lines.specs.Lines.{lines_of};
+ghost use Rattle.yq_lines.specs.Lines.{lines_of};
 ghost use Rattle.yq_documents.specs.Reading.{has_short_root};
 ghost use Rattle.yq_reading.specs.Checking.{IsChecked, OfChecked, some_refer};
 ghost use Rattle.yq_reading.specs.Deciding.{Decides};
@@ -19,8 +19,8 @@ use crate::sound::check_lines;
 use std::alloc::Global;
 use yq_documents::fault_at;
 use yq_flow_scalars::{FaultKind, ReadError};
+use yq_lines::Position;
 use yq_nodes::DEPTH_LIMIT;
-use yq_row_lines::Position;
 
 /// The aliases of a document: an earlier anchor of its name for each. Whether there are some is known.
 fn check_aliases(alloc: Global, x: Checked<'_, '_>, refers: bool) -> Result<(), ReadError>

@@ -2,14 +2,14 @@
 ghost use Rattle.std.specs.Prelude.{◌≡◌};
 ghost use Rattle.yq_cut.specs.View.{view as row_view};
 ghost use Rattle.yq_reading.specs.FitReading as spec;
-ghost use Rattle.yq_row_lines.specs.RowWalk.{HasRows};
+ghost use Rattle.yq_lines.specs.RowWalk.{HasRows};
 ghost use Rattle.yq_documents.specs.Reading as reading;
 
 use yq_cut::{Row, Rows};
 use yq_documents::is_block_head;
 use yq_flow_reading::plain::holds_break;
+use yq_lines::Stretch;
 use yq_nodes::{first_is, is_quoted};
-use yq_row_lines::Stretch;
 
 /// Whether a head is a plain scalar.
 fn is_plain(head: &str) -> bool

@@ -3,7 +3,7 @@ ghost use Rattle.std.specs.Prelude.{◌≡◌, List, option_map, IfErr, Some};
 ghost use Rattle.yq_flow_scalars.specs.Answers.{IsOfText};
 ghost use Rattle.yq_nodes.specs.View.{view};
 ghost use Rattle.yq_lines.specs.Sound as spec;
-ghost use Rattle.yq_row_lines.specs.RowWalk.{IsLine};
+ghost use Rattle.yq_lines.specs.RowWalk.{IsLine};
 ghost use Rattle.yq_documents.specs.Decoded.{decoded_at, decoded_flow};
 ghost use Rattle.yq_documents.specs.declared.decoded.Decoded.{Decoded as DecodedOf};
 ghost use Rattle.yq_reading.specs.Ahead.{IsAhead};

@@ -4,14 +4,14 @@ ghost use Rattle.yq_lines.specs.Bodies.{borrowed};
 ghost use Rattle.yq_lines.specs.Ends.{is_end, part};
 ghost use Rattle.yq_lines.specs.Outline as outline;
 ghost use Rattle.yq_lines.specs.Positions as positions;
-ghost use Rattle.yq_row_lines.specs.RowWalk.{IsLine, IsPosition, OfLine, OfLines};
+ghost use Rattle.yq_lines.specs.RowWalk.{IsLine, IsPosition, OfLine, OfLines};
 ghost use Rattle.yq_reading.specs.Ahead.{IsAhead};
 ghost use Rattle.yq_reading.specs.Checking.{IsChecked, IsReached};
 
 use crate::ahead::ahead_of;
 use crate::checked::{Checked, row_key};
 use yq_documents::Decoded;
-use yq_row_lines::Position;
+use yq_lines::Position;
 use yq_walk::{level_at, next};
 
 /// A line of a document with how deep it is, or the end behind its rows, which is at level 0.

@@ -19,7 +19,7 @@ use std::alloc::Global;
 use yq_cut::Rows;
 use yq_documents::{Decoded, DocumentRows, ReadText};
 use yq_flow_scalars::ReadError;
-use yq_row_lines::Stretch;
+use yq_lines::Stretch;
 
 /// The documents of a text, each checked by its rows. Whether an alias may stand in them is known.
 fn check_documents<'t>(

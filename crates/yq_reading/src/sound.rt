@@ -6,7 +6,7 @@ ghost use Rattle.yq_flow_scalars.specs.declared.fault.FaultKind.TheVariants.{Not
 ghost use Rattle.yq_lines.specs.Ends.{part, is_end};
 ghost use Rattle.yq_lines.specs.Outline as outline;
 ghost use Rattle.yq_lines.specs.Sound as spec;
-ghost use Rattle.yq_row_lines.specs.RowWalk.{IsLine, IsPosition, OfLine, OfLines};
+ghost use Rattle.yq_lines.specs.RowWalk.{IsLine, IsPosition, OfLine, OfLines};
 ghost use Rattle.yq_reading.specs.Checking.{IsChecked, IsReached, OfChecked, OfCheckedLine, GivesEnd, GivesStop};
 ghost use Rattle.yq_reading.specs.Deciding.{Decides};
 
@@ -18,7 +18,7 @@ use std::alloc::{AllocError, Global};
 use std::collections::BTreeMap;
 use yq_flow_reading::are_distinct;
 use yq_flow_scalars::{FaultKind, ReadError};
-use yq_row_lines::Position;
+use yq_lines::Position;
 use yq_walk::{behind, has_head, is_deeper as is_line_deeper};
 
 /// Why a line can't stand where others of a collection at a level do: behind neither key nor dash in the

@@ -1,4 +1,2 @@
 pub mod GapLaws
 pub mod RecordLaws
-pub mod MoveLaws
-pub mod StepLaws

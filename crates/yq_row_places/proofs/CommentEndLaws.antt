@@ -18,7 +18,7 @@ use Rattle.yq_cut.proofs.SliceLaws.{content_slices}
 use Rattle.yq_documents.specs.declared.path.Path.{Path}
 use Rattle.yq_row_places.specs.CommentPlaces.{LinesAbove, line_text, gap_above, above_row, lines_above}
 use Rattle.yq_row_places.specs.CommentViews.{GapStands}
-use Rattle.yq_row_lines.specs.Extents.{row_start}
+use Rattle.yq_lines.specs.Extents.{row_start}
 use Rattle.yq_documents.specs.Located.{steps_of}
 use Rattle.yq_documents.specs.Pieces.{before_run, last_run}
 use Rattle.yq_row_places.specs.PlacedRows.{PlacedRow}

@@ -10,10 +10,10 @@ use Rattle.yq_cut.specs.View.{Slices, slices, rows_of, rows_view}
 use Rattle.yq_block_scalars.proofs.LineLaws.{joined_lines}
 use Rattle.yq_documents.specs.Pieces.{tail_comment, before_run, last_run, gap_comment, piece_span}
 use Rattle.yq_row_places.specs.CommentReading.{before_tail, line_comment_in, head_comment_in, tail_span, line_comment_span, gap_span, head_comment_span, before_row}
-use Rattle.yq_row_lines.specs.Extents.{row_start, front_length}
+use Rattle.yq_lines.specs.Extents.{row_start, front_length}
 use Rattle.yq_row_places.specs.RowLineReading.{numbers}
 use Rattle.yq_documents.specs.LinesInRows.{RowLine}
-use Rattle.yq_row_lines.proofs.LengthLaws.{head_agrees}
+use Rattle.yq_lines.proofs.LengthLaws.{head_agrees}
 use Rattle.yq_documents.proofs.RunLaws.{run_split}
 use Rattle.yq_row_places.proofs.StartLaws.{start_agrees}
 

@@ -15,7 +15,7 @@ use Rattle.yq_row_places.specs.CommentLaws.{comment_of, comments_of, head_commen
 use Rattle.yq_documents.specs.Documents.{document_parts}
 use Rattle.yq_lines.specs.Group.{group, is_fine}
 use Rattle.yq_lines.specs.Labelled.{Labelled, labelled_from}
-use Rattle.yq_row_lines.specs.Lines.{tail_of, lines_of}
+use Rattle.yq_lines.specs.Lines.{tail_of, lines_of}
 use Rattle.yq_documents.specs.Located.{steps_of, labelled_located, unlabelled}
 use Rattle.yq_lines.specs.Outline.{Line, anchored, head_or, value}
 use Rattle.yq_row_places.specs.PathPieces.{BlockEntry, PrintedDocument, printed_document, found_entry, piece_in_entry, piece_in}

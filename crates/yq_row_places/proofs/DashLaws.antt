@@ -7,7 +7,7 @@ use Rattle.yq_cut.specs.Exchange.{row_front}
 use Rattle.yq_cut.specs.Rows.{Row, behind_dashes, dashes_text, print_row, Cut}
 use Rattle.yq_cut.proofs.PlaceLaws.{dashes_then}
 use Rattle.yq_row_places.specs.RowPieces.{past_dash, upto_dash}
-use Rattle.yq_row_lines.specs.Lines.{lines_of}
+use Rattle.yq_lines.specs.Lines.{lines_of}
 use Rattle.yq_row_places.specs.PlacedRows.{PlacedRow, placed_document, row_of_path}
 use Rattle.yq_documents.specs.LinesInRows.{row_line_of}
 use Rattle.yq_row_places.proofs.EntryPlaceLaws.{row_line_is}

@@ -6,10 +6,10 @@ use Rattle.std.specs.List.{slice_get}
 use Rattle.yq_lines.specs.Comments as comments
 use Rattle.yq_cut.specs.Rows as rows
 use Rattle.yq_cut.specs.Rows.{Content, Row}
-use Rattle.yq_row_lines.specs.Lines.{lines_from, row_lines, lines_of}
+use Rattle.yq_lines.specs.Lines.{lines_from, row_lines, lines_of}
 use Rattle.yq_lines.specs.Outline.{Dash, Line}
 use Rattle.yq_documents.specs.LinesInRows.{RowLine, behind_one, row_line}
-use Rattle.yq_row_lines.proofs.RowLaws.{lines_count}
+use Rattle.yq_lines.proofs.RowLaws.{lines_count}
 
 -- Line n of a row, before whose mark so many dashes stand: before the mark it is that of a dash.
 pub record IsDashLine (dashes n : ℕ) (l : Line) : Type 0 where

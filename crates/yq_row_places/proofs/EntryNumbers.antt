@@ -1,6 +1,5 @@
 -- The rows of items and entries, as the code counts them.
-use Rattle.std.proofs.Common.{◌≡◌, ℕ, suc, ◌+◌, ◌-◌, ◌<◌, ◌≤◌, ltb, Bool, true, false, cond, List, [], ◌∷◌, ◌++◌, length, map, take, drop, Option, Some, None, option_map, refl, sym, ap, ◌∙◌, arith, length-take-le}
-use Rattle.std.proofs.Common.{option_map, refl, sym, ap, ◌∙◌, add-one, arith, length-take-le}
+use Rattle.std.proofs.Common.{◌≡◌, ℕ, suc, ◌+◌, ◌-◌, ◌≤◌, ltb, Bool, true, false, cond, List, [], ◌∷◌, ◌++◌, length, map, take, drop, Option, Some, None, option_map, refl, sym, ap, ◌∙◌, arith, length-take-le}
 use Rattle.std.proofs.lemmas.List.{length-map, take-append-drop}
 use Rattle.yq_lines.proofs.EndsLaws.{drop_at}
 use Rattle.std.proofs.lemmas.Option.{slice_get_within, none-some}
@@ -13,23 +12,23 @@ use Rattle.yq_cut.specs.Rows.{Row, Part, Cut}
 use Rattle.yq_cut.specs.View.{Slices, slices, RowsView, rows_view}
 use Rattle.yq_lines.specs.Ends.{line_of}
 use Rattle.yq_documents.specs.Documents.{document_parts}
-use Rattle.yq_row_lines.specs.Lines.{lines_of}
+use Rattle.yq_lines.specs.Lines.{lines_of}
 use Rattle.yq_documents.specs.Reading.{cut_of}
 use Rattle.yq_documents.specs.LinesInRows.{RowLine, document_row, row_line, row_line_of}
-use Rattle.yq_row_lines.specs.Extents.{lines_before_mark}
+use Rattle.yq_lines.specs.Extents.{lines_before_mark}
 use Rattle.yq_row_places.specs.PlacedRows.{PlacedPart, placed_document}
-use Rattle.yq_row_lines.specs.RowWalk.{HasRows, IsLine, deeper_rows, line_level, line_number}
+use Rattle.yq_lines.specs.RowWalk.{HasRows, IsLine, deeper_rows, line_level, line_number}
 use Rattle.yq_row_places.specs.Standings.{RowsOfEntry, entry_rows_at, rows_of_entry, under_count}
 use Rattle.yq_row_places.specs.StandingReading.{IsEntryIn, Numbers, numbers_at, numbers_of_entry, as_numbers}
 use Rattle.yq_row_places.specs.declared.places.rows_of_entry.RowsOfEntry as declared
-use Rattle.yq_row_lines.specs.declared.line_position.Position.{Position}
-use Rattle.yq_row_lines.specs.declared.line_position.Stretch.{Stretch}
+use Rattle.yq_lines.specs.declared.line_position.Position.{Position}
+use Rattle.yq_lines.specs.declared.line_position.Stretch.{Stretch}
 use Rattle.yq_row_places.proofs.EntryPlaceLaws.{row_line_is}
 use Rattle.yq_row_places.proofs.PlacedPartLaws.{map_some, part_stands, placed_is}
 use Rattle.yq_row_places.proofs.RowLineSpans.{steps_row}
 use Rattle.yq_row_places.proofs.WalkDocuments.{row_line_number}
-use Rattle.yq_row_lines.proofs.WalkRows.{rows_behind}
-use Rattle.yq_row_lines.proofs.WalkPositions.{located}
+use Rattle.yq_lines.proofs.WalkRows.{rows_behind}
+use Rattle.yq_lines.proofs.WalkPositions.{located}
 
 -- ---- where steps lead in a document
 
@@ -70,20 +69,6 @@ pub record FoundEntry (t : List ℕ) (s : RowsView) (n : ℕ) (steps : List Step
   pub place : rows_of_entry n steps (cut_of t) ≡ Some entry
   pub row : m.row ≡ document_row n (cut_of t) + length entry.front
 
--- numbers of rows, before those of an entry and behind them
-record Counts (m e k front under : ℕ) : Type 0 where
-  row : m ≡ k + front
-  last : e ≡ m + suc under
-
-counts : (k q c m e front under : ℕ) → k + q ≡ m → k + q + 1 + c ≡ e → front ≡ q → under ≡ c → Counts m e k front under
-counts k q c m e front under row end front_is under_is = record { row = omega (arith, row, front_is); last = omega (arith, row, end, under_is) }
-
-no_more_than : (c n m : ℕ) → c ≤ n → n ≡ m → c ≤ m
-no_more_than c n m h same = omega (arith, h, same)
-
-before_end : (i n : ℕ) → i < n → i ≤ n
-before_end i n h = omega (arith, h)
-
 pub entry_found : (t : List ℕ) (s : RowsView) (n : ℕ) (steps : List Step) (m : declared.RowsOfEntry) → IsCut t (cut_of t) → s ≡ rows_view (cut_of t) → Some (as_numbers m) ≡ numbers_at n steps (cut_of t) → FoundEntry t s n steps m
 entry_found t s n steps m cut is e =
     let c : Cut = cut_of t in
@@ -99,15 +84,14 @@ entry_found t s n steps m cut is e =
     let row : slice_get rs q.before ≡ Some q.row = steps_row (line_of steps (lines_of rs)) rs q line_in_row in
     let line = bind_some (line_of steps (lines_of rs)) line_in_row in
     let within = slice_get_within rs q.before q.row row in
-    let next : q.before + 1 ≡ suc q.before = add-one q.before in
+    let next : q.before + 1 ≡ suc q.before = omega arith in
     let back : List Row = drop (suc q.before) rs in
-    let fits : count ≤ length back = no_more_than count _ (length back) (fewer (line_level q.line (slices q.row)) (map slices back)) (length-map back slices) in
-    let front : length (take q.before rs) ≡ q.before = length-take-le q.before rs (before_end q.before (length rs) within) in
+    let fits : count ≤ length back = omega (arith, fewer (line_level q.line (slices q.row)) (map slices back), length-map back slices) in
+    let front : length (take q.before rs) ≡ q.before = length-take-le q.before rs (omega (arith, within)) in
     let under : length (take count back) ≡ count = length-take-le count back fits in
     let rest : drop q.before rs ≡ q.row ∷ back = drop_at rs q.before q.row row ∙ ap (λ (j : ℕ). q.row ∷ drop j rs) next in
     let row_is : k + q.before ≡ m.row = ap (λ (y : Numbers). y.0) same in
     let end_is : k + q.before + 1 + count ≡ m.end = ap (λ (y : Numbers). y.3) same in
-    let sums = counts k q.before count m.row m.end (length (take q.before rs)) (length (take count back)) row_is end_is front under in
     record {
       entry = entry_rows_at d.0 q;
       is = record {
@@ -121,14 +105,14 @@ entry_found t s n steps m cut is e =
           start_is = refl;
           end_is = refl;
           behind_is = refl;
-          row_is = sums.row;
-          last_is = sums.last;
+          row_is = omega (arith, row_is, front);
+          last_is = omega (arith, row_is, end_is, under);
         };
         line = sym (ap (λ (y : Numbers). y.1) same);
         dashes = sym (ap (λ (y : Numbers). y.2) same);
         upto = (row_line_is line.0 rs q line.2).1;
       };
-      row = sums.row;
+      row = omega (arith, row_is, front);
       place = ap (λ (o : Option PlacedPart). o >>= λ y. option_map (entry_rows_at y) (row_line_of steps y.part.rows)) d.1 ∙ ap (option_map (entry_rows_at d.0)) line_in_row;
     }
 

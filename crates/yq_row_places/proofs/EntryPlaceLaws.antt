@@ -14,11 +14,11 @@ use Rattle.yq_documents.specs.FlowReading.{row_flow}
 use Rattle.yq_documents.specs.declared.path.Path.{Path}
 use Rattle.yq_lines.specs.Group.{group}
 use Rattle.yq_lines.specs.Places.{lines_before, FoundLine, find}
-use Rattle.yq_row_lines.specs.Lines.{lines_of}
+use Rattle.yq_lines.specs.Lines.{lines_of}
 use Rattle.yq_documents.specs.LinesInRows.{RowLine, behind_one, row_line, row_line_of, row_line_at}
 use Rattle.yq_lines.specs.Ends.{found_line, reached}
 use Rattle.yq_lines.proofs.Values.{If}
-use Rattle.yq_row_lines.proofs.KnownLaws.{get_dropped, get_front}
+use Rattle.yq_lines.proofs.KnownLaws.{get_dropped, get_front}
 use Rattle.yq_row_places.specs.EntryReading.{line_entry, line_content, entry_from, content_from, entry_of, content_of, entry_at, content_at, entry_within, line_entry_of, line_content_of, flow_entry_from, flow_entry_of, line_entry_at, line_content_at, flow_entry_at}
 use Rattle.yq_row_places.specs.RowLineReading.{Numbers, numbers}
 use Rattle.yq_row_places.proofs.FlowPlaceLaws.{flow_agrees}

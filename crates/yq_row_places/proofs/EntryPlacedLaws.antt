@@ -16,7 +16,7 @@ use Rattle.yq_cut.specs.View.{rows_of}
 use Rattle.yq_documents.specs.declared.path.Path.{Path}
 use Rattle.yq_documents.specs.Documents.{document_parts}
 use Rattle.yq_row_places.specs.EntryReading.{lines_place, line_entry, line_head, lines_content, line_content, flow_entry, entry_from, content_from, entry_of, content_of, entry_at, content_at}
-use Rattle.yq_row_lines.specs.Lines.{row_lines, lines_of}
+use Rattle.yq_lines.specs.Lines.{row_lines, lines_of}
 use Rattle.yq_documents.specs.Located.{steps_of}
 use Rattle.yq_lines.specs.Ends.{reached, lines_end}
 use Rattle.yq_documents.specs.LinesInRows.{RowLine, behind_one, row_line, document_row}
@@ -26,7 +26,7 @@ use Rattle.yq_row_places.proofs.FinishLaws.{row_boundary, lines_order}
 use Rattle.yq_row_places.proofs.FlowSpanLaws.{AreSpans, flow_spans}
 use Rattle.yq_row_places.proofs.HeadSpanLaws.{head_span}
 use Rattle.yq_lines.proofs.LineEnds.{end_within}
-use Rattle.yq_row_lines.proofs.RowLaws.{lines_count}
+use Rattle.yq_lines.proofs.RowLaws.{lines_count}
 use Rattle.yq_row_places.proofs.SeamLaws.{line_boundary}
 use Rattle.yq_documents.proofs.PartRows.{part_begins}
 

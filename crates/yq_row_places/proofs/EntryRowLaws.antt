@@ -17,13 +17,13 @@ use Rattle.yq_documents.specs.Reading.{cut_of}
 use Rattle.yq_documents.specs.LinesInRows.{document_row}
 use Rattle.yq_row_places.specs.CommentPlaces.{line_text}
 use Rattle.yq_row_places.specs.CommentReading.{before_row}
-use Rattle.yq_row_lines.specs.Extents.{IsRowsView, head_place, row_start}
+use Rattle.yq_lines.specs.Extents.{IsRowsView, head_place, row_start}
 use Rattle.yq_row_places.specs.RemovalPlaces.{OwnRows, rows_out}
 use Rattle.yq_row_places.specs.Standings.{RowsOfEntry, before_entry, behind_entry}
 use Rattle.yq_row_places.specs.StandingReading.{AreRowsOf}
 use Rattle.yq_row_places.proofs.CommentEndLaws.{row_text_parts}
 use Rattle.yq_row_places.proofs.CommentPieceLaws.{Ended, content_end, row_place}
-use Rattle.yq_row_lines.proofs.LengthLaws.{row_fits, view_small}
+use Rattle.yq_lines.proofs.LengthLaws.{row_fits, view_small}
 use Rattle.yq_row_places.proofs.PlacedRowLaws.{IsAt, part_at}
 use Rattle.yq_row_places.proofs.RemovalLines.{LineSeam, lies_in, rows_seam, seam_join}
 use Rattle.yq_row_places.proofs.RemovalTexts.{texts_then}

@@ -15,10 +15,9 @@ use Rattle.yq_cut.proofs.PlaceLaws.{row_front-append, row_in}
 use Rattle.yq_row_places.specs.CommentReading.{before_tail}
 use Rattle.yq_row_places.specs.EntryReading.{before_line, through_row}
 use Rattle.yq_row_places.specs.PrintedLines.{is_last_break, less_break}
-use Rattle.yq_row_lines.proofs.LengthLaws.{part-length}
+use Rattle.yq_lines.proofs.LengthLaws.{part-length}
 use Rattle.yq_cut.proofs.SliceLaws.{print-length}
-use Rattle.yq_row_places.proofs.CommentPieceLaws.{Ended, content_end}
-use Rattle.yq_row_places.proofs.CommentPieceLaws.{tail_place}
+use Rattle.yq_row_places.proofs.CommentPieceLaws.{Ended, content_end, tail_place}
 use Rattle.yq_row_places.proofs.SeamLaws.{raw_end, dashes_split}
 use Rattle.yq_row_places.proofs.StartLaws.{front_in}
 

@@ -23,7 +23,7 @@ use Rattle.yq_lines.specs.Outline.{Line}
 use Rattle.yq_lines.specs.Places.{lines_before, FoundLine}
 use Rattle.yq_documents.specs.Documents.{document_parts}
 use Rattle.yq_documents.specs.FlowReading.{kept, core, content_core, row_flow}
-use Rattle.yq_row_lines.specs.Lines.{tail_of, lines_of}
+use Rattle.yq_lines.specs.Lines.{tail_of, lines_of}
 use Rattle.yq_documents.specs.Reading.{outline_of}
 use Rattle.yq_documents.specs.RowReading.{from_head}
 use Rattle.yq_documents.specs.LinesInRows.{RowLine, document_row}
@@ -32,10 +32,10 @@ use Rattle.yq_row_places.specs.FlowViews as views
 use Rattle.yq_row_places.specs.FlowViews.{FlowAgrees, IsHeadFor, placed_collection, collection_along}
 use Rattle.yq_row_places.specs.NodeReading.{NodePlace, with_steps, node_place, place_line, head_at}
 use Rattle.yq_row_places.specs.RowWalk.{InCut}
-use Rattle.yq_row_lines.specs.RowWalk.{IsLine, line_number}
+use Rattle.yq_lines.specs.RowWalk.{IsLine, line_number}
 use Rattle.yq_row_places.specs.declared.places.flow_node.FlowHead.{FlowHead}
-use Rattle.yq_row_lines.specs.declared.line_position.Position.{Position}
-use Rattle.yq_row_lines.specs.declared.line_position.Stretch.{Stretch}
+use Rattle.yq_lines.specs.declared.line_position.Position.{Position}
+use Rattle.yq_lines.specs.declared.line_position.Stretch.{Stretch}
 use Rattle.yq_row_places.proofs.FlowViewLaws.{collection_placed, head_found, numbered}
 use Rattle.yq_row_places.proofs.HeadSteps.{HasStemAt, stem_at}
 use Rattle.yq_row_places.proofs.WalkDocuments as documents

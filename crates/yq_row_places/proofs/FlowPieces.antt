@@ -15,11 +15,10 @@ use Rattle.yq_flow_scalars.specs.Tree as tree
 use Rattle.yq_nodes.specs.Entries.{EntryPieces, entry_pieces_at, inside}
 use Rattle.yq_nodes.specs.Entries as entries
 use Rattle.yq_nodes.specs.Nodes.{bare, Node, empty, alias, scalar, coll, anchored, Items, none, item, key_text, sep_text, open_of, node_text, items_text, IsNode}
-use Rattle.yq_nodes.specs.Trees.{inner, key_content, tree_of, items_tree, collection, with_name}
+use Rattle.yq_nodes.specs.Trees.{inner, key_content, tree_of, items_tree, collection, with_name, node_head}
 use Rattle.yq_nodes.proofs.PathLaws.{path_holds}
 use Rattle.yq_cut.specs.Rows.{Content, Nothing, Inline, Block}
-use Rattle.yq_row_lines.specs.Lines.{head_of}
-use Rattle.yq_nodes.specs.Trees.{node_head}
+use Rattle.yq_lines.specs.Lines.{head_of}
 use Rattle.yq_lines.specs.Outline as outlines
 use Rattle.yq_lines.specs.Outline.{Line, first_anchor, head_or, value}
 use Rattle.yq_lines.specs.Places.{FoundLine, find}

@@ -10,10 +10,9 @@ use Rattle.yq_nodes.specs.Nodes.{Node}
 use Rattle.yq_nodes.specs.Places.{Placed, locate}
 use Rattle.yq_cut.specs.Exchange.{behind_row}
 use Rattle.yq_cut.specs.Rows.{Content, Row, Cut, cut_text}
-use Rattle.yq_row_places.specs.EntryReading.{inline_node, flow_entry}
-use Rattle.yq_row_places.specs.EntryReading.{entry_within}
+use Rattle.yq_row_places.specs.EntryReading.{inline_node, flow_entry, entry_within}
 use Rattle.yq_documents.specs.FlowReading.{kept, core, content_core, row_flow}
-use Rattle.yq_row_lines.specs.Lines.{tail_of, lines_of}
+use Rattle.yq_lines.specs.Lines.{tail_of, lines_of}
 use Rattle.yq_lines.specs.Outline.{Mark, Dash, Line, Outline, end, row}
 use Rattle.yq_lines.specs.Places.{here, FoundLine, find_row, inside, bare_or, in_head, find}
 use Rattle.yq_documents.specs.LinesInRows.{RowLine, row_line}

@@ -17,7 +17,7 @@ use Rattle.yq_cut.specs.Grammar.{IsCut}
 use Rattle.yq_cut.specs.Rows.{Content, Nothing, Inline, Block, Row, Cut, cut_text}
 use Rattle.yq_cut.specs.View.{rows_of}
 use Rattle.yq_row_places.specs.EntryReading.{inline_node, placed_inline}
-use Rattle.yq_row_lines.specs.Lines.{tail_of}
+use Rattle.yq_lines.specs.Lines.{tail_of}
 use Rattle.yq_row_places.proofs.HeadSpanLaws.{node_spans}
 
 -- an item or entry with its key

@@ -1,6 +1,5 @@
 -- The spans of items and entries in flow.
-use Rattle.std.proofs.Common.{◌≡◌, ℕ, ◌+◌, ◌-◌, List, [], ◌∷◌, ◌++◌, length, Option, Some, option_map, refl, sym, ap, ◌∙◌, arith, append_assoc, length-append, rules}
-use Rattle.std.proofs.Common.{rules}
+use Rattle.std.proofs.Common.{◌≡◌, ℕ, ◌+◌, ◌-◌, List, [], ◌∷◌, ◌++◌, length, option_map, refl, sym, ap, ◌∙◌, arith, append_assoc, length-append, rules}
 use Rattle.yq_nodes.specs.Entries.{entry_place, content_place, locate_entry}
 use Rattle.yq_nodes.specs.Nodes.{Key, bare, keyed, Node, empty, alias, scalar, coll, anchored, key_text, node_text}
 use Rattle.yq_nodes.specs.Places.{Placed, placed, locate, with_anchor}
@@ -31,19 +30,11 @@ item_place y total e = (λ i. (start y.key refl i, stop i))
 pub anchor_place : (n : List ℕ) (start : ℕ) (p : Placed) → content_place (with_anchor n start p) ≡ content_place p
 anchor_place n start (placed a s c e f) = refl
 
--- a piece between two texts, by how many bytes stand from there on
-piece_place : (total : ℕ) (before piece rest whole : List ℕ) → total ≡ length (before ++ whole) → whole ≡ piece ++ rest →
-    ◌≡◌ {A = Option (ℕ × ℕ)} (Some (total - length whole, total - length rest)) (Some (length before, length before + length piece))
-piece_place total before piece rest whole e split =
-    let start : total - length whole ≡ length before = omega (arith, e, length-append before whole) in
-    let stop : total - length rest ≡ length before + length piece = omega (arith, e, length-append before whole, ap length split, length-append piece rest) in
-    λ i. Some (start i, stop i)
-
 pub node_place : (total : ℕ) (before : List ℕ) (node : Node) (rest : List ℕ) → total ≡ length (before ++ node_text node rest) → content_place (locate total node rest) ≡ option_map piece_span (node_piece before node rest)
 unfolding locate node_text
 node_place total before empty rest e = refl
-node_place total before (alias n) rest e = piece_place total before (node_text (alias n) []) rest (node_text (alias n) rest) e (node_then (alias n) rest)
-node_place total before (scalar p) rest e = piece_place total before (node_text (scalar p) []) rest (node_text (scalar p) rest) e (node_then (scalar p) rest)
+node_place total before (alias n) rest e = search (rules, length-append, node_then)
+node_place total before (scalar p) rest e = search (rules, length-append, node_then)
 node_place total before (coll k g is) rest e =
     let text = length-append before (node_text (coll k g is) rest) in
     let split = ap length (node_then (coll k g is) rest) ∙ length-append (node_text (coll k g is) []) rest in

@@ -88,6 +88,4 @@ head_found ls (s ∷ ss) = go (find s ss (group ls)) refl
     go None is = refl
     go (Some x) is =
         let found_it = found_in_lines s ss x.1 ls x.0 is in
-        let n : ℕ = length (lines_before x.0.place) in
-        line x.0 x.1 found_it.1
-        ∙ sym (ap (λ (o : Option Line). with_line n x.1 o >>= λ y. with_steps y.1 (place_line ls y.0)) found_it.0)
+        cc (line x.0 x.1 found_it.1, found_it.0)

@@ -1,6 +1,6 @@
 -- Lines that were found, by their indexes.
 use Rattle.std.proofs.Common.{◌≡◌, ◌⊎◌, inl, inr, ℕ, suc, ◌+◌, ◌<◌, ◌≤◌, Bool, true, false, cond, List, [], ◌∷◌, ◌++◌, length, get_or, Option, Some, None, option_map, option_and_then, refl, sym, ap, ◌∙◌, arith, append_assoc, length-append, rules}
-use Rattle.std.proofs.lemmas.Bool.{cases_lt, false≢true}
+use Rattle.std.proofs.lemmas.Bool.{cases_lt}
 use Rattle.std.proofs.lemmas.List.{drop_all}
 use Rattle.std.proofs.lemmas.Option.{slice_get_cases}
 use Rattle.std.specs.List.{slice_get}
@@ -25,37 +25,17 @@ pub record IsFirst (ls : List Line) (first floor : ℕ) (l : Line) (u a : Outlin
   pub after : a ≡ part ls next floor
   pub size : suc first + length (flatten u) ≡ next
 
--- the parts of an outline that is not the end
-abbrev line_or : Line → Outline → Line
-line_or k end = k
-line_or k (row l u a) = l
-
-abbrev under_or_end : Outline → Outline
-under_or_end end = end
-under_or_end (row l u a) = u
-
-abbrev after_or_end : Outline → Outline
-after_or_end end = end
-after_or_end (row l u a) = a
-
-abbrev is_end : Outline → Bool
-is_end end = true
-is_end (row l u a) = false
-
-end-row : {l : Line} {u a : Outline} → end ≡ row l u a → ⊥
-end-row e = false≢true (sym (ap is_end e))
-
 pub first_is : (ls : List Line) (first floor : ℕ) (l : Line) (u a : Outline) → part ls first floor ≡ row l u a → IsFirst ls first floor l u a
 first_is ls first floor l u a e = go ((slice_get_cases ls first).1)
   where
     go2 : (k : Line) → slice_get ls first ≡ Some k → (floor < level k) ⊎ (level k ≤ floor) → IsFirst ls first floor l u a
-    go2 k is (inr low) = absurd (end-row (sym (part_stop ls first floor k is low) ∙ e))
+    go2 k is (inr low) = search (rules, part_stop)
     go2 k is (inl deep) =
         let ends = end_counted ls first k is in
         let whole : row k (part ls (first + 1) (level k)) (part ls _ floor) ≡ row l u a = sym (row_parts ls first floor _ k is deep (ends.2 k is)) ∙ e in
-        let line : k ≡ l = ap (line_or k) whole in
-        let under : part ls (first + 1) (level k) ≡ u = ap under_or_end whole in
-        let after : part ls _ floor ≡ a = ap after_or_end whole in
+        let line : k ≡ l = cc in
+        let under : part ls (first + 1) (level k) ≡ u = cc in
+        let after : part ls _ floor ≡ a = cc in
         record {
           line = is ∙ ap Some line;
           under = sym under ∙ ap (λ (x : Line). part ls (first + 1) (level x)) line;

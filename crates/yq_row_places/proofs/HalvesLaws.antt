@@ -1,6 +1,5 @@
 -- What a text in two halves begins and ends with.
-use Rattle.std.proofs.Common.{◌≡◌, ℕ, zero, suc, subst, ◌+◌, ◌-◌, ◌<◌, ◌≤◌, Bool, true, false, cond, eqb, List, [], ◌∷◌, ◌++◌, length, drop, slice_index, ◌||◌, refl, sym, ap, ◌∙◌, ◌⊎◌, inl, inr, ⊎_elim, arith, drop-cons, rules}
-use Rattle.std.proofs.Common.{length, drop, slice_index, ◌||◌, refl, sym, ap, ◌∙◌, ◌⊎◌, inl, inr, ⊎_elim, arith, drop-cons, rules}
+use Rattle.std.proofs.Common.{◌≡◌, ℕ, zero, suc, ◌+◌, ◌-◌, ◌<◌, ◌≤◌, Bool, true, false, cond, eqb, List, [], ◌∷◌, ◌++◌, length, drop, slice_index, ◌||◌, refl, sym, ap, ◌∙◌, ◌⊎◌, inl, inr, ⊎_elim, arith, drop-cons, rules}
 use Rattle.std.proofs.lemmas.Bool.{cases_lt, eq-eqb, eqb-true, ne_eqb, false_from_ne_true}
 use Rattle.std.proofs.lemmas.List.{drop_all, get_or_append_left, get_or-append_right, get_or_past}
 use Rattle.std.proofs.lemmas.List.Folds.{prefix_len-append}
@@ -24,16 +23,6 @@ prefix_stays p a b h = search (rules, prefix_len-append, false_from_ne_true, eqb
 
 pub prefix_goes : (p : ℕ → Bool) (a b : List ℕ) → length a ≤ prefix_len p a → prefix_len p (a ++ b) ≡ prefix_len p a + prefix_len p b
 prefix_goes p a b h = search (rules, prefix_len-le-length, prefix_len-append, eq-eqb)
-
-module _ (p : ℕ → Bool) (a b x : List ℕ) (n : ℕ) (n_is : n ≡ prefix_len p x) (first : x ≡ a) where
-  pub prefix_there : n < length a → n ≡ prefix_len p (a ++ b)
-  prefix_there h = let own : n ≡ prefix_len p a = n_is ∙ ap (prefix_len p) first in own ∙ sym (prefix_stays p a b (subst (λ (k : ℕ). k < length a) own h))
-
-  pub prefix_on : (y : List ℕ) (m : ℕ) → m ≡ prefix_len p y → y ≡ b → length a ≤ n → n + m ≡ prefix_len p (a ++ b)
-  prefix_on y m m_is second h =
-      let own : n ≡ prefix_len p a = n_is ∙ ap (prefix_len p) first in
-      let more : m ≡ prefix_len p b = m_is ∙ ap (prefix_len p) second in
-      (λ i. own i + more i) ∙ sym (prefix_goes p a b (subst (λ (k : ℕ). length a ≤ k) own h))
 
 -- the line in front ends in the first half, or goes on in the second one
 pub line_stays : (a b : List ℕ) → line_len a < length a → line_len (a ++ b) ≡ line_len a
@@ -59,26 +48,6 @@ line_goes (x ∷ a) b h e = go a (is_feed x) h e (line_goes a b)
   where
     go : (a : List ℕ) (c : Bool) → suc (length a) ≤ cond c 1 (suc (line_len a)) → cond c (is_empty a) (is_line a) ≡ false → (length a ≤ line_len a → is_line a ≡ false → line_len (a ++ b) ≡ line_len a + line_len b) → cond c 1 (suc (line_len (a ++ b))) ≡ cond c 1 (suc (line_len a)) + line_len b
     go a c h1 h2 h3 = search rules
-
-module _ (a b x : List ℕ) (n : ℕ) (n_is : n ≡ line_len x) (first : x ≡ a) where
-  own_line : n ≡ line_len a
-  own_line = n_is ∙ ap line_len first
-
-  pub line_there : n < length x → n ≡ line_len (a ++ b)
-  line_there h = own_line ∙ sym (line_stays a b (subst (λ (k : ℕ). k < length a) own_line (subst (λ (l : List ℕ). n < length l) first h)))
-
-  pub line_full : is_line x ≡ true → n ≡ line_len (a ++ b)
-  line_full e = own_line ∙ sym (line_ends a b (ap is_line (sym first) ∙ e))
-
-  pub line_on : (y : List ℕ) (m : ℕ) → m ≡ line_len y → y ≡ b → length x ≤ n → is_line x ≡ false → n + m ≡ line_len (a ++ b)
-  line_on y m m_is second h e =
-      let more : m ≡ line_len b = m_is ∙ ap line_len second in
-      (λ i. own_line i + more i) ∙ sym
-      (line_goes a b (subst (λ (k : ℕ). length a ≤ k) own_line (subst (λ (l : List ℕ). length l ≤ n) first h)) (ap is_line (sym first) ∙ e))
-
-pub empty_is : (t : List ℕ) → eqb (length t) 0 ≡ is_empty t
-empty_is [] = refl
-empty_is (b ∷ t) = ne_eqb (suc (length t)) 0 (λ h. omega (arith, h))
 
 -- a gap begins where white space is all there is, or by what stands behind it
 white_at : (t : List ℕ) (n : ℕ) → n ≡ prefix_len is_white t → past_white t ≡ drop n t
@@ -151,22 +120,3 @@ pub break_return : (t : List ℕ) → 1 < length t → slice_index t (length t -
 break_return t h f r =
     let m = length t - 2 in
     last_return t m (omega (arith, h)) (ap (slice_index t) (sym (omega (arith, h))) ∙ f) r
-
--- the same, as the code finds it
-module _ (t : List ℕ) (n : ℕ) (long : n ≡ length t) where
-  pub other_there : (n ≡ 0) ⊎ (slice_index t (n - 1) ≡ 10 → ⊥) → n ≡ length (less_break t)
-  other_there h = long ∙ sym (no_break t (subst (λ (k : ℕ). (k ≡ 0) ⊎ (slice_index t (k - 1) ≡ 10 → ⊥)) long h))
-
-  module _ (x : ℕ) (x_is : x ≡ slice_index t (n - 1)) (feed : x ≡ 10) where
-    ends : slice_index t (length t - 1) ≡ 10
-    ends = ap (λ (k : ℕ). slice_index t (k - 1)) (sym long) ∙ (sym x_is ∙ feed)
-
-    pub feed_there : (1 < n → slice_index t (n - 2) ≡ 13 → ⊥) → n - 1 ≡ length (less_break t)
-    feed_there other =
-        ap (λ (k : ℕ). k - 1) long
-        ∙ sym (break_feed t ends (λ some e. other (subst (λ (k : ℕ). 1 < k) (sym long) some) (ap (λ (k : ℕ). slice_index t (k - 2)) long ∙ e)))
-
-    pub return_there : (y : ℕ) → y ≡ slice_index t (n - 2) → y ≡ 13 → 1 < n → n - 2 ≡ length (less_break t)
-    return_there y y_is return some =
-        ap (λ (k : ℕ). k - 2) long
-        ∙ sym (break_return t (subst (λ (k : ℕ). 1 < k) long some) ends (ap (λ (k : ℕ). slice_index t (k - 2)) (sym long) ∙ (sym y_is ∙ return)))

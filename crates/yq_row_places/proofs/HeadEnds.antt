@@ -8,15 +8,16 @@ use Rattle.yq_flow_scalars.specs.Piece.{deeper}
 use Rattle.yq_nodes.specs.Inline.{depth_limit}
 use Rattle.yq_nodes.specs.Nodes.{Node, node_text, takes_anchor, IsNode}
 use Rattle.yq_nodes.specs.Scalars.{IsScalarAt}
+use Rattle.yq_nodes.proofs.PieceLaws.{front_not, scalar_begins}
 use Rattle.yq_cut.specs.Exchange.{behind_row}
 use Rattle.yq_cut.specs.Grammar.{IsContent, IsCut}
 use Rattle.yq_cut.specs.Rows.{Content, Row, parent_indent, Cut}
 use Rattle.yq_cut.specs.View.{Slices, slices, anchor_cut, content_cut, rows_of, RowsView, rows_view}
 use Rattle.yq_cut.proofs.PlaceLaws.{row_in}
-use Rattle.yq_row_lines.specs.Extents.{row_start, front_length, head_place, IsRowsView}
+use Rattle.yq_lines.specs.Extents.{row_start, front_length, head_place, IsRowsView}
 use Rattle.yq_documents.specs.RowReading.{is_block_head}
-use Rattle.yq_documents.proofs.HeadLaws.{block_marks, scalar_some_is}
-use Rattle.yq_row_lines.proofs.LengthLaws.{row_fits, view_small}
+use Rattle.yq_documents.proofs.HeadLaws.{block_marks}
+use Rattle.yq_lines.proofs.LengthLaws.{row_fits, view_small}
 use Rattle.yq_row_places.specs.EntryReading.{ending, head_end, head_extent, through_row, head_finish}
 use Rattle.yq_row_places.proofs.RowStarts.{head_is, row_ends}
 
@@ -29,7 +30,7 @@ get_row rs i x e = search rules
 
 -- no inline node begins as a block scalar does
 scalar_begins_none : (n : ℤ) (p rest : List ℕ) → IsScalarAt false (Some (deeper n)) p rest → is_block_head p ≡ false
-scalar_begins_none n p rest h = (scalar_some_is n p rest h).1
+scalar_begins_none n p rest h1 = search (rules, scalar_begins, front_not)
 
 abbrev Opens : ℕ → Type 0
 Opens b = (t : List ℕ) → is_block_head (b ∷ t) ≡ false

@@ -1,6 +1,5 @@
 -- The heads of rows, and what stands in flow in them, go from one whole character to another.
 use Rattle.std.proofs.Common.{◌≡◌, ℕ, ◌+◌, ◌-◌, ◌<◌, List, [], ◌∷◌, ◌++◌, length, drop, replicate, Option, Some, Bool, true, false, refl, sym, ap, ◌∙◌, subst, arith, append_assoc, length-append, inl, rules}
-use Rattle.std.proofs.Common.{subst, arith, append_assoc, length-append, inl, rules}
 use Rattle.std.proofs.Math.Seq.{drop-append_seam}
 use Rattle.std.proofs.lemmas.Bool.{false≢true, and_parts}
 use Rattle.std.specs.List.{slice_get}
@@ -18,7 +17,7 @@ use Rattle.yq_nodes.proofs.WrittenLaws.{node_then}
 use Rattle.yq_nodes.proofs.EditPlaces.{end_placed}
 use Rattle.yq_cut.specs.Exchange.{before_content, behind_row, with_content, allows_first}
 use Rattle.yq_cut.specs.Grammar.{IsContent, AreDashes, IsMark, is_entry, IsCut, unlimited, limit_after}
-use Rattle.yq_cut.specs.Rows.{Mark, Content, Inline, mark_text, dashes_text, Row, parent_indent, Cut, cut_text}
+use Rattle.yq_cut.specs.Rows.{Mark, Content, Inline, Block, mark_text, dashes_text, Row, parent_indent, Cut, cut_text}
 use Rattle.yq_cut.specs.View.{Slices, anchor_cut, content_cut, slices, rows_of}
 use Rattle.yq_cut.proofs.NodePieces.{BeginsAscii, tail_ascii, before_ascii, node_pieces}
 use Rattle.yq_cut.proofs.PlaceLaws.{place, row_in}

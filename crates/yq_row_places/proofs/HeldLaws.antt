@@ -3,7 +3,7 @@ use Rattle.std.proofs.Common.{◌≡◌, ◌≤◌, ℕ, List, length, true, sym
 use Rattle.yq_flow_scalars.specs.Characters.{text_limit}
 use Rattle.yq_cut.specs.Grammar.{IsCut}
 use Rattle.yq_cut.specs.View.{RowsView, rows_view}
-use Rattle.yq_row_lines.specs.Extents.{IsRowsView}
+use Rattle.yq_lines.specs.Extents.{IsRowsView}
 use Rattle.yq_row_places.specs.RowWalk.{HasCut}
 use Rattle.yq_documents.specs.Reading.{all_documents, cut_of}
 

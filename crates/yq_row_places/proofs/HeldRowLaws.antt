@@ -13,12 +13,12 @@ use Rattle.yq_cut.specs.RowStarts.{row_start}
 use Rattle.yq_cut.specs.Seams.{is_block}
 use Rattle.yq_cut.specs.View.{Slices, slices, content_cut, rows_of, RowsView, rows_view}
 use Rattle.yq_lines.proofs.PathLines.{last_line}
-use Rattle.yq_row_lines.proofs.WalkPositions.{located}
-use Rattle.yq_row_lines.specs.Extents.{front_length, head_place, lines_before_mark}
-use Rattle.yq_row_lines.specs.Lines.{lines_of}
-use Rattle.yq_row_lines.specs.RowWalk.{HasRows, deeper_rows, line_level, line_number, stretch_view}
-use Rattle.yq_row_lines.specs.declared.line_position.Position.{Position}
-use Rattle.yq_row_lines.specs.declared.line_position.Stretch.{Stretch}
+use Rattle.yq_lines.proofs.WalkPositions.{located}
+use Rattle.yq_lines.specs.Extents.{front_length, head_place, lines_before_mark}
+use Rattle.yq_lines.specs.Lines.{lines_of}
+use Rattle.yq_lines.specs.RowWalk.{HasRows, deeper_rows, line_level, line_number, stretch_view}
+use Rattle.yq_lines.specs.declared.line_position.Position.{Position}
+use Rattle.yq_lines.specs.declared.line_position.Stretch.{Stretch}
 use Rattle.yq_documents.specs.LinesInRows.{row_line_of}
 use Rattle.yq_documents.specs.Reading.{all_documents, cut_of}
 use Rattle.yq_documents.specs.RowReading.{is_block_head}

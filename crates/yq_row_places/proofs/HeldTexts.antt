@@ -14,15 +14,15 @@ use Rattle.yq_cut.specs.Offsets.{row_length}
 use Rattle.yq_cut.specs.Rows.{Content, Nothing, Inline, Block, Row, behind_columns, dashes_text, mark_column, print_row, rows_text, Cut}
 use Rattle.yq_cut.specs.View.{Slices, slices, content_cut, last_dash, rows_of, RowsView, rows_view}
 use Rattle.yq_row_places.specs.CommentPlaces.{LineEnd, end_before, line_text}
-use Rattle.yq_row_lines.specs.Extents.{head_place, row_start}
+use Rattle.yq_lines.specs.Extents.{head_place, row_start}
 use Rattle.yq_row_places.specs.LineReading.{CutsLines, LinesIn, lines_between, lines_of}
 use Rattle.yq_row_places.specs.PrintedLines.{last_break}
-use Rattle.yq_row_lines.specs.RowWalk.{line_column}
+use Rattle.yq_lines.specs.RowWalk.{line_column}
 use Rattle.yq_row_places.specs.RowPieces.{anchor_before, space_before}
 use Rattle.yq_row_places.specs.Standings.{Held, RowsOfEntry, before_entry, behind_entry, held}
 use Rattle.yq_row_places.specs.StandingReading.{AreRowsOf}
 use Rattle.yq_row_places.proofs.EntryRowLaws.{head_ends, line_boundary_at, line_cut, pieces_at, stop_boundary, stop_is, through_is}
-use Rattle.yq_row_lines.proofs.WalkLevels.{last_is, to_dash}
+use Rattle.yq_lines.proofs.WalkLevels.{last_is, to_dash}
 
 -- the column behind dashes
 columns : (c : ℕ) (ns : List ℕ) → behind_columns c ns ≡ c + length (dashes_text ns [])

@@ -3,14 +3,14 @@ use Rattle.std.proofs.Common.{◌≡◌, ◌⊎◌, inl, inr, ℕ, ◌+◌, ◌<
 use Rattle.std.proofs.lemmas.Option.{same_Some}
 use Rattle.std.specs.List.{slice_get}
 use Rattle.yq_cut.specs.View.{Slices, RowsView}
-use Rattle.yq_row_lines.specs.RowWalk.{HasRows, IsKnownIn, line_level, rows_end}
-use Rattle.yq_row_lines.specs.declared.line_position.KnownItem.{KnownItem}
-use Rattle.yq_row_lines.specs.declared.line_position.Position.{Position}
-use Rattle.yq_row_lines.specs.declared.line_position.Stretch.{Stretch}
-use Rattle.yq_row_lines.proofs.KnownLaws.{one_there}
-use Rattle.yq_row_lines.proofs.KnownWalks.{end_later, row_later}
-use Rattle.yq_row_lines.proofs.WalkPositions.{get_taken}
-use Rattle.yq_row_lines.proofs.WalkRows.{under_more}
+use Rattle.yq_lines.specs.RowWalk.{HasRows, IsKnownIn, line_level, rows_end}
+use Rattle.yq_lines.specs.declared.line_position.KnownItem.{KnownItem}
+use Rattle.yq_lines.specs.declared.line_position.Position.{Position}
+use Rattle.yq_lines.specs.declared.line_position.Stretch.{Stretch}
+use Rattle.yq_lines.proofs.KnownLaws.{one_there}
+use Rattle.yq_lines.proofs.KnownWalks.{end_later, row_later}
+use Rattle.yq_lines.proofs.WalkPositions.{get_taken}
+use Rattle.yq_lines.proofs.WalkRows.{under_more}
 
 module _ (s : RowsView) (d : Stretch) (h : HasRows s d) (row : ℕ) (under : Position) (floor : ℕ) (k : KnownItem) (among : IsKnownIn s.rows under floor d.end k) where
   -- the first of the lines, where it begins a row, is deeper than the level

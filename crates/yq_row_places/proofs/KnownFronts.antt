@@ -14,10 +14,10 @@ use Rattle.yq_cut.specs.View.{Slices, slices, RowsView, rows_view}
 use Rattle.yq_cut.specs.declared.offsets.Offsets as declared
 use Rattle.yq_cut.proofs.ItemLaws.{items_view_is}
 use Rattle.yq_cut.proofs.NearLaws.{near_at}
-use Rattle.yq_row_lines.specs.RowWalk.{IsKnown}
+use Rattle.yq_lines.specs.RowWalk.{IsKnown}
 use Rattle.yq_row_places.specs.RowWalk.{StaysKnown}
-use Rattle.yq_row_lines.specs.declared.line_position.KnownItem.{KnownItem}
-use Rattle.yq_row_lines.proofs.KnownLaws.{one_there}
+use Rattle.yq_lines.specs.declared.line_position.KnownItem.{KnownItem}
+use Rattle.yq_lines.proofs.KnownLaws.{one_there}
 
 begins_behind : (xs : List Item) (m i : ℕ) (o : declared.Offsets) → slice_get (near m xs) i ≡ Some o → m ≤ o.start
 begins_behind [] m i o e = absurd (cc)

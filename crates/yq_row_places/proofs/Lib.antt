@@ -71,8 +71,6 @@ mod HalvesLaws
 mod FirstBreakLaws
 pub mod EntryNumbers
 mod LinesCutLaws
-mod RowEndLaws
-mod KnownSteps
 mod EntryRowLaws
 mod HeldTexts
 pub mod HeldRowLaws

@@ -16,12 +16,12 @@ use Rattle.yq_cut.specs.Rows as rows
 use Rattle.yq_cut.specs.Rows.{Content, Nothing, Inline, Block, Row, dashes_text, parent_indent, print_row, rows_text, Cut}
 use Rattle.yq_cut.specs.View.{Slices, slices, content_cut, rows_of, RowsView, rows_view}
 use Rattle.yq_cut.proofs.NodePieces.{before_ascii, behind_ascii, tail_ascii}
-use Rattle.yq_row_lines.specs.Lines.{mark_of}
+use Rattle.yq_lines.specs.Lines.{mark_of}
 use Rattle.yq_documents.specs.Reading.{cut_of}
 use Rattle.yq_row_places.specs.CommentPlaces.{line_text}
 use Rattle.yq_row_places.specs.RowPieces.{upto_dash}
 use Rattle.yq_row_places.specs.EntryReading.{line_begin}
-use Rattle.yq_row_lines.specs.Extents.{head_place, row_start}
+use Rattle.yq_lines.specs.Extents.{head_place, row_start}
 use Rattle.yq_row_places.specs.LineReading.{CutsLines, LinesIn, lines_between, lines_of}
 use Rattle.yq_row_places.specs.Standings.{Lone, RowsOfEntry, before_entry, behind_entry, dash_text, is_alone, lone}
 use Rattle.yq_row_places.specs.StandingReading.{AreRowsOf}

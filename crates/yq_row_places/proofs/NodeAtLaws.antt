@@ -30,15 +30,15 @@ use Rattle.yq_lines.proofs.PlaceLaws.{at}
 use Rattle.yq_cut.specs.Rows.{Row, Part, Cut}
 use Rattle.yq_cut.specs.View.{RowsView}
 use Rattle.yq_documents.specs.Documents.{document_parts}
-use Rattle.yq_row_lines.specs.Lines.{head_of, lines_of}
+use Rattle.yq_lines.specs.Lines.{head_of, lines_of}
 use Rattle.yq_documents.specs.Reading.{all_documents, document_of}
 use Rattle.yq_row_places.specs.NodeReading.{NodePlace, at_head, at_lines, line_place, with_line, node_place, place_line, summary_in_head, summary_in_line, summary_of_lines, line_or, place_node}
 use Rattle.yq_row_places.specs.NodesAt.{NodeAt, scalar, list, map as mapping, node_summary, node_in, summary_several, scalar_in, summary_scalar}
 use Rattle.yq_row_places.specs.RemovalPlaces.{has_several}
-use Rattle.yq_row_lines.specs.RowWalk.{HasRows, IsLine, line_number}
+use Rattle.yq_lines.specs.RowWalk.{HasRows, IsLine, line_number}
 use Rattle.yq_row_places.specs.RowWalk.{InCut}
-use Rattle.yq_row_lines.specs.declared.line_position.Position.{Position}
-use Rattle.yq_row_lines.specs.declared.line_position.Stretch.{Stretch}
+use Rattle.yq_lines.specs.declared.line_position.Position.{Position}
+use Rattle.yq_lines.specs.declared.line_position.Stretch.{Stretch}
 use Rattle.yq_row_places.proofs.FlowPlaceLaws.{TakesSteps, Takes, takes_left}
 use Rattle.yq_row_places.proofs.FlowViewLaws.{numbered}
 use Rattle.yq_documents.proofs.PartRows.{each}
@@ -46,7 +46,7 @@ use Rattle.yq_row_places.proofs.NodePlaceLaws.{node_found}
 use Rattle.yq_row_places.proofs.RowPathLaws.{document_fine}
 use Rattle.yq_row_places.proofs.FoundLaws.{first_is, found_in_lines}
 use Rattle.yq_row_places.proofs.WalkNodes.{row_is}
-use Rattle.yq_row_lines.proofs.WalkPositions.{Located, located}
+use Rattle.yq_lines.proofs.WalkPositions.{Located, located}
 
 -- an anchor tells nothing of a node
 pub named_summary : (a : Option (List ℕ)) (n : Node) → node_summary (named a n) ≡ node_summary n

@@ -17,7 +17,7 @@ use Rattle.yq_lines.proofs.Finding.{FoundNode, node-anchored, path_node}
 use Rattle.yq_lines.proofs.NameLaws.{part-all}
 use Rattle.yq_row_places.specs.NodesAt.{node_summary}
 use Rattle.yq_row_places.specs.NodeReading.{NodePlace, at_head, at_lines, line_place, with_line, node_place, summary_in_head, summary_in_line, line_or, place_node, said_at}
-use Rattle.yq_row_lines.specs.RowWalk.{lines_stop}
+use Rattle.yq_lines.specs.RowWalk.{lines_stop}
 use Rattle.yq_row_places.proofs.FlowPieces.{head_there}
 use Rattle.yq_row_places.proofs.FlowViewLaws.{numbered}
 use Rattle.yq_row_places.proofs.PieceSpelling.{bare_is}

@@ -14,7 +14,7 @@ use Rattle.yq_documents.specs.declared.path.Path.{Path}
 use Rattle.yq_documents.specs.declared.path.Part.TheVariants as parts
 use Rattle.yq_documents.specs.Documents.{Document, document_parts}
 use Rattle.yq_lines.specs.Group.{group, level_or, is_fine}
-use Rattle.yq_row_lines.specs.Lines.{head_of}
+use Rattle.yq_lines.specs.Lines.{head_of}
 use Rattle.yq_nodes.specs.Trees.{tree_of, with_name, node_head}
 use Rattle.yq_documents.specs.Located.{steps_of, located}
 use Rattle.yq_lines.specs.Outline as outlines

@@ -17,16 +17,15 @@ use Rattle.yq_cut.specs.Rows.{Content, Nothing, Inline, Block, content_text, Row
 use Rattle.yq_cut.specs.View.{rows_of}
 use Rattle.yq_cut.proofs.PlaceLaws.{place, content_then}
 use Rattle.yq_documents.specs.declared.path.Part.TheVariants as parts
-use Rattle.yq_row_lines.proofs.KnownLaws.{get_dropped}
+use Rattle.yq_lines.proofs.KnownLaws.{get_dropped}
 use Rattle.yq_row_places.specs.EntryReading as places
 use Rattle.yq_row_places.specs.EntryReading.{lines_place, line_head, lines_content, line_content, line_entry, inline_node, placed_inline, flow_entry, entry_from, content_from}
-use Rattle.yq_lines.specs.Ends.{deeper_count, lines_end}
+use Rattle.yq_lines.specs.Ends.{deeper_count, lines_end, reached}
 use Rattle.yq_lines.specs.Group.{group, level_or, is_fine}
-use Rattle.yq_row_lines.specs.Lines.{head_of, tail_of, lines_of}
+use Rattle.yq_lines.specs.Lines.{head_of, tail_of, lines_of}
 use Rattle.yq_lines.specs.Outline as outlines
 use Rattle.yq_lines.specs.Outline.{Line, level, Outline, end, row, flatten, IsEven, IsWhole}
 use Rattle.yq_lines.specs.Places.{lines_before, lines_after, FoundLine, find}
-use Rattle.yq_lines.specs.Ends.{reached}
 use Rattle.yq_documents.specs.LinesInRows.{RowLine, row_line}
 use Rattle.yq_lines.specs.Positions.{is_bare}
 use Rattle.yq_lines.proofs.Decides.{flatten-group, even_from}

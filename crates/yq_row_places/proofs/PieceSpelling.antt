@@ -16,9 +16,7 @@ use Rattle.yq_documents.specs.declared.path.Part.TheVariants as parts
 use Rattle.yq_documents.specs.declared.path.Path.{Path}
 use Rattle.yq_documents.specs.Documents.{document_parts, Document}
 use Rattle.yq_lines.specs.Group.{group, level_or, is_fine}
-use Rattle.yq_row_lines.specs.Lines.{head_of, lines_of}
-use Rattle.yq_nodes.specs.Trees.{node_head}
-use Rattle.yq_documents.specs.Documents.{Document}
+use Rattle.yq_lines.specs.Lines.{head_of, lines_of}
 use Rattle.yq_lines.specs.Labelled.{Labelled, labelled_from}
 use Rattle.yq_lines.proofs.LabelPaths.{FoundEntry, path_entry}
 use Rattle.yq_documents.specs.Located.{steps_of, document_at, labelled_located, located, unlabelled}
@@ -176,8 +174,7 @@ steps_spell part y ys s x as_printed fine is =
     (part_spells s part f.0.1 e.0 f.0.0 x (entry_found s y ys f.0.1 f.0.0 e.0 f.1 as_printed e.1) (head f.0.1 f.1) (even.0, even.1, even.2) e.2)
   where
     head : (rest : List Step) {f : FoundLine} → find y ys (group (map line_in s.lines)) ≡ Some (f, rest) → HasHead rest f
-    head [] is = tt
-    head (t ∷ ts) {f} is = head_there (map line_in s.lines) y ys t ts f is fine
+    head rest h1 = search (rules, head_there)
 
 pub document_spells : (part : WhichPart) (ss : List Step) (s : PrintedDocument) (x : TextPiece) → ArePrinted s.lines s.behind → is_fine (group (map line_in s.lines)) ≡ true → piece_in part ss s ≡ Some x →
     Spelled s part x (labelled_from ss (unlabelled, value (group (map line_in s.lines))))

@@ -12,7 +12,7 @@ use Rattle.yq_lines.specs.Ends.{line_of}
 use Rattle.yq_documents.specs.declared.path.Path.{Path}
 use Rattle.yq_row_places.specs.CommentReading.{before_row}
 use Rattle.yq_documents.specs.Documents.{document_parts}
-use Rattle.yq_row_lines.specs.Lines.{lines_of}
+use Rattle.yq_lines.specs.Lines.{lines_of}
 use Rattle.yq_documents.specs.Located.{steps_of}
 use Rattle.yq_row_places.specs.PlacedRows.{PlacedPart, PlacedRow, placed_at, placed_document, placed_row, row_of_path}
 use Rattle.yq_row_places.specs.RowLineReading.{Numbers, numbers}
@@ -20,7 +20,7 @@ use Rattle.yq_documents.specs.LinesInRows.{RowLine, row_line_of, row_line_at, do
 use Rattle.yq_documents.specs.PartNumbers.{part_number, rows_to}
 use Rattle.yq_documents.proofs.PartNumberLaws.{part_there}
 use Rattle.yq_row_places.proofs.PlacedPartLaws.{part_stands, row_before}
-use Rattle.yq_row_lines.proofs.KnownLaws.{get_front}
+use Rattle.yq_lines.proofs.KnownLaws.{get_front}
 use Rattle.yq_row_places.proofs.RowLineSpans.{steps_row}
 
 -- A row of a cut stands behind others, between these texts.

@@ -10,8 +10,8 @@ use Rattle.yq_cut.specs.Rows as rows
 use Rattle.yq_cut.specs.View.{content_cut}
 use Rattle.yq_cut.specs.Rows.{Content, Nothing, Inline, Block, content_text, mark_text, dashes_text, behind_gap, Row, rows_text, Part, Cut}
 use Rattle.yq_documents.specs.Documents.{document_parts}
-use Rattle.yq_row_lines.specs.Lines.{head_of, tail_of, lines_from, lines_of}
-use Rattle.yq_row_lines.proofs.RowLaws.{no_comments}
+use Rattle.yq_lines.specs.Lines.{head_of, tail_of, lines_from, lines_of}
+use Rattle.yq_lines.proofs.RowLaws.{no_comments}
 use Rattle.yq_row_places.specs.PrintedLines.{behind_front, PrintedLine, print_lines, printed_from, printed_row, printed_lines, line_in}
 use Rattle.yq_row_places.specs.PathPieces.{PrintedDocument, printed_document}
 use Rattle.yq_row_places.specs.PlacedRows.{placed_document}

@@ -9,7 +9,7 @@ use Rattle.yq_lines.specs.Comments.{head_comment}
 use Rattle.yq_cut.specs.Rows as rows
 use Rattle.yq_cut.specs.Rows.{Content, Nothing, Row, dashes_text, mark_text, rows_text, Part, Cut}
 use Rattle.yq_documents.specs.Documents.{document_parts}
-use Rattle.yq_row_lines.specs.Lines.{mark_of, dash_line}
+use Rattle.yq_lines.specs.Lines.{mark_of, dash_line}
 use Rattle.yq_lines.specs.Outline.{level}
 use Rattle.yq_row_places.specs.CommentReading.{before_row}
 use Rattle.yq_documents.specs.LinesInRows.{RowLine, behind_one, row_line, document_row}

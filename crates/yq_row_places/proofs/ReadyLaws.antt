@@ -17,7 +17,7 @@ use Rattle.yq_cut.specs.Grammar.{Limit, limit_after, IsContent, AreRows, ArePart
 use Rattle.yq_cut.specs.Rows as rows
 use Rattle.yq_cut.specs.Rows.{Content, Row, Part, Cut, last, marked, parent_indent}
 use Rattle.yq_documents.specs.Documents.{Document, IsRoot, IsDocument, Reads, with_part, parts_from, document_parts, lead_of}
-use Rattle.yq_row_lines.specs.Lines.{head_of, lines_from, row_lines, lines_of}
+use Rattle.yq_lines.specs.Lines.{head_of, lines_from, row_lines, lines_of}
 use Rattle.yq_documents.specs.Reading.{document_of, is_document, all_documents, cut_of}
 use Rattle.yq_documents.specs.TreeEdits.{lead_by}
 use Rattle.yq_documents.specs.Ready.{begins_no_node, part_is_block, IsReady, TextIsReady}

@@ -19,13 +19,13 @@ use Rattle.yq_lines.specs.Outline.{Line}
 use Rattle.yq_cut.specs.Grammar.{no_rows}
 use Rattle.yq_cut.specs.Removal.{hold_comment}
 use Rattle.yq_cut.specs.Rows.{Mark, Content, Row}
-use Rattle.yq_row_lines.specs.Lines.{lines_from, row_lines, lines_of}
+use Rattle.yq_lines.specs.Lines.{lines_from, row_lines, lines_of}
 use Rattle.yq_documents.specs.Pieces.{before_run, last_run}
 use Rattle.yq_row_places.specs.RemovalPlaces.{OwnRows, row_count, in_three, own_rows}
 use Rattle.yq_row_places.specs.RemovalReading.{marks}
-use Rattle.yq_row_lines.specs.RowWalk.{line_number}
-use Rattle.yq_row_lines.specs.declared.line_position.Position.{Position}
-use Rattle.yq_row_lines.specs.declared.line_position.Stretch.{Stretch}
+use Rattle.yq_lines.specs.RowWalk.{line_number}
+use Rattle.yq_lines.specs.declared.line_position.Position.{Position}
+use Rattle.yq_lines.specs.declared.line_position.Stretch.{Stretch}
 use Rattle.yq_documents.specs.LinesInRows.{RowLine, behind_one, row_line}
 use Rattle.yq_row_places.proofs.PlacedPartLaws.{map_some}
 use Rattle.yq_row_places.proofs.RemovalTexts.{gap_parts}

@@ -21,7 +21,7 @@ use Rattle.yq_cut.proofs.NodePieces.{BeginsAscii, before_ascii}
 use Rattle.yq_cut.proofs.seams.SeamLaws.{rows_text-append}
 use Rattle.yq_cut.proofs.splices.SpliceTexts.{first_text}
 use Rattle.yq_documents.specs.Documents.{document_parts}
-use Rattle.yq_row_lines.specs.Extents.{IsRowsView, row_start}
+use Rattle.yq_lines.specs.Extents.{IsRowsView, row_start}
 use Rattle.yq_documents.specs.Pieces.{before_run}
 use Rattle.yq_documents.specs.Reading.{cut_of}
 use Rattle.yq_row_places.specs.PlacedRows.{PlacedPart, placed_document}
@@ -36,7 +36,7 @@ use Rattle.yq_row_places.proofs.RemovalLines.{LineSeam, are_lines, lies_in, line
 use Rattle.yq_row_places.proofs.RemovalPlaceLaws.{own_stands}
 use Rattle.yq_row_places.proofs.RemovalTexts.{old_text, texts_then}
 use Rattle.yq_documents.proofs.PartRows.{part_begins}
-use Rattle.yq_row_lines.proofs.KnownLaws.{get_dropped, get_front}
+use Rattle.yq_lines.proofs.KnownLaws.{get_dropped, get_front}
 use Rattle.yq_row_places.proofs.StartLaws.{start_agrees}
 
 -- ---- a text cut between lines
@@ -90,44 +90,6 @@ pub record OutAgrees (t : List ℕ) (s : RowsView) (d : PlacedPart) (x : OwnRows
 pub own_view : (t : List ℕ) (s : RowsView) (d : PlacedPart) (x : OwnRows) (m : RowCounts) → IsOwn t s d x m → IsRowsView s
 own_view t s d x m h = record { cut = cut_of t; is = h.rows_view_is; size = omega (arith, ap length h.cut.text, h.cut.size) }
 
--- how many rows stand before the own ones, before what is behind them, and in the document
-record Marks (m0 m1 m2 k f p n : ℕ) : Type 0 where
-  order : m0 ≤ m1
-  past : m1 < m2
-  last : m2 - 1 ≡ k + (f + suc p - 1)
-  count : suc (f + suc p - 1) ≡ f + suc p
-  some : 0 < f + suc p
-  all : f + suc p ≤ n
-  front : f < n
-  final : f + suc p - 1 < n
-  front_size : m1 - m0 ≤ n
-  size : m1 - m0 ≡ f
-
-row_marks : (m0 m1 m2 k f p b n : ℕ) → m0 ≡ k → m1 ≡ k + f → m2 ≡ k + f + suc p → n ≡ f + (suc p + b) → Marks m0 m1 m2 k f p n
-row_marks m0 m1 m2 k f p b n first at end total = record {
-  order = omega (arith, first, at);
-  past = omega (arith, at, end);
-  last = omega (arith, end);
-  count = omega arith;
-  some = omega arith;
-  all = omega (arith, total);
-  front = omega (arith, total);
-  final = omega (arith, total);
-  front_size = omega (arith, first, at, total);
-  size = omega (arith, first, at);
-}
-
--- lengths of texts one behind the other
-long_three : (a x y : List ℕ) → length (a ++ (x ++ y)) ≡ length a + (length x + length y)
-long_three a x y = length-append a (x ++ y) ∙ ap (λ (n : ℕ). length a + n) (length-append x y)
-
-long_kept : (a x kept y : List ℕ) (n : ℕ) → n ≡ length (a ++ x) → y ≡ x ++ kept → n + length kept ≡ length (a ++ y)
-long_kept a x kept y n is split = omega (arith, is, length-append a x, length-append a y, ap length split, length-append x kept)
-
-long_through : (a x : List ℕ) (n w t all rest before gone : ℕ) → n ≡ length (a ++ x) → all ≡ length x + w → t ≡ length a + (all + rest) →
-    t ≡ before + (gone + rest) → n + w ≡ before + gone
-long_through a x n w t all rest before gone is through whole parts = omega (arith, is, length-append a x, through, whole, parts)
-
 -- with the first own row named
 agrees_first : (t : List ℕ) (s : RowsView) (d : PlacedPart) (front : List Row) (r : Row) (rs back : List Row) (m : RowCounts) → IsOwn t s d (record { front = front; own = r ∷ rs; back = back }) m →
     OutAgrees t s d (record { front = front; own = r ∷ rs; back = back }) m.0 m.1 m.2
@@ -150,10 +112,8 @@ agrees_first t s d front r rs back m h =
     let pieces : (j : ℕ) (q : Row) → slice_get d.part.rows j ≡ Some q → slice_get s.rows (k + j) ≡ Some (slices q) =
     λ j q e. ap (λ (y : RowsView). slice_get y.rows (k + j)) h.rows_view_is ∙ (slice_get-map slices (rows_of c) (k + j) ∙ ap (option_map slices) (there j q e)) in
     let own_row : slice_get d.part.rows (length front) ≡ Some r = ap (λ (z : List Row). slice_get z (length front)) h.rows_are ∙ slice_seam front r (rs ++ back) in
-    let counts : Marks m.0 m.1 m.2 k (length front) (length rs) (length d.part.rows) =
-    row_marks m.0 m.1 m.2 k (length front) (length rs) (length back) (length d.part.rows) first_is at_is end_is total in
-    let final = last_row (length front + length own) d.part.rows counts.some counts.all in
-    let last_is : m.2 - 1 ≡ k + (length front + length own - 1) = counts.last in
+    let final = last_row (length front + length own) d.part.rows (omega arith) (omega (arith, total)) in
+    let last_is : m.2 - 1 ≡ k + (length front + length own - 1) = omega (arith, end_is) in
     let at_row : slice_get s.rows m.1 ≡ Some (slices r) = ap (slice_get s.rows) at_is ∙ pieces (length front) r own_row in
     let last_row_is : slice_get s.rows (m.2 - 1) ≡ Some (slices final.0) = ap (slice_get s.rows) last_is ∙ pieces (length front + length own - 1) final.0 final.1 in
     let text : t ≡ out.before ++ (out.gone ++ (out.gap ++ out.behind)) = h.cut.text ∙ (st.text ∙ old_text d x h.rows_are refl) in
@@ -163,13 +123,13 @@ agrees_first t s d front r rs back m h =
     let starts : row_start m.1 s ≡ length (d.before ++ rows_text front []) =
     (λ i. row_start (at_is i) (h.rows_view_is i))
     ∙ (start_agrees c (k + length front) r (there (length front) r own_row)
-    ∙ (ap length (text_before n c d h.placed (length front) counts.front)
+    ∙ (ap length (text_before n c d h.placed (length front) (omega (arith, total)))
     ∙ ap (λ (z : List Row). length (d.before ++ rows_text z [])) (ap (take (length front)) h.rows_are ∙ take-append_seam front (own ++ back)))) in
     let before_last : row_start (m.2 - 1) s ≡ length (d.before ++ rows_text (take (length front + length own - 1) d.part.rows) []) =
     (λ i. row_start (last_is i) (h.rows_view_is i))
     ∙ (start_agrees c (k + (length front + length own - 1)) final.0 (there (length front + length own - 1) final.0 final.1)
-    ∙ ap length (text_before n c d h.placed (length front + length own - 1) counts.final)) in
-    let count : suc (length front + length own - 1) ≡ length front + length own = counts.count in
+    ∙ ap length (text_before n c d h.placed (length front + length own - 1) (omega (arith, total)))) in
+    let count : suc (length front + length own - 1) ≡ length front + length own = omega arith in
     let through : length (rows_text (front ++ own) []) ≡ length (rows_text (take (length front + length own - 1) d.part.rows) []) + row_length (slices final.0) =
     ap (λ (z : List Row). length (rows_text z [])) (sym (take_both front own back) ∙ (λ i. take (sym count i) (sym h.rows_are i))) ∙ rows_more d.part.rows (length front + length own - 1) final.0 final.1 in
     let whole : length t ≡ length d.before + (length (rows_text (front ++ own) []) + length (out.gap ++ out.behind)) =
@@ -179,12 +139,12 @@ agrees_first t s d front r rs back m h =
     ∙ ap (λ (z : List ℕ). d.before ++ z)
     (ap (λ (z : List Row). rows_text z (d.part.end ++ d.behind)) (h.rows_are ∙ sym (append_assoc front own back))
     ∙ (rows_text-append (front ++ own) back (d.part.end ++ d.behind) ∙ (ap (rows_text (front ++ own)) (first_text back d.part.end d.behind) ∙ texts_then (front ++ own) [] (out.gap ++ out.behind))))))
-    ∙ long_three d.before (rows_text (front ++ own) []) (out.gap ++ out.behind) in
+    ∙ omega (arith, length-append d.before (rows_text (front ++ own) [] ++ (out.gap ++ out.behind)), length-append (rows_text (front ++ own) []) (out.gap ++ out.behind)) in
     let parts : length t ≡ length out.before + (length out.gone + length (out.gap ++ out.behind)) =
-    ap length text ∙ long_three out.before out.gone (out.gap ++ out.behind) in
+    ap length text ∙ omega (arith, length-append out.before (out.gone ++ (out.gap ++ out.behind)), length-append out.gone (out.gap ++ out.behind)) in
     record {
-      order = counts.order;
-      past = counts.past;
+      order = omega (arith, first_is, at_is);
+      past = omega (arith, at_is, end_is);
       at_within = slice_get_within s.rows m.1 (slices r) at_row;
       last_within = slice_get_within s.rows (m.2 - 1) (slices final.0) last_row_is;
       final = slices final.0;
@@ -194,17 +154,22 @@ agrees_first t s d front r rs back m h =
       stops = inr lines.gone;
       gap_stops = gap_end out.gap out.behind lines.gap;
       kept = λ y e. ap (λ (z : Slices). joined (before_run (text_lines z.gap))) (same_Some _ _ (sym e ∙ at_row));
-      start = long_kept d.before (rows_text front []) kept (rows_text front kept) (row_start m.1 s) starts front_text;
-      stop = long_through d.before (rows_text (take (length front + length own - 1) d.part.rows) []) (row_start (m.2 - 1) s) (row_length (slices final.0))
-          (length t) (length (rows_text (front ++ own) [])) (length (out.gap ++ out.behind)) (length out.before) (length out.gone) before_last through whole
-          parts;
+      start = omega (arith, starts, length-append d.before (rows_text front []), length-append d.before (rows_text front kept), ap length front_text, length-append (rows_text front []) kept);
+      stop = omega (
+        arith,
+        before_last,
+        length-append d.before (rows_text (take (length front + length own - 1) d.part.rows) []),
+        through,
+        whole,
+        parts,
+      );
       gap = (λ i. gap_at ((end_is ∙ sizes front own k) i) (h.rows_view_is i))
           ∙ gap_behind n c d (front ++ own) back h.placed (h.rows_are ∙ sym (append_assoc front own back)) (omega (arith, length-append front own))
           (λ q qs is. ap (slice_get (rows_of c)) (sym (sizes front own k) ∙ three k front own) ∙ there (length front + length own) q (ap (λ (z : List Row). slice_get z (length front + length own)) (h.rows_are ∙ (sym (append_assoc front own back) ∙ ap (λ (z : List Row). (front ++ own) ++ z) is)) ∙ (ap (slice_get ((front ++ own) ++ (q ∷ qs))) (sym (length-append front own)) ∙ slice_seam (front ++ own) q qs)));
       more = begin.0;
       rows = ap (λ (j : ℕ). drop j (rows_of c)) first_is ∙ begin.1;
-      front_size = counts.front_size;
-      front_is = (let size : m.1 - m.0 ≡ length front = counts.size in (λ i. take (size i) (h.rows_are i)) ∙ take-append_seam front (own ++ back));
+      front_size = omega (arith, first_is, at_is, total);
+      front_is = (let size : m.1 - m.0 ≡ length front = omega (arith, first_is, at_is) in (λ i. take (size i) (h.rows_are i)) ∙ take-append_seam front (own ++ back));
     }
   where
     sizes : (a b : List Row) (k : ℕ) → k + length a + length b ≡ k + length (a ++ b)

@@ -14,7 +14,7 @@ use Rattle.yq_cut.specs.Offsets.{row_length}
 use Rattle.yq_cut.specs.Rows.{Row, rows_text, Part, part_text, Cut, last, marked}
 use Rattle.yq_cut.specs.Splices.{nth_part}
 use Rattle.yq_cut.specs.View.{Slices, slices, Bound, bounds_from, bounds_of, rows_of, RowsView, rows_view}
-use Rattle.yq_row_lines.specs.Extents.{bound_length}
+use Rattle.yq_lines.specs.Extents.{bound_length}
 use Rattle.yq_documents.specs.PartNumbers.{part_number, document_part, rows_to}
 use Rattle.yq_documents.proofs.PartNumberLaws.{document_found, document_missing, end_agrees}
 use Rattle.yq_row_places.specs.PlacedRows.{before_part, placed_at, placed_document}
@@ -23,7 +23,7 @@ use Rattle.yq_cut.specs.RowStarts.{part_end}
 use Rattle.yq_row_places.specs.RootReading.{if_rowless, rowless_place, rowless_at}
 use Rattle.yq_row_places.specs.Standings.{NoRows}
 use Rattle.yq_row_places.proofs.CommentPieceLaws.{gap_end}
-use Rattle.yq_row_lines.proofs.LengthLaws.{part-length}
+use Rattle.yq_lines.proofs.LengthLaws.{part-length}
 use Rattle.yq_row_places.proofs.PlacedPartLaws.{map_some, part_stands}
 use Rattle.yq_row_places.proofs.RemovalLines.{LineSeam, lies_in, seam_join}
 use Rattle.yq_row_places.proofs.RemovalViewLaws.{line_boundary}

@@ -12,21 +12,21 @@ use Rattle.yq_cut.specs.View.{Slices, slices, RowsView, rows_view}
 use Rattle.yq_documents.specs.Reading.{cut_of}
 use Rattle.yq_documents.specs.LinesInRows.{document_row}
 use Rattle.yq_row_places.specs.EntryReading.{before_line, line_begin}
-use Rattle.yq_row_lines.specs.Extents.{row_start}
+use Rattle.yq_lines.specs.Extents.{row_start}
 use Rattle.yq_row_places.specs.LineReading.{CutsLines, LinesIn, lines_between, lines_of}
 use Rattle.yq_row_places.specs.PlacedRows.{PlacedPart, placed_document}
 use Rattle.yq_row_places.specs.RootReading.{if_rowless, rowless_at, rowless_place}
 use Rattle.yq_row_places.specs.RowWalk.{document_rows}
 use Rattle.yq_row_places.specs.Standings.{NoRows, RowsOfEntry, alone, before_entry, behind_entry, block_root, is_alone, lone, no_rows, root, root_standing, standing_at}
 use Rattle.yq_row_places.specs.StandingReading.{IsRootOf, root_entry}
-use Rattle.yq_row_lines.specs.declared.line_position.Stretch.{Stretch}
+use Rattle.yq_lines.specs.declared.line_position.Stretch.{Stretch}
 use Rattle.yq_row_places.proofs.EntryRowLaws.{cut_in_two, first_at, pieces_at, stop_boundary, stop_is}
 use Rattle.yq_row_places.proofs.PlacedPartLaws.{placed_is}
 use Rattle.yq_row_places.proofs.PlacedRowLaws.{document_placed, part_of}
 use Rattle.yq_row_places.proofs.RowStarts.{line_begins}
 use Rattle.yq_row_places.proofs.SeamLaws.{line_boundary}
 use Rattle.yq_row_places.proofs.WalkDocuments.{Found}
-use Rattle.yq_row_lines.proofs.WalkRows.{rows_length}
+use Rattle.yq_lines.proofs.WalkRows.{rows_length}
 
 -- ---- documents without rows
 

@@ -21,16 +21,16 @@ use Rattle.yq_cut.proofs.seams.SeamLaws.{row_seam, plain_before}
 use Rattle.yq_documents.specs.Documents.{document_parts}
 use Rattle.yq_documents.specs.Reading.{mark_is_fit, content_is_fit, have_fit_keys, all_documents}
 use Rattle.yq_documents.specs.RowReading.{HasHead, from_head}
-use Rattle.yq_row_lines.specs.Extents.{head_place}
+use Rattle.yq_lines.specs.Extents.{head_place}
 use Rattle.yq_row_places.specs.RowWalk.{InCut}
-use Rattle.yq_row_lines.specs.RowWalk.{IsLine}
-use Rattle.yq_row_lines.specs.declared.line_position.Position.{Position}
-use Rattle.yq_row_lines.specs.declared.line_position.Stretch.{Stretch}
+use Rattle.yq_lines.specs.RowWalk.{IsLine}
+use Rattle.yq_lines.specs.declared.line_position.Position.{Position}
+use Rattle.yq_lines.specs.declared.line_position.Stretch.{Stretch}
 use Rattle.yq_documents.proofs.PartRows.{each}
 use Rattle.yq_row_places.proofs.HeadSpanLaws.{head_span, head_text}
 use Rattle.yq_row_places.proofs.WalkDocuments.{Found}
 use Rattle.yq_row_places.proofs.WalkNodes.{row_is as row_at, row_in_cut}
-use Rattle.yq_row_lines.proofs.WalkPositions.{located}
+use Rattle.yq_lines.proofs.WalkPositions.{located}
 
 -- the pieces of a row that is shown
 pub slices_are : (c : Cut) (s : RowsView) (i : ℕ) (x : Slices) (r : Row) → s ≡ rows_view c → slice_get s.rows i ≡ Some x → slice_get (rows_of c) i ≡ Some r → x ≡ slices r

@@ -7,8 +7,8 @@ use Rattle.yq_cut.specs.Rows.{Row, Part, Cut}
 use Rattle.yq_cut.specs.View.{Slices, slices, rows_of, RowsView, rows_view}
 use Rattle.yq_documents.specs.declared.path.Path.{Path}
 use Rattle.yq_documents.specs.Documents.{document_parts}
-use Rattle.yq_row_lines.specs.Extents.{row_start}
-use Rattle.yq_row_lines.specs.Lines.{lines_of}
+use Rattle.yq_lines.specs.Extents.{row_start}
+use Rattle.yq_lines.specs.Lines.{lines_of}
 use Rattle.yq_documents.specs.Located.{steps_of}
 use Rattle.yq_documents.specs.Pieces.{TextPiece, piece_span}
 use Rattle.yq_documents.specs.Reading.{cut_of}
@@ -17,7 +17,7 @@ use Rattle.yq_row_places.specs.RowWalk.{HasCut}
 use Rattle.yq_row_places.specs.RowLineReading.{Numbers, numbers}
 use Rattle.yq_documents.specs.LinesInRows.{RowLine, behind_one, row_line, row_line_of, row_line_at, document_row}
 use Rattle.yq_documents.proofs.PartRows.{part_begins}
-use Rattle.yq_row_lines.proofs.KnownLaws.{get_dropped, get_front}
+use Rattle.yq_lines.proofs.KnownLaws.{get_dropped, get_front}
 use Rattle.yq_lines.proofs.Values.{If}
 
 -- the row of a line

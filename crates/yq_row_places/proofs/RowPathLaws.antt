@@ -5,7 +5,7 @@ use Rattle.yq_flow_scalars.specs.Paths.{Step}
 use Rattle.yq_cut.specs.Rows.{Part}
 use Rattle.yq_lines.specs.Group.{group, level_or, is_fine}
 use Rattle.yq_lines.specs.Laws.{with_lines}
-use Rattle.yq_row_lines.specs.Lines.{lines_of}
+use Rattle.yq_lines.specs.Lines.{lines_of}
 use Rattle.yq_lines.specs.Outline.{Line, level, Outline, row, flatten, IsEven, end}
 use Rattle.yq_lines.specs.Places.{plug, FoundLine, find, Context, here, below, beside, lines_after}
 use Rattle.yq_documents.specs.Reading.{is_document}

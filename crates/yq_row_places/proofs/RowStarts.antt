@@ -1,5 +1,5 @@
 -- Where rows and their lines begin, by the pieces of rows.
-use Rattle.yq_row_lines.proofs.WalkLevels.{to_dash, last_is}
+use Rattle.yq_lines.proofs.WalkLevels.{to_dash, last_is}
 use Rattle.std.proofs.Common.{◌≡◌, ℕ, ◌+◌, ◌≤◌, length, Some, option_map, refl, sym, ap, ◌∙◌, length-append, rules}
 use Rattle.std.proofs.lemmas.List.{length-replicate}
 use Rattle.std.proofs.lemmas.Option.{slice_get-map}
@@ -7,8 +7,8 @@ use Rattle.std.specs.List.{slice_get}
 use Rattle.yq_cut.specs.Rows.{Row, Cut}
 use Rattle.yq_cut.specs.View.{Slices, slices, rows_of, rows_view}
 use Rattle.yq_row_places.specs.EntryReading.{before_line, ending, through_row, line_begin}
-use Rattle.yq_row_lines.specs.Extents.{row_start, front_length, head_place}
-use Rattle.yq_row_lines.proofs.LengthLaws.{head_agrees}
+use Rattle.yq_lines.specs.Extents.{row_start, front_length, head_place}
+use Rattle.yq_lines.proofs.LengthLaws.{head_agrees}
 use Rattle.yq_row_places.proofs.StartLaws.{start_agrees}
 
 -- where the head of a row stands, by where the row begins

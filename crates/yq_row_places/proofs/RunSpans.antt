@@ -12,9 +12,9 @@ use Rattle.yq_cut.specs.Rows as rows
 use Rattle.yq_cut.specs.Rows.{Content, Nothing, Inline, Block, dashes_text, mark_text, anchor_text, Row, rows_text, Part, Cut}
 use Rattle.yq_cut.specs.View.{anchor_cut, anchor_of, apart_of, content_cut, rows_of}
 use Rattle.yq_cut.proofs.PlaceLaws.{part_then}
-use Rattle.yq_row_lines.proofs.KnownLaws.{get_dropped}
+use Rattle.yq_lines.proofs.KnownLaws.{get_dropped}
 use Rattle.yq_row_places.specs.EntryReading.{before_line, through_row, lines_place, head_end, head_extent, line_head}
-use Rattle.yq_row_lines.specs.Lines.{head_of, lines_of}
+use Rattle.yq_lines.specs.Lines.{head_of, lines_of}
 use Rattle.yq_nodes.specs.Trees.{node_head}
 use Rattle.yq_row_places.specs.CommentReading.{before_row}
 use Rattle.yq_documents.specs.LinesInRows.{RowLine, row_line}

@@ -12,9 +12,9 @@ use Rattle.yq_cut.specs.Rows as rows
 use Rattle.yq_cut.specs.Rows.{Content, Nothing, Inline, Block, Row, dashes_text, print_row, rows_text, Cut}
 use Rattle.yq_cut.specs.View.{Slices, slices, colon_of, content_cut, last_dash, RowsView}
 use Rattle.yq_cut.proofs.seams.SeamLaws.{rows_text-append}
-use Rattle.yq_row_lines.specs.Lines.{mark_of}
+use Rattle.yq_lines.specs.Lines.{mark_of}
 use Rattle.yq_documents.specs.Reading.{cut_of}
-use Rattle.yq_row_lines.proofs.RowLaws.{colon_some}
+use Rattle.yq_lines.proofs.RowLaws.{colon_some}
 use Rattle.yq_row_places.specs.Standings.{RowsOfEntry, alone, before_entry, behind_entry, behind_mark, below, beside, block, compact, compact_in, entry_standing, held, is_alone, lone, rows_of_entry, standing_at, under}
 use Rattle.yq_row_places.specs.StandingReading.{AreRowsOf, IsEntryIn, numbers_at}
 use Rattle.yq_row_places.specs.StandingViews.{held_at, held_if_last}

@@ -7,9 +7,9 @@ use Rattle.yq_cut.specs.Exchange.{row_front, before_at, before_content}
 use Rattle.yq_cut.specs.Rows.{Row, rows_text, Cut, last, marked}
 use Rattle.yq_cut.specs.View.{Slices, slices, rows_of, rows_view}
 use Rattle.yq_cut.proofs.ExchangeLaws.{slice_front, slice_back}
-use Rattle.yq_row_lines.specs.Extents.{row_start, front_length, head_place}
+use Rattle.yq_lines.specs.Extents.{row_start, front_length, head_place}
 use Rattle.yq_row_places.specs.CommentReading.{before_row}
-use Rattle.yq_row_lines.proofs.LengthLaws.{part-length, front-length, head_agrees}
+use Rattle.yq_lines.proofs.LengthLaws.{part-length, front-length, head_agrees}
 use Rattle.yq_cut.proofs.SliceLaws.{print-length}
 
 -- the text before a row's content is that before the row, and the row's front

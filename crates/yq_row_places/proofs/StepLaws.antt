@@ -8,17 +8,17 @@ use Rattle.yq_lines.specs.Outline.{Mark, Bare, Key, Dash, Line, level, rank}
 use Rattle.yq_cut.specs.Rows as rows
 use Rattle.yq_cut.specs.Rows.{Content, Row, Cut}
 use Rattle.yq_cut.specs.View.{Slices, slices, RowsView}
-use Rattle.yq_row_lines.specs.Lines.{dash_line, lines_from, row_lines, lines_of}
-use Rattle.yq_row_lines.specs.Extents.{lines_before_mark}
-use Rattle.yq_row_lines.specs.RowWalk.{HasRows, line_level}
+use Rattle.yq_lines.specs.Lines.{dash_line, lines_from, row_lines, lines_of}
+use Rattle.yq_lines.specs.Extents.{lines_before_mark}
+use Rattle.yq_lines.specs.RowWalk.{HasRows, line_level}
 use Rattle.yq_row_places.specs.StepReading.{begins_under}
 use Rattle.yq_row_places.specs.Steps as spec
 use Rattle.yq_row_places.specs.Steps.{Steps, steps_in, steps_of_part, document_steps, is_key, is_kind, first_step}
-use Rattle.yq_row_lines.specs.declared.line_position.Stretch.{Stretch}
+use Rattle.yq_lines.specs.declared.line_position.Stretch.{Stretch}
 use Rattle.yq_lines.proofs.EndsLaws.{drop_at}
 use Rattle.yq_row_places.proofs.WalkDocuments.{Found}
-use Rattle.yq_row_lines.proofs.WalkLevels.{RowAgrees, line_in, level_is}
-use Rattle.yq_row_lines.proofs.WalkPositions.{Located, located}
+use Rattle.yq_lines.proofs.WalkLevels.{RowAgrees, line_in, level_is}
+use Rattle.yq_lines.proofs.WalkPositions.{Located, located}
 
 -- the step of the first collection that begins under a key, in lines behind one of a level
 abbrev pub step_behind : (dashes : Bool) → ℕ → List Line → ℕ

@@ -7,7 +7,7 @@ use Rattle.yq_nodes.specs.Nodes.{Items, item}
 use Rattle.yq_nodes.specs.Trees.{tree_of, items_tree, collection, with_name, node_head}
 use Rattle.yq_cut.specs.Rows.{Content}
 use Rattle.yq_lines.specs.Labelled.{Labelled, labelled_at, labelled_from}
-use Rattle.yq_row_lines.specs.Lines.{head_of}
+use Rattle.yq_lines.specs.Lines.{head_of}
 use Rattle.yq_lines.specs.Outline.{anchored}
 use Rattle.yq_lines.proofs.LabelPaths.{reach}
 use Rattle.yq_lines.proofs.Values.{If}

@@ -1,7 +1,7 @@
 -- The lines of rows behind other rows.
 use Rattle.std.proofs.Common.{◌≡◌, List, [], ◌∷◌, ◌++◌, refl, sym, ap, ◌∙◌, append_assoc}
 use Rattle.yq_cut.specs.Rows.{Row}
-use Rattle.yq_row_lines.specs.Lines.{row_lines, lines_of}
+use Rattle.yq_lines.specs.Lines.{row_lines, lines_of}
 use Rattle.yq_lines.specs.Outline.{Line}
 
 pub lines_append : (a b : List Row) → lines_of (a ++ b) ≡ lines_of a ++ lines_of b

@@ -11,17 +11,17 @@ use Rattle.yq_cut.specs.Rows.{Row, Part, Cut}
 use Rattle.yq_cut.specs.Splices.{nth_part}
 use Rattle.yq_cut.specs.View.{Bound, rows_of, RowsView, rows_view}
 use Rattle.yq_documents.specs.Documents.{document_parts}
-use Rattle.yq_row_lines.specs.Lines.{row_lines, lines_of}
+use Rattle.yq_lines.specs.Lines.{row_lines, lines_of}
 use Rattle.yq_documents.proofs.PartRows.{document_has, part_begins}
-use Rattle.yq_row_lines.proofs.RowLaws.{lines_count}
+use Rattle.yq_lines.proofs.RowLaws.{lines_count}
 use Rattle.yq_documents.specs.LinesInRows.{behind_one, row_line, row_line_of, row_line_at, document_row, RowLine, line_has_room, row_line_has_room}
 use Rattle.yq_documents.specs.PartNumbers.{document_part, rows_to}
 use Rattle.yq_documents.proofs.PartNumberLaws.{part_there, document_found, document_missing, end_agrees}
 use Rattle.yq_documents.specs.declared.path.Path.{Path}
 use Rattle.yq_documents.specs.Located.{steps_of}
 use Rattle.yq_documents.specs.Reading.{all_documents}
-use Rattle.yq_row_lines.specs.RowWalk.{HasDocument, stretch_view}
-use Rattle.yq_row_lines.specs.declared.line_position.Stretch.{Stretch}
+use Rattle.yq_lines.specs.RowWalk.{HasDocument, stretch_view}
+use Rattle.yq_lines.specs.declared.line_position.Stretch.{Stretch}
 use Rattle.yq_documents.specs.declared.path.Part.{Part as Place}
 use Rattle.yq_lines.specs.Comments as comments
 use Rattle.yq_row_places.specs.RowWalk.{InCut, document_rows}

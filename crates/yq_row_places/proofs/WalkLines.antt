@@ -4,19 +4,19 @@ use Rattle.std.specs.List.{slice_get}
 use Rattle.yq_flow_scalars.specs.Answers.{◌>>=◌}
 use Rattle.yq_cut.specs.Rows.{Row, Cut}
 use Rattle.yq_cut.specs.View.{Slices, slices, rows_of, RowsView}
-use Rattle.yq_row_lines.specs.Lines.{lines_of}
+use Rattle.yq_lines.specs.Lines.{lines_of}
 use Rattle.yq_documents.specs.LinesInRows.{RowLine, row_line}
 use Rattle.yq_row_places.specs.EntryReading.{before_line, through_row, lines_place, line_begin}
-use Rattle.yq_row_lines.specs.Extents.{row_start}
-use Rattle.yq_row_lines.specs.RowWalk.{HasRows, IsLine, AreLinesTo, line_number}
+use Rattle.yq_lines.specs.Extents.{row_start}
+use Rattle.yq_lines.specs.RowWalk.{HasRows, IsLine, AreLinesTo, line_number}
 use Rattle.yq_row_places.specs.RowWalk.{InCut}
-use Rattle.yq_row_lines.specs.declared.line_position.Position.{Position}
-use Rattle.yq_row_lines.specs.declared.line_position.Stretch.{Stretch}
+use Rattle.yq_lines.specs.declared.line_position.Position.{Position}
+use Rattle.yq_lines.specs.declared.line_position.Stretch.{Stretch}
 use Rattle.yq_row_places.proofs.RowStarts.{line_begins}
 use Rattle.yq_row_places.proofs.WalkDocuments.{row_line_number}
-use Rattle.yq_row_lines.proofs.WalkEnds.{lines_upto}
+use Rattle.yq_lines.proofs.WalkEnds.{lines_upto}
 use Rattle.yq_row_places.proofs.WalkNodes.{row_line_is, row_in_cut}
-use Rattle.yq_row_lines.proofs.WalkPositions.{located, position_line}
+use Rattle.yq_lines.proofs.WalkPositions.{located, position_line}
 
 -- the first of lines is one, where there are any
 first_line : (s : RowsView) (d : Stretch) (p q : Position) → AreLinesTo s d p q → p.row < q.row → IsLine s d p

@@ -16,12 +16,12 @@ use Rattle.yq_cut.specs.Rows.{Row, Cut}
 use Rattle.yq_cut.specs.View.{rows_of, RowsView}
 use Rattle.yq_documents.specs.LinesInRows.{RowLine, row_line}
 use Rattle.yq_row_places.specs.RowWalk.{InCut}
-use Rattle.yq_row_lines.specs.RowWalk.{IsLine, line_number, lines_stop}
-use Rattle.yq_row_lines.specs.declared.line_position.Position.{Position}
-use Rattle.yq_row_lines.specs.declared.line_position.Stretch.{Stretch}
+use Rattle.yq_lines.specs.RowWalk.{IsLine, line_number, lines_stop}
+use Rattle.yq_lines.specs.declared.line_position.Position.{Position}
+use Rattle.yq_lines.specs.declared.line_position.Stretch.{Stretch}
 use Rattle.yq_row_places.proofs.EntryPlaceLaws.{row_there}
 use Rattle.yq_row_places.proofs.WalkDocuments.{row_line_number}
-use Rattle.yq_row_lines.proofs.WalkPositions.{located}
+use Rattle.yq_lines.proofs.WalkPositions.{located}
 
 -- lines that are deeper than a level end where they begin exactly where there are none
 pub stops_here : (ls : List Line) (n floor : ℕ) → eqb n (lines_stop n floor ls) ≡ is_end (part ls n floor)

@@ -2,7 +2,7 @@
 use Rattle.std.specs.Prelude.{ℕ, ◌+◌, ◌-◌, ◌==◌, List, length, Option, Some, None, if◌then◌else◌, [], ◌++◌, nat_lt, take}
 use Rattle.yq_flow_scalars.specs.Text.{cut, front, ends_line, is_empty, joined, lines_of, no_white, past_white}
 use Rattle.yq_cut.specs.View.{Slices, slices}
-use Rattle.yq_row_lines.specs.Extents.{front_length}
+use Rattle.yq_lines.specs.Extents.{front_length}
 use Rattle.yq_row_places.specs.RowLineReading.{Numbers}
 use Rattle.yq_cut.specs.Exchange.{before_content, behind_row}
 use Rattle.yq_cut.specs.Rows.{Row, Cut, rows_text, part_text, last, marked, behind_gap}

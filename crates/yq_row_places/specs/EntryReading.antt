@@ -1,5 +1,5 @@
 -- Reading (own; a reader may skip it): where lines, entries and contents begin and end, by the rows of a text and their pieces, as the code counts.
-use Rattle.yq_row_lines.specs.Extents.{dash_at}
+use Rattle.yq_lines.specs.Extents.{dash_at, head_place}
 use Rattle.std.specs.Prelude.{ℕ, suc, ◌+◌, ◌-◌, ◌==◌, List, [], ◌∷◌, ◌++◌, length, replicate, slice_get, take, Option, Some, None, is_some, option_map, option_and_then, if◌then◌else◌}
 use Rattle.yq_flow_scalars.specs.Answers.{◌>>=◌}
 use Rattle.yq_flow_scalars.specs.Paths.{Step}
@@ -13,8 +13,7 @@ use Rattle.yq_cut.specs.View.{Slices, slices}
 use Rattle.yq_documents.specs.declared.path.Path.{Path}
 use Rattle.yq_row_places.specs.CommentReading.{before_tail, before_row}
 use Rattle.yq_documents.specs.Documents.{document_parts}
-use Rattle.yq_row_lines.specs.Extents.{head_place}
-use Rattle.yq_row_lines.specs.Lines.{tail_of, lines_of}
+use Rattle.yq_lines.specs.Lines.{tail_of, lines_of}
 use Rattle.yq_documents.specs.Located.{steps_of}
 use Rattle.yq_lines.specs.Ends.{line_of, reached, lines_end}
 use Rattle.yq_documents.specs.LinesInRows.{row_line, document_row}

@@ -7,7 +7,7 @@ use Rattle.yq_nodes.specs.Entries.{placed_entry_at, step_of}
 use Rattle.yq_nodes.specs.Nodes.{coll, node_text}
 use Rattle.yq_nodes.specs.View.{view}
 use Rattle.yq_cut.specs.Rows.{Part, Cut}
-use Rattle.yq_row_lines.specs.Lines.{lines_of}
+use Rattle.yq_lines.specs.Lines.{lines_of}
 use Rattle.yq_documents.specs.Documents.{document_parts}
 use Rattle.yq_row_places.specs.FlowNodes.{flow_collection}
 use Rattle.yq_row_places.specs.NodeReading.{head_at}

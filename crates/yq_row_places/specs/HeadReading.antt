@@ -4,9 +4,9 @@ use Rattle.yq_lines.specs.View.{head_flow, head_view}
 use Rattle.yq_cut.specs.Rows.{Row, Cut}
 use Rattle.yq_cut.specs.View.{slices}
 use Rattle.yq_documents.specs.FlowReading.{row_flow}
-use Rattle.yq_row_lines.specs.Lines.{head_of}
+use Rattle.yq_lines.specs.Lines.{head_of}
 use Rattle.yq_documents.specs.RowReading.{from_head}
-use Rattle.yq_row_lines.specs.Extents.{head_place}
+use Rattle.yq_lines.specs.Extents.{head_place}
 use Rattle.yq_row_places.specs.declared.places.row_head.RowHead.{RowHead}
 
 -- The head of row i, with the text from there to the end of the row, in which it has its places.

@@ -12,9 +12,9 @@ use Rattle.yq_lines.specs.Positions.{begins_with_node}
 use Rattle.yq_cut.specs.Rows.{Row}
 use Rattle.yq_cut.specs.View.{RowsView}
 use Rattle.yq_row_places.specs.NodesAt.{NodeAt, node_summary}
-use Rattle.yq_row_lines.specs.RowWalk.{IsLine, IsPosition, line_number, lines_stop}
+use Rattle.yq_lines.specs.RowWalk.{IsLine, IsPosition, line_number, lines_stop}
 use Rattle.yq_row_places.specs.declared.places.node_place.NodePlace as declared
-use Rattle.yq_row_lines.specs.declared.line_position.Stretch.{Stretch}
+use Rattle.yq_lines.specs.declared.line_position.Stretch.{Stretch}
 
 -- Where a node is written: in the head of a line, or on the lines from one on that are deeper than a level (8.2).
 pub data NodePlace : Type 0 where

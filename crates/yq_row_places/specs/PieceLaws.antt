@@ -5,14 +5,13 @@ use Rattle.yq_block_scalars.specs.Block.{BlockText, block_text, IsBlock}
 use Rattle.yq_block_scalars.specs.BlockContent.{block_content}
 use Rattle.yq_flow_scalars.specs.Tree as tree
 use Rattle.yq_nodes.specs.Nodes.{Key, key_text, Node, node_text, IsNode}
-use Rattle.yq_nodes.specs.Trees.{tree_of, inner, key_content}
+use Rattle.yq_nodes.specs.Trees.{tree_of, inner, key_content, node_anchor}
 use Rattle.yq_cut.specs.Rows.{Part as Rows, Cut}
 use Rattle.yq_documents.specs.declared.path.Part.{Part}
 use Rattle.yq_documents.specs.declared.path.Part.TheVariants.{Content, Entry}
 use Rattle.yq_documents.specs.declared.path.Path.{Path}
 use Rattle.yq_documents.specs.Documents.{document_parts}
-use Rattle.yq_row_lines.specs.Lines.{lines_of}
-use Rattle.yq_nodes.specs.Trees.{node_anchor}
+use Rattle.yq_lines.specs.Lines.{lines_of}
 use Rattle.yq_documents.specs.Located.{labelled_located, located}
 use Rattle.yq_lines.specs.Labelled.{Labelled}
 use Rattle.yq_lines.specs.Outline.{level, Outline, flatten, IsEven, anchored, value, label}

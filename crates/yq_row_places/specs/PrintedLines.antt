@@ -3,7 +3,7 @@ use Rattle.std.specs.Prelude.{ℕ, suc, ◌+◌, ◌&&◌, List, [], ◌∷◌, 
 use Rattle.yq_flow_scalars.specs.Text.{is_empty, is_feed, is_return}
 use Rattle.yq_cut.specs.Rows.{Content, Nothing, mark_text, content_text, Row, last}
 use Rattle.yq_cut.specs.View.{content_cut}
-use Rattle.yq_row_lines.specs.Lines.{mark_line, dash_line}
+use Rattle.yq_lines.specs.Lines.{mark_line, dash_line}
 use Rattle.yq_lines.specs.Outline.{Line}
 use Rattle.yq_lines.specs.Positions.{is_bare}
 use Rattle.yq_lines.specs.Comments as comments

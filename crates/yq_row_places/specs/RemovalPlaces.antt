@@ -10,7 +10,7 @@ use Rattle.yq_cut.specs.Rows.{Row, rows_text, Cut}
 use Rattle.yq_cut.specs.Splices.{behind_first, first_gap}
 use Rattle.yq_lines.specs.Counts.{count}
 use Rattle.yq_lines.specs.Ends.{line_of, lines_end}
-use Rattle.yq_row_lines.specs.Lines.{lines_of}
+use Rattle.yq_lines.specs.Lines.{lines_of}
 use Rattle.yq_documents.specs.Pieces.{before_run, last_run}
 use Rattle.yq_row_places.specs.PlacedRows.{PlacedPart, placed_document}
 use Rattle.yq_documents.specs.Reading.{documents}

@@ -5,7 +5,7 @@ use Rattle.yq_flow_scalars.specs.Characters.{is_text, text_limit}
 use Rattle.yq_flow_scalars.specs.Tree.{Node}
 use Rattle.yq_nodes.specs.Nodes as inline
 use Rattle.yq_cut.specs.Rows.{Content}
-use Rattle.yq_row_lines.specs.Lines.{content_anchor, head_of}
+use Rattle.yq_lines.specs.Lines.{content_anchor, head_of}
 use Rattle.yq_lines.specs.Outline.{anchored, head_or, null_node}
 
 -- the node that a row spells behind its mark; where nothing is written but perhaps an anchor, a null (7.2)

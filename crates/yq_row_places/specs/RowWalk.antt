@@ -10,12 +10,12 @@ use Rattle.yq_documents.specs.LinesInRows.{document_row}
 use Rattle.yq_nodes.specs.Entries.{step_of}
 use Rattle.yq_lines.specs.Ends.{reached}
 use Rattle.yq_flow_scalars.specs.Paths.{Step}
-use Rattle.yq_row_lines.specs.Lines.{lines_of}
-use Rattle.yq_row_lines.specs.RowWalk.{IsKnown, AreKnown, HasDocument, IsLine, line_number}
-use Rattle.yq_row_lines.specs.declared.line_position.KnownItem.{KnownItem}
-use Rattle.yq_row_lines.specs.declared.line_position.KnownItems.{KnownItems}
-use Rattle.yq_row_lines.specs.declared.line_position.Position.{Position}
-use Rattle.yq_row_lines.specs.declared.line_position.Stretch.{Stretch}
+use Rattle.yq_lines.specs.Lines.{lines_of}
+use Rattle.yq_lines.specs.RowWalk.{IsKnown, AreKnown, HasDocument, IsLine, line_number}
+use Rattle.yq_lines.specs.declared.line_position.KnownItem.{KnownItem}
+use Rattle.yq_lines.specs.declared.line_position.KnownItems.{KnownItems}
+use Rattle.yq_lines.specs.declared.line_position.Position.{Position}
+use Rattle.yq_lines.specs.declared.line_position.Stretch.{Stretch}
 use Rattle.yq_row_places.specs.declared.places.known_line.KnownLine.{KnownLine}
 
 -- An item stays known in each text in which the items of its cut stay that end in front of so many bytes.

@@ -11,7 +11,7 @@ use Rattle.yq_documents.specs.LinesInRows.{RowLine, document_row, row_line_of}
 use Rattle.yq_row_places.specs.PlacedRows.{PlacedPart, placed_document}
 use Rattle.yq_row_places.specs.Standings.{RowsOfEntry, under_count}
 use Rattle.yq_row_places.specs.declared.places.rows_of_entry.RowsOfEntry as declared
-use Rattle.yq_row_lines.specs.declared.line_position.Stretch.{Stretch}
+use Rattle.yq_lines.specs.declared.line_position.Stretch.{Stretch}
 
 -- how many rows stand before the first one, how many lines of that before the one of the key or dash and before that of its mark, and how
 -- many rows stand before what is behind

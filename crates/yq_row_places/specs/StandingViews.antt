@@ -9,8 +9,8 @@ use Rattle.yq_cut.specs.Seams.{is_block}
 use Rattle.yq_cut.specs.View.{slices}
 use Rattle.yq_documents.specs.LinesInRows.{document_row}
 use Rattle.yq_documents.specs.RowReading.{is_block_head}
-use Rattle.yq_row_lines.specs.Extents.{head_place, lines_before_mark}
-use Rattle.yq_row_lines.specs.declared.line_position.Position.{Position}
+use Rattle.yq_lines.specs.Extents.{head_place, lines_before_mark}
+use Rattle.yq_lines.specs.declared.line_position.Position.{Position}
 use Rattle.yq_row_places.specs.Standings.{Mark, Held, Lone, Compact, BlockRoot, NoRows, Standing, RowsOfEntry, alone, beside, under, compact, block, root, no_rows, held, rows_of_entry}
 use Rattle.yq_row_places.specs.declared.places.held.Held as declared_held
 use Rattle.yq_row_places.specs.declared.places.held_row.HeldRow as declared_row

@@ -9,14 +9,14 @@ use Rattle.yq_lines.specs.Positions.{is_bare}
 use Rattle.yq_cut.specs.Exchange.{row_front}
 use Rattle.yq_cut.specs.Rows.{Content, Nothing, Inline, Block, Cut, Row, behind_columns, behind_dashes, behind_indent, mark_column, print_row, rows_text}
 use Rattle.yq_cut.specs.View.{Slices, slices}
-use Rattle.yq_row_lines.specs.Lines.{mark_of}
+use Rattle.yq_lines.specs.Lines.{mark_of}
 use Rattle.yq_documents.specs.LinesInRows.{RowLine, row_line_of}
 use Rattle.yq_row_places.specs.CommentPlaces.{LineEnd, end_before}
 use Rattle.yq_row_places.specs.FlowNodes.{flow_collection}
 use Rattle.yq_row_places.specs.PlacedRows.{PlacedPart, placed_document}
 use Rattle.yq_row_places.specs.PrintedLines.{last_break, less_break}
 use Rattle.yq_row_places.specs.RowPieces.{anchor_before, past_dash, space_before, upto_dash}
-use Rattle.yq_row_lines.specs.RowWalk.{deeper_rows, line_level}
+use Rattle.yq_lines.specs.RowWalk.{deeper_rows, line_level}
 
 -- ---- the rows of an item or entry
 

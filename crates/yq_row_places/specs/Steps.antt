@@ -3,7 +3,7 @@ use Rattle.std.specs.Prelude.{ℕ, ◌-◌, ◌&&◌, nat_lt, List, [], ◌∷�
 use Rattle.yq_cut.specs.Rows.{Cut, Part}
 use Rattle.yq_lines.specs.Outline.{Mark, Bare, Key, Dash, Line, level}
 use Rattle.yq_documents.specs.Documents.{document_parts}
-use Rattle.yq_row_lines.specs.Lines.{lines_of}
+use Rattle.yq_lines.specs.Lines.{lines_of}
 
 -- a line begins with a key (8.2.2)
 abbrev pub is_key : Mark → Bool

@@ -1,3 +1,4 @@
 mod Colons
 mod Columns
 pub mod MeasuredSlicing
+pub mod MeasureSteps

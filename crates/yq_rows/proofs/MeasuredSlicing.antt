@@ -4,11 +4,11 @@ use Rattle.yq_flow_scalars.specs.Piece.{deeper}
 use Rattle.yq_flow_scalars.specs.declared.style.Style.{Style}
 use Rattle.yq_flow_scalars.specs.declared.style.Style.TheVariants as styles
 use Rattle.yq_nodes.specs.Inline.{depth_limit}
-use Rattle.yq_measuring.specs.Measured.{kind_of_style, measure, measured, is_nothing}
+use Rattle.yq_rows.specs.Measured.{kind_of_style, measure, measured, is_nothing}
 use Rattle.yq_nodes.specs.Places.{Placed, placed, nothing, name, text, sequence, mapping}
 use Rattle.yq_nodes.specs.PlacedReading.{placed_node}
-use Rattle.yq_measuring.specs.declared.measuring.NodeKind.{NodeKind}
-use Rattle.yq_measuring.proofs.MeasureSteps.{found, unread}
+use Rattle.yq_rows.specs.declared.measuring.NodeKind.{NodeKind}
+use Rattle.yq_rows.proofs.MeasureSteps.{found, unread}
 use Rattle.yq_cut.specs.Slicing.{nothing_placed, is_plain_style, plain_placed, inline_sliced}
 use Rattle.yq_rows.specs.ReadPieces.{is_plain_kind}
 use Rattle.yq_cut.proofs.InlineSlicing.{Read, node_read, inline_no_node}

@@ -1,7 +1,7 @@
 -- What the readers of rows give, as pieces of rows (own; a reader may skip it).
 use Rattle.std.specs.Prelude.{◌≡◌, ℕ, Bool, true, false, List, ◌++◌, Some}
-use Rattle.yq_measuring.specs.declared.measuring.NodeKind.{NodeKind}
-use Rattle.yq_measuring.specs.declared.measuring.NodeKind.TheVariants as kinds
+use Rattle.yq_rows.specs.declared.measuring.NodeKind.{NodeKind}
+use Rattle.yq_rows.specs.declared.measuring.NodeKind.TheVariants as kinds
 use Rattle.yq_nodes.specs.Places.{text}
 use Rattle.yq_cut.specs.Grammar.{Limit}
 use Rattle.yq_cut.specs.Rows.{Mark, Bare, Dash, Key}

@@ -2,7 +2,7 @@
 ghost use Rattle.std.specs.Option.{option_map};
 ghost use Rattle.std.specs.Prelude.{◌≡◌, ◌≢◌, ◌≤◌, ◌==◌, ◌||◌, ◌&&◌, not, length, true, false, IfErr};
 ghost use Rattle.yq_flow_scalars.specs.Answers.{Gives, IsOfText};
-ghost use Rattle.yq_measuring.specs.Measured as measured;
+ghost use Rattle.yq_rows.specs.Measured as measured;
 ghost use Rattle.yq_nodes.specs.Scalars as scalars;
 ghost use Rattle.yq_cut.specs.Slicing as slicing;
 ghost use Rattle.yq_rows.specs.ReadPieces.{is_plain_kind};
@@ -15,13 +15,13 @@ ghost use Rattle.yq_cut.specs.Reading as spec;
 use crate::fault::{block_fault, fault};
 use crate::gap::is_hash;
 use crate::marks::Mark;
+use crate::measuring::{Measured, NodeKind, measure_node};
 use crate::naming::{no_content, no_further_line, no_tail};
 use crate::words::{begins_word, read_front};
 use yq_flow_scalars::lines::split_line;
 use yq_flow_scalars::text::{ends_line, split_white};
 use yq_flow_scalars::{FaultKind, Place, ReadError, ReadFault, further_spaces};
 use yq_inline::pieces::{begins_scalar, name_len};
-use yq_measuring::measuring::{Measured, NodeKind, measure_node};
 use yq_nodes::{DEPTH_LIMIT, first_is, is_quoted, strip};
 use yq_scalar::read_block;
 

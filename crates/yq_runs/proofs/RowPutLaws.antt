@@ -11,7 +11,7 @@ use Rattle.yq_flow_scalars.specs.declared.style.Place.TheVariants.{Block as InBl
 use Rattle.yq_lines.specs.Outline.{anchored}
 use Rattle.yq_cut.specs.Rows.{Cut, cut_text, parent_indent, rows_text}
 use Rattle.yq_cut.specs.View.{slices}
-use Rattle.yq_row_lines.specs.Lines.{content_anchor, head_of}
+use Rattle.yq_lines.specs.Lines.{content_anchor, head_of}
 use Rattle.yq_documents.specs.Reading.{cut_of, read_at}
 use Rattle.yq_row_places.specs.CommentPlaces.{end_before}
 use Rattle.yq_row_places.specs.StandingViews.{IsHeldRow}
@@ -36,11 +36,11 @@ use Rattle.yq_edits.specs.Replacing.{is_kept}
 use Rattle.yq_edits.specs.RowChanges.{HoldsInline, inline_put}
 use Rattle.yq_edits.specs.WrittenValues.{value_text}
 use Rattle.yq_edits.proofs.HeldPieces.{held_spells}
-use Rattle.yq_block_edits.proofs.RowEditLaws.{row_edits}
-use Rattle.yq_flow_edits.proofs.CutLaws.{cut_read, text_read}
-use Rattle.yq_block_edits.proofs.HeldRows.{head_there, headless_there}
-use Rattle.yq_block_edits.proofs.InlineChangeLaws.{inline_values_change_rows}
-use Rattle.yq_block_edits.proofs.MarkHeads.{no_raw}
+use Rattle.yq_node_edits.proofs.RowEditLaws.{row_edits}
+use Rattle.yq_node_edits.proofs.CutLaws.{cut_read, text_read}
+use Rattle.yq_node_edits.proofs.HeldRows.{head_there, headless_there}
+use Rattle.yq_node_edits.proofs.InlineChangeLaws.{inline_values_change_rows}
+use Rattle.yq_node_edits.proofs.MarkHeads.{no_raw}
 use Rattle.yq_runs.specs.RowRuns.{IsWrittenSo, PutsInRow, PutsSo, PutsText, bytes_in, rows_still}
 use Rattle.yq_runs.specs.declared.in_rows.RowPut.{RowPut}
 use Rattle.yq_outcomes.proofs.EditsHold.{edit_is}

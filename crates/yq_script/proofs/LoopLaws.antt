@@ -1,5 +1,5 @@
 -- The segments so far and one more.
-use Rattle.std.proofs.Common.{◌≡◌, ℕ, ◌+◌, List, [], ◌∷◌, ◌++◌, ◌-◌, ◌≤◌, length, take, get_or, sym, ap, ◌∙◌, arith, rules}
+use Rattle.std.proofs.Common.{◌≡◌, ℕ, ◌+◌, List, [], ◌∷◌, ◌++◌, ◌-◌, ◌<◌, ◌≤◌, length, length-take-le, take, get_or, sym, ap, ◌∙◌, arith, rules, subst, String, Global}
 use Rattle.std.proofs.lemmas.List.{map-append, take_all, take_more}
 use Rattle.std.proofs.Common.{subst, String, Global}
 use Rattle.std.proofs.lemmas.Str.{IsUtf8-append}
@@ -13,6 +13,13 @@ use Rattle.yq_script.specs.declared.segment.Segment.{Segment as Held}
 use Rattle.yq_script.specs.declared.segment.Segment.TheVariants as held
 use Rattle.yq_script.proofs.BetweenLaws.{back_gives, to_last_put, last_stays}
 use Rattle.yq_script.proofs.KeptSegments.{back_last}
+
+-- those in front of the last one are fewer
+pub but_last_long : {A : Type 0} (xs : List A) → 1 ≤ length xs → length xs - 1 ≡ length (take (length xs - 1) xs)
+but_last_long xs some = sym (length-take-le (length xs - 1) xs (omega (arith, some)))
+
+pub but_last_fewer : {A : Type 0} (xs : List A) → 1 ≤ length xs → length (take (length xs - 1) xs) < length xs
+but_last_fewer xs some = omega (arith, some, but_last_long xs some)
 
 -- segments with the last one behind the others
 module _ (xs : List Held) (x d : Held) (some : 1 ≤ length xs) (is : x ≡ get_or xs (length xs - 1) d) where

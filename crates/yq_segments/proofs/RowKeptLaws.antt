@@ -20,7 +20,7 @@ use Rattle.yq_cut.specs.Grammar.{IsContent}
 use Rattle.yq_cut.specs.Rows.{Content, Nothing, Inline, Block, Cut, cut_text, parent_indent, rows_text}
 use Rattle.yq_cut.specs.Seams.{is_block}
 use Rattle.yq_cut.specs.View.{content_cut}
-use Rattle.yq_row_lines.specs.Lines.{content_anchor, head_of}
+use Rattle.yq_lines.specs.Lines.{content_anchor, head_of}
 use Rattle.yq_documents.specs.Reading.{content_is_fit, cut_of, read_at}
 use Rattle.yq_documents.specs.RowReading.{head_at, is_block_head, is_short_plain}
 use Rattle.yq_documents.proofs.HeadLaws.{fitting, head_is, head_text}

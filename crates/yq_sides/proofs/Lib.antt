@@ -3,4 +3,3 @@ pub mod BeginLaws
 pub mod CountLaws
 pub mod SideLaws
 pub mod BackLaws
-pub mod EndLaws

@@ -43,8 +43,7 @@ prefix P Q apart (o ∷ a) b [] d e last all = let x = last_found Q o a b (subst
 prefix P Q apart (o ∷ a) b (p ∷ c) d e last all =
     let same : o ≡ p = cc in
     let rest : a ++ b ≡ c ++ d = cc in
-    let h = prefix P Q apart a b c d rest (last_later P o a last) all in
-    record { more = h.more; first = λ i. sym same i ∷ h.first i; second = h.second }
+    search (rules, last_later, rest, same, prefix P Q apart a b c d rest (last_later P o a last) all)
 
 -- The two splits are one where the second part begins with a place that the other's first part has not.
 pub one_split : (P Q : declared.Offsets → Type 0) → ((o : declared.Offsets) → P o → Q o → ⊥) → (a b c d : List declared.Offsets) → a ++ b ≡ c ++ d → LastIs P a → FirstIs Q b → All P c → All Q d → a ≡ c

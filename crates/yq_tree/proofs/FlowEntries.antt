@@ -10,10 +10,10 @@ use Rattle.yq_cut.specs.Exchange.{behind_row}
 use Rattle.yq_cut.specs.Grammar.{IsCut}
 use Rattle.yq_cut.specs.Rows.{Row, cut_text}
 use Rattle.yq_cut.specs.View.{rows_of, RowsView, rows_view}
-use Rattle.yq_row_lines.specs.Lines.{lines_of}
-use Rattle.yq_row_lines.specs.RowWalk.{HasDocument, IsLine, line_number, stretch_view}
-use Rattle.yq_row_lines.specs.declared.line_position.Position.{Position}
-use Rattle.yq_row_lines.specs.declared.line_position.Stretch.{Stretch}
+use Rattle.yq_lines.specs.Lines.{lines_of}
+use Rattle.yq_lines.specs.RowWalk.{HasDocument, IsLine, line_number, stretch_view}
+use Rattle.yq_lines.specs.declared.line_position.Position.{Position}
+use Rattle.yq_lines.specs.declared.line_position.Stretch.{Stretch}
 use Rattle.yq_documents.specs.Documents.{document_parts}
 use Rattle.yq_documents.specs.FlowReading.{row_flow}
 use Rattle.yq_documents.specs.Reading.{all_documents, cut_of}

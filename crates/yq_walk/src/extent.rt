@@ -4,7 +4,7 @@ ghost use Rattle.yq_flow_scalars.specs.Characters.{text_limit};
 ghost use Rattle.yq_cut.specs.Offsets.{row_length};
 ghost use Rattle.yq_cut.specs.Rows.{Cut, Row as RowOf};
 ghost use Rattle.yq_cut.specs.View.{rows_of, rows_view, view, Slices};
-ghost use Rattle.yq_row_lines.specs.Extents as spec;
+ghost use Rattle.yq_lines.specs.Extents as spec;
 
 use yq_cut::{Row, Rows};
 
@@ -97,7 +97,7 @@ pub fn lines_before_mark(rows: &Rows<'_>, i: usize) -> usize
 }
 
 /// How far it is to the dash before which so many others stand, or to the end, in bytes.
-#[tactic(auto, unfolding(yq_row_lines::specs::Extents::dash_at))]
+#[tactic(auto, unfolding(yq_lines::specs::Extents::dash_at))]
 pub fn dash_at(dashes: &[u8], count: usize) -> usize
     ensures value { result ≡ spec.dash_at count dashes.now }
     ensures within { result ≤ length dashes.now }

@@ -1,12 +1,12 @@
 //! The item of a row, counted from one that is known.
 ghost use Rattle.std.specs.Prelude.{◌≡◌, ◌<◌, ◌≤◌, ◌+◌, length, IfSome, if◌then◌else◌};
-ghost use Rattle.yq_row_lines.specs.Extents.{IsRowsView};
-ghost use Rattle.yq_row_lines.specs.RowWalk.{AreKnown, HasDocument, IsKnown};
+ghost use Rattle.yq_lines.specs.Extents.{IsRowsView};
+ghost use Rattle.yq_lines.specs.RowWalk.{AreKnown, HasDocument, IsKnown};
 
 use crate::known_item::known_among;
 use crate::position::level_at;
 use yq_cut::Rows;
-use yq_row_lines::{KnownItem, KnownItems, Position, Stretch};
+use yq_lines::{KnownItem, KnownItems, Position, Stretch};
 
 /// The first item among the lines from one on that are deeper than a level, as one that is known.
 pub fn first_known(rows: &Rows<'_>, under: Position, floor: usize) -> Option<KnownItem>

@@ -1,11 +1,11 @@
 //! Items and entries that are known, from which a walk over the rows of a collection goes on.
 ghost use Rattle.std.specs.Prelude.{◌≡◌, ◌<◌, ◌≤◌, ◌+◌, length, IfSome, IsTrue};
-ghost use Rattle.yq_row_lines.specs.Extents.{IsRowsView};
-ghost use Rattle.yq_row_lines.specs.RowWalk.{AreKnown, GoesOn, HasDocument, IsKnownIn, IsKnown, IsPosition};
+ghost use Rattle.yq_lines.specs.Extents.{IsRowsView};
+ghost use Rattle.yq_lines.specs.RowWalk.{AreKnown, GoesOn, HasDocument, IsKnownIn, IsKnown, IsPosition};
 
 use crate::position::level_at;
 use yq_cut::Rows;
-use yq_row_lines::{KnownItem, KnownItems, Position, Stretch};
+use yq_lines::{KnownItem, KnownItems, Position, Stretch};
 
 /// Whether an item is known among the lines from one on that are deeper than a level.
 #[inline(always)]

@@ -1,15 +1,15 @@
 //! The entry of a key, looked for on both sides of an entry that is known.
 ghost use Rattle.std.specs.Prelude.{◌<◌, ◌≤◌, length, IfSome, Some};
 ghost use Rattle.yq_flow_scalars.specs.Paths as steps;
-ghost use Rattle.yq_row_lines.specs.Extents.{IsRowsView};
-ghost use Rattle.yq_row_lines.specs.RowWalk.{AreKnown, Finds, HasDocument, HaveKeys, IsKnownIn, IsKnown, IsLine, IsPosition};
+ghost use Rattle.yq_lines.specs.Extents.{IsRowsView};
+ghost use Rattle.yq_lines.specs.RowWalk.{AreKnown, Finds, HasDocument, HaveKeys, IsKnownIn, IsKnown, IsLine, IsPosition};
 
 use crate::known_count::counted;
 use crate::known_item::{item_before, known_among};
 use crate::position::level_at;
 use crate::position_marks::is_key;
 use yq_cut::Rows;
-use yq_row_lines::{KnownItem, KnownItems, Position, Stretch};
+use yq_lines::{KnownItem, KnownItems, Position, Stretch};
 
 /// The item behind one that is known, before the row where a document ends.
 fn item_behind(rows: &Rows<'_>, known: KnownItem, end: usize) -> Option<KnownItem>

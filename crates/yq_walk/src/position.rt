@@ -3,16 +3,16 @@ ghost use Rattle.std.specs.Prelude.{◌≡◌, ◌<◌, ◌≤◌, ◌+◌, ◌-
 ghost use Rattle.yq_lines.specs.Ends.{IsEndOf, is_end, part};
 ghost use Rattle.yq_lines.specs.Outline.{level};
 ghost use Rattle.yq_cut.specs.View.{view, Slices};
-ghost use Rattle.yq_row_lines.specs.Lines.{lines_of};
+ghost use Rattle.yq_lines.specs.Lines.{lines_of};
 ghost use Rattle.yq_flow_scalars.specs.Characters.{text_limit};
-ghost use Rattle.yq_row_lines.specs.Extents as extents;
-ghost use Rattle.yq_row_lines.specs.Extents.{IsRowsView};
-ghost use Rattle.yq_row_lines.specs.RowWalk as spec;
-ghost use Rattle.yq_row_lines.specs.RowWalk.{HasRows, IsLine, IsPosition};
+ghost use Rattle.yq_lines.specs.Extents as extents;
+ghost use Rattle.yq_lines.specs.Extents.{IsRowsView};
+ghost use Rattle.yq_lines.specs.RowWalk as spec;
+ghost use Rattle.yq_lines.specs.RowWalk.{HasRows, IsLine, IsPosition};
 
 use crate::extent::{dash_at, lines_before_mark};
 use yq_cut::{Row, Rows};
-use yq_row_lines::{Position, Stretch};
+use yq_lines::{Position, Stretch};
 
 /// The column of a line of a row.
 pub fn line_column(row: &Row<'_>, line: usize) -> usize

@@ -2,16 +2,16 @@
 ghost use Rattle.std.specs.Prelude.{IfSome};
 ghost use Rattle.yq_nodes.specs.Entries.{step_of};
 ghost use Rattle.yq_flow_scalars.specs.Paths as steps;
-ghost use Rattle.yq_row_lines.specs.Extents.{IsRowsView};
-ghost use Rattle.yq_row_lines.specs.RowWalk.{AreKnown, Finds, HasDocument, HaveKeys, IsLine, IsPosition};
+ghost use Rattle.yq_lines.specs.Extents.{IsRowsView};
+ghost use Rattle.yq_lines.specs.RowWalk.{AreKnown, Finds, HasDocument, HaveKeys, IsLine, IsPosition};
 
 use crate::known_item::walk_begin;
 use crate::known_key::key_near;
 use crate::position::{behind, is_deeper};
 use crate::position_marks::{is_item_at, is_key};
 use yq_cut::Rows;
+use yq_lines::{KnownItems, Position, Stretch};
 use yq_nodes::Step;
-use yq_row_lines::{KnownItems, Position, Stretch};
 
 /// The line of a key's entry among the lines of a document from one on that are deeper than a level.
 pub fn find_key(

@@ -3,14 +3,14 @@ ghost use Rattle.std.specs.Prelude.{◌≡◌, ◌&&◌, is_some, nat_eq};
 ghost use Rattle.yq_lines.specs.Outline as outline;
 ghost use Rattle.yq_lines.specs.Positions as positions;
 ghost use Rattle.yq_flow_scalars.specs.Paths as steps;
-ghost use Rattle.yq_row_lines.specs.Extents.{IsRowsView};
-ghost use Rattle.yq_row_lines.specs.RowWalk.{HasRows, IsLine, OfLine};
+ghost use Rattle.yq_lines.specs.Extents.{IsRowsView};
+ghost use Rattle.yq_lines.specs.RowWalk.{HasRows, IsLine, OfLine};
 
 use crate::extent::lines_before_mark;
 use crate::position::rank_at;
 use crate::written_key::is_written;
 use yq_cut::Rows;
-use yq_row_lines::{Position, Stretch};
+use yq_lines::{Position, Stretch};
 
 /// Whether a line is a node itself.
 #[inline(always)]

@@ -3,17 +3,17 @@ ghost use Rattle.std.specs.Prelude.{◌≡◌, ◌∷◌, map, option_map, IfSom
 ghost use Rattle.yq_nodes.specs.Entries.{step_of};
 ghost use Rattle.yq_lines.specs.Ends.{line_of, part, reached};
 ghost use Rattle.yq_lines.specs.Positions as positions;
-ghost use Rattle.yq_row_lines.specs.Lines.{lines_of};
-ghost use Rattle.yq_row_lines.specs.Extents.{IsRowsView};
-ghost use Rattle.yq_row_lines.specs.RowWalk as spec;
-ghost use Rattle.yq_row_lines.specs.RowWalk.{AreKnown, HasDocument, HasRows, HaveKeys, IsLine, IsPosition, LeadsTo, line_number};
+ghost use Rattle.yq_lines.specs.Lines.{lines_of};
+ghost use Rattle.yq_lines.specs.Extents.{IsRowsView};
+ghost use Rattle.yq_lines.specs.RowWalk as spec;
+ghost use Rattle.yq_lines.specs.RowWalk.{AreKnown, HasDocument, HasRows, HaveKeys, IsLine, IsPosition, LeadsTo, line_number};
 
 use crate::position::{is_deeper, level_at, next};
 use crate::position_find::find_step;
 use crate::position_marks::{has_head, is_bare};
 use yq_cut::Rows;
+use yq_lines::{KnownItems, Next, Position, Stretch};
 use yq_nodes::Step;
-use yq_row_lines::{KnownItems, Next, Position, Stretch};
 
 /// Whether the first of the lines from one on that are deeper than a level is a node itself.
 #[inline(always)]

@@ -11,7 +11,7 @@ use Rattle.clap.specs.Takes.{is_given, takes}
 use Rattle.clap.specs.Walk.{Row, Rule, Text, answers_to, first_of, nothing_held, rows_after, walk_from, walked}
 use Rattle.clap.proofs.OnLiterals.{clap_on_literals}
 use Rattle.clap.proofs.WalkLemmas.{both}
-use Rattle.yq_usage.specs.CommandWords.{command_words, is_command_word}
+use Rattle.yq_line.specs.CommandWords.{command_words, is_command_word}
 use Rattle.yq_line.specs.Asked.{checks, count_in, WordsRefused, IsNotTaken, finds, full_words, name_fits, names_fit, words_fit}
 use Rattle.yq_line.specs.Line.{yq, four_commands, two_commands}
 use Rattle.yq_line.specs.declared.command.Command.{Command}

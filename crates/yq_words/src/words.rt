@@ -8,8 +8,7 @@ ghost use Rattle.yq_line.specs.Line.{yq};
 
 use clap::error::ErrorKind;
 use std::alloc::{AllocError, Global};
-use yq_line::{Command, WordsError, command_in, matched};
-use yq_usage::{UsageCause, split_command};
+use yq_line::{Command, UsageCause, WordsError, command_in, matched, split_command};
 
 /// The words as `clap` reads them.
 fn full_words<'a>(alloc: Global, words: &[&'a str]) -> Result<Vec<&'a str>, AllocError>

@@ -5,9 +5,9 @@ use crate::journal::PORT;
 use crate::journal::called::{Call, Opened, called};
 use std::alloc::{AllocError, Global};
 use std::test::Fail;
+use yq_document_calls::all_memory;
 use yq_journal::Journal;
 use yq_records::JournalError;
-use yq_text_calls::all_memory;
 
 /// A journal: its cursor, its open move, and its records.
 type State = (&'static str, &'static str, &'static str);

@@ -3,9 +3,9 @@
 use super::worked::{ROWS, Row, are_spliced};
 use std::alloc::{AllocError, Global};
 use std::test::Fail;
+use yq_document_calls::all_memory;
 use yq_expr::{Match, Program, Value, matches, parse_expr};
 use yq_splice::{EditError, Edited, edit, print};
-use yq_text_calls::all_memory;
 use yq_tree::read;
 
 /// With memory for so many more growths, the answer is want of memory, and then the edit: none where less

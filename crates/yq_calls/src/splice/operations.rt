@@ -6,10 +6,10 @@ ghost use Rattle.yq_outcomes.specs.Theorems.{IsApplied, IsFitting};
 use super::texts::has_text;
 use std::alloc::Global;
 use std::test::Fail;
+use yq_document_calls::all_memory;
 use yq_expr::Op;
 use yq_flow_scalars::ReadError;
 use yq_splice::{EditError, Edited, Session, Splice, apply_op};
-use yq_text_calls::all_memory;
 
 /// An operation applied by itself, behind answers that memory is wanting.
 pub(super) fn by_itself(alloc: Global, text: &str, op: &Op) -> Result<Edited, Fail>

@@ -19,9 +19,8 @@ use crate::nodes::body::Body;
 use crate::nodes::node::Written;
 use yq_documents::{ReadText, anchor_name, decoded_key, head_decoded};
 use yq_flow_scalars::{Kind, resolve};
-use yq_lines::{Head, between_quotes};
+use yq_lines::{Head, Position, between_quotes};
 use yq_nodes::is_quoted;
-use yq_row_lines::Position;
 use yq_walk::{has_head, lines_before_mark, rank_at};
 
 /// The kind and the text of a plain scalar on one line.

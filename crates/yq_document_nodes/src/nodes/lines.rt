@@ -11,7 +11,7 @@ ghost use Rattle.yq_documents.specs.Stretches.{IsLineIn, OfLineIn, count_from, l
 
 use crate::nodes::under::Under;
 use yq_documents::ReadText;
-use yq_row_lines::Position;
+use yq_lines::Position;
 use yq_walk::{is_bare, is_deeper, is_item_at, level_at, next};
 
 /// Whether there are lines.

@@ -23,8 +23,8 @@ use crate::nodes::node_lines::{line_node, lines_node};
 use crate::nodes::under::Under;
 use yq_documents::{ReadText, node_refers};
 use yq_flow_scalars::Kind;
+use yq_lines::Position;
 use yq_nodes::Inline;
-use yq_row_lines::Position;
 
 /// What a node is.
 #[derive(Clone, Copy, PartialEq, Eq)]

@@ -13,7 +13,7 @@ use crate::nodes::heads::{line_anchor, line_head};
 use crate::nodes::lines::{begins_item, begins_node, has_lines, under_line};
 use crate::nodes::under::Under;
 use yq_documents::ReadText;
-use yq_row_lines::Position;
+use yq_lines::Position;
 
 /// The node that lines stand for, behind an anchor. A node on a line of its own is that line's, with
 /// the first anchor before it.

@@ -13,8 +13,8 @@ use crate::nodes::children::Rest;
 use crate::nodes::flow::{entry_at, item_at};
 use crate::nodes::node::Node;
 use crate::nodes::under::Under;
+use yq_lines::KnownItems;
 use yq_nodes::Step;
-use yq_row_lines::KnownItems;
 use yq_walk::{find_item, find_key};
 
 /// The entry of a key among those of lines.

@@ -4,7 +4,7 @@ ghost use Rattle.yq_documents.specs.Reading.{documents_of};
 ghost use Rattle.yq_documents.specs.Stretches.{IsPositionIn};
 
 use yq_documents::ReadText;
-use yq_row_lines::Position;
+use yq_lines::Position;
 
 /// The lines of a document from one on that are deeper than a level.
 #[derive(Clone, Copy)]

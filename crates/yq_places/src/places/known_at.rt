@@ -5,7 +5,7 @@ ghost use Rattle.yq_row_places.specs.RowWalk.{StayKnown};
 
 use crate::cut_text::CutText;
 use yq_documents::Path;
-use yq_row_lines::KnownItems;
+use yq_lines::KnownItems;
 use yq_row_places::{if_in_front, known_along, known_end, line_known, with_item};
 
 impl<'d, 't> CutText<'d, 't> {

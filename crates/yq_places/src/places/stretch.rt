@@ -3,12 +3,12 @@ ghost use Rattle.std.specs.Prelude.{◌≡◌, ◌-◌, option_map, true};
 ghost use Rattle.yq_documents.specs.Reading.{all_documents, cut_of};
 ghost use Rattle.yq_documents.specs.LinesInRows.{document_row, row_line_at};
 ghost use Rattle.yq_row_places.specs.RowWalk as spec;
-ghost use Rattle.yq_row_lines.specs.RowWalk.{stretch_view};
+ghost use Rattle.yq_lines.specs.RowWalk.{stretch_view};
 ghost use Rattle.yq_row_places.specs.RowLineReading.{numbers, line_view};
 
 use crate::cut_text::CutText;
 use yq_documents::{Path, document_part, rows_to};
-use yq_row_lines::Stretch;
+use yq_lines::Stretch;
 use yq_row_places::{RowLine, row_line_along};
 
 impl<'d, 't> CutText<'d, 't> {

@@ -3,9 +3,9 @@ ghost use Rattle.std.specs.Prelude.{◌≡◌, ◌<◌, ◌≤◌, ◌+◌, leng
 ghost use Rattle.yq_flow_scalars.specs.Characters.{text_limit};
 ghost use Rattle.yq_cut.specs.View.{Slices};
 ghost use Rattle.yq_row_places.specs.CommentReading as spec;
-ghost use Rattle.yq_row_lines.specs.Extents as extents;
+ghost use Rattle.yq_lines.specs.Extents as extents;
 ghost use Rattle.yq_documents.specs.Pieces.{span};
-ghost use Rattle.yq_row_lines.specs.Extents.{IsRowsView};
+ghost use Rattle.yq_lines.specs.Extents.{IsRowsView};
 ghost use Rattle.yq_row_places.specs.RowLineReading.{line_view};
 
 use crate::places::stretch::RowLine;

@@ -2,10 +2,10 @@
 ghost use Rattle.std.specs.Prelude.{◌≡◌, map, option_map};
 ghost use Rattle.yq_nodes.specs.Entries.{step_of};
 ghost use Rattle.yq_row_places.specs.EntryReading as spec;
-ghost use Rattle.yq_row_lines.specs.Extents.{IsRowsView};
-ghost use Rattle.yq_row_lines.specs.RowWalk.{AreKnown, HasDocument, IsPosition, lines_stop};
+ghost use Rattle.yq_lines.specs.Extents.{IsRowsView};
+ghost use Rattle.yq_lines.specs.RowWalk.{AreKnown, HasDocument, IsPosition, lines_stop};
 ghost use Rattle.yq_row_places.specs.RowWalk.{InEach};
-ghost use Rattle.yq_row_lines.specs.Lines.{lines_of};
+ghost use Rattle.yq_lines.specs.Lines.{lines_of};
 ghost use Rattle.yq_documents.specs.Pieces.{span};
 
 use crate::places::entry_place::lines_place;
@@ -14,8 +14,8 @@ use crate::places::node_place::{NodePlace, node_place};
 use crate::places::row_place::head_extent;
 use yq_cut::Rows;
 use yq_documents::Span;
+use yq_lines::{KnownItems, Position, Stretch};
 use yq_nodes::Step;
-use yq_row_lines::{KnownItems, Position, Stretch};
 use yq_walk::{is_bare, is_deeper};
 
 /// The place of the node for which the lines stand, from one on, that are deeper than a level.

@@ -2,16 +2,16 @@
 ghost use Rattle.std.specs.Prelude.{◌≡◌, ◌<◌, ◌-◌, map, option_map, Some};
 ghost use Rattle.yq_nodes.specs.Entries.{step_of};
 ghost use Rattle.yq_row_places.specs.EntryReading as spec;
-ghost use Rattle.yq_row_lines.specs.Extents.{IsRowsView};
-ghost use Rattle.yq_row_lines.specs.RowWalk.{AreKnown, AreLinesTo, HasDocument};
+ghost use Rattle.yq_lines.specs.Extents.{IsRowsView};
+ghost use Rattle.yq_lines.specs.RowWalk.{AreKnown, AreLinesTo, HasDocument};
 ghost use Rattle.yq_row_places.specs.RowWalk.{InEach};
 ghost use Rattle.yq_documents.specs.Pieces.{span};
 
 use crate::places::row_place::{line_start, row_end};
 use yq_cut::Rows;
 use yq_documents::Span;
+use yq_lines::{KnownItems, Position, Stretch};
 use yq_nodes::Step;
-use yq_row_lines::{KnownItems, Position, Stretch};
 use yq_walk::{behind, line_at};
 
 /// The place from the beginning of a line of a document to the end of the last row before another one.

@@ -15,7 +15,7 @@ use crate::places::row_place::{line_start, row_stop};
 use crate::places::rows_of_entry::RowsOfEntry;
 use crate::places::standing::{Compact, Lone, Standing};
 use yq_cut::{Row, Rows};
-use yq_row_lines::Position;
+use yq_lines::Position;
 use yq_text::Halves;
 use yq_walk::{head_place, line_column};
 

@@ -4,7 +4,7 @@ ghost use Rattle.yq_text.specs.Halves.{whole};
 ghost use Rattle.yq_flow_scalars.specs.Characters.{text_limit};
 ghost use Rattle.yq_flow_scalars.specs.Text.{is_empty};
 ghost use Rattle.yq_cut.specs.View.{view};
-ghost use Rattle.yq_row_lines.specs.RowWalk.{line_column};
+ghost use Rattle.yq_lines.specs.RowWalk.{line_column};
 ghost use Rattle.yq_row_places.specs.RowPieces as pieces;
 ghost use Rattle.yq_row_places.specs.Standings as spec;
 ghost use Rattle.yq_row_places.specs.StandingReading.{HasEntry, IsEntryIn};

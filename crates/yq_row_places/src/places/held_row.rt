@@ -4,7 +4,7 @@ ghost use Rattle.yq_flow_scalars.specs.Text.{is_empty};
 ghost use Rattle.yq_cut.specs.Rows.{Cut, Row as RowOf};
 ghost use Rattle.yq_cut.specs.View.{rows_of, rows_view};
 ghost use Rattle.yq_documents.specs.RowReading.{is_block_head};
-ghost use Rattle.yq_row_lines.specs.Extents.{IsRowsView};
+ghost use Rattle.yq_lines.specs.Extents.{IsRowsView};
 ghost use Rattle.yq_row_places.specs.CommentPlaces.{end_before};
 ghost use Rattle.yq_row_places.specs.StandingViews as row_agrees;
 
@@ -12,7 +12,7 @@ use yq_cut::Rows;
 use yq_documents::is_block_head;
 use yq_flow_scalars::lines::split_at_break;
 use yq_flow_scalars::text::split_white;
-use yq_row_lines::Position;
+use yq_lines::Position;
 use yq_walk::{front_len, lines_before_mark};
 
 /// A key or dash of a text whose line is the last one of its row, with what that row holds behind it.

@@ -3,14 +3,14 @@ ghost use Rattle.std.specs.Prelude.{◌≡◌, map, IfSome};
 ghost use Rattle.yq_nodes.specs.Entries.{step_of};
 ghost use Rattle.yq_cut.specs.Rows.{Cut};
 ghost use Rattle.yq_cut.specs.View.{rows_view};
-ghost use Rattle.yq_row_lines.specs.Extents.{IsRowsView};
-ghost use Rattle.yq_row_lines.specs.RowWalk.{AreKnown, HasDocument, IsKnown, IsLine};
+ghost use Rattle.yq_lines.specs.Extents.{IsRowsView};
+ghost use Rattle.yq_lines.specs.RowWalk.{AreKnown, HasDocument, IsKnown, IsLine};
 ghost use Rattle.yq_row_places.specs.RowWalk.{IsKnownLine, IsLineAt, StaysKnown};
 
 use crate::places::known_line::KnownLine;
 use yq_cut::Rows;
+use yq_lines::{KnownItem, KnownItems, Next, Position, Stretch};
 use yq_nodes::Step;
-use yq_row_lines::{KnownItem, KnownItems, Next, Position, Stretch};
 use yq_walk::{item_before, known_to, level_at, next, next_at};
 
 /// How many rows a walk passes that goes on from an item.

@@ -1,16 +1,16 @@
 //! The end of a collection, looked for from an item that is known.
 ghost use Rattle.std.specs.Prelude.{◌≡◌, ◌⊎◌, ◌<◌, ◌≤◌, ◌+◌, length, IfSome};
 ghost use Rattle.yq_lines.specs.Outline.{level};
-ghost use Rattle.yq_row_lines.specs.Extents.{IsRowsView};
-ghost use Rattle.yq_row_lines.specs.RowWalk as spec;
-ghost use Rattle.yq_row_lines.specs.RowWalk.{AreKnown, HasDocument, IsKnown, IsLine, IsPosition, OfLine, OfLines, lines_stop};
+ghost use Rattle.yq_lines.specs.Extents.{IsRowsView};
+ghost use Rattle.yq_lines.specs.RowWalk as spec;
+ghost use Rattle.yq_lines.specs.RowWalk.{AreKnown, HasDocument, IsKnown, IsLine, IsPosition, OfLine, OfLines, lines_stop};
 ghost use Rattle.yq_row_places.specs.RowWalk.{IsKnownLine};
 
 use crate::places::known_line::KnownLine;
 use crate::places::node_place::{NodePlace, node_place};
 use yq_cut::Rows;
+use yq_lines::{KnownItem, KnownItems, Position, Stretch};
 use yq_nodes::Step;
-use yq_row_lines::{KnownItem, KnownItems, Position, Stretch};
 use yq_walk::{counted, first_known, known_among, level_at, rows_under};
 
 /// The row from which on the end is looked for, behind a line, of lines that are deeper than a level, of which

@@ -2,14 +2,14 @@
 ghost use Rattle.std.specs.Prelude.{◌≡◌, map, option_map, IfSome, IsTrue};
 ghost use Rattle.yq_nodes.specs.Entries.{step_of};
 ghost use Rattle.yq_lines.specs.Ends.{line_of, reached};
-ghost use Rattle.yq_row_lines.specs.Lines.{lines_of};
-ghost use Rattle.yq_row_lines.specs.Extents.{IsRowsView};
-ghost use Rattle.yq_row_lines.specs.RowWalk.{AreKnown, HasDocument, IsLine, line_number, reached_view};
+ghost use Rattle.yq_lines.specs.Lines.{lines_of};
+ghost use Rattle.yq_lines.specs.Extents.{IsRowsView};
+ghost use Rattle.yq_lines.specs.RowWalk.{AreKnown, HasDocument, IsLine, line_number, reached_view};
 ghost use Rattle.yq_row_places.specs.RowWalk.{IsKnownLine, IsLineAt};
 
 use yq_cut::Rows;
+use yq_lines::{KnownItems, Position, Stretch};
 use yq_nodes::Step;
-use yq_row_lines::{KnownItems, Position, Stretch};
 use yq_walk::{line_at, reach};
 
 /// The line to which all steps of a path lead in a document.

@@ -7,19 +7,18 @@ ghost use Rattle.yq_lines.specs.Ends.{part};
 ghost use Rattle.yq_lines.specs.Outline.{value};
 ghost use Rattle.yq_lines.specs.Positions.{begins_with_node};
 ghost use Rattle.yq_lines.specs.View.{head_view};
-ghost use Rattle.yq_row_lines.specs.Lines.{lines_of};
-ghost use Rattle.yq_row_lines.specs.Extents.{IsRowsView};
+ghost use Rattle.yq_lines.specs.Lines.{lines_of};
+ghost use Rattle.yq_lines.specs.Extents.{IsRowsView};
 ghost use Rattle.yq_row_places.specs.NodeReading as reading;
 ghost use Rattle.yq_row_places.specs.NodesAt as spec;
-ghost use Rattle.yq_row_lines.specs.RowWalk.{HasRows, IsPosition, line_number};
+ghost use Rattle.yq_lines.specs.RowWalk.{HasRows, IsPosition, line_number};
 
 use crate::places::node_place::NodePlace;
 use std::alloc::{AllocError, Global};
 use yq_cut::Rows;
 use yq_flow_scalars::Kind;
-use yq_lines::{Content, Head};
+use yq_lines::{Content, Head, Position, Stretch};
 use yq_nodes::{Form, Inline, Step};
-use yq_row_lines::{Position, Stretch};
 use yq_walk::{behind, is_deeper, is_item_at};
 
 /// What a node is, as far as updates ask.

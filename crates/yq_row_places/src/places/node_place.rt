@@ -2,16 +2,16 @@
 ghost use Rattle.std.specs.Prelude.{◌≡◌, map, option_map, slice_get, IfSome, Some};
 ghost use Rattle.yq_nodes.specs.Entries.{step_of};
 ghost use Rattle.yq_lines.specs.Outline.{Line};
-ghost use Rattle.yq_row_lines.specs.Lines.{lines_of};
-ghost use Rattle.yq_row_lines.specs.Extents.{IsRowsView};
+ghost use Rattle.yq_lines.specs.Lines.{lines_of};
+ghost use Rattle.yq_lines.specs.Extents.{IsRowsView};
 ghost use Rattle.yq_row_places.specs.NodeReading as spec;
 ghost use Rattle.yq_row_places.specs.RowWalk.{IsKnownLine};
-ghost use Rattle.yq_row_lines.specs.RowWalk.{AreKnown, HasDocument, HasRows, IsLine, line_number};
+ghost use Rattle.yq_lines.specs.RowWalk.{AreKnown, HasDocument, HasRows, IsLine, line_number};
 
 use crate::places::known_line::{KnownLine, reach_by};
 use yq_cut::Rows;
+use yq_lines::{KnownItems, Position, Stretch};
 use yq_nodes::Step;
-use yq_row_lines::{KnownItems, Position, Stretch};
 use yq_walk::{begins_with_node, has_head, level_at, next};
 
 /// Where a node is written.

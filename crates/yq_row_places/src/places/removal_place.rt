@@ -8,13 +8,13 @@ ghost use Rattle.yq_cut.specs.Rows.{Cut, Part, Row as RowOf};
 ghost use Rattle.yq_cut.specs.View.{rows_of, rows_view};
 ghost use Rattle.yq_block_scalars.specs.Block.{BlockText};
 ghost use Rattle.yq_flow_scalars.specs.Text.{joined, lines_of as text_lines};
-ghost use Rattle.yq_row_lines.specs.Extents.{IsRowsView};
+ghost use Rattle.yq_lines.specs.Extents.{IsRowsView};
 ghost use Rattle.yq_documents.specs.Pieces as pieces;
 ghost use Rattle.yq_row_places.specs.PlacedRows.{PlacedPart};
 ghost use Rattle.yq_row_places.specs.RemovalPlaces as spec;
 ghost use Rattle.yq_row_places.specs.RemovalReading as reading;
 ghost use Rattle.yq_row_places.specs.RowWalk.{IsKnownLine};
-ghost use Rattle.yq_row_lines.specs.RowWalk.{AreKnown, HasDocument};
+ghost use Rattle.yq_lines.specs.RowWalk.{AreKnown, HasDocument};
 
 use crate::places::halves::is_text;
 use crate::places::known_line::{KnownLine, line_by};
@@ -23,8 +23,8 @@ use yq_cut::Rows;
 use yq_documents::last_run;
 use yq_flow_scalars::lines::split_line;
 use yq_flow_scalars::text::is_blank;
+use yq_lines::{KnownItems, Stretch};
 use yq_nodes::Step;
-use yq_row_lines::{KnownItems, Stretch};
 use yq_text::Halves;
 use yq_walk::{behind, row_start};
 

@@ -11,7 +11,7 @@ use crate::places::lines_cut::cut_lines;
 use crate::places::row_place::{line_start, row_stop};
 use crate::places::standing::{BlockRoot, Standing};
 use yq_cut::Rows;
-use yq_row_lines::{Position, Stretch};
+use yq_lines::{Position, Stretch};
 use yq_text::Halves;
 
 /// The root of a document as a block collection: from its first key or dash to its last line.

@@ -6,14 +6,14 @@ ghost use Rattle.yq_cut.specs.Offsets.{row_length};
 ghost use Rattle.yq_cut.specs.Rows.{Cut, Row as RowOf};
 ghost use Rattle.yq_cut.specs.View.{rows_of, rows_view, Slices, view};
 ghost use Rattle.yq_row_places.specs.EntryReading as spec;
-ghost use Rattle.yq_row_lines.specs.Extents as extents;
-ghost use Rattle.yq_row_lines.specs.Extents.{IsRowsView};
+ghost use Rattle.yq_lines.specs.Extents as extents;
+ghost use Rattle.yq_lines.specs.Extents.{IsRowsView};
 ghost use Rattle.yq_documents.specs.Pieces.{span};
 
 use crate::places::halves::less_break_len;
 use yq_cut::{Row, Rows};
 use yq_documents::{Span, is_block_head};
-use yq_row_lines::Position;
+use yq_lines::Position;
 use yq_text::Halves;
 use yq_walk::{dash_at, head_place, row_len, row_start};
 

@@ -2,16 +2,16 @@
 ghost use Rattle.std.specs.Prelude.{◌≡◌, map, option_map, IfSome};
 ghost use Rattle.yq_nodes.specs.Entries.{step_of};
 ghost use Rattle.yq_documents.specs.LinesInRows.{row_line_of};
-ghost use Rattle.yq_row_lines.specs.Extents.{IsRowsView};
-ghost use Rattle.yq_row_lines.specs.RowWalk.{AreKnown, HasDocument};
+ghost use Rattle.yq_lines.specs.Extents.{IsRowsView};
+ghost use Rattle.yq_lines.specs.RowWalk.{AreKnown, HasDocument};
 ghost use Rattle.yq_row_places.specs.RowWalk.{IsKnownLine};
 ghost use Rattle.yq_row_places.specs.StandingReading as reading;
 
 use crate::places::known_end::row_behind;
 use crate::places::known_line::{KnownLine, line_by};
 use yq_cut::Rows;
+use yq_lines::{KnownItems, Stretch};
 use yq_nodes::Step;
-use yq_row_lines::{KnownItems, Stretch};
 use yq_walk::{level_at, lines_before_mark};
 
 /// The rows of an item or entry.

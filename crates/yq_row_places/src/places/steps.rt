@@ -1,13 +1,13 @@
 //! By how many columns the collections of a document stand deeper than their keys.
 ghost use Rattle.std.specs.Prelude.{◌≡◌};
-ghost use Rattle.yq_row_lines.specs.Lines.{lines_of};
-ghost use Rattle.yq_row_lines.specs.Extents.{IsRowsView};
-ghost use Rattle.yq_row_lines.specs.RowWalk.{HasRows};
+ghost use Rattle.yq_lines.specs.Lines.{lines_of};
+ghost use Rattle.yq_lines.specs.Extents.{IsRowsView};
+ghost use Rattle.yq_lines.specs.RowWalk.{HasRows};
 ghost use Rattle.yq_row_places.specs.StepReading as reading;
 ghost use Rattle.yq_row_places.specs.Steps as spec;
 
 use yq_cut::Rows;
-use yq_row_lines::{Position, Stretch};
+use yq_lines::{Position, Stretch};
 use yq_walk::{level_at, lines_before_mark};
 
 /// Whether of two lines of these levels, one right behind the other, the first is a key and the other

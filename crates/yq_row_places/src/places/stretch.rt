@@ -2,13 +2,13 @@
 ghost use Rattle.std.specs.Prelude.{◌≡◌, ◌-◌, map, option_map};
 ghost use Rattle.yq_nodes.specs.Entries.{step_of};
 ghost use Rattle.yq_documents.specs.LinesInRows.{row_line_of};
-ghost use Rattle.yq_row_lines.specs.Extents.{IsRowsView};
-ghost use Rattle.yq_row_lines.specs.RowWalk.{AreKnown, HasDocument};
+ghost use Rattle.yq_lines.specs.Extents.{IsRowsView};
+ghost use Rattle.yq_lines.specs.RowWalk.{AreKnown, HasDocument};
 ghost use Rattle.yq_row_places.specs.RowLineReading.{numbers, line_view};
 
 use yq_cut::Rows;
+use yq_lines::{KnownItems, Stretch};
 use yq_nodes::Step;
-use yq_row_lines::{KnownItems, Stretch};
 use yq_walk::{line_at, lines_before_mark};
 
 /// A line of a row.

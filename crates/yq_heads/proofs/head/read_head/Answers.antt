@@ -7,16 +7,8 @@ use Rattle.yq_flow_scalars.specs.Answers.{Gives}
 use Rattle.yq_nodes.specs.Scalars.{is_quoted}
 use Rattle.yq_lines.specs.View.{head_flow, head_view}
 use Rattle.yq_documents.specs.RowReading.{is_block_head}
-use Rattle.yq_heads.proofs.HeadCases.{same_empty, empty_head, empty_flow, block_head, block_flow, quoted_head, quoted_flow, plain_head, plain_flow, node_head, node_flow}
-use Rattle.yq_heads.proofs.HeadCases.{node_flow}
+use Rattle.yq_heads.proofs.HeadCases.{same_empty, block_head, block_flow, quoted_head, quoted_flow, plain_head, plain_flow, node_head, node_flow}
 use Rattle.yq_heads.proofs.head.read_head.Goals as goal
-
-pub returns-then-is_empty : goal.returns-then-is_empty
-returns-then-is_empty c = record {
-  view = empty_head c.args.whole.now c.args.parent c.args.head.now c.args.text.now (sym (c.if-is_empty.ensures ∙ same_empty c.args.head.now));
-  flow = sym (empty_flow c.args.whole.now c.args.parent c.args.head.now c.args.text.now (sym (c.if-is_empty.ensures ∙ same_empty c.args.head.now)));
-  fault = tt;
-}
 
 pub returns-then-is_block_head-clause-view : goal.returns-then-is_block_head-clause-view
 returns-then-is_block_head-clause-view c =

@@ -4,27 +4,17 @@ use Rattle.yq_history.specs.Effects.{listing_effect, printed_by}
 use Rattle.yq_history.specs.Listing.{record_lines}
 use Rattle.yq_history.specs.Faults.{is_outside}
 use Rattle.yq_history.specs.Report.{Report}
-use Rattle.yq_history.proofs.PrintLaws.{listed_output, listing_arrives}
+use Rattle.yq_history.proofs.PrintLaws.{listed_output}
 use Rattle.yq_history.proofs.EffectLaws.{not_opened, from_opened, listing_cut}
 use Rattle.yq_history.proofs.printing.listing.Goals as goal
 
-pub returns : goal.returns
-returns g c = record {
-  arrives = λ keeps h good.
-      listing_arrives (g.D.Store.content c.open_pair.new.store) c.args.file.now c.args.journal.now h (c.in_ok-_text._text, c.in_ok-_text.state)
-      (c.in_ok-_text.ensures.opens keeps h good);
-  effect = λ keeps.
-      from_opened _ _ listing_effect _ _ (g.D.Store.content c.args.store.now) _ _ c.in_ok-_text._text.items c.in_ok-_text.state {T = Unit {0}} (Ok tt)
-      (c.in_ok-_text.ensures.same keeps) (c.in_ok-_text.ensures.found keeps listing_effect) refl;
-  lines = λ keeps. c.in_ok-report.ensures ∙ sym (ap printed_by (c.in_ok-_text.ensures.found keeps listing_effect));
-  output = λ keeps h good.
-      let lines = c.in_ok-report.ensures ∙ listed_output _ _ _ h _ c.in_ok-_text.state (c.in_ok-_text.ensures.opens keeps h good) in
-      ap₂ (λ (o : List ℕ) (b : Bool). record { printed = o; is_match = b }) lines (ap (λ (s : Report). s.is_match) c.requires.empty);
-  matched = ap (λ (s : Report). s.is_match) c.requires.empty;
-  same = λ keeps. c.in_ok-_text.ensures.same keeps;
-  no_output = tt;
-  count = c.in_ok-_text.ensures.count;
-}
+pub returns-clause-output : goal.returns-clause-output
+returns-clause-output g c = λ keeps h good.
+    let lines = c.in_ok-report.ensures ∙ listed_output _ _ _ h _ c.in_ok-_text.state (c.in_ok-_text.ensures.opens keeps h good) in
+    ap₂ (λ (o : List ℕ) (b : Bool). record { printed = o; is_match = b }) lines (ap (λ (s : Report). s.is_match) c.requires.empty)
+
+pub returns-clause-lines : goal.returns-clause-lines
+returns-clause-lines g c = λ keeps. c.in_ok-report.ensures ∙ sym (ap printed_by (c.in_ok-_text.ensures.found keeps listing_effect))
 
 pub returns-in_err-_text-clause-effect : goal.returns-in_err-_text-clause-effect
 returns-in_err-_text-clause-effect g c = λ keeps.
@@ -36,6 +26,14 @@ returns-in_err-report-clause-effect g c = λ keeps.
     let p = err_from_is_err_and c.from_residual-in_err-report.result c.from_residual-in_err-report.ensures.1 in
     from_opened _ _ listing_effect _ _ (g.D.Store.content c.args.store.now) _ _ c.in_ok-_text._text.items c.in_ok-_text.state c.from_residual-in_err-report.result (c.in_ok-_text.ensures.same keeps) (c.in_ok-_text.ensures.found keeps listing_effect)
     (listing_cut c.args.file.now c.args.journal.now _ (record_lines c.in_ok-_text.state) c.from_residual-in_err-report.result p.0 p.1 (ap is_outside p.2))
+
+pub returns-clause-effect : goal.returns-clause-effect
+returns-clause-effect g c = λ keeps.
+    from_opened _ _ listing_effect _ _ (g.D.Store.content c.args.store.now) _ _ c.in_ok-_text._text.items c.in_ok-_text.state {T = Unit {0}} (Ok tt) (c.in_ok-_text.ensures.same keeps) (c.in_ok-_text.ensures.found keeps listing_effect) refl
+
+-- what is shown is there, as it was before
+pub returns-clause-matched : goal.returns-clause-matched
+returns-clause-matched g c = ap (λ (s : Report). s.is_match) c.requires.empty
 
 pub returns-in_err-_text-clause-matched : goal.returns-in_err-_text-clause-matched
 returns-in_err-_text-clause-matched g c = ap (λ (s : Report). s.is_match) c.requires.empty

@@ -4,8 +4,8 @@ use Rattle.std.specs.List.{slice_get}
 use Rattle.yq_flow_scalars.specs.Text.{is_empty}
 use Rattle.yq_nodes.specs.Nodes.{first_is}
 use Rattle.yq_cut.specs.View.{slices}
-use Rattle.yq_row_lines.specs.Lines.{row_lines}
-use Rattle.yq_row_lines.proofs.WalkPositions.{located}
+use Rattle.yq_lines.specs.Lines.{row_lines}
+use Rattle.yq_lines.proofs.WalkPositions.{located}
 use Rattle.yq_reading.proofs.AnchorRows.{bare_agrees, mark_takes}
 use Rattle.yq_reading.proofs.ReadyLaws.{row_within}
 use Rattle.yq_reading.proofs.RowContents.{row_content}

@@ -3,10 +3,10 @@ use Rattle.std.specs.Prelude.{is_none}
 use Rattle.yq_flow_scalars.specs.Text.{is_empty}
 use Rattle.yq_lines.specs.LinesReading.{have_one_anchor_each, is_free}
 use Rattle.yq_cut.specs.View.{slices}
-use Rattle.yq_row_lines.specs.Lines.{content_anchor, lines_of}
-use Rattle.yq_row_lines.specs.RowWalk.{IsLine}
-use Rattle.yq_row_lines.proofs.WalkRows.{rows_length}
-use Rattle.yq_row_lines.proofs.WalkPositions.{located}
+use Rattle.yq_lines.specs.Lines.{content_anchor, lines_of}
+use Rattle.yq_lines.specs.RowWalk.{IsLine}
+use Rattle.yq_lines.proofs.WalkRows.{rows_length}
+use Rattle.yq_lines.proofs.WalkPositions.{located}
 use Rattle.yq_documents.specs.RowReading.{name_in}
 use Rattle.yq_documents.proofs.RowLineLaws.{anchor_is}
 use Rattle.yq_reading.proofs.AnchorRows.{anchor_some, row_fails, row_passes}

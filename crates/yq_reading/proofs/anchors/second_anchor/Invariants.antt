@@ -4,8 +4,8 @@ use denote.Text.{Utf8}
 use Rattle.std.specs.Prelude.{is_none}
 use Rattle.yq_flow_scalars.specs.Text.{is_empty}
 use Rattle.yq_lines.specs.LinesReading.{have_one_anchor_each, is_free}
-use Rattle.yq_row_lines.specs.Lines.{lines_of}
-use Rattle.yq_row_lines.specs.RowWalk.{HasRows}
+use Rattle.yq_lines.specs.Lines.{lines_of}
+use Rattle.yq_lines.specs.RowWalk.{HasRows}
 use Rattle.yq_documents.specs.RowReading.{name_in}
 use Rattle.yq_reading.proofs.anchors.second_anchor.Given as goal
 

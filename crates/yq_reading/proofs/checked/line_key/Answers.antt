@@ -1,7 +1,7 @@
 use Rattle.std.proofs.Common.{Some, ap, ◌∙◌}
 use Rattle.yq_cut.specs.View.{slices}
-use Rattle.yq_row_lines.proofs.WalkMarks.{key_none, key_here}
-use Rattle.yq_row_lines.proofs.WalkPositions.{located}
+use Rattle.yq_lines.proofs.WalkMarks.{key_none, key_here}
+use Rattle.yq_lines.proofs.WalkPositions.{located}
 use Rattle.yq_reading.proofs.ReadyLaws.{row_within}
 use Rattle.yq_reading.proofs.checked.line_key.Goals as goal
 

@@ -1,7 +1,7 @@
 use Rattle.std.proofs.Common.{◌≡◌, true, List, ℕ, sym, ap, ◌∙◌, subst}
 use Rattle.yq_flow_scalars.specs.Quoted.{IsQuotedText}
 use Rattle.yq_nodes.specs.Scalars.{is_quoted}
-use Rattle.yq_row_lines.proofs.WalkPositions.{has_row}
+use Rattle.yq_lines.proofs.WalkPositions.{has_row}
 use Rattle.yq_documents.specs.Decoded.{decoded_key}
 use Rattle.yq_reading.proofs.ReadyLaws.{key_agrees}
 use Rattle.yq_reading.proofs.RowBegins.{key_plain, key_quoted}

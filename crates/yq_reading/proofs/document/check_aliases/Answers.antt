@@ -2,7 +2,7 @@ use Rattle.std.proofs.Common.{[], is_none, sym, ap, ◌∙◌}
 use Rattle.yq_lines.specs.LinesReading.{are_bound}
 use Rattle.yq_lines.specs.Names.{line_names}
 use Rattle.yq_lines.proofs.AliasLaws.{bound_alone}
-use Rattle.yq_row_lines.specs.Lines.{lines_of}
+use Rattle.yq_lines.specs.Lines.{lines_of}
 use Rattle.yq_reading.specs.Named.{all_named}
 use Rattle.yq_reading.proofs.NoReferenceLaws.{ready_refers_not}
 use Rattle.yq_reading.proofs.document.check_aliases.Goals as goal

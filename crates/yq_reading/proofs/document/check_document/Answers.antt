@@ -4,9 +4,9 @@ use Rattle.yq_lines.specs.Ends.{part}
 use Rattle.yq_lines.specs.LinesReading.{lines_are_sound}
 use Rattle.yq_lines.specs.Sound.{is_sound}
 use Rattle.yq_lines.proofs.NameLaws.{lines_named, lines_unsound}
-use Rattle.yq_row_lines.specs.Lines.{lines_of}
-use Rattle.yq_row_lines.specs.RowWalk.{line_number}
-use Rattle.yq_row_lines.proofs.WalkPositions.{first_number}
+use Rattle.yq_lines.specs.Lines.{lines_of}
+use Rattle.yq_lines.specs.RowWalk.{line_number}
+use Rattle.yq_lines.proofs.WalkPositions.{first_number}
 use Rattle.yq_reading.proofs.DecidingLaws.{decides_as, denies_as}
 use Rattle.yq_reading.proofs.HeadsApart.{heads_apart}
 use Rattle.yq_reading.proofs.ReadyLaws.{first_position}

@@ -1,7 +1,7 @@
 use Rattle.std.proofs.Common.{[], ◌&&◌, is_none, sym, ap, ◌∙◌}
 use Rattle.yq_lines.specs.LinesReading.{are_bound}
 use Rattle.yq_lines.specs.Names.{line_names}
-use Rattle.yq_row_lines.specs.Lines.{lines_of}
+use Rattle.yq_lines.specs.Lines.{lines_of}
 use Rattle.yq_reading.proofs.DecidingLaws.{decides_as}
 use Rattle.yq_reading.proofs.document.check_names.Goals as goal
 

@@ -1,10 +1,10 @@
 use Rattle.std.proofs.Common.{◌≡◌, ℕ, ◌+◌, ◌-◌, ◌++◌, drop, sym, ap, ◌∙◌, arith}
 use Rattle.yq_lines.specs.Names.{head_names, line_names}
 use Rattle.yq_cut.specs.View.{slices}
-use Rattle.yq_row_lines.specs.Lines.{lines_of}
-use Rattle.yq_row_lines.specs.RowWalk.{IsLine}
-use Rattle.yq_row_lines.proofs.WalkRows.{rows_length}
-use Rattle.yq_row_lines.proofs.WalkPositions.{located}
+use Rattle.yq_lines.specs.Lines.{lines_of}
+use Rattle.yq_lines.specs.RowWalk.{IsLine}
+use Rattle.yq_lines.proofs.WalkRows.{rows_length}
+use Rattle.yq_lines.proofs.WalkPositions.{located}
 use Rattle.yq_documents.specs.Decoded.{decoded_at}
 use Rattle.yq_documents.specs.RowReading.{name_in}
 use Rattle.yq_reading.specs.Named.{all_named, flow_names}

@@ -1,6 +1,6 @@
 use Rattle.std.proofs.Common.{◌≡◌, ℕ, ◌-◌, ◌≤◌, ◌++◌, drop}
 use Rattle.yq_lines.specs.Names.{line_names}
-use Rattle.yq_row_lines.specs.Lines.{lines_of}
+use Rattle.yq_lines.specs.Lines.{lines_of}
 use Rattle.yq_reading.specs.Ahead.{IsAhead}
 use Rattle.yq_reading.specs.Checking.{IsChecked}
 use Rattle.yq_reading.specs.Named.{all_named}

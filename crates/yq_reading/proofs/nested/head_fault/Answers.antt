@@ -3,7 +3,7 @@ use Rattle.std.specs.Prelude.{option_map}
 use Rattle.yq_nodes.specs.View.{view}
 use Rattle.yq_lines.specs.Sound.{head_is_sound}
 use Rattle.yq_cut.specs.View.{slices}
-use Rattle.yq_row_lines.proofs.WalkPositions.{located}
+use Rattle.yq_lines.proofs.WalkPositions.{located}
 use Rattle.yq_documents.specs.Decoded.{decoded_at}
 use Rattle.yq_reading.proofs.DecidingLaws.{decides_as}
 use Rattle.yq_reading.proofs.HeadViewLaws.{head_free, head_line, head_some, headless}

@@ -1,7 +1,7 @@
 use Rattle.std.proofs.Common.{Some, ap, ◌∙◌}
 use Rattle.yq_lines.specs.Outline.{key_of}
 use Rattle.yq_cut.specs.View.{slices}
-use Rattle.yq_row_lines.proofs.WalkPositions.{located}
+use Rattle.yq_lines.proofs.WalkPositions.{located}
 use Rattle.yq_reading.proofs.ReachedLaws.{key_some, none_of}
 use Rattle.yq_reading.proofs.ReadyLaws.{row_within}
 use Rattle.yq_reading.proofs.reached.key_at.Goals as goal

@@ -1,5 +1,5 @@
 use Rattle.std.proofs.Common.{ap, ◌∙◌, arith}
-use Rattle.yq_row_lines.specs.RowWalk.{line_number}
+use Rattle.yq_lines.specs.RowWalk.{line_number}
 use Rattle.yq_reading.proofs.PositionOrder.{row_order}
 use Rattle.yq_reading.proofs.reached.line_behind.Goals as goal
 

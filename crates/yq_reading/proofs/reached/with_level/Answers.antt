@@ -1,4 +1,4 @@
-use Rattle.yq_row_lines.proofs.WalkPositions.{position_line}
+use Rattle.yq_lines.proofs.WalkPositions.{position_line}
 use Rattle.yq_reading.proofs.ReachedLaws.{reached_end, reached_line}
 use Rattle.yq_reading.proofs.ReadyLaws.{row_within}
 use Rattle.yq_reading.proofs.reached.with_level.Goals as goal

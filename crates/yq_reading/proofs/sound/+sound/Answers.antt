@@ -6,9 +6,9 @@ use Rattle.yq_lines.proofs.EntryLaws.{start_asked, start_deep, start_bare, one_f
 use Rattle.yq_lines.proofs.KeyLaws.{distinct_agrees}
 use Rattle.yq_lines.proofs.LineEnds.{end_counted}
 use Rattle.yq_lines.proofs.SoundLaws.{IsEntryLevel, entry_level}
-use Rattle.yq_row_lines.specs.Lines.{lines_of}
-use Rattle.yq_row_lines.specs.RowWalk.{line_number}
-use Rattle.yq_row_lines.proofs.WalkPositions.{located, position_line}
+use Rattle.yq_lines.specs.Lines.{lines_of}
+use Rattle.yq_lines.specs.RowWalk.{line_number}
+use Rattle.yq_lines.proofs.WalkPositions.{located, position_line}
 use Rattle.yq_reading.proofs.DecidingLaws.{decides_as, denies_as}
 use Rattle.yq_reading.proofs.GivesLaws.{gives_all, gives_alone, gives_end, gives_none, moved_on, stop_same}
 use Rattle.yq_reading.proofs.UnderLaws.{alone_sound, bare_is, both_there, entry_is, none_sound, other_level, under_sound}

@@ -2,7 +2,7 @@ use Rattle.std.proofs.Common.{◌≡◌, ◌⊎◌, ◌+◌, ◌-◌, ◌*◌, �
 use Rattle.yq_lines.specs.Ends.{part}
 use Rattle.yq_lines.specs.Sound.{is_sound}
 use Rattle.yq_lines.proofs.SoundLaws.{asked, IsEntryLevel}
-use Rattle.yq_row_lines.specs.RowWalk.{OfLines, lines_stop}
+use Rattle.yq_lines.specs.RowWalk.{OfLines, lines_stop}
 use Rattle.yq_reading.specs.Checking.{IsReached, OfChecked}
 use Rattle.yq_reading.proofs.sound.+sound.Given as goal
 

@@ -3,8 +3,8 @@ use Rattle.std.specs.Prelude.{is_some}
 use Rattle.yq_lines.specs.Ends.{is_end, part}
 use Rattle.yq_lines.specs.Sound.{head_is_sound}
 use Rattle.yq_lines.proofs.EndsLaws.{is_at_end, not_end}
-use Rattle.yq_row_lines.specs.Lines.{lines_of}
-use Rattle.yq_row_lines.specs.RowWalk.{line_number}
+use Rattle.yq_lines.specs.Lines.{lines_of}
+use Rattle.yq_lines.specs.RowWalk.{line_number}
 use Rattle.yq_reading.proofs.DecidingLaws.{denies_as}
 use Rattle.yq_reading.proofs.GivesLaws.{gives_bare}
 use Rattle.yq_reading.proofs.UnderLaws.{bare_fails, bare_head, bare_passes, bare_under}

@@ -1,5 +1,5 @@
 use Rattle.std.proofs.Common.{refl}
-use Rattle.yq_row_lines.proofs.WalkPositions.{position_line}
+use Rattle.yq_lines.proofs.WalkPositions.{position_line}
 use Rattle.yq_reading.proofs.sound.repeated_line.Goals as goal
 
 pub line_key-requires-clause-line : goal.line_key-requires-clause-line

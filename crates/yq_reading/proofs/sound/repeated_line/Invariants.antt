@@ -1,5 +1,5 @@
 use Rattle.std.proofs.Common.{◌-◌}
-use Rattle.yq_row_lines.specs.RowWalk.{IsPosition}
+use Rattle.yq_lines.specs.RowWalk.{IsPosition}
 use Rattle.yq_reading.proofs.sound.repeated_line.Given as goal
 
 abbrev pub invariant-lines : goal.invariant-lines

@@ -1,11 +1,12 @@
-use Rattle.std.proofs.Common.{◌-◌, ap, arith, length, length-append, length-take-le, rules, subst, sym, take}
-use Rattle.std.proofs.lemmas.Str.{IsUtf8-append}
+use Rattle.std.proofs.Common.{◌-◌, ap, arith, length, length-append, length-take-le, subst, sym, take}
+use Rattle.std.proofs.lemmas.Str.{IsUtf8-append, IsUtf8-nil}
 use Rattle.std.specs.Str.{IsUtf8}
 use Rattle.yq_text.specs.Halves.{whole}
 use Rattle.yq_script.specs.Script.{kept_back}
 use Rattle.yq_script.specs.Segments.{segments_of}
+use Rattle.yq_script.proofs.FirstSegment.{none_left}
 use Rattle.yq_script.proofs.KeptSegments.{back_within}
-use Rattle.yq_script.proofs.LoopLaws.{back_kept, back_put}
+use Rattle.yq_script.proofs.LoopLaws.{back_kept, back_put, but_last_fewer}
 use Rattle.yq_script.proofs.changing.kept_back.Goals as goal
 
 pub text_len-len-requires : goal.text_len-len-requires
@@ -48,5 +49,16 @@ returns-in-Put c =
     let none = back_put c.segments.rest.now c.segment-item.result _ c.in-len1-up.len_at_least c.segment-item.is c.in-Put.field-0 c.in-Put.field-1 c.in-Put.is in
     record {
       back = omega (arith, ap length none, c.segments.invariant.back);
-      text = c.segments.invariant.text (subst IsUtf8 (sym none) (search rules));
+      text = c.segments.invariant.text (subst IsUtf8 (sym none) IsUtf8-nil);
+    }
+
+pub segments-smaller : goal.segments-smaller
+segments-smaller c = but_last_fewer c.segments.rest.now c.in-len1-up.len_at_least
+
+pub returns : goal.returns
+returns c =
+    let none = none_left c.segments.rest.now c.in_default.len_below in
+    record {
+      back = omega (arith, c.segments.invariant.back, ap (λ ss. length (kept_back ss)) none);
+      text = c.segments.invariant.text (subst (λ ss. IsUtf8 (kept_back ss)) (sym none) IsUtf8-nil);
     }

@@ -1,5 +1,5 @@
 use Rattle.std.proofs.Common.{◌≡◌, ◌+◌, length}
-use Rattle.yq_row_lines.specs.Extents.{dash_at}
+use Rattle.yq_lines.specs.Extents.{dash_at}
 use Rattle.yq_walk.proofs.extent.dash_at.Given as goal
 
 abbrev pub decreases-each : goal.decreases-each

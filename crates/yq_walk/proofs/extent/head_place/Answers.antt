@@ -1,6 +1,6 @@
 use Rattle.std.proofs.Common.{length, ap, arith, rules}
 use Rattle.yq_cut.specs.View.{view}
-use Rattle.yq_row_lines.proofs.LengthLaws.{head_agrees, row_fits, view_small}
+use Rattle.yq_lines.proofs.LengthLaws.{head_agrees, row_fits, view_small}
 use Rattle.yq_walk.proofs.extent.head_place.Goals as goal
 
 pub front_len-requires : goal.front_len-requires

@@ -1,6 +1,6 @@
 use Rattle.std.proofs.Common.{◌-◌, ap, ◌∙◌}
-use Rattle.yq_row_lines.specs.Extents.{dash_count}
-use Rattle.yq_row_lines.proofs.RowLaws.{none_before, before_colon, before_last}
+use Rattle.yq_lines.specs.Extents.{dash_count}
+use Rattle.yq_lines.proofs.RowLaws.{none_before, before_colon, before_last}
 use Rattle.yq_walk.proofs.extent.lines_before_mark.Goals as goal
 
 pub returns-then-not-has_dashes : goal.returns-then-not-has_dashes

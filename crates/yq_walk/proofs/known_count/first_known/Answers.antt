@@ -1,5 +1,5 @@
 use Rattle.std.proofs.Common.{refl, arith}
-use Rattle.yq_row_lines.proofs.KnownLaws.{known_first, one_there}
+use Rattle.yq_lines.proofs.KnownLaws.{known_first, one_there}
 use Rattle.yq_walk.proofs.known_count.first_known.Goals as goal
 
 pub returns : goal.returns

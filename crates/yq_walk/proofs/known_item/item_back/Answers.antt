@@ -1,5 +1,5 @@
 use Rattle.std.proofs.Common.{◌-◌, sym, ◌∙◌, arith}
-use Rattle.yq_row_lines.proofs.KnownLaws.{known_less, moved_to, none_as_deep, one_as_deep, one_there}
+use Rattle.yq_lines.proofs.KnownLaws.{known_less, moved_to, none_as_deep, one_as_deep, one_there}
 use Rattle.yq_walk.proofs.known_item.item_back.Goals as goal
 
 pub rows-preserved-then-level_at-known : goal.rows-preserved-then-level_at-known

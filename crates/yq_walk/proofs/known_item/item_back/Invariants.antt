@@ -1,6 +1,6 @@
 use Rattle.std.proofs.Common.{◌≤◌}
-use Rattle.yq_row_lines.specs.RowWalk.{IsKnown}
-use Rattle.yq_row_lines.proofs.KnownLaws.{moved_to}
+use Rattle.yq_lines.specs.RowWalk.{IsKnown}
+use Rattle.yq_lines.proofs.KnownLaws.{moved_to}
 use Rattle.yq_walk.proofs.known_item.item_back.Given as goal
 
 abbrev pub decreases-rows : goal.decreases-rows

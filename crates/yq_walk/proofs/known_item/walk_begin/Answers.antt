@@ -1,6 +1,6 @@
 use Rattle.std.proofs.Common.{rules, arith}
-use Rattle.yq_row_lines.proofs.KnownWalks.{goes_on, known_line}
-use Rattle.yq_row_lines.proofs.WalkPositions.{line_position}
+use Rattle.yq_lines.proofs.KnownWalks.{goes_on, known_line}
+use Rattle.yq_lines.proofs.WalkPositions.{line_position}
 use Rattle.yq_walk.proofs.known_item.walk_begin.Goals as goal
 
 pub returns-clause-found : goal.returns-clause-found

@@ -1,5 +1,5 @@
-use Rattle.yq_row_lines.specs.RowWalk.{IsKnown}
-use Rattle.yq_row_lines.proofs.KnownLaws.{moved_to}
+use Rattle.yq_lines.specs.RowWalk.{IsKnown}
+use Rattle.yq_lines.proofs.KnownLaws.{moved_to}
 use Rattle.yq_walk.proofs.known_key.item_behind.Given as goal
 
 -- so many items are passed before this row

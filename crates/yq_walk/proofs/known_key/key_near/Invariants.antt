@@ -1,5 +1,5 @@
 use Rattle.std.specs.Prelude.{IfSome}
-use Rattle.yq_row_lines.specs.RowWalk.{IsKnownIn}
+use Rattle.yq_lines.specs.RowWalk.{IsKnownIn}
 use Rattle.yq_walk.proofs.known_key.key_near.Given as goal
 
 -- the next entries on both sides are known

@@ -1,5 +1,5 @@
 use Rattle.std.proofs.Common.{sym, arith}
-use Rattle.yq_row_lines.proofs.KnownWalks.{goes_to, known_line}
+use Rattle.yq_lines.proofs.KnownWalks.{goes_to, known_line}
 use Rattle.yq_walk.proofs.known_key.keyed.Goals as goal
 
 pub returns-clause-found : goal.returns-clause-found

@@ -1,5 +1,5 @@
 use Rattle.std.proofs.Common.{rules}
-use Rattle.yq_row_lines.proofs.WalkPositions.{deeper_agrees, end_agrees, position_line}
+use Rattle.yq_lines.proofs.WalkPositions.{deeper_agrees, end_agrees, position_line}
 use Rattle.yq_walk.proofs.position.is_deeper.Goals as goal
 
 pub returns-then-position-document-clause-test : goal.returns-then-position-document-clause-test

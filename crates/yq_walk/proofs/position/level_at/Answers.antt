@@ -1,6 +1,6 @@
 use Rattle.std.proofs.Common.{ap, sym, ◌∙◌}
-use Rattle.yq_row_lines.specs.RowWalk.{line_level}
-use Rattle.yq_row_lines.proofs.FirstLevels.{view_level}
+use Rattle.yq_lines.specs.RowWalk.{line_level}
+use Rattle.yq_lines.proofs.FirstLevels.{view_level}
 use Rattle.yq_walk.proofs.position.level_at.Goals as goal
 
 pub returns-then-position-eq0 : goal.returns-then-position-eq0

@@ -1,7 +1,7 @@
 use Rattle.std.proofs.Common.{length, ap, ◌∙◌, arith, rules}
-use Rattle.yq_row_lines.proofs.FirstLevels.{level_most, bare_level_at, dashed_level}
-use Rattle.yq_row_lines.proofs.LengthLaws.{row_fits, view_small}
-use Rattle.yq_row_lines.proofs.WalkPositions.{has_row}
+use Rattle.yq_lines.proofs.FirstLevels.{level_most, bare_level_at, dashed_level}
+use Rattle.yq_lines.proofs.LengthLaws.{row_fits, view_small}
+use Rattle.yq_lines.proofs.WalkPositions.{has_row}
 use Rattle.yq_walk.proofs.position.level_within.Goals as goal
 
 pub returns-then-not-has_dashes : goal.returns-then-not-has_dashes

@@ -1,5 +1,5 @@
 use Rattle.std.proofs.Common.{◌+◌, refl, arith}
-use Rattle.yq_row_lines.proofs.WalkPositions.{next_row}
+use Rattle.yq_lines.proofs.WalkPositions.{next_row}
 use Rattle.yq_walk.proofs.position.next.Goals as goal
 
 pub returns-else-position-lines_before_mark-clause-number : goal.returns-else-position-lines_before_mark-clause-number

@@ -1,7 +1,7 @@
 use Rattle.std.proofs.Common.{rules, sym, ap, ◌∙◌}
-use Rattle.yq_row_lines.specs.RowWalk.{line_rank}
-use Rattle.yq_row_lines.proofs.FirstLevels.{first_rank}
-use Rattle.yq_row_lines.proofs.WalkLevels.{rank_of_level}
+use Rattle.yq_lines.specs.RowWalk.{line_rank}
+use Rattle.yq_lines.proofs.FirstLevels.{first_rank}
+use Rattle.yq_lines.proofs.WalkLevels.{rank_of_level}
 use Rattle.yq_walk.proofs.position.rank_at.Goals as goal
 
 pub returns-then-position-eq0 : goal.returns-then-position-eq0

@@ -1,6 +1,6 @@
 use Rattle.std.proofs.Common.{sym, ◌∙◌, arith}
-use Rattle.yq_row_lines.proofs.WalkRows.{under_more, under_stop}
-use Rattle.yq_row_lines.proofs.WalkPositions.{has_row}
+use Rattle.yq_lines.proofs.WalkRows.{under_more, under_stop}
+use Rattle.yq_lines.proofs.WalkPositions.{has_row}
 use Rattle.yq_walk.proofs.position.rows_under.Goals as goal
 
 pub returns-then-level_at-level-clause-value : goal.returns-then-level_at-level-clause-value

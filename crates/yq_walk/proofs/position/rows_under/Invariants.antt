@@ -1,5 +1,5 @@
 use Rattle.std.proofs.Common.{◌≡◌, ◌+◌, ◌-◌, drop, take}
-use Rattle.yq_row_lines.specs.RowWalk.{deeper_rows}
+use Rattle.yq_lines.specs.RowWalk.{deeper_rows}
 use Rattle.yq_walk.proofs.position.rows_under.Given as goal
 
 -- the row that is looked for is looked for from here on

@@ -3,10 +3,10 @@ use Rattle.yq_flow_scalars.specs.Paths.{Nth}
 use Rattle.yq_lines.specs.Ends.{part}
 use Rattle.yq_lines.specs.Places.{find_row}
 use Rattle.yq_lines.specs.Positions.{position}
-use Rattle.yq_row_lines.specs.Lines.{lines_of}
+use Rattle.yq_lines.specs.Lines.{lines_of}
 use Rattle.yq_lines.proofs.PositionLaws.{position_here, position_passed, position_end, here_item, further_item}
-use Rattle.yq_row_lines.specs.RowWalk.{line_number}
-use Rattle.yq_row_lines.proofs.WalkPositions.{located, position_line}
+use Rattle.yq_lines.specs.RowWalk.{line_number}
+use Rattle.yq_lines.proofs.WalkPositions.{located, position_line}
 use Rattle.yq_walk.proofs.position_find.find_item.Goals as goal
 
 pub lines-init : goal.lines-init

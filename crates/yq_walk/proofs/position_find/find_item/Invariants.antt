@@ -3,8 +3,8 @@ use Rattle.yq_flow_scalars.specs.Paths.{Nth}
 use Rattle.yq_lines.specs.Ends.{part}
 use Rattle.yq_lines.specs.Places.{find_row}
 use Rattle.yq_lines.specs.Positions.{position}
-use Rattle.yq_row_lines.specs.Lines.{lines_of}
-use Rattle.yq_row_lines.specs.RowWalk.{HasDocument, IsPosition, line_number}
+use Rattle.yq_lines.specs.Lines.{lines_of}
+use Rattle.yq_lines.specs.RowWalk.{HasDocument, IsPosition, line_number}
 use Rattle.yq_walk.proofs.position_find.find_item.Given as goal
 
 abbrev pub decreases-lines : goal.decreases-lines

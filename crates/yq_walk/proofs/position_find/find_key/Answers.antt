@@ -1,9 +1,9 @@
 use Rattle.std.proofs.Common.{refl, sym, ◌∙◌}
 use Rattle.yq_flow_scalars.specs.Paths.{To}
-use Rattle.yq_row_lines.specs.Lines.{lines_of}
+use Rattle.yq_lines.specs.Lines.{lines_of}
 use Rattle.yq_lines.proofs.PositionLaws.{position_here, position_passed, position_end}
-use Rattle.yq_row_lines.specs.RowWalk.{line_number}
-use Rattle.yq_row_lines.proofs.WalkPositions.{located, position_line}
+use Rattle.yq_lines.specs.RowWalk.{line_number}
+use Rattle.yq_lines.proofs.WalkPositions.{located, position_line}
 use Rattle.yq_walk.proofs.position_find.find_key.Goals as goal
 
 pub lines-init : goal.lines-init

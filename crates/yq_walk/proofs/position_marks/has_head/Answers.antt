@@ -1,8 +1,8 @@
 use Rattle.std.proofs.Common.{true, false, eqb, sym, ap, ◌∙◌}
 use Rattle.std.proofs.lemmas.Bool.{eq-eqb, ne_eqb}
 use Rattle.yq_cut.specs.View.{slices}
-use Rattle.yq_row_lines.proofs.WalkMarks.{head_agrees}
-use Rattle.yq_row_lines.proofs.WalkPositions.{located}
+use Rattle.yq_lines.proofs.WalkMarks.{head_agrees}
+use Rattle.yq_lines.proofs.WalkPositions.{located}
 use Rattle.yq_walk.proofs.position_marks.has_head.Goals as goal
 
 pub returns-then-position-lines_before_mark : goal.returns-then-position-lines_before_mark

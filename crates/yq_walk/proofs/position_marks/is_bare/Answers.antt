@@ -1,4 +1,4 @@
-use Rattle.yq_row_lines.proofs.WalkMarks.{bare_agrees}
+use Rattle.yq_lines.proofs.WalkMarks.{bare_agrees}
 use Rattle.yq_walk.proofs.position_marks.is_bare.Goals as goal
 
 pub returns : goal.returns

@@ -1,5 +1,5 @@
 use Rattle.std.proofs.Common.{◌∙◌}
-use Rattle.yq_row_lines.proofs.WalkMarks.{key_agrees, beside_agrees, other_agrees, quoted_agrees}
+use Rattle.yq_lines.proofs.WalkMarks.{key_agrees, beside_agrees, other_agrees, quoted_agrees}
 use Rattle.yq_walk.proofs.position_marks.is_key.Goals as goal
 
 pub returns-then-rank_at-ne2 : goal.returns-then-rank_at-ne2

@@ -1,9 +1,9 @@
 use Rattle.std.proofs.Common.{refl, sym, ap, ◌∙◌}
-use Rattle.yq_row_lines.specs.Lines.{lines_of}
+use Rattle.yq_lines.specs.Lines.{lines_of}
 use Rattle.yq_lines.specs.Positions as positions
 use Rattle.yq_lines.proofs.EndsLaws.{deeper_line, not_end, part_row}
-use Rattle.yq_row_lines.specs.RowWalk.{line_number}
-use Rattle.yq_row_lines.proofs.WalkPositions.{located, position_line}
+use Rattle.yq_lines.specs.RowWalk.{line_number}
+use Rattle.yq_lines.proofs.WalkPositions.{located, position_line}
 use Rattle.yq_walk.proofs.position_reach.begins_with_node.Goals as goal
 
 pub returns-clause-test : goal.returns-clause-test

@@ -1,9 +1,9 @@
 use Rattle.std.proofs.Common.{map, rules}
 use Rattle.std.proofs.lemmas.List.{length-map}
 use Rattle.yq_nodes.specs.Entries.{step_of}
-use Rattle.yq_row_lines.specs.Lines.{lines_of}
+use Rattle.yq_lines.specs.Lines.{lines_of}
 use Rattle.yq_lines.proofs.PathLines.{last_line, no_last_line}
-use Rattle.yq_row_lines.proofs.WalkPositions.{no_line}
+use Rattle.yq_lines.proofs.WalkPositions.{no_line}
 use Rattle.yq_walk.proofs.position_reach.line_at.Goals as goal
 
 pub returns-then-is_empty-clause-found : goal.returns-then-is_empty-clause-found

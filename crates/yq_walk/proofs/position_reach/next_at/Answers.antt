@@ -1,10 +1,10 @@
 use Rattle.std.proofs.Common.{◌∷◌, option_map, ap, ◌∙◌, rules}
 use Rattle.yq_nodes.specs.Entries.{step_of}
-use Rattle.yq_row_lines.specs.Lines.{lines_of}
+use Rattle.yq_lines.specs.Lines.{lines_of}
 use Rattle.yq_lines.specs.Positions.{reach_in, reach_from}
-use Rattle.yq_row_lines.specs.RowWalk.{line_number}
-use Rattle.yq_row_lines.proofs.EntryKeys.{root_keys}
-use Rattle.yq_row_lines.proofs.WalkPositions.{first_number}
+use Rattle.yq_lines.specs.RowWalk.{line_number}
+use Rattle.yq_lines.proofs.EntryKeys.{root_keys}
+use Rattle.yq_lines.proofs.WalkPositions.{first_number}
 use Rattle.yq_walk.proofs.position_reach.next_at.Goals as goal
 
 pub next_in-requires-clause-keys : goal.next_in-requires-clause-keys

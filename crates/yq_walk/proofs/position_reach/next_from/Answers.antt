@@ -3,14 +3,14 @@ use Rattle.std.specs.Prelude.{option_and_then}
 use Rattle.yq_nodes.specs.Entries.{step_of}
 use Rattle.yq_nodes.specs.Inline.{depth_limit}
 use Rattle.yq_flow_scalars.specs.Keys.{are_distinct, keys_of}
-use Rattle.yq_row_lines.specs.Lines.{lines_of}
+use Rattle.yq_lines.specs.Lines.{lines_of}
 use Rattle.yq_lines.specs.Ends.{part}
 use Rattle.yq_lines.specs.Outline.{children, level}
 use Rattle.yq_lines.specs.Positions.{reach_under}
 use Rattle.yq_cut.specs.View.{slices}
-use Rattle.yq_row_lines.specs.RowWalk.{line_number}
-use Rattle.yq_row_lines.proofs.EntryKeys.{line_keys}
-use Rattle.yq_row_lines.proofs.WalkPositions.{located, head_here, head_none}
+use Rattle.yq_lines.specs.RowWalk.{line_number}
+use Rattle.yq_lines.proofs.EntryKeys.{line_keys}
+use Rattle.yq_lines.proofs.WalkPositions.{located, head_here, head_none}
 use Rattle.yq_walk.proofs.position_reach.next_from.Goals as goal
 
 pub returns-then-has_head-clause-found : goal.returns-then-has_head-clause-found

@@ -1,10 +1,10 @@
 use Rattle.std.proofs.Common.{Some, sym}
 use Rattle.std.proofs.lemmas.Option.{slice_get_within}
 use Rattle.yq_nodes.specs.Entries.{step_of}
-use Rattle.yq_row_lines.specs.Lines.{lines_of}
+use Rattle.yq_lines.specs.Lines.{lines_of}
 use Rattle.yq_lines.proofs.PathLines.{step_line}
-use Rattle.yq_row_lines.specs.RowWalk.{line_number}
-use Rattle.yq_row_lines.proofs.WalkPositions.{located}
+use Rattle.yq_lines.specs.RowWalk.{line_number}
+use Rattle.yq_lines.proofs.WalkPositions.{located}
 use Rattle.yq_walk.proofs.position_reach.next_in.Goals as goal
 
 pub returns-clause-found : goal.returns-clause-found

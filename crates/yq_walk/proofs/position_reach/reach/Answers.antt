@@ -1,7 +1,7 @@
 use Rattle.std.proofs.Common.{arith, map}
 use Rattle.std.proofs.lemmas.Grind.{common_steps}
 use Rattle.yq_nodes.specs.Entries.{step_of}
-use Rattle.yq_row_lines.specs.Lines.{lines_of}
+use Rattle.yq_lines.specs.Lines.{lines_of}
 use Rattle.yq_lines.proofs.PathLines.{from_root}
 use Rattle.yq_walk.proofs.position_reach.reach.Goals as goal
 

@@ -3,8 +3,8 @@ use Rattle.std.specs.Prelude.{IfSome}
 use Rattle.yq_nodes.specs.Entries.{step_of}
 use Rattle.yq_lines.specs.Ends.{reached}
 use Rattle.yq_lines.specs.Positions.{reach_from}
-use Rattle.yq_row_lines.specs.Lines.{lines_of}
-use Rattle.yq_row_lines.specs.RowWalk.{HasDocument, IsLine, line_number}
+use Rattle.yq_lines.specs.Lines.{lines_of}
+use Rattle.yq_lines.specs.RowWalk.{HasDocument, IsLine, line_number}
 use Rattle.yq_walk.proofs.position_reach.reach.Given as goal
 
 abbrev pub decreases-steps : goal.decreases-steps

@@ -1,5 +1,5 @@
 use Rattle.std.proofs.Common.{bytes_eq, rules}
-use Rattle.yq_row_lines.proofs.RowLaws.{quoted_lent}
+use Rattle.yq_lines.proofs.RowLaws.{quoted_lent}
 use Rattle.yq_walk.proofs.written_key.is_quoted_key.Goals as goal
 
 pub returns : goal.returns

@@ -1,6 +1,6 @@
 use Rattle.std.proofs.Common.{Some, option_map, ap, ◌∙◌}
 use Rattle.yq_cut.specs.View.{slices}
-use Rattle.yq_row_lines.proofs.WalkMarks.{quoted_agrees}
+use Rattle.yq_lines.proofs.WalkMarks.{quoted_agrees}
 use Rattle.yq_documents.specs.Decoded.{decoded_key}
 use Rattle.yq_documents.proofs.WalkedRows.{line_here, located_in, row_in, row_there, stands}
 use Rattle.yq_documents.proofs.LineWritten.{no_key, own_key}

@@ -1,6 +1,6 @@
 use Rattle.std.proofs.Common.{◌≡◌, not}
 use Rattle.yq_lines.specs.Ends.{is_end, part}
-use Rattle.yq_row_lines.proofs.WalkPositions.{position_line}
+use Rattle.yq_lines.proofs.WalkPositions.{position_line}
 use Rattle.yq_documents.proofs.WalkedRows.{line_back, position_here, stands, agrees_rows}
 use Rattle.yq_document_nodes.proofs.nodes.lines.has_lines.Goals as goal
 

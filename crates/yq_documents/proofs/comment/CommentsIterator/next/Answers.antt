@@ -19,8 +19,3 @@ pub returns-in-None-clause-steps : goal.returns-in-None-clause-steps
 returns-in-None-clause-steps c =
     let cut = at_cut _ _ _ _ c.is_empty.ensures c.if-is_empty.false c.split_line.ensures in
     (ap texts cut.0 ∙ no_text c.split_line.result.0.now (lines_of c.split_line.result.1.now) c.in-None.ensures, none_left _ refl)
-
-pub returns-in-Some-clause-goes : goal.returns-in-Some-clause-goes
-returns-in-Some-clause-goes c =
-    let cut = at_cut _ _ _ _ c.is_empty.ensures c.if-is_empty.false c.split_line.ensures in
-    record { on = λ _. (tt, tt, cut.1); keeps = tt; rests = λ _. tt }

@@ -3,9 +3,9 @@ use Rattle.yq_nodes.specs.Entries.{step_of}
 use Rattle.yq_lines.specs.View.{head_flow}
 use Rattle.yq_row_places.specs.FlowNodes.{flow_collection}
 use Rattle.yq_row_places.specs.NodeReading.{place_view}
-use Rattle.yq_row_lines.specs.RowWalk.{line_number}
+use Rattle.yq_lines.specs.RowWalk.{line_number}
 use Rattle.yq_flow_scalars.specs.Paths.{Step}
-use Rattle.yq_row_lines.specs.Lines.{lines_of}
+use Rattle.yq_lines.specs.Lines.{lines_of}
 use Rattle.yq_documents.specs.Reading.{cut_of}
 use Rattle.yq_row_places.proofs.FlowNodeLaws.{collection_is, agrees_for, head_line_at, head_for, no_collection, no_flow_agrees, no_head_at, other_head, rows_collection}
 use Rattle.yq_row_places.proofs.RowHeads.{line_fit, line_within, row_start, row_text}
@@ -14,8 +14,23 @@ use Rattle.yq_row_places.proofs.WalkNodes.{row_is, row_in_cut}
 use Rattle.yq_places.proofs.CutRows.{rows_are_view, items_known, line_known}
 use Rattle.yq_places.proofs.cut_text.CutText.flow_head.Goals as goal
 
+pub node_place-requires-clause-document : goal.node_place-requires-clause-document
+node_place-requires-clause-document c = (found_document c.args.self.now c.rows-rows.result.now (cut_of c.args.self.now) c.args.doc c.in-Some.document c.whole-whole.ensures.cut c.rows-rows.ensures c.in-Some.ensures.place c.in-Some.ensures.sound).document
+
 pub place_line-requires-clause-document : goal.place_line-requires-clause-document
 place_line-requires-clause-document c = (found_document c.args.self.now c.rows-rows.result.now (cut_of c.args.self.now) c.args.doc c.in-Some.document c.whole-whole.ensures.cut c.rows-rows.ensures c.in-Some.ensures.place c.in-Some.ensures.sound).document.stand
+
+pub row_head-requires-clause-within : goal.row_head-requires-clause-within
+row_head-requires-clause-within c =
+    let f = found_document c.args.self.now c.rows-rows.result.now (cut_of c.args.self.now) c.args.doc c.in-Some.document c.whole-whole.ensures.cut c.rows-rows.ensures c.in-Some.ensures.place c.in-Some.ensures.sound in
+    let k = found_in_cut c.args.self.now c.rows-rows.result.now (cut_of c.args.self.now) c.args.doc c.in-Some.document c.whole-whole.ensures.cut c.rows-rows.ensures f in
+    line_within c.rows-rows.result.now c.in-Some.document (cut_of c.args.self.now) k.0 c.in-Some-place_line.at c.in-Some-place_line.ensures.within
+
+pub row_head-requires-clause-fit : goal.row_head-requires-clause-fit
+row_head-requires-clause-fit c =
+    let f = found_document c.args.self.now c.rows-rows.result.now (cut_of c.args.self.now) c.args.doc c.in-Some.document c.whole-whole.ensures.cut c.rows-rows.ensures c.in-Some.ensures.place c.in-Some.ensures.sound in
+    let k = found_in_cut c.args.self.now c.rows-rows.result.now (cut_of c.args.self.now) c.args.doc c.in-Some.document c.whole-whole.ensures.cut c.rows-rows.ensures f in
+    line_fit c.rows-rows.result.now (cut_of c.args.self.now) c.args.doc c.in-Some.document f k.0 c.in-Some-place_line.at k.1 c.whole-whole.ensures.documents c.in-Some-place_line.ensures.within
 
 pub returns-in_default-node_place-clause-found : goal.returns-in_default-node_place-clause-found
 returns-in_default-node_place-clause-found c =
@@ -94,24 +109,6 @@ returns-clause-whole c =
 pub returns-clause-found : goal.returns-clause-found
 returns-clause-found c = agrees_for c.args.self.now (cut_of c.args.self.now) c.args.doc (map step_of c.args.steps.now) _ (returns-clause-whole c)
 
-pub place_line-requires-clause-rows_view : goal.place_line-requires-clause-rows_view
-place_line-requires-clause-rows_view c = rows_are_view c.args.self.now c.rows-rows.result.now c.whole-whole.ensures.cut c.rows-rows.ensures
-
-pub node_place-requires-clause-document : goal.node_place-requires-clause-document
-node_place-requires-clause-document c = (found_document c.args.self.now c.rows-rows.result.now (cut_of c.args.self.now) c.args.doc c.in-Some.document c.whole-whole.ensures.cut c.rows-rows.ensures c.in-Some.ensures.place c.in-Some.ensures.sound).document
-
-pub row_head-requires-clause-within : goal.row_head-requires-clause-within
-row_head-requires-clause-within c =
-    let f = found_document c.args.self.now c.rows-rows.result.now (cut_of c.args.self.now) c.args.doc c.in-Some.document c.whole-whole.ensures.cut c.rows-rows.ensures c.in-Some.ensures.place c.in-Some.ensures.sound in
-    let k = found_in_cut c.args.self.now c.rows-rows.result.now (cut_of c.args.self.now) c.args.doc c.in-Some.document c.whole-whole.ensures.cut c.rows-rows.ensures f in
-    line_within c.rows-rows.result.now c.in-Some.document (cut_of c.args.self.now) k.0 c.in-Some-place_line.at c.in-Some-place_line.ensures.within
-
-pub row_head-requires-clause-fit : goal.row_head-requires-clause-fit
-row_head-requires-clause-fit c =
-    let f = found_document c.args.self.now c.rows-rows.result.now (cut_of c.args.self.now) c.args.doc c.in-Some.document c.whole-whole.ensures.cut c.rows-rows.ensures c.in-Some.ensures.place c.in-Some.ensures.sound in
-    let k = found_in_cut c.args.self.now c.rows-rows.result.now (cut_of c.args.self.now) c.args.doc c.in-Some.document c.whole-whole.ensures.cut c.rows-rows.ensures f in
-    line_fit c.rows-rows.result.now (cut_of c.args.self.now) c.args.doc c.in-Some.document f k.0 c.in-Some-place_line.at k.1 c.whole-whole.ensures.documents c.in-Some-place_line.ensures.within
-
 pub node_place-requires-clause-rows_view : goal.node_place-requires-clause-rows_view
 node_place-requires-clause-rows_view c = rows_are_view c.args.self.now c.rows-rows.result.now c.whole-whole.ensures.cut c.rows-rows.ensures
 
@@ -120,3 +117,6 @@ node_place-requires-clause-known c = items_known c.args.self.now c.rows-rows.res
 
 pub node_place-requires-clause-line : goal.node_place-requires-clause-line
 node_place-requires-clause-line c = line_known c.args.self.now c.rows-rows.result.now c.line.result c.rows-rows.ensures c.line.ensures
+
+pub place_line-requires-clause-rows_view : goal.place_line-requires-clause-rows_view
+place_line-requires-clause-rows_view c = rows_are_view c.args.self.now c.rows-rows.result.now c.whole-whole.ensures.cut c.rows-rows.ensures

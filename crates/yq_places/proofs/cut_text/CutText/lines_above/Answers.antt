@@ -19,6 +19,11 @@ returns-in_err-row_line c = ap (option_map above_view) c.from_residual.ensures �
 pub returns-then-row_line-ne0 : goal.returns-then-row_line-ne0
 returns-then-row_line-ne0 c = other_lines_above c.args.path.now (cut_of c.args.self.now) (line_view c.in_ok-row_line.row_line) c.in_ok-row_line.ensures c.if-row_line-ne0.true
 
+pub row_start-start-requires-clause-within : goal.row_start-start-requires-clause-within
+row_start-start-requires-clause-within c =
+    row_within (whole c.self.inside.text) c.self.inside.rows.now c.args.path.now (line_view c.in_ok-row_line.row_line) c.self.invariant.0
+    (c.in_ok-row_line.ensures ∙ ap (λ t. option_map (numbers (document_row c.args.path.now.doc (cut_of t))) (row_line_at c.args.path.now (cut_of t))) (sym c.self.view_is))
+
 pub row-row-requires : goal.row-row-requires
 row-row-requires c =
     row_within (whole c.self.inside.text) c.self.inside.rows.now c.args.path.now (line_view c.in_ok-row_line.row_line) c.self.invariant.0
@@ -43,8 +48,3 @@ returns c =
     (λ (y : Slices) is. c.column-column.ensures ∙ ap (λ (s : Slices). s.column) (same_Some _ _ (sym c.row-row.ensures ∙ is)))
     c.if-row_line-ne0.false c.above.ensures
     ∙ ap (λ t. spec.lines_above c.args.path.now.doc (steps_of c.args.path.now) (cut_of t)) c.self.view_is
-
-pub row_start-start-requires-clause-within : goal.row_start-start-requires-clause-within
-row_start-start-requires-clause-within c =
-    row_within (whole c.self.inside.text) c.self.inside.rows.now c.args.path.now (line_view c.in_ok-row_line.row_line) c.self.invariant.0
-    (c.in_ok-row_line.ensures ∙ ap (λ t. option_map (numbers (document_row c.args.path.now.doc (cut_of t))) (row_line_at c.args.path.now (cut_of t))) (sym c.self.view_is))

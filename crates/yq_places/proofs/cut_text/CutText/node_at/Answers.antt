@@ -3,7 +3,7 @@ use Rattle.std.proofs.lemmas.Result.{IfOk-weaker}
 use Rattle.yq_nodes.specs.Entries.{step_of}
 use Rattle.yq_flow_scalars.specs.Answers.{◌>>=◌}
 use Rattle.yq_flow_scalars.specs.Paths.{Step}
-use Rattle.yq_row_lines.specs.Lines.{lines_of}
+use Rattle.yq_lines.specs.Lines.{lines_of}
 use Rattle.yq_documents.specs.Reading.{cut_of}
 use Rattle.yq_lines.specs.View.{head_view}
 use Rattle.yq_row_places.specs.NodeReading.{NodePlace, place_node, place_view}
@@ -11,8 +11,11 @@ use Rattle.yq_row_places.proofs.NodeAtLaws.{node_among, block_numbers_of, head_a
 use Rattle.yq_row_places.proofs.RowHeads.{line_fit, line_within}
 use Rattle.yq_row_places.proofs.WalkDocuments.{found_document, found_in_cut, place_found}
 use Rattle.yq_row_places.proofs.WalkNodes.{row_is, row_in_cut}
-use Rattle.yq_places.proofs.CutRows.{rows_are_view, items_known, line_known, no_document_node}
+use Rattle.yq_places.proofs.CutRows.{rows_are_view, items_known, line_known}
 use Rattle.yq_places.proofs.cut_text.CutText.node_at.Goals as goal
+
+pub node_place-requires-clause-document : goal.node_place-requires-clause-document
+node_place-requires-clause-document c = (found_document c.args.self.now c.rows-rows.result.now (cut_of c.args.self.now) c.args.doc c.in-Some.document c.whole-whole.ensures.cut c.rows-rows.ensures c.in-Some.ensures.place c.in-Some.ensures.sound).document
 
 pub place_line-requires-clause-document : goal.place_line-requires-clause-document
 place_line-requires-clause-document c = (found_document c.args.self.now c.rows-rows.result.now (cut_of c.args.self.now) c.args.doc c.in-Some.document c.whole-whole.ensures.cut c.rows-rows.ensures c.in-Some.ensures.place c.in-Some.ensures.sound).document.stand
@@ -37,6 +40,18 @@ returns-in_default-place_line c =
     ∙ block_numbers_of (lines_of k.document.stand.rows) steps (map step_of c.in-Some-node_place.left.now) (place_view c.in-Some.document k.document.stand.rows c.in-Some-node_place.place) (c.in-Some-node_place.ensures.found k.document) (c.in_default-place_line.ensures.found k.document.stand))
     ∙ node_is (cut_of t) c.args.doc steps 0 c.whole-whole.ensures.documents
 
+pub row_head-requires-clause-within : goal.row_head-requires-clause-within
+row_head-requires-clause-within c =
+    let f = found_document c.args.self.now c.rows-rows.result.now (cut_of c.args.self.now) c.args.doc c.in-Some.document c.whole-whole.ensures.cut c.rows-rows.ensures c.in-Some.ensures.place c.in-Some.ensures.sound in
+    let k = found_in_cut c.args.self.now c.rows-rows.result.now (cut_of c.args.self.now) c.args.doc c.in-Some.document c.whole-whole.ensures.cut c.rows-rows.ensures f in
+    line_within c.rows-rows.result.now c.in-Some.document (cut_of c.args.self.now) k.0 c.in-Some-place_line.at c.in-Some-place_line.ensures.within
+
+pub row_head-requires-clause-fit : goal.row_head-requires-clause-fit
+row_head-requires-clause-fit c =
+    let f = found_document c.args.self.now c.rows-rows.result.now (cut_of c.args.self.now) c.args.doc c.in-Some.document c.whole-whole.ensures.cut c.rows-rows.ensures c.in-Some.ensures.place c.in-Some.ensures.sound in
+    let k = found_in_cut c.args.self.now c.rows-rows.result.now (cut_of c.args.self.now) c.args.doc c.in-Some.document c.whole-whole.ensures.cut c.rows-rows.ensures f in
+    line_fit c.rows-rows.result.now (cut_of c.args.self.now) c.args.doc c.in-Some.document f k.0 c.in-Some-place_line.at k.1 c.whole-whole.ensures.documents c.in-Some-place_line.ensures.within
+
 pub returns : goal.returns
 returns c =
     let t : List ℕ = c.args.self.now in
@@ -52,30 +67,6 @@ returns c =
     ∙ node_is (cut_of t) c.args.doc steps 0 c.whole-whole.ensures.documents in
     IfOk-weaker c.head_node.result _ _ (λ o is. is ∙ agrees) c.head_node.ensures
 
-pub place_line-requires-clause-rows_view : goal.place_line-requires-clause-rows_view
-place_line-requires-clause-rows_view c = rows_are_view c.args.self.now c.rows-rows.result.now c.whole-whole.ensures.cut c.rows-rows.ensures
-
-pub block_node-requires-clause-rows_view : goal.block_node-requires-clause-rows_view
-block_node-requires-clause-rows_view c = rows_are_view c.args.self.now c.rows-rows.result.now c.whole-whole.ensures.cut c.rows-rows.ensures
-
-pub returns-in_default : goal.returns-in_default
-returns-in_default c = no_document_node c.args.doc (map step_of c.args.steps.now) (cut_of c.args.self.now) c.in_default.ensures.place
-
-pub node_place-requires-clause-document : goal.node_place-requires-clause-document
-node_place-requires-clause-document c = (found_document c.args.self.now c.rows-rows.result.now (cut_of c.args.self.now) c.args.doc c.in-Some.document c.whole-whole.ensures.cut c.rows-rows.ensures c.in-Some.ensures.place c.in-Some.ensures.sound).document
-
-pub row_head-requires-clause-within : goal.row_head-requires-clause-within
-row_head-requires-clause-within c =
-    let f = found_document c.args.self.now c.rows-rows.result.now (cut_of c.args.self.now) c.args.doc c.in-Some.document c.whole-whole.ensures.cut c.rows-rows.ensures c.in-Some.ensures.place c.in-Some.ensures.sound in
-    let k = found_in_cut c.args.self.now c.rows-rows.result.now (cut_of c.args.self.now) c.args.doc c.in-Some.document c.whole-whole.ensures.cut c.rows-rows.ensures f in
-    line_within c.rows-rows.result.now c.in-Some.document (cut_of c.args.self.now) k.0 c.in-Some-place_line.at c.in-Some-place_line.ensures.within
-
-pub row_head-requires-clause-fit : goal.row_head-requires-clause-fit
-row_head-requires-clause-fit c =
-    let f = found_document c.args.self.now c.rows-rows.result.now (cut_of c.args.self.now) c.args.doc c.in-Some.document c.whole-whole.ensures.cut c.rows-rows.ensures c.in-Some.ensures.place c.in-Some.ensures.sound in
-    let k = found_in_cut c.args.self.now c.rows-rows.result.now (cut_of c.args.self.now) c.args.doc c.in-Some.document c.whole-whole.ensures.cut c.rows-rows.ensures f in
-    line_fit c.rows-rows.result.now (cut_of c.args.self.now) c.args.doc c.in-Some.document f k.0 c.in-Some-place_line.at k.1 c.whole-whole.ensures.documents c.in-Some-place_line.ensures.within
-
 pub node_place-requires-clause-rows_view : goal.node_place-requires-clause-rows_view
 node_place-requires-clause-rows_view c = rows_are_view c.args.self.now c.rows-rows.result.now c.whole-whole.ensures.cut c.rows-rows.ensures
 
@@ -84,3 +75,9 @@ node_place-requires-clause-known c = items_known c.args.self.now c.rows-rows.res
 
 pub node_place-requires-clause-line : goal.node_place-requires-clause-line
 node_place-requires-clause-line c = line_known c.args.self.now c.rows-rows.result.now c.line.result c.rows-rows.ensures c.line.ensures
+
+pub place_line-requires-clause-rows_view : goal.place_line-requires-clause-rows_view
+place_line-requires-clause-rows_view c = rows_are_view c.args.self.now c.rows-rows.result.now c.whole-whole.ensures.cut c.rows-rows.ensures
+
+pub block_node-requires-clause-rows_view : goal.block_node-requires-clause-rows_view
+block_node-requires-clause-rows_view c = rows_are_view c.args.self.now c.rows-rows.result.now c.whole-whole.ensures.cut c.rows-rows.ensures

@@ -4,9 +4,9 @@ use Rattle.yq_text.specs.Halves.{whole}
 use Rattle.yq_flow_scalars.specs.Characters.{text_limit}
 use Rattle.yq_cut.specs.View.{view, rows_of}
 use Rattle.yq_documents.specs.Reading.{cut_of}
-use Rattle.yq_row_lines.specs.Extents.{IsRowsView}
+use Rattle.yq_lines.specs.Extents.{IsRowsView}
 use Rattle.yq_row_places.proofs.FoundEntries.{within_some}
-use Rattle.yq_row_lines.proofs.LengthLaws.{row_fits, view_small}
+use Rattle.yq_lines.proofs.LengthLaws.{row_fits, view_small}
 use Rattle.yq_row_places.proofs.RowHeads.{head_boundary, has_head, row_boundary, row_taken, slices_are}
 use Rattle.yq_places.proofs.CutRows.{row_within, rows_are_view}
 use Rattle.yq_places.proofs.cut_text.CutText.row_head.Goals as goal
@@ -36,22 +36,6 @@ split_at-requires-2 c =
     row_boundary t (cut_of t) c.args.i r.0 start c.whole-whole.ensures.utf8 c.whole-whole.ensures.cut r.1 at (whole c.split_at.result.1) (c.split_at.ensures.back ∙ ap (drop start) c.whole-whole.ensures.text)
     (view c.row-row.result) pieces c.head.result.now c.tail.result.now c.raw.result.now c.head.ensures c.tail.ensures c.raw.ensures c.head.utf8 c.tail.utf8 c.raw.utf8
 
-pub returns : goal.returns
-returns c = λ r is.
-    let t : List ℕ = c.args.self.now in
-    let start : ℕ = c.head_place-start.result.0 in
-    let u = c.whole-whole.ensures.utf8 in
-    let cut = c.whole-whole.ensures.cut in
-    let at = ap (λ (x : ℕ × ℕ). x.0) (c.head_place-start.ensures (cut_of t) c.rows-rows.ensures r is) in
-    let pieces = slices_are (cut_of t) c.rows-rows.result.now c.args.i (view c.row-row.result) r c.rows-rows.ensures c.row-row.ensures is in
-    let own = c.in-Some.ensures ∙ (c.split_at-2.ensures.front ∙ row_taken t (cut_of t) c.args.i r start u cut is at (whole c.split_at.result.1) (c.split_at.ensures.back ∙ ap (drop start) c.whole-whole.ensures.text)
-    (view c.row-row.result) pieces c.head.result.now c.tail.result.now c.raw.result.now c.head.ensures c.tail.ensures c.raw.ensures) in
-    let alone = has_head t (cut_of t) c.args.i r start u cut is at (view c.row-row.result) c.in-Some.text.now pieces own (c.requires.fit r is) in
-    record { view = c.in_ok-row_head.ensures.view alone; flow = c.in_ok-row_head.ensures.flow alone; text = own; before = at }
-
-pub row-row-requires : goal.row-row-requires
-row-row-requires c = row_within c.args.self.now c.rows-rows.result.now c.args.i c.rows-rows.ensures c.requires.within
-
 pub row_head-requires-clause-row : goal.row_head-requires-clause-row
 row_head-requires-clause-row c =
     let t : List ℕ = c.args.self.now in
@@ -65,8 +49,24 @@ row_head-requires-clause-row c =
     (view c.row-row.result) pieces c.head.result.now c.tail.result.now c.raw.result.now c.head.ensures c.tail.ensures c.raw.ensures) in
     has_head t (cut_of t) c.args.i r.0 start u cut r.1 at (view c.row-row.result) c.in-Some.text.now pieces own (c.requires.fit r.0 r.1)
 
+pub returns : goal.returns
+returns c = λ r is.
+    let t : List ℕ = c.args.self.now in
+    let start : ℕ = c.head_place-start.result.0 in
+    let u = c.whole-whole.ensures.utf8 in
+    let cut = c.whole-whole.ensures.cut in
+    let at = ap (λ (x : ℕ × ℕ). x.0) (c.head_place-start.ensures (cut_of t) c.rows-rows.ensures r is) in
+    let pieces = slices_are (cut_of t) c.rows-rows.result.now c.args.i (view c.row-row.result) r c.rows-rows.ensures c.row-row.ensures is in
+    let own = c.in-Some.ensures ∙ (c.split_at-2.ensures.front ∙ row_taken t (cut_of t) c.args.i r start u cut is at (whole c.split_at.result.1) (c.split_at.ensures.back ∙ ap (drop start) c.whole-whole.ensures.text)
+    (view c.row-row.result) pieces c.head.result.now c.tail.result.now c.raw.result.now c.head.ensures c.tail.ensures c.raw.ensures) in
+    let alone = has_head t (cut_of t) c.args.i r start u cut is at (view c.row-row.result) c.in-Some.text.now pieces own (c.requires.fit r is) in
+    record { view = c.in_ok-row_head.ensures.view alone; flow = c.in_ok-row_head.ensures.flow alone; text = own; before = at }
+
 pub head_place-start-requires-clause-within : goal.head_place-start-requires-clause-within
 head_place-start-requires-clause-within c = row_within c.args.self.now c.rows-rows.result.now c.args.i c.rows-rows.ensures c.requires.within
 
 pub head_place-start-requires-clause-rows_view : goal.head_place-start-requires-clause-rows_view
 head_place-start-requires-clause-rows_view c = rows_are_view c.args.self.now c.rows-rows.result.now c.whole-whole.ensures.cut c.rows-rows.ensures
+
+pub row-row-requires : goal.row-row-requires
+row-row-requires c = row_within c.args.self.now c.rows-rows.result.now c.args.i c.rows-rows.ensures c.requires.within

@@ -1,7 +1,7 @@
 use Rattle.std.proofs.Common.{◌≡◌, Bool, true, false, cond, List, refl, ap, ◌∙◌}
 use Rattle.yq_lines.specs.Outline.{Line}
 use Rattle.yq_documents.specs.Reading.{cut_of}
-use Rattle.yq_row_lines.specs.Lines.{lines_of}
+use Rattle.yq_lines.specs.Lines.{lines_of}
 use Rattle.yq_row_places.specs.Steps.{Steps, first_step, is_kind, steps_in}
 use Rattle.yq_row_places.proofs.StepLaws.{steps_found}
 use Rattle.yq_row_places.proofs.WalkDocuments.{found_document}
@@ -12,11 +12,11 @@ step_in : (dashes : Bool) (ls : List Line) → first_step (is_kind dashes) ls �
 step_in true ls = refl
 step_in false ls = refl
 
+pub first_step-requires-clause-document : goal.first_step-requires-clause-document
+first_step-requires-clause-document c =
+    (found_document c.args.self.now c.rows-rows.result.now (cut_of c.args.self.now) c.args.doc c.in-Some.document c.whole-whole.ensures.cut c.rows-rows.ensures c.in-Some.ensures.place c.in-Some.ensures.sound).document.stand
+
 pub returns : goal.returns
 returns c =
     let f = found_document c.args.self.now c.rows-rows.result.now (cut_of c.args.self.now) c.args.doc c.in-Some.document c.whole-whole.ensures.cut c.rows-rows.ensures c.in-Some.ensures.place c.in-Some.ensures.sound in
     c.first_step.ensures f.document.stand ∙ (step_in c.args.dashes (lines_of f.document.stand.rows) ∙ ap (λ (x : Steps). cond c.args.dashes x.sequence x.mapping) (steps_found c.rows-rows.result.now (cut_of c.args.self.now) c.args.doc c.in-Some.document f))
-
-pub first_step-requires-clause-document : goal.first_step-requires-clause-document
-first_step-requires-clause-document c =
-    (found_document c.args.self.now c.rows-rows.result.now (cut_of c.args.self.now) c.args.doc c.in-Some.document c.whole-whole.ensures.cut c.rows-rows.ensures c.in-Some.ensures.place c.in-Some.ensures.sound).document.stand

@@ -5,9 +5,6 @@ use Rattle.yq_text.specs.Halves.{whole}
 use Rattle.yq_row_places.proofs.HeldLaws.{cut_agrees}
 use Rattle.yq_places.proofs.cut_text.CutText.to_line.Goals as goal
 
-pub with_line-requires-clause-cut : goal.with_line-requires-clause-cut
-with_line-requires-clause-cut c = cut_agrees (whole c.whole-text.result) c.args.self.now c.rows-rows.result.now c.whole-text.ensures.text c.whole-text.ensures.cut c.rows-rows.ensures c.whole-text.ensures.documents
-
 pub known_along-at-requires-clause-document : goal.known_along-at-requires-clause-document
 known_along-at-requires-clause-document c =
     (found_document c.args.self.now c.rows-rows.result.now (cut_of c.args.self.now) c.args.path.now.doc c.in-Some.document c.whole-text.ensures.cut c.rows-rows.ensures c.in-Some.ensures.place c.in-Some.ensures.sound).document
@@ -20,3 +17,6 @@ known_along-at-requires-clause-known c = items_known c.args.self.now c.rows-rows
 
 pub resumed-requires-clause-cut : goal.resumed-requires-clause-cut
 resumed-requires-clause-cut c = cut_agrees (whole c.whole-text.result) c.args.self.now c.rows-rows.result.now c.whole-text.ensures.text c.whole-text.ensures.cut c.rows-rows.ensures c.whole-text.ensures.documents
+
+pub with_line-requires-clause-cut : goal.with_line-requires-clause-cut
+with_line-requires-clause-cut c = cut_agrees (whole c.whole-text.result) c.args.self.now c.rows-rows.result.now c.whole-text.ensures.text c.whole-text.ensures.cut c.rows-rows.ensures c.whole-text.ensures.documents

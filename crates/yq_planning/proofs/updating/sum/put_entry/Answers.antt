@@ -36,9 +36,9 @@ returns-in-Some-clause-numbers c = λ k.
     ∙ number_same k (map field_of es) c.in-Some.number (string_bytes r.0) (node_of c.args.value) (field_of r) (number_within j (map field_of es) c.in-Some.number at)
     (ap (λ (x : List ℕ × Node). x.0) (map_get field_of es c.in-Some.number r) ∙ ap (λ (x : Entry). string_bytes x.0) (sym c.index_mut.ensures.value)))
 
+pub returns-in_ok-push-in-None-clause-entries : goal.returns-in_ok-push-in-None-clause-entries
+returns-in_ok-push-in-None-clause-entries c = search (rules, string_bytes, map_push, with_absent)
+
 pub returns-in_ok-push-in-None-clause-numbers : goal.returns-in_ok-push-in-None-clause-numbers
 returns-in_ok-push-in-None-clause-numbers c = λ k.
     numbered_push field_of c.args.entries.now.items _ (c.args.key, c.args.value) c.as_str-in-None.result.now k (length c.as_slice.result.now) _ _ c.as_str-in-None.ensures.value (ap length c.as_slice.ensures.value) (c.requires k) (c.in_ok-keep_number-in-None.ensures k) c.in_ok-push-in-None.ensures.items
-
-pub returns-in_ok-push-in-None-clause-entries : goal.returns-in_ok-push-in-None-clause-entries
-returns-in_ok-push-in-None-clause-entries c = search (rules, string_bytes, map_push, with_absent)

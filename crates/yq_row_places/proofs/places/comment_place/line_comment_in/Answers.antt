@@ -1,6 +1,6 @@
 use Rattle.std.proofs.Common.{length, ap, arith, rules}
 use Rattle.yq_cut.specs.View.{view}
-use Rattle.yq_row_lines.proofs.LengthLaws.{row_fits, view_small}
+use Rattle.yq_lines.proofs.LengthLaws.{row_fits, view_small}
 use Rattle.yq_row_places.proofs.places.comment_place.line_comment_in.Goals as goal
 
 pub front_len-requires : goal.front_len-requires

@@ -1,10 +1,10 @@
 use Rattle.std.proofs.Common.{◌≡◌, eqb, map, Some, refl, sym, ap, ◌∙◌, subst}
 use Rattle.std.proofs.lemmas.List.{length-map}
-use Rattle.yq_row_lines.specs.Lines.{lines_of}
+use Rattle.yq_lines.specs.Lines.{lines_of}
 use Rattle.yq_nodes.specs.Entries.{step_of}
 use Rattle.yq_row_places.specs.EntryReading.{head_extent, line_content_of, line_head, lines_content}
 use Rattle.yq_row_places.specs.NodeReading.{IsPlace, at_head, at_lines, node_place, place_view}
-use Rattle.yq_row_lines.specs.RowWalk.{line_number}
+use Rattle.yq_lines.specs.RowWalk.{line_number}
 use Rattle.yq_row_places.proofs.NodePlaceLaws.{said_further, said_nowhere, said_there}
 use Rattle.yq_row_places.proofs.WalkNodes.{row_known}
 use Rattle.yq_row_places.proofs.places.content_place.content_of.Goals as goal

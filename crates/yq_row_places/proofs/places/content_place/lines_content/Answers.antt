@@ -1,11 +1,11 @@
 use Rattle.std.proofs.Common.{◌-◌, cond, Some, refl, ap, ◌∙◌, arith}
-use Rattle.yq_row_lines.specs.Lines.{lines_of}
+use Rattle.yq_lines.specs.Lines.{lines_of}
 use Rattle.yq_lines.specs.Positions.{is_bare}
 use Rattle.yq_lines.proofs.EndsLaws.{deeper_line, not_end}
 use Rattle.yq_row_places.specs.EntryReading.{head_extent, line_head, lines_place}
-use Rattle.yq_row_lines.specs.RowWalk.{line_number, lines_stop}
+use Rattle.yq_lines.specs.RowWalk.{line_number, lines_stop}
 use Rattle.yq_row_places.proofs.WalkNodes.{first_here, none_here, row_known}
-use Rattle.yq_row_lines.proofs.WalkPositions.{located, position_line}
+use Rattle.yq_lines.proofs.WalkPositions.{located, position_line}
 use Rattle.yq_row_places.proofs.places.content_place.lines_content.Goals as goal
 
 pub returns-then-not-is_deeper : goal.returns-then-not-is_deeper

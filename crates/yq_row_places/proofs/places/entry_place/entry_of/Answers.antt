@@ -1,11 +1,11 @@
 use Rattle.std.proofs.Common.{◌-◌, ℕ, Option, ap, ◌∙◌, arith}
 use Rattle.std.proofs.lemmas.Option.{slice_get_within}
 use Rattle.yq_flow_scalars.specs.Answers.{◌>>=◌}
-use Rattle.yq_row_lines.specs.Lines.{lines_of}
+use Rattle.yq_lines.specs.Lines.{lines_of}
 use Rattle.yq_lines.proofs.LineEnds.{end_agrees}
 use Rattle.yq_row_places.specs.EntryReading.{line_entry, lines_place}
-use Rattle.yq_row_lines.specs.RowWalk.{line_number}
-use Rattle.yq_row_lines.proofs.WalkPositions.{line_position, located}
+use Rattle.yq_lines.specs.RowWalk.{line_number}
+use Rattle.yq_lines.proofs.WalkPositions.{line_position, located}
 use Rattle.yq_row_places.proofs.places.entry_place.entry_of.Goals as goal
 
 pub returns-in_err-at : goal.returns-in_err-at

@@ -5,7 +5,7 @@ use Rattle.yq_flow_scalars.specs.Text.{is_empty}
 use Rattle.yq_cut.specs.View.{Slices, view}
 use Rattle.yq_row_places.specs.CommentPlaces.{end_before}
 use Rattle.yq_row_places.specs.LineReading.{lines_view}
-use Rattle.yq_row_lines.specs.RowWalk.{line_column}
+use Rattle.yq_lines.specs.RowWalk.{line_column}
 use Rattle.yq_row_places.proofs.EntryRowLaws.{column_fits, last_within, pieces_at, row_within, is_view}
 use Rattle.yq_row_places.proofs.HeldTexts.{column_is}
 use Rattle.yq_row_places.proofs.LoneLaws.{dash_cut, dash_fits, dash_lines}
@@ -13,6 +13,12 @@ use Rattle.yq_row_places.proofs.places.entry_standing.compact_in.Goals as goal
 
 pub row-row-requires : goal.row-row-requires
 row-row-requires c = let h = c.requires.entry in row_within (whole c.args.text) c.args.rows.now h.entry c.args.at.row c.args.at.end h.is.rows
+
+pub row_stop-stop-requires-clause-within : goal.row_stop-stop-requires-clause-within
+row_stop-stop-requires-clause-within c = let h = c.requires.entry in last_within (whole c.args.text) c.args.rows.now h.entry c.args.at.row c.args.at.end h.is.rows
+
+pub line_start-requires-clause-within : goal.line_start-requires-clause-within
+line_start-requires-clause-within c = let h = c.requires.entry in row_within (whole c.args.text) c.args.rows.now h.entry c.args.at.row c.args.at.end h.is.rows
 
 pub cut_lines-lower-requires : goal.cut_lines-lower-requires
 cut_lines-lower-requires c =
@@ -44,12 +50,6 @@ mark_of-requires c = let h = c.requires.entry in column_fits (whole c.args.text)
 
 pub line_column-requires : goal.line_column-requires
 line_column-requires c = let h = c.requires.entry in column_fits (whole c.args.text) c.args.rows.now h.entry c.args.at.row c.args.at.end h.is.rows (view c.row-row.result) c.row-row.ensures
-
-pub row_stop-stop-requires-clause-within : goal.row_stop-stop-requires-clause-within
-row_stop-stop-requires-clause-within c = let h = c.requires.entry in last_within (whole c.args.text) c.args.rows.now h.entry c.args.at.row c.args.at.end h.is.rows
-
-pub line_start-requires-clause-within : goal.line_start-requires-clause-within
-line_start-requires-clause-within c = let h = c.requires.entry in row_within (whole c.args.text) c.args.rows.now h.entry c.args.at.row c.args.at.end h.is.rows
 
 pub row_stop-stop-requires-clause-rows_view : goal.row_stop-stop-requires-clause-rows_view
 row_stop-stop-requires-clause-rows_view c = let h = c.requires.entry in is_view (whole c.args.text) c.args.rows.now h.entry c.args.at.row c.args.at.end h.is.rows

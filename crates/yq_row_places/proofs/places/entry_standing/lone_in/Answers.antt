@@ -8,6 +8,9 @@ use Rattle.yq_row_places.proofs.places.entry_standing.lone_in.Goals as goal
 pub row-row-requires : goal.row-row-requires
 row-row-requires c = let h = c.requires in row_within (whole c.args.text) c.args.rows.now h.entry c.args.i h.end h.is
 
+pub head_place-start-requires-clause-within : goal.head_place-start-requires-clause-within
+head_place-start-requires-clause-within c = let h = c.requires in row_within (whole c.args.text) c.args.rows.now h.entry c.args.i h.end h.is
+
 pub split_at-requires : goal.split_at-requires
 split_at-requires c =
     let h = c.requires in
@@ -23,9 +26,6 @@ pub returns : goal.returns
 returns c = λ e end h a.
     lone_is (whole c.args.text) c.args.rows.now e c.args.i end h (c.head_place-start.result.0, c.head_place-start.result.1) c.head_place-start.ensures (view c.row-row.result) c.row-row.ensures (whole c.args.text) (whole c.split_at.result.0) (whole c.split_at-2.result.0) (whole c.split_at.result.1) c.head-head.result.now
     refl c.split_at.ensures.front c.split_at.ensures.back c.split_at-2.ensures.front c.head-head.ensures a
-
-pub head_place-start-requires-clause-within : goal.head_place-start-requires-clause-within
-head_place-start-requires-clause-within c = let h = c.requires in row_within (whole c.args.text) c.args.rows.now h.entry c.args.i h.end h.is
 
 pub head_place-start-requires-clause-rows_view : goal.head_place-start-requires-clause-rows_view
 head_place-start-requires-clause-rows_view c = let h = c.requires in is_view (whole c.args.text) c.args.rows.now h.entry c.args.i h.end h.is

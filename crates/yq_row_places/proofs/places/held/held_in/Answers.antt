@@ -10,6 +10,12 @@ use Rattle.yq_row_places.proofs.places.held.held_in.Goals as goal
 pub row-row-requires : goal.row-row-requires
 row-row-requires c = let h = c.requires in row_within (whole c.args.text) c.args.rows.now h.entry c.args.at.row c.args.at.end h.is.rows
 
+pub head_place-end-requires-clause-within : goal.head_place-end-requires-clause-within
+head_place-end-requires-clause-within c = let h = c.requires in row_within (whole c.args.text) c.args.rows.now h.entry c.args.at.row c.args.at.end h.is.rows
+
+pub row_stop-stop-requires-clause-within : goal.row_stop-stop-requires-clause-within
+row_stop-stop-requires-clause-within c = let h = c.requires in last_within (whole c.args.text) c.args.rows.now h.entry c.args.at.row c.args.at.end h.is.rows
+
 pub cut_lines-lower-requires : goal.cut_lines-lower-requires
 cut_lines-lower-requires c =
     let h = c.requires in
@@ -55,12 +61,6 @@ returns c = λ e h.
     held_is t s e c.args.at.row c.args.at.end h.rows u place c.head_place-end.ensures (view c.row-row.result) c.row-row.ensures c.row_stop-stop.result c.row_stop-stop.ensures
     c.mark_of.result.column c.args.at.dashes c.mark_of.result.keyed c.mark_of.result.noted (whole c.split_at.result.0) c.space_before-space.result.now c.head-head.result.now c.either.result.now c.either-2.result.now (tail_view c.cut_tail-tail.result) (lines_view c.cut_lines-lower.result)
     c.mark_of.ensures.column h.dashes (c.mark_of.ensures.keyed ∙ c.has_key.ensures) c.cut_tail-tail.ensures c.mark_of.ensures.noted lower c.space_before-space.ensures c.head-head.ensures c.split_at.ensures.front c.either.ensures c.either-2.ensures
-
-pub head_place-end-requires-clause-within : goal.head_place-end-requires-clause-within
-head_place-end-requires-clause-within c = let h = c.requires in row_within (whole c.args.text) c.args.rows.now h.entry c.args.at.row c.args.at.end h.is.rows
-
-pub row_stop-stop-requires-clause-within : goal.row_stop-stop-requires-clause-within
-row_stop-stop-requires-clause-within c = let h = c.requires in last_within (whole c.args.text) c.args.rows.now h.entry c.args.at.row c.args.at.end h.is.rows
 
 pub row_stop-stop-requires-clause-rows_view : goal.row_stop-stop-requires-clause-rows_view
 row_stop-stop-requires-clause-rows_view c = let h = c.requires in is_view (whole c.args.text) c.args.rows.now h.entry c.args.at.row c.args.at.end h.is.rows

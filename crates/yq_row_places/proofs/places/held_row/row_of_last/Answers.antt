@@ -1,6 +1,6 @@
 use Rattle.std.proofs.Common.{◌+◌, refl, ◌∙◌, arith}
 use Rattle.yq_cut.specs.View.{view}
-use Rattle.yq_row_lines.proofs.LengthLaws.{row_fits, view_small}
+use Rattle.yq_lines.proofs.LengthLaws.{row_fits, view_small}
 use Rattle.yq_row_places.proofs.HeldRowLaws.{last_of}
 use Rattle.yq_row_places.proofs.places.held_row.row_of_last.Goals as goal
 

@@ -1,7 +1,7 @@
 use Rattle.std.proofs.Common.{map}
 use Rattle.yq_nodes.specs.Entries.{step_of}
 use Rattle.yq_lines.proofs.PathLines.{from_root}
-use Rattle.yq_row_lines.specs.Lines.{lines_of}
+use Rattle.yq_lines.specs.Lines.{lines_of}
 use Rattle.yq_row_places.proofs.places.known_at.known_along.Goals as goal
 
 pub steps-init : goal.steps-init

@@ -1,5 +1,5 @@
 use Rattle.std.proofs.Common.{inl, refl, ◌∙◌}
-use Rattle.yq_row_lines.proofs.WalkPositions.{located, stop_agrees}
+use Rattle.yq_lines.proofs.WalkPositions.{located, stop_agrees}
 use Rattle.yq_row_places.proofs.places.known_end.behind_all.Goals as goal
 
 pub returns-clause-number : goal.returns-clause-number

@@ -1,5 +1,5 @@
 use Rattle.std.proofs.Common.{refl, ◌∙◌, arith}
-use Rattle.yq_row_lines.proofs.KnownLaws.{count_one, known_more, moved_to, one_there}
+use Rattle.yq_lines.proofs.KnownLaws.{count_one, known_more, moved_to, one_there}
 use Rattle.yq_row_places.proofs.places.known_end.known_last.Goals as goal
 
 pub rows-preserved : goal.rows-preserved

@@ -1,5 +1,5 @@
-use Rattle.yq_row_lines.specs.RowWalk.{IsKnown}
-use Rattle.yq_row_lines.proofs.KnownLaws.{moved_to}
+use Rattle.yq_lines.specs.RowWalk.{IsKnown}
+use Rattle.yq_lines.proofs.KnownLaws.{moved_to}
 use Rattle.yq_row_places.proofs.places.known_end.known_last.Given as goal
 
 -- the last row is known, and so many items are passed before this one

@@ -1,6 +1,6 @@
 use Rattle.std.proofs.Common.{◌≡◌, IfSome, arith, map, refl, subst}
 use Rattle.yq_nodes.specs.Entries.{step_of}
-use Rattle.yq_row_lines.specs.declared.line_position.Stretch.{Stretch}
+use Rattle.yq_lines.specs.declared.line_position.Stretch.{Stretch}
 use Rattle.yq_row_places.specs.RowWalk.{IsKnownLine, IsLineAt}
 use Rattle.yq_row_places.proofs.places.known_line.if_along.Goals as goal
 

@@ -1,10 +1,10 @@
 use Rattle.std.proofs.Common.{cond, not, refl, sym, ap, ◌∙◌}
-use Rattle.yq_row_lines.specs.Lines.{lines_of}
+use Rattle.yq_lines.specs.Lines.{lines_of}
 use Rattle.yq_lines.specs.Ends.{is_end, part}
 use Rattle.yq_row_places.specs.NodesAt.{list, map as mapping}
-use Rattle.yq_row_lines.specs.RowWalk.{line_number}
+use Rattle.yq_lines.specs.RowWalk.{line_number}
 use Rattle.yq_row_places.proofs.NodeAtLaws.{collection_view}
-use Rattle.yq_row_lines.proofs.WalkPositions.{located, position_line}
+use Rattle.yq_lines.proofs.WalkPositions.{located, position_line}
 use Rattle.yq_row_places.proofs.places.node_at.lines_node.Goals as goal
 
 pub returns-then-is_item_at : goal.returns-then-is_item_at

@@ -4,10 +4,10 @@ use Rattle.std.proofs.lemmas.Option.{same_Some}
 use Rattle.yq_nodes.specs.Entries.{step_of}
 use Rattle.yq_lines.specs.Outline.{level}
 use Rattle.yq_cut.specs.View.{slices}
-use Rattle.yq_row_lines.specs.RowWalk.{line_number}
+use Rattle.yq_lines.specs.RowWalk.{line_number}
 use Rattle.yq_row_places.proofs.NodeAtLaws.{lines_place}
 use Rattle.yq_row_places.proofs.WalkNodes.{no_steps}
-use Rattle.yq_row_lines.proofs.WalkPositions.{located}
+use Rattle.yq_lines.proofs.WalkPositions.{located}
 use Rattle.yq_row_places.proofs.places.node_place.line_place.Goals as goal
 
 pub returns-clause-agrees : goal.returns-clause-agrees

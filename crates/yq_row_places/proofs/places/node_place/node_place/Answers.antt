@@ -1,10 +1,10 @@
 use Rattle.std.proofs.Common.{map}
-use Rattle.yq_row_lines.specs.Lines.{lines_of}
+use Rattle.yq_lines.specs.Lines.{lines_of}
 use Rattle.yq_nodes.specs.Entries.{step_of}
 use Rattle.yq_row_places.specs.NodeReading.{place_view}
-use Rattle.yq_row_lines.specs.RowWalk.{line_number}
+use Rattle.yq_lines.specs.RowWalk.{line_number}
 use Rattle.yq_row_places.proofs.NodeAtLaws.{placed_at}
-use Rattle.yq_row_lines.proofs.WalkPositions.{located}
+use Rattle.yq_lines.proofs.WalkPositions.{located}
 use Rattle.yq_row_places.proofs.places.node_place.node_place.Goals as goal
 
 pub returns-clause-found : goal.returns-clause-found

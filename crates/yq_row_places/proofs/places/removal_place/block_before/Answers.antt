@@ -1,6 +1,6 @@
 use Rattle.std.proofs.Common.{◌≡◌, ◌<◌, ℕ, ◌+◌, ◌-◌, arith, rules}
 use Rattle.yq_row_places.proofs.RemovalBounds.{last_row}
-use Rattle.yq_row_lines.proofs.KnownLaws.{get_dropped, get_front}
+use Rattle.yq_lines.proofs.KnownLaws.{get_dropped, get_front}
 use Rattle.yq_row_places.proofs.places.removal_place.block_before.Goals as goal
 
 pub returns-else-at-first : goal.returns-else-at-first

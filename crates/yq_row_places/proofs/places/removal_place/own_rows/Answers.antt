@@ -1,13 +1,13 @@
 use Rattle.std.proofs.Common.{◌-◌, map, arith}
 use Rattle.std.proofs.lemmas.Option.{slice_get_within}
 use Rattle.yq_nodes.specs.Entries.{step_of}
-use Rattle.yq_row_lines.specs.Lines.{lines_of}
+use Rattle.yq_lines.specs.Lines.{lines_of}
 use Rattle.yq_lines.proofs.LineEnds.{end_agrees}
-use Rattle.yq_row_lines.specs.RowWalk.{line_number}
+use Rattle.yq_lines.specs.RowWalk.{line_number}
 use Rattle.yq_row_places.proofs.RemovalPlaceLaws.{no_own, not_own, own_agrees}
 use Rattle.yq_row_places.proofs.WalkDocuments.{row_line_number}
-use Rattle.yq_row_lines.proofs.WalkRows.{rows_length}
-use Rattle.yq_row_lines.proofs.WalkPositions.{located}
+use Rattle.yq_lines.proofs.WalkRows.{rows_length}
+use Rattle.yq_lines.proofs.WalkPositions.{located}
 use Rattle.yq_row_places.proofs.places.removal_place.own_rows.Goals as goal
 
 pub returns-in_err-at : goal.returns-in_err-at

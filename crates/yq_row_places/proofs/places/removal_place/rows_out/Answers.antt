@@ -12,12 +12,21 @@ use Rattle.yq_row_places.proofs.places.removal_place.rows_out.Goals as goal
 pub row-requires : goal.row-requires
 row-requires c = (out_agrees (whole c.args.text) c.args.rows.now c.requires.part c.requires.rows _ c.requires.is).at_within
 
+pub row_start-requires-clause-within : goal.row_start-requires-clause-within
+row_start-requires-clause-within c = (out_agrees (whole c.args.text) c.args.rows.now c.requires.part c.requires.rows _ c.requires.is).at_within
+
 pub overflow_add-start : goal.overflow_add-start
 overflow_add-start c =
     let o = out_agrees (whole c.args.text) c.args.rows.now c.requires.part c.requires.rows _ c.requires.is in
     let kept = c.split_run.ensures.kept ∙ ap (λ g. joined (before_run (lines_of g))) c.gap.ensures in
     let own = kept ∙ o.kept (view c.row.result) c.row.ensures in
     omega (arith, c.row_start.ensures, ap length own, o.start, ap length o.text, length-append (rows_out c.requires.part c.requires.rows).before ((rows_out c.requires.part c.requires.rows).gone ++ ((rows_out c.requires.part c.requires.rows).gap ++ (rows_out c.requires.part c.requires.rows).behind)), ap length c.requires.is.cut.text, c.requires.is.cut.size)
+
+pub row_stop-stop-requires-clause-within : goal.row_stop-stop-requires-clause-within
+row_stop-stop-requires-clause-within c = (out_agrees (whole c.args.text) c.args.rows.now c.requires.part c.requires.rows _ c.requires.is).last_within
+
+pub block_before-block-requires-clause-within : goal.block_before-block-requires-clause-within
+block_before-block-requires-clause-within c = (out_agrees (whole c.args.text) c.args.rows.now c.requires.part c.requires.rows _ c.requires.is).at_within
 
 pub split_at-requires : goal.split_at-requires
 split_at-requires c =
@@ -67,15 +76,6 @@ returns c = λ d x h.
     let behind = c.split_at-3.ensures.back ∙ (ap (drop gap) (c.split_at-2.ensures.back ∙ rest) ∙ agrees.cuts.behind_is) in
     let seam = c.seam_of.ensures (last_block x.front) block ∙ (λ i. seam_behind (last_block x.front) (agrees.column_is i) (agrees.kept_is i)) in
     λ i. record { before = before i; gone = gone i; gap = agrees.gap_is i; behind = behind i; seam = seam i }
-
-pub row_start-requires-clause-within : goal.row_start-requires-clause-within
-row_start-requires-clause-within c = (out_agrees (whole c.args.text) c.args.rows.now c.requires.part c.requires.rows _ c.requires.is).at_within
-
-pub row_stop-stop-requires-clause-within : goal.row_stop-stop-requires-clause-within
-row_stop-stop-requires-clause-within c = (out_agrees (whole c.args.text) c.args.rows.now c.requires.part c.requires.rows _ c.requires.is).last_within
-
-pub block_before-block-requires-clause-within : goal.block_before-block-requires-clause-within
-block_before-block-requires-clause-within c = (out_agrees (whole c.args.text) c.args.rows.now c.requires.part c.requires.rows _ c.requires.is).at_within
 
 pub row_stop-stop-requires-clause-rows_view : goal.row_stop-stop-requires-clause-rows_view
 row_stop-stop-requires-clause-rows_view c = own_view (whole c.args.text) c.args.rows.now c.requires.part c.requires.rows (c.args.marks.0, c.args.marks.1, c.args.marks.2) c.requires.is

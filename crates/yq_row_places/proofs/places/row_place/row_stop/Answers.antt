@@ -1,5 +1,5 @@
 use Rattle.std.proofs.Common.{rules}
-use Rattle.yq_row_lines.proofs.LengthLaws.{row_fits, view_small}
+use Rattle.yq_lines.proofs.LengthLaws.{row_fits, view_small}
 use Rattle.yq_row_places.proofs.places.row_place.row_stop.Goals as goal
 
 pub row_len-requires : goal.row_len-requires

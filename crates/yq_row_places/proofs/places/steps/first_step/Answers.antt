@@ -1,5 +1,5 @@
 use Rattle.std.proofs.Common.{◌≡◌, ◌-◌, drop, sym, ap, ◌∙◌, arith}
-use Rattle.yq_row_lines.specs.Lines.{lines_of}
+use Rattle.yq_lines.specs.Lines.{lines_of}
 use Rattle.yq_row_places.proofs.StepLaws.{step_behind, steps_agrees, step_here, step_on}
 use Rattle.yq_row_places.proofs.places.steps.first_step.Goals as goal
 

@@ -1,6 +1,6 @@
 use Rattle.std.proofs.Common.{◌≡◌, ◌-◌, drop}
-use Rattle.yq_row_lines.specs.Lines.{lines_of}
-use Rattle.yq_row_lines.specs.RowWalk.{HasRows}
+use Rattle.yq_lines.specs.Lines.{lines_of}
+use Rattle.yq_lines.specs.RowWalk.{HasRows}
 use Rattle.yq_row_places.specs.Steps.{first_step, is_kind}
 use Rattle.yq_row_places.proofs.StepLaws.{step_behind}
 use Rattle.yq_row_places.proofs.places.steps.first_step.Given as goal

@@ -2,7 +2,7 @@ use Rattle.std.proofs.Common.{◌≡◌, ◌-◌, ◌+◌, map, length, ◌∙�
 use Rattle.yq_cut.specs.View.{slices}
 use Rattle.yq_nodes.specs.Entries.{step_of}
 use Rattle.yq_row_places.proofs.WalkDocuments.{row_line_reached, none_reached}
-use Rattle.yq_row_lines.proofs.WalkPositions.{located}
+use Rattle.yq_lines.proofs.WalkPositions.{located}
 use Rattle.yq_row_places.proofs.places.stretch.row_line_along.Goals as goal
 
 pub returns-in_err-position : goal.returns-in_err-position

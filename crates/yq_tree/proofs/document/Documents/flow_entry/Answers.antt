@@ -5,7 +5,7 @@ use Rattle.yq_nodes.specs.Places.{Placed}
 use Rattle.yq_lines.specs.Ends.{reached}
 use Rattle.yq_cut.specs.Grammar.{IsCut}
 use Rattle.yq_cut.specs.View.{rows_view}
-use Rattle.yq_row_lines.specs.Lines.{lines_of}
+use Rattle.yq_lines.specs.Lines.{lines_of}
 use Rattle.yq_documents.specs.Located.{steps_of}
 use Rattle.yq_documents.specs.Decoded.{decoded_flow}
 use Rattle.yq_documents.specs.Reading.{all_documents, cut_of}

@@ -1,3 +1,0 @@
-pub mod MarkedValues
-pub mod RootEdits
-pub mod TouchedRanges

@@ -1,0 +1,5 @@
+//! The calls on documents and programs.
+
+mod growths;
+mod long;
+mod nodes;

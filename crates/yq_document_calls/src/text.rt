@@ -1,0 +1,4 @@
+//! The calls on scalars, inline nodes, flow collections and rows.
+
+mod called;
+mod growths;

@@ -1,3 +1,0 @@
-pub mod EditPlaces
-pub mod Emptying
-pub mod PartPuts

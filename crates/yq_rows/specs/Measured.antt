@@ -1,0 +1,71 @@
+-- What is told of an inline node of which only the end is found (own).
+use Rattle.std.specs.Prelude.{ℕ, Bool, true, false, ◌||◌, ◌&&◌, not, List, Option, Some, None}
+use Rattle.yq_flow_scalars.specs.Answers.{◌>>=◌}
+use Rattle.yq_flow_scalars.specs.Text.{is_empty}
+use Rattle.yq_nodes.specs.Places.{Placed, placed, Content, nothing, name, text, sequence, mapping}
+use Rattle.yq_rows.specs.declared.measuring.NodeKind.{NodeKind}
+use Rattle.yq_rows.specs.declared.measuring.NodeKind.TheVariants as kinds
+use Rattle.yq_rows.specs.declared.measuring.Measured.{Measured}
+use Rattle.yq_flow_scalars.specs.declared.style.Style.{Style}
+use Rattle.yq_flow_scalars.specs.declared.style.Style.TheVariants as styles
+
+-- the kind of a scalar of this style (own)
+abbrev pub kind_of_style : Style → NodeKind
+kind_of_style styles.Plain = kinds.Plain
+kind_of_style styles.Single = kinds.Quoted
+kind_of_style styles.Double = kinds.Quoted
+kind_of_style styles.Literal = kinds.Quoted
+kind_of_style styles.Folded = kinds.Quoted
+
+-- the kind of what a node is (own)
+abbrev pub kind_in : Content → NodeKind
+kind_in nothing = kinds.Nothing
+kind_in (name n) = kinds.Alias
+kind_in (text s p) = kind_of_style p.style
+kind_in (sequence s) = kinds.Collection
+kind_in (mapping s) = kinds.Collection
+
+-- there is an anchor (own)
+abbrev pub is_anchor : Option (List ℕ) → Bool
+is_anchor None = false
+is_anchor (Some a) = true
+
+-- whether a node has an anchor, and its kind (own)
+abbrev pub measure : Placed → Bool × NodeKind
+measure (placed a s c e f) = (is_anchor a, kind_in f)
+
+-- the same of the node that was read, and what follows (own)
+abbrev pub measured : Option (Placed × List ℕ) → Option ((Bool × NodeKind) × List ℕ)
+measured o = o >>= λ x. Some (measure x.0, x.1)
+
+-- the same of the code (own)
+abbrev pub measured_view : Measured → (Bool × NodeKind) × List ℕ
+measured_view m = ((m.anchored, m.kind), m.rest.now)
+
+-- what follows what was read (own)
+abbrev pub past : {A : Type 0} → Option (A × List ℕ) → Option (List ℕ)
+past o = o >>= λ x. Some x.1
+
+-- nothing, by its kind (own)
+abbrev pub is_nothing : NodeKind → Bool
+is_nothing kinds.Nothing = true
+is_nothing kinds.Alias = false
+is_nothing kinds.Plain = false
+is_nothing kinds.Quoted = false
+is_nothing kinds.Collection = false
+
+-- an alias, by its kind (own)
+abbrev pub is_alias : NodeKind → Bool
+is_alias kinds.Nothing = false
+is_alias kinds.Alias = true
+is_alias kinds.Plain = false
+is_alias kinds.Quoted = false
+is_alias kinds.Collection = false
+
+-- nothing, not even an anchor (own)
+abbrev pub is_bare : Bool × NodeKind → Bool
+is_bare m = not m.0 && is_nothing m.1
+
+-- a node may stand behind an anchor and this gap (own)
+abbrev pub may_follow : List ℕ → Bool × NodeKind → Bool
+may_follow gap m = (is_bare m || not (is_empty gap)) && (not m.0 && not (is_alias m.1))

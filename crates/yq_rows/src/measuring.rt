@@ -1,0 +1,256 @@
+//! The ends of inline nodes, found without their trees.
+ghost use Rattle.std.specs.Prelude.{◌≡◌, ◌≢◌, ◌<◌, ◌≤◌, IfErr, IfOk, false, length};
+ghost use Rattle.yq_flow_scalars.specs.Answers.{Reads};
+ghost use Rattle.yq_flow_scalars.specs.declared.fault.FaultKind.TheVariants.{NotUtf8};
+ghost use Rattle.yq_rows.specs.Measured as spec;
+ghost use Rattle.yq_rows.specs.Measured.{measured, measured_view, past};
+ghost use Rattle.yq_nodes.specs.PlacedReading as reading;
+ghost use Rattle.yq_nodes.specs.Scalars.{style_of as style_at};
+
+use yq_flow_scalars::{FaultKind, ReadFault};
+use yq_inline::fault::{fault, flow_fault};
+use yq_inline::pieces::{
+    begins_content, no_node, read_key, read_lead, read_name, read_scalar, read_sep,
+};
+use yq_inline::read_gap;
+use yq_nodes::strip;
+
+/// What a node is, behind its anchor.
+#[derive(Clone, Copy)]
+pub enum NodeKind {
+    /// Nothing.
+    Nothing,
+    /// An alias.
+    Alias,
+    /// A plain scalar.
+    Plain,
+    /// A scalar in quotes.
+    Quoted,
+    /// A flow collection.
+    Collection,
+}
+
+/// A node in front of a text, without its parts.
+#[derive(Clone, Copy)]
+pub struct Measured<'t> {
+    /// Whether it has an anchor.
+    pub anchored: bool,
+    pub kind: NodeKind,
+    /// What follows it.
+    pub rest: &'t str,
+}
+
+/// The kind of a scalar as it is written.
+fn kind_of(piece: &str) -> NodeKind
+    ensures { result ≡ spec.kind_of_style (style_at piece.now) }
+{
+    match piece.as_bytes() {
+        [b'\'' | b'"', ..] => NodeKind::Quoted,
+        _ => NodeKind::Plain,
+    }
+}
+
+/// Whether the node is nothing, not even an anchor.
+fn is_bare(node: Measured<'_>) -> bool
+    ensures { result ≡ spec.is_bare (node.entry.anchored, node.entry.kind) }
+{
+    !node.anchored && matches!(node.kind, NodeKind::Nothing)
+}
+
+/// Whether the node may stand behind an anchor and this gap.
+fn may_follow(gap: &str, node: Measured<'_>) -> bool
+    ensures { result ≡ spec.may_follow gap.now (node.entry.anchored, node.entry.kind) }
+{
+    (is_bare(node) || !gap.is_empty()) && !node.anchored && !matches!(node.kind, NodeKind::Alias)
+}
+
+/// A node without an anchor.
+fn unanchored(kind: NodeKind, rest: &str) -> Measured<'_>
+    ensures { measured_view result ≡ ((false, kind), rest.now) }
+{
+    Measured {
+        anchored: false,
+        kind,
+        rest,
+    }
+}
+
+/// The node in front, with at most `depth` collections nested.
+#[cycle(ends)]
+#[tactic(auto, using(crate::proofs::MeasureSteps::node_steps))]
+pub fn measure_node<'t>(
+    flow: bool,
+    spaces: Option<usize>,
+    whole: &str,
+    depth: usize,
+    text: &'t str,
+) -> Result<Measured<'t>, ReadFault>
+    ensures shorter { IfOk result (λ m. length m.rest.now ≤ length text.now) }
+    ensures read { Reads measured_view result
+        (measured (reading.placed_node flow spaces 0 depth text.now)) }
+    ensures fault { IfErr result (λ f. f.kind ≢ NotUtf8) }
+{
+    let Some(behind) = strip(b'&', text) else {
+        return measure_content(flow, spaces, whole, depth, text);
+    };
+    let (_, rest) = read_name(whole, behind)?;
+    let (gap, rest) = read_lead(flow, whole, rest)?;
+    let node = measure_content(flow, spaces, whole, depth, rest)?;
+    if !may_follow(gap, node) {
+        return Err(fault(FaultKind::BadScalar, whole, text));
+    }
+    Ok(Measured {
+        anchored: true,
+        kind: node.kind,
+        rest: node.rest,
+    })
+}
+
+/// The node in front, which has no anchor.
+#[cycle(ends)]
+#[tactic(auto, using(crate::proofs::MeasureSteps::content_steps))]
+fn measure_content<'t>(
+    flow: bool,
+    spaces: Option<usize>,
+    whole: &str,
+    depth: usize,
+    text: &'t str,
+) -> Result<Measured<'t>, ReadFault>
+    ensures shorter { IfOk result (λ m. length m.rest.now ≤ length text.now) }
+    ensures read { Reads measured_view result
+        (measured (reading.placed_content flow spaces 0 depth text.now)) }
+    ensures fault { IfErr result (λ f. f.kind ≢ NotUtf8) }
+{
+    if let Some(behind) = strip(b'*', text) {
+        let (_, rest) = read_name(whole, behind)?;
+        return Ok(unanchored(NodeKind::Alias, rest));
+    }
+    if let Some(behind) = strip(b'[', text) {
+        let rest = measure_sequence(whole, depth, behind)?;
+        return Ok(unanchored(NodeKind::Collection, rest));
+    }
+    if let Some(behind) = strip(b'{', text) {
+        let rest = measure_mapping(whole, depth, behind)?;
+        return Ok(unanchored(NodeKind::Collection, rest));
+    }
+    if begins_content(flow, text.as_bytes()) {
+        let (piece, rest) = read_scalar(flow, spaces, whole, text)?;
+        return Ok(unanchored(kind_of(piece), rest));
+    }
+    Ok(unanchored(NodeKind::Nothing, text))
+}
+
+/// What follows a sequence of which the `[` stood before the text.
+#[cycle(ends)]
+#[tactic(auto, using(crate::proofs::MeasureSteps::coll_no_gap, crate::proofs::MeasureSteps::coll_too_deep, crate::proofs::MeasureSteps::coll_items))]
+fn measure_sequence<'t>(whole: &str, depth: usize, text: &'t str) -> Result<&'t str, ReadFault>
+    ensures shorter { IfOk result (λ r. length r.now ≤ length text.now) }
+    ensures read { Reads (λ r. r.now) result (past (reading.placed_coll 0 depth 93 text.now)) }
+    ensures fault { IfErr result (λ f. f.kind ≢ NotUtf8) }
+{
+    let (_, rest) = read_gap(whole, text)?;
+    if depth == 0 {
+        return Err(fault(FaultKind::TooDeep, whole, text));
+    }
+    measure_items(whole, depth - 1, text, rest)
+}
+
+/// What follows a mapping of which the `{` stood before the text.
+#[cycle(ends)]
+#[tactic(auto, using(crate::proofs::MeasureSteps::coll_no_gap, crate::proofs::MeasureSteps::coll_too_deep, crate::proofs::MeasureSteps::coll_items))]
+fn measure_mapping<'t>(whole: &str, depth: usize, text: &'t str) -> Result<&'t str, ReadFault>
+    ensures shorter { IfOk result (λ r. length r.now ≤ length text.now) }
+    ensures read { Reads (λ r. r.now) result (past (reading.placed_coll 0 depth 125 text.now)) }
+    ensures fault { IfErr result (λ f. f.kind ≢ NotUtf8) }
+{
+    let (_, rest) = read_gap(whole, text)?;
+    if depth == 0 {
+        return Err(fault(FaultKind::TooDeep, whole, text));
+    }
+    measure_entries(whole, depth - 1, text, rest)
+}
+
+/// What follows the item in front and the `,` behind it; behind the `[` stood `open`.
+#[cycle(ends)]
+#[tactic(auto, using(crate::proofs::MeasureSteps::item_none, crate::proofs::MeasureSteps::item_bare, crate::proofs::MeasureSteps::item_some))]
+fn measure_item<'t>(
+    whole: &str,
+    depth: usize,
+    open: &str,
+    text: &'t str,
+) -> Result<&'t str, ReadFault>
+    ensures shorter { IfOk result (λ r. length r.now < length text.now) }
+    ensures read { Reads (λ r. r.now) result (past (reading.placed_item 0 depth text.now)) }
+    ensures fault { IfErr result (λ f. f.kind ≢ NotUtf8) }
+{
+    let item = measure_node(true, Some(0), whole, depth, text)?;
+    if is_bare(item) {
+        let kind = no_node(text.as_bytes(), FaultKind::BadFlow);
+        return Err(flow_fault(kind, whole, open, text));
+    }
+    let rest = read_sep(b']', whole, open, item.rest)?;
+    Ok(rest)
+}
+
+/// What follows the items in front and their `]`; behind their `[` stood `open`.
+#[cycle(ends)]
+#[tactic(auto, using(crate::proofs::MeasureSteps::items_none, crate::proofs::MeasureSteps::items_last))]
+fn measure_items<'t>(
+    whole: &str,
+    depth: usize,
+    open: &str,
+    text: &'t str,
+) -> Result<&'t str, ReadFault>
+    ensures shorter { IfOk result (λ r. length r.now ≤ length text.now) }
+    ensures read { Reads (λ r. r.now) result (past (reading.placed_items 0 depth 93 text.now)) }
+    ensures fault { IfErr result (λ f. f.kind ≢ NotUtf8) }
+{
+    let mut rest = text;
+    'each: loop {
+        if let Some(behind) = strip(b']', rest) {
+            return Ok(behind);
+        }
+        rest = measure_item(whole, depth, open, rest)?;
+    }
+}
+
+/// What follows the entry in front and the `,` behind it; behind the `{` stood `open`.
+#[cycle(ends)]
+#[tactic(auto, using(crate::proofs::MeasureSteps::entry_no_key, crate::proofs::MeasureSteps::entry_none, crate::proofs::MeasureSteps::entry_some))]
+fn measure_entry<'t>(
+    whole: &str,
+    depth: usize,
+    open: &str,
+    text: &'t str,
+) -> Result<&'t str, ReadFault>
+    ensures shorter { IfOk result (λ r. length r.now < length text.now) }
+    ensures read { Reads (λ r. r.now) result (past (reading.placed_entry 0 depth text.now)) }
+    ensures fault { IfErr result (λ f. f.kind ≢ NotUtf8) }
+{
+    let (_, rest) = read_key(whole, open, text)?;
+    let value = measure_node(true, Some(0), whole, depth, rest)?;
+    let rest = read_sep(b'}', whole, open, value.rest)?;
+    Ok(rest)
+}
+
+/// What follows the entries in front and their `}`; behind their `{` stood `open`.
+#[cycle(ends)]
+#[tactic(auto, using(crate::proofs::MeasureSteps::entries_none, crate::proofs::MeasureSteps::items_last))]
+fn measure_entries<'t>(
+    whole: &str,
+    depth: usize,
+    open: &str,
+    text: &'t str,
+) -> Result<&'t str, ReadFault>
+    ensures shorter { IfOk result (λ r. length r.now ≤ length text.now) }
+    ensures read { Reads (λ r. r.now) result (past (reading.placed_items 0 depth 125 text.now)) }
+    ensures fault { IfErr result (λ f. f.kind ≢ NotUtf8) }
+{
+    let mut rest = text;
+    'each: loop {
+        if let Some(behind) = strip(b'}', rest) {
+            return Ok(behind);
+        }
+        rest = measure_entry(whole, depth, open, rest)?;
+    }
+}
