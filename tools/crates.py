@@ -10,11 +10,15 @@ ROOT = os.path.dirname(os.path.dirname(os.path.abspath(__file__)))
 RT = os.environ.get("RT", "rt").split()
 
 
+def listed():
+    """For each crate, lowest first, the libraries that its line lists."""
+    with open(os.path.join(ROOT, "crates.txt"), encoding="utf-8") as lines:
+        return {name_of(line): line.partition("#")[0].partition(":")[2].split() for line in lines if name_of(line)}
+
+
 def libraries():
     """For each crate, lowest first, the crates of the repository below it, lowest first."""
-    with open(os.path.join(ROOT, "crates.txt"), encoding="utf-8") as lines:
-        named = {name_of(line): line.partition("#")[0].partition(":")[2].split() for line in lines if name_of(line)}
-    below = {}
+    named, below = listed(), {}
     for name, direct in named.items():
         known = {it for library in direct for it in [library, *below.get(library, ())] if it in named}
         below[name] = [it for it in below if it in known]

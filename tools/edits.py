@@ -1,8 +1,9 @@
 """The wrong bodies of a crate: files *.edit in the form of `rt must-fail`, in crates/NAME/must-fail/ those of the gate, in wrong-bodies/ the others."""
 
 import os
+import re
 
-from crates import folder
+from crates import folder, listed
 
 
 def names_in(crate, tier="wrong-bodies"):
@@ -13,8 +14,9 @@ def names_in(crate, tier="wrong-bodies"):
 
 
 def hindrance(crate, name, tier="wrong-bodies"):
-    """Why an edit can't be applied to its crate as it stands, or None: each old text stands once in its file."""
-    texts, path, old = {}, None, None
+    """Why an edit can't be applied to its crate as it stands, or None: each old text stands once in its file, and the new one names no
+    crate that crates.txt doesn't list for this one."""
+    texts, path, old, libraries = {}, None, None, listed()
     with open(os.path.join(folder(crate), tier, name), encoding="utf-8") as lines:
         for line in lines.read().split("\n"):
             word, _, text = line.partition(": ")
@@ -31,5 +33,8 @@ def hindrance(crate, name, tier="wrong-bodies"):
                 found = texts[path].count(old)
                 if found != 1:
                     return f"an old text stands in {path} {found} times, and not once"
+                unlisted = [it for it in re.findall(r"\b(\w+)::", text) if it in libraries and it not in libraries[crate]]
+                if unlisted and path.endswith(".rt"):
+                    return f"it names {unlisted[0]}, which crates.txt doesn't list for {crate}"
                 texts[path] = texts[path].replace(old, text)
     return None if texts else "it changes nothing"
