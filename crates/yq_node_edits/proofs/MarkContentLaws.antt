@@ -21,11 +21,6 @@ use Rattle.yq_block.proofs.LaidRows.{AreLaid}
 
 -- ---- an anchor
 
--- an anchor as it is written, or nothing
-abbrev name_text : Option (List ℕ) → List ℕ
-name_text None = []
-name_text (Some m) = 38 ∷ m
-
 -- without an anchor there is no name
 pub unnamed : (x : Content) → is_empty (content_cut x).1 ≡ true → content_anchor x ≡ None
 unnamed x e = search (rules, false≢true)
