@@ -29,8 +29,6 @@ dashes_of r = dash_lines (head_comment r.gap) r.column r.dashes
 pub gone_lines : (r : Row) (under : List Row) → lines_of (r ∷ under) ≡ dashes_of r ++ (line_with r r.content ∷ lines_of under)
 gone_lines r under = ap (λ (ls : List Line). ls ++ lines_of under) (mark_behind (head_comment r.gap) r.column r.dashes r.mark r.content) ∙ append_assoc (dashes_of r) (line_with r r.content ∷ []) (lines_of under)
 
--- ---- what stays
-
 -- ---- the lines under the row
 
 module _ (p : Part) (s : Step) (ss : List Step) (front : List Row) (r : Row) (under back : List Row) (w : HasUnder p s ss front r under back) (even : IsEven (level_or 0 (outline_of p)) (outline_of p)) where

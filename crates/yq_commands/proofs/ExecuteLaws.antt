@@ -16,8 +16,6 @@ use Rattle.yq_commands.specs.Editing.{program_in}
 use Rattle.yq_commands.specs.Evaluation.{cause_in, evaluated, report_in}
 use Rattle.yq_commands.specs.FileEdits.{IsFileEdited, PrintsEdited}
 
--- ---- what is promised of a command, clause by clause
-
 -- ---- by the names of a file and a journal
 
 module _ (s t f j : List ℕ) (file_is : s ≡ f) (journal_is : t ≡ j) where

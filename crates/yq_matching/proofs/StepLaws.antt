@@ -33,8 +33,6 @@ pub step_missed : (before : List Place) (s last : Step) (p : Place) (front : Lis
     ≡ gives (before ++ miss s p)
 step_missed before s last p front is = ap (λ ms. put_behind before (step_from ms s p)) is ∙ ap (put_behind before) (missed_on front last s p)
 
--- ---- a step from a place that is there
-
 -- ---- from a node, by its kind
 
 pub steps_of_coll : (n : Node) (k : NodeKind) → k ≡ kind_of n → (k ≡ node_kinds.List) ⊎ (k ≡ node_kinds.Map) → all_steps n ≡ gives (stepped 0 (children_of n))
