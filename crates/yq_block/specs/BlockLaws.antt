@@ -3,7 +3,8 @@ use Rattle.std.specs.Prelude.{◌≡◌, ℕ, ◌<◌, ◌≤◌, ℤ, Option, S
 use Rattle.std.specs.Str.{IsUtf8, chars}
 use Rattle.yq_flow_scalars.specs.declared.style.Place.TheVariants.{Block, FlowKey}
 use Rattle.yq_block_scalars.specs.BlockWritten.{break_text}
-use Rattle.yq_flow_scalars.specs.Characters.{is_text, text_limit}
+use Rattle.yq_flow_scalars.specs.Characters.{is_text}
+use Rattle.yq_text.specs.Limit.{text_limit}
 use Rattle.yq_flow_scalars.specs.Piece.{deeper}
 use Rattle.yq_flow_scalars.specs.Plain.{ends_plain}
 use Rattle.yq_flow_scalars.specs.Scalar.{string_of}

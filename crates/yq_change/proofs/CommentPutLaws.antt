@@ -2,7 +2,8 @@
 use Rattle.std.proofs.Common.{◌≡◌, ℕ, ◌+◌, ◌≤◌, List, [], ◌∷◌, ◌++◌, length, Option, refl, sym, ap, ◌∙◌, subst, append_assoc, length-append, arith, rules}
 use Rattle.std.proofs.lemmas.Bool.{false≢true}
 use mathlib.Core.List.{head-eq_of_cons-eq}
-use Rattle.yq_flow_scalars.specs.Characters.{is_text, text_limit}
+use Rattle.yq_flow_scalars.specs.Characters.{is_text}
+use Rattle.yq_text.specs.Limit.{text_limit}
 use Rattle.yq_lines.specs.Comments.{head_comment, line_comment}
 use Rattle.yq_cut.specs.Grammar.{IsCut}
 use Rattle.yq_cut.specs.Rows.{Content, Row, mark_column, parent_indent, rows_text, Part, Cut, cut_text}

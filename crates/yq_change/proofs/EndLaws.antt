@@ -1,7 +1,8 @@
 -- One item or entry more at the end of a text without a final break.
 use Rattle.std.proofs.Common.{◌≡◌, inl, inr, ℕ, suc, ◌+◌, ◌≤◌, List, [], ◌∷◌, ◌++◌, length, drop, eqb, ◌&&◌, Option, Some, None, true, false, cond, refl, sym, ap, ◌∙◌, subst, rules, arith, ⊎_elim, append_assoc, append-nil, length-append}
 use Rattle.std.proofs.lemmas.Bool.{false≢true, cond-true, cond-false, and_parts}
-use Rattle.yq_flow_scalars.specs.Characters.{is_text, pairs_returns, text_limit}
+use Rattle.yq_flow_scalars.specs.Characters.{is_text, pairs_returns}
+use Rattle.yq_text.specs.Limit.{text_limit}
 use Rattle.yq_flow_scalars.specs.Lines.{is_hash}
 use Rattle.yq_flow_scalars.specs.Text.{cut, ends_line, is_break, is_line, no_white, past_white}
 use Rattle.yq_flow_scalars.proofs.Upto.{cut-append}

@@ -9,7 +9,8 @@ use Rattle.yq_cut.specs.Grammar.{unlimited, AreRows, IsCut, no_rows, begins_docu
 use Rattle.yq_cut.specs.Exchange.{allows_first, asked_behind}
 use Rattle.yq_cut.proofs.splices.PartPlaces.{part_in, part_after}
 use Rattle.yq_cut.proofs.splices.SpliceLaws.{spliced}
-use Rattle.yq_flow_scalars.specs.Characters.{is_text, text_limit}
+use Rattle.yq_flow_scalars.specs.Characters.{is_text}
+use Rattle.yq_text.specs.Limit.{text_limit}
 use Rattle.yq_cut.specs.Rows.{Row, rows_text, Part, Cut, last, marked, cut_text}
 use Rattle.yq_cut.specs.Splices.{with_first_gap, end_gap, behind_first, splice_part, splice, nth_part, behind_part, is_started, marker_before}
 use Rattle.yq_cut.specs.Seams.{are_seamed}

@@ -1,7 +1,8 @@
 -- One of several items or entries of a block collection taken out.
 use Rattle.std.proofs.Common.{◌≡◌, ℕ, ◌+◌, ◌≤◌, List, [], ◌∷◌, ◌++◌, length, take, drop, true, false, refl, sym, ap, ◌∙◌, subst, length-append, rules}
 use Rattle.std.proofs.lemmas.Bool.{false≢true}
-use Rattle.yq_flow_scalars.specs.Characters.{is_text, text_limit}
+use Rattle.yq_flow_scalars.specs.Characters.{is_text}
+use Rattle.yq_text.specs.Limit.{text_limit}
 use Rattle.yq_flow_scalars.specs.Paths.{Step, change, remove_child, within}
 use Rattle.yq_flow_scalars.specs.Text.{is_empty, joined, lines_of as text_lines}
 use Rattle.yq_lines.specs.Comments.{head_comment}

@@ -1,7 +1,8 @@
 -- Another root for a document, also where it had none written.
 use Rattle.std.proofs.Common.{◌≡◌, ℕ, ◌+◌, ◌≤◌, List, [], ◌++◌, length, true, false, refl, sym, ap, ◌∙◌, subst, append-nil, ⊎_elim, rules}
 use Rattle.std.proofs.lemmas.Bool.{cases_Bool}
-use Rattle.yq_flow_scalars.specs.Characters.{is_text, text_limit}
+use Rattle.yq_flow_scalars.specs.Characters.{is_text}
+use Rattle.yq_text.specs.Limit.{text_limit}
 use Rattle.yq_cut.specs.Grammar.{IsCut, no_rows}
 use Rattle.yq_cut.specs.Rows.{Row, rows_text, Part, Cut, cut_text}
 use Rattle.yq_cut.specs.SpliceFits.{SpliceFits, is_after}

@@ -3,7 +3,8 @@ use Rattle.std.specs.Prelude.{◌≡◌, ℕ, ◌+◌, ◌≤◌, ℤ, Bool, tru
 use Rattle.std.specs.Str.{chars}
 use Rattle.yq_flow_scalars.specs.declared.style.Place.TheVariants.{Block}
 use Rattle.yq_block_scalars.specs.Block.{IsBlock, block_text}
-use Rattle.yq_flow_scalars.specs.Characters.{is_text, text_limit}
+use Rattle.yq_flow_scalars.specs.Characters.{is_text}
+use Rattle.yq_text.specs.Limit.{text_limit}
 use Rattle.yq_flow_scalars.specs.Piece.{deeper}
 use Rattle.yq_flow_scalars.specs.Text.{is_empty, separates, front, is_marker}
 use Rattle.yq_nodes.specs.Inline.{IsInline}

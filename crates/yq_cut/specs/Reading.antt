@@ -4,7 +4,8 @@ use Rattle.std.specs.List.{prefix_len}
 use Rattle.std.specs.Str.{chars}
 use Rattle.yq_flow_scalars.specs.Answers.{◌>>=◌}
 use Rattle.yq_block_scalars.specs.BlockReading.{block_at}
-use Rattle.yq_flow_scalars.specs.Characters.{is_text, text_limit}
+use Rattle.yq_flow_scalars.specs.Characters.{is_text}
+use Rattle.yq_text.specs.Limit.{text_limit}
 use Rattle.yq_flow_scalars.specs.Piece.{deeper}
 use Rattle.yq_flow_scalars.specs.Text.{cut, upto, front, is_empty, unless, no_space, no_white, past_white, ends_line, separates, is_marker, line_len, cut_line}
 use Rattle.yq_flow_scalars.specs.Lines.{is_hash}

@@ -1,6 +1,7 @@
 -- Splices: a cut, of which other rows stand in the place of some, with the gap behind them.
 use Rattle.std.specs.Prelude.{◌≡◌, ◌≤◌, ℕ, zero, suc, Bool, true, List, [], ◌∷◌, ◌++◌, length, take, drop}
-use Rattle.yq_flow_scalars.specs.Characters.{is_text, text_limit}
+use Rattle.yq_flow_scalars.specs.Characters.{is_text}
+use Rattle.yq_text.specs.Limit.{text_limit}
 use Rattle.yq_cut.specs.Exchange.{asked_behind}
 use Rattle.yq_cut.specs.Grammar.{Limit, unlimited, begins_document, IsCut}
 use Rattle.yq_cut.specs.Rows.{Row, behind_gap, rows_text, Part, part_text, Cut, last, marked, cut_text}

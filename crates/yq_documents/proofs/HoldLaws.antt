@@ -8,7 +8,7 @@ use Rattle.yq_lines.specs.Names.{is_reference, line_names}
 use Rattle.yq_cut.specs.Grammar.{IsCut}
 use Rattle.yq_cut.specs.Rows.{Row, Part}
 use Rattle.yq_cut.specs.View.{rows_of, RowsView, rows_view}
-use Rattle.yq_flow_scalars.specs.Characters.{text_limit}
+use Rattle.yq_text.specs.Limit.{text_limit}
 use Rattle.yq_lines.specs.Extents.{IsRowsView}
 use Rattle.yq_lines.specs.declared.line_position.Stretch.{Stretch}
 use Rattle.yq_documents.specs.Documents.{Document, document_parts}

@@ -32,7 +32,3 @@ pairs_returns (b ∷ bs) = if is_return b then (front is_feed bs && pairs_return
 -- the bytes are a text of the profile, of whatever length (own)
 abbrev pub is_text : List ℕ → Bool
 is_text t = list_all is_text_char (chars t) && pairs_returns t
-
--- how many bytes a text has at most (own)
-abbrev pub text_limit : ℕ
-text_limit = 16777216

@@ -8,9 +8,6 @@ ghost use Rattle.yq_flow_scalars.specs.Text.{front, is_feed};
 use crate::runs::{Run, run_len};
 use memchr::memchr;
 
-/// How many bytes a text has at most.
-pub const TEXT_LIMIT: usize = 16_777_216;
-
 /// Whether a text may hold the character: it is printable, and not U+FEFF.
 pub fn is_text_char(c: char) -> bool
     ensures { result ≡ spec.is_text_char c }

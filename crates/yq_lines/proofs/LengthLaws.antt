@@ -5,7 +5,7 @@ use Rattle.std.proofs.lemmas.List.{length-replicate, length-map, map-append, tak
 use Rattle.std.proofs.lemmas.List.Sums.{sum_by-cons, sum_by-append, sum_by_more_le, sum_by-le-sum_by}
 use Rattle.std.proofs.lemmas.Option.{get_or_from_slice_get, slice_get_within, slice_get-map, same_Some}
 use Rattle.std.specs.List.{slice_get, sum_by}
-use Rattle.yq_flow_scalars.specs.Characters.{text_limit}
+use Rattle.yq_text.specs.Limit.{text_limit}
 use Rattle.yq_cut.specs.Exchange.{row_front, before_at, before_content}
 use Rattle.yq_cut.specs.Rows.{Mark, Row, dashes_text, mark_text, rows_text, Part, part_text, Cut, last, marked, cut_text}
 use Rattle.yq_cut.specs.View.{Slices, slices, last_dash, key_of, colon_of, rows_of, Bound, bounds_from, RowsView, rows_view}

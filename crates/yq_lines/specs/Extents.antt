@@ -6,7 +6,7 @@ use Rattle.yq_cut.specs.Offsets.{row_length}
 use Rattle.yq_cut.specs.Rows.{Row, Cut, cut_text}
 pub use Rattle.yq_cut.specs.RowStarts.{bound_length, passed_length, row_start}
 use Rattle.yq_cut.specs.View.{Slices, slices, RowsView, rows_view}
-use Rattle.yq_flow_scalars.specs.Characters.{text_limit}
+use Rattle.yq_text.specs.Limit.{text_limit}
 use Rattle.yq_flow_scalars.specs.Text.{is_empty}
 
 -- The place of a row's head: behind the text before the row's content, white space, an anchor and the white space behind that.

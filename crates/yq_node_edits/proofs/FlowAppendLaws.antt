@@ -4,7 +4,7 @@ use Rattle.std.proofs.lemmas.Bool.{cond_both, false≢true}
 use Rattle.std.proofs.lemmas.Option.{none-some, same_Some}
 use Rattle.std.specs.Prelude.{is_some}
 use Rattle.std.specs.Str.{IsCharBoundary}
-use Rattle.yq_flow_scalars.specs.Characters.{text_limit}
+use Rattle.yq_text.specs.Limit.{text_limit}
 use Rattle.yq_flow_scalars.specs.Keys.{depth, keys_of}
 use Rattle.yq_flow_scalars.specs.Paths.{Step, append_child, node_at}
 use Rattle.yq_flow_scalars.specs.Tree as tree

@@ -1,7 +1,7 @@
 -- An edit of a flow collection carries out an operation, where it makes of the document what that does.
 use Rattle.std.proofs.Common.{inl, ◌+◌, [], ◌∷◌, refl, ◌≡◌, ℕ, ◌-◌, ◌≤◌, List, ◌++◌, length, take, Some, sym, ap, ◌∙◌, subst, arith, append_assoc, append-nil, length-append}
 use Rattle.std.proofs.Math.Seq.{take-append_seam}
-use Rattle.yq_flow_scalars.specs.Characters.{text_limit}
+use Rattle.yq_text.specs.Limit.{text_limit}
 use Rattle.yq_flow_scalars.specs.Paths.{Step, change, within}
 use Rattle.yq_flow_scalars.specs.Tree.{Children}
 use Rattle.yq_nodes.specs.Collections.{CollPieces}

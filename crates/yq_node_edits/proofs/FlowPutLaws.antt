@@ -4,7 +4,7 @@ use Rattle.std.proofs.lemmas.Bool.{cond_both}
 use Rattle.std.proofs.lemmas.Option.{none-some}
 use Rattle.std.specs.Str.{IsCharBoundary}
 use Rattle.yq_flow_scalars.specs.Answers.{◌>>=◌}
-use Rattle.yq_flow_scalars.specs.Characters.{text_limit}
+use Rattle.yq_text.specs.Limit.{text_limit}
 use Rattle.yq_flow_scalars.specs.Keys.{depth}
 use Rattle.yq_flow_scalars.specs.Paths.{Step, change, change_child, is_here, further, within}
 use Rattle.yq_flow_scalars.specs.Scalar.{ScalarText}

@@ -2,7 +2,8 @@
 use Rattle.std.proofs.Common.{arith, ◌≡◌, true, ℕ, ◌-◌, ◌≤◌, List, ◌++◌, length, Some, option_map, sym, ap, ◌∙◌, subst}
 use Rattle.std.proofs.lemmas.Option.{same_Some}
 use Rattle.std.specs.Str.{IsCharBoundary}
-use Rattle.yq_flow_scalars.specs.Characters.{pairs_returns, text_limit}
+use Rattle.yq_flow_scalars.specs.Characters.{pairs_returns}
+use Rattle.yq_text.specs.Limit.{text_limit}
 use Rattle.yq_flow_scalars.specs.Paths.{Step, change, remove_child, within}
 use Rattle.yq_nodes.specs.Collections.{CollAt, CollPieces, IsCollAt}
 use Rattle.yq_flow.specs.FlowEdits.{FlowEdit, IsFlowEdited}

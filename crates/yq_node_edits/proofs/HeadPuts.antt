@@ -1,7 +1,7 @@
 -- A value on one line takes the place of what is written on the line of a key or dash, with another content of the row.
 use Rattle.std.proofs.Common.{◌≡◌, ℕ, ◌≤◌, false, true, List, [], ◌∷◌, ◌++◌, length, Some, refl, sym, ap, ◌∙◌, subst, append_assoc, append-nil, rules}
 use Rattle.yq_block_scalars.specs.BlockWritten.{break_text}
-use Rattle.yq_flow_scalars.specs.Characters.{text_limit}
+use Rattle.yq_text.specs.Limit.{text_limit}
 use Rattle.yq_flow_scalars.specs.Paths.{Step}
 use Rattle.yq_flow_scalars.specs.Text.{is_empty, separates}
 use Rattle.yq_flow_scalars.specs.Tree.{Node}

@@ -1,7 +1,7 @@
 -- A collection on lines under a key or dash, in the place of what this holds.
 use Rattle.std.proofs.Common.{◌≡◌, ℕ, ◌≤◌, true, List, [], ◌∷◌, ◌++◌, length, replicate, None, refl, sym, ap, ◌∙◌, append_assoc, append-nil}
 use Rattle.yq_block_scalars.specs.BlockWritten.{break_text}
-use Rattle.yq_flow_scalars.specs.Characters.{text_limit}
+use Rattle.yq_text.specs.Limit.{text_limit}
 use Rattle.yq_flow_scalars.specs.Paths.{Step}
 use Rattle.yq_flow_scalars.specs.Tree.{Node}
 use Rattle.yq_flow.specs.Valued.{IsValueTree}

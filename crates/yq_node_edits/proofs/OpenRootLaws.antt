@@ -5,7 +5,8 @@ use Rattle.std.proofs.lemmas.Str.{is_utf8-from_IsUtf8}
 use Rattle.std.specs.List.{list_all}
 use Rattle.std.specs.Str.{chars, is_utf8}
 use Rattle.yq_block_scalars.specs.BlockWritten.{break_text}
-use Rattle.yq_flow_scalars.specs.Characters.{is_text, is_text_char, pairs_returns, text_limit}
+use Rattle.yq_flow_scalars.specs.Characters.{is_text, is_text_char, pairs_returns}
+use Rattle.yq_text.specs.Limit.{text_limit}
 use Rattle.yq_flow_scalars.specs.Text.{is_empty, is_line}
 use Rattle.yq_flow_scalars.specs.Tree.{Node}
 use Rattle.yq_block_scalars.specs.declared.block_types.Break.{Break}

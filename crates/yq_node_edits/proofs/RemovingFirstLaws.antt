@@ -1,7 +1,7 @@
 -- The first of several items or entries of a compact collection taken out of a text, by its segments.
 use Rattle.std.proofs.Common.{◌≡◌, ◌⊎◌, inl, inr, refl, ◌∷◌, [], ℕ, ◌≤◌, true, List, ◌++◌, length, Option, Some, None, option_map, sym, ap, ◌∙◌, subst, append-nil}
 use Rattle.std.proofs.lemmas.Option.{none-some, same_Some}
-use Rattle.yq_flow_scalars.specs.Characters.{text_limit}
+use Rattle.yq_text.specs.Limit.{text_limit}
 use Rattle.yq_flow_scalars.specs.Paths.{Step}
 use Rattle.std.specs.Option.{option_or}
 use Rattle.yq_cut.specs.Rows.{Row, Cut, cut_text}

@@ -5,7 +5,7 @@ use Rattle.std.proofs.lemmas.Option.{same_Some}
 use Rattle.yq_flow_scalars.specs.Answers.{◌>>=◌}
 use Rattle.yq_block_scalars.specs.Block.{Lines}
 use Rattle.yq_block_scalars.specs.BlockRepair.{is_short, is_outside, repair}
-use Rattle.yq_flow_scalars.specs.Characters.{text_limit}
+use Rattle.yq_text.specs.Limit.{text_limit}
 use Rattle.yq_flow_scalars.specs.Lines.{is_blank}
 use Rattle.yq_flow_scalars.specs.Paths.{Step, node_at, remove_child}
 use Rattle.yq_flow_scalars.specs.Text.{cut, no_white, past_white, upto, joined, lines_of}

@@ -2,7 +2,7 @@
 use Rattle.std.proofs.Common.{◌≡◌, cond, inl, ℕ, ◌≤◌, not, List, [], ◌∷◌, ◌++◌, length, Option, Some, None, false, true, refl, sym, ap, ◌∙◌, subst}
 use Rattle.yq_block_scalars.specs.Block.{BlockText, block_text}
 use Rattle.yq_block_scalars.specs.BlockWritten.{break_text}
-use Rattle.yq_flow_scalars.specs.Characters.{text_limit}
+use Rattle.yq_text.specs.Limit.{text_limit}
 use Rattle.yq_flow_scalars.specs.Paths.{Step}
 use Rattle.yq_flow_scalars.specs.Piece.{deeper}
 use Rattle.yq_flow_scalars.specs.Plain.{ends_plain}

@@ -6,7 +6,7 @@ use Rattle.yq_block_scalars.specs.Block.{BlockText, IsBlock, block_text, ends_bl
 use Rattle.yq_block_scalars.specs.BlockContent.{block_content}
 use Rattle.yq_block_scalars.specs.BlockWritten as literal
 use Rattle.yq_block_scalars.specs.BlockWritten.{break_text, chomping_of, header_text, written_block}
-use Rattle.yq_flow_scalars.specs.Characters.{text_limit}
+use Rattle.yq_text.specs.Limit.{text_limit}
 use Rattle.yq_flow_scalars.specs.Paths.{Step}
 use Rattle.yq_flow_scalars.specs.Piece.{deeper}
 use Rattle.yq_flow_scalars.specs.Scalar.{ScalarText}

@@ -1,6 +1,6 @@
 -- Whether each row and end of a part that an operation writes is touched by a range of what it exchanges (own).
 use Rattle.std.specs.Prelude.{◌≡◌, ◌⊎◌, ⊤, ℕ, ◌+◌, ◌≤◌, Bool, true, false, List, [], ◌∷◌, ◌++◌, length, Some, if◌then◌else◌}
-use Rattle.yq_flow_scalars.specs.Characters.{text_limit}
+use Rattle.yq_text.specs.Limit.{text_limit}
 use Rattle.yq_flow_scalars.specs.Text.{is_empty, is_feed}
 use Rattle.yq_cut.specs.Items.{Item, items_of, items_text}
 use Rattle.yq_cut.specs.Rows.{Cut, cut_text}

@@ -4,7 +4,7 @@ use Rattle.std.proofs.lemmas.Bool.{false≢true}
 use Rattle.std.proofs.lemmas.List.Folds.{list_all-append}
 use Rattle.std.proofs.lemmas.Option.{slice_get-get_or, slice_get_within}
 use Rattle.std.specs.List.{list_all, list_any, slice_get}
-use Rattle.yq_flow_scalars.specs.Characters.{text_limit}
+use Rattle.yq_text.specs.Limit.{text_limit}
 use Rattle.yq_lines.specs.LinesReading.{lines_are_sound}
 use Rattle.yq_lines.specs.Names.{is_reference, line_names}
 use Rattle.yq_cut.specs.Grammar.{AreParts, IsCut, begins_document, no_rows}

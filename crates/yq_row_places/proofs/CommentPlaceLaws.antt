@@ -2,7 +2,7 @@
 use Rattle.std.proofs.Common.{◌≡◌, ℕ, ◌+◌, ◌-◌, ◌<◌, ◌≤◌, eqb, List, [], ◌++◌, length, Option, Some, None, option_map, Bool, true, false, cond, refl, sym, ap, ◌∙◌, arith, length-append, length-drop, length-take, rules}
 use Rattle.std.proofs.lemmas.Option.{slice_get-map}
 use Rattle.std.specs.List.{slice_get}
-use Rattle.yq_flow_scalars.specs.Characters.{text_limit}
+use Rattle.yq_text.specs.Limit.{text_limit}
 use Rattle.yq_flow_scalars.specs.Text.{cut, upto, front, ends_line, no_white, past_white, is_empty, joined, lines_of}
 use Rattle.yq_cut.specs.Exchange.{behind_row}
 use Rattle.yq_cut.specs.Rows.{Row, behind_gap, Cut}

@@ -4,7 +4,7 @@ use Rattle.std.proofs.Math.Seq.{take-append_seam}
 use Rattle.std.proofs.lemmas.Option.{slice_get-map, slice_get_within}
 use Rattle.std.specs.List.{slice_get}
 use Rattle.std.specs.Str.{IsUtf8, IsCharBoundary}
-use Rattle.yq_flow_scalars.specs.Characters.{text_limit}
+use Rattle.yq_text.specs.Limit.{text_limit}
 use Rattle.yq_cut.specs.Exchange.{before_content, behind_row, row_front, rows_behind}
 use Rattle.yq_cut.specs.Grammar.{AreRows, unlimited}
 use Rattle.yq_cut.specs.Offsets.{row_length}

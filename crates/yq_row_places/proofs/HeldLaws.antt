@@ -1,6 +1,6 @@
 -- A text with its cut, and that it is not too long.
 use Rattle.std.proofs.Common.{◌≡◌, ◌≤◌, ℕ, List, length, true, sym, subst}
-use Rattle.yq_flow_scalars.specs.Characters.{text_limit}
+use Rattle.yq_text.specs.Limit.{text_limit}
 use Rattle.yq_cut.specs.Grammar.{IsCut}
 use Rattle.yq_cut.specs.View.{RowsView, rows_view}
 use Rattle.yq_lines.specs.Extents.{IsRowsView}

@@ -1,7 +1,8 @@
 -- What a row spells behind its mark, the white space before what is put behind an anchor, and texts that may be read (own).
 use Rattle.std.specs.Prelude.{◌≡◌, ℕ, ◌≤◌, true, List, [], ◌∷◌, length, if◌then◌else◌}
 use Rattle.std.specs.Str.{is_utf8}
-use Rattle.yq_flow_scalars.specs.Characters.{is_text, text_limit}
+use Rattle.yq_flow_scalars.specs.Characters.{is_text}
+use Rattle.yq_text.specs.Limit.{text_limit}
 use Rattle.yq_flow_scalars.specs.Tree.{Node}
 use Rattle.yq_nodes.specs.Nodes as inline
 use Rattle.yq_cut.specs.Rows.{Content}

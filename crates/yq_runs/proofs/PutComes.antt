@@ -3,7 +3,7 @@ use Rattle.std.proofs.Common.{◌≡◌, ℕ, ◌+◌, ◌≤◌, ◌<◌, Bool,
 use Rattle.std.proofs.lemmas.Bool.{le-leb, lt-leb}
 use Rattle.std.specs.Option.{option_or}
 use Rattle.yq_flow_scalars.specs.Answers.{◌>>=◌}
-use Rattle.yq_flow_scalars.specs.Characters.{text_limit}
+use Rattle.yq_text.specs.Limit.{text_limit}
 use Rattle.yq_flow_scalars.specs.Paths.{Step}
 use Rattle.yq_flow_scalars.specs.Tree.{Node}
 use Rattle.yq_nodes.specs.Collections.{CollPieces}

@@ -1,7 +1,7 @@
 -- Operations that change one row each, one behind the other, on the rows as they were read (YAML 1.2.2, 8; own).
 use Rattle.std.specs.Prelude.{◌≡◌, ⊤, ◌⊎◌, ◌&&◌, not, if◌then◌else◌, ℕ, ◌+◌, ◌<◌, ◌≤◌, List, [], ◌∷◌, ◌++◌, length, Option, Some, None, true, false, string_bytes}
 use Rattle.std.specs.Str.{IsCharBoundary}
-use Rattle.yq_flow_scalars.specs.Characters.{text_limit}
+use Rattle.yq_text.specs.Limit.{text_limit}
 use Rattle.yq_flow_scalars.specs.Paths.{Step}
 use Rattle.yq_flow_scalars.specs.Text.{is_empty}
 use Rattle.yq_flow_scalars.specs.Tree.{Node}

@@ -1,7 +1,7 @@
 -- Values put one behind the other in the flow collections of one head, which was read once (YAML 1.2.2, 7.4; own).
 use Rattle.std.specs.Prelude.{◌≡◌, ⊤, ℕ, ◌-◌, ◌<◌, ◌≤◌, List, ◌++◌, drop, take, length, Some, string_bytes}
 use Rattle.std.specs.Str.{IsCharBoundary}
-use Rattle.yq_flow_scalars.specs.Characters.{text_limit}
+use Rattle.yq_text.specs.Limit.{text_limit}
 use Rattle.yq_flow_scalars.specs.Paths.{Step}
 use Rattle.yq_flow_scalars.specs.Tree.{Node}
 use Rattle.yq_nodes.specs.Entries.{EntryPieces}

@@ -1,7 +1,7 @@
 //! Operations of an update that each change one row: they are carried out together, on the rows as they
 //! were read.
 ghost use Rattle.std.specs.Prelude.{◌≡◌, ◌+◌, ◌≤◌, length, true, IfErr, IfOk, IfSome, string_bytes};
-ghost use Rattle.yq_flow_scalars.specs.Characters.{text_limit};
+ghost use Rattle.yq_text.specs.Limit.{text_limit};
 ghost use Rattle.yq_nodes.specs.Values.{node_of};
 ghost use Rattle.yq_documents.specs.Located.{steps_of};
 ghost use Rattle.yq_documents.specs.Reading.{cut_of};

@@ -6,11 +6,10 @@ ghost use Rattle.yq_script.specs.Script.{splice_at};
 ghost use Rattle.yq_runs.specs.Runs as spec;
 
 use std::alloc::{AllocError, Global};
-use yq_flow_scalars::characters::TEXT_LIMIT;
 use yq_meaning::Refusal;
 use yq_outcomes::EditError;
 use yq_script::{Edited, Splice};
-use yq_text::Halves;
+use yq_text::{Halves, TEXT_LIMIT};
 
 /// What values put one behind the other made of a text so far.
 #[derive(Drop)]

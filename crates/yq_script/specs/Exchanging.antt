@@ -1,6 +1,6 @@
 -- What the exchange of segments of a text comes to, and what an answer says of that.
 use Rattle.std.specs.Prelude.{◌≡◌, ℕ, List, length, nat_le, if◌then◌else◌, Option, Some, None, Result, Ok, Err, string_bytes}
-use Rattle.yq_flow_scalars.specs.Characters.{text_limit}
+use Rattle.yq_text.specs.Limit.{text_limit}
 use Rattle.yq_script.specs.Splice.{Splice}
 use Rattle.yq_script.specs.Script.{Segment, new_text, changes}
 use Rattle.yq_script.specs.declared.edited.Edited.{Edited}

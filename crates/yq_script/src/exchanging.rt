@@ -10,8 +10,7 @@ use crate::edited::Edited;
 use crate::exchange_error::ExchangeError;
 use crate::segment::{Segment, Segments};
 use std::alloc::Global;
-use yq_flow_scalars::characters::TEXT_LIMIT;
-use yq_text::Halves;
+use yq_text::{Halves, TEXT_LIMIT};
 
 /// What stands in the new text for a segment.
 fn new_of<'s>(segment: &'s Segment<'_>) -> Halves<'s>

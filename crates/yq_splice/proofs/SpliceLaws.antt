@@ -1,7 +1,7 @@
 -- The splices of an edit lead from the old text to the new one.
 use Rattle.std.proofs.Common.{ℕ, ◌+◌, ◌^◌, ◌<◌, ◌≤◌, List, [], ◌∷◌, ◌++◌, length, Some, sym, ap, ◌∙◌, subst, arith}
 use Rattle.std.specs.Prelude.{option_and_then}
-use Rattle.yq_flow_scalars.specs.Characters.{text_limit}
+use Rattle.yq_text.specs.Limit.{text_limit}
 use Rattle.yq_meaning.specs.Operations.{Operation}
 use Rattle.yq_program.specs.Program.{Program, Update}
 use Rattle.yq_script.specs.Splice.{Splice, all_done, lengths_done}

@@ -1,6 +1,6 @@
 //! Where what rows spell stands in their text.
 ghost use Rattle.std.specs.Prelude.{◌≡◌, ◌<◌, ◌≤◌, ◌-◌, length, slice_get, Some};
-ghost use Rattle.yq_flow_scalars.specs.Characters.{text_limit};
+ghost use Rattle.yq_text.specs.Limit.{text_limit};
 ghost use Rattle.yq_cut.specs.Offsets.{row_length};
 ghost use Rattle.yq_cut.specs.Rows.{Cut, Row as RowOf};
 ghost use Rattle.yq_cut.specs.View.{rows_of, rows_view, view, Slices};

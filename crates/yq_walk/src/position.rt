@@ -4,7 +4,7 @@ ghost use Rattle.yq_lines.specs.Ends.{IsEndOf, is_end, part};
 ghost use Rattle.yq_lines.specs.Outline.{level};
 ghost use Rattle.yq_cut.specs.View.{view, Slices};
 ghost use Rattle.yq_lines.specs.Lines.{lines_of};
-ghost use Rattle.yq_flow_scalars.specs.Characters.{text_limit};
+ghost use Rattle.yq_text.specs.Limit.{text_limit};
 ghost use Rattle.yq_lines.specs.Extents as extents;
 ghost use Rattle.yq_lines.specs.Extents.{IsRowsView};
 ghost use Rattle.yq_lines.specs.RowWalk as spec;

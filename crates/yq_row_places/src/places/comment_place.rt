@@ -1,6 +1,6 @@
 //! Where the comments of entries and items stand.
 ghost use Rattle.std.specs.Prelude.{◌≡◌, ◌<◌, ◌≤◌, ◌+◌, length, option_map, slice_get, Some};
-ghost use Rattle.yq_flow_scalars.specs.Characters.{text_limit};
+ghost use Rattle.yq_text.specs.Limit.{text_limit};
 ghost use Rattle.yq_cut.specs.View.{Slices};
 ghost use Rattle.yq_row_places.specs.CommentReading as spec;
 ghost use Rattle.yq_lines.specs.Extents as extents;

@@ -1,7 +1,7 @@
 //! Keys and dashes of a text, with what they hold.
 ghost use Rattle.std.specs.Prelude.{◌≡◌, ◌≤◌, ◌+◌, ◌||◌, length, not};
 ghost use Rattle.yq_text.specs.Halves.{whole};
-ghost use Rattle.yq_flow_scalars.specs.Characters.{text_limit};
+ghost use Rattle.yq_text.specs.Limit.{text_limit};
 ghost use Rattle.yq_flow_scalars.specs.Text.{is_empty};
 ghost use Rattle.yq_cut.specs.View.{view};
 ghost use Rattle.yq_lines.specs.RowWalk.{line_column};

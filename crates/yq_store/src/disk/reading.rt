@@ -5,7 +5,7 @@ use std::fs::Metadata;
 use std::io::{ErrorKind, Read};
 use std::rt::Files;
 use std::{fs, io};
-use yq_flow_scalars::characters::TEXT_LIMIT;
+use yq_text::TEXT_LIMIT;
 
 /// How many calls may read one file.
 const MOST_READS: u64 = 1 << 32;

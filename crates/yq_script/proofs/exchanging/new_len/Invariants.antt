@@ -1,5 +1,5 @@
 use Rattle.std.proofs.Common.{◌≡◌, ◌+◌, ◌≤◌, length}
-use Rattle.yq_flow_scalars.specs.Characters.{text_limit}
+use Rattle.yq_text.specs.Limit.{text_limit}
 use Rattle.yq_script.specs.Script.{new_text}
 use Rattle.yq_script.specs.Segments.{segments_of}
 use Rattle.yq_script.proofs.exchanging.new_len.Given as goal

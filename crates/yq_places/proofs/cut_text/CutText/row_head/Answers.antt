@@ -1,7 +1,7 @@
 use Rattle.std.proofs.Common.{◌≤◌, ℕ, List, length, drop, sym, ap, ◌∙◌, subst, arith}
 use Rattle.std.specs.Str.{IsCharBoundary}
 use Rattle.yq_text.specs.Halves.{whole}
-use Rattle.yq_flow_scalars.specs.Characters.{text_limit}
+use Rattle.yq_text.specs.Limit.{text_limit}
 use Rattle.yq_cut.specs.View.{view, rows_of}
 use Rattle.yq_documents.specs.Reading.{cut_of}
 use Rattle.yq_lines.specs.Extents.{IsRowsView}
