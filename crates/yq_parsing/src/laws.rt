@@ -1,13 +1,20 @@
 //! Laws of expressions.
 ghost use Rattle.std.specs.Prelude.{◌≡◌, ◌↔◌, ℕ, List};
-ghost use Rattle.yq_parsing.specs.Outcome.{ComesTo, Outcome};
+ghost use Rattle.yq_parsing.specs.Outcome.{ComesTo, Derives, Outcome};
 ghost use Rattle.yq_parsing.specs.Parse.{outcome};
+ghost use Rattle.yq_program.specs.Program.{Program};
 ghost use Rattle.yq_program.specs.Tokens.{AreTokens, Token};
 
 /// No text has two lists of tokens.
 pub fn one_token_list()
     ensures { (text : List ℕ) (ts us : List Token) → AreTokens ts text → AreTokens us text →
         ts ≡ us }
+{}
+
+/// No text derives two programs.
+#[tactic(auto, using(crate::proofs::Outcomes::one_of))]
+pub fn one_program()
+    ensures { (text : List ℕ) (p q : Program) → Derives text p → Derives text q → p ≡ q }
 {}
 
 /// A text comes to one outcome, which is the program that it derives and that asks for no pattern, or else

@@ -10,5 +10,5 @@ mod survey;
 mod token;
 
 pub use error::ParseError;
-pub use laws::{one_outcome, one_token_list};
+pub use laws::{one_outcome, one_program, one_token_list};
 pub use parse::parse_expr;

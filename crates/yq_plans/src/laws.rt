@@ -11,20 +11,14 @@ ghost use Rattle.yq_meaning.specs.Fits.{Fits, AllFit};
 ghost use Rattle.yq_meaning.specs.Judgement.{gives, refuses};
 ghost use Rattle.yq_meaning.specs.Meaning.{AreReady, meaning};
 ghost use Rattle.yq_meaning.specs.Operations.{Operation};
-ghost use Rattle.yq_parsing.specs.Outcome.{Derives};
 ghost use Rattle.yq_meaning.specs.Pipes.{places};
 ghost use Rattle.yq_meaning.specs.Places.{Place};
 ghost use Rattle.yq_meaning.specs.PlacesApart.{AreApart, AreIn};
 ghost use Rattle.yq_meaning.specs.Plans as plans;
-ghost use Rattle.yq_program.specs.Program.{Program as Outline, Stage as PipeStage, Update as Change, UpdatesHold};
+ghost use Rattle.yq_program.specs.Program.{Stage as PipeStage, Update as Change, UpdatesHold};
 ghost use Rattle.yq_meaning.specs.Rooms.{RoomsAreReady};
 ghost use Rattle.yq_meaning.specs.RoomsKept.{AlikeFor, LeavesRooms, MayFollow};
 ghost use Rattle.yq_meaning.specs.declared.refusal.Refusal.{Refusal as Why};
-
-/// No text derives two programs.
-pub fn one_program()
-    ensures { (text : List ℕ) (p q : Outline) → Derives text p → Derives text q → p ≡ q }
-{}
 
 /// The documents of a text that reads are ready for updates, with the room that the text has.
 #[tactic(auto, using(crate::proofs::RoomLaws::rooms_are_ready))]

@@ -4,6 +4,6 @@
 mod laws;
 
 pub use laws::{
-    changes_apart, one_program, places_apart, plan_fits, plan_means, plan_refused, plan_rooms,
+    changes_apart, places_apart, plan_fits, plan_means, plan_refused, plan_rooms,
     rest_follows, rooms_alike, rooms_ready,
 };
