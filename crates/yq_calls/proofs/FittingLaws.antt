@@ -13,10 +13,10 @@ use Rattle.yq_meaning.specs.Rooms.{room_of}
 use Rattle.yq_meaning.specs.RoomsKept.{LeavesRooms, MayFollow}
 use Rattle.yq_program.specs.Program.{Program, Update, LiteralsHold, delete, read, updates, update_at, update_count}
 use Rattle.yq_meaning.specs.Plans.{plan}
-use Rattle.yq_plans.proofs.RoomLaws.{rooms_are_ready}
-use Rattle.yq_plans.proofs.updates.AlikeRooms.{rest_follow}
-use Rattle.yq_plans.proofs.updates.PlanAnswers.{literals_hold}
-use Rattle.yq_plans.proofs.updates.RoomsLast.{plan_follows}
+use Rattle.yq_meaning.proofs.RoomLaws.{rooms_are_ready}
+use Rattle.yq_meaning.proofs.updates.AlikeRooms.{rest_follow}
+use Rattle.yq_meaning.proofs.updates.PlanAnswers.{literals_hold}
+use Rattle.yq_meaning.proofs.updates.RoomsLast.{plan_follows}
 use Rattle.yq_script.specs.Splice.{Splice}
 use Rattle.yq_outcomes.specs.Theorems.{IsApplied, IsFitting}
 use Rattle.yq_calls.specs.Fitting.{AreFitting}

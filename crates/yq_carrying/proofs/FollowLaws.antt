@@ -33,12 +33,12 @@ use Rattle.yq_session.specs.declared.kept.Kept.{Kept}
 use Rattle.yq_edits.specs.Edits.{edits, or_stay}
 use Rattle.yq_edits.specs.Local.{IsLocalTo}
 use Rattle.yq_edits.specs.Operands.{HasOperand}
-use Rattle.yq_node_edits.specs.TouchedRanges.{IsLocalEdit}
+use Rattle.yq_outcomes.specs.TouchedRanges.{IsLocalEdit}
 use Rattle.yq_script.proofs.KeptSegments.{IsBetween, between}
-use Rattle.yq_node_edits.proofs.NearLaws.{edits_are_near}
-use Rattle.yq_node_edits.proofs.TouchLaws.{local_touches}
-use Rattle.yq_node_edits.proofs.TouchedLaws.{near_touched}
-use Rattle.yq_node_edits.proofs.CutLaws.{cut_read, cut_same, text_read}
+use Rattle.yq_outcomes.proofs.NearLaws.{edits_are_near}
+use Rattle.yq_outcomes.proofs.TouchLaws.{local_touches}
+use Rattle.yq_outcomes.proofs.TouchedLaws.{near_touched}
+use Rattle.yq_outcomes.proofs.CutLaws.{cut_read, cut_same, text_read}
 use Rattle.yq_outcomes.specs.Carried.{carried}
 use Rattle.yq_outcomes.specs.Edit.{gives}
 use Rattle.yq_carrying.specs.Session.{HasPlaces, KnowsItems, Scans}

@@ -27,7 +27,7 @@ use Rattle.yq_script.specs.Changing.{IsChange}
 use Rattle.yq_script.specs.Script.{new_text}
 use Rattle.yq_script.specs.declared.changed.Changed.{Changed}
 use Rattle.yq_session.specs.Following.{ArePlacesOf}
-use Rattle.yq_node_edits.proofs.CutLaws.{cut_read, cut_same}
+use Rattle.yq_outcomes.proofs.CutLaws.{cut_read, cut_same}
 use Rattle.yq_outcomes.specs.Carried.{carry_one, carried}
 use Rattle.yq_outcomes.specs.Edit.{gives, by_reading, exchange_edit}
 use Rattle.yq_carrying.specs.Session.{HasPlaces, KnowsItems, NotOpened}

@@ -18,7 +18,7 @@ use Rattle.yq_script.specs.Splice.{Splice}
 use Rattle.yq_session.specs.Following.{read_text}
 use Rattle.yq_session.specs.declared.kept.Kept.{Kept}
 use Rattle.yq_edits.specs.Edits.{edits}
-use Rattle.yq_node_edits.specs.TouchedRanges.{PutAreTouched}
+use Rattle.yq_outcomes.specs.TouchedRanges.{PutAreTouched}
 use Rattle.yq_outcomes.specs.Theorems.{HasReading}
 
 -- What a session is known by: its text, and how many lines were counted (own).

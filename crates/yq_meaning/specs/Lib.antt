@@ -17,3 +17,4 @@ pub mod Rooms
 pub mod RoomsKept
 pub mod PlacesApart
 pub mod Plans
+pub mod MatchTrees

@@ -1,10 +1,16 @@
-//! What programs mean on documents, and the operations that carry updates out.
+//! What programs mean on documents, and the operations that carry updates out; laws of plans: that the
+//! operations of an update fit, and make what it means.
 #![tactic(auto)]
 
 mod expr_error;
+mod laws;
 mod op;
 mod refusal;
 
 pub use expr_error::ExprError;
+pub use laws::{
+    changes_apart, places_apart, plan_fits, plan_means, plan_refused, plan_rooms, rest_follows,
+    rooms_alike, rooms_ready,
+};
 pub use op::{Op, copied_steps};
 pub use refusal::Refusal;

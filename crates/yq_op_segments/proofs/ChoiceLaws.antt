@@ -6,7 +6,7 @@ use Rattle.yq_script.specs.Script.{Segment, keep}
 use Rattle.yq_flow_scalars.specs.Tree.{Node}
 use Rattle.yq_row_places.specs.Standings.{FlowPart}
 use Rattle.yq_edits.specs.FlowParts.{flow_put}
-use Rattle.yq_node_edits.specs.PartPuts.{part_put}
+use Rattle.yq_outcomes.specs.PartPuts.{part_put}
 use Rattle.yq_edits.specs.Answers.{GivesSegments}
 
 -- the first one answers

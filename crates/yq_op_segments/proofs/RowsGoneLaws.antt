@@ -25,7 +25,7 @@ use Rattle.yq_edits.specs.Edits.{or_stay, part_removed, rows_or_sole}
 use Rattle.yq_edits.specs.EntryEdits.{one_removed}
 use Rattle.yq_edits.specs.Removing.{gap_mended, rows_removed}
 use Rattle.yq_edits.specs.RemovingFirst.{first_removed}
-use Rattle.yq_node_edits.proofs.CutLaws.{cut_read}
+use Rattle.yq_outcomes.proofs.CutLaws.{cut_read}
 use Rattle.yq_op_segments.specs.RowsGone.{IsSmall}
 use Rattle.yq_outcomes.specs.Valid.{segments_by}
 

@@ -20,7 +20,7 @@ use Rattle.yq_edits.specs.Operands.{HasOperand}
 use Rattle.yq_edits.specs.EditLaws.{IsEdit}
 use Rattle.yq_edits.specs.Edits.{edits, or_stay}
 use Rattle.yq_edits.specs.ReadsAfter.{ReadsAfter}
-use Rattle.yq_node_edits.proofs.CutLaws.{cut_read, cut_same, text_read}
+use Rattle.yq_outcomes.proofs.CutLaws.{cut_read, cut_same, text_read}
 use Rattle.yq_outcomes.specs.Answers.{Edits, EditFails}
 use Rattle.yq_outcomes.specs.Carried.{carry_one, carried}
 use Rattle.yq_outcomes.specs.Edit.{Edit, unreadable, refuses, gives, by_reading, edit_of_segments, exchange_edit}

@@ -2,19 +2,19 @@
 use Rattle.std.proofs.Common.{refl}
 use Rattle.yq_row_places.specs.Standings.{alone, beside, under, compact, block, root, no_rows}
 use Rattle.yq_edits.specs.EditLaws.{KindsCarryOut, EditsCarryOut, FittingHasEdit, ValuesArePut}
-use Rattle.yq_node_edits.proofs.HeadCommentLaws.{head_comment_is_put}
+use Rattle.yq_outcomes.proofs.HeadCommentLaws.{head_comment_is_put}
 use Rattle.yq_edits.proofs.KeptLaws.{equal_scalars_stay}
-use Rattle.yq_node_edits.proofs.LineCommentLaws.{line_comment_is_put}
-use Rattle.yq_node_edits.proofs.MoreLaws.{more_is_put}
-use Rattle.yq_node_edits.proofs.RemovingFirstLaws.{one_is_removed}
-use Rattle.yq_node_edits.proofs.FlowAppendLaws.{flow_more_put}
-use Rattle.yq_node_edits.proofs.FlowPutLaws.{flow_values_put}
-use Rattle.yq_node_edits.proofs.FlowRemoveLaws.{flow_part_removed}
-use Rattle.yq_node_edits.proofs.MoreExists.{takers_have_edit}
-use Rattle.yq_node_edits.proofs.SoleLaws.{sole_removed}
-use Rattle.yq_node_edits.proofs.StandingExists.{entries_stand, roots_stand}
-use Rattle.yq_node_edits.proofs.RootEditLaws.{first_nodes_are_put, roots_are_put}
-use Rattle.yq_node_edits.proofs.MarkedValueLaws.{marked_values}
+use Rattle.yq_outcomes.proofs.LineCommentLaws.{line_comment_is_put}
+use Rattle.yq_outcomes.proofs.MoreLaws.{more_is_put}
+use Rattle.yq_outcomes.proofs.RemovingFirstLaws.{one_is_removed}
+use Rattle.yq_outcomes.proofs.FlowAppendLaws.{flow_more_put}
+use Rattle.yq_outcomes.proofs.FlowPutLaws.{flow_values_put}
+use Rattle.yq_outcomes.proofs.FlowRemoveLaws.{flow_part_removed}
+use Rattle.yq_outcomes.proofs.MoreExists.{takers_have_edit}
+use Rattle.yq_outcomes.proofs.SoleLaws.{sole_removed}
+use Rattle.yq_outcomes.proofs.StandingExists.{entries_stand, roots_stand}
+use Rattle.yq_outcomes.proofs.RootEditLaws.{first_nodes_are_put, roots_are_put}
+use Rattle.yq_outcomes.proofs.MarkedValueLaws.{marked_values}
 use Rattle.yq_outcomes.proofs.FittingExists.{fitting_has_edit}
 use Rattle.yq_outcomes.proofs.CarryOutLaws.{edits_carry_out}
 

@@ -46,9 +46,9 @@ use Rattle.yq_edits.specs.Layouts.{layout_of}
 use Rattle.yq_edits.specs.ReplaceEdits.{has_text, value_put}
 use Rattle.yq_edits.specs.Replacing.{is_kept}
 use Rattle.yq_edits.proofs.DoneLaws.{read_cut}
-use Rattle.yq_node_edits.proofs.DocumentParts as parts
-use Rattle.yq_node_edits.proofs.FlowSoundLaws.{above_is, last_is}
-use Rattle.yq_node_edits.proofs.StandingExists.{last_there}
+use Rattle.yq_outcomes.proofs.DocumentParts as parts
+use Rattle.yq_outcomes.proofs.FlowSoundLaws.{above_is, last_is}
+use Rattle.yq_outcomes.proofs.StandingExists.{last_there}
 use Rattle.yq_outcomes.proofs.RemoveExists.{one_there}
 
 -- there is an edit

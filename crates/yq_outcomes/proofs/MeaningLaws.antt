@@ -5,9 +5,9 @@ use Rattle.yq_documents.specs.Reading.{read_at, documents}
 use Rattle.yq_lines.proofs.ShapeLaws.{shaped_by_lines, shaped_is_tree}
 use Rattle.yq_row_places.proofs.ReadLaws.{read_takes}
 use Rattle.yq_row_places.proofs.ReadyLaws.{read_ready}
-use Rattle.yq_plans.proofs.RoomLaws.{rooms_are_ready}
-use Rattle.yq_plans.proofs.updates.PlanMeans.{plan_means, plan_refused}
-use Rattle.yq_plans.proofs.updates.RoomsLast.{plan_follows}
+use Rattle.yq_meaning.proofs.RoomLaws.{rooms_are_ready}
+use Rattle.yq_meaning.proofs.updates.PlanMeans.{plan_means, plan_refused}
+use Rattle.yq_meaning.proofs.updates.RoomsLast.{plan_follows}
 use Rattle.yq_meaning.specs.After.{all_after}
 use Rattle.yq_meaning.specs.Judgement as judgement
 use Rattle.yq_meaning.specs.Meaning.{AreReady}
@@ -16,7 +16,7 @@ use Rattle.yq_meaning.specs.declared.refusal.Refusal.{Refusal}
 use Rattle.yq_meaning.specs.Plans.{plan}
 use Rattle.yq_program.specs.Program.{Update, UpdatesHold}
 use Rattle.yq_meaning.specs.Rooms.{room_of}
-use Rattle.yq_node_edits.proofs.CutLaws.{cut_same}
+use Rattle.yq_outcomes.proofs.CutLaws.{cut_same}
 use Rattle.yq_outcomes.specs.Carried.{carry_all}
 use Rattle.yq_outcomes.specs.Edit.{Edit, unreadable, refuses, gives}
 use Rattle.yq_outcomes.specs.Theorems.{IsUpdated, UpdateRefused}

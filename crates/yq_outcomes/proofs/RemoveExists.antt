@@ -32,7 +32,7 @@ use Rattle.yq_edits.specs.EntryEdits.{one_removed}
 use Rattle.yq_edits.specs.Removing.{rows_removed}
 use Rattle.yq_edits.specs.RemovingFirst.{first_removed}
 use Rattle.yq_outcomes.proofs.PrintedDocuments.{printed_at}
-use Rattle.yq_node_edits.proofs.StandingExists.{placed_there}
+use Rattle.yq_outcomes.proofs.StandingExists.{placed_there}
 
 module _ (n : ℕ) (s : Step) (ss : List Step) (c : Cut) (e : RowsOfEntry) (read : read_at (cut_text c) ≡ Some c) (x : StandsThere n s ss c e) where
   abbrev p : Part

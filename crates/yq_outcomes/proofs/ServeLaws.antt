@@ -7,7 +7,7 @@ use Rattle.yq_meaning.specs.Operations.{Operation}
 use Rattle.yq_meaning.specs.Rooms.{room_of}
 use Rattle.yq_meaning.specs.RoomsKept.{LeavesRooms}
 use Rattle.yq_meaning.specs.declared.refusal.Refusal.TheVariants.{TooLarge}
-use Rattle.yq_plans.proofs.updates.AlikeRooms.{rest_follow, rest_after}
+use Rattle.yq_meaning.proofs.updates.AlikeRooms.{rest_follow, rest_after}
 use Rattle.yq_script.specs.Splice.{Splice}
 use Rattle.yq_outcomes.specs.Carried.{carried, carry_all}
 use Rattle.yq_outcomes.specs.Edit.{Edit, unreadable, refuses, gives, behind, and_then}

@@ -1,3 +1,9 @@
+pub mod EditPlaces
+pub mod Emptying
+pub mod PartPuts
+pub mod MarkedValues
+pub mod RootEdits
+pub mod TouchedRanges
 pub mod Edit
 pub mod Carried
 pub mod Answers

@@ -1,10 +1,26 @@
 //! What operations, updates and programs come to on a text, and why they are refused; operands of operations.
+//! What nodes exchange: edits of flow collections, the empty collection that is put in the place of one whose
+//! sole item or entry is removed, and laws of values, comments, one more item or entry and one fewer outside.
 #![tactic(auto)]
 
+mod append;
+mod edit;
 mod edit_error;
+pub mod edit_laws;
+pub mod laws;
 mod operands;
+mod put;
+mod remove;
+pub mod roots;
+mod sole;
+pub mod values;
 mod ways;
 
+pub use append::append_in_flow;
+pub use edit::{last_step, unchanged};
 pub use edit_error::EditError;
 pub use operands::{operand_holds, operands_hold};
+pub use put::{PartPut, put_at_part, put_in_flow};
+pub use remove::remove_in_flow;
+pub use sole::{EmptyPut, emptying};
 pub use ways::on_the_way;

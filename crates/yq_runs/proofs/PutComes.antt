@@ -24,11 +24,11 @@ use Rattle.yq_edits.specs.FlowParts.{flow_put, flow_segments}
 use Rattle.yq_edits.specs.Layouts.{layout_of}
 use Rattle.yq_edits.specs.ReplaceEdits.{has_text, value_put}
 use Rattle.yq_edits.specs.Replacing.{is_kept}
-use Rattle.yq_node_edits.specs.PartPuts.{put_edit}
-use Rattle.yq_node_edits.proofs.CutLaws.{cut_read}
-use Rattle.yq_node_edits.proofs.FlowEditLaws.{before_is}
-use Rattle.yq_node_edits.proofs.FlowPartNodes.{none_there, part_node}
-use Rattle.yq_node_edits.proofs.FlowStandings.{EntryAt}
+use Rattle.yq_outcomes.specs.PartPuts.{put_edit}
+use Rattle.yq_outcomes.proofs.CutLaws.{cut_read}
+use Rattle.yq_outcomes.proofs.FlowEditLaws.{before_is}
+use Rattle.yq_outcomes.proofs.FlowPartNodes.{none_there, part_node}
+use Rattle.yq_outcomes.proofs.FlowStandings.{EntryAt}
 use Rattle.yq_outcomes.specs.Carried.{carried, carry_one}
 use Rattle.yq_outcomes.specs.Edit.{by_reading, exchange_edit, edit_of_segments, gives, refuses}
 

@@ -22,11 +22,11 @@ use Rattle.yq_edits.specs.CommentEdits.{comment_put, comment_written}
 use Rattle.yq_edits.specs.Operands.{HasOperand}
 use Rattle.yq_edits.specs.RowChanges.{comment_front, comment_old, takes_white}
 use Rattle.yq_edits.proofs.HeldPieces.{held_spells}
-use Rattle.yq_node_edits.proofs.LineCommentLaws.{line_comments_change_rows}
-use Rattle.yq_node_edits.proofs.RowEditLaws.{row_edits}
+use Rattle.yq_outcomes.proofs.LineCommentLaws.{line_comments_change_rows}
+use Rattle.yq_outcomes.proofs.RowEditLaws.{row_edits}
 use Rattle.yq_edits.proofs.TailPieces.{white_piece}
-use Rattle.yq_node_edits.proofs.CutLaws.{cut_read, text_read}
-use Rattle.yq_node_edits.proofs.HeldRows.{mark_end, mark_tail}
+use Rattle.yq_outcomes.proofs.CutLaws.{cut_read, text_read}
+use Rattle.yq_outcomes.proofs.HeldRows.{mark_end, mark_tail}
 use Rattle.yq_runs.specs.RowRuns.{PutsInRow, PutsSo, PutsText, bytes_in, rows_still, white_left}
 use Rattle.yq_runs.specs.declared.in_rows.RowPut.{RowPut}
 use Rattle.yq_outcomes.proofs.EditsHold.{edit_is}

@@ -36,11 +36,11 @@ use Rattle.yq_edits.specs.Replacing.{is_kept}
 use Rattle.yq_edits.specs.RowChanges.{HoldsInline, inline_put}
 use Rattle.yq_edits.specs.WrittenValues.{value_text}
 use Rattle.yq_edits.proofs.HeldPieces.{held_spells}
-use Rattle.yq_node_edits.proofs.RowEditLaws.{row_edits}
-use Rattle.yq_node_edits.proofs.CutLaws.{cut_read, text_read}
-use Rattle.yq_node_edits.proofs.HeldRows.{head_there, headless_there}
-use Rattle.yq_node_edits.proofs.InlineChangeLaws.{inline_values_change_rows}
-use Rattle.yq_node_edits.proofs.MarkHeads.{no_raw}
+use Rattle.yq_outcomes.proofs.RowEditLaws.{row_edits}
+use Rattle.yq_outcomes.proofs.CutLaws.{cut_read, text_read}
+use Rattle.yq_outcomes.proofs.HeldRows.{head_there, headless_there}
+use Rattle.yq_outcomes.proofs.InlineChangeLaws.{inline_values_change_rows}
+use Rattle.yq_outcomes.proofs.MarkHeads.{no_raw}
 use Rattle.yq_runs.specs.RowRuns.{IsWrittenSo, PutsInRow, PutsSo, PutsText, bytes_in, rows_still}
 use Rattle.yq_runs.specs.declared.in_rows.RowPut.{RowPut}
 use Rattle.yq_outcomes.proofs.EditsHold.{edit_is}

@@ -12,8 +12,8 @@ use Rattle.yq_meaning.specs.After.{document_of}
 use Rattle.yq_meaning.specs.Operations.{Operation}
 use Rattle.yq_script.specs.Script.{splice_at}
 use Rattle.yq_script.specs.Splice.{Splice}
-use Rattle.yq_node_edits.proofs.CutLaws.{text_read}
-use Rattle.yq_node_edits.proofs.FlowAnswers.{whole_text}
+use Rattle.yq_outcomes.proofs.CutLaws.{text_read}
+use Rattle.yq_outcomes.proofs.FlowAnswers.{whole_text}
 use Rattle.yq_outcomes.specs.Answers.{EditFails}
 use Rattle.yq_outcomes.specs.Carried.{carried}
 use Rattle.yq_outcomes.specs.Edit.{gives, refuses}

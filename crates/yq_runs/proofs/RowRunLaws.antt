@@ -26,7 +26,7 @@ use Rattle.yq_script.proofs.ScriptLaws.{kept_changes}
 use Rattle.yq_edits.specs.Edits.{edits, or_stay}
 use Rattle.yq_edits.specs.Operands.{HasOperand}
 use Rattle.yq_edits.specs.RowChanges.{ChangesRow}
-use Rattle.yq_node_edits.proofs.CutLaws.{cut_read, text_read}
+use Rattle.yq_outcomes.proofs.CutLaws.{cut_read, text_read}
 use Rattle.yq_outcomes.specs.Carried.{carried, carry_one}
 use Rattle.yq_outcomes.specs.Edit.{by_reading, edit_of_segments, exchange_edit, gives, refuses}
 use Rattle.yq_runs.specs.RowRuns.{IsRowRun, PutsText, rows_still}

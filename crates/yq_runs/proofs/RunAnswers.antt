@@ -22,11 +22,11 @@ use Rattle.yq_script.specs.Script.{splice_at}
 use Rattle.yq_script.specs.Splice.{Splice}
 use Rattle.yq_edits.specs.Operands.{HasOperand}
 use Rattle.yq_edits.specs.Replacing.{is_kept}
-use Rattle.yq_node_edits.specs.EditPlaces.{LiesIn, moved_on}
-use Rattle.yq_node_edits.specs.PartPuts.{IsHeadOf, ArePuts, IsWritten, put_edit}
-use Rattle.yq_node_edits.specs.declared.put.PartPut.{PartPut}
-use Rattle.yq_node_edits.proofs.CutLaws.{text_read}
-use Rattle.yq_node_edits.proofs.FlowAnswers.{whole_text}
+use Rattle.yq_outcomes.specs.EditPlaces.{LiesIn, moved_on}
+use Rattle.yq_outcomes.specs.PartPuts.{IsHeadOf, ArePuts, IsWritten, put_edit}
+use Rattle.yq_outcomes.specs.declared.put.PartPut.{PartPut}
+use Rattle.yq_outcomes.proofs.CutLaws.{text_read}
+use Rattle.yq_outcomes.proofs.FlowAnswers.{whole_text}
 use Rattle.yq_outcomes.specs.Answers.{EditFails}
 use Rattle.yq_outcomes.specs.Carried.{carried}
 use Rattle.yq_outcomes.specs.Edit.{gives, refuses}

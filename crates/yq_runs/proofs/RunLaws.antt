@@ -32,11 +32,11 @@ use Rattle.yq_script.specs.Script.{new_text, splice_at}
 use Rattle.yq_script.specs.Splice.{Splice}
 use Rattle.yq_edits.specs.FlowParts.{flow_segments}
 use Rattle.yq_edits.specs.Replacing.{is_kept}
-use Rattle.yq_node_edits.specs.PartPuts.{IsPart, IsPlaceOf, put_edit}
-use Rattle.yq_node_edits.proofs.CutLaws.{text_read}
-use Rattle.yq_node_edits.proofs.FlowPartNodes.{part_node}
-use Rattle.yq_node_edits.proofs.FlowPutLaws.{head_behind, next, part_behind, replaced_reads}
-use Rattle.yq_node_edits.proofs.FlowStandings.{EntryAt, entry_found}
+use Rattle.yq_outcomes.specs.PartPuts.{IsPart, IsPlaceOf, put_edit}
+use Rattle.yq_outcomes.proofs.CutLaws.{text_read}
+use Rattle.yq_outcomes.proofs.FlowPartNodes.{part_node}
+use Rattle.yq_outcomes.proofs.FlowPutLaws.{head_behind, next, part_behind, replaced_reads}
+use Rattle.yq_outcomes.proofs.FlowStandings.{EntryAt, entry_found}
 use Rattle.yq_outcomes.specs.Carried.{carried}
 use Rattle.yq_outcomes.specs.Edit.{edit_of_segments, gives, refuses}
 use Rattle.yq_runs.specs.Runs.{EndsIn, IsRun, run_text}

@@ -18,8 +18,8 @@ use Rattle.yq_meaning.specs.Operations.{Operation, replace}
 use Rattle.yq_meaning.specs.declared.refusal.Refusal.TheVariants.{TooLarge}
 use Rattle.yq_script.specs.Script.{splice_at}
 use Rattle.yq_script.specs.Splice.{Splice}
-use Rattle.yq_node_edits.specs.PartPuts.{IsPart, IsPlaceOf, IsWritten}
-use Rattle.yq_node_edits.specs.declared.put.PartPut.{PartPut}
+use Rattle.yq_outcomes.specs.PartPuts.{IsPart, IsPlaceOf, IsWritten}
+use Rattle.yq_outcomes.specs.declared.put.PartPut.{PartPut}
 use Rattle.yq_outcomes.specs.Carried.{carried}
 use Rattle.yq_outcomes.specs.Edit.{gives}
 use Rattle.yq_outcomes.specs.Theorems.{IsApplied}

@@ -3,7 +3,7 @@ use Rattle.yq_document_nodes.specs.Nodes.{node_of}
 use Rattle.yq_program.specs.View.{stage_of}
 use Rattle.yq_matching.specs.FoundView.{found_places}
 use Rattle.yq_matching.proofs.MatchLaws.{places_have}
-use Rattle.yq_plans.proofs.updates.PipePlaces.{places_stand}
+use Rattle.yq_meaning.proofs.updates.PipePlaces.{places_stand}
 use Rattle.yq_expr.proofs.changes.changes_in.Goals as goal
 
 pub changes_at-requires-clause-scalars : goal.changes_at-requires-clause-scalars

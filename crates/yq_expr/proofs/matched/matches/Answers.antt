@@ -3,7 +3,7 @@ use Rattle.std.specs.declared.alloc.Global.{Global}
 use Rattle.yq_documents.specs.Reading.{documents_of}
 use Rattle.yq_expr.specs.MatchView.{matches_of}
 use Rattle.yq_expr.specs.declared.matched.Match.{Match}
-use Rattle.yq_plans.proofs.MatchTrees.{answer_matches}
+use Rattle.yq_meaning.proofs.MatchTrees.{answer_matches}
 use Rattle.yq_expr.proofs.matched.matches.Goals as goal
 
 pub returns-clause-trees : goal.returns-clause-trees

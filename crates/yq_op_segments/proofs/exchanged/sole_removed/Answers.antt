@@ -5,8 +5,8 @@ use Rattle.yq_documents.specs.Reading.{cut_of}
 use Rattle.yq_row_places.specs.Standings.{last_step}
 use Rattle.yq_edits.specs.Answers.{GivesSegments}
 use Rattle.yq_edits.specs.Edits.{replaced}
-use Rattle.yq_node_edits.specs.Emptying.{Emptied, emptied_view}
-use Rattle.yq_node_edits.proofs.EmptyingAnswers.{sole_by_emptying}
+use Rattle.yq_outcomes.specs.Emptying.{Emptied, emptied_view}
+use Rattle.yq_outcomes.proofs.EmptyingAnswers.{sole_by_emptying}
 use Rattle.yq_op_segments.proofs.exchanged.sole_removed.Goals as goal
 
 pub returns : goal.returns

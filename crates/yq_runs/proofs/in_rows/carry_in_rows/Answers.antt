@@ -1,7 +1,7 @@
 use Rattle.std.proofs.Common.{◌≡◌, ◌∙◌, ℕ, ◌<◌, ◌^◌, List, length, Option, sym, subst, ap, arith}
 use Rattle.std.specs.Prelude.{IfSome}
 use Rattle.yq_documents.specs.Reading.{cut_of}
-use Rattle.yq_node_edits.proofs.CutLaws.{text_small}
+use Rattle.yq_outcomes.proofs.CutLaws.{text_small}
 use Rattle.yq_meaning.specs.Operations.{operation_of, operations_of}
 use Rattle.yq_outcomes.specs.Carried.{carry_all, carried}
 use Rattle.yq_outcomes.specs.Edit.{behind, gives}
@@ -17,7 +17,7 @@ use Rattle.std.specs.Str.{IsCharBoundary}
 use Rattle.std.proofs.lemmas.Result.{err_from_is_err_and}
 use Rattle.yq_text.specs.Halves.{whole}
 use Rattle.yq_cut.specs.Rows.{cut_text}
-use Rattle.yq_node_edits.proofs.FlowAnswers.{whole_text}
+use Rattle.yq_outcomes.proofs.FlowAnswers.{whole_text}
 use Rattle.yq_outcomes.specs.Answers.{EditFails}
 use Rattle.yq_outcomes.specs.Theorems.{IsFitting}
 use Rattle.yq_runs.proofs.in_rows.carry_in_rows.Goals as goal

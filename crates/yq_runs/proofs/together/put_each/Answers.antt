@@ -5,7 +5,7 @@ use Rattle.yq_cut.specs.Rows.{cut_text}
 use Rattle.yq_nodes.specs.Entries.{step_of}
 use Rattle.yq_documents.specs.Reading.{cut_of}
 use Rattle.yq_meaning.specs.Operations.{operations_of}
-use Rattle.yq_node_edits.proofs.FlowAnswers.{whole_text}
+use Rattle.yq_outcomes.proofs.FlowAnswers.{whole_text}
 use Rattle.yq_outcomes.specs.Answers.{EditFails}
 use Rattle.yq_outcomes.specs.Carried.{carry_all}
 use Rattle.yq_outcomes.specs.Edit.{behind, gives}

@@ -4,7 +4,7 @@ use Rattle.std.specs.Prelude.{IfSome}
 use Rattle.yq_text.specs.Halves.{whole}
 use Rattle.yq_nodes.specs.Entries.{step_of}
 use Rattle.yq_meaning.specs.Operations.{operation_of}
-use Rattle.yq_node_edits.specs.declared.put.PartPut.{PartPut}
+use Rattle.yq_outcomes.specs.declared.put.PartPut.{PartPut}
 use Rattle.yq_runs.specs.Runs.{HasPut, PutFails, PutsAt}
 use Rattle.yq_runs.proofs.RunAnswers.{edge_in, kept_on, lies_in, put_fails, put_on}
 use Rattle.std.proofs.lemmas.Bool.{false≢true}

@@ -1,3 +1,0 @@
-pub mod RoomLaws
-pub mod MatchTrees
-pub mod updates

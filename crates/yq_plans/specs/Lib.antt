@@ -1,3 +1,0 @@
-pub use Rattle.yq_nodes.specs.Values
-pub use Rattle.yq_flow_scalars.specs.Tree
-pub mod MatchTrees
