@@ -1,33 +1,43 @@
 //! Why a journal refuses.
 
 use std::alloc::{AllocError, AllocFailed};
-use thiserror::Error;
+use std::error::Error;
+use std::fmt::{self, Display, Formatter, Write};
 
 /// What is at fault.
-#[derive(Clone, Copy, Debug, PartialEq, Eq, Error)]
+#[derive(Clone, Copy, Debug, PartialEq, Eq)]
 pub enum JournalFault {
     /// No record is done.
-    #[error("J1 nothing to undo")]
     NothingToUndo,
     /// No record is undone.
-    #[error("J2 nothing to redo")]
     NothingToRedo,
     /// The text doesn't have the length or the bytes that a record tells.
-    #[error("J3 does not stand")]
     DoesNotStand,
     /// The bytes are no journal.
-    #[error("J4 bad journal")]
     BadJournal,
     /// A move is open.
-    #[error("J5 unsettled")]
     Unsettled,
     /// The cursor is at the last record that a journal may hold.
-    #[error("J6 journal full")]
     JournalFull,
     /// So many records can't be joined.
-    #[error("J7 bad count")]
     BadCount,
 }
+
+impl Display for JournalFault {
+    fn fmt<W: Write>(&self, f: &mut Formatter<W>) -> fmt::Result {
+        f.write_str(match self {
+            JournalFault::NothingToUndo => "J1 nothing to undo",
+            JournalFault::NothingToRedo => "J2 nothing to redo",
+            JournalFault::DoesNotStand => "J3 does not stand",
+            JournalFault::BadJournal => "J4 bad journal",
+            JournalFault::Unsettled => "J5 unsettled",
+            JournalFault::JournalFull => "J6 journal full",
+            JournalFault::BadCount => "J7 bad count",
+        })
+    }
+}
+
+impl Error for JournalFault {}
 
 /// Why a call failed.
 #[derive(Clone, Copy, Debug, PartialEq, Eq)]
