@@ -18,7 +18,7 @@ mod trust;
 use crate::disk::edited::{EditedFile, read_edited, write_journal, write_own};
 use crate::disk::journal::read_journal;
 use crate::disk::purpose::Purpose;
-use crate::disk::reading::read_named;
+use crate::disk::reading::read_text;
 use crate::store::{FileReadError, FileWriteError, Store};
 use std::alloc::Global;
 use std::fs::File;
@@ -26,7 +26,7 @@ use std::io::{Eprint, ErrorKind};
 use std::random::RandomSource;
 use std::rt::Files;
 use std::time::Clock;
-use std::io;
+use std::{fs, io};
 
 /// Real files, for one command, which reads its file before it reads or writes anything else. A
 /// temporary file with the new bytes is written beside the old file, and renamed over it. What is
@@ -72,7 +72,7 @@ impl<
         ensures { self.new.failures ≡ self.old.failures }
     {
         if self.purpose == Purpose::Print {
-            return read_named(&self.rt, alloc, name);
+            return read_text(alloc, fs::open(&self.rt, name)?);
         }
         if name == self.file {
             return read_edited(

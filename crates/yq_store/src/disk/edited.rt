@@ -30,28 +30,8 @@ pub struct EditedFile {
     is_checked: bool,
 }
 
-/// Opens and locks the file to which a name leads, to read it. Where `reports` is set, a run that waits
-/// for the lock for longer than a second tells it.
-fn open_edited<R: Files<File = File> + Clock + Eprint + Alloc<A = Global>>(
-    rt: &R,
-    name: &str,
-    purpose: Purpose,
-    reports: bool,
-) -> io::Result<EditedFile> {
-    let opened = locked_file(rt, name, purpose, reports)?;
-    let found = opened.file.metadata()?;
-    if purpose == Purpose::Replay && found.len() >= MOST_OF_TEXT {
-        return Err(io::Error::from(ErrorKind::FileTooLarge));
-    }
-    Ok(EditedFile {
-        opened,
-        state: FileState::of(&found),
-        trust: Trust::of(rt, &found),
-        is_checked: false,
-    })
-}
-
 /// Locks the file to which a name leads, and reads it; the one that was locked before is closed first.
+/// Where `reports` is set, a run that waits for the lock for longer than a second tells it.
 pub fn read_edited<R: Files<File = File> + Clock + Eprint + Alloc<A = Global>>(
     rt: &R,
     edited: &mut Option<EditedFile>,
@@ -61,9 +41,18 @@ pub fn read_edited<R: Files<File = File> + Clock + Eprint + Alloc<A = Global>>(
     reports: bool,
 ) -> io::Result<Vec<u8>> {
     *edited = None;
-    let opened = open_edited(rt, name, purpose, reports)?;
-    let text = read_text(alloc, &opened.opened.file);
-    *edited = Some(opened);
+    let opened = locked_file(rt, name, purpose, reports)?;
+    let found = opened.file.metadata()?;
+    if purpose == Purpose::Replay && found.len() >= MOST_OF_TEXT {
+        return Err(io::Error::from(ErrorKind::FileTooLarge));
+    }
+    let text = read_text(alloc, &opened.file);
+    *edited = Some(EditedFile {
+        opened,
+        state: FileState::of(&found),
+        trust: Trust::of(rt, &found),
+        is_checked: false,
+    });
     text
 }
 

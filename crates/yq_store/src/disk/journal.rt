@@ -26,20 +26,6 @@ fn is_trusted(journal: &Metadata, links: &[Maker], trust: Trust) -> bool {
     trust.covers(owner, group)
 }
 
-/// Reads an open journal behind links of these makers.
-fn read_trusted(
-    alloc: Global,
-    journal: File,
-    links: &[Maker],
-    trust: Trust,
-) -> io::Result<Vec<u8>> {
-    if is_trusted(&journal.metadata()?, links, trust) {
-        read_whole(alloc, journal)
-    } else {
-        Err(io::Error::from(ErrorKind::PermissionDenied))
-    }
-}
-
 /// The bytes of a journal, unless someone put it there who may not write its file.
 pub fn read_journal<R: Files<File = File> + Alloc<A = Global>>(
     rt: &R,
@@ -49,7 +35,10 @@ pub fn read_journal<R: Files<File = File> + Alloc<A = Global>>(
 ) -> io::Result<Vec<u8>> {
     let target = target_of(rt, name)?;
     let journal = open_regular(rt, name, name, false)?;
-    read_trusted(alloc, journal, &target.makers, trust)
+    if !is_trusted(&journal.metadata()?, &target.makers, trust) {
+        return Err(io::Error::from(ErrorKind::PermissionDenied));
+    }
+    read_whole(alloc, journal)
 }
 
 /// The rights of a new journal at a path, of a file at another path.

@@ -48,7 +48,7 @@ fn open_at<R: Files<File = File> + Alloc<A = Global>>(
 
 /// Whether the lock was had, or the file system has no locks: one that other readers may hold too,
 /// to list what is recorded, and one for this run alone, to edit.
-fn is_locked(file: &File, purpose: Purpose) -> io::Result<bool> {
+pub fn is_locked(file: &File, purpose: Purpose) -> io::Result<bool> {
     let locked = match purpose {
         Purpose::List => file.try_lock_shared(),
         _ => file.try_lock(),
@@ -69,12 +69,8 @@ fn is_at<R: Files>(rt: &R, file: &File, name: &str) -> io::Result<bool> {
     leads_to(rt, name, &file.metadata()?)
 }
 
-/// Tells on standard error for what a run waits.
-fn report_waiting<R: Eprint>(rt: &R, name: &str) {
-    let _reported = eprintln!(rt; "yq: waiting for another run at {name:?}");
-}
-
-/// Waits for the lock of an open file, and gives how many tries have failed, with those before.
+/// Waits for the lock of an open file, and gives how many tries have failed, with those before. Where
+/// `reports` is set, it tells on standard error for what it waits.
 fn wait_for_lock<R: Clock + Eprint>(
     rt: &R,
     file: &File,
@@ -88,7 +84,7 @@ fn wait_for_lock<R: Clock + Eprint>(
             return Ok(tried);
         }
         if reports && tried == SILENT_TRIES {
-            report_waiting(rt, name);
+            let _reported = eprintln!(rt; "yq: waiting for another run at {name:?}");
         }
         thread::sleep(rt, Duration::from_millis(PAUSE));
     }
@@ -131,14 +127,5 @@ pub fn locked_file<R: Files<File = File> + Clock + Eprint + Alloc<A = Global>>(
             open_locked(rt, name, purpose, reports, true)
         }
         locked => locked,
-    }
-}
-
-/// Locks a new file before a name leads to it, so that the run that made it goes on holding the lock.
-pub fn lock_new(file: &File) -> io::Result<()> {
-    if is_locked(file, Purpose::Edit)? {
-        Ok(())
-    } else {
-        Err(io::Error::from(ErrorKind::WouldBlock))
     }
 }

@@ -66,7 +66,11 @@ impl Rights {
     /// Those of a new journal. In the folder of its file, who may do what with the one may do so with the
     /// other; in another folder it isn't given away.
     pub fn of_new_journal(file: &Metadata, is_beside: bool) -> Rights {
-        let holder = if is_beside { Some(maker_of(file)) } else { None };
+        let holder = if is_beside {
+            Some(maker_of(file))
+        } else {
+            None
+        };
         Rights {
             holder,
             mode: file.mode() & READ_WRITE_RUN,

@@ -10,9 +10,6 @@ use yq_flow_scalars::characters::TEXT_LIMIT;
 /// How many bytes are read of a text: one more than it may have.
 pub const MOST_OF_TEXT: u64 = TEXT_LIMIT as u64 + 1;
 
-/// How many bytes are read, so that all of these are left where the last character is cut.
-const MOST_READ: u64 = MOST_OF_TEXT + 3;
-
 /// Opens the file to which a name leads, at this path. Fails at what is no regular file, such as a
 /// folder, a device or a pipe. These are not opened: that would wait for another run at a pipe's other
 /// end.
@@ -30,26 +27,17 @@ pub fn read_whole<F: Read + Drop>(alloc: Global, mut file: F) -> io::Result<Vec<
     Ok(bytes)
 }
 
-/// Reads what a name leads to, which may be a device or a pipe, as `read_text` does.
-pub fn read_named<R: Files>(rt: &R, alloc: Global, name: &str) -> io::Result<Vec<u8>> {
-    read_text(alloc, fs::open(rt, name)?)
-}
-
-/// A text without its last character, where so much of it was read that this one may not be whole.
-fn without_cut_character(bytes: Vec<u8>) -> Vec<u8> {
-    let mut bytes = bytes;
-    if bytes.len() as u64 == MOST_READ {
+/// Reads an open file to its end or, of one that is too long for a text, as much as shows this: more
+/// bytes than a text may have, without the last character where that isn't whole.
+pub fn read_text<F: Read + Drop>(alloc: Global, file: F) -> io::Result<Vec<u8>> {
+    let most = MOST_OF_TEXT + 3;
+    let mut bytes = read_whole(alloc, file.take(most))?;
+    if bytes.len() as u64 == most {
         if let Err(error) = std::str::from_utf8(&bytes) {
             if error.error_len().is_none() {
                 bytes.truncate(error.valid_up_to());
             }
         }
     }
-    bytes
-}
-
-/// Reads an open file to its end or, of one that is too long for a text, as much as shows this: more
-/// bytes than a text may have, without the last character where that isn't whole.
-pub fn read_text<F: Read + Drop>(alloc: Global, file: F) -> io::Result<Vec<u8>> {
-    read_whole(alloc, file.take(MOST_READ)).map(without_cut_character)
+    Ok(bytes)
 }

@@ -1,8 +1,9 @@
 //! Replacing a file: a temporary file beside it is written, synced, and renamed over it.
 
 use crate::disk::links::folder_of;
-use crate::disk::locking::{OpenedFile, lock_new};
+use crate::disk::locking::{OpenedFile, is_locked};
 use crate::disk::ownership::{Rights, take_over};
+use crate::disk::purpose::Purpose;
 use crate::disk::temporary::make_temporary;
 use std::alloc::Global;
 use std::fs::{File, Metadata};
@@ -23,17 +24,17 @@ pub fn old_file<R: Files>(rt: &R, path: &PathBuf) -> io::Result<Option<Metadata>
 }
 
 /// Writes the bytes of a temporary file, and what it takes over, out to the disk, and renames it over
-/// a path.
+/// a path. It is locked before a name leads to it, so that the run goes on holding the lock.
 fn finish<R: Files>(
     rt: &R,
     temporary: &mut OpenedFile,
     path: &PathBuf,
     bytes: &[u8],
     rights: Rights,
-    is_locked: bool,
+    locks: bool,
 ) -> io::Result<()> {
-    if is_locked {
-        lock_new(&temporary.file)?;
+    if locks && !is_locked(&temporary.file, Purpose::Edit)? {
+        return Err(io::Error::from(ErrorKind::WouldBlock));
     }
     temporary.file.write_all(bytes)?;
     take_over(&temporary.file, rights)?;
@@ -58,11 +59,11 @@ pub fn replace_file<R: Files<File = File> + RandomSource + Alloc<A = Global>>(
     path: &PathBuf,
     bytes: &[u8],
     rights: Rights,
-    is_locked: bool,
+    locks: bool,
 ) -> io::Result<File> {
     let folder = fs::open(rt, folder_of(path))?;
     let mut temporary = make_temporary(rt, path)?;
-    let is_finished = finish(rt, &mut temporary, path, bytes, rights, is_locked).is_ok();
+    let is_finished = finish(rt, &mut temporary, path, bytes, rights, locks).is_ok();
     if !is_finished {
         let _ = fs::remove_file(rt, temporary.path.as_str());
     }
