@@ -24,7 +24,8 @@ pub fn old_file<R: Files>(rt: &R, path: &PathBuf) -> io::Result<Option<Metadata>
 }
 
 /// Writes the bytes of a temporary file, and what it takes over, out to the disk, and renames it over
-/// a path. It is locked before a name leads to it, so that the run goes on holding the lock.
+/// a path. Where `locks` is set, it is locked before a name leads to it: so the run goes on holding the
+/// lock of the file.
 fn finish<R: Files>(
     rt: &R,
     temporary: &mut OpenedFile,
