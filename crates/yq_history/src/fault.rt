@@ -1,12 +1,12 @@
 //! Why a command is refused.
 
 use std::error::Error;
-use std::fmt::{self, Display, Formatter, Write};
+use std::fmt::{self, Debug, Display, Formatter, Write};
 use yq_flow_scalars::{FaultKind, ReadFault};
 use yq_line::UsageCause;
 
 /// Why a command is refused. Its text is the line that the program prints.
-#[derive(Clone, Copy, Debug, PartialEq, Eq)]
+#[derive(Clone, Copy, PartialEq, Eq)]
 pub enum Fault {
     Usage(UsageCause),
     Syntax,
@@ -47,11 +47,17 @@ impl Display for Fault {
     fn fmt<W: Write>(&self, f: &mut Formatter<W>) -> fmt::Result {
         match self {
             Fault::Unreadable(fault) => {
-                let (number, words) = (number_of(fault.kind), words_of(fault.kind));
+                let (number, words) = numbered(fault.kind);
                 write!(f, "{number} line {}: {words}", fault.line)
             }
             fault => f.write_str(line_of(fault)),
         }
+    }
+}
+
+impl Debug for Fault {
+    fn fmt<W: Write>(&self, f: &mut Formatter<W>) -> fmt::Result {
+        Display::fmt(self, f)
     }
 }
 
@@ -92,58 +98,32 @@ fn line_of(fault: &Fault) -> &'static str {
         Fault::NotAnUpdate => "X15 not an update",
         Fault::KeyTooLong => "X16 key too long",
         Fault::OutOfMemory => "M1 out of memory",
-        Fault::Unreadable(fault) => words_of(fault.kind),
+        Fault::Unreadable(fault) => numbered(fault.kind).1,
     }
 }
 
-/// The number of a fault of reading.
-fn number_of(kind: FaultKind) -> &'static str {
+/// The number and the words of a fault of reading.
+fn numbered(kind: FaultKind) -> (&'static str, &'static str) {
     match kind {
-        FaultKind::NotUtf8 => "Y1",
-        FaultKind::ControlCharacter => "Y2",
-        FaultKind::TabIndent => "Y3",
-        FaultKind::Directive => "Y4",
-        FaultKind::Tag => "Y5",
-        FaultKind::ExplicitKey => "Y6",
-        FaultKind::MergeKey => "Y7",
-        FaultKind::BadKey => "Y8",
-        FaultKind::BadIndent => "Y9",
-        FaultKind::BadScalar => "Y10",
-        FaultKind::BadFlow => "Y11",
-        FaultKind::BadBlockHeader => "Y12",
-        FaultKind::DuplicateKey => "Y13",
-        FaultKind::UnknownAlias => "Y14",
-        FaultKind::AnchorOnKey => "Y15",
-        FaultKind::ContentOnMarkerLine => "Y16",
-        FaultKind::TooDeep => "Y17",
-        FaultKind::TooLarge => "Y18",
-        FaultKind::NoFinalBreak => "Y19",
-        FaultKind::CarriageReturn => "Y20",
-    }
-}
-
-/// The words of a fault of reading.
-fn words_of(kind: FaultKind) -> &'static str {
-    match kind {
-        FaultKind::NotUtf8 => "not utf8",
-        FaultKind::ControlCharacter => "control character",
-        FaultKind::TabIndent => "tab indent",
-        FaultKind::Directive => "directive",
-        FaultKind::Tag => "tag",
-        FaultKind::ExplicitKey => "explicit key",
-        FaultKind::MergeKey => "merge key",
-        FaultKind::BadKey => "bad key",
-        FaultKind::BadIndent => "bad indent",
-        FaultKind::BadScalar => "bad scalar",
-        FaultKind::BadFlow => "bad flow",
-        FaultKind::BadBlockHeader => "bad block header",
-        FaultKind::DuplicateKey => "duplicate key",
-        FaultKind::UnknownAlias => "unknown alias",
-        FaultKind::AnchorOnKey => "anchor on key",
-        FaultKind::ContentOnMarkerLine => "content on marker line",
-        FaultKind::TooDeep => "too deep",
-        FaultKind::TooLarge => "too large",
-        FaultKind::NoFinalBreak => "no final break",
-        FaultKind::CarriageReturn => "carriage return",
+        FaultKind::NotUtf8 => ("Y1", "not utf8"),
+        FaultKind::ControlCharacter => ("Y2", "control character"),
+        FaultKind::TabIndent => ("Y3", "tab indent"),
+        FaultKind::Directive => ("Y4", "directive"),
+        FaultKind::Tag => ("Y5", "tag"),
+        FaultKind::ExplicitKey => ("Y6", "explicit key"),
+        FaultKind::MergeKey => ("Y7", "merge key"),
+        FaultKind::BadKey => ("Y8", "bad key"),
+        FaultKind::BadIndent => ("Y9", "bad indent"),
+        FaultKind::BadScalar => ("Y10", "bad scalar"),
+        FaultKind::BadFlow => ("Y11", "bad flow"),
+        FaultKind::BadBlockHeader => ("Y12", "bad block header"),
+        FaultKind::DuplicateKey => ("Y13", "duplicate key"),
+        FaultKind::UnknownAlias => ("Y14", "unknown alias"),
+        FaultKind::AnchorOnKey => ("Y15", "anchor on key"),
+        FaultKind::ContentOnMarkerLine => ("Y16", "content on marker line"),
+        FaultKind::TooDeep => ("Y17", "too deep"),
+        FaultKind::TooLarge => ("Y18", "too large"),
+        FaultKind::NoFinalBreak => ("Y19", "no final break"),
+        FaultKind::CarriageReturn => ("Y20", "carriage return"),
     }
 }

@@ -15,11 +15,10 @@ mod state;
 mod temporary;
 mod trust;
 
-use crate::disk::edited::{EditedFile, check_first, journal_place, own_place, read_edited};
+use crate::disk::edited::{EditedFile, read_edited, write_journal, write_own};
 use crate::disk::journal::read_journal;
 use crate::disk::purpose::Purpose;
 use crate::disk::reading::read_text;
-use crate::disk::replacing::{before_change, replace_file};
 use crate::store::{FileReadError, FileWriteError, Store};
 use std::alloc::Global;
 use std::fs::File;
@@ -38,7 +37,6 @@ pub struct DiskStore<'a, R: Drop> {
     file: &'a str,
     purpose: Purpose,
     edited: Option<EditedFile>,
-    is_checked: bool,
     reports: bool,
     failures: u64,
 }
@@ -51,7 +49,6 @@ impl<'a, R: Drop> DiskStore<'a, R> {
             file,
             purpose,
             edited: None,
-            is_checked: false,
             reports: false,
             failures: 0,
         }
@@ -78,45 +75,35 @@ impl<
             return read_text(alloc, fs::open(&self.rt, name)?);
         }
         if name == self.file {
-            self.edited = None;
-            self.is_checked = false;
-            let (text, edited) = read_edited(&self.rt, alloc, name, self.purpose, self.reports)?;
-            self.edited = Some(edited);
-            return Ok(text);
+            return read_edited(
+                &self.rt,
+                &mut self.edited,
+                alloc,
+                name,
+                self.purpose,
+                self.reports,
+            );
         }
         let Some(edited) = &self.edited else {
             return Err(io::Error::from(ErrorKind::Other));
         };
-        let bytes = read_journal(&self.rt, alloc, name, edited.trust)?;
+        let bytes = read_journal(&self.rt, alloc, name, edited.trust);
         // What only lists has read all: it holds nobody back while it prints.
         if self.purpose == Purpose::List {
             self.edited = None;
         }
-        Ok(bytes)
+        bytes
     }
 
-    /// Replaces a file. Before the first write it is looked whether the command may write at all.
-    fn put(&mut self, name: &str, bytes: &[u8]) -> Result<(), FileWriteError>
+    /// Replaces a file. Want of memory is an error only where every file is as before.
+    fn put(&mut self, name: &str, bytes: &[u8]) -> io::Result<()>
         ensures { self.new.failures ≡ self.old.failures }
     {
-        let is_own = name == self.file;
-        let Some(edited) = &mut self.edited else {
-            return Err(FileWriteError::WriteFailed);
-        };
-        let place = if is_own {
-            own_place(&self.rt, edited).map_err(before_change)?
-        } else {
-            journal_place(&self.rt, edited, name).map_err(before_change)?
-        };
-        if !self.is_checked {
-            check_first(&self.rt, edited, self.file, &place).map_err(before_change)?;
-            self.is_checked = true;
+        match &mut self.edited {
+            None => Err(io::Error::from(ErrorKind::Other)),
+            Some(edited) if name == self.file => write_own(&self.rt, edited, name, bytes),
+            Some(edited) => write_journal(&self.rt, edited, self.file, name, bytes),
         }
-        let new = replace_file(&self.rt, &place.path, bytes, place.rights, is_own)?;
-        if is_own {
-            edited.lock = new;
-        }
-        Ok(())
     }
 }
 
@@ -143,10 +130,13 @@ impl<'a, R: Files<File = File> + RandomSource + Clock + Eprint + Alloc<A = Globa
     }
 
     fn replace(&mut self, name: &str, bytes: &[u8]) -> Result<(), FileWriteError> {
-        let replaced = self.put(name, bytes);
-        if let Err(FileWriteError::WriteFailed) = replaced {
-            self.failures = self.failures.saturating_add(1);
+        match self.put(name, bytes) {
+            Ok(()) => Ok(()),
+            Err(e) if e.kind() == ErrorKind::OutOfMemory => Err(FileWriteError::OutOfMemory),
+            Err(_) => {
+                self.failures = self.failures.saturating_add(1);
+                Err(FileWriteError::WriteFailed)
+            }
         }
-        replaced
     }
 }

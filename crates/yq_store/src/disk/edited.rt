@@ -1,13 +1,13 @@
 //! The file of a command that looks at a journal, from its reading to the last write.
 
 use crate::disk::journal::journal_rights;
-use crate::disk::links::{Target, target_of};
+use crate::disk::links::target_of;
 use crate::disk::locking::{OpenedFile, locked_file};
 use crate::disk::ownership::Rights;
 use crate::disk::protection::check_replaceable;
 use crate::disk::purpose::Purpose;
-use crate::disk::reading::{check_length, read_text};
-use crate::disk::replacing::old_file;
+use crate::disk::reading::{MOST_OF_TEXT, read_text};
+use crate::disk::replacing::{old_file, replace_file};
 use crate::disk::state::FileState;
 use crate::disk::temporary::remove_left;
 use crate::disk::trust::Trust;
@@ -15,6 +15,7 @@ use std::alloc::Global;
 use std::fs::File;
 use std::io::{Eprint, ErrorKind};
 use std::path::PathBuf;
+use std::random::RandomSource;
 use std::rt::Files;
 use std::time::Clock;
 use std::{fs, io};
@@ -22,83 +23,87 @@ use std::{fs, io};
 /// A file that is locked, as it was when it was read.
 #[derive(Drop)]
 pub struct EditedFile {
-    pub path: PathBuf,
-    pub lock: File,
-    pub state: FileState,
+    opened: OpenedFile,
+    state: FileState,
     pub trust: Trust,
+    /// Whether it was looked, before the first write, that the command may write.
+    is_checked: bool,
 }
 
-/// Where a write goes, and the rights of what it writes.
-#[derive(Drop)]
-pub struct WriteTarget {
-    pub path: PathBuf,
-    pub rights: Rights,
-}
-
-/// Locks the file to which a name leads, and reads it. Where `reports` is set, a run that waits for the
-/// lock for longer than a second tells it.
+/// Locks the file to which a name leads, and reads it; the one that was locked before is closed first.
+/// Where `reports` is set, a run that waits for the lock for longer than a second tells it.
 pub fn read_edited<R: Files<File = File> + Clock + Eprint + Alloc<A = Global>>(
     rt: &R,
+    edited: &mut Option<EditedFile>,
     alloc: Global,
     name: &str,
     purpose: Purpose,
     reports: bool,
-) -> io::Result<(Vec<u8>, EditedFile)> {
-    let OpenedFile { path, file } = locked_file(rt, name, purpose, reports)?;
-    let found = file.metadata()?;
-    if purpose == Purpose::Replay {
-        check_length(&found)?;
+) -> io::Result<Vec<u8>> {
+    *edited = None;
+    let opened = locked_file(rt, name, purpose, reports)?;
+    let found = opened.file.metadata()?;
+    if purpose == Purpose::Replay && found.len() >= MOST_OF_TEXT {
+        return Err(io::Error::from(ErrorKind::FileTooLarge));
     }
-    let text = read_text(alloc, &file)?;
-    let edited = EditedFile {
-        path,
-        lock: file,
+    let text = read_text(alloc, &opened.file);
+    *edited = Some(EditedFile {
+        opened,
         state: FileState::of(&found),
         trust: Trust::of(rt, &found),
-    };
-    Ok((text, edited))
+        is_checked: false,
+    });
+    text
 }
 
-/// Where the new bytes of the file itself go.
-pub fn own_place<R: Files + Alloc<A = Global>>(
-    rt: &R,
-    edited: &EditedFile,
-) -> io::Result<WriteTarget> {
-    match old_file(rt, &edited.path)? {
-        Some(old) => Ok(WriteTarget {
-            path: edited.path.to_path_buf(rt.alloc())?,
-            rights: Rights::of(&old),
-        }),
-        None => Err(io::Error::from(ErrorKind::NotFound)),
-    }
-}
-
-/// Where the bytes of the file's journal go.
-pub fn journal_place<R: Files + Alloc<A = Global>>(
-    rt: &R,
-    edited: &EditedFile,
-    name: &str,
-) -> io::Result<WriteTarget> {
-    let target = target_of(rt, name)?;
-    let rights = journal_rights(rt, &target, edited.trust, &edited.path)?;
-    let Target { path, .. } = target;
-    Ok(WriteTarget { path, rights })
-}
-
-/// Before the first write: that the file and what is to be written may both be replaced, and that
+/// Before the first write: that the file and the path of that write may both be replaced, and that
 /// the name still leads to the file as it was read. Then what cut runs left beside these goes.
-pub fn check_first<R: Files<File = File> + Clock + Alloc<A = Global>>(
+fn check_first<R: Files<File = File> + Clock + Alloc<A = Global>>(
     rt: &R,
     edited: &EditedFile,
     name: &str,
-    place: &WriteTarget,
+    path: &PathBuf,
 ) -> io::Result<()> {
-    check_replaceable(rt, &edited.path)?;
-    check_replaceable(rt, &place.path)?;
+    if edited.is_checked {
+        return Ok(());
+    }
+    check_replaceable(rt, &edited.opened.path)?;
+    check_replaceable(rt, path)?;
     if FileState::of(&fs::metadata(rt, name)?) != edited.state {
         return Err(io::Error::from(ErrorKind::ResourceBusy));
     }
-    let _ = remove_left(rt, &edited.path);
-    let _ = remove_left(rt, &place.path);
+    remove_left(rt, &edited.opened.path);
+    remove_left(rt, path);
     Ok(())
+}
+
+/// Replaces the file to which this name led, and keeps the lock.
+pub fn write_own<R: Files<File = File> + RandomSource + Clock + Alloc<A = Global>>(
+    rt: &R,
+    edited: &mut EditedFile,
+    name: &str,
+    bytes: &[u8],
+) -> io::Result<()> {
+    let Some(old) = old_file(rt, &edited.opened.path)? else {
+        return Err(io::Error::from(ErrorKind::NotFound));
+    };
+    check_first(rt, edited, name, &edited.opened.path)?;
+    edited.is_checked = true;
+    edited.opened.file = replace_file(rt, &edited.opened.path, bytes, Rights::of(&old), true)?;
+    Ok(())
+}
+
+/// Replaces, or makes, the journal of the file with this name.
+pub fn write_journal<R: Files<File = File> + RandomSource + Clock + Alloc<A = Global>>(
+    rt: &R,
+    edited: &mut EditedFile,
+    name: &str,
+    journal: &str,
+    bytes: &[u8],
+) -> io::Result<()> {
+    let target = target_of(rt, journal)?;
+    let rights = journal_rights(rt, &target, edited.trust, &edited.opened.path)?;
+    check_first(rt, edited, name, &target.path)?;
+    edited.is_checked = true;
+    replace_file(rt, &target.path, bytes, rights, false).map(drop)
 }

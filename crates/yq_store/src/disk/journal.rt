@@ -2,10 +2,10 @@
 
 use crate::disk::links::{Target, folder_of, target_of};
 use crate::disk::ownership::Rights;
-use crate::disk::reading::{check_regular, read_whole};
+use crate::disk::reading::{open_regular, read_whole};
 use crate::disk::replacing::old_file;
-use crate::disk::state::is_same_file;
-use crate::disk::trust::Trust;
+use crate::disk::state::leads_to;
+use crate::disk::trust::{Maker, Trust, maker_of};
 use std::alloc::Global;
 use std::fs::{File, Metadata};
 use std::io::ErrorKind;
@@ -13,16 +13,17 @@ use std::path::PathBuf;
 use std::rt::Files;
 use std::{fs, io};
 
-/// Fails at a journal of someone who may not write its file, and at one behind a link of someone who
-/// may not write both: such a link could lead to the journal of another file.
-fn check_makers(target: &Target, journal: &Metadata, trust: Trust) -> io::Result<()> {
-    trust.check(journal)?;
+/// Whether a journal is of someone who may write its file, and all links to it of those who may write
+/// both: other links could lead to the journal of another file.
+fn is_trusted(journal: &Metadata, links: &[Maker], trust: Trust) -> bool {
     let of_journal = trust.of_other(journal);
-    'links: for link in &target.links {
-        trust.check(link)?;
-        of_journal.check(link)?;
+    'links: for &(owner, group) in links {
+        if !trust.covers(owner, group) || !of_journal.covers(owner, group) {
+            return false;
+        }
     }
-    Ok(())
+    let (owner, group) = maker_of(journal);
+    trust.covers(owner, group)
 }
 
 /// The bytes of a journal, unless someone put it there who may not write its file.
@@ -33,16 +34,23 @@ pub fn read_journal<R: Files<File = File> + Alloc<A = Global>>(
     trust: Trust,
 ) -> io::Result<Vec<u8>> {
     let target = target_of(rt, name)?;
-    check_regular(rt, name)?;
-    let mut journal = fs::open(rt, name)?;
-    check_makers(&target, &journal.metadata()?, trust)?;
-    read_whole(alloc, &mut journal)
+    let journal = open_regular(rt, name, name, false)?;
+    if !is_trusted(&journal.metadata()?, &target.makers, trust) {
+        return Err(io::Error::from(ErrorKind::PermissionDenied));
+    }
+    read_whole(alloc, journal)
 }
 
-/// Whether two paths have one folder.
-fn is_beside<R: Files>(rt: &R, path: &PathBuf, other: &PathBuf) -> io::Result<bool> {
+/// The rights of a new journal at a path, of a file at another path.
+fn new_journal_rights<R: Files>(
+    rt: &R,
+    path: &PathBuf,
+    file: &PathBuf,
+    found: &Metadata,
+) -> io::Result<Rights> {
     let folder = fs::metadata(rt, folder_of(path))?;
-    Ok(is_same_file(&folder, &fs::metadata(rt, folder_of(other))?))
+    let is_beside = leads_to(rt, folder_of(file), &folder)?;
+    Ok(Rights::of_new_journal(found, is_beside))
 }
 
 /// The rights of the journal that is to be written at a target, beside the file at a path or
@@ -53,14 +61,13 @@ pub fn journal_rights<R: Files>(
     trust: Trust,
     file: &PathBuf,
 ) -> io::Result<Rights> {
-    let beside = fs::metadata(rt, file.as_path())?;
+    let found = file.metadata(rt)?;
     match old_file(rt, &target.path)? {
-        Some(old) => {
-            check_makers(target, &old, trust)?;
-            Ok(Rights::of_old_journal(&old, &beside))
+        Some(old) if is_trusted(&old, &target.makers, trust) => {
+            Ok(Rights::of_old_journal(&old, &found))
         }
-        None if !target.links.is_empty() => Err(io::Error::from(ErrorKind::NotFound)),
-        None if is_beside(rt, &target.path, file)? => Ok(Rights::of_journal_beside(&beside)),
-        None => Ok(Rights::of_journal_elsewhere(&beside)),
+        Some(_) => Err(io::Error::from(ErrorKind::PermissionDenied)),
+        None if target.makers.is_empty() => new_journal_rights(rt, &target.path, file, &found),
+        None => Err(io::Error::from(ErrorKind::NotFound)),
     }
 }

@@ -1,7 +1,7 @@
 //! Symbolic links, and the folder of a path.
 
+use crate::disk::trust::{Maker, maker_of};
 use std::alloc::Global;
-use std::fs::Metadata;
 use std::io::ErrorKind;
 use std::os::unix::fs::MetadataExt;
 use std::path::PathBuf;
@@ -19,8 +19,8 @@ const PROCESSES: &str = "/proc";
 pub struct Target {
     /// The path behind the last link, whether or not a file is there.
     pub path: PathBuf,
-    /// The links on the way, of which the first is the name.
-    pub links: Vec<Metadata>,
+    /// Who made the links on the way, of which the first is the name.
+    pub makers: Vec<Maker>,
 }
 
 /// The device of the files that tell of processes, where there are any.
@@ -31,42 +31,50 @@ fn device_of_processes<R: Files>(rt: &R) -> Option<u64> {
     }
 }
 
-/// What stands at a path, which may be a link, or nothing. A path through a file that is no folder
-/// leads to nothing.
-fn found_at<R: Files>(rt: &R, path: &PathBuf) -> io::Result<Option<Metadata>> {
-    match fs::symlink_metadata(rt, path.as_path()) {
-        Ok(found) => Ok(Some(found)),
-        Err(e) if matches!(e.kind(), ErrorKind::NotFound | ErrorKind::NotADirectory) => Ok(None),
-        Err(e) => Err(e),
+/// What the symbolic link at a path says, and its maker, where one is there. A path through a file that
+/// is no folder leads to nothing, and one through the files that tell of processes, on this device, to
+/// no file.
+fn link_at<R: Files + Alloc<A = Global>>(
+    rt: &R,
+    path: &PathBuf,
+    processes: Option<u64>,
+) -> io::Result<Option<(PathBuf, Maker)>> {
+    let found = match path.symlink_metadata(rt) {
+        Ok(found) => found,
+        Err(e) if matches!(e.kind(), ErrorKind::NotFound | ErrorKind::NotADirectory) => {
+            return Ok(None);
+        }
+        Err(e) => return Err(e),
+    };
+    if path.starts_with(PROCESSES) || processes == Some(found.dev()) {
+        return Err(io::Error::from(ErrorKind::InvalidInput));
     }
+    if !found.is_symlink() {
+        return Ok(None);
+    }
+    let link = path.read_link(rt)?;
+    Ok(Some((link, maker_of(&found))))
 }
 
-/// Follows the symbolic links of a name. One that leads through the files that tell of processes
-/// leads to no file.
+/// Follows the symbolic links of a name.
 pub fn target_of<R: Files + Alloc<A = Global>>(rt: &R, name: &str) -> io::Result<Target> {
     let processes = device_of_processes(rt);
     let mut path = PathBuf::from_str(rt.alloc(), name)?;
-    let mut links = Vec::new(rt.alloc());
+    let mut makers = Vec::new(rt.alloc());
     'links: for _ in 0..=MOST_LINKS {
-        let Some(found) = found_at(rt, &path)? else {
-            return Ok(Target { path, links });
+        let Some((link, maker)) = link_at(rt, &path, processes)? else {
+            return Ok(Target { path, makers });
         };
-        if path.as_path().starts_with(PROCESSES) || processes == Some(found.dev()) {
-            return Err(io::Error::from(ErrorKind::InvalidInput));
+        if path.set_file_name(link.as_str()).is_err() || makers.push(maker).is_err() {
+            return Err(io::Error::from(ErrorKind::OutOfMemory));
         }
-        if !found.is_symlink() {
-            return Ok(Target { path, links });
-        }
-        let link = fs::read_link(rt, path.as_path())?;
-        path.set_file_name(link.as_path().as_str())?;
-        links.push(found)?;
     }
     Err(io::Error::from(ErrorKind::FilesystemLoop))
 }
 
 /// The folder in which the last name of a path stands.
 pub fn folder_of(path: &PathBuf) -> &str {
-    match path.as_path().parent() {
+    match path.parent() {
         Some(folder) if !folder.as_str().is_empty() => folder.as_str(),
         _ => ".",
     }

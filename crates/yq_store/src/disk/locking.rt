@@ -2,20 +2,20 @@
 
 use crate::disk::links::{Target, target_of};
 use crate::disk::purpose::Purpose;
-use crate::disk::reading::check_regular;
-use crate::disk::state::is_same_file;
+use crate::disk::reading::open_regular;
+use crate::disk::state::leads_to;
 use std::alloc::Global;
-use std::fs::{File, OpenOptions, TryLockError};
+use std::fs::{File, TryLockError};
 use std::io::{Eprint, ErrorKind};
 use std::path::PathBuf;
 use std::rt::Files;
 use std::time::{Clock, Duration};
-use std::{fs, io, thread};
+use std::{io, thread};
 
-/// How many times a lock is asked for: with a pause behind each, a minute long.
+/// How many tries for a lock may fail: with a pause behind each, a minute long.
 const MOST_TRIES: u32 = 12_000;
 
-/// After how many tries a run tells for what it waits: about a second.
+/// After how many of them a run tells for what it waits: about a second.
 const SILENT_TRIES: u32 = 200;
 
 /// The pause between two tries, in milliseconds.
@@ -42,17 +42,13 @@ fn open_at<R: Files<File = File> + Alloc<A = Global>>(
     writes: bool,
 ) -> io::Result<OpenedFile> {
     let Target { path, .. } = target_of(rt, name)?;
-    check_regular(rt, name)?;
-    let file = OpenOptions::new()
-        .read(true)
-        .write(writes)
-        .open(rt, path.as_path())?;
+    let file = open_regular(rt, name, path.as_str(), writes)?;
     Ok(OpenedFile { path, file })
 }
 
 /// Whether the lock was had, or the file system has no locks: one that other readers may hold too,
 /// to list what is recorded, and one for this run alone, to edit.
-fn is_locked(file: &File, purpose: Purpose) -> io::Result<bool> {
+pub fn is_locked(file: &File, purpose: Purpose) -> io::Result<bool> {
     let locked = match purpose {
         Purpose::List => file.try_lock_shared(),
         _ => file.try_lock(),
@@ -70,57 +66,66 @@ fn is_locked(file: &File, purpose: Purpose) -> io::Result<bool> {
 
 /// Whether a name still leads to this open file.
 fn is_at<R: Files>(rt: &R, file: &File, name: &str) -> io::Result<bool> {
-    Ok(is_same_file(&file.metadata()?, &fs::metadata(rt, name)?))
+    leads_to(rt, name, &file.metadata()?)
 }
 
-/// Tells on standard error for what a run waits.
-fn report_waiting<R: Eprint>(rt: &R, name: &str) {
-    let _reported = eprintln!(rt; "yq: waiting for another run at {name:?}");
+/// Waits for the lock of an open file, and gives how many tries have failed, with those before. Where
+/// `reports` is set, it tells on standard error for what it waits.
+fn wait_for_lock<R: Clock + Eprint>(
+    rt: &R,
+    file: &File,
+    name: &str,
+    purpose: Purpose,
+    reports: bool,
+    failed: u32,
+) -> io::Result<u32> {
+    'tries: for tried in failed..MOST_TRIES {
+        if is_locked(file, purpose)? {
+            return Ok(tried);
+        }
+        if reports && tried == SILENT_TRIES {
+            let _reported = eprintln!(rt; "yq: waiting for another run at {name:?}");
+        }
+        thread::sleep(rt, Duration::from_millis(PAUSE));
+    }
+    Err(io::Error::from(ErrorKind::WouldBlock))
+}
+
+/// Opens, also for writing where `writes` is set, and locks the file to which a name leads. Where the
+/// name leads to another file once the lock is had, since a run that held it put that there, it begins
+/// again.
+fn open_locked<R: Files<File = File> + Clock + Eprint + Alloc<A = Global>>(
+    rt: &R,
+    name: &str,
+    purpose: Purpose,
+    reports: bool,
+    writes: bool,
+) -> io::Result<OpenedFile> {
+    let mut failed = 0;
+    'tries: for _ in 0..MOST_TRIES {
+        let opened = open_at(rt, name, writes)?;
+        failed = wait_for_lock(rt, &opened.file, name, purpose, reports, failed)?;
+        if is_at(rt, &opened.file, name)? {
+            return Ok(opened);
+        }
+    }
+    Err(io::Error::from(ErrorKind::WouldBlock))
 }
 
 /// Opens and locks the file to which a name leads; where another run keeps the lock for too long,
-/// that is an error. Where the name leads to another file once the lock is had, since a run that
-/// held it put that there, it begins again. The lock goes when the file is closed, also when a run
-/// is killed. On a file system without locks the file is open and not locked.
-/// Where `reports` is set, a run that waits for longer than a second tells it.
+/// that is an error. The lock goes when the file is closed, also when a run is killed. On a file system
+/// without locks the file is open and not locked. Where `reports` is set, a run that waits for longer
+/// than a second tells it.
 pub fn locked_file<R: Files<File = File> + Clock + Eprint + Alloc<A = Global>>(
     rt: &R,
     name: &str,
     purpose: Purpose,
     reports: bool,
 ) -> io::Result<OpenedFile> {
-    let mut writes = false;
-    let mut waiting = None;
-    'tries: for tried in 0..MOST_TRIES {
-        let opened = match waiting.take() {
-            Some(opened) => opened,
-            None => open_at(rt, name, writes)?,
-        };
-        match is_locked(&opened.file, purpose) {
-            Ok(true) => {
-                if is_at(rt, &opened.file, name)? {
-                    return Ok(opened);
-                }
-            }
-            Ok(false) => {
-                if reports && tried == SILENT_TRIES {
-                    report_waiting(rt, name);
-                }
-                thread::sleep(rt, Duration::from_millis(PAUSE));
-                waiting = Some(opened);
-            }
-            Err(e) if e.raw_os_error() == Some(NOT_OPEN_FOR_THAT) && !writes => writes = true,
-            Err(e) => return Err(e),
+    match open_locked(rt, name, purpose, reports, false) {
+        Err(e) if e.raw_os_error() == Some(NOT_OPEN_FOR_THAT) => {
+            open_locked(rt, name, purpose, reports, true)
         }
-    }
-    Err(io::Error::from(ErrorKind::WouldBlock))
-}
-
-/// Locks a new file before a name leads to it, so that the run that made it goes on holding the lock.
-pub fn lock_new(file: &File) -> io::Result<()> {
-    if is_locked(file, Purpose::Edit)? {
-        Ok(())
-    } else {
-        Err(io::Error::from(ErrorKind::WouldBlock))
+        locked => locked,
     }
 }

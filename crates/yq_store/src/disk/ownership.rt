@@ -1,6 +1,7 @@
 //! The owner, the group and the mode, which a new file takes over from another one.
 ghost use Rattle.std.specs.Prelude.{◌≡◌, bit_and};
 
+use crate::disk::trust::{Maker, maker_of};
 use std::fs::{Metadata, OpenFile, Permissions};
 use std::io;
 use std::io::ErrorKind;
@@ -49,7 +50,7 @@ fn is_allowed(changed: io::Result<()>) -> io::Result<bool> {
 #[derive(Clone, Copy)]
 pub struct Rights {
     /// The owner and the group; nothing where these are its maker's.
-    holder: Option<(u32, u32)>,
+    holder: Option<Maker>,
     mode: u32,
 }
 
@@ -57,24 +58,21 @@ impl Rights {
     /// Those of a file, for the one that replaces it.
     pub fn of(file: &Metadata) -> Rights {
         Rights {
-            holder: Some((file.uid(), file.gid())),
+            holder: Some(maker_of(file)),
             mode: file.mode() & ALL_BITS,
         }
     }
 
-    /// Those of a new journal in the folder of its file: who may do what with the one may do so with
-    /// the other.
-    pub fn of_journal_beside(file: &Metadata) -> Rights {
+    /// Those of a new journal. In the folder of its file, who may do what with the one may do so with the
+    /// other; in another folder it isn't given away.
+    pub fn of_new_journal(file: &Metadata, is_beside: bool) -> Rights {
+        let holder = if is_beside {
+            Some(maker_of(file))
+        } else {
+            None
+        };
         Rights {
-            holder: Some((file.uid(), file.gid())),
-            mode: file.mode() & READ_WRITE_RUN,
-        }
-    }
-
-    /// Those of a new journal in another folder: it isn't given away.
-    pub fn of_journal_elsewhere(file: &Metadata) -> Rights {
-        Rights {
-            holder: None,
+            holder,
             mode: file.mode() & READ_WRITE_RUN,
         }
     }
@@ -82,7 +80,7 @@ impl Rights {
     /// Those of a journal, for the one that replaces it: nobody gains what the mode of its file lacks.
     pub fn of_old_journal(journal: &Metadata, file: &Metadata) -> Rights {
         Rights {
-            holder: Some((journal.uid(), journal.gid())),
+            holder: Some(maker_of(journal)),
             mode: mode_within(journal.mode(), file.mode()),
         }
     }

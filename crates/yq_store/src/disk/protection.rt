@@ -14,26 +14,29 @@ use std::{fs, io};
 /// What is written before the number of a mount in what the system tells of an open file.
 const MOUNT: &str = "mnt_id:";
 
-/// The number of a mount in what the system tells of an open file, or nothing where it isn't told.
-fn mount_in(info: &str) -> &str {
-    for line in info.lines() {
+/// The number of a mount in what the system tells of an open file, where it is told.
+fn mount_in(info: Vec<u8>) -> Option<u64> {
+    for line in std::str::from_utf8(&info).unwrap_or("").lines() {
         if let Some(number) = line.strip_prefix(MOUNT) {
-            return number.trim();
+            return number.trim().parse().ok();
         }
     }
-    ""
+    None
 }
 
-/// The number of the mount through which a file was opened, or nothing where the system doesn't tell.
-fn mount_of<R: Files + Alloc<A = Global>>(rt: &R, file: &File) -> io::Result<String> {
+/// The number of the mount through which a path is opened in this way, where the system tells it.
+fn mount_at<R: Files<File = File> + Alloc<A = Global>>(
+    rt: &R,
+    path: &str,
+    options: &OpenOptions,
+) -> io::Result<Option<u64>> {
+    let file = options.open(rt, path)?;
     let number = file.as_raw_fd();
-    let path = format!(in rt.alloc(); "/proc/self/fdinfo/{number}")?;
-    let Ok(mut info) = fs::open(rt, path.as_str()) else {
-        return Ok(String::new(rt.alloc()));
-    };
-    let bytes = read_whole(rt.alloc(), &mut info)?;
-    let text = std::str::from_utf8(bytes.as_slice()).unwrap_or("");
-    Ok(String::from_str(rt.alloc(), mount_in(text))?)
+    let info = format!(in rt.alloc(); "/proc/self/fdinfo/{number}")?;
+    match fs::open(rt, info.as_str()) {
+        Ok(info) => read_whole(rt.alloc(), info).map(mount_in),
+        Err(_) => Ok(None),
+    }
 }
 
 /// Fails where the file at a path may not be replaced: it is no regular file, the user may not write
@@ -46,12 +49,10 @@ pub fn check_replaceable<R: Files<File = File> + Alloc<A = Global>>(
     if old_file(rt, path)?.is_none() {
         return Ok(());
     }
-    let file = OpenOptions::new().write(true).open(rt, path.as_path())?;
-    let folder = fs::open(rt, folder_of(path))?;
-    let own = mount_of(rt, &file)?;
-    let around = mount_of(rt, &folder)?;
-    if !own.is_empty() && !around.is_empty() && own.as_str() != around.as_str() {
-        return Err(io::Error::from(ErrorKind::ResourceBusy));
+    let own = mount_at(rt, path.as_str(), OpenOptions::new().write(true))?;
+    let around = mount_at(rt, folder_of(path), OpenOptions::new().read(true))?;
+    match (own, around) {
+        (Some(own), Some(around)) if own != around => Err(io::Error::from(ErrorKind::ResourceBusy)),
+        _ => Ok(()),
     }
-    Ok(())
 }

@@ -1,10 +1,10 @@
 //! Replacing a file: a temporary file beside it is written, synced, and renamed over it.
 
 use crate::disk::links::folder_of;
-use crate::disk::locking::lock_new;
+use crate::disk::locking::{OpenedFile, is_locked};
 use crate::disk::ownership::{Rights, take_over};
+use crate::disk::purpose::Purpose;
 use crate::disk::temporary::make_temporary;
-use crate::store::FileWriteError;
 use std::alloc::Global;
 use std::fs::{File, Metadata};
 use std::io::{ErrorKind, Write};
@@ -15,7 +15,7 @@ use std::{fs, io};
 
 /// The file that a path holds, if any. What is no regular file (a folder, a device) isn't replaced.
 pub fn old_file<R: Files>(rt: &R, path: &PathBuf) -> io::Result<Option<Metadata>> {
-    match fs::metadata(rt, path.as_path()) {
+    match path.metadata(rt) {
         Ok(old) if old.is_file() => Ok(Some(old)),
         Ok(_) => Err(io::Error::from(ErrorKind::InvalidInput)),
         Err(e) if e.kind() == ErrorKind::NotFound => Ok(None),
@@ -23,55 +23,54 @@ pub fn old_file<R: Files>(rt: &R, path: &PathBuf) -> io::Result<Option<Metadata>
     }
 }
 
-/// Writes the bytes of a temporary file, and what it takes over, out to the disk.
-fn fill(file: &mut File, bytes: &[u8], rights: Rights, is_locked: bool) -> io::Result<()> {
-    if is_locked {
-        lock_new(file)?;
+/// Writes the bytes of a temporary file, and what it takes over, out to the disk, and renames it over
+/// a path. Where `locks` is set, it is locked before a name leads to it: so the run goes on holding the
+/// lock of the file.
+fn finish<R: Files>(
+    rt: &R,
+    temporary: &mut OpenedFile,
+    path: &PathBuf,
+    bytes: &[u8],
+    rights: Rights,
+    locks: bool,
+) -> io::Result<()> {
+    if locks && !is_locked(&temporary.file, Purpose::Edit)? {
+        return Err(io::Error::from(ErrorKind::WouldBlock));
     }
-    file.write_all(bytes)?;
-    take_over(file, rights)?;
-    file.sync_all()
+    temporary.file.write_all(bytes)?;
+    take_over(&temporary.file, rights)?;
+    temporary.file.sync_all()?;
+    fs::rename(rt, temporary.path.as_str(), path.as_str())
 }
 
 /// Writes the names of a folder out to the disk, where its file system can.
-fn sync_folder(folder: &File) -> io::Result<()> {
+fn is_synced(folder: &File) -> bool {
     match folder.sync_all() {
-        Err(e) if e.kind() != ErrorKind::InvalidInput => Err(e),
-        _ => Ok(()),
-    }
-}
-
-/// The answer to a call that failed while every file was as before.
-pub fn before_change(error: io::Error) -> FileWriteError {
-    match error.kind() {
-        ErrorKind::OutOfMemory => FileWriteError::OutOfMemory,
-        _ => FileWriteError::WriteFailed,
+        Ok(()) => true,
+        Err(e) => e.kind() == ErrorKind::InvalidInput,
     }
 }
 
 /// Replaces the file at a path, or makes it, with these rights, and gives the new file, which is
 /// locked if that is asked for. After a failure the path has its old bytes, but for a failure to
-/// write the folder out to the disk, which comes last: then it has the new ones.
+/// write the folder out to the disk, which comes last: then it has the new ones. Want of memory is told
+/// as such only before anything is written.
 pub fn replace_file<R: Files<File = File> + RandomSource + Alloc<A = Global>>(
     rt: &R,
     path: &PathBuf,
     bytes: &[u8],
     rights: Rights,
-    is_locked: bool,
-) -> Result<File, FileWriteError> {
-    let folder = fs::open(rt, folder_of(path)).map_err(before_change)?;
-    let (temporary, mut new) = make_temporary(rt, path).map_err(before_change)?;
-    let renamed = fill(&mut new, bytes, rights, is_locked).and_then(|()| fs::rename(
-        rt,
-        temporary.as_path(),
-        path.as_path(),
-    ));
-    if renamed.is_err() {
-        let _ = fs::remove_file(rt, temporary.as_path());
-        return Err(FileWriteError::WriteFailed);
+    locks: bool,
+) -> io::Result<File> {
+    let folder = fs::open(rt, folder_of(path))?;
+    let mut temporary = make_temporary(rt, path)?;
+    let is_finished = finish(rt, &mut temporary, path, bytes, rights, locks).is_ok();
+    if !is_finished {
+        let _ = fs::remove_file(rt, temporary.path.as_str());
     }
-    match sync_folder(&folder) {
-        Ok(()) => Ok(new),
-        Err(_) => Err(FileWriteError::WriteFailed),
+    if is_finished && is_synced(&folder) {
+        Ok(temporary.file)
+    } else {
+        Err(io::Error::from(ErrorKind::Other))
     }
 }

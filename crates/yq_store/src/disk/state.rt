@@ -2,6 +2,8 @@
 
 use std::fs::Metadata;
 use std::os::unix::fs::MetadataExt;
+use std::rt::Files;
+use std::{fs, io};
 
 /// Which file it is, how many bytes it has, and when its bytes and its rights were changed last.
 #[derive(Clone, Copy, PartialEq, Eq)]
@@ -26,7 +28,8 @@ impl FileState {
     }
 }
 
-/// Whether these are one file, changed or not.
-pub fn is_same_file(one: &Metadata, other: &Metadata) -> bool {
-    one.dev() == other.dev() && one.ino() == other.ino()
+/// Whether a name leads to this file, changed or not.
+pub fn leads_to<R: Files>(rt: &R, name: &str, file: &Metadata) -> io::Result<bool> {
+    let found = fs::metadata(rt, name)?;
+    Ok(found.dev() == file.dev() && found.ino() == file.ino())
 }

@@ -1,8 +1,9 @@
 //! Temporary files beside the files that they are to replace, and those that cut runs left there.
 
 use crate::disk::links::folder_of;
-use std::alloc::Global;
-use std::fs::{Metadata, OpenOptions};
+use crate::disk::locking::OpenedFile;
+use std::alloc::{AllocError, Global};
+use std::fs::{DirEntry, File, OpenOptions};
 use std::io::ErrorKind;
 use std::os::unix::fs::{MetadataExt, OpenOptionsExt};
 use std::path::PathBuf;
@@ -27,40 +28,34 @@ const MOST_OF_NAME: usize = 234;
 /// How many seconds old a temporary file is when no run is at work on it any more.
 const AGE: u64 = 3_600;
 
-/// What the names of a path's temporary files begin with: `.NAME.yq-`, for its last name.
-fn front_of(alloc: Global, path: &PathBuf) -> io::Result<String> {
+/// What the names of a path's temporary files have of its last name.
+fn name_within(path: &PathBuf) -> &str {
     let name = path.file_name().unwrap_or("");
-    let name = name
-        .get(..name.floor_char_boundary(MOST_OF_NAME))
-        .unwrap_or("");
-    Ok(format!(in alloc; ".{name}.yq-")?)
+    name.get(..name.floor_char_boundary(MOST_OF_NAME))
+        .unwrap_or("")
 }
 
-/// A name for a temporary file beside a path.
-fn temporary_name<R: RandomSource + Alloc<A = Global>>(
-    rt: &R,
-    path: &PathBuf,
-) -> io::Result<PathBuf> {
-    let mut random = [0u8; 8];
-    rt.fill_bytes(&mut random)?;
-    let number = u64::from_le_bytes(random);
-    let front = front_of(rt.alloc(), path)?;
-    let name = format!(in rt.alloc(); "{front}{number:016x}")?;
-    Ok(path.as_path().with_file_name(rt.alloc(), name.as_str())?)
+/// A path for a temporary file beside a path: `.NAME.yq-` for its last name, and then the digits.
+fn temporary_path(alloc: Global, path: &PathBuf, number: u64) -> Result<PathBuf, AllocError> {
+    let name = name_within(path);
+    let name = format!(in alloc; ".{name}.yq-{number:016x}")?;
+    path.with_file_name(alloc, name.as_str())
 }
 
 /// Makes a temporary file beside a path, under a name that no file has: neither what an earlier run
 /// left there when it was cut nor what another run writes at the same time is touched.
-pub fn make_temporary<R: Files + RandomSource + Alloc<A = Global>>(
+pub fn make_temporary<R: Files<File = File> + RandomSource + Alloc<A = Global>>(
     rt: &R,
     path: &PathBuf,
-) -> io::Result<(PathBuf, R::File)> {
+) -> io::Result<OpenedFile> {
     let mut options = OpenOptions::new();
     options.write(true).create_new(true).mode(PRIVATE);
+    let mut random = [0u8; 8];
     'names: for _ in 0..MOST_NAMES {
-        let name = temporary_name(rt, path)?;
-        match options.open(rt, name.as_path()) {
-            Ok(file) => return Ok((name, file)),
+        rt.fill_bytes(&mut random)?;
+        let path = temporary_path(rt.alloc(), path, u64::from_le_bytes(random))?;
+        match options.open(rt, path.as_str()) {
+            Ok(file) => return Ok(OpenedFile { path, file }),
             Err(e) if e.kind() == ErrorKind::AlreadyExists => (),
             Err(e) => return Err(e),
         }
@@ -68,40 +63,51 @@ pub fn make_temporary<R: Files + RandomSource + Alloc<A = Global>>(
     Err(io::Error::from(ErrorKind::AlreadyExists))
 }
 
-/// Whether a name is that of a temporary file: this front, and then its digits.
-fn is_temporary(name: &str, front: &str) -> bool {
-    match name.strip_prefix(front) {
-        Some(digits) => {
-            digits.len() == DIGITS
-                && digits
-                    .bytes()
-                    .all(|b| b.is_ascii_digit() || matches!(b, b'a'..=b'f'))
+/// Whether a text is the digits that end the name of a temporary file.
+fn are_digits(text: &str) -> bool {
+    'digits: for byte in text.as_bytes() {
+        if !matches!(byte, b'0'..=b'9' | b'a'..=b'f') {
+            return false;
         }
+    }
+    text.len() == DIGITS
+}
+
+/// Whether an entry of a folder has the name of a temporary file for this name.
+fn is_temporary(entry: &str, name: &str) -> bool {
+    match entry.rsplit_once(".yq-") {
+        Some((front, digits)) => front.strip_prefix(".") == Some(name) && are_digits(digits),
         None => false,
     }
 }
 
-/// Whether this is a regular file that was written last so long ago that no run is at work on it.
-fn is_left(found: &Metadata, now: u64) -> bool {
+/// Removes an entry of a folder where it is a temporary file for this name, and a regular file that
+/// was written last so long ago that no run is at work on it.
+fn remove_old<R: Files>(rt: &R, entry: &DirEntry<&R>, name: &str, now: u64) {
+    if !is_temporary(entry.file_name(), name) {
+        return;
+    }
+    let Ok(found) = entry.metadata() else {
+        return;
+    };
     let written = u64::try_from(found.mtime()).unwrap_or(0);
-    found.is_file() && now.saturating_sub(written) > AGE
+    if found.is_file() && now.saturating_sub(written) > AGE {
+        let _ = fs::remove_file(rt, entry.path());
+    }
 }
 
 /// Removes the temporary files that runs left beside a path when they were cut. Only a run that
 /// holds the lock of its file calls it. What can't be removed stays.
-pub fn remove_left<R: Files + Clock + Alloc<A = Global>>(rt: &R, path: &PathBuf) -> io::Result<()> {
-    let front = front_of(rt.alloc(), path)?;
-    let now = rt.since_1970()?.as_secs();
-    'entries: for entry in fs::read_dir(&rt, folder_of(path))? {
-        let Ok(entry) = entry else {
-            continue;
-        };
-        if !is_temporary(entry.file_name(), front.as_str()) {
-            continue;
-        }
-        if entry.metadata().is_ok_and(|found| is_left(&found, now)) {
-            let _ = fs::remove_file(rt, entry.path());
+pub fn remove_left<R: Files + Clock + Alloc<A = Global>>(rt: &R, path: &PathBuf) {
+    let Ok(now) = rt.since_1970() else {
+        return;
+    };
+    let Ok(entries) = fs::read_dir(&rt, folder_of(path)) else {
+        return;
+    };
+    'entries: for entry in entries {
+        if let Ok(entry) = entry {
+            remove_old(rt, &entry, name_within(path), now.as_secs());
         }
     }
-    Ok(())
 }

@@ -2,11 +2,9 @@
 ghost use Rattle.std.specs.Prelude.{◌≡◌};
 ghost use Rattle.yq_store.specs.Trust as spec;
 
-use std::fs::Metadata;
-use std::io::ErrorKind;
+use std::fs::{self, Metadata};
 use std::os::unix::fs::MetadataExt;
 use std::rt::Files;
-use std::{fs, io};
 
 /// The user who may read and write all files.
 const ROOT: u32 = 0;
@@ -26,6 +24,14 @@ fn user_of_run<R: Files>(rt: &R) -> u32 {
         Ok(run) => run.uid(),
         Err(_) => ROOT,
     }
+}
+
+/// The owner and the group of a file, a journal or a link: who put it there.
+pub type Maker = (u32, u32);
+
+/// Who put this there.
+pub fn maker_of(found: &Metadata) -> Maker {
+    (found.uid(), found.gid())
 }
 
 /// Who may put something in the place of a file or beside it, since they may write the file: the user
@@ -60,7 +66,7 @@ impl Trust {
     }
 
     /// Whether the maker of a journal, or of a link, may write the file.
-    fn covers(&self, owner: u32, group: u32) -> bool
+    pub fn covers(&self, owner: u32, group: u32) -> bool
         ensures { result ≡ spec.believes self.now owner group }
     {
         owner == self.user
@@ -68,14 +74,5 @@ impl Trust {
             || owner == self.owner
             || self.mode & EVERYONE_WRITES != 0
             || self.mode & GROUP_WRITES != 0 && group == self.group
-    }
-
-    /// Fails at a journal, or a link, of someone else.
-    pub fn check(&self, found: &Metadata) -> io::Result<()> {
-        if self.covers(found.uid(), found.gid()) {
-            Ok(())
-        } else {
-            Err(io::Error::from(ErrorKind::PermissionDenied))
-        }
     }
 }
