@@ -24,8 +24,7 @@ fn value_text(alloc: Global, value: &Value) -> Result<String, AllocError>
     requires shallow { depth (view value.now) ≤ max_depth }
     ensures { IfOk result (λ s. spec.IsWritten (string_bytes s) (view value.now)) }
 {
-    let text = value.to_string(alloc)?;
-    Ok(text)
+    value.to_string(alloc)
 }
 
 /// The text of the record of a move, of null where it has none.
@@ -35,8 +34,7 @@ fn move_text(alloc: Global, step: &Move) -> Result<String, AllocError>
         (json.move_data step.now) ≡ Some step.now) }
 {
     let held = move_value(alloc, step)?;
-    let text = value_text(alloc, &held)?;
-    Ok(text)
+    value_text(alloc, &held)
 }
 
 /// Records as a value.
@@ -58,8 +56,7 @@ fn records_text(alloc: Global, records: &[Record]) -> Result<String, AllocError>
         (json.list_data json.record_data records.now) ≡ Some records.now) }
 {
     let values = records_value(alloc, records)?;
-    let text = value_text(alloc, &values)?;
-    Ok(text)
+    value_text(alloc, &values)
 }
 
 /// The text up to the base64 of an open move's text, with room for so many bytes.
@@ -81,8 +78,7 @@ fn push_base64(text: &mut String, bytes: &[u8]) -> Result<(), AllocError>
     ensures reads_back { OnOk result (decode_of standard (encode_of standard bytes.now) ≡
         Ok bytes.now) }
 {
-    STANDARD.encode_string(bytes, text)?;
-    Ok(())
+    STANDARD.encode_string(bytes, text)
 }
 
 /// Adds what is behind the base64: a move's kind and its record, and the records.
@@ -96,8 +92,7 @@ fn push_behind(text: &mut String, kind: &str, held: &str, records: &str) -> Resu
     text.push_str(held)?;
     text.push_str("},\"records\":")?;
     text.push_str(records)?;
-    text.push_str(",\"version\":2}\n")?;
-    Ok(())
+    text.push_str(",\"version\":2}\n")
 }
 
 /// How many bytes the base64 of so many bytes takes, with those around it.

@@ -146,8 +146,7 @@ fn journal_value(alloc: Global, journal: &Journal) -> Result<Value, AllocError>
 {
     let pending = pending_value(alloc, &journal.open)?;
     let records = record_values(alloc, &journal.records)?;
-    let value = journal_object(alloc, journal.at as u64, pending, records)?;
-    Ok(value)
+    journal_object(alloc, journal.at as u64, pending, records)
 }
 
 impl Journal {

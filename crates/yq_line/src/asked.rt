@@ -107,20 +107,16 @@ pub fn command_in(alloc: Global, name: &str, matches: &ArgMatches) -> Result<Com
     ensures err { IfErr result (spec.IsMissed name.now (rows_of (found_of matches.now))) }
     ensures some { result ≢ Ok Help }
 {
-    if name == "eval" {
-        return eval_in(alloc, matches);
-    }
-    if name == "squash" {
-        return squash_in(alloc, matches);
+    match name {
+        "eval" => return eval_in(alloc, matches),
+        "squash" => return squash_in(alloc, matches),
+        _ => {}
     }
     let (file, journal) = names_of(alloc, matches)?;
-    if name == "undo" {
-        Ok(Command::Undo { file, journal })
-    } else if name == "redo" {
-        Ok(Command::Redo { file, journal })
-    } else if name == "history" {
-        Ok(Command::History { file, journal })
-    } else {
-        Err(WordsError::Usage(UsageCause::Words))
+    match name {
+        "undo" => Ok(Command::Undo { file, journal }),
+        "redo" => Ok(Command::Redo { file, journal }),
+        "history" => Ok(Command::History { file, journal }),
+        _ => Err(WordsError::Usage(UsageCause::Words)),
     }
 }

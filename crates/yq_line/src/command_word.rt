@@ -6,7 +6,7 @@ ghost use Rattle.yq_line.specs.CommandWords as spec;
 fn is_command_word(word: &str) -> bool
     ensures { result ≡ spec.is_command_word word.now }
 {
-    word == "eval" || word == "undo" || word == "redo" || word == "history" || word == "squash"
+    matches!(word, "eval" | "undo" | "redo" | "history" | "squash")
 }
 
 /// The command's word, and the words behind it.

@@ -81,9 +81,11 @@ pub fn is_known(command: &str, option: &str) -> bool {
     if !option.starts_with("--") {
         return unknown_letter(command, option).is_none();
     }
-    option == "--help"
-        || option.starts_with("--journal=")
-        || command == "eval" && ["--inplace", "--exit-status", "--no-doc"].contains(&option)
+    match option {
+        "--help" => true,
+        "--inplace" | "--exit-status" | "--no-doc" => command == "eval",
+        _ => option.starts_with("--journal="),
+    }
 }
 
 /// What to do in place of an option of this letter or name.

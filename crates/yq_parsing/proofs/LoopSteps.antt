@@ -6,9 +6,9 @@ use Rattle.yq_parsing.specs.declared.error.ParseError.{ParseError}
 use Rattle.yq_parsing.specs.declared.error.ParseError.TheVariants as error
 use Rattle.yq_program.specs.Tokens.{Token}
 use Rattle.yq_parsing.specs.ReadAnswers.{ParseFails, GivesForm, with_tokens, IsShorter}
-use Rattle.yq_parsing.specs.Lexing.{tokens}
+use Rattle.yq_parsing.specs.Lexing.{tokens, after}
 use Rattle.std.specs.Borrow.{Bor}
-use Rattle.yq_parsing.specs.Parse.{Parse, either, with_front, many, step_at, behind_at, literal_at, field_at, stage_at, term_at, update_at}
+use Rattle.yq_parsing.specs.Parse.{Parse, either, with_front, many, step_at, behind_at, parted_at, literal_at, field_at, stage_at, term_at, update_at}
 use Rattle.std.specs.Prelude.{codes}
 use Rattle.yq_parsing.proofs.Readers.{Lessens, many_next, Takes, Shortens, behind_takes, behind_shortens}
 use Rattle.yq_program.specs.Grammar.{Production, IsLiteral, IsField, IsStage, IsTerm, IsUpdate, literal_depth}
@@ -67,6 +67,57 @@ failed view r f w p h = rw (p.1, p.2) h
 
 pub before_some : {X : Type 0} (text : List ℕ) (o : Option (X × Bor (List ℕ))) (x : X) (b : Bor (List ℕ)) → IsShorter text o → o ≡ Some (x, b) → length b.now < length text
 before_some {X} text o x b h is = let at : IsShorter text (Some (x, b)) = subst (IsShorter text) is h in at
+
+-- ---- loops over forms with a mark between them
+
+pub onto_new : {X Y : Type 0} (v : X → Y) (xs : List X) (o : Option (List Y × List Token)) → xs ≡ [] → onto (map v xs) o ≡ o
+onto_new v xs None is = refl
+onto_new v xs (Some y) is = ap (λ l. Some (map v l ++ y.0, y.1)) is
+
+behind_many : {A : Type 0} (s : List ℕ) (form : Parse A) → Lessens (behind_at s form) → (a : A) (ts : List Token)
+    → with_front a (many (behind_at s form) ts) ≡ either (after s ts) (λ r. with_front a (parted_at s form r)) (Some (a ∷ [], ts))
+behind_many {A} s form less a ts = ap (with_front a) (many_next (behind_at s form) less ts) ∙ go (after s ts)
+  where
+    others : Option (Option (A × List Token)) → Option (List A × List Token)
+    others o = o >>= λ o. either o (λ x. with_front x.0 (many (behind_at s form) x.1)) (Some ([], ts))
+
+    read : (o : Option (A × List Token)) → others (o >>= λ x. Some (Some x)) ≡ (o >>= λ x. with_front x.0 (many (behind_at s form) x.1))
+    read None = refl
+    read (Some x) = refl
+
+    go : (o : Option (List Token)) → with_front a (others (either o (λ r. form r >>= λ x. Some (Some x)) (Some None)))
+        ≡ either o (λ r. with_front a (parted_at s form r)) (Some (a ∷ [], ts))
+    go None = refl
+    go (Some r) = ap (with_front a) (read (form r))
+
+turn : {A : Type 0} (s : List ℕ) (form : Parse A) → Lessens (behind_at s form) → (xs : List A) (ts : List Token) (w : Option (List A × List Token))
+    → onto xs (parted_at s form ts) ≡ w → (x : A) (r : List Token) → form ts ≡ Some (x, r) → (o : Option (List Token)) → after s r ≡ o
+    → onto xs (either o (λ r. with_front x (parted_at s form r)) (Some (x ∷ [], r))) ≡ w
+turn s form less xs ts w h x r e o a =
+    ap (λ o. onto xs (either o (λ r. with_front x (parted_at s form r)) (Some (x ∷ [], r)))) (sym a)
+    ∙ (ap (onto xs) (sym (behind_many s form less x r) ∙ sym (ap (λ o. o >>= λ y. with_front y.0 (many (behind_at s form) y.1)) e)) ∙ h)
+
+-- a form is read, and the mark is behind it
+pub parted_more : {X Y : Type 0} (v : X → Y) (s : List ℕ) (form : Parse Y) → Lessens (behind_at s form) → (xs : List X) (ts : List Token) (w : Option (List Y × List Token))
+    → onto (map v xs) (parted_at s form ts) ≡ w → (x : X) (r : List Token) → form ts ≡ Some (v x, r) → (ys : List X) → ys ≡ xs ++ x ∷ []
+    → (q : List Token) → after s r ≡ Some q → onto (map v ys) (parted_at s form q) ≡ w
+parted_more v s form less xs ts w h x r e ys pushed q a =
+    ap (λ l. onto (map v l) (parted_at s form q)) pushed
+    ∙ rw map_push (sym (onto_front (map v xs) (v x) (parted_at s form q)) ∙ turn s form less (map v xs) ts w h (v x) r e (Some q) a)
+
+-- a form is read, and no mark is behind it
+pub parted_end : {X Y : Type 0} (v : X → Y) (s : List ℕ) (form : Parse Y) → Lessens (behind_at s form) → (xs : List X) (ts : List Token) (w : Option (List Y × List Token))
+    → onto (map v xs) (parted_at s form ts) ≡ w → (x : X) (r : List Token) → form ts ≡ Some (v x, r) → (ys : List X) → ys ≡ xs ++ x ∷ []
+    → after s r ≡ None → w ≡ Some (map v ys, r)
+parted_end v s form less xs ts w h x r e ys pushed a =
+    sym (ap (λ l. Some (map v l, r)) pushed ∙ rw map_push (turn s form less (map v xs) ts w h (v x) r e None a))
+
+-- a form is refused
+pub parted_fails : {A : Type 0} (s : List ℕ) (form : Parse A) (xs : List A) (ts : List Token) (w : Option (List A × List Token))
+    → onto xs (parted_at s form ts) ≡ w → (e : ParseError) → ParseFails e (form ts) → ParseFails e w
+parted_fails s form xs ts w h error.Syntax f = sym h ∙ ap (λ o. onto xs (o >>= λ y. with_front y.0 (many (behind_at s form) y.1))) f
+parted_fails s form xs ts w h error.Memory f = tt
+parted_fails s form xs ts w h _ f = f
 
 -- ---- which forms leave less
 

@@ -3,7 +3,7 @@ use Rattle.std.proofs.Common.{◌≡◌, false, List, [], ◌∷◌, length, Som
 use Rattle.std.proofs.lemmas.Option.{same_Some}
 use Rattle.std.specs.Prelude.{codes}
 use Rattle.yq_flow_scalars.proofs.Bools.{bind_some, chosen}
-use Rattle.yq_program.specs.Program.{Step, key, index, each}
+use Rattle.yq_program.specs.Program.{Step, key, index}
 use Rattle.yq_program.specs.Tokens.{Token}
 use Rattle.yq_parsing.specs.Lexing.{after}
 use Rattle.yq_program.specs.Grammar.{Production, HasSymbol, IsBracket, IsDotted, IsNamed, IsFirst, IsNext, Are, IsPath}

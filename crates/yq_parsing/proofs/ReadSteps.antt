@@ -1,5 +1,5 @@
 -- What reading gives, a step at a time.
-use Rattle.std.proofs.Common.{◌≡◌, ℕ, suc, ◌-◌, ◌<◌, length, arith, List, [], ◌∷◌, ◌++◌, Bool, true, false, Option, Some, None, refl, sym, ap, ◌∙◌, subst, map, option_map}
+use Rattle.std.proofs.Common.{◌≡◌, ℕ, suc, ◌-◌, ◌<◌, length, arith, List, [], ◌∷◌, ◌++◌, Bool, true, false, Option, Some, None, refl, sym, ap, ◌∙◌, subst, map, option_map, Result, Ok, Err}
 use Rattle.std.specs.Borrow.{Bor}
 use Rattle.std.specs.Prelude.{if◌then◌else◌, ◌==◌, is_some, codes}
 use Rattle.yq_flow_scalars.specs.Answers.{◌>>=◌}
@@ -9,9 +9,9 @@ use Rattle.yq_parsing.specs.declared.error.ParseError.{ParseError}
 use Rattle.yq_parsing.specs.declared.error.ParseError.TheVariants as error
 use Rattle.yq_program.specs.Program.{Step}
 use Rattle.yq_program.specs.Tokens.{Token}
-use Rattle.yq_parsing.specs.ReadAnswers.{ParseFails, with_tokens}
+use Rattle.yq_parsing.specs.ReadAnswers.{ParseFails, GivesForm, ReadsForm, with_tokens}
 use Rattle.yq_parsing.specs.Lexing.{tokens, after}
-use Rattle.yq_parsing.specs.Parse.{Parse, either, with_front, many, behind_at, parted_at, listed_at, field_at, literal_at, scalar_node_at, mapping_of, path_of}
+use Rattle.yq_parsing.specs.Parse.{either, many, listed_at, field_at, literal_at, scalar_node_at, mapping_of, path_of}
 use Rattle.yq_parsing.proofs.Readers.{Lessens}
 use Rattle.yq_parsing.proofs.LoopSteps.{onto, step_more}
 
@@ -38,21 +38,25 @@ bind_fails f o _ h = h
 pub fails_as : {A : Type 0} (e : ParseError) (o z : Option A) → o ≡ z → ParseFails e z → ParseFails e o
 fails_as e o z is h = subst (ParseFails e) (sym is) h
 
+pub gives_as : {X Y : Type 0} (view : X → Y) (r : Result X ParseError) (o z : Option Y) → o ≡ z → GivesForm view r z → GivesForm view r o
+gives_as view r o z is h = subst (GivesForm view r) (sym is) h
+
+-- a form that a mark closes, as it is seen
+pub closed_reads : {X Y : Type 0} (view : X → Y) (r : Result (X × Bor (List ℕ)) ParseError) (x : X) (o : Option (List Token))
+    → ReadsForm (λ x. x) r (option_map (λ q. (x, q)) o) → ReadsForm view r (o >>= λ q. Some (view x, q))
+closed_reads view (Ok y) x (Some q) h = ap (option_map (λ p. (view p.0, p.1))) h
+closed_reads view (Ok y) x None h = cc
+closed_reads view (Err error.Syntax) x (Some q) h = cc
+closed_reads view (Err error.Syntax) x None h = refl
+closed_reads view (Err error.Memory) x o h = tt
+closed_reads view (Err error.NotInProfile) x o h = h
+closed_reads view (Err error.Pattern) x o h = h
+
 -- ---- forms one after the other, from the first one on
 
 pub onto_nothing : {A : Type 0} (o : Option (List A × List Token)) → onto [] o ≡ o
 onto_nothing None = refl
 onto_nothing (Some y) = refl
-
-onto_first : {A : Type 0} (x : A) (o : Option (List A × List Token)) → onto (x ∷ []) o ≡ with_front x o
-onto_first x None = refl
-onto_first x (Some y) = refl
-
-pub parted_first : {X Y : Type 0} (v : X → Y) (s : List ℕ) (form : Parse Y) (ts rest : List Token) (x : X) (xs : List X)
-    → form ts ≡ Some (v x, rest) → xs ≡ x ∷ [] → onto (map v xs) (many (behind_at s form) rest) ≡ parted_at s form ts
-parted_first v s form ts rest x xs e is =
-    ap (λ l. onto (map v l) (many (behind_at s form) rest)) is ∙ onto_first (v x) (many (behind_at s form) rest)
-    ∙ sym (ap (λ o. o >>= λ y. with_front y.0 (many (behind_at s form) y.1)) e)
 
 -- a test that doesn't hold
 pub test_fails : {A : Type 0} (b : Bool) (x y z : A) → b ≡ false → y ≡ z → (if b then x else y) ≡ z

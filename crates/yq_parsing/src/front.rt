@@ -42,10 +42,21 @@ pub(crate) fn expect<'t>(text: &'t str, symbol: &str) -> Result<&'t str, ParseEr
         (spec.after symbol.now (spec.tokens text.now)) }
     ensures shorter { IfOk result (λ r. length r.now < length text.now) }
 {
-    match after(text, symbol) {
-        Some(rest) => Ok(rest),
-        None => Err(ParseError::Syntax),
-    }
+    after(text, symbol).ok_or(ParseError::Syntax)
+}
+
+/// A form and what follows the mark, which has to be behind the form.
+pub(crate) fn closed<'t, T: Drop>(
+    form: T,
+    text: &'t str,
+    mark: &str,
+) -> Result<(T, &'t str), ParseError>
+    ensures value { ReadsForm (λ x. x) result
+        (option_map (λ r. (form, r)) (spec.after mark.now (spec.tokens text.now))) }
+    ensures shorter { Shortens text.now result }
+{
+    let rest = expect(text, mark)?;
+    Ok((form, rest))
 }
 
 /// The number in front, as it is written, and what follows it.

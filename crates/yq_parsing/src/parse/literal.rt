@@ -1,13 +1,13 @@
 //! Scalars and literals.
 ghost use Rattle.std.specs.Prelude.{◌≡◌, ◌<◌, codes, length, map, option_map, string_bytes, IfOk};
-ghost use Rattle.yq_parsing.specs.ReadAnswers.{ReadsForm, ReadsMaybe, Shortens, IsShorter, with_tokens};
+ghost use Rattle.yq_parsing.specs.ReadAnswers.{ReadsForm, Shortens, IsShorter, with_tokens};
 ghost use Rattle.yq_parsing.specs.Lexing.{tokens};
 ghost use Rattle.yq_parsing.specs.Parse as spec;
 ghost use Rattle.yq_nodes.specs.Values.{node_of, field_of};
 ghost use Rattle.yq_flow_scalars.specs.Keys.{are_distinct};
 
 use crate::error::ParseError;
-use crate::front::{after, expect, number, string};
+use crate::front::{after, closed, expect, number, string};
 use std::alloc::{AllocError, Global};
 use yq_flow_reading::are_distinct;
 use yq_flow_scalars::Scalar;
@@ -72,8 +72,7 @@ fn scalar_value(alloc: Global, text: &str) -> Result<(Value, &str), ParseError>
     ensures value { ReadsForm node_of result (spec.scalar_node_at (tokens text.now)) }
     ensures shorter { Shortens text.now result }
 {
-    let (scalar, rest) = scalar(alloc, text)?;
-    Ok((Value::Scalar(scalar), rest))
+    scalar(alloc, text).map(|(scalar, rest)| (Value::Scalar(scalar), rest))
 }
 
 /// A literal in which `depth` collections are nested at most.
@@ -107,47 +106,18 @@ fn list(alloc: Global, text: &str, depth: usize) -> Result<(Vec<Value>, &str), P
         (spec.literal_at depth) (tokens text.now)) }
     ensures shorter { Shortens text.now result }
 {
-    if let Some(rest) = after(text, "]") {
-        return Ok((Vec::new(alloc), rest));
-    }
-    let (items, rest) = items(alloc, text, depth)?;
-    let rest = expect(rest, "]")?;
-    Ok((items, rest))
-}
-
-#[cycle(literal)]
-fn items(alloc: Global, text: &str, depth: usize) -> Result<(Vec<Value>, &str), ParseError>
-    ensures value { ReadsForm (λ v. map node_of v.items) result
-        (spec.parted_at (codes ",") (spec.literal_at depth) (tokens text.now)) }
-    ensures shorter { Shortens text.now result }
-{
-    let (first, mut rest) = literal(alloc, text, depth)?;
     let mut found = Vec::new(alloc);
-    found.push(first)?;
-    'items: loop {
-        match next_item(alloc, rest, depth)? {
-            Some((item, behind)) => {
-                found.push(item)?;
-                rest = behind;
-            }
-            None => return Ok((found, rest)),
-        }
+    if let Some(rest) = after(text, "]") {
+        return Ok((found, rest));
     }
-}
-
-/// A comma and an item, if a comma is in front.
-#[cycle(literal)]
-fn next_item(alloc: Global, text: &str, depth: usize) -> Result<Option<(Value, &str)>, ParseError>
-    ensures value { ReadsMaybe node_of result
-        (spec.behind_at (codes ",") (spec.literal_at depth) (tokens text.now)) }
-    ensures shorter { IfOk result (λ o. IsShorter text.now o) }
-{
-    match after(text, ",") {
-        Some(rest) => {
-            let item = literal(alloc, rest, depth)?;
-            Ok(Some(item))
+    let mut rest = text;
+    'items: loop {
+        let (item, behind) = literal(alloc, rest, depth)?;
+        found.push(item)?;
+        match after(behind, ",") {
+            Some(next) => rest = next,
+            None => return closed(found, behind, "]"),
         }
-        None => Ok(None),
     }
 }
 
@@ -161,55 +131,18 @@ fn mapping(
     ensures value { ReadsForm (λ v. map field_of v.items) result (spec.listed_at (codes "}") (spec.field_at (spec.literal_at depth)) (tokens text.now)) }
     ensures shorter { Shortens text.now result }
 {
-    if let Some(rest) = after(text, "}") {
-        return Ok((Vec::new(alloc), rest));
-    }
-    let (fields, rest) = fields(alloc, text, depth)?;
-    let rest = expect(rest, "}")?;
-    Ok((fields, rest))
-}
-
-#[cycle(literal)]
-fn fields(
-    alloc: Global,
-    text: &str,
-    depth: usize,
-) -> Result<(Vec<(String, Value)>, &str), ParseError>
-    ensures value { ReadsForm (λ v. map field_of v.items) result
-        (spec.parted_at (codes ",") (spec.field_at (spec.literal_at depth)) (tokens text.now)) }
-    ensures shorter { Shortens text.now result }
-{
-    let (first, mut rest) = field(alloc, text, depth)?;
     let mut found = Vec::new(alloc);
-    found.push(first)?;
-    'fields: loop {
-        match next_field(alloc, rest, depth)? {
-            Some((field, behind)) => {
-                found.push(field)?;
-                rest = behind;
-            }
-            None => return Ok((found, rest)),
-        }
+    if let Some(rest) = after(text, "}") {
+        return Ok((found, rest));
     }
-}
-
-/// A comma and a field, if a comma is in front.
-#[cycle(literal)]
-fn next_field(
-    alloc: Global,
-    text: &str,
-    depth: usize,
-) -> Result<Option<((String, Value), &str)>, ParseError>
-    ensures value { ReadsMaybe field_of result
-        (spec.behind_at (codes ",") (spec.field_at (spec.literal_at depth)) (tokens text.now)) }
-    ensures shorter { IfOk result (λ o. IsShorter text.now o) }
-{
-    match after(text, ",") {
-        Some(rest) => {
-            let field = field(alloc, rest, depth)?;
-            Ok(Some(field))
+    let mut rest = text;
+    'fields: loop {
+        let (field, behind) = field(alloc, rest, depth)?;
+        found.push(field)?;
+        match after(behind, ",") {
+            Some(next) => rest = next,
+            None => return closed(found, behind, "}"),
         }
-        None => Ok(None),
     }
 }
 

@@ -6,7 +6,7 @@ ghost use Rattle.yq_parsing.specs.Parse as spec;
 ghost use Rattle.yq_program.specs.View.{step_of};
 
 use crate::error::ParseError;
-use crate::front::{after, expect, key, number, string};
+use crate::front::{after, closed, key, number, string};
 use std::alloc::Global;
 use yq_flow_reading::int_value;
 use yq_program::Step;
@@ -22,12 +22,10 @@ fn bracketed(alloc: Global, text: &str) -> Result<(Step, &str), ParseError>
     }
     if let Some((digits, rest)) = number(text) {
         let index = int_value(digits).ok_or(ParseError::Syntax)?;
-        let rest = expect(rest, "]")?;
-        return Ok((Step::Index(index), rest));
+        return closed(Step::Index(index), rest, "]");
     }
     let (key, rest) = string(alloc, text)?;
-    let rest = expect(rest, "]")?;
-    Ok((Step::Key(key), rest))
+    closed(Step::Key(key), rest, "]")
 }
 
 /// A step in brackets, if an opening one is in front.
@@ -36,10 +34,7 @@ fn bracket(alloc: Global, text: &str) -> Result<Option<(Step, &str)>, ParseError
     ensures shorter { IfOk result (λ o. IsShorter text.now o) }
 {
     match after(text, "[") {
-        Some(rest) => {
-            let found = bracketed(alloc, rest)?;
-            Ok(Some(found))
-        }
+        Some(rest) => bracketed(alloc, rest).map(Some),
         None => Ok(None),
     }
 }
@@ -90,8 +85,7 @@ pub(super) fn path(alloc: Global, text: &str) -> Result<(Vec<Step>, &str), Parse
     }
     let (steps, rest) = steps(alloc, text)?;
     if steps.is_empty() {
-        let rest = expect(rest, ".")?;
-        return Ok((steps, rest));
+        return closed(steps, rest, ".");
     }
     Ok((steps, rest))
 }

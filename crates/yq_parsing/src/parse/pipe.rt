@@ -1,6 +1,6 @@
 //! Conditions, stages and pipes.
 ghost use Rattle.std.specs.Prelude.{◌≡◌, ◌<◌, codes, length, map, option_map, IfOk};
-ghost use Rattle.yq_parsing.specs.ReadAnswers.{ReadsForm, ReadsMaybe, Shortens, IsShorter, with_tokens};
+ghost use Rattle.yq_parsing.specs.ReadAnswers.{ReadsForm, Shortens};
 ghost use Rattle.yq_parsing.specs.Lexing.{tokens};
 ghost use Rattle.yq_parsing.specs.Parse as spec;
 ghost use Rattle.yq_program.specs.View.{operand_of, condition_of, stage_of};
@@ -8,7 +8,7 @@ ghost use Rattle.yq_program.specs.View.{operand_of, condition_of, stage_of};
 use super::literal::scalar;
 use super::path::path;
 use crate::error::ParseError;
-use crate::front::{after, expect, string};
+use crate::front::{after, closed, expect, string};
 use std::alloc::Global;
 use yq_program::{Comparison, Condition, Operand, Stage, is_simple};
 
@@ -39,8 +39,7 @@ fn comparison(text: &str) -> Result<(bool, &str), ParseError>
     if let Some(rest) = after(text, "==") {
         return Ok((true, rest));
     }
-    let rest = expect(text, "!=")?;
-    Ok((false, rest))
+    closed(false, text, "!=")
 }
 
 /// A condition.
@@ -50,22 +49,19 @@ fn condition(alloc: Global, text: &str) -> Result<(Condition, &str), ParseError>
     ensures shorter { Shortens text.now result }
 {
     if let Some(rest) = after(text, "has") {
-        let rest = expect(rest, "(")?;
-        let (key, rest) = string(alloc, rest)?;
-        let rest = expect(rest, ")")?;
-        return Ok((Condition::Has(key), rest));
+        let (key, rest) = string(alloc, expect(rest, "(")?)?;
+        return closed(Condition::Has(key), rest, ")");
     }
     let (operand, rest) = operand(alloc, text)?;
     let (equal, rest) = comparison(rest)?;
-    let (scalar, rest) = scalar(alloc, rest)?;
-    Ok((
-        Condition::Compare(Comparison {
+    scalar(alloc, rest).map(|(scalar, rest)| {
+        let comparison = Comparison {
             operand,
             equal,
             scalar,
-        }),
-        rest,
-    ))
+        };
+        (Condition::Compare(comparison), rest)
+    })
 }
 
 /// A stage of a pipe.
@@ -75,28 +71,10 @@ fn stage(alloc: Global, text: &str) -> Result<(Stage, &str), ParseError>
     ensures shorter { Shortens text.now result }
 {
     if let Some(rest) = after(text, "select") {
-        let rest = expect(rest, "(")?;
-        let (condition, rest) = condition(alloc, rest)?;
-        let rest = expect(rest, ")")?;
-        return Ok((Stage::Select(condition), rest));
+        let (condition, rest) = condition(alloc, expect(rest, "(")?)?;
+        return closed(Stage::Select(condition), rest, ")");
     }
-    let (steps, rest) = path(alloc, text)?;
-    Ok((Stage::Path(steps), rest))
-}
-
-/// `|` and a stage, if `|` is in front.
-fn next_stage(alloc: Global, text: &str) -> Result<Option<(Stage, &str)>, ParseError>
-    ensures value { ReadsMaybe stage_of result
-        (spec.behind_at (codes "|") spec.stage_at (tokens text.now)) }
-    ensures shorter { IfOk result (λ o. IsShorter text.now o) }
-{
-    match after(text, "|") {
-        Some(rest) => {
-            let stage = stage(alloc, rest)?;
-            Ok(Some(stage))
-        }
-        None => Ok(None),
-    }
+    path(alloc, text).map(|(steps, rest)| (Stage::Path(steps), rest))
 }
 
 /// A pipe: its stages.
@@ -105,16 +83,14 @@ pub(super) fn pipe(alloc: Global, text: &str) -> Result<(Vec<Stage>, &str), Pars
     ensures value { ReadsForm (λ v. map stage_of v.items) result (spec.pipe_at (tokens text.now)) }
     ensures shorter { Shortens text.now result }
 {
-    let (first, mut rest) = stage(alloc, text)?;
     let mut found = Vec::new(alloc);
-    found.push(first)?;
+    let mut rest = text;
     'stages: loop {
-        match next_stage(alloc, rest)? {
-            Some((stage, behind)) => {
-                found.push(stage)?;
-                rest = behind;
-            }
-            None => return Ok((found, rest)),
+        let (stage, behind) = stage(alloc, rest)?;
+        found.push(stage)?;
+        match after(behind, "|") {
+            Some(next) => rest = next,
+            None => return Ok((found, behind)),
         }
     }
 }
@@ -127,8 +103,7 @@ pub(super) fn left(alloc: Global, text: &str) -> Result<(Vec<Stage>, &str), Pars
 {
     if let Some(rest) = after(text, "(") {
         let (stages, rest) = pipe(alloc, rest)?;
-        let rest = expect(rest, ")")?;
-        return Ok((stages, rest));
+        return closed(stages, rest, ")");
     }
     let (steps, rest) = path(alloc, text)?;
     let mut stages = Vec::new(alloc);

@@ -1,6 +1,6 @@
 //! Updates.
 ghost use Rattle.std.specs.Prelude.{◌≡◌, ◌<◌, codes, length, map, option_map, string_bytes, IfOk};
-ghost use Rattle.yq_parsing.specs.ReadAnswers.{ReadsForm, ReadsMaybe, Shortens, IsShorter, with_tokens};
+ghost use Rattle.yq_parsing.specs.ReadAnswers.{ReadsForm, Shortens, IsShorter, with_tokens};
 ghost use Rattle.yq_program.specs.Grammar.{literal_depth};
 ghost use Rattle.yq_parsing.specs.Lexing.{tokens};
 ghost use Rattle.yq_parsing.specs.Parse as spec;
@@ -9,7 +9,7 @@ ghost use Rattle.yq_program.specs.View.{stage_of, term_of, update_of};
 use super::literal::literal;
 use super::pipe::{left, pipe};
 use crate::error::ParseError;
-use crate::front::{after, begins_step, expect, string};
+use crate::front::{after, begins_step, closed, expect, string};
 use std::alloc::Global;
 use yq_program::{Assignment, Comment, CommentPlace, Operator, Stage, Term, Update};
 
@@ -37,26 +37,9 @@ fn term(alloc: Global, text: &str) -> Result<(Term, &str), ParseError>
     ensures shorter { Shortens text.now result }
 {
     if begins_left(text) {
-        let (stages, rest) = left(alloc, text)?;
-        return Ok((Term::Pipe(stages), rest));
+        return left(alloc, text).map(|(stages, rest)| (Term::Pipe(stages), rest));
     }
-    let (value, rest) = literal(alloc, text, depth())?;
-    Ok((Term::Literal(value), rest))
-}
-
-/// `+` and a term, if `+` is in front.
-fn next_term(alloc: Global, text: &str) -> Result<Option<(Term, &str)>, ParseError>
-    ensures value { ReadsMaybe term_of result
-        (spec.behind_at (codes "+") (spec.term_at literal_depth) (tokens text.now)) }
-    ensures shorter { IfOk result (λ o. IsShorter text.now o) }
-{
-    match after(text, "+") {
-        Some(rest) => {
-            let term = term(alloc, rest)?;
-            Ok(Some(term))
-        }
-        None => Ok(None),
-    }
+    literal(alloc, text, depth()).map(|(value, rest)| (Term::Literal(value), rest))
 }
 
 /// A sum: its terms.
@@ -66,16 +49,14 @@ fn right(alloc: Global, text: &str) -> Result<(Vec<Term>, &str), ParseError>
         (spec.right_at literal_depth (tokens text.now)) }
     ensures shorter { Shortens text.now result }
 {
-    let (first, mut rest) = term(alloc, text)?;
     let mut found = Vec::new(alloc);
-    found.push(first)?;
+    let mut rest = text;
     'terms: loop {
-        match next_term(alloc, rest)? {
-            Some((term, behind)) => {
-                found.push(term)?;
-                rest = behind;
-            }
-            None => return Ok((found, rest)),
+        let (term, behind) = term(alloc, rest)?;
+        found.push(term)?;
+        match after(behind, "+") {
+            Some(next) => rest = next,
+            None => return Ok((found, behind)),
         }
     }
 }
@@ -91,10 +72,7 @@ fn operator(text: &str) -> Option<(Operator, &str)>
     if let Some(rest) = after(text, "|=") {
         return Some((Operator::Modify, rest));
     }
-    match after(text, "+=") {
-        Some(rest) => Some((Operator::Add, rest)),
-        None => None,
-    }
+    after(text, "+=").map(|rest| (Operator::Add, rest))
 }
 
 /// The place of a comment.
@@ -105,8 +83,7 @@ fn place(text: &str) -> Result<(CommentPlace, &str), ParseError>
     if let Some(rest) = after(text, "line_comment") {
         return Ok((CommentPlace::Line, rest));
     }
-    let rest = expect(text, "head_comment")?;
-    Ok((CommentPlace::Head, rest))
+    closed(CommentPlace::Head, text, "head_comment")
 }
 
 /// What is done with what `left` finds.
@@ -128,8 +105,7 @@ fn action(alloc: Global, left: Vec<Stage>, text: &str) -> Result<(Update, &str),
         ));
     }
     let (place, rest) = place(text)?;
-    let rest = expect(rest, "=")?;
-    let (text, rest) = string(alloc, rest)?;
+    let (text, rest) = string(alloc, expect(rest, "=")?)?;
     Ok((Update::Comment(Comment { left, place, text }), rest))
 }
 
@@ -140,28 +116,11 @@ fn update(alloc: Global, text: &str) -> Result<(Update, &str), ParseError>
     ensures shorter { Shortens text.now result }
 {
     if let Some(rest) = after(text, "del") {
-        let rest = expect(rest, "(")?;
-        let (stages, rest) = pipe(alloc, rest)?;
-        let rest = expect(rest, ")")?;
-        return Ok((Update::Delete(stages), rest));
+        let (stages, rest) = pipe(alloc, expect(rest, "(")?)?;
+        return closed(Update::Delete(stages), rest, ")");
     }
     let (left, rest) = left(alloc, text)?;
     action(alloc, left, rest)
-}
-
-/// `|` and an update, if `|` is in front.
-fn next_update(alloc: Global, text: &str) -> Result<Option<(Update, &str)>, ParseError>
-    ensures value { ReadsMaybe update_of result
-        (spec.behind_at (codes "|") (spec.update_at literal_depth) (tokens text.now)) }
-    ensures shorter { IfOk result (λ o. IsShorter text.now o) }
-{
-    match after(text, "|") {
-        Some(rest) => {
-            let update = update(alloc, rest)?;
-            Ok(Some(update))
-        }
-        None => Ok(None),
-    }
 }
 
 /// Updates, one after the other.
@@ -170,16 +129,14 @@ pub(super) fn updates(alloc: Global, text: &str) -> Result<(Vec<Update>, &str), 
         (spec.parted_at (codes "|") (spec.update_at literal_depth) (tokens text.now)) }
     ensures shorter { Shortens text.now result }
 {
-    let (first, mut rest) = update(alloc, text)?;
     let mut found = Vec::new(alloc);
-    found.push(first)?;
+    let mut rest = text;
     'updates: loop {
-        match next_update(alloc, rest)? {
-            Some((update, behind)) => {
-                found.push(update)?;
-                rest = behind;
-            }
-            None => return Ok((found, rest)),
+        let (update, behind) = update(alloc, rest)?;
+        found.push(update)?;
+        match after(behind, "|") {
+            Some(next) => rest = next,
+            None => return Ok((found, behind)),
         }
     }
 }
