@@ -73,8 +73,10 @@ fn repeated_key(
 ) -> Result<usize, AllocError> {
     let mut known = BTreeMap::new(alloc);
     'each: for entry in entries {
-        if known.insert(entry.0.as_str(), ())?.is_some() {
-            return Ok(entry.1.start);
+        match known.insert(entry.0.as_str(), ()) {
+            Ok(None) => {}
+            Ok(Some(_)) => return Ok(entry.1.start),
+            Err(e) => return Err(e.into()),
         }
     }
     Ok(0)

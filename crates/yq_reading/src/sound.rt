@@ -106,8 +106,10 @@ fn repeated_line(
     let mut at = start;
     'lines: while is_line_deeper(x.rows, x.document, at, floor) {
         if let Some(key) = line_key(x, at) {
-            if known.insert(key, ())?.is_some() {
-                return Ok(at);
+            match known.insert(key, ()) {
+                Ok(None) => {}
+                Ok(Some(_)) => return Ok(at),
+                Err(e) => return Err(e.into()),
             }
         }
         at = behind(x.rows, x.document, at);

@@ -7,7 +7,7 @@ use Rattle.yq_flow_scalars.proofs.Bools.{bind_some}
 use Rattle.yq_flow_scalars.specs.declared.piece.Piece.{Piece}
 use Rattle.yq_flow_scalars.specs.declared.style.Style.{Style}
 use Rattle.yq_flow_scalars.specs.declared.style.Style.TheVariants as styles
-use Rattle.yq_rows.specs.Measured.{kind_of_style, measure, measured, past, is_bare, may_follow}
+use Rattle.yq_rows.specs.Measured.{kind_of_style, measure, measured, past, is_bare, may_follow, closing, past_part}
 use Rattle.yq_nodes.specs.Nodes.{Node, first_is, begins_content, coll, Items}
 use Rattle.yq_nodes.specs.Places.{Placed, placed, Content, nothing, name, text, sequence, mapping, Parts, part, with_anchor, placed_between, bare_placed, holder, key_here, locate_items}
 use Rattle.yq_nodes.specs.PlacedReading.{content_in, placed_node, placed_items, placed_content, placed_coll, placed_item, placed_entry, split_key, past_sep, stands_behind, then_anchored}
@@ -240,12 +240,6 @@ items_are d t h = ap past (items_more 0 d t h) ∙ go (placed_item 0 d t) where
   go None = refl
   go (Some x) = behind x.0 (placed_items 0 d 93 x.1)
 
-pub items_none : (d : ℕ) (t : List ℕ) → first_is 93 t ≡ false → past (placed_item 0 d t) ≡ None → past (placed_items 0 d 93 t) ≡ None
-items_none d t h e = items_are d t h ∙ ap (λ o. o >>= λ r. past (placed_items 0 d 93 r)) e
-
-pub items_some : (d : ℕ) (t r : List ℕ) → first_is 93 t ≡ false → past (placed_item 0 d t) ≡ Some r → past (placed_items 0 d 93 t) ≡ past (placed_items 0 d 93 r)
-items_some d t r h e = items_are d t h ∙ ap (λ o. o >>= λ r. past (placed_items 0 d 93 r)) e
-
 -- entries
 -- an entry before what follows it, if anything does
 abbrev with_entry : List ℕ × Piece → Placed → Option (List ℕ) → Option (((List ℕ × Piece) × Placed) × List ℕ)
@@ -285,11 +279,15 @@ entries_are d t h = ap past (entries_more 0 d t h) ∙ go (placed_entry 0 d t) w
   go None = refl
   go (Some x) = behind x.0.0 x.0.1 (placed_items 0 d 125 x.1)
 
-pub entries_none : (d : ℕ) (t : List ℕ) → first_is 125 t ≡ false → past (placed_entry 0 d t) ≡ None → past (placed_items 0 d 125 t) ≡ None
-entries_none d t h e = entries_are d t h ∙ ap (λ o. o >>= λ r. past (placed_items 0 d 125 r)) e
+parts_are : (keyed : Bool) (d : ℕ) (t : List ℕ) → first_is (closing keyed) t ≡ false → past (placed_items 0 d (closing keyed) t) ≡ (past_part keyed d t >>= λ r. past (placed_items 0 d (closing keyed) r))
+parts_are true d t h = entries_are d t h
+parts_are false d t h = items_are d t h
 
-pub entries_some : (d : ℕ) (t r : List ℕ) → first_is 125 t ≡ false → past (placed_entry 0 d t) ≡ Some r → past (placed_items 0 d 125 t) ≡ past (placed_items 0 d 125 r)
-entries_some d t r h e = entries_are d t h ∙ ap (λ o. o >>= λ r. past (placed_items 0 d 125 r)) e
+pub parts_none : (keyed : Bool) (d : ℕ) (t : List ℕ) → first_is (closing keyed) t ≡ false → past_part keyed d t ≡ None → past (placed_items 0 d (closing keyed) t) ≡ None
+parts_none keyed d t h e = parts_are keyed d t h ∙ ap (λ o. o >>= λ r. past (placed_items 0 d (closing keyed) r)) e
+
+pub parts_some : (keyed : Bool) (d : ℕ) (t r : List ℕ) → first_is (closing keyed) t ≡ false → past_part keyed d t ≡ Some r → past (placed_items 0 d (closing keyed) t) ≡ past (placed_items 0 d (closing keyed) r)
+parts_some keyed d t r h e = parts_are keyed d t h ∙ ap (λ o. o >>= λ r. past (placed_items 0 d (closing keyed) r)) e
 
 -- the steps of measuring a node, and a node without an anchor
 pub ruleset node_steps = (node_content, node_nameless, node_leadless, node_none, node_apart, node_some)

@@ -3,6 +3,7 @@ use Rattle.std.specs.Prelude.{ℕ, Bool, true, false, ◌||◌, ◌&&◌, not, L
 use Rattle.yq_flow_scalars.specs.Answers.{◌>>=◌}
 use Rattle.yq_flow_scalars.specs.Text.{is_empty}
 use Rattle.yq_nodes.specs.Places.{Placed, placed, Content, nothing, name, text, sequence, mapping}
+use Rattle.yq_nodes.specs.PlacedReading.{placed_entry, placed_item}
 use Rattle.yq_rows.specs.declared.measuring.NodeKind.{NodeKind}
 use Rattle.yq_rows.specs.declared.measuring.NodeKind.TheVariants as kinds
 use Rattle.yq_rows.specs.declared.measuring.Measured.{Measured}
@@ -69,3 +70,13 @@ is_bare m = not m.0 && is_nothing m.1
 -- a node may stand behind an anchor and this gap (own)
 abbrev pub may_follow : List ℕ → Bool × NodeKind → Bool
 may_follow gap m = (is_bare m || not (is_empty gap)) && (not m.0 && not (is_alias m.1))
+
+-- the byte that ends the entries of a mapping, or the items of a sequence (own)
+abbrev pub closing : Bool → ℕ
+closing true = 125
+closing false = 93
+
+-- what follows the entry, or item, in front and what separates it (own)
+abbrev pub past_part : Bool → ℕ → List ℕ → Option (List ℕ)
+past_part true d t = past (placed_entry 0 d t)
+past_part false d t = past (placed_item 0 d t)

@@ -2,7 +2,6 @@
 use Rattle.std.specs.Prelude.{◌≡◌, ℕ, Bool, true, false, List, ◌++◌, Some}
 use Rattle.yq_rows.specs.declared.measuring.NodeKind.{NodeKind}
 use Rattle.yq_rows.specs.declared.measuring.NodeKind.TheVariants as kinds
-use Rattle.yq_nodes.specs.Places.{text}
 use Rattle.yq_cut.specs.Grammar.{Limit}
 use Rattle.yq_cut.specs.Rows.{Mark, Bare, Dash, Key}
 use Rattle.yq_cut.specs.View.{Slices}

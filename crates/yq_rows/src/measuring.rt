@@ -126,11 +126,11 @@ fn measure_content<'t>(
         return Ok(unanchored(NodeKind::Alias, rest));
     }
     if let Some(behind) = strip(b'[', text) {
-        let rest = measure_sequence(whole, depth, behind)?;
+        let rest = measure_collection(whole, depth, false, behind)?;
         return Ok(unanchored(NodeKind::Collection, rest));
     }
     if let Some(behind) = strip(b'{', text) {
-        let rest = measure_mapping(whole, depth, behind)?;
+        let rest = measure_collection(whole, depth, true, behind)?;
         return Ok(unanchored(NodeKind::Collection, rest));
     }
     if begins_content(flow, text.as_bytes()) {
@@ -140,117 +140,76 @@ fn measure_content<'t>(
     Ok(unanchored(NodeKind::Nothing, text))
 }
 
-/// What follows a sequence of which the `[` stood before the text.
+/// What follows a mapping, or else a sequence, of which the `{` or `[` stood before the text.
 #[cycle(ends)]
 #[tactic(auto, using(crate::proofs::MeasureSteps::coll_no_gap, crate::proofs::MeasureSteps::coll_too_deep, crate::proofs::MeasureSteps::coll_items))]
-fn measure_sequence<'t>(whole: &str, depth: usize, text: &'t str) -> Result<&'t str, ReadFault>
-    ensures shorter { IfOk result (λ r. length r.now ≤ length text.now) }
-    ensures read { Reads (λ r. r.now) result (past (reading.placed_coll 0 depth 93 text.now)) }
-    ensures fault { IfErr result (λ f. f.kind ≢ NotUtf8) }
-{
-    let (_, rest) = read_gap(whole, text)?;
-    if depth == 0 {
-        return Err(fault(FaultKind::TooDeep, whole, text));
-    }
-    measure_items(whole, depth - 1, text, rest)
-}
-
-/// What follows a mapping of which the `{` stood before the text.
-#[cycle(ends)]
-#[tactic(auto, using(crate::proofs::MeasureSteps::coll_no_gap, crate::proofs::MeasureSteps::coll_too_deep, crate::proofs::MeasureSteps::coll_items))]
-fn measure_mapping<'t>(whole: &str, depth: usize, text: &'t str) -> Result<&'t str, ReadFault>
-    ensures shorter { IfOk result (λ r. length r.now ≤ length text.now) }
-    ensures read { Reads (λ r. r.now) result (past (reading.placed_coll 0 depth 125 text.now)) }
-    ensures fault { IfErr result (λ f. f.kind ≢ NotUtf8) }
-{
-    let (_, rest) = read_gap(whole, text)?;
-    if depth == 0 {
-        return Err(fault(FaultKind::TooDeep, whole, text));
-    }
-    measure_entries(whole, depth - 1, text, rest)
-}
-
-/// What follows the item in front and the `,` behind it; behind the `[` stood `open`.
-#[cycle(ends)]
-#[tactic(auto, using(crate::proofs::MeasureSteps::item_none, crate::proofs::MeasureSteps::item_bare, crate::proofs::MeasureSteps::item_some))]
-fn measure_item<'t>(
+fn measure_collection<'t>(
     whole: &str,
     depth: usize,
+    keyed: bool,
+    text: &'t str,
+) -> Result<&'t str, ReadFault>
+    ensures shorter { IfOk result (λ r. length r.now ≤ length text.now) }
+    ensures read { Reads (λ r. r.now) result
+        (past (reading.placed_coll 0 depth (spec.closing keyed) text.now)) }
+    ensures fault { IfErr result (λ f. f.kind ≢ NotUtf8) }
+{
+    let (_, rest) = read_gap(whole, text)?;
+    if depth == 0 {
+        return Err(fault(FaultKind::TooDeep, whole, text));
+    }
+    measure_parts(whole, depth - 1, keyed, text, rest)
+}
+
+/// What follows the entry, or item, in front and the `,` behind it; behind the `{` or `[` stood `open`.
+#[cycle(ends)]
+#[tactic(auto, using(crate::proofs::MeasureSteps::item_none, crate::proofs::MeasureSteps::item_bare, crate::proofs::MeasureSteps::item_some, crate::proofs::MeasureSteps::entry_no_key, crate::proofs::MeasureSteps::entry_none, crate::proofs::MeasureSteps::entry_some))]
+fn measure_part<'t>(
+    whole: &str,
+    depth: usize,
+    keyed: bool,
     open: &str,
     text: &'t str,
 ) -> Result<&'t str, ReadFault>
     ensures shorter { IfOk result (λ r. length r.now < length text.now) }
-    ensures read { Reads (λ r. r.now) result (past (reading.placed_item 0 depth text.now)) }
+    ensures read { Reads (λ r. r.now) result (spec.past_part keyed depth text.now) }
     ensures fault { IfErr result (λ f. f.kind ≢ NotUtf8) }
 {
+    if keyed {
+        let (_, rest) = read_key(whole, open, text)?;
+        let value = measure_node(true, Some(0), whole, depth, rest)?;
+        return read_sep(b'}', whole, open, value.rest);
+    }
     let item = measure_node(true, Some(0), whole, depth, text)?;
     if is_bare(item) {
         let kind = no_node(text.as_bytes(), FaultKind::BadFlow);
         return Err(flow_fault(kind, whole, open, text));
     }
-    let rest = read_sep(b']', whole, open, item.rest)?;
-    Ok(rest)
+    read_sep(b']', whole, open, item.rest)
 }
 
-/// What follows the items in front and their `]`; behind their `[` stood `open`.
+/// What follows the entries, or items, in front and their `}` or `]`; behind their `{` or `[` stood
+/// `open`.
 #[cycle(ends)]
-#[tactic(auto, using(crate::proofs::MeasureSteps::items_none, crate::proofs::MeasureSteps::items_last))]
-fn measure_items<'t>(
+#[tactic(auto, using(crate::proofs::MeasureSteps::parts_none, crate::proofs::MeasureSteps::items_last))]
+fn measure_parts<'t>(
     whole: &str,
     depth: usize,
+    keyed: bool,
     open: &str,
     text: &'t str,
 ) -> Result<&'t str, ReadFault>
     ensures shorter { IfOk result (λ r. length r.now ≤ length text.now) }
-    ensures read { Reads (λ r. r.now) result (past (reading.placed_items 0 depth 93 text.now)) }
+    ensures read { Reads (λ r. r.now) result
+        (past (reading.placed_items 0 depth (spec.closing keyed) text.now)) }
     ensures fault { IfErr result (λ f. f.kind ≢ NotUtf8) }
 {
+    let closing = if keyed { b'}' } else { b']' };
     let mut rest = text;
     'each: loop {
-        if let Some(behind) = strip(b']', rest) {
+        if let Some(behind) = strip(closing, rest) {
             return Ok(behind);
         }
-        rest = measure_item(whole, depth, open, rest)?;
-    }
-}
-
-/// What follows the entry in front and the `,` behind it; behind the `{` stood `open`.
-#[cycle(ends)]
-#[tactic(auto, using(crate::proofs::MeasureSteps::entry_no_key, crate::proofs::MeasureSteps::entry_none, crate::proofs::MeasureSteps::entry_some))]
-fn measure_entry<'t>(
-    whole: &str,
-    depth: usize,
-    open: &str,
-    text: &'t str,
-) -> Result<&'t str, ReadFault>
-    ensures shorter { IfOk result (λ r. length r.now < length text.now) }
-    ensures read { Reads (λ r. r.now) result (past (reading.placed_entry 0 depth text.now)) }
-    ensures fault { IfErr result (λ f. f.kind ≢ NotUtf8) }
-{
-    let (_, rest) = read_key(whole, open, text)?;
-    let value = measure_node(true, Some(0), whole, depth, rest)?;
-    let rest = read_sep(b'}', whole, open, value.rest)?;
-    Ok(rest)
-}
-
-/// What follows the entries in front and their `}`; behind their `{` stood `open`.
-#[cycle(ends)]
-#[tactic(auto, using(crate::proofs::MeasureSteps::entries_none, crate::proofs::MeasureSteps::items_last))]
-fn measure_entries<'t>(
-    whole: &str,
-    depth: usize,
-    open: &str,
-    text: &'t str,
-) -> Result<&'t str, ReadFault>
-    ensures shorter { IfOk result (λ r. length r.now ≤ length text.now) }
-    ensures read { Reads (λ r. r.now) result (past (reading.placed_items 0 depth 125 text.now)) }
-    ensures fault { IfErr result (λ f. f.kind ≢ NotUtf8) }
-{
-    let mut rest = text;
-    'each: loop {
-        if let Some(behind) = strip(b'}', rest) {
-            return Ok(behind);
-        }
-        rest = measure_entry(whole, depth, open, rest)?;
+        rest = measure_part(whole, depth, keyed, open, rest)?;
     }
 }

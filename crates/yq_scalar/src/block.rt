@@ -72,22 +72,12 @@ fn read_at(text: &[u8], start: usize, least: usize) -> Result<Piece, FaultKind>
 /// longer than the indentation of the first text line, [`FaultKind::TabIndent`] where a tab stands in
 /// the indentation of a line, and [`FaultKind::NoFinalBreak`] where the text ends in a line of the
 /// scalar. No memory is taken.
-#[tactic(auto, using(yq_block_scalars::proofs::BlockFound::found_by))]
 pub fn read_block(text: &str, at: usize, parent: i64) -> Result<Piece, FaultKind>
     requires { IsCharBoundary text.now at }
     ensures exact { Reads (λ p. p) result (reading.block_from parent at text.now) }
     ensures found { IfOk result (spec.IsBlockPiece parent at text.now) }
     ensures only { (p : Piece) → spec.IsBlockPiece parent at text.now p → result ≡ Ok p }
     ensures is_piece { IfOk result (IsReadPiece text.now) }
-    ensures fault { IfErr result (λ kind. spec.is_block_fault kind ≡ true) }
-{
-    block_from(text, at, parent)
-}
-
-#[tactic(auto, unfolding(yq_block_scalars::specs::BlockReading::block_from))]
-fn block_from(text: &str, at: usize, parent: i64) -> Result<Piece, FaultKind>
-    requires { IsCharBoundary text.now at }
-    ensures read { Reads (λ p. p) result (reading.block_from parent at text.now) }
     ensures fault { IfErr result (λ kind. spec.is_block_fault kind ≡ true) }
 {
     read_at(text.split_at(at).1.as_bytes(), at, least_indent(parent))

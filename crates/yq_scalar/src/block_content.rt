@@ -90,10 +90,7 @@ fn push_line(out: &mut String, text: &str, broken: bool) -> Result<(), AllocErro
         (text.now ++ spec.broken broken)) }
 {
     out.push_str(text)?;
-    if broken {
-        out.push_str("\n")?;
-    }
-    Ok(())
+    if broken { out.push_str("\n") } else { Ok(()) }
 }
 
 /// Whether an LF stands behind a line's text.
@@ -159,8 +156,7 @@ fn push_folded(
         }
         rest = after;
     }
-    push_ending(out, chomping, before, empty)?;
-    Ok(())
+    push_ending(out, chomping, before, empty)
 }
 
 /// Whether the last break is stripped.
@@ -182,11 +178,14 @@ fn content_of(
         (lines_of raw.now)) }
 {
     let mut out = String::with_capacity(alloc, raw.len())?;
-    match style {
-        BlockStyle::Literal => push_literal(&mut out, strips(chomping), indent, raw)?,
-        BlockStyle::Folded => push_folded(&mut out, chomping, indent, raw)?,
+    let added = match style {
+        BlockStyle::Literal => push_literal(&mut out, strips(chomping), indent, raw),
+        BlockStyle::Folded => push_folded(&mut out, chomping, indent, raw),
+    };
+    match added {
+        Ok(()) => Ok(out),
+        Err(e) => Err(e),
     }
-    Ok(out)
 }
 
 /// The style of a block scalar's piece.
@@ -217,20 +216,6 @@ fn indent_of(digit: Option<u8>, columns: usize, raw: &[u8]) -> TextIndent
     }
 }
 
-#[tactic(auto, unfolding(yq_block_scalars::specs::BlockReading::piece_content))]
-fn content_at(alloc: Global, text: &str, piece: &Piece) -> Result<String, AllocError>
-    requires header { piece.now.start < length text.now }
-    requires order { piece.now.raw_start ≤ piece.now.end }
-    requires begins { IsCharBoundary text.now piece.now.raw_start }
-    requires ends { IsCharBoundary text.now piece.now.end }
-    ensures { IfOk result (λ s. string_bytes s ≡ reading.piece_content text.now piece.now) }
-{
-    let (digit, chomping, _) = split_indicators(text.as_bytes().split_at(piece.start + 1).1);
-    let raw = &text[piece.raw_start..piece.end];
-    let indent = indent_of(digit, piece.indent, raw.as_bytes());
-    content_of(alloc, block_style(piece.style), chomping, indent, raw)
-}
-
 /// What the block scalar at a piece of a text stands for: its lines without their indentation, each
 /// break as an LF or folded, the breaks at the end as its header asks.
 pub(crate) fn block_content(alloc: Global, text: &str, piece: &Piece) -> Result<String, AllocError>
@@ -239,5 +224,8 @@ pub(crate) fn block_content(alloc: Global, text: &str, piece: &Piece) -> Result<
     ensures found { (n : ℤ) (p : IsBlockPiece n piece.now.start text.now piece.now) →
         IfOk result (λ s. string_bytes s ≡ spec.block_content p.block) }
 {
-    content_at(alloc, text, piece)
+    let (digit, chomping, _) = split_indicators(text.as_bytes().split_at(piece.start + 1).1);
+    let raw = &text[piece.raw_start..piece.end];
+    let indent = indent_of(digit, piece.indent, raw.as_bytes());
+    content_of(alloc, block_style(piece.style), chomping, indent, raw)
 }

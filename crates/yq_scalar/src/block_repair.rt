@@ -79,8 +79,7 @@ fn push_gap(
         let (line, after) = split_line(rest);
         if !is_blank(line.as_bytes()) {
             push_comment(out, indent, column, line)?;
-            out.push_str(after)?;
-            return Ok(());
+            return out.push_str(after);
         }
         push_blank(out, keep, indent, line)?;
         rest = after;
@@ -98,6 +97,8 @@ pub fn repair(alloc: Global, scalar: &Piece, column: usize, gap: &str) -> Result
         (spec.repair scalar.now.keep scalar.now.indent column (lines_of gap.now))) }
 {
     let mut out = String::with_capacity(alloc, gap.len().saturating_add(column))?;
-    push_gap(&mut out, scalar.keep, scalar.indent, column, gap)?;
-    Ok(out)
+    match push_gap(&mut out, scalar.keep, scalar.indent, column, gap) {
+        Ok(()) => Ok(out),
+        Err(e) => Err(e),
+    }
 }

@@ -57,8 +57,7 @@ fn push_written(out: &mut String, indent: usize, br: Break, text: &str) -> Resul
         push_spaces(out, indent)?;
         out.push_str(text)?;
     }
-    out.push_str(break_text(br))?;
-    Ok(())
+    out.push_str(break_text(br))
 }
 
 /// Adds the lines of a text.
@@ -104,6 +103,8 @@ pub fn write_block(
         (spec.written indent (spec.break_text br) (lines_of text.now))) }
 {
     let mut raw = String::with_capacity(alloc, written_len(indent, br, text))?;
-    push_lines(&mut raw, indent, br, text)?;
-    Ok((header_text(ends_in_feed(text.as_bytes())), raw))
+    match push_lines(&mut raw, indent, br, text) {
+        Ok(()) => Ok((header_text(ends_in_feed(text.as_bytes())), raw)),
+        Err(e) => Err(e),
+    }
 }

@@ -1,5 +1,7 @@
 //! Scalars as they are written in quotes.
-ghost use Rattle.std.specs.Prelude.{◌≡◌, ◌++◌, ◌<◌, ◌∷◌, [], OnOk, IfOk, string_bytes, true};
+ghost use Rattle.std.specs.List.{flat_map};
+ghost use Rattle.std.specs.Prelude.{◌≡◌, ◌==◌, ◌++◌, ◌<◌, ◌∷◌, [], OnOk, IfOk, encode_utf8, if◌then◌else◌, string_bytes, true};
+ghost use Rattle.std.specs.Str.{chars};
 ghost use Rattle.yq_flow_scalars.specs.Writable.{can_write};
 ghost use Rattle.yq_flow_scalars.specs.Written as spec;
 
@@ -38,30 +40,6 @@ fn push_digit(out: &mut String, digit: u32) -> Result<(), AllocError>
     out.push(char::from(first + digit as u8))
 }
 
-/// Adds a character in single quotes.
-fn push_single(out: &mut String, c: char) -> Result<(), AllocError>
-    ensures { OnOk result (string_bytes out.new ≡ string_bytes out.old ++ spec.in_single c) }
-{
-    if c == '\'' {
-        out.push_str("''")
-    } else {
-        out.push(c)
-    }
-}
-
-/// A string in single quotes.
-fn write_single(alloc: Global, text: &str) -> Result<String, AllocError>
-    ensures { IfOk result (λ s. string_bytes s ≡ spec.single text.now) }
-{
-    let mut out = String::new(alloc);
-    out.push('\'')?;
-    'each: for c in text.chars() {
-        push_single(&mut out, c)?;
-    }
-    out.push('\'')?;
-    Ok(out)
-}
-
 /// Adds a character by its number.
 fn push_code(out: &mut String, code: u32) -> Result<(), AllocError>
     ensures { OnOk result (string_bytes out.new ≡ string_bytes out.old ++ spec.code_escape code) }
@@ -97,16 +75,32 @@ fn push_double(out: &mut String, c: char) -> Result<(), AllocError>
     }
 }
 
-/// A string in double quotes.
-fn write_double(alloc: Global, text: &str) -> Result<String, AllocError>
-    ensures { IfOk result (λ s. string_bytes s ≡ spec.double text.now) }
+/// Adds a character in these quotes, double or single ones.
+fn push_quoted(out: &mut String, quote: char, c: char) -> Result<(), AllocError>
+    ensures { OnOk result (string_bytes out.new ≡ string_bytes out.old ++
+        (if quote == 34 then spec.in_double c else spec.in_single c)) }
+{
+    if quote == '"' {
+        push_double(out, c)
+    } else if c == '\'' {
+        out.push_str("''")
+    } else {
+        out.push(c)
+    }
+}
+
+/// A string in these quotes, double or single ones.
+fn write_quoted(alloc: Global, text: &str, quote: char) -> Result<String, AllocError>
+    ensures { IfOk result (λ s. string_bytes s ≡ encode_utf8 quote ++ (flat_map
+        (λ c. if quote == 34 then spec.in_double c else spec.in_single c) (chars text.now) ++
+        encode_utf8 quote)) }
 {
     let mut out = String::new(alloc);
-    out.push('"')?;
+    out.push(quote)?;
     'each: for c in text.chars() {
-        push_double(&mut out, c)?;
+        push_quoted(&mut out, quote, c)?;
     }
-    out.push('"')?;
+    out.push(quote)?;
     Ok(out)
 }
 
@@ -122,8 +116,8 @@ pub fn write_scalar(
     ensures { IfOk result (λ s. string_bytes s ≡ spec.written style scalar.now.text) }
 {
     match style {
-        Style::Single => write_single(alloc, scalar.text()),
-        Style::Double => write_double(alloc, scalar.text()),
+        Style::Single => write_quoted(alloc, scalar.text(), '\''),
+        Style::Double => write_quoted(alloc, scalar.text(), '"'),
         Style::Plain | Style::Literal | Style::Folded => String::from_str(alloc, scalar.text()),
     }
 }

@@ -110,10 +110,7 @@ pub fn known_along(
         from = Some(at);
         left = others;
     }
-    match from {
-        Some(at) => (found, Some(at)),
-        None => (found, None),
-    }
+    (found, from)
 }
 
 /// The line to which steps lead, as one that is known.

@@ -1,6 +1,7 @@
 //! What the nodes at paths are, each read from the rows that tell it.
 ghost use Rattle.std.specs.Prelude.{◌≡◌, map, option_map, false, IfOk, None};
 ghost use Rattle.yq_nodes.specs.Entries.{step_of};
+ghost use Rattle.yq_flow_scalars.specs.Paths.{node_at};
 ghost use Rattle.yq_nodes.specs.Trees.{placed_tree};
 ghost use Rattle.yq_nodes.specs.View as inline;
 ghost use Rattle.yq_lines.specs.Ends.{part};
@@ -55,20 +56,27 @@ impl<'t> NodeAt<'t> {
     }
 }
 
-/// What an inline node is.
-fn inline_node<'t>(alloc: Global, node: &Inline<'t>) -> Result<NodeAt<'t>, AllocError>
-    ensures { IfOk result (λ n. spec.node_view n ≡ spec.node_summary
-        (placed_tree (inline.view node.now))) }
+/// What the node is to which steps lead in an inline node, if there is one.
+fn inline_node<'t>(
+    alloc: Global,
+    node: &Inline<'t>,
+    steps: &[Step],
+) -> Result<Option<NodeAt<'t>>, AllocError>
+    ensures { IfOk result (λ o. option_map spec.node_view o ≡ option_map spec.node_summary
+        (node_at (map step_of steps.now) (placed_tree (inline.view node.now)))) }
 {
-    match &node.form {
-        Form::Empty => Ok(NodeAt::Scalar(Kind::Null, Content::Slice("null"))),
-        Form::Alias(_) => Ok(NodeAt::Alias),
+    let Some(entry) = node.entry(steps) else {
+        return Ok(None);
+    };
+    match &entry.node.form {
+        Form::Empty => Ok(Some(NodeAt::Scalar(Kind::Null, Content::Slice("null")))),
+        Form::Alias(_) => Ok(Some(NodeAt::Alias)),
         Form::Scalar(scalar, _) => {
             let text = String::from_str(alloc, scalar.text())?;
-            Ok(NodeAt::Scalar(scalar.kind(), Content::Own(text)))
+            Ok(Some(NodeAt::Scalar(scalar.kind(), Content::Own(text))))
         }
-        Form::List(items) => Ok(NodeAt::List(items.len() > 1)),
-        Form::Map(entries) => Ok(NodeAt::Map(entries.len() > 1)),
+        Form::List(items) => Ok(Some(NodeAt::List(items.len() > 1))),
+        Form::Map(entries) => Ok(Some(NodeAt::Map(entries.len() > 1))),
     }
 }
 
@@ -89,13 +97,7 @@ pub fn head_node<'t>(
             }
             Ok(Some(NodeAt::Scalar(kind, text)))
         }
-        Head::Inline(node) => {
-            let Some(entry) = node.entry(steps) else {
-                return Ok(None);
-            };
-            let found = inline_node(alloc, entry.node)?;
-            Ok(Some(found))
-        }
+        Head::Inline(node) => inline_node(alloc, &node, steps),
     }
 }
 

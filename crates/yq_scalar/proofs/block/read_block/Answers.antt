@@ -1,11 +1,19 @@
-use Rattle.std.proofs.Common.{w64}
-use Rattle.std.proofs.lemmas.Int.{to_z-of_z}
-use Rattle.yq_block_scalars.proofs.BlockFound.{only_by}
+use Rattle.std.proofs.Common.{rules}
+use Rattle.yq_flow_scalars.specs.Answers.{Reads}
+use Rattle.yq_block_scalars.specs.BlockReading.{block_from}
+use Rattle.yq_block_scalars.proofs.BlockFound.{found_by, only_by}
 use Rattle.yq_block_scalars.proofs.ScalarPieceLaws.{block_is_piece}
 use Rattle.yq_scalar.proofs.block.read_block.Goals as goal
 
-pub returns-clause-only : goal.returns-clause-only
-returns-clause-only c = only_by c.args.parent c.args.at c.args.text.now c.block_from.result (rw (to_z-of_z w64 c.args.parent c.ranges.parent) at c.block_from.ensures.read)
+read : (c : goal.After-read_at) → Reads (λ p. p) c.read_at.result (block_from c.args.parent c.args.at c.args.text.now)
+unfolding block_from
+read c = search rules
 
-pub returns-clause-is_piece : goal.returns-clause-is_piece
-returns-clause-is_piece c = block_is_piece c.args.parent c.args.at c.args.text.now c.block_from.result c.requires (rw (to_z-of_z w64 c.args.parent c.ranges.parent) at c.block_from.ensures.read)
+pub returns : goal.returns
+returns c = record {
+  exact = read c;
+  found = found_by c.args.parent c.args.at c.args.text.now c.read_at.result (read c);
+  only = only_by c.args.parent c.args.at c.args.text.now c.read_at.result (read c);
+  is_piece = block_is_piece c.args.parent c.args.at c.args.text.now c.read_at.result c.requires (read c);
+  fault = c.read_at.ensures.fault;
+}

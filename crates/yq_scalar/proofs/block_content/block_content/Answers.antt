@@ -1,19 +1,18 @@
-use Rattle.std.proofs.Common.{string_bytes}
+use Rattle.std.proofs.Common.{rules, string_bytes, IfOk, ◌≡◌}
+use Rattle.std.specs.Str.{IsCharBoundary}
+use Rattle.yq_block_scalars.specs.BlockReading.{piece_content}
 use Rattle.yq_block_scalars.proofs.BlockPieceLaws.{stands, content_is}
 use Rattle.yq_flow_scalars.proofs.ContentLaws.{if_ok_same}
 use Rattle.yq_scalar.proofs.block_content.block_content.Goals as goal
 
-pub content_at-requires-clause-header : goal.content_at-requires-clause-header
-content_at-requires-clause-header c = (stands c.requires.0 c.args.text.now c.args.piece.now c.utf8.text c.requires.1).header
+pub range-raw-requires-clause-start_boundary : goal.range-raw-requires-clause-start_boundary
+range-raw-requires-clause-start_boundary c = let at : IsCharBoundary c.args.text.now c.args.piece.now.raw_start = (stands c.requires.0 c.args.text.now c.args.piece.now c.utf8.text c.requires.1).begins in search rules
 
-pub content_at-requires-clause-order : goal.content_at-requires-clause-order
-content_at-requires-clause-order c = (stands c.requires.0 c.args.text.now c.args.piece.now c.utf8.text c.requires.1).order
+pub range-raw-requires-clause-end_boundary : goal.range-raw-requires-clause-end_boundary
+range-raw-requires-clause-end_boundary c = let at : IsCharBoundary c.args.text.now c.args.piece.now.end = (stands c.requires.0 c.args.text.now c.args.piece.now c.utf8.text c.requires.1).ends in search rules
 
-pub content_at-requires-clause-begins : goal.content_at-requires-clause-begins
-content_at-requires-clause-begins c = (stands c.requires.0 c.args.text.now c.args.piece.now c.utf8.text c.requires.1).begins
-
-pub content_at-requires-clause-ends : goal.content_at-requires-clause-ends
-content_at-requires-clause-ends c = (stands c.requires.0 c.args.text.now c.args.piece.now c.utf8.text c.requires.1).ends
-
-pub returns-clause-found : goal.returns-clause-found
-returns-clause-found c = λ n p. if_ok_same c.content_at.result (λ s. string_bytes s) _ _ c.content_at.ensures (content_is n c.args.text.now c.args.piece.now p)
+pub returns : goal.returns
+unfolding piece_content
+returns c =
+    let exact : IfOk c.content_of.result (λ s. string_bytes s ≡ piece_content c.args.text.now c.args.piece.now) = search rules in
+    record { exact = exact; found = λ n p. if_ok_same c.content_of.result (λ s. string_bytes s) _ _ exact (content_is n c.args.text.now c.args.piece.now p) }

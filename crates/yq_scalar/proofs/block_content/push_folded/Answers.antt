@@ -1,4 +1,5 @@
 use Rattle.std.proofs.Common.{arith, rules}
+use Rattle.std.proofs.lemmas.Result.{on_ok_weaker}
 use Rattle.yq_block_scalars.proofs.BlockSteps.{at_cut, at_end}
 use Rattle.yq_block_scalars.proofs.BlockContentSteps.{fold_blank, fold_text, fold_end}
 use Rattle.yq_scalar.proofs.block_content.push_folded.Goals as goal
@@ -29,4 +30,4 @@ each-preserved c =
     }
 
 pub returns : goal.returns
-returns c = fold_end c.args.chomping c.args.indent c.each.before c.each.empty _ _ _ _ (at_end _ _ c.is_empty.ensures c.each-test.false) c.in_ok-push_ending.ensures c.each.invariant.so_far
+returns c = on_ok_weaker c.push_ending.result (λ added. fold_end c.args.chomping c.args.indent c.each.before c.each.empty _ _ _ _ (at_end _ _ c.is_empty.ensures c.each-test.false) added c.each.invariant.so_far) c.push_ending.ensures
