@@ -10,7 +10,6 @@ use Rattle.yq_matching.specs.PlaceView.{put_behind}
 use Rattle.yq_meaning.specs.Places.{Place, for_each}
 use Rattle.yq_program.specs.Program.{Stage, Term, Update, assign}
 use Rattle.yq_meaning.specs.RightValues.{right_value}
-use Rattle.yq_matching.specs.declared.matching.place.Place as declared
 use Rattle.yq_program.specs.declared.program.Operator.{Operator}
 use Rattle.yq_program.specs.declared.program.Operator.TheVariants as operator
 use Rattle.yq_meaning.specs.declared.expr_error.ExprError.{ExprError}

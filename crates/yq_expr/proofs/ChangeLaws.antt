@@ -9,7 +9,7 @@ use Rattle.yq_meaning.specs.Changes.{nested, created, put_below}
 use Rattle.yq_meaning.specs.Judgement.{gives, refuses}
 use Rattle.yq_meaning.specs.declared.refusal.Refusal.TheVariants.{IndexOutOfRange}
 use Rattle.yq_program.proofs.Lists.{list_any_map}
-use Rattle.yq_program.specs.Program.{is_index, Step, key, index, each}
+use Rattle.yq_program.specs.Program.{is_index, Step, key}
 
 -- a value under one key more, inside the others
 pub nested_last : (ms : List Step) (m : Step) (v : Node) → nested (ms ++ m ∷ []) v ≡ nested ms (nested (m ∷ []) v)

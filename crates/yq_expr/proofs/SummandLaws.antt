@@ -1,8 +1,7 @@
 -- The sum of two scalars with which a right side begins.
 use Rattle.std.proofs.Common.{refl, ◌≡◌, ℕ, cond, false, List, [], ◌∷◌, length, map, get_or, None, sym, ap, ◌∙◌, arith}
 use Rattle.yq_flow_scalars.specs.declared.kind.Kind.{Kind}
-use Rattle.yq_flow_scalars.specs.Tree as tree
-use Rattle.yq_flow_scalars.specs.Tree.{Node, alias, scalar, list}
+use Rattle.yq_flow_scalars.specs.Tree.{Node, scalar}
 use Rattle.yq_document_nodes.specs.Nodes.{kind_of, text_of}
 use Rattle.yq_document_nodes.specs.declared.nodes.node.NodeKind.TheVariants as kinds
 use Rattle.yq_expr.specs.Summand.{IsSummand}

@@ -83,10 +83,12 @@ fn value_each<'a, 't>(
         (if adds then spec.add_at else spec.put_at) (found_places places.now)) }
 {
     let value = right_value(alloc, doc, right, &Place::of_root(root))?;
-    if adds {
-        return at_found(alloc, documents, doc, aliases, Action::Add(&value), places);
-    }
-    at_found(alloc, documents, doc, aliases, Action::Put(&value), places)
+    let effect = if adds {
+        Action::Add(&value)
+    } else {
+        Action::Put(&value)
+    };
+    at_found(alloc, documents, doc, aliases, effect, places)
 }
 
 /// What an assignment changes at places of document `doc`, which has that root.
@@ -153,23 +155,6 @@ fn changes_in(
     changes_at(alloc, documents, doc, root, update, &places)
 }
 
-/// What an update changes in each document.
-fn all_changes(
-    alloc: Global,
-    update: &Update,
-    documents: &Documents<'_>,
-) -> Result<Vec<Vec<Changed>>, ExprError>
-    ensures { Judges (λ v. all_changed_of v.items) result (spec.changes_from (update_of update.now)
-        (room_of documents.now) 0 (roots_of (documents_of documents.now))) }
-{
-    documents.are_ready();
-    let mut changes = Vec::new(alloc);
-    'documents: for doc in 0..documents.count() {
-        changes.push(changes_in(alloc, documents, doc, documents.root(doc), update)?)?;
-    }
-    Ok(changes)
-}
-
 /// What an update changes in each document, or the first refusal.
 pub(crate) fn changes(
     alloc: Global,
@@ -182,5 +167,10 @@ pub(crate) fn changes(
     if !has_comment(update) {
         return Err(ExprError::Refused(Refusal::BadCommentText));
     }
-    all_changes(alloc, update, documents)
+    documents.are_ready();
+    let mut changes = Vec::new(alloc);
+    'documents: for doc in 0..documents.count() {
+        changes.push(changes_in(alloc, documents, doc, documents.root(doc), update)?)?;
+    }
+    Ok(changes)
 }

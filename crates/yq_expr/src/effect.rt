@@ -45,8 +45,8 @@ fn add(alloc: Global, place: &Place<'_, '_>, value: &Value) -> Result<Option<Cha
         return Ok(None);
     }
     match place.missing {
-        Missing::Nothing => Ok(Some(added(alloc, &place.node, value)?)),
-        Missing::Further(..) => Ok(Some(put(alloc, place, copied(alloc, value)?)?)),
+        Missing::Nothing => added(alloc, &place.node, value).map(Some),
+        Missing::Further(..) => put(alloc, place, copied(alloc, value)?),
     }
 }
 
@@ -123,11 +123,8 @@ pub(crate) fn change_at<'a, 't>(
         (place_of place.now)) }
 {
     match effect {
-        Action::Put(value) => Ok(Some(put(alloc, place, copied(alloc, value)?)?)),
-        Action::Modify(terms) => {
-            let value = right_value(alloc, path.doc, terms, place)?;
-            Ok(Some(put(alloc, place, value)?))
-        }
+        Action::Put(value) => put(alloc, place, copied(alloc, value)?),
+        Action::Modify(terms) => put(alloc, place, right_value(alloc, path.doc, terms, place)?),
         Action::Add(value) => add(alloc, place, value),
         Action::Remove => remove(place),
         Action::SetComment(comment, text) => { set_comment(alloc, cut, path, comment, text, place) }

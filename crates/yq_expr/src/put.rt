@@ -2,12 +2,9 @@
 ghost use Rattle.std.specs.List.{list_any};
 ghost use Rattle.std.specs.Prelude.{◌≡◌, ◌∷◌, [], IfOk, map};
 ghost use Rattle.yq_nodes.specs.Values.{node_of as value_node};
-ghost use Rattle.yq_flow_scalars.specs.Tree as tree;
 ghost use Rattle.yq_document_nodes.specs.Nodes.{node_of};
-ghost use Rattle.yq_documents.specs.TreeEdits.{new_label};
 ghost use Rattle.yq_meaning.specs.Changes as spec;
-ghost use Rattle.yq_planning.specs.ChangeView.{change_of};
-ghost use Rattle.yq_planning.specs.ChangeView.{placed_change};
+ghost use Rattle.yq_planning.specs.ChangeView.{change_of, placed};
 ghost use Rattle.yq_meaning.specs.Judgement.{Judges};
 ghost use Rattle.yq_matching.specs.PlaceView.{place_of};
 ghost use Rattle.yq_program.specs.Program.{is_index};
@@ -29,26 +26,18 @@ fn has_index(steps: &[&Step]) -> bool
     steps.iter().any(|step| is_index(step))
 }
 
-/// The mapping of one entry.
-fn single(alloc: Global, key: &str, value: Value) -> Result<Value, AllocError>
-    ensures { IfOk result (λ v. value_node v ≡ tree.map None
-        (tree.child (new_label (Some key.now)) (value_node value) tree.none)) }
-{
-    let key = String::from_str(alloc, key)?;
-    let mut entries = Vec::with_capacity(alloc, 1)?;
-    entries.push((key, value))?;
-    Ok(Value::Map(entries))
-}
-
-/// A value under one key more.
+/// A value under one key more, in the mapping of one entry.
 fn under(alloc: Global, step: &Step, value: Value) -> Result<Value, AllocError>
     ensures { IfOk result (λ v. value_node v ≡ spec.nested (step_of step.now ∷ [])
         (value_node value)) }
 {
-    match step {
-        Step::Key(key) => single(alloc, key.as_str(), value),
-        Step::Index(_) | Step::Each => Ok(value),
-    }
+    let Step::Key(key) = step else {
+        return Ok(value);
+    };
+    let mut entries = Vec::with_capacity(alloc, 1)?;
+    let key = String::from_str(alloc, key.as_str())?;
+    entries.push((key, value))?;
+    Ok(Value::Map(entries))
 }
 
 /// A value under keys, a mapping of one entry for each.
@@ -70,11 +59,11 @@ fn appended(alloc: Global, step: &Step, value: Value) -> Result<Change, AllocErr
     ensures { IfOk result (λ c. change_of c ≡ spec.adds (spec.appends
         (spec.step_key (step_of step.now)) (value_node value) ∷ [])) }
 {
+    let mut additions = Vec::with_capacity(alloc, 1)?;
     let key = match step {
         Step::Key(key) => Some(String::from_str(alloc, key.as_str())?),
         Step::Index(_) | Step::Each => None,
     };
-    let mut additions = Vec::with_capacity(alloc, 1)?;
     additions.push(Addition::Appends(key, value))?;
     Ok(Change::Adds(additions))
 }
@@ -120,13 +109,13 @@ fn put_below(
 }
 
 /// What a value changes that is put at a place.
-pub fn put(alloc: Global, place: &Place<'_, '_>, value: Value) -> Result<Change, ExprError>
-    ensures { Judges (placed_change (place_of place.now)) result
+pub fn put(alloc: Global, place: &Place<'_, '_>, value: Value) -> Result<Option<Change>, ExprError>
+    ensures { Judges (placed (place_of place.now)) result
         (spec.put_at (place_of place.now) (value_node value)) }
 {
     if let Missing::Nothing = place.missing {
-        return Ok(Change::Replaces(value));
+        return Ok(Some(Change::Replaces(value)));
     }
     let missing = missing_steps(alloc, place.missing)?;
-    put_below(alloc, &place.node, &missing, value)
+    put_below(alloc, &place.node, &missing, value).map(Some)
 }

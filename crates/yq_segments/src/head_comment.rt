@@ -25,8 +25,7 @@ fn push_line(out: &mut String, column: usize, br: &str, text: &str) -> Result<()
         out.push(' ')?;
         out.push_str(text)?;
     }
-    out.push_str(br)?;
-    Ok(())
+    out.push_str(br)
 }
 
 /// The lines of a head comment with a text: one for each line of that.

@@ -80,5 +80,5 @@ pub fn line_comment_at<'t>(
     let Some(held) = cut.held(path) else {
         return Ok(None);
     };
-    Ok(Some(comment_put(alloc, text, &held)?))
+    comment_put(alloc, text, &held).map(Some)
 }

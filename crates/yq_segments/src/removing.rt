@@ -42,8 +42,7 @@ fn push_indented<'t>(
     let (white, rest) = split_white(line);
     let indent = spaces(alloc, column)?;
     segments.push(Segment::Put(Halves::of(white), indent))?;
-    segments.push(Segment::Keep(Halves::of(rest)))?;
-    Ok(())
+    segments.push(Segment::Keep(Halves::of(rest)))
 }
 
 /// Adds a blank line that comes to stand behind a block scalar.
@@ -57,12 +56,10 @@ fn push_blank<'t>(
         segments.old ++ spec.blank_mended (seam_view seam) line.now) }
 {
     if seam.keeps {
-        segments.push(Segment::Put(Halves::of(line), String::new(alloc)))?;
-        return Ok(());
+        return segments.push(Segment::Put(Halves::of(line), String::new(alloc)));
     }
     if is_short(seam.indent, line.as_bytes()) {
-        segments.push(Segment::Keep(Halves::of(line)))?;
-        return Ok(());
+        return segments.push(Segment::Keep(Halves::of(line)));
     }
     push_indented(alloc, segments, 0, line)
 }
@@ -78,8 +75,7 @@ fn push_comment<'t>(
         segments.old ++ spec.comment_mended (seam_view seam) line.now) }
 {
     if is_outside(seam.indent, line.as_bytes()) {
-        segments.push(Segment::Keep(Halves::of(line)))?;
-        return Ok(());
+        return segments.push(Segment::Keep(Halves::of(line)));
     }
     push_indented(alloc, segments, seam.column, line)
 }
@@ -120,10 +116,7 @@ fn push_gap<'t>(
 {
     match seam {
         Some(seam) => push_lines(alloc, segments, seam, gap),
-        None => {
-            segments.push(Segment::Keep(Halves::of(gap)))?;
-            Ok(())
-        }
+        None => segments.push(Segment::Keep(Halves::of(gap))),
     }
 }
 
@@ -168,10 +161,10 @@ pub fn one_removed<'d>(
         (cut_of cut.now)) }
 {
     if let Some(removal) = cut.removal(path) {
-        return Ok(Some(take_out(alloc, &removal)?));
+        return take_out(alloc, &removal).map(Some);
     }
     let Some(removal) = cut.first_removal(path) else {
         return Ok(None);
     };
-    Ok(Some(take_first(alloc, &removal)?))
+    take_first(alloc, &removal).map(Some)
 }

@@ -55,9 +55,9 @@ fn entry_text(
     let mut out = String::new(alloc);
     if last.is_empty() {
         out.push_str(break_text(layout.br))?;
-        push_lines(alloc, &mut out, layout, column, key, value)?;
-    } else {
-        push_lines(alloc, &mut out, layout, column, key, value)?;
+    }
+    push_lines(alloc, &mut out, layout, column, key, value)?;
+    if !last.is_empty() {
         out.push_str(break_text(layout.br))?;
     }
     Ok(out)
@@ -142,15 +142,15 @@ pub fn more_at<'t>(
     match cut.standing(path) {
         Some(Standing::Under(held, column)) => {
             let new = more_lines(alloc, cut, doc, key, value, column, held.last)?;
-            Ok(Some(behind_held(alloc, &held, new)?))
+            behind_held(alloc, &held, new).map(Some)
         }
         Some(Standing::Compact(p)) => {
             let new = more_lines(alloc, cut, doc, key, value, p.column, p.last)?;
-            Ok(Some(behind_lines(alloc, p.before, p.old, p.last, new, p.behind)?))
+            behind_lines(alloc, p.before, p.old, p.last, new, p.behind).map(Some)
         }
         Some(Standing::Root(w)) => {
             let new = more_lines(alloc, cut, doc, key, value, w.column, w.last)?;
-            Ok(Some(behind_lines(alloc, w.before, w.old, w.last, new, w.behind)?))
+            behind_lines(alloc, w.before, w.old, w.last, new, w.behind).map(Some)
         }
         _ => Ok(None),
     }

@@ -88,7 +88,7 @@ fn all_of<'a, 't>(
         let place = bump.try_alloc(*place)?;
         return Ok(FoundPlaces::Children(place));
     }
-    Ok(FoundPlaces::Listed(step_each(alloc, bump, last, places)?))
+    step_each(alloc, bump, last, places).map(FoundPlaces::Listed)
 }
 
 /// Where a pipe leads in document `doc`, which has that root.
@@ -103,7 +103,7 @@ pub fn find_places<'a, 't>(
         (node_of root.entry)) }
 {
     let Some((front, last)) = before_each(pipe) else {
-        return Ok(FoundPlaces::Listed(find(alloc, bump, doc, pipe, root)?));
+        return find(alloc, bump, doc, pipe, root).map(FoundPlaces::Listed);
     };
     let start = Place::of_root(&root).alone(alloc)?;
     let places = traverse(alloc, bump, front, start)?;

@@ -129,8 +129,6 @@ impl<'a, 't> Place<'a, 't> {
     pub fn alone(&self, alloc: Global) -> Result<Vec<Place<'a, 't>>, AllocError>
         ensures { IfOk result (λ v. places_of v.items ≡ place_of self.now ∷ []) }
     {
-        let mut places = Vec::with_capacity(alloc, 1)?;
-        places.push(*self)?;
-        Ok(places)
+        Ok(vec![in alloc; *self]?)
     }
 }

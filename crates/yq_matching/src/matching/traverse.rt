@@ -118,17 +118,12 @@ fn push_step<'a, 't>(
     if let Missing::Further(..) = place.missing {
         return Ok(push_missing(bump, step, place, places)?);
     }
-    match step {
-        Step::Key(key) => {
-            let found = key_step(&place.node, key.as_str())?;
-            Ok(push_found(bump, step, place, &found, places)?)
-        }
-        Step::Index(index) => {
-            let found = index_step(&place.node, *index)?;
-            Ok(push_found(bump, step, place, &found, places)?)
-        }
-        Step::Each => push_all(bump, place, places),
-    }
+    let found = match step {
+        Step::Key(key) => key_step(&place.node, key.as_str())?,
+        Step::Index(index) => index_step(&place.node, *index)?,
+        Step::Each => return push_all(bump, place, places),
+    };
+    Ok(push_found(bump, step, place, &found, places)?)
 }
 
 /// Where a step leads from places, one after the other.

@@ -32,13 +32,6 @@ fn to_scalar(alloc: Global, kind: Kind, text: &str, value: &Value) -> Result<Cha
     }
 }
 
-/// One item more.
-fn item(alloc: Global, value: &Value) -> Result<Addition, AllocError>
-    ensures { IfOk result (λ x. addition_of x ≡ spec.appends None (value_node value.now)) }
-{
-    Ok(Addition::Appends(None, copied(alloc, value)?))
-}
-
 /// The items of a list.
 fn items(alloc: Global, values: &Vec<Value>) -> Result<Vec<Addition>, AllocError>
     ensures { IfOk result (λ v. map addition_of v.items ≡
@@ -46,7 +39,7 @@ fn items(alloc: Global, values: &Vec<Value>) -> Result<Vec<Addition>, AllocError
 {
     let mut additions = Vec::new(alloc);
     'values: for value in values {
-        additions.push(item(alloc, value)?)?;
+        additions.push(Addition::Appends(None, copied(alloc, value)?))?;
     }
     Ok(additions)
 }
@@ -60,7 +53,7 @@ fn to_list(alloc: Global, value: &Value) -> Result<Vec<Addition>, AllocError>
         return items(alloc, values);
     }
     let mut additions = Vec::with_capacity(alloc, 1)?;
-    additions.push(item(alloc, value)?)?;
+    additions.push(Addition::Appends(None, copied(alloc, value)?))?;
     Ok(additions)
 }
 

@@ -70,13 +70,13 @@ fn push_change(
         doc,
         steps: changed.path,
     };
-    match changed.change {
-        Change::Replaces(value) => ops.push(Op::Replace(path, value))?,
-        Change::Adds(additions) => push_adds(alloc, &path, additions, ops)?,
-        Change::Removes => ops.push(Op::Remove(path))?,
-        Change::SetsComment(place, text) => ops.push(comment_op(path, place, text))?,
-    }
-    Ok(())
+    let op = match changed.change {
+        Change::Replaces(value) => Op::Replace(path, value),
+        Change::Adds(additions) => return push_adds(alloc, &path, additions, ops),
+        Change::Removes => Op::Remove(path),
+        Change::SetsComment(place, text) => comment_op(path, place, text),
+    };
+    Ok(ops.push(op)?)
 }
 
 /// Changes in the order in which they are made: removals last to first, since

@@ -139,20 +139,6 @@ fn put_entries(
     Ok(())
 }
 
-/// The entries of two mappings.
-fn joined(
-    alloc: Global,
-    entries: Vec<(String, Value)>,
-    others: Vec<(String, Value)>,
-) -> Result<Vec<(String, Value)>, AllocError>
-    ensures { IfOk result (λ v. entries_of v.items ≡ spec.with_entries (entries_of entries.items)
-        (entries_of others.items)) }
-{
-    let mut all = entries;
-    put_entries(alloc, &mut all, others)?;
-    Ok(all)
-}
-
 /// The sum of two values, neither of which is null.
 fn value_sum(alloc: Global, one: Value, other: Value) -> Result<Value, ExprError>
     ensures { Judges node_of result (spec.value_sum (node_of one) (node_of other)) }
@@ -166,7 +152,11 @@ fn value_sum(alloc: Global, one: Value, other: Value) -> Result<Value, ExprError
             push_items(&mut all, added)?;
             Ok(Value::List(all))
         }
-        (Value::Map(entries), Value::Map(added)) => Ok(Value::Map(joined(alloc, entries, added)?)),
+        (Value::Map(entries), Value::Map(added)) => {
+            let mut all = entries;
+            put_entries(alloc, &mut all, added)?;
+            Ok(Value::Map(all))
+        }
         _ => Err(ExprError::Refused(Refusal::KindMismatch)),
     }
 }

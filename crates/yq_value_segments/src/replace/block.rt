@@ -8,7 +8,7 @@ ghost use Rattle.yq_row_places.specs.StandingViews.{held_view, held_mark_view};
 ghost use Rattle.yq_edits.specs.ReplaceEdits as spec;
 ghost use Rattle.yq_edits.specs.WrittenValues.{column_under, lines, lines_in, written_at};
 
-use crate::replace::held::{put_compact, put_inline};
+use crate::replace::held::{put_filled, put_inline};
 use std::alloc::{AllocError, Global};
 use yq_block::{Layout, is_filled};
 use yq_edits::{lines_and_break, takes_compact, value_text};
@@ -124,7 +124,7 @@ fn block_put<'t>(
         return put_inline(alloc, held, text);
     }
     if takes_compact(held.mark) {
-        put_compact(alloc, layout, held, value)
+        put_filled(alloc, layout, held, true, value)
     } else {
         lines_put(alloc, layout, held, value)
     }

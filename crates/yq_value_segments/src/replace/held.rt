@@ -1,5 +1,5 @@
 //! A value in the place of what a key or dash holds, or of a compact collection.
-ghost use Rattle.std.specs.Prelude.{◌≡◌, ℕ, List, [], false, IfOk, string_bytes};
+ghost use Rattle.std.specs.Prelude.{◌≡◌, ℕ, List, [], false, IfOk, if◌then◌else◌, string_bytes};
 ghost use Rattle.yq_nodes.specs.Values.{node_of};
 ghost use Rattle.yq_block_scalars.specs.BlockWritten.{break_text};
 ghost use Rattle.yq_row_places.specs.StandingViews.{compact_view, held_view, held_mark_view};
@@ -44,19 +44,34 @@ pub(crate) fn put_inline<'t>(
     Ok(Segments::new(segments))
 }
 
-/// A collection that begins on the line of a dash, in the place of the white space and the head;
-/// lines below go.
-pub(crate) fn put_compact<'t>(
+/// A collection in the place of the white space and the head, or of lines below: a compact one begins on
+/// the line of a dash.
+pub(crate) fn put_filled<'t>(
     alloc: Global,
     layout: &Layout,
     held: &Held<'t>,
+    compact: bool,
     value: &Value,
 ) -> Result<Segments<'t>, AllocError>
     ensures { IfOk result (λ ss. ss ≡
-        spec.held_put (break_text layout.now.br) (held_view held.now) (written.compact_text
-        (block_value layout.now (item_column held.now.mark.column) (node_of value.now)))) }
+        spec.held_put (break_text layout.now.br) (held_view held.now) (if compact
+        then written.compact_text (block_value layout.now (item_column held.now.mark.column)
+        (node_of value.now))
+        else written.lines (written.lines_in layout.now
+        (written.column_under layout.now (held_mark_view held.now.mark) (node_of value.now))
+        (node_of value.now)))) }
 {
-    let new = compact_text(alloc, layout, held.mark, value)?;
+    let (new, lines) = if compact {
+        (
+            compact_text(alloc, layout, held.mark, value)?,
+            String::new(alloc),
+        )
+    } else {
+        (
+            String::new(alloc),
+            break_and_lines(alloc, layout, held.mark, value)?,
+        )
+    };
     let gone = Halves {
         front: held.space,
         back: held.head,
@@ -67,38 +82,7 @@ pub(crate) fn put_compact<'t>(
         Segment::Keep(Halves::of(held.white)),
         Segment::Keep(Halves::of(held.comment)),
         Segment::Put(Halves::of(held.line_break), String::new(alloc)),
-        Segment::Put(held.lines, String::new(alloc)),
-        Segment::Keep(Halves::of(held.last)),
-        Segment::Keep(held.behind),
-    ]?;
-    Ok(Segments::new(segments))
-}
-
-/// A collection on lines in the place of those below; the white space and the head go.
-fn put_lines<'t>(
-    alloc: Global,
-    layout: &Layout,
-    held: &Held<'t>,
-    value: &Value,
-) -> Result<Segments<'t>, AllocError>
-    ensures { IfOk result (λ ss. ss ≡
-        spec.held_put (break_text layout.now.br) (held_view held.now)
-        (written.lines (written.lines_in layout.now
-        (written.column_under layout.now (held_mark_view held.now.mark) (node_of value.now))
-        (node_of value.now)))) }
-{
-    let new = break_and_lines(alloc, layout, held.mark, value)?;
-    let gone = Halves {
-        front: held.space,
-        back: held.head,
-    };
-    let segments = vec![in alloc;
-        Segment::Keep(held.before),
-        Segment::Put(gone, String::new(alloc)),
-        Segment::Keep(Halves::of(held.white)),
-        Segment::Keep(Halves::of(held.comment)),
-        Segment::Put(Halves::of(held.line_break), String::new(alloc)),
-        Segment::Put(held.lines, new),
+        Segment::Put(held.lines, lines),
         Segment::Keep(Halves::of(held.last)),
         Segment::Keep(held.behind),
     ]?;
@@ -135,11 +119,7 @@ pub(crate) fn beside_put<'t>(
     if !is_filled(value) {
         return text_put(alloc, held, value);
     }
-    if takes_compact(held.mark) {
-        put_compact(alloc, layout, held, value)
-    } else {
-        put_lines(alloc, layout, held, value)
-    }
+    put_filled(alloc, layout, held, takes_compact(held.mark), value)
 }
 
 /// A value in the place of a block collection on lines below.
@@ -154,7 +134,7 @@ pub(crate) fn under_put<'t>(
         layout.now (held_mark_view held.now.mark) (node_of value.now))) }
 {
     if is_filled(value) {
-        return put_lines(alloc, layout, held, value);
+        return put_filled(alloc, layout, held, false, value);
     }
     let text = value_text(alloc, Place::Block, b"", value)?;
     put_inline(alloc, held, text)

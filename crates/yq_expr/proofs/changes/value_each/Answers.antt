@@ -1,11 +1,11 @@
-use Rattle.std.proofs.Common.{if◌then◌else◌, Err, Vec, map, sym, ap, ◌∙◌, subst}
+use Rattle.std.proofs.Common.{◌≡◌, if◌then◌else◌, Err, Vec, map, sym, ap, ◌∙◌, subst}
 use Rattle.std.proofs.lemmas.Result.{err_from_is_err_and}
 use Rattle.std.specs.declared.alloc.Global.{Global}
 use Rattle.yq_nodes.specs.Values.{node_of as value_node}
 use Rattle.yq_document_nodes.specs.Nodes.{node_of}
 use Rattle.yq_meaning.specs.Changes.{add_at, put_at}
 use Rattle.yq_planning.specs.ChangeView.{changed_of}
-use Rattle.yq_meaning.specs.Judgement.{MatchFails, Judges}
+use Rattle.yq_meaning.specs.Judgement.{MatchFails, Judges, gives}
 use Rattle.yq_matching.specs.FoundView.{found_places}
 use Rattle.yq_meaning.specs.Places.{root_place}
 use Rattle.yq_meaning.specs.RightValues.{right_value}
@@ -13,6 +13,7 @@ use Rattle.yq_program.specs.View.{term_of}
 use Rattle.yq_planning.specs.declared.updating.change.Changed.{Changed}
 use Rattle.yq_expr.proofs.AllChanges.{value_there, value_fails}
 use Rattle.yq_matching.proofs.EachLaws.{failed}
+use Rattle.yq_expr.proofs.changes.value_each.Goals.{then-adds, else-adds}
 use Rattle.yq_expr.proofs.changes.value_each.Goals as goal
 
 pub returns-in_err-value : goal.returns-in_err-value
@@ -24,22 +25,14 @@ returns-in_err-value c =
     (value_fails root (right_value c.args.doc ts (root_place root)) (if c.args.adds then add_at else put_at) (found_places c.args.places.now) _ c.requires.some
     (subst (MatchFails _) (ap (right_value c.args.doc ts) c.of_root.ensures) c.in_err-value.ensures))
 
-pub returns-then-adds : goal.returns-then-adds
-returns-then-adds c =
-    let root = node_of c.args.root.now in
-    let ts = map term_of c.args.right.now in
-    rw c.if-adds.true
-    (subst (Judges (λ (v : Vec Changed Global). map changed_of v.items) c.at_found.result)
-    (sym (value_there root (right_value c.args.doc ts (root_place root)) add_at (found_places c.args.places.now) (value_node c.in_ok-value.value)
-    c.requires.some (sym (ap (right_value c.args.doc ts) c.of_root.ensures) ∙ c.in_ok-value.ensures)))
-    (c.at_found.ensures root c.requires.aliases c.requires.within))
-
 pub returns : goal.returns
 returns c =
     let root = node_of c.args.root.now in
     let ts = map term_of c.args.right.now in
-    rw c.if-adds.false
-    (subst (Judges (λ (v : Vec Changed Global). map changed_of v.items) c.at_found-2.result)
-    (sym (value_there root (right_value c.args.doc ts (root_place root)) put_at (found_places c.args.places.now) (value_node c.in_ok-value.value)
-    c.requires.some (sym (ap (right_value c.args.doc ts) c.of_root.ensures) ∙ c.in_ok-value.ensures)))
-    (c.at_found-2.ensures root c.requires.aliases c.requires.within))
+    let value : right_value c.args.doc ts (root_place root) ≡ gives (value_node c.in_ok-value.value) = sym (ap (right_value c.args.doc ts) c.of_root.ensures) ∙ c.in_ok-value.ensures in
+    let put = λ (at : _). value_there root (right_value c.args.doc ts (root_place root)) at (found_places c.args.places.now) (value_node c.in_ok-value.value) c.requires.some value in
+    let found = c.at_found.ensures root c.requires.aliases c.requires.within in
+    elim c.if-adds.branch [
+      | then-adds w ↦ rw w.if-adds.true (subst (Judges (λ (v : Vec Changed Global). map changed_of v.items) c.at_found.result) (sym (put add_at)) (rw w.effect-is at found))
+      | else-adds w ↦ rw w.if-adds.false (subst (Judges (λ (v : Vec Changed Global). map changed_of v.items) c.at_found.result) (sym (put put_at)) (rw w.effect-is at found))
+    ]

@@ -1,4 +1,5 @@
-use Rattle.std.proofs.Common.{ℕ, List, [], ◌∷◌, ◌++◌, append_assoc, ap, ◌∙◌}
+use Rattle.std.proofs.Common.{◌≡◌, ℕ, List, [], ◌∷◌, ◌++◌, append_assoc, ap, ◌∙◌, subst}
+use Rattle.std.specs.Prelude.{OnOk}
 use Rattle.std.specs.String.{string_bytes}
 use Rattle.yq_text.specs.Halves.{whole}
 use Rattle.yq_script.specs.Script.{Segment, keep, put}
@@ -9,7 +10,7 @@ returns c =
     let first : Segment = put (whole c.of.result) (string_bytes c.in_ok-indent.indent) in
     let white = ap (λ (x : List ℕ × List ℕ). x.0) c.split_white.ensures in
     let rest = ap (λ (x : List ℕ × List ℕ). x.1) c.split_white.ensures in
-    c.in_ok-push-2.ensures
-    ∙ (ap (λ (x : List Segment). x ++ (keep (whole c.of-2.result) ∷ [])) c.in_ok-push.ensures
+    subst (λ (x : List Segment). OnOk c.push-2.result (c.push-2.new.self ≡ x))
+    (ap (λ (x : List Segment). x ++ (keep (whole c.of-2.result) ∷ [])) c.in_ok-push.ensures
     ∙ (append_assoc c.args.segments.now (first ∷ []) (keep (whole c.of-2.result) ∷ [])
-    ∙ λ i. c.args.segments.now ++ (put ((c.of.ensures.whole ∙ white) i) (c.in_ok-indent.ensures i) ∷ (keep ((c.of-2.ensures.whole ∙ rest) i) ∷ []))))
+    ∙ λ i. c.args.segments.now ++ (put ((c.of.ensures.whole ∙ white) i) (c.in_ok-indent.ensures i) ∷ (keep ((c.of-2.ensures.whole ∙ rest) i) ∷ [])))) c.push-2.ensures

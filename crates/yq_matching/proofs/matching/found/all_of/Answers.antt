@@ -1,8 +1,8 @@
-use Rattle.std.proofs.Common.{sym, ap, ◌∙◌}
+use Rattle.std.proofs.Common.{rules, sym, ap, ◌∙◌, subst}
 use Rattle.yq_document_nodes.specs.Nodes.{node_of}
-use Rattle.yq_matching.specs.FoundView.{child_places}
+use Rattle.yq_matching.specs.FoundView.{child_places, found_places}
 use Rattle.yq_matching.specs.PlaceView.{path_of, places_of}
-use Rattle.yq_meaning.specs.Judgement.{gives}
+use Rattle.yq_meaning.specs.Judgement.{Judges, gives}
 use Rattle.yq_meaning.specs.Places.{for_each, step_on}
 use Rattle.yq_matching.specs.declared.matching.place.Place as declared
 use Rattle.yq_matching.proofs.matching.found.all_of.Goals as goal
@@ -11,4 +11,4 @@ pub returns-in-Some : goal.returns-in-Some
 returns-in-Some c = c.in-Some.ensures ∙ ap (λ (q : declared.Place). gives (child_places (path_of q.path) (node_of q.node))) (sym c.in_ok-place.ensures)
 
 pub returns : goal.returns
-returns c = ap (λ s. for_each (step_on s) (places_of c.args.places.now)) (sym c.requires) ∙ c.in_ok-step_each.ensures
+returns c = subst (λ s. Judges found_places c.map.result (for_each (step_on s) (places_of c.args.places.now))) c.requires (search rules)

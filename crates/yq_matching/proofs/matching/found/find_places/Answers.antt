@@ -32,6 +32,3 @@ returns c =
     ∙ (ap (and_then (for_each (step_on each))) c.in_ok-places.ensures
     ∙ ap (λ (ps : List declared.Place). for_each (step_on each) (places_of ps)) (sym c.deref.ensures.value)))))
     c.all_of.ensures
-
-pub returns-in_default : goal.returns-in_default
-returns-in_default c = c.in_ok-find.ensures

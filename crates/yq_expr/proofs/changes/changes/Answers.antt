@@ -15,7 +15,7 @@ use Rattle.yq_expr.proofs.AllChanges.{document_more, document_fails}
 use Rattle.yq_matching.proofs.EachLaws.{failed}
 use Rattle.yq_matching.proofs.MatchLaws.{document_there}
 use Rattle.yq_matching.proofs.TreeScalarLaws.{documents_have}
-use Rattle.yq_expr.proofs.changes.all_changes.Goals as goal
+use Rattle.yq_expr.proofs.changes.changes.Goals as goal
 
 pub changes_in-requires-clause-scalars : goal.changes_in-requires-clause-scalars
 changes_in-requires-clause-scalars c =
