@@ -56,7 +56,11 @@ pub fn find<'w>(command: &str, words: &[&'w str]) -> Found<'w> {
 
 /// The first word that is one too many.
 pub fn surplus<'w>(command: &str, found: &Found<'w>) -> Option<&'w str> {
-    let most = if matches!(command, "eval" | "squash") { 2 } else { 1 };
+    let most = if matches!(command, "eval" | "squash") {
+        2
+    } else {
+        1
+    };
     if found.count > most {
         Some(found.names[most])
     } else {
