@@ -9,5 +9,3 @@ pub mod SquashLaws
 pub mod StandLaws
 pub mod WriteLaws
 pub mod ObjectLaws
-pub mod ThereLaws
-pub mod ReadLaws

@@ -11,11 +11,7 @@ use Rattle.serde_json.specs.declared.value.Value.TheVariants.{String as Text}
 pub view-String : (s : String Global) → view (Text s) ≡ string (string_bytes s)
 view-String s = search (rules, the_lemmas)
 
--- one member more
-pub added : (k : List ℕ) (v w : Data) (ms ns os : Members) → os ≡ put k v ms → v ≡ w → ms ≡ ns → os ≡ put k w ns
-added k v w ms ns os made same before = made ∙ (λ i. put k (same i) (before i))
-
--- and in a call that may fail
+-- one member more, in a call that may fail
 pub added_on_ok : {T E : Type 0} (r : Result T E) (k : List ℕ) (v w : Data) (ms os : Members) → OnOk r (os ≡ put k v ms) → v ≡ w → OnOk r (os ≡ put k w ms)
 added_on_ok (Ok x) k v w ms os made same = made ∙ ap (λ d. put k d ms) same
 added_on_ok (Err e) k v w ms os made same = tt

@@ -24,7 +24,8 @@ fn value_text(alloc: Global, value: &Value) -> Result<String, AllocError>
     requires shallow { depth (view value.now) ≤ max_depth }
     ensures { IfOk result (λ s. spec.IsWritten (string_bytes s) (view value.now)) }
 {
-    value.to_string(alloc)
+    let text = value.to_string(alloc)?;
+    Ok(text)
 }
 
 /// The text of the record of a move, of null where it has none.

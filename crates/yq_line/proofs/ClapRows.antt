@@ -9,7 +9,7 @@ use Rattle.clap.specs.Takes.{use_passes, is_given}
 use Rattle.clap.specs.Values.{is_request}
 use Rattle.clap.specs.Walk.{Row, Rule, Text, action_of, at_row, count_of, counted, default_rows, first_of, has_row, is_empty, more_values, new_count, reading_by, used, used_as, values_or_missing, with_count, with_default, with_values, without}
 use Rattle.clap.specs.declared.builder.action.ArgAction.{ArgAction}
-use Rattle.clap.specs.declared.builder.action.ArgAction.TheVariants.{Set, Append, SetTrue, SetFalse, Count, Help, HelpShort, HelpLong, Version}
+use Rattle.clap.specs.declared.builder.action.ArgAction.TheVariants.{Append, Count, Help, HelpShort, HelpLong, Version}
 use Rattle.clap.specs.declared.builder.value_parser.Reading.{Reading}
 use Rattle.clap.specs.declared.parser.matches.ValueSource.{ValueSource}
 use Rattle.clap.specs.declared.parser.matches.ValueSource.TheVariants.{CommandLine, DefaultValue}

@@ -1,5 +1,5 @@
 -- Keys that differ, as a test.
-use Rattle.std.proofs.Common.{◌≡◌, ◌≢◌, ℕ, zero, suc, not, ◌<◌, Bool, true, false, List, [], ◌∷◌, get_or, refl, sym, ap, ◌∙◌, arith, rules, map, ◌-◌, Some, None, IsTrue, ◌↔◌}
+use Rattle.std.proofs.Common.{◌≡◌, ◌≢◌, ℕ, zero, suc, not, Bool, true, false, List, [], ◌∷◌, get_or, refl, sym, ap, ◌∙◌, arith, map, IsTrue, ◌↔◌}
 use Rattle.std.specs.Str.{bytes_eq}
 use Rattle.std.specs.List.{list_any, All}
 use Rattle.std.proofs.lemmas.Bool.{and_from, not-true, false≢true, false_from_ne_true, and_parts}
@@ -7,15 +7,10 @@ use Rattle.std.proofs.lemmas.List.Folds.{list_any_at, list_any_none}
 use Rattle.std.proofs.lemmas.List.Kept.{AllPairs-cons}
 use Rattle.std.proofs.lemmas.Slice.Eq.{bytes_eq-Decides}
 use Rattle.yq_flow_scalars.specs.Keys.{AreDistinct, are_distinct}
-use Rattle.std.specs.Prelude.{codes, string_bytes, String}
+use Rattle.std.specs.Prelude.{string_bytes, String}
 use Rattle.std.specs.declared.alloc.Global.{Global}
-use Rattle.yq_flow_scalars.specs.Tree.{Node}
-use Rattle.yq_flow_scalars.specs.Tree as tree
 use Rattle.yq_nodes.specs.declared.value.Value.{Value}
-use Rattle.yq_parsing.specs.Lexing.{after}
-use Rattle.yq_program.specs.Tokens.{Token}
-use Rattle.yq_nodes.specs.Values.{field_of, entries}
-use Rattle.yq_parsing.specs.Parse.{listed_at, field_at, literal_at}
+use Rattle.yq_nodes.specs.Values.{field_of}
 
 others : (k : List ℕ) (ks : List (List ℕ)) → list_any (bytes_eq k) ks ≡ false → All (λ x. k ≢ x) ks
 others k ks none i d lt same =
@@ -46,8 +41,3 @@ tested false ks h = sym (false_from_ne_true (are_distinct ks) (λ passes. false�
 pub keys_of_fields : (es : List (String Global × Value)) → map (λ e. string_bytes e.0) es ≡ map (λ e. e.0) (map field_of es)
 keys_of_fields [] = refl
 keys_of_fields (e ∷ es) = ap (λ (ks : List (List ℕ)). string_bytes e.0 ∷ ks) (keys_of_fields es)
-
-pub map_is : (depth : ℕ) (ts r : List Token) (x : List (List ℕ × Node) × List Token) → 0 < depth → after (codes "[") ts ≡ None → after (codes "{") ts ≡ Some r
-    → listed_at (codes "}") (field_at (literal_at (depth - 1))) r ≡ Some x → are_distinct (map (λ e. e.0) x.0) ≡ true → literal_at depth ts ≡ Some (tree.map None (entries x.0), x.1)
-unfolding literal_at
-map_is depth ts r x h1 = search rules

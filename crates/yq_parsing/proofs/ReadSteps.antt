@@ -93,7 +93,3 @@ seen_as f (Some x) b h = h
 pub path_plain : {X : Type 0} (v : X → Step) (xs : List X) (ts : List Token) → (length xs == 0) ≡ false → path_of (map v xs, ts) ≡ Some (map v xs, ts)
 path_plain v [] ts h = cc
 path_plain v (x ∷ xs) ts h = refl
-
-pub path_dot : {X : Type 0} (v : X → Step) (xs : List X) (ts r : List Token) → length xs ≡ 0 → after (codes ".") ts ≡ Some r → path_of (map v xs, ts) ≡ Some (map v xs, r)
-path_dot v [] ts r h e = ap (λ o. o >>= λ r. Some ([], r)) e
-path_dot v (x ∷ xs) ts r h e = absurd (omega (arith, h))
