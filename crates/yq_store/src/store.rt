@@ -7,7 +7,7 @@ ghost use Rattle.yq_store.specs.Count.{after_read, after_write};
 use std::alloc::Global;
 
 /// Why a file was not read.
-#[derive(Clone, Copy)]
+#[derive(Clone, Copy, Debug)]
 pub enum FileReadError {
     NotThere,
     ReadFailed,
@@ -15,7 +15,7 @@ pub enum FileReadError {
 }
 
 /// Why a file was not written.
-#[derive(Clone, Copy)]
+#[derive(Clone, Copy, Debug)]
 pub enum FileWriteError {
     WriteFailed,
     OutOfMemory,
