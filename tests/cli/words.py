@@ -42,6 +42,17 @@ def check_brackets_that_nest_in_long_expressions(folder):
     folder.refuses("E1 syntax", "-i", ".a = " + "(" * 60_000 + ".b" + ")" * 60_000, "f")
 
 
+def check_long_expressions(folder):
+    """A word of the command line holds 131,071 bytes at most."""
+    folder.write("f", b"a: 1\n")
+    equal(folder.accepts(".key[-1]" * 16_000, "f"), b"null\n")
+    equal(folder.accepts(".a = 0" + " + 1234567" * 13_000, "f"), b"a: %d\n" % (13_000 * 1_234_567))
+    items = folder.accepts(".a = [0" + ', "text"' * 16_000 + "]", "f")
+    equal((items.count(b"- text\n"), items.count(b"\n")), (16_000, 16_002))
+    entries = folder.accepts(".a = {" + ", ".join(f'"{i}": {i}' for i in range(8_000)) + "}", "f")
+    equal((entries.count(b'": '), entries.count(b"\n")), (8_000, 8_001))
+
+
 def is_whole(text):
     try:
         text.decode()

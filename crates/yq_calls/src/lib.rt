@@ -1,8 +1,19 @@
-//! Tests of the public calls on edits, operations, sessions and journals, and
-//! of the printing of values: what their contracts leave open.
+//! Tests of the public calls on texts, documents, programs, edits, sessions and journals: what their
+//! contracts leave open. [`hold_memory`] is for all tests.
 #![tactic(auto)]
 
 #[cfg(test)]
-mod journal;
+mod documents;
 #[cfg(test)]
-mod splice;
+mod growths;
+#[cfg(test)]
+mod journals;
+mod memory;
+#[cfg(test)]
+mod nodes;
+#[cfg(test)]
+mod sessions;
+#[cfg(test)]
+mod texts;
+
+pub use memory::hold_memory;

@@ -2,12 +2,8 @@
 #![tactic(auto)]
 
 #[cfg(test)]
-mod failing;
+mod asked;
 #[cfg(test)]
 mod lists;
 #[cfg(test)]
 mod refused_memory;
-#[cfg(test)]
-mod stores;
-#[cfg(test)]
-mod writes;

@@ -1,88 +1,86 @@
-//! A list of several commands in one call, and an output that fails.
+//! A list of several commands in one call: each is carried out behind those before it, with no call of the
+//! store more than it needs, also behind a refused one and behind a store and an output that failed.
 
-use crate::stores::{FILE, commands_of, holds, store_with};
-use std::alloc::Global;
+use crate::asked::{Asked, FILE, commands, store_with_file};
+use std::alloc::{AllocError, Global};
 use std::test::Fail;
 use yq_history::Fault;
 use yq_lists::Answer::{Done, NoMatch, Refused};
 use yq_lists::{Answer, MemoryOut, run_list};
-use yq_store::MemoryStore;
+use yq_store::{Left, MemoryStore};
 
-static LIST: [&[&str]; 13] = [
-    &[".n", "f"],
-    &["-i", ".n = 2", "f"],
-    &["-i", ".n.m = 3", "f"],
-    &["-i", ".n = 3", "f"],
-    &["undo", "f"],
-    &["redo", "f"],
-    &["redo", "f"],
-    &["squash", "2", "f"],
-    &["history", "f"],
-    &["-e", ".m", "f"],
-    &["undo", "f"],
-    &["undo", "f"],
-    &[".n = 4", "f"],
+/// The commands. The calls of the store that each makes: the file and the journal are read by a call each, but
+/// for what is shown, which reads the file alone; an edit, an undo and a redo write the journal twice and the
+/// file once, where its bytes change; a squash of two writes the journal, and one of one nothing.
+static LIST: [Asked; 16] = [
+    Asked::Show(".n"), // 1
+    Asked::Edit(".n = 1"), // 2
+    Asked::Edit(".n = 2"), // 5
+    Asked::Squash(1), // 2
+    Asked::Edit(".n.m = 3"), // 2
+    Asked::Edit(".n = 1"), // 5
+    Asked::Redo, // 2
+    Asked::Squash(2), // 3
+    Asked::History, // 2
+    Asked::Show(".m"), // 1
+    Asked::Undo, // 3
+    Asked::Redo, // 3
+    Asked::Show(".n = 4"), // 1
+    Asked::Edit(".n = 3"), // 4, the last of which fails
+    Asked::Show(".n"), // 1
+    Asked::Undo, // 5
 ];
 
+/// The calls of the store that the list makes.
+const CALLS: u64 = 42;
+
+/// The first call that writes the file in the last edit.
+const FAILING: u64 = 36;
+
+const PRINTED: &str = "1\n1 done \".n = 2 | .n = 1\"\nnull\n3\n";
+
 /// The answers to the list.
-fn wanted_answers() -> [Answer; 13] {
+fn wanted() -> [Answer; 16] {
     [
         Done,
         Done,
+        Done,
+        Done,
         Refused(Fault::NotAMap),
-        Done,
-        Done,
         Done,
         Refused(Fault::NothingToRedo),
         Done,
         Done,
         NoMatch,
         Done,
-        Refused(Fault::NothingToUndo),
+        Done,
+        Refused(Fault::OutFailed),
+        Refused(Fault::WriteFailed),
+        Done,
         Done,
     ]
 }
 
-const PRINTED: &str = "1\n1 done \".n = 2 | .n = 3\"\nnull\nn: 4\n";
-
-/// A list whose first output fails.
-static SHORT_LIST: [&[&str]; 3] = [&[".n = 2", "f"], &["-i", ".n = 3", "f"], &[".n", "f"]];
-
-/// Whether a list is answered so.
+/// Whether the list is answered so.
 fn is_answered(
     alloc: Global,
     store: &mut MemoryStore,
     out: &mut MemoryOut,
-    list: &[&[&str]],
-    wanted: &[Answer],
-) -> Result<bool, Fault> {
-    let commands = commands_of(alloc, list)?;
+) -> Result<bool, AllocError> {
+    let commands = commands(alloc, &LIST)?;
     let answers = run_list(alloc, store, out, &commands)?;
-    Ok(answers.as_slice() == wanted)
+    Ok(answers.as_slice() == wanted().as_slice())
 }
 
-/// Each command is carried out behind those before it, a refused one ends no list, and one whose output
-/// fails doesn't either. So a `run_list` that answers want of memory to each command but the first, which
-/// its contract lets through, is refused here.
 #[test]
 fn go_on(rt: HostRuntime) -> Result<(), Fail> {
     let alloc = rt.alloc();
-    let mut store = store_with(alloc, "n: 1\n")?;
+    let mut store = store_with_file(alloc)?;
     let mut out = MemoryOut::new(alloc);
-    assert!(rt; is_answered(alloc, &mut store, &mut out, &LIST, &wanted_answers())?);
+    store.fail_at(FAILING, Left::NewBytes);
+    out.fail_at(4);
+    assert!(rt; is_answered(alloc, &mut store, &mut out)?);
     assert!(rt; out.bytes() == PRINTED.as_bytes());
-    assert!(rt; holds(&store, FILE, "n: 1\n"));
-    let mut out = MemoryOut::new(alloc);
-    out.fail_at(1);
-    assert!(rt;
-        is_answered(
-            alloc,
-            &mut store,
-            &mut out,
-            &SHORT_LIST,
-            &[Refused(Fault::OutFailed), Done, Done]
-        )?
-    );
-    assert!(rt; out.bytes().ends_with(b"3\n"));
+    assert_eq!(rt; store.calls(), CALLS);
     Ok(())
 }

@@ -1,5 +1,0 @@
-//! The calls on documents and programs.
-
-mod growths;
-mod long;
-mod nodes;

@@ -1,4 +1,0 @@
-//! The calls on scalars, inline nodes, flow collections and rows.
-
-mod called;
-mod growths;
