@@ -185,8 +185,7 @@ fn put_one(
         (now_text (cut_of cut.old) run.old))) }
 {
     let text = cut.text();
-    let found = row_put(alloc, cut, op)?;
-    let Some(put) = found else {
+    let Some(put) = row_put(alloc, cut, op)? else {
         return Ok(None);
     };
     let RowPut {

@@ -113,7 +113,6 @@ impl Run {
             (string_bytes written) self.old) }
     {
         let kept = between(text, self.done, start);
-        let old = bytes_of(alloc, between(text, start, end))?;
         self.text.push_str(kept.front)?;
         self.text.push_str(kept.back)?;
         let at = self.text.len();
@@ -123,6 +122,7 @@ impl Run {
         if rest > TEXT_LIMIT || self.text.len() > TEXT_LIMIT - rest {
             return Err(EditError::Refused(Refusal::TooLarge));
         }
+        let old = bytes_of(alloc, between(text, start, end))?;
         Ok(push_splice(&mut self.splices, at, old, written.into_bytes())?)
     }
 

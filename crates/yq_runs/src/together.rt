@@ -118,8 +118,7 @@ fn put_one<'s>(
         (spec.now_text (cut_of cut.now) run.old))) }
 {
     let text = cut.text();
-    let found = part_put(alloc, cut, doc, stem, head, op)?;
-    let Some(PartPut { place, written }) = found else {
+    let Some(PartPut { place, written }) = part_put(alloc, cut, doc, stem, head, op)? else {
         return Ok(false);
     };
     let start = head.before + place.start;
@@ -184,8 +183,7 @@ pub fn carry_together(
     let Some((above, _)) = last_step(&first.steps) else {
         return Ok(None);
     };
-    let found = cut.flow_head(alloc, first.doc, above)?;
-    let Some(mut head) = found else {
+    let Some(mut head) = cut.flow_head(alloc, first.doc, above)? else {
         return Ok(None);
     };
     let (stem, _) = above.split_at(above.len() - head.left.len());

@@ -11,11 +11,11 @@ use Rattle.yq_runs.proofs.together.carry_together.Goals as goal
 
 pub overflow_sub-above : goal.overflow_sub-above
 overflow_sub-above c =
-    let h = subst (λ (o : Option FlowHead). IfSome o (IsHeadFor c.args.cut.now (cut_of c.args.cut.now) c.in-Replace.first.doc (map step_of c.in-Some.above.now))) c.in-Some-found.is c.in_ok-found.ensures.whole in
-    omega (arith, ap length h.1, length-append h.0 (map step_of c.in-Some-found.head.left.now), length-map c.in-Some.above.now step_of, length-map c.in-Some-found.head.left.now step_of)
+    let h = subst (λ (o : Option FlowHead). IfSome o (IsHeadFor c.args.cut.now (cut_of c.args.cut.now) c.in-Replace.first.doc (map step_of c.in-Some.above.now))) c.in-Some-2.is c.in_ok-head.ensures.whole in
+    omega (arith, ap length h.1, length-append h.0 (map step_of c.in-Some-2.head.left.now), length-map c.in-Some.above.now step_of, length-map c.in-Some-2.head.left.now step_of)
 
 pub put_each-requires-clause-head : goal.put_each-requires-clause-head
 put_each-requires-clause-head c =
-    let h = subst (λ (o : Option FlowHead). IfSome o (IsHeadFor c.args.cut.now (cut_of c.args.cut.now) c.in-Replace.first.doc (map step_of c.in-Some.above.now))) c.in-Some-found.is c.in_ok-found.ensures.whole in
-    subst (λ (ss : List Step). ReportsHead c.args.cut.now (cut_of c.args.cut.now) c.in-Replace.first.doc ss c.in-Some-found.head)
-    (sym (ap (map step_of) c.split_at.ensures.front ∙ stem_is c.in-Some.above.now c.in-Some-found.head.left.now h.0 _ h.1 refl)) h.2
+    let h = subst (λ (o : Option FlowHead). IfSome o (IsHeadFor c.args.cut.now (cut_of c.args.cut.now) c.in-Replace.first.doc (map step_of c.in-Some.above.now))) c.in-Some-2.is c.in_ok-head.ensures.whole in
+    subst (λ (ss : List Step). ReportsHead c.args.cut.now (cut_of c.args.cut.now) c.in-Replace.first.doc ss c.in-Some-2.head)
+    (sym (ap (map step_of) c.split_at.ensures.front ∙ stem_is c.in-Some.above.now c.in-Some-2.head.left.now h.0 _ h.1 refl)) h.2
