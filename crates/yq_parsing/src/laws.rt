@@ -12,7 +12,6 @@ pub fn one_token_list()
 {}
 
 /// No text derives two programs.
-#[tactic(auto, using(crate::proofs::Outcomes::one_of))]
 pub fn one_program()
     ensures { (text : List ℕ) (p q : Program) → Derives text p → Derives text q → p ≡ q }
 {}
