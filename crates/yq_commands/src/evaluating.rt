@@ -42,10 +42,11 @@ fn show_read(
 {
     let text = utf8_text(text)?;
     let documents = read(alloc, text.as_bytes())?;
-    match matches(alloc, program, &documents) {
-        Ok(found) => report_matches(alloc, exit_status, no_doc, &found).map_err(Fault::from),
-        Err(error) => Err(match_fault(error)),
-    }
+    let found = match matches(alloc, program, &documents) {
+        Ok(found) => found,
+        Err(error) => return Err(match_fault(error)),
+    };
+    Ok(report_matches(alloc, exit_status, no_doc, &found)?)
 }
 
 /// What an update shows of a text: the edited one.
