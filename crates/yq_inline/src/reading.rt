@@ -1,5 +1,5 @@
 //! Inline nodes, read from left to right.
-ghost use Rattle.std.specs.Prelude.{◌≡◌, ◌<◌, ◌≤◌, IfErr, IfOk, Some, if◌then◌else◌, length, true};
+ghost use Rattle.std.specs.Prelude.{◌≡◌, ◌<◌, ◌≤◌, IfErr, IfOk, Some, length, true};
 ghost use Rattle.std.specs.String.{string_bytes};
 ghost use Rattle.yq_flow_scalars.specs.Answers.{Gives, IsOfText};
 ghost use Rattle.yq_inline.specs.Forms.{placed_form};
@@ -154,10 +154,10 @@ fn read_form<'t>(
         return Ok((Form::Alias(name), rest));
     }
     if let Some(behind) = strip(b'[', text) {
-        return read_collection(alloc, whole, depth, false, behind);
+        return read_sequence(alloc, whole, depth, behind);
     }
     if let Some(behind) = strip(b'{', text) {
-        return read_collection(alloc, whole, depth, true, behind);
+        return read_mapping(alloc, whole, depth, behind);
     }
     if begins_content(flow, text.as_bytes()) {
         return read_text(alloc, flow, spaces, whole, text);
@@ -165,30 +165,44 @@ fn read_form<'t>(
     Ok((Form::Empty, text))
 }
 
-/// A mapping behind its `{`, or else a sequence behind its `[`, and what follows it.
+/// A sequence behind its `[`, and what follows it.
 #[cycle(nodes)]
-fn read_collection<'t>(
+fn read_sequence<'t>(
     alloc: Global,
     whole: &'t str,
     depth: usize,
-    keyed: bool,
     text: &'t str,
 ) -> Result<(Form<'t>, &'t str), ReadError>
     requires { length text.now ≤ length whole.now }
     ensures shorter { IfOk result (λ x. length x.1.now ≤ length text.now) }
     ensures read { Gives (λ x. (form_view x.0, x.1.now)) result
-        (reading.placed_coll (length whole.now) depth (if keyed then 125 else 93) text.now) }
+        (reading.placed_coll (length whole.now) depth 93 text.now) }
     ensures fault { IfErr result IsOfText }
 {
     let rest = read_open(whole, depth, text)?;
-    if keyed {
-        return match read_entries(alloc, whole, depth - 1, text, rest) {
-            Ok((entries, rest)) => Ok((Form::Map(entries), rest)),
-            Err(e) => Err(e),
-        };
-    }
     match read_items(alloc, whole, depth - 1, text, rest) {
         Ok((items, rest)) => Ok((Form::List(items), rest)),
+        Err(e) => Err(e),
+    }
+}
+
+/// A mapping behind its `{`, and what follows it.
+#[cycle(nodes)]
+fn read_mapping<'t>(
+    alloc: Global,
+    whole: &'t str,
+    depth: usize,
+    text: &'t str,
+) -> Result<(Form<'t>, &'t str), ReadError>
+    requires { length text.now ≤ length whole.now }
+    ensures shorter { IfOk result (λ x. length x.1.now ≤ length text.now) }
+    ensures read { Gives (λ x. (form_view x.0, x.1.now)) result
+        (reading.placed_coll (length whole.now) depth 125 text.now) }
+    ensures fault { IfErr result IsOfText }
+{
+    let rest = read_open(whole, depth, text)?;
+    match read_entries(alloc, whole, depth - 1, text, rest) {
+        Ok((entries, rest)) => Ok((Form::Map(entries), rest)),
         Err(e) => Err(e),
     }
 }

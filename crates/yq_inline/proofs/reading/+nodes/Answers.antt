@@ -5,7 +5,7 @@ use Rattle.yq_nodes.specs.declared.inline.Form.TheFolds.{the_lemmas}
 use Rattle.yq_nodes.specs.Nodes.{begins_content}
 use Rattle.yq_nodes.specs.Places.{Placed}
 use Rattle.yq_nodes.specs.PlacedReading.{placed_coll}
-use Rattle.yq_nodes.specs.View.{entries_end, form_view, view}
+use Rattle.yq_nodes.specs.View.{entries_end, form_view, items_end, view}
 use Rattle.yq_inline.proofs.FormLaws.{content_fails, content_given, form_alias, form_unnamed, sequence_form, mapping_form, text_form, no_form, coll_unopened, coll_given, coll_fails, item_given, item_refused, item_fails, gives_same}
 use Rattle.yq_inline.proofs.reading.+nodes.Goals as goal
 
@@ -43,10 +43,10 @@ pub read_form-returns-in-Some-clause-read : goal.read_form-returns-in-Some-claus
 read_form-returns-in-Some-clause-read t c = let h = form_alias c.args.flow c.args.spaces (length c.args.whole.now) c.args.depth c.args.text.now c.in-Some.behind.now c.in_ok-name.name.now c.in_ok-name.rest.now c.in-Some.ensures.0 c.in-Some.ensures.1 c.in_ok-name.ensures.read in simp the_lemmas h
 
 pub read_form-returns-in-Some-strip-clause-read : goal.read_form-returns-in-Some-strip-clause-read
-read_form-returns-in-Some-strip-clause-read t c = gives_same _ c.read_collection.result _ _ (sequence_form c.args.flow c.args.spaces (length c.args.whole.now) c.args.depth c.args.text.now c.in_default.ensures c.in-Some-strip.ensures.0 ∙ ap (placed_coll (length c.args.whole.now) c.args.depth 93) (sym c.in-Some-strip.ensures.1)) c.read_collection.ensures.read
+read_form-returns-in-Some-strip-clause-read t c = gives_same _ c.read_sequence.result _ _ (sequence_form c.args.flow c.args.spaces (length c.args.whole.now) c.args.depth c.args.text.now c.in_default.ensures c.in-Some-strip.ensures.0 ∙ ap (placed_coll (length c.args.whole.now) c.args.depth 93) (sym c.in-Some-strip.ensures.1)) c.read_sequence.ensures.read
 
 pub read_form-returns-in-Some-strip-2-clause-read : goal.read_form-returns-in-Some-strip-2-clause-read
-read_form-returns-in-Some-strip-2-clause-read t c = gives_same _ c.read_collection-in-Some-strip-2.result _ _ (mapping_form c.args.flow c.args.spaces (length c.args.whole.now) c.args.depth c.args.text.now c.in_default.ensures c.in_default-strip.ensures c.in-Some-strip-2.ensures.0 ∙ ap (placed_coll (length c.args.whole.now) c.args.depth 125) (sym c.in-Some-strip-2.ensures.1)) c.read_collection-in-Some-strip-2.ensures.read
+read_form-returns-in-Some-strip-2-clause-read t c = gives_same _ c.read_mapping.result _ _ (mapping_form c.args.flow c.args.spaces (length c.args.whole.now) c.args.depth c.args.text.now c.in_default.ensures c.in_default-strip.ensures c.in-Some-strip-2.ensures.0 ∙ ap (placed_coll (length c.args.whole.now) c.args.depth 125) (sym c.in-Some-strip-2.ensures.1)) c.read_mapping.ensures.read
 
 pub read_form-returns-then-begins_content-clause-read : goal.read_form-returns-then-begins_content-clause-read
 read_form-returns-then-begins_content-clause-read t c = gives_same _ c.read_text.result _ _ (text_form c.args.flow c.args.spaces (length c.args.whole.now) c.args.depth c.args.text.now c.in_default.ensures c.in_default-strip.ensures c.in_default-strip-2.ensures (sym (c.if-begins_content.ensures ∙ ap (begins_content c.args.flow) c.as_bytes.ensures.value))) c.read_text.ensures.read
@@ -66,14 +66,23 @@ read_item-returns-in_ok-behind-in-Ok-clause-read t c = item_given (length c.args
 pub read_item-returns-in_ok-behind-in-Ok-clause-shorter : goal.read_item-returns-in_ok-behind-in-Ok-clause-shorter
 read_item-returns-in_ok-behind-in-Ok-clause-shorter t c = omega (arith, c.in_ok-behind-in-Ok.ensures.shorter, node_shorter (length c.args.whole.now) c.args.depth c.args.text.now _ _ c.in-Ok.ensures.read c.in_ok-behind-in-Ok.ensures.some)
 
-pub read_collection-returns-in_err-rest-clause-read : goal.read_collection-returns-in_err-rest-clause-read
-read_collection-returns-in_err-rest-clause-read t c = search (rules, coll_unopened)
+pub read_sequence-returns-in_err-rest-clause-read : goal.read_sequence-returns-in_err-rest-clause-read
+read_sequence-returns-in_err-rest-clause-read t c = search (rules, coll_unopened)
 
-pub read_collection-returns-in-Ok-clause-read : goal.read_collection-returns-in-Ok-clause-read
-read_collection-returns-in-Ok-clause-read t c = let h = coll_given (length c.args.whole.now) c.args.depth 125 c.args.text.now c.in_ok-rest.rest.now (entries_end c.in-Ok.entries.items) c.in-Ok.rest.now c.in_ok-rest.ensures.read c.in-Ok.ensures.read in rw c.if-keyed.true (simp the_lemmas h)
+pub read_sequence-returns-in-Ok-clause-read : goal.read_sequence-returns-in-Ok-clause-read
+read_sequence-returns-in-Ok-clause-read t c = let h = coll_given (length c.args.whole.now) c.args.depth 93 c.args.text.now c.in_ok-rest.rest.now (items_end c.in-Ok.items.items) c.in-Ok.rest.now c.in_ok-rest.ensures.read c.in-Ok.ensures.read in simp the_lemmas h
 
-pub read_collection-returns-in-Err-clause-read : goal.read_collection-returns-in-Err-clause-read
-read_collection-returns-in-Err-clause-read t c = rw c.if-keyed.true (coll_fails c.in-Err.e (length c.args.whole.now) c.args.depth 125 c.args.text.now c.in_ok-rest.rest.now c.in_ok-rest.ensures.read c.in-Err.ensures.read)
+pub read_sequence-returns-in-Err-clause-read : goal.read_sequence-returns-in-Err-clause-read
+read_sequence-returns-in-Err-clause-read t c = coll_fails c.in-Err.e (length c.args.whole.now) c.args.depth 93 c.args.text.now c.in_ok-rest.rest.now c.in_ok-rest.ensures.read c.in-Err.ensures.read
+
+pub read_mapping-returns-in_err-rest-clause-read : goal.read_mapping-returns-in_err-rest-clause-read
+read_mapping-returns-in_err-rest-clause-read t c = search (rules, coll_unopened)
+
+pub read_mapping-returns-in-Ok-clause-read : goal.read_mapping-returns-in-Ok-clause-read
+read_mapping-returns-in-Ok-clause-read t c = let h = coll_given (length c.args.whole.now) c.args.depth 125 c.args.text.now c.in_ok-rest.rest.now (entries_end c.in-Ok.entries.items) c.in-Ok.rest.now c.in_ok-rest.ensures.read c.in-Ok.ensures.read in simp the_lemmas h
+
+pub read_mapping-returns-in-Err-clause-read : goal.read_mapping-returns-in-Err-clause-read
+read_mapping-returns-in-Err-clause-read t c = coll_fails c.in-Err.e (length c.args.whole.now) c.args.depth 125 c.args.text.now c.in_ok-rest.rest.now c.in_ok-rest.ensures.read c.in-Err.ensures.read
 
 pub read_node-returns-in_default-clause-read : goal.read_node-returns-in_default-clause-read
 read_node-returns-in_default-clause-read t c = gives_same _ c.read_content.result _ _ (node_plain c.args.flow c.args.spaces (length c.args.whole.now) c.args.depth c.args.text.now c.in_default.ensures) c.read_content.ensures.read

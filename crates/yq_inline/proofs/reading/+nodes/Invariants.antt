@@ -13,8 +13,11 @@ decreases-read_content l = 6 * l.depth + 2
 abbrev pub decreases-read_form : goal.decreases-read_form
 decreases-read_form l = 6 * l.depth + 1
 
-abbrev pub decreases-read_collection : goal.decreases-read_collection
-decreases-read_collection l = 6 * l.depth
+abbrev pub decreases-read_sequence : goal.decreases-read_sequence
+decreases-read_sequence l = 6 * l.depth
+
+abbrev pub decreases-read_mapping : goal.decreases-read_mapping
+decreases-read_mapping l = 6 * l.depth
 
 abbrev pub decreases-read_item : goal.decreases-read_item
 decreases-read_item l = 6 * l.depth + 4
