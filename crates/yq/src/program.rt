@@ -3,9 +3,8 @@
 use std::io::IsTerminal;
 use std::slice;
 use yq_history::Fault;
-use yq_lists::{Answer, StandardOut, asked_command, run_list};
+use yq_lists::{Answer, StandardOut, asked_command, purpose_of, run_list};
 use yq_store::DiskStore;
-use yq_words::purpose_of;
 
 /// The answer to the command.
 fn answer_to(rt: &HostRuntime) -> Result<Answer, Fault> {

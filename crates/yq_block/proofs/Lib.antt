@@ -10,3 +10,4 @@ pub mod FitLaws
 pub mod PlaceLaws
 pub mod ReadLaws
 pub mod ListLaws
+mod PrintLaws

@@ -16,3 +16,4 @@ pub mod BlockValues
 pub mod BlockLaws
 pub mod BlockPlaces
 pub mod Alone
+pub mod Print

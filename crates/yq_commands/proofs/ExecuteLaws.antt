@@ -8,13 +8,35 @@ use Rattle.yq_history.specs.Causes.{Cause}
 use Rattle.yq_history.specs.Effects.{Effect, Works, from_names}
 use Rattle.yq_history.specs.Pair.{Arrives, GoodIn, OthersStay}
 use Rattle.yq_history.specs.Report.{Report}
+use Rattle.yq_line.specs.declared.command.Command.{Command}
 use Rattle.yq_store.specs.FileMap.{FileMap}
-use Rattle.yq_commands.specs.CommandEffects.{update_effect}
-use Rattle.yq_commands.specs.CommandNames.{Differs}
-use Rattle.yq_commands.specs.CommandSteps.{update_cause, update_next}
+use Rattle.yq_commands.specs.CommandEffects.{IsListing, OfEffect, update_effect}
+use Rattle.yq_commands.specs.CommandNames.{Differs, IsNotNamed, IsOn}
+use Rattle.yq_commands.specs.CommandSteps.{cause_of, next_of, update_cause, update_next}
 use Rattle.yq_commands.specs.Editing.{program_in}
 use Rattle.yq_commands.specs.Evaluation.{cause_in, evaluated, report_in}
-use Rattle.yq_commands.specs.FileEdits.{IsFileEdited, PrintsEdited}
+use Rattle.yq_commands.specs.FileEdits.{HasEdited, IsFileEdited, PrintsEdited}
+use Rattle.yq_commands.specs.Prints.{report_of}
+
+-- ---- what is promised of a command, clause by clause
+
+abbrev pub ArrivesOn : {T : Type 0} → FileMap → FileMap → Result T Fault → Command → Type 0
+ArrivesOn c d r x = (file journal : List ℕ) → file ≢ journal → IsOn file journal x → (h : Option History) → GoodIn c file journal h → Arrives d file journal (cause_of x h) h (next_of x h) r
+
+abbrev pub WorksOn : {T : Type 0} → FileMap → FileMap → Result T Fault → Command → Type 0
+WorksOn c d r x = (file journal : List ℕ) → file ≢ journal → IsOn file journal x → OfEffect x (get c file) (get c journal) (λ e. Works e file journal c d r)
+
+abbrev pub ShowsOn : {T : Type 0} → FileMap → Result T Fault → Report → Command → Type 0
+ShowsOn c r s x = (file journal : List ℕ) → IsOn file journal x → (h : Option History) → GoodIn c file journal h → OnOk r (s ≡ report_of x h)
+
+abbrev pub ListsOn : {T : Type 0} → FileMap → Result T Fault → List ℕ → Command → Type 0
+ListsOn c r o x = (file journal : List ℕ) → IsOn file journal x → OnOk r (IsListing x (get c file) (get c journal) o)
+
+abbrev pub EditsOn : {T : Type 0} → FileMap → FileMap → Result T Fault → List ℕ → Command → Type 0
+EditsOn c d r o x = OnOk r (HasEdited x c d o)
+
+abbrev pub OthersOn : FileMap → FileMap → Command → Type 0
+OthersOn c d x = (q : List ℕ) → IsNotNamed q x → get d q ≡ get c q
 
 -- ---- by the names of a file and a journal
 

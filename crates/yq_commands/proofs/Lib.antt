@@ -1,8 +1,12 @@
 pub mod EditEffects
 pub mod EditLaws
 pub mod EditingLaws
-mod ExecuteLaws
+pub mod ExecuteLaws
 pub mod FileEditLaws
-mod OutcomeLaws
+pub mod OutcomeLaws
 pub mod ReadLaws
 pub mod ShowLaws
+pub mod CountLaws
+pub mod KeepLaws
+pub mod ListLaws
+pub mod ReplyLaws

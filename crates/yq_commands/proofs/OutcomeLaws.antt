@@ -1,20 +1,34 @@
 -- How a command ends, by how a call within it ended.
-use Rattle.std.proofs.Common.{◌≡◌, inl, inr, ℕ, List, Option, Some, None, Result, Ok, Err, IfErr, Vec, sym, ap, subst}
+use Rattle.std.proofs.Common.{◌≡◌, inl, inr, ℕ, false, List, Option, Some, None, Result, Ok, Err, IfErr, Vec, sym, ap, subst, refl}
 use Rattle.std.specs.declared.alloc.Global.{Global}
 use Rattle.yq_journal.specs.History.{History}
 use Rattle.yq_records.specs.State.{State}
 use Rattle.yq_program.specs.Program.{Program}
 use Rattle.yq_store.specs.FileMap.{FileMap}
 use Rattle.yq_history.specs.declared.fault.Fault.{Fault}
-use Rattle.yq_history.specs.declared.fault.Fault.TheVariants.{NotThere}
+use Rattle.yq_history.specs.declared.fault.Fault.TheVariants.{NotThere, OutOfMemory}
 use Rattle.yq_history.specs.Causes.{Cause, IsFor, named}
-use Rattle.yq_history.specs.Faults.{is_outside}
+use Rattle.yq_history.specs.Faults.{counted, is_outside, is_output}
 use Rattle.yq_history.specs.Pair.{Arrives, GoodIn, Opens, PairAtRest}
 use Rattle.yq_history.proofs.MoveLaws.{cut, is_refused}
 
 -- what is told of an error
 pub told : {T : Type 0} (P : Fault → Type 0) (r : Result T Fault) (e : Fault) → r ≡ Err e → P e → IfErr r P
 told P r e is h = subst (λ x. IfErr x P) (sym is) h
+
+-- what holds anyway holds of each error
+pub each_error : {T : Type 0} (P : Fault → Type 0) (r : Result T Fault) → ((e : Fault) → P e) → IfErr r P
+each_error P (Ok v) h = tt
+each_error P (Err e) h = h e
+
+-- want of memory tells of no output, and of no failed call
+pub memory_no_output : {T : Type 0} (r : Result T Fault) → IfErr r (λ e. e ≡ OutOfMemory) → IfErr r (λ e. is_output e ≡ false)
+memory_no_output (Ok v) h = tt
+memory_no_output (Err e) h = ap is_output h
+
+pub memory_counted : {T : Type 0} (r : Result T Fault) (n : ℕ) → IfErr r (λ e. e ≡ OutOfMemory) → n ≡ counted r n
+memory_counted (Ok v) n h = refl
+memory_counted {T = T} (Err e) n h = ap (λ x. counted {T = T} (Err x) n) (sym h)
 
 -- the same, by what an expression is
 pub arrives_as : (c : FileMap) (f j : List ℕ) {T : Type 0} (r : Result T Fault) (cause : Result Program Fault → Option Cause) (next : Result Program Fault → Option History) (h : Option History) (p q : Result Program Fault) → p ≡ q →

@@ -6,5 +6,6 @@ pub mod Editing
 pub mod Edits
 pub mod Evaluation
 pub mod FileEdits
+pub mod Lists
 pub mod Prints
 pub mod Reads

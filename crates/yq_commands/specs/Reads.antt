@@ -4,7 +4,7 @@ use Rattle.yq_flow_scalars.specs.declared.kind.Kind.{Kind}
 use Rattle.yq_flow_scalars.specs.declared.kind.Kind.TheVariants as kinds
 use Rattle.yq_flow_scalars.specs.Tree.{Node, alias, scalar, list, map}
 use Rattle.yq_flow_scalars.specs.SchemaReading.{is_true_word}
-use Rattle.yq_splice.specs.Print.{print_text}
+use Rattle.yq_block.specs.Print.{print_text}
 use Rattle.yq_history.specs.Report.{Report}
 
 -- what stands before a match, by the document of the one before it: the line `---`, where that is another document

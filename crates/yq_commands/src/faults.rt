@@ -4,7 +4,7 @@ ghost use Rattle.yq_commands.specs.CommandFaults.{of_edit, of_matching, of_parse
 
 use yq_expr::{ExprError, ParseError, Refusal};
 use yq_history::Fault;
-use yq_splice::EditError;
+use yq_outcomes::EditError;
 
 /// Why an expression has no program.
 pub fn parse_fault(error: ParseError) -> Fault

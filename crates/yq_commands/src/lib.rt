@@ -1,11 +1,15 @@
-//! Commands: what each one does to a file and its journal, and what it shows.
+//! What commands come to, and all that they do but for the edit of a text: expressions read, matches shown, an edited text kept
+//! in its file beside the journal.
 #![tactic(auto)]
 
-mod edit;
-mod editing;
-mod evaluating;
-mod executing;
+mod answers;
+mod commit;
 mod faults;
+mod reading;
 mod reads;
 
-pub use executing::execute;
+pub use answers::answer_of;
+pub use commit::commit;
+pub use faults::edit_fault;
+pub use reading::{parse, utf8_text};
+pub use reads::show_read;

@@ -1,18 +1,26 @@
 //! Reads: matches, as they are printed.
-ghost use Rattle.std.specs.Prelude.{◌≡◌, ◌++◌, IfOk, OnOk, None};
+ghost use Rattle.std.specs.Prelude.{◌≡◌, ◌≢◌, ◌++◌, Ok, IfOk, IfErr, OnOk, None, true, false};
 ghost use Rattle.std.specs.List.{list_all};
 ghost use Rattle.std.specs.String.{string_bytes};
 ghost use Rattle.yq_nodes.specs.Values.{node_of};
 ghost use Rattle.yq_expr.specs.MatchView.{matches_of};
-ghost use Rattle.yq_splice.specs.Print.{print_text};
+ghost use Rattle.yq_block.specs.Print.{print_text};
+ghost use Rattle.yq_program.specs.Program.{is_read};
+ghost use Rattle.yq_program.specs.View.{program_of};
+ghost use Rattle.yq_history.specs.Causes.{IsFor};
+ghost use Rattle.yq_history.specs.Faults.{is_failure, is_output};
+ghost use Rattle.yq_commands.specs.Evaluation.{cause_in, shows};
 ghost use Rattle.yq_commands.specs.Reads as spec;
 ghost use Rattle.yq_history.specs.Report.{report_by};
 
+use crate::faults::match_fault;
+use crate::reading::utf8_text;
 use std::alloc::{AllocError, Global};
-use yq_expr::{Match, Value};
+use yq_block::print;
+use yq_expr::{Match, Program, Value, matches};
 use yq_flow_scalars::{Kind, is_true_word};
-use yq_history::Report;
-use yq_splice::print;
+use yq_history::{Fault, Report};
+use yq_tree::read;
 
 /// Adds what stands before a match: the line `---`, where the match before it is in another document.
 fn push_marker(
@@ -91,7 +99,7 @@ fn have_no_match(matches: &[Match]) -> bool
 
 /// What is shown of matches.
 #[tactic(auto, using(crate::proofs::ReadLaws::none_each))]
-pub fn report_matches(
+fn report_matches(
     alloc: Global,
     exit_status: bool,
     no_doc: bool,
@@ -103,4 +111,29 @@ pub fn report_matches(
     let text = printed_matches(alloc, no_doc, matches)?;
     let is_match = !(exit_status && have_no_match(matches));
     Ok(Report { text, is_match })
+}
+
+/// What a read shows of a text, which need be no UTF-8.
+pub fn show_read(
+    alloc: Global,
+    program: &Program,
+    text: &[u8],
+    exit_status: bool,
+    no_doc: bool,
+) -> Result<Report, Fault>
+    requires { is_read (program_of program.now) ≡ true }
+    ensures ok { IfOk result (λ s. shows exit_status no_doc (program_of program.now) text.now ≡
+        Ok (report_by s)) }
+    ensures err { IfErr result (λ e. e ≢ Fault.OutOfMemory →
+        IsFor (cause_in (shows exit_status no_doc (program_of program.now) text.now)) e) }
+    ensures inside { IfErr result (λ e. is_failure e ≡ false) }
+    ensures no_output { IfErr result (λ e. is_output e ≡ false) }
+{
+    let text = utf8_text(text)?;
+    let documents = read(alloc, text.as_bytes())?;
+    let found = match matches(alloc, program, &documents) {
+        Ok(found) => found,
+        Err(error) => return Err(match_fault(error)),
+    };
+    Ok(report_matches(alloc, exit_status, no_doc, &found)?)
 }

@@ -1,7 +1,5 @@
 //! Commands.
 
-use yq_store::Purpose;
-
 /// What the words of a command line ask for. A command's journal has another name than its file.
 #[derive(Drop)]
 pub enum Command {
@@ -37,21 +35,4 @@ pub enum Command {
     },
     /// Prints the help.
     Help,
-}
-
-/// A command's file, and what the command does with it.
-pub fn purpose_of(command: &Command) -> (&str, Purpose) {
-    match command {
-        Command::Eval {
-            file,
-            in_place: false,
-            ..
-        } => (file.as_str(), Purpose::Print),
-        Command::History { file, .. } => (file.as_str(), Purpose::List),
-        Command::Eval { file, .. } => (file.as_str(), Purpose::Edit),
-        Command::Undo { file, .. } | Command::Redo { file, .. } | Command::Squash { file, .. } => {
-            (file.as_str(), Purpose::Replay)
-        }
-        Command::Help => ("", Purpose::Print),
-    }
 }

@@ -1,6 +1,6 @@
 //! The command line: what `clap` takes, and the command that it finds in the words.
-//! The words of the command line, as far as they can be read without `clap`: the word that names a command,
-//! and why words are no command, in lines for who wrote them.
+//! What can be read of the words without it stands here too: the word that names a command, and why words are
+//! no command, in lines for who wrote them.
 #![tactic(auto)]
 
 mod asked;
@@ -16,7 +16,7 @@ mod words_error;
 
 pub use asked::command_in;
 pub use cause::UsageCause;
-pub use command::{Command, purpose_of};
+pub use command::Command;
 pub use command_word::split_command;
 pub use line::matched;
 pub use lines::{first_name, usage_text};

@@ -1,56 +1,19 @@
 //! Lists of commands, carried out over a store.
-ghost use Rattle.std.specs.Prelude.{◌≡◌, ◌≢◌, ◌+◌, ◌-◌, ◌^◌, ◌<◌, ℕ, List, ◌++◌, Option, IfOk, OnErr, IsTrue, MatchResult, All, true, false, if◌then◌else◌, min, length};
+ghost use Rattle.std.specs.Prelude.{◌≡◌, ◌≢◌, ◌+◌, ◌-◌, ◌^◌, ◌<◌, ℕ, List, ◌++◌, Option, IfOk, OnErr, IsTrue, All, true, min, length};
 ghost use Rattle.std.specs.List.{list_all};
 ghost use Rattle.std.specs.FinMap as map;
-ghost use Rattle.std.specs.String.{string_bytes};
 ghost use Rattle.yq_journal.specs.History.{History};
-ghost use Rattle.yq_store.specs.Count.{one_more};
 ghost use Rattle.yq_commands.specs.CommandNames.{IsNotNamed};
-ghost use Rattle.yq_lists.specs.Lists.{AllOnOrApart, Keeps, Run, RunExactly, IsAnswer, Reply, answers_in, printed_in, has_memory, failures_in, output_failures_in, reports_output};
+ghost use Rattle.yq_commands.specs.Lists.{AllOnOrApart, Keeps, Run, RunExactly, Reply, answers_in, printed_in, has_memory, failures_in, output_failures_in};
 ghost use Rattle.yq_history.specs.Pair.{GoodIn};
-ghost use Rattle.yq_history.specs.Report.{report_by};
-ghost use Rattle.yq_lists.specs.Lists as spec;
 
+use crate::executing::execute;
 use std::alloc::{AllocError, Global};
-use yq_commands::execute;
-use yq_history::{Fault, Report};
+use yq_commands::answer_of;
+use yq_history::Report;
 use yq_line::Command;
 use yq_output::{Answer, Out};
 use yq_store::Store;
-
-/// The answer to a command that was carried out.
-fn answer_by(is_match: bool) -> Answer
-    ensures { result ≡ spec.answer_by is_match }
-{
-    if is_match {
-        Answer::Done
-    } else {
-        Answer::NoMatch
-    }
-}
-
-/// The answer to a command that came to this: where it was carried out, what it prints is put.
-fn answer_of<W: Out>(out: &mut W, done: Result<(), Fault>, report: &Report) -> Answer
-    ensures answered { IsAnswer done result (report_by report.now) }
-    ensures taken { IsTrue W.observable →
-        MatchResult done (λ _. reports_output result ≡ false → W.taken out.new ≡
-        W.taken out.old ++ string_bytes report.now.text) (λ _. W.taken out.new ≡ W.taken out.old) }
-    ensures count { MatchResult done (λ _. W.failures out.new ≡
-        (if reports_output result then one_more (W.failures out.old) else W.failures out.old))
-        (λ _. W.failures out.new ≡ W.failures out.old) }
-{
-    if let Err(fault) = done {
-        return Answer::Refused(fault);
-    }
-    let printed = report.text.as_bytes();
-    if printed.is_empty() {
-        return answer_by(report.is_match);
-    }
-    match out.put(printed) {
-        Ok(()) => answer_by(report.is_match),
-        Err(_) => Answer::Refused(Fault::OutFailed),
-    }
-}
 
 /// Carries out commands in order, and gives an answer to each. A refused command changes no file,
 /// prints nothing, and doesn't end the list. An error means that none was carried out.

@@ -5,6 +5,7 @@ mod answer;
 mod called;
 pub mod help;
 mod output;
+mod purpose;
 mod words;
 
 pub use answer::Answer;
@@ -12,4 +13,5 @@ pub use called::{asked_command, report_usage};
 pub use output::memory::MemoryOut;
 pub use output::standard::StandardOut;
 pub use output::{Out, PutError};
+pub use purpose::purpose_of;
 pub use words::command_of;

@@ -1,3 +1,2 @@
 pub mod SpliceLaws
 pub mod AnswerLaws
-pub mod PrintLaws

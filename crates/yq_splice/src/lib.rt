@@ -3,9 +3,8 @@
 
 pub mod edit_laws;
 mod editing;
-mod printing;
 
 pub use editing::edit;
-pub use printing::print;
+pub use yq_block::print;
 pub use yq_carrying::{EditError, Session, apply_op};
 pub use yq_script::{Edited, Splice};

@@ -4,4 +4,4 @@
 mod words;
 
 pub use words::read_words;
-pub use yq_line::{Command, UsageCause, WordsError, first_name, purpose_of, usage_text};
+pub use yq_line::{Command, UsageCause, WordsError, first_name, usage_text};

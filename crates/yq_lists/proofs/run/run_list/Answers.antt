@@ -4,12 +4,12 @@ use Rattle.std.proofs.lemmas.Grind.{common_steps}
 use Rattle.std.proofs.lemmas.List.{append-nil, take_more}
 use Rattle.yq_store.specs.Count.{one_more}
 use Rattle.yq_commands.specs.CommandNames.{IsNotNamed}
-use Rattle.yq_lists.specs.Lists.{Keeps, failures_in, output_failures_in, reports_failure, reports_output}
+use Rattle.yq_commands.specs.Lists.{Keeps, failures_in, output_failures_in, reports_failure, reports_output}
 use Rattle.yq_history.specs.Report.{report_by}
-use Rattle.yq_lists.proofs.CountLaws.{count_more, no_answers, put_more, put_passing}
-use Rattle.yq_lists.proofs.KeepLaws.{keeps_more, left_by, run_of}
-use Rattle.yq_lists.proofs.ListLaws.{all_inside, exact_run, is_inside}
-use Rattle.yq_lists.proofs.ReplyLaws.{answers_more, reply, taken_more}
+use Rattle.yq_commands.proofs.CountLaws.{count_more, no_answers, put_more, put_passing}
+use Rattle.yq_commands.proofs.KeepLaws.{keeps_more, left_by, run_of}
+use Rattle.yq_commands.proofs.ListLaws.{all_inside, exact_run, is_inside}
+use Rattle.yq_commands.proofs.ReplyLaws.{answers_more, reply, taken_more}
 use Rattle.yq_lists.proofs.run.run_list.Goals as goal
 
 pub commands-init : goal.commands-init

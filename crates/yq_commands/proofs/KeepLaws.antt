@@ -1,0 +1,214 @@
+-- What a command leaves of the store's names, and a list of them.
+use Rattle.std.proofs.Common.{◌≡◌, ◌≢◌, ◌⊎◌, inl, inr, ℕ, ◌+◌, ◌-◌, Bool, true, false, ◌||◌, nat_le, length, ◌==◌, if◌then◌else◌, List, [], ◌∷◌, ◌++◌, Option, Some, None, Result, Ok, Err, OnOk, MatchBool, IfErr, sym, ap, ◌∙◌, subst, refl}
+use Rattle.std.proofs.lemmas.List.Elements.{All-head, All-tail}
+use Rattle.std.specs.Str.{bytes_eq}
+use Rattle.std.specs.FinMap.{get}
+use Rattle.std.specs.String.{string_bytes}
+use Rattle.yq_program.specs.Program.{Program}
+use Rattle.yq_records.specs.declared.moves.Move.{Move}
+use Rattle.yq_records.specs.declared.moves.Move.TheVariants as move
+use Rattle.yq_journal.specs.Good.{Good, journal_beside}
+use Rattle.yq_journal.specs.History.{History}
+use Rattle.yq_records.specs.Refusals.{most_records, no_way, squash_fault}
+use Rattle.yq_records.specs.State.{State, moved, moved_text, opened, settled, squashed}
+use Rattle.yq_output.specs.declared.answer.Answer.{Answer}
+use Rattle.yq_output.specs.declared.answer.Answer.TheVariants.{Done, Refused}
+use Rattle.yq_line.specs.declared.command.Command.{Command}
+use Rattle.yq_line.specs.declared.command.Command.TheVariants.{Eval, Undo, Redo, History as Lists, Squash, Help}
+use Rattle.yq_history.specs.declared.fault.Fault.{Fault}
+use Rattle.yq_history.specs.declared.fault.Fault.TheVariants as fault
+use Rattle.yq_history.specs.Causes.{named}
+use Rattle.yq_store.specs.FileMap.{FileMap}
+use Rattle.yq_commands.specs.Editing.{EditOutcome, unreadable, refused, edited, edits, program_in}
+use Rattle.yq_history.specs.Effects.{Effect, refuses, writes_nothing, writes_both, from_settled, from_journal, from_pair, leads_to, goes_to, move_effect, joins_to, squash_effect, listing_effect, printed_by, Works}
+use Rattle.yq_commands.specs.CommandEffects.{edit_effect, edit_writes, update_effect, OfEffect, IsListing, IsUnparsed, expression_fault}
+use Rattle.yq_commands.specs.FileEdits.{HasEdited}
+use Rattle.yq_commands.specs.Edits.{edit_record}
+use Rattle.yq_history.specs.Faults.{is_outside, is_output}
+use Rattle.yq_commands.specs.CommandNames.{IsOn, IsNotNamed}
+use Rattle.yq_commands.specs.Lists.{answer_by, IsUnrelated, AllOnOrApart, Reply, IsAnswer, Goes, Run, ReportsEffect, HasEffect, RunsTo, Keeps, ReportsUnparsed, is_kept}
+use Rattle.yq_history.specs.Pair.{GoodIn, Arrives}
+use Rattle.yq_commands.specs.Prints.{report_of, prints, reads_journal}
+use Rattle.yq_history.specs.Report.{Report, nothing}
+use Rattle.yq_commands.specs.CommandSteps.{cause_of, next_of}
+use Rattle.yq_history.proofs.EffectLaws.{on_ok}
+use Rattle.yq_history.proofs.PairLaws.{same_pair}
+use Rattle.yq_commands.proofs.ReplyLaws.{reply, reply-answer, reply-printed, no_refusal}
+use Rattle.yq_commands.proofs.ListLaws.{arrived, not_true}
+
+-- ---- what effects print: of these but a listing nothing
+
+module _ (file journal : Option (List ℕ)) (go : List ℕ → State → Effect) (silent : (t : List ℕ) (s : State) → printed_by (go t s) ≡ []) where
+  from_silent : printed_by (from_pair file journal go) ≡ []
+  from_silent = elim file as (λ o. printed_by (from_pair o journal go) ≡ []) [
+    | None ↦ refl
+    | Some t ↦ elim (journal_beside journal) as (λ o. printed_by (from_journal o t go) ≡ []) [
+      | None ↦ refl
+      | Some s ↦ elim (settled s t) as (λ o. printed_by (from_settled o t go) ≡ []) [ None ↦ refl | Some z ↦ silent t z ]
+    ]
+  ]
+
+move_silent : (step : Move) (t : List ℕ) (s : State) → printed_by (move_effect step t s) ≡ []
+move_silent step t s = elim (no_way s.records s.at step) as (λ o. printed_by (goes_to o (moved_text s.records s.at step t) (opened s step t) (moved s step)) ≡ []) [
+  | None ↦ elim (moved_text s.records s.at step t) as (λ o. printed_by (leads_to o (opened s step t) (moved s step)) ≡ []) [ None ↦ refl | Some u ↦ refl ]
+  | Some y ↦ refl
+]
+
+if_silent : (b : Bool) (x y : Effect) → printed_by x ≡ [] → printed_by y ≡ [] → printed_by (if b then x else y) ≡ []
+if_silent true x y p q = p
+if_silent false x y p q = q
+
+squash_silent : (n : ℕ) (t : List ℕ) (s : State) → printed_by (squash_effect n t s) ≡ []
+squash_silent n t s = elim (squash_fault s n) as (λ o. printed_by (joins_to o n t (squashed s n)) ≡ []) [
+  | None ↦ if_silent (n == 1) (writes_nothing []) (writes_both t (squashed s n) (squashed s n)) refl refl
+  | Some y ↦ refl
+]
+
+edit_silent : (expr : List ℕ) (o : EditOutcome) (t : List ℕ) (s : State) → printed_by (edit_effect expr o t s) ≡ []
+edit_silent expr (unreadable old) t s = refl
+edit_silent expr (refused f) t s = refl
+edit_silent expr (edited u cs) t s =
+    let left = edit_writes (edit_record expr cs (length t) (length u)) t u s in
+    let full = refuses (named fault.JournalFull) in
+    if_silent (bytes_eq u t) (writes_nothing []) (if nat_le most_records s.at then full else left) refl (if_silent (nat_le most_records s.at) full left refl refl)
+
+update_silent : (expr : List ℕ) (p : Result Program Fault) (file journal : Option (List ℕ)) → printed_by (update_effect expr p file journal) ≡ []
+update_silent expr (Err f) file journal = refl
+update_silent expr (Ok p) file journal = from_silent file journal (λ t s. edit_effect expr (edits p t) t s) (λ t s. edit_silent expr (edits p t) t s)
+
+-- what a command shows are the bytes of its effect
+shows_effect : {T : Type 0} (cmd : Command) (file journal : Option (List ℕ)) (r : Result T Fault) (s : Report) →
+    (prints cmd ≡ false → s.printed ≡ []) → OnOk r (IsListing cmd file journal s.printed) → OfEffect cmd file journal (λ x. OnOk r (s.printed ≡ printed_by x))
+shows_effect (Eval expr f j true e d) file journal r s silent listed =
+    on_ok r (silent refl ∙ sym (update_silent (string_bytes expr) (program_in (string_bytes expr)) file journal))
+shows_effect (Eval expr f j false e d) file journal r s silent listed = tt
+shows_effect (Undo f j) file journal r s silent listed = on_ok r (silent refl ∙ sym (from_silent file journal (move_effect move.Undo) (move_silent move.Undo)))
+shows_effect (Redo f j) file journal r s silent listed = on_ok r (silent refl ∙ sym (from_silent file journal (move_effect move.Redo) (move_silent move.Redo)))
+shows_effect (Lists f j) file journal r s silent listed = listed
+shows_effect (Squash n f j) file journal r s silent listed = on_ok r (silent refl ∙ sym (from_silent file journal (squash_effect n) (squash_silent n)))
+shows_effect Help file journal r s silent listed = tt
+
+-- ---- what a reply tells of an effect
+
+reports_done : {T : Type 0} (x : Effect) (f j : List ℕ) (c e : FileMap) (v : T) → Works x f j c e {T = T} (Ok v) → Works x f j c e {T = Unit {0}} (Ok tt)
+reports_done (refuses y) f j c e v p = absurd p
+reports_done (writes_nothing o) f j c e v p = p
+reports_done (writes_both u started s) f j c e v p = p
+
+reports_refused : (T : Type 0) (x : Effect) (f j : List ℕ) (c e : FileMap) (y : Fault) → Works x f j c e {T = T} (Err y) → Works x f j c e {T = Unit {0}} (Err y)
+reports_refused T (refuses z) f j c e y p = p
+reports_refused T (writes_nothing o) f j c e y p = p
+reports_refused T (writes_both u started s) f j c e y p = p
+
+module _ (x : Effect) (f j : List ℕ) (c e : FileMap) where
+  -- what an answer tells, with the bytes that are printed if it is one of those that print
+  abbrev ReportsOf : Answer → List ℕ → Type 0
+  ReportsOf a o = ReportsEffect x f j c e (reply a o).answer (reply a o).printed
+
+  reports_by : (m : Bool) (o : List ℕ) → m ≡ true → Works x f j c e {T = Unit {0}} (Ok tt) → o ≡ printed_by x → ReportsOf (answer_by m) o
+  reports_by true o is p q = (p, q)
+  reports_by false o is p q = cc
+
+  reports_each : {T : Type 0} (r : Result T Fault) (a : Answer) (s : Report) →
+      IsAnswer r a s → s.is_match ≡ true → IfErr r (λ y. is_output y ≡ false) → Works x f j c e r → OnOk r (s.printed ≡ printed_by x) → ReportsOf a s.printed
+  reports_each (Ok v) a s (inl is) matched no_output p o = subst (λ y. ReportsOf y s.printed) (sym is) (reports_by s.is_match s.printed matched (reports_done x f j c e v p) o)
+  reports_each (Ok v) a s (inr is) matched no_output p o = subst (λ y. ReportsOf y s.printed) (sym is.0) (tt, refl)
+  reports_each {T = T} (Err y) a s is matched no_output p o =
+      subst (λ z. ReportsOf z s.printed) (sym is)
+      (subst (λ b. MatchBool b (Unit {0}) (Works x f j c e {T = Unit {0}} (Err y))) (sym no_output) (reports_refused T x f j c e y p), refl)
+
+of_effect : (cmd : Command) (file journal : Option (List ℕ)) (P R Q : Effect → Type 0) →
+    (reads_journal cmd ≡ true → (x : Effect) → P x → R x → Q x) → OfEffect cmd file journal P → OfEffect cmd file journal R → OfEffect cmd file journal Q
+of_effect (Eval expr f j true s d) file journal P R Q more p q = more refl (update_effect (string_bytes expr) (program_in (string_bytes expr)) file journal) p q
+of_effect (Eval expr f j false s d) file journal P R Q more p q = tt
+of_effect (Undo f j) file journal P R Q more p q = more refl (from_pair file journal (move_effect move.Undo)) p q
+of_effect (Redo f j) file journal P R Q more p q = more refl (from_pair file journal (move_effect move.Redo)) p q
+of_effect (Lists f j) file journal P R Q more p q = more refl (from_pair file journal listing_effect) p q
+of_effect (Squash n f j) file journal P R Q more p q = more refl (from_pair file journal (squash_effect n)) p q
+of_effect Help file journal P R Q more p q = tt
+
+-- ---- one command
+
+-- what is known of a command that was carried out or refused, by its contract, and of its answer
+pub record IsDone {T : Type 0} (c e : FileMap) (cmd : Command) (r : Result T Fault) (a : Answer) (s : Report) : Type 0 where
+  pub answered : IsAnswer r a s
+  pub arrives : (f j : List ℕ) → f ≢ j → IsOn f j cmd → (h : Option History) → GoodIn c f j h → Arrives e f j (cause_of cmd h) h (next_of cmd h) r
+  pub output : (f j : List ℕ) → IsOn f j cmd → (h : Option History) → GoodIn c f j h → OnOk r (s ≡ report_of cmd h)
+  pub effect : (f j : List ℕ) → f ≢ j → IsOn f j cmd → OfEffect cmd (get c f) (get c j) (λ x. Works x f j c e r)
+  pub listed : (f j : List ℕ) → IsOn f j cmd → OnOk r (IsListing cmd (get c f) (get c j) s.printed)
+  pub silent : prints cmd ≡ false → s ≡ nothing
+  pub matched : reads_journal cmd ≡ true → s.is_match ≡ true
+  pub still : prints cmd ≡ true → e ≡ c
+  pub kept : IfErr r (λ x. is_outside x ≡ false → e ≡ c)
+  pub others : (q : List ℕ) → IsNotNamed q cmd → get e q ≡ get c q
+  pub no_output : IfErr r (λ x. is_output x ≡ false)
+  pub edited : OnOk r (HasEdited cmd c e s.printed)
+  pub unparsed : (f : Fault) → expression_fault cmd ≡ Some f → IsUnparsed f r
+
+-- a refusal from inside left the content
+kept_by : {T : Type 0} (c e : FileMap) (r : Result T Fault) (a : Answer) (s : Report) → IsAnswer r a s → s ≡ nothing → is_kept a ≡ true → IfErr r (λ x. is_outside x ≡ false → e ≡ c) → e ≡ c
+kept_by c e (Ok v) a s (inl is) silent k same = let no : false ≡ true = sym (ap is_kept is ∙ no_refusal s.is_match) ∙ k in cc
+kept_by c e (Ok v) a s (inr is) silent k same = absurd (is.1 (ap (λ (x : Report). x.printed) silent))
+kept_by c e (Err x) a s is silent k same = same (not_true (is_outside x) (sym (ap is_kept is) ∙ k))
+
+-- what was accepted of an edit
+edited_by : {T : Type 0} (c e : FileMap) (cmd : Command) (r : Result T Fault) (a : Answer) (s : Report) → IsAnswer r a s → OnOk r (HasEdited cmd c e s.printed) →
+    (reply a s.printed).answer ≡ Done → HasEdited cmd c e (reply a s.printed).printed
+edited_by c e cmd (Ok v) a s (inl is) has done = subst (HasEdited cmd c e) (sym (ap (λ y. (reply y s.printed).printed) is ∙ reply-printed s.is_match s.printed)) has
+edited_by c e cmd (Ok v) a s (inr is) has done = let no : Refused fault.OutFailed ≡ Done = sym (reply-answer a s.printed ∙ is.0) ∙ done in cc
+edited_by c e cmd (Err x) a s is has done = let no : Refused x ≡ Done = sym (reply-answer a s.printed ∙ is) ∙ done in cc
+
+-- the answer to an expression that is no program
+unparsed_by : {T : Type 0} (f : Fault) (r : Result T Fault) (a : Answer) (s : Report) → IsAnswer r a s → IsUnparsed f r → ReportsUnparsed f (reply a s.printed).answer
+unparsed_by f (Ok v) a s is reports = absurd reports
+unparsed_by f (Err x) a s is reports = subst (ReportsUnparsed f) (sym (reply-answer a s.printed ∙ is)) reports
+
+module _ {T : Type 0} (c e : FileMap) (cmd : Command) (r : Result T Fault) (a : Answer) (s : Report) (k : IsDone c e cmd r a s) where
+  -- a command goes on, on the pair or apart from it
+  goes_on : (f j : List ℕ) → f ≢ j → IsOn f j cmd ⊎ IsUnrelated f j cmd → (h : Option History) → GoodIn c f j h → (m : Option History) × Goes f j cmd h (reply a s.printed) m × GoodIn e f j m
+  goes_on f j apart (inl on) h good =
+      let p = arrived e f j cmd h r a s k.answered (k.output f j on h good) k.no_output (k.arrives f j apart on h good) in
+      (p.0, inl (on, p.1), p.2)
+  goes_on f j apart (inr (inl strange)) h good =
+      (h, inr (inl strange, refl), subst (λ x. Good x (get e j) h) (sym (k.others f strange.0)) (subst (λ y. Good (get c f) y h) (sym (k.others j strange.1)) good))
+  goes_on f j apart (inr (inr printing)) h good = (h, inr (inr printing, refl), same_pair c e f j h (k.still printing.1) good)
+
+  has_effect : HasEffect cmd (reply a s.printed) c e
+  has_effect = λ f j apart on.
+      of_effect cmd (get c f) (get c j) (λ x. Works x f j c e r) (λ x. OnOk r (s.printed ≡ printed_by x)) (λ x. ReportsOf x f j c e a s.printed)
+      (λ reads x. reports_each x f j c e r a s k.answered (k.matched reads) k.no_output) (k.effect f j apart on)
+      (shows_effect cmd (get c f) (get c j) r s (λ p. ap (λ (x : Report). x.printed) (k.silent p)) (k.listed f j on))
+
+  -- what a command leaves
+  pub left_by : RunsTo cmd (reply a s.printed) c e
+  left_by = record {
+    all = λ holds. elim (prints cmd) as (λ b. prints cmd ≡ b → (b || is_kept (reply a s.printed).answer) ≡ true → e ≡ c) [
+      | true ↦ λ p q. k.still p
+      | false ↦ λ p q. kept_by c e r a s k.answered (k.silent p) (sym (ap is_kept (reply-answer a s.printed)) ∙ q) k.kept
+    ] refl holds;
+    others = k.others;
+    effect = has_effect;
+    steps = λ f j apart fits h good. goes_on f j apart fits h good;
+    edited = edited_by c e cmd r a s k.answered k.edited;
+    unparsed = λ f is. unparsed_by f r a s k.answered (k.unparsed f is);
+  }
+
+-- ---- a list of commands
+
+-- one command more
+pub keeps_more : (old m new : FileMap) (cs : List Command) (rs : List Reply) (c : Command) (r : Reply) → Keeps old cs rs m → RunsTo c r m new → Keeps old (cs ++ c ∷ []) (rs ++ r ∷ []) new
+keeps_more old m new [] [] c r k left = (new, subst (λ x. RunsTo c r x new) k left, refl)
+keeps_more old m new (d ∷ cs) (b ∷ rs) c r k left = (k.0, k.1, keeps_more k.0 m new cs rs c r k.2 left)
+keeps_more old m new [] (b ∷ rs) c r k left = absurd k
+keeps_more old m new (d ∷ cs) [] c r k left = absurd k
+
+-- from a pair that is good for a history it is a run
+pub run_of : (f j : List ℕ) → f ≢ j → (cs : List Command) (rs : List Reply) (old new : FileMap) (h : Option History) →
+    Keeps old cs rs new → AllOnOrApart f j cs → GoodIn old f j h → (k : Option History) × Run f j h cs rs k × GoodIn new f j k
+run_of f j apart [] [] old new h keeps fit good = (h, refl, same_pair old new f j h keeps good)
+run_of f j apart (c ∷ cs) (r ∷ rs) old new h keeps fit good =
+    let one = keeps.1.steps f j apart (All-head (λ x. IsOn f j x ⊎ IsUnrelated f j x) c cs fit) h good in
+    let more = run_of f j apart cs rs keeps.0 new one.0 keeps.2 (All-tail (λ x. IsOn f j x ⊎ IsUnrelated f j x) c cs fit) one.2 in
+    (more.0, (one.0, one.1, more.1), more.2)
+run_of f j apart [] (r ∷ rs) old new h keeps fit good = absurd keeps
+run_of f j apart (c ∷ cs) [] old new h keeps fit good = absurd keeps

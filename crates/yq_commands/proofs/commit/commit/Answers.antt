@@ -1,0 +1,62 @@
+use Rattle.std.proofs.Common.{◌≢◌, ℕ, List, length, ◌∙◌, sym, ap, subst, true≢false}
+use Rattle.std.proofs.lemmas.Result.{err_from_is_err_and}
+use Rattle.std.proofs.lemmas.Slice.Eq.{bytes_eq-Decides}
+use Rattle.yq_history.specs.Effects.{Works}
+use Rattle.yq_commands.specs.CommandEffects.{edit_effect}
+use Rattle.yq_commands.specs.Editing.{edits}
+use Rattle.yq_commands.specs.Edits.{edit_record}
+use Rattle.yq_history.specs.Faults.{is_outside}
+use Rattle.yq_records.specs.Record.{Record, done}
+use Rattle.yq_commands.proofs.EditLaws.{edit_done, edit_ends}
+use Rattle.yq_history.proofs.EffectLaws.{works_outside}
+use Rattle.yq_commands.proofs.EditEffects.{edit_works}
+use Rattle.yq_commands.proofs.commit.commit.Goals as goal
+
+pub returns : goal.returns
+returns g c =
+    let e = c.carry_out.ensures in
+    let changes : c.args.new.now ≢ c.args.old.items = λ same.
+    true≢false (sym ((bytes_eq-Decides c.args.new.now c.as_slice.result.now).1 (same ∙ sym c.as_slice.ensures.value)) ∙ sym c.eq.ensures ∙ c.if-eq.false) in
+    let made = c.in_ok-edit.ensures ∙ ap (λ (b : List ℕ). edit_record c.args.expr.now c.args.splices.items (length b) (length c.args.new.now)) c.deref.ensures.value in
+    let leads = ap (λ (r : Record). done r c.args.old.items) made ∙ edit_done c.args.expr.now _ c.args.old.items c.args.new.now c.requires.leads in
+    record {
+      arrives = λ keeps apart h p k gives.
+          edit_ends _ _ _ h _ p _ _ k _ _ _ _ made gives changes c.carry_out.result
+          (record {
+            leads = leads;
+            ok = e.ok keeps apart;
+            err = e.err keeps apart;
+            text = e.text keeps apart;
+            beside = e.moved keeps;
+            cut = e.cut keeps apart;
+            fault = e.fault;
+            refused = e.refused;
+            barred = e.barred keeps;
+          });
+      text = λ keeps apart there. e.text keeps apart;
+      effect = λ keeps apart p gives.
+          edit_works c.args.file.now c.args.journal.now (g.D.Store.content c.args.store.now) c.args.expr.now c.args.state.now c.args.old.items _ _ _ made
+          (edits p c.args.old.items) _ c.carry_out.result gives changes
+          (record {
+            leads = leads;
+            ok = e.ok keeps apart;
+            err = e.err keeps apart;
+            text = e.text keeps apart;
+            beside = e.moved keeps;
+            cut = e.cut keeps apart;
+            fault = e.fault;
+            refused = e.refused;
+            barred = e.barred keeps;
+          });
+      kept = e.kept;
+      others = e.others;
+      no_output = e.no_output;
+      count = e.count;
+    }
+
+pub returns-in_err-edit-clause-effect : goal.returns-in_err-edit-clause-effect
+returns-in_err-edit-clause-effect g c = λ keeps apart p gives.
+    let r = err_from_is_err_and c.from_residual.result c.from_residual.ensures.1 in
+    let content = g.D.Store.content c.args.store.now in
+    let effect = edit_effect c.args.expr.now (edits p c.args.old.items) c.args.old.items c.args.state.now in
+    subst (Works effect c.args.file.now c.args.journal.now content content) (sym r.1) (works_outside (Unit {0}) effect c.args.file.now c.args.journal.now content r.0 (ap is_outside r.2))

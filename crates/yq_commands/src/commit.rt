@@ -1,0 +1,87 @@
+//! An edited text, kept in its file beside the journal.
+ghost use Rattle.std.specs.Prelude.{◌≡◌, ◌≢◌, Some, Ok, IfOk, OnOk, IfErr, IsTrue, IsNone, false, length};
+ghost use Rattle.yq_journal.specs.History.{History};
+ghost use Rattle.yq_script.specs.Splice.{Splice, all_done, lengths_done};
+ghost use Rattle.std.specs.FinMap as map;
+ghost use Rattle.yq_program.specs.Program as spec;
+ghost use Rattle.yq_commands.specs.Editing.{edited, edits};
+ghost use Rattle.yq_commands.specs.Edits.{edit_record};
+ghost use Rattle.yq_commands.specs.CommandEffects.{edit_effect};
+ghost use Rattle.yq_history.specs.Effects.{Works};
+ghost use Rattle.yq_history.specs.Faults.{is_outside, is_output, counted};
+ghost use Rattle.yq_history.specs.Pair.{Arrives, OthersStay, PairAtRest};
+ghost use Rattle.yq_commands.specs.CommandSteps.{update_cause, update_next};
+
+use std::alloc::{AllocError, Global};
+use yq_history::Fault;
+use yq_journal::Journal;
+use yq_moves::carry_out;
+use yq_records::{Move, Record};
+use yq_script::Splice;
+use yq_store::Store;
+
+/// The record of an edit from one text to another.
+fn record_of(
+    alloc: Global,
+    expr: &str,
+    splices: Vec<Splice>,
+    old: &[u8],
+    new: &[u8],
+) -> Result<Record, AllocError>
+    requires lengths { lengths_done splices.items (length old.now) ≡ Some (length new.now) }
+    ensures { IfOk result (λ r. r ≡ edit_record expr.now splices.items (length old.now)
+        (length new.now)) }
+{
+    let expr = String::from_str(alloc, expr)?;
+    Ok(Record::new(expr, splices, old.len() as u64, new.len() as u64))
+}
+
+/// Carries out an edit of a file beside its settled journal. One to an equal text writes nothing.
+pub fn commit<D: Store>(
+    alloc: Global,
+    store: &mut D,
+    file: &str,
+    journal: &str,
+    state: &mut Journal,
+    expr: &str,
+    splices: Vec<Splice>,
+    old: Vec<u8>,
+    new: &[u8],
+) -> Result<(), Fault>
+    requires at_rest { IsNone state.old.pending }
+    requires lengths { lengths_done splices.items (length old.items) ≡ Some (length new.now) }
+    requires leads { all_done splices.items old.items ≡ Some new.now }
+    ensures arrives { IsTrue D.keeps → file.now ≢ journal.now → (h : History) → (p : spec.Program) →
+        PairAtRest (D.content store.old) file.now journal.now state.old old.items h →
+        edits p old.items ≡ edited new.now splices.items →
+        Arrives (D.content store.new) file.now journal.now (update_cause (Ok p) (Some h)) (Some h)
+        (update_next expr.now (Ok p) (Some h)) result }
+    ensures text { IsTrue D.keeps → file.now ≢ journal.now →
+        map.get (D.content store.old) file.now ≡ Some old.items →
+        OnOk result (map.get (D.content store.new) file.now ≡ Some new.now) }
+    ensures effect { IsTrue D.keeps → file.now ≢ journal.now → (p : spec.Program) →
+        edits p old.items ≡ edited new.now splices.items →
+        Works (edit_effect expr.now (edits p old.items) old.items state.old) file.now journal.now
+        (D.content store.old) (D.content store.new) result }
+    ensures kept { IsTrue D.keeps → IfErr result (λ e. is_outside e ≡ false →
+        D.content store.new ≡ D.content store.old) }
+    ensures others { IsTrue D.keeps → OthersStay (D.content store.old)
+        (D.content store.new) file.now journal.now }
+    ensures no_output { IfErr result (λ e. is_output e ≡ false) }
+    ensures count { D.failures store.new ≡ counted result (D.failures store.old) }
+{
+    if new == old.as_slice() {
+        return Ok(());
+    }
+    let edit = record_of(alloc, expr, splices, &old, new)?;
+    carry_out(
+        alloc,
+        store,
+        file,
+        journal,
+        state,
+        Move::Edit(edit),
+        old,
+        new,
+    )
+}

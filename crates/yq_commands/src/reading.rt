@@ -1,0 +1,37 @@
+//! An expression as a program, and the bytes of a file as a text.
+ghost use Rattle.std.specs.Prelude.{◌≡◌, ◌≢◌, None, Ok, IfOk, IfErr, OnErr, true, false};
+ghost use Rattle.std.specs.Str.{is_utf8};
+ghost use Rattle.yq_program.specs.View.{program_of};
+ghost use Rattle.yq_documents.specs.Reading.{read_at};
+ghost use Rattle.yq_history.specs.Causes.{IsUnreadable};
+ghost use Rattle.yq_commands.specs.Editing.{program_in};
+ghost use Rattle.yq_history.specs.Faults.{is_failure, is_output};
+
+use crate::faults::parse_fault;
+use std::alloc::Global;
+use yq_expr::{Program, parse_expr};
+use yq_history::Fault;
+use yq_tree::text_of;
+
+/// The program of an expression.
+#[tactic(auto, unfolding(crate::specs::Editing::program_in))]
+pub fn parse(alloc: Global, expr: &str) -> Result<Program, Fault>
+    ensures ok { IfOk result (λ p. program_in expr.now ≡ Ok (program_of p)) }
+    ensures err { IfErr result (λ e. e ≢ Fault.OutOfMemory → program_in expr.now ≡ Err e) }
+    ensures inside { IfErr result (λ e. is_failure e ≡ false) }
+    ensures no_output { IfErr result (λ e. is_output e ≡ false) }
+{
+    parse_expr(alloc, expr).map_err(parse_fault)
+}
+
+/// The text of a file's bytes, which are refused where they are no UTF-8, however many they are.
+pub fn utf8_text(bytes: &[u8]) -> Result<&str, Fault>
+    ensures ok { IfOk result (λ s. s.now ≡ bytes.now) }
+    ensures utf8 { IfOk result (λ s. is_utf8 bytes.now ≡ true) }
+    ensures err { IfErr result (IsUnreadable bytes.now) }
+    ensures none { OnErr result (read_at bytes.now ≡ None) }
+    ensures inside { IfErr result (λ e. is_failure e ≡ false) }
+    ensures no_output { IfErr result (λ e. is_output e ≡ false) }
+{
+    Ok(text_of(bytes)?)
+}
