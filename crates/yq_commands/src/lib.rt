@@ -3,13 +3,13 @@
 #![tactic(auto)]
 
 mod answers;
-mod commit;
+mod commits;
 mod faults;
 mod reading;
 mod reads;
 
 pub use answers::answer_of;
-pub use commit::commit;
+pub use commits::commit;
 pub use faults::edit_fault;
 pub use reading::{parse, utf8_text};
 pub use reads::show_read;

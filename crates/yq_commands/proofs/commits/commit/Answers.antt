@@ -10,7 +10,7 @@ use Rattle.yq_records.specs.Record.{Record, done}
 use Rattle.yq_commands.proofs.EditLaws.{edit_done, edit_ends}
 use Rattle.yq_history.proofs.EffectLaws.{works_outside}
 use Rattle.yq_commands.proofs.EditEffects.{edit_works}
-use Rattle.yq_commands.proofs.commit.commit.Goals as goal
+use Rattle.yq_commands.proofs.commits.commit.Goals as goal
 
 pub returns : goal.returns
 returns g c =
