@@ -38,7 +38,10 @@ pub fn edit_text(alloc: Global, program: &Program, text: &[u8]) -> Result<Edited
     ensures no_output { IfErr result (λ e. is_output e ≡ false) }
 {
     let text = utf8_text(text)?;
-    edit(alloc, text, program).map_err(edit_fault)
+    match edit(alloc, text, program) {
+        Ok(edited) => Ok(edited),
+        Err(error) => Err(edit_fault(error)),
+    }
 }
 
 /// Edits a file beside its settled journal. An edit to an equal text writes nothing.
