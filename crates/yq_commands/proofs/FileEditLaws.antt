@@ -1,5 +1,5 @@
 -- What an accepted edit makes of a file, and an expression that is no program.
-use Rattle.std.proofs.Common.{◌≡◌, ◌≢◌, ℕ, List, false, Option, Some, Result, Ok, Err, IfOk, OnOk, MatchResult, is_ok, string_bytes, refl, sym, ap, ◌∙◌, subst, true≢false}
+use Rattle.std.proofs.Common.{◌≡◌, ◌≢◌, ℕ, List, false, Option, Some, Result, Ok, Err, IfOk, OnOk, string_bytes, refl, sym, ap, ◌∙◌, subst}
 use Rattle.std.proofs.lemmas.Option.{same_Some, none-some}
 use Rattle.yq_program.specs.Program.{Program, is_read, updates}
 use Rattle.yq_script.specs.declared.edited.Edited.{Edited}
@@ -27,12 +27,6 @@ unparsed_fault r expr e is why f fault =
     subst (IsUnparsed f) (sym is) (λ other. same_Some e f (sym (ap fault_of (why other)) ∙ fault))
 
 -- ---- an accepted edit
-
--- where an error is another one, what was given is the same
-pub still_holds : {T D E : Type 0} (Q : T → Type 0) (R : E → Type 0) (r : Result T E) (s : Result T D) → MatchResult r (λ x. s ≡ Ok x) R → is_ok s ≡ is_ok r → IfOk r Q → IfOk s Q
-still_holds Q R (Ok x) s is same holds = subst (λ y. IfOk y Q) (sym is) holds
-still_holds Q R (Err e) (Ok x) is same holds = absurd (true≢false same)
-still_holds Q R (Err e) (Err d) is same holds = tt
 
 -- of a text, by the contract of the edit
 pub text_comes : (r : Result Edited EditError) (p : Program) (s t : List ℕ) → s ≡ t → Edits r (edit_of p s) →
