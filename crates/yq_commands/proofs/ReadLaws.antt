@@ -2,8 +2,8 @@
 use Rattle.std.proofs.Common.{◌≡◌, ◌&&◌, List, [], ◌∷◌, ap, refl}
 use Rattle.std.specs.List.{list_all}
 use Rattle.yq_nodes.specs.Values.{node_of}
-use Rattle.yq_expr.specs.declared.matched.Match.{Match}
-use Rattle.yq_expr.specs.MatchView.{matches_of}
+use Rattle.yq_matches.specs.declared.matched.Match.{Match}
+use Rattle.yq_matches.specs.MatchView.{matches_of}
 use Rattle.yq_commands.specs.Reads.{is_no_match, have_no_match}
 
 -- matches that are all none for `-e`, each by itself

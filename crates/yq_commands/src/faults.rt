@@ -2,9 +2,10 @@
 ghost use Rattle.std.specs.Prelude.{◌≡◌};
 ghost use Rattle.yq_commands.specs.CommandFaults.{of_edit, of_matching, of_parse, of_refusal};
 
-use yq_expr::{ExprError, ParseError, Refusal};
 use yq_history::Fault;
+use yq_meaning::{ExprError, Refusal};
 use yq_outcomes::EditError;
+use yq_parsing::ParseError;
 
 /// Why an expression has no program.
 pub fn parse_fault(error: ParseError) -> Fault

@@ -9,8 +9,9 @@ ghost use Rattle.yq_history.specs.Faults.{is_failure, is_output};
 
 use crate::faults::parse_fault;
 use std::alloc::Global;
-use yq_expr::{Program, parse_expr};
 use yq_history::Fault;
+use yq_parsing::parse_expr;
+use yq_program::Program;
 use yq_tree::text_of;
 
 /// The program of an expression.

@@ -3,7 +3,7 @@ ghost use Rattle.std.specs.Prelude.{◌≡◌, ◌≢◌, ◌++◌, Ok, IfOk, If
 ghost use Rattle.std.specs.List.{list_all};
 ghost use Rattle.std.specs.String.{string_bytes};
 ghost use Rattle.yq_nodes.specs.Values.{node_of};
-ghost use Rattle.yq_expr.specs.MatchView.{matches_of};
+ghost use Rattle.yq_matches.specs.MatchView.{matches_of};
 ghost use Rattle.yq_block.specs.Print.{print_text};
 ghost use Rattle.yq_program.specs.Program.{is_read};
 ghost use Rattle.yq_program.specs.View.{program_of};
@@ -17,9 +17,11 @@ use crate::faults::match_fault;
 use crate::reading::utf8_text;
 use std::alloc::{AllocError, Global};
 use yq_block::print;
-use yq_expr::{Match, Program, Value, matches};
 use yq_flow_scalars::{Kind, is_true_word};
 use yq_history::{Fault, Report};
+use yq_matches::{Match, matches};
+use yq_nodes::Value;
+use yq_program::Program;
 use yq_tree::read;
 
 /// Adds what stands before a match: the line `---`, where the match before it is in another document.

@@ -1,5 +1,4 @@
 pub use Rattle.yq_nodes.specs.Values
 pub use Rattle.yq_flow_scalars.specs.Tree
-pub mod MatchView
 pub mod EffectView
 pub mod Summand

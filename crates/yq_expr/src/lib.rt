@@ -1,17 +1,16 @@
-//! Programs matched in documents, and planned on them.
+//! Programs planned on documents.
 #![tactic(auto)]
 
 mod at_places;
 mod changes;
 mod effect;
-mod matched;
 mod planning;
 mod put;
 mod right_value;
 mod steps;
 
-pub use matched::{Match, matches};
 pub use planning::plan;
+pub use yq_matches::{Match, matches};
 pub use yq_meaning::{
     ExprError, Op, Refusal, changes_apart, copied_steps, places_apart, plan_fits, plan_means,
     plan_refused, plan_rooms, rest_follows, rooms_alike, rooms_ready,

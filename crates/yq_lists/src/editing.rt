@@ -15,9 +15,9 @@ ghost use Rattle.yq_history.specs.Pair.{Arrives, OthersStay, PairAtRest};
 
 use std::alloc::Global;
 use yq_commands::{commit, edit_fault, utf8_text};
-use yq_expr::Program;
 use yq_history::Fault;
 use yq_journal::Journal;
+use yq_program::Program;
 use yq_splice::{Edited, edit};
 use yq_store::Store;
 

@@ -17,8 +17,8 @@ ghost use Rattle.yq_history.specs.Report.{report_by};
 use crate::editing::edit_text;
 use std::alloc::Global;
 use yq_commands::{parse, show_read};
-use yq_expr::Program;
 use yq_history::{Fault, Report};
+use yq_program::Program;
 use yq_splice::Edited;
 use yq_store::Store;
 

@@ -4,7 +4,7 @@ use Rattle.std.specs.Str.{is_utf8}
 use Rattle.yq_flow_scalars.specs.Answers.{ReadFails}
 use Rattle.yq_documents.specs.Reading.{documents, read_at}
 use Rattle.yq_meaning.specs.Judgement.{gives}
-use Rattle.yq_expr.specs.MatchView.{matches_of}
+use Rattle.yq_matches.specs.MatchView.{matches_of}
 use Rattle.yq_program.specs.View.{program_of}
 use Rattle.yq_commands.specs.Reads as spec
 use Rattle.yq_commands.proofs.ShowLaws.{unread_fails, reading_fails, matching_fails, found_shows}

@@ -1,10 +1,10 @@
 use Rattle.std.proofs.Common.{◌≡◌, drop, map}
 use Rattle.yq_documents.specs.Reading.{documents_of}
 use Rattle.yq_meaning.specs.Copies.{matches_from}
-use Rattle.yq_expr.specs.MatchView.{matches_of}
+use Rattle.yq_matches.specs.MatchView.{matches_of}
 use Rattle.yq_matching.specs.PlaceView.{put_behind}
 use Rattle.yq_program.specs.View.{stage_of}
-use Rattle.yq_expr.proofs.matched.pipe_matches.Given as goal
+use Rattle.yq_matches.proofs.matched.pipe_matches.Given as goal
 
 abbrev pub invariant-documents : goal.invariant-documents
 invariant-documents l =

@@ -1,10 +1,10 @@
 use Rattle.std.specs.Prelude.{Vec}
 use Rattle.std.specs.declared.alloc.Global.{Global}
 use Rattle.yq_documents.specs.Reading.{documents_of}
-use Rattle.yq_expr.specs.MatchView.{matches_of}
-use Rattle.yq_expr.specs.declared.matched.Match.{Match}
+use Rattle.yq_matches.specs.MatchView.{matches_of}
+use Rattle.yq_matches.specs.declared.matched.Match.{Match}
 use Rattle.yq_meaning.proofs.MatchTrees.{answer_matches}
-use Rattle.yq_expr.proofs.matched.matches.Goals as goal
+use Rattle.yq_matches.proofs.matched.matches.Goals as goal
 
 pub returns-clause-trees : goal.returns-clause-trees
 returns-clause-trees c =

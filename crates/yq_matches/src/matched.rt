@@ -6,7 +6,7 @@ ghost use Rattle.yq_meaning.specs.Conditions.{value_of};
 ghost use Rattle.yq_meaning.specs.Copies as spec;
 ghost use Rattle.yq_meaning.specs.Judgement.{Judges};
 ghost use Rattle.yq_meaning.specs.MatchTrees.{AreMatches};
-ghost use Rattle.yq_expr.specs.MatchView.{matches_of};
+ghost use Rattle.yq_matches.specs.MatchView.{matches_of};
 ghost use Rattle.yq_matching.specs.PlaceView.{place_of, places_of, put_behind};
 ghost use Rattle.yq_meaning.specs.Places.{for_each};
 ghost use Rattle.yq_program.specs.Program.{Stage as PipeStage, is_read, read};

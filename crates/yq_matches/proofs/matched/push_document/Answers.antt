@@ -5,7 +5,7 @@ use Rattle.yq_matching.specs.TreeScalars.{HaveScalars}
 use Rattle.yq_program.specs.View.{stage_of}
 use Rattle.yq_matching.specs.declared.matching.place.Place as declared
 use Rattle.yq_matching.proofs.MatchLaws.{places_have}
-use Rattle.yq_expr.proofs.matched.push_document.Goals as goal
+use Rattle.yq_matches.proofs.matched.push_document.Goals as goal
 
 pub push_copies-requires : goal.push_copies-requires
 push_copies-requires c =

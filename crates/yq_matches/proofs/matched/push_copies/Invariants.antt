@@ -1,10 +1,10 @@
 use Rattle.std.proofs.Common.{◌≡◌, drop}
 use Rattle.yq_meaning.specs.Copies.{match_at}
-use Rattle.yq_expr.specs.MatchView.{matches_of}
+use Rattle.yq_matches.specs.MatchView.{matches_of}
 use Rattle.yq_matching.specs.PlaceView.{places_of, put_behind}
 use Rattle.yq_meaning.specs.Places.{for_each}
 use Rattle.yq_matching.specs.TreeScalars.{HaveScalars}
-use Rattle.yq_expr.proofs.matched.push_copies.Given as goal
+use Rattle.yq_matches.proofs.matched.push_copies.Given as goal
 
 abbrev pub invariant-places : goal.invariant-places
 invariant-places l = record {

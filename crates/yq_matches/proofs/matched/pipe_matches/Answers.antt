@@ -5,14 +5,14 @@ use Rattle.yq_documents.specs.Documents.{Document, document_parts}
 use Rattle.yq_documents.specs.Reading.{cut_of, documents_of}
 use Rattle.yq_meaning.specs.Copies.{matches, matches_in}
 use Rattle.yq_meaning.specs.Judgement.{MatchFails}
-use Rattle.yq_expr.specs.MatchView.{matches_of}
+use Rattle.yq_matches.specs.MatchView.{matches_of}
 use Rattle.yq_matching.specs.PlaceView.{put_behind}
 use Rattle.yq_matching.specs.TreeScalars.{HasScalars}
 use Rattle.yq_program.specs.View.{stage_of}
 use Rattle.yq_matching.proofs.EachLaws.{failed}
 use Rattle.yq_matching.proofs.MatchLaws.{document_there, document_more, document_fails, documents_done}
 use Rattle.yq_matching.proofs.TreeScalarLaws.{documents_have}
-use Rattle.yq_expr.proofs.matched.pipe_matches.Goals as goal
+use Rattle.yq_matches.proofs.matched.pipe_matches.Goals as goal
 
 pub push_document-requires : goal.push_document-requires
 push_document-requires c =

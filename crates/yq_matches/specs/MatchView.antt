@@ -2,7 +2,7 @@
 use Rattle.std.specs.Prelude.{ℕ, List, map}
 use Rattle.yq_flow_scalars.specs.Tree.{Node}
 use Rattle.yq_nodes.specs.Values.{node_of}
-use Rattle.yq_expr.specs.declared.matched.Match.{Match}
+use Rattle.yq_matches.specs.declared.matched.Match.{Match}
 
 -- the number of the document and the copy that a match of the code stands for (own)
 abbrev pub match_of : Match → ℕ × Node

@@ -1,12 +1,12 @@
 use Rattle.std.proofs.Common.{Err, ap, ◌∙◌, subst}
 use Rattle.std.proofs.lemmas.Result.{err_from_is_err_and}
 use Rattle.yq_meaning.specs.Copies.{match_at}
-use Rattle.yq_expr.specs.MatchView.{matches_of}
+use Rattle.yq_matches.specs.MatchView.{matches_of}
 use Rattle.yq_matching.specs.PlaceView.{place_of}
 use Rattle.yq_matching.specs.TreeScalars.{HaveScalars}
 use Rattle.yq_matching.proofs.EachLaws.{each_more, each_fails, failed, reached}
 use Rattle.yq_matching.proofs.MatchLaws.{value_has}
-use Rattle.yq_expr.proofs.matched.push_copies.Goals as goal
+use Rattle.yq_matches.proofs.matched.push_copies.Goals as goal
 
 pub push_match-requires : goal.push_match-requires
 push_match-requires c =
