@@ -72,12 +72,12 @@ unfolding chars pairs_returns encode
 map_sound = ((123 ∷ 125 ∷ [], (refl, refl)), refl)
 
 -- scalars and empty collections
-abbrev Sounds : Option inline.Node → Type 0
+abbrev Sounds : Option inline.FlowNode → Type 0
 Sounds None = Unit {0}
 Sounds (Some node) = IsUtf8Text (node_text node [])
 
 head_sound : (v : tree.Node) → IsValueTree v → Sounds (inline_of v)
-unfolding inline.node_text inline.items_text
+unfolding inline.node_text inline.flow_items_text
 head_sound (tree.alias name) h = absurd h
 head_sound (tree.scalar a kind t) h = let w = scalar_spelled (record { kind = kind; text = t }) h.1 in subst IsUtf8Text (sym (append-nil _)) (w.utf8, w.text)
 head_sound (tree.list a tree.none) h = list_sound
@@ -89,7 +89,7 @@ head_sound (tree.map a (tree.child label n cs)) h = tt
 key_sound : (k : List ℕ) → IsUtf8 k → IsUtf8Text (block_key k)
 key_sound k u = let w = key_spelled k u in (w.utf8, w.text)
 
-entry_sound : (l : Layout) (below : ℕ) (keyed : Bool) (label : tree.Label) (node : Option inline.Node) (t : List ℕ) → IsLabel keyed label → Sounds node → IsUtf8Text t → IsUtf8Text (block_entry l below label.key node t)
+entry_sound : (l : Layout) (below : ℕ) (keyed : Bool) (label : tree.Label) (node : Option inline.FlowNode) (t : List ℕ) → IsLabel keyed label → Sounds node → IsUtf8Text t → IsUtf8Text (block_entry l below label.key node t)
 entry_sound l below true label (Some node) t is h s =
     subst (λ (x : tree.Label). IsUtf8Text (block_entry l below x.key (Some node) t)) (sym is.1)
     (sound_join (block_key is.0) (58 ∷ 32 ∷ node_text node []) (key_sound is.0 is.2) (sound_join (58 ∷ 32 ∷ []) (node_text node []) space_sound h))
@@ -122,7 +122,7 @@ mutual
       (entry_sound l below keyed label (inline_of n) (block_node l below n) h.0 (head_sound n h.1) (node_sound n l below h.1))
       (then_sound l column cs (block_children l column cs) (children_sound cs l column keyed h.2))
 
-inline_sound : (v : tree.Node) (l : Layout) (column : ℕ) → IsValueTree v → (node : Option inline.Node) → Sounds node → IsUtf8Text (inline_or node (block_node l column v))
+inline_sound : (v : tree.Node) (l : Layout) (column : ℕ) → IsValueTree v → (node : Option inline.FlowNode) → Sounds node → IsUtf8Text (inline_or node (block_node l column v))
 inline_sound v l column h None s = node_sound v l column h
 inline_sound v l column h (Some node) s = s
 

@@ -6,7 +6,7 @@ use Rattle.yq_block_scalars.specs.declared.block_types.Break.{Break}
 use Rattle.yq_block_scalars.specs.declared.block_types.Break.TheVariants as breaks
 use Rattle.yq_block_scalars.specs.BlockWritten.{break_text}
 use Rattle.yq_flow_scalars.specs.Lines.{spaces}
-use Rattle.yq_flow_scalars.specs.Plain.{no_gap, last_line, may_follow, follows, ends_plain, ends_text}
+use Rattle.yq_flow_scalars.specs.Plain.{no_gap, last_line, plain_may_follow, follows, ends_plain, ends_text}
 use Rattle.yq_flow_scalars.specs.Text.{cut, is_space, is_empty, is_line, front, is_marker}
 use Rattle.yq_cut.specs.Grammar.{IsTail}
 use Rattle.yq_cut.proofs.PlainEnds.{AtLine, tail_ends}
@@ -28,7 +28,7 @@ line_ends br column rest at = record { tail = break_tail br rest; plain = break_
 less_deep : (d e n : ℕ) → d ≤ e → nat_le e n ≡ true → nat_le d n ≡ true
 less_deep d e n h k = let le : e ≤ n = leb-true e n k in le-leb d n (omega (arith, le, h))
 
-follow_less : (d e : ℕ) (line : Option (List ℕ)) (text : List ℕ) → d ≤ e → may_follow (Some e) line text ≡ true → may_follow (Some d) line text ≡ true
+follow_less : (d e : ℕ) (line : Option (List ℕ)) (text : List ℕ) → d ≤ e → plain_may_follow (Some e) line text ≡ true → plain_may_follow (Some d) line text ≡ true
 follow_less d e None text h k = refl
 follow_less d e (Some l) text h k =
     let p = and_parts (nat_le e (spaces (l ++ text))) (not (is_marker (l ++ text))) k in
@@ -39,7 +39,7 @@ may_go_on t = not (is_empty t) && not (front (λ b. eqb b 35) t) && not (ends_te
 
 follows_less : (d e : ℕ) (gap text : List ℕ) → d ≤ e → follows false (Some d) gap text ≡ false → follows false (Some e) gap text ≡ false
 follows_less d e gap text h k = false_from_ne_true (follows false (Some e) gap text) (λ on.
-    let p = and_parts (may_go_on text) (may_follow (Some e) (last_line gap) text) on in
+    let p = and_parts (may_go_on text) (plain_may_follow (Some e) (last_line gap) text) on in
     let yes : follows false (Some d) gap text ≡ true = rw (p.0, follow_less d e (last_line gap) text h p.1) refl in
     false≢true (sym k ∙ yes))
 

@@ -9,9 +9,9 @@ use Rattle.yq_cut.specs.Rows.{Row}
 use Rattle.yq_flow_scalars.specs.Anchors.{names_of, names_in, AreBound}
 use Rattle.yq_lines.specs.LineAnchors.{HaveOneAnchorEach}
 use Rattle.yq_documents.specs.Documents.{MarkIsFit, ContentHasFitKeys, HaveFitKeys}
-use Rattle.yq_lines.specs.Lines.{content_anchor, lines_from, lines_of}
+use Rattle.yq_lines.specs.Lines.{content_anchor, lines_from, lines_of_rows}
 use Rattle.yq_lines.specs.Outline.{Line}
-use Rattle.yq_block.specs.BlockRows.{children_rows, column_below, end_before, entry_rows, inline_of, node_rows}
+use Rattle.yq_block.specs.BlockRows.{children_rows, column_below, end_of_line_before, entry_rows, inline_of, node_rows}
 use Rattle.yq_block.specs.declared.layout.Layout.{Layout}
 use Rattle.yq_block.proofs.KeyLaws.{key_apart}
 use Rattle.yq_block.proofs.ScalarLaws.{Heads, heads}
@@ -28,7 +28,7 @@ fit_append : (xs ys : List Row) → RowsAreFit xs → RowsAreFit ys → RowsAreF
 fit_append [] ys h k = k
 fit_append (x ∷ xs) ys h k = (h.0, fit_append xs ys h.1 k)
 
-entry_fit : (l : Layout) (column : ℕ) (end : List ℕ) (key : Option (List ℕ)) (n : tree.Node) (node : Option inline.Node) (below : List Row) → Heads n node → RowsAreFit below → RowsAreFit (entry_rows l column end key node below)
+entry_fit : (l : Layout) (column : ℕ) (end : List ℕ) (key : Option (List ℕ)) (n : tree.Node) (node : Option inline.FlowNode) (below : List Row) → Heads n node → RowsAreFit below → RowsAreFit (entry_rows l column end key node below)
 entry_fit l column end key n node below h1 h2 = search (rules, key_apart)
 
 mutual
@@ -44,7 +44,7 @@ mutual
   children_fit tree.none l column end keyed h = tt
   children_fit (tree.child label n cs) l column end keyed h =
       let below : ℕ = column_below l column label.key n in
-      let last : List ℕ = end_before l end cs in
+      let last : List ℕ = end_of_line_before l end cs in
       fit_append _ (children_rows l column end cs)
       (entry_fit l column last label.key n (inline_of n) (node_rows l below last n) (heads n h.1) (node_fit n l below last h.1))
       (children_fit cs l column end keyed h.2)
@@ -62,20 +62,20 @@ unnamed_append : (xs ys : List Line) → Unnamed xs → Unnamed ys → Unnamed (
 unnamed_append [] ys h k = k
 unnamed_append (x ∷ xs) ys h k = (h.0, unnamed_append xs ys h.1 k)
 
-row_unnamed : (above : List (List ℕ)) (column : ℕ) (ns : List ℕ) (mark : rows.Mark) (c : rows.Content) → content_anchor c ≡ None → Unnamed (lines_from above column ns mark c)
+row_unnamed : (above : List (List ℕ)) (column : ℕ) (ns : List ℕ) (mark : rows.RowMark) (c : rows.Content) → content_anchor c ≡ None → Unnamed (lines_from above column ns mark c)
 row_unnamed above column [] mark c h = (h, tt)
 row_unnamed above column (n ∷ ns) mark c h = (refl, row_unnamed [] _ ns mark c h)
 
-rows_unnamed : (rs : List Row) → RowsAreFit rs → Unnamed (lines_of rs)
+rows_unnamed : (rs : List Row) → RowsAreFit rs → Unnamed (lines_of_rows rs)
 rows_unnamed [] h = tt
-rows_unnamed (r ∷ rs) h = unnamed_append _ (lines_of rs) (row_unnamed _ r.column r.dashes r.mark r.content h.0.2) (rows_unnamed rs h.1)
+rows_unnamed (r ∷ rs) h = unnamed_append _ (lines_of_rows rs) (row_unnamed _ r.column r.dashes r.mark r.content h.0.2) (rows_unnamed rs h.1)
 
 one_each : (ls : List Line) → Unnamed ls → HaveOneAnchorEach ls
 one_each [] h = tt
 one_each (l ∷ ls) h = (rw h.0 tt, one_each ls h.1)
 
-pub anchors_fit : (rs : List Row) → RowsAreFit rs → HaveOneAnchorEach (lines_of rs)
-anchors_fit rs h = one_each (lines_of rs) (rows_unnamed rs h)
+pub anchors_fit : (rs : List Row) → RowsAreFit rs → HaveOneAnchorEach (lines_of_rows rs)
+anchors_fit rs h = one_each (lines_of_rows rs) (rows_unnamed rs h)
 
 -- a value names nothing
 mutual

@@ -10,7 +10,7 @@ use Rattle.yq_flow_scalars.specs.declared.style.Style.TheVariants as styles
 use Rattle.yq_flow_scalars.specs.Characters.{is_text_char}
 use Rattle.yq_flow_scalars.specs.PlainText.{is_plain_char, is_plain_text, begins_marker}
 use Rattle.yq_flow_scalars.specs.Scalar.{string_of}
-use Rattle.yq_flow_scalars.specs.Written.{written_letters, letter_of, double_by, in_double, written, double}
+use Rattle.yq_flow_scalars.specs.Written.{written_letters, letter_of, double_by, in_double, written_scalar, double}
 use Rattle.yq_flow_scalars.proofs.Bools.{chosen}
 use Rattle.yq_block_scalars.proofs.PlainSpells.{writable_text}
 use Rattle.yq_block_scalars.proofs.PlainWritten.{plain_text_parts}
@@ -29,7 +29,7 @@ plain_unmarked : (k t : List ℕ) → begins_marker k ≡ false → is_marker (k
 plain_unmarked k t h1 = search (rules, no_first, no_second, no_third)
 
 -- what holds of a key in both styles in which it may be written
-styled_by : (P : List ℕ → Type 0) (k : List ℕ) (plain : Bool) → can_write (string_of k) styles.Plain places.Block ≡ plain → (is_plain_text false k ≡ true → P k) → ((t : List ℕ) → P (34 ∷ t)) → P (written (cond plain styles.Plain styles.Double) k)
+styled_by : (P : List ℕ → Type 0) (k : List ℕ) (plain : Bool) → can_write (string_of k) styles.Plain places.Block ≡ plain → (is_plain_text false k ≡ true → P k) → ((t : List ℕ) → P (34 ∷ t)) → P (written_scalar (cond plain styles.Plain styles.Double) k)
 styled_by P k plain h1 h2 h3 = search (rules, writable_text)
 
 key_by : (P : List ℕ → Type 0) (k : List ℕ) → (is_plain_text false k ≡ true → P k) → ((t : List ℕ) → P (34 ∷ t)) → P (block_key k)

@@ -8,7 +8,7 @@ use Rattle.yq_cut.specs.Rows.{Row, rows_text}
 use Rattle.yq_nodes.proofs.Alikes.{sep_first}
 use Rattle.yq_cut.proofs.PlainEnds.{AtLine, row_at_line}
 use Rattle.yq_cut.proofs.seams.SeamLaws.{rows_text-append}
-use Rattle.yq_block.specs.BlockRows.{item_column, behind_dash}
+use Rattle.yq_block.specs.BlockRows.{item_column, rows_on_dash}
 
 -- Rows begin at a column, before a rest, behind any row that allows it; what stands behind them may begin at any column up to that.
 pub record IsLaid (column : ℕ) (r : Row) (rs : List Row) (rest : List ℕ) : Type 0 where
@@ -56,5 +56,5 @@ pub laid_line : (column : ℕ) (rs : List Row) (rest : List ℕ) → AreLaid col
 laid_line column rs rest h1 = search (rules, row_at_line)
 
 -- rows of which the first one stands behind a dash
-pub laid_behind : (column : ℕ) (rs : List Row) (rest : List ℕ) → AreLaid (item_column column) rs rest → AreLaid column (behind_dash column rs) rest
+pub laid_behind : (column : ℕ) (rs : List Row) (rest : List ℕ) → AreLaid (item_column column) rs rest → AreLaid column (rows_on_dash column rs) rest
 laid_behind column rs rest h1 = search (rules, no_gap_here, sep_first, and-false)

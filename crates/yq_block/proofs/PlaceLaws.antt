@@ -7,13 +7,13 @@ use Rattle.yq_lines.specs.Comments.{head_comment, line_comment}
 use Rattle.yq_cut.specs.Exchange.{asked_behind, with_content}
 use Rattle.yq_nodes.specs.Nodes as inline
 use Rattle.yq_cut.specs.Alone.{holds_nothing}
-use Rattle.yq_cut.specs.Grammar.{IsContent, IsMark, is_entry, is_more, is_plain, AreDashes, Limit, unlimited, limit_after, limit_behind, IsRow, AreRows}
-use Rattle.yq_cut.specs.Rows.{Mark, Dash, Content, Nothing, dashes_text, mark_text, content_text, behind_dashes, behind_indent, behind_gap, Row, behind_columns, mark_column, parent_of, parent_indent, print_row, rows_text}
+use Rattle.yq_cut.specs.Grammar.{IsContent, IsMark, is_entry, is_more, is_plain_content, AreDashes, Limit, unlimited, limit_after, limit_behind, IsRow, AreRows}
+use Rattle.yq_cut.specs.Rows.{RowMark, Dash, Content, Nothing, dashes_text, mark_text, content_text, behind_dashes, behind_indent, behind_gap, Row, behind_columns, mark_column, parent_of, parent_indent, print_row, rows_text}
 use Rattle.yq_cut.proofs.AlikeRows.{row_gap_alike, dashes_text_alike}
 use Rattle.yq_nodes.proofs.Alikes.{alike_append, alike_marker}
 use Rattle.yq_cut.proofs.ExchangeLaws.{one_row, relimit, chain}
 use Rattle.yq_cut.proofs.NodeExchange.{mark_apart}
-use Rattle.yq_lines.specs.Lines.{dash_line, lines_from, row_lines, lines_of}
+use Rattle.yq_lines.specs.Lines.{dash_line, lines_from, row_lines, lines_of_rows}
 use Rattle.yq_lines.specs.Outline as outline
 use Rattle.yq_cut.specs.Joined.{dashed_row, compact_row}
 use Rattle.yq_cut.proofs.seams.JoinLaws.{space_apart, dashes_text-append, behind_columns-append}
@@ -24,11 +24,11 @@ use Rattle.yq_block.proofs.LaidRows.{AreLaid, IsLaid, rows_append}
 use Rattle.yq_block.proofs.LineLaws.{BeginAt, no_head}
 
 -- dashes in front of dashes
-are_dashes : (ns ms : List ℕ) (old new : Mark) → is_entry new ≡ true → AreDashes ns old → AreDashes (1 ∷ ms) new → AreDashes (ns ++ 1 ∷ ms) new
+are_dashes : (ns ms : List ℕ) (old new : RowMark) → is_entry new ≡ true → AreDashes ns old → AreDashes (1 ∷ ms) new → AreDashes (ns ++ 1 ∷ ms) new
 are_dashes [] ms old new entry h k = k
 are_dashes (n ∷ ns) ms old new entry h k = (h.0, entry, are_dashes ns ms old new entry h.2 k)
 
-first_dashes : (ns ms : List ℕ) (mark : Mark) → AreDashes (ns ++ ms) mark → AreDashes ns Dash × AreDashes ms mark
+first_dashes : (ns ms : List ℕ) (mark : RowMark) → AreDashes (ns ++ ms) mark → AreDashes ns Dash × AreDashes ms mark
 first_dashes [] ms mark h = (tt, h)
 first_dashes (n ∷ ns) ms mark h = let more = first_dashes ns ms mark h.2 in ((h.0, refl, more.0), more.1)
 
@@ -36,7 +36,7 @@ first_dashes (n ∷ ns) ms mark h = let more = first_dashes ns ms mark h.2 in ((
 dash_seam : {limit : Limit} {r s : Row} {old : List ℕ} (u : List ℕ) → IsRow limit r old → IsUpto s r → s.mark ≡ Dash → separates u ≡ true → Alike (Some false) (behind_indent r old) (dashes_text s.dashes (45 ∷ u)) × AreDashes s.dashes Dash
 dash_seam {limit} {old} u h (at_mark {r} entry) last apart =
     let here : separates (content_text r.content old) ≡ true = mark_apart r.mark r.content old entry h.mark in
-    let seam : Alike (Some false) (mark_text r.mark (content_text r.content old)) (45 ∷ u) = subst (λ (m : Mark). Alike (Some false) (mark_text m (content_text r.content old)) (45 ∷ u)) (sym last) (byte refl refl here apart) in
+    let seam : Alike (Some false) (mark_text r.mark (content_text r.content old)) (45 ∷ u) = subst (λ (m : RowMark). Alike (Some false) (mark_text m (content_text r.content old)) (45 ∷ u)) (sym last) (byte refl refl here apart) in
     (dashes_text_alike r.dashes _ _ seam, subst (AreDashes r.dashes) last h.dashes)
 dash_seam {limit} {old} u h (at_dash {r} {ns} n ms is) last apart =
     let t : List ℕ = dashes_text ms (behind_dashes r old) in
@@ -45,10 +45,10 @@ dash_seam {limit} {old} u h (at_dash {r} {ns} n ms is) last apart =
     search (rules, dashes_text-append, dashes_text_alike, split, seam, t)
 
 -- a row that begins where another one does
-abbrev lined : Row → List ℕ → Mark → Content → Row
+abbrev lined : Row → List ℕ → RowMark → Content → Row
 lined r ns m x = record { gap = r.gap; column = r.column; dashes = ns; mark = m; content = x }
 
-like_row : (limit : Limit) (r : Row) (old ns : List ℕ) (m : Mark) (x : Content) (t : List ℕ) → IsRow limit r old → Alike (Some false) (behind_indent r old) (behind_indent (lined r ns m x) t) →
+like_row : (limit : Limit) (r : Row) (old ns : List ℕ) (m : RowMark) (x : Content) (t : List ℕ) → IsRow limit r old → Alike (Some false) (behind_indent r old) (behind_indent (lined r ns m x) t) →
     AreDashes ns m → IsMark m x t → IsContent (parent_indent (lined r ns m x)) x t → IsRow limit (lined r ns m x) t × Alike (Some false) (print_row r old) (print_row (lined r ns m x) t)
 like_row limit r old ns m x t h a dashes mark content =
     let u : List ℕ = behind_indent (lined r ns m x) t in
@@ -65,7 +65,7 @@ like_row limit r old ns m x t h a dashes mark content =
     )
 
 -- nothing, or an anchor, asks nothing of the next row
-nothing_plain : (node : inline.Node) → not (is_more node) ≡ true → is_plain node ≡ false
+nothing_plain : (node : inline.FlowNode) → not (is_more node) ≡ true → is_plain_content node ≡ false
 nothing_plain inline.empty h = refl
 nothing_plain (inline.alias name) h = absurd (false≢true h)
 nothing_plain (inline.scalar p) h = absurd (false≢true h)
@@ -123,12 +123,12 @@ no_comment : line_comment [] ≡ None
 unfolding upto
 no_comment = refl
 
-lines_behind : (above : List (List ℕ)) (column : ℕ) (ns ms : List ℕ) (m : Mark) (c : Content) →
+lines_behind : (above : List (List ℕ)) (column : ℕ) (ns ms : List ℕ) (m : RowMark) (c : Content) →
     lines_from above column (ns ++ 1 ∷ ms) m c ≡ lines_from above column ns Dash (Nothing []) ++ lines_from [] (item_column (behind_columns column ns)) ms m c
 lines_behind above column [] ms m c = λ i. record { column = column; mark = outline.Dash; anchor = None; head = None; head_comment = above; line_comment = sym no_comment i } ∷ lines_from [] (suc (column + 1)) ms m c
 lines_behind above column (n ∷ ns) ms m c = ap (λ ls. dash_line above column ∷ ls) (lines_behind [] (suc (column + n)) ns ms m c)
 
-pub compact_lines : (s : Row) (rs : List Row) → BeginAt (item_column (mark_column s)) rs → lines_of (compact_rows s rs) ≡ row_lines (dashed_row s.dashes (Nothing []) s) ++ lines_of rs
+pub compact_lines : (s : Row) (rs : List Row) → BeginAt (item_column (mark_column s)) rs → lines_of_rows (compact_rows s rs) ≡ row_lines (dashed_row s.dashes (Nothing []) s) ++ lines_of_rows rs
 compact_lines s rs h1 = search (rules, lines_behind, append_assoc, no_head)
 
 -- rows in the place of a row and those under it

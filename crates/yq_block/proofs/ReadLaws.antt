@@ -9,13 +9,13 @@ use Rattle.yq_nodes.specs.Nodes as inline
 use Rattle.yq_nodes.specs.Nodes.{node_text}
 use Rattle.yq_flow.specs.Valued.{IsValueTree}
 use Rattle.yq_nodes.proofs.WrittenLaws.{node_then}
-use Rattle.yq_cut.specs.Grammar.{is_entry, is_plain, unlimited, AreRows, no_rows}
+use Rattle.yq_cut.specs.Grammar.{is_entry, is_plain_content, unlimited, AreRows, no_rows}
 use Rattle.yq_cut.specs.Rows as rows
 use Rattle.yq_cut.specs.Rows.{Bare, Inline, Row, rows_text, last}
 use Rattle.yq_cut.specs.Splices.{first_gap}
-use Rattle.yq_documents.specs.Documents.{IsRoot, HasShortRoot, is_long_plain, Reads, document_parts, AreDocuments}
-use Rattle.yq_lines.specs.Grammar.{IsNode, alone, mapping}
-use Rattle.yq_lines.specs.Lines.{lines_of}
+use Rattle.yq_documents.specs.Documents.{IsRoot, HasShortRoot, is_long_plain, ReadsDocuments, document_parts, AreDocuments}
+use Rattle.yq_lines.specs.Grammar.{IsNodeOutline, alone, mapping}
+use Rattle.yq_lines.specs.Lines.{lines_of_rows}
 use Rattle.yq_lines.specs.Outline.{Line}
 use Rattle.yq_block_scalars.specs.BlockWritten.{break_text}
 use Rattle.yq_cut.proofs.PlainEnds.{end_line}
@@ -39,13 +39,13 @@ use Rattle.yq_lines.specs.Comments.{head_comment}
 record IsAllOf (v : tree.Node) (text : List ℕ) (rs : List Row) : Type 0 where
   laid : AreRows unlimited rs [] []
   spelled : rows_text rs [] ≡ text
-  root : IsRoot (lines_of rs) v
+  root : IsRoot (lines_of_rows rs) v
   fit : RowsAreFit rs
   gap : first_gap rs [] ≡ []
   short : HasShortRoot rs
 
 -- the text of rows is read
-all_read : (v : tree.Node) (text : List ℕ) (rs : List Row) → IsAllOf v text rs → IsUtf8Text text → length text ≤ text_limit → IsValueTree v → MayBeRoot v → Reads text (record { lead = []; root = v } ∷ [])
+all_read : (v : tree.Node) (text : List ℕ) (rs : List Row) → IsAllOf v text rs → IsUtf8Text text → length text ≤ text_limit → IsValueTree v → MayBeRoot v → ReadsDocuments text (record { lead = []; root = v } ∷ [])
 all_read v text rs w s size h root =
     let p : rows.Part = record { rows = rs; end = [] } in
     let one : document_parts (last p) ≡ p ∷ [] = rw (or_right (not (no_rows rs)) true refl) refl in
@@ -69,13 +69,13 @@ all_read v text rs w s size h root =
     }
 
 -- the lines of a node are a root
-root_of : {n : ℕ} {ls : List Line} {v : tree.Node} → IsNode n ls v → IsRoot ls v
+root_of : {n : ℕ} {ls : List Line} {v : tree.Node} → IsNodeOutline n ls v → IsRoot ls v
 root_of h1 = search rules
 
 first_gap_none : (column : ℕ) (rs : List Row) → AreLaid column rs [] → first_gap rs [] ≡ []
 first_gap_none column rs h1 = search rules
 
-entry_short : (mark : rows.Mark) (c : rows.Content) → is_entry mark ≡ true → is_long_plain mark c ≡ false
+entry_short : (mark : rows.RowMark) (c : rows.Content) → is_entry mark ≡ true → is_long_plain mark c ≡ false
 entry_short mark c h1 = search rules
 
 laid_short : (column : ℕ) (rs : List Row) → AreLaid column rs [] → HasShortRoot rs
@@ -96,13 +96,13 @@ block_all v l step b h near =
     }
 
 -- an empty collection
-abbrev empty_row : Layout → inline.Node → Row
+abbrev empty_row : Layout → inline.FlowNode → Row
 empty_row l node = record { gap = []; column = 0; dashes = []; mark = rows.Bare; content = Inline [] node (break_text l.br) }
 
-empty_root : (v : tree.Node) (l : Layout) (node : inline.Node) → IsHead v node → IsRoot (lines_of (empty_row l node ∷ [])) v
-empty_root v l node h = (_, subst (IsNode _ (lines_of (empty_row l node ∷ []))) (unanchored _ v h.unnamed) (alone refl refl h.same))
+empty_root : (v : tree.Node) (l : Layout) (node : inline.FlowNode) → IsHead v node → IsRoot (lines_of_rows (empty_row l node ∷ [])) v
+empty_root v l node h = (_, subst (IsNodeOutline _ (lines_of_rows (empty_row l node ∷ []))) (unanchored _ v h.unnamed) (alone refl refl h.same))
 
-empty_all : (v : tree.Node) (l : Layout) (node : inline.Node) → IsHead v node → ((t : List ℕ) → is_marker (node_text node t) ≡ false) → is_plain node ≡ false → IsAllOf v (node_text node [] ++ break_text l.br) (empty_row l node ∷ [])
+empty_all : (v : tree.Node) (l : Layout) (node : inline.FlowNode) → IsHead v node → ((t : List ℕ) → is_marker (node_text node t) ≡ false) → is_plain_content node ≡ false → IsAllOf v (node_text node [] ++ break_text l.br) (empty_row l node ∷ [])
 empty_all v l node h unmarked plain = record {
   laid = (
     record {
@@ -124,7 +124,7 @@ empty_all v l node h unmarked plain = record {
 
 -- a collection
 collection_all : (v : tree.Node) (l : Layout) → 1 ≤ l.mapping → IsCollection v → IsValueTree v → HasNearKeys v → (rs : List Row) × IsAllOf v (block_value l 0 v ++ break_text l.br) rs
-unfolding inline.node_text inline.items_text
+unfolding inline.node_text inline.flow_items_text
 collection_all (tree.alias name) l step c h near = absurd c
 collection_all (tree.scalar a kind t) l step c h near = absurd c
 collection_all (tree.list a tree.none) l step c h near = (_, empty_all (tree.list a tree.none) l (inline.coll 93 [] inline.none) (heads (tree.list a tree.none) h) (λ t. no_first 91 (93 ∷ t) refl refl) refl)

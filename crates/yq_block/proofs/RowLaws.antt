@@ -11,10 +11,10 @@ use Rattle.yq_flow_scalars.specs.Tree.{Children}
 use Rattle.yq_nodes.specs.Nodes as inline
 use Rattle.yq_nodes.specs.Nodes.{node_text}
 use Rattle.yq_flow.specs.Valued.{IsLabel, IsValueTree, AreValueTrees}
-use Rattle.yq_cut.specs.Grammar.{allows, limit_behind, Limit, is_entry, IsMark, IsContent, IsRow, is_plain, unlimited}
-use Rattle.yq_cut.specs.Rows.{Nothing, Inline, Row, rows_text, Mark, Dash, Key, Content, content_text, mark_text, parent_of}
+use Rattle.yq_cut.specs.Grammar.{allows, limit_behind, Limit, is_entry, IsMark, IsContent, IsRow, is_plain_content, unlimited}
+use Rattle.yq_cut.specs.Rows.{Nothing, Inline, Row, rows_text, RowMark, Dash, Key, Content, content_text, mark_text, parent_of}
 use Rattle.yq_nodes.proofs.Alikes.{sep_first}
-use Rattle.yq_block.specs.BlockRows.{block_key, children_rows, column_below, end_before, entry_rows, inline_of, key_row, node_rows, indent_step}
+use Rattle.yq_block.specs.BlockRows.{block_key, children_rows, column_below, end_of_line_before, entry_rows, inline_of, key_row, node_rows, indent_step}
 use Rattle.yq_block.specs.BlockValues.{EachHasNearKeys, HasNearKeys, IsEnd, IsFilled, IsNear, IsWritable}
 use Rattle.yq_block.specs.declared.layout.Layout.{Layout}
 use Rattle.yq_block.proofs.EndLaws.{break_tail, deeper_end, line_ends}
@@ -24,11 +24,11 @@ use Rattle.yq_block.proofs.ScalarLaws.{Heads, heads, key_is}
 use Rattle.yq_block.specs.BlockLaws.{IsHead}
 
 -- a row that begins at a column with a mark
-abbrev front_row : ℕ → Mark → Content → Row
+abbrev front_row : ℕ → RowMark → Content → Row
 front_row column mark content = record { gap = []; column = column; dashes = []; mark = mark; content = content }
 
 -- A key or dash before what stands behind it.
-record IsFront (column : ℕ) (m : Mark) (content : Content) (rest : List ℕ) : Type 0 where
+record IsFront (column : ℕ) (m : RowMark) (content : Content) (rest : List ℕ) : Type 0 where
   entry : is_entry m ≡ true
   unmarked : is_marker (mark_text m (content_text content rest)) ≡ false
   mark : IsMark m content rest
@@ -37,20 +37,20 @@ record IsFront (column : ℕ) (m : Mark) (content : Content) (rest : List ℕ) :
 key_front : (column : ℕ) (k : List ℕ) (content : Content) (rest : List ℕ) → IsUtf8 k → IsNear (Some k) → separates (content_text content rest) ≡ true → IsFront column (Key (block_key k) (58 ∷ [])) content rest
 key_front column k content rest u near apart = search (rules, key_unmarked, key_is)
 
-dash_front : (column : ℕ) (node : inline.Node) (end rest : List ℕ) → IsFront column Dash (Inline (32 ∷ []) node end) rest
+dash_front : (column : ℕ) (node : inline.FlowNode) (end rest : List ℕ) → IsFront column Dash (Inline (32 ∷ []) node end) rest
 dash_front column node end rest = record { entry = refl; unmarked = sep_first 45 (32 ∷ node_text node (end ++ rest)) refl; mark = refl; indent = refl }
 
-front_is : (limit : Limit) (column : ℕ) (m : Mark) (content : Content) (rest : List ℕ) → allows limit column ≡ true → IsFront column m content rest → IsContent (pos column) content rest → IsRow limit (front_row column m content) rest
+front_is : (limit : Limit) (column : ℕ) (m : RowMark) (content : Content) (rest : List ℕ) → allows limit column ≡ true → IsFront column m content rest → IsContent (pos column) content rest → IsRow limit (front_row column m content) rest
 front_is limit column m content rest allowed f c = search (rules, no_gap_here, and-false)
 
 -- a key or dash, and an inline node
-row_follows : (column c : ℕ) (node : inline.Node) (end : List ℕ) → c ≤ column → allows (limit_behind (pos column) (Inline (32 ∷ []) node end)) c ≡ true
-row_follows column c node end within = go (is_plain node) where
+row_follows : (column c : ℕ) (node : inline.FlowNode) (end : List ℕ) → c ≤ column → allows (limit_behind (pos column) (Inline (32 ∷ []) node end)) c ≡ true
+row_follows column c node end within = go (is_plain_content node) where
   go : (b : Bool) → allows (cond b (record { column = Some (suc column) }) unlimited) c ≡ true
   go true = lt-ltb c (suc column) (omega (arith, within))
   go false = refl
 
-inline_laid : (column : ℕ) (m : Mark) (end : List ℕ) (n : tree.Node) (node : inline.Node) (rest : List ℕ) → IsFront column m (Inline (32 ∷ []) node end) rest → IsHead n node → IsEnd column end rest → AreLaid column (front_row column m (Inline (32 ∷ []) node end) ∷ []) rest
+inline_laid : (column : ℕ) (m : RowMark) (end : List ℕ) (n : tree.Node) (node : inline.FlowNode) (rest : List ℕ) → IsFront column m (Inline (32 ∷ []) node end) rest → IsHead n node → IsEnd column end rest → AreLaid column (front_row column m (Inline (32 ∷ []) node end) ∷ []) rest
 inline_laid column m end n node rest f h e = search (rules, front_is, pos, no_gap_here, row_follows)
 
 -- a key, and the rows below it
@@ -71,7 +71,7 @@ above_laid column below br k (r ∷ rs) rest u near deep h =
     }
 
 -- an entry or item
-entry_laid : (l : Layout) (column : ℕ) (end : List ℕ) (keyed : Bool) (label : tree.Label) (n : tree.Node) (node : Option inline.Node) (below : List Row) (rest : List ℕ) →
+entry_laid : (l : Layout) (column : ℕ) (end : List ℕ) (keyed : Bool) (label : tree.Label) (n : tree.Node) (node : Option inline.FlowNode) (below : List Row) (rest : List ℕ) →
     IsLabel keyed label → IsNear label.key → Heads n node → IsEnd column end rest → (IsFilled n → AreLaid (column_below l column label.key n) below rest) →
     AreLaid column (entry_rows l column end label.key node below) rest
 entry_laid l column end true label n (Some node) below rest is near h e inner =
@@ -96,7 +96,7 @@ join : (l : Layout) (column : ℕ) (end : List ℕ) (cs : Children) (xs : List R
 unfolding children_rows
 join l column end cs xs rest h1 h2 = search (rules, append-nil, laid_append)
 
-end_laid : (l : Layout) (column : ℕ) (end : List ℕ) (cs : Children) (rest : List ℕ) → IsEnd column end rest → ChildrenLaid column cs (children_rows l column end cs) rest → IsEnd column (end_before l end cs) (rows_text (children_rows l column end cs) rest)
+end_laid : (l : Layout) (column : ℕ) (end : List ℕ) (cs : Children) (rest : List ℕ) → IsEnd column end rest → ChildrenLaid column cs (children_rows l column end cs) rest → IsEnd column (end_of_line_before l end cs) (rows_text (children_rows l column end cs) rest)
 unfolding children_rows
 end_laid l column end tree.none rest e k = e
 end_laid l column end (tree.child label n cs) rest e k = line_ends l.br column _ (laid_line column _ rest k)
@@ -121,8 +121,8 @@ mutual
       let below : ℕ = column_below l column label.key n in
       let deep : column ≤ below = below_deeper l column label.key n in
       join l column end cs _ rest
-      (entry_laid l column (end_before l end cs) keyed label n (inline_of n) (node_rows l below (end_before l end cs) n) behind h.0 k.0 (heads n h.1) ends
-      (λ b. node_laid n l below (end_before l end cs) behind b h.1 k.1 (deeper_end column below (end_before l end cs) behind deep ends)))
+      (entry_laid l column (end_of_line_before l end cs) keyed label n (inline_of n) (node_rows l below (end_of_line_before l end cs) n) behind h.0 k.0 (heads n h.1) ends
+      (λ b. node_laid n l below (end_of_line_before l end cs) behind b h.1 k.1 (deeper_end column below (end_of_line_before l end cs) behind deep ends)))
       later
 
 pub value_laid : (v : tree.Node) (l : Layout) (column : ℕ) (end rest : List ℕ) → IsWritable v column end rest → AreLaid column (node_rows l column end v) rest

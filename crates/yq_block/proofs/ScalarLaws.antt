@@ -10,10 +10,10 @@ use Rattle.yq_flow_scalars.specs.Scalar.{ScalarText, string_of, of_kind}
 use Rattle.yq_flow_scalars.specs.Text.{separates}
 use Rattle.yq_flow_scalars.specs.Tree as tree
 use Rattle.yq_flow_scalars.specs.Writable.{can_write}
-use Rattle.yq_flow_scalars.specs.Written.{written}
+use Rattle.yq_flow_scalars.specs.Written.{written_scalar}
 use Rattle.yq_nodes.specs.Nodes as inline
-use Rattle.yq_nodes.specs.Nodes.{IsNode}
-use Rattle.yq_nodes.specs.Scalars.{content_of, scalar_of}
+use Rattle.yq_nodes.specs.Nodes.{IsFlowNode}
+use Rattle.yq_nodes.specs.Scalars.{scalar_content, scalar_of}
 use Rattle.yq_nodes.specs.Trees.{tree_of, scalar_node}
 use Rattle.yq_flow.specs.Valued.{IsValid, IsValueTree, SpellsScalar}
 use Rattle.yq_nodes.specs.Written.{scalar_text}
@@ -26,7 +26,7 @@ use Rattle.yq_block.specs.BlockValues.{IsFilled, IsNear}
 use Rattle.yq_block.specs.BlockLaws.{IsHead}
 
 -- a scalar
-styled : (s : ScalarText) → IsValid s → (plain : Bool) → can_write s styles.Plain places.Block ≡ plain → SpellsScalar s (written (cond plain styles.Plain styles.Double) s.text)
+styled : (s : ScalarText) → IsValid s → (plain : Bool) → can_write s styles.Plain places.Block ≡ plain → SpellsScalar s (written_scalar (cond plain styles.Plain styles.Double) s.text)
 styled s v true h = styled_spells s styles.Plain v tt h
 styled s v false h = styled_spells s styles.Double v tt (double_when s places.Block h)
 
@@ -42,11 +42,11 @@ key_spelled k u = styled (string_of k) (record { kind = tt; utf8 = u }) (can_wri
 text_of : (kind : Kind) (t k : List ℕ) → of_kind kind t ≡ string_of k → t ≡ k
 text_of kind t k h1 = search (rules, false≢true)
 
-content_by : (p k : List ℕ) → scalar_of p ≡ string_of k → content_of p ≡ k
-unfolding scalar_of content_of
+content_by : (p k : List ℕ) → scalar_of p ≡ string_of k → scalar_content p ≡ k
+unfolding scalar_of scalar_content
 content_by p k h = search (rules, text_of)
 
-pub key_content_is : (k : List ℕ) → IsUtf8 k → content_of (block_key k) ≡ k
+pub key_content_is : (k : List ℕ) → IsUtf8 k → scalar_content (block_key k) ≡ k
 key_content_is k u = content_by (block_key k) k (key_spelled k u).same
 
 pub key_is : (k rest : List ℕ) → IsUtf8 k → IsNear (Some k) → separates rest ≡ true → IsKey (block_key k) (58 ∷ []) rest
@@ -60,20 +60,20 @@ key_is k rest u near h =
     }
 
 -- the inline node as which a value is written, or none where it is written in rows
-abbrev pub Heads : tree.Node → Option inline.Node → Type 0
+abbrev pub Heads : tree.Node → Option inline.FlowNode → Type 0
 Heads v None = IsFilled v
 Heads v (Some node) = IsHead v node
 
 empty_list : IsHead (tree.list None tree.none) (inline.coll 93 [] inline.none)
-unfolding tree_of IsNode inline.items_text
+unfolding tree_of IsFlowNode inline.flow_items_text
 empty_list = search (rules, none_gap)
 
 empty_map : IsHead (tree.map None tree.none) (inline.coll 125 [] inline.none)
-unfolding tree_of IsNode inline.items_text
+unfolding tree_of IsFlowNode inline.flow_items_text
 empty_map = search (rules, none_gap)
 
 scalar_head : (s : ScalarText) → IsValid s → IsHead (scalar_node s) (inline.scalar (scalar_text s places.Block))
-unfolding tree_of IsNode
+unfolding tree_of IsFlowNode
 scalar_head s v = let w = scalar_spelled s v in record {
   stands = λ n rest h. record { valid = w.stands (Some (deeper n)) rest h; something = refl };
   same = ap (λ x. Some (scalar_node x)) w.same;

@@ -8,7 +8,7 @@ use Rattle.yq_flow.specs.Valued.{IsValueTree, AreValueTrees}
 use Rattle.yq_nodes.proofs.WrittenLaws.{node_then}
 use Rattle.yq_cut.specs.Rows.{Row, rows_text}
 use Rattle.yq_cut.proofs.seams.SeamLaws.{rows_text-append}
-use Rattle.yq_block.specs.BlockRows.{children_rows, column_below, end_before, entry_rows, inline_of, node_rows}
+use Rattle.yq_block.specs.BlockRows.{children_rows, column_below, end_of_line_before, entry_rows, inline_of, node_rows}
 use Rattle.yq_block.specs.BlockText.{block_children, block_entry, block_node, then_lines}
 use Rattle.yq_block.specs.BlockValues.{IsFilled}
 use Rattle.yq_block.specs.declared.layout.Layout.{Layout}
@@ -21,7 +21,7 @@ abbrev indented : ℕ → List ℕ → List ℕ → List ℕ
 indented column t rest = replicate column 32 ++ (t ++ rest)
 
 -- an entry or item
-entry_spelled : (l : Layout) (column below : ℕ) (end : List ℕ) (key : Option (List ℕ)) (n : tree.Node) (node : Option inline.Node) (rs : List Row) (t rest : List ℕ) →
+entry_spelled : (l : Layout) (column below : ℕ) (end : List ℕ) (key : Option (List ℕ)) (n : tree.Node) (node : Option inline.FlowNode) (rs : List Row) (t rest : List ℕ) →
     Heads n node → (IsFilled n → BeginAt below rs × (rows_text rs rest ≡ indented below t (end ++ rest))) →
     rows_text (entry_rows l column end key node rs) rest ≡ indented column (block_entry l below key node t) (end ++ rest)
 entry_spelled l column below end key n node rs t rest h1 h2 = search (rules, node_then, append_assoc, append_cancel_left)
@@ -31,7 +31,7 @@ abbrev behind_text : Layout → ℕ → Children → List ℕ → List ℕ → L
 behind_text l column tree.none end rest = rest
 behind_text l column (tree.child label n cs) end rest = indented column (block_children l column (tree.child label n cs)) (end ++ rest)
 
-then_spelled : (l : Layout) (column : ℕ) (end : List ℕ) (cs : Children) (t rest : List ℕ) → indented column t (end_before l end cs ++ behind_text l column cs end rest) ≡ indented column (t ++ then_lines l column cs (block_children l column cs)) (end ++ rest)
+then_spelled : (l : Layout) (column : ℕ) (end : List ℕ) (cs : Children) (t rest : List ℕ) → indented column t (end_of_line_before l end cs ++ behind_text l column cs end rest) ≡ indented column (t ++ then_lines l column cs (block_children l column cs)) (end ++ rest)
 then_spelled l column end cs t rest = search (rules, append-nil, append_assoc)
 
 mutual
@@ -49,7 +49,7 @@ mutual
   children_spelled tree.none l column end rest keyed h = refl
   children_spelled (tree.child label n cs) l column end rest keyed h =
       let below : ℕ = column_below l column label.key n in
-      let last : List ℕ = end_before l end cs in
+      let last : List ℕ = end_of_line_before l end cs in
       let here : List Row = entry_rows l column last label.key (inline_of n) (node_rows l below last n) in
       let behind : List ℕ = behind_text l column cs end rest in
       rows_text-append here (children_rows l column end cs) rest

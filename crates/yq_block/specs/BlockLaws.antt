@@ -18,9 +18,9 @@ use Rattle.yq_cut.specs.Exchange.{asked_behind}
 use Rattle.yq_cut.specs.Grammar.{is_more, Limit, allows, AreRows, key_limit}
 use Rattle.yq_cut.specs.Rows.{rows_text}
 use Rattle.yq_lines.specs.LineAnchors.{HaveOneAnchorEach}
-use Rattle.yq_documents.specs.Documents.{HasFitKeys, HaveFitKeys, Reads}
+use Rattle.yq_documents.specs.Documents.{HasFitKeys, HaveFitKeys, ReadsDocuments}
 use Rattle.yq_nodes.specs.Trees.{node_anchor, node_head}
-use Rattle.yq_lines.specs.Lines.{lines_of}
+use Rattle.yq_lines.specs.Lines.{lines_of_rows}
 use Rattle.yq_lines.specs.Outline.{Stands}
 use Rattle.yq_block.specs.declared.layout.Layout.{Layout}
 use Rattle.yq_block.specs.BlockRows.{inline_of, column_below, node_rows}
@@ -29,7 +29,7 @@ use Rattle.yq_block.specs.BlockValues.{IsFilled, IsFilledValue, IsNear, IsWritab
 
 -- An inline node is a value's: it is one below any parent, before any rest at which a plain scalar ends; it stands for the value and has no anchor; it may
 -- stand alone on its line; and its keys are fit (own).
-pub record IsHead (v : tree.Node) (node : inline.Node) : Type 0 where
+pub record IsHead (v : tree.Node) (node : inline.FlowNode) : Type 0 where
   pub stands : (n : ℤ) (rest : List ℕ) → ends_plain false (Some (deeper n)) rest ≡ true → IsInline Block n 0 node rest
   pub same : node_head node ≡ Some v
   pub unnamed : node_anchor node ≡ None
@@ -38,7 +38,7 @@ pub record IsHead (v : tree.Node) (node : inline.Node) : Type 0 where
 
 -- The inline node as which a value is written is the value's (own).
 abbrev pub InlineWritten : Type 0
-InlineWritten = (v : tree.Node) (node : inline.Node) → IsValueTree v → inline_of v ≡ Some node → IsHead v node
+InlineWritten = (v : tree.Node) (node : inline.FlowNode) → IsValueTree v → inline_of v ≡ Some node → IsHead v node
 
 -- The rows in which a value is written have its text, behind the spaces before the first of them (own).
 abbrev pub TextWritten : Type 0
@@ -58,7 +58,7 @@ RowsFollow = (v : tree.Node) (l : Layout) (column c : ℕ) (end rest : List ℕ)
 -- Their lines stand for the value, at the level of their column, where a mapping stands deeper than its key and no comment is in the last line (own).
 abbrev pub LinesWritten : Type 0
 LinesWritten = (v : tree.Node) (l : Layout) (column : ℕ) (end : List ℕ) → 1 ≤ l.mapping → IsFilledValue v → line_comment end ≡ None →
-    Stands (lines_of (node_rows l column end v)) v (level_at column v)
+    Stands (lines_of_rows (node_rows l column end v)) v (level_at column v)
 
 -- They are deeper than the line of the key or dash under which they stand (own).
 abbrev pub LinesDeeper : Type 0
@@ -68,7 +68,7 @@ LinesDeeper = (v : tree.Node) (l : Layout) (column : ℕ) (key : Option (List �
 -- They hold no anchors, and no keys that would merge mappings or are too long (own).
 abbrev pub RowsFitDocuments : Type 0
 RowsFitDocuments = (v : tree.Node) (l : Layout) (column : ℕ) (end : List ℕ) → IsValueTree v →
-    HaveFitKeys (node_rows l column end v) × HaveOneAnchorEach (lines_of (node_rows l column end v))
+    HaveFitKeys (node_rows l column end v) × HaveOneAnchorEach (lines_of_rows (node_rows l column end v))
 
 -- A key that isn't too long as it is written in a flow collection isn't too long in block style (own).
 abbrev pub KeysNear : Type 0
@@ -80,7 +80,7 @@ CharactersWritten = (v : tree.Node) (l : Layout) (column : ℕ) → IsValueTree 
 
 -- A text reads as one document of a collection, where this can be a root and the text isn't too long (own).
 abbrev pub ReadsAlone : tree.Node → List ℕ → Type 0
-ReadsAlone v text = MayBeRoot v → length text ≤ text_limit → Reads text (record { lead = []; root = v } ∷ [])
+ReadsAlone v text = MayBeRoot v → length text ≤ text_limit → ReadsDocuments text (record { lead = []; root = v } ∷ [])
 
 -- A value that is written in column 0, with a break behind it, where a mapping stands deeper than its key, reads alone (own).
 abbrev pub ValueRead : Type 0

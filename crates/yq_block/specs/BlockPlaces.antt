@@ -8,7 +8,7 @@ use Rattle.yq_cut.specs.Exchange.{asked_behind, with_content}
 use Rattle.yq_cut.specs.Grammar.{IsContent, is_entry, Limit, allows, IsRow, AreRows}
 use Rattle.yq_cut.specs.Joined.{dashed_row, compact_row}
 use Rattle.yq_cut.specs.Rows.{Dash, Content, Nothing, content_text, Row, parent_indent, mark_column, print_row, rows_text}
-use Rattle.yq_lines.specs.Lines.{row_lines, lines_of}
+use Rattle.yq_lines.specs.Lines.{row_lines, lines_of_rows}
 use Rattle.yq_block.specs.declared.layout.Layout.{Layout}
 use Rattle.yq_block.specs.BlockRows.{item_column, node_rows}
 use Rattle.yq_block.specs.BlockValues.{IsFilledValue, IsWritable}
@@ -57,7 +57,7 @@ BehindWritten = (v : tree.Node) (l : Layout) (limit : Limit) (r s : Row) (old en
 -- The lines of these rows are those of the row up to its dash, and those of the value (own).
 abbrev pub BehindLines : Type 0
 BehindLines = (v : tree.Node) (l : Layout) (s : Row) (end : List ℕ) → IsFilledValue v →
-    lines_of (compact_node l end s v) ≡ row_lines (dashed_row s.dashes (Nothing []) s) ++ lines_of (node_rows l (item_column (mark_column s)) end v)
+    lines_of_rows (compact_node l end s v) ≡ row_lines (dashed_row s.dashes (Nothing []) s) ++ lines_of_rows (node_rows l (item_column (mark_column s)) end v)
 
 -- the first of these rows, if there is one, begins at a column up to this one (own)
 abbrev pub BeginsUpto : ℕ → List Row → Type 0

@@ -8,14 +8,14 @@ use Rattle.yq_block.specs.BlockRows.{inline_of, block_key, indent_step, item_col
 use Rattle.yq_block.specs.BlockText.{block_value}
 
 -- a break, and the spaces before a line (own)
-abbrev pub line_front : Layout → ℕ → List ℕ
-line_front l column = break_text l.br ++ replicate column 32
+abbrev pub break_and_indent : Layout → ℕ → List ℕ
+break_and_indent l column = break_text l.br ++ replicate column 32
 
 -- texts with another one between them; first tells that nothing stands before them (own)
-abbrev pub parted : List ℕ → Bool → List (List ℕ) → List ℕ
-parted between first [] = []
-parted between true (x ∷ xs) = x ++ parted between false xs
-parted between false (x ∷ xs) = between ++ (x ++ parted between false xs)
+abbrev pub texts_parted : List ℕ → Bool → List (List ℕ) → List ℕ
+texts_parted between first [] = []
+texts_parted between true (x ∷ xs) = x ++ texts_parted between false xs
+texts_parted between false (x ∷ xs) = between ++ (x ++ texts_parted between false xs)
 
 -- an item (YAML 1.2.2, section 8.2.1)
 abbrev pub block_item : Layout → ℕ → tree.Node → List ℕ
@@ -23,7 +23,7 @@ block_item l column v = 45 ∷ 32 ∷ block_value l (item_column column) v
 
 -- a key with its `:`, and a space, or a line below it (YAML 1.2.2, section 8.2.2)
 abbrev pub block_front : Layout → ℕ → List ℕ → Bool → List ℕ
-block_front l below k filled = block_key k ++ (if filled then 58 ∷ line_front l below else 58 ∷ 32 ∷ [])
+block_front l below k filled = block_key k ++ (if filled then 58 ∷ break_and_indent l below else 58 ∷ 32 ∷ [])
 
 -- whether a value is written in rows (own)
 abbrev pub is_filled : tree.Node → Bool
@@ -36,9 +36,9 @@ block_pair l column e = block_front l (column + indent_step l e.1) e.0 (is_fille
 -- the items of a list, or `[]` (YAML 1.2.2, section 8.2.1; own)
 abbrev pub block_list : Layout → ℕ → List tree.Node → List ℕ
 block_list l column [] = 91 ∷ 93 ∷ []
-block_list l column (v ∷ vs) = parted (line_front l column) true (map (block_item l column) (v ∷ vs))
+block_list l column (v ∷ vs) = texts_parted (break_and_indent l column) true (map (block_item l column) (v ∷ vs))
 
 -- the entries of a mapping, or `{}` (YAML 1.2.2, section 8.2.2; own)
 abbrev pub block_map : Layout → ℕ → List (List ℕ × tree.Node) → List ℕ
 block_map l column [] = 123 ∷ 125 ∷ []
-block_map l column (e ∷ es) = parted (line_front l column) true (map (block_pair l column) (e ∷ es))
+block_map l column (e ∷ es) = texts_parted (break_and_indent l column) true (map (block_pair l column) (e ∷ es))

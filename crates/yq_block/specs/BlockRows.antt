@@ -11,7 +11,7 @@ use Rattle.yq_cut.specs.Rows.{Dash, Key, Content, Nothing, Inline, Row, behind_c
 use Rattle.yq_block.specs.declared.layout.Layout.{Layout}
 
 -- the inline node as which a value is written: a scalar, plain if it can be, or an empty collection; others are written in rows (own)
-abbrev pub inline_of : tree.Node → Option inline.Node
+abbrev pub inline_of : tree.Node → Option inline.FlowNode
 inline_of (tree.alias name) = Some (inline.alias name)
 inline_of (tree.scalar a kind text) = Some (inline.scalar (scalar_text (record { kind = kind; text = text }) places.Block))
 inline_of (tree.list a tree.none) = Some (inline.coll 93 [] inline.none)
@@ -40,9 +40,9 @@ column_below l column (Some k) n = column + indent_step l n
 column_below l column None n = item_column column
 
 -- the end of the line before these items or entries, or, where there are none, of the last line (own)
-abbrev pub end_before : Layout → List ℕ → Children → List ℕ
-end_before l end tree.none = end
-end_before l end (tree.child label n cs) = break_text l.br
+abbrev pub end_of_line_before : Layout → List ℕ → Children → List ℕ
+end_of_line_before l end tree.none = end
+end_of_line_before l end (tree.child label n cs) = break_text l.br
 
 -- a row that begins at a column, with a key and what stands behind it (YAML 1.2.2, section 8.2.2)
 abbrev pub key_row : ℕ → List ℕ → Content → Row
@@ -53,16 +53,16 @@ abbrev pub dash_row : ℕ → Content → Row
 dash_row column content = record { gap = []; column = column; dashes = []; mark = Dash; content = content }
 
 -- rows of which the first one stands on the line of a dash before it (YAML 1.2.2, section 8.2.1)
-abbrev pub behind_dash : ℕ → List Row → List Row
-behind_dash column [] = []
-behind_dash column (r ∷ rs) = record r { column = column; dashes = 1 ∷ r.dashes } ∷ rs
+abbrev pub rows_on_dash : ℕ → List Row → List Row
+rows_on_dash column [] = []
+rows_on_dash column (r ∷ rs) = record r { column = column; dashes = 1 ∷ r.dashes } ∷ rs
 
 -- the rows of an entry or item: one with an inline node, or one with a key and those below it, or those behind a dash (YAML 1.2.2, section 8.2)
-abbrev pub entry_rows : Layout → ℕ → (end : List ℕ) → Option (List ℕ) → Option inline.Node → (below : List Row) → List Row
+abbrev pub entry_rows : Layout → ℕ → (end : List ℕ) → Option (List ℕ) → Option inline.FlowNode → (below : List Row) → List Row
 entry_rows l column end (Some k) (Some node) below = key_row column k (Inline (32 ∷ []) node end) ∷ []
 entry_rows l column end (Some k) None below = key_row column k (Nothing (break_text l.br)) ∷ below
 entry_rows l column end None (Some node) below = dash_row column (Inline (32 ∷ []) node end) ∷ []
-entry_rows l column end None None below = behind_dash column below
+entry_rows l column end None None below = rows_on_dash column below
 
 unfoldable mutual
   -- the rows in which a collection is written at a column, of which the last one has that end; none where it is written inline (YAML 1.2.2,
@@ -77,5 +77,5 @@ unfoldable mutual
   pub children_rows : Layout → ℕ → List ℕ → Children → List Row
   children_rows l column end tree.none = []
   children_rows l column end (tree.child label n cs) =
-      entry_rows l column (end_before l end cs) label.key (inline_of n) (node_rows l (column_below l column label.key n) (end_before l end cs) n)
+      entry_rows l column (end_of_line_before l end cs) label.key (inline_of n) (node_rows l (column_below l column label.key n) (end_of_line_before l end cs) n)
       ++ children_rows l column end cs

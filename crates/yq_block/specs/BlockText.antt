@@ -14,7 +14,7 @@ then_lines l column tree.none text = []
 then_lines l column (tree.child label n cs) text = break_text l.br ++ (replicate column 32 ++ text)
 
 -- `k: v` or `- v`, or `k:` with what is below it at a column, or that behind a dash (YAML 1.2.2, section 8.2)
-abbrev pub block_entry : Layout → ℕ → Option (List ℕ) → Option inline.Node → (below : List ℕ) → List ℕ
+abbrev pub block_entry : Layout → ℕ → Option (List ℕ) → Option inline.FlowNode → (below : List ℕ) → List ℕ
 block_entry l column (Some k) (Some node) below = block_key k ++ (58 ∷ 32 ∷ node_text node [])
 block_entry l column (Some k) None below = block_key k ++ (58 ∷ (break_text l.br ++ (replicate column 32 ++ below)))
 block_entry l column None (Some node) below = 45 ∷ 32 ∷ node_text node []
@@ -36,7 +36,7 @@ unfoldable mutual
       ++ then_lines l column cs (block_children l column cs)
 
 -- an inline node, or else a text in rows (own)
-abbrev pub inline_or : Option inline.Node → List ℕ → List ℕ
+abbrev pub inline_or : Option inline.FlowNode → List ℕ → List ℕ
 inline_or None text = text
 inline_or (Some node) text = node_text node []
 

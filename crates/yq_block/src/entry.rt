@@ -1,9 +1,9 @@
 //! An item or entry of a collection, written in block style.
 ghost use Rattle.std.specs.Prelude.{◌≡◌, ◌++◌, IfOk, OnOk, string_bytes};
 ghost use Rattle.yq_flow.specs.Valued.{IsValueTree};
-ghost use Rattle.yq_nodes.specs.Values.{node_of};
+ghost use Rattle.yq_nodes.specs.Values.{value_node};
 ghost use Rattle.yq_lines.specs.Bodies.{borrowed};
-ghost use Rattle.yq_block.specs.Alone.{alone};
+ghost use Rattle.yq_block.specs.Alone.{sole_collection};
 ghost use Rattle.yq_block.specs.BlockReading as spec;
 ghost use Rattle.yq_block.specs.BlockText.{block_value};
 
@@ -22,7 +22,7 @@ fn push_item(
     value: &Value,
 ) -> Result<(), AllocError>
     ensures { OnOk result (string_bytes out.new ≡ string_bytes out.old ++
-        spec.block_item layout.now column (node_of value.now)) }
+        spec.block_item layout.now column (value_node value.now)) }
 {
     let below = add(column, 2)?;
     out.push_str("- ")?;
@@ -39,7 +39,7 @@ fn push_pair(
     value: &Value,
 ) -> Result<(), AllocError>
     ensures { OnOk result (string_bytes out.new ≡ string_bytes out.old ++
-        spec.block_pair layout.now column (key.now, node_of value.now)) }
+        spec.block_pair layout.now column (key.now, value_node value.now)) }
 {
     let below = add(column, indent_step(layout, value))?;
     push_front(alloc, out, layout, below, key, is_filled(value))?;
@@ -58,8 +58,8 @@ pub fn push_entry(
     value: &Value,
 ) -> Result<(), AllocError>
     ensures { OnOk result (string_bytes out.new ≡
-        string_bytes out.old ++ block_value layout.now column (alone (borrowed key.entry)
-        (node_of value.now))) }
+        string_bytes out.old ++ block_value layout.now column (sole_collection (borrowed key.entry)
+        (value_node value.now))) }
 {
     match key {
         Some(key) => push_pair(alloc, out, layout, column, key, value),

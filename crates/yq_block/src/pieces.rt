@@ -24,7 +24,7 @@ pub(crate) fn add(column: usize, step: usize) -> Result<usize, AllocError>
 /// Begins a line at a column.
 pub(crate) fn push_line(out: &mut String, layout: &Layout, column: usize) -> Result<(), AllocError>
     ensures { OnOk result (string_bytes out.new ≡ string_bytes out.old ++
-        spec.line_front layout.now column) }
+        spec.break_and_indent layout.now column) }
 {
     out.push_str(break_text(layout.br))?;
     push_spaces(out, column)

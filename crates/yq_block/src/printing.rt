@@ -1,7 +1,7 @@
 //! Values, as a read prints them.
 ghost use Rattle.std.specs.Prelude.{◌≡◌, ◌++◌, IfOk, OnOk, string_bytes};
 ghost use Rattle.yq_flow.specs.Valued.{IsValueTree};
-ghost use Rattle.yq_nodes.specs.Values.{node_of};
+ghost use Rattle.yq_nodes.specs.Values.{value_node};
 ghost use Rattle.yq_block.specs.BlockLaws.{ReadsAlone};
 ghost use Rattle.yq_block.specs.BlockValues.{IsCollection};
 ghost use Rattle.yq_block.specs.Print as spec;
@@ -26,9 +26,9 @@ fn print_layout() -> Layout
 /// Adds a scalar's content, or a collection in block style.
 fn push_printed(alloc: Global, out: &mut String, value: &Value) -> Result<(), AllocError>
     ensures text { OnOk result (string_bytes out.new ≡ string_bytes out.old ++
-        spec.printed_value (node_of value.now)) }
-    ensures valid { IfOk result (λ x. IsCollection (node_of value.now) →
-        IsValueTree (node_of value.now)) }
+        spec.printed_value (value_node value.now)) }
+    ensures valid { IfOk result (λ x. IsCollection (value_node value.now) →
+        IsValueTree (value_node value.now)) }
 {
     match value {
         Value::Scalar(scalar) => out.push_str(scalar.text()),
@@ -44,9 +44,9 @@ fn push_printed(alloc: Global, out: &mut String, value: &Value) -> Result<(), Al
 #[tactic(auto, unfolding(crate::specs::Print::print_text))]
 pub fn print(alloc: Global, value: &Value) -> Result<String, AllocError>
     // It is the text that is defined.
-    ensures text { IfOk result (λ s. string_bytes s ≡ spec.print_text (node_of value.now)) }
+    ensures text { IfOk result (λ s. string_bytes s ≡ spec.print_text (value_node value.now)) }
     // A collection that can be a document's root is read from it as that document, where the text is not too long.
-    ensures read { IfOk result (λ s. ReadsAlone (node_of value.now) (string_bytes s)) }
+    ensures read { IfOk result (λ s. ReadsAlone (value_node value.now) (string_bytes s)) }
 {
     let mut out = String::new(alloc);
     push_printed(alloc, &mut out, value)?;

@@ -1,7 +1,7 @@
 //! Values, written in block style.
 ghost use Rattle.std.specs.Prelude.{◌≡◌, ◌++◌, IfOk, OnOk, false, map, string_bytes, true};
 ghost use Rattle.yq_flow.specs.Valued.{AreValueTrees, IsValueTree};
-ghost use Rattle.yq_nodes.specs.Values.{entries_of, field_of, items_of, node_of};
+ghost use Rattle.yq_nodes.specs.Values.{entries_of, field_of, items_of, value_node};
 ghost use Rattle.yq_block.specs.BlockReading as spec;
 ghost use Rattle.yq_block.specs.BlockRows as rows;
 ghost use Rattle.yq_block.specs.BlockText.{block_value};
@@ -16,7 +16,7 @@ use yq_nodes::Value;
 /// Whether a value is a collection with an item or entry, which is written in rows.
 #[tactic(auto, using(crate::proofs::ListLaws::list_agrees, crate::proofs::ListLaws::map_agrees))]
 pub fn is_filled(value: &Value) -> bool
-    ensures { result ≡ spec.is_filled (node_of value.now) }
+    ensures { result ≡ spec.is_filled (value_node value.now) }
 {
     match value {
         Value::Scalar(_) => false,
@@ -27,7 +27,7 @@ pub fn is_filled(value: &Value) -> bool
 
 /// By how many columns a value stands deeper than its key.
 pub fn indent_step(layout: &Layout, value: &Value) -> usize
-    ensures { result ≡ rows.indent_step layout.now (node_of value.now) }
+    ensures { result ≡ rows.indent_step layout.now (value_node value.now) }
 {
     match value {
         Value::Scalar(_) => 0,
@@ -53,9 +53,9 @@ pub fn push_block(
 ) -> Result<(), AllocError>
     // It is the text that the style defines.
     ensures text { OnOk result (string_bytes out.new ≡ string_bytes out.old ++
-        block_value layout.now column (node_of value.now)) }
+        block_value layout.now column (value_node value.now)) }
     // It is of a value, of which the laws speak.
-    ensures valid { IfOk result (λ x. IsValueTree (node_of value.now)) }
+    ensures valid { IfOk result (λ x. IsValueTree (value_node value.now)) }
 {
     match value {
         Value::Scalar(scalar) => push_scalar(alloc, out, scalar, Place::Block),
@@ -74,7 +74,7 @@ fn push_items(
     items: &Vec<Value>,
 ) -> Result<(), AllocError>
     ensures text { OnOk result (string_bytes out.new ≡
-        string_bytes out.old ++ spec.block_list layout.now column (map node_of items.now.items)) }
+        string_bytes out.old ++ spec.block_list layout.now column (map value_node items.now.items)) }
     ensures valid { IfOk result (λ x. AreValueTrees false (items_of items.now.items)) }
 {
     if items.is_empty() {

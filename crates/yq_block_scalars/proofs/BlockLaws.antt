@@ -7,29 +7,29 @@ use Rattle.yq_block_scalars.proofs.DetectedLaws.{indent_takes, indent_again}
 use Rattle.yq_block_scalars.proofs.HeaderLaws.{style_takes, style_again, indicators_takes, tail_takes, tail_again, tail_no_indicator, indicators_again}
 use Rattle.yq_block_scalars.proofs.LineLaws.{joined_lines, lines_are, joined-append}
 use Rattle.yq_block_scalars.proofs.RawLaws.{raw_split, IsRaw, raw_takes, raw_again, lines_raw}
-use Rattle.yq_block_scalars.specs.Block.{ends_block, mark_of, keeps, BlockText, block_text, IsBlock}
-use Rattle.yq_block_scalars.specs.BlockReading.{raw_at, indent_at, style_at, indicators_at, tail_at, block_behind, block_at}
-use Rattle.yq_flow_scalars.specs.Text.{lines_of, joined}
+use Rattle.yq_block_scalars.specs.Block.{ends_block, style_indicator, keeps, BlockText, block_text, IsBlock}
+use Rattle.yq_block_scalars.specs.BlockReading.{raw_at, indent_at, read_style, indicators_at, read_header_tail, block_behind, block_at}
+use Rattle.yq_flow_scalars.specs.Text.{text_lines, joined}
 
 -- the text of what is read
 pub block_takes : (least : ℕ) (t : List ℕ) (x : BlockText × List ℕ) → block_at least t ≡ Some x → (t ≡ block_text x.0 x.1) × IsBlock least x.0 x.1
 unfolding block_at block_behind
 block_takes least t x h =
-    let s = bind_some (style_at t) h in
+    let s = bind_some (read_style t) h in
     let m = indicators_at s.0.1 in
-    let tail = bind_some (tail_at m.3) s.2 in
-    let ls = lines_of tail.0.1 in
+    let tail = bind_some (read_header_tail m.3) s.2 in
+    let ls = text_lines tail.0.1 in
     let indent = bind_some (indent_at least m.0 ls) tail.2 in
     let raw = bind_some (raw_at (keeps m.1) indent.0 ls) indent.2 in
     let is : (record { style = s.0.0; digit = m.0; chomping = m.1; indicators = m.2; tail = tail.0.0; raw = raw.0.0; indent = indent.0 }, joined raw.0.1) ≡ x = same_Some _ _ raw.2 in
     let cut : ls ≡ raw.0.0 ++ raw.0.1 = raw_split (keeps m.1) indent.0 ls raw.0 raw.1 in
     let are : IsRaw (keeps m.1) indent.0 raw.0 = raw_takes (keeps m.1) indent.0 ls raw.0 (lines_are tail.0.1) raw.1 in
     let text : tail.0.1 ≡ joined raw.0.0 ++ joined raw.0.1 = sym (joined_lines tail.0.1) ∙ (ap joined cut ∙ joined-append raw.0.0 raw.0.1) in
-    let behind : raw.0.1 ≡ lines_of (joined raw.0.1) = search (rules, append_cancel_left, lines_raw, are, raw, cut, text, indent) in
+    let behind : raw.0.1 ≡ text_lines (joined raw.0.1) = search (rules, append_cancel_left, lines_raw, are, raw, cut, text, indent) in
     let line = tail_takes m.3 tail.0 tail.1 in
     let indicators = indicators_takes s.0.1 in
     subst (λ (y : BlockText × List ℕ). (t ≡ block_text y.0 y.1) × IsBlock least y.0 y.1) is (
-      style_takes t s.0 s.1 ∙ ap (λ u. mark_of s.0.0 ∷ u) (indicators.0 ∙ ap (λ u. m.2 ++ u) (line.0 ∙ ap (λ u. tail.0.0 ++ u) text)),
+      style_takes t s.0 s.1 ∙ ap (λ u. style_indicator s.0.0 ∷ u) (indicators.0 ∙ ap (λ u. m.2 ++ u) (line.0 ∙ ap (λ u. tail.0.0 ++ u) text)),
       record {
         indicators = indicators.1;
         tail = line.1;

@@ -9,11 +9,11 @@ use Rattle.yq_block_scalars.specs.declared.block_header.BlockStyle.TheVariants a
 use Rattle.yq_block_scalars.proofs.DetectedLaws.{detect_back}
 use Rattle.yq_block_scalars.proofs.HeaderLaws.{tail_no_indicator, indicators_again}
 use Rattle.yq_block_scalars.proofs.RawLaws.{raw_lines}
-use Rattle.yq_block_scalars.specs.Block.{Lines, AreRaw, IsTextIndent, mark_of, style_of, is_tail, BlockText, block_text, IsBlock, IsBlockPiece}
+use Rattle.yq_block_scalars.specs.Block.{RawLines, AreRaw, IsTextIndent, style_indicator, any_style, is_tail, BlockText, block_text, IsBlock, IsBlockPiece}
 use Rattle.yq_block_scalars.specs.BlockContent.{block_content}
-use Rattle.yq_block_scalars.specs.BlockReading.{block_style, indent_of, piece_content, indicators_at, values}
+use Rattle.yq_block_scalars.specs.BlockReading.{block_style, indent_of, block_piece_content, indicators_at, values}
 use Rattle.yq_flow_scalars.specs.Piece.{deeper}
-use Rattle.yq_flow_scalars.specs.Text.{lines_of, joined, is_line}
+use Rattle.yq_flow_scalars.specs.Text.{text_lines, joined, is_line}
 use Rattle.yq_block_scalars.specs.declared.block_header.BlockStyle.{BlockStyle}
 use Rattle.yq_block_scalars.specs.declared.block_lines.TextIndent.{TextIndent}
 use Rattle.yq_flow_scalars.specs.declared.piece.Piece.{Piece}
@@ -34,7 +34,7 @@ line_lf (b ∷ l) h = ⊎_elim {0, 0, 0}
 pub append_lf : (a t : List ℕ) → IsLf t → IsLf (a ++ t)
 append_lf a t h = (a ++ h.0, ap (λ x. a ++ x) h.1 ∙ sym (append_assoc a h.0 (10 ∷ [])))
 
-pub raw_lf : (f : TextIndent) (raw : Lines) → AreRaw f raw → (joined raw ≡ []) ⊎ IsLf (joined raw)
+pub raw_lf : (f : TextIndent) (raw : RawLines) → AreRaw f raw → (joined raw ≡ []) ⊎ IsLf (joined raw)
 raw_lf f [] h = inl refl
 raw_lf f (l ∷ raw) h = search (rules, ⊎_elim, line_lf, append-nil, append_lf, raw_lf f raw h.1)
 
@@ -73,35 +73,35 @@ pub record Stands (text : List ℕ) (p : Piece) : Type 0 where
   pub begins : IsCharBoundary text p.raw_start
   pub ends : IsCharBoundary text p.end
 
-head_lf : (b : BlockText) → is_tail b.tail ≡ true → IsLf ((mark_of b.style ∷ b.indicators) ++ b.tail)
-head_lf b h = append_lf (mark_of b.style ∷ b.indicators) b.tail (line_lf b.tail (and_parts (is_line b.tail) _ h).0)
+head_lf : (b : BlockText) → is_tail b.tail ≡ true → IsLf ((style_indicator b.style ∷ b.indicators) ++ b.tail)
+head_lf b h = append_lf (style_indicator b.style ∷ b.indicators) b.tail (line_lf b.tail (and_parts (is_line b.tail) _ h).0)
 
 pub stands : (n : ℤ) (text : List ℕ) (p : Piece) → IsUtf8 text → IsBlockPiece n p.start text p → Stands text p
 stands n text p u h =
     let b = h.block in
     let before = take p.start text in
-    let head : List ℕ = (mark_of b.style ∷ b.indicators) ++ b.tail in
+    let head : List ℕ = (style_indicator b.style ∷ b.indicators) ++ b.tail in
     let raw = joined b.raw in
     let raw_is : p.raw_start ≡ p.start + 1 + length b.indicators + length b.tail = ap (λ (q : Piece). q.raw_start) h.piece in
     let end_is : p.end ≡ p.start + 1 + length b.indicators + length b.tail + length raw = ap (λ (q : Piece). q.end) h.piece in
     let behind : length text - p.start ≡ suc (length (b.indicators ++ (b.tail ++ (raw ++ h.rest)))) = sym (length-drop p.start text) ∙ ap length h.stands in
     let start_len : length before ≡ min p.start (length text) = length-take p.start text in
-    let head_len : length head ≡ suc (length b.indicators) + length b.tail = length-append (mark_of b.style ∷ b.indicators) b.tail in
+    let head_len : length head ≡ suc (length b.indicators) + length b.tail = length-append (style_indicator b.style ∷ b.indicators) b.tail in
     let to_raw : text ≡ (before ++ head) ++ (raw ++ h.rest) = search (rules, take-append-drop, append_assoc, before) in
     let to_end : text ≡ ((before ++ head) ++ raw) ++ h.rest = to_raw ∙ sym (append_assoc (before ++ head) raw h.rest) in
     search (rules, ⊎_elim, cut_lf, append_lf, raw_lf, head_lf, length-append, b, head, to_raw, before, to_end, raw)
 
-indent_same : (least : ℕ) (digit : Option ℕ) (f : TextIndent) (raw : Lines) → IsTextIndent least digit f raw → AreRaw f raw → indent_of digit f.columns (lines_of (joined raw)) ≡ f
+indent_same : (least : ℕ) (digit : Option ℕ) (f : TextIndent) (raw : RawLines) → IsTextIndent least digit f raw → AreRaw f raw → indent_of digit f.columns (text_lines (joined raw)) ≡ f
 unfolding indent_of
 indent_same least digit f raw h1 h2 = search (rules, detect_back)
 
-style_same : (s : BlockStyle) → block_style (style_of s) ≡ s
+style_same : (s : BlockStyle) → block_style (any_style s) ≡ s
 style_same styles.Literal = refl
 style_same styles.Folded = refl
 
 -- what is read at the piece of a block scalar is what that stands for
-pub content_is : (n : ℤ) (text : List ℕ) (p : Piece) (h : IsBlockPiece n p.start text p) → piece_content text p ≡ block_content h.block
-unfolding piece_content
+pub content_is : (n : ℤ) (text : List ℕ) (p : Piece) (h : IsBlockPiece n p.start text p) → block_piece_content text p ≡ block_content h.block
+unfolding block_piece_content
 content_is n text p h =
     let b = h.block in
     let least = deeper n in

@@ -3,8 +3,8 @@ use Rattle.std.proofs.Common.{◌≡◌, ℕ, zero, suc, ◌<◌, Bool, true, fa
 use Rattle.std.proofs.lemmas.Bool.{false≢true, cond_both, or_cases, false_from_ne_true, le-leb, or_right, lt-ltb, and_from, and_parts, cases_Bool}
 use Rattle.yq_block_scalars.proofs.RawLaws.{next_not_empty, ends_blank}
 use Rattle.yq_block_scalars.proofs.SpaceLaws.{white_drop, spaces_blank, prefix_none, spaces_front, drop_front}
-use Rattle.yq_block_scalars.specs.Block.{Lines, is_empty_line, is_less_indented, ends_block}
-use Rattle.yq_block_scalars.specs.BlockRepair.{AreGap, is_short, is_outside, repaired_blank, repaired_comment, repair, comment_lines, is_behind}
+use Rattle.yq_block_scalars.specs.Block.{RawLines, is_empty_line, is_less_indented, ends_block}
+use Rattle.yq_block_scalars.specs.BlockRepair.{AreGap, is_short, is_outdented_comment, repaired_blank, repaired_comment, repair, comment_lines, is_behind}
 use Rattle.yq_flow_scalars.specs.Lines.{spaces, behind_spaces, is_hash, is_blank}
 use Rattle.yq_flow_scalars.specs.Text.{ends_line, past_white, upto}
 use Rattle.yq_block_scalars.specs.declared.block_lines.TextIndent.{TextIndent}
@@ -23,11 +23,11 @@ blank_empty f l h = search (rules, or_right, le-leb, false_from_ne_true, eqb-tru
 moved : (f : TextIndent) (column : ℕ) (t : List ℕ) → column < f.columns → is_hash t ≡ true → is_less_indented f (replicate column 32 ++ t) ≡ true
 moved f column t h1 h2 = search (rules, false≢true, eqb-true, no_spaces, spaces_front, drop_front, lt-ltb, and_from)
 
-pub ends_less : (keep : Bool) (f : TextIndent) (l : List ℕ) (ls : Lines) → is_less_indented f l ≡ true → ends_block keep f (l ∷ ls) ≡ true
+pub ends_less : (keep : Bool) (f : TextIndent) (l : List ℕ) (ls : RawLines) → is_less_indented f l ≡ true → ends_block keep f (l ∷ ls) ≡ true
 unfolding ends_block
 ends_less keep f l ls h = rw (next_not_empty f l h) h
 
-pub ends_behind : (keep : Bool) (f : TextIndent) (rest : Lines) → is_behind f rest ≡ true → ends_block keep f rest ≡ true
+pub ends_behind : (keep : Bool) (f : TextIndent) (rest : RawLines) → is_behind f rest ≡ true → ends_block keep f rest ≡ true
 unfolding ends_block
 ends_behind keep f [] h = refl
 ends_behind keep f (l ∷ ls) h = ends_less keep f l ls h
@@ -35,12 +35,12 @@ ends_behind keep f (l ∷ ls) h = ends_less keep f l ls h
 pub comment_less : (f : TextIndent) (column : ℕ) (l : List ℕ) → is_blank l ≡ false → (is_blank l || is_hash (past_white l)) ≡ true → column < f.columns → is_less_indented f (repaired_comment f.columns column l) ≡ true
 comment_less f column l n h lt = search (rules, and_parts, false_from_ne_true, false≢true, spaces_blank, and_from, ⊎_elim, or_cases, cond_both, moved)
 
-first_comment : (keep : Bool) (f : TextIndent) (column : ℕ) (l : List ℕ) (ls : Lines) → is_blank l ≡ false → (is_blank l || is_hash (past_white l)) ≡ true → column < f.columns →
+first_comment : (keep : Bool) (f : TextIndent) (column : ℕ) (l : List ℕ) (ls : RawLines) → is_blank l ≡ false → (is_blank l || is_hash (past_white l)) ≡ true → column < f.columns →
     ends_block keep f (repaired_comment f.columns column l ∷ ls) ≡ true
 first_comment keep f column l ls n h lt = ends_less keep f _ ls (comment_less f column l n h lt)
 
 -- the repaired gap before what follows it
-pub repair_ends : (keep : Bool) (f : TextIndent) (column : ℕ) (gap rest : Lines) → AreGap gap → is_behind f rest ≡ true → column < f.columns → ends_block keep f (repair keep f.columns column gap ++ rest) ≡ true
+pub repair_ends : (keep : Bool) (f : TextIndent) (column : ℕ) (gap rest : RawLines) → AreGap gap → is_behind f rest ≡ true → column < f.columns → ends_block keep f (repair keep f.columns column gap ++ rest) ≡ true
 unfolding repair
 repair_ends keep f column [] rest h e lt = ends_behind keep f rest e
 repair_ends true f column (l ∷ ls) rest h e lt = search (rules, ⊎_elim, first_comment, cases_Bool, repair_ends true f column ls rest h.1 e lt)
@@ -78,13 +78,13 @@ moved_same column l h =
 comment_same : (f : TextIndent) (column : ℕ) (l : List ℕ) → is_blank l ≡ false → (is_blank l || is_hash (past_white l)) ≡ true → SameComment l (repaired_comment f.columns column l)
 comment_same f column l n h =
     let hash : is_hash (past_white l) ≡ true = ⊎_elim {0, 0, 0} (λ b. absurd (false≢true (sym n ∙ b))) (λ b. b) (or_cases (is_blank l) (is_hash (past_white l)) h) in
-    cond_both (is_outside f.columns l) l (replicate column 32 ++ past_white l) (SameComment l) (λ _. (n, refl)) (λ _. moved_same column l hash)
+    cond_both (is_outdented_comment f.columns l) l (replicate column 32 ++ past_white l) (SameComment l) (λ _. (n, refl)) (λ _. moved_same column l hash)
 
-same_first : (l x : List ℕ) (ls : Lines) → SameComment l x → comment_lines (x ∷ ls) ≡ past_white l ∷ comment_lines ls
+same_first : (l x : List ℕ) (ls : RawLines) → SameComment l x → comment_lines (x ∷ ls) ≡ past_white l ∷ comment_lines ls
 unfolding comment_lines
 same_first l x ls h = rw h.0 (ap (λ y. y ∷ comment_lines ls) h.1)
 
-pub repair_comments : (keep : Bool) (f : TextIndent) (column : ℕ) (gap : Lines) → AreGap gap → comment_lines (repair keep f.columns column gap) ≡ comment_lines gap
+pub repair_comments : (keep : Bool) (f : TextIndent) (column : ℕ) (gap : RawLines) → AreGap gap → comment_lines (repair keep f.columns column gap) ≡ comment_lines gap
 unfolding repair comment_lines
 repair_comments keep f column [] h = refl
 repair_comments true f column (l ∷ ls) h = search (rules, ⊎_elim, same_first, comment_same, cases_Bool, repair_comments true f column ls h.1)

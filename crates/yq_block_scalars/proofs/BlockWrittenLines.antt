@@ -4,11 +4,11 @@ use Rattle.std.proofs.lemmas.Bool.{false≢true, cond_both, false_from_ne_true, 
 use Rattle.std.proofs.Math.Seq.{take-append_seam}
 use Rattle.yq_block_scalars.specs.declared.block_types.Break.TheVariants as breaks
 use Rattle.yq_block_scalars.proofs.SpaceLaws.{spaces_front, drop_front}
-use Rattle.yq_block_scalars.specs.Block.{Lines, is_text_line, IsRawLine}
-use Rattle.yq_block_scalars.specs.BlockContent.{line_text, part_of, broken}
-use Rattle.yq_block_scalars.specs.BlockWritten.{break_text, indented}
+use Rattle.yq_block_scalars.specs.Block.{RawLines, is_text_line, IsRawLine}
+use Rattle.yq_block_scalars.specs.BlockContent.{text_of_line, part_of, optional_break}
+use Rattle.yq_block_scalars.specs.BlockWritten.{break_text, indented_text}
 use Rattle.yq_flow_scalars.specs.Lines.{spaces}
-use Rattle.yq_flow_scalars.specs.Text.{ends_line, lines_of, put_byte, is_line, upto}
+use Rattle.yq_flow_scalars.specs.Text.{ends_line, text_lines, put_byte, is_line, upto}
 use Rattle.yq_block_scalars.specs.declared.block_lines.TextIndent.{TextIndent}
 use Rattle.yq_block_scalars.specs.declared.block_types.Break.{Break}
 use Rattle.yq_block_scalars.proofs.BlockRepairText.{line_spaces}
@@ -53,10 +53,10 @@ some_text m b p br h = search (rules, false_from_ne_true, and_parts, leb-true, s
 pub line_regroup : (m : ℕ) (p br : List ℕ) → (replicate m 32 ++ p) ++ br ≡ replicate m 32 ++ (p ++ br)
 line_regroup m p br = append_assoc (replicate m 32) p br
 
-pub indented_some : (m x : ℕ) (p : List ℕ) → indented m (x ∷ p) ≡ replicate m 32 ++ (x ∷ p)
+pub indented_some : (m x : ℕ) (p : List ℕ) → indented_text m (x ∷ p) ≡ replicate m 32 ++ (x ∷ p)
 indented_some m x p = search (rules, false_from_ne_true, eqb-true)
 
-pub indented_raw : (m : ℕ) (p br : List ℕ) → IsText p → IsBreak br → IsRawLine (explicit_indent m) (indented m p ++ br)
+pub indented_raw : (m : ℕ) (p br : List ℕ) → IsText p → IsBreak br → IsRawLine (explicit_indent m) (indented_text m p ++ br)
 indented_raw m [] br h b = search (rules, le-leb, ⊎_elim, break_line)
 indented_raw m (x ∷ p) br h b =
     subst (IsRawLine (explicit_indent m)) (sym (ap (λ l. l ++ br) (indented_some m x p) ∙ line_regroup m (x ∷ p) br))
@@ -70,7 +70,7 @@ part_lf : (m : ℕ) → part_of (explicit_indent m) (10 ∷ []) ≡ []
 unfolding upto
 part_lf m = ap (λ k. take (upto ends_line (drop k (10 ∷ []))) (drop k (10 ∷ []))) (min_zero m)
 
-pub indented_part : (m : ℕ) (p br : List ℕ) → IsText p → IsBreak br → part_of (explicit_indent m) (indented m p ++ br) ≡ p
+pub indented_part : (m : ℕ) (p br : List ℕ) → IsText p → IsBreak br → part_of (explicit_indent m) (indented_text m p ++ br) ≡ p
 unfolding upto
 indented_part m [] br h b = search (rules, min_zero, ⊎_elim, part_lf)
 indented_part m (x ∷ p) br h b =
@@ -86,13 +86,13 @@ NoCr (b ∷ s) = (eqb b 13 ≡ false) × NoCr s
 
 -- a line of a text without CR is its text and, where it has one, its break
 abbrev pub IsGood : List ℕ → Type 0
-IsGood l = IsText (line_text l) × (l ≡ line_text l ++ broken (is_line l))
+IsGood l = IsText (text_of_line l) × (l ≡ text_of_line l ++ optional_break (is_line l))
 
-abbrev pub Good : Lines → Type 0
+abbrev pub Good : RawLines → Type 0
 Good [] = Unit {0}
 Good (l ∷ ls) = IsGood l × Good ls
 
-pub text_next : (b : ℕ) (l : List ℕ) → eqb b 10 ≡ false → eqb b 13 ≡ false → line_text (b ∷ l) ≡ b ∷ line_text l
+pub text_next : (b : ℕ) (l : List ℕ) → eqb b 10 ≡ false → eqb b 13 ≡ false → text_of_line (b ∷ l) ≡ b ∷ text_of_line l
 unfolding upto
 text_next b l e n = rw (e, n) refl
 
@@ -108,11 +108,11 @@ good_break : (b : ℕ) → eqb b 10 ≡ true → IsGood (b ∷ [])
 unfolding upto is_line
 good_break b e = let is : b ≡ 10 = eqb-true b 10 e in rw is (tt, refl)
 
-good_put : (b : ℕ) (ls : Lines) → eqb b 10 ≡ false → eqb b 13 ≡ false → Good ls → Good (put_byte b ls)
+good_put : (b : ℕ) (ls : RawLines) → eqb b 10 ≡ false → eqb b 13 ≡ false → Good ls → Good (put_byte b ls)
 good_put b [] e n h = (good_next b [] e n good_none, tt)
 good_put b (l ∷ ls) e n h = (good_next b l e n h.0, h.1)
 
-pub lines_good : (s : List ℕ) → NoCr s → Good (lines_of s)
-unfolding lines_of
+pub lines_good : (s : List ℕ) → NoCr s → Good (text_lines s)
+unfolding text_lines
 lines_good [] h = tt
-lines_good (b ∷ s) h = cond_both (eqb b 10) ((b ∷ []) ∷ lines_of s) (put_byte b (lines_of s)) Good (λ e. (good_break b e, lines_good s h.1)) (λ e. good_put b (lines_of s) e h.0 (lines_good s h.1))
+lines_good (b ∷ s) h = cond_both (eqb b 10) ((b ∷ []) ∷ text_lines s) (put_byte b (text_lines s)) Good (λ e. (good_break b e, lines_good s h.1)) (λ e. good_put b (text_lines s) e h.0 (lines_good s h.1))

@@ -9,20 +9,20 @@ use Rattle.yq_block_scalars.specs.declared.block_header.Chomping.TheVariants as 
 use Rattle.yq_flow_scalars.proofs.Bools.{chosen}
 use Rattle.yq_block_scalars.proofs.LineLaws.{line_cut}
 use Rattle.yq_block_scalars.proofs.SpaceLaws.{white_drop}
-use Rattle.yq_block_scalars.specs.Block.{mark_of, IsDigit, digit_text, sign_text, IsIndicators, is_tail}
-use Rattle.yq_block_scalars.specs.BlockReading.{style_at, digit_at, sign_at, Indicators, indicators_at, values, tail_at}
+use Rattle.yq_block_scalars.specs.Block.{style_indicator, IsDigit, digit_text, sign_text, IsIndicators, is_tail}
+use Rattle.yq_block_scalars.specs.BlockReading.{read_style, digit_at, sign_at, Indicators, indicators_at, values, read_header_tail}
 use Rattle.yq_flow_scalars.specs.Lines.{is_hash, is_blank}
 use Rattle.yq_flow_scalars.specs.Text.{is_white, front, past_white, line_len, is_line}
 use Rattle.yq_block_scalars.specs.declared.block_header.BlockStyle.{BlockStyle}
 use Rattle.yq_block_scalars.specs.declared.block_header.Chomping.{Chomping}
 
 -- the header's mark
-pub style_takes : (t : List ℕ) (x : BlockStyle × List ℕ) → style_at t ≡ Some x → t ≡ mark_of x.0 ∷ x.1
-unfolding style_at
+pub style_takes : (t : List ℕ) (x : BlockStyle × List ℕ) → read_style t ≡ Some x → t ≡ style_indicator x.0 ∷ x.1
+unfolding read_style
 style_takes t x h1 = search (rules, ⊎_elim, same_Some, eqb-true, chosen)
 
-pub style_again : (s : BlockStyle) (t : List ℕ) → style_at (mark_of s ∷ t) ≡ Some (s, t)
-unfolding style_at
+pub style_again : (s : BlockStyle) (t : List ℕ) → read_style (style_indicator s ∷ t) ≡ Some (s, t)
+unfolding read_style
 style_again styles.Literal t = refl
 style_again styles.Folded t = refl
 
@@ -50,14 +50,14 @@ indicators_length t = ap length (indicators_takes t).0 ∙ length-append (indica
 abbrev pub IsTailCut : List ℕ → List ℕ × List ℕ → Type 0
 IsTailCut t x = (t ≡ x.0 ++ x.1) × (is_tail x.0 ≡ true)
 
-pub tail_takes : (t : List ℕ) (x : List ℕ × List ℕ) → tail_at t ≡ Some x → IsTailCut t x
-unfolding tail_at
+pub tail_takes : (t : List ℕ) (x : List ℕ × List ℕ) → read_header_tail t ≡ Some x → IsTailCut t x
+unfolding read_header_tail
 tail_takes t x h = ⊎_elim {0, 0, 0}
     (λ w. subst (IsTailCut t) (same_Some _ _ w.1) (sym (take-append-drop (line_len t) t), w.0))
     (λ w. cc) (chosen (is_tail (take (line_len t) t)) h)
 
-pub tail_again : (p rest : List ℕ) → is_tail p ≡ true → tail_at (p ++ rest) ≡ Some (p, rest)
-unfolding tail_at
+pub tail_again : (p rest : List ℕ) → is_tail p ≡ true → read_header_tail (p ++ rest) ≡ Some (p, rest)
+unfolding read_header_tail
 tail_again p rest h = search (rules, and_parts, line_cut, take-append_seam, drop-append_seam)
 
 tail_low : (b : ℕ) (l : List ℕ) → (is_blank (b ∷ l) || (front is_white (b ∷ l) && is_hash (past_white (b ∷ l)))) ≡ true → b ≤ 32
@@ -96,11 +96,11 @@ unfolding indicators_at
 indicators_again digit c p t h1 h2 = search (rules, ⊎_elim, append-nil, first_again, append_assoc, behind_again)
 
 -- where its pieces stand
-pub style_length : (t : List ℕ) (s : BlockStyle) (u : List ℕ) → style_at t ≡ Some (s, u) → length t ≡ suc (length u)
+pub style_length : (t : List ℕ) (s : BlockStyle) (u : List ℕ) → read_style t ≡ Some (s, u) → length t ≡ suc (length u)
 style_length t s u h = ap length (style_takes t (s, u) h)
 
-pub head_length : (t u r : List ℕ) (s : BlockStyle) (d : Option ℕ) (c : Chomping) → style_at t ≡ Some (s, u) → (d, c, r) ≡ values (indicators_at u) → length t ≡ 1 + length (indicators_at u).2 + length r
+pub head_length : (t u r : List ℕ) (s : BlockStyle) (d : Option ℕ) (c : Chomping) → read_style t ≡ Some (s, u) → (d, c, r) ≡ values (indicators_at u) → length t ≡ 1 + length (indicators_at u).2 + length r
 head_length t u r s d c h m = search (rules, style_length, indicators_length)
 
-pub tail_length : (t p r : List ℕ) → tail_at t ≡ Some (p, r) → length t ≡ length p + length r
+pub tail_length : (t p r : List ℕ) → read_header_tail t ≡ Some (p, r) → length t ≡ length p + length r
 tail_length t p r h = ap length (tail_takes t (p, r) h).0 ∙ length-append p r

@@ -1,14 +1,14 @@
 -- The lines of a text.
 use Rattle.std.proofs.Common.{◌≡◌, ℕ, suc, ◌<◌, ◌≤◌, true, false, List, [], ◌∷◌, ◌++◌, length, take, drop, refl, sym, ap, ◌∙◌, inl, inr, ◌⊎◌, ⊎_elim, arith, append_assoc, rules}
 use Rattle.std.proofs.lemmas.Bool.{false≢true, cond_both, cases_Bool}
-use Rattle.yq_flow_scalars.specs.Text.{line_len, lines_of, put_byte, joined, is_line, is_empty, is_feed}
+use Rattle.yq_flow_scalars.specs.Text.{line_len, text_lines, put_byte, joined, is_line, is_empty, is_feed}
 
-pub line_first : (b : ℕ) (bs : List ℕ) → lines_of (b ∷ bs) ≡ take (line_len (b ∷ bs)) (b ∷ bs) ∷ lines_of (drop (line_len (b ∷ bs)) (b ∷ bs))
-unfolding lines_of line_len
+pub line_first : (b : ℕ) (bs : List ℕ) → text_lines (b ∷ bs) ≡ take (line_len (b ∷ bs)) (b ∷ bs) ∷ text_lines (drop (line_len (b ∷ bs)) (b ∷ bs))
+unfolding text_lines line_len
 line_first b [] = ⊎_elim {0, 0, 0} (λ h. rw h refl) (λ h. rw h refl) (cases_Bool (is_feed b))
 line_first b (c ∷ cs) = search (rules, ⊎_elim, cases_Bool, line_first c cs)
 
-pub line_step : (t : List ℕ) → 0 < length t → lines_of t ≡ take (line_len t) t ∷ lines_of (drop (line_len t) t)
+pub line_step : (t : List ℕ) → 0 < length t → text_lines t ≡ take (line_len t) t ∷ text_lines (drop (line_len t) t)
 line_step [] h = absurd (omega arith)
 line_step (b ∷ bs) h = line_first b bs
 
@@ -26,8 +26,8 @@ joined_put : (b : ℕ) (ls : List (List ℕ)) → joined (put_byte b ls) ≡ b �
 joined_put b [] = refl
 joined_put b (l ∷ ls) = refl
 
-pub joined_lines : (t : List ℕ) → joined (lines_of t) ≡ t
-unfolding lines_of
+pub joined_lines : (t : List ℕ) → joined (text_lines t) ≡ t
+unfolding text_lines
 joined_lines [] = refl
 joined_lines (b ∷ bs) = search (rules, ⊎_elim, joined_put, cases_Bool, joined_lines bs)
 
@@ -41,17 +41,17 @@ unfolding is_line
 are_put b [] n h = (inr refl, tt)
 are_put b (l ∷ ls) n h = (⊎_elim {0, 0, 0} (λ e. inl (rw n e)) (λ e. inr e) h.0, h.1)
 
-pub lines_are : (t : List ℕ) → AreLines (lines_of t)
-unfolding lines_of is_line
+pub lines_are : (t : List ℕ) → AreLines (text_lines t)
+unfolding text_lines is_line
 lines_are [] = tt
-lines_are (b ∷ bs) = cond_both (is_feed b) ((b ∷ []) ∷ lines_of bs) (put_byte b (lines_of bs)) AreLines (λ h. (inl (rw h refl), lines_are bs)) (λ h. are_put b (lines_of bs) h (lines_are bs))
+lines_are (b ∷ bs) = cond_both (is_feed b) ((b ∷ []) ∷ text_lines bs) (put_byte b (text_lines bs)) AreLines (λ h. (inl (rw h refl), lines_are bs)) (λ h. are_put b (text_lines bs) h (lines_are bs))
 
 pub is_empty_is : (t : List ℕ) → is_empty t ≡ true → t ≡ []
 is_empty_is [] h = refl
 is_empty_is (b ∷ t) h = absurd (false≢true h)
 
-pub lines_again : (l t : List ℕ) → is_line l ≡ true → lines_of (l ++ t) ≡ l ∷ lines_of t
-unfolding lines_of is_line
+pub lines_again : (l t : List ℕ) → is_line l ≡ true → text_lines (l ++ t) ≡ l ∷ text_lines t
+unfolding text_lines is_line
 lines_again [] t h = absurd (false≢true h)
 lines_again (b ∷ bs) t h = ⊎_elim {0, 0, 0}
     (λ e. let last : bs ≡ [] = is_empty_is bs (rw e at h) in rw last (rw e refl))

@@ -10,9 +10,9 @@ use Rattle.yq_block_scalars.proofs.BlockWrittenLaws.{ends_some, CanWrite}
 use Rattle.yq_block_scalars.proofs.BlockWrittenLines.{NoCr, text_next}
 use Rattle.yq_flow_scalars.proofs.Bools.{at_byte, not_byte}
 use Rattle.yq_block_scalars.proofs.Bytes.{Each, each_byte}
-use Rattle.yq_block_scalars.specs.Block.{Lines, no_lines}
-use Rattle.yq_block_scalars.specs.BlockContent.{line_text}
-use Rattle.yq_flow_scalars.specs.Text.{is_white, is_empty, lines_of, put_byte}
+use Rattle.yq_block_scalars.specs.Block.{RawLines, no_lines}
+use Rattle.yq_block_scalars.specs.BlockContent.{text_of_line}
+use Rattle.yq_flow_scalars.specs.Text.{is_white, is_empty, text_lines, put_byte}
 use Rattle.yq_flow_scalars.specs.Writable.{is_literal_char, is_literal_text}
 use Rattle.yq_flow_scalars.specs.declared.style.Place.TheVariants as places
 use Rattle.yq_flow_scalars.specs.declared.style.Style.TheVariants as styles
@@ -25,16 +25,16 @@ use Rattle.yq_flow_scalars.specs.Writable.{can_write, is_string}
 use Rattle.yq_block_scalars.proofs.BlockWrittenLaws.{written_is, written_content}
 use Rattle.std.proofs.Common.{◌≤◌, ℕ}
 
-byte_some : (b : ℕ) (l : List ℕ) → eqb b 10 ≡ false → eqb b 13 ≡ false → not (eqb (length (line_text (b ∷ l))) 0) ≡ true
-byte_some b l e n = rw (text_next b l e n) (rw (eqb-suc-zero (length (line_text l))) refl)
+byte_some : (b : ℕ) (l : List ℕ) → eqb b 10 ≡ false → eqb b 13 ≡ false → not (eqb (length (text_of_line (b ∷ l))) 0) ≡ true
+byte_some b l e n = rw (text_next b l e n) (rw (eqb-suc-zero (length (text_of_line l))) refl)
 
-put_some : (b : ℕ) (l : List ℕ) (ls : Lines) → eqb b 10 ≡ false → eqb b 13 ≡ false → (no_lines ls ≡ false → ends_some (l ∷ ls) ≡ true) → ends_some (put_byte b (l ∷ ls)) ≡ true
+put_some : (b : ℕ) (l : List ℕ) (ls : RawLines) → eqb b 10 ≡ false → eqb b 13 ≡ false → (no_lines ls ≡ false → ends_some (l ∷ ls) ≡ true) → ends_some (put_byte b (l ∷ ls)) ≡ true
 unfolding ends_some
 put_some b l [] e n h = byte_some b l e n
 put_some b l (k ∷ ls) e n h = h refl
 
-more_lines : (c : ℕ) (t l : List ℕ) (ls : Lines) → lines_of (c ∷ t) ≡ l ∷ ls → no_lines ls ≡ false → is_empty t ≡ false
-unfolding lines_of
+more_lines : (c : ℕ) (t l : List ℕ) (ls : RawLines) → text_lines (c ∷ t) ≡ l ∷ ls → no_lines ls ≡ false → is_empty t ≡ false
+unfolding text_lines
 more_lines c [] l ls e k = search (rules, ⊎_elim, cases_Bool, false≢true)
 more_lines c (x ∷ t) l ls e k = refl
 
@@ -49,8 +49,8 @@ feeds_next b c (x ∷ t) h = sym (ends_next b (c ∷ x ∷ t) feeds (omega arith
 feed_behind : (b c : ℕ) (t : List ℕ) → eqb b 10 ≡ true → ends_with nat_eq (b ∷ c ∷ t) feeds ≡ false → (eqb c 10 ≡ false) ⊎ (is_empty t ≡ false)
 feed_behind b c t h1 h2 = search (rules, false_from_ne_true, eqb-true, false≢true)
 
-ends_is : (b : ℕ) (s : List ℕ) → NoCr (b ∷ s) → ends_with nat_eq (b ∷ s) feeds ≡ false → (eqb b 10 ≡ false) ⊎ (is_empty s ≡ false) → ends_some (lines_of (b ∷ s)) ≡ true
-unfolding lines_of ends_some
+ends_is : (b : ℕ) (s : List ℕ) → NoCr (b ∷ s) → ends_with nat_eq (b ∷ s) feeds ≡ false → (eqb b 10 ≡ false) ⊎ (is_empty s ≡ false) → ends_some (text_lines (b ∷ s)) ≡ true
+unfolding text_lines ends_some
 ends_is b [] n h f = ⊎_elim {0, 0, 0} (λ e. rw e (byte_some b [] e n.0)) (λ e. absurd (false≢true (sym e))) f
 ends_is b (c ∷ t) n h f =
     let next = feeds_next b c t h in
@@ -84,7 +84,7 @@ literal_can (b ∷ s) u h =
 can_text : (s : ScalarText) → can_write s styles.Literal places.Block ≡ true → is_literal_text s.text ≡ true
 can_text s h = (and_parts (is_string s.kind && true) (is_literal_text s.text) h).1
 
-pub literal_block : (least m : ℕ) (b : Break) (s : ScalarText) (tail rest : List ℕ) → IsUtf8 s.text → can_write s styles.Literal places.Block ≡ true → least ≤ m → is_tail tail ≡ true → ends_block false (record { columns = m; known = true }) (lines_of rest) ≡ true → IsBlock least (written_block s.text m (break_text b) tail) rest
+pub literal_block : (least m : ℕ) (b : Break) (s : ScalarText) (tail rest : List ℕ) → IsUtf8 s.text → can_write s styles.Literal places.Block ≡ true → least ≤ m → is_tail tail ≡ true → ends_block false (record { columns = m; known = true }) (text_lines rest) ≡ true → IsBlock least (written_block s.text m (break_text b) tail) rest
 literal_block least m b s tail rest u can le line behind = written_is least m b s.text tail rest (literal_can s.text u (can_text s can)) le line behind
 
 pub literal_content : (m : ℕ) (b : Break) (s : ScalarText) (tail : List ℕ) → IsUtf8 s.text → can_write s styles.Literal places.Block ≡ true → block_content (written_block s.text m (break_text b) tail) ≡ s.text

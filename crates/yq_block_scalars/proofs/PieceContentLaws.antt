@@ -14,10 +14,10 @@ use Rattle.yq_flow_scalars.specs.declared.style.Style.TheVariants as styles
 use Rattle.yq_flow_scalars.specs.declared.style.Place.{Place}
 use Rattle.yq_flow_scalars.specs.Piece.{inline_piece, further_spaces, IsPlainPiece}
 use Rattle.yq_flow_scalars.specs.Plain.{ends_plain}
-use Rattle.yq_flow_scalars.specs.Quoted.{Lines, spell_lines, IsQuoted, content}
+use Rattle.yq_flow_scalars.specs.Quoted.{QuotedLines, spell_lines, IsQuoted, quoted_lines_content}
 use Rattle.yq_flow_scalars.specs.PlainContent.{IsPlainLines}
-use Rattle.yq_block_scalars.specs.QuotedPiece.{style_of, IsQuotedPiece}
-use Rattle.yq_block_scalars.specs.ScalarPiece.{IsInlineScalar, content_in, piece_content}
+use Rattle.yq_block_scalars.specs.QuotedPiece.{quoted_style, IsQuotedPiece}
+use Rattle.yq_block_scalars.specs.ScalarPiece.{IsInlineScalar, piece_string, piece_content}
 use Rattle.yq_flow_scalars.specs.Writable.{in_flow}
 use Rattle.yq_flow_scalars.proofs.ContentLaws.{quoted_content_is}
 use Rattle.yq_flow_scalars.proofs.PlainContentLaws.{plain_content_is}
@@ -47,7 +47,7 @@ plain_scalar place n at text p h =
     } in
     subst (λ (q : Piece). Scalar text q) (sym h.piece) whole
 
-behind_quote : (q : ℕ) (ls : Lines) (piece rest : List ℕ) → IsQuoted q ls piece rest → IsUtf8 (piece ++ rest) → IsCharBoundary (piece ++ rest) (length piece)
+behind_quote : (q : ℕ) (ls : QuotedLines) (piece rest : List ℕ) → IsQuoted q ls piece rest → IsUtf8 (piece ++ rest) → IsCharBoundary (piece ++ rest) (length piece)
 behind_quote q ls piece rest is u =
     let front = q ∷ spell_lines ls in
     let low : q < 128 = of_quotes (λ x. x < 128) q is.quotes (omega arith) (omega arith) in
@@ -58,7 +58,7 @@ behind_quote q ls piece rest is u =
 
 quoted_scalar : (at : ℕ) (text : List ℕ) (p : Piece) → IsQuotedPiece at text p → Scalar text p
 quoted_scalar at text p h =
-    let whole : Scalar text (inline_piece (style_of h.quote) at (at + length h.scalar)) = record {
+    let whole : Scalar text (inline_piece (quoted_style h.quote) at (at + length h.scalar)) = record {
       scalar = h.scalar;
       rest = h.rest;
       stands = h.stands;
@@ -76,24 +76,24 @@ scalar_of text p h = elim h.piece [
 pub boundary_end : (text rest : List ℕ) (p : Piece) (s : Scalar text p) → rest ≡ drop p.start text → IsUtf8 rest → IsCharBoundary rest (p.end - p.start)
 boundary_end text rest p s e u = search rules
 
-pub quoted_piece_content : (at : ℕ) (text : List ℕ) (p : Piece) (h : IsQuotedPiece at text p) → piece_content text p ≡ content h.ls
+pub quoted_piece_content : (at : ℕ) (text : List ℕ) (p : Piece) (h : IsQuotedPiece at text p) → piece_content text p ≡ quoted_lines_content h.ls
 quoted_piece_content at text p h =
     let n = at + length h.scalar in
     let size : n - at ≡ length h.scalar = omega arith in
     let cut : take (n - at) (drop at text) ≡ h.scalar = rw (h.stands, size, take-append_seam) refl in
     search (rules, of_quotes, quoted_content_is, cut, n)
 
-pub plain_piece_content : (place : Place) (n : ℤ) (at : ℕ) (text : List ℕ) (p : Piece) (h : IsPlainPiece place n at text p) (ls : Lines) → IsPlainLines ls h.scalar → piece_content text p ≡ content ls
+pub plain_piece_content : (place : Place) (n : ℤ) (at : ℕ) (text : List ℕ) (p : Piece) (h : IsPlainPiece place n at text p) (ls : QuotedLines) → IsPlainLines ls h.scalar → piece_content text p ≡ quoted_lines_content ls
 plain_piece_content place n at text p h ls is =
     let k = at + length h.scalar in
     let size : k - at ≡ length h.scalar = omega arith in
     search (rules, plain_content_is, take-append_seam, size)
 
 -- what the piece of a block scalar stands for
-block_style_content : (s : BlockStyle) (text : List ℕ) (p : Piece) → content_in (block.style_of s) text p ≡ blocks.piece_content text p
+block_style_content : (s : BlockStyle) (text : List ℕ) (p : Piece) → piece_string (block.any_style s) text p ≡ blocks.block_piece_content text p
 block_style_content block_styles.Literal text p = refl
 block_style_content block_styles.Folded text p = refl
 
 pub block_piece_content : (n : ℤ) (text : List ℕ) (p : Piece) (h : block.IsBlockPiece n p.start text p) → piece_content text p ≡ block_content h.block
 block_piece_content n text p h =
-    ap (λ (q : Piece). content_in q.style text p) h.piece ∙ (block_style_content h.block.style text p ∙ content_is n text p h)
+    ap (λ (q : Piece). piece_string q.style text p) h.piece ∙ (block_style_content h.block.style text p ∙ content_is n text p h)

@@ -3,7 +3,7 @@ use Rattle.std.proofs.Common.{◌≡◌, ℕ, List, drop, Some, Result, Ok, Err,
 use Rattle.std.proofs.lemmas.Option.{same_Some}
 use Rattle.yq_flow_scalars.specs.declared.piece.Piece.{Piece}
 use Rattle.yq_flow_scalars.specs.declared.style.Place.{Place}
-use Rattle.yq_flow_scalars.specs.Answers.{Reads}
+use Rattle.yq_flow_scalars.specs.Answers.{ReadsAs}
 use Rattle.yq_flow_scalars.specs.Piece.{further_spaces, IsPlainPiece, plain_from}
 use Rattle.yq_flow_scalars.specs.Plain.{plain_at}
 use Rattle.yq_flow_scalars.specs.Writable.{in_flow}
@@ -21,10 +21,10 @@ pub piece_again : (place : Place) (n : ℤ) (at : ℕ) (text : List ℕ) (p : Pi
 unfolding plain_from
 piece_again place n at text p h = search (rules, plain_again)
 
-pub found_by : {E : Type 0} (place : Place) (n : ℤ) (at : ℕ) (text : List ℕ) (r : Result Piece E) → Reads (λ p. p) r (plain_from place n at text) → IfOk r (IsPlainPiece place n at text)
+pub found_by : {E : Type 0} (place : Place) (n : ℤ) (at : ℕ) (text : List ℕ) (r : Result Piece E) → ReadsAs (λ p. p) r (plain_from place n at text) → IfOk r (IsPlainPiece place n at text)
 found_by place n at text (Ok p) h = piece_takes place n at text p h
 found_by place n at text (Err e) h = tt
 
-pub only_by : {E : Type 0} (place : Place) (n : ℤ) (at : ℕ) (text : List ℕ) (r : Result Piece E) → Reads (λ p. p) r (plain_from place n at text) → (p : Piece) → IsPlainPiece place n at text p → r ≡ Ok p
+pub only_by : {E : Type 0} (place : Place) (n : ℤ) (at : ℕ) (text : List ℕ) (r : Result Piece E) → ReadsAs (λ p. p) r (plain_from place n at text) → (p : Piece) → IsPlainPiece place n at text p → r ≡ Ok p
 only_by place n at text (Ok q) h p i = ap Ok (same_Some _ _ (sym h ∙ piece_again place n at text p i))
 only_by place n at text (Err e) h p i = absurd (let e = sym h ∙ piece_again place n at text p i in cc)

@@ -4,22 +4,22 @@ use Rattle.std.proofs.lemmas.Bool.{false≢true, false_from_ne_true, leb-true, n
 use Rattle.std.proofs.lemmas.Option.{same_Some}
 use Rattle.yq_flow_scalars.proofs.Bools.{chosen, bind_some}
 use Rattle.yq_block_scalars.proofs.LineLaws.{lines_again, AreLines, line_some}
-use Rattle.yq_block_scalars.specs.Block.{Lines, is_empty_line, is_text_line, is_less_indented, ends_block, AreRaw, no_lines, ends_in_text}
+use Rattle.yq_block_scalars.specs.Block.{RawLines, is_empty_line, is_text_line, is_less_indented, ends_block, AreRaw, no_lines, ends_in_text}
 use Rattle.yq_block_scalars.specs.BlockReading.{is_empty_at, is_text_at, with_empty, raw_at}
-use Rattle.yq_flow_scalars.specs.Text.{is_empty, lines_of, joined, is_line}
+use Rattle.yq_flow_scalars.specs.Text.{is_empty, text_lines, joined, is_line}
 use Rattle.yq_block_scalars.specs.declared.block_lines.TextIndent.{TextIndent}
 
 -- the raw lines and what follows are the lines
-abbrev pub Cut : Lines → Lines × Lines → Type 0
+abbrev pub Cut : RawLines → RawLines × RawLines → Type 0
 Cut ls x = ls ≡ x.0 ++ x.1
 
-cut_empty : (keep : Bool) (l : List ℕ) (ls : Lines) (x y : Lines × Lines) → Cut ls x → with_empty keep l ls x ≡ Some y → Cut (l ∷ ls) y
+cut_empty : (keep : Bool) (l : List ℕ) (ls : RawLines) (x y : RawLines × RawLines) → Cut ls x → with_empty keep l ls x ≡ Some y → Cut (l ∷ ls) y
 cut_empty keep l ls x y h e = ⊎_elim {0, 0, 0}
     (λ w. subst (Cut (l ∷ ls)) (same_Some _ _ w.1) refl)
     (λ w. subst (Cut (l ∷ ls)) (same_Some _ _ w.1) (ap (λ m. l ∷ m) h))
     (chosen (not keep && is_empty (joined x.0)) e)
 
-pub raw_split : (keep : Bool) (f : TextIndent) (ls : Lines) (x : Lines × Lines) → raw_at keep f ls ≡ Some x → Cut ls x
+pub raw_split : (keep : Bool) (f : TextIndent) (ls : RawLines) (x : RawLines × RawLines) → raw_at keep f ls ≡ Some x → Cut ls x
 unfolding raw_at
 raw_split keep f [] x h = subst (Cut []) (same_Some _ _ h) refl
 raw_split keep f (l ∷ ls) x h = ⊎_elim {0, 0, 0}
@@ -31,7 +31,7 @@ raw_split keep f (l ∷ ls) x h = ⊎_elim {0, 0, 0}
     (chosen (is_empty_at keep f l) h)
 
 -- what the raw lines are, and what follows them
-pub record IsRaw (keep : Bool) (f : TextIndent) (x : Lines × Lines) : Type 0 where
+pub record IsRaw (keep : Bool) (f : TextIndent) (x : RawLines × RawLines) : Type 0 where
   pub lines : AreRaw f x.0
   pub ends : (keep ≡ true) ⊎ (ends_in_text f x.0 ≡ true)
   pub behind : ends_block keep f x.1 ≡ true
@@ -40,11 +40,11 @@ some_nil : (l j : List ℕ) → 0 < length l → is_empty (l ++ j) ≡ false
 some_nil [] j some = absurd (omega arith)
 some_nil (b ∷ l) j some = refl
 
-pub joined_none : (f : TextIndent) (ls : Lines) → AreRaw f ls → is_empty (joined ls) ≡ true → ls ≡ []
+pub joined_none : (f : TextIndent) (ls : RawLines) → AreRaw f ls → is_empty (joined ls) ≡ true → ls ≡ []
 joined_none f [] a h = refl
 joined_none f (l ∷ ls) a h = absurd (false≢true (sym (some_nil l (joined ls) (line_some l a.0.0)) ∙ h))
 
-joined_some : (f : TextIndent) (ls : Lines) → AreRaw f ls → no_lines ls ≡ false → is_empty (joined ls) ≡ false
+joined_some : (f : TextIndent) (ls : RawLines) → AreRaw f ls → no_lines ls ≡ false → is_empty (joined ls) ≡ false
 joined_some f [] a h = absurd (false≢true (sym h))
 joined_some f (l ∷ ls) a h = some_nil l (joined ls) (line_some l a.0.0)
 
@@ -59,29 +59,29 @@ text_not_empty : (f : TextIndent) (l : List ℕ) → is_text_line f l ≡ true �
 text_not_empty f l h = search (rules, and_parts, not-true)
 
 -- reading gives such lines
-ends_more : (f : TextIndent) (l : List ℕ) (ls : Lines) → no_lines ls ≡ false → ends_in_text f ls ≡ true → ends_in_text f (l ∷ ls) ≡ true
+ends_more : (f : TextIndent) (l : List ℕ) (ls : RawLines) → no_lines ls ≡ false → ends_in_text f ls ≡ true → ends_in_text f (l ∷ ls) ≡ true
 ends_more f l ls some h = rw some h
 
-ends_text : (f : TextIndent) (l : List ℕ) (ls : Lines) → is_text_line f l ≡ true → ends_in_text f ls ≡ true → ends_in_text f (l ∷ ls) ≡ true
+ends_text : (f : TextIndent) (l : List ℕ) (ls : RawLines) → is_text_line f l ≡ true → ends_in_text f ls ≡ true → ends_in_text f (l ∷ ls) ≡ true
 ends_text f l [] is h = is
 ends_text f l (k ∷ ls) is h = h
 
-some_lines : (ls : Lines) → is_empty (joined ls) ≡ false → no_lines ls ≡ false
+some_lines : (ls : RawLines) → is_empty (joined ls) ≡ false → no_lines ls ≡ false
 some_lines [] h = absurd (false≢true (sym h))
 some_lines (l ∷ ls) h = refl
 
-none_split : (a b : Lines) → [] ≡ a ++ b → no_lines a ≡ false → ⊥
+none_split : (a b : RawLines) → [] ≡ a ++ b → no_lines a ≡ false → ⊥
 none_split [] b h some = false≢true (sym some)
 none_split (l ∷ a) b h some = cc
 
-no_more : (ls : Lines) (x : Lines × Lines) → ls ≡ [] → Cut ls x → no_lines x.0 ≡ false → ⊥
+no_more : (ls : RawLines) (x : RawLines × RawLines) → ls ≡ [] → Cut ls x → no_lines x.0 ≡ false → ⊥
 no_more ls x none cut some = none_split x.0 x.1 (sym none ∙ cut) some
 
-pub ends_blank : (f : TextIndent) (l : List ℕ) (ls : Lines) → is_empty_line f l ≡ true → ends_block false f ls ≡ true → ends_block false f (l ∷ ls) ≡ true
+pub ends_blank : (f : TextIndent) (l : List ℕ) (ls : RawLines) → is_empty_line f l ≡ true → ends_block false f ls ≡ true → ends_block false f (l ∷ ls) ≡ true
 unfolding ends_block
 ends_blank f l ls is h = rw is h
 
-takes_empty : (keep : Bool) (f : TextIndent) (l : List ℕ) (ls : Lines) (x y : Lines × Lines) → is_empty_at keep f l ≡ true → (is_line l ≡ true) ⊎ (ls ≡ []) → Cut ls x → IsRaw keep f x → with_empty keep l ls x ≡ Some y → IsRaw keep f y
+takes_empty : (keep : Bool) (f : TextIndent) (l : List ℕ) (ls : RawLines) (x y : RawLines × RawLines) → is_empty_at keep f l ≡ true → (is_line l ≡ true) ⊎ (ls ≡ []) → Cut ls x → IsRaw keep f x → with_empty keep l ls x ≡ Some y → IsRaw keep f y
 takes_empty true f l ls x y is line cut h e = search (rules, same_Some, and_parts)
 takes_empty false f l ls x y is line cut h e =
     let parts = and_parts (is_empty_line f l) true is in
@@ -98,7 +98,7 @@ takes_empty false f l ls x y is line cut h e =
     }))
     (chosen (is_empty (joined x.0)) e)
 
-pub raw_takes : (keep : Bool) (f : TextIndent) (ls : Lines) (x : Lines × Lines) → AreLines ls → raw_at keep f ls ≡ Some x → IsRaw keep f x
+pub raw_takes : (keep : Bool) (f : TextIndent) (ls : RawLines) (x : RawLines × RawLines) → AreLines ls → raw_at keep f ls ≡ Some x → IsRaw keep f x
 unfolding raw_at ends_block
 raw_takes keep f [] x a h = subst (IsRaw keep f) (same_Some _ _ h) (record { lines = tt; ends = inr refl; behind = refl })
 raw_takes keep f (l ∷ ls) x a h = ⊎_elim {0, 0, 0}
@@ -117,7 +117,7 @@ raw_takes keep f (l ∷ ls) x a h = ⊎_elim {0, 0, 0}
     (chosen (is_empty_at keep f l) h)
 
 -- such lines are read so
-pub raw_none : (keep : Bool) (f : TextIndent) (ls : Lines) → ends_block keep f ls ≡ true → raw_at keep f ls ≡ Some ([], ls)
+pub raw_none : (keep : Bool) (f : TextIndent) (ls : RawLines) → ends_block keep f ls ≡ true → raw_at keep f ls ≡ Some ([], ls)
 unfolding raw_at ends_block
 raw_none keep f [] h = refl
 raw_none keep f (l ∷ ls) h = ⊎_elim {0, 0, 0}
@@ -127,11 +127,11 @@ raw_none keep f (l ∷ ls) h = ⊎_elim {0, 0, 0}
     (λ w. rw (next_not_text f l w.1, w.0, w.1) refl)
     (chosen (is_empty_line f l) h)
 
-ends_behind : (keep : Bool) (f : TextIndent) (l : List ℕ) (ls : Lines) → (keep ≡ true) ⊎ (ends_in_text f (l ∷ ls) ≡ true) → (keep ≡ true) ⊎ (ends_in_text f ls ≡ true)
+ends_behind : (keep : Bool) (f : TextIndent) (l : List ℕ) (ls : RawLines) → (keep ≡ true) ⊎ (ends_in_text f (l ∷ ls) ≡ true) → (keep ≡ true) ⊎ (ends_in_text f ls ≡ true)
 ends_behind keep f l [] e = inr refl
 ends_behind keep f l (k ∷ ls) e = e
 
-pub raw_again : (keep : Bool) (f : TextIndent) (raw rest : Lines) → AreRaw f raw → (keep ≡ true) ⊎ (ends_in_text f raw ≡ true) → ends_block keep f rest ≡ true → raw_at keep f (raw ++ rest) ≡ Some (raw, rest)
+pub raw_again : (keep : Bool) (f : TextIndent) (raw rest : RawLines) → AreRaw f raw → (keep ≡ true) ⊎ (ends_in_text f raw ≡ true) → ends_block keep f rest ≡ true → raw_at keep f (raw ++ rest) ≡ Some (raw, rest)
 unfolding raw_at
 raw_again keep f [] rest a e h = raw_none keep f rest h
 raw_again keep f (l ∷ ls) rest a e h =
@@ -139,10 +139,10 @@ raw_again keep f (l ∷ ls) rest a e h =
     search (rules, ⊎_elim, false≢true, text_not_empty, joined_some, and_from, or_right, again)
 
 -- lines and their text
-pub lines_raw : (f : TextIndent) (raw : Lines) (t : List ℕ) → AreRaw f raw → lines_of (joined raw ++ t) ≡ raw ++ lines_of t
+pub lines_raw : (f : TextIndent) (raw : RawLines) (t : List ℕ) → AreRaw f raw → text_lines (joined raw ++ t) ≡ raw ++ text_lines t
 lines_raw f [] t h = refl
-lines_raw f (l ∷ raw) t h = ap lines_of (append_assoc l (joined raw) t) ∙ (lines_again l (joined raw ++ t) h.0.0 ∙ ap (λ m. l ∷ m) (lines_raw f raw t h.1))
+lines_raw f (l ∷ raw) t h = ap text_lines (append_assoc l (joined raw) t) ∙ (lines_again l (joined raw ++ t) h.0.0 ∙ ap (λ m. l ∷ m) (lines_raw f raw t h.1))
 
-pub raw_lines : (f : TextIndent) (raw : Lines) → AreRaw f raw → lines_of (joined raw) ≡ raw
-unfolding lines_of
-raw_lines f raw h = ap lines_of (sym (append-nil (joined raw))) ∙ (lines_raw f raw [] h ∙ append-nil raw)
+pub raw_lines : (f : TextIndent) (raw : RawLines) → AreRaw f raw → text_lines (joined raw) ≡ raw
+unfolding text_lines
+raw_lines f raw h = ap text_lines (sym (append-nil (joined raw))) ∙ (lines_raw f raw [] h ∙ append-nil raw)

@@ -17,9 +17,9 @@ use Rattle.yq_flow_scalars.specs.Plain.{ends_plain, holds_break}
 use Rattle.yq_flow_scalars.specs.PlainContent.{ArePlain, IsPlainLines}
 use Rattle.yq_flow_scalars.specs.Quoted.{Char, itself, spell_chars, chars_text, last}
 use Rattle.yq_block_scalars.specs.QuotedPiece.{IsQuotedPiece}
-use Rattle.yq_block_scalars.specs.ReadBack.{put, put_piece, put_block, put_block_piece}
+use Rattle.yq_block_scalars.specs.ReadBack.{string_between, put_piece, put_block, put_block_piece}
 use Rattle.yq_flow_scalars.specs.Scalar.{IsScalar, ScalarText, plain_of, string_of}
-use Rattle.yq_flow_scalars.specs.Text.{is_feed, is_break, front, lines_of}
+use Rattle.yq_flow_scalars.specs.Text.{is_feed, is_break, front, text_lines}
 use Rattle.yq_flow_scalars.specs.Writable.{can_write, in_flow, is_string, is_single_char}
 use Rattle.yq_flow_scalars.specs.Written.{single, double}
 use Rattle.yq_block_scalars.proofs.LiteralText.{literal_block, literal_content}
@@ -58,7 +58,7 @@ one_line t h = record { spelled = sym (itselves_spelled t); lines = itselves_pla
 
 -- plain
 plain_is : (s : ScalarText) (place : Place) (n : ℤ) (before rest : List ℕ) → IsUtf8 s.text → IsScalar s.kind s.text → can_write s styles.Plain place ≡ true → ends_plain (in_flow place) (further_spaces place n) rest ≡ true →
-    IsPlainPiece place n (length before) (put styles.Plain s.text before rest) (put_piece styles.Plain s.text before)
+    IsPlainPiece place n (length before) (string_between styles.Plain s.text before rest) (put_piece styles.Plain s.text before)
 plain_is s place n before rest u i h e = record {
   scalar = s.text;
   rest = rest;
@@ -68,52 +68,52 @@ plain_is s place n before rest u i h e = record {
 }
 
 pub plain_back : (s : ScalarText) (place : Place) (n : ℤ) (before rest : List ℕ) → IsUtf8 s.text → IsScalar s.kind s.text → can_write s styles.Plain place ≡ true → ends_plain (in_flow place) (further_spaces place n) rest ≡ true →
-    IsPlainPiece place n (length before) (put styles.Plain s.text before rest) (put_piece styles.Plain s.text before)
-    × (piece_content (put styles.Plain s.text before rest) (put_piece styles.Plain s.text before) ≡ s.text)
+    IsPlainPiece place n (length before) (string_between styles.Plain s.text before rest) (put_piece styles.Plain s.text before)
+    × (piece_content (string_between styles.Plain s.text before rest) (put_piece styles.Plain s.text before) ≡ s.text)
     × (plain_of s.text ≡ s)
 unfolding plain_is
 plain_back s place n before rest u i h e =
     let is = plain_is s place n before rest u i h e in
     let line : holds_break s.text ≡ false = plain_line (in_flow place) s.text u (writable_text s.kind s.text (in_flow place) i h) in (
       is,
-      plain_piece_content place n (length before) (put styles.Plain s.text before rest) (put_piece styles.Plain s.text before) is (last (itselves s.text)) (one_line s.text line) ∙ itselves_text s.text,
+      plain_piece_content place n (length before) (string_between styles.Plain s.text before rest) (put_piece styles.Plain s.text before) is (last (itselves s.text)) (one_line s.text line) ∙ itselves_text s.text,
       writable_same s.kind s.text (in_flow place) i h,
     )
 
 -- in quotes
-single_is : (t before rest : List ℕ) → Spells 39 t (single t) rest → IsQuotedPiece (length before) (put styles.Single t before rest) (put_piece styles.Single t before)
+single_is : (t before rest : List ℕ) → Spells 39 t (single t) rest → IsQuotedPiece (length before) (string_between styles.Single t before rest) (put_piece styles.Single t before)
 single_is t before rest h = record { quote = 39; ls = last h.chars; scalar = single t; rest = rest; stands = drop-append_seam before (single t ++ rest); quoted = h.is; piece = refl }
 
-double_is : (t before rest : List ℕ) → Spells 34 t (double t) rest → IsQuotedPiece (length before) (put styles.Double t before rest) (put_piece styles.Double t before)
+double_is : (t before rest : List ℕ) → Spells 34 t (double t) rest → IsQuotedPiece (length before) (string_between styles.Double t before rest) (put_piece styles.Double t before)
 double_is t before rest h = record { quote = 34; ls = last h.chars; scalar = double t; rest = rest; stands = drop-append_seam before (double t ++ rest); quoted = h.is; piece = refl }
 
 pub single_back : (s : ScalarText) (place : Place) (before rest : List ℕ) → IsUtf8 s.text → can_write s styles.Single place ≡ true → front (λ b. eqb b 39) rest ≡ false →
-    IsQuotedPiece (length before) (put styles.Single s.text before rest) (put_piece styles.Single s.text before)
-    × (piece_content (put styles.Single s.text before rest) (put_piece styles.Single s.text before) ≡ s.text)
+    IsQuotedPiece (length before) (string_between styles.Single s.text before rest) (put_piece styles.Single s.text before)
+    × (piece_content (string_between styles.Single s.text before rest) (put_piece styles.Single s.text before) ≡ s.text)
     × (string_of s.text ≡ s)
 unfolding single_is
 single_back s place before rest u h front_is =
     let can = and_parts (is_string s.kind) (list_all is_single_char (chars s.text)) h in
     let spells = single_spells s.text rest u can.1 front_is in
     let is = single_is s.text before rest spells in
-    (is, quoted_piece_content (length before) (put styles.Single s.text before rest) (put_piece styles.Single s.text before) is ∙ spells.same, string_same s can.0)
+    (is, quoted_piece_content (length before) (string_between styles.Single s.text before rest) (put_piece styles.Single s.text before) is ∙ spells.same, string_same s can.0)
 
 pub double_back : (s : ScalarText) (place : Place) (before rest : List ℕ) → IsUtf8 s.text → can_write s styles.Double place ≡ true →
-    IsQuotedPiece (length before) (put styles.Double s.text before rest) (put_piece styles.Double s.text before)
-    × (piece_content (put styles.Double s.text before rest) (put_piece styles.Double s.text before) ≡ s.text)
+    IsQuotedPiece (length before) (string_between styles.Double s.text before rest) (put_piece styles.Double s.text before)
+    × (piece_content (string_between styles.Double s.text before rest) (put_piece styles.Double s.text before) ≡ s.text)
     × (string_of s.text ≡ s)
 unfolding double_is
 double_back s place before rest u h =
     let spells = double_spells s.text rest u in
     let is = double_is s.text before rest spells in
-    (is, quoted_piece_content (length before) (put styles.Double s.text before rest) (put_piece styles.Double s.text before) is ∙ spells.same, string_same s h)
+    (is, quoted_piece_content (length before) (string_between styles.Double s.text before rest) (put_piece styles.Double s.text before) is ∙ spells.same, string_same s h)
 
 -- literal
 block_is : (n : ℤ) (b : BlockText) (before rest : List ℕ) → IsBlock (deeper n) b rest → IsBlockPiece n (length before) (before ++ block_text b rest) (block_piece (length before) b)
 block_is n b before rest h = record { block = b; rest = rest; stands = drop-append_seam before (block_text b rest); scalar = h; piece = refl }
 
 pub literal_back : (s : ScalarText) (n : ℤ) (m : ℕ) (br : Break) (before tail rest : List ℕ) → IsUtf8 s.text → can_write s styles.Literal places.Block ≡ true → deeper n ≤ m → is_tail tail ≡ true →
-    ends_block false (record { columns = m; known = true }) (lines_of rest) ≡ true →
+    ends_block false (record { columns = m; known = true }) (text_lines rest) ≡ true →
     IsBlockPiece n (length before) (put_block s.text m br tail before rest) (put_block_piece s.text m br tail before)
     × (piece_content (put_block s.text m br tail before rest) (put_block_piece s.text m br tail before) ≡ s.text)
     × (string_of s.text ≡ s)

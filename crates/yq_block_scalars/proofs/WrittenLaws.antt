@@ -9,7 +9,7 @@ use Rattle.std.specs.Str.{chars, IsUtf8}
 use Rattle.std.specs.Str.Parse.{digits_value}
 use Rattle.yq_flow_scalars.specs.Characters.{is_text_char}
 use Rattle.yq_flow_scalars.specs.Text.{is_feed, is_return, front}
-use Rattle.yq_flow_scalars.specs.Quoted.{letters, beside, is_unicode, Char, itself, doubled, escape, code, spell_char, spell_chars, char_text, chars_text, bytes_of, IsChar, AreChars, last, content, IsQuoted}
+use Rattle.yq_flow_scalars.specs.Quoted.{letters, beside, is_unicode, Char, itself, doubled, escape, code, spell_char, spell_chars, char_text, chars_text, bytes_of, IsChar, AreChars, last, quoted_lines_content, IsQuoted}
 use Rattle.yq_flow_scalars.specs.Writable.{is_single_char}
 use Rattle.yq_flow_scalars.specs.Written.{written_letters, letter_of, upper, two_digits, four_digits, code_escape, double_by, in_double, in_single, single, double}
 use Rattle.yq_flow_scalars.proofs.Bools.{chosen, at_byte, not_byte}
@@ -165,7 +165,7 @@ single_stands (c ∷ cs) h =
 pub record Spells (q : ℕ) (t piece rest : List ℕ) : Type 0 where
   pub chars : List Char
   pub is : IsQuoted q (last chars) piece rest
-  pub same : content (last chars) ≡ t
+  pub same : quoted_lines_content (last chars) ≡ t
 
 pub double_spells : (t rest : List ℕ) → IsUtf8 t → Spells 34 t (double t) rest
 double_spells t rest u =

@@ -12,11 +12,11 @@ use Rattle.yq_flow_scalars.specs.declared.style.Style.{Style}
 use Rattle.yq_flow_scalars.specs.declared.style.Style.TheVariants as all_styles
 use Rattle.yq_flow_scalars.specs.Lines.{spaces, behind_spaces, is_tab, is_hash, is_blank}
 use Rattle.yq_flow_scalars.specs.Piece.{deeper}
-use Rattle.yq_flow_scalars.specs.Text.{is_white, front, past_white, ends_line, lines_of, joined, is_line}
+use Rattle.yq_flow_scalars.specs.Text.{is_white, front, past_white, ends_line, text_lines, joined, is_line}
 
 -- lines, each with its break (own)
-abbrev pub Lines : Type 0
-Lines = List (List ℕ)
+abbrev pub RawLines : Type 0
+RawLines = List (List ℕ)
 
 -- Under an indentation, a line of spaces alone, no more than that, is empty; where neither a digit nor a text line gives the indentation, of any
 -- number of spaces (YAML 1.2.2, section 8.1.1.1; l-empty of section 6.4).
@@ -33,7 +33,7 @@ is_less_indented f l = not (ends_line (behind_spaces l)) && nat_lt (spaces l) f.
 
 -- What may stand behind a block scalar: empty lines, unless it keeps them as its own, then the end or a less indented line (YAML 1.2.2,
 -- l-chomped-empty of section 8.1.1.2).
-unfoldable pub ends_block : Bool → TextIndent → Lines → Bool
+unfoldable pub ends_block : Bool → TextIndent → RawLines → Bool
 ends_block keep f [] = true
 ends_block keep f (l ∷ ls) = if is_empty_line f l then (not keep && ends_block keep f ls) else is_less_indented f l
 
@@ -42,42 +42,42 @@ abbrev pub IsRawLine : TextIndent → List ℕ → Type 0
 IsRawLine f l = (is_line l ≡ true) × ((is_empty_line f l ≡ true) ⊎ (is_text_line f l ≡ true))
 
 -- lines of a block scalar (YAML 1.2.2, section 8.1.2)
-abbrev pub AreRaw : TextIndent → Lines → Type 0
+abbrev pub AreRaw : TextIndent → RawLines → Type 0
 AreRaw f [] = Unit {0}
 AreRaw f (l ∷ ls) = IsRawLine f l × AreRaw f ls
 
 -- there are no lines (own)
-abbrev pub no_lines : Lines → Bool
+abbrev pub no_lines : RawLines → Bool
 no_lines [] = true
 no_lines (l ∷ ls) = false
 
 -- the last line, if there is one, is a text line (own)
-abbrev pub ends_in_text : TextIndent → Lines → Bool
+abbrev pub ends_in_text : TextIndent → RawLines → Bool
 ends_in_text f [] = true
 ends_in_text f (l ∷ ls) = if no_lines ls then is_text_line f l else ends_in_text f ls
 
 -- The indentation where no digit gives it: that of the first line that isn't blank, at least the least one, and no blank line before it begins
 -- with more spaces. Without such a line it is the least one (YAML 1.2.2, section 8.1.1.1).
-abbrev pub IsDetected : ℕ → TextIndent → Lines → Type 0
+abbrev pub IsDetected : ℕ → TextIndent → RawLines → Type 0
 IsDetected least f [] = f ≡ record { columns = least; known = false }
 IsDetected least f (l ∷ ls) =
     ((is_blank l ≡ true) × (f.known ≡ true → spaces l ≤ f.columns) × IsDetected least f ls)
     ⊎ ((is_blank l ≡ false) × (f ≡ record { columns = spaces l; known = true }) × (least ≤ spaces l))
 
 -- the indentation of the text: a digit counts from the parent's, whose is one less than the least (YAML 1.2.2, section 8.1.1.1)
-abbrev pub IsTextIndent : ℕ → Option ℕ → TextIndent → Lines → Type 0
+abbrev pub IsTextIndent : ℕ → Option ℕ → TextIndent → RawLines → Type 0
 IsTextIndent least None f raw = IsDetected least f raw
 IsTextIndent least (Some d) f raw = f ≡ record { columns = least + d - 1; known = true }
 
 -- `|` for literal, `>` for folded (YAML 1.2.2, sections 8.1.2 and 8.1.3)
-abbrev pub mark_of : BlockStyle → ℕ
-mark_of styles.Literal = 124
-mark_of styles.Folded = 62
+abbrev pub style_indicator : BlockStyle → ℕ
+style_indicator styles.Literal = 124
+style_indicator styles.Folded = 62
 
 -- the same among all styles (own)
-abbrev pub style_of : BlockStyle → Style
-style_of styles.Literal = all_styles.Literal
-style_of styles.Folded = all_styles.Folded
+abbrev pub any_style : BlockStyle → Style
+any_style styles.Literal = all_styles.Literal
+any_style styles.Folded = all_styles.Folded
 
 -- an indentation indicator is a digit from 1 to 9 (YAML 1.2.2, section 8.1.1.1)
 abbrev pub IsDigit : Option ℕ → Type 0
@@ -117,12 +117,12 @@ pub record BlockText : Type 0 where
   pub chomping : Chomping
   pub indicators : List ℕ
   pub tail : List ℕ
-  pub raw : Lines
+  pub raw : RawLines
   pub indent : TextIndent
 
 -- its text, before a rest (own)
 abbrev pub block_text : BlockText → List ℕ → List ℕ
-block_text b rest = mark_of b.style ∷ (b.indicators ++ (b.tail ++ (joined b.raw ++ rest)))
+block_text b rest = style_indicator b.style ∷ (b.indicators ++ (b.tail ++ (joined b.raw ++ rest)))
 
 -- A block scalar whose text is indented by so many columns at least, before a rest. Empty lines at the end belong to it only if it keeps them
 -- (YAML 1.2.2, section 8.1).
@@ -132,12 +132,12 @@ pub record IsBlock (least : ℕ) (b : BlockText) (rest : List ℕ) : Type 0 wher
   pub indent : IsTextIndent least b.digit b.indent b.raw
   pub lines : AreRaw b.indent b.raw
   pub ends : (keeps b.chomping ≡ true) ⊎ (ends_in_text b.indent b.raw ≡ true)
-  pub behind : ends_block (keeps b.chomping) b.indent (lines_of rest) ≡ true
+  pub behind : ends_block (keeps b.chomping) b.indent (text_lines rest) ≡ true
 
 -- where its pieces stand, by the offset at which it begins (own)
 abbrev pub block_piece : ℕ → BlockText → Piece
 block_piece start b = record {
-  style = style_of b.style;
+  style = any_style b.style;
   start = start;
   head_end = start + 1 + length b.indicators;
   raw_start = start + 1 + length b.indicators + length b.tail;

@@ -7,13 +7,13 @@ use Rattle.yq_block_scalars.specs.declared.block_header.BlockStyle.TheVariants a
 use Rattle.yq_block_scalars.specs.declared.block_header.Chomping.{Chomping}
 use Rattle.yq_block_scalars.specs.declared.block_header.Chomping.TheVariants as chompings
 use Rattle.yq_block_scalars.specs.declared.block_lines.TextIndent.{TextIndent}
-use Rattle.yq_block_scalars.specs.Block.{Lines, no_lines, BlockText}
+use Rattle.yq_block_scalars.specs.Block.{RawLines, no_lines, BlockText}
 use Rattle.yq_flow_scalars.specs.Lines.{spaces}
 use Rattle.yq_flow_scalars.specs.Text.{feed, is_white, front, upto, ends_line}
 
 -- a line without its break (own)
-abbrev pub line_text : List ℕ → List ℕ
-line_text l = take (upto ends_line l) l
+abbrev pub text_of_line : List ℕ → List ℕ
+text_of_line l = take (upto ends_line l) l
 
 -- a line without its indentation; of an empty line nothing but its break stays (YAML 1.2.2, section 8.1.1.1)
 abbrev pub unindented : TextIndent → List ℕ → List ℕ
@@ -21,17 +21,17 @@ unindented f l = drop (if f.known then min f.columns (spaces l) else spaces l) l
 
 -- what a line has of the content (YAML 1.2.2, section 8.1.2)
 abbrev pub part_of : TextIndent → List ℕ → List ℕ
-part_of f l = line_text (unindented f l)
+part_of f l = text_of_line (unindented f l)
 
 -- an LF, or nothing (own)
-abbrev pub broken : Bool → List ℕ
-broken true = feed ∷ []
-broken false = []
+abbrev pub optional_break : Bool → List ℕ
+optional_break true = feed ∷ []
+optional_break false = []
 
 -- Literal: each line with an LF; where the last break is stripped the last line has none (YAML 1.2.2, section 8.1.2).
-unfoldable pub literal : Bool → TextIndent → Lines → List ℕ
+unfoldable pub literal : Bool → TextIndent → RawLines → List ℕ
 literal strip f [] = []
-literal strip f (l ∷ ls) = (part_of f l ++ broken (not (strip && no_lines ls))) ++ literal strip f ls
+literal strip f (l ∷ ls) = (part_of f l ++ optional_break (not (strip && no_lines ls))) ++ literal strip f ls
 
 -- What stands in the content before a line, behind k empty lines: between two lines that don't begin with white space the break is folded, to a
 -- space or to the LFs of the empty lines; about the others it stays (YAML 1.2.2, section 8.1.3).
@@ -42,25 +42,25 @@ joint before.Text true k = feed ∷ replicate k feed
 joint before.Text false k = if k == 0 then 32 ∷ [] else replicate k feed
 
 -- what stands behind the last text line and k empty lines (YAML 1.2.2, section 8.1.1.2)
-abbrev pub ending : Chomping → Before → ℕ → List ℕ
-ending chompings.Strip b k = []
-ending chompings.Clip before.Nothing k = []
-ending chompings.Clip before.Spaced k = feed ∷ []
-ending chompings.Clip before.Text k = feed ∷ []
-ending chompings.Keep before.Nothing k = replicate k feed
-ending chompings.Keep before.Spaced k = feed ∷ replicate k feed
-ending chompings.Keep before.Text k = feed ∷ replicate k feed
+abbrev pub chomped_end : Chomping → Before → ℕ → List ℕ
+chomped_end chompings.Strip b k = []
+chomped_end chompings.Clip before.Nothing k = []
+chomped_end chompings.Clip before.Spaced k = feed ∷ []
+chomped_end chompings.Clip before.Text k = feed ∷ []
+chomped_end chompings.Keep before.Nothing k = replicate k feed
+chomped_end chompings.Keep before.Spaced k = feed ∷ replicate k feed
+chomped_end chompings.Keep before.Text k = feed ∷ replicate k feed
 
 -- whether a line's text begins with white space (YAML 1.2.2, s-nb-spaced-text of section 8.1.3)
-abbrev pub kind_of : List ℕ → Before
-kind_of p = if front is_white p then before.Spaced else before.Text
+abbrev pub is_spaced_line : List ℕ → Before
+is_spaced_line p = if front is_white p then before.Spaced else before.Text
 
 -- Folded: the lines, behind what stood before them and k empty lines (YAML 1.2.2, section 8.1.3).
-unfoldable pub folded : Chomping → TextIndent → Before → ℕ → Lines → List ℕ
-folded c f b k [] = ending c b k
+unfoldable pub folded : Chomping → TextIndent → Before → ℕ → RawLines → List ℕ
+folded c f b k [] = chomped_end c b k
 folded c f b k (l ∷ ls) =
     if length (part_of f l) == 0 then folded c f b (k + 1) ls
-    else (joint b (front is_white (part_of f l)) k ++ (part_of f l ++ folded c f (kind_of (part_of f l)) 0 ls))
+    else (joint b (front is_white (part_of f l)) k ++ (part_of f l ++ folded c f (is_spaced_line (part_of f l)) 0 ls))
 
 -- it strips the last break (YAML 1.2.2, section 8.1.1.2)
 abbrev pub strips : Chomping → Bool
@@ -69,10 +69,10 @@ strips chompings.Clip = false
 strips chompings.Keep = false
 
 -- what raw lines stand for (YAML 1.2.2, section 8.1)
-abbrev pub content_of : BlockStyle → Chomping → TextIndent → Lines → List ℕ
-content_of styles.Literal c f raw = literal (strips c) f raw
-content_of styles.Folded c f raw = folded c f before.Nothing 0 raw
+abbrev pub block_lines_content : BlockStyle → Chomping → TextIndent → RawLines → List ℕ
+block_lines_content styles.Literal c f raw = literal (strips c) f raw
+block_lines_content styles.Folded c f raw = folded c f before.Nothing 0 raw
 
 -- what a block scalar stands for (YAML 1.2.2, section 8.1)
 abbrev pub block_content : BlockText → List ℕ
-block_content b = content_of b.style b.chomping b.indent b.raw
+block_content b = block_lines_content b.style b.chomping b.indent b.raw

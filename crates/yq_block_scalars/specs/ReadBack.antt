@@ -11,15 +11,15 @@ use Rattle.yq_block_scalars.specs.ScalarPiece.{piece_content}
 use Rattle.yq_flow_scalars.specs.Piece.{IsPlainPiece, inline_piece}
 use Rattle.yq_block_scalars.specs.QuotedPiece.{IsQuotedPiece}
 use Rattle.yq_flow_scalars.specs.Scalar.{ScalarText, plain_of, string_of}
-use Rattle.yq_flow_scalars.specs.Written.{written}
+use Rattle.yq_flow_scalars.specs.Written.{written_scalar}
 
 -- a string that is written in a style on one line, between two texts (own)
-abbrev pub put : Style → List ℕ → List ℕ → List ℕ → List ℕ
-put style s before rest = before ++ (written style s ++ rest)
+abbrev pub string_between : Style → List ℕ → List ℕ → List ℕ → List ℕ
+string_between style s before rest = before ++ (written_scalar style s ++ rest)
 
 -- the piece where it stands (own)
 abbrev pub put_piece : Style → List ℕ → List ℕ → Piece
-put_piece style s before = inline_piece style (length before) (length before + length (written style s))
+put_piece style s before = inline_piece style (length before) (length before + length (written_scalar style s))
 
 -- a string that is written as a literal block scalar, indented by m columns, with these breaks and this rest of its header's line, between two
 -- texts (own)
@@ -33,14 +33,14 @@ put_block_piece s m br tail before = block_piece (length before) (written_block 
 -- what is written plain, put between two texts, is one piece there, whose content is the scalar's text and has its kind (own)
 abbrev pub PlainIsReadBack : Place → ℤ → ScalarText → List ℕ → List ℕ → Type 0
 PlainIsReadBack place n s before rest =
-    let text = put Plain s.text before rest in
+    let text = string_between Plain s.text before rest in
     let piece = put_piece Plain s.text before in
     IsPlainPiece place n (length before) text piece × (piece_content text piece ≡ s.text) × (plain_of s.text ≡ s)
 
 -- what is written in quotes, put between two texts, is one piece there, whose content is the string (own)
 abbrev pub QuotedIsReadBack : Style → ScalarText → List ℕ → List ℕ → Type 0
 QuotedIsReadBack style s before rest =
-    let text = put style s.text before rest in
+    let text = string_between style s.text before rest in
     let piece = put_piece style s.text before in
     IsQuotedPiece (length before) text piece × (piece_content text piece ≡ s.text) × (string_of s.text ≡ s)
 

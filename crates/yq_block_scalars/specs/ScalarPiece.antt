@@ -33,13 +33,13 @@ abbrev pub piece_text : List ℕ → Piece → List ℕ
 piece_text text p = take (p.end - p.start) (drop p.start text)
 
 -- what a piece of the text stands for, by its style (YAML 1.2.2, sections 7.3 and 8.1)
-abbrev pub content_in : Style → List ℕ → Piece → List ℕ
-content_in styles.Plain text p = plain_content (piece_text text p)
-content_in styles.Single text p = quoted_content (piece_text text p)
-content_in styles.Double text p = quoted_content (piece_text text p)
-content_in styles.Literal text p = blocks.piece_content text p
-content_in styles.Folded text p = blocks.piece_content text p
+abbrev pub piece_string : Style → List ℕ → Piece → List ℕ
+piece_string styles.Plain text p = plain_content (piece_text text p)
+piece_string styles.Single text p = quoted_content (piece_text text p)
+piece_string styles.Double text p = quoted_content (piece_text text p)
+piece_string styles.Literal text p = blocks.block_piece_content text p
+piece_string styles.Folded text p = blocks.block_piece_content text p
 
 -- what a piece of the text stands for (YAML 1.2.2, sections 7.3 and 8.1)
 abbrev pub piece_content : List ℕ → Piece → List ℕ
-piece_content text p = content_in p.style text p
+piece_content text p = piece_string p.style text p

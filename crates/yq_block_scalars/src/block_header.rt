@@ -1,6 +1,6 @@
 //! The header of a block scalar (YAML 1.2.2, section 8.1.1).
 ghost use Rattle.std.specs.Prelude.{◌≡◌, true, IfErr};
-ghost use Rattle.yq_flow_scalars.specs.Answers.{Reads};
+ghost use Rattle.yq_flow_scalars.specs.Answers.{ReadsAs};
 ghost use Rattle.yq_block_scalars.specs.Block as spec;
 ghost use Rattle.yq_block_scalars.specs.BlockReading as reading;
 
@@ -27,9 +27,9 @@ pub enum Chomping {
 }
 
 /// The style in front, and what follows it.
-#[tactic(auto, unfolding(crate::specs::BlockReading::style_at))]
+#[tactic(auto, unfolding(crate::specs::BlockReading::read_style))]
 pub fn read_style(text: &[u8]) -> Result<(BlockStyle, &[u8]), FaultKind>
-    ensures read { Reads (λ x. (x.0, x.1.now)) result (reading.style_at text.now) }
+    ensures read { ReadsAs (λ x. (x.0, x.1.now)) result (reading.read_style text.now) }
     ensures fault { IfErr result (λ kind. spec.is_block_fault kind ≡ true) }
 {
     match text {
@@ -41,7 +41,7 @@ pub fn read_style(text: &[u8]) -> Result<(BlockStyle, &[u8]), FaultKind>
 
 /// The style among all.
 pub fn style_of(style: BlockStyle) -> Style
-    ensures { result ≡ spec.style_of style }
+    ensures { result ≡ spec.any_style style }
 {
     match style {
         BlockStyle::Literal => Style::Literal,
@@ -102,9 +102,9 @@ fn is_tail(line: &[u8]) -> bool
 }
 
 /// The rest of the header's line with its break, and what follows it.
-#[tactic(auto, unfolding(crate::specs::BlockReading::tail_at))]
+#[tactic(auto, unfolding(crate::specs::BlockReading::read_header_tail))]
 pub fn read_tail(text: &[u8]) -> Result<(&[u8], &[u8]), FaultKind>
-    ensures read { Reads (λ x. (x.0.now, x.1.now)) result (reading.tail_at text.now) }
+    ensures read { ReadsAs (λ x. (x.0.now, x.1.now)) result (reading.read_header_tail text.now) }
     ensures fault { IfErr result (λ kind. spec.is_block_fault kind ≡ true) }
 {
     let (line, rest) = text.split_at(line_len(text));

@@ -1,9 +1,9 @@
 //! The lines of a block scalar, and what may stand behind them (YAML 1.2.2, sections 8.1.1 and 8.1.2).
 ghost use Rattle.std.specs.Prelude.{◌≡◌, true, IfErr};
-ghost use Rattle.yq_flow_scalars.specs.Answers.{Reads};
+ghost use Rattle.yq_flow_scalars.specs.Answers.{ReadsAs};
 ghost use Rattle.yq_block_scalars.specs.Block as spec;
 ghost use Rattle.yq_block_scalars.specs.BlockReading as reading;
-ghost use Rattle.yq_flow_scalars.specs.Text.{lines_of};
+ghost use Rattle.yq_flow_scalars.specs.Text.{text_lines};
 
 use yq_flow_scalars::{
     FaultKind, behind_spaces, ends_line, is_blank, is_line, line_len, spaces_len,
@@ -55,7 +55,7 @@ fn is_less_indented(indent: TextIndent, line: &[u8]) -> bool
 /// The indentation that the lines give where no digit does.
 #[tactic(auto)]
 pub fn detect_indent(least: usize, text: &[u8]) -> Result<TextIndent, FaultKind>
-    ensures read { Reads (λ f. f) result (reading.detected_at least 0 (lines_of text.now)) }
+    ensures read { ReadsAs (λ f. f) result (reading.detected_at least 0 (text_lines text.now)) }
     ensures fault { IfErr result (λ kind. spec.is_block_fault kind ≡ true) }
 {
     let mut most = 0;
@@ -92,7 +92,7 @@ pub fn detect_indent(least: usize, text: &[u8]) -> Result<TextIndent, FaultKind>
 /// How long the raw lines in front are, in bytes.
 #[tactic(auto)]
 pub fn raw_len(keep: bool, indent: TextIndent, text: &[u8]) -> Result<usize, FaultKind>
-    ensures read { Reads (λ n. n) result (reading.len_at keep indent text.now) }
+    ensures read { ReadsAs (λ n. n) result (reading.len_at keep indent text.now) }
     ensures fault { IfErr result (λ kind. spec.is_block_fault kind ≡ true) }
 {
     let mut within = 0;

@@ -1,7 +1,7 @@
 -- The first operation of a plan fits the text on which it was planned.
 use Rattle.std.proofs.Common.{◌≡◌, ℕ, ◌<◌, List, [], ◌∷◌, slice_get, Some, refl, ◌∙◌, subst, arith}
 use Rattle.std.proofs.lemmas.Option.{none-some, same_Some}
-use Rattle.yq_documents.specs.Documents.{Reads}
+use Rattle.yq_documents.specs.Documents.{ReadsDocuments}
 use Rattle.yq_documents.specs.Reading.{documents_of}
 use Rattle.yq_meaning.specs.Fits.{AllFit, Fits}
 use Rattle.yq_meaning.specs.Operations.{operation_of, operations_of}
@@ -15,7 +15,7 @@ some_update (read stages) h = absurd (omega (arith, h))
 some_update (updates []) h = absurd (omega (arith, h))
 some_update (updates (u ∷ us)) h = (u, refl)
 
-pub first_fits : (t b d : List ℕ) (p : Program) (ops : List Op) → b ≡ t → d ≡ b → Reads b (documents_of d) → 0 < update_count p →
+pub first_fits : (t b d : List ℕ) (p : Program) (ops : List Op) → b ≡ t → d ≡ b → ReadsDocuments b (documents_of d) → 0 < update_count p →
     ((u : Update) → update_at 0 p ≡ Some u → AllFit (room_of d) (operations_of ops) (documents_of d)) →
     (op : Op) → slice_get ops 0 ≡ Some op → IsFitting (operation_of op) t
 first_fits t b d p [] text same reads within fit op at = absurd (none-some op at)
@@ -25,6 +25,6 @@ first_fits t b d p (x ∷ xs) text same reads within fit op at =
     subst (λ (s : List ℕ). Fits (room_of s) (operation_of x) (documents_of d)) (same ∙ text) (fit u.0 u.1).0 in
     record {
       before = documents_of d;
-      read = subst (λ (s : List ℕ). Reads s (documents_of d)) text reads;
+      read = subst (λ (s : List ℕ). ReadsDocuments s (documents_of d)) text reads;
       fits = subst (λ (y : Op). Fits (room_of t) (operation_of y) (documents_of d)) (same_Some x op at) fits;
     }

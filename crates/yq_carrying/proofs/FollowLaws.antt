@@ -7,13 +7,13 @@ use Rattle.std.specs.Str.{IsCharBoundary, IsUtf8}
 use Rattle.std.specs.declared.alloc.Global.{Global}
 use Rattle.yq_text.specs.Limit.{text_limit}
 use Rattle.yq_cut.specs.Grammar.{IsCut}
-use Rattle.yq_cut.specs.Meter.{counted, line_count}
+use Rattle.yq_cut.specs.Meter.{count_after, line_count}
 use Rattle.yq_cut.specs.Rows.{Cut, cut_text}
 use Rattle.yq_cut.specs.Touched.{TouchesOnly}
 use Rattle.yq_cut.specs.View.{rows_view}
 use Rattle.yq_cut.specs.declared.places.Places.{Places}
 use Rattle.yq_cut.proofs.MeterLaws.{counted_within}
-use Rattle.yq_documents.specs.Documents.{Document, Reads}
+use Rattle.yq_documents.specs.Documents.{Document, ReadsDocuments}
 use Rattle.yq_documents.specs.Reading.{documents, cut_of, read_at}
 use Rattle.yq_lines.specs.RowWalk.{AreKnown}
 use Rattle.yq_row_places.specs.RowWalk.{StayKnown}
@@ -30,7 +30,7 @@ use Rattle.yq_script.proofs.ChangeLaws.{cut_back, cut_front}
 use Rattle.yq_script.proofs.ScriptLaws.{changes_lead, kept_changes}
 use Rattle.yq_session.specs.Following.{ArePlacesOf, CountsWritten, Follows, exchanged, read_text}
 use Rattle.yq_session.specs.declared.kept.Kept.{Kept}
-use Rattle.yq_edits.specs.Edits.{edits, or_stay}
+use Rattle.yq_edits.specs.Edits.{op_edits, or_stay}
 use Rattle.yq_edits.specs.Local.{IsLocalTo}
 use Rattle.yq_edits.specs.Operands.{HasOperand}
 use Rattle.yq_outcomes.specs.TouchedRanges.{IsLocalEdit}
@@ -117,11 +117,11 @@ module _ (op : Operation) (t : List ℕ) (operand : HasOperand op) (fitting : Is
     again : read_at (cut_text c) ≡ Some c
     again = ap read_at text ∙ h.read
 
-    cut_known : (docs : List Document) (d : Reads t docs) → d.parts ≡ c
+    cut_known : (docs : List Document) (d : ReadsDocuments t docs) → d.parts ≡ c
     cut_known docs d = same_Some _ _ (sym (parts_read t docs d).0 ∙ h.read)
 
-    exchanged_there : edits op c ≡ Some ss
-    exchanged_there = subst (λ (x : Cut). edits op x ≡ Some ss) (cut_known a.before a.read) a.exchanged
+    exchanged_there : op_edits op c ≡ Some ss
+    exchanged_there = subst (λ (x : Cut). op_edits op x ≡ Some ss) (cut_known a.before a.read) a.exchanged
 
     own_is : own ≡ ss
     own_is = ap (segments_by op) (cut_same t c h.read) ∙ ap (or_stay c) exchanged_there
@@ -217,7 +217,7 @@ module _ (op : Operation) (t : List ℕ) (operand : HasOperand op) (fitting : Is
       pub scans : (count before after : ℕ) → count ≡ before → CountsWritten t new kept count after → Scans op t new x.splices.items before after
       scans count before after is counts =
           let lines : ℕ = line_count (read_text kept c new_cut agrees) in
-          let exact : after ≡ counted lines before = counts c new_cut (cut_read t c h.read) is_cut agrees ∙ ap (counted lines) is in
+          let exact : after ≡ count_after lines before = counts c new_cut (cut_read t c h.read) is_cut agrees ∙ ap (count_after lines) is in
           inr (
             some,
             record {

@@ -4,7 +4,7 @@ use Rattle.yq_flow_scalars.specs.declared.fault.FaultKind.TheVariants.{NotUtf8}
 use Rattle.yq_flow_scalars.specs.declared.fault.ReadError.{ReadError}
 use Rattle.yq_flow_scalars.specs.declared.fault.ReadError.TheVariants as reading
 use Rattle.yq_cut.specs.Kept.{IsPlaced}
-use Rattle.yq_cut.specs.Meter.{counted, line_count}
+use Rattle.yq_cut.specs.Meter.{count_after, line_count}
 use Rattle.yq_cut.specs.Rows.{Cut}
 use Rattle.yq_cut.specs.Touched.{TouchesOnly}
 use Rattle.yq_cut.specs.View.{rows_view}
@@ -17,7 +17,7 @@ use Rattle.yq_script.specs.Script.{Segment, kept_front, kept_back, new_text}
 use Rattle.yq_script.specs.Splice.{Splice}
 use Rattle.yq_session.specs.Following.{read_text}
 use Rattle.yq_session.specs.declared.kept.Kept.{Kept}
-use Rattle.yq_edits.specs.Edits.{edits}
+use Rattle.yq_edits.specs.Edits.{op_edits}
 use Rattle.yq_outcomes.specs.TouchedRanges.{PutAreTouched}
 use Rattle.yq_outcomes.specs.Theorems.{HasReading}
 
@@ -49,14 +49,14 @@ pub record IsScanned (op : Operation) (t new : List ℕ) (before after : ℕ) : 
   pub segments : List Segment
   pub read : read_at t ≡ Some cut
   pub new_read : read_at new ≡ Some new_cut
-  pub exchanged : edits op cut ≡ Some segments
+  pub exchanged : op_edits op cut ≡ Some segments
   pub new_is : new ≡ new_text segments
   pub kept : Kept
   pub front : kept.front ≡ length (kept_front segments)
   pub back : kept.back ≡ length (kept_back segments)
   pub touches : TouchesOnly kept.front kept.back cut new_cut
   pub each : PutAreTouched segments kept.front kept.back cut new_cut touches
-  pub exact : after ≡ counted (line_count (read_text kept cut new_cut touches)) before
+  pub exact : after ≡ count_after (line_count (read_text kept cut new_cut touches)) before
   pub most : after ≤ before + line_count (read_text kept cut new_cut touches)
 
 -- what an operation adds to the count of lines: where it gives splices, those that it wrote; none, where all bytes stay (own)

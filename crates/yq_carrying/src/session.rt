@@ -2,14 +2,14 @@
 ghost use Rattle.std.specs.Prelude.{◌≡◌, IfErr, IfOk, OnErr, string_bytes};
 ghost use Rattle.yq_documents.specs.Reading.{cut_of, read_at};
 ghost use Rattle.yq_meaning.specs.Operations.{operation_of};
-ghost use Rattle.yq_cut.specs.Meter.{counted, line_count};
+ghost use Rattle.yq_cut.specs.Meter.{count_after, line_count};
 ghost use Rattle.yq_flow_scalars.specs.Answers.{Gives};
 ghost use Rattle.yq_script.specs.Changing.{IsChange};
-ghost use Rattle.yq_text.specs.Halves.{whole};
+ghost use Rattle.yq_text.specs.Halves.{halves_text};
 ghost use Rattle.yq_row_places.specs.RowWalk.{StayKnown};
 ghost use Rattle.yq_outcomes.specs.Answers.{Edits, EditFails};
 ghost use Rattle.yq_outcomes.specs.Carried.{carried};
-ghost use Rattle.yq_outcomes.specs.Edit.{behind, gives};
+ghost use Rattle.yq_outcomes.specs.Edit.{edit_behind, gives};
 ghost use Rattle.yq_carrying.specs.Session.{HasPlaces, NotOpened, Scans};
 ghost use Rattle.yq_outcomes.specs.Theorems.{HasReading, IsApplied, IsFitting, OpRefused};
 ghost use Rattle.yq_outcomes.specs.Valid.{segments_by};
@@ -45,15 +45,15 @@ pub struct Session {
 }
 
 impl Model for Session {
-    ghost use Rattle.yq_text.specs.Split.{joined};
+    ghost use Rattle.yq_text.specs.Split.{halves_joined};
     ghost use Rattle.yq_carrying.specs.Session.{SessionState, HasPlaces, KnowsItems};
 
     ghost Value = { SessionState };
 
-    ghost view = { λ s. record { text = joined s.text; scanned = s.meter } };
+    ghost view = { λ s. record { text = halves_joined s.text; scanned = s.meter } };
 
-    ghost invariant = { λ s. HasPlaces (joined s.text) s.places ×
-        KnowsItems (joined s.text) s.known };
+    ghost invariant = { λ s. HasPlaces (halves_joined s.text) s.places ×
+        KnowsItems (halves_joined s.text) s.known };
 }
 
 impl Session {
@@ -64,7 +64,7 @@ impl Session {
     pub fn open(alloc: Global, text: &str) -> Result<Session, ReadError>
         ensures exact { Gives (λ s. cut_of s.text) result (read_at text.now) }
         ensures text { IfOk result (λ s. (s.text ≡ text.now) × HasReading text.now) }
-        ensures scanned { IfOk result (λ s. s.scanned ≡ counted (line_count text.now) 0) }
+        ensures scanned { IfOk result (λ s. s.scanned ≡ count_after (line_count text.now) 0) }
         ensures refused { IfErr result (λ e. NotOpened e text.now) }
     {
         let documents = read(alloc, text.as_bytes())?;
@@ -166,7 +166,7 @@ impl Session {
     /// The text as it stands, in the two halves in which it is kept: to lend it as one `&str` would move one
     /// of them, which an operation behind that would have to move back.
     pub fn text(&self) -> Halves<'_>
-        ensures text { whole result ≡ self.now.text }
+        ensures text { halves_text result ≡ self.now.text }
         ensures read { HasReading self.now.text }
     {
         self.text.halves()
@@ -188,7 +188,7 @@ impl Session {
 
     /// Ends the session by an operation, whose splices come behind others. The rows need not follow it.
     pub(crate) fn close_by(self, op: &Op, splices: Vec<Splice>) -> Result<Edited, EditError>
-        ensures { Edits result (behind splices.items (carried (operation_of op.now) self.text)) }
+        ensures { Edits result (edit_behind splices.items (carried (operation_of op.now) self.text)) }
     {
         let Session {
             alloc,

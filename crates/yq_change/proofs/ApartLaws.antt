@@ -9,7 +9,7 @@ use Rattle.yq_lines.specs.Comments.{head_comment}
 use Rattle.yq_cut.specs.Rows as rows
 use Rattle.yq_cut.specs.Rows.{Content, Row}
 use Rattle.yq_lines.specs.Group.{level_or}
-use Rattle.yq_lines.specs.Lines.{mark_line, lines_from, row_lines, lines_of}
+use Rattle.yq_lines.specs.Lines.{mark_line, lines_from, row_lines, lines_of_rows}
 use Rattle.yq_lines.specs.Outline.{Line, level, Outline, flatten, IsOpen, IsEven, label, end, row}
 use Rattle.yq_lines.specs.Places.{Context, here, below, beside, lines_before, lines_after, FoundLine, next_to, find_row}
 use Rattle.yq_lines.proofs.Allowing.{Allows}
@@ -152,7 +152,7 @@ closed_back [] ys h = h
 closed_back (x ∷ xs) ys h = closed_back xs ys h.1
 
 -- lines of a row are each deeper than the one before
-pub first_level : (above : List (List ℕ)) (column : ℕ) (ns : List ℕ) (m : rows.Mark) (c : Content) (rest : List Line) (n : ℕ) → Begins n (lines_from above column ns m c ++ rest) → 3 * column + 1 ≤ n
+pub first_level : (above : List (List ℕ)) (column : ℕ) (ns : List ℕ) (m : rows.RowMark) (c : Content) (rest : List Line) (n : ℕ) → Begins n (lines_from above column ns m c ++ rest) → 3 * column + 1 ≤ n
 unfolding level
 first_level above column [] m c rest n h = let small = rank_small (mark_line above column m c).mark in omega (arith, h, small.0)
 first_level above column (k ∷ ns) m c rest n h = omega (arith, h)
@@ -165,7 +165,7 @@ apart_rest : (x : Line) (a z : List Line) → StandApart (x ∷ a) z → StandAp
 apart_rest x [] z h = tt
 apart_rest x (y ∷ a) z h = h
 
-row_around : (above : List (List ℕ)) (column : ℕ) (ns : List ℕ) (m : rows.Mark) (c : Content) (rest a z : List Line) → lines_from above column ns m c ++ rest ≡ a ++ z → StandApart a z →
+row_around : (above : List (List ℕ)) (column : ℕ) (ns : List ℕ) (m : rows.RowMark) (c : Content) (rest a z : List Line) → lines_from above column ns m c ++ rest ≡ a ++ z → StandApart a z →
     Around (lines_from above column ns m c) rest a z
 unfolding level
 row_around above column ns m c rest [] z e h = inl refl
@@ -193,4 +193,4 @@ row_begins (r ∷ rs) a z e h =
     (λ w.
     let more = row_begins rs w.0 z w.2 w.3 in
     record { front = r ∷ more.front; back = more.back; rows_are = ap (λ (l : List Row). r ∷ l) more.rows_are; front_lines = ap (λ (b : List Line). row_lines r ++ b) more.front_lines ∙ sym w.1; back_lines = more.back_lines })
-    (row_around (head_comment r.gap) r.column r.dashes r.mark r.content (lines_of rs) a z e h)
+    (row_around (head_comment r.gap) r.column r.dashes r.mark r.content (lines_of_rows rs) a z e h)

@@ -3,7 +3,7 @@ use Rattle.std.proofs.Common.{◌≡◌, ℕ, ◌<◌, List, [], ◌∷◌, ◌+
 use Rattle.std.proofs.lemmas.Bool.{false≢true}
 use mathlib.Core.List.{head-eq_of_cons-eq}
 use Rattle.yq_block_scalars.specs.Block.{BlockText, ends_block, keeps}
-use Rattle.yq_flow_scalars.specs.Text.{lines_of as text_lines}
+use Rattle.yq_flow_scalars.specs.Text.{text_lines}
 use Rattle.yq_block_scalars.proofs.BlockRepairLaws.{ends_behind}
 use Rattle.yq_cut.specs.Exchange.{asked_behind}
 use Rattle.yq_cut.specs.Grammar.{Limit, unlimited, AreRows, no_rows}
@@ -18,10 +18,10 @@ use Rattle.yq_cut.proofs.splices.PartPlaces.{part_in}
 use Rattle.yq_cut.proofs.seams.FrontSeams.{seams_any, seams_line}
 use Rattle.yq_documents.specs.Documents.{HaveFitKeys, HasShortRoot}
 use Rattle.yq_lines.specs.Group.{level_or}
-use Rattle.yq_lines.specs.Lines.{lines_from, lines_of}
+use Rattle.yq_lines.specs.Lines.{lines_from, lines_of_rows}
 use Rattle.yq_lines.specs.Outline.{Line, Outline, flatten}
 use Rattle.yq_lines.specs.Places.{lines_before, lines_after}
-use Rattle.yq_documents.specs.Reading.{outline_of}
+use Rattle.yq_documents.specs.Reading.{part_outline}
 use Rattle.yq_lines.proofs.Decides.{flatten-group}
 use Rattle.yq_cut.proofs.splices.SpliceTexts.{own_gap}
 use Rattle.yq_cut.proofs.seams.BlockFronts.{last_none}
@@ -46,20 +46,20 @@ block_seam (r ∷ []) b u e h = search (rules, e)
 block_seam (r ∷ (q ∷ front)) b u e h = block_seam (q ∷ front) b u e h
 
 -- rows begin in the column of their first line
-pub first_column : (above : List (List ℕ)) (column : ℕ) (ns : List ℕ) (m : rows.Mark) (c : Content) (rest : List Line) (l : Line) (ls : List Line) → lines_from above column ns m c ++ rest ≡ l ∷ ls →
+pub first_column : (above : List (List ℕ)) (column : ℕ) (ns : List ℕ) (m : rows.RowMark) (c : Content) (rest : List Line) (l : Line) (ls : List Line) → lines_from above column ns m c ++ rest ≡ l ∷ ls →
     l.column ≡ column
 first_column above column [] m c rest l ls e = ap (λ (x : Line). x.column) (sym (head-eq_of_cons-eq e))
 first_column above column (n ∷ ns) m c rest l ls e = ap (λ (x : Line). x.column) (sym (head-eq_of_cons-eq e))
 
 -- the text of rows without a gap before them, behind a block scalar
-less_rows : (new : List Row) (limit : Limit) (gap rest : List ℕ) (b : BlockText) (l : Line) (ls : List Line) → AreRows limit new gap rest → first_gap new [] ≡ [] → lines_of new ≡ l ∷ ls →
+less_rows : (new : List Row) (limit : Limit) (gap rest : List ℕ) (b : BlockText) (l : Line) (ls : List Line) → AreRows limit new gap rest → first_gap new [] ≡ [] → lines_of_rows new ≡ l ∷ ls →
     l.column < b.indent.columns → ends_block (keeps b.chomping) b.indent (text_lines (rows_text new (gap ++ rest))) ≡ true
 less_rows [] limit gap rest b l ls h bare e less = absurd (cc)
 less_rows (r ∷ more) limit gap rest b l ls h bare e less = search (rules, first_column, starts_less, row_starts, ends_behind)
 
 pub append_seam : (front back new : List Row) (end rest gap behind : List ℕ) (l : Line) (ls : List Line) → AreRows unlimited (front ++ back) end rest →
-    AreRows (asked_behind unlimited front) new gap behind → first_gap new [] ≡ [] → lines_of new ≡ l ∷ ls →
-    StandApart (lines_of front) (l ∷ []) → (no_rows back ≡ true → ends_in_block front ≡ false → ends_in_line front ≡ true) → are_seamed front (rows_text new (gap ++ behind)) ≡ true
+    AreRows (asked_behind unlimited front) new gap behind → first_gap new [] ≡ [] → lines_of_rows new ≡ l ∷ ls →
+    StandApart (lines_of_rows front) (l ∷ []) → (no_rows back ≡ true → ends_in_block front ≡ false → ends_in_line front ≡ true) → are_seamed front (rows_text new (gap ++ behind)) ≡ true
 append_seam front back new tail rest gap behind l ls old is bare lines apart ends = go (last_block front) refl
   where
     u : List ℕ
@@ -74,7 +74,7 @@ append_seam front back new tail rest gap behind l ls old is bare lines apart end
     go (Some b) e = block_seam front b u e (less_rows new (asked_behind unlimited front) gap behind b l ls is bare lines (block_is_deeper unlimited front back tail rest b l old e apart))
 
 -- rows with lines
-pub rows_with : (front : List Row) (a b : List Line) → lines_of front ≡ a ++ b → (b ≡ [] → ⊥) → no_rows front ≡ false
+pub rows_with : (front : List Row) (a b : List Line) → lines_of_rows front ≡ a ++ b → (b ≡ [] → ⊥) → no_rows front ≡ false
 rows_with [] a b e some = absurd (some (none a b e))
   where
     none : (a b : List Line) → [] ≡ a ++ b → b ≡ []
@@ -92,24 +92,24 @@ around a x y z = append_assoc a x (y ++ z) ∙ ap (λ (v : List Line). a ++ v) (
 pub block_appended : BlockAppended
 block_appended t c k p steps h front back new m l u old there_is size w takes text =
     let known = document_known t c k p old in
-    let o : Outline = outline_of p in
+    let o : Outline = part_outline p in
     let n : ℕ = level_or 0 h.lines in
     let q : Part = inserted front new back p in
     let rest : List ℕ = behind_document k c in
     let deep = lines_even (level_or 0 o) o steps h known.even there_is.place_is there_is.block in
     let apart = lines_apart (level_or 0 o) o steps h known.even there_is.place_is there_is.block in
     let olds : flatten o ≡ put_lines h (flatten h.lines) = (appended (level_or 0 o) m o u l steps h known.even there_is w.fits).0 in
-    let whole : lines_of front ++ ([] ++ lines_of back) ≡ (lines_before h.place ++ flatten h.lines) ++ ([] ++ lines_after h.place) =
-    sym (lines_append front back) ∙ (ap lines_of (sym takes.rows_are) ∙ (sym (flatten-group (lines_of p.rows)) ∙ (olds ∙ sym (append_assoc (lines_before h.place) (flatten h.lines) (lines_after h.place))))) in
+    let whole : lines_of_rows front ++ ([] ++ lines_of_rows back) ≡ (lines_before h.place ++ flatten h.lines) ++ ([] ++ lines_after h.place) =
+    sym (lines_append front back) ∙ (ap lines_of_rows (sym takes.rows_are) ∙ (sym (flatten-group (lines_of_rows p.rows)) ∙ (olds ∙ sym (append_assoc (lines_before h.place) (flatten h.lines) (lines_after h.place))))) in
     let parts =
-    same_parts (lines_of front) [] (lines_of back) (lines_before h.place ++ flatten h.lines) [] (lines_after h.place) whole (size ∙ sym (length-append (lines_before h.place) (flatten h.lines))) refl in
+    same_parts (lines_of_rows front) [] (lines_of_rows back) (lines_before h.place ++ flatten h.lines) [] (lines_after h.place) whole (size ∙ sym (length-append (lines_before h.place) (flatten h.lines))) refl in
     let some : no_rows front ≡ false = rows_with front (lines_before h.place) (flatten h.lines) parts.0 (block_some h.lines there_is.block) in
     let there : q.rows ≡ front ++ (new ++ back) = ap (λ (rs : List Row). front ++ (new ++ rs)) (own_gap back p.end) in
     let level_is = w.fits.level_is in
     let less = w.fits.deep in
     let above : h.above < n = deep.0 in
-    let new_deep : AreDeep n (lines_of new) = subst (AreDeep n) (sym w.lines) (omega (arith, level_is), deep_less n m (flatten u) (omega (arith, level_is, less)) (even_deep m u w.fits.even)) in
-    let first : StandApart (lines_of front) (l ∷ []) =
+    let new_deep : AreDeep n (lines_of_rows new) = subst (AreDeep n) (sym w.lines) (omega (arith, level_is), deep_less n m (flatten u) (omega (arith, level_is, less)) (even_deep m u w.fits.even)) in
+    let first : StandApart (lines_of_rows front) (l ∷ []) =
     subst (λ (ls : List Line). StandApart ls (l ∷ [])) (sym parts.0) (apart_skip (lines_before h.place) (flatten h.lines) (l ∷ []) (block_some h.lines there_is.block)
     (apart_deep n (flatten h.lines) (l ∷ []) (even_deep n h.lines deep.1) (omega (arith, level_is)))) in
     let part : AreRows unlimited (front ++ back) p.end rest =
@@ -127,5 +127,5 @@ block_appended t c k p steps h front back new m l u old there_is size w takes te
     let put =
     is_put t c k p q old (ap no_rows there ∙ rows_behind_some front (new ++ back) some) text cut (subst HaveFitKeys (sym there) (fit_from front (new ++ back) keys.0 (fit_from new back w.keys keys.1)))
     (subst HasShortRoot (sym there) (short_stays front back (new ++ back) some (subst HasShortRoot takes.rows_are known.document.short))) in
-    let lines : lines_of q.rows ≡ put_lines h (flatten h.lines ++ (l ∷ flatten u)) = search (rules, lines_append, around, there, parts) in
+    let lines : lines_of_rows q.rows ≡ put_lines h (flatten h.lines ++ (l ∷ flatten u)) = search (rules, lines_append, around, there, parts) in
     entry_appended t c k p q steps h m l u put there_is w.fits w.anchors lines w.value_is w.key

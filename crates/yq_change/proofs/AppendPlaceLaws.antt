@@ -19,8 +19,8 @@ use Rattle.yq_cut.proofs.seams.SeamLaws.{part_line}
 use Rattle.yq_cut.proofs.splices.PartPlaces.{part_in, part_ends}
 use Rattle.yq_cut.proofs.splices.SpliceTexts.{first_is}
 use Rattle.yq_row_places.specs.CollectionEnds.{CollectionEnd}
-use Rattle.yq_lines.specs.Lines.{mark_line, lines_from, row_lines, lines_of}
-use Rattle.yq_documents.specs.Reading.{outline_of}
+use Rattle.yq_lines.specs.Lines.{mark_line, lines_from, row_lines, lines_of_rows}
+use Rattle.yq_documents.specs.Reading.{part_outline}
 use Rattle.yq_row_places.proofs.UnderExchange.{lines_append}
 use Rattle.yq_change.specs.CollectionPlaces.{BeginsAt, IsCollectionEnd}
 use Rattle.yq_change.specs.DocumentRows.{IsDocumentPart, behind_document}
@@ -76,10 +76,10 @@ row_some r = go r.dashes
     go (n ∷ ns) = (_, _, refl)
 
 -- the last line of rows
-rows_last : (others : List Row) (r : Row) → last_line (lines_of (others ++ (r ∷ []))) ≡ last_line (row_lines r)
+rows_last : (others : List Row) (r : Row) → last_line (lines_of_rows (others ++ (r ∷ []))) ≡ last_line (row_lines r)
 rows_last others r =
     let w = row_some r in
-    ap last_line (lines_append others (r ∷ []) ∙ ap (λ ls. lines_of others ++ ls) (append-nil (row_lines r) ∙ w.2)) ∙ (last_of (lines_of others) w.0 w.1 ∙ ap last_line (sym w.2))
+    ap last_line (lines_append others (r ∷ []) ∙ ap (λ ls. lines_of_rows others ++ ls) (append-nil (row_lines r) ∙ w.2)) ∙ (last_of (lines_of_rows others) w.0 w.1 ∙ ap last_line (sym w.2))
 
 -- lines that end in some
 ends_some : (xs ys : List Line) → (ys ≡ [] → ⊥) → last_line (xs ++ ys) ≡ last_line ys
@@ -92,7 +92,7 @@ unfolding level
 entry_level column o h1 h2 = search rules
 
 -- the next rows stand no deeper
-low_first : (n column : ℕ) (back : List Row) → n ≤ 3 * column + 3 → (m : ℕ) → m < n → Begins m (lines_of back) → allows_first (record { column = Some (suc column) }) back ≡ true
+low_first : (n column : ℕ) (back : List Row) → n ≤ 3 * column + 3 → (m : ℕ) → m < n → Begins m (lines_of_rows back) → allows_first (record { column = Some (suc column) }) back ≡ true
 low_first n column [] high m less next = refl
 low_first n column (b ∷ bs) high m less next = let low = next_low m (b ∷ bs) b bs refl next in lt-ltb b.column (suc column) (omega (arith, high, less, low))
 
@@ -110,21 +110,21 @@ pub record EndAllows (c : Cut) (k : ℕ) (p : Part) (x : CollectionEnd) (front b
 pub end_allows : (t : List ℕ) (c : Cut) (k : ℕ) (p : Part) (steps : List Step) (x : CollectionEnd) → IsDocumentPart t c k p → (e : IsCollectionEnd c k p steps x) → EndAllows c k p x e.front e.back
 end_allows t c k p steps x h e =
     let known = document_known t c k p h in
-    let o = outline_of p in
+    let o = part_outline p in
     let n : ℕ = level_or 0 e.h.lines in
     let rest : List ℕ = behind_document k c in
     let deep = lines_even (level_or 0 o) o steps e.h known.even e.collection.place_is e.collection.block in
     let apart = lines_apart (level_or 0 o) o steps e.h known.even e.collection.place_is e.collection.block in
     let lev = entry_level x.column e.h.lines e.collection.block e.first in
-    let whole : lines_of e.front ++ ([] ++ lines_of e.back) ≡ (lines_before e.h.place ++ flatten e.h.lines) ++ ([] ++ lines_after e.h.place) =
+    let whole : lines_of_rows e.front ++ ([] ++ lines_of_rows e.back) ≡ (lines_before e.h.place ++ flatten e.h.lines) ++ ([] ++ lines_after e.h.place) =
     sym (lines_append e.front e.back)
-    ∙ (ap lines_of (sym e.rows_are) ∙ (sym (flatten-group (lines_of p.rows)) ∙ (whole_lines o steps e.h e.collection.place_is ∙ sym (append_assoc (lines_before e.h.place) (flatten e.h.lines) (lines_after e.h.place))))) in
+    ∙ (ap lines_of_rows (sym e.rows_are) ∙ (sym (flatten-group (lines_of_rows p.rows)) ∙ (whole_lines o steps e.h e.collection.place_is ∙ sym (append_assoc (lines_before e.h.place) (flatten e.h.lines) (lines_after e.h.place))))) in
     let parts =
-    same_parts (lines_of e.front) [] (lines_of e.back) (lines_before e.h.place ++ flatten e.h.lines) [] (lines_after e.h.place) whole
+    same_parts (lines_of_rows e.front) [] (lines_of_rows e.back) (lines_before e.h.place ++ flatten e.h.lines) [] (lines_after e.h.place) whole
     (e.count ∙ sym (length-append (lines_before e.h.place) (flatten e.h.lines))) refl in
     let last : last_line (flatten e.h.lines) ≡ Some (mark_line (above_mark (head_comment e.last.gap) e.last.dashes) (mark_column e.last) e.last.mark e.last.content) =
     sym (ends_some (lines_before e.h.place) (flatten e.h.lines) (block_some e.h.lines e.collection.block))
-    ∙ (ap last_line (sym parts.0) ∙ (ap (λ rs. last_line (lines_of rs)) e.front_is ∙ (rows_last e.others e.last ∙ row_last e.last))) in
+    ∙ (ap last_line (sym parts.0) ∙ (ap (λ rs. last_line (lines_of_rows rs)) e.front_is ∙ (rows_last e.others e.last ∙ row_last e.last))) in
     let all : AreRows unlimited (e.front ++ e.back) p.end rest =
     subst (λ (rs : List Row). AreRows unlimited rs p.end rest) e.rows_are
     (subst (λ (y : Part). AreRows unlimited y.rows y.end rest) (part_numbered c k p h.there).0 (part_in c (part_number k c) true known.cut.parts).rows) in

@@ -2,9 +2,9 @@
 use Rattle.std.proofs.Common.{◌≡◌, ◌⊎◌, ℕ, List, [], ◌∷◌, ◌++◌, Option, Some, None, option_and_then, Bool, true, false, cond, refl, sym, ap, ◌∙◌, subst, inl, inr, ⊎_elim, append_assoc, append-nil, rules}
 use Rattle.std.proofs.lemmas.Option.{none-some, same_Some}
 use mathlib.Core.List.{cons≢nil}
-use Rattle.yq_flow_scalars.specs.Paths.{Step, is_here, further, child_at, node_at, change_child, within, change}
+use Rattle.yq_flow_scalars.specs.Paths.{Step, is_here, further, child_at, node_at, change_child, within, changed_at}
 use Rattle.yq_flow_scalars.specs.Tree.{Node, alias, scalar, list, map, Children, none, child, children_of}
-use Rattle.yq_flow_scalars.specs.Anchors.{Name, Anchors, Refers, with_anchor, names_of, names_in, IsAmong, AreBound}
+use Rattle.yq_flow_scalars.specs.Anchors.{Name, Anchors, Refers, anchor_names, names_of, names_in, IsAmong, AreBound}
 use Rattle.yq_change.specs.Conditions.{anchors_in, aliases_in, known_behind, BoundStays, Around, NamesAround, BoundChanged}
 
 -- names in two parts
@@ -83,7 +83,7 @@ around_child s (child l n cs) m e = go (is_here s l) refl e (around_child (furth
           new = λ f. rw h (ap (λ x. names_of n ++ x) (r.new f) ∙ sym (append_assoc (names_of n) r.front (names_of (f m) ++ r.back)));
         }
 
-pub anchor_front : (a : Option (List ℕ)) (xs : List Name) → with_anchor a xs ≡ with_anchor a [] ++ xs
+pub anchor_front : (a : Option (List ℕ)) (xs : List Name) → anchor_names a xs ≡ anchor_names a [] ++ xs
 anchor_front None xs = refl
 anchor_front (Some a) xs = refl
 
@@ -94,7 +94,7 @@ deep n anchor s ss cs k m is changed c r =
       before = anchor ++ (c.front ++ r.before);
       after = r.after ++ c.back;
       old_names = is ∙ (ap (λ x. anchor ++ x) (c.old ∙ ap (λ x. c.front ++ (x ++ c.back)) r.old_names) ∙ whole (names_of m));
-      new_names = λ f. changed (change_child s (change ss f)) ∙ (ap (λ x. anchor ++ x) (c.new (change ss f) ∙ ap (λ x. c.front ++ (x ++ c.back)) (r.new_names f)) ∙ whole (names_of (f m)));
+      new_names = λ f. changed (change_child s (changed_at ss f)) ∙ (ap (λ x. anchor ++ x) (c.new (changed_at ss f) ∙ ap (λ x. c.front ++ (x ++ c.back)) (r.new_names f)) ∙ whole (names_of (f m)));
     }
   where
     whole : (e : List Name) → anchor ++ (c.front ++ ((r.before ++ (e ++ r.after)) ++ c.back)) ≡ (anchor ++ (c.front ++ r.before)) ++ (e ++ (r.after ++ c.back))
@@ -112,8 +112,8 @@ names_around (s ∷ ss) n m e = go (child_at s (children_of n)) refl e (λ k d. 
     kinds : (n k : Node) → child_at s (children_of n) ≡ Some k → Around ss k m → Around (s ∷ ss) n m
     kinds (alias name) k is r = absurd (none_child k is)
     kinds (scalar a i t) k is r = absurd (none_child k is)
-    kinds (list a cs) k is r = deep (list a cs) (with_anchor a []) s ss cs k m (anchor_front a (names_in cs)) (λ g. anchor_front a (names_in (g cs))) (around_child s cs k is) r
-    kinds (map a cs) k is r = deep (map a cs) (with_anchor a []) s ss cs k m (anchor_front a (names_in cs)) (λ g. anchor_front a (names_in (g cs))) (around_child s cs k is) r
+    kinds (list a cs) k is r = deep (list a cs) (anchor_names a []) s ss cs k m (anchor_front a (names_in cs)) (λ g. anchor_front a (names_in (g cs))) (around_child s cs k is) r
+    kinds (map a cs) k is r = deep (map a cs) (anchor_names a []) s ss cs k m (anchor_front a (names_in cs)) (λ g. anchor_front a (names_in (g cs))) (around_child s cs k is) r
 
     go : (r : Option Node) → child_at s (children_of n) ≡ r → option_and_then (node_at ss) r ≡ Some m → ((k : Node) → node_at ss k ≡ Some m → Around ss k m) → Around (s ∷ ss) n m
     go None is e ih = absurd (none-some _ e)
@@ -132,7 +132,7 @@ pub bound_changed : BoundChanged
 bound_changed steps n old f front gone come back there names spared bound =
     let r = names_around steps n old there in
     let whole : names_of n ≡ (r.before ++ front) ++ (gone ++ (back ++ r.after)) = r.old_names ∙ (ap (λ x. r.before ++ (x ++ r.after)) names.old_names ∙ split r.before front gone back r.after) in
-    let changed : names_of (change steps f n) ≡ (r.before ++ front) ++ (come ++ (back ++ r.after)) = search (rules, split, r) in
+    let changed : names_of (changed_at steps f n) ≡ (r.before ++ front) ++ (come ++ (back ++ r.after)) = search (rules, split, r) in
     let used : (a : List ℕ) → IsAmong a (aliases_in (back ++ r.after)) → IsAmong a (aliases_in (names_of n)) =
     λ a h. subst (λ x. IsAmong a (aliases_in x)) (sym whole) (used_last a (r.before ++ front) (gone ++ (back ++ r.after)) (used_last a gone (back ++ r.after) h)) in
     subst (AreBound []) (sym changed) (bound_stays [] (r.before ++ front) gone come (back ++ r.after) (subst (AreBound []) whole bound) (no_alias_bound _ come names.bare) (λ a g u. spared a g (used a u)))

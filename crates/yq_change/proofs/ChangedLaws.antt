@@ -9,9 +9,9 @@ use Rattle.yq_cut.specs.Rows.{Row, Part, Cut, last, marked, cut_text}
 use Rattle.yq_documents.specs.Documents.{Document, parts_from, has_begin, begins_bare, document_parts, lead_of}
 use Rattle.yq_documents.specs.PartNumbers.{number_from}
 use Rattle.yq_cut.specs.Splices.{first_gap}
-use Rattle.yq_lines.specs.Lines.{lines_from, lines_of}
+use Rattle.yq_lines.specs.Lines.{lines_from, lines_of_rows}
 use Rattle.yq_lines.specs.Outline.{Line, end}
-use Rattle.yq_documents.specs.Reading.{root_of, document_of, is_document, all_documents, read_at}
+use Rattle.yq_documents.specs.Reading.{root_of, part_document, is_document, all_documents, read_at}
 use Rattle.yq_lines.proofs.ByRules.{rules_from}
 use Rattle.yq_row_places.proofs.DocumentLaws.{is_document_of}
 use Rattle.yq_row_places.proofs.ReadLaws.{text_takes, text_again}
@@ -66,11 +66,11 @@ all_with test k q [] e h = h
 all_with test zero q (p ∷ ps) e h = and_from (test q) (list_all test ps) e (and_parts (test p) (list_all test ps) h).1
 all_with test (suc k) q (p ∷ ps) e h = let r = and_parts (test p) (list_all test ps) h in and_from (test p) _ r.0 (all_with test k q ps e r.1)
 
-map_with : (k : ℕ) (p q : Part) (f : Document → Document) (ps : List Part) → slice_get ps k ≡ Some p → document_of q ≡ f (document_of p) →
-    map document_of (change_nth k (λ x. q) ps) ≡ change_nth k f (map document_of ps)
+map_with : (k : ℕ) (p q : Part) (f : Document → Document) (ps : List Part) → slice_get ps k ≡ Some p → part_document q ≡ f (part_document p) →
+    map part_document (change_nth k (λ x. q) ps) ≡ change_nth k f (map part_document ps)
 map_with k p q f [] e is = refl
-map_with zero p q f (x ∷ ps) e is = ap (λ d. d ∷ map document_of ps) (is ∙ ap (λ y. f (document_of y)) (sym (same_Some _ _ e)))
-map_with (suc k) p q f (x ∷ ps) e is = ap (λ ds. document_of x ∷ ds) (map_with k p q f ps e is)
+map_with zero p q f (x ∷ ps) e is = ap (λ d. d ∷ map part_document ps) (is ∙ ap (λ y. f (part_document y)) (sym (same_Some _ _ e)))
+map_with (suc k) p q f (x ∷ ps) e is = ap (λ ds. part_document x ∷ ds) (map_with k p q f ps e is)
 
 pub document_changed : DocumentChanged
 unfolding read_at
@@ -82,7 +82,7 @@ document_changed t c k p q f read there keeps utf8 cut root =
     let all : all_documents new ≡ true = ap (list_all is_document) parts ∙ all_with is_document k q (document_parts c) doc.0 old.1 in
     record {
       read = cond-true _ _ _ utf8 ∙ text_again (cut_text new) new cut all;
-      documents_are = ap (map document_of) parts ∙ map_with k p q (changed (lead_of q) f) (document_parts c) there doc.1;
+      documents_are = ap (map part_document) parts ∙ map_with k p q (changed (lead_of q) f) (document_parts c) there doc.1;
     }
 
 pub lead_is_first : LeadIsFirst
@@ -100,6 +100,6 @@ lead_is_first p = go p.rows
     some r [] e = cc
     some r (n ∷ ns) e = cc
 
-    go : (rows : List Row) → head_comment (first_gap rows p.end) ≡ first_comment (head_comment p.end) (lines_of rows)
+    go : (rows : List Row) → head_comment (first_gap rows p.end) ≡ first_comment (head_comment p.end) (lines_of_rows rows)
     go [] = refl
-    go (r ∷ rs) = front _ (lines_of rs) (head_comment r.gap) (head_comment p.end) (first r r.dashes) (some r r.dashes)
+    go (r ∷ rs) = front _ (lines_of_rows rs) (head_comment r.gap) (head_comment p.end) (first r r.dashes) (some r r.dashes)

@@ -1,11 +1,11 @@
 -- Items or entries of the collection at a path, added, taken out and relabelled.
 use Rattle.std.proofs.Common.{◌≡◌, ℕ, ◌<◌, List, [], ◌∷◌, ◌++◌, Option, Some, None, option_map, Bool, true, false, cond, refl, sym, ap, ◌∙◌, subst, append_assoc, append-nil, rules}
-use Rattle.yq_flow_scalars.specs.Paths.{Step, is_here, further, append_child, change, relabel_child, remove_child, within, append_children}
+use Rattle.yq_flow_scalars.specs.Paths.{Step, is_here, further, append_child, changed_at, relabel_child, remove_child, within, append_children}
 use Rattle.yq_flow_scalars.specs.Tree.{Label, child}
 use Rattle.yq_lines.specs.Group.{level_or}
 use Rattle.yq_lines.specs.Laws.{with_lines}
 use Rattle.yq_lines.specs.Outline.{Line, level, Outline, end, row, flatten, IsOpen, IsEven, anchored, head_or, label, children, value}
-use Rattle.yq_lines.specs.Places.{here, plug, FoundLine, next_to, find_row, content}
+use Rattle.yq_lines.specs.Places.{here, plug, FoundLine, next_to, find_row, content_under}
 use Rattle.yq_lines.proofs.Allowing as allowing
 use Rattle.yq_lines.proofs.PlaceLaws.{at}
 use Rattle.yq_lines.proofs.Plug.{entry_whole}
@@ -32,7 +32,7 @@ pub record Splits (s : Step) (o : Outline) (f : FoundLine) : Type 0 where
   pub plugs : (x : Outline) → plug f.place x ≡ append_outline front x
   pub lines : (ls : List Line) → with_lines f ls ≡ flatten front ++ (ls ++ flatten f.after)
   pub removed : append_children (children front) (children f.after) ≡ remove_child s (children o)
-  pub relabelled : (g : Label → Label) → append_children (children front) (child (g (label f.line)) (content f.line f.under) (children f.after)) ≡ relabel_child s g (children o)
+  pub relabelled : (g : Label → Label) → append_children (children front) (child (g (label f.line)) (content_under f.line f.under) (children f.after)) ≡ relabel_child s g (children o)
 
 pub row_splits : (s : Step) (o : Outline) → If (find_row s o) (Splits s o)
 row_splits s end = tt
@@ -54,8 +54,8 @@ row_splits s (row k v a) = go (is_here s (label k)) refl (find_row (further s) a
       whole = ap (row k v) h.whole;
       plugs = λ x. ap (row k v) (h.plugs x);
       lines = λ ls. ap (λ x. k ∷ x) (append_assoc (flatten v) _ _ ∙ (ap (λ x. flatten v ++ x) (h.lines ls) ∙ sym (append_assoc (flatten v) (flatten h.front) (ls ++ flatten f.after))));
-      removed = rw e (ap (child (label k) (content k v)) h.removed);
-      relabelled = λ g. rw e (ap (child (label k) (content k v)) (h.relabelled g));
+      removed = rw e (ap (child (label k) (content_under k v)) h.removed);
+      relabelled = λ g. rw e (ap (child (label k) (content_under k v)) (h.relabelled g));
     }
 
 pub some_at : (s : Step) (o : Outline) (f : FoundLine) → find_row s o ≡ Some f → Splits s o f
@@ -73,7 +73,7 @@ removed n o steps h s f even entry left =
     let lines : flatten (append_outline w.front f.after) ≡ with_lines f [] = flatten-append w.front f.after ∙ sym (w.lines []) in
     let olds : flatten h.lines ≡ with_lines f (f.line ∷ flatten f.under) =
     ap flatten (sym w.whole) ∙ (flatten-append w.front (row f.line f.under f.after) ∙ sym (w.lines (f.line ∷ flatten f.under))) in
-    (law.0 ∙ ap (put_lines h) olds, subst (λ ls. StandsSomewhere (put_lines h ls) (change steps (within (remove_child s)) (value o))) lines law.1)
+    (law.0 ∙ ap (put_lines h) olds, subst (λ ls. StandsSomewhere (put_lines h ls) (changed_at steps (within (remove_child s)) (value o))) lines law.1)
 
 pub relabelled : Relabelled
 relabelled n o steps h s f g l even entry new_line =
@@ -88,13 +88,13 @@ relabelled n o steps h s f g l even entry new_line =
     let one : IsEven m (row l f.under end) =
     (new_line.level_is ∙ here.0, subst (λ x. IsOpen x f.under) (sym new_line.head_is) here.1, entry_whole l.mark l.head end (mark w.front m whole old'), here.3, tt) in
     let new : IsEven m u = even_replaced m w.front (row f.line f.under end) f.after (row l f.under end) whole one old' block in
-    let node : content l f.under ≡ content f.line f.under = λ i. anchored (new_line.anchor_is i) (head_or (new_line.head_is i) (value f.under)) in
+    let node : content_under l f.under ≡ content_under f.line f.under = λ i. anchored (new_line.anchor_is i) (head_or (new_line.head_is i) (value f.under)) in
     let kids : children u ≡ relabel_child s g (children h.lines) = search (rules, children-append, w, node) in
     let law = collection_replaced n o u steps h (relabel_child s g) even (collection_of entry) block new kids in
     let lines : flatten u ≡ with_lines f (l ∷ flatten f.under) = flatten-append w.front (row l f.under f.after) ∙ sym (w.lines (l ∷ flatten f.under)) in
     let olds : flatten h.lines ≡ with_lines f (f.line ∷ flatten f.under) =
     ap flatten (sym w.whole) ∙ (flatten-append w.front (row f.line f.under f.after) ∙ sym (w.lines (f.line ∷ flatten f.under))) in
-    (law.0 ∙ ap (put_lines h) olds, subst (λ ls. StandsSomewhere (put_lines h ls) (change steps (within (relabel_child s g)) (value o))) lines law.1)
+    (law.0 ∙ ap (put_lines h) olds, subst (λ ls. StandsSomewhere (put_lines h ls) (changed_at steps (within (relabel_child s g)) (value o))) lines law.1)
   where
     -- the line entry.place_is an entry's
     mark : (a : Outline) (m : ℕ) → IsEven m (append_outline a (row f.line f.under f.after)) → HasEntries (append_outline a (row f.line f.under f.after)) → allowing.IsEntry l.mark
@@ -107,9 +107,9 @@ relabelled n o steps h s f g l even entry new_line =
     stay end b = entry_out l.mark (same_entry f.line.mark l.mark (entry_in f.line.mark b) (same_rank f.line l (sym new_line.level_is)))
     stay (row k v a) b = b
 
-last_child : (o v : Outline) (l : Line) → children (append_outline o (row l v end)) ≡ append_child (label l) (content l v) (children o)
+last_child : (o v : Outline) (l : Line) → children (append_outline o (row l v end)) ≡ append_child (label l) (content_under l v) (children o)
 last_child end v l = refl
-last_child (row k u a) v l = ap (child (label k) (content k u)) (last_child a v l)
+last_child (row k u a) v l = ap (child (label k) (content_under k u)) (last_child a v l)
 
 -- a line at the level of a collection is an entry's
 pub level_mark : (l : Line) (a : Outline) → HasEntries a → level l ≡ level_or 0 a → allowing.IsEntry l.mark
@@ -129,6 +129,6 @@ appended n m o v l steps h even there fits =
     let one : IsEven k (row l v end) =
     (fits.level_is, fits.headless, entry_whole l.mark l.head end (level_mark l h.lines there.block fits.level_is), (m, subst (λ x. x < m) fits.level_is fits.deep, fits.even), tt) in
     let new : IsEven k u = even_append k h.lines (row l v end) (entries u block) deep.1 one in
-    let law = collection_replaced n o u steps h (append_child (label l) (content l v)) even there block new (last_child h.lines v l) in
+    let law = collection_replaced n o u steps h (append_child (label l) (content_under l v)) even there block new (last_child h.lines v l) in
     let lines : flatten u ≡ flatten h.lines ++ (l ∷ flatten v) = flatten-append h.lines (row l v end) ∙ ap (λ x. flatten h.lines ++ (l ∷ x)) (append-nil (flatten v)) in
-    (law.0, subst (λ ls. StandsSomewhere (put_lines h ls) (change steps (within (append_child (label l) (content l v))) (value o))) lines law.1)
+    (law.0, subst (λ ls. StandsSomewhere (put_lines h ls) (changed_at steps (within (append_child (label l) (content_under l v))) (value o))) lines law.1)

@@ -13,10 +13,10 @@ use Rattle.yq_cut.proofs.splices.RowReplaced.{tail_replaced}
 use Rattle.yq_documents.specs.Documents.{HaveFitKeys, HasShortRoot, lead_of}
 use Rattle.yq_lines.specs.Group.{level_or}
 use Rattle.yq_lines.specs.Laws.{with_lines}
-use Rattle.yq_lines.specs.Lines.{tail_of, mark_line, lines_of}
+use Rattle.yq_lines.specs.Lines.{tail_of, mark_line, lines_of_rows}
 use Rattle.yq_lines.specs.Outline.{Line, level, flatten, label}
 use Rattle.yq_lines.specs.Places.{lines_before, lines_after, FoundLine}
-use Rattle.yq_documents.specs.Reading.{outline_of}
+use Rattle.yq_documents.specs.Reading.{part_outline}
 use Rattle.yq_row_places.specs.RowPaths.{IsReadable}
 use Rattle.yq_lines.proofs.Decides.{flatten-group}
 use Rattle.yq_cut.proofs.splices.SpliceTexts.{own_gap}
@@ -28,7 +28,7 @@ use Rattle.yq_change.proofs.CollectionLaws.{relabelled}
 use Rattle.yq_change.proofs.EditedLaws.{led_as}
 use Rattle.yq_change.proofs.BlockChangeLaws.{entry_relabelled}
 use Rattle.yq_change.proofs.PlacedLaws.{around, same_parts}
-use Rattle.yq_change.specs.LineRows.{line_number}
+use Rattle.yq_change.specs.LineRows.{lines_before_entry}
 use Rattle.yq_change.specs.DocumentRows.{IsDocumentPart, Known, behind_document}
 use Rattle.yq_documents.specs.PartNumbers.{part_number}
 use Rattle.yq_change.specs.LineComments.{retailed, LineCommented}
@@ -44,15 +44,15 @@ pub record OneLine (p : Part) (h : NodeLines) (f : FoundLine) (a : List Line) (x
   pub put : (l : Line) → put_lines h (with_lines f (l ∷ flatten f.under)) ≡ a ++ (l ∷ z)
 
 pub one_line : (t : List ℕ) (c : Cut) (p : Part) (steps : List Rattle.yq_flow_scalars.specs.Paths.Step) (s : Rattle.yq_flow_scalars.specs.Paths.Step) (h : NodeLines) (f : FoundLine) (a : List Line) (x : Line) (z : List Line) →
-    Known t c p → IsEntryAt steps s (outline_of p) h f →
-    lines_of p.rows ≡ a ++ (x ∷ z) → length a ≡ line_number h f → OneLine p h f a x z
+    Known t c p → IsEntryAt steps s (part_outline p) h f →
+    lines_of_rows p.rows ≡ a ++ (x ∷ z) → length a ≡ lines_before_entry h f → OneLine p h f a x z
 one_line t c p steps s h f a x z old e lines size =
     let b : List Line = lines_before h.place ++ lines_before f.place in
     let w : List Line = flatten f.under ++ ((flatten f.after ++ lines_after f.place) ++ lines_after h.place) in
     let place : (l : Line) → put_lines h (with_lines f (l ∷ flatten f.under)) ≡ b ++ (l ∷ w) = search (rules, around) in
-    let olds = (relabelled (level_or 0 (outline_of p)) (outline_of p) steps h s f (λ y. y) f.line old.even e (record { level_is = refl; head_is = refl; anchor_is = refl; label_is = refl })).0 in
+    let olds = (relabelled (level_or 0 (part_outline p)) (part_outline p) steps h s f (λ y. y) f.line old.even e (record { level_is = refl; head_is = refl; anchor_is = refl; label_is = refl })).0 in
     let parts =
-    same_parts a (x ∷ []) z b (f.line ∷ []) w (sym lines ∙ (sym (flatten-group (lines_of p.rows)) ∙ (olds ∙ place f.line))) (size ∙ sym (length-append (lines_before h.place) (lines_before f.place))) refl in
+    same_parts a (x ∷ []) z b (f.line ∷ []) w (sym lines ∙ (sym (flatten-group (lines_of_rows p.rows)) ∙ (olds ∙ place f.line))) (size ∙ sym (length-append (lines_before h.place) (lines_before f.place))) refl in
     record { is = head-eq_of_cons-eq parts.1; put = λ l. place l ∙ (λ i. sym parts.0 i ++ (l ∷ sym parts.2 i)) }
 
 -- a row with another tail
@@ -71,7 +71,7 @@ lead_retail (x ∷ front) r back tail p q e n = ap (λ (rs : List Row). head_com
 
 -- the lines of rows, of which one has another tail
 pub last_lines : (front : List Row) (r : Row) (back : List Row) (c : Content) →
-    lines_of (front ++ (record r { content = c } ∷ back)) ≡ (lines_of front ++ dash_lines (head_comment r.gap) r.column r.dashes) ++ (mark_line (above_mark (head_comment r.gap) r.dashes) (mark_column r) r.mark c ∷ lines_of back)
+    lines_of_rows (front ++ (record r { content = c } ∷ back)) ≡ (lines_of_rows front ++ dash_lines (head_comment r.gap) r.column r.dashes) ++ (mark_line (above_mark (head_comment r.gap) r.dashes) (mark_column r) r.mark c ∷ lines_of_rows back)
 last_lines front r back c = simp (above_mark, lines_append, mark_behind, append_assoc)
 
 -- the cut
@@ -100,12 +100,12 @@ line_commented t c k p steps s h f front back r tail old at takes number new =
     is_put t c k p q old (ap Rattle.yq_cut.specs.Grammar.no_rows there ∙ front_some front (retail tail r) back) new (tail_cut t c k p front back r tail old is.cut takes.rows_are takes.fits new)
     (subst HaveFitKeys (sym there) (fit_retail front r back tail (subst HaveFitKeys takes.rows_are is.document.keys)))
     (subst HasShortRoot (sym there) (short_retail front r back tail (subst HasShortRoot takes.rows_are is.document.short))) in
-    let a : List Line = lines_of front ++ dash_lines (head_comment r.gap) r.column r.dashes in
+    let a : List Line = lines_of_rows front ++ dash_lines (head_comment r.gap) r.column r.dashes in
     let x : Line = mark_line (above_mark (head_comment r.gap) r.dashes) (mark_column r) r.mark r.content in
     let l : Line = mark_line (above_mark (head_comment r.gap) r.dashes) (mark_column r) r.mark (with_tail tail r.content) in
-    let size : length a ≡ line_number h f = search (rules, length-append, dashes_count) in
-    let one = one_line t c p steps s h f a x (lines_of back) is at (ap lines_of takes.rows_are ∙ last_lines front r back r.content) size in
-    let lines : lines_of q.rows ≡ put_lines h (with_lines f (l ∷ flatten f.under)) = ap lines_of there ∙ (last_lines front r back (with_tail tail r.content) ∙ sym (one.put l)) in
+    let size : length a ≡ lines_before_entry h f = search (rules, length-append, dashes_count) in
+    let one = one_line t c p steps s h f a x (lines_of_rows back) is at (ap lines_of_rows takes.rows_are ∙ last_lines front r back r.content) size in
+    let lines : lines_of_rows q.rows ≡ put_lines h (with_lines f (l ∷ flatten f.under)) = ap lines_of_rows there ∙ (last_lines front r back (with_tail tail r.content) ∙ sym (one.put l)) in
     let comment : line_comment (tail_of (with_tail tail r.content)) ≡ line_comment tail = ap line_comment (search (rules, false≢true, takes.inline)) in
     let agrees : label l ≡ with_line_comment (line_comment tail) (label x) = ap (λ (y : Option (List ℕ)). with_line_comment y (label x)) comment in
     led_as c (put_document k q c) k _ _ _ (lead_retail front r back tail p q takes.rows_are there)

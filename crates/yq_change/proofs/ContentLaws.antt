@@ -4,11 +4,11 @@ use Rattle.std.proofs.lemmas.Bool.{cond_both, false≢true}
 use mathlib.Core.List.{head-eq_of_cons-eq, tail-eq_of_cons-eq}
 use Rattle.yq_flow_scalars.specs.Characters.{is_text}
 use Rattle.yq_text.specs.Limit.{text_limit}
-use Rattle.yq_flow_scalars.specs.Paths.{Step, change}
+use Rattle.yq_flow_scalars.specs.Paths.{Step, changed_at}
 use Rattle.yq_flow_scalars.specs.Tree as tree
 use Rattle.yq_flow_scalars.specs.Tree.{Node, Children}
 use Rattle.yq_nodes.specs.Nodes as inline
-use Rattle.yq_nodes.specs.Nodes.{takes_anchor, IsNode}
+use Rattle.yq_nodes.specs.Nodes.{takes_anchor, IsFlowNode}
 use Rattle.yq_nodes.specs.Trees as trees
 use Rattle.yq_nodes.specs.Trees.{tree_of, node_anchor, node_head}
 use Rattle.yq_flow_scalars.specs.Anchors.{IsNoAlias, names_of}
@@ -17,8 +17,8 @@ use Rattle.yq_lines.specs.Comments.{head_comment}
 use Rattle.yq_lines.specs.Group.{group, level_or}
 use Rattle.yq_lines.specs.Laws.{with_lines}
 use Rattle.yq_lines.specs.Outline as outline
-use Rattle.yq_lines.specs.Outline.{Mark, Line, level, Outline, end, row, flatten, IsOpen, IsWhole, IsEven, first_anchor, anchored, head_or, null_node, value}
-use Rattle.yq_lines.specs.Places.{lines_before, lines_after, FoundLine, find, content}
+use Rattle.yq_lines.specs.Outline.{LineMark, Line, level, Outline, end, row, flatten, IsOpen, IsWhole, IsEven, first_anchor, anchored, head_or, null_node, value}
+use Rattle.yq_lines.specs.Places.{lines_before, lines_after, FoundLine, find, content_under}
 use Rattle.yq_cut.specs.Exchange.{asked_behind, with_content}
 use Rattle.yq_cut.specs.Grammar.{unlimited, IsContent, IsCut, no_rows}
 use Rattle.yq_cut.specs.Rows as rows
@@ -27,10 +27,10 @@ use Rattle.yq_cut.specs.SpliceFits.{StandsFor}
 use Rattle.yq_cut.specs.Splices.{asked_at, first_gap, nth_part, rest_behind, splice}
 use Rattle.yq_cut.proofs.splices.RowReplaced.{row_exchanged}
 use Rattle.yq_documents.specs.Documents.{HaveFitKeys, HasShortRoot, lead_of}
-use Rattle.yq_lines.specs.Lines.{block_anchor, content_anchor, head_of, mark_of, mark_line, lines_of}
-use Rattle.yq_documents.specs.TreeEdits.{anchor_of, replaced}
-use Rattle.yq_documents.specs.Reading.{outline_of, root_of}
-use Rattle.yq_row_places.specs.RowPaths.{spelled, IsReadable}
+use Rattle.yq_lines.specs.Lines.{block_anchor, content_anchor, head_of, line_mark, mark_line, lines_of_rows}
+use Rattle.yq_documents.specs.TreeEdits.{anchor_of, replaced_node}
+use Rattle.yq_documents.specs.Reading.{part_outline, root_of}
+use Rattle.yq_row_places.specs.RowPaths.{spelled_node, IsReadable}
 use Rattle.yq_change.specs.Changed.{IsChanged, put_document}
 use Rattle.yq_change.specs.Contents.{recontent, TakesContent, LowerContentReplaced, RootContentReplaced}
 use Rattle.yq_change.specs.Appends.{inserted}
@@ -57,19 +57,19 @@ use Rattle.yq_cut.proofs.splices.SpliceTexts.{own_gap}
 
 -- ---- what a row spells, and its anchor
 
-coll_named : (k : ℕ) (a : Option (List ℕ)) (cs : Children) → anchor_of (anchored a (trees.collection k cs)) ≡ a
+coll_named : (k : ℕ) (a : Option (List ℕ)) (cs : Children) → anchor_of (anchored a (trees.tree_collection k cs)) ≡ a
 coll_named k a cs = cond_both (eqb k 125) (tree.map None cs) (tree.list None cs) (λ n. anchor_of (anchored a n) ≡ a) (λ _. only a) (λ _. only a)
   where
     only : (a : Option (List ℕ)) → first_anchor a None ≡ a
     only None = refl
     only (Some x) = refl
 
-core_named : (name : List ℕ) (node : inline.Node) → takes_anchor node ≡ true → anchor_of (anchored (Some name) (head_or (node_head node) null_node)) ≡ Some name
+core_named : (name : List ℕ) (node : inline.FlowNode) → takes_anchor node ≡ true → anchor_of (anchored (Some name) (head_or (node_head node) null_node)) ≡ Some name
 unfolding tree_of
 core_named name node h1 = search (rules, false≢true, coll_named)
 
-node_named : (flow : Bool) (spaces : Option ℕ) (d : ℕ) (node : inline.Node) (rest : List ℕ) → IsNode flow spaces d node rest → anchor_of (anchored (node_anchor node) (head_or (node_head node) null_node)) ≡ node_anchor node
-unfolding tree_of IsNode
+node_named : (flow : Bool) (spaces : Option ℕ) (d : ℕ) (node : inline.FlowNode) (rest : List ℕ) → IsFlowNode flow spaces d node rest → anchor_of (anchored (node_anchor node) (head_or (node_head node) null_node)) ≡ node_anchor node
+unfolding tree_of IsFlowNode
 node_named flow spaces d node rest h1 = search (rules, coll_named, core_named)
 
 block_named : (a : Option rows.Anchor) → first_anchor (block_anchor a) None ≡ block_anchor a
@@ -77,7 +77,7 @@ block_named None = refl
 block_named (Some a) = refl
 
 -- the anchor in a row is that of the node
-pub content_named : (n : ℤ) (x : Content) (rest : List ℕ) → IsContent n x rest → anchor_of (spelled x) ≡ content_anchor x
+pub content_named : (n : ℤ) (x : Content) (rest : List ℕ) → IsContent n x rest → anchor_of (spelled_node x) ≡ content_anchor x
 content_named n x rest h1 = search (rules, node_named, block_named)
 
 -- the same behind another anchor, if it may take that
@@ -134,18 +134,18 @@ single (row y (row z u b) a) x e = absurd (let no : z ∷ ((flatten u ++ flatten
 
 -- a line of its own is its node
 pub alone_value : (l : Line) → l.mark ≡ outline.Bare → value (row l end end) ≡ anchored l.anchor (head_or l.head null_node)
-alone_value l m = ap (λ k. outline.collection k (outline.children (row l end end))) m
+alone_value l m = ap (λ k. outline.outline_node k (outline.children (row l end end))) m
 
 pub alone_even : (l : Line) (m : ℕ) (v : Node) → level l ≡ m → l.mark ≡ outline.Bare → l.head ≡ Some v → IsEven m (row l end end)
 alone_even l m v at mark head =
     (at, subst (λ h. IsOpen h end) (sym head) tt, subst (λ k. IsWhole k l.head end) (sym mark) (subst (λ h. IsWhole outline.Bare h end) (sym head) tt), (suc m, omega arith, tt), tt)
 
-mark_level : (above : List (List ℕ)) (column : ℕ) (m : rows.Mark) (old new : Content) → level (mark_line above column m new) ≡ level (mark_line above column m old)
+mark_level : (above : List (List ℕ)) (column : ℕ) (m : rows.RowMark) (old new : Content) → level (mark_line above column m new) ≡ level (mark_line above column m old)
 unfolding level
 mark_level above column m old new = refl
 
-bare_line : (m : rows.Mark) → m ≡ rows.Bare → mark_of m ≡ outline.Bare
-bare_line m e = ap mark_of e
+bare_line : (m : rows.RowMark) → m ≡ rows.Bare → line_mark m ≡ outline.Bare
+bare_line m e = ap line_mark e
 
 -- ---- the new text
 
@@ -183,7 +183,7 @@ module _ (t : List ℕ) (c : Cut) (k : ℕ) (p : Part) (front : List Row) (r : R
   l = mark_line above (mark_column r) r.mark new
 
   abbrev a : List Line
-  a = lines_of front ++ dash_lines (head_comment r.gap) r.column r.dashes
+  a = lines_of_rows front ++ dash_lines (head_comment r.gap) r.column r.dashes
 
   there : q.rows ≡ front ++ (with_content new r ∷ back)
   there = ap (λ (rs : List Row). front ++ (with_content new r ∷ rs)) (own_gap back p.end)
@@ -198,36 +198,36 @@ module _ (t : List ℕ) (c : Cut) (k : ℕ) (p : Part) (front : List Row) (r : R
       let short : HasShortRoot (front ++ (b ∷ back)) = short_first front back (r ∷ back) b (subst HasShortRoot h.rows_are known.document.short) h.short in
       is_put t c k p q h.old (ap no_rows there ∙ rows_before_some front (b ∷ back) refl) h.text cut (subst HaveFitKeys (sym there) fit) (subst HasShortRoot (sym there) short)
 
-  old_lines : lines_of p.rows ≡ a ++ (x ∷ lines_of back)
-  old_lines = ap lines_of h.rows_are ∙ last_lines front r back r.content
+  old_lines : lines_of_rows p.rows ≡ a ++ (x ∷ lines_of_rows back)
+  old_lines = ap lines_of_rows h.rows_are ∙ last_lines front r back r.content
 
-  new_lines : lines_of q.rows ≡ a ++ (l ∷ lines_of back)
-  new_lines = ap lines_of there ∙ last_lines front r back new
+  new_lines : lines_of_rows q.rows ≡ a ++ (l ∷ lines_of_rows back)
+  new_lines = ap lines_of_rows there ∙ last_lines front r back new
 
-  even : IsEven (level_or 0 (outline_of p)) (outline_of p)
+  even : IsEven (level_or 0 (part_outline p)) (part_outline p)
   even = (document_known t c k p h.old).even
 
-  named : anchor_of (spelled r.content) ≡ content_anchor r.content
+  named : anchor_of (spelled_node r.content) ≡ content_anchor r.content
   named =
-      rows_behind front (r ∷ back) p.end (behind_document k c) p h.rows_are (part_rows t c k p h.old (document_known t c k p h.old).cut) (λ rs. anchor_of (spelled r.content) ≡ content_anchor r.content)
+      rows_behind front (r ∷ back) p.end (behind_document k c) p h.rows_are (part_rows t c k p h.old (document_known t c k p h.old).cut) (λ rs. anchor_of (spelled_node r.content) ≡ content_anchor r.content)
       (λ limit rs. content_named (parent_indent r) r.content (rows_text back (p.end ++ behind_document k c)) rs.0.content)
 
-  spelled_new : spelled new ≡ anchored (content_anchor r.content) v
+  spelled_new : spelled_node new ≡ anchored (content_anchor r.content) v
   spelled_new = (λ i. anchored (h.anchor_is i) (head_or (h.head_is i) null_node))
 
   -- alone on the line under a key or dash
-  pub lower_is : (s : Step) (ss : List Step) (f : FoundLine) → find s ss (outline_of p) ≡ Some (f, []) → f.line.head ≡ None → length (flatten f.under) ≡ 1 → r.mark ≡ rows.Bare → length (lines_of front) + length r.dashes ≡ suc (length (lines_before f.place)) →
-      MayReplace v (content f.line f.under) (root_of p) (length (s ∷ ss)) → IsChanged c (put_document k q c) k (lead_of p) (change (s ∷ ss) (replaced v))
+  pub lower_is : (s : Step) (ss : List Step) (f : FoundLine) → find s ss (part_outline p) ≡ Some (f, []) → f.line.head ≡ None → length (flatten f.under) ≡ 1 → r.mark ≡ rows.Bare → length (lines_of_rows front) + length r.dashes ≡ suc (length (lines_before f.place)) →
+      MayReplace v (content_under f.line f.under) (root_of p) (length (s ∷ ss)) → IsChanged c (put_document k q c) k (lead_of p) (changed_at (s ∷ ss) (replaced_node v))
   lower_is s ss f found open' count mark number may =
       let size : length a ≡ length (lines_before f.place ++ (f.line ∷ [])) = search (rules, length-append, dashes_count) in
       let rest : List Line = flatten f.after ++ lines_after f.place in
-      let whole : lines_of p.rows ≡ (lines_before f.place ++ (f.line ∷ [])) ++ (flatten f.under ++ rest) =
-      sym (flatten-group (lines_of p.rows)) ∙ (whole_line (outline_of p) s ss [] f found ∙ sym (append_assoc (lines_before f.place) (f.line ∷ []) (flatten f.under ++ rest))) in
-      let parts = same_parts a (x ∷ []) (lines_of back) (lines_before f.place ++ (f.line ∷ [])) (flatten f.under) rest (sym old_lines ∙ whole) size (sym count) in
-      let lines : lines_of q.rows ≡ with_lines f (f.line ∷ (l ∷ [])) = search (rules, new_lines, append_assoc, parts, rest) in
+      let whole : lines_of_rows p.rows ≡ (lines_before f.place ++ (f.line ∷ [])) ++ (flatten f.under ++ rest) =
+      sym (flatten-group (lines_of_rows p.rows)) ∙ (whole_line (part_outline p) s ss [] f found ∙ sym (append_assoc (lines_before f.place) (f.line ∷ []) (flatten f.under ++ rest))) in
+      let parts = same_parts a (x ∷ []) (lines_of_rows back) (lines_before f.place ++ (f.line ∷ [])) (flatten f.under) rest (sym old_lines ∙ whole) size (sym count) in
+      let lines : lines_of_rows q.rows ≡ with_lines f (f.line ∷ (l ∷ [])) = search (rules, new_lines, append_assoc, parts, rest) in
       let alone : f.under ≡ row x end end = single f.under x (sym parts.1) in
-      let bare : mark_of r.mark ≡ outline.Bare = bare_line r.mark mark in
-      let old = under_even (level_or 0 (outline_of p)) (outline_of p) s ss f even found in
+      let bare : line_mark r.mark ≡ outline.Bare = bare_line r.mark mark in
+      let old = under_even (level_or 0 (part_outline p)) (part_outline p) s ss f even found in
       let deep = old.1.3 in
       let under : IsEven deep.0 (row x end end) = subst (IsEven deep.0) alone deep.2 in
       let each : HaveOneAnchorEach (lines_before f.place ++ (f.line ∷ (flatten f.under ++ rest))) =
@@ -245,44 +245,44 @@ module _ (t : List ℕ) (c : Cut) (k : ℕ) (p : Part) (front : List Row) (r : R
       })
       (free_from f.line.anchor l [] bare (new_free takes), (free_alone l.anchor, tt)) lines may
     where
-      lower_even : (m : ℕ) → IsEven m (row x end end) → mark_of r.mark ≡ outline.Bare → IsEven m (row l end end)
+      lower_even : (m : ℕ) → IsEven m (row x end end) → line_mark r.mark ≡ outline.Bare → IsEven m (row l end end)
       lower_even m e bare = alone_even l m v (mark_level above (mark_column r) r.mark r.content new ∙ e.0) bare h.head_is
 
       new_free : (f.line.anchor ≡ None) ⊎ ((content_anchor r.content ≡ None) × IsNoAlias (head_of r.content)) → (f.line.anchor ≡ None) ⊎ ((content_anchor new ≡ None) × IsNoAlias (head_of new))
       new_free (inl e) = inl e
       new_free (inr e) = inr (h.anchor_is ∙ e.0, subst IsNoAlias (sym h.head_is) (value_no_alias v may.value_is.bare))
 
-      not_alias : (f.line.anchor ≡ None) ⊎ ((content_anchor r.content ≡ None) × IsNoAlias (head_of r.content)) → (f.line.anchor ≡ None) ⊎ IsNoAlias (Some (spelled r.content))
+      not_alias : (f.line.anchor ≡ None) ⊎ ((content_anchor r.content ≡ None) × IsNoAlias (head_of r.content)) → (f.line.anchor ≡ None) ⊎ IsNoAlias (Some (spelled_node r.content))
       not_alias (inl e) = inl e
       not_alias (inr e) = inr (no_alias (content_anchor r.content) (head_of r.content) e.1)
 
-      node_is : f.under ≡ row x end end → mark_of r.mark ≡ outline.Bare → (f.line.anchor ≡ None) ⊎ ((content_anchor r.content ≡ None) × IsNoAlias (head_of r.content)) → content f.line (row l end end) ≡ replaced v (content f.line f.under)
+      node_is : f.under ≡ row x end end → line_mark r.mark ≡ outline.Bare → (f.line.anchor ≡ None) ⊎ ((content_anchor r.content ≡ None) × IsNoAlias (head_of r.content)) → content_under f.line (row l end end) ≡ replaced_node v (content_under f.line f.under)
       node_is alone bare takes =
           let b : Option (List ℕ) = content_anchor r.content in
-          let node : content f.line f.under ≡ anchored f.line.anchor (spelled r.content) = (λ i. anchored f.line.anchor (head_or (open' i) (value (alone i)))) ∙ ap (anchored f.line.anchor) (alone_value x bare) in
-          let anchor : anchor_of (anchored f.line.anchor (spelled r.content)) ≡ first_anchor f.line.anchor b = under_named f.line.anchor b (spelled r.content) named (not_alias takes) in
+          let node : content_under f.line f.under ≡ anchored f.line.anchor (spelled_node r.content) = (λ i. anchored f.line.anchor (head_or (open' i) (value (alone i)))) ∙ ap (anchored f.line.anchor) (alone_value x bare) in
+          let anchor : anchor_of (anchored f.line.anchor (spelled_node r.content)) ≡ first_anchor f.line.anchor b = under_named f.line.anchor b (spelled_node r.content) named (not_alias takes) in
           (λ i. anchored f.line.anchor (head_or (open' i) (value (row l end end))))
-          ∙ (ap (anchored f.line.anchor) (alone_value l bare ∙ spelled_new) ∙ (anchored_twice f.line.anchor b v ∙ (ap (λ y. anchored y v) (sym anchor) ∙ ap (replaced v) (sym node))))
+          ∙ (ap (anchored f.line.anchor) (alone_value l bare ∙ spelled_new) ∙ (anchored_twice f.line.anchor b v ∙ (ap (λ y. anchored y v) (sym anchor) ∙ ap (replaced_node v) (sym node))))
 
   -- as a root
-  pub root_is : length (lines_of p.rows) ≡ 1 → r.mark ≡ rows.Bare → MayReplace v (root_of p) (root_of p) 0 → IsChanged c (put_document k q c) k (lead_of p) (change [] (replaced v))
+  pub root_is : length (lines_of_rows p.rows) ≡ 1 → r.mark ≡ rows.Bare → MayReplace v (root_of p) (root_of p) 0 → IsChanged c (put_document k q c) k (lead_of p) (changed_at [] (replaced_node v))
   root_is count mark may =
-      let bare : mark_of r.mark ≡ outline.Bare = bare_line r.mark mark in
-      let one = same_parts a (x ∷ []) (lines_of back) [] (lines_of p.rows) [] (sym old_lines ∙ sym (append-nil (lines_of p.rows))) none (sym count) in
-      let old : lines_of p.rows ≡ x ∷ [] = sym one.1 in
-      let lines : lines_of q.rows ≡ l ∷ [] = new_lines ∙ (λ i. one.0 i ++ (l ∷ one.2 i)) in
-      let root : root_of p ≡ spelled r.content = ap (λ ls. value (group ls)) old ∙ alone_value x bare in
-      led_as c (put_document k q c) k (lead_of q) (lead_of p) (replaced v) (lead_content front r new back p q h.rows_are there)
+      let bare : line_mark r.mark ≡ outline.Bare = bare_line r.mark mark in
+      let one = same_parts a (x ∷ []) (lines_of_rows back) [] (lines_of_rows p.rows) [] (sym old_lines ∙ sym (append-nil (lines_of_rows p.rows))) none (sym count) in
+      let old : lines_of_rows p.rows ≡ x ∷ [] = sym one.1 in
+      let lines : lines_of_rows q.rows ≡ l ∷ [] = new_lines ∙ (λ i. one.0 i ++ (l ∷ one.2 i)) in
+      let root : root_of p ≡ spelled_node r.content = ap (λ ls. value (group ls)) old ∙ alone_value x bare in
+      led_as c (put_document k q c) k (lead_of q) (lead_of p) (replaced_node v) (lead_content front r new back p q h.rows_are there)
       (root_replaced t c k p q v (level l) (row l end end) is_it
       (record {
         deep = low_level l;
         even = alone_even l (level l) v refl bare h.head_is;
-        value_is = alone_value l bare ∙ (spelled_new ∙ (ap (λ y. anchored y v) (sym named) ∙ ap (replaced v) (sym root)));
+        value_is = alone_value l bare ∙ (spelled_new ∙ (ap (λ y. anchored y v) (sym named) ∙ ap (replaced_node v) (sym root)));
         anchors = (free_alone l.anchor, tt);
       }) lines may)
     where
       none : length a ≡ 0
-      none = omega (arith, count, ap length old_lines, length-append a (x ∷ lines_of back))
+      none = omega (arith, count, ap length old_lines, length-append a (x ∷ lines_of_rows back))
 
 pub lower_content_replaced : LowerContentReplaced
 lower_content_replaced t c k p front back r v new s ss f h found open' count mark number may = lower_is t c k p front r back v new h s ss f found open' count mark number may

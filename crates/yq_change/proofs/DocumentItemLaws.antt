@@ -1,6 +1,6 @@
 -- The items of a cut in which a document is exchanged.
 use Rattle.std.proofs.Common.{◌≡◌, ℕ, zero, suc, List, [], ◌∷◌, ◌++◌, refl, sym, ap, ◌∙◌}
-use Rattle.yq_cut.specs.Items.{Item, row_item, end_item, rows_items, items_of, items_text}
+use Rattle.yq_cut.specs.Items.{Item, row_item, end_item, rows_items, items_of_cut, items_text}
 use Rattle.yq_cut.specs.Rows.{Row, rows_text, Part, Cut, last, marked}
 use Rattle.yq_cut.specs.Splices.{behind_part, nth_part}
 use Rattle.yq_cut.proofs.ItemLaws.{items_of_text}
@@ -31,8 +31,8 @@ record Has (i : ℕ) (c : Cut) : Type 0 where
   marker : List ℕ
   below : List Item
   behind : behind_part i c ≡ marker ++ items_text below []
-  old : items_of c ≡ above ++ rows_items (nth_part i c).rows (end_item (nth_part i c).end marker ∷ below)
-  put : (q : Part) → items_of (put_part i q c) ≡ above ++ rows_items q.rows (end_item q.end marker ∷ below)
+  old : items_of_cut c ≡ above ++ rows_items (nth_part i c).rows (end_item (nth_part i c).end marker ∷ below)
+  put : (q : Part) → items_of_cut (put_part i q c) ≡ above ++ rows_items q.rows (end_item q.end marker ∷ below)
 
 -- items behind one more part
 later : (x : Part) (m : List ℕ) (above is all : List Item) → all ≡ above ++ is → rows_items x.rows (end_item x.end m ∷ all) ≡ rows_items x.rows (end_item x.end m ∷ above) ++ is
@@ -40,7 +40,7 @@ later x m above is all e = ap (λ js. rows_items x.rows (end_item x.end m ∷ js
 
 has : (i : ℕ) (c : Cut) → Has i c
 has i (last x) = record { above = []; marker = []; below = []; behind = refl; old = refl; put = λ q. refl }
-has zero (marked x m c) = record { above = []; marker = m; below = items_of c; behind = ap (λ t. m ++ t) (sym (items_of_text c)); old = refl; put = λ q. refl }
+has zero (marked x m c) = record { above = []; marker = m; below = items_of_cut c; behind = ap (λ t. m ++ t) (sym (items_of_text c)); old = refl; put = λ q. refl }
 has (suc i) (marked x m c) =
     let h = has i c in
     record { above = rows_items x.rows (end_item x.end m ∷ h.above); marker = h.marker; below = h.below; behind = h.behind; old = later x m h.above _ _ h.old; put = λ q. later x m h.above _ _ (h.put q) }

@@ -2,7 +2,7 @@
 use Rattle.std.proofs.Common.{◌≡◌, ℕ, List, [], ◌∷◌, ◌++◌, Option, Some, None, true, refl, sym, ap, ◌∙◌, subst, append_assoc, rules}
 use Rattle.std.proofs.lemmas.Option.{same_Some}
 use Rattle.yq_flow_scalars.specs.Keys.{HasUniqueKeys, depth}
-use Rattle.yq_flow_scalars.specs.Paths.{Step, append_child, change, node_at, relabel_child, remove_child, within}
+use Rattle.yq_flow_scalars.specs.Paths.{Step, append_child, changed_at, node_at, relabel_child, remove_child, within}
 use Rattle.yq_flow_scalars.specs.Tree.{Label, Node, Children, child, children_of}
 use Rattle.yq_flow_scalars.proofs.Bools.{guard_then}
 use Rattle.yq_lines.specs.Comments.{head_comment}
@@ -12,10 +12,10 @@ use Rattle.yq_lines.specs.LineAnchors.{IsFree, HaveOneAnchorEach}
 use Rattle.yq_documents.specs.Documents.{document_parts, lead_of}
 use Rattle.yq_lines.specs.Group.{level_or}
 use Rattle.yq_lines.specs.Laws.{with_lines}
-use Rattle.yq_lines.specs.Lines.{lines_of}
-use Rattle.yq_lines.specs.Outline.{Mark, Bare, Key, Dash, Line, level, Outline, end, row, flatten, IsWhole, IsEven, anchored, head_or, label, collection, children, value}
-use Rattle.yq_lines.specs.Places.{lines_before, lines_after, plug, FoundLine, find, content}
-use Rattle.yq_documents.specs.Reading.{is_document, outline_of, read_at, root_of}
+use Rattle.yq_lines.specs.Lines.{lines_of_rows}
+use Rattle.yq_lines.specs.Outline.{LineMark, Bare, Key, Dash, Line, level, Outline, end, row, flatten, IsWhole, IsEven, anchored, head_or, label, outline_node, children, value}
+use Rattle.yq_lines.specs.Places.{lines_before, lines_after, plug, FoundLine, find, content_under}
+use Rattle.yq_documents.specs.Reading.{is_document, part_outline, read_at, root_of}
 use Rattle.yq_lines.proofs.Allowing as allowing
 use Rattle.yq_lines.proofs.Allowing.{Allows}
 use Rattle.yq_lines.proofs.Decides.{flatten-group, even_from}
@@ -44,9 +44,9 @@ use Rattle.yq_change.proofs.PlacedLaws.{around}
 
 -- What is known of a part that is a document.
 pub record Known (p : Part) : Type 0 where
-  pub even : IsEven (level_or 0 (outline_of p)) (outline_of p)
-  pub lines : flatten (outline_of p) ≡ lines_of p.rows
-  pub each : HaveOneAnchorEach (lines_of p.rows)
+  pub even : IsEven (level_or 0 (part_outline p)) (part_outline p)
+  pub lines : flatten (part_outline p) ≡ lines_of_rows p.rows
+  pub each : HaveOneAnchorEach (lines_of_rows p.rows)
   pub sound : IsSoundRoot (root_of p)
 
 pub known : (t : List ℕ) (c : Cut) (k : ℕ) (p q : Part) → IsPut t c k p q → Known p
@@ -57,7 +57,7 @@ known t c k p q h =
     let is = document_is p doc in
     record {
       even = even_from _ _ (document_fine p doc);
-      lines = flatten-group (lines_of p.rows);
+      lines = flatten-group (lines_of_rows p.rows);
       each = is.anchors;
       sound = record { unique = is.unique; nested = is.nested; bound = is.bound };
     }
@@ -69,7 +69,7 @@ pub old_is_even : OldIsEven
 old_is_even t c k p q h = (known t c k p q h).even
 
 -- the new text reads as the document changed
-finish : (t : List ℕ) (c : Cut) (k : ℕ) (p q : Part) (f : Node → Node) → IsPut t c k p q → StandsSomewhere (lines_of q.rows) (f (root_of p)) → HaveOneAnchorEach (lines_of q.rows) →
+finish : (t : List ℕ) (c : Cut) (k : ℕ) (p q : Part) (f : Node → Node) → IsPut t c k p q → StandsSomewhere (lines_of_rows q.rows) (f (root_of p)) → HaveOneAnchorEach (lines_of_rows q.rows) →
     IsSoundRoot (f (root_of p)) →
     IsChanged c (put_document k q c) k (lead_of q) f
 finish t c k p q f h stands each sound =
@@ -83,8 +83,8 @@ lines_are_there (s ∷ ss) o h e = found (lines_found s ss o h e)
     found : Under s ss o h → node_at (s ∷ ss) (value o) ≡ Some (anchored h.anchor (value h.lines))
     found w =
         let f : FoundLine = w.found in
-        let there : node_at (s ∷ ss) (value o) ≡ Some (content f.line f.under) = path_node s ss o ∙ ap FoundNode w.is in
-        let same : content f.line f.under ≡ anchored f.line.anchor (value f.under) = ap (λ x. anchored f.line.anchor (head_or x (value f.under))) w.open' in
+        let there : node_at (s ∷ ss) (value o) ≡ Some (content_under f.line f.under) = path_node s ss o ∙ ap FoundNode w.is in
+        let same : content_under f.line f.under ≡ anchored f.line.anchor (value f.under) = ap (λ x. anchored f.line.anchor (head_or x (value f.under))) w.open' in
         subst (λ (x : NodeLines). node_at (s ∷ ss) (value o) ≡ Some (anchored x.anchor (value x.lines))) w.place_is (there ∙ ap Some same)
 
 -- leads
@@ -92,7 +92,7 @@ first_same : (d e : List (List ℕ)) (before : List Line) (l m : Line) (ls ms : 
 first_same d e [] l m ls ms same = same
 first_same d e (k ∷ before) l m ls ms same = refl
 
-pub lead_from : (p q : Part) (before : List Line) (l m : Line) (ls ms : List Line) → lines_of p.rows ≡ before ++ (l ∷ ls) → lines_of q.rows ≡ before ++ (m ∷ ms) → m.head_comment ≡ l.head_comment →
+pub lead_from : (p q : Part) (before : List Line) (l m : Line) (ls ms : List Line) → lines_of_rows p.rows ≡ before ++ (l ∷ ls) → lines_of_rows q.rows ≡ before ++ (m ∷ ms) → m.head_comment ≡ l.head_comment →
     lead_of q ≡ lead_of p
 lead_from p q before l m ls ms old new same = search (rules, lead_is_first, first_same)
 
@@ -103,7 +103,7 @@ led_as c new k a b f e h = subst (λ x. IsChanged c new k x f) e h
 following : (n : ℕ) (f : FoundLine) → Allows n f.place (level f.line) → IsEven (level f.line) (row f.line f.under f.after) → BeginsEntry (flatten f.after ++ lines_after f.place)
 following n f allows even = both_anew (flatten f.after) (lines_after f.place) (behind f.line.mark f.line.head refl f.after even.2 even.4) (after_anew n (level f.line) f.place allows)
   where
-    behind : (m : Mark) (h : Option Node) → f.line.mark ≡ m → (o : Outline) → IsWhole m h o → IsEven (level f.line) o → BeginsEntry (flatten o)
+    behind : (m : LineMark) (h : Option Node) → f.line.mark ≡ m → (o : Outline) → IsWhole m h o → IsEven (level f.line) o → BeginsEntry (flatten o)
     behind (Key j) h e o w v = collection_anew o (next (level f.line) f.line o (subst allowing.IsEntry (sym e) tt) refl v)
     behind Dash h e o w v = collection_anew o (next (level f.line) f.line o (subst allowing.IsEntry (sym e) tt) refl v)
     behind Bare h e end w v = tt
@@ -113,42 +113,42 @@ following n f allows even = both_anew (flatten f.after) (lines_after f.place) (b
 pub line_exchanged : LineExchanged
 line_exchanged t c k p q s ss rest f g m l u put found fits whole anchors lines sound =
     let w = known t c k p q put in
-    let o : Outline = outline_of p in
+    let o : Outline = part_outline p in
     let n : ℕ = level_or 0 o in
     let law = exchanged n o s ss rest f w.even found g m l u fits.label_is fits.level_is fits.headless whole fits.deep fits.even fits.node_is in
     let is : plug f.place (row f.line f.under f.after) ≡ o = at (IsFoundIn o) (find s ss o) (f, rest) found (path_whole s ss o) in
     let old : Allows n f.place (level f.line) × IsEven (level f.line) (row f.line f.under f.after) = allows_from n f.place f.line f.under f.after (subst (λ x. IsEven n x) (sym is) w.even) in
-    let was : lines_of p.rows ≡ with_lines f (f.line ∷ flatten f.under) = sym w.lines ∙ law.0 in
+    let was : lines_of_rows p.rows ≡ with_lines f (f.line ∷ flatten f.under) = sym w.lines ∙ law.0 in
     let one : HaveOneAnchorEach (with_lines f (l ∷ flatten u)) =
     anchors_stay (lines_before f.place) (f.line ∷ flatten f.under) (l ∷ flatten u) (flatten f.after ++ lines_after f.place) (subst HaveOneAnchorEach was w.each) anchors.each anchors.free (following n f old.0 old.1) in
     let head : l.head_comment ≡ f.line.head_comment = ap (λ (x : Label). x.head_comment) fits.label_is in
-    led_as c (put_document k q c) k (lead_of q) (lead_of p) (change (s ∷ ss) g)
+    led_as c (put_document k q c) k (lead_of q) (lead_of p) (changed_at (s ∷ ss) g)
     (lead_from p q (lines_before f.place) f.line l (flatten f.under ++ (flatten f.after ++ lines_after f.place)) (flatten u ++ (flatten f.after ++ lines_after f.place)) was lines head)
-    (finish t c k p q (change (s ∷ ss) g) put (subst (λ ls. StandsSomewhere ls (change (s ∷ ss) g (root_of p))) (sym lines) (n, law.1)) (subst HaveOneAnchorEach (sym lines) one) sound)
+    (finish t c k p q (changed_at (s ∷ ss) g) put (subst (λ ls. StandsSomewhere ls (changed_at (s ∷ ss) g (root_of p))) (sym lines) (n, law.1)) (subst HaveOneAnchorEach (sym lines) one) sound)
 
 pub lines_exchanged : LinesExchanged
 lines_exchanged t c k p q steps h g m u put is fits anchors lines sound =
     let w = known t c k p q put in
-    let o : Outline = outline_of p in
+    let o : Outline = part_outline p in
     let n : ℕ = level_or 0 o in
     let law = lines_replaced n m o u steps h g w.even is fits in
     let among = lines_among n o steps h w.even is in
-    let was : lines_of p.rows ≡ put_lines h (flatten h.lines) = sym w.lines ∙ law.0 in
+    let was : lines_of_rows p.rows ≡ put_lines h (flatten h.lines) = sym w.lines ∙ law.0 in
     let one : HaveOneAnchorEach (put_lines h (flatten u)) =
     anchors_stay (lines_before h.place) (flatten h.lines) (flatten u) (lines_after h.place) (subst HaveOneAnchorEach was w.each) anchors.each (subst (λ a. IsFree a (flatten u)) (sym among.1) anchors.free) among.0 in
-    finish t c k p q (change steps g) put (subst (λ ls. StandsSomewhere ls (change steps g (root_of p))) (sym lines) law.1) (subst HaveOneAnchorEach (sym lines) one) sound
+    finish t c k p q (changed_at steps g) put (subst (λ ls. StandsSomewhere ls (changed_at steps g (root_of p))) (sym lines) law.1) (subst HaveOneAnchorEach (sym lines) one) sound
 
 pub lines_appended : LinesAppended
 lines_appended t c k p q steps h m l v put there fits each lines sound =
     let w = known t c k p q put in
-    let o : Outline = outline_of p in
+    let o : Outline = part_outline p in
     let n : ℕ = level_or 0 o in
     let old : List Line = flatten h.lines in
     let d : List Line = l ∷ flatten v in
-    let f : Node → Node = change steps (within (append_child (label l) (content l v))) in
+    let f : Node → Node = changed_at steps (within (append_child (label l) (content_under l v))) in
     let law = appended n m o v l steps h w.even there fits in
     let among = lines_among n o steps h w.even there.place_is in
-    let was : lines_of p.rows ≡ put_lines h old = sym w.lines ∙ law.0 in
+    let was : lines_of_rows p.rows ≡ put_lines h old = sym w.lines ∙ law.0 in
     let mark = entry_out l.mark (level_mark l h.lines there.block fits.level_is) in
     let split : put_lines h (old ++ d) ≡ (lines_before h.place ++ old) ++ (d ++ lines_after h.place) = simp (append_assoc, old, d) in
     let one : HaveOneAnchorEach (put_lines h (old ++ d)) =
@@ -157,8 +157,8 @@ lines_appended t c k p q steps h m l v put there fits each lines sound =
     led_as c (put_document k q c) k (lead_of q) (lead_of p) f (lead h.lines there.block was lines)
     (finish t c k p q f put (subst (λ ls. StandsSomewhere ls (f (root_of p))) (sym lines) law.1) (subst HaveOneAnchorEach (sym lines) one) sound)
   where
-    lead : (x : Outline) → HasEntries x → lines_of p.rows ≡ lines_before h.place ++ (flatten x ++ lines_after h.place) →
-        lines_of q.rows ≡ lines_before h.place ++ ((flatten x ++ (l ∷ flatten v)) ++ lines_after h.place) → lead_of q ≡ lead_of p
+    lead : (x : Outline) → HasEntries x → lines_of_rows p.rows ≡ lines_before h.place ++ (flatten x ++ lines_after h.place) →
+        lines_of_rows q.rows ≡ lines_before h.place ++ ((flatten x ++ (l ∷ flatten v)) ++ lines_after h.place) → lead_of q ≡ lead_of p
     lead end b was new = absurd b
     lead (row i u a) b was new =
         lead_from p q (lines_before h.place) i i ((flatten u ++ flatten a) ++ lines_after h.place) (((flatten u ++ flatten a) ++ (l ∷ flatten v)) ++ lines_after h.place) was new refl
@@ -175,9 +175,9 @@ behind_split s o f w block even =
 pub lines_removed : LinesRemoved
 lines_removed t c k p q steps h s f put entry left lines sound =
     let w = known t c k p q put in
-    let o : Outline = outline_of p in
+    let o : Outline = part_outline p in
     let n : ℕ = level_or 0 o in
-    let g : Node → Node = change steps (within (remove_child s)) in
+    let g : Node → Node = changed_at steps (within (remove_child s)) in
     let law = removed n o steps h s f w.even entry left in
     let among = lines_among n o steps h w.even entry.place_is in
     let r = some_at s h.lines f entry.found in
@@ -188,7 +188,7 @@ lines_removed t c k p q steps h s f put entry left lines sound =
     let a : List Line = lines_before h.place in
     let z : List Line = lines_after h.place in
     let place : (ls : List Line) → put_lines h (with_lines f ls) ≡ (a ++ x) ++ (ls ++ (y ++ z)) = λ ls. ap (put_lines h) (r.lines ls) ∙ around a x ls y z in
-    let was : lines_of p.rows ≡ (a ++ x) ++ (e ++ (y ++ z)) = sym w.lines ∙ (law.0 ∙ place e) in
+    let was : lines_of_rows p.rows ≡ (a ++ x) ++ (e ++ (y ++ z)) = sym w.lines ∙ (law.0 ∙ place e) in
     let one : HaveOneAnchorEach (put_lines h (with_lines f [])) =
     subst HaveOneAnchorEach (sym (place [])) (anchors_stay (a ++ x) e [] (y ++ z) (subst HaveOneAnchorEach was w.each) tt (any_free (last_anchor (a ++ x)) [] tt)
     (both_anew y z (behind_split s h.lines f r entry.block deep.1).0 among.0)) in
@@ -197,9 +197,9 @@ lines_removed t c k p q steps h s f put entry left lines sound =
 pub line_relabelled : LineRelabelled
 line_relabelled t c k p q steps h s f g l put entry new_line lines sound =
     let w = known t c k p q put in
-    let o : Outline = outline_of p in
+    let o : Outline = part_outline p in
     let n : ℕ = level_or 0 o in
-    let i : Node → Node = change steps (within (relabel_child s g)) in
+    let i : Node → Node = changed_at steps (within (relabel_child s g)) in
     let law = relabelled n o steps h s f g l w.even entry new_line in
     let among = lines_among n o steps h w.even entry.place_is in
     let r = some_at s h.lines f entry.found in
@@ -224,22 +224,22 @@ line_relabelled t c k p q steps h s f g l put entry new_line lines sound =
 pub lead_is_above : LeadIsAbove
 unfolding level
 lead_is_above above n end block even = absurd block
-lead_is_above above n (row l u a) block even = (even, go l.mark block (content l u) (children a))
+lead_is_above above n (row l u a) block even = (even, go l.mark block (content_under l u) (children a))
   where
-    go : (m : Mark) → IsEntry m → (x : Node) (cs : Children) → collection m (child (label (record l { head_comment = above })) x cs) ≡ within (headed above) (collection m (child (label l) x cs))
+    go : (m : LineMark) → IsEntry m → (x : Node) (cs : Children) → outline_node m (child (label (record l { head_comment = above })) x cs) ≡ within (headed above) (outline_node m (child (label l) x cs))
     go Bare e x cs = absurd e
     go (Key j) e x cs = refl
     go Dash e x cs = refl
 
 pub root_has_lead : RootHasLead
-root_has_lead p block = go (outline_of p) block refl ∙ ap Some (sym (lead_is_first p ∙ ap (first_comment (head_comment p.end)) (sym (flatten-group (lines_of p.rows)))))
+root_has_lead p block = go (part_outline p) block refl ∙ ap Some (sym (lead_is_first p ∙ ap (first_comment (head_comment p.end)) (sym (flatten-group (lines_of_rows p.rows)))))
   where
-    kind : (m : Mark) → IsEntry m → (cs : Children) → children_of (collection m cs) ≡ cs
+    kind : (m : LineMark) → IsEntry m → (cs : Children) → children_of (outline_node m cs) ≡ cs
     kind Bare e cs = absurd e
     kind (Key j) e cs = refl
     kind Dash e cs = refl
 
-    go : (o : Outline) → HasEntries o → outline_of p ≡ o → first_above (children_of (value o)) ≡ Some (first_comment (head_comment p.end) (flatten o))
+    go : (o : Outline) → HasEntries o → part_outline p ≡ o → first_above (children_of (value o)) ≡ Some (first_comment (head_comment p.end) (flatten o))
     go end b e = absurd b
     go (row l u a) b e = ap first_above (kind l.mark b (children (row l u a)))
 

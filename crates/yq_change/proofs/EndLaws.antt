@@ -25,11 +25,11 @@ use Rattle.yq_cut.proofs.splices.PartPlaces.{part_in}
 use Rattle.yq_cut.proofs.seams.TailLaws.{comment_closed, no_end_return, content_tail, tail_pairs}
 use Rattle.yq_documents.specs.Documents.{HaveFitKeys, HasShortRoot}
 use Rattle.yq_lines.specs.Group.{level_or}
-use Rattle.yq_lines.specs.Lines.{mark_line, lines_of}
+use Rattle.yq_lines.specs.Lines.{mark_line, lines_of_rows}
 use Rattle.yq_lines.specs.Lines as lines
 use Rattle.yq_lines.specs.Outline.{Line, flatten}
 use Rattle.yq_lines.specs.Places.{lines_before, lines_after}
-use Rattle.yq_documents.specs.Reading.{outline_of}
+use Rattle.yq_documents.specs.Reading.{part_outline}
 use Rattle.yq_row_places.specs.RowPaths.{IsReadable}
 use Rattle.yq_lines.proofs.Decides.{flatten-group}
 use Rattle.yq_lines.proofs.HeadLaws.{end_no_hash}
@@ -127,25 +127,25 @@ last_comment t c k p front new r break old cut takes =
 pub end_of_text_appended : EndAppended
 end_of_text_appended t c k p steps h front new r break m l u old there_is size w takes text =
     let known = document_known t c k p old in
-    let o = outline_of p in
+    let o = part_outline p in
     let q : Part = closed_with front r break new p in
     let cut = end_cut t c k p front new r break old known.cut takes text in
     let comment = last_comment t c k p front new r break old known.cut takes in
     let tail : List ℕ = tail_behind r.content ++ break in
     let there : q.rows ≡ front ++ (closed_by break r ∷ new) = ap (λ (rs : List Row). front ++ (closed_by break r ∷ rs)) (append-nil new) in
-    let stays : (back : List Row) → lines_of (front ++ (closed_by break r ∷ back)) ≡ lines_of (front ++ (r ∷ back)) =
+    let stays : (back : List Row) → lines_of_rows (front ++ (closed_by break r ∷ back)) ≡ lines_of_rows (front ++ (r ∷ back)) =
     λ back. last_lines front r back (with_tail tail r.content)
-    ∙ (ap (λ (x : Line). (lines_of front ++ dash_lines (head_comment r.gap) r.column r.dashes) ++ (x ∷ lines_of back))
+    ∙ (ap (λ (x : Line). (lines_of_rows front ++ dash_lines (head_comment r.gap) r.column r.dashes) ++ (x ∷ lines_of_rows back))
     (line_stays (above_mark (head_comment r.gap) r.dashes) (mark_column r) r.mark r.content tail takes.takes.inline comment)
     ∙ sym (last_lines front r back r.content)) in
     let olds : flatten o ≡ put_lines h (flatten h.lines) = (appended (level_or 0 o) m o u l steps h known.even there_is w.fits).0 in
-    let whole : lines_of p.rows ++ ([] ++ []) ≡ (lines_before h.place ++ flatten h.lines) ++ ([] ++ lines_after h.place) =
-    append-nil (lines_of p.rows) ∙ (sym (flatten-group (lines_of p.rows)) ∙ (olds ∙ sym (append_assoc (lines_before h.place) (flatten h.lines) (lines_after h.place)))) in
+    let whole : lines_of_rows p.rows ++ ([] ++ []) ≡ (lines_before h.place ++ flatten h.lines) ++ ([] ++ lines_after h.place) =
+    append-nil (lines_of_rows p.rows) ∙ (sym (flatten-group (lines_of_rows p.rows)) ∙ (olds ∙ sym (append_assoc (lines_before h.place) (flatten h.lines) (lines_after h.place)))) in
     let parts =
-    same_parts (lines_of p.rows) [] [] (lines_before h.place ++ flatten h.lines) [] (lines_after h.place) whole (size ∙ sym (length-append (lines_before h.place) (flatten h.lines))) refl in
-    let split : lines_of (front ++ (r ∷ new)) ≡ lines_of p.rows ++ lines_of new = search (rules, append_assoc, lines_append) in
-    let lines : lines_of q.rows ≡ put_lines h (flatten h.lines ++ (l ∷ flatten u)) =
-    ap lines_of there ∙ (stays new ∙ (split ∙ ((λ i. parts.0 i ++ w.lines i)
+    same_parts (lines_of_rows p.rows) [] [] (lines_before h.place ++ flatten h.lines) [] (lines_after h.place) whole (size ∙ sym (length-append (lines_before h.place) (flatten h.lines))) refl in
+    let split : lines_of_rows (front ++ (r ∷ new)) ≡ lines_of_rows p.rows ++ lines_of_rows new = search (rules, append_assoc, lines_append) in
+    let lines : lines_of_rows q.rows ≡ put_lines h (flatten h.lines ++ (l ∷ flatten u)) =
+    ap lines_of_rows there ∙ (stays new ∙ (split ∙ ((λ i. parts.0 i ++ w.lines i)
     ∙ (ap (λ (x : List Line). (lines_before h.place ++ flatten h.lines) ++ x) (sym (append-nil (l ∷ flatten u)) ∙ ap (λ (x : List Line). (l ∷ flatten u) ++ x) parts.2)
     ∙ around (lines_before h.place) (flatten h.lines) (l ∷ flatten u) (lines_after h.place))))) in
     let keys =

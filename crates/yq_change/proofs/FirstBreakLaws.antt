@@ -75,12 +75,12 @@ break_last : (xs ys : List PrintedLine) → (ys ≡ [] → ⊥) → lines_break 
 break_last xs [] some = absurd (some refl)
 break_last xs (y ∷ ys) some = break_behind xs y ys
 
-from_break : (gap spaces : List ℕ) (column : ℕ) (ns : List ℕ) (m : rows.Mark) (c : Content) → lines_break (printed_from gap spaces column ns m c) ≡ end_break c
+from_break : (gap spaces : List ℕ) (column : ℕ) (ns : List ℕ) (m : rows.RowMark) (c : Content) → lines_break (printed_from gap spaces column ns m c) ≡ end_break c
 from_break gap spaces column [] m c = refl
 from_break gap spaces column (n ∷ []) m c = refl
 from_break gap spaces column (n ∷ (k ∷ ns)) m c = from_break [] [] _ (k ∷ ns) m c
 
-from_some : (gap spaces : List ℕ) (column : ℕ) (ns : List ℕ) (m : rows.Mark) (c : Content) (z : List PrintedLine) → printed_from gap spaces column ns m c ++ z ≡ [] → ⊥
+from_some : (gap spaces : List ℕ) (column : ℕ) (ns : List ℕ) (m : rows.RowMark) (c : Content) (z : List PrintedLine) → printed_from gap spaces column ns m c ++ z ≡ [] → ⊥
 from_some gap spaces column [] m c z e = cc
 from_some gap spaces column (n ∷ ns) m c z e = cc
 

@@ -1,10 +1,10 @@
 -- The text without the first item or entry of a compact collection, and what it reads as.
 use Rattle.std.proofs.Common.{◌≡◌, ℕ, zero, suc, ◌+◌, ◌&&◌, eqb, Bool, true, false, cond, List, [], ◌∷◌, ◌++◌, length, replicate, take, drop, refl, sym, ap, ◌∙◌, arith, append_assoc, append-nil, rules}
-use Rattle.yq_flow_scalars.specs.Paths.{Step, change, remove_child, within}
+use Rattle.yq_flow_scalars.specs.Paths.{Step, changed_at, remove_child, within}
 use Rattle.yq_flow_scalars.specs.Text.{cut, no_space}
 use Rattle.yq_flow_scalars.specs.Anchors.{names_of}
 use Rattle.yq_lines.specs.Comments.{head_comment}
-use Rattle.yq_lines.specs.Places.{plug, FoundLine, content}
+use Rattle.yq_lines.specs.Places.{plug, FoundLine, content_under}
 use Rattle.yq_cut.specs.Grammar.{IsRow, Limit, unlimited, AreRows}
 use Rattle.yq_cut.specs.Reading.{cut_gap, begins_gap}
 use Rattle.yq_cut.specs.Rows.{Row, behind_columns, behind_dashes, behind_gap, behind_indent, dashes_text, print_row, rows_text, Part, part_text, Cut, cut_text}
@@ -16,8 +16,8 @@ use Rattle.yq_cut.proofs.splices.SpliceTexts.{own_gap, own_end}
 use Rattle.yq_cut.proofs.seams.JoinLaws.{dashes_text-append}
 use Rattle.yq_documents.specs.Documents.{lead_of}
 use Rattle.yq_row_places.specs.FirstPlaces.{are_spaces, less_spaces}
-use Rattle.yq_lines.specs.Lines.{lines_from, lines_of}
-use Rattle.yq_documents.specs.Reading.{outline_of, root_of}
+use Rattle.yq_lines.specs.Lines.{lines_from, lines_of_rows}
+use Rattle.yq_documents.specs.Reading.{part_outline, root_of}
 use Rattle.yq_lines.proofs.RowLaws.{no_comments}
 use Rattle.yq_row_places.specs.RowPaths.{IsReadable}
 use Rattle.yq_row_places.proofs.RemovalTexts.{texts_then}
@@ -26,7 +26,7 @@ use Rattle.yq_change.specs.BlockChanges.{AreCounted}
 use Rattle.yq_change.specs.Changed.{IsChanged, put_document}
 use Rattle.yq_change.specs.Conditions.{AreSpared}
 use Rattle.yq_change.specs.DocumentRows.{IsDocumentPart, behind_document}
-use Rattle.yq_change.specs.Moved.{emptied, moved_up}
+use Rattle.yq_change.specs.Moved.{emptied_row, moved_up}
 use Rattle.yq_change.specs.Siblings.{HasEntries, IsEntryAt, NodeLines}
 use Rattle.yq_change.proofs.FirstBreakLaws.{IsOneBreak, break_apart, break_bare, break_tail}
 use Rattle.yq_change.proofs.FirstReplaceLaws.{MovedFits, dropped_replaces, moved_replaces}
@@ -56,7 +56,7 @@ row_from r ns es u e = search (rules, dashes_text-append, front_then)
 pub moved_text : (r b : Row) (ns u : List ℕ) → print_row (moved_up r ns b) u ≡ dashes_front r ns ++ behind_indent b u
 moved_text r b ns u = ap (λ (x : List ℕ). r.gap ++ (replicate r.column 32 ++ x)) (dashes_text-append ns b.dashes (behind_dashes b u)) ∙ front_then r ns (behind_indent b u)
 
-pub dropped_text : (r : Row) (ns tail u : List ℕ) → print_row (emptied r ns tail) u ≡ dashes_front r ns ++ (45 ∷ (tail ++ u))
+pub dropped_text : (r : Row) (ns tail u : List ℕ) → print_row (emptied_row r ns tail) u ≡ dashes_front r ns ++ (45 ∷ (tail ++ u))
 dropped_text r ns tail u = front_then r ns (45 ∷ (tail ++ u))
 
 -- what ends in a dash and spaces
@@ -106,26 +106,26 @@ no_gap limit b u h none =
 
 -- ---- what the text reads as
 
-module _ (t : List ℕ) (c : Cut) (k : ℕ) (p : Part) (ss : List Step) (s : Step) (h : NodeLines) (f : FoundLine) (old : IsDocumentPart t c k p) (entry : IsEntryAt ss s (outline_of p) h f)
+module _ (t : List ℕ) (c : Cut) (k : ℕ) (p : Part) (ss : List Step) (s : Step) (h : NodeLines) (f : FoundLine) (old : IsDocumentPart t c k p) (entry : IsEntryAt ss s (part_outline p) h f)
     (left : HasEntries (plug f.place f.after))
-    (spared : AreSpared (names_of (content f.line f.under)) [] (names_of (root_of p))) (front gone back : List Row) (r : Row) where
+    (spared : AreSpared (names_of (content_under f.line f.under)) [] (names_of (root_of p))) (front gone back : List Row) (r : Row) where
   are : AreRows unlimited p.rows p.end (behind_document k c)
   are = part_rows t c k p old (document_known t c k p old).cut
 
   pub moved_changed : (b : Row) (ns es : List ℕ) → p.rows ≡ front ++ (r ∷ (gone ++ (b ∷ back))) → MovedFits r b ns es → b.gap ≡ [] →
-      AreCounted h f (length (lines_of front) + length ns) (length (lines_from [] (behind_columns r.column ns) es r.mark r.content ++ lines_of gone)) →
+      AreCounted h f (length (lines_of_rows front) + length ns) (length (lines_from [] (behind_columns r.column ns) es r.mark r.content ++ lines_of_rows gone)) →
       IsReadable (cut_text (put_document k (inserted front (moved_up r ns b ∷ []) back p) c)) →
-      IsChanged c (put_document k (inserted front (moved_up r ns b ∷ []) back p) c) k (lead_of (inserted front (moved_up r ns b ∷ []) back p)) (change ss (within (remove_child s)))
+      IsChanged c (put_document k (inserted front (moved_up r ns b ∷ []) back p) c) k (lead_of (inserted front (moved_up r ns b ∷ []) back p)) (changed_at ss (within (remove_child s)))
   moved_changed b [] es rows fits bare counts text = absurd (let some = fits.some in omega (arith, some))
   moved_changed b (n ∷ ns) es rows fits bare counts text =
       first_row_moved t c k p ss s h f front gone back r b n ns es old entry left (moved_replaces p front gone back r b (n ∷ ns) es (behind_document k c) are rows fits)
       (record { dashes = fits.dashes; column = fits.column; bare = ap head_comment bare ∙ no_comments })
-      (record { before_are = counts.before_are; size_is = ap (λ (j : ℕ). length (lines_from [] j es r.mark r.content ++ lines_of gone)) fits.column ∙ counts.size_is }) spared text
+      (record { before_are = counts.before_are; size_is = ap (λ (j : ℕ). length (lines_from [] j es r.mark r.content ++ lines_of_rows gone)) fits.column ∙ counts.size_is }) spared text
 
   pub dropped_changed : (ns es tail : List ℕ) (n : ℕ) → p.rows ≡ front ++ (r ∷ (gone ++ back)) → r.dashes ≡ (ns ++ (n ∷ [])) ++ es → IsOneBreak tail →
-      AreCounted h f (length (lines_of front) + length (ns ++ (n ∷ []))) (length (lines_from [] (behind_columns r.column (ns ++ (n ∷ []))) es r.mark r.content ++ lines_of gone)) →
-      IsReadable (cut_text (put_document k (inserted front (emptied r ns tail ∷ []) back p) c)) →
-      IsChanged c (put_document k (inserted front (emptied r ns tail ∷ []) back p) c) k (lead_of (inserted front (emptied r ns tail ∷ []) back p)) (change ss (within (remove_child s)))
+      AreCounted h f (length (lines_of_rows front) + length (ns ++ (n ∷ []))) (length (lines_from [] (behind_columns r.column (ns ++ (n ∷ []))) es r.mark r.content ++ lines_of_rows gone)) →
+      IsReadable (cut_text (put_document k (inserted front (emptied_row r ns tail ∷ []) back p) c)) →
+      IsChanged c (put_document k (inserted front (emptied_row r ns tail ∷ []) back p) c) k (lead_of (inserted front (emptied_row r ns tail ∷ []) back p)) (changed_at ss (within (remove_child s)))
   dropped_changed ns es tail n rows dashes one counts text =
       first_row_dropped t c k p ss s h f front gone back r n ns es tail old entry left
       (dropped_replaces p front gone back r n ns es tail (behind_document k c) are rows

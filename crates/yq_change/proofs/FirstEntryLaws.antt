@@ -12,12 +12,12 @@ use Rattle.yq_lines.proofs.Values.{rank_small}
 use Rattle.yq_cut.specs.Grammar.{AreDashes, is_entry}
 use Rattle.yq_cut.specs.Rows as rows
 use Rattle.yq_cut.specs.Rows.{Content, Row, behind_columns, Part}
-use Rattle.yq_lines.specs.Lines.{dash_line, lines_from, row_lines, lines_of}
-use Rattle.yq_documents.specs.Reading.{outline_of}
+use Rattle.yq_lines.specs.Lines.{dash_line, lines_from, row_lines, lines_of_rows}
+use Rattle.yq_documents.specs.Reading.{part_outline}
 use Rattle.yq_documents.specs.LinesInRows.{RowLine, row_line}
 use Rattle.yq_lines.proofs.RowLaws.{no_comments}
 use Rattle.yq_row_places.proofs.UnderExchange.{lines_append}
-use Rattle.yq_change.specs.LineRows.{Begins, StandApart, InRows, IsRowLine, line_number, lines_behind}
+use Rattle.yq_change.specs.LineRows.{Begins, StandApart, InRows, IsRowLine, lines_before_entry, lines_behind}
 use Rattle.yq_change.specs.Moved.{dash_lines}
 use Rattle.yq_change.specs.Siblings.{IsEntry, HasEntries, IsEntryAt, NodeLines}
 use Rattle.yq_change.proofs.ApartLaws.{Stood, row_stood, entries_apart, first_level, row_begins}
@@ -31,7 +31,7 @@ use Rattle.yq_change.proofs.AppendLaws.{first_column}
 -- ---- the lines of dashes
 
 -- the lines of dashes, and those behind them
-pub dashes_first : (above : List (List ℕ)) (column : ℕ) (ns es : List ℕ) (m : rows.Mark) (c : Content) → 0 < length ns →
+pub dashes_first : (above : List (List ℕ)) (column : ℕ) (ns es : List ℕ) (m : rows.RowMark) (c : Content) → 0 < length ns →
     lines_from above column (ns ++ es) m c ≡ dash_lines above column ns ++ lines_from [] (behind_columns column ns) es m c
 dashes_first above column [] es m c h = absurd (omega (arith, h))
 dashes_first above column (n ∷ []) es m c h = refl
@@ -43,7 +43,7 @@ apart_last (x ∷ []) l z h = h
 apart_last (x ∷ (y ∷ a)) l z h = apart_last (y ∷ a) l z h
 
 -- what stands behind a dash is deeper
-apart_dashes : (a : List Line) (above : List (List ℕ)) (column : ℕ) (ns es : List ℕ) (m : rows.Mark) (c : Content) (rest : List Line) → 0 < length ns →
+apart_dashes : (a : List Line) (above : List (List ℕ)) (column : ℕ) (ns es : List ℕ) (m : rows.RowMark) (c : Content) (rest : List Line) → 0 < length ns →
     StandApart (a ++ dash_lines above column ns) (lines_from [] (behind_columns column ns) es m c ++ rest) → ⊥
 unfolding level
 apart_dashes a above column [] es m c rest some h = absurd (omega (arith, some))
@@ -56,7 +56,7 @@ apart_dashes a above column (n ∷ (k ∷ ns)) es m c rest some h =
     (subst (λ (x : List Line). StandApart x (lines_from [] (behind_columns column (n ∷ (k ∷ ns))) es m c ++ rest))
     (sym (append_assoc a (dash_line above column ∷ []) (dash_lines [] (suc (column + n)) (k ∷ ns)))) h)
 
-first_entry : (above : List (List ℕ)) (column : ℕ) (ns : List ℕ) (m : rows.Mark) (c : Content) (rest : List Line) (l : Line) (ls : List Line) → lines_from above column ns m c ++ rest ≡ l ∷ ls →
+first_entry : (above : List (List ℕ)) (column : ℕ) (ns : List ℕ) (m : rows.RowMark) (c : Content) (rest : List Line) (l : Line) (ls : List Line) → lines_from above column ns m c ++ rest ≡ l ∷ ls →
     AreDashes ns m → IsEntry l.mark →
     is_entry m ≡ true
 first_entry above column [] m c rest l ls e d h = search (rules, subst (λ (x : Line). IsEntry x.mark) (sym (head-eq_of_cons-eq e)) h)
@@ -98,13 +98,13 @@ pub record FirstRows (p : Part) (h : NodeLines) (f : FoundLine) (q : RowLine) : 
   pub rows_are : p.rows ≡ front ++ (q.row ∷ (gone ++ (next ∷ back)))
   pub number : length front ≡ q.before
   pub within : q.line ≤ length q.row.dashes
-  pub before : length (lines_of front) + length (take q.line q.row.dashes) ≡ length (lines_before h.place) + length (lines_before f.place)
-  pub size : length (lines_from [] (behind_columns q.row.column (take q.line q.row.dashes)) (drop q.line q.row.dashes) q.row.mark q.row.content ++ lines_of gone) ≡ length (f.line ∷ flatten f.under)
+  pub before : length (lines_of_rows front) + length (take q.line q.row.dashes) ≡ length (lines_before h.place) + length (lines_before f.place)
+  pub size : length (lines_from [] (behind_columns q.row.column (take q.line q.row.dashes)) (drop q.line q.row.dashes) q.row.mark q.row.content ++ lines_of_rows gone) ≡ length (f.line ∷ flatten f.under)
   pub column : next.column ≡ behind_columns q.row.column (take q.line q.row.dashes)
   pub entry : AreDashes next.dashes next.mark → is_entry next.mark ≡ true
 
-module _ (p : Part) (m : ℕ) (ss : List Step) (s : Step) (h : NodeLines) (f : FoundLine) (q : RowLine) (even : IsEven m (outline_of p)) (entry : IsEntryAt ss s (outline_of p) h f)
-    (is : row_line (line_number h f) p.rows ≡ Some q) (later : 0 < q.line) (left : HasEntries (plug f.place f.after)) where
+module _ (p : Part) (m : ℕ) (ss : List Step) (s : Step) (h : NodeLines) (f : FoundLine) (q : RowLine) (even : IsEven m (part_outline p)) (entry : IsEntryAt ss s (part_outline p) h f)
+    (is : row_line (lines_before_entry h f) p.rows ≡ Some q) (later : 0 < q.line) (left : HasEntries (plug f.place f.after)) where
   abbrev r : Row
   r = q.row
 
@@ -120,8 +120,8 @@ module _ (p : Part) (m : ℕ) (ss : List Step) (s : Step) (h : NodeLines) (f : F
   abbrev e : List Line
   e = f.line ∷ flatten f.under
 
-  w : IsRowLine (line_number h f) p.rows q
-  w = row_line_splits (line_number h f) p.rows q is
+  w : IsRowLine (lines_before_entry h f) p.rows q
+  w = row_line_splits (lines_before_entry h f) p.rows q is
 
   ns_size : length ns ≡ q.line
   ns_size = length-take-le q.line r.dashes w.less
@@ -132,25 +132,25 @@ module _ (p : Part) (m : ℕ) (ss : List Step) (s : Step) (h : NodeLines) (f : F
       ∙ dashes_first (head_comment r.gap) r.column ns es r.mark r.content (omega (arith, ns_size, later))
 
   abbrev a : List Line
-  a = lines_of w.front ++ dash_lines (head_comment r.gap) r.column ns
+  a = lines_of_rows w.front ++ dash_lines (head_comment r.gap) r.column ns
 
   abbrev b : List Line
   b = lines_before h.place ++ lines_before f.place
 
-  a_size : length a ≡ length (lines_of w.front) + length ns
-  a_size = omega (arith, length-append (lines_of w.front) (dash_lines (head_comment r.gap) r.column ns), dashes_count (head_comment r.gap) r.column ns)
+  a_size : length a ≡ length (lines_of_rows w.front) + length ns
+  a_size = omega (arith, length-append (lines_of_rows w.front) (dash_lines (head_comment r.gap) r.column ns), dashes_count (head_comment r.gap) r.column ns)
 
-  before_is : length (lines_of w.front) + length ns ≡ length (lines_before h.place) + length (lines_before f.place)
+  before_is : length (lines_of_rows w.front) + length ns ≡ length (lines_before h.place) + length (lines_before f.place)
   before_is = omega (arith, w.lines, ns_size)
 
   -- the lines of the row, cut behind the dashes
-  parts : (a ≡ b) × (lines_from [] column es r.mark r.content ++ lines_of w.back ≡ e ++ lines_behind h f)
+  parts : (a ≡ b) × (lines_from [] column es r.mark r.content ++ lines_of_rows w.back ≡ e ++ lines_behind h f)
   parts =
-      let x = same_parts a [] (lines_from [] column es r.mark r.content ++ lines_of w.back) b [] (e ++ lines_behind h f)
-      (append_assoc (lines_of w.front) (dash_lines (head_comment r.gap) r.column ns) (lines_from [] column es r.mark r.content ++ lines_of w.back)
-      ∙ (ap (λ (x : List Line). lines_of w.front ++ x)
-      (sym (append_assoc (dash_lines (head_comment r.gap) r.column ns) (lines_from [] column es r.mark r.content) (lines_of w.back)) ∙ ap (λ (x : List Line). x ++ lines_of w.back) (sym row_is))
-      ∙ (sym (lines_append w.front (r ∷ w.back)) ∙ (ap lines_of (sym w.rows_are) ∙ lines_are p m ss s h f even entry))))
+      let x = same_parts a [] (lines_from [] column es r.mark r.content ++ lines_of_rows w.back) b [] (e ++ lines_behind h f)
+      (append_assoc (lines_of_rows w.front) (dash_lines (head_comment r.gap) r.column ns) (lines_from [] column es r.mark r.content ++ lines_of_rows w.back)
+      ∙ (ap (λ (x : List Line). lines_of_rows w.front ++ x)
+      (sym (append_assoc (dash_lines (head_comment r.gap) r.column ns) (lines_from [] column es r.mark r.content) (lines_of_rows w.back)) ∙ ap (λ (x : List Line). x ++ lines_of_rows w.back) (sym row_is))
+      ∙ (sym (lines_append w.front (r ∷ w.back)) ∙ (ap lines_of_rows (sym w.rows_are) ∙ lines_are p m ss s h f even entry))))
       (omega (arith, a_size, before_is, length-append (lines_before h.place) (lines_before f.place))) refl in
       (x.0, x.2)
 
@@ -161,13 +161,13 @@ module _ (p : Part) (m : ℕ) (ss : List Step) (s : Step) (h : NodeLines) (f : F
       go [] e = e
       go (y ∷ x) some =
           let none : lines_before f.place ≡ [] → ⊥ = λ e. (let n : y ∷ x ≡ [] = sym some ∙ e in cc) in
-          let apart : StandApart b (e ++ lines_behind h f) = (entries_apart m (outline_of p) ss s h f even entry).begin none in
-          absurd (apart_dashes (lines_of w.front) (head_comment r.gap) r.column ns es r.mark r.content (lines_of w.back) (omega (arith, ns_size, later))
-          (subst (λ (x : List Line). StandApart x (lines_from [] column es r.mark r.content ++ lines_of w.back)) (sym parts.0) (subst (StandApart b) (sym parts.1) apart)))
+          let apart : StandApart b (e ++ lines_behind h f) = (entries_apart m (part_outline p) ss s h f even entry).begin none in
+          absurd (apart_dashes (lines_of_rows w.front) (head_comment r.gap) r.column ns es r.mark r.content (lines_of_rows w.back) (omega (arith, ns_size, later))
+          (subst (λ (x : List Line). StandApart x (lines_from [] column es r.mark r.content ++ lines_of_rows w.back)) (sym parts.0) (subst (StandApart b) (sym parts.1) apart)))
 
   next_is : NextLine f
   next_is =
-      let deep = lines_even m (outline_of p) ss h even entry.place_is entry.block in
+      let deep = lines_even m (part_outline p) ss h even entry.place_is entry.block in
       let stood = at (Stood (level_or 0 h.lines)) (find_row s h.lines) f entry.found (row_stood s (level_or 0 h.lines) h.lines deep.1) in
       next_line (level_or 0 h.lines) f stood.even (subst HasEntries (plug_first f.place f.after first_place) left)
 
@@ -180,11 +180,11 @@ module _ (p : Part) (m : ℕ) (ss : List Step) (s : Step) (h : NodeLines) (f : F
 
   cut : InRows (rest ∷ w.back) e (lines_behind h f)
   cut =
-      row_begins (rest ∷ w.back) e (lines_behind h f) (ap (λ (x : List Line). x ++ lines_of w.back) rest_lines ∙ parts.1)
-      (apart_later b e (lines_behind h f) (λ none. cc) (entries_apart m (outline_of p) ss s h f even entry).end)
+      row_begins (rest ∷ w.back) e (lines_behind h f) (ap (λ (x : List Line). x ++ lines_of_rows w.back) rest_lines ∙ parts.1)
+      (apart_later b e (lines_behind h f) (λ none. cc) (entries_apart m (part_outline p) ss s h f even entry).end)
 
   line_column : f.line.column ≡ column
-  line_column = first_column [] column es r.mark r.content (lines_of w.back) f.line (flatten f.under ++ lines_behind h f) parts.1
+  line_column = first_column [] column es r.mark r.content (lines_of_rows w.back) f.line (flatten f.under ++ lines_behind h f) parts.1
 
   pub first_rows : FirstRows p h f q
   first_rows = go cut.front cut.back cut.rows_are cut.front_lines cut.back_lines
@@ -192,9 +192,9 @@ module _ (p : Part) (m : ℕ) (ss : List Step) (s : Step) (h : NodeLines) (f : F
       behind_is : lines_behind h f ≡ next_is.line ∷ (((flatten next_is.under ++ flatten next_is.after) ++ lines_after f.place) ++ lines_after h.place)
       behind_is = ap (λ (o : Outline). (flatten o ++ lines_after f.place) ++ lines_after h.place) next_is.is
 
-      found : (gone : List Row) (next : Row) (back : List Row) → w.back ≡ gone ++ (next ∷ back) → row_lines rest ++ lines_of gone ≡ e → lines_of (next ∷ back) ≡ lines_behind h f → FirstRows p h f q
+      found : (gone : List Row) (next : Row) (back : List Row) → w.back ≡ gone ++ (next ∷ back) → row_lines rest ++ lines_of_rows gone ≡ e → lines_of_rows (next ∷ back) ≡ lines_behind h f → FirstRows p h f q
       found gone next back is own behind =
-          let first : row_lines next ++ lines_of back ≡ next_is.line ∷ (((flatten next_is.under ++ flatten next_is.after) ++ lines_after f.place) ++ lines_after h.place) = behind ∙ behind_is in
+          let first : row_lines next ++ lines_of_rows back ≡ next_is.line ∷ (((flatten next_is.under ++ flatten next_is.after) ++ lines_after f.place) ++ lines_after h.place) = behind ∙ behind_is in
           record {
             front = w.front;
             gone = gone;
@@ -204,13 +204,13 @@ module _ (p : Part) (m : ℕ) (ss : List Step) (s : Step) (h : NodeLines) (f : F
             number = w.before;
             within = w.less;
             before = before_is;
-            size = ap length (ap (λ (x : List Line). x ++ lines_of gone) (sym rest_lines) ∙ own);
-            column = sym (first_column (head_comment next.gap) next.column next.dashes next.mark next.content (lines_of back) next_is.line _ first)
+            size = ap length (ap (λ (x : List Line). x ++ lines_of_rows gone) (sym rest_lines) ∙ own);
+            column = sym (first_column (head_comment next.gap) next.column next.dashes next.mark next.content (lines_of_rows back) next_is.line _ first)
                 ∙ (same_column next_is.line f.line next_is.level_is ∙ line_column);
-            entry = λ d. first_entry (head_comment next.gap) next.column next.dashes next.mark next.content (lines_of back) next_is.line _ first d next_is.entry;
+            entry = λ d. first_entry (head_comment next.gap) next.column next.dashes next.mark next.content (lines_of_rows back) next_is.line _ first d next_is.entry;
           }
 
-      go : (front back : List Row) → rest ∷ w.back ≡ front ++ back → lines_of front ≡ e → lines_of back ≡ lines_behind h f → FirstRows p h f q
+      go : (front back : List Row) → rest ∷ w.back ≡ front ++ back → lines_of_rows front ≡ e → lines_of_rows back ≡ lines_behind h f → FirstRows p h f q
       go [] back is own behind = absurd (cc)
       go (v ∷ gone) [] is own behind = let none : [] ≡ next_is.line ∷ _ = behind ∙ behind_is in absurd (cc)
-      go (v ∷ gone) (next ∷ back) is own behind = found gone next back (tail-eq_of_cons-eq is) (ap (λ (x : Row). row_lines x ++ lines_of gone) (head-eq_of_cons-eq is) ∙ own) behind
+      go (v ∷ gone) (next ∷ back) is own behind = found gone next back (tail-eq_of_cons-eq is) (ap (λ (x : Row). row_lines x ++ lines_of_rows gone) (head-eq_of_cons-eq is) ∙ own) behind

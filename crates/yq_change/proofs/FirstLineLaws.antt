@@ -7,7 +7,7 @@ use Rattle.yq_lines.specs.Group.{group}
 use Rattle.yq_lines.specs.Outline.{Line}
 use Rattle.yq_cut.specs.Rows as rows
 use Rattle.yq_cut.specs.Rows.{Content, Row}
-use Rattle.yq_lines.specs.Lines.{lines_from, lines_of}
+use Rattle.yq_lines.specs.Lines.{lines_from, lines_of_rows}
 use Rattle.yq_change.specs.Siblings.{HasEntries}
 use Rattle.yq_change.proofs.FirstBreakLaws.{IsOneBreak}
 use Rattle.yq_change.proofs.RemovalChangeLaws.{FirstEntry}
@@ -16,16 +16,16 @@ pub entries_first : (ls : List Line) → HasEntries (group ls) → FirstEntry ls
 entries_first [] h = h
 entries_first (l ∷ ls) h = h
 
-from_first : (above : List (List ℕ)) (column : ℕ) (ns : List ℕ) (m : rows.Mark) (c : Content) (x y : List Line) → FirstEntry (lines_from above column ns m c ++ x) →
+from_first : (above : List (List ℕ)) (column : ℕ) (ns : List ℕ) (m : rows.RowMark) (c : Content) (x y : List Line) → FirstEntry (lines_from above column ns m c ++ x) →
     FirstEntry (lines_from above column ns m c ++ y)
 from_first above column [] m c x y h = h
 from_first above column (n ∷ ns) m c x y h = h
 
-pub first_stays : (front old new : List Row) → FirstEntry (lines_of (front ++ old)) → FirstEntry (lines_of new) → FirstEntry (lines_of (front ++ new))
+pub first_stays : (front old new : List Row) → FirstEntry (lines_of_rows (front ++ old)) → FirstEntry (lines_of_rows new) → FirstEntry (lines_of_rows (front ++ new))
 first_stays [] old new h k = k
-first_stays (r ∷ front) old new h k = from_first _ r.column r.dashes r.mark r.content (lines_of (front ++ old)) (lines_of (front ++ new)) h
+first_stays (r ∷ front) old new h k = from_first _ r.column r.dashes r.mark r.content (lines_of_rows (front ++ old)) (lines_of_rows (front ++ new)) h
 
-pub dashes_first : (above : List (List ℕ)) (column : ℕ) (ns ms : List ℕ) (m : rows.Mark) (c : Content) (x : List Line) → 0 < length ns → FirstEntry (lines_from above column (ns ++ ms) m c ++ x)
+pub dashes_first : (above : List (List ℕ)) (column : ℕ) (ns ms : List ℕ) (m : rows.RowMark) (c : Content) (x : List Line) → 0 < length ns → FirstEntry (lines_from above column (ns ++ ms) m c ++ x)
 dashes_first above column [] ms m c x h = absurd (omega (arith, h))
 dashes_first above column (n ∷ ns) ms m c x h = tt
 

@@ -8,13 +8,13 @@ use Rattle.yq_flow_scalars.specs.Paths.{Step}
 use Rattle.yq_flow_scalars.specs.Text.{cut, cut_line, no_space, upto, line_len}
 use Rattle.yq_flow_scalars.proofs.Bools.{bind_some}
 use Rattle.yq_nodes.proofs.Binds.{not_then}
-use Rattle.yq_lines.specs.Ends.{line_of}
+use Rattle.yq_lines.specs.Ends.{line_at_steps}
 use Rattle.yq_cut.specs.Rows.{Part, Cut, cut_text}
 use Rattle.yq_cut.specs.Reading.{begins_gap}
 use Rattle.yq_documents.specs.declared.path.Part.TheVariants.{Entry}
 use Rattle.yq_documents.specs.Documents.{document_parts}
 use Rattle.yq_row_places.specs.FirstPlaces.{less_spaces, end_spaces, FirstOut, first_out, first_entry, first_removal}
-use Rattle.yq_lines.specs.Lines.{lines_of}
+use Rattle.yq_lines.specs.Lines.{lines_of_rows}
 use Rattle.yq_row_places.specs.PathPieces.{printed_document, piece_in}
 use Rattle.yq_documents.specs.Pieces.{TextPiece}
 use Rattle.yq_documents.specs.LinesInRows.{RowLine, row_line, row_line_of}
@@ -32,7 +32,7 @@ pub record IsFirstOut (c : Cut) (k : ℕ) (steps : List Step) (x : FirstOut) : T
   pub part : Part
   pub there : slice_get (document_parts c) k ≡ Some part
   pub number : ℕ
-  pub line : line_of steps (lines_of part.rows) ≡ Some number
+  pub line : line_at_steps steps (lines_of_rows part.rows) ≡ Some number
   pub row_line : RowLine
   pub row_line_is : Rattle.yq_documents.specs.LinesInRows.row_line number part.rows ≡ Some row_line
   pub later : 0 < row_line.line
@@ -48,7 +48,7 @@ out_is c k steps x e =
     let q = bind_some (slice_get (document_parts c) k >>= λ d. row_line_of steps d.rows) p.1 in
     let g = not_then (eqb q.0.line 0) q.2 in
     let d = bind_some (slice_get (document_parts c) k) q.1 in
-    let n = bind_some (line_of steps (lines_of d.0.rows)) d.2 in
+    let n = bind_some (line_at_steps steps (lines_of_rows d.0.rows)) d.2 in
     record {
       piece = p.0;
       out = p.2;

@@ -6,13 +6,13 @@ use Rattle.std.proofs.lemmas.Str.{IsUtf8-take, is_utf8-from_IsUtf8}
 use Rattle.std.specs.Str.{IsUtf8}
 use Rattle.yq_flow_scalars.specs.Answers.{◌>>=◌}
 use Rattle.yq_text.specs.Limit.{text_limit}
-use Rattle.yq_flow_scalars.specs.Paths.{Step, change, remove_child, within}
+use Rattle.yq_flow_scalars.specs.Paths.{Step, changed_at, remove_child, within}
 use Rattle.yq_flow_scalars.specs.Text.{cut, cut_line, no_space}
 use Rattle.yq_flow_scalars.proofs.Bools.{guard_then}
 use Rattle.yq_flow_scalars.specs.Anchors.{names_of}
-use Rattle.yq_lines.specs.Ends.{line_of}
+use Rattle.yq_lines.specs.Ends.{line_at_steps}
 use Rattle.yq_lines.specs.Group.{group, level_or, is_fine}
-use Rattle.yq_lines.specs.Places.{plug, content}
+use Rattle.yq_lines.specs.Places.{plug, content_under}
 use Rattle.yq_cut.specs.Exchange.{asked_behind}
 use Rattle.yq_cut.specs.Grammar.{unlimited, AreRows, limit_after}
 use Rattle.yq_cut.specs.Rows.{Row, behind_columns, dashes_text, behind_dashes, behind_indent, behind_gap, print_row, rows_text, Part, part_text, Cut, cut_text}
@@ -23,9 +23,9 @@ use Rattle.yq_cut.specs.Reading.{begins_gap}
 use Rattle.yq_documents.specs.declared.path.Part.TheVariants.{Entry}
 use Rattle.yq_documents.specs.Documents.{document_parts, lead_of}
 use Rattle.yq_row_places.specs.FirstPlaces.{less_spaces, end_spaces, FirstOut, first_out, first_removal}
-use Rattle.yq_lines.specs.Lines.{lines_from, lines_of}
+use Rattle.yq_lines.specs.Lines.{lines_from, lines_of_rows}
 use Rattle.yq_row_places.specs.PathPieces.{PrintedDocument, piece_in}
-use Rattle.yq_documents.specs.Reading.{outline_of, read_at, root_of}
+use Rattle.yq_documents.specs.Reading.{part_outline, read_at, root_of}
 use Rattle.yq_row_places.specs.RowPaths.{IsReadable}
 use Rattle.yq_documents.specs.LinesInRows.{RowLine, row_line}
 use Rattle.yq_documents.proofs.PartRows.{each}
@@ -35,7 +35,7 @@ use Rattle.yq_change.specs.Appends.{inserted}
 use Rattle.yq_change.specs.Changed.{IsChanged, put_document}
 use Rattle.yq_change.specs.Conditions.{AreSpared}
 use Rattle.yq_change.specs.DocumentRows.{IsDocumentPart, Known, behind_document}
-use Rattle.yq_change.specs.Moved.{emptied, moved_up}
+use Rattle.yq_change.specs.Moved.{emptied_row, moved_up}
 use Rattle.yq_change.specs.PathRows.{IsEntryLine}
 use Rattle.yq_change.specs.RemovalChanges.{IsTakenOut, MayTakeOut}
 use Rattle.yq_change.specs.Siblings.{HasEntries}
@@ -98,7 +98,7 @@ module _ (c : Cut) (k : ℕ) (y : Step) (ys ss : List Step) (s : Step) (x : Firs
   r = q.row
 
   abbrev m : ℕ
-  m = level_or 0 (outline_of p)
+  m = level_or 0 (part_outline p)
 
   abbrev rest : List ℕ
   rest = behind_document k c
@@ -115,10 +115,10 @@ module _ (c : Cut) (k : ℕ) (y : Step) (ys ss : List Step) (s : Step) (x : Firs
   known : Known t c p
   known = document_known t c k p old
 
-  w : IsEntryLine ss s (outline_of p) e.number
-  w = path_is_entry p m ss s e.number known.even (subst (λ (zs : List Step). line_of zs (lines_of p.rows) ≡ Some e.number) same e.line)
+  w : IsEntryLine ss s (part_outline p) e.number
+  w = path_is_entry p m ss s e.number known.even (subst (λ (zs : List Step). line_at_steps zs (lines_of_rows p.rows) ≡ Some e.number) same e.line)
 
-  go : HasEntries (plug w.f.place w.f.after) × AreSpared (names_of (content w.f.line w.f.under)) [] (names_of (root_of p))
+  go : HasEntries (plug w.f.place w.f.after) × AreSpared (names_of (content_under w.f.line w.f.under)) [] (names_of (root_of p))
   go = may_go t c k p ss s w.h w.f old w.entry may
 
   fr : FirstRows p w.h w.f q
@@ -127,7 +127,7 @@ module _ (c : Cut) (k : ℕ) (y : Step) (ys ss : List Step) (s : Step) (x : Firs
   a : IsAround k c p
   a = around k c p e.there
 
-  fine : is_fine (group (lines_of p.rows)) ≡ true
+  fine : is_fine (group (lines_of_rows p.rows)) ≡ true
   unfolding read_at
   fine = document_fine p (each (document_parts c) (text_takes t c (guard_then _ read).1).1 k p e.there)
 
@@ -195,15 +195,15 @@ module _ (c : Cut) (k : ℕ) (y : Step) (ys ss : List Step) (s : Step) (x : Firs
       (record { before = e.piece.before; space = []; entry = e.piece.text; break = ft.break; indent = (cut no_space next).0; behind = (cut no_space next).1 })
 
   -- a row in the place of others
-  taken : (new : Row) (back : List Row) (u : List ℕ) → cut_text (put_document k (inserted fr.front (new ∷ []) back p) c) ≡ u → FirstEntry (lines_of (new ∷ back)) →
-      IsChanged c (put_document k (inserted fr.front (new ∷ []) back p) c) k (lead_of (inserted fr.front (new ∷ []) back p)) (change ss (within (remove_child s))) → IsTakenOut c k (ss ++ (s ∷ [])) u
+  taken : (new : Row) (back : List Row) (u : List ℕ) → cut_text (put_document k (inserted fr.front (new ∷ []) back p) c) ≡ u → FirstEntry (lines_of_rows (new ∷ back)) →
+      IsChanged c (put_document k (inserted fr.front (new ∷ []) back p) c) k (lead_of (inserted fr.front (new ∷ []) back p)) (changed_at ss (within (remove_child s))) → IsTakenOut c k (ss ++ (s ∷ [])) u
   taken new back u text first changed =
       let n : Part = inserted fr.front (new ∷ []) back p in
-      let block : HasEntries (outline_of p) = root_entries ss (outline_of p) w.h w.entry.place_is w.entry.block in
-      let old_first : FirstEntry (lines_of (fr.front ++ (r ∷ (fr.gone ++ (fr.next ∷ fr.back))))) =
-      subst (λ (rs : List Row). FirstEntry (lines_of rs)) fr.rows_are (entries_first (lines_of p.rows) block) in
-      let new_first : FirstEntry (lines_of n.rows) =
-      subst (λ (rs : List Row). FirstEntry (lines_of (fr.front ++ (new ∷ rs)))) (sym (own_gap back p.end))
+      let block : HasEntries (part_outline p) = root_entries ss (part_outline p) w.h w.entry.place_is w.entry.block in
+      let old_first : FirstEntry (lines_of_rows (fr.front ++ (r ∷ (fr.gone ++ (fr.next ∷ fr.back))))) =
+      subst (λ (rs : List Row). FirstEntry (lines_of_rows rs)) fr.rows_are (entries_first (lines_of_rows p.rows) block) in
+      let new_first : FirstEntry (lines_of_rows n.rows) =
+      subst (λ (rs : List Row). FirstEntry (lines_of_rows (fr.front ++ (new ∷ rs)))) (sym (own_gap back p.end))
       (first_stays fr.front (r ∷ (fr.gone ++ (fr.next ∷ fr.back))) (new ∷ back) old_first first) in
       record {
         old = p;
@@ -212,9 +212,9 @@ module _ (c : Cut) (k : ℕ) (y : Step) (ys ss : List Step) (s : Step) (x : Firs
         rows = keeps p n new_first;
         text = text;
         changed = subst (IsChanged c (put_document k n c) k (lead_of n)) (λ i v. sym (end_is_change remove_child ss s v) i) changed;
-        old_block = group_begins (lines_of p.rows) block;
-        new_block = group_begins (lines_of n.rows) (first_group (lines_of n.rows) new_first);
-        new_entries = first_group (lines_of n.rows) new_first;
+        old_block = group_begins (lines_of_rows p.rows) block;
+        new_block = group_begins (lines_of_rows n.rows) (first_group (lines_of_rows n.rows) new_first);
+        new_entries = first_group (lines_of_rows n.rows) new_first;
       }
 
   -- the text up to the row
@@ -230,7 +230,7 @@ module _ (c : Cut) (k : ℕ) (y : Step) (ys ss : List Step) (s : Step) (x : Firs
   dropped : length (less_spaces e.piece.before ++ e.piece.behind) ≤ text_limit → IsFirstGone c k (ss ++ (s ∷ [])) (either true)
   unfolding taken
   dropped less =
-      let new : Row = emptied r dash.0 ft.break in
+      let new : Row = emptied_row r dash.0 ft.break in
       let back : List Row = fr.next ∷ fr.back in
       let front : less_spaces e.piece.before ≡ upto_dash ++ (45 ∷ []) = ap less_spaces before_is ∙ dash_less upto_dash dash.1 in
       let text : cut_text (put_document k (inserted fr.front (new ∷ []) back p) c) ≡ less_spaces e.piece.before ++ e.piece.behind =
@@ -239,12 +239,12 @@ module _ (c : Cut) (k : ℕ) (y : Step) (ys ss : List Step) (s : Step) (x : Firs
       ∙ (front_text a.start fr.front (dashes_front r dash.0) (45 ∷ (ft.break ++ next)) ∙ (sym (append_assoc upto_dash (45 ∷ []) (ft.break ++ next)) ∙ (λ i. sym front i ++ sym ft.behind i)))) in
       let piece : IsPiece (less_spaces e.piece.before ++ e.piece.behind) = pieces_joined (less_spaces e.piece.before) e.piece.behind (subst IsPiece (sym front) dash_piece) behind_piece in
       let lead : List ℕ = dashes_front r dash.0 ++ (45 ∷ []) in (
-        taken new back _ text (dash_first _ r.column dash.0 new.content (lines_of back))
+        taken new back _ text (dash_first _ r.column dash.0 new.content (lines_of_rows back))
             (dropped_changed t c k p ss s w.h w.f old w.entry go.0 go.1 fr.front fr.gone back r dash.0 es ft.break dash.1 fr.rows_are
             (sym (take-append-drop q.line r.dashes) ∙ ap (λ ds. ds ++ es) dash.2) ft.one
             (record {
-              before_are = ap (λ ds. length (lines_of fr.front) + length ds) (sym dash.2) ∙ fr.before;
-              size_is = ap (λ ds. length (lines_from [] (behind_columns r.column ds) es r.mark r.content ++ lines_of fr.gone)) (sym dash.2) ∙ fr.size;
+              before_are = ap (λ ds. length (lines_of_rows fr.front) + length ds) (sym dash.2) ∙ fr.before;
+              size_is = ap (λ ds. length (lines_from [] (behind_columns r.column ds) es r.mark r.content ++ lines_of_rows fr.gone)) (sym dash.2) ∙ fr.size;
             })
             (readable _ _ text piece less)),
         record {
@@ -292,7 +292,7 @@ module _ (c : Cut) (k : ℕ) (y : Step) (ys ss : List Step) (s : Step) (x : Firs
       let piece : IsPiece (e.piece.before ++ (cut no_space next).1) =
       pieces_joined e.piece.before (cut no_space next).1 before_piece (subst IsPiece (sym after) (piece_back (replicate b.column 32) (behind_indent b u) (spaces_piece b.column).utf8 indented)) in
       let own_next : behind_indent b u ≡ behind_indent b [] ++ u = row_then (record b { gap = []; column = 0 }) [] u in (
-        taken new fr.back _ text (dashes_first _ r.column ns b.dashes b.mark b.content (lines_of fr.back) ns_some)
+        taken new fr.back _ text (dashes_first _ r.column ns b.dashes b.mark b.content (lines_of_rows fr.back) ns_some)
             (moved_changed t c k p ss s w.h w.f old w.entry go.0 go.1 fr.front fr.gone fr.back r b ns es fr.rows_are
             (record { dashes = sym (take-append-drop q.line r.dashes); some = ns_some; column = fr.column; entry = fr.entry }) g.gap (record { before_are = fr.before; size_is = fr.size })
             (readable _ _ text piece less)),
@@ -336,7 +336,7 @@ pub first_gone : (c : Cut) (k : ℕ) (steps : List Step) (x : FirstOut) → read
 first_gone c k steps x read e may size = go steps refl (out_is c k steps x e)
   where
     go : (ts : List Step) → steps ≡ ts → IsFirstOut c k steps x → IsFirstGone c k steps x
-    go [] is h = absurd (let none : None ≡ Some h.number = ap (λ (ts : List Step). line_of ts (lines_of h.part.rows)) (sym is) ∙ h.line in cc)
+    go [] is h = absurd (let none : None ≡ Some h.number = ap (λ (ts : List Step). line_at_steps ts (lines_of_rows h.part.rows)) (sym is) ∙ h.line in cc)
     go (y ∷ ys) is h =
         let v = snoc y ys in
         subst (λ (zs : List Step). IsFirstGone c k zs x) (sym (is ∙ v.2))

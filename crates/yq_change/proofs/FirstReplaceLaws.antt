@@ -13,7 +13,7 @@ use Rattle.yq_cut.proofs.RowPlaces.{takes_place}
 use Rattle.yq_cut.proofs.seams.JoinLaws.{row_dashed, space_apart, dashes_text-append, behind_columns-append}
 use Rattle.yq_cut.proofs.splices.SpliceTexts.{first_is, first_text}
 use Rattle.yq_cut.proofs.PlaceLaws.{first_allowed}
-use Rattle.yq_change.specs.Moved.{emptied, moved_up}
+use Rattle.yq_change.specs.Moved.{emptied_row, moved_up}
 use Rattle.yq_change.specs.Replaces.{RowsReplace}
 
 -- ---- rows among others
@@ -26,11 +26,11 @@ rows_after limit (r ∷ a) b end rest h = rows_after (limit_after r) a b end res
 -- ---- a row behind the first dashes of another
 
 -- dashes before another mark
-dashes_moved : (ns es ms : List ℕ) (old new : rows.Mark) → is_entry new ≡ true → AreDashes (ns ++ es) old → AreDashes ms new → AreDashes (ns ++ ms) new
+dashes_moved : (ns es ms : List ℕ) (old new : rows.RowMark) → is_entry new ≡ true → AreDashes (ns ++ es) old → AreDashes ms new → AreDashes (ns ++ ms) new
 dashes_moved [] es ms old new e h k = k
 dashes_moved (n ∷ ns) es ms old new e h k = (h.0, e, dashes_moved ns es ms old new e h.2 k)
 
-dashes_alike : (ns es t u : List ℕ) (mark : rows.Mark) → 0 < length ns → AreDashes (ns ++ es) mark → Alike (Some false) (dashes_text ns t) (dashes_text ns u)
+dashes_alike : (ns es t u : List ℕ) (mark : rows.RowMark) → 0 < length ns → AreDashes (ns ++ es) mark → Alike (Some false) (dashes_text ns t) (dashes_text ns u)
 dashes_alike [] es t u mark some h = absurd (omega (arith, some))
 dashes_alike (n ∷ ns) es t u mark some h = byte refl refl (space_apart n (dashes_text ns t) h.0) (space_apart n (dashes_text ns u) h.0)
 
@@ -88,7 +88,7 @@ pub record DroppedFits (r : Row) (n : ℕ) (ns es tail : List ℕ) : Type 0 wher
 
 pub dropped_replaces : (p : Part) (front gone back : List Row) (r : Row) (n : ℕ) (ns es tail rest : List ℕ) → AreRows unlimited p.rows p.end rest → p.rows ≡ front ++ (r ∷ (gone ++ back)) →
     DroppedFits r n ns es tail →
-    RowsReplace front (r ∷ gone) (emptied r ns tail ∷ []) back (first_gap back p.end) p rest
+    RowsReplace front (r ∷ gone) (emptied_row r ns tail ∷ []) back (first_gap back p.end) p rest
 dropped_replaces p front gone back r n ns es tail rest h rows f =
     let limit : Limit = asked_behind unlimited front in
     let own : AreRows limit (r ∷ (gone ++ back)) p.end rest = rows_after unlimited front (r ∷ (gone ++ back)) p.end rest (subst (λ (rs : List Row). AreRows unlimited rs p.end rest) rows h) in

@@ -7,7 +7,7 @@ use Rattle.yq_cut.specs.Splices.{first_gap}
 use Rattle.yq_cut.proofs.splices.SpliceTexts.{own_gap}
 use Rattle.yq_documents.specs.Documents.{HaveFitKeys, HasShortRoot, is_long_plain}
 use Rattle.yq_change.specs.Appends.{inserted}
-use Rattle.yq_change.specs.Moved.{emptied, moved_up}
+use Rattle.yq_change.specs.Moved.{emptied_row, moved_up}
 use Rattle.yq_change.specs.Replaces.{FirstRowDropped, FirstRowMoved}
 use Rattle.yq_change.proofs.AnchorLaws.{fit_parts, fit_from}
 use Rattle.yq_change.proofs.BlockChangeLaws.{first_dropped, first_removed}
@@ -45,7 +45,7 @@ first_row_moved t c k p steps s h f front gone back r b n ns es old entry left r
 pub first_row_dropped : FirstRowDropped
 first_row_dropped t c k p steps s h f front gone back r n ns es tail old entry left replaces stays counts spared text =
     let known = document_known t c k p old in
-    let new : Row = emptied r ns tail in
+    let new : Row = emptied_row r ns tail in
     let q : Part = inserted front (new ∷ []) back p in
     let there : q.rows ≡ front ++ (new ∷ back) = ap (λ (rs : List Row). front ++ (new ∷ rs)) (own_gap back p.end) in
     let cut = document_replaced t c k p front (r ∷ gone) back (new ∷ []) (first_gap back p.end) old replaces text in

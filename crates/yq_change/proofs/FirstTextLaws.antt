@@ -8,7 +8,7 @@ use Rattle.yq_flow_scalars.specs.Answers.{◌>>=◌}
 use Rattle.yq_flow_scalars.specs.Paths.{Step}
 use Rattle.yq_flow_scalars.proofs.Bools.{bind_some}
 use Rattle.yq_lines.specs.Comments.{head_comment}
-use Rattle.yq_lines.specs.Ends.{found_line, line_of, lines_end}
+use Rattle.yq_lines.specs.Ends.{found_line, line_at_steps, lines_end}
 use Rattle.yq_lines.specs.Group.{group, is_fine}
 use Rattle.yq_lines.specs.Outline.{flatten}
 use Rattle.yq_lines.specs.Places.{lines_before, FoundLine, find}
@@ -18,7 +18,7 @@ use Rattle.yq_cut.specs.Rows as rows
 use Rattle.yq_cut.specs.Rows.{Content, Nothing, Row, behind_columns, rows_text, Part}
 use Rattle.yq_cut.proofs.seams.FrontSeams.{rows_some}
 use Rattle.yq_documents.specs.declared.path.Part.TheVariants.{Entry}
-use Rattle.yq_lines.specs.Lines.{dash_line, lines_of}
+use Rattle.yq_lines.specs.Lines.{dash_line, lines_of_rows}
 use Rattle.yq_lines.proofs.RowLaws.{lines_count as lines_count_from}
 use Rattle.yq_row_places.specs.PathPieces.{BlockEntry, found_entry, piece_in, piece_in_entry}
 use Rattle.yq_documents.specs.Pieces.{TextPiece}
@@ -29,7 +29,7 @@ use Rattle.yq_row_places.proofs.PrintedLaws.{lines_are}
 use Rattle.yq_row_places.proofs.PrintedTexts.{lines_then, rows_are}
 use Rattle.yq_row_places.proofs.PrintedRowLines.{row_begin, printed_line, row_count}
 use Rattle.yq_row_places.proofs.UnderCounts.{end_is}
-use Rattle.yq_change.specs.LineRows.{line_number}
+use Rattle.yq_change.specs.LineRows.{lines_before_entry}
 use Rattle.yq_change.specs.Siblings.{NodeLines}
 use Rattle.yq_change.proofs.FirstBreakLaws.{IsOneBreak, lines_break, rows_break}
 use Rattle.yq_change.proofs.FirstEntryLaws.{FirstRows}
@@ -42,7 +42,7 @@ printed_parts : (front back : List Row) → printed_lines (front ++ back) ≡ pr
 printed_parts [] back = refl
 printed_parts (r ∷ front) back = ap (λ ls. printed_row r ++ ls) (printed_parts front back) ∙ sym (append_assoc (printed_row r) (printed_lines front) (printed_lines back))
 
-printed_count : (rs : List Row) → length (printed_lines rs) ≡ length (lines_of rs)
+printed_count : (rs : List Row) → length (printed_lines rs) ≡ length (lines_of_rows rs)
 printed_count rs = omega (arith, lines_count (printed_lines rs), ap length (lines_are rs))
 
 -- the line of a dash
@@ -50,12 +50,12 @@ abbrev dash_printed : List ℕ → List ℕ → ℕ → ℕ → PrintedLine
 dash_printed gap spaces column n = record { line = dash_line (head_comment gap) column; gap = gap; spaces = spaces; mark = 45 ∷ replicate n 32; content = Nothing [] }
 
 -- The lines of dashes, before those behind them.
-record DashesPrinted (gap spaces : List ℕ) (column : ℕ) (ns es : List ℕ) (m : rows.Mark) (c : Content) : Type 0 where
+record DashesPrinted (gap spaces : List ℕ) (column : ℕ) (ns es : List ℕ) (m : rows.RowMark) (c : Content) : Type 0 where
   pub lines : List PrintedLine
   pub count : length lines ≡ length ns
   pub is : printed_from gap spaces column (ns ++ es) m c ≡ lines ++ printed_from [] [] (behind_columns column ns) es m c
 
-dashes_printed : (gap spaces : List ℕ) (column : ℕ) (ns es : List ℕ) (m : rows.Mark) (c : Content) → 0 < length ns → DashesPrinted gap spaces column ns es m c
+dashes_printed : (gap spaces : List ℕ) (column : ℕ) (ns es : List ℕ) (m : rows.RowMark) (c : Content) → 0 < length ns → DashesPrinted gap spaces column ns es m c
 dashes_printed gap spaces column [] es m c h = absurd (omega (arith, h))
 dashes_printed gap spaces column (n ∷ []) es m c h = record { lines = dash_printed gap spaces column n ∷ []; count = refl; is = refl }
 dashes_printed gap spaces column (n ∷ (k ∷ ns)) es m c h =
@@ -90,8 +90,8 @@ pub record FirstText (start z : List ℕ) (q : RowLine) (front : List Row) (back
   pub one : IsOneBreak break
   pub behind : x.behind ≡ break ++ rows_text back z
 
-module _ (p : Part) (start rest : List ℕ) (h : NodeLines) (f : FoundLine) (q : RowLine) (fr : FirstRows p h f q) (later : 0 < q.line) (n : ℕ) (number : n ≡ line_number h f)
-    (row_line_is : row_line n p.rows ≡ Some q) (size : lines_end n (lines_of p.rows) - n ≡ length (f.line ∷ flatten f.under)) (fine : is_fine (group (lines_of p.rows)) ≡ true)
+module _ (p : Part) (start rest : List ℕ) (h : NodeLines) (f : FoundLine) (q : RowLine) (fr : FirstRows p h f q) (later : 0 < q.line) (n : ℕ) (number : n ≡ lines_before_entry h f)
+    (row_line_is : row_line n p.rows ≡ Some q) (size : lines_end n (lines_of_rows p.rows) - n ≡ length (f.line ∷ flatten f.under)) (fine : is_fine (group (lines_of_rows p.rows)) ≡ true)
     (are : AreRows unlimited p.rows p.end rest) where
   abbrev ls : List PrintedLine
   ls = printed_lines p.rows
@@ -147,13 +147,13 @@ module _ (p : Part) (start rest : List ℕ) (h : NodeLines) (f : FoundLine) (q :
   entry_at k m l = record { before = start ++ print_lines (take k ls) []; line = l; under = take m (drop (suc k) ls); behind = print_lines (drop m (drop (suc k) ls)) z }
 
   -- a line that was found
-  text_found : (y : Step) (ys : List Step) (g : FoundLine) (l : PrintedLine) → find y ys (group (lines_of p.rows)) ≡ Some (g, []) → length (lines_before g.place) ≡ n → slice_get ls n ≡ Some l →
+  text_found : (y : Step) (ys : List Step) (g : FoundLine) (l : PrintedLine) → find y ys (group (lines_of_rows p.rows)) ≡ Some (g, []) → length (lines_before g.place) ≡ n → slice_get ls n ≡ Some l →
       FirstText start z q fr.front back (run_piece (start ++ print_lines (take n ls) []) l (take (length (flatten g.under)) (drop (suc n) ls))
       (print_lines (drop (length (flatten g.under)) (drop (suc n) ls)) z))
   text_found y ys g l found at there =
       let m : ℕ = length (flatten g.under) in
-      let ends = (end_is (lines_of p.rows) y ys [] g found fine).1 in
-      let ends_at : lines_end n (lines_of p.rows) ≡ suc n + m = subst (λ (k : ℕ). lines_end k (lines_of p.rows) ≡ suc k + m) at ends in
+      let ends = (end_is (lines_of_rows p.rows) y ys [] g found fine).1 in
+      let ends_at : lines_end n (lines_of_rows p.rows) ≡ suc n + m = subst (λ (k : ℕ). lines_end k (lines_of_rows p.rows) ≡ suc k + m) at ends in
       let count : suc m ≡ length own = omega (arith, size, ends_at, own_count) in
       let parts = parts_at above own (printed_lines back) ls n m l (search (rules, printed_parts, take-append-drop, append_assoc)) above_count count there in
       let d = printed_line p.rows n q row_line_is in
@@ -169,15 +169,15 @@ module _ (p : Part) (start rest : List ℕ) (h : NodeLines) (f : FoundLine) (q :
         behind = (λ i. lines_break (parts.0 i) ++ print_lines (parts.1 i) z) ∙ ap (λ (t : List ℕ). lines_break own ++ t) (rows_are back z);
       }
 
-  pub first_text : (y : Step) (ys : List Step) (x : TextPiece) → line_of (y ∷ ys) (lines_of p.rows) ≡ Some n →
+  pub first_text : (y : Step) (ys : List Step) (x : TextPiece) → line_at_steps (y ∷ ys) (lines_of_rows p.rows) ≡ Some n →
       piece_in Entry (y ∷ ys) (record { before = start; lines = printed_lines p.rows; behind = p.end ++ rest }) ≡ Some x →
       FirstText start (p.end ++ rest) q fr.front (fr.next ∷ fr.back) x
   first_text y ys x line piece =
       let a = bind_some (find y ys (group (map line_in ls))) piece in
-      let found : find y ys (group (lines_of p.rows)) ≡ Some a.0 = ap (λ us. find y ys (group us)) (sym (lines_are p.rows)) ∙ a.1 in
+      let found : find y ys (group (lines_of_rows p.rows)) ≡ Some a.0 = ap (λ us. find y ys (group us)) (sym (lines_are p.rows)) ∙ a.1 in
       go a.0.0 a.0.1 found (sym (ap (option_and_then (λ x. found_line x.0 x.1)) found) ∙ line) a.2
     where
-      last : (g : FoundLine) → find y ys (group (lines_of p.rows)) ≡ Some (g, []) → length (lines_before g.place) ≡ n → (k : ℕ) → length (lines_before g.place) ≡ k →
+      last : (g : FoundLine) → find y ys (group (lines_of_rows p.rows)) ≡ Some (g, []) → length (lines_before g.place) ≡ n → (k : ℕ) → length (lines_before g.place) ≡ k →
           (slice_get ls k >>= λ l. piece_in_entry Entry [] (entry_at k (length (flatten g.under)) l)) ≡ Some x →
           FirstText start z q fr.front back x
       last g found at k is e =
@@ -188,7 +188,7 @@ module _ (p : Part) (start rest : List ℕ) (h : NodeLines) (f : FoundLine) (q :
           (print_lines (drop (length (flatten g.under)) (drop (suc j) ls)) z)) (sym same) ∙ same_Some _ _ l.2)
           (text_found y ys g l.0 found at (ap (slice_get ls) (sym same) ∙ l.1))
 
-      go : (g : FoundLine) (more : List Step) → find y ys (group (lines_of p.rows)) ≡ Some (g, more) → found_line g more ≡ Some n →
+      go : (g : FoundLine) (more : List Step) → find y ys (group (lines_of_rows p.rows)) ≡ Some (g, more) → found_line g more ≡ Some n →
           (found_entry (record { before = start; lines = ls; behind = z }) g >>= piece_in_entry Entry more) ≡ Some x → FirstText start z q fr.front back x
       go g [] found at e =
           let b = bind_some (found_entry (record { before = start; lines = ls; behind = z }) g) e in

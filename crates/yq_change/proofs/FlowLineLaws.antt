@@ -3,14 +3,14 @@ use Rattle.std.proofs.Common.{◌≡◌, ◌⊎◌, inl, inr, ℕ, suc, ◌+◌,
 use Rattle.std.proofs.lemmas.Option.{none-some, same_Some}
 use Rattle.std.specs.Prelude.{is_some}
 use Rattle.yq_flow_scalars.specs.Answers.{◌>>=◌}
-use Rattle.yq_flow_scalars.specs.Paths.{Step, change, within}
+use Rattle.yq_flow_scalars.specs.Paths.{Step, changed_at, within}
 use Rattle.yq_flow_scalars.specs.Tree.{Node, Children, none, child}
 use Rattle.yq_lines.specs.LineAnchors.{IsFree, HaveOneAnchorEach}
 use Rattle.yq_lines.specs.Group.{level_or}
 use Rattle.yq_lines.specs.Laws.{with_lines}
-use Rattle.yq_lines.specs.Outline.{Mark, Bare, Key, Dash, Line, level, Outline, end, row, flatten, IsEven, anchored, label, collection, value}
-use Rattle.yq_lines.specs.Places.{here, below, compose, lines_before, lines_after, plug, FoundLine, find, in_head, inside, content}
-use Rattle.yq_lines.specs.Positions.{is_bare}
+use Rattle.yq_lines.specs.Outline.{LineMark, Bare, Key, Dash, Line, level, Outline, end, row, flatten, IsEven, anchored, label, outline_node, value}
+use Rattle.yq_lines.specs.Places.{here, below, compose, lines_before, lines_after, plug, FoundLine, find, in_head, place_inside, content_under}
+use Rattle.yq_lines.specs.Positions.{has_no_mark}
 use Rattle.yq_lines.proofs.Finding.{IsFoundIn, path_whole}
 use Rattle.yq_lines.proofs.PlaceLaws.{at, placed}
 use Rattle.yq_lines.proofs.Plug.{plug-compose}
@@ -18,8 +18,8 @@ use Rattle.yq_lines.proofs.Values.{anchored-within}
 use Rattle.yq_cut.specs.Rows.{Part, Cut}
 use Rattle.yq_documents.specs.Documents.{lead_of}
 use Rattle.yq_row_places.specs.FlowNodes.{bare_line, head_line, find_head}
-use Rattle.yq_lines.specs.Lines.{lines_of}
-use Rattle.yq_documents.specs.Reading.{outline_of, root_of}
+use Rattle.yq_lines.specs.Lines.{lines_of_rows}
+use Rattle.yq_documents.specs.Reading.{part_outline, root_of}
 use Rattle.yq_row_places.proofs.FlowPlaceLaws.{TakesSteps, Takes, takes_left}
 use Rattle.yq_change.specs.Changed.{IsChanged, put_document}
 use Rattle.yq_change.specs.Conditions.{last_anchor}
@@ -58,7 +58,7 @@ Cases steps o f rest = InEntry steps o f rest ⊎ OnLine steps o f rest
 root_line : (n : ℕ) (l : Line) (u a : Outline) (f : FoundLine) (rest : List Step) → IsEven n (row l u a) → find_head [] (row l u a) ≡ Some (f, rest) → Cases [] (row l u a) f rest
 root_line n l u a f rest even e = go l.mark refl e
   where
-    go : (m : Mark) → l.mark ≡ m → option_map {U = FoundLine × List Step} (λ g. (g, [])) (Rattle.std.proofs.Common.cond (is_bare m) (Some (record { place = here; line = l; under = u; after = a })) None) ≡ Some (f, rest) → Cases [] (row l u a) f rest
+    go : (m : LineMark) → l.mark ≡ m → option_map {U = FoundLine × List Step} (λ g. (g, [])) (Rattle.std.proofs.Common.cond (has_no_mark m) (Some (record { place = here; line = l; under = u; after = a })) None) ≡ Some (f, rest) → Cases [] (row l u a) f rest
     go (Key k) is e = absurd (none-some _ e)
     go Dash is e = absurd (none-some _ e)
     go Bare is e = inr (subst (λ (x : FoundLine × List Step). OnLine [] (row l u a) x.0 x.1) (same_Some _ _ e) (record {
@@ -73,11 +73,11 @@ root_line n l u a f rest even e = go l.mark refl e
     }))
 
 under_line_is : (n : ℕ) (o : Outline) (s : Step) (ss : List Step) (g : FoundLine) (f : FoundLine) (rest : List Step) → IsEven n o → find s ss o ≡ Some (g, []) → g.line.head ≡ None → (u : Outline) → g.under ≡ u →
-    option_map {U = FoundLine × List Step} (λ y. (inside g y, [])) (bare_line u) ≡ Some (f, rest) → Cases (s ∷ ss) o f rest
+    option_map {U = FoundLine × List Step} (λ y. (place_inside g y, [])) (bare_line u) ≡ Some (f, rest) → Cases (s ∷ ss) o f rest
 under_line_is n o s ss g f rest even is open' end under e = absurd (none-some _ e)
 under_line_is n o s ss g f rest even is open' (row l v a) under e = go l.mark refl e
   where
-    go : (m : Mark) → l.mark ≡ m → option_map {U = FoundLine × List Step} (λ y. (inside g y, [])) (Rattle.std.proofs.Common.cond (is_bare m) (Some (record { place = here; line = l; under = v; after = a })) None) ≡ Some (f, rest) → Cases (s ∷ ss) o f rest
+    go : (m : LineMark) → l.mark ≡ m → option_map {U = FoundLine × List Step} (λ y. (place_inside g y, [])) (Rattle.std.proofs.Common.cond (has_no_mark m) (Some (record { place = here; line = l; under = v; after = a })) None) ≡ Some (f, rest) → Cases (s ∷ ss) o f rest
     go (Key k) mark e = absurd (none-some _ e)
     go Dash mark e = absurd (none-some _ e)
     go Bare mark e = inr (subst (λ (x : FoundLine × List Step). OnLine (s ∷ ss) o x.0 x.1) (same_Some _ _ e) (record {
@@ -100,7 +100,7 @@ head_cases n o (s ∷ ss) f rest even e = go (find s ss o) refl e
     entry : (g : FoundLine) (left : List Step) → find s ss o ≡ Some (g, left) → TakesSteps g.line → ◌≡◌ {A = Option (FoundLine × List Step)} (Some (g, left)) (Some (f, rest)) → Cases (s ∷ ss) o f rest
     entry g left is takes e = inl (subst (λ (x : FoundLine × List Step). InEntry (s ∷ ss) o x.0 x.1) (same_Some _ _ e) (record { first = s; others = ss; steps_are = refl; found = is; takes = takes }))
 
-    own : (g : FoundLine) → find s ss o ≡ Some (g, []) → (h : Option Node) → g.line.head ≡ h → in_head h (Some (g, [])) (option_map {U = FoundLine × List Step} (λ y. (inside g y, [])) (bare_line g.under)) ≡ Some (f, rest) → Cases (s ∷ ss) o f rest
+    own : (g : FoundLine) → find s ss o ≡ Some (g, []) → (h : Option Node) → g.line.head ≡ h → in_head h (Some (g, [])) (option_map {U = FoundLine × List Step} (λ y. (place_inside g y, [])) (bare_line g.under)) ≡ Some (f, rest) → Cases (s ∷ ss) o f rest
     own g is (Some m) head e = entry g [] is (inr (ap is_some head)) e
     own g is None head e = under_line_is n o s ss g f rest even is head g.under refl e
 
@@ -126,19 +126,19 @@ head_takes n o steps f rest even e = go (head_cases n o steps f rest even e)
   where
     go : Cases steps o f rest → TakesSteps f.line
     go (inl c) = c.takes
-    go (inr c) = inl (ap is_bare c.bare)
+    go (inr c) = inl (ap has_no_mark c.bare)
 
-bare_value : (x : Line) → x.mark ≡ Bare → value (row x end end) ≡ content x end
-bare_value x e = ap (λ y. collection y (child (label x) (content x end) none)) e
+bare_value : (x : Line) → x.mark ≡ Bare → value (row x end end) ≡ content_under x end
+bare_value x e = ap (λ y. outline_node y (child (label x) (content_under x end) none)) e
 
 -- a node itself with another head
-line_changed : (t : List ℕ) (c : Cut) (k : ℕ) (p q : Part) (steps rest : List Step) (f : FoundLine) (n m : Node) (h : Children → Children) → IsPut t c k p q → OnLine steps (outline_of p) f rest →
-    f.line.head ≡ Some n → NoNewAlias n m → anchored f.line.anchor m ≡ change rest (within h) (anchored f.line.anchor n) → lines_of q.rows ≡ with_lines f (with_head m f.line ∷ []) →
-    IsSoundRoot (change steps (within h) (root_of p)) → IsChanged c (put_document k q c) k (lead_of p) (change steps (within h))
+line_changed : (t : List ℕ) (c : Cut) (k : ℕ) (p q : Part) (steps rest : List Step) (f : FoundLine) (n m : Node) (h : Children → Children) → IsPut t c k p q → OnLine steps (part_outline p) f rest →
+    f.line.head ≡ Some n → NoNewAlias n m → anchored f.line.anchor m ≡ changed_at rest (within h) (anchored f.line.anchor n) → lines_of_rows q.rows ≡ with_lines f (with_head m f.line ∷ []) →
+    IsSoundRoot (changed_at steps (within h) (root_of p)) → IsChanged c (put_document k q c) k (lead_of p) (changed_at steps (within h))
 unfolding level
 line_changed t c k p q steps rest f n m h put on head new is lines sound =
     let w = known t c k p q put in
-    let o : Outline = outline_of p in
+    let o : Outline = part_outline p in
     let a : NodeLines = on.lines in
     let l : Line = f.line in
     let other : Line = with_head m l in
@@ -146,14 +146,14 @@ line_changed t c k p q steps rest f n m h put on head new is lines sound =
     let under : f.under ≡ end = none_under l.head n f.under head old.1 in
     let after : f.after ≡ end = search (rules, on.bare, old.2) in
     let node : value a.lines ≡ anchored l.anchor n = search (rules, bare_value, under, after, l) in
-    let whole_is : value (row other end end) ≡ within h (anchored l.anchor n) = bare_value other on.bare ∙ (is ∙ ap (λ x. change x (within h) (anchored l.anchor n)) on.left) in
-    let news : lines_of q.rows ≡ put_lines a (other ∷ []) = lines ∙ on.put after (other ∷ []) in
-    let olds : lines_of p.rows ≡ put_lines a (l ∷ []) =
+    let whole_is : value (row other end end) ≡ within h (anchored l.anchor n) = bare_value other on.bare ∙ (is ∙ ap (λ x. changed_at x (within h) (anchored l.anchor n)) on.left) in
+    let news : lines_of_rows q.rows ≡ put_lines a (other ∷ []) = lines ∙ on.put after (other ∷ []) in
+    let olds : lines_of_rows p.rows ≡ put_lines a (l ∷ []) =
     sym w.lines ∙ (ap flatten (sym on.whole) ∙ (placed f l f.under ∙ (ap (λ (u : Outline). with_lines f (l ∷ flatten u)) under ∙ on.put after (l ∷ [])))) in
     let among = lines_among (level_or 0 o) o steps a w.even on.is in
     let free : IsFree (last_anchor (lines_before a.place)) (other ∷ []) =
     other_head (last_anchor (lines_before a.place)) l n m (lines_after a.place) [] head new (free_before (lines_before a.place) l (lines_after a.place) (subst HaveOneAnchorEach olds w.each)) in
-    led_as c (put_document k q c) k (lead_of q) (lead_of p) (change steps (within h)) (lead_from p q (lines_before a.place) l other (lines_after a.place) (lines_after a.place) olds news refl)
+    led_as c (put_document k q c) k (lead_of q) (lead_of p) (changed_at steps (within h)) (lead_from p q (lines_before a.place) l other (lines_after a.place) (lines_after a.place) olds news refl)
     (lines_exchanged t c k p q steps a (within h) on.even.0 (row other end end) put on.is
     (record {
       deep = on.even.1;
@@ -164,13 +164,13 @@ line_changed t c k p q steps rest f n m h put on head new is lines sound =
 
 -- the line at a path with another head
 pub flow_line_changed : (t : List ℕ) (c : Cut) (k : ℕ) (p q : Part) (steps rest : List Step) (f : FoundLine) (n m : Node) (h : Children → Children) → IsPut t c k p q →
-    find_head steps (outline_of p) ≡ Some (f, rest) → f.line.head ≡ Some n → NoNewAlias n m → anchored f.line.anchor m ≡ change rest (within h) (anchored f.line.anchor n) →
-    lines_of q.rows ≡ with_lines f (with_head m f.line ∷ []) → IsSoundRoot (change steps (within h) (root_of p)) → IsChanged c (put_document k q c) k (lead_of p) (change steps (within h))
+    find_head steps (part_outline p) ≡ Some (f, rest) → f.line.head ≡ Some n → NoNewAlias n m → anchored f.line.anchor m ≡ changed_at rest (within h) (anchored f.line.anchor n) →
+    lines_of_rows q.rows ≡ with_lines f (with_head m f.line ∷ []) → IsSoundRoot (changed_at steps (within h) (root_of p)) → IsChanged c (put_document k q c) k (lead_of p) (changed_at steps (within h))
 flow_line_changed t c k p q steps rest f n m h put found head new is lines sound =
-    go (head_cases (level_or 0 (outline_of p)) (outline_of p) steps f rest (known t c k p q put).even found)
+    go (head_cases (level_or 0 (part_outline p)) (part_outline p) steps f rest (known t c k p q put).even found)
   where
-    go : InEntry steps (outline_of p) f rest ⊎ OnLine steps (outline_of p) f rest → IsChanged c (put_document k q c) k (lead_of p) (change steps (within h))
+    go : InEntry steps (part_outline p) f rest ⊎ OnLine steps (part_outline p) f rest → IsChanged c (put_document k q c) k (lead_of p) (changed_at steps (within h))
     go (inr on) = line_changed t c k p q steps rest f n m h put on head new is lines sound
     go (inl x) =
-        subst (λ (ss : List Step). IsChanged c (put_document k q c) k (lead_of p) (change ss (within h))) (sym x.steps_are)
-        (changed_head t c k p q x.first x.others rest f n m (within h) put x.found head new is lines (subst (λ (ss : List Step). IsSoundRoot (change ss (within h) (root_of p))) x.steps_are sound))
+        subst (λ (ss : List Step). IsChanged c (put_document k q c) k (lead_of p) (changed_at ss (within h))) (sym x.steps_are)
+        (changed_head t c k p q x.first x.others rest f n m (within h) put x.found head new is lines (subst (λ (ss : List Step). IsSoundRoot (changed_at ss (within h) (root_of p))) x.steps_are sound))

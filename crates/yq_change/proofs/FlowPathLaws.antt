@@ -6,13 +6,13 @@ use Rattle.std.specs.List.{slice_get}
 use Rattle.yq_flow_scalars.specs.Paths.{Step}
 use Rattle.yq_flow_scalars.proofs.Bools.{bind_some}
 use Rattle.yq_nodes.specs.Collections.{CollPieces, coll_along}
-use Rattle.yq_nodes.specs.Nodes.{Node, node_text}
+use Rattle.yq_nodes.specs.Nodes.{FlowNode, node_text}
 use Rattle.yq_lines.specs.Group.{level_or}
 use Rattle.yq_lines.specs.Outline.{Line, Outline, flatten}
 use Rattle.yq_lines.specs.Places.{lines_before, lines_after, FoundLine}
 use Rattle.yq_lines.proofs.Decides.{flatten-group}
 use Rattle.yq_lines.proofs.PlaceLaws.{placed}
-use Rattle.yq_cut.specs.Exchange.{before_content, behind_at, behind_row, exchange, with_content, with_content_at}
+use Rattle.yq_cut.specs.Exchange.{before_content, rows_text_behind, behind_row, exchange, with_content, with_content_at}
 use Rattle.yq_cut.specs.Rows.{Content, Inline, Row, content_text, rows_text, Part, Cut, last, marked, cut_text}
 use Rattle.yq_cut.specs.Splices.{behind_part, nth_part}
 use Rattle.yq_cut.specs.View.{rows_of}
@@ -20,8 +20,8 @@ use Rattle.yq_cut.proofs.PlaceLaws.{place, new_place}
 use Rattle.yq_cut.proofs.splices.SpliceTexts.{own_gap, own_end}
 use Rattle.yq_documents.specs.Documents.{document_parts}
 use Rattle.yq_row_places.specs.FlowNodes.{content_flow, find_head}
-use Rattle.yq_lines.specs.Lines.{lines_of}
-use Rattle.yq_documents.specs.Reading.{outline_of}
+use Rattle.yq_lines.specs.Lines.{lines_of_rows}
+use Rattle.yq_documents.specs.Reading.{part_outline}
 use Rattle.yq_documents.specs.LinesInRows.{RowLine, row_line, document_row}
 use Rattle.yq_row_places.proofs.FlowPlaceLaws.{mark_row_line}
 use Rattle.yq_row_places.proofs.FoundEntries.{middle}
@@ -41,7 +41,7 @@ row_there : (front : List Row) (r : Row) (back more : List Row) → slice_get ((
 row_there [] r back more = refl
 row_there (x ∷ front) r back more = row_there front r back more
 
-behind_there : (front : List Row) (r : Row) (back : List Row) (rest : List ℕ) → behind_at (length front) (front ++ (r ∷ back)) rest ≡ rows_text back rest
+behind_there : (front : List Row) (r : Row) (back : List Row) (rest : List ℕ) → rows_text_behind (length front) (front ++ (r ∷ back)) rest ≡ rows_text back rest
 behind_there [] r back rest = refl
 behind_there (x ∷ front) r back rest = behind_there front r back rest
 
@@ -69,7 +69,7 @@ last_row i front r back end =
     let j : 0 + length front ≡ length front = omega arith in
     record {
       there = ap (slice_get (front ++ (r ∷ back))) j ∙ (ap (λ (rs : List Row). slice_get rs (length front)) (sym (Rattle.std.proofs.Common.append-nil (front ++ (r ∷ back)))) ∙ row_there front r back []);
-      behind = ap (λ n. behind_at n (front ++ (r ∷ back)) (end ++ [])) j ∙ behind_there front r back (end ++ []);
+      behind = ap (λ n. rows_text_behind n (front ++ (r ∷ back)) (end ++ [])) j ∙ behind_there front r back (end ++ []);
       exchanged = λ x. ap (λ n. exchange n x (last (record { rows = front ++ (r ∷ back); end = end }))) j ∙ ap last (part_content front r back end x);
     }
 
@@ -114,7 +114,7 @@ row_texts c k p i there rows content =
     let h = row_in_cut c k p i.front i.row i.back there rows in
     let n : ℕ = document_row k c + length i.front in
     let u : List ℕ = rows_text i.back (p.end ++ behind_document k c) in
-    let split : (m : Node) → before_content n c ++ content_text (Inline i.space m i.tail) (behind_row n c) ≡ (before_content n c ++ i.space) ++ node_text m (i.tail ++ u) =
+    let split : (m : FlowNode) → before_content n c ++ content_text (Inline i.space m i.tail) (behind_row n c) ≡ (before_content n c ++ i.space) ++ node_text m (i.tail ++ u) =
     λ m. ap (λ (x : List ℕ). before_content n c ++ content_text (Inline i.space m i.tail) x) h.behind ∙ sym (append_assoc (before_content n c) i.space (node_text m (i.tail ++ u))) in
     record {
       before = before_content n c ++ i.space;
@@ -127,7 +127,7 @@ row_texts c k p i there rows content =
 -- The content of a row holds a collection in an inline node.
 record InContent (steps : List Step) (x : Content) (rest : List ℕ) (w : CollPieces) : Type 0 where
   space : List ℕ
-  node : Node
+  node : FlowNode
   tail : List ℕ
   is : x ≡ Inline space node tail
   along : coll_along steps node (tail ++ rest) ≡ Some w
@@ -140,7 +140,7 @@ flow_found t c k steps w read e =
     let d = bind_some (slice_get (document_parts c) k) e in
     let p : Part = d.0 in
     let known = document_known t c k p (record { read = read; there = d.1 }) in
-    let o : Outline = outline_of p in
+    let o : Outline = part_outline p in
     let x = bind_some (find_head steps o) d.2 in
     let f : FoundLine = x.0.0 in
     let rest : List Step = x.0.1 in
@@ -150,8 +150,8 @@ flow_found t c k steps w read e =
     let y = in_content rest s.0.row.content (behind_row (document_row k c + s.0.before) c) w s.2 in
     let i : InlineRow = record { front = a.front; row = s.0.row; back = a.back; space = y.space; node = y.node; tail = y.tail } in
     let h = row_in_cut c k p a.front s.0.row a.back d.1 a.rows_are in
-    let lines : lines_of p.rows ≡ lines_before f.place ++ (f.line ∷ (flatten f.under ++ (flatten f.after ++ lines_after f.place))) =
-    sym (flatten-group (lines_of p.rows)) ∙ (ap flatten (sym (head_whole (level_or 0 o) o steps f rest known.even x.1)) ∙ placed f f.line f.under) in
+    let lines : lines_of_rows p.rows ≡ lines_before f.place ++ (f.line ∷ (flatten f.under ++ (flatten f.after ++ lines_after f.place))) =
+    sym (flatten-group (lines_of_rows p.rows)) ∙ (ap flatten (sym (head_whole (level_or 0 o) o steps f rest known.even x.1)) ∙ placed f f.line f.under) in
     let m = mark_row_line p.rows n f.line (ap (λ (ls : List Line). slice_get ls n) lines ∙ middle (lines_before f.place) _ f.line) (head_takes (level_or 0 o) o steps f rest known.even x.1) in
     let mark : s.0.line ≡ length s.0.row.dashes = subst (λ (z : RowLine). z.line ≡ length z.row.dashes) (same_Some _ _ (sym m.1 ∙ s.1)) m.2 in
     let same : behind_row (document_row k c + s.0.before) c ≡ rows_text a.back (p.end ++ behind_document k c) = ap (λ (z : ℕ). behind_row (document_row k c + z) c) (sym a.before) ∙ h.behind in

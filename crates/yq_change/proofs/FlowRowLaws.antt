@@ -3,14 +3,14 @@ use Rattle.std.proofs.Common.{◌≡◌, ℕ, ◌+◌, Bool, true, false, cond, 
 use Rattle.std.proofs.lemmas.Bool.{and_parts, cond_both}
 use Rattle.std.proofs.lemmas.Option.{none-some, same_Some}
 use mathlib.Core.List.{head-eq_of_cons-eq}
-use Rattle.yq_flow_scalars.specs.Paths.{Step, change, within}
+use Rattle.yq_flow_scalars.specs.Paths.{Step, changed_at, within}
 use Rattle.yq_flow_scalars.specs.Tree as tree
 use Rattle.yq_nodes.specs.Alike.{Alike, stop, after}
-use Rattle.yq_nodes.specs.Collections.{CollPieces, coll_along, put_at}
+use Rattle.yq_nodes.specs.Collections.{CollPieces, coll_along, collection_put}
 use Rattle.yq_flow.specs.FlowEdits.{edited_node}
 use Rattle.yq_nodes.specs.Inline.{IsInline}
-use Rattle.yq_nodes.specs.Nodes.{Node, empty, alias, scalar, coll, anchored, Items, node_text}
-use Rattle.yq_nodes.specs.Trees.{collection, items_tree, node_anchor, node_head, tree_of}
+use Rattle.yq_nodes.specs.Nodes.{FlowNode, empty, alias, scalar, coll, anchored, Items, node_text}
+use Rattle.yq_nodes.specs.Trees.{tree_collection, items_tree, node_anchor, node_head, tree_of}
 use Rattle.yq_nodes.proofs.Alikes.{alike_append, alike_separates}
 use Rattle.yq_flow.proofs.CollLaws.{open_stop}
 use Rattle.yq_flow_scalars.specs.Anchors.{IsNoAlias}
@@ -24,7 +24,7 @@ use Rattle.yq_lines.proofs.Decides.{flatten-group}
 use Rattle.yq_lines.proofs.PlaceLaws.{placed}
 use Rattle.yq_lines.proofs.Plug.{allows_from}
 use Rattle.yq_cut.specs.Exchange.{allows_first, asked_behind, with_content}
-use Rattle.yq_cut.specs.Grammar.{IsContent, IsMark, IsRow, Limit, AreRows, unlimited, is_more, is_plain, no_rows}
+use Rattle.yq_cut.specs.Grammar.{IsContent, IsMark, IsRow, Limit, AreRows, unlimited, is_more, is_plain_content, no_rows}
 use Rattle.yq_cut.specs.Rows as rows
 use Rattle.yq_cut.specs.Rows.{Content, Inline, Row, content_text, mark_column, mark_text, parent_indent, rows_text, Part, Cut}
 use Rattle.yq_cut.specs.Seams.{TakesPlace}
@@ -35,13 +35,13 @@ use Rattle.yq_cut.proofs.RowPlaces.{takes_place}
 use Rattle.yq_cut.proofs.seams.SeamLaws.{rows_drop}
 use Rattle.yq_cut.proofs.splices.SpliceTexts.{own_gap}
 use Rattle.yq_documents.specs.Documents.{HaveFitKeys, HasShortRoot, is_long_plain}
-use Rattle.yq_lines.specs.Lines.{mark_line, lines_of}
-use Rattle.yq_documents.specs.Reading.{outline_of}
+use Rattle.yq_lines.specs.Lines.{mark_line, lines_of_rows}
+use Rattle.yq_documents.specs.Reading.{part_outline}
 use Rattle.yq_row_places.proofs.FlowPieces.{named_is, none_anchored, twice}
 use Rattle.yq_row_places.proofs.RemovalLines.{front_some}
 use Rattle.yq_change.specs.DocumentRows.{Known, behind_document}
 use Rattle.yq_change.specs.FlowChanges.{with_head}
-use Rattle.yq_change.specs.FlowRows.{InlineRow, coll_at, with_node, IsFlowAt, FlowStands, FlowEdited}
+use Rattle.yq_change.specs.FlowRows.{InlineRow, row_collection, with_node, IsFlowAt, FlowStands, FlowEdited}
 use Rattle.yq_change.specs.Moved.{dash_lines}
 use Rattle.yq_change.specs.RowComments.{TakesRow}
 use Rattle.yq_change.proofs.AnchorLaws.{fit_parts, fit_from}
@@ -56,16 +56,16 @@ use Rattle.yq_change.proofs.ReplaceLaws.{document_replaced}
 use Rattle.yq_change.proofs.RowCommentLaws.{row_replaces}
 
 -- What is known of a node in which a collection stands, and of one with other items or entries there.
-pub record HoldsColl (node m : Node) (rest : List ℕ) : Type 0 where
+pub record HoldsColl (node m : FlowNode) (rest : List ℕ) : Type 0 where
   pub alike : Alike (Some false) (node_text node rest) (node_text m rest)
-  pub plain : is_plain m ≡ false
+  pub plain : is_plain_content m ≡ false
   pub more : is_more m ≡ true
   pub some : Rattle.yq_nodes.specs.Nodes.is_bare m ≡ false
   pub anchor : node_anchor m ≡ node_anchor node
   pub old_head : (n : tree.Node) × (node_head node ≡ Some n)
   pub head : (n : tree.Node) × (node_head m ≡ Some n) × IsNoAlias (Some n)
 
-coll_no_alias : (k : ℕ) (cs : tree.Children) → IsNoAlias (Some (collection k cs))
+coll_no_alias : (k : ℕ) (cs : tree.Children) → IsNoAlias (Some (tree_collection k cs))
 coll_no_alias k cs = cond_both (eqb k 125) (tree.map None cs) (tree.list None cs) (λ (n : tree.Node). IsNoAlias (Some n)) (λ _. tt) (λ _. tt)
 
 coll_holds : (k : ℕ) (g gap : List ℕ) (is others : Items) (rest : List ℕ) → HoldsColl (coll k gap others) (coll k g is) rest
@@ -80,7 +80,7 @@ coll_holds k g gap is others rest = record {
   head = (_, refl, coll_no_alias k (items_tree is));
 }
 
-named_holds : (n g : List ℕ) (node m : Node) (rest : List ℕ) → HoldsColl node m rest → HoldsColl (anchored n g node) (anchored n g m) rest
+named_holds : (n g : List ℕ) (node m : FlowNode) (rest : List ℕ) → HoldsColl node m rest → HoldsColl (anchored n g node) (anchored n g m) rest
 unfolding node_text
 named_holds n g node m rest h = record {
   alike = stop refl;
@@ -92,7 +92,7 @@ named_holds n g node m rest h = record {
   head = h.head;
 }
 
-pub node_holds : (ss : List Step) (node : Node) (rest : List ℕ) (w : CollPieces) (g : List ℕ) (is : Items) → coll_along ss node rest ≡ Some w → HoldsColl node (put_at ss g is node) rest
+pub node_holds : (ss : List Step) (node : FlowNode) (rest : List ℕ) (w : CollPieces) (g : List ℕ) (is : Items) → coll_along ss node rest ≡ Some w → HoldsColl node (collection_put ss g is node) rest
 node_holds [] empty rest w g is e = absurd (none-some _ e)
 node_holds [] (alias n) rest w g is e = absurd (none-some _ e)
 node_holds [] (scalar p) rest w g is e = absurd (none-some _ e)
@@ -105,7 +105,7 @@ node_holds (s ∷ ss) (coll k gap others) rest w g is e = coll_holds k gap gap _
 node_holds (s ∷ ss) (anchored n gap node) rest w g is e = named_holds n gap node _ rest (node_holds (s ∷ ss) node rest w g is e)
 
 -- the tree of a node by its anchor and its head
-anchor_head : (node : Node) (h : tree.Node) → node_head node ≡ Some h → tree_of node ≡ outlines.anchored (node_anchor node) h
+anchor_head : (node : FlowNode) (h : tree.Node) → node_head node ≡ Some h → tree_of node ≡ outlines.anchored (node_anchor node) h
 unfolding tree_of
 anchor_head empty h e = absurd (none-some _ e)
 anchor_head (alias n) h e = same_Some _ _ e ∙ none_anchored h
@@ -128,12 +128,12 @@ inline_is i limit u h e = subst (λ (x : Content). IsContent (parent_indent i.ro
 pub flow_stands : FlowStands
 flow_stands t c k p steps f rest i w old at = record { inline = (inline_is i _ _ (row_is t c k p i old at.rows_are) at.content_is).1; found = at.along }
 
-mark_alike : (mark : rows.Mark) (t u : List ℕ) → Alike (Some false) t u → Alike (Some false) (mark_text mark t) (mark_text mark u)
+mark_alike : (mark : rows.RowMark) (t u : List ℕ) → Alike (Some false) t u → Alike (Some false) (mark_text mark t) (mark_text mark u)
 mark_alike rows.Bare t u h = h
 mark_alike rows.Dash t u h = after h
 mark_alike (rows.Key key colon) t u h = alike_append (Some false) key _ _ (alike_append (Some false) colon t u h)
 
-row_takes : (limit : Limit) (i : InlineRow) (m : Node) (u : List ℕ) → IsRow limit i.row u → i.row.content ≡ Inline i.space i.node i.tail → HoldsColl i.node m (i.tail ++ u) →
+row_takes : (limit : Limit) (i : InlineRow) (m : FlowNode) (u : List ℕ) → IsRow limit i.row u → i.row.content ≡ Inline i.space i.node i.tail → HoldsColl i.node m (i.tail ++ u) →
     IsInline Rattle.yq_flow_scalars.specs.declared.style.Place.TheVariants.Block (parent_indent i.row) 0 m (i.tail ++ u) → TakesPlace limit i.row u (with_content (Inline i.space m i.tail) i.row) u
 row_takes limit i m u h e holds inline =
     let r : Row = i.row in
@@ -145,37 +145,37 @@ row_takes limit i m u h e holds inline =
     (search (rules, and_parts, mark_kept, holds.more, sym (alike_separates (Some false) _ _ text), subst (λ (x : Content). IsMark r.mark x u) e h.mark))
     (old.0, inline, old.2)
 
-plain_next : (n : ℤ) (space tail : List ℕ) (m : Node) (back : List Row) → is_plain m ≡ false → allows_first (Rattle.yq_cut.specs.Grammar.limit_behind n (Inline space m tail)) back ≡ true
+plain_next : (n : ℤ) (space tail : List ℕ) (m : FlowNode) (back : List Row) → is_plain_content m ≡ false → allows_first (Rattle.yq_cut.specs.Grammar.limit_behind n (Inline space m tail)) back ≡ true
 plain_next n space tail m [] e = refl
 plain_next n space tail m (b ∷ back) e = ap (λ (x : Bool). Rattle.yq_cut.specs.Grammar.allows (cond x (record { column = Some (Rattle.yq_flow_scalars.specs.Piece.deeper n) }) unlimited) b.column) e
 
-short_node : (mark : rows.Mark) (space tail : List ℕ) (m : Node) → is_plain m ≡ false → is_long_plain mark (Inline space m tail) ≡ false
+short_node : (mark : rows.RowMark) (space tail : List ℕ) (m : FlowNode) → is_plain_content m ≡ false → is_long_plain mark (Inline space m tail) ≡ false
 short_node mark space tail m h1 = search rules
 
 -- The line of the row's mark is the one at the path, and the document's lines with another line there.
 record LineIs (p : Part) (f : FoundLine) (i : InlineRow) : Type 0 where
   is : mark_line (above_mark (head_comment i.row.gap) i.row.dashes) (mark_column i.row) i.row.mark (Inline i.space i.node i.tail) ≡ f.line
-  put : (m : Node) → lines_of (with_node p i m).rows ≡ with_lines f (mark_line (above_mark (head_comment i.row.gap) i.row.dashes) (mark_column i.row) i.row.mark (Inline i.space m i.tail) ∷ [])
+  put : (m : FlowNode) → lines_of_rows (with_node p i m).rows ≡ with_lines f (mark_line (above_mark (head_comment i.row.gap) i.row.dashes) (mark_column i.row) i.row.mark (Inline i.space m i.tail) ∷ [])
 
 line_is : (t : List ℕ) (c : Cut) (k : ℕ) (p : Part) (steps : List Step) (f : FoundLine) (rest : List Step) (i : InlineRow) (w : CollPieces) (n : tree.Node) → Known t c p → IsFlowAt c k p steps f rest i w → node_head i.node ≡ Some n → LineIs p f i
 line_is t c k p steps f rest i w n known at head =
     let r : Row = i.row in
-    let o : Outline = outline_of p in
+    let o : Outline = part_outline p in
     let whole = head_whole (level_or 0 o) o steps f rest known.even at.found in
-    let a : List Line = lines_of i.front ++ dash_lines (head_comment r.gap) r.column r.dashes in
+    let a : List Line = lines_of_rows i.front ++ dash_lines (head_comment r.gap) r.column r.dashes in
     let line : Content → Line = λ x. mark_line (above_mark (head_comment r.gap) r.dashes) (mark_column r) r.mark x in
     let tail : List Line = flatten f.after ++ lines_after f.place in
     let size : length a ≡ length (lines_before f.place) = search (rules, length-append, dashes_count, r) in
-    let olds : a ++ (line r.content ∷ lines_of i.back) ≡ lines_before f.place ++ (f.line ∷ (flatten f.under ++ tail)) =
-    sym (ap lines_of at.rows_are ∙ last_lines i.front r i.back r.content) ∙ (sym (flatten-group (lines_of p.rows)) ∙ (ap flatten (sym whole) ∙ placed f f.line f.under)) in
-    let parts = same_parts a (line r.content ∷ []) (lines_of i.back) (lines_before f.place) (f.line ∷ []) (flatten f.under ++ tail) olds size refl in
+    let olds : a ++ (line r.content ∷ lines_of_rows i.back) ≡ lines_before f.place ++ (f.line ∷ (flatten f.under ++ tail)) =
+    sym (ap lines_of_rows at.rows_are ∙ last_lines i.front r i.back r.content) ∙ (sym (flatten-group (lines_of_rows p.rows)) ∙ (ap flatten (sym whole) ∙ placed f f.line f.under)) in
+    let parts = same_parts a (line r.content ∷ []) (lines_of_rows i.back) (lines_before f.place) (f.line ∷ []) (flatten f.under ++ tail) olds size refl in
     let is : line (Inline i.space i.node i.tail) ≡ f.line = ap line (sym at.content_is) ∙ head-eq_of_cons-eq parts.1 in
     let even = allows_from (level_or 0 o) f.place f.line f.under f.after (subst (λ x. outlines.IsEven (level_or 0 o) x) (sym whole) known.even) in
     let under : f.under ≡ end = none_under f.line.head n f.under (sym (ap (λ (l : Line). l.head) is) ∙ head) even.1.1 in
     record {
       is = is;
       put = λ m.
-          ap (λ (rs : List Row). lines_of (i.front ++ (with_content (Inline i.space m i.tail) r ∷ rs))) (own_gap i.back p.end)
+          ap (λ (rs : List Row). lines_of_rows (i.front ++ (with_content (Inline i.space m i.tail) r ∷ rs))) (own_gap i.back p.end)
           ∙ (last_lines i.front r i.back (Inline i.space m i.tail)
           ∙ ((λ j. parts.0 j ++ (line (Inline i.space m i.tail) ∷ parts.2 j)) ∙ ap (λ (u : Outline). lines_before f.place ++ (line (Inline i.space m i.tail) ∷ (flatten u ++ tail))) under));
     }
@@ -184,7 +184,7 @@ pub flow_edited : FlowEdited
 flow_edited t c k p steps f rest i w e h old at edited keys sound text =
     let known = document_known t c k p old in
     let r : Row = i.row in
-    let m : Node = edited_node (coll_at c k p i rest w) e in
+    let m : FlowNode = edited_node (row_collection c k p i rest w) e in
     let b : Row = with_content (Inline i.space m i.tail) r in
     let q : Part = with_node p i m in
     let u : List ℕ = rows_text i.back (p.end ++ behind_document k c) in
@@ -207,7 +207,7 @@ flow_edited t c k p steps f rest i w e h old at edited keys sound text =
     let l : Line = mark_line above (mark_column r) r.mark (Inline i.space m i.tail) in
     let whole_is : l ≡ with_head d.0 f.line = (λ j. record l { anchor = holds.anchor j; head = d.1 j }) ∙ ap (with_head d.0) line.is in
     let anchor : node_anchor i.node ≡ f.line.anchor = ap (λ (y : Line). y.anchor) line.is in
-    let tree : outlines.anchored f.line.anchor d.0 ≡ change rest (within h) (outlines.anchored f.line.anchor n.0) =
-    subst (λ (a : Option (List ℕ)). outlines.anchored a d.0 ≡ change rest (within h) (outlines.anchored a n.0)) anchor
-    (ap (λ (a : Option (List ℕ)). outlines.anchored a d.0) (sym holds.anchor) ∙ (sym (anchor_head m d.0 d.1) ∙ (edited.tree ∙ ap (change rest (within h)) (anchor_head i.node n.0 n.1)))) in
+    let tree : outlines.anchored f.line.anchor d.0 ≡ changed_at rest (within h) (outlines.anchored f.line.anchor n.0) =
+    subst (λ (a : Option (List ℕ)). outlines.anchored a d.0 ≡ changed_at rest (within h) (outlines.anchored a n.0)) anchor
+    (ap (λ (a : Option (List ℕ)). outlines.anchored a d.0) (sym holds.anchor) ∙ (sym (anchor_head m d.0 d.1) ∙ (edited.tree ∙ ap (changed_at rest (within h)) (anchor_head i.node n.0 n.1)))) in
     flow_line_changed t c k p q steps rest f n.0 d.0 h put at.found (sym (ap (λ (y : Line). y.head) line.is) ∙ n.1) (λ _. d.2) tree (line.put m ∙ ap (λ (y : Line). with_lines f (y ∷ [])) whole_is) sound

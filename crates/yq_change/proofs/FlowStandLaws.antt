@@ -4,8 +4,8 @@ use Rattle.std.proofs.lemmas.Option.{same_Some}
 use Rattle.std.specs.Str.{IsUtf8}
 use Rattle.yq_flow_scalars.specs.Paths.{Step}
 use Rattle.yq_nodes.specs.Collections.{CollPieces, coll_along, coll_in}
-use Rattle.yq_nodes.specs.Entries.{EntryPieces, entry_pieces_at, inside, locate_entry, placed_entry_at}
-use Rattle.yq_nodes.specs.Nodes.{bare, Node, key_text, node_text, IsNode}
+use Rattle.yq_nodes.specs.Entries.{EntryPieces, entry_pieces_at, path_inside, locate_entry, placed_entry_at}
+use Rattle.yq_nodes.specs.Nodes.{bare, FlowNode, key_text, node_text, IsFlowNode}
 use Rattle.yq_nodes.specs.Places.{locate}
 use Rattle.yq_nodes.specs.Spans.{HasSpans}
 use Rattle.yq_nodes.proofs.PathLaws.{path_holds, path_places, path_stands, then_some}
@@ -26,16 +26,16 @@ use Rattle.yq_change.proofs.TextPieceLaws.{text_is_piece}
 coll_entry : (ss : List Step) (x : EntryPieces) (w : CollPieces) → coll_along ss x.node x.rest ≡ Some w → (y : EntryPieces) × (entry_pieces_at ss x ≡ Some y) × (coll_in y.node y.rest ≡ Some w)
 coll_entry [] x w e = (x, refl, e)
 coll_entry (s ∷ ss) x w e =
-    let z = then_some (inside s x.node x.rest) e in
+    let z = then_some (path_inside s x.node x.rest) e in
     let y = coll_entry ss z.0 w z.2 in
     (y.0, ap (Rattle.std.specs.Prelude.option_and_then (entry_pieces_at ss)) z.1 ∙ y.1, y.2)
 
 -- A node is valid before a rest.
-pub record Valid (node : Node) (rest : List ℕ) : Type 0 where
+pub record Valid (node : FlowNode) (rest : List ℕ) : Type 0 where
   pub flow : Bool
   pub spaces : Option ℕ
   pub depth : ℕ
-  pub is : IsNode flow spaces depth node rest
+  pub is : IsFlowNode flow spaces depth node rest
 
 entry_valid : (ss : List Step) (x y : EntryPieces) → Valid x.node x.rest → entry_pieces_at ss x ≡ Some y → Valid y.node y.rest
 entry_valid [] x y v e = subst (λ (z : EntryPieces). Valid z.node z.rest) (same_Some _ _ e) v
@@ -46,7 +46,7 @@ mapped_to f o x e = ap (option_map f) e
 
 -- The flow collection at a path is that of a node of the text, which is valid there and has its places at whole characters.
 pub record CollStands (c : Cut) (w : CollPieces) : Type 0 where
-  pub node : Node
+  pub node : FlowNode
   pub rest : List ℕ
   pub before : List ℕ
   pub text : cut_text c ≡ before ++ node_text node rest

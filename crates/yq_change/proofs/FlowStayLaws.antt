@@ -8,12 +8,12 @@ use Rattle.std.specs.List.{slice_get}
 use Rattle.std.specs.Option.{is_some}
 use Rattle.yq_flow_scalars.specs.Answers.{◌>>=◌}
 use Rattle.yq_flow_scalars.specs.Paths.{Step}
-use Rattle.yq_nodes.specs.Collections.{CollPieces, coll_along, put_at}
-use Rattle.yq_nodes.specs.Nodes.{Node, Items}
+use Rattle.yq_nodes.specs.Collections.{CollPieces, coll_along, collection_put}
+use Rattle.yq_nodes.specs.Nodes.{FlowNode, Items}
 use Rattle.yq_lines.specs.Group.{group}
 use Rattle.yq_lines.specs.Outline.{Outline, end, row, null_node}
-use Rattle.yq_lines.specs.Places.{here, below, FoundLine, find, in_head, inside, lines_before}
-use Rattle.yq_lines.specs.Positions.{is_bare}
+use Rattle.yq_lines.specs.Places.{here, below, FoundLine, find, in_head, place_inside, lines_before}
+use Rattle.yq_lines.specs.Positions.{has_no_mark}
 use Rattle.yq_cut.specs.Exchange.{behind_row, with_content}
 use Rattle.yq_cut.specs.Grammar.{begins_document, no_rows}
 use Rattle.yq_cut.specs.Rows.{Content, Inline, Row, Part, Cut, last, marked, rows_text}
@@ -21,12 +21,12 @@ use Rattle.yq_cut.specs.Splices.{behind_part}
 use Rattle.yq_cut.proofs.splices.SpliceTexts.{own_gap, own_end}
 use Rattle.yq_documents.specs.Documents.{begins_bare, document_parts, has_begin}
 use Rattle.yq_documents.specs.PartNumbers.{number_from, part_number}
-use Rattle.yq_documents.specs.Reading.{outline_of}
+use Rattle.yq_documents.specs.Reading.{part_outline}
 use Rattle.yq_documents.specs.LinesInRows.{RowLine, document_row, row_line}
-use Rattle.yq_lines.specs.Lines.{head_of, lines_of}
+use Rattle.yq_lines.specs.Lines.{head_of, lines_of_rows}
 use Rattle.yq_row_places.specs.FlowNodes.{bare_line, content_flow, find_head, flow_collection, head_line, line_collection}
 use Rattle.yq_row_places.specs.FlowViews.{LeadsToHead}
-use Rattle.yq_row_places.specs.NodeReading.{head_at}
+use Rattle.yq_row_places.specs.NodeReading.{head_line_of}
 use Rattle.yq_row_places.proofs.FlowNodeLaws.{collection_is, rows_collection}
 use Rattle.yq_row_places.proofs.FlowViewLaws.{head_found, numbered}
 use Rattle.yq_row_places.proofs.RemovalLines.{front_some}
@@ -49,21 +49,21 @@ Reached = FoundLine × List Step
 
 bare_strip : (o : Outline) → bare_line (strip_outline o) ≡ option_map strip_found (bare_line o)
 bare_strip end = refl
-bare_strip (row l u a) = go (is_bare l.mark)
+bare_strip (row l u a) = go (has_no_mark l.mark)
   where
     go : (b : Bool) → cond b (Some (strip_found (record { place = here; line = l; under = u; after = a }))) None ≡ option_map strip_found (cond b (Some (record { place = here; line = l; under = u; after = a })) None)
     go true = refl
     go false = refl
 
-under_strip : (f : FoundLine) (o : Option FoundLine) → option_map {U = Reached} (λ g. (inside (strip_found f) g, [])) (option_map strip_found o) ≡ option_map strip_pair (option_map {U = Reached} (λ g. (inside f g, [])) o)
+under_strip : (f : FoundLine) (o : Option FoundLine) → option_map {U = Reached} (λ g. (place_inside (strip_found f) g, [])) (option_map strip_found o) ≡ option_map strip_pair (option_map {U = Reached} (λ g. (place_inside f g, [])) o)
 under_strip f None = refl
 under_strip f (Some g) = λ i. Some (record (strip_found g) { place = compose_strip f.place (below f.line g.place f.after) i }, [])
 
 line_strip : (f : FoundLine) (left : List Step) → head_line (strip_found f) left ≡ option_map strip_pair (head_line f left)
 line_strip f (s ∷ ss) = refl
 line_strip f [] =
-    ap (in_head (option_map (λ n. null_node) f.line.head) (Some (strip_found f, []))) (ap (option_map {U = Reached} (λ g. (inside (strip_found f) g, []))) (bare_strip f.under) ∙ under_strip f (bare_line f.under))
-    ∙ head_strip f.line.head (Some (f, [])) (option_map {U = Reached} (λ g. (inside f g, [])) (bare_line f.under))
+    ap (in_head (option_map (λ n. null_node) f.line.head) (Some (strip_found f, []))) (ap (option_map {U = Reached} (λ g. (place_inside (strip_found f) g, []))) (bare_strip f.under) ∙ under_strip f (bare_line f.under))
+    ∙ head_strip f.line.head (Some (f, [])) (option_map {U = Reached} (λ g. (place_inside f g, [])) (bare_line f.under))
 
 find_head_strip : (steps : List Step) (o : Outline) → find_head steps (strip_outline o) ≡ option_map strip_pair (find_head steps o)
 find_head_strip [] o = ap (option_map {U = Reached} (λ f. (f, []))) (bare_strip o) ∙ go (bare_line o)
@@ -78,22 +78,22 @@ find_head_strip (s ∷ ss) o = ap (λ (r : Option Reached). r >>= λ x. head_lin
     go (Some x) = line_strip x.0 x.1
 
 -- where a path leads in rows of the same shapes
-shape_head : (p q : Part) → map row_shape q.rows ≡ map row_shape p.rows → (steps : List Step) → option_map strip_pair (find_head steps (outline_of q)) ≡ option_map strip_pair (find_head steps (outline_of p))
+shape_head : (p q : Part) → map row_shape q.rows ≡ map row_shape p.rows → (steps : List Step) → option_map strip_pair (find_head steps (part_outline q)) ≡ option_map strip_pair (find_head steps (part_outline p))
 shape_head p q h steps =
-    sym (find_head_strip steps (outline_of q))
-    ∙ (ap (find_head steps) (sym (group_strip (lines_of q.rows)) ∙ (ap group (rows_strip q.rows ∙ (ap shapes_lines h ∙ sym (rows_strip p.rows))) ∙ group_strip (lines_of p.rows)))
-    ∙ find_head_strip steps (outline_of p))
+    sym (find_head_strip steps (part_outline q))
+    ∙ (ap (find_head steps) (sym (group_strip (lines_of_rows q.rows)) ∙ (ap group (rows_strip q.rows ∙ (ap shapes_lines h ∙ sym (rows_strip p.rows))) ∙ group_strip (lines_of_rows p.rows)))
+    ∙ find_head_strip steps (part_outline p))
 
 same_numbers : (o : Option Reached) → option_map numbered o ≡ option_map numbered (option_map strip_pair o)
 same_numbers None = refl
 same_numbers (Some x) = λ i. Some (sym (ap length (before_strip x.0.place) ∙ length-map (lines_before x.0.place) stripped) i, x.1)
 
-numbers_stay : (p q : Part) → map row_shape q.rows ≡ map row_shape p.rows → (steps : List Step) → head_at steps (lines_of q.rows) ≡ head_at steps (lines_of p.rows)
+numbers_stay : (p q : Part) → map row_shape q.rows ≡ map row_shape p.rows → (steps : List Step) → head_line_of steps (lines_of_rows q.rows) ≡ head_line_of steps (lines_of_rows p.rows)
 numbers_stay p q h steps =
-    sym (head_found (lines_of q.rows) steps)
-    ∙ (same_numbers (find_head steps (outline_of q))
+    sym (head_found (lines_of_rows q.rows) steps)
+    ∙ (same_numbers (find_head steps (part_outline q))
     ∙ (ap (option_map numbered) (shape_head p q h steps)
-    ∙ (sym (same_numbers (find_head steps (outline_of p))) ∙ head_found (lines_of p.rows) steps)))
+    ∙ (sym (same_numbers (find_head steps (part_outline p))) ∙ head_found (lines_of_rows p.rows) steps)))
 
 -- ---- in a cut
 
@@ -108,8 +108,8 @@ module _ (c : Cut) (k : ℕ) (steps : List Step) (w : CollPieces) (at : FlowAt c
   abbrev i : InlineRow
   i = at.row
 
-  abbrev m : Node
-  m = put_at at.rest gap is i.node
+  abbrev m : FlowNode
+  m = collection_put at.rest gap is i.node
 
   abbrev q : Part
   q = with_node at.part i m
@@ -153,24 +153,24 @@ module _ (c : Cut) (k : ℕ) (steps : List Step) (w : CollPieces) (at : FlowAt c
   line_there : (rows : List Row) (y : Content) → rows ≡ i.front ++ (with_content y i.row ∷ i.back) → row_line number rows ≡ Some (record { before = length i.front; row = with_content y i.row; line = length i.row.dashes })
   line_there rows y are =
       let front : take (length i.front) rows ≡ i.front = ap (take (length i.front)) are ∙ take-append_seam i.front (with_content y i.row ∷ i.back) in
-      let is : number ≡ length (lines_of (take (length i.front) rows)) + length i.row.dashes = sym at.at.number ∙ ap (λ (rs : List Row). length (lines_of rs) + length i.row.dashes) (sym front) in
+      let is : number ≡ length (lines_of_rows (take (length i.front) rows)) + length i.row.dashes = sym at.at.number ∙ ap (λ (rs : List Row). length (lines_of_rows rs) + length i.row.dashes) (sym front) in
       ap (λ (n : ℕ). row_line n rows) is
       ∙ row_line_number rows (length i.front) (length i.row.dashes) (with_content y i.row) (ap (λ (rs : List Row). slice_get rs (length i.front)) are ∙ slice_seam i.front (with_content y i.row) i.back) (omega arith)
 
   -- other steps lead to other collections of the same head
   module _ (stem left : List Step) (init : steps ≡ stem ++ left) (h : LeadsToHead c k stem) where
-    leads : (ss : List Step) → head_at (stem ++ ss) (lines_of at.part.rows) ≡ Some (h.number, ss)
-    leads ss = ap (λ (p : Part). head_at (stem ++ ss) (lines_of p.rows)) (same_Some _ _ (sym at.there ∙ h.there)) ∙ h.leads ss
+    leads : (ss : List Step) → head_line_of (stem ++ ss) (lines_of_rows at.part.rows) ≡ Some (h.number, ss)
+    leads ss = ap (λ (p : Part). head_line_of (stem ++ ss) (lines_of_rows p.rows)) (same_Some _ _ (sym at.there ∙ h.there)) ∙ h.leads ss
 
     same_number : h.number ≡ number
     same_number =
-        ap (λ (x : ℕ × List Step). x.0) (same_Some _ _ (sym (leads left) ∙ (ap (λ (ss : List Step). head_at ss (lines_of at.part.rows)) (sym init)
-        ∙ (sym (head_found (lines_of at.part.rows) steps) ∙ ap (option_map numbered) at.at.found))))
+        ap (λ (x : ℕ × List Step). x.0) (same_Some _ _ (sym (leads left) ∙ (ap (λ (ss : List Step). head_line_of ss (lines_of_rows at.part.rows)) (sym init)
+        ∙ (sym (head_found (lines_of_rows at.part.rows) steps) ∙ ap (option_map numbered) at.at.found))))
 
-    leads_there : (ss : List Step) → head_at (stem ++ ss) (lines_of at.part.rows) ≡ Some (number, ss)
+    leads_there : (ss : List Step) → head_line_of (stem ++ ss) (lines_of_rows at.part.rows) ≡ Some (number, ss)
     leads_there ss = leads ss ∙ ap (λ (n : ℕ). Some (n, ss)) same_number
 
-    leads_behind : (ss : List Step) → head_at (stem ++ ss) (lines_of q.rows) ≡ Some (number, ss)
+    leads_behind : (ss : List Step) → head_line_of (stem ++ ss) (lines_of_rows q.rows) ≡ Some (number, ss)
     leads_behind ss = numbers_stay at.part q shapes (stem ++ ss) ∙ leads_there ss
 
     pub head_behind : LeadsToHead new k stem

@@ -1,10 +1,10 @@
 -- Head comments of items and entries, put and taken away.
 use Rattle.std.proofs.Common.{◌≡◌, ℕ, zero, suc, ◌+◌, ◌<◌, List, [], ◌∷◌, ◌++◌, length, take, Option, Some, None, true, false, refl, sym, ap, ◌∙◌, subst, arith, rules, ⊎_elim, append_assoc, replicate}
 use Rattle.std.proofs.lemmas.Bool.{lt-ltb, and_from, cases_Bool}
-use Rattle.yq_block_scalars.specs.Block.{BlockText, Lines, ends_block, keeps}
+use Rattle.yq_block_scalars.specs.Block.{BlockText, RawLines, ends_block, keeps}
 use Rattle.yq_block_scalars.specs.BlockRepair.{is_behind}
 use Rattle.yq_block_scalars.specs.declared.block_lines.TextIndent.{TextIndent}
-use Rattle.yq_flow_scalars.specs.Text.{is_empty, joined, put_byte, lines_of as text_lines}
+use Rattle.yq_flow_scalars.specs.Text.{is_empty, joined, put_byte, text_lines}
 use Rattle.yq_block_scalars.proofs.BlockRepairLaws.{ends_behind}
 use Rattle.yq_block_scalars.proofs.SpaceLaws.{prefix_none, spaces_front, drop_front as spaces_drop}
 use Rattle.yq_lines.specs.Comments.{head_comment, last_comments}
@@ -29,13 +29,13 @@ use Rattle.yq_documents.specs.Pieces.{before_run, last_run}
 use Rattle.yq_documents.specs.Documents.{HaveFitKeys, HasShortRoot}
 use Rattle.yq_lines.specs.Group.{level_or}
 use Rattle.yq_lines.specs.Laws.{with_lines}
-use Rattle.yq_lines.specs.Lines.{mark_line, dash_line, lines_from, lines_of}
+use Rattle.yq_lines.specs.Lines.{mark_line, dash_line, lines_from, lines_of_rows}
 use Rattle.yq_lines.specs.Outline.{Line, level, flatten, label}
-use Rattle.yq_documents.specs.Reading.{outline_of}
+use Rattle.yq_documents.specs.Reading.{part_outline}
 use Rattle.yq_lines.proofs.Decides.{flatten-group}
 use Rattle.yq_change.specs.Siblings.{put_lines}
 use Rattle.yq_change.proofs.BlockChangeLaws.{entry_relabelled}
-use Rattle.yq_change.specs.Heads.{IsRun, with_run, rerun, HeadCommented}
+use Rattle.yq_change.specs.Heads.{IsHeadCommentRun, with_run, rerun, HeadCommented}
 use Rattle.yq_change.specs.LineRows.{StandApart, AreClosed}
 use Rattle.yq_change.specs.DocumentRows.{behind_document, RowsFit}
 use Rattle.yq_documents.specs.PartNumbers.{part_number}
@@ -70,14 +70,14 @@ block_was (r ∷ (q ∷ front)) b u e h = block_was (q ∷ front) b u e h
 
 -- the seam before a row with another run
 run_seam : (front back : List Row) (r : Row) (run last rest : List ℕ) (l : Line) → AreRows unlimited (front ++ (r ∷ back)) last rest → (limit : Limit) → AreRows limit (r ∷ back) last rest →
-    IsRun r.column run (behind_gap r (rows_text back (last ++ rest))) → l.column ≡ r.column → ((b : BlockText) → last_block front ≡ Some b → StandApart (lines_of front) (l ∷ [])) →
+    IsHeadCommentRun r.column run (behind_gap r (rows_text back (last ++ rest))) → l.column ≡ r.column → ((b : BlockText) → last_block front ≡ Some b → StandApart (lines_of_rows front) (l ∷ [])) →
     are_seamed front (with_run r run ++ behind_gap r (rows_text back (last ++ rest))) ≡ true
 run_seam front back r run last rest l old limit own is column apart = go (last_block front) refl
   where
     x : List ℕ
     x = behind_gap r (rows_text back (last ++ rest))
 
-    ks : Lines
+    ks : RawLines
     ks = before_run (text_lines r.gap)
 
     y : List ℕ
@@ -152,8 +152,8 @@ in_column a r [] = refl
 in_column a r (n ∷ ns) = refl
 
 row_after : (front : List Row) (r : Row) (back : List Row) (gap : List ℕ) →
-    lines_of (front ++ (record r { gap = gap } ∷ back)) ≡ lines_of front ++ (first_line (head_comment gap) r r.dashes ∷ (further_lines r r.dashes ++ lines_of back))
-row_after front r back gap = lines_append front (record r { gap = gap } ∷ back) ∙ ap (λ (x : List Line). lines_of front ++ (x ++ lines_of back)) (first_split (head_comment gap) r r.dashes)
+    lines_of_rows (front ++ (record r { gap = gap } ∷ back)) ≡ lines_of_rows front ++ (first_line (head_comment gap) r r.dashes ∷ (further_lines r r.dashes ++ lines_of_rows back))
+row_after front r back gap = lines_append front (record r { gap = gap } ∷ back) ∙ ap (λ (x : List Line). lines_of_rows front ++ (x ++ lines_of_rows back)) (first_split (head_comment gap) r r.dashes)
 
 short_same : (front : List Row) (r : Row) (back : List Row) (gap : List ℕ) → HasShortRoot (front ++ (r ∷ back)) → HasShortRoot (front ++ (record r { gap = gap } ∷ back))
 short_same [] r back gap h = h
@@ -166,7 +166,7 @@ fit_same (q ∷ front) r back gap h = (h.0, h.1, fit_same front r back gap h.2)
 pub head_commented : HeadCommented
 head_commented t c k p steps s h f front back r run old at takes size text =
     let known = document_known t c k p old in
-    let o = outline_of p in
+    let o = part_outline p in
     let q : Part = rerun front r back run p in
     let gap : List ℕ = with_run r run in
     let rest : List ℕ = behind_document k c in
@@ -185,21 +185,21 @@ head_commented t c k p steps s h f front back r run old at takes size text =
     let front_gap : IsGap (joined ks) y = record { lines = ks; spelled = refl; each = kept } in
     let head : head_comment gap ≡ head_comment run = head_joined (joined ks) run y front_gap y_some (ap last_comments (gap_lines_of ks y kept) ∙ none_before (text_lines r.gap)) in
     let a = first_line (head_comment r.gap) r r.dashes in
-    let z : List Line = further_lines r r.dashes ++ lines_of back in
-    let olds : lines_of p.rows ≡ lines_of front ++ (a ∷ z) = ap lines_of takes.rows_are ∙ row_after front r back r.gap in
-    let closed : AreClosed (lines_of front ++ (a ∷ z)) = subst AreClosed (flatten-group (lines_of p.rows) ∙ olds) (even_closed (level_or 0 o) o known.even) in
+    let z : List Line = further_lines r r.dashes ++ lines_of_rows back in
+    let olds : lines_of_rows p.rows ≡ lines_of_rows front ++ (a ∷ z) = ap lines_of_rows takes.rows_are ∙ row_after front r back r.gap in
+    let closed : AreClosed (lines_of_rows front ++ (a ∷ z)) = subst AreClosed (flatten-group (lines_of_rows p.rows) ∙ olds) (even_closed (level_or 0 o) o known.even) in
     let fits : RowsFit front [] (r ∷ back) gap p rest = record {
       rows = gap_joined (joined ks) run y x y_some front_gap takes.run_is.gap;
       next = own.0.allowed;
-      seam = run_seam front back r run p.end rest a part asked own takes.run_is (in_column (head_comment r.gap) r r.dashes) (λ b e. apart_first (lines_of front) a z (last_closed front b (a ∷ z) e closed));
+      seam = run_seam front back r run p.end rest a part asked own takes.run_is (in_column (head_comment r.gap) r r.dashes) (λ b e. apart_first (lines_of_rows front) a z (last_closed front b (a ∷ z) e closed));
     } in
     let cut = document_spliced t c k p front [] (r ∷ back) [] gap old known.cut takes.rows_are (ap no_rows takes.rows_are ∙ front_some front r back) fits text in
     let put =
     is_put t c k p q old (front_some front (record r { gap = gap }) back) text cut (fit_same front r back gap (subst HaveFitKeys takes.rows_are known.document.keys))
     (short_same front r back gap (subst HasShortRoot takes.rows_are known.document.short)) in
     let l = first_line (head_comment gap) r r.dashes in
-    let one = one_line t c p steps s h f (lines_of front) a z known at olds size in
-    let lines : lines_of q.rows ≡ put_lines h (with_lines f (l ∷ flatten f.under)) = row_after front r back gap ∙ sym (one.put l) in
+    let one = one_line t c p steps s h f (lines_of_rows front) a z known at olds size in
+    let lines : lines_of_rows q.rows ≡ put_lines h (with_lines f (l ∷ flatten f.under)) = row_after front r back gap ∙ sym (one.put l) in
     let texts : label l ≡ with_head_comment (head_comment run) (label f.line) = same_label (head_comment gap) (head_comment r.gap) r r.dashes ∙ (λ i. with_head_comment (head i) (label (one.is i))) in
     entry_relabelled t c k p q steps h s f (with_head_comment (head_comment run)) l put at (record {
       level_is = same_level (head_comment gap) (head_comment r.gap) r r.dashes ∙ ap level one.is;

@@ -5,7 +5,7 @@ use Rattle.yq_flow_scalars.specs.Tree.{children_of}
 use Rattle.yq_lines.specs.Group.{group}
 use Rattle.yq_lines.specs.Outline.{Line, value}
 use Rattle.yq_documents.specs.Documents.{lead_of}
-use Rattle.yq_lines.specs.Lines.{lines_of}
+use Rattle.yq_lines.specs.Lines.{lines_of_rows}
 use Rattle.yq_documents.specs.Reading.{root_of}
 use Rattle.yq_documents.specs.Ready.{begins_no_node}
 use Rattle.yq_documents.specs.TreeEdits.{lead_by}
@@ -31,7 +31,7 @@ same_lead_goes p q same block = go (is_block_root p) refl
   where
     go : (b : Bool) → is_block_root p ≡ b → LeadGoes p q
     go false e = kept_lead_goes p q same (λ h. absurd (false≢true (sym e ∙ h)))
-    go true e = elim (block_entries (lines_of q.rows) (block ∙ e)) [
+    go true e = elim (block_entries (lines_of_rows q.rows) (block ∙ e)) [
       | inl has ↦ block_lead_goes p q e has
       | inr none_left ↦ kept_lead_goes p q same (λ h. (ap (λ x. children_of (value (group x))) none_left))
     ]

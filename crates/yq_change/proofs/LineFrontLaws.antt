@@ -9,14 +9,14 @@ use Rattle.yq_block_scalars.specs.declared.block_header.BlockStyle.TheVariants a
 use Rattle.yq_block_scalars.specs.declared.block_header.Chomping.{Chomping}
 use Rattle.yq_flow_scalars.proofs.Bools.{at_byte}
 use Rattle.yq_nodes.specs.Nodes as nodes
-use Rattle.yq_nodes.specs.Nodes.{Node, empty, alias, scalar, coll, anchored, Items, none, item, in_name, is_close, open_of, key_text, sep_text, node_text, items_text, IsNode}
+use Rattle.yq_nodes.specs.Nodes.{FlowNode, empty, alias, scalar, coll, anchored, Items, none, item, in_name, is_close, opening_bracket, key_text, sep_text, node_text, flow_items_text, IsFlowNode}
 use Rattle.yq_nodes.proofs.WrittenLaws.{key_append, sep_append, node_append}
 use Rattle.yq_cut.specs.Gap.{IsWhite, IsGap}
 use Rattle.yq_cut.specs.Grammar.{IsContent, IsMark}
 use Rattle.yq_cut.specs.Exchange.{row_front}
 use Rattle.yq_cut.specs.Rows as rows
 use Rattle.yq_cut.specs.Rows.{Content, Nothing, Inline, Block, behind_gap, behind_indent, content_text, dashes_text, mark_text, parent_indent}
-use Rattle.yq_cut.specs.View.{anchor_cut, anchor_of, apart_of, content_cut}
+use Rattle.yq_cut.specs.View.{anchor_cut, anchor_with_sign, apart_of, content_cut}
 use Rattle.yq_cut.proofs.CharacterLaws.{all_text, all_join, pairs_back}
 use Rattle.yq_cut.proofs.NothingLaws.{some_behind}
 use Rattle.yq_cut.proofs.PlaceLaws.{row_front-append}
@@ -64,8 +64,8 @@ clean_gap [] rest h = refl
 clean_gap (b ∷ g) rest h = clean_byte b g (search (rules, cases_Bool, at_byte, false≢true, h.0)) (clean_gap g rest h.1)
 
 -- items end in their closing bracket
-pub items_close : (k : ℕ) (is : Items) → (front : List ℕ) × (items_text k is [] ≡ front ++ k ∷ [])
-unfolding items_text
+pub items_close : (k : ℕ) (is : Items) → (front : List ℕ) × (flow_items_text k is [] ≡ front ++ k ∷ [])
+unfolding flow_items_text
 items_close k none = ([], refl)
 items_close k (item key n s is) =
     let x = items_close k is in (
@@ -75,15 +75,15 @@ items_close k (item key n s is) =
           ∙ (ap (key_text key) (node_append n (sep_text s x.0) (k ∷ [])) ∙ key_append key (node_text n (sep_text s x.0)) (k ∷ []))),
     )
 
-clean_node : (spaces : Rattle.std.proofs.Common.Option ℕ) (node : Node) (d : ℕ) (rest : List ℕ) → IsNode false spaces d node rest → ends_return (plain_text node) ≡ false → ends_return (node_text node []) ≡ false
-unfolding node_text IsNode
+clean_node : (spaces : Rattle.std.proofs.Common.Option ℕ) (node : FlowNode) (d : ℕ) (rest : List ℕ) → IsFlowNode false spaces d node rest → ends_return (plain_text node) ≡ false → ends_return (node_text node []) ≡ false
+unfolding node_text IsFlowNode
 clean_node spaces empty d rest h e = refl
 clean_node spaces (alias n) d rest h e = clean_byte 42 (n ++ []) refl (ap ends_return (append-nil n) ∙ clean_name n rest h.inside)
 clean_node spaces (scalar p) d rest h e = ap ends_return (append-nil p) ∙ e
 clean_node spaces (coll k g is) d rest h e =
     let x = items_close k is in
-    let whole : open_of k ∷ (g ++ items_text k is []) ≡ (open_of k ∷ (g ++ x.0)) ++ k ∷ [] = ap (λ t. open_of k ∷ (g ++ t)) x.1 ∙ ap (λ t. open_of k ∷ t) (sym (append_assoc g x.0 (k ∷ []))) in
-    ap ends_return whole ∙ (last_byte (open_of k ∷ (g ++ x.0)) k ∙ (at_byte is_close k 13 h.0 refl))
+    let whole : opening_bracket k ∷ (g ++ flow_items_text k is []) ≡ (opening_bracket k ∷ (g ++ x.0)) ++ k ∷ [] = ap (λ t. opening_bracket k ∷ (g ++ t)) x.1 ∙ ap (λ t. opening_bracket k ∷ t) (sym (append_assoc g x.0 (k ∷ []))) in
+    ap ends_return whole ∙ (last_byte (opening_bracket k ∷ (g ++ x.0)) k ∙ (at_byte is_close k 13 h.0 refl))
 clean_node spaces (anchored n g node) d rest h e =
     clean_byte 38 (n ++ (g ++ node_text node [])) refl
     (clean_joined n (g ++ node_text node []) (clean_name n (g ++ node_text node rest) h.0.inside) (clean_joined g (node_text node []) (gap h.1) (clean_node spaces node d rest h.4 e)))
@@ -98,12 +98,12 @@ clean_node spaces (anchored n g node) d rest h e =
 abbrev written : Content → List ℕ
 written c = (content_cut c).0 ++ ((content_cut c).1 ++ ((content_cut c).2 ++ (content_cut c).3))
 
-node_cut : (node : Node) → (anchor_cut node).0 ++ ((anchor_cut node).1 ++ (anchor_cut node).2) ≡ node_text node []
+node_cut : (node : FlowNode) → (anchor_cut node).0 ++ ((anchor_cut node).1 ++ (anchor_cut node).2) ≡ node_text node []
 unfolding node_text
 node_cut node = search rules
 
 -- no CR at the end of a plain scalar, before an LF
-plain_clean : (n : ℤ) (space : List ℕ) (node : Node) (tail rest : List ℕ) → IsContent n (Inline space node tail) rest → pairs_returns (content_text (Inline space node tail) rest) ≡ true → front is_feed (tail ++ rest) ≡ true → ends_return (plain_text node) ≡ false
+plain_clean : (n : ℤ) (space : List ℕ) (node : FlowNode) (tail rest : List ℕ) → IsContent n (Inline space node tail) rest → pairs_returns (content_text (Inline space node tail) rest) ≡ true → front is_feed (tail ++ rest) ≡ true → ends_return (plain_text node) ≡ false
 plain_clean n space node tail rest h pairs feed = go (content_joined n (Inline space node tail) rest [] [] h pairs)
   where
     go : (front is_feed (tail ++ rest) ≡ front is_feed []) ⊎ (ends_return (plain_text node) ≡ false) → ends_return (plain_text node) ≡ false
@@ -124,8 +124,8 @@ content_clean n (Inline space node tail) rest h pairs feed =
 content_clean n (Block space anchor block) rest h pairs feed =
     let head : List ℕ = Rattle.yq_block_scalars.specs.Block.mark_of block.style ∷ block.indicators in
     let clean : ends_return head ≡ false = clean_byte _ block.indicators (style_clean block.style) (indicators_clean block.digit block.chomping block.indicators h.2.indicators) in
-    ends_more space (anchor_of anchor ++ (apart_of anchor ++ head)) (some_behind (anchor_of anchor) _ (some_behind (apart_of anchor) head refl))
-    ∙ (ends_more (anchor_of anchor) (apart_of anchor ++ head) (some_behind (apart_of anchor) head refl) ∙ (ends_more (apart_of anchor) head refl ∙ clean))
+    ends_more space (anchor_with_sign anchor ++ (apart_of anchor ++ head)) (some_behind (anchor_with_sign anchor) _ (some_behind (apart_of anchor) head refl))
+    ∙ (ends_more (anchor_with_sign anchor) (apart_of anchor ++ head) (some_behind (apart_of anchor) head refl) ∙ (ends_more (apart_of anchor) head refl ∙ clean))
 
 -- ---- a row, up to the end of its line
 
@@ -136,7 +136,7 @@ dashes_clean (n ∷ ns) t h = clean_byte 45 (replicate n 32 ++ dashes_text ns t)
 colon_clean : (key white : List ℕ) → ends_return (key ++ ((white ++ 58 ∷ []) ++ [])) ≡ false
 colon_clean key white = simp (ends_more, append-nil, some_behind, ends_return, last_byte)
 
-mark_clean : (m : rows.Mark) (c : Content) (rest : List ℕ) → IsMark m c rest → ends_return (mark_text m []) ≡ false
+mark_clean : (m : rows.RowMark) (c : Content) (rest : List ℕ) → IsMark m c rest → ends_return (mark_text m []) ≡ false
 mark_clean m c rest h1 = search (rules, ends_return, colon_clean)
 
 gap_clean : (gap rest : List ℕ) → IsGap gap rest → is_empty rest ≡ false → ends_return gap ≡ false

@@ -4,7 +4,7 @@ use Rattle.std.proofs.lemmas.Bool.{ltb-true, ltb-false}
 use Rattle.yq_lines.specs.Comments.{head_comment}
 use Rattle.yq_cut.specs.Rows as rows
 use Rattle.yq_cut.specs.Rows.{Content, Row, behind_columns}
-use Rattle.yq_lines.specs.Lines.{mark_line, dash_line, lines_from, row_lines, lines_of}
+use Rattle.yq_lines.specs.Lines.{mark_line, dash_line, lines_from, row_lines, lines_of_rows}
 use Rattle.yq_lines.specs.Outline.{Line}
 use Rattle.yq_documents.specs.LinesInRows.{RowLine, row_line, behind_one}
 use Rattle.yq_lines.proofs.PlaceLaws.{at}
@@ -17,7 +17,7 @@ abbrev pub above_mark : List (List ℕ) → List ℕ → List (List ℕ)
 above_mark above [] = above
 above_mark above (n ∷ ns) = []
 
-pub mark_behind : (above : List (List ℕ)) (column : ℕ) (ns : List ℕ) (m : rows.Mark) (c : Content) →
+pub mark_behind : (above : List (List ℕ)) (column : ℕ) (ns : List ℕ) (m : rows.RowMark) (c : Content) →
     lines_from above column ns m c ≡ dash_lines above column ns ++ (mark_line (above_mark above ns) (behind_columns column ns) m c ∷ [])
 mark_behind above column [] m c = refl
 mark_behind above column (n ∷ []) m c = refl
@@ -47,7 +47,7 @@ equal_room (r ∷ rs) n = go (ltb (length r.dashes) n) refl (row_line (n - suc (
       back = h.back;
       rows_are = ap (λ (l : List Row). r ∷ l) h.rows_are;
       before = ap suc h.before;
-      lines = let same = h.lines in omega (arith, same, ltb-true (length r.dashes) n e, row_count r, length-append (row_lines r) (lines_of h.front));
+      lines = let same = h.lines in omega (arith, same, ltb-true (length r.dashes) n e, row_count r, length-append (row_lines r) (lines_of_rows h.front));
       less = h.less;
     }
     go false e o h = record { front = []; back = rs; rows_are = refl; before = refl; lines = omega arith; less = omega (arith, ltb-false (length r.dashes) n e) }

@@ -1,12 +1,12 @@
 -- The lines of a node at a path, exchanged.
 use Rattle.std.proofs.Common.{◌≡◌, ℕ, ◌<◌, ◌≤◌, List, [], ◌∷◌, ◌++◌, Option, Some, None, refl, sym, ap, ◌∙◌, subst, arith, append_assoc, append-nil, rules}
 use Rattle.std.proofs.lemmas.Option.{none-some, same_Some}
-use Rattle.yq_flow_scalars.specs.Paths.{Step, change}
+use Rattle.yq_flow_scalars.specs.Paths.{Step, changed_at}
 use Rattle.yq_flow_scalars.specs.Tree.{Node}
 use Rattle.yq_lines.specs.Group.{level_or}
 use Rattle.yq_lines.specs.Laws.{with_lines}
 use Rattle.yq_lines.specs.Outline.{Line, level, Outline, end, row, flatten, IsEven, anchored, value, Stands}
-use Rattle.yq_lines.specs.Places.{Context, here, below, beside, plug, lines_after, compose, FoundLine, find, content}
+use Rattle.yq_lines.specs.Places.{Context, here, below, beside, plug, lines_after, compose, FoundLine, find, content_under}
 use Rattle.yq_lines.proofs.Allowing.{Allows}
 use Rattle.yq_lines.proofs.Finding.{IsFoundIn, path_whole}
 use Rattle.yq_lines.proofs.PlaceLaws.{at, exchanged}
@@ -103,13 +103,13 @@ lines_replaced n m o u [] h g even e fit =
     )) fit.node_is
 lines_replaced n m o u (s ∷ ss) h g even e fit = found (lines_found s ss o h e)
   where
-    found : Under s ss o h → (flatten o ≡ put_lines h (flatten h.lines)) × StandsSomewhere (put_lines h (flatten u)) (change (s ∷ ss) g (value o))
+    found : Under s ss o h → (flatten o ≡ put_lines h (flatten h.lines)) × StandsSomewhere (put_lines h (flatten u)) (changed_at (s ∷ ss) g (value o))
     found w =
         let f : FoundLine = w.found in
         let old = under_even n o s ss f even w.is in
         let deep' : level f.line < m = subst (λ (x : NodeLines). x.above < m) (sym w.place_is) fit.deep in
         let is' : anchored f.line.anchor (value u) ≡ g (anchored f.line.anchor (value f.under)) = search rules in
-        let same : content f.line u ≡ g (content f.line f.under) = rw w.open' is' in
+        let same : content_under f.line u ≡ g (content_under f.line f.under) = rw w.open' is' in
         let law = exchanged n o s ss [] f even w.is g m f.line u refl refl (closed f.line.head u w.open') (old.1).2 deep' fit.even same in
-        subst (λ (x : NodeLines). (flatten o ≡ put_lines x (flatten x.lines)) × StandsSomewhere (put_lines x (flatten u)) (change (s ∷ ss) g (value o))) w.place_is
-        (law.0 ∙ sym (put_under f (flatten f.under)), (n, subst (λ ls. Stands ls (change (s ∷ ss) g (value o)) n) (sym (put_under f (flatten u))) law.1))
+        subst (λ (x : NodeLines). (flatten o ≡ put_lines x (flatten x.lines)) × StandsSomewhere (put_lines x (flatten u)) (changed_at (s ∷ ss) g (value o))) w.place_is
+        (law.0 ∙ sym (put_under f (flatten f.under)), (n, subst (λ ls. Stands ls (changed_at (s ∷ ss) g (value o)) n) (sym (put_under f (flatten u))) law.1))

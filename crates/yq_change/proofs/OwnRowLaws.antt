@@ -6,14 +6,14 @@ use Rattle.std.proofs.lemmas.Option.{cond_some}
 use Rattle.yq_flow_scalars.specs.Paths.{Step}
 use Rattle.yq_flow_scalars.proofs.Bools.{bind_some}
 use Rattle.yq_lines.specs.Comments as comments
-use Rattle.yq_lines.specs.Ends.{deeper_count, line_of, lines_end}
+use Rattle.yq_lines.specs.Ends.{deeper_count, line_at_steps, lines_end}
 use Rattle.yq_lines.specs.Group.{level_or}
 use Rattle.yq_lines.specs.Outline.{Line, level, flatten, IsEven, row}
 use Rattle.yq_lines.specs.Places.{lines_before, lines_after, FoundLine}
 use Rattle.yq_lines.proofs.Decides.{flatten-group}
 use Rattle.yq_cut.specs.Rows.{Row, Part}
-use Rattle.yq_lines.specs.Lines.{row_lines, lines_of}
-use Rattle.yq_documents.specs.Reading.{outline_of}
+use Rattle.yq_lines.specs.Lines.{row_lines, lines_of_rows}
+use Rattle.yq_documents.specs.Reading.{part_outline}
 use Rattle.yq_row_places.specs.RemovalPlaces.{OwnRows, row_count}
 use Rattle.yq_documents.specs.LinesInRows.{RowLine, row_line}
 use Rattle.yq_lines.proofs.RowLaws.{lines_count}
@@ -38,12 +38,12 @@ row_more n r rs =
     let less : length r.dashes + n - length r.dashes ≡ n = omega arith in
     ap (λ (k : ℕ). row_count k (r ∷ rs)) more ∙ ap (λ (k : ℕ). suc (row_count k rs)) less
 
-pub count_rows : (a b : List Row) → row_count (length (lines_of a)) (a ++ b) ≡ length a
+pub count_rows : (a b : List Row) → row_count (length (lines_of_rows a)) (a ++ b) ≡ length a
 count_rows [] b = refl
 count_rows (r ∷ a) b =
     let count : length (row_lines r) ≡ suc (length r.dashes) = lines_count (comments.head_comment r.gap) r.column r.dashes r.mark r.content in
-    let all : length (lines_of (r ∷ a)) ≡ suc (length r.dashes) + length (lines_of a) = omega (arith, count, length-append (row_lines r) (lines_of a)) in
-    ap (λ (k : ℕ). row_count k (r ∷ (a ++ b))) all ∙ (row_more (length (lines_of a)) r (a ++ b) ∙ ap suc (count_rows a b))
+    let all : length (lines_of_rows (r ∷ a)) ≡ suc (length r.dashes) + length (lines_of_rows a) = omega (arith, count, length-append (row_lines r) (lines_of_rows a)) in
+    ap (λ (k : ℕ). row_count k (r ∷ (a ++ b))) all ∙ (row_more (length (lines_of_rows a)) r (a ++ b) ∙ ap suc (count_rows a b))
 
 -- where the lines under a line end
 end_at : (b : List Line) (l : Line) (rest : List Line) → lines_end (length b) (b ++ (l ∷ rest)) ≡ suc (length b) + deeper_count (level l) rest
@@ -55,37 +55,37 @@ begins_none n [] h = refl
 begins_none n (l ∷ ls) h = cond-false (ltb n (level l)) (suc (deeper_count n ls)) 0 (le-ltb n (level l) h)
 
 -- the lines of an item or entry among those of a part
-pub lines_are : (p : Part) (n : ℕ) (steps : List Step) (s : Step) (h : NodeLines) (f : FoundLine) → IsEven n (outline_of p) → IsEntryAt steps s (outline_of p) h f →
-    lines_of p.rows ≡ (lines_before h.place ++ lines_before f.place) ++ (f.line ∷ (flatten f.under ++ lines_behind h f))
+pub lines_are : (p : Part) (n : ℕ) (steps : List Step) (s : Step) (h : NodeLines) (f : FoundLine) → IsEven n (part_outline p) → IsEntryAt steps s (part_outline p) h f →
+    lines_of_rows p.rows ≡ (lines_before h.place ++ lines_before f.place) ++ (f.line ∷ (flatten f.under ++ lines_behind h f))
 lines_are p n steps s h f even at =
-    sym (flatten-group (lines_of p.rows))
-    ∙ ((relabelled n (outline_of p) steps h s f (λ y. y) f.line even at (record { level_is = refl; head_is = refl; anchor_is = refl; label_is = refl })).0
+    sym (flatten-group (lines_of_rows p.rows))
+    ∙ ((relabelled n (part_outline p) steps h s f (λ y. y) f.line even at (record { level_is = refl; head_is = refl; anchor_is = refl; label_is = refl })).0
     ∙ around (lines_before h.place) (lines_before f.place) (f.line ∷ flatten f.under) (flatten f.after ++ lines_after f.place) (lines_after h.place))
 
 -- how many there are
-pub lines_counted : (p : Part) (n : ℕ) (steps : List Step) (s : Step) (h : NodeLines) (f : FoundLine) → IsEven n (outline_of p) → IsEntryAt steps s (outline_of p) h f →
-    (k : ℕ) → k ≡ length (lines_before h.place) + length (lines_before f.place) → lines_end k (lines_of p.rows) - k ≡ length (f.line ∷ flatten f.under)
+pub lines_counted : (p : Part) (n : ℕ) (steps : List Step) (s : Step) (h : NodeLines) (f : FoundLine) → IsEven n (part_outline p) → IsEntryAt steps s (part_outline p) h f →
+    (k : ℕ) → k ≡ length (lines_before h.place) + length (lines_before f.place) → lines_end k (lines_of_rows p.rows) - k ≡ length (f.line ∷ flatten f.under)
 lines_counted p n steps s h f even at k number =
     let b : List Line = lines_before h.place ++ lines_before f.place in
     let w = some_at s h.lines f at.found in
-    let deep = lines_even n (outline_of p) steps h even at.place_is at.block in
+    let deep = lines_even n (part_outline p) steps h even at.place_is at.block in
     let m = level_or 0 h.lines in
     let whole : IsEven m (append_outline w.front (row f.line f.under f.after)) = subst (IsEven m) (sym w.whole) deep.1 in
     let here = even_right m w.front (row f.line f.under f.after) whole in
-    let next : Begins (level f.line) (lines_behind h f) = (entries_apart n (outline_of p) steps s h f even at).next in
+    let next : Begins (level f.line) (lines_behind h f) = (entries_apart n (part_outline p) steps s h f even at).next in
     let size : length b ≡ k = omega (arith, number, length-append (lines_before h.place) (lines_before f.place)) in
     let count : deeper_count (level f.line) (flatten f.under ++ lines_behind h f) ≡ length (flatten f.under) + deeper_count (level f.line) (lines_behind h f) =
     count_under (level f.line) here.3.0 f.under (lines_behind h f) (omega (arith, here.0, here.3.1)) here.3.2 in
-    let end : lines_end k (lines_of p.rows) ≡ suc (length b) + deeper_count (level f.line) (flatten f.under ++ lines_behind h f) =
+    let end : lines_end k (lines_of_rows p.rows) ≡ suc (length b) + deeper_count (level f.line) (flatten f.under ++ lines_behind h f) =
     (λ i. lines_end (sym size i) (lines_are p n steps s h f even at i)) ∙ end_at b f.line (flatten f.under ++ lines_behind h f) in
     omega (arith, size, count, end, begins_none (level f.line) (lines_behind h f) next)
 
 pub own_rows_stand : OwnRowsStand
 own_rows_stand t c k p steps s x old is =
-    let ls : List Line = lines_of p.rows in
+    let ls : List Line = lines_of_rows p.rows in
     let known = document_known t c k p old in
-    let m = level_or 0 (outline_of p) in
-    let line = bind_some (line_of (steps ++ (s ∷ [])) ls) is in
+    let m = level_or 0 (part_outline p) in
+    let line = bind_some (line_at_steps (steps ++ (s ∷ [])) ls) is in
     let n : ℕ = line.0 in
     let at = bind_some (row_line n p.rows) line.2 in
     let q : RowLine = at.0 in
@@ -93,7 +93,7 @@ own_rows_stand t c k p steps s x old is =
     let first : q.line ≡ 0 = eqb-true q.line 0 guard.0 in
     let w = path_is_entry p m steps s n known.even line.1 in
     let r = entry_rows p m steps s w.h w.f q known.even w.entry (subst (λ (j : ℕ). row_line j p.rows ≡ Some q) w.number at.1) first in
-    let lines : lines_end n ls - n ≡ length (lines_of r.gone) = lines_counted p m steps s w.h w.f known.even w.entry n w.number ∙ sym r.has.count in
+    let lines : lines_end n ls - n ≡ length (lines_of_rows r.gone) = lines_counted p m steps s w.h w.f known.even w.entry n w.number ∙ sym r.has.count in
     let behind : drop q.before p.rows ≡ r.gone ++ r.back = (λ j. drop (sym r.number j) (r.has.rows_are j)) ∙ drop-append_seam r.front (r.gone ++ r.back) in
     let count : row_count (lines_end n ls - n) (drop q.before p.rows) ≡ length r.gone = (λ j. row_count (lines j) (behind j)) ∙ count_rows r.gone r.back in
     let same : record { front = r.front; own = r.gone; back = r.back } ≡ x = search (rules, take-append_seam, drop-append_seam, n, q, r, count, guard, ls) in

@@ -7,11 +7,11 @@ use Rattle.yq_flow_scalars.specs.Paths.{Step}
 use Rattle.yq_flow_scalars.specs.Tree.{Node}
 use Rattle.yq_cut.specs.Rows.{Row}
 use Rattle.yq_lines.specs.Group.{level_or}
-use Rattle.yq_lines.specs.Lines.{lines_of}
-use Rattle.yq_lines.specs.Outline.{Mark, Bare, Key, Dash, Outline, IsEven, end, row}
-use Rattle.yq_lines.specs.Places.{here, lines_before, FoundLine, find_row, inside, bare_or, in_head, find}
-use Rattle.yq_documents.specs.Reading.{outline_of}
-use Rattle.yq_lines.specs.Ends.{found_line, line_of}
+use Rattle.yq_lines.specs.Lines.{lines_of_rows}
+use Rattle.yq_lines.specs.Outline.{LineMark, Bare, Key, Dash, Outline, IsEven, end, row}
+use Rattle.yq_lines.specs.Places.{here, lines_before, FoundLine, find_row, place_inside, bare_or, in_head, find}
+use Rattle.yq_documents.specs.Reading.{part_outline}
+use Rattle.yq_lines.specs.Ends.{found_line, line_at_steps}
 use Rattle.yq_documents.specs.LinesInRows.{RowLine, row_line}
 use Rattle.yq_lines.proofs.Values.{If}
 use Rattle.yq_row_places.proofs.FlowViewLaws.{before_under}
@@ -32,7 +32,7 @@ found_at (s ∷ ss) o = find s ss o
 
 -- a step into what is under a line that was found
 step_found : (t v : Step) (vs : List Step) (o : Outline) (f g : FoundLine) (rest : List Step) → HasEntries o → find_row t o ≡ Some f → f.line.head ≡ None → find v vs f.under ≡ Some (g, rest) →
-    find t (v ∷ vs) o ≡ Some (inside f g, rest)
+    find t (v ∷ vs) o ≡ Some (place_inside f g, rest)
 step_found t v vs o f g rest h1 h2 h3 h4 = search (rules, option_and_then)
 
 step_lines : (t : Step) (ts : List Step) (o : Outline) (f : FoundLine) (h : NodeLines) → HasEntries o → find_row t o ≡ Some f → f.line.head ≡ None → lines_at ts f.under ≡ Some h →
@@ -48,7 +48,7 @@ step_lines t [] (row l u a) f h b e n is = (
     same : record { place = here; above = 0; anchor = None; lines = f.under } ≡ h
     same = same_Some _ _ is
 
-    go : (m : Mark) → IsEntry m → bare_or m (Some (record { place = here; line = l; under = u; after = a }, t ∷ [])) (option_map (λ f. (f, [])) (find_row t (row l u a))) ≡ Some (f, [])
+    go : (m : LineMark) → IsEntry m → bare_or m (Some (record { place = here; line = l; under = u; after = a }, t ∷ [])) (option_map (λ f. (f, [])) (find_row t (row l u a))) ≡ Some (f, [])
     go Bare b = absurd b
     go (Key k) b = ap (option_map (λ f. (f, []))) e
     go Dash b = ap (option_map (λ f. (f, []))) e
@@ -57,7 +57,7 @@ step_lines t (v ∷ vs) o f h b e n is = found (lines_found v vs f.under h is)
     found : Under v vs f.under h →
         (g : NodeLines) × (lines_at (t ∷ (v ∷ vs)) o ≡ Some g) × (g.lines ≡ h.lines) × (length (lines_before g.place) ≡ suc (length (lines_before f.place) + length (lines_before h.place)))
     found w =
-        let x = inside f w.found in
+        let x = place_inside f w.found in
         let there = step_found t v vs o f w.found [] b e n w.is in (
           under_line x,
           ap (option_and_then (λ x. lines_below x.0.line.head x.1 x.0)) there ∙ ap (λ y. lines_below y [] x) w.open',
@@ -83,7 +83,7 @@ path_sits [] s n (row l u a) even = go l.mark refl (find_row s (row l u a)) refl
     found b None e = tt
     found b (Some f) e = λ none. record { h = record { place = here; above = 0; anchor = None; lines = row l u a }; f = f; entry = record { place_is = refl; block = b; found = e }; number = omega arith }
 
-    go : (m : Mark) → l.mark ≡ m → (r : Option FoundLine) → find_row s (row l u a) ≡ r →
+    go : (m : LineMark) → l.mark ≡ m → (r : Option FoundLine) → find_row s (row l u a) ≡ r →
         If (bare_or m (Some (record { place = here; line = l; under = u; after = a }, s ∷ [])) (option_map (λ f. (f, [])) r)) (Sits [] s (row l u a))
     go Bare e r is = λ none. absurd (cons≢nil none)
     go (Key k) e r is = found (subst IsEntry (sym e) tt) r is
@@ -103,7 +103,7 @@ path_sits (t ∷ ts) s n o even = split (ts ++ (s ∷ [])) refl o even (λ m u e
     split (v ∷ vs) e (row l u a) even ih = go l.mark refl (find_row t (row l u a)) refl
       where
         here_is : HasEntries (row l u a) → (f : FoundLine) → find_row t (row l u a) ≡ Some f → f.line.head ≡ None → (r : Option (FoundLine × List Step)) → If r (Sits ts s f.under) →
-            If (option_map (λ x. (inside f x.0, x.1)) r) (Sits (t ∷ ts) s (row l u a))
+            If (option_map (λ x. (place_inside f x.0, x.1)) r) (Sits (t ∷ ts) s (row l u a))
         here_is b f is head None h = tt
         here_is b f is head (Some x) h = λ end.
             let w = h end in
@@ -117,18 +117,18 @@ path_sits (t ∷ ts) s n o even = split (ts ++ (s ∷ [])) refl o even (λ m u e
             }
 
         head_is : HasEntries (row l u a) → (f : FoundLine) → find_row t (row l u a) ≡ Some f → (h : Option Node) → f.line.head ≡ h → If (find v vs f.under) (Sits ts s f.under) →
-            If (in_head h (Some (f, v ∷ vs)) (option_map (λ x. (inside f x.0, x.1)) (find v vs f.under))) (Sits (t ∷ ts) s (row l u a))
+            If (in_head h (Some (f, v ∷ vs)) (option_map (λ x. (place_inside f x.0, x.1)) (find v vs f.under))) (Sits (t ∷ ts) s (row l u a))
         head_is b f is None head h = here_is b f is head (find v vs f.under) h
         head_is b f is (Some x) head h = λ end. absurd (cons≢nil end)
 
         row_is : HasEntries (row l u a) → (r : Option FoundLine) → find_row t (row l u a) ≡ r → If r (Stood n) →
-            If (option_and_then (λ f. in_head f.line.head (Some (f, v ∷ vs)) (option_map (λ x. (inside f x.0, x.1)) (find v vs f.under))) r) (Sits (t ∷ ts) s (row l u a))
+            If (option_and_then (λ f. in_head f.line.head (Some (f, v ∷ vs)) (option_map (λ x. (place_inside f x.0, x.1)) (find v vs f.under))) r) (Sits (t ∷ ts) s (row l u a))
         row_is b None is h = tt
         row_is b (Some f) is h = head_is b f is f.line.head refl (subst (λ (xs : List Step). If (found_at xs f.under) (Sits ts s f.under)) e (ih h.even.3.0 f.under h.even.3.2))
 
-        go : (m : Mark) → l.mark ≡ m → (r : Option FoundLine) → find_row t (row l u a) ≡ r →
+        go : (m : LineMark) → l.mark ≡ m → (r : Option FoundLine) → find_row t (row l u a) ≡ r →
             If (bare_or m (Some (record { place = here; line = l; under = u; after = a }, t ∷ (v ∷ vs)))
-            (option_and_then (λ f. in_head f.line.head (Some (f, v ∷ vs)) (option_map (λ x. (inside f x.0, x.1)) (find v vs f.under))) r)) (Sits (t ∷ ts) s (row l u a))
+            (option_and_then (λ f. in_head f.line.head (Some (f, v ∷ vs)) (option_map (λ x. (place_inside f x.0, x.1)) (find v vs f.under))) r)) (Sits (t ∷ ts) s (row l u a))
         go Bare m r is = λ end. absurd (cons≢nil end)
         go (Key k) m r is = row_is (subst IsEntry (sym m) tt) r is (subst (λ (x : Option FoundLine). If x (Stood n)) is (row_stood t n (row l u a) even))
         go Dash m r is = row_is (subst IsEntry (sym m) tt) r is (subst (λ (x : Option FoundLine). If x (Stood n)) is (row_stood t n (row l u a) even))
@@ -137,12 +137,12 @@ path_sits (t ∷ ts) s n o even = split (ts ++ (s ∷ [])) refl o even (λ m u e
 line_at : (steps : List Step) (s : Step) (o : Outline) (r : Option (FoundLine × List Step)) (n : ℕ) → If r (Sits steps s o) → option_and_then (λ x. found_line x.0 x.1) r ≡ Some n → IsEntryLine steps s o n
 line_at steps s o r n h1 h2 = search (rules, none-some, same_Some)
 
-line_found : (steps : List Step) (rows : List Row) → line_of steps (lines_of rows) ≡ option_and_then (λ x. found_line x.0 x.1) (found_at steps (Rattle.yq_lines.specs.Group.group (lines_of rows)))
+line_found : (steps : List Step) (rows : List Row) → line_at_steps steps (lines_of_rows rows) ≡ option_and_then (λ x. found_line x.0 x.1) (found_at steps (Rattle.yq_lines.specs.Group.group (lines_of_rows rows)))
 line_found [] rows = refl
 line_found (s ∷ ss) rows = refl
 
 pub path_is_entry : PathIsEntry
-path_is_entry p m steps s n even e = line_at steps s (outline_of p) (found_at (steps ++ (s ∷ [])) (outline_of p)) n (path_sits steps s m (outline_of p) even) (sym (line_found (steps ++ (s ∷ [])) p.rows) ∙ e)
+path_is_entry p m steps s n even e = line_at steps s (part_outline p) (found_at (steps ++ (s ∷ [])) (part_outline p)) n (path_sits steps s m (part_outline p) even) (sym (line_found (steps ++ (s ∷ [])) p.rows) ∙ e)
 
 -- the row line of a path
 pub row_line_found : (rows : List Row) (o : Option ℕ) (x : RowLine) → (o >>= λ n. row_line n rows) ≡ Some x → (n : ℕ) × (o ≡ Some n) × (row_line n rows ≡ Some x)
@@ -155,23 +155,23 @@ same_rows [] (y ∷ other) a b e n = absurd (omega (arith, n))
 same_rows (x ∷ front) [] a b e n = absurd (omega (arith, n))
 same_rows (x ∷ front) (y ∷ other) a b e n = let r = same_rows front other a b (tail-eq_of_cons-eq e) (omega (arith, n)) in λ i. head-eq_of_cons-eq e i ∷ r i
 
-pub row_line_number : (rows front back : List Row) (n : ℕ) (x : RowLine) → row_line n rows ≡ Some x → rows ≡ front ++ (x.row ∷ back) → length front ≡ x.before → n ≡ length (lines_of front) + x.line
+pub row_line_number : (rows front back : List Row) (n : ℕ) (x : RowLine) → row_line n rows ≡ Some x → rows ≡ front ++ (x.row ∷ back) → length front ≡ x.before → n ≡ length (lines_of_rows front) + x.line
 row_line_number rows front back n x e is before =
     let w = row_line_splits n rows x e in
     let same : w.front ≡ front = same_rows w.front front (x.row ∷ w.back) (x.row ∷ back) (sym w.rows_are ∙ is) (w.before ∙ sym before) in
-    w.lines ∙ ap (λ (rs : List Row). length (lines_of rs) + x.line) same
+    w.lines ∙ ap (λ (rs : List Row). length (lines_of_rows rs) + x.line) same
 
 pub path_line_commented : PathLineCommented
 path_line_commented t c k p steps s x front back tail old row_line_is last takes before text =
-    let l = row_line_found p.rows (line_of (steps ++ (s ∷ [])) (lines_of p.rows)) x row_line_is in
-    let w = path_is_entry p (level_or 0 (outline_of p)) steps s l.0 (document_known t c k p old).even l.1 in
+    let l = row_line_found p.rows (line_at_steps (steps ++ (s ∷ [])) (lines_of_rows p.rows)) x row_line_is in
+    let w = path_is_entry p (level_or 0 (part_outline p)) steps s l.0 (document_known t c k p old).even l.1 in
     let number = row_line_number p.rows front back l.0 x l.2 takes.rows_are before in
-    line_commented t c k p steps s w.h w.f front back x.row tail old w.entry takes (ap (λ (n : ℕ). length (lines_of front) + n) (sym last) ∙ (sym number ∙ w.number)) text
+    line_commented t c k p steps s w.h w.f front back x.row tail old w.entry takes (ap (λ (n : ℕ). length (lines_of_rows front) + n) (sym last) ∙ (sym number ∙ w.number)) text
 
 pub path_head_commented : PathHeadCommented
 path_head_commented t c k p steps s x front back run old row_line_is first takes before text =
-    let l = row_line_found p.rows (line_of (steps ++ (s ∷ [])) (lines_of p.rows)) x row_line_is in
-    let w = path_is_entry p (level_or 0 (outline_of p)) steps s l.0 (document_known t c k p old).even l.1 in
+    let l = row_line_found p.rows (line_at_steps (steps ++ (s ∷ [])) (lines_of_rows p.rows)) x row_line_is in
+    let w = path_is_entry p (level_or 0 (part_outline p)) steps s l.0 (document_known t c k p old).even l.1 in
     let number = row_line_number p.rows front back l.0 x l.2 takes.rows_are before in
     let count = w.number in
     head_commented t c k p steps s w.h w.f front back x.row run old w.entry takes (omega (arith, number, first, count)) text

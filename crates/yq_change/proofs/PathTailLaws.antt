@@ -2,14 +2,14 @@
 use Rattle.std.proofs.Common.{◌≡◌, ℕ, ◌+◌, true, false, List, [], ◌∷◌, ◌++◌, length, take, Option, Some, None, refl, sym, ap, ◌∙◌, subst, rules}
 use Rattle.std.proofs.Math.Seq.{take-append_seam}
 use Rattle.std.proofs.lemmas.Bool.{false≢true}
-use Rattle.yq_block_scalars.specs.Block.{BlockText, block_text, mark_of}
+use Rattle.yq_block_scalars.specs.Block.{BlockText, block_text, style_indicator}
 use Rattle.yq_flow_scalars.specs.Text.{separates}
-use Rattle.yq_flow_scalars.specs.Paths.{Step, change, relabel_child, within}
+use Rattle.yq_flow_scalars.specs.Paths.{Step, changed_at, relabel_child, within}
 use Rattle.yq_block_scalars.specs.declared.block_header.BlockStyle.{BlockStyle}
 use Rattle.yq_block_scalars.specs.declared.block_header.BlockStyle.TheVariants as styles
 use Rattle.yq_nodes.proofs.AlikePieces.{name_by}
 use Rattle.yq_lines.specs.Comments.{line_comment}
-use Rattle.yq_lines.specs.Ends.{line_of}
+use Rattle.yq_lines.specs.Ends.{line_at_steps}
 use Rattle.yq_lines.specs.Group.{level_or}
 use Rattle.yq_cut.specs.Exchange.{asked_behind, with_content}
 use Rattle.yq_cut.specs.Gap.{IsWhite}
@@ -22,8 +22,8 @@ use Rattle.yq_cut.proofs.seams.SeamLaws.{rows_drop}
 use Rattle.yq_cut.proofs.seams.TailLaws.{fits_by}
 use Rattle.yq_cut.proofs.splices.PartPlaces.{part_ends}
 use Rattle.yq_documents.specs.Documents.{lead_of}
-use Rattle.yq_lines.specs.Lines.{lines_of}
-use Rattle.yq_documents.specs.Reading.{outline_of}
+use Rattle.yq_lines.specs.Lines.{lines_of_rows}
+use Rattle.yq_documents.specs.Reading.{part_outline}
 use Rattle.yq_row_places.specs.RowPaths.{IsReadable}
 use Rattle.yq_documents.specs.LinesInRows.{RowLine, row_line_of}
 use Rattle.yq_documents.specs.TreeEdits.{with_line_comment}
@@ -49,20 +49,20 @@ row_stands t c k p front back r old is =
 pub anchor_other : (anchor : Option rows.Anchor) (t u : List ℕ) → IsAnchor anchor t → IsAnchor anchor u
 anchor_other anchor t u h1 = search (rules, name_by, false≢true)
 
-mark_apart : (style : BlockStyle) (t u : List ℕ) → separates (mark_of style ∷ t) ≡ separates (mark_of style ∷ u)
+mark_apart : (style : BlockStyle) (t u : List ℕ) → separates (style_indicator style ∷ t) ≡ separates (style_indicator style ∷ u)
 mark_apart styles.Literal t u = refl
 mark_apart styles.Folded t u = refl
 
-anchor_apart : (anchor : Option rows.Anchor) (style : BlockStyle) (t u : List ℕ) → separates (anchor_text anchor (mark_of style ∷ t)) ≡ separates (anchor_text anchor (mark_of style ∷ u))
+anchor_apart : (anchor : Option rows.Anchor) (style : BlockStyle) (t u : List ℕ) → separates (anchor_text anchor (style_indicator style ∷ t)) ≡ separates (anchor_text anchor (style_indicator style ∷ u))
 anchor_apart None style t u = mark_apart style t u
 anchor_apart (Some a) style t u = refl
 
-header_apart : (space : List ℕ) (anchor : Option rows.Anchor) (style : BlockStyle) (t u : List ℕ) → IsWhite space → separates (space ++ anchor_text anchor (mark_of style ∷ t)) ≡ true → separates (space ++ anchor_text anchor (mark_of style ∷ u)) ≡ true
+header_apart : (space : List ℕ) (anchor : Option rows.Anchor) (style : BlockStyle) (t u : List ℕ) → IsWhite space → separates (space ++ anchor_text anchor (style_indicator style ∷ t)) ≡ true → separates (space ++ anchor_text anchor (style_indicator style ∷ u)) ≡ true
 header_apart [] anchor style t u h e = sym (anchor_apart anchor style t u) ∙ e
 header_apart (b ∷ space) anchor style t u h e = rw h.0 refl
 
 -- behind the mark of a row that holds a block scalar
-entry_apart : (mark : rows.Mark) (space : List ℕ) (anchor : Option rows.Anchor) (block : BlockText) (rest : List ℕ) → IsMark mark (Block space anchor block) rest →
+entry_apart : (mark : rows.RowMark) (space : List ℕ) (anchor : Option rows.Anchor) (block : BlockText) (rest : List ℕ) → IsMark mark (Block space anchor block) rest →
     (is_entry mark ≡ true) × (separates (content_text (Block space anchor block) rest) ≡ true)
 entry_apart mark space anchor block rest h1 = search (rules, false≢true)
 
@@ -88,7 +88,7 @@ header_takes p front back r space anchor block tail rest is there fits row =
 abbrev Commented : (c : Cut) (k : ℕ) (p : Part) (steps : List Step) (s : Step) (front back : List Row) (tail : List ℕ) → Row → Type 0
 Commented c k p steps s front back tail new =
     IsReadable (cut_text (put_document k (inserted front (new ∷ []) back p) c)) →
-    IsChanged c (put_document k (inserted front (new ∷ []) back p) c) k (lead_of p) (change steps (within (relabel_child s (with_line_comment (line_comment tail)))))
+    IsChanged c (put_document k (inserted front (new ∷ []) back p) c) k (lead_of p) (changed_at steps (within (relabel_child s (with_line_comment (line_comment tail)))))
 
 module _ (t : List ℕ) (c : Cut) (k : ℕ) (p : Part) (steps : List Step) (s : Step) (x : RowLine) (front back : List Row) (tail : List ℕ) (old : IsDocumentPart t c k p) (row_line_is : row_line_of (steps ++ (s ∷ [])) p.rows ≡ Some x)
     (last : x.line ≡ length x.row.dashes) (there : p.rows ≡ front ++ (x.row ∷ back)) (before : length front ≡ x.before) where
@@ -103,12 +103,12 @@ module _ (t : List ℕ) (c : Cut) (k : ℕ) (p : Part) (steps : List Step) (s : 
 
   in_header : (space : List ℕ) (anchor : Option rows.Anchor) (block : BlockText) → x.row.content ≡ Block space anchor block → Rattle.yq_block_scalars.specs.Block.is_tail tail ≡ true → Commented c k p steps s front back tail (with_content (with_header_tail tail space anchor block) x.row)
   in_header space anchor block is h text =
-      let l = row_line_found p.rows (line_of (steps ++ (s ∷ [])) (lines_of p.rows)) x row_line_is in
-      let w = path_is_entry p (level_or 0 (outline_of p)) steps s l.0 (document_known t c k p old).even l.1 in
+      let l = row_line_found p.rows (line_at_steps (steps ++ (s ∷ [])) (lines_of_rows p.rows)) x row_line_is in
+      let w = path_is_entry p (level_or 0 (part_outline p)) steps s l.0 (document_known t c k p old).even l.1 in
       let number = row_line_number p.rows front back l.0 x l.2 there before in
       let all = row_stands t c k p front back x.row old there in
       block_commented t c k p steps s w.h w.f front back x.row space anchor block tail old w.entry is (header_takes p front back x.row space anchor block tail (behind_document k c) is there h all.0)
-      (ap (λ (n : ℕ). length (lines_of front) + n) (sym last) ∙ (sym number ∙ w.number)) text
+      (ap (λ (n : ℕ). length (lines_of_rows front) + n) (sym last) ∙ (sym number ∙ w.number)) text
 
   by_content : (y : Content) → x.row.content ≡ y → IsLineTail tail y (rows_text back (p.end ++ behind_document k c)) → Commented c k p steps s front back tail (with_content (with_line_tail tail y) x.row)
   by_content (Nothing e) is h = subst (λ (z : Content). Commented c k p steps s front back tail (with_content z x.row)) (ap (with_tail tail) is) (behind_tail (ap is_block is) h)

@@ -5,10 +5,10 @@ use mathlib.Core.List.{head-eq_of_cons-eq, tail-eq_of_cons-eq}
 use Rattle.yq_flow_scalars.specs.Paths.{Step, is_here, further}
 use Rattle.yq_flow_scalars.specs.Tree.{Node}
 use Rattle.yq_lines.specs.Laws.{with_lines}
-use Rattle.yq_lines.specs.Lines.{lines_of}
-use Rattle.yq_lines.specs.Outline.{Mark, Bare, Key, Dash, Line, Outline, end, row, flatten, IsEven, label}
-use Rattle.yq_lines.specs.Places.{here, lines_before, lines_after, FoundLine, next_to, find_row, inside, bare_or, in_head, find}
-use Rattle.yq_documents.specs.Reading.{outline_of}
+use Rattle.yq_lines.specs.Lines.{lines_of_rows}
+use Rattle.yq_lines.specs.Outline.{LineMark, Bare, Key, Dash, Line, Outline, end, row, flatten, IsEven, label}
+use Rattle.yq_lines.specs.Places.{here, lines_before, lines_after, FoundLine, next_to, find_row, place_inside, bare_or, in_head, find}
+use Rattle.yq_documents.specs.Reading.{part_outline}
 use Rattle.yq_lines.proofs.Allowing as allowing
 use Rattle.yq_lines.proofs.Allowing.{IsCollection}
 use Rattle.yq_lines.proofs.Decides.{flatten-group}
@@ -33,7 +33,7 @@ pub same_parts : SameParts
 same_parts a x z b y w e n m = let p = same_front a b (x ++ z) (y ++ w) e n in let q = same_front x y z w p.1 m in (p.0, q.0, q.1)
 
 pub rows_in_parts : RowsInParts
-rows_in_parts before come after = lines_append before (come ++ after) ∙ ap (λ x. lines_of before ++ x) (lines_append come after)
+rows_in_parts before come after = lines_append before (come ++ after) ∙ ap (λ x. lines_of_rows before ++ x) (lines_append come after)
 
 -- the lines of an outline, around a line that was found
 pub whole_line : (o : Outline) (s : Step) (ss rest : List Step) (f : FoundLine) → find s ss o ≡ Some (f, rest) → flatten o ≡ with_lines f (f.line ∷ flatten f.under)
@@ -43,7 +43,7 @@ pub line_placed : LinePlaced
 line_placed n p s ss rest f a x z even found parted =
     let parts =
     same_parts a x z (lines_before f.place) (f.line ∷ flatten f.under) (flatten f.after ++ lines_after f.place)
-    (sym parted.parts_are ∙ (sym (flatten-group (lines_of p.rows)) ∙ whole_line (outline_of p) s ss rest f found)) parted.before_are parted.size_is in
+    (sym parted.parts_are ∙ (sym (flatten-group (lines_of_rows p.rows)) ∙ whole_line (part_outline p) s ss rest f found)) parted.before_are parted.size_is in
     (parts.1, λ ls. λ i. sym parts.0 i ++ (ls ++ sym parts.2 i))
 
 -- the same around the lines of a node
@@ -65,7 +65,7 @@ entry_placed n p steps h s f a x z even entry parted =
     λ ls. around (lines_before h.place) (lines_before f.place) ls (flatten f.after ++ lines_after f.place) (lines_after h.place) in
     let olds : flatten h.lines ≡ with_lines f e = ap flatten (sym r.whole) ∙ (flatten-append r.front (row f.line f.under f.after) ∙ sym (r.lines e)) in
     let whole : a ++ (x ++ z) ≡ (lines_before h.place ++ lines_before f.place) ++ (e ++ ((flatten f.after ++ lines_after f.place) ++ lines_after h.place)) =
-    sym parted.parts_are ∙ (sym (flatten-group (lines_of p.rows)) ∙ (whole_lines (outline_of p) steps h entry.place_is ∙ (ap (put_lines h) olds ∙ place e))) in
+    sym parted.parts_are ∙ (sym (flatten-group (lines_of_rows p.rows)) ∙ (whole_lines (part_outline p) steps h entry.place_is ∙ (ap (put_lines h) olds ∙ place e))) in
     let parts = same_parts a x z (lines_before h.place ++ lines_before f.place) e ((flatten f.after ++ lines_after f.place) ++ lines_after h.place) whole
     (parted.before_are ∙ sym (length-append (lines_before h.place) (lines_before f.place))) parted.size_is in
     (parts.1, λ ls. place ls ∙ (λ i. sym parts.0 i ++ (ls ++ sym parts.2 i)))
@@ -97,33 +97,33 @@ path_entry n s [] (row k v a) e = go k.mark refl (find_row s (row k v a)) (λ c.
     found None h = tt
     found (Some f) h = h.0
 
-    go : (m : Mark) → k.mark ≡ m → (r : Option FoundLine) → (IsCollection (row k v a) → If r (λ f. allowing.IsEntry f.line.mark × ((m : ℕ) × IsEven m f.under))) →
+    go : (m : LineMark) → k.mark ≡ m → (r : Option FoundLine) → (IsCollection (row k v a) → If r (λ f. allowing.IsEntry f.line.mark × ((m : ℕ) × IsEven m f.under))) →
         If (bare_or m (Some (record { place = here; line = k; under = v; after = a }, s ∷ [])) (option_map (λ f. (f, [])) r)) Ending
     go Bare e r h = tt
     go (Key j) e r h = found r (h (subst allowing.IsEntry (sym e) tt))
     go Dash e r h = found r (h (subst allowing.IsEntry (sym e) tt))
 path_entry n s (t ∷ ts) (row k v a) e = go (λ m u f. path_entry m t ts u f) k.mark refl (find_row s (row k v a)) (λ c. row_entry n s (row k v a) c e)
   where
-    deep : (f : FoundLine) (h : Option Node) (q : Option (FoundLine × List Step)) → If q Ending → If (in_head h (Some (f, t ∷ ts)) (option_map (λ x. (inside f x.0, x.1)) q)) Ending
+    deep : (f : FoundLine) (h : Option Node) (q : Option (FoundLine × List Step)) → If q Ending → If (in_head h (Some (f, t ∷ ts)) (option_map (λ x. (place_inside f x.0, x.1)) q)) Ending
     deep f (Some n) q h = tt
     deep f None None h = tt
     deep f None (Some x) h = h
 
     found : ((m : ℕ) (u : Outline) → IsEven m u → If (find t ts u) Ending) → (r : Option FoundLine) → If r (λ f. allowing.IsEntry f.line.mark × ((m : ℕ) × IsEven m f.under)) →
-        If (option_and_then (λ f. in_head f.line.head (Some (f, t ∷ ts)) (option_map (λ x. (inside f x.0, x.1)) (find t ts f.under))) r) Ending
+        If (option_and_then (λ f. in_head f.line.head (Some (f, t ∷ ts)) (option_map (λ x. (place_inside f x.0, x.1)) (find t ts f.under))) r) Ending
     found ih None h = tt
     found ih (Some f) h = deep f f.line.head (find t ts f.under) (ih h.1.0 f.under h.1.1)
 
-    go : ((m : ℕ) (u : Outline) → IsEven m u → If (find t ts u) Ending) → (m : Mark) → k.mark ≡ m → (r : Option FoundLine) →
+    go : ((m : ℕ) (u : Outline) → IsEven m u → If (find t ts u) Ending) → (m : LineMark) → k.mark ≡ m → (r : Option FoundLine) →
         (IsCollection (row k v a) → If r (λ f. allowing.IsEntry f.line.mark × ((m : ℕ) × IsEven m f.under))) →
         If (bare_or m (Some (record { place = here; line = k; under = v; after = a }, s ∷ (t ∷ ts)))
-        (option_and_then (λ f. in_head f.line.head (Some (f, t ∷ ts)) (option_map (λ x. (inside f x.0, x.1)) (find t ts f.under))) r)) Ending
+        (option_and_then (λ f. in_head f.line.head (Some (f, t ∷ ts)) (option_map (λ x. (place_inside f x.0, x.1)) (find t ts f.under))) r)) Ending
     go ih Bare e r h = tt
     go ih (Key j) e r h = found ih r (h (subst allowing.IsEntry (sym e) tt))
     go ih Dash e r h = found ih r (h (subst allowing.IsEntry (sym e) tt))
 
 pub found_is_entry : FoundIsEntry
-found_is_entry n p s ss f even found = entry_out f.line.mark (at Ending (find s ss (outline_of p)) (f, []) found (path_entry n s ss (outline_of p) even))
+found_is_entry n p s ss f even found = entry_out f.line.mark (at Ending (find s ss (part_outline p)) (f, []) found (path_entry n s ss (part_outline p) even))
 
 -- where lines at a path stand
 pub ruleset places = (same_parts, rows_in_parts, line_placed, entry_placed, found_is_entry)

@@ -13,7 +13,7 @@ use Rattle.yq_lines.specs.Counts.{count}
 use Rattle.yq_lines.specs.Group.{group, level_or}
 use Rattle.yq_lines.specs.Laws.{with_lines}
 use Rattle.yq_lines.specs.Outline.{Line, level, Outline, end, row, flatten, IsEven, head_or, label, children, value}
-use Rattle.yq_lines.specs.Places.{Context, here, below, beside, plug, lines_before, lines_after, FoundLine, next_to, find_row, find, content}
+use Rattle.yq_lines.specs.Places.{Context, here, below, beside, plug, lines_before, lines_after, FoundLine, next_to, find_row, find, content_under}
 use Rattle.yq_lines.proofs.Finding.{IsFoundIn, children-collection, path_node, path_whole, row_child}
 use Rattle.yq_lines.proofs.PlaceLaws.{at}
 use Rattle.yq_lines.proofs.ChildLaws.{anchored_children}
@@ -21,8 +21,8 @@ use Rattle.yq_cut.specs.Grammar.{no_rows}
 use Rattle.yq_cut.specs.Rows.{Row, rows_text, Part, part_text, Cut, cut_text}
 use Rattle.yq_cut.specs.Splices.{first_gap, behind_first}
 use Rattle.yq_documents.specs.Documents.{lead_of}
-use Rattle.yq_lines.specs.Lines.{lines_of}
-use Rattle.yq_documents.specs.Reading.{outline_of, read_at, root_of}
+use Rattle.yq_lines.specs.Lines.{lines_of_rows}
+use Rattle.yq_documents.specs.Reading.{part_outline, read_at, root_of}
 use Rattle.yq_documents.specs.Ready.{begins_no_node}
 use Rattle.yq_row_places.specs.PlacedRows.{PlacedPart, placed_document}
 use Rattle.yq_row_places.specs.RemovalPlaces.{OwnRows, own_rows, kept_gap, Removal, rows_out, removal_place, has_several}
@@ -93,19 +93,19 @@ collection_node (t ∷ ts) o h e b = found (lines_found t ts o h e)
         let f : FoundLine = w.found in
         let same : f.under ≡ h.lines = ap (λ (x : NodeLines). x.lines) w.place_is in
         record {
-          node = content f.line f.under;
-          there = path_node t ts o ∙ ap (λ r. option_and_then (λ (x : FoundLine × List Step). node_at x.1 (content x.0.line x.0.under)) r) w.is;
+          node = content_under f.line f.under;
+          there = path_node t ts o ∙ ap (λ r. option_and_then (λ (x : FoundLine × List Step). node_at x.1 (content_under x.0.line x.0.under)) r) w.is;
           children_are = anchored_children f.line.anchor (head_or f.line.head (value f.under))
               ∙ (ap (λ n. children_of (head_or n (value f.under))) w.open' ∙ (children-value f.under (subst HasEntries (sym same) b) ∙ ap children same));
         }
 
-entry_node : (ss : List Step) (s : Step) (o : Outline) (h : NodeLines) (f : FoundLine) → IsEntryAt ss s o h f → node_at (ss ++ (s ∷ [])) (value o) ≡ Some (content f.line f.under)
+entry_node : (ss : List Step) (s : Step) (o : Outline) (h : NodeLines) (f : FoundLine) → IsEntryAt ss s o h f → node_at (ss ++ (s ∷ [])) (value o) ≡ Some (content_under f.line f.under)
 entry_node ss s o h f at =
     let x = collection_node ss o h at.place_is at.block in
     node_behind ss s (value o)
     ∙ (ap (option_and_then (node_at (s ∷ []))) x.there
     ∙ (ap (λ cs. option_and_then (node_at []) (child_at s cs)) x.children_are
-    ∙ (ap (option_and_then (node_at [])) (row_child s h.lines) ∙ ap (λ r. option_and_then (node_at []) (option_map (λ g. content g.line g.under) r)) at.found)))
+    ∙ (ap (option_and_then (node_at [])) (row_child s h.lines) ∙ ap (λ r. option_and_then (node_at []) (option_map (λ g. content_under g.line g.under) r)) at.found)))
 
 -- ---- something is left
 
@@ -173,10 +173,10 @@ left_first (t ∷ ts) s o h f at left = found (lines_found t ts o h at.place_is)
         place_first g.place (row g.line g.under g.after) ls (subst HasEntries (sym whole) (found_entries t ts o g w.is)) (λ e. e) in
         subst (λ (x : NodeLines). FirstEntry (put_lines x (with_lines f []))) w.place_is (subst FirstEntry (sym (put_under g (with_lines f []))) first)
 
-pub keeps : (p q : Part) → FirstEntry (lines_of q.rows) → KeepsRows p q
+pub keeps : (p q : Part) → FirstEntry (lines_of_rows q.rows) → KeepsRows p q
 keeps p q h empty = go q.rows h empty
   where
-    go : (rs : List Row) → FirstEntry (lines_of rs) → no_rows rs ≡ true → no_rows p.rows ≡ true
+    go : (rs : List Row) → FirstEntry (lines_of_rows rs) → no_rows rs ≡ true → no_rows p.rows ≡ true
     go [] h empty = absurd h
     go (r ∷ rs) h empty = absurd (false≢true empty)
 
@@ -207,7 +207,7 @@ has_first : (p : Part) (ss : List Step) (s : Step) (own : OwnRows) → HasOwnRow
 has_first p ss s own h = go own.own refl
   where
     go : (rs : List Row) → own.own ≡ rs → HasFirst p own
-    go [] e = let none : length (lines_of own.own) ≡ 0 = ap (λ (x : List Row). length (lines_of x)) e in absurd (omega (arith, none, h.rows.count))
+    go [] e = let none : length (lines_of_rows own.own) ≡ 0 = ap (λ (x : List Row). length (lines_of_rows x)) e in absurd (omega (arith, none, h.rows.count))
     go (r ∷ rs) e = record { first = r; others = rs; own_are = e; rows_are = h.rows.rows_are ∙ ap (λ (x : List Row). own.front ++ (x ++ own.back)) e }
 
 stands_at : (c : Cut) (k : ℕ) (ss : List Step) (s : Step) (x : Removal) → read_at (cut_text c) ≡ Some c → IsRowsOut c k (ss ++ (s ∷ [])) x → cut_text c ≡ x.before ++ (x.gone ++ (x.gap ++ x.behind))
@@ -237,18 +237,18 @@ new_readable c k d own r rs read is first rows =
     pieces_joined x.before (mended x.seam x.gap ++ x.behind) before (pieces_joined (mended x.seam x.gap) x.behind (mended_piece x.seam x.gap x.behind h.gap_stands h.gap_is) h.behind_is)
 
 -- what is asked of an item or entry that may be taken out
-pub may_go : (t : List ℕ) (c : Cut) (k : ℕ) (p : Part) (ss : List Step) (s : Step) (h : NodeLines) (f : FoundLine) → IsDocumentPart t c k p → IsEntryAt ss s (outline_of p) h f → MayTakeOut c k (ss ++ (s ∷ [])) →
-    HasEntries (plug f.place f.after) × AreSpared (names_of (content f.line f.under)) [] (names_of (root_of p))
+pub may_go : (t : List ℕ) (c : Cut) (k : ℕ) (p : Part) (ss : List Step) (s : Step) (h : NodeLines) (f : FoundLine) → IsDocumentPart t c k p → IsEntryAt ss s (part_outline p) h f → MayTakeOut c k (ss ++ (s ∷ [])) →
+    HasEntries (plug f.place f.after) × AreSpared (names_of (content_under f.line f.under)) [] (names_of (root_of p))
 may_go t c k p ss s h f old entry may =
-    let o : Outline = outline_of p in
+    let o : Outline = part_outline p in
     let same : may.part ≡ p = same_Some _ _ (sym may.there ∙ old.there) in
     let node = collection_node ss o h entry.place_is entry.block in
     let several : has_several (Some node.node) ≡ true = search (rules, take_init, same, node) in
     let count_is : 1 < count (children h.lines) = subst (λ (cs : Children). 1 < count cs) node.children_are (ltb-true 1 (count (children_of node.node)) several) in
     let even = (lines_even (level_or 0 o) o ss h (document_known t c k p old).even entry.place_is entry.block).1 in
     let left : HasEntries (plug f.place f.after) = left_entries s h.lines (level_or 0 h.lines) f entry.block even entry.found count_is in
-    let node_same : content f.line f.under ≡ may.node = search (rules, same_Some, entry_node, same, o) in
-    let spared : AreSpared (names_of (content f.line f.under)) [] (names_of (root_of p)) =
+    let node_same : content_under f.line f.under ≡ may.node = search (rules, same_Some, entry_node, same, o) in
+    let spared : AreSpared (names_of (content_under f.line f.under)) [] (names_of (root_of p)) =
     subst (λ (n : Node). AreSpared (names_of n) [] (names_of (root_of p))) (sym node_same) (subst (λ (y : Part). AreSpared (names_of may.node) [] (names_of (root_of y))) same may.spared) in
     (left, spared)
 
@@ -276,7 +276,7 @@ taken_at c k ss s x read h may size =
     let old : IsDocumentPart t c k p = record { read = read; there = st.there } in
     let w = own_rows_stand t c k p ss s h.own old h.rows in
     let first = has_first p ss s h.own w in
-    let o : Outline = outline_of p in
+    let o : Outline = part_outline p in
     let q : Part = without h.own.front h.own.own h.own.back p in
     let go = may_go t c k p ss s w.h w.f old w.entry may in
     let text : cut_text (put_document k q c) ≡ x.before ++ (mended x.seam x.gap ++ x.behind) = search (rules, new_text, q, st) in
@@ -288,7 +288,7 @@ taken_at c k ss s x read h may size =
       size = subst (λ (y : List ℕ). length y ≤ text_limit) (sym text) size;
     } in
     let gone = block_gone t c k p ss s w.h w.f h.own.front h.own.own h.own.back old w.entry go.0 w.rows go.1 readable in
-    let entries : FirstEntry (lines_of q.rows) = subst FirstEntry (sym gone.1) (left_first ss s o w.h w.f w.entry go.0) in
+    let entries : FirstEntry (lines_of_rows q.rows) = subst FirstEntry (sym gone.1) (left_first ss s o w.h w.f w.entry go.0) in
     let own_is : h.own.own ≡ first.first ∷ first.others = first.own_are in (
       record {
         old = p;
@@ -297,9 +297,9 @@ taken_at c k ss s x read h may size =
         rows = keeps p q entries;
         text = text;
         changed = subst (IsChanged c (put_document k q c) k (lead_of q)) (λ i n. sym (end_is_change remove_child ss s n) i) gone.0;
-        old_block = group_begins (lines_of p.rows) (root_entries ss o w.h w.entry.place_is w.entry.block);
-        new_block = group_begins (lines_of q.rows) (first_group (lines_of q.rows) entries);
-        new_entries = first_group (lines_of q.rows) entries;
+        old_block = group_begins (lines_of_rows p.rows) (root_entries ss o w.h w.entry.place_is w.entry.block);
+        new_block = group_begins (lines_of_rows q.rows) (first_group (lines_of_rows q.rows) entries);
+        new_entries = first_group (lines_of_rows q.rows) entries;
       },
       record {
         front = h.own.front;

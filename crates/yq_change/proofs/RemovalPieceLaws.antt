@@ -5,11 +5,11 @@ use Rattle.std.proofs.lemmas.Str.{IsUtf8-from_ascii, IsUtf8-nil, chars-IsAscii}
 use Rattle.std.proofs.lemmas.Str.Ascii.{IsAscii-nil, IsAscii-cons}
 use Rattle.std.specs.List.{list_all}
 use Rattle.std.specs.Str.{chars, IsAscii}
-use Rattle.yq_block_scalars.specs.Block.{Lines}
-use Rattle.yq_block_scalars.specs.BlockRepair.{is_short, is_outside, repaired_blank, repaired_comment, repair}
+use Rattle.yq_block_scalars.specs.Block.{RawLines}
+use Rattle.yq_block_scalars.specs.BlockRepair.{is_short, is_outdented_comment, repaired_blank, repaired_comment, repair}
 use Rattle.yq_flow_scalars.specs.Characters.{is_text, is_text_char, pairs_returns}
 use Rattle.yq_flow_scalars.specs.Lines.{is_blank}
-use Rattle.yq_flow_scalars.specs.Text.{is_white, joined, lines_of as text_lines, past_white}
+use Rattle.yq_flow_scalars.specs.Text.{is_white, joined, text_lines, past_white}
 use Rattle.yq_flow_scalars.proofs.Boundaries.{white_ascii}
 use Rattle.yq_block_scalars.proofs.SpaceLaws.{white_drop}
 use Rattle.yq_cut.specs.Gap.{IsGap, IsGapLine, AreGapLines}
@@ -87,7 +87,7 @@ front_none [] b e = refl
 front_none (x ∷ a) b e = absurd (cc)
 
 -- a line of a gap, before the others
-gap_line_seam : (l : List ℕ) (ls : Lines) (rest : List ℕ) → IsGapLine l (joined ls ++ rest) → LineSeam l (joined ls)
+gap_line_seam : (l : List ℕ) (ls : RawLines) (rest : List ℕ) → IsGapLine l (joined ls ++ rest) → LineSeam l (joined ls)
 gap_line_seam l ls rest h = go (gap_end l (joined ls ++ rest) (record { lines = l ∷ []; spelled = sym (append-nil l); each = (h, tt) }))
   where
     go : (l ≡ []) ⊎ Ended l (joined ls ++ rest) → LineSeam l (joined ls)
@@ -95,7 +95,7 @@ gap_line_seam l ls rest h = go (gap_end l (joined ls ++ rest) (record { lines = 
     go (inr (inl lf)) = inr (inl lf)
     go (inr (inr e)) = inr (inr (front_none (joined ls) rest e))
 
-repaired_piece : (keep : Bool) (m column : ℕ) (ls : Lines) (rest : List ℕ) → AreGapLines ls rest → IsPiece (joined ls) → IsPiece (joined (repair keep m column ls))
+repaired_piece : (keep : Bool) (m column : ℕ) (ls : RawLines) (rest : List ℕ) → AreGapLines ls rest → IsPiece (joined ls) → IsPiece (joined (repair keep m column ls))
 unfolding repair
 repaired_piece keep m column [] rest h p = p
 repaired_piece keep m column (l ∷ ls) rest h p =
@@ -103,13 +103,13 @@ repaired_piece keep m column (l ∷ ls) rest h p =
     let again = repaired_piece keep m column ls rest h.1 x.1 in
     let blank : IsPiece (repaired_blank m l) = cond_both (is_short m l) l (past_white l) IsPiece (λ _. x.0) (λ _. past_piece l x.0) in
     let comment : IsPiece (repaired_comment m column l) =
-    cond_both (is_outside m l) l (replicate column 32 ++ past_white l) IsPiece (λ _. x.0) (λ _. pieces_joined (replicate column 32) (past_white l) (spaces_piece column) (past_piece l x.0)) in
-    cond_both (is_blank l) (cond keep (repair keep m column ls) (repaired_blank m l ∷ repair keep m column ls)) (repaired_comment m column l ∷ ls) (λ (y : Lines). IsPiece (joined y))
-    (λ _. cond_both keep (repair keep m column ls) (repaired_blank m l ∷ repair keep m column ls) (λ (y : Lines). IsPiece (joined y)) (λ _. again) (λ _. pieces_joined (repaired_blank m l) (joined (repair keep m column ls)) blank again))
+    cond_both (is_outdented_comment m l) l (replicate column 32 ++ past_white l) IsPiece (λ _. x.0) (λ _. pieces_joined (replicate column 32) (past_white l) (spaces_piece column) (past_piece l x.0)) in
+    cond_both (is_blank l) (cond keep (repair keep m column ls) (repaired_blank m l ∷ repair keep m column ls)) (repaired_comment m column l ∷ ls) (λ (y : RawLines). IsPiece (joined y))
+    (λ _. cond_both keep (repair keep m column ls) (repaired_blank m l ∷ repair keep m column ls) (λ (y : RawLines). IsPiece (joined y)) (λ _. again) (λ _. pieces_joined (repaired_blank m l) (joined (repair keep m column ls)) blank again))
     (λ _. pieces_joined (repaired_comment m column l) (joined ls) comment x.1)
 
 pub mended_piece : (s : Option Seam) (gap rest : List ℕ) → IsGap gap rest → IsPiece gap → IsPiece (mended s gap)
 mended_piece None gap rest h p = p
 mended_piece (Some s) gap rest h p =
     let own : text_lines gap ≡ h.lines = gap_lines gap rest h in
-    repaired_piece s.keeps s.indent s.column (text_lines gap) rest (subst (λ (x : Lines). AreGapLines x rest) (sym own) h.each) (subst IsPiece (h.spelled ∙ ap joined (sym own)) p)
+    repaired_piece s.keeps s.indent s.column (text_lines gap) rest (subst (λ (x : RawLines). AreGapLines x rest) (sym own) h.each) (subst IsPiece (h.spelled ∙ ap joined (sym own)) p)

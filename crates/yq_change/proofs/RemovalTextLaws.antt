@@ -2,7 +2,7 @@
 use Rattle.std.proofs.Common.{◌≡◌, Bool, true, false, cond, ℕ, List, ◌++◌, Option, Some, None, refl, append_assoc}
 use Rattle.yq_block_scalars.specs.Block.{BlockText, keeps}
 use Rattle.yq_block_scalars.specs.BlockRepair.{repair}
-use Rattle.yq_flow_scalars.specs.Text.{joined, lines_of as text_lines}
+use Rattle.yq_flow_scalars.specs.Text.{joined, text_lines}
 use Rattle.yq_cut.specs.Removal.{hold_comment, seam_gap}
 use Rattle.yq_cut.specs.Rows.{part_text}
 use Rattle.yq_cut.proofs.seams.SeamLaws.{gap_text, rows_text-append}

@@ -17,8 +17,8 @@ use Rattle.yq_cut.specs.Splices.{behind_first, first_gap}
 use Rattle.yq_cut.proofs.seams.FrontSeams.{seams_alike, seams_were}
 use Rattle.yq_cut.proofs.splices.SpliceTexts.{own_gap}
 use Rattle.yq_documents.specs.Documents.{HaveFitKeys, HasShortRoot}
-use Rattle.yq_lines.specs.Lines.{lines_of}
-use Rattle.yq_documents.specs.Reading.{outline_of}
+use Rattle.yq_lines.specs.Lines.{lines_of_rows}
+use Rattle.yq_documents.specs.Reading.{part_outline}
 use Rattle.yq_change.specs.Appends.{inserted}
 use Rattle.yq_change.specs.Conditions.{BeginsEntry}
 use Rattle.yq_change.specs.DocumentRows.{RowsFit, behind_document}
@@ -66,32 +66,32 @@ begin_stays (k ∷ x) y z l ls e h = h
 
 -- the root is as short as it was behind the same first row, and where the new rows begin with an entry
 pub short_new : (front old new back : List Row) (gap rest : List ℕ) → HasShortRoot (front ++ old) → AreRows (asked_behind unlimited front) new gap rest → no_rows new ≡ false →
-    (front ≡ [] → BeginsEntry (lines_of (new ++ back))) → HasShortRoot (front ++ (new ++ back))
+    (front ≡ [] → BeginsEntry (lines_of_rows (new ++ back))) → HasShortRoot (front ++ (new ++ back))
 short_new (r ∷ front) old new back gap rest h rows some begins = h
 short_new [] old [] back gap rest h rows some begins = absurd (false≢true (sym some))
-short_new [] old (q ∷ new) back gap rest h rows some begins = entry_short q (lines_of (new ++ back)) rows.0.dashes (begins refl)
+short_new [] old (q ∷ new) back gap rest h rows some begins = entry_short q (lines_of_rows (new ++ back)) rows.0.dashes (begins refl)
 
 pub node_rows_replaced : NodeRowsReplaced
 node_rows_replaced t c k p s ss f v front gone new back x y m l u old found r w fits may text =
     let known = document_known t c k p old in
-    let o : Outline = outline_of p in
+    let o : Outline = part_outline p in
     let q : Part = inserted front new back p in
-    let z : List Line = lines_of back in
-    let a : List Line = lines_of front ++ x in
+    let z : List Line = lines_of_rows back in
+    let a : List Line = lines_of_rows front ++ x in
     let d : List Line = l ∷ flatten u in
     let there : q.rows ≡ front ++ (new ++ back) = ap (λ (rs : List Row). front ++ (new ++ rs)) (own_gap back p.end) in
-    let olds : lines_of p.rows ≡ a ++ (y ++ z) = search (rules, rows_in_parts, around, z) in
-    let placed = line_placed (level_or 0 o) p s ss [] f a y z known.even found (record { parts_are = olds; before_are = length-append (lines_of front) x ∙ w.before_are; size_is = w.size_is }) in
-    let news : lines_of (front ++ (new ++ back)) ≡ a ++ (d ++ z) = search (rules, rows_in_parts, around, d, z) in
-    let lines : lines_of q.rows ≡ with_lines f d = ap lines_of there ∙ (news ∙ sym (placed.1 d)) in
+    let olds : lines_of_rows p.rows ≡ a ++ (y ++ z) = search (rules, rows_in_parts, around, z) in
+    let placed = line_placed (level_or 0 o) p s ss [] f a y z known.even found (record { parts_are = olds; before_are = length-append (lines_of_rows front) x ∙ w.before_are; size_is = w.size_is }) in
+    let news : lines_of_rows (front ++ (new ++ back)) ≡ a ++ (d ++ z) = search (rules, rows_in_parts, around, d, z) in
+    let lines : lines_of_rows q.rows ≡ with_lines f d = ap lines_of_rows there ∙ (news ∙ sym (placed.1 d)) in
     let cut = document_replaced t c k p front gone back new (first_gap back p.end) old r text in
     let some : no_rows new ≡ false = rows_with new x d w.new_lines (λ none. cc) in
     let keys = fit_parts front (gone ++ back) (subst HaveFitKeys r.rows_are known.document.keys) in
     let fit : HaveFitKeys (front ++ (new ++ back)) = fit_from front (new ++ back) keys.0 (fit_from new back w.keys (fit_parts gone back keys.1).1) in
     let entry : IsEntry l.mark = entry_out l.mark (same_entry f.line.mark l.mark (entry_in f.line.mark (found_is_entry (level_or 0 o) p s ss f known.even found)) (same_rank f.line l (sym fits.level_is))) in
-    let begins : front ≡ [] → BeginsEntry (lines_of (new ++ back)) =
-    λ none. subst BeginsEntry (sym (ap (λ (rs : List Row). lines_of (rs ++ (new ++ back))) (sym none) ∙ (rows_in_parts front new back ∙ (λ i. lines_of (none i) ++ (w.new_lines i ++ z)))))
-    (begin_stays x y z l (flatten u) entry (subst BeginsEntry (flatten-group (lines_of p.rows) ∙ (olds ∙ ap (λ (rs : List Row). (lines_of rs ++ x) ++ (y ++ z)) none)) (outline_begins o (found_entries s ss o f found)))) in
+    let begins : front ≡ [] → BeginsEntry (lines_of_rows (new ++ back)) =
+    λ none. subst BeginsEntry (sym (ap (λ (rs : List Row). lines_of_rows (rs ++ (new ++ back))) (sym none) ∙ (rows_in_parts front new back ∙ (λ i. lines_of_rows (none i) ++ (w.new_lines i ++ z)))))
+    (begin_stays x y z l (flatten u) entry (subst BeginsEntry (flatten-group (lines_of_rows p.rows) ∙ (olds ∙ ap (λ (rs : List Row). (lines_of_rows rs ++ x) ++ (y ++ z)) none)) (outline_begins o (found_entries s ss o f found)))) in
     let short : HasShortRoot (front ++ (new ++ back)) =
     short_new front (gone ++ back) new back (first_gap back p.end) _ (subst HasShortRoot r.rows_are known.document.short) r.new_are some begins in
     let put = is_put t c k p q old (ap no_rows there ∙ rows_before_some front (new ++ back) (rows_behind_some new back some)) text cut (subst HaveFitKeys (sym there) fit) (subst HasShortRoot (sym there) short) in

@@ -10,7 +10,7 @@ use Rattle.yq_cut.specs.Splices.{behind_part, is_started, marker_before, nth_par
 use Rattle.yq_cut.proofs.splices.PartPlaces.{part_after}
 use Rattle.yq_cut.proofs.splices.SpliceLaws.{spliced}
 use Rattle.yq_documents.specs.Documents.{HaveFitKeys, HasShortRoot}
-use Rattle.yq_lines.specs.Lines.{lines_of}
+use Rattle.yq_lines.specs.Lines.{lines_of_rows}
 use Rattle.yq_change.specs.DocumentRows.{RowsFit}
 use Rattle.yq_documents.specs.PartNumbers.{part_number}
 use Rattle.yq_change.specs.Replaces.{DocumentRooted, RootRowsReplaced, rooted}
@@ -41,4 +41,4 @@ pub root_rows_replaced : RootRowsReplaced
 root_rows_replaced t c k p v new gap m u old takes fit lines may text =
     let there : new ++ [] ≡ new = append-nil new in
     let put = is_put t c k p (rooted new gap p) old (some_all new takes.some) text (document_rooted t c k p new gap old takes text) (subst HaveFitKeys (sym there) takes.keys) (subst HasShortRoot (sym there) takes.short) in
-    root_replaced t c k p (rooted new gap p) v m u put fit (ap lines_of there ∙ lines) may
+    root_replaced t c k p (rooted new gap p) v m u put fit (ap lines_of_rows there ∙ lines) may

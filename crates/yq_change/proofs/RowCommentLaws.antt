@@ -12,12 +12,12 @@ use Rattle.yq_cut.specs.Splices.{behind_first, first_gap}
 use Rattle.yq_cut.proofs.seams.SeamLaws.{rows_drop}
 use Rattle.yq_cut.proofs.splices.SpliceTexts.{first_is, first_text, own_gap}
 use Rattle.yq_documents.specs.Documents.{HaveFitKeys, HasShortRoot, lead_of}
-use Rattle.yq_lines.specs.Lines.{mark_line, tail_of, lines_of}
+use Rattle.yq_lines.specs.Lines.{mark_line, tail_of, lines_of_rows}
 use Rattle.yq_documents.specs.TreeEdits.{with_line_comment}
 use Rattle.yq_change.specs.Appends.{inserted}
 use Rattle.yq_change.specs.Changed.{put_document}
 use Rattle.yq_change.specs.DocumentRows.{behind_document}
-use Rattle.yq_change.specs.LineRows.{line_number}
+use Rattle.yq_change.specs.LineRows.{lines_before_entry}
 use Rattle.yq_change.specs.Moved.{dash_lines}
 use Rattle.yq_change.specs.RowComments.{RowReplaces, ContentCommented, BlockCommented, with_header_tail}
 use Rattle.yq_change.specs.Siblings.{put_lines}
@@ -72,12 +72,12 @@ content_commented t c k p steps s h f front back r new old at takes alike number
     let short : HasShortRoot (front ++ (b ∷ back)) = short_first front back (r ∷ back) b (subst HasShortRoot takes.rows_are known.document.short) alike.short in
     let put = is_put t c k p q old (ap no_rows there ∙ rows_before_some front (b ∷ back) refl) text cut (subst HaveFitKeys (sym there) fit) (subst HasShortRoot (sym there) short) in
     let above : List (List ℕ) = above_mark (head_comment r.gap) r.dashes in
-    let a : List Line = lines_of front ++ dash_lines (head_comment r.gap) r.column r.dashes in
+    let a : List Line = lines_of_rows front ++ dash_lines (head_comment r.gap) r.column r.dashes in
     let x : Line = mark_line above (mark_column r) r.mark r.content in
     let l : Line = mark_line above (mark_column r) r.mark new in
-    let size : length a ≡ line_number h f = search (rules, length-append, dashes_count) in
-    let one = one_line t c p steps s h f a x (lines_of back) known at (ap lines_of takes.rows_are ∙ last_lines front r back r.content) size in
-    let lines : lines_of q.rows ≡ put_lines h (with_lines f (l ∷ flatten f.under)) = ap lines_of there ∙ (last_lines front r back new ∙ sym (one.put l)) in
+    let size : length a ≡ lines_before_entry h f = search (rules, length-append, dashes_count) in
+    let one = one_line t c p steps s h f a x (lines_of_rows back) known at (ap lines_of_rows takes.rows_are ∙ last_lines front r back r.content) size in
+    let lines : lines_of_rows q.rows ≡ put_lines h (with_lines f (l ∷ flatten f.under)) = ap lines_of_rows there ∙ (last_lines front r back new ∙ sym (one.put l)) in
     led_as c (put_document k q c) k _ _ _ (lead_content front r new back p q takes.rows_are there)
     (entry_relabelled t c k p q steps h s f (with_line_comment (line_comment (tail_of new))) l put at (record {
       level_is = ap level one.is;

@@ -6,9 +6,9 @@ use Rattle.std.specs.List.{slice_get}
 use Rattle.yq_flow_scalars.specs.Answers.{◌>>=◌}
 use Rattle.yq_flow_scalars.specs.Paths.{Step, node_at}
 use Rattle.yq_flow_scalars.proofs.Bools.{bind_some}
-use Rattle.yq_lines.specs.Ends.{line_of}
+use Rattle.yq_lines.specs.Ends.{line_at_steps}
 use Rattle.yq_lines.specs.Outline.{anchored, head_or, value}
-use Rattle.yq_lines.specs.Places.{content}
+use Rattle.yq_lines.specs.Places.{content_under}
 use Rattle.yq_lines.proofs.Finding.{FoundNode, path_node}
 use Rattle.yq_cut.specs.Grammar.{begins_document, no_rows}
 use Rattle.yq_cut.specs.Rows.{Row, Part, Cut, last, marked, part_text}
@@ -17,10 +17,10 @@ use Rattle.yq_cut.proofs.splices.SpliceTexts.{own_gap, own_end}
 use Rattle.yq_documents.specs.Documents.{Document, begins_bare, document_parts, has_begin}
 use Rattle.yq_documents.specs.LinesInRows.{RowLine, behind_one, row_line, row_line_of}
 use Rattle.yq_documents.specs.PartNumbers.{number_from, part_number}
-use Rattle.yq_documents.specs.Reading.{document_of, outline_of}
+use Rattle.yq_documents.specs.Reading.{part_document, part_outline}
 use Rattle.yq_documents.specs.TreeEdits.{change_nth}
 use Rattle.yq_documents.proofs.PartNumberLaws.{part_there}
-use Rattle.yq_lines.specs.Lines.{content_anchor, lines_of}
+use Rattle.yq_lines.specs.Lines.{content_anchor, lines_of_rows}
 use Rattle.yq_row_places.specs.PlacedRows.{PlacedPart, before_part, placed_at, placed_document}
 use Rattle.yq_row_places.specs.Standings.{RowsOfEntry, entry_rows_at, rows_of_entry, under_count}
 use Rattle.yq_row_places.proofs.PlacedPartLaws.{StandsIn, map_some, part_stands}
@@ -83,7 +83,7 @@ line_there n (Some m) rs ss s e same is less = row_line_stays n m rs ss s e same
 
 row_lines_stay : RowLinesStay
 row_lines_stay n p q steps s stays is less =
-    ap (λ (o : Option ℕ). o >>= λ m. row_line m q.rows) (line_by_shape p q stays.shapes steps) ∙ line_there n (line_of steps (lines_of p.rows)) p.rows q.rows s stays.shapes stays.rows is less
+    ap (λ (o : Option ℕ). o >>= λ m. row_line m q.rows) (line_by_shape p q stays.shapes steps) ∙ line_there n (line_at_steps steps (lines_of_rows p.rows)) p.rows q.rows s stays.shapes stays.rows is less
 
 -- ---- in a cut
 
@@ -174,7 +174,7 @@ module _ (c : Cut) (k n : ℕ) (p q : Part) (there : slice_get (document_parts c
     s = found.0
 
     within : s.before < length p.rows
-    within = slice_get_within p.rows s.before s.row (steps_row (line_of steps (lines_of p.rows)) p.rows s found.1)
+    within = slice_get_within p.rows s.before s.row (steps_row (line_at_steps steps (lines_of_rows p.rows)) p.rows s found.1)
 
     front_size : length e.front ≡ s.before
     front_size = sym (ap (λ (x : RowsOfEntry). length x.front) found.2) ∙ length-take-le s.before p.rows (omega (arith, within))
@@ -269,9 +269,9 @@ head_nodes : HeadNodes
 head_nodes n t ts c e h there mark is =
     let row = under_it n t ts c e there mark in
     let line : line_with e.row e.row.content ≡ there.found.line = line_is there.part t ts e.front e.row e.under e.back row (even_there n t ts c e there mark) in
-    ap (λ (o : Option Document). o >>= λ d. node_at (t ∷ ts) d.root) (slice_get-map document_of (document_parts c) n ∙ ap (option_map document_of) there.old.there)
-    ∙ (path_node t ts (outline_of there.part)
-    ∙ (ap FoundNode there.is ∙ ((λ j. Some (content (sym line j) there.found.under)) ∙ (λ j. Some (anchored (content_anchor e.row.content) (head_or (is j) (value there.found.under)))))))
+    ap (λ (o : Option Document). o >>= λ d. node_at (t ∷ ts) d.root) (slice_get-map part_document (document_parts c) n ∙ ap (option_map part_document) there.old.there)
+    ∙ (path_node t ts (part_outline there.part)
+    ∙ (ap FoundNode there.is ∙ ((λ j. Some (content_under (sym line j) there.found.under)) ∙ (λ j. Some (anchored (content_anchor e.row.content) (head_or (is j) (value there.found.under)))))))
 
 pub rows_stay_there : RowsBehindStay
 rows_stay_there = record { lines = row_lines_stay; entries = entries_stay; exchanges = exchanges_stay; nodes = head_nodes }

@@ -6,14 +6,14 @@ use Rattle.yq_flow_scalars.specs.Answers.{◌>>=◌}
 use Rattle.yq_flow_scalars.specs.Paths.{Step, is_here, further}
 use Rattle.yq_flow_scalars.specs.Tree.{Node}
 use Rattle.yq_lines.specs.Comments.{head_comment}
-use Rattle.yq_lines.specs.Ends.{found_line, line_of}
-use Rattle.yq_lines.specs.Group.{deeper, shallow, lead, group}
-use Rattle.yq_lines.specs.Outline.{Mark, Dash, Line, level, Outline, end, row, flatten, label, null_node}
-use Rattle.yq_lines.specs.Places.{Context, here, below, beside, lines_before, compose, FoundLine, next_to, find_row, inside, bare_or, in_head, find}
+use Rattle.yq_lines.specs.Ends.{found_line, line_at_steps}
+use Rattle.yq_lines.specs.Group.{deeper_lines, shallow, lead, group}
+use Rattle.yq_lines.specs.Outline.{LineMark, Dash, Line, level, Outline, end, row, flatten, label, null_node}
+use Rattle.yq_lines.specs.Places.{Context, here, below, beside, lines_before, compose, FoundLine, next_to, find_row, place_inside, bare_or, in_head, find}
 use Rattle.yq_cut.specs.Rows as rows
 use Rattle.yq_cut.specs.Rows.{Row, Content, Part}
 use Rattle.yq_documents.specs.declared.path.Part as places
-use Rattle.yq_lines.specs.Lines.{head_of, mark_of, lines_from, row_lines, lines_of}
+use Rattle.yq_lines.specs.Lines.{head_of, line_mark, lines_from, row_lines, lines_of_rows}
 use Rattle.yq_documents.specs.Ready.{begins_no_node}
 use Rattle.yq_documents.specs.LinesInRows.{RowLine, behind_one, row_line, row_line_has_room}
 use Rattle.yq_change.specs.Rooms.{RowShape, row_shape, EqualRoom, ShapesAgree}
@@ -46,10 +46,10 @@ outline_if : (b : Bool) (x y : Outline) → cond b (strip_outline x) (strip_outl
 outline_if true x y = refl
 outline_if false x y = refl
 
-deeper_strip : (n : ℕ) (o : Outline) → deeper n (strip_outline o) ≡ strip_outline (deeper n o)
+deeper_strip : (n : ℕ) (o : Outline) → deeper_lines n (strip_outline o) ≡ strip_outline (deeper_lines n o)
 deeper_strip n end = refl
 deeper_strip n (row l u a) =
-    (λ i. cond (nat_lt n (same_level l i)) (row (stripped l) (strip_outline u) (deeper_strip n a i)) end) ∙ outline_if (nat_lt n (level l)) (row l u (deeper n a)) end
+    (λ i. cond (nat_lt n (same_level l i)) (row (stripped l) (strip_outline u) (deeper_strip n a i)) end) ∙ outline_if (nat_lt n (level l)) (row l u (deeper_lines n a)) end
 
 shallow_strip : (n : ℕ) (o : Outline) → shallow n (strip_outline o) ≡ strip_outline (shallow n o)
 shallow_strip n end = refl
@@ -60,7 +60,7 @@ pub group_strip : (ls : List Line) → group (map stripped ls) ≡ strip_outline
 group_strip [] = refl
 group_strip (l ∷ ls) =
     ap (lead (stripped l)) (group_strip ls)
-    ∙ ((λ i. row (stripped l) (deeper (same_level l i) (strip_outline (group ls))) (shallow (same_level l i) (strip_outline (group ls))))
+    ∙ ((λ i. row (stripped l) (deeper_lines (same_level l i) (strip_outline (group ls))) (shallow (same_level l i) (strip_outline (group ls))))
     ∙ (λ i. row (stripped l) (deeper_strip (level l) (group ls) i) (shallow_strip (level l) (group ls) i)))
 
 flatten_strip : (o : Outline) → flatten (strip_outline o) ≡ map stripped (flatten o)
@@ -93,12 +93,12 @@ find_row_strip s (row l u a) =
     (λ i. cond (here_strip s l i) (Some (strip_found (record { place = here; line = l; under = u; after = a }))) (option_map (next_to (stripped l) (strip_outline u)) (find_row_strip (further s) a i)))
     ∙ row_found (is_here s (label l)) l u a (find_row (further s) a)
 
-bare_strip : (m : Mark) (x y : Option (FoundLine × List Step)) → bare_or m (option_map strip_pair x) (option_map strip_pair y) ≡ option_map strip_pair (bare_or m x y)
+bare_strip : (m : LineMark) (x y : Option (FoundLine × List Step)) → bare_or m (option_map strip_pair x) (option_map strip_pair y) ≡ option_map strip_pair (bare_or m x y)
 bare_strip m x y = search rules
 
 -- the same below a line that was found
 abbrev deeper_found : FoundLine → FoundLine × List Step → FoundLine × List Step
-deeper_found f x = (inside f x.0, x.1)
+deeper_found f x = (place_inside f x.0, x.1)
 
 abbrev go_on : Step → List Step → FoundLine → Option (FoundLine × List Step)
 go_on t ts f = in_head f.line.head (Some (f, t ∷ ts)) (option_map (deeper_found f) (find t ts f.under))
@@ -131,7 +131,7 @@ find_strip s (t ∷ ts) (row l u a) =
 found_strip : (o : Option (FoundLine × List Step)) → option_and_then (λ x. found_line x.0 x.1) (option_map strip_pair o) ≡ option_and_then (λ x. found_line x.0 x.1) o
 found_strip o = search (rules, before_strip, length-map)
 
-line_strip : (steps : List Step) (ls : List Line) → line_of steps (map stripped ls) ≡ line_of steps ls
+line_strip : (steps : List Step) (ls : List Line) → line_at_steps steps (map stripped ls) ≡ line_at_steps steps ls
 line_strip steps ls = search (rules, option_and_then, group_strip, find_strip, found_strip)
 
 -- ---- rows by their shapes
@@ -140,8 +140,8 @@ abbrev head_if : Bool → Option Node
 head_if true = Some null_node
 head_if false = None
 
-abbrev shape_lines : ℕ → List ℕ → rows.Mark → Bool → List Line
-shape_lines column [] mark headed = record { column = column; mark = mark_of mark; anchor = None; head = head_if headed; head_comment = []; line_comment = None } ∷ []
+abbrev shape_lines : ℕ → List ℕ → rows.RowMark → Bool → List Line
+shape_lines column [] mark headed = record { column = column; mark = line_mark mark; anchor = None; head = head_if headed; head_comment = []; line_comment = None } ∷ []
 shape_lines column (n ∷ ns) mark headed = record { column = column; mark = Dash; anchor = None; head = None; head_comment = []; line_comment = None } ∷ shape_lines (suc (column + n)) ns mark headed
 
 abbrev pub shapes_lines : List RowShape → List Line
@@ -152,19 +152,19 @@ head_is : (h : Option Node) → option_map (λ n. null_node) h ≡ head_if (is_s
 head_is None = refl
 head_is (Some n) = refl
 
-from_strip : (above : List (List ℕ)) (column : ℕ) (ns : List ℕ) (mark : rows.Mark) (c : Content) → map stripped (lines_from above column ns mark c) ≡ shape_lines column ns mark (is_some (head_of c))
-from_strip above column [] mark c = ap (λ h. record { column = column; mark = mark_of mark; anchor = None; head = h; head_comment = []; line_comment = None } ∷ []) (head_is (head_of c))
+from_strip : (above : List (List ℕ)) (column : ℕ) (ns : List ℕ) (mark : rows.RowMark) (c : Content) → map stripped (lines_from above column ns mark c) ≡ shape_lines column ns mark (is_some (head_of c))
+from_strip above column [] mark c = ap (λ h. record { column = column; mark = line_mark mark; anchor = None; head = h; head_comment = []; line_comment = None } ∷ []) (head_is (head_of c))
 from_strip above column (n ∷ ns) mark c =
     ap (λ ls. record { column = column; mark = Dash; anchor = None; head = None; head_comment = []; line_comment = None } ∷ ls) (from_strip [] (suc (column + n)) ns mark c)
 
-pub rows_strip : (rs : List Row) → map stripped (lines_of rs) ≡ shapes_lines (map row_shape rs)
+pub rows_strip : (rs : List Row) → map stripped (lines_of_rows rs) ≡ shapes_lines (map row_shape rs)
 rows_strip [] = refl
-rows_strip (r ∷ rs) = map-append stripped (row_lines r) (lines_of rs) ∙ (λ i. from_strip (head_comment r.gap) r.column r.dashes r.mark r.content i ++ rows_strip rs i)
+rows_strip (r ∷ rs) = map-append stripped (row_lines r) (lines_of_rows rs) ∙ (λ i. from_strip (head_comment r.gap) r.column r.dashes r.mark r.content i ++ rows_strip rs i)
 
-pub line_by_shape : (p q : Part) → map row_shape q.rows ≡ map row_shape p.rows → (steps : List Step) → line_of steps (lines_of q.rows) ≡ line_of steps (lines_of p.rows)
+pub line_by_shape : (p q : Part) → map row_shape q.rows ≡ map row_shape p.rows → (steps : List Step) → line_at_steps steps (lines_of_rows q.rows) ≡ line_at_steps steps (lines_of_rows p.rows)
 line_by_shape p q h steps =
-    sym (line_strip steps (lines_of q.rows))
-    ∙ (ap (line_of steps) (rows_strip q.rows ∙ (ap shapes_lines h ∙ sym (rows_strip p.rows))) ∙ line_strip steps (lines_of p.rows))
+    sym (line_strip steps (lines_of_rows q.rows))
+    ∙ (ap (line_at_steps steps) (rows_strip q.rows ∙ (ap shapes_lines h ∙ sym (rows_strip p.rows))) ∙ line_strip steps (lines_of_rows p.rows))
 
 -- what a line of rows has room for, by how many of its row's lines stand before it, and how many dashes the row has
 abbrev numbers_have_room : places.Part → ℕ × ℕ → Bool
@@ -205,7 +205,7 @@ line_room part None rs ss h = refl
 line_room part (Some n) rs ss h = same_room part n rs ss h
 
 equal_rooms : (p q : Part) → map row_shape q.rows ≡ map row_shape p.rows → EqualRoom p q
-equal_rooms p q h part steps = ap (λ o. row_line_has_room part (o >>= λ n. row_line n q.rows)) (line_by_shape p q h steps) ∙ line_room part (line_of steps (lines_of p.rows)) p.rows q.rows h
+equal_rooms p q h part steps = ap (λ o. row_line_has_room part (o >>= λ n. row_line n q.rows)) (line_by_shape p q h steps) ∙ line_room part (line_at_steps steps (lines_of_rows p.rows)) p.rows q.rows h
 
 begins_strip : (ls : List Line) → begins_no_node (map stripped ls) ≡ begins_no_node ls
 begins_strip [] = refl
@@ -214,5 +214,5 @@ begins_strip (l ∷ ls) = refl
 pub shapes_are_alike : ShapesAgree
 shapes_are_alike p q h = (
   equal_rooms p q h,
-  sym (begins_strip (lines_of q.rows)) ∙ (ap begins_no_node (rows_strip q.rows ∙ (ap shapes_lines h ∙ sym (rows_strip p.rows))) ∙ begins_strip (lines_of p.rows)),
+  sym (begins_strip (lines_of_rows q.rows)) ∙ (ap begins_no_node (rows_strip q.rows ∙ (ap shapes_lines h ∙ sym (rows_strip p.rows))) ∙ begins_strip (lines_of_rows p.rows)),
 )

@@ -2,18 +2,18 @@
 use Rattle.std.proofs.Common.{◌≡◌, ℕ, ◌∷◌, ◌++◌, Option, refl, sym, ap, ◌∙◌, append_assoc, rules}
 use Rattle.yq_flow_scalars.specs.Paths.{within, append_children}
 use Rattle.yq_flow_scalars.specs.Tree.{Children, child}
-use Rattle.yq_lines.specs.Outline.{Mark, Line, level, Outline, end, row, flatten, IsWhole, IsEven, label, children, value}
-use Rattle.yq_lines.specs.Places.{content}
+use Rattle.yq_lines.specs.Outline.{LineMark, Line, level, Outline, end, row, flatten, IsWhole, IsEven, label, children, value}
+use Rattle.yq_lines.specs.Places.{content_under}
 use Rattle.yq_lines.proofs.Allowing as allowing
 use Rattle.yq_lines.proofs.Allowing.{IsCollection}
 use Rattle.yq_lines.proofs.Values.{same_rank, same_collection, same_entry, within-shaped}
 use Rattle.yq_change.specs.Siblings.{append_outline, IsEntry, HasEntries}
 
 -- marks of items and entries
-pub entry_in : (m : Mark) → IsEntry m → allowing.IsEntry m
+pub entry_in : (m : LineMark) → IsEntry m → allowing.IsEntry m
 entry_in m h1 = search rules
 
-pub entry_out : (m : Mark) → allowing.IsEntry m → IsEntry m
+pub entry_out : (m : LineMark) → allowing.IsEntry m → IsEntry m
 entry_out m h1 = search rules
 
 pub entries : (o : Outline) → HasEntries o → IsCollection o
@@ -28,14 +28,14 @@ flatten-append (row l u a) b = ap (λ x. l ∷ x) (ap (λ x. flatten u ++ x) (fl
 -- items and entries
 pub children-append : (a b : Outline) → children (append_outline a b) ≡ append_children (children a) (children b)
 children-append end b = refl
-children-append (row l u a) b = ap (child (label l) (content l u)) (children-append a b)
+children-append (row l u a) b = ap (child (label l) (content_under l u)) (children-append a b)
 
 -- what stands behind an entry's line at its level is an entry's
 pub next : (n : ℕ) (l : Line) (o : Outline) → allowing.IsEntry l.mark → level l ≡ n → IsEven n o → IsCollection o
 next n l end e h even = tt
 next n l (row k v b) e h even = same_entry l.mark k.mark e (same_rank l k (h ∙ sym even.0))
 
-whole_any : (m : Mark) (h : Option _) (o : Outline) → allowing.IsEntry m → IsWhole m h o
+whole_any : (m : LineMark) (h : Option _) (o : Outline) → allowing.IsEntry m → IsWhole m h o
 whole_any m h o h1 = search rules
 
 -- evenness

@@ -5,10 +5,10 @@ use Rattle.std.proofs.lemmas.Bool.{and_parts, and_from, or_parts, or_from, not-t
 use Rattle.std.proofs.lemmas.Option.{none-some, same_Some}
 use Rattle.std.specs.List.{list_any}
 use Rattle.yq_flow_scalars.specs.Keys.{AreDistinct, with_key, keys_of, HasUniqueKeys, EachHasUniqueKeys, depth, deepest}
-use Rattle.yq_flow_scalars.specs.Paths.{Step, is_here, further, append_child, change, child_at, node_at, within}
+use Rattle.yq_flow_scalars.specs.Paths.{Step, is_here, further, append_child, changed_at, child_at, node_at, within}
 use Rattle.yq_flow_scalars.specs.Tree.{Label, Node, Children, none, child, children_of}
 use Rattle.yq_nodes.specs.Inline.{depth_limit}
-use Rattle.yq_flow_scalars.specs.Anchors.{Name, with_anchor, names_of, names_in, IsAmong}
+use Rattle.yq_flow_scalars.specs.Anchors.{Name, anchor_names, names_of, names_in, IsAmong}
 use Rattle.yq_lines.specs.Outline.{anchored}
 use Rattle.yq_flow_scalars.specs.Keys.{are_distinct}
 use Rattle.yq_lines.proofs.KeyLaws.{differs, distinct_is, is_distinct}
@@ -17,7 +17,7 @@ use Rattle.yq_change.specs.Conditions.{aliases_in, AreSpared}
 use Rattle.yq_change.specs.SoundRoots.{IsSoundRoot, IsNewKey, inner_names, ReplaceKeeps, AppendKeeps}
 use Rattle.yq_change.proofs.BoundLaws.{bound_changed, anchor_front}
 use Rattle.yq_change.proofs.TreeLaws.{unique_changed, depth_changed, max_least, max_left, max_right}
-use Rattle.yq_documents.specs.TreeEdits.{replaced}
+use Rattle.yq_documents.specs.TreeEdits.{replaced_node}
 use Rattle.yq_documents.specs.TreeEdits.{anchor_of}
 
 -- what holds of a whole holds of the node at a path
@@ -61,7 +61,7 @@ depth_at (s ∷ ss) n old e = go (child_at s (children_of n)) refl e (λ k d. de
 -- a root changed
 pub sound : (steps : List Step) (root old : Node) (f : Node → Node) (front gone come back : List Name) → IsSoundRoot root → node_at steps root ≡ Some old → HasUniqueKeys (f old) →
     length steps + depth (f old) ≤ depth_limit →
-    names_of old ≡ front ++ (gone ++ back) → names_of (f old) ≡ front ++ (come ++ back) → aliases_in come ≡ [] → AreSpared gone come (names_of root) → IsSoundRoot (change steps f root)
+    names_of old ≡ front ++ (gone ++ back) → names_of (f old) ≡ front ++ (come ++ back) → aliases_in come ≡ [] → AreSpared gone come (names_of root) → IsSoundRoot (changed_at steps f root)
 sound steps root old f front gone come back h there unique nested is new bare spared = record {
   unique = unique_changed steps root old f there h.unique unique;
   nested = depth_changed depth_limit steps root old f there h.nested nested;
@@ -69,10 +69,10 @@ sound steps root old f front gone come back h there unique nested is new bare sp
 }
 
 -- replaced
-own_names : (n : Node) → names_of n ≡ with_anchor (anchor_of n) [] ++ (inner_names n ++ [])
+own_names : (n : Node) → names_of n ≡ anchor_names (anchor_of n) [] ++ (inner_names n ++ [])
 own_names n = search (rules, append-nil, anchor_front)
 
-nameless : (a : Option (List ℕ)) (v : Node) → names_of v ≡ [] → names_of (anchored a v) ≡ with_anchor a [] ++ ([] ++ [])
+nameless : (a : Option (List ℕ)) (v : Node) → names_of v ≡ [] → names_of (anchored a v) ≡ anchor_names a [] ++ ([] ++ [])
 nameless a v h1 = search rules
 
 anchored_unique : (a : Option (List ℕ)) (v : Node) → HasUniqueKeys v → HasUniqueKeys (anchored a v)
@@ -82,7 +82,7 @@ pub replace_keeps : ReplaceKeeps
 replace_keeps steps root old v h there may =
     let a : Option (List ℕ) = anchor_of old in
     let deep : length steps + depth (anchored a v) ≤ depth_limit = subst (λ k. length steps + k ≤ depth_limit) (sym (depth-anchored a v)) may.value_is.nested in
-    sound steps root old (replaced v) (with_anchor a []) (inner_names old) [] [] h there (anchored_unique a v may.value_is.unique) deep (own_names old) (nameless a v may.value_is.bare) refl may.spared
+    sound steps root old (replaced_node v) (anchor_names a []) (inner_names old) [] [] h there (anchored_unique a v may.value_is.unique) deep (own_names old) (nameless a v may.value_is.bare) refl may.spared
 
 -- one more
 names_more : (l : Label) (v : Node) (cs : Children) → names_of v ≡ [] → names_in (append_child l v cs) ≡ names_in cs
@@ -141,7 +141,7 @@ append_unique l v n h1 h2 h3 = search (rules, each_more, keys_more, key_more)
 -- a change that leaves the names as they are
 pub same_names : (steps : List Step) (root old : Node) (f : Node → Node) → IsSoundRoot root → node_at steps root ≡ Some old → HasUniqueKeys (f old) → length steps + depth (f old) ≤ depth_limit →
     names_of (f old) ≡ names_of old →
-    IsSoundRoot (change steps f root)
+    IsSoundRoot (changed_at steps f root)
 same_names steps root old f h there unique nested same =
     sound steps root old f (names_of old) [] [] [] h there unique nested (sym (append-nil (names_of old))) (same ∙ sym (append-nil (names_of old))) refl (λ a m u. m)
 

@@ -7,7 +7,7 @@ use Rattle.std.specs.List.{list_any}
 use Rattle.yq_flow_scalars.specs.Keys.{AreDistinct, with_key, keys_of, HasUniqueKeys, EachHasUniqueKeys, depth, deepest}
 use Rattle.yq_flow_scalars.specs.Paths.{Step, is_here, further, child_at, relabel_child, remove_child, within}
 use Rattle.yq_flow_scalars.specs.Tree.{Label, Node, alias, scalar, list, map, Children, none, child, children_of}
-use Rattle.yq_flow_scalars.specs.Anchors.{Name, with_anchor, names_of, names_in}
+use Rattle.yq_flow_scalars.specs.Anchors.{Name, anchor_names, names_of, names_in}
 use Rattle.yq_flow_scalars.specs.Keys.{are_distinct}
 use Rattle.yq_lines.proofs.KeyLaws.{distinct_is, is_distinct}
 use Rattle.yq_change.specs.SoundRoots.{RemoveKeeps, RelabelKeeps}
@@ -96,15 +96,15 @@ record WithoutIn (s : Step) (n x : Node) : Type 0 where
   pub old : names_of n ≡ front ++ (names_of x ++ back)
   pub new : names_of (within (remove_child s) n) ≡ front ++ ([] ++ back)
 
-with_names : (a : Option (List ℕ)) (s : Step) (cs : Children) (x n : Node) → ((g : Children → Children) → names_of (within g n) ≡ with_anchor a (names_in (g cs))) →
-    names_of n ≡ with_anchor a (names_in cs) → Without s cs x → WithoutIn s n x
+with_names : (a : Option (List ℕ)) (s : Step) (cs : Children) (x n : Node) → ((g : Children → Children) → names_of (within g n) ≡ anchor_names a (names_in (g cs))) →
+    names_of n ≡ anchor_names a (names_in cs) → Without s cs x → WithoutIn s n x
 with_names a s cs x n new old w =
-    let put : (p q : List Name) → names_in (remove_child s cs) ≡ p ++ q → with_anchor a (names_in (remove_child s cs)) ≡ (with_anchor a [] ++ p) ++ q =
-    λ p q e. anchor_front a (names_in (remove_child s cs)) ∙ (ap (λ y. with_anchor a [] ++ y) e ∙ sym (append_assoc (with_anchor a []) p q)) in
+    let put : (p q : List Name) → names_in (remove_child s cs) ≡ p ++ q → anchor_names a (names_in (remove_child s cs)) ≡ (anchor_names a [] ++ p) ++ q =
+    λ p q e. anchor_front a (names_in (remove_child s cs)) ∙ (ap (λ y. anchor_names a [] ++ y) e ∙ sym (append_assoc (anchor_names a []) p q)) in
     record {
-      front = with_anchor a [] ++ w.front;
+      front = anchor_names a [] ++ w.front;
       back = w.back;
-      old = old ∙ (anchor_front a (names_in cs) ∙ (ap (λ y. with_anchor a [] ++ y) w.old ∙ sym (append_assoc (with_anchor a []) w.front (names_of x ++ w.back))));
+      old = old ∙ (anchor_front a (names_in cs) ∙ (ap (λ y. anchor_names a [] ++ y) w.old ∙ sym (append_assoc (anchor_names a []) w.front (names_of x ++ w.back))));
       new = new (remove_child s) ∙ put w.front w.back w.new;
     }
 
@@ -142,8 +142,8 @@ relabel_node : (s : Step) (g : Label → Label) (n : Node) → ((l : Label) → 
     (names_of (within (relabel_child s g) n) ≡ names_of n) × (depth (within (relabel_child s g) n) ≡ depth n) × (HasUniqueKeys n → HasUniqueKeys (within (relabel_child s g) n))
 relabel_node s g (alias name) key = (refl, refl, λ h. h)
 relabel_node s g (scalar a i t) key = (refl, refl, λ h. h)
-relabel_node s g (list a cs) key = let r = labels_stay s g cs key in (ap (with_anchor a) r.1, ap suc r.2, r.3)
-relabel_node s g (map a cs) key = let r = labels_stay s g cs key in (ap (with_anchor a) r.1, ap suc r.2, λ h. (subst AreDistinct (sym r.0) h.0, r.3 h.1))
+relabel_node s g (list a cs) key = let r = labels_stay s g cs key in (ap (anchor_names a) r.1, ap suc r.2, r.3)
+relabel_node s g (map a cs) key = let r = labels_stay s g cs key in (ap (anchor_names a) r.1, ap suc r.2, λ h. (subst AreDistinct (sym r.0) h.0, r.3 h.1))
 
 pub relabel_keeps : RelabelKeeps
 relabel_keeps steps root old s g h there key =

@@ -9,8 +9,8 @@ use Rattle.yq_cut.specs.Grammar.{AreRows, IsRow, Limit, is_entry, limit_after, u
 use Rattle.yq_cut.specs.Rows.{Cut, Row, cut_text, print_row, rows_text}
 use Rattle.yq_cut.proofs.PlaceLaws.{row_then}
 use Rattle.yq_cut.proofs.seams.SeamLaws.{rows_text-append}
-use Rattle.yq_lines.specs.Lines.{lines_of, row_lines}
-use Rattle.yq_documents.specs.Reading.{outline_of}
+use Rattle.yq_lines.specs.Lines.{lines_of_rows, row_lines}
+use Rattle.yq_documents.specs.Reading.{part_outline}
 use Rattle.yq_row_places.specs.Standings.{RowsOfEntry, behind_entry}
 use Rattle.yq_row_places.proofs.CommentPieceLaws.{Ended}
 use Rattle.yq_change.specs.DocumentRows.{behind_document}
@@ -61,10 +61,10 @@ module _ (n : ℕ) (s : Step) (ss : List Step) (c : Cut) (e : RowsOfEntry) (t : 
       is = t.is;
       rows_are = t.rows_are;
       number = omega (arith, t.number, last);
-      count = omega (arith, t.count, last, row_count e.row, length-append (row_lines e.row) (lines_of e.under));
+      count = omega (arith, t.count, last, row_count e.row, length-append (row_lines e.row) (lines_of_rows e.under));
     }
 
-    pub even_there : IsEven (level_or 0 (outline_of t.part)) (outline_of t.part)
+    pub even_there : IsEven (level_or 0 (part_outline t.part)) (part_outline t.part)
     even_there = (document_known (cut_text c) c n t.part t.old).even
 
     pub entry_there : is_entry e.row.mark ≡ true

@@ -8,7 +8,7 @@ use Rattle.yq_flow_scalars.specs.Answers.{◌>>=◌}
 use Rattle.yq_flow_scalars.specs.Paths.{Step}
 use Rattle.yq_flow_scalars.proofs.Bools.{bind_some, guard_then}
 use Rattle.yq_lines.specs.Comments.{head_comment}
-use Rattle.yq_lines.specs.Ends.{IsEndOf, lines_end, line_of}
+use Rattle.yq_lines.specs.Ends.{IsEndOf, lines_end, line_at_steps}
 use Rattle.yq_lines.specs.Group.{group, is_fine}
 use Rattle.yq_lines.specs.Outline.{Line, flatten, level}
 use Rattle.yq_lines.specs.Places.{FoundLine, find, lines_before}
@@ -18,7 +18,7 @@ use Rattle.yq_cut.specs.View.{slices}
 use Rattle.yq_cut.specs.Grammar.{unlimited}
 use Rattle.yq_cut.proofs.splices.ContentPlaces.{count_front, rows_around}
 use Rattle.yq_documents.specs.Documents.{document_parts}
-use Rattle.yq_lines.specs.Lines.{lines_of, row_lines}
+use Rattle.yq_lines.specs.Lines.{lines_of_rows, row_lines}
 use Rattle.yq_documents.specs.Reading.{read_at}
 use Rattle.yq_documents.specs.LinesInRows.{RowLine, row_line, row_line_of}
 use Rattle.yq_row_places.specs.PlacedRows.{PlacedPart, PlacedRow, placed_document, placed_row, row_of_path}
@@ -60,12 +60,12 @@ module _ (n : ℕ) (s : Step) (ss : List Step) (c : Cut) (read : read_at (cut_te
   old : IsDocumentPart (cut_text c) c n d.part
   old = record { read = read; there = stands.there }
 
-  fine : is_fine (group (lines_of d.part.rows)) ≡ true
+  fine : is_fine (group (lines_of_rows d.part.rows)) ≡ true
   unfolding read_at
   fine = document_fine d.part (each (document_parts c) (text_takes (cut_text c) c (guard_then (is_utf8 (cut_text c)) read).1).1 n d.part stands.there)
 
   row : slice_get d.part.rows x.before ≡ Some x.row
-  row = steps_row (line_of (s ∷ ss) (lines_of d.part.rows)) d.part.rows x printed_line
+  row = steps_row (line_at_steps (s ∷ ss) (lines_of_rows d.part.rows)) d.part.rows x printed_line
 
   within : x.line ≤ length x.row.dashes
   within =
@@ -73,16 +73,16 @@ module _ (n : ℕ) (s : Step) (ss : List Step) (c : Cut) (read : read_at (cut_te
       line_within n (s ∷ ss) c w (ap (λ (o : Option PlacedPart). o >>= λ q. option_map (placed_row q) (row_line_of (s ∷ ss) q.part.rows)) at ∙ ap (option_map (placed_row d)) printed_line)
 
   -- its number
-  numbered : (m : ℕ) × (line_of (s ∷ ss) (lines_of d.part.rows) ≡ Some m) × (row_line m d.part.rows ≡ Some x)
-  numbered = bind_some (line_of (s ∷ ss) (lines_of d.part.rows)) printed_line
+  numbered : (m : ℕ) × (line_at_steps (s ∷ ss) (lines_of_rows d.part.rows) ≡ Some m) × (row_line m d.part.rows ≡ Some x)
+  numbered = bind_some (line_at_steps (s ∷ ss) (lines_of_rows d.part.rows)) printed_line
 
-  found : (f : FoundLine) × (find s ss (group (lines_of d.part.rows)) ≡ Some (f, [])) × (length (lines_before f.place) ≡ numbered.0)
+  found : (f : FoundLine) × (find s ss (group (lines_of_rows d.part.rows)) ≡ Some (f, [])) × (length (lines_before f.place) ≡ numbered.0)
   found = search (rules, none-some, same_Some, numbered.1)
 
   rows_are : d.part.rows ≡ take x.before d.part.rows ++ (x.row ∷ drop (suc x.before) d.part.rows)
   rows_are = rows_around d.part.rows x.before x.row row
 
-  number : length (lines_of (take x.before d.part.rows)) + x.line ≡ length (lines_before found.0.place)
+  number : length (lines_of_rows (take x.before d.part.rows)) + x.line ≡ length (lines_before found.0.place)
   number = sym (found.2 ∙ row_line_number d.part.rows (take x.before d.part.rows) (drop (suc x.before) d.part.rows) numbered.0 x numbered.2 rows_are (count_front d.part.rows x.before x.row row))
 
   -- the lines under it
@@ -96,22 +96,22 @@ module _ (n : ℕ) (s : Step) (ss : List Step) (c : Cut) (read : read_at (cut_te
   deep = level_is x.row x.line line.0 (row_agrees_at d.part.rows x.before x.row row_agrees row) within line.2
 
   abbrev stop : ℕ → ℕ
-  stop k = length (lines_of (take (suc x.before + deeper_rows k (map slices (drop (suc x.before) d.part.rows))) d.part.rows))
+  stop k = length (lines_of_rows (take (suc x.before + deeper_rows k (map slices (drop (suc x.before) d.part.rows))) d.part.rows))
 
-  ends : IsEndOf (lines_of d.part.rows) (length (lines_of (take x.before d.part.rows)) + x.line) (stop (line_level x.line (slices x.row)))
+  ends : IsEndOf (lines_of_rows d.part.rows) (length (lines_of_rows (take x.before d.part.rows)) + x.line) (stop (line_level x.line (slices x.row)))
   ends =
-      subst (λ k. IsEndOf (lines_of d.part.rows) (length (lines_of (take x.before d.part.rows)) + x.line) (stop k)) deep
+      subst (λ k. IsEndOf (lines_of_rows d.part.rows) (length (lines_of_rows (take x.before d.part.rows)) + x.line) (stop k)) deep
       (ends_at d.part.rows x.before x.line x.row line.0 row_agrees row within line.1)
 
-  counted : length (lines_of (x.row ∷ take under (drop (suc x.before) d.part.rows))) ≡ x.line + suc (length (flatten found.0.under))
+  counted : length (lines_of_rows (x.row ∷ take under (drop (suc x.before) d.part.rows))) ≡ x.line + suc (length (flatten found.0.under))
   counted =
-      let a : ℕ = length (lines_of (take x.before d.part.rows)) + x.line in
-      let agrees : stop (line_level x.line (slices x.row)) ≡ lines_end a (lines_of d.part.rows) =
-      end_agrees (lines_of d.part.rows) a (stop (line_level x.line (slices x.row))) (let first = ends.0 in let last = ends.1 in omega (arith, first, last)) ends in
-      let end : lines_end a (lines_of d.part.rows) ≡ suc (length (lines_before found.0.place)) + length (flatten found.0.under) =
-      ap (λ k. lines_end k (lines_of d.part.rows)) number ∙ (end_is (lines_of d.part.rows) s ss [] found.0 found.1 fine).1 in
+      let a : ℕ = length (lines_of_rows (take x.before d.part.rows)) + x.line in
+      let agrees : stop (line_level x.line (slices x.row)) ≡ lines_end a (lines_of_rows d.part.rows) =
+      end_agrees (lines_of_rows d.part.rows) a (stop (line_level x.line (slices x.row))) (let first = ends.0 in let last = ends.1 in omega (arith, first, last)) ends in
+      let end : lines_end a (lines_of_rows d.part.rows) ≡ suc (length (lines_before found.0.place)) + length (flatten found.0.under) =
+      ap (λ k. lines_end k (lines_of_rows d.part.rows)) number ∙ (end_is (lines_of_rows d.part.rows) s ss [] found.0 found.1 fine).1 in
       let upto = lines_upto d.part.rows x.before under x.row row in
-      omega (arith, agrees, end, upto, number, row_count x.row, length-append (row_lines x.row) (lines_of (take under (drop (suc x.before) d.part.rows))))
+      omega (arith, agrees, end, upto, number, row_count x.row, length-append (row_lines x.row) (lines_of_rows (take under (drop (suc x.before) d.part.rows))))
 
   there : StandsThere n s ss c (entry_rows_at d x)
   there = record {

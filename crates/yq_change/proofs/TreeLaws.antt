@@ -2,7 +2,7 @@
 use Rattle.std.proofs.Common.{◌≡◌, ℕ, ◌+◌, ◌-◌, ◌≤◌, max, [], ◌∷◌, length, Option, Some, None, option_and_then, Bool, true, false, cond, refl, sym, ap, subst, arith}
 use Rattle.std.proofs.lemmas.Option.{none-some, same_Some}
 use Rattle.yq_flow_scalars.specs.Keys.{AreDistinct, with_key, keys_of, HasUniqueKeys, EachHasUniqueKeys, depth, deepest}
-use Rattle.yq_flow_scalars.specs.Paths.{Step, is_here, further, child_at, node_at, change_child, within, change}
+use Rattle.yq_flow_scalars.specs.Paths.{Step, is_here, further, child_at, node_at, change_child, within, changed_at}
 use Rattle.yq_flow_scalars.specs.Tree.{Node, alias, scalar, list, map, Children, none, child, children_of}
 use Rattle.yq_change.specs.Conditions.{UniqueChanged, DepthChanged}
 
@@ -29,14 +29,14 @@ pub unique_changed : UniqueChanged
 unique_changed [] n old f e h new = subst (λ x. HasUniqueKeys (f x)) (sym (same_Some _ _ e)) new
 unique_changed (s ∷ ss) n old f e h new = go (child_at s (children_of n)) refl e (λ k d u. unique_changed ss k old f d u new)
   where
-    kinds : (n k : Node) → child_at s (children_of n) ≡ Some k → (HasUniqueKeys k → HasUniqueKeys (change ss f k)) → HasUniqueKeys n → HasUniqueKeys (within (change_child s (change ss f)) n)
+    kinds : (n k : Node) → child_at s (children_of n) ≡ Some k → (HasUniqueKeys k → HasUniqueKeys (changed_at ss f k)) → HasUniqueKeys n → HasUniqueKeys (within (change_child s (changed_at ss f)) n)
     kinds (alias name) k is r h = tt
     kinds (scalar a i t) k is r h = tt
-    kinds (list a cs) k is r h = each_unique s (change ss f) cs k is r h
-    kinds (map a cs) k is r h = (subst AreDistinct (sym (keys_stay s (change ss f) cs)) h.0, each_unique s (change ss f) cs k is r h.1)
+    kinds (list a cs) k is r h = each_unique s (changed_at ss f) cs k is r h
+    kinds (map a cs) k is r h = (subst AreDistinct (sym (keys_stay s (changed_at ss f) cs)) h.0, each_unique s (changed_at ss f) cs k is r h.1)
 
-    go : (r : Option Node) → child_at s (children_of n) ≡ r → option_and_then (node_at ss) r ≡ Some old → ((k : Node) → node_at ss k ≡ Some old → HasUniqueKeys k → HasUniqueKeys (change ss f k)) →
-        HasUniqueKeys (within (change_child s (change ss f)) n)
+    go : (r : Option Node) → child_at s (children_of n) ≡ r → option_and_then (node_at ss) r ≡ Some old → ((k : Node) → node_at ss k ≡ Some old → HasUniqueKeys k → HasUniqueKeys (changed_at ss f k)) →
+        HasUniqueKeys (within (change_child s (changed_at ss f)) n)
     go None is e ih = absurd (none-some _ e)
     go (Some k) is e ih = kinds n k is (ih k e) h
 
@@ -70,13 +70,13 @@ depth_changed d [] n old f e h new =
 depth_changed d (s ∷ ss) n old f e h new =
     let less : length ss + depth (f old) ≤ d - 1 = omega (arith, new) in go (child_at s (children_of n)) refl e (λ k u w. depth_changed (d - 1) ss k old f u w less)
   where
-    kinds : (n k : Node) → child_at s (children_of n) ≡ Some k → (depth k ≤ d - 1 → depth (change ss f k) ≤ d - 1) → depth n ≤ d → depth (within (change_child s (change ss f)) n) ≤ d
+    kinds : (n k : Node) → child_at s (children_of n) ≡ Some k → (depth k ≤ d - 1 → depth (changed_at ss f k) ≤ d - 1) → depth n ≤ d → depth (within (change_child s (changed_at ss f)) n) ≤ d
     kinds (alias name) k is r h = h
     kinds (scalar a i t) k is r h = h
-    kinds (list a cs) k is r h = let x = deepest_changed (d - 1) s (change ss f) cs k is r (omega (arith, h)) in omega (arith, x, h)
-    kinds (map a cs) k is r h = let x = deepest_changed (d - 1) s (change ss f) cs k is r (omega (arith, h)) in omega (arith, x, h)
+    kinds (list a cs) k is r h = let x = deepest_changed (d - 1) s (changed_at ss f) cs k is r (omega (arith, h)) in omega (arith, x, h)
+    kinds (map a cs) k is r h = let x = deepest_changed (d - 1) s (changed_at ss f) cs k is r (omega (arith, h)) in omega (arith, x, h)
 
-    go : (r : Option Node) → child_at s (children_of n) ≡ r → option_and_then (node_at ss) r ≡ Some old → ((k : Node) → node_at ss k ≡ Some old → depth k ≤ d - 1 → depth (change ss f k) ≤ d - 1) →
-        depth (within (change_child s (change ss f)) n) ≤ d
+    go : (r : Option Node) → child_at s (children_of n) ≡ r → option_and_then (node_at ss) r ≡ Some old → ((k : Node) → node_at ss k ≡ Some old → depth k ≤ d - 1 → depth (changed_at ss f k) ≤ d - 1) →
+        depth (within (change_child s (changed_at ss f)) n) ≤ d
     go None is e ih = absurd (none-some _ e)
     go (Some k) is e ih = kinds n k is (ih k e) h

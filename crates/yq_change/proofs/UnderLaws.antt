@@ -9,8 +9,8 @@ use Rattle.yq_lines.specs.Places.{lines_before, lines_after}
 use Rattle.yq_lines.proofs.Decides.{flatten-group}
 use Rattle.yq_cut.specs.Grammar.{is_entry}
 use Rattle.yq_cut.specs.Rows.{Content, Row, mark_column, Part}
-use Rattle.yq_lines.specs.Lines.{mark_line, lines_of}
-use Rattle.yq_documents.specs.Reading.{outline_of}
+use Rattle.yq_lines.specs.Lines.{mark_line, lines_of_rows}
+use Rattle.yq_documents.specs.Reading.{part_outline}
 use Rattle.yq_change.specs.Moved.{dash_lines}
 use Rattle.yq_change.specs.Unders.{HasUnder}
 use Rattle.yq_change.proofs.AppendLaws.{around}
@@ -26,29 +26,29 @@ abbrev pub dashes_of : Row → List Line
 dashes_of r = dash_lines (head_comment r.gap) r.column r.dashes
 
 -- the lines of the rows that go, and of the one that comes
-pub gone_lines : (r : Row) (under : List Row) → lines_of (r ∷ under) ≡ dashes_of r ++ (line_with r r.content ∷ lines_of under)
-gone_lines r under = ap (λ (ls : List Line). ls ++ lines_of under) (mark_behind (head_comment r.gap) r.column r.dashes r.mark r.content) ∙ append_assoc (dashes_of r) (line_with r r.content ∷ []) (lines_of under)
+pub gone_lines : (r : Row) (under : List Row) → lines_of_rows (r ∷ under) ≡ dashes_of r ++ (line_with r r.content ∷ lines_of_rows under)
+gone_lines r under = ap (λ (ls : List Line). ls ++ lines_of_rows under) (mark_behind (head_comment r.gap) r.column r.dashes r.mark r.content) ∙ append_assoc (dashes_of r) (line_with r r.content ∷ []) (lines_of_rows under)
 
 -- ---- the lines under the row
 
-module _ (p : Part) (s : Step) (ss : List Step) (front : List Row) (r : Row) (under back : List Row) (w : HasUnder p s ss front r under back) (even : IsEven (level_or 0 (outline_of p)) (outline_of p)) where
-  before_are : length (lines_of front) + length (dashes_of r) ≡ length (lines_before w.found.place)
-  before_are = ap (λ (n : ℕ). length (lines_of front) + n) (dashes_count (head_comment r.gap) r.column r.dashes) ∙ w.number
+module _ (p : Part) (s : Step) (ss : List Step) (front : List Row) (r : Row) (under back : List Row) (w : HasUnder p s ss front r under back) (even : IsEven (level_or 0 (part_outline p)) (part_outline p)) where
+  before_are : length (lines_of_rows front) + length (dashes_of r) ≡ length (lines_before w.found.place)
+  before_are = ap (λ (n : ℕ). length (lines_of_rows front) + n) (dashes_count (head_comment r.gap) r.column r.dashes) ∙ w.number
 
-  old_lines : lines_of p.rows ≡ (lines_of front ++ dashes_of r) ++ ((line_with r r.content ∷ lines_of under) ++ lines_of back)
+  old_lines : lines_of_rows p.rows ≡ (lines_of_rows front ++ dashes_of r) ++ ((line_with r r.content ∷ lines_of_rows under) ++ lines_of_rows back)
   old_lines =
-      ap lines_of w.rows_are ∙ (rows_in_parts front (r ∷ under) back
-      ∙ (ap (λ (ls : List Line). lines_of front ++ (ls ++ lines_of back)) (gone_lines r under) ∙ sym (around (lines_of front) (dashes_of r) (line_with r r.content ∷ lines_of under) (lines_of back))))
+      ap lines_of_rows w.rows_are ∙ (rows_in_parts front (r ∷ under) back
+      ∙ (ap (λ (ls : List Line). lines_of_rows front ++ (ls ++ lines_of_rows back)) (gone_lines r under) ∙ sym (around (lines_of_rows front) (dashes_of r) (line_with r r.content ∷ lines_of_rows under) (lines_of_rows back))))
 
-  parts : (lines_of front ++ dashes_of r ≡ lines_before w.found.place) × (line_with r r.content ∷ lines_of under ≡ w.found.line ∷ flatten w.found.under) × (lines_of back ≡ flatten w.found.after ++ lines_after w.found.place)
+  parts : (lines_of_rows front ++ dashes_of r ≡ lines_before w.found.place) × (line_with r r.content ∷ lines_of_rows under ≡ w.found.line ∷ flatten w.found.under) × (lines_of_rows back ≡ flatten w.found.after ++ lines_after w.found.place)
   parts =
-      same_parts (lines_of front ++ dashes_of r) (line_with r r.content ∷ lines_of under) (lines_of back) (lines_before w.found.place) (w.found.line ∷ flatten w.found.under) (flatten w.found.after ++ lines_after w.found.place)
-      (sym old_lines ∙ (sym (flatten-group (lines_of p.rows)) ∙ whole_line (outline_of p) s ss [] w.found w.is)) (length-append (lines_of front) (dashes_of r) ∙ before_are) (ap suc w.count)
+      same_parts (lines_of_rows front ++ dashes_of r) (line_with r r.content ∷ lines_of_rows under) (lines_of_rows back) (lines_before w.found.place) (w.found.line ∷ flatten w.found.under) (flatten w.found.after ++ lines_after w.found.place)
+      (sym old_lines ∙ (sym (flatten-group (lines_of_rows p.rows)) ∙ whole_line (part_outline p) s ss [] w.found w.is)) (length-append (lines_of_rows front) (dashes_of r) ∙ before_are) (ap suc w.count)
 
   pub line_is : line_with r r.content ≡ w.found.line
   line_is = head-eq_of_cons-eq parts.1
 
-  pub under_is : lines_of under ≡ flatten w.found.under
+  pub under_is : lines_of_rows under ≡ flatten w.found.under
   under_is = tail-eq_of_cons-eq parts.1
 
   pub is_mark : is_entry r.mark ≡ true

@@ -7,12 +7,12 @@ use Rattle.yq_flow_scalars.specs.Plain.{ends_plain, holds_break}
 use Rattle.yq_flow_scalars.specs.Text.{is_feed, is_marker, is_white, no_white, separates, unless, NoneIn}
 use Rattle.yq_flow_scalars.specs.Tree.{Node}
 use Rattle.yq_nodes.specs.Nodes as inline
-use Rattle.yq_nodes.specs.Nodes.{empty, alias, scalar, coll, anchored, node_text, begins_content, in_name, is_bare, IsLead, IsNode}
+use Rattle.yq_nodes.specs.Nodes.{empty, alias, scalar, coll, anchored, node_text, begins_content, in_name, is_empty_node, IsLead, IsFlowNode}
 use Rattle.yq_cut.proofs.NothingLaws.{tail_apart}
 use Rattle.std.specs.List.{list_any}
 use Rattle.yq_nodes.proofs.Alikes.{no_first}
 use Rattle.yq_lines.specs.Comments.{line_comment}
-use Rattle.yq_cut.specs.Grammar.{IsContent, IsTail, is_more, is_plain, may_be_alone}
+use Rattle.yq_cut.specs.Grammar.{IsContent, IsTail, is_more, is_plain_content, may_be_alone}
 use Rattle.yq_cut.specs.Rows as rows
 use Rattle.yq_cut.specs.Rows.{Content, content_text}
 use Rattle.yq_documents.specs.Documents.{ContentHasFitKeys, is_long_plain}
@@ -21,7 +21,7 @@ use Rattle.yq_lines.specs.Lines.{content_anchor, head_of, tail_of}
 use Rattle.yq_change.specs.InlineRows.{IsValueNode}
 use Rattle.yq_change.proofs.CoreLaws.{recore, put_core, core_head, core_anchor, core_keys, core_bare, core_more, core_node}
 
-pub more_some : (node : inline.Node) → is_more node ≡ true → is_bare node ≡ false
+pub more_some : (node : inline.FlowNode) → is_more node ≡ true → is_empty_node node ≡ false
 more_some node h1 = search (rules, false≢true)
 
 -- no break in a name, nor in white space
@@ -46,8 +46,8 @@ gap_feed : (g t : List ℕ) → IsLead false (begins_content false) g t → list
 gap_feed g t (inl h) = white_feed g t h.0.0
 gap_feed g t (inr h) = ap (list_any is_feed) h.0
 
-module _ (v : Node) (node : inline.Node) (is : IsValueNode v node) where
-  some : is_bare node ≡ false
+module _ (v : Node) (node : inline.FlowNode) (is : IsValueNode v node) where
+  some : is_empty_node node ≡ false
   some = more_some node is.more
 
   pub content_is : (n : ℤ) (x : Content) (rest : List ℕ) → is_block x ≡ false → IsContent n x rest → ((tail : List ℕ) → IsTail tail rest → ends_plain false (Some (deeper n)) (tail ++ rest) ≡ true) → IsContent n (put_core node x) rest
@@ -70,7 +70,7 @@ module _ (v : Node) (node : inline.Node) (is : IsValueNode v node) where
   content_alone x h1 = search (rules, false≢true, and_parts, and_from, recore, core_more, some)
 
   -- and it is no marker there
-  core_unmarked : (old : inline.Node) (rest : List ℕ) → separates rest ≡ true → is_marker (node_text (recore node old) rest) ≡ false
+  core_unmarked : (old : inline.FlowNode) (rest : List ℕ) → separates rest ≡ true → is_marker (node_text (recore node old) rest) ≡ false
   unfolding node_text
   core_unmarked empty rest h = is.unmarked rest h
   core_unmarked (alias n) rest h = is.unmarked rest h
@@ -82,22 +82,22 @@ module _ (v : Node) (node : inline.Node) (is : IsValueNode v node) where
   content_unmarked n x rest h1 h2 = search (rules, false≢true, core_unmarked, tail_apart)
 
   -- it is on one line, if it is plain
-  plain_short : (is_plain node && holds_break (node_text node [])) ≡ false
-  plain_short = go (is_plain node) refl
+  plain_short : (is_plain_content node && holds_break (node_text node [])) ≡ false
+  plain_short = go (is_plain_content node) refl
     where
-      go : (b : Bool) → is_plain node ≡ b → (b && holds_break (node_text node [])) ≡ false
+      go : (b : Bool) → is_plain_content node ≡ b → (b && holds_break (node_text node [])) ≡ false
       go false e = refl
       go true e = is.line e
 
-  behind_anchor : (n g : List ℕ) → list_any is_feed n ≡ false → list_any is_feed g ≡ false → (is_plain node && holds_break (38 ∷ (n ++ (g ++ node_text node [])))) ≡ false
-  behind_anchor n g a b = go (is_plain node) refl
+  behind_anchor : (n g : List ℕ) → list_any is_feed n ≡ false → list_any is_feed g ≡ false → (is_plain_content node && holds_break (38 ∷ (n ++ (g ++ node_text node [])))) ≡ false
+  behind_anchor n g a b = go (is_plain_content node) refl
     where
-      go : (c : Bool) → is_plain node ≡ c → (c && holds_break (38 ∷ (n ++ (g ++ node_text node [])))) ≡ false
+      go : (c : Bool) → is_plain_content node ≡ c → (c && holds_break (38 ∷ (n ++ (g ++ node_text node [])))) ≡ false
       go false e = refl
       go true e = feed_join n (g ++ node_text node []) a (feed_join g (node_text node []) b (is.line e))
 
-  core_short : (old : inline.Node) (spaces : Option ℕ) (d : ℕ) (rest : List ℕ) → IsNode false spaces d old rest → (is_plain (recore node old) && holds_break (node_text (recore node old) [])) ≡ false
-  unfolding IsNode node_text
+  core_short : (old : inline.FlowNode) (spaces : Option ℕ) (d : ℕ) (rest : List ℕ) → IsFlowNode false spaces d old rest → (is_plain_content (recore node old) && holds_break (node_text (recore node old) [])) ≡ false
+  unfolding IsFlowNode node_text
   core_short empty spaces d rest h = plain_short
   core_short (alias n) spaces d rest h = plain_short
   core_short (scalar p) spaces d rest h = plain_short
@@ -108,5 +108,5 @@ module _ (v : Node) (node : inline.Node) (is : IsValueNode v node) where
   core_short (anchored n g (coll k x xs)) spaces d rest h = behind_anchor n g (name_feed n _ h.0.inside) (gap_feed g _ h.1)
   core_short (anchored n g (anchored m x old)) spaces d rest h = absurd (false≢true h.3)
 
-  pub content_short : (n : ℤ) (mark : rows.Mark) (x : Content) (rest : List ℕ) → IsContent n x rest → is_long_plain mark (put_core node x) ≡ false
+  pub content_short : (n : ℤ) (mark : rows.RowMark) (x : Content) (rest : List ℕ) → IsContent n x rest → is_long_plain mark (put_core node x) ≡ false
   content_short n mark x rest h1 = search (rules, plain_short, core_short)

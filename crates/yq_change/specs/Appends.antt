@@ -1,7 +1,7 @@
 -- One item or entry more in a block collection that has some (own).
 use Rattle.std.specs.Prelude.{◌≡◌, ℕ, suc, ◌+◌, List, [], ◌∷◌, ◌++◌, length, true, false}
 use Rattle.yq_flow_scalars.specs.Keys.{keys_of}
-use Rattle.yq_flow_scalars.specs.Paths.{Step, append_child, change, within}
+use Rattle.yq_flow_scalars.specs.Paths.{Step, append_child, changed_at, within}
 use Rattle.yq_cut.specs.Exchange.{asked_behind}
 use Rattle.yq_cut.specs.Grammar.{unlimited, AreRows, no_rows}
 use Rattle.yq_cut.specs.Rows.{Row, Part, Cut, cut_text}
@@ -9,10 +9,10 @@ use Rattle.yq_cut.specs.Splices.{behind_first, first_gap}
 use Rattle.yq_cut.specs.Seams.{ends_in_block, ends_in_line}
 use Rattle.yq_lines.specs.LineAnchors.{HaveOneAnchorEach}
 use Rattle.yq_documents.specs.Documents.{HaveFitKeys, lead_of}
-use Rattle.yq_lines.specs.Lines.{lines_of}
+use Rattle.yq_lines.specs.Lines.{lines_of_rows}
 use Rattle.yq_lines.specs.Outline.{Line, Outline, flatten, children, label}
-use Rattle.yq_lines.specs.Places.{lines_before, content}
-use Rattle.yq_documents.specs.Reading.{outline_of}
+use Rattle.yq_lines.specs.Places.{lines_before, content_under}
+use Rattle.yq_documents.specs.Reading.{part_outline}
 use Rattle.yq_row_places.specs.RowPaths.{IsReadable}
 use Rattle.yq_change.specs.Changed.{IsChanged, put_document}
 use Rattle.yq_change.specs.SoundRoots.{IsNewValue, IsNewKey}
@@ -21,13 +21,13 @@ use Rattle.yq_change.specs.DocumentRows.{IsDocumentPart, behind_document, put_ro
 
 -- Rows that are written for one more item or entry of a collection at a path of this length: a line at its level and those under it, with a value and a new
 -- key.
-pub record IsWritten (h : NodeLines) (new : List Row) (m : ℕ) (l : Line) (u : Outline) (above : ℕ) : Type 0 where
-  pub lines : lines_of new ≡ l ∷ flatten u
+pub record AreMoreRows (h : NodeLines) (new : List Row) (m : ℕ) (l : Line) (u : Outline) (above : ℕ) : Type 0 where
+  pub lines : lines_of_rows new ≡ l ∷ flatten u
   pub bare : first_gap new [] ≡ []
   pub fits : EntryFits h m l u
   pub anchors : HaveOneAnchorEach (l ∷ flatten u)
   pub keys : HaveFitKeys new
-  pub value_is : IsNewValue (content l u) (suc above)
+  pub value_is : IsNewValue (content_under l u) (suc above)
   pub key : IsNewKey (label l).key (keys_of (children h.lines))
 
 -- a part with rows between those in front and those behind, whose gap stays with them
@@ -45,7 +45,7 @@ abbrev pub BlockAppended : Type 0
 BlockAppended =
     (t : List ℕ) (c : Cut) (k : ℕ) (p : Part) (steps : List Step) (h : NodeLines) (front back new : List Row) (m : ℕ) (l : Line) (u : Outline) →
     IsDocumentPart t c k p →
-    IsCollectionAt steps (outline_of p) h → length (lines_of front) ≡ length (lines_before h.place) + length (flatten h.lines) →
-    IsWritten h new m l u (length steps) →
+    IsCollectionAt steps (part_outline p) h → length (lines_of_rows front) ≡ length (lines_before h.place) + length (flatten h.lines) →
+    AreMoreRows h new m l u (length steps) →
     TakesRows p front new back (behind_document k c) → IsReadable (cut_text (put_document k (inserted front new back p) c)) →
-    IsChanged c (put_document k (inserted front new back p) c) k (lead_of p) (change steps (within (append_child (label l) (content l u))))
+    IsChanged c (put_document k (inserted front new back p) c) k (lead_of p) (changed_at steps (within (append_child (label l) (content_under l u))))

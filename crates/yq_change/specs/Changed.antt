@@ -11,7 +11,7 @@ use Rattle.yq_flow_scalars.specs.Anchors.{names_of, AreBound}
 use Rattle.yq_lines.specs.LineAnchors.{HaveOneAnchorEach}
 use Rattle.yq_documents.specs.Documents.{Document, HaveFitKeys, HasShortRoot, IsDocument, document_parts, lead_of}
 use Rattle.yq_documents.specs.PartNumbers.{part_number}
-use Rattle.yq_lines.specs.Lines.{lines_of}
+use Rattle.yq_lines.specs.Lines.{lines_of_rows}
 use Rattle.yq_lines.specs.Outline.{Line}
 use Rattle.yq_documents.specs.Reading.{documents, read_at, root_of}
 use Rattle.yq_change.specs.Siblings.{StandsSomewhere}
@@ -46,11 +46,11 @@ pub record IsChanged (c new : Cut) (k : ℕ) (lead : List (List ℕ)) (f : Node 
 
 -- The rows of a part stand for a root as is asked of a document's.
 pub record HasRoot (q : Part) (root : Node) : Type 0 where
-  pub stands : StandsSomewhere (lines_of q.rows) root
+  pub stands : StandsSomewhere (lines_of_rows q.rows) root
   pub keys : HaveFitKeys q.rows
   pub unique : HasUniqueKeys root
   pub nested : depth root ≤ depth_limit
-  pub anchors : HaveOneAnchorEach (lines_of q.rows)
+  pub anchors : HaveOneAnchorEach (lines_of_rows q.rows)
   pub bound : AreBound [] (names_of root)
   pub short : HasShortRoot q.rows
 
@@ -73,4 +73,4 @@ first_comment above (l ∷ ls) = l.head_comment
 
 -- The lead of a document is the head comment of its first line; where it has no rows, that of the gap at its end.
 abbrev pub LeadIsFirst : Type 0
-LeadIsFirst = (p : Part) → lead_of p ≡ first_comment (head_comment p.end) (lines_of p.rows)
+LeadIsFirst = (p : Part) → lead_of p ≡ first_comment (head_comment p.end) (lines_of_rows p.rows)

@@ -5,8 +5,8 @@ use Rattle.yq_cut.specs.Rows.{Row, rows_text, Part, part_text, Cut, cut_text}
 use Rattle.yq_lines.specs.Outline.{Outline, end, row, flatten}
 use Rattle.yq_lines.specs.Places.{lines_before}
 use Rattle.yq_row_places.specs.CollectionEnds.{CollectionEnd, is_broken}
-use Rattle.yq_lines.specs.Lines.{lines_of}
-use Rattle.yq_documents.specs.Reading.{outline_of}
+use Rattle.yq_lines.specs.Lines.{lines_of_rows}
+use Rattle.yq_documents.specs.Reading.{part_outline}
 use Rattle.yq_change.specs.Changed.{put_document}
 use Rattle.yq_change.specs.DocumentRows.{behind_document}
 use Rattle.yq_change.specs.Siblings.{NodeLines, IsCollectionAt}
@@ -20,7 +20,7 @@ BeginsAt column (row l under after) = l.column ≡ column
 -- behind.
 pub record IsCollectionEnd (c : Cut) (k : ℕ) (p : Part) (steps : List Step) (x : CollectionEnd) : Type 0 where
   pub h : NodeLines
-  pub collection : IsCollectionAt steps (outline_of p) h
+  pub collection : IsCollectionAt steps (part_outline p) h
   pub first : BeginsAt x.column h.lines
   pub front : List Row
   pub back : List Row
@@ -29,7 +29,7 @@ pub record IsCollectionEnd (c : Cut) (k : ℕ) (p : Part) (steps : List Step) (x
   pub last : Row
   pub front_is : front ≡ others ++ (last ∷ [])
   pub broken : x.broken ≡ is_broken last.content
-  pub count : length (lines_of front) ≡ length (lines_before h.place) + length (flatten h.lines)
+  pub count : length (lines_of_rows front) ≡ length (lines_before h.place) + length (flatten h.lines)
   pub start : List ℕ
   pub before_is : x.before ≡ start ++ rows_text front []
   pub behind_is : x.behind ≡ rows_text back (p.end ++ behind_document k c)

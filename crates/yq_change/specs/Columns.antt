@@ -5,22 +5,22 @@ use Rattle.yq_cut.specs.Exchange.{allows_first, asked_behind}
 use Rattle.yq_cut.specs.Grammar.{Limit, AreRows, no_rows}
 use Rattle.yq_cut.specs.Rows.{Row}
 use Rattle.yq_cut.specs.Removal.{last_block, next_column, StandsLess}
-use Rattle.yq_lines.specs.Lines.{lines_of}
+use Rattle.yq_lines.specs.Lines.{lines_of_rows}
 use Rattle.yq_lines.specs.Outline.{Line, level}
 use Rattle.yq_change.specs.LineRows.{AreClosed, AreDeep, Begins, StandApart}
 
 -- Behind rows whose lines are all deeper than the next row's first one, that row may stand.
 abbrev pub NextAllowed : Type 0
 NextAllowed =
-    (n : ℕ) (limit : Limit) (new back : List Row) (end rest : List ℕ) → AreRows limit new end rest → no_rows new ≡ false → AreDeep n (lines_of new) → (m : ℕ) →
-    m < n → Begins m (lines_of back) →
+    (n : ℕ) (limit : Limit) (new back : List Row) (end rest : List ℕ) → AreRows limit new end rest → no_rows new ≡ false → AreDeep n (lines_of_rows new) → (m : ℕ) →
+    m < n → Begins m (lines_of_rows back) →
     allows_first (asked_behind limit new) back ≡ true
 
 -- Where rows stand, others may stand whose first line is no deeper than theirs.
 abbrev pub NextStays : Type 0
 NextStays =
-    (limit : Limit) (rows back : List Row) (end rest : List ℕ) (l : Line) (ls : List Line) → AreRows limit rows end rest → lines_of rows ≡ l ∷ ls →
-    Begins (level l) (lines_of back) →
+    (limit : Limit) (rows back : List Row) (end rest : List ℕ) (l : Line) (ls : List Line) → AreRows limit rows end rest → lines_of_rows rows ≡ l ∷ ls →
+    Begins (level l) (lines_of_rows back) →
     allows_first limit back ≡ true
 
 -- What is no deeper than the last line of rows stands less deep than the text of a block scalar that they end in.
@@ -28,13 +28,13 @@ abbrev pub BlockIsDeeper : Type 0
 BlockIsDeeper =
     (limit : Limit) (front rows : List Row) (end rest : List ℕ) (b : BlockText) (l : Line) → AreRows limit (front ++ rows) end rest →
     last_block front ≡ Some b →
-    StandApart (lines_of front) (l ∷ []) → l.column < b.indent.columns
+    StandApart (lines_of_rows front) (l ∷ []) → l.column < b.indent.columns
 
 -- Where lines are closed with those of rows in front of them, rows no deeper than the first of them are less deep than the text of a block scalar in which the
 -- rows in front end.
 abbrev pub ClosedStandsLess : Type 0
 ClosedStandsLess =
     (limit : Limit) (front gone back : List Row) (end rest : List ℕ) (l : Line) (ls : List Line) → AreRows limit (front ++ gone) end rest →
-    AreClosed (lines_of front ++ (l ∷ ls)) →
-    Begins (level l) (lines_of back) →
+    AreClosed (lines_of_rows front ++ (l ∷ ls)) →
+    Begins (level l) (lines_of_rows back) →
     StandsLess (last_block front) (next_column back)

@@ -1,7 +1,7 @@
 -- What is asked of a whole document, where one node of it is changed (own).
 use Rattle.std.specs.Prelude.{◌≡◌, ℕ, ◌+◌, ◌≤◌, List, [], ◌∷◌, ◌++◌, length, Option, Some, None, ⊤}
 use Rattle.yq_flow_scalars.specs.Keys.{HasUniqueKeys, depth}
-use Rattle.yq_flow_scalars.specs.Paths.{Step, node_at, change}
+use Rattle.yq_flow_scalars.specs.Paths.{Step, node_at, changed_at}
 use Rattle.yq_flow_scalars.specs.Tree.{Node}
 use Rattle.yq_flow_scalars.specs.Anchors.{Name, Anchors, Refers, names_of, IsAmong, AreBound}
 use Rattle.yq_lines.specs.LineAnchors.{IsFree, HaveOneAnchorEach}
@@ -42,7 +42,7 @@ pub record Around (steps : List Step) (n old : Node) : Type 0 where
   pub before : List Name
   pub after : List Name
   pub old_names : names_of n ≡ before ++ (names_of old ++ after)
-  pub new_names : (f : Node → Node) → names_of (change steps f n) ≡ before ++ (names_of (f old) ++ after)
+  pub new_names : (f : Node → Node) → names_of (changed_at steps f n) ≡ before ++ (names_of (f old) ++ after)
 
 -- The names of the node at a path stand among those of the whole.
 abbrev pub NamesAround : Type 0
@@ -59,17 +59,17 @@ abbrev pub BoundChanged : Type 0
 BoundChanged =
     (steps : List Step) (n old : Node) (f : Node → Node) (front gone come back : List Name) → node_at steps n ≡ Some old →
     ExchangesNames old (f old) front gone come back →
-    AreSpared gone come (names_of n) → AreBound [] (names_of n) → AreBound [] (names_of (change steps f n))
+    AreSpared gone come (names_of n) → AreBound [] (names_of n) → AreBound [] (names_of (changed_at steps f n))
 
 -- A node changed for one with unique keys leaves all keys unique (3.2.1.3).
 abbrev pub UniqueChanged : Type 0
-UniqueChanged = (steps : List Step) (n old : Node) (f : Node → Node) → node_at steps n ≡ Some old → HasUniqueKeys n → HasUniqueKeys (f old) → HasUniqueKeys (change steps f n)
+UniqueChanged = (steps : List Step) (n old : Node) (f : Node → Node) → node_at steps n ≡ Some old → HasUniqueKeys n → HasUniqueKeys (f old) → HasUniqueKeys (changed_at steps f n)
 
 -- A node changed for one that isn't too deep for its path leaves the whole not too deep.
 abbrev pub DepthChanged : Type 0
 DepthChanged =
     (d : ℕ) (steps : List Step) (n old : Node) (f : Node → Node) → node_at steps n ≡ Some old → depth n ≤ d → length steps + depth (f old) ≤ d →
-    depth (change steps f n) ≤ d
+    depth (changed_at steps f n) ≤ d
 
 -- the anchor of the last of lines, if it has one
 abbrev pub last_anchor : List Line → Option (List ℕ)

@@ -1,19 +1,19 @@
 -- What is written behind the mark of one row gives way to a value (own).
 use Rattle.std.specs.Prelude.{◌≡◌, ℕ, suc, ◌+◌, List, [], ◌∷◌, ◌++◌, length, Some, None, false}
-use Rattle.yq_flow_scalars.specs.Paths.{Step, change}
+use Rattle.yq_flow_scalars.specs.Paths.{Step, changed_at}
 use Rattle.yq_flow_scalars.specs.Tree.{Node}
 use Rattle.yq_lines.specs.Comments.{line_comment}
 use Rattle.yq_lines.specs.Outline.{flatten}
-use Rattle.yq_lines.specs.Places.{lines_before, FoundLine, find, content}
+use Rattle.yq_lines.specs.Places.{lines_before, FoundLine, find, content_under}
 use Rattle.yq_cut.specs.Exchange.{asked_behind, with_content}
 use Rattle.yq_cut.specs.Grammar.{unlimited}
 use Rattle.yq_cut.specs.Rows.{Bare, Content, Row, rows_text, Part, Cut, cut_text}
 use Rattle.yq_cut.specs.SpliceFits.{StandsFor}
 use Rattle.yq_documents.specs.Documents.{ContentHasFitKeys, is_long_plain, lead_of}
-use Rattle.yq_lines.specs.Lines.{content_anchor, head_of, tail_of, lines_of}
-use Rattle.yq_documents.specs.Reading.{outline_of, root_of}
+use Rattle.yq_lines.specs.Lines.{content_anchor, head_of, tail_of, lines_of_rows}
+use Rattle.yq_documents.specs.Reading.{part_outline, root_of}
 use Rattle.yq_row_places.specs.RowPaths.{IsReadable}
-use Rattle.yq_documents.specs.TreeEdits.{replaced}
+use Rattle.yq_documents.specs.TreeEdits.{replaced_node}
 use Rattle.yq_change.specs.Appends.{inserted}
 use Rattle.yq_change.specs.Changed.{IsChanged, put_document}
 use Rattle.yq_change.specs.DocumentRows.{IsDocumentPart, behind_document}
@@ -41,14 +41,14 @@ abbrev pub LowerContentReplaced : Type 0
 LowerContentReplaced =
     (t : List ℕ) (c : Cut) (k : ℕ) (p : Part) (front back : List Row) (r : Row) (v : Node) (new : Content) (s : Step) (ss : List Step) (f : FoundLine) →
     TakesContent t c k p front r back v new →
-    find s ss (outline_of p) ≡ Some (f, []) → f.line.head ≡ None → length (flatten f.under) ≡ 1 → r.mark ≡ Bare →
-    length (lines_of front) + length r.dashes ≡ suc (length (lines_before f.place)) →
-    MayReplace v (content f.line f.under) (root_of p) (length (s ∷ ss)) →
-    IsChanged c (put_document k (recontent front r back new p) c) k (lead_of p) (change (s ∷ ss) (replaced v))
+    find s ss (part_outline p) ≡ Some (f, []) → f.line.head ≡ None → length (flatten f.under) ≡ 1 → r.mark ≡ Bare →
+    length (lines_of_rows front) + length r.dashes ≡ suc (length (lines_before f.place)) →
+    MayReplace v (content_under f.line f.under) (root_of p) (length (s ∷ ss)) →
+    IsChanged c (put_document k (recontent front r back new p) c) k (lead_of p) (changed_at (s ∷ ss) (replaced_node v))
 
 -- A root that is alone on its line is replaced.
 abbrev pub RootContentReplaced : Type 0
 RootContentReplaced =
     (t : List ℕ) (c : Cut) (k : ℕ) (p : Part) (front back : List Row) (r : Row) (v : Node) (new : Content) → TakesContent t c k p front r back v new →
-    length (lines_of p.rows) ≡ 1 → r.mark ≡ Bare →
-    MayReplace v (root_of p) (root_of p) 0 → IsChanged c (put_document k (recontent front r back new p) c) k (lead_of p) (change [] (replaced v))
+    length (lines_of_rows p.rows) ≡ 1 → r.mark ≡ Bare →
+    MayReplace v (root_of p) (root_of p) 0 → IsChanged c (put_document k (recontent front r back new p) c) k (lead_of p) (changed_at [] (replaced_node v))

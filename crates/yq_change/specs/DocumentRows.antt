@@ -9,7 +9,7 @@ use Rattle.yq_documents.specs.Documents.{IsDocument, document_parts}
 use Rattle.yq_documents.specs.PartNumbers.{part_number}
 use Rattle.yq_lines.specs.Group.{level_or}
 use Rattle.yq_lines.specs.Outline.{IsEven}
-use Rattle.yq_documents.specs.Reading.{document_of, outline_of, read_at}
+use Rattle.yq_documents.specs.Reading.{part_document, part_outline, read_at}
 use Rattle.yq_row_places.specs.RowPaths.{IsReadable}
 use Rattle.yq_change.specs.Changed.{put_document}
 
@@ -42,8 +42,8 @@ RowsPut =
 -- A text is cut so, and a part stands for a document, whose lines are even.
 pub record Known (t : List ℕ) (c : Cut) (p : Part) : Type 0 where
   pub cut : IsCut t c
-  pub document : IsDocument p (document_of p)
-  pub even : IsEven (level_or 0 (outline_of p)) (outline_of p)
+  pub document : IsDocument p (part_document p)
+  pub even : IsEven (level_or 0 (part_outline p)) (part_outline p)
 
 -- A text that reads as a cut is cut so, and each of its documents stands for one, with even lines.
 abbrev pub DocumentKnown : Type 0

@@ -1,18 +1,18 @@
 -- One item or entry more at the end of a text without a final break (own).
 use Rattle.std.specs.Prelude.{◌≡◌, ℕ, ◌+◌, List, [], ◌∷◌, ◌++◌, length}
-use Rattle.yq_flow_scalars.specs.Paths.{Step, append_child, change, within}
+use Rattle.yq_flow_scalars.specs.Paths.{Step, append_child, changed_at, within}
 use Rattle.yq_cut.specs.Grammar.{AreRows, limit_after}
 use Rattle.yq_cut.specs.Rows.{Row, Part, Cut, cut_text}
 use Rattle.yq_cut.specs.Appending.{closed_by, TakesBreak}
 use Rattle.yq_documents.specs.Documents.{lead_of}
-use Rattle.yq_lines.specs.Lines.{lines_of}
+use Rattle.yq_lines.specs.Lines.{lines_of_rows}
 use Rattle.yq_lines.specs.Outline.{Line, Outline, flatten, label}
-use Rattle.yq_lines.specs.Places.{lines_before, content}
-use Rattle.yq_documents.specs.Reading.{outline_of}
+use Rattle.yq_lines.specs.Places.{lines_before, content_under}
+use Rattle.yq_documents.specs.Reading.{part_outline}
 use Rattle.yq_row_places.specs.RowPaths.{IsReadable}
 use Rattle.yq_change.specs.Changed.{IsChanged, put_document}
 use Rattle.yq_change.specs.Siblings.{NodeLines, IsCollectionAt}
-use Rattle.yq_change.specs.Appends.{IsWritten}
+use Rattle.yq_change.specs.Appends.{AreMoreRows}
 use Rattle.yq_change.specs.DocumentRows.{IsDocumentPart, behind_document, put_rows}
 
 -- a part whose last row gets a break, and rows behind it
@@ -32,7 +32,7 @@ abbrev pub EndAppended : Type 0
 EndAppended =
     (t : List ℕ) (c : Cut) (k : ℕ) (p : Part) (steps : List Step) (h : NodeLines) (front new : List Row) (r : Row) (break : List ℕ) (m : ℕ) (l : Line)
     (u : Outline) → IsDocumentPart t c k p →
-    IsCollectionAt steps (outline_of p) h → length (lines_of p.rows) ≡ length (lines_before h.place) + length (flatten h.lines) →
-    IsWritten h new m l u (length steps) →
+    IsCollectionAt steps (part_outline p) h → length (lines_of_rows p.rows) ≡ length (lines_before h.place) + length (flatten h.lines) →
+    AreMoreRows h new m l u (length steps) →
     TakesRowsLast p front r break new (behind_document k c) → IsReadable (cut_text (put_document k (closed_with front r break new p) c)) →
-    IsChanged c (put_document k (closed_with front r break new p) c) k (lead_of p) (change steps (within (append_child (label l) (content l u))))
+    IsChanged c (put_document k (closed_with front r break new p) c) k (lead_of p) (changed_at steps (within (append_child (label l) (content_under l u))))

@@ -2,19 +2,19 @@
 use Rattle.std.specs.Prelude.{◌≡◌, ℕ, List, ◌∷◌, ◌++◌, length, Some}
 use Rattle.yq_flow_scalars.specs.Paths.{Step}
 use Rattle.yq_cut.specs.Rows.{Row, Part}
-use Rattle.yq_lines.specs.Lines.{lines_of}
+use Rattle.yq_lines.specs.Lines.{lines_of_rows}
 use Rattle.yq_lines.specs.Outline.{flatten, IsEven}
 use Rattle.yq_lines.specs.Places.{FoundLine}
-use Rattle.yq_documents.specs.Reading.{outline_of}
+use Rattle.yq_documents.specs.Reading.{part_outline}
 use Rattle.yq_documents.specs.LinesInRows.{RowLine, row_line}
 use Rattle.yq_change.specs.Siblings.{IsEntryAt, NodeLines}
-use Rattle.yq_change.specs.LineRows.{line_number}
+use Rattle.yq_change.specs.LineRows.{lines_before_entry}
 
 -- The rows of an item or entry that has whole rows are those between others in front and others behind.
 pub record HasWholeRows (p : Part) (h : NodeLines) (f : FoundLine) (front gone back : List Row) : Type 0 where
   pub rows_are : p.rows ≡ front ++ (gone ++ back)
-  pub number : length (lines_of front) ≡ line_number h f
-  pub count : length (lines_of gone) ≡ length (f.line ∷ flatten f.under)
+  pub number : length (lines_of_rows front) ≡ lines_before_entry h f
+  pub count : length (lines_of_rows gone) ≡ length (f.line ∷ flatten f.under)
 
 -- An item or entry has such rows, and so many rows stand before them.
 pub record RowsFrom (p : Part) (h : NodeLines) (f : FoundLine) (before : ℕ) : Type 0 where
@@ -26,5 +26,5 @@ pub record RowsFrom (p : Part) (h : NodeLines) (f : FoundLine) (before : ℕ) : 
 
 -- An item or entry whose line is the first of its row has rows of its own.
 abbrev pub EntryRows : Type 0
-EntryRows = (p : Part) (n : ℕ) (steps : List Step) (s : Step) (h : NodeLines) (f : FoundLine) (x : RowLine) → IsEven n (outline_of p) → IsEntryAt steps s (outline_of p) h f →
-    row_line (line_number h f) p.rows ≡ Some x → x.line ≡ 0 → RowsFrom p h f x.before
+EntryRows = (p : Part) (n : ℕ) (steps : List Step) (s : Step) (h : NodeLines) (f : FoundLine) (x : RowLine) → IsEven n (part_outline p) → IsEntryAt steps s (part_outline p) h f →
+    row_line (lines_before_entry h f) p.rows ≡ Some x → x.line ≡ 0 → RowsFrom p h f x.before

@@ -1,7 +1,7 @@
 -- What stays of a document in which a flow collection has other items or entries (7.4; own).
 use Rattle.std.specs.Prelude.{◌≡◌, ℕ, List, Some}
 use Rattle.yq_flow_scalars.specs.Paths.{Step}
-use Rattle.yq_nodes.specs.Collections.{CollPieces, put_at}
+use Rattle.yq_nodes.specs.Collections.{CollPieces, collection_put}
 use Rattle.yq_nodes.specs.Nodes.{Items}
 use Rattle.yq_flow.specs.FlowEdits.{FlowEdit}
 use Rattle.yq_flow.specs.Removals.{removing}
@@ -14,7 +14,7 @@ use Rattle.yq_change.specs.Rooms.{is_block_root, EqualRoom}
 
 -- the document with another gap and other items or entries in a collection in a row
 abbrev pub with_items : Part → InlineRow → List Step → List ℕ → Items → Part
-with_items p i rest gap is = with_node p i (put_at rest gap is i.node)
+with_items p i rest gap is = with_node p i (collection_put rest gap is i.node)
 
 -- Such a document has room for the same comments, its root is block where it was, and it has the same lead.
 abbrev pub FlowRooms : Type 0
@@ -29,7 +29,7 @@ abbrev pub FlowKeys : Type 0
 FlowKeys =
     (t : List ℕ) (c : Cut) (k : ℕ) (p : Part) (steps : List Step) (f : FoundLine) (rest : List Step) (i : InlineRow) (w : CollPieces) (gap : List ℕ)
     (is : Items) → IsDocumentPart t c k p → IsFlowAt c k p steps f rest i w →
-    (EachHasFitKeys w.items → EachHasFitKeys is) → HasFitKeys (put_at rest gap is i.node)
+    (EachHasFitKeys w.items → EachHasFitKeys is) → HasFitKeys (collection_put rest gap is i.node)
 
 -- Without one of the items or entries, the keys of the others are fit, if all were.
 abbrev pub LeftKeys : Type 0

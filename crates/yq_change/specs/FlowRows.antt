@@ -1,18 +1,18 @@
 -- The operations inside flow collections, by the row in whose content the collection stands (7.4; own).
 use Rattle.std.specs.Prelude.{◌≡◌, ℕ, ◌+◌, List, [], ◌∷◌, ◌++◌, length, slice_get, Some}
-use Rattle.yq_flow_scalars.specs.Paths.{Step, change, within}
+use Rattle.yq_flow_scalars.specs.Paths.{Step, changed_at, within}
 use Rattle.yq_flow_scalars.specs.Tree.{Children}
 use Rattle.yq_flow_scalars.specs.declared.style.Place.TheVariants as places
 use Rattle.yq_nodes.specs.Collections.{CollAt, CollPieces, IsCollAt, coll_along}
 use Rattle.yq_flow.specs.FlowEdits.{FlowEdit, IsFlowEdited, edited_node}
-use Rattle.yq_nodes.specs.Nodes.{Node, node_text}
+use Rattle.yq_nodes.specs.Nodes.{FlowNode, node_text}
 use Rattle.yq_lines.specs.Places.{lines_before, FoundLine}
 use Rattle.yq_cut.specs.Exchange.{with_content}
 use Rattle.yq_cut.specs.Rows.{Inline, Row, parent_indent, rows_text, Part, Cut, cut_text}
 use Rattle.yq_documents.specs.Documents.{HasFitKeys, document_parts, lead_of}
 use Rattle.yq_row_places.specs.FlowNodes.{find_head, flow_collection}
-use Rattle.yq_lines.specs.Lines.{lines_of}
-use Rattle.yq_documents.specs.Reading.{outline_of, read_at, root_of}
+use Rattle.yq_lines.specs.Lines.{lines_of_rows}
+use Rattle.yq_documents.specs.Reading.{part_outline, read_at, root_of}
 use Rattle.yq_row_places.specs.RowPaths.{IsReadable}
 use Rattle.yq_change.specs.Appends.{inserted}
 use Rattle.yq_change.specs.Changed.{IsChanged, put_document}
@@ -25,7 +25,7 @@ pub record InlineRow : Type 0 where
   pub row : Row
   pub back : List Row
   pub space : List ℕ
-  pub node : Node
+  pub node : FlowNode
   pub tail : List ℕ
 
 -- the text behind the inline node of a row in document k
@@ -33,19 +33,19 @@ abbrev pub behind_node : Cut → ℕ → Part → InlineRow → List ℕ
 behind_node c k p i = i.tail ++ rows_text i.back (p.end ++ behind_document k c)
 
 -- a collection in the inline node of a row in document k
-abbrev pub coll_at : Cut → ℕ → Part → InlineRow → List Step → CollPieces → CollAt
-coll_at c k p i steps w = record { place = places.Block; indent = parent_indent i.row; around = 0; node = i.node; rest = behind_node c k p i; steps = steps; coll = w }
+abbrev pub row_collection : Cut → ℕ → Part → InlineRow → List Step → CollPieces → CollAt
+row_collection c k p i steps w = record { place = places.Block; indent = parent_indent i.row; around = 0; node = i.node; rest = behind_node c k p i; steps = steps; coll = w }
 
 -- a part with another inline node in that row
-abbrev pub with_node : Part → InlineRow → Node → Part
+abbrev pub with_node : Part → InlineRow → FlowNode → Part
 with_node p i m = inserted i.front (with_content (Inline i.space m i.tail) i.row ∷ []) i.back p
 
 -- A path of a document leads to a collection in the inline node of a row, by these steps in the node.
 pub record IsFlowAt (c : Cut) (k : ℕ) (p : Part) (steps : List Step) (f : FoundLine) (rest : List Step) (i : InlineRow) (w : CollPieces) : Type 0 where
-  pub found : find_head steps (outline_of p) ≡ Some (f, rest)
+  pub found : find_head steps (part_outline p) ≡ Some (f, rest)
   pub rows_are : p.rows ≡ i.front ++ (i.row ∷ i.back)
   pub content_is : i.row.content ≡ Inline i.space i.node i.tail
-  pub number : length (lines_of i.front) + length i.row.dashes ≡ length (lines_before f.place)
+  pub number : length (lines_of_rows i.front) + length i.row.dashes ≡ length (lines_before f.place)
   pub along : coll_along rest i.node (behind_node c k p i) ≡ Some w
 
 -- A collection to which a path leads stands in the inline node of its row.
@@ -53,17 +53,17 @@ abbrev pub FlowStands : Type 0
 FlowStands =
     (t : List ℕ) (c : Cut) (k : ℕ) (p : Part) (steps : List Step) (f : FoundLine) (rest : List Step) (i : InlineRow) (w : CollPieces) →
     IsDocumentPart t c k p → IsFlowAt c k p steps f rest i w →
-    IsCollAt (coll_at c k p i rest w)
+    IsCollAt (row_collection c k p i rest w)
 
 -- An edit of the text of a flow collection changes its items or entries in the document.
 abbrev pub FlowEdited : Type 0
 FlowEdited =
     (t : List ℕ) (c : Cut) (k : ℕ) (p : Part) (steps : List Step) (f : FoundLine) (rest : List Step) (i : InlineRow) (w : CollPieces) (e : FlowEdit)
     (h : Children → Children) →
-    IsDocumentPart t c k p → IsFlowAt c k p steps f rest i w → IsFlowEdited (coll_at c k p i rest w) e (change rest (within h)) →
-    HasFitKeys (edited_node (coll_at c k p i rest w) e) →
-    IsSoundRoot (change steps (within h) (root_of p)) → IsReadable (cut_text (put_document k (with_node p i (edited_node (coll_at c k p i rest w) e)) c)) →
-    IsChanged c (put_document k (with_node p i (edited_node (coll_at c k p i rest w) e)) c) k (lead_of p) (change steps (within h))
+    IsDocumentPart t c k p → IsFlowAt c k p steps f rest i w → IsFlowEdited (row_collection c k p i rest w) e (changed_at rest (within h)) →
+    HasFitKeys (edited_node (row_collection c k p i rest w) e) →
+    IsSoundRoot (changed_at steps (within h) (root_of p)) → IsReadable (cut_text (put_document k (with_node p i (edited_node (row_collection c k p i rest w) e)) c)) →
+    IsChanged c (put_document k (with_node p i (edited_node (row_collection c k p i rest w) e)) c) k (lead_of p) (changed_at steps (within h))
 
 -- A path of document k leads to a flow collection, in a row of its part.
 pub record FlowAt (c : Cut) (k : ℕ) (steps : List Step) (w : CollPieces) : Type 0 where
@@ -82,7 +82,7 @@ FlowFound = (t : List ℕ) (c : Cut) (k : ℕ) (steps : List Step) (w : CollPiec
 pub record NodeStands (c : Cut) (k : ℕ) (p : Part) (i : InlineRow) : Type 0 where
   pub before : List ℕ
   pub old : cut_text c ≡ before ++ node_text i.node (behind_node c k p i)
-  pub new : (m : Node) → cut_text (put_document k (with_node p i m) c) ≡ before ++ node_text m (behind_node c k p i)
+  pub new : (m : FlowNode) → cut_text (put_document k (with_node p i m) c) ≡ before ++ node_text m (behind_node c k p i)
 
 -- With another inline node in a row the text of a cut is the same outside that node.
 abbrev pub RowTexts : Type 0

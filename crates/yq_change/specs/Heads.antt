@@ -1,24 +1,24 @@
 -- Head comments of items and entries, put and taken away (own).
 use Rattle.std.specs.Prelude.{◌≡◌, ◌⊎◌, ℕ, List, [], ◌∷◌, ◌++◌, length, replicate}
-use Rattle.yq_flow_scalars.specs.Paths.{Step, change, relabel_child, within}
-use Rattle.yq_flow_scalars.specs.Text.{joined, lines_of as text_lines}
+use Rattle.yq_flow_scalars.specs.Paths.{Step, changed_at, relabel_child, within}
+use Rattle.yq_flow_scalars.specs.Text.{joined, text_lines}
 use Rattle.yq_lines.specs.Comments.{head_comment}
 use Rattle.yq_cut.specs.Gap.{IsGap}
 use Rattle.yq_cut.specs.Rows.{Row, behind_gap, rows_text, Part, Cut, cut_text}
 use Rattle.yq_documents.specs.Pieces.{before_run}
 use Rattle.yq_documents.specs.Documents.{lead_of}
-use Rattle.yq_lines.specs.Lines.{lines_of}
+use Rattle.yq_lines.specs.Lines.{lines_of_rows}
 use Rattle.yq_lines.specs.Places.{FoundLine}
-use Rattle.yq_documents.specs.Reading.{outline_of}
+use Rattle.yq_documents.specs.Reading.{part_outline}
 use Rattle.yq_row_places.specs.RowPaths.{IsReadable}
 use Rattle.yq_change.specs.Changed.{IsChanged, put_document}
 use Rattle.yq_change.specs.Siblings.{IsEntryAt, NodeLines}
-use Rattle.yq_change.specs.LineRows.{line_number}
+use Rattle.yq_change.specs.LineRows.{lines_before_entry}
 use Rattle.yq_change.specs.DocumentRows.{IsDocumentPart, behind_document, put_rows}
 use Rattle.yq_documents.specs.TreeEdits.{with_head_comment}
 
 -- What is written for a head comment before a rest: comment lines of which the first begins in a column, or nothing.
-pub record IsRun (column : ℕ) (run rest : List ℕ) : Type 0 where
+pub record IsHeadCommentRun (column : ℕ) (run rest : List ℕ) : Type 0 where
   pub gap : IsGap run rest
   pub stands : (run ≡ []) ⊎ ((v : List ℕ) × (run ≡ replicate column 32 ++ (35 ∷ v)))
 
@@ -33,14 +33,14 @@ rerun front r back run p = put_rows front [] (r ∷ back) (with_run r run) p
 -- A row of a part may have these lines for its head comment before a rest.
 pub record TakesRun (p : Part) (front : List Row) (r : Row) (back : List Row) (run rest : List ℕ) : Type 0 where
   pub rows_are : p.rows ≡ front ++ (r ∷ back)
-  pub run_is : IsRun r.column run (behind_gap r (rows_text back (p.end ++ rest)))
+  pub run_is : IsHeadCommentRun r.column run (behind_gap r (rows_text back (p.end ++ rest)))
 
 -- The head comment of an item or entry is set, where its line is the first of its row.
 abbrev pub HeadCommented : Type 0
 HeadCommented =
     (t : List ℕ) (c : Cut) (k : ℕ) (p : Part) (steps : List Step) (s : Step) (h : NodeLines) (f : FoundLine) (front back : List Row) (r : Row) (run : List ℕ) →
     IsDocumentPart t c k p →
-    IsEntryAt steps s (outline_of p) h f → TakesRun p front r back run (behind_document k c) → length (lines_of front) ≡ line_number h f →
+    IsEntryAt steps s (part_outline p) h f → TakesRun p front r back run (behind_document k c) → length (lines_of_rows front) ≡ lines_before_entry h f →
     IsReadable (cut_text (put_document k (rerun front r back run p) c)) →
     IsChanged c (put_document k (rerun front r back run p) c) k (lead_of (rerun front r back run p))
-    (change steps (within (relabel_child s (with_head_comment (head_comment run)))))
+    (changed_at steps (within (relabel_child s (with_head_comment (head_comment run)))))

@@ -1,18 +1,18 @@
 -- Comments of items and entries, put and taken away (own).
 use Rattle.std.specs.Prelude.{◌≡◌, ℕ, ◌+◌, List, [], ◌∷◌, ◌++◌, length, false}
-use Rattle.yq_flow_scalars.specs.Paths.{Step, change, relabel_child, within}
+use Rattle.yq_flow_scalars.specs.Paths.{Step, changed_at, relabel_child, within}
 use Rattle.yq_lines.specs.Comments.{line_comment}
 use Rattle.yq_cut.specs.Rows.{Row, parent_indent, rows_text, Part, Cut, cut_text}
 use Rattle.yq_cut.specs.Seams.{TailFits, is_block, retail}
 use Rattle.yq_cut.specs.Splices.{first_gap}
 use Rattle.yq_documents.specs.Documents.{lead_of}
-use Rattle.yq_lines.specs.Lines.{lines_of}
+use Rattle.yq_lines.specs.Lines.{lines_of_rows}
 use Rattle.yq_lines.specs.Places.{FoundLine}
-use Rattle.yq_documents.specs.Reading.{outline_of}
+use Rattle.yq_documents.specs.Reading.{part_outline}
 use Rattle.yq_row_places.specs.RowPaths.{IsReadable}
 use Rattle.yq_change.specs.Changed.{IsChanged, put_document}
 use Rattle.yq_change.specs.Siblings.{IsEntryAt, NodeLines}
-use Rattle.yq_change.specs.LineRows.{line_number}
+use Rattle.yq_change.specs.LineRows.{lines_before_entry}
 use Rattle.yq_change.specs.DocumentRows.{IsDocumentPart, behind_document, put_rows}
 use Rattle.yq_documents.specs.TreeEdits.{with_line_comment}
 
@@ -31,7 +31,7 @@ abbrev pub LineCommented : Type 0
 LineCommented =
     (t : List ℕ) (c : Cut) (k : ℕ) (p : Part) (steps : List Step) (s : Step) (h : NodeLines) (f : FoundLine) (front back : List Row) (r : Row)
     (tail : List ℕ) → IsDocumentPart t c k p →
-    IsEntryAt steps s (outline_of p) h f → TakesTail p front r back tail (behind_document k c) → length (lines_of front) + length r.dashes ≡ line_number h f →
+    IsEntryAt steps s (part_outline p) h f → TakesTail p front r back tail (behind_document k c) → length (lines_of_rows front) + length r.dashes ≡ lines_before_entry h f →
     IsReadable (cut_text (put_document k (retailed front r back tail p) c)) →
     IsChanged c (put_document k (retailed front r back tail p) c) k (lead_of p)
-    (change steps (within (relabel_child s (with_line_comment (line_comment tail)))))
+    (changed_at steps (within (relabel_child s (with_line_comment (line_comment tail)))))

@@ -7,7 +7,7 @@ use Rattle.yq_cut.specs.Grammar.{IsRow, Limit}
 use Rattle.yq_cut.specs.Rows.{Row, print_row}
 use Rattle.yq_cut.specs.View.{slices}
 use Rattle.yq_cut.proofs.seams.ScalarSeams.{ends_return}
-use Rattle.yq_row_places.specs.CommentPlaces.{line_text}
+use Rattle.yq_row_places.specs.CommentPlaces.{text_to_line_end}
 use Rattle.yq_change.specs.TextPieces.{IsPiece}
 
 -- A text cut in two, where no CR stands before an LF, is in pieces.
@@ -18,4 +18,4 @@ CleanCut = (a b : List ℕ) → IsPiece (a ++ b) → IsUtf8 a → (front is_feed
 abbrev pub LineEndsClean : Type 0
 LineEndsClean =
     (limit : Limit) (r : Row) (rest : List ℕ) → IsRow limit r rest → pairs_returns (print_row r rest) ≡ true →
-    front is_feed ((slices r).tail ++ ((slices r).raw ++ rest)) ≡ true → ends_return (line_text r) ≡ false
+    front is_feed ((slices r).tail ++ ((slices r).raw ++ rest)) ≡ true → ends_return (text_to_line_end r) ≡ false

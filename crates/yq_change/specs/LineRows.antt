@@ -2,15 +2,15 @@
 use Rattle.std.specs.Prelude.{◌≡◌, ℕ, ◌+◌, ◌≤◌, List, [], ◌∷◌, ◌++◌, length, Some, is_some, true, ⊤}
 use Rattle.yq_flow_scalars.specs.Paths.{Step}
 use Rattle.yq_cut.specs.Rows.{Row}
-use Rattle.yq_lines.specs.Lines.{lines_of}
+use Rattle.yq_lines.specs.Lines.{lines_of_rows}
 use Rattle.yq_lines.specs.Outline.{Line, level, Outline, flatten, IsEven}
 use Rattle.yq_lines.specs.Places.{lines_before, lines_after, FoundLine}
 use Rattle.yq_documents.specs.LinesInRows.{RowLine, row_line}
 use Rattle.yq_change.specs.Siblings.{HasEntries, NodeLines, lines_at, IsEntryAt}
 
 -- how many lines stand before an item or entry
-abbrev pub line_number : NodeLines → FoundLine → ℕ
-line_number h f = length (lines_before h.place) + length (lines_before f.place)
+abbrev pub lines_before_entry : NodeLines → FoundLine → ℕ
+lines_before_entry h f = length (lines_before h.place) + length (lines_before f.place)
 
 -- A row line is the row of line n among rows, and the number of that line in it.
 pub record IsRowLine (n : ℕ) (rs : List Row) (x : RowLine) : Type 0 where
@@ -18,7 +18,7 @@ pub record IsRowLine (n : ℕ) (rs : List Row) (x : RowLine) : Type 0 where
   pub back : List Row
   pub rows_are : rs ≡ front ++ (x.row ∷ back)
   pub before : length front ≡ x.before
-  pub lines : n ≡ length (lines_of front) + x.line
+  pub lines : n ≡ length (lines_of_rows front) + x.line
   pub less : x.line ≤ length x.row.dashes
 
 -- A line's row line is its row and its number in it.
@@ -41,12 +41,12 @@ pub record InRows (rs : List Row) (a z : List Line) : Type 0 where
   pub front : List Row
   pub back : List Row
   pub rows_are : rs ≡ front ++ back
-  pub front_lines : lines_of front ≡ a
-  pub back_lines : lines_of back ≡ z
+  pub front_lines : lines_of_rows front ≡ a
+  pub back_lines : lines_of_rows back ≡ z
 
 -- A line that is no deeper than the one before it begins a row.
 abbrev pub RowBegins : Type 0
-RowBegins = (rs : List Row) (a z : List Line) → lines_of rs ≡ a ++ z → StandApart a z → InRows rs a z
+RowBegins = (rs : List Row) (a z : List Line) → lines_of_rows rs ≡ a ++ z → StandApart a z → InRows rs a z
 
 -- Behind the lines of the block collection at a path a row begins; its first line is less deep than they are.
 abbrev pub LinesApart : Type 0

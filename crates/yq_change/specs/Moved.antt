@@ -3,7 +3,7 @@ use Rattle.std.specs.Prelude.{◌≡◌, ℕ, suc, ◌+◌, List, [], ◌∷◌,
 use Rattle.yq_lines.specs.Comments.{head_comment, line_comment}
 use Rattle.yq_cut.specs.Rows as rows
 use Rattle.yq_cut.specs.Rows.{Content, Nothing, Row, behind_columns}
-use Rattle.yq_lines.specs.Lines.{dash_line, lines_from, lines_of}
+use Rattle.yq_lines.specs.Lines.{dash_line, lines_from, lines_of_rows}
 use Rattle.yq_lines.specs.Outline.{Line}
 
 -- the lines of dashes, from a column on
@@ -16,8 +16,8 @@ abbrev pub moved_up : Row → List ℕ → Row → Row
 moved_up r dashes b = record b { gap = r.gap; column = r.column; dashes = dashes ++ b.dashes }
 
 -- a row with nothing behind its last dash
-abbrev pub emptied : Row → List ℕ → List ℕ → Row
-emptied r dashes tail = record r { dashes = dashes; mark = rows.Dash; content = Nothing tail }
+abbrev pub emptied_row : Row → List ℕ → List ℕ → Row
+emptied_row r dashes tail = record r { dashes = dashes; mark = rows.Dash; content = Nothing tail }
 
 -- Where the next entry's row b, in the same column and with no comment above it, stands behind the first dashes of row r, the lines are the old ones without
 -- those of the first entry.
@@ -25,20 +25,20 @@ abbrev pub FirstMoved : Type 0
 FirstMoved =
     (before gone behind : List Row) (r b : Row) (n : ℕ) (ns es : List ℕ) → r.dashes ≡ n ∷ (ns ++ es) → b.column ≡ behind_columns r.column (n ∷ ns) →
     head_comment b.gap ≡ [] →
-    (lines_of (before ++ (r ∷ (gone ++ (b ∷ behind)))) ≡
-    (lines_of before ++ dash_lines (head_comment r.gap) r.column (n ∷ ns)) ++ ((lines_from [] b.column es r.mark r.content ++ lines_of gone) ++ lines_of (b ∷ behind))) ×
-    (lines_of (before ++ (moved_up r (n ∷ ns) b ∷ behind)) ≡ (lines_of before ++ dash_lines (head_comment r.gap) r.column (n ∷ ns)) ++ lines_of (b ∷ behind))
+    (lines_of_rows (before ++ (r ∷ (gone ++ (b ∷ behind)))) ≡
+    (lines_of_rows before ++ dash_lines (head_comment r.gap) r.column (n ∷ ns)) ++ ((lines_from [] b.column es r.mark r.content ++ lines_of_rows gone) ++ lines_of_rows (b ∷ behind))) ×
+    (lines_of_rows (before ++ (moved_up r (n ∷ ns) b ∷ behind)) ≡ (lines_of_rows before ++ dash_lines (head_comment r.gap) r.column (n ∷ ns)) ++ lines_of_rows (b ∷ behind))
 
 -- The same where nothing but a tail without a comment stays behind the dashes, and the rows behind the first entry keep their places.
 abbrev pub FirstEmptied : Type 0
 FirstEmptied =
     (before gone behind : List Row) (r : Row) (n : ℕ) (ns es tail : List ℕ) → r.dashes ≡ (ns ++ (n ∷ [])) ++ es → line_comment tail ≡ None →
-    (lines_of (before ++ (r ∷ (gone ++ behind))) ≡
-    (lines_of before ++ dash_lines (head_comment r.gap) r.column (ns ++ (n ∷ []))) ++ ((lines_from [] (behind_columns r.column (ns ++ (n ∷ []))) es r.mark r.content ++ lines_of gone) ++ lines_of behind)) ×
-    (lines_of (before ++ (emptied r ns tail ∷ behind)) ≡ (lines_of before ++ dash_lines (head_comment r.gap) r.column (ns ++ (n ∷ []))) ++ lines_of behind)
+    (lines_of_rows (before ++ (r ∷ (gone ++ behind))) ≡
+    (lines_of_rows before ++ dash_lines (head_comment r.gap) r.column (ns ++ (n ∷ []))) ++ ((lines_from [] (behind_columns r.column (ns ++ (n ∷ []))) es r.mark r.content ++ lines_of_rows gone) ++ lines_of_rows behind)) ×
+    (lines_of_rows (before ++ (emptied_row r ns tail ∷ behind)) ≡ (lines_of_rows before ++ dash_lines (head_comment r.gap) r.column (ns ++ (n ∷ []))) ++ lines_of_rows behind)
 
 -- The lines of a row are those of its first dashes, and then those of a row that begins behind them and has no comment above it.
 abbrev pub DashesFirst : Type 0
 DashesFirst =
-    (above : List (List ℕ)) (column n : ℕ) (ns es : List ℕ) (mark : rows.Mark) (c : Content) →
+    (above : List (List ℕ)) (column n : ℕ) (ns es : List ℕ) (mark : rows.RowMark) (c : Content) →
     lines_from above column (n ∷ (ns ++ es)) mark c ≡ dash_lines above column (n ∷ ns) ++ lines_from [] (behind_columns column (n ∷ ns)) es mark c

@@ -1,20 +1,20 @@
 -- The row to which a path leads (own).
 use Rattle.std.specs.Prelude.{◌≡◌, ℕ, List, [], ◌∷◌, ◌++◌, length, Some}
-use Rattle.yq_flow_scalars.specs.Paths.{Step, change, relabel_child, within}
+use Rattle.yq_flow_scalars.specs.Paths.{Step, changed_at, relabel_child, within}
 use Rattle.yq_lines.specs.Comments.{line_comment, head_comment}
 use Rattle.yq_cut.specs.Rows.{Row, Part, Cut, cut_text}
 use Rattle.yq_documents.specs.Documents.{lead_of}
-use Rattle.yq_lines.specs.Lines.{lines_of}
+use Rattle.yq_lines.specs.Lines.{lines_of_rows}
 use Rattle.yq_lines.specs.Outline.{Outline, IsEven}
 use Rattle.yq_lines.specs.Places.{FoundLine}
-use Rattle.yq_documents.specs.Reading.{outline_of}
+use Rattle.yq_documents.specs.Reading.{part_outline}
 use Rattle.yq_row_places.specs.RowPaths.{IsReadable}
-use Rattle.yq_lines.specs.Ends.{line_of}
+use Rattle.yq_lines.specs.Ends.{line_at_steps}
 use Rattle.yq_documents.specs.LinesInRows.{RowLine, row_line_of}
 use Rattle.yq_change.specs.Changed.{IsChanged, put_document}
 use Rattle.yq_change.specs.Siblings.{IsEntryAt, NodeLines}
 use Rattle.yq_change.specs.Heads.{rerun, TakesRun}
-use Rattle.yq_change.specs.LineRows.{line_number}
+use Rattle.yq_change.specs.LineRows.{lines_before_entry}
 use Rattle.yq_change.specs.DocumentRows.{IsDocumentPart, behind_document}
 use Rattle.yq_change.specs.LineComments.{retailed, TakesTail}
 use Rattle.yq_documents.specs.TreeEdits.{with_head_comment, with_line_comment}
@@ -24,11 +24,11 @@ pub record IsEntryLine (steps : List Step) (s : Step) (o : Outline) (n : ℕ) : 
   pub h : NodeLines
   pub f : FoundLine
   pub entry : IsEntryAt steps s o h f
-  pub number : n ≡ line_number h f
+  pub number : n ≡ lines_before_entry h f
 
 -- The line to which a path leads is that of an item or entry of a block collection.
 abbrev pub PathIsEntry : Type 0
-PathIsEntry = (p : Part) (m : ℕ) (steps : List Step) (s : Step) (n : ℕ) → IsEven m (outline_of p) → line_of (steps ++ (s ∷ [])) (lines_of p.rows) ≡ Some n → IsEntryLine steps s (outline_of p) n
+PathIsEntry = (p : Part) (m : ℕ) (steps : List Step) (s : Step) (n : ℕ) → IsEven m (part_outline p) → line_at_steps (steps ++ (s ∷ [])) (lines_of_rows p.rows) ≡ Some n → IsEntryLine steps s (part_outline p) n
 
 -- The line comment at a path is set, where the path's line is the last of its row.
 abbrev pub PathLineCommented : Type 0
@@ -38,7 +38,7 @@ PathLineCommented =
     length front ≡ x.before →
     IsReadable (cut_text (put_document k (retailed front x.row back tail p) c)) →
     IsChanged c (put_document k (retailed front x.row back tail p) c) k (lead_of p)
-    (change steps (within (relabel_child s (with_line_comment (line_comment tail)))))
+    (changed_at steps (within (relabel_child s (with_line_comment (line_comment tail)))))
 
 -- The head comment at a path is set, where the path's line is the first of its row.
 abbrev pub PathHeadCommented : Type 0
@@ -47,4 +47,4 @@ PathHeadCommented =
     row_line_of (steps ++ (s ∷ [])) p.rows ≡ Some x → x.line ≡ 0 → TakesRun p front x.row back run (behind_document k c) → length front ≡ x.before →
     IsReadable (cut_text (put_document k (rerun front x.row back run p) c)) →
     IsChanged c (put_document k (rerun front x.row back run p) c) k (lead_of (rerun front x.row back run p))
-    (change steps (within (relabel_child s (with_head_comment (head_comment run)))))
+    (changed_at steps (within (relabel_child s (with_head_comment (head_comment run)))))

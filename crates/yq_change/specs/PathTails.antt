@@ -1,7 +1,7 @@
 -- The line comment of an item or entry at a path, whatever its row holds: a tail behind what is written on its line, which for a block scalar is its header (6.6, 8.1.1; own).
 use Rattle.std.specs.Prelude.{◌≡◌, ℕ, List, [], ◌∷◌, ◌++◌, length, Some, true}
 use Rattle.yq_block_scalars.specs.Block.{is_tail}
-use Rattle.yq_flow_scalars.specs.Paths.{Step, change, relabel_child, within}
+use Rattle.yq_flow_scalars.specs.Paths.{Step, changed_at, relabel_child, within}
 use Rattle.yq_lines.specs.Comments.{line_comment}
 use Rattle.yq_cut.specs.Exchange.{with_content}
 use Rattle.yq_cut.specs.Grammar.{IsTail}
@@ -43,4 +43,4 @@ PathTailPut =
     length front ≡ x.before →
     IsReadable (cut_text (put_document k (inserted front (tailed tail x.row ∷ []) back p) c)) →
     IsChanged c (put_document k (inserted front (tailed tail x.row ∷ []) back p) c) k (lead_of p)
-    (change steps (within (relabel_child s (with_line_comment (line_comment tail)))))
+    (changed_at steps (within (relabel_child s (with_line_comment (line_comment tail)))))

@@ -2,14 +2,14 @@
 use Rattle.std.specs.Prelude.{◌≡◌, ℕ, List, [], ◌∷◌, ◌++◌, slice_get, Option, Some, None, true}
 use Rattle.yq_block_scalars.specs.BlockRepair.{repair}
 use Rattle.yq_flow_scalars.specs.Paths.{Step, node_at, remove_child}
-use Rattle.yq_flow_scalars.specs.Text.{joined, lines_of as text_lines}
+use Rattle.yq_flow_scalars.specs.Text.{joined, text_lines}
 use Rattle.yq_flow_scalars.specs.Tree.{Node}
 use Rattle.yq_flow_scalars.specs.Anchors.{names_of}
 use Rattle.yq_lines.specs.Places.{FoundLine}
 use Rattle.yq_cut.specs.Rows.{Part, Cut, cut_text}
 use Rattle.yq_documents.specs.Documents.{document_parts, lead_of}
 use Rattle.yq_row_places.specs.FirstPlaces.{FirstOut, first_removal}
-use Rattle.yq_documents.specs.Reading.{outline_of, read_at, root_of}
+use Rattle.yq_documents.specs.Reading.{part_outline, read_at, root_of}
 use Rattle.yq_row_places.specs.RemovalPlaces.{OwnRows, own_rows, Seam, Removal, removal_place, has_others}
 use Rattle.yq_documents.specs.TreeEdits.{at_end}
 use Rattle.yq_change.specs.Changed.{IsChanged, KeepsRows, put_document}
@@ -23,7 +23,7 @@ use Rattle.yq_change.specs.Siblings.{HasEntries, IsEntryAt, NodeLines}
 pub record HasOwnRows (p : Part) (steps : List Step) (s : Step) (x : OwnRows) : Type 0 where
   pub h : NodeLines
   pub f : FoundLine
-  pub entry : IsEntryAt steps s (outline_of p) h f
+  pub entry : IsEntryAt steps s (part_outline p) h f
   pub rows : HasWholeRows p h f x.front x.own x.back
 
 -- The rows that are found for an item or entry are its own.
@@ -49,7 +49,7 @@ pub record IsTakenOut (c : Cut) (k : ℕ) (steps : List Step) (t : List ℕ) : T
   pub changed : IsChanged c (put_document k new c) k (lead_of new) (at_end remove_child steps)
   pub old_block : is_block_root old ≡ true
   pub new_block : is_block_root new ≡ true
-  pub new_entries : HasEntries (outline_of new)
+  pub new_entries : HasEntries (part_outline new)
 
 -- One of several items or entries may be taken out of a document: it isn't alone in its collection, and none of its anchors has an alias.
 pub record MayTakeOut (c : Cut) (k : ℕ) (steps : List Step) : Type 0 where

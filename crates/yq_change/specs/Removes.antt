@@ -1,6 +1,6 @@
 -- One of several items or entries of a block collection taken out (own).
 use Rattle.std.specs.Prelude.{ℕ, List, []}
-use Rattle.yq_flow_scalars.specs.Text.{joined, lines_of as text_lines}
+use Rattle.yq_flow_scalars.specs.Text.{joined, text_lines}
 use Rattle.yq_cut.specs.Rows.{Row, Part}
 use Rattle.yq_cut.specs.Splices.{first_gap}
 use Rattle.yq_cut.specs.Removal.{last_block, next_column, seam_gap}

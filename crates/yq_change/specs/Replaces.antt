@@ -1,11 +1,11 @@
 -- A node replaced by rows, and what stands first in a compact collection taken out (own).
 use Rattle.std.specs.Prelude.{◌≡◌, ℕ, ◌+◌, List, [], ◌∷◌, ◌++◌, length, Some, true, false}
-use Rattle.yq_flow_scalars.specs.Paths.{Step, change, remove_child, within}
+use Rattle.yq_flow_scalars.specs.Paths.{Step, changed_at, remove_child, within}
 use Rattle.yq_flow_scalars.specs.Tree.{Node}
 use Rattle.yq_flow_scalars.specs.Anchors.{names_of}
 use Rattle.yq_lines.specs.LineAnchors.{HaveOneAnchorEach}
 use Rattle.yq_lines.specs.Outline.{Line, Outline, flatten}
-use Rattle.yq_lines.specs.Places.{lines_before, plug, FoundLine, find, content}
+use Rattle.yq_lines.specs.Places.{lines_before, plug, FoundLine, find, content_under}
 use Rattle.yq_nodes.specs.Alike.{Alike}
 use Rattle.yq_cut.specs.Exchange.{allows_first, asked_behind}
 use Rattle.yq_cut.specs.Grammar.{unlimited, AreRows, IsCut, no_rows}
@@ -13,10 +13,10 @@ use Rattle.yq_cut.specs.Rows.{Row, behind_columns, rows_text, Part, Cut, cut_tex
 use Rattle.yq_cut.specs.SpliceFits.{is_after}
 use Rattle.yq_cut.specs.Splices.{behind_first, first_gap, marker_before}
 use Rattle.yq_documents.specs.Documents.{HaveFitKeys, HasShortRoot, lead_of}
-use Rattle.yq_lines.specs.Lines.{lines_from, lines_of}
-use Rattle.yq_documents.specs.Reading.{outline_of, root_of}
+use Rattle.yq_lines.specs.Lines.{lines_from, lines_of_rows}
+use Rattle.yq_documents.specs.Reading.{part_outline, root_of}
 use Rattle.yq_row_places.specs.RowPaths.{IsReadable}
-use Rattle.yq_documents.specs.TreeEdits.{replaced}
+use Rattle.yq_documents.specs.TreeEdits.{replaced_node}
 use Rattle.yq_change.specs.Appends.{inserted}
 use Rattle.yq_change.specs.BlockChanges.{AreCounted, MovesUp, RootFits, StaysEmpty}
 use Rattle.yq_change.specs.Changed.{IsChanged, put_document}
@@ -24,7 +24,7 @@ use Rattle.yq_change.specs.Conditions.{AreSpared}
 use Rattle.yq_change.specs.DocumentRows.{IsDocumentPart, behind_document, put_rows}
 use Rattle.yq_documents.specs.PartNumbers.{part_number}
 use Rattle.yq_change.specs.Edited.{LineFits}
-use Rattle.yq_change.specs.Moved.{moved_up, emptied}
+use Rattle.yq_change.specs.Moved.{moved_up, emptied_row}
 use Rattle.yq_change.specs.Siblings.{HasEntries, IsEntryAt, NodeLines}
 use Rattle.yq_change.specs.SoundRoots.{MayReplace}
 
@@ -47,10 +47,10 @@ DocumentReplaced =
 
 -- Behind the lines x of dashes, which stay, the lines y of a node give way to a line and those under it.
 pub record TakesLines (f : FoundLine) (front gone new : List Row) (x y : List Line) (l : Line) (u : Outline) : Type 0 where
-  pub before_are : length (lines_of front) + length x ≡ length (lines_before f.place)
-  pub old_lines : lines_of gone ≡ x ++ y
+  pub before_are : length (lines_of_rows front) + length x ≡ length (lines_before f.place)
+  pub old_lines : lines_of_rows gone ≡ x ++ y
   pub size_is : length y ≡ length (f.line ∷ flatten f.under)
-  pub new_lines : lines_of new ≡ x ++ (l ∷ flatten u)
+  pub new_lines : lines_of_rows new ≡ x ++ (l ∷ flatten u)
   pub keys : HaveFitKeys new
   pub anchors : HaveOneAnchorEach (l ∷ flatten u)
 
@@ -59,10 +59,10 @@ abbrev pub NodeRowsReplaced : Type 0
 NodeRowsReplaced =
     (t : List ℕ) (c : Cut) (k : ℕ) (p : Part) (s : Step) (ss : List Step) (f : FoundLine) (v : Node) (front gone new back : List Row) (x y : List Line) (m : ℕ)
     (l : Line) (u : Outline) →
-    IsDocumentPart t c k p → find s ss (outline_of p) ≡ Some (f, []) → RowsReplace front gone new back (first_gap back p.end) p (behind_document k c) →
-    TakesLines f front gone new x y l u → LineFits [] f (replaced v) m l u → MayReplace v (content f.line f.under) (root_of p) (length (s ∷ ss)) →
+    IsDocumentPart t c k p → find s ss (part_outline p) ≡ Some (f, []) → RowsReplace front gone new back (first_gap back p.end) p (behind_document k c) →
+    TakesLines f front gone new x y l u → LineFits [] f (replaced_node v) m l u → MayReplace v (content_under f.line f.under) (root_of p) (length (s ∷ ss)) →
     IsReadable (cut_text (put_document k (inserted front new back p) c)) →
-    IsChanged c (put_document k (inserted front new back p) c) k (lead_of p) (change (s ∷ ss) (replaced v))
+    IsChanged c (put_document k (inserted front new back p) c) k (lead_of p) (changed_at (s ∷ ss) (replaced_node v))
 
 -- a part with these rows, and this gap behind them
 abbrev pub rooted : List Row → List ℕ → Part → Part
@@ -87,34 +87,34 @@ abbrev pub RootRowsReplaced : Type 0
 RootRowsReplaced =
     (t : List ℕ) (c : Cut) (k : ℕ) (p : Part) (v : Node) (new : List Row) (gap : List ℕ) (m : ℕ) (u : Outline) → IsDocumentPart t c k p →
     TakesRoot c k p new gap →
-    RootFits m u (replaced v (root_of p)) → lines_of new ≡ flatten u → MayReplace v (root_of p) (root_of p) 0 →
+    RootFits m u (replaced_node v (root_of p)) → lines_of_rows new ≡ flatten u → MayReplace v (root_of p) (root_of p) 0 →
     IsReadable (cut_text (put_document k (rooted new gap p) c)) →
-    IsChanged c (put_document k (rooted new gap p) c) k (lead_of (rooted new gap p)) (replaced v)
+    IsChanged c (put_document k (rooted new gap p) c) k (lead_of (rooted new gap p)) (replaced_node v)
 
 -- The first item or entry of a compact collection is removed: the next one's row b stands behind the dash.
 abbrev pub FirstRowMoved : Type 0
 FirstRowMoved =
     (t : List ℕ) (c : Cut) (k : ℕ) (p : Part) (steps : List Step) (s : Step) (h : NodeLines) (f : FoundLine) (front gone back : List Row) (r b : Row) (n : ℕ)
     (ns es : List ℕ) → IsDocumentPart t c k p →
-    IsEntryAt steps s (outline_of p) h f → HasEntries (plug f.place f.after) →
+    IsEntryAt steps s (part_outline p) h f → HasEntries (plug f.place f.after) →
     RowsReplace front (r ∷ (gone ++ (b ∷ []))) (moved_up r (n ∷ ns) b ∷ []) back (first_gap back p.end) p (behind_document k c) → MovesUp r b n ns es →
-    AreCounted h f (length (lines_of front) + length (n ∷ ns)) (length (lines_from [] b.column es r.mark r.content ++ lines_of gone)) →
-    AreSpared (names_of (content f.line f.under)) [] (names_of (root_of p)) →
+    AreCounted h f (length (lines_of_rows front) + length (n ∷ ns)) (length (lines_from [] b.column es r.mark r.content ++ lines_of_rows gone)) →
+    AreSpared (names_of (content_under f.line f.under)) [] (names_of (root_of p)) →
     IsReadable (cut_text (put_document k (inserted front (moved_up r (n ∷ ns) b ∷ []) back p) c)) →
     IsChanged c (put_document k (inserted front (moved_up r (n ∷ ns) b ∷ []) back p) c) k (lead_of (inserted front (moved_up r (n ∷ ns) b ∷ []) back p))
-    (change steps (within (remove_child s)))
+    (changed_at steps (within (remove_child s)))
 
 -- The same where nothing but a tail stays behind the dash, and the next one's row keeps its place below it.
 abbrev pub FirstRowDropped : Type 0
 FirstRowDropped =
     (t : List ℕ) (c : Cut) (k : ℕ) (p : Part) (steps : List Step) (s : Step) (h : NodeLines) (f : FoundLine) (front gone back : List Row) (r : Row) (n : ℕ)
     (ns es tail : List ℕ) → IsDocumentPart t c k p →
-    IsEntryAt steps s (outline_of p) h f → HasEntries (plug f.place f.after) →
-    RowsReplace front (r ∷ gone) (emptied r ns tail ∷ []) back (first_gap back p.end) p (behind_document k c) →
+    IsEntryAt steps s (part_outline p) h f → HasEntries (plug f.place f.after) →
+    RowsReplace front (r ∷ gone) (emptied_row r ns tail ∷ []) back (first_gap back p.end) p (behind_document k c) →
     StaysEmpty r n ns es tail →
-    AreCounted h f (length (lines_of front) + length (ns ++ (n ∷ [])))
-    (length (lines_from [] (behind_columns r.column (ns ++ (n ∷ []))) es r.mark r.content ++ lines_of gone)) →
-    AreSpared (names_of (content f.line f.under)) [] (names_of (root_of p)) →
-    IsReadable (cut_text (put_document k (inserted front (emptied r ns tail ∷ []) back p) c)) →
-    IsChanged c (put_document k (inserted front (emptied r ns tail ∷ []) back p) c) k (lead_of (inserted front (emptied r ns tail ∷ []) back p))
-    (change steps (within (remove_child s)))
+    AreCounted h f (length (lines_of_rows front) + length (ns ++ (n ∷ [])))
+    (length (lines_from [] (behind_columns r.column (ns ++ (n ∷ []))) es r.mark r.content ++ lines_of_rows gone)) →
+    AreSpared (names_of (content_under f.line f.under)) [] (names_of (root_of p)) →
+    IsReadable (cut_text (put_document k (inserted front (emptied_row r ns tail ∷ []) back p) c)) →
+    IsChanged c (put_document k (inserted front (emptied_row r ns tail ∷ []) back p) c) k (lead_of (inserted front (emptied_row r ns tail ∷ []) back p))
+    (changed_at steps (within (remove_child s)))

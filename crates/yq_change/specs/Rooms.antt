@@ -2,11 +2,11 @@
 use Rattle.std.specs.Prelude.{◌≡◌, ℕ, List, map, is_some, Bool, true}
 use Rattle.yq_flow_scalars.specs.Paths.{Step}
 use Rattle.yq_flow_scalars.specs.Tree.{none, children_of}
-use Rattle.yq_cut.specs.Rows.{Mark, Row, Part}
+use Rattle.yq_cut.specs.Rows.{RowMark, Row, Part}
 use Rattle.yq_documents.specs.declared.path.Part as places
 use Rattle.yq_documents.specs.Documents.{lead_of}
-use Rattle.yq_lines.specs.Lines.{head_of, lines_of}
-use Rattle.yq_documents.specs.Reading.{outline_of, root_of}
+use Rattle.yq_lines.specs.Lines.{head_of, lines_of_rows}
+use Rattle.yq_documents.specs.Reading.{part_outline, root_of}
 use Rattle.yq_documents.specs.Ready.{begins_no_node}
 use Rattle.yq_documents.specs.LinesInRows.{row_line_of, row_line_has_room}
 use Rattle.yq_documents.specs.TreeEdits.{lead_by}
@@ -14,7 +14,7 @@ use Rattle.yq_change.specs.Siblings.{HasEntries}
 
 -- whether a collection at the root of a part is block
 abbrev pub is_block_root : Part → Bool
-is_block_root p = begins_no_node (lines_of p.rows)
+is_block_root p = begins_no_node (lines_of_rows p.rows)
 
 -- the lead of part q goes with its root, where that takes the place of part p's: it is that one's, or where that root was block, the head comment of the first
 -- item or entry
@@ -27,7 +27,7 @@ SameLeadGoes = (p q : Part) → lead_of q ≡ lead_of p → is_block_root q ≡ 
 
 -- A lead goes with the root, where both roots are block, and the new one has items or entries.
 abbrev pub BlockLeadGoes : Type 0
-BlockLeadGoes = (p q : Part) → is_block_root p ≡ true → HasEntries (outline_of q) → LeadGoes p q
+BlockLeadGoes = (p q : Part) → is_block_root p ≡ true → HasEntries (part_outline q) → LeadGoes p q
 
 -- A lead goes with the root, where it is the old one, and the new root has neither items nor entries if the old one was block.
 abbrev pub KeptLeadGoes : Type 0
@@ -41,7 +41,7 @@ EqualRoom p q = (part : places.Part) (steps : List Step) → row_line_has_room p
 pub record RowShape : Type 0 where
   pub column : ℕ
   pub dashes : List ℕ
-  pub mark : Mark
+  pub mark : RowMark
   pub headed : Bool
 
 -- what is told so of a row

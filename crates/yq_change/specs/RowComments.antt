@@ -1,7 +1,7 @@
 -- One row in the place of another one, and the line comments of rows of which a tail alone doesn't tell: block scalars have theirs in the header (8.1.1; own).
 use Rattle.std.specs.Prelude.{◌≡◌, ℕ, ◌+◌, List, [], ◌∷◌, ◌++◌, length, Option, true, false}
 use Rattle.yq_block_scalars.specs.Block.{BlockText}
-use Rattle.yq_flow_scalars.specs.Paths.{Step, change, relabel_child, within}
+use Rattle.yq_flow_scalars.specs.Paths.{Step, changed_at, relabel_child, within}
 use Rattle.yq_lines.specs.Comments.{line_comment}
 use Rattle.yq_lines.specs.Places.{FoundLine}
 use Rattle.yq_cut.specs.Exchange.{allows_first, asked_behind, with_content}
@@ -11,14 +11,14 @@ use Rattle.yq_cut.specs.Rows.{Content, Block, Row, rows_text, Part, Cut, cut_tex
 use Rattle.yq_cut.specs.Seams.{TakesPlace}
 use Rattle.yq_cut.specs.Splices.{first_gap}
 use Rattle.yq_documents.specs.Documents.{ContentHasFitKeys, is_long_plain, lead_of}
-use Rattle.yq_lines.specs.Lines.{content_anchor, head_of, tail_of, lines_of}
-use Rattle.yq_documents.specs.Reading.{outline_of}
+use Rattle.yq_lines.specs.Lines.{content_anchor, head_of, tail_of, lines_of_rows}
+use Rattle.yq_documents.specs.Reading.{part_outline}
 use Rattle.yq_row_places.specs.RowPaths.{IsReadable}
 use Rattle.yq_documents.specs.TreeEdits.{with_line_comment}
 use Rattle.yq_change.specs.Appends.{inserted}
 use Rattle.yq_change.specs.Changed.{IsChanged, put_document}
 use Rattle.yq_change.specs.DocumentRows.{IsDocumentPart, behind_document}
-use Rattle.yq_change.specs.LineRows.{line_number}
+use Rattle.yq_change.specs.LineRows.{lines_before_entry}
 use Rattle.yq_change.specs.Replaces.{RowsReplace}
 use Rattle.yq_change.specs.Siblings.{IsEntryAt, NodeLines}
 
@@ -36,7 +36,7 @@ RowReplaces =
     RowsReplace front (r ∷ []) (new ∷ []) back (first_gap back p.end) p (behind_document k c)
 
 -- A content spells what another one does, and may have another tail.
-pub record SpellsAlike (mark : rows.Mark) (old new : Content) : Type 0 where
+pub record SpellsAlike (mark : rows.RowMark) (old new : Content) : Type 0 where
   pub head_is : head_of new ≡ head_of old
   pub anchor_is : content_anchor new ≡ content_anchor old
   pub keys : ContentHasFitKeys new
@@ -47,10 +47,10 @@ abbrev pub ContentCommented : Type 0
 ContentCommented =
     (t : List ℕ) (c : Cut) (k : ℕ) (p : Part) (steps : List Step) (s : Step) (h : NodeLines) (f : FoundLine) (front back : List Row) (r : Row)
     (new : Content) → IsDocumentPart t c k p →
-    IsEntryAt steps s (outline_of p) h f → TakesRow p front r (with_content new r) back (behind_document k c) → SpellsAlike r.mark r.content new →
-    length (lines_of front) + length r.dashes ≡ line_number h f → IsReadable (cut_text (put_document k (inserted front (with_content new r ∷ []) back p) c)) →
+    IsEntryAt steps s (part_outline p) h f → TakesRow p front r (with_content new r) back (behind_document k c) → SpellsAlike r.mark r.content new →
+    length (lines_of_rows front) + length r.dashes ≡ lines_before_entry h f → IsReadable (cut_text (put_document k (inserted front (with_content new r ∷ []) back p) c)) →
     IsChanged c (put_document k (inserted front (with_content new r ∷ []) back p) c) k (lead_of p)
-    (change steps (within (relabel_child s (with_line_comment (line_comment (tail_of new))))))
+    (changed_at steps (within (relabel_child s (with_line_comment (line_comment (tail_of new))))))
 
 -- a block scalar whose header has another tail
 abbrev pub with_header_tail : List ℕ → List ℕ → Option rows.Anchor → BlockText → Content
@@ -61,9 +61,9 @@ abbrev pub BlockCommented : Type 0
 BlockCommented =
     (t : List ℕ) (c : Cut) (k : ℕ) (p : Part) (steps : List Step) (s : Step) (h : NodeLines) (f : FoundLine) (front back : List Row) (r : Row) (space : List ℕ)
     (anchor : Option rows.Anchor) (block : BlockText)
-    (tail : List ℕ) → IsDocumentPart t c k p → IsEntryAt steps s (outline_of p) h f → r.content ≡ Block space anchor block →
+    (tail : List ℕ) → IsDocumentPart t c k p → IsEntryAt steps s (part_outline p) h f → r.content ≡ Block space anchor block →
     TakesRow p front r (with_content (with_header_tail tail space anchor block) r) back (behind_document k c) →
-    length (lines_of front) + length r.dashes ≡ line_number h f →
+    length (lines_of_rows front) + length r.dashes ≡ lines_before_entry h f →
     IsReadable (cut_text (put_document k (inserted front (with_content (with_header_tail tail space anchor block) r ∷ []) back p) c)) →
     IsChanged c (put_document k (inserted front (with_content (with_header_tail tail space anchor block) r ∷ []) back p) c) k (lead_of p)
-    (change steps (within (relabel_child s (with_line_comment (line_comment tail)))))
+    (changed_at steps (within (relabel_child s (with_line_comment (line_comment tail)))))

@@ -1,11 +1,11 @@
 -- Items or entries of a block collection exchanged, and the lines of a node at a path (own).
 use Rattle.std.specs.Prelude.{◌≡◌, ℕ, ◌<◌, List, [], ◌∷◌, ◌++◌, Option, Some, None, option_and_then, ⊤}
-use Rattle.yq_flow_scalars.specs.Paths.{Step, append_child, change, relabel_child, remove_child, within}
+use Rattle.yq_flow_scalars.specs.Paths.{Step, append_child, changed_at, relabel_child, remove_child, within}
 use Rattle.yq_flow_scalars.specs.Tree.{Label, Node, Children}
 use Rattle.yq_lines.specs.Group.{level_or}
 use Rattle.yq_lines.specs.Laws.{with_lines}
-use Rattle.yq_lines.specs.Outline.{Mark, Bare, Key, Dash, Line, level, Outline, end, row, flatten, IsOpen, IsEven, anchored, label, children, value, Stands}
-use Rattle.yq_lines.specs.Places.{Context, here, below, plug, lines_before, lines_after, compose, FoundLine, find_row, find, content}
+use Rattle.yq_lines.specs.Outline.{LineMark, Bare, Key, Dash, Line, level, Outline, end, row, flatten, IsOpen, IsEven, anchored, label, children, value, Stands}
+use Rattle.yq_lines.specs.Places.{Context, here, below, plug, lines_before, lines_after, compose, FoundLine, find_row, find, content_under}
 
 -- an outline with another one behind it
 abbrev pub append_outline : Outline → Outline → Outline
@@ -13,7 +13,7 @@ append_outline end b = b
 append_outline (row l under after) b = row l under (append_outline after b)
 
 -- a line begins with a key or a dash (8.2.1, 8.2.2)
-abbrev pub IsEntry : Mark → Type 0
+abbrev pub IsEntry : LineMark → Type 0
 IsEntry Bare = ⊥
 IsEntry (Key k) = ⊤
 IsEntry Dash = ⊤
@@ -89,7 +89,7 @@ pub record IsRelabelled (g : Label → Label) (old new : Line) : Type 0 where
 abbrev pub LinesReplaced : Type 0
 LinesReplaced =
     (n m : ℕ) (o u : Outline) (steps : List Step) (h : NodeLines) (g : Node → Node) → IsEven n o → lines_at steps o ≡ Some h → LinesFit h g m u →
-    (flatten o ≡ put_lines h (flatten h.lines)) × StandsSomewhere (put_lines h (flatten u)) (change steps g (value o))
+    (flatten o ≡ put_lines h (flatten h.lines)) × StandsSomewhere (put_lines h (flatten u)) (changed_at steps g (value o))
 
 -- Where the lines of the collection at a path give way to others at their level, the lines stand for the tree with its items or entries exchanged.
 abbrev pub CollectionReplaced : Type 0
@@ -97,14 +97,14 @@ CollectionReplaced =
     (n : ℕ) (o u : Outline) (steps : List Step) (h : NodeLines) (g : Children → Children) → IsEven n o → IsCollectionAt steps o h → HasEntries u →
     IsEven (level_or 0 h.lines) u →
     children u ≡ g (children h.lines) → (flatten o ≡ put_lines h (flatten h.lines)) ×
-    StandsSomewhere (put_lines h (flatten u)) (change steps (within g) (value o))
+    StandsSomewhere (put_lines h (flatten u)) (changed_at steps (within g) (value o))
 
 -- With the lines of one item or entry more at the end of the collection at a path, lines stand for the tree with that one.
 abbrev pub Appended : Type 0
 Appended =
     (n m : ℕ) (o v : Outline) (l : Line) (steps : List Step) (h : NodeLines) → IsEven n o → IsCollectionAt steps o h → EntryFits h m l v →
     (flatten o ≡ put_lines h (flatten h.lines)) ×
-    StandsSomewhere (put_lines h (flatten h.lines ++ (l ∷ flatten v))) (change steps (within (append_child (label l) (content l v))) (value o))
+    StandsSomewhere (put_lines h (flatten h.lines ++ (l ∷ flatten v))) (changed_at steps (within (append_child (label l) (content_under l v))) (value o))
 
 -- Without the lines of one of several items or entries of the collection at a path, lines stand for the tree without that one.
 abbrev pub Removed : Type 0
@@ -112,7 +112,7 @@ Removed =
     (n : ℕ) (o : Outline) (steps : List Step) (h : NodeLines) (s : Step) (f : FoundLine) → IsEven n o → IsEntryAt steps s o h f →
     HasEntries (plug f.place f.after) →
     (flatten o ≡ put_lines h (with_lines f (f.line ∷ flatten f.under))) ×
-    StandsSomewhere (put_lines h (with_lines f [])) (change steps (within (remove_child s)) (value o))
+    StandsSomewhere (put_lines h (with_lines f [])) (changed_at steps (within (remove_child s)) (value o))
 
 -- With another head comment or line comment of an item or entry of the collection at a path, lines stand for the tree with that one.
 abbrev pub Relabelled : Type 0
@@ -120,4 +120,4 @@ Relabelled =
     (n : ℕ) (o : Outline) (steps : List Step) (h : NodeLines) (s : Step) (f : FoundLine) (g : Label → Label) (l : Line) → IsEven n o →
     IsEntryAt steps s o h f → IsRelabelled g f.line l →
     (flatten o ≡ put_lines h (with_lines f (f.line ∷ flatten f.under))) ×
-    StandsSomewhere (put_lines h (with_lines f (l ∷ flatten f.under))) (change steps (within (relabel_child s g)) (value o))
+    StandsSomewhere (put_lines h (with_lines f (l ∷ flatten f.under))) (changed_at steps (within (relabel_child s g)) (value o))

@@ -1,12 +1,12 @@
 -- What the operations leave of what is asked of a document's root (own).
 use Rattle.std.specs.Prelude.{◌≡◌, ℕ, suc, ◌+◌, ◌≤◌, List, [], ◌∷◌, length, Option, Some, None, ⊤}
 use Rattle.yq_flow_scalars.specs.Keys.{HasUniqueKeys, depth, keys_of}
-use Rattle.yq_flow_scalars.specs.Paths.{Step, append_child, change, child_at, node_at, relabel_child, remove_child, within}
+use Rattle.yq_flow_scalars.specs.Paths.{Step, append_child, changed_at, child_at, node_at, relabel_child, remove_child, within}
 use Rattle.yq_flow_scalars.specs.Tree.{Label, Node, alias, scalar, list, map, children_of}
 use Rattle.yq_nodes.specs.Inline.{depth_limit}
 use Rattle.yq_flow_scalars.specs.Anchors.{Name, Refers, names_of, names_in, IsAmong, AreBound}
 use Rattle.yq_change.specs.Conditions.{AreSpared}
-use Rattle.yq_documents.specs.TreeEdits.{replaced}
+use Rattle.yq_documents.specs.TreeEdits.{replaced_node}
 
 -- What is asked of the root of a document: no key twice, not too deep, and each alias bound (3.2.1.3, 7.1; own).
 pub record IsSoundRoot (root : Node) : Type 0 where
@@ -41,24 +41,24 @@ pub record MayReplace (v old root : Node) (above : ℕ) : Type 0 where
 abbrev pub ReplaceKeeps : Type 0
 ReplaceKeeps =
     (steps : List Step) (root old v : Node) → IsSoundRoot root → node_at steps root ≡ Some old → MayReplace v old root (length steps) →
-    IsSoundRoot (change steps (replaced v) root)
+    IsSoundRoot (changed_at steps (replaced_node v) root)
 
 -- It stays so with one item or entry more, of a new key.
 abbrev pub AppendKeeps : Type 0
 AppendKeeps =
     (steps : List Step) (root old v : Node) (l : Label) → IsSoundRoot root → node_at steps root ≡ Some old → IsNewValue v (suc (length steps)) →
     IsNewKey l.key (keys_of (children_of old)) →
-    IsSoundRoot (change steps (within (append_child l v)) root)
+    IsSoundRoot (changed_at steps (within (append_child l v)) root)
 
 -- It stays so without an item or entry in which no anchor has an alias.
 abbrev pub RemoveKeeps : Type 0
 RemoveKeeps =
     (steps : List Step) (root old x : Node) (s : Step) → IsSoundRoot root → node_at steps root ≡ Some old → child_at s (children_of old) ≡ Some x →
-    AreSpared (names_of x) [] (names_of root) → IsSoundRoot (change steps (within (remove_child s)) root)
+    AreSpared (names_of x) [] (names_of root) → IsSoundRoot (changed_at steps (within (remove_child s)) root)
 
 -- It stays so with other comments of an item or entry.
 abbrev pub RelabelKeeps : Type 0
 RelabelKeeps =
     (steps : List Step) (root old : Node) (s : Step) (g : Label → Label) → IsSoundRoot root → node_at steps root ≡ Some old →
     ((l : Label) → (g l).key ≡ l.key) →
-    IsSoundRoot (change steps (within (relabel_child s g)) root)
+    IsSoundRoot (changed_at steps (within (relabel_child s g)) root)

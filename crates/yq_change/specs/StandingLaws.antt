@@ -8,8 +8,8 @@ use Rattle.yq_lines.specs.Outline.{flatten}
 use Rattle.yq_lines.specs.Places.{FoundLine, find, lines_before}
 use Rattle.yq_cut.specs.Rows.{Cut, Part, cut_text, part_text}
 use Rattle.yq_documents.specs.Documents.{document_parts}
-use Rattle.yq_lines.specs.Lines.{lines_of}
-use Rattle.yq_documents.specs.Reading.{outline_of, read_at}
+use Rattle.yq_lines.specs.Lines.{lines_of_rows}
+use Rattle.yq_documents.specs.Reading.{part_outline, read_at}
 use Rattle.yq_row_places.specs.NodesAt.{node_in}
 use Rattle.yq_row_places.specs.RemovalPlaces.{has_others_at}
 use Rattle.yq_change.specs.Changed.{put_document}
@@ -36,12 +36,12 @@ pub record StandsThere (n : ℕ) (s : Step) (ss : List Step) (c : Cut) (e : Rows
   pub part : Part
   pub old : IsDocumentPart (cut_text c) c n part
   pub found : FoundLine
-  pub is : find s ss (outline_of part) ≡ Some (found, [])
+  pub is : find s ss (part_outline part) ≡ Some (found, [])
   pub rows_are : part.rows ≡ e.front ++ (e.row ∷ (e.under ++ e.back))
   pub end_is : e.end ≡ part.end
   pub behind_is : e.behind ≡ behind_document n c
-  pub number : length (lines_of e.front) + e.line ≡ length (lines_before found.place)
-  pub count : length (lines_of (e.row ∷ e.under)) ≡ e.line + suc (length (flatten found.under))
+  pub number : length (lines_of_rows e.front) + e.line ≡ length (lines_before found.place)
+  pub count : length (lines_of_rows (e.row ∷ e.under)) ≡ e.line + suc (length (flatten found.under))
   pub put : (q : Part) → cut_text (put_document n q c) ≡ e.start ++ part_text q (behind_document n c)
 
 -- Rows that are found stand so.

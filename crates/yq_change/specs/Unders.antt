@@ -5,17 +5,17 @@ use Rattle.yq_nodes.specs.Nodes as inline
 use Rattle.yq_lines.specs.Outline.{flatten}
 use Rattle.yq_lines.specs.Places.{lines_before, FoundLine, find}
 use Rattle.yq_cut.specs.Rows.{Content, Inline, Row, Part}
-use Rattle.yq_lines.specs.Lines.{lines_of}
-use Rattle.yq_documents.specs.Reading.{outline_of}
+use Rattle.yq_lines.specs.Lines.{lines_of_rows}
+use Rattle.yq_documents.specs.Reading.{part_outline}
 
 -- Steps lead to an item or entry whose line is that of a row's mark, with these rows under it, between others in front and others behind.
 pub record HasUnder (p : Part) (s : Step) (ss : List Step) (front : List Row) (r : Row) (under back : List Row) : Type 0 where
   pub found : FoundLine
-  pub is : find s ss (outline_of p) ≡ Some (found, [])
+  pub is : find s ss (part_outline p) ≡ Some (found, [])
   pub rows_are : p.rows ≡ front ++ (r ∷ (under ++ back))
-  pub number : length (lines_of front) + length r.dashes ≡ length (lines_before found.place)
-  pub count : length (lines_of under) ≡ length (flatten found.under)
+  pub number : length (lines_of_rows front) + length r.dashes ≡ length (lines_before found.place)
+  pub count : length (lines_of_rows under) ≡ length (flatten found.under)
 
 -- an inline node behind a space, as a content
-abbrev pub spaced : inline.Node → List ℕ → Content
-spaced node tail = Inline (32 ∷ []) node tail
+abbrev pub spaced_content : inline.FlowNode → List ℕ → Content
+spaced_content node tail = Inline (32 ∷ []) node tail

@@ -2,8 +2,8 @@
 use Rattle.std.proofs.Common.{◌≡◌, inl, inr, ℕ, ◌+◌, ◌-◌, ◌^◌, ◌<◌, min, Bool, true, false, if◌then◌else◌, List, [], ◌∷◌, ◌++◌, Result, Ok, Err, MatchResult, IfErr, sym, ap, ◌∙◌, subst, refl, arith}
 use Rattle.yq_output.specs.declared.answer.Answer.{Answer}
 use Rattle.yq_history.specs.declared.fault.Fault.{Fault}
-use Rattle.yq_store.specs.Count.{one_more}
-use Rattle.yq_history.specs.Faults.{is_output, counted}
+use Rattle.yq_store.specs.Count.{count_plus_one}
+use Rattle.yq_history.specs.Faults.{is_output, failures_after}
 use Rattle.yq_commands.specs.Lists.{IsAnswer, reports_failure, reports_output, count_passing, failures_in, output_failures_in}
 use Rattle.yq_history.specs.Report.{Report}
 use Rattle.yq_commands.proofs.ReplyLaws.{no_failure}
@@ -23,30 +23,30 @@ no_answers passes rs old none small = subst (λ xs. old ≡ min (old + count_pas
 
 -- a count of failures is that of the answers that tell them
 sum_more : (passes : Answer → Bool) (rs : List Answer) (a : Answer) (old n m : ℕ) →
-    n ≡ min (old + count_passing passes rs) (2 ^ 64 - 1) → m ≡ (if passes a then one_more n else n) → m ≡ min (old + count_passing passes (rs ++ a ∷ [])) (2 ^ 64 - 1)
+    n ≡ min (old + count_passing passes rs) (2 ^ 64 - 1) → m ≡ (if passes a then count_plus_one n else n) → m ≡ min (old + count_passing passes (rs ++ a ∷ [])) (2 ^ 64 - 1)
 sum_more passes rs a old n m before after =
-    elim (passes a) as (λ b. count_passing passes (rs ++ a ∷ []) ≡ count_passing passes rs + (if b then 1 else 0) → m ≡ (if b then one_more n else n) → m ≡ min (old + count_passing passes (rs ++ a ∷ [])) (2 ^ 64 - 1)) [
+    elim (passes a) as (λ b. count_passing passes (rs ++ a ∷ []) ≡ count_passing passes rs + (if b then 1 else 0) → m ≡ (if b then count_plus_one n else n) → m ≡ min (old + count_passing passes (rs ++ a ∷ [])) (2 ^ 64 - 1)) [
       | true ↦ λ e g. omega (arith, e, g, before)
       | false ↦ λ e g. omega (arith, e, g, before)
     ] (passing_more passes rs a) after
 
-counted_passing : {T : Type 0} (r : Result T Fault) (a : Answer) (s : Report) (n : ℕ) → IsAnswer r a s → counted r n ≡ (if reports_failure a then one_more n else n)
-counted_passing (Ok v) a s n (inl is) = ap (λ b. if b then one_more n else n) (sym (ap reports_failure is ∙ no_failure s.is_match))
-counted_passing (Ok v) a s n (inr is) = ap (λ y. if reports_failure y then one_more n else n) (sym is.0)
-counted_passing (Err x) a s n is = ap (λ y. if reports_failure y then one_more n else n) (sym is)
+counted_passing : {T : Type 0} (r : Result T Fault) (a : Answer) (s : Report) (n : ℕ) → IsAnswer r a s → failures_after r n ≡ (if reports_failure a then count_plus_one n else n)
+counted_passing (Ok v) a s n (inl is) = ap (λ b. if b then count_plus_one n else n) (sym (ap reports_failure is ∙ no_failure s.is_match))
+counted_passing (Ok v) a s n (inr is) = ap (λ y. if reports_failure y then count_plus_one n else n) (sym is.0)
+counted_passing (Err x) a s n is = ap (λ y. if reports_failure y then count_plus_one n else n) (sym is)
 
 -- the store's count, one answer more
 pub count_more : {T : Type 0} (r : Result T Fault) (rs : List Answer) (a : Answer) (s : Report) (old n m : ℕ) →
-    IsAnswer r a s → n ≡ min (old + failures_in rs) (2 ^ 64 - 1) → m ≡ counted r n → m ≡ min (old + failures_in (rs ++ a ∷ [])) (2 ^ 64 - 1)
+    IsAnswer r a s → n ≡ min (old + failures_in rs) (2 ^ 64 - 1) → m ≡ failures_after r n → m ≡ min (old + failures_in (rs ++ a ∷ [])) (2 ^ 64 - 1)
 count_more r rs a s old n m is before after = sum_more reports_failure rs a old n m before (after ∙ counted_passing r a s n is)
 
 -- the output's count after an answer
 pub put_passing : {T : Type 0} (r : Result T Fault) (a : Answer) (s : Report) (n m : ℕ) →
-    IsAnswer r a s → IfErr r (λ x. is_output x ≡ false) → MatchResult r (λ _. m ≡ (if reports_output a then one_more n else n)) (λ _. m ≡ n) → m ≡ (if reports_output a then one_more n else n)
+    IsAnswer r a s → IfErr r (λ x. is_output x ≡ false) → MatchResult r (λ _. m ≡ (if reports_output a then count_plus_one n else n)) (λ _. m ≡ n) → m ≡ (if reports_output a then count_plus_one n else n)
 put_passing (Ok v) a s n m is no_output after = after
-put_passing (Err x) a s n m is no_output after = after ∙ ap (λ b. if b then one_more n else n) (sym (ap reports_output is ∙ no_output))
+put_passing (Err x) a s n m is no_output after = after ∙ ap (λ b. if b then count_plus_one n else n) (sym (ap reports_output is ∙ no_output))
 
 -- the output's
 pub put_more : (rs : List Answer) (a : Answer) (old n m : ℕ) →
-    n ≡ min (old + output_failures_in rs) (2 ^ 64 - 1) → m ≡ (if reports_output a then one_more n else n) → m ≡ min (old + output_failures_in (rs ++ a ∷ [])) (2 ^ 64 - 1)
+    n ≡ min (old + output_failures_in rs) (2 ^ 64 - 1) → m ≡ (if reports_output a then count_plus_one n else n) → m ≡ min (old + output_failures_in (rs ++ a ∷ [])) (2 ^ 64 - 1)
 put_more rs a old n m before after = sum_more reports_output rs a old n m before after

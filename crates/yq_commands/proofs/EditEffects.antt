@@ -6,26 +6,26 @@ use Rattle.yq_records.specs.declared.fault.JournalFault.TheVariants as journal
 use Rattle.yq_records.specs.declared.moves.Move.TheVariants as move
 use Rattle.yq_records.specs.Record.{Record}
 use Rattle.yq_records.specs.Refusals.{most_records, no_way}
-use Rattle.yq_records.specs.State.{State, moved, moved_text, opened}
+use Rattle.yq_records.specs.State.{State, journal_after, moved_text, with_move}
 use Rattle.yq_history.specs.declared.fault.Fault.{Fault}
 use Rattle.yq_history.specs.declared.fault.Fault.TheVariants as fault
 use Rattle.yq_store.specs.FileMap.{FileMap}
 use Rattle.yq_commands.specs.CommandEffects.{edit_effect, edit_writes, update_effect}
 use Rattle.yq_history.specs.Effects.{Effect, refuses, writes_nothing, from_pair, goes_to, move_effect, Works}
-use Rattle.yq_commands.specs.Editing.{EditOutcome, unreadable, refused, edited, Refuses, program_in, edits}
+use Rattle.yq_commands.specs.Editing.{EditOutcome, unreadable, refused, edited, Refuses, program_in, program_edits}
 use Rattle.yq_commands.specs.Edits.{edit_record}
-use Rattle.yq_history.specs.Faults.{is_outside}
+use Rattle.yq_history.specs.Faults.{is_outer_fault}
 use Rattle.yq_history.specs.Causes.{named}
 use Rattle.yq_history.proofs.EffectLaws.{works_outside, works_refused, works_carried}
 use Rattle.yq_history.proofs.MoveLaws.{IsMove, bytes_differ}
 
 -- a fault that is told where it isn't want of memory
-inside_memory : {P : Type 0} (e : Fault) → is_outside e ≡ false → (e ≢ fault.OutOfMemory → P) → P
-inside_memory e out why = why (λ memory. let bad : false ≡ true = sym out ∙ ap is_outside memory in cc)
+inside_memory : {P : Type 0} (e : Fault) → is_outer_fault e ≡ false → (e ≢ fault.OutOfMemory → P) → P
+inside_memory e out why = why (λ memory. let bad : false ≡ true = sym out ∙ ap is_outer_fault memory in cc)
 
 module _ (f j : List ℕ) (c : FileMap) (expr : List ℕ) (s : State) (t : List ℕ) where
   reports_why : (T : Type 0) (o : EditOutcome) (e : Fault) → Refuses o e → Works (edit_effect expr o t s) f j c c {T = T} (Err e)
-  reports_why T (unreadable old) e why = (elim (is_outside e) as (λ b. MatchBool b (Unit {0}) (Refuses (unreadable old) e)) [ true ↦ tt | false ↦ why ], refl)
+  reports_why T (unreadable old) e why = (elim (is_outer_fault e) as (λ b. MatchBool b (Unit {0}) (Refuses (unreadable old) e)) [ true ↦ tt | false ↦ why ], refl)
   reports_why T (refused x) e why = works_refused T (refuses (named x)) f j c e (ap (λ y. refuses (named y)) (sym why))
   reports_why T (edited u cs) e why = absurd why
 
@@ -33,7 +33,7 @@ module _ (f j : List ℕ) (c : FileMap) (expr : List ℕ) (s : State) (t : List 
   pub edit_fails : (o : EditOutcome) {T : Type 0} (r : Result T Fault) (e : Fault) → r ≡ Err e → (e ≢ fault.OutOfMemory → Refuses o e) → Works (edit_effect expr o t s) f j c c r
   edit_fails o {T = T} r e is why =
       subst (Works (edit_effect expr o t s) f j c c) (sym is)
-      (elim (is_outside e) as (λ b. is_outside e ≡ b → Works (edit_effect expr o t s) f j c c {T = T} (Err e)) [
+      (elim (is_outer_fault e) as (λ b. is_outer_fault e ≡ b → Works (edit_effect expr o t s) f j c c {T = T} (Err e)) [
         | true ↦ λ out. works_outside T (edit_effect expr o t s) f j c e out
         | false ↦ λ out. reports_why T o e (inside_memory e out why)
       ] refl)
@@ -46,7 +46,7 @@ module _ (f j : List ℕ) (c : FileMap) (expr : List ℕ) (s : State) (t : List 
 
   -- an edit to another text is a move
   module _ (u : List ℕ) (cs : List Splice) (edit : Record) (is_edit : edit ≡ edit_record expr cs (length t) (length u)) where
-    by_room : (full : Bool) → by_tests u cs false full ≡ goes_to (if full then Some journal.JournalFull else None) (Some u) (opened s (move.Edit edit) t) (moved s (move.Edit edit))
+    by_room : (full : Bool) → by_tests u cs false full ≡ goes_to (if full then Some journal.JournalFull else None) (Some u) (with_move s (move.Edit edit) t) (journal_after s (move.Edit edit))
     by_room true = refl
     by_room false = ap (λ r. edit_writes r t u s) (sym is_edit)
 
@@ -55,7 +55,7 @@ module _ (f j : List ℕ) (c : FileMap) (expr : List ℕ) (s : State) (t : List 
         ap (λ x. edit_effect expr x t s) is
         ∙ ap (λ b. by_tests u cs b (nat_le most_records s.at)) (bytes_differ u t changes)
         ∙ by_room (nat_le most_records s.at)
-        ∙ ap (λ m. goes_to (no_way s.records s.at (move.Edit edit)) m (opened s (move.Edit edit) t) (moved s (move.Edit edit))) (sym leads)
+        ∙ ap (λ m. goes_to (no_way s.records s.at (move.Edit edit)) m (with_move s (move.Edit edit) t) (journal_after s (move.Edit edit))) (sym leads)
 
     pub edit_works : (o : EditOutcome) (d : FileMap) {T : Type 0} (r : Result T Fault) → o ≡ edited u cs → u ≢ t → IsMove c d f j s t u (move.Edit edit) r → Works (edit_effect expr o t s) f j c d r
     edit_works o d r is changes m = subst (λ x. Works x f j c d r) (sym (edit_moves o is changes m.leads)) (works_carried f j c d s t u (move.Edit edit) r m)
@@ -65,12 +65,12 @@ pub not_parsed : (f j : List ℕ) (c : FileMap) (expr : List ℕ) (file journal 
     r ≡ Err e → (e ≢ fault.OutOfMemory → program_in expr ≡ Err e) → Works (update_effect expr (program_in expr) file journal) f j c c r
 not_parsed f j c expr file journal {T = T} r e is why =
     subst (Works (update_effect expr (program_in expr) file journal) f j c c) (sym is)
-    (elim (is_outside e) as (λ b. is_outside e ≡ b → Works (update_effect expr (program_in expr) file journal) f j c c {T = T} (Err e)) [
+    (elim (is_outer_fault e) as (λ b. is_outer_fault e ≡ b → Works (update_effect expr (program_in expr) file journal) f j c c {T = T} (Err e)) [
       | true ↦ λ out. works_outside T (update_effect expr (program_in expr) file journal) f j c e out
       | false ↦ λ out. works_refused T (update_effect expr (program_in expr) file journal) f j c e (ap (λ x. update_effect expr x file journal) (inside_memory e out why))
     ] refl)
 
 -- one that has
 pub parsed_works : (f j : List ℕ) (c d : FileMap) (expr : List ℕ) (p : Program) (file journal : Option (List ℕ)) {T : Type 0} (r : Result T Fault) →
-    program_in expr ≡ Ok p → Works (from_pair file journal (λ t s. edit_effect expr (edits p t) t s)) f j c d r → Works (update_effect expr (program_in expr) file journal) f j c d r
+    program_in expr ≡ Ok p → Works (from_pair file journal (λ t s. edit_effect expr (program_edits p t) t s)) f j c d r → Works (update_effect expr (program_in expr) file journal) f j c d r
 parsed_works f j c d expr p file journal r is works = subst (λ x. Works (update_effect expr x file journal) f j c d r) (sym is) works

@@ -15,7 +15,7 @@ use Rattle.yq_history.specs.declared.fault.Fault.{Fault}
 use Rattle.yq_history.specs.declared.fault.Fault.TheVariants.{JournalFull}
 use Rattle.yq_history.specs.Causes.{IsFor, named}
 use Rattle.yq_store.specs.FileMap.{FileMap}
-use Rattle.yq_commands.specs.Editing.{edited, edits}
+use Rattle.yq_commands.specs.Editing.{edited, program_edits}
 use Rattle.yq_commands.specs.Edits.{edit_record}
 use Rattle.yq_history.specs.Pair.{Arrives, PairAtRest, PairStands}
 use Rattle.yq_commands.specs.CommandSteps.{edit_cause, edit_next, update_cause, update_next}
@@ -29,14 +29,14 @@ edit_done expr cs t u leads =
     ∙ ap (λ b. if b then Some u else None) (eq-eqb (length u) (length u) refl)
 
 module _ (c : FileMap) (f j : List ℕ) (h : History) (expr : List ℕ) (p : Program) (s : State) (t : List ℕ) (k : PairAtRest c f j s t h) where
-  same_edits : edits p t ≡ edits p (text_at h)
-  same_edits = ap (edits p) k.at_rest.text
+  same_edits : program_edits p t ≡ program_edits p (text_at h)
+  same_edits = ap (program_edits p) k.at_rest.text
 
   -- the pair behind an edit
   abbrev pub Updated : {T : Type 0} → FileMap → Result T Fault → Type 0
   Updated d r = Arrives d f j (update_cause (Ok p) (Some h)) (Some h) (update_next expr (Ok p) (Some h)) r
 
-  module _ (d : FileMap) (u : List ℕ) (cs : List Splice) (edit : Record) (is_edit : edit ≡ edit_record expr cs (length t) (length u)) (gives : edits p t ≡ edited u cs) (changes : u ≢ t) where
+  module _ (d : FileMap) (u : List ℕ) (cs : List Splice) (edit : Record) (is_edit : edit ≡ edit_record expr cs (length t) (length u)) (gives : program_edits p t ≡ edited u cs) (changes : u ≢ t) where
     -- whether the journal has room, by the history
     room : (b : Bool) → nat_le most_records s.at ≡ b → update_cause (Ok p) (Some h) ≡ (if b then Some (named JournalFull) else None)
     room b is =

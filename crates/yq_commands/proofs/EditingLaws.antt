@@ -13,7 +13,7 @@ use Rattle.yq_outcomes.specs.declared.edit_error.EditError.TheVariants as error
 use Rattle.yq_history.specs.declared.fault.Fault.{Fault}
 use Rattle.yq_history.specs.declared.fault.Fault.TheVariants.{OutOfMemory, Unreadable}
 use Rattle.yq_history.specs.Causes.{IsUnreadable}
-use Rattle.yq_commands.specs.Editing.{Refuses, edits, unreadable, outcome_of}
+use Rattle.yq_commands.specs.Editing.{Refuses, program_edits, unreadable, edit_outcome}
 use Rattle.yq_commands.specs.CommandFaults.{of_edit, of_refusal}
 
 -- bytes that are no UTF-8
@@ -22,11 +22,11 @@ unfolding read_at
 not_read t is = ap (λ b. if b then checked_at t else None) is
 
 -- nothing is made of them
-unread : (p : Program) (t : List ℕ) → read_at t ≡ None → edits p t ≡ unreadable t
-unfolding edits edit_of
-unread p t is = ap (λ o. outcome_of t (by_reading (λ c. program_done p t) o)) is
+unread : (p : Program) (t : List ℕ) → read_at t ≡ None → program_edits p t ≡ unreadable t
+unfolding program_edits edit_of
+unread p t is = ap (λ o. edit_outcome t (by_reading (λ c. program_done p t) o)) is
 
-pub unread_refuses : (p : Program) (t : List ℕ) (e : Fault) → read_at t ≡ None → IsUnreadable t e → Refuses (edits p t) e
+pub unread_refuses : (p : Program) (t : List ℕ) (e : Fault) → read_at t ≡ None → IsUnreadable t e → Refuses (program_edits p t) e
 unread_refuses p t e none reports = subst (λ o. Refuses o e) (sym (unread p t none)) reports
 
 -- ---- whether a fault tells that they are no UTF-8
@@ -40,8 +40,8 @@ pub unread_text : (t : List ℕ) (f : ReadFault) → is_utf8 t ≡ true → f.ki
 unread_text t f utf8 other = (λ is. absurd (other is), λ no. absurd (true≢false (sym utf8 ∙ no)))
 
 -- why a program is refused on a text
-pub edit_refuses : (p : Program) (s t : List ℕ) (e : EditError) → s ≡ t → is_utf8 t ≡ true → EditFails e (edit_of p s) → of_edit e ≢ OutOfMemory → Refuses (edits p t) (of_edit e)
-unfolding edits
-edit_refuses p s t (error.Read f) same utf8 fails other = subst (λ o. Refuses (outcome_of t o) (Unreadable f)) (sym (ap (edit_of p) (sym same) ∙ fails.0)) (unread_text t f utf8 fails.1)
-edit_refuses p s t (error.Refused why) same utf8 fails other = subst (λ o. Refuses (outcome_of t o) (of_refusal why)) (sym (ap (edit_of p) (sym same) ∙ fails)) refl
+pub edit_refuses : (p : Program) (s t : List ℕ) (e : EditError) → s ≡ t → is_utf8 t ≡ true → EditFails e (edit_of p s) → of_edit e ≢ OutOfMemory → Refuses (program_edits p t) (of_edit e)
+unfolding program_edits
+edit_refuses p s t (error.Read f) same utf8 fails other = subst (λ o. Refuses (edit_outcome t o) (Unreadable f)) (sym (ap (edit_of p) (sym same) ∙ fails.0)) (unread_text t f utf8 fails.1)
+edit_refuses p s t (error.Refused why) same utf8 fails other = subst (λ o. Refuses (edit_outcome t o) (of_refusal why)) (sym (ap (edit_of p) (sym same) ∙ fails)) refl
 edit_refuses p s t error.Memory same utf8 fails other = absurd (other refl)

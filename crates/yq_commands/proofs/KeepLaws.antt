@@ -10,7 +10,7 @@ use Rattle.yq_records.specs.declared.moves.Move.TheVariants as move
 use Rattle.yq_journal.specs.Good.{Good, journal_beside}
 use Rattle.yq_journal.specs.History.{History}
 use Rattle.yq_records.specs.Refusals.{most_records, no_way, squash_fault}
-use Rattle.yq_records.specs.State.{State, moved, moved_text, opened, settled, squashed}
+use Rattle.yq_records.specs.State.{State, journal_after, moved_text, with_move, settled_beside, squashed}
 use Rattle.yq_output.specs.declared.answer.Answer.{Answer}
 use Rattle.yq_output.specs.declared.answer.Answer.TheVariants.{Done, Refused}
 use Rattle.yq_line.specs.declared.command.Command.{Command}
@@ -19,14 +19,14 @@ use Rattle.yq_history.specs.declared.fault.Fault.{Fault}
 use Rattle.yq_history.specs.declared.fault.Fault.TheVariants as fault
 use Rattle.yq_history.specs.Causes.{named}
 use Rattle.yq_store.specs.FileMap.{FileMap}
-use Rattle.yq_commands.specs.Editing.{EditOutcome, unreadable, refused, edited, edits, program_in}
+use Rattle.yq_commands.specs.Editing.{EditOutcome, unreadable, refused, edited, program_edits, program_in}
 use Rattle.yq_history.specs.Effects.{Effect, refuses, writes_nothing, writes_both, from_settled, from_journal, from_pair, leads_to, goes_to, move_effect, joins_to, squash_effect, listing_effect, printed_by, Works}
 use Rattle.yq_commands.specs.CommandEffects.{edit_effect, edit_writes, update_effect, OfEffect, IsListing, IsUnparsed, expression_fault}
 use Rattle.yq_commands.specs.FileEdits.{HasEdited}
 use Rattle.yq_commands.specs.Edits.{edit_record}
-use Rattle.yq_history.specs.Faults.{is_outside, is_output}
+use Rattle.yq_history.specs.Faults.{is_outer_fault, is_output}
 use Rattle.yq_commands.specs.CommandNames.{IsOn, IsNotNamed}
-use Rattle.yq_commands.specs.Lists.{answer_by, IsUnrelated, AllOnOrApart, Reply, IsAnswer, Goes, Run, ReportsEffect, HasEffect, RunsTo, Keeps, ReportsUnparsed, is_kept}
+use Rattle.yq_commands.specs.Lists.{answer_by, IsUnrelated, AllOnOrApart, Reply, IsAnswer, Goes, Run, ReportsEffect, HasEffect, RunsTo, Keeps, ReportsUnparsed, is_unfailed_refusal}
 use Rattle.yq_history.specs.Pair.{GoodIn, Arrives}
 use Rattle.yq_commands.specs.Prints.{report_of, prints, reads_journal}
 use Rattle.yq_history.specs.Report.{Report, nothing}
@@ -44,13 +44,13 @@ module _ (file journal : Option (List ℕ)) (go : List ℕ → State → Effect)
     | None ↦ refl
     | Some t ↦ elim (journal_beside journal) as (λ o. printed_by (from_journal o t go) ≡ []) [
       | None ↦ refl
-      | Some s ↦ elim (settled s t) as (λ o. printed_by (from_settled o t go) ≡ []) [ None ↦ refl | Some z ↦ silent t z ]
+      | Some s ↦ elim (settled_beside s t) as (λ o. printed_by (from_settled o t go) ≡ []) [ None ↦ refl | Some z ↦ silent t z ]
     ]
   ]
 
 move_silent : (step : Move) (t : List ℕ) (s : State) → printed_by (move_effect step t s) ≡ []
-move_silent step t s = elim (no_way s.records s.at step) as (λ o. printed_by (goes_to o (moved_text s.records s.at step t) (opened s step t) (moved s step)) ≡ []) [
-  | None ↦ elim (moved_text s.records s.at step t) as (λ o. printed_by (leads_to o (opened s step t) (moved s step)) ≡ []) [ None ↦ refl | Some u ↦ refl ]
+move_silent step t s = elim (no_way s.records s.at step) as (λ o. printed_by (goes_to o (moved_text s.records s.at step t) (with_move s step t) (journal_after s step)) ≡ []) [
+  | None ↦ elim (moved_text s.records s.at step t) as (λ o. printed_by (leads_to o (with_move s step t) (journal_after s step)) ≡ []) [ None ↦ refl | Some u ↦ refl ]
   | Some y ↦ refl
 ]
 
@@ -74,7 +74,7 @@ edit_silent expr (edited u cs) t s =
 
 update_silent : (expr : List ℕ) (p : Result Program Fault) (file journal : Option (List ℕ)) → printed_by (update_effect expr p file journal) ≡ []
 update_silent expr (Err f) file journal = refl
-update_silent expr (Ok p) file journal = from_silent file journal (λ t s. edit_effect expr (edits p t) t s) (λ t s. edit_silent expr (edits p t) t s)
+update_silent expr (Ok p) file journal = from_silent file journal (λ t s. edit_effect expr (program_edits p t) t s) (λ t s. edit_silent expr (program_edits p t) t s)
 
 -- what a command shows are the bytes of its effect
 shows_effect : {T : Type 0} (cmd : Command) (file journal : Option (List ℕ)) (r : Result T Fault) (s : Report) →
@@ -139,17 +139,17 @@ pub record IsDone {T : Type 0} (c e : FileMap) (cmd : Command) (r : Result T Fau
   pub silent : prints cmd ≡ false → s ≡ nothing
   pub matched : reads_journal cmd ≡ true → s.is_match ≡ true
   pub still : prints cmd ≡ true → e ≡ c
-  pub kept : IfErr r (λ x. is_outside x ≡ false → e ≡ c)
+  pub kept : IfErr r (λ x. is_outer_fault x ≡ false → e ≡ c)
   pub others : (q : List ℕ) → IsNotNamed q cmd → get e q ≡ get c q
   pub no_output : IfErr r (λ x. is_output x ≡ false)
   pub edited : OnOk r (HasEdited cmd c e s.printed)
   pub unparsed : (f : Fault) → expression_fault cmd ≡ Some f → IsUnparsed f r
 
 -- a refusal from inside left the content
-kept_by : {T : Type 0} (c e : FileMap) (r : Result T Fault) (a : Answer) (s : Report) → IsAnswer r a s → s ≡ nothing → is_kept a ≡ true → IfErr r (λ x. is_outside x ≡ false → e ≡ c) → e ≡ c
-kept_by c e (Ok v) a s (inl is) silent k same = let no : false ≡ true = sym (ap is_kept is ∙ no_refusal s.is_match) ∙ k in cc
+kept_by : {T : Type 0} (c e : FileMap) (r : Result T Fault) (a : Answer) (s : Report) → IsAnswer r a s → s ≡ nothing → is_unfailed_refusal a ≡ true → IfErr r (λ x. is_outer_fault x ≡ false → e ≡ c) → e ≡ c
+kept_by c e (Ok v) a s (inl is) silent k same = let no : false ≡ true = sym (ap is_unfailed_refusal is ∙ no_refusal s.is_match) ∙ k in cc
 kept_by c e (Ok v) a s (inr is) silent k same = absurd (is.1 (ap (λ (x : Report). x.printed) silent))
-kept_by c e (Err x) a s is silent k same = same (not_true (is_outside x) (sym (ap is_kept is) ∙ k))
+kept_by c e (Err x) a s is silent k same = same (not_true (is_outer_fault x) (sym (ap is_unfailed_refusal is) ∙ k))
 
 -- what was accepted of an edit
 edited_by : {T : Type 0} (c e : FileMap) (cmd : Command) (r : Result T Fault) (a : Answer) (s : Report) → IsAnswer r a s → OnOk r (HasEdited cmd c e s.printed) →
@@ -182,9 +182,9 @@ module _ {T : Type 0} (c e : FileMap) (cmd : Command) (r : Result T Fault) (a : 
   -- what a command leaves
   pub left_by : RunsTo cmd (reply a s.printed) c e
   left_by = record {
-    all = λ holds. elim (prints cmd) as (λ b. prints cmd ≡ b → (b || is_kept (reply a s.printed).answer) ≡ true → e ≡ c) [
+    all = λ holds. elim (prints cmd) as (λ b. prints cmd ≡ b → (b || is_unfailed_refusal (reply a s.printed).answer) ≡ true → e ≡ c) [
       | true ↦ λ p q. k.still p
-      | false ↦ λ p q. kept_by c e r a s k.answered (k.silent p) (sym (ap is_kept (reply-answer a s.printed)) ∙ q) k.kept
+      | false ↦ λ p q. kept_by c e r a s k.answered (k.silent p) (sym (ap is_unfailed_refusal (reply-answer a s.printed)) ∙ q) k.kept
     ] refl holds;
     others = k.others;
     effect = has_effect;

@@ -19,9 +19,9 @@ use Rattle.yq_history.specs.declared.fault.Fault.{Fault}
 use Rattle.yq_history.specs.declared.fault.Fault.TheVariants as fault
 use Rattle.yq_history.specs.Causes.{Cause, IsFor, named}
 use Rattle.yq_store.specs.FileMap.{FileMap}
-use Rattle.yq_commands.specs.Editing.{EditOutcome, unreadable, refused, edited, edits, program_in}
-use Rattle.yq_history.specs.Faults.{is_failure, is_outside, is_output, of_fault}
-use Rattle.yq_commands.specs.Lists.{answer_by, Reply, answers_in, IsAnswer, CommandRefused, IsCarriedOut, Steps, Goes, Run, IsReply, GoesExactly, RunExactly, reports_failure, reports_output, count_passing, failures_in, output_failures_in, is_memory, has_memory}
+use Rattle.yq_commands.specs.Editing.{EditOutcome, unreadable, refused, edited, program_edits, program_in}
+use Rattle.yq_history.specs.Faults.{is_failure, is_outer_fault, is_output, of_fault}
+use Rattle.yq_commands.specs.Lists.{answer_by, Reply, answers_in, IsAnswer, CommandRefused, IsCarriedOut, RunsCommand, Goes, Run, IsReply, GoesExactly, RunExactly, reports_failure, reports_output, count_passing, failures_in, output_failures_in, is_memory, has_memory}
 use Rattle.yq_history.specs.Pair.{GoodIn, Arrives}
 use Rattle.yq_commands.specs.Prints.{report_of}
 use Rattle.yq_history.specs.Report.{Report}
@@ -40,42 +40,42 @@ printing_stays (Squash n file journal) h some = absurd (some refl)
 printing_stays Help h some = refl
 
 module _ (c : Command) (h k : Option History) (x : Fault) (no_output : is_output x ≡ false) where
-  by_output : MatchBool (is_outside x) ((k ≡ h) ⊎ (k ≡ next_of c h)) (IsFor (cause_of c h) x × (k ≡ h)) → CommandRefused c h x k
-  by_output p = subst (λ b. MatchBool b ((cause_of c h ≡ None) × (k ≡ h)) (MatchBool (is_outside x) ((k ≡ h) ⊎ (k ≡ next_of c h)) (IsFor (cause_of c h) x × (k ≡ h)))) (sym no_output) p
+  by_output : MatchBool (is_outer_fault x) ((k ≡ h) ⊎ (k ≡ next_of c h)) (IsFor (cause_of c h) x × (k ≡ h)) → CommandRefused c h x k
+  by_output p = subst (λ b. MatchBool b ((cause_of c h ≡ None) × (k ≡ h)) (MatchBool (is_outer_fault x) ((k ≡ h) ⊎ (k ≡ next_of c h)) (IsFor (cause_of c h) x × (k ≡ h)))) (sym no_output) p
 
-  outside_refused : is_outside x ≡ true → (k ≡ h) ⊎ (k ≡ next_of c h) → CommandRefused c h x k
+  outside_refused : is_outer_fault x ≡ true → (k ≡ h) ⊎ (k ≡ next_of c h) → CommandRefused c h x k
   outside_refused out p = by_output (subst (λ b. MatchBool b ((k ≡ h) ⊎ (k ≡ next_of c h)) (IsFor (cause_of c h) x × (k ≡ h))) (sym out) p)
 
-  inside_refused : is_outside x ≡ false → IsFor (cause_of c h) x × (k ≡ h) → CommandRefused c h x k
+  inside_refused : is_outer_fault x ≡ false → IsFor (cause_of c h) x × (k ≡ h) → CommandRefused c h x k
   inside_refused out p = by_output (subst (λ b. MatchBool b ((k ≡ h) ⊎ (k ≡ next_of c h)) (IsFor (cause_of c h) x × (k ≡ h))) (sym out) p)
 
 module _ (e : FileMap) (f j : List ℕ) (c : Command) (h : Option History) where
-  refused_step : (x : Fault) (b : Bool) → is_output x ≡ false → is_outside x ≡ b →
+  refused_step : (x : Fault) (b : Bool) → is_output x ≡ false → is_outer_fault x ≡ b →
       MatchBool b (GoodIn e f j h ⊎ GoodIn e f j (next_of c h)) (IsFor (cause_of c h) x × GoodIn e f j h) → (k : Option History) × CommandRefused c h x k × GoodIn e f j k
   refused_step x true no_output out (inl g) = (h, outside_refused c h h x no_output out (inl refl), g)
   refused_step x true no_output out (inr g) = (next_of c h, outside_refused c h (next_of c h) x no_output out (inr refl), g)
   refused_step x false no_output out p = (h, inside_refused c h h x no_output out (p.0, refl), p.1)
 
-  carried_out : (m : Bool) (o : List ℕ) (k : Option History) → IsCarriedOut c h m o k → Steps c h (reply (answer_by m) o).answer (reply (answer_by m) o).printed k
+  carried_out : (m : Bool) (o : List ℕ) (k : Option History) → IsCarriedOut c h m o k → RunsCommand c h (reply (answer_by m) o).answer (reply (answer_by m) o).printed k
   carried_out true o k is = is
   carried_out false o k is = is
 
   -- a command that arrives is a step
   pub arrived : {T : Type 0} (r : Result T Fault) (a : Answer) (s : Report) →
       IsAnswer r a s → OnOk r (s ≡ report_of c h) → IfErr r (λ x. is_output x ≡ false) → Arrives e f j (cause_of c h) h (next_of c h) r →
-      (k : Option History) × Steps c h (reply a s.printed).answer (reply a s.printed).printed k × GoodIn e f j k
+      (k : Option History) × RunsCommand c h (reply a s.printed).answer (reply a s.printed).printed k × GoodIn e f j k
   arrived (Ok v) a s (inl is) shows no_output p = (
     next_of c h,
-    subst (λ y. Steps c h (reply y s.printed).answer (reply y s.printed).printed (next_of c h)) (sym is)
+    subst (λ y. RunsCommand c h (reply y s.printed).answer (reply y s.printed).printed (next_of c h)) (sym is)
         (carried_out s.is_match s.printed (next_of c h) (p.0, ap (λ (x : Report). x.is_match) shows, ap (λ (x : Report). x.printed) shows, refl)),
     p.1,
   )
   arrived (Ok v) a s (inr is) shows no_output p =
       let stays : next_of c h ≡ h = printing_stays c h (λ none. is.1 (ap (λ (x : Report). x.printed) shows ∙ none)) in
-      (h, subst (λ y. Steps c h (reply y s.printed).answer (reply y s.printed).printed h) (sym is.0) (refl, (p.0, refl)), subst (GoodIn e f j) stays p.1)
+      (h, subst (λ y. RunsCommand c h (reply y s.printed).answer (reply y s.printed).printed h) (sym is.0) (refl, (p.0, refl)), subst (GoodIn e f j) stays p.1)
   arrived (Err x) a s is shows no_output p =
-      let k = refused_step x (is_outside x) no_output refl p in
-      (k.0, subst (λ y. Steps c h (reply y s.printed).answer (reply y s.printed).printed k.0) (sym is) (refl, k.1), k.2)
+      let k = refused_step x (is_outer_fault x) no_output refl p in
+      (k.0, subst (λ y. RunsCommand c h (reply y s.printed).answer (reply y s.printed).printed k.0) (sym is) (refl, k.1), k.2)
 
 -- ---- what a refused command leaves
 
@@ -106,7 +106,7 @@ edit_stays h expr (edited u cs) x is = room_stays h expr u x (bytes_eq u (text_a
 update_stays : (expr : List ℕ) (r : Result Program Fault) (h : Option History) (x : Cause) → update_cause r h ≡ Some x → update_next expr r h ≡ h
 update_stays expr (Err y) h x is = refl
 update_stays expr (Ok p) None x is = refl
-update_stays expr (Ok p) (Some h) x is = ap Some (edit_stays h expr (edits p (text_at h)) x is)
+update_stays expr (Ok p) (Some h) x is = ap Some (edit_stays h expr (program_edits p (text_at h)) x is)
 
 -- a command with a cause for a refusal leaves the history
 pub stays : (c : Command) (h : Option History) (x : Cause) → cause_of c h ≡ Some x → next_of c h ≡ h
@@ -123,7 +123,7 @@ stays Help h x is = refl
 abbrev pub is_inside : Answer → Bool
 is_inside Done = true
 is_inside NoMatch = true
-is_inside (Refused e) = not (is_outside e) && not (is_output e)
+is_inside (Refused e) = not (is_outer_fault e) && not (is_output e)
 
 both : (a b : Bool) → a ≡ true → b ≡ true → (a && b) ≡ true
 both true b p q = q
@@ -137,17 +137,17 @@ for_some : (o : Option Cause) (e : Fault) (s : Report) (r : Reply) → r.answer 
 for_some None e s r is none f = absurd f
 for_some (Some x) e s r is none f = (((e, is, f), none), (x, refl))
 
-inside_step : (c : Command) (h k : Option History) (e : Fault) → is_outside e ≡ false → is_output e ≡ false → CommandRefused c h e k → IsFor (cause_of c h) e × (k ≡ h)
+inside_step : (c : Command) (h k : Option History) (e : Fault) → is_outer_fault e ≡ false → is_output e ≡ false → CommandRefused c h e k → IsFor (cause_of c h) e × (k ≡ h)
 inside_step c h k e out no_output s =
     subst (λ b. MatchBool b ((k ≡ h) ⊎ (k ≡ next_of c h)) (IsFor (cause_of c h) e × (k ≡ h))) out
-    (subst (λ b. MatchBool b ((cause_of c h ≡ None) × (k ≡ h)) (MatchBool (is_outside e) ((k ≡ h) ⊎ (k ≡ next_of c h)) (IsFor (cause_of c h) e × (k ≡ h)))) no_output s)
+    (subst (λ b. MatchBool b ((cause_of c h ≡ None) × (k ≡ h)) (MatchBool (is_outer_fault e) ((k ≡ h) ⊎ (k ≡ next_of c h)) (IsFor (cause_of c h) e × (k ≡ h)))) no_output s)
 
-exact_step : (c : Command) (h k : Option History) (r : Reply) (a : Answer) → r.answer ≡ a → Steps c h a r.printed k → is_inside a ≡ true → IsReply (cause_of c h) (report_of c h) r × (k ≡ next_of c h)
+exact_step : (c : Command) (h k : Option History) (r : Reply) (a : Answer) → r.answer ≡ a → RunsCommand c h a r.printed k → is_inside a ≡ true → IsReply (cause_of c h) (report_of c h) r × (k ≡ next_of c h)
 exact_step c h k r Done is s i = (subst (λ o. IsReply o (report_of c h) r) (sym s.0) (is ∙ ap answer_by s.1, s.2), s.3)
 exact_step c h k r NoMatch is s i = (subst (λ o. IsReply o (report_of c h) r) (sym s.0) (is ∙ ap answer_by s.1, s.2), s.3)
 exact_step c h k r (Refused e) is s i =
-    let out = not_true (is_outside e) (and_parts (not (is_outside e)) (not (is_output e)) i).0 in
-    let no_output = not_true (is_output e) (and_parts (not (is_outside e)) (not (is_output e)) i).1 in
+    let out = not_true (is_outer_fault e) (and_parts (not (is_outer_fault e)) (not (is_output e)) i).0 in
+    let no_output = not_true (is_output e) (and_parts (not (is_outer_fault e)) (not (is_output e)) i).1 in
     let p = inside_step c h k e out no_output s.1 in
     let q = for_some (cause_of c h) e (report_of c h) r is s.0 p.0 in
     (q.0, p.1 ∙ sym (stays c h q.1.0 q.1.1))
@@ -163,7 +163,7 @@ exact_run f j (c ∷ cs) (a ∷ rs) h k r i =
 exact_run f j [] (a ∷ rs) h k r i = absurd r
 exact_run f j (c ∷ cs) [] h k r i = absurd r
 
-outside_parts : (e : Fault) → is_failure e ≡ false → is_memory e ≡ false → is_outside e ≡ false
+outside_parts : (e : Fault) → is_failure e ≡ false → is_memory e ≡ false → is_outer_fault e ≡ false
 outside_parts fault.ReadFailed p q = p
 outside_parts fault.WriteFailed p q = p
 outside_parts fault.OutOfMemory p q = q
@@ -172,7 +172,7 @@ outside_parts _ p q = refl
 inside_one : (a : Answer) → reports_failure a ≡ false → reports_output a ≡ false → has_memory a ≡ true → is_inside a ≡ true
 inside_one Done p o q = refl
 inside_one NoMatch p o q = refl
-inside_one (Refused e) p o q = both (not (is_outside e)) (not (is_output e)) (ap not (outside_parts e p (not_true (is_memory e) q))) (ap not o)
+inside_one (Refused e) p o q = both (not (is_outer_fault e)) (not (is_output e)) (ap not (outside_parts e p (not_true (is_memory e) q))) (ap not o)
 
 none_first : (passes : Answer → Bool) (a : Answer) (rs : List Answer) → count_passing passes (a ∷ rs) ≡ 0 → (passes a ≡ false) × (count_passing passes rs ≡ 0)
 none_first passes a rs none = elim (passes a) as (λ b. passes a ≡ b → (if b then count_passing passes rs + 1 else count_passing passes rs) ≡ 0 → (passes a ≡ false) × (count_passing passes rs ≡ 0)) [

@@ -8,7 +8,7 @@ use Rattle.yq_store.specs.FileMap.{FileMap}
 use Rattle.yq_history.specs.declared.fault.Fault.{Fault}
 use Rattle.yq_history.specs.declared.fault.Fault.TheVariants.{NotThere, OutOfMemory}
 use Rattle.yq_history.specs.Causes.{Cause, IsFor, named}
-use Rattle.yq_history.specs.Faults.{counted, is_outside, is_output}
+use Rattle.yq_history.specs.Faults.{failures_after, is_outer_fault, is_output}
 use Rattle.yq_history.specs.Pair.{Arrives, GoodIn, Opens, PairAtRest}
 use Rattle.yq_history.proofs.MoveLaws.{cut, is_refused}
 
@@ -26,9 +26,9 @@ pub memory_no_output : {T : Type 0} (r : Result T Fault) → IfErr r (λ e. e �
 memory_no_output (Ok v) h = tt
 memory_no_output (Err e) h = ap is_output h
 
-pub memory_counted : {T : Type 0} (r : Result T Fault) (n : ℕ) → IfErr r (λ e. e ≡ OutOfMemory) → n ≡ counted r n
+pub memory_counted : {T : Type 0} (r : Result T Fault) (n : ℕ) → IfErr r (λ e. e ≡ OutOfMemory) → n ≡ failures_after r n
 memory_counted (Ok v) n h = refl
-memory_counted {T = T} (Err e) n h = ap (λ x. counted {T = T} (Err x) n) (sym h)
+memory_counted {T = T} (Err e) n h = ap (λ x. failures_after {T = T} (Err x) n) (sym h)
 
 -- the same, by what an expression is
 pub arrives_as : (c : FileMap) (f j : List ℕ) {T : Type 0} (r : Result T Fault) (cause : Result Program Fault → Option Cause) (next : Result Program Fault → Option History) (h : Option History) (p q : Result Program Fault) → p ≡ q →
@@ -45,6 +45,6 @@ module _ (cause : Option History → Option Cause) (next : Option History → Op
 
   pub unopened : cause None ≡ Some (named NotThere) → (e : Fault) (h : Option History) → r ≡ Err e → Opens m f j h (Err e) → GoodIn m f j h → Arrives m f j (cause h) h (next h) r
   unopened missed e None is (inl missing) good =
-      is_refused m f j (cause None) None (next None) r e is (ap is_outside missing) (subst (λ o. IsFor o e) (sym missed) missing) good
+      is_refused m f j (cause None) None (next None) r e is (ap is_outer_fault missing) (subst (λ o. IsFor o e) (sym missed) missing) good
   unopened missed e None is (inr out) good = cut m f j (cause None) None (next None) r e is out (inl good)
   unopened missed e (Some x) is out good = cut m f j (cause (Some x)) (Some x) (next (Some x)) r e is out (inl good)

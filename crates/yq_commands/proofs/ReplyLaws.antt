@@ -4,8 +4,8 @@ use Rattle.std.proofs.lemmas.List.{append-nil}
 use Rattle.yq_output.specs.declared.answer.Answer.{Answer}
 use Rattle.yq_output.specs.declared.answer.Answer.TheVariants.{Done, NoMatch, Refused}
 use Rattle.yq_history.specs.declared.fault.Fault.{Fault}
-use Rattle.yq_store.specs.Count.{one_more}
-use Rattle.yq_commands.specs.Lists.{answer_by, Reply, answers_in, printed_in, IsAnswer, reports_failure, reports_output, is_kept}
+use Rattle.yq_store.specs.Count.{count_plus_one}
+use Rattle.yq_commands.specs.Lists.{answer_by, Reply, answers_in, printed_in, IsAnswer, reports_failure, reports_output, is_unfailed_refusal}
 use Rattle.yq_history.specs.Report.{Report}
 
 -- the reply of an answer: only what is carried out prints
@@ -36,7 +36,7 @@ pub no_failure : (m : Bool) → reports_failure (answer_by m) ≡ false
 no_failure true = refl
 no_failure false = refl
 
-pub no_refusal : (m : Bool) → is_kept (answer_by m) ≡ false
+pub no_refusal : (m : Bool) → is_unfailed_refusal (answer_by m) ≡ false
 no_refusal true = refl
 no_refusal false = refl
 
@@ -45,8 +45,8 @@ printed_push [] r = append-nil r.printed
 printed_push (x ∷ rs) r = ap (λ os. x.printed ++ os) (printed_push rs r) ∙ sym (append_assoc x.printed (printed_in rs) r.printed)
 
 -- the output failed at no answer, if its count stands where it stood
-not_output : (a : Answer) (c start n m : ℕ) → n ≡ min (start + c) (2 ^ 64 - 1) → m ≡ (if reports_output a then one_more n else n) → m ≡ start → m < 2 ^ 64 - 1 → (reports_output a ≡ false) × (n ≡ start)
-not_output a c start n m before after same below = elim (reports_output a) as (λ b. reports_output a ≡ b → m ≡ (if b then one_more n else n) → (reports_output a ≡ false) × (n ≡ start)) [
+not_output : (a : Answer) (c start n m : ℕ) → n ≡ min (start + c) (2 ^ 64 - 1) → m ≡ (if reports_output a then count_plus_one n else n) → m ≡ start → m < 2 ^ 64 - 1 → (reports_output a ≡ false) × (n ≡ start)
+not_output a c start n m before after same below = elim (reports_output a) as (λ b. reports_output a ≡ b → m ≡ (if b then count_plus_one n else n) → (reports_output a ≡ false) × (n ≡ start)) [
   | true ↦ λ is e. absurd (omega (arith, before, e, same, below))
   | false ↦ λ is e. (is, sym e ∙ same)
 ] refl after
@@ -59,7 +59,7 @@ took (Err x) a s now after is no_output puts = puts ∙ sym (append-nil now) ∙
 
 -- the bytes that were put, one command more
 pub taken_more : {T : Type 0} (r : Result T Fault) (a : Answer) (s : Report) (rs : List Reply) (start now after : List ℕ) (c first n m : ℕ) → IsAnswer r a s →
-    (first < 2 ^ 64 → n ≡ min (first + c) (2 ^ 64 - 1)) → m ≡ (if reports_output a then one_more n else n) → m ≡ first → m < 2 ^ 64 - 1 →
+    (first < 2 ^ 64 → n ≡ min (first + c) (2 ^ 64 - 1)) → m ≡ (if reports_output a then count_plus_one n else n) → m ≡ first → m < 2 ^ 64 - 1 →
     (n ≡ first → n < 2 ^ 64 - 1 → now ≡ start ++ printed_in rs) →
     MatchResult r (λ _. reports_output a ≡ false → after ≡ now ++ s.printed) (λ _. after ≡ now) → after ≡ start ++ printed_in (rs ++ reply a s.printed ∷ [])
 taken_more r a s rs start now after c first n m is sum count same below before puts =

@@ -21,10 +21,10 @@ use Rattle.yq_history.specs.declared.fault.Fault.{Fault}
 use Rattle.yq_history.specs.declared.fault.Fault.TheVariants.{OutOfMemory, Unreadable}
 use Rattle.yq_history.specs.Causes.{Cause, IsFor, named, no_reading, IsUnreadable}
 use Rattle.yq_store.specs.FileMap.{FileMap}
-use Rattle.yq_commands.specs.Editing.{EditOutcome, unreadable, refused, edited, Refuses, edits}
+use Rattle.yq_commands.specs.Editing.{EditOutcome, unreadable, refused, edited, Refuses, program_edits}
 use Rattle.yq_commands.specs.CommandFaults.{of_refusal, of_matching}
 use Rattle.yq_commands.specs.Evaluation.{of_file, show_edit, show_found, show_read, shows, cause_in, report_in}
-use Rattle.yq_history.specs.Faults.{is_outside, of_reading}
+use Rattle.yq_history.specs.Faults.{is_outer_fault, fault_of_reading}
 use Rattle.yq_history.specs.Pair.{Arrives, GoodIn}
 use Rattle.yq_history.specs.Report.{Report}
 use Rattle.yq_commands.proofs.EditingLaws.{unread_text}
@@ -72,7 +72,7 @@ module _ (exit_status no_doc : Bool) (t : List ℕ) where
 
   -- a text that isn't read
   pub reading_fails : (p : Program) {T : Type 0} (r : Result T Fault) (e : ReadError) → is_read p ≡ true → is_utf8 t ≡ true →
-      r ≡ Err (of_reading e) → ReadFails e (read_at t) → (IsNotUtf8 {X = List ℕ} (Err e) → is_utf8 t ≡ false) → HasFault p r
+      r ≡ Err (fault_of_reading e) → ReadFails e (read_at t) → (IsNotUtf8 {X = List ℕ} (Err e) → is_utf8 t ≡ false) → HasFault p r
   reading_fails p r reading.Memory is utf8 fails none text = for_cause p (no_reading t) r OutOfMemory fails (λ memory. absurd (memory refl))
   reading_fails p r (reading.Fault f) is utf8 fails none text = unread_fails p r (Unreadable f) is fails (unread_text t f utf8 (λ no. true≢false (sym utf8 ∙ text no))) none
 
@@ -84,14 +84,14 @@ module _ (exit_status no_doc : Bool) (t : List ℕ) where
       for_cause p (named (of_refusal x)) r (of_refusal x) fails (λ memory. (found_shows p docs (refuses x) is reads why, refl))
 
   -- an update of a text
-  pub edit_shows : (p : Program) → is_read p ≡ false → shows exit_status no_doc p t ≡ show_edit (edits p t)
+  pub edit_shows : (p : Program) → is_read p ≡ false → shows exit_status no_doc p t ≡ show_edit (program_edits p t)
   unfolding shows
   edit_shows (read pipe) is = cc
   edit_shows (updates us) is = refl
 
   -- an update that is refused
-  pub edit_fails : (p : Program) {T : Type 0} (r : Result T Fault) (x : Fault) → is_read p ≡ false → r ≡ Err x → (x ≢ OutOfMemory → Refuses (edits p t) x) → HasFault p r
-  edit_fails p r x is fails why = subst (HasFault p) (sym fails) (λ memory. subst (λ o. IsFor (cause_in o) x) (sym (edit_shows p is)) (reports_edit (edits p t) x (why memory)))
+  pub edit_fails : (p : Program) {T : Type 0} (r : Result T Fault) (x : Fault) → is_read p ≡ false → r ≡ Err x → (x ≢ OutOfMemory → Refuses (program_edits p t) x) → HasFault p r
+  edit_fails p r x is fails why = subst (HasFault p) (sym fails) (λ memory. subst (λ o. IsFor (cause_in o) x) (sym (edit_shows p is)) (reports_edit (program_edits p t) x (why memory)))
 
 -- ---- of a file
 
@@ -110,10 +110,10 @@ module _ (c e : FileMap) (f j : List ℕ) (of_text : List ℕ → Result Report 
 
     -- the program was refused on the text
     pub show_refused : {T : Type 0} (r : Result T Fault) (x : Fault) → r ≡ Err x → (x ≢ OutOfMemory → IsFor (cause_in (of_text t)) x) → Arrives e f j (cause_in (of_file of_text h)) h h r
-    show_refused r x is why = elim (is_outside x) as (λ b. is_outside x ≡ b → Arrives e f j (cause_in (of_file of_text h)) h h r) [
+    show_refused r x is why = elim (is_outer_fault x) as (λ b. is_outer_fault x ≡ b → Arrives e f j (cause_in (of_file of_text h)) h h r) [
       | true ↦ λ out. cut e f j (cause_in (of_file of_text h)) h h r x is out (inl still_good)
       | false ↦ λ out. is_refused e f j (cause_in (of_file of_text h)) h h r x is out
-          (subst (λ o. IsFor (cause_in o) x) (sym file_shows) (why (λ memory. true≢false (sym (ap is_outside memory) ∙ out)))) still_good
+          (subst (λ o. IsFor (cause_in o) x) (sym file_shows) (why (λ memory. true≢false (sym (ap is_outer_fault memory) ∙ out)))) still_good
     ] refl
 
     -- it was carried out on it

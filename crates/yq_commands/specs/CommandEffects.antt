@@ -6,19 +6,19 @@ use Rattle.yq_program.specs.Program.{Program}
 use Rattle.yq_records.specs.declared.moves.Move.TheVariants as move
 use Rattle.yq_records.specs.Record.{Record}
 use Rattle.yq_records.specs.Refusals.{most_records}
-use Rattle.yq_records.specs.State.{State, moved, opened}
+use Rattle.yq_records.specs.State.{State, journal_after, with_move}
 use Rattle.yq_line.specs.declared.command.Command.{Command}
 use Rattle.yq_line.specs.declared.command.Command.TheVariants.{Eval, Undo, Redo, History as Lists, Squash}
 use Rattle.yq_history.specs.declared.fault.Fault.{Fault}
 use Rattle.yq_history.specs.declared.fault.Fault.TheVariants.{JournalFull, OutOfMemory}
-use Rattle.yq_commands.specs.Editing.{EditOutcome, unreadable, refused, edited, program_in, edits}
+use Rattle.yq_commands.specs.Editing.{EditOutcome, unreadable, refused, edited, program_in, program_edits}
 use Rattle.yq_commands.specs.Edits.{edit_record}
 use Rattle.yq_history.specs.Effects.{Effect, refuses, writes_nothing, writes_both, from_pair, move_effect, squash_effect, listing_effect, printed_by}
 use Rattle.yq_history.specs.Causes.{named, no_reading}
 
 -- what the edit of a record does from one text to another
 abbrev pub edit_writes : Record → List ℕ → List ℕ → State → Effect
-edit_writes edit t u s = writes_both u (opened s (move.Edit edit) t) (moved s (move.Edit edit))
+edit_writes edit t u s = writes_both u (with_move s (move.Edit edit) t) (journal_after s (move.Edit edit))
 
 -- what an edit does to them, by what it comes to: a record of one edit goes into the journal
 abbrev pub edit_effect : List ℕ → EditOutcome → List ℕ → State → Effect
@@ -32,7 +32,7 @@ edit_effect expr (edited u changes) t s =
 -- the same, by its expression
 abbrev pub update_effect : List ℕ → Result Program Fault → Option (List ℕ) → Option (List ℕ) → Effect
 update_effect expr (Err f) file journal = refuses (named f)
-update_effect expr (Ok p) file journal = from_pair file journal (λ t s. edit_effect expr (edits p t) t s)
+update_effect expr (Ok p) file journal = from_pair file journal (λ t s. edit_effect expr (program_edits p t) t s)
 
 -- something holds of what a command does, by the bytes of its file and its journal; of what prints a file alone, and of help, nothing is said
 abbrev pub OfEffect : Command → Option (List ℕ) → Option (List ℕ) → (Effect → Type 0) → Type 0

@@ -11,7 +11,7 @@ use Rattle.yq_line.specs.declared.command.Command.TheVariants.{Eval, Undo, Redo,
 use Rattle.yq_history.specs.declared.fault.Fault.{Fault}
 use Rattle.yq_history.specs.declared.fault.Fault.TheVariants.{NotThere, JournalFull}
 use Rattle.yq_history.specs.Causes.{Cause, named, no_reading}
-use Rattle.yq_commands.specs.Editing.{EditOutcome, unreadable, refused, edited, program_in, edits}
+use Rattle.yq_commands.specs.Editing.{EditOutcome, unreadable, refused, edited, program_in, program_edits}
 use Rattle.yq_commands.specs.Evaluation.{evaluated, cause_in}
 use Rattle.yq_history.specs.Steps.{move_cause, move_next, squash_cause, squash_next, listing_cause}
 
@@ -39,13 +39,13 @@ edit_next h expr (edited text changes) =
 abbrev pub update_cause : Result Program Fault → Option History → Option Cause
 update_cause (Err f) h = Some (named f)
 update_cause (Ok p) None = Some (named NotThere)
-update_cause (Ok p) (Some h) = edit_cause h (edits p (text_at h))
+update_cause (Ok p) (Some h) = edit_cause h (program_edits p (text_at h))
 
 -- the history after it
 abbrev pub update_next : List ℕ → Result Program Fault → Option History → Option History
 update_next expr (Err f) h = h
 update_next expr (Ok p) None = None
-update_next expr (Ok p) (Some h) = Some (edit_next h expr (edits p (text_at h)))
+update_next expr (Ok p) (Some h) = Some (edit_next h expr (program_edits p (text_at h)))
 
 -- why a command is refused
 abbrev pub cause_of : Command → Option History → Option Cause

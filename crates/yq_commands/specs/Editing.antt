@@ -33,11 +33,11 @@ unfoldable pub program_in : List ℕ → Result Program Fault
 program_in expr = result_of (outcome expr)
 
 -- what an edit of a text comes to (own)
-abbrev pub outcome_of : List ℕ → Edit → EditOutcome
-outcome_of old edit.unreadable = unreadable old
-outcome_of old (edit.refuses why) = refused (of_refusal why)
-outcome_of old (edit.gives text changes) = edited text changes
+abbrev pub edit_outcome : List ℕ → Edit → EditOutcome
+edit_outcome old edit.unreadable = unreadable old
+edit_outcome old (edit.refuses why) = refused (of_refusal why)
+edit_outcome old (edit.gives text changes) = edited text changes
 
 -- what a program makes of a text (own)
-unfoldable pub edits : Program → List ℕ → EditOutcome
-edits program text = outcome_of text (edit_of program text)
+unfoldable pub program_edits : Program → List ℕ → EditOutcome
+program_edits program text = edit_outcome text (edit_of program text)

@@ -10,7 +10,7 @@ use Rattle.yq_journal.specs.History.{History, text_at}
 use Rattle.yq_history.specs.declared.fault.Fault.{Fault}
 use Rattle.yq_history.specs.declared.fault.Fault.TheVariants.{NotThere}
 use Rattle.yq_history.specs.Causes.{Cause, named, no_reading}
-use Rattle.yq_commands.specs.Editing.{EditOutcome, unreadable, refused, edited, edits}
+use Rattle.yq_commands.specs.Editing.{EditOutcome, unreadable, refused, edited, program_edits}
 use Rattle.yq_commands.specs.CommandFaults.{of_refusal}
 use Rattle.yq_commands.specs.Reads.{report_matches}
 use Rattle.yq_history.specs.Report.{Report, text, nothing}
@@ -34,7 +34,7 @@ show_read exit_status no_doc pipe t (Some docs) = show_found exit_status no_doc 
 -- what a program shows of a text, or why it shows nothing
 unfoldable pub shows : Bool → Bool → Program → List ℕ → Result Report Cause
 shows exit_status no_doc (read pipe) t = show_read exit_status no_doc pipe t (option_map documents (read_at t))
-shows exit_status no_doc (updates us) t = show_edit (edits (updates us) t)
+shows exit_status no_doc (updates us) t = show_edit (program_edits (updates us) t)
 
 -- what is shown of a file, by what is shown of its text
 abbrev pub of_file : (List ℕ → Result Report Cause) → Option History → Result Report Cause

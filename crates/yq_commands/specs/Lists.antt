@@ -13,7 +13,7 @@ use Rattle.yq_store.specs.FileMap.{FileMap}
 use Rattle.yq_commands.specs.CommandEffects.{OfEffect, expression_fault}
 use Rattle.yq_commands.specs.FileEdits.{HasEdited}
 use Rattle.yq_history.specs.Effects.{Effect, Works, printed_by}
-use Rattle.yq_history.specs.Faults.{is_failure, is_outside, is_output}
+use Rattle.yq_history.specs.Faults.{is_failure, is_outer_fault, is_output}
 use Rattle.yq_history.specs.Pair.{GoodIn}
 use Rattle.yq_commands.specs.Prints.{report_of, prints}
 use Rattle.yq_history.specs.Report.{Report}
@@ -54,21 +54,21 @@ IsAnswer r a s = MatchResult r (λ _. (a ≡ answer_by s.is_match) ⊎ ((a ≡ R
 abbrev pub CommandRefused : Command → Option History → Fault → Option History → Type 0
 CommandRefused c h e k =
     MatchBool (is_output e) ((cause_of c h ≡ None) × (k ≡ h))
-    (MatchBool (is_outside e) ((k ≡ h) ⊎ (k ≡ next_of c h)) (IsFor (cause_of c h) e × (k ≡ h)))
+    (MatchBool (is_outer_fault e) ((k ≡ h) ⊎ (k ≡ next_of c h)) (IsFor (cause_of c h) e × (k ≡ h)))
 
 -- a command was carried out: what it was asked for is there or not, and it printed these bytes
 abbrev pub IsCarriedOut : Command → Option History → Bool → List ℕ → Option History → Type 0
 IsCarriedOut c h is_match o k = (cause_of c h ≡ None) × (is_match ≡ (report_of c h).is_match) × (o ≡ (report_of c h).printed) × (k ≡ next_of c h)
 
 -- from a history, a command gives this answer, prints these bytes, and goes on to another history: it is carried out, or it is refused and prints nothing
-abbrev pub Steps : Command → Option History → Answer → List ℕ → Option History → Type 0
-Steps c h Done o k = IsCarriedOut c h true o k
-Steps c h NoMatch o k = IsCarriedOut c h false o k
-Steps c h (Refused e) o k = (o ≡ []) × CommandRefused c h e k
+abbrev pub RunsCommand : Command → Option History → Answer → List ℕ → Option History → Type 0
+RunsCommand c h Done o k = IsCarriedOut c h true o k
+RunsCommand c h NoMatch o k = IsCarriedOut c h false o k
+RunsCommand c h (Refused e) o k = (o ≡ []) × CommandRefused c h e k
 
 -- a command on the pair steps its history, and one apart from it leaves it
 abbrev pub Goes : List ℕ → List ℕ → Command → Option History → Reply → Option History → Type 0
-Goes file journal c h r k = (IsOn file journal c × Steps c h r.answer r.printed k) ⊎ (IsUnrelated file journal c × (k ≡ h))
+Goes file journal c h r k = (IsOn file journal c × RunsCommand c h r.answer r.printed k) ⊎ (IsUnrelated file journal c × (k ≡ h))
 
 -- one command after another
 abbrev pub Run : List ℕ → List ℕ → Option History → List Command → List Reply → Option History → Type 0
@@ -98,9 +98,9 @@ RunExactly file journal h (c ∷ cs) [] k = ⊥
 -- ---- what the store's names hold between two commands
 
 -- the answer is a refusal in which no call of the store failed and no memory was refused
-abbrev pub is_kept : Answer → Bool
-is_kept (Refused e) = not (is_outside e)
-is_kept _ = false
+abbrev pub is_unfailed_refusal : Answer → Bool
+is_unfailed_refusal (Refused e) = not (is_outer_fault e)
+is_unfailed_refusal _ = false
 
 -- what a command's answer and the bytes that it printed tell of an effect: it came about and printed its bytes; or it was refused and printed nothing;
 -- that the output failed tells nothing, and that there is no match is never told
@@ -129,7 +129,7 @@ ReportsUnparsed f _ = ⊥
 -- A command that prints, or is refused so, leaves every name; any other leaves the names that it doesn't name; it has its effect, and steps histories.
 -- What was accepted of an expression with updates has edited the file's text; an expression that is no program is refused before all else.
 pub record RunsTo (c : Command) (r : Reply) (old new : FileMap) : Type 0 where
-  pub all : (prints c || is_kept r.answer) ≡ true → new ≡ old
+  pub all : (prints c || is_unfailed_refusal r.answer) ≡ true → new ≡ old
   pub others : (q : List ℕ) → IsNotNamed q c → get new q ≡ get old q
   pub effect : HasEffect c r old new
   pub steps : StepsHistory c r old new

@@ -8,14 +8,14 @@ use Rattle.yq_block.specs.Print.{print_text}
 use Rattle.yq_history.specs.Report.{Report}
 
 -- what stands before a match, by the document of the one before it: the line `---`, where that is another document
-abbrev pub marker_before : Bool → Option ℕ → ℕ → List ℕ
-marker_before no_doc None doc = []
-marker_before no_doc (Some last) doc = if no_doc || (last == doc) then [] else codes "---" ++ 10 ∷ []
+abbrev pub separator_before : Bool → Option ℕ → ℕ → List ℕ
+separator_before no_doc None doc = []
+separator_before no_doc (Some last) doc = if no_doc || (last == doc) then [] else codes "---" ++ 10 ∷ []
 
 -- matches, each with its document's number, as they are printed behind a match of such a document, or first of all
 abbrev pub matches_behind : Bool → Option ℕ → List (ℕ × Node) → List ℕ
 matches_behind no_doc last [] = []
-matches_behind no_doc last (m ∷ ms) = marker_before no_doc last m.0 ++ (print_text m.1 ++ matches_behind no_doc (Some m.0) ms)
+matches_behind no_doc last (m ∷ ms) = separator_before no_doc last m.0 ++ (print_text m.1 ++ matches_behind no_doc (Some m.0) ms)
 
 -- whether a scalar is null, or false in one of its words (YAML 1.2.2, section 10.3.2)
 abbrev pub is_null_or_false : Kind → List ℕ → Bool

@@ -1,7 +1,7 @@
 //! The answer to what a command came to.
 ghost use Rattle.std.specs.Prelude.{◌≡◌, ◌++◌, IsTrue, MatchResult, false, if◌then◌else◌};
 ghost use Rattle.std.specs.String.{string_bytes};
-ghost use Rattle.yq_store.specs.Count.{one_more};
+ghost use Rattle.yq_store.specs.Count.{count_plus_one};
 ghost use Rattle.yq_commands.specs.Lists.{IsAnswer, reports_output};
 ghost use Rattle.yq_commands.specs.Lists as spec;
 ghost use Rattle.yq_history.specs.Report.{report_by};
@@ -27,7 +27,7 @@ pub fn answer_of<W: Out>(out: &mut W, done: Result<(), Fault>, report: &Report) 
         MatchResult done (λ _. reports_output result ≡ false → W.taken out.new ≡
         W.taken out.old ++ string_bytes report.now.text) (λ _. W.taken out.new ≡ W.taken out.old) }
     ensures count { MatchResult done (λ _. W.failures out.new ≡
-        (if reports_output result then one_more (W.failures out.old) else W.failures out.old))
+        (if reports_output result then count_plus_one (W.failures out.old) else W.failures out.old))
         (λ _. W.failures out.new ≡ W.failures out.old) }
 {
     if let Err(fault) = done {

@@ -4,11 +4,11 @@ ghost use Rattle.yq_journal.specs.History.{History};
 ghost use Rattle.yq_script.specs.Splice.{Splice, all_done, lengths_done};
 ghost use Rattle.std.specs.FinMap as map;
 ghost use Rattle.yq_program.specs.Program as spec;
-ghost use Rattle.yq_commands.specs.Editing.{edited, edits};
+ghost use Rattle.yq_commands.specs.Editing.{edited, program_edits};
 ghost use Rattle.yq_commands.specs.Edits.{edit_record};
 ghost use Rattle.yq_commands.specs.CommandEffects.{edit_effect};
 ghost use Rattle.yq_history.specs.Effects.{Works};
-ghost use Rattle.yq_history.specs.Faults.{is_outside, is_output, counted};
+ghost use Rattle.yq_history.specs.Faults.{is_outer_fault, is_output, failures_after};
 ghost use Rattle.yq_history.specs.Pair.{Arrives, OthersStay, PairAtRest};
 ghost use Rattle.yq_commands.specs.CommandSteps.{update_cause, update_next};
 
@@ -53,22 +53,22 @@ pub fn commit<D: Store>(
     requires leads { all_done splices.items old.items ≡ Some new.now }
     ensures arrives { IsTrue D.keeps → file.now ≢ journal.now → (h : History) → (p : spec.Program) →
         PairAtRest (D.content store.old) file.now journal.now state.old old.items h →
-        edits p old.items ≡ edited new.now splices.items →
+        program_edits p old.items ≡ edited new.now splices.items →
         Arrives (D.content store.new) file.now journal.now (update_cause (Ok p) (Some h)) (Some h)
         (update_next expr.now (Ok p) (Some h)) result }
     ensures text { IsTrue D.keeps → file.now ≢ journal.now →
         map.get (D.content store.old) file.now ≡ Some old.items →
         OnOk result (map.get (D.content store.new) file.now ≡ Some new.now) }
     ensures effect { IsTrue D.keeps → file.now ≢ journal.now → (p : spec.Program) →
-        edits p old.items ≡ edited new.now splices.items →
-        Works (edit_effect expr.now (edits p old.items) old.items state.old) file.now journal.now
+        program_edits p old.items ≡ edited new.now splices.items →
+        Works (edit_effect expr.now (program_edits p old.items) old.items state.old) file.now journal.now
         (D.content store.old) (D.content store.new) result }
-    ensures kept { IsTrue D.keeps → IfErr result (λ e. is_outside e ≡ false →
+    ensures kept { IsTrue D.keeps → IfErr result (λ e. is_outer_fault e ≡ false →
         D.content store.new ≡ D.content store.old) }
     ensures others { IsTrue D.keeps → OthersStay (D.content store.old)
         (D.content store.new) file.now journal.now }
     ensures no_output { IfErr result (λ e. is_output e ≡ false) }
-    ensures count { D.failures store.new ≡ counted result (D.failures store.old) }
+    ensures count { D.failures store.new ≡ failures_after result (D.failures store.old) }
 {
     if new == old.as_slice() {
         return Ok(());

@@ -2,7 +2,7 @@
 ghost use Rattle.std.specs.Prelude.{◌≡◌, ◌≢◌, ◌++◌, Ok, IfOk, IfErr, OnOk, None, true, false};
 ghost use Rattle.std.specs.List.{list_all};
 ghost use Rattle.std.specs.String.{string_bytes};
-ghost use Rattle.yq_nodes.specs.Values.{node_of};
+ghost use Rattle.yq_nodes.specs.Values.{value_node};
 ghost use Rattle.yq_matches.specs.MatchView.{matches_of};
 ghost use Rattle.yq_block.specs.Print.{print_text};
 ghost use Rattle.yq_program.specs.Program.{is_read};
@@ -32,7 +32,7 @@ fn push_marker(
     doc: usize,
 ) -> Result<(), AllocError>
     ensures { OnOk result (string_bytes printed.new ≡ string_bytes printed.old ++
-        spec.marker_before no_doc last doc) }
+        spec.separator_before no_doc last doc) }
 {
     match last {
         Some(last) if !no_doc && last != doc => printed.push_str("---\n"),
@@ -49,8 +49,8 @@ fn push_match(
     found: &Match,
 ) -> Result<(), AllocError>
     ensures { OnOk result (string_bytes printed.new ≡ (string_bytes printed.old ++
-        spec.marker_before no_doc last found.now.doc) ++
-        print_text (node_of found.now.value)) }
+        spec.separator_before no_doc last found.now.doc) ++
+        print_text (value_node found.now.value)) }
 {
     push_marker(printed, no_doc, last, found.doc)?;
     let text = print(alloc, &found.value)?;
@@ -84,7 +84,7 @@ fn is_null_or_false(kind: Kind, text: &str) -> bool
 
 /// Whether a value is no match for `-e`.
 fn is_no_match(value: &Value) -> bool
-    ensures { result ≡ spec.is_no_match (node_of value.now) }
+    ensures { result ≡ spec.is_no_match (value_node value.now) }
 {
     match value {
         Value::Scalar(scalar) => is_null_or_false(scalar.kind(), scalar.text()),
@@ -94,7 +94,7 @@ fn is_no_match(value: &Value) -> bool
 
 /// Whether all matches are none for `-e`.
 fn have_no_match(matches: &[Match]) -> bool
-    ensures { result ≡ list_all (λ m. spec.is_no_match (node_of m.value)) matches.now }
+    ensures { result ≡ list_all (λ m. spec.is_no_match (value_node m.value)) matches.now }
 {
     matches.iter().all(|found| is_no_match(&found.value))
 }

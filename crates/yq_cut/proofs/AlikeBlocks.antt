@@ -4,13 +4,13 @@ use Rattle.std.proofs.Math.Bool.{and-false}
 use Rattle.std.proofs.lemmas.Bool.{false≢true, not-true, cases_Bool, or_parts}
 use Rattle.yq_block_scalars.specs.Block.{is_empty_line, is_less_indented, ends_block, IsBlock, BlockText, keeps}
 use Rattle.yq_flow_scalars.specs.Lines.{spaces, behind_spaces, is_tab}
-use Rattle.yq_flow_scalars.specs.Text.{front, is_white, is_feed, is_return, is_break, ends_line, lines_of, put_byte}
+use Rattle.yq_flow_scalars.specs.Text.{front, is_white, is_feed, is_return, is_break, ends_line, text_lines, put_byte}
 use Rattle.yq_block_scalars.specs.declared.block_lines.TextIndent.{TextIndent}
 use Rattle.yq_flow_scalars.proofs.Bools.{at_byte}
 use Rattle.yq_block_scalars.proofs.SpaceLaws.{prefix_drop, prefix_next, prefix_none}
 use Rattle.yq_cut.proofs.Fronts.{Starts}
 use Rattle.yq_nodes.specs.Alike as texts
-use Rattle.yq_nodes.specs.Alike.{is_stop, Alike, stop, colon, after}
+use Rattle.yq_nodes.specs.Alike.{ends_lookahead, Alike, stop, colon, after}
 use Rattle.yq_nodes.proofs.Alikes.{stop_break}
 
 -- two lines that are the same up to bytes that are no spaces and begin no break, of which both or none are tabs
@@ -27,20 +27,20 @@ pub data LinesAlike : List (List ℕ) → List (List ℕ) → Type 0 where
 pub record Put (b : ℕ) (t : List ℕ) : Type 0 where
   pub line : List ℕ
   pub lines : List (List ℕ)
-  pub is : put_byte b (lines_of t) ≡ (b ∷ line) ∷ lines
+  pub is : put_byte b (text_lines t) ≡ (b ∷ line) ∷ lines
   pub front_is : front is_feed line ≡ front is_feed t
 
 pub put_first : (b : ℕ) (t : List ℕ) → Put b t
-unfolding lines_of
+unfolding text_lines
 put_first b [] = record { line = []; lines = []; is = refl; front_is = refl }
 put_first b (c ∷ t) = elim (cases_Bool (is_feed c)) [
-  | inl e ↦ record { line = c ∷ []; lines = lines_of t; is = rw e refl; front_is = refl }
+  | inl e ↦ record { line = c ∷ []; lines = text_lines t; is = rw e refl; front_is = refl }
   | inr e ↦ (
       let again = put_first c t in
       record { line = c ∷ again.line; lines = again.lines; is = rw e (rw again.is refl); front_is = refl })
 ]
 
-put_seam : (b c : ℕ) (t u : List ℕ) → is_break (b ∷ t) ≡ false → is_break (c ∷ u) ≡ false → eqb b 32 ≡ false → eqb c 32 ≡ false → eqb b 9 ≡ eqb c 9 → LinesAlike (put_byte b (lines_of t)) (put_byte c (lines_of u))
+put_seam : (b c : ℕ) (t u : List ℕ) → is_break (b ∷ t) ≡ false → is_break (c ∷ u) ≡ false → eqb b 32 ≡ false → eqb c 32 ≡ false → eqb b 9 ≡ eqb c 9 → LinesAlike (put_byte b (text_lines t)) (put_byte c (text_lines u))
 put_seam b c t u x y s r tab =
     let p = put_first b t in
     let q = put_first c u in
@@ -53,16 +53,16 @@ put_alike b _ _ e (here {l} {m} {ls} {ms} h) = here (after_byte e h)
 put_alike b _ _ e (behind {l} {ls} {ms} h) = behind h
 
 -- lines behind the same text
-pub lines_after : (p t u : List ℕ) → LinesAlike (lines_of t) (lines_of u) → LinesAlike (lines_of (p ++ t)) (lines_of (p ++ u))
-unfolding lines_of
+pub lines_after : (p t u : List ℕ) → LinesAlike (text_lines t) (text_lines u) → LinesAlike (text_lines (p ++ t)) (text_lines (p ++ u))
+unfolding text_lines
 lines_after [] t u h = h
 lines_after (b ∷ p) t u h = elim (cases_Bool (is_feed b)) [
   | inl e ↦ rw e (behind (lines_after p t u h))
-  | inr e ↦ rw e (put_alike b (lines_of (p ++ t)) (lines_of (p ++ u)) e (lines_after p t u h))
+  | inr e ↦ rw e (put_alike b (text_lines (p ++ t)) (text_lines (p ++ u)) e (lines_after p t u h))
 ]
 
-pub lines_alike : (t u : List ℕ) → Alike (Some false) t u → LinesAlike (lines_of t) (lines_of u)
-unfolding lines_of
+pub lines_alike : (t u : List ℕ) → Alike (Some false) t u → LinesAlike (text_lines t) (text_lines u)
+unfolding text_lines
 lines_alike _ _ (texts.byte {b} {t} {u} v w x y) =
     let white = or_parts (is_white b) (is_break (b ∷ t)) v in
     let other = or_parts (is_white b) (is_break (b ∷ u)) w in
@@ -70,15 +70,15 @@ lines_alike _ _ (texts.byte {b} {t} {u} v w x y) =
     let space = (or_parts (eqb b 32) (eqb b 9) white.0).0 in
     rw none (put_seam b b t u white.1 other.1 space space refl)
 lines_alike _ _ (stop {b = b} {t = t} {u = u} x) =
-    let none : is_feed b ≡ false = at_byte is_stop b 10 x refl in
-    let space = at_byte is_stop b 32 x refl in
+    let none : is_feed b ≡ false = at_byte ends_lookahead b 10 x refl in
+    let space = at_byte ends_lookahead b 32 x refl in
     rw none (put_seam b b t u (stop_break b t x) (stop_break b u x) space space refl)
 lines_alike _ _ (colon {t = t} {u = u} x y) = put_seam 58 58 t u refl refl refl refl refl
 lines_alike _ _ (after {f = f} {b = b} {t = t} {u = u} h) = lines_after (b ∷ []) t u (lines_alike t u h)
 
 -- texts with which no white space and no break begins
-pub starts_alike : (t u : List ℕ) → Starts t → Starts u → LinesAlike (lines_of t) (lines_of u)
-unfolding lines_of
+pub starts_alike : (t u : List ℕ) → Starts t → Starts u → LinesAlike (text_lines t) (text_lines u)
+unfolding text_lines
 starts_alike t u h1 h2 = search (rules, false≢true, or_parts, not-true, put_seam)
 
 -- a space
@@ -125,5 +125,5 @@ block_alike least b t u h g = record {
   indent = g.indent;
   lines = g.lines;
   ends = g.ends;
-  behind = sym (ends_alike (keeps b.chomping) b.indent (lines_of t) (lines_of u) (lines_alike t u h)) ∙ g.behind;
+  behind = sym (ends_alike (keeps b.chomping) b.indent (text_lines t) (text_lines u) (lines_alike t u h)) ∙ g.behind;
 }

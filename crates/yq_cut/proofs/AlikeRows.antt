@@ -6,7 +6,7 @@ use Rattle.yq_flow_scalars.specs.Text.{joined}
 use Rattle.yq_nodes.specs.Inline.{depth_limit}
 use Rattle.yq_cut.specs.Gap.{IsBreak, IsLineEnd, AreGapLines, IsGap}
 use Rattle.yq_cut.specs.Grammar.{IsColon, IsKey, IsTail, IsAnchor, IsContent, IsMark, IsRow, Limit, limit_after, AreRows, IsPart, IsMarkerLine}
-use Rattle.yq_cut.specs.Rows.{Mark, Bare, Dash, Key, Anchor, Content, Nothing, Inline, Block, dashes_text, mark_text, anchor_text, content_text, Row, behind_indent, behind_gap, parent_indent, print_row, rows_text, Part, part_text}
+use Rattle.yq_cut.specs.Rows.{RowMark, Bare, Dash, Key, Anchor, Content, Nothing, Inline, Block, dashes_text, mark_text, anchor_text, content_text, Row, behind_indent, behind_gap, parent_indent, print_row, rows_text, Part, part_text}
 use Rattle.yq_nodes.specs.Alike.{Alike, after}
 use Rattle.yq_nodes.proofs.Alikes.{alike_append, alike_separates, alike_marker}
 use Rattle.yq_cut.proofs.AlikeBlocks.{block_alike}
@@ -66,10 +66,10 @@ colon_alike p t u h g = record { white = g.white; spelled = g.spelled; blank = g
 key_alike : (key colon t u : List ℕ) → Alike (Some false) t u → IsKey key colon t → IsKey key colon u
 key_alike key colon t u h g = record { scalar = scalar_alike false None key (colon ++ t) (colon ++ u) (alike_append (Some false) colon t u h) g.scalar; colon_is = colon_alike colon t u h g.colon_is; near = g.near }
 
-mark_alike : (mark : Mark) (c : Content) (t u : List ℕ) → Alike (Some false) (content_text c t) (content_text c u) → IsMark mark c t → IsMark mark c u
+mark_alike : (mark : RowMark) (c : Content) (t u : List ℕ) → Alike (Some false) (content_text c t) (content_text c u) → IsMark mark c t → IsMark mark c u
 mark_alike mark c t u h1 h2 = search (rules, alike_separates, key_alike)
 
-mark_text_alike : (mark : Mark) (t u : List ℕ) → Alike (Some false) t u → Alike (Some false) (mark_text mark t) (mark_text mark u)
+mark_text_alike : (mark : RowMark) (t u : List ℕ) → Alike (Some false) t u → Alike (Some false) (mark_text mark t) (mark_text mark u)
 mark_text_alike Bare t u h = h
 mark_text_alike Dash t u h = after h
 mark_text_alike (Key key colon) t u h = alike_append (Some false) key _ _ (alike_append (Some false) colon t u h)

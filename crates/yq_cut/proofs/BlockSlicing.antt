@@ -6,7 +6,7 @@ use Rattle.std.proofs.lemmas.Option.{same_Some}
 use Rattle.std.proofs.lemmas.Str.{IsCharBoundary-start, IsCharBoundary-before_ascii}
 use Rattle.std.specs.Str.{IsUtf8, IsCharBoundary}
 use Rattle.yq_flow_scalars.specs.Answers.{◌>>=◌}
-use Rattle.yq_block_scalars.specs.Block.{mark_of, BlockText, block_text, block_piece, is_tail, IsBlock}
+use Rattle.yq_block_scalars.specs.Block.{style_indicator, BlockText, block_text, block_piece, is_tail, IsBlock}
 use Rattle.yq_block_scalars.specs.BlockReading.{block_at, block_from}
 use Rattle.yq_flow_scalars.specs.Lines.{is_blank}
 use Rattle.yq_flow_scalars.specs.Piece.{deeper}
@@ -17,8 +17,8 @@ use Rattle.yq_block_scalars.proofs.BlockPieceLaws.{line_lf, raw_lf, cut_lf}
 use Rattle.yq_flow_scalars.proofs.Bools.{bind_some}
 use Rattle.yq_flow_scalars.proofs.Boundaries.{break_ascii, white_ascii}
 use Rattle.yq_flow_scalars.proofs.Upto.{upto_here, upto_ends, upto_le_length}
-use Rattle.yq_cut.specs.View.{anchor_of, apart_of}
-use Rattle.yq_nodes.specs.Nodes.{first_is, in_name}
+use Rattle.yq_cut.specs.View.{anchor_with_sign, apart_of}
+use Rattle.yq_nodes.specs.Nodes.{begins_with, in_name}
 use Rattle.yq_nodes.specs.Reading.{name_at}
 use Rattle.yq_cut.specs.Slicing.{Filled, cut_anchor, cut_apart, block_sliced}
 use Rattle.yq_cut.specs.Reading.{past_anchor, begins_block, anchor_at, block_content_at}
@@ -85,14 +85,14 @@ block_read n t p h =
 
 -- The header, the rest of its line, the raw lines and what follows, cut one behind the other.
 pub record Cuts (n : ℤ) (t : List ℕ) (p : Piece) (h : Read n t p) : Type 0 where
-  pub head : take p.head_end t ≡ mark_of h.block.style ∷ h.block.indicators
+  pub head : take p.head_end t ≡ style_indicator h.block.style ∷ h.block.indicators
   pub behind_head : drop p.head_end t ≡ h.block.tail ++ (joined h.block.raw ++ h.rest)
   pub tail_len : p.raw_start - p.head_end ≡ length h.block.tail
   pub raw_len : p.end - p.raw_start ≡ length (joined h.block.raw)
 
 pub cuts : (n : ℤ) (t : List ℕ) (p : Piece) (h : Read n t p) → Cuts n t p h
 cuts n t p h =
-    let head : List ℕ = mark_of h.block.style ∷ h.block.indicators in
+    let head : List ℕ = style_indicator h.block.style ∷ h.block.indicators in
     let behind : List ℕ = h.block.tail ++ (joined h.block.raw ++ h.rest) in
     record {
       head = ap (λ k. take k t) h.head_end ∙ (ap (take (length head)) h.stands ∙ take-append_seam head behind);
@@ -103,7 +103,7 @@ cuts n t p h =
 
 pub head_boundary : (n : ℤ) (t : List ℕ) (p : Piece) → Read n t p → IsCharBoundary t p.head_end
 head_boundary n t p h =
-    let head : List ℕ = mark_of h.block.style ∷ h.block.indicators in
+    let head : List ℕ = style_indicator h.block.style ∷ h.block.indicators in
     let at_head : IsCharBoundary (head ++ (h.block.tail ++ (joined h.block.raw ++ h.rest))) (length head) = tail_seam head h.block.tail (joined h.block.raw ++ h.rest) h.law.tail in
     subst (λ (k : ℕ). IsCharBoundary t k) (sym h.head_end) (subst (λ (u : List ℕ). IsCharBoundary u (length head)) (sym h.stands) at_head)
 
@@ -147,7 +147,7 @@ name_missing v one =
 pub record AnchorRead (t a g u : List ℕ) : Type 0 where
   pub anchor : Option Anchor
   pub read : anchor_at t ≡ Some (anchor, u)
-  pub name : anchor_of anchor ≡ a
+  pub name : anchor_with_sign anchor ≡ a
   pub apart : apart_of anchor ≡ g
 
 named : (v a g u : List ℕ) → (a, g, u) ≡ cut_apart (38 ∷ v) → (length a ≡ 1 → ⊥) → AnchorRead (38 ∷ v) a g u
@@ -165,10 +165,10 @@ named v a g u e some =
     }
 
 -- without an anchor
-no_apart : (t : List ℕ) → first_is 38 t ≡ false → ((cut_apart t).0 ≡ []) × ((cut_apart t).1 ≡ []) × ((cut_apart t).2 ≡ t)
+no_apart : (t : List ℕ) → begins_with 38 t ≡ false → ((cut_apart t).0 ≡ []) × ((cut_apart t).1 ≡ []) × ((cut_apart t).2 ≡ t)
 no_apart t h = (rw h refl, rw h refl, rw h refl)
 
-unnamed : (t a g u : List ℕ) → first_is 38 t ≡ false → (a, g, u) ≡ cut_apart t → AnchorRead t a g u
+unnamed : (t a g u : List ℕ) → begins_with 38 t ≡ false → (a, g, u) ≡ cut_apart t → AnchorRead t a g u
 unfolding anchor_at
 unnamed t a g u amp e =
     let n = no_apart t amp in
@@ -191,7 +191,7 @@ missing : (n : ℤ) (space v : List ℕ) → length (38 ∷ take (upto (unless i
 unfolding block_content_at anchor_at
 missing n space v one = rw (name_missing v one) refl
 
-no_anchor_len : (t a g u : List ℕ) → first_is 38 t ≡ false → (a, g, u) ≡ cut_apart t → length a ≡ 0
+no_anchor_len : (t a g u : List ℕ) → begins_with 38 t ≡ false → (a, g, u) ≡ cut_apart t → length a ≡ 0
 no_anchor_len t a g u amp e = ap length (ap (λ (y : List ℕ × List ℕ × List ℕ). y.0) e ∙ (no_apart t amp).0)
 
 pub anchor_missing : (n : ℤ) (space t a g u : List ℕ) → (a, g, u) ≡ cut_apart t → length a ≡ 1 → block_sliced n space t ≡ None
@@ -202,10 +202,10 @@ anchor_missing n space (b ∷ v) a g u e one = ⊎_elim {0, 0, 0}
     (cases_Bool (eqb b 38))
 
 -- the code's cut
-pub apart_none : (t : List ℕ) → first_is 38 t ≡ false → ([], [], t) ≡ cut_apart t
+pub apart_none : (t : List ℕ) → begins_with 38 t ≡ false → ([], [], t) ≡ cut_apart t
 apart_none t h = rw h refl
 
-pub apart_some : (t a r g u : List ℕ) → first_is 38 t ≡ true → (a, r) ≡ cut_anchor t → (g, u) ≡ cut no_white r → (a, g, u) ≡ cut_apart t
+pub apart_some : (t a r g u : List ℕ) → begins_with 38 t ≡ true → (a, r) ≡ cut_anchor t → (g, u) ≡ cut no_white r → (a, g, u) ≡ cut_apart t
 apart_some t a r g u h e f =
     let here : cut_apart t ≡ ((cut_anchor t).0, (cut no_white (cut_anchor t).1).0, (cut no_white (cut_anchor t).1).1) = rw h refl in
     let lead : (g, u) ≡ cut no_white (cut_anchor t).1 = f ∙ ap (λ (y : List ℕ × List ℕ). cut no_white y.1) e in
@@ -232,8 +232,8 @@ block_some n space t a g u head r tail s raw rest p e some h head_is r_is tail_i
     let s_here : s ≡ behind = raw_is n u r s p b r_is s_is in
     let raw_here : raw ≡ joined b.block.raw = raw_is_ ∙ (ap (λ j. take j s) c.raw_len ∙ (ap (take (length (joined b.block.raw))) s_here ∙ take-append_seam (joined b.block.raw) b.rest)) in
     let rest_here : rest ≡ b.rest = rest_is ∙ (ap (λ j. drop j s) c.raw_len ∙ (ap (drop (length (joined b.block.raw))) s_here ∙ drop-append_seam (joined b.block.raw) b.rest)) in
-    let head_here : head ≡ mark_of b.block.style ∷ b.block.indicators = head_is ∙ c.head in
-    rw (k.read, b.read) (ap Some (same_filled space a (anchor_of k.anchor) g (apart_of k.anchor) head _ tail _ raw _ rest _ k.name k.apart head_here tail_here raw_here rest_here))
+    let head_here : head ≡ style_indicator b.block.style ∷ b.block.indicators = head_is ∙ c.head in
+    rw (k.read, b.read) (ap Some (same_filled space a (anchor_with_sign k.anchor) g (apart_of k.anchor) head _ tail _ raw _ rest _ k.name k.apart head_here tail_here raw_here rest_here))
 
 no_block : (o : Option (BlockText × List ℕ)) → (o >>= λ x. Some (block_piece 0 x.0)) ≡ None → o ≡ None
 no_block None h = refl

@@ -13,7 +13,7 @@ use Rattle.yq_nodes.specs.Scalars.{begins_scalar}
 use Rattle.yq_cut.specs.Gap.{IsWhite}
 use Rattle.yq_cut.specs.Grammar.{IsContent, may_be_alone, IsMark}
 use Rattle.yq_cut.specs.Reading.{begins_entry}
-use Rattle.yq_cut.specs.Rows.{Mark, Anchor, Content, Nothing, Inline, Block, content_text, anchor_text}
+use Rattle.yq_cut.specs.Rows.{RowMark, Anchor, Content, Nothing, Inline, Block, content_text, anchor_text}
 use Rattle.yq_cut.proofs.Fronts.{tail_front, node_starts}
 use Rattle.yq_cut.proofs.MarkAgain.{Ended}
 use Rattle.yq_cut.proofs.NodeFronts.{node_begins, block_front}
@@ -65,5 +65,5 @@ pub alone_no_entry : (n : ℤ) (c : Content) (rest : List ℕ) → may_be_alone 
 alone_no_entry n c rest h1 h2 = search (rules, node_no_entry, tail_no_colon, node_begins)
 
 -- a mark before its content is read, and no more
-pub mark_ended : (mark : Mark) (n : ℤ) (c : Content) (rest : List ℕ) → IsMark mark c rest → IsContent n c rest → Ended mark (content_text c rest)
+pub mark_ended : (mark : RowMark) (n : ℤ) (c : Content) (rest : List ℕ) → IsMark mark c rest → IsContent n c rest → Ended mark (content_text c rest)
 mark_ended mark n c rest h1 h2 = search (rules, alone_no_entry, content_no_entry, entry_behind, and-false)

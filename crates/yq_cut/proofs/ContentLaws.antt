@@ -12,13 +12,13 @@ use Rattle.yq_block_scalars.proofs.BlockLaws.{block_takes, block_again}
 use Rattle.yq_flow_scalars.proofs.Bools.{bind_some, chosen}
 use Rattle.yq_flow_scalars.proofs.Upto.{cut_takes}
 use Rattle.yq_nodes.specs.Inline.{depth_limit, IsInline}
-use Rattle.yq_nodes.specs.Nodes.{Node, node_text, first_is, in_name, begins_node, IsName, is_bare}
+use Rattle.yq_nodes.specs.Nodes.{FlowNode, node_text, begins_with, in_name, begins_node, IsName, is_empty_node}
 use Rattle.yq_nodes.specs.Reading.{name_at, all_node}
 use Rattle.yq_nodes.proofs.NodeLaws.{all_takes, all_again}
 use Rattle.yq_nodes.proofs.PieceLaws.{front_is, name_takes, name_again}
 use Rattle.yq_cut.specs.Gap.{IsWhite}
 use Rattle.yq_cut.specs.Grammar.{IsTail, IsAnchor, IsContent}
-use Rattle.yq_cut.specs.Reading.{begins_block, anchor_at, block_content_at, inline_content_at, content_at, tail_at}
+use Rattle.yq_cut.specs.Reading.{begins_block, anchor_at, block_content_at, inline_content_at, read_content, read_tail}
 use Rattle.yq_cut.specs.Rows.{Anchor, Content, Nothing, Inline, Block, anchor_text, content_text}
 use Rattle.yq_cut.proofs.Fronts.{tail_front, node_starts}
 use Rattle.yq_cut.proofs.LineEnds.{white_cut, white_again}
@@ -46,7 +46,7 @@ anchor_takes t x h mark = ⊎_elim {0, 0, 0}
     subst (AnchorCut t) is
     (front_is 38 t e.0 ∙ ap (λ l. 38 ∷ l) (n.0 ∙ ap (λ l. name.0.0 ++ l) gap), (named, white_cut name.0.1, apart_some c.0 c.1 named.ends here)))
     (λ e. subst (AnchorCut t) (same_Some _ _ e.1) (refl, tt))
-    (chosen (first_is 38 t) h)
+    (chosen (begins_with 38 t) h)
 
 -- each kind of content is taken
 abbrev pub ContentCut : ℤ → List ℕ → Content × List ℕ → Type 0
@@ -67,16 +67,16 @@ inline_takes_here : (n : ℤ) (space t : List ℕ) (x : Content × List ℕ) →
 unfolding inline_content_at
 inline_takes_here n space t x blank begins h =
     let node = bind_some (all_node false (Some (deeper n)) depth_limit t) h in
-    let tail = bind_some (tail_at node.0.1) node.2 in
+    let tail = bind_some (read_tail node.0.1) node.2 in
     let a = all_takes false (Some (deeper n)) depth_limit t node.0 node.1 in
     let b = tail_takes node.0.1 tail.0 tail.1 in
-    let some : not (is_bare node.0.0) ≡ true = bare_node (Some (deeper n)) depth_limit node.0.0 node.0.1 a.1 (subst (λ (s : List ℕ). begins_node false s ≡ true) a.0 begins) in
+    let some : not (is_empty_node node.0.0) ≡ true = bare_node (Some (deeper n)) depth_limit node.0.0 node.0.1 a.1 (subst (λ (s : List ℕ). begins_node false s ≡ true) a.0 begins) in
     let inline : IsInline places.Block n 0 node.0.0 node.0.1 = record { valid = a.1; something = some } in
     subst (ContentCut n (space ++ t)) (same_Some _ _ tail.2)
     (ap (λ l. space ++ l) (a.0 ∙ ap (node_text node.0.0) b.0), (blank, subst (λ (s : List ℕ). IsInline places.Block n 0 node.0.0 s) b.0 inline, b.1))
 
-pub content_takes : (n : ℤ) (t : List ℕ) (x : Content × List ℕ) → content_at n t ≡ Some x → ContentCut n t x
-unfolding content_at
+pub content_takes : (n : ℤ) (t : List ℕ) (x : Content × List ℕ) → read_content n t ≡ Some x → ContentCut n t x
+unfolding read_content
 content_takes n t x h =
     let c = cut no_white t in
     let join : c.0 ++ c.1 ≡ t = sym (cut_takes no_white t) in
@@ -85,7 +85,7 @@ content_takes n t x h =
     (λ e. ⊎_elim {0, 0, 0}
     (λ f. inline_takes_here n c.0 c.1 x (white_cut t) f.0 f.1)
     (λ f.
-    let tail = bind_some (tail_at t) f.1 in
+    let tail = bind_some (read_tail t) f.1 in
     let b = tail_takes t tail.0 tail.1 in
     subst (ContentCut n (c.0 ++ c.1)) (same_Some _ _ tail.2) (join ∙ b.0, b.1))
     (chosen (begins_node false c.1) e.1))
@@ -93,17 +93,17 @@ content_takes n t x h =
 
 -- and read again
 abbrev content_from : ℤ → List ℕ → List ℕ × List ℕ → Option (Content × List ℕ)
-content_from n t c = cond (begins_block c.1) (block_content_at n c.0 c.1) (cond (begins_node false c.1) (inline_content_at n c.0 c.1) (tail_at t >>= λ x. Some (Nothing x.0, x.1)))
+content_from n t c = cond (begins_block c.1) (block_content_at n c.0 c.1) (cond (begins_node false c.1) (inline_content_at n c.0 c.1) (read_tail t >>= λ x. Some (Nothing x.0, x.1)))
 
-nothing_again : (n : ℤ) (tail rest : List ℕ) → IsTail tail rest → content_at n (tail ++ rest) ≡ Some (Nothing tail, rest)
-unfolding content_at
+nothing_again : (n : ℤ) (tail rest : List ℕ) → IsTail tail rest → read_content n (tail ++ rest) ≡ Some (Nothing tail, rest)
+unfolding read_content
 nothing_again n tail rest h =
     let f = tail_front tail rest h in
     let no : begins_block f.behind ≡ false = no_block_here f.behind f.stops.no_anchor f.stops.no_block in
     ap (content_from n (tail ++ rest)) f.past ∙ rw (no, f.stops.no_node) (rw (tail_again tail rest h) refl)
 
-inline_again_here : (n : ℤ) (space : List ℕ) (node : Node) (tail rest : List ℕ) → IsWhite space → IsInline places.Block n 0 node (tail ++ rest) → IsTail tail rest → content_at n (content_text (Inline space node tail) rest) ≡ Some (Inline space node tail, rest)
-unfolding content_at inline_content_at
+inline_again_here : (n : ℤ) (space : List ℕ) (node : FlowNode) (tail rest : List ℕ) → IsWhite space → IsInline places.Block n 0 node (tail ++ rest) → IsTail tail rest → read_content n (content_text (Inline space node tail) rest) ≡ Some (Inline space node tail, rest)
+unfolding read_content inline_content_at
 inline_again_here n space node tail rest blank h t =
     let u = node_text node (tail ++ rest) in
     let begins : begins_node false u ≡ true = node_begins (Some (deeper n)) depth_limit node (tail ++ rest) h.valid h.something in
@@ -113,9 +113,9 @@ inline_again_here n space node tail rest blank h t =
     ap (content_from n (space ++ u)) (white_again space u blank (node_starts u begins).no_white)
     ∙ rw (no, begins) (rw (all_again false (Some (deeper n)) depth_limit node (tail ++ rest) h.valid, tail_again tail rest t) refl)
 
-block_again_here : (n : ℤ) (space : List ℕ) (anchor : Option Anchor) (block : BlockText) (rest : List ℕ) → IsWhite space → IsAnchor anchor (block_text block rest) → IsBlock (deeper n) block rest → content_at n (content_text (Block space anchor block) rest) ≡ Some (Block space anchor block, rest)
-unfolding content_at block_content_at anchor_at
+block_again_here : (n : ℤ) (space : List ℕ) (anchor : Option Anchor) (block : BlockText) (rest : List ℕ) → IsWhite space → IsAnchor anchor (block_text block rest) → IsBlock (deeper n) block rest → read_content n (content_text (Block space anchor block) rest) ≡ Some (Block space anchor block, rest)
+unfolding read_content block_content_at anchor_at
 block_again_here n space anchor block rest h1 h2 h3 = search (rules, block_front, white_again, block_again, name_cut, name_again)
 
-pub content_again : (n : ℤ) (c : Content) (rest : List ℕ) → IsContent n c rest → content_at n (content_text c rest) ≡ Some (c, rest)
+pub content_again : (n : ℤ) (c : Content) (rest : List ℕ) → IsContent n c rest → read_content n (content_text c rest) ≡ Some (c, rest)
 content_again n c rest h1 = search (rules, nothing_again, inline_again_here, block_again_here)

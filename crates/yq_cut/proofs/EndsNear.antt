@@ -7,12 +7,12 @@ use Rattle.yq_flow_scalars.specs.Answers.{◌>>=◌}
 use Rattle.yq_flow_scalars.specs.Text.{is_empty}
 use Rattle.yq_cut.specs.Ends.{end_at}
 use Rattle.yq_cut.specs.Grammar.{begins_document}
-use Rattle.yq_cut.specs.Items.{Item, row_item, end_item, rows_items, items_of, rows_in_items, bounds_in_items, view_of_items}
+use Rattle.yq_cut.specs.Items.{Item, row_item, end_item, rows_items, items_of_cut, rows_in_items, bounds_in_items, view_of_items}
 use Rattle.yq_cut.specs.Kept.{ends_near, ends_placed}
 use Rattle.yq_cut.specs.Offsets.{Ends, row_length}
 use Rattle.yq_cut.specs.RowStarts.{bound_length, part_end}
 use Rattle.yq_cut.specs.View.{Bound, slices}
-use Rattle.yq_cut.specs.Reading.{part_at, all_parts}
+use Rattle.yq_cut.specs.Reading.{read_cut_part, all_parts}
 use Rattle.yq_cut.specs.Rows.{Row, print_row, rows_text, Part, Cut, marked}
 use Rattle.yq_cut.specs.declared.ends.EndPlace.{EndPlace}
 use Rattle.yq_cut.proofs.KeptLaws.{print_then}
@@ -43,7 +43,7 @@ marked_ends : (es : List EndPlace) (n k : ℕ) (p : Part) (marker : List ℕ) (o
 marked_ends es n k p marker None = refl
 marked_ends es n k p marker (Some c) =
     let e = end_at (n + length (rows_text p.rows [])) (k + length p.rows) p.end marker in
-    ap (λ l. Some (es ++ l)) (ends_part n k p.rows p.end marker (items_of c)) ∙ ap Some (sym (append_assoc es (e ∷ []) (ends_near (n + length (rows_text p.rows (p.end ++ marker))) (k + length p.rows) (items_of c))))
+    ap (λ l. Some (es ++ l)) (ends_part n k p.rows p.end marker (items_of_cut c)) ∙ ap Some (sym (append_assoc es (e ∷ []) (ends_near (n + length (rows_text p.rows (p.end ++ marker))) (k + length p.rows) (items_of_cut c))))
 
 -- where the end of a part begins
 end_place : (whole t : List ℕ) (p : Part) (after : List ℕ) → Ends t whole → t ≡ rows_text p.rows (p.end ++ after) → length whole - length (p.end ++ after) ≡ (length whole - length t) + length (rows_text p.rows [])
@@ -56,7 +56,7 @@ pub record IsKeptEnd (whole t after marker rest : List ℕ) (rows : ℕ) (p : Pa
   pub after_is : after ≡ marker ++ rest
   pub place : e ≡ end_at (length whole - length (p.end ++ (marker ++ rest))) (rows + length p.rows) p.end marker
 
-pub kept_part : (started : Bool) (whole t after marker rest end : List ℕ) (rows count : ℕ) (p : Part) (e : EndPlace) → Ends t whole → part_at started t ≡ Some (p, after) → end ≡ p.end → after ≡ marker ++ rest → count ≡ rows + length p.rows →
+pub kept_part : (started : Bool) (whole t after marker rest end : List ℕ) (rows count : ℕ) (p : Part) (e : EndPlace) → Ends t whole → read_cut_part started t ≡ Some (p, after) → end ≡ p.end → after ≡ marker ++ rest → count ≡ rows + length p.rows →
     e ≡ end_at (length whole - length (end ++ (marker ++ rest))) count end marker → IsKeptEnd whole t after marker rest rows p e
 kept_part started whole t after marker rest end rows count p e ends read end_is after_is count_is place = record {
   ends = ends;
@@ -72,7 +72,7 @@ kept_end whole t after marker rest rows p e h =
     let place : length whole - length (p.end ++ (marker ++ rest)) ≡ (length whole - length t) + length (rows_text p.rows []) = ap (λ (l : List ℕ). length whole - length (p.end ++ l)) (sym h.after_is) ∙ end_place whole t p after h.ends h.text in
     h.place ∙ ap (λ (n : ℕ). end_at n (rows + length p.rows) p.end marker) place
 
-pub ends_placed_end : (es items : List EndPlace) (e : EndPlace) (whole t after : List ℕ) (k : ℕ) (started : Bool) (p : Part) (all : Option (List EndPlace)) → part_at started t ≡ Some (p, after) → is_empty after ≡ true → IsKeptEnd whole t after [] after k p e →
+pub ends_placed_end : (es items : List EndPlace) (e : EndPlace) (whole t after : List ℕ) (k : ℕ) (started : Bool) (p : Part) (all : Option (List EndPlace)) → read_cut_part started t ≡ Some (p, after) → is_empty after ≡ true → IsKeptEnd whole t after [] after k p e →
     items ≡ es ++ e ∷ [] → ends_placed es (length whole - length t) k (all_parts started t) ≡ all → all ≡ Some items
 ends_placed_end es items e whole t after k started p all h none kept pushed so_far =
     let n = length whole - length t in

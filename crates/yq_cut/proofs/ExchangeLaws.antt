@@ -5,7 +5,7 @@ use Rattle.std.specs.List.{slice_get}
 use Rattle.yq_flow_scalars.specs.Text.{separates}
 use Rattle.yq_cut.specs.Exchange.{with_content, allows_first, asked_behind}
 use Rattle.yq_cut.specs.Grammar.{IsContent, IsMark, is_entry, IsRow, Limit, limit_after, AreRows, begins_document, AreParts}
-use Rattle.yq_cut.specs.Rows.{Mark, Bare, Dash, Key, Content, mark_text, content_text, Row, parent_indent, rows_text, Part, Cut, marked, cut_text}
+use Rattle.yq_cut.specs.Rows.{RowMark, Bare, Dash, Key, Content, mark_text, content_text, Row, parent_indent, rows_text, Part, Cut, marked, cut_text}
 use Rattle.yq_cut.specs.Seams.{TakesPlace}
 use Rattle.yq_nodes.specs.Alike.{Alike, byte}
 use Rattle.yq_nodes.proofs.Alikes.{alike_append}
@@ -19,12 +19,12 @@ colon_seam p white t u is x y =
     let group : (z : List ℕ) → p ++ z ≡ white ++ (58 ∷ z) = λ z. rw is (append_assoc white (58 ∷ []) z) in
     rw (group t, group u) (alike_append (Some false) white (58 ∷ t) (58 ∷ u) (byte refl refl x y))
 
-pub mark_seam : (mark : Mark) (c : Content) (rest new : List ℕ) → is_entry mark ≡ true → IsMark mark c rest → separates new ≡ true → Alike (Some false) (mark_text mark (content_text c rest)) (mark_text mark new)
+pub mark_seam : (mark : RowMark) (c : Content) (rest new : List ℕ) → is_entry mark ≡ true → IsMark mark c rest → separates new ≡ true → Alike (Some false) (mark_text mark (content_text c rest)) (mark_text mark new)
 mark_seam Bare c rest new e m s = absurd (false≢true e)
 mark_seam Dash c rest new e m s = byte refl refl m s
 mark_seam (Key key sign) c rest new e m s = alike_append (Some false) key _ _ (colon_seam sign m.colon_is.white (content_text c rest) new m.colon_is.spelled m.colon_is.separated s)
 
-pub mark_kept : (mark : Mark) (c new : Content) (rest other : List ℕ) → is_entry mark ≡ true → IsMark mark c rest → separates (content_text new other) ≡ true → IsMark mark new other
+pub mark_kept : (mark : RowMark) (c new : Content) (rest other : List ℕ) → is_entry mark ≡ true → IsMark mark c rest → separates (content_text new other) ≡ true → IsMark mark new other
 mark_kept Bare c new rest other e m s = absurd (false≢true e)
 mark_kept Dash c new rest other e m s = s
 mark_kept (Key key sign) c new rest other e m s =

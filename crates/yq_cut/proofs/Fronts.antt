@@ -3,7 +3,7 @@ use Rattle.std.proofs.Common.{◌≡◌, ℕ, true, false, ◌||◌, eqb, List, 
 use Rattle.std.proofs.lemmas.Bool.{false≢true, or_cases, false_from_ne_true, and_parts, cases_Bool}
 use Rattle.yq_flow_scalars.specs.Text.{cut, is_feed, front, is_break, ends_line, no_white, no_space, separates, is_empty}
 use Rattle.yq_flow_scalars.specs.Lines.{is_hash}
-use Rattle.yq_nodes.specs.Nodes.{first_is, begins_node}
+use Rattle.yq_nodes.specs.Nodes.{begins_with, begins_node}
 use Rattle.yq_nodes.specs.Scalars.{begins_scalar}
 use Rattle.yq_nodes.proofs.PieceLaws.{front_not}
 use Rattle.yq_cut.specs.Gap.{IsWhite}
@@ -44,7 +44,7 @@ node_starts t h1 = search (rules, false≢true, front_not, starts_by, node_no_br
 pub record Stops (t : List ℕ) : Type 0 where
   pub no_node : begins_node false t ≡ false
   pub no_block : front (λ b. eqb b 124 || eqb b 62) t ≡ false
-  pub no_anchor : first_is 38 t ≡ false
+  pub no_anchor : begins_with 38 t ≡ false
   pub no_colon : is_colon t ≡ false
   pub no_dash : is_dash t ≡ false
   pub no_scalar : begins_scalar false t ≡ false

@@ -9,7 +9,7 @@ use Rattle.std.specs.Str.{IsUtf8}
 use Rattle.yq_text.specs.declared.halves.Halves.{Halves}
 use Rattle.yq_cut.specs.Ends.{EndStands, bound_in, bound_in_half, bounds_in_halves, end_at}
 use Rattle.yq_cut.specs.Items.{Item, row_item, end_item, items_text, rows_in_items, bounds_in_items, view_of_items}
-use Rattle.yq_cut.specs.Kept.{HavePlaces, TextsIn, ends_near, near, halves_view, slices_behind, turned}
+use Rattle.yq_cut.specs.Kept.{HavePlaces, TextsIn, ends_near, near, halves_view, slices_behind, row_from_end}
 use Rattle.yq_cut.specs.Offsets.{Ends, pieces_of, rows_in, slices_in}
 use Rattle.yq_cut.specs.Rows.{print_row}
 use Rattle.yq_cut.specs.View.{Bound, Slices, slices}
@@ -130,15 +130,15 @@ front_rows text p h =
     let texts = texts_parts h.before h.behind h.placed.texts in
     rw (h.front_is, h.placed.front_are) (near_kept h.before [] [] texts.0 IsUtf8-nil)
 
-pub back_rows : (text : Halves) (p : Places) → (h : HavePlaces text p) → KeptRows text.back.now (map (turned (length text.back.now)) (reverse p.behind.items)) (rows_in_items h.behind)
+pub back_rows : (text : Halves) (p : Places) → (h : HavePlaces text p) → KeptRows text.back.now (map (row_from_end (length text.back.now)) (reverse p.behind.items)) (rows_in_items h.behind)
 back_rows text p h =
     let texts = texts_parts h.before h.behind h.placed.texts in
-    let near_is : map (turned (length text.back.now)) (reverse p.behind.items) ≡ near 0 h.behind = ap (map (turned (length text.back.now))) h.placed.behind_are ∙ far_near h.behind [] text.back.now h.back_is in
+    let near_is : map (row_from_end (length text.back.now)) (reverse p.behind.items) ≡ near 0 h.behind = ap (map (row_from_end (length text.back.now))) h.placed.behind_are ∙ far_near h.behind [] text.back.now h.back_is in
     rw (near_is, h.back_is) (near_kept h.behind [] [] texts.1 IsUtf8-nil)
 
-turned_rows : (back : List ℕ) (os : List declared.Offsets) → map (slices_behind back) os ≡ rows_in back (map (turned (length back)) os)
+turned_rows : (back : List ℕ) (os : List declared.Offsets) → map (slices_behind back) os ≡ rows_in back (map (row_from_end (length back)) os)
 unfolding pieces_of
-turned_rows back os = sym (map-map (slices_in back) (turned (length back)) os)
+turned_rows back os = sym (map-map (slices_in back) (row_from_end (length back)) os)
 
 pub have_view : (text : Halves) (p : Places) → (h : HavePlaces text p) → halves_view text p ≡ view_of_items (h.before ++ h.behind)
 have_view text p h =

@@ -5,7 +5,7 @@ use Rattle.yq_flow_scalars.specs.Text.{is_empty}
 use Rattle.yq_cut.specs.Exchange.{allows_first}
 use Rattle.yq_cut.specs.Gap.{IsGap}
 use Rattle.yq_cut.specs.Grammar.{Limit, unlimited, IsRow, AreRows, no_rows, IsMarkerLine, begins_document, AreParts}
-use Rattle.yq_cut.specs.Items.{Item, row_item, end_item, rows_items, items_of, items_text, Asked, asked_by, IsPartEnd, AreRowItems}
+use Rattle.yq_cut.specs.Items.{Item, row_item, end_item, rows_items, items_of_cut, items_text, Asked, asked_by, IsPartEnd, AreRowItems}
 use Rattle.yq_cut.specs.Regions.{no_items, ended}
 use Rattle.yq_cut.specs.Reading.{all_parts}
 use Rattle.yq_cut.specs.Rows.{Row, print_row, Part, Cut, last, marked, cut_text}
@@ -93,16 +93,16 @@ pub alone_read : (xs : List Item) (asked : Asked) → AreRowItems asked xs [] �
 alone_read xs asked h = search (rules, cut_of_items, parts_again, unasked)
 
 -- the items of that cut
-row_items : (r : Row) (c : Cut) → items_of (row_before r c) ≡ row_item r ∷ items_of c
+row_items : (r : Row) (c : Cut) → items_of_cut (row_before r c) ≡ row_item r ∷ items_of_cut c
 row_items r (last p) = refl
 row_items r (marked p marker c) = refl
 
-pub inner_items : (xs : List Item) (z : Item) (zs : List Item) (asked : Asked) (rest : List ℕ) → AreRowItems asked (xs ++ (z ∷ zs)) rest → items_of (cut_of xs) ≡ ended xs [] []
+pub inner_items : (xs : List Item) (z : Item) (zs : List Item) (asked : Asked) (rest : List ℕ) → AreRowItems asked (xs ++ (z ∷ zs)) rest → items_of_cut (cut_of xs) ≡ ended xs [] []
 inner_items [] z zs asked rest h = refl
 inner_items (row_item r ∷ xs) z zs asked rest h = row_items r (cut_of xs) ∙ ap (λ l. row_item r ∷ l) (inner_items xs z zs (asked_by asked (row_item r)) rest h.1)
 inner_items (end_item gap marker ∷ xs) z zs asked rest h = ⊎_elim {0, 0, 0}
     (λ line. rw (no_marker marker (items_text (xs ++ (z ∷ zs)) rest) line) (ap (λ l. end_item gap marker ∷ l) (inner_items xs z zs (asked_by asked (end_item gap marker)) rest h.1)))
-    (λ none. no_last xs z zs rest (items_of (cut_of (end_item gap marker ∷ xs)) ≡ ended (end_item gap marker ∷ xs) [] []) none.1)
+    (λ none. no_last xs z zs rest (items_of_cut (cut_of (end_item gap marker ∷ xs)) ≡ ended (end_item gap marker ∷ xs) [] []) none.1)
     h.0.1
 
 -- items of which the last one is the end of a text
@@ -111,7 +111,7 @@ Ended [] = ⊥
 Ended (row_item r ∷ xs) = Ended xs
 Ended (end_item gap marker ∷ xs) = ((marker ≡ []) × (xs ≡ [])) ⊎ Ended xs
 
-pub last_items : (xs : List Item) (asked : Asked) → AreRowItems asked xs [] → Ended xs → items_of (cut_of xs) ≡ xs
+pub last_items : (xs : List Item) (asked : Asked) → AreRowItems asked xs [] → Ended xs → items_of_cut (cut_of xs) ≡ xs
 last_items [] asked h e = absurd e
 last_items (row_item r ∷ xs) asked h e = row_items r (cut_of xs) ∙ ap (λ l. row_item r ∷ l) (last_items xs (asked_by asked (row_item r)) h.1 e)
 last_items (end_item gap marker ∷ xs) asked h e = ⊎_elim {0, 0, 0}
@@ -126,9 +126,9 @@ rows_ended : (rs : List Row) (xs : List Item) → Ended xs → Ended (rows_items
 rows_ended [] xs h = h
 rows_ended (r ∷ rs) xs h = rows_ended rs xs h
 
-pub cut_ended : (c : Cut) → Ended (items_of c)
+pub cut_ended : (c : Cut) → Ended (items_of_cut c)
 cut_ended (last p) = rows_ended p.rows (end_item p.end [] ∷ []) (inl (refl, refl))
-cut_ended (marked p marker c) = rows_ended p.rows (end_item p.end marker ∷ items_of c) (inr (cut_ended c))
+cut_ended (marked p marker c) = rows_ended p.rows (end_item p.end marker ∷ items_of_cut c) (inr (cut_ended c))
 
 pub back_ended : (xs ys : List Item) → no_items ys ≡ false → Ended (xs ++ ys) → Ended ys
 back_ended [] ys some h = h

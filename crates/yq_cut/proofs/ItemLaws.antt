@@ -2,7 +2,7 @@
 use Rattle.std.proofs.Common.{◌≡◌, inl, inr, ℕ, ◌+◌, Bool, true, false, ◌||◌, List, [], ◌∷◌, ◌++◌, length, map, refl, sym, ap, ◌∙◌, subst, arith, append-nil}
 use Rattle.std.proofs.lemmas.List.{map-append}
 use Rattle.yq_cut.specs.Grammar.{unlimited, limit_after, IsRow, AreRows, no_rows, IsMarkerLine, begins_document, AreParts}
-use Rattle.yq_cut.specs.Items.{Item, row_item, end_item, rows_items, items_of, items_text, Asked, asked_by, asked_of, IsPartEnd, AreRowItems, rows_in_items, bounds_in_items, view_of_items}
+use Rattle.yq_cut.specs.Items.{Item, row_item, end_item, rows_items, items_of_cut, items_text, Asked, asked_by, asked_of, IsPartEnd, AreRowItems, rows_in_items, bounds_in_items, view_of_items}
 use Rattle.yq_cut.specs.Rows.{Row, print_row, rows_text, Cut, last, marked, cut_text}
 use Rattle.yq_cut.specs.View.{Slices, slices, Bound, rows_of, bounds_from, rows_view}
 
@@ -11,10 +11,10 @@ pub rows_items_text : (rs : List Row) (xs : List Item) (rest : List ℕ) → ite
 rows_items_text [] xs rest = refl
 rows_items_text (r ∷ rs) xs rest = ap (print_row r) (rows_items_text rs xs rest)
 
-pub items_of_text : (c : Cut) → items_text (items_of c) [] ≡ cut_text c
+pub items_of_text : (c : Cut) → items_text (items_of_cut c) [] ≡ cut_text c
 items_of_text (last p) = rows_items_text p.rows (end_item p.end [] ∷ []) []
 items_of_text (marked p marker c) =
-    rows_items_text p.rows (end_item p.end marker ∷ items_of c) []
+    rows_items_text p.rows (end_item p.end marker ∷ items_of_cut c) []
     ∙ ap (λ t. rows_text p.rows (p.end ++ (marker ++ t))) (items_of_text c)
 
 pub items_text-append : (xs ys : List Item) (rest : List ℕ) → items_text (xs ++ ys) rest ≡ items_text xs (items_text ys rest)
@@ -31,19 +31,19 @@ rows_items_bounds : (rs : List Row) (n : ℕ) (xs : List Item) → bounds_in_ite
 rows_items_bounds [] n xs = ap (λ k. bounds_in_items k xs) (omega arith)
 rows_items_bounds (r ∷ rs) n xs = rows_items_bounds rs (n + 1) xs ∙ ap (λ k. bounds_in_items k xs) (omega arith)
 
-items_rows : (c : Cut) → rows_in_items (items_of c) ≡ map slices (rows_of c)
+items_rows : (c : Cut) → rows_in_items (items_of_cut c) ≡ map slices (rows_of c)
 items_rows (last p) = rows_items_rows p.rows (end_item p.end [] ∷ []) ∙ append-nil (map slices p.rows)
 items_rows (marked p marker c) =
-    rows_items_rows p.rows (end_item p.end marker ∷ items_of c) ∙ (ap (λ l. map slices p.rows ++ l) (items_rows c) ∙ sym (map-append slices p.rows (rows_of c)))
+    rows_items_rows p.rows (end_item p.end marker ∷ items_of_cut c) ∙ (ap (λ l. map slices p.rows ++ l) (items_rows c) ∙ sym (map-append slices p.rows (rows_of c)))
 
-items_bounds : (c : Cut) (n : ℕ) → bounds_in_items n (items_of c) ≡ bounds_from n c
+items_bounds : (c : Cut) (n : ℕ) → bounds_in_items n (items_of_cut c) ≡ bounds_from n c
 items_bounds (last p) n = rows_items_bounds p.rows n (end_item p.end [] ∷ [])
 items_bounds (marked p marker c) n =
-    rows_items_bounds p.rows n (end_item p.end marker ∷ items_of c)
+    rows_items_bounds p.rows n (end_item p.end marker ∷ items_of_cut c)
     ∙ ap (λ l. record { rows = n + length p.rows; end = p.end; marker = marker } ∷ l) (items_bounds c (n + length p.rows))
 
-pub items_view_is : (c : Cut) → view_of_items (items_of c) ≡ rows_view c
-items_view_is c = ap (λ (l : List Slices). record { rows = l; bounds = bounds_in_items 0 (items_of c) }) (items_rows c) ∙ ap (λ (l : List Bound). record { rows = map slices (rows_of c); bounds = l }) (items_bounds c 0)
+pub items_view_is : (c : Cut) → view_of_items (items_of_cut c) ≡ rows_view c
+items_view_is c = ap (λ (l : List Slices). record { rows = l; bounds = bounds_in_items 0 (items_of_cut c) }) (items_rows c) ∙ ap (λ (l : List Bound). record { rows = map slices (rows_of c); bounds = l }) (items_bounds c 0)
 
 -- items one behind the other
 pub items_joined : (xs ys : List Item) (asked : Asked) (rest : List ℕ) → AreRowItems asked (xs ++ ys) rest → AreRowItems (asked_of asked xs) ys rest
@@ -66,9 +66,9 @@ rows_are_items (r ∷ rs) asked gap marker xs o h e more =
       rows_are_items rs (record { limit = limit_after r; started = asked.started }) gap marker xs all h.1 e more,
     )
 
-pub parts_are_items : (c : Cut) (started : Bool) → AreParts started c → AreRowItems (record { limit = unlimited; started = started }) (items_of c) []
+pub parts_are_items : (c : Cut) (started : Bool) → AreParts started c → AreRowItems (record { limit = unlimited; started = started }) (items_of_cut c) []
 parts_are_items (last p) started h = rows_are_items p.rows (record { limit = unlimited; started = started }) p.end [] [] h.inside h.rows (inr (refl, refl, refl)) tt
 parts_are_items (marked p marker c) started h =
-    let text : marker ++ cut_text c ≡ marker ++ items_text (items_of c) [] = ap (λ t. marker ++ t) (sym (items_of_text c)) in
+    let text : marker ++ cut_text c ≡ marker ++ items_text (items_of_cut c) [] = ap (λ t. marker ++ t) (sym (items_of_text c)) in
     let line = subst (IsMarkerLine marker) (sym (items_of_text c)) h.1 in
-    rows_are_items p.rows (record { limit = unlimited; started = started }) p.end marker (items_of c) h.0.inside (subst (AreRows unlimited p.rows p.end) text h.0.rows) (inl line) (parts_are_items c (begins_document marker) h.2)
+    rows_are_items p.rows (record { limit = unlimited; started = started }) p.end marker (items_of_cut c) h.0.inside (subst (AreRows unlimited p.rows p.end) text h.0.rows) (inl line) (parts_are_items c (begins_document marker) h.2)

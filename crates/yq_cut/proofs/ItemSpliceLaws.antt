@@ -1,6 +1,6 @@
 -- Splices of a cut, by its items.
 use Rattle.std.proofs.Common.{◌≡◌, ℕ, zero, suc, ◌≤◌, List, [], ◌∷◌, ◌++◌, take, drop, refl, sym, ap, ◌∙◌, arith, append_assoc, rules}
-use Rattle.yq_cut.specs.Items.{Item, row_item, end_item, rows_items, items_of}
+use Rattle.yq_cut.specs.Items.{Item, row_item, end_item, rows_items, items_of_cut}
 use Rattle.yq_cut.specs.ItemSplices.{items_before, first_item, regapped, SplicedItems}
 use Rattle.yq_cut.specs.Rows.{Row, Cut, last, marked}
 use Rattle.yq_cut.specs.Splices.{with_first_gap, end_gap}
@@ -62,9 +62,9 @@ spliced_items k i j new gap (last p) le = record {
   new_items = part_new i j p.rows new gap p.end [] [];
 }
 spliced_items zero i j new gap (marked p marker c) le = record {
-  back = later_items (drop j p.rows) p.end marker (items_of c);
-  old = part_old i j p.rows p.end marker (items_of c) le;
-  new_items = part_new i j p.rows new gap p.end marker (items_of c);
+  back = later_items (drop j p.rows) p.end marker (items_of_cut c);
+  old = part_old i j p.rows p.end marker (items_of_cut c) le;
+  new_items = part_new i j p.rows new gap p.end marker (items_of_cut c);
 }
 spliced_items (suc k) i j new gap (marked p marker c) le =
     let more = spliced_items k i j new gap c le in

@@ -6,7 +6,7 @@ use Rattle.std.proofs.lemmas.List.Elements.{All-get_or, All-nil, All-cons}
 use Rattle.std.proofs.lemmas.Str.{IsUtf8-append}
 use Rattle.std.specs.Str.{IsUtf8}
 use Rattle.yq_cut.specs.Items.{Item, row_item, end_item, items_text, rows_in_items}
-use Rattle.yq_cut.specs.Kept.{near, far, turned, TextsIn}
+use Rattle.yq_cut.specs.Kept.{near, far, row_from_end, TextsIn}
 use Rattle.yq_cut.specs.Offsets.{Ends, IsCutIn, Stand, slices_in, rows_in, AreTexts, offsets_of}
 use Rattle.yq_cut.specs.Rows.{Row, print_row}
 use Rattle.yq_cut.specs.View.{Slices, slices, slices_text}
@@ -79,14 +79,14 @@ near_kept (end_item gap marker ∷ xs) pre rest h u =
     subst (λ (n : ℕ). KeptRows (pre ++ (gap ++ (marker ++ t))) (near n xs) (rows_in_items xs)) long (subst (λ (w : List ℕ). KeptRows w (near (length (pre ++ (gap ++ marker))) xs) (rows_in_items xs)) (sym (end_apart pre gap marker t)) more)
 
 -- Rows by their distance from the end: whatever stands in front of them.
-pub far_near : (xs : List Item) (pre whole : List ℕ) → whole ≡ pre ++ items_text xs [] → map (turned (length whole)) (far xs) ≡ near (length pre) xs
+pub far_near : (xs : List Item) (pre whole : List ℕ) → whole ≡ pre ++ items_text xs [] → map (row_from_end (length whole)) (far xs) ≡ near (length pre) xs
 far_near [] pre whole e = refl
 far_near (row_item r ∷ xs) pre whole e =
     let t = items_text xs [] in
     let size : length whole - length (print_row r t) ≡ length pre = front_length whole pre (print_row r t) e in
     let long : length (pre ++ print_row r []) ≡ length pre + length (print_row r []) = length-append pre (print_row r []) in
-    let more : map (turned (length whole)) (far xs) ≡ near (length (pre ++ print_row r [])) xs = far_near xs (pre ++ print_row r []) whole (e ∙ row_apart pre r t) in
-    ap (λ (k : ℕ). offsets_of k (slices r) ∷ map (turned (length whole)) (far xs)) size ∙ ap (λ l. offsets_of (length pre) (slices r) ∷ l) (more ∙ ap (λ (k : ℕ). near k xs) long)
+    let more : map (row_from_end (length whole)) (far xs) ≡ near (length (pre ++ print_row r [])) xs = far_near xs (pre ++ print_row r []) whole (e ∙ row_apart pre r t) in
+    ap (λ (k : ℕ). offsets_of k (slices r) ∷ map (row_from_end (length whole)) (far xs)) size ∙ ap (λ l. offsets_of (length pre) (slices r) ∷ l) (more ∙ ap (λ (k : ℕ). near k xs) long)
 far_near (end_item gap marker ∷ xs) pre whole e =
     let t = items_text xs [] in
     let long : length (pre ++ (gap ++ marker)) ≡ length pre + length (gap ++ marker) = length-append pre (gap ++ marker) in

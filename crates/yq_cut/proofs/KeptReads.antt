@@ -5,7 +5,7 @@ use Rattle.std.proofs.lemmas.Option.{slice_get-map, slice_get_read}
 use Rattle.std.specs.Option.{option_map}
 use Rattle.std.specs.Vec.{vec_len}
 use Rattle.yq_text.specs.declared.halves.Halves.{Halves}
-use Rattle.yq_cut.specs.Kept.{halves_view, kept_rows, placed_rows, slices_behind, turned}
+use Rattle.yq_cut.specs.Kept.{halves_view, kept_rows, placed_rows, slices_behind, row_from_end}
 use Rattle.yq_cut.specs.Offsets.{slices_in}
 use Rattle.yq_cut.specs.View.{RowsView}
 use Rattle.yq_cut.specs.declared.offsets.Offsets as declared
@@ -40,7 +40,7 @@ front_kept p i a less is = first_at p.front.items (reverse p.behind.items) i a (
 
 pub front_placed : (p : Places) (len i : ℕ) (a : declared.Offsets) → i < vec_len p.front → a ≡ get_or p.front.items i a
     → slice_get (placed_rows len p) i ≡ Some a
-front_placed p len i a less is = first_at p.front.items (map (turned len) (reverse p.behind.items)) i a (omega (arith, less, p.front.ok.0)) is
+front_placed p len i a less is = first_at p.front.items (map (row_from_end len) (reverse p.behind.items)) i a (omega (arith, less, p.front.ok.0)) is
 
 -- An index behind the split among so many rows, of which so many stand in front of it: it is one of those behind, counted from the last one.
 pub record IsBehind (p : Places) (i n m : ℕ) : Type 0 where
@@ -48,7 +48,7 @@ pub record IsBehind (p : Places) (i n m : ℕ) : Type 0 where
   pub place : i - m ≤ n - 1
   pub within : (n - 1) - (i - m) < vec_len p.behind
   pub kept : (a : declared.Offsets) → a ≡ get_or p.behind.items ((n - 1) - (i - m)) a → slice_get (kept_rows p) i ≡ Some a
-  pub placed : (len : ℕ) (a : declared.Offsets) → a ≡ get_or p.behind.items ((n - 1) - (i - m)) a → slice_get (placed_rows len p) i ≡ Some (turned len a)
+  pub placed : (len : ℕ) (a : declared.Offsets) → a ≡ get_or p.behind.items ((n - 1) - (i - m)) a → slice_get (placed_rows len p) i ≡ Some (row_from_end len a)
 
 pub is_behind : (p : Places) (i n m : ℕ) → i < length (kept_rows p) → vec_len p.front ≤ i → n ≡ vec_len p.behind → m ≡ vec_len p.front → IsBehind p i n m
 is_behind p i n m less more n_is m_is =
@@ -68,6 +68,6 @@ is_behind p i n m less more n_is m_is =
       place = omega (arith, here, n_is, behind);
       within = omega (arith, here, n_is, behind);
       kept = λ a is. second_at p.front.items (reverse p.behind.items) i j a place (at a is);
-      placed = λ len a is. second_at p.front.items (map (turned len) (reverse p.behind.items)) i j (turned len a) place
-          (slice_get-map (turned len) (reverse p.behind.items) j ∙ ap (option_map (turned len)) (at a is));
+      placed = λ len a is. second_at p.front.items (map (row_from_end len) (reverse p.behind.items)) i j (row_from_end len a) place
+          (slice_get-map (row_from_end len) (reverse p.behind.items) j ∙ ap (option_map (row_from_end len)) (at a is));
     }

@@ -3,13 +3,13 @@ use Rattle.std.proofs.Common.{◌≡◌, inl, inr, ℕ, suc, ◌+◌, Bool, true
 use Rattle.std.proofs.lemmas.Bool.{cases_Bool, false≢true, not-true, or_parts}
 use Rattle.std.specs.List.{prefix_len}
 use Rattle.std.specs.Option.{option_or}
-use Rattle.yq_flow_scalars.specs.Plain.{ends_plain, ends_text, holds_break, last_line, may_follow, no_gap}
+use Rattle.yq_flow_scalars.specs.Plain.{ends_plain, ends_text, holds_break, last_line, plain_may_follow, no_gap}
 use Rattle.yq_flow_scalars.specs.Text.{NoneIn, cut, front, is_empty, is_feed, is_white, upto}
 use Rattle.yq_flow_scalars.proofs.Bools.{at_byte}
-use Rattle.yq_nodes.specs.Nodes.{first_is}
+use Rattle.yq_nodes.specs.Nodes.{begins_with}
 use Rattle.yq_nodes.specs.Scalars.{IsScalarAt}
 use Rattle.yq_cut.specs.Gap.{IsWhite}
-use Rattle.yq_cut.specs.Reading.{holds_colon, key_at}
+use Rattle.yq_cut.specs.Reading.{holds_colon, read_row_key}
 use Rattle.yq_cut.proofs.PieceLaws.{key_takes}
 
 -- a plain scalar that may have no further line ends before an LF
@@ -21,7 +21,7 @@ last_false a b c d e = rw e (go a b c) where
   go true false c = refl
   go false b c = refl
 
-none_deep : (o : Option (List ℕ)) (line text : List ℕ) → may_follow None (option_or o (Some line)) text ≡ false
+none_deep : (o : Option (List ℕ)) (line text : List ℕ) → plain_may_follow None (option_or o (Some line)) text ≡ false
 none_deep None line text = refl
 none_deep (Some x) line text = refl
 
@@ -53,8 +53,8 @@ white_line (b ∷ w) h = rw (at_byte is_white b 10 h.0 refl, white_line w h.1) r
 abbrev in_front : ℕ → Bool
 in_front b = not (eqb b 58) && not (eqb b 10)
 
-one_further : (b : ℕ) (t : List ℕ) (n : ℕ) → first_is 58 (drop (1 + n) (b ∷ t)) ≡ first_is 58 (drop n t)
-one_further b t n = ap (λ (k : ℕ). first_is 58 (drop k (b ∷ t))) (let one : 1 + n ≡ suc n = omega arith in one)
+one_further : (b : ℕ) (t : List ℕ) (n : ℕ) → begins_with 58 (drop (1 + n) (b ∷ t)) ≡ begins_with 58 (drop n t)
+one_further b t n = ap (λ (k : ℕ). begins_with 58 (drop k (b ∷ t))) (let one : 1 + n ≡ suc n = omega arith in one)
 
 colon_behind : (p t : List ℕ) → holds_break p ≡ false → holds_colon t ≡ true → holds_colon (p ++ t) ≡ true
 colon_behind [] t h is = is
@@ -63,7 +63,7 @@ colon_behind (b ∷ p) t h is = elim (cases_Bool (eqb b 58)) [
   | inr e ↦ (let parts = or_parts (is_feed b) (holds_break p) h in rw (e, parts.0) (one_further b (p ++ t) (prefix_len in_front (p ++ t)) ∙ colon_behind p t parts.1 is))
 ]
 
-key_colon : (t : List ℕ) (k : List ℕ × List ℕ × List ℕ) → key_at t ≡ Some k → holds_colon t ≡ true
+key_colon : (t : List ℕ) (k : List ℕ × List ℕ × List ℕ) → read_row_key t ≡ Some k → holds_colon t ≡ true
 key_colon t k h =
     let x = key_takes t k h in
     let colon = x.1.colon_is in
@@ -71,8 +71,8 @@ key_colon t k h =
     let whole : t ≡ k.0 ++ (colon.white ++ (58 ∷ k.2)) = x.0 ∙ ap (λ (l : List ℕ). k.0 ++ l) spelled in
     rw whole (colon_behind k.0 (colon.white ++ (58 ∷ k.2)) (key_line k.0 (k.1 ++ k.2) x.1.scalar) (colon_behind colon.white (58 ∷ k.2) (white_line colon.white colon.blank) refl))
 
-pub no_key_line : (t : List ℕ) → holds_colon t ≡ false → key_at t ≡ None
-no_key_line t h = go (key_at t) refl where
-  go : (o : Option (List ℕ × List ℕ × List ℕ)) → key_at t ≡ o → o ≡ None
+pub no_key_line : (t : List ℕ) → holds_colon t ≡ false → read_row_key t ≡ None
+no_key_line t h = go (read_row_key t) refl where
+  go : (o : Option (List ℕ × List ℕ × List ℕ)) → read_row_key t ≡ o → o ≡ None
   go None e = refl
   go (Some k) e = absurd (false≢true (sym h ∙ key_colon t k e))

@@ -4,8 +4,8 @@ use Rattle.std.proofs.lemmas.Bool.{false≢true, cond_both, not-false, and_parts
 use Rattle.yq_flow_scalars.specs.Text.{upto, cut, NoneIn, no_space, is_empty, separates}
 use Rattle.yq_flow_scalars.proofs.Upto.{cut-append, cut_takes}
 use Rattle.yq_cut.specs.Grammar.{IsKey, is_entry, AreDashes}
-use Rattle.yq_cut.specs.Reading.{key_at, is_dash, is_some, begins_entry, key_mark, mark_at, Marks, with_dash, undashed, dashes_at, marks_at}
-use Rattle.yq_cut.specs.Rows.{Mark, Bare, Dash, Key, dashes_text, mark_text}
+use Rattle.yq_cut.specs.Reading.{read_row_key, is_dash, is_some, begins_entry, key_mark, mark_at, Marks, with_dash, undashed, dashes_at, read_marks}
+use Rattle.yq_cut.specs.Rows.{RowMark, Bare, Dash, Key, dashes_text, mark_text}
 use Rattle.yq_cut.proofs.PieceLaws.{key_takes}
 
 -- spaces
@@ -42,24 +42,24 @@ dashes_fuel (suc n) (suc m) (x ∷ t) a b =
     (dashes_fuel n m s.1 (omega arith) (omega arith))
 
 -- one more dash
-pub marks_more : (t : List ℕ) → is_dash t ≡ true → (not (is_empty (cut no_space (drop 1 t)).0) && begins_entry (cut no_space (drop 1 t)).1) ≡ true → marks_at t ≡ with_dash (length (cut no_space (drop 1 t)).0) (marks_at (cut no_space (drop 1 t)).1)
+pub marks_more : (t : List ℕ) → is_dash t ≡ true → (not (is_empty (cut no_space (drop 1 t)).0) && begins_entry (cut no_space (drop 1 t)).1) ≡ true → read_marks t ≡ with_dash (length (cut no_space (drop 1 t)).0) (read_marks (cut no_space (drop 1 t)).1)
 unfolding dashes_at
 marks_more t h1 h2 = search (rules, false≢true, behind_spaces, dashes_fuel)
 
 -- the last one
-pub marks_dash : (t : List ℕ) → is_dash t ≡ true → (not (is_empty (cut no_space (drop 1 t)).0) && begins_entry (cut no_space (drop 1 t)).1) ≡ false → marks_at t ≡ ([], Dash, drop 1 t)
+pub marks_dash : (t : List ℕ) → is_dash t ≡ true → (not (is_empty (cut no_space (drop 1 t)).0) && begins_entry (cut no_space (drop 1 t)).1) ≡ false → read_marks t ≡ ([], Dash, drop 1 t)
 unfolding dashes_at
 marks_dash [] h more = absurd (false≢true h)
 marks_dash (x ∷ t) h more = rw (h, more) refl
 
 -- none
-pub marks_none : (t : List ℕ) → is_dash t ≡ false → marks_at t ≡ undashed (mark_at t)
+pub marks_none : (t : List ℕ) → is_dash t ≡ false → read_marks t ≡ undashed (mark_at t)
 unfolding dashes_at
 marks_none [] h = refl
 marks_none (x ∷ t) h = rw h refl
 
 -- what stands behind a mark that was read
-abbrev pub IsMarked : Mark → List ℕ → Type 0
+abbrev pub IsMarked : RowMark → List ℕ → Type 0
 IsMarked Bare rest = Unit {0}
 IsMarked Dash rest = separates rest ≡ true
 IsMarked (Key key colon) rest = IsKey key colon rest
@@ -67,7 +67,7 @@ IsMarked (Key key colon) rest = IsKey key colon rest
 abbrev pub MarksCut : List ℕ → Marks → Type 0
 MarksCut t m = (t ≡ dashes_text m.0 (mark_text m.1 m.2)) × AreDashes m.0 m.1 × IsMarked m.1 m.2
 
-mark_takes_at : (t : List ℕ) (o : Option (List ℕ × List ℕ × List ℕ)) → key_at t ≡ o → MarksCut t (undashed (key_mark t o))
+mark_takes_at : (t : List ℕ) (o : Option (List ℕ × List ℕ × List ℕ)) → read_row_key t ≡ o → MarksCut t (undashed (key_mark t o))
 mark_takes_at t None h = (refl, tt, tt)
 mark_takes_at t (Some k) h = let l = key_takes t k h in (l.0, tt, l.1)
 
@@ -82,9 +82,9 @@ dash_is (b ∷ bs) h = let parts = and_parts (eqb b 45) (separates bs) h in (ap 
 -- where an entry begins, an entry is read
 entry_read : (n : ℕ) (t : List ℕ) → length t ≤ n → begins_entry t ≡ true → is_entry (dashes_at n t).1 ≡ true
 unfolding dashes_at
-entry_read zero [] short h = entry_mark [] (key_at []) h
+entry_read zero [] short h = entry_mark [] (read_row_key []) h
 entry_read zero (b ∷ t) short h = absurd (omega arith)
-entry_read (suc n) [] short h = entry_mark [] (key_at []) h
+entry_read (suc n) [] short h = entry_mark [] (read_row_key []) h
 entry_read (suc n) (b ∷ t) short h =
     let u : List ℕ = b ∷ t in
     let s = cut no_space t in
@@ -93,7 +93,7 @@ entry_read (suc n) (b ∷ t) short h =
     (λ _. cond_both (not (is_empty s.0) && begins_entry s.1) (with_dash (length s.0) (dashes_at n s.1)) ([], Dash, t) (λ m. is_entry m.1 ≡ true)
     (λ e. entry_read n s.1 (omega arith) (and_parts (not (is_empty s.0)) (begins_entry s.1) e).1)
     (λ _. refl))
-    (λ e. entry_mark u (key_at u) (rw e at h))
+    (λ e. entry_mark u (read_row_key u) (rw e at h))
 
 some_length : (s : List ℕ) → not (is_empty s) ≡ true → 1 ≤ length s
 some_length [] h = absurd (false≢true h)
@@ -108,8 +108,8 @@ one_dash t m dash some entry h =
 
 dashes_take : (n : ℕ) (t : List ℕ) → length t ≤ n → MarksCut t (dashes_at n t)
 unfolding dashes_at
-dashes_take zero t short = mark_takes_at t (key_at t) refl
-dashes_take (suc n) [] short = mark_takes_at [] (key_at []) refl
+dashes_take zero t short = mark_takes_at t (read_row_key t) refl
+dashes_take (suc n) [] short = mark_takes_at [] (read_row_key []) refl
 dashes_take (suc n) (b ∷ t) short =
     let u : List ℕ = b ∷ t in
     let s = cut no_space t in
@@ -119,7 +119,7 @@ dashes_take (suc n) (b ∷ t) short =
     (λ e. let parts = and_parts (not (is_empty s.0)) (begins_entry s.1) e in
     one_dash u (dashes_at n s.1) d parts.0 (entry_read n s.1 (omega arith) parts.1) (dashes_take n s.1 (omega arith)))
     (λ _. let is = dash_is u d in (is.0, tt, is.1)))
-    (λ _. mark_takes_at u (key_at u) refl)
+    (λ _. mark_takes_at u (read_row_key u) refl)
 
-pub marks_take : (t : List ℕ) → MarksCut t (marks_at t)
+pub marks_take : (t : List ℕ) → MarksCut t (read_marks t)
 marks_take t = dashes_take (length t) t (omega arith)

@@ -5,9 +5,9 @@ use Rattle.std.proofs.Math.ListN.{drop_of_length-le}
 use Rattle.std.proofs.lemmas.List.{drop-drop}
 use Rattle.std.proofs.lemmas.Str.{IsCharBoundary-start, IsCharBoundary-after_ascii}
 use Rattle.std.specs.Str.{IsUtf8, IsCharBoundary}
-use Rattle.yq_flow_scalars.specs.Text.{is_feed, front, line_len, lines_of}
+use Rattle.yq_flow_scalars.specs.Text.{is_feed, front, line_len, text_lines}
 use Rattle.yq_block_scalars.proofs.LineLaws.{line_step, line_len_some, line_len_within}
-use Rattle.yq_cut.specs.Meter.{next_count, counted, begins_line, line_at, line_count}
+use Rattle.yq_cut.specs.Meter.{next_count, count_after, begins_line, line_at, line_count}
 
 -- where a line begins, a text may be cut
 feed_at : (t : List ℕ) (n : ℕ) → front is_feed (drop n t) ≡ true → (n < length t) × (get_or t n 0 ≡ 10)
@@ -47,7 +47,7 @@ next_begins t n less inside =
     begins_behind t n (line_len rest - 1) (length (line_at t n)) (omega (arith, some, size)) ends
 
 -- the count
-pub counted_within : (k n : ℕ) → counted k n ≤ n + k
+pub counted_within : (k n : ℕ) → count_after k n ≤ n + k
 counted_within zero n = omega arith
 counted_within (suc k) n = let more = counted_within k (next_count n) in omega (arith, more)
 
@@ -75,5 +75,5 @@ step_is t n less =
     record { more = omega (arith, size, some); within = omega (arith, size, within, long) }
 
 pub lines_done : (t : List ℕ) (n : ℕ) → length t ≤ n → line_count (drop n t) ≡ 0
-unfolding lines_of
+unfolding text_lines
 lines_done t n h = ap line_count (drop_of_length-le t h)

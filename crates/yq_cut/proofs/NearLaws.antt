@@ -8,11 +8,11 @@ use Rattle.yq_flow_scalars.specs.Answers.{◌>>=◌}
 use Rattle.yq_flow_scalars.specs.Text.{is_empty}
 use Rattle.yq_flow_scalars.proofs.Bools.{bind_some}
 use Rattle.yq_cut.specs.Grammar.{Limit, limit_after, ends_part, begins_document}
-use Rattle.yq_cut.specs.Items.{Item, row_item, end_item, rows_items, items_of, items_text, rows_in_items, bounds_in_items, view_of_items}
+use Rattle.yq_cut.specs.Items.{Item, row_item, end_item, rows_items, items_of_cut, items_text, rows_in_items, bounds_in_items, view_of_items}
 use Rattle.yq_cut.specs.Kept.{near, ends_near, rows_placed, parts_placed, ends_placed}
 use Rattle.yq_cut.specs.Slicing.{SlicedRow, sliced, row_sliced, read_view}
 use Rattle.yq_cut.specs.Offsets.{Ends, offsets_of, row_length}
-use Rattle.yq_cut.specs.Reading.{cut_gap, row_at, all_rows, part_at, marker_at, all_parts}
+use Rattle.yq_cut.specs.Reading.{cut_gap, row_at, all_rows, read_cut_part, marker_at, all_parts}
 use Rattle.yq_cut.specs.RowStarts.{bound_length, passed_length, row_start}
 use Rattle.yq_cut.specs.Rows.{Row, print_row, rows_text, Part, part_text, Cut, last, marked, cut_text}
 use Rattle.yq_cut.specs.View.{Slices, slices, slices_text, Bound, RowsView}
@@ -74,19 +74,19 @@ near_part n rs end marker xs =
     let size : (n + length own) + length (end ++ marker) ≡ n + length (rows_text rs (end ++ marker)) = omega (arith, ap length text, length-append own (end ++ marker)) in
     ap (near n) (rows_front rs (end_item end marker ∷ xs)) ∙ (near_joined n (rows_items rs []) (end_item end marker ∷ xs) ∙ ap (λ (k : ℕ). near n (rows_items rs []) ++ near k xs) size)
 
-pub parts_placed_end : (os items : List declared.Offsets) (n : ℕ) (started : Bool) (t after : List ℕ) (p : Part) (all : Option (List declared.Offsets)) → part_at started t ≡ Some (p, after) → is_empty after ≡ true → rows_placed os n (part_at started t) ≡ Some items →
+pub parts_placed_end : (os items : List declared.Offsets) (n : ℕ) (started : Bool) (t after : List ℕ) (p : Part) (all : Option (List declared.Offsets)) → read_cut_part started t ≡ Some (p, after) → is_empty after ≡ true → rows_placed os n (read_cut_part started t) ≡ Some items →
     parts_placed os n (all_parts started t) ≡ all → all ≡ Some items
 parts_placed_end os items n started t after p all h none placed so_far =
     let is : Some items ≡ Some (os ++ near n (rows_items p.rows [])) = sym placed ∙ ap (rows_placed os n) h in
-    let end : near n (items_of (last p)) ≡ near n (rows_items p.rows []) = near_part n p.rows p.end [] [] ∙ append-nil (near n (rows_items p.rows [])) in
+    let end : near n (items_of_cut (last p)) ≡ near n (rows_items p.rows []) = near_part n p.rows p.end [] [] ∙ append-nil (near n (rows_items p.rows [])) in
     sym so_far ∙ (ap (parts_placed os n) (parts_last started t (p, after) h none) ∙ (ap (λ l. Some (os ++ l)) end ∙ sym is))
 
 marked_placed : (os : List declared.Offsets) (n : ℕ) (p : Part) (marker : List ℕ) (o : Option Cut) →
     parts_placed os n (o >>= λ c. Some (marked p marker c)) ≡ parts_placed (os ++ near n (rows_items p.rows [])) (n + length (rows_text p.rows (p.end ++ marker))) o
 marked_placed os n p marker None = refl
 marked_placed os n p marker (Some c) =
-    ap (λ l. Some (os ++ l)) (near_part n p.rows p.end marker (items_of c))
-    ∙ ap Some (sym (append_assoc os (near n (rows_items p.rows [])) (near (n + length (rows_text p.rows (p.end ++ marker))) (items_of c))))
+    ap (λ l. Some (os ++ l)) (near_part n p.rows p.end marker (items_of_cut c))
+    ∙ ap Some (sym (append_assoc os (near n (rows_items p.rows [])) (near (n + length (rows_text p.rows (p.end ++ marker))) (items_of_cut c))))
 
 pub part_apart : (p : Part) (marker rest : List ℕ) → part_text p (marker ++ rest) ≡ rows_text p.rows (p.end ++ marker) ++ rest
 part_apart p marker rest =
@@ -97,12 +97,12 @@ part_apart p marker rest =
 -- A part that was read, and the marker behind it.
 pub record ReadMarked (started : Bool) (t after marker next : List ℕ) : Type 0 where
   pub part : Part
-  pub read : part_at started t ≡ Some (part, after)
+  pub read : read_cut_part started t ≡ Some (part, after)
   pub some : is_empty after ≡ false
   pub line : marker_at after ≡ Some (marker, next)
 
 pub parts_placed_step : (os items : List declared.Offsets) (whole : List ℕ) (started : Bool) (t after marker next : List ℕ) (all : Option (List declared.Offsets)) → Ends t whole → ReadMarked started t after marker next →
-    rows_placed os (length whole - length t) (part_at started t) ≡ Some items → parts_placed os (length whole - length t) (all_parts started t) ≡ all → parts_placed items (length whole - length next) (all_parts (begins_document marker) next) ≡ all
+    rows_placed os (length whole - length t) (read_cut_part started t) ≡ Some items → parts_placed os (length whole - length t) (all_parts started t) ≡ all → parts_placed items (length whole - length next) (all_parts (begins_document marker) next) ≡ all
 parts_placed_step os items whole started t after marker next all ends m placed so_far =
     let n = length whole - length t in
     let p = m.part in
@@ -126,10 +126,10 @@ pub record AreRead (t : List ℕ) (os : List declared.Offsets) (es : List EndPla
 are_read : (t : List ℕ) (n : ℕ) (o : Option Cut) (os : List declared.Offsets) (es : List EndPlace) (s : RowsView) → n ≡ 0 → ((c : Cut) → o ≡ Some c → t ≡ cut_text c) → parts_placed [] n o ≡ Some os → ends_placed [] n 0 o ≡ Some es → read_view o ≡ Some s → AreRead t os es s
 are_read t n None os es s none text h g e = cc
 are_read t n (Some c) os es s none text h g e = record {
-  items = items_of c;
+  items = items_of_cut c;
   text_is = text c refl ∙ sym (items_of_text c);
-  near_is = sym (same_Some _ _ h) ∙ ap (λ (k : ℕ). near k (items_of c)) none;
-  ends_is = sym (same_Some _ _ g) ∙ ap (λ (k : ℕ). ends_near k 0 (items_of c)) none;
+  near_is = sym (same_Some _ _ h) ∙ ap (λ (k : ℕ). near k (items_of_cut c)) none;
+  ends_is = sym (same_Some _ _ g) ∙ ap (λ (k : ℕ). ends_near k 0 (items_of_cut c)) none;
   rows_view_is = sym (same_Some _ _ e) ∙ sym (items_view_is c);
 }
 

@@ -2,33 +2,33 @@
 use Rattle.std.proofs.Common.{◌≡◌, inl, inr, ℕ, suc, true, false, not, eqb, List, [], ◌∷◌, ◌++◌, ◌∙◌, ◌||◌, Bool, drop, if◌then◌else◌, take, Option, Some, None, refl, sym, ap, rules}
 use Rattle.std.proofs.lemmas.Bool.{false≢true, cond_both, not-true, not-false, and_parts, cases_Bool, or_parts}
 use Rattle.std.specs.Option.{option_or}
-use Rattle.yq_flow_scalars.specs.Plain.{begins_plain, ends_plain, follows, may_follow, last_line, no_gap, plain_at}
+use Rattle.yq_flow_scalars.specs.Plain.{begins_plain, ends_plain, follows, plain_may_follow, last_line, no_gap, plain_at}
 use Rattle.yq_flow_scalars.specs.Text.{upto, cut, NoneIn, is_space, is_white, is_break, no_white, past_white}
 use Rattle.yq_flow_scalars.proofs.Bools.{at_byte}
 use Rattle.yq_flow_scalars.proofs.QuotedFound.{quoted_again}
 use Rattle.yq_flow_scalars.proofs.Upto.{upto_here}
 use Rattle.yq_flow_scalars.proofs.QuotedLaws.{of_quotes}
-use Rattle.yq_nodes.specs.Nodes.{Node, empty, alias, scalar, coll, anchored, node_text, is_bare, IsNode}
-use Rattle.yq_nodes.specs.Reading.{scalar_at}
+use Rattle.yq_nodes.specs.Nodes.{FlowNode, empty, alias, scalar, coll, anchored, node_text, is_empty_node, IsFlowNode}
+use Rattle.yq_nodes.specs.Reading.{read_scalar}
 use Rattle.yq_nodes.specs.Scalars.{is_quoted, IsScalarAt, begins_scalar}
 use Rattle.yq_nodes.proofs.PieceLaws.{front_not, scalar_begins}
 use Rattle.yq_cut.specs.Grammar.{IsTail}
-use Rattle.yq_cut.specs.Reading.{is_colon, colon_at, key_at, is_dash}
+use Rattle.yq_cut.specs.Reading.{is_colon, read_colon, read_row_key, is_dash}
 use Rattle.yq_cut.proofs.Fronts.{tail_front}
 use Rattle.yq_cut.proofs.MarkAgain.{scalar_no_dash}
 
 -- no scalar, no key
-no_scalar : (spaces : Option ℕ) (t : List ℕ) → begins_scalar false t ≡ false → scalar_at false spaces t ≡ None
-unfolding scalar_at plain_at
+no_scalar : (spaces : Option ℕ) (t : List ℕ) → begins_scalar false t ≡ false → read_scalar false spaces t ≡ None
+unfolding read_scalar plain_at
 no_scalar spaces t h = let parts = or_parts (is_quoted t) (begins_plain false t) h in rw (parts.0, parts.1) refl
 
-pub no_key : (t : List ℕ) → begins_scalar false t ≡ false → key_at t ≡ None
-unfolding key_at
+pub no_key : (t : List ℕ) → begins_scalar false t ≡ false → read_row_key t ≡ None
+unfolding read_row_key
 no_key t h = rw (no_scalar None t h) refl
 
 -- no `:` stands in front of a tail
-pub tail_no_colon : (tail rest : List ℕ) → IsTail tail rest → colon_at (tail ++ rest) ≡ None
-unfolding colon_at
+pub tail_no_colon : (tail rest : List ℕ) → IsTail tail rest → read_colon (tail ++ rest) ≡ None
+unfolding read_colon
 tail_no_colon tail rest h =
     let f = tail_front tail rest h in
     let past : past_white (tail ++ rest) ≡ f.behind = ap (λ (y : List ℕ × List ℕ). y.1) f.past in
@@ -81,7 +81,7 @@ line_no_colon (b ∷ bs) l h = elim (cases_Bool (is_white b)) [
   ]
 ]
 
-may_none : (d : ℕ) (line : Option (List ℕ)) (text : List ℕ) → may_follow None line text ≡ true → may_follow (Some d) line text ≡ true
+may_none : (d : ℕ) (line : Option (List ℕ)) (text : List ℕ) → plain_may_follow None line text ≡ true → plain_may_follow (Some d) line text ≡ true
 may_none d None text h = refl
 may_none d (Some l) text h = absurd (false≢true h)
 
@@ -91,35 +91,35 @@ follows_none d gap text h = search (rules, cases_Bool, and_parts, may_none, fals
 one_ends : (d : ℕ) (t : List ℕ) → ends_plain false (Some d) t ≡ true → ends_plain false None t ≡ true
 one_ends d t h = search (rules, cases_Bool, not-true, follows_none)
 
-line_between : (d : ℕ) (line : Option (List ℕ)) (text : List ℕ) → may_follow None line text ≡ false → (l : List ℕ) × (line ≡ Some l)
+line_between : (d : ℕ) (line : Option (List ℕ)) (text : List ℕ) → plain_may_follow None line text ≡ false → (l : List ℕ) × (line ≡ Some l)
 line_between d None text h = absurd (false≢true (sym h))
 line_between d (Some l) text h = (l, refl)
 
-broken : (d : ℕ) (t : List ℕ) → ends_plain false None t ≡ true → ends_plain false (Some d) t ≡ false → colon_at t ≡ None
-unfolding colon_at
+broken : (d : ℕ) (t : List ℕ) → ends_plain false None t ≡ true → ends_plain false (Some d) t ≡ false → read_colon t ≡ None
+unfolding read_colon
 broken d t one more = search (rules, cases_Bool, not-true, not-false, and_parts, line_between, line_no_colon, false≢true)
 
-plain_no_colon : (d : ℕ) (p rest : List ℕ) → NoneIn (ends_plain false (Some d)) p rest → ends_plain false (Some d) rest ≡ true → colon_at rest ≡ None → colon_at (drop (upto (ends_plain false None) (p ++ rest)) (p ++ rest)) ≡ None
+plain_no_colon : (d : ℕ) (p rest : List ℕ) → NoneIn (ends_plain false (Some d)) p rest → ends_plain false (Some d) rest ≡ true → read_colon rest ≡ None → read_colon (drop (upto (ends_plain false None) (p ++ rest)) (p ++ rest)) ≡ None
 unfolding upto
 plain_no_colon d [] rest n e c = rw (upto_here (ends_plain false None) rest (one_ends d rest e)) c
 plain_no_colon d (b ∷ p) rest n e c =
-    cond_both (ends_plain false None (b ∷ (p ++ rest))) 0 (suc (upto (ends_plain false None) (p ++ rest))) (λ k. colon_at (drop k (b ∷ (p ++ rest))) ≡ None)
+    cond_both (ends_plain false None (b ∷ (p ++ rest))) 0 (suc (upto (ends_plain false None) (p ++ rest))) (λ k. read_colon (drop k (b ∷ (p ++ rest))) ≡ None)
     (λ one. broken d (b ∷ (p ++ rest)) one n.0)
     (λ _. plain_no_colon d p rest n.1 e c)
 
 plain_no_quote : (t : List ℕ) → begins_plain false t ≡ true → is_quoted t ≡ false
 plain_no_quote t h1 = search (rules, front_not)
 
-scalar_no_key : (d : ℕ) (p rest : List ℕ) → IsScalarAt false (Some d) p rest → colon_at rest ≡ None → key_at (p ++ rest) ≡ None
-unfolding key_at scalar_at plain_at
+scalar_no_key : (d : ℕ) (p rest : List ℕ) → IsScalarAt false (Some d) p rest → read_colon rest ≡ None → read_row_key (p ++ rest) ≡ None
+unfolding read_row_key read_scalar plain_at
 scalar_no_key d p rest h1 h2 = search (rules, plain_no_quote, plain_no_colon, of_quotes, quoted_again, cond_both)
 
 -- what is no key and no dash
 abbrev pub NoEntry : List ℕ → Type 0
-NoEntry t = (is_dash t ≡ false) × (key_at t ≡ None)
+NoEntry t = (is_dash t ≡ false) × (read_row_key t ≡ None)
 
-pub node_no_entry : (d k : ℕ) (node : Node) (rest : List ℕ) → IsNode false (Some d) k node rest → not (is_bare node) ≡ true → colon_at rest ≡ None → NoEntry (node_text node rest)
-unfolding node_text IsNode
+pub node_no_entry : (d k : ℕ) (node : FlowNode) (rest : List ℕ) → IsFlowNode false (Some d) k node rest → not (is_empty_node node) ≡ true → read_colon rest ≡ None → NoEntry (node_text node rest)
+unfolding node_text IsFlowNode
 node_no_entry d k empty rest h some c = absurd (false≢true some)
 node_no_entry d k (alias n) rest h some c = (refl, no_key (42 ∷ (n ++ rest)) refl)
 node_no_entry d k (scalar p) rest h some c = (scalar_no_dash (p ++ rest) (scalar_begins false (Some d) p rest h), scalar_no_key d p rest h c)

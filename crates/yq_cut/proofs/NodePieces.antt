@@ -8,11 +8,11 @@ use Rattle.std.specs.Str.{IsUtf8, IsCharBoundary}
 use Rattle.yq_flow_scalars.specs.Text.{ends_line, separates}
 use Rattle.yq_flow_scalars.proofs.Boundaries.{white_ascii}
 use Rattle.yq_flow_scalars.specs.Lines.{is_hash}
-use Rattle.yq_nodes.specs.Nodes.{Node, node_text}
+use Rattle.yq_nodes.specs.Nodes.{FlowNode, node_text}
 use Rattle.yq_cut.specs.Exchange.{before_content, behind_row, rows_behind, HasPieces}
 use Rattle.yq_cut.specs.Gap.{IsWhite}
 use Rattle.yq_cut.specs.Grammar.{IsTail, IsContent, AreDashes, is_entry, IsCut}
-use Rattle.yq_cut.specs.Rows.{Mark, Bare, Dash, Key, Content, Inline, mark_text, dashes_text, Row, parent_indent, Cut}
+use Rattle.yq_cut.specs.Rows.{RowMark, Bare, Dash, Key, Content, Inline, mark_text, dashes_text, Row, parent_indent, Cut}
 use Rattle.yq_cut.specs.View.{rows_of}
 use Rattle.yq_cut.proofs.LineEnds.{line_end_behind}
 use Rattle.yq_cut.proofs.MarkEnds.{content_ends}
@@ -93,7 +93,7 @@ spaces_end zero h = absurd (omega (arith, h))
 spaces_end (suc zero) h = record { front = []; last = 32; is = refl; ascii = omega arith }
 spaces_end (suc (suc n)) h = ends_behind (32 ∷ []) (replicate (suc n) 32 ++ []) (spaces_end (suc n) (omega arith))
 
-bare_ends : (gap : List ℕ) (column : ℕ) (ns : List ℕ) (m : Mark) → is_entry m ≡ false → AreDashes ns m → 1 ≤ column → EndsAscii (gap ++ (replicate column 32 ++ dashes_text ns (mark_text m [])))
+bare_ends : (gap : List ℕ) (column : ℕ) (ns : List ℕ) (m : RowMark) → is_entry m ≡ false → AreDashes ns m → 1 ≤ column → EndsAscii (gap ++ (replicate column 32 ++ dashes_text ns (mark_text m [])))
 bare_ends gap column (n ∷ ns) m e h some = absurd (false≢true (sym e ∙ h.1))
 bare_ends gap column [] Dash e h some = absurd (false≢true (sym e))
 bare_ends gap column [] (Key key colon) e h some = absurd (false≢true (sym e))
@@ -104,7 +104,7 @@ space_behind before [] blank e = subst EndsAscii (sym (append-nil before)) e
 space_behind before (b ∷ space) blank e = ends_behind before (b ∷ space) (white_ends b space blank)
 
 -- In front of a node is white space, behind a dash, a key or an indentation.
-node_ends : (t : List ℕ) (c : Cut) (i : ℕ) (r : Row) (space : List ℕ) (node : Node) (tail : List ℕ) → IsCut t c → slice_get (rows_of c) i ≡ Some r → r.content ≡ Inline space node tail → (is_entry r.mark ≡ true) ⊎ (1 ≤ r.column) → EndsAscii (before_content i c ++ space)
+node_ends : (t : List ℕ) (c : Cut) (i : ℕ) (r : Row) (space : List ℕ) (node : FlowNode) (tail : List ℕ) → IsCut t c → slice_get (rows_of c) i ≡ Some r → r.content ≡ Inline space node tail → (is_entry r.mark ≡ true) ⊎ (1 ≤ r.column) → EndsAscii (before_content i c ++ space)
 node_ends t c i r space node tail h is content place =
     let row = row_in c i true r h.parts is in
     elim (cases_Bool (is_entry r.mark)) [
@@ -118,7 +118,7 @@ node_ends t c i r space node tail h is content place =
           space_behind (before_content i c) space old.0 (content_ends EndsAscii ends_behind c i r is (bare_ends r.gap r.column r.dashes r.mark bare row.row.dashes column)))
     ]
 
-pub node_pieces : (t : List ℕ) (c : Cut) (i : ℕ) (r : Row) (space : List ℕ) (node : Node) (tail : List ℕ) → IsCut t c → IsUtf8 t → slice_get (rows_of c) i ≡ Some r → r.content ≡ Inline space node tail → (is_entry r.mark ≡ true) ⊎ (1 ≤ r.column) →
+pub node_pieces : (t : List ℕ) (c : Cut) (i : ℕ) (r : Row) (space : List ℕ) (node : FlowNode) (tail : List ℕ) → IsCut t c → IsUtf8 t → slice_get (rows_of c) i ≡ Some r → r.content ≡ Inline space node tail → (is_entry r.mark ≡ true) ⊎ (1 ≤ r.column) →
     HasPieces t (before_content i c ++ space) (node_text node []) (tail ++ behind_row i c)
 node_pieces t c i r space node tail h u is content place =
     let rest = tail ++ behind_row i c in

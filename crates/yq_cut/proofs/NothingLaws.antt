@@ -2,7 +2,7 @@
 use Rattle.std.proofs.Common.{◌≡◌, inl, inr, ℕ, Bool, true, false, not, ◌||◌, List, [], ◌∷◌, ◌++◌, length, refl, sym, ap, ◌∙◌, ⊎_elim, length-append, rules}
 use Rattle.std.proofs.lemmas.Bool.{false≢true, false_from_ne_true, or_right, or_parts}
 use Rattle.yq_flow_scalars.specs.Text.{is_empty, is_white, is_break, unless, ends_line, separates, NoneIn, joined}
-use Rattle.yq_nodes.specs.Nodes.{first_is, begins_content, begins_node, IsLead}
+use Rattle.yq_nodes.specs.Nodes.{begins_with, begins_content, begins_node, IsLead}
 use Rattle.yq_cut.specs.Gap.{IsWhite, IsBreak, IsLineEnd, AreGapLines, IsGap}
 use Rattle.yq_cut.specs.Grammar.{IsTail}
 use Rattle.yq_cut.proofs.Fronts.{node_starts, stops_by}
@@ -54,7 +54,7 @@ name_again q (b ∷ p) t u h = (h.0, name_again q p t u h.1)
 pub tail_lead : (tail rest : List ℕ) → IsTail tail rest → IsLead false (begins_content false) [] (tail ++ rest)
 tail_lead tail rest h =
     let f = line_end_behind h.white h.comment tail rest h.line in
-    let none = or_parts (first_is 38 f.0) _ (stops_by f.0 f.3).no_node in
+    let none = or_parts (begins_with 38 f.0) _ (stops_by f.0 f.3).no_node in
     inr (refl, (h.white, f.0, f.1, (none_in_white h.white f.0 h.line.blank, f.2), none.1))
 
 -- white space, a break or the end is in front of a tail

@@ -8,7 +8,7 @@ use Rattle.yq_cut.specs.Grammar.{AreDashes, IsMark, Limit}
 use Rattle.yq_cut.specs.Slicing.{SlicedRow, sliced, row_sliced}
 use Rattle.yq_cut.specs.Offsets.{ParentAgrees, parent_by}
 use Rattle.yq_cut.specs.Reading.{row_at}
-use Rattle.yq_cut.specs.Rows.{Bare, Content, Dash, Key, Mark, before_column, behind_columns, dashes_text, parent_of}
+use Rattle.yq_cut.specs.Rows.{Bare, Content, Dash, Key, RowMark, before_column, behind_columns, dashes_text, parent_of}
 use Rattle.yq_cut.specs.View.{Slices, colon_of, last_dash}
 use Rattle.yq_cut.proofs.BeginSteps.{columns_from}
 use Rattle.yq_cut.proofs.RowLaws.{row_takes}
@@ -21,7 +21,7 @@ by_colon : (columns colon : ℕ) → 0 < colon → parent_by columns colon ≡ p
 by_colon columns zero some = absurd (omega (arith, some))
 by_colon columns (suc colon) some = refl
 
-parent_agrees : (column : ℕ) (ns : List ℕ) (mark : Mark) (c : Content) (rest : List ℕ) → AreDashes ns mark → IsMark mark c rest → parent_of mark (behind_columns column ns) ≡ parent_by (column + length (dashes_text ns (last_dash mark))) (length (colon_of mark))
+parent_agrees : (column : ℕ) (ns : List ℕ) (mark : RowMark) (c : Content) (rest : List ℕ) → AreDashes ns mark → IsMark mark c rest → parent_of mark (behind_columns column ns) ≡ parent_by (column + length (dashes_text ns (last_dash mark))) (length (colon_of mark))
 parent_agrees column [] Bare c rest d m = ap before_column (let none : column ≡ column + 0 = omega arith in none)
 parent_agrees column (n ∷ ns) Bare c rest d m = absurd (false≢true d.1)
 parent_agrees column ns Dash c rest d m =

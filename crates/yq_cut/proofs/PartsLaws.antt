@@ -7,7 +7,7 @@ use Rattle.yq_flow_scalars.specs.Text.{is_empty, is_marker}
 use Rattle.yq_flow_scalars.proofs.Bools.{bind_some}
 use Rattle.yq_nodes.proofs.Binds.{bind_same}
 use Rattle.yq_cut.specs.Grammar.{Limit, unlimited, limit_after, AreRows, no_rows, IsPart, IsMarkerLine, begins_document, ends_part}
-use Rattle.yq_cut.specs.Reading.{tail_at, all_rows, part_at, marker_at, parts_at, all_parts}
+use Rattle.yq_cut.specs.Reading.{read_tail, all_rows, read_cut_part, marker_at, parts_at, all_parts}
 use Rattle.yq_cut.specs.Rows.{Row, behind_gap, Part, part_text, rows_text, Cut, last, marked}
 use Rattle.yq_cut.proofs.PieceLaws.{tail_takes, tail_again}
 use Rattle.yq_cut.proofs.RowLaws.{row_longer, suffix_le}
@@ -19,16 +19,16 @@ pub record PartCut (started : Bool) (t : List ℕ) (x : Part × List ℕ) : Type
   pub part : IsPart started x.0 x.1
   pub ends : ends_part x.1 ≡ true
 
-pub part_takes : (started : Bool) (t : List ℕ) (x : Part × List ℕ) → part_at started t ≡ Some x → PartCut started t x
-unfolding part_at
+pub part_takes : (started : Bool) (t : List ℕ) (x : Part × List ℕ) → read_cut_part started t ≡ Some x → PartCut started t x
+unfolding read_cut_part
 part_takes started t x h =
     let part = bind_some (all_rows unlimited t) h in
     let g = cond_some (started || no_rows part.0.0.rows) _ _ part.2 in
     let rows = rows_takes (suc (length t)) unlimited t part.0 part.1 in
     subst (PartCut started t) g.1 (record { text = rows.text; part = record { rows = rows.rows; inside = g.0 }; ends = rows.ends })
 
-pub part_again : (started : Bool) (p : Part) (rest : List ℕ) → IsPart started p rest → ends_part rest ≡ true → part_at started (part_text p rest) ≡ Some (p, rest)
-unfolding part_at
+pub part_again : (started : Bool) (p : Part) (rest : List ℕ) → IsPart started p rest → ends_part rest ≡ true → read_cut_part started (part_text p rest) ≡ Some (p, rest)
+unfolding read_cut_part
 part_again started p rest h ends = search (rules, rows_again)
 
 -- the line of a marker
@@ -42,7 +42,7 @@ marker_takes (a ∷ []) x is h = absurd (false≢true is)
 marker_takes (a ∷ (b ∷ [])) x is h = absurd (false≢true is)
 marker_takes (a ∷ (b ∷ (c ∷ t))) x is h =
     let front : List ℕ → List ℕ = λ l. a ∷ (b ∷ (c ∷ l)) in
-    let tail = bind_some (tail_at t) h in
+    let tail = bind_some (read_tail t) h in
     let law = tail_takes t tail.0 tail.1 in
     subst (MarkerCut (front t)) (same_Some _ _ tail.2)
     (ap front law.0, record { marker = subst (λ (s : List ℕ). is_marker (front s) ≡ true) law.0 is; long = omega arith; tail = law.1 })
@@ -75,7 +75,7 @@ rows_le (r ∷ rs) limit end rest h =
 pub part_longer : (started : Bool) (p : Part) (rest : List ℕ) → IsPart started p rest → length rest ≤ length (part_text p rest)
 part_longer started p rest h = let less = rows_le p.rows unlimited p.end rest h.rows in omega (arith, suffix_le p.end rest)
 
-pub part_le : (started : Bool) (t : List ℕ) (x : Part × List ℕ) → part_at started t ≡ Some x → length x.1 ≤ length t
+pub part_le : (started : Bool) (t : List ℕ) (x : Part × List ℕ) → read_cut_part started t ≡ Some x → length x.1 ≤ length t
 part_le started t x h =
     let l = part_takes started t x h in rw l.text (part_longer started x.0 x.1 l.part)
 
@@ -108,7 +108,7 @@ unfolding parts_at
 parts_fuel zero m started t a b = absurd (omega arith)
 parts_fuel (suc n) zero started t a b = absurd (omega arith)
 parts_fuel (suc n) (suc m) started t a b =
-    bind_same (parts_by n) (parts_by m) (part_at started t) (λ part e.
+    bind_same (parts_by n) (parts_by m) (read_cut_part started t) (λ part e.
     let less = part_le started t part e in
     marked_fuel n m part (part_takes started t part e).ends (λ marker short. parts_fuel n m (begins_document marker.0) marker.1 (omega arith) (omega arith)))
 
@@ -121,28 +121,28 @@ marked_all n part ends h =
     marked_same (λ marker. parts_at n (begins_document marker.0) marker.1) (λ marker. all_parts (begins_document marker.0) marker.1) part ends
     (λ marker short. parts_fuel n (suc (length marker.1)) (begins_document marker.0) marker.1 (omega (arith, short, h)) (omega arith))
 
-pub parts_step : (started : Bool) (t : List ℕ) → all_parts started t ≡ (part_at started t >>= parts_behind)
+pub parts_step : (started : Bool) (t : List ℕ) → all_parts started t ≡ (read_cut_part started t >>= parts_behind)
 unfolding parts_at
 parts_step started t =
-    bind_same (parts_by (length t)) parts_behind (part_at started t) (λ part e. marked_all (length t) part (part_takes started t part e).ends (part_le started t part e))
+    bind_same (parts_by (length t)) parts_behind (read_cut_part started t) (λ part e. marked_all (length t) part (part_takes started t part e).ends (part_le started t part e))
 
-pub parts_refused : (started : Bool) (t : List ℕ) → part_at started t ≡ None → all_parts started t ≡ None
+pub parts_refused : (started : Bool) (t : List ℕ) → read_cut_part started t ≡ None → all_parts started t ≡ None
 parts_refused started t h = parts_step started t ∙ ap (λ o. o >>= parts_behind) h
 
-pub parts_last : (started : Bool) (t : List ℕ) (part : Part × List ℕ) → part_at started t ≡ Some part → is_empty part.1 ≡ true → all_parts started t ≡ Some (last part.0)
+pub parts_last : (started : Bool) (t : List ℕ) (part : Part × List ℕ) → read_cut_part started t ≡ Some part → is_empty part.1 ≡ true → all_parts started t ≡ Some (last part.0)
 parts_last started t part h none = parts_step started t ∙ (ap (λ o. o >>= parts_behind) h ∙ rw none refl)
 
-pub parts_no_marker : (started : Bool) (t : List ℕ) (part : Part × List ℕ) → part_at started t ≡ Some part → is_empty part.1 ≡ false → marker_at part.1 ≡ None → all_parts started t ≡ None
+pub parts_no_marker : (started : Bool) (t : List ℕ) (part : Part × List ℕ) → read_cut_part started t ≡ Some part → is_empty part.1 ≡ false → marker_at part.1 ≡ None → all_parts started t ≡ None
 parts_no_marker started t part h some none = parts_step started t ∙ (ap (λ o. o >>= parts_behind) h ∙ rw (some, none) refl)
 
-pub parts_marked : (started : Bool) (t : List ℕ) (part : Part × List ℕ) (marker : List ℕ × List ℕ) → part_at started t ≡ Some part → is_empty part.1 ≡ false → marker_at part.1 ≡ Some marker →
+pub parts_marked : (started : Bool) (t : List ℕ) (part : Part × List ℕ) (marker : List ℕ × List ℕ) → read_cut_part started t ≡ Some part → is_empty part.1 ≡ false → marker_at part.1 ≡ Some marker →
     all_parts started t ≡ (all_parts (begins_document marker.0) marker.1 >>= λ parts. Some (marked part.0 marker.0 parts))
 parts_marked started t part marker h some is = parts_step started t ∙ (ap (λ o. o >>= parts_behind) h ∙ rw (some, is) refl)
 
-pub part_marker : (started : Bool) (t : List ℕ) (part : Part × List ℕ) → part_at started t ≡ Some part → is_empty part.1 ≡ false → is_marker part.1 ≡ true
+pub part_marker : (started : Bool) (t : List ℕ) (part : Part × List ℕ) → read_cut_part started t ≡ Some part → is_empty part.1 ≡ false → is_marker part.1 ≡ true
 part_marker started t part h some = ends_marker part.1 (part_takes started t part h).ends some
 
-pub parts_smaller : (started : Bool) (t : List ℕ) (part : Part × List ℕ) (marker : List ℕ × List ℕ) → part_at started t ≡ Some part → is_empty part.1 ≡ false → marker_at part.1 ≡ Some marker → length marker.1 < length t
+pub parts_smaller : (started : Bool) (t : List ℕ) (part : Part × List ℕ) (marker : List ℕ × List ℕ) → read_cut_part started t ≡ Some part → is_empty part.1 ≡ false → marker_at part.1 ≡ Some marker → length marker.1 < length t
 parts_smaller started t part marker h some is =
     let less = part_le started t part h in
     let short = marker_shorter part.1 marker (part_marker started t part h some) is in

@@ -9,12 +9,12 @@ use Rattle.yq_flow_scalars.specs.Text.{upto, cut, no_white, ends_line, separates
 use Rattle.yq_flow_scalars.proofs.Bools.{bind_some}
 use Rattle.yq_flow_scalars.proofs.Upto.{upto-append}
 use Rattle.yq_flow_scalars.specs.Lines.{is_hash}
-use Rattle.yq_nodes.specs.Reading.{scalar_at}
+use Rattle.yq_nodes.specs.Reading.{read_scalar}
 use Rattle.yq_nodes.specs.Scalars.{IsScalarAt}
 use Rattle.yq_nodes.proofs.PieceLaws.{scalar_takes, scalar_again}
 use Rattle.yq_cut.specs.Gap.{IsWhite}
 use Rattle.yq_cut.specs.Grammar.{IsColon, IsKey, IsTail, key_limit}
-use Rattle.yq_cut.specs.Reading.{is_colon, colon_at, key_at, tail_at}
+use Rattle.yq_cut.specs.Reading.{is_colon, read_colon, read_row_key, read_tail}
 use Rattle.yq_cut.proofs.LineEnds.{none_in_white, white_cut, white_again, line_end_takes, line_end_behind, line_end_line, line_again}
 
 -- the `:` of a key
@@ -28,8 +28,8 @@ colon_in_front : (t : List ℕ) → is_colon t ≡ true → (r : List ℕ) × (t
 colon_in_front [] h = absurd (false≢true h)
 colon_in_front (b ∷ bs) h = let parts = and_parts (eqb b 58) (separates bs) h in let same : b ≡ 58 = eqb-true b 58 parts.0 in (bs, rw same refl, parts.1)
 
-colon_takes : (t : List ℕ) (x : List ℕ × List ℕ) → colon_at t ≡ Some x → (t ≡ x.0 ++ x.1) × IsColon x.0 x.1
-unfolding colon_at
+colon_takes : (t : List ℕ) (x : List ℕ × List ℕ) → read_colon t ≡ Some x → (t ≡ x.0 ++ x.1) × IsColon x.0 x.1
+unfolding read_colon
 colon_takes t x h =
     let n = upto no_white t in
     let g = cond_some (is_colon (drop n t)) _ _ h in
@@ -38,27 +38,27 @@ colon_takes t x h =
     subst (λ (y : List ℕ × List ℕ). (t ≡ y.0 ++ y.1) × IsColon y.0 y.1) g.1
     (sym (take-append-drop (suc n) t), record { white = take n t; spelled = parts.0; blank = white_cut t; separated = rw parts.1 front.2 })
 
-colon_behind : (w rest : List ℕ) → IsWhite w → separates rest ≡ true → colon_at (w ++ (58 ∷ rest)) ≡ Some (w ++ 58 ∷ [], rest)
-unfolding colon_at
+colon_behind : (w rest : List ℕ) → IsWhite w → separates rest ≡ true → read_colon (w ++ (58 ∷ rest)) ≡ Some (w ++ 58 ∷ [], rest)
+unfolding read_colon
 colon_behind w rest blank sep = search (rules, upto-append, none_in_white, byte_at, drop-append_seam, take-append_seam)
 
-colon_again : (p rest : List ℕ) → IsColon p rest → colon_at (p ++ rest) ≡ Some (p, rest)
+colon_again : (p rest : List ℕ) → IsColon p rest → read_colon (p ++ rest) ≡ Some (p, rest)
 colon_again p rest h = search (rules, append_assoc, colon_behind)
 
 -- a key, with its `:`
-pub key_takes : (t : List ℕ) (x : List ℕ × List ℕ × List ℕ) → key_at t ≡ Some x → (t ≡ x.0 ++ (x.1 ++ x.2)) × IsKey x.0 x.1 x.2
-unfolding key_at
+pub key_takes : (t : List ℕ) (x : List ℕ × List ℕ × List ℕ) → read_row_key t ≡ Some x → (t ≡ x.0 ++ (x.1 ++ x.2)) × IsKey x.0 x.1 x.2
+unfolding read_row_key
 key_takes t x h =
-    let key = bind_some (scalar_at false None t) h in
-    let colon = bind_some (colon_at key.0.1) key.2 in
+    let key = bind_some (read_scalar false None t) h in
+    let colon = bind_some (read_colon key.0.1) key.2 in
     let near = cond_some (leb (length (chars key.0.0) + length (chars colon.0.0)) (key_limit + 1)) _ _ colon.2 in
     let key_law = scalar_takes false None t key.0 key.1 in
     let colon_law = colon_takes key.0.1 colon.0 colon.1 in
     subst (λ (y : List ℕ × List ℕ × List ℕ). (t ≡ y.0 ++ (y.1 ++ y.2)) × IsKey y.0 y.1 y.2) near.1
     (rw (← colon_law.0) key_law.0, record { scalar = subst (λ (s : List ℕ). IsScalarAt false None key.0.0 s) colon_law.0 key_law.1; colon_is = colon_law.1; near = leb-true _ _ near.0 })
 
-pub key_again : (key colon rest : List ℕ) → IsKey key colon rest → key_at (key ++ (colon ++ rest)) ≡ Some (key, colon, rest)
-unfolding key_at
+pub key_again : (key colon rest : List ℕ) → IsKey key colon rest → read_row_key (key ++ (colon ++ rest)) ≡ Some (key, colon, rest)
+unfolding read_row_key
 key_again key colon rest h = search (rules, scalar_again, colon_again, le-leb)
 
 -- a tail, by how the text is cut behind its white space and behind its line
@@ -76,8 +76,8 @@ tail_cases w u h = ⊎_elim {0, 0, 0} (λ e. (rw e refl, rw e refl))
 tail_test : (w u : List ℕ) → ((ends_line u || is_hash u) ≡ true) → ((ends_line u || not (is_empty w)) ≡ true) → ends_tail (w, u) ≡ true
 tail_test w u h apart = search (rules, ⊎_elim, or_right, and_from, or_cases)
 
-pub tail_takes : (t : List ℕ) (x : List ℕ × List ℕ) → tail_at t ≡ Some x → (t ≡ x.0 ++ x.1) × IsTail x.0 x.1
-unfolding tail_at
+pub tail_takes : (t : List ℕ) (x : List ℕ × List ℕ) → read_tail t ≡ Some x → (t ≡ x.0 ++ x.1) × IsTail x.0 x.1
+unfolding read_tail
 tail_takes t x h =
     let c = cut no_white t in
     let g = cond_some (ends_tail c) _ _ h in
@@ -88,8 +88,8 @@ tail_takes t x h =
     subst (λ (y : List ℕ × List ℕ). (t ≡ y.0 ++ y.1) × IsTail y.0 y.1) g.1
     (sym (take-append-drop (line_len t) t), subst (λ (s : List ℕ). IsTail (cut_line s).0 (cut_line s).1) join tail)
 
-pub tail_again : (p rest : List ℕ) → IsTail p rest → tail_at (p ++ rest) ≡ Some (p, rest)
-unfolding tail_at
+pub tail_again : (p rest : List ℕ) → IsTail p rest → read_tail (p ++ rest) ≡ Some (p, rest)
+unfolding read_tail
 tail_again p rest h =
     let u = line_end_behind h.white h.comment p rest h.line in
     let whites : cut no_white (p ++ rest) ≡ (h.white, u.0) = ap (cut no_white) u.1 ∙ white_again h.white u.0 h.line.blank u.2 in

@@ -8,7 +8,7 @@ use Rattle.yq_nodes.specs.Alike.{Alike}
 use Rattle.yq_nodes.proofs.Alikes.{alike_append}
 use Rattle.yq_cut.specs.Gap.{IsGap}
 use Rattle.yq_cut.specs.Grammar.{Limit, IsContent, IsRow, IsMarkerLine}
-use Rattle.yq_cut.specs.Items.{Item, row_item, end_item, items_of, items_text, Asked, nothing_asked, asked_by, asked_of, AreRowItems}
+use Rattle.yq_cut.specs.Items.{Item, row_item, end_item, items_of_cut, items_text, Asked, nothing_asked, asked_by, asked_of, AreRowItems}
 use Rattle.yq_cut.specs.Regions.{StandIn, ended, IsReadAlone}
 use Rattle.yq_cut.specs.Rows.{Content, Row, parent_indent}
 use Rattle.yq_cut.specs.Seams.{is_seam, TakesPlace}
@@ -109,7 +109,7 @@ some_marker (b ∷ marker) t h = refl
 pub region_end : (xs back : List Item) (gap marker : List ℕ) → StandIn (ended xs gap marker) back → IsReadAlone (ended xs gap []) []
 region_end xs back gap marker s =
     let place : (xs ++ (end_item gap marker ∷ [])) ++ back ≡ xs ++ (end_item gap marker ∷ back) = append_assoc xs (end_item gap marker ∷ []) back in
-    let own_items : items_of s.cut ≡ s.front ++ (xs ++ (end_item gap marker ∷ back)) = s.items ∙ ap (λ l. s.front ++ l) place in
+    let own_items : items_of_cut s.cut ≡ s.front ++ (xs ++ (end_item gap marker ∷ back)) = s.items ∙ ap (λ l. s.front ++ l) place in
     let all : AreRowItems nothing_asked (s.front ++ (xs ++ (end_item gap marker ∷ back))) [] = subst (λ (l : List Item). AreRowItems nothing_asked l []) own_items (parts_are_items s.cut true s.is_cut.parts) in
     let asked = asked_of nothing_asked s.front in
     let behind : AreRowItems asked (xs ++ (end_item gap marker ∷ back)) [] = items_joined s.front (xs ++ (end_item gap marker ∷ back)) nothing_asked [] all in

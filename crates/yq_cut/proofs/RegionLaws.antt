@@ -5,12 +5,12 @@ use Rattle.yq_flow_scalars.specs.Answers.{Gives}
 use Rattle.yq_flow_scalars.specs.declared.fault.ReadError.{ReadError}
 use Rattle.yq_block_scalars.specs.Block.{ends_block}
 use Rattle.yq_block_scalars.specs.declared.block_lines.TextIndent.{TextIndent}
-use Rattle.yq_flow_scalars.specs.Text.{is_line, lines_of}
+use Rattle.yq_flow_scalars.specs.Text.{is_line, text_lines}
 use Rattle.yq_nodes.specs.Alike.{Alike}
 use Rattle.yq_nodes.proofs.Alikes.{alike_append}
 use Rattle.yq_cut.specs.Grammar.{Limit, IsRow, IsMarkerLine}
 use Rattle.yq_cut.specs.Items.{Item, row_item, end_item, items_text, Asked, nothing_asked, asked_by, asked_of, AreRowItems, view_of_items}
-use Rattle.yq_cut.specs.Regions.{StandIn, alone, IsReadAlone}
+use Rattle.yq_cut.specs.Regions.{StandIn, region_items, IsReadAlone}
 use Rattle.yq_cut.specs.Slicing.{read_view}
 use Rattle.yq_cut.specs.Reading.{all_parts}
 use Rattle.yq_cut.specs.Rows.{Content, Row, parent_indent}
@@ -23,8 +23,8 @@ use Rattle.yq_cut.proofs.seams.MarkerSeams.{marker_seam}
 use Rattle.yq_cut.proofs.seams.SeamLaws.{row_seam, plain_before}
 
 -- a row at the end of a text
-none_ends : (keep : Bool) (f : TextIndent) → ends_block keep f (lines_of []) ≡ true
-unfolding lines_of ends_block
+none_ends : (keep : Bool) (f : TextIndent) → ends_block keep f (text_lines []) ≡ true
+unfolding text_lines ends_block
 none_ends keep f = refl
 
 closed_end : (tail : List ℕ) → is_closed tail [] ≡ true
@@ -88,8 +88,8 @@ region xs (z ∷ zs) s =
     let mine : AreRowItems asked xs [] = (shortened xs z zs asked [] behind).0 in
     record { cut = cut_of xs; read = alone_read xs asked mine; text = (cut_of_items xs asked mine).1; items = inner_items xs z zs asked [] behind }
 
-pub read_alone : {X : Type 0} (v : X → RowsView) (t : List ℕ) (xs back : List Item) (r : Result X ReadError) → IsReadAlone xs back → t ≡ items_text xs [] → Gives v r (read_view (all_parts true t)) → Gives v r (Some (view_of_items (alone xs back)))
+pub read_alone : {X : Type 0} (v : X → RowsView) (t : List ℕ) (xs back : List Item) (r : Result X ReadError) → IsReadAlone xs back → t ≡ items_text xs [] → Gives v r (read_view (all_parts true t)) → Gives v r (Some (view_of_items (region_items xs back)))
 read_alone v t xs back r law e g =
     let read : all_parts true t ≡ Some law.cut = ap (all_parts true) e ∙ law.read in
-    let sliced : rows_view law.cut ≡ view_of_items (alone xs back) = sym (items_view_is law.cut) ∙ ap view_of_items law.items in
+    let sliced : rows_view law.cut ≡ view_of_items (region_items xs back) = sym (items_view_is law.cut) ∙ ap view_of_items law.items in
     subst (λ (o : Option RowsView). Gives v r o) (ap read_view read ∙ ap Some sliced) g

@@ -5,8 +5,8 @@ use Rattle.std.proofs.lemmas.List.{length-replicate}
 use Rattle.yq_flow_scalars.specs.Text.{past_white, is_empty, is_marker}
 use Rattle.yq_cut.specs.Gap.{IsWhite}
 use Rattle.yq_cut.specs.Grammar.{IsRow, IsContent, IsMark, Limit, allows, ends_part}
-use Rattle.yq_cut.specs.Reading.{begins_gap, marks_at, fits, marked_row_at, row_at}
-use Rattle.yq_cut.specs.Rows.{Mark, Bare, Dash, Key, Content, dashes_text, mark_text, content_text, Row, behind_indent, behind_gap, parent_indent}
+use Rattle.yq_cut.specs.Reading.{begins_gap, read_marks, fits, marked_row_at, row_at}
+use Rattle.yq_cut.specs.Rows.{RowMark, Bare, Dash, Key, Content, dashes_text, mark_text, content_text, Row, behind_indent, behind_gap, parent_indent}
 use Rattle.yq_cut.proofs.ContentEnds.{alone_no_entry, mark_ended}
 use Rattle.yq_cut.proofs.ContentLaws.{content_again}
 use Rattle.yq_cut.proofs.Fronts.{Starts, starts_by, node_starts}
@@ -18,7 +18,7 @@ use Rattle.yq_cut.proofs.MarkLaws.{spaces_again}
 dash_starts : (t : List ℕ) → Starts (45 ∷ t)
 dash_starts t = starts_by 45 t refl refl refl refl
 
-mark_starts : (ns : List ℕ) (mark : Mark) (n : ℤ) (c : Content) (rest : List ℕ) → IsMark mark c rest → IsContent n c rest → Starts (dashes_text ns (mark_text mark (content_text c rest)))
+mark_starts : (ns : List ℕ) (mark : RowMark) (n : ℤ) (c : Content) (rest : List ℕ) → IsMark mark c rest → IsContent n c rest → Starts (dashes_text ns (mark_text mark (content_text c rest)))
 mark_starts [] Bare n c rest m h = node_starts (content_text c rest) (alone_no_entry n c rest m h).1
 mark_starts [] Dash n c rest m h = dash_starts (content_text c rest)
 mark_starts [] (Key key colon) n c rest m h = node_starts (key ++ (colon ++ content_text c rest)) (scalar_node (key ++ (colon ++ content_text c rest)) (key_starts key colon (content_text c rest) m))
@@ -52,10 +52,10 @@ pub row_no_end : (limit : Limit) (r : Row) (rest : List ℕ) → IsRow limit r r
 row_no_end limit r rest h = no_end r.column (behind_indent r rest) h.unmarked (row_starts limit r rest h).some
 
 -- the row again
-mark_fits : (mark : Mark) (c : Content) (rest : List ℕ) → IsMark mark c rest → fits mark c ≡ true
+mark_fits : (mark : RowMark) (c : Content) (rest : List ℕ) → IsMark mark c rest → fits mark c ≡ true
 mark_fits mark c rest h1 = search rules
 
-marked_again : (limit : Limit) (r : Row) (rest : List ℕ) → IsRow limit r rest → marked_row_at r.gap r.column (marks_at (behind_indent r rest)) ≡ Some (r, rest)
+marked_again : (limit : Limit) (r : Row) (rest : List ℕ) → IsRow limit r rest → marked_row_at r.gap r.column (read_marks (behind_indent r rest)) ≡ Some (r, rest)
 unfolding marked_row_at
 marked_again limit r rest h = search (rules, marks_again, mark_ended, content_again, mark_fits)
 
@@ -64,5 +64,5 @@ unfolding row_at
 row_again limit r rest h =
     let t : List ℕ = behind_indent r rest in
     let indent = spaces_again r.column t (row_starts limit r rest h).no_space in
-    ap (λ (i : List ℕ × List ℕ). cond (allows limit (length i.0) && not (eqb (length i.0) 0 && is_marker i.1)) (marked_row_at r.gap (length i.0) (marks_at i.1)) None) indent
+    ap (λ (i : List ℕ × List ℕ). cond (allows limit (length i.0) && not (eqb (length i.0) 0 && is_marker i.1)) (marked_row_at r.gap (length i.0) (read_marks i.1)) None) indent
     ∙ rw (length-replicate {A = ℕ} r.column 32) (rw (h.allowed, h.unmarked) (marked_again limit r rest h))

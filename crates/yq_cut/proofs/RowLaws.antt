@@ -11,8 +11,8 @@ use Rattle.yq_nodes.specs.Nodes.{bare, node_text}
 use Rattle.yq_nodes.proofs.NodeAgain.{item_longer}
 use Rattle.yq_cut.specs.Gap.{IsGap}
 use Rattle.yq_cut.specs.Grammar.{IsRow, IsContent, IsMark, AreDashes, may_be_alone, Limit, allows}
-use Rattle.yq_cut.specs.Reading.{marks_at, content_at, fits, marked_row_at, row_at}
-use Rattle.yq_cut.specs.Rows.{Mark, Anchor, Content, Inline, dashes_text, mark_text, anchor_text, content_text, Row, behind_indent, behind_gap, behind_columns, parent_of, parent_indent}
+use Rattle.yq_cut.specs.Reading.{read_marks, read_content, fits, marked_row_at, row_at}
+use Rattle.yq_cut.specs.Rows.{RowMark, Anchor, Content, Inline, dashes_text, mark_text, anchor_text, content_text, Row, behind_indent, behind_gap, behind_columns, parent_of, parent_indent}
 use Rattle.yq_cut.proofs.ContentLaws.{content_takes}
 use Rattle.yq_cut.proofs.MarkLaws.{spaces_are, IsMarked, marks_take}
 
@@ -25,15 +25,15 @@ pub record Marked (gap : List ℕ) (column : ℕ) (t : List ℕ) (r : Row) (rest
   pub mark : IsMark r.mark r.content rest
   pub content : IsContent (parent_indent r) r.content rest
 
-mark_holds : (mark : Mark) (c : Content) (t rest : List ℕ) → t ≡ content_text c rest → IsMarked mark t → fits mark c ≡ true → IsMark mark c rest
+mark_holds : (mark : RowMark) (c : Content) (t rest : List ℕ) → t ≡ content_text c rest → IsMarked mark t → fits mark c ≡ true → IsMark mark c rest
 mark_holds mark c t rest h1 h2 h3 = search rules
 
-marked_takes : (gap : List ℕ) (column : ℕ) (t : List ℕ) (x : Row × List ℕ) → marked_row_at gap column (marks_at t) ≡ Some x → Marked gap column t x.0 x.1
+marked_takes : (gap : List ℕ) (column : ℕ) (t : List ℕ) (x : Row × List ℕ) → marked_row_at gap column (read_marks t) ≡ Some x → Marked gap column t x.0 x.1
 unfolding marked_row_at
 marked_takes gap column t x h =
-    let m = marks_at t in
+    let m = read_marks t in
     let n = parent_of m.1 (behind_columns column m.0) in
-    let content = bind_some (content_at n m.2) h in
+    let content = bind_some (read_content n m.2) h in
     let g = cond_some (fits m.1 content.0.0) _ _ content.2 in
     let marks = marks_take t in
     let c = content_takes n m.2 content.0 content.1 in
@@ -106,7 +106,7 @@ content_le n c rest h1 = search (rules, suffix_le, inline_longer, anchor_le)
 alone_longer : (n : ℤ) (c : Content) (rest : List ℕ) → may_be_alone c ≡ true → IsContent n c rest → length rest < length (content_text c rest)
 alone_longer n c rest h1 h2 = search (rules, inline_longer)
 
-mark_longer : (mark : Mark) (n : ℤ) (c : Content) (rest : List ℕ) → IsMark mark c rest → IsContent n c rest → length rest < length (mark_text mark (content_text c rest))
+mark_longer : (mark : RowMark) (n : ℤ) (c : Content) (rest : List ℕ) → IsMark mark c rest → IsContent n c rest → length rest < length (mark_text mark (content_text c rest))
 mark_longer mark n c rest h1 h2 = search (rules, alone_longer, content_le, length-append, suffix_le)
 
 dashes_le : (ns t : List ℕ) → length t ≤ length (dashes_text ns t)

@@ -2,13 +2,13 @@
 use Rattle.std.proofs.Common.{ℕ, false, ◌&&◌, eqb, List, sym, ap, ◌∙◌, replicate, Some}
 use Rattle.yq_nodes.specs.Alike.{Alike}
 use Rattle.yq_cut.specs.Grammar.{IsContent, IsMark, AreDashes, IsRow, Limit}
-use Rattle.yq_cut.specs.Rows.{Mark, Content, dashes_text, mark_text, content_text, behind_columns, parent_of, Row, behind_indent, behind_gap}
+use Rattle.yq_cut.specs.Rows.{RowMark, Content, dashes_text, mark_text, content_text, behind_columns, parent_of, Row, behind_indent, behind_gap}
 use Rattle.yq_cut.specs.Seams.{TakesPlace}
 use Rattle.yq_nodes.proofs.Alikes.{alike_append, alike_marker}
 use Rattle.yq_cut.proofs.AlikeRows.{row_gap_alike}
 
 -- It takes the place of that row, where the texts behind the indentation begin alike, and the pieces stand there.
-pub takes_place : (limit : Limit) (r : Row) (t dashes : List ℕ) (mark : Mark) (new : Content) (u : List ℕ) → IsRow limit r t → Alike (Some false) (behind_indent r t) (dashes_text dashes (mark_text mark (content_text new u))) →
+pub takes_place : (limit : Limit) (r : Row) (t dashes : List ℕ) (mark : RowMark) (new : Content) (u : List ℕ) → IsRow limit r t → Alike (Some false) (behind_indent r t) (dashes_text dashes (mark_text mark (content_text new u))) →
     AreDashes dashes mark → IsMark mark new u → IsContent (parent_of mark (behind_columns r.column dashes)) new u → TakesPlace limit r t (record { gap = r.gap; column = r.column; dashes = dashes; mark = mark; content = new }) u
 takes_place limit r t dashes mark new u h indent are is content =
     let s : Row = record { gap = r.gap; column = r.column; dashes = dashes; mark = mark; content = new } in

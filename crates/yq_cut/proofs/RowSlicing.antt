@@ -8,10 +8,10 @@ use Rattle.yq_flow_scalars.specs.Text.{cut, no_space, no_white, is_marker}
 use Rattle.yq_flow_scalars.proofs.Bools.{bind_some}
 use Rattle.yq_nodes.specs.Nodes.{begins_node}
 use Rattle.yq_cut.specs.Grammar.{Limit, unlimited, allows, limit_after, limit_behind, is_entry, no_rows, ends_part}
-use Rattle.yq_cut.specs.Slicing.{Begun, begun, filled, filled_at, holds_plain, limit_by, SlicedRow, sliced, row_of, marked_sliced, row_sliced, rows_sliced, inline_sliced, block_sliced}
-use Rattle.yq_cut.specs.Reading.{Marks, marks_at, content_at, begins_block, tail_at, fits, marked_row_at, row_at, gap_len, cut_gap, all_rows, part_at}
+use Rattle.yq_cut.specs.Slicing.{Begun, begun, lent_content, filled_at, holds_plain, limit_by, SlicedRow, sliced, row_of, marked_sliced, row_sliced, rows_sliced, inline_sliced, block_sliced}
+use Rattle.yq_cut.specs.Reading.{Marks, read_marks, read_content, begins_block, read_tail, fits, marked_row_at, row_at, gap_len, cut_gap, all_rows, read_cut_part}
 use Rattle.yq_cut.specs.Rows.{Content, Nothing, Inline, Block, Row, behind_columns, parent_of, dashes_text, Part}
-use Rattle.yq_cut.specs.View.{Slices, slices, slices_text, last_dash, key_of, colon_of}
+use Rattle.yq_cut.specs.View.{Slices, slices, slices_text, last_dash, key_of_mark, colon_of}
 use Rattle.yq_cut.proofs.BeginSteps.{columns_from}
 use Rattle.yq_cut.proofs.RowLaws.{row_takes, row_shorter}
 use Rattle.yq_cut.proofs.RowsLaws.{behind_le, with_front, no_more, rows_from, rows_cut, rows_step, rows_refused, rows_done}
@@ -19,23 +19,23 @@ use Rattle.yq_cut.proofs.SliceLaws.{slices_are}
 
 -- what stands behind a mark
 pub content_block : (n : ℤ) (t s u : List ℕ) → (s, u) ≡ cut no_white t → begins_block u ≡ true → filled_at n t ≡ block_sliced n s u
-unfolding content_at
+unfolding read_content
 content_block n t s u e begins = rw (subst (λ (y : List ℕ × List ℕ). begins_block y.1 ≡ true) e begins) (ap (λ (y : List ℕ × List ℕ). block_sliced n y.0 y.1) (sym e))
 
 pub content_inline : (n : ℤ) (t s u : List ℕ) → (s, u) ≡ cut no_white t → begins_block u ≡ false → begins_node false u ≡ true → filled_at n t ≡ inline_sliced n s u
-unfolding content_at
+unfolding read_content
 content_inline n t s u e block begins =
     rw (subst (λ (y : List ℕ × List ℕ). begins_block y.1 ≡ false) e block, subst (λ (y : List ℕ × List ℕ). begins_node false y.1 ≡ true) e begins)
     (ap (λ (y : List ℕ × List ℕ). inline_sliced n y.0 y.1) (sym e))
 
-pub content_nothing : (n : ℤ) (t s u : List ℕ) (read : Option (List ℕ × List ℕ)) → (s, u) ≡ cut no_white t → begins_block u ≡ false → begins_node false u ≡ false → tail_at t ≡ read → filled_at n t ≡ (read >>= λ x. Some (filled (Nothing x.0, x.1)))
-unfolding content_at
+pub content_nothing : (n : ℤ) (t s u : List ℕ) (read : Option (List ℕ × List ℕ)) → (s, u) ≡ cut no_white t → begins_block u ≡ false → begins_node false u ≡ false → read_tail t ≡ read → filled_at n t ≡ (read >>= λ x. Some (lent_content (Nothing x.0, x.1)))
+unfolding read_content
 content_nothing n t s u read e block begins h =
-    rw (subst (λ (y : List ℕ × List ℕ). begins_block y.1 ≡ false) e block, subst (λ (y : List ℕ × List ℕ). begins_node false y.1 ≡ false) e begins) (nothing (tail_at t) h)
+    rw (subst (λ (y : List ℕ × List ℕ). begins_block y.1 ≡ false) e block, subst (λ (y : List ℕ × List ℕ). begins_node false y.1 ≡ false) e begins) (nothing (read_tail t) h)
   where
-    nothing : (o : Option (List ℕ × List ℕ)) → o ≡ read → ((o >>= λ x. Some (Nothing x.0, x.1)) >>= λ x. Some (filled x)) ≡ (read >>= λ x. Some (filled (Nothing x.0, x.1)))
-    nothing (Some x) e = ap (λ (r : Option (List ℕ × List ℕ)). r >>= λ x. Some (filled (Nothing x.0, x.1))) e
-    nothing None e = ap (λ (r : Option (List ℕ × List ℕ)). r >>= λ x. Some (filled (Nothing x.0, x.1))) e
+    nothing : (o : Option (List ℕ × List ℕ)) → o ≡ read → ((o >>= λ x. Some (Nothing x.0, x.1)) >>= λ x. Some (lent_content x)) ≡ (read >>= λ x. Some (lent_content (Nothing x.0, x.1)))
+    nothing (Some x) e = ap (λ (r : Option (List ℕ × List ℕ)). r >>= λ x. Some (lent_content (Nothing x.0, x.1))) e
+    nothing None e = ap (λ (r : Option (List ℕ × List ℕ)). r >>= λ x. Some (lent_content (Nothing x.0, x.1))) e
 
 -- what a row asks of the next one
 limit_is : (n : ℤ) (c : Content) → limit_behind n c ≡ limit_by n (holds_plain c)
@@ -45,12 +45,12 @@ limit_is n (Block space anchor block) = refl
 
 -- a row whose marks were read
 abbrev row_by : List ℕ → ℕ → Marks → Content × List ℕ → ℕ → SlicedRow
-row_by gap column m x k = let f = filled x in (
+row_by gap column m x k = let f = lent_content x in (
   record {
     gap = gap;
     column = column;
     dashes = dashes_text m.0 (last_dash m.1);
-    key = key_of m.1;
+    key = key_of_mark m.1;
     colon = colon_of m.1;
     space = f.space;
     anchor = f.anchor;
@@ -64,7 +64,7 @@ row_by gap column m x k = let f = filled x in (
   f.rest,
 )
 
-row_is : (gap : List ℕ) (column : ℕ) (m : Marks) (x : Content × List ℕ) → sliced (record { gap = gap; column = column; dashes = m.0; mark = m.1; content = x.0 }, x.1) ≡ row_of gap column (begun m) (filled x)
+row_is : (gap : List ℕ) (column : ℕ) (m : Marks) (x : Content × List ℕ) → sliced (record { gap = gap; column = column; dashes = m.0; mark = m.1; content = x.0 }, x.1) ≡ row_of gap column (begun m) (lent_content x)
 row_is gap column m x =
     let k = behind_columns column m.0 in
     ap (λ (l : Limit). (slices (record { gap = gap; column = column; dashes = m.0; mark = m.1; content = x.0 }), l, x.1)) (limit_is (parent_of m.1 k) x.0)
@@ -73,27 +73,27 @@ row_is gap column m x =
 pub marked_slicing : (gap : List ℕ) (column : ℕ) (m : Marks) → (marked_row_at gap column m >>= λ x. Some (sliced x)) ≡ marked_sliced gap column (begun m)
 unfolding marked_row_at
 marked_slicing gap column m =
-    ap (λ (k : ℕ). (content_at (parent_of m.1 k) m.2 >>= then_row) >>= λ x. Some (sliced x)) (columns_from column m.0) ∙ go (content_at (parent_of m.1 (column + behind_columns 0 m.0)) m.2)
+    ap (λ (k : ℕ). (read_content (parent_of m.1 k) m.2 >>= then_row) >>= λ x. Some (sliced x)) (columns_from column m.0) ∙ go (read_content (parent_of m.1 (column + behind_columns 0 m.0)) m.2)
   where
     then_row : Content × List ℕ → Option (Row × List ℕ)
     then_row x = if fits m.1 x.0 then Some (record { gap = gap; column = column; dashes = m.0; mark = m.1; content = x.0 }, x.1) else None
 
-    kept : (b : Bool) (x : Content × List ℕ) → ((if b then Some (record { gap = gap; column = column; dashes = m.0; mark = m.1; content = x.0 }, x.1) else None) >>= λ y. Some (sliced y)) ≡ (if b then Some (row_of gap column (begun m) (filled x)) else None)
+    kept : (b : Bool) (x : Content × List ℕ) → ((if b then Some (record { gap = gap; column = column; dashes = m.0; mark = m.1; content = x.0 }, x.1) else None) >>= λ y. Some (sliced y)) ≡ (if b then Some (row_of gap column (begun m) (lent_content x)) else None)
     kept true x = ap Some (row_is gap column m x)
     kept false x = refl
 
-    go : (o : Option (Content × List ℕ)) → ((o >>= then_row) >>= λ x. Some (sliced x)) ≡ ((o >>= λ x. Some (filled x)) >>= λ f. if is_entry m.1 || f.alone then Some (row_of gap column (begun m) f) else None)
+    go : (o : Option (Content × List ℕ)) → ((o >>= then_row) >>= λ x. Some (sliced x)) ≡ ((o >>= λ x. Some (lent_content x)) >>= λ f. if is_entry m.1 || f.alone then Some (row_of gap column (begun m) f) else None)
     go (Some x) = kept (fits m.1 x.0) x
     go None = refl
 
-row_slicing : (limit : Limit) (gap t indent rest : List ℕ) → (indent, rest) ≡ cut no_space t → (allows limit (length indent) && not (eqb (length indent) 0 && is_marker rest)) ≡ true → row_sliced limit gap t ≡ marked_sliced gap (length indent) (begun (marks_at rest))
+row_slicing : (limit : Limit) (gap t indent rest : List ℕ) → (indent, rest) ≡ cut no_space t → (allows limit (length indent) && not (eqb (length indent) 0 && is_marker rest)) ≡ true → row_sliced limit gap t ≡ marked_sliced gap (length indent) (begun (read_marks rest))
 unfolding row_at
 row_slicing limit gap t indent rest e ok =
     rw (subst (λ (y : List ℕ × List ℕ). (allows limit (length y.0) && not (eqb (length y.0) 0 && is_marker y.1)) ≡ true) e ok)
-    (ap (λ (y : List ℕ × List ℕ). marked_row_at gap (length y.0) (marks_at y.1) >>= λ x. Some (sliced x)) (sym e) ∙ marked_slicing gap (length indent) (marks_at rest))
+    (ap (λ (y : List ℕ × List ℕ). marked_row_at gap (length y.0) (read_marks y.1) >>= λ x. Some (sliced x)) (sym e) ∙ marked_slicing gap (length indent) (read_marks rest))
 
 pub row_as : (limit : Limit) (gap t indent rest bytes : List ℕ) (stands : Bool) (b : Begun) (o : Option SlicedRow) → (indent, rest) ≡ cut no_space t → bytes ≡ rest → stands ≡ (allows limit (length indent) && not (eqb (length indent) 0 && is_marker bytes)) → stands ≡ true →
-    b ≡ begun (marks_at rest) → marked_sliced gap (length indent) b ≡ o → row_sliced limit gap t ≡ o
+    b ≡ begun (read_marks rest) → marked_sliced gap (length indent) b ≡ o → row_sliced limit gap t ≡ o
 row_as limit gap t indent rest bytes stands b o e same may is marks read =
     let ok = ap (λ (u : List ℕ). allows limit (length indent) && not (eqb (length indent) 0 && is_marker u)) (sym same) ∙ (sym may ∙ is) in
     row_slicing limit gap t indent rest e ok ∙ (ap (marked_sliced gap (length indent)) (sym marks) ∙ read)
@@ -169,26 +169,26 @@ guard_true : (o : Option (Part × List ℕ)) → (o >>= λ part. if true || no_r
 guard_true (Some x) = refl
 guard_true None = refl
 
-pub part_open : (t : List ℕ) → part_at true t ≡ all_rows unlimited t
-unfolding part_at
+pub part_open : (t : List ℕ) → read_cut_part true t ≡ all_rows unlimited t
+unfolding read_cut_part
 part_open t = guard_true (all_rows unlimited t)
 
 or_none : (started : Bool) (gap : List ℕ × List ℕ) → cond (started || true) (no_more gap) None ≡ no_more gap
 or_none true gap = refl
 or_none false gap = refl
 
-pub part_empty : (started : Bool) (t : List ℕ) → ends_part (cut_gap t).1 ≡ true → part_at started t ≡ all_rows unlimited t
-unfolding part_at
+pub part_empty : (started : Bool) (t : List ℕ) → ends_part (cut_gap t).1 ≡ true → read_cut_part started t ≡ all_rows unlimited t
+unfolding read_cut_part
 part_empty started t none =
     let read = rows_cut unlimited t ∙ rows_done unlimited (cut_gap t).0 (cut_gap t).1 none in
     rw read (or_none started (cut_gap t))
 
-pub part_same : (started : Bool) (t : List ℕ) → (started || ends_part (cut_gap t).1) ≡ true → part_at started t ≡ all_rows unlimited t
+pub part_same : (started : Bool) (t : List ℕ) → (started || ends_part (cut_gap t).1) ≡ true → read_cut_part started t ≡ all_rows unlimited t
 part_same true t h = part_open t
 part_same false t h = part_empty false t h
 
-pub part_refused : (t : List ℕ) → ends_part (cut_gap t).1 ≡ false → part_at false t ≡ None
-unfolding part_at rows_from
+pub part_refused : (t : List ℕ) → ends_part (cut_gap t).1 ≡ false → read_cut_part false t ≡ None
+unfolding read_cut_part rows_from
 part_refused t some = rw (rows_cut unlimited t, some) (rows (row_at unlimited (cut_gap t).0 (cut_gap t).1)) where
   more : (r : Row) (o : Option (Part × List ℕ)) → (with_front (r ∷ []) o >>= λ part. if false || no_rows part.0.rows then Some part else None) ≡ None
   more r (Some x) = refl
@@ -198,6 +198,6 @@ part_refused t some = rw (rows_cut unlimited t, some) (rows (row_at unlimited (c
   rows (Some row) = more row.0 (all_rows (limit_after row.0) row.1)
   rows None = refl
 
-pub part_shut : (started : Bool) (t : List ℕ) → (started || ends_part (cut_gap t).1) ≡ false → part_at started t ≡ None
+pub part_shut : (started : Bool) (t : List ℕ) → (started || ends_part (cut_gap t).1) ≡ false → read_cut_part started t ≡ None
 part_shut true t h = absurd (false≢true (sym h))
 part_shut false t h = part_refused t h

@@ -7,10 +7,10 @@ use Rattle.yq_flow_scalars.specs.Piece.{deeper}
 use Rattle.yq_flow_scalars.specs.Text.{is_empty}
 use Rattle.yq_nodes.specs.Inline.{depth_limit}
 use Rattle.yq_nodes.specs.Nodes.{scalar, node_text, begins_node}
-use Rattle.yq_nodes.specs.Reading.{scalar_at, content_at, node_at, all_node}
+use Rattle.yq_nodes.specs.Reading.{read_scalar, read_core, read_node, all_node}
 use Rattle.yq_nodes.specs.Scalars.{is_quoted, begins_scalar}
 use Rattle.yq_cut.specs.Slicing.{begins_other, inline_sliced}
-use Rattle.yq_cut.specs.Reading.{tail_at, inline_content_at}
+use Rattle.yq_cut.specs.Reading.{read_tail, inline_content_at}
 
 -- what begins here, by its first byte
 pub other_node : (t : List ℕ) → begins_other t ≡ true → begins_node false t ≡ true
@@ -43,20 +43,20 @@ pub no_node : (t : List ℕ) → begins_other t ≡ false → begins_scalar fals
 no_node [] h s = refl
 no_node (b ∷ bs) h s = let o = no_others b h in or_from _ _ o.anchor (or_from _ _ o.alias (or_from _ _ o.sequence (or_from _ _ o.mapping s)))
 
-node_scalar : (spaces : Option ℕ) (d : ℕ) (t : List ℕ) → begins_other t ≡ false → begins_scalar false t ≡ true → all_node false spaces d t ≡ (scalar_at false spaces t >>= λ x. Some (scalar x.0, x.1))
-unfolding node_at content_at
+node_scalar : (spaces : Option ℕ) (d : ℕ) (t : List ℕ) → begins_other t ≡ false → begins_scalar false t ≡ true → all_node false spaces d t ≡ (read_scalar false spaces t >>= λ x. Some (scalar x.0, x.1))
+unfolding read_node read_core
 node_scalar spaces d [] h s = absurd (false≢true s)
 node_scalar spaces d (b ∷ bs) h s = let o = no_others b h in rw s (rw (o.anchor, o.alias, o.sequence, o.mapping) refl)
 
-pub scalar_none : (n : ℤ) (space t : List ℕ) → begins_other t ≡ false → begins_scalar false t ≡ true → scalar_at false (Some (deeper n)) t ≡ None → inline_sliced n space t ≡ None
+pub scalar_none : (n : ℤ) (space t : List ℕ) → begins_other t ≡ false → begins_scalar false t ≡ true → read_scalar false (Some (deeper n)) t ≡ None → inline_sliced n space t ≡ None
 unfolding inline_content_at
 scalar_none n space t h s e = rw (node_scalar (Some (deeper n)) depth_limit t h s) (rw e refl)
 
-pub scalar_no_tail : (n : ℤ) (space t p behind : List ℕ) → begins_other t ≡ false → begins_scalar false t ≡ true → scalar_at false (Some (deeper n)) t ≡ Some (p, behind) → tail_at behind ≡ None → inline_sliced n space t ≡ None
+pub scalar_no_tail : (n : ℤ) (space t p behind : List ℕ) → begins_other t ≡ false → begins_scalar false t ≡ true → read_scalar false (Some (deeper n)) t ≡ Some (p, behind) → read_tail behind ≡ None → inline_sliced n space t ≡ None
 unfolding inline_content_at
 scalar_no_tail n space t p behind h s e f = rw (node_scalar (Some (deeper n)) depth_limit t h s) (rw e (rw f refl))
 
-pub scalar_some : (n : ℤ) (space t p behind tail rest : List ℕ) (plain alone : Bool) → begins_other t ≡ false → begins_scalar false t ≡ true → scalar_at false (Some (deeper n)) t ≡ Some (p, behind) → tail_at behind ≡ Some (tail, rest) →
+pub scalar_some : (n : ℤ) (space t p behind tail rest : List ℕ) (plain alone : Bool) → begins_other t ≡ false → begins_scalar false t ≡ true → read_scalar false (Some (deeper n)) t ≡ Some (p, behind) → read_tail behind ≡ Some (tail, rest) →
     plain ≡ not (is_quoted p) → alone ≡ (is_empty space && true) →
     inline_sliced n space t ≡ Some (record { space = space; anchor = []; apart = []; head = p; tail = tail; raw = []; plain = plain; alone = alone; rest = rest })
 unfolding inline_content_at node_text

@@ -9,7 +9,7 @@ use Rattle.yq_flow_scalars.specs.Text.{is_empty}
 use Rattle.yq_flow_scalars.specs.declared.fault.ReadError.{ReadError}
 use Rattle.yq_flow_scalars.proofs.Bools.{bind_some, chosen, guard_then}
 use Rattle.yq_cut.specs.Grammar.{begins_document, IsPart, IsMarkerLine, AreParts, IsCut}
-use Rattle.yq_cut.specs.Reading.{part_at, marker_at, parts_at, scan_at}
+use Rattle.yq_cut.specs.Reading.{read_cut_part, marker_at, parts_at, scan_at}
 use Rattle.yq_cut.specs.Rows.{Part, part_text, Cut, last, marked, cut_text}
 use Rattle.yq_cut.specs.View.{RowsView, rows_view}
 use Rattle.yq_cut.proofs.EmptyTexts.{empty_is}
@@ -34,7 +34,7 @@ pub parts_take : (n : ℕ) (started : Bool) (t : List ℕ) (c : Cut) → parts_a
 unfolding parts_at
 parts_take zero started t c h = cc
 parts_take (suc n) started t c h =
-    let part = bind_some (part_at started t) h in
+    let part = bind_some (read_cut_part started t) h in
     let p = part_takes started t part.0 part.1 in
     ⊎_elim {0, 0, 0}
     (λ (e : (is_empty part.0.1 ≡ true) × (Some (last part.0.0) ≡ Some c)). subst (PartsCut started t) (same_Some _ _ e.1) (parts_last_cut started t part.0 p e.0))

@@ -7,20 +7,20 @@ use Rattle.yq_flow_scalars.specs.Text.{upto, cut, front, line_len, is_empty, end
 use Rattle.yq_flow_scalars.specs.Plain.{begins_plain, ends_plain, plain_at}
 use Rattle.yq_flow_scalars.proofs.Bools.{at_byte}
 use Rattle.yq_block_scalars.proofs.SpaceLaws.{prefix_drop, white_drop}
-use Rattle.yq_nodes.specs.Nodes.{first_is}
-use Rattle.yq_nodes.specs.Reading.{scalar_at}
+use Rattle.yq_nodes.specs.Nodes.{begins_with}
+use Rattle.yq_nodes.specs.Reading.{read_scalar}
 use Rattle.yq_nodes.specs.Scalars.{is_quoted, begins_scalar}
 use Rattle.yq_cut.specs.Slicing.{begins_other}
-use Rattle.yq_cut.specs.Reading.{is_word, begins_gap, begins_block, tail_at}
+use Rattle.yq_cut.specs.Reading.{is_alphanumeric, begins_gap, begins_block, read_tail}
 
-isnt : (b k : ℕ) → is_word b ≡ true → is_word k ≡ false → eqb b k ≡ false
-isnt b k h there = at_byte is_word b k h there
+isnt : (b k : ℕ) → is_alphanumeric b ≡ true → is_alphanumeric k ≡ false → eqb b k ≡ false
+isnt b k h there = at_byte is_alphanumeric b k h there
 
-pub word_unquoted : (t : List ℕ) → front is_word t ≡ true → is_quoted t ≡ false
+pub word_unquoted : (t : List ℕ) → front is_alphanumeric t ≡ true → is_quoted t ≡ false
 word_unquoted [] h = refl
 word_unquoted (b ∷ bs) h = rw (isnt b 34 h refl, isnt b 39 h refl) refl
 
-pub word_plain : (t : List ℕ) → front is_word t ≡ true → begins_plain false t ≡ true
+pub word_plain : (t : List ℕ) → front is_alphanumeric t ≡ true → begins_plain false t ≡ true
 word_plain [] h = absurd (false≢true h)
 word_plain (b ∷ bs) h =
     rw (
@@ -49,37 +49,37 @@ word_plain (b ∷ bs) h =
       isnt b 96 h refl,
     ) refl
 
-pub word_scalar : (t : List ℕ) → front is_word t ≡ true → begins_scalar false t ≡ true
+pub word_scalar : (t : List ℕ) → front is_alphanumeric t ≡ true → begins_scalar false t ≡ true
 word_scalar t h = rw (word_unquoted t h) (word_plain t h)
 
-pub word_at : (spaces : Option ℕ) (t : List ℕ) → front is_word t ≡ true → scalar_at false spaces t ≡ Some (cut (ends_plain false spaces) t)
-unfolding scalar_at plain_at
+pub word_at : (spaces : Option ℕ) (t : List ℕ) → front is_alphanumeric t ≡ true → read_scalar false spaces t ≡ Some (cut (ends_plain false spaces) t)
+unfolding read_scalar plain_at
 word_at spaces t h = rw (word_unquoted t h) (rw (word_plain t h) refl)
 
-pub word_other : (t : List ℕ) → front is_word t ≡ true → begins_other t ≡ false
+pub word_other : (t : List ℕ) → front is_alphanumeric t ≡ true → begins_other t ≡ false
 word_other [] h = refl
 word_other (b ∷ bs) h = rw (isnt b 38 h refl, isnt b 42 h refl, isnt b 91 h refl, isnt b 123 h refl) refl
 
-pub word_block : (t : List ℕ) → front is_word t ≡ true → begins_block t ≡ false
+pub word_block : (t : List ℕ) → front is_alphanumeric t ≡ true → begins_block t ≡ false
 word_block [] h = absurd (false≢true h)
 word_block (b ∷ bs) h = rw (isnt b 38 h refl) (rw (isnt b 124 h refl, isnt b 62 h refl) refl)
 
-pub word_gap : (t : List ℕ) → front is_word t ≡ true → begins_gap t ≡ false
+pub word_gap : (t : List ℕ) → front is_alphanumeric t ≡ true → begins_gap t ≡ false
 unfolding upto
 word_gap [] h = refl
 word_gap (b ∷ bs) h = rw (isnt b 32 h refl, isnt b 9 h refl) (rw (isnt b 10 h refl, isnt b 13 h refl, isnt b 35 h refl) refl)
 
-pub dash_gap : (t : List ℕ) → first_is 45 t ≡ true → begins_gap t ≡ false
+pub dash_gap : (t : List ℕ) → begins_with 45 t ≡ true → begins_gap t ≡ false
 unfolding upto
 dash_gap [] h = refl
 dash_gap (b ∷ bs) h = rw (eqb-true b 45 h) refl
 
 -- a letter, a digit or a dash is in front (own)
 abbrev pub row_front : List ℕ → Bool
-row_front t = front is_word t || first_is 45 t
+row_front t = front is_alphanumeric t || begins_with 45 t
 
 pub row_gap : (t : List ℕ) → row_front t ≡ true → begins_gap t ≡ false
-row_gap t h = elim (or_cases (front is_word t) (first_is 45 t) h) [ inl w ↦ word_gap t w | inr d ↦ dash_gap t d ]
+row_gap t h = elim (or_cases (front is_alphanumeric t) (begins_with 45 t) h) [ inl w ↦ word_gap t w | inr d ↦ dash_gap t d ]
 
 -- past the spaces in front, and past the white space behind them
 past_behind : (t : List ℕ) → past_white (drop (prefix_len (λ b. eqb b 32) t) t) ≡ past_white t
@@ -100,7 +100,7 @@ pub indented_gap : (t u : List ℕ) (n : ℕ) → n ≡ prefix_len (λ b. eqb b 
 indented_gap t u n e back h =
     ap (λ w. not (is_empty t) && (ends_line w || is_hash w)) (behind_spaces t u n e back) ∙ and_right (not (is_empty t)) (ends_line (past_white u) || is_hash (past_white u)) (row_past u h)
 
-pub feed_tail : (t : List ℕ) → first_is 10 t ≡ true → tail_at t ≡ Some (take 1 t, drop 1 t)
-unfolding tail_at upto line_len
+pub feed_tail : (t : List ℕ) → begins_with 10 t ≡ true → read_tail t ≡ Some (take 1 t, drop 1 t)
+unfolding read_tail upto line_len
 feed_tail [] h = absurd (false≢true h)
 feed_tail (b ∷ bs) h = rw (eqb-true b 10 h) refl

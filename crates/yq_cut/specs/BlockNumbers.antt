@@ -4,11 +4,11 @@ use Rattle.std.specs.Option.{option_map}
 use Rattle.yq_block_scalars.specs.Block.{keeps}
 use Rattle.yq_block_scalars.specs.BlockReading.{indent_at, indicators_at}
 use Rattle.yq_flow_scalars.specs.Piece.{deeper}
-use Rattle.yq_flow_scalars.specs.Text.{lines_of}
+use Rattle.yq_flow_scalars.specs.Text.{text_lines}
 
 -- how far raw lines behind this indentation indicator are indented, at least so far (own)
 abbrev pub columns_at : ℕ → Option ℕ → List ℕ → Option ℕ
-columns_at least digit raw = option_map (λ f. f.columns) (indent_at least digit (lines_of raw))
+columns_at least digit raw = option_map (λ f. f.columns) (indent_at least digit (text_lines raw))
 
 -- whether the block scalar of this header and these raw lines, below a parent of this indentation, keeps the empty lines at its end, and how far its
 -- text is indented; nothing where the header is none (own)

@@ -8,11 +8,11 @@ use Rattle.yq_text.specs.Limit.{text_limit}
 use Rattle.yq_flow_scalars.specs.Piece.{deeper}
 use Rattle.yq_flow_scalars.specs.Text.{is_empty, separates, front, is_marker}
 use Rattle.yq_nodes.specs.Inline.{IsInline}
-use Rattle.yq_nodes.specs.Nodes.{Node, empty, alias, scalar, coll, anchored, is_bare, IsName}
+use Rattle.yq_nodes.specs.Nodes.{FlowNode, empty, alias, scalar, coll, anchored, is_empty_node, IsName}
 use Rattle.yq_nodes.specs.Scalars.{IsScalarAt, is_quoted}
 use Rattle.yq_cut.specs.Gap.{IsWhite, IsLineEnd, IsGap}
 use Rattle.yq_cut.specs.Rows as rows
-use Rattle.yq_cut.specs.Rows.{Mark, Bare, Dash, Key, Anchor, Content, Nothing, Inline, content_text, Row, behind_indent, behind_gap, parent_indent, rows_text, Part, Cut, last, marked, cut_text}
+use Rattle.yq_cut.specs.Rows.{RowMark, Bare, Dash, Key, Anchor, Content, Nothing, Inline, content_text, Row, behind_indent, behind_gap, parent_indent, rows_text, Part, Cut, last, marked, cut_text}
 
 -- white space and the `:` of a key, before white space, a break or the end (YAML 1.2.2, section 8.2.2)
 pub record IsColon (p rest : List ℕ) : Type 0 where
@@ -51,12 +51,12 @@ IsContent n (Inline space node tail) rest = IsWhite space × IsInline Block n 0 
 IsContent n (rows.Block space anchor block) rest = IsWhite space × IsAnchor anchor (block_text block rest) × IsBlock (deeper n) block rest
 
 -- more than an anchor (own)
-abbrev pub is_more : Node → Bool
+abbrev pub is_more : FlowNode → Bool
 is_more empty = false
 is_more (alias name) = true
 is_more (scalar p) = true
 is_more (coll close gap items) = true
-is_more (anchored name gap node) = not (is_bare node)
+is_more (anchored name gap node) = not (is_empty_node node)
 
 -- an inline node may stand on a line of its own, where it is more than an anchor; nothing else may (own)
 abbrev pub may_be_alone : Content → Bool
@@ -66,19 +66,19 @@ may_be_alone (rows.Block space anchor block) = false
 
 -- A mark before what stands behind it and a rest: a node on a line of its own; a dash before white space, a break or the end; or a key (YAML 1.2.2,
 -- sections 8.2.1 and 8.2.2).
-abbrev pub IsMark : Mark → Content → List ℕ → Type 0
+abbrev pub IsMark : RowMark → Content → List ℕ → Type 0
 IsMark Bare content rest = may_be_alone content ≡ true
 IsMark Dash content rest = separates (content_text content rest) ≡ true
 IsMark (Key key colon) content rest = IsKey key colon (content_text content rest)
 
 -- a dash or a key (own)
-abbrev pub is_entry : Mark → Bool
+abbrev pub is_entry : RowMark → Bool
 is_entry Bare = false
 is_entry Dash = true
 is_entry (Key key colon) = true
 
 -- Dashes before a mark: behind each stand spaces, and behind the last a dash or a key (YAML 1.2.2, section 8.2.1).
-abbrev pub AreDashes : List ℕ → Mark → Type 0
+abbrev pub AreDashes : List ℕ → RowMark → Type 0
 AreDashes [] mark = Unit {0}
 AreDashes (n ∷ ns) mark = (1 ≤ n) × (is_entry mark ≡ true) × AreDashes ns mark
 
@@ -100,17 +100,17 @@ abbrev pub allows : Limit → ℕ → Bool
 allows limit column = is_within limit.column column
 
 -- a plain scalar, perhaps behind an anchor (YAML 1.2.2, section 7.3.3)
-abbrev pub is_plain : Node → Bool
-is_plain empty = false
-is_plain (alias name) = false
-is_plain (scalar p) = not (is_quoted p)
-is_plain (coll close gap items) = false
-is_plain (anchored name gap node) = is_plain node
+abbrev pub is_plain_content : FlowNode → Bool
+is_plain_content empty = false
+is_plain_content (alias name) = false
+is_plain_content (scalar p) = not (is_quoted p)
+is_plain_content (coll close gap items) = false
+is_plain_content (anchored name gap node) = is_plain_content node
 
 -- behind a plain scalar the next row is indented by no more than the scalar's parent (YAML 1.2.2, section 7.3.3; own)
 abbrev pub limit_behind : ℤ → Content → Limit
 limit_behind n (Nothing tail) = unlimited
-limit_behind n (Inline space node tail) = if is_plain node then record { column = Some (deeper n) } else unlimited
+limit_behind n (Inline space node tail) = if is_plain_content node then record { column = Some (deeper n) } else unlimited
 limit_behind n (rows.Block space anchor block) = unlimited
 
 -- what a row asks of the next one (own)

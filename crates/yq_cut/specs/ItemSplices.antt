@@ -1,6 +1,6 @@
 -- Splices of a cut, by its items: which of them stay, and which give way.
 use Rattle.std.specs.Prelude.{◌≡◌, ℕ, zero, suc, List, [], ◌∷◌, ◌++◌, take}
-use Rattle.yq_cut.specs.Items.{Item, row_item, end_item, rows_items, items_of}
+use Rattle.yq_cut.specs.Items.{Item, row_item, end_item, rows_items, items_of_cut}
 use Rattle.yq_cut.specs.Rows.{Row, Cut, last, marked}
 use Rattle.yq_cut.specs.Splices.{with_row_gap, splice, nth_part, rows_between, back_rows}
 
@@ -30,5 +30,5 @@ regapped gap (r ∷ rs) marker = row_item (with_row_gap gap r)
 -- them, whose gap that is, give way, and all others stay (own).
 pub record SplicedItems (k i j : ℕ) (new : List Row) (gap : List ℕ) (c : Cut) : Type 0 where
   pub back : List Item
-  pub old : items_of c ≡ items_before k i c ++ (rows_items (rows_between k i j c) (first_item (back_rows k j c) (nth_part k c).end (marker_behind k c) ∷ []) ++ back)
-  pub new_items : items_of (splice k i j new gap c) ≡ items_before k i c ++ (rows_items new (regapped gap (back_rows k j c) (marker_behind k c) ∷ []) ++ back)
+  pub old : items_of_cut c ≡ items_before k i c ++ (rows_items (rows_between k i j c) (first_item (back_rows k j c) (nth_part k c).end (marker_behind k c) ∷ []) ++ back)
+  pub new_items : items_of_cut (splice k i j new gap c) ≡ items_before k i c ++ (rows_items new (regapped gap (back_rows k j c) (marker_behind k c) ∷ []) ++ back)

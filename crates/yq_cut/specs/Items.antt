@@ -17,9 +17,9 @@ rows_items [] xs = xs
 rows_items (r ∷ rs) xs = row_item r ∷ rows_items rs xs
 
 -- the rows and ends of a cut in order; the last one is the end of the last part (own)
-abbrev pub items_of : Cut → List Item
-items_of (last p) = rows_items p.rows (end_item p.end [] ∷ [])
-items_of (marked p marker c) = rows_items p.rows (end_item p.end marker ∷ items_of c)
+abbrev pub items_of_cut : Cut → List Item
+items_of_cut (last p) = rows_items p.rows (end_item p.end [] ∷ [])
+items_of_cut (marked p marker c) = rows_items p.rows (end_item p.end marker ∷ items_of_cut c)
 
 -- the text of items, before a rest (own)
 abbrev pub items_text : List Item → List ℕ → List ℕ

@@ -5,7 +5,7 @@ use Rattle.yq_flow_scalars.specs.Answers.{◌>>=◌}
 use Rattle.std.specs.Str.{IsUtf8}
 use Rattle.yq_text.specs.declared.halves.Halves.{Halves}
 use Rattle.yq_cut.specs.Ends.{bounds_in_halves, end_at}
-use Rattle.yq_cut.specs.Items.{Item, row_item, end_item, items_of, items_text, rows_items, view_of_items}
+use Rattle.yq_cut.specs.Items.{Item, row_item, end_item, items_of_cut, items_text, rows_items, view_of_items}
 use Rattle.yq_cut.specs.Offsets.{AreTexts, offsets_of, pieces_of, rows_in}
 use Rattle.yq_cut.specs.Rows.{print_row, Part, Cut}
 use Rattle.yq_cut.specs.View.{slices, RowsView, Slices}
@@ -31,11 +31,11 @@ rows_placed offsets n read = read >>= λ x. Some (offsets ++ near n (rows_items 
 
 -- the same of all parts (own)
 abbrev pub parts_placed : List declared.Offsets → ℕ → Option Cut → Option (List declared.Offsets)
-parts_placed offsets n read = read >>= λ c. Some (offsets ++ near n (items_of c))
+parts_placed offsets n read = read >>= λ c. Some (offsets ++ near n (items_of_cut c))
 
 -- the ends of all parts, behind others (own)
 abbrev pub ends_placed : List EndPlace → ℕ → ℕ → Option Cut → Option (List EndPlace)
-ends_placed ends n k read = read >>= λ c. Some (ends ++ ends_near n k (items_of c))
+ends_placed ends n k read = read >>= λ c. Some (ends ++ ends_near n k (items_of_cut c))
 
 -- the pieces of items are characters (own)
 abbrev pub TextsIn : List Item → Type 0
@@ -50,16 +50,16 @@ far (row_item r ∷ xs) = offsets_of (length (items_text (row_item r ∷ xs) [])
 far (end_item gap marker ∷ xs) = far xs
 
 -- the place of a row in a text of so many bytes, measured from the other end (own)
-abbrev pub turned : ℕ → declared.Offsets → declared.Offsets
-turned n o = record o { start = n - o.start }
+abbrev pub row_from_end : ℕ → declared.Offsets → declared.Offsets
+row_from_end n o = record o { start = n - o.start }
 
 -- the place of a row before which so many bytes more stand (own)
 abbrev pub raised : ℕ → declared.Offsets → declared.Offsets
 raised n o = record o { start = o.start + n }
 
 -- the end of a part before which so many rows and so many bytes stand, by the lengths of another one (own)
-abbrev pub moved : ℕ → ℕ → EndPlace → EndPlace
-moved rows start e = record e { rows = rows; start = start }
+abbrev pub moved_end : ℕ → ℕ → EndPlace → EndPlace
+moved_end rows start e = record e { rows = rows; start = start }
 
 -- the rows in front of the split and those behind it, as they are kept (own)
 abbrev pub kept_rows : Places → List declared.Offsets
@@ -67,7 +67,7 @@ kept_rows p = p.front.items ++ reverse p.behind.items
 
 -- the same by their places in a text of so many bytes (own)
 abbrev pub placed_rows : ℕ → Places → List declared.Offsets
-placed_rows n p = p.front.items ++ map (turned n) (reverse p.behind.items)
+placed_rows n p = p.front.items ++ map (row_from_end n) (reverse p.behind.items)
 
 -- Rows and ends of parts are kept where those of items in front of the split and behind it stand, one behind the other, whose pieces are characters (own).
 pub record ArePlaced (p : Places) (before behind : List Item) : Type 0 where

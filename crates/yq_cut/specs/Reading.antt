@@ -10,14 +10,14 @@ use Rattle.yq_flow_scalars.specs.Piece.{deeper}
 use Rattle.yq_flow_scalars.specs.Text.{cut, upto, front, is_empty, unless, no_space, no_white, past_white, ends_line, separates, is_marker, line_len, cut_line}
 use Rattle.yq_flow_scalars.specs.Lines.{is_hash}
 use Rattle.yq_nodes.specs.Inline.{depth_limit}
-use Rattle.yq_nodes.specs.Nodes.{first_is, in_name, begins_node}
-use Rattle.yq_nodes.specs.Reading.{scalar_at, name_at, all_node}
+use Rattle.yq_nodes.specs.Nodes.{begins_with, in_name, begins_node}
+use Rattle.yq_nodes.specs.Reading.{read_scalar, name_at, all_node}
 use Rattle.yq_cut.specs.Grammar.{is_entry, may_be_alone, Limit, unlimited, allows, limit_after, key_limit, no_rows, begins_document, ends_part}
-use Rattle.yq_cut.specs.Rows.{Mark, Bare, Dash, Key, Anchor, Content, Nothing, Inline, Block, Row, behind_columns, parent_of, Part, Cut, last, marked}
+use Rattle.yq_cut.specs.Rows.{RowMark, Bare, Dash, Key, Anchor, Content, Nothing, Inline, Block, Row, behind_columns, parent_of, Part, Cut, last, marked}
 
 -- a letter or a digit, as ASCII has them (own)
-abbrev pub is_word : ℕ → Bool
-is_word b = (nat_le 97 b && nat_le b 122) || (nat_le 65 b && nat_le b 90) || (nat_le 48 b && nat_le b 57)
+abbrev pub is_alphanumeric : ℕ → Bool
+is_alphanumeric b = (nat_le 97 b && nat_le b 122) || (nat_le 65 b && nat_le b 90) || (nat_le 48 b && nat_le b 57)
 
 -- a blank line or a comment line in front (own)
 abbrev pub begins_gap : List ℕ → Bool
@@ -42,21 +42,21 @@ is_colon [] = false
 is_colon (b ∷ bs) = b == 58 && separates bs
 
 -- white space and the `:` of a key, and what follows (own)
-unfoldable pub colon_at : List ℕ → Option (List ℕ × List ℕ)
-colon_at t =
+unfoldable pub read_colon : List ℕ → Option (List ℕ × List ℕ)
+read_colon t =
     let n = upto no_white t in
     if is_colon (drop n t) then Some (take (suc n) t, drop (suc n) t) else None
 
 -- a key, what stands behind it up to its `:`, and what follows (own)
-unfoldable pub key_at : List ℕ → Option (List ℕ × List ℕ × List ℕ)
-key_at t = do
-  key ← scalar_at false None t
-  colon ← colon_at key.1
+unfoldable pub read_row_key : List ℕ → Option (List ℕ × List ℕ × List ℕ)
+read_row_key t = do
+  key ← read_scalar false None t
+  colon ← read_colon key.1
   if nat_le (length (chars key.0) + length (chars colon.0)) (key_limit + 1) then Some (key.0, colon.0, colon.1) else None
 
 -- a `:` stands in front of the end of the line (own)
 abbrev pub holds_colon : List ℕ → Bool
-holds_colon t = first_is 58 (drop (prefix_len (λ b. not (b == 58) && not (b == 10)) t) t)
+holds_colon t = begins_with 58 (drop (prefix_len (λ b. not (b == 58) && not (b == 10)) t) t)
 
 -- a dash in front: `-` before white space, a break or the end (YAML 1.2.2, section 8.2.1)
 abbrev pub is_dash : List ℕ → Bool
@@ -70,27 +70,27 @@ is_some (Some a) = true
 
 -- a dash or a key in front (own)
 abbrev pub begins_entry : List ℕ → Bool
-begins_entry t = is_dash t || is_some (key_at t)
+begins_entry t = is_dash t || is_some (read_row_key t)
 
 -- the mark of a key that was read, or none, and what follows (own)
-abbrev pub key_mark : List ℕ → Option (List ℕ × List ℕ × List ℕ) → Mark × List ℕ
+abbrev pub key_mark : List ℕ → Option (List ℕ × List ℕ × List ℕ) → RowMark × List ℕ
 key_mark t None = (Bare, t)
 key_mark t (Some k) = (Key k.0 k.1, k.2)
 
 -- the mark in front that is no dash, and what follows (own)
-abbrev pub mark_at : List ℕ → Mark × List ℕ
-mark_at t = key_mark t (key_at t)
+abbrev pub mark_at : List ℕ → RowMark × List ℕ
+mark_at t = key_mark t (read_row_key t)
 
 -- dashes, the mark behind them, and what follows (own)
 abbrev pub Marks : Type 0
-Marks = List ℕ × Mark × List ℕ
+Marks = List ℕ × RowMark × List ℕ
 
 -- one more dash in front, before so many spaces (own)
 abbrev pub with_dash : ℕ → Marks → Marks
 with_dash n m = (n ∷ m.0, m.1, m.2)
 
 -- no dashes, and a mark (own)
-abbrev pub undashed : Mark × List ℕ → Marks
+abbrev pub undashed : RowMark × List ℕ → Marks
 undashed m = ([], m.0, m.1)
 
 -- the dashes in front, at most n of them, the mark behind them, and what follows (own)
@@ -103,18 +103,18 @@ dashes_at (suc n) t =
     else undashed (mark_at t)
 
 -- all dashes in front, the mark behind them, and what follows (own)
-abbrev pub marks_at : List ℕ → Marks
-marks_at t = dashes_at (length t) t
+abbrev pub read_marks : List ℕ → Marks
+read_marks t = dashes_at (length t) t
 
 -- a tail, and what follows (own)
-unfoldable pub tail_at : List ℕ → Option (List ℕ × List ℕ)
-tail_at t =
+unfoldable pub read_tail : List ℕ → Option (List ℕ × List ℕ)
+read_tail t =
     let c = cut no_white t in
     if ends_line c.1 || (not (is_empty c.0) && is_hash c.1) then Some (cut_line t) else None
 
 -- what follows an anchor and white space, if one is in front (own)
 abbrev pub past_anchor : List ℕ → List ℕ
-past_anchor t = if first_is 38 t then past_white (drop (upto (unless in_name) (drop 1 t)) (drop 1 t)) else t
+past_anchor t = if begins_with 38 t then past_white (drop (upto (unless in_name) (drop 1 t)) (drop 1 t)) else t
 
 -- a block scalar begins here, perhaps behind an anchor (YAML 1.2.2, section 8.1)
 abbrev pub begins_block : List ℕ → Bool
@@ -123,7 +123,7 @@ begins_block t = front (λ b. b == 124 || b == 62) (past_anchor t)
 -- the anchor before a block scalar, if there is one, and what follows (own)
 unfoldable pub anchor_at : List ℕ → Option (Option Anchor × List ℕ)
 anchor_at t =
-    if first_is 38 t then (do
+    if begins_with 38 t then (do
       name ← name_at (drop 1 t)
       Some (Some (record { name = name.0; gap = (cut no_white name.1).0 }), (cut no_white name.1).1))
     else Some (None, t)
@@ -139,25 +139,25 @@ block_content_at n space t = do
 unfoldable pub inline_content_at : ℤ → List ℕ → List ℕ → Option (Content × List ℕ)
 inline_content_at n space t = do
   node ← all_node false (Some (deeper n)) depth_limit t
-  tail ← tail_at node.1
+  tail ← read_tail node.1
   Some (Inline space node.0 tail.0, tail.1)
 
 -- what stands behind a mark, below a parent of this indentation, and what follows (own)
-unfoldable pub content_at : ℤ → List ℕ → Option (Content × List ℕ)
-content_at n t =
+unfoldable pub read_content : ℤ → List ℕ → Option (Content × List ℕ)
+read_content n t =
     let c = cut no_white t in
     if begins_block c.1 then block_content_at n c.0 c.1
     else (if begins_node false c.1 then inline_content_at n c.0 c.1
-    else (tail_at t >>= λ x. Some (Nothing x.0, x.1)))
+    else (read_tail t >>= λ x. Some (Nothing x.0, x.1)))
 
 -- a mark may stand before what was read behind it (own)
-abbrev pub fits : Mark → Content → Bool
+abbrev pub fits : RowMark → Content → Bool
 fits mark content = is_entry mark || may_be_alone content
 
 -- a row behind its gap and indentation, whose marks were read, and what follows (own)
 unfoldable pub marked_row_at : List ℕ → ℕ → Marks → Option (Row × List ℕ)
 marked_row_at gap column m = do
-  content ← content_at (parent_of m.1 (behind_columns column m.0)) m.2
+  content ← read_content (parent_of m.1 (behind_columns column m.0)) m.2
   if fits m.1 content.0 then Some (record { gap = gap; column = column; dashes = m.0; mark = m.1; content = content.0 }, content.1) else None
 
 -- a row behind its gap, and what follows (own)
@@ -165,7 +165,7 @@ unfoldable pub row_at : Limit → List ℕ → List ℕ → Option (Row × List 
 row_at limit gap t =
     let indent = cut no_space t in
     let column = length indent.0 in
-    if allows limit column && not (column == 0 && is_marker indent.1) then marked_row_at gap column (marks_at indent.1) else None
+    if allows limit column && not (column == 0 && is_marker indent.1) then marked_row_at gap column (read_marks indent.1) else None
 
 -- rows before those of a part (own)
 abbrev pub with_rows : List Row → Part × List ℕ → Part × List ℕ
@@ -186,20 +186,20 @@ abbrev pub all_rows : Limit → List ℕ → Option (Part × List ℕ)
 all_rows limit t = rows_at (suc (length t)) limit t
 
 -- a part in which a document is open or there are no rows, and what follows (own)
-unfoldable pub part_at : Bool → List ℕ → Option (Part × List ℕ)
-part_at started t = do
+unfoldable pub read_cut_part : Bool → List ℕ → Option (Part × List ℕ)
+read_cut_part started t = do
   part ← all_rows unlimited t
   if started || no_rows part.0.rows then Some part else None
 
 -- the line of a marker in front, and what follows (own)
 unfoldable pub marker_at : List ℕ → Option (List ℕ × List ℕ)
-marker_at t = tail_at (drop 3 t) >>= λ x. Some (take 3 t ++ x.0, x.1)
+marker_at t = read_tail (drop 3 t) >>= λ x. Some (take 3 t ++ x.0, x.1)
 
 -- the parts of a text, at most n of them (own)
 unfoldable pub parts_at : ℕ → Bool → List ℕ → Option Cut
 parts_at zero started t = None
 parts_at (suc n) started t = do
-  part ← part_at started t
+  part ← read_cut_part started t
   if is_empty part.1 then Some (last part.0) else (do
     marker ← marker_at part.1
     parts ← parts_at n (begins_document marker.0) marker.1

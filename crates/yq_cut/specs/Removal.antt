@@ -3,7 +3,7 @@ use Rattle.std.specs.Prelude.{◌≡◌, ℕ, Bool, true, false, ◌||◌, not, 
 use Rattle.yq_block_scalars.specs.Block.{BlockText, keeps}
 use Rattle.yq_block_scalars.specs.BlockRepair.{repair}
 use Rattle.yq_flow_scalars.specs.Lines.{is_blank}
-use Rattle.yq_flow_scalars.specs.Text.{joined, lines_of}
+use Rattle.yq_flow_scalars.specs.Text.{joined, text_lines}
 use Rattle.yq_cut.specs.Exchange.{allows_first}
 use Rattle.yq_cut.specs.Grammar.{no_rows}
 use Rattle.yq_cut.specs.Rows.{Content, Nothing, Inline, Block, Row, Part, Cut}
@@ -34,7 +34,7 @@ hold_comment (l ∷ ls) = not (is_blank l) || hold_comment ls
 abbrev pub seam_gap : Option BlockText → (column : ℕ) → (kept next : List ℕ) → List ℕ
 seam_gap None column kept next = kept ++ next
 seam_gap (Some b) column kept next =
-    if hold_comment (lines_of kept) then kept ++ next else kept ++ joined (repair (keeps b.chomping) b.indent.columns column (lines_of next))
+    if hold_comment (text_lines kept) then kept ++ next else kept ++ joined (repair (keeps b.chomping) b.indent.columns column (text_lines next))
 
 -- the column of the next row, or 0 where a part ends (own)
 abbrev pub next_column : List Row → ℕ
@@ -58,6 +58,6 @@ without_rows k i j kept c = splice k i j [] (removed_gap i j kept (nth_part k c)
 -- stands before the column of a block scalar's text (own).
 pub record RepairFits (k i j : ℕ) (kept run : List (List ℕ)) (c : Cut) : Type 0 where
   pub some : no_rows (back_rows k i c) ≡ false
-  pub lines : lines_of (gap_before k i c) ≡ kept ++ run
+  pub lines : text_lines (gap_before k i c) ≡ kept ++ run
   pub next : allows_first (asked_at k i c) (back_rows k j c) ≡ true
   pub less : StandsLess (last_block (front_rows k i c)) (next_column (back_rows k j c))

@@ -1,14 +1,14 @@
 -- The pieces of a row, the parts of a text, and what they spell.
 use Rattle.std.specs.Prelude.{ℕ, zero, suc, ◌+◌, ℤ, pos, negsuc, List, [], ◌∷◌, ◌++◌, replicate, Option, Some, None}
 use Rattle.yq_block_scalars.specs.Block.{BlockText, block_text}
-use Rattle.yq_nodes.specs.Nodes.{Node, node_text}
+use Rattle.yq_nodes.specs.Nodes.{FlowNode, node_text}
 
 -- what a row begins with behind the dashes before it: the content itself, a dash, or a key with the white space and `:` behind it (YAML 1.2.2,
 -- sections 8.2.1 and 8.2.2)
-pub data Mark : Type 0 where
-  Bare : Mark
-  Dash : Mark
-  Key : (key colon : List ℕ) → Mark
+pub data RowMark : Type 0 where
+  Bare : RowMark
+  Dash : RowMark
+  Key : (key colon : List ℕ) → RowMark
 
 -- An anchor before a block scalar, by its name and the white space behind it (YAML 1.2.2, section 6.9.2).
 pub record Anchor : Type 0 where
@@ -19,7 +19,7 @@ pub record Anchor : Type 0 where
 -- sections 7 and 8.1)
 pub data Content : Type 0 where
   Nothing : (tail : List ℕ) → Content
-  Inline : (space : List ℕ) → Node → (tail : List ℕ) → Content
+  Inline : (space : List ℕ) → FlowNode → (tail : List ℕ) → Content
   Block : (space : List ℕ) → Option Anchor → BlockText → Content
 
 -- A row, by its pieces in order: its gap, how many spaces stand behind that, the dashes before its mark, each by how many spaces stand behind it,
@@ -28,7 +28,7 @@ pub record Row : Type 0 where
   pub gap : List ℕ
   pub column : ℕ
   pub dashes : List ℕ
-  pub mark : Mark
+  pub mark : RowMark
   pub content : Content
 
 -- the text of dashes, before a rest (YAML 1.2.2, section 8.2.1)
@@ -37,7 +37,7 @@ dashes_text [] rest = rest
 dashes_text (n ∷ ns) rest = 45 ∷ (replicate n 32 ++ dashes_text ns rest)
 
 -- the text of a mark, before a rest (YAML 1.2.2, sections 8.2.1 and 8.2.2)
-abbrev pub mark_text : Mark → List ℕ → List ℕ
+abbrev pub mark_text : RowMark → List ℕ → List ℕ
 mark_text Bare rest = rest
 mark_text Dash rest = 45 ∷ rest
 mark_text (Key key colon) rest = key ++ (colon ++ rest)
@@ -89,7 +89,7 @@ before_column zero = negsuc 0
 before_column (suc n) = pos n
 
 -- the parent indentation of what stands behind a mark in a column: that column, or, without a key or dash, one less (YAML 1.2.2, section 6.1; own)
-abbrev pub parent_of : Mark → ℕ → ℤ
+abbrev pub parent_of : RowMark → ℕ → ℤ
 parent_of Bare column = before_column column
 parent_of Dash column = pos column
 parent_of (Key key colon) column = pos column

@@ -3,10 +3,10 @@ use Rattle.std.specs.Prelude.{◌≡◌, ℕ, ℤ, Bool, true, false, ◌||◌, 
 use Rattle.yq_block_scalars.specs.Block.{ends_block, keeps}
 use Rattle.yq_flow_scalars.specs.Piece.{deeper}
 use Rattle.yq_flow_scalars.specs.Plain.{ends_plain}
-use Rattle.yq_flow_scalars.specs.Text.{is_empty, is_line, lines_of}
+use Rattle.yq_flow_scalars.specs.Text.{is_empty, is_line, text_lines}
 use Rattle.yq_nodes.specs.Alike.{Alike}
 use Rattle.yq_cut.specs.Exchange.{asked_behind, with_content}
-use Rattle.yq_cut.specs.Grammar.{IsTail, is_plain, IsRow, Limit, AreRows, no_rows, ends_part}
+use Rattle.yq_cut.specs.Grammar.{IsTail, is_plain_content, IsRow, Limit, AreRows, no_rows, ends_part}
 use Rattle.yq_cut.specs.Rows.{Content, Nothing, Inline, Block, Row, print_row, rows_text}
 
 -- a tail has a break, or nothing is behind it (YAML 1.2.2, section 6.6)
@@ -18,7 +18,7 @@ is_closed tail rest = is_line tail || is_empty rest
 abbrev pub is_seam : Content → List ℕ → Bool
 is_seam (Nothing tail) rest = is_closed tail rest
 is_seam (Inline space node tail) rest = is_closed tail rest
-is_seam (Block space anchor block) rest = ends_block (keeps block.chomping) block.indent (lines_of rest)
+is_seam (Block space anchor block) rest = ends_block (keeps block.chomping) block.indent (text_lines rest)
 
 -- what the last of these rows asks of the text behind it (own)
 abbrev pub are_seamed : List Row → List ℕ → Bool
@@ -57,8 +57,8 @@ retail new r = with_content (with_tail new r.content) r
 -- scalar stands what ends it (own).
 abbrev pub TailFits : ℤ → List ℕ → Content → List ℕ → Type 0
 TailFits n new (Nothing tail) rest = IsTail new rest
-TailFits n new (Inline space node tail) rest = IsTail new rest × (is_plain node ≡ true → ends_plain false (Some (deeper n)) (new ++ rest) ≡ true)
-TailFits n new (Block space anchor block) rest = ends_block (keeps block.chomping) block.indent (lines_of rest) ≡ true
+TailFits n new (Inline space node tail) rest = IsTail new rest × (is_plain_content node ≡ true → ends_plain false (Some (deeper n)) (new ++ rest) ≡ true)
+TailFits n new (Block space anchor block) rest = ends_block (keeps block.chomping) block.indent (text_lines rest) ≡ true
 
 -- a content is a block scalar (YAML 1.2.2, section 8.1)
 abbrev pub is_block : Content → Bool

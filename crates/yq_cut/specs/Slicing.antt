@@ -5,19 +5,19 @@ use Rattle.yq_flow_scalars.specs.Piece.{deeper}
 use Rattle.yq_flow_scalars.specs.Text.{upto, cut, front, unless, no_white}
 use Rattle.yq_flow_scalars.specs.declared.style.Style.{Style}
 use Rattle.yq_flow_scalars.specs.declared.style.Style.TheVariants as styles
-use Rattle.yq_nodes.specs.Nodes.{first_is, in_name}
+use Rattle.yq_nodes.specs.Nodes.{begins_with, in_name}
 use Rattle.yq_nodes.specs.Places.{Placed, placed, nothing, name, text, sequence, mapping, bare_in}
-use Rattle.yq_nodes.specs.Places.{Content as Placement}
-use Rattle.yq_cut.specs.Grammar.{Limit, unlimited, limit_after, is_entry, is_plain, may_be_alone}
-use Rattle.yq_cut.specs.Reading.{Marks, block_content_at, inline_content_at, content_at, row_at}
-use Rattle.yq_cut.specs.Rows.{Mark, Content, Nothing, Inline, Block, Row, dashes_text, behind_columns, parent_of, Part, Cut}
-use Rattle.yq_cut.specs.View.{Slices, Bound, RowsView, last_dash, key_of, colon_of, content_cut, slices, rows_of, bounds_from, rows_view}
+use Rattle.yq_nodes.specs.Places.{CoreNode as Placement}
+use Rattle.yq_cut.specs.Grammar.{Limit, unlimited, limit_after, is_entry, is_plain_content, may_be_alone}
+use Rattle.yq_cut.specs.Reading.{Marks, block_content_at, inline_content_at, read_content, row_at}
+use Rattle.yq_cut.specs.Rows.{RowMark, Content, Nothing, Inline, Block, Row, dashes_text, behind_columns, parent_of, Part, Cut}
+use Rattle.yq_cut.specs.View.{Slices, Bound, RowsView, last_dash, key_of_mark, colon_of, content_cut, slices, rows_of, bounds_from, rows_view}
 
 -- The dashes in front with a last one that is the mark, how many columns stand before the mark, the mark, and what follows (own).
 pub record Begun : Type 0 where
   pub dashes : List ℕ
   pub columns : ℕ
-  pub mark : Mark
+  pub mark : RowMark
   pub rest : List ℕ
 
 -- dashes and the mark that were read, as the code lends them (own)
@@ -25,8 +25,8 @@ abbrev pub begun : Marks → Begun
 begun m = record { dashes = dashes_text m.0 (last_dash m.1); columns = behind_columns 0 m.0; mark = m.1; rest = m.2 }
 
 -- dashes before those that are read (own)
-abbrev pub behind_front : List ℕ → Begun → Begun
-behind_front p b = record { dashes = p ++ b.dashes; columns = length p + b.columns; mark = b.mark; rest = b.rest }
+abbrev pub with_dashes : List ℕ → Begun → Begun
+with_dashes p b = record { dashes = p ++ b.dashes; columns = length p + b.columns; mark = b.mark; rest = b.rest }
 
 -- What stands behind a mark, by its pieces; whether it is a plain scalar, whether it may stand on a line of its own, and what follows (own).
 pub record Filled : Type 0 where
@@ -43,12 +43,12 @@ pub record Filled : Type 0 where
 -- a plain scalar stands behind a mark (own)
 abbrev pub holds_plain : Content → Bool
 holds_plain (Nothing tail) = false
-holds_plain (Inline space node tail) = is_plain node
+holds_plain (Inline space node tail) = is_plain_content node
 holds_plain (Block space anchor block) = false
 
 -- what stands behind a mark and what follows, as the code lends them (own)
-abbrev pub filled : Content × List ℕ → Filled
-filled x = let c = content_cut x.0 in record {
+abbrev pub lent_content : Content × List ℕ → Filled
+lent_content x = let c = content_cut x.0 in record {
   space = c.0;
   anchor = c.1;
   apart = c.2;
@@ -62,7 +62,7 @@ filled x = let c = content_cut x.0 in record {
 
 -- what stands behind a mark, as the code lends it (own)
 abbrev pub filled_at : ℤ → List ℕ → Option Filled
-filled_at n t = content_at n t >>= λ x. Some (filled x)
+filled_at n t = read_content n t >>= λ x. Some (lent_content x)
 
 -- what a row asks of the next one, below a parent of this indentation (own)
 abbrev pub limit_by : ℤ → Bool → Limit
@@ -79,7 +79,7 @@ row_of gap column b f = let n = parent_of b.mark (column + b.columns) in (
     gap = gap;
     column = column;
     dashes = b.dashes;
-    key = key_of b.mark;
+    key = key_of_mark b.mark;
     colon = colon_of b.mark;
     space = f.space;
     anchor = f.anchor;
@@ -120,7 +120,7 @@ rows_sliced rows read = read >>= λ x. Some (part_behind rows x)
 
 -- how long an anchor in front is with its `&` (own)
 abbrev pub anchor_len : List ℕ → ℕ
-anchor_len t = if first_is 38 t then suc (upto (unless in_name) (drop 1 t)) else 0
+anchor_len t = if begins_with 38 t then suc (upto (unless in_name) (drop 1 t)) else 0
 
 -- the text cut behind an anchor in front (own)
 abbrev pub cut_anchor : List ℕ → List ℕ × List ℕ
@@ -132,7 +132,7 @@ read_view read = read >>= λ c. Some (rows_view c)
 
 -- an anchor in front, the white space behind it, and what follows (own)
 abbrev pub cut_apart : List ℕ → List ℕ × List ℕ × List ℕ
-cut_apart t = if first_is 38 t then ((cut_anchor t).0, (cut no_white (cut_anchor t).1).0, (cut no_white (cut_anchor t).1).1) else ([], [], t)
+cut_apart t = if begins_with 38 t then ((cut_anchor t).0, (cut no_white (cut_anchor t).1).0, (cut no_white (cut_anchor t).1).1) else ([], [], t)
 
 -- the white space between an anchor and its node, if that is something, and what follows (own)
 abbrev pub cut_lead : Bool → List ℕ → List ℕ × List ℕ
@@ -168,11 +168,11 @@ begins_other t = front (λ b. b == 38 || b == 42 || b == 91 || b == 123) t
 
 -- an inline node behind white space, as the code lends it (own)
 abbrev pub inline_sliced : ℤ → List ℕ → List ℕ → Option Filled
-inline_sliced n space t = inline_content_at n space t >>= λ x. Some (filled x)
+inline_sliced n space t = inline_content_at n space t >>= λ x. Some (lent_content x)
 
 -- a block scalar behind white space, as the code lends it (own)
 abbrev pub block_sliced : ℤ → List ℕ → List ℕ → Option Filled
-block_sliced n space t = block_content_at n space t >>= λ x. Some (filled x)
+block_sliced n space t = block_content_at n space t >>= λ x. Some (lent_content x)
 
 -- parts behind rows and bounds (own)
 abbrev pub behind_parts : List Slices → List Bound → Cut → RowsView

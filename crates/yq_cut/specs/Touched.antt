@@ -1,6 +1,6 @@
 -- Which rows and ends of parts a change of a text touches, by the bytes that it keeps in front and behind (own).
 use Rattle.std.specs.Prelude.{◌≡◌, ℕ, ◌-◌, nat_lt, List, [], ◌∷◌, ◌++◌, length, if◌then◌else◌}
-use Rattle.yq_cut.specs.Items.{Item, row_item, end_item, items_of, items_text}
+use Rattle.yq_cut.specs.Items.{Item, row_item, end_item, items_of_cut, items_text}
 use Rattle.yq_cut.specs.Rows.{print_row, Cut}
 
 -- the text of an item (own)
@@ -23,7 +23,7 @@ in_back n (i ∷ is) = if nat_lt (length (items_text (i ∷ is) [])) n then i �
 pub record TouchesOnly (front_kept back_kept : ℕ) (c new : Cut) : Type 0 where
   pub touched : List Item
   pub written : List Item
-  pub old_are : items_of c ≡ in_front front_kept (items_of c) ++ (touched ++ in_back back_kept (items_of c))
-  pub new_are : items_of new ≡ in_front front_kept (items_of c) ++ (written ++ in_back back_kept (items_of c))
-  pub front_same : in_front front_kept (items_of new) ≡ in_front front_kept (items_of c)
-  pub back_same : in_back back_kept (items_of new) ≡ in_back back_kept (items_of c)
+  pub old_are : items_of_cut c ≡ in_front front_kept (items_of_cut c) ++ (touched ++ in_back back_kept (items_of_cut c))
+  pub new_are : items_of_cut new ≡ in_front front_kept (items_of_cut c) ++ (written ++ in_back back_kept (items_of_cut c))
+  pub front_same : in_front front_kept (items_of_cut new) ≡ in_front front_kept (items_of_cut c)
+  pub back_same : in_back back_kept (items_of_cut new) ≡ in_back back_kept (items_of_cut c)

@@ -1,9 +1,9 @@
 -- The rows of the code, as the pieces that they lend.
 use Rattle.std.specs.Prelude.{ℕ, ℤ, ◌+◌, ◌==◌, List, [], ◌∷◌, ◌++◌, length, map, replicate, Option, Some, None, if◌then◌else◌}
-use Rattle.yq_block_scalars.specs.Block.{mark_of}
+use Rattle.yq_block_scalars.specs.Block.{style_indicator}
 use Rattle.yq_flow_scalars.specs.Text.{joined}
-use Rattle.yq_nodes.specs.Nodes.{Node, empty, alias, scalar, coll, anchored, node_text}
-use Rattle.yq_cut.specs.Rows.{Mark, Bare, Dash, Key, Anchor, Content, Nothing, Inline, Block, Row, dashes_text, parent_indent, Cut, last, marked}
+use Rattle.yq_nodes.specs.Nodes.{FlowNode, empty, alias, scalar, coll, anchored, node_text}
+use Rattle.yq_cut.specs.Rows.{RowMark, Bare, Dash, Key, Anchor, Content, Nothing, Inline, Block, Row, dashes_text, parent_indent, Cut, last, marked}
 use Rattle.yq_cut.specs.declared.row.Row as declared
 use Rattle.yq_cut.specs.declared.ends.Bound as ends
 
@@ -25,25 +25,25 @@ pub record Slices : Type 0 where
   pub parent : ℤ
 
 -- the dash of a mark, if it is one (own)
-abbrev pub last_dash : Mark → List ℕ
+abbrev pub last_dash : RowMark → List ℕ
 last_dash Bare = []
 last_dash Dash = 45 ∷ []
 last_dash (Key key colon) = []
 
 -- the key of a mark, if it has one (own)
-abbrev pub key_of : Mark → List ℕ
-key_of Bare = []
-key_of Dash = []
-key_of (Key key colon) = key
+abbrev pub key_of_mark : RowMark → List ℕ
+key_of_mark Bare = []
+key_of_mark Dash = []
+key_of_mark (Key key colon) = key
 
 -- what stands behind the key of a mark up to the `:` (own)
-abbrev pub colon_of : Mark → List ℕ
+abbrev pub colon_of : RowMark → List ℕ
 colon_of Bare = []
 colon_of Dash = []
 colon_of (Key key colon) = colon
 
 -- an anchor, the white space behind it, and what is behind that (own)
-abbrev pub anchor_cut : Node → List ℕ × List ℕ × List ℕ
+abbrev pub anchor_cut : FlowNode → List ℕ × List ℕ × List ℕ
 anchor_cut empty = ([], [], [])
 anchor_cut (alias name) = ([], [], node_text (alias name) [])
 anchor_cut (scalar p) = ([], [], node_text (scalar p) [])
@@ -51,9 +51,9 @@ anchor_cut (coll close gap items) = ([], [], node_text (coll close gap items) []
 anchor_cut (anchored name gap node) = (38 ∷ name, gap, node_text node [])
 
 -- an anchor with its `&` (own)
-abbrev pub anchor_of : Option Anchor → List ℕ
-anchor_of None = []
-anchor_of (Some a) = 38 ∷ a.name
+abbrev pub anchor_with_sign : Option Anchor → List ℕ
+anchor_with_sign None = []
+anchor_with_sign (Some a) = 38 ∷ a.name
 
 -- the white space behind an anchor (own)
 abbrev pub apart_of : Option Anchor → List ℕ
@@ -64,7 +64,7 @@ apart_of (Some a) = a.gap
 abbrev pub content_cut : Content → List ℕ × List ℕ × List ℕ × List ℕ × List ℕ × List ℕ
 content_cut (Nothing tail) = ([], [], [], [], tail, [])
 content_cut (Inline space node tail) = (space, (anchor_cut node).0, (anchor_cut node).1, (anchor_cut node).2, tail, [])
-content_cut (Block space anchor block) = (space, anchor_of anchor, apart_of anchor, mark_of block.style ∷ block.indicators, block.tail, joined block.raw)
+content_cut (Block space anchor block) = (space, anchor_with_sign anchor, apart_of anchor, style_indicator block.style ∷ block.indicators, block.tail, joined block.raw)
 
 -- the pieces of a row as texts (own)
 abbrev pub slices : Row → Slices
@@ -72,7 +72,7 @@ slices r = let c = content_cut r.content in record {
   gap = r.gap;
   column = r.column;
   dashes = dashes_text r.dashes (last_dash r.mark);
-  key = key_of r.mark;
+  key = key_of_mark r.mark;
   colon = colon_of r.mark;
   space = c.0;
   anchor = c.1;
@@ -110,8 +110,8 @@ bounds_at i [] = []
 bounds_at i (b ∷ bs) = if i == b.rows then b ∷ bounds_at i bs else bounds_at i bs
 
 -- the pieces that a row of the code lends (own)
-abbrev pub view : declared.Row → Slices
-view r = record {
+abbrev pub row_view : declared.Row → Slices
+row_view r = record {
   gap = r.gap.now;
   column = r.column;
   dashes = r.dashes.now;

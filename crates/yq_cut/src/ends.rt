@@ -1,7 +1,7 @@
 //! Where the parts of a text end in it.
 ghost use Rattle.std.specs.Prelude.{◌≡◌, ◌∷◌, ◌<◌, ◌+◌, ◌-◌, ◌^◌, ◌++◌, [], length};
 ghost use Rattle.yq_cut.specs.Ends as spec;
-ghost use Rattle.yq_cut.specs.Kept.{moved};
+ghost use Rattle.yq_cut.specs.Kept.{moved_end};
 ghost use Rattle.yq_cut.specs.Offsets.{AreCuts, Ends};
 ghost use Rattle.yq_cut.specs.View.{bound_view};
 
@@ -53,7 +53,7 @@ impl EndPlace {
     /// The same end where so many rows and so many bytes stand before it.
     pub fn moved(self, rows: usize, start: usize) -> EndPlace
         requires { start < 2 ^ 32 }
-        ensures { result ≡ moved rows start self }
+        ensures { result ≡ moved_end rows start self }
     {
         EndPlace {
             rows,

@@ -1,9 +1,9 @@
 //! Where the rows of a text stand in it.
 ghost use Rattle.std.specs.Prelude.{◌≡◌, ◌<◌, ◌+◌, ◌-◌, ◌^◌};
-ghost use Rattle.yq_cut.specs.Kept.{raised, turned};
+ghost use Rattle.yq_cut.specs.Kept.{raised, row_from_end};
 ghost use Rattle.yq_cut.specs.Offsets as spec;
 ghost use Rattle.yq_cut.specs.RowStarts.{row_level};
-ghost use Rattle.yq_cut.specs.View.{Slices, view};
+ghost use Rattle.yq_cut.specs.View.{Slices, row_view};
 
 mod pieces;
 
@@ -35,7 +35,7 @@ impl Offsets {
     /// The same place in a text of so many bytes, measured from its other end.
     pub fn turned(self, len: usize) -> Offsets
         requires { len < 2 ^ 32 }
-        ensures { result ≡ turned len self }
+        ensures { result ≡ row_from_end len self }
     {
         Offsets {
             start: (len as u32).saturating_sub(self.start),
@@ -95,7 +95,7 @@ impl Offsets {
     #[tactic(auto, unfolding(crate::specs::Offsets::pieces_of))]
     pub(crate) fn row<'t>(&self, text: &'t str) -> Row<'t>
         requires { spec.AreCuts text.now (spec.lengths self.now) }
-        ensures { view result ≡ spec.pieces_of text.now self.now }
+        ensures { row_view result ≡ spec.pieces_of text.now self.now }
     {
         let (gap, text) = text.split_at(self.gap as usize);
         let text = text.split_at(self.column as usize).1;

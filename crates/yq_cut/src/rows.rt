@@ -8,7 +8,7 @@ ghost use Rattle.yq_cut.specs.Removal.{block_numbers, block_of};
 ghost use Rattle.yq_cut.specs.RowStarts.{part_end, row_level, row_start};
 ghost use Rattle.yq_cut.specs.Rows.{Cut, Row as RowOf};
 ghost use Rattle.yq_cut.specs.View as ends;
-ghost use Rattle.yq_cut.specs.View.{bound_view, bounds_at, rows_of, rows_view, view, RowsView, Slices};
+ghost use Rattle.yq_cut.specs.View.{bound_view, bounds_at, rows_of, rows_view, row_view, RowsView, Slices};
 
 use crate::block::block_numbers_of;
 use crate::ends::Bound;
@@ -75,7 +75,7 @@ impl<'t> Rows<'t> {
     /// Row `i`, counted from 0.
     pub fn row(&self, i: usize) -> Row<'t>
         requires { i < length self.now.rows }
-        ensures { slice_get self.now.rows i ≡ Some (view result) }
+        ensures { slice_get self.now.rows i ≡ Some (row_view result) }
     {
         let (row, text) = self.found(i);
         row.row(text)

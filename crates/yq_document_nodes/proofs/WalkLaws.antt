@@ -2,7 +2,7 @@
 use Rattle.std.proofs.Common.{◌≡◌, ℕ, ◌+◌, ◌<◌, List, ◌∷◌, length, drop, get_or, map, Option, Some, None, option_map, option_and_then, refl, sym, ap, ◌∙◌}
 use Rattle.std.proofs.lemmas.List.{drop_more}
 use Rattle.yq_nodes.specs.declared.path.Step as step
-use Rattle.yq_nodes.specs.Entries.{step_of}
+use Rattle.yq_nodes.specs.Entries.{tree_step}
 use Rattle.yq_flow_scalars.specs.Paths.{Step, child_at, node_at}
 use Rattle.yq_flow_scalars.specs.Tree.{Node, children_of}
 use Rattle.yq_document_nodes.specs.declared.nodes.node.Node as declared
@@ -22,6 +22,6 @@ pub path_node : (ss : List Step) (x : Labelled) (r : Option declared.Node) → o
 path_node ss x r e = nodes r ∙ (ap (option_map (λ y. y.1)) e ∙ labelled_path ss x)
 
 -- one step on a path
-pub path_next : (items : List step.Step) (at : ℕ) (item : step.Step) (whole : Option Labelled) (x : Labelled) → at < length items → item ≡ get_or items at item → whole ≡ labelled_from (map step_of (drop at items)) x →
-    whole ≡ option_and_then (labelled_from (map step_of (drop (at + 1) items))) (labelled_at (step_of item) (children_of x.1))
-path_next items at item whole x lt is so_far = so_far ∙ ap (λ ss. labelled_from (map step_of ss) x) (drop_more items at item lt ∙ ap (λ i. i ∷ drop (at + 1) items) (sym is))
+pub path_next : (items : List step.Step) (at : ℕ) (item : step.Step) (whole : Option Labelled) (x : Labelled) → at < length items → item ≡ get_or items at item → whole ≡ labelled_from (map tree_step (drop at items)) x →
+    whole ≡ option_and_then (labelled_from (map tree_step (drop (at + 1) items))) (labelled_at (tree_step item) (children_of x.1))
+path_next items at item whole x lt is so_far = so_far ∙ ap (λ ss. labelled_from (map tree_step ss) x) (drop_more items at item lt ∙ ap (λ i. i ∷ drop (at + 1) items) (sym is))

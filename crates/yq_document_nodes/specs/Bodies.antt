@@ -12,16 +12,16 @@ use Rattle.yq_document_nodes.specs.declared.nodes.body.Body as bodies
 use Rattle.yq_document_nodes.specs.declared.nodes.body.Named.{Named}
 
 -- the lines of a document from one on that are deeper than a level, as an outline (own)
-abbrev pub outline_of : Under → Outline
-outline_of u = part (document_lines u.document u.text.now) (number_of u.document u.text.now u.first) u.floor
+abbrev pub body_outline : Under → Outline
+body_outline u = part (document_lines u.document u.text.now) (number_of u.document u.text.now u.first) u.floor
 
 -- what a node of the code stands for, but for the anchor before it (own)
 abbrev pub body_node : bodies.Body → Node
 body_node bodies.TheVariants.Null = null_node
 body_node (bodies.TheVariants.Scalar kind text) = scalar None kind text.now
-body_node (bodies.TheVariants.Map under) = map None (children (outline_of under))
-body_node (bodies.TheVariants.List under) = list None (children (outline_of under))
-body_node (bodies.TheVariants.Inline node) = placed_tree (inline.view node.now)
+body_node (bodies.TheVariants.Map under) = map None (children (body_outline under))
+body_node (bodies.TheVariants.List under) = list None (children (body_outline under))
+body_node (bodies.TheVariants.Inline node) = placed_tree (inline.inline_view node.now)
 
 -- the same with that anchor (own)
 abbrev pub named_node : Named → Node

@@ -4,8 +4,8 @@ use Rattle.yq_flow_scalars.specs.Tree.{Children, none, child}
 use Rattle.yq_nodes.specs.Trees.{parts_tree}
 use Rattle.yq_nodes.specs.View.{entries_end, items_end}
 use Rattle.yq_lines.specs.Outline as outline
-use Rattle.yq_lines.specs.Places.{content}
-use Rattle.yq_document_nodes.specs.Bodies.{outline_of}
+use Rattle.yq_lines.specs.Places.{content_under}
+use Rattle.yq_document_nodes.specs.Bodies.{body_outline}
 use Rattle.yq_document_nodes.specs.Nodes.{node_of, label_of}
 use Rattle.yq_documents.specs.Stretches.{IsLineIn, count_from, lines_under}
 use Rattle.yq_document_nodes.specs.declared.nodes.children.Children as declared
@@ -20,7 +20,7 @@ lines_rest under = rests.TheVariants.Lines under
 -- the items or entries that are left (own)
 abbrev pub rest_of : rests.Rest → Children
 rest_of rests.TheVariants.Nothing = none
-rest_of (rests.TheVariants.Lines under) = outline.children (outline_of under)
+rest_of (rests.TheVariants.Lines under) = outline.children (body_outline under)
 rest_of (rests.TheVariants.Items items) = parts_tree (items_end items.now)
 rest_of (rests.TheVariants.Entries entries) = parts_tree (entries_end entries.now)
 
@@ -42,12 +42,12 @@ left_of c = rest_of c.rest
 -- The first of these lines begins an item or entry, and the others are behind it and the lines under it (own).
 pub record Passes (old new : Under) : Type 0 where
   pub first : IsLineIn old.text.now old.document old.first
-  pub children_are : outline.children (outline_of old) ≡ child (outline.label first.line)
-      (content first.line (lines_under old.text.now old.document old.first first.line)) (outline.children (outline_of new))
+  pub children_are : outline.children (body_outline old) ≡ child (outline.label first.line)
+      (content_under first.line (lines_under old.text.now old.document old.first first.line)) (outline.children (body_outline new))
 
 -- the first item or entry of these lines is passed; or there is none (own)
 abbrev pub PassesFirst : Under → Option Under → Type 0
-PassesFirst old None = outline.children (outline_of old) ≡ none
+PassesFirst old None = outline.children (body_outline old) ≡ none
 PassesFirst old (Some new) = Passes old new
 
 -- the first of these items or entries is yielded, and the others are left; where there is none, nothing is yielded (own)

@@ -1,16 +1,16 @@
 -- The texts of comment lines.
 use Rattle.std.proofs.Common.{◌≡◌, ℕ, true, false, eqb, List, [], ◌∷◌, drop, Some, None, refl, sym, ap, ◌∙◌}
 use Rattle.std.proofs.lemmas.Bool.{cond-true, cond-false, and_parts}
-use Rattle.yq_flow_scalars.specs.Text.{cut, front, ends_line, lines_of, past_white}
-use Rattle.yq_nodes.specs.Nodes.{first_is}
+use Rattle.yq_flow_scalars.specs.Text.{cut, front, ends_line, text_lines, past_white}
+use Rattle.yq_nodes.specs.Nodes.{begins_with}
 use Rattle.yq_lines.specs.Comments.{less_space, comment_text, are_comments, with_text, last_comments}
 use Rattle.yq_documents.specs.Texts.{text_then, texts}
 
-pub space_there : (t r : List ℕ) → first_is 32 t ≡ true → r ≡ drop 1 t → r ≡ less_space t
+pub space_there : (t r : List ℕ) → begins_with 32 t ≡ true → r ≡ drop 1 t → r ≡ less_space t
 space_there [] r h e = cc
 space_there (b ∷ bs) r h e = e ∙ sym (cond-true _ _ _ h)
 
-pub no_space : (t : List ℕ) → first_is 32 t ≡ false → t ≡ less_space t
+pub no_space : (t : List ℕ) → begins_with 32 t ≡ false → t ≡ less_space t
 no_space [] h = refl
 no_space (b ∷ bs) h = sym (cond-false _ _ _ h)
 
@@ -35,6 +35,6 @@ pub one_text : (l t : List ℕ) (ls : List (List ℕ)) → Some t ≡ comment_te
 one_text l t ls h = ap (λ o. text_then o (texts ls)) (sym h)
 
 -- at the end of a text
-pub none_left : (t : List ℕ) → t ≡ [] → texts (lines_of t) ≡ []
-unfolding lines_of
-none_left t e = ap (λ x. texts (lines_of x)) e
+pub none_left : (t : List ℕ) → t ≡ [] → texts (text_lines t) ≡ []
+unfolding text_lines
+none_left t e = ap (λ x. texts (text_lines x)) e

@@ -4,10 +4,10 @@ use Rattle.std.specs.Prelude.{String}
 use Rattle.std.specs.declared.alloc.Global.{Global}
 use Rattle.yq_flow_scalars.specs.declared.piece.Piece.{Piece}
 use Rattle.yq_nodes.specs.declared.inline.Inline.{Inline}
-use Rattle.yq_nodes.specs.View.{view, items_end, entries_end}
+use Rattle.yq_nodes.specs.View.{inline_view, items_end, entries_end}
 use Rattle.std.proofs.lemmas.List.{take_at, drop_at, drop_more}
-use Rattle.yq_nodes.specs.Nodes.{Key, bare, keyed, Sep, last, comma, Node, empty, alias, scalar, coll, anchored, Items, none, item, key_text, sep_text, node_text, items_text, open_of}
-use Rattle.yq_nodes.specs.Places.{Placed, placed, sequence, mapping, Parts, holder, key_placed, with_anchor, locate, locate_items}
+use Rattle.yq_nodes.specs.Nodes.{Key, bare, keyed, Sep, last, comma, FlowNode, empty, alias, scalar, coll, anchored, Items, none, item, key_text, sep_text, node_text, flow_items_text, opening_bracket}
+use Rattle.yq_nodes.specs.Places.{Placed, placed, sequence, mapping, Parts, holder, key_placed, anchored_node, locate, locate_items}
 use Rattle.yq_nodes.proofs.WrittenLaws.{node_then}
 use Rattle.yq_documents.specs.Reading.{is_fit, has_fit_key, has_fit_keys, each_has_fit_keys}
 use Rattle.yq_nodes.specs.Spans.{HasSpans, PartsHaveSpans}
@@ -16,7 +16,7 @@ use Rattle.yq_documents.specs.KeyReading.{EndsIn, key_place_fits, node_fits, for
 pub past : (whole a t : List ℕ) → EndsIn whole (a ++ t) → EndsIn whole t
 past whole a t h = (h.0 ++ a, h.1 ∙ sym (append_assoc h.0 a t))
 
-past_node : (whole : List ℕ) (n : Node) (t : List ℕ) → EndsIn whole (node_text n t) → EndsIn whole t
+past_node : (whole : List ℕ) (n : FlowNode) (t : List ℕ) → EndsIn whole (node_text n t) → EndsIn whole t
 past_node whole n t h = past whole (node_text n []) t (h.0, h.1 ∙ ap (λ l. h.0 ++ l) (node_then n t))
 
 past_sep : (whole : List ℕ) (s : Sep) (t : List ℕ) → EndsIn whole (sep_text s t) → EndsIn whole t
@@ -44,26 +44,26 @@ key_there whole (keyed p b g) t h = ap is_fit (piece_there whole p (b ++ (58 ∷
 held : (whole : List ℕ) (k : ℕ) (parts : Parts) → form_fits whole (holder k parts) ≡ parts_fit whole parts
 held whole k parts = elim (eqb k 125) as (λ c. form_fits whole (cond c (mapping parts) (sequence parts)) ≡ parts_fit whole parts) [ true ↦ refl | false ↦ refl ]
 
-with_name : (whole n : List ℕ) (start : ℕ) (p : Placed) → node_fits whole (with_anchor n start p) ≡ node_fits whole p
+with_name : (whole n : List ℕ) (start : ℕ) (p : Placed) → node_fits whole (anchored_node n start p) ≡ node_fits whole p
 with_name whole n start (placed a s c e f) = refl
 
 mutual
-  unfolding locate locate_items node_text items_text
+  unfolding locate locate_items node_text flow_items_text
 
   -- each key of a node is fit where the key at each place is
-  pub keys_there : (whole : List ℕ) (node : Node) (rest : List ℕ) → EndsIn whole (node_text node rest) → node_fits whole (locate (length whole) node rest) ≡ has_fit_keys node
+  pub keys_there : (whole : List ℕ) (node : FlowNode) (rest : List ℕ) → EndsIn whole (node_text node rest) → node_fits whole (locate (length whole) node rest) ≡ has_fit_keys node
   keys_there whole empty rest h = refl
   keys_there whole (alias n) rest h = refl
   keys_there whole (scalar p) rest h = refl
   keys_there whole (coll k g is) rest h =
-      held whole k (locate_items (length whole) k is rest) ∙ items_there whole k is rest (past whole g (items_text k is rest) (past whole (open_of k ∷ []) (g ++ items_text k is rest) h))
+      held whole k (locate_items (length whole) k is rest) ∙ items_there whole k is rest (past whole g (flow_items_text k is rest) (past whole (opening_bracket k ∷ []) (g ++ flow_items_text k is rest) h))
   keys_there whole (anchored n g node) rest h =
       with_name whole n _ (locate (length whole) node rest) ∙ keys_there whole node rest (past whole g (node_text node rest) (past whole n (g ++ node_text node rest) (past whole (38 ∷ []) (n ++ (g ++ node_text node rest)) h)))
 
-  pub items_there : (whole : List ℕ) (k : ℕ) (is : Items) (rest : List ℕ) → EndsIn whole (items_text k is rest) → parts_fit whole (locate_items (length whole) k is rest) ≡ each_has_fit_keys is
+  pub items_there : (whole : List ℕ) (k : ℕ) (is : Items) (rest : List ℕ) → EndsIn whole (flow_items_text k is rest) → parts_fit whole (locate_items (length whole) k is rest) ≡ each_has_fit_keys is
   items_there whole k none rest h = refl
   items_there whole k (item key n s is) rest h =
-      let behind = items_text k is rest in
+      let behind = flow_items_text k is rest in
       let at_node = past_key whole key (node_text n (sep_text s behind)) h in
       let one = key_there whole key (node_text n (sep_text s behind)) h in
       let two = keys_there whole n (sep_text s behind) at_node in
@@ -71,13 +71,13 @@ mutual
       λ i. one i && (two i && three i)
 
 -- an entry of the code is one of those that stand
-pub entry_stands : (t : List ℕ) (xs : List (String Global × Piece × Inline)) (i : ℕ) (x : String Global × Piece × Inline) → i < length xs → x ≡ get_or xs i x → PartsHaveSpans t (entries_end (drop i xs)) → HasSpans t (view x.2)
+pub entry_stands : (t : List ℕ) (xs : List (String Global × Piece × Inline)) (i : ℕ) (x : String Global × Piece × Inline) → i < length xs → x ≡ get_or xs i x → PartsHaveSpans t (entries_end (drop i xs)) → HasSpans t (inline_view x.2)
 entry_stands t xs i x within is h =
     let e : drop i xs ≡ x ∷ drop (i + 1) xs = drop_more xs i x within ∙ ap (λ y. y ∷ drop (i + 1) xs) (sym is) in
     let here : PartsHaveSpans t (entries_end (x ∷ drop (i + 1) xs)) = subst (λ l. PartsHaveSpans t (entries_end l)) e h in
     here.1
 
-pub item_stands : (t : List ℕ) (xs : List Inline) (i : ℕ) (x : Inline) → i < length xs → x ≡ get_or xs i x → PartsHaveSpans t (items_end (drop i xs)) → HasSpans t (view x)
+pub item_stands : (t : List ℕ) (xs : List Inline) (i : ℕ) (x : Inline) → i < length xs → x ≡ get_or xs i x → PartsHaveSpans t (items_end (drop i xs)) → HasSpans t (inline_view x)
 item_stands t xs i x within is h =
     let e : drop i xs ≡ x ∷ drop (i + 1) xs = drop_more xs i x within ∙ ap (λ y. y ∷ drop (i + 1) xs) (sym is) in
     let here : PartsHaveSpans t (items_end (x ∷ drop (i + 1) xs)) = subst (λ l. PartsHaveSpans t (items_end l)) e h in

@@ -6,7 +6,7 @@ use Rattle.std.proofs.lemmas.Str.{IsCharBoundary-at_seam}
 use Rattle.std.specs.Str.{IsUtf8, IsCharBoundary}
 use Rattle.yq_block_scalars.specs.declared.block_header.BlockStyle.{BlockStyle}
 use Rattle.yq_block_scalars.specs.declared.block_header.BlockStyle.TheVariants as styles
-use Rattle.yq_block_scalars.specs.Block.{mark_of, BlockText, block_text, IsBlock}
+use Rattle.yq_block_scalars.specs.Block.{style_indicator, BlockText, block_text, IsBlock}
 use Rattle.yq_flow_scalars.specs.Answers.{◌>>=◌}
 use Rattle.yq_flow_scalars.specs.declared.style.Place.TheVariants as places
 use Rattle.yq_flow_scalars.specs.Piece.{deeper}
@@ -16,9 +16,9 @@ use Rattle.yq_flow_scalars.specs.Scalar.{plain_of}
 use Rattle.yq_flow_scalars.specs.Text.{is_empty}
 use Rattle.yq_block_scalars.proofs.BlockLaws.{block_again}
 use Rattle.yq_nodes.specs.Inline.{depth_limit, IsInlineAt}
-use Rattle.yq_nodes.specs.Nodes.{Node, empty, alias, scalar, coll, anchored, node_text, items_text, is_bare, IsNode}
+use Rattle.yq_nodes.specs.Nodes.{FlowNode, empty, alias, scalar, coll, anchored, node_text, flow_items_text, is_empty_node, IsFlowNode}
 use Rattle.yq_nodes.specs.Places.{placed, mapping, sequence, Parts, holder, locate, locate_items}
-use Rattle.yq_nodes.specs.Scalars.{IsScalarAt, is_quoted, begins_scalar, content_of, scalar_of}
+use Rattle.yq_nodes.specs.Scalars.{IsScalarAt, is_quoted, begins_scalar, scalar_content, scalar_of}
 use Rattle.yq_nodes.specs.Trees.{scalar_node, placed_tree, tree_of, node_head}
 use Rattle.yq_nodes.proofs.NodeAgain.{is_anchored, takes_unanchored}
 use Rattle.yq_nodes.proofs.InlineLaws.{inline_again}
@@ -31,7 +31,7 @@ use Rattle.yq_cut.specs.View.{anchor_cut, content_cut}
 use Rattle.yq_documents.specs.KeyReading.{EndsIn}
 use Rattle.yq_lines.specs.Lines.{head_of}
 use Rattle.yq_documents.specs.Reading.{has_fit_keys, content_is_fit}
-use Rattle.yq_documents.specs.RowReading.{placed_head, is_short_plain, is_block_head, string_head, block_head_at, fit_head, node_head_at, head_at}
+use Rattle.yq_documents.specs.RowReading.{placed_head, is_short_plain, is_block_head, string_head, block_head_at, fit_head, node_head_at, read_head}
 use Rattle.yq_documents.proofs.FlowKeyLaws.{keys_there}
 use Rattle.yq_lines.proofs.OneLine.{one_line}
 
@@ -39,7 +39,7 @@ use Rattle.yq_lines.proofs.OneLine.{one_line}
 holder_head : (s c e k : ℕ) (parts : Parts) → placed_head (placed None s c e (holder k parts)) ≡ Some (placed_tree (placed None s c e (holder k parts)))
 holder_head s c e k parts = elim (eqb k 125) as (λ x. placed_head (placed None s c e (cond x (mapping parts) (sequence parts))) ≡ Some (placed_tree (placed None s c e (cond x (mapping parts) (sequence parts))))) [ true ↦ refl | false ↦ refl ]
 
-placed_head_is : (total : ℕ) (node : Node) (rest : List ℕ) → is_anchored node ≡ false → placed_head (locate total node rest) ≡ node_head node
+placed_head_is : (total : ℕ) (node : FlowNode) (rest : List ℕ) → is_anchored node ≡ false → placed_head (locate total node rest) ≡ node_head node
 unfolding locate tree_of
 placed_head_is total empty rest a = refl
 placed_head_is total (alias n) rest a = refl
@@ -57,7 +57,7 @@ ends_drop whole t h =
 abbrev pub fitting : Bool → Option trees.Node → Option (Option trees.Node)
 fitting fit head = cond fit (Some head) None
 
-node_again : (whole : List ℕ) (n : ℤ) (node : Node) (rest : List ℕ) → is_anchored node ≡ false → is_bare node ≡ false → EndsIn whole (node_text node rest) → IsNode false (Some (deeper n)) depth_limit node rest →
+node_again : (whole : List ℕ) (n : ℤ) (node : FlowNode) (rest : List ℕ) → is_anchored node ≡ false → is_empty_node node ≡ false → EndsIn whole (node_text node rest) → IsFlowNode false (Some (deeper n)) depth_limit node rest →
     node_head_at whole n (node_text node rest) ≡ fitting (has_fit_keys node) (node_head node)
 node_again whole n node rest a some ends h =
     let at : ℕ = length whole - length (node_text node rest) in
@@ -73,24 +73,24 @@ node_again whole n node rest a some ends h =
     ∙ (λ i. fitting (keys_there whole node rest ends i) (placed_head_is (length whole) node rest a i))
 
 -- which head a text is
-by_node : (whole : List ℕ) (n : ℤ) (head t : List ℕ) → is_empty head ≡ false → is_block_head head ≡ false → is_quoted head ≡ false → is_short_plain head ≡ false → head_at whole n head t ≡ node_head_at whole n t
-unfolding head_at
+by_node : (whole : List ℕ) (n : ℤ) (head t : List ℕ) → is_empty head ≡ false → is_block_head head ≡ false → is_quoted head ≡ false → is_short_plain head ≡ false → read_head whole n head t ≡ node_head_at whole n t
+unfolding read_head
 by_node whole n head t some block quoted short = rw (some, block, short, quoted) refl
 
-by_plain : (whole : List ℕ) (n : ℤ) (head t : List ℕ) → is_empty head ≡ false → is_block_head head ≡ false → is_quoted head ≡ false → is_short_plain head ≡ true → head_at whole n head t ≡ Some (Some (scalar_node (plain_of head)))
-unfolding head_at
+by_plain : (whole : List ℕ) (n : ℤ) (head t : List ℕ) → is_empty head ≡ false → is_block_head head ≡ false → is_quoted head ≡ false → is_short_plain head ≡ true → read_head whole n head t ≡ Some (Some (scalar_node (plain_of head)))
+unfolding read_head
 by_plain whole n head t some block quoted short = rw (some, block, short, quoted) refl
 
-by_quotes : (whole : List ℕ) (n : ℤ) (head t : List ℕ) → is_empty head ≡ false → is_block_head head ≡ false → is_quoted head ≡ true → head_at whole n head t ≡ Some (string_head (content_of head))
-unfolding head_at
+by_quotes : (whole : List ℕ) (n : ℤ) (head t : List ℕ) → is_empty head ≡ false → is_block_head head ≡ false → is_quoted head ≡ true → read_head whole n head t ≡ Some (string_head (scalar_content head))
+unfolding read_head
 by_quotes whole n head t some block quoted = rw (some, block, quoted) refl
 
-by_block : (whole : List ℕ) (n : ℤ) (head t : List ℕ) → is_empty head ≡ false → is_block_head head ≡ true → head_at whole n head t ≡ block_head_at n t
-unfolding head_at
+by_block : (whole : List ℕ) (n : ℤ) (head t : List ℕ) → is_empty head ≡ false → is_block_head head ≡ true → read_head whole n head t ≡ block_head_at n t
+unfolding read_head
 by_block whole n head t some block = rw (some, block) refl
 
-by_nothing : (whole : List ℕ) (n : ℤ) (t : List ℕ) → head_at whole n [] t ≡ Some None
-unfolding head_at
+by_nothing : (whole : List ℕ) (n : ℤ) (t : List ℕ) → read_head whole n [] t ≡ Some None
+unfolding read_head
 by_nothing whole n t = refl
 
 -- a scalar's head
@@ -100,8 +100,8 @@ short_is p quoted h =
     let broken : holds_break p ≡ false = ⊎_elim {0, 0, 0} (λ e. absurd (false≢true (sym (ap not e) ∙ (and_parts _ (not (holds_break p)) h).1))) (λ e. e) (cases_Bool (holds_break p)) in
     rw quoted (ap plain_of (one_line p broken))
 
-string_is : (p : List ℕ) → is_quoted p ≡ true → string_head (content_of p) ≡ Some (scalar_node (scalar_of p))
-unfolding scalar_of content_of
+string_is : (p : List ℕ) → is_quoted p ≡ true → string_head (scalar_content p) ≡ Some (scalar_node (scalar_of p))
+unfolding scalar_of scalar_content
 string_is p q = rw q refl
 
 pub scalar_some_is : (n : ℤ) (p rest : List ℕ) → IsScalarAt false (Some (deeper n)) p rest → (is_empty p ≡ false) × (is_block_head p ≡ false)
@@ -112,8 +112,8 @@ scalar_some_is n (b ∷ bs) rest h =
     let more : eqb b 62 ≡ false = front_not (begins_scalar false) 62 (λ cs. refl) (b ∷ (bs ++ rest)) begins in
     (refl, rw (bar, more) refl)
 
-scalar_is : (whole : List ℕ) (n : ℤ) (p rest : List ℕ) → EndsIn whole (node_text (scalar p) rest) → IsNode false (Some (deeper n)) depth_limit (scalar p) rest → head_at whole n p (node_text (scalar p) rest) ≡ Some (node_head (scalar p))
-unfolding IsNode tree_of
+scalar_is : (whole : List ℕ) (n : ℤ) (p rest : List ℕ) → EndsIn whole (node_text (scalar p) rest) → IsFlowNode false (Some (deeper n)) depth_limit (scalar p) rest → read_head whole n p (node_text (scalar p) rest) ≡ Some (node_head (scalar p))
+unfolding IsFlowNode tree_of
 scalar_is whole n p rest ends h =
     let s = scalar_some_is n p rest h in
     ⊎_elim {0, 0, 0}
@@ -131,25 +131,25 @@ Opens b = (t : List ℕ) → (is_block_head (b ∷ t) ≡ false) × ((is_quoted 
 pub opens : (k : ℕ) → Opens (cond (eqb k 125) 123 91)
 opens k = cond_both (eqb k 125) 123 91 Opens (λ _ t. (refl, (refl, refl))) (λ _ t. (refl, (refl, refl)))
 
-unnamed_is : (whole : List ℕ) (n : ℤ) (node : Node) (rest : List ℕ) → is_anchored node ≡ false → EndsIn whole (node_text node rest) → IsNode false (Some (deeper n)) depth_limit node rest →
-    head_at whole n (node_text node []) (node_text node rest) ≡ fitting (has_fit_keys node) (node_head node)
+unnamed_is : (whole : List ℕ) (n : ℤ) (node : FlowNode) (rest : List ℕ) → is_anchored node ≡ false → EndsIn whole (node_text node rest) → IsFlowNode false (Some (deeper n)) depth_limit node rest →
+    read_head whole n (node_text node []) (node_text node rest) ≡ fitting (has_fit_keys node) (node_head node)
 unfolding node_text
 unnamed_is whole n empty rest a ends h = by_nothing whole n rest
 unnamed_is whole n (alias name) rest a ends h = by_node whole n (42 ∷ (name ++ [])) (42 ∷ (name ++ rest)) refl refl refl refl ∙ node_again whole n (alias name) rest refl refl ends h
-unnamed_is whole n (scalar p) rest a ends h = ap (λ q. head_at whole n q (p ++ rest)) (append-nil p) ∙ scalar_is whole n p rest ends h
+unnamed_is whole n (scalar p) rest a ends h = ap (λ q. read_head whole n q (p ++ rest)) (append-nil p) ∙ scalar_is whole n p rest ends h
 unnamed_is whole n (coll k g is) rest a ends h =
-    let o = opens k (g ++ items_text k is []) in
+    let o = opens k (g ++ flow_items_text k is []) in
     by_node whole n (node_text (coll k g is) []) (node_text (coll k g is) rest) refl o.0 o.1.0 o.1.1 ∙ node_again whole n (coll k g is) rest refl refl ends h
 unnamed_is whole n (anchored name g node) rest a ends h = absurd (false≢true (sym a))
 
-written_is : (whole : List ℕ) (n : ℤ) (node : Node) (rest : List ℕ) → is_anchored node ≡ false → EndsIn whole (node_text node [] ++ rest) → IsNode false (Some (deeper n)) depth_limit node rest →
-    head_at whole n (node_text node []) (node_text node [] ++ rest) ≡ fitting (has_fit_keys node) (node_head node)
+written_is : (whole : List ℕ) (n : ℤ) (node : FlowNode) (rest : List ℕ) → is_anchored node ≡ false → EndsIn whole (node_text node [] ++ rest) → IsFlowNode false (Some (deeper n)) depth_limit node rest →
+    read_head whole n (node_text node []) (node_text node [] ++ rest) ≡ fitting (has_fit_keys node) (node_head node)
 written_is whole n node rest a ends h =
-    ap (head_at whole n (node_text node [])) (sym (node_then node rest)) ∙ unnamed_is whole n node rest a (subst (EndsIn whole) (sym (node_then node rest)) ends) h
+    ap (read_head whole n (node_text node [])) (sym (node_then node rest)) ∙ unnamed_is whole n node rest a (subst (EndsIn whole) (sym (node_then node rest)) ends) h
 
-node_is : (whole : List ℕ) (n : ℤ) (node : Node) (rest : List ℕ) → EndsIn whole ((anchor_cut node).2 ++ rest) → IsNode false (Some (deeper n)) depth_limit node rest →
-    head_at whole n (anchor_cut node).2 ((anchor_cut node).2 ++ rest) ≡ fitting (has_fit_keys node) (node_head node)
-unfolding IsNode
+node_is : (whole : List ℕ) (n : ℤ) (node : FlowNode) (rest : List ℕ) → EndsIn whole ((anchor_cut node).2 ++ rest) → IsFlowNode false (Some (deeper n)) depth_limit node rest →
+    read_head whole n (anchor_cut node).2 ((anchor_cut node).2 ++ rest) ≡ fitting (has_fit_keys node) (node_head node)
+unfolding IsFlowNode
 node_is whole n empty rest ends h = by_nothing whole n rest
 node_is whole n (alias name) rest ends h = written_is whole n (alias name) rest refl ends h
 node_is whole n (scalar p) rest ends h = written_is whole n (scalar p) rest refl ends h
@@ -157,13 +157,13 @@ node_is whole n (coll k g is) rest ends h = written_is whole n (coll k g is) res
 node_is whole n (anchored name g node) rest ends h = written_is whole n node rest (takes_unanchored node h.3) ends h.4
 
 -- a block scalar's
-pub block_marks : (style : BlockStyle) (t : List ℕ) → is_block_head (mark_of style ∷ t) ≡ true
+pub block_marks : (style : BlockStyle) (t : List ℕ) → is_block_head (style_indicator style ∷ t) ≡ true
 block_marks styles.Literal t = refl
 block_marks styles.Folded t = refl
 
-block_is : (whole : List ℕ) (n : ℤ) (space : List ℕ) (b : BlockText) (rest : List ℕ) → IsBlock (deeper n) b rest → head_at whole n (mark_of b.style ∷ b.indicators) (block_text b rest) ≡ Some (head_of (Block space None b))
+block_is : (whole : List ℕ) (n : ℤ) (space : List ℕ) (b : BlockText) (rest : List ℕ) → IsBlock (deeper n) b rest → read_head whole n (style_indicator b.style ∷ b.indicators) (block_text b rest) ≡ Some (head_of (Block space None b))
 block_is whole n space b rest h =
-    by_block whole n (mark_of b.style ∷ b.indicators) (block_text b rest) refl (block_marks b.style b.indicators)
+    by_block whole n (style_indicator b.style ∷ b.indicators) (block_text b rest) refl (block_marks b.style b.indicators)
     ∙ rw (block_again (deeper n) b rest h) refl
 
 -- the text of a row's content from its head on
@@ -171,7 +171,7 @@ abbrev pub head_text : Content → List ℕ → List ℕ
 head_text c rest = (content_cut c).3 ++ ((content_cut c).4 ++ ((content_cut c).5 ++ rest))
 
 -- the head of a row's content, where its keys are fit
-pub head_is : (whole : List ℕ) (n : ℤ) (c : Content) (rest : List ℕ) → EndsIn whole (head_text c rest) → IsContent n c rest → head_at whole n (content_cut c).3 (head_text c rest) ≡ fitting (content_is_fit c) (head_of c)
+pub head_is : (whole : List ℕ) (n : ℤ) (c : Content) (rest : List ℕ) → EndsIn whole (head_text c rest) → IsContent n c rest → read_head whole n (content_cut c).3 (head_text c rest) ≡ fitting (content_is_fit c) (head_of c)
 head_is whole n (Nothing tail) rest ends h = by_nothing whole n (tail ++ rest)
 head_is whole n (Inline space node tail) rest ends h = node_is whole n node (tail ++ rest) ends h.1.valid
 head_is whole n (Block space anchor block) rest ends h = block_is whole n space block rest h.2

@@ -15,7 +15,7 @@ use Rattle.yq_documents.specs.Documents.{Document, document_parts}
 use Rattle.yq_documents.specs.Holding.{Holds}
 use Rattle.yq_documents.specs.Located.{document_at}
 use Rattle.yq_documents.specs.Decoded.{IsDecoded}
-use Rattle.yq_documents.specs.Reading.{all_documents, cut_of, document_of, documents_of}
+use Rattle.yq_documents.specs.Reading.{all_documents, cut_of, part_document, documents_of}
 use Rattle.yq_documents.specs.Stretches.{HasText, document_lines, part_rows, stretch_of}
 use Rattle.yq_documents.specs.declared.decoded.Decoded.{Decoded}
 use Rattle.yq_documents.specs.declared.read_text.DocumentRows.{DocumentRows}
@@ -38,7 +38,7 @@ module _ {t u : List ℕ} {s : RowsView} {ds : List DocumentRows} {ms : List Dec
   view_held = record { cut = cut_of t; is = h.rows; size = subst (λ (x : List ℕ). length x ≤ text_limit) h.cut.text h.cut.size }
 
   pub count_held : length ds ≡ length (documents_of u)
-  count_held = h.count ∙ (sym (length-map (document_parts (cut_of t)) document_of) ∙ ap (λ (x : List ℕ). length (documents_of x)) e)
+  count_held = h.count ∙ (sym (length-map (document_parts (cut_of t)) part_document) ∙ ap (λ (x : List ℕ). length (documents_of x)) e)
 
   -- a document by its number
   module _ (n : ℕ) (d : DocumentRows) (there : slice_get ds n ≡ Some d) where
@@ -47,7 +47,7 @@ module _ {t u : List ℕ} {s : RowsView} {ds : List DocumentRows} {ms : List Dec
 
     pub lead_held : (x : Document) → document_at u n ≡ Some x → head_comment d.lead.now ≡ x.lead
     lead_held x is =
-        let own : document_of part.0 ≡ x = same_Some _ _ (sym (slice_get-map document_of (document_parts (cut_of t)) n ∙ ap (option_map document_of) part.1) ∙ (ap (λ (y : List ℕ). document_at y n) e ∙ is)) in
+        let own : part_document part.0 ≡ x = same_Some _ _ (sym (slice_get-map part_document (document_parts (cut_of t)) n ∙ ap (option_map part_document) part.1) ∙ (ap (λ (y : List ℕ). document_at y n) e ∙ is)) in
         (h.places n d part.0 there part.1).lead ∙ ap (λ (y : Document). y.lead) own
 
     pub place_held : (x : Stretch) → x.first ≡ d.first → x.end ≡ d.end → n < length (documents_of u) → HasText u n s x

@@ -4,7 +4,7 @@ use Rattle.std.proofs.lemmas.Bool.{cases_lt, false≢true}
 use Rattle.std.proofs.lemmas.Option.{same_Some}
 use Rattle.std.specs.List.{slice_get}
 use Rattle.std.specs.Prelude.{is_some}
-use Rattle.yq_nodes.specs.Scalars.{content_of, is_quoted}
+use Rattle.yq_nodes.specs.Scalars.{scalar_content, is_quoted}
 use Rattle.yq_lines.specs.Comments as comments
 use Rattle.yq_lines.specs.Outline.{Line, key_of}
 use Rattle.yq_cut.specs.Grammar.{AreRows, Limit, limit_after}
@@ -68,7 +68,7 @@ module _ {t : List ℕ} {n : ℕ} {s : RowsView} {d : Stretch} (x : HasText t n 
       pub no_key : (r ≡ 2 → ⊥) → None ≡ key_of l.mark
       no_key = key_none s d (stands x) q (line_here x at) l (k.is ∙ ap Some own) r agrees
 
-      pub own_key : r ≡ 2 → Some (content_of (slices (located_in x at).row).key) ≡ key_of l.mark
+      pub own_key : r ≡ 2 → Some (scalar_content (slices (located_in x at).row).key) ≡ key_of l.mark
       own_key = key_here s d (stands x) q (line_here x at) l (k.is ∙ ap Some own) r agrees
 
     -- a head

@@ -3,31 +3,31 @@ use Rattle.std.proofs.Common.{◌≡◌, ℕ, List, true, false, not, refl, sym}
 use Rattle.std.proofs.lemmas.Bool.{false≢true}
 use Rattle.yq_flow_scalars.specs.Paths.{is_item}
 use Rattle.yq_flow_scalars.specs.Tree.{none}
-use Rattle.yq_lines.specs.Ends.{is_end}
-use Rattle.yq_lines.specs.Outline.{Mark, Bare, Key, Dash, Outline, end, row, children, key_of, null_node, value}
-use Rattle.yq_lines.specs.Positions.{is_bare}
+use Rattle.yq_lines.specs.Ends.{has_no_lines}
+use Rattle.yq_lines.specs.Outline.{LineMark, Bare, Key, Dash, Outline, end, row, children, key_of, null_node, value}
+use Rattle.yq_lines.specs.Positions.{has_no_mark}
 
 -- where there are no lines there are no items and entries, and a null
-pub no_children : (o : Outline) → false ≡ not (is_end o) → children o ≡ none
+pub no_children : (o : Outline) → false ≡ not (has_no_lines o) → children o ≡ none
 no_children end e = refl
 no_children (row l u a) e = absurd (false≢true e)
 
-pub no_value : (o : Outline) → false ≡ not (is_end o) → value o ≡ null_node
+pub no_value : (o : Outline) → false ≡ not (has_no_lines o) → value o ≡ null_node
 no_value end e = refl
 no_value (row l u a) e = absurd (false≢true e)
 
 -- a line that is no node itself is an item's or an entry's
-pub dash_mark : (m : Mark) → false ≡ is_bare m → true ≡ is_item (key_of m) → m ≡ Dash
+pub dash_mark : (m : LineMark) → false ≡ has_no_mark m → true ≡ is_item (key_of m) → m ≡ Dash
 dash_mark Bare a b = absurd (false≢true a)
 dash_mark (Key k) a b = absurd (false≢true (sym b))
 dash_mark Dash a b = refl
 
-pub bare_mark : (m : Mark) → true ≡ is_bare m → m ≡ Bare
+pub bare_mark : (m : LineMark) → true ≡ has_no_mark m → m ≡ Bare
 bare_mark Bare a = refl
 bare_mark (Key k) a = absurd (false≢true (sym a))
 bare_mark Dash a = absurd (false≢true (sym a))
 
-pub key_mark : (m : Mark) → false ≡ is_bare m → false ≡ is_item (key_of m) → (k : List ℕ) × (m ≡ Key k)
+pub key_mark : (m : LineMark) → false ≡ has_no_mark m → false ≡ is_item (key_of m) → (k : List ℕ) × (m ≡ Key k)
 key_mark Bare a b = absurd (false≢true a)
 key_mark (Key k) a b = (k, refl)
 key_mark Dash a b = absurd (false≢true b)

@@ -6,14 +6,14 @@ use Rattle.std.specs.List.{list_all, slice_get}
 use Rattle.yq_nodes.specs.Inline.{depth_limit}
 use Rattle.yq_lines.specs.Group.{group}
 use Rattle.yq_lines.specs.LinesReading.{have_one_anchor_each, are_bound}
-use Rattle.yq_lines.specs.Sound.{is_sound}
+use Rattle.yq_lines.specs.Sound.{is_sound_outline}
 use Rattle.yq_cut.specs.Grammar.{IsCut, unlimited, AreRows}
 use Rattle.yq_cut.specs.Rows.{Row, Part, Cut}
 use Rattle.yq_cut.specs.Splices.{nth_part, behind_part}
 use Rattle.yq_cut.specs.View.{slices, rows_of, RowsView, rows_view}
 use Rattle.yq_cut.proofs.splices.PartPlaces.{part_in}
 use Rattle.yq_flow_scalars.specs.Anchors.{names_of}
-use Rattle.yq_lines.specs.Lines.{lines_of}
+use Rattle.yq_lines.specs.Lines.{lines_of_rows}
 use Rattle.yq_lines.specs.RowWalk.{HasDocument, HasRows}
 use Rattle.yq_lines.specs.declared.line_position.Stretch.{Stretch}
 use Rattle.yq_documents.specs.Documents.{document_parts}
@@ -27,11 +27,11 @@ pub part_begins : (c : Cut) (n : ℕ) (p : Part) → slice_get (document_parts c
 part_begins c n p at = let b = rows_there (part_number n c) c in (b.0, b.1 ∙ ap (λ (x : Part). x.rows ++ b.0) (part_there c n p at))
 
 -- a document's lines are sound
-sound_part : (p : Part) → is_document p ≡ true → is_sound depth_limit (group (lines_of p.rows)) ≡ true
+sound_part : (p : Part) → is_document p ≡ true → is_sound_outline depth_limit (group (lines_of_rows p.rows)) ≡ true
 sound_part p e =
     let fit = and_parts (have_fit_keys p.rows) _ e in
     let short = and_parts (has_short_root p.rows) _ fit.1 in
-    let one = and_parts (have_one_anchor_each (lines_of p.rows)) _ short.1 in
+    let one = and_parts (have_one_anchor_each (lines_of_rows p.rows)) _ short.1 in
     (and_parts (are_bound [] (names_of (root_of p))) _ one.1).1
 
 -- each part is a document
@@ -80,4 +80,4 @@ pub document_has : (t : List ℕ) (s : RowsView) (c : Cut) (n : ℕ) (p : Part) 
     (h : HasDocument s d) × (h.stand.rows ≡ p.rows)
 document_has t s c n p d cut is at first end walk =
     let h = rows_stand t s c n p d cut is at first end in
-    (record { stand = h.0; sound = ap (λ (rs : List Row). is_sound depth_limit (group (lines_of rs))) h.1.0 ∙ sound_part p (each (document_parts c) walk n p at) }, h.1.0)
+    (record { stand = h.0; sound = ap (λ (rs : List Row). is_sound_outline depth_limit (group (lines_of_rows rs))) h.1.0 ∙ sound_part p (each (document_parts c) walk n p at) }, h.1.0)

@@ -3,11 +3,11 @@ use Rattle.std.proofs.Common.{◌≡◌, ℕ, ℤ, ◌-◌, true, false, not, Li
 use Rattle.std.proofs.lemmas.Bool.{false≢true, cases_Bool}
 use Rattle.yq_flow_scalars.specs.Answers.{◌>>=◌}
 use Rattle.yq_flow_scalars.specs.declared.style.Place.TheVariants as places
-use Rattle.yq_block_scalars.specs.Block.{mark_of}
+use Rattle.yq_block_scalars.specs.Block.{style_indicator}
 use Rattle.yq_flow_scalars.specs.Piece.{deeper}
 use Rattle.yq_flow_scalars.specs.Text.{is_empty}
 use Rattle.yq_nodes.specs.Inline.{depth_limit, IsInlineAt}
-use Rattle.yq_nodes.specs.Nodes.{Node, empty, alias, scalar, coll, anchored, node_text, items_text, is_bare, IsNode}
+use Rattle.yq_nodes.specs.Nodes.{FlowNode, empty, alias, scalar, coll, anchored, node_text, flow_items_text, is_empty_node, IsFlowNode}
 use Rattle.yq_nodes.specs.Places.{locate}
 use Rattle.yq_nodes.specs.Scalars.{is_quoted}
 use Rattle.yq_nodes.proofs.InlineLaws.{inline_again}
@@ -16,14 +16,14 @@ use Rattle.yq_nodes.proofs.WrittenLaws.{node_then}
 use Rattle.yq_cut.specs.Grammar.{IsContent}
 use Rattle.yq_cut.specs.Rows.{Content, Nothing, Inline, Block, parent_indent}
 use Rattle.yq_cut.specs.View.{Slices, anchor_cut, content_cut}
-use Rattle.yq_documents.specs.FlowReading.{kept, node_flow_at, head_flow_at, core, content_core, row_flow}
+use Rattle.yq_documents.specs.FlowReading.{alias_or_collection, node_flow_at, head_flow_at, core, content_core, row_flow}
 use Rattle.yq_documents.specs.KeyReading.{EndsIn}
 use Rattle.yq_lines.specs.Lines.{tail_of}
 use Rattle.yq_documents.specs.RowReading.{is_short_plain, is_block_head, HasHead}
 use Rattle.yq_documents.proofs.HeadLaws.{ends_drop, head_text, opens, block_marks, scalar_some_is}
 
 -- an inline node that is read
-node_again : (whole : List ℕ) (n : ℤ) (node : Node) (rest : List ℕ) → is_bare node ≡ false → EndsIn whole (node_text node rest) → IsNode false (Some (deeper n)) depth_limit node rest → node_flow_at whole n (node_text node rest) ≡ kept (locate (length whole) node rest)
+node_again : (whole : List ℕ) (n : ℤ) (node : FlowNode) (rest : List ℕ) → is_empty_node node ≡ false → EndsIn whole (node_text node rest) → IsFlowNode false (Some (deeper n)) depth_limit node rest → node_flow_at whole n (node_text node rest) ≡ alias_or_collection (locate (length whole) node rest)
 node_again whole n node rest some ends h =
     let at : ℕ = length whole - length (node_text node rest) in
     let p = locate (length whole) node rest in
@@ -34,7 +34,7 @@ node_again whole n node rest some ends h =
       inline = record { valid = h; something = ap not some };
       places = refl;
     } in
-    ap (λ o. o >>= kept) (inline_again places.Block n 0 at whole p is)
+    ap (λ o. o >>= alias_or_collection) (inline_again places.Block n 0 at whole p is)
 
 -- which head a text is
 by_node : (whole : List ℕ) (n : ℤ) (head t : List ℕ) → is_empty head ≡ false → is_block_head head ≡ false → is_quoted head ≡ false → is_short_plain head ≡ false → head_flow_at whole n head t ≡ node_flow_at whole n t
@@ -58,16 +58,16 @@ unfolding head_flow_at
 by_nothing whole n t = refl
 
 -- nothing and scalars aren't kept
-empty_none : (total : ℕ) (rest : List ℕ) → None ≡ kept (locate total empty rest)
+empty_none : (total : ℕ) (rest : List ℕ) → None ≡ alias_or_collection (locate total empty rest)
 unfolding locate
 empty_none total rest = refl
 
-scalar_none : (total : ℕ) (p rest : List ℕ) → None ≡ kept (locate total (scalar p) rest)
+scalar_none : (total : ℕ) (p rest : List ℕ) → None ≡ alias_or_collection (locate total (scalar p) rest)
 unfolding locate
 scalar_none total p rest = refl
 
-scalar_is : (whole : List ℕ) (n : ℤ) (p rest : List ℕ) → EndsIn whole (node_text (scalar p) rest) → IsNode false (Some (deeper n)) depth_limit (scalar p) rest → head_flow_at whole n p (node_text (scalar p) rest) ≡ kept (locate (length whole) (scalar p) rest)
-unfolding IsNode
+scalar_is : (whole : List ℕ) (n : ℤ) (p rest : List ℕ) → EndsIn whole (node_text (scalar p) rest) → IsFlowNode false (Some (deeper n)) depth_limit (scalar p) rest → head_flow_at whole n p (node_text (scalar p) rest) ≡ alias_or_collection (locate (length whole) (scalar p) rest)
+unfolding IsFlowNode
 scalar_is whole n p rest ends h =
     let s = scalar_some_is n p rest h in
     ⊎_elim {0, 0, 0}
@@ -79,25 +79,25 @@ scalar_is whole n p rest ends h =
     (cases_Bool (is_quoted p))
 
 -- a node without an anchor
-unnamed_is : (whole : List ℕ) (n : ℤ) (node : Node) (rest : List ℕ) → is_anchored node ≡ false → EndsIn whole (node_text node rest) → IsNode false (Some (deeper n)) depth_limit node rest →
-    head_flow_at whole n (node_text node []) (node_text node rest) ≡ kept (locate (length whole) node rest)
+unnamed_is : (whole : List ℕ) (n : ℤ) (node : FlowNode) (rest : List ℕ) → is_anchored node ≡ false → EndsIn whole (node_text node rest) → IsFlowNode false (Some (deeper n)) depth_limit node rest →
+    head_flow_at whole n (node_text node []) (node_text node rest) ≡ alias_or_collection (locate (length whole) node rest)
 unfolding node_text
 unnamed_is whole n empty rest a ends h = by_nothing whole n rest ∙ empty_none (length whole) rest
 unnamed_is whole n (alias name) rest a ends h = by_node whole n (42 ∷ (name ++ [])) (42 ∷ (name ++ rest)) refl refl refl refl ∙ node_again whole n (alias name) rest refl ends h
 unnamed_is whole n (scalar p) rest a ends h = ap (λ q. head_flow_at whole n q (p ++ rest)) (append-nil p) ∙ scalar_is whole n p rest ends h
 unnamed_is whole n (coll k g is) rest a ends h =
-    let o = opens k (g ++ items_text k is []) in
+    let o = opens k (g ++ flow_items_text k is []) in
     by_node whole n (node_text (coll k g is) []) (node_text (coll k g is) rest) refl o.0 o.1.0 o.1.1 ∙ node_again whole n (coll k g is) rest refl ends h
 unnamed_is whole n (anchored name g node) rest a ends h = absurd (false≢true (sym a))
 
-written_is : (whole : List ℕ) (n : ℤ) (node : Node) (rest : List ℕ) → is_anchored node ≡ false → EndsIn whole (node_text node [] ++ rest) → IsNode false (Some (deeper n)) depth_limit node rest →
-    head_flow_at whole n (node_text node []) (node_text node [] ++ rest) ≡ kept (locate (length whole) node rest)
+written_is : (whole : List ℕ) (n : ℤ) (node : FlowNode) (rest : List ℕ) → is_anchored node ≡ false → EndsIn whole (node_text node [] ++ rest) → IsFlowNode false (Some (deeper n)) depth_limit node rest →
+    head_flow_at whole n (node_text node []) (node_text node [] ++ rest) ≡ alias_or_collection (locate (length whole) node rest)
 written_is whole n node rest a ends h =
     ap (head_flow_at whole n (node_text node [])) (sym (node_then node rest)) ∙ unnamed_is whole n node rest a (subst (EndsIn whole) (sym (node_then node rest)) ends) h
 
-node_is : (whole : List ℕ) (n : ℤ) (node : Node) (rest : List ℕ) → EndsIn whole ((anchor_cut node).2 ++ rest) → IsNode false (Some (deeper n)) depth_limit node rest →
-    head_flow_at whole n (anchor_cut node).2 ((anchor_cut node).2 ++ rest) ≡ kept (locate (length whole) (core node) rest)
-unfolding IsNode
+node_is : (whole : List ℕ) (n : ℤ) (node : FlowNode) (rest : List ℕ) → EndsIn whole ((anchor_cut node).2 ++ rest) → IsFlowNode false (Some (deeper n)) depth_limit node rest →
+    head_flow_at whole n (anchor_cut node).2 ((anchor_cut node).2 ++ rest) ≡ alias_or_collection (locate (length whole) (core node) rest)
+unfolding IsFlowNode
 node_is whole n empty rest ends h = by_nothing whole n rest ∙ empty_none (length whole) rest
 node_is whole n (alias name) rest ends h = written_is whole n (alias name) rest refl ends h
 node_is whole n (scalar p) rest ends h = written_is whole n (scalar p) rest refl ends h
@@ -105,11 +105,11 @@ node_is whole n (coll k g is) rest ends h = written_is whole n (coll k g is) res
 node_is whole n (anchored name g node) rest ends h = written_is whole n node rest (takes_unanchored node h.3) ends h.4
 
 -- that of a row's content
-pub flow_is : (whole : List ℕ) (n : ℤ) (c : Content) (rest : List ℕ) → EndsIn whole (head_text c rest) → IsContent n c rest → head_flow_at whole n (content_cut c).3 (head_text c rest) ≡ kept (locate (length whole) (content_core c) (tail_of c ++ rest))
+pub flow_is : (whole : List ℕ) (n : ℤ) (c : Content) (rest : List ℕ) → EndsIn whole (head_text c rest) → IsContent n c rest → head_flow_at whole n (content_cut c).3 (head_text c rest) ≡ alias_or_collection (locate (length whole) (content_core c) (tail_of c ++ rest))
 flow_is whole n (Nothing tail) rest ends h = by_nothing whole n (tail ++ rest) ∙ empty_none (length whole) (tail ++ rest)
 flow_is whole n (Inline space node tail) rest ends h = node_is whole n node (tail ++ rest) ends h.1.valid
 flow_is whole n (Block space anchor block) rest ends h =
-    by_block whole n (mark_of block.style ∷ block.indicators) (head_text (Block space anchor block) rest) refl (block_marks block.style block.indicators) ∙ empty_none (length whole) (block.tail ++ rest)
+    by_block whole n (style_indicator block.style ∷ block.indicators) (head_text (Block space anchor block) rest) refl (block_marks block.style block.indicators) ∙ empty_none (length whole) (block.tail ++ rest)
 
 -- the alias or flow collection in a row's head that is read again
 pub flow_again : (whole : List ℕ) (s : Slices) (t : List ℕ) (h : HasHead s t) → EndsIn whole t → head_flow_at whole s.parent s.head t ≡ row_flow (length whole) h.row h.rest

@@ -3,11 +3,11 @@ use Rattle.std.proofs.Common.{◌≡◌, ℕ, ℤ, true, false, List, [], ◌∷
 use Rattle.std.proofs.lemmas.Bool.{false≢true}
 use Rattle.yq_block_scalars.specs.declared.block_header.BlockStyle.{BlockStyle}
 use Rattle.yq_block_scalars.specs.declared.block_header.BlockStyle.TheVariants as styles
-use Rattle.yq_block_scalars.specs.Block.{mark_of as block_mark}
+use Rattle.yq_block_scalars.specs.Block.{style_indicator as block_mark}
 use Rattle.yq_flow_scalars.specs.Piece.{deeper}
 use Rattle.yq_flow_scalars.specs.Quoted.{IsQuotedText}
 use Rattle.yq_nodes.specs.Inline.{depth_limit}
-use Rattle.yq_nodes.specs.Nodes.{Node, empty, alias, scalar, coll, anchored, node_text, items_text, IsNode}
+use Rattle.yq_nodes.specs.Nodes.{FlowNode, empty, alias, scalar, coll, anchored, node_text, flow_items_text, IsFlowNode}
 use Rattle.yq_nodes.proofs.NodeAgain.{is_anchored, takes_unanchored}
 use Rattle.yq_nodes.specs.Scalars.{is_quoted}
 use Rattle.yq_cut.specs.Grammar.{IsContent}
@@ -15,7 +15,7 @@ use Rattle.yq_cut.specs.Rows.{Content, Nothing, Inline, Block, parent_indent}
 use Rattle.yq_cut.specs.View.{Slices, anchor_cut, content_cut}
 use Rattle.yq_lines.specs.Lines.{content_anchor, head_of, tail_of}
 use Rattle.yq_documents.specs.KeyReading.{EndsIn}
-use Rattle.yq_documents.specs.RowReading.{name_in, head_at, HasHead}
+use Rattle.yq_documents.specs.RowReading.{name_in, read_head, HasHead}
 use Rattle.yq_lines.proofs.RowLaws.{scalar_quoted}
 use Rattle.yq_documents.proofs.HeadLaws.{fitting, head_is, opens}
 
@@ -36,17 +36,17 @@ tail_is (Inline space node tail) = refl
 tail_is (Block space anchor block) = refl
 
 -- a quoted head is a quoted scalar
-written_quoted : (n : ℤ) (node : Node) (rest : List ℕ) → is_anchored node ≡ false → IsNode false (Some (deeper n)) depth_limit node rest → is_quoted (node_text node []) ≡ true → IsQuotedText (node_text node [])
-unfolding IsNode node_text
+written_quoted : (n : ℤ) (node : FlowNode) (rest : List ℕ) → is_anchored node ≡ false → IsFlowNode false (Some (deeper n)) depth_limit node rest → is_quoted (node_text node []) ≡ true → IsQuotedText (node_text node [])
+unfolding IsFlowNode node_text
 written_quoted n empty rest a h q = absurd (false≢true q)
 written_quoted n (alias name) rest a h q = absurd (false≢true q)
 written_quoted n (scalar p) rest a h q =
     subst (λ (x : List ℕ). is_quoted x ≡ true → IsQuotedText x) (sym (append-nil p)) (scalar_quoted (Some (deeper n)) p rest h) q
-written_quoted n (coll k g is) rest a h q = absurd (false≢true (sym (opens k (g ++ items_text k is [])).1.0 ∙ q))
+written_quoted n (coll k g is) rest a h q = absurd (false≢true (sym (opens k (g ++ flow_items_text k is [])).1.0 ∙ q))
 written_quoted n (anchored name g node) rest a h q = absurd (false≢true (sym a))
 
-node_quoted : (n : ℤ) (node : Node) (rest : List ℕ) → IsNode false (Some (deeper n)) depth_limit node rest → is_quoted (anchor_cut node).2 ≡ true → IsQuotedText (anchor_cut node).2
-unfolding IsNode
+node_quoted : (n : ℤ) (node : FlowNode) (rest : List ℕ) → IsFlowNode false (Some (deeper n)) depth_limit node rest → is_quoted (anchor_cut node).2 ≡ true → IsQuotedText (anchor_cut node).2
+unfolding IsFlowNode
 node_quoted n empty rest h q = absurd (false≢true q)
 node_quoted n (alias name) rest h q = written_quoted n (alias name) rest refl h q
 node_quoted n (scalar p) rest h q = written_quoted n (scalar p) rest refl h q
@@ -67,7 +67,7 @@ pub quoted_again : (s : Slices) (t : List ℕ) → HasHead s t → is_quoted s.h
 quoted_again s t h =
     subst (λ (x : Slices). is_quoted x.head ≡ true → IsQuotedText x.head) (sym h.pieces) (content_quoted (parent_indent h.row) h.row.content h.rest h.valid.content)
 
-pub head_again : (whole : List ℕ) (s : Slices) (t : List ℕ) (h : HasHead s t) → EndsIn whole t → head_at whole s.parent s.head t ≡ Some (head_of h.row.content)
+pub head_again : (whole : List ℕ) (s : Slices) (t : List ℕ) (h : HasHead s t) → EndsIn whole t → read_head whole s.parent s.head t ≡ Some (head_of h.row.content)
 head_again whole s t h ends =
-    (λ i. head_at whole (h.pieces i).parent (h.pieces i).head (h.text i))
+    (λ i. read_head whole (h.pieces i).parent (h.pieces i).head (h.text i))
     ∙ (head_is whole (parent_indent h.row) h.row.content h.rest (subst (EndsIn whole) h.text ends) h.valid.content ∙ ap (λ b. fitting b (head_of h.row.content)) h.fit)

@@ -1,7 +1,7 @@
 -- The run of comment lines that ends lines.
 use Rattle.std.proofs.Common.{◌≡◌, ℕ, Bool, true, false, cond, eqb, ◌&&◌, List, [], ◌∷◌, ◌++◌, refl, sym, ap, ◌∙◌, append_assoc}
 use Rattle.std.proofs.lemmas.Bool.{cond-true, cond-false}
-use Rattle.yq_flow_scalars.specs.Text.{front, joined, lines_of, past_white}
+use Rattle.yq_flow_scalars.specs.Text.{front, joined, text_lines, past_white}
 use Rattle.yq_lines.specs.Comments.{are_comments, last_comments}
 use Rattle.yq_documents.specs.Pieces.{before_run, last_run}
 use Rattle.yq_documents.specs.Texts.{texts}
@@ -34,9 +34,9 @@ run_anew run ls l h =
     let e : are_comments (l ∷ ls) ≡ false = ap (λ b. b && are_comments ls) h in
     cond-false _ _ _ e ∙ (cond-false _ _ _ e ∙ run_here ls)
 
-pub run_end : (run : List (List ℕ)) (t : List ℕ) → t ≡ [] → run_or run (lines_of t) ≡ run
-unfolding lines_of
-run_end run t e = ap (λ x. run_or run (lines_of x)) e
+pub run_end : (run : List (List ℕ)) (t : List ℕ) → t ≡ [] → run_or run (text_lines t) ≡ run
+unfolding text_lines
+run_end run t e = ap (λ x. run_or run (text_lines x)) e
 
 -- the texts of the run
 pub run_texts : (ls : List (List ℕ)) → texts (last_run ls) ≡ last_comments ls

@@ -7,23 +7,23 @@ use Rattle.yq_lines.specs.Group.{group}
 use Rattle.yq_lines.specs.Outline.{Line, value}
 use Rattle.yq_cut.specs.Rows.{Row, Part, Cut}
 use Rattle.yq_cut.specs.View.{rows_of, RowsView}
-use Rattle.yq_lines.specs.Lines.{lines_of}
+use Rattle.yq_lines.specs.Lines.{lines_of_rows}
 use Rattle.yq_lines.specs.RowWalk.{HasDocument, HasRows, IsLine, IsPosition, OfLine, line_number}
 use Rattle.yq_lines.specs.declared.line_position.Position.{Position}
 use Rattle.yq_lines.specs.declared.line_position.Stretch.{Stretch}
 use Rattle.yq_lines.proofs.KnownLaws.{get_dropped, get_front}
 use Rattle.yq_lines.proofs.WalkPositions.{Located, first_number, located}
 use Rattle.yq_documents.specs.Documents.{Document, document_parts}
-use Rattle.yq_documents.specs.Reading.{cut_of, document_of, documents_of}
+use Rattle.yq_documents.specs.Reading.{cut_of, part_document, documents_of}
 use Rattle.yq_documents.specs.LinesInRows.{document_row}
-use Rattle.yq_documents.specs.Stretches.{HasText, IsLineIn, IsPositionIn, OfLineIn, document_lines, document_rows, number_of, part_rows}
+use Rattle.yq_documents.specs.Stretches.{HasText, IsLineIn, IsPositionIn, OfLineIn, document_lines, rows_of_document, number_of, part_rows}
 use Rattle.yq_documents.proofs.PartRows.{document_has, has_part, part_begins}
 
-pub document_in : {t : List ℕ} {n : ℕ} {s : RowsView} {d : Stretch} → HasText t n s d → (h : HasDocument s d) × (h.stand.rows ≡ document_rows n t)
+pub document_in : {t : List ℕ} {n : ℕ} {s : RowsView} {d : Stretch} → HasText t n s d → (h : HasDocument s d) × (h.stand.rows ≡ rows_of_document n t)
 document_in {t} {n} {s} {d} x =
     let c : Cut = cut_of t in
-    let p = has_part (document_parts c) n (omega (arith, x.there, length-map (document_parts c) document_of)) in
-    let is : document_rows n t ≡ p.0.rows = ap part_rows p.1 in
+    let p = has_part (document_parts c) n (omega (arith, x.there, length-map (document_parts c) part_document)) in
+    let is : rows_of_document n t ≡ p.0.rows = ap part_rows p.1 in
     let h = document_has t s c n p.0 d x.cut x.rows p.1 (ap (λ (e : Stretch). e.first) x.place) (ap (λ (e : Stretch). e.end) x.place ∙ ap (λ (rs : List Row). document_row n c + length rs) is) x.sound in
     (h.0, h.1 ∙ sym is)
 
@@ -32,13 +32,13 @@ module _ {t : List ℕ} {n : ℕ} {s : RowsView} {d : Stretch} (x : HasText t n 
   stands = (document_in x).0.stand
 
   -- what is told of the lines of the rows that were walked is so of those of the document
-  agrees_lines : (P : List Line → (Position → ℕ) → Type 0) → P (lines_of stands.rows) (line_number d stands.rows) → P (document_lines n t) (number_of n t)
-  agrees_lines P p = subst (λ (y : List Row × Stretch). P (lines_of y.0) (line_number y.1 y.0)) (λ i. ((document_in x).1 i, x.place i)) p
+  agrees_lines : (P : List Line → (Position → ℕ) → Type 0) → P (lines_of_rows stands.rows) (line_number d stands.rows) → P (document_lines n t) (number_of n t)
+  agrees_lines P p = subst (λ (y : List Row × Stretch). P (lines_of_rows y.0) (line_number y.1 y.0)) (λ i. ((document_in x).1 i, x.place i)) p
 
-  pub agrees_rows : (P : List Line → (Position → ℕ) → Type 0) → ((h : HasRows s d) → P (lines_of h.rows) (line_number d h.rows)) → P (document_lines n t) (number_of n t)
+  pub agrees_rows : (P : List Line → (Position → ℕ) → Type 0) → ((h : HasRows s d) → P (lines_of_rows h.rows) (line_number d h.rows)) → P (document_lines n t) (number_of n t)
   agrees_rows P f = agrees_lines P (f stands)
 
-  pub agrees_document : (P : List Line → (Position → ℕ) → Type 0) → ((h : HasDocument s d) → P (lines_of h.stand.rows) (line_number d h.stand.rows)) → P (document_lines n t) (number_of n t)
+  pub agrees_document : (P : List Line → (Position → ℕ) → Type 0) → ((h : HasDocument s d) → P (lines_of_rows h.stand.rows) (line_number d h.stand.rows)) → P (document_lines n t) (number_of n t)
   agrees_document P f = agrees_lines P (f (document_in x).0)
 
   pub of_line : (q : Position) (said : Line → Type 0) → OfLine s d q said → OfLineIn t n q said
@@ -78,8 +78,8 @@ module _ {t : List ℕ} {n : ℕ} {s : RowsView} {d : Stretch} (x : HasText t n 
   row_there {q} at =
       let c : Cut = cut_of t in
       let k = located_in at in
-      let p = has_part (document_parts c) n (omega (arith, x.there, length-map (document_parts c) document_of)) in
-      let is : document_rows n t ≡ p.0.rows = ap part_rows p.1 in
+      let p = has_part (document_parts c) n (omega (arith, x.there, length-map (document_parts c) part_document)) in
+      let is : rows_of_document n t ≡ p.0.rows = ap part_rows p.1 in
       let b = part_begins c n p.0 p.1 in
       let first : d.first ≡ document_row n c = ap (λ (e : Stretch). e.first) x.place in
       let mine : slice_get p.0.rows (q.row - d.first) ≡ Some k.row = ap (λ (rs : List Row). slice_get rs (q.row - d.first)) (sym ((document_in x).1 ∙ is)) ∙ k.there in
@@ -93,9 +93,9 @@ module _ {t : List ℕ} {n : ℕ} {s : RowsView} {d : Stretch} (x : HasText t n 
   first_is = agrees_rows (λ ls num. num (record { row = d.first; line = 0 }) ≡ 0) (λ h. sym (first_number d h.rows))
 
 -- the root of a document
-part_root : (o : Option Part) (d : Document) → option_map document_of o ≡ Some d → value (group (lines_of (part_rows o))) ≡ d.root
+part_root : (o : Option Part) (d : Document) → option_map part_document o ≡ Some d → value (group (lines_of_rows (part_rows o))) ≡ d.root
 part_root None d e = absurd (cc)
 part_root (Some p) d e = ap (λ (y : Document). y.root) (same_Some _ _ e)
 
 pub root_is : (t : List ℕ) (n : ℕ) (d : Document) → slice_get (documents_of t) n ≡ Some d → value (group (document_lines n t)) ≡ d.root
-root_is t n d e = part_root (slice_get (document_parts (cut_of t)) n) d (sym (slice_get-map document_of (document_parts (cut_of t)) n) ∙ e)
+root_is t n d e = part_root (slice_get (document_parts (cut_of t)) n) d (sym (slice_get-map part_document (document_parts (cut_of t)) n) ∙ e)

@@ -4,7 +4,7 @@ use Rattle.yq_flow_scalars.specs.Scalar.{plain_of}
 use Rattle.yq_flow_scalars.specs.Text.{is_empty}
 use Rattle.yq_flow_scalars.specs.Tree.{Node}
 use Rattle.yq_nodes.specs.Places.{Placed}
-use Rattle.yq_nodes.specs.Scalars.{is_quoted, content_of}
+use Rattle.yq_nodes.specs.Scalars.{is_quoted, scalar_content}
 use Rattle.yq_nodes.specs.Trees.{scalar_node}
 use Rattle.yq_lines.specs.View.{head_flow, head_view}
 use Rattle.yq_cut.specs.Exchange.{behind_row}
@@ -52,7 +52,7 @@ decoded_flow m = option_and_then (λ x. option_and_then head_flow x.head) m
 
 -- What row i of a cut of a text so long spells is told by what is made of it and by its pieces (own).
 pub record IsDecodedBy (total : ℕ) (c : Cut) (m : Option Decoded) (i : ℕ) (r : Row) : Type 0 where
-  pub key : decoded_key m (slices r).key ≡ content_of (slices r).key
+  pub key : decoded_key m (slices r).key ≡ scalar_content (slices r).key
   pub head : decoded_head m (slices r).head ≡ head_of r.content
   pub flow : decoded_flow m ≡ row_flow total r (behind_row i c)
 

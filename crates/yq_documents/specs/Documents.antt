@@ -8,14 +8,14 @@ use Rattle.yq_nodes.specs.Nodes as inline
 use Rattle.yq_nodes.specs.Nodes.{Items, none, item}
 use Rattle.yq_nodes.specs.Inline.{depth_limit}
 use Rattle.yq_lines.specs.Comments.{head_comment}
-use Rattle.yq_cut.specs.Grammar.{IsCut, is_plain, no_rows, begins_document, key_limit}
+use Rattle.yq_cut.specs.Grammar.{IsCut, is_plain_content, no_rows, begins_document, key_limit}
 use Rattle.yq_cut.specs.Rows as rows
 use Rattle.yq_cut.specs.Rows.{Content, Nothing, Inline, Block, Row, Part, Cut, last, marked}
 use Rattle.yq_cut.specs.Splices.{first_gap}
 use Rattle.yq_flow_scalars.specs.Anchors.{names_of, AreBound}
 use Rattle.yq_lines.specs.LineAnchors.{HaveOneAnchorEach}
-use Rattle.yq_lines.specs.Grammar.{IsNode}
-use Rattle.yq_lines.specs.Lines.{lines_of}
+use Rattle.yq_lines.specs.Grammar.{IsNodeOutline}
+use Rattle.yq_lines.specs.Lines.{lines_of_rows}
 use Rattle.yq_lines.specs.Outline.{Line, null_node}
 
 -- A document: the comment before it and its root node (9.1; own).
@@ -50,7 +50,7 @@ document_parts c = parts_from (begins_bare c || not (has_begin c)) c
 -- lines are those of a root node; a document without lines has a null as its root (7.2, 8.2.3, 9.1.4)
 abbrev pub IsRoot : List Line → Node → Type 0
 IsRoot [] node = node ≡ null_node
-IsRoot (l ∷ ls) node = (n : ℕ) × IsNode n (l ∷ ls) node
+IsRoot (l ∷ ls) node = (n : ℕ) × IsNodeOutline n (l ∷ ls) node
 
 -- the comment before a document: the run of comment lines that ends its first gap (own)
 abbrev pub lead_of : Part → List (List ℕ)
@@ -67,7 +67,7 @@ HasFitKey (inline.keyed text before gap) = IsFit text
 
 abbrev mutual
   -- each key of an inline node is fit (own)
-  pub HasFitKeys : inline.Node → Type 0
+  pub HasFitKeys : inline.FlowNode → Type 0
   HasFitKeys inline.empty = ⊤
   HasFitKeys (inline.alias name) = ⊤
   HasFitKeys (inline.scalar p) = ⊤
@@ -86,7 +86,7 @@ ContentHasFitKeys (Inline space node tail) = HasFitKeys node
 ContentHasFitKeys (Block space anchor block) = ⊤
 
 -- the key of a row is no plain `<<` (own)
-abbrev pub MarkIsFit : rows.Mark → Type 0
+abbrev pub MarkIsFit : rows.RowMark → Type 0
 MarkIsFit rows.Bare = ⊤
 MarkIsFit rows.Dash = ⊤
 MarkIsFit (rows.Key key colon) = key ≢ codes "<<"
@@ -99,11 +99,11 @@ HaveFitKeys (r ∷ rs) = MarkIsFit r.mark × ContentHasFitKeys r.content × Have
 -- a plain scalar of several lines (7.3.3)
 abbrev pub has_lines : Content → Bool
 has_lines (Nothing tail) = false
-has_lines (Inline space node tail) = is_plain node && holds_break (inline.node_text node [])
+has_lines (Inline space node tail) = is_plain_content node && holds_break (inline.node_text node [])
 has_lines (Block space anchor block) = false
 
 -- a row is a plain scalar of several lines alone (own)
-abbrev pub is_long_plain : rows.Mark → Content → Bool
+abbrev pub is_long_plain : rows.RowMark → Content → Bool
 is_long_plain rows.Bare c = has_lines c
 is_long_plain rows.Dash c = false
 is_long_plain (rows.Key key colon) c = false
@@ -116,11 +116,11 @@ HasShortRoot (r ∷ rs) = is_long_plain r.mark r.content ≡ false
 -- The rows of a part and the gap behind them are those of a document (8.2, 3.2.1.3, 3.2.2.2; own).
 pub record IsDocument (p : Part) (d : Document) : Type 0 where
   pub lead : d.lead ≡ lead_of p
-  pub root : IsRoot (lines_of p.rows) d.root
+  pub root : IsRoot (lines_of_rows p.rows) d.root
   pub keys : HaveFitKeys p.rows
   pub unique : HasUniqueKeys d.root
   pub nested : depth d.root ≤ depth_limit
-  pub anchors : HaveOneAnchorEach (lines_of p.rows)
+  pub anchors : HaveOneAnchorEach (lines_of_rows p.rows)
   pub bound : AreBound [] (names_of d.root)
   pub short : HasShortRoot p.rows
 
@@ -132,7 +132,7 @@ AreDocuments (p ∷ ps) [] = ⊥
 AreDocuments (p ∷ ps) (d ∷ ds) = IsDocument p d × AreDocuments ps ds
 
 -- Bytes read as documents: they are UTF-8, and are cut into parts that stand for documents (5.2, 9.2).
-pub record Reads (bytes : List ℕ) (docs : List Document) : Type 0 where
+pub record ReadsDocuments (bytes : List ℕ) (docs : List Document) : Type 0 where
   pub utf8 : is_utf8 bytes ≡ true
   pub parts : Cut
   pub cut : IsCut bytes parts

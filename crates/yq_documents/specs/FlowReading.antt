@@ -4,8 +4,8 @@ use Rattle.yq_flow_scalars.specs.declared.style.Place.TheVariants as places
 use Rattle.yq_flow_scalars.specs.Answers.{◌>>=◌}
 use Rattle.yq_flow_scalars.specs.Text.{is_empty}
 use Rattle.yq_nodes.specs.Inline.{inline_at}
-use Rattle.yq_nodes.specs.Nodes.{Node, empty, alias, scalar, coll, anchored}
-use Rattle.yq_nodes.specs.Places.{Placed, placed, Content, nothing, name, text, sequence, mapping, locate}
+use Rattle.yq_nodes.specs.Nodes.{FlowNode, empty, alias, scalar, coll, anchored}
+use Rattle.yq_nodes.specs.Places.{Placed, placed, CoreNode, nothing, name, text, sequence, mapping, locate}
 use Rattle.yq_nodes.specs.Scalars.{is_quoted}
 use Rattle.yq_cut.specs.Rows as rows
 use Rattle.yq_cut.specs.Rows.{Row}
@@ -13,7 +13,7 @@ use Rattle.yq_lines.specs.Lines.{tail_of}
 use Rattle.yq_documents.specs.RowReading.{is_block_head, is_short_plain}
 
 -- a node by its content, if it is an alias or a flow collection (own)
-abbrev pub kept_by : Placed → Content → Option Placed
+abbrev pub kept_by : Placed → CoreNode → Option Placed
 kept_by p nothing = None
 kept_by p (name n) = Some p
 kept_by p (text s piece) = None
@@ -21,12 +21,12 @@ kept_by p (sequence parts) = Some p
 kept_by p (mapping parts) = Some p
 
 -- a node, if it is an alias or a flow collection (own)
-abbrev pub kept : Placed → Option Placed
-kept (placed a s c e f) = kept_by (placed a s c e f) f
+abbrev pub alias_or_collection : Placed → Option Placed
+alias_or_collection (placed a s c e f) = kept_by (placed a s c e f) f
 
 -- the alias or flow collection in front, at the end of a text (own)
 abbrev pub node_flow_at : List ℕ → ℤ → List ℕ → Option Placed
-node_flow_at whole n t = inline_at places.Block n 0 (length whole - length t) whole >>= kept
+node_flow_at whole n t = inline_at places.Block n 0 (length whole - length t) whole >>= alias_or_collection
 
 -- the alias or flow collection that a head is that is written so, with what follows it, at the end of a text (own)
 unfoldable pub head_flow_at : List ℕ → ℤ → List ℕ → List ℕ → Option Placed
@@ -38,7 +38,7 @@ head_flow_at whole n head t =
     else node_flow_at whole n t)))
 
 -- a node without the anchor before it (6.9.2)
-abbrev pub core : Node → Node
+abbrev pub core : FlowNode → FlowNode
 core empty = empty
 core (alias n) = alias n
 core (scalar p) = scalar p
@@ -46,11 +46,11 @@ core (coll close gap items) = coll close gap items
 core (anchored n gap node) = node
 
 -- the inline node of a row's content, without its anchor; where there is none, nothing (own)
-abbrev pub content_core : rows.Content → Node
+abbrev pub content_core : rows.Content → FlowNode
 content_core (rows.Nothing tail) = empty
 content_core (rows.Inline space node tail) = core node
 content_core (rows.Block space anchor block) = empty
 
 -- the alias or flow collection in a row's head, with its places in a text so long, before a rest (own)
 abbrev pub row_flow : ℕ → Row → List ℕ → Option Placed
-row_flow total r rest = kept (locate total (content_core r.content) (tail_of r.content ++ rest))
+row_flow total r rest = alias_or_collection (locate total (content_core r.content) (tail_of r.content ++ rest))

@@ -1,7 +1,7 @@
 -- Reading (own; a reader may skip it: the grammar is what is believed, and the clauses `found` and `only` tie the two): the keys in flow collections, by their places.
 use Rattle.std.specs.Prelude.{◌≡◌, ◌++◌, ◌-◌, Bool, true, ◌&&◌, List, ℕ, take, drop, Option, Some, None}
 use Rattle.yq_flow_scalars.specs.declared.piece.Piece.{Piece}
-use Rattle.yq_nodes.specs.Places.{Placed, placed, Content, nothing, name, text, sequence, mapping, Parts, end, part}
+use Rattle.yq_nodes.specs.Places.{Placed, placed, CoreNode, nothing, name, text, sequence, mapping, Parts, end, part}
 use Rattle.yq_documents.specs.Reading.{is_fit}
 
 -- the key that stands from here to there is fit (own)
@@ -19,7 +19,7 @@ abbrev mutual
   node_fits t (placed a s c e f) = form_fits t f
 
   -- the same of what a node is (own)
-  pub form_fits : List ℕ → Content → Bool
+  pub form_fits : List ℕ → CoreNode → Bool
   form_fits t nothing = true
   form_fits t (name n) = true
   form_fits t (text s p) = true

@@ -8,10 +8,10 @@ use Rattle.yq_documents.specs.declared.path.Part.TheVariants.{Content, Entry, He
 use Rattle.yq_documents.specs.declared.path.Path.{Path}
 use Rattle.yq_documents.specs.Documents.{document_parts}
 use Rattle.yq_documents.specs.PartNumbers.{part_number, rows_to}
-use Rattle.yq_lines.specs.Lines.{lines_of}
+use Rattle.yq_lines.specs.Lines.{lines_of_rows}
 use Rattle.yq_documents.specs.Located.{steps_of}
 use Rattle.yq_documents.specs.Reading.{cut_of}
-use Rattle.yq_lines.specs.Ends.{line_of}
+use Rattle.yq_lines.specs.Ends.{line_at_steps}
 
 -- A line of a row: how many rows stand before that row, the row, and how many of its lines stand before this one (own).
 pub record RowLine : Type 0 where
@@ -30,7 +30,7 @@ row_line n (r ∷ rs) = if nat_lt (length r.dashes) n then option_map behind_one
 
 -- the line of the entry or item to which steps lead among rows; the root has none, nor has what stands in flow (own)
 abbrev pub row_line_of : List Step → List Row → Option RowLine
-row_line_of steps rs = line_of steps (lines_of rs) >>= λ n. row_line n rs
+row_line_of steps rs = line_at_steps steps (lines_of_rows rs) >>= λ n. row_line n rs
 
 -- the same of a path in a cut, among the rows of its document (own)
 abbrev pub row_line_at : Path → Cut → Option RowLine

@@ -1,6 +1,6 @@
 -- The documents of the code, and the nodes at paths in them.
 use Rattle.std.specs.Prelude.{List, [], ℕ, map, None, Option, option_and_then, slice_get}
-use Rattle.yq_nodes.specs.Entries.{step_of}
+use Rattle.yq_nodes.specs.Entries.{tree_step}
 use Rattle.yq_flow_scalars.specs.Paths.{Step, node_at}
 use Rattle.yq_flow_scalars.specs.Tree.{Label, Node}
 use Rattle.yq_documents.specs.declared.path.Path.{Path}
@@ -10,7 +10,7 @@ use Rattle.yq_documents.specs.Reading.{documents_of}
 
 -- the steps of a path (own)
 abbrev pub steps_of : Path → List Step
-steps_of p = map step_of p.steps.items
+steps_of p = map tree_step p.steps.items
 
 -- a document of a text, by its index (own)
 abbrev pub document_at : List ℕ → ℕ → Option Document

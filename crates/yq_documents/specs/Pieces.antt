@@ -1,8 +1,8 @@
 -- Pieces of a text: inline nodes, what is written behind a mark, and comments (YAML 1.2.2, 6.6, 7 and 8.1; own).
 use Rattle.std.specs.Prelude.{ℕ, ◌+◌, List, [], ◌∷◌, ◌++◌, length, Option, Some, None, if◌then◌else◌, ◌==◌}
 use Rattle.yq_block_scalars.specs.Block.{block_text}
-use Rattle.yq_flow_scalars.specs.Text.{is_empty, cut, front, ends_line, joined, lines_of, no_white, past_white}
-use Rattle.yq_nodes.specs.Nodes.{Node, empty, alias, scalar, coll, anchored, node_text}
+use Rattle.yq_flow_scalars.specs.Text.{is_empty, cut, front, ends_line, joined, text_lines, no_white, past_white}
+use Rattle.yq_nodes.specs.Nodes.{FlowNode, empty, alias, scalar, coll, anchored, node_text}
 use Rattle.yq_cut.specs.Exchange.{HasPieces}
 use Rattle.yq_cut.specs.Rows.{Content, Nothing, Inline, Block, anchor_text}
 use Rattle.yq_cut.specs.View.{content_cut}
@@ -28,7 +28,7 @@ abbrev pub HoldsPiece : List ℕ → TextPiece → Type 0
 HoldsPiece t p = HasPieces t p.before p.text p.behind
 
 -- an inline node between two texts, without its anchor; where nothing but an anchor is written there is none (7.2)
-abbrev pub node_piece : List ℕ → Node → List ℕ → Option TextPiece
+abbrev pub node_piece : List ℕ → FlowNode → List ℕ → Option TextPiece
 node_piece before empty behind = None
 node_piece before (alias name) behind = Some (record { before = before; text = node_text (alias name) []; behind = behind })
 node_piece before (scalar p) behind = Some (record { before = before; text = node_text (scalar p) []; behind = behind })
@@ -64,5 +64,5 @@ before_run (l ∷ ls) = if are_comments (l ∷ ls) then [] else l ∷ before_run
 -- the run that ends a gap between two texts, if there is one: its lines with their breaks (6.6)
 abbrev pub gap_comment : List ℕ → List ℕ → List ℕ → Option TextPiece
 gap_comment before gap behind =
-    let run = joined (last_run (lines_of gap)) in
-    if is_empty run then None else Some (record { before = before ++ joined (before_run (lines_of gap)); text = run; behind = behind })
+    let run = joined (last_run (text_lines gap)) in
+    if is_empty run then None else Some (record { before = before ++ joined (before_run (text_lines gap)); text = run; behind = behind })

@@ -14,22 +14,22 @@ use Rattle.yq_cut.specs.Rows.{Content, Nothing, Inline, Block, Row, Part, Cut, l
 use Rattle.yq_flow_scalars.specs.Anchors.{names_of}
 use Rattle.yq_documents.specs.Documents.{Document, document_parts, lead_of, is_long_plain}
 use Rattle.yq_lines.specs.Group.{group}
-use Rattle.yq_lines.specs.Lines.{lines_of}
+use Rattle.yq_lines.specs.Lines.{lines_of_rows}
 use Rattle.yq_lines.specs.LinesReading.{have_one_anchor_each, are_bound}
 use Rattle.yq_lines.specs.Outline.{Outline, value}
-use Rattle.yq_lines.specs.Sound.{is_sound}
+use Rattle.yq_lines.specs.Sound.{is_sound_outline}
 
 -- the outline of a part
-abbrev pub outline_of : Part → Outline
-outline_of p = group (lines_of p.rows)
+abbrev pub part_outline : Part → Outline
+part_outline p = group (lines_of_rows p.rows)
 
 -- the root node that a part stands for
 abbrev pub root_of : Part → Node
-root_of p = value (outline_of p)
+root_of p = value (part_outline p)
 
 -- the document that a part stands for, if it stands for one
-abbrev pub document_of : Part → Document
-document_of p = record { lead = lead_of p; root = root_of p }
+abbrev pub part_document : Part → Document
+part_document p = record { lead = lead_of p; root = root_of p }
 
 -- whether a key as it is written is fit
 abbrev pub is_fit : List ℕ → Bool
@@ -42,7 +42,7 @@ has_fit_key (inline.keyed text before gap) = is_fit text
 
 abbrev mutual
   -- whether each key of an inline node is fit
-  pub has_fit_keys : inline.Node → Bool
+  pub has_fit_keys : inline.FlowNode → Bool
   has_fit_keys inline.empty = true
   has_fit_keys (inline.alias name) = true
   has_fit_keys (inline.scalar p) = true
@@ -61,7 +61,7 @@ content_is_fit (Inline space node tail) = has_fit_keys node
 content_is_fit (Block space anchor block) = true
 
 -- whether the key of a row is no plain `<<`
-abbrev pub mark_is_fit : rows.Mark → Bool
+abbrev pub mark_is_fit : rows.RowMark → Bool
 mark_is_fit rows.Bare = true
 mark_is_fit rows.Dash = true
 mark_is_fit (rows.Key key colon) = not (bytes_eq key (codes "<<"))
@@ -78,11 +78,11 @@ has_short_root (r ∷ rs) = not (is_long_plain r.mark r.content)
 
 -- whether a part stands for a document
 abbrev pub is_document : Part → Bool
-is_document p = have_fit_keys p.rows && (has_short_root p.rows && (have_one_anchor_each (lines_of p.rows) && (are_bound [] (names_of (root_of p)) && is_sound depth_limit (outline_of p))))
+is_document p = have_fit_keys p.rows && (has_short_root p.rows && (have_one_anchor_each (lines_of_rows p.rows) && (are_bound [] (names_of (root_of p)) && is_sound_outline depth_limit (part_outline p))))
 
 -- the documents that the parts of a cut stand for, where each stands for one
 abbrev pub documents : Cut → List Document
-documents c = map document_of (document_parts c)
+documents c = map part_document (document_parts c)
 
 -- whether the parts of a cut stand for documents
 abbrev pub all_documents : Cut → Bool

@@ -5,10 +5,10 @@ use Rattle.yq_flow_scalars.specs.Shapes.{IsTree}
 use Rattle.yq_flow_scalars.specs.Tree.{children_of}
 use Rattle.yq_nodes.specs.Inline.{depth_limit}
 use Rattle.yq_lines.specs.Outline.{Line}
-use Rattle.yq_lines.specs.Sound.{is_entry}
+use Rattle.yq_lines.specs.Sound.{is_entry_line}
 use Rattle.yq_cut.specs.Rows.{Part}
 use Rattle.yq_documents.specs.Documents.{Document, document_parts}
-use Rattle.yq_lines.specs.Lines.{lines_of}
+use Rattle.yq_lines.specs.Lines.{lines_of_rows}
 use Rattle.yq_documents.specs.Located.{document_at}
 use Rattle.yq_documents.specs.Reading.{cut_of}
 use Rattle.yq_documents.specs.TreeEdits.{lead_by}
@@ -16,12 +16,12 @@ use Rattle.yq_documents.specs.TreeEdits.{lead_by}
 -- whether lines begin with a key or dash, or there are none, so that the root is no inline node (own)
 abbrev pub begins_no_node : List Line → Bool
 begins_no_node [] = true
-begins_no_node (l ∷ ls) = is_entry l.mark
+begins_no_node (l ∷ ls) = is_entry_line l.mark
 
 -- the same of the rows of a part, if there is one (own)
 abbrev pub part_is_block : Option Part → Bool
 part_is_block None = true
-part_is_block (Some p) = begins_no_node (lines_of p.rows)
+part_is_block (Some p) = begins_no_node (lines_of_rows p.rows)
 
 -- whether a collection at the root of document i of a text is block: the root is no inline node (own)
 abbrev pub root_is_block : List ℕ → ℕ → Bool

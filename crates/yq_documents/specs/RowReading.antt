@@ -11,9 +11,9 @@ use Rattle.yq_flow_scalars.specs.Scalar.{plain_of}
 use Rattle.yq_flow_scalars.specs.Text.{front, is_empty}
 use Rattle.yq_flow_scalars.specs.Tree as tree
 use Rattle.yq_nodes.specs.Inline.{inline_at}
-use Rattle.yq_nodes.specs.Nodes.{first_is}
-use Rattle.yq_nodes.specs.Places.{Placed, placed, Content, nothing, name, text, sequence, mapping}
-use Rattle.yq_nodes.specs.Scalars.{is_quoted, content_of}
+use Rattle.yq_nodes.specs.Nodes.{begins_with}
+use Rattle.yq_nodes.specs.Places.{Placed, placed, CoreNode, nothing, name, text, sequence, mapping}
+use Rattle.yq_nodes.specs.Scalars.{is_quoted, scalar_content}
 use Rattle.yq_nodes.specs.Trees.{scalar_node, placed_tree}
 use Rattle.yq_cut.specs.Grammar.{Limit, IsRow}
 use Rattle.yq_cut.specs.Rows.{Row}
@@ -22,7 +22,7 @@ use Rattle.yq_documents.specs.KeyReading.{node_fits}
 use Rattle.yq_documents.specs.Reading.{mark_is_fit, content_is_fit}
 
 -- what a placed node is as a head, by its content (own)
-abbrev pub form_head : Placed → Content → Option tree.Node
+abbrev pub form_head : Placed → CoreNode → Option tree.Node
 form_head p nothing = None
 form_head p (name n) = Some (placed_tree p)
 form_head p (text s piece) = Some (scalar_node s)
@@ -35,7 +35,7 @@ placed_head (placed a s c e f) = form_head (placed a s c e f) f
 
 -- a plain scalar on one line, among heads (own)
 abbrev pub is_short_plain : List ℕ → Bool
-is_short_plain head = not (is_quoted head || (first_is 42 head || (first_is 91 head || first_is 123 head))) && not (holds_break head)
+is_short_plain head = not (is_quoted head || (begins_with 42 head || (begins_with 91 head || begins_with 123 head))) && not (holds_break head)
 
 -- the mark of a block scalar is in front (own)
 abbrev pub is_block_head : List ℕ → Bool
@@ -58,17 +58,17 @@ abbrev pub node_head_at : List ℕ → ℤ → List ℕ → Option (Option tree.
 node_head_at whole n t = inline_at places.Block n 0 (length whole - length t) whole >>= fit_head whole
 
 -- the head of a row that is written so, with what follows it, at the end of a text (own)
-unfoldable pub head_at : List ℕ → ℤ → List ℕ → List ℕ → Option (Option tree.Node)
-head_at whole n head t =
+unfoldable pub read_head : List ℕ → ℤ → List ℕ → List ℕ → Option (Option tree.Node)
+read_head whole n head t =
     if is_empty head then Some None
     else (if is_block_head head then block_head_at n t
-    else (if is_quoted head then Some (string_head (content_of head))
+    else (if is_quoted head then Some (string_head (scalar_content head))
     else (if is_short_plain head then Some (Some (scalar_node (plain_of head)))
     else node_head_at whole n t)))
 
 -- the name of an anchor that is written with its `&`, if there is one (own)
 abbrev pub name_in : List ℕ → Option (List ℕ)
-name_in t = if first_is 38 t then Some (drop 1 t) else None
+name_in t = if begins_with 38 t then Some (drop 1 t) else None
 
 -- the text of a row from its head on, before a rest (own)
 abbrev pub from_head : Slices → List ℕ → List ℕ

@@ -6,7 +6,7 @@ use Rattle.yq_cut.specs.Grammar.{IsCut}
 use Rattle.yq_cut.specs.Rows.{Row, Part}
 use Rattle.yq_cut.specs.View.{RowsView, rows_view}
 use Rattle.yq_lines.specs.Extents.{IsRowsView}
-use Rattle.yq_lines.specs.Lines.{lines_of}
+use Rattle.yq_lines.specs.Lines.{lines_of_rows}
 use Rattle.yq_lines.specs.RowWalk.{IsLine, IsPosition, line_number}
 use Rattle.yq_lines.specs.declared.line_position.Position.{Position}
 use Rattle.yq_lines.specs.declared.line_position.Stretch.{Stretch}
@@ -20,20 +20,20 @@ part_rows None = []
 part_rows (Some p) = p.rows
 
 -- the rows of document n of a text (own)
-abbrev pub document_rows : ℕ → List ℕ → List Row
-document_rows n t = part_rows (slice_get (document_parts (cut_of t)) n)
+abbrev pub rows_of_document : ℕ → List ℕ → List Row
+rows_of_document n t = part_rows (slice_get (document_parts (cut_of t)) n)
 
 -- the lines of document n of a text (own)
 abbrev pub document_lines : ℕ → List ℕ → List Line
-document_lines n t = lines_of (document_rows n t)
+document_lines n t = lines_of_rows (rows_of_document n t)
 
 -- where the rows of document n stand among those of a text (own)
 abbrev pub stretch_of : ℕ → List ℕ → Stretch
-stretch_of n t = record { first = document_row n (cut_of t); end = document_row n (cut_of t) + length (document_rows n t) }
+stretch_of n t = record { first = document_row n (cut_of t); end = document_row n (cut_of t) + length (rows_of_document n t) }
 
 -- the number of a line of document n of a text (own)
 abbrev pub number_of : ℕ → List ℕ → Position → ℕ
-number_of n t q = line_number (stretch_of n t) (document_rows n t) q
+number_of n t q = line_number (stretch_of n t) (rows_of_document n t) q
 
 -- a line of document n of a text, or the end behind its rows (own)
 abbrev pub IsPositionIn : List ℕ → ℕ → Position → Type 0

@@ -1,7 +1,7 @@
 -- The texts of comment lines (own).
 use Rattle.std.specs.Prelude.{◌≡◌, List, [], ◌∷◌, Option, Some, None, ℕ}
 use denote.Bor.{Bor}
-use Rattle.yq_flow_scalars.specs.Text.{lines_of}
+use Rattle.yq_flow_scalars.specs.Text.{text_lines}
 use Rattle.yq_lines.specs.Comments.{comment_text}
 use Rattle.yq_documents.specs.declared.comment.Comments.{Comments}
 
@@ -17,7 +17,7 @@ texts (l ∷ ls) = text_then (comment_text l) (texts ls)
 
 -- the texts that are left (own)
 abbrev pub texts_left : Comments → List (List ℕ)
-texts_left c = texts (lines_of c.lines.now)
+texts_left c = texts (text_lines c.lines.now)
 
 -- the first text is yielded, and the others are left; where there is none, nothing is yielded (own)
 abbrev pub YieldsText : Comments → Option (Bor (List ℕ)) → Comments → Type 0

@@ -20,8 +20,8 @@ change_nth zero f (x ∷ xs) = f x ∷ xs
 change_nth (suc n) f (x ∷ xs) = x ∷ change_nth n f xs
 
 -- a node in the place of an old one, whose anchor it keeps (own)
-abbrev pub replaced : Node → Node → Node
-replaced v old = anchored (anchor_of old) v
+abbrev pub replaced_node : Node → Node → Node
+replaced_node v old = anchored (anchor_of old) v
 
 -- a node with the items or entries changed among which a path ends, by its last step (own)
 abbrev pub at_end : (Step → Children → Children) → List Step → Node → Node

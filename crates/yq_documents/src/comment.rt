@@ -2,7 +2,7 @@
 ghost use Rattle.std.specs.Iterator.{at_most};
 ghost use Rattle.std.specs.Prelude.{◌≡◌, ◌==◌, [], length, option_map};
 ghost use Rattle.yq_lines.specs.Comments as spec;
-ghost use Rattle.yq_flow_scalars.specs.Text.{front, lines_of, past_white};
+ghost use Rattle.yq_flow_scalars.specs.Text.{front, text_lines, past_white};
 ghost use Rattle.yq_documents.specs.Pieces as pieces;
 ghost use Rattle.yq_documents.specs.Texts.{texts_left, YieldsText};
 
@@ -38,7 +38,7 @@ pub fn is_comment(line: &str) -> bool
 
 /// The run of comment lines that ends a gap.
 pub fn last_run(gap: &str) -> &str
-    ensures { lines_of result.now ≡ pieces.last_run (lines_of gap.now) }
+    ensures { text_lines result.now ≡ pieces.last_run (text_lines gap.now) }
 {
     let mut run = gap;
     let mut rest = gap;

@@ -1,7 +1,7 @@
 //! Aliases in inline nodes.
 ghost use Rattle.std.specs.Prelude.{◌≡◌};
 ghost use Rattle.yq_nodes.specs.Trees.{parts_tree, placed_tree};
-ghost use Rattle.yq_nodes.specs.View.{entries_end, items_end, view};
+ghost use Rattle.yq_nodes.specs.View.{entries_end, items_end, inline_view};
 ghost use Rattle.std.specs.List.{list_any};
 ghost use Rattle.yq_flow_scalars.specs.Anchors.{names_in, names_of};
 ghost use Rattle.yq_lines.specs.Names.{is_reference};
@@ -12,7 +12,7 @@ use yq_nodes::{Form, Inline};
 /// Whether an alias stands in an inline node.
 #[cycle(refers)]
 pub fn node_refers(node: &Inline<'_>) -> bool
-    ensures { result ≡ list_any is_reference (names_of (placed_tree (view node.now))) }
+    ensures { result ≡ list_any is_reference (names_of (placed_tree (inline_view node.now))) }
 {
     match &node.form {
         Form::Empty | Form::Scalar(..) => false,

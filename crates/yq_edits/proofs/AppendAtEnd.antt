@@ -10,11 +10,11 @@ use Rattle.yq_flow_scalars.specs.Text.{is_line}
 use Rattle.yq_lines.specs.Outline.{flatten}
 use Rattle.yq_cut.specs.Rows.{print_row, Row, rows_text, Part, Cut, cut_text}
 use Rattle.yq_row_places.specs.CollectionEnds.{CollectionEnd}
-use Rattle.yq_lines.specs.Lines.{lines_of}
+use Rattle.yq_lines.specs.Lines.{lines_of_rows}
 use Rattle.yq_documents.specs.Reading.{read_at}
 use Rattle.yq_row_places.specs.RowPaths.{IsReadable}
 use Rattle.yq_block.specs.declared.layout.Layout.{Layout}
-use Rattle.yq_block.specs.Alone.{alone}
+use Rattle.yq_block.specs.Alone.{sole_collection}
 use Rattle.yq_block.specs.BlockRows.{node_rows}
 use Rattle.yq_block.specs.BlockText.{block_value}
 use Rattle.yq_block.proofs.TextLaws.{value_spelled}
@@ -73,7 +73,7 @@ module _ (doc : ℕ) (steps : List Step) (key : Option (List ℕ)) (v : Node) (c
   place = e doc steps c x read at
 
   abbrev new : List Row
-  new = node_rows l x.column [] (alone key v)
+  new = node_rows l x.column [] (sole_collection key v)
 
   abbrev lines : List ℕ
   lines = entry_lines l x.column key v
@@ -87,7 +87,7 @@ module _ (doc : ℕ) (steps : List Step) (key : Option (List ℕ)) (v : Node) (c
   new_lines : rows_text new [] ≡ lines
   new_lines =
       let w = filled doc steps key v c x read at g in
-      value_spelled (alone key v) l x.column [] [] w.filled w.value ∙ ap (λ z. replicate x.column 32 ++ z) (append-nil (block_value l x.column (alone key v)))
+      value_spelled (sole_collection key v) l x.column [] [] w.filled w.value ∙ ap (λ z. replicate x.column 32 ++ z) (append-nil (block_value l x.column (sole_collection key v)))
 
   new_is : cut_text (put_document doc q c) ≡ new_text (put_segments x (break_text l.br ++ lines))
   new_is =
@@ -111,8 +111,8 @@ module _ (doc : ℕ) (steps : List Step) (key : Option (List ℕ)) (v : Node) (c
     new_are = new_rows_are doc steps key v c x read at g [] [] [] (limit_after place.last) (nothing_ends x.column) ends.allowed (no_gap_here []);
   }
 
-  count : length (lines_of part.rows) ≡ length (lines_before place.h.place) + length (flatten place.h.lines)
-  count = ap (λ rs. length (lines_of rs)) (ends.rows_are ∙ sym place.front_is) ∙ place.count
+  count : length (lines_of_rows part.rows) ≡ length (lines_before place.h.place) + length (flatten place.h.lines)
+  count = ap (λ rs. length (lines_of_rows rs)) (ends.rows_are ∙ sym place.front_is) ∙ place.count
 
   -- the last row gets a break, and the text up to there is its own
   before_last : x.before ≡ (place.start ++ rows_text place.others []) ++ print_row place.last []

@@ -4,27 +4,27 @@ use Rattle.std.proofs.lemmas.Bool.{false≢true}
 use Rattle.std.proofs.lemmas.Option.{same_Some}
 use Rattle.std.specs.List.{slice_get}
 use Rattle.yq_flow_scalars.specs.Keys.{HasUniqueKeys, keys_of}
-use Rattle.yq_flow_scalars.specs.Paths.{Step, append_child, change, node_at, within}
+use Rattle.yq_flow_scalars.specs.Paths.{Step, append_child, changed_at, node_at, within}
 use Rattle.yq_flow_scalars.specs.Tree as tree
 use Rattle.yq_flow_scalars.specs.Tree.{Node}
 use Rattle.yq_flow.specs.Valued.{IsValueTree}
 use Rattle.yq_lines.specs.LineAnchors.{HaveOneAnchorEach}
 use Rattle.yq_lines.specs.Outline.{children, label}
-use Rattle.yq_lines.specs.Places.{content}
+use Rattle.yq_lines.specs.Places.{content_under}
 use Rattle.yq_cut.specs.Grammar.{unlimited, AreRows, no_rows, Limit, allows}
 use Rattle.yq_cut.specs.Rows.{rows_text, Part, Cut, cut_text}
 use Rattle.yq_cut.proofs.seams.SeamLaws.{rows_text-append}
 use Rattle.yq_row_places.specs.CollectionEnds.{CollectionEnd}
 use Rattle.yq_documents.specs.Documents.{document_parts, lead_of}
-use Rattle.yq_documents.specs.Reading.{outline_of, read_at, root_of}
+use Rattle.yq_documents.specs.Reading.{part_outline, read_at, root_of}
 use Rattle.yq_row_places.proofs.CommentPieceLaws.{Ended}
 use Rattle.yq_block.specs.declared.layout.Layout.{Layout}
-use Rattle.yq_block.specs.Alone.{alone}
+use Rattle.yq_block.specs.Alone.{sole_collection}
 use Rattle.yq_block.specs.BlockRows.{node_rows}
 use Rattle.yq_block.specs.BlockText.{block_value}
 use Rattle.yq_block.specs.BlockValues.{IsFilledValue, IsEnd}
 use Rattle.yq_block.proofs.CharacterLaws.{value_sound}
-use Rattle.yq_change.specs.Appends.{IsWritten}
+use Rattle.yq_change.specs.Appends.{AreMoreRows}
 use Rattle.yq_change.specs.Changed.{IsChanged, put_document}
 use Rattle.yq_change.specs.CollectionPlaces.{IsCollectionEnd}
 use Rattle.yq_change.specs.DocumentRows.{IsDocumentPart, behind_document}
@@ -36,7 +36,7 @@ use Rattle.yq_change.proofs.EditedLaws.{lines_are_there}
 use Rattle.yq_change.proofs.EndedRowLaws.{rows_ended, rows_then}
 use Rattle.yq_change.proofs.LeadLaws.{same_lead_goes}
 use Rattle.yq_change.proofs.TextPieceLaws.{text_is_piece, pieces_joined, line_cut}
-use Rattle.yq_meaning.specs.Changes.{is_long, has_long_key, is_deep}
+use Rattle.yq_meaning.specs.Changes.{is_overlong_key, has_long_key, is_deep}
 use Rattle.yq_meaning.specs.Fits.{Takes}
 use Rattle.yq_meaning.specs.Operations.{append}
 use Rattle.yq_edits.specs.Layouts.{layout_of}
@@ -109,7 +109,7 @@ pub record IsAsked (steps : List Step) (key : Option (List ℕ)) (v : Node) (par
   pub key_utf8 : KeyIsUtf8 key
   pub value_tree : IsValueTree v
   pub unique : HasUniqueKeys v
-  pub short : is_long key ≡ false
+  pub short : is_overlong_key key ≡ false
   pub near : has_long_key v ≡ false
   pub deep : is_deep (suc (length steps)) v ≡ false
   pub node : Node
@@ -126,23 +126,23 @@ module _ (doc : ℕ) (steps : List Step) (key : Option (List ℕ)) (v : Node) (c
   abbrev place : IsCollectionEnd c doc (p doc steps c x read at) steps x
   place = e doc steps c x read at
 
-  pub filled : IsFilledValue (alone key v)
+  pub filled : IsFilledValue (sole_collection key v)
   filled = alone_value key v g.key_utf8 g.value_tree
 
   pub entry_piece : IsPiece (entry_lines l x.column key v)
   entry_piece =
-      let w = value_sound (alone key v) l x.column filled.value in
-      pieces_joined (replicate x.column 32) (block_value l x.column (alone key v)) (spaces_piece x.column) (record { utf8 = w.0; characters = w.1 })
+      let w = value_sound (sole_collection key v) l x.column filled.value in
+      pieces_joined (replicate x.column 32) (block_value l x.column (sole_collection key v)) (spaces_piece x.column) (record { utf8 = w.0; characters = w.1 })
 
   -- the rows of the item or entry, the last of which has this end
-  pub entry : (last : List ℕ) → said last ≡ None → IsEntryOf key v x.column (node_rows l x.column last (alone key v))
+  pub entry : (last : List ℕ) → said last ≡ None → IsEntryOf key v x.column (node_rows l x.column last (sole_collection key v))
   entry last uncommented = entry_of key v l x.column last uncommented (steps_least (slice_get (document_parts c) doc)) g.key_utf8 g.value_tree
 
   known_taker : IsTaker key place.h.lines x.column
   known_taker =
-      taker key g.node place.h.anchor place.h.lines x.column g.takes (same_Some _ _ (sym g.node_is ∙ lines_are_there steps (outline_of part) place.h place.collection.place_is)) place.collection.block place.first
+      taker key g.node place.h.anchor place.h.lines x.column g.takes (same_Some _ _ (sym g.node_is ∙ lines_are_there steps (part_outline part) place.h place.collection.place_is)) place.collection.block place.first
 
-  pub written : (last : List ℕ) (uncommented : said last ≡ None) → IsWritten place.h (node_rows l x.column last (alone key v)) (entry last uncommented).deep.0 (entry last uncommented).line (entry last uncommented).under (length steps)
+  pub written : (last : List ℕ) (uncommented : said last ≡ None) → AreMoreRows place.h (node_rows l x.column last (sole_collection key v)) (entry last uncommented).deep.0 (entry last uncommented).line (entry last uncommented).under (length steps)
   written last uncommented =
       let w = entry last uncommented in
       record {
@@ -155,22 +155,22 @@ module _ (doc : ℕ) (steps : List Step) (key : Option (List ℕ)) (v : Node) (c
         key = subst (λ (y : tree.Label). IsNewKey y.key (keys_of (children place.h.lines))) (sym w.label_is) known_taker.key_is;
       }
 
-  pub new_rows_are : (last gap rest : List ℕ) (limit : Limit) → IsEnd x.column last (gap ++ rest) → allows limit x.column ≡ true → IsGap gap rest → AreRows limit (node_rows l x.column last (alone key v)) gap rest
+  pub new_rows_are : (last gap rest : List ℕ) (limit : Limit) → IsEnd x.column last (gap ++ rest) → allows limit x.column ≡ true → IsGap gap rest → AreRows limit (node_rows l x.column last (sole_collection key v)) gap rest
   new_rows_are last gap rest limit ends allowed h = search (rules, entry_rows_are, alone_writable, key_near, near_keys)
 
   -- a part with such rows, in which the first row stays, is what the operation asks
   pub finished : (q : Part) (last : List ℕ) (uncommented : said last ≡ None) →
-      IsChanged c (put_document doc q c) doc (lead_of part) (change steps (within (append_child (label (entry last uncommented).line) (content (entry last uncommented).line (entry last uncommented).under)))) →
+      IsChanged c (put_document doc q c) doc (lead_of part) (changed_at steps (within (append_child (label (entry last uncommented).line) (content_under (entry last uncommented).line (entry last uncommented).under)))) →
       lead_of q ≡ lead_of part → is_block_root q ≡ is_block_root part → no_rows q.rows ≡ false → ReadsAfter (append doc steps key v) c (cut_text (put_document doc q c))
   finished q last uncommented changed lead block some =
       let w = entry last uncommented in
-      document_done (append doc steps key v) c part q (lead_of part) (change steps (within (append_child (label w.line) (content w.line w.under))))
+      document_done (append doc steps key v) c part q (lead_of part) (changed_at steps (within (append_child (label w.line) (content_under w.line w.under))))
       (record {
         read = read;
         there = at.there;
         rows = λ none_left. absurd (false≢true (sym some ∙ none_left));
         changed = changed;
-        root = λ i. change steps (within (append_child (w.label_is i) (w.node_is i))) (root_of part);
+        root = λ i. changed_at steps (within (append_child (w.label_is i) (w.node_is i))) (root_of part);
         lead_goes = same_lead_goes part q lead block;
         block = λ keeps. block;
         equal_room = λ sets. absurd sets;

@@ -4,7 +4,7 @@ use Rattle.yq_flow_scalars.specs.Keys.{keys_of}
 use Rattle.yq_flow_scalars.specs.Tree as tree
 use Rattle.yq_flow_scalars.specs.Tree.{Node, Children}
 use Rattle.yq_lines.specs.Group.{level_or}
-use Rattle.yq_lines.specs.Outline.{Mark, Line, level, Outline, end, row, anchored, children, collection, value}
+use Rattle.yq_lines.specs.Outline.{LineMark, Line, level, Outline, end, row, anchored, children, outline_node, value}
 use Rattle.yq_change.specs.CollectionPlaces.{BeginsAt}
 use Rattle.yq_change.specs.Siblings.{IsEntry, HasEntries}
 use Rattle.yq_change.specs.SoundRoots.{IsNewKey}
@@ -25,7 +25,7 @@ pub record IsTaker (key : Option (List ℕ)) (o : Outline) (column : ℕ) : Type
   pub level_is : level_or 0 o ≡ entry_level key column
   pub key_is : IsNewKey key (keys_of (children o))
 
-taker_of : (key : Option (List ℕ)) (n : Node) (a : Option (List ℕ)) (l : Line) (cs : Children) (column : ℕ) (m : Mark) → l.mark ≡ m → IsEntry m → Takes key n → n ≡ anchored a (collection m cs) → l.column ≡ column →
+taker_of : (key : Option (List ℕ)) (n : Node) (a : Option (List ℕ)) (l : Line) (cs : Children) (column : ℕ) (m : LineMark) → l.mark ≡ m → IsEntry m → Takes key n → n ≡ anchored a (outline_node m cs) → l.column ≡ column →
     (level l ≡ entry_level key column) × IsNewKey key (keys_of cs)
 unfolding level
 taker_of key n a l cs column m h1 h2 h3 h4 h5 = search (rules, map_list, new_key, map_same)

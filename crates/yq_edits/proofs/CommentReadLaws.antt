@@ -3,7 +3,7 @@ use Rattle.std.proofs.Common.{◌≡◌, ◌⊎◌, inl, inr, ℕ, true, ◌&&�
 use Rattle.std.proofs.lemmas.Bool.{and_parts, not-true}
 use Rattle.yq_block_scalars.specs.BlockWritten.{break_text}
 use Rattle.yq_flow_scalars.specs.Text as text
-use Rattle.yq_flow_scalars.specs.Text.{front, is_empty, is_break, is_line, ends_line, past_white, joined, lines_of, NoneIn}
+use Rattle.yq_flow_scalars.specs.Text.{front, is_empty, is_break, is_line, ends_line, past_white, joined, text_lines, NoneIn}
 use Rattle.yq_block_scalars.specs.declared.block_types.Break.{Break}
 use Rattle.yq_block_scalars.proofs.Bytes.{Each}
 use Rattle.yq_block_scalars.proofs.LineLaws.{lines_again}
@@ -71,14 +71,14 @@ line_agrees_with column br t h = search (rules, comment_behind, white_spaces, co
 line_begins : (column : ℕ) (br : Break) (t : List ℕ) → front (λ b. eqb b 35) (past_white (comment_line column (break_text br) t)) ≡ true
 line_begins column br t = ap (λ (x : List ℕ × List ℕ). front (λ b. eqb b 35) x.1) (white_again (replicate column 32) (35 ∷ (behind_hash t ++ break_text br)) (white_spaces column) refl)
 
-lines_are : (column : ℕ) (br : Break) (t : List ℕ) (ts : List (List ℕ)) → Each no_break t → lines_of (head_lines column (break_text br) (t ∷ ts)) ≡ comment_line column (break_text br) t ∷ lines_of (head_lines column (break_text br) ts)
+lines_are : (column : ℕ) (br : Break) (t : List ℕ) (ts : List (List ℕ)) → Each no_break t → text_lines (head_lines column (break_text br) (t ∷ ts)) ≡ comment_line column (break_text br) t ∷ text_lines (head_lines column (break_text br) ts)
 lines_are column br t ts h = lines_again (comment_line column (break_text br) t) (head_lines column (break_text br) ts) (line_is column br t h)
 
-no_lines : lines_of [] ≡ []
-unfolding lines_of
+no_lines : text_lines [] ≡ []
+unfolding text_lines
 no_lines = refl
 
-all_comments : (column : ℕ) (br : Break) (ts : List (List ℕ)) → AreParts ts → are_comments (lines_of (head_lines column (break_text br) ts)) ≡ true
+all_comments : (column : ℕ) (br : Break) (ts : List (List ℕ)) → AreParts ts → are_comments (text_lines (head_lines column (break_text br) ts)) ≡ true
 all_comments column br [] h = ap are_comments no_lines
 all_comments column br (t ∷ ts) h = ap are_comments (lines_are column br t ts h.0) ∙ rw (line_begins column br t, all_comments column br ts h.2) refl
 

@@ -10,9 +10,9 @@ use Rattle.yq_flow_scalars.specs.Text.{is_empty, ends_line, no_white, past_white
 use Rattle.yq_flow_scalars.specs.Text as text
 use Rattle.yq_flow_scalars.proofs.Bools.{bind_some, guard_then}
 use Rattle.yq_flow_scalars.proofs.Upto.{cut_takes}
-use Rattle.yq_lines.specs.Ends.{found_line, line_of}
+use Rattle.yq_lines.specs.Ends.{found_line, line_at_steps}
 use Rattle.yq_lines.specs.Places.{FoundLine, bare_or}
-use Rattle.yq_lines.specs.Outline.{Mark, Bare, Line}
+use Rattle.yq_lines.specs.Outline.{LineMark, Bare, Line}
 use Rattle.yq_cut.specs.Exchange.{row_front}
 use Rattle.yq_cut.specs.Grammar.{IsCut, IsTail, IsRow, Limit}
 use Rattle.yq_cut.specs.Rows as rows
@@ -25,8 +25,8 @@ use Rattle.yq_cut.proofs.RowAgain.{row_starts}
 use Rattle.yq_cut.proofs.EmptyTexts.{empty_is}
 use Rattle.yq_cut.proofs.seams.SeamLaws.{rows_text-append}
 use Rattle.yq_cut.proofs.splices.ContentPlaces.{rows_around}
-use Rattle.yq_row_places.specs.CommentPlaces.{end_before, line_text}
-use Rattle.yq_lines.specs.Lines.{lines_from, lines_of}
+use Rattle.yq_row_places.specs.CommentPlaces.{end_in_line, text_to_line_end}
+use Rattle.yq_lines.specs.Lines.{lines_from, lines_of_rows}
 use Rattle.yq_row_places.specs.PlacedRows.{PlacedPart, PlacedRow, placed_document, placed_row, row_of_path}
 use Rattle.yq_documents.specs.Reading.{read_at}
 use Rattle.yq_documents.specs.Ready.{begins_no_node}
@@ -61,7 +61,7 @@ pub row_found : (n : ℕ) (steps : List Step) (c : Cut) (w : PlacedRow) → row_
 row_found n steps c w e =
     let s = bind_some (placed_document n c) e in
     let x = map_some (row_line_of steps s.0.part.rows) s.2 in
-    let row = steps_row (line_of steps (lines_of s.0.part.rows)) s.0.part.rows x.0 x.1 in
+    let row = steps_row (line_at_steps steps (lines_of_rows s.0.part.rows)) s.0.part.rows x.0 x.1 in
     let at = part_at n c s.0 s.1 x.0.before x.0.row row in
     record {
       s = s.0;
@@ -115,11 +115,11 @@ pub found_row : (c : Cut) (i : ℕ) (w : PlacedRow) → IsCut (cut_text c) c →
 found_row c i w cut at = let x = row_in c i true w.row cut.parts at.there in record { limit = x.limit; row = subst (IsRow x.limit w.row) at.behind_is x.row }
 
 -- the text up to the end of the line, and behind
-pub line_whole : (w : PlacedRow) → w.before ++ print_row w.row w.behind ≡ (w.before ++ line_text w.row) ++ ((slices w.row).tail ++ ((slices w.row).raw ++ w.behind))
-line_whole w = ap (λ l. w.before ++ l) (row_text_parts w.row w.behind) ∙ sym (append_assoc w.before (line_text w.row) ((slices w.row).tail ++ ((slices w.row).raw ++ w.behind)))
+pub line_whole : (w : PlacedRow) → w.before ++ print_row w.row w.behind ≡ (w.before ++ text_to_line_end w.row) ++ ((slices w.row).tail ++ ((slices w.row).raw ++ w.behind))
+line_whole w = ap (λ l. w.before ++ l) (row_text_parts w.row w.behind) ∙ sym (append_assoc w.before (text_to_line_end w.row) ((slices w.row).tail ++ ((slices w.row).raw ++ w.behind)))
 
 -- a rest is the end of its line and what is behind
-pub end_parts : (before rest : List ℕ) → rest ≡ (end_before before rest).white ++ ((end_before before rest).comment ++ (end_before before rest).behind)
+pub end_parts : (before rest : List ℕ) → rest ≡ (end_in_line before rest).white ++ ((end_in_line before rest).comment ++ (end_in_line before rest).behind)
 end_parts before rest = cut_takes no_white rest ∙ ap (λ x. (text.cut no_white rest).0 ++ x) (cut_takes ends_line (past_white rest))
 
 -- ---- something is written on the line of a row
@@ -131,10 +131,10 @@ left_none (x ∷ a) b e = absurd (let bad : x ∷ (a ++ b) ≡ [] = e in cc)
 no_start : (tail more : List ℕ) → IsTail tail more → Starts (tail ++ more) → ⊥
 no_start tail more h s = search (rules, line_end_behind, false≢true, ⊎_elim, or_cases)
 
-pub line_some : (limit : Limit) (r : Row) (rest : List ℕ) → IsRow limit r rest → IsTail (slices r).tail ((slices r).raw ++ rest) → is_empty (line_text r) ≡ false
-line_some limit r rest h tail = go (cases_Bool (is_empty (line_text r)))
+pub line_some : (limit : Limit) (r : Row) (rest : List ℕ) → IsRow limit r rest → IsTail (slices r).tail ((slices r).raw ++ rest) → is_empty (text_to_line_end r) ≡ false
+line_some limit r rest h tail = go (cases_Bool (is_empty (text_to_line_end r)))
   where
-    starts : line_text r ≡ [] → Starts ((slices r).tail ++ ((slices r).raw ++ rest))
+    starts : text_to_line_end r ≡ [] → Starts ((slices r).tail ++ ((slices r).raw ++ rest))
     starts e =
         let first : row_front r ≡ [] = left_none (row_front r) _ e in
         let gap : r.gap ≡ [] = left_none r.gap (replicate r.column 32 ++ dashes_text r.dashes (mark_text r.mark [])) first in
@@ -144,7 +144,7 @@ line_some limit r rest h tail = go (cases_Bool (is_empty (line_text r)))
         sym (λ i. gap i ++ (spaces i ++ behind_indent r rest)) ∙ (row_text_parts r rest ∙ ap (λ l. l ++ ((slices r).tail ++ ((slices r).raw ++ rest))) e) in
         subst Starts whole (row_starts limit r rest h)
 
-    go : (is_empty (line_text r) ≡ true) ⊎ (is_empty (line_text r) ≡ false) → is_empty (line_text r) ≡ false
+    go : (is_empty (text_to_line_end r) ≡ true) ⊎ (is_empty (text_to_line_end r) ≡ false) → is_empty (text_to_line_end r) ≡ false
     go h1 = search (rules, no_start, empty_is, starts)
 
 -- ---- a path to a line
@@ -158,17 +158,17 @@ pub some_steps : (steps : List Step) (rs : List Row) (x : RowLine) → row_line_
 some_steps [] rs x e = absurd (none-some _ e)
 some_steps (s ∷ ss) rs x e = split_last s ss
 
-bare_none : (m : Mark) → m ≡ Bare → (f : FoundLine) (s : Step) (ss : List Step) (y : Option (FoundLine × List Step)) → option_and_then (λ x. found_line x.0 x.1) (bare_or m (Some (f, s ∷ ss)) y) ≡ None
+bare_none : (m : LineMark) → m ≡ Bare → (f : FoundLine) (s : Step) (ss : List Step) (y : Option (FoundLine × List Step)) → option_and_then (λ x. found_line x.0 x.1) (bare_or m (Some (f, s ∷ ss)) y) ≡ None
 bare_none m is f s ss y = ap (λ k. option_and_then (λ x. found_line x.0 x.1) (bare_or k (Some (f, s ∷ ss)) y)) is
 
-pub row_line_is_block : (steps : List Step) (rs : List Row) (x : RowLine) → row_line_of steps rs ≡ Some x → begins_no_node (lines_of rs) ≡ true
-row_line_is_block steps rs x e = let n = bind_some (line_of steps (lines_of rs)) e in (search (rules, none-some, bare_none, n.1))
+pub row_line_is_block : (steps : List Step) (rs : List Row) (x : RowLine) → row_line_of steps rs ≡ Some x → begins_no_node (lines_of_rows rs) ≡ true
+row_line_is_block steps rs x e = let n = bind_some (line_at_steps steps (lines_of_rows rs)) e in (search (rules, none-some, bare_none, n.1))
 
 -- rows have lines
-row_some : (above : List (List ℕ)) (column : ℕ) (ns : List ℕ) (m : rows.Mark) (c : rows.Content) (more : List Line) → lines_from above column ns m c ++ more ≡ [] → ⊥
+row_some : (above : List (List ℕ)) (column : ℕ) (ns : List ℕ) (m : rows.RowMark) (c : rows.Content) (more : List Line) → lines_from above column ns m c ++ more ≡ [] → ⊥
 row_some above column [] m c more e = cc
 row_some above column (n ∷ ns) m c more e = cc
 
-pub lines_some : (front : List Row) (r : Row) (back : List Row) → lines_of (front ++ (r ∷ back)) ≡ [] → ⊥
-lines_some [] r back e = row_some _ r.column r.dashes r.mark r.content (lines_of back) e
-lines_some (x ∷ front) r back e = row_some _ x.column x.dashes x.mark x.content (lines_of (front ++ (r ∷ back))) e
+pub lines_some : (front : List Row) (r : Row) (back : List Row) → lines_of_rows (front ++ (r ∷ back)) ≡ [] → ⊥
+lines_some [] r back e = row_some _ r.column r.dashes r.mark r.content (lines_of_rows back) e
+lines_some (x ∷ front) r back e = row_some _ x.column x.dashes x.mark x.content (lines_of_rows (front ++ (r ∷ back))) e

@@ -16,7 +16,7 @@ use Rattle.yq_row_places.proofs.ReadLaws.{text_takes, cut_is}
 use Rattle.yq_change.specs.Changed.{changed, put_document}
 use Rattle.yq_change.proofs.AfterLaws.{nth_is, nth_same}
 use Rattle.yq_change.proofs.ChangedLaws.{document_put}
-use Rattle.yq_meaning.specs.After.{document_of, root_after, done_to, after_op}
+use Rattle.yq_meaning.specs.After.{op_document, root_after, done_to, after_op}
 use Rattle.yq_meaning.specs.Operations.{Operation}
 use Rattle.yq_meaning.specs.Rooms.{comment_part, room_of}
 use Rattle.yq_meaning.specs.RoomsKept.{KeepsBlock}
@@ -49,7 +49,7 @@ nth_map zero x f (y ∷ xs) h = let same : y ≡ x = cc in ap (λ z. Some (f z))
 nth_map (suc k) x f (y ∷ xs) h = nth_map k x f xs h
 
 -- the part of a document
-pub part_of : (ps : List Part) (n : ℕ) (d : Document) → slice_get (map reading.document_of ps) n ≡ Some d → (p : Part) × (slice_get ps n ≡ Some p) × (reading.document_of p ≡ d)
+pub part_of : (ps : List Part) (n : ℕ) (d : Document) → slice_get (map reading.part_document ps) n ≡ Some d → (p : Part) × (slice_get ps n ≡ Some p) × (reading.part_document p ≡ d)
 part_of [] n d e = absurd (cc)
 part_of (p ∷ ps) zero d e = (p, refl, same_Some _ _ e)
 part_of (p ∷ ps) (suc n) d e = part_of ps n d e
@@ -62,7 +62,7 @@ part_in t i = slice_get (document_parts (cut_of t)) i
 
 module _ (op : Operation) (c : Cut) (p q : Part) (lead : List (List ℕ)) (f : Node → Node) (h : IsDone op c p q lead f) where
   abbrev k : ℕ
-  k = document_of op
+  k = op_document op
 
   abbrev new : Cut
   new = put_document k q c
@@ -91,8 +91,8 @@ module _ (op : Operation) (c : Cut) (p q : Part) (lead : List (List ℕ)) (f : N
   other_part : (i : ℕ) → (i ≡ k → ⊥) → part_in u i ≡ part_in t i
   other_part i apart = simp (new_cut, parts_are, nth_stays, old_cut)
 
-  document_is : reading.document_of q ≡ changed lead f (reading.document_of p)
-  document_is = nth_is k p q (changed lead f) (document_parts c) h.there (sym (ap (map reading.document_of) parts_are) ∙ h.changed.documents_are)
+  document_is : reading.part_document q ≡ changed lead f (reading.part_document p)
+  document_is = nth_is k p q (changed lead f) (document_parts c) h.there (sym (ap (map reading.part_document) parts_are) ∙ h.changed.documents_are)
 
   root_is : root_of q ≡ root_after (is_block_root p) (lead_of p) op (root_of p)
   root_is = ap (λ (d : Document). d.root) document_is ∙ h.root
@@ -100,7 +100,7 @@ module _ (op : Operation) (c : Cut) (p q : Part) (lead : List (List ℕ)) (f : N
   lead_is : lead ≡ lead_by (is_block_root p) (children_of (root_after (is_block_root p) (lead_of p) op (root_of p))) (lead_of p)
   lead_is = sym (ap (λ (d : Document). d.lead) document_is) ∙ (h.lead_goes ∙ ap (λ n. lead_by (is_block_root p) (children_of n) (lead_of p)) root_is)
 
-  same : changed lead f (reading.document_of p) ≡ done_to (is_block_root p) op (reading.document_of p)
+  same : changed lead f (reading.part_document p) ≡ done_to (is_block_root p) op (reading.part_document p)
   same = λ i. record { lead = lead_is i; root = h.root i }
 
   block_is : (room_of t k).block ≡ is_block_root p
@@ -122,7 +122,7 @@ module _ (op : Operation) (c : Cut) (p q : Part) (lead : List (List ℕ)) (f : N
           ∙ (h.equal_room sets (comment_part place) steps ∙ ap (λ o. row_line_has_room (comment_part place) (o >>= λ x. row_line_of steps x.rows)) (sym old_part));
     };
     block = λ d at keeps.
-        let is : reading.document_of q ≡ d = same_Some _ _ (sym (nth_map k q reading.document_of (document_parts (cut_of u)) new_part) ∙ at) in
+        let is : reading.part_document q ≡ d = same_Some _ _ (sym (nth_map k q reading.part_document (document_parts (cut_of u)) new_part) ∙ at) in
         block_stays (subst (λ (e : Document). KeepsBlock op e.root) (sym is) keeps);
   }
 

@@ -22,7 +22,7 @@ use Rattle.yq_block.specs.BlockValues.{IsNear, HasNearKeys, EachHasNearKeys}
 use Rattle.yq_block.proofs.KeyLaws.{near_key}
 use Rattle.yq_change.specs.Conditions.{aliases_in, AreSpared}
 use Rattle.yq_change.specs.SoundRoots.{IsNewValue, MayReplace}
-use Rattle.yq_meaning.specs.Changes.{is_long, has_long_key, have_long_key, is_deep, is_used, refers_to, is_used_inside}
+use Rattle.yq_meaning.specs.Changes.{is_overlong_key, has_long_key, have_long_key, is_deep, is_used, refers_to, is_used_inside}
 use Rattle.yq_meaning.specs.Fits.{Fits}
 use Rattle.yq_meaning.specs.Operations.{replace}
 use Rattle.yq_meaning.specs.Rooms.{room_of}
@@ -68,10 +68,10 @@ new_value above v h unique deep = record { bare = value_names v h; unique = uniq
 
 -- ---- keys
 
-pub key_near : (key : Option (List ℕ)) → KeyIsUtf8 key → is_long key ≡ false → IsNear key
+pub key_near : (key : Option (List ℕ)) → KeyIsUtf8 key → is_overlong_key key ≡ false → IsNear key
 key_near key h1 h2 = search (rules, near_key, ltb-false)
 
-label_near : (keyed : Bool) (label : tree.Label) → IsLabel keyed label → is_long label.key ≡ false → IsNear label.key
+label_near : (keyed : Bool) (label : tree.Label) → IsLabel keyed label → is_overlong_key label.key ≡ false → IsNear label.key
 label_near keyed label h1 h2 = search (rules, key_near)
 
 mutual
@@ -84,8 +84,8 @@ mutual
   each_near : (keyed : Bool) (cs : Children) → AreValueTrees keyed cs → have_long_key cs ≡ false → EachHasNearKeys cs
   each_near keyed tree.none h long = tt
   each_near keyed (tree.child label n cs) h long =
-      let others = (or_parts (is_long label.key) (has_long_key n || have_long_key cs) long).1 in (
-        label_near keyed label h.0 (or_parts (is_long label.key) (has_long_key n || have_long_key cs) long).0,
+      let others = (or_parts (is_overlong_key label.key) (has_long_key n || have_long_key cs) long).1 in (
+        label_near keyed label h.0 (or_parts (is_overlong_key label.key) (has_long_key n || have_long_key cs) long).0,
         near_keys n h.1 (or_parts (has_long_key n) (have_long_key cs) others).0,
         each_near keyed cs h.2 (or_parts (has_long_key n) (have_long_key cs) others).1,
       )
@@ -126,7 +126,7 @@ pub record FitsReplace (doc : ℕ) (steps : List Step) (v : Node) (c : Cut) (p :
 
 pub fits_replace : (doc : ℕ) (steps : List Step) (v : Node) (c : Cut) (p : Part) → slice_get (document_parts c) doc ≡ Some p → IsValueTree v → Fits (room_of (cut_text c)) (replace doc steps v) (documents c) → FitsReplace doc steps v c p
 fits_replace doc steps v c p at h fits =
-    let same : reading.document_of p ≡ fits.0 = same_Some _ _ (sym (nth_map doc p reading.document_of (document_parts c) at) ∙ fits.1) in
+    let same : reading.part_document p ≡ fits.0 = same_Some _ _ (sym (nth_map doc p reading.part_document (document_parts c) at) ∙ fits.1) in
     let root : root_of p ≡ fits.0.root = ap (λ (d : Document). d.root) same in
     let n : Node = fits.2.1.0 in
     let used : is_used_inside (names_of (root_of p)) (Some n) ≡ false = ap (λ m. is_used_inside (names_of m) (Some n)) root ∙ fits.2.1.2 in

@@ -8,22 +8,22 @@ use Rattle.yq_flow_scalars.specs.Scalar.{string_of}
 use Rattle.yq_flow_scalars.specs.Tree as tree
 use Rattle.yq_flow_scalars.specs.Tree.{Children}
 use Rattle.yq_flow_scalars.specs.Writable.{can_write_plain}
-use Rattle.yq_flow_scalars.specs.Written.{written}
+use Rattle.yq_flow_scalars.specs.Written.{written_scalar}
 use Rattle.yq_flow_scalars.specs.declared.style.Style.TheVariants as styles
 use Rattle.yq_block_scalars.proofs.PlainSpells.{writable_text}
 use Rattle.yq_nodes.specs.Written.{scalar_text, flow_key, flow_of, flow_items}
 use Rattle.yq_documents.specs.Documents.{HasFitKey, HasFitKeys, EachHasFitKeys}
-use Rattle.yq_meaning.specs.Changes.{is_long, has_long_key, have_long_key}
+use Rattle.yq_meaning.specs.Changes.{is_overlong_key, has_long_key, have_long_key}
 
 -- a key doesn't merge
 plain_apart : (k : List ℕ) → is_plain_text true k ≡ true → k ≡ 60 ∷ 60 ∷ [] → ⊥
 unfolding chars
 plain_apart k h e = let text : is_plain_text true (60 ∷ 60 ∷ []) ≡ true = subst (λ (t : List ℕ). is_plain_text true t ≡ true) e h in false≢true text
 
-key_apart_by : (k : List ℕ) (plain : Bool) → can_write_plain (string_of k) true ≡ plain → written (cond plain styles.Plain styles.Double) k ≢ codes "<<"
+key_apart_by : (k : List ℕ) (plain : Bool) → can_write_plain (string_of k) true ≡ plain → written_scalar (cond plain styles.Plain styles.Double) k ≢ codes "<<"
 key_apart_by k plain h1 = search (rules, plain_apart, writable_text, false≢true)
 
-pub key_fits : (k : Option (List ℕ)) → is_long k ≡ false → HasFitKey (flow_key k)
+pub key_fits : (k : Option (List ℕ)) → is_overlong_key k ≡ false → HasFitKey (flow_key k)
 unfolding scalar_text
 key_fits k h1 = search (rules, key_apart_by, ltb-false)
 
@@ -39,6 +39,6 @@ mutual
   items_fit : (cs : Children) → have_long_key cs ≡ false → EachHasFitKeys (flow_items cs)
   items_fit tree.none h = tt
   items_fit (tree.child label n cs) h =
-      let a = or_parts (is_long label.key) (has_long_key n || have_long_key cs) h in
+      let a = or_parts (is_overlong_key label.key) (has_long_key n || have_long_key cs) h in
       let b = or_parts (has_long_key n) (have_long_key cs) a.1 in
       (key_fits label.key a.0, flow_fits n b.0, items_fit cs b.1)

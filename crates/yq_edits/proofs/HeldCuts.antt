@@ -7,7 +7,7 @@ use Rattle.std.specs.Str.{IsUtf8}
 use Rattle.yq_flow_scalars.specs.Text.{front, is_empty, is_feed, is_return, is_white, no_white, unless, NoneIn}
 use Rattle.yq_flow_scalars.proofs.Bools.{at_byte}
 use Rattle.yq_nodes.specs.Nodes as inline
-use Rattle.yq_nodes.specs.Nodes.{in_name, node_text, IsLead, IsName, IsNode}
+use Rattle.yq_nodes.specs.Nodes.{in_name, node_text, IsLead, IsName, IsFlowNode}
 use Rattle.yq_nodes.proofs.WrittenLaws.{node_then}
 use Rattle.yq_cut.specs.Gap.{IsWhite}
 use Rattle.yq_cut.specs.Grammar.{IsContent, IsMark, is_entry}
@@ -38,7 +38,7 @@ lead_white p g t (inr x) = subst IsWhite (sym x.0) tt
 
 -- what stands before the head of a content, behind its anchor if it has one, is white space
 pub space_white : (n : ℤ) (x : Content) (rest : List ℕ) → IsContent n x rest → IsWhite (cond (is_empty (content_cut x).1) (content_cut x).0 (content_cut x).2)
-unfolding IsNode node_text
+unfolding IsFlowNode node_text
 space_white n (Nothing z) rest h = tt
 space_white n (Inline space inline.empty z) rest h = h.0
 space_white n (Inline space (inline.alias m) z) rest h = h.0
@@ -74,7 +74,7 @@ ascii_front [] b h = tt
 ascii_front (x ∷ a) b h = h
 
 pub anchor_ends : (n : ℤ) (x : Content) (rest : List ℕ) → is_empty (content_cut x).1 ≡ false → IsContent n x rest → AnchorEnds (content_cut x).1 ((content_cut x).2 ++ (content_cut x).3)
-unfolding IsNode node_text
+unfolding IsFlowNode node_text
 anchor_ends n (Nothing z) rest some h = absurd (false≢true (sym some))
 anchor_ends n (Inline space inline.empty z) rest some h = absurd (false≢true (sym some))
 anchor_ends n (Inline space (inline.alias m) z) rest some h = absurd (false≢true (sym some))
@@ -106,12 +106,12 @@ pub ends_behind : (b : ℕ) (x t : List ℕ) → EndsIn b t → EndsIn b (x ++ t
 ends_behind b x t e = (x ++ e.0, ap (λ q. x ++ q) e.1 ∙ sym (append_assoc x e.0 (b ∷ [])))
 
 -- a key ends in a `:`, a dash in itself
-abbrev pub last_of : rows.Mark → ℕ
+abbrev pub last_of : rows.RowMark → ℕ
 last_of rows.Bare = 45
 last_of rows.Dash = 45
 last_of (rows.Key key colon) = 58
 
-pub mark_ends : (m : rows.Mark) (x : Content) (u : List ℕ) → is_entry m ≡ true → IsMark m x u → EndsIn (last_of m) (mark_text m [])
+pub mark_ends : (m : rows.RowMark) (x : Content) (u : List ℕ) → is_entry m ≡ true → IsMark m x u → EndsIn (last_of m) (mark_text m [])
 mark_ends rows.Bare x u e h = absurd (false≢true e)
 mark_ends rows.Dash x u e h = ([], refl)
 mark_ends (rows.Key key colon) x u e h = ends_behind 58 key (colon ++ []) (h.colon_is.white, append-nil colon ∙ h.colon_is.spelled)
@@ -120,7 +120,7 @@ pub dashes_end : (b : ℕ) (ns t : List ℕ) → EndsIn b t → EndsIn b (dashes
 dashes_end b [] t e = e
 dashes_end b (n ∷ ns) t e = ends_behind b (45 ∷ replicate n 32) (dashes_text ns t) (dashes_end b ns t e)
 
-pub low_last : (m : rows.Mark) → (last_of m < 128) × (is_return (last_of m) ≡ false)
+pub low_last : (m : rows.RowMark) → (last_of m < 128) × (is_return (last_of m) ≡ false)
 low_last rows.Bare = (omega arith, refl)
 low_last rows.Dash = (omega arith, refl)
 low_last (rows.Key key colon) = (omega arith, refl)

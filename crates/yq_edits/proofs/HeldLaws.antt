@@ -6,7 +6,7 @@ use Rattle.yq_flow_scalars.specs.Text.{is_empty}
 use Rattle.yq_cut.specs.Exchange.{row_front}
 use Rattle.yq_cut.specs.Rows.{Row, Cut, cut_text, print_row, rows_text}
 use Rattle.yq_cut.specs.View.{Slices, slices}
-use Rattle.yq_row_places.specs.CommentPlaces.{LineEnd, end_before, line_text}
+use Rattle.yq_row_places.specs.CommentPlaces.{LineEnd, end_in_line, text_to_line_end}
 use Rattle.yq_row_places.specs.PrintedLines.{last_break, less_break}
 use Rattle.yq_row_places.specs.RowPieces.{anchor_before, space_before}
 use Rattle.yq_row_places.proofs.PrintedTexts.{less_is}
@@ -23,7 +23,7 @@ no_apart : (r : Row) → is_empty (slices r).anchor ≡ true → (slices r).apar
 no_apart r = search (rules, false≢true)
 
 -- the text of a line up to its tail: the key or dash with its anchor, the white space behind that, and the head
-pub front_is : (b : List ℕ) (r : Row) → b ++ line_text r ≡ ((b ++ row_front r) ++ anchor_before (slices r)) ++ (space_before (slices r) ++ (slices r).head)
+pub front_is : (b : List ℕ) (r : Row) → b ++ text_to_line_end r ≡ ((b ++ row_front r) ++ anchor_before (slices r)) ++ (space_before (slices r) ++ (slices r).head)
 front_is b r = search (rules, empty_is, no_apart, append_assoc, append-nil)
 
 -- ---- the lines below
@@ -45,7 +45,7 @@ module _ (e : RowsOfEntry) where
   s = slices e.row
 
   abbrev t : LineEnd
-  t = end_before [] (slices e.row).tail
+  t = end_in_line [] (slices e.row).tail
 
   abbrev below : List ℕ
   below = (slices e.row).raw ++ rows_text e.under []

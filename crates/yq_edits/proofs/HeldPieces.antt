@@ -10,7 +10,7 @@ use Rattle.yq_cut.specs.Grammar.{IsRow, IsTail, unlimited}
 use Rattle.yq_cut.specs.Rows.{Cut, cut_text, mark_text, parent_indent, rows_text}
 use Rattle.yq_cut.specs.View.{Slices, slices}
 use Rattle.yq_documents.specs.Reading.{read_at}
-use Rattle.yq_row_places.specs.CommentPlaces.{LineEnd, end_before, line_text}
+use Rattle.yq_row_places.specs.CommentPlaces.{LineEnd, end_in_line, text_to_line_end}
 use Rattle.yq_row_places.specs.PrintedLines.{last_break, less_break}
 use Rattle.yq_row_places.specs.RowPieces.{space_before}
 use Rattle.yq_row_places.specs.Standings.{RowsOfEntry, before_entry, behind_entry, held, rows_of_entry}
@@ -30,10 +30,10 @@ use Rattle.yq_edits.proofs.HeldLaws.{cut_spelled, front_is, held_there}
 use Rattle.yq_edits.proofs.TailPieces.{HasTailPieces, pieces, white_piece}
 
 -- the end of a line, as it is cut without what is behind
-pub end_agrees : (tail more : List ℕ) (h : IsTail tail more) → end_before [] tail ≡ record { before = []; white = h.white; comment = h.comment; behind = h.line.break }
+pub end_agrees : (tail more : List ℕ) (h : IsTail tail more) → end_in_line [] tail ≡ record { before = []; white = h.white; comment = h.comment; behind = h.line.break }
 end_agrees tail more h =
     let alone : IsTail tail [] = record { white = h.white; comment = h.comment; line = record { break = h.line.break; spelled = h.line.spelled; blank = h.line.blank; as_comment = h.line.as_comment; ends = ends h.line.ends }; apart = h.apart } in
-    ap (end_before []) (sym (append-nil tail)) ∙ (tail_is_end [] tail [] alone ∙ ap (λ t. record { before = []; white = h.white; comment = h.comment; behind = t }) (append-nil h.line.break))
+    ap (end_in_line []) (sym (append-nil tail)) ∙ (tail_is_end [] tail [] alone ∙ ap (λ t. record { before = []; white = h.white; comment = h.comment; behind = t }) (append-nil h.line.break))
   where
     ends : IsBreak h.line.break more → IsBreak h.line.break []
     ends (inl e) = inl e
@@ -82,11 +82,11 @@ pub below_ended : (n : ℕ) (s : Step) (ss : List Step) (c : Cut) (e : RowsOfEnt
     Ended ((slices e.row).raw ++ rows_text e.under []) (behind_entry e)
 below_ended n s ss c e there some = go (rows_ended_there n s ss c e there)
   where
-    text : rows_text (e.row ∷ e.under) [] ≡ (line_text e.row ++ (slices e.row).tail) ++ ((slices e.row).raw ++ rows_text e.under [])
-    text = row_text_parts e.row (rows_text e.under []) ∙ sym (append_assoc (line_text e.row) (slices e.row).tail ((slices e.row).raw ++ rows_text e.under []))
+    text : rows_text (e.row ∷ e.under) [] ≡ (text_to_line_end e.row ++ (slices e.row).tail) ++ ((slices e.row).raw ++ rows_text e.under [])
+    text = row_text_parts e.row (rows_text e.under []) ∙ sym (append_assoc (text_to_line_end e.row) (slices e.row).tail ((slices e.row).raw ++ rows_text e.under []))
 
     go : Ended (rows_text (e.row ∷ e.under) []) (behind_entry e) → Ended ((slices e.row).raw ++ rows_text e.under []) (behind_entry e)
-    go (inl lf) = inl (suffix_lf (line_text e.row ++ (slices e.row).tail) ((slices e.row).raw ++ rows_text e.under []) (subst IsLf text lf) some)
+    go (inl lf) = inl (suffix_lf (text_to_line_end e.row ++ (slices e.row).tail) ((slices e.row).raw ++ rows_text e.under []) (subst IsLf text lf) some)
     go (inr none) = inr none
 
 module _ (n : ℕ) (s : Step) (ss : List Step) (c : Cut) (e : RowsOfEntry) (read : read_at (cut_text c) ≡ Some c) (at : rows_of_entry n (s ∷ ss) c ≡ Some e) where
@@ -123,8 +123,8 @@ module _ (n : ℕ) (s : Step) (ss : List Step) (c : Cut) (e : RowsOfEntry) (read
       ends_behind (last_of m) (before_entry e) (row_front e.row) (ends_behind (last_of m) e.row.gap _ (ends_behind (last_of m) (replicate e.row.column 32) _ (dashes_end (last_of m) e.row.dashes (mark_text m []) (mark_ends m e.row.content _ (entry_there n s ss c e there last) row.mark)))) in
       let front = anchor_cut (last_of m) base sl ends (low_last m) (λ some. anchor_ends (parent_indent e.row) e.row.content _ some row.content) (subst IsPiece (front_is (before_entry e) e.row) k.before) in
       let space : IsPiece (space_before sl) = white_piece (space_before sl) (space_white (parent_indent e.row) e.row.content _ row.content) in
-      let end : end_before [] sl.tail ≡ record { before = []; white = tail.white; comment = tail.comment; behind = tail.line.break } = end_agrees sl.tail _ tail in
-      let lines : BelowPieces (end_before [] sl.tail).behind below (behind_entry e) = subst (λ (x : LineEnd). BelowPieces x.behind below (behind_entry e)) (sym end) below_there in
+      let end : end_in_line [] sl.tail ≡ record { before = []; white = tail.white; comment = tail.comment; behind = tail.line.break } = end_agrees sl.tail _ tail in
+      let lines : BelowPieces (end_in_line [] sl.tail).behind below (behind_entry e) = subst (λ (x : LineEnd). BelowPieces x.behind below (behind_entry e)) (sym end) below_there in
       record {
         before = front.0;
         space = space;

@@ -1,7 +1,7 @@
 -- Items of a cut, exchanged for others: the bytes of those that are kept in part.
 use Rattle.std.proofs.Common.{◌≡◌, ℕ, ◌≤◌, List, [], ◌∷◌, ◌++◌, length, false, refl, sym, ap, ◌∙◌, subst, append_assoc, arith, rules}
 use Rattle.std.proofs.lemmas.List.{append_cancel_left, append_cancel_right, length-append}
-use Rattle.yq_cut.specs.Items.{Item, row_item, end_item, rows_items, items_of, items_text}
+use Rattle.yq_cut.specs.Items.{Item, row_item, end_item, rows_items, items_of_cut, items_text}
 use Rattle.yq_cut.specs.Rows.{Row, Cut, cut_text}
 use Rattle.yq_cut.specs.Touched.{item_text}
 use Rattle.yq_cut.proofs.ItemLaws.{items_of_text, items_text-append}
@@ -65,8 +65,8 @@ pub record ItemsGiveWay (ss : List Segment) (c new : Cut) : Type 0 where
   pub gone : List Item
   pub come : List Item
   pub back : List Item
-  pub old_are : items_of c ≡ front ++ (gone ++ back)
-  pub new_are : items_of new ≡ front ++ (come ++ back)
+  pub old_are : items_of_cut c ≡ front ++ (gone ++ back)
+  pub new_are : items_of_cut new ≡ front ++ (come ++ back)
   pub lead : List ℕ
   pub trail : List ℕ
   pub before_is : kept_front ss ≡ items_text front lead

@@ -2,7 +2,7 @@
 use Rattle.std.proofs.Common.{◌≡◌, ℕ, List, [], ◌∷◌, Option, Some, None, Bool, true, false, refl, sym, ap, ◌∙◌, subst, append-nil, rules}
 use Rattle.std.proofs.lemmas.Bool.{false≢true}
 use Rattle.std.specs.List.{slice_get}
-use Rattle.yq_flow_scalars.specs.Paths.{Step, change, node_at}
+use Rattle.yq_flow_scalars.specs.Paths.{Step, changed_at, node_at}
 use Rattle.yq_flow_scalars.specs.Scalar.{ScalarText}
 use Rattle.yq_flow_scalars.specs.Tree as tree
 use Rattle.yq_flow_scalars.specs.Tree.{Node}
@@ -11,7 +11,7 @@ use Rattle.yq_cut.specs.Rows.{Part, Cut, cut_text}
 use Rattle.yq_documents.specs.Documents.{document_parts, lead_of}
 use Rattle.yq_documents.specs.Reading as reading
 use Rattle.yq_documents.specs.Reading.{documents, read_at, root_of}
-use Rattle.yq_documents.specs.TreeEdits.{led, replaced}
+use Rattle.yq_documents.specs.TreeEdits.{led, replaced_node}
 use Rattle.yq_change.specs.Changed.{changed, IsChanged, put_document}
 use Rattle.yq_change.proofs.LeadLaws.{same_lead_goes}
 use Rattle.yq_meaning.specs.Operations.{replace}
@@ -40,12 +40,12 @@ led_scalar o false lead (s ∷ path) v e = refl
 kept_reads : (doc : ℕ) (steps : List Step) (v : Node) (c : Cut) (p : Part) → read_at (cut_text c) ≡ Some c → slice_get (document_parts c) doc ≡ Some p → (n : Node) → IsValueTree v → node_at steps (root_of p) ≡ Some n →
     are_same (scalar_in n) (scalar_in v) ≡ true → ReadsAfter (replace doc steps v) c (cut_text c)
 kept_reads doc steps v c p read at n h there e =
-    let own : change steps (replaced v) (root_of p) ≡ root_of p = change_own steps (replaced v) (root_of p) n there (search (rules, false≢true, same_is, e)) in
+    let own : changed_at steps (replaced_node v) (root_of p) ≡ root_of p = change_own steps (replaced_node v) (root_of p) n there (search (rules, false≢true, same_is, e)) in
     let same : put_document doc p c ≡ c = put_own doc c p at in
-    let stays : changed (lead_of p) (change steps (replaced v)) (reading.document_of p) ≡ reading.document_of p = (λ i. record { lead = lead_of p; root = own i }) in
-    let kept : IsChanged c (put_document doc p c) doc (lead_of p) (change steps (replaced v)) = record {
+    let stays : changed (lead_of p) (changed_at steps (replaced_node v)) (reading.part_document p) ≡ reading.part_document p = (λ i. record { lead = lead_of p; root = own i }) in
+    let kept : IsChanged c (put_document doc p c) doc (lead_of p) (changed_at steps (replaced_node v)) = record {
       read = subst (λ x. read_at (cut_text x) ≡ Some x) (sym same) read;
-      documents_are = ap documents same ∙ sym (nth_own doc (reading.document_of p) (changed (lead_of p) (change steps (replaced v))) (documents c) (nth_map doc p reading.document_of (document_parts c) at) stays);
+      documents_are = ap documents same ∙ sym (nth_own doc (reading.part_document p) (changed (lead_of p) (changed_at steps (replaced_node v))) (documents c) (nth_map doc p reading.part_document (document_parts c) at) stays);
     } in
     search (rules, document_done, led_scalar, same_lead_goes, same, kept)
 

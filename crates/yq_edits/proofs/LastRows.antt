@@ -6,7 +6,7 @@ use Rattle.std.proofs.lemmas.List.{length-append}
 use Rattle.yq_block_scalars.proofs.BlockPieceLaws.{IsLf}
 use Rattle.yq_flow_scalars.proofs.Bools.{guard_then}
 use Rattle.yq_cut.specs.Grammar.{Limit, limit_after, IsRow}
-use Rattle.yq_cut.specs.Items.{Item, row_item, rows_items, items_of, items_text, Asked, nothing_asked, asked_by, asked_of, AreRowItems}
+use Rattle.yq_cut.specs.Items.{Item, row_item, rows_items, items_of_cut, items_text, Asked, nothing_asked, asked_by, asked_of, AreRowItems}
 use Rattle.yq_cut.specs.Rows.{Row, print_row, behind_gap, rows_text, Part, Cut, cut_text}
 use Rattle.yq_cut.specs.Splices.{with_row_gap}
 use Rattle.yq_cut.proofs.ItemLaws.{items_joined, parts_are_items}
@@ -72,7 +72,7 @@ last_line (r ∷ (s ∷ more)) asked is rest t trail h e one = go (λ u k. last_
         search (rules, behind_feed, is_one_line, lf, k, some)
 
 -- the same of rows of a text that reads as a cut
-cut_line : (c : Cut) (front : List Item) (rs : List Row) (back : List Item) (lead trail : List ℕ) → read_at (cut_text c) ≡ Some c → items_of c ≡ front ++ (rows_items rs [] ++ back) →
+cut_line : (c : Cut) (front : List Item) (rs : List Row) (back : List Item) (lead trail : List ℕ) → read_at (cut_text c) ≡ Some c → items_of_cut c ≡ front ++ (rows_items rs [] ++ back) →
     IsInside (rows_items rs []) lead trail → is_one_line trail ≡ true → InLast trail (rows_items rs [])
 unfolding read_at
 cut_line c front rs back lead trail read are inside one =

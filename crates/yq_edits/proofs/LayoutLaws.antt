@@ -10,7 +10,7 @@ use Rattle.yq_nodes.specs.Nodes as inline
 use Rattle.yq_lines.specs.Outline.{Line, level}
 use Rattle.yq_cut.specs.Rows.{Part, Cut}
 use Rattle.yq_documents.specs.Documents.{document_parts}
-use Rattle.yq_lines.specs.Lines.{lines_of}
+use Rattle.yq_lines.specs.Lines.{lines_of_rows}
 use Rattle.yq_row_places.specs.Steps.{is_kind, begins_under, first_step, steps_of_part}
 use Rattle.yq_block.specs.BlockReading.{is_filled}
 use Rattle.yq_block.specs.BlockRows.{block_key, column_below, indent_step, inline_of}
@@ -18,7 +18,7 @@ use Rattle.yq_block.specs.BlockText.{block_children, block_entry, block_node, bl
 use Rattle.yq_block.specs.declared.layout.Layout.{Layout}
 use Rattle.yq_edits.specs.ClosedTexts.{lines_put_behind}
 use Rattle.yq_edits.specs.EntryEdits.{entry_lines, more_lines}
-use Rattle.yq_edits.specs.Layouts.{LooksLike, children_ask, node_asks, is_filled_as, layout_of, step_of}
+use Rattle.yq_edits.specs.Layouts.{LooksLike, children_ask, node_asks, is_filled_as, layout_of, columns_deeper}
 
 -- a key that stands deeper than another one is in a later column
 key_step : (l m : Line) → begins_under (is_kind false) l m ≡ true → 1 ≤ m.column - l.column
@@ -32,7 +32,7 @@ step_least (l ∷ (m ∷ ls)) = search (rules, key_step, step_least (m ∷ ls))
 
 pub steps_least : (o : Option Part) → 1 ≤ (steps_of_part o).mapping
 steps_least None = omega arith
-steps_least (Some p) = step_least (lines_of p.rows)
+steps_least (Some p) = step_least (lines_of_rows p.rows)
 
 -- a mapping stands deeper than its key
 pub mapping_least : (n : ℕ) (c : Cut) → 1 ≤ (layout_of n c).mapping
@@ -43,7 +43,7 @@ mapping_least n c = steps_least (slice_get (document_parts c) n)
 module _ (l k : Layout) where
   -- the steps for which a test asks
   abbrev SameSteps : (Bool → Bool) → Type 0
-  SameSteps asks = (dashes : Bool) → asks dashes ≡ true → step_of dashes l ≡ step_of dashes k
+  SameSteps asks = (dashes : Bool) → asks dashes ≡ true → columns_deeper dashes l ≡ columns_deeper dashes k
 
   -- by how many columns a collection stands deeper than its key
   pub indent_like : (v : Node) → SameSteps (λ dashes. is_filled_as dashes v) → is_filled v ≡ true → indent_step l v ≡ indent_step k v
@@ -61,7 +61,7 @@ module _ (l k : Layout) where
 
   module _ (same : l.br ≡ k.br) where
     -- an item or entry by its columns, and lines behind it
-    entry_by : (a b : ℕ) (key : Option (List ℕ)) (node : Option inline.Node) (t u : List ℕ) → (is_none node ≡ true → a ≡ b) → (is_none node ≡ true → t ≡ u) →
+    entry_by : (a b : ℕ) (key : Option (List ℕ)) (node : Option inline.FlowNode) (t u : List ℕ) → (is_none node ≡ true → a ≡ b) → (is_none node ≡ true → t ≡ u) →
         block_entry l a key node t ≡ block_entry k b key node u
     entry_by a b (Some x) (Some node) t u columns texts = refl
     entry_by a b (Some x) None t u columns texts = λ i. block_key x ++ (58 ∷ (break_text (same i) ++ (replicate (columns refl i) 32 ++ texts refl i)))

@@ -3,7 +3,7 @@ use Rattle.std.proofs.Common.{◌≡◌, ℕ, zero, suc, List, [], ◌∷◌, Op
 use Rattle.std.proofs.lemmas.Option.{same_Some}
 use Rattle.std.specs.List.{slice_get}
 use Rattle.std.specs.Prelude.{option_and_then}
-use Rattle.yq_flow_scalars.specs.Paths.{Step, further, child_at, change_child, change, node_at}
+use Rattle.yq_flow_scalars.specs.Paths.{Step, further, child_at, change_child, changed_at, node_at}
 use Rattle.yq_flow_scalars.specs.Tree.{Node, alias, scalar, list, map, Children, none, child}
 use Rattle.yq_cut.specs.Rows.{Part, Cut, last, marked}
 use Rattle.yq_cut.specs.Splices.{nth_part}
@@ -34,9 +34,9 @@ child_own s g at none n h e = refl
 child_own s g at (child label m cs) n h e = search (rules, child_own (further s) g at cs n h)
 
 -- a node at a path
-pub change_own : (ss : List Step) (f : Node → Node) (root n : Node) → node_at ss root ≡ Some n → f n ≡ n → change ss f root ≡ root
+pub change_own : (ss : List Step) (f : Node → Node) (root n : Node) → node_at ss root ≡ Some n → f n ≡ n → changed_at ss f root ≡ root
 change_own [] f root n e h = subst (λ m. f m ≡ m) (sym (same_Some _ _ e)) h
 change_own (s ∷ ss) f (alias name) n e h = refl
 change_own (s ∷ ss) f (scalar a kind t) n e h = refl
-change_own (s ∷ ss) f (list a cs) n e h = ap (list a) (child_own s (change ss f) (node_at ss) cs n (λ m at. change_own ss f m n at h) e)
-change_own (s ∷ ss) f (map a cs) n e h = ap (map a) (child_own s (change ss f) (node_at ss) cs n (λ m at. change_own ss f m n at h) e)
+change_own (s ∷ ss) f (list a cs) n e h = ap (list a) (child_own s (changed_at ss f) (node_at ss) cs n (λ m at. change_own ss f m n at h) e)
+change_own (s ∷ ss) f (map a cs) n e h = ap (map a) (child_own s (changed_at ss f) (node_at ss) cs n (λ m at. change_own ss f m n at h) e)

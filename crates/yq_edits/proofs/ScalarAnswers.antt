@@ -6,7 +6,7 @@ use Rattle.yq_flow_scalars.specs.Scalar.{ScalarText}
 use Rattle.yq_flow_scalars.specs.Tree.{Node}
 use Rattle.yq_row_places.specs.NodesAt.{scalar_in}
 use Rattle.yq_edits.specs.ReplaceEdits.{has_text, holds_text}
-use Rattle.yq_edits.specs.Replacing.{are_same, is_kept}
+use Rattle.yq_edits.specs.Replacing.{are_same, keeps_scalar}
 
 -- whether it has a text
 pub no_text : (o : Option Node) → None ≡ option_and_then scalar_in o → false ≡ has_text o
@@ -22,17 +22,17 @@ other_scalar : (o : Option ScalarText) → false ≡ are_same o None
 other_scalar None = refl
 other_scalar (Some s) = refl
 
-pub no_scalar : (o : Option Node) (v : Node) → is_some (scalar_in v) ≡ false → false ≡ is_kept o v
+pub no_scalar : (o : Option Node) (v : Node) → is_some (scalar_in v) ≡ false → false ≡ keeps_scalar o v
 no_scalar o v none = go (scalar_in v) none
   where
     go : (x : Option ScalarText) → is_some x ≡ false → false ≡ are_same (o >>= scalar_in) x
     go None e = other_scalar (o >>= scalar_in)
     go (Some s) e = absurd (false≢true (sym e))
 
-pub not_kept : (o : Option Node) (v : Node) → None ≡ option_and_then scalar_in o → false ≡ is_kept o v
+pub not_kept : (o : Option Node) (v : Node) → None ≡ option_and_then scalar_in o → false ≡ keeps_scalar o v
 not_kept None v e = refl
 not_kept (Some n) v e = ap (λ x. are_same x (scalar_in v)) e
 
-pub kept_agrees : (o : Option Node) (v : Node) (s : ScalarText) (b : Bool) → Some s ≡ option_and_then scalar_in o → b ≡ are_same (Some s) (scalar_in v) → b ≡ is_kept o v
+pub kept_agrees : (o : Option Node) (v : Node) (s : ScalarText) (b : Bool) → Some s ≡ option_and_then scalar_in o → b ≡ are_same (Some s) (scalar_in v) → b ≡ keeps_scalar o v
 kept_agrees None v s b e same = absurd (cc)
 kept_agrees (Some n) v s b e same = same ∙ ap (λ x. are_same x (scalar_in v)) e

@@ -15,7 +15,7 @@ use Rattle.yq_cut.proofs.CharacterLaws.{pairs_back}
 use Rattle.yq_cut.proofs.LineEnds.{white_none}
 use Rattle.yq_cut.proofs.NodePieces.{before_ascii, tail_ascii}
 use Rattle.yq_cut.proofs.seams.ScalarSeams.{ends_return}
-use Rattle.yq_row_places.specs.CommentPlaces.{line_text}
+use Rattle.yq_row_places.specs.CommentPlaces.{text_to_line_end}
 use Rattle.yq_row_places.specs.PlacedRows.{PlacedRow}
 use Rattle.yq_change.specs.TextPieces.{IsPiece}
 use Rattle.yq_change.proofs.LineFrontLaws.{ends_more, clean_cut, line_ends_clean}
@@ -33,7 +33,7 @@ white_piece (b ∷ w) h = ⊎_elim {0, 0, 0} (λ (e : eqb b 32 ≡ true). byte_t
 
 -- What is known of the pieces of the text at the end of a line.
 pub record HasTailPieces (w : PlacedRow) (tail more : List ℕ) (h : IsTail tail more) : Type 0 where
-  pub before : IsPiece (w.before ++ line_text w.row)
+  pub before : IsPiece (w.before ++ text_to_line_end w.row)
   pub white : IsPiece h.white
   pub line : IsPiece (h.white ++ h.comment)
   pub behind : IsPiece (h.line.break ++ more)
@@ -45,13 +45,13 @@ pub pieces : (w : PlacedRow) (limit : Limit) → IsRow limit w.row w.behind → 
 pieces w limit row whole h =
     let tail : List ℕ = (slices w.row).tail in
     let more : List ℕ = (slices w.row).raw ++ w.behind in
-    let front_text : List ℕ = w.before ++ line_text w.row in
+    let front_text : List ℕ = w.before ++ text_to_line_end w.row in
     let line : List ℕ = h.white ++ h.comment in
     let behind : List ℕ = h.line.break ++ more in
     let text : IsPiece (front_text ++ (tail ++ more)) = subst IsPiece (line_whole w) whole in
     let pairs : pairs_returns (print_row w.row w.behind) ≡ true = pairs_back w.before (print_row w.row w.behind) (and_parts _ (pairs_returns (w.before ++ print_row w.row w.behind)) whole.characters).1 in
     let first = clean_cut front_text (tail ++ more) text (front_utf8 front_text (tail ++ more) text (tail_ascii tail more h))
-    (λ f. ends_more w.before (line_text w.row) (line_some limit w.row w.behind row h) ∙ line_ends_clean limit w.row w.behind row pairs f) in
+    (λ f. ends_more w.before (text_to_line_end w.row) (line_some limit w.row w.behind row h) ∙ line_ends_clean limit w.row w.behind row pairs f) in
     let split : tail ++ more ≡ line ++ behind = search (rules, append_assoc, more, line) in
     let rest : IsPiece (line ++ behind) = subst IsPiece split first.1 in
     let ends : IsTail h.line.break more = record { white = []; comment = []; line = record { break = h.line.break; spelled = refl; blank = tt; as_comment = tt; ends = h.line.ends }; apart = refl } in

@@ -14,7 +14,7 @@ use Rattle.yq_flow_scalars.specs.Text.{is_marker, separates}
 use Rattle.yq_flow_scalars.specs.Tree as tree
 use Rattle.yq_flow_scalars.specs.Tree.{Children}
 use Rattle.yq_flow_scalars.specs.Writable.{can_write, can_write_plain}
-use Rattle.yq_flow_scalars.specs.Written.{written, double, IsOneLine}
+use Rattle.yq_flow_scalars.specs.Written.{written_scalar, double, IsOneLine}
 use Rattle.yq_flow_scalars.specs.declared.kind.Kind.{Kind}
 use Rattle.yq_flow_scalars.specs.declared.style.Place.TheVariants as places
 use Rattle.yq_flow_scalars.specs.declared.style.Style.{Style}
@@ -23,7 +23,7 @@ use Rattle.yq_block_scalars.proofs.PlainSpells.{plain_is_text, writable_text}
 use Rattle.yq_block_scalars.proofs.WrittenText.{double_is_line, line_is_text}
 use Rattle.yq_nodes.specs.Inline.{depth_limit}
 use Rattle.yq_nodes.specs.Nodes as inline
-use Rattle.yq_nodes.specs.Nodes.{key_text, sep_text, node_text, items_text, IsNode}
+use Rattle.yq_nodes.specs.Nodes.{key_text, sep_text, node_text, flow_items_text, IsFlowNode}
 use Rattle.yq_nodes.specs.Trees.{scalar_node, tree_of}
 use Rattle.yq_flow.specs.Valued.{IsValid, IsLabel, IsValueTree, AreValueTrees, SpellsScalar}
 use Rattle.yq_nodes.specs.Written.{scalar_text, flow_key, flow_sep, flow_of, flow_items, flow_text}
@@ -46,7 +46,7 @@ first_other k b t never h = front_not separates k never (b ∷ t) h
 marker_behind : (t rest : List ℕ) → begins_marker t ≡ false → separates rest ≡ true → is_marker (t ++ rest) ≡ false
 marker_behind t rest h1 h2 = search (rules, no_first, first_other, no_second, no_third)
 
-style_unmarked : (s : ScalarText) (style : Style) (rest : List ℕ) → IsValid s → IsOneLine style → can_write s style places.Block ≡ true → separates rest ≡ true → is_marker (written style s.text ++ rest) ≡ false
+style_unmarked : (s : ScalarText) (style : Style) (rest : List ℕ) → IsValid s → IsOneLine style → can_write s style places.Block ≡ true → separates rest ≡ true → is_marker (written_scalar style s.text ++ rest) ≡ false
 style_unmarked s styles.Plain rest v i h sep = marker_behind s.text rest (not-true (begins_marker s.text) (and_parts _ (not (begins_marker s.text)) (writable_text s.kind s.text false v.kind h)).1) sep
 style_unmarked s styles.Single rest v i h sep = no_first 39 _ refl refl
 style_unmarked s styles.Double rest v i h sep = no_first 34 _ refl refl
@@ -54,11 +54,11 @@ style_unmarked s styles.Literal rest v i h sep = absurd i
 style_unmarked s styles.Folded rest v i h sep = absurd i
 
 pub scalar_is : (a : Option (List ℕ)) (kind : Kind) (t : List ℕ) (style : Style) → IsValueTree (tree.scalar a kind t) → IsOneLine style → can_write (record { kind = kind; text = t }) style places.Block ≡ true →
-    IsValueNode (tree.scalar a kind t) (inline.scalar (written style t)) × IsPiece (written style t)
-unfolding IsNode node_text tree_of
+    IsValueNode (tree.scalar a kind t) (inline.scalar (written_scalar style t)) × IsPiece (written_scalar style t)
+unfolding IsFlowNode node_text tree_of
 scalar_is a kind t style h i can =
     let s : ScalarText = record { kind = kind; text = t } in
-    let w : SpellsScalar s (written style t) = styled_spells s style h.1 i can in (
+    let w : SpellsScalar s (written_scalar style t) = styled_spells s style h.1 i can in (
       record {
         stands = λ n rest ends. record { valid = w.stands (Some (deeper n)) rest ends; something = refl };
         head = ap (λ (x : ScalarText). Some (scalar_node x)) w.same ∙ ap (λ (x : Option (List ℕ)). Some (tree.scalar x kind t)) (sym h.0);
@@ -67,7 +67,7 @@ scalar_is a kind t style h i can =
         more = refl;
         keys = tt;
         unmarked = λ rest sep. style_unmarked s style rest h.1 i can sep;
-        line = λ e. subst (λ (q : List ℕ). holds_break q ≡ false) (sym (append-nil (written style t))) w.line;
+        line = λ e. subst (λ (q : List ℕ). holds_break q ≡ false) (sym (append-nil (written_scalar style t))) w.line;
       },
       record { utf8 = w.utf8; characters = w.text },
     )
@@ -102,7 +102,7 @@ close_map : IsPiece (125 ∷ [])
 unfolding chars pairs_returns encode
 close_map = record { utf8 = (125 ∷ [], (refl, refl)); characters = refl }
 
-written_piece : (s : ScalarText) (plain : Bool) → can_write_plain s true ≡ plain → IsValid s → IsPiece (written (cond plain styles.Plain styles.Double) s.text)
+written_piece : (s : ScalarText) (plain : Bool) → can_write_plain s true ≡ plain → IsValid s → IsPiece (written_scalar (cond plain styles.Plain styles.Double) s.text)
 written_piece s true h v = record { utf8 = v.utf8; characters = plain_is_text true s.text v.utf8 (writable_text s.kind s.text true v.kind h) }
 written_piece s false h v = let line = double_is_line s.text v.utf8 in record { utf8 = (line.chars, (line.valid, line.spelled)); characters = line_is_text (double s.text) line }
 
@@ -125,19 +125,19 @@ sep_piece tree.none t p = p
 sep_piece (tree.child label n cs) t p = pieces_joined (44 ∷ 32 ∷ []) t comma_piece p
 
 mutual
-  unfolding flow_of flow_items node_text items_text
+  unfolding flow_of flow_items node_text flow_items_text
 
   node_piece : (v : tree.Node) (rest : List ℕ) → IsValueTree v → IsPiece rest → IsPiece (node_text (flow_of v) rest)
   node_piece (tree.alias n) rest h p = absurd h
   node_piece (tree.scalar a kind t) rest h p = pieces_joined (scalar_text (record { kind = kind; text = t }) places.Flow) rest (scalar_piece (record { kind = kind; text = t }) h.1) p
-  node_piece (tree.list a cs) rest h p = pieces_joined (91 ∷ []) (items_text 93 (flow_items cs) rest) open_list (items_piece cs 93 false rest close_list h.1 p)
-  node_piece (tree.map a cs) rest h p = pieces_joined (123 ∷ []) (items_text 125 (flow_items cs) rest) open_map (items_piece cs 125 true rest close_map h.1 p)
+  node_piece (tree.list a cs) rest h p = pieces_joined (91 ∷ []) (flow_items_text 93 (flow_items cs) rest) open_list (items_piece cs 93 false rest close_list h.1 p)
+  node_piece (tree.map a cs) rest h p = pieces_joined (123 ∷ []) (flow_items_text 125 (flow_items cs) rest) open_map (items_piece cs 125 true rest close_map h.1 p)
 
-  items_piece : (cs : Children) (k : ℕ) (keyed : Bool) (rest : List ℕ) → IsPiece (k ∷ []) → AreValueTrees keyed cs → IsPiece rest → IsPiece (items_text k (flow_items cs) rest)
+  items_piece : (cs : Children) (k : ℕ) (keyed : Bool) (rest : List ℕ) → IsPiece (k ∷ []) → AreValueTrees keyed cs → IsPiece rest → IsPiece (flow_items_text k (flow_items cs) rest)
   items_piece tree.none k keyed rest close h p = pieces_joined (k ∷ []) rest close p
   items_piece (tree.child label n cs) k keyed rest close h p =
-      key_piece keyed label (node_text (flow_of n) (sep_text (flow_sep cs) (items_text k (flow_items cs) rest))) h.0
-      (node_piece n (sep_text (flow_sep cs) (items_text k (flow_items cs) rest)) h.1 (sep_piece cs (items_text k (flow_items cs) rest) (items_piece cs k keyed rest close h.2 p)))
+      key_piece keyed label (node_text (flow_of n) (sep_text (flow_sep cs) (flow_items_text k (flow_items cs) rest))) h.0
+      (node_piece n (sep_text (flow_sep cs) (flow_items_text k (flow_items cs) rest)) h.1 (sep_piece cs (flow_items_text k (flow_items cs) rest) (items_piece cs k keyed rest close h.2 p)))
 
 pub flow_piece : (v : tree.Node) → IsValueTree v → IsPiece (flow_text v)
 flow_piece v h = node_piece v [] h nothing_piece

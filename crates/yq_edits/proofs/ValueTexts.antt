@@ -5,13 +5,13 @@ use Rattle.yq_flow_scalars.specs.Scalar.{ScalarText}
 use Rattle.yq_flow_scalars.specs.Tree as tree
 use Rattle.yq_flow_scalars.specs.Tree.{Node}
 use Rattle.yq_flow_scalars.specs.Writable.{can_write}
-use Rattle.yq_flow_scalars.specs.Written.{written, IsOneLine}
+use Rattle.yq_flow_scalars.specs.Written.{written_scalar, IsOneLine}
 use Rattle.yq_flow_scalars.specs.declared.style.Place.TheVariants.{Block}
 use Rattle.yq_flow_scalars.specs.declared.style.Style.{Style}
 use Rattle.yq_nodes.specs.Inline.{depth_limit}
 use Rattle.yq_nodes.specs.Nodes as inline
 use Rattle.yq_nodes.specs.Nodes.{node_text}
-use Rattle.yq_nodes.specs.Scalars.{style_of}
+use Rattle.yq_nodes.specs.Scalars.{scalar_style}
 use Rattle.yq_nodes.specs.Written.{flow_of}
 use Rattle.yq_flow.specs.Valued.{IsValueTree}
 use Rattle.yq_change.specs.InlineRows.{IsValueNode}
@@ -24,25 +24,25 @@ use Rattle.yq_edits.proofs.ValueNodes.{scalar_is, list_is, map_is, flow_piece}
 
 -- A text that is written inline for a value, by its node.
 pub record IsWrittenFor (v : Node) (t : List ℕ) : Type 0 where
-  pub node : inline.Node
+  pub node : inline.FlowNode
   pub is : IsValueNode v node
   pub text : node_text node [] ≡ t
   pub piece : IsPiece t
 
-pub style_line : (p : List ℕ) → IsOneLine (style_of p)
+pub style_line : (p : List ℕ) → IsOneLine (scalar_style p)
 style_line p = search rules
 
-pub scalar_for : (a : Option (List ℕ)) (s : ScalarText) (style : Style) → IsValueTree (tree.scalar a s.kind s.text) → IsOneLine style → can_write s style Block ≡ true → IsWrittenFor (tree.scalar a s.kind s.text) (written style s.text)
+pub scalar_for : (a : Option (List ℕ)) (s : ScalarText) (style : Style) → IsValueTree (tree.scalar a s.kind s.text) → IsOneLine style → can_write s style Block ≡ true → IsWrittenFor (tree.scalar a s.kind s.text) (written_scalar style s.text)
 unfolding node_text
 scalar_for a s style h i can =
     let w = scalar_is a s.kind s.text style h i can in
-    record { node = inline.scalar (written style s.text); is = w.0; text = append-nil (written style s.text); piece = w.1 }
+    record { node = inline.scalar (written_scalar style s.text); is = w.0; text = append-nil (written_scalar style s.text); piece = w.1 }
 
 -- in the place of any text
 pub value_for : (old : List ℕ) (v : Node) → IsValueTree v → depth v ≤ depth_limit → has_long_key v ≡ false → IsWrittenFor v (value_text Block old v)
 value_for old (tree.alias name) h deep long = absurd h
 value_for old (tree.scalar a kind text) h deep long =
     let s : ScalarText = record { kind = kind; text = text } in
-    scalar_for a s (style_in Block s (style_of old)) h (style_inline Block s (style_of old) (style_line old)) (style_writes Block s (style_of old))
+    scalar_for a s (style_in Block s (scalar_style old)) h (style_inline Block s (scalar_style old) (style_line old)) (style_writes Block s (scalar_style old))
 value_for old (tree.list a cs) h deep long = record { node = flow_of (tree.list a cs); is = list_is a cs h deep long; text = refl; piece = flow_piece (tree.list a cs) h }
 value_for old (tree.map a cs) h deep long = record { node = flow_of (tree.map a cs); is = map_is a cs h deep long; text = refl; piece = flow_piece (tree.map a cs) h }

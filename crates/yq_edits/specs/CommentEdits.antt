@@ -8,7 +8,7 @@ use Rattle.yq_cut.specs.Rows.{Cut, behind_gap, cut_text, rows_text}
 use Rattle.yq_row_places.specs.CommentPlaces.{LinesAbove, gap_above}
 use Rattle.yq_row_places.specs.FirstBreak.{first_break}
 use Rattle.yq_row_places.specs.Standings.{Held, RowsOfEntry, before_entry, behind_entry, held, rows_of_entry}
-use Rattle.yq_meaning.specs.Meaning.{head_of}
+use Rattle.yq_meaning.specs.Meaning.{head_comment_lines}
 use Rattle.yq_script.specs.Script.{Segment, keep, put}
 
 -- what is written for a line comment, in the place of one or behind a space (6.6)
@@ -44,7 +44,7 @@ head_lines column br (text ∷ texts) = comment_line column br text ++ head_line
 
 -- the segments of a text in which other lines stand for the comment above a row (own)
 abbrev pub head_comment_segments : List ℕ → List ℕ → LinesAbove → List Segment
-head_comment_segments br text w = keep w.before ∷ (put w.run (head_lines w.column br (head_of text)) ∷ (keep w.behind ∷ []))
+head_comment_segments br text w = keep w.before ∷ (put w.run (head_lines w.column br (head_comment_lines text)) ∷ (keep w.behind ∷ []))
 
 -- HeadComment: above the row that a key or dash begins (6.6)
 abbrev pub head_comment_put : List ℕ → List ℕ → RowsOfEntry → Option (List Segment)

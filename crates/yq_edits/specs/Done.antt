@@ -9,7 +9,7 @@ use Rattle.yq_row_places.specs.RowPaths.{IsReadable}
 use Rattle.yq_change.specs.Changed.{IsChanged, KeepsRows, put_document}
 use Rattle.yq_change.specs.Rooms.{is_block_root, LeadGoes, EqualRoom}
 use Rattle.yq_change.specs.TextPieces.{IsPiece}
-use Rattle.yq_meaning.specs.After.{document_of, root_after}
+use Rattle.yq_meaning.specs.After.{op_document, root_after}
 use Rattle.yq_meaning.specs.Operations.{Operation}
 use Rattle.yq_meaning.specs.RoomsKept.{KeepsBlock, SetsComment}
 use Rattle.yq_script.specs.Script.{Segment, keep, put, new_text}
@@ -18,9 +18,9 @@ use Rattle.yq_edits.specs.ReadsAfter.{ReadsAfter}
 -- The document of an operation has part p, and with part q for it the text reads so that this document is as the operation makes it (own).
 pub record IsDone (op : Operation) (c : Cut) (p q : Part) (lead : List (List ℕ)) (f : Node → Node) : Type 0 where
   pub read : read_at (cut_text c) ≡ Some c
-  pub there : slice_get (document_parts c) (document_of op) ≡ Some p
+  pub there : slice_get (document_parts c) (op_document op) ≡ Some p
   pub rows : KeepsRows p q
-  pub changed : IsChanged c (put_document (document_of op) q c) (document_of op) lead f
+  pub changed : IsChanged c (put_document (op_document op) q c) (op_document op) lead f
   pub root : f (root_of p) ≡ root_after (is_block_root p) (lead_of p) op (root_of p)
   pub lead_goes : LeadGoes p q
   pub block : KeepsBlock op (root_of q) → is_block_root q ≡ is_block_root p
@@ -29,7 +29,7 @@ pub record IsDone (op : Operation) (c : Cut) (p q : Part) (lead : List (List ℕ
 -- A text whose document is so done reads as the documents after the operation (own).
 abbrev pub DocumentDone : Type 0
 DocumentDone = (op : Operation) (c : Cut) (p q : Part) (lead : List (List ℕ)) (f : Node → Node) →
-    IsDone op c p q lead f → ReadsAfter op c (cut_text (put_document (document_of op) q c))
+    IsDone op c p q lead f → ReadsAfter op c (cut_text (put_document (op_document op) q c))
 
 -- what segments keep and put in are pieces of texts (own)
 abbrev pub ArePieces : List Segment → Type 0

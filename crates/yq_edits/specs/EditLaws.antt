@@ -18,14 +18,14 @@ use Rattle.yq_meaning.specs.Operations.{Operation, replace, append, remove, line
 use Rattle.yq_meaning.specs.Rooms.{room_of}
 use Rattle.yq_script.specs.Script.{Segment, AllStay, keep, new_text, old_text}
 use Rattle.yq_edits.specs.CommentEdits.{head_comment_put, line_comment_put}
-use Rattle.yq_edits.specs.Edits.{appended, edits, emptied}
+use Rattle.yq_edits.specs.Edits.{appended, op_edits, empty_collection}
 use Rattle.yq_edits.specs.EntryEdits.{block_more, one_removed}
 use Rattle.yq_edits.specs.FlowParts.{flow_more, flow_put, flow_removed}
 use Rattle.yq_edits.specs.Layouts.{layout_of}
 use Rattle.yq_edits.specs.Local.{IsLocalTo}
 use Rattle.yq_edits.specs.Operands.{HasOperand}
 use Rattle.yq_edits.specs.ReplaceEdits.{has_text, value_put}
-use Rattle.yq_edits.specs.Replacing.{is_kept}
+use Rattle.yq_edits.specs.Replacing.{keeps_scalar}
 use Rattle.yq_edits.specs.ReadsAfter.{ReadsAfter}
 
 -- Segments make a text that reads as the documents after an operation, and exchange only the items that they touch; or all bytes stay.
@@ -42,21 +42,21 @@ pub record IsEdit (op : Operation) (c : Cut) (ss : List Segment) : Type 0 where
 abbrev pub ValuesArePut : Type 0
 ValuesArePut =
     (n : ℕ) (steps : List Step) (v : Node) (c : Cut) (t : Standing) →
-    read_at (cut_text c) ≡ Some c → standing_at n steps c ≡ Some t → is_kept (node_in n steps c) v ≡ false →
+    read_at (cut_text c) ≡ Some c → standing_at n steps c ≡ Some t → keeps_scalar (node_in n steps c) v ≡ false →
     IsEdit (replace n steps v) c (value_put (has_text (node_in n steps c)) (layout_of n c) v t)
 
 -- Replace in a flow collection.
 abbrev pub FlowValuesArePut : Type 0
 FlowValuesArePut =
     (n : ℕ) (steps : List Step) (v : Node) (c : Cut) (x : FlowPart) →
-    read_at (cut_text c) ≡ Some c → flow_standing n c (last_step steps) ≡ Some x → is_kept (node_in n steps c) v ≡ false →
+    read_at (cut_text c) ≡ Some c → flow_standing n c (last_step steps) ≡ Some x → keeps_scalar (node_in n steps c) v ≡ false →
     IsEdit (replace n steps v) c (flow_put (cut_text c) v x)
 
 -- An equal scalar leaves all bytes.
 abbrev pub EqualScalarsStay : Type 0
 EqualScalarsStay =
     (n : ℕ) (steps : List Step) (v : Node) (c : Cut) →
-    read_at (cut_text c) ≡ Some c → is_kept (node_in n steps c) v ≡ true → IsEdit (replace n steps v) c (keep (cut_text c) ∷ [])
+    read_at (cut_text c) ≡ Some c → keeps_scalar (node_in n steps c) v ≡ true → IsEdit (replace n steps v) c (keep (cut_text c) ∷ [])
 
 -- Append: one more item or entry at the end of a block collection.
 abbrev pub MoreIsPut : Type 0
@@ -90,7 +90,7 @@ abbrev pub SoleIsRemoved : Type 0
 SoleIsRemoved =
     (n : ℕ) (steps init : List Step) (s : Step) (v : Node) (c : Cut) (ss : List Segment) →
     read_at (cut_text c) ≡ Some c → last_step steps ≡ Some (init, s) → has_others_at n steps c ≡ false →
-    (node_in n init c >>= emptied) ≡ Some v → IsEdit (replace n init v) c ss → IsEdit (remove n steps) c ss
+    (node_in n init c >>= empty_collection) ≡ Some v → IsEdit (replace n init v) c ss → IsEdit (remove n steps) c ss
 
 -- LineComment.
 abbrev pub LineCommentIsPut : Type 0
@@ -108,13 +108,13 @@ HeadCommentIsPut =
 
 -- Each operation: what it exchanges carries it out.
 abbrev pub EditsCarryOut : Type 0
-EditsCarryOut = (op : Operation) (c : Cut) (ss : List Segment) → read_at (cut_text c) ≡ Some c → edits op c ≡ Some ss → IsEdit op c ss
+EditsCarryOut = (op : Operation) (c : Cut) (ss : List Segment) → read_at (cut_text c) ≡ Some c → op_edits op c ≡ Some ss → IsEdit op c ss
 
 -- An operation that fits has its edit.
 abbrev pub FittingHasEdit : Type 0
 FittingHasEdit =
     (op : Operation) (c : Cut) →
-    read_at (cut_text c) ≡ Some c → HasOperand op → Fits (room_of (cut_text c)) op (documents c) → (ss : List Segment) × (edits op c ≡ Some ss)
+    read_at (cut_text c) ≡ Some c → HasOperand op → Fits (room_of (cut_text c)) op (documents c) → (ss : List Segment) × (op_edits op c ≡ Some ss)
 
 -- The laws of each kind of edit together.
 pub record KindsCarryOut : Type 0 where

@@ -15,12 +15,12 @@ use Rattle.yq_edits.specs.CommentEdits.{head_comment_at, line_comment_at}
 use Rattle.yq_edits.specs.EntryEdits.{more_at, one_removed}
 use Rattle.yq_edits.specs.FlowParts.{flow_more, flow_put, flow_removed}
 use Rattle.yq_edits.specs.ReplaceEdits.{value_put_at}
-use Rattle.yq_edits.specs.Replacing.{is_kept}
+use Rattle.yq_edits.specs.Replacing.{keeps_scalar}
 
 -- Replace: an equal scalar leaves the bytes alone; else by what stands there outside flow collections, or by the part of one
-abbrev pub replaced : ℕ → List Step → Node → Cut → Option (List Segment)
-replaced n steps v c =
-    if is_kept (node_in n steps c) v then Some (keep (cut_text c) ∷ [])
+abbrev pub replace_segments : ℕ → List Step → Node → Cut → Option (List Segment)
+replace_segments n steps v c =
+    if keeps_scalar (node_in n steps c) v then Some (keep (cut_text c) ∷ [])
     else option_or (value_put_at n steps v c) (option_map (flow_put (cut_text c) v) (flow_standing n c (last_step steps)))
 
 -- Append: rows behind those of a block collection, or else a part more in a flow collection
@@ -28,16 +28,16 @@ abbrev pub appended : ℕ → List Step → Option (List ℕ) → Node → Cut �
 appended n steps key v c = option_or (more_at n steps c key v) (flow_collection n steps c >>= flow_more (cut_text c) key v)
 
 -- the empty collection of the kind of a collection
-abbrev pub emptied : Node → Option Node
-emptied (alias name) = None
-emptied (scalar anchor kind text) = None
-emptied (list anchor cs) = Some (list None none)
-emptied (map anchor cs) = Some (map None none)
+abbrev pub empty_collection : Node → Option Node
+empty_collection (alias name) = None
+empty_collection (scalar anchor kind text) = None
+empty_collection (list anchor cs) = Some (list None none)
+empty_collection (map anchor cs) = Some (map None none)
 
 -- a sole item or entry, in block or in flow: `[]` or `{}` is put in the place of its collection (7.4, 8.2)
 abbrev pub sole_removed : ℕ → Cut → Option (List Step × Step) → Option (List Segment)
 sole_removed n c None = None
-sole_removed n c (Some x) = node_in n x.0 c >>= emptied >>= λ v. replaced n x.0 v c
+sole_removed n c (Some x) = node_in n x.0 c >>= empty_collection >>= λ v. replace_segments n x.0 v c
 
 -- one of several items or entries of a flow collection
 abbrev pub part_removed : ℕ → Cut → Option (List Step × Step) → Option (List Segment)
@@ -53,12 +53,12 @@ abbrev pub removed : ℕ → List Step → Cut → Option (List Segment)
 removed n steps c = option_or (part_removed n c (last_step steps)) (rows_or_sole n steps c)
 
 -- each operation, by its kind
-abbrev pub edits : Operation → Cut → Option (List Segment)
-edits (replace n steps v) c = replaced n steps v c
-edits (append n steps key v) c = appended n steps key v c
-edits (remove n steps) c = removed n steps c
-edits (line_comment n steps text) c = line_comment_at n steps c text
-edits (head_comment n steps text) c = head_comment_at n steps c text
+abbrev pub op_edits : Operation → Cut → Option (List Segment)
+op_edits (replace n steps v) c = replace_segments n steps v c
+op_edits (append n steps key v) c = appended n steps key v c
+op_edits (remove n steps) c = removed n steps c
+op_edits (line_comment n steps text) c = line_comment_at n steps c text
+op_edits (head_comment n steps text) c = head_comment_at n steps c text
 
 -- where there is nothing to exchange, as for no operation that fits, the text stays
 abbrev pub or_stay : Cut → Option (List Segment) → List Segment

@@ -2,32 +2,32 @@
 use Rattle.std.specs.Prelude.{ℕ, ◌==◌, List, [], ◌∷◌, ◌++◌, Option, Some, None, is_some, option_map, Bool, not, if◌then◌else◌}
 use Rattle.yq_flow_scalars.specs.Paths.{Step}
 use Rattle.yq_flow_scalars.specs.Tree as tree
-use Rattle.yq_flow_scalars.specs.Written.{written}
+use Rattle.yq_flow_scalars.specs.Written.{written_scalar}
 use Rattle.yq_flow_scalars.specs.declared.style.Place.TheVariants.{Flow as InFlow}
 use Rattle.yq_nodes.specs.Collections.{CollPieces}
-use Rattle.yq_nodes.specs.Nodes.{Node, alias, scalar, node_text}
-use Rattle.yq_nodes.specs.Scalars.{style_of}
+use Rattle.yq_nodes.specs.Nodes.{FlowNode, alias, scalar, node_text}
+use Rattle.yq_nodes.specs.Scalars.{scalar_style}
 use Rattle.yq_nodes.specs.Written.{flow_key, flow_of}
 use Rattle.yq_flow.specs.FlowEdits.{FlowEdit, appending, content_node, replacing}
 use Rattle.yq_flow.specs.Removals.{removing}
 use Rattle.yq_row_places.specs.Standings.{FlowPart}
-use Rattle.yq_script.specs.Script.{Segment, keep, put, text_before}
+use Rattle.yq_script.specs.Script.{Segment, keep, put, script_text_before}
 use Rattle.yq_edits.specs.Style.{style_in}
 
 -- the segments of a text in which a flow collection is edited
 abbrev pub flow_segments : List ℕ → FlowEdit → List Segment
-flow_segments t e = keep (text_before t (e.old ++ e.behind)) ∷ (put e.old e.lead ∷ (put [] e.written ∷ (keep e.behind ∷ [])))
+flow_segments t e = keep (script_text_before t (e.old ++ e.behind)) ∷ (put e.old e.lead ∷ (put [] e.written ∷ (keep e.behind ∷ [])))
 
 -- a value as an inline node in the place of a text: a scalar in the style of that, if this can write it in flow, else plain if it can be, else in double
 -- quotes; a collection in flow style (7.4)
-abbrev pub flow_value : List ℕ → tree.Node → Node
+abbrev pub flow_value : List ℕ → tree.Node → FlowNode
 flow_value old (tree.alias name) = alias name
-flow_value old (tree.scalar anchor kind text) = scalar (written (style_in InFlow (record { kind = kind; text = text }) (style_of old)) text)
+flow_value old (tree.scalar anchor kind text) = scalar (written_scalar (style_in InFlow (record { kind = kind; text = text }) (scalar_style old)) text)
 flow_value old (tree.list anchor cs) = flow_of (tree.list anchor cs)
 flow_value old (tree.map anchor cs) = flow_of (tree.map anchor cs)
 
 -- what is written of a node behind its anchor
-abbrev pub content_written : Node → List ℕ
+abbrev pub content_written : FlowNode → List ℕ
 content_written n = node_text (content_node n) []
 
 -- Replace: a value in flow style in the place of the content of an item or entry, behind its anchor; where nothing is written it comes behind a space (7.4)

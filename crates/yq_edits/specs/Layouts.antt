@@ -14,8 +14,8 @@ abbrev pub layout_of : ℕ → Cut → Layout
 layout_of n c = record { br = first_break (cut_text c); mapping = (document_steps n c).mapping; sequence = (document_steps n c).sequence }
 
 -- by how many columns a sequence, or a mapping, stands deeper than its key (own)
-abbrev pub step_of : (dashes : Bool) → Layout → ℕ
-step_of dashes l = if dashes then l.sequence else l.mapping
+abbrev pub columns_deeper : (dashes : Bool) → Layout → ℕ
+columns_deeper dashes l = if dashes then l.sequence else l.mapping
 
 -- whether a node is a sequence, or a mapping, with items or entries, as the flag asks (own)
 abbrev pub is_filled_as : (dashes : Bool) → Node → Bool
@@ -38,14 +38,14 @@ unfoldable mutual
   children_ask dashes (child label n cs) = (is_some label.key && is_filled_as dashes n) || (node_asks dashes n || children_ask dashes cs)
 
 -- whether a key holds what stands there (8.2.2)
-abbrev pub is_keyed : Standing → Bool
-is_keyed (alone w) = false
-is_keyed (beside h) = h.mark.keyed
-is_keyed (under h column) = h.mark.keyed
-is_keyed (compact p) = p.mark.keyed
-is_keyed (block h indent) = h.mark.keyed
-is_keyed (root w) = false
-is_keyed (no_rows w) = false
+abbrev pub is_under_key : Standing → Bool
+is_under_key (alone w) = false
+is_under_key (beside h) = h.mark.keyed
+is_under_key (under h column) = h.mark.keyed
+is_under_key (compact p) = p.mark.keyed
+is_under_key (block h indent) = h.mark.keyed
+is_under_key (root w) = false
+is_under_key (no_rows w) = false
 
 -- whether a value asks for the step of such collections, where it is put under a key, or elsewhere (own)
 abbrev pub is_asked : (keyed dashes : Bool) → Node → Bool
@@ -53,4 +53,4 @@ is_asked keyed dashes v = (keyed && is_filled_as dashes v) || node_asks dashes v
 
 -- a look of block style is this one as far as a value asks for it, under a key or elsewhere: its break, and the steps that are asked (own)
 abbrev pub LooksLike : (keyed : Bool) → Node → Layout → Layout → Type 0
-LooksLike keyed v l k = (l.br ≡ k.br) × ((dashes : Bool) → is_asked keyed dashes v ≡ true → step_of dashes l ≡ step_of dashes k)
+LooksLike keyed v l k = (l.br ≡ k.br) × ((dashes : Bool) → is_asked keyed dashes v ≡ true → columns_deeper dashes l ≡ columns_deeper dashes k)

@@ -1,6 +1,6 @@
 -- Which rows and ends of parts of a text an operation exchanges: those that it touches (own).
 use Rattle.std.specs.Prelude.{◌≡◌, ℕ, ◌≤◌, List, [], ◌∷◌, ◌++◌, length, Some}
-use Rattle.yq_cut.specs.Items.{Item, items_of, items_text}
+use Rattle.yq_cut.specs.Items.{Item, items_of_cut, items_text}
 use Rattle.yq_cut.specs.Rows.{Cut}
 use Rattle.yq_cut.specs.Touched.{item_text, TouchesOnly}
 use Rattle.yq_documents.specs.Reading.{read_at}
@@ -26,8 +26,8 @@ pub record IsLocal (ss : List Segment) (c new : Cut) : Type 0 where
   pub back : List Item
   pub lead : List ℕ
   pub trail : List ℕ
-  pub old_are : items_of c ≡ front ++ (gone ++ back)
-  pub new_are : items_of new ≡ front ++ (come ++ back)
+  pub old_are : items_of_cut c ≡ front ++ (gone ++ back)
+  pub new_are : items_of_cut new ≡ front ++ (come ++ back)
   pub before_is : kept_front ss ≡ items_text front lead
   pub behind_is : kept_back ss ≡ trail ++ items_text back []
   pub begins : InFirst lead gone × InFirst lead come

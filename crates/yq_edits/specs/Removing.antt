@@ -1,22 +1,22 @@
 -- What is exchanged where an item or entry is taken out with its rows (YAML 1.2.2, 8.2; own).
 use Rattle.std.specs.Prelude.{ℕ, List, [], ◌∷◌, ◌++◌, replicate, Option, Some, None, if◌then◌else◌}
-use Rattle.yq_block_scalars.specs.BlockRepair.{is_short, is_outside}
+use Rattle.yq_block_scalars.specs.BlockRepair.{is_short, is_outdented_comment}
 use Rattle.yq_flow_scalars.specs.Lines.{is_blank}
-use Rattle.yq_flow_scalars.specs.Text.{cut, no_white, past_white, joined, lines_of}
+use Rattle.yq_flow_scalars.specs.Text.{cut, no_white, past_white, joined, text_lines}
 use Rattle.yq_row_places.specs.RemovalPlaces.{Seam, Removal}
 use Rattle.yq_script.specs.Script.{Segment, keep, put}
 
 -- the white space in front of a line gives way to so many spaces (own)
-abbrev pub indented : ℕ → List ℕ → List Segment
-indented column l = put (cut no_white l).0 (replicate column 32) ∷ (keep (past_white l) ∷ [])
+abbrev pub indent_put : ℕ → List ℕ → List Segment
+indent_put column l = put (cut no_white l).0 (replicate column 32) ∷ (keep (past_white l) ∷ [])
 
 -- a blank line behind a block scalar goes where the scalar keeps empty lines; else it is emptied, if it isn't short enough to be one (8.1.1.2)
 abbrev pub blank_mended : Seam → List ℕ → List Segment
-blank_mended s l = if s.keeps then put l [] ∷ [] else (if is_short s.indent l then keep l ∷ [] else indented 0 l)
+blank_mended s l = if s.keeps then put l [] ∷ [] else (if is_short s.indent l then keep l ∷ [] else indent_put 0 l)
 
 -- a comment line behind a block scalar gets the next row's column, if it is indented as deep as the scalar's text, or has a tab before its `#` (8.1.1.1)
 abbrev pub comment_mended : Seam → List ℕ → List Segment
-comment_mended s l = if is_outside s.indent l then keep l ∷ [] else indented s.column l
+comment_mended s l = if is_outdented_comment s.indent l then keep l ∷ [] else indent_put s.column l
 
 -- the lines of a gap behind a block scalar: the blank ones in front, and the first comment line (own)
 abbrev pub lines_mended : Seam → List (List ℕ) → List Segment
@@ -26,7 +26,7 @@ lines_mended s (l ∷ ls) = if is_blank l then blank_mended s l ++ lines_mended 
 -- a gap that comes to stand at a seam, if there is one (own)
 abbrev pub gap_mended : Option Seam → List ℕ → List Segment
 gap_mended None gap = keep gap ∷ []
-gap_mended (Some s) gap = lines_mended s (lines_of gap)
+gap_mended (Some s) gap = lines_mended s (text_lines gap)
 
 -- the lines of an item or entry go, and the gap behind them is mended (own)
 abbrev pub rows_removed : Removal → List Segment

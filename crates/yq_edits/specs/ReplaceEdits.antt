@@ -6,7 +6,7 @@ use Rattle.yq_block_scalars.specs.BlockWritten as literal
 use Rattle.yq_block_scalars.specs.BlockWritten.{break_text, chomping_of, header_text}
 use Rattle.yq_flow_scalars.specs.Paths.{Step}
 use Rattle.yq_flow_scalars.specs.Scalar.{ScalarText}
-use Rattle.yq_flow_scalars.specs.Text.{is_empty, is_feed, joined, lines_of}
+use Rattle.yq_flow_scalars.specs.Text.{is_empty, is_feed, joined, text_lines}
 use Rattle.yq_flow_scalars.specs.Tree.{Node}
 use Rattle.yq_flow_scalars.specs.Writable.{can_write, is_string}
 use Rattle.yq_flow_scalars.specs.Written.{double}
@@ -25,14 +25,14 @@ use Rattle.yq_edits.specs.WrittenValues.{Written, inline, compact_text, lines, v
 -- ---- behind a key or dash
 
 -- behind a space, where nothing is written (own)
-abbrev pub apart : List ℕ → List ℕ → List ℕ
-apart old t = if is_empty old then 32 ∷ t else t
+abbrev pub spaced_text : List ℕ → List ℕ → List ℕ
+spaced_text old t = if is_empty old then 32 ∷ t else t
 
 -- what is put in the place of what a key or dash holds
 abbrev pub held_put : List ℕ → Held → Written → List Segment
 -- inline: in the place of the head, or behind a space where none is; lines below go, up to the last break
 held_put br h (inline t) =
-    keep h.before ∷ (keep h.space ∷ (put h.head (apart h.head t) ∷ (keep h.white ∷ (keep h.comment ∷
+    keep h.before ∷ (keep h.space ∷ (put h.head (spaced_text h.head t) ∷ (keep h.white ∷ (keep h.comment ∷
     (put h.break [] ∷ (put h.lines [] ∷ (keep h.last ∷ (keep h.behind ∷ []))))))))
 -- compact: a space and the text in the place of the white space and the head; lines below go, up to the last break
 held_put br h (compact_text t) =
@@ -60,7 +60,7 @@ raw_put h space head raw = keep h.before ∷ (space ∷ (head ∷ (keep h.white 
 
 -- a text as a literal block scalar in the place of another block scalar: header and lines (8.1.2)
 abbrev pub literal_put : List ℕ → Held → ℕ → List ℕ → List Segment
-literal_put br h indent t = raw_put h (keep h.space) (put h.head (header_text (chomping_of (lines_of t)))) (joined (literal.written indent br (lines_of t)))
+literal_put br h indent t = raw_put h (keep h.space) (put h.head (header_text (chomping_of (text_lines t)))) (joined (literal.raw_written indent br (text_lines t)))
 
 -- a string in the place of a block scalar with a text line: a literal one, if it can be, else in double quotes (8.1)
 abbrev pub string_put : List ℕ → Held → ℕ → ScalarText → List Segment
@@ -81,18 +81,18 @@ block_scalar_put has_text br h indent w (Some s) = if has_text && is_string s.ki
 -- ---- elsewhere
 
 -- a text behind a dash, in the place of a compact collection
-abbrev pub behind_dash : Compact → List ℕ → List Segment
-behind_dash p t = keep p.before ∷ (put p.old t ∷ (keep p.last ∷ (keep p.behind ∷ [])))
+abbrev pub put_compact : Compact → List ℕ → List Segment
+put_compact p t = keep p.before ∷ (put p.old t ∷ (keep p.last ∷ (keep p.behind ∷ [])))
 
 -- a value there: behind a space, or a break and the lines (8.2.1)
 abbrev pub compact_put : List ℕ → Compact → Written → List Segment
-compact_put br p (inline t) = behind_dash p (32 ∷ t)
-compact_put br p (compact_text t) = behind_dash p (32 ∷ t)
-compact_put br p (lines t) = behind_dash p (br ++ t)
+compact_put br p (inline t) = put_compact p (32 ∷ t)
+compact_put br p (compact_text t) = put_compact p (32 ∷ t)
+compact_put br p (lines t) = put_compact p (br ++ t)
 
 -- a value in one line in the place of a lone node; a collection is in flow style (7)
 abbrev pub lone_put : Lone → Node → List Segment
-lone_put w v = keep w.before ∷ (put w.head (apart w.head (value_text InBlock w.head v)) ∷ (keep w.behind ∷ []))
+lone_put w v = keep w.before ∷ (put w.head (spaced_text w.head (value_text InBlock w.head v)) ∷ (keep w.behind ∷ []))
 
 -- a value in block style in the place of a root that is a block collection (8.2, 9.1)
 abbrev pub root_put : Layout → Node → BlockRoot → List Segment

@@ -15,8 +15,8 @@ are_same (Some a) None = false
 are_same (Some a) (Some b) = is_same a b
 
 -- whether a value is a scalar equal to the node that is there, if one is (own)
-abbrev pub is_kept : Option Node → Node → Bool
-is_kept old v = are_same (old >>= scalar_in) (scalar_in v)
+abbrev pub keeps_scalar : Option Node → Node → Bool
+keeps_scalar old v = are_same (old >>= scalar_in) (scalar_in v)
 
 -- whether a plain text on one line may stand for a scalar: that is null, or its text (own)
 abbrev pub may_spell : List ℕ → ScalarText → Bool

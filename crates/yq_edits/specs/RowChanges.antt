@@ -21,10 +21,10 @@ use Rattle.yq_meaning.specs.Rooms.{room_of}
 use Rattle.yq_script.specs.Script.{Segment, changes, keep, new_text, old_text, splice_at}
 use Rattle.yq_row_places.specs.NodesAt.{node_in}
 use Rattle.yq_edits.specs.CommentEdits.{comment_put, comment_written}
-use Rattle.yq_edits.specs.Edits.{edits}
+use Rattle.yq_edits.specs.Edits.{op_edits}
 use Rattle.yq_edits.specs.Operands.{HasOperand}
 use Rattle.yq_edits.specs.ReplaceEdits.{held_put}
-use Rattle.yq_edits.specs.Replacing.{is_kept}
+use Rattle.yq_edits.specs.Replacing.{keeps_scalar}
 use Rattle.yq_edits.specs.WrittenValues.{inline, value_text}
 
 -- In the cut of the text that segments make, the row of an item or entry of document n has given way to another one of its shape (own).
@@ -77,14 +77,14 @@ abbrev pub InlineEdits : Type 0
 InlineEdits =
     (n : ℕ) (s : Step) (ss : List Step) (v : Node) (c : Cut) (e : RowsOfEntry) → rows_of_entry n (s ∷ ss) c ≡ Some e → HoldsInline e →
     is_filled v ≡ false →
-    edits (replace n (s ∷ ss) v) c ≡
-    (if is_kept (node_in n (s ∷ ss) c) v then Some (keep (cut_text c) ∷ []) else Some (inline_put v (held e)))
+    op_edits (replace n (s ∷ ss) v) c ≡
+    (if keeps_scalar (node_in n (s ∷ ss) c) v then Some (keep (cut_text c) ∷ []) else Some (inline_put v (held e)))
 
 -- what a LineComment exchanges
 abbrev pub CommentEdits : Type 0
 CommentEdits =
     (n : ℕ) (steps : List Step) (text : List ℕ) (c : Cut) (e : RowsOfEntry) → rows_of_entry n steps c ≡ Some e → e.line ≡ length e.row.dashes →
-    edits (line_comment n steps text) c ≡ Some (comment_put text (held e))
+    op_edits (line_comment n steps text) c ≡ Some (comment_put text (held e))
 
 -- A value so put is one text in the place of the head, where no lines are below.
 abbrev pub InlinePutsOne : Type 0

@@ -1,6 +1,6 @@
 //! How a value is written at a place.
 ghost use Rattle.std.specs.Prelude.{◌≡◌, ◌∷◌, ◌++◌, IfOk, OnOk, string_bytes};
-ghost use Rattle.yq_nodes.specs.Values.{node_of};
+ghost use Rattle.yq_nodes.specs.Values.{value_node};
 ghost use Rattle.yq_block_scalars.specs.BlockWritten.{break_text};
 ghost use Rattle.yq_row_places.specs.StandingViews.{held_mark_view};
 ghost use Rattle.yq_block.specs.BlockRows.{item_column};
@@ -30,7 +30,7 @@ pub fn value_text(
     value: &Value,
 ) -> Result<String, AllocError>
     ensures { IfOk result (λ s. string_bytes s ≡
-        spec.value_text place old.now (node_of value.now)) }
+        spec.value_text place old.now (value_node value.now)) }
 {
     let Value::Scalar(scalar) = value else {
         return write_inline(alloc, value);
@@ -75,7 +75,7 @@ fn behind_dash(column: usize) -> Result<usize, AllocError>
 /// [`AllocError`] where it is past `usize`, for which there is no memory.
 fn column_under(layout: &Layout, mark: Mark, value: &Value) -> Result<usize, AllocError>
     ensures { IfOk result (λ n. n ≡
-        spec.column_under layout.now (held_mark_view mark) (node_of value.now)) }
+        spec.column_under layout.now (held_mark_view mark) (value_node value.now)) }
 {
     if !mark.keyed {
         return behind_dash(mark.column);
@@ -94,7 +94,7 @@ pub fn compact_text(
     value: &Value,
 ) -> Result<String, AllocError>
     ensures { IfOk result (λ s. string_bytes s ≡
-        32 ∷ block_value layout.now (item_column mark.column) (node_of value.now)) }
+        32 ∷ block_value layout.now (item_column mark.column) (value_node value.now)) }
 {
     let column = behind_dash(mark.column)?;
     let mut text = String::new(alloc);
@@ -113,8 +113,8 @@ fn push_lines_under(
 ) -> Result<(), AllocError>
     ensures { OnOk result (string_bytes out.new ≡ string_bytes out.old ++
         spec.lines_in layout.now
-        (spec.column_under layout.now (held_mark_view mark) (node_of value.now))
-        (node_of value.now)) }
+        (spec.column_under layout.now (held_mark_view mark) (value_node value.now))
+        (value_node value.now)) }
 {
     let column = column_under(layout, mark, value)?;
     push_spaces(out, column)?;
@@ -130,8 +130,8 @@ pub fn break_and_lines(
 ) -> Result<String, AllocError>
     ensures { IfOk result (λ s. string_bytes s ≡ break_text layout.now.br ++
         spec.lines_in layout.now
-        (spec.column_under layout.now (held_mark_view mark) (node_of value.now))
-        (node_of value.now)) }
+        (spec.column_under layout.now (held_mark_view mark) (value_node value.now))
+        (value_node value.now)) }
 {
     let mut text = String::new(alloc);
     text.push_str(break_text(layout.br))?;
@@ -148,8 +148,8 @@ pub fn lines_and_break(
 ) -> Result<String, AllocError>
     ensures { IfOk result (λ s. string_bytes s ≡
         spec.lines_in layout.now
-        (spec.column_under layout.now (held_mark_view mark) (node_of value.now))
-        (node_of value.now) ++ break_text layout.now.br) }
+        (spec.column_under layout.now (held_mark_view mark) (value_node value.now))
+        (value_node value.now) ++ break_text layout.now.br) }
 {
     let mut text = String::new(alloc);
     push_lines_under(alloc, &mut text, layout, mark, value)?;

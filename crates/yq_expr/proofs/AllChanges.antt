@@ -3,7 +3,7 @@ use Rattle.std.proofs.Common.{refl, append_assoc, ◌≡◌, ℕ, suc, ◌+◌, 
 use Rattle.std.proofs.lemmas.List.{drop_all}
 use Rattle.yq_flow_scalars.specs.Tree.{Node}
 use Rattle.yq_documents.specs.Documents.{Document}
-use Rattle.yq_meaning.specs.Changes.{Room, Changed, put_at, at_each, with_value, changes_at, changes_in, changes_from}
+use Rattle.yq_meaning.specs.Changes.{Room, Changed, put_with_path, at_each, with_value, changes_at, changes_in, changes_from}
 use Rattle.yq_meaning.specs.Judgement.{MatchFails, Judgement, and_then, gives}
 use Rattle.yq_meaning.specs.Meaning.{roots_of}
 use Rattle.yq_matching.specs.PlaceView.{put_behind}
@@ -36,9 +36,9 @@ value_fails root right f (p ∷ ps) e some h = fails_then (λ w. at_each root (�
 
 module _ (doc : ℕ) (room : Room) (root : Node) (left : List Stage) (op : Operator) (right ts : List Term) (ps : List Place) where
   -- the sum of terms is put at each place
-  pub modified : op ≡ operator.Modify → ts ≡ right → at_each root (λ p. and_then (put_at p) (right_value doc ts p)) ps ≡ changes_at doc room root (assign left op right) ps
+  pub modified : op ≡ operator.Modify → ts ≡ right → at_each root (λ p. and_then (put_with_path p) (right_value doc ts p)) ps ≡ changes_at doc room root (assign left op right) ps
   modified is same =
-      ap (λ (us : List Term). at_each root (λ p. and_then (put_at p) (right_value doc us p)) ps) same
+      ap (λ (us : List Term). at_each root (λ p. and_then (put_with_path p) (right_value doc us p)) ps) same
       ∙ ap (λ (o : Operator). changes_at doc room root (assign left o right) ps) (sym is)
 
 -- ---- documents

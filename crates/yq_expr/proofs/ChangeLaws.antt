@@ -9,10 +9,10 @@ use Rattle.yq_meaning.specs.Changes.{nested, created, put_below}
 use Rattle.yq_meaning.specs.Judgement.{gives, refuses}
 use Rattle.yq_meaning.specs.declared.refusal.Refusal.TheVariants.{IndexOutOfRange}
 use Rattle.yq_program.proofs.Lists.{list_any_map}
-use Rattle.yq_program.specs.Program.{is_index, Step, key}
+use Rattle.yq_program.specs.Program.{is_index, PathStep, key}
 
 -- a value under one key more, inside the others
-pub nested_last : (ms : List Step) (m : Step) (v : Node) → nested (ms ++ m ∷ []) v ≡ nested ms (nested (m ∷ []) v)
+pub nested_last : (ms : List PathStep) (m : PathStep) (v : Node) → nested (ms ++ m ∷ []) v ≡ nested ms (nested (m ∷ []) v)
 nested_last [] m v = refl
 nested_last (key k ∷ ms) m v = ap (λ (n : Node). tree.map None (child (new_label (Some k)) n none)) (nested_last ms m v)
 nested_last (_ ∷ ms) m v = nested_last ms m v
@@ -27,7 +27,7 @@ split_last : {X : Type 0} (xs : List X) (x : X) → 1 ≤ length xs → x ≡ ge
 split_last xs x some is = last_apart xs (length xs - 1) x (omega (arith, some)) is
 
 -- one key more, the last that is left
-pub one_out : {X : Type 0} (f : X → Step) (xs : List X) (x : X) (v w all : Node) → 1 ≤ length xs → x ≡ get_or xs (length xs - 1) x → w ≡ nested (f x ∷ []) v → nested (map f xs) v ≡ all →
+pub one_out : {X : Type 0} (f : X → PathStep) (xs : List X) (x : X) (v w all : Node) → 1 ≤ length xs → x ≡ get_or xs (length xs - 1) x → w ≡ nested (f x ∷ []) v → nested (map f xs) v ≡ all →
     nested (map f (take (length xs - 1) xs)) w ≡ all
 one_out {X} f xs x v w all some is under so_far =
     let front : List X = take (length xs - 1) xs in
@@ -41,7 +41,7 @@ split_first [] x some is = absurd (omega (arith, some))
 split_first (y ∷ ys) x some is = ap (λ z. z ∷ ys) (sym is) ∙ ap (λ zs. x ∷ zs) (sym (take_rest (y ∷ ys) 1))
 
 -- below a node no item is made, and entries are
-pub put_first : {X : Type 0} (f : X → Step) (n : Node) (xs : List X) (x : X) (v : Node) (b : Bool) → 1 ≤ length xs →
+pub put_first : {X : Type 0} (f : X → PathStep) (n : Node) (xs : List X) (x : X) (v : Node) (b : Bool) → 1 ≤ length xs →
     x ≡ get_or xs 0 x → list_any (λ s. is_index (f s)) xs ≡ b →
     put_below n (map f xs) v ≡ cond b (refuses IndexOutOfRange) (gives (created n (f x) (map f (take (length xs - 1) (drop 1 xs))) v))
 put_first {X} f n xs x v b some is indexed =

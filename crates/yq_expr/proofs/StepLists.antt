@@ -2,9 +2,9 @@
 use Rattle.std.proofs.Common.{◌≡◌, List, [], ◌∷◌, ◌++◌, map, reverse, sym, ap, ◌∙◌, append_assoc, refl, false}
 use Rattle.std.proofs.lemmas.List.{map-append, reverse-append}
 use Rattle.yq_flow_scalars.specs.Tree.{Node}
-use Rattle.yq_meaning.specs.Changes.{add_below, is_there, put_at}
+use Rattle.yq_meaning.specs.Changes.{add_below, is_there, put_with_path}
 use Rattle.yq_meaning.specs.Places.{Place}
-use Rattle.yq_program.specs.Program.{Step}
+use Rattle.yq_program.specs.Program.{PathStep}
 
 -- one more, behind those of which the last were pushed first
 pub pushed_back : {A B : Type 0} (f : A → B) (front : List B) (xs : List A) (x : A) → front ++ reverse (map f (xs ++ x ∷ [])) ≡ (front ++ f x ∷ []) ++ reverse (map f xs)
@@ -14,11 +14,11 @@ pushed_back f front xs x =
     ∙ sym (append_assoc front (f x ∷ []) (reverse (map f xs)))
 
 -- something is missing where a step is
-pub not_there : (front : List Step) (s : Step) → is_there (front ++ s ∷ []) ≡ false
+pub not_there : (front : List PathStep) (s : PathStep) → is_there (front ++ s ∷ []) ≡ false
 not_there [] s = refl
 not_there (m ∷ ms) s = refl
 
 -- what is added there is put there
-pub added_missing : (front : List Step) (s : Step) (p : Place) (v : Node) → add_below (front ++ s ∷ []) p v ≡ put_at p v
+pub added_missing : (front : List PathStep) (s : PathStep) (p : Place) (v : Node) → add_below (front ++ s ∷ []) p v ≡ put_with_path p v
 added_missing [] s p v = refl
 added_missing (m ∷ ms) s p v = refl

@@ -1,8 +1,8 @@
 -- What an update does at each place, as the code has it.
 use Rattle.std.specs.Prelude.{ℕ, List, map}
-use Rattle.yq_nodes.specs.Values.{node_of}
+use Rattle.yq_nodes.specs.Values.{value_node}
 use Rattle.yq_expr.specs.declared.effect.Action as effect
-use Rattle.yq_meaning.specs.Changes.{Room, Changed, put_at, add_at, remove_at, comment_at}
+use Rattle.yq_meaning.specs.Changes.{Room, Changed, put_with_path, add_at, remove_at, comment_at}
 use Rattle.yq_meaning.specs.Judgement.{Judgement, and_then}
 use Rattle.yq_meaning.specs.Places.{Place}
 use Rattle.yq_meaning.specs.RightValues.{right_value}
@@ -10,8 +10,8 @@ use Rattle.yq_program.specs.View.{term_of}
 
 -- what is changed at a place of the document of that number, which has such room (own)
 abbrev pub effect_at : ℕ → Room → effect.Action → Place → Judgement (List Changed)
-effect_at doc room (effect.TheVariants.Put v) p = put_at p (node_of v.now)
-effect_at doc room (effect.TheVariants.Modify terms) p = and_then (put_at p) (right_value doc (map term_of terms.now) p)
-effect_at doc room (effect.TheVariants.Add v) p = add_at p (node_of v.now)
+effect_at doc room (effect.TheVariants.Put v) p = put_with_path p (value_node v.now)
+effect_at doc room (effect.TheVariants.Modify terms) p = and_then (put_with_path p) (right_value doc (map term_of terms.now) p)
+effect_at doc room (effect.TheVariants.Add v) p = add_at p (value_node v.now)
 effect_at doc room effect.TheVariants.Remove p = remove_at p
 effect_at doc room (effect.TheVariants.SetComment place text) p = comment_at room place text.now p

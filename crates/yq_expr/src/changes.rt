@@ -80,7 +80,7 @@ fn value_each<'a, 't>(
     requires some { 0 < length (found_places places.now) }
     ensures { Judges (λ v. map changed_of v.items) result (spec.with_value (node_of root.now)
         (right_sum doc (map term_of right.now) (root_place (node_of root.now)))
-        (if adds then spec.add_at else spec.put_at) (found_places places.now)) }
+        (if adds then spec.add_at else spec.put_with_path) (found_places places.now)) }
 {
     let value = right_value(alloc, doc, right, &Place::of_root(root))?;
     let effect = if adds {
@@ -127,7 +127,7 @@ fn assign<'a, 't>(
 
 /// The pipe of an update's left side.
 fn left(update: &Update) -> &[Stage]
-    ensures { map stage_of result.now ≡ spec.left_of (update_of update.now) }
+    ensures { map stage_of result.now ≡ spec.left_pipe (update_of update.now) }
 {
     match update {
         Update::Assign(assignment) => &assignment.left,
@@ -161,7 +161,7 @@ pub(crate) fn changes(
     update: &Update,
     documents: &Documents<'_>,
 ) -> Result<Vec<Vec<Changed>>, ExprError>
-    ensures { Judges (λ v. all_changed_of v.items) result (spec.changes_of (update_of update.now)
+    ensures { Judges (λ v. all_changed_of v.items) result (spec.update_changes (update_of update.now)
         (room_of documents.now) (roots_of (documents_of documents.now))) }
 {
     if !has_comment(update) {

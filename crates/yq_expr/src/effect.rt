@@ -8,7 +8,7 @@ ghost use Rattle.yq_matching.specs.PlaceView.{path_of, place_of};
 ghost use Rattle.yq_meaning.specs.Changes as spec;
 ghost use Rattle.yq_meaning.specs.Rooms.{comment_part, room_of};
 ghost use Rattle.yq_matching.specs.TreeScalars.{HasScalars};
-ghost use Rattle.yq_nodes.specs.Values.{node_of};
+ghost use Rattle.yq_nodes.specs.Values.{value_node};
 
 use crate::put::put;
 use crate::right_value::right_value;
@@ -39,7 +39,7 @@ pub(crate) enum Action<'a, 'v> {
 /// A value that is added at a place.
 fn add(alloc: Global, place: &Place<'_, '_>, value: &Value) -> Result<Option<Change>, ExprError>
     ensures { Judges (placed (place_of place.now)) result
-        (spec.add_at (place_of place.now) (node_of value.now)) }
+        (spec.add_at (place_of place.now) (value_node value.now)) }
 {
     if is_null(value) {
         return Ok(None);

@@ -1,14 +1,14 @@
 //! A value that is put at a place.
 ghost use Rattle.std.specs.List.{list_any};
 ghost use Rattle.std.specs.Prelude.{◌≡◌, ◌∷◌, [], IfOk, map};
-ghost use Rattle.yq_nodes.specs.Values.{node_of as value_node};
+ghost use Rattle.yq_nodes.specs.Values.{value_node};
 ghost use Rattle.yq_document_nodes.specs.Nodes.{node_of};
 ghost use Rattle.yq_meaning.specs.Changes as spec;
 ghost use Rattle.yq_planning.specs.ChangeView.{change_of, placed};
 ghost use Rattle.yq_meaning.specs.Judgement.{Judges};
 ghost use Rattle.yq_matching.specs.PlaceView.{place_of};
 ghost use Rattle.yq_program.specs.Program.{is_index};
-ghost use Rattle.yq_program.specs.View.{step_of};
+ghost use Rattle.yq_program.specs.View.{program_step};
 
 use crate::steps::missing_steps;
 use std::alloc::{AllocError, Global};
@@ -21,14 +21,14 @@ use yq_program::{Step, is_index};
 
 /// Whether some step is an index.
 fn has_index(steps: &[&Step]) -> bool
-    ensures { result ≡ list_any (λ s. is_index (step_of s.now)) steps.now }
+    ensures { result ≡ list_any (λ s. is_index (program_step s.now)) steps.now }
 {
     steps.iter().any(|step| is_index(step))
 }
 
 /// A value under one key more, in the mapping of one entry.
 fn under(alloc: Global, step: &Step, value: Value) -> Result<Value, AllocError>
-    ensures { IfOk result (λ v. value_node v ≡ spec.nested (step_of step.now ∷ [])
+    ensures { IfOk result (λ v. value_node v ≡ spec.nested (program_step step.now ∷ [])
         (value_node value)) }
 {
     let Step::Key(key) = step else {
@@ -42,7 +42,7 @@ fn under(alloc: Global, step: &Step, value: Value) -> Result<Value, AllocError>
 
 /// A value under keys, a mapping of one entry for each.
 fn nested(alloc: Global, steps: &[&Step], value: Value) -> Result<Value, AllocError>
-    ensures { IfOk result (λ v. value_node v ≡ spec.nested (map (λ s. step_of s.now) steps.now)
+    ensures { IfOk result (λ v. value_node v ≡ spec.nested (map (λ s. program_step s.now) steps.now)
         (value_node value)) }
 {
     let mut nested = value;
@@ -57,7 +57,7 @@ fn nested(alloc: Global, steps: &[&Step], value: Value) -> Result<Value, AllocEr
 /// One entry more, of a step's key.
 fn appended(alloc: Global, step: &Step, value: Value) -> Result<Change, AllocError>
     ensures { IfOk result (λ c. change_of c ≡ spec.adds (spec.appends
-        (spec.step_key (step_of step.now)) (value_node value) ∷ [])) }
+        (spec.step_key (program_step step.now)) (value_node value) ∷ [])) }
 {
     let mut additions = Vec::with_capacity(alloc, 1)?;
     let key = match step {
@@ -78,7 +78,7 @@ fn created(
     value: Value,
 ) -> Result<Change, AllocError>
     ensures { IfOk result (λ c. change_of c ≡
-        spec.created (node_of node.now) (step_of first.now) (map (λ s. step_of s.now) others.now)
+        spec.created (node_of node.now) (program_step first.now) (map (λ s. program_step s.now) others.now)
         (value_node value)) }
 {
     let below = nested(alloc, others, value)?;
@@ -97,7 +97,7 @@ fn put_below(
     value: Value,
 ) -> Result<Change, ExprError>
     ensures { Judges change_of result (spec.put_below (node_of node.now)
-        (map (λ s. step_of s.now) missing.now) (value_node value)) }
+        (map (λ s. program_step s.now) missing.now) (value_node value)) }
 {
     let [first, others @ ..] = missing else {
         return Ok(Change::Replaces(value));
@@ -111,7 +111,7 @@ fn put_below(
 /// What a value changes that is put at a place.
 pub fn put(alloc: Global, place: &Place<'_, '_>, value: Value) -> Result<Option<Change>, ExprError>
     ensures { Judges (placed (place_of place.now)) result
-        (spec.put_at (place_of place.now) (value_node value)) }
+        (spec.put_with_path (place_of place.now) (value_node value)) }
 {
     if let Missing::Nothing = place.missing {
         return Ok(Some(Change::Replaces(value)));

@@ -1,6 +1,6 @@
 //! Right sides: sums of terms, from a place.
 ghost use Rattle.std.specs.Prelude.{◌≡◌, ◌∷◌, ℕ, [], IfSome, map, true};
-ghost use Rattle.yq_nodes.specs.Values.{node_of};
+ghost use Rattle.yq_nodes.specs.Values.{value_node};
 ghost use Rattle.yq_meaning.specs.Judgement.{Judges, and_then};
 ghost use Rattle.yq_meaning.specs.Pipes.{pipe_on};
 ghost use Rattle.yq_expr.specs.Summand.{IsSummand};
@@ -24,7 +24,7 @@ use yq_program::{Stage, Term};
 /// A copy of the value at the one place that there is.
 fn only(alloc: Global, places: &[Place<'_, '_>]) -> Result<Value, ExprError>
     requires { HaveScalars (places_of places.now) }
-    ensures { Judges node_of result (spec.only_copy (places_of places.now)) }
+    ensures { Judges value_node result (spec.only_copy (places_of places.now)) }
 {
     match places {
         [place] => copy_at(alloc, place),
@@ -40,7 +40,7 @@ fn found_value<'a, 't>(
     place: &Place<'a, 't>,
 ) -> Result<Value, ExprError>
     requires { HasScalars (place_of place.now).node }
-    ensures { Judges node_of result (and_then spec.only_copy
+    ensures { Judges value_node result (and_then spec.only_copy
         (pipe_on doc (map stage_of pipe.now) (place_of place.now ∷ []))) }
 {
     let bump = Bump::new(alloc);
@@ -58,7 +58,7 @@ fn term_value<'a, 't>(
     place: &Place<'a, 't>,
 ) -> Result<Value, ExprError>
     requires { HasScalars (place_of place.now).node }
-    ensures { Judges node_of result (spec.term_value doc (place_of place.now) (term_of term.now)) }
+    ensures { Judges value_node result (spec.term_value doc (place_of place.now) (term_of term.now)) }
 {
     match term {
         Term::Literal(value) => Ok(copied(alloc, value)?),
@@ -75,7 +75,7 @@ fn with_term<'a, 't>(
     place: &Place<'a, 't>,
 ) -> Result<Value, ExprError>
     requires { HasScalars (place_of place.now).node }
-    ensures { Judges node_of result (and_then (spec.sum (node_of total))
+    ensures { Judges value_node result (and_then (spec.sum (value_node total))
         (spec.term_value doc (place_of place.now) (term_of term.now))) }
 {
     let value = term_value(alloc, doc, term, place)?;
@@ -91,8 +91,8 @@ fn with_terms<'a, 't>(
     place: &Place<'a, 't>,
 ) -> Result<Value, ExprError>
     requires { HasScalars (place_of place.now).node }
-    ensures { Judges node_of result (chained (λ t v. and_then (spec.sum v)
-        (spec.term_value doc (place_of place.now) t)) (map term_of terms.now) (node_of first)) }
+    ensures { Judges value_node result (chained (λ t v. and_then (spec.sum v)
+        (spec.term_value doc (place_of place.now) t)) (map term_of terms.now) (value_node first)) }
 {
     let mut total = first;
     'terms: for term in terms {
@@ -169,7 +169,7 @@ pub fn right_value<'a, 't>(
     place: &Place<'a, 't>,
 ) -> Result<Value, ExprError>
     requires { HasScalars (place_of place.now).node }
-    ensures { Judges node_of result (spec.right_value doc (map term_of terms.now)
+    ensures { Judges value_node result (spec.right_value doc (map term_of terms.now)
         (place_of place.now)) }
 {
     if let Some((kind, text, added)) = scalar_terms(terms, place) {

@@ -1,8 +1,8 @@
 //! The steps of a place, in order.
 ghost use Rattle.std.specs.Prelude.{◌≡◌, IfOk, map};
-ghost use Rattle.yq_nodes.specs.Entries.{step_of as tree_step};
+ghost use Rattle.yq_nodes.specs.Entries.{tree_step};
 ghost use Rattle.yq_matching.specs.PlaceView.{missing_of, path_of};
-ghost use Rattle.yq_program.specs.View.{step_of};
+ghost use Rattle.yq_program.specs.View.{program_step};
 
 use std::alloc::{AllocError, Global};
 use yq_matching::{Missing, NodePath, owned};
@@ -32,7 +32,7 @@ pub(crate) fn missing_steps<'a>(
     alloc: Global,
     missing: Missing<'a>,
 ) -> Result<Vec<&'a Step>, AllocError>
-    ensures { IfOk result (λ v. map (λ s. step_of s.now) v.items ≡ missing_of missing.entry) }
+    ensures { IfOk result (λ v. map (λ s. program_step s.now) v.items ≡ missing_of missing.entry) }
 {
     let mut steps = Vec::new(alloc);
     let mut rest = missing;

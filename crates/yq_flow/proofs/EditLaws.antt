@@ -1,12 +1,12 @@
 -- Edits of a collection inside an inline node: a node replaced, an item or entry appended.
 use Rattle.std.proofs.Common.{◌≡◌, ℕ, ◌-◌, Bool, true, not, List, [], ◌∷◌, ◌++◌, length, Some, refl, sym, ap, ◌∙◌, subst, arith, eq-eqb}
-use Rattle.yq_flow_scalars.specs.Paths.{Step, change_child, append_child, within, change}
+use Rattle.yq_flow_scalars.specs.Paths.{Step, change_child, append_child, within, changed_at}
 use Rattle.yq_flow_scalars.specs.Piece.{further_spaces}
 use Rattle.yq_flow_scalars.specs.Writable.{in_flow}
 use Rattle.yq_nodes.specs.Gaps.{IsInlineGap}
 use Rattle.yq_nodes.specs.Inline.{depth_limit}
-use Rattle.yq_nodes.specs.Nodes.{Key, Node, Items, none, item, key_text, node_text, items_text, open_of, is_close, AreItems}
-use Rattle.yq_nodes.specs.Collections.{coll_text, put_at, room_in, CollAt, item_in, IsCollAt}
+use Rattle.yq_nodes.specs.Nodes.{Key, FlowNode, Items, none, item, key_text, node_text, flow_items_text, opening_bracket, is_close, AreFlowItems}
+use Rattle.yq_nodes.specs.Collections.{coll_text, collection_put, room_in, CollAt, item_in, IsCollAt}
 use Rattle.yq_flow.specs.FlowEdits.{Becomes, put_item, put_value, FitsNode, behind_last, FitsItem, replacing, appending, IsFlowEdited, FlowEdit, behind_appended}
 use Rattle.yq_nodes.specs.Entries.{EntryPieces}
 use Rattle.yq_nodes.specs.Trees.{inner, key_content, tree_of, items_tree}
@@ -19,7 +19,7 @@ use Rattle.yq_flow_scalars.specs.Tree as tree
 
 -- what is known of the collection, and of the node with another one there
 abbrev pub Around : CollAt → Type 0
-Around x = Stands (in_flow x.place) (further_spaces x.place x.indent) (depth_limit - x.around) x.node x.rest x.coll (length x.steps) (λ g is. put_at x.steps g is x.node) (λ h. change x.steps (within h))
+Around x = Stands (in_flow x.place) (further_spaces x.place x.indent) (depth_limit - x.around) x.node x.rest x.coll (length x.steps) (λ g is. collection_put x.steps g is x.node) (λ h. changed_at x.steps (within h))
 
 pub around_is : (x : CollAt) → IsCollAt x → Around x
 around_is x h = path_stands (in_flow x.place) (further_spaces x.place x.indent) x.steps (depth_limit - x.around) x.node x.rest x.coll h.inline.valid h.found
@@ -28,8 +28,8 @@ pub room_is : (x : CollAt) (s : Around x) → room_in x ≡ s.inner_depth
 room_is x s = omega (arith, s.depths)
 
 -- its edit is one of the node
-pub edited : (x : CollAt) (e : FlowEdit) (h : tree.Children → tree.Children) → (s : Around x) → IsInlineGap e.gap (items_text x.coll.close e.items x.coll.rest) → AreItems s.inner_depth x.coll.close e.items x.coll.rest → items_tree e.items ≡ h (items_tree x.coll.items) →
-    Becomes (coll_text x.coll.close x.coll.gap x.coll.items x.coll.rest) (coll_text x.coll.close e.gap e.items x.coll.rest) e.old (e.lead ++ e.written) e.behind → IsFlowEdited x e (change x.steps (within h))
+pub edited : (x : CollAt) (e : FlowEdit) (h : tree.Children → tree.Children) → (s : Around x) → IsInlineGap e.gap (flow_items_text x.coll.close e.items x.coll.rest) → AreFlowItems s.inner_depth x.coll.close e.items x.coll.rest → items_tree e.items ≡ h (items_tree x.coll.items) →
+    Becomes (coll_text x.coll.close x.coll.gap x.coll.items x.coll.rest) (coll_text x.coll.close e.gap e.items x.coll.rest) e.old (e.lead ++ e.written) e.behind → IsFlowEdited x e (changed_at x.steps (within h))
 edited x e h s gap are same text = record {
   inline = record {
     valid = s.new e.gap e.items gap are;
@@ -40,15 +40,15 @@ edited x e h s gap are same text = record {
 }
 
 -- behind the opening bracket
-pub opened : (k : ℕ) (g h : List ℕ) (is new : Items) (rest old fresh_ behind : List ℕ) → Becomes (g ++ items_text k is rest) (h ++ items_text k new rest) old fresh_ behind → Becomes (coll_text k g is rest) (coll_text k h new rest) old fresh_ behind
-opened k g h is new rest old fresh_ behind t = put_before (open_of k ∷ []) _ _ old fresh_ behind t
+pub opened : (k : ℕ) (g h : List ℕ) (is new : Items) (rest old fresh_ behind : List ℕ) → Becomes (g ++ flow_items_text k is rest) (h ++ flow_items_text k new rest) old fresh_ behind → Becomes (coll_text k g is rest) (coll_text k h new rest) old fresh_ behind
+opened k g h is new rest old fresh_ behind t = put_before (opening_bracket k ∷ []) _ _ old fresh_ behind t
 
 -- behind the gap too
-pub behind_gap : (k : ℕ) (g : List ℕ) (is new : Items) (rest old fresh_ behind : List ℕ) → Becomes (items_text k is rest) (items_text k new rest) old fresh_ behind → Becomes (coll_text k g is rest) (coll_text k g new rest) old fresh_ behind
+pub behind_gap : (k : ℕ) (g : List ℕ) (is new : Items) (rest old fresh_ behind : List ℕ) → Becomes (flow_items_text k is rest) (flow_items_text k new rest) old fresh_ behind → Becomes (coll_text k g is rest) (coll_text k g new rest) old fresh_ behind
 behind_gap k g is new rest old fresh_ behind t = opened k g g is new rest old fresh_ behind (put_before g _ _ old fresh_ behind t)
 
 -- a node replaced
-pub replaced : (x : CollAt) (s : Step) (y : EntryPieces) (m : Node) → IsCollAt x → item_in s x ≡ Some y → FitsNode (room_in x) m y.rest → IsFlowEdited x (replacing s y m x.coll) (change x.steps (within (change_child s (put_value (tree_of m)))))
+pub replaced : (x : CollAt) (s : Step) (y : EntryPieces) (m : FlowNode) → IsCollAt x → item_in s x ≡ Some y → FitsNode (room_in x) m y.rest → IsFlowEdited x (replacing s y m x.coll) (changed_at x.steps (within (change_child s (put_value (tree_of m)))))
 replaced x s y m h found fits =
     let c = x.coll in
     let i = around_is x h in
@@ -58,15 +58,15 @@ replaced x s y m h found fits =
     (behind_gap c.close c.gap c.items (put_item s m c.items) c.rest _ _ y.rest l.text)
 
 -- What is known of a collection with one more item or entry.
-record Added (d k : ℕ) (key : Key) (m : Node) (gap : List ℕ) (is : Items) (rest : List ℕ) (e : FlowEdit) : Type 0 where
-  front : IsInlineGap e.gap (items_text k e.items rest)
-  are : AreItems d k e.items rest
+record Added (d k : ℕ) (key : Key) (m : FlowNode) (gap : List ℕ) (is : Items) (rest : List ℕ) (e : FlowEdit) : Type 0 where
+  front : IsInlineGap e.gap (flow_items_text k e.items rest)
+  are : AreFlowItems d k e.items rest
   tree : items_tree e.items ≡ append_child (inner (key_content key)) (tree_of m) (items_tree is)
-  text : Becomes (gap ++ items_text k is rest) (e.gap ++ items_text k e.items rest) e.old (e.lead ++ e.written) e.behind
+  text : Becomes (gap ++ flow_items_text k is rest) (e.gap ++ flow_items_text k e.items rest) e.old (e.lead ++ e.written) e.behind
 
-added : (d k : ℕ) (key : Key) (m : Node) (gap : List ℕ) (is : Items) (rest : List ℕ) → is_close k ≡ true → IsInlineGap gap (items_text k is rest) → AreItems d k is rest → FitsItem d k key m (behind_last k gap is rest) →
+added : (d k : ℕ) (key : Key) (m : FlowNode) (gap : List ℕ) (is : Items) (rest : List ℕ) → is_close k ≡ true → IsInlineGap gap (flow_items_text k is rest) → AreFlowItems d k is rest → FitsItem d k key m (behind_last k gap is rest) →
     Added d k key m gap is rest (appending key m (record { close = k; gap = gap; items = is; rest = rest }))
-unfolding items_text AreItems items_tree
+unfolding flow_items_text AreFlowItems items_tree
 added d k key m gap none rest c front a f =
     let t : List ℕ = gap ++ (k ∷ rest) in
     record {
@@ -80,7 +80,7 @@ added d k key m gap (item j n sep is) rest c front a f =
     record { front = l.front gap front; are = l.are; tree = l.tree; text = put_before gap _ _ [] (44 ∷ (32 ∷ key_text key (node_text m []))) (behind_last k gap (item j n sep is) rest) l.text }
 
 -- an item or entry more
-pub appended : (x : CollAt) (key : Key) (m : Node) → IsCollAt x → FitsItem (room_in x) x.coll.close key m (behind_appended x.coll) → IsFlowEdited x (appending key m x.coll) (change x.steps (within (append_child (inner (key_content key)) (tree_of m))))
+pub appended : (x : CollAt) (key : Key) (m : FlowNode) → IsCollAt x → FitsItem (room_in x) x.coll.close key m (behind_appended x.coll) → IsFlowEdited x (appending key m x.coll) (changed_at x.steps (within (append_child (inner (key_content key)) (tree_of m))))
 appended x key m h fits =
     let c = x.coll in
     let i = around_is x h in

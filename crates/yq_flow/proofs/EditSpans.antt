@@ -13,8 +13,8 @@ use Rattle.yq_flow_scalars.proofs.Boundaries.{space_ascii}
 use Rattle.yq_nodes.specs.Alike.{EndsItem}
 use Rattle.yq_nodes.specs.Entries.{end_of, entry_start, parts_in}
 use Rattle.yq_flow.specs.FlowPlaces.{PlacedEdit, first_start, marks_before, only_end, past_gap, remove_before, remove_end, remove_part, remove_place, replace_place}
-use Rattle.yq_nodes.specs.Nodes.{first_is, is_close}
-use Rattle.yq_nodes.specs.Places.{Placed, placed, Content, Parts, end, part}
+use Rattle.yq_nodes.specs.Nodes.{begins_with, is_close}
+use Rattle.yq_nodes.specs.Places.{Placed, placed, CoreNode, Parts, end, part}
 use Rattle.yq_nodes.specs.Spans.{ContentHasSpans, HasKeySpan, HasSpans, PartsHaveSpans}
 use Rattle.yq_nodes.specs.Trees.{inner, unplaced_key}
 use Rattle.yq_nodes.proofs.EndLaws.{ends_by}
@@ -30,10 +30,10 @@ pub replace_spans : (t : List ℕ) (p : Placed) → HasSpans t p → EditIsSpan 
 replace_spans t p h1 = search rules
 
 -- before an ASCII byte
-ascii_boundary : (t : List ℕ) (n k : ℕ) → k < 128 → first_is k (drop n t) ≡ true → IsCharBoundary t n
+ascii_boundary : (t : List ℕ) (n k : ℕ) → k < 128 → begins_with k (drop n t) ≡ true → IsCharBoundary t n
 ascii_boundary t n k low h = let x = there t n h in IsCharBoundary-before_ascii t n x.0 (omega (arith, x.1, low))
   where
-    there : (t : List ℕ) (n : ℕ) → first_is k (drop n t) ≡ true → (n < length t) × (get_or t n 0 ≡ k)
+    there : (t : List ℕ) (n : ℕ) → begins_with k (drop n t) ≡ true → (n < length t) × (get_or t n 0 ≡ k)
     there [] zero h = absurd (false≢true h)
     there [] (suc n) h = absurd (false≢true h)
     there (b ∷ t) zero h = (omega arith, eqb-true b k h)
@@ -42,7 +42,7 @@ ascii_boundary t n k low h = let x = there t n h in IsCharBoundary-before_ascii 
 pub ends_bound : (k : ℕ) (t a u : List ℕ) → is_close k ≡ true → EndsItem k u → t ≡ a ++ u → IsCharBoundary t (length t - length u)
 ends_bound k t a u c ends is =
     let x = ends_by (λ (l : List ℕ). (b : ℕ) × (r : List ℕ) × (l ≡ b ∷ r) × (b < 128)) k u c ends (λ r. (44, r, refl, omega arith)) (λ r. (93, r, refl, omega arith)) (λ r. (125, r, refl, omega arith)) (λ b r s. (b, r, refl, space_ascii b r s)) in
-    ascii_boundary t (length t - length u) x.0 x.3 (ap (first_is x.0) (drop_end t a u is ∙ x.2) ∙ eq-eqb x.0 x.0 refl)
+    ascii_boundary t (length t - length u) x.0 x.3 (ap (begins_with x.0) (drop_end t a u is ∙ x.2) ∙ eq-eqb x.0 x.0 refl)
 
 -- one that is taken out
 entry_begins : (t : List ℕ) (key : Option (List ℕ × Piece)) (n : Placed) → HasKeySpan t key → HasSpans t n → IsCharBoundary t (entry_start (key, n))
@@ -55,13 +55,13 @@ node_ends t (placed a s c e f) h = h.1.ends
 end_spans : (t : List ℕ) (from before e : ℕ) → IsCharBoundary t before → IsCharBoundary t e → EditIsSpan t (remove_end t from before e)
 end_spans t from before e b x = marked (marks_before t from before)
   where
-    comma : (c : Bool) → first_is 44 (drop (past_gap t e) t) ≡ c → EditIsSpan t (cond c (record { start = before; end = past_gap t e; lead = [] }) (record { start = before; end = e; lead = 44 ∷ [] }))
+    comma : (c : Bool) → begins_with 44 (drop (past_gap t e) t) ≡ c → EditIsSpan t (cond c (record { start = before; end = past_gap t e; lead = [] }) (record { start = before; end = e; lead = 44 ∷ [] }))
     comma true is = (b, ascii_boundary t (past_gap t e) 44 (omega arith) is)
     comma false is = (b, x)
 
     marked : (c : Bool) →
-        EditIsSpan t (cond c (cond (first_is 44 (drop (past_gap t e) t)) (record { start = before; end = past_gap t e; lead = [] }) (record { start = before; end = e; lead = 44 ∷ [] })) (record { start = before; end = e; lead = [] }))
-    marked true = comma (first_is 44 (drop (past_gap t e) t)) refl
+        EditIsSpan t (cond c (cond (begins_with 44 (drop (past_gap t e) t)) (record { start = before; end = past_gap t e; lead = [] }) (record { start = before; end = e; lead = 44 ∷ [] })) (record { start = before; end = e; lead = [] }))
+    marked true = comma (begins_with 44 (drop (past_gap t e) t)) refl
     marked false = (b, x)
 
 before_spans : (t : List ℕ) (start : ℕ) (ps : Parts) (e : PlacedEdit) → IsCharBoundary t start → PartsHaveSpans t ps → option_map (remove_before t start) (first_start ps) ≡ Some e → EditIsSpan t e
@@ -84,7 +84,7 @@ part_spans t s (part key n ps) e h is = go (is_here s (inner (unplaced_key key))
     go true again is = before_spans t (entry_start (key, n)) ps e (entry_begins t key n h.0 h.1) h.2 is
     go false again is = other again (either _ _ is)
 
-content_spans : (t : List ℕ) (f : Content) → ContentHasSpans t f → PartsHaveSpans t (parts_in f)
+content_spans : (t : List ℕ) (f : CoreNode) → ContentHasSpans t f → PartsHaveSpans t (parts_in f)
 content_spans t f h1 = search rules
 
 pub remove_spans : (t : List ℕ) (s : Step) (p : Placed) (e : PlacedEdit) → HasSpans t p → remove_place t s p ≡ Some e → EditIsSpan t e

@@ -28,7 +28,7 @@ entry_spells k v utf8 is = record {
   front : List ℕ
   front = scalar_text (string_of k) places.FlowKey
 
-pub scalar_in_flow : (s : ScalarText) (style : Style) → IsValid s → scalars.IsOneLine style → can_write s style places.Flow ≡ true → SpellsInFlow s (scalars.written style s.text)
+pub scalar_in_flow : (s : ScalarText) (style : Style) → IsValid s → scalars.IsOneLine style → can_write s style places.Flow ≡ true → SpellsInFlow s (scalars.written_scalar style s.text)
 scalar_in_flow s style v i h =
     let block = styled_spells s style v i (scalar_block s style i h) in
     record { same = block.same; utf8 = block.utf8; text = block.text; line = block.line; fits = λ k d rest c ends. scalar_fits k d s style rest c ends v i h }

@@ -9,7 +9,7 @@ use Rattle.yq_flow_scalars.specs.Text.{front, is_white, is_feed, is_return, is_s
 use Rattle.yq_flow_scalars.proofs.Bools.{at_byte}
 use Rattle.yq_nodes.specs.Alike.{Alike, stop, EndsItem, fresh, KeepsApart}
 use Rattle.yq_nodes.specs.Gaps.{IsInlineGap}
-use Rattle.yq_nodes.specs.Nodes.{Key, bare, keyed, Sep, last, comma, Node, Items, none, item, key_text, sep_text, node_text, items_text, first_is, begins_node, is_close, IsInlineKey, IsSep, is_bare, is_keyed, IsNode, AreItems}
+use Rattle.yq_nodes.specs.Nodes.{Key, bare, keyed, Sep, last, comma, FlowNode, Items, none, item, key_text, sep_text, node_text, flow_items_text, begins_with, begins_node, is_close, IsInlineKey, IsSep, is_empty_node, is_keyed, IsFlowNode, AreFlowItems}
 use Rattle.yq_nodes.specs.Entries.{EntryPieces, item_at}
 use Rattle.yq_flow.specs.FlowEdits.{Becomes, content_node, space_for, put_content, put_item, put_value, FitsNode, add_item, is_none, behind_last, FitsItem}
 use Rattle.yq_flow.specs.Removals.{is_marks, ends_marked, ends_return, IsApartFrom}
@@ -32,30 +32,30 @@ use Rattle.yq_flow_scalars.specs.Tree as tree
 -- bytes of their text give way to others.
 pub record Local (d k : ℕ) (is new : Items) (cs : tree.Children) (rest old fresh_ behind : List ℕ) : Type 0 where
   pub tree : items_tree new ≡ cs
-  pub are : AreItems d k new rest
-  pub front : Front (items_text k is rest) (items_text k new rest)
-  pub text : Becomes (items_text k is rest) (items_text k new rest) old fresh_ behind
+  pub are : AreFlowItems d k new rest
+  pub front : Front (flow_items_text k is rest) (flow_items_text k new rest)
+  pub text : Becomes (flow_items_text k is rest) (flow_items_text k new rest) old fresh_ behind
 
 -- an item before another text behind its node
-pub record ItemStands (d k : ℕ) (key : Key) (n : Node) (u : List ℕ) : Type 0 where
+pub record ItemStands (d k : ℕ) (key : Key) (n : FlowNode) (u : List ℕ) : Type 0 where
   pub key_is : IsInlineKey k key (node_text n u)
-  pub node_is : IsNode true (Some 0) d n u
+  pub node_is : IsFlowNode true (Some 0) d n u
 
-keeps_node : (f : Bool) (key : Key) (n : Node) (t u : List ℕ) → KeepsApart f (key_text key (node_text n [])) t u → (g : Bool) × KeepsApart g (node_text n []) t u
+keeps_node : (f : Bool) (key : Key) (n : FlowNode) (t u : List ℕ) → KeepsApart f (key_text key (node_text n [])) t u → (g : Bool) × KeepsApart g (node_text n []) t u
 keeps_node f bare n t u h = (f, h)
 keeps_node f (keyed p b g) n t u h =
     let a = keeps_append p f (b ++ (58 ∷ (g ++ node_text n []))) t u h in
     let q = keeps_append b (fresh f p) (58 ∷ (g ++ node_text n [])) t u a in
     (fresh false g, keeps_append g false (node_text n []) t u q.2)
 
-pub item_keeps : (d k : ℕ) (f : Bool) (key : Key) (n : Node) (t u : List ℕ) → is_close k ≡ true → EndsItem k t → EndsItem k u → KeepsApart f (key_text key (node_text n [])) t u → IsInlineKey k key (node_text n t) → IsNode true (Some 0) d n t → ItemStands d k key n u
+pub item_keeps : (d k : ℕ) (f : Bool) (key : Key) (n : FlowNode) (t u : List ℕ) → is_close k ≡ true → EndsItem k t → EndsItem k u → KeepsApart f (key_text key (node_text n [])) t u → IsInlineKey k key (node_text n t) → IsFlowNode true (Some 0) d n t → ItemStands d k key n u
 item_keeps d k f key n t u c e h keeps x y =
     let inner_ = keeps_node f key n t u keeps in
     let node = node_keeps k n d inner_.0 t u c e h inner_.1 y in
     record { key_is = key_keeps k d f key n t u c e h keeps y node x; node_is = node }
 
 -- an item's text begins as a node
-pub item_begins : (d k : ℕ) (key : Key) (n : Node) (r : List ℕ) → IsInlineKey k key (node_text n r) → (is_keyed key || not (is_bare n)) ≡ true → IsNode true (Some 0) d n r → begins_node true (key_text key (node_text n r)) ≡ true
+pub item_begins : (d k : ℕ) (key : Key) (n : FlowNode) (r : List ℕ) → IsInlineKey k key (node_text n r) → (is_keyed key || not (is_empty_node n)) ≡ true → IsFlowNode true (Some 0) d n r → begins_node true (key_text key (node_text n r)) ≡ true
 item_begins d k key n r h1 h2 h3 = search (rules, some_begins, not-true, or_right, scalar_begins)
 
 -- bytes before an item's text
@@ -73,15 +73,15 @@ becomes_same t u x y old new behind a b h = record { before = h.before; was = a 
 pub comma_like : (b g h t u : List ℕ) → Alike (Some true) (b ++ (44 ∷ (g ++ t))) (b ++ (44 ∷ (h ++ u)))
 comma_like b g h t u = alike_append (Some true) b (44 ∷ (g ++ t)) (44 ∷ (h ++ u)) (stop refl)
 
-pub cons_local : (d k : ℕ) (key : Key) (n : Node) (sep : Sep) (is new : Items) (cs : tree.Children) (rest old fresh_ behind : List ℕ) → is_close k ≡ true → is_none is ≡ false → AreItems d k (item key n sep is) rest →
+pub cons_local : (d k : ℕ) (key : Key) (n : FlowNode) (sep : Sep) (is new : Items) (cs : tree.Children) (rest old fresh_ behind : List ℕ) → is_close k ≡ true → is_none is ≡ false → AreFlowItems d k (item key n sep is) rest →
     Local d k is new cs rest old fresh_ behind → Local d k (item key n sep is) (item key n sep new) (tree.child (inner (key_content key)) (tree_of n) cs) rest old fresh_ behind
-unfolding items_text AreItems items_tree
+unfolding flow_items_text AreFlowItems items_tree
 cons_local d k key n sep none new cs rest old fresh_ behind c some a l = absurd (false≢true (sym some))
 cons_local d k key n (last b) (item key2 n2 sep2 is) new cs rest old fresh_ behind c some a l =
-    absurd (false≢true (sym (item_front true (Some 0) d k key2 n2 (sep_text sep2 (items_text k is rest)) c a.4.1 a.4.0 a.4.2) ∙ a.3.1))
+    absurd (false≢true (sym (item_front true (Some 0) d k key2 n2 (sep_text sep2 (flow_items_text k is rest)) c a.4.1 a.4.0 a.4.2) ∙ a.3.1))
 cons_local d k key n (comma b g) (item key2 n2 sep2 is) new cs rest old fresh_ behind c some a l =
-    let t : List ℕ = items_text k (item key2 n2 sep2 is) rest in
-    let u : List ℕ = items_text k new rest in
+    let t : List ℕ = flow_items_text k (item key2 n2 sep2 is) rest in
+    let u : List ℕ = flow_items_text k new rest in
     let like = comma_like b g g t u in
     let sep_is : IsSep k (comma b g) u = (gap_alike (Some true) b (44 ∷ (g ++ t)) (44 ∷ (g ++ u)) (stop refl) a.3.0, l.front g a.3.1) in
     let e = sep_ends k (comma b g) t a.3 in
@@ -99,13 +99,13 @@ some_items k s none rest y h = cc
 some_items k s (item key n sep is) rest y h = refl
 
 -- the node of an item replaced
-pub put_local : (d k : ℕ) (s : Step) (m : Node) (is : Items) (rest : List ℕ) (y : EntryPieces) → is_close k ≡ true → AreItems d k is rest → item_at k s is rest ≡ Some y → FitsNode d m y.rest →
+pub put_local : (d k : ℕ) (s : Step) (m : FlowNode) (is : Items) (rest : List ℕ) (y : EntryPieces) → is_close k ≡ true → AreFlowItems d k is rest → item_at k s is rest ≡ Some y → FitsNode d m y.rest →
     Local d k is (put_item s m is) (change_child s (put_value (tree_of m)) (items_tree is)) rest (node_text (content_node y.node) []) (space_for (content_node y.node) ++ node_text m []) y.rest
-unfolding items_text AreItems items_tree
+unfolding flow_items_text AreFlowItems items_tree
 put_local d k s m none rest y c a h f = cc
 put_local d k s m (item key n sep is) rest y c a h f = go (is_here s (inner (key_content key))) (put_local d k (further s) m is rest y c a.4) h where
   tail : List ℕ
-  tail = items_text k is rest
+  tail = flow_items_text k is rest
 
   here : EntryPieces
   here = record { key = key; node = n; rest = sep_text sep tail }
@@ -129,8 +129,8 @@ put_local d k s m (item key n sep is) rest y c a h f = go (is_here s (inner (key
 
 -- a text whose first byte is no `-` and no `.`
 pub record Unmarked (u : List ℕ) : Type 0 where
-  pub dash : first_is 45 u ≡ false
-  pub dot : first_is 46 u ≡ false
+  pub dash : begins_with 45 u ≡ false
+  pub dot : begins_with 46 u ≡ false
 
 -- a bracket or comma is neither a dash nor a dot
 pub ends_mark : (k : ℕ) (t : List ℕ) → is_close k ≡ true → EndsItem k t → Unmarked t
@@ -186,22 +186,22 @@ pub comma_apart : (line : Bool) (p u : List ℕ) → IsApartFrom line p (44 ∷ 
 comma_apart line p u = record { unmarked = and-false (ends_marked line p); unbroken = and-false (ends_return p) }
 
 -- the text of an item isn't empty
-pub item_some : (d k : ℕ) (key : Key) (n : Node) (t : List ℕ) → IsInlineKey k key (node_text n t) → (is_keyed key || not (is_bare n)) ≡ true → IsNode true (Some 0) d n t → NotEmpty (key_text key (node_text n []))
-item_some d k bare n t h s x = some_text d n t (not-true (is_bare n) s) x
+pub item_some : (d k : ℕ) (key : Key) (n : FlowNode) (t : List ℕ) → IsInlineKey k key (node_text n t) → (is_keyed key || not (is_empty_node n)) ≡ true → IsFlowNode true (Some 0) d n t → NotEmpty (key_text key (node_text n []))
+item_some d k bare n t h s x = some_text d n t (not-true (is_empty_node n) s) x
 item_some d k (keyed [] b g) n t h s x = absurd (omega (arith, scalar_some true None [] (b ++ (58 ∷ (g ++ node_text n t))) h.1))
 item_some d k (keyed (a ∷ p) b g) n t h s x = (a, (p ++ (b ++ (58 ∷ (g ++ node_text n []))), refl))
 
 -- a gap before an item
-pub gap_before : (d k : ℕ) (key : Key) (n : Node) (t u q : List ℕ) → IsInlineKey k key (node_text n t) → (is_keyed key || not (is_bare n)) ≡ true → IsNode true (Some 0) d n t → KeepsApart (fresh false q) (key_text key (node_text n [])) t u →
+pub gap_before : (d k : ℕ) (key : Key) (n : FlowNode) (t u q : List ℕ) → IsInlineKey k key (node_text n t) → (is_keyed key || not (is_empty_node n)) ≡ true → IsFlowNode true (Some 0) d n t → KeepsApart (fresh false q) (key_text key (node_text n [])) t u →
     IsInlineGap q (key_text key (node_text n t)) → IsInlineGap q (key_text key (node_text n u))
 gap_before d k key n t u q h s x keeps gap =
     let cut : (z : List ℕ) → key_text key (node_text n z) ≡ key_text key (node_text n []) ++ z = λ z. ap (key_text key) (node_then n z) ∙ key_append key (node_text n []) z in
     subst (IsInlineGap q) (sym (cut u)) (gap_some q (key_text key (node_text n [])) t u (item_some d k key n t h s x) keeps (subst (IsInlineGap q) (cut t) gap))
 
 -- one more behind the last
-pub add_local : (d k : ℕ) (key : Key) (m : Node) (gap : List ℕ) (is : Items) (rest : List ℕ) → is_close k ≡ true → is_none is ≡ false → AreItems d k is rest → FitsItem d k key m (behind_last k gap is rest) →
+pub add_local : (d k : ℕ) (key : Key) (m : FlowNode) (gap : List ℕ) (is : Items) (rest : List ℕ) → is_close k ≡ true → is_none is ≡ false → AreFlowItems d k is rest → FitsItem d k key m (behind_last k gap is rest) →
     Local d k is (add_item key m gap is) (append_child (inner (key_content key)) (tree_of m) (items_tree is)) rest [] (44 ∷ (32 ∷ key_text key (node_text m []))) (behind_last k gap is rest)
-unfolding items_text AreItems items_tree
+unfolding flow_items_text AreFlowItems items_tree
 add_local d k key m gap none rest c some a f = absurd (false≢true (sym some))
 add_local d k key m gap (item j n sep none) rest c some a f =
     let t : List ℕ = sep_text sep (k ∷ rest) in

@@ -6,7 +6,7 @@ use Rattle.yq_flow_scalars.specs.Paths.{Step, is_here, further}
 use Rattle.yq_nodes.specs.Alike.{EndsItem}
 use Rattle.yq_nodes.specs.Entries.{EntryPieces, item_at, pieces_text}
 use Rattle.yq_flow.specs.FlowEdits.{FitsItem, behind_last, is_none}
-use Rattle.yq_nodes.specs.Nodes.{Items, none, item, key_text, sep_text, node_text, items_text, AreItems}
+use Rattle.yq_nodes.specs.Nodes.{Items, none, item, key_text, sep_text, node_text, flow_items_text, AreFlowItems}
 use Rattle.yq_nodes.specs.Trees.{inner, key_content}
 use Rattle.yq_nodes.proofs.NodeAgain.{items_longer, sep_longer}
 use Rattle.yq_nodes.proofs.NodeKeeps.{sep_ends}
@@ -22,13 +22,13 @@ pub record Behind (d k : ℕ) (t : List ℕ) (y : EntryPieces) : Type 0 where
 pub further_behind : (d k : ℕ) (t u front : List ℕ) (y : EntryPieces) → t ≡ front ++ u → Behind d k u y → Behind d k t y
 further_behind d k t u front y is h = record { before = front ++ h.before; text = is ∙ (ap (λ (l : List ℕ). front ++ l) h.text ∙ sym (append_assoc front h.before (pieces_text y))); fits = h.fits; ends = h.ends }
 
-pub item_behind : (d k : ℕ) (s : Step) (is : Items) (rest : List ℕ) (y : EntryPieces) → AreItems d k is rest → item_at k s is rest ≡ Some y → Behind d k (items_text k is rest) y
-unfolding items_text AreItems
+pub item_behind : (d k : ℕ) (s : Step) (is : Items) (rest : List ℕ) (y : EntryPieces) → AreFlowItems d k is rest → item_at k s is rest ≡ Some y → Behind d k (flow_items_text k is rest) y
+unfolding flow_items_text AreFlowItems
 item_behind d k s none rest y a e = absurd (cc)
 item_behind d k s (item key n sep is) rest y a e = go (is_here s (inner (key_content key))) (λ again. item_behind d k (further s) is rest y a.4 again) e
   where
     tail : List ℕ
-    tail = items_text k is rest
+    tail = flow_items_text k is rest
 
     own : EntryPieces
     own = record { key = key; node = n; rest = sep_text sep tail }
@@ -41,14 +41,14 @@ item_behind d k s (item key n sep is) rest y a e = go (is_here s (inner (key_con
     go false again e = further_behind d k (key_text key (node_text n (sep_text sep tail))) tail (key_text key (node_text n (sep_text sep []))) y (item_cut key n sep tail) (again e)
 
 -- the last one
-pub last_behind : (d k : ℕ) (gap : List ℕ) (is : Items) (rest : List ℕ) → is_none is ≡ false → AreItems d k is rest → (y : EntryPieces) × (y.rest ≡ behind_last k gap is rest) × Behind d k (items_text k is rest) y
-unfolding items_text AreItems
+pub last_behind : (d k : ℕ) (gap : List ℕ) (is : Items) (rest : List ℕ) → is_none is ≡ false → AreFlowItems d k is rest → (y : EntryPieces) × (y.rest ≡ behind_last k gap is rest) × Behind d k (flow_items_text k is rest) y
+unfolding flow_items_text AreFlowItems
 last_behind d k gap none rest some a = absurd (false≢true (sym some))
 last_behind d k gap (item key n sep none) rest some a =
     (record { key = key; node = n; rest = sep_text sep (k ∷ rest) }, refl, record { before = []; text = refl; fits = record { key_is = a.0; some = a.1; is = a.2 }; ends = sep_ends k sep (k ∷ rest) a.3 })
 last_behind d k gap (item key n sep (item key2 n2 sep2 is)) rest some a =
     let more = last_behind d k gap (item key2 n2 sep2 is) rest refl a.4 in
-    let tail : List ℕ = items_text k (item key2 n2 sep2 is) rest in
+    let tail : List ℕ = flow_items_text k (item key2 n2 sep2 is) rest in
     (more.0, more.1, further_behind d k (key_text key (node_text n (sep_text sep tail))) tail (key_text key (node_text n (sep_text sep []))) more.0 (item_cut key n sep tail) more.2)
 
 -- ---- what stands behind is no less than what stands behind the closing bracket
@@ -57,8 +57,8 @@ pub item_rest : (k : ℕ) (s : Step) (is : Items) (rest : List ℕ) (y : EntryPi
 item_rest k s none rest y e = absurd (none-some _ e)
 item_rest k s (item key n sep is) rest y e = go (item_rest k (further s) is rest y) (is_here s (inner (key_content key))) e
   where
-    go : (item_at k (further s) is rest ≡ Some y → length rest ≤ length y.rest) → (b : Bool) → cond b (Some (record { key = key; node = n; rest = sep_text sep (items_text k is rest) })) (item_at k (further s) is rest) ≡ Some y → length rest ≤ length y.rest
-    go again true e = subst (λ (z : EntryPieces). length rest ≤ length z.rest) (same_Some _ _ e) (omega (arith, sep_longer sep (items_text k is rest), items_longer k is rest))
+    go : (item_at k (further s) is rest ≡ Some y → length rest ≤ length y.rest) → (b : Bool) → cond b (Some (record { key = key; node = n; rest = sep_text sep (flow_items_text k is rest) })) (item_at k (further s) is rest) ≡ Some y → length rest ≤ length y.rest
+    go again true e = subst (λ (z : EntryPieces). length rest ≤ length z.rest) (same_Some _ _ e) (omega (arith, sep_longer sep (flow_items_text k is rest), items_longer k is rest))
     go again false e = again e
 
 pub last_rest : (k : ℕ) (gap : List ℕ) (is : Items) (rest : List ℕ) → length rest ≤ length (behind_last k gap is rest)

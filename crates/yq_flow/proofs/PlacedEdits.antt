@@ -7,13 +7,13 @@ use Rattle.yq_nodes.specs.Collections.{CollPieces, coll_in}
 use Rattle.yq_nodes.specs.Entries.{EntryPieces, place_in}
 use Rattle.yq_flow.specs.FlowEdits.{content_node, space_for, replacing, is_none, appending, behind_last}
 use Rattle.yq_flow.specs.FlowPlaces.{PlacedEdit, place_edit, replace_at, replace_place, last_end, append_at, append_in, append_place}
-use Rattle.yq_nodes.specs.Nodes.{Key, Node, empty, alias, scalar, coll, anchored, Items, none, item, sep_text, node_text, items_text, IsNode}
-use Rattle.yq_nodes.specs.Places.{Placed, placed, sequence, mapping, Parts, holder, with_anchor, locate, locate_items}
+use Rattle.yq_nodes.specs.Nodes.{Key, FlowNode, empty, alias, scalar, coll, anchored, Items, none, item, sep_text, node_text, flow_items_text, IsFlowNode}
+use Rattle.yq_nodes.specs.Places.{Placed, placed, sequence, mapping, Parts, holder, anchored_node, locate, locate_items}
 use Rattle.yq_nodes.proofs.EditPlaces.{end_placed}
 use Rattle.yq_nodes.proofs.WrittenLaws.{node_then}
 
 -- another content
-content_edit : ℕ → Node → List ℕ → PlacedEdit
+content_edit : ℕ → FlowNode → List ℕ → PlacedEdit
 content_edit total n rest = record { start = total - length (node_text n [] ++ rest); end = total - length rest; lead = space_for n }
 
 old_edit : ℕ → List ℕ → List ℕ → PlacedEdit
@@ -23,8 +23,8 @@ coll_placed : (total : ℕ) (k : ℕ) (t rest : List ℕ) (parts : Parts) (e : �
 unfolding old_edit
 coll_placed total k t rest parts e h = search (rules, old_edit)
 
-content_edited : (flow : Bool) (spaces : Option ℕ) (d total : ℕ) (n : Node) (rest : List ℕ) → IsNode flow spaces d n rest → replace_place (locate total n rest) ≡ content_edit total (content_node n) rest
-unfolding locate IsNode content_edit old_edit node_text
+content_edited : (flow : Bool) (spaces : Option ℕ) (d total : ℕ) (n : FlowNode) (rest : List ℕ) → IsFlowNode flow spaces d n rest → replace_place (locate total n rest) ≡ content_edit total (content_node n) rest
+unfolding locate IsFlowNode content_edit old_edit node_text
 content_edited flow spaces d total empty rest h = refl
 content_edited flow spaces d total (alias n) rest h = ap (λ l. old_edit total l rest) (node_then (alias n) rest)
 content_edited flow spaces d total (scalar p) rest h = ap (λ l. old_edit total l rest) (node_then (scalar p) rest)
@@ -35,13 +35,13 @@ content_edited flow spaces d total (anchored n g (scalar p)) rest h = ap (λ l. 
 content_edited flow spaces d total (anchored n g (coll k q is)) rest h = coll_placed total k (node_text (coll k q is) rest) rest _ _ refl ∙ ap (λ l. old_edit total l rest) (node_then (coll k q is) rest)
 content_edited flow spaces d total (anchored n g (anchored m q node)) rest h = absurd (false≢true h.3)
 
-pub replace_placed : (flow : Bool) (spaces : Option ℕ) (d total : ℕ) (s : Step) (y : EntryPieces) (m : Node) (c : CollPieces) → IsNode flow spaces d y.node y.rest → replace_place (locate total y.node y.rest) ≡ place_edit total (replacing s y m c)
+pub replace_placed : (flow : Bool) (spaces : Option ℕ) (d total : ℕ) (s : Step) (y : EntryPieces) (m : FlowNode) (c : CollPieces) → IsFlowNode flow spaces d y.node y.rest → replace_place (locate total y.node y.rest) ≡ place_edit total (replacing s y m c)
 unfolding content_edit
 replace_placed flow spaces d total s y m c h = content_edited flow spaces d total y.node y.rest h
 
 -- one more item or entry
 last_placed : (total k : ℕ) (gap : List ℕ) (is : Items) (rest : List ℕ) → is_none is ≡ false → last_end (locate_items total k is rest) ≡ Some (total - length (behind_last k gap is rest))
-unfolding locate_items items_text
+unfolding locate_items flow_items_text
 last_placed total k gap none rest some = absurd (false≢true (sym some))
 last_placed total k gap (item key n sep none) rest some = ap Some (end_placed total n (sep_text sep (k ∷ rest)))
 last_placed total k gap (item key n sep (item key2 n2 sep2 is)) rest some = last_placed total k gap (item key2 n2 sep2 is) rest refl
@@ -56,7 +56,7 @@ close_in : (k : ℕ) (g rest : List ℕ) → length rest ≤ length (g ++ (k ∷
 close_in k [] rest = omega arith
 close_in k (b ∷ g) rest = let more = close_in k g rest in omega arith
 
-append_anchor : (n : List ℕ) (start : ℕ) (p : Placed) → append_place (with_anchor n start p) ≡ append_place p
+append_anchor : (n : List ℕ) (start : ℕ) (p : Placed) → append_place (anchored_node n start p) ≡ append_place p
 append_anchor n start (placed a s c e f) = refl
 
 anchor_length : (n g t : List ℕ) → length t ≤ length (n ++ (g ++ t))
@@ -64,8 +64,8 @@ anchor_length [] [] t = omega arith
 anchor_length [] (b ∷ g) t = let more = anchor_length [] g t in omega arith
 anchor_length (b ∷ n) g t = let more = anchor_length n g t in omega arith
 
-pub append_placed : (total : ℕ) (node : Node) (rest : List ℕ) (c : CollPieces) (key : Key) (m : Node) → length (node_text node rest) ≤ total → coll_in node rest ≡ Some c → append_place (locate total node rest) ≡ Some (place_edit total (appending key m c))
-unfolding locate locate_items node_text items_text
+pub append_placed : (total : ℕ) (node : FlowNode) (rest : List ℕ) (c : CollPieces) (key : Key) (m : FlowNode) → length (node_text node rest) ≤ total → coll_in node rest ≡ Some c → append_place (locate total node rest) ≡ Some (place_edit total (appending key m c))
+unfolding locate locate_items node_text flow_items_text
 append_placed total empty rest c key m h at = cc
 append_placed total (alias n) rest c key m h at = cc
 append_placed total (scalar p) rest c key m h at = cc

@@ -6,12 +6,12 @@ use Rattle.std.specs.Option.{option_or}
 use Rattle.yq_flow_scalars.specs.Paths.{Step, is_here, further}
 use Rattle.yq_flow_scalars.specs.PlainText.{begins_marker}
 use Rattle.yq_nodes.specs.Alike.{fresh}
-use Rattle.yq_nodes.specs.Nodes.{Key, Sep, last, comma, Node, Items, none, item, key_text, sep_text, node_text, items_text}
+use Rattle.yq_nodes.specs.Nodes.{Key, Sep, last, comma, FlowNode, Items, none, item, key_text, sep_text, node_text, flow_items_text}
 use Rattle.yq_nodes.specs.Trees.{inner, key_content}
 use Rattle.yq_nodes.proofs.NodeAgain.{items_longer}
 use Rattle.yq_nodes.proofs.WrittenLaws.{sep_append}
 use Rattle.yq_flow.specs.FlowEdits.{Becomes, FlowEdit}
-use Rattle.yq_flow.specs.Removals.{before_next, behind_item, comma_left, ends_marked, gap_of, last_gone, last_out, last_removed, next_text, removing_from, space_to, with_gap}
+use Rattle.yq_flow.specs.Removals.{before_next, edit_from_item, comma_left, ends_marked, gap_of, last_gone, last_out, last_removed, next_text, removing_from, space_to, with_gap}
 use Rattle.yq_flow.proofs.ItemLaws.{put_before, becomes_same}
 use Rattle.yq_flow.proofs.ItemSwaps.{item_cut, text_cut}
 
@@ -43,27 +43,27 @@ sep_own (last b) x = refl
 sep_own (comma b g) x = sym (append_assoc b (44 ∷ []) (g ++ x))
 
 -- the text of items behind a gap, from the gap before the next one on
-front_cut : (g : List ℕ) (key : Key) (n : Node) (f z : List ℕ) → g ++ key_text key (node_text n (f ++ z)) ≡ (g ++ (key_text key (node_text n []) ++ f)) ++ z
+front_cut : (g : List ℕ) (key : Key) (n : FlowNode) (f z : List ℕ) → g ++ key_text key (node_text n (f ++ z)) ≡ (g ++ (key_text key (node_text n []) ++ f)) ++ z
 front_cut g key n f z = search (rules, text_cut, append_assoc)
 
-pub behind_cut : (g : List ℕ) (key : Key) (n : Node) (sep : Sep) (x : List ℕ) → g ++ key_text key (node_text n (sep_text sep x)) ≡ (g ++ (key_text key (node_text n []) ++ sep_front sep)) ++ (gap_of sep ++ x)
+pub behind_cut : (g : List ℕ) (key : Key) (n : FlowNode) (sep : Sep) (x : List ℕ) → g ++ key_text key (node_text n (sep_text sep x)) ≡ (g ++ (key_text key (node_text n []) ++ sep_front sep)) ++ (gap_of sep ++ x)
 behind_cut g key n sep x = ap (λ l. g ++ key_text key (node_text n l)) (sep_own sep x) ∙ front_cut g key n (sep_front sep) (gap_of sep ++ x)
 
 -- ---- the bytes
 
 -- What is known of the bytes of an item that is taken out of items behind a gap.
 pub record RemovedText (k : ℕ) (rest g : List ℕ) (is : Items) (e : FlowEdit) : Type 0 where
-  pub text : Becomes (g ++ items_text k is rest) (e.gap ++ items_text k e.items rest) e.old (e.lead ++ e.written) e.behind
+  pub text : Becomes (g ++ flow_items_text k is rest) (e.gap ++ flow_items_text k e.items rest) e.old (e.lead ++ e.written) e.behind
   pub none_written : e.written ≡ []
   pub longer : length rest ≤ length e.behind
   pub lead : (e.lead ≡ []) ⊎ ((e.lead ≡ 32 ∷ []) ⊎ (e.lead ≡ 44 ∷ []))
 
 -- up to the next one
-before_text : (k : ℕ) (rest g : List ℕ) (key : Key) (n : Node) (sep : Sep) (is : Items) (e : FlowEdit) → before_next k rest g key n sep is ≡ Some e → RemovedText k rest g (item key n sep is) e
-unfolding items_text
+before_text : (k : ℕ) (rest g : List ℕ) (key : Key) (n : FlowNode) (sep : Sep) (is : Items) (e : FlowEdit) → before_next k rest g key n sep is ≡ Some e → RemovedText k rest g (item key n sep is) e
+unfolding flow_items_text
 before_text k rest g key n sep none e at = absurd (none-some _ at)
 before_text k rest g key n sep (item key2 n2 sep2 is) e at =
-    let y : List ℕ = items_text k (item key2 n2 sep2 is) rest in
+    let y : List ℕ = flow_items_text k (item key2 n2 sep2 is) rest in
     let own : List ℕ = key_text key2 (node_text n2 []) in
     subst (RemovedText k rest g (item key n sep (item key2 n2 sep2 is))) (same_Some _ _ at) (record {
       text = record {
@@ -77,27 +77,27 @@ before_text k rest g key n sep (item key2 n2 sep2 is) e at =
     })
 
 -- from the end of one to that of the next one
-pub next_is : (sep : Sep) (key : Key) (n : Node) (u : List ℕ) → next_text sep key n ++ u ≡ sep_text sep (key_text key (node_text n u))
+pub next_is : (sep : Sep) (key : Key) (n : FlowNode) (u : List ℕ) → next_text sep key n ++ u ≡ sep_text sep (key_text key (node_text n u))
 next_is sep key n u = sym (ap (sep_text sep) (text_cut key n u) ∙ sep_append sep (key_text key (node_text n [])) u)
 
 -- An item before the last one has another separator when that is taken out, and these bytes give way.
-pub record LastBytes (k : ℕ) (rest : List ℕ) (sep : Sep) (key : Key) (n : Node) (sep2 left : Sep) (old lead behind : List ℕ) : Type 0 where
+pub record LastBytes (k : ℕ) (rest : List ℕ) (sep : Sep) (key : Key) (n : FlowNode) (sep2 left : Sep) (old lead behind : List ℕ) : Type 0 where
   pub was : old ++ behind ≡ sep_text sep (key_text key (node_text n (sep_text sep2 (k ∷ rest))))
   pub is : lead ++ behind ≡ sep_text left (k ∷ rest)
   pub longer : length rest ≤ length behind
   pub lead_is : (lead ≡ []) ⊎ ((lead ≡ 32 ∷ []) ⊎ (lead ≡ 44 ∷ []))
 
-pub gone_bytes : (k : ℕ) (rest : List ℕ) (sep : Sep) (key : Key) (n : Node) (sep2 : Sep) → LastBytes k rest sep key n sep2 sep2 (next_text sep key n) [] (sep_text sep2 (k ∷ rest))
+pub gone_bytes : (k : ℕ) (rest : List ℕ) (sep : Sep) (key : Key) (n : FlowNode) (sep2 : Sep) → LastBytes k rest sep key n sep2 sep2 (next_text sep key n) [] (sep_text sep2 (k ∷ rest))
 gone_bytes k rest sep key n sep2 = record { was = next_is sep key n (sep_text sep2 (k ∷ rest)); is = refl; longer = longer sep2; lead_is = inl refl }
   where
     longer : (s : Sep) → length rest ≤ length (sep_text s (k ∷ rest))
     longer (last b) = omega (arith, length-append b (k ∷ rest))
     longer (comma b h) = omega (arith, length-append b (44 ∷ (h ++ (k ∷ rest))), length-append h (k ∷ rest))
 
-pub comma_new_bytes : (k : ℕ) (rest : List ℕ) (sep : Sep) (key : Key) (n : Node) (b : List ℕ) → LastBytes k rest sep key n (last b) (comma [] b) (next_text sep key n) (44 ∷ []) (b ++ (k ∷ rest))
+pub comma_new_bytes : (k : ℕ) (rest : List ℕ) (sep : Sep) (key : Key) (n : FlowNode) (b : List ℕ) → LastBytes k rest sep key n (last b) (comma [] b) (next_text sep key n) (44 ∷ []) (b ++ (k ∷ rest))
 comma_new_bytes k rest sep key n b = record { was = next_is sep key n (b ++ (k ∷ rest)); is = refl; longer = omega (arith, length-append b (k ∷ rest)); lead_is = inr (inr refl) }
 
-pub comma_old_bytes : (k : ℕ) (rest : List ℕ) (sep : Sep) (key : Key) (n : Node) (b h : List ℕ) → LastBytes k rest sep key n (comma b h) (comma [] h) (next_text sep key n ++ b) [] (44 ∷ (h ++ (k ∷ rest)))
+pub comma_old_bytes : (k : ℕ) (rest : List ℕ) (sep : Sep) (key : Key) (n : FlowNode) (b h : List ℕ) → LastBytes k rest sep key n (comma b h) (comma [] h) (next_text sep key n ++ b) [] (44 ∷ (h ++ (k ∷ rest)))
 comma_old_bytes k rest sep key n b h = record {
   was = append_assoc (next_text sep key n) b (44 ∷ (h ++ (k ∷ rest))) ∙ next_is sep key n (b ++ (44 ∷ (h ++ (k ∷ rest))));
   is = refl;
@@ -105,9 +105,9 @@ comma_old_bytes k rest sep key n b h = record {
   lead_is = inl refl;
 }
 
-last_bytes : (k : ℕ) (rest g : List ℕ) (key : Key) (n : Node) (sep : Sep) (key2 : Key) (n2 : Node) (sep2 left : Sep) (old lead behind : List ℕ) → LastBytes k rest sep key2 n2 sep2 left old lead behind →
+last_bytes : (k : ℕ) (rest g : List ℕ) (key : Key) (n : FlowNode) (sep : Sep) (key2 : Key) (n2 : FlowNode) (sep2 left : Sep) (old lead behind : List ℕ) → LastBytes k rest sep key2 n2 sep2 left old lead behind →
     RemovedText k rest g (item key n sep (item key2 n2 sep2 none)) (record { gap = g; items = item key n left none; old = old; lead = lead; written = []; behind = behind })
-unfolding items_text
+unfolding flow_items_text
 last_bytes k rest g key n sep key2 n2 sep2 left old lead behind h =
     let own : List ℕ = key_text key (node_text n []) in
     let cut : (t : List ℕ) → g ++ key_text key (node_text n t) ≡ (g ++ own) ++ t = λ t. ap (λ l. g ++ l) (text_cut key n t) ∙ sym (append_assoc g own t) in
@@ -122,7 +122,7 @@ last_bytes k rest g key n sep key2 n2 sep2 left old lead behind h =
       lead = h.lead_is;
     }
 
-last_text : (k : ℕ) (rest : List ℕ) (s : Step) (g : List ℕ) (key : Key) (n : Node) (sep : Sep) (is : Items) (e : FlowEdit) → last_out k rest s g key n sep is ≡ Some e → RemovedText k rest g (item key n sep is) e
+last_text : (k : ℕ) (rest : List ℕ) (s : Step) (g : List ℕ) (key : Key) (n : FlowNode) (sep : Sep) (is : Items) (e : FlowEdit) → last_out k rest s g key n sep is ≡ Some e → RemovedText k rest g (item key n sep is) e
 last_text k rest s g key n sep none e at = absurd (none-some _ at)
 last_text k rest s g key n sep (item key2 n2 sep2 (item key3 n3 sep3 is)) e at = absurd (none-some _ at)
 last_text k rest s g key n sep (item key2 n2 sep2 none) e at = go (is_here s (inner (key_content key2))) at
@@ -141,14 +141,14 @@ last_text k rest s g key n sep (item key2 n2 sep2 none) e at = go (is_here s (in
     go false at = absurd (none-some _ at)
 
 -- of the items from another one on
-behind_text : (k : ℕ) (rest g : List ℕ) (key : Key) (n : Node) (sep : Sep) (is : Items) (e : FlowEdit) → RemovedText k rest (gap_of sep) is e → RemovedText k rest g (item key n sep is) (behind_item g key n sep e)
-unfolding items_text
+behind_text : (k : ℕ) (rest g : List ℕ) (key : Key) (n : FlowNode) (sep : Sep) (is : Items) (e : FlowEdit) → RemovedText k rest (gap_of sep) is e → RemovedText k rest g (item key n sep is) (edit_from_item g key n sep e)
+unfolding flow_items_text
 behind_text k rest g key n sep is e h =
     let f : List ℕ = sep_front sep in
-    let new : g ++ key_text key (node_text n (sep_text (with_gap e.gap sep) (items_text k e.items rest))) ≡ (g ++ (key_text key (node_text n []) ++ f)) ++ (e.gap ++ items_text k e.items rest) =
-    ap (λ l. g ++ key_text key (node_text n l)) (sep_with e.gap sep (items_text k e.items rest)) ∙ front_cut g key n f (e.gap ++ items_text k e.items rest) in
+    let new : g ++ key_text key (node_text n (sep_text (with_gap e.gap sep) (flow_items_text k e.items rest))) ≡ (g ++ (key_text key (node_text n []) ++ f)) ++ (e.gap ++ flow_items_text k e.items rest) =
+    ap (λ l. g ++ key_text key (node_text n l)) (sep_with e.gap sep (flow_items_text k e.items rest)) ∙ front_cut g key n f (e.gap ++ flow_items_text k e.items rest) in
     record {
-      text = becomes_same _ _ _ _ e.old (e.lead ++ e.written) e.behind (behind_cut g key n sep (items_text k is rest)) new (put_before (g ++ (key_text key (node_text n []) ++ f)) (gap_of sep ++ items_text k is rest) (e.gap ++ items_text k e.items rest) e.old (e.lead ++ e.written) e.behind h.text);
+      text = becomes_same _ _ _ _ e.old (e.lead ++ e.written) e.behind (behind_cut g key n sep (flow_items_text k is rest)) new (put_before (g ++ (key_text key (node_text n []) ++ f)) (gap_of sep ++ flow_items_text k is rest) (e.gap ++ flow_items_text k e.items rest) e.old (e.lead ++ e.written) e.behind h.text);
       none_written = h.none_written;
       longer = h.longer;
       lead = h.lead;
@@ -159,14 +159,14 @@ removed_text k rest s g none e at = absurd (none-some _ at)
 removed_text k rest s g (item key n sep is) e at = go (is_here s (inner (key_content key))) (λ x. removed_text k rest (further s) (gap_of sep) is x) at
   where
     behind : ((x : FlowEdit) → removing_from k rest (further s) (gap_of sep) is ≡ Some x → RemovedText k rest (gap_of sep) is x) →
-        (last_out k rest (further s) g key n sep is ≡ Some e) ⊎ (option_map (behind_item g key n sep) (removing_from k rest (further s) (gap_of sep) is) ≡ Some e) → RemovedText k rest g (item key n sep is) e
+        (last_out k rest (further s) g key n sep is ≡ Some e) ⊎ (option_map (edit_from_item g key n sep) (removing_from k rest (further s) (gap_of sep) is) ≡ Some e) → RemovedText k rest g (item key n sep is) e
     behind again (inl at) = last_text k rest (further s) g key n sep is e at
     behind again (inr at) =
-        let x = option_some (behind_item g key n sep) (removing_from k rest (further s) (gap_of sep) is) e at in
+        let x = option_some (edit_from_item g key n sep) (removing_from k rest (further s) (gap_of sep) is) e at in
         subst (RemovedText k rest g (item key n sep is)) x.2 (behind_text k rest g key n sep is x.0 (again x.0 x.1))
 
     go : (b : Bool) → ((x : FlowEdit) → removing_from k rest (further s) (gap_of sep) is ≡ Some x → RemovedText k rest (gap_of sep) is x) →
-        cond b (before_next k rest g key n sep is) (option_or (last_out k rest (further s) g key n sep is) (option_map (behind_item g key n sep) (removing_from k rest (further s) (gap_of sep) is))) ≡ Some e →
+        cond b (before_next k rest g key n sep is) (option_or (last_out k rest (further s) g key n sep is) (option_map (edit_from_item g key n sep) (removing_from k rest (further s) (gap_of sep) is))) ≡ Some e →
         RemovedText k rest g (item key n sep is) e
     go true again at = before_text k rest g key n sep is e at
     go false again at = behind again (either _ _ at)

@@ -6,7 +6,7 @@ use Rattle.yq_flow_scalars.specs.Characters.{pairs_returns}
 use Rattle.yq_flow_scalars.specs.Text.{NoneIn, unless, front, is_white, is_feed, is_return}
 use Rattle.yq_flow_scalars.proofs.Bools.{at_byte}
 use Rattle.yq_nodes.specs.Alike.{EndsItem}
-use Rattle.yq_nodes.specs.Nodes.{Key, bare, keyed, Node, empty, alias, scalar, coll, anchored, Items, none, item, key_text, sep_text, node_text, items_text, open_of, in_name, begins_content, begins_node, is_close, IsInlineKey, IsLead, is_bare, IsNode, first_is}
+use Rattle.yq_nodes.specs.Nodes.{Key, bare, keyed, FlowNode, empty, alias, scalar, coll, anchored, Items, none, item, key_text, sep_text, node_text, flow_items_text, opening_bracket, in_name, begins_content, begins_node, is_close, IsInlineKey, IsLead, is_empty_node, IsFlowNode, begins_with}
 use Rattle.yq_nodes.specs.Scalars.{IsScalarAt}
 use Rattle.yq_flow.specs.Removals.{ends_return}
 use Rattle.yq_flow.proofs.ItemSwaps.{item_cut}
@@ -63,25 +63,25 @@ scalar_return : (k : ℕ) (p t : List ℕ) → is_close k ≡ true → EndsItem 
 scalar_return k p t h1 h2 h3 = search (rules, plain_return, whole_by, return_append, quote_return)
 
 -- items end in their closing bracket
-items_return : (k : ℕ) (is : Items) → is_close k ≡ true → NotEmpty (items_text k is []) × (ends_return (items_text k is []) ≡ false)
-unfolding items_text
+items_return : (k : ℕ) (is : Items) → is_close k ≡ true → NotEmpty (flow_items_text k is []) × (ends_return (flow_items_text k is []) ≡ false)
+unfolding flow_items_text
 items_return k none c = ((k, ([], refl)), by_close (λ b. is_return b ≡ false) k k c (or_right (eqb k 44) (eqb k k) (eq-eqb k k refl)) refl refl refl)
 items_return k (item key n s is) c =
     let more = items_return k is c in
     let x : List ℕ = key_text key (node_text n (sep_text s [])) in
-    let cut = item_cut key n s (items_text k is []) in
-    (subst NotEmpty (sym cut) (subst (λ (l : List ℕ). NotEmpty (x ++ l)) (sym more.0.1.1) (append_some x more.0.0 more.0.1.0)), ap ends_return cut ∙ (return_some x (items_text k is []) more.0 ∙ more.1))
+    let cut = item_cut key n s (flow_items_text k is []) in
+    (subst NotEmpty (sym cut) (subst (λ (l : List ℕ). NotEmpty (x ++ l)) (sym more.0.1.1) (append_some x more.0.0 more.0.1.0)), ap ends_return cut ∙ (return_some x (flow_items_text k is []) more.0 ∙ more.1))
 
-node_return : (k : ℕ) (node : Node) (d : ℕ) (t : List ℕ) → is_close k ≡ true → EndsItem k t → IsNode true (Some 0) d node t → Whole (node_text node []) t
-unfolding node_text IsNode
+node_return : (k : ℕ) (node : FlowNode) (d : ℕ) (t : List ℕ) → is_close k ≡ true → EndsItem k t → IsFlowNode true (Some 0) d node t → Whole (node_text node []) t
+unfolding node_text IsFlowNode
 node_return k empty d t c e h = refl
 node_return k (alias n) d t c e h = whole_by (42 ∷ (n ++ [])) t (ap (λ (l : List ℕ). ends_return (42 ∷ l)) (append-nil n) ∙ front_name 42 n t refl h.inside)
 node_return k (scalar p) d t c e h = subst (λ (l : List ℕ). Whole l t) (sym (append-nil p)) (scalar_return k p t c e h)
 node_return k (coll j g is) d t c e h =
     let more = items_return j is h.0 in
-    whole_by (open_of j ∷ (g ++ items_text j is [])) t (return_some (open_of j ∷ g) (items_text j is []) more.0 ∙ more.1)
-node_return k (anchored n g node) d t c e h = elim (cases_Bool (is_bare node)) [
-  | inl z ↦ (let no : begins_content true t ≡ false = (or_parts (first_is 38 t) (begins_content true t) (ends_node k t c e)).1 in
+    whole_by (opening_bracket j ∷ (g ++ flow_items_text j is [])) t (return_some (opening_bracket j ∷ g) (flow_items_text j is []) more.0 ∙ more.1)
+node_return k (anchored n g node) d t c e h = elim (cases_Bool (is_empty_node node)) [
+  | inl z ↦ (let no : begins_content true t ≡ false = (or_parts (begins_with 38 t) (begins_content true t) (ends_node k t c e)).1 in
       let nothing : g ≡ [] = lead_none (begins_content true) g t no (subst (λ (l : List ℕ). IsLead true (begins_content true) g l) (bare_text node t z) h.1) in
       whole_by (38 ∷ (n ++ (g ++ node_text node []))) t (ap (λ (l : List ℕ). ends_return (38 ∷ (n ++ (l ++ node_text node [])))) nothing ∙ (ap (λ (l : List ℕ). ends_return (38 ∷ (n ++ l))) (bare_text node [] z) ∙ (ap (λ (l : List ℕ). ends_return (38 ∷ l)) (append-nil n) ∙ front_name 38 n (g ++ node_text node t) refl h.0.inside))))
   | inr z ↦ (let s = some_text d node t z h.4 in
@@ -89,9 +89,9 @@ node_return k (anchored n g node) d t c e h = elim (cases_Bool (is_bare node)) [
       subst (λ (b : Bool). (b && front is_feed t) ≡ false) (sym same) (node_return k node d t c e h.4))
 ]
 
-pub item_return : (k d : ℕ) (key : Key) (n : Node) (t : List ℕ) → is_close k ≡ true → EndsItem k t → IsInlineKey k key (node_text n t) → IsNode true (Some 0) d n t → Whole (key_text key (node_text n [])) t
+pub item_return : (k d : ℕ) (key : Key) (n : FlowNode) (t : List ℕ) → is_close k ≡ true → EndsItem k t → IsInlineKey k key (node_text n t) → IsFlowNode true (Some 0) d n t → Whole (key_text key (node_text n [])) t
 item_return k d bare n t c e x h = node_return k n d t c e h
-item_return k d (keyed p b g) n t c e x h = elim (cases_Bool (is_bare n)) [
+item_return k d (keyed p b g) n t c e x h = elim (cases_Bool (is_empty_node n)) [
   | inl z ↦ (let nothing : g ≡ [] = lead_none (begins_node true) g t (ends_node k t c e) (subst (λ (l : List ℕ). IsLead true (begins_node true) g l) (bare_text n t z) x.4) in
       let text : p ++ (b ++ (58 ∷ (g ++ node_text n []))) ≡ (p ++ b) ++ (58 ∷ []) = ap (λ l. p ++ (b ++ (58 ∷ (l ++ node_text n [])))) nothing ∙ (ap (λ l. p ++ (b ++ (58 ∷ l))) (bare_text n [] z) ∙ sym (append_assoc p b (58 ∷ []))) in
       whole_by (p ++ (b ++ (58 ∷ (g ++ node_text n [])))) t (ap ends_return text ∙ return_append (p ++ b) 58 []))

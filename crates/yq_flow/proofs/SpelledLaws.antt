@@ -14,7 +14,7 @@ use Rattle.yq_flow_scalars.specs.Writable.{can_write_plain, in_flow}
 use Rattle.yq_nodes.specs.declared.gap.Before.TheVariants.{Token, White}
 use Rattle.yq_nodes.specs.Gaps.{IsInlineGap, stops}
 use Rattle.yq_nodes.specs.Inline.{depth_limit}
-use Rattle.yq_nodes.specs.Nodes.{key_text, sep_text, node_text, items_text, first_is, begins_content, is_bare, is_keyed, IsInlineKey, IsSep, IsNode, AreItems}
+use Rattle.yq_nodes.specs.Nodes.{key_text, sep_text, node_text, flow_items_text, begins_with, begins_content, is_empty_node, is_keyed, IsInlineKey, IsSep, IsFlowNode, AreFlowItems}
 use Rattle.yq_nodes.specs.Scalars.{is_quoted, begins_scalar, IsScalarAt}
 use Rattle.yq_nodes.specs.Trees.{inner, scalar_node, key_content, tree_of, items_tree}
 use Rattle.yq_flow.specs.Valued.{IsValid, IsLabel, IsValueTree, AreValueTrees, Spells}
@@ -25,7 +25,7 @@ use Rattle.yq_flow.proofs.SpelledScalars.{IsWritten, written_by}
 use Rattle.yq_nodes.proofs.WrittenLaws.{node_then}
 
 -- where a content begins there is no white space, no break and no comment
-begins_here : (k : ℕ) (t : List ℕ) → ((bs : List ℕ) → is_space (k ∷ bs) ≡ false) → first_is k t ≡ true → is_space t ≡ false
+begins_here : (k : ℕ) (t : List ℕ) → ((bs : List ℕ) → is_space (k ∷ bs) ≡ false) → begins_with k t ≡ true → is_space t ≡ false
 begins_here k t never h = rw (front_is k t h) (never (drop 1 t))
 
 no_gap : (t : List ℕ) → begins_content true t ≡ true → is_space t ≡ false
@@ -37,9 +37,9 @@ no_gap (b ∷ t) h = ⊎_elim (begins_here 42 (b ∷ t) (λ bs. refl))
     (λ h. ⊎_elim (begins_here 34 (b ∷ t) (λ bs. refl)) (begins_here 39 (b ∷ t) (λ bs. refl)) (or_cases (eqb b 34) (eqb b 39) h))
     (no_space true b t)
     (or_cases (is_quoted (b ∷ t)) (begins_plain true (b ∷ t)) h))
-    (or_cases (first_is 123 (b ∷ t)) (begins_scalar true (b ∷ t)) h))
-    (or_cases (first_is 91 (b ∷ t)) (first_is 123 (b ∷ t) || begins_scalar true (b ∷ t)) h))
-    (or_cases (first_is 42 (b ∷ t)) (first_is 91 (b ∷ t) || (first_is 123 (b ∷ t) || begins_scalar true (b ∷ t))) h)
+    (or_cases (begins_with 123 (b ∷ t)) (begins_scalar true (b ∷ t)) h))
+    (or_cases (begins_with 91 (b ∷ t)) (begins_with 123 (b ∷ t) || begins_scalar true (b ∷ t)) h))
+    (or_cases (begins_with 42 (b ∷ t)) (begins_with 91 (b ∷ t) || (begins_with 123 (b ∷ t) || begins_scalar true (b ∷ t))) h)
 
 no_token_gap : (t : List ℕ) → is_space t ≡ false → stops Token t ≡ true
 no_token_gap [] h = refl
@@ -91,7 +91,7 @@ entry_key k u t h =
     let w = flow_key_text (string_of k) (string_valid k u) in
     let p : List ℕ = scalar_text (string_of k) places.FlowKey in
     let is : IsScalarAt true None p (58 ∷ 32 ∷ t) = w.piece true None (58 ∷ 32 ∷ t) refl in
-    ((refl, is, none_gap (58 ∷ 32 ∷ t) refl, or_right (is_quoted p) true refl, inl (space_gap t h, or_right (first_is 38 t) (begins_content true t) h)), scalar_content (p ++ 58 ∷ 32 ∷ t) (scalar_begins true None p (58 ∷ 32 ∷ t) is))
+    ((refl, is, none_gap (58 ∷ 32 ∷ t) refl, or_right (is_quoted p) true refl, inl (space_gap t h, or_right (begins_with 38 t) (begins_content true t) h)), scalar_content (p ++ 58 ∷ 32 ∷ t) (scalar_begins true None p (58 ∷ 32 ∷ t) is))
 
 entry_same : (k : List ℕ) → IsUtf8 k → inner (key_content (flow_key (Some k))) ≡ inner (Some k)
 entry_same k u = ap (λ (c : List ℕ). inner (Some c)) (flow_key_text (string_of k) (string_valid k u)).content
@@ -105,7 +105,7 @@ entries_fit = record {
 }
 
 -- nodes as they are written
-pub no_bare : (v : tree.Node) → IsValueTree v → is_bare (flow_of v) ≡ false
+pub no_bare : (v : tree.Node) → IsValueTree v → is_empty_node (flow_of v) ≡ false
 unfolding flow_of
 no_bare (tree.alias n) h = absurd h
 no_bare (tree.scalar a kind t) h = refl
@@ -122,29 +122,29 @@ node_begins (tree.scalar a kind t) rest h ends =
 node_begins (tree.list a cs) rest h ends = refl
 node_begins (tree.map a cs) rest h ends = refl
 
-sep_ends : (k : ℕ) (keyed : Bool) → Fits k keyed → (cs : tree.Children) (rest : List ℕ) → ends_plain true (Some 0) (sep_text (flow_sep cs) (items_text k (flow_items cs) rest)) ≡ true
-unfolding items_text flow_items
+sep_ends : (k : ℕ) (keyed : Bool) → Fits k keyed → (cs : tree.Children) (rest : List ℕ) → ends_plain true (Some 0) (sep_text (flow_sep cs) (flow_items_text k (flow_items cs) rest)) ≡ true
+unfolding flow_items_text flow_items
 sep_ends k keyed fits tree.none rest = fits.ends rest
 sep_ends k keyed fits (tree.child label n cs) rest = refl
 
-items_begin : (k : ℕ) (keyed : Bool) → Fits k keyed → (label : tree.Label) (n : tree.Node) (cs : tree.Children) (rest : List ℕ) → AreValueTrees keyed (tree.child label n cs) → begins_content true (items_text k (flow_items (tree.child label n cs)) rest) ≡ true
-unfolding items_text flow_items
+items_begin : (k : ℕ) (keyed : Bool) → Fits k keyed → (label : tree.Label) (n : tree.Node) (cs : tree.Children) (rest : List ℕ) → AreValueTrees keyed (tree.child label n cs) → begins_content true (flow_items_text k (flow_items (tree.child label n cs)) rest) ≡ true
+unfolding flow_items_text flow_items
 items_begin k keyed fits label n cs rest h = search (rules, node_begins, sep_ends)
 
-items_gap : (k : ℕ) (keyed : Bool) → Fits k keyed → (cs : tree.Children) (rest : List ℕ) → AreValueTrees keyed cs → IsInlineGap [] (items_text k (flow_items cs) rest)
-unfolding items_text flow_items
+items_gap : (k : ℕ) (keyed : Bool) → Fits k keyed → (cs : tree.Children) (rest : List ℕ) → AreValueTrees keyed cs → IsInlineGap [] (flow_items_text k (flow_items cs) rest)
+unfolding flow_items_text flow_items
 items_gap k keyed fits tree.none rest h = none_gap (k ∷ rest) (no_token_gap (k ∷ rest) (fits.apart rest))
 items_gap k keyed fits (tree.child label n cs) rest h = content_gap _ (items_begin k keyed fits label n cs rest h)
 
-sep_is : (k : ℕ) (keyed : Bool) → Fits k keyed → (cs : tree.Children) (rest : List ℕ) → AreValueTrees keyed cs → IsSep k (flow_sep cs) (items_text k (flow_items cs) rest)
-unfolding items_text flow_items
+sep_is : (k : ℕ) (keyed : Bool) → Fits k keyed → (cs : tree.Children) (rest : List ℕ) → AreValueTrees keyed cs → IsSep k (flow_sep cs) (flow_items_text k (flow_items cs) rest)
+unfolding flow_items_text flow_items
 sep_is k keyed fits tree.none rest h = (none_gap (k ∷ rest) (no_token_gap (k ∷ rest) (fits.apart rest)), eq-eqb k k refl)
 sep_is k keyed fits (tree.child label n cs) rest h = (none_gap _ refl, space_gap _ (items_begin k keyed fits label n cs rest h))
 
 mutual
-  unfolding IsNode AreItems flow_of flow_items node_text items_text
+  unfolding IsFlowNode AreFlowItems flow_of flow_items node_text flow_items_text
 
-  pub written_node : (v : tree.Node) (flow : Bool) (spaces : Option ℕ) (d : ℕ) (rest : List ℕ) → IsValueTree v → depth v ≤ d → ends_plain flow spaces rest ≡ true → IsNode flow spaces d (flow_of v) rest
+  pub written_node : (v : tree.Node) (flow : Bool) (spaces : Option ℕ) (d : ℕ) (rest : List ℕ) → IsValueTree v → depth v ≤ d → ends_plain flow spaces rest ≡ true → IsFlowNode flow spaces d (flow_of v) rest
   written_node (tree.alias n) flow spaces d rest h deep ends = absurd h
   written_node (tree.scalar a kind t) flow spaces d rest h deep ends = (flow_scalar (record { kind = kind; text = t }) h.1).piece flow spaces rest ends
   written_node (tree.list a cs) flow spaces zero rest h deep ends = absurd (omega (arith, deep))
@@ -154,13 +154,13 @@ mutual
   written_node (tree.map a cs) flow spaces (suc d) rest h deep ends =
       (refl, items_gap 125 true entries_fit cs rest h.1, written_items 125 true entries_fit cs d rest h.1 (omega (arith, deep)))
 
-  written_items : (k : ℕ) (keyed : Bool) → Fits k keyed → (cs : tree.Children) (d : ℕ) (rest : List ℕ) → AreValueTrees keyed cs → deepest cs ≤ d → AreItems d k (flow_items cs) rest
+  written_items : (k : ℕ) (keyed : Bool) → Fits k keyed → (cs : tree.Children) (d : ℕ) (rest : List ℕ) → AreValueTrees keyed cs → deepest cs ≤ d → AreFlowItems d k (flow_items cs) rest
   written_items k keyed fits tree.none d rest h deep = tt
   written_items k keyed fits (tree.child label n cs) d rest h deep =
-      let behind : List ℕ = sep_text (flow_sep cs) (items_text k (flow_items cs) rest) in
+      let behind : List ℕ = sep_text (flow_sep cs) (flow_items_text k (flow_items cs) rest) in
       let ends = sep_ends k keyed fits cs rest in (
         (fits.key label h.0 (node_text (flow_of n) behind) (node_begins n behind h.1 ends)).0,
-        or_right (is_keyed (flow_key label.key)) (not (is_bare (flow_of n))) (rw (no_bare n h.1) refl),
+        or_right (is_keyed (flow_key label.key)) (not (is_empty_node (flow_of n))) (rw (no_bare n h.1) refl),
         written_node n true (Some 0) d behind h.1 (omega (arith, deep, le-max_left (depth n) (deepest cs))) ends,
         sep_is k keyed fits cs rest h.2,
         written_items k keyed fits cs d rest h.2 (omega (arith, deep, le-max_right (depth n) (deepest cs))),

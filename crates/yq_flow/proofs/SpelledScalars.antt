@@ -4,7 +4,7 @@ use Rattle.std.proofs.Math.Bool.{and-false}
 use Rattle.std.proofs.lemmas.Bool.{false≢true, cond_both, or_cases, and_parts, not-true, or_parts}
 use Rattle.yq_flow_scalars.specs.declared.kind.Kind.{Kind}
 use Rattle.yq_flow_scalars.specs.declared.style.Style.TheVariants as styles
-use Rattle.yq_flow_scalars.specs.ContentReading.{within, broken, content_on}
+use Rattle.yq_flow_scalars.specs.ContentReading.{within, one_break_more, content_on}
 use Rattle.yq_flow_scalars.specs.Plain.{ends_plain, holds_break, is_indicator}
 use Rattle.yq_flow_scalars.specs.PlainText.{is_plain_text, begins_plainly, needs_quotes, no_rest, is_merge, begins_marker}
 use Rattle.yq_flow_scalars.specs.Quoted.{last}
@@ -13,13 +13,13 @@ use Rattle.yq_flow_scalars.specs.Scalar.{ScalarText, string_of, plain_of}
 use Rattle.yq_flow_scalars.specs.SchemaReading.{resolve}
 use Rattle.yq_flow_scalars.specs.Text.{is_white, is_feed, is_return, is_break, front}
 use Rattle.yq_flow_scalars.specs.Writable.{can_write_plain, is_string}
-use Rattle.yq_flow_scalars.specs.Written.{written, double}
+use Rattle.yq_flow_scalars.specs.Written.{written_scalar, double}
 use Rattle.yq_flow_scalars.proofs.ContentLaws.{quoted_content_is}
 use Rattle.yq_block_scalars.proofs.PlainSpells.{plain_line, plain_opens, writable_text, writable_same, writable_piece, string_kind}
 use Rattle.yq_block_scalars.proofs.PlainWritten.{plain_text_parts}
 use Rattle.yq_block_scalars.proofs.WrittenLaws.{double_spells}
 use Rattle.yq_block_scalars.proofs.WrittenText.{line_holds, double_is_line}
-use Rattle.yq_nodes.specs.Scalars.{is_quoted, has_its_lines, IsScalarAt, content_of, scalar_of}
+use Rattle.yq_nodes.specs.Scalars.{is_quoted, has_its_lines, IsScalarAt, scalar_content, scalar_of}
 use Rattle.yq_flow.specs.Valued.{IsValid}
 
 -- the content of one line is the line
@@ -37,9 +37,9 @@ line_on white (b ∷ t) h =
     let p = or_parts (is_feed b) (holds_break t) h in
     let no_break : (is_feed b || (is_return b && front is_feed t)) ≡ false = rw p.0 (rw (front_none t p.1) (and-false (is_return b))) in
     let on : List ℕ = white ++ (b ∷ content_on 0 0 within [] t) in
-    let here : cond (is_feed b) (content_on 0 0 (broken within) [] t) (cond (is_break (b ∷ t)) (content_on 0 0 within white t) on) ≡ on =
+    let here : cond (is_feed b) (content_on 0 0 (one_break_more within) [] t) (cond (is_break (b ∷ t)) (content_on 0 0 within white t) on) ≡ on =
     chosen_last (is_feed b) (is_break (b ∷ t)) _ _ on p.0 no_break in
-    cond_both (is_white b) (content_on 0 0 within (white ++ b ∷ []) t) (cond (is_feed b) (content_on 0 0 (broken within) [] t) (cond (is_break (b ∷ t)) (content_on 0 0 within white t) on)) (λ l. l ≡ white ++ (b ∷ t))
+    cond_both (is_white b) (content_on 0 0 within (white ++ b ∷ []) t) (cond (is_feed b) (content_on 0 0 (one_break_more within) [] t) (cond (is_break (b ∷ t)) (content_on 0 0 within white t) on)) (λ l. l ≡ white ++ (b ∷ t))
     (λ _. line_on (white ++ b ∷ []) t p.1 ∙ append_assoc white (b ∷ []) t)
     (λ _. here ∙ ap (λ l. white ++ (b ∷ l)) (line_on [] t p.1))
 
@@ -94,11 +94,11 @@ quoted_string s h = ap (λ (k : Kind). record { kind = k; text = s.text }) (sym 
 -- a written scalar stands for its scalar, and is one wherever a plain one may end
 pub record IsWritten (s : ScalarText) (p : List ℕ) : Type 0 where
   pub scalar : scalar_of p ≡ s
-  pub content : content_of p ≡ s.text
+  pub content : scalar_content p ≡ s.text
   pub piece : (flow : Bool) (spaces : Option ℕ) (rest : List ℕ) → ends_plain flow spaces rest ≡ true → IsScalarAt flow spaces p rest
 
-pub written_by : (s : ScalarText) (plain : Bool) → can_write_plain s true ≡ plain → IsValid s → IsWritten s (written (cond plain styles.Plain styles.Double) s.text)
-unfolding scalar_of content_of
+pub written_by : (s : ScalarText) (plain : Bool) → can_write_plain s true ≡ plain → IsValid s → IsWritten s (written_scalar (cond plain styles.Plain styles.Double) s.text)
+unfolding scalar_of scalar_content
 written_by s true h v =
     let content = plain_text s v h in
     record {

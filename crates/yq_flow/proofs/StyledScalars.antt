@@ -12,7 +12,7 @@ use Rattle.yq_flow_scalars.specs.QuotedReading.{is_quote}
 use Rattle.yq_flow_scalars.specs.Scalar.{ScalarText, string_of, plain_of}
 use Rattle.yq_flow_scalars.specs.Text.{front}
 use Rattle.yq_flow_scalars.specs.Writable.{can_write, can_write_plain, is_string, is_single_char}
-use Rattle.yq_flow_scalars.specs.Written.{written, single, double, IsOneLine}
+use Rattle.yq_flow_scalars.specs.Written.{written_scalar, single, double, IsOneLine}
 use Rattle.yq_flow_scalars.proofs.ContentLaws.{quoted_content_is}
 use Rattle.yq_block_scalars.proofs.PlainSpells.{plain_line, plain_is_text, plain_opens, writable_text, writable_same, writable_piece, string_kind}
 use Rattle.yq_block_scalars.proofs.PlainWritten.{plain_text_parts}
@@ -78,7 +78,7 @@ single_spelled s v h all =
     }
 
 -- what is written in a style of one line spells its scalar
-pub styled_spells : (s : ScalarText) (style : Style) → IsValid s → IsOneLine style → can_write s style Block ≡ true → SpellsScalar s (written style s.text)
+pub styled_spells : (s : ScalarText) (style : Style) → IsValid s → IsOneLine style → can_write s style Block ≡ true → SpellsScalar s (written_scalar style s.text)
 styled_spells s styles.Plain v i h = plain_spelled s v h
 styled_spells s styles.Single v i h = let p = and_parts (is_string s.kind) (list_all is_single_char (chars s.text)) h in single_spelled s v p.0 p.1
 styled_spells s styles.Double v i h = double_spelled s v h

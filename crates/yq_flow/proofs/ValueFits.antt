@@ -10,12 +10,12 @@ use Rattle.yq_flow_scalars.specs.Quoted.{last}
 use Rattle.yq_flow_scalars.specs.Scalar.{ScalarText}
 use Rattle.yq_flow_scalars.specs.Text.{is_marker}
 use Rattle.yq_flow_scalars.specs.Writable.{can_write, can_write_plain, is_string, is_single_char}
-use Rattle.yq_flow_scalars.specs.Written.{written}
+use Rattle.yq_flow_scalars.specs.Written.{written_scalar}
 use Rattle.yq_block_scalars.proofs.PlainSpells.{writable_text, writable_piece}
 use Rattle.yq_block_scalars.proofs.WrittenLaws.{double_spells, single_spells}
 use Rattle.yq_nodes.specs.Alike.{EndsItem}
 use Rattle.yq_flow.specs.FlowEdits.{FitsNode, FitsItem}
-use Rattle.yq_nodes.specs.Nodes.{scalar, node_text, is_close, is_bare, is_keyed, takes_anchor, IsNode}
+use Rattle.yq_nodes.specs.Nodes.{scalar, node_text, is_close, is_empty_node, is_keyed, takes_anchor, IsFlowNode}
 use Rattle.yq_nodes.specs.Trees.{scalar_node, tree_of}
 use Rattle.yq_flow.specs.Valued.{IsValid, IsLabel, IsValueTree}
 use Rattle.yq_nodes.specs.Written.{scalar_text, flow_key, flow_of}
@@ -34,7 +34,7 @@ use Rattle.yq_flow.proofs.SpelledLaws as spelled
 plain_unmarked : (t rest : List ℕ) → is_plain_text true t ≡ true → Unmarked rest → is_marker (t ++ rest) ≡ false
 plain_unmarked t rest h m = marker_append t rest (not-true (begins_marker t) (and_parts _ (not (begins_marker t)) h).1) m
 
-written_unmarked : (s : ScalarText) (plain : Bool) (rest : List ℕ) → can_write_plain s true ≡ plain → IsValid s → Unmarked rest → is_marker (written (cond plain styles.Plain styles.Double) s.text ++ rest) ≡ false
+written_unmarked : (s : ScalarText) (plain : Bool) (rest : List ℕ) → can_write_plain s true ≡ plain → IsValid s → Unmarked rest → is_marker (written_scalar (cond plain styles.Plain styles.Double) s.text ++ rest) ≡ false
 written_unmarked s true rest h v m = plain_unmarked s.text rest (writable_text s.kind s.text true v.kind h) m
 written_unmarked s false rest h v m = no_first 34 _ refl refl
 
@@ -66,8 +66,8 @@ value_fits k e v rest c ends h deep = record {
 }
 
 -- a scalar in a style of one line
-pub scalar_fits : (k e : ℕ) (s : ScalarText) (style : Style) (rest : List ℕ) → is_close k ≡ true → EndsItem k rest → IsValid s → scalars.IsOneLine style → can_write s style places.Flow ≡ true → FitsNode e (scalar (written style s.text)) rest
-unfolding IsNode node_text
+pub scalar_fits : (k e : ℕ) (s : ScalarText) (style : Style) (rest : List ℕ) → is_close k ≡ true → EndsItem k rest → IsValid s → scalars.IsOneLine style → can_write s style places.Flow ≡ true → FitsNode e (scalar (written_scalar style s.text)) rest
+unfolding IsFlowNode node_text
 scalar_fits k e s styles.Plain rest c ends v i h = record {
   is = inl (writable_piece s true (Some 0) rest v.utf8 v.kind h (ends_plainly (Some 0) k rest c ends));
   some = refl;
@@ -87,7 +87,7 @@ scalar_fits k e s styles.Folded rest c ends v i h = absurd i
 pub scalar_block : (s : ScalarText) (style : Style) → scalars.IsOneLine style → can_write s style places.Flow ≡ true → can_write s style places.Block ≡ true
 scalar_block s style h1 h2 = search (rules, plain_anywhere)
 
-pub scalar_same : (s : ScalarText) (style : Style) → IsValid s → scalars.IsOneLine style → can_write s style places.Flow ≡ true → tree_of (scalar (written style s.text)) ≡ scalar_node s
+pub scalar_same : (s : ScalarText) (style : Style) → IsValid s → scalars.IsOneLine style → can_write s style places.Flow ≡ true → tree_of (scalar (written_scalar style s.text)) ≡ scalar_node s
 unfolding tree_of
 scalar_same s style v i h = ap scalar_node (styled_spells s style v i (scalar_block s style i h)).same
 
@@ -103,6 +103,6 @@ item_fits k e label v rest c ends is h deep =
     let over = ends_plainly (Some 0) k rest c ends in
     record {
       key_is = ((fit_of k c).key label is (node_text (flow_of v) rest) (node_begins v rest h over)).0;
-      some = or_right (is_keyed (flow_key label.key)) (not (is_bare (flow_of v))) (rw (no_bare v h) refl);
+      some = or_right (is_keyed (flow_key label.key)) (not (is_empty_node (flow_of v))) (rw (no_bare v h) refl);
       is = written_node v true (Some 0) e rest h deep over;
     }

@@ -8,9 +8,9 @@ use Rattle.yq_flow.specs.declared.flow_place.EditPlace.{EditPlace}
 use Rattle.yq_nodes.specs.declared.gap.Before.TheVariants.{Token}
 use Rattle.yq_nodes.specs.Entries.{content_place, end_of, entry_start, parts_of}
 use Rattle.yq_flow.specs.FlowEdits.{FlowEdit}
-use Rattle.yq_nodes.specs.Nodes.{first_is}
-use Rattle.yq_nodes.specs.Places.{Placed, placed, Content, nothing, name, text, sequence, mapping, Parts, end, part}
-use Rattle.yq_nodes.specs.Reading.{gap_len}
+use Rattle.yq_nodes.specs.Nodes.{begins_with}
+use Rattle.yq_nodes.specs.Places.{Placed, placed, CoreNode, nothing, name, text, sequence, mapping, Parts, end, part}
+use Rattle.yq_nodes.specs.Reading.{flow_gap_len}
 use Rattle.yq_nodes.specs.Trees.{inner, unplaced_key}
 
 -- where bytes that give way begin and end, and what takes their place before that which is written (own)
@@ -48,7 +48,7 @@ append_at at None = record { start = at; end = at; lead = [] }
 append_at at (Some e) = record { start = e; end = e; lead = 44 ∷ (32 ∷ []) }
 
 -- the same in a content from c to e: the first item or entry is written right behind the opening bracket (own)
-abbrev pub append_in : ℕ → ℕ → Content → Option PlacedEdit
+abbrev pub append_in : ℕ → ℕ → CoreNode → Option PlacedEdit
 append_in c e nothing = None
 append_in c e (name n) = None
 append_in c e (text s piece) = None
@@ -74,14 +74,14 @@ marks_before t from at = nat_le 3 (at - from) && (behind_feed t (at - 3) && begi
 
 -- where the gap that begins at this place ends (own)
 abbrev pub past_gap : List ℕ → ℕ → ℕ
-past_gap t at = at + gap_len Token (drop at t)
+past_gap t at = at + flow_gap_len Token (drop at t)
 
 -- From the end of the item before, which begins at the first place, to that of the last one: a comma stays where the one before ends in `---` or
 -- `...` in column 0 (own).
 abbrev pub remove_end : List ℕ → ℕ → ℕ → ℕ → PlacedEdit
 remove_end t from before e =
     if marks_before t from before then (
-    if first_is 44 (drop (past_gap t e) t) then record { start = before; end = past_gap t e; lead = [] }
+    if begins_with 44 (drop (past_gap t e) t) then record { start = before; end = past_gap t e; lead = [] }
     else record { start = before; end = e; lead = 44 ∷ [] }
     )
     else record { start = before; end = e; lead = [] }

@@ -8,7 +8,7 @@ use Rattle.yq_flow_scalars.specs.Scalar.{ScalarText}
 use Rattle.yq_flow_scalars.specs.Tree as tree
 use Rattle.yq_nodes.specs.Alike.{EndsItem}
 use Rattle.yq_flow.specs.FlowEdits.{FitsItem, FitsNode}
-use Rattle.yq_nodes.specs.Nodes.{Key, Node, scalar, key_text, node_text, is_close}
+use Rattle.yq_nodes.specs.Nodes.{Key, FlowNode, scalar, key_text, node_text, is_close}
 use Rattle.yq_nodes.specs.Scalars as scalars
 use Rattle.yq_nodes.specs.Trees.{key_content, tree_of}
 
@@ -16,7 +16,7 @@ use Rattle.yq_nodes.specs.Trees.{key_content, tree_of}
 -- with that key, whose node stands for the tree (YAML 1.2.2, section 7.4.2).
 pub record SpellsEntry (k : List ℕ) (v : tree.Node) (t : List ℕ) : Type 0 where
   pub key : Key
-  pub node : Node
+  pub node : FlowNode
   pub written : (rest : List ℕ) → key_text key (node_text node rest) ≡ t ++ rest
   pub stands : (d : ℕ) (rest : List ℕ) → depth v ≤ d → EndsItem 125 rest → FitsItem d 125 key node rest
   pub same_key : key_content key ≡ Some k

@@ -7,7 +7,7 @@ use Rattle.yq_flow_scalars.specs.Text.{is_feed, is_return, front, separates}
 use Rattle.yq_nodes.specs.Alike.{fresh}
 use Rattle.yq_nodes.specs.Collections.{CollPieces}
 use Rattle.yq_flow.specs.FlowEdits.{FlowEdit}
-use Rattle.yq_nodes.specs.Nodes.{Key, Node, Sep, last, comma, Items, none, item, key_text, sep_text, node_text, items_text}
+use Rattle.yq_nodes.specs.Nodes.{Key, FlowNode, Sep, last, comma, Items, none, item, key_text, sep_text, node_text, flow_items_text}
 use Rattle.yq_nodes.specs.Trees.{inner, key_content}
 
 -- the text is `---` or `...` (YAML 1.2.2, sections 9.1.2 and 9.1.3)
@@ -50,11 +50,11 @@ gap_of (last b) = []
 gap_of (comma b g) = g
 
 -- An edit of what stands behind an item is one of the items from that one on (own).
-abbrev pub behind_item : List ℕ → Key → Node → Sep → FlowEdit → FlowEdit
-behind_item g key n sep e = record { gap = g; items = item key n (with_gap e.gap sep) e.items; old = e.old; lead = e.lead; written = e.written; behind = e.behind }
+abbrev pub edit_from_item : List ℕ → Key → FlowNode → Sep → FlowEdit → FlowEdit
+edit_from_item g key n sep e = record { gap = g; items = item key n (with_gap e.gap sep) e.items; old = e.old; lead = e.lead; written = e.written; behind = e.behind }
 
 -- an item behind a gap goes up to the next one; nothing, if none follows it (own)
-abbrev pub before_next : ℕ → List ℕ → List ℕ → Key → Node → Sep → Items → Option FlowEdit
+abbrev pub before_next : ℕ → List ℕ → List ℕ → Key → FlowNode → Sep → Items → Option FlowEdit
 before_next k rest g key n sep none = None
 before_next k rest g key n sep (item key2 n2 sep2 is) =
     let next = key_text key2 (node_text n2 []) in
@@ -64,33 +64,33 @@ before_next k rest g key n sep (item key2 n2 sep2 is) =
       old = key_text key (node_text n (sep_text sep []));
       lead = space_to g next;
       written = [];
-      behind = items_text k (item key2 n2 sep2 is) rest;
+      behind = flow_items_text k (item key2 n2 sep2 is) rest;
     })
 
 -- the text from the end of an item to that of the next one (own)
-abbrev pub next_text : Sep → Key → Node → List ℕ
+abbrev pub next_text : Sep → Key → FlowNode → List ℕ
 next_text sep key n = sep_text sep (key_text key (node_text n []))
 
 -- the last item goes from the end of the one before to its own (own)
-abbrev pub last_gone : ℕ → List ℕ → List ℕ → Key → Node → Sep → Key → Node → Sep → FlowEdit
+abbrev pub last_gone : ℕ → List ℕ → List ℕ → Key → FlowNode → Sep → Key → FlowNode → Sep → FlowEdit
 last_gone k rest g key n sep key2 n2 sep2 =
     record { gap = g; items = item key n sep2 none; old = next_text sep key2 n2; lead = []; written = []; behind = sep_text sep2 (k ∷ rest) }
 
 -- the last item goes up to the comma behind it, or a comma comes in its place if there is none (own)
-abbrev pub comma_left : ℕ → List ℕ → List ℕ → Key → Node → Sep → Key → Node → Sep → FlowEdit
+abbrev pub comma_left : ℕ → List ℕ → List ℕ → Key → FlowNode → Sep → Key → FlowNode → Sep → FlowEdit
 comma_left k rest g key n sep key2 n2 (last b) =
     record { gap = g; items = item key n (comma [] b) none; old = next_text sep key2 n2; lead = 44 ∷ []; written = []; behind = b ++ (k ∷ rest) }
 comma_left k rest g key n sep key2 n2 (comma b h) =
     record { gap = g; items = item key n (comma [] h) none; old = next_text sep key2 n2 ++ b; lead = []; written = []; behind = 44 ∷ (h ++ (k ∷ rest)) }
 
 -- The last one: a comma stays behind an item that ends in `---` or `...` in column 0, which would else become a document marker (own).
-abbrev pub last_removed : ℕ → List ℕ → List ℕ → Key → Node → Sep → Key → Node → Sep → FlowEdit
+abbrev pub last_removed : ℕ → List ℕ → List ℕ → Key → FlowNode → Sep → Key → FlowNode → Sep → FlowEdit
 last_removed k rest g key n sep key2 n2 sep2 =
     if ends_marked (fresh false g)
     (key_text key (node_text n [])) then comma_left k rest g key n sep key2 n2 sep2 else last_gone k rest g key n sep key2 n2 sep2
 
 -- the item that follows another one goes, if a step leads to it and it is the last one (own)
-abbrev pub last_out : ℕ → List ℕ → Step → List ℕ → Key → Node → Sep → Items → Option FlowEdit
+abbrev pub last_out : ℕ → List ℕ → Step → List ℕ → Key → FlowNode → Sep → Items → Option FlowEdit
 last_out k rest s g key n sep none = None
 last_out k rest s g key n sep (item key2 n2 sep2 none) = if is_here s (inner (key_content key2)) then Some (last_removed k rest g key n sep key2 n2 sep2) else None
 last_out k rest s g key n sep (item key2 n2 sep2 (item key3 n3 sep3 is)) = None
@@ -100,7 +100,7 @@ abbrev pub removing_from : ℕ → List ℕ → Step → List ℕ → Items → 
 removing_from k rest s g none = None
 removing_from k rest s g (item key n sep is) =
     if is_here s (inner (key_content key)) then before_next k rest g key n sep is
-    else option_or (last_out k rest (further s) g key n sep is) (option_map (behind_item g key n sep) (removing_from k rest (further s) (gap_of sep) is))
+    else option_or (last_out k rest (further s) g key n sep is) (option_map (edit_from_item g key n sep) (removing_from k rest (further s) (gap_of sep) is))
 
 -- the item or entry at a step of a collection is taken out, if it isn't the sole one (own)
 abbrev pub removing : Step → CollPieces → Option FlowEdit

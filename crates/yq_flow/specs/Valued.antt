@@ -10,7 +10,7 @@ use Rattle.yq_flow_scalars.specs.Scalar.{ScalarText, IsScalar}
 use Rattle.yq_flow_scalars.specs.Tree as tree
 use Rattle.yq_flow_scalars.specs.Writable.{in_flow}
 use Rattle.yq_nodes.specs.Inline.{IsInline, depth_limit}
-use Rattle.yq_nodes.specs.Nodes.{Node, node_text}
+use Rattle.yq_nodes.specs.Nodes.{FlowNode, node_text}
 use Rattle.yq_nodes.specs.Scalars as scalars
 use Rattle.yq_nodes.specs.Trees.{inner, tree_of}
 
@@ -40,7 +40,7 @@ abbrev mutual
 -- A text spells a tree: before any rest at which a plain scalar ends, and where so many collections may be nested, it is the text of an inline
 -- node that stands for the tree (YAML 1.2.2, sections 3.2.1, 7.3 and 7.4).
 pub record Spells (v : tree.Node) (t : List ℕ) : Type 0 where
-  pub node : Node
+  pub node : FlowNode
   pub written : (rest : List ℕ) → node_text node rest ≡ t ++ rest
   pub stands : (place : Place) (n : ℤ) (around : ℕ) (rest : List ℕ) → depth v + around ≤ depth_limit →
       ends_plain (in_flow place) (further_spaces place n) rest ≡ true → IsInline place n around node rest

@@ -2,7 +2,7 @@
 ghost use Rattle.std.specs.Prelude.{◌≡◌, option_map};
 ghost use Rattle.yq_nodes.specs.Entries as places;
 ghost use Rattle.yq_nodes.specs.View as views;
-ghost use Rattle.yq_nodes.specs.View.{view};
+ghost use Rattle.yq_nodes.specs.View.{inline_view};
 ghost use Rattle.yq_flow.specs.FlowPlaces as spec;
 
 use yq_flow_scalars::Piece;
@@ -19,7 +19,7 @@ pub struct EditPlace {
 
 /// Where the node ends.
 pub(crate) fn end_of(node: &Inline<'_>) -> usize
-    ensures { result ≡ places.end_of (view node.now) }
+    ensures { result ≡ places.end_of (inline_view node.now) }
 {
     node.end
 }
@@ -72,7 +72,7 @@ fn append_at(at: usize, last: Option<usize>) -> EditPlace
 /// Where another content of the node is written: in the place of its content, or behind the node
 /// and a space where nothing but perhaps an anchor is written.
 pub fn replace_place(node: &Inline<'_>) -> EditPlace
-    ensures { spec.edit_view result ≡ spec.replace_place (view node.now) }
+    ensures { spec.edit_view result ≡ spec.replace_place (inline_view node.now) }
 {
     match node.content_place() {
         Some((start, end)) => EditPlace {
@@ -91,7 +91,7 @@ pub fn replace_place(node: &Inline<'_>) -> EditPlace
 /// Where one more item or entry is written: behind the last one, or right behind the opening
 /// bracket. Nothing where the node is no collection.
 pub fn append_place(node: &Inline<'_>) -> Option<EditPlace>
-    ensures { option_map spec.edit_view result ≡ spec.append_place (view node.now) }
+    ensures { option_map spec.edit_view result ≡ spec.append_place (inline_view node.now) }
 {
     let inner = node.content.saturating_add(1).min(node.end);
     match &node.form {

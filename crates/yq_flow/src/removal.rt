@@ -3,7 +3,7 @@ ghost use Rattle.std.specs.Prelude.{◌≡◌, drop, option_map};
 ghost use Rattle.yq_flow_scalars.specs.Paths as paths;
 ghost use Rattle.yq_nodes.specs.Entries as places;
 ghost use Rattle.yq_nodes.specs.View as views;
-ghost use Rattle.yq_nodes.specs.View.{view};
+ghost use Rattle.yq_nodes.specs.View.{inline_view};
 ghost use Rattle.yq_flow.specs.FlowPlaces as spec;
 
 use crate::flow_place::{EditPlace, end_of};
@@ -95,7 +95,7 @@ fn remove_before(text: &[u8], start: usize, next: Option<usize>) -> Option<EditP
 
 /// Where the node begins, with its anchor.
 fn start_of(node: &Inline<'_>) -> usize
-    ensures { result ≡ places.start_of (view node.now) }
+    ensures { result ≡ places.start_of (inline_view node.now) }
 {
     node.start
 }
@@ -197,7 +197,7 @@ fn remove_entry(
 /// What goes with the item to which a step leads.
 fn list_removal(text: &[u8], items: &Vec<Inline<'_>>, step: &Step) -> Option<EditPlace>
     ensures { option_map spec.edit_view result ≡
-        spec.remove_part text.now (places.step_of step.now) (views.items_end items.now.items) }
+        spec.remove_part text.now (places.tree_step step.now) (views.items_end items.now.items) }
 {
     match step {
         Step::Key(_) => None,
@@ -212,7 +212,7 @@ fn map_removal(
     step: &Step,
 ) -> Option<EditPlace>
     ensures { option_map spec.edit_view result ≡
-        spec.remove_part text.now (places.step_of step.now) (views.entries_end entries.now.items) }
+        spec.remove_part text.now (places.tree_step step.now) (views.entries_end entries.now.items) }
 {
     match step {
         Step::Key(key) => remove_entry(text, entries.as_slice(), key.as_str()),
@@ -224,7 +224,7 @@ fn map_removal(
 /// and what takes its place. Nothing where there is none, or no other one.
 pub fn remove_place(node: &Inline<'_>, text: &str, step: &Step) -> Option<EditPlace>
     ensures { option_map spec.edit_view result ≡
-        spec.remove_place text.now (places.step_of step.now) (view node.now) }
+        spec.remove_place text.now (places.tree_step step.now) (inline_view node.now) }
 {
     match &node.form {
         Form::List(items) => list_removal(text.as_bytes(), items, step),

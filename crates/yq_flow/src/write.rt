@@ -6,7 +6,7 @@ ghost use Rattle.yq_flow_scalars.specs.Writable as writable;
 ghost use Rattle.yq_flow_scalars.specs.declared.style.Style.TheVariants.{Plain};
 ghost use Rattle.yq_flow.specs.FlowValues.{SpellsEntry};
 ghost use Rattle.yq_flow.specs.Valued.{AreValueTrees, IsValid, IsValueTree, Spells};
-ghost use Rattle.yq_nodes.specs.Values.{entries_of, items_of, node_of};
+ghost use Rattle.yq_nodes.specs.Values.{entries_of, items_of, value_node};
 ghost use Rattle.yq_nodes.specs.Written as spec;
 
 use std::alloc::{AllocError, Global};
@@ -60,8 +60,8 @@ fn push_key(alloc: Global, out: &mut String, key: &str) -> Result<(), AllocError
 #[tactic(auto, unfolding(yq_nodes::specs::Written::flow_of, yq_nodes::specs::Nodes::node_text))]
 fn push_value(alloc: Global, out: &mut String, value: &Value) -> Result<(), AllocError>
     ensures text { OnOk result (string_bytes out.new ≡ string_bytes out.old ++
-        spec.flow_text (node_of value.now)) }
-    ensures valid { IfOk result (λ x. IsValueTree (node_of value.now)) }
+        spec.flow_text (value_node value.now)) }
+    ensures valid { IfOk result (λ x. IsValueTree (value_node value.now)) }
 {
     match value {
         Value::Scalar(scalar) => push_scalar(alloc, out, scalar, Place::Flow),
@@ -82,7 +82,7 @@ fn push_value(alloc: Global, out: &mut String, value: &Value) -> Result<(), Allo
 #[cycle(write)]
 fn push_items(alloc: Global, out: &mut String, items: &Vec<Value>) -> Result<(), AllocError>
     ensures text { OnOk result (string_bytes out.new ≡ string_bytes out.old ++
-        spec.listed true (map (λ v. spec.flow_text (node_of v)) items.now.items)) }
+        spec.comma_separated true (map (λ v. spec.flow_text (value_node v)) items.now.items)) }
     ensures valid { IfOk result (λ x. AreValueTrees false (items_of items.now.items)) }
 {
     let mut first = true;
@@ -105,7 +105,7 @@ fn push_entries(
     entries: &Vec<(String, Value)>,
 ) -> Result<(), AllocError>
     ensures text { OnOk result (string_bytes out.new ≡ string_bytes out.old ++
-        spec.listed true (map (λ e. spec.entry_text (string_bytes e.0, node_of e.1))
+        spec.comma_separated true (map (λ e. spec.entry_text (string_bytes e.0, value_node e.1))
         entries.now.items)) }
     ensures valid { IfOk result (λ x. AreValueTrees true (entries_of entries.now.items)) }
 {
@@ -127,9 +127,9 @@ fn push_entries(
 #[tactic(auto, using(crate::proofs::SpelledLaws::flow_spells))]
 pub fn write_inline(alloc: Global, value: &Value) -> Result<String, AllocError>
     // It is the text that the style defines.
-    ensures text { IfOk result (λ s. string_bytes s ≡ spec.flow_text (node_of value.now)) }
+    ensures text { IfOk result (λ s. string_bytes s ≡ spec.flow_text (value_node value.now)) }
     // It spells the value.
-    ensures spells { IfOk result (λ s. Spells (node_of value.now) (string_bytes s)) }
+    ensures spells { IfOk result (λ s. Spells (value_node value.now) (string_bytes s)) }
 {
     let mut out = String::new(alloc);
     push_value(alloc, &mut out, value)?;
@@ -140,9 +140,9 @@ pub fn write_inline(alloc: Global, value: &Value) -> Result<String, AllocError>
 #[tactic(auto, using(crate::proofs::FlowSpelled::entry_spells))]
 pub fn write_entry(alloc: Global, key: &str, value: &Value) -> Result<String, AllocError>
     // It is the text that the style defines.
-    ensures text { IfOk result (λ s. string_bytes s ≡ spec.entry_text (key.now, node_of value.now)) }
+    ensures text { IfOk result (λ s. string_bytes s ≡ spec.entry_text (key.now, value_node value.now)) }
     // It spells the entry.
-    ensures spells { IfOk result (λ s. SpellsEntry key.now (node_of value.now) (string_bytes s)) }
+    ensures spells { IfOk result (λ s. SpellsEntry key.now (value_node value.now) (string_bytes s)) }
 {
     let mut out = String::new(alloc);
     push_key(alloc, &mut out, key)?;

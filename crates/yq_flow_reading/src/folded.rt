@@ -199,7 +199,7 @@ pub fn fold_item<'t>(quote: u8, text: &'t str) -> Item<'t>
 /// The quote of a quoted scalar, and what stands between its quotes.
 pub fn inside(piece: &str) -> (u8, &str)
     requires { IsQuotedText piece.now }
-    ensures { spec.content_of result.0 result.1.now ≡ spec.quoted_content piece.now }
+    ensures { spec.quoted_text result.0 result.1.now ≡ spec.quoted_content piece.now }
 {
     let quote = piece.as_bytes()[0];
     let inner = piece.split_at(1).1;

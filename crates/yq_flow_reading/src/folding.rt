@@ -3,7 +3,7 @@ ghost use Rattle.std.specs.Prelude.{◌≡◌, ◌++◌, ◌<◌, ◌≤◌, ℕ
 ghost use Rattle.yq_flow_scalars.specs.ContentReading as spec;
 ghost use Rattle.yq_flow_reading.specs.Folded.{folded_text};
 ghost use Rattle.yq_flow_scalars.specs.PlainContent.{IsPlainLines};
-ghost use Rattle.yq_flow_scalars.specs.Quoted.{Lines, IsQuoted, IsQuotedText, content};
+ghost use Rattle.yq_flow_scalars.specs.Quoted.{QuotedLines, IsQuoted, IsQuotedText, quoted_lines_content};
 
 use crate::folded::{Folded, fold_gap, fold_item, inside, split_space};
 use crate::pushing::push_breaks;
@@ -53,7 +53,7 @@ fn content_room(quote: u8, len: usize) -> usize
 
 /// The content of what stands in these quotes, or in none.
 fn fold(alloc: Global, quote: u8, text: &str) -> Result<String, AllocError>
-    ensures { IfOk result (λ s. string_bytes s ≡ spec.content_of quote text.now) }
+    ensures { IfOk result (λ s. string_bytes s ≡ spec.quoted_text quote text.now) }
 {
     let mut out = String::with_capacity(alloc, content_room(quote, text.len()))?;
     let mut joined = false;
@@ -69,8 +69,8 @@ fn fold(alloc: Global, quote: u8, text: &str) -> Result<String, AllocError>
 /// What a plain scalar of that text stands for: its lines, folded.
 pub fn plain_content(alloc: Global, text: &str) -> Result<String, AllocError>
     ensures exact { IfOk result (λ s. string_bytes s ≡ spec.plain_content text.now) }
-    ensures found { (ls : Lines) → IsPlainLines ls text.now →
-        IfOk result (λ s. string_bytes s ≡ content ls) }
+    ensures found { (ls : QuotedLines) → IsPlainLines ls text.now →
+        IfOk result (λ s. string_bytes s ≡ quoted_lines_content ls) }
 {
     fold(alloc, 0, text)
 }
@@ -79,8 +79,8 @@ pub fn plain_content(alloc: Global, text: &str) -> Result<String, AllocError>
 pub fn quoted_content(alloc: Global, piece: &str) -> Result<String, AllocError>
     requires { IsQuotedText piece.now }
     ensures exact { IfOk result (λ s. string_bytes s ≡ spec.quoted_content piece.now) }
-    ensures found { (quote : ℕ) (ls : Lines) (rest : List ℕ) → IsQuoted quote ls piece.now rest →
-        IfOk result (λ s. string_bytes s ≡ content ls) }
+    ensures found { (quote : ℕ) (ls : QuotedLines) (rest : List ℕ) → IsQuoted quote ls piece.now rest →
+        IfOk result (λ s. string_bytes s ≡ quoted_lines_content ls) }
 {
     let (quote, inner) = inside(piece);
     fold(alloc, quote, inner)

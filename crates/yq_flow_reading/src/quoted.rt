@@ -1,7 +1,7 @@
 //! Quoted scalars (YAML 1.2.2, sections 5.7, 7.3.1 and 7.3.2).
 ghost use Rattle.std.specs.Prelude.{◌≡◌, ◌==◌, ◌++◌, ◌+◌, ◌*◌, ◌<◌, ◌≤◌, length, None, Some, Result, Ok, Err, IfErr, IfOk};
 ghost use Rattle.std.specs.Option.{IfSome, option_map};
-ghost use Rattle.yq_flow_scalars.specs.Answers.{Reads};
+ghost use Rattle.yq_flow_scalars.specs.Answers.{ReadsAs};
 ghost use Rattle.std.specs.Str.{IsCharBoundary};
 ghost use Rattle.yq_flow_scalars.specs.Quoted.{letters, beside, IsQuotedText};
 ghost use Rattle.yq_flow_scalars.specs.QuotedReading as spec;
@@ -94,9 +94,9 @@ fn coded(digits: usize, code: Option<u32>) -> Option<(char, usize)>
 }
 
 /// The character that an escape stands for, and its length, behind the backslash.
-#[tactic(auto, unfolding(yq_flow_scalars::specs::QuotedReading::escape))]
+#[tactic(auto, unfolding(yq_flow_scalars::specs::QuotedReading::escape_in_front))]
 pub fn escape(text: &[u8]) -> Option<(char, usize)>
-    ensures { result ≡ spec.escape text.now }
+    ensures { result ≡ spec.escape_in_front text.now }
 {
     let [letter, digits @ ..] = text else {
         return None;
@@ -121,7 +121,7 @@ fn closes(quote: u8, text: &[u8]) -> bool
 
 /// How many bytes behind the first belong to it.
 fn behind(quote: u8, first: u8, rest: &[u8]) -> Option<usize>
-    ensures { result ≡ spec.behind quote first rest.now }
+    ensures { result ≡ spec.escape_len quote first rest.now }
 {
     if first == b'\n' && is_marker(rest) {
         return None;
@@ -185,7 +185,7 @@ fn cut_quoted(text: &str) -> Option<(&str, &str)>
 /// The quoted scalar in front of the text, with its quotes, and what follows it; the fault is
 /// [`FaultKind::BadScalar`], where no scalar is in front or it isn't closed.
 pub fn split_quoted(text: &str) -> Result<(&str, &str), FaultKind>
-    ensures exact { Reads (λ x. (x.0.now, x.1.now)) result (spec.quoted_at text.now) }
+    ensures exact { ReadsAs (λ x. (x.0.now, x.1.now)) result (spec.quoted_at text.now) }
     ensures found { IfOk result (λ x. IsQuotedText x.0.now) }
     ensures fault { IfErr result (λ kind. kind ≡ BadScalar) }
 {

@@ -57,7 +57,7 @@ fn strip_next<'w, 't>(
 
 /// Whether what stands in these quotes, or in none, stands for that content.
 fn folds_to(quote: u8, text: &str, content: &str) -> bool
-    ensures { result ≡ bytes_eq (spec.content_of quote text.now) content.now }
+    ensures { result ≡ bytes_eq (spec.quoted_text quote text.now) content.now }
 {
     let mut wanted = content;
     let mut joined = false;

@@ -7,7 +7,7 @@ use Rattle.std.specs.List.{prefix_len}
 use Rattle.std.specs.Option.{is_none, option_or}
 use Rattle.yq_flow_scalars.specs.Answers.{more}
 use Rattle.yq_flow_scalars.specs.Text.{upto, cut, is_empty, is_feed, is_white, is_break, is_space, front}
-use Rattle.yq_flow_scalars.specs.Plain.{begins_deep, ends_plain, ends_text, last_line, may_follow, no_gap}
+use Rattle.yq_flow_scalars.specs.Plain.{begins_deep, ends_plain, ends_text, last_line, plain_may_follow, no_gap}
 use Rattle.yq_flow_scalars.specs.PlainReading.{across}
 use Rattle.yq_flow_scalars.proofs.Bools.{more_more, more_none, more_some, at_byte}
 
@@ -166,7 +166,7 @@ across_goes flow spaces deep (b ∷ bs) =
       | inr s ↦ across_here flow spaces deep b bs s ∙ rw s refl
     ]
 
-may_stand : (spaces : Option ℕ) (o : Option (List ℕ)) (text : List ℕ) → may_follow spaces o text ≡ stands true spaces o text
+may_stand : (spaces : Option ℕ) (o : Option (List ℕ)) (text : List ℕ) → plain_may_follow spaces o text ≡ stands true spaces o text
 may_stand spaces None text = refl
 may_stand spaces (Some l) text = refl
 

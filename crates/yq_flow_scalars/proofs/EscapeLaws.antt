@@ -8,7 +8,7 @@ use Rattle.yq_flow_scalars.specs.Answers.{◌>>=◌, more}
 use Rattle.yq_flow_scalars.specs.Text.{is_feed, is_break, is_marker}
 use Rattle.yq_flow_scalars.specs.Quoted.{letters, beside, digit_counts, is_unicode}
 use Rattle.yq_flow_scalars.specs.SchemaReading.{is_digit}
-use Rattle.yq_flow_scalars.specs.QuotedReading.{hex, hex_digit, escape, behind, closes, coded, lettered, length_of, quoted_len}
+use Rattle.yq_flow_scalars.specs.QuotedReading.{hex, hex_digit, escape_in_front, escape_len, closes, coded, lettered, length_of, quoted_len}
 use Rattle.yq_flow_scalars.proofs.Bools.{chosen, bind_some, more_more, more_none}
 use Rattle.yq_flow_scalars.proofs.Across.{rest_of, rest_is}
 
@@ -57,8 +57,8 @@ letter_len c k None h = absurd (let e = h in cc)
 letter_len c k (Some v) h = ap (λ p. p.1) (same_Some (v, 1) (c, k) h)
 
 -- what is read as an escape: a letter that digits follow, and these, or a letter alone
-pub escape_cases : (b c k : ℕ) (bs : List ℕ) → escape (b ∷ bs) ≡ Some (c, k) → ((n : ℕ) × (beside b digit_counts ≡ Some n) × (coded n (hex n 0 bs) ≡ Some (c, k))) ⊎ (lettered (beside b letters) ≡ Some (c, k))
-unfolding escape
+pub escape_cases : (b c k : ℕ) (bs : List ℕ) → escape_in_front (b ∷ bs) ≡ Some (c, k) → ((n : ℕ) × (beside b digit_counts ≡ Some n) × (coded n (hex n 0 bs) ≡ Some (c, k))) ⊎ (lettered (beside b letters) ≡ Some (c, k))
+unfolding escape_in_front
 escape_cases b c k bs h = elim (chosen (eqb b 120) h) [
   | inl x ↦ inl (2, rw x.0 refl, x.1)
   | inr x ↦ elim (chosen (eqb b 117) x.1) [
@@ -70,11 +70,11 @@ escape_cases b c k bs h = elim (chosen (eqb b 120) h) [
   ]
 ]
 
-pub none_escaped : (c k : ℕ) → escape [] ≡ Some (c, k) → ⊥
-unfolding escape
+pub none_escaped : (c k : ℕ) → escape_in_front [] ≡ Some (c, k) → ⊥
+unfolding escape_in_front
 none_escaped c k h = cc
 
-pub escape_within : (t : List ℕ) (c k : ℕ) → escape t ≡ Some (c, k) → k ≤ length t
+pub escape_within : (t : List ℕ) (c k : ℕ) → escape_in_front t ≡ Some (c, k) → k ≤ length t
 escape_within [] c k h = absurd (none_escaped c k h)
 escape_within (b ∷ bs) c k h = elim (escape_cases b c k bs h) [
   | inl x ↦ let v = scalar_len x.0 c k (hex x.0 0 bs) x.2 in omega (arith, hex_within x.0 0 v.0 bs v.1, v.2)
@@ -90,13 +90,13 @@ length_of_some None k h = absurd (let e = h in cc)
 length_of_some (Some e) k h = (e.0, let same : e.1 ≡ k = cc in ap (λ (x : ℕ). Some (e.0, x)) same)
 
 -- what belongs to a byte stands behind it, unless the byte is a quote that closes
-pub behind_within : (q b k : ℕ) (bs : List ℕ) → closes q (b ∷ bs) ≡ false → behind q b bs ≡ Some k → k ≤ length bs
+pub behind_within : (q b k : ℕ) (bs : List ℕ) → closes q (b ∷ bs) ≡ false → escape_len q b bs ≡ Some k → k ≤ length bs
 behind_within q b k bs opened h = elim (chosen (is_feed b && is_marker bs) h) [
   | inl x ↦ absurd (let e : None ≡ Some k = x.1 in cc)
   | inr x ↦ elim (chosen (eqb q 34 && eqb b 92) x.1) [
     | inl y ↦ elim (chosen (is_break bs) y.1) [
       | inl z ↦ omega (arith, same_Some 0 k z.1)
-      | inr z ↦ let e = length_of_some (escape bs) k z.1 in escape_within bs e.0 k e.1
+      | inr z ↦ let e = length_of_some (escape_in_front bs) k z.1 in escape_within bs e.0 k e.1
     ]
     | inr y ↦ elim (chosen (eqb b q) y.1) [
       | inl z ↦ omega (arith, next_quote q b bs opened z.0, same_Some 1 k z.1)
@@ -112,19 +112,19 @@ length_skip q zero t h = sym (more_none (quoted_len q 0 t))
 length_skip q (suc k) [] h = absurd (omega arith)
 length_skip q (suc k) (b ∷ bs) h = ap (more 1) (length_skip q k bs (omega arith)) ∙ (sym (more_more 1 k (quoted_len q 0 (drop k bs))) ∙ ap (λ n. more n (quoted_len q 0 (drop k bs))) (omega arith))
 
-pub length_item : (q b k : ℕ) (bs : List ℕ) → closes q (b ∷ bs) ≡ false → behind q b bs ≡ Some k → quoted_len q 0 (b ∷ bs) ≡ more (k + 1) (quoted_len q 0 (drop k bs))
+pub length_item : (q b k : ℕ) (bs : List ℕ) → closes q (b ∷ bs) ≡ false → escape_len q b bs ≡ Some k → quoted_len q 0 (b ∷ bs) ≡ more (k + 1) (quoted_len q 0 (drop k bs))
 unfolding quoted_len
 length_item q b k bs opened h = rw (opened, h) (ap (more 1) (length_skip q k bs (behind_within q b k bs opened h)) ∙ (sym (more_more 1 k (quoted_len q 0 (drop k bs))) ∙ ap (λ n. more n (quoted_len q 0 (drop k bs))) (omega arith)))
 
-pub item_within : (q k : ℕ) (r : List ℕ) → 1 ≤ length r → closes q r ≡ false → behind q (get_or r 0 0) (rest_of r) ≡ Some k → k ≤ length (rest_of r)
+pub item_within : (q k : ℕ) (r : List ℕ) → 1 ≤ length r → closes q r ≡ false → escape_len q (get_or r 0 0) (rest_of r) ≡ Some k → k ≤ length (rest_of r)
 item_within q k [] le opened h = absurd (omega arith)
-item_within q k (b ∷ bs) le opened h = rw (rest_is) (behind_within q b k bs opened (ap (behind q b) (sym (rest_is b bs)) ∙ h))
+item_within q k (b ∷ bs) le opened h = rw (rest_is) (behind_within q b k bs opened (ap (escape_len q b) (sym (rest_is b bs)) ∙ h))
 
-pub go_item : (q k n : ℕ) (r : List ℕ) (z : Option ℕ) → 1 ≤ length r → closes q r ≡ false → behind q (get_or r 0 0) (rest_of r) ≡ Some k →
+pub go_item : (q k n : ℕ) (r : List ℕ) (z : Option ℕ) → 1 ≤ length r → closes q r ≡ false → escape_len q (get_or r 0 0) (rest_of r) ≡ Some k →
     more n (quoted_len q 0 r) ≡ z → more (n + (k + 1)) (quoted_len q 0 (drop k (rest_of r))) ≡ z
 go_item q k n [] z le opened h e = absurd (omega arith)
 go_item q k n (b ∷ bs) z le opened h e =
-    rw (rest_is) (more_more n (k + 1) (quoted_len q 0 (drop k bs)) ∙ (ap (more n) (sym (length_item q b k bs opened (ap (behind q b) (sym (rest_is b bs)) ∙ h))) ∙ e))
+    rw (rest_is) (more_more n (k + 1) (quoted_len q 0 (drop k bs)) ∙ (ap (more n) (sym (length_item q b k bs opened (ap (escape_len q b) (sym (rest_is b bs)) ∙ h))) ∙ e))
 
 digit_ascii : (b d : ℕ) → hex_digit b ≡ Some d → b < 128
 digit_ascii b d h = search (rules, cases_lt, le-ltb, cond_some, ltb-true)
@@ -149,7 +149,7 @@ letter_some : (c k : ℕ) (o : Option ℕ) → lettered o ≡ Some (c, k) → (v
 letter_some c k None h = absurd (let e = h in cc)
 letter_some c k (Some v) h = (v, refl)
 
-pub escape_ascii : (t : List ℕ) (c k : ℕ) → escape t ≡ Some (c, k) → (j : ℕ) → j < k → get_or t j 0 < 128
+pub escape_ascii : (t : List ℕ) (c k : ℕ) → escape_in_front t ≡ Some (c, k) → (j : ℕ) → j < k → get_or t j 0 < 128
 escape_ascii [] c k h j lt = absurd (none_escaped c k h)
 escape_ascii (b ∷ bs) c k h zero lt = elim (escape_cases b c k bs h) [
   | inl x ↦ letter_ascii b x.0 digit_counts refl x.1

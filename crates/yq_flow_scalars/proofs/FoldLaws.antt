@@ -5,15 +5,15 @@ use Rattle.std.proofs.lemmas.Bool.{false≢true, not-false, and_parts, cases_Boo
 use Rattle.std.proofs.lemmas.List.{take-append-drop}
 use Rattle.yq_flow_scalars.specs.Text.{is_white, is_feed, is_return, is_space, front, upto, cut, NoneIn}
 use Rattle.yq_flow_scalars.specs.Quoted.{folded, joined, gap_text}
-use Rattle.yq_flow_scalars.specs.ContentReading.{Before, within, after, filled, broken, content_on, breaks, spaced, space_text, before_of}
+use Rattle.yq_flow_scalars.specs.ContentReading.{BlankBefore, within, after, item_with_blanks, one_break_more, content_on, breaks, folded_space, space_text, before_of}
 use Rattle.yq_flow_scalars.specs.Plain.{no_gap}
 use Rattle.yq_flow_scalars.proofs.Bools.{at_byte}
 use Rattle.yq_flow_scalars.proofs.Upto.{none_in_cut}
 
 -- the gap behind k further breaks
-abbrev times : ℕ → Before → Before
+abbrev times : ℕ → BlankBefore → BlankBefore
 times zero g = g
-times (suc k) g = times k (broken g)
+times (suc k) g = times k (one_break_more g)
 
 -- the white space since the last break, of bytes that w stands before
 abbrev since : List ℕ → List ℕ → List ℕ
@@ -23,13 +23,13 @@ since w (b ∷ s) = cond (is_white b) (since (w ++ b ∷ []) s) (cond (is_feed b
 is_spaced : (b : ℕ) (t : List ℕ) → not (is_space (b ∷ t)) ≡ false → is_space (b ∷ t) ≡ true
 is_spaced b t h = not-false (is_space (b ∷ t)) h
 
-over_space : (q : ℕ) (g : Before) (w s r : List ℕ) → NoneIn no_gap s r → content_on q 0 g w (s ++ r) ≡ content_on q 0 (times (breaks s) g) (since w s) r
+over_space : (q : ℕ) (g : BlankBefore) (w s r : List ℕ) → NoneIn no_gap s r → content_on q 0 g w (s ++ r) ≡ content_on q 0 (times (breaks s) g) (since w s) r
 unfolding content_on breaks
 over_space q g w [] r h = refl
 over_space q g w (b ∷ s) r h = elim (cases_Bool (is_white b)) [
   | inl y ↦ rw (y, at_byte is_white b 10 y refl) (over_space q g (w ++ b ∷ []) s r h.1)
   | inr y ↦ elim (cases_Bool (is_feed b)) [
-    | inl e ↦ rw (y, e) (over_space q (broken g) [] s r h.1)
+    | inl e ↦ rw (y, e) (over_space q (one_break_more g) [] s r h.1)
     | inr e ↦ (let k : is_space (b ∷ (s ++ r)) ≡ true = is_spaced b (s ++ r) h.0 in
         let x : (is_return b && front is_feed (s ++ r)) ≡ true = rw (y, e) at k in
         rw (y, e, x) (over_space q g w s r h.1))
@@ -65,12 +65,12 @@ since_all w (b ∷ s) r h e n = elim (cases_Bool (is_white b)) [
   ]
 ]
 
-spaced_is : (n : ℕ) (s r : List ℕ) → NoneIn no_gap s r → is_space r ≡ false → breaks s ≡ n → filled (times n within) (since [] s) ≡ spaced n s
+spaced_is : (n : ℕ) (s r : List ℕ) → NoneIn no_gap s r → is_space r ≡ false → breaks s ≡ n → item_with_blanks (times n within) (since [] s) ≡ folded_space n s
 spaced_is zero s r h e n = since_all [] s r h e n
-spaced_is (suc k) s r h e n = ap (λ g. filled g (since [] s)) (times_folded k 0) ∙ ap (λ (i : ℕ). gap_text (folded i)) (omega arith)
+spaced_is (suc k) s r h e n = ap (λ g. item_with_blanks g (since [] s)) (times_folded k 0) ∙ ap (λ (i : ℕ). gap_text (folded i)) (omega arith)
 
-filled_is : (j : Bool) (s r : List ℕ) → NoneIn no_gap s r → is_space r ≡ false → filled (times (breaks s) (before_of j)) (since [] s) ≡ space_text j s
-filled_is true s r h e = ap (λ g. filled g (since [] s)) (times_joined (breaks s) 0) ∙ ap (λ n. replicate n 10) (omega arith)
+filled_is : (j : Bool) (s r : List ℕ) → NoneIn no_gap s r → is_space r ≡ false → item_with_blanks (times (breaks s) (before_of j)) (since [] s) ≡ space_text j s
+filled_is true s r h e = ap (λ g. item_with_blanks g (since [] s)) (times_joined (breaks s) 0) ∙ ap (λ n. replicate n 10) (omega arith)
 filled_is false s r h e = spaced_is (breaks s) s r h e refl
 
 pub content_space : (q : ℕ) (j : Bool) (s r : List ℕ) → NoneIn no_gap s r → is_space r ≡ false → content_on q 0 (before_of j) [] (s ++ r) ≡ space_text j s ++ content_on q 0 within [] r

@@ -3,7 +3,7 @@ use Rattle.std.proofs.Common.{◌≡◌, ℕ, true, false, List, [], ◌∷◌, 
 use Rattle.std.proofs.lemmas.Bool.{false≢true, and_parts, cases_Bool}
 use Rattle.std.proofs.Math.Bool.{and-false}
 use Rattle.yq_flow_scalars.specs.Text.{is_break, is_feed, is_return}
-use Rattle.yq_flow_scalars.specs.Quoted.{Char, itself, doubled, escape as letter_escape, code, spell_chars, Break, line_feed, return_feed, spell_break, Lines, last, line, spell_lines, content}
+use Rattle.yq_flow_scalars.specs.Quoted.{Char, itself, doubled, escape as letter_escape, code, spell_chars, Break, line_feed, return_feed, spell_break, QuotedLines, last, line, spell_lines, quoted_lines_content}
 use Rattle.yq_flow_scalars.specs.PlainContent.{ArePlain, ArePlainLines, IsPlainLines}
 use Rattle.yq_flow_scalars.specs.ContentReading.{plain_content}
 use Rattle.yq_flow_scalars.proofs.ContentLaws.{AllMean, LinesMean, itself_means, content_is}
@@ -15,29 +15,29 @@ plain_chars_mean (doubled ∷ cs) t h = absurd h
 plain_chars_mean (letter_escape letter ∷ cs) t h = absurd h
 plain_chars_mean (code letter digits ∷ cs) t h = absurd h
 
-plain_lines_mean : (ls : Lines) → ArePlainLines ls → LinesMean 0 ls
+plain_lines_mean : (ls : QuotedLines) → ArePlainLines ls → LinesMean 0 ls
 plain_lines_mean (last cs) h = plain_chars_mean cs [] h
 plain_lines_mean (line cs true b ls) h = absurd (false≢true (sym h.1))
 plain_lines_mean (line cs false b ls) h = (plain_chars_mean cs (spell_break b ++ spell_lines ls) h.0, (λ e. absurd (false≢true e)), plain_lines_mean ls h.2)
 
-pub plain_content_is : (ls : Lines) (text : List ℕ) → IsPlainLines ls text → plain_content text ≡ content ls
+pub plain_content_is : (ls : QuotedLines) (text : List ℕ) → IsPlainLines ls text → plain_content text ≡ quoted_lines_content ls
 plain_content_is ls text is = ap plain_content is.spelled ∙ content_is 0 ls (plain_lines_mean ls is.lines)
 
 -- one byte more in front
-push : ℕ → Lines → Lines
+push : ℕ → QuotedLines → QuotedLines
 push b (last cs) = last (itself b ∷ cs)
 push b (line cs escaped k ls) = line (itself b ∷ cs) escaped k ls
 
-push_spelled : (b : ℕ) (ls : Lines) → b ∷ spell_lines ls ≡ spell_lines (push b ls)
+push_spelled : (b : ℕ) (ls : QuotedLines) → b ∷ spell_lines ls ≡ spell_lines (push b ls)
 unfolding push
 push_spelled b (last cs) = refl
 push_spelled b (line cs escaped k ls) = refl
 
-push_plain : (b : ℕ) (ls : Lines) → is_break (b ∷ spell_lines ls) ≡ false → ArePlainLines ls → ArePlainLines (push b ls)
+push_plain : (b : ℕ) (ls : QuotedLines) → is_break (b ∷ spell_lines ls) ≡ false → ArePlainLines ls → ArePlainLines (push b ls)
 unfolding push
 push_plain b ls h1 h2 = search (rules, append-nil, false≢true)
 
-pushed : (b : ℕ) (t : List ℕ) → is_break (b ∷ t) ≡ false → ((ls : Lines) × IsPlainLines ls t) → (ls : Lines) × IsPlainLines ls (b ∷ t)
+pushed : (b : ℕ) (t : List ℕ) → is_break (b ∷ t) ≡ false → ((ls : QuotedLines) × IsPlainLines ls t) → (ls : QuotedLines) × IsPlainLines ls (b ∷ t)
 pushed b t brk (ls, is) = (
   push b ls,
   record {
@@ -46,14 +46,14 @@ pushed b t brk (ls, is) = (
   },
 )
 
-broken : (k : Break) (t u : List ℕ) → u ≡ spell_break k ++ t → ((ls : Lines) × IsPlainLines ls t) → (ls : Lines) × IsPlainLines ls u
+broken : (k : Break) (t u : List ℕ) → u ≡ spell_break k ++ t → ((ls : QuotedLines) × IsPlainLines ls t) → (ls : QuotedLines) × IsPlainLines ls u
 broken k t u e (ls, is) = (line [] false k ls, record { spelled = e ∙ ap (λ l. spell_break k ++ l) is.spelled; lines = (tt, refl, is.lines) })
 
 no_break : (b : ℕ) → is_feed b ≡ false → is_break (b ∷ []) ≡ false
 no_break b h = rw h (and-false (is_return b))
 
 -- each text is made of lines
-pub plain_lines_of : (text : List ℕ) → (ls : Lines) × IsPlainLines ls text
+pub plain_lines_of : (text : List ℕ) → (ls : QuotedLines) × IsPlainLines ls text
 plain_lines_of [] = (last [], record { spelled = refl; lines = tt })
 plain_lines_of (b ∷ []) = elim (cases_Bool (is_feed b)) [
   | inl e ↦ broken line_feed [] (b ∷ []) (ap (λ x. x ∷ []) (eqb-true b 10 e)) (plain_lines_of [])

@@ -5,7 +5,7 @@ use Rattle.std.proofs.Math.Seq.{take-append_seam, drop-append_seam}
 use Rattle.std.proofs.lemmas.Option.{same_Some}
 use Rattle.std.proofs.lemmas.Str.{IsCharBoundary-after_ascii}
 use Rattle.std.specs.Str.{IsUtf8, IsCharBoundary}
-use Rattle.yq_flow_scalars.specs.Quoted.{Lines, spell_lines, IsQuoted, IsQuotedText}
+use Rattle.yq_flow_scalars.specs.Quoted.{QuotedLines, spell_lines, IsQuoted, IsQuotedText}
 use Rattle.yq_flow_scalars.specs.QuotedReading.{quoted_len, scalar_len, cut_at, quoted_at, is_quote}
 use Rattle.yq_flow_scalars.proofs.Bools.{guard_then, more_some}
 use Rattle.yq_flow_scalars.proofs.QuotedRead.{lines_takes, lines_are_read}
@@ -21,7 +21,7 @@ cut_is t p r n e size = rw (e, size, take-append_seam, drop-append_seam) refl
 -- a quoted scalar in front of a text
 pub record Found (t piece rest : List ℕ) : Type 0 where
   pub quote : ℕ
-  pub ls : Lines
+  pub ls : QuotedLines
   pub cut : t ≡ piece ++ rest
   pub is : IsQuoted quote ls piece rest
 
@@ -47,11 +47,11 @@ pub quoted_takes : (t : List ℕ) (x : List ℕ × List ℕ) → quoted_at t ≡
 quoted_takes [] x h = absurd (let e : None ≡ Some x = h in cc)
 quoted_takes (b ∷ bs) x h = by_len b bs x (scalar_len (b ∷ bs)) refl h
 
-pub quoted_again : (q : ℕ) (ls : Lines) (piece rest : List ℕ) → IsQuoted q ls piece rest → quoted_at (piece ++ rest) ≡ Some (piece, rest)
+pub quoted_again : (q : ℕ) (ls : QuotedLines) (piece rest : List ℕ) → IsQuoted q ls piece rest → quoted_at (piece ++ rest) ≡ Some (piece, rest)
 quoted_again q ls piece rest is = search (rules, of_quotes, append_assoc, lines_are_read, cut_is, length-append)
 
 -- a text begins with one quoted scalar at most
-pub quoted_one : (q r : ℕ) (ls ms : Lines) (p rest o other : List ℕ) → p ++ rest ≡ o ++ other → IsQuoted q ls p rest → IsQuoted r ms o other → (p ≡ o) × (rest ≡ other)
+pub quoted_one : (q r : ℕ) (ls ms : QuotedLines) (p rest o other : List ℕ) → p ++ rest ≡ o ++ other → IsQuoted q ls p rest → IsQuoted r ms o other → (p ≡ o) × (rest ≡ other)
 quoted_one q r ls ms p rest o other same a b =
     let e : ◌≡◌ {A = List ℕ × List ℕ} (p, rest) (o, other) = same_Some _ _ (sym (quoted_again q ls p rest a) ∙ (ap quoted_at same ∙ quoted_again r ms o other b)) in
     (ap (λ (x : List ℕ × List ℕ). x.0) e, ap (λ (x : List ℕ × List ℕ). x.1) e)

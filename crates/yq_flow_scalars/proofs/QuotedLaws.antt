@@ -3,7 +3,7 @@ use Rattle.std.proofs.Common.{◌≡◌, ℕ, ◌+◌, Bool, true, false, ◌&&�
 use Rattle.std.proofs.lemmas.Bool.{or_parts}
 use Rattle.yq_flow_scalars.specs.Answers.{more}
 use Rattle.yq_flow_scalars.specs.Text.{is_marker, front}
-use Rattle.yq_flow_scalars.specs.Quoted.{Char, itself, doubled, escape as letter_escape, code, spell_char, spell_chars, IsChar, AreChars, Break, line_feed, return_feed, spell_break, spell_end, Lines, last, line, spell_lines, AreLines}
+use Rattle.yq_flow_scalars.specs.Quoted.{Char, itself, doubled, escape as letter_escape, code, spell_char, spell_chars, IsChar, AreChars, Break, line_feed, return_feed, spell_break, spell_end, QuotedLines, last, line, spell_lines, AreLines}
 use Rattle.yq_flow_scalars.specs.QuotedReading.{quoted_len}
 use Rattle.yq_flow_scalars.proofs.Bools.{more_more, more_none}
 use Rattle.yq_flow_scalars.proofs.CharLaws.{IsEscape, code_escape, letter_is_escape}
@@ -63,7 +63,7 @@ slash_again return_feed t = refl
 end_again : (q : ℕ) (escaped : Bool) (b : Break) (t : List ℕ) → (q ≡ 34) ⊎ (q ≡ 39) → (escaped ≡ true → q ≡ 34) → is_marker t ≡ false → quoted_len q 0 (spell_end escaped b ++ t) ≡ more (length (spell_end escaped b)) (quoted_len q 0 t)
 end_again q escaped b t h1 h2 h3 = search (rules, of_quotes, break_double, break_single, in_front, slash_again)
 
-pub lines_again : (q : ℕ) (ls : Lines) (t : List ℕ) → (q ≡ 34) ⊎ (q ≡ 39) → AreLines q ls t → quoted_len q 0 (spell_lines ls ++ t) ≡ more (length (spell_lines ls)) (quoted_len q 0 t)
+pub lines_again : (q : ℕ) (ls : QuotedLines) (t : List ℕ) → (q ≡ 34) ⊎ (q ≡ 39) → AreLines q ls t → quoted_len q 0 (spell_lines ls ++ t) ≡ more (length (spell_lines ls)) (quoted_len q 0 t)
 lines_again q (last cs) t quotes h = chars_again q cs t h
 lines_again q (line cs escaped b ls) t quotes h = search (rules, in_front, end_again, append_assoc, chars_again, lines_again q ls t quotes h.3)
 
@@ -73,7 +73,7 @@ closed_here q rest h = rw (eq-eqb q q refl, h) refl
 
 -- the lines that were read up to the quote that closes
 pub record Read (q : ℕ) (t : List ℕ) (n : ℕ) : Type 0 where
-  pub ls : Lines
+  pub ls : QuotedLines
   pub rest : List ℕ
   pub cut : t ≡ spell_lines ls ++ (q ∷ rest)
   pub long : n ≡ length (spell_lines ls)
@@ -81,16 +81,16 @@ pub record Read (q : ℕ) (t : List ℕ) (n : ℕ) : Type 0 where
   pub closed : (eqb q 39 && front (λ b. eqb b 39) rest) ≡ false
 
 -- one character more in front
-push : Char → Lines → Lines
+push : Char → QuotedLines → QuotedLines
 push c (last cs) = last (c ∷ cs)
 push c (line cs escaped b ls) = line (c ∷ cs) escaped b ls
 
-push_spelled : (c : Char) (ls : Lines) → spell_lines (push c ls) ≡ spell_char c ++ spell_lines ls
+push_spelled : (c : Char) (ls : QuotedLines) → spell_lines (push c ls) ≡ spell_char c ++ spell_lines ls
 unfolding push
 push_spelled c (last cs) = refl
 push_spelled c (line cs escaped b ls) = append_assoc (spell_char c) (spell_chars cs) (spell_end escaped b ++ spell_lines ls)
 
-push_are : (q : ℕ) (c : Char) (ls : Lines) (t : List ℕ) → IsChar q c (spell_lines ls ++ t) → AreLines q ls t → AreLines q (push c ls) t
+push_are : (q : ℕ) (c : Char) (ls : QuotedLines) (t : List ℕ) → IsChar q c (spell_lines ls ++ t) → AreLines q ls t → AreLines q (push c ls) t
 unfolding push
 push_are q c ls t h1 h2 = search (rules, append_assoc)
 

@@ -2,8 +2,8 @@
 use Rattle.std.proofs.Common.{◌≡◌, ℕ, zero, suc, ◌+◌, ◌<◌, ◌≤◌, Bool, true, false, ◌&&◌, not, eqb, eqb-true, List, [], ◌∷◌, ◌++◌, length, drop, Some, None, refl, sym, ap, ◌∙◌, subst, inl, inr, ◌⊎◌, arith, length-append, length-drop, rules}
 use Rattle.std.proofs.lemmas.Bool.{false≢true, or_cases, not-true, not-false, and_parts, cases_Bool, or_parts}
 use Rattle.yq_flow_scalars.specs.Text.{is_break, is_feed, is_return, is_marker, front}
-use Rattle.yq_flow_scalars.specs.Quoted.{itself, doubled, IsChar, Break, line_feed, return_feed, spell_break, Lines, last, spell_lines, AreLines}
-use Rattle.yq_flow_scalars.specs.QuotedReading.{escape, behind, closes, quoted_len}
+use Rattle.yq_flow_scalars.specs.Quoted.{itself, doubled, IsChar, Break, line_feed, return_feed, spell_break, QuotedLines, last, spell_lines, AreLines}
+use Rattle.yq_flow_scalars.specs.QuotedReading.{escape_in_front, escape_len, closes, quoted_len}
 use Rattle.yq_flow_scalars.proofs.Bools.{bind_some, more_some}
 use Rattle.yq_flow_scalars.proofs.EscapeLaws.{length_item, length_of_some}
 use Rattle.yq_flow_scalars.proofs.CharLaws.{escape_takes}
@@ -12,7 +12,7 @@ use Rattle.yq_flow_scalars.proofs.QuotedLaws.{Read, of_quotes, read_char, read_l
 -- one step of the reading
 record ReadStep (q b : ℕ) (bs : List ℕ) (n : ℕ) : Type 0 where
   k : ℕ
-  belongs : behind q b bs ≡ Some k
+  belongs : escape_len q b bs ≡ Some k
   m : ℕ
   rest : quoted_len q 0 (drop k bs) ≡ Some m
   size : k + 1 + m ≡ n
@@ -20,7 +20,7 @@ record ReadStep (q b : ℕ) (bs : List ℕ) (n : ℕ) : Type 0 where
 step_back : (q b n : ℕ) (bs : List ℕ) → closes q (b ∷ bs) ≡ false → quoted_len q 0 (b ∷ bs) ≡ Some n → ReadStep q b bs n
 unfolding quoted_len
 step_back q b n bs opened h =
-    let x = bind_some (behind q b bs) (rw opened at h) in
+    let x = bind_some (escape_len q b bs) (rw opened at h) in
     let y = more_some (x.0 + 1) n (quoted_len q 0 (drop x.0 bs)) (sym (length_item q b x.0 bs opened x.1) ∙ h) in
     record { k = x.0; belongs = x.1; m = y.0; rest = y.1; size = y.2 }
 
@@ -104,14 +104,14 @@ only_quote : (x : Bool) → not (x && false) ≡ false → ⊥
 only_quote true h = false≢true (sym h)
 only_quote false h = false≢true (sym h)
 
-step_len : (q b n k : ℕ) (bs : List ℕ) (st : ReadStep q b bs n) → behind q b bs ≡ Some k → st.k ≡ k
+step_len : (q b n k : ℕ) (bs : List ℕ) (st : ReadStep q b bs n) → escape_len q b bs ≡ Some k → st.k ≡ k
 step_len q b n k bs st h = let e : Some st.k ≡ Some k = sym st.belongs ∙ h in cc
 
 shorter : (k : ℕ) (bs : List ℕ) → length (drop k bs) ≤ length bs
 shorter k bs = omega (arith, length-drop k bs)
 
 -- two single quotes
-read_doubled : (q b n : ℕ) (bs : List ℕ) → closes q (b ∷ bs) ≡ false → eqb b q ≡ true → ReadStep q b bs n → behind q b bs ≡ Some 1 → Reads q (length bs) → Read q (b ∷ bs) n
+read_doubled : (q b n : ℕ) (bs : List ℕ) → closes q (b ∷ bs) ≡ false → eqb b q ≡ true → ReadStep q b bs n → escape_len q b bs ≡ Some 1 → Reads q (length bs) → Read q (b ∷ bs) n
 unfolding Reads
 read_doubled q b n [] opened same st one reads = absurd (only_quote (eqb q 39) (rw same at opened))
 read_doubled q b n (c ∷ cs) opened same st one reads =
@@ -123,7 +123,7 @@ read_doubled q b n (c ∷ cs) opened same st one reads =
     read_char q st.m n doubled cs (b ∷ c ∷ cs) (ap (λ x. x ∷ c ∷ cs) first ∙ ap (λ x. 39 ∷ x ∷ cs) second) (eqb-true q 39 pair.0) (reads st.m cs (omega arith) read) (omega (arith, st.size, long))
 
 -- a byte that stands for itself
-read_itself : (q b n : ℕ) (bs : List ℕ) → IsChar q (itself b) bs → ReadStep q b bs n → behind q b bs ≡ Some 0 → Reads q (length bs) → Read q (b ∷ bs) n
+read_itself : (q b n : ℕ) (bs : List ℕ) → IsChar q (itself b) bs → ReadStep q b bs n → escape_len q b bs ≡ Some 0 → Reads q (length bs) → Read q (b ∷ bs) n
 unfolding Reads
 read_itself q b n bs is st none reads =
     let long : st.k ≡ 0 = step_len q b n 0 bs st none in
@@ -134,7 +134,7 @@ read_itself q b n bs is st none reads =
 read_escape : (n : ℕ) (bs : List ℕ) → ReadStep 34 92 bs n → is_break bs ≡ false → Reads 34 (length bs) → Read 34 (92 ∷ bs) n
 unfolding Reads
 read_escape n bs st no_break reads =
-    let x = length_of_some (escape bs) st.k (rw no_break at st.belongs) in
+    let x = length_of_some (escape_in_front bs) st.k (rw no_break at st.belongs) in
     let e = escape_takes bs x.0 st.k x.1 in
     read_char 34 st.m n e.char (drop st.k bs) (92 ∷ bs) e.spelled (e.is (drop st.k bs)) (reads st.m (drop st.k bs) (shorter st.k bs) st.rest) (omega (arith, st.size, e.long))
 
@@ -201,5 +201,5 @@ lines_takes (suc fuel) q n (b ∷ bs) le quotes h = elim (cases_Bool (closes q (
   | inr opened ↦ read_front q b n bs quotes opened h (λ m t less read. lines_takes fuel q m t (omega arith) quotes read)
 ]
 
-pub lines_are_read : (q : ℕ) (ls : Lines) (rest : List ℕ) → (q ≡ 34) ⊎ (q ≡ 39) → AreLines q ls (q ∷ rest) → (eqb q 39 && front (λ b. eqb b 39) rest) ≡ false → quoted_len q 0 (spell_lines ls ++ (q ∷ rest)) ≡ Some (length (spell_lines ls))
+pub lines_are_read : (q : ℕ) (ls : QuotedLines) (rest : List ℕ) → (q ≡ 34) ⊎ (q ≡ 39) → AreLines q ls (q ∷ rest) → (eqb q 39 && front (λ b. eqb b 39) rest) ≡ false → quoted_len q 0 (spell_lines ls ++ (q ∷ rest)) ≡ Some (length (spell_lines ls))
 lines_are_read q ls rest quotes are closed = search (rules, lines_again, closed_here)

@@ -10,7 +10,7 @@ use Rattle.std.specs.List.{prefix_len, list_all}
 use lib.Bits.{bit_or}
 use lib.Lanes.{chunk, mask_l, top, Each1}
 use Rattle.yq_flow_scalars.specs.Characters.{is_text_byte}
-use Rattle.yq_flow_scalars.specs.Runs.{goes_on}
+use Rattle.yq_flow_scalars.specs.Runs.{run_goes_on}
 use Rattle.yq_flow_scalars.specs.declared.runs.Run.TheVariants.{Spaces, Text}
 
 -- the bits of lanes that were computed byte by byte
@@ -59,7 +59,7 @@ not_not true = refl
 not_not false = refl
 
 -- a run of spaces
-pub spaces_run : (t : List ℕ) → prefix_len (goes_on Spaces) t ≡ prefix_len (λ b. eqb b 32) t
+pub spaces_run : (t : List ℕ) → prefix_len (run_goes_on Spaces) t ≡ prefix_len (λ b. eqb b 32) t
 spaces_run [] = refl
 spaces_run (b ∷ bs) = ap₂ (λ c n. cond c (1 + n) 0) (not_not (eqb b 32)) (spaces_run bs)
 
@@ -68,6 +68,6 @@ run_turn : (c : Bool) (n m : ℕ) → eqb (cond (not (not c)) (1 + n) 0) (suc m)
 run_turn true n m = rw (one-add, eqb-suc-suc) refl
 run_turn false n m = eqb-zero-suc m
 
-pub text_run : (t : List ℕ) → eqb (prefix_len (goes_on Text) t) (length t) ≡ list_all is_text_byte t
+pub text_run : (t : List ℕ) → eqb (prefix_len (run_goes_on Text) t) (length t) ≡ list_all is_text_byte t
 text_run [] = refl
 text_run (b ∷ bs) = run_turn (is_text_byte b) _ _ ∙ ap (λ r. is_text_byte b && r) (text_run bs)

@@ -8,17 +8,17 @@ pub data Name : Type 0 where
   Refers : List ℕ → Name
 
 -- names behind an anchor, if there is one (own)
-abbrev pub with_anchor : Option (List ℕ) → List Name → List Name
-with_anchor None names = names
-with_anchor (Some a) names = Anchors a ∷ names
+abbrev pub anchor_names : Option (List ℕ) → List Name → List Name
+anchor_names None names = names
+anchor_names (Some a) names = Anchors a ∷ names
 
 abbrev mutual
   -- the anchors and aliases of a node in the order of the text: an anchor stands before what it names (6.9.2)
   pub names_of : Node → List Name
   names_of (alias name) = Refers name ∷ []
-  names_of (scalar a kind text) = with_anchor a []
-  names_of (list a cs) = with_anchor a (names_in cs)
-  names_of (map a cs) = with_anchor a (names_in cs)
+  names_of (scalar a kind text) = anchor_names a []
+  names_of (list a cs) = anchor_names a (names_in cs)
+  names_of (map a cs) = anchor_names a (names_in cs)
 
   -- the anchors and aliases of items or entries, in the order of the text (6.9.2)
   pub names_in : Children → List Name

@@ -31,6 +31,6 @@ IsOfText error.Memory = Unit {0}
 IsOfText (error.Fault f) = f.kind ≢ NotUtf8
 
 -- The answer, as it is seen, is what reading gives; this is of functions that need no memory (own).
-abbrev pub Reads : {X Y E : Type 0} → (X → Y) → Result X E → Option Y → Type 0
-Reads view (Ok x) read = read ≡ Some (view x)
-Reads view (Err e) read = read ≡ None
+abbrev pub ReadsAs : {X Y E : Type 0} → (X → Y) → Result X E → Option Y → Type 0
+ReadsAs view (Ok x) read = read ≡ Some (view x)
+ReadsAs view (Err e) read = read ≡ None

@@ -11,12 +11,12 @@ is_printable c =
     || (nat_le 160 c && nat_le c 55295) || (nat_le 57344 c && nat_le c 65533) || (nat_le 65536 c && nat_le c 1114111)
 
 -- U+FEFF, the byte order mark (YAML 1.2.2, section 5.2)
-abbrev pub is_mark : ℕ → Bool
-is_mark c = c == 65279
+abbrev pub is_byte_order_mark : ℕ → Bool
+is_byte_order_mark c = c == 65279
 
 -- a character that a text may hold: printable, and no byte order mark (own)
 abbrev pub is_text_char : ℕ → Bool
-is_text_char c = is_printable c && not (is_mark c)
+is_text_char c = is_printable c && not (is_byte_order_mark c)
 
 -- a byte that stands in characters of a text alone: tab, LF, CR, printable ASCII, or one of more bytes, but for 194 and 239, which begin
 -- others too (own)

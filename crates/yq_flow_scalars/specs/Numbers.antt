@@ -39,10 +39,10 @@ signed plus n = pos n
 signed minus n = neg_ℤ (pos n)
 
 -- the number that an int's digits write (10.3.2)
-abbrev pub number_of : Integer → ℤ
-number_of (decimal sign digits) = signed sign (digits_value 10 digits)
-number_of (octal digits) = pos (digits_value 8 digits)
-number_of (hexadecimal digits) = pos (digits_value 16 digits)
+abbrev pub value_of_digits : Integer → ℤ
+value_of_digits (decimal sign digits) = signed sign (digits_value 10 digits)
+value_of_digits (octal digits) = pos (digits_value 8 digits)
+value_of_digits (hexadecimal digits) = pos (digits_value 16 digits)
 
 -- the number is one of the 2 ^ 64 from -(2 ^ 63) on; `negsuc n` is -(n + 1) (own)
 abbrev pub is_i64 : ℤ → Bool

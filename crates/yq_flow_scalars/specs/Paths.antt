@@ -73,6 +73,6 @@ within g (list anchor cs) = list anchor (g cs)
 within g (map anchor cs) = map anchor (g cs)
 
 -- the node with what is at a path changed (own)
-abbrev pub change : List Step → (Node → Node) → Node → Node
-change [] f n = f n
-change (s ∷ ss) f n = within (change_child s (change ss f)) n
+abbrev pub changed_at : List Step → (Node → Node) → Node → Node
+changed_at [] f n = f n
+changed_at (s ∷ ss) f n = within (change_child s (changed_at ss f)) n

@@ -46,13 +46,13 @@ begins_deep None line = false
 begins_deep (Some n) line = nat_le n (prefix_len (λ b. b == 32) line) && not (is_marker line)
 
 -- Text behind white space and breaks stands on the line of the scalar before them, or on a further line that it may have (own).
-abbrev pub may_follow : Option ℕ → Option (List ℕ) → List ℕ → Bool
-may_follow spaces None text = true
-may_follow spaces (Some indentation) text = begins_deep spaces (indentation ++ text)
+abbrev pub plain_may_follow : Option ℕ → Option (List ℕ) → List ℕ → Bool
+plain_may_follow spaces None text = true
+plain_may_follow spaces (Some indentation) text = begins_deep spaces (indentation ++ text)
 
 -- Behind white space and breaks a plain scalar goes on with text that is no comment and doesn't end it (YAML 1.2.2, section 7.3.3).
 abbrev pub follows : Bool → Option ℕ → List ℕ → List ℕ → Bool
-follows flow spaces gap text = not (is_empty text) && not (front (λ b. b == 35) text) && not (ends_text flow text) && may_follow spaces (last_line gap) text
+follows flow spaces gap text = not (is_empty text) && not (front (λ b. b == 35) text) && not (ends_text flow text) && plain_may_follow spaces (last_line gap) text
 
 -- A plain scalar has to end here: at the end, where its text ends, or at white space or a break behind which it doesn't go on (YAML 1.2.2,
 -- section 7.3.3).

@@ -85,9 +85,9 @@ spell_break return_feed = 13 ∷ feed ∷ []
 
 -- the lines of a scalar: the last one, or one with its break and the lines behind it; `true` says that a backslash stands before the
 -- break (6.5, 7.3.1)
-pub data Lines : Type 0 where
-  last : List Char → Lines
-  line : List Char → Bool → Break → Lines → Lines
+pub data QuotedLines : Type 0 where
+  last : List Char → QuotedLines
+  line : List Char → Bool → Break → QuotedLines → QuotedLines
 
 -- how a break is written with its backslash, if there is one (7.3.1)
 abbrev pub spell_end : Bool → Break → List ℕ
@@ -95,34 +95,34 @@ spell_end true b = 92 ∷ spell_break b
 spell_end false b = spell_break b
 
 -- how lines are written (own)
-abbrev pub spell_lines : Lines → List ℕ
+abbrev pub spell_lines : QuotedLines → List ℕ
 spell_lines (last cs) = spell_chars cs
 spell_lines (line cs escaped b ls) = spell_chars cs ++ (spell_end escaped b ++ spell_lines ls)
 
 -- Lines may stand in these quotes before that rest: their characters may, a break is escaped in double quotes alone, and no line but
 -- the first begins with a document marker (7.3.1, 7.3.2, 9.1.2).
-abbrev pub AreLines : ℕ → Lines → List ℕ → Type 0
+abbrev pub AreLines : ℕ → QuotedLines → List ℕ → Type 0
 AreLines quote (last cs) rest = AreChars quote cs rest
 AreLines quote (line cs escaped b ls) rest =
     AreChars quote cs (spell_end escaped b ++ (spell_lines ls ++ rest)) × (escaped ≡ true → quote ≡ 34)
     × (is_marker (spell_lines ls ++ rest) ≡ false) × AreLines quote ls rest
 
 -- white space that stands for itself (5.5)
-abbrev pub is_blank : Char → Bool
-is_blank (itself b) = is_white b
-is_blank doubled = false
-is_blank (escape letter) = false
-is_blank (code letter digits) = false
+abbrev pub is_plain_blank : Char → Bool
+is_plain_blank (itself b) = is_white b
+is_plain_blank doubled = false
+is_plain_blank (escape letter) = false
+is_plain_blank (code letter digits) = false
 
 -- whether they are all white space (own)
 abbrev pub are_blank : List Char → Bool
 are_blank [] = true
-are_blank (c ∷ cs) = is_blank c && are_blank cs
+are_blank (c ∷ cs) = is_plain_blank c && are_blank cs
 
 -- these without the white space that they begin with (6.5)
 abbrev pub past_blanks : List Char → List Char
 past_blanks [] = []
-past_blanks (c ∷ cs) = if is_blank c then past_blanks cs else c ∷ cs
+past_blanks (c ∷ cs) = if is_plain_blank c then past_blanks cs else c ∷ cs
 
 -- these without the white space that they end with (6.5)
 abbrev pub before_blanks : List Char → List Char
@@ -135,9 +135,9 @@ pub data Gap : Type 0 where
   joined : ℕ → Gap
 
 -- the same with one blank line more (own)
-abbrev pub one_more : Gap → Gap
-one_more (folded k) = folded (suc k)
-one_more (joined k) = joined (suc k)
+abbrev pub one_blank_line_more : Gap → Gap
+one_blank_line_more (folded k) = folded (suc k)
+one_blank_line_more (joined k) = joined (suc k)
 
 -- A break alone is a space; blank lines are an LF each; a break behind a backslash is nothing (6.5, 7.3.1).
 abbrev pub gap_text : Gap → List ℕ
@@ -147,22 +147,22 @@ gap_text (joined k) = replicate k feed
 
 -- What lines behind a gap stand for: white space round breaks is left out, but for that before a backslash; a line of white space alone
 -- that isn't the last one is blank (6.5, 7.3.1).
-abbrev pub lines_text : Gap → Lines → List ℕ
+abbrev pub lines_text : Gap → QuotedLines → List ℕ
 lines_text gap (last cs) = gap_text gap ++ chars_text (past_blanks cs)
 lines_text gap (line cs true b ls) = gap_text gap ++ (chars_text (past_blanks cs) ++ lines_text (joined 0) ls)
 lines_text gap (line cs false b ls) =
-    if are_blank cs then lines_text (one_more gap) ls
+    if are_blank cs then lines_text (one_blank_line_more gap) ls
     else gap_text gap ++ (chars_text (before_blanks (past_blanks cs)) ++ lines_text (folded 0) ls)
 
 -- What the lines of a scalar stand for: the first one is blank nowhere, and what it begins with is kept (6.5, 7.3.1).
-abbrev pub content : Lines → List ℕ
-content (last cs) = chars_text cs
-content (line cs true b ls) = chars_text cs ++ lines_text (joined 0) ls
-content (line cs false b ls) = chars_text (before_blanks cs) ++ lines_text (folded 0) ls
+abbrev pub quoted_lines_content : QuotedLines → List ℕ
+quoted_lines_content (last cs) = chars_text cs
+quoted_lines_content (line cs true b ls) = chars_text cs ++ lines_text (joined 0) ls
+quoted_lines_content (line cs false b ls) = chars_text (before_blanks cs) ++ lines_text (folded 0) ls
 
 -- a scalar in these quotes (34 or 39), and the lines that it is made of: the quote that closes it is followed by no other in single quotes
 -- (7.3.1, 7.3.2)
-pub record IsQuoted (quote : ℕ) (ls : Lines) (piece rest : List ℕ) : Type 0 where
+pub record IsQuoted (quote : ℕ) (ls : QuotedLines) (piece rest : List ℕ) : Type 0 where
   pub quotes : (quote ≡ 34) ⊎ (quote ≡ 39)
   pub spelled : piece ≡ quote ∷ (spell_lines ls ++ quote ∷ [])
   pub lines : AreLines quote ls (quote ∷ rest)
@@ -170,4 +170,4 @@ pub record IsQuoted (quote : ℕ) (ls : Lines) (piece rest : List ℕ) : Type 0 
 
 -- the text is a quoted scalar, in some quotes and before some rest (own)
 abbrev pub IsQuotedText : List ℕ → Type 0
-IsQuotedText piece = (quote : ℕ) × ((ls : Lines) × ((rest : List ℕ) × IsQuoted quote ls piece rest))
+IsQuotedText piece = (quote : ℕ) × ((ls : QuotedLines) × ((rest : List ℕ) × IsQuoted quote ls piece rest))

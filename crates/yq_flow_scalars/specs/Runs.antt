@@ -15,8 +15,8 @@ is_stop Plain b = nat_le b 32 || b == 58 || is_flow_indicator b
 is_stop (Quoted quote) b = b == quote || b == 92 || is_feed b
 
 -- a byte over which a run goes (own)
-abbrev pub goes_on : Run → ℕ → Bool
-goes_on run b = not (is_stop run b)
+abbrev pub run_goes_on : Run → ℕ → Bool
+run_goes_on run b = not (is_stop run b)
 
 -- how many of sixteen lanes stand before the first one whose bit is set (own)
 abbrev pub first_set : ℕ → ℕ

@@ -2,7 +2,7 @@
 use Rattle.std.specs.Prelude.{◌≡◌, ℕ, ◌⊎◌, List, [], ◌∷◌, ◌++◌, codes, ℤ}
 use Rattle.yq_flow_scalars.specs.declared.kind.Kind.{Kind}
 use Rattle.yq_flow_scalars.specs.declared.kind.Kind.TheVariants as kinds
-use Rattle.yq_flow_scalars.specs.Numbers.{Sign, spell_sign, Integer, spell_integer, IsInteger, number_of, Number, spell_number, IsNumber}
+use Rattle.yq_flow_scalars.specs.Numbers.{Sign, spell_sign, Integer, spell_integer, IsInteger, value_of_digits, Number, spell_number, IsNumber}
 
 -- the words for null (10.3.2)
 abbrev pub null_words : List (List ℕ)
@@ -27,7 +27,7 @@ IsOneOf (word ∷ words) t = (t ≡ word) ⊎ IsOneOf words t
 
 -- the text is an int of that number (10.3.2)
 abbrev pub IsIntOf : List ℕ → ℤ → Type 0
-IsIntOf t n = (i : Integer) × (t ≡ spell_integer i) × IsInteger i × (n ≡ number_of i)
+IsIntOf t n = (i : Integer) × (t ≡ spell_integer i) × IsInteger i × (n ≡ value_of_digits i)
 
 -- the text is an int (10.3.2)
 abbrev pub IsInt : List ℕ → Type 0

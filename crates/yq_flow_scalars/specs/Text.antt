@@ -102,9 +102,9 @@ put_byte b [] = (b ∷ []) ∷ []
 put_byte b (l ∷ ls) = (b ∷ l) ∷ ls
 
 -- the lines of a text, each with its break; the last one may have none (own)
-unfoldable pub lines_of : List ℕ → List (List ℕ)
-lines_of [] = []
-lines_of (b ∷ bs) = if is_feed b then (b ∷ []) ∷ lines_of bs else put_byte b (lines_of bs)
+unfoldable pub text_lines : List ℕ → List (List ℕ)
+text_lines [] = []
+text_lines (b ∷ bs) = if is_feed b then (b ∷ []) ∷ text_lines bs else put_byte b (text_lines bs)
 
 -- pieces in order, as one text (own)
 abbrev pub joined : List (List ℕ) → List ℕ

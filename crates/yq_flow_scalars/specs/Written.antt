@@ -63,9 +63,9 @@ IsOneLine styles.Literal = ⊥
 IsOneLine styles.Folded = ⊥
 
 -- a scalar in plain, single or double style; no other style is asked of it (own)
-abbrev pub written : Style → List ℕ → List ℕ
-written styles.Plain t = t
-written styles.Single t = single t
-written styles.Double t = double t
-written styles.Literal t = t
-written styles.Folded t = t
+abbrev pub written_scalar : Style → List ℕ → List ℕ
+written_scalar styles.Plain t = t
+written_scalar styles.Single t = single t
+written_scalar styles.Double t = double t
+written_scalar styles.Literal t = t
+written_scalar styles.Folded t = t

@@ -111,7 +111,7 @@ fn first_set(bits: u64) -> usize
 #[inline(always)]
 fn lanes_len(run: Run, text: &[u8], at: usize) -> usize
     requires { at + 16 ≤ length text.now }
-    ensures { result ≡ prefix_len (spec.goes_on run) (chunk at 16 text.now) }
+    ensures { result ≡ prefix_len (spec.run_goes_on run) (chunk at 16 text.now) }
 {
     first_set(stops(run, u8x16::from_slice(&text[at..])))
 }
@@ -119,7 +119,7 @@ fn lanes_len(run: Run, text: &[u8], at: usize) -> usize
 /// How long the run in front is, in bytes, tested one by one.
 #[inline(always)]
 fn each_len(run: Run, text: &[u8]) -> usize
-    ensures value { result ≡ prefix_len (spec.goes_on run) text.now }
+    ensures value { result ≡ prefix_len (spec.run_goes_on run) text.now }
     ensures within { result ≤ length text.now }
 {
     let mut n = 0;
@@ -132,7 +132,7 @@ fn each_len(run: Run, text: &[u8]) -> usize
 /// How long the run in front is, in bytes.
 #[inline(always)]
 pub fn run_len(run: Run, text: &[u8]) -> usize
-    ensures value { result ≡ prefix_len (spec.goes_on run) text.now }
+    ensures value { result ≡ prefix_len (spec.run_goes_on run) text.now }
     ensures within { result ≤ length text.now }
 {
     let mut at = 0;

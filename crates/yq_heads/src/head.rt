@@ -2,9 +2,9 @@
 ghost use Rattle.std.specs.Prelude.{◌≡◌, IfErr, IfOk, None, length, true};
 ghost use Rattle.yq_flow_scalars.specs.Answers.{Gives, IsOfText};
 ghost use Rattle.yq_flow_scalars.specs.Quoted.{IsQuotedText};
-ghost use Rattle.yq_nodes.specs.Scalars.{is_quoted, content_of as content_text};
-ghost use Rattle.yq_nodes.specs.View.{view as node_view};
-ghost use Rattle.yq_cut.specs.View.{view as row_view};
+ghost use Rattle.yq_nodes.specs.Scalars.{is_quoted, scalar_content as content_text};
+ghost use Rattle.yq_nodes.specs.View.{inline_view as node_view};
+ghost use Rattle.yq_cut.specs.View.{row_view};
 ghost use Rattle.yq_documents.specs.FlowReading as flow;
 ghost use Rattle.yq_documents.specs.KeyReading.{EndsIn};
 ghost use Rattle.yq_lines.specs.Lines.{head_of};
@@ -46,7 +46,7 @@ pub fn is_short_plain(head: &str) -> bool
 /// The head that a node without an anchor is.
 fn node_head<'t>(alloc: Global, node: Inline<'t>) -> Result<Head<'t>, AllocError>
     ensures view { IfOk result (λ h. head_view h ≡ spec.placed_head (node_view node.entry)) }
-    ensures flow { IfOk result (λ h. head_flow h ≡ flow.kept (node_view node.entry)) }
+    ensures flow { IfOk result (λ h. head_flow h ≡ flow.alias_or_collection (node_view node.entry)) }
 {
     match node.form {
         Form::Empty => Ok(Head::Nothing),
@@ -101,7 +101,7 @@ fn read_block_head<'t>(alloc: Global, parent: i64, text: &str) -> Result<Head<'t
 /// The head of a row below a parent of this indentation, that is written so and with which the text
 /// begins, where its keys are fit. A plain scalar on one line is borrowed, and a quoted one without escapes.
 /// The text ends where the whole one does.
-#[tactic(auto, unfolding(yq_documents::specs::RowReading::head_at, yq_documents::specs::FlowReading::head_flow_at))]
+#[tactic(auto, unfolding(yq_documents::specs::RowReading::read_head, yq_documents::specs::FlowReading::head_flow_at))]
 pub fn read_head<'t>(
     alloc: Global,
     whole: &'t str,
@@ -111,7 +111,7 @@ pub fn read_head<'t>(
 ) -> Result<Head<'t>, ReadError>
     requires quoted { is_quoted head.now ≡ true → IsQuotedText head.now }
     requires ends { EndsIn whole.now text.now }
-    ensures view { Gives head_view result (spec.head_at whole.now parent head.now text.now) }
+    ensures view { Gives head_view result (spec.read_head whole.now parent head.now text.now) }
     ensures flow { IfOk result (λ h. head_flow h ≡ flow.head_flow_at whole.now parent head.now
         text.now) }
     ensures fault { IfErr result IsOfText }

@@ -11,17 +11,17 @@ use Rattle.yq_records.specs.declared.moves.Move.{Move}
 use Rattle.yq_journal.specs.Good.{journal_beside}
 use Rattle.yq_records.specs.Record.{Record}
 use Rattle.yq_records.specs.Refusals.{ErrorIs, Reports, no_way, if_moves, way_fault, squash_fault}
-use Rattle.yq_records.specs.State.{State, moved, moved_text, opened, settled, squashed}
+use Rattle.yq_records.specs.State.{State, journal_after, moved_text, with_move, settled_beside, squashed}
 use Rattle.yq_history.specs.declared.fault.Fault.{Fault}
 use Rattle.yq_history.specs.declared.fault.Fault.TheVariants as fault
 use Rattle.yq_store.specs.declared.store.FileReadError.TheVariants as read
 use Rattle.yq_history.specs.declared.direction.Direction.{Direction}
 use Rattle.yq_store.specs.FileMap.{FileMap}
 use Rattle.yq_history.specs.Effects.{Effect, refuses, writes_nothing, writes_both, from_pair, from_journal, from_settled, leads_to, goes_to, move_effect, joins_to, squash_effect, IsCutShort, Works}
-use Rattle.yq_history.specs.Faults.{is_outside, of_fault, of_journal}
+use Rattle.yq_history.specs.Faults.{is_outer_fault, of_fault, of_journal}
 use Rattle.yq_history.specs.Pair.{IsJournal}
 use Rattle.yq_history.specs.Causes.{IsFor, named}
-use Rattle.yq_history.specs.Directions.{step_of}
+use Rattle.yq_history.specs.Directions.{walk_move}
 use Rattle.yq_history.proofs.MoveLaws.{IsMove, either, fault_outside, no_way_free, on_err_map}
 use Rattle.yq_history.proofs.CutLaws.{cut_unwritten, cut_settled}
 
@@ -30,7 +30,7 @@ on_ok (Ok v) p = p
 on_ok (Err e) p = tt
 
 -- cut short by the store or by want of memory, with nothing written
-pub works_outside : (T : Type 0) (x : Effect) (f j : List ℕ) (c : FileMap) (e : Fault) → is_outside e ≡ true → Works x f j c c {T = T} (Err e)
+pub works_outside : (T : Type 0) (x : Effect) (f j : List ℕ) (c : FileMap) (e : Fault) → is_outer_fault e ≡ true → Works x f j c c {T = T} (Err e)
 works_outside T (refuses x) f j c e out = (subst (λ b. MatchBool b (Unit {0}) (IsFor (Some x) e)) (sym out) tt, refl)
 works_outside T (writes_nothing o) f j c e out = (out, refl)
 works_outside T (writes_both u started s) f j c e out = (out, inl (refl, inl refl))
@@ -39,13 +39,13 @@ works_outside T (writes_both u started s) f j c e out = (out, inl (refl, inl ref
 pub works_refused : (T : Type 0) (x : Effect) (f j : List ℕ) (c : FileMap) (e : Fault) → x ≡ refuses (named e) → Works x f j c c {T = T} (Err e)
 works_refused T x f j c e is =
     subst (λ y. Works y f j c c {T = T} (Err e)) (sym is)
-    (elim (is_outside e) as (λ b. MatchBool b (Unit {0}) (e ≡ e)) [ true ↦ tt | false ↦ refl ], refl)
+    (elim (is_outer_fault e) as (λ b. MatchBool b (Unit {0}) (e ≡ e)) [ true ↦ tt | false ↦ refl ], refl)
 
 -- What is known where an effect came about or was cut short.
 pub record IsLeft {T : Type 0} (u : List ℕ) (started z : State) (f j : List ℕ) (c d : FileMap) (r : Result T Fault) : Type 0 where
   pub text : OnOk r (get d f ≡ Some u)
   pub journal : OnOk r (IsJournal (get d j) z)
-  pub outside : IfErr r (λ e. IsTrue (is_outside e))
+  pub outside : IfErr r (λ e. IsTrue (is_outer_fault e))
   pub cut : OnErr r (IsCutShort u started z f j c d)
 
 left : (u : List ℕ) (started z : State) (f j : List ℕ) (c d : FileMap) {T : Type 0} (r : Result T Fault) → IsLeft u started z f j c d r → Works (writes_both u started z) f j c d r
@@ -59,7 +59,7 @@ works_writes x u started z f j c d r is k = subst (λ y. Works y f j c d r) (sym
 
 -- the journal alone was written, or nothing was
 journal_left : (f j : List ℕ) (c d : FileMap) (t : List ℕ) (started z : State) {T : Type 0} (r : Result T Fault) → get c f ≡ Some t → get d f ≡ get c f →
-    OnOk r (IsJournal (get d j) z) → OnErr r ((d ≡ c) ⊎ IsJournal (get d j) z) → IfErr r (λ e. IsTrue (is_outside e)) → IsLeft t started z f j c d r
+    OnOk r (IsJournal (get d j) z) → OnErr r ((d ≡ c) ⊎ IsJournal (get d j) z) → IfErr r (λ e. IsTrue (is_outer_fault e)) → IsLeft t started z f j c d r
 journal_left f j c d t started z r there same journal cut out = record {
   text = on_ok r (same ∙ there);
   journal = journal;
@@ -88,29 +88,29 @@ way_barred records at step t started z y is = elim (no_way records at step) as (
 
 named_move : (T : Type 0) (f j : List ℕ) (c : FileMap) (s : State) (t : List ℕ) (step : Move) (x : JournalError) → ErrorIs x (way_fault s.records s.at step t) → Works (move_effect step t s) f j c c {T = T} (Err (of_journal x))
 named_move T f j c s t step error.Memory names = works_outside T (move_effect step t s) f j c fault.OutOfMemory refl
-named_move T f j c s t step (error.Fault y) names = works_refused T (move_effect step t s) f j c (of_fault y) (way_barred s.records s.at step t (opened s step t) (moved s step) y names)
+named_move T f j c s t step (error.Fault y) names = works_refused T (move_effect step t s) f j c (of_fault y) (way_barred s.records s.at step t (with_move s step t) (journal_after s step) y names)
 
 -- an undo or a redo that the journal refused
 pub move_refused : (f j : List ℕ) (c : FileMap) (s : State) (t : List ℕ) (w : Direction) (step : Move) {T : Type 0} (r : Result T Fault) (e : Fault) (x : JournalError) →
-    step ≡ step_of w → r ≡ Err e → e ≡ of_journal x → ErrorIs x (way_fault s.records s.at step t) → Works (move_effect (step_of w) t s) f j c c r
+    step ≡ walk_move w → r ≡ Err e → e ≡ of_journal x → ErrorIs x (way_fault s.records s.at step t) → Works (move_effect (walk_move w) t s) f j c c r
 move_refused f j c s t w step {T = T} r e x is err of names =
-    subst (Works (move_effect (step_of w) t s) f j c c) (sym (err ∙ ap Err of))
-    (named_move T f j c s t (step_of w) x (subst (λ y. ErrorIs x (way_fault s.records s.at y t)) is names))
+    subst (Works (move_effect (walk_move w) t s) f j c c) (sym (err ∙ ap Err of))
+    (named_move T f j c s t (walk_move w) x (subst (λ y. ErrorIs x (way_fault s.records s.at y t)) is names))
 
 -- one that leaves the text equal: the journal alone was written
 pub move_equal : (f j : List ℕ) (c d : FileMap) (s : State) (t : List ℕ) (step : Move) {T : Type 0} (r : Result T Fault) →
-    get c f ≡ Some t → get d f ≡ get c f → move_effect step t s ≡ writes_both t (opened s step t) (moved s step) →
-    OnOk r (IsJournal (get d j) (moved s step)) → OnErr r ((d ≡ c) ⊎ IsJournal (get d j) (moved s step)) → IfErr r (λ e. IsTrue (is_outside e)) → Works (move_effect step t s) f j c d r
+    get c f ≡ Some t → get d f ≡ get c f → move_effect step t s ≡ writes_both t (with_move s step t) (journal_after s step) →
+    OnOk r (IsJournal (get d j) (journal_after s step)) → OnErr r ((d ≡ c) ⊎ IsJournal (get d j) (journal_after s step)) → IfErr r (λ e. IsTrue (is_outer_fault e)) → Works (move_effect step t s) f j c d r
 move_equal f j c d s t step r there same is journal cut out =
-    works_writes (move_effect step t s) t (opened s step t) (moved s step) f j c d r is
-    (journal_left f j c d t (opened s step t) (moved s step) r there same journal cut out)
+    works_writes (move_effect step t s) t (with_move s step t) (journal_after s step) f j c d r is
+    (journal_left f j c d t (with_move s step t) (journal_after s step) r there same journal cut out)
 
 -- a move in three writes
 pub works_carried : (f j : List ℕ) (c d : FileMap) (s : State) (t u : List ℕ) (step : Move) {T : Type 0} (r : Result T Fault) → IsMove c d f j s t u step r → Works (move_effect step t s) f j c d r
 works_carried f j c d s t u step {T = T} r m =
-    elim (no_way s.records s.at step) as (λ o. no_way s.records s.at step ≡ o → Works (goes_to o (moved_text s.records s.at step t) (opened s step t) (moved s step)) f j c d r) [
-      | None ↦ λ is. works_writes (leads_to (moved_text s.records s.at step t) (opened s step t) (moved s step)) u (opened s step t) (moved s step) f j c d r
-          (ap (λ o. leads_to o (opened s step t) (moved s step)) m.leads)
+    elim (no_way s.records s.at step) as (λ o. no_way s.records s.at step ≡ o → Works (goes_to o (moved_text s.records s.at step t) (with_move s step t) (journal_after s step)) f j c d r) [
+      | None ↦ λ is. works_writes (leads_to (moved_text s.records s.at step t) (with_move s step t) (journal_after s step)) u (with_move s step t) (journal_after s step) f j c d r
+          (ap (λ o. leads_to o (with_move s step t) (journal_after s step)) m.leads)
           (record { text = m.text; journal = m.beside; outside = fault_outside r (no_way s.records s.at step) is m.fault; cut = m.cut })
       | Some y ↦ λ is.
           subst (λ x. Works (refuses (named (of_fault y))) f j c x r) (sym (m.barred (λ none. none-some y (sym none ∙ is))))
@@ -119,7 +119,7 @@ works_carried f j c d s t u step {T = T} r m =
 
 -- an undo or a redo in three writes
 pub move_other : (f j : List ℕ) (c d : FileMap) (s : State) (t u : List ℕ) (w : Direction) (step : Move) {T : Type 0} (r : Result T Fault) →
-    step ≡ step_of w → IsMove c d f j s t u step r → Works (move_effect (step_of w) t s) f j c d r
+    step ≡ walk_move w → IsMove c d f j s t u step r → Works (move_effect (walk_move w) t s) f j c d r
 move_other f j c d s t u w step r is m = subst (λ x. Works (move_effect x t s) f j c d r) is (works_carried f j c d s t u step r m)
 
 -- ---- reading a pair
@@ -127,15 +127,15 @@ move_other f j c d s t u w step r is m = subst (λ x. Works (move_effect x t s) 
 module _ (file beside : Option (List ℕ)) where
   -- what goes on is refused
   abbrev pub Refused : Fault → Type 0
-  Refused e = is_outside e ≡ false → (go : List ℕ → State → Effect) → from_pair file beside go ≡ refuses (named e)
+  Refused e = is_outer_fault e ≡ false → (go : List ℕ → State → Effect) → from_pair file beside go ≡ refuses (named e)
 
   module _ (t : List ℕ) (file_is : file ≡ Some t) where
     module _ (s : State) (journal_is : journal_beside beside ≡ Some s) where
-      settling : (go : List ℕ → State → Effect) → from_pair file beside go ≡ from_settled (settled s t) t go
+      settling : (go : List ℕ → State → Effect) → from_pair file beside go ≡ from_settled (settled_beside s t) t go
       settling go = ap (λ o. from_pair o beside go) file_is ∙ ap (λ o. from_journal o t go) journal_is
 
       -- both were read, and settled
-      pub settles : (r : State) → settled s t ≡ Some r → (go : List ℕ → State → Effect) → from_pair file beside go ≡ go t r
+      pub settles : (r : State) → settled_beside s t ≡ Some r → (go : List ℕ → State → Effect) → from_pair file beside go ≡ go t r
       settles r is go = settling go ∙ ap (λ o. from_settled o t go) is
 
 -- ---- commands
@@ -146,7 +146,7 @@ pub not_opened : (file journal : Option (List ℕ)) (go : List ℕ → State →
 not_opened file journal go f j c d {T = T} r e is same why =
     subst (Works (from_pair file journal go) f j c d) (sym is)
     (subst (λ m. Works (from_pair file journal go) f j c m {T = T} (Err e)) (sym same)
-    (elim (is_outside e) as (λ b. is_outside e ≡ b → Works (from_pair file journal go) f j c c {T = T} (Err e)) [
+    (elim (is_outer_fault e) as (λ b. is_outer_fault e ≡ b → Works (from_pair file journal go) f j c c {T = T} (Err e)) [
       | true ↦ λ out. works_outside T (from_pair file journal go) f j c e out
       | false ↦ λ out. works_refused T (from_pair file journal go) f j c e (why out go)
     ] refl))
@@ -177,7 +177,7 @@ module _ (f j : List ℕ) (c : FileMap) (s : State) (t : List ℕ) (n : ℕ) whe
 
   -- of others the journal alone
   pub squash_works : (d : FileMap) {T : Type 0} (r : Result T Fault) → (n == 1) ≡ false → squash_fault s n ≡ None → get c f ≡ Some t → get d f ≡ get c f →
-      OnOk r (IsJournal (get d j) (squashed s n)) → OnErr r ((d ≡ c) ⊎ IsJournal (get d j) (squashed s n)) → IfErr r (λ e. IsTrue (is_outside e)) → Works (squash_effect n t s) f j c d r
+      OnOk r (IsJournal (get d j) (squashed s n)) → OnErr r ((d ≡ c) ⊎ IsJournal (get d j) (squashed s n)) → IfErr r (λ e. IsTrue (is_outer_fault e)) → Works (squash_effect n t s) f j c d r
   squash_works d r some free there same journal cut out =
       works_writes (squash_effect n t s) t (squashed s n) (squashed s n) f j c d r (by_count false some free)
       (journal_left f j c d t (squashed s n) (squashed s n) r there same journal cut out)
@@ -185,5 +185,5 @@ module _ (f j : List ℕ) (c : FileMap) (s : State) (t : List ℕ) (n : ℕ) whe
 -- ---- listings
 
 -- memory was refused, and nothing was written
-pub listing_cut : (f j : List ℕ) (c : FileMap) (o : List ℕ) {T : Type 0} (r : Result T Fault) (e : Fault) → r ≡ Err e → is_outside e ≡ true → Works (writes_nothing o) f j c c r
+pub listing_cut : (f j : List ℕ) (c : FileMap) (o : List ℕ) {T : Type 0} (r : Result T Fault) (e : Fault) → r ≡ Err e → is_outer_fault e ≡ true → Works (writes_nothing o) f j c c r
 listing_cut f j c o {T = T} r e is out = subst (Works (writes_nothing o) f j c c) (sym is) (works_outside T (writes_nothing o) f j c e out)

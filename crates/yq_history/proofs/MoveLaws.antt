@@ -16,20 +16,20 @@ use Rattle.yq_journal.specs.Json.{journal_text}
 use Rattle.yq_records.specs.Record.{Record}
 use Rattle.yq_journal.specs.History.{History}
 use Rattle.yq_records.specs.Refusals.{ErrorIs, no_way, if_moves, way_fault}
-use Rattle.yq_records.specs.State.{State, closed, is_text, moved, moved_text, opened, settled}
+use Rattle.yq_records.specs.State.{State, without_move, is_reached, journal_after, moved_text, with_move, settled_beside}
 use Rattle.yq_journal.proofs.GoodLaws.{describes, open_before, open_after, settled_rests, undo_fault, redo_fault}
 use Rattle.yq_journal.proofs.HistoryLaws.{move_moves}
 use Rattle.yq_history.specs.declared.fault.Fault.{Fault}
 use Rattle.yq_history.specs.Causes.{Cause, IsFor, named}
 use Rattle.yq_store.specs.FileMap.{FileMap, get_written, get_other}
 use Rattle.yq_history.specs.Effects.{IsCutShort}
-use Rattle.yq_history.specs.Faults.{is_outside, of_fault, of_journal}
+use Rattle.yq_history.specs.Faults.{is_outer_fault, of_fault, of_journal}
 use Rattle.yq_history.specs.Pair.{Arrives, GoodIn, IsJournal, PairAtRest, PairStands, Writes}
 use Rattle.yq_history.specs.Steps.{move_cause, move_next, unless_fault}
-use Rattle.yq_history.specs.Directions.{step_of}
+use Rattle.yq_history.specs.Directions.{walk_move}
 use Rattle.yq_history.specs.declared.direction.Direction.{Direction}
 
-moved_closed : (s : State) (step : Move) → (moved s step).pending ≡ None
+moved_closed : (s : State) (step : Move) → (journal_after s step).pending ≡ None
 moved_closed s (Edit r) = refl
 moved_closed s Undo = refl
 moved_closed s Redo = refl
@@ -72,23 +72,23 @@ module _ (f j : List ℕ) (apart : f ≢ j) where
 
   module _ (c e : FileMap) (s : State) (t u : List ℕ) (h : History) (step : Move) (k : PairAtRest c f j s t h) (m : moved_text s.records s.at step t ≡ Some u) where
     -- a move that leaves the text equal: the settled journal
-    pub turned : (z : State) → u ≡ t → z ≡ moved s step → Writes c e j z → PairStands e f j (after_move h step u)
-    turned z same is w = wrote_journal c e u (moved s step) (after_move h step u) (subst (λ x. get c f ≡ Some x) (sym same) k.file_is) (subst (Writes c e j) is w)
-        (describes (moved s step) u (after_move h step u) (moved_closed s step) (move_moves s h t u step k.at_rest m))
+    pub turned : (z : State) → u ≡ t → z ≡ journal_after s step → Writes c e j z → PairStands e f j (after_move h step u)
+    turned z same is w = wrote_journal c e u (journal_after s step) (after_move h step u) (subst (λ x. get c f ≡ Some x) (sym same) k.file_is) (subst (Writes c e j) is w)
+        (describes (journal_after s step) u (after_move h step u) (moved_closed s step) (move_moves s h t u step k.at_rest m))
 
     -- the first write: the journal with the move open
-    pub first_write : (z : State) → u ≢ t → z ≡ opened s step t → Writes c e j z → PairStands e f j h
-    first_write z changes is w = wrote_journal c e t (opened s step t) h k.file_is (subst (Writes c e j) is w) (open_before s h t u step k.at_rest m changes)
+    pub first_write : (z : State) → u ≢ t → z ≡ with_move s step t → Writes c e j z → PairStands e f j h
+    first_write z changes is w = wrote_journal c e t (with_move s step t) h k.file_is (subst (Writes c e j) is w) (open_before s h t u step k.at_rest m changes)
 
     -- the second: the file
-    pub second_write : (z : State) (g : FileMap) → u ≢ t → z ≡ opened s step t → Writes c e j z → g ≡ insert e f u → PairStands g f j (after_move h step u)
+    pub second_write : (z : State) (g : FileMap) → u ≢ t → z ≡ with_move s step t → Writes c e j z → g ≡ insert e f u → PairStands g f j (after_move h step u)
     second_write z g changes is w put =
-        wrote_text c e g u (opened s step t) (after_move h step u) (subst (Writes c e j) is w) put (open_after s h t u step k.at_rest m changes)
+        wrote_text c e g u (with_move s step t) (after_move h step u) (subst (Writes c e j) is w) put (open_after s h t u step k.at_rest m changes)
 
     -- the third: the journal settled
-    pub third_write : (y z : State) (g l : FileMap) → u ≢ t → y ≡ opened s step t → g ≡ insert e f u → settled y u ≡ Some z → Writes g l j z → PairStands l f j (after_move h step u)
+    pub third_write : (y z : State) (g l : FileMap) → u ≢ t → y ≡ with_move s step t → g ≡ insert e f u → settled_beside y u ≡ Some z → Writes g l j z → PairStands l f j (after_move h step u)
     third_write y z g l changes is put settles w =
-        let rests = settled_rests (opened s step t) z u (after_move h step u) (open_after s h t u step k.at_rest m changes) (sym (ap (λ x. settled x u) is) ∙ settles) in
+        let rests = settled_rests (with_move s step t) z u (after_move h step u) (open_after s h t u step k.at_rest m changes) (sym (ap (λ x. settled_beside x u) is) ∙ settles) in
         wrote_journal g l u z (after_move h step u) (ap (λ x. get x f) put ∙ get_written e f u) w (describes z u (after_move h step u) rests.1 rests.0)
 
 pub on_err : {T E P : Type 0} (r : Result T E) → P → OnErr r P
@@ -107,7 +107,7 @@ pub either : {A B C : Type 0} → A ⊎ B → (A → C) → (B → C) → C
 either (inl a) f h = f a
 either (inr b) f h = h b
 
-pub fault_inside : (f : JournalFault) → is_outside (of_fault f) ≡ false
+pub fault_inside : (f : JournalFault) → is_outer_fault (of_fault f) ≡ false
 fault_inside journal.NothingToUndo = refl
 fault_inside journal.NothingToRedo = refl
 fault_inside journal.DoesNotStand = refl
@@ -118,19 +118,19 @@ fault_inside journal.BadCount = refl
 
 module _ (c : FileMap) (f j : List ℕ) (cause : Option Cause) (h k : Option History) where
   -- cut short by the store or by want of memory
-  pub cut : {T : Type 0} (r : Result T Fault) (e : Fault) → r ≡ Err e → is_outside e ≡ true → GoodIn c f j h ⊎ GoodIn c f j k → Arrives c f j cause h k r
+  pub cut : {T : Type 0} (r : Result T Fault) (e : Fault) → r ≡ Err e → is_outer_fault e ≡ true → GoodIn c f j h ⊎ GoodIn c f j k → Arrives c f j cause h k r
   cut r e is out goods =
       subst (Arrives c f j cause h k) (sym is)
       (subst (λ b. MatchBool b (GoodIn c f j h ⊎ GoodIn c f j k) (IsFor cause e × GoodIn c f j h)) (sym out) goods)
 
   -- refused
-  pub is_refused : {T : Type 0} (r : Result T Fault) (e : Fault) → r ≡ Err e → is_outside e ≡ false → IsFor cause e → GoodIn c f j h → Arrives c f j cause h k r
+  pub is_refused : {T : Type 0} (r : Result T Fault) (e : Fault) → r ≡ Err e → is_outer_fault e ≡ false → IsFor cause e → GoodIn c f j h → Arrives c f j cause h k r
   is_refused r e is out reports good =
       subst (Arrives c f j cause h k) (sym is)
       (subst (λ b. MatchBool b (GoodIn c f j h ⊎ GoodIn c f j k) (IsFor cause e × GoodIn c f j h)) (sym out) (reports, good))
 
   -- carried out, or cut short
-  pub ends : {T : Type 0} (r : Result T Fault) → cause ≡ None → OnOk r (GoodIn c f j k) → OnErr r (GoodIn c f j h ⊎ GoodIn c f j k) → IfErr r (λ e. IsTrue (is_outside e)) → Arrives c f j cause h k r
+  pub ends : {T : Type 0} (r : Result T Fault) → cause ≡ None → OnOk r (GoodIn c f j k) → OnErr r (GoodIn c f j h ⊎ GoodIn c f j k) → IfErr r (λ e. IsTrue (is_outer_fault e)) → Arrives c f j cause h k r
   ends (Ok v) none ok err out = (none, ok)
   ends {T = T} (Err e) none ok err out = cut {T = T} (Err e) e refl out err
 
@@ -138,19 +138,19 @@ pub same_content : (c e : FileMap) (f j : List ℕ) (h : History) → e ≡ c �
 same_content c e f j h is k = subst (λ m. PairStands m f j h) (sym is) k
 
 -- an undo or a redo goes on with the history, whatever its text
-pub same_move : (h : History) (w : Direction) (u : List ℕ) → after_move h (step_of w) u ≡ after_move h (step_of w) []
+pub same_move : (h : History) (w : Direction) (u : List ℕ) → after_move h (walk_move w) u ≡ after_move h (walk_move w) []
 same_move h Direction.Undo u = refl
 same_move h Direction.Redo u = refl
 
 -- the journal refuses it where the history does
-pub move_fault_of : (s : State) (t : List ℕ) (h : History) (w : Direction) → AtRest s t h → way_fault s.records s.at (step_of w) t ≡ step_fault h (step_of w)
+pub move_fault_of : (s : State) (t : List ℕ) (h : History) (w : Direction) → AtRest s t h → way_fault s.records s.at (walk_move w) t ≡ step_fault h (walk_move w)
 move_fault_of s t h Direction.Undo k = undo_fault s t h k
 move_fault_of s t h Direction.Redo k = redo_fault s t h k
 
-outside_if : (e : Fault) → (is_outside e ≡ false → ⊥) → is_outside e ≡ true
-outside_if e h = elim (is_outside e) as (λ b. is_outside e ≡ b → b ≡ true) [ true ↦ λ _. refl | false ↦ λ is. absurd (h is) ] refl
+outside_if : (e : Fault) → (is_outer_fault e ≡ false → ⊥) → is_outer_fault e ≡ true
+outside_if e h = elim (is_outer_fault e) as (λ b. is_outer_fault e ≡ b → b ≡ true) [ true ↦ λ _. refl | false ↦ λ is. absurd (h is) ] refl
 
-pub fault_outside : {T : Type 0} (r : Result T Fault) (o : Option JournalFault) → o ≡ None → IfErr r (λ e. is_outside e ≡ false → option_map of_fault o ≡ Some e) → IfErr r (λ e. IsTrue (is_outside e))
+pub fault_outside : {T : Type 0} (r : Result T Fault) (o : Option JournalFault) → o ≡ None → IfErr r (λ e. is_outer_fault e ≡ false → option_map of_fault o ≡ Some e) → IfErr r (λ e. IsTrue (is_outer_fault e))
 fault_outside (Ok v) o none h = tt
 fault_outside (Err e) o none h = outside_if e (λ out. none-some e (sym (ap (option_map of_fault) none) ∙ h out))
 
@@ -167,9 +167,9 @@ pub record IsMove {T : Type 0} (c d : FileMap) (f j : List ℕ) (s : State) (t u
   pub ok : (h : History) → PairAtRest c f j s t h → OnOk r (PairStands d f j (after_move h step u))
   pub err : (h : History) → PairAtRest c f j s t h → OnErr r (PairStands d f j h ⊎ PairStands d f j (after_move h step u))
   pub text : OnOk r (get d f ≡ Some u)
-  pub beside : OnOk r (IsJournal (get d j) (moved s step))
-  pub cut : OnErr r (IsCutShort u (opened s step t) (moved s step) f j c d)
-  pub fault : IfErr r (λ e. is_outside e ≡ false → option_map of_fault (no_way s.records s.at step) ≡ Some e)
+  pub beside : OnOk r (IsJournal (get d j) (journal_after s step))
+  pub cut : OnErr r (IsCutShort u (with_move s step t) (journal_after s step) f j c d)
+  pub fault : IfErr r (λ e. is_outer_fault e ≡ false → option_map of_fault (no_way s.records s.at step) ≡ Some e)
   pub refused : (y : JournalFault) → no_way s.records s.at step ≡ Some y → r ≡ Err (of_fault y)
   pub barred : no_way s.records s.at step ≢ None → d ≡ c
 
@@ -177,28 +177,28 @@ pub record IsMove {T : Type 0} (c d : FileMap) (f j : List ℕ) (s : State) (t u
 module _ (f j : List ℕ) (h : History) (w : Direction) where
   -- the pair behind it
   abbrev pub MoveDone : {T : Type 0} → FileMap → Result T Fault → Type 0
-  MoveDone d r = Arrives d f j (move_cause (step_of w) (Some h)) (Some h) (move_next (step_of w) (Some h)) r
+  MoveDone d r = Arrives d f j (move_cause (walk_move w) (Some h)) (Some h) (move_next (walk_move w) (Some h)) r
 
   -- it was carried out, or cut short
-  move_ends : {T : Type 0} (d : FileMap) (r : Result T Fault) (u : List ℕ) → step_fault h (step_of w) ≡ None →
-      OnOk r (PairStands d f j (after_move h (step_of w) u)) →
-      OnErr r (PairStands d f j h ⊎ PairStands d f j (after_move h (step_of w) u)) →
-      IfErr r (λ e. IsTrue (is_outside e)) → MoveDone d r
+  move_ends : {T : Type 0} (d : FileMap) (r : Result T Fault) (u : List ℕ) → step_fault h (walk_move w) ≡ None →
+      OnOk r (PairStands d f j (after_move h (walk_move w) u)) →
+      OnErr r (PairStands d f j h ⊎ PairStands d f j (after_move h (walk_move w) u)) →
+      IfErr r (λ e. IsTrue (is_outer_fault e)) → MoveDone d r
   move_ends d r u free ok err out =
-      subst (λ x. Arrives d f j (move_cause (step_of w) (Some h)) (Some h) (Some x) r)
-      (same_move h w u ∙ ap (λ o. unless_fault o h (after_move h (step_of w) [])) (sym free))
-      (ends d f j (move_cause (step_of w) (Some h)) (Some h) (Some (after_move h (step_of w) u)) r (ap (option_map (λ y. named (of_fault y))) free) ok err out)
+      subst (λ x. Arrives d f j (move_cause (walk_move w) (Some h)) (Some h) (Some x) r)
+      (same_move h w u ∙ ap (λ o. unless_fault o h (after_move h (walk_move w) [])) (sym free))
+      (ends d f j (move_cause (walk_move w) (Some h)) (Some h) (Some (after_move h (walk_move w) u)) r (ap (option_map (λ y. named (of_fault y))) free) ok err out)
 
   -- the journal refused it
-  move_fails : {T : Type 0} (c : FileMap) (r : Result T Fault) (x : JournalError) → r ≡ Err (of_journal x) → ErrorIs x (step_fault h (step_of w)) → PairStands c f j h → MoveDone c r
-  move_fails c r error.Memory is names good = cut c f j (move_cause (step_of w) (Some h)) (Some h) (move_next (step_of w) (Some h)) r (of_journal error.Memory) is refl (inl good)
+  move_fails : {T : Type 0} (c : FileMap) (r : Result T Fault) (x : JournalError) → r ≡ Err (of_journal x) → ErrorIs x (step_fault h (walk_move w)) → PairStands c f j h → MoveDone c r
+  move_fails c r error.Memory is names good = cut c f j (move_cause (walk_move w) (Some h)) (Some h) (move_next (walk_move w) (Some h)) r (of_journal error.Memory) is refl (inl good)
   move_fails c r (error.Fault y) is names good =
-      is_refused c f j (move_cause (step_of w) (Some h)) (Some h) (move_next (step_of w) (Some h)) r (of_fault y) is (fault_inside y)
+      is_refused c f j (move_cause (walk_move w) (Some h)) (Some h) (move_next (walk_move w) (Some h)) r (of_fault y) is (fault_inside y)
       (subst (λ o. IsFor (option_map (λ z. named (of_fault z)) o) (of_fault y)) (sym names) refl) good
 
   -- from a pair at rest, by the journal's answer
-  module _ (c d : FileMap) (s : State) (t : List ℕ) (step : Move) (is : step ≡ step_of w) (k : PairAtRest c f j s t h) where
-    free_move : way_fault s.records s.at step t ≡ None → step_fault h (step_of w) ≡ None
+  module _ (c d : FileMap) (s : State) (t : List ℕ) (step : Move) (is : step ≡ walk_move w) (k : PairAtRest c f j s t h) where
+    free_move : way_fault s.records s.at step t ≡ None → step_fault h (walk_move w) ≡ None
     free_move free = sym (move_fault_of s t h w k.at_rest) ∙ ap (λ x. way_fault s.records s.at x t) (sym is) ∙ free
 
     pub refused_move : {T : Type 0} (r : Result T Fault) (e : Fault) (x : JournalError) → r ≡ Err e → e ≡ of_journal x → ErrorIs x (way_fault s.records s.at step t) → MoveDone c r
@@ -207,12 +207,12 @@ module _ (f j : List ℕ) (h : History) (w : Direction) where
         (subst (ErrorIs x) (ap (λ y. way_fault s.records s.at y t) is ∙ move_fault_of s t h w k.at_rest) names) k.stands
 
     pub equal_move : {T : Type 0} (r : Result T Fault) → way_fault s.records s.at step t ≡ None →
-        OnOk r (PairStands d f j (after_move h (step_of w) t)) →
-        OnErr r (PairStands d f j h ⊎ PairStands d f j (after_move h (step_of w) t)) →
-        IfErr r (λ e. IsTrue (is_outside e)) → MoveDone d r
+        OnOk r (PairStands d f j (after_move h (walk_move w) t)) →
+        OnErr r (PairStands d f j h ⊎ PairStands d f j (after_move h (walk_move w) t)) →
+        IfErr r (λ e. IsTrue (is_outer_fault e)) → MoveDone d r
     equal_move r free ok err out = move_ends d r t (free_move free) ok err out
 
-    pub other_move : {T : Type 0} (r : Result T Fault) (u : List ℕ) (again : Move) → again ≡ step_of w → way_fault s.records s.at step t ≡ None → IsMove c d f j s t u again r → MoveDone d r
+    pub other_move : {T : Type 0} (r : Result T Fault) (u : List ℕ) (again : Move) → again ≡ walk_move w → way_fault s.records s.at step t ≡ None → IsMove c d f j s t u again r → MoveDone d r
     other_move r u again same free m =
         move_ends d r u (free_move free)
         (subst (λ x. OnOk r (PairStands d f j (after_move h x u))) same (m.ok h k))
@@ -229,14 +229,14 @@ bytes_differ t u d = elim (bytes_eq t u) as (λ b. bytes_eq t u ≡ b → b ≡ 
 ] refl
 
 -- an open move is done beside the text to which it leads
-settles_moved : (s : State) (t u : List ℕ) (step : Move) → moved_text s.records s.at step t ≡ Some u → u ≢ t → settled (opened s step t) u ≡ Some (moved s step)
+settles_moved : (s : State) (t u : List ℕ) (step : Move) → moved_text s.records s.at step t ≡ Some u → u ≢ t → settled_beside (with_move s step t) u ≡ Some (journal_after s step)
 settles_moved s t u step m d =
-    ap (λ b. if b then Some (closed s) else if is_text (moved_text s.records s.at step t) u then Some (moved s step) else None) (bytes_differ t u (λ e. d (sym e)))
-    ∙ ap (λ o. if is_text o u then Some (moved s step) else None) m
-    ∙ ap (λ b. if b then Some (moved s step) else None) (bytes_same u)
+    ap (λ b. if b then Some (without_move s) else if is_reached (moved_text s.records s.at step t) u then Some (journal_after s step) else None) (bytes_differ t u (λ e. d (sym e)))
+    ∙ ap (λ o. if is_reached o u then Some (journal_after s step) else None) m
+    ∙ ap (λ b. if b then Some (journal_after s step) else None) (bytes_same u)
 
 -- the journal that a move leaves
 pub moved_journal : (j : List ℕ) (s : State) (t u : List ℕ) (step : Move) (y z : State) (g l : FileMap) →
-    moved_text s.records s.at step t ≡ Some u → u ≢ t → y ≡ opened s step t → settled y u ≡ Some z → Writes g l j z → IsJournal (get l j) (moved s step)
+    moved_text s.records s.at step t ≡ Some u → u ≢ t → y ≡ with_move s step t → settled_beside y u ≡ Some z → Writes g l j z → IsJournal (get l j) (journal_after s step)
 moved_journal j s t u step y z g l m changes is settles w =
-    subst (IsJournal (get l j)) (same_Some z (moved s step) (sym settles ∙ ap (λ x. settled x u) is ∙ settles_moved s t u step m changes)) (journal_written g l j z w)
+    subst (IsJournal (get l j)) (same_Some z (journal_after s step) (sym settles ∙ ap (λ x. settled_beside x u) is ∙ settles_moved s t u step m changes)) (journal_written g l j z w)

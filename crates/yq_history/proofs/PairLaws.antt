@@ -5,7 +5,7 @@ use Rattle.std.specs.FinMap.{get}
 use Rattle.std.specs.declared.alloc.Global.{Global}
 use Rattle.yq_journal.specs.Good.{Describes, journal_beside}
 use Rattle.yq_journal.specs.History.{History, text_at}
-use Rattle.yq_records.specs.State.{State, settled}
+use Rattle.yq_records.specs.State.{State, settled_beside}
 use Rattle.yq_journal.proofs.GoodLaws.{settles, settled_rests}
 use Rattle.yq_store.specs.FileMap.{FileMap}
 use Rattle.yq_history.specs.Pair.{GoodIn, Opens, PairAtRest}
@@ -26,7 +26,7 @@ module _ (c : FileMap) (f j : List ℕ) (t : List ℕ) (s : State) (file_is : ge
       (subst (λ x. Describes k.state x h) (same_Some k.text t (sym k.file_is ∙ file_is)) k.describes)
 
   -- and can be settled
-  pub settled_pair : (r : State) (h : History) → settled s t ≡ Some r → GoodIn c f j (Some h) → PairAtRest c f j r t h
+  pub settled_pair : (r : State) (h : History) → settled_beside s t ≡ Some r → GoodIn c f j (Some h) → PairAtRest c f j r t h
   settled_pair r h is good = record {
     file_is = file_is;
     at_rest = (settled_rests s r t h (reads h good) is).0;
@@ -35,7 +35,7 @@ module _ (c : FileMap) (f j : List ℕ) (t : List ℕ) (s : State) (file_is : ge
 
 -- a pair that was read and settled
 pub opens : (c e : FileMap) (f j : List ℕ) (v : Vec ℕ Global) (s r : State) (h : Option History) →
-    e ≡ c → get c f ≡ Some v.items → journal_beside (get c j) ≡ Some s → settled s v.items ≡ Some r → GoodIn c f j h → Opens e f j h (Ok (v, r))
+    e ≡ c → get c f ≡ Some v.items → journal_beside (get c j) ≡ Some s → settled_beside s v.items ≡ Some r → GoodIn c f j h → Opens e f j h (Ok (v, r))
 opens c e f j v s r None is file journal rest good = none-some v.items (sym good ∙ file)
 opens c e f j v s r (Some h) is file journal rest good =
     subst (λ m. PairAtRest m f j r v.items h) (sym is) (settled_pair c f j v.items s file journal r h rest good)

@@ -14,7 +14,7 @@ use Rattle.yq_journal.proofs.SquashLaws.{squash_fault_of, squash_one, squash_res
 use Rattle.yq_history.specs.declared.fault.Fault.{Fault}
 use Rattle.yq_history.specs.Causes.{IsFor, named}
 use Rattle.yq_store.specs.FileMap.{FileMap}
-use Rattle.yq_history.specs.Faults.{is_outside, of_fault, of_journal}
+use Rattle.yq_history.specs.Faults.{is_outer_fault, of_fault, of_journal}
 use Rattle.yq_history.specs.Pair.{Arrives, GoodIn, Opens, PairAtRest, PairStands, Writes}
 use Rattle.yq_history.specs.Steps.{squash_cause, squash_next, unless_fault}
 use Rattle.yq_history.proofs.MoveLaws.{cut, is_refused, ends, either, fault_inside, on_ok_map, on_err_map, same_content, wrote_journal}
@@ -35,9 +35,9 @@ module _ (c : FileMap) (f j : List ℕ) (h : History) (n : ℕ) (s : State) (t :
 
   -- the journal refused it
   pub squash_refused : {T : Type 0} (r : Result T Fault) (e : Fault) (x : JournalError) → r ≡ Err e → e ≡ of_journal x → Reports x (squash_fault s n) → Arrives c f j (squash_cause n (Some h)) (Some h) (squash_next n (Some h)) r
-  squash_refused r e error.Memory is of reports = cut c f j (squash_cause n (Some h)) (Some h) (squash_next n (Some h)) r e is (ap is_outside of) (inl k.stands)
+  squash_refused r e error.Memory is of reports = cut c f j (squash_cause n (Some h)) (Some h) (squash_next n (Some h)) r e is (ap is_outer_fault of) (inl k.stands)
   squash_refused r e (error.Fault y) is of reports =
-      is_refused c f j (squash_cause n (Some h)) (Some h) (squash_next n (Some h)) r e is (ap is_outside of ∙ fault_inside y)
+      is_refused c f j (squash_cause n (Some h)) (Some h) (squash_next n (Some h)) r e is (ap is_outer_fault of ∙ fault_inside y)
       (subst (λ o. IsFor (option_map (λ z. named (of_fault z)) o) e) (sym (sym same_fault ∙ reports)) of) k.stands
 
   free_squash : squash_fault s n ≡ None → squash_refusal h n ≡ None
@@ -65,7 +65,7 @@ module _ (c : FileMap) (f j : List ℕ) (h : History) (n : ℕ) (s : State) (t :
 
     -- the journal was written, or not
     pub squash_ends : {T : Type 0} (r : Result T Fault) →
-        OnOk r (Writes c d j z) → OnErr r ((d ≡ c) ⊎ Writes c d j z) → IfErr r (λ e. IsTrue (is_outside e)) → Arrives d f j (squash_cause n (Some h)) (Some h) (squash_next n (Some h)) r
+        OnOk r (Writes c d j z) → OnErr r ((d ≡ c) ⊎ Writes c d j z) → IfErr r (λ e. IsTrue (is_outer_fault e)) → Arrives d f j (squash_cause n (Some h)) (Some h) (squash_next n (Some h)) r
     squash_ends r ok err out =
         subst (λ x. Arrives d f j (squash_cause n (Some h)) (Some h) x r) (sym (next_is free))
         (ends d f j (squash_cause n (Some h)) (Some h) (Some (after_squash h n)) r (no_cause free)

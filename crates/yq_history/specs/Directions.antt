@@ -5,6 +5,6 @@ use Rattle.yq_history.specs.declared.direction.Direction.{Direction}
 use Rattle.yq_history.specs.declared.direction.Direction.TheVariants.{Undo, Redo}
 
 -- the move of a walk
-abbrev pub step_of : Direction → Move
-step_of Undo = move.Undo
-step_of Redo = move.Redo
+abbrev pub walk_move : Direction → Move
+walk_move Undo = move.Undo
+walk_move Redo = move.Redo

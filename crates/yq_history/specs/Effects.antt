@@ -5,12 +5,12 @@ use Rattle.yq_records.specs.declared.fault.JournalFault.{JournalFault}
 use Rattle.yq_records.specs.declared.moves.Move.{Move}
 use Rattle.yq_journal.specs.Good.{journal_beside}
 use Rattle.yq_records.specs.Refusals.{no_way, squash_fault}
-use Rattle.yq_records.specs.State.{State, moved, moved_text, opened, settled, squashed}
+use Rattle.yq_records.specs.State.{State, journal_after, moved_text, with_move, settled_beside, squashed}
 use Rattle.yq_history.specs.declared.fault.Fault.{Fault}
 use Rattle.yq_history.specs.declared.fault.Fault.TheVariants.{NotThere, DoesNotStand, BadJournal, Unsettled}
 use Rattle.yq_store.specs.FileMap.{FileMap}
 use Rattle.yq_history.specs.Pair.{IsJournal}
-use Rattle.yq_history.specs.Faults.{is_outside, of_fault}
+use Rattle.yq_history.specs.Faults.{is_outer_fault, of_fault}
 use Rattle.yq_history.specs.Listing.{record_lines}
 use Rattle.yq_history.specs.Causes.{Cause, IsFor, named}
 
@@ -29,7 +29,7 @@ from_settled (Some s) t go = go t s
 -- the same, from the journal as it was read; J4 where it is none
 abbrev pub from_journal : Option State → List ℕ → (List ℕ → State → Effect) → Effect
 from_journal None t go = refuses (named BadJournal)
-from_journal (Some s) t go = from_settled (settled s t) t go
+from_journal (Some s) t go = from_settled (settled_beside s t) t go
 
 -- the same, from the bytes of the file and of the journal; S1 where the file isn't there
 abbrev pub from_pair : Option (List ℕ) → Option (List ℕ) → (List ℕ → State → Effect) → Effect
@@ -52,7 +52,7 @@ goes_to None u started s = leads_to u started s
 
 -- what an undo or a redo does to a text and its settled journal
 abbrev pub move_effect : Move → List ℕ → State → Effect
-move_effect step t s = goes_to (no_way s.records s.at step) (moved_text s.records s.at step t) (opened s step t) (moved s step)
+move_effect step t s = goes_to (no_way s.records s.at step) (moved_text s.records s.at step t) (with_move s step t) (journal_after s step)
 
 -- what a squash does, by its fault: the file stays, no move is opened, and one edit stays as it is
 abbrev pub joins_to : Option JournalFault → ℕ → List ℕ → State → Effect
@@ -81,13 +81,13 @@ IsCutShort u started s file journal old new =
 
 -- the same of a move that leads from one text to another, by the journal in which it is opened
 abbrev pub IsMoveCutShort : State → Move → List ℕ → List ℕ → List ℕ → List ℕ → FileMap → FileMap → Type 0
-IsMoveCutShort s step t u file journal old new = IsCutShort u (opened s step t) (moved s step) file journal old new
+IsMoveCutShort s step t u file journal old new = IsCutShort u (with_move s step t) (journal_after s step) file journal old new
 
 -- the effect came about; where a call of the store failed or memory was refused, what writes nothing wrote nothing, and all else was cut short
 abbrev pub Works : Effect → List ℕ → List ℕ → FileMap → FileMap → {T : Type 0} → Result T Fault → Type 0
 Works (refuses x) file journal old new (Ok v) = ⊥
-Works (refuses x) file journal old new (Err e) = MatchBool (is_outside e) (Unit {0}) (IsFor (Some x) e) × (new ≡ old)
+Works (refuses x) file journal old new (Err e) = MatchBool (is_outer_fault e) (Unit {0}) (IsFor (Some x) e) × (new ≡ old)
 Works (writes_nothing o) file journal old new (Ok v) = new ≡ old
-Works (writes_nothing o) file journal old new (Err e) = IsTrue (is_outside e) × (new ≡ old)
+Works (writes_nothing o) file journal old new (Err e) = IsTrue (is_outer_fault e) × (new ≡ old)
 Works (writes_both u started s) file journal old new (Ok v) = (get new file ≡ Some u) × IsJournal (get new journal) s
-Works (writes_both u started s) file journal old new (Err e) = IsTrue (is_outside e) × IsCutShort u started s file journal old new
+Works (writes_both u started s) file journal old new (Err e) = IsTrue (is_outer_fault e) × IsCutShort u started s file journal old new

@@ -12,7 +12,7 @@ use Rattle.yq_store.specs.declared.store.FileReadError.{FileReadError}
 use Rattle.yq_store.specs.declared.store.FileReadError.TheVariants as read
 use Rattle.yq_store.specs.declared.store.FileWriteError.{FileWriteError}
 use Rattle.yq_store.specs.declared.store.FileWriteError.TheVariants as write
-use Rattle.yq_store.specs.Count.{one_more}
+use Rattle.yq_store.specs.Count.{count_plus_one}
 
 -- why a file was not read
 abbrev pub of_read : FileReadError → Fault
@@ -41,9 +41,9 @@ of_journal error.Memory = OutOfMemory
 of_journal (error.Fault f) = of_fault f
 
 -- why a text was not read as documents
-abbrev pub of_reading : ReadError → Fault
-of_reading reading.Memory = OutOfMemory
-of_reading (reading.Fault f) = Unreadable f
+abbrev pub fault_of_reading : ReadError → Fault
+fault_of_reading reading.Memory = OutOfMemory
+fault_of_reading (reading.Fault f) = Unreadable f
 
 -- a call of the store failed
 abbrev pub is_failure : Fault → Bool
@@ -57,13 +57,13 @@ is_output OutFailed = true
 is_output _ = false
 
 -- a call of the store failed, or memory was refused
-abbrev pub is_outside : Fault → Bool
-is_outside ReadFailed = true
-is_outside WriteFailed = true
-is_outside OutOfMemory = true
-is_outside _ = false
+abbrev pub is_outer_fault : Fault → Bool
+is_outer_fault ReadFailed = true
+is_outer_fault WriteFailed = true
+is_outer_fault OutOfMemory = true
+is_outer_fault _ = false
 
 -- the store's count of failures after a command
-abbrev pub counted : {T : Type 0} → Result T Fault → ℕ → ℕ
-counted (Ok v) n = n
-counted (Err e) n = if is_failure e then one_more n else n
+abbrev pub failures_after : {T : Type 0} → Result T Fault → ℕ → ℕ
+failures_after (Ok v) n = n
+failures_after (Err e) n = if is_failure e then count_plus_one n else n

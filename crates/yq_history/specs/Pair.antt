@@ -10,7 +10,7 @@ use Rattle.yq_history.specs.declared.fault.Fault.{Fault}
 use Rattle.yq_history.specs.declared.fault.Fault.TheVariants.{NotThere}
 use Rattle.yq_store.specs.FileMap.{FileMap}
 use Rattle.yq_history.specs.Causes.{Cause, IsFor}
-use Rattle.yq_history.specs.Faults.{is_outside}
+use Rattle.yq_history.specs.Faults.{is_outer_fault}
 
 -- a file and its journal are good for a history
 abbrev pub GoodIn : FileMap → List ℕ → List ℕ → Option History → Type 0
@@ -39,16 +39,16 @@ pub record PairAtRest (content : FileMap) (file journal : List ℕ) (s : State) 
 -- a text and its journal, read and settled: an error only where there is no file, or from outside
 abbrev pub Opens : FileMap → List ℕ → List ℕ → Option History → Result (Vec ℕ Global × State) Fault → Type 0
 Opens content file journal None (Ok p) = ⊥
-Opens content file journal None (Err e) = (e ≡ NotThere) ⊎ IsTrue (is_outside e)
+Opens content file journal None (Err e) = (e ≡ NotThere) ⊎ IsTrue (is_outer_fault e)
 Opens content file journal (Some h) (Ok p) = PairAtRest content file journal p.1 p.0.items h
-Opens content file journal (Some h) (Err e) = IsTrue (is_outside e)
+Opens content file journal (Some h) (Err e) = IsTrue (is_outer_fault e)
 
 -- a pair after an attempt at going from one history to another: it is good for the second; or it is refused for the cause and good for the first;
 -- or, where a call of the store failed or memory was refused, it is good for either
 abbrev pub Arrives : FileMap → List ℕ → List ℕ → Option Cause → Option History → Option History → {T : Type 0} → Result T Fault → Type 0
 Arrives content file journal cause h k (Ok v) = (cause ≡ None) × GoodIn content file journal k
 Arrives content file journal cause h k (Err e) =
-    MatchBool (is_outside e) (GoodIn content file journal h ⊎ GoodIn content file journal k) (IsFor cause e × GoodIn content file journal h)
+    MatchBool (is_outer_fault e) (GoodIn content file journal h ⊎ GoodIn content file journal k) (IsFor cause e × GoodIn content file journal h)
 
 -- the store's other names hold what they held
 abbrev pub OthersStay : FileMap → FileMap → List ℕ → List ℕ → Type 0

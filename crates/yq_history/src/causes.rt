@@ -103,9 +103,9 @@ impl From<ReadFault> for Fault {
 
 impl From<ReadError> for Fault {
     ghost use Rattle.std.specs.Prelude.{◌≡◌};
-    ghost use Rattle.yq_history.specs.Faults.{of_reading};
+    ghost use Rattle.yq_history.specs.Faults.{fault_of_reading};
 
-    ghost from_gives = { λ x e. e ≡ of_reading x };
+    ghost from_gives = { λ x e. e ≡ fault_of_reading x };
 
     fn from(error: ReadError) -> Fault {
         match error {

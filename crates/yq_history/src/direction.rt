@@ -14,12 +14,12 @@ pub enum Direction {
 impl Direction {
     ghost use Rattle.std.specs.Prelude.{◌≡◌, Some, None, IfOk, IfErr, OnOk, OnErr};
     ghost use Rattle.yq_records.specs.Refusals.{ErrorIs, move_fault};
-    ghost use Rattle.yq_records.specs.State.{moved, moved_text};
-    ghost use Rattle.yq_history.specs.Directions.{step_of};
+    ghost use Rattle.yq_records.specs.State.{journal_after, moved_text};
+    ghost use Rattle.yq_history.specs.Directions.{walk_move};
 
     /// The journal's move.
     pub fn step(self) -> Move
-        ensures { result ≡ step_of self }
+        ensures { result ≡ walk_move self }
     {
         match self {
             Direction::Undo => Move::Undo,
@@ -29,10 +29,10 @@ impl Direction {
 
     /// Makes the move at once, and gives the text that it leads to.
     pub fn make(self, journal: &mut Journal, text: &[u8]) -> Result<Vec<u8>, JournalError>
-        ensures ok { IfOk result (λ v. moved_text journal.old.records journal.old.at (step_of self)
+        ensures ok { IfOk result (λ v. moved_text journal.old.records journal.old.at (walk_move self)
             text.now ≡ Some v.items) }
-        ensures moved { OnOk result (journal.new ≡ moved journal.old (step_of self)) }
-        ensures fault { IfErr result (λ e. ErrorIs e (move_fault journal.old (step_of self) text.now)) }
+        ensures moved { OnOk result (journal.new ≡ journal_after journal.old (walk_move self)) }
+        ensures fault { IfErr result (λ e. ErrorIs e (move_fault journal.old (walk_move self) text.now)) }
         ensures err { OnErr result (journal.new ≡ journal.old) }
     {
         match self {

@@ -5,7 +5,7 @@ ghost use Rattle.yq_journal.specs.Good.{journal_beside};
 ghost use Rattle.yq_journal.specs.History.{History};
 ghost use Rattle.yq_records.specs.State.{State};
 ghost use Rattle.yq_history.specs.Effects.{Effect, from_names, refuses};
-ghost use Rattle.yq_history.specs.Faults.{is_outside, is_output, counted};
+ghost use Rattle.yq_history.specs.Faults.{is_outer_fault, is_output, failures_after};
 ghost use Rattle.yq_history.specs.Pair.{GoodIn, Opens, Writes};
 ghost use Rattle.yq_history.specs.Causes.{named};
 
@@ -20,10 +20,10 @@ fn read_journal<D: Store>(alloc: Global, store: &mut D, journal: &str) -> Result
         (map.get (D.content store.old) journal.now) ≡ Some j) }
     ensures err { IsTrue D.keeps → IfErr result (λ e. ((e ≡ Fault.BadJournal) ×
         (journal_beside (map.get (D.content store.old) journal.now) ≡ None)) ⊎ IsTrue
-        (is_outside e)) }
+        (is_outer_fault e)) }
     ensures same { IsTrue D.keeps → D.content store.new ≡ D.content store.old }
     ensures no_output { IfErr result (λ e. is_output e ≡ false) }
-    ensures count { D.failures store.new ≡ counted result (D.failures store.old) }
+    ensures count { D.failures store.new ≡ failures_after result (D.failures store.old) }
 {
     match store.read(alloc, journal) {
         Ok(bytes) => Ok(Journal::from_json(alloc, &bytes)?),
@@ -43,11 +43,11 @@ pub fn write_journal<D: Store>(
         (D.content store.new) journal.now state.now) }
     ensures err { IsTrue D.keeps → OnErr result ((D.content store.new ≡ D.content store.old)
         ⊎ Writes (D.content store.old) (D.content store.new) journal.now state.now) }
-    ensures outside { IfErr result (λ e. IsTrue (is_outside e)) }
+    ensures outside { IfErr result (λ e. IsTrue (is_outer_fault e)) }
     ensures others { IsTrue D.keeps → (q : List ℕ) → q ≢ journal.now →
         map.get (D.content store.new) q ≡ map.get (D.content store.old) q }
     ensures no_output { IfErr result (λ e. is_output e ≡ false) }
-    ensures count { D.failures store.new ≡ counted result (D.failures store.old) }
+    ensures count { D.failures store.new ≡ failures_after result (D.failures store.old) }
 {
     let bytes = state.to_json(alloc)?;
     store.replace(journal, &bytes)?;
@@ -66,7 +66,7 @@ pub fn open_pair<D: Store>(
         Opens (D.content store.new) file.now journal.now h result }
     ensures found { IsTrue D.keeps → IfOk result (λ p. (go : List ℕ → State → Effect) →
         from_names (D.content store.old) file.now journal.now go ≡ go p.0.items p.1) }
-    ensures missed { IsTrue D.keeps → IfErr result (λ e. is_outside e ≡ false →
+    ensures missed { IsTrue D.keeps → IfErr result (λ e. is_outer_fault e ≡ false →
         (go : List ℕ → State → Effect) →
         from_names (D.content store.old) file.now journal.now go ≡ refuses (named e)) }
     ensures same { IsTrue D.keeps → D.content store.new ≡ D.content store.old }
@@ -74,7 +74,7 @@ pub fn open_pair<D: Store>(
         Some p.0.items) }
     ensures at_rest { IfOk result (λ p. IsNone p.1.pending) }
     ensures no_output { IfErr result (λ e. is_output e ≡ false) }
-    ensures count { D.failures store.new ≡ counted result (D.failures store.old) }
+    ensures count { D.failures store.new ≡ failures_after result (D.failures store.old) }
 {
     let text = store.read(alloc, file)?;
     let mut state = read_journal(alloc, store, journal)?;

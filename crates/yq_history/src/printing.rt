@@ -4,7 +4,7 @@ ghost use Rattle.std.specs.String.{string_bytes};
 ghost use Rattle.json.specs.Print as json;
 ghost use Rattle.yq_journal.specs.History.{History};
 ghost use Rattle.yq_history.specs.Effects.{Works, from_names, listing_effect, printed_by};
-ghost use Rattle.yq_history.specs.Faults.{is_output, counted};
+ghost use Rattle.yq_history.specs.Faults.{is_output, failures_after};
 ghost use Rattle.yq_history.specs.Pair.{Arrives, GoodIn};
 ghost use Rattle.yq_history.specs.Listing as spec;
 ghost use Rattle.yq_history.specs.Report.{nothing, report_by, text as report_text};
@@ -89,7 +89,7 @@ pub fn listing<D: Store>(
     ensures matched { report.new.is_match ≡ true }
     ensures same { IsTrue D.keeps → D.content store.new ≡ D.content store.old }
     ensures no_output { IfErr result (λ e. is_output e ≡ false) }
-    ensures count { D.failures store.new ≡ counted result (D.failures store.old) }
+    ensures count { D.failures store.new ≡ failures_after result (D.failures store.old) }
 {
     let (_text, state) = open_pair(alloc, store, file, journal)?;
     report.text = lines_of(alloc, &state)?;

@@ -5,7 +5,7 @@ ghost use Rattle.yq_journal.specs.History.{History};
 ghost use Rattle.yq_records.specs.Refusals.{squash_fault};
 ghost use Rattle.yq_records.specs.declared.fault.JournalFault.{JournalFault};
 ghost use Rattle.yq_history.specs.Effects.{Works, from_names, squash_effect};
-ghost use Rattle.yq_history.specs.Faults.{is_outside, is_output, counted, of_fault};
+ghost use Rattle.yq_history.specs.Faults.{is_outer_fault, is_output, failures_after, of_fault};
 ghost use Rattle.yq_history.specs.Pair.{Arrives, GoodIn, PairAtRest};
 ghost use Rattle.yq_history.specs.Steps.{squash_cause, squash_next};
 
@@ -34,13 +34,13 @@ fn squash_from<D: Store>(
         (D.content store.new) result }
     ensures refused { (f : JournalFault) → squash_fault state.old n ≡ Some f →
         result ≡ Err (of_fault f) }
-    ensures kept { IsTrue D.keeps → IfErr result (λ e. is_outside e ≡ false →
+    ensures kept { IsTrue D.keeps → IfErr result (λ e. is_outer_fault e ≡ false →
         D.content store.new ≡ D.content store.old) }
     ensures one { IsTrue D.keeps → n ≡ 1 → D.content store.new ≡ D.content store.old }
     ensures others { IsTrue D.keeps → (q : List ℕ) → q ≢ journal.now →
         map.get (D.content store.new) q ≡ map.get (D.content store.old) q }
     ensures no_output { IfErr result (λ e. is_output e ≡ false) }
-    ensures count { D.failures store.new ≡ counted result (D.failures store.old) }
+    ensures count { D.failures store.new ≡ failures_after result (D.failures store.old) }
 {
     state.squash(n)?;
     if n == 1 {
@@ -64,13 +64,13 @@ pub fn squash<D: Store>(
     ensures effect { IsTrue D.keeps → file.now ≢ journal.now →
         Works (from_names (D.content store.old) file.now journal.now (squash_effect n)) file.now
         journal.now (D.content store.old) (D.content store.new) result }
-    ensures kept { IsTrue D.keeps → IfErr result (λ e. is_outside e ≡ false →
+    ensures kept { IsTrue D.keeps → IfErr result (λ e. is_outer_fault e ≡ false →
         D.content store.new ≡ D.content store.old) }
     ensures one { IsTrue D.keeps → n ≡ 1 → D.content store.new ≡ D.content store.old }
     ensures others { IsTrue D.keeps → (q : List ℕ) → q ≢ journal.now →
         map.get (D.content store.new) q ≡ map.get (D.content store.old) q }
     ensures no_output { IfErr result (λ e. is_output e ≡ false) }
-    ensures count { D.failures store.new ≡ counted result (D.failures store.old) }
+    ensures count { D.failures store.new ≡ failures_after result (D.failures store.old) }
 {
     let (_text, mut state) = open_pair(alloc, store, file, journal)?;
     squash_from(alloc, store, journal, &mut state, n)

@@ -1,10 +1,10 @@
 //! What stands behind the items of a sequence.
 ghost use Rattle.std.specs.Prelude.{◌≡◌, ◌≢◌, ◌≤◌, IfErr, IfOk, false, length};
-ghost use Rattle.yq_flow_scalars.specs.Answers.{Reads};
+ghost use Rattle.yq_flow_scalars.specs.Answers.{ReadsAs};
 ghost use Rattle.yq_flow_scalars.specs.declared.fault.FaultKind.TheVariants.{NotUtf8};
 ghost use Rattle.yq_inline.specs.Forms as spec;
 ghost use Rattle.yq_nodes.specs.Places.{bare_placed};
-ghost use Rattle.yq_nodes.specs.View.{view};
+ghost use Rattle.yq_nodes.specs.View.{inline_view};
 
 use crate::fault::flow_fault;
 use crate::pieces::{no_node, read_sep};
@@ -21,8 +21,8 @@ pub(crate) fn read_behind<'t>(
     item: &Inline<'_>,
     rest: &'t str,
 ) -> Result<&'t str, ReadFault>
-    ensures read { Reads (λ x. x.now) result (spec.behind_item (view item.now) rest.now) }
-    ensures some { IfOk result (λ x. bare_placed (view item.now) ≡ false) }
+    ensures read { ReadsAs (λ x. x.now) result (spec.after_item (inline_view item.now) rest.now) }
+    ensures some { IfOk result (λ x. bare_placed (inline_view item.now) ≡ false) }
     ensures shorter { IfOk result (λ x. length x.now ≤ length rest.now) }
     ensures fault { IfErr result (λ f. f.kind ≢ NotUtf8) }
 {

@@ -3,7 +3,7 @@ ghost use Rattle.std.specs.Prelude.{◌≡◌, ◌+◌, ◌∷◌, length, Bool,
 ghost use Rattle.yq_flow_scalars.specs.Paths.{Step};
 ghost use Rattle.yq_flow_scalars.specs.declared.style.Place.{Place};
 ghost use Rattle.yq_nodes.specs.Inline.{IsInline, IsInlineAt, inline_at};
-ghost use Rattle.yq_nodes.specs.Nodes.{IsNode, Node, node_text};
+ghost use Rattle.yq_nodes.specs.Nodes.{IsFlowNode, FlowNode, node_text};
 ghost use Rattle.yq_nodes.specs.Entries.{EntryPieces, StandsIn, placed_entry_at, entry_pieces_at, locate_entry, pieces_text};
 ghost use Rattle.yq_nodes.specs.Places.{Placed, locate};
 ghost use Rattle.yq_nodes.specs.Trees.{placed_tree, tree_of};
@@ -14,7 +14,7 @@ pub fn one_inline()
         inline_at place n depth at text ≡ Some p → IsInlineAt place n depth at text p }
     ensures again { (place : Place) (n : ℤ) (depth at : ℕ) (text : List ℕ) (p : Placed) →
         IsInlineAt place n depth at text p → inline_at place n depth at text ≡ Some p }
-    ensures one { (place : Place) (n : ℤ) (depth : ℕ) (a b : Node) (rest other : List ℕ) →
+    ensures one { (place : Place) (n : ℤ) (depth : ℕ) (a b : FlowNode) (rest other : List ℕ) →
         node_text a rest ≡ node_text b other → IsInline place n depth a rest →
         IsInline place n depth b other → (a ≡ b) × (rest ≡ other) }
 {}
@@ -22,7 +22,7 @@ pub fn one_inline()
 /// The tree of an inline node with its places is that of its pieces.
 #[tactic(auto, using(yq_nodes::proofs::TreeLaws::node_tree))]
 pub fn one_tree()
-    ensures { (total : ℕ) (node : Node) (rest : List ℕ) →
+    ensures { (total : ℕ) (node : FlowNode) (rest : List ℕ) →
         placed_tree (locate total node rest) ≡ tree_of node }
 {}
 
@@ -35,7 +35,7 @@ pub fn entry_places()
     ensures text { (steps : List Step) (x y : EntryPieces) → entry_pieces_at steps x ≡ Some y →
         StandsIn (pieces_text x) y }
     ensures node { (flow : Bool) (spaces : Option ℕ) (d : ℕ) (s : Step) (ss : List Step)
-        (x y : EntryPieces) → IsNode flow spaces d x.node x.rest →
+        (x y : EntryPieces) → IsFlowNode flow spaces d x.node x.rest →
         entry_pieces_at (s ∷ ss) x ≡ Some y →
-        (e : ℕ) × (d ≡ length (s ∷ ss) + e) × IsNode true (Some 0) e y.node y.rest }
+        (e : ℕ) × (d ≡ length (s ∷ ss) + e) × IsFlowNode true (Some 0) e y.node y.rest }
 {}

@@ -1,8 +1,8 @@
 //! The gap between two tokens, and that behind an opening bracket, read.
 ghost use Rattle.std.specs.Prelude.{◌≢◌, ◌≤◌, IfErr, IfOk, length};
-ghost use Rattle.yq_flow_scalars.specs.Answers.{Reads};
+ghost use Rattle.yq_flow_scalars.specs.Answers.{ReadsAs};
 ghost use Rattle.yq_flow_scalars.specs.declared.fault.FaultKind.TheVariants.{NotUtf8};
-ghost use Rattle.yq_inline.specs.Forms.{opened};
+ghost use Rattle.yq_inline.specs.Forms.{after_bracket};
 ghost use Rattle.yq_nodes.specs.Reading as reading;
 
 use crate::fault::fault;
@@ -11,9 +11,9 @@ use yq_flow_scalars::{FaultKind, ReadFault};
 use yq_nodes::gap_len;
 
 /// The gap in front, and what follows it.
-#[tactic(auto, unfolding(yq_nodes::specs::Reading::gap_at))]
+#[tactic(auto, unfolding(yq_nodes::specs::Reading::read_gap))]
 pub fn read_gap<'t>(whole: &str, text: &'t str) -> Result<(&'t str, &'t str), ReadFault>
-    ensures read { Reads (λ x. (x.0.now, x.1.now)) result (reading.gap_at text.now) }
+    ensures read { ReadsAs (λ x. (x.0.now, x.1.now)) result (reading.read_gap text.now) }
     ensures shorter { IfOk result (λ x. length x.1.now ≤ length text.now) }
     ensures fault { IfErr result (λ f. f.kind ≢ NotUtf8) }
 {
@@ -27,7 +27,7 @@ pub fn read_gap<'t>(whole: &str, text: &'t str) -> Result<(&'t str, &'t str), Re
 
 /// What follows an opening bracket and the gap behind it, where so many collections may be nested still.
 pub(crate) fn read_open<'t>(whole: &str, depth: usize, text: &'t str) -> Result<&'t str, ReadFault>
-    ensures read { Reads (λ x. x.now) result (opened depth text.now) }
+    ensures read { ReadsAs (λ x. x.now) result (after_bracket depth text.now) }
     ensures shorter { IfOk result (λ x. length x.now ≤ length text.now) }
     ensures room { IfOk result (λ x. 1 ≤ depth) }
     ensures fault { IfErr result (λ f. f.kind ≢ NotUtf8) }

@@ -1,6 +1,6 @@
 //! The pieces of inline nodes, read one behind the other.
 ghost use Rattle.std.specs.Prelude.{◌≡◌, ◌≢◌, ◌<◌, ◌≤◌, IfErr, IfOk, length, true};
-ghost use Rattle.yq_flow_scalars.specs.Answers.{Reads};
+ghost use Rattle.yq_flow_scalars.specs.Answers.{ReadsAs};
 ghost use Rattle.yq_flow_scalars.specs.Quoted.{IsQuotedText};
 ghost use Rattle.yq_flow_scalars.specs.declared.fault.FaultKind.TheVariants.{NotUtf8};
 ghost use Rattle.yq_nodes.specs.Nodes as nodes;
@@ -34,7 +34,7 @@ pub fn name_len(text: &[u8]) -> usize
 /// The name of an anchor or alias in front, and what follows it.
 #[tactic(auto, unfolding(yq_nodes::specs::Reading::name_at), using(yq_flow_scalars::proofs::Upto::upto_unless, yq_nodes::proofs::Bounds::name_none))]
 pub fn read_name<'t>(whole: &str, text: &'t str) -> Result<(&'t str, &'t str), ReadFault>
-    ensures read { Reads (λ x. (x.0.now, x.1.now)) result (spec.name_at text.now) }
+    ensures read { ReadsAs (λ x. (x.0.now, x.1.now)) result (spec.name_at text.now) }
     ensures shorter { IfOk result (λ x. length x.1.now ≤ length text.now) }
     ensures fault { IfErr result (λ f. f.kind ≢ NotUtf8) }
 {
@@ -92,7 +92,7 @@ fn read_quoted<'t>(
     whole: &str,
     text: &'t str,
 ) -> Result<(&'t str, &'t str), ReadFault>
-    ensures read { Reads (λ x. (x.0.now, x.1.now)) result (spec.in_quotes_at spaces text.now) }
+    ensures read { ReadsAs (λ x. (x.0.now, x.1.now)) result (spec.in_quotes_at spaces text.now) }
     ensures quoted { IfOk result (λ x. IsQuotedText x.0.now) }
     ensures fault { IfErr result (λ f. f.kind ≢ NotUtf8) }
 {
@@ -105,14 +105,14 @@ fn read_quoted<'t>(
 
 /// The scalar in front, and what follows it. A further line of it begins with so many spaces at least;
 /// without a number it has one line.
-#[tactic(auto, unfolding(yq_nodes::specs::Reading::scalar_at, yq_flow_scalars::specs::Plain::plain_at), using(yq_nodes::proofs::Bounds::plain_unquoted))]
+#[tactic(auto, unfolding(yq_nodes::specs::Reading::read_scalar, yq_flow_scalars::specs::Plain::plain_at), using(yq_nodes::proofs::Bounds::plain_unquoted))]
 pub fn read_scalar<'t>(
     flow: bool,
     spaces: Option<usize>,
     whole: &str,
     text: &'t str,
 ) -> Result<(&'t str, &'t str), ReadFault>
-    ensures read { Reads (λ x. (x.0.now, x.1.now)) result (spec.scalar_at flow spaces text.now) }
+    ensures read { ReadsAs (λ x. (x.0.now, x.1.now)) result (spec.read_scalar flow spaces text.now) }
     ensures quoted { IfOk result (λ x. scalars.is_quoted x.0.now ≡ true → IsQuotedText x.0.now) }
     ensures shorter { IfOk result (λ x. length x.1.now ≤ length text.now) }
     ensures fault { IfErr result (λ f. f.kind ≢ NotUtf8) }
@@ -128,7 +128,7 @@ pub fn read_scalar<'t>(
 
 /// What stands between an anchor and its node, and what follows it.
 fn read_apart<'t>(flow: bool, whole: &str, text: &'t str) -> Result<(&'t str, &'t str), ReadFault>
-    ensures read { Reads (λ x. (x.0.now, x.1.now)) result (spec.apart_at flow text.now) }
+    ensures read { ReadsAs (λ x. (x.0.now, x.1.now)) result (spec.apart_at flow text.now) }
     ensures shorter { IfOk result (λ x. length x.1.now ≤ length text.now) }
     ensures fault { IfErr result (λ f. f.kind ≢ NotUtf8) }
 {
@@ -146,7 +146,7 @@ pub fn read_lead<'t>(
     whole: &str,
     text: &'t str,
 ) -> Result<(&'t str, &'t str), ReadFault>
-    ensures read { Reads (λ x. (x.0.now, x.1.now)) result
+    ensures read { ReadsAs (λ x. (x.0.now, x.1.now)) result
         (spec.lead_at flow (nodes.begins_content flow) text.now) }
     ensures shorter { IfOk result (λ x. length x.1.now ≤ length text.now) }
     ensures fault { IfErr result (λ f. f.kind ≢ NotUtf8) }
@@ -162,7 +162,7 @@ pub fn read_lead<'t>(
 /// The gap behind a `:`, if a node begins behind it.
 #[tactic(auto, unfolding(yq_nodes::specs::Reading::lead_at))]
 fn read_value_lead<'t>(whole: &str, text: &'t str) -> Result<(&'t str, &'t str), ReadFault>
-    ensures read { Reads (λ x. (x.0.now, x.1.now)) result
+    ensures read { ReadsAs (λ x. (x.0.now, x.1.now)) result
         (spec.lead_at true (nodes.begins_node true) text.now) }
     ensures shorter { IfOk result (λ x. length x.1.now ≤ length text.now) }
     ensures fault { IfErr result (λ f. f.kind ≢ NotUtf8) }
@@ -183,9 +183,9 @@ fn ends_key(piece: &str, text: &[u8]) -> bool
 }
 
 /// What follows the `:` of a key; behind the mapping's `{` stood `open`.
-#[tactic(auto, unfolding(yq_nodes::specs::Reading::colon_at))]
+#[tactic(auto, unfolding(yq_nodes::specs::Reading::after_colon))]
 fn read_colon<'t>(piece: &str, whole: &str, open: &str, text: &'t str) -> Result<&'t str, ReadFault>
-    ensures read { Reads (λ x. x.now) result (spec.colon_at piece.now text.now) }
+    ensures read { ReadsAs (λ x. x.now) result (spec.after_colon piece.now text.now) }
     ensures shorter { IfOk result (λ x. length x.now < length text.now) }
     ensures fault { IfErr result (λ f. f.kind ≢ NotUtf8) }
 {
@@ -199,7 +199,7 @@ fn read_colon<'t>(piece: &str, whole: &str, open: &str, text: &'t str) -> Result
 /// `open`.
 #[tactic(auto, unfolding(yq_nodes::specs::Reading::sep_at, yq_nodes::specs::Reading::sep_behind))]
 pub fn read_sep<'t>(close: u8, whole: &str, open: &str, text: &'t str) -> Result<&'t str, ReadFault>
-    ensures read { Reads (λ x. x.now) result (reading.past_sep close text.now) }
+    ensures read { ReadsAs (λ x. x.now) result (reading.past_sep close text.now) }
     ensures shorter { IfOk result (λ x. length x.now ≤ length text.now) }
     ensures fault { IfErr result (λ f. f.kind ≢ NotUtf8) }
 {
@@ -218,9 +218,9 @@ pub fn read_sep<'t>(close: u8, whole: &str, open: &str, text: &'t str) -> Result
 
 /// A key with what quotes it, and what follows its `:` and the gap behind it; behind the mapping's `{`
 /// stood `open`.
-#[tactic(auto, unfolding(yq_nodes::specs::Reading::key_at))]
+#[tactic(auto, unfolding(yq_nodes::specs::Reading::read_flow_key))]
 pub fn read_key<'t>(whole: &str, open: &str, text: &'t str) -> Result<(&'t str, &'t str), ReadFault>
-    ensures read { Reads (λ x. (x.0.now, x.1.now)) result (reading.split_key text.now) }
+    ensures read { ReadsAs (λ x. (x.0.now, x.1.now)) result (reading.split_key text.now) }
     ensures quoted { IfOk result (λ x. scalars.is_quoted x.0.now ≡ true → IsQuotedText x.0.now) }
     ensures shorter { IfOk result (λ x. length x.1.now < length text.now) }
     ensures fault { IfErr result (λ f. f.kind ≢ NotUtf8) }

@@ -6,7 +6,7 @@ ghost use Rattle.yq_flow_scalars.specs.declared.style.Place.TheVariants.{Block, 
 ghost use Rattle.yq_nodes.specs.Inline as spec;
 ghost use Rattle.yq_nodes.specs.Places.{Placed};
 ghost use Rattle.yq_nodes.specs.Spans.{HasSpans, IsNested};
-ghost use Rattle.yq_nodes.specs.View.{view};
+ghost use Rattle.yq_nodes.specs.View.{inline_view};
 
 use crate::fault::fault;
 use crate::pieces::no_node;
@@ -25,7 +25,7 @@ fn inline_at<'t>(
     depth: usize,
 ) -> Result<Inline<'t>, ReadError>
     requires { IsCharBoundary text.now at }
-    ensures read { Gives view result (spec.inline_at place indent depth at text.now) }
+    ensures read { Gives inline_view result (spec.inline_at place indent depth at text.now) }
     ensures fault { IfErr result IsOfText }
 {
     let rest = text.split_at(at).1;
@@ -62,16 +62,16 @@ pub fn read_inline<'t>(
 ) -> Result<Inline<'t>, ReadError>
     requires { IsCharBoundary text.now at × ((place ≡ Block) ⊎ (place ≡ Flow)) }
     // The node is what reading from left to right gives.
-    ensures exact { Gives view result (spec.inline_at place indent depth at text.now) }
+    ensures exact { Gives inline_view result (spec.inline_at place indent depth at text.now) }
     // What is read is an inline node that begins there, with the places of its parts.
-    ensures found { IfOk result (λ node. spec.IsInlineAt place indent depth at text.now (view node)) }
+    ensures found { IfOk result (λ node. spec.IsInlineAt place indent depth at text.now (inline_view node)) }
     // Where one begins it is given, unless memory runs out.
     ensures only { (p : Placed) → spec.IsInlineAt place indent depth at text.now p →
-        Gives view result (Some p) }
+        Gives inline_view result (Some p) }
     // Its places lie in order, each at a character of the text or at its end.
-    ensures spans { IfOk result (λ node. HasSpans text.now (view node)) }
+    ensures spans { IfOk result (λ node. HasSpans text.now (inline_view node)) }
     // Its parts lie inside it, one behind the other, each key before its value.
-    ensures nested { IfOk result (λ node. IsNested (view node)) }
+    ensures nested { IfOk result (λ node. IsNested (inline_view node)) }
     // A fault is never that the bytes are not UTF-8.
     ensures fault { IfErr result IsOfText }
 {

@@ -5,7 +5,7 @@ ghost use Rattle.yq_flow_scalars.specs.Answers.{Gives, IsOfText};
 ghost use Rattle.yq_inline.specs.Forms.{placed_form};
 ghost use Rattle.yq_nodes.specs.Places as spec;
 ghost use Rattle.yq_nodes.specs.PlacedReading as reading;
-ghost use Rattle.yq_nodes.specs.View.{entries_end, form_view, items_end, view};
+ghost use Rattle.yq_nodes.specs.View.{entries_end, form_view, items_end, inline_view};
 
 use crate::fault::fault;
 use crate::item::read_behind;
@@ -19,7 +19,7 @@ use yq_nodes::{Form, Inline, strip};
 /// A node without an anchor between two rests of the whole text.
 fn placed_between<'t>(whole: &str, text: &str, rest: &str, form: Form<'t>) -> Inline<'t>
     requires { (length text.now ≤ length whole.now) × (length rest.now ≤ length whole.now) }
-    ensures { view result ≡ spec.placed_between (length whole.now) text.now rest.now
+    ensures { inline_view result ≡ spec.placed_between (length whole.now) text.now rest.now
         (form_view form.entry) }
 {
     let start = whole.len() - text.len();
@@ -34,21 +34,21 @@ fn placed_between<'t>(whole: &str, text: &str, rest: &str, form: Form<'t>) -> In
 
 /// Whether the node is nothing, not even an anchor.
 pub(crate) fn is_bare(node: &Inline<'_>) -> bool
-    ensures { result ≡ spec.bare_placed (view node.now) }
+    ensures { result ≡ spec.bare_placed (inline_view node.now) }
 {
     node.anchor.is_none() && matches!(node.form, Form::Empty)
 }
 
 /// Whether an anchor may stand before the node.
 fn takes_anchor(node: &Inline<'_>) -> bool
-    ensures { result ≡ reading.takes_placed (view node.now) }
+    ensures { result ≡ reading.takes_placed (inline_view node.now) }
 {
     node.anchor.is_none() && !matches!(node.form, Form::Alias(_))
 }
 
 /// Whether the node may stand behind an anchor and this gap.
 fn stands_behind(gap: &str, node: &Inline<'_>) -> bool
-    ensures { result ≡ reading.stands_behind gap.now (view node.now) }
+    ensures { result ≡ reading.stands_behind gap.now (inline_view node.now) }
 {
     (is_bare(node) || !gap.is_empty()) && takes_anchor(node)
 }
@@ -64,9 +64,9 @@ fn put_anchor<'t>(
 ) -> Result<(Inline<'t>, &'t str), ReadError>
     requires { length text.now ≤ length whole.now }
     ensures shorter { IfOk result (λ x. x.1.now ≡ rest.now) }
-    ensures read { Gives (λ x. (view x.0, x.1.now)) result
+    ensures read { Gives (λ x. (inline_view x.0, x.1.now)) result
         (reading.then_anchored (length whole.now) text.now name.now gap.now
-        (view node.entry, rest.now)) }
+        (inline_view node.entry, rest.now)) }
     ensures fault { IfErr result IsOfText }
 {
     if !stands_behind(gap, &node) {
@@ -96,7 +96,7 @@ pub fn read_node<'t>(
 ) -> Result<(Inline<'t>, &'t str), ReadError>
     requires { length text.now ≤ length whole.now }
     ensures shorter { IfOk result (λ x. length x.1.now ≤ length text.now) }
-    ensures read { Gives (λ x. (view x.0, x.1.now)) result
+    ensures read { Gives (λ x. (inline_view x.0, x.1.now)) result
         (reading.placed_node flow spaces (length whole.now) depth text.now) }
     ensures fault { IfErr result IsOfText }
 {
@@ -123,7 +123,7 @@ fn read_content<'t>(
 ) -> Result<(Inline<'t>, &'t str), ReadError>
     requires { length text.now ≤ length whole.now }
     ensures shorter { IfOk result (λ x. length x.1.now ≤ length text.now) }
-    ensures read { Gives (λ x. (view x.0, x.1.now)) result
+    ensures read { Gives (λ x. (inline_view x.0, x.1.now)) result
         (reading.placed_content flow spaces (length whole.now) depth text.now) }
     ensures fault { IfErr result IsOfText }
 {
@@ -218,7 +218,7 @@ fn read_item<'t>(
 ) -> Result<(Inline<'t>, &'t str), ReadError>
     requires { length text.now ≤ length whole.now }
     ensures shorter { IfOk result (λ x. length x.1.now < length text.now) }
-    ensures read { Gives (λ x. (view x.0, x.1.now)) result
+    ensures read { Gives (λ x. (inline_view x.0, x.1.now)) result
         (reading.placed_item (length whole.now) depth text.now) }
     ensures fault { IfErr result IsOfText }
 {
@@ -271,7 +271,7 @@ fn read_entry<'t>(
 ) -> Result<((String, Piece, Inline<'t>), &'t str), ReadError>
     requires { length text.now ≤ length whole.now }
     ensures shorter { IfOk result (λ x. length x.1.now < length text.now) }
-    ensures read { Gives (λ x. (((string_bytes x.0.0, x.0.1), view x.0.2), x.1.now)) result
+    ensures read { Gives (λ x. (((string_bytes x.0.0, x.0.1), inline_view x.0.2), x.1.now)) result
         (reading.placed_entry (length whole.now) depth text.now) }
     ensures fault { IfErr result IsOfText }
 {

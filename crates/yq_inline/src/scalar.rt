@@ -16,7 +16,7 @@ use yq_nodes::{Form, is_quoted};
 
 /// The style of a plain or quoted scalar, as it is written (YAML 1.2.2, 7.3).
 pub fn style_of(piece: &[u8]) -> Style
-    ensures value { result ≡ scalars.style_of piece.now }
+    ensures value { result ≡ scalars.scalar_style piece.now }
     ensures inline { IsOneLine result }
 {
     match piece {
@@ -27,10 +27,10 @@ pub fn style_of(piece: &[u8]) -> Style
 }
 
 /// The text that a scalar, as it is written, stands for.
-#[tactic(auto, unfolding(yq_nodes::specs::Scalars::content_of))]
+#[tactic(auto, unfolding(yq_nodes::specs::Scalars::scalar_content))]
 fn content_of(alloc: Global, piece: &str) -> Result<String, AllocError>
     requires { scalars.is_quoted piece.now ≡ true → IsQuotedText piece.now }
-    ensures { IfOk result (λ s. string_bytes s ≡ scalars.content_of piece.now) }
+    ensures { IfOk result (λ s. string_bytes s ≡ scalars.scalar_content piece.now) }
 {
     if is_quoted(piece.as_bytes()) {
         quoted_content(alloc, piece)

@@ -12,10 +12,10 @@ use Rattle.yq_records.specs.declared.fault.JournalFault.TheVariants as fault
 use Rattle.yq_records.specs.declared.moves.Move.{Move}
 use Rattle.yq_records.specs.declared.moves.Move.TheVariants.{Edit, Undo, Redo}
 use Rattle.yq_journal.specs.Good.{AtRest, Underway, DescribesPending, Describes, Rests, step_fault, after_move}
-use Rattle.yq_journal.specs.History.{History, text_behind}
+use Rattle.yq_journal.specs.History.{History, text_after_edits}
 use Rattle.yq_records.specs.Record.{Record, done, undone}
 use Rattle.yq_records.specs.Refusals.{no_way, if_moves, way_fault}
-use Rattle.yq_records.specs.State.{State, Pending, moved_text, moved, closed, opened, settled, settled_pending, is_text}
+use Rattle.yq_records.specs.State.{State, Pending, moved_text, journal_after, without_move, with_move, settled_beside, settled_pending, is_reached}
 use Rattle.yq_journal.proofs.HistoryLaws.{same_length, leads_at, move_moves}
 use Rattle.yq_records.proofs.RecordLaws.{undone_after_done}
 
@@ -34,7 +34,7 @@ pub describes : (s : State) (t : List ℕ) (h : History) → s.pending ≡ None 
 describes s t h none k = subst (λ o. DescribesPending s o t h) (sym none) k
 
 module _ (s : State) (h : History) (t u : List ℕ) (step : Move) (k : AtRest s t h) (m : moved_text s.records s.at step t ≡ Some u) (d : u ≢ t) where
-  underway : (v : List ℕ) (g : History) → ((v ≡ t) × (g ≡ h)) ⊎ ((v ≡ u) × (g ≡ after_move h step u)) → Describes (opened s step t) v g
+  underway : (v : List ℕ) (g : History) → ((v ≡ t) × (g ≡ h)) ⊎ ((v ≡ u) × (g ≡ after_move h step u)) → Describes (with_move s step t) v g
   underway v g stands = record {
     before = h;
     reports = record { leads = k.reports.leads; cursor = k.reports.cursor; within = k.reports.within };
@@ -46,14 +46,14 @@ module _ (s : State) (h : History) (t u : List ℕ) (step : Move) (k : AtRest s 
   }
 
   -- a move is opened: beside the old text the history is what it was
-  pub open_before : Describes (opened s step t) t h
+  pub open_before : Describes (with_move s step t) t h
   open_before = underway t h (inl (refl, refl))
 
   -- and beside the new text it is the one after the move
-  pub open_after : Describes (opened s step t) u (after_move h step u)
+  pub open_after : Describes (with_move s step t) u (after_move h step u)
   open_after = underway u (after_move h step u) (inr (refl, refl))
 
-pub moved_closed : (s : State) (step : Move) → (moved s step).pending ≡ None
+pub moved_closed : (s : State) (step : Move) → (journal_after s step).pending ≡ None
 moved_closed s (Edit r) = refl
 moved_closed s _ = refl
 
@@ -62,26 +62,26 @@ settles_before s p t h k is same = search (rules, bytes_same, at_rest)
 
 settles_after : (s : State) (p : Pending) (t : List ℕ) (h : History) (k : Underway s p t h) → t ≡ k.to → h ≡ after_move k.before p.step k.to → Rests (settled_pending s (Some p) t) t h
 settles_after s p t h k is same = record {
-  rest = moved s p.step;
+  rest = journal_after s p.step;
   is =
-      ap (λ b. if b then Some (closed s) else if is_text (moved_text s.records s.at p.step p.from) t then Some (moved s p.step) else None)
+      ap (λ b. if b then Some (without_move s) else if is_reached (moved_text s.records s.at p.step p.from) t then Some (journal_after s p.step) else None)
       (bytes_differ p.from t (λ e. k.changes (sym is ∙ sym e)))
-      ∙ ap (λ o. if is_text o t then Some (moved s p.step) else None) k.moves
-      ∙ ap (λ b. if b then Some (moved s p.step) else None) (ap (bytes_eq k.to) is ∙ bytes_same k.to);
-  at_rest = subst (λ g. AtRest (moved s p.step) t g) (sym same) (subst (λ u. AtRest (moved s p.step) u (after_move k.before p.step k.to)) (sym is)
+      ∙ ap (λ o. if is_reached o t then Some (journal_after s p.step) else None) k.moves
+      ∙ ap (λ b. if b then Some (journal_after s p.step) else None) (ap (bytes_eq k.to) is ∙ bytes_same k.to);
+  at_rest = subst (λ g. AtRest (journal_after s p.step) t g) (sym same) (subst (λ u. AtRest (journal_after s p.step) u (after_move k.before p.step k.to)) (sym is)
       (move_moves s k.before p.from k.to p.step (record { reports = k.reports; text = k.from }) k.moves));
-  closed = moved_closed s p.step;
+  without_move = moved_closed s p.step;
 }
 
 settles_pending : (s : State) (o : Option Pending) (t : List ℕ) (h : History) → s.pending ≡ o → DescribesPending s o t h → Rests (settled_pending s o t) t h
 settles_pending s o t h h1 h2 = search (rules, at_rest, settles_before, settles_after)
 
 -- a journal that describes a history can be settled, and then is at rest with that history
-pub settles : (s : State) (t : List ℕ) (h : History) → Describes s t h → Rests (settled s t) t h
+pub settles : (s : State) (t : List ℕ) (h : History) → Describes s t h → Rests (settled_beside s t) t h
 settles s t h d = settles_pending s s.pending t h refl d
 
 -- what settling gives is at rest with the history
-pub settled_rests : (s r : State) (t : List ℕ) (h : History) → Describes s t h → settled s t ≡ Some r → AtRest r t h × (r.pending ≡ None)
+pub settled_rests : (s r : State) (t : List ℕ) (h : History) → Describes s t h → settled_beside s t ≡ Some r → AtRest r t h × (r.pending ≡ None)
 settled_rests s r t h d is = search (rules, settles, same_Some)
 
 -- a record of the journal at a place before its end
@@ -94,22 +94,22 @@ not_zero : (n : ℕ) → 0 < n → (n == 0) ≡ false
 not_zero n h = grind (arith, nat_tests)
 
 -- what describes a history can be undone down to its first text
-undo_stands : (s : State) (h : History) (t : List ℕ) → AtRest s t h → 0 < s.at → moved_text s.records s.at Undo t ≡ Some (text_behind h.first h.later (s.at - 1))
+undo_stands : (s : State) (h : History) (t : List ℕ) → AtRest s t h → 0 < s.at → moved_text s.records s.at Undo t ≡ Some (text_after_edits h.first h.later (s.at - 1))
 undo_stands s h t k pos =
     let place : suc (s.at - 1) ≡ h.at = omega (arith, k.reports.cursor) in
     let found = get_at s.records (s.at - 1) (omega (arith, k.reports.within, k.reports.cursor, same_length h.first s.records h.later k.reports.leads)) in
-    let leads : done found.0 (text_behind h.first h.later (s.at - 1)) ≡ Some t =
-    leads_at h.first s.records h.later (s.at - 1) found.0 k.reports.leads found.1 ∙ ap (λ n. Some (text_behind h.first h.later n)) place ∙ ap Some (sym k.text) in
+    let leads : done found.0 (text_after_edits h.first h.later (s.at - 1)) ≡ Some t =
+    leads_at h.first s.records h.later (s.at - 1) found.0 k.reports.leads found.1 ∙ ap (λ n. Some (text_after_edits h.first h.later n)) place ∙ ap Some (sym k.text) in
     ap (λ b. if b then None else option_and_then (λ r. undone r t) (slice_get s.records (s.at - 1))) (not_zero s.at pos)
     ∙ ap (option_and_then (λ r. undone r t)) found.1
-    ∙ undone_after_done found.0 (text_behind h.first h.later (s.at - 1)) t leads
+    ∙ undone_after_done found.0 (text_after_edits h.first h.later (s.at - 1)) t leads
 
 -- and redone up to its last
-redo_stands : (s : State) (h : History) (t : List ℕ) → AtRest s t h → s.at < length s.records → moved_text s.records s.at Redo t ≡ Some (text_behind h.first h.later (suc s.at))
+redo_stands : (s : State) (h : History) (t : List ℕ) → AtRest s t h → s.at < length s.records → moved_text s.records s.at Redo t ≡ Some (text_after_edits h.first h.later (suc s.at))
 redo_stands s h t k fits =
     let found = get_at s.records s.at fits in
     ap (option_and_then (λ r. done r t)) found.1
-    ∙ ap (done found.0) (k.text ∙ ap (text_behind h.first h.later) (sym k.reports.cursor))
+    ∙ ap (done found.0) (k.text ∙ ap (text_after_edits h.first h.later) (sym k.reports.cursor))
     ∙ leads_at h.first s.records h.later s.at found.0 k.reports.leads found.1
 
 -- whether a move has a way is the history's to say

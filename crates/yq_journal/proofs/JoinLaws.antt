@@ -15,7 +15,7 @@ use Rattle.yq_records.specs.declared.fault.JournalFault.{JournalFault}
 use Rattle.yq_records.specs.declared.fault.JournalFault.TheVariants.{BadCount}
 use Rattle.yq_records.specs.Refusals.{Reports, count_fault}
 use Rattle.yq_records.specs.State.{last_done}
-use Rattle.yq_records.specs.Record.{Record, IsRecord, join, joined, meet}
+use Rattle.yq_records.specs.Record.{Record, IsRecord, join, records_joined, meet}
 
 -- fewer than two records meet
 pub short_meet : (rs : List Record) → length rs < 2 → meet rs ≡ true
@@ -23,7 +23,7 @@ short_meet (r ∷ q ∷ rs) h = absurd (omega arith)
 short_meet _ h = refl
 
 -- one more record is joined to those before it
-pub joined-push : (r : Record) (rs : List Record) (q : Record) → joined r (rs ++ q ∷ []) ≡ join (joined r rs) q
+pub joined-push : (r : Record) (rs : List Record) (q : Record) → records_joined r (rs ++ q ∷ []) ≡ join (records_joined r rs) q
 joined-push r [] q = refl
 joined-push r (p ∷ rs) q = joined-push (join r p) rs q
 
@@ -36,7 +36,7 @@ meet_join r p [] h = refl
 meet_join r p (q ∷ rs) h = h
 
 -- what is joined so far ends with the length with which the next record begins
-pub joined_meets : (r : Record) (rs : List Record) (i : ℕ) (q : Record) → meet (r ∷ rs) ≡ true → slice_get rs i ≡ Some q → (joined r (take i rs)).after_len ≡ q.before_len
+pub joined_meets : (r : Record) (rs : List Record) (i : ℕ) (q : Record) → meet (r ∷ rs) ≡ true → slice_get rs i ≡ Some q → (records_joined r (take i rs)).after_len ≡ q.before_len
 joined_meets r [] i q h is = cc
 joined_meets r (p ∷ rs) zero q h is = let same : p ≡ q = cc in eqb-true r.after_len p.before_len (and_parts (r.after_len == p.before_len) (meet (p ∷ rs)) h).0 ∙ ap (λ (x : Record). x.before_len) same
 joined_meets r (p ∷ rs) (suc i) q h is = joined_meets (join r p) rs i q (meet_join r p rs (and_parts (r.after_len == p.before_len) (meet (p ∷ rs)) h).1) is

@@ -13,10 +13,10 @@ use Rattle.serde_json.specs.Data.{Data, Items, Members}
 use Rattle.serde_json.specs.Read.{read}
 use Rattle.serde_json.specs.View.{view, items_of, items_view, members_view}
 use Rattle.serde_json.specs.declared.value.Value.{Value}
-use Rattle.yq_journal.specs.Json.{count_members, counts, and_more, all_of, can_move, is_sound, record_of, pending_of, state_from, state_of, journal_of, journal_object}
+use Rattle.yq_journal.specs.Json.{count_members, counts, and_more, each_of, can_move, is_sound_journal, record_of, pending_of, state_from, state_of, journal_of, journal_object}
 use Rattle.yq_records.specs.Record.{Record}
 use Rattle.yq_records.specs.Refusals.{most_records, CanMove, IsSound, way_fault}
-use Rattle.yq_records.specs.State.{Pending, State, moved_text, is_text}
+use Rattle.yq_records.specs.State.{Pending, State, moved_text, is_reached}
 
 count_members-members_view : (es : List (String Global × Value)) → count_members (members_view es) ≡ length es
 count_members-members_view [] = refl
@@ -40,24 +40,24 @@ none_of : {A : Type 0} (o : Option A) → not (is_some o) ≡ true → o ≡ Non
 none_of None h = refl
 none_of (Some x) h = cc
 
-not_reached : (o : Option (List ℕ)) (t : List ℕ) → not (is_text o t) ≡ true → o ≢ Some t
+not_reached : (o : Option (List ℕ)) (t : List ℕ) → not (is_reached o t) ≡ true → o ≢ Some t
 not_reached o t h1 = search (rules, bytes_eq-Decides)
 
 can_move-move : (rs : List Record) (at : ℕ) (p : Pending) → can_move rs at (Some p) ≡ true → CanMove rs at p.step p.from
 can_move-move rs at p h = search (rules, none_of, and_parts, not_reached)
 
 -- a journal that passes the test is sound
-pub IsSound-from_is_sound : (s : State) → is_sound s ≡ true → IsSound s
-unfolding is_sound
+pub IsSound-from_is_sound : (s : State) → is_sound_journal s ≡ true → IsSound s
+unfolding is_sound_journal
 IsSound-from_is_sound s h = search (rules, and_parts, leb-true, can_move-move)
 
 -- one more of a list that is read
-pub all_of_push : {A : Type 0} (f : Data → Option A) (vs : List Data) (d : Data) (xs : List A) (x : A) → all_of f (items_of vs) ≡ Some xs → f d ≡ Some x → all_of f (items_of (vs ++ d ∷ [])) ≡ Some (xs ++ x ∷ [])
+pub all_of_push : {A : Type 0} (f : Data → Option A) (vs : List Data) (d : Data) (xs : List A) (x : A) → each_of f (items_of vs) ≡ Some xs → f d ≡ Some x → each_of f (items_of (vs ++ d ∷ [])) ≡ Some (xs ++ x ∷ [])
 all_of_push f [] d xs x e is = ap (λ o. and_more o (Some [])) is ∙ let same : [] ≡ xs = cc in ap (λ l. Some (l ++ x ∷ [])) same
 all_of_push f (v ∷ vs) d xs x e is =
-    elim (f v) as (λ o. and_more o (all_of f (items_of vs)) ≡ Some xs → and_more o (all_of f (items_of (vs ++ d ∷ []))) ≡ Some (xs ++ x ∷ [])) [
+    elim (f v) as (λ o. and_more o (each_of f (items_of vs)) ≡ Some xs → and_more o (each_of f (items_of (vs ++ d ∷ []))) ≡ Some (xs ++ x ∷ [])) [
       | None ↦ λ n. cc
-      | Some y ↦ λ n. elim (all_of f (items_of vs)) as (λ o. all_of f (items_of vs) ≡ o → and_more (Some y) o ≡ Some xs → and_more (Some y) (all_of f (items_of (vs ++ d ∷ []))) ≡ Some (xs ++ x ∷ [])) [
+      | Some y ↦ λ n. elim (each_of f (items_of vs)) as (λ o. each_of f (items_of vs) ≡ o → and_more (Some y) o ≡ Some xs → and_more (Some y) (each_of f (items_of (vs ++ d ∷ []))) ≡ Some (xs ++ x ∷ [])) [
         | None ↦ λ q m. cc
         | Some ys ↦ λ q m. ap (and_more (Some y)) (all_of_push f vs d ys x q is) ∙ let same : y ∷ ys ≡ xs = cc in ap (λ l. Some (l ++ x ∷ [])) same
       ] refl n
@@ -66,17 +66,17 @@ all_of_push f (v ∷ vs) d xs x e is =
 -- one more value of a list that is written
 pub record Pushed {A B : Type 0} (to_data : A → Data) (data_of : B → Data) (f : Data → Option B) (vs ws : List A) (xs : List B) (i : ℕ) : Type 0 where
   pub written : map to_data ws ≡ map data_of (take (i + 1) xs)
-  pub reads_back : all_of f (items_of (map to_data ws)) ≡ Some (take (i + 1) xs)
+  pub reads_back : each_of f (items_of (map to_data ws)) ≡ Some (take (i + 1) xs)
 
 pub pushed : {A B : Type 0} (to_data : A → Data) (data_of : B → Data) (f : Data → Option B) (vs ws : List A) (v : A) (xs : List B) (i : ℕ) (x : B)
     → i < length xs → x ≡ get_or xs i x → ws ≡ vs ++ v ∷ [] → to_data v ≡ data_of x → f (to_data v) ≡ Some x
-    → map to_data vs ≡ map data_of (take i xs) → all_of f (items_of (map to_data vs)) ≡ Some (take i xs) → Pushed to_data data_of f vs ws xs i
+    → map to_data vs ≡ map data_of (take i xs) → each_of f (items_of (map to_data vs)) ≡ Some (take i xs) → Pushed to_data data_of f vs ws xs i
 pushed to_data data_of f vs ws v xs i x within is more datum reads written reads_back =
     let one : take (i + 1) xs ≡ take i xs ++ x ∷ [] = take_more xs i x within ∙ ap (λ y. take i xs ++ y ∷ []) (sym is) in
     let data_more : map to_data ws ≡ map to_data vs ++ to_data v ∷ [] = ap (map to_data) more ∙ map-append to_data vs (v ∷ []) in
     record {
       written = data_more ∙ ap₂ (λ l y. l ++ y ∷ []) written datum ∙ sym (ap (map data_of) one ∙ map-append data_of (take i xs) (x ∷ []));
-      reads_back = ap (λ l. all_of f (items_of l)) data_more ∙ all_of_push f (map to_data vs) (to_data v) (take i xs) x reads_back reads ∙ ap Some (sym one);
+      reads_back = ap (λ l. each_of f (items_of l)) data_more ∙ all_of_push f (map to_data vs) (to_data v) (take i xs) x reads_back reads ∙ ap Some (sym one);
     }
 
 pub all_taken : {B : Type 0} (o : Option (List B)) (xs : List B) (i : ℕ) → length xs ≤ i → o ≡ Some (take i xs) → o ≡ Some xs
@@ -85,7 +85,7 @@ all_taken o xs i past reads = reads ∙ ap Some (take_all i xs past)
 is_some-none : {A : Type 0} (o : Option A) → o ≡ None → not (is_some o) ≡ true
 is_some-none o e = ap (λ p. not (is_some p)) e
 
-reached_other : (o : Option (List ℕ)) (t : List ℕ) → o ≢ Some t → not (is_text o t) ≡ true
+reached_other : (o : Option (List ℕ)) (t : List ℕ) → o ≢ Some t → not (is_reached o t) ≡ true
 reached_other o t h1 = search (rules, bytes_eq-Decides)
 
 move-can_move : (rs : List Record) (at : ℕ) (o : Option Pending) → ForSome o (λ p. CanMove rs at p.step p.from) → can_move rs at o ≡ true
@@ -94,13 +94,13 @@ move-can_move rs at (Some p) h =
     both_true (is_some-none (way_fault rs at p.step p.from) (h p refl).stands) (reached_other (moved_text rs at p.step p.from) p.from (h p refl).changes)
 
 -- a sound journal passes the test
-pub is_sound-from_IsSound : (s : State) → IsSound s → is_sound s ≡ true
-unfolding is_sound
+pub is_sound-from_IsSound : (s : State) → IsSound s → is_sound_journal s ≡ true
+unfolding is_sound_journal
 is_sound-from_IsSound s h =
     both_true (both_true (le-leb (length s.records) most_records h.limit) (le-leb s.at (length s.records) h.within)) (move-can_move s.records s.at s.pending h.open_move)
 
 -- the value of a journal is read
-pub journal_reads : (s : State) (open_value : Data) (record_values : Items) → pending_of true open_value ≡ Some s.pending → all_of (record_of true) record_values ≡ Some s.records → IsSound s
+pub journal_reads : (s : State) (open_value : Data) (record_values : Items) → pending_of true open_value ≡ Some s.pending → each_of (record_of true) record_values ≡ Some s.records → IsSound s
     → journal_of (journal_object s.at open_value record_values) ≡ Some s
 unfolding journal_of state_of
 journal_reads s p rs pending records sound =
@@ -117,21 +117,21 @@ found_more found y (Some ys) = ap Some (append_assoc found (y ∷ []) ys)
 
 -- one more item of a list that is read
 pub read_more : {A : Type 0} (f : Data → Option A) (vs : List Value) (i : ℕ) (v : Value) (found : List A) (y : A) (target : Option (List A)) → i < length vs → v ≡ get_or vs i v → f (view v) ≡ Some y
-    → option_map (λ ys. found ++ ys) (all_of f (items_view (drop i vs))) ≡ target → option_map (λ ys. (found ++ y ∷ []) ++ ys) (all_of f (items_view (drop (i + 1) vs))) ≡ target
+    → option_map (λ ys. found ++ ys) (each_of f (items_view (drop i vs))) ≡ target → option_map (λ ys. (found ++ y ∷ []) ++ ys) (each_of f (items_view (drop (i + 1) vs))) ≡ target
 read_more f vs i v found y target within is reads so_far =
-    found_more found y (all_of f (items_view (drop (i + 1) vs)))
-    ∙ ap (λ o. option_map (λ ys. found ++ ys) (and_more o (all_of f (items_view (drop (i + 1) vs))))) (sym reads)
-    ∙ sym (ap (λ l. option_map (λ ys. found ++ ys) (all_of f (items_view l))) (item_left vs i v within is)) ∙ so_far
+    found_more found y (each_of f (items_view (drop (i + 1) vs)))
+    ∙ ap (λ o. option_map (λ ys. found ++ ys) (and_more o (each_of f (items_view (drop (i + 1) vs))))) (sym reads)
+    ∙ sym (ap (λ l. option_map (λ ys. found ++ ys) (each_of f (items_view l))) (item_left vs i v within is)) ∙ so_far
 
 -- an item that stands for nothing, and so the list
 pub read_none : {A : Type 0} (f : Data → Option A) (vs : List Value) (i : ℕ) (v : Value) (found : List A) (target : Option (List A)) → i < length vs → v ≡ get_or vs i v → f (view v) ≡ None
-    → option_map (λ ys. found ++ ys) (all_of f (items_view (drop i vs))) ≡ target → None ≡ target
+    → option_map (λ ys. found ++ ys) (each_of f (items_view (drop i vs))) ≡ target → None ≡ target
 read_none f vs i v found target within is reads so_far =
-    ap (λ o. option_map (λ ys. found ++ ys) (and_more o (all_of f (items_view (drop (i + 1) vs))))) (sym reads)
-    ∙ sym (ap (λ l. option_map (λ ys. found ++ ys) (all_of f (items_view l))) (item_left vs i v within is)) ∙ so_far
+    ap (λ o. option_map (λ ys. found ++ ys) (and_more o (each_of f (items_view (drop (i + 1) vs))))) (sym reads)
+    ∙ sym (ap (λ l. option_map (λ ys. found ++ ys) (each_of f (items_view l))) (item_left vs i v within is)) ∙ so_far
 
 -- all items are read
 pub read_all : {A : Type 0} (f : Data → Option A) (vs : List Value) (i : ℕ) (found : List A) (target : Option (List A)) → length vs ≤ i
-    → option_map (λ ys. found ++ ys) (all_of f (items_view (drop i vs))) ≡ target → Some found ≡ target
+    → option_map (λ ys. found ++ ys) (each_of f (items_view (drop i vs))) ≡ target → Some found ≡ target
 read_all f vs i found target past so_far =
-    ap Some (sym (append-nil found)) ∙ sym (at_drop_all (λ l. option_map (λ ys. found ++ ys) (all_of f (items_view l))) vs i past) ∙ so_far
+    ap Some (sym (append-nil found)) ∙ sym (at_drop_all (λ l. option_map (λ ys. found ++ ys) (each_of f (items_view l))) vs i past) ∙ so_far

@@ -28,8 +28,8 @@ use Rattle.serde_json.proofs.Numbers.{number_of-decimal}
 use Rattle.serde_json.proofs.Texts.{tokens_from_order, print-outline}
 use Rattle.yq_records.specs.declared.moves.Move.{Move}
 use Rattle.yq_records.specs.declared.moves.Move.TheVariants.{Edit}
-use Rattle.yq_journal.specs.Json.{all_of, bytes_data, journal_data, journal_in, journal_object, journal_of, journal_text, kind_text, list_data, move_data, move_of, open_from, open_of, pending_data, pending_of, record_data, record_of}
-use Rattle.yq_journal.specs.OpenText.{IsWritten, text_before, text_behind}
+use Rattle.yq_journal.specs.Json.{each_of, bytes_data, journal_data, journal_in, journal_object, journal_of, journal_text, kind_text, list_data, move_data, move_of, open_from, open_move_of, pending_data, pending_of, record_data, record_of}
+use Rattle.yq_journal.specs.OpenText.{IsWrittenJson, journal_text_before, journal_text_behind}
 use Rattle.yq_records.specs.Refusals.{IsSound}
 use Rattle.yq_records.specs.State.{Pending, State}
 use Rattle.yq_journal.proofs.JsonLaws.{journal_reads}
@@ -121,7 +121,7 @@ tokens_read d h =
     ap (λ ts. value_of (json.value max_depth ts)) (sym (append-nil (json_tokens (outline d)))) ∙ ap value_of (value-json_tokens (outline d) max_depth [] (within d h))
 
 -- what is known of a value's text
-pub written : (text : List ℕ) (d : Data) → text ≡ compact_text d → IsInOrder text d → has_float d ≡ false → depth d ≤ max_depth → read text ≡ Some d → IsWritten text d
+pub written : (text : List ℕ) (d : Data) → text ≡ compact_text d → IsInOrder text d → has_float d ≡ false → depth d ≤ max_depth → read text ≡ Some d → IsWrittenJson text d
 written text d is w f h r =
     let same = tokens_from_order text d w f in
     let all = json_tokens (outline d) in
@@ -158,7 +158,7 @@ object_reads n p rs h e f =
 
 open_reads : (p : Pending) → move_of true (kind_text p.step) (move_data p.step) ≡ Some p.step → decode_of standard (encode_of standard p.from) ≡ Ok p.from
     → pending_of true (pending_data (Some p)) ≡ Some (Some p)
-unfolding open_of
+unfolding open_move_of
 open_reads p m b = ap₂ (λ x y. option_map Some (open_from x (result_ok y))) m b
 
 -- what is known of the pieces of a journal's text
@@ -166,10 +166,10 @@ pub record ArePieces (s : State) (p : Pending) (held records : List ℕ) : Type 
   pub sound : IsSound s
   pub is_open : s.pending ≡ Some p
   pub fits : s.at < 2 ^ 64
-  pub held_is : IsWritten held (move_data p.step)
-  pub records_are : IsWritten records (array (list_data record_data s.records))
+  pub held_is : IsWrittenJson held (move_data p.step)
+  pub records_are : IsWrittenJson records (array (list_data record_data s.records))
   pub step_reads : move_of true (kind_text p.step) (move_data p.step) ≡ Some p.step
-  pub records_read : all_of (record_of true) (list_data record_data s.records) ≡ Some s.records
+  pub records_read : each_of (record_of true) (list_data record_data s.records) ≡ Some s.records
   pub from_reads : decode_of standard (encode_of standard p.from) ≡ Ok p.from
 
 pub reads_back : (s : State) (p : Pending) (held records : List ℕ) → ArePieces s p held records → IsUtf8 (journal_text s) → journal_in (journal_text s) ≡ Some s
@@ -193,7 +193,7 @@ pieces a e k h r v =
     (123 ∷ 34 ∷ (codes "from" ++ 34 ∷ 58 ∷ ((34 ∷ (e ++ 34 ∷ [])) ++ (44 ∷ 34 ∷ (codes "kind" ++ 34 ∷ 58 ∷ ((34 ∷ (k ++ 34 ∷ [])) ++ (44 ∷ 34 ∷ (codes "record" ++ 34 ∷ 58 ∷ (h ++ 125 ∷ [])))))))))
     ++ (44 ∷ 34 ∷ (codes "records" ++ 34 ∷ 58 ∷ (r ++ (44 ∷ 34 ∷ (codes "version" ++ 34 ∷ 58 ∷ (v ++ 125 ∷ [])))))))))))) ++ 10 ∷ []
 
-regroup : (a e k h r : List ℕ) → text_behind (((codes "{\"at\":" ++ a) ++ codes ",\"pending\":{\"from\":\"") ++ e) k h r ≡ pieces a e k h r (50 ∷ [])
+regroup : (a e k h r : List ℕ) → journal_text_behind (((codes "{\"at\":" ++ a) ++ codes ",\"pending\":{\"from\":\"") ++ e) k h r ≡ pieces a e k h r (50 ∷ [])
 regroup a e k h r = simp append_assoc
 
 kind_kept : (step : Move) → escape (kind_text step) ≡ kind_text step
@@ -202,11 +202,11 @@ kind_kept (Edit r) = refl
 kind_kept _ = refl
 
 text_of : (at : ℕ) (p : Pending) (rs : Items)
-    → text_behind (text_before at ++ escape (encode_of standard p.from)) (kind_text p.step) (compact_text (move_data p.step)) (compact_text (array rs))
+    → journal_text_behind (journal_text_before at ++ escape (encode_of standard p.from)) (kind_text p.step) (compact_text (move_data p.step)) (compact_text (array rs))
     ≡ compact_text (journal_object at (pending_data (Some p)) rs) ++ 10 ∷ []
 unfolding escape_byte
 text_of at p rs = search (rules, regroup, decimal, ap₂, kind_kept, decimal_digit)
 
 pub whole_text : (s : State) (p : Pending) (held records text : List ℕ) → ArePieces s p held records
-    → text ≡ text_behind (text_before s.at ++ escape (encode_of standard p.from)) (kind_text p.step) held records → text ≡ journal_text s
+    → text ≡ journal_text_behind (journal_text_before s.at ++ escape (encode_of standard p.from)) (kind_text p.step) held records → text ≡ journal_text s
 whole_text s p held records text k is = cc (k.held_is.text_is, k.records_are.text_is, text_of s.at p (list_data record_data s.records), k.is_open)

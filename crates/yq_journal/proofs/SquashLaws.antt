@@ -8,8 +8,8 @@ use Rattle.std.proofs.lemmas.List.{length-take-le, take-append-drop, take-take}
 use Rattle.yq_script.proofs.SpliceLaws.{all_done-append}
 use Rattle.yq_records.specs.declared.fault.JournalFault.TheVariants.{BadCount, Unsettled}
 use Rattle.yq_journal.specs.Good.{Leads, AtRest, squash_refusal}
-use Rattle.yq_journal.specs.History.{History, Revision, text_behind, text_at, latest, latest_of, after_squash}
-use Rattle.yq_records.specs.Record.{Record, done, join, joined, meet}
+use Rattle.yq_journal.specs.History.{History, Revision, text_after_edits, text_at, latest, latest_of, after_squash}
+use Rattle.yq_records.specs.Record.{Record, done, join, records_joined, meet}
 use Rattle.yq_records.specs.Refusals.{squash_fault}
 use Rattle.yq_records.specs.State.{State, joined_of, last_done, squashed}
 use Rattle.yq_records.proofs.RecordLaws.{stands_of, of_stands}
@@ -23,12 +23,12 @@ text_end : List ℕ → List Revision → List ℕ
 text_end t [] = t
 text_end t (e ∷ es) = text_end e.text es
 
-text_behind-length : (t : List ℕ) (es fs : List Revision) → text_behind t (es ++ fs) (length es) ≡ text_end t es
+text_behind-length : (t : List ℕ) (es fs : List Revision) → text_after_edits t (es ++ fs) (length es) ≡ text_end t es
 unfolding text_end
 text_behind-length t [] fs = refl
 text_behind-length t (e ∷ es) fs = text_behind-length e.text es fs
 
-text_end-take : (t : List ℕ) (es : List Revision) (n : ℕ) → n ≤ length es → text_end t (take n es) ≡ text_behind t es n
+text_end-take : (t : List ℕ) (es : List Revision) (n : ℕ) → n ≤ length es → text_end t (take n es) ≡ text_after_edits t es n
 unfolding text_end
 text_end-take t es zero h = refl
 text_end-take t [] (suc n) h = absurd (omega arith)
@@ -59,7 +59,7 @@ leads_append t (r ∷ rs) qs (e ∷ es) fs l k = (l.0, l.1, leads_append e.text 
 leads_append t _ qs _ fs l k = absurd l
 
 -- a run of records and its join lead from the one text to the other
-leads_joined : (t : List ℕ) (r : Record) (rs : List Record) (e : Revision) (es : List Revision) → Leads t (r ∷ rs) (e ∷ es) → Leads t (joined r rs ∷ []) (latest e es ∷ [])
+leads_joined : (t : List ℕ) (r : Record) (rs : List Record) (e : Revision) (es : List Revision) → Leads t (r ∷ rs) (e ∷ es) → Leads t (records_joined r rs ∷ []) (latest e es ∷ [])
 leads_joined t r [] e [] l = (l.0, l.1, tt)
 leads_joined t r (q ∷ rs) e (f ∷ es) l =
     leads_joined t (join r q) rs (record { expr = e.expr ++ codes " | " ++ f.expr; text = f.text }) es
@@ -163,7 +163,7 @@ squash_rests s t h n k some fits =
         within = omega (arith, long, ap length whole, length-append (squashed_front h n) (drop h.at h.later));
       };
       text = k.text ∙ sym (text_end-squashed_front h n within) ∙ sym (text_behind-length h.first (squashed_front h n) (drop h.at h.later))
-          ∙ ap (text_behind h.first (squashed_front h n ++ drop h.at h.later)) long ∙ ap (λ es. text_behind h.first es (h.at - n + 1)) whole;
+          ∙ ap (text_after_edits h.first (squashed_front h n ++ drop h.at h.later)) long ∙ ap (λ es. text_after_edits h.first es (h.at - n + 1)) whole;
     }
 
 one_latest : (es : List Revision) → length es ≡ 1 → latest_of es ≡ es

@@ -14,14 +14,14 @@ pub record History : Type 0 where
   pub at : ℕ
 
 -- the text behind so many edits (own)
-abbrev pub text_behind : List ℕ → List Revision → ℕ → List ℕ
-text_behind t es zero = t
-text_behind t [] (suc n) = t
-text_behind t (e ∷ es) (suc n) = text_behind e.text es n
+abbrev pub text_after_edits : List ℕ → List Revision → ℕ → List ℕ
+text_after_edits t es zero = t
+text_after_edits t [] (suc n) = t
+text_after_edits t (e ∷ es) (suc n) = text_after_edits e.text es n
 
 -- the text at the cursor (own)
 abbrev pub text_at : History → List ℕ
-text_at h = text_behind h.first h.later h.at
+text_at h = text_after_edits h.first h.later h.at
 
 -- an edit drops what is past the cursor and appends its text (own)
 abbrev pub after_edit : History → List ℕ → List ℕ → History

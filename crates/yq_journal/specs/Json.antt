@@ -13,7 +13,7 @@ use Rattle.yq_script.specs.Splice.{Splice, lengths_done}
 use Rattle.yq_records.specs.declared.moves.Move.{Move}
 use Rattle.yq_records.specs.declared.moves.Move.TheVariants.{Edit, Undo, Redo}
 use Rattle.yq_records.specs.Record.{Record, is_length}
-use Rattle.yq_records.specs.State.{Pending, State, state, moved_text, is_text}
+use Rattle.yq_records.specs.State.{Pending, State, state, moved_text, is_reached}
 use Rattle.yq_records.specs.Refusals.{most_records, way_fault}
 
 -- how many members there are (own)
@@ -49,9 +49,9 @@ and_more (Some x) None = None
 and_more (Some x) (Some xs) = Some (x ∷ xs)
 
 -- what each item of an array stands for (RFC 8259, section 5)
-abbrev pub all_of : {A : Type 0} → (Data → Option A) → Items → Option (List A)
-all_of f no_items = Some []
-all_of f (item d ds) = and_more (f d) (all_of f ds)
+abbrev pub each_of : {A : Type 0} → (Data → Option A) → Items → Option (List A)
+each_of f no_items = Some []
+each_of f (item d ds) = and_more (f d) (each_of f ds)
 
 -- ---- a splice
 
@@ -63,12 +63,12 @@ change_from (Some at) (Some old) None = None
 change_from (Some at) (Some old) (Some new) = Some (record { at = at; old = old; new = new })
 
 -- the splice that a value stands for: the keys are at, new, old (own)
-unfoldable pub change_of : Data → Option Splice
-change_of d = if has_keys 3 d then change_from (number_at (codes "at") d) (bytes_at (codes "old") d) (bytes_at (codes "new") d) else None
+unfoldable pub splice_of : Data → Option Splice
+splice_of d = if has_keys 3 d then change_from (number_at (codes "at") d) (bytes_at (codes "old") d) (bytes_at (codes "new") d) else None
 
 -- the splices that a value stands for (own)
-abbrev pub changes_of : Data → Option (List Splice)
-changes_of d = option_and_then (all_of change_of) (as_array d)
+abbrev pub splices_of : Data → Option (List Splice)
+splices_of d = option_and_then (each_of splice_of) (as_array d)
 
 -- ---- a record
 
@@ -101,13 +101,13 @@ record_keys false = 4
 -- the record that a value stands for: the keys are after_len, before_len, count (from version 2), expr, splices (own)
 unfoldable pub record_of : Bool → Data → Option Record
 record_of counted d = if has_keys (record_keys counted) d
-    then record_from (string_at (codes "expr") d) (option_and_then changes_of (get (codes "splices") d)) (number_at (codes "before_len") d)
+    then record_from (string_at (codes "expr") d) (option_and_then splices_of (get (codes "splices") d)) (number_at (codes "before_len") d)
     (number_at (codes "after_len") d) (count_at counted d)
     else None
 
 -- the records that a value stands for (own)
 abbrev pub records_of : Bool → Data → Option (List Record)
-records_of counted d = option_and_then (all_of (record_of counted)) (as_array d)
+records_of counted d = option_and_then (each_of (record_of counted)) (as_array d)
 
 -- ---- an open move
 
@@ -133,30 +133,30 @@ abbrev pub move_at : Bool → Data → Option Move
 move_at counted d = option_and_then (λ kind. option_and_then (move_of counted kind) (get (codes "record") d)) (string_at (codes "kind") d)
 
 -- the open move that a value stands for: the keys are from, kind, record (own)
-unfoldable pub open_of : Bool → Data → Option Pending
-open_of counted d = if has_keys 3 d then open_from (move_at counted d) (bytes_at (codes "from") d) else None
+unfoldable pub open_move_of : Bool → Data → Option Pending
+open_move_of counted d = if has_keys 3 d then open_from (move_at counted d) (bytes_at (codes "from") d) else None
 
 -- an open move or, for null, none (own)
 abbrev pub pending_of : Bool → Data → Option (Option Pending)
-pending_of counted d = if is_some (as_null d) then Some None else option_map Some (open_of counted d)
+pending_of counted d = if is_some (as_null d) then Some None else option_map Some (open_move_of counted d)
 
 -- ---- a journal
 
 -- whether an open move stands on its text and changes it (own)
 abbrev pub can_move : List Record → ℕ → Option Pending → Bool
 can_move records at None = true
-can_move records at (Some p) = not (is_some (way_fault records at p.step p.from)) && not (is_text (moved_text records at p.step p.from) p.from)
+can_move records at (Some p) = not (is_some (way_fault records at p.step p.from)) && not (is_reached (moved_text records at p.step p.from) p.from)
 
 -- whether a journal has no more records than it may, its cursor among them, and no open move but one that can be made (own)
-unfoldable pub is_sound : State → Bool
-is_sound s = nat_le (length s.records) most_records && nat_le s.at (length s.records) && can_move s.records s.at s.pending
+unfoldable pub is_sound_journal : State → Bool
+is_sound_journal s = nat_le (length s.records) most_records && nat_le s.at (length s.records) && can_move s.records s.at s.pending
 
 -- a journal of these parts, if it is one (own)
 abbrev pub state_from : Option ℕ → Option (Option Pending) → Option (List Record) → Option State
 state_from None pending records = None
 state_from (Some at) None records = None
 state_from (Some at) (Some p) None = None
-state_from (Some at) (Some p) (Some rs) = if is_sound (state rs at p) then Some (state rs at p) else None
+state_from (Some at) (Some p) (Some rs) = if is_sound_journal (state rs at p) then Some (state rs at p) else None
 
 -- whether the records of a version have a count: version 1 or 2 (own)
 abbrev pub has_count : ℕ → Option Bool

@@ -1,7 +1,7 @@
 //! The journal: records, a cursor, and perhaps an open move.
 ghost use Rattle.std.specs.Prelude.{◌≡◌, ◌<◌, None, Some, IfOk, IfErr, OnOk, OnErr, IsNone, length, slice_get};
 ghost use Rattle.yq_records.specs.Refusals.{ErrorIs, Reports, move_fault, no_way, push_fault, squash_fault, way_fault};
-ghost use Rattle.yq_records.specs.State.{empty_state, moved, moved_text, squashed};
+ghost use Rattle.yq_records.specs.State.{empty_state, journal_after, moved_text, squashed};
 
 use crate::squash::{join_last, replace_run};
 use crate::ways::target;
@@ -85,7 +85,7 @@ impl Journal {
     /// as want of memory only where neither is so.
     pub fn push(&mut self, added: Record) -> Result<(), (Record, JournalError)>
         ensures free { OnOk result (push_fault self.old added ≡ None) }
-        ensures ok { OnOk result (self.new ≡ moved self.old (Move.Edit added)) }
+        ensures ok { OnOk result (self.new ≡ journal_after self.old (Move.Edit added)) }
         ensures fault { IfErr result (λ e. Reports e.1 (push_fault self.old added)) }
         ensures err { IfErr result (λ e. (e.0 ≡ added) × (self.new ≡ self.old)) }
     {
@@ -108,7 +108,7 @@ impl Journal {
         ensures free { OnOk result (move_fault self.old Move.Undo text.now ≡ None) }
         ensures ok { IfOk result (λ v. moved_text self.old.records self.old.at Move.Undo text.now ≡
             Some v.items) }
-        ensures moved { OnOk result (self.new ≡ moved self.old Move.Undo) }
+        ensures moved { OnOk result (self.new ≡ journal_after self.old Move.Undo) }
         ensures fault { IfErr result (λ e. ErrorIs e (move_fault self.old Move.Undo text.now)) }
         ensures memory { IfErr result (λ e. e ≡ JournalError.Memory →
             IsNone self.old.pending × (no_way self.old.records self.old.at Move.Undo ≡ None)) }
@@ -129,7 +129,7 @@ impl Journal {
         ensures free { OnOk result (move_fault self.old Move.Redo text.now ≡ None) }
         ensures ok { IfOk result (λ v. moved_text self.old.records self.old.at Move.Redo text.now ≡
             Some v.items) }
-        ensures moved { OnOk result (self.new ≡ moved self.old Move.Redo) }
+        ensures moved { OnOk result (self.new ≡ journal_after self.old Move.Redo) }
         ensures fault { IfErr result (λ e. ErrorIs e (move_fault self.old Move.Redo text.now)) }
         ensures memory { IfErr result (λ e. e ≡ JournalError.Memory →
             IsNone self.old.pending × (no_way self.old.records self.old.at Move.Redo ≡ None)) }

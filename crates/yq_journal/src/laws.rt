@@ -4,7 +4,7 @@ ghost use Rattle.yq_journal.specs.Good.{AtRest, Describes, Rests, after_move, sq
 ghost use Rattle.yq_journal.specs.History.{History, after_squash};
 ghost use Rattle.yq_records.specs.Record.{Record, done};
 ghost use Rattle.yq_records.specs.Refusals.{squash_fault, way_fault};
-ghost use Rattle.yq_records.specs.State.{State, moved, moved_text, opened, settled, squashed};
+ghost use Rattle.yq_records.specs.State.{State, journal_after, moved_text, with_move, settled_beside, squashed};
 ghost use Rattle.yq_records.specs.declared.moves.Move.{Move};
 ghost use Rattle.yq_records.specs.declared.moves.Move.TheVariants.{Edit, Redo, Undo};
 
@@ -12,7 +12,7 @@ ghost use Rattle.yq_records.specs.declared.moves.Move.TheVariants.{Edit, Redo, U
 /// also where it leaves the text equal.
 pub fn moves_go_on()
     ensures { (s : State) (h : History) (t u : List ℕ) (step : Move) → AtRest s t h →
-        moved_text s.records s.at step t ≡ Some u → AtRest (moved s step) u (after_move h step u) }
+        moved_text s.records s.at step t ≡ Some u → AtRest (journal_after s step) u (after_move h step u) }
 {}
 
 /// With a move open that changes the text, the journal describes the history
@@ -20,17 +20,17 @@ pub fn moves_go_on()
 #[tactic(auto, using(crate::proofs::GoodLaws::open_before, crate::proofs::GoodLaws::open_after))]
 pub fn open_moves_describe()
     ensures before { (s : State) (h : History) (t u : List ℕ) (step : Move) → AtRest s t h →
-        moved_text s.records s.at step t ≡ Some u → u ≢ t → Describes (opened s step t) t h }
+        moved_text s.records s.at step t ≡ Some u → u ≢ t → Describes (with_move s step t) t h }
     ensures after { (s : State) (h : History) (t u : List ℕ) (step : Move) → AtRest s t h →
         moved_text s.records s.at step t ≡ Some u → u ≢ t →
-        Describes (opened s step t) u (after_move h step u) }
+        Describes (with_move s step t) u (after_move h step u) }
 {}
 
 /// A journal that describes a history is settled beside its text, never
 /// refused, and is then at rest with that history.
 #[tactic(auto, using(crate::proofs::GoodLaws::settles))]
 pub fn settling_rests()
-    ensures { (s : State) (t : List ℕ) (h : History) → Describes s t h → Rests (settled s t) t h }
+    ensures { (s : State) (t : List ℕ) (h : History) → Describes s t h → Rests (settled_beside s t) t h }
 {}
 
 /// A move of a journal at rest is refused exactly where its history refuses

@@ -22,7 +22,7 @@ use yq_records::{Move, Record};
 fn value_text(alloc: Global, value: &Value) -> Result<String, AllocError>
     requires float { has_float (view value.now) ≡ false }
     requires shallow { depth (view value.now) ≤ max_depth }
-    ensures { IfOk result (λ s. spec.IsWritten (string_bytes s) (view value.now)) }
+    ensures { IfOk result (λ s. spec.IsWrittenJson (string_bytes s) (view value.now)) }
 {
     let text = value.to_string(alloc)?;
     Ok(text)
@@ -30,7 +30,7 @@ fn value_text(alloc: Global, value: &Value) -> Result<String, AllocError>
 
 /// The text of the record of a move, of null where it has none.
 fn move_text(alloc: Global, step: &Move) -> Result<String, AllocError>
-    ensures written { IfOk result (λ s. spec.IsWritten (string_bytes s) (json.move_data step.now)) }
+    ensures written { IfOk result (λ s. spec.IsWrittenJson (string_bytes s) (json.move_data step.now)) }
     ensures reads_back { IfOk result (λ _. json.move_of true (json.kind_text step.now)
         (json.move_data step.now) ≡ Some step.now) }
 {
@@ -42,7 +42,7 @@ fn move_text(alloc: Global, step: &Move) -> Result<String, AllocError>
 fn records_value(alloc: Global, records: &[Record]) -> Result<Value, AllocError>
     ensures written { IfOk result (λ v. view v ≡
         array (json.list_data json.record_data records.now)) }
-    ensures reads_back { IfOk result (λ _. json.all_of (json.record_of true)
+    ensures reads_back { IfOk result (λ _. json.each_of (json.record_of true)
         (json.list_data json.record_data records.now) ≡ Some records.now) }
 {
     let values = record_values(alloc, records)?;
@@ -51,9 +51,9 @@ fn records_value(alloc: Global, records: &[Record]) -> Result<Value, AllocError>
 
 /// The text of records.
 fn records_text(alloc: Global, records: &[Record]) -> Result<String, AllocError>
-    ensures written { IfOk result (λ s. spec.IsWritten (string_bytes s)
+    ensures written { IfOk result (λ s. spec.IsWrittenJson (string_bytes s)
         (array (json.list_data json.record_data records.now))) }
-    ensures reads_back { IfOk result (λ _. json.all_of (json.record_of true)
+    ensures reads_back { IfOk result (λ _. json.each_of (json.record_of true)
         (json.list_data json.record_data records.now) ≡ Some records.now) }
 {
     let values = records_value(alloc, records)?;
@@ -62,7 +62,7 @@ fn records_text(alloc: Global, records: &[Record]) -> Result<String, AllocError>
 
 /// The text up to the base64 of an open move's text, with room for so many bytes.
 fn text_before(alloc: Global, at: usize, room: usize) -> Result<String, AllocError>
-    ensures { IfOk result (λ s. string_bytes s ≡ spec.text_before at) }
+    ensures { IfOk result (λ s. string_bytes s ≡ spec.journal_text_before at) }
 {
     let number = at.to_string(alloc)?;
     let mut text = String::with_capacity(alloc, room)?;
@@ -85,7 +85,7 @@ fn push_base64(text: &mut String, bytes: &[u8]) -> Result<(), AllocError>
 /// Adds what is behind the base64: a move's kind and its record, and the records.
 fn push_behind(text: &mut String, kind: &str, held: &str, records: &str) -> Result<(), AllocError>
     ensures { OnOk result (string_bytes text.new ≡
-        spec.text_behind (string_bytes text.old) kind.now held.now records.now) }
+        spec.journal_text_behind (string_bytes text.old) kind.now held.now records.now) }
 {
     text.push_str("\",\"kind\":\"")?;
     text.push_str(kind)?;

@@ -1,7 +1,7 @@
 //! The open move of a journal: opened on a text, and settled beside it or the text to which it leads.
 ghost use Rattle.std.specs.Prelude.{◌≡◌, ◌≢◌, ◌⊎◌, None, Some, IfErr, IfSome, OnOk, OnErr, IsNone, IsOk};
 ghost use Rattle.yq_records.specs.Refusals.{ErrorIs, move_fault, no_way};
-ghost use Rattle.yq_records.specs.State.{moved_text, opened, settled};
+ghost use Rattle.yq_records.specs.State.{moved_text, with_move, settled_beside};
 
 use crate::journal::{Journal, Open};
 use crate::ways::check_way;
@@ -28,7 +28,7 @@ impl Journal {
     pub fn start(&mut self, step: Move, text: &[u8]) -> Result<(), (Move, JournalError)>
         requires { moved_text self.old.records self.old.at step text.now ≢ Some text.now }
         ensures free { OnOk result (move_fault self.old step text.now ≡ None) }
-        ensures ok { OnOk result (self.new ≡ opened self.old step text.now) }
+        ensures ok { OnOk result (self.new ≡ with_move self.old step text.now) }
         ensures fault { IfErr result (λ e. ErrorIs e.1 (move_fault self.old step text.now)) }
         ensures memory { IfErr result (λ e. e.1 ≡ JournalError.Memory →
             IsNone self.old.pending × (no_way self.old.records self.old.at step ≡ None)) }
@@ -51,7 +51,7 @@ impl Journal {
     pub fn start_with(&mut self, step: Move, text: Vec<u8>) -> Result<(), JournalError>
         requires { moved_text self.old.records self.old.at step text.items ≢ Some text.items }
         ensures free { OnOk result (move_fault self.old step text.items ≡ None) }
-        ensures ok { OnOk result (self.new ≡ opened self.old step text.items) }
+        ensures ok { OnOk result (self.new ≡ with_move self.old step text.items) }
         ensures fault { IfErr result (λ e. ErrorIs e (move_fault self.old step text.items)) }
         ensures memory { IfErr result (λ e. e ≡ JournalError.Memory →
             IsNone self.old.pending × (no_way self.old.records self.old.at step ≡ None)) }
@@ -67,11 +67,11 @@ impl Journal {
     /// refused as `Unsettled` beside any other. With no open move it does
     /// nothing, and takes no memory.
     pub fn settle(&mut self, text: &[u8]) -> Result<(), JournalError>
-        ensures ok { OnOk result (settled self.old text.now ≡ Some self.new) }
+        ensures ok { OnOk result (settled_beside self.old text.now ≡ Some self.new) }
         ensures at_rest { IsNone self.old.pending → IsOk result }
         ensures fault { IfErr result (λ e. (e ≡ JournalError.Memory) ⊎
             ((e ≡ JournalError.Fault JournalFault.Unsettled) ×
-            (settled self.old text.now ≡ None))) }
+            (settled_beside self.old text.now ≡ None))) }
         ensures err { OnErr result (self.new ≡ self.old) }
     {
         let Some(held) = &self.open else {
@@ -97,7 +97,7 @@ impl Journal {
     pub fn finish(&mut self, _text: &[u8]) -> Result<(), JournalError>
         requires { IfSome self.old.pending (λ p. moved_text self.old.records self.old.at p.step
             p.from ≡ Some _text.now) }
-        ensures ok { OnOk result (settled self.old _text.now ≡ Some self.new) }
+        ensures ok { OnOk result (settled_beside self.old _text.now ≡ Some self.new) }
         ensures fault { IfErr result (λ e. e ≡ JournalError.Memory) }
         ensures err { OnErr result (self.new ≡ self.old) }
     {

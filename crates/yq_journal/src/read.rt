@@ -21,14 +21,14 @@ use yq_records::{JournalError, JournalFault, MAX_RECORDS, Record};
 
 /// Whether a journal has no more records than it may, its cursor among them,
 /// and no open move but one that can be made.
-#[tactic(auto, unfolding(crate::specs::Json::is_sound))]
+#[tactic(auto, unfolding(crate::specs::Json::is_sound_journal))]
 fn is_sound(
     alloc: Global,
     records: &[Record],
     at: u64,
     open: &Option<Open>,
 ) -> Result<bool, AllocError>
-    ensures { IfOk result (λ b. b ≡ spec.is_sound (state records.now at open.now)) }
+    ensures { IfOk result (λ b. b ≡ spec.is_sound_journal (state records.now at open.now)) }
 {
     if records.len() > MAX_RECORDS || at > records.len() as u64 {
         return Ok(false);

@@ -1,6 +1,6 @@
 //! Several records joined into one.
 ghost use Rattle.std.specs.Prelude.{◌≡◌, true, ◌<◌, ◌≤◌, ◌∷◌, ◌++◌, [], IfErr, IfOk, None, OnOk, drop, length, take};
-ghost use Rattle.yq_records.specs.Record.{IsRecord, join, joined, meet};
+ghost use Rattle.yq_records.specs.Record.{IsRecord, join, records_joined, meet};
 ghost use Rattle.yq_records.specs.Refusals.{Reports, count_fault};
 ghost use Rattle.yq_records.specs.State.{joined_of, last_done};
 
@@ -84,7 +84,7 @@ impl Parts {
 /// Records as one, which copies their bytes and leaves them as they are.
 fn join_all(alloc: Global, first: &Record, rest: &[Record]) -> Result<Record, AllocError>
     requires { meet (first.now ∷ rest.now) ≡ true }
-    ensures { IfOk result (λ r. r ≡ joined first.now rest.now) }
+    ensures { IfOk result (λ r. r ≡ records_joined first.now rest.now) }
 {
     let mut parts = Parts::new(alloc, first)?;
     'rest: for next in rest {

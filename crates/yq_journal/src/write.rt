@@ -10,10 +10,10 @@ use std::alloc::{AllocError, Global};
 use yq_records::{Move, Record};
 use yq_script::Splice;
 
-#[tactic(auto, unfolding(crate::specs::Json::change_of))]
+#[tactic(auto, unfolding(crate::specs::Json::splice_of))]
 fn splice_value(alloc: Global, splice: &Splice) -> Result<Value, AllocError>
     ensures written { IfOk result (λ v. view v ≡ spec.change_data splice.now) }
-    ensures reads_back { IfOk result (λ v. spec.change_of (view v) ≡ Some splice.now) }
+    ensures reads_back { IfOk result (λ v. spec.splice_of (view v) ≡ Some splice.now) }
 {
     let mut members = Map::new(alloc);
     put(&mut members, alloc, "at", Value::from(splice.at))?;
@@ -25,7 +25,7 @@ fn splice_value(alloc: Global, splice: &Splice) -> Result<Value, AllocError>
 fn splice_values(alloc: Global, splices: &[Splice]) -> Result<Vec<Value>, AllocError>
     ensures written { IfOk result (λ vs. items_view vs.items ≡
         spec.list_data spec.change_data splices.now) }
-    ensures reads_back { IfOk result (λ vs. spec.all_of spec.change_of (items_view vs.items) ≡
+    ensures reads_back { IfOk result (λ vs. spec.each_of spec.splice_of (items_view vs.items) ≡
         Some splices.now) }
 {
     let mut values = Vec::with_capacity(alloc, splices.len())?;
@@ -63,7 +63,7 @@ fn record_value(alloc: Global, patch: &Record) -> Result<Value, AllocError>
 pub(crate) fn record_values(alloc: Global, records: &[Record]) -> Result<Vec<Value>, AllocError>
     ensures written { IfOk result (λ vs. items_view vs.items ≡
         spec.list_data spec.record_data records.now) }
-    ensures reads_back { IfOk result (λ vs. spec.all_of (spec.record_of true)
+    ensures reads_back { IfOk result (λ vs. spec.each_of (spec.record_of true)
         (items_view vs.items) ≡ Some records.now) }
 {
     let mut values = Vec::with_capacity(alloc, records.len())?;
@@ -97,10 +97,10 @@ pub(crate) fn move_value(alloc: Global, step: &Move) -> Result<Value, AllocError
     }
 }
 
-#[tactic(auto, unfolding(crate::specs::Json::open_of))]
+#[tactic(auto, unfolding(crate::specs::Json::open_move_of))]
 fn open_value(alloc: Global, open: &Open) -> Result<Value, AllocError>
     ensures written { IfOk result (λ v. view v ≡ spec.pending_data (Some open.now)) }
-    ensures reads_back { IfOk result (λ v. spec.open_of true (view v) ≡ Some open.now) }
+    ensures reads_back { IfOk result (λ v. spec.open_move_of true (view v) ≡ Some open.now) }
 {
     let held = move_value(alloc, &open.step)?;
     let mut members = Map::new(alloc);

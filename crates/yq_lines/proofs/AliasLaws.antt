@@ -4,12 +4,12 @@ use Rattle.std.specs.List.{list_any}
 use Rattle.std.proofs.lemmas.Bool.{false≢true, or_parts}
 use Rattle.std.proofs.lemmas.List.Folds.{list_any-append}
 use Rattle.yq_flow_scalars.specs.Tree.{Node, Children}
-use Rattle.yq_flow_scalars.specs.Anchors.{Name, Anchors, Refers, with_anchor, names_of, names_in}
+use Rattle.yq_flow_scalars.specs.Anchors.{Name, Anchors, Refers, anchor_names, names_of, names_in}
 use Rattle.yq_lines.specs.Ends.{part}
-use Rattle.yq_lines.specs.Group.{deeper}
+use Rattle.yq_lines.specs.Group.{deeper_lines}
 use Rattle.yq_lines.specs.LinesReading.{are_bound}
 use Rattle.yq_lines.specs.Names.{is_reference, head_names, line_names}
-use Rattle.yq_lines.specs.Outline.{Mark, Line, level, Outline, end, row, flatten, anchored, head_or, collection, shaped, children}
+use Rattle.yq_lines.specs.Outline.{LineMark, Line, level, Outline, end, row, flatten, anchored, head_or, outline_node, shaped, children}
 use Rattle.yq_lines.proofs.Decides.{flatten-group}
 use Rattle.yq_lines.proofs.NameLaws.{line_names-append}
 
@@ -20,7 +20,7 @@ refer ns = list_any is_reference ns
 refer-append : (xs ys : List Name) → refer (xs ++ ys) ≡ (refer xs || refer ys)
 refer-append xs ys = list_any-append is_reference xs ys
 
-refer-anchor : (a : Option (List ℕ)) (ns : List Name) → refer (with_anchor a ns) ≡ refer ns
+refer-anchor : (a : Option (List ℕ)) (ns : List Name) → refer (anchor_names a ns) ≡ refer ns
 refer-anchor a ns = search rules
 
 refer-anchored : (a : Option (List ℕ)) (n : Node) → refer (names_of (anchored a n)) ≡ refer (names_of n)
@@ -39,7 +39,7 @@ none_drop (suc k) [] h = refl
 none_drop (suc k) (l ∷ ls) h = none_drop k ls (none_line l ls h).1
 
 -- the node of items or entries without aliases
-none_collection : (m : Mark) (cs : Children) → refer (names_in cs) ≡ false → refer (names_of (collection m cs)) ≡ false
+none_collection : (m : LineMark) (cs : Children) → refer (names_in cs) ≡ false → refer (names_of (outline_node m cs)) ≡ false
 none_collection m cs h1 = search (rules, or_parts, refer-append)
 
 none_shaped : (o : Outline) (cs : Children) → refer (names_in cs) ≡ false → refer (names_of (shaped o cs)) ≡ false
@@ -65,11 +65,11 @@ entry_names l u = names_of (anchored l.anchor (head_or l.head (shaped u (childre
 none_entries : (l : Line) (u a : Outline) → refer (names_in (children (row l u a))) ≡ false → (refer (entry_names l u) ≡ false) × (refer (names_in (children a)) ≡ false)
 none_entries l u a h = or_parts (refer (entry_names l u)) (refer (names_in (children a))) (sym (refer-append (entry_names l u) (names_in (children a))) ∙ h)
 
-none_deeper : (n : ℕ) (o : Outline) → refer (names_in (children o)) ≡ false → refer (names_in (children (deeper n o))) ≡ false
+none_deeper : (n : ℕ) (o : Outline) → refer (names_in (children o)) ≡ false → refer (names_in (children (deeper_lines n o))) ≡ false
 none_deeper n end h = refl
 none_deeper n (row l u a) h = go (none_deeper n a (none_entries l u a h).1) (ltb n (level l))
   where
-    go : refer (names_in (children (deeper n a))) ≡ false → (b : Bool) → refer (names_in (children (cond b (row l u (deeper n a)) end))) ≡ false
+    go : refer (names_in (children (deeper_lines n a))) ≡ false → (b : Bool) → refer (names_in (children (cond b (row l u (deeper_lines n a)) end))) ≡ false
     go h1 b = search (rules, refer-append, none_entries)
 
 -- items or entries of lines without aliases

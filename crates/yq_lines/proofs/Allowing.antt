@@ -1,10 +1,10 @@
 -- What a place in an outline allows.
 use Rattle.std.proofs.Common.{◌≡◌, ℕ, ◌<◌, None}
-use Rattle.yq_lines.specs.Outline.{Mark, Bare, Key, Dash, level, Outline, end, row, IsOpen, IsEven}
+use Rattle.yq_lines.specs.Outline.{LineMark, Bare, Key, Dash, level, Outline, end, row, IsOpen, IsEven}
 use Rattle.yq_lines.specs.Places.{Context, here, below, beside}
 
 -- a key or a dash
-abbrev pub IsEntry : Mark → Type 0
+abbrev pub IsEntry : LineMark → Type 0
 IsEntry Bare = ⊥
 IsEntry (Key k) = Unit {0}
 IsEntry Dash = Unit {0}

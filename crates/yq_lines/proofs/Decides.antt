@@ -3,18 +3,18 @@ use Rattle.std.proofs.Common.{◌≡◌, ℕ, ◌+◌, ◌<◌, ltb, List, [], �
 use Rattle.std.proofs.lemmas.Bool.{lt-ltb, ltb-true, eqb-true, eq-eqb, cond-true, and_parts, and_from, false≢true}
 use Rattle.std.proofs.lemmas.Option.{none-some, same_Some}
 use Rattle.yq_flow_scalars.specs.Tree.{Node}
-use Rattle.yq_lines.specs.Outline.{Mark, Line, level, Outline, end, row, flatten, IsOpen, IsWhole, IsEven, value, Stands}
-use Rattle.yq_lines.specs.Group.{deeper, shallow, group}
+use Rattle.yq_lines.specs.Outline.{LineMark, Line, level, Outline, end, row, flatten, IsOpen, IsWhole, IsEven, value, Stands}
+use Rattle.yq_lines.specs.Group.{deeper_lines, shallow, group}
 use Rattle.yq_lines.specs.Group.{is_open, is_whole, level_or, is_even, stand}
 use Rattle.yq_lines.proofs.Unique.{group_even}
 
 -- the lines of an outline's two parts
-pub flatten-parts : (n : ℕ) (o : Outline) → flatten (deeper n o) ++ flatten (shallow n o) ≡ flatten o
+pub flatten-parts : (n : ℕ) (o : Outline) → flatten (deeper_lines n o) ++ flatten (shallow n o) ≡ flatten o
 flatten-parts n end = refl
 flatten-parts n (row l u a) = go (ltb n (level l)) (flatten-parts n a)
   where
-    go : (b : Bool) → flatten (deeper n a) ++ flatten (shallow n a) ≡ flatten a
-        → flatten (cond b (row l u (deeper n a)) end) ++ flatten (cond b (shallow n a) (row l u a)) ≡ flatten (row l u a)
+    go : (b : Bool) → flatten (deeper_lines n a) ++ flatten (shallow n a) ≡ flatten a
+        → flatten (cond b (row l u (deeper_lines n a)) end) ++ flatten (cond b (shallow n a) (row l u a)) ≡ flatten (row l u a)
     go b h1 = search (rules, append_assoc)
 
 pub flatten-group : (ls : List Line) → flatten (group ls) ≡ ls
@@ -27,10 +27,10 @@ open_from h o h1 = search (rules, false≢true)
 to_open : (h : Option Node) (o : Outline) → IsOpen h o → is_open h o ≡ true
 to_open h o h1 = search rules
 
-whole_from : (m : Mark) (h : Option Node) (o : Outline) → is_whole m h o ≡ true → IsWhole m h o
+whole_from : (m : LineMark) (h : Option Node) (o : Outline) → is_whole m h o ≡ true → IsWhole m h o
 whole_from m h o h1 = search (rules, false≢true)
 
-to_whole : (m : Mark) (h : Option Node) (o : Outline) → IsWhole m h o → is_whole m h o ≡ true
+to_whole : (m : LineMark) (h : Option Node) (o : Outline) → IsWhole m h o → is_whole m h o ≡ true
 to_whole m h o h1 = search rules
 
 pub even_from : (n : ℕ) (o : Outline) → is_even n o ≡ true → IsEven n o

@@ -5,11 +5,11 @@ use Rattle.std.proofs.lemmas.Option.{same_Some, none-some}
 use Rattle.std.specs.List.{slice_get, list_any}
 use Rattle.yq_flow_scalars.specs.Keys.{keys_of, with_key, are_distinct}
 use Rattle.yq_flow_scalars.specs.Paths.{To, is_here, key_is}
-use Rattle.yq_lines.specs.Ends.{part, is_end, IsEndOf}
-use Rattle.yq_lines.specs.Group.{deeper, shallow, group}
-use Rattle.yq_lines.specs.Outline.{Mark, Bare, Line, level, Outline, end, row, children, key_of, label}
+use Rattle.yq_lines.specs.Ends.{part, has_no_lines, IsEndOf}
+use Rattle.yq_lines.specs.Group.{deeper_lines, shallow, group}
+use Rattle.yq_lines.specs.Outline.{LineMark, Bare, Line, level, Outline, end, row, children, key_of, label}
 use Rattle.yq_lines.specs.Places.{here, find_row, next_to}
-use Rattle.yq_lines.specs.Sound.{is_sound, is_entry}
+use Rattle.yq_lines.specs.Sound.{is_sound_outline, is_entry_line}
 use Rattle.yq_lines.specs.Positions.{position}
 use Rattle.yq_lines.proofs.EndsLaws.{deeper_line, not_end, row_parts}
 use Rattle.yq_lines.proofs.KeyLaws.{differ, differs}
@@ -25,25 +25,25 @@ record Rest (o : Outline) : Type 0 where
   pub entries : IsEntryLevel at
 
 abbrev IsSound : Outline → Type 0
-IsSound o = (d : ℕ) × (is_sound d o ≡ true)
+IsSound o = (d : ℕ) × (is_sound_outline d o ≡ true)
 
 -- nothing is sound
 end_sound : IsSound end
 end_sound = (0, ap (λ b. b && true) (le-leb 0 0 (omega arith)))
 
 -- what a node's lines are: nothing, one line alone, or the entries of a collection
-node_lines : (d : ℕ) (l : Line) (u a : Outline) → is_sound d (row l u a) ≡ true → ((is_end u ≡ true) × (is_end a ≡ true) × (l.mark ≡ Bare)) ⊎ Rest (row l u a)
+node_lines : (d : ℕ) (l : Line) (u a : Outline) → is_sound_outline d (row l u a) ≡ true → ((has_no_lines u ≡ true) × (has_no_lines a ≡ true) × (l.mark ≡ Bare)) ⊎ Rest (row l u a)
 node_lines d l u a sound = go l.mark refl d sound
   where
-    entry : (d : ℕ) → is_entry l.mark ≡ true → is_sound d (row l u a) ≡ true → Rest (row l u a)
+    entry : (d : ℕ) → is_entry_line l.mark ≡ true → is_sound_outline d (row l u a) ≡ true → Rest (row l u a)
     entry zero is s = absurd (false≢true (sym (too_deep l u a is) ∙ s))
     entry (suc d) is s = record { depth = d; at = level l; keys = []; asks = sym (sound_entries d l u a is) ∙ s; entries = entry_level l is }
 
-    go : (m : Mark) → l.mark ≡ m → (d : ℕ) → is_sound d (row l u a) ≡ true → ((is_end u ≡ true) × (is_end a ≡ true) × (l.mark ≡ Bare)) ⊎ Rest (row l u a)
+    go : (m : LineMark) → l.mark ≡ m → (d : ℕ) → is_sound_outline d (row l u a) ≡ true → ((has_no_lines u ≡ true) × (has_no_lines a ≡ true) × (l.mark ≡ Bare)) ⊎ Rest (row l u a)
     go Bare mark d s = search (rules, and_parts, sound_bare)
-    go x mark d s = inr (entry d (ap is_entry mark) s)
+    go x mark d s = inr (entry d (ap is_entry_line mark) s)
 
-is_nothing : (o : Outline) → is_end o ≡ true → o ≡ end
+is_nothing : (o : Outline) → has_no_lines o ≡ true → o ≡ end
 is_nothing o h1 = search (rules, false≢true)
 
 -- what is under a line of a collection, and what is behind
@@ -59,7 +59,7 @@ are_under : (o : Outline) → IsSound o ⊎ Rest o → AreUnder o
 are_under end h = tt
 are_under (row l u a) h = let x = parts h in (x.0, are_under u (inl x.0), are_under a x.1)
   where
-    of_node : ((is_end u ≡ true) × (is_end a ≡ true) × (l.mark ≡ Bare)) ⊎ Rest (row l u a) → IsSound u × (IsSound a ⊎ Rest a)
+    of_node : ((has_no_lines u ≡ true) × (has_no_lines a ≡ true) × (l.mark ≡ Bare)) ⊎ Rest (row l u a) → IsSound u × (IsSound a ⊎ Rest a)
     of_node (inl x) = (subst IsSound (sym (is_nothing u x.0)) end_sound, inl (subst IsSound (sym (is_nothing a x.1)) end_sound))
     of_node (inr r) = let x = rest_parts l u a r in (x.0, inr x.1)
 
@@ -68,16 +68,16 @@ are_under (row l u a) h = let x = parts h in (x.0, are_under u (inl x.0), are_un
     parts (inr r) = of_node (inr r)
 
 -- the same of an outline of two parts
-under_joined : (n : ℕ) (o : Outline) → AreUnder (deeper n o) → AreUnder (shallow n o) → AreUnder o
+under_joined : (n : ℕ) (o : Outline) → AreUnder (deeper_lines n o) → AreUnder (shallow n o) → AreUnder o
 under_joined n end h g = tt
 under_joined n (row l u a) h g = go (ltb n (level l)) h g (under_joined n a)
   where
-    go : (b : Bool) → AreUnder (cond b (row l u (deeper n a)) end) → AreUnder (cond b (shallow n a) (row l u a)) → (AreUnder (deeper n a) → AreUnder (shallow n a) → AreUnder a) → AreUnder (row l u a)
+    go : (b : Bool) → AreUnder (cond b (row l u (deeper_lines n a)) end) → AreUnder (cond b (shallow n a) (row l u a)) → (AreUnder (deeper_lines n a) → AreUnder (shallow n a) → AreUnder a) → AreUnder (row l u a)
     go b h1 h2 h3 = search rules
 
 under_line : (ls : List Line) (i : ℕ) (l : Line) → slice_get ls i ≡ Some l → AreUnder (group ls) → IsSound (part ls (i + 1) (level l))
 under_line [] i l is h = absurd (cc)
-under_line (m ∷ ls) zero l is h = subst (λ (x : Line). IsSound (deeper (level x) (group ls))) (same_Some _ _ is) h.0
+under_line (m ∷ ls) zero l is h = subst (λ (x : Line). IsSound (deeper_lines (level x) (group ls))) (same_Some _ _ is) h.0
 under_line (m ∷ ls) (suc i) l is h =
     let more : suc (i + 1) ≡ suc i + 1 = omega arith in
     subst (λ (k : ℕ). IsSound (part (m ∷ ls) k (level l))) more (under_line ls i l is (under_joined (level m) (group ls) h.1 h.2))
@@ -90,10 +90,10 @@ behind_keys (k ∷ ks) js e = behind_keys ks js (and_parts (not (list_any (bytes
 keys_differ : (o : Outline) → IsSound o → are_distinct (keys_of (children o)) ≡ true
 keys_differ o h1 = search (rules, node_lines, is_nothing, and_parts, behind_keys)
 
-pub line_keys : (d : ℕ) (ls : List Line) (i : ℕ) (l : Line) → is_sound d (group ls) ≡ true → slice_get ls i ≡ Some l → are_distinct (keys_of (children (part ls (i + 1) (level l)))) ≡ true
+pub line_keys : (d : ℕ) (ls : List Line) (i : ℕ) (l : Line) → is_sound_outline d (group ls) ≡ true → slice_get ls i ≡ Some l → are_distinct (keys_of (children (part ls (i + 1) (level l)))) ≡ true
 line_keys d ls i l sound is = keys_differ _ (under_line ls i l is (are_under (group ls) (inl (d, sound))))
 
-pub root_keys : (d : ℕ) (ls : List Line) → is_sound d (group ls) ≡ true → are_distinct (keys_of (children (part ls 0 0))) ≡ true
+pub root_keys : (d : ℕ) (ls : List Line) → is_sound_outline d (group ls) ≡ true → are_distinct (keys_of (children (part ls 0 0))) ≡ true
 root_keys d ls sound = keys_differ _ (subst IsSound (sym (part-all ls)) (d, sound))
 
 -- where no entry has a key, the key leads nowhere
@@ -106,7 +106,7 @@ nowhere key (row l u a) none = go (key_of l.mark) none (nowhere key a)
     go k h1 h2 = search (rules, or_parts, bytes_eq, cond-false, differs, differ)
 
 -- The first of lines with different keys is not the entry of a key that one behind it has.
-module _ (ls : List Line) (at floor next : ℕ) (l : Line) (is : slice_get ls at ≡ Some l) (deep : true ≡ not (is_end (part ls at floor))) (ends : IsEndOf ls at next) (differ' : are_distinct (keys_of (children (part ls at floor))) ≡ true) where
+module _ (ls : List Line) (at floor next : ℕ) (l : Line) (is : slice_get ls at ≡ Some l) (deep : true ≡ not (has_no_lines (part ls at floor))) (ends : IsEndOf ls at next) (differ' : are_distinct (keys_of (children (part ls at floor))) ≡ true) where
   own : are_distinct (with_key (key_of l.mark) (keys_of (children (part ls next floor)))) ≡ true
   own = subst (λ (o : Outline). are_distinct (keys_of (children o)) ≡ true) (row_parts ls at floor next l is (deeper_line ls at floor l is (not_end _ deep)) (ends.2 l is)) differ'
 

@@ -5,7 +5,7 @@ use Rattle.std.proofs.lemmas.Option.{slice_get-map, same_Some}
 use Rattle.std.specs.List.{slice_get}
 use Rattle.yq_flow_scalars.specs.Text.{is_empty}
 use Rattle.yq_cut.specs.RowStarts.{row_level}
-use Rattle.yq_cut.specs.Rows.{Mark, Bare, Dash, Key, Row, dashes_text}
+use Rattle.yq_cut.specs.Rows.{RowMark, Bare, Dash, Key, Row, dashes_text}
 use Rattle.yq_cut.specs.View.{Slices, slices, last_dash, RowsView}
 use Rattle.yq_lines.specs.Extents.{dash_at, IsRowsView}
 use Rattle.yq_lines.specs.RowWalk.{line_level, line_rank}
@@ -21,7 +21,7 @@ dash_level s t begins = rw (begins, lt-ltb 0 (length {A = ℕ} (45 ∷ t)) (omeg
 
 pub first_level : (r : Row) → row_level (slices r) ≡ line_level 0 (slices r)
 first_level r = go r.dashes r.mark refl where
-  go : (ns : List ℕ) (m : Mark) → (slices r).dashes ≡ dashes_text ns (last_dash m) → row_level (slices r) ≡ line_level 0 (slices r)
+  go : (ns : List ℕ) (m : RowMark) → (slices r).dashes ≡ dashes_text ns (last_dash m) → row_level (slices r) ≡ line_level 0 (slices r)
   go [] Bare e = bare_level (slices r) e
   go [] Dash e = dash_level (slices r) [] e
   go [] (Key key colon) e = bare_level (slices r) e

@@ -6,13 +6,13 @@ use Rattle.std.proofs.lemmas.Option.{same_Some, slice_get_within}
 use Rattle.std.specs.List.{slice_get}
 use Rattle.yq_flow_scalars.specs.Keys.{are_distinct, keys_of}
 use Rattle.yq_flow_scalars.specs.Paths.{Step, To, Nth, is_here, is_item, further}
-use Rattle.yq_lines.specs.Ends.{IsEndOf, is_end, part}
+use Rattle.yq_lines.specs.Ends.{IsEndOf, has_no_lines, part}
 use Rattle.yq_lines.specs.Outline.{Line, Outline, children, key_of, label, level}
 use Rattle.yq_lines.specs.Positions as lines
 use Rattle.yq_lines.proofs.EndsLaws.{drop_at}
 use Rattle.yq_lines.proofs.PositionLaws.{position_here, position_passed, here_item}
 use Rattle.yq_cut.specs.View.{Slices, RowsView}
-use Rattle.yq_lines.specs.Lines.{lines_of}
+use Rattle.yq_lines.specs.Lines.{lines_of_rows}
 use Rattle.yq_lines.specs.RowWalk.{line_level, level_count, deeper_rows, AreRowsDeep, HasRows, IsPosition, IsLine, IsKnownIn, IsKeyed, HaveKeys, Finds, GoesOn, found_from, line_number, rows_end}
 use Rattle.yq_lines.specs.declared.line_position.KnownItem.{KnownItem}
 use Rattle.yq_lines.specs.declared.line_position.Position.{Position}
@@ -32,7 +32,7 @@ module _ (s : RowsView) (d : Stretch) (h : HasRows s d) (floor row n : ℕ) (y :
 
   -- the entries from a line on have different keys
   abbrev HasKeys : Position → Type 0
-  HasKeys q = are_distinct (keys_of (children (part (lines_of h.rows) (line_number d h.rows q) floor))) ≡ true
+  HasKeys q = are_distinct (keys_of (children (part (lines_of_rows h.rows) (line_number d h.rows q) floor))) ≡ true
 
   -- The lines under a line end at another one.
   record Over (q e : Position) : Type 0 where
@@ -50,24 +50,24 @@ module _ (s : RowsView) (d : Stretch) (h : HasRows s d) (floor row n : ℕ) (y :
     agrees : (z : Slices) → slice_get s.rows q.row ≡ Some z → n ≡ line_level q.line z
     agrees z is = sym o.same ∙ ap (line_level q.line) (same_Some _ _ (sym o.there ∙ is))
 
-    ends : IsEndOf (lines_of h.rows) (line_number d h.rows q) (line_number d h.rows e)
+    ends : IsEndOf (lines_of_rows h.rows) (line_number d h.rows q) (line_number d h.rows e)
     ends = behind_agrees s d h q e n o.at agrees o.next o.none
 
-    here : true ≡ not (is_end (part (lines_of h.rows) (line_number d h.rows q) floor))
+    here : true ≡ not (has_no_lines (part (lines_of_rows h.rows) (line_number d h.rows q) floor))
     here = sym (lt-ltb floor n deeper) ∙ deeper_agrees s d h q n floor o.at agrees
 
     -- over one item that isn't the one
     over : (st : Step) → is_here st (label l.line) ≡ false → line_here q st ≡ line_here e (further st)
-    over st other = position_passed (lines_of h.rows) (line_number d h.rows q) floor l.line l.is here st (line_number d h.rows e) ends other
+    over st other = position_passed (lines_of_rows h.rows) (line_number d h.rows q) floor l.line l.is here st (line_number d h.rows e) ends other
 
     over_item : (i : ℕ) → line_here q (Nth (suc i)) ≡ line_here e (Nth i)
     over_item i = over (Nth (suc i)) (here_item (suc i) l.line ∙ ap (λ (b : Bool). b && is_item (key_of l.line.mark)) (ne_eqb (suc i) 0 (λ e. omega (arith, e))))
 
     more_keys : HasKeys q → HasKeys e
-    more_keys keys = keys_behind (lines_of h.rows) (line_number d h.rows q) floor (line_number d h.rows e) l.line l.is here ends keys
+    more_keys keys = keys_behind (lines_of_rows h.rows) (line_number d h.rows q) floor (line_number d h.rows e) l.line l.is here ends keys
 
     over_key : (key : List ℕ) (w : ℕ × Line × Outline) → HasKeys q → line_here e (To key) ≡ Some w → line_here q (To key) ≡ line_here e (To key)
-    over_key key w keys found = over (To key) (other_key (lines_of h.rows) (line_number d h.rows q) floor (line_number d h.rows e) l.line l.is here ends keys key w found)
+    over_key key w keys found = over (To key) (other_key (lines_of_rows h.rows) (line_number d h.rows q) floor (line_number d h.rows e) l.line l.is here ends keys key w found)
 
   -- the rows behind an item and in front of the last one
   abbrev behind : Position → List Slices
@@ -208,10 +208,10 @@ module _ (s : RowsView) (d : Stretch) (under : Position) (floor : ℕ) (k : Know
   -- the entry of a known item is found, where it has the key
   pub goes_to : (key : List ℕ) → HaveKeys s d under floor → ((y : Slices) → slice_get s.rows k.row ≡ Some y → k.level ≡ line_level 0 y) → IsKeyed s d k key → Finds s d under floor (To key) (Some row_of)
   goes_to key keys exact keyed h =
-      let ls : List Line = lines_of h.stand.rows in
+      let ls : List Line = lines_of_rows h.stand.rows in
       let i : ℕ = line_number d h.stand.rows row_of in
       let l = located s d h.stand row_of (known_line h.stand) in
-      let deep : true ≡ not (is_end (part ls i k.floor)) = sym (lt-ltb k.floor k.level among.known.deeper) ∙ deeper_agrees s d h.stand row_of k.level k.floor (known_line h.stand) exact in
+      let deep : true ≡ not (has_no_lines (part ls i k.floor)) = sym (lt-ltb k.floor k.level among.known.deeper) ∙ deeper_agrees s d h.stand row_of k.level k.floor (known_line h.stand) exact in
       let here = position_here ls i k.floor l.line l.is deep (To key) (keyed h.stand l.line l.is) in
       let one : lines.line_here ls (Some i) ≡ Some (i, l.line, part ls (i + 1) (level l.line)) = ap (option_map (λ m. (i, m, part ls (i + 1) (level m)))) l.is in
       let differ : are_distinct (keys_of (children (part ls (line_number d h.stand.rows k.under) k.floor))) ≡ true = search (rules, ls) in

@@ -7,8 +7,8 @@ use Rattle.std.proofs.lemmas.Option.{get_or_from_slice_get, slice_get_within, sl
 use Rattle.std.specs.List.{slice_get, sum_by}
 use Rattle.yq_text.specs.Limit.{text_limit}
 use Rattle.yq_cut.specs.Exchange.{row_front, before_at, before_content}
-use Rattle.yq_cut.specs.Rows.{Mark, Row, dashes_text, mark_text, rows_text, Part, part_text, Cut, last, marked, cut_text}
-use Rattle.yq_cut.specs.View.{Slices, slices, last_dash, key_of, colon_of, rows_of, Bound, bounds_from, RowsView, rows_view}
+use Rattle.yq_cut.specs.Rows.{RowMark, Row, dashes_text, mark_text, rows_text, Part, part_text, Cut, last, marked, cut_text}
+use Rattle.yq_cut.specs.View.{Slices, slices, last_dash, key_of_mark, colon_of, rows_of, Bound, bounds_from, RowsView, rows_view}
 use Rattle.yq_cut.proofs.ExchangeLaws.{slice_front, slice_back}
 use Rattle.yq_cut.proofs.SliceLaws.{print-length}
 use Rattle.yq_cut.specs.Offsets.{row_length}
@@ -40,7 +40,7 @@ pub rows_view-length : (c : Cut) → length (cut_text c) ≡ view_length (rows_v
 rows_view-length c = pieces-length 0 c
 
 -- the front of a row
-mark-length : (m : Mark) → length (mark_text m []) ≡ length (last_dash m) + (length (key_of m) + length (colon_of m))
+mark-length : (m : RowMark) → length (mark_text m []) ≡ length (last_dash m) + (length (key_of_mark m) + length (colon_of m))
 mark-length m = search (rules, length-append)
 
 dashes-length : (ns : List ℕ) (t u : List ℕ) (n : ℕ) → length t ≡ length u + n → length (dashes_text ns t) ≡ length (dashes_text ns u) + n
@@ -58,7 +58,7 @@ front-length r =
       arith,
       spaces,
       length-append {A = ℕ},
-      dashes-length r.dashes (mark_text r.mark []) (last_dash r.mark) (length (key_of r.mark) + length (colon_of r.mark)) (mark-length r.mark),
+      dashes-length r.dashes (mark_text r.mark []) (last_dash r.mark) (length (key_of_mark r.mark) + length (colon_of r.mark)) (mark-length r.mark),
     )
 
 before-length : (i : ℕ) (rows : List Row) (r : Row) → slice_get rows i ≡ Some r → length (before_at i rows) ≡ sum_by row_length (take i (map slices rows)) + begin_length (slices r)

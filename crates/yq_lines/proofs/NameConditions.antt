@@ -8,7 +8,7 @@ use Rattle.yq_flow_scalars.specs.Tree.{Node}
 use Rattle.yq_flow_scalars.specs.Anchors.{Name, Anchors, Refers, IsAmong, AreBound, IsNoAlias}
 use Rattle.yq_lines.specs.LineAnchors.{MayTake, IsFree, HaveOneAnchorEach}
 use Rattle.yq_lines.specs.LinesReading.{is_no_alias, may_take, is_free, have_one_anchor_each, are_bound}
-use Rattle.yq_lines.specs.Outline.{Mark, Line}
+use Rattle.yq_lines.specs.Outline.{LineMark, Line}
 
 -- anchors
 no_alias_is : (h : Option Node) → is_no_alias h ≡ true → IsNoAlias h
@@ -17,10 +17,10 @@ no_alias_is h h1 = search rules
 is_no_alias_of : (h : Option Node) → IsNoAlias h → is_no_alias h ≡ true
 is_no_alias_of h h1 = search rules
 
-take_is : (m : Mark) (a : Option (List ℕ)) (h : Option Node) → may_take m a h ≡ true → MayTake m a h
+take_is : (m : LineMark) (a : Option (List ℕ)) (h : Option Node) → may_take m a h ≡ true → MayTake m a h
 take_is m a h h1 = search (rules, no_alias_is)
 
-is_take : (m : Mark) (a : Option (List ℕ)) (h : Option Node) → MayTake m a h → may_take m a h ≡ true
+is_take : (m : LineMark) (a : Option (List ℕ)) (h : Option Node) → MayTake m a h → may_take m a h ≡ true
 is_take m a h h1 = search (rules, is_no_alias_of)
 
 free_is : (a : Option (List ℕ)) (ls : List Line) → is_free a ls ≡ true → IsFree a ls

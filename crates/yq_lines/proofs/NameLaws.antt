@@ -1,29 +1,29 @@
 -- The anchors and aliases of a node, as those of its lines.
 use Rattle.std.proofs.Common.{◌≡◌, ℕ, ◌+◌, List, [], ◌∷◌, ◌++◌, Option, Some, None, true, refl, sym, ap, ◌∙◌, append_assoc, append-nil, rules, ◌<◌, false, arith}
 use Rattle.yq_flow_scalars.specs.Tree.{Label, Node, Children, child}
-use Rattle.yq_flow_scalars.specs.Anchors.{Name, with_anchor, names_of, names_in, IsNoAlias}
+use Rattle.yq_flow_scalars.specs.Anchors.{Name, anchor_names, names_of, names_in, IsNoAlias}
 use Rattle.std.proofs.lemmas.Bool.{lt-ltb, cond-true, and_parts}
 use Rattle.std.proofs.Math.Bool.{and-false}
 use Rattle.yq_nodes.specs.Inline.{depth_limit}
 use Rattle.yq_lines.specs.LineAnchors.{MayTake, IsFree, HaveOneAnchorEach}
-use Rattle.yq_lines.specs.Group.{group, level_or, is_fine, deeper}
+use Rattle.yq_lines.specs.Group.{group, level_or, is_fine, deeper_lines}
 use Rattle.yq_lines.specs.Names.{head_names, line_names, IsUnnamed, MayBeNamed, HaveHeadsApart}
-use Rattle.yq_lines.specs.Outline.{Mark, Bare, Line, Outline, end, row, flatten, IsOpen, IsWhole, IsEven, anchored, head_or, collection, children, value, level}
+use Rattle.yq_lines.specs.Outline.{LineMark, Bare, Line, Outline, end, row, flatten, IsOpen, IsWhole, IsEven, anchored, head_or, outline_node, children, value, level}
 use Rattle.yq_lines.proofs.Decides.{flatten-group, even_from}
 use Rattle.yq_lines.proofs.NodeLaws.{anchored_none}
 use Rattle.yq_lines.specs.Ends.{part}
 use Rattle.yq_lines.specs.LinesReading.{names_are_sound, lines_are_sound}
-use Rattle.yq_lines.specs.Sound.{is_sound}
+use Rattle.yq_lines.specs.Sound.{is_sound_outline}
 use Rattle.yq_lines.proofs.NameConditions.{anchors_are}
 use Rattle.yq_lines.proofs.Values.{rank_small}
 
-with-append : (a : Option (List ℕ)) (xs ys : List Name) → with_anchor a (xs ++ ys) ≡ with_anchor a xs ++ ys
+with-append : (a : Option (List ℕ)) (xs ys : List Name) → anchor_names a (xs ++ ys) ≡ anchor_names a xs ++ ys
 with-append a xs ys = search rules
 
 pub line_names-append : (xs ys : List Line) → line_names (xs ++ ys) ≡ line_names xs ++ line_names ys
 line_names-append [] ys = refl
 line_names-append (l ∷ xs) ys =
-    ap (with_anchor l.anchor) (ap (λ t. head_names l.head ++ t) (line_names-append xs ys) ∙ sym (append_assoc (head_names l.head) (line_names xs) (line_names ys)))
+    ap (anchor_names l.anchor) (ap (λ t. head_names l.head ++ t) (line_names-append xs ys) ∙ sym (append_assoc (head_names l.head) (line_names xs) (line_names ys)))
     ∙ with-append l.anchor (head_names l.head ++ line_names xs) (line_names ys)
 
 -- a node that may take an anchor
@@ -31,7 +31,7 @@ abbrev NodeTakes : Option (List ℕ) → Node → Type 0
 NodeTakes None n = Unit {0}
 NodeTakes (Some a) n = IsNoAlias (Some n) × IsUnnamed (Some n)
 
-named_node : (a : Option (List ℕ)) (n : Node) → NodeTakes a n → names_of (anchored a n) ≡ with_anchor a (names_of n)
+named_node : (a : Option (List ℕ)) (n : Node) → NodeTakes a n → names_of (anchored a n) ≡ anchor_names a (names_of n)
 named_node a n h1 = search rules
 
 head_takes : (a : Option (List ℕ)) (h : Node) → IsUnnamed (Some h) → MayBeNamed a (Some h) → NodeTakes a h
@@ -40,15 +40,15 @@ head_takes a h h1 h2 = search rules
 bare_takes : (x : List ℕ) (k : Option (List ℕ)) (h : Option Node) (v w : Outline) → MayTake Bare k h → IsUnnamed h → IsWhole Bare h w → NodeTakes (Some x) (anchored k (head_or h (value v)))
 bare_takes x k h v w h1 h2 h3 = search (rules, anchored_none)
 
-collection_takes : (x : List ℕ) (m : Mark) (k : Option (List ℕ)) (h : Option Node) (v w : Outline) (lbl : Label) (cs : Children) → MayTake m k h → IsUnnamed h → IsWhole m h w →
-    NodeTakes (Some x) (collection m (child lbl (anchored k (head_or h (value v))) cs))
+collection_takes : (x : List ℕ) (m : LineMark) (k : Option (List ℕ)) (h : Option Node) (v w : Outline) (lbl : Label) (cs : Children) → MayTake m k h → IsUnnamed h → IsWhole m h w →
+    NodeTakes (Some x) (outline_node m (child lbl (anchored k (head_or h (value v))) cs))
 collection_takes x m k h v w lbl cs h1 h2 h3 = search (rules, bare_takes)
 
 -- an anchor before lines can be that of their node
 value_takes : (a : Option (List ℕ)) (n : ℕ) (o : Outline) → IsEven n o → IsFree a (flatten o) → HaveHeadsApart (flatten o) → NodeTakes a (value o)
 value_takes a n o h1 h2 h3 = search (rules, collection_takes)
 
-collection_names : (m : Mark) (h : Option Node) (w : Outline) (lbl : Label) (n : Node) → IsWhole m h w → names_of (collection m (child lbl n (children w))) ≡ names_of n ++ names_in (children w)
+collection_names : (m : LineMark) (h : Option Node) (w : Outline) (lbl : Label) (n : Node) → IsWhole m h w → names_of (outline_node m (child lbl n (children w))) ≡ names_of n ++ names_in (children w)
 collection_names m h w lbl n h1 = search (rules, append-nil)
 
 names_value : (n : ℕ) (o : Outline) → IsEven n o → names_of (value o) ≡ names_in (children o)
@@ -75,7 +75,7 @@ apart_back (l ∷ xs) ys h = apart_back xs ys h.1
 
 -- the names of one item or entry
 entry_names : (a : Option (List ℕ)) (h : Option Node) (n : ℕ) (u : Outline) → IsOpen h u → IsUnnamed h → MayBeNamed a h → IsEven n u → IsFree a (flatten u) → HaveHeadsApart (flatten u) →
-    names_in (children u) ≡ line_names (flatten u) → names_of (anchored a (head_or h (value u))) ≡ with_anchor a (head_names h ++ line_names (flatten u))
+    names_in (children u) ≡ line_names (flatten u) → names_of (anchored a (head_or h (value u))) ≡ anchor_names a (head_names h ++ line_names (flatten u))
 entry_names a h n u h1 h2 h3 h4 h5 h6 h7 = search (rules, named_node, value_takes, names_value, head_takes, append-nil)
 
 names_children : (n : ℕ) (o : Outline) → IsEven n o → HaveOneAnchorEach (flatten o) → HaveHeadsApart (flatten o) → names_in (children o) ≡ line_names (flatten o)
@@ -104,7 +104,7 @@ unfolding level
 above l = omega (arith, rank_small l.mark)
 
 -- all lines are deeper than the level 0
-pub deeper-all : (o : Outline) → deeper 0 o ≡ o
+pub deeper-all : (o : Outline) → deeper_lines 0 o ≡ o
 deeper-all end = refl
 deeper-all (row l u a) = cond-true _ _ _ (lt-ltb 0 (level l) (above l)) ∙ ap (row l u) (deeper-all a)
 
@@ -116,9 +116,9 @@ pub all_value : (ls : List Line) → anchored None (value (part ls 0 0)) ≡ val
 all_value ls = anchored_none (value (part ls 0 0)) ∙ ap value (part-all ls)
 
 -- lines that don't stand for a node, or not for one that is sound
-pub lines_unsound : (ls : List Line) → false ≡ is_sound depth_limit (part ls 0 0) → false ≡ lines_are_sound ls
+pub lines_unsound : (ls : List Line) → false ≡ is_sound_outline depth_limit (part ls 0 0) → false ≡ lines_are_sound ls
 lines_unsound ls h = search (rules, part-all, and-false)
 
 -- of lines that stand for a sound node, their anchors and aliases are left to ask of
-pub lines_named : (ls : List Line) → HaveHeadsApart ls → true ≡ is_sound depth_limit (part ls 0 0) → names_are_sound ls ≡ lines_are_sound ls
+pub lines_named : (ls : List Line) → HaveHeadsApart ls → true ≡ is_sound_outline depth_limit (part ls 0 0) → names_are_sound ls ≡ lines_are_sound ls
 lines_named ls apart h = search (rules, part-all, and_parts, names_lines, anchors_are)

@@ -2,11 +2,11 @@
 use Rattle.std.proofs.Common.{◌≡◌, ℕ, Bool, true, false, ◌&&◌, cond, eqb, ◌⊎◌, List, [], ◌∷◌, ◌++◌, refl, sym, ap, ◌∙◌, ⊎_elim, append_assoc, append-nil, subst, ◌-◌, length, take, drop, slice_index, rules}
 use Rattle.std.proofs.lemmas.Bool.{cases_Bool, or_parts}
 use Rattle.std.specs.List.{list_any}
-use Rattle.yq_flow_scalars.specs.ContentReading.{within, item, item_len, item_before, content_on, plain_content, quoted_content}
+use Rattle.yq_flow_scalars.specs.ContentReading.{within, quoted_item, item_len, item_before, content_on, plain_content, quoted_content}
 use Rattle.yq_flow_scalars.specs.Plain.{holds_break}
 use Rattle.yq_flow_scalars.specs.Quoted.{IsQuotedText}
 use Rattle.yq_flow_scalars.specs.Text.{is_white, is_feed, is_return, front}
-use Rattle.yq_nodes.specs.Scalars.{is_quoted, content_of}
+use Rattle.yq_nodes.specs.Scalars.{is_quoted, scalar_content}
 
 -- no break is in front of a text without an LF
 no_break : (b : ℕ) (bs : List ℕ) → holds_break bs ≡ false → (is_return b && front is_feed bs) ≡ false
@@ -14,7 +14,7 @@ no_break b bs h1 = search (rules, ⊎_elim, cases_Bool, or_parts)
 
 -- a byte of what stands in these quotes, or in none, stands for itself
 abbrev Itself : ℕ → ℕ → List ℕ → Type 0
-Itself quote b bs = (item quote b bs ≡ b ∷ []) × ((item_len quote b bs ≡ 0) × (item_before quote b bs ≡ within))
+Itself quote b bs = (quoted_item quote b bs ≡ b ∷ []) × ((item_len quote b bs ≡ 0) × (item_before quote b bs ≡ within))
 
 -- the bytes stand for themselves that aren't found by a test
 abbrev Keeps : ℕ → (ℕ → Bool) → Type 0
@@ -65,6 +65,6 @@ borrowed_quoted piece inner bytes q same is broken escaped =
     sym (in_quotes (slice_index piece 0) quotes inner broken none) ∙ ap (λ t. content_on (slice_index piece 0) 0 within [] t) is
 
 -- a key or scalar that is neither quoted nor broken stands for itself
-pub kept : (t : List ℕ) → is_quoted t ≡ false → holds_break t ≡ false → t ≡ content_of t
-unfolding content_of
+pub kept : (t : List ℕ) → is_quoted t ≡ false → holds_break t ≡ false → t ≡ scalar_content t
+unfolding scalar_content
 kept t quoted broken = rw quoted (sym (one_line t broken))

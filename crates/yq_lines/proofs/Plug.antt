@@ -2,7 +2,7 @@
 use Rattle.std.proofs.Common.{◌≡◌, ℕ, ◌∷◌, ◌++◌, Option, None, refl, sym, ap, ◌∙◌, subst, append_assoc, append-nil, rules}
 use Rattle.std.proofs.lemmas.Option.{none-some}
 use Rattle.yq_flow_scalars.specs.Tree.{Node}
-use Rattle.yq_lines.specs.Outline.{Mark, Line, level, Outline, row, flatten, IsOpen, IsWhole, IsEven}
+use Rattle.yq_lines.specs.Outline.{LineMark, Line, level, Outline, row, flatten, IsOpen, IsWhole, IsEven}
 use Rattle.yq_lines.specs.Places.{Context, here, below, beside, plug, lines_before, lines_after, compose}
 use Rattle.yq_lines.proofs.Allowing.{IsEntry, Allows}
 
@@ -21,7 +21,7 @@ plug-compose (beside l u p) q o = ap (row l u) (plug-compose p q o)
 pub closed : (h : Option Node) (o : Outline) → h ≡ None → IsOpen h o
 closed h o h1 = search (rules, none-some)
 
-pub entry_whole : (m : Mark) (h : Option Node) (o : Outline) → IsEntry m → IsWhole m h o
+pub entry_whole : (m : LineMark) (h : Option Node) (o : Outline) → IsEntry m → IsWhole m h o
 entry_whole m h o h1 = search rules
 
 -- what stands in a place at the level that it allows makes an even outline
@@ -41,10 +41,10 @@ never_end P (beside k v p) l u a f = f k v (plug p (row l u a))
 pub headless : (h : Option Node) (k : Line) (v b : Outline) → IsOpen h (row k v b) → h ≡ None
 headless h k v b h1 = search rules
 
-pub headless_entry : (m : Mark) (h : Option Node) (b : Outline) → h ≡ None → IsWhole m h b → IsEntry m
+pub headless_entry : (m : LineMark) (h : Option Node) (b : Outline) → h ≡ None → IsWhole m h b → IsEntry m
 headless_entry m h b h1 h2 = search (rules, none-some)
 
-followed_entry : (m : Mark) (h : Option Node) (k : Line) (v b : Outline) → IsWhole m h (row k v b) → IsEntry m
+followed_entry : (m : LineMark) (h : Option Node) (k : Line) (v b : Outline) → IsWhole m h (row k v b) → IsEntry m
 followed_entry m h k v b h1 = search rules
 
 -- a place that holds a line allows its level, and what is there is even

@@ -3,8 +3,8 @@ use Rattle.std.proofs.Common.{◌≡◌, ℕ, suc, ◌+◌, ◌-◌, ◌<◌, eq
 use Rattle.std.proofs.lemmas.Bool.{cond-true, cond-false, ne_eqb, false≢true}
 use Rattle.std.specs.List.{slice_get}
 use Rattle.yq_flow_scalars.specs.Paths.{Step, Nth, is_here, further, is_item}
-use Rattle.yq_lines.specs.Ends.{part, is_end, IsEndOf}
-use Rattle.yq_lines.specs.Group.{deeper, shallow, group}
+use Rattle.yq_lines.specs.Ends.{part, has_no_lines, IsEndOf}
+use Rattle.yq_lines.specs.Group.{deeper_lines, shallow, group}
 use Rattle.yq_lines.specs.Outline.{Line, level, Outline, flatten, key_of, label}
 use Rattle.yq_lines.specs.Places.{FoundLine, next_to, find_row}
 use Rattle.yq_lines.specs.Positions.{position, line_here}
@@ -15,15 +15,15 @@ use Rattle.yq_lines.proofs.EndsLaws.{deeper_line, not_end, part_row, row_parts}
 pub under-length : (ls : List Line) (i next : ℕ) (l : Line) → slice_get ls i ≡ Some l → IsEndOf ls i next → suc i + length (flatten (part ls (i + 1) (level l))) ≡ next
 under-length ls i next l is ends =
     let o : Outline = group (drop (i + 1) ls) in
-    let parts : flatten (deeper (level l) o) ++ flatten (shallow (level l) o) ≡ drop (i + 1) ls = flatten-parts (level l) o ∙ flatten-group (drop (i + 1) ls) in
+    let parts : flatten (deeper_lines (level l) o) ++ flatten (shallow (level l) o) ≡ drop (i + 1) ls = flatten-parts (level l) o ∙ flatten-group (drop (i + 1) ls) in
     let behind : flatten (shallow (level l) o) ≡ drop next ls = ap flatten (ends.2 l is) ∙ flatten-group (drop next ls) in
-    let sum : length (flatten (deeper (level l) o)) + length (drop next ls) ≡ length (drop (i + 1) ls) = search (rules, length-append, o, behind, parts) in
+    let sum : length (flatten (deeper_lines (level l) o)) + length (drop next ls) ≡ length (drop (i + 1) ls) = search (rules, length-append, o, behind, parts) in
     omega (arith, sum, length-drop next ls, length-drop (i + 1) ls, ends.0, ends.1)
 
 position-next : (at next : ℕ) (l : Line) (u : Outline) (r : Option FoundLine) → suc at + length (flatten u) ≡ next → position at (option_map (next_to l u) r) ≡ position next r
 position-next at next l u r h1 = search (rules, length-append)
 
-module _ (ls : List Line) (at floor : ℕ) (l : Line) (is : slice_get ls at ≡ Some l) (deep : true ≡ not (is_end (part ls at floor))) where
+module _ (ls : List Line) (at floor : ℕ) (l : Line) (is : slice_get ls at ≡ Some l) (deep : true ≡ not (has_no_lines (part ls at floor))) where
   lt : floor < level l
   lt = deeper_line ls at floor l is (not_end _ deep)
 
@@ -39,7 +39,7 @@ module _ (ls : List Line) (at floor : ℕ) (l : Line) (is : slice_get ls at ≡ 
       ap (λ o. position at (find_row s o)) (row_parts ls at floor next l is lt (ends.2 l is))
       ∙ (ap (position at) (cond-false _ _ _ other) ∙ position-next at next l (part ls (at + 1) (level l)) (find_row (further s) (part ls next floor)) (under-length ls at next l is ends))
 
-pub position_end : (at : ℕ) (s : Step) (o : Outline) → false ≡ not (is_end o) → position at (find_row s o) ≡ None
+pub position_end : (at : ℕ) (s : Step) (o : Outline) → false ≡ not (has_no_lines o) → position at (find_row s o) ≡ None
 position_end at s o h1 = search (rules, false≢true)
 
 -- an index leads to the first item where it is 0

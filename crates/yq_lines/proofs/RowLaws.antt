@@ -4,19 +4,19 @@ use Rattle.std.proofs.lemmas.Bool.{false≢true, cases_lt, or_parts, cond-false}
 use Rattle.yq_flow_scalars.specs.Piece.{deeper}
 use Rattle.yq_flow_scalars.specs.Plain.{begins_plain, holds_break}
 use Rattle.yq_flow_scalars.specs.Quoted.{IsQuotedText}
-use Rattle.yq_flow_scalars.specs.Text.{is_empty, lines_of, is_feed}
+use Rattle.yq_flow_scalars.specs.Text.{is_empty, text_lines, is_feed}
 use Rattle.yq_nodes.specs.Scalars.{IsScalarAt, is_quoted}
 use Rattle.yq_nodes.proofs.PieceLaws.{front_not, scalar_some}
 use Rattle.yq_lines.specs.Comments.{head_comment}
 use Rattle.yq_cut.specs.Grammar.{IsMark, AreDashes}
-use Rattle.yq_cut.specs.Rows.{Content, Mark, Bare, Dash, Key, dashes_text}
-use Rattle.yq_cut.specs.View.{key_of, Slices, last_dash, colon_of}
+use Rattle.yq_cut.specs.Rows.{Content, RowMark, Bare, Dash, Key, dashes_text}
+use Rattle.yq_cut.specs.View.{key_of_mark, Slices, last_dash, colon_of}
 use Rattle.yq_cut.proofs.KeyLines.{key_line}
 use Rattle.std.proofs.lemmas.Option.{same_Some}
 use Rattle.std.specs.List.{slice_get, list_any}
 use Rattle.yq_lines.specs.Outline.{Line}
 use Rattle.yq_flow_scalars.specs.ContentReading.{quoted_content}
-use Rattle.yq_nodes.specs.Nodes.{first_is}
+use Rattle.yq_nodes.specs.Nodes.{begins_with}
 use Rattle.yq_lines.proofs.OneLine.{borrowed_quoted}
 use Rattle.std.proofs.lemmas.List.Sums.{sum_by-cons}
 use Rattle.yq_cut.specs.Rows as rows
@@ -39,21 +39,21 @@ plain_key key rest h1 h2 = search (rules, false≢true, front_not)
 pub scalar_quoted : (spaces : Option ℕ) (p rest : List ℕ) → IsScalarAt false spaces p rest → is_quoted p ≡ true → IsQuotedText p
 scalar_quoted spaces p rest h1 h2 = search (rules, plain_key)
 
-pub mark_quoted : (m : rows.Mark) (c : Content) (rest : List ℕ) → IsMark m c rest → is_quoted (key_of m) ≡ true → IsQuotedText (key_of m)
+pub mark_quoted : (m : rows.RowMark) (c : Content) (rest : List ℕ) → IsMark m c rest → is_quoted (key_of_mark m) ≡ true → IsQuotedText (key_of_mark m)
 mark_quoted m c rest h1 h2 = search (rules, false≢true, scalar_quoted)
 
 -- a key has one line
-pub mark_line : (m : rows.Mark) (c : Content) (rest : List ℕ) → IsMark m c rest → holds_break (key_of m) ≡ false
+pub mark_line : (m : rows.RowMark) (c : Content) (rest : List ℕ) → IsMark m c rest → holds_break (key_of_mark m) ≡ false
 mark_line m c rest h1 = search (rules, key_line)
 
 -- how many lines a row's dashes are
-pub lines_count : (above : List (List ℕ)) (column : ℕ) (ns : List ℕ) (m : rows.Mark) (c : Content) → length (lines_from above column ns m c) ≡ suc (length ns)
+pub lines_count : (above : List (List ℕ)) (column : ℕ) (ns : List ℕ) (m : rows.RowMark) (c : Content) → length (lines_from above column ns m c) ≡ suc (length ns)
 lines_count above column [] m c = refl
 lines_count above column (n ∷ ns) m c = ap suc (lines_count [] (suc (column + n)) ns m c)
 
 -- no comment stands in no text
 pub no_comments : head_comment [] ≡ []
-unfolding lines_of
+unfolding text_lines
 no_comments = refl
 
 -- ---- the anchor and the comments of each line of a row
@@ -65,7 +65,7 @@ pub record IsBeside (above : List (List ℕ)) (ns : List ℕ) (c : Content) (k :
   pub first : k ≡ 0 → l.head_comment ≡ above
   pub other : 0 < k → l.head_comment ≡ []
 
-pub beside_in : (above : List (List ℕ)) (column : ℕ) (ns : List ℕ) (m : rows.Mark) (c : Content) (k : ℕ) (l : Line) → k ≤ length ns → slice_get (lines_from above column ns m c) k ≡ Some l → IsBeside above ns c k l
+pub beside_in : (above : List (List ℕ)) (column : ℕ) (ns : List ℕ) (m : rows.RowMark) (c : Content) (k : ℕ) (l : Line) → k ≤ length ns → slice_get (lines_from above column ns m c) k ≡ Some l → IsBeside above ns c k l
 beside_in above column [] m c zero l h e = search (rules, same_Some)
 beside_in above column [] m c (suc k) l h e = absurd (omega (arith, h))
 beside_in above column (n ∷ ns) m c zero l h e = search (rules, same_Some)
@@ -88,7 +88,7 @@ any_take f (suc n) (b ∷ bs) e =
     let rest : list_any f (take n bs) ≡ false = any_take f n bs p.1 in
     (λ i. p.0 i || rest i)
 
-pub quoted_lent : (piece inner : List ℕ) → IsQuotedText piece → holds_break piece ≡ false → inner ≡ take (length piece - 2) (drop 1 piece) → list_any (λ b. eqb b (cond (first_is 34 piece) 92 39)) inner ≡ false → inner ≡ quoted_content piece
+pub quoted_lent : (piece inner : List ℕ) → IsQuotedText piece → holds_break piece ≡ false → inner ≡ take (length piece - 2) (drop 1 piece) → list_any (λ b. eqb b (cond (begins_with 34 piece) 92 39)) inner ≡ false → inner ≡ quoted_content piece
 quoted_lent [] inner q broken is none = borrowed_quoted [] inner [] q refl is (ap holds_break is) (ap (list_any (λ b. eqb b 39)) is)
 quoted_lent (b ∷ bs) inner q broken is none =
     borrowed_quoted (b ∷ bs) inner (b ∷ bs) q refl is (ap holds_break is ∙ any_take is_feed (length (b ∷ bs) - 2) bs (any_drop is_feed 1 (b ∷ bs) broken)) none
@@ -108,7 +108,7 @@ dashes_count (n ∷ ns) t =
     omega (arith, step, none_in_spaces n (dashes_text ns t), dashes_count ns t)
 
 -- the lines before the last one of a row
-pub before_mark : (ns : List ℕ) (m : Mark) (c : Content) (rest : List ℕ) → AreDashes ns m → IsMark m c rest → cond (is_empty (colon_of m)) (dash_count (dashes_text ns (last_dash m)) - 1) (dash_count (dashes_text ns (last_dash m))) ≡ length ns
+pub before_mark : (ns : List ℕ) (m : RowMark) (c : Content) (rest : List ℕ) → AreDashes ns m → IsMark m c rest → cond (is_empty (colon_of m)) (dash_count (dashes_text ns (last_dash m)) - 1) (dash_count (dashes_text ns (last_dash m))) ≡ length ns
 before_mark [] Bare c rest d m = refl
 before_mark (n ∷ ns) Bare c rest d m = absurd (cc)
 before_mark ns Dash c rest d m = search (rules, dashes_count)

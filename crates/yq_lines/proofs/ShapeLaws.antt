@@ -5,8 +5,8 @@ use Rattle.std.specs.List.{All}
 use Rattle.yq_flow_scalars.specs.Keys.{with_key, keys_of, AreDistinct, HasUniqueKeys, EachHasUniqueKeys}
 use Rattle.yq_flow_scalars.specs.Shapes.{IsNew, AreItems, AreKeyed, AreEntries as HaveNewKeys, IsTree, AreTrees, IsShaped, AreShaped}
 use Rattle.yq_flow_scalars.specs.Tree.{Node, alias, scalar, list, map, Children, none, child}
-use Rattle.yq_lines.specs.Outline.{Mark, Bare, Key, Dash, rank, Line, level, anchored, key_of}
-use Rattle.yq_lines.specs.Grammar.{IsNode, alone, mapping, sequence, AreEntries, no_more, entry, IsUnder, headed, missing, deeper_lines}
+use Rattle.yq_lines.specs.Outline.{LineMark, Bare, Key, Dash, rank, Line, level, anchored, key_of}
+use Rattle.yq_lines.specs.Grammar.{IsNodeOutline, alone, mapping, sequence, AreEntryLines, no_more, entry, IsUnder, headed, missing, deeper_lines}
 use Rattle.yq_lines.specs.ShapedLines.{HeadIsShaped, HeadsAreShaped}
 
 -- ---- items and keys
@@ -23,40 +23,40 @@ back_shaped [] ms h = h
 back_shaped (l ∷ ls) ms h = back_shaped ls ms h.1
 
 -- the rank of a key: what stands at its level has one too
-is_key : (m : Mark) → (m ≡ Bare → ⊥) → (b c : ℕ) → 3 * b + rank m ≡ 3 * c + 2 → (k : List ℕ) × (key_of m ≡ Some k)
+is_key : (m : LineMark) → (m ≡ Bare → ⊥) → (b c : ℕ) → 3 * b + rank m ≡ 3 * c + 2 → (k : List ℕ) × (key_of m ≡ Some k)
 is_key Bare some b c e = absurd (some refl)
 is_key (Key k) some b c e = (k, refl)
 is_key Dash some b c e = absurd (omega (arith, e))
 
 -- the rank of a dash: what stands at its level has no key
-is_item : (m : Mark) → (m ≡ Bare → ⊥) → (b c : ℕ) → 3 * b + rank m ≡ 3 * c + 3 → key_of m ≡ None
+is_item : (m : LineMark) → (m ≡ Bare → ⊥) → (b c : ℕ) → 3 * b + rank m ≡ 3 * c + 3 → key_of m ≡ None
 is_item m h1 b c h2 = search rules
 
-all_keyed : {n : ℕ} {ls : List Line} {cs : Children} (c : ℕ) → n ≡ 3 * c + 2 → AreEntries n ls cs → AreKeyed cs
+all_keyed : {n : ℕ} {ls : List Line} {cs : Children} (c : ℕ) → n ≡ 3 * c + 2 → AreEntryLines n ls cs → AreKeyed cs
 unfolding level
 all_keyed c e no_more = tt
 all_keyed c e (entry {n} {l} {under} {after} {all} {v} {cs} lev mark u es is) = (is_key l.mark mark l.column c (lev ∙ e), all_keyed c e es)
 
-all_items : {n : ℕ} {ls : List Line} {cs : Children} (c : ℕ) → n ≡ 3 * c + 3 → AreEntries n ls cs → AreItems cs
+all_items : {n : ℕ} {ls : List Line} {cs : Children} (c : ℕ) → n ≡ 3 * c + 3 → AreEntryLines n ls cs → AreItems cs
 unfolding level
 all_items c e no_more = tt
 all_items c e (entry {n} {l} {under} {after} {all} {v} {cs} lev mark u es is) = (is_item l.mark mark l.column c (lev ∙ e), all_items c e es)
 
 -- the level of the first line
-first_level : {n : ℕ} {l : Line} {ls : List Line} {cs : Children} → AreEntries n (l ∷ ls) cs → level l ≡ n
+first_level : {n : ℕ} {l : Line} {ls : List Line} {cs : Children} → AreEntryLines n (l ∷ ls) cs → level l ≡ n
 first_level (entry lev mark u es is) = lev
 
 mutual
   unfolding level
 
-  node_shaped : {n : ℕ} {ls : List Line} {v : Node} → IsNode n ls v → HeadsAreShaped ls → IsShaped v
+  node_shaped : {n : ℕ} {ls : List Line} {v : Node} → IsNodeOutline n ls v → HeadsAreShaped ls → IsShaped v
   node_shaped (alone {n} {l} {v} lev bare head) h = anchored_shaped l.anchor v (subst HeadIsShaped head h.0)
   node_shaped (mapping {n} {l} {k} {ls} {cs} mark es) h =
       (all_keyed l.column (sym (first_level es) ∙ ap (λ m. 3 * l.column + rank m) mark) es, entries_shaped es h)
   node_shaped (sequence {n} {l} {ls} {cs} mark es) h =
       (all_items l.column (sym (first_level es) ∙ ap (λ m. 3 * l.column + rank m) mark) es, entries_shaped es h)
 
-  entries_shaped : {n : ℕ} {ls : List Line} {cs : Children} → AreEntries n ls cs → HeadsAreShaped ls → AreShaped cs
+  entries_shaped : {n : ℕ} {ls : List Line} {cs : Children} → AreEntryLines n ls cs → HeadsAreShaped ls → AreShaped cs
   entries_shaped no_more h = tt
   entries_shaped (entry {n} {l} {under} {after} {all} {v} {cs} lev mark u es is) h =
       let rest = subst HeadsAreShaped is h.1 in
@@ -67,7 +67,7 @@ mutual
   under_shaped (missing {l} head) h hs = tt
   under_shaped (deeper_lines {l} {n} {ls} {v} head lt d) h hs = node_shaped d hs
 
-pub shaped_by_lines : (n : ℕ) (ls : List Line) (node : Node) → IsNode n ls node → HeadsAreShaped ls → IsShaped node
+pub shaped_by_lines : (n : ℕ) (ls : List Line) (node : Node) → IsNodeOutline n ls node → HeadsAreShaped ls → IsShaped node
 shaped_by_lines n ls node d h = node_shaped d h
 
 -- ---- keys that differ

@@ -5,15 +5,15 @@ use Rattle.std.specs.Prelude.{String}
 use Rattle.std.specs.declared.alloc.Global.{Global}
 use Rattle.yq_flow_scalars.specs.declared.piece.Piece.{Piece}
 use Rattle.yq_nodes.specs.declared.inline.Inline.{Inline}
-use Rattle.yq_nodes.specs.View.{view, items_end, entries_end}
-use Rattle.yq_nodes.specs.Places.{Placed, placed, Content, nothing, name, text, sequence, mapping, Parts, end, part}
+use Rattle.yq_nodes.specs.View.{inline_view, items_end, entries_end}
+use Rattle.yq_nodes.specs.Places.{Placed, placed, CoreNode, nothing, name, text, sequence, mapping, Parts, end, part}
 
 -- how many nodes there are
 abbrev mutual
   pub node_size : Placed → ℕ
   node_size (placed a s c e f) = suc (form_size f)
 
-  pub form_size : Content → ℕ
+  pub form_size : CoreNode → ℕ
   form_size nothing = 0
   form_size (name n) = 0
   form_size (text s p) = 0
@@ -34,14 +34,14 @@ drop_entries xs zero = omega arith
 drop_entries [] (suc i) = omega arith
 drop_entries (x ∷ xs) (suc i) = omega (arith, drop_entries xs i)
 
-pub item_size : (xs : List Inline) (i : ℕ) (x : Inline) → i < length xs → x ≡ get_or xs i x → node_size (view x) ≤ parts_size (items_end xs)
+pub item_size : (xs : List Inline) (i : ℕ) (x : Inline) → i < length xs → x ≡ get_or xs i x → node_size (inline_view x) ≤ parts_size (items_end xs)
 item_size xs i x within is =
     let e : drop i xs ≡ x ∷ drop (i + 1) xs = drop_more xs i x within ∙ ap (λ y. y ∷ drop (i + 1) xs) (sym is) in
-    let whole : parts_size (items_end (drop i xs)) ≡ node_size (view x) + parts_size (items_end (drop (i + 1) xs)) = ap (λ l. parts_size (items_end l)) e in
+    let whole : parts_size (items_end (drop i xs)) ≡ node_size (inline_view x) + parts_size (items_end (drop (i + 1) xs)) = ap (λ l. parts_size (items_end l)) e in
     omega (arith, drop_items xs i, whole)
 
-pub entry_size : (xs : List (String Global × Piece × Inline)) (i : ℕ) (x : String Global × Piece × Inline) → i < length xs → x ≡ get_or xs i x → node_size (view x.2) ≤ parts_size (entries_end xs)
+pub entry_size : (xs : List (String Global × Piece × Inline)) (i : ℕ) (x : String Global × Piece × Inline) → i < length xs → x ≡ get_or xs i x → node_size (inline_view x.2) ≤ parts_size (entries_end xs)
 entry_size xs i x within is =
     let e : drop i xs ≡ x ∷ drop (i + 1) xs = drop_more xs i x within ∙ ap (λ y. y ∷ drop (i + 1) xs) (sym is) in
-    let whole : parts_size (entries_end (drop i xs)) ≡ node_size (view x.2) + parts_size (entries_end (drop (i + 1) xs)) = ap (λ l. parts_size (entries_end l)) e in
+    let whole : parts_size (entries_end (drop i xs)) ≡ node_size (inline_view x.2) + parts_size (entries_end (drop (i + 1) xs)) = ap (λ l. parts_size (entries_end l)) e in
     omega (arith, drop_entries xs i, whole)

@@ -4,22 +4,22 @@ use Rattle.std.proofs.lemmas.Bool.{lt-ltb, eq-eqb, ne_eqb, leb-true, le-leb, cas
 use Rattle.std.proofs.Math.Bool.{and-false, and-true, and_comm}
 use Rattle.yq_flow_scalars.specs.Tree.{Node}
 use Rattle.yq_flow_scalars.specs.Keys.{with_key, keys_of, depth, deepest, are_distinct}
-use Rattle.yq_lines.specs.Outline.{Mark, Bare, Dash, rank, Line, level, Outline, end, row, anchored, head_or, key_of, children, value}
-use Rattle.yq_lines.specs.Group.{deeper, shallow, is_open, is_whole, level_or, is_even, is_fine}
-use Rattle.yq_lines.specs.Ends.{is_end}
-use Rattle.yq_lines.specs.Sound.{has_unique_keys, each_has_unique_keys, is_sound, head_is_sound, line_is_sound, is_entry}
+use Rattle.yq_lines.specs.Outline.{LineMark, Bare, Dash, rank, Line, level, Outline, end, row, anchored, head_or, key_of, children, value}
+use Rattle.yq_lines.specs.Group.{deeper_lines, shallow, is_open, is_whole, level_or, is_even, is_fine}
+use Rattle.yq_lines.specs.Ends.{has_no_lines}
+use Rattle.yq_lines.specs.Sound.{has_unique_keys, each_has_unique_keys, is_sound_outline, head_is_sound, line_is_sound, is_entry_line}
 
 -- what is asked of the items or entries from one on, where these keys stand before it
 abbrev pub asked : ℕ → ℕ → List (List ℕ) → Outline → Bool
 asked d n keys o = is_even n o && (leb (deepest (children o)) d && (each_has_unique_keys (children o) && are_distinct (keys ++ keys_of (children o))))
 
 -- keys with that of one more line, if it has one
-abbrev pub keys_with : List (List ℕ) → Mark → List (List ℕ)
+abbrev pub keys_with : List (List ℕ) → LineMark → List (List ℕ)
 keys_with keys m = keys ++ with_key (key_of m) []
 
 -- a level at which lines are items or entries
 abbrev pub IsEntryLevel : ℕ → Type 0
-IsEntryLevel n = (l : Line) → level l ≡ n → is_entry l.mark ≡ true
+IsEntryLevel n = (l : Line) → level l ≡ n → is_entry_line l.mark ≡ true
 
 -- the two parts of what is asked of a head
 abbrev head_depth : ℕ → Option Node → Bool
@@ -64,11 +64,11 @@ sorted f e l h x u g y z = search (rules, and-false)
 even_any : (d : ℕ) (o : Outline) → is_even (level_or d o) o ≡ is_fine o
 even_any d o = search rules
 
-whole_entry : (m : Mark) (h : Option Node) (o : Outline) → is_entry m ≡ true → is_whole m h o ≡ true
+whole_entry : (m : LineMark) (h : Option Node) (o : Outline) → is_entry_line m ≡ true → is_whole m h o ≡ true
 whole_entry m h o h1 = search (rules, false≢true)
 
 -- a line at the level of its collection, with what is under it
-even_row : (n : ℕ) (l : Line) (u a : Outline) → is_entry l.mark ≡ true → level l ≡ n → is_open l.head u ≡ true → level l < level_or (level l + 1) u →
+even_row : (n : ℕ) (l : Line) (u a : Outline) → is_entry_line l.mark ≡ true → level l ≡ n → is_open l.head u ≡ true → level l < level_or (level l + 1) u →
     is_even n (row l u a) ≡ (is_fine u && is_even n a)
 even_row n l u a entry lev open' deep = search (rules, eq-eqb, whole_entry, lt-ltb, even_any)
 
@@ -76,8 +76,8 @@ keys_again : (keys : List (List ℕ)) (k : Option (List ℕ)) (more : List (List
 keys_again keys k more = search (rules, append_assoc)
 
 -- what is asked of a line and of those behind it
-asked_row : (d n : ℕ) (keys : List (List ℕ)) (l : Line) (u a : Outline) → is_entry l.mark ≡ true → level l ≡ n → is_open l.head u ≡ true → level l < level_or (level l + 1) u →
-    asked d n keys (row l u a) ≡ (head_is_sound d l.head && (is_sound d u && asked d n (keys_with keys l.mark) a))
+asked_row : (d n : ℕ) (keys : List (List ℕ)) (l : Line) (u a : Outline) → is_entry_line l.mark ≡ true → level l ≡ n → is_open l.head u ≡ true → level l < level_or (level l + 1) u →
+    asked d n keys (row l u a) ≡ (head_is_sound d l.head && (is_sound_outline d u && asked d n (keys_with keys l.mark) a))
 asked_row d n keys l u a entry lev open' deep =
     search (rules, depth-anchored, depth-head, unique-anchored, unique-head, keys_again, even_row, leb-max, sorted, head_parts)
 
@@ -90,11 +90,11 @@ not_open d n keys l u a lev e = rw (eq-eqb (level l) n lev, e) refl
 
 -- what is asked of a line in a collection, of those under it and of those behind it
 pub asked_line : (d n : ℕ) (keys : List (List ℕ)) (l : Line) (u a : Outline) → IsEntryLevel n → level l < level_or (level l + 1) u →
-    asked d n keys (row l u a) ≡ (line_is_sound d n l u && (is_sound d u && asked d n (keys_with keys l.mark) a))
+    asked d n keys (row l u a) ≡ (line_is_sound d n l u && (is_sound_outline d u && asked d n (keys_with keys l.mark) a))
 asked_line d n keys l u a entries deep = go (cases_eq (level l) n)
   where
     next : Bool
-    next = is_sound d u && asked d n (keys_with keys l.mark) a
+    next = is_sound_outline d u && asked d n (keys_with keys l.mark) a
 
     opened : (b : Bool) → level l ≡ n → is_open l.head u ≡ b → asked d n keys (row l u a) ≡ (b && head_is_sound d l.head) && next
     opened b h1 h2 = search (rules, asked_row, not_open)
@@ -108,13 +108,13 @@ same_rank : (l m : Line) → level l ≡ level m → rank l.mark ≡ rank m.mark
 unfolding level
 same_rank l m e = search rules
 
-entry_by_rank : (a b : Mark) → rank a ≡ rank b → is_entry b ≡ true → is_entry a ≡ true
+entry_by_rank : (a b : LineMark) → rank a ≡ rank b → is_entry_line b ≡ true → is_entry_line a ≡ true
 entry_by_rank a b h1 h2 = search (rules, false≢true)
 
-pub entry_level : (l : Line) → is_entry l.mark ≡ true → IsEntryLevel (level l)
+pub entry_level : (l : Line) → is_entry_line l.mark ≡ true → IsEntryLevel (level l)
 entry_level l h m e = entry_by_rank m.mark l.mark (same_rank m l e) h
 
-no_key : (a : Mark) → rank a ≡ 3 → key_of a ≡ None
+no_key : (a : LineMark) → rank a ≡ 3 → key_of a ≡ None
 no_key a h1 = search rules
 
 -- items have no keys
@@ -136,26 +136,26 @@ guarded : (b x y z : Bool) → (b ≡ true → z ≡ true) → (b && (x && y)) �
 guarded b x y z h1 = search (rules, and-true)
 
 -- what is asked of a collection, of its items or entries
-pub sound_entries : (d : ℕ) (l : Line) (u a : Outline) → is_entry l.mark ≡ true → is_sound (suc d) (row l u a) ≡ asked d (level l) [] (row l u a)
+pub sound_entries : (d : ℕ) (l : Line) (u a : Outline) → is_entry_line l.mark ≡ true → is_sound_outline (suc d) (row l u a) ≡ asked d (level l) [] (row l u a)
 sound_entries d l u a entry = go l.mark refl entry
   where
-    go : (m : Mark) → l.mark ≡ m → is_entry m ≡ true → is_sound (suc d) (row l u a) ≡ asked d (level l) [] (row l u a)
+    go : (m : LineMark) → l.mark ≡ m → is_entry_line m ≡ true → is_sound_outline (suc d) (row l u a) ≡ asked d (level l) [] (row l u a)
     go m h1 h2 = search (rules, false≢true, leb-suc, and_comm, guarded, no_keys)
 
-pub too_deep : (l : Line) (u a : Outline) → is_entry l.mark ≡ true → is_sound 0 (row l u a) ≡ false
+pub too_deep : (l : Line) (u a : Outline) → is_entry_line l.mark ≡ true → is_sound_outline 0 (row l u a) ≡ false
 too_deep l u a entry = search (rules, false≢true, leb-zero, and-false)
 
 -- a node on a line of its own, with what is under it and behind it
 alone : (d n : ℕ) (h : Option Node) (u a : Outline) → n < n + 1 →
     ((is_open h u && (is_whole Bare h a && (ltb n (level_or (n + 1) u) && (is_even (level_or (n + 1) u) u && is_even n a)))) && (leb (depth (head_or h (value u))) d && has_unique_keys (head_or h (value u))))
-    ≡ ((is_some h && (is_end u && is_end a)) && head_is_sound d h)
+    ≡ ((is_some h && (has_no_lines u && has_no_lines a)) && head_is_sound d h)
 alone d n h u a h1 = search (rules, lt-ltb)
 
 -- what is asked of a node on a line of its own
-pub sound_bare : (d : ℕ) (l : Line) (u a : Outline) → l.mark ≡ Bare → is_sound d (row l u a) ≡ ((is_some l.head && (is_end u && is_end a)) && head_is_sound d l.head)
+pub sound_bare : (d : ℕ) (l : Line) (u a : Outline) → l.mark ≡ Bare → is_sound_outline d (row l u a) ≡ ((is_some l.head && (has_no_lines u && has_no_lines a)) && head_is_sound d l.head)
 sound_bare d l u a mark = search (rules, eq-eqb, depth-anchored, unique-anchored, alone)
 
 -- nothing is under a line and nothing behind it, where the next one is not deeper than a lower level
-pub lone : (n floor : ℕ) (o : Outline) → floor < n → (is_end (deeper n o) && is_end (deeper floor (shallow n o))) ≡ is_end (deeper floor o)
+pub lone : (n floor : ℕ) (o : Outline) → floor < n → (has_no_lines (deeper_lines n o) && has_no_lines (deeper_lines floor (shallow n o))) ≡ has_no_lines (deeper_lines floor o)
 lone n floor end h = refl
 lone n floor (row l u a) h = search rules

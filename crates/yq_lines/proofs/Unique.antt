@@ -3,7 +3,7 @@ use Rattle.std.proofs.Common.{◌≡◌, ℕ, ◌<◌, ◌≤◌, List, [], ◌+
 use Rattle.std.proofs.lemmas.Bool.{lt-ltb, le-ltb, cond-true, cond-false}
 use Rattle.yq_flow_scalars.specs.Tree.{Node}
 use Rattle.yq_lines.specs.Outline.{Line, level, Outline, end, row, flatten, value, IsEven, Stands}
-use Rattle.yq_lines.specs.Group.{deeper, shallow, lead, group}
+use Rattle.yq_lines.specs.Group.{deeper_lines, shallow, lead, group}
 
 -- one outline behind another
 abbrev pub join : Outline → Outline → Outline
@@ -15,7 +15,7 @@ abbrev pub IsShallow : ℕ → Outline → Type 0
 IsShallow n end = Unit {0}
 IsShallow n (row l under after) = level l ≤ n
 
-deeper-shallow : (n : ℕ) (o : Outline) → IsShallow n o → deeper n o ≡ end
+deeper-shallow : (n : ℕ) (o : Outline) → IsShallow n o → deeper_lines n o ≡ end
 deeper-shallow n end h = refl
 deeper-shallow n (row l u a) h = cond-false _ _ _ (le-ltb n (level l) h)
 
@@ -23,7 +23,7 @@ shallow-shallow : (n : ℕ) (o : Outline) → IsShallow n o → shallow n o ≡ 
 shallow-shallow n end h = refl
 shallow-shallow n (row l u a) h = cond-false _ _ _ (le-ltb n (level l) h)
 
-deeper-join : (n m : ℕ) (o b : Outline) → n < m → IsEven m o → IsShallow n b → deeper n (join o b) ≡ o
+deeper-join : (n m : ℕ) (o b : Outline) → n < m → IsEven m o → IsShallow n b → deeper_lines n (join o b) ≡ o
 deeper-join n m end b lt e h = deeper-shallow n b h
 deeper-join n m (row l u a) b lt e h =
     cond-true _ _ _ (lt-ltb n (level l) (omega (arith, e.0))) ∙ ap (row l u) (deeper-join n m a b lt e.4 h)

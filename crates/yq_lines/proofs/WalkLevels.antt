@@ -10,14 +10,14 @@ use Rattle.yq_flow_scalars.specs.Plain.{holds_break}
 use Rattle.yq_flow_scalars.specs.Quoted.{IsQuotedText}
 use Rattle.yq_flow_scalars.specs.Text.{is_empty}
 use Rattle.yq_lines.specs.Outline.{Dash, Line, key_of, level, rank}
-use Rattle.yq_cut.specs.Rows.{Content, Row, dashes_text, Mark}
+use Rattle.yq_cut.specs.Rows.{Content, Row, dashes_text, RowMark}
 use Rattle.yq_cut.specs.View.{Slices, slices, last_dash, colon_of, content_cut}
-use Rattle.yq_flow_scalars.specs.Anchors.{with_anchor}
+use Rattle.yq_flow_scalars.specs.Anchors.{anchor_names}
 use Rattle.yq_lines.specs.LinesReading.{is_free, have_one_anchor_each}
 use Rattle.yq_lines.specs.Names.{head_names, line_names}
 use Rattle.yq_cut.specs.Rows as rows
 use Rattle.yq_lines.specs.Comments as comments
-use Rattle.yq_lines.specs.Lines.{head_of, mark_of, mark_line, dash_line, lines_from, content_anchor, row_lines}
+use Rattle.yq_lines.specs.Lines.{head_of, line_mark, mark_line, dash_line, lines_from, content_anchor, row_lines}
 use Rattle.yq_lines.specs.Extents.{dash_at, lines_before_mark}
 use Rattle.yq_lines.specs.RowWalk.{line_rank, line_level}
 
@@ -39,7 +39,7 @@ to_dash (suc k) (n ∷ ns) t h e =
     let again : dash_at k (dashes_text ns t) ≡ length (dashes_text (take k ns) []) = to_dash k ns t (omega (arith, h)) e in
     search (rules, length-replicate, cond-false, ne_eqb, past_spaces, length-append, again)
 
-pub last_is : (m : Mark) → last_dash m ≡ [] ⊎ ((u : List ℕ) × (last_dash m ≡ 45 ∷ u))
+pub last_is : (m : RowMark) → last_dash m ≡ [] ⊎ ((u : List ℕ) × (last_dash m ≡ 45 ∷ u))
 last_is m = search rules
 
 -- ---- how deep the lines of rows are, by the pieces of rows
@@ -47,7 +47,7 @@ last_is m = search rules
 -- What is asked of a row, for its pieces to tell its lines.
 pub record RowAgrees (r : Row) : Type 0 where
   pub counted : lines_before_mark (slices r) ≡ length r.dashes
-  pub colon : is_empty (colon_of r.mark) ≡ is_item (key_of (mark_of r.mark))
+  pub colon : is_empty (colon_of r.mark) ≡ is_item (key_of (line_mark r.mark))
   pub head : is_empty (content_cut r.content).3 ≡ is_none (head_of r.content)
   pub quoted : is_quoted (slices r).key ≡ true → IsQuotedText (slices r).key
   pub line : holds_break (slices r).key ≡ false
@@ -58,12 +58,12 @@ RowsAgree [] = Unit {0}
 RowsAgree (r ∷ rs) = RowAgrees r × RowsAgree rs
 
 -- Line k of a row from a column on.
-pub record IsLineOf (column : ℕ) (ns : List ℕ) (m : rows.Mark) (c : Content) (k : ℕ) (l : Line) : Type 0 where
+pub record IsLineOf (column : ℕ) (ns : List ℕ) (m : rows.RowMark) (c : Content) (k : ℕ) (l : Line) : Type 0 where
   pub column_is : l.column ≡ column + length (dashes_text (take k ns) [])
   pub dash : k < length ns → (l.mark ≡ Dash) × (l.head ≡ None)
-  pub mark : k ≡ length ns → (l.mark ≡ mark_of m) × (l.head ≡ head_of c)
+  pub mark : k ≡ length ns → (l.mark ≡ line_mark m) × (l.head ≡ head_of c)
 
-pub line_in : (above : List (List ℕ)) (column : ℕ) (ns : List ℕ) (m : rows.Mark) (c : Content) (k : ℕ) → k ≤ length ns → (l : Line) × (slice_get (lines_from above column ns m c) k ≡ Some l) × IsLineOf column ns m c k l
+pub line_in : (above : List (List ℕ)) (column : ℕ) (ns : List ℕ) (m : rows.RowMark) (c : Content) (k : ℕ) → k ≤ length ns → (l : Line) × (slice_get (lines_from above column ns m c) k ≡ Some l) × IsLineOf column ns m c k l
 line_in above column [] m c zero h = (mark_line above column m c, refl, record { column_is = omega arith; dash = λ p. absurd (omega (arith, p)); mark = λ e. (refl, refl) })
 line_in above column [] m c (suc k) h = absurd (omega (arith, h))
 line_in above column (n ∷ ns) m c zero h = (dash_line above column, refl, record { column_is = omega arith; dash = λ p. (refl, refl); mark = λ e. absurd (omega (arith, e)) })
@@ -82,8 +82,8 @@ dash_behind [] = refl
 dash_behind (n ∷ ns) = omega (arith, dash_behind ns, length-append (replicate n 32) (dashes_text ns (45 ∷ [])), length-append (replicate n 32) (dashes_text ns []))
 
 -- the rank of a row's last line
-mark_rank : (m : rows.Mark) (ns : List ℕ) (a : ℕ) → a ≡ length (dashes_text ns []) → is_empty (colon_of m) ≡ is_item (key_of (mark_of m)) →
-    rank (mark_of m) ≡ cond (ltb a (length (dashes_text ns (last_dash m)))) 3 (cond (is_empty (colon_of m)) 1 2)
+mark_rank : (m : rows.RowMark) (ns : List ℕ) (a : ℕ) → a ≡ length (dashes_text ns []) → is_empty (colon_of m) ≡ is_item (key_of (line_mark m)) →
+    rank (line_mark m) ≡ cond (ltb a (length (dashes_text ns (last_dash m)))) 3 (cond (is_empty (colon_of m)) 1 2)
 mark_rank m ns a h1 h2 = search (rules, cond-false, le-ltb, cond-true, lt-ltb, dash_behind)
 
 -- the rank of a line of a row
@@ -105,7 +105,7 @@ rank_of_level k x n e = search rules
 -- ---- what is asked of the anchors and names of all lines of rows, row by row
 
 -- a row's anchor stands before the row's last line's node, and no other one does
-free_from : (above : List (List ℕ)) (column : ℕ) (ns : List ℕ) (m : rows.Mark) (c : Content) (ls : List Line) →
+free_from : (above : List (List ℕ)) (column : ℕ) (ns : List ℕ) (m : rows.RowMark) (c : Content) (ls : List Line) →
     have_one_anchor_each (lines_from above column ns m c ++ ls) ≡ (is_free (content_anchor c) ls && have_one_anchor_each ls)
 free_from above column [] m c ls = refl
 free_from above column (n ∷ ns) m c ls = free_from [] (suc (column + n)) ns m c ls
@@ -114,10 +114,10 @@ pub free_row : (r : Row) (ls : List Line) → have_one_anchor_each (row_lines r 
 free_row r ls = free_from (comments.head_comment r.gap) r.column r.dashes r.mark r.content ls
 
 -- the names in a row: its anchor, and those in its head
-names_from : (above : List (List ℕ)) (column : ℕ) (ns : List ℕ) (m : rows.Mark) (c : Content) (ls : List Line) →
-    line_names (lines_from above column ns m c ++ ls) ≡ with_anchor (content_anchor c) (head_names (head_of c) ++ line_names ls)
+names_from : (above : List (List ℕ)) (column : ℕ) (ns : List ℕ) (m : rows.RowMark) (c : Content) (ls : List Line) →
+    line_names (lines_from above column ns m c ++ ls) ≡ anchor_names (content_anchor c) (head_names (head_of c) ++ line_names ls)
 names_from above column [] m c ls = refl
 names_from above column (n ∷ ns) m c ls = names_from [] (suc (column + n)) ns m c ls
 
-pub names_row : (r : Row) (ls : List Line) → line_names (row_lines r ++ ls) ≡ with_anchor (content_anchor r.content) (head_names (head_of r.content) ++ line_names ls)
+pub names_row : (r : Row) (ls : List Line) → line_names (row_lines r ++ ls) ≡ anchor_names (content_anchor r.content) (head_names (head_of r.content) ++ line_names ls)
 names_row r ls = names_from (comments.head_comment r.gap) r.column r.dashes r.mark r.content ls

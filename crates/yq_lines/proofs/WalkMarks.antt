@@ -5,9 +5,9 @@ use Rattle.std.proofs.lemmas.Option.{same_Some}
 use Rattle.std.specs.List.{slice_get}
 use Rattle.std.specs.Prelude.{is_none, is_some}
 use Rattle.std.specs.Str.{bytes_eq}
-use Rattle.yq_nodes.specs.Scalars.{content_of, is_quoted}
-use Rattle.yq_lines.specs.Outline.{Mark, Line, key_of, rank}
-use Rattle.yq_lines.specs.Positions.{is_bare}
+use Rattle.yq_nodes.specs.Scalars.{scalar_content, is_quoted}
+use Rattle.yq_lines.specs.Outline.{LineMark, Line, key_of, rank}
+use Rattle.yq_lines.specs.Positions.{has_no_mark}
 use Rattle.yq_flow_scalars.specs.Paths.{is_item, key_is}
 use Rattle.yq_flow_scalars.specs.Plain.{holds_break}
 use Rattle.yq_flow_scalars.specs.Quoted.{IsQuotedText}
@@ -16,7 +16,7 @@ use Rattle.yq_flow_scalars.specs.Tree.{Node}
 use Rattle.yq_cut.specs.Rows as rows
 use Rattle.yq_cut.specs.View as views
 use Rattle.yq_cut.specs.View.{Slices, slices, RowsView}
-use Rattle.yq_lines.specs.Lines.{mark_of, lines_of}
+use Rattle.yq_lines.specs.Lines.{line_mark, lines_of_rows}
 use Rattle.yq_lines.specs.Extents.{lines_before_mark}
 use Rattle.yq_lines.specs.RowWalk.{line_rank, HasRows, IsLine, line_number}
 use Rattle.yq_lines.specs.declared.line_position.Position.{Position}
@@ -25,13 +25,13 @@ use Rattle.yq_lines.proofs.WalkLevels.{rank_is}
 use Rattle.yq_lines.proofs.WalkPositions.{Located, located}
 
 -- what is told of a line's mark, by its rank
-bare_ranked : (m : Mark) → is_bare m ≡ eqb (rank m) 1
+bare_ranked : (m : LineMark) → has_no_mark m ≡ eqb (rank m) 1
 bare_ranked m = search rules
 
-item_ranked : (m : Mark) → is_item (key_of m) ≡ not (eqb (rank m) 2)
+item_ranked : (m : LineMark) → is_item (key_of m) ≡ not (eqb (rank m) 2)
 item_ranked m = search rules
 
-module _ (s : RowsView) (d : Stretch) (h : HasRows s d) (q : Position) (at : IsLine s d q) (l : Line) (is : slice_get (lines_of h.rows) (line_number d h.rows q) ≡ Some l) where
+module _ (s : RowsView) (d : Stretch) (h : HasRows s d) (q : Position) (at : IsLine s d q) (l : Line) (is : slice_get (lines_of_rows h.rows) (line_number d h.rows q) ≡ Some l) where
   abbrev k : Located s d h q
   k = located s d h q at
 
@@ -45,7 +45,7 @@ module _ (s : RowsView) (d : Stretch) (h : HasRows s d) (q : Position) (at : IsL
     same : n ≡ rank l.mark
     same = agrees (slices k.row) k.pieces ∙ sym ranked
 
-    pub bare_agrees : eqb n 1 ≡ is_bare l.mark
+    pub bare_agrees : eqb n 1 ≡ has_no_mark l.mark
     bare_agrees = ap (λ (j : ℕ). eqb j 1) same ∙ sym (bare_ranked l.mark)
 
     pub item_agrees : not (eqb n 2) ≡ is_item (key_of l.mark)
@@ -55,21 +55,21 @@ module _ (s : RowsView) (d : Stretch) (h : HasRows s d) (q : Position) (at : IsL
     pub key_none : (n ≡ 2 → ⊥) → None ≡ key_of l.mark
     key_none other = search (rules, same)
 
-    pub key_here : n ≡ 2 → Some (content_of (slices (located s d h q at).row).key) ≡ key_of l.mark
+    pub key_here : n ≡ 2 → Some (scalar_content (slices (located s d h q at).row).key) ≡ key_of l.mark
     key_here two = go (cases_lt q.line (length k.row.dashes))
       where
-        marked : (m : rows.Mark) → rank (mark_of m) ≡ 2 → Some (content_of (views.key_of m)) ≡ key_of (mark_of m)
+        marked : (m : rows.RowMark) → rank (line_mark m) ≡ 2 → Some (scalar_content (views.key_of_mark m)) ≡ key_of (line_mark m)
         marked m h1 = search rules
 
-        go : (q.line < length k.row.dashes) ⊎ (length k.row.dashes ≤ q.line) → Some (content_of (slices k.row).key) ≡ key_of l.mark
+        go : (q.line < length k.row.dashes) ⊎ (length k.row.dashes ≤ q.line) → Some (scalar_content (slices k.row).key) ≡ key_of l.mark
         go h1 = search (rules, own, same)
 
     -- whether it is that key's
     pub other_agrees : (key : List ℕ) → (n ≡ 2 → ⊥) → false ≡ key_is key (key_of l.mark)
     other_agrees key other = ap (key_is key) (key_none other)
 
-    pub key_agrees : (piece key : List ℕ) → ((x : Slices) → slice_get s.rows q.row ≡ Some x → piece ≡ x.key) → n ≡ 2 → bytes_eq (content_of piece) key ≡ key_is key (key_of l.mark)
-    key_agrees piece key written two = ap (λ (t : List ℕ). bytes_eq (content_of t) key) (written (slices k.row) k.pieces) ∙ ap (key_is key) (key_here two)
+    pub key_agrees : (piece key : List ℕ) → ((x : Slices) → slice_get s.rows q.row ≡ Some x → piece ≡ x.key) → n ≡ 2 → bytes_eq (scalar_content piece) key ≡ key_is key (key_of l.mark)
+    key_agrees piece key written two = ap (λ (t : List ℕ). bytes_eq (scalar_content t) key) (written (slices k.row) k.pieces) ∙ ap (key_is key) (key_here two)
 
   pub head_agrees : (last : Bool) (x : Slices) → slice_get s.rows q.row ≡ Some x → last ≡ eqb q.line (lines_before_mark x) → (last && not (is_empty x.head)) ≡ is_some l.head
   head_agrees last x there e = go (cases_lt q.line (length k.row.dashes))

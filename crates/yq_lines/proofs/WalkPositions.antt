@@ -5,7 +5,7 @@ use Rattle.std.proofs.lemmas.List.{take_all}
 use Rattle.std.proofs.lemmas.Option.{same_Some}
 use Rattle.std.specs.List.{slice_get}
 use Rattle.std.specs.Prelude.{is_some}
-use Rattle.yq_lines.specs.Ends.{IsEndOf, is_end, part, line_of, reached}
+use Rattle.yq_lines.specs.Ends.{IsEndOf, has_no_lines, part, line_at_steps, reached}
 use Rattle.yq_lines.specs.Outline.{Line, level}
 use Rattle.yq_lines.specs.Positions.{if_head}
 use Rattle.yq_flow_scalars.specs.Paths.{Step}
@@ -14,7 +14,7 @@ use Rattle.yq_lines.proofs.EndsLaws.{deeper_at}
 use Rattle.yq_cut.specs.Rows.{Row}
 use Rattle.yq_cut.specs.View.{Slices, slices, RowsView}
 use Rattle.yq_lines.specs.Comments as comments
-use Rattle.yq_lines.specs.Lines.{row_lines, lines_of}
+use Rattle.yq_lines.specs.Lines.{row_lines, lines_of_rows}
 use Rattle.yq_lines.specs.Extents.{lines_before_mark}
 use Rattle.yq_lines.specs.RowWalk.{line_level, deeper_rows, HasRows, IsPosition, IsLine, line_number, lines_stop, level_count, AreRowsDeep}
 use Rattle.yq_lines.specs.declared.line_position.Position.{Position}
@@ -37,7 +37,7 @@ pub record Located (s : RowsView) (d : Stretch) (h : HasRows s d) (q : Position)
   pub row_agrees : RowAgrees row
   pub within : q.line ≤ length row.dashes
   pub in_row : slice_get (row_lines row) q.line ≡ Some line
-  pub is : slice_get (lines_of h.rows) (line_number d h.rows q) ≡ Some line
+  pub is : slice_get (lines_of_rows h.rows) (line_number d h.rows q) ≡ Some line
   pub agrees : IsLineOf row.column row.dashes row.mark row.content q.line line
   pub level_agrees : level line ≡ line_level q.line (slices row)
 
@@ -58,23 +58,23 @@ located s d h q at =
 
 -- whether a line is deeper than a level
 pub deeper_agrees : (s : RowsView) (d : Stretch) (h : HasRows s d) (q : Position) (n floor : ℕ) → IsLine s d q → ((x : Slices) → slice_get s.rows q.row ≡ Some x → n ≡ line_level q.line x) →
-    ltb floor n ≡ not (is_end (part (lines_of h.rows) (line_number d h.rows q) floor))
+    ltb floor n ≡ not (has_no_lines (part (lines_of_rows h.rows) (line_number d h.rows q) floor))
 deeper_agrees s d h q n floor at agrees =
     let l = located s d h q at in
     let same : n ≡ level l.line = agrees (slices l.row) l.pieces ∙ sym l.level_agrees in
-    ap (ltb floor) same ∙ deeper_at (lines_of h.rows) (line_number d h.rows q) floor l.line l.is
+    ap (ltb floor) same ∙ deeper_at (lines_of_rows h.rows) (line_number d h.rows q) floor l.line l.is
 
 -- behind the last row there is none
-pub end_number : (s : RowsView) (d : Stretch) (h : HasRows s d) (q : Position) → IsPosition s d q → d.end ≤ q.row → line_number d h.rows q ≡ length (lines_of h.rows)
+pub end_number : (s : RowsView) (d : Stretch) (h : HasRows s d) (q : Position) → IsPosition s d q → d.end ≤ q.row → line_number d h.rows q ≡ length (lines_of_rows h.rows)
 end_number s d h q at past =
     let last : q.row ≡ d.end = omega (arith, at.upto, past) in
     let all : take (q.row - d.first) h.rows ≡ h.rows = take_all (q.row - d.first) h.rows (omega (arith, rows_length s d h, last)) in
-    omega (arith, at.last last, ap (λ (rs : List Row). length (lines_of rs)) all)
+    omega (arith, at.last last, ap (λ (rs : List Row). length (lines_of_rows rs)) all)
 
-pub end_agrees : (s : RowsView) (d : Stretch) (h : HasRows s d) (q : Position) (floor : ℕ) → IsPosition s d q → d.end ≤ q.row → false ≡ not (is_end (part (lines_of h.rows) (line_number d h.rows q) floor))
+pub end_agrees : (s : RowsView) (d : Stretch) (h : HasRows s d) (q : Position) (floor : ℕ) → IsPosition s d q → d.end ≤ q.row → false ≡ not (has_no_lines (part (lines_of_rows h.rows) (line_number d h.rows q) floor))
 end_agrees s d h q floor at past =
     let n = end_number s d h q at past in
-    sym (ap (λ (k : ℕ). not (is_end (part (lines_of h.rows) k floor))) n ∙ ap (λ (ls : List Line). not (is_end (Rattle.yq_lines.specs.Group.deeper floor (Rattle.yq_lines.specs.Group.group ls)))) (all (lines_of h.rows)))
+    sym (ap (λ (k : ℕ). not (has_no_lines (part (lines_of_rows h.rows) k floor))) n ∙ ap (λ (ls : List Line). not (has_no_lines (Rattle.yq_lines.specs.Group.deeper floor (Rattle.yq_lines.specs.Group.group ls)))) (all (lines_of_rows h.rows)))
   where
     all : (ls : List Line) → drop (length ls) ls ≡ []
     all [] = refl
@@ -90,7 +90,7 @@ position_line s d q at less = record { from = at.from; upto = less; line = at.li
 
 -- the number of the first line behind rows that begin deeper than a level
 rows_upto : (s : RowsView) (d : Stretch) (h : HasRows s d) (q e : Position) (n : ℕ) → IsLine s d q → e.row ≡ (q.row + 1) + deeper_rows n (take (d.end - (q.row + 1)) (drop (q.row + 1) s.rows)) → e.line ≡ 0 →
-    length (lines_of (take (suc (q.row - d.first) + deeper_rows n (map slices (drop (suc (q.row - d.first)) h.rows))) h.rows)) ≡ line_number d h.rows e
+    length (lines_of_rows (take (suc (q.row - d.first) + deeper_rows n (map slices (drop (suc (q.row - d.first)) h.rows))) h.rows)) ≡ line_number d h.rows e
 rows_upto s d h q e n at row none =
     let i : ℕ = q.row - d.first in
     let next : (q.row + 1) - d.first ≡ suc i = omega (arith, at.from) in
@@ -100,17 +100,17 @@ rows_upto s d h q e n at row none =
 
 -- where the lines under a line end
 pub behind_agrees : (s : RowsView) (d : Stretch) (h : HasRows s d) (q e : Position) (n : ℕ) → IsLine s d q → ((x : Slices) → slice_get s.rows q.row ≡ Some x → n ≡ line_level q.line x) →
-    e.row ≡ (q.row + 1) + deeper_rows n (take (d.end - (q.row + 1)) (drop (q.row + 1) s.rows)) → e.line ≡ 0 → IsEndOf (lines_of h.rows) (line_number d h.rows q) (line_number d h.rows e)
+    e.row ≡ (q.row + 1) + deeper_rows n (take (d.end - (q.row + 1)) (drop (q.row + 1) s.rows)) → e.line ≡ 0 → IsEndOf (lines_of_rows h.rows) (line_number d h.rows q) (line_number d h.rows e)
 behind_agrees s d h q e n at agrees row none =
     let l = located s d h q at in
     let i : ℕ = q.row - d.first in
     let same : level l.line ≡ n = l.level_agrees ∙ sym (agrees (slices l.row) l.pieces) in
-    subst (IsEndOf (lines_of h.rows) (line_number d h.rows q)) (ap (λ (m : ℕ). length (lines_of (take (suc i + deeper_rows m (map slices (drop (suc i) h.rows))) h.rows))) same ∙ rows_upto s d h q e n at row none)
+    subst (IsEndOf (lines_of_rows h.rows) (line_number d h.rows q)) (ap (λ (m : ℕ). length (lines_of_rows (take (suc i + deeper_rows m (map slices (drop (suc i) h.rows))) h.rows))) same ∙ rows_upto s d h q e n at row none)
     (ends_at h.rows i q.line l.row l.line (rows_agree h.limit h.rows h.end h.rest h.valid) l.there l.within l.in_row)
 
 -- where lines end that are deeper than a level
 pub stop_agrees : (s : RowsView) (d : Stretch) (h : HasRows s d) (q e : Position) (n : ℕ) (at : IsLine s d q) → n < level (located s d h q at).line → e.row ≡ (q.row + 1) + deeper_rows n (take (d.end - (q.row + 1)) (drop (q.row + 1) s.rows)) → e.line ≡ 0 →
-    line_number d h.rows e ≡ lines_stop (line_number d h.rows q) n (lines_of h.rows)
+    line_number d h.rows e ≡ lines_stop (line_number d h.rows q) n (lines_of_rows h.rows)
 stop_agrees s d h q e n at deep row none =
     let l = located s d h q at in
     sym (rows_upto s d h q e n at row none) ∙ stops_at h.rows (q.row - d.first) q.line l.row l.line (rows_agree h.limit h.rows h.end h.rest h.valid) l.there l.within l.in_row n deep
@@ -128,7 +128,7 @@ next_row s d h q e at last row none =
       l.within,
       last (slices l.row) l.pieces,
       counted,
-      ap (λ (k : ℕ). length (lines_of (take k h.rows))) next,
+      ap (λ (k : ℕ). length (lines_of_rows (take k h.rows))) next,
       lines_upto h.rows i 0 l.row l.there,
     )
 
@@ -146,7 +146,7 @@ head_none o x y h1 = search (rules, false≢true)
 -- ---- steps that lead nowhere
 
 -- where steps lead nowhere, no line is
-pub no_line : (steps : List Step) (ls : List Line) → None ≡ reached steps ls → None ≡ line_of steps ls
+pub no_line : (steps : List Step) (ls : List Line) → None ≡ reached steps ls → None ≡ line_at_steps steps ls
 no_line steps ls h1 = search (rules, option_and_then)
 
 -- ---- the rows of items, one behind the other

@@ -8,7 +8,7 @@ use Rattle.yq_flow_scalars.specs.Piece.{deeper}
 use Rattle.yq_flow_scalars.specs.Paths.{is_item}
 use Rattle.yq_flow_scalars.specs.Text.{is_empty}
 use Rattle.yq_nodes.specs.Inline.{depth_limit}
-use Rattle.yq_nodes.specs.Nodes.{Node, node_text, IsNode}
+use Rattle.yq_nodes.specs.Nodes.{FlowNode, node_text, IsFlowNode}
 use Rattle.yq_nodes.specs.Trees.{node_head}
 use Rattle.yq_nodes.proofs.NodeAgain.{is_anchored, takes_unanchored}
 use Rattle.yq_lines.specs.Outline.{key_of}
@@ -17,7 +17,7 @@ use Rattle.yq_cut.specs.Grammar.{IsContent, IsMark, Limit, limit_after, AreRows}
 use Rattle.yq_cut.specs.Rows as rows
 use Rattle.yq_cut.specs.Rows.{Content, Row, parent_indent, rows_text}
 use Rattle.yq_cut.specs.View.{Slices, slices, RowsView, colon_of, content_cut}
-use Rattle.yq_lines.specs.Lines.{head_of, mark_of}
+use Rattle.yq_lines.specs.Lines.{head_of, line_mark}
 use Rattle.yq_lines.specs.RowWalk.{line_level, deeper_rows, HasRows}
 use Rattle.yq_lines.specs.declared.line_position.Stretch.{Stretch}
 use Rattle.yq_lines.proofs.RowLaws.{before_mark, colon_some, mark_line, mark_quoted, scalar_written}
@@ -59,15 +59,15 @@ row_of s d h i x from upto is =
     get_from h.rows (i - d.first) x rest (sym pieces ∙ rows_behind s d h i from (omega (arith, upto)))
 
 -- the pieces of rows tell their lines
-node_summary : (n : ℤ) (node : Node) (rest : List ℕ) → is_anchored node ≡ false → IsNode false (Some (deeper n)) depth_limit node rest → is_empty (node_text node []) ≡ is_none (node_head node)
-unfolding node_text IsNode
+node_summary : (n : ℤ) (node : FlowNode) (rest : List ℕ) → is_anchored node ≡ false → IsFlowNode false (Some (deeper n)) depth_limit node rest → is_empty (node_text node []) ≡ is_none (node_head node)
+unfolding node_text IsFlowNode
 node_summary n node rest h1 h2 = search (rules, append-nil, scalar_written, false≢true)
 
 pub head_agrees : (n : ℤ) (c : Content) (rest : List ℕ) → IsContent n c rest → is_empty (content_cut c).3 ≡ is_none (head_of c)
-unfolding IsNode
+unfolding IsFlowNode
 head_agrees n c rest h1 = search (rules, node_summary, takes_unanchored)
 
-colon_agrees : (m : rows.Mark) (c : Content) (rest : List ℕ) → IsMark m c rest → is_empty (colon_of m) ≡ is_item (key_of (mark_of m))
+colon_agrees : (m : rows.RowMark) (c : Content) (rest : List ℕ) → IsMark m c rest → is_empty (colon_of m) ≡ is_item (key_of (line_mark m))
 colon_agrees m c rest h1 = search (rules, colon_some)
 
 pub rows_agree : (limit : Limit) (rs : List Row) (end rest : List ℕ) → AreRows limit rs end rest → RowsAgree rs

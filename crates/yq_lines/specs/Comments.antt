@@ -1,6 +1,6 @@
 -- The comments that belong to a row.
 use Rattle.std.specs.Prelude.{ℕ, Bool, true, ◌&&◌, ◌==◌, List, [], ◌∷◌, drop, Option, Some, None, if◌then◌else◌}
-use Rattle.yq_flow_scalars.specs.Text.{cut, front, ends_line, past_white, lines_of}
+use Rattle.yq_flow_scalars.specs.Text.{cut, front, ends_line, past_white, text_lines}
 
 -- a comment's text without the one space that may begin it (own)
 abbrev pub less_space : List ℕ → List ℕ
@@ -32,4 +32,4 @@ last_comments (l ∷ ls) = if are_comments (l ∷ ls) then with_text (comment_te
 
 -- the head comment of a gap: the texts of the run of comment lines, of any indentation, that ends it (own)
 abbrev pub head_comment : List ℕ → List (List ℕ)
-head_comment gap = last_comments (lines_of gap)
+head_comment gap = last_comments (text_lines gap)

@@ -2,21 +2,21 @@
 use Rattle.std.specs.Prelude.{◌≡◌, ℕ, zero, suc, ◌+◌, ◌<◌, ◌≤◌, nat_lt, List, [], ◌∷◌, drop, length, slice_get, Option, Some, None, option_map, option_and_then, Bool, true, false, if◌then◌else◌}
 use Rattle.yq_flow_scalars.specs.Paths.{Step}
 use Rattle.yq_lines.specs.Outline.{Line, level, Outline, end, row}
-use Rattle.yq_lines.specs.Group.{deeper, shallow, group}
+use Rattle.yq_lines.specs.Group.{deeper_lines, shallow, group}
 use Rattle.yq_lines.specs.Places.{lines_before, FoundLine, find}
 
 -- from a line on, the first lines that are deeper than a level, as an outline
 abbrev pub part : List Line → ℕ → ℕ → Outline
-part ls start floor = deeper floor (group (drop start ls))
+part ls start floor = deeper_lines floor (group (drop start ls))
 
 -- the lines behind those, as an outline
 abbrev pub rest : List Line → ℕ → ℕ → Outline
 rest ls start floor = shallow floor (group (drop start ls))
 
 -- whether an outline has no lines
-abbrev pub is_end : Outline → Bool
-is_end end = true
-is_end (row l u a) = false
+abbrev pub has_no_lines : Outline → Bool
+has_no_lines end = true
+has_no_lines (row l u a) = false
 
 -- the lines under line i end before line next
 abbrev pub IsEndOf : List Line → ℕ → ℕ → Type 0
@@ -40,9 +40,9 @@ found_line f [] = Some (length (lines_before f.place))
 found_line f (s ∷ ss) = None
 
 -- the line of the entry or item to which steps lead, by its index; the root has none
-abbrev pub line_of : List Step → List Line → Option ℕ
-line_of [] ls = None
-line_of (s ∷ ss) ls = option_and_then (λ x. found_line x.0 x.1) (find s ss (group ls))
+abbrev pub line_at_steps : List Step → List Line → Option ℕ
+line_at_steps [] ls = None
+line_at_steps (s ∷ ss) ls = option_and_then (λ x. found_line x.0 x.1) (find s ss (group ls))
 
 -- the line to which steps lead, by its index, and the steps that go on in its head; the root has none
 abbrev pub reached : List Step → List Line → Option (ℕ × List Step)

@@ -1,12 +1,12 @@
 -- Reading (own; a reader may skip it: the grammar is what is believed, and the clauses `found` and `only` tie the two): lines grouped from the last to the first.
 use Rattle.std.specs.Prelude.{ℕ, nat_lt, nat_eq, ◌+◌, List, [], ◌∷◌, Option, Some, None, Bool, true, false, ◌&&◌, if◌then◌else◌}
 use Rattle.yq_flow_scalars.specs.Tree.{Node}
-use Rattle.yq_lines.specs.Outline.{Mark, Bare, Key, Dash, Line, level, Outline, end, row, value}
+use Rattle.yq_lines.specs.Outline.{LineMark, Bare, Key, Dash, Line, level, Outline, end, row, value}
 
 -- the first lines of an outline that are deeper than n, with what is under them
-abbrev pub deeper : ℕ → Outline → Outline
-deeper n end = end
-deeper n (row l under after) = if nat_lt n (level l) then row l under (deeper n after) else end
+abbrev pub deeper_lines : ℕ → Outline → Outline
+deeper_lines n end = end
+deeper_lines n (row l under after) = if nat_lt n (level l) then row l under (deeper_lines n after) else end
 
 -- what of an outline is behind those
 abbrev pub shallow : ℕ → Outline → Outline
@@ -15,7 +15,7 @@ shallow n (row l under after) = if nat_lt n (level l) then shallow n after else 
 
 -- a line before an outline, of which the first deeper lines come under it
 abbrev pub lead : Line → Outline → Outline
-lead l o = row l (deeper (level l) o) (shallow (level l) o)
+lead l o = row l (deeper_lines (level l) o) (shallow (level l) o)
 
 -- lines as an outline: under each line the deeper ones that follow it
 abbrev pub group : List Line → Outline
@@ -29,7 +29,7 @@ is_open (Some n) end = true
 is_open (Some n) (row l u a) = false
 
 -- whether a node on a line of its own is there, and is alone
-abbrev pub is_whole : Mark → Option Node → Outline → Bool
+abbrev pub is_whole : LineMark → Option Node → Outline → Bool
 is_whole Bare (Some n) end = true
 is_whole Bare (Some n) (row l u a) = false
 is_whole Bare None after = false

@@ -2,10 +2,10 @@
 use Rattle.std.specs.Prelude.{ℕ, List, [], ◌∷◌, Option, Some, None, ⊤}
 use Rattle.yq_flow_scalars.specs.Anchors.{IsNoAlias}
 use Rattle.yq_flow_scalars.specs.Tree.{Node}
-use Rattle.yq_lines.specs.Outline.{Mark, Bare, Key, Dash, Line}
+use Rattle.yq_lines.specs.Outline.{LineMark, Bare, Key, Dash, Line}
 
 -- the node that begins with a line may take an anchor: one that is alone on its line has none and is no alias (6.9.2, 7.1)
-abbrev pub MayTake : Mark → Option (List ℕ) → Option Node → Type 0
+abbrev pub MayTake : LineMark → Option (List ℕ) → Option Node → Type 0
 MayTake Bare None head = IsNoAlias head
 MayTake Bare (Some a) head = ⊥
 MayTake (Key k) a head = ⊤

@@ -8,8 +8,8 @@ use Rattle.yq_nodes.specs.Inline.{depth_limit}
 use Rattle.yq_flow_scalars.specs.Anchors.{Name, Anchors, Refers, names_of}
 use Rattle.yq_lines.specs.Group.{group}
 use Rattle.yq_lines.specs.Names.{line_names}
-use Rattle.yq_lines.specs.Outline.{Mark, Bare, Key, Dash, Line, value}
-use Rattle.yq_lines.specs.Sound.{is_sound}
+use Rattle.yq_lines.specs.Outline.{LineMark, Bare, Key, Dash, Line, value}
+use Rattle.yq_lines.specs.Sound.{is_sound_outline}
 
 -- whether a node, if there is one, is no alias
 abbrev pub is_no_alias : Option Node → Bool
@@ -20,7 +20,7 @@ is_no_alias (Some (list a cs)) = true
 is_no_alias (Some (tree.map a cs)) = true
 
 -- whether the node that begins with a line may take an anchor
-abbrev pub may_take : Mark → Option (List ℕ) → Option Node → Bool
+abbrev pub may_take : LineMark → Option (List ℕ) → Option Node → Bool
 may_take Bare None head = is_no_alias head
 may_take Bare (Some a) head = false
 may_take (Key k) a head = true
@@ -49,4 +49,4 @@ names_are_sound ls = have_one_anchor_each ls && are_bound [] (line_names ls)
 
 -- whether lines stand for a node, no mapping has a key twice, not too many collections are nested, and anchors and aliases are as is asked
 abbrev pub lines_are_sound : List Line → Bool
-lines_are_sound ls = have_one_anchor_each ls && (are_bound [] (names_of (value (group ls))) && is_sound depth_limit (group ls))
+lines_are_sound ls = have_one_anchor_each ls && (are_bound [] (names_of (value (group ls))) && is_sound_outline depth_limit (group ls))

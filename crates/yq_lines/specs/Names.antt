@@ -2,7 +2,7 @@
 use Rattle.std.specs.Prelude.{ℕ, Bool, true, false, List, [], ◌∷◌, ◌++◌, Option, Some, None, ⊤}
 use Rattle.yq_flow_scalars.specs.Tree as tree
 use Rattle.yq_flow_scalars.specs.Tree.{Node, alias, scalar, list}
-use Rattle.yq_flow_scalars.specs.Anchors.{Name, Anchors, Refers, with_anchor, names_of, IsNoAlias}
+use Rattle.yq_flow_scalars.specs.Anchors.{Name, Anchors, Refers, anchor_names, names_of, IsNoAlias}
 use Rattle.yq_lines.specs.Outline.{Line}
 
 -- whether a name is that of an alias (7.1)
@@ -18,7 +18,7 @@ head_names (Some h) = names_of h
 -- the anchors and aliases of lines, in the order of the text
 abbrev pub line_names : List Line → List Name
 line_names [] = []
-line_names (l ∷ ls) = with_anchor l.anchor (head_names l.head ++ line_names ls)
+line_names (l ∷ ls) = anchor_names l.anchor (head_names l.head ++ line_names ls)
 
 -- the anchor before a head is none of the head (6.9.2)
 abbrev pub IsUnnamed : Option Node → Type 0

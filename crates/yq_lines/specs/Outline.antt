@@ -4,22 +4,22 @@ use Rattle.yq_flow_scalars.specs.declared.kind.Kind.TheVariants.{Null}
 use Rattle.yq_flow_scalars.specs.Tree.{Label, Node, alias, scalar, list, map, Children, none, child}
 
 -- what a line begins with: a key (8.2.2), a dash (8.2.1), or the node itself (8.2.3)
-pub data Mark : Type 0 where
-  Bare : Mark
-  Key : List ℕ → Mark
-  Dash : Mark
+pub data LineMark : Type 0 where
+  Bare : LineMark
+  Key : List ℕ → LineMark
+  Dash : LineMark
 
 -- The line of one entry, item or node: its column, what it begins with, behind that an anchor and what its head spells, and its comments (8.2; own).
 pub record Line : Type 0 where
   pub column : ℕ
-  pub mark : Mark
+  pub mark : LineMark
   pub anchor : Option (List ℕ)
   pub head : Option Node
   pub head_comment : List (List ℕ)
   pub line_comment : Option (List ℕ)
 
 -- the order of marks in one column: a node itself, then a key, then a dash, which is the deepest (8.2.3)
-abbrev pub rank : Mark → ℕ
+abbrev pub rank : LineMark → ℕ
 rank Bare = 1
 rank (Key k) = 2
 rank Dash = 3
@@ -45,7 +45,7 @@ IsOpen (Some n) end = ⊤
 IsOpen (Some n) (row l u a) = ⊥
 
 -- a node on a line of its own is there, and is alone (8.2.3)
-abbrev pub IsWhole : Mark → Option Node → Outline → Type 0
+abbrev pub IsWhole : LineMark → Option Node → Outline → Type 0
 IsWhole Bare (Some n) end = ⊤
 IsWhole Bare (Some n) (row l u a) = ⊥
 IsWhole Bare None after = ⊥
@@ -76,7 +76,7 @@ head_or None n = n
 head_or (Some h) n = h
 
 -- the key of an entry; an item has none (8.2.1, 8.2.2)
-abbrev pub key_of : Mark → Option (List ℕ)
+abbrev pub key_of : LineMark → Option (List ℕ)
 key_of Bare = None
 key_of (Key k) = Some k
 key_of Dash = None
@@ -90,16 +90,16 @@ abbrev pub null_node : Node
 null_node = scalar None Null (codes "null")
 
 -- the node that these items or entries make, by what their lines begin with: the one itself, a mapping, or a sequence (8.2)
-abbrev pub collection : Mark → Children → Node
-collection Bare none = null_node
-collection Bare (child l n cs) = n
-collection (Key k) cs = map None cs
-collection Dash cs = list None cs
+abbrev pub outline_node : LineMark → Children → Node
+outline_node Bare none = null_node
+outline_node Bare (child l n cs) = n
+outline_node (Key k) cs = map None cs
+outline_node Dash cs = list None cs
 
 -- the node that these items or entries make, by the outline's first line; without lines it is a null (7.2, 8.2)
 abbrev pub shaped : Outline → Children → Node
 shaped end cs = null_node
-shaped (row l under after) cs = collection l.mark cs
+shaped (row l under after) cs = outline_node l.mark cs
 
 -- the items or entries of an outline's lines (8.2.1, 8.2.2)
 abbrev pub children : Outline → Children

@@ -1,7 +1,7 @@
 -- Places in an outline, where lines can be exchanged (own).
 use Rattle.std.specs.Prelude.{List, [], ◌∷◌, ◌++◌, Option, Some, None, option_map, option_and_then, if◌then◌else◌}
 use Rattle.yq_flow_scalars.specs.Tree.{Node}
-use Rattle.yq_lines.specs.Outline.{Mark, Bare, Key, Dash, Line, Outline, end, row, flatten, anchored, head_or, label, value}
+use Rattle.yq_lines.specs.Outline.{LineMark, Bare, Key, Dash, Line, Outline, end, row, flatten, anchored, head_or, label, value}
 use Rattle.yq_flow_scalars.specs.Paths.{Step, is_here, further}
 
 -- an outline with a hole: here, in what is under a line, or in what is after one
@@ -52,11 +52,11 @@ find_row s (row l under after) =
     if is_here s (label l) then Some (record { place = here; line = l; under = under; after = after }) else option_map (next_to l under) (find_row (further s) after)
 
 -- a line found in what is under another one, as a line of the whole
-abbrev pub inside : FoundLine → FoundLine → FoundLine
-inside f g = record g { place = compose f.place (below f.line g.place f.after) }
+abbrev pub place_inside : FoundLine → FoundLine → FoundLine
+place_inside f g = record g { place = compose f.place (below f.line g.place f.after) }
 
 -- the first of two answers where a line is a node itself, else the second
-abbrev pub bare_or : Mark → Option (FoundLine × List Step) → Option (FoundLine × List Step) → Option (FoundLine × List Step)
+abbrev pub bare_or : LineMark → Option (FoundLine × List Step) → Option (FoundLine × List Step) → Option (FoundLine × List Step)
 bare_or Bare x y = x
 bare_or (Key k) x y = y
 bare_or Dash x y = y
@@ -73,8 +73,8 @@ find s [] (row l under after) =
     bare_or l.mark (Some (record { place = here; line = l; under = under; after = after }, s ∷ [])) (option_map (λ f. (f, [])) (find_row s (row l under after)))
 find s (t ∷ ts) (row l under after) =
     bare_or l.mark (Some (record { place = here; line = l; under = under; after = after }, s ∷ (t ∷ ts)))
-    (option_and_then (λ f. in_head f.line.head (Some (f, t ∷ ts)) (option_map (λ x. (inside f x.0, x.1)) (find t ts f.under))) (find_row s (row l under after)))
+    (option_and_then (λ f. in_head f.line.head (Some (f, t ∷ ts)) (option_map (λ x. (place_inside f x.0, x.1)) (find t ts f.under))) (find_row s (row l under after)))
 
 -- what the line of an entry or item and the lines under it stand for
-abbrev pub content : Line → Outline → Node
-content l under = anchored l.anchor (head_or l.head (value under))
+abbrev pub content_under : Line → Outline → Node
+content_under l under = anchored l.anchor (head_or l.head (value under))

@@ -3,7 +3,7 @@ use Rattle.std.specs.Prelude.{ℕ, ◌+◌, List, [], ◌∷◌, length, slice_g
 use Rattle.yq_flow_scalars.specs.Paths.{Step}
 use Rattle.yq_flow_scalars.specs.Tree.{Node}
 use Rattle.yq_lines.specs.Ends.{part}
-use Rattle.yq_lines.specs.Outline.{Mark, Bare, Key, Dash, Line, level, Outline, end, row}
+use Rattle.yq_lines.specs.Outline.{LineMark, Bare, Key, Dash, Line, level, Outline, end, row}
 use Rattle.yq_lines.specs.Places.{lines_before, FoundLine, find}
 
 -- where a line stands that was found among those from a place on, with those under it
@@ -16,15 +16,15 @@ line_here ls None = None
 line_here ls (Some i) = option_map (λ l. (i, l, part ls (i + 1) (level l))) (slice_get ls i)
 
 -- a line begins with no mark
-abbrev pub is_bare : Mark → Bool
-is_bare Bare = true
-is_bare (Key k) = false
-is_bare Dash = false
+abbrev pub has_no_mark : LineMark → Bool
+has_no_mark Bare = true
+has_no_mark (Key k) = false
+has_no_mark Dash = false
 
 -- the first of lines is a node itself
 abbrev pub begins_with_node : Outline → Bool
 begins_with_node end = false
-begins_with_node (row l u a) = is_bare l.mark
+begins_with_node (row l u a) = has_no_mark l.mark
 
 -- where steps lead among the lines from one on that are deeper than a level: to a line, by its index, and on in its head
 abbrev pub reach_in : List Line → ℕ → ℕ → Step → List Step → Option (ℕ × List Step)

@@ -2,7 +2,7 @@
 use Rattle.std.specs.Prelude.{◌≡◌, ℕ, suc, true, ◌+◌, ◌-◌, ◌*◌, ◌==◌, ◌<◌, ◌≤◌, nat_lt, IfSome, List, [], ◌∷◌, length, map, take, drop, slice_get, Option, Some, option_and_then, option_map, if◌then◌else◌}
 use denote.Bor.{Bor}
 use Rattle.yq_nodes.specs.declared.path.Step as declared
-use Rattle.yq_nodes.specs.Entries.{step_of}
+use Rattle.yq_nodes.specs.Entries.{tree_step}
 use Rattle.yq_nodes.specs.Inline.{depth_limit}
 use Rattle.yq_flow_scalars.specs.Keys.{are_distinct, keys_of}
 use Rattle.yq_flow_scalars.specs.Paths.{Step, Nth, key_is}
@@ -11,12 +11,12 @@ use Rattle.yq_lines.specs.Ends.{deeper_count, part}
 use Rattle.yq_lines.specs.Group.{group}
 use Rattle.yq_lines.specs.Outline.{Line, Outline, children, key_of}
 use Rattle.yq_lines.specs.Places.{find_row}
-use Rattle.yq_lines.specs.Sound.{is_sound}
+use Rattle.yq_lines.specs.Sound.{is_sound_outline}
 use Rattle.yq_lines.specs.Positions.{reach_from, line_here, position}
 use Rattle.yq_cut.specs.Grammar.{Limit, AreRows}
 use Rattle.yq_cut.specs.Rows.{Row}
 use Rattle.yq_cut.specs.View.{Slices, slices, RowsView}
-use Rattle.yq_lines.specs.Lines.{lines_of}
+use Rattle.yq_lines.specs.Lines.{lines_of_rows}
 use Rattle.yq_lines.specs.Extents.{dash_at, lines_before_mark}
 use Rattle.yq_lines.specs.declared.line_position.KnownItem.{KnownItem}
 use Rattle.yq_lines.specs.declared.line_position.KnownItems.{KnownItems}
@@ -93,7 +93,7 @@ pub record HasRows (s : RowsView) (d : Stretch) : Type 0 where
 -- The lines of such rows are sound.
 pub record HasDocument (s : RowsView) (d : Stretch) : Type 0 where
   pub stand : HasRows s d
-  pub sound : is_sound depth_limit (group (lines_of stand.rows)) ≡ true
+  pub sound : is_sound_outline depth_limit (group (lines_of_rows stand.rows)) ≡ true
 
 -- A line of a document, or the end behind its rows.
 pub record IsPosition (s : RowsView) (d : Stretch) (q : Position) : Type 0 where
@@ -110,7 +110,7 @@ pub record IsLine (s : RowsView) (d : Stretch) (q : Position) : Type 0 where
 
 -- the number of a line among those of a document's rows
 abbrev pub line_number : Stretch → List Row → Position → ℕ
-line_number d rs q = length (lines_of (take (q.row - d.first) rs)) + q.line
+line_number d rs q = length (lines_of_rows (take (q.row - d.first) rs)) + q.line
 
 -- Lines of a document from one up to another one, which is the first line of its row or the end.
 pub record AreLinesTo (s : RowsView) (d : Stretch) (p q : Position) : Type 0 where
@@ -125,22 +125,22 @@ lines_stop n floor ls = n + deeper_count floor (drop n ls)
 
 -- What is said of the line of a document that is there.
 abbrev pub OfLine : RowsView → Stretch → Position → (Line → Type 0) → Type 0
-OfLine s d q said = (h : HasRows s d) (l : Line) → slice_get (lines_of h.rows) (line_number d h.rows q) ≡ Some l → said l
+OfLine s d q said = (h : HasRows s d) (l : Line) → slice_get (lines_of_rows h.rows) (line_number d h.rows q) ≡ Some l → said l
 
 -- What is said of the lines of a document, with their numbers.
 abbrev pub OfLines : RowsView → Stretch → (List Line → (Position → ℕ) → Type 0) → Type 0
-OfLines s d said = (h : HasRows s d) → said (lines_of h.rows) (line_number d h.rows)
+OfLines s d said = (h : HasRows s d) → said (lines_of_rows h.rows) (line_number d h.rows)
 
 -- A step leads to that line, if to any, among the lines from one on that are deeper than a level.
 abbrev pub Finds : RowsView → Stretch → Position → ℕ → Step → Option Position → Type 0
 Finds s d under floor step found =
     (h : HasDocument s d) → position (line_number d h.stand.rows under)
-    (find_row step (part (lines_of h.stand.rows) (line_number d h.stand.rows under) floor)) ≡ line_here (lines_of h.stand.rows)
+    (find_row step (part (lines_of_rows h.stand.rows) (line_number d h.stand.rows under) floor)) ≡ line_here (lines_of_rows h.stand.rows)
     (option_map (line_number d h.stand.rows) found)
 
 -- where a step leads among the lines from one on that are deeper than a level
 abbrev pub found_from : Stretch → List Row → ℕ → Position → Step → Option (ℕ × Line × Outline)
-found_from d rs floor q step = position (line_number d rs q) (find_row step (part (lines_of rs) (line_number d rs q) floor))
+found_from d rs floor q step = position (line_number d rs q) (find_row step (part (lines_of_rows rs) (line_number d rs q) floor))
 
 -- Among the lines from one on that are deeper than a level, a walk to an item goes on from another line, by the item's index from there on.
 abbrev pub GoesOn : RowsView → Stretch → ℕ → Position → ℕ → Position → ℕ → Type 0
@@ -150,7 +150,7 @@ GoesOn s d floor under index at left =
 -- The entries among the lines from one on that are deeper than a level have different keys (3.2.1.3).
 abbrev pub HaveKeys : RowsView → Stretch → Position → ℕ → Type 0
 HaveKeys s d under floor =
-    (h : HasDocument s d) → are_distinct (keys_of (children (part (lines_of h.stand.rows) (line_number d h.stand.rows under) floor))) ≡ true
+    (h : HasDocument s d) → are_distinct (keys_of (children (part (lines_of_rows h.stand.rows) (line_number d h.stand.rows under) floor))) ≡ true
 
 -- An entry that is known has a key.
 abbrev pub IsKeyed : RowsView → Stretch → KnownItem → List ℕ → Type 0
@@ -158,12 +158,12 @@ IsKeyed s d k key = OfLine s d (record { row = k.row; line = 0 }) (λ l. key_is 
 
 -- where steps lead whose first one leads there, with a line by its number
 abbrev pub next_reached : Stretch → List Row → Step → List Step → nexts.Next → Option (ℕ × List Step)
-next_reached d rs s ss (nexts.TheVariants.Line q) = reach_from (lines_of rs) (Some (line_number d rs q)) ss
+next_reached d rs s ss (nexts.TheVariants.Line q) = reach_from (lines_of_rows rs) (Some (line_number d rs q)) ss
 next_reached d rs s ss (nexts.TheVariants.Head q) = Some (line_number d rs q, s ∷ ss)
 
 -- Where steps lead, by lines and their numbers, is where the code finds that the first of them leads.
 abbrev pub LeadsTo : RowsView → Stretch → (List Line → (Position → ℕ) → List Step → Option (ℕ × List Step)) → Step → Option nexts.Next → Type 0
-LeadsTo s d leads step found = (h : HasDocument s d) (ss : List Step) → leads (lines_of h.stand.rows) (line_number d h.stand.rows) ss ≡ option_and_then (next_reached d h.stand.rows step ss) found
+LeadsTo s d leads step found = (h : HasDocument s d) (ss : List Step) → leads (lines_of_rows h.stand.rows) (line_number d h.stand.rows) ss ≡ option_and_then (next_reached d h.stand.rows step ss) found
 
 -- the line where a step leads
 abbrev pub next_position : nexts.Next → Position
@@ -172,7 +172,7 @@ next_position (nexts.TheVariants.Head q) = q
 
 -- where the code's steps lead, with a line by its number, and on
 abbrev pub reached_view : Stretch → List Row → Position × Bor (List declared.Step) → ℕ × List Step
-reached_view d rs x = (line_number d rs x.0, map step_of x.1.now)
+reached_view d rs x = (line_number d rs x.0, map tree_step x.1.now)
 
 -- the rows of a document as two numbers: how many rows of the text stand before them, and before what is behind them
 abbrev pub stretch_view : Stretch → ℕ × ℕ

@@ -3,7 +3,7 @@ use Rattle.std.specs.Prelude.{ℕ, List, [], ◌∷◌, Option, Some, None, ⊤}
 use Rattle.yq_flow_scalars.specs.Keys.{HasUniqueKeys}
 use Rattle.yq_flow_scalars.specs.Shapes.{IsShaped, IsTree}
 use Rattle.yq_flow_scalars.specs.Tree.{Node}
-use Rattle.yq_lines.specs.Grammar.{IsNode}
+use Rattle.yq_lines.specs.Grammar.{IsNodeOutline}
 use Rattle.yq_lines.specs.Outline.{Line}
 
 -- what a head spells, if there is one, has items and keys where they belong (own)
@@ -18,7 +18,7 @@ HeadsAreShaped (l ∷ ls) = HeadIsShaped l.head × HeadsAreShaped ls
 
 -- A node for which lines stand by the rules has items and keys where they belong, if what is written on the lines has (own).
 abbrev pub ShapedByLines : Type 0
-ShapedByLines = (n : ℕ) (ls : List Line) (node : Node) → IsNode n ls node → HeadsAreShaped ls → IsShaped node
+ShapedByLines = (n : ℕ) (ls : List Line) (node : Node) → IsNodeOutline n ls node → HeadsAreShaped ls → IsShaped node
 
 -- A node is a tree, if it has items and keys where they belong, and no key twice in a mapping (own).
 abbrev pub ShapedIsTree : Type 0

@@ -2,7 +2,7 @@
 use Rattle.std.specs.Prelude.{ℕ, nat_le, nat_eq, Option, Some, None, Bool, true, false, ◌&&◌}
 use Rattle.yq_flow_scalars.specs.Tree.{Node, alias, scalar, list, map, Children, none, child}
 use Rattle.yq_flow_scalars.specs.Keys.{are_distinct, keys_of, depth, deepest}
-use Rattle.yq_lines.specs.Outline.{Mark, Bare, Key, Dash, Line, level, Outline, value}
+use Rattle.yq_lines.specs.Outline.{LineMark, Bare, Key, Dash, Line, level, Outline, value}
 use Rattle.yq_lines.specs.Group.{is_fine, is_open}
 
 abbrev mutual
@@ -19,8 +19,8 @@ abbrev mutual
   each_has_unique_keys (child label n cs) = has_unique_keys n && each_has_unique_keys cs
 
 -- whether an outline stands for a node in which at most d collections are nested and no mapping has a key twice
-abbrev pub is_sound : ℕ → Outline → Bool
-is_sound d o = is_fine o && (nat_le (depth (value o)) d && has_unique_keys (value o))
+abbrev pub is_sound_outline : ℕ → Outline → Bool
+is_sound_outline d o = is_fine o && (nat_le (depth (value o)) d && has_unique_keys (value o))
 
 -- whether at most d collections are nested in a head, and no mapping in it has a key twice
 abbrev pub head_is_sound : ℕ → Option Node → Bool
@@ -37,10 +37,10 @@ line_is_sound d n l under = nat_eq (level l) n && (is_open l.head under && head_
 
 -- the same of a line and of the lines under it
 abbrev pub are_sound_under : ℕ → ℕ → Line → Outline → Bool
-are_sound_under d n l under = line_is_sound d n l under && is_sound d under
+are_sound_under d n l under = line_is_sound d n l under && is_sound_outline d under
 
 -- whether a line begins an item or an entry, and is no node itself
-abbrev pub is_entry : Mark → Bool
-is_entry Bare = false
-is_entry (Key k) = true
-is_entry Dash = true
+abbrev pub is_entry_line : LineMark → Bool
+is_entry_line Bare = false
+is_entry_line (Key k) = true
+is_entry_line Dash = true

@@ -16,10 +16,10 @@ content_view (contents.TheVariants.Own s) = string_bytes s
 abbrev pub head_view : heads.Head → Option Node
 head_view heads.TheVariants.Nothing = None
 head_view (heads.TheVariants.Scalar kind text) = Some (scalar None kind (content_view text))
-head_view (heads.TheVariants.Inline node) = Some (placed_tree (inline.view node.value))
+head_view (heads.TheVariants.Inline node) = Some (placed_tree (inline.inline_view node.value))
 
 -- the alias or flow collection that a head is, with its places (own)
 abbrev pub head_flow : heads.Head → Option Placed
 head_flow heads.TheVariants.Nothing = None
 head_flow (heads.TheVariants.Scalar kind t) = None
-head_flow (heads.TheVariants.Inline node) = Some (inline.view node.value)
+head_flow (heads.TheVariants.Inline node) = Some (inline.inline_view node.value)

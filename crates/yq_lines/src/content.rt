@@ -46,10 +46,10 @@ fn quoted_text<'t>(alloc: Global, piece: &'t str) -> Result<Content<'t>, AllocEr
 }
 
 /// The text that a key or a scalar, as it is written, stands for: one on one line without escapes is borrowed.
-#[tactic(auto, unfolding(yq_nodes::specs::Scalars::content_of), using(crate::proofs::OneLine::one_line))]
+#[tactic(auto, unfolding(yq_nodes::specs::Scalars::scalar_content), using(crate::proofs::OneLine::one_line))]
 pub fn content_of<'t>(alloc: Global, piece: &'t str) -> Result<Content<'t>, AllocError>
     requires { scalars.is_quoted piece.now ≡ true → IsQuotedText piece.now }
-    ensures { IfOk result (λ c. content_view c ≡ scalars.content_of piece.now) }
+    ensures { IfOk result (λ c. content_view c ≡ scalars.scalar_content piece.now) }
 {
     if is_quoted(piece.as_bytes()) {
         return quoted_text(alloc, piece);

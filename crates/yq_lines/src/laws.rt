@@ -4,7 +4,7 @@ ghost use Rattle.yq_block_scalars.specs.BlockRepair.{AreGap, repair};
 ghost use Rattle.yq_flow_scalars.specs.Tree.{Node};
 ghost use Rattle.yq_lines.specs.Comments.{last_comments};
 ghost use Rattle.yq_lines.specs.Outline.{Line, Stands};
-ghost use Rattle.yq_lines.specs.Grammar.{IsNode};
+ghost use Rattle.yq_lines.specs.Grammar.{IsNodeOutline};
 ghost use Rattle.yq_lines.specs.Laws.{NodeExchanged};
 ghost use Rattle.yq_lines.specs.ShapedLines.{ShapedByLines, ShapedIsTree};
 
@@ -18,8 +18,8 @@ pub fn one_node()
 #[tactic(auto, using(crate::proofs::ByRules::rules_from, crate::proofs::ByRules::rules_give))]
 pub fn rules()
     ensures sound { (n : ℕ) (lines : List Line) (node : Node) → Stands lines node n → (l : Line)
-        (ls : List Line) → lines ≡ l ∷ ls → IsNode n lines node }
-    ensures complete { (n : ℕ) (lines : List Line) (node : Node) → IsNode n lines node →
+        (ls : List Line) → lines ≡ l ∷ ls → IsNodeOutline n lines node }
+    ensures complete { (n : ℕ) (lines : List Line) (node : Node) → IsNodeOutline n lines node →
         Stands lines node n }
 {}
 

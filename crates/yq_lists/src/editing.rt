@@ -7,10 +7,10 @@ ghost use Rattle.yq_journal.specs.History.{History};
 ghost use Rattle.yq_script.specs.Splice.{all_done, lengths_done};
 ghost use Rattle.yq_commands.specs.CommandEffects.{edit_effect};
 ghost use Rattle.yq_commands.specs.CommandSteps.{update_cause, update_next};
-ghost use Rattle.yq_commands.specs.Editing.{Refuses, edited, edits};
+ghost use Rattle.yq_commands.specs.Editing.{Refuses, edited, program_edits};
 ghost use Rattle.yq_commands.specs.FileEdits.{HoldsEdited, IsTextEdited};
 ghost use Rattle.yq_history.specs.Effects.{Works};
-ghost use Rattle.yq_history.specs.Faults.{is_failure, is_outside, is_output, counted};
+ghost use Rattle.yq_history.specs.Faults.{is_failure, is_outer_fault, is_output, failures_after};
 ghost use Rattle.yq_history.specs.Pair.{Arrives, OthersStay, PairAtRest};
 
 use std::alloc::Global;
@@ -22,9 +22,9 @@ use yq_splice::{Edited, edit};
 use yq_store::Store;
 
 /// Edits a text, which need be no UTF-8, by a program.
-#[tactic(auto, unfolding(yq_commands::specs::Editing::edits), using(yq_commands::proofs::EditingLaws::unread_refuses, yq_commands::proofs::EditingLaws::edit_refuses))]
+#[tactic(auto, unfolding(yq_commands::specs::Editing::program_edits), using(yq_commands::proofs::EditingLaws::unread_refuses, yq_commands::proofs::EditingLaws::edit_refuses))]
 pub fn edit_text(alloc: Global, program: &Program, text: &[u8]) -> Result<Edited, Fault>
-    ensures ok { IfOk result (λ e. edits (program_of program.now) text.now ≡
+    ensures ok { IfOk result (λ e. program_edits (program_of program.now) text.now ≡
         edited (string_bytes e.text) e.splices.items) }
     ensures splices { IfOk result (λ e. all_done e.splices.items text.now ≡
         Some (string_bytes e.text)) }
@@ -33,7 +33,7 @@ pub fn edit_text(alloc: Global, program: &Program, text: &[u8]) -> Result<Edited
     ensures edited { IfOk result (λ e. IsTextEdited (program_of program.now) text.now
         (string_bytes e.text)) }
     ensures err { IfErr result (λ e. e ≢ Fault.OutOfMemory →
-        Refuses (edits (program_of program.now) text.now) e) }
+        Refuses (program_edits (program_of program.now) text.now) e) }
     ensures inside { IfErr result (λ e. is_failure e ≡ false) }
     ensures no_output { IfErr result (λ e. is_output e ≡ false) }
 {
@@ -62,18 +62,18 @@ pub fn edit_from<D: Store>(
         (update_cause (Ok (program_of program.now)) (Some h)) (Some h)
         (update_next expr.now (Ok (program_of program.now)) (Some h)) result }
     ensures effect { IsTrue D.keeps → file.now ≢ journal.now →
-        Works (edit_effect expr.now (edits (program_of program.now) text.items) text.items
+        Works (edit_effect expr.now (program_edits (program_of program.now) text.items) text.items
         state.old) file.now journal.now (D.content store.old) (D.content store.new) result }
     ensures edited { IsTrue D.keeps → file.now ≢ journal.now →
         map.get (D.content store.old) file.now ≡ Some text.items →
         OnOk result (HoldsEdited (program_of program.now) text.items
         (map.get (D.content store.new) file.now)) }
-    ensures kept { IsTrue D.keeps → IfErr result (λ e. is_outside e ≡ false →
+    ensures kept { IsTrue D.keeps → IfErr result (λ e. is_outer_fault e ≡ false →
         D.content store.new ≡ D.content store.old) }
     ensures others { IsTrue D.keeps → OthersStay (D.content store.old)
         (D.content store.new) file.now journal.now }
     ensures no_output { IfErr result (λ e. is_output e ≡ false) }
-    ensures count { D.failures store.new ≡ counted result (D.failures store.old) }
+    ensures count { D.failures store.new ≡ failures_after result (D.failures store.old) }
 {
     let Edited {
         text: edited_to,

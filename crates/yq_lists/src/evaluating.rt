@@ -10,7 +10,7 @@ ghost use Rattle.yq_commands.specs.CommandEffects.{IsUnparsed, fault_of};
 ghost use Rattle.yq_commands.specs.Editing.{program_in};
 ghost use Rattle.yq_commands.specs.Evaluation.{cause_in, evaluated, of_file, report_in, shows};
 ghost use Rattle.yq_commands.specs.FileEdits.{IsTextEdited, PrintsEdited};
-ghost use Rattle.yq_history.specs.Faults.{is_failure, is_output, counted};
+ghost use Rattle.yq_history.specs.Faults.{is_failure, is_output, failures_after};
 ghost use Rattle.yq_history.specs.Pair.{Arrives, GoodIn};
 ghost use Rattle.yq_history.specs.Report.{report_by};
 
@@ -90,7 +90,7 @@ fn evaluate_program<D: Store>(
         IsTextEdited (program_of program.now) text (string_bytes report.new.text)) }
     ensures same { IsTrue D.keeps → D.content store.new ≡ D.content store.old }
     ensures no_output { IfErr result (λ e. is_output e ≡ false) }
-    ensures count { D.failures store.new ≡ counted result (D.failures store.old) }
+    ensures count { D.failures store.new ≡ failures_after result (D.failures store.old) }
 {
     let text = store.read(alloc, file)?;
     *report = show(alloc, program, &text, exit_status, no_doc)?;
@@ -122,7 +122,7 @@ pub fn evaluate<D: Store>(
     ensures unparsed { (f : Fault) → fault_of (program_in expr.now) ≡ Some f → IsUnparsed f result }
     ensures same { IsTrue D.keeps → D.content store.new ≡ D.content store.old }
     ensures no_output { IfErr result (λ e. is_output e ≡ false) }
-    ensures count { D.failures store.new ≡ counted result (D.failures store.old) }
+    ensures count { D.failures store.new ≡ failures_after result (D.failures store.old) }
 {
     let program = parse(alloc, expr)?;
     evaluate_program(alloc, store, file, &program, exit_status, no_doc, report)

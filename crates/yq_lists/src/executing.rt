@@ -8,7 +8,7 @@ ghost use Rattle.yq_commands.specs.Editing.{program_in};
 ghost use Rattle.yq_commands.specs.CommandEffects.{IsListing, IsUnparsed, OfEffect, expression_fault, fault_of, update_effect};
 ghost use Rattle.yq_commands.specs.FileEdits.{HasEdited, IsFileEdited};
 ghost use Rattle.yq_history.specs.Effects.{Works};
-ghost use Rattle.yq_history.specs.Faults.{is_outside, is_output, counted};
+ghost use Rattle.yq_history.specs.Faults.{is_outer_fault, is_output, failures_after};
 ghost use Rattle.yq_history.specs.Pair.{Arrives, GoodIn, OthersStay};
 ghost use Rattle.yq_commands.specs.Prints.{prints, reads_journal, report_of};
 ghost use Rattle.yq_history.specs.Report.{nothing, report_by};
@@ -44,12 +44,12 @@ fn update<D: Store>(
         OnOk result (IsFileEdited expr.now (map.get (D.content store.old) file.now)
         (map.get (D.content store.new) file.now)) }
     ensures unparsed { (f : Fault) → fault_of (program_in expr.now) ≡ Some f → IsUnparsed f result }
-    ensures kept { IsTrue D.keeps → IfErr result (λ e. is_outside e ≡ false →
+    ensures kept { IsTrue D.keeps → IfErr result (λ e. is_outer_fault e ≡ false →
         D.content store.new ≡ D.content store.old) }
     ensures others { IsTrue D.keeps → OthersStay (D.content store.old)
         (D.content store.new) file.now journal.now }
     ensures no_output { IfErr result (λ e. is_output e ≡ false) }
-    ensures count { D.failures store.new ≡ counted result (D.failures store.old) }
+    ensures count { D.failures store.new ≡ failures_after result (D.failures store.old) }
 {
     let program = parse(alloc, expr)?;
     let (text, mut state) = open_pair(alloc, store, file, journal)?;
@@ -90,12 +90,12 @@ pub fn execute<D: Store>(
     ensures matched { reads_journal command.now ≡ true → report.new.is_match ≡ true }
     ensures still { IsTrue D.keeps → prints command.now ≡ true →
         D.content store.new ≡ D.content store.old }
-    ensures kept { IsTrue D.keeps → IfErr result (λ e. is_outside e ≡ false →
+    ensures kept { IsTrue D.keeps → IfErr result (λ e. is_outer_fault e ≡ false →
         D.content store.new ≡ D.content store.old) }
     ensures others { IsTrue D.keeps → (q : List ℕ) → IsNotNamed q command.now →
         map.get (D.content store.new) q ≡ map.get (D.content store.old) q }
     ensures no_output { IfErr result (λ e. is_output e ≡ false) }
-    ensures count { D.failures store.new ≡ counted result (D.failures store.old) }
+    ensures count { D.failures store.new ≡ failures_after result (D.failures store.old) }
 {
     match command {
         Command::Eval {

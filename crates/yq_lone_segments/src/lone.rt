@@ -1,7 +1,7 @@
 //! A value in the place of a node that isn't behind a key or dash.
 ghost use Rattle.std.specs.Prelude.{◌≡◌, IfOk, string_bytes};
-ghost use Rattle.yq_text.specs.Halves.{whole};
-ghost use Rattle.yq_nodes.specs.Values.{node_of};
+ghost use Rattle.yq_text.specs.Halves.{halves_text};
+ghost use Rattle.yq_nodes.specs.Values.{value_node};
 ghost use Rattle.yq_block_scalars.specs.BlockWritten.{break_text};
 ghost use Rattle.yq_row_places.specs.StandingViews.{lone_view, no_rows_view, root_view};
 ghost use Rattle.yq_block.specs.BlockText.{block_value};
@@ -28,7 +28,7 @@ pub fn lone_put<'t>(
     lone: &Lone<'t>,
     value: &Value,
 ) -> Result<Segments<'t>, AllocError>
-    ensures { IfOk result (λ ss. ss ≡ spec.lone_put (lone_view lone.now) (node_of value.now)) }
+    ensures { IfOk result (λ ss. ss ≡ spec.lone_put (lone_view lone.now) (value_node value.now)) }
 {
     let text = value_text(alloc, Place::Block, lone.head.as_bytes(), value)?;
     let new = apart(alloc, lone.head, text)?;
@@ -51,7 +51,7 @@ pub fn root_put<'t>(
     value: &Value,
 ) -> Result<Segments<'t>, AllocError>
     ensures { IfOk result (λ ss. ss ≡
-        spec.root_put layout.now (node_of value.now) (root_view root.now)) }
+        spec.root_put layout.now (value_node value.now) (root_view root.now)) }
 {
     let mut text = String::new(alloc);
     push_block(alloc, &mut text, layout, root.column, value)?;
@@ -78,7 +78,7 @@ fn is_closed_text(text: &[u8]) -> bool
 /// The same of a text in two halves.
 #[tactic(auto, using(crate::proofs::ClosedLaws::half_agrees))]
 fn is_closed(text: Halves<'_>) -> bool
-    ensures { result ≡ closed.is_closed_text (whole text.entry) }
+    ensures { result ≡ closed.is_closed_text (halves_text text.entry) }
 {
     if text.back.is_empty() {
         return is_closed_text(text.front.as_bytes());
@@ -95,8 +95,8 @@ fn lines_behind(
     value: &Value,
 ) -> Result<String, AllocError>
     ensures { IfOk result (λ s. string_bytes s ≡
-        closed.lines_put_behind (closed.is_closed_text (whole before.entry))
-        (break_text layout.now.br) (block_value layout.now 0 (node_of value.now))) }
+        closed.lines_put_behind (closed.is_closed_text (halves_text before.entry))
+        (break_text layout.now.br) (block_value layout.now 0 (value_node value.now))) }
 {
     let mut text = String::new(alloc);
     if is_closed(before) {
@@ -120,7 +120,7 @@ pub fn no_rows_put<'t>(
     value: &Value,
 ) -> Result<Segments<'t>, AllocError>
     ensures { IfOk result (λ ss. ss ≡
-        spec.no_rows_put layout.now (node_of value.now) (no_rows_view place.now)) }
+        spec.no_rows_put layout.now (value_node value.now) (no_rows_view place.now)) }
 {
     let lines = lines_behind(alloc, layout, place.before, value)?;
     let segments = vec![in alloc;

@@ -10,7 +10,7 @@ use yq_edits::behind_space;
 /// # Errors
 /// [`AllocError`] where memory is refused.
 pub fn apart(alloc: Global, old: &str, new: String) -> Result<String, AllocError>
-    ensures { IfOk result (λ s. string_bytes s ≡ spec.apart old.now (string_bytes new)) }
+    ensures { IfOk result (λ s. string_bytes s ≡ spec.spaced_text old.now (string_bytes new)) }
 {
     if old.is_empty() {
         return behind_space(alloc, &new);

@@ -1,12 +1,12 @@
 -- The matches that those of the code stand for.
 use Rattle.std.specs.Prelude.{ℕ, List, map}
 use Rattle.yq_flow_scalars.specs.Tree.{Node}
-use Rattle.yq_nodes.specs.Values.{node_of}
+use Rattle.yq_nodes.specs.Values.{value_node}
 use Rattle.yq_matches.specs.declared.matched.Match.{Match}
 
 -- the number of the document and the copy that a match of the code stands for (own)
 abbrev pub match_of : Match → ℕ × Node
-match_of m = (m.doc, node_of m.value)
+match_of m = (m.doc, value_node m.value)
 
 -- the matches that those of the code stand for (own)
 abbrev pub matches_of : List Match → List (ℕ × Node)

@@ -4,7 +4,7 @@ use Rattle.yq_flow_scalars.specs.Tree.{Node}
 use Rattle.yq_meaning.specs.Judgement.{Judgement, and_then, gives, refuses}
 use Rattle.yq_meaning.specs.Pipes.{pipe_on, places}
 use Rattle.yq_meaning.specs.Places.{root_place, for_each, step_on, chained, traverse}
-use Rattle.yq_program.specs.Program.{Step, Stage, each, path}
+use Rattle.yq_program.specs.Program.{PathStep, Stage, each, path}
 
 -- nothing more comes of a last step that gives what it has
 pub then_same : {A : Type 0} (j : Judgement A) → and_then (λ x. gives x) j ≡ j
@@ -21,7 +21,7 @@ chain_last {S} {A} f (t ∷ ts) s a = go (f t a) (λ b. chain_last f ts s b)
     go (refuses why) h = refl
 
 -- a path whose last step leads to all items or values, from a root
-pub each_last : (doc : ℕ) (pipe : List Stage) (front : List Step) (root : Node) → pipe ≡ path (front ++ each ∷ []) ∷ [] → places doc pipe root ≡ and_then (for_each (step_on each)) (traverse front (root_place root ∷ []))
+pub each_last : (doc : ℕ) (pipe : List Stage) (front : List PathStep) (root : Node) → pipe ≡ path (front ++ each ∷ []) ∷ [] → places doc pipe root ≡ and_then (for_each (step_on each)) (traverse front (root_place root ∷ []))
 each_last doc pipe front root is =
     ap (λ (stages : List Stage). pipe_on doc stages (root_place root ∷ [])) is
     ∙ (then_same (traverse (front ++ each ∷ []) (root_place root ∷ [])) ∙ chain_last (λ t. for_each (step_on t)) front each (root_place root ∷ []))

@@ -11,14 +11,14 @@ use Rattle.yq_flow_scalars.specs.Paths.{is_here, further, child_at}
 use Rattle.yq_flow_scalars.specs.Tree as tree
 use Rattle.yq_flow_scalars.specs.Tree.{Node, alias, scalar, list, Children, none, child}
 use Rattle.yq_documents.specs.Documents.{Document}
-use Rattle.yq_meaning.specs.Conditions.{node_there, value_of, holds}
+use Rattle.yq_meaning.specs.Conditions.{node_there, value_of, condition_holds}
 use Rattle.yq_meaning.specs.Copies.{matches_in, matches_from}
 use Rattle.yq_meaning.specs.Judgement.{MatchFails, Judgement, and_then, gives}
-use Rattle.yq_meaning.specs.Matching.{ChildFound, find, in_scalar, key_step, item_number, index_step}
-use Rattle.yq_meaning.specs.Pipes.{kept, select_on, stage_on, pipe_on, places}
+use Rattle.yq_meaning.specs.Matching.{ChildFound, step_child, in_scalar, key_step, item_number, index_step}
+use Rattle.yq_meaning.specs.Pipes.{kept_place, select_on, stage_on, pipe_on, places}
 use Rattle.yq_matching.specs.PlaceView.{put_behind}
 use Rattle.yq_meaning.specs.Places.{Place, root_place, child_place, for_each, miss, found_place, stepped, all_steps, step_there, step_from, step_on, chained}
-use Rattle.yq_program.specs.Program.{Step, key, index, each, Stage, path, select}
+use Rattle.yq_program.specs.Program.{PathStep, key, index, each, Stage, path, select}
 use Rattle.yq_matching.specs.TreeScalars.{HasScalars, EachHasScalars, HaveScalars}
 use Rattle.yq_meaning.specs.declared.expr_error.ExprError.{ExprError}
 use Rattle.yq_meaning.specs.declared.refusal.Refusal.{Refusal}
@@ -55,7 +55,7 @@ child_has s (child label m cs) n h e = go (is_here s label) (child_has (further 
 abbrev FindsScalars : Judgement ChildFound → Type 0
 FindsScalars j = (x : paths.Step × Node) → j ≡ gives (Some x) → HasScalars x.1
 
-find_has : (s : paths.Step) (cs : Children) → EachHasScalars cs → FindsScalars (gives (find s cs))
+find_has : (s : paths.Step) (cs : Children) → EachHasScalars cs → FindsScalars (gives (step_child s cs))
 find_has s cs h x e = go (child_at s cs) refl (gives_same e)
   where
     go : (o : Option Node) → child_at s cs ≡ o → option_map (λ m. (s, m)) o ≡ Some x → HasScalars x.1
@@ -74,14 +74,14 @@ key_finds k _ h x e = absurd (cc)
 index_finds : (i : ℤ) (n : Node) → HasScalars n → FindsScalars (index_step i n)
 index_finds i (scalar anchor kind text) h x e = scalar_finds NotASequence kind x e
 index_finds i (list anchor cs) h x e =
-    let at = then_gives (λ (n : ℕ). gives (find (paths.Nth n) cs)) (item_number i cs) (Some x) e in find_has (paths.Nth at.0) cs h x at.2
+    let at = then_gives (λ (n : ℕ). gives (step_child (paths.Nth n) cs)) (item_number i cs) (Some x) e in find_has (paths.Nth at.0) cs h x at.2
 index_finds i _ h x e = absurd (cc)
 
-miss_has : (s : Step) (p : Place) → HasScalars p.node → HaveScalars (miss s p)
+miss_has : (s : PathStep) (p : Place) → HasScalars p.node → HaveScalars (miss s p)
 miss_has each p h = tt
 miss_has _ p h = (h, tt)
 
-found_have : (s : Step) (p : Place) (j : Judgement ChildFound) (qs : List Place) → HasScalars p.node → FindsScalars j → and_then (λ x. gives (found_place s p x)) j ≡ gives qs → HaveScalars qs
+found_have : (s : PathStep) (p : Place) (j : Judgement ChildFound) (qs : List Place) → HasScalars p.node → FindsScalars j → and_then (λ x. gives (found_place s p x)) j ≡ gives qs → HaveScalars qs
 found_have s p j qs h finds e =
     let x = then_gives (λ (x : ChildFound). gives (found_place s p x)) j qs e in
     subst HaveScalars (gives_same x.2) (go x.0 x.1)
@@ -103,15 +103,15 @@ all_have p (scalar anchor kind text) qs h e =
 all_have p (list anchor cs) qs h e = subst HaveScalars (gives_same e) (children_have p 0 cs h)
 all_have p (tree.map anchor cs) qs h e = subst HaveScalars (gives_same e) (children_have p 0 cs h)
 
-step_has : (s : Step) → LeadsToScalars (step_on s)
+step_has : (s : PathStep) → LeadsToScalars (step_on s)
 step_has s p qs h e = go p.missing e
   where
-    there : (s : Step) → step_there s p ≡ gives qs → HaveScalars qs
+    there : (s : PathStep) → step_there s p ≡ gives qs → HaveScalars qs
     there (key k) e = found_have (key k) p (key_step k p.node) qs h (key_finds k p.node h) e
     there (index i) e = found_have (index i) p (index_step i p.node) qs h (index_finds i p.node h) e
     there each e = all_have p p.node qs h e
 
-    go : (missing : List Step) → step_from missing s p ≡ gives qs → HaveScalars qs
+    go : (missing : List PathStep) → step_from missing s p ≡ gives qs → HaveScalars qs
     go [] e = there s e
     go (m ∷ ms) e = subst HaveScalars (gives_same e) (miss_has s p h)
 
@@ -126,9 +126,9 @@ kept_has doc (select c) ps qs h e = each_have (select_on doc c) leads ps qs h e
   where
     leads : LeadsToScalars (select_on doc c)
     leads p qs h e =
-        let x = then_gives (λ (b : Bool). gives (kept p b)) (holds doc c p) qs e in subst HaveScalars (gives_same x.2) (go x.0)
+        let x = then_gives (λ (b : Bool). gives (kept_place p b)) (condition_holds doc c p) qs e in subst HaveScalars (gives_same x.2) (go x.0)
       where
-        go : (b : Bool) → HaveScalars (kept p b)
+        go : (b : Bool) → HaveScalars (kept_place p b)
         go true = (h, tt)
         go false = tt
 
@@ -144,7 +144,7 @@ places_have doc pipe root qs h e = pipe_have doc pipe (root_place root ∷ []) q
 pub value_has : (p : Place) → HasScalars p.node → HasScalars (value_of p)
 value_has p h = go p.missing
   where
-    go : (missing : List Step) → HasScalars (node_there missing p.node)
+    go : (missing : List PathStep) → HasScalars (node_there missing p.node)
     go [] = h
     go (s ∷ ss) = refl
 

@@ -8,16 +8,16 @@ use Rattle.yq_meaning.specs.Conditions.{node_there}
 use Rattle.yq_meaning.specs.Judgement.{gives}
 use Rattle.yq_matching.specs.PlaceView.{place_of, places_of}
 use Rattle.yq_meaning.specs.Places.{Place, child_place, miss, step_by, step_from, stepped}
-use Rattle.yq_program.specs.Program.{Step}
+use Rattle.yq_program.specs.Program.{PathStep}
 use Rattle.yq_matching.specs.declared.matching.place.Place as declared
 
 -- where a step is missing there is null
-pub null_there : (front : List Step) (s : Step) (n : Node) → node_there (front ++ s ∷ []) n ≡ null_node
+pub null_there : (front : List PathStep) (s : PathStep) (n : Node) → node_there (front ++ s ∷ []) n ≡ null_node
 null_there [] s n = refl
 null_there (t ∷ ts) s n = refl
 
 -- behind a missing step another one is missing
-pub missed_on : (front : List Step) (s step : Step) (p : Place) → step_from (front ++ s ∷ []) step p ≡ gives (miss step p)
+pub missed_on : (front : List PathStep) (s step : PathStep) (p : Place) → step_from (front ++ s ∷ []) step p ≡ gives (miss step p)
 missed_on [] s step p = refl
 missed_on (t ∷ ts) s step p = refl
 

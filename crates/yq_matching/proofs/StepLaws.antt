@@ -12,16 +12,16 @@ use Rattle.yq_matching.specs.declared.matching.place.Place as declared
 use Rattle.yq_matching.specs.FoundView.{child_places}
 use Rattle.yq_matching.specs.PlaceView.{missing_of, path_of, place_of, places_of, put_behind}
 use Rattle.yq_meaning.specs.Judgement.{and_then, gives}
-use Rattle.yq_meaning.specs.Matching.{find, item, item_number}
+use Rattle.yq_meaning.specs.Matching.{step_child, item_at_index, item_number}
 use Rattle.yq_meaning.specs.Places.{Place, all_steps, child_place, for_each, miss, step_from, step_on, stepped}
-use Rattle.yq_program.specs.Program.{Step, each}
-use Rattle.yq_program.specs.View.{step_of}
+use Rattle.yq_program.specs.Program.{PathStep, each}
+use Rattle.yq_program.specs.View.{program_step}
 use Rattle.yq_program.specs.declared.program.Step as program
 use Rattle.yq_matching.proofs.PlaceLaws.{missed_on}
 
 -- ---- what is missing
 
-pub one_missing : (m : Missing) (front : Bor Missing) (step : Bor program.Step) → m ≡ Further front step → missing_of m ≡ missing_of front.now ++ step_of
+pub one_missing : (m : Missing) (front : Bor Missing) (step : Bor program.Step) → m ≡ Further front step → missing_of m ≡ missing_of front.now ++ program_step
     step.now ∷ []
 one_missing m front step is = ap missing_of is ∙ search (rules, the_lemmas)
 
@@ -29,7 +29,7 @@ pub none_missing : (m : Missing) → m ≡ Nothing → missing_of m ≡ []
 none_missing m is = ap missing_of is ∙ search (rules, the_lemmas)
 
 -- behind a missing step
-pub step_missed : (before : List Place) (s last : Step) (p : Place) (front : List Step) → p.missing ≡ front ++ last ∷ [] → put_behind before (step_on s p)
+pub step_missed : (before : List Place) (s last : PathStep) (p : Place) (front : List PathStep) → p.missing ≡ front ++ last ∷ [] → put_behind before (step_on s p)
     ≡ gives (before ++ miss s p)
 step_missed before s last p front is = ap (λ ms. put_behind before (step_from ms s p)) is ∙ ap (put_behind before) (missed_on front last s p)
 
@@ -44,10 +44,10 @@ steps_of_coll (scalar anchor kind text) k is (inl e) = absurd (cc)
 steps_of_coll (scalar anchor kind text) k is (inr e) = absurd (cc)
 
 -- the item of an index, by its number
-pub item_found : (i j : ℤ) (cs : Children) (n : ℕ) (o : Option Node) → j ≡ i → item_number j cs ≡ gives n → o ≡ child_at (Nth n) cs → item i cs ≡ gives
+pub item_found : (i j : ℤ) (cs : Children) (n : ℕ) (o : Option Node) → j ≡ i → item_number j cs ≡ gives n → o ≡ child_at (Nth n) cs → item_at_index i cs ≡ gives
     (option_map (λ m. (Nth n, m)) o)
 item_found i j cs n o same h at =
-    ap (and_then (λ m. gives (find (Nth m) cs))) (ap (λ k. item_number k cs) (sym same) ∙ h) ∙ ap (λ q. gives (option_map (λ m. (Nth n, m)) q)) (sym at)
+    ap (and_then (λ m. gives (step_child (Nth m) cs))) (ap (λ k. item_number k cs) (sym same) ∙ h) ∙ ap (λ q. gives (option_map (λ m. (Nth n, m)) q)) (sym at)
 
 -- ---- of places
 

@@ -14,11 +14,11 @@ use Rattle.yq_nodes.specs.Scalars.{is_quoted, scalar_of}
 use Rattle.yq_nodes.specs.Trees.{tree_of, items_tree, with_name, node_head}
 use Rattle.yq_cut.specs.Rows as rows
 use Rattle.yq_documents.specs.Documents.{Document}
-use Rattle.yq_lines.specs.Group.{deeper, shallow, group}
-use Rattle.yq_lines.specs.Lines.{head_of, lines_from, row_lines, lines_of}
+use Rattle.yq_lines.specs.Group.{deeper_lines, shallow, group}
+use Rattle.yq_lines.specs.Lines.{head_of, lines_from, row_lines, lines_of_rows}
 use Rattle.yq_lines.specs.Outline as outline
-use Rattle.yq_lines.specs.Outline.{Mark, Bare, Key, Dash, Line, level, Outline, end, row, anchored, head_or, shaped, children}
-use Rattle.yq_documents.specs.Reading.{document_of}
+use Rattle.yq_lines.specs.Outline.{LineMark, Bare, Key, Dash, Line, level, Outline, end, row, anchored, head_or, shaped, children}
+use Rattle.yq_documents.specs.Reading.{part_document}
 use Rattle.yq_matching.specs.TreeScalars.{HasScalars, EachHasScalars}
 
 -- ---- inline nodes
@@ -50,7 +50,7 @@ collection_has false cs h = h
 mutual
   unfolding tree_of items_tree
 
-  tree_has : (n : inline.Node) → HasScalars (tree_of n)
+  tree_has : (n : inline.FlowNode) → HasScalars (tree_of n)
   tree_has inline.empty = refl
   tree_has (inline.alias name) = tt
   tree_has (inline.scalar p) = scalar_is p
@@ -76,7 +76,7 @@ abbrev OutlineHas : Outline → Type 0
 OutlineHas end = Unit {0}
 OutlineHas (row l under after) = HeadHas l.head × (OutlineHas under × OutlineHas after)
 
-node_head_has : (n : inline.Node) → HeadHas (node_head n)
+node_head_has : (n : inline.FlowNode) → HeadHas (node_head n)
 node_head_has inline.empty = tt
 node_head_has (inline.alias name) = tree_has (inline.alias name)
 node_head_has (inline.scalar p) = tree_has (inline.scalar p)
@@ -87,7 +87,7 @@ head_has : (c : rows.Content) → HeadHas (head_of c)
 head_has (rows.Inline space node tail) = node_head_has node
 head_has _ = tt
 
-from_has : (above : List (List ℕ)) (column : ℕ) (dashes : List ℕ) (mark : rows.Mark) (c : rows.Content) → LinesHave (lines_from above column dashes mark c)
+from_has : (above : List (List ℕ)) (column : ℕ) (dashes : List ℕ) (mark : rows.RowMark) (c : rows.Content) → LinesHave (lines_from above column dashes mark c)
 from_has above column [] mark c = (head_has c, tt)
 from_has above column (n ∷ ns) mark c = (tt, from_has [] (suc (column + n)) ns mark c)
 
@@ -95,17 +95,17 @@ join_have : (ls ms : List Line) → LinesHave ls → LinesHave ms → LinesHave 
 join_have [] ms h k = k
 join_have (l ∷ ls) ms h k = (h.0, join_have ls ms h.1 k)
 
-lines_have : (rs : List rows.Row) → LinesHave (lines_of rs)
+lines_have : (rs : List rows.Row) → LinesHave (lines_of_rows rs)
 lines_have [] = tt
-lines_have (r ∷ rs) = join_have (row_lines r) (lines_of rs) (from_has _ r.column r.dashes r.mark r.content) (lines_have rs)
+lines_have (r ∷ rs) = join_have (row_lines r) (lines_of_rows rs) (from_has _ r.column r.dashes r.mark r.content) (lines_have rs)
 
 -- ---- outlines
 
-deeper_has : (n : ℕ) (o : Outline) → OutlineHas o → OutlineHas (deeper n o)
+deeper_has : (n : ℕ) (o : Outline) → OutlineHas o → OutlineHas (deeper_lines n o)
 deeper_has n end h = tt
 deeper_has n (row l under after) h = go (nat_lt n (level l)) (deeper_has n after h.1.1)
   where
-    go : (b : Bool) → OutlineHas (deeper n after) → OutlineHas (cond b (row l under (deeper n after)) end)
+    go : (b : Bool) → OutlineHas (deeper_lines n after) → OutlineHas (cond b (row l under (deeper_lines n after)) end)
     go true rest = (h.0, (h.1.0, rest))
     go false rest = tt
 
@@ -130,7 +130,7 @@ head_or_has : (head : Option Node) (n : Node) → HeadHas head → HasScalars n 
 head_or_has None n h k = k
 head_or_has (Some m) n h k = h
 
-coll_has : (mark : Mark) (cs : Children) → EachHasScalars cs → HasScalars (outline.collection mark cs)
+coll_has : (mark : LineMark) (cs : Children) → EachHasScalars cs → HasScalars (outline.outline_node mark cs)
 coll_has Bare tree.none h = refl
 coll_has Bare (tree.child label n cs) h = h.0
 coll_has _ cs h = h
@@ -146,10 +146,10 @@ children_have (row l under after) h =
 
 -- ---- documents
 
-pub documents_have : (ps : List rows.Part) (i : ℕ) (d : Document) → slice_get (map document_of ps) i ≡ Some d → HasScalars d.root
+pub documents_have : (ps : List rows.Part) (i : ℕ) (d : Document) → slice_get (map part_document ps) i ≡ Some d → HasScalars d.root
 documents_have [] i d h = absurd (none-some _ h)
 documents_have (p ∷ ps) zero d h =
-    let same : document_of p ≡ d = cc in
-    let ls = group (lines_of p.rows) in
-    subst (λ (e : Document). HasScalars e.root) same (shaped_has ls (children ls) (children_have ls (group_has (lines_of p.rows) (lines_have p.rows))))
+    let same : part_document p ≡ d = cc in
+    let ls = group (lines_of_rows p.rows) in
+    subst (λ (e : Document). HasScalars e.root) same (shaped_has ls (children ls) (children_have ls (group_has (lines_of_rows p.rows) (lines_have p.rows))))
 documents_have (p ∷ ps) (suc i) d h = documents_have ps i d h

@@ -8,12 +8,12 @@ use Rattle.yq_matching.specs.PlaceView.{path_of, places_of}
 use Rattle.yq_meaning.specs.Places.{Place, child_place, stepped}
 
 -- the place of the node at a path (own)
-abbrev pub node_place : List paths.Step → Node → Place
-node_place x n = record { path = x; node = n; missing = [] }
+abbrev pub place_at_path : List paths.Step → Node → Place
+place_at_path x n = record { path = x; node = n; missing = [] }
 
 -- the places of all items or values of the node at a path (own)
 abbrev pub child_places : List paths.Step → Node → List Place
-child_places x n = map (child_place (node_place x n)) (stepped 0 (children_of n))
+child_places x n = map (child_place (place_at_path x n)) (stepped 0 (children_of n))
 
 -- the places that those of the code stand for (own)
 abbrev pub found_places : found.FoundPlaces → List Place

@@ -16,8 +16,8 @@ use Rattle.yq_matching.specs.declared.matching.place.Place as declared
 use Rattle.yq_meaning.specs.Judgement.{Judgement, and_then, gives}
 use Rattle.yq_meaning.specs.Matching.{ChildFound}
 use Rattle.yq_meaning.specs.Places.{Place}
-use Rattle.yq_program.specs.Program.{Step}
-use Rattle.yq_program.specs.View.{step_of}
+use Rattle.yq_program.specs.Program.{PathStep}
+use Rattle.yq_program.specs.View.{program_step}
 
 -- the step to a node that one of the code stands for (own)
 abbrev pub node_step_of : steps.NodeStep → paths.Step
@@ -34,13 +34,13 @@ abbrev pub path_of : NodePath → List paths.Step
 path_of = fold-NodePath (List paths.Step) path_link
 
 -- one link of steps that are missing, those before it being seen already (own)
-abbrev pub missing_link : Missing-F (List Step) → List Step
+abbrev pub missing_link : Missing-F (List PathStep) → List PathStep
 missing_link Missing-F.Nothing = []
-missing_link (Missing-F.Further front last) = front.now ++ step_of last.now ∷ []
+missing_link (Missing-F.Further front last) = front.now ++ program_step last.now ∷ []
 
 -- the missing steps that those of the code stand for (own)
-abbrev pub missing_of : Missing → List Step
-missing_of = fold-Missing (List Step) missing_link
+abbrev pub missing_of : Missing → List PathStep
+missing_of = fold-Missing (List PathStep) missing_link
 
 -- the place that one of the code stands for (own)
 abbrev pub place_of : declared.Place → Place

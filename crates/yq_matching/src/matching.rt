@@ -1,6 +1,6 @@
 //! Matching: where pipes lead in a tree.
 ghost use Rattle.std.specs.Prelude.{◌≡◌, IfOk};
-ghost use Rattle.yq_nodes.specs.Entries.{step_of as tree_step};
+ghost use Rattle.yq_nodes.specs.Entries.{tree_step};
 ghost use Rattle.yq_matching.specs.PlaceView.{node_step_of};
 
 mod condition;

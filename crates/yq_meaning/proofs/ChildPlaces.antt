@@ -6,7 +6,7 @@ use Rattle.yq_flow_scalars.specs.Tree as tree
 use Rattle.yq_flow_scalars.specs.Tree.{Node, alias, scalar, list, Children, none, child, children_of}
 use Rattle.yq_flow_scalars.specs.Paths as paths
 use Rattle.yq_flow_scalars.specs.Paths.{To, Nth, key_is, is_item, is_here, further, child_at, node_at}
-use Rattle.yq_program.specs.Program.{Step, key, index, each}
+use Rattle.yq_program.specs.Program.{PathStep, key, index, each}
 use Rattle.yq_meaning.specs.Places.{step_by, Place, child_place, miss, stepped}
 use Rattle.yq_meaning.specs.PlacesApart.{IsBeforeAll, AreApart, IsIn}
 use Rattle.yq_flow_scalars.specs.PathOrder.{Diverge}
@@ -26,7 +26,7 @@ leads_self root p q same node tree at = record {
   sound = ((subst IsTree (sym node) tree, ap (λ (x : List paths.Step). node_at x root) same ∙ (at ∙ ap Some (sym node))), tt);
 }
 
-pub leads_missing : (root : Node) (p : Place) (s : Step) → IsTree p.node → IsIn root p → LeadsInto root p (miss s p)
+pub leads_missing : (root : Node) (p : Place) (s : PathStep) → IsTree p.node → IsIn root p → LeadsInto root p (miss s p)
 leads_missing root p (key k) tree at = leads_self root p (record p { missing = p.missing ++ key k ∷ [] }) refl refl tree at
 leads_missing root p (index i) tree at = leads_self root p (record p { missing = p.missing ++ index i ∷ [] }) refl refl tree at
 leads_missing root p each tree at = leads_none root p

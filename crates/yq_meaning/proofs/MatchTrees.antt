@@ -15,7 +15,7 @@ use Rattle.yq_meaning.specs.MatchTrees.{IsMatch, AreMatches}
 use Rattle.yq_meaning.specs.Pipes.{places}
 use Rattle.yq_meaning.specs.Places.{Place, for_each}
 use Rattle.yq_meaning.specs.PlacesApart.{IsIn}
-use Rattle.yq_program.specs.Program.{Stage, Step}
+use Rattle.yq_program.specs.Program.{Stage, PathStep}
 use Rattle.yq_meaning.specs.declared.expr_error.ExprError.{ExprError}
 use Rattle.yq_meaning.proofs.JudgementLaws.{then_gives, gives_same}
 use Rattle.yq_meaning.proofs.GoodPlaces.{AreSound}

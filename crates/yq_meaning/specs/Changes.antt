@@ -19,7 +19,7 @@ use Rattle.yq_program.specs.declared.program.CommentPlace.TheVariants as comment
 use Rattle.yq_program.specs.declared.program.Operator.TheVariants as operator
 use Rattle.yq_meaning.specs.declared.refusal.Refusal.TheVariants.{IndexOutOfRange, ThroughAlias, AnchorInUse, KindMismatch, NoPlaceForComment, BadCommentText, RootDelete, TooDeep, KeyTooLong}
 use Rattle.yq_meaning.specs.Judgement.{Judgement, and_then, gives, refuses}
-use Rattle.yq_program.specs.Program.{is_index, Step, key, index, each, Stage, Update, assign, delete, comment}
+use Rattle.yq_program.specs.Program.{is_index, PathStep, key, index, each, Stage, Update, assign, delete, comment}
 use Rattle.yq_meaning.specs.Pipes.{places}
 use Rattle.yq_meaning.specs.Places.{Place, root_place, for_each}
 use Rattle.yq_meaning.specs.RightValues.{is_null, as_items, sum, right_value}
@@ -49,31 +49,31 @@ pub record Room : Type 0 where
 -- ---- at a place
 
 -- a value under missing keys, a mapping of one entry for each (own)
-abbrev pub nested : List Step → Node → Node
+abbrev pub nested : List PathStep → Node → Node
 nested [] v = v
 nested (key k ∷ ms) v = tree.map None (child (new_label (Some k)) (nested ms v) none)
 nested (index i ∷ ms) v = nested ms v
 nested (each ∷ ms) v = nested ms v
 
 -- the key of a step (own)
-abbrev pub step_key : Step → Option (List ℕ)
+abbrev pub step_key : PathStep → Option (List ℕ)
 step_key (key k) = Some k
 step_key (index i) = None
 step_key each = None
 
 -- a value under missing keys below a node: a mapping gets an entry more, and a null gives way to a mapping (own)
-abbrev pub created : Node → Step → List Step → Node → Change
+abbrev pub created : Node → PathStep → List PathStep → Node → Change
 created (tree.map anchor cs) m ms v = adds (appends (step_key m) (nested ms v) ∷ [])
 created n m ms v = replaces (nested (m ∷ ms) v)
 
 -- a value at a place: no item can be made (own)
-abbrev pub put_below : Node → List Step → Node → Judgement Change
+abbrev pub put_below : Node → List PathStep → Node → Judgement Change
 put_below n [] v = gives (replaces v)
 put_below n (m ∷ ms) v = if list_any is_index (m ∷ ms) then refuses IndexOutOfRange else gives (created n m ms v)
 
 -- the same with the path (own)
-abbrev pub put_at : Place → Node → Judgement (List Changed)
-put_at p v = and_then (λ c. gives ((p.path, c) ∷ [])) (put_below p.node p.missing v)
+abbrev pub put_with_path : Place → Node → Judgement (List Changed)
+put_with_path p v = and_then (λ c. gives ((p.path, c) ∷ [])) (put_below p.node p.missing v)
 
 -- an entry for a mapping with these entries (own)
 abbrev pub addition : Children → Option (List ℕ) → Node → Addition
@@ -98,16 +98,16 @@ added (list anchor cs) v = gives (adds (additions none (as_items v)))
 added (tree.map anchor cs) v = added_entries cs v
 
 -- a value that is added at a place of which these steps are missing (own)
-abbrev pub add_below : List Step → Place → Node → Judgement (List Changed)
+abbrev pub add_below : List PathStep → Place → Node → Judgement (List Changed)
 add_below [] p v = and_then (λ c. gives ((p.path, c) ∷ [])) (added p.node v)
-add_below (m ∷ ms) p v = put_at p v
+add_below (m ∷ ms) p v = put_with_path p v
 
 -- the same of a place; null adds nothing (own)
 abbrev pub add_at : Place → Node → Judgement (List Changed)
 add_at p v = if is_null v then gives [] else add_below p.missing p v
 
 -- what is removed at a path of which these steps are missing: what is missing is not, and a root can't be (own)
-abbrev pub remove_below : List Step → List paths.Step → Judgement (List Changed)
+abbrev pub remove_below : List PathStep → List paths.Step → Judgement (List Changed)
 remove_below (m ∷ ms) x = gives []
 remove_below [] [] = refuses RootDelete
 remove_below [] (s ∷ x) = gives ((s ∷ x, removes) ∷ [])
@@ -117,7 +117,7 @@ abbrev pub remove_at : Place → Judgement (List Changed)
 remove_at p = remove_below p.missing p.path
 
 -- whether nothing is missing (own)
-abbrev pub is_there : List Step → Bool
+abbrev pub is_there : List PathStep → Bool
 is_there [] = true
 is_there (m ∷ ms) = false
 
@@ -133,9 +133,9 @@ abbrev pub is_long_key : List ℕ → Bool
 is_long_key k = nat_lt key_limit (length (chars (scalar_text (string_of k) FlowKey)))
 
 -- a key is there, and too long (own)
-abbrev pub is_long : Option (List ℕ) → Bool
-is_long None = false
-is_long (Some k) = is_long_key k
+abbrev pub is_overlong_key : Option (List ℕ) → Bool
+is_overlong_key None = false
+is_overlong_key (Some k) = is_long_key k
 
 abbrev mutual
   -- whether a value has too long a key (own)
@@ -148,11 +148,11 @@ abbrev mutual
   -- the same of items or entries (own)
   pub have_long_key : Children → Bool
   have_long_key none = false
-  have_long_key (child label n cs) = is_long label.key || (has_long_key n || have_long_key cs)
+  have_long_key (child label n cs) = is_overlong_key label.key || (has_long_key n || have_long_key cs)
 
 -- whether too long a key would be written (own)
 abbrev pub writes_long_key : Addition → Bool
-writes_long_key (appends k v) = is_long k || has_long_key v
+writes_long_key (appends k v) = is_overlong_key k || has_long_key v
 writes_long_key (overwrites k v) = has_long_key v
 
 -- the same of a change (own)
@@ -234,32 +234,32 @@ with_value root right f (p ∷ ps) = and_then (λ v. at_each root (λ q. f q v) 
 
 -- what an update changes at places of the document of that number (own)
 abbrev pub changes_at : ℕ → Room → Node → Update → List Place → Judgement (List Changed)
-changes_at doc room root (assign left operator.Set right) ps = with_value root (right_value doc right (root_place root)) put_at ps
-changes_at doc room root (assign left operator.Modify right) ps = at_each root (λ p. and_then (put_at p) (right_value doc right p)) ps
+changes_at doc room root (assign left operator.Set right) ps = with_value root (right_value doc right (root_place root)) put_with_path ps
+changes_at doc room root (assign left operator.Modify right) ps = at_each root (λ p. and_then (put_with_path p) (right_value doc right p)) ps
 changes_at doc room root (assign left operator.Add right) ps = with_value root (right_value doc right (root_place root)) add_at ps
 changes_at doc room root (delete left) ps = at_each root remove_at ps
 changes_at doc room root (comment left place text) ps = at_each root (comment_at room place text) ps
 
 -- the pipe of an update's left side (own)
-abbrev pub left_of : Update → List Stage
-left_of (assign left operator right) = left
-left_of (delete left) = left
-left_of (comment left place text) = left
+abbrev pub left_pipe : Update → List Stage
+left_pipe (assign left operator right) = left
+left_pipe (delete left) = left
+left_pipe (comment left place text) = left
 
 -- what an update changes in the document of that number (own)
 abbrev pub changes_in : Update → ℕ → Room → Node → Judgement (List Changed)
-changes_in u doc room root = and_then (changes_at doc room root u) (places doc (left_of u) root)
+changes_in u doc room root = and_then (changes_at doc room root u) (places doc (left_pipe u) root)
 
 -- whether a comment can have a text: each character can be in a text, and in a line comment none is a break (own)
-abbrev pub is_comment : CommentPlace → List ℕ → Bool
-is_comment comments.Line text = list_all (λ c. is_text_char c && (not (c == 10) && not (c == 13))) (chars text)
-is_comment comments.Head text = list_all (λ c. is_text_char c && not (c == 13)) (chars text)
+abbrev pub can_be_comment : CommentPlace → List ℕ → Bool
+can_be_comment comments.Line text = list_all (λ c. is_text_char c && (not (c == 10) && not (c == 13))) (chars text)
+can_be_comment comments.Head text = list_all (λ c. is_text_char c && not (c == 13)) (chars text)
 
 -- whether an update's text can be that of a comment (own)
 abbrev pub has_comment : Update → Bool
 has_comment (assign left operator right) = true
 has_comment (delete left) = true
-has_comment (comment left place text) = is_comment place text
+has_comment (comment left place text) = can_be_comment place text
 
 -- what an update changes in each document, from the one of that number on (own)
 abbrev pub changes_from : Update → (ℕ → Room) → ℕ → List Node → Judgement (List (List Changed))
@@ -268,5 +268,5 @@ changes_from u rooms n (root ∷ roots) =
     and_then (λ first. and_then (λ others. gives (first ∷ others)) (changes_from u rooms (suc n) roots)) (changes_in u n (rooms n) root)
 
 -- what an update changes in documents with these roots (own)
-abbrev pub changes_of : Update → (ℕ → Room) → List Node → Judgement (List (List Changed))
-changes_of u rooms roots = if has_comment u then changes_from u rooms 0 roots else refuses BadCommentText
+abbrev pub update_changes : Update → (ℕ → Room) → List Node → Judgement (List (List Changed))
+update_changes u rooms roots = if has_comment u then changes_from u rooms 0 roots else refuses BadCommentText

@@ -12,7 +12,7 @@ use Rattle.yq_lines.specs.Outline.{null_node}
 use Rattle.yq_meaning.specs.declared.refusal.Refusal.TheVariants.{ThroughAlias}
 use Rattle.yq_meaning.specs.Judgement.{Judgement, and_then, gives, refuses}
 use Rattle.yq_meaning.specs.Places.{Place, traverse}
-use Rattle.yq_program.specs.Program.{Step, Operand, value_at, document_index, Condition, compares, has}
+use Rattle.yq_program.specs.Program.{PathStep, Operand, value_at, document_index, Condition, compares, has}
 
 -- whether two bools are the same (own)
 abbrev pub same_bool : Bool → Bool → Bool
@@ -42,7 +42,7 @@ is_scalar kind text (list anchor cs) = gives false
 is_scalar kind text (map anchor cs) = gives false
 
 -- the node at a place; at one that is missing it is null (own)
-abbrev pub node_there : List Step → Node → Node
+abbrev pub node_there : List PathStep → Node → Node
 node_there [] n = n
 node_there (s ∷ ss) n = null_node
 
@@ -51,13 +51,13 @@ abbrev pub value_of : Place → Node
 value_of p = node_there p.missing p.node
 
 -- whether the first place has that scalar (own)
-abbrev pub first_is : Kind → List ℕ → List Place → Judgement Bool
-first_is kind text [] = gives false
-first_is kind text (p ∷ ps) = is_scalar kind text (value_of p)
+abbrev pub first_equals : Kind → List ℕ → List Place → Judgement Bool
+first_equals kind text [] = gives false
+first_equals kind text (p ∷ ps) = is_scalar kind text (value_of p)
 
 -- whether what is compared is that scalar, at a place in the document of that number (own)
 abbrev pub operand_is : ℕ → Operand → Kind → List ℕ → Place → Judgement Bool
-operand_is doc (value_at steps) kind text p = and_then (first_is kind text) (traverse steps (p ∷ []))
+operand_is doc (value_at steps) kind text p = and_then (first_equals kind text) (traverse steps (p ∷ []))
 operand_is doc document_index kind text p = gives (same_scalar kinds.Int (decimal doc) kind text)
 
 -- whether a node is a mapping with that key (own)
@@ -68,6 +68,6 @@ has_key k (list anchor cs) = gives false
 has_key k (map anchor cs) = gives (is_some (child_at (To k) cs))
 
 -- whether a condition holds at a place in the document of that number (own)
-abbrev pub holds : ℕ → Condition → Place → Judgement Bool
-holds doc (compares operand equal kind text) p = and_then (λ b. gives (same_bool equal b)) (operand_is doc operand kind text p)
-holds doc (has k) p = has_key k (value_of p)
+abbrev pub condition_holds : ℕ → Condition → Place → Judgement Bool
+condition_holds doc (compares operand equal kind text) p = and_then (λ b. gives (same_bool equal b)) (operand_is doc operand kind text p)
+condition_holds doc (has k) p = has_key k (value_of p)

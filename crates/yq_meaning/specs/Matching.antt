@@ -15,8 +15,8 @@ abbrev pub ChildFound : Type 0
 ChildFound = Option (paths.Step × Node)
 
 -- what a step of the tree leads to (own)
-abbrev pub find : paths.Step → Children → ChildFound
-find s cs = option_map (λ n. (s, n)) (child_at s cs)
+abbrev pub step_child : paths.Step → Children → ChildFound
+step_child s cs = option_map (λ n. (s, n)) (child_at s cs)
 
 -- where a step leads from a scalar: to none in a null; any other scalar refuses (own)
 abbrev pub in_scalar : Refusal → Kind → Judgement ChildFound
@@ -31,7 +31,7 @@ abbrev pub key_step : List ℕ → Node → Judgement ChildFound
 key_step k (alias name) = refuses ThroughAlias
 key_step k (scalar anchor kind text) = in_scalar NotAMap kind
 key_step k (list anchor cs) = refuses NotAMap
-key_step k (map anchor cs) = gives (find (To k) cs)
+key_step k (map anchor cs) = gives (step_child (To k) cs)
 
 -- the number from 0 of the item that is so many before the last one, of so many items; before the first one there is none (own)
 abbrev pub before_last : ℕ → ℕ → Judgement ℕ
@@ -43,12 +43,12 @@ item_number (pos n) cs = gives n
 item_number (negsuc n) cs = before_last n (count cs)
 
 -- the item of an index, if there is one (own)
-abbrev pub item : ℤ → Children → Judgement ChildFound
-item i cs = and_then (λ n. gives (find (Nth n) cs)) (item_number i cs)
+abbrev pub item_at_index : ℤ → Children → Judgement ChildFound
+item_at_index i cs = and_then (λ n. gives (step_child (Nth n) cs)) (item_number i cs)
 
 -- where an index step leads from a node: in a sequence to the item of that index (own)
 abbrev pub index_step : ℤ → Node → Judgement ChildFound
 index_step i (alias name) = refuses ThroughAlias
 index_step i (scalar anchor kind text) = in_scalar NotASequence kind
-index_step i (list anchor cs) = item i cs
+index_step i (list anchor cs) = item_at_index i cs
 index_step i (map anchor cs) = refuses NotASequence

@@ -5,11 +5,11 @@ use Rattle.yq_flow_scalars.specs.Paths.{To, change_child, append_child, within}
 use Rattle.yq_flow_scalars.specs.Shapes.{IsTree}
 use Rattle.yq_flow_scalars.specs.Tree.{Node, Children, children_of}
 use Rattle.yq_documents.specs.Documents.{Document}
-use Rattle.yq_documents.specs.TreeEdits.{replaced, new_label, led, lead_by, with_tree}
+use Rattle.yq_documents.specs.TreeEdits.{replaced_node, new_label, led, lead_by, with_tree}
 use Rattle.yq_program.specs.declared.program.CommentPlace.{CommentPlace}
 use Rattle.yq_program.specs.declared.program.CommentPlace.TheVariants as comments
 use Rattle.yq_meaning.specs.Changes as changes
-use Rattle.yq_meaning.specs.Changes.{Addition, appends, overwrites, replaces, adds, sets_comment, Changed, Room, changes_of}
+use Rattle.yq_meaning.specs.Changes.{Addition, appends, overwrites, replaces, adds, sets_comment, Changed, Room, update_changes}
 use Rattle.yq_meaning.specs.NodeEdits as node_edits
 use Rattle.yq_meaning.specs.NodeEdits.{NodeEdit, becomes, done_by, at_once}
 use Rattle.yq_meaning.specs.Judgement.{Judgement, and_then, gives}
@@ -18,7 +18,7 @@ use Rattle.yq_program.specs.Program.{Update}
 -- items or entries with an addition (own)
 abbrev pub add_to : Addition → Children → Children
 add_to (appends k v) cs = append_child (new_label k) v cs
-add_to (overwrites k v) cs = change_child (To k) (replaced v) cs
+add_to (overwrites k v) cs = change_child (To k) (replaced_node v) cs
 
 -- a collection with additions, one after the other (own)
 abbrev pub add_all : List Addition → Node → Node
@@ -31,28 +31,28 @@ onto_first c [] = (c ∷ []) ∷ []
 onto_first c (t ∷ ts) = (c ∷ t) ∷ ts
 
 -- the lines of a text that isn't empty, parted by LF (own)
-abbrev pub parted : List ℕ → List (List ℕ)
-parted [] = [] ∷ []
-parted (c ∷ cs) = if c == 10 then [] ∷ parted cs else onto_first c (parted cs)
+abbrev pub lines_parted : List ℕ → List (List ℕ)
+lines_parted [] = [] ∷ []
+lines_parted (c ∷ cs) = if c == 10 then [] ∷ lines_parted cs else onto_first c (lines_parted cs)
 
 -- the lines of a head comment with that text: none of the empty one (own)
-abbrev pub head_of : List ℕ → List (List ℕ)
-head_of [] = []
-head_of (c ∷ cs) = parted (c ∷ cs)
+abbrev pub head_comment_lines : List ℕ → List (List ℕ)
+head_comment_lines [] = []
+head_comment_lines (c ∷ cs) = lines_parted (c ∷ cs)
 
 -- the line comment with that text: none of the empty one (own)
-abbrev pub line_of : List ℕ → Option (List ℕ)
-line_of [] = None
-line_of (c ∷ cs) = Some (c ∷ cs)
+abbrev pub line_comment_text : List ℕ → Option (List ℕ)
+line_comment_text [] = None
+line_comment_text (c ∷ cs) = Some (c ∷ cs)
 
 -- a comment that is set (own)
 abbrev pub comment_edit : CommentPlace → List ℕ → NodeEdit
-comment_edit comments.Line text = node_edits.line (line_of text)
-comment_edit comments.Head text = node_edits.head (head_of text)
+comment_edit comments.Line text = node_edits.line (line_comment_text text)
+comment_edit comments.Head text = node_edits.head (head_comment_lines text)
 
 -- what a change does at its place, where a document has such a lead (own)
 abbrev pub node_edit_of : Bool → List (List ℕ) → Changed → NodeEdit
-node_edit_of block lead (path, replaces v) = becomes (replaced (led block lead path v))
+node_edit_of block lead (path, replaces v) = becomes (replaced_node (led block lead path v))
 node_edit_of block lead (path, adds xs) = becomes (add_all xs)
 node_edit_of block lead (path, changes.removes) = node_edits.goes
 node_edit_of block lead (path, sets_comment place text) = comment_edit place text
@@ -77,7 +77,7 @@ roots_of docs = map (λ (d : Document). d.root) docs
 
 -- what an update makes of documents, whose texts have such room; or the first refusal (own)
 abbrev pub meaning : Update → (ℕ → Room) → List Document → Judgement (List Document)
-meaning u rooms docs = and_then (λ css. gives (all_changed rooms 0 css docs)) (changes_of u rooms (roots_of docs))
+meaning u rooms docs = and_then (λ css. gives (all_changed rooms 0 css docs)) (update_changes u rooms (roots_of docs))
 
 -- a document's lead is the head comment of its first item or entry, where the root is block and has one (own)
 abbrev pub IsLed : Bool → Document → Type 0

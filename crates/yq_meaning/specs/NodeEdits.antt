@@ -27,11 +27,11 @@ under s f path = f (s ∷ path)
 
 -- a node by what is done at it; where nothing is, what is in it may be another (own)
 abbrev pub done_at : Option NodeEdit → Node → Node → Node
-done_at None n inside = inside
-done_at (Some (becomes g)) n inside = g n
-done_at (Some (line text)) n inside = n
-done_at (Some (head texts)) n inside = n
-done_at (Some goes) n inside = n
+done_at None n node_edit_inside = node_edit_inside
+done_at (Some (becomes g)) n node_edit_inside = g n
+done_at (Some (line text)) n node_edit_inside = n
+done_at (Some (head texts)) n node_edit_inside = n
+done_at (Some goes) n node_edit_inside = n
 
 -- a child by what is done at it, its node by the same being known, before others (own)
 abbrev pub child_by : Option NodeEdit → Label → Node → Children → Children
@@ -43,21 +43,21 @@ child_by (Some goes) label n cs = cs
 
 abbrev mutual
   -- a node with all that is done at the places in it (own)
-  pub inside : NodeEdits → Node → Node
-  inside f (alias name) = alias name
-  inside f (scalar anchor kind text) = scalar anchor kind text
-  inside f (list anchor cs) = list anchor (each_at_once f 0 cs)
-  inside f (map anchor cs) = map anchor (each_at_once f 0 cs)
+  pub node_edit_inside : NodeEdits → Node → Node
+  node_edit_inside f (alias name) = alias name
+  node_edit_inside f (scalar anchor kind text) = scalar anchor kind text
+  node_edit_inside f (list anchor cs) = list anchor (each_at_once f 0 cs)
+  node_edit_inside f (map anchor cs) = map anchor (each_at_once f 0 cs)
 
   -- the same of items or entries, so many of which stand before these (own)
   pub each_at_once : NodeEdits → ℕ → Children → Children
   each_at_once f i none = none
   each_at_once f i (child label n cs) =
-      child_by (f (step_to i label ∷ [])) label (done_at (f (step_to i label ∷ [])) n (inside (under (step_to i label) f) n)) (each_at_once f (suc i) cs)
+      child_by (f (step_to i label ∷ [])) label (done_at (f (step_to i label ∷ [])) n (node_edit_inside (under (step_to i label) f) n)) (each_at_once f (suc i) cs)
 
 -- a node with all that is done at it and at the places in it (own)
 abbrev pub at_once : NodeEdits → Node → Node
-at_once f n = done_at (f []) n (inside f n)
+at_once f n = done_at (f []) n (node_edit_inside f n)
 
 -- whether two steps are the same (own)
 abbrev pub same_step : Step → Step → Bool

@@ -3,7 +3,7 @@ use Rattle.std.specs.Prelude.{ℕ, List, map, Option, option_map, string_bytes}
 use Rattle.yq_flow_scalars.specs.Tree.{Node}
 use Rattle.yq_flow_scalars.specs.Paths.{Step}
 use Rattle.yq_documents.specs.Located.{steps_of}
-use Rattle.yq_nodes.specs.Values.{node_of}
+use Rattle.yq_nodes.specs.Values.{value_node}
 use Rattle.yq_meaning.specs.declared.op.Op as declared
 
 -- An operation, at the steps of a path in the document of a number: a node is exchanged, appended as an item or as the entry of a key, or removed; or the text
@@ -17,8 +17,8 @@ pub data Operation : Type 0 where
 
 -- the operation that one of the code stands for (own)
 abbrev pub operation_of : declared.Op → Operation
-operation_of (declared.TheVariants.Replace p v) = replace p.doc (steps_of p) (node_of v)
-operation_of (declared.TheVariants.Append p k v) = append p.doc (steps_of p) (option_map string_bytes k) (node_of v)
+operation_of (declared.TheVariants.Replace p v) = replace p.doc (steps_of p) (value_node v)
+operation_of (declared.TheVariants.Append p k v) = append p.doc (steps_of p) (option_map string_bytes k) (value_node v)
 operation_of (declared.TheVariants.Remove p) = remove p.doc (steps_of p)
 operation_of (declared.TheVariants.LineComment p text) = line_comment p.doc (steps_of p) (string_bytes text)
 operation_of (declared.TheVariants.HeadComment p text) = head_comment p.doc (steps_of p) (string_bytes text)

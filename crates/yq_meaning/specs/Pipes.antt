@@ -1,19 +1,19 @@
 -- Where a pipe leads in a document (yq manual; own).
 use Rattle.std.specs.Prelude.{ℕ, Bool, true, false, List, [], ◌∷◌}
 use Rattle.yq_flow_scalars.specs.Tree.{Node}
-use Rattle.yq_meaning.specs.Conditions.{holds}
+use Rattle.yq_meaning.specs.Conditions.{condition_holds}
 use Rattle.yq_meaning.specs.Judgement.{Judgement, and_then, gives}
 use Rattle.yq_meaning.specs.Places.{Place, root_place, for_each, chained, traverse}
 use Rattle.yq_program.specs.Program.{Condition, Stage, path, select}
 
 -- a place, if it is kept (own)
-abbrev pub kept : Place → Bool → List Place
-kept p true = p ∷ []
-kept p false = []
+abbrev pub kept_place : Place → Bool → List Place
+kept_place p true = p ∷ []
+kept_place p false = []
 
 -- a place in the document of that number, if the condition holds there (own)
 abbrev pub select_on : ℕ → Condition → Place → Judgement (List Place)
-select_on doc c p = and_then (λ b. gives (kept p b)) (holds doc c p)
+select_on doc c p = and_then (λ b. gives (kept_place p b)) (condition_holds doc c p)
 
 -- where a stage leads from places (own)
 abbrev pub stage_on : ℕ → Stage → List Place → Judgement (List Place)

@@ -6,7 +6,7 @@ use Rattle.yq_documents.specs.Documents.{Document}
 use Rattle.yq_program.specs.declared.program.CommentPlace.{CommentPlace}
 use Rattle.yq_program.specs.declared.program.CommentPlace.TheVariants as comments
 use Rattle.yq_meaning.specs.Changes as changes
-use Rattle.yq_meaning.specs.Changes.{Addition, appends, overwrites, replaces, adds, sets_comment, Changed, Room, changes_of}
+use Rattle.yq_meaning.specs.Changes.{Addition, appends, overwrites, replaces, adds, sets_comment, Changed, Room, update_changes}
 use Rattle.yq_meaning.specs.Judgement.{Judgement, and_then, gives}
 use Rattle.yq_meaning.specs.Meaning.{roots_of}
 use Rattle.yq_meaning.specs.Operations.{Operation, replace, append, remove, line_comment, head_comment}
@@ -52,4 +52,4 @@ all_ops removal n (cs ∷ css) = ops_of n (ordered removal cs) ++ all_ops remova
 
 -- the operations that carry out an update, or the first refusal (own)
 abbrev pub plan : Update → (ℕ → Room) → List Document → Judgement (List Operation)
-plan u rooms docs = and_then (λ css. gives (all_ops (is_removal u) 0 css)) (changes_of u rooms (roots_of docs))
+plan u rooms docs = and_then (λ css. gives (all_ops (is_removal u) 0 css)) (update_changes u rooms (roots_of docs))

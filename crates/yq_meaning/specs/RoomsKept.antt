@@ -4,7 +4,7 @@ use Rattle.yq_flow_scalars.specs.Paths.{Step}
 use Rattle.yq_flow_scalars.specs.Tree.{Node, Children, none, child, children_of}
 use Rattle.yq_documents.specs.Documents.{Document}
 use Rattle.yq_program.specs.declared.program.CommentPlace.{CommentPlace}
-use Rattle.yq_meaning.specs.After.{document_of, after_op}
+use Rattle.yq_meaning.specs.After.{op_document, after_op}
 use Rattle.yq_meaning.specs.Changes.{Room}
 use Rattle.yq_meaning.specs.Fits.{IsBelow, AllFit}
 use Rattle.yq_meaning.specs.Operations.{Operation, replace, append, remove, line_comment, head_comment}
@@ -25,7 +25,7 @@ KeepsBlock (head_comment doc path text) root = ⊤
 
 -- the same, where these are the documents after it (own)
 abbrev pub KeepsBlockIn : Operation → List Document → Type 0
-KeepsBlockIn op docs = (d : Document) → slice_get docs (document_of op) ≡ Some d → KeepsBlock op d.root
+KeepsBlockIn op docs = (d : Document) → slice_get docs (op_document op) ≡ Some d → KeepsBlock op d.root
 
 -- an operation sets a comment (own)
 abbrev pub SetsComment : Operation → Type 0
@@ -40,12 +40,12 @@ SetsComment (head_comment doc path text) = ⊤
 -- none of these operations is of the document of that number (own)
 abbrev pub NoneOn : ℕ → List Operation → Type 0
 NoneOn n [] = ⊤
-NoneOn n (op ∷ ops) = (document_of op ≢ n) × NoneOn n ops
+NoneOn n (op ∷ ops) = (op_document op ≢ n) × NoneOn n ops
 
 -- each operation leaves it as it was whether its document's root is block, or is the last one of its document (own)
 abbrev pub BlockLasts : (ℕ → Room) → List Operation → List Document → Type 0
 BlockLasts rooms [] docs = ⊤
-BlockLasts rooms (op ∷ ops) docs = (KeepsBlockIn op (after_op rooms op docs) ⊎ NoneOn (document_of op) ops) × BlockLasts rooms ops (after_op rooms op docs)
+BlockLasts rooms (op ∷ ops) docs = (KeepsBlockIn op (after_op rooms op docs) ⊎ NoneOn (op_document op) ops) × BlockLasts rooms ops (after_op rooms op docs)
 
 -- each operation sets a comment (own)
 abbrev pub SetComments : List Operation → Type 0
@@ -78,9 +78,9 @@ pub record SameRoom (old new : Room) : Type 0 where
 -- What an operation leaves of rooms, where these are the documents after it: the room of the other documents is as it was, and a comment leaves that of its
 -- own one too. The root of that one after it tells whether it is still block (own).
 pub record LeavesRooms (op : Operation) (old new : ℕ → Room) (docs : List Document) : Type 0 where
-  pub others : (i : ℕ) → (i ≡ document_of op → ⊥) → SameRoom (old i) (new i)
-  pub comments : SetsComment op → SameRoom (old (document_of op)) (new (document_of op))
-  pub block : (d : Document) → slice_get docs (document_of op) ≡ Some d → KeepsBlock op d.root → (new (document_of op)).block ≡ (old (document_of op)).block
+  pub others : (i : ℕ) → (i ≡ op_document op → ⊥) → SameRoom (old i) (new i)
+  pub comments : SetsComment op → SameRoom (old (op_document op)) (new (op_document op))
+  pub block : (d : Document) → slice_get docs (op_document op) ≡ Some d → KeepsBlock op d.root → (new (op_document op)).block ≡ (old (op_document op)).block
 
 -- ---- rooms that say the same
 
@@ -92,4 +92,4 @@ pub record AlikeFor (op : Operation) (old new : Room) : Type 0 where
 -- rooms are alike for each of these operations, in its document (own)
 abbrev pub AreAlike : (ℕ → Room) → (ℕ → Room) → List Operation → Type 0
 AreAlike old new [] = ⊤
-AreAlike old new (op ∷ ops) = AlikeFor op (old (document_of op)) (new (document_of op)) × AreAlike old new ops
+AreAlike old new (op ∷ ops) = AlikeFor op (old (op_document op)) (new (op_document op)) × AreAlike old new ops

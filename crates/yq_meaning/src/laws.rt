@@ -1,11 +1,11 @@
 //! Laws of expressions.
 ghost use Rattle.std.specs.Prelude.{◌≡◌, ℕ, List, [], ◌∷◌};
 ghost use Rattle.yq_flow_scalars.specs.PathOrder.{Apart};
-ghost use Rattle.yq_flow_scalars.specs.Paths.{Step as TreeStep, change, node_at};
+ghost use Rattle.yq_flow_scalars.specs.Paths.{Step as TreeStep, changed_at, node_at};
 ghost use Rattle.yq_flow_scalars.specs.Shapes.{IsTree};
 ghost use Rattle.yq_flow_scalars.specs.Tree.{Node};
 ghost use Rattle.yq_documents.specs.Documents.{Document};
-ghost use Rattle.yq_meaning.specs.After.{document_of, after_op, all_after};
+ghost use Rattle.yq_meaning.specs.After.{op_document, after_op, all_after};
 ghost use Rattle.yq_meaning.specs.Changes.{Room};
 ghost use Rattle.yq_meaning.specs.Fits.{Fits, AllFit};
 ghost use Rattle.yq_meaning.specs.Judgement.{gives, refuses};
@@ -38,9 +38,9 @@ pub fn places_apart()
 #[tactic(auto, using(crate::proofs::updates::Apart::node_apart, crate::proofs::updates::Apart::changes_commute))]
 pub fn changes_apart()
     ensures kept { (p q : List TreeStep) (g : Node → Node) (n : Node) → IsTree n → Apart p q →
-        node_at p (change q g n) ≡ node_at p n }
+        node_at p (changed_at q g n) ≡ node_at p n }
     ensures commute { (p q : List TreeStep) (f g : Node → Node) (n : Node) → IsTree n → Apart p q →
-        change p f (change q g n) ≡ change q g (change p f n) }
+        changed_at p f (changed_at q g n) ≡ changed_at q g (changed_at p f n) }
 {}
 
 /// The operations of a plan, one after the other, make of documents what the
@@ -83,10 +83,10 @@ pub fn plan_rooms()
 #[tactic(auto, using(crate::proofs::updates::AlikeRooms::fits_alike, crate::proofs::updates::AlikeRooms::after_alike))]
 pub fn rooms_alike()
     ensures fits { (old new : ℕ → Room) (op : Operation) (docs : List Document) →
-        AlikeFor op (old (document_of op)) (new (document_of op)) → Fits old op docs →
+        AlikeFor op (old (op_document op)) (new (op_document op)) → Fits old op docs →
         Fits new op docs }
     ensures after { (old new : ℕ → Room) (op : Operation) (docs : List Document) →
-        AlikeFor op (old (document_of op)) (new (document_of op)) → after_op new op docs ≡
+        AlikeFor op (old (op_document op)) (new (op_document op)) → after_op new op docs ≡
         after_op old op docs }
 {}
 

@@ -1,6 +1,6 @@
 //! Operations: what a program does to documents, one node at a time.
 ghost use Rattle.std.specs.Prelude.{◌≡◌, IfOk, map};
-ghost use Rattle.yq_nodes.specs.Entries.{step_of};
+ghost use Rattle.yq_nodes.specs.Entries.{tree_step};
 
 use std::alloc::{AllocError, Global};
 use yq_documents::Path;
@@ -26,7 +26,7 @@ pub enum Op {
 
 /// The same step again.
 fn copied_step(alloc: Global, step: &Step) -> Result<Step, AllocError>
-    ensures { IfOk result (λ s. step_of s ≡ step_of step.now) }
+    ensures { IfOk result (λ s. tree_step s ≡ tree_step step.now) }
 {
     match step {
         Step::Key(key) => Ok(Step::Key(String::from_str(alloc, key.as_str())?)),
@@ -36,7 +36,7 @@ fn copied_step(alloc: Global, step: &Step) -> Result<Step, AllocError>
 
 /// The same steps again.
 pub fn copied_steps(alloc: Global, steps: &[Step]) -> Result<Vec<Step>, AllocError>
-    ensures { IfOk result (λ v. map step_of v.items ≡ map step_of steps.now) }
+    ensures { IfOk result (λ v. map tree_step v.items ≡ map tree_step steps.now) }
 {
     let mut copies = Vec::with_capacity(alloc, steps.len())?;
     'each: for step in steps {

@@ -4,10 +4,10 @@ ghost use Rattle.std.specs.FinMap as map;
 ghost use Rattle.yq_journal.specs.Good.{after_move};
 ghost use Rattle.yq_journal.specs.History.{History};
 ghost use Rattle.yq_records.specs.Refusals.{no_way};
-ghost use Rattle.yq_records.specs.State.{moved, moved_text};
+ghost use Rattle.yq_records.specs.State.{journal_after, moved_text};
 ghost use Rattle.yq_records.specs.declared.fault.JournalFault.{JournalFault};
 ghost use Rattle.yq_history.specs.Effects.{IsMoveCutShort};
-ghost use Rattle.yq_history.specs.Faults.{is_outside, is_output, counted, of_fault};
+ghost use Rattle.yq_history.specs.Faults.{is_outer_fault, is_output, failures_after, of_fault};
 ghost use Rattle.yq_history.specs.Pair.{IsJournal, OthersStay, PairAtRest, PairStands};
 
 use std::alloc::Global;
@@ -41,22 +41,22 @@ pub fn carry_out<D: Store>(
     ensures text { IsTrue D.keeps → file.now ≢ journal.now →
         OnOk result (map.get (D.content store.new) file.now ≡ Some new.now) }
     ensures moved { IsTrue D.keeps → OnOk result (IsJournal (map.get (D.content store.new) journal.now)
-        (moved state.old step)) }
+        (journal_after state.old step)) }
     ensures cut { IsTrue D.keeps → file.now ≢ journal.now →
         OnErr result (IsMoveCutShort state.old step old.items new.now file.now journal.now
         (D.content store.old) (D.content store.new)) }
-    ensures fault { IfErr result (λ e. is_outside e ≡ false →
+    ensures fault { IfErr result (λ e. is_outer_fault e ≡ false →
         option_map of_fault (no_way state.old.records state.old.at step) ≡ Some e) }
     ensures refused { (f : JournalFault) → no_way state.old.records state.old.at step ≡ Some f →
         result ≡ Err (of_fault f) }
-    ensures kept { IsTrue D.keeps → IfErr result (λ e. is_outside e ≡ false →
+    ensures kept { IsTrue D.keeps → IfErr result (λ e. is_outer_fault e ≡ false →
         D.content store.new ≡ D.content store.old) }
     ensures barred { IsTrue D.keeps → no_way state.old.records state.old.at step ≢ None →
         D.content store.new ≡ D.content store.old }
     ensures others { IsTrue D.keeps → OthersStay (D.content store.old)
         (D.content store.new) file.now journal.now }
     ensures no_output { IfErr result (λ e. is_output e ≡ false) }
-    ensures count { D.failures store.new ≡ counted result (D.failures store.old) }
+    ensures count { D.failures store.new ≡ failures_after result (D.failures store.old) }
 {
     state.start_with(step, old)?;
     write_journal(alloc, store, journal, state)?;

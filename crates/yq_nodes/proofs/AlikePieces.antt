@@ -1,13 +1,13 @@
 -- A piece of a node before one text is one before a text that is alike.
 use Rattle.std.proofs.Common.{◌≡◌, ◌⊎◌, inl, inr, ℕ, Bool, true, false, eqb, List, [], ◌∷◌, ◌++◌, Option, Some, None, refl, sym, ap, ◌∙◌, not, ◌&&◌, ◌||◌, rules}
 use Rattle.std.proofs.Math.Bool.{and-false}
-use Rattle.yq_flow_scalars.specs.Quoted.{Char, spell_chars, IsChar, AreChars, Lines, last, line, spell_end, spell_lines, AreLines, IsQuoted}
+use Rattle.yq_flow_scalars.specs.Quoted.{Char, spell_chars, IsChar, AreChars, QuotedLines, last, line, spell_end, spell_lines, AreLines, IsQuoted}
 use Rattle.yq_flow_scalars.specs.Text.{NoneIn, front, unless, is_break}
 use Rattle.yq_nodes.specs.declared.gap.Before.{Before}
 use Rattle.yq_nodes.specs.declared.gap.Before.TheVariants.{Token, White, Break, Comment}
-use Rattle.yq_nodes.specs.Gaps.{goes, next, AllGo, stops, IsInlineGap}
+use Rattle.yq_nodes.specs.Gaps.{goes, next_gap_place, AllGo, stops, IsInlineGap}
 use Rattle.yq_nodes.specs.Nodes.{in_name, IsName}
-use Rattle.yq_nodes.specs.Alike.{is_stop, Alike, stop, colon, any_colon, byte, after}
+use Rattle.yq_nodes.specs.Alike.{ends_lookahead, Alike, stop, colon, any_colon, byte, after}
 use Rattle.yq_nodes.specs.Scalars.{IsScalarAt}
 use Rattle.yq_nodes.proofs.Alikes.{alike_append, alike_front, alike_unless, stop_break, alike_break, alike_space, alike_marker, plain_alike}
 
@@ -19,7 +19,7 @@ chars_alike : (f : Option Bool) (q : ℕ) (cs : List Char) (t u : List ℕ) → 
 chars_alike f q [] t u h g = tt
 chars_alike f q (c ∷ cs) t u h g = (char_alike f q c (spell_chars cs ++ t) (spell_chars cs ++ u) (alike_append f (spell_chars cs) t u h) g.0, chars_alike f q cs t u h g.1)
 
-pub lines_alike : (f : Option Bool) (q : ℕ) (ls : Lines) (t u : List ℕ) → Alike f t u → AreLines q ls t → AreLines q ls u
+pub lines_alike : (f : Option Bool) (q : ℕ) (ls : QuotedLines) (t u : List ℕ) → Alike f t u → AreLines q ls t → AreLines q ls u
 lines_alike f q (last cs) t u h g = chars_alike f q cs t u h g
 lines_alike f q (line cs escaped b ls) t u h g =
     let more = alike_append f (spell_lines ls) t u h in
@@ -30,12 +30,12 @@ lines_alike f q (line cs escaped b ls) t u h g =
       lines_alike f q ls t u h g.3,
     )
 
-quote_stop : (q : ℕ) → (q ≡ 34) ⊎ (q ≡ 39) → is_stop q ≡ true
+quote_stop : (q : ℕ) → (q ≡ 34) ⊎ (q ≡ 39) → ends_lookahead q ≡ true
 quote_stop q (inl e) = rw e refl
 quote_stop q (inr e) = rw e refl
 
 -- of what stands behind a quoted scalar only its first byte is asked
-pub quoted_any : (q : ℕ) (ls : Lines) (p t u : List ℕ) → front (λ b. eqb b 39) u ≡ false → IsQuoted q ls p t → IsQuoted q ls p u
+pub quoted_any : (q : ℕ) (ls : QuotedLines) (p t u : List ℕ) → front (λ b. eqb b 39) u ≡ false → IsQuoted q ls p t → IsQuoted q ls p u
 quoted_any q ls p t u h g = record {
   quotes = g.quotes;
   spelled = g.spelled;
@@ -43,7 +43,7 @@ quoted_any q ls p t u h g = record {
   closed = rw h (and-false (eqb q 39));
 }
 
-quoted_alike : (f : Option Bool) (q : ℕ) (ls : Lines) (p t u : List ℕ) → Alike f t u → IsQuoted q ls p t → IsQuoted q ls p u
+quoted_alike : (f : Option Bool) (q : ℕ) (ls : QuotedLines) (p t u : List ℕ) → Alike f t u → IsQuoted q ls p t → IsQuoted q ls p u
 quoted_alike f q ls p t u h g = record {
   quotes = g.quotes;
   spelled = g.spelled;
@@ -74,7 +74,7 @@ goes_alike f Comment b t u h = refl
 
 all_go_alike : (f : Option Bool) (before : Before) (p t u : List ℕ) → Alike f t u → AllGo before p t → AllGo before p u
 all_go_alike f before [] t u h g = tt
-all_go_alike f before (b ∷ p) t u h g = (sym (goes_alike f before b (p ++ t) (p ++ u) (alike_append f p t u h)) ∙ g.0, all_go_alike f (next before b) p t u h g.1)
+all_go_alike f before (b ∷ p) t u h g = (sym (goes_alike f before b (p ++ t) (p ++ u) (alike_append f p t u h)) ∙ g.0, all_go_alike f (next_gap_place before b) p t u h g.1)
 
 byte_stops : (before : Before) (b : ℕ) (t u : List ℕ) → is_break (b ∷ t) ≡ is_break (b ∷ u) → stops before (b ∷ t) ≡ stops before (b ∷ u)
 byte_stops before b t u h1 = search rules

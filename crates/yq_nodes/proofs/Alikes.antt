@@ -3,12 +3,12 @@ use Rattle.std.proofs.Common.{◌≡◌, inl, inr, ℕ, Bool, true, false, eqb, 
 use Rattle.std.proofs.Math.Bool.{and-false}
 use Rattle.std.proofs.lemmas.Bool.{cases_Bool, or_parts}
 use Rattle.std.specs.List.{prefix_len}
-use Rattle.yq_flow_scalars.specs.Plain.{begins_plain, ends_plain, ends_text, is_flow_indicator, is_safe, no_gap, last_line, begins_deep, may_follow, follows, IsPlain}
+use Rattle.yq_flow_scalars.specs.Plain.{begins_plain, ends_plain, ends_text, is_flow_indicator, is_safe, no_gap, last_line, begins_deep, plain_may_follow, follows, IsPlain}
 use Rattle.yq_flow_scalars.specs.QuotedReading.{is_quote}
 use Rattle.yq_flow_scalars.specs.Text.{upto, cut, NoneIn, front, unless, is_empty, is_white, is_feed, is_break, is_space, separates, is_marker}
 use Rattle.yq_flow_scalars.proofs.Bools.{at_byte}
-use Rattle.yq_nodes.specs.Alike.{is_stop, Alike, stop, colon, any_colon, byte, after}
-use Rattle.yq_nodes.specs.Nodes.{first_is, begins_content}
+use Rattle.yq_nodes.specs.Alike.{ends_lookahead, Alike, stop, colon, any_colon, byte, after}
+use Rattle.yq_nodes.specs.Nodes.{begins_with, begins_content}
 
 pub alike_append : (f : Option Bool) (p t u : List ℕ) → Alike f t u → Alike f (p ++ t) (p ++ u)
 alike_append f [] t u h = h
@@ -21,14 +21,14 @@ alike_front p f t u h1 = search rules
 pub alike_unless : (p : ℕ → Bool) (f : Option Bool) (t u : List ℕ) → Alike f t u → unless p t ≡ unless p u
 alike_unless p f t u h1 = search rules
 
-pub alike_first : (k : ℕ) (f : Option Bool) (t u : List ℕ) → Alike f t u → first_is k t ≡ first_is k u
+pub alike_first : (k : ℕ) (f : Option Bool) (t u : List ℕ) → Alike f t u → begins_with k t ≡ begins_with k u
 alike_first k f t u h1 = search rules
 
 pub alike_empty : (f : Option Bool) (t u : List ℕ) → Alike f t u → is_empty t ≡ is_empty u
 alike_empty f t u h1 = search rules
 
-pub stop_break : (b : ℕ) (t : List ℕ) → is_stop b ≡ true → is_break (b ∷ t) ≡ false
-stop_break b t h = rw (at_byte is_stop b 10 h refl, at_byte is_stop b 13 h refl) refl
+pub stop_break : (b : ℕ) (t : List ℕ) → ends_lookahead b ≡ true → is_break (b ∷ t) ≡ false
+stop_break b t h = rw (at_byte ends_lookahead b 10 h refl, at_byte ends_lookahead b 13 h refl) refl
 
 pub alike_break : (f : Option Bool) (t u : List ℕ) → Alike f t u → is_break t ≡ is_break u
 alike_break _ _ _ (stop {f} {b} {t} {u} x) = stop_break b t x ∙ sym (stop_break b u x)
@@ -71,19 +71,19 @@ alike_marker _ _ _ (colon {flow} {t} {u} x y) = no_first 58 t refl refl ∙ sym 
 alike_marker _ _ _ (any_colon {t} {u}) = no_first 58 t refl refl ∙ sym (no_first 58 u refl refl)
 alike_marker _ _ _ (byte {f} {b} {t} {u} v w x y) = sep_first b t x ∙ sym (sep_first b u y)
 alike_marker _ _ _ (after {b = a} (stop {f} {b} {t} {u} x)) =
-    let p = at_byte is_stop b 45 x refl in let q = at_byte is_stop b 46 x refl in no_second a b t p q ∙ sym (no_second a b u p q)
+    let p = at_byte ends_lookahead b 45 x refl in let q = at_byte ends_lookahead b 46 x refl in no_second a b t p q ∙ sym (no_second a b u p q)
 alike_marker _ _ _ (after {b = a} (colon {flow} {t} {u} x y)) = no_second a 58 t refl refl ∙ sym (no_second a 58 u refl refl)
 alike_marker _ _ _ (after {b = a} (any_colon {t} {u})) = no_second a 58 t refl refl ∙ sym (no_second a 58 u refl refl)
 alike_marker _ _ _ (after {b = a} (byte {f} {b} {t} {u} v w x y)) = sep_second a b t x ∙ sym (sep_second a b u y)
 alike_marker _ _ _ (after {b = a} (after {b = b} (stop {f} {b = c} {t} {u} x))) =
-    let p = at_byte is_stop c 45 x refl in let q = at_byte is_stop c 46 x refl in no_third a b c t p q ∙ sym (no_third a b c u p q)
+    let p = at_byte ends_lookahead c 45 x refl in let q = at_byte ends_lookahead c 46 x refl in no_third a b c t p q ∙ sym (no_third a b c u p q)
 alike_marker _ _ _ (after {b = a} (after {b = b} (colon {flow} {t} {u} x y))) = no_third a b 58 t refl refl ∙ sym (no_third a b 58 u refl refl)
 alike_marker _ _ _ (after {b = a} (after {b = b} (any_colon {t} {u}))) = no_third a b 58 t refl refl ∙ sym (no_third a b 58 u refl refl)
 alike_marker _ _ _ (after {b = a} (after {b = b} (byte {f} {b = c} {t} {u} v w x y))) = rw (x, y) refl
 alike_marker _ _ _ (after {b = a} (after {b = b} (after {f = f} {b = c} {t = t} {u = u} h))) = rw (alike_separates f t u h) refl
 
 pub alike_spaces : (f : Option Bool) (t u : List ℕ) → Alike f t u → prefix_len (λ b. eqb b 32) t ≡ prefix_len (λ b. eqb b 32) u
-alike_spaces _ _ _ (stop {f} {b} {t} {u} x) = rw (at_byte is_stop b 32 x refl) refl
+alike_spaces _ _ _ (stop {f} {b} {t} {u} x) = rw (at_byte ends_lookahead b 32 x refl) refl
 alike_spaces _ _ _ (colon {flow} {t} {u} x y) = refl
 alike_spaces _ _ _ (any_colon {t} {u}) = refl
 alike_spaces _ _ _ (byte {f} {b} {t} {u} v w x y) = search (rules, at_byte, or_parts)
@@ -94,13 +94,13 @@ unsafe : (flow : Bool) (t : List ℕ) → separates t ≡ true → is_safe flow 
 unsafe flow t h = rw h refl
 
 alike_text : (flow : Bool) (t u : List ℕ) → Alike (Some flow) t u → ends_text flow t ≡ ends_text flow u
-alike_text flow _ _ (stop {b = b} x) = rw (at_byte is_stop b 58 x refl) refl
+alike_text flow _ _ (stop {b = b} x) = rw (at_byte ends_lookahead b 58 x refl) refl
 alike_text flow _ _ (colon {t = t} {u = u} x y) = rw (x, y) refl
 alike_text flow _ _ (byte {b = b} {t = t} {u = u} v w x y) = rw (unsafe flow t x, unsafe flow u y) refl
 alike_text flow _ _ (after {b = b} {t = t} {u = u} h) = rw (alike_safe flow (Some flow) t u h) refl
 
 pub alike_begins : (flow : Bool) (t u : List ℕ) → Alike (Some flow) t u → begins_plain flow t ≡ begins_plain flow u
-alike_begins flow _ _ (stop {b = b} {t = t} {u = u} x) = rw (stop_break b t x, stop_break b u x, at_byte is_stop b 45 x refl, at_byte is_stop b 63 x refl, at_byte is_stop b 58 x refl) refl
+alike_begins flow _ _ (stop {b = b} {t = t} {u = u} x) = rw (stop_break b t x, stop_break b u x, at_byte ends_lookahead b 45 x refl, at_byte ends_lookahead b 63 x refl, at_byte ends_lookahead b 58 x refl) refl
 alike_begins flow _ _ (colon {t = t} {u = u} x y) = rw (x, y) refl
 alike_begins flow _ _ (byte {b = b} {t = t} {u = u} v w x y) = rw (v, w, unsafe flow t x, unsafe flow u y) refl
 alike_begins flow _ _ (after {b = b} {t = t} {u = u} h) = rw (alike_space (Some flow) (b ∷ t) (b ∷ u) (after h), alike_safe flow (Some flow) t u h) refl
@@ -109,7 +109,7 @@ alike_deep : (spaces : Option ℕ) (f : Option Bool) (t u : List ℕ) → Alike 
 alike_deep None f t u h = refl
 alike_deep (Some n) f t u h = rw (alike_spaces f t u h, alike_marker f t u h) refl
 
-alike_may : (spaces : Option ℕ) (line : Option (List ℕ)) (f : Option Bool) (t u : List ℕ) → Alike f t u → may_follow spaces line t ≡ may_follow spaces line u
+alike_may : (spaces : Option ℕ) (line : Option (List ℕ)) (f : Option Bool) (t u : List ℕ) → Alike f t u → plain_may_follow spaces line t ≡ plain_may_follow spaces line u
 alike_may spaces None f t u h = refl
 alike_may spaces (Some p) f t u h = alike_deep spaces f (p ++ t) (p ++ u) (alike_append f p t u h)
 
@@ -122,7 +122,7 @@ SameGap f a b = (a.0 ≡ b.0) × Alike f a.1 b.1
 
 alike_cut : (flow : Bool) (t u : List ℕ) → Alike (Some flow) t u → SameGap (Some flow) (cut no_gap t) (cut no_gap u)
 unfolding upto
-alike_cut flow _ _ (stop {b = b} {t = t} {u = u} x) = rw (at_byte is_stop b 32 x refl, at_byte is_stop b 9 x refl, stop_break b t x, stop_break b u x) (refl, stop x)
+alike_cut flow _ _ (stop {b = b} {t = t} {u = u} x) = rw (at_byte ends_lookahead b 32 x refl, at_byte ends_lookahead b 9 x refl, stop_break b t x, stop_break b u x) (refl, stop x)
 alike_cut flow _ _ (colon {t = t} {u = u} x y) = (refl, colon x y)
 alike_cut flow _ _ (byte {b = b} {t = t} {u = u} v w x y) = rw (v, w) (refl, byte v w x y)
 alike_cut flow _ _ (after {b = b} {t = t} {u = u} h) =

@@ -3,13 +3,13 @@ use Rattle.std.proofs.Common.{◌≡◌, ◌⊎◌, inl, inr, ⊎_elim, ℕ, Boo
 use Rattle.std.proofs.lemmas.Bool.{false≢true, or_cases, or_right, not-false, not-true, false_from_ne_true, and_from, le-leb, and_parts, cases_Bool}
 use Rattle.std.proofs.lemmas.Option.{cond_some}
 use Rattle.std.specs.Option.{option_or}
-use Rattle.yq_flow_scalars.specs.Plain.{begins_plain, ends_plain, ends_text, is_safe, no_gap, last_line, may_follow, follows, IsPlain}
+use Rattle.yq_flow_scalars.specs.Plain.{begins_plain, ends_plain, ends_text, is_safe, no_gap, last_line, plain_may_follow, follows, IsPlain}
 use Rattle.yq_flow_scalars.specs.Text.{upto, cut, NoneIn, front, unless, is_empty, is_feed, is_space}
 use Rattle.yq_flow_scalars.proofs.Bools.{at_byte}
 use Rattle.yq_nodes.specs.declared.gap.Before.{Before}
 use Rattle.yq_nodes.specs.declared.gap.Before.TheVariants.{White, Break}
 use Rattle.yq_nodes.specs.Alike.{EndsItem, fresh, KeepsApart}
-use Rattle.yq_nodes.specs.Gaps.{goes, next, is_comment, AllGo, IsInlineGap}
+use Rattle.yq_nodes.specs.Gaps.{goes, next_gap_place, in_comment, AllGo, IsInlineGap}
 use Rattle.yq_nodes.specs.Nodes.{in_name, begins_node, is_close}
 use Rattle.yq_nodes.specs.Scalars.{IsScalarAt}
 use Rattle.yq_nodes.proofs.Alikes.{no_first}
@@ -59,17 +59,17 @@ dead t = is_empty t || (front (λ b. eqb b 35) t || ends_text true t)
 not_follow : (spaces : Option ℕ) (gap t : List ℕ) → dead t ≡ true → follows true spaces gap t ≡ false
 not_follow spaces gap t h = search (rules, false≢true)
 
-next_comment : (s : Before) (b : ℕ) (x : List ℕ) → is_comment s ≡ false → is_space (b ∷ x) ≡ true → is_comment (next s b) ≡ false
-next_comment s b x none h = rw (at_byte (λ y. is_space (y ∷ x)) b 35 h refl, none) (elim (is_feed b) as (λ c. is_comment (cond c Break White) ≡ false) [ true ↦ refl | false ↦ refl ])
+next_comment : (s : Before) (b : ℕ) (x : List ℕ) → in_comment s ≡ false → is_space (b ∷ x) ≡ true → in_comment (next_gap_place s b) ≡ false
+next_comment s b x none h = rw (at_byte (λ y. is_space (y ∷ x)) b 35 h refl, none) (elim (is_feed b) as (λ c. in_comment (cond c Break White) ≡ false) [ true ↦ refl | false ↦ refl ])
 
-goes_hash : (s : Before) (b : ℕ) (x : List ℕ) → is_comment s ≡ false → goes s b x ≡ true → is_space (b ∷ x) ≡ false → eqb b 35 ≡ true
+goes_hash : (s : Before) (b : ℕ) (x : List ℕ) → in_comment s ≡ false → goes s b x ≡ true → is_space (b ∷ x) ≡ false → eqb b 35 ≡ true
 goes_hash s b x h1 h2 h3 = search (rules, false≢true)
 
-dead_gap : (s : Before) (g : List ℕ) (c : ℕ) (r : List ℕ) → is_comment s ≡ false → AllGo s g (c ∷ r) → is_space (c ∷ r) ≡ false → ends_text true (c ∷ r) ≡ true → dead (cut no_gap (g ++ (c ∷ r))).1 ≡ true
+dead_gap : (s : Before) (g : List ℕ) (c : ℕ) (r : List ℕ) → in_comment s ≡ false → AllGo s g (c ∷ r) → is_space (c ∷ r) ≡ false → ends_text true (c ∷ r) ≡ true → dead (cut no_gap (g ++ (c ∷ r))).1 ≡ true
 unfolding upto
 dead_gap s [] c r none all h e = rw h (or_right (eqb c 35) (ends_text true (c ∷ r)) e)
 dead_gap s (b ∷ g) c r none all h e = elim (cases_Bool (is_space (b ∷ (g ++ (c ∷ r))))) [
-  | inl x ↦ rw x (dead_gap (next s b) g c r (next_comment s b (g ++ (c ∷ r)) none x) all.1 h e)
+  | inl x ↦ rw x (dead_gap (next_gap_place s b) g c r (next_comment s b (g ++ (c ∷ r)) none x) all.1 h e)
   | inr x ↦ (let hash : eqb b 35 ≡ true = goes_hash s b (g ++ (c ∷ r)) none all.0 x in rw x (rw hash refl))
 ]
 
@@ -158,9 +158,9 @@ last_mark (b ∷ gap) c l w h = go (last_line gap) refl (last_mark gap c l w.2) 
   go None is again e = let x = cond_some (is_feed b) gap (c ∷ l) e in let y : NoMark (c ∷ l) = subst NoMark x.1 w.2 in (y.0, y.1)
   go (Some m) is again e = again (is ∙ e)
 
-may_same : (f : Bool) (gap : List ℕ) (b : ℕ) (p t u : List ℕ) → NoMark gap → KeepsApart (fresh f gap) (b ∷ p) t u → may_follow (Some 0) (last_line gap) (b ∷ (p ++ t)) ≡ true → may_follow (Some 0) (last_line gap) (b ∷ (p ++ u)) ≡ true
+may_same : (f : Bool) (gap : List ℕ) (b : ℕ) (p t u : List ℕ) → NoMark gap → KeepsApart (fresh f gap) (b ∷ p) t u → plain_may_follow (Some 0) (last_line gap) (b ∷ (p ++ t)) ≡ true → plain_may_follow (Some 0) (last_line gap) (b ∷ (p ++ u)) ≡ true
 may_same f gap b p t u w keeps h = go (last_line gap) refl h where
-  go : (o : Option (List ℕ)) → last_line gap ≡ o → may_follow (Some 0) o (b ∷ (p ++ t)) ≡ true → may_follow (Some 0) o (b ∷ (p ++ u)) ≡ true
+  go : (o : Option (List ℕ)) → last_line gap ≡ o → plain_may_follow (Some 0) o (b ∷ (p ++ t)) ≡ true → plain_may_follow (Some 0) o (b ∷ (p ++ u)) ≡ true
   go None is e = refl
   go (Some []) is e = search (rules, and_from, le-leb, not-true, and_parts, last_fresh)
   go (Some (c ∷ l)) is e = search (rules, last_mark, and_from, le-leb, no_first)
@@ -174,10 +174,10 @@ none_keeps k f (b ∷ p) t u h e d none keeps = (here, none_keeps k (is_feed b) 
   goes_on : Goes f (b ∷ p) t u → follows true (Some 0) (cut no_gap (b ∷ (p ++ t))).0 (cut no_gap (b ∷ (p ++ t))).1 ≡ true → follows true (Some 0) (cut no_gap (b ∷ (p ++ u))).0 (cut no_gap (b ∷ (p ++ u))).1 ≡ true
   goes_on g old =
       let x : follows true (Some 0) g.gap (g.first ∷ (g.text ++ t)) ≡ true = subst (λ (c : List ℕ × List ℕ). follows true (Some 0) c.0 c.1 ≡ true) g.old old in
-      let a = and_parts _ (may_follow (Some 0) (last_line g.gap) (g.first ∷ (g.text ++ t))) x in
+      let a = and_parts _ (plain_may_follow (Some 0) (last_line g.gap) (g.first ∷ (g.text ++ t))) x in
       let text = text_same k (fresh f g.gap) g.first g.text t u h e d g.inside g.keeps in
       let b : (not false && not (eqb g.first 35) && not (ends_text true (g.first ∷ (g.text ++ u)))) ≡ true = subst (λ (c : Bool). (not false && not (eqb g.first 35) && not c) ≡ true) text a.0 in
-      let y : follows true (Some 0) g.gap (g.first ∷ (g.text ++ u)) ≡ true = and_from _ (may_follow (Some 0) (last_line g.gap) (g.first ∷ (g.text ++ u))) b (may_same f g.gap g.first g.text t u g.white g.keeps a.1) in
+      let y : follows true (Some 0) g.gap (g.first ∷ (g.text ++ u)) ≡ true = and_from _ (plain_may_follow (Some 0) (last_line g.gap) (g.first ∷ (g.text ++ u))) b (may_same f g.gap g.first g.text t u g.white g.keeps a.1) in
       subst (λ (c : List ℕ × List ℕ). follows true (Some 0) c.0 c.1 ≡ true) (sym g.new) y
 
   here : stops_here (b ∷ (p ++ u)) ≡ false

@@ -7,38 +7,38 @@ use Rattle.std.proofs.lemmas.Option.{same_Some}
 use Rattle.yq_flow_scalars.specs.Text.{is_marker}
 use Rattle.yq_nodes.specs.declared.gap.Before.{Before}
 use Rattle.yq_nodes.specs.declared.gap.Before.TheVariants.{Token}
-use Rattle.yq_nodes.specs.Gaps.{goes, next, behind, is_break, AllGo, stops, IsInlineGap}
-use Rattle.yq_nodes.specs.Reading.{gap_len, gap_end, gap_at}
+use Rattle.yq_nodes.specs.Gaps.{goes, next_gap_place, gap_place_after, at_line_start, AllGo, stops, IsInlineGap}
+use Rattle.yq_nodes.specs.Reading.{flow_gap_len, gap_end, read_gap}
 use Rattle.yq_nodes.proofs.Binds.{not_then}
 
 abbrev Cut : Before → List ℕ → ℕ → Type 0
-Cut s t n = AllGo s (take n t) (drop n t) × (stops (behind s (take n t)) (drop n t) ≡ true) × (gap_end s t ≡ behind s (take n t))
+Cut s t n = AllGo s (take n t) (drop n t) × (stops (gap_place_after s (take n t)) (drop n t) ≡ true) × (gap_end s t ≡ gap_place_after s (take n t))
 
-gap_cut : (s : Before) (t : List ℕ) → Cut s t (gap_len s t)
-unfolding gap_len gap_end
+gap_cut : (s : Before) (t : List ℕ) → Cut s t (flow_gap_len s t)
+unfolding flow_gap_len gap_end
 gap_cut s [] = (tt, refl, refl)
-gap_cut s (b ∷ bs) = let again = gap_cut (next s b) bs in
-    cond_both (goes s b bs) (suc (gap_len (next s b) bs)) 0 (λ n. Cut s (b ∷ bs) n)
-    (λ h. ((rw (take-append-drop (gap_len (next s b) bs) bs) h, again.0), again.1, rw h again.2))
+gap_cut s (b ∷ bs) = let again = gap_cut (next_gap_place s b) bs in
+    cond_both (goes s b bs) (suc (flow_gap_len (next_gap_place s b) bs)) 0 (λ n. Cut s (b ∷ bs) n)
+    (λ h. ((rw (take-append-drop (flow_gap_len (next_gap_place s b) bs) bs) h, again.0), again.1, rw h again.2))
     (λ h. (tt, rw h refl, rw h refl))
 
-pub gap_takes : (t : List ℕ) (x : List ℕ × List ℕ) → gap_at t ≡ Some x → (t ≡ x.0 ++ x.1) × IsInlineGap x.0 x.1
-unfolding gap_at
+pub gap_takes : (t : List ℕ) (x : List ℕ × List ℕ) → read_gap t ≡ Some x → (t ≡ x.0 ++ x.1) × IsInlineGap x.0 x.1
+unfolding read_gap
 gap_takes t x h =
-    let n = gap_len Token t in
+    let n = flow_gap_len Token t in
     let c = gap_cut Token t in
-    let g = not_then (is_break (gap_end Token t) && is_marker (drop n t)) h in
+    let g = not_then (at_line_start (gap_end Token t) && is_marker (drop n t)) h in
     subst (λ (y : List ℕ × List ℕ). (t ≡ y.0 ++ y.1) × IsInlineGap y.0 y.1) (same_Some _ _ g.1)
-    (sym (take-append-drop n t), record { inside = c.0; ends = c.1; unmarked = subst (λ (s : Before). (is_break s && is_marker (drop n t)) ≡ false) c.2 g.0 })
+    (sym (take-append-drop n t), record { inside = c.0; ends = c.1; unmarked = subst (λ (s : Before). (at_line_start s && is_marker (drop n t)) ≡ false) c.2 g.0 })
 
-pub gap_append : (s : Before) (p rest : List ℕ) → AllGo s p rest → stops (behind s p) rest ≡ true → (gap_len s (p ++ rest) ≡ length p) × (gap_end s (p ++ rest) ≡ behind s p)
-unfolding gap_len gap_end
+pub gap_append : (s : Before) (p rest : List ℕ) → AllGo s p rest → stops (gap_place_after s p) rest ≡ true → (flow_gap_len s (p ++ rest) ≡ length p) × (gap_end s (p ++ rest) ≡ gap_place_after s p)
+unfolding flow_gap_len gap_end
 gap_append s [] [] h e = (refl, refl)
 gap_append s [] (b ∷ rest) h e = let g = not-true (goes s b rest) e in (rw g refl, rw g refl)
-gap_append s (b ∷ p) rest h e = let again = gap_append (next s b) p rest h.1 e in (rw h.0 (ap suc again.0), rw h.0 again.1)
+gap_append s (b ∷ p) rest h e = let again = gap_append (next_gap_place s b) p rest h.1 e in (rw h.0 (ap suc again.0), rw h.0 again.1)
 
-pub gap_again : (p rest : List ℕ) → IsInlineGap p rest → gap_at (p ++ rest) ≡ Some (p, rest)
-unfolding gap_at
+pub gap_again : (p rest : List ℕ) → IsInlineGap p rest → read_gap (p ++ rest) ≡ Some (p, rest)
+unfolding read_gap
 gap_again p rest h = search (rules, gap_append, drop-append_seam, take-append_seam)
 
 -- no gap

@@ -6,8 +6,8 @@ use Rattle.yq_flow_scalars.specs.Text.{front, is_feed, is_space, is_marker}
 use Rattle.yq_nodes.specs.declared.gap.Before.{Before}
 use Rattle.yq_nodes.specs.declared.gap.Before.TheVariants.{Token}
 use Rattle.yq_nodes.specs.Alike.{Alike, after, fresh, KeepsApart}
-use Rattle.yq_nodes.specs.Gaps.{goes, next, behind, is_break as at_break, AllGo, stops, IsInlineGap}
-use Rattle.yq_nodes.specs.Nodes.{Node, empty, alias, scalar, coll, anchored, node_text, items_text, open_of, begins_content, begins_node, is_bare, takes_anchor, IsNode}
+use Rattle.yq_nodes.specs.Gaps.{goes, next_gap_place, gap_place_after, at_line_start as at_break, AllGo, stops, IsInlineGap}
+use Rattle.yq_nodes.specs.Nodes.{FlowNode, empty, alias, scalar, coll, anchored, node_text, flow_items_text, opening_bracket, begins_content, begins_node, is_empty_node, takes_anchor, IsFlowNode}
 use Rattle.yq_nodes.specs.Scalars.{IsScalarAt}
 use Rattle.yq_nodes.proofs.Alikes.{alike_append, alike_space, alike_marker}
 use Rattle.yq_nodes.proofs.PieceLaws.{scalar_begins, scalar_some}
@@ -23,9 +23,9 @@ keeps_alike g f (b ∷ p) t u h =
     let whole : Alike g (b ∷ (p ++ t)) (b ∷ (p ++ u)) = after (alike_append g p t u h) in
     (λ e. sym (alike_space g (b ∷ (p ++ t)) (b ∷ (p ++ u)) whole) ∙ e, λ _ e. sym (alike_marker g (b ∷ (p ++ t)) (b ∷ (p ++ u)) whole) ∙ e, keeps_alike g (is_feed b) p t u h)
 
-pub behind_fresh : (s : Before) (g : List ℕ) → at_break (behind s g) ≡ fresh (at_break s) g
+pub behind_fresh : (s : Before) (g : List ℕ) → at_break (gap_place_after s g) ≡ fresh (at_break s) g
 behind_fresh s [] = refl
-behind_fresh s (b ∷ g) = search (rules, behind_fresh (next s b) g)
+behind_fresh s (b ∷ g) = search (rules, behind_fresh (next_gap_place s b) g)
 
 front_append : (g x y : List ℕ) → front is_feed x ≡ front is_feed y → front is_feed (g ++ x) ≡ front is_feed (g ++ y)
 front_append [] x y h = h
@@ -36,7 +36,7 @@ goes_front s b x y h1 = search rules
 
 pub go_front : (s : Before) (g x y : List ℕ) → front is_feed x ≡ front is_feed y → AllGo s g x → AllGo s g y
 go_front s [] x y h a = tt
-go_front s (b ∷ g) x y h a = (sym (goes_front s b (g ++ x) (g ++ y) (front_append g x y h)) ∙ a.0, go_front (next s b) g x y h a.1)
+go_front s (b ∷ g) x y h a = (sym (goes_front s b (g ++ x) (g ++ y) (front_append g x y h)) ∙ a.0, go_front (next_gap_place s b) g x y h a.1)
 
 stops_keeps : (s : Before) (b : ℕ) (x y : List ℕ) → (is_space (b ∷ x) ≡ false → is_space (b ∷ y) ≡ false) → stops s (b ∷ x) ≡ true → stops s (b ∷ y) ≡ true
 stops_keeps s b x y h1 h2 = search (rules, not-true, or_parts, false≢true)
@@ -44,9 +44,9 @@ stops_keeps s b x y h1 h2 = search (rules, not-true, or_parts, false≢true)
 pub gap_keeps : (g : List ℕ) (b : ℕ) (p t u : List ℕ) → KeepsApart (fresh false g) (b ∷ p) t u → IsInlineGap g (b ∷ (p ++ t)) → IsInlineGap g (b ∷ (p ++ u))
 gap_keeps g b p t u keeps h = record {
   inside = go_front Token g (b ∷ (p ++ t)) (b ∷ (p ++ u)) refl h.inside;
-  ends = stops_keeps (behind Token g) b (p ++ t) (p ++ u) keeps.0 h.ends;
-  unmarked = elim (cases_Bool (at_break (behind Token g))) [
-    | inl e ↦ (let m : is_marker (b ∷ (p ++ t)) ≡ false = rw e at h.unmarked in rw (keeps.1 (sym (behind_fresh Token g) ∙ e) m) (and-false (at_break (behind Token g))))
+  ends = stops_keeps (gap_place_after Token g) b (p ++ t) (p ++ u) keeps.0 h.ends;
+  unmarked = elim (cases_Bool (at_break (gap_place_after Token g))) [
+    | inl e ↦ (let m : is_marker (b ∷ (p ++ t)) ≡ false = rw e at h.unmarked in rw (keeps.1 (sym (behind_fresh Token g) ∙ e) m) (and-false (at_break (gap_place_after Token g))))
     | inr e ↦ rw e refl
   ];
 }
@@ -55,29 +55,29 @@ gap_keeps g b p t u keeps h = record {
 content_begins : (flow : Bool) (spaces : Option ℕ) (p rest : List ℕ) → IsScalarAt flow spaces p rest → begins_content flow (p ++ rest) ≡ true
 content_begins flow spaces p rest h = search (rules, or_right, scalar_begins)
 
-pub some_begins : (flow : Bool) (spaces : Option ℕ) (d : ℕ) (node : Node) (rest : List ℕ) → is_bare node ≡ false → IsNode flow spaces d node rest → begins_node flow (node_text node rest) ≡ true
-unfolding node_text IsNode
+pub some_begins : (flow : Bool) (spaces : Option ℕ) (d : ℕ) (node : FlowNode) (rest : List ℕ) → is_empty_node node ≡ false → IsFlowNode flow spaces d node rest → begins_node flow (node_text node rest) ≡ true
+unfolding node_text IsFlowNode
 some_begins flow spaces d node rest h1 h2 = search (rules, false≢true, or_right, content_begins, cond_both)
 
-pub bare_text : (node : Node) (rest : List ℕ) → is_bare node ≡ true → node_text node rest ≡ rest
+pub bare_text : (node : FlowNode) (rest : List ℕ) → is_empty_node node ≡ true → node_text node rest ≡ rest
 unfolding node_text
 bare_text node rest h1 = search (rules, false≢true)
 
-pub taken_begins : (flow : Bool) (spaces : Option ℕ) (d : ℕ) (node : Node) (rest : List ℕ) → is_bare node ≡ false → takes_anchor node ≡ true → IsNode flow spaces d node rest → begins_content flow (node_text node rest) ≡ true
-unfolding node_text IsNode
+pub taken_begins : (flow : Bool) (spaces : Option ℕ) (d : ℕ) (node : FlowNode) (rest : List ℕ) → is_empty_node node ≡ false → takes_anchor node ≡ true → IsFlowNode flow spaces d node rest → begins_content flow (node_text node rest) ≡ true
+unfolding node_text IsFlowNode
 taken_begins flow spaces d node rest h1 h2 h3 = search (rules, false≢true, content_begins, cond_both)
 
 -- a text that isn't empty
 abbrev pub NotEmpty : List ℕ → Type 0
 NotEmpty t = (b : ℕ) × ((p : List ℕ) × (t ≡ b ∷ p))
 
-pub some_text : (d : ℕ) (node : Node) (rest : List ℕ) → is_bare node ≡ false → IsNode true (Some 0) d node rest → NotEmpty (node_text node [])
-unfolding node_text IsNode
+pub some_text : (d : ℕ) (node : FlowNode) (rest : List ℕ) → is_empty_node node ≡ false → IsFlowNode true (Some 0) d node rest → NotEmpty (node_text node [])
+unfolding node_text IsFlowNode
 some_text d empty rest e h = absurd (false≢true (sym e))
 some_text d (alias n) rest e h = (42, (n ++ [], refl))
 some_text d (scalar []) rest e h = absurd (omega (arith, scalar_some true (Some 0) [] rest h))
 some_text d (scalar (b ∷ p)) rest e h = (b, (p ++ [], refl))
-some_text d (coll k g is) rest e h = (open_of k, (g ++ items_text k is [], refl))
+some_text d (coll k g is) rest e h = (opening_bracket k, (g ++ flow_items_text k is [], refl))
 some_text d (anchored n g node) rest e h = (38, (n ++ (g ++ node_text node []), refl))
 
 -- a gap before a text that isn't empty
@@ -87,5 +87,5 @@ gap_some g x t u s keeps h =
     let old : IsInlineGap g (s.0 ∷ (s.1.0 ++ t)) = subst (λ (l : List ℕ). IsInlineGap g (l ++ t)) s.1.1 h in
     subst (λ (l : List ℕ). IsInlineGap g (l ++ u)) (sym s.1.1) (gap_keeps g s.0 s.1.0 t u k old)
 
-pub gap_node : (g : List ℕ) (d : ℕ) (n : Node) (t u : List ℕ) → is_bare n ≡ false → IsNode true (Some 0) d n t → KeepsApart (fresh false g) (node_text n []) t u → IsInlineGap g (node_text n t) → IsInlineGap g (node_text n u)
+pub gap_node : (g : List ℕ) (d : ℕ) (n : FlowNode) (t u : List ℕ) → is_empty_node n ≡ false → IsFlowNode true (Some 0) d n t → KeepsApart (fresh false g) (node_text n []) t u → IsInlineGap g (node_text n t) → IsInlineGap g (node_text n u)
 gap_node g d n t u some h keeps gap = search (rules, node_then, gap_some, some_text)

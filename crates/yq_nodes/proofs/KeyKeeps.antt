@@ -6,7 +6,7 @@ use Rattle.yq_flow_scalars.specs.Text.{front, is_space, separates}
 use Rattle.yq_flow_scalars.proofs.Bools.{at_byte}
 use Rattle.yq_nodes.specs.Alike.{Alike, colon, any_colon, EndsItem, fresh, KeepsApart}
 use Rattle.yq_nodes.specs.Gaps.{IsInlineGap}
-use Rattle.yq_nodes.specs.Nodes.{Key, bare, keyed, Node, key_text, node_text, first_is, begins_node, is_close, IsLead, IsInlineKey, is_bare, IsNode}
+use Rattle.yq_nodes.specs.Nodes.{Key, bare, keyed, FlowNode, key_text, node_text, begins_with, begins_node, is_close, IsLead, IsInlineKey, is_empty_node, IsFlowNode}
 use Rattle.yq_nodes.specs.Scalars.{is_quoted, IsScalarAt}
 use Rattle.yq_nodes.proofs.Alikes.{alike_append}
 use Rattle.yq_nodes.proofs.AlikePieces.{gap_alike, scalar_alike, quoted_any}
@@ -39,7 +39,7 @@ quoted_key : (p b x y : List ℕ) → is_quoted p ≡ true → IsInlineGap b (58
 quoted_key p b x y q gap (inl h) = absurd (false≢true (sym (no_quote p (b ++ (58 ∷ x)) q) ∙ h.begins))
 quoted_key p b x y q gap (inr h) = inr ((h.0.0, (h.0.1.0, quoted_any h.0.0 h.0.1.0 p (b ++ (58 ∷ x)) (b ++ (58 ∷ y)) (gap_quote b x y gap) h.0.1.1)), h.1)
 
-no_separates : (x : List ℕ) → begins_node true x ≡ true → (separates x || (first_is 44 x || first_is 125 x)) ≡ false
+no_separates : (x : List ℕ) → begins_node true x ≡ true → (separates x || (begins_with 44 x || begins_with 125 x)) ≡ false
 no_separates [] h = absurd (false≢true h)
 no_separates (b ∷ x) h = rw (node_no_space b x h, front_not (begins_node true) 44 (λ cs. refl) (b ∷ x) h, front_not (begins_node true) 125 (λ cs. refl) (b ∷ x) h) refl
 
@@ -58,14 +58,14 @@ key_front k p b (c ∷ g) x y bx by gap h =
     let like : Alike (Some true) (58 ∷ (c ∷ (g ++ x))) (58 ∷ (c ∷ (g ++ y))) = colon (unsafe x old) (unsafe y gap) in
     (h.0, scalar_alike true None p (b ++ (58 ∷ (c ∷ (g ++ x)))) (b ++ (58 ∷ (c ∷ (g ++ y)))) (alike_append (Some true) b _ _ like) h.1, gap_alike (Some true) b _ _ like h.2, or_right (is_quoted p) _ (rw gap.inside.0 refl), inl (gap, by))
 
-ends_key_here : (k : ℕ) (t : List ℕ) → eqb k 125 ≡ true → EndsItem k t → (separates t || (first_is 44 t || first_is 125 t)) ≡ true
+ends_key_here : (k : ℕ) (t : List ℕ) → eqb k 125 ≡ true → EndsItem k t → (separates t || (begins_with 44 t || begins_with 125 t)) ≡ true
 ends_key_here k t m e = go e.gap e.spelled e.is_gap where
   here : (c : ℕ) → (eqb c 44 || eqb c k) ≡ true → (is_space (c ∷ e.rest) || (eqb c 44 || eqb c 125)) ≡ true
   here c h = or_right (is_space (c ∷ e.rest)) _ (subst (λ (j : ℕ). (eqb c 44 || eqb c j) ≡ true) (eqb-true k 125 m) h)
 
-  go : (g : List ℕ) → t ≡ g ++ (e.close ∷ e.rest) → IsInlineGap g (e.close ∷ e.rest) → (separates t || (first_is 44 t || first_is 125 t)) ≡ true
-  go [] is gap = subst (λ (l : List ℕ). (separates l || (first_is 44 l || first_is 125 l)) ≡ true) (sym is) (here e.close e.ends)
-  go (b ∷ g) is gap = subst (λ (l : List ℕ). (separates l || (first_is 44 l || first_is 125 l)) ≡ true) (sym is) (rw gap.inside.0 refl)
+  go : (g : List ℕ) → t ≡ g ++ (e.close ∷ e.rest) → IsInlineGap g (e.close ∷ e.rest) → (separates t || (begins_with 44 t || begins_with 125 t)) ≡ true
+  go [] is gap = subst (λ (l : List ℕ). (separates l || (begins_with 44 l || begins_with 125 l)) ≡ true) (sym is) (here e.close e.ends)
+  go (b ∷ g) is gap = subst (λ (l : List ℕ). (separates l || (begins_with 44 l || begins_with 125 l)) ≡ true) (sym is) (rw gap.inside.0 refl)
 
 -- nothing stands behind an anchor or a `:`
 pub ends_lead : (begins : List ℕ → Bool) (k : ℕ) (t : List ℕ) → is_close k ≡ true → EndsItem k t → ((r : List ℕ) → begins (44 ∷ r) ≡ false) → ((r : List ℕ) → begins (93 ∷ r) ≡ false) → ((r : List ℕ) → begins (125 ∷ r) ≡ false) → IsLead true begins [] t
@@ -85,10 +85,10 @@ key_bare k p b g t u c e d h = subst (λ (l : List ℕ). IsInlineKey k (keyed p 
   fixed : IsInlineKey k (keyed p b []) u
   fixed = search (rules, scalar_alike, alike_append, gap_alike, or_right, ends_key_here, ends_lead, like, old)
 
-pub key_keeps : (k d : ℕ) (f : Bool) (key : Key) (n : Node) (t u : List ℕ) → is_close k ≡ true → EndsItem k t → EndsItem k u → KeepsApart f (key_text key (node_text n [])) t u → IsNode true (Some 0) d n t → IsNode true (Some 0) d n u →
+pub key_keeps : (k d : ℕ) (f : Bool) (key : Key) (n : FlowNode) (t u : List ℕ) → is_close k ≡ true → EndsItem k t → EndsItem k u → KeepsApart f (key_text key (node_text n [])) t u → IsFlowNode true (Some 0) d n t → IsFlowNode true (Some 0) d n u →
     IsInlineKey k key (node_text n t) → IsInlineKey k key (node_text n u)
 key_keeps k d f bare n t u c e h keeps x y is = is
-key_keeps k d f (keyed p b g) n t u c e h keeps x y is = elim (cases_Bool (is_bare n)) [
+key_keeps k d f (keyed p b g) n t u c e h keeps x y is = elim (cases_Bool (is_empty_node n)) [
   | inl z ↦ (let old : IsInlineKey k (keyed p b g) t = subst (λ (l : List ℕ). IsInlineKey k (keyed p b g) l) (bare_text n t z) is in
       subst (λ (l : List ℕ). IsInlineKey k (keyed p b g) l) (sym (bare_text n u z)) (key_bare k p b g t u c e h old))
   | inr z ↦ (let bx = some_begins true (Some 0) d n t z x in

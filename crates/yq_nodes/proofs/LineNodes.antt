@@ -3,8 +3,8 @@ use Rattle.std.proofs.Common.{◌≡◌, inl, inr, ℕ, zero, suc, true, false, 
 use Rattle.std.proofs.lemmas.Bool.{false≢true, not-false, or_parts}
 use Rattle.yq_flow_scalars.specs.Text.{is_white, is_break}
 use Rattle.yq_flow_scalars.proofs.Bools.{at_byte}
-use Rattle.yq_nodes.specs.Alike.{is_stop, Alike, stop, colon, byte, after}
-use Rattle.yq_nodes.specs.Nodes.{Node, empty, alias, scalar, coll, anchored, node_text, items_text, begins_content, IsApart, IsLead, IsNode}
+use Rattle.yq_nodes.specs.Alike.{ends_lookahead, Alike, stop, colon, byte, after}
+use Rattle.yq_nodes.specs.Nodes.{FlowNode, empty, alias, scalar, coll, anchored, node_text, flow_items_text, begins_content, IsApart, IsLead, IsFlowNode}
 use Rattle.yq_nodes.proofs.Alikes.{alike_append, alike_unless, alike_first, alike_content, alike_none}
 use Rattle.yq_nodes.proofs.AlikePieces.{scalar_alike, name_alike, gap_alike}
 use Rattle.yq_nodes.proofs.NodeKeeps.{node_text_alike, items_text_alike, items_any}
@@ -23,7 +23,7 @@ black b c is none h = false≢true (sym none ∙ subst (λ (k : ℕ). is_white k
 none_kept : (t u : List ℕ) → Alike (Some false) t u → (g r : List ℕ) → t ≡ g ++ r → IsApart false g r → begins_content false r ≡ false → HasNone u
 none_kept t u h [] r e a none_here = search (rules, alike_unless, alike_content)
 none_kept _ _ (stop {b = c} x) (b ∷ g) r e a none_here =
-    let none : is_white c ≡ false = rw (at_byte is_stop c 32 x refl, at_byte is_stop c 9 x refl) refl in
+    let none : is_white c ≡ false = rw (at_byte ends_lookahead c 32 x refl, at_byte ends_lookahead c 9 x refl) refl in
     absurd (black b c (cc) none a.0.0)
 none_kept _ _ (colon {t = t} {u = u} x y) (b ∷ g) r e a none_here = absurd (black b 58 (cc) refl a.0.0)
 none_kept _ _ (byte {b = c} {t = t} {u = u} v w x y) (b ∷ g) r e a none_here = absurd (black b c (cc) (or_parts (is_white c) (is_break (c ∷ t)) v).0 a.0.0)
@@ -37,14 +37,14 @@ lead_alike : (p t u : List ℕ) → Alike (Some false) t u → IsLead false (beg
 lead_alike p t u h (inl g) = search (rules, alike_none, alike_unless, alike_content)
 lead_alike p t u h (inr g) = let none = none_kept t u h g.1.0 g.1.1 g.1.2 g.1.3 g.1.4 in inr (g.0, (none.gap, none.rest, none.text, none.apart, none.none))
 
-pub line_node_alike : (spaces : Option ℕ) (node : Node) (d : ℕ) (t u : List ℕ) → Alike (Some false) t u → IsNode false spaces d node t → IsNode false spaces d node u
-unfolding node_text IsNode
+pub line_node_alike : (spaces : Option ℕ) (node : FlowNode) (d : ℕ) (t u : List ℕ) → Alike (Some false) t u → IsFlowNode false spaces d node t → IsFlowNode false spaces d node u
+unfolding node_text IsFlowNode
 line_node_alike spaces empty d t u h g = (sym (alike_content false t u h) ∙ g.0, sym (alike_first 38 (Some false) t u h) ∙ g.1)
 line_node_alike spaces (alias n) d t u h g = name_alike (Some false) n t u h g
 line_node_alike spaces (scalar p) d t u h g = scalar_alike false spaces p t u h g
 line_node_alike spaces (coll k s is) zero t u h g = absurd g.2
 line_node_alike spaces (coll k s is) (suc d) t u h g =
-    (g.0, gap_alike (Some true) s (items_text k is t) (items_text k is u) (items_text_alike k is t u g.0) g.1, items_any is d k t u g.0 g.2)
+    (g.0, gap_alike (Some true) s (flow_items_text k is t) (flow_items_text k is u) (items_text_alike k is t u g.0) g.1, items_any is d k t u g.0 g.2)
 line_node_alike spaces (anchored n s node) d t u h g =
     let inner = node_text_alike (Some false) node t u h in (
       name_alike (Some false) n (s ++ node_text node t) (s ++ node_text node u) (alike_append (Some false) s (node_text node t) (node_text node u) inner) g.0,

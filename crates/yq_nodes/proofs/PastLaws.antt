@@ -12,7 +12,7 @@ use Rattle.yq_flow_scalars.proofs.PlainLaws.{boundary_plain}
 use Rattle.yq_flow_scalars.proofs.Upto.{upto-append, upto_unless}
 use Rattle.yq_nodes.specs.declared.gap.Before.TheVariants.{Token}
 use Rattle.yq_nodes.specs.Gaps.{IsInlineGap}
-use Rattle.yq_nodes.specs.Nodes.{Key, bare, keyed, Sep, last, comma, Node, empty, alias, scalar, coll, anchored, Items, none, item, key_text, sep_text, node_text, items_text, in_name, begins_content, begins_node, is_close, open_of, IsApart, IsLead, IsName, IsInlineKey, IsSep, IsNode, AreItems}
+use Rattle.yq_nodes.specs.Nodes.{Key, bare, keyed, Sep, last, comma, FlowNode, empty, alias, scalar, coll, anchored, Items, none, item, key_text, sep_text, node_text, flow_items_text, in_name, begins_content, begins_node, is_close, opening_bracket, IsApart, IsLead, IsName, IsInlineKey, IsSep, IsFlowNode, AreFlowItems}
 use Rattle.yq_nodes.specs.Scalars.{IsScalarAt}
 use Rattle.yq_nodes.proofs.Bounds.{boundary_gap, boundary_name}
 use Rattle.yq_nodes.proofs.GapLaws.{gap_append}
@@ -75,26 +75,26 @@ sep_past k (comma b g) r h u = gap_past g r h.1 (byte_past 44 (g ++ r) (omega ar
 pub close_low : (k : ℕ) → is_close k ≡ true → k < 128
 close_low k h = ⊎_elim (λ e. omega (arith, eqb-true k 93 e)) (λ e. omega (arith, eqb-true k 125 e)) (or_cases (eqb k 93) (eqb k 125) h)
 
-pub open_low : (k : ℕ) → open_of k < 128
+pub open_low : (k : ℕ) → opening_bracket k < 128
 open_low k = cond_both (eqb k 125) 123 91 (λ b. b < 128) (λ _. omega arith) (λ _. omega arith)
 
 mutual
-  unfolding node_text IsNode items_text AreItems
+  unfolding node_text IsFlowNode flow_items_text AreFlowItems
 
-  pub node_past : (flow : Bool) (spaces : Option ℕ) (node : Node) (d : ℕ) (rest : List ℕ) → IsNode flow spaces d node rest → IsUtf8 (node_text node rest) → IsUtf8 rest
+  pub node_past : (flow : Bool) (spaces : Option ℕ) (node : FlowNode) (d : ℕ) (rest : List ℕ) → IsFlowNode flow spaces d node rest → IsUtf8 (node_text node rest) → IsUtf8 rest
   node_past flow spaces empty d rest h u = u
   node_past flow spaces (alias n) d rest h u = name_past n rest h (byte_past 42 (n ++ rest) (omega arith) u)
   node_past flow spaces (scalar p) d rest h u = scalar_past flow spaces p rest h u
   node_past flow spaces (coll k g is) zero rest h u = absurd h.2
   node_past flow spaces (coll k g is) (suc d) rest h u =
-      items_past k is d rest h.0 h.2 (gap_past g (items_text k is rest) h.1 (byte_past (open_of k) (g ++ items_text k is rest) (open_low k) u))
+      items_past k is d rest h.0 h.2 (gap_past g (flow_items_text k is rest) h.1 (byte_past (opening_bracket k) (g ++ flow_items_text k is rest) (open_low k) u))
   node_past flow spaces (anchored n g node) d rest h u =
       let behind = name_past n (g ++ node_text node rest) h.0 (byte_past 38 (n ++ (g ++ node_text node rest)) (omega arith) u) in
       node_past flow spaces node d rest h.4 (lead_past flow (begins_content flow) g (node_text node rest) h.1 behind)
 
-  pub items_past : (k : ℕ) (is : Items) (d : ℕ) (rest : List ℕ) → is_close k ≡ true → AreItems d k is rest → IsUtf8 (items_text k is rest) → IsUtf8 rest
+  pub items_past : (k : ℕ) (is : Items) (d : ℕ) (rest : List ℕ) → is_close k ≡ true → AreFlowItems d k is rest → IsUtf8 (flow_items_text k is rest) → IsUtf8 rest
   items_past k none d rest c h u = byte_past k rest (close_low k c) u
   items_past k (item key n s is) d rest c h u =
-      let inner = key_past k key (node_text n (sep_text s (items_text k is rest))) h.0 u in
-      let behind = node_past true (Some 0) n d (sep_text s (items_text k is rest)) h.2 inner in
-      items_past k is d rest c h.4 (sep_past k s (items_text k is rest) h.3 behind)
+      let inner = key_past k key (node_text n (sep_text s (flow_items_text k is rest))) h.0 u in
+      let behind = node_past true (Some 0) n d (sep_text s (flow_items_text k is rest)) h.2 inner in
+      items_past k is d rest c h.4 (sep_past k s (flow_items_text k is rest) h.3 behind)

@@ -14,18 +14,18 @@ use Rattle.yq_flow_scalars.proofs.QuotedFound.{quoted_takes, quoted_again}
 use Rattle.yq_flow_scalars.proofs.Upto.{upto_ends, none_in_cut, cut-append, cut_takes}
 use Rattle.yq_flow_scalars.proofs.QuotedLaws.{of_quotes}
 use Rattle.yq_nodes.specs.Gaps.{IsInlineGap}
-use Rattle.yq_nodes.specs.Nodes.{Key, Sep, last, comma, key_text, sep_text, first_is, in_name, begins_node, IsApart, IsLead, IsName, ends_key, IsInlineKey, IsSep, is_keyed}
-use Rattle.yq_nodes.specs.Reading.{gap_at, scalar_at, with_its_lines, name_at, apart_at, lead_at, colon_at, key_at, sep_at, sep_behind}
+use Rattle.yq_nodes.specs.Nodes.{Key, Sep, last, comma, key_text, sep_text, begins_with, in_name, begins_node, IsApart, IsLead, IsName, ends_key, IsInlineKey, IsSep, is_keyed}
+use Rattle.yq_nodes.specs.Reading.{read_gap, read_scalar, with_its_lines, name_at, apart_at, lead_at, after_colon, read_flow_key, sep_at, sep_behind}
 use Rattle.yq_nodes.specs.Scalars.{is_quoted, has_its_lines, IsScalarAt, begins_scalar}
 use Rattle.yq_nodes.proofs.Binds.{not_then}
 use Rattle.yq_nodes.proofs.GapLaws.{gap_takes, gap_again}
 
 -- a text that passes a test begins with no byte behind which each text fails it
-pub front_not : (P : List ℕ → Bool) (k : ℕ) → ((bs : List ℕ) → P (k ∷ bs) ≡ false) → (t : List ℕ) → P t ≡ true → first_is k t ≡ false
+pub front_not : (P : List ℕ → Bool) (k : ℕ) → ((bs : List ℕ) → P (k ∷ bs) ≡ false) → (t : List ℕ) → P t ≡ true → begins_with k t ≡ false
 front_not P k never [] h = refl
 front_not P k never (b ∷ t) h = false_from_ne_true (eqb b k) (λ e. false≢true (sym (never t) ∙ subst (λ (x : ℕ). P (x ∷ t) ≡ true) (eqb-true b k e) h))
 
-pub front_is : (k : ℕ) (t : List ℕ) → first_is k t ≡ true → t ≡ k ∷ drop 1 t
+pub front_is : (k : ℕ) (t : List ℕ) → begins_with k t ≡ true → t ≡ k ∷ drop 1 t
 front_is k [] h = absurd (false≢true h)
 front_is k (b ∷ t) h = ap (λ x. x ∷ t) (eqb-true b k h)
 
@@ -56,8 +56,8 @@ quoted_takes_here flow spaces t x h =
     let f = quoted_takes t y.0 y.1 in
     subst (λ (z : List ℕ × List ℕ). (t ≡ z.0 ++ z.1) × IsScalarAt flow spaces z.0 z.1) g.1 (f.cut, inr ((f.quote, (f.ls, f.is)), g.0))
 
-pub scalar_takes : (flow : Bool) (spaces : Option ℕ) (t : List ℕ) (x : List ℕ × List ℕ) → scalar_at flow spaces t ≡ Some x → (t ≡ x.0 ++ x.1) × IsScalarAt flow spaces x.0 x.1
-unfolding scalar_at
+pub scalar_takes : (flow : Bool) (spaces : Option ℕ) (t : List ℕ) (x : List ℕ × List ℕ) → read_scalar flow spaces t ≡ Some x → (t ≡ x.0 ++ x.1) × IsScalarAt flow spaces x.0 x.1
+unfolding read_scalar
 scalar_takes flow spaces t x h = ⊎_elim {0, 0, 0}
     (λ e. quoted_takes_here flow spaces t x e.1)
     (λ e. let a = plain_takes flow spaces t x e.1 in (a.0, inl a.1))
@@ -66,8 +66,8 @@ scalar_takes flow spaces t x h = ⊎_elim {0, 0, 0}
 plain_no_quote : (flow : Bool) (t : List ℕ) → begins_plain flow t ≡ true → is_quoted t ≡ false
 plain_no_quote flow t h1 = search (rules, front_not)
 
-pub scalar_again : (flow : Bool) (spaces : Option ℕ) (p rest : List ℕ) → IsScalarAt flow spaces p rest → scalar_at flow spaces (p ++ rest) ≡ Some (p, rest)
-unfolding scalar_at
+pub scalar_again : (flow : Bool) (spaces : Option ℕ) (p rest : List ℕ) → IsScalarAt flow spaces p rest → read_scalar flow spaces (p ++ rest) ≡ Some (p, rest)
+unfolding read_scalar
 scalar_again flow spaces p rest h1 = search (rules, plain_no_quote, plain_again, of_quotes, quoted_again)
 
 -- names
@@ -121,20 +121,20 @@ unfolding lead_at
 lead_again flow begins p rest h = search (rules, ⊎_elim, apart_again)
 
 -- the `:` of a key
-colon_takes : (p t r : List ℕ) → colon_at p t ≡ Some r → (t ≡ 58 ∷ r) × (ends_key p r ≡ true)
-unfolding colon_at
+colon_takes : (p t r : List ℕ) → after_colon p t ≡ Some r → (t ≡ 58 ∷ r) × (ends_key p r ≡ true)
+unfolding after_colon
 colon_takes p t r h =
-    let g = cond_some (first_is 58 t && ends_key p (drop 1 t)) _ _ h in
-    let tests = and_parts (first_is 58 t) (ends_key p (drop 1 t)) g.0 in
+    let g = cond_some (begins_with 58 t && ends_key p (drop 1 t)) _ _ h in
+    let tests = and_parts (begins_with 58 t) (ends_key p (drop 1 t)) g.0 in
     subst (λ (y : List ℕ). (t ≡ 58 ∷ y) × (ends_key p y ≡ true)) g.1 (front_is 58 t tests.0, tests.1)
 
 -- keys
-pub key_takes : (t : List ℕ) (x : Key × List ℕ) → key_at t ≡ Some x → (t ≡ key_text x.0 x.1) × IsInlineKey 125 x.0 x.1
-unfolding key_at
+pub key_takes : (t : List ℕ) (x : Key × List ℕ) → read_flow_key t ≡ Some x → (t ≡ key_text x.0 x.1) × IsInlineKey 125 x.0 x.1
+unfolding read_flow_key
 key_takes t x h =
-    let key = bind_some (scalar_at true None t) h in
-    let before = bind_some (gap_at key.0.1) key.2 in
-    let rest = bind_some (colon_at key.0.0 before.0.1) before.2 in
+    let key = bind_some (read_scalar true None t) h in
+    let before = bind_some (read_gap key.0.1) key.2 in
+    let rest = bind_some (after_colon key.0.0 before.0.1) before.2 in
     let gap = bind_some (lead_at true (begins_node true) rest.0) rest.2 in
     let a = scalar_takes true None t key.0 key.1 in
     let b = gap_takes key.0.1 before.0 before.1 in
@@ -145,8 +145,8 @@ key_takes t x h =
     subst (λ (y : Key × List ℕ). (t ≡ key_text y.0 y.1) × IsInlineKey 125 y.0 y.1) (same_Some _ _ gap.2)
     (a.0 ∙ ap (λ l. key.0.0 ++ l) all, (refl, subst (IsScalarAt true None key.0.0) all a.1, subst (IsInlineGap before.0.0) behind b.1, subst (λ (r : List ℕ). ends_key key.0.0 r ≡ true) d.0 c.1, d.1))
 
-pub key_again : (key : Key) (rest : List ℕ) → is_keyed key ≡ true → IsInlineKey 125 key rest → key_at (key_text key rest) ≡ Some (key, rest)
-unfolding key_at colon_at
+pub key_again : (key : Key) (rest : List ℕ) → is_keyed key ≡ true → IsInlineKey 125 key rest → read_flow_key (key_text key rest) ≡ Some (key, rest)
+unfolding read_flow_key after_colon
 key_again key rest h1 h2 = search (rules, false≢true, scalar_again, gap_again, lead_again)
 
 -- what stands behind an item
@@ -157,21 +157,21 @@ sep_by : (k : ℕ) (t : List ℕ) (g : List ℕ × List ℕ) (x : Sep × List �
 unfolding sep_behind
 sep_by k t g x is gap h = ⊎_elim {0, 0, 0}
     (λ e.
-    let b = bind_some (gap_at (drop 1 g.1)) e.1 in
+    let b = bind_some (read_gap (drop 1 g.1)) e.1 in
     let c = gap_takes (drop 1 g.1) b.0 b.1 in
     let front : g.1 ≡ 44 ∷ (b.0.0 ++ b.0.1) = front_is 44 g.1 e.0 ∙ ap (λ l. 44 ∷ l) c.0 in
     subst (Sepd k t) (same_Some _ _ b.2) (is ∙ ap (λ l. g.0 ++ l) front, (subst (IsInlineGap g.0) front gap, c.1)))
-    (λ e. let f = cond_some (first_is k g.1) _ _ e.1 in subst (Sepd k t) f.1 (is, (gap, f.0)))
-    (chosen (first_is 44 g.1) h)
+    (λ e. let f = cond_some (begins_with k g.1) _ _ e.1 in subst (Sepd k t) f.1 (is, (gap, f.0)))
+    (chosen (begins_with 44 g.1) h)
 
 pub sep_takes : (k : ℕ) (t : List ℕ) (x : Sep × List ℕ) → sep_at k t ≡ Some x → (t ≡ sep_text x.0 x.1) × IsSep k x.0 x.1
 unfolding sep_at
 sep_takes k t x h =
-    let g = bind_some (gap_at t) h in
+    let g = bind_some (read_gap t) h in
     let gap = gap_takes t g.0 g.1 in
     sep_by k t g.0 x gap.0 gap.1 g.2
 
-close_no_comma : (k : ℕ) (t : List ℕ) → eqb k 44 ≡ false → first_is k t ≡ true → first_is 44 t ≡ false
+close_no_comma : (k : ℕ) (t : List ℕ) → eqb k 44 ≡ false → begins_with k t ≡ true → begins_with 44 t ≡ false
 close_no_comma k [] e h = refl
 close_no_comma k (b ∷ t) e h = rw (eqb-true b k h) e
 

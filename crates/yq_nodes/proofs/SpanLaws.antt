@@ -9,8 +9,8 @@ use Rattle.yq_flow_scalars.specs.Answers.{Gives}
 use Rattle.yq_flow_scalars.specs.Piece.{further_spaces}
 use Rattle.yq_flow_scalars.specs.Writable.{in_flow}
 use Rattle.yq_nodes.specs.Inline.{depth_limit, IsInlineAt, inline_at}
-use Rattle.yq_nodes.specs.Nodes.{Key, bare, keyed, Sep, Node, empty, alias, scalar, coll, anchored, Items, none, item, key_text, sep_text, node_text, items_text, is_close, open_of, begins_content, IsInlineKey, IsSep, IsNode, AreItems}
-use Rattle.yq_nodes.specs.Places.{Placed, placed, sequence, mapping, Parts, holder, key_placed, locate, locate_items, with_anchor}
+use Rattle.yq_nodes.specs.Nodes.{Key, bare, keyed, Sep, FlowNode, empty, alias, scalar, coll, anchored, Items, none, item, key_text, sep_text, node_text, flow_items_text, is_close, opening_bracket, begins_content, IsInlineKey, IsSep, IsFlowNode, AreFlowItems}
+use Rattle.yq_nodes.specs.Places.{Placed, placed, sequence, mapping, Parts, holder, key_placed, locate, locate_items, anchored_node}
 use Rattle.yq_nodes.specs.Spans.{IsSpan, HasKeySpan, HasSpans, ContentHasSpans, PartsHaveSpans}
 use Rattle.yq_nodes.proofs.InlineLaws.{inline_takes}
 use Rattle.yq_nodes.proofs.NodeAgain.{node_longer}
@@ -45,10 +45,10 @@ holder_spans t k parts h = elim (eqb k 125) as (λ c. ContentHasSpans t (cond c 
 abbrev content_of : Placed → ℕ
 content_of (placed a s c e f) = c
 
-anchor_spans : (t n : List ℕ) (start : ℕ) (p : Placed) → IsSpan t start (content_of p) → HasSpans t p → HasSpans t (with_anchor n start p)
+anchor_spans : (t n : List ℕ) (start : ℕ) (p : Placed) → IsSpan t start (content_of p) → HasSpans t p → HasSpans t (anchored_node n start p)
 anchor_spans t n start (placed a s c e f) first h = (first, h.1, h.2)
 
-content_from : (total : ℕ) (node : Node) (rest : List ℕ) → total - length (node_text node rest) ≤ content_of (locate total node rest)
+content_from : (total : ℕ) (node : FlowNode) (rest : List ℕ) → total - length (node_text node rest) ≤ content_of (locate total node rest)
 unfolding locate node_text
 content_from total empty rest = omega arith
 content_from total (alias n) rest = omega arith
@@ -75,23 +75,23 @@ past_key t k key r h x = less t (key_text key r) (key_text key []) r (key_append
 past_sep : (t : List ℕ) (k : ℕ) (s : Sep) (r : List ℕ) → IsSep k s r → IsLeft t (sep_text s r) → IsLeft t r
 past_sep t k s r h x = less t (sep_text s r) (sep_text s []) r (sep_append s [] r) x (sep_past k s r h x.utf8)
 
-past_node : (t : List ℕ) (flow : Bool) (spaces : Option ℕ) (node : Node) (d : ℕ) (r : List ℕ) → IsNode flow spaces d node r → IsLeft t (node_text node r) → IsLeft t r
+past_node : (t : List ℕ) (flow : Bool) (spaces : Option ℕ) (node : FlowNode) (d : ℕ) (r : List ℕ) → IsFlowNode flow spaces d node r → IsLeft t (node_text node r) → IsLeft t r
 past_node t flow spaces node d r h x = less t (node_text node r) (node_text node []) r (node_append node [] r) x (node_past flow spaces node d r h x.utf8)
 
-past_items : (t : List ℕ) (k : ℕ) (is : Items) (d : ℕ) (r : List ℕ) → is_close k ≡ true → AreItems d k is r → IsLeft t (items_text k is r) → IsLeft t r
-past_items t k is d r c h x = less t (items_text k is r) (items_text k is []) r (items_append k is [] r) x (items_past k is d r c h x.utf8)
+past_items : (t : List ℕ) (k : ℕ) (is : Items) (d : ℕ) (r : List ℕ) → is_close k ≡ true → AreFlowItems d k is r → IsLeft t (flow_items_text k is r) → IsLeft t r
+past_items t k is d r c h x = less t (flow_items_text k is r) (flow_items_text k is []) r (items_append k is [] r) x (items_past k is d r c h x.utf8)
 
-past_anchor : (t : List ℕ) (flow : Bool) (spaces : Option ℕ) (n g : List ℕ) (node : Node) (d : ℕ) (rest : List ℕ) → IsNode flow spaces d (anchored n g node) rest → IsLeft t (38 ∷ (n ++ (g ++ node_text node rest))) → IsLeft t (node_text node rest)
-unfolding IsNode
+past_anchor : (t : List ℕ) (flow : Bool) (spaces : Option ℕ) (n g : List ℕ) (node : FlowNode) (d : ℕ) (rest : List ℕ) → IsFlowNode flow spaces d (anchored n g node) rest → IsLeft t (38 ∷ (n ++ (g ++ node_text node rest))) → IsLeft t (node_text node rest)
+unfolding IsFlowNode
 past_anchor t flow spaces n g node d rest h x =
     let inner : List ℕ = node_text node rest in
     let named = name_past n (g ++ inner) h.0 (byte_past 38 (n ++ (g ++ inner)) (omega arith) x.utf8) in
     less t (38 ∷ (n ++ (g ++ inner))) (38 ∷ (n ++ g)) inner (ap (λ l. 38 ∷ l) (sym (append_assoc n g inner))) x (lead_past flow (begins_content flow) g inner h.1 named)
 
 mutual
-  unfolding locate locate_items node_text items_text IsNode AreItems
+  unfolding locate locate_items node_text flow_items_text IsFlowNode AreFlowItems
 
-  node_spans : (t : List ℕ) (flow : Bool) (spaces : Option ℕ) (node : Node) (d : ℕ) (rest : List ℕ) → IsNode flow spaces d node rest → IsLeft t (node_text node rest) → HasSpans t (locate (length t) node rest)
+  node_spans : (t : List ℕ) (flow : Bool) (spaces : Option ℕ) (node : FlowNode) (d : ℕ) (rest : List ℕ) → IsFlowNode flow spaces d node rest → IsLeft t (node_text node rest) → HasSpans t (locate (length t) node rest)
   node_spans t flow spaces empty d rest h x = (empty_span t rest x, empty_span t rest x, tt)
   node_spans t flow spaces (alias n) d rest h x =
       let a : List ℕ = 42 ∷ (n ++ rest) in
@@ -101,9 +101,9 @@ mutual
       (empty_span t (p ++ rest) x, s, s)
   node_spans t flow spaces (coll k g is) zero rest h x = absurd h.2
   node_spans t flow spaces (coll k g is) (suc d) rest h x =
-      let a : List ℕ = open_of k ∷ (g ++ items_text k is rest) in
-      let inner_utf8 = gap_past g (items_text k is rest) h.1 (byte_past (open_of k) (g ++ items_text k is rest) (open_low k) x.utf8) in
-      let inner = less t a (open_of k ∷ g) (items_text k is rest) refl x inner_utf8 in (
+      let a : List ℕ = opening_bracket k ∷ (g ++ flow_items_text k is rest) in
+      let inner_utf8 = gap_past g (flow_items_text k is rest) h.1 (byte_past (opening_bracket k) (g ++ flow_items_text k is rest) (open_low k) x.utf8) in
+      let inner = less t a (opening_bracket k ∷ g) (flow_items_text k is rest) refl x inner_utf8 in (
         empty_span t a x,
         span t a rest x (past_items t k is d rest h.0 h.2 inner) (node_longer (coll k g is) rest),
         holder_spans t k (locate_items (length t) k is rest) (items_spans t k is d rest h.0 h.2 inner),
@@ -116,13 +116,13 @@ mutual
       anchor_spans t n (length t - length a) (locate (length t) node rest)
       (record { ordered = omega (arith, from, longer); begins = boundary t a x; ends = content_ends t (locate (length t) node rest) spans }) spans
 
-  items_spans : (t : List ℕ) (k : ℕ) (is : Items) (d : ℕ) (rest : List ℕ) → is_close k ≡ true → AreItems d k is rest → IsLeft t (items_text k is rest) → PartsHaveSpans t (locate_items (length t) k is rest)
+  items_spans : (t : List ℕ) (k : ℕ) (is : Items) (d : ℕ) (rest : List ℕ) → is_close k ≡ true → AreFlowItems d k is rest → IsLeft t (flow_items_text k is rest) → PartsHaveSpans t (locate_items (length t) k is rest)
   items_spans t k none d rest c h x = tt
   items_spans t k (item key n s is) d rest c h x =
-      let behind : List ℕ = sep_text s (items_text k is rest) in
+      let behind : List ℕ = sep_text s (flow_items_text k is rest) in
       let inner = past_key t k key (node_text n behind) h.0 x in
       let y = past_node t true (Some 0) n d behind h.2 inner in
-      let z = past_sep t k s (items_text k is rest) h.3 y in
+      let z = past_sep t k s (flow_items_text k is rest) h.3 y in
       (key_spans t k key (node_text n behind) h.0 x, node_spans t true (Some 0) n d behind h.2 inner, items_spans t k is d rest c h.4 z)
 
 -- the node at an offset of a text

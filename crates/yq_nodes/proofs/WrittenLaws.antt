@@ -14,9 +14,9 @@ use Rattle.yq_flow_scalars.specs.Scalar.{ScalarText}
 use Rattle.yq_flow_scalars.specs.SchemaReading.{resolve}
 use Rattle.yq_flow_scalars.specs.Tree as tree
 use Rattle.yq_flow_scalars.specs.Writable.{can_write, can_write_plain, in_flow, is_string}
-use Rattle.yq_nodes.specs.Nodes.{Key, Sep, Node, empty, alias, scalar, coll, anchored, Items, none, item, key_text, sep_text, node_text, items_text, open_of}
-use Rattle.yq_nodes.specs.Values.{node_of, items, entries, item as an_item, entry}
-use Rattle.yq_nodes.specs.Written.{flow_of, flow_items, flow_sep, flow_key, flow_text, listed, entry_text}
+use Rattle.yq_nodes.specs.Nodes.{Key, Sep, FlowNode, empty, alias, scalar, coll, anchored, Items, none, item, key_text, sep_text, node_text, flow_items_text, opening_bracket}
+use Rattle.yq_nodes.specs.Values.{value_node, items, entries, plain_label as an_item, entry}
+use Rattle.yq_nodes.specs.Written.{flow_of, flow_items, flow_sep, flow_key, flow_text, comma_separated, entry_text}
 
 -- the style of a scalar can write it
 double_can : (string resolved plain : Bool) → (not string || (resolved && plain)) ≡ false → string ≡ true
@@ -40,25 +40,25 @@ pub sep_append : (sep : Sep) (r s : List ℕ) → sep_text sep (r ++ s) ≡ sep_
 sep_append sep r s = search (rules, append_assoc)
 
 mutual
-  unfolding node_text items_text
+  unfolding node_text flow_items_text
 
-  pub node_append : (n : Node) (r s : List ℕ) → node_text n (r ++ s) ≡ node_text n r ++ s
+  pub node_append : (n : FlowNode) (r s : List ℕ) → node_text n (r ++ s) ≡ node_text n r ++ s
   node_append empty r s = refl
   node_append (alias n) r s = ap (λ l. 42 ∷ l) (sym (append_assoc n r s))
   node_append (scalar p) r s = sym (append_assoc p r s)
-  node_append (coll k g is) r s = ap (λ l. open_of k ∷ l) (ap (λ l. g ++ l) (items_append k is r s) ∙ sym (append_assoc g (items_text k is r) s))
+  node_append (coll k g is) r s = ap (λ l. opening_bracket k ∷ l) (ap (λ l. g ++ l) (items_append k is r s) ∙ sym (append_assoc g (flow_items_text k is r) s))
   node_append (anchored n g node) r s =
       ap (λ l. 38 ∷ l) (ap (λ l. n ++ l) (ap (λ l. g ++ l) (node_append node r s) ∙ sym (append_assoc g (node_text node r) s)) ∙ sym (append_assoc n (g ++ node_text node r) s))
 
-  pub items_append : (k : ℕ) (is : Items) (r s : List ℕ) → items_text k is (r ++ s) ≡ items_text k is r ++ s
+  pub items_append : (k : ℕ) (is : Items) (r s : List ℕ) → flow_items_text k is (r ++ s) ≡ flow_items_text k is r ++ s
   items_append k none r s = refl
   items_append k (item key n sep is) r s =
-      let a = ap (sep_text sep) (items_append k is r s) ∙ sep_append sep (items_text k is r) s in
-      let b = ap (node_text n) a ∙ node_append n (sep_text sep (items_text k is r)) s in
-      ap (key_text key) b ∙ key_append key (node_text n (sep_text sep (items_text k is r))) s
+      let a = ap (sep_text sep) (items_append k is r s) ∙ sep_append sep (flow_items_text k is r) s in
+      let b = ap (node_text n) a ∙ node_append n (sep_text sep (flow_items_text k is r)) s in
+      ap (key_text key) b ∙ key_append key (node_text n (sep_text sep (flow_items_text k is r))) s
 
 -- the text of a node, and what follows it
-pub node_then : (n : Node) (r : List ℕ) → node_text n r ≡ node_text n [] ++ r
+pub node_then : (n : FlowNode) (r : List ℕ) → node_text n r ≡ node_text n [] ++ r
 node_then n r = node_append n [] r
 
 -- what stands behind an item, if others follow
@@ -72,35 +72,35 @@ sep_is (tree.child label n cs) r = refl
 
 -- what is written behind a collection's bracket, for these items or entries
 abbrev pub rest_text : ℕ → tree.Children → List ℕ
-rest_text k cs = items_text k (flow_items cs) []
+rest_text k cs = flow_items_text k (flow_items cs) []
 
 -- one item, and those behind it
 pub item_text : (k : ℕ) (label : tree.Label) (n : tree.Node) (cs : tree.Children) → rest_text k (tree.child label n cs) ≡ key_text (flow_key label.key) (flow_text n ++ (between cs ++ rest_text k cs))
-unfolding items_text flow_items
+unfolding flow_items_text flow_items
 item_text k label n cs = ap (key_text (flow_key label.key)) (node_then (flow_of n) _ ∙ ap (λ l. flow_text n ++ l) (sep_is cs (rest_text k cs)))
 
-items_rest : (k : ℕ) (ns : List tree.Node) → between (items ns) ++ rest_text k (items ns) ≡ listed false (map flow_text ns) ++ k ∷ []
-unfolding items_text flow_items
+items_rest : (k : ℕ) (ns : List tree.Node) → between (items ns) ++ rest_text k (items ns) ≡ comma_separated false (map flow_text ns) ++ k ∷ []
+unfolding flow_items_text flow_items
 items_rest k [] = refl
 items_rest k (n ∷ ns) = simp (item_text, append_assoc, items_rest k ns)
 
-items_all : (k : ℕ) (ns : List tree.Node) → rest_text k (items ns) ≡ listed true (map flow_text ns) ++ k ∷ []
-unfolding items_text flow_items
+items_all : (k : ℕ) (ns : List tree.Node) → rest_text k (items ns) ≡ comma_separated true (map flow_text ns) ++ k ∷ []
+unfolding flow_items_text flow_items
 items_all k [] = refl
-items_all k (n ∷ ns) = item_text k an_item n (items ns) ∙ (ap (λ l. flow_text n ++ l) (items_rest k ns) ∙ sym (append_assoc (flow_text n) (listed false (map flow_text ns)) (k ∷ [])))
+items_all k (n ∷ ns) = item_text k an_item n (items ns) ∙ (ap (λ l. flow_text n ++ l) (items_rest k ns) ∙ sym (append_assoc (flow_text n) (comma_separated false (map flow_text ns)) (k ∷ [])))
 
 entry_is : (k : ℕ) (e : List ℕ × tree.Node) (cs : tree.Children) (r : List ℕ) → between cs ++ rest_text k cs ≡ r → rest_text k (tree.child (entry e.0) e.1 cs) ≡ entry_text e ++ r
 entry_is k e cs r h = search (rules, item_text, append_assoc)
 
-entries_rest : (k : ℕ) (es : List (List ℕ × tree.Node)) → between (entries es) ++ rest_text k (entries es) ≡ listed false (map entry_text es) ++ k ∷ []
-unfolding items_text flow_items
+entries_rest : (k : ℕ) (es : List (List ℕ × tree.Node)) → between (entries es) ++ rest_text k (entries es) ≡ comma_separated false (map entry_text es) ++ k ∷ []
+unfolding flow_items_text flow_items
 entries_rest k [] = refl
 entries_rest k (e ∷ es) = search (rules, entry_is, append_assoc, entries_rest k es)
 
-entries_all : (k : ℕ) (es : List (List ℕ × tree.Node)) → rest_text k (entries es) ≡ listed true (map entry_text es) ++ k ∷ []
-unfolding items_text flow_items
+entries_all : (k : ℕ) (es : List (List ℕ × tree.Node)) → rest_text k (entries es) ≡ comma_separated true (map entry_text es) ++ k ∷ []
+unfolding flow_items_text flow_items
 entries_all k [] = refl
-entries_all k (e ∷ es) = entry_is k e (entries es) _ (entries_rest k es) ∙ sym (append_assoc (entry_text e) (listed false (map entry_text es)) (k ∷ []))
+entries_all k (e ∷ es) = entry_is k e (entries es) _ (entries_rest k es) ∙ sym (append_assoc (entry_text e) (comma_separated false (map entry_text es)) (k ∷ []))
 
 pub map_twice : {A B C : Type 0} (f : A → B) (g : B → C) (xs : List A) → map g (map f xs) ≡ map (λ x. g (f x)) xs
 map_twice f g [] = refl
@@ -110,19 +110,19 @@ abbrev Entry : Type 0
 Entry = String Global × Value
 
 -- the text of a list's value, and of a mapping's
-pub list_value : (xs : List Value) → flow_text (tree.list None (items (map node_of xs))) ≡ 91 ∷ (listed true (map (λ v. flow_text (node_of v)) xs) ++ 93 ∷ [])
+pub list_value : (xs : List Value) → flow_text (tree.list None (items (map value_node xs))) ≡ 91 ∷ (comma_separated true (map (λ v. flow_text (value_node v)) xs) ++ 93 ∷ [])
 unfolding node_text flow_of
 list_value xs = simp (items_all, map_twice)
 
-pub map_value : (es : List Entry) → flow_text (tree.map None (entries (map (λ (e : String Global × tree.Node). (string_bytes e.0, e.1)) (map (λ (e : Entry). (e.0, node_of e.1)) es)))) ≡ 123 ∷ (listed true (map (λ (e : Entry). entry_text (string_bytes e.0, node_of e.1)) es) ++ 125 ∷ [])
+pub map_value : (es : List Entry) → flow_text (tree.map None (entries (map (λ (e : String Global × tree.Node). (string_bytes e.0, e.1)) (map (λ (e : Entry). (e.0, value_node e.1)) es)))) ≡ 123 ∷ (comma_separated true (map (λ (e : Entry). entry_text (string_bytes e.0, value_node e.1)) es) ++ 125 ∷ [])
 unfolding node_text flow_of
 map_value es = simp (entries_all, string_bytes, map_twice)
 
 -- a list's node, and a mapping's
-pub node_list : (v : Vec Value Global) → node_of (values.List v) ≡ tree.list None (items (map node_of v.items))
+pub node_list : (v : Vec Value Global) → value_node (values.List v) ≡ tree.list None (items (map value_node v.items))
 node_list v = search (rules, the_lemmas)
 
-pub node_map : (v : Vec Entry Global) → node_of (values.Map v) ≡ tree.map None (entries (map (λ (e : String Global × tree.Node). (string_bytes e.0, e.1)) (map (λ (e : Entry). (e.0, node_of e.1)) v.items)))
+pub node_map : (v : Vec Entry Global) → value_node (values.Map v) ≡ tree.map None (entries (map (λ (e : String Global × tree.Node). (string_bytes e.0, e.1)) (map (λ (e : Entry). (e.0, value_node e.1)) v.items)))
 node_map v = search (rules, the_lemmas)
 
 -- a text between its brackets, added to others

@@ -6,13 +6,13 @@ use Rattle.yq_flow_scalars.specs.Text.{is_feed, is_space, is_marker, separates}
 use Rattle.yq_nodes.specs.Gaps.{IsInlineGap}
 
 -- behind this byte nobody looks: an indicator of flow, a quote, `&` or `*` (own)
-abbrev pub is_stop : ℕ → Bool
-is_stop b = is_flow_indicator b || (is_quote b || (b == 38 || b == 42))
+abbrev pub ends_lookahead : ℕ → Bool
+ends_lookahead b = is_flow_indicator b || (is_quote b || (b == 38 || b == 42))
 
 -- The same text up to such a byte, to a `:`, or to a byte that is no white space and no break, before white space, a break or the end. Where plain
 -- scalars are looked at (Some tells whether in flow), none of these goes on behind the `:` (own).
 pub data Alike : Option Bool → List ℕ → List ℕ → Type 0 where
-  stop : {f : Option Bool} {b : ℕ} {t u : List ℕ} → is_stop b ≡ true → Alike f (b ∷ t) (b ∷ u)
+  stop : {f : Option Bool} {b : ℕ} {t u : List ℕ} → ends_lookahead b ≡ true → Alike f (b ∷ t) (b ∷ u)
   colon : {flow : Bool} {t u : List ℕ} → is_safe flow t ≡ false → is_safe flow u ≡ false → Alike (Some flow) (58 ∷ t) (58 ∷ u)
   any_colon : {t u : List ℕ} → Alike None (58 ∷ t) (58 ∷ u)
   byte : {f : Option Bool} {b : ℕ} {t u : List ℕ} → is_space (b ∷ t) ≡ false → is_space (b ∷ u) ≡ false → separates t ≡ true → separates u ≡ true →

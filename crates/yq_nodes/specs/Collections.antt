@@ -2,9 +2,9 @@
 use Rattle.std.specs.Prelude.{◌≡◌, ℕ, ◌+◌, ◌-◌, suc, List, [], ◌∷◌, ◌++◌, Option, Some, None, option_and_then, length, ℤ, if◌then◌else◌}
 use Rattle.yq_flow_scalars.specs.declared.style.Place.{Place}
 use Rattle.yq_flow_scalars.specs.Paths.{Step, is_here, further}
-use Rattle.yq_nodes.specs.Entries.{EntryPieces, item_at, inside}
+use Rattle.yq_nodes.specs.Entries.{EntryPieces, item_at, path_inside}
 use Rattle.yq_nodes.specs.Inline.{depth_limit, IsInline}
-use Rattle.yq_nodes.specs.Nodes.{Node, empty, alias, scalar, coll, anchored, Items, none, item, items_text, open_of}
+use Rattle.yq_nodes.specs.Nodes.{FlowNode, empty, alias, scalar, coll, anchored, Items, none, item, flow_items_text, opening_bracket}
 use Rattle.yq_nodes.specs.Trees.{inner, key_content}
 
 -- a collection by its pieces, and the rest that follows it (YAML 1.2.2, section 7.4)
@@ -16,10 +16,10 @@ pub record CollPieces : Type 0 where
 
 -- how a collection with these items behind that gap is written before a rest (YAML 1.2.2, section 7.4)
 abbrev pub coll_text : ℕ → List ℕ → Items → List ℕ → List ℕ
-coll_text k gap is rest = open_of k ∷ (gap ++ items_text k is rest)
+coll_text k gap is rest = opening_bracket k ∷ (gap ++ flow_items_text k is rest)
 
 -- the collection that a node before a rest is, behind its anchor (own)
-abbrev pub coll_in : Node → List ℕ → Option CollPieces
+abbrev pub coll_in : FlowNode → List ℕ → Option CollPieces
 coll_in empty rest = None
 coll_in (alias n) rest = None
 coll_in (scalar p) rest = None
@@ -27,12 +27,12 @@ coll_in (coll k gap is) rest = Some (record { close = k; gap = gap; items = is; 
 coll_in (anchored n gap node) rest = coll_in node rest
 
 -- the collection to which steps lead from a node before a rest (own)
-abbrev pub coll_along : List Step → Node → List ℕ → Option CollPieces
+abbrev pub coll_along : List Step → FlowNode → List ℕ → Option CollPieces
 coll_along [] node rest = coll_in node rest
-coll_along (s ∷ ss) node rest = option_and_then (λ y. coll_along ss y.node y.rest) (inside s node rest)
+coll_along (s ∷ ss) node rest = option_and_then (λ y. coll_along ss y.node y.rest) (path_inside s node rest)
 
 -- the node with another gap and other items in its collection (own)
-abbrev pub put_coll : List ℕ → Items → Node → Node
+abbrev pub put_coll : List ℕ → Items → FlowNode → FlowNode
 put_coll g is empty = empty
 put_coll g is (alias n) = alias n
 put_coll g is (scalar p) = scalar p
@@ -40,7 +40,7 @@ put_coll g is (coll k gap others) = coll k g is
 put_coll g is (anchored n gap node) = anchored n gap (put_coll g is node)
 
 -- the node with the items of its collection changed (own)
-abbrev pub within_items : (Items → Items) → Node → Node
+abbrev pub within_items : (Items → Items) → FlowNode → FlowNode
 within_items f empty = empty
 within_items f (alias n) = alias n
 within_items f (scalar p) = scalar p
@@ -48,14 +48,14 @@ within_items f (coll k gap is) = coll k gap (f is)
 within_items f (anchored n gap node) = anchored n gap (within_items f node)
 
 -- the items with the node of the one at a step changed (own)
-abbrev pub change_item : Step → (Node → Node) → Items → Items
+abbrev pub change_item : Step → (FlowNode → FlowNode) → Items → Items
 change_item s f none = none
 change_item s f (item key n sep is) = if is_here s (inner (key_content key)) then item key (f n) sep is else item key n sep (change_item (further s) f is)
 
 -- the node with another gap and other items in the collection to which steps lead (own)
-abbrev pub put_at : List Step → List ℕ → Items → Node → Node
-put_at [] g is node = put_coll g is node
-put_at (s ∷ ss) g is node = within_items (change_item s (put_at ss g is)) node
+abbrev pub collection_put : List Step → List ℕ → Items → FlowNode → FlowNode
+collection_put [] g is node = put_coll g is node
+collection_put (s ∷ ss) g is node = within_items (change_item s (collection_put ss g is)) node
 
 -- A collection inside an inline node: where the node stands, by its place, its parent's indentation and the collections round it; the steps that
 -- lead to the collection; and its pieces (own).
@@ -63,7 +63,7 @@ pub record CollAt : Type 0 where
   pub place : Place
   pub indent : ℤ
   pub around : ℕ
-  pub node : Node
+  pub node : FlowNode
   pub rest : List ℕ
   pub steps : List Step
   pub coll : CollPieces

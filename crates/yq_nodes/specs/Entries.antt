@@ -4,15 +4,15 @@ use Rattle.yq_flow_scalars.specs.declared.piece.Piece.{Piece}
 use Rattle.yq_flow_scalars.specs.Paths.{Step, To, Nth, is_here, further}
 use Rattle.yq_nodes.specs.declared.path.Step as declared
 use Rattle.yq_nodes.specs.declared.path.Entry.{Entry}
-use Rattle.yq_nodes.specs.Nodes.{Key, Node, empty, alias, scalar, coll, anchored, Items, none, item, key_text, sep_text, node_text, items_text}
-use Rattle.yq_nodes.specs.Places.{Placed, placed, Content, nothing, name, text, sequence, mapping, Parts, end, part, key_placed, locate}
+use Rattle.yq_nodes.specs.Nodes.{Key, FlowNode, empty, alias, scalar, coll, anchored, Items, none, item, key_text, sep_text, node_text, flow_items_text}
+use Rattle.yq_nodes.specs.Places.{Placed, placed, CoreNode, nothing, name, text, sequence, mapping, Parts, end, part, key_placed, locate}
 use Rattle.yq_nodes.specs.Trees.{inner, key_content, unplaced_key}
-use Rattle.yq_nodes.specs.View.{view}
+use Rattle.yq_nodes.specs.View.{inline_view}
 
 -- the step that one of the code stands for (own)
-abbrev pub step_of : declared.Step → Step
-step_of (declared.TheVariants.Key k) = To (string_bytes k)
-step_of (declared.TheVariants.Index n) = Nth n
+abbrev pub tree_step : declared.Step → Step
+tree_step (declared.TheVariants.Key k) = To (string_bytes k)
+tree_step (declared.TheVariants.Index n) = Nth n
 
 -- an item or entry with places: its key with its piece, if it has one, and its node (own)
 abbrev pub PlacedEntry : Type 0
@@ -20,10 +20,10 @@ PlacedEntry = Option (List ℕ × Piece) × Placed
 
 -- the item or entry that one of the code shows (own)
 abbrev pub entry_view : Entry → PlacedEntry
-entry_view e = (option_map (λ k. (k.0.now, k.1)) e.key, view e.node.now)
+entry_view e = (option_map (λ k. (k.0.now, k.1)) e.key, inline_view e.node.now)
 
 -- the items or entries in a content (own)
-abbrev pub parts_in : Content → Parts
+abbrev pub parts_in : CoreNode → Parts
 parts_in nothing = end
 parts_in (name n) = end
 parts_in (text s piece) = end
@@ -35,17 +35,17 @@ abbrev pub parts_of : Placed → Parts
 parts_of (placed a s c e f) = parts_in f
 
 -- the item or entry to which a step leads (own)
-abbrev pub part_at : Step → Parts → Option PlacedEntry
-part_at s end = None
-part_at s (part key n parts) = if is_here s (inner (unplaced_key key)) then Some (key, n) else part_at (further s) parts
+abbrev pub flow_part_at : Step → Parts → Option PlacedEntry
+flow_part_at s end = None
+flow_part_at s (part key n parts) = if is_here s (inner (unplaced_key key)) then Some (key, n) else flow_part_at (further s) parts
 
 -- the item or entry to which steps lead from one (own)
 abbrev pub placed_entry_at : List Step → PlacedEntry → Option PlacedEntry
 placed_entry_at [] slot = Some slot
-placed_entry_at (s ∷ ss) slot = option_and_then (placed_entry_at ss) (part_at s (parts_of slot.1))
+placed_entry_at (s ∷ ss) slot = option_and_then (placed_entry_at ss) (flow_part_at s (parts_of slot.1))
 
 -- the place of a content that goes from c to e, if it is anything (own)
-abbrev pub place_in : Content → ℕ → ℕ → Option (ℕ × ℕ)
+abbrev pub place_in : CoreNode → ℕ → ℕ → Option (ℕ × ℕ)
 place_in nothing c e = None
 place_in (name n) c e = Some (c, e)
 place_in (text s piece) c e = Some (c, e)
@@ -76,7 +76,7 @@ entry_place slot = (entry_start slot, end_of slot.1)
 -- an item or entry by its pieces, and the rest that follows it (own)
 pub record EntryPieces : Type 0 where
   pub key : Key
-  pub node : Node
+  pub node : FlowNode
   pub rest : List ℕ
 
 -- the text of an item or entry, with the rest that follows it (own)
@@ -91,21 +91,21 @@ locate_entry total x = (key_placed total (pieces_text x) x.key, locate total x.n
 abbrev pub item_at : ℕ → Step → Items → List ℕ → Option EntryPieces
 item_at k s none rest = None
 item_at k s (item key n sep is) rest =
-    if is_here s (inner (key_content key)) then Some (record { key = key; node = n; rest = sep_text sep (items_text k is rest) })
+    if is_here s (inner (key_content key)) then Some (record { key = key; node = n; rest = sep_text sep (flow_items_text k is rest) })
     else item_at k (further s) is rest
 
 -- the same in a node (own)
-abbrev pub inside : Step → Node → List ℕ → Option EntryPieces
-inside s empty rest = None
-inside s (alias n) rest = None
-inside s (scalar p) rest = None
-inside s (coll k gap is) rest = item_at k s is rest
-inside s (anchored n gap node) rest = inside s node rest
+abbrev pub path_inside : Step → FlowNode → List ℕ → Option EntryPieces
+path_inside s empty rest = None
+path_inside s (alias n) rest = None
+path_inside s (scalar p) rest = None
+path_inside s (coll k gap is) rest = item_at k s is rest
+path_inside s (anchored n gap node) rest = path_inside s node rest
 
 -- the item or entry to which steps lead from one (own)
 abbrev pub entry_pieces_at : List Step → EntryPieces → Option EntryPieces
 entry_pieces_at [] x = Some x
-entry_pieces_at (s ∷ ss) x = option_and_then (entry_pieces_at ss) (inside s x.node x.rest)
+entry_pieces_at (s ∷ ss) x = option_and_then (entry_pieces_at ss) (path_inside s x.node x.rest)
 
 -- an item or entry stands in a text, behind some of it (own)
 pub record StandsIn (t : List ℕ) (x : EntryPieces) : Type 0 where

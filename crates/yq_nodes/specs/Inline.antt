@@ -4,7 +4,7 @@ use Rattle.yq_flow_scalars.specs.declared.style.Place.{Place}
 use Rattle.yq_flow_scalars.specs.Answers.{◌>>=◌}
 use Rattle.yq_flow_scalars.specs.Piece.{further_spaces}
 use Rattle.yq_flow_scalars.specs.Writable.{in_flow}
-use Rattle.yq_nodes.specs.Nodes.{Node, node_text, IsNode, is_bare}
+use Rattle.yq_nodes.specs.Nodes.{FlowNode, node_text, IsFlowNode, is_empty_node}
 use Rattle.yq_nodes.specs.Places.{Placed, locate, bare_placed}
 use Rattle.yq_nodes.specs.PlacedReading.{placed_node}
 
@@ -14,13 +14,13 @@ depth_limit = 64
 
 -- An inline node before a rest, below a parent of that indentation, with so many collections round it; it is something, if only an anchor
 -- (YAML 1.2.2, sections 6.9.2, 7.1 and 7.4; own).
-pub record IsInline (place : Place) (n : ℤ) (depth : ℕ) (node : Node) (rest : List ℕ) : Type 0 where
-  pub valid : IsNode (in_flow place) (further_spaces place n) (depth_limit - depth) node rest
-  pub something : not (is_bare node) ≡ true
+pub record IsInline (place : Place) (n : ℤ) (depth : ℕ) (node : FlowNode) (rest : List ℕ) : Type 0 where
+  pub valid : IsFlowNode (in_flow place) (further_spaces place n) (depth_limit - depth) node rest
+  pub something : not (is_empty_node node) ≡ true
 
 -- the inline node, with its places, that begins at this offset of the text (own)
 pub record IsInlineAt (place : Place) (n : ℤ) (depth at : ℕ) (text : List ℕ) (p : Placed) : Type 0 where
-  pub node : Node
+  pub node : FlowNode
   pub rest : List ℕ
   pub stands : drop at text ≡ node_text node rest
   pub inline : IsInline place n depth node rest

@@ -18,17 +18,17 @@ pub data Sep : Type 0 where
 mutual
   -- a node: nothing, an alias, a scalar, a collection by its closing bracket, or a node behind an anchor (YAML 1.2.2, sections 6.9.2, 7.1,
   -- 7.2, 7.3 and 7.4)
-  pub data Node : Type 0 where
-    empty : Node
-    alias : (name : List ℕ) → Node
-    scalar : (piece : List ℕ) → Node
-    coll : (close : ℕ) → (gap : List ℕ) → Items → Node
-    anchored : (name gap : List ℕ) → Node → Node
+  pub data FlowNode : Type 0 where
+    empty : FlowNode
+    alias : (name : List ℕ) → FlowNode
+    scalar : (piece : List ℕ) → FlowNode
+    coll : (close : ℕ) → (gap : List ℕ) → Items → FlowNode
+    anchored : (name gap : List ℕ) → FlowNode → FlowNode
 
   -- items or entries in order (YAML 1.2.2, section 7.4)
   pub data Items : Type 0 where
     none : Items
-    item : Key → Node → Sep → Items → Items
+    item : Key → FlowNode → Sep → Items → Items
 
 -- how a key is written before a rest (YAML 1.2.2, section 7.4.2)
 abbrev pub key_text : Key → List ℕ → List ℕ
@@ -41,8 +41,8 @@ sep_text (last b) rest = b ++ rest
 sep_text (comma b g) rest = b ++ (44 ∷ (g ++ rest))
 
 -- the bracket that opens: `{` of `}`, and `[` of `]` (YAML 1.2.2, section 7.4)
-abbrev pub open_of : ℕ → ℕ
-open_of k = if k == 125 then 123 else 91
+abbrev pub opening_bracket : ℕ → ℕ
+opening_bracket k = if k == 125 then 123 else 91
 
 -- `]` or `}` (YAML 1.2.2, section 7.4)
 abbrev pub is_close : ℕ → Bool
@@ -50,22 +50,22 @@ is_close k = k == 93 || k == 125
 
 unfoldable mutual
   -- how a node is written before a rest (YAML 1.2.2, sections 6.9.2, 7.1 and 7.4)
-  pub node_text : Node → List ℕ → List ℕ
+  pub node_text : FlowNode → List ℕ → List ℕ
   node_text empty rest = rest
   node_text (alias n) rest = 42 ∷ (n ++ rest)
   node_text (scalar p) rest = p ++ rest
-  node_text (coll k g is) rest = open_of k ∷ (g ++ items_text k is rest)
+  node_text (coll k g is) rest = opening_bracket k ∷ (g ++ flow_items_text k is rest)
   node_text (anchored n g node) rest = 38 ∷ (n ++ (g ++ node_text node rest))
 
   -- how items are written with the closing bracket (YAML 1.2.2, section 7.4)
-  pub items_text : ℕ → Items → List ℕ → List ℕ
-  items_text k none rest = k ∷ rest
-  items_text k (item key n s is) rest = key_text key (node_text n (sep_text s (items_text k is rest)))
+  pub flow_items_text : ℕ → Items → List ℕ → List ℕ
+  flow_items_text k none rest = k ∷ rest
+  flow_items_text k (item key n s is) rest = key_text key (node_text n (sep_text s (flow_items_text k is rest)))
 
 -- this byte is in front (own)
-abbrev pub first_is : ℕ → List ℕ → Bool
-first_is k [] = false
-first_is k (b ∷ bs) = b == k
+abbrev pub begins_with : ℕ → List ℕ → Bool
+begins_with k [] = false
+begins_with k (b ∷ bs) = b == k
 
 -- a byte that the name of an anchor holds: no white space, no break, no indicator of flow (YAML 1.2.2, section 6.9.2)
 abbrev pub in_name : ℕ → Bool
@@ -79,11 +79,11 @@ pub record IsName (p rest : List ℕ) : Type 0 where
 
 -- an alias, a scalar or a collection may begin here (YAML 1.2.2, section 7.5)
 abbrev pub begins_content : Bool → List ℕ → Bool
-begins_content flow t = first_is 42 t || (first_is 91 t || (first_is 123 t || begins_scalar flow t))
+begins_content flow t = begins_with 42 t || (begins_with 91 t || (begins_with 123 t || begins_scalar flow t))
 
 -- these or an anchor (YAML 1.2.2, section 7.5)
 abbrev pub begins_node : Bool → List ℕ → Bool
-begins_node flow t = first_is 38 t || begins_content flow t
+begins_node flow t = begins_with 38 t || begins_content flow t
 
 -- what may stand between an anchor and its node: in a flow collection a gap, else white space on the line (YAML 1.2.2, section 6.9.2; own)
 abbrev pub IsApart : Bool → List ℕ → List ℕ → Type 0
@@ -98,7 +98,7 @@ IsLead flow begins p rest =
 
 -- Behind the `:` of a plain key stands white space, a break, `,` or `}` (YAML 1.2.2, section 7.4.2; own).
 abbrev pub ends_key : List ℕ → List ℕ → Bool
-ends_key p rest = is_quoted p || (separates rest || (first_is 44 rest || first_is 125 rest))
+ends_key p rest = is_quoted p || (separates rest || (begins_with 44 rest || begins_with 125 rest))
 
 -- An entry of a mapping has a key of one line, an item of a sequence none (YAML 1.2.2, section 7.4.2).
 abbrev pub IsInlineKey : ℕ → Key → List ℕ → Type 0
@@ -112,19 +112,19 @@ IsInlineKey k (keyed t b g) rest =
 
 -- Behind the last item stands the closing bracket; a comma may stand before it (YAML 1.2.2, section 7.4).
 abbrev pub IsSep : ℕ → Sep → List ℕ → Type 0
-IsSep k (last b) rest = IsInlineGap b rest × (first_is k rest ≡ true)
+IsSep k (last b) rest = IsInlineGap b rest × (begins_with k rest ≡ true)
 IsSep k (comma b g) rest = IsInlineGap b (44 ∷ (g ++ rest)) × IsInlineGap g rest
 
 -- nothing, not even an anchor (YAML 1.2.2, section 7.2)
-abbrev pub is_bare : Node → Bool
-is_bare empty = true
-is_bare (alias n) = false
-is_bare (scalar p) = false
-is_bare (coll k g is) = false
-is_bare (anchored n g node) = false
+abbrev pub is_empty_node : FlowNode → Bool
+is_empty_node empty = true
+is_empty_node (alias n) = false
+is_empty_node (scalar p) = false
+is_empty_node (coll k g is) = false
+is_empty_node (anchored n g node) = false
 
 -- a node that an anchor may stand before: no alias, and none that has one (YAML 1.2.2, sections 6.9.2 and 7.1)
-abbrev pub takes_anchor : Node → Bool
+abbrev pub takes_anchor : FlowNode → Bool
 takes_anchor empty = true
 takes_anchor (alias n) = false
 takes_anchor (scalar p) = true
@@ -144,24 +144,24 @@ Deeper (suc d) P = P d
 unfoldable mutual
   -- A node before a rest, in a flow collection or not, with at most d collections nested; further lines of a plain scalar begin with so many
   -- spaces at least (YAML 1.2.2, sections 6.9.2, 7.1, 7.2, 7.3 and 7.4).
-  pub IsNode : Bool → Option ℕ → ℕ → Node → List ℕ → Type 0
-  IsNode flow spaces d empty rest = (begins_content flow rest ≡ false) × (first_is 38 rest ≡ false)
-  IsNode flow spaces d (alias n) rest = IsName n rest
-  IsNode flow spaces d (scalar p) rest = IsScalarAt flow spaces p rest
-  IsNode flow spaces d (coll k g is) rest = (is_close k ≡ true) × IsInlineGap g (items_text k is rest) × Deeper d (λ e. AreItems e k is rest)
-  IsNode flow spaces d (anchored n g node) rest =
+  pub IsFlowNode : Bool → Option ℕ → ℕ → FlowNode → List ℕ → Type 0
+  IsFlowNode flow spaces d empty rest = (begins_content flow rest ≡ false) × (begins_with 38 rest ≡ false)
+  IsFlowNode flow spaces d (alias n) rest = IsName n rest
+  IsFlowNode flow spaces d (scalar p) rest = IsScalarAt flow spaces p rest
+  IsFlowNode flow spaces d (coll k g is) rest = (is_close k ≡ true) × IsInlineGap g (flow_items_text k is rest) × Deeper d (λ e. AreFlowItems e k is rest)
+  IsFlowNode flow spaces d (anchored n g node) rest =
       IsName n (g ++ node_text node rest)
       × IsLead flow (begins_content flow) g (node_text node rest)
-      × ((is_bare node || not (is_empty g)) ≡ true)
+      × ((is_empty_node node || not (is_empty g)) ≡ true)
       × (takes_anchor node ≡ true)
-      × IsNode flow spaces d node rest
+      × IsFlowNode flow spaces d node rest
 
   -- items before the rest that follows their closing bracket; without a key an item isn't bare (YAML 1.2.2, section 7.4)
-  pub AreItems : ℕ → ℕ → Items → List ℕ → Type 0
-  AreItems d k none rest = Unit {0}
-  AreItems d k (item key n s is) rest =
-      IsInlineKey k key (node_text n (sep_text s (items_text k is rest)))
-      × ((is_keyed key || not (is_bare n)) ≡ true)
-      × IsNode true (Some 0) d n (sep_text s (items_text k is rest))
-      × IsSep k s (items_text k is rest)
-      × AreItems d k is rest
+  pub AreFlowItems : ℕ → ℕ → Items → List ℕ → Type 0
+  AreFlowItems d k none rest = Unit {0}
+  AreFlowItems d k (item key n s is) rest =
+      IsInlineKey k key (node_text n (sep_text s (flow_items_text k is rest)))
+      × ((is_keyed key || not (is_empty_node n)) ≡ true)
+      × IsFlowNode true (Some 0) d n (sep_text s (flow_items_text k is rest))
+      × IsSep k s (flow_items_text k is rest)
+      × AreFlowItems d k is rest

@@ -3,7 +3,7 @@ use Rattle.std.specs.Prelude.{◌≡◌, ℕ, suc, ◌<◌, ◌≤◌, List, Opt
 use Rattle.std.specs.Str.{IsCharBoundary}
 use Rattle.yq_flow_scalars.specs.declared.piece.Piece.{Piece}
 use Rattle.yq_nodes.specs.Entries.{start_of, end_of, entry_start}
-use Rattle.yq_nodes.specs.Places.{Placed, placed, Content, nothing, name, text, sequence, mapping, Parts, end, part}
+use Rattle.yq_nodes.specs.Places.{Placed, placed, CoreNode, nothing, name, text, sequence, mapping, Parts, end, part}
 
 -- from one character of a text to another, or to its end (own)
 pub record IsSpan (t : List ℕ) (from to : ℕ) : Type 0 where
@@ -22,7 +22,7 @@ abbrev mutual
   HasSpans t (placed a s c e f) = IsSpan t s c × IsSpan t c e × ContentHasSpans t f
 
   -- the same of what a collection holds (own)
-  pub ContentHasSpans : List ℕ → Content → Type 0
+  pub ContentHasSpans : List ℕ → CoreNode → Type 0
   ContentHasSpans t nothing = ⊤
   ContentHasSpans t (name n) = ⊤
   ContentHasSpans t (text s p) = IsSpan t p.start p.end
@@ -46,7 +46,7 @@ abbrev mutual
 
   -- a content that goes from one place to another: a scalar's piece is all of it, and the items or entries of a collection stand behind its
   -- bracket (YAML 1.2.2, section 7.4)
-  pub LiesInside : ℕ → ℕ → Content → Type 0
+  pub LiesInside : ℕ → ℕ → CoreNode → Type 0
   LiesInside from to nothing = ⊤
   LiesInside from to (name n) = ⊤
   LiesInside from to (text s p) = (p.start ≡ from) × (p.end ≡ to)

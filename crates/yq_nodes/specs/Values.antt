@@ -7,8 +7,8 @@ use Rattle.yq_nodes.specs.declared.value.Value.{Value, fold-Value}
 use Rattle.yq_nodes.specs.declared.value.Value.TheOpen.{Value-F}
 
 -- what is told of an item without comments (own)
-abbrev pub item : Label
-item = record { key = None; head_comment = []; line_comment = None }
+abbrev pub plain_label : Label
+plain_label = record { key = None; head_comment = []; line_comment = None }
 
 -- what is told of an entry of that key without comments (own)
 abbrev pub entry : List ℕ → Label
@@ -17,7 +17,7 @@ entry k = record { key = Some k; head_comment = []; line_comment = None }
 -- these nodes as items, in order (own)
 abbrev pub items : List Node → Children
 items [] = tree.none
-items (n ∷ ns) = tree.child item n (items ns)
+items (n ∷ ns) = tree.child plain_label n (items ns)
 
 -- these keys and nodes as entries, in order (own)
 abbrev pub entries : List (List ℕ × Node) → Children
@@ -31,16 +31,16 @@ value_step (Value-F.List v) = tree.list None (items v.items)
 value_step (Value-F.Map v) = tree.map None (entries (map (λ e. (string_bytes e.0, e.1)) v.items))
 
 -- the node that a value of the code stands for (own)
-abbrev pub node_of : Value → Node
-node_of = fold-Value Node value_step
+abbrev pub value_node : Value → Node
+value_node = fold-Value Node value_step
 
 -- the key and the node that an entry of the code stands for (own)
 abbrev pub field_of : String Global × Value → List ℕ × Node
-field_of e = (string_bytes e.0, node_of e.1)
+field_of e = (string_bytes e.0, value_node e.1)
 
 -- the items that values of the code stand for (own)
 abbrev pub items_of : List Value → Children
-items_of vs = items (map node_of vs)
+items_of vs = items (map value_node vs)
 
 -- the entries that those of the code stand for (own)
 abbrev pub entries_of : List (String Global × Value) → Children

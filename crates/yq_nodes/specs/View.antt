@@ -8,7 +8,7 @@ use Rattle.yq_nodes.specs.declared.inline.Inline.{Inline}
 use Rattle.yq_nodes.specs.declared.inline.Form.{Form}
 use Rattle.yq_nodes.specs.declared.inline.Form.TheOpen.{Inline-F, Form-F}
 use Rattle.yq_nodes.specs.declared.inline.Form.TheFolds.{fold-Inline, fold-Form}
-use Rattle.yq_nodes.specs.Places.{Placed, placed, Content, nothing, name, text, sequence, mapping, Parts, end, part}
+use Rattle.yq_nodes.specs.Places.{Placed, placed, CoreNode, nothing, name, text, sequence, mapping, Parts, end, part}
 
 -- items before others (own)
 abbrev pub put_items : List Placed → Parts → Parts
@@ -26,7 +26,7 @@ anchor_name None = None
 anchor_name (Some a) = Some a.now
 
 -- one level of what a node is (own)
-abbrev pub form_step : Form-F Content Placed → Content
+abbrev pub form_step : Form-F CoreNode Placed → CoreNode
 form_step Form-F.Empty = nothing
 form_step (Form-F.Alias n) = name n.now
 form_step (Form-F.Scalar s p) = text s p
@@ -34,24 +34,24 @@ form_step (Form-F.List v) = sequence (put_items v.items end)
 form_step (Form-F.Map v) = mapping (put_entries v.items end)
 
 -- one level of a node (own)
-abbrev pub inline_step : Inline-F Content Placed → Placed
+abbrev pub inline_step : Inline-F CoreNode Placed → Placed
 inline_step i = placed (anchor_name i.anchor) i.start i.content i.end i.form
 
 -- the node that an `Inline` shows (own)
-abbrev pub view : Inline → Placed
-view = fold-Inline Content Placed form_step inline_step
+abbrev pub inline_view : Inline → Placed
+inline_view = fold-Inline CoreNode Placed form_step inline_step
 
 -- what a `Form` shows (own)
-abbrev pub form_view : Form → Content
-form_view = fold-Form Content Placed form_step inline_step
+abbrev pub form_view : Form → CoreNode
+form_view = fold-Form CoreNode Placed form_step inline_step
 
 -- the items that these show, before others (own)
 abbrev pub items_view : List Inline → Parts → Parts
-items_view is = put_items (map view is)
+items_view is = put_items (map inline_view is)
 
 -- an entry with the node that it shows (own)
 abbrev pub pair_view : String Global × Piece × Inline → String Global × Piece × Placed
-pair_view e = (e.0, e.1, view e.2)
+pair_view e = (e.0, e.1, inline_view e.2)
 
 -- the entries that these show, before others (own)
 abbrev pub entries_view : List (String Global × Piece × Inline) → Parts → Parts

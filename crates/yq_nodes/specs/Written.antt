@@ -7,16 +7,16 @@ use Rattle.yq_flow_scalars.specs.declared.style.Place.TheVariants as places
 use Rattle.yq_flow_scalars.specs.Scalar.{ScalarText, string_of}
 use Rattle.yq_flow_scalars.specs.Tree as tree
 use Rattle.yq_flow_scalars.specs.Writable.{can_write}
-use Rattle.yq_flow_scalars.specs.Written.{written}
-use Rattle.yq_nodes.specs.Nodes.{Key, bare, keyed, Sep, last, comma, Node, alias, scalar, coll, Items, none, item, node_text}
+use Rattle.yq_flow_scalars.specs.Written.{written_scalar}
+use Rattle.yq_nodes.specs.Nodes.{Key, bare, keyed, Sep, last, comma, FlowNode, alias, scalar, coll, Items, none, item, node_text}
 
 -- the style in which a scalar is written there: plain if this can write it, else double-quoted (own)
-abbrev pub style_at : ScalarText → Place → Style
-style_at s place = if can_write s styles.Plain place then styles.Plain else styles.Double
+abbrev pub written_style : ScalarText → Place → Style
+written_style s place = if can_write s styles.Plain place then styles.Plain else styles.Double
 
 -- the scalar written so (own)
 unfoldable pub scalar_text : ScalarText → Place → List ℕ
-scalar_text s place = written (style_at s place) s.text
+scalar_text s place = written_scalar (written_style s place) s.text
 
 -- the key of an entry, written as a string, with `:` and a space; an item has none (own)
 abbrev pub flow_key : Option (List ℕ) → Key
@@ -30,7 +30,7 @@ flow_sep (tree.child label n cs) = comma [] (32 ∷ [])
 
 unfoldable mutual
   -- a node in flow style, without its anchor: `[a, b]`, `{k: v}` (YAML 1.2.2, section 7.4; own)
-  pub flow_of : tree.Node → Node
+  pub flow_of : tree.Node → FlowNode
   flow_of (tree.alias n) = alias n
   flow_of (tree.scalar a kind text) = scalar (scalar_text (record { kind = kind; text = text }) places.Flow)
   flow_of (tree.list a cs) = coll 93 [] (flow_items cs)
@@ -50,10 +50,10 @@ abbrev pub key_front : List ℕ → List ℕ
 key_front k = scalar_text (string_of k) places.FlowKey ++ 58 ∷ 32 ∷ []
 
 -- texts with a comma and a space between them; first tells that nothing stands before them (YAML 1.2.2, section 7.4; own)
-abbrev pub listed : Bool → List (List ℕ) → List ℕ
-listed first [] = []
-listed true (x ∷ xs) = x ++ listed false xs
-listed false (x ∷ xs) = 44 ∷ 32 ∷ (x ++ listed false xs)
+abbrev pub comma_separated : Bool → List (List ℕ) → List ℕ
+comma_separated first [] = []
+comma_separated true (x ∷ xs) = x ++ comma_separated false xs
+comma_separated false (x ∷ xs) = 44 ∷ 32 ∷ (x ++ comma_separated false xs)
 
 -- the text of an entry (YAML 1.2.2, section 7.4.2; own)
 abbrev pub entry_text : List ℕ × tree.Node → List ℕ

@@ -33,7 +33,7 @@ fn goes(before: Before, first: u8, text: &[u8], after: &[u8]) -> bool
 
 /// What stands before the byte behind this one.
 fn next(before: Before, first: u8) -> Before
-    ensures { result ≡ spec.next before first }
+    ensures { result ≡ spec.next_gap_place before first }
 {
     if first == b'\n' {
         Before::Break
@@ -46,7 +46,7 @@ fn next(before: Before, first: u8) -> Before
 
 /// Whether a line begins here.
 fn is_break(before: Before) -> bool
-    ensures { result ≡ spec.is_break before }
+    ensures { result ≡ spec.at_line_start before }
 {
     matches!(before, Before::Break)
 }
@@ -54,9 +54,9 @@ fn is_break(before: Before) -> bool
 /// How long the gap in front is, in bytes, and whether what follows begins a line.
 #[inline(always)]
 pub fn gap_len(text: &[u8]) -> (usize, bool)
-    ensures len { result.0 ≡ reading.gap_len token text.now }
+    ensures len { result.0 ≡ reading.flow_gap_len token text.now }
     ensures within { result.0 ≤ length text.now }
-    ensures line { result.1 ≡ spec.is_break (reading.gap_end token text.now) }
+    ensures line { result.1 ≡ spec.at_line_start (reading.gap_end token text.now) }
 {
     let mut n = 0;
     let mut before = Before::Token;

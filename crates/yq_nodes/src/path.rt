@@ -3,7 +3,7 @@ ghost use Rattle.std.specs.Prelude.{◌≡◌, None, map, option_map};
 ghost use Rattle.yq_flow_scalars.specs.Paths as paths;
 ghost use Rattle.yq_nodes.specs.Entries as spec;
 ghost use Rattle.yq_nodes.specs.Trees.{placed_tree};
-ghost use Rattle.yq_nodes.specs.View.{entries_end, items_end, view};
+ghost use Rattle.yq_nodes.specs.View.{entries_end, items_end, inline_view};
 
 use crate::inline::{Form, Inline};
 use yq_flow_scalars::Piece;
@@ -29,7 +29,7 @@ pub struct Entry<'n, 't> {
 /// The item of that index.
 fn item_at<'n, 't>(items: &'n Vec<Inline<'t>>, index: usize) -> Option<Entry<'n, 't>>
     ensures { option_map spec.entry_view result ≡
-        spec.part_at (paths.Nth index) (items_end items.now.items) }
+        spec.flow_part_at (paths.Nth index) (items_end items.now.items) }
 {
     match items.get(index) {
         Some(node) => Some(Entry { key: None, node }),
@@ -43,7 +43,7 @@ fn entry_at<'n, 't>(
     key: &str,
 ) -> Option<Entry<'n, 't>>
     ensures { option_map spec.entry_view result ≡
-        spec.part_at (paths.To key.now) (entries_end entries.now.items) }
+        spec.flow_part_at (paths.To key.now) (entries_end entries.now.items) }
 {
     'each: for entry in entries {
         if entry.0.as_str() == key {
@@ -59,7 +59,7 @@ fn entry_at<'n, 't>(
 /// The item to which the step leads.
 fn item_of<'n, 't>(items: &'n Vec<Inline<'t>>, step: &Step) -> Option<Entry<'n, 't>>
     ensures { option_map spec.entry_view result ≡
-        spec.part_at (spec.step_of step.now) (items_end items.now.items) }
+        spec.flow_part_at (spec.tree_step step.now) (items_end items.now.items) }
 {
     match step {
         Step::Key(_) => None,
@@ -73,7 +73,7 @@ fn entry_of<'n, 't>(
     step: &Step,
 ) -> Option<Entry<'n, 't>>
     ensures { option_map spec.entry_view result ≡
-        spec.part_at (spec.step_of step.now) (entries_end entries.now.items) }
+        spec.flow_part_at (spec.tree_step step.now) (entries_end entries.now.items) }
 {
     match step {
         Step::Key(key) => entry_at(entries, key.as_str()),
@@ -85,7 +85,7 @@ impl<'t> Inline<'t> {
     /// The item or entry to which a step leads.
     pub fn part(&self, step: &Step) -> Option<Entry<'_, 't>>
         ensures { option_map spec.entry_view result ≡
-            spec.part_at (spec.step_of step.now) (spec.parts_of (view self.now)) }
+            spec.flow_part_at (spec.tree_step step.now) (spec.parts_of (inline_view self.now)) }
     {
         match &self.form {
             Form::List(items) => item_of(items, step),
@@ -97,7 +97,7 @@ impl<'t> Inline<'t> {
     /// The item or entry at a path from this node, which itself is the entry of the empty path.
     fn find(&self, steps: &[Step]) -> Option<Entry<'_, 't>>
         ensures { option_map spec.entry_view result ≡
-            spec.placed_entry_at (map spec.step_of steps.now) (None, view self.now) }
+            spec.placed_entry_at (map spec.tree_step steps.now) (None, inline_view self.now) }
     {
         let mut found = Entry {
             key: None,
@@ -114,10 +114,10 @@ impl<'t> Inline<'t> {
     pub fn entry(&self, steps: &[Step]) -> Option<Entry<'_, 't>>
         // It is the one to which the steps lead, with its places.
         ensures exact { option_map spec.entry_view result ≡
-            spec.placed_entry_at (map spec.step_of steps.now) (None, view self.now) }
+            spec.placed_entry_at (map spec.tree_step steps.now) (None, inline_view self.now) }
         // There is one exactly where the path exists in the node's tree, and its node is the one there.
-        ensures node { option_map (λ e. placed_tree (view e.node.now)) result ≡
-            paths.node_at (map spec.step_of steps.now) (placed_tree (view self.now)) }
+        ensures node { option_map (λ e. placed_tree (inline_view e.node.now)) result ≡
+            paths.node_at (map spec.tree_step steps.now) (placed_tree (inline_view self.now)) }
     {
         self.find(steps)
     }
@@ -125,7 +125,7 @@ impl<'t> Inline<'t> {
     /// Where the node's content begins and ends, in bytes: the node without its anchor. Nothing where
     /// nothing but perhaps an anchor is written.
     pub fn content_place(&self) -> Option<(usize, usize)>
-        ensures { result ≡ spec.content_place (view self.now) }
+        ensures { result ≡ spec.content_place (inline_view self.now) }
     {
         match self.form {
             Form::Empty => None,

@@ -5,7 +5,7 @@ ghost use Rattle.yq_nodes.specs.Scalars as scalars;
 
 /// Whether this byte is in front.
 pub fn first_is(k: u8, text: &[u8]) -> bool
-    ensures { result ≡ nodes.first_is k text.now }
+    ensures { result ≡ nodes.begins_with k text.now }
 {
     match text {
         [] => false,
@@ -16,8 +16,8 @@ pub fn first_is(k: u8, text: &[u8]) -> bool
 /// What follows this ASCII byte in front.
 pub fn strip(k: u8, text: &str) -> Option<&str>
     requires { k < 128 }
-    ensures { MatchOption result (nodes.first_is k text.now ≡ false)
-        (λ r. (nodes.first_is k text.now ≡ true) × (r.now ≡ drop 1 text.now) ×
+    ensures { MatchOption result (nodes.begins_with k text.now ≡ false)
+        (λ r. (nodes.begins_with k text.now ≡ true) × (r.now ≡ drop 1 text.now) ×
         (length r.now < length text.now)) }
 {
     if first_is(k, text.as_bytes()) {

@@ -1,6 +1,6 @@
 //! What an operation exchanges in a text, by its kind and by what stands at its place.
 ghost use Rattle.std.specs.Prelude.{◌≡◌, ◌∷◌, IfOk, [], Some, None, if◌then◌else◌};
-ghost use Rattle.yq_nodes.specs.Values.{node_of};
+ghost use Rattle.yq_nodes.specs.Values.{value_node};
 ghost use Rattle.yq_lines.specs.Bodies.{borrowed};
 ghost use Rattle.yq_cut.specs.Rows.{cut_text};
 ghost use Rattle.yq_documents.specs.Located.{steps_of};
@@ -11,7 +11,7 @@ ghost use Rattle.yq_meaning.specs.Operations.{operation_of};
 ghost use Rattle.yq_script.specs.Script.{keep};
 ghost use Rattle.yq_edits.specs.Edits as spec;
 ghost use Rattle.yq_edits.specs.Answers.{GivesSegments};
-ghost use Rattle.yq_edits.specs.Replacing.{is_kept as is_kept_there};
+ghost use Rattle.yq_edits.specs.Replacing.{keeps_scalar as is_kept_there};
 ghost use Rattle.yq_edits.specs.ReplaceEdits.{value_put_at as value_put_there};
 
 use std::alloc::{AllocError, Global};
@@ -34,7 +34,7 @@ fn unless_kept<'d>(
     segments: Option<Segments<'d>>,
 ) -> Result<Option<Segments<'d>>, AllocError>
     ensures { GivesSegments result (if is_kept_there (node_in path.now.doc (steps_of path.now)
-        (cut_of cut.now)) (node_of value.now) then Some (keep (cut_text (cut_of cut.now)) ∷ [])
+        (cut_of cut.now)) (value_node value.now) then Some (keep (cut_text (cut_of cut.now)) ∷ [])
         else segments.entry) }
 {
     let stays = is_kept(alloc, cut, path, value)?;
@@ -52,9 +52,9 @@ fn replaced_inside<'d>(
     path: &Path,
     value: &Value,
 ) -> Result<Option<Segments<'d>>, AllocError>
-    ensures { value_put_there path.now.doc (steps_of path.now) (node_of value.now)
-        (cut_of cut.now) ≡ None → GivesSegments result (spec.replaced path.now.doc (steps_of path.now)
-        (node_of value.now) (cut_of cut.now)) }
+    ensures { value_put_there path.now.doc (steps_of path.now) (value_node value.now)
+        (cut_of cut.now) ≡ None → GivesSegments result (spec.replace_segments path.now.doc (steps_of path.now)
+        (value_node value.now) (cut_of cut.now)) }
 {
     let inside = put_in_flow(alloc, cut, path, value)?;
     let Some(segments) = inside else {
@@ -70,7 +70,7 @@ fn replaced<'d>(
     path: &Path,
     value: &Value,
 ) -> Result<Option<Segments<'d>>, AllocError>
-    ensures { GivesSegments result (spec.replaced path.now.doc (steps_of path.now) (node_of value.now)
+    ensures { GivesSegments result (spec.replace_segments path.now.doc (steps_of path.now) (value_node value.now)
         (cut_of cut.now)) }
 {
     let outside = value_put_at(alloc, cut, path, value)?;
@@ -90,7 +90,7 @@ fn appended<'d>(
     value: &Value,
 ) -> Result<Option<Segments<'d>>, AllocError>
     ensures { GivesSegments result (spec.appended path.now.doc (steps_of path.now) (borrowed key.entry)
-        (node_of value.now) (cut_of cut.now)) }
+        (value_node value.now) (cut_of cut.now)) }
 {
     if let Some(segments) = more_at(alloc, cut, path, key, value)? {
         return Ok(Some(segments));
@@ -152,7 +152,7 @@ fn edits<'d>(
     cut: &CutText<'_, 'd>,
     op: &Op,
 ) -> Result<Option<Segments<'d>>, AllocError>
-    ensures { GivesSegments result (spec.edits (operation_of op.now) (cut_of cut.now)) }
+    ensures { GivesSegments result (spec.op_edits (operation_of op.now) (cut_of cut.now)) }
 {
     match op {
         Op::Replace(path, value) => replaced(alloc, cut, path, value),
@@ -171,7 +171,7 @@ pub fn op_segments<'d>(
     op: &Op,
 ) -> Result<Segments<'d>, AllocError>
     ensures { IfOk result (λ ss. ss ≡
-        spec.or_stay (cut_of cut.now) (spec.edits (operation_of op.now) (cut_of cut.now))) }
+        spec.or_stay (cut_of cut.now) (spec.op_edits (operation_of op.now) (cut_of cut.now))) }
 {
     match edits(alloc, cut, op)? {
         Some(segments) => Ok(segments),

@@ -17,12 +17,12 @@ use Rattle.yq_cut.proofs.seams.SeamLaws.{rows_text-append}
 use Rattle.yq_cut.proofs.splices.SpliceTexts.{own_gap, own_end, first_text}
 use Rattle.yq_row_places.specs.CollectionEnds.{CollectionEnd, is_broken}
 use Rattle.yq_documents.specs.Documents.{lead_of}
-use Rattle.yq_lines.specs.Lines.{lines_from, lines_of}
+use Rattle.yq_lines.specs.Lines.{lines_from, lines_of_rows}
 use Rattle.yq_documents.specs.Ready.{begins_no_node}
 use Rattle.yq_documents.specs.Reading.{read_at}
 use Rattle.yq_row_places.specs.RowPaths.{IsReadable}
 use Rattle.yq_block.specs.declared.layout.Layout.{Layout}
-use Rattle.yq_block.specs.Alone.{alone}
+use Rattle.yq_block.specs.Alone.{sole_collection}
 use Rattle.yq_block.specs.BlockRows.{node_rows}
 use Rattle.yq_block.specs.BlockText.{block_value}
 use Rattle.yq_block.proofs.EndLaws.{line_ends}
@@ -69,14 +69,14 @@ first_same : (others : List Row) (r : Row) (a b : List Row) (f g : List ℕ) →
 first_same [] r a b f g = refl
 first_same (y ∷ others) r a b f g = refl
 
-row_begins : (r : Row) (a b : List Row) → begins_no_node (lines_of (r ∷ a)) ≡ begins_no_node (lines_of (r ∷ b))
+row_begins : (r : Row) (a b : List Row) → begins_no_node (lines_of_rows (r ∷ a)) ≡ begins_no_node (lines_of_rows (r ∷ b))
 row_begins r a b = go r.dashes
   where
-    go : (ns : List ℕ) → begins_no_node (lines_from (comments.head_comment r.gap) r.column ns r.mark r.content ++ lines_of a) ≡ begins_no_node (lines_from (comments.head_comment r.gap) r.column ns r.mark r.content ++ lines_of b)
+    go : (ns : List ℕ) → begins_no_node (lines_from (comments.head_comment r.gap) r.column ns r.mark r.content ++ lines_of_rows a) ≡ begins_no_node (lines_from (comments.head_comment r.gap) r.column ns r.mark r.content ++ lines_of_rows b)
     go [] = refl
     go (n ∷ ns) = refl
 
-begins_same : (others : List Row) (r : Row) (a b : List Row) → begins_no_node (lines_of ((others ++ (r ∷ [])) ++ a)) ≡ begins_no_node (lines_of ((others ++ (r ∷ [])) ++ b))
+begins_same : (others : List Row) (r : Row) (a b : List Row) → begins_no_node (lines_of_rows ((others ++ (r ∷ [])) ++ a)) ≡ begins_no_node (lines_of_rows ((others ++ (r ∷ [])) ++ b))
 begins_same [] r a b = row_begins r a b
 begins_same (y ∷ others) r a b = row_begins y ((others ++ (r ∷ [])) ++ a) ((others ++ (r ∷ [])) ++ b)
 
@@ -96,7 +96,7 @@ module _ (doc : ℕ) (steps : List Step) (key : Option (List ℕ)) (v : Node) (c
   place = e doc steps c x read at
 
   abbrev new : List Row
-  new = node_rows l x.column (break_text l.br) (alone key v)
+  new = node_rows l x.column (break_text l.br) (sole_collection key v)
 
   abbrev lines : List ℕ
   lines = entry_lines l x.column key v
@@ -117,8 +117,8 @@ module _ (doc : ℕ) (steps : List Step) (key : Option (List ℕ)) (v : Node) (c
       ∙ (sym (append_assoc place.start (rows_text place.front []) (rows_text new (rows_text place.back (part.end ++ rest))))
       ∙ ((λ i. sym place.before_is i ++ rows_text new (sym place.behind_is i))
       ∙ ap (λ z. x.before ++ z)
-      (value_spelled (alone key v) l x.column (break_text l.br) x.behind w.filled w.value
-      ∙ (sym (append_assoc (replicate x.column 32) (block_value l x.column (alone key v)) (break_text l.br ++ x.behind))
+      (value_spelled (sole_collection key v) l x.column (break_text l.br) x.behind w.filled w.value
+      ∙ (sym (append_assoc (replicate x.column 32) (block_value l x.column (sole_collection key v)) (break_text l.br ++ x.behind))
       ∙ (sym (append_assoc lines (break_text l.br) x.behind) ∙ ap (λ z. (lines ++ break_text l.br) ++ z) (sym (append-nil x.behind))))))))
 
   readable : length (new_text (put_segments x (lines ++ break_text l.br))) ≤ text_limit → IsReadable (cut_text (put_document doc q c))
@@ -143,7 +143,7 @@ module _ (doc : ℕ) (steps : List Step) (key : Option (List ℕ)) (v : Node) (c
   q_split = q_rows ∙ ap (λ rs. rs ++ (new ++ place.back)) place.front_is
 
   same_block : is_block_root q ≡ is_block_root part
-  same_block = ap (λ rs. begins_no_node (lines_of rs)) q_split ∙ (begins_same place.others place.last (new ++ place.back) place.back ∙ ap (λ rs. begins_no_node (lines_of rs)) (sym p_split))
+  same_block = ap (λ rs. begins_no_node (lines_of_rows rs)) q_split ∙ (begins_same place.others place.last (new ++ place.back) place.back ∙ ap (λ rs. begins_no_node (lines_of_rows rs)) (sym p_split))
 
   same_lead : lead_of q ≡ lead_of part
   same_lead =

@@ -3,7 +3,7 @@ use Rattle.std.proofs.Common.{◌≡◌, ℕ, ◌<◌, ◌≤◌, ◌^◌, Bool,
 use Rattle.std.proofs.lemmas.Bool.{leb-true, leb-false}
 use Rattle.yq_text.specs.Limit.{text_limit}
 use Rattle.yq_cut.specs.Rows.{Cut, cut_text}
-use Rattle.yq_documents.specs.Documents.{Reads}
+use Rattle.yq_documents.specs.Documents.{ReadsDocuments}
 use Rattle.yq_documents.specs.Reading.{cut_of, documents, documents_of, read_at}
 use Rattle.yq_row_places.proofs.ReadLaws.{parts_read, read_takes}
 use Rattle.yq_meaning.specs.After.{after_op}
@@ -18,7 +18,7 @@ use Rattle.yq_script.specs.declared.edited.Edited.{Edited}
 use Rattle.yq_script.specs.Exchanging as exchange
 use Rattle.yq_edits.specs.Operands.{HasOperand}
 use Rattle.yq_edits.specs.EditLaws.{IsEdit}
-use Rattle.yq_edits.specs.Edits.{edits, or_stay}
+use Rattle.yq_edits.specs.Edits.{op_edits, or_stay}
 use Rattle.yq_edits.specs.ReadsAfter.{ReadsAfter}
 use Rattle.yq_outcomes.proofs.CutLaws.{cut_read, cut_same, text_read}
 use Rattle.yq_outcomes.specs.Answers.{Edits, EditFails}
@@ -54,7 +54,7 @@ module _ (op : Operation) (t : List ℕ) (operand : HasOperand op) (k : IsFittin
       subst (λ (x : List ℕ). Fits (room_of x) op (documents cut)) (sym text)
       (subst (Fits (room_of t) op) (sym is.1) k.fits)
 
-  own : (ss : List Segment) × (edits op cut ≡ Some ss)
+  own : (ss : List Segment) × (op_edits op cut ≡ Some ss)
   own = edit_there op cut again operand fits
 
   edit : IsEdit op cut own.0
@@ -79,7 +79,7 @@ module _ (op : Operation) (t : List ℕ) (operand : HasOperand op) (k : IsFittin
         old_is = edit.old ∙ text;
         new_is = refl;
         splices = refl;
-        reads = subst (Reads new_bytes) after (read_takes new_bytes r.cut r.read);
+        reads = subst (ReadsDocuments new_bytes) after (read_takes new_bytes r.cut r.read);
         room = subst (LeavesRooms op (room_of t) (room_of new_bytes)) (ap documents (cut_same new_bytes r.cut r.read) ∙ after)
             (subst (λ (x : List ℕ). LeavesRooms op (room_of x) (room_of new_bytes) (documents_of new_bytes)) text r.room);
       }
@@ -122,9 +122,9 @@ module _ (op : Operation) (t : List ℕ) (operand : HasOperand op) (k : IsFittin
 
 -- its segments are of the text
 old_by : (op : Operation) (c : Cut) → read_at (cut_text c) ≡ Some c → old_text (segments_by op c) ≡ cut_text c
-old_by op c read = go (edits op c) refl
+old_by op c read = go (op_edits op c) refl
   where
-    go : (o : Option (List Segment)) → edits op c ≡ o → old_text (or_stay c o) ≡ cut_text c
+    go : (o : Option (List Segment)) → op_edits op c ≡ o → old_text (or_stay c o) ≡ cut_text c
     go None is = append-nil (cut_text c)
     go (Some ss) is = (edit_is op c ss read is).old
 

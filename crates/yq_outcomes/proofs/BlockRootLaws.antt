@@ -12,7 +12,7 @@ use Rattle.yq_cut.specs.Splices.{first_gap}
 use Rattle.yq_cut.proofs.NothingLaws.{gap_other}
 use Rattle.yq_cut.proofs.seams.FrontSeams.{behind_row_some}
 use Rattle.yq_cut.proofs.splices.PartPlaces.{part_ends}
-use Rattle.yq_lines.specs.Lines.{lines_of}
+use Rattle.yq_lines.specs.Lines.{lines_of_rows}
 use Rattle.yq_documents.specs.Reading.{read_at}
 use Rattle.yq_documents.specs.Ready.{begins_no_node}
 use Rattle.yq_row_places.specs.PlacedRows.{PlacedPart, placed_document}
@@ -50,7 +50,7 @@ pub record IsBlockRoot (n : ℕ) (c : Cut) (w : BlockRoot) : Type 0 where
   pub row : Row
   pub others : List Row
   pub rows_are : d.part.rows ≡ row ∷ others
-  pub block : begins_no_node (lines_of d.part.rows) ≡ true
+  pub block : begins_no_node (lines_of_rows d.part.rows) ≡ true
   pub ends : (IsOneBreak w.last) ⊎ ((w.last ≡ []) × (d.part.end ++ d.behind ≡ []))
   pub before_is : w.before ≡ d.before ++ (row.gap ++ replicate row.column 32)
   pub behind_is : w.behind ≡ d.part.end ++ d.behind
@@ -91,7 +91,7 @@ block_root_at n c w read h = subst (IsBlockRoot n c) h.is (record {
   row = h.row;
   others = h.others;
   rows_are = h.rows_are;
-  block = ap (λ xs. begins_no_node (lines_of xs)) h.rows_are ∙ row_entry h.row h.others h.block;
+  block = ap (λ xs. begins_no_node (lines_of_rows xs)) h.rows_are ∙ row_entry h.row h.others h.block;
   ends = ends_with t more (own_ended h.d h.row h.others are h.block);
   before_is = refl;
   behind_is = refl;

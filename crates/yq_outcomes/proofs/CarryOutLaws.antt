@@ -17,16 +17,16 @@ use Rattle.yq_row_places.proofs.PrintedTexts.{map_some}
 use Rattle.yq_meaning.specs.Operations.{replace, append, remove, line_comment, head_comment}
 use Rattle.yq_script.specs.Script.{Segment, keep}
 use Rattle.yq_edits.specs.EditLaws.{KindsCarryOut, EditsCarryOut, IsEdit}
-use Rattle.yq_edits.specs.Edits.{emptied, part_removed, replaced, rows_or_sole, sole_removed}
+use Rattle.yq_edits.specs.Edits.{empty_collection, part_removed, replace_segments, rows_or_sole, sole_removed}
 use Rattle.yq_edits.specs.EntryEdits.{block_more, one_removed}
 use Rattle.yq_edits.specs.FlowParts.{flow_more, flow_put}
 use Rattle.yq_edits.specs.Layouts.{layout_of}
 use Rattle.yq_edits.specs.ReplaceEdits.{has_text, value_put}
-use Rattle.yq_edits.specs.Replacing.{is_kept}
+use Rattle.yq_edits.specs.Replacing.{keeps_scalar}
 
 module _ (laws : KindsCarryOut) where
-  replaced_is : (n : ℕ) (steps : List Step) (v : Node) (c : Cut) (ss : List Segment) → read_at (cut_text c) ≡ Some c → replaced n steps v c ≡ Some ss → IsEdit (replace n steps v) c ss
-  replaced_is n steps v c ss read is = go (is_kept (node_in n steps c) v) refl is
+  replaced_is : (n : ℕ) (steps : List Step) (v : Node) (c : Cut) (ss : List Segment) → read_at (cut_text c) ≡ Some c → replace_segments n steps v c ≡ Some ss → IsEdit (replace n steps v) c ss
+  replaced_is n steps v c ss read is = go (keeps_scalar (node_in n steps c) v) refl is
     where
       block : Option (List Segment)
       block = option_map (value_put (has_text (node_in n steps c)) (layout_of n c) v) (standing_at n steps c)
@@ -34,11 +34,11 @@ module _ (laws : KindsCarryOut) where
       flow : Option (List Segment)
       flow = option_map (flow_put (cut_text c) v) (flow_standing n c (last_step steps))
 
-      there : is_kept (node_in n steps c) v ≡ false → (block ≡ Some ss) ⊎ (flow ≡ Some ss) → IsEdit (replace n steps v) c ss
+      there : keeps_scalar (node_in n steps c) v ≡ false → (block ≡ Some ss) ⊎ (flow ≡ Some ss) → IsEdit (replace n steps v) c ss
       there other (inl e) = let t = map_some (standing_at n steps c) e in subst (IsEdit (replace n steps v) c) t.2 (laws.values n steps v c t.0 read t.1 other)
       there other (inr e) = let x = map_some (flow_standing n c (last_step steps)) e in subst (IsEdit (replace n steps v) c) x.2 (laws.flow_values n steps v c x.0 read x.1 other)
 
-      go : (b : Bool) → is_kept (node_in n steps c) v ≡ b → cond b (Some (keep (cut_text c) ∷ [])) (option_or block flow) ≡ Some ss → IsEdit (replace n steps v) c ss
+      go : (b : Bool) → keeps_scalar (node_in n steps c) v ≡ b → cond b (Some (keep (cut_text c) ∷ [])) (option_or block flow) ≡ Some ss → IsEdit (replace n steps v) c ss
       go true same e = subst (IsEdit (replace n steps v) c) (same_Some _ _ e) (laws.equal n steps v c read same)
       go false other e = there other (either block flow e)
 
@@ -59,7 +59,7 @@ module _ (laws : KindsCarryOut) where
       sole : (o : Option (List Step × Step)) → last_step steps ≡ o → sole_removed n c o ≡ Some ss → IsEdit (remove n steps) c ss
       sole None last e = absurd (none-some _ e)
       sole (Some x) last e =
-          let v = bind_some {f = λ (u : Node). replaced n x.0 u c} (node_in n x.0 c >>= emptied) e in
+          let v = bind_some {f = λ (u : Node). replace_segments n x.0 u c} (node_in n x.0 c >>= empty_collection) e in
           laws.sole n steps x.0 x.1 v.0 c ss read last others v.1 (replaced_is n x.0 v.0 c ss read v.2)
 
   pub edits_carry_out : EditsCarryOut

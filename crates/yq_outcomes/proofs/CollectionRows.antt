@@ -6,7 +6,7 @@ use Rattle.std.specs.List.{slice_get}
 use Rattle.yq_flow_scalars.specs.Text.{is_empty}
 use Rattle.yq_lines.specs.Outline.{Line}
 use Rattle.yq_lines.specs.Outline as outlines
-use Rattle.yq_lines.specs.Positions.{is_bare}
+use Rattle.yq_lines.specs.Positions.{has_no_mark}
 use Rattle.yq_cut.specs.Grammar.{AreRows, unlimited}
 use Rattle.yq_cut.specs.Rows.{Row, behind_columns, dashes_text, print_row, rows_text}
 use Rattle.yq_row_places.specs.CollectionEnds.{is_broken}
@@ -49,7 +49,7 @@ columns_are column (n ∷ ns) =
     let spaces : length (replicate {A = ℕ} n 32) ≡ n = length-replicate {A = ℕ} n 32 in
     omega (arith, columns_are (suc (column + n)) ns, spaces, length-append (replicate n 32) (dashes_text ns []))
 
-pub no_bare : (m : outlines.Mark) → is_bare m ≡ false → IsEntry m
+pub no_bare : (m : outlines.LineMark) → has_no_mark m ≡ false → IsEntry m
 no_bare outlines.Bare e = absurd (false≢true (sym e))
 no_bare (outlines.Key k) e = tt
 no_bare outlines.Dash e = tt

@@ -7,7 +7,7 @@ use Rattle.yq_flow_scalars.specs.Tree.{Node}
 use Rattle.yq_lines.specs.Comments.{line_comment}
 use Rattle.yq_lines.specs.Outline as outline
 use Rattle.yq_lines.specs.Outline.{end, IsOpen, head_or, value}
-use Rattle.yq_lines.specs.Places.{content}
+use Rattle.yq_lines.specs.Places.{content_under}
 use Rattle.yq_cut.specs.Exchange.{with_content}
 use Rattle.yq_cut.specs.Grammar.{allows, limit_behind, IsContent}
 use Rattle.yq_cut.specs.Rows.{Content, content_text, Row, mark_column, parent_indent, rows_text, Cut, cut_text}
@@ -47,7 +47,7 @@ module _ (doc : ℕ) (s : Step) (ss : List Step) (c : Cut) (h : NodeRows doc s s
     pub apart : separates (content_text new (rest doc s ss c h)) ≡ true
     pub head : head_of new ≡ Some v
     pub comment : line_comment (tail_of new) ≡ line_comment (tail_of h.mark.content)
-    pub anchor : content_anchor new ≡ anchor_of (content h.found.line h.found.under)
+    pub anchor : content_anchor new ≡ anchor_of (content_under h.found.line h.found.under)
     pub keys : ContentHasFitKeys new
 
   -- what is behind it may begin at any column up to that of the key or dash
@@ -68,7 +68,7 @@ module _ (doc : ℕ) (s : Step) (ss : List Step) (c : Cut) (h : NodeRows doc s s
       new_is = refl;
       gap_is = upto_gap h.upto;
       replaces = replaces;
-      content = new;
+      content_under = new;
       level = suc (outline.level (line_with h.mark new));
       under = end;
       comment = is.comment;

@@ -9,7 +9,7 @@ use Rattle.yq_flow_scalars.specs.declared.style.Place.TheVariants.{Block as InBl
 use Rattle.yq_flow.specs.Valued.{IsValueTree}
 use Rattle.yq_nodes.proofs.WrittenLaws.{node_then}
 use Rattle.yq_lines.specs.Comments.{line_comment}
-use Rattle.yq_lines.specs.Places.{content}
+use Rattle.yq_lines.specs.Places.{content_under}
 use Rattle.yq_lines.proofs.Finding.{FoundNode, path_node}
 use Rattle.yq_cut.specs.Exchange.{row_front, with_content}
 use Rattle.yq_cut.specs.Grammar.{IsTail}
@@ -17,7 +17,7 @@ use Rattle.yq_cut.specs.Items.{rows_items}
 use Rattle.yq_cut.specs.Rows.{Cut, Nothing, Row, cut_text, mark_column, rows_text}
 use Rattle.yq_cut.proofs.NothingLaws.{tail_apart}
 use Rattle.yq_cut.proofs.PlaceLaws.{row_front-append}
-use Rattle.yq_documents.specs.Reading.{outline_of, read_at, root_of}
+use Rattle.yq_documents.specs.Reading.{part_outline, read_at, root_of}
 use Rattle.yq_row_places.specs.RowPieces.{upto_dash}
 use Rattle.yq_row_places.specs.PrintedLines.{last_break, less_break}
 use Rattle.yq_row_places.specs.Standings.{Compact, RowsOfEntry, compact_in, dash_text, rows_of_entry}
@@ -27,7 +27,7 @@ use Rattle.yq_change.specs.Changed.{put_document}
 use Rattle.yq_change.specs.SoundRoots.{MayReplace}
 use Rattle.yq_change.specs.StandingLaws.{StandsThere}
 use Rattle.yq_change.specs.TextPieces.{IsPiece}
-use Rattle.yq_change.specs.Unders.{spaced}
+use Rattle.yq_change.specs.Unders.{spaced_content}
 use Rattle.yq_change.proofs.TextPieceLaws.{pieces_joined}
 use Rattle.yq_block.specs.declared.layout.Layout.{Layout}
 use Rattle.yq_block.specs.BlockReading.{is_filled}
@@ -129,8 +129,8 @@ module _ (n : ℕ) (s : Step) (ss : List Step) (c : Cut) (e : RowsOfEntry) (ther
     abbrev op : Operation
     op = replace n (s ∷ ss) v
 
-    may : MayReplace v (content there.found.line there.found.under) (root_of there.part) (length (s ∷ ss))
-    may = subst (λ q. MayReplace v q (root_of there.part) (length (s ∷ ss))) (same_Some _ _ (sym f.there ∙ (path_node s ss (outline_of there.part) ∙ ap FoundNode there.is))) f.may
+    may : MayReplace v (content_under there.found.line there.found.under) (root_of there.part) (length (s ∷ ss))
+    may = subst (λ q. MayReplace v q (root_of there.part) (length (s ∷ ss))) (same_Some _ _ (sym f.there ∙ (path_node s ss (part_outline there.part) ∙ ap FoundNode there.is))) f.may
 
     abbrev CarriedWith : List ℕ → Type 0
     CarriedWith t = length (new_text (segments t)) ≤ text_limit → CarriedOut op c (segments t)
@@ -153,12 +153,12 @@ module _ (n : ℕ) (s : Step) (ss : List Step) (c : Cut) (e : RowsOfEntry) (ther
 
       beside_text : rows_text beside z ≡ row_front mark ++ ((32 ∷ text) ++ (last ++ z))
       beside_text =
-          row_front-append (with_content (spaced for.node last) mark) z
+          row_front-append (with_content (spaced_content for.node last) mark) z
           ∙ ap (λ r. row_front mark ++ (32 ∷ r)) (node_then for.node (last ++ z) ∙ ap (λ r. r ++ (last ++ z)) for.text)
 
       beside_carried : CarriedWith (32 ∷ text)
       beside_carried =
-          carried_as beside (takes_beside n s ss c h v for.node for.is (Nothing last) (holding last z last_tail uncommented)) (32 ∷ text) beside_text (content_first (spaced for.node last) mark) (byte_then 32 text refl for.piece)
+          carried_as beside (takes_beside n s ss c h v for.node for.is (Nothing last) (holding last z last_tail uncommented)) (32 ∷ text) beside_text (content_first (spaced_content for.node last) mark) (byte_then 32 text refl for.piece)
 
     -- ---- in rows
 

@@ -6,7 +6,7 @@ use Rattle.yq_flow_scalars.specs.Paths.{Step}
 use Rattle.yq_flow_scalars.specs.Text.{is_empty}
 use Rattle.yq_block_scalars.proofs.BlockPieceLaws.{IsLf}
 use Rattle.yq_lines.specs.Outline.{Line}
-use Rattle.yq_lines.specs.Places.{content}
+use Rattle.yq_lines.specs.Places.{content_under}
 use Rattle.yq_cut.specs.Exchange.{row_front}
 use Rattle.yq_cut.specs.Gap.{IsBreak}
 use Rattle.yq_cut.specs.Grammar.{AreDashes, is_entry}
@@ -43,7 +43,7 @@ dashes_from zero (n ∷ ns) h = (n, ns, refl)
 dashes_from (suc k) (n ∷ ns) h = dashes_from k ns (omega (arith, h))
 
 -- behind each of them stand spaces, and an item or entry is behind the last one
-dashes_ask : (ns : List ℕ) (n : ℕ) (ms : List ℕ) (m : rows.Mark) → AreDashes (ns ++ (n ∷ ms)) m → (1 ≤ n) × (is_entry m ≡ true)
+dashes_ask : (ns : List ℕ) (n : ℕ) (ms : List ℕ) (m : rows.RowMark) → AreDashes (ns ++ (n ∷ ms)) m → (1 ≤ n) × (is_entry m ≡ true)
 dashes_ask [] n ms m h = (h.0, h.1)
 dashes_ask (k ∷ ns) n ms m h = dashes_ask ns n ms m h.2
 
@@ -79,11 +79,11 @@ module _ (n : ℕ) (s : Step) (ss : List Step) (c : Cut) (e : RowsOfEntry) (ther
   dash_behind = behind_there n s ss c e there
 
   -- a collection that begins on its line has no anchor
-  pub dash_unnamed : anchor_of (content there.found.line there.found.under) ≡ None
+  pub dash_unnamed : anchor_of (content_under there.found.line there.found.under) ≡ None
   dash_unnamed =
       let node : NodeRows n s ss c = dash_node in
       let entries : HasEntries there.found.under = entries_under upto e.under there.found.under asked.1 (omega (arith, less, dash_count)) (tail-eq_of_cons-eq (parts n s ss c node).1) in
-      ap (λ (l : Line). anchor_of (content l there.found.under)) (sym (line_is n s ss c node)) ∙ value_unnamed there.found.under entries None
+      ap (λ (l : Line). anchor_of (content_under l there.found.under)) (sym (line_is n s ss c node)) ∙ value_unnamed there.found.under entries None
 
   -- ---- the text
 

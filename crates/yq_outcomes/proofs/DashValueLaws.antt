@@ -6,12 +6,12 @@ use Rattle.yq_flow_scalars.specs.Tree.{Node}
 use Rattle.yq_lines.specs.LineAnchors.{HaveOneAnchorEach}
 use Rattle.yq_lines.specs.Comments.{line_comment}
 use Rattle.yq_lines.specs.Outline.{level, Stands}
-use Rattle.yq_lines.specs.Places.{content}
+use Rattle.yq_lines.specs.Places.{content_under}
 use Rattle.yq_lines.proofs.ByRules.{rules_give}
 use Rattle.yq_cut.specs.Exchange.{row_front}
 use Rattle.yq_cut.specs.Rows as rows
 use Rattle.yq_cut.specs.Rows.{Nothing, Row, mark_column, rows_text, Cut}
-use Rattle.yq_lines.specs.Lines.{lines_of, tail_of}
+use Rattle.yq_lines.specs.Lines.{lines_of_rows, tail_of}
 use Rattle.yq_documents.specs.TreeEdits.{anchor_of}
 use Rattle.yq_change.specs.DocumentRows.{behind_document}
 use Rattle.yq_change.proofs.LineLaws.{above_mark, mark_behind}
@@ -39,7 +39,7 @@ no_comment = refl
 
 -- in the place of what stands behind the dash, which has neither an anchor nor a comment: before an end of the line without a comment
 module _ (doc : ℕ) (s : Step) (ss : List Step) (c : Cut) (h : NodeRows doc s ss c) (l : Layout) (step : 1 ≤ l.mapping) (v : Node) (filled : IsFilledValue v) (near_keys : HasNearKeys v) (last : List ℕ) (dash : h.mark.mark ≡ rows.Dash)
-    (ends : IsEnd (mark_column h.mark) last (rest doc s ss c h)) (uncommented : line_comment last ≡ None) (none : line_comment (tail_of h.mark.content) ≡ None) (unnamed : anchor_of (content h.found.line h.found.under) ≡ None) where
+    (ends : IsEnd (mark_column h.mark) last (rest doc s ss c h)) (uncommented : line_comment last ≡ None) (none : line_comment (tail_of h.mark.content) ≡ None) (unnamed : anchor_of (content_under h.found.line h.found.under) ≡ None) where
   abbrev below : ℕ
   below = item_column (mark_column h.mark)
 
@@ -60,8 +60,8 @@ module _ (doc : ℕ) (s : Step) (ss : List Step) (c : Cut) (h : NodeRows doc s s
       behind_laid (limit doc s ss c h) h.row h.mark (rows_text (h.under ++ h.back) (h.p.end ++ behind_document doc c)) rs z (rows_there doc s ss c h).0 h.upto dash
       (deeper_laid v l (mark_column h.mark) below last z (omega arith) (record { rows = filled; near = near_keys; ends = ends }))
 
-  stands : Stands (lines_of rs) v (level_at below v)
-  stands = rules_give (level_at below v) (lines_of rs) v (node_stands v l below last step filled.filled filled.value uncommented)
+  stands : Stands (lines_of_rows rs) v (level_at below v)
+  stands = rules_give (level_at below v) (lines_of_rows rs) v (node_stands v l below last step filled.filled filled.value uncommented)
 
   dash_level : level (line_with h.mark (Nothing [])) ≡ entry_level None (mark_column h.mark)
   unfolding level
@@ -76,7 +76,7 @@ module _ (doc : ℕ) (s : Step) (ss : List Step) (c : Cut) (h : NodeRows doc s s
         new_is = rows_are below h.mark rs begun;
         gap_is = gap_same below h.mark rs begun ∙ upto_gap h.upto;
         replaces = replaces;
-        content = Nothing [];
+        content_under = Nothing [];
         level = level_at below v;
         under = stands.outline;
         comment = no_comment ∙ sym none;

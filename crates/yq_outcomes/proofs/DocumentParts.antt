@@ -4,7 +4,7 @@ use Rattle.std.proofs.lemmas.Option.{none-some, same_Some}
 use Rattle.std.specs.List.{slice_get}
 use Rattle.yq_cut.specs.Rows.{Part, Cut}
 use Rattle.yq_documents.specs.Documents.{Document, document_parts}
-use Rattle.yq_documents.specs.Reading.{document_of, documents, root_of}
+use Rattle.yq_documents.specs.Reading.{part_document, documents, root_of}
 
 -- A document of a cut is that of a part.
 pub record PartOf (c : Cut) (n : ℕ) (d : Document) : Type 0 where
@@ -12,7 +12,7 @@ pub record PartOf (c : Cut) (n : ℕ) (d : Document) : Type 0 where
   pub there : slice_get (document_parts c) n ≡ Some part
   pub root : d.root ≡ root_of part
 
-mapped : (n : ℕ) (ps : List Part) (d : Document) → slice_get (map document_of ps) n ≡ Some d → (p : Part) × (slice_get ps n ≡ Some p) × (d ≡ document_of p)
+mapped : (n : ℕ) (ps : List Part) (d : Document) → slice_get (map part_document ps) n ≡ Some d → (p : Part) × (slice_get ps n ≡ Some p) × (d ≡ part_document p)
 mapped n [] d e = absurd (none-some _ e)
 mapped zero (p ∷ ps) d e = (p, refl, sym (same_Some _ _ e))
 mapped (suc n) (p ∷ ps) d e = mapped n ps d e

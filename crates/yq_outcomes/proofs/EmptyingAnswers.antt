@@ -6,19 +6,19 @@ use Rattle.yq_flow_scalars.specs.Tree.{Node, alias, scalar, list, map}
 use Rattle.yq_cut.specs.Rows.{Cut}
 use Rattle.yq_row_places.specs.NodesAt.{NodeAt, node_in, node_summary}
 use Rattle.yq_row_places.specs.Standings.{last_step}
-use Rattle.yq_edits.specs.Edits.{emptied, replaced}
+use Rattle.yq_edits.specs.Edits.{empty_collection, replace_segments}
 use Rattle.yq_outcomes.specs.Emptying.{Emptied, SoleByEmptying, emptied_summary, emptying}
 
 pub sole_by_emptying : SoleByEmptying
 sole_by_emptying n c None = refl
-sole_by_emptying n c (Some x) = go (node_in n x.0 c >>= emptied)
+sole_by_emptying n c (Some x) = go (node_in n x.0 c >>= empty_collection)
   where
-    go : (o : Option Node) → (o >>= λ v. replaced n x.0 v c) ≡ (option_map {U = Emptied} (λ v. record { doc = n; steps = x.0; value = v }) o >>= λ e. replaced e.doc e.steps e.value c)
+    go : (o : Option Node) → (o >>= λ v. replace_segments n x.0 v c) ≡ (option_map {U = Emptied} (λ v. record { doc = n; steps = x.0; value = v }) o >>= λ e. replace_segments e.doc e.steps e.value c)
     go None = refl
     go (Some v) = refl
 
 -- what is told of a collection tells the empty one of its kind
-by_summary : (o : Option Node) → (option_map node_summary o >>= emptied_summary) ≡ (o >>= emptied)
+by_summary : (o : Option Node) → (option_map node_summary o >>= emptied_summary) ≡ (o >>= empty_collection)
 by_summary None = refl
 by_summary (Some (alias name)) = refl
 by_summary (Some (scalar anchor kind text)) = refl

@@ -4,8 +4,8 @@ use Rattle.std.proofs.lemmas.Option.{none-some, same_Some}
 use Rattle.std.specs.Prelude.{option_and_then}
 use Rattle.yq_flow_scalars.specs.Paths.{Step}
 use Rattle.yq_flow_scalars.specs.Tree.{Node}
-use Rattle.yq_lines.specs.Outline.{Mark, Bare, Key, Dash, Outline, end, row}
-use Rattle.yq_lines.specs.Places.{here, FoundLine, bare_or, find, find_row, in_head, inside}
+use Rattle.yq_lines.specs.Outline.{LineMark, Bare, Key, Dash, Outline, end, row}
+use Rattle.yq_lines.specs.Places.{here, FoundLine, bare_or, find, find_row, in_head, place_inside}
 use Rattle.yq_change.specs.Siblings.{HasEntries, IsEntry, IsEntryAt, NodeLines}
 use Rattle.yq_change.proofs.NodeLineLaws.{lines_found}
 
@@ -32,18 +32,18 @@ row_found : (s : Step) (o : Outline) (f : FoundLine) → HasEntries o → find_r
 row_found s end f b e = absurd b
 row_found s (row l u a) f b e = go l.mark b
   where
-    go : (m : Mark) → IsEntry m → bare_or m (Some (record { place = here; line = l; under = u; after = a }, s ∷ [])) (option_map {U = Reached} (λ g. (g, [])) (find_row s (row l u a))) ≡ Some (f, [])
+    go : (m : LineMark) → IsEntry m → bare_or m (Some (record { place = here; line = l; under = u; after = a }, s ∷ [])) (option_map {U = Reached} (λ g. (g, [])) (find_row s (row l u a))) ≡ Some (f, [])
     go Bare b = absurd b
     go (Key k) b = ap (option_map {U = Reached} (λ g. (g, []))) e
     go Dash b = ap (option_map {U = Reached} (λ g. (g, []))) e
 
 -- on from a line without a head
 abbrev on : FoundLine → Step → List Step → Option Reached
-on x t ts = in_head x.line.head (Some (x, t ∷ ts)) (option_map {U = Reached} (λ y. (inside x y.0, y.1)) (find t ts x.under))
+on x t ts = in_head x.line.head (Some (x, t ∷ ts)) (option_map {U = Reached} (λ y. (place_inside x y.0, y.1)) (find t ts x.under))
 
 step_on : (x : FoundLine) (t : Step) (ts : List Step) → x.line.head ≡ None → HasLine (find t ts x.under) → HasLine (on x t ts)
 step_on x t ts head h =
-    (inside x h.0, ap (λ (n : Option Node). in_head n (Some (x, t ∷ ts)) (option_map {U = Reached} (λ y. (inside x y.0, y.1)) (find t ts x.under))) head ∙ ap (option_map {U = Reached} (λ y. (inside x y.0, y.1))) h.1)
+    (place_inside x h.0, ap (λ (n : Option Node). in_head n (Some (x, t ∷ ts)) (option_map {U = Reached} (λ y. (place_inside x y.0, y.1)) (find t ts x.under))) head ∙ ap (option_map {U = Reached} (λ y. (place_inside x y.0, y.1))) h.1)
 
 -- one step more leads to an item or entry under the line
 more_found : (t : Step) (ts : List Step) (s : Step) (o : Outline) (g f : FoundLine) → find t ts o ≡ Some (g, []) → g.line.head ≡ None → HasEntries g.under → find_row s g.under ≡ Some f → HasLine (find t (ts ++ (s ∷ [])) o)
@@ -54,7 +54,7 @@ more_found t [] s (row l u a) g f e head block found = go l.mark e
     by None e = absurd (none-some _ e)
     by (Some x) e = subst (λ (x : FoundLine). HasLine (on x s [])) (sym (ap (λ (z : Reached). z.0) (same_Some _ _ e))) (step_on g s [] head (f, row_found s g.under f block found))
 
-    go : (m : Mark) → bare_or m (Some (record { place = here; line = l; under = u; after = a }, t ∷ [])) (option_map {U = Reached} (λ x. (x, [])) (find_row t (row l u a))) ≡ Some (g, []) →
+    go : (m : LineMark) → bare_or m (Some (record { place = here; line = l; under = u; after = a }, t ∷ [])) (option_map {U = Reached} (λ x. (x, [])) (find_row t (row l u a))) ≡ Some (g, []) →
         HasLine (bare_or m (Some (record { place = here; line = l; under = u; after = a }, t ∷ (s ∷ []))) (option_and_then (λ x. on x s []) (find_row t (row l u a))))
     go Bare e = absurd (left_on _ g t [] e)
     go (Key k) e = by (find_row t (row l u a)) e
@@ -64,15 +64,15 @@ more_found t (y ∷ ys) s (row l u a) g f e head block found = go l.mark e (λ o
     Again : Type 0
     Again = (o : Outline) (h : FoundLine) → find y ys o ≡ Some (h, []) → h.line.head ≡ None → HasEntries h.under → find_row s h.under ≡ Some f → HasLine (find y (ys ++ (s ∷ [])) o)
 
-    under : (x : FoundLine) (r : Option Reached) → find y ys x.under ≡ r → x.line.head ≡ None → option_map {U = Reached} (λ z. (inside x z.0, z.1)) r ≡ Some (g, []) → Again → HasLine (on x y (ys ++ (s ∷ [])))
+    under : (x : FoundLine) (r : Option Reached) → find y ys x.under ≡ r → x.line.head ≡ None → option_map {U = Reached} (λ z. (place_inside x z.0, z.1)) r ≡ Some (g, []) → Again → HasLine (on x y (ys ++ (s ∷ [])))
     under x None is open' e again = absurd (none-some _ e)
     under x (Some z) is open' e again =
-        let same : inside x z.0 ≡ g = ap (λ (w : Reached). w.0) (same_Some _ _ e) in
+        let same : place_inside x z.0 ≡ g = ap (λ (w : Reached). w.0) (same_Some _ _ e) in
         let left : z.1 ≡ [] = ap (λ (w : Reached). w.1) (same_Some _ _ e) in
         let at : find y ys x.under ≡ Some (z.0, []) = is ∙ ap (λ (w : List Step). Some (z.0, w)) left in
         step_on x y (ys ++ (s ∷ [])) open' (again x.under z.0 at (ap (λ (w : FoundLine). w.line.head) same ∙ head) (subst (λ (w : FoundLine). HasEntries w.under) (sym same) block) (ap (λ (w : FoundLine). find_row s w.under) same ∙ found))
 
-    by_head : (x : FoundLine) (h : Option Node) → x.line.head ≡ h → in_head h (Some (x, y ∷ ys)) (option_map {U = Reached} (λ z. (inside x z.0, z.1)) (find y ys x.under)) ≡ Some (g, []) → Again → HasLine (on x y (ys ++ (s ∷ [])))
+    by_head : (x : FoundLine) (h : Option Node) → x.line.head ≡ h → in_head h (Some (x, y ∷ ys)) (option_map {U = Reached} (λ z. (place_inside x z.0, z.1)) (find y ys x.under)) ≡ Some (g, []) → Again → HasLine (on x y (ys ++ (s ∷ [])))
     by_head x (Some h) is e again = absurd (left_on x g y ys e)
     by_head x None is e again = under x (find y ys x.under) refl is e again
 
@@ -80,7 +80,7 @@ more_found t (y ∷ ys) s (row l u a) g f e head block found = go l.mark e (λ o
     by None e again = absurd (none-some _ e)
     by (Some x) e again = by_head x x.line.head refl e again
 
-    go : (m : Mark) → bare_or m (Some (record { place = here; line = l; under = u; after = a }, t ∷ (y ∷ ys))) (option_and_then (λ x. on x y ys) (find_row t (row l u a))) ≡ Some (g, []) → Again →
+    go : (m : LineMark) → bare_or m (Some (record { place = here; line = l; under = u; after = a }, t ∷ (y ∷ ys))) (option_and_then (λ x. on x y ys) (find_row t (row l u a))) ≡ Some (g, []) → Again →
         HasLine (bare_or m (Some (record { place = here; line = l; under = u; after = a }, t ∷ (y ∷ (ys ++ (s ∷ []))))) (option_and_then (λ x. on x y (ys ++ (s ∷ []))) (find_row t (row l u a))))
     go Bare e again = absurd (left_on _ g t (y ∷ ys) e)
     go (Key k) e again = by (find_row t (row l u a)) e again

@@ -7,7 +7,7 @@ use Rattle.yq_flow_scalars.specs.Text.{front, joined, is_break, is_white, is_fee
 use Rattle.yq_flow_scalars.proofs.Bools.{at_byte}
 use Rattle.yq_block_scalars.proofs.BlockPieceLaws.{IsLf, append_lf, line_lf, raw_lf}
 use Rattle.yq_nodes.specs.Nodes as nodes
-use Rattle.yq_nodes.specs.Nodes.{Node, empty, alias, scalar, coll, anchored, in_name, is_close, items_text, node_text, open_of, IsNode}
+use Rattle.yq_nodes.specs.Nodes.{FlowNode, empty, alias, scalar, coll, anchored, in_name, is_close, flow_items_text, node_text, opening_bracket, IsFlowNode}
 use Rattle.yq_nodes.specs.Scalars.{IsInQuotes}
 use Rattle.yq_nodes.proofs.WrittenLaws.{node_append}
 use Rattle.yq_cut.specs.Exchange.{row_front}
@@ -22,8 +22,8 @@ use Rattle.yq_cut.proofs.RowAgain.{row_starts}
 use Rattle.yq_cut.proofs.SliceLaws.{content_slices}
 use Rattle.yq_cut.proofs.seams.ScalarSeams.{last_no_space}
 use Rattle.yq_row_places.specs.CollectionEnds.{is_broken}
-use Rattle.yq_lines.specs.Lines.{mark_of}
-use Rattle.yq_lines.specs.Positions.{is_bare}
+use Rattle.yq_lines.specs.Lines.{line_mark}
+use Rattle.yq_lines.specs.Positions.{has_no_mark}
 use Rattle.yq_row_places.specs.Standings.{is_alone}
 use Rattle.yq_row_places.specs.PrintedLines.{end_break, last_break, less_break}
 use Rattle.yq_row_places.proofs.ContentEndLaws.{Ends, content_ends, tail_ends}
@@ -119,15 +119,15 @@ quoted_feed p (quote, (ls, h)) = ap ends_feed h.spelled ∙ (feed_more (quote �
     go (inl e) = ap is_feed e
     go (inr e) = ap is_feed e
 
-node_feed : (spaces : Option ℕ) (node : Node) (d : ℕ) → IsNode false spaces d node [] → ends_feed (node_text node []) ≡ false
-unfolding node_text IsNode
+node_feed : (spaces : Option ℕ) (node : FlowNode) (d : ℕ) → IsFlowNode false spaces d node [] → ends_feed (node_text node []) ≡ false
+unfolding node_text IsFlowNode
 node_feed spaces empty d h = refl
 node_feed spaces (alias n) d h = feed_byte 42 (n ++ []) refl (ap ends_feed (append-nil n) ∙ name_feed n [] h.inside)
 node_feed spaces (scalar p) d h = ap ends_feed (append-nil p) ∙ ⊎_elim {0, 0, 0} (λ (k : IsPlain false spaces p []). plain_feed spaces p k.inside) (λ k. quoted_feed p k.0) h
 node_feed spaces (coll k g is) d h =
     let x = items_close k is in
-    let whole : open_of k ∷ (g ++ items_text k is []) ≡ (open_of k ∷ (g ++ x.0)) ++ k ∷ [] = ap (λ t. open_of k ∷ (g ++ t)) x.1 ∙ ap (λ t. open_of k ∷ t) (sym (append_assoc g x.0 (k ∷ []))) in
-    ap ends_feed whole ∙ (feed_more (open_of k ∷ (g ++ x.0)) (k ∷ []) refl ∙ at_byte is_close k 10 h.0 refl)
+    let whole : opening_bracket k ∷ (g ++ flow_items_text k is []) ≡ (opening_bracket k ∷ (g ++ x.0)) ++ k ∷ [] = ap (λ t. opening_bracket k ∷ (g ++ t)) x.1 ∙ ap (λ t. opening_bracket k ∷ t) (sym (append_assoc g x.0 (k ∷ []))) in
+    ap ends_feed whole ∙ (feed_more (opening_bracket k ∷ (g ++ x.0)) (k ∷ []) refl ∙ at_byte is_close k 10 h.0 refl)
 node_feed spaces (anchored n g node) d h =
     feed_byte 38 (n ++ (g ++ node_text node [])) refl
     (feed_joined n (g ++ node_text node []) (name_feed n (g ++ node_text node []) h.0.inside) (feed_joined g (node_text node []) (gap h.1) (node_feed spaces node d h.4)))
@@ -136,8 +136,8 @@ node_feed spaces (anchored n g node) d h =
     gap (inl x) = gap_feed g (node_text node []) x.0.0
     gap (inr x) = ap ends_feed x.0
 
-node_feed_at : (spaces : Option ℕ) (node : Node) (d : ℕ) (t : List ℕ) → t ≡ [] → IsNode false spaces d node t → ends_feed (node_text node []) ≡ false
-node_feed_at spaces node d t is h = node_feed spaces node d (subst (IsNode false spaces d node) is h)
+node_feed_at : (spaces : Option ℕ) (node : FlowNode) (d : ℕ) (t : List ℕ) → t ≡ [] → IsFlowNode false spaces d node t → ends_feed (node_text node []) ≡ false
+node_feed_at spaces node d t is h = node_feed spaces node d (subst (IsFlowNode false spaces d node) is h)
 
 -- ---- a row at the end of a text
 
@@ -153,12 +153,12 @@ colon_some key colon rest t h = ap (λ x. is_empty (x ++ t)) h.colon_is.spelled 
     go (b ∷ w) = refl
 
 -- a key or dash is something
-pub mark_some : (m : rows.Mark) (c : Content) (rest t : List ℕ) → IsMark m c rest → is_entry m ≡ true → is_empty (mark_text m t) ≡ false
+pub mark_some : (m : rows.RowMark) (c : Content) (rest t : List ℕ) → IsMark m c rest → is_entry m ≡ true → is_empty (mark_text m t) ≡ false
 mark_some rows.Bare c rest t h e = absurd (false≢true e)
 mark_some rows.Dash c rest t h e = refl
 mark_some (rows.Key key colon) c rest t h e = some_behind key (colon ++ t) (colon_some key colon (content_text c rest) t h)
 
-mark_feed : (m : rows.Mark) (c : Content) (rest t : List ℕ) → IsMark m c rest → ends_feed t ≡ false → ends_feed (mark_text m t) ≡ false
+mark_feed : (m : rows.RowMark) (c : Content) (rest t : List ℕ) → IsMark m c rest → ends_feed t ≡ false → ends_feed (mark_text m t) ≡ false
 mark_feed rows.Bare c rest t h k = k
 mark_feed rows.Dash c rest t h k = feed_byte 45 t refl k
 mark_feed (rows.Key key colon) c rest t h k =
@@ -232,7 +232,7 @@ broken_is limit r rest h front a t is some = go (is_broken r.content) refl
 pub entry_some : (limit : Limit) (r : Row) (rest t : List ℕ) → IsRow limit r rest → is_alone r ≡ false → is_empty (behind_indent r t) ≡ false
 entry_some limit r rest t h alone = go r.dashes r.mark alone h.mark
   where
-    go : (ns : List ℕ) (m : rows.Mark) → (is_empty ns && is_bare (mark_of m)) ≡ false → IsMark m r.content rest → is_empty (dashes_text ns (mark_text m (content_text r.content t))) ≡ false
+    go : (ns : List ℕ) (m : rows.RowMark) → (is_empty ns && has_no_mark (line_mark m)) ≡ false → IsMark m r.content rest → is_empty (dashes_text ns (mark_text m (content_text r.content t))) ≡ false
     go [] rows.Bare e k = absurd (false≢true (sym e))
     go [] rows.Dash e k = refl
     go [] (rows.Key key colon) e k = mark_some (rows.Key key colon) r.content rest (content_text r.content t) k refl

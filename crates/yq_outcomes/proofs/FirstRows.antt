@@ -2,12 +2,12 @@
 use Rattle.std.proofs.Common.{◌≡◌, ◌⊎◌, inl, inr, ℕ, ◌<◌, List, [], ◌∷◌, length, true, false, refl, sym, append_assoc, arith, rules}
 use Rattle.std.proofs.lemmas.Bool.{false≢true}
 use Rattle.yq_flow_scalars.specs.Text.{is_empty, is_line}
-use Rattle.yq_lines.specs.Positions.{is_bare}
+use Rattle.yq_lines.specs.Positions.{has_no_mark}
 use Rattle.yq_cut.specs.Grammar.{IsMark}
 use Rattle.yq_cut.specs.Rows as rows
 use Rattle.yq_cut.specs.Rows.{Content, Row, behind_indent, content_text, mark_text}
 use Rattle.yq_cut.proofs.PlaceLaws.{content_then}
-use Rattle.yq_lines.specs.Lines.{lines_of, mark_of}
+use Rattle.yq_lines.specs.Lines.{lines_of_rows, line_mark}
 use Rattle.yq_documents.specs.Ready.{begins_no_node}
 use Rattle.yq_row_places.specs.PrintedLines.{last_break}
 use Rattle.yq_row_places.specs.Standings.{is_alone}
@@ -27,14 +27,14 @@ some_length [] h = absurd (false≢true (sym h))
 some_length (b ∷ t) h = omega arith
 
 -- a row that isn't a node alone on its line has a dash or a mark
-mark_some : (m : rows.Mark) (x : Content) (rest : List ℕ) → IsMark m x rest → is_bare (mark_of m) ≡ false → is_empty (mark_text m (content_text x [])) ≡ false
+mark_some : (m : rows.RowMark) (x : Content) (rest : List ℕ) → IsMark m x rest → has_no_mark (line_mark m) ≡ false → is_empty (mark_text m (content_text x [])) ≡ false
 mark_some m x rest h1 h2 = search (rules, false≢true, some_behind)
 
 pub row_some : (r : Row) (rest t : List ℕ) → IsMark r.mark r.content rest → is_alone r ≡ false → is_empty (behind_indent r t) ≡ false
 row_some r rest t h alone = search (rules, some_more, mark_some, content_then, append_assoc)
 
 -- its line is that of a key or dash
-pub row_entry : (r : Row) (rs : List Row) → is_alone r ≡ false → begins_no_node (lines_of (r ∷ rs)) ≡ true
+pub row_entry : (r : Row) (rs : List Row) → is_alone r ≡ false → begins_no_node (lines_of_rows (r ∷ rs)) ≡ true
 row_entry r rs alone = search (rules, false≢true)
 
 -- the last break of a text that ends so

@@ -12,10 +12,10 @@ use Rattle.yq_flow_scalars.specs.Tree.{Node, children_of}
 use Rattle.yq_flow_scalars.proofs.Bools.{bind_some}
 use Rattle.yq_nodes.specs.Collections.{CollPieces}
 use Rattle.yq_nodes.specs.Entries.{EntryPieces, item_at}
-use Rattle.yq_nodes.specs.Nodes.{Items, none, item, items_text, sep_text}
+use Rattle.yq_nodes.specs.Nodes.{Items, none, item, flow_items_text, sep_text}
 use Rattle.yq_nodes.specs.Trees.{inner, items_tree, key_content}
 use Rattle.yq_flow.specs.FlowEdits.{FlowEdit}
-use Rattle.yq_flow.specs.Removals.{before_next, behind_item, gap_of, last_removed, removing_from}
+use Rattle.yq_flow.specs.Removals.{before_next, edit_from_item, gap_of, last_removed, removing_from}
 use Rattle.yq_lines.specs.Counts.{count}
 use Rattle.yq_cut.specs.Rows as rows
 use Rattle.yq_cut.specs.Rows.{Cut, cut_text}
@@ -39,12 +39,12 @@ use Rattle.yq_meaning.specs.Rooms.{room_of}
 use Rattle.yq_script.specs.Script.{Segment, keep}
 use Rattle.yq_edits.specs.CommentEdits.{above_rows, comment_put, head_comment_put, head_comment_segments, line_comment_put}
 use Rattle.yq_edits.specs.EditLaws.{FittingHasEdit, AppendHasEdit}
-use Rattle.yq_edits.specs.Edits.{edits, emptied, part_removed, removed, replaced, rows_or_sole, sole_removed}
+use Rattle.yq_edits.specs.Edits.{op_edits, empty_collection, part_removed, removed, replace_segments, rows_or_sole, sole_removed}
 use Rattle.yq_edits.specs.EntryEdits.{one_removed}
 use Rattle.yq_edits.specs.FlowParts.{flow_put, flow_removed, flow_segments}
 use Rattle.yq_edits.specs.Layouts.{layout_of}
 use Rattle.yq_edits.specs.ReplaceEdits.{has_text, value_put}
-use Rattle.yq_edits.specs.Replacing.{is_kept}
+use Rattle.yq_edits.specs.Replacing.{keeps_scalar}
 use Rattle.yq_edits.proofs.DoneLaws.{read_cut}
 use Rattle.yq_outcomes.proofs.DocumentParts as parts
 use Rattle.yq_outcomes.proofs.FlowSoundLaws.{above_is, last_is}
@@ -84,9 +84,9 @@ removing_there k rest s g (item key n sep none) y at more = absurd (false≢true
 removing_there k rest s g (item key n sep (item key2 n2 sep2 none)) y at more = go (is_here s (inner (key_content key))) (is_here (further s) (inner (key_content key2))) at
   where
     others : Option FlowEdit
-    others = option_map (behind_item g key n sep) (removing_from k rest (further s) (gap_of sep) (item key2 n2 sep2 none))
+    others = option_map (edit_from_item g key n sep) (removing_from k rest (further s) (gap_of sep) (item key2 n2 sep2 none))
 
-    go : (a b : Bool) → cond a (Some (record { key = key; node = n; rest = sep_text sep (items_text k (item key2 n2 sep2 none) rest) })) (cond b (Some (record { key = key2; node = n2; rest = sep_text sep2 (items_text k none rest) })) None) ≡ Some y →
+    go : (a b : Bool) → cond a (Some (record { key = key; node = n; rest = sep_text sep (flow_items_text k (item key2 n2 sep2 none) rest) })) (cond b (Some (record { key = key2; node = n2; rest = sep_text sep2 (flow_items_text k none rest) })) None) ≡ Some y →
         (e : FlowEdit) × (cond a (before_next k rest g key n sep (item key2 n2 sep2 none)) (option_or (cond b (Some (last_removed k rest g key n sep key2 n2 sep2)) None) others) ≡ Some e)
     go true b at = (_, refl)
     go false true at = (_, refl)
@@ -96,10 +96,10 @@ removing_there k rest s g (item key n sep (item key2 n2 sep2 (item key3 n3 sep3 
     tail : Items
     tail = item key2 n2 sep2 (item key3 n3 sep3 is)
 
-    go : (a : Bool) → (item_at k (further s) tail rest ≡ Some y → (e : FlowEdit) × (removing_from k rest (further s) (gap_of sep) tail ≡ Some e)) → cond a (Some (record { key = key; node = n; rest = sep_text sep (items_text k tail rest) })) (item_at k (further s) tail rest) ≡ Some y →
-        (e : FlowEdit) × (cond a (before_next k rest g key n sep tail) (option_map (behind_item g key n sep) (removing_from k rest (further s) (gap_of sep) tail)) ≡ Some e)
+    go : (a : Bool) → (item_at k (further s) tail rest ≡ Some y → (e : FlowEdit) × (removing_from k rest (further s) (gap_of sep) tail ≡ Some e)) → cond a (Some (record { key = key; node = n; rest = sep_text sep (flow_items_text k tail rest) })) (item_at k (further s) tail rest) ≡ Some y →
+        (e : FlowEdit) × (cond a (before_next k rest g key n sep tail) (option_map (edit_from_item g key n sep) (removing_from k rest (further s) (gap_of sep) tail)) ≡ Some e)
     go true again at = (_, refl)
-    go false again at = let e = again at in (behind_item g key n sep e.0, ap (option_map (behind_item g key n sep)) e.1)
+    go false again at = let e = again at in (edit_from_item g key n sep e.0, ap (option_map (edit_from_item g key n sep)) e.1)
 
 -- ---- where nodes are
 
@@ -116,8 +116,8 @@ module _ (roots : RootsStand) (entries : EntriesStand) where
       go (inr x) = inr (x.0, x.1)
 
   -- a node is replaced
-  replaced_there : (n : ℕ) (steps : List Step) (v : Node) (c : Cut) (w : Node) → read_at (cut_text c) ≡ Some c → node_in n steps c ≡ Some w → IsThere (replaced n steps v c)
-  replaced_there n steps v c w read at = go (is_kept (node_in n steps c) v)
+  replaced_there : (n : ℕ) (steps : List Step) (v : Node) (c : Cut) (w : Node) → read_at (cut_text c) ≡ Some c → node_in n steps c ≡ Some w → IsThere (replace_segments n steps v c)
+  replaced_there n steps v c w read at = go (keeps_scalar (node_in n steps c) v)
     where
       block : Option (List Segment)
       block = option_map (value_put (has_text (node_in n steps c)) (layout_of n c) v) (standing_at n steps c)
@@ -152,7 +152,7 @@ module _ (roots : RootsStand) (entries : EntriesStand) where
       go (inr x) = inl (part (last_step (s ∷ ss)) x.0 x.1 (sym x.2 ∙ others))
 
   -- the collection of an item or entry becomes empty
-  holds : (s : Step) (o : Node) (w : Node) → child_at s (children_of o) ≡ Some w → (v : Node) × (emptied o ≡ Some v)
+  holds : (s : Step) (o : Node) (w : Node) → child_at s (children_of o) ≡ Some w → (v : Node) × (empty_collection o ≡ Some v)
   holds s (tree.alias name) w e = absurd (none-some _ e)
   holds s (tree.scalar a kind text) w e = absurd (none-some _ e)
   holds s (tree.list a cs) w e = (tree.list None tree.none, refl)
@@ -167,7 +167,7 @@ module _ (roots : RootsStand) (entries : EntriesStand) where
       let above : node_in n x.0.0 c ≡ Some a.0 = ap (λ (o : Option Document). o >>= λ e. node_at x.0.0 e.root) d.1 ∙ a.1 in
       let r = replaced_there n x.0.0 v.0 c a.0 read above in (
         r.0,
-        ap (sole_removed n c) x.1 ∙ (ap (λ (o : Option Node). o >>= emptied >>= λ u. replaced n x.0.0 u c) above ∙ (ap (λ (o : Option Node). o >>= λ u. replaced n x.0.0 u c) v.1 ∙ r.1)),
+        ap (sole_removed n c) x.1 ∙ (ap (λ (o : Option Node). o >>= empty_collection >>= λ u. replace_segments n x.0.0 u c) above ∙ (ap (λ (o : Option Node). o >>= λ u. replace_segments n x.0.0 u c) v.1 ∙ r.1)),
       )
 
   removed_there : (n : ℕ) (s : Step) (ss : List Step) (c : Cut) (w : Node) → read_at (cut_text c) ≡ Some c → node_in n (s ∷ ss) c ≡ Some w → IsThere (removed n (s ∷ ss) c)
@@ -222,14 +222,14 @@ read_there part n steps c read room =
     room_there part n steps c (ap (λ (z : Cut). row_line_has_room part (slice_get (document_parts z) n >>= λ p. row_line_of steps p.rows)) (sym (read_cut (cut_text c) c read)) ∙ room)
 
 line_comment_there : (n : ℕ) (steps : List Step) (text : List ℕ) (c : Cut) → read_at (cut_text c) ≡ Some c → Fits (room_of (cut_text c)) (line_comment n steps text) (documents c) →
-    IsThere (edits (line_comment n steps text) c)
+    IsThere (op_edits (line_comment n steps text) c)
 line_comment_there n steps text c read fits =
     let h = read_there LineComment n steps c read fits.2.0 in
     let e : RowsOfEntry = entry_rows_at h.document h.row_line in
     (comment_put text (held e), ap (λ (o : Option RowsOfEntry). o >>= line_comment_put text) h.entry ∙ cond-true _ _ _ h.room)
 
 head_comment_there : (n : ℕ) (steps : List Step) (text : List ℕ) (c : Cut) → read_at (cut_text c) ≡ Some c → Fits (room_of (cut_text c)) (head_comment n steps text) (documents c) →
-    IsThere (edits (head_comment n steps text) c)
+    IsThere (op_edits (head_comment n steps text) c)
 head_comment_there n steps text c read fits =
     let h = read_there HeadComment n steps c read fits.2.0 in
     let e : RowsOfEntry = entry_rows_at h.document h.row_line in

@@ -13,7 +13,7 @@ use Rattle.yq_flow.specs.FlowPlaces.{PlacedEdit, place_edit}
 use Rattle.yq_cut.specs.Rows.{Cut, cut_text}
 use Rattle.yq_documents.specs.Reading.{cut_of, read_at}
 use Rattle.yq_row_places.specs.FlowNodes.{flow_collection}
-use Rattle.yq_row_places.specs.FlowViews.{IsHeadOf, FlowAgrees, behind_anchor, collection_view, placed_collection}
+use Rattle.yq_row_places.specs.FlowViews.{IsHeadOfSteps, FlowAgrees, behind_anchor, collection_view, placed_collection}
 use Rattle.yq_row_places.specs.Standings.{FlowPart, flow_part, flow_standing, last_step}
 use Rattle.yq_row_places.specs.declared.places.flow_node.FlowHead.{FlowHead}
 use Rattle.yq_script.specs.Script.{Segment, keep, put}
@@ -66,7 +66,7 @@ pub record CollFound (c : Cut) (n : ℕ) (steps : List Step) (x : FlowHead) (q :
   pub read : read_at (cut_text c) ≡ Some c
   pub coll : CollPieces
   pub found : flow_collection n steps c ≡ Some coll
-  pub agrees : IsHeadOf (cut_text c) coll x
+  pub agrees : IsHeadOfSteps (cut_text c) coll x
   pub node : behind_anchor q ≡ placed_collection (length x.text.now) agrees.at.coll
 
 -- by what it tells

@@ -11,7 +11,7 @@ use Rattle.yq_flow_scalars.specs.Tree as tree
 use Rattle.yq_flow_scalars.specs.Tree.{children_of}
 use Rattle.yq_nodes.specs.Collections.{CollAt, CollPieces, IsCollAt, room_in}
 use Rattle.yq_flow.specs.FlowEdits.{FlowEdit, add_item, appending, behind_appended, is_none}
-use Rattle.yq_nodes.specs.Nodes.{Key, Node, Items, none, item, node_text}
+use Rattle.yq_nodes.specs.Nodes.{Key, FlowNode, Items, none, item, node_text}
 use Rattle.yq_flow.specs.Valued.{IsLabel, IsValueTree}
 use Rattle.yq_nodes.specs.Written.{flow_key, flow_of}
 use Rattle.yq_flow.proofs.EditLaws.{around_is}
@@ -51,7 +51,7 @@ use Rattle.yq_edits.proofs.ValueNodes.{comma_piece, flow_piece, key_piece}
 lead_piece : (w : CollPieces) → IsPiece (cond (is_none w.items) [] (44 ∷ (32 ∷ [])))
 lead_piece w = cond_both (is_none w.items) [] (44 ∷ (32 ∷ [])) IsPiece (λ _. nothing_piece) (λ _. comma_piece)
 
-add_fit : (key : Key) (m : Node) (gap : List ℕ) (is : Items) → HasFitKey key → HasFitKeys m → EachHasFitKeys is → EachHasFitKeys (add_item key m gap is)
+add_fit : (key : Key) (m : FlowNode) (gap : List ℕ) (is : Items) → HasFitKey key → HasFitKeys m → EachHasFitKeys is → EachHasFitKeys (add_item key m gap is)
 add_fit key m gap none h k f = (h, k, tt)
 add_fit key m gap (item j n sep none) h k f = (f.0, f.1, (h, k, tt))
 add_fit key m gap (item j n sep (item j2 n2 sep2 is)) h k f = (f.0, f.1, add_fit key m gap (item j2 n2 sep2 is) h k f.2)
@@ -101,7 +101,7 @@ module _ (c : Cut) (doc : ℕ) (steps : List Step) (key : Option (List ℕ)) (v 
   append_carried u h takes fits size =
       let known = document_known (cut_text c) c doc at.part (standing.old c doc steps w read found) in
       let old : IsSoundRoot (root_of at.part) = record { unique = known.document.unique; nested = known.document.nested; bound = known.document.bound } in
-      let root : fits.0.root ≡ root_of at.part = ap (λ (d : Document). d.root) (same_Some _ _ (sym fits.1 ∙ nth_map doc at.part reading.document_of (document_parts c) at.there)) in
+      let root : fits.0.root ≡ root_of at.part = ap (λ (d : Document). d.root) (same_Some _ _ (sym fits.1 ∙ nth_map doc at.part reading.part_document (document_parts c) at.there)) in
       let node : node_at steps (root_of at.part) ≡ Some fits.2.2.0 = ap (node_at steps) (sym root) ∙ fits.2.2.1 in
       let new : IsNewValue v (suc (length steps)) = new_value (suc (length steps)) v h (tree_unique v fits.2.1.0) fits.2.1.2 in
       let room : depth v ≤ room_in x = omega (arith, standing.fewer c doc steps w read found, new.nested) in

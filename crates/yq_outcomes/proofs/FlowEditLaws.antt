@@ -2,11 +2,11 @@
 use Rattle.std.proofs.Common.{inl, ◌+◌, [], ◌∷◌, refl, ◌≡◌, ℕ, ◌-◌, ◌≤◌, List, ◌++◌, length, take, Some, sym, ap, ◌∙◌, subst, arith, append_assoc, append-nil, length-append}
 use Rattle.std.proofs.Math.Seq.{take-append_seam}
 use Rattle.yq_text.specs.Limit.{text_limit}
-use Rattle.yq_flow_scalars.specs.Paths.{Step, change, within}
+use Rattle.yq_flow_scalars.specs.Paths.{Step, changed_at, within}
 use Rattle.yq_flow_scalars.specs.Tree.{Children}
 use Rattle.yq_nodes.specs.Collections.{CollPieces}
 use Rattle.yq_flow.specs.FlowEdits.{FlowEdit, IsFlowEdited, edited_node}
-use Rattle.yq_nodes.specs.Nodes.{Node}
+use Rattle.yq_nodes.specs.Nodes.{FlowNode}
 use Rattle.yq_nodes.specs.Nodes.{node_text}
 use Rattle.yq_cut.specs.Exchange.{row_front, with_content}
 use Rattle.yq_cut.specs.Rows.{Inline, content_text, print_row, rows_text, Part, Cut, cut_text}
@@ -18,7 +18,7 @@ use Rattle.yq_documents.specs.Reading.{read_at, root_of}
 use Rattle.yq_row_places.specs.RowPaths.{IsReadable}
 use Rattle.yq_change.specs.Changed.{IsChanged, put_document}
 use Rattle.yq_change.specs.DocumentRows.{behind_document}
-use Rattle.yq_change.specs.FlowRows.{behind_node, coll_at, with_node, FlowAt}
+use Rattle.yq_change.specs.FlowRows.{behind_node, row_collection, with_node, FlowAt}
 use Rattle.yq_change.proofs.PlaceTextLaws.{IsAround, around}
 use Rattle.yq_change.specs.Rooms.{is_block_root}
 use Rattle.yq_change.specs.SoundRoots.{IsSoundRoot}
@@ -26,9 +26,9 @@ use Rattle.yq_change.proofs.FlowKeptLaws.{flow_rooms}
 use Rattle.yq_change.proofs.FlowPathLaws.{row_texts}
 use Rattle.yq_change.proofs.FlowRowLaws.{flow_edited}
 use Rattle.yq_change.proofs.LeadLaws.{same_lead_goes}
-use Rattle.yq_meaning.specs.After.{document_of, root_after}
+use Rattle.yq_meaning.specs.After.{op_document, root_after}
 use Rattle.yq_meaning.specs.Operations.{Operation}
-use Rattle.yq_script.specs.Script.{old_text, new_text, text_before, kept_front, kept_back}
+use Rattle.yq_script.specs.Script.{old_text, new_text, script_text_before, kept_front, kept_back}
 use Rattle.yq_edits.specs.Done.{ArePieces}
 use Rattle.yq_edits.specs.EditLaws.{CarriedOut}
 use Rattle.yq_edits.specs.FlowParts.{flow_segments}
@@ -41,24 +41,24 @@ use Rattle.std.proofs.lemmas.Bool.{false≢true}
 use Rattle.yq_row_places.proofs.RemovalLines.{front_some}
 
 -- the node that is edited, in its row
-abbrev pub edited_at : (c : Cut) (k : ℕ) (steps : List Step) (w : CollPieces) → FlowAt c k steps w → FlowEdit → Node
-edited_at c k steps w at e = edited_node (coll_at c k at.part at.row at.rest w) e
+abbrev pub edited_at : (c : Cut) (k : ℕ) (steps : List Step) (w : CollPieces) → FlowAt c k steps w → FlowEdit → FlowNode
+edited_at c k steps w at e = edited_node (row_collection c k at.part at.row at.rest w) e
 
 -- the cut with the edited node there
-abbrev pub made_cut : (op : Operation) (c : Cut) (steps : List Step) (w : CollPieces) → FlowAt c (document_of op) steps w → FlowEdit → Cut
-made_cut op c steps w at e = put_document (document_of op) (with_node at.part at.row (edited_at c (document_of op) steps w at e)) c
+abbrev pub made_cut : (op : Operation) (c : Cut) (steps : List Step) (w : CollPieces) → FlowAt c (op_document op) steps w → FlowEdit → Cut
+made_cut op c steps w at e = put_document (op_document op) (with_node at.part at.row (edited_at c (op_document op) steps w at e)) c
 
 -- An edit of the flow collection at a path makes of a document what an operation does.
-pub record FlowCarried (op : Operation) (c : Cut) (steps : List Step) (w : CollPieces) (at : FlowAt c (document_of op) steps w) (e : FlowEdit) (h : Children → Children) : Type 0 where
-  pub edited : IsFlowEdited (coll_at c (document_of op) at.part at.row at.rest w) e (change at.rest (within h))
-  pub keys : HasFitKeys (edited_at c (document_of op) steps w at e)
-  pub sound : IsSoundRoot (change steps (within h) (root_of at.part))
-  pub root : change steps (within h) (root_of at.part) ≡ root_after (is_block_root at.part) (lead_of at.part) op (root_of at.part)
+pub record FlowCarried (op : Operation) (c : Cut) (steps : List Step) (w : CollPieces) (at : FlowAt c (op_document op) steps w) (e : FlowEdit) (h : Children → Children) : Type 0 where
+  pub edited : IsFlowEdited (row_collection c (op_document op) at.part at.row at.rest w) e (changed_at at.rest (within h))
+  pub keys : HasFitKeys (edited_at c (op_document op) steps w at e)
+  pub sound : IsSoundRoot (changed_at steps (within h) (root_of at.part))
+  pub root : changed_at steps (within h) (root_of at.part) ≡ root_after (is_block_root at.part) (lead_of at.part) op (root_of at.part)
   pub pieces : ArePieces (flow_segments (cut_text c) e)
-  pub stays : length (behind_node c (document_of op) at.part at.row) ≤ length e.behind
+  pub stays : length (behind_node c (op_document op) at.part at.row) ≤ length e.behind
 
 -- the text before what stands at its end
-pub before_is : (t before behind : List ℕ) → t ≡ before ++ behind → text_before t behind ≡ before
+pub before_is : (t before behind : List ℕ) → t ≡ before ++ behind → script_text_before t behind ≡ before
 before_is t before behind e =
     let size : length t - length behind ≡ length before = omega (arith, ap length e, length-append before behind) in
     (λ i. take (size i) (e i)) ∙ take-append_seam before behind
@@ -70,7 +70,7 @@ pub record FlowTexts (c new : Cut) (e : FlowEdit) (node : List ℕ) : Type 0 whe
   pub is : cut_text new ≡ before ++ ((e.lead ++ e.written) ++ e.behind)
   pub inside : length (cut_text c) ≤ length before + length node
 
-pub flow_texts : (c : Cut) (k : ℕ) (steps : List Step) (w : CollPieces) (at : FlowAt c k steps w) (e : FlowEdit) (h : Children → Children) → IsFlowEdited (coll_at c k at.part at.row at.rest w) e (change at.rest (within h)) →
+pub flow_texts : (c : Cut) (k : ℕ) (steps : List Step) (w : CollPieces) (at : FlowAt c k steps w) (e : FlowEdit) (h : Children → Children) → IsFlowEdited (row_collection c k at.part at.row at.rest w) e (changed_at at.rest (within h)) →
     FlowTexts c (put_document k (with_node at.part at.row (edited_at c k steps w at e)) c) e (node_text at.row.node (behind_node c k at.part at.row))
 flow_texts c k steps w at e h edited =
     let s = row_texts c k at.part at.row at.there at.at.rows_are at.at.content_is in
@@ -103,7 +103,7 @@ row_there c k steps w at a =
     ∙ (ap (λ t. a.start ++ t) (rows_text-append at.row.front (at.row.row ∷ at.row.back) z ∙ ap (rows_text at.row.front) own) ∙ at_row a.start at.row.front _))
 
 -- one row gives way to another
-flow_local : (c : Cut) (k : ℕ) (steps : List Step) (w : CollPieces) (at : FlowAt c k steps w) (e : FlowEdit) (m : Node) (t : FlowTexts c (put_document k (with_node at.part at.row m) c) e (node_text at.row.node (behind_node c k at.part at.row))) →
+flow_local : (c : Cut) (k : ℕ) (steps : List Step) (w : CollPieces) (at : FlowAt c k steps w) (e : FlowEdit) (m : FlowNode) (t : FlowTexts c (put_document k (with_node at.part at.row m) c) e (node_text at.row.node (behind_node c k at.part at.row))) →
     length (behind_node c k at.part at.row) ≤ length e.behind → new_text (flow_segments (cut_text c) e) ≡ cut_text (put_document k (with_node at.part at.row m) c) → IsLocal (flow_segments (cut_text c) e) c (put_document k (with_node at.part at.row m) c)
 flow_local c k steps w at e m t stays new =
     let i = at.row in
@@ -126,19 +126,19 @@ flow_local c k steps w at e m t stays new =
     )) (omega (arith, stays, ap length behind, length-append i.tail (rows_text i.back (p.end ++ behind_document k c))))
 
 -- the text that it makes is that of another cut, which reads as the documents with that change
-pub made_changed : (op : Operation) (c : Cut) (steps : List Step) (w : CollPieces) (at : FlowAt c (document_of op) steps w) (e : FlowEdit) (h : Children → Children) → read_at (cut_text c) ≡ Some c → FlowCarried op c steps w at e h →
-    length (new_text (flow_segments (cut_text c) e)) ≤ text_limit → (new_text (flow_segments (cut_text c) e) ≡ cut_text (made_cut op c steps w at e)) × IsChanged c (made_cut op c steps w at e) (document_of op) (lead_of at.part) (change steps (within h))
+pub made_changed : (op : Operation) (c : Cut) (steps : List Step) (w : CollPieces) (at : FlowAt c (op_document op) steps w) (e : FlowEdit) (h : Children → Children) → read_at (cut_text c) ≡ Some c → FlowCarried op c steps w at e h →
+    length (new_text (flow_segments (cut_text c) e)) ≤ text_limit → (new_text (flow_segments (cut_text c) e) ≡ cut_text (made_cut op c steps w at e)) × IsChanged c (made_cut op c steps w at e) (op_document op) (lead_of at.part) (changed_at steps (within h))
 made_changed op c steps w at e h read done size =
-    let k : ℕ = document_of op in
+    let k : ℕ = op_document op in
     let texts = flow_texts c k steps w at e h done.edited in
     let is : new_text (flow_segments (cut_text c) e) ≡ cut_text (made_cut op c steps w at e) = segments_new (cut_text c) (cut_text (made_cut op c steps w at e)) texts.before e texts.old texts.is in
     let readable : IsReadable (cut_text (made_cut op c steps w at e)) = subst IsReadable is (segments_readable (flow_segments (cut_text c) e) done.pieces size) in
     (is, flow_edited (cut_text c) c k at.part steps at.line at.rest at.row w e h (record { read = read; there = at.there }) at.at done.edited done.keys done.sound readable)
 
-pub flow_carried : (op : Operation) (c : Cut) (steps : List Step) (w : CollPieces) (at : FlowAt c (document_of op) steps w) (e : FlowEdit) (h : Children → Children) → read_at (cut_text c) ≡ Some c → FlowCarried op c steps w at e h →
+pub flow_carried : (op : Operation) (c : Cut) (steps : List Step) (w : CollPieces) (at : FlowAt c (op_document op) steps w) (e : FlowEdit) (h : Children → Children) → read_at (cut_text c) ≡ Some c → FlowCarried op c steps w at e h →
     length (new_text (flow_segments (cut_text c) e)) ≤ text_limit → CarriedOut op c (flow_segments (cut_text c) e)
 flow_carried op c steps w at e h read done size =
-    let k : ℕ = document_of op in
+    let k : ℕ = op_document op in
     let p : Part = at.part in
     let q : Part = with_node p at.row (edited_at c k steps w at e) in
     let new : Cut = made_cut op c steps w at e in
@@ -146,7 +146,7 @@ flow_carried op c steps w at e h read done size =
     let changed = made_changed op c steps w at e h read done size in
     let kept = flow_rooms c k p steps at.line at.rest at.row w e.gap e.items at.at in
     record {
-      reads = subst (ReadsAfter op c) (sym changed.0) (document_done op c p q (lead_of p) (change steps (within h)) (record {
+      reads = subst (ReadsAfter op c) (sym changed.0) (document_done op c p q (lead_of p) (changed_at steps (within h)) (record {
         read = read;
         there = at.there;
         rows = λ none. absurd (false≢true (sym (front_some at.row.front _ _) ∙ none));
@@ -160,6 +160,6 @@ flow_carried op c steps w at e h read done size =
     }
 
 -- the text that it makes reads as that cut
-pub made_reads : (op : Operation) (c : Cut) (steps : List Step) (w : CollPieces) (at : FlowAt c (document_of op) steps w) (e : FlowEdit) (h : Children → Children) → read_at (cut_text c) ≡ Some c → FlowCarried op c steps w at e h →
+pub made_reads : (op : Operation) (c : Cut) (steps : List Step) (w : CollPieces) (at : FlowAt c (op_document op) steps w) (e : FlowEdit) (h : Children → Children) → read_at (cut_text c) ≡ Some c → FlowCarried op c steps w at e h →
     length (new_text (flow_segments (cut_text c) e)) ≤ text_limit → read_at (new_text (flow_segments (cut_text c) e)) ≡ Some (made_cut op c steps w at e)
 made_reads op c steps w at e h read done size = let changed = made_changed op c steps w at e h read done size in ap read_at changed.0 ∙ changed.1.read

@@ -4,7 +4,7 @@ use Rattle.std.proofs.lemmas.Option.{none-some, same_Some}
 use Rattle.yq_flow_scalars.specs.Paths.{Step}
 use Rattle.yq_nodes.specs.Collections.{CollAt, CollPieces, IsCollAt}
 use Rattle.yq_nodes.specs.Entries.{EntryPieces, item_at}
-use Rattle.yq_nodes.specs.Nodes.{Key, Node, coll, node_text, items_text, IsNode}
+use Rattle.yq_nodes.specs.Nodes.{Key, FlowNode, coll, node_text, flow_items_text, IsFlowNode}
 use Rattle.yq_nodes.specs.Places.{Placed, locate}
 use Rattle.yq_flow.specs.FlowEdits.{FlowEdit, appending, replacing}
 use Rattle.yq_flow.specs.FlowPlaces.{append_place, place_edit, remove_place, replace_place}
@@ -14,7 +14,7 @@ use Rattle.yq_flow.proofs.PlacedEdits.{append_placed, replace_placed}
 use Rattle.yq_flow.proofs.RemovePlaces.{remove_placed}
 use Rattle.yq_flow.proofs.RemoveTexts.{removed_text}
 use Rattle.yq_nodes.proofs.PathLaws.{items_hold}
-use Rattle.yq_row_places.specs.FlowViews.{IsHeadOf, FlowAgrees, behind_anchor, collection_view, placed_collection}
+use Rattle.yq_row_places.specs.FlowViews.{IsHeadOfSteps, FlowAgrees, behind_anchor, collection_view, placed_collection}
 use Rattle.yq_row_places.specs.declared.places.flow_node.FlowHead.{FlowHead}
 use Rattle.yq_outcomes.specs.EditPlaces.{moved_on}
 use Rattle.yq_outcomes.proofs.FlowLonger.{edit_more, entry_more, item_more, place_moved, with_more}
@@ -44,20 +44,20 @@ module _ (z : CollAt) (is : IsCollAt z) where
   unfolding node_text
   whole = around.text
 
-  valid : IsNode true (Some 0) (Rattle.std.proofs.Common.suc around.inner_depth) (coll w.close w.gap w.items) w.rest
-  unfolding IsNode
+  valid : IsFlowNode true (Some 0) (Rattle.std.proofs.Common.suc around.inner_depth) (coll w.close w.gap w.items) w.rest
+  unfolding IsFlowNode
   valid = (around.closes, around.gap, around.items)
 
-  pub appended_within : (key : Key) (m : Node) → length ((appending key m w).old ++ (appending key m w).behind) ≤ length t
+  pub appended_within : (key : Key) (m : FlowNode) → length ((appending key m w).old ++ (appending key m w).behind) ≤ length t
   appended_within key m = stands_within t _ (appended_stands z [] is)
 
-  pub replaced_within : (s : Step) (y : EntryPieces) (m : Node) → item_at w.close s w.items w.rest ≡ Some y → length ((replacing s y m w).old ++ (replacing s y m w).behind) ≤ length t
+  pub replaced_within : (s : Step) (y : EntryPieces) (m : FlowNode) → item_at w.close s w.items w.rest ≡ Some y → length ((replacing s y m w).old ++ (replacing s y m w).behind) ≤ length t
   replaced_within s y m at = stands_within t _ (replaced_stands z [] is s y at)
 
-  pub append_found : (key : Key) (m : Node) → append_place (placed_collection (length t) w) ≡ Some (place_edit (length t) (appending key m w))
+  pub append_found : (key : Key) (m : FlowNode) → append_place (placed_collection (length t) w) ≡ Some (place_edit (length t) (appending key m w))
   append_found key m = append_placed (length t) (coll w.close w.gap w.items) w.rest w key m (longer_behind t around.before _ whole) refl
 
-  pub replace_found : (s : Step) (y : EntryPieces) (m : Node) → item_at w.close s w.items w.rest ≡ Some y → replace_place (locate (length t) y.node y.rest) ≡ place_edit (length t) (replacing s y m w)
+  pub replace_found : (s : Step) (y : EntryPieces) (m : FlowNode) → item_at w.close s w.items w.rest ≡ Some y → replace_place (locate (length t) y.node y.rest) ≡ place_edit (length t) (replacing s y m w)
   replace_found s y m at = replace_placed true (Some 0) around.inner_depth (length t) s y m w (items_hold around.inner_depth w.close s w.items w.rest y around.items at)
 
   pub remove_found : (s : Step) → remove_place t s (placed_collection (length t) w) ≡ option_map (place_edit (length t)) (removing s w)
@@ -66,12 +66,12 @@ module _ (z : CollAt) (is : IsCollAt z) where
   pub removed_within : (s : Step) (e : FlowEdit) → removing s w ≡ Some e → length (e.old ++ e.behind) ≤ length t
   removed_within s e at =
       let h = (removed_text w.close w.rest s w.gap w.items e at).text in
-      omega (arith, longer_behind (w.gap ++ items_text w.close w.items w.rest) h.before (e.old ++ e.behind) h.was, longer_behind t around.before _ around.text)
+      omega (arith, longer_behind (w.gap ++ flow_items_text w.close w.items w.rest) h.before (e.old ++ e.behind) h.was, longer_behind t around.before _ around.text)
 
 -- ---- the collection in the text
 
 -- Its place in the text of an edit that has one in the row alone.
-module _ (t : List ℕ) (w : CollPieces) (x : FlowHead) (h : IsHeadOf t w x) where
+module _ (t : List ℕ) (w : CollPieces) (x : FlowHead) (h : IsHeadOfSteps t w x) where
   abbrev pub row : List ℕ
   row = x.text.now
 
@@ -97,6 +97,6 @@ module _ (t : List ℕ) (w : CollPieces) (x : FlowHead) (h : IsHeadOf t w x) whe
 
 -- what the code tells with a node is a collection of the text
 pub agrees_there : (t : List ℕ) (o : Option CollPieces) (x : FlowHead) (q : Placed) → FlowAgrees t o (Some x) → Some (behind_anchor q) ≡ collection_view x →
-    (w : CollPieces) × (o ≡ Some w) × (h : IsHeadOf t w x) × (behind_anchor q ≡ placed_collection (length x.text.now) h.at.coll)
+    (w : CollPieces) × (o ≡ Some w) × (h : IsHeadOfSteps t w x) × (behind_anchor q ≡ placed_collection (length x.text.now) h.at.coll)
 agrees_there t None x q agrees node = absurd (none-some _ (sym (node ∙ agrees)))
 agrees_there t (Some w) x q agrees node = (w, refl, agrees, same_Some _ _ (node ∙ agrees_is t w x agrees))

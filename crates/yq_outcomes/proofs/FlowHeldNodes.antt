@@ -6,9 +6,9 @@ use Rattle.yq_flow_scalars.specs.Paths.{Step, is_here, further, child_at, node_a
 use Rattle.yq_flow_scalars.specs.Tree as tree
 use Rattle.yq_flow_scalars.specs.Tree.{Children, children_of}
 use Rattle.yq_nodes.specs.Collections.{CollPieces, coll_along, coll_in}
-use Rattle.yq_nodes.specs.Entries.{EntryPieces, inside, item_at}
-use Rattle.yq_nodes.specs.Nodes.{Node, empty, alias, scalar, coll, anchored, Items, none, item, sep_text, items_text}
-use Rattle.yq_nodes.specs.Trees.{collection, inner, items_tree, key_content, tree_of, with_name}
+use Rattle.yq_nodes.specs.Entries.{EntryPieces, path_inside, item_at}
+use Rattle.yq_nodes.specs.Nodes.{FlowNode, empty, alias, scalar, coll, anchored, Items, none, item, sep_text, flow_items_text}
+use Rattle.yq_nodes.specs.Trees.{tree_collection, inner, items_tree, key_content, tree_of, with_name}
 use Rattle.yq_lines.specs.Outline as outlines
 
 -- ---- what a collection holds
@@ -41,7 +41,7 @@ held_named n (tree.scalar a kind text) = refl
 held_named n (tree.list a cs) = refl
 held_named n (tree.map a cs) = refl
 
-held_coll : (k : ℕ) (cs : Children) → held (collection k cs) ≡ Some (eqb k 125, cs)
+held_coll : (k : ℕ) (cs : Children) → held (tree_collection k cs) ≡ Some (eqb k 125, cs)
 held_coll k cs = elim (eqb k 125) as (λ b. held (cond b (tree.map None cs) (tree.list None cs)) ≡ Some (b, cs)) [ true ↦ refl | false ↦ refl ]
 
 abbrev kids : Option FlowContent → Children
@@ -69,7 +69,7 @@ same_held (s ∷ ss) a b x same h =
 
 -- ---- in an inline node
 
-coll_here : (node : Node) (rest : List ℕ) (x : FlowContent) → held (tree_of node) ≡ Some x → (w : CollPieces) × (coll_in node rest ≡ Some w) × (coll_held w ≡ x)
+coll_here : (node : FlowNode) (rest : List ℕ) (x : FlowContent) → held (tree_of node) ≡ Some x → (w : CollPieces) × (coll_in node rest ≡ Some w) × (coll_held w ≡ x)
 unfolding tree_of
 coll_here empty rest x e = absurd (none-some _ e)
 coll_here (alias n) rest x e = absurd (none-some _ e)
@@ -85,12 +85,12 @@ pub item_child : (k : ℕ) (s : Step) (is : Items) (rest : List ℕ) → option_
 unfolding items_tree
 item_child k s none rest = refl
 item_child k s (item key n sep is) rest =
-    let y : EntryPieces = record { key = key; node = n; rest = sep_text sep (items_text k is rest) } in
+    let y : EntryPieces = record { key = key; node = n; rest = sep_text sep (flow_items_text k is rest) } in
     elim (is_here s (inner (key_content key)))
     as (λ b. option_map entry_tree (cond b (Some y) (item_at k (further s) is rest)) ≡ cond b (Some (tree_of n)) (child_at (further s) (items_tree is)))
     [ true ↦ refl | false ↦ item_child k (further s) is rest ]
 
-pub inside_child : (s : Step) (node : Node) (rest : List ℕ) → option_map entry_tree (inside s node rest) ≡ child_at s (kids (held (tree_of node)))
+pub inside_child : (s : Step) (node : FlowNode) (rest : List ℕ) → option_map entry_tree (path_inside s node rest) ≡ child_at s (kids (held (tree_of node)))
 unfolding tree_of
 inside_child s empty rest = refl
 inside_child s (alias n) rest = refl
@@ -99,17 +99,17 @@ inside_child s (coll k gap is) rest = item_child k s is rest ∙ ap (λ o. child
 inside_child s (anchored n gap node) rest = inside_child s node rest ∙ ap (λ o. child_at s (kids o)) (sym (held_named n (tree_of node)))
 
 -- Steps lead from a node before a rest to a flow collection that holds these.
-abbrev pub CollThere : List Step → Node → List ℕ → FlowContent → Type 0
+abbrev pub CollThere : List Step → FlowNode → List ℕ → FlowContent → Type 0
 CollThere ss node rest x = (w : CollPieces) × (coll_along ss node rest ≡ Some w) × (coll_held w ≡ x)
 
 -- Where steps lead to a collection in its tree they lead to one in the node.
-pub coll_there : (ss : List Step) (node : Node) (rest : List ℕ) (x : FlowContent) → HeldAt ss (tree_of node) x → CollThere ss node rest x
+pub coll_there : (ss : List Step) (node : FlowNode) (rest : List ℕ) (x : FlowContent) → HeldAt ss (tree_of node) x → CollThere ss node rest x
 coll_there [] node rest x h = coll_here node rest x (ap held (same_Some _ _ h.1) ∙ h.2)
 coll_there (s ∷ ss) node rest x h =
-    let child : option_map entry_tree (inside s node rest) ≡ child_at s (children_of (tree_of node)) = inside_child s node rest ∙ ap (child_at s) (sym (kids_held (tree_of node))) in
-    go (inside s node rest) refl (ap (option_and_then (node_at ss)) child ∙ h.1) (λ y found. coll_there ss y.node y.rest x found)
+    let child : option_map entry_tree (path_inside s node rest) ≡ child_at s (children_of (tree_of node)) = inside_child s node rest ∙ ap (child_at s) (sym (kids_held (tree_of node))) in
+    go (path_inside s node rest) refl (ap (option_and_then (node_at ss)) child ∙ h.1) (λ y found. coll_there ss y.node y.rest x found)
   where
-    go : (o : Option EntryPieces) → inside s node rest ≡ o → option_and_then (node_at ss) (option_map entry_tree o) ≡ Some h.0 →
+    go : (o : Option EntryPieces) → path_inside s node rest ≡ o → option_and_then (node_at ss) (option_map entry_tree o) ≡ Some h.0 →
         ((y : EntryPieces) → HeldAt ss (entry_tree y) x → CollThere ss y.node y.rest x) → CollThere (s ∷ ss) node rest x
     go None is e again = absurd (none-some _ e)
     go (Some y) is e again = let w = again y (h.0, e, h.2) in (w.0, ap (option_and_then (λ (z : EntryPieces). coll_along ss z.node z.rest)) is ∙ w.1, w.2)

@@ -9,19 +9,19 @@ use Rattle.yq_flow_scalars.specs.Tree as tree
 use Rattle.yq_flow_scalars.specs.Tree.{children_of}
 use Rattle.yq_flow_scalars.proofs.Bools.{bind_some}
 use Rattle.yq_nodes.specs.Collections.{CollPieces, coll_along}
-use Rattle.yq_nodes.specs.Entries.{EntryPieces, inside, item_at}
-use Rattle.yq_nodes.specs.Nodes.{Node}
+use Rattle.yq_nodes.specs.Entries.{EntryPieces, path_inside, item_at}
+use Rattle.yq_nodes.specs.Nodes.{FlowNode}
 use Rattle.yq_nodes.specs.Trees.{tree_of}
 use Rattle.yq_lines.specs.Ends.{found_line}
 use Rattle.yq_lines.specs.Group.{level_or}
 use Rattle.yq_lines.specs.Outline.{Outline, IsEven, level, row, anchored, head_or, value}
-use Rattle.yq_lines.specs.Places.{FoundLine, content, lines_before}
+use Rattle.yq_lines.specs.Places.{FoundLine, content_under, lines_before}
 use Rattle.yq_lines.proofs.Finding.{FoundNode, node-anchored, path_node}
 use Rattle.yq_lines.proofs.Plug.{allows_from}
 use Rattle.yq_cut.specs.Exchange.{behind_row}
 use Rattle.yq_cut.specs.Rows.{Content, Nothing, Inline, Block, Part, Cut, cut_text}
 use Rattle.yq_documents.specs.Documents.{Document, document_parts}
-use Rattle.yq_documents.specs.Reading.{document_of, outline_of, read_at}
+use Rattle.yq_documents.specs.Reading.{part_document, part_outline, read_at}
 use Rattle.yq_documents.specs.LinesInRows.{RowLine, document_row, row_line, row_line_of}
 use Rattle.yq_lines.specs.Lines.{content_anchor, head_of}
 use Rattle.yq_row_places.specs.FlowNodes.{content_flow, find_head}
@@ -46,13 +46,13 @@ one_node None = refl
 one_node (Some n) = refl
 
 -- a step into a node leads to the item or entry there
-child_is : (s : Step) (node : Node) (rest : List ℕ) → child_at s (children_of (tree_of node)) ≡ option_map entry_tree (inside s node rest)
+child_is : (s : Step) (node : FlowNode) (rest : List ℕ) → child_at s (children_of (tree_of node)) ≡ option_map entry_tree (path_inside s node rest)
 child_is s node rest = ap (child_at s) (kids_held (tree_of node)) ∙ sym (inside_child s node rest)
 
 -- one step more than those to a collection leads to its item or entry
-coll_node : (ss : List Step) (s : Step) (node : Node) (rest : List ℕ) (w : CollPieces) → coll_along ss node rest ≡ Some w → node_at (ss ++ (s ∷ [])) (tree_of node) ≡ option_map entry_tree (item_at w.close s w.items w.rest)
+coll_node : (ss : List Step) (s : Step) (node : FlowNode) (rest : List ℕ) (w : CollPieces) → coll_along ss node rest ≡ Some w → node_at (ss ++ (s ∷ [])) (tree_of node) ≡ option_map entry_tree (item_at w.close s w.items w.rest)
 coll_node [] s node rest w e = one_node (child_at s (children_of (tree_of node))) ∙ (child_is s node rest ∙ ap (option_map entry_tree) (coll_entry s node rest w e))
-coll_node (t ∷ ss) s node rest w e = ap (option_and_then (node_at (ss ++ (s ∷ [])))) (child_is t node rest) ∙ go (inside t node rest) e (λ y at. coll_node ss s y.node y.rest w at)
+coll_node (t ∷ ss) s node rest w e = ap (option_and_then (node_at (ss ++ (s ∷ [])))) (child_is t node rest) ∙ go (path_inside t node rest) e (λ y at. coll_node ss s y.node y.rest w at)
   where
     go : (o : Option EntryPieces) → option_and_then (λ (y : EntryPieces). coll_along ss y.node y.rest) o ≡ Some w →
         ((y : EntryPieces) → coll_along ss y.node y.rest ≡ Some w → node_at (ss ++ (s ∷ [])) (entry_tree y) ≡ option_map entry_tree (item_at w.close s w.items w.rest)) →
@@ -82,7 +82,7 @@ record LineAt (c : Cut) (n : ℕ) (steps : List Step) (w : CollPieces) : Type 0 
   part : Part
   there : slice_get (document_parts c) n ≡ Some part
   line : FoundLine × List Step
-  found : find_head steps (outline_of part) ≡ Some line
+  found : find_head steps (part_outline part) ≡ Some line
   row_line_is : RowLine
   printed_line : row_line (length (lines_before line.0.place)) part.rows ≡ Some row_line_is
   flow : content_flow line.1 row_line_is.row.content (behind_row (document_row n c + row_line_is.before) c) ≡ Some w
@@ -90,7 +90,7 @@ record LineAt (c : Cut) (n : ℕ) (steps : List Step) (w : CollPieces) : Type 0 
 line_at : (c : Cut) (n : ℕ) (steps : List Step) (w : CollPieces) → Rattle.yq_row_places.specs.FlowNodes.flow_collection n steps c ≡ Some w → LineAt c n steps w
 line_at c n steps w e =
     let d = bind_some (slice_get (document_parts c) n) e in
-    let x = bind_some (find_head steps (outline_of d.0)) d.2 in
+    let x = bind_some (find_head steps (part_outline d.0)) d.2 in
     let s = bind_some (row_line (length (lines_before x.0.0.place)) d.0.rows) x.2 in
     record { part = d.0; there = d.1; line = x.0; found = x.1; row_line_is = s.0; printed_line = s.1; flow = s.2 }
 
@@ -99,9 +99,9 @@ node_found : (steps : List Step) (s : Step) (o : Outline) → node_at (steps ++ 
 node_found [] s o = path_node s [] o
 node_found (t ∷ ts) s o = path_node t (ts ++ (s ∷ [])) o
 
-line_node : (c : Cut) (n : ℕ) (steps : List Step) (s : Step) (w : CollPieces) (h : LineAt c n steps w) → read_at (cut_text c) ≡ Some c → node_at (steps ++ (s ∷ [])) (value (outline_of h.part)) ≡ option_map entry_tree (item_at w.close s w.items w.rest)
+line_node : (c : Cut) (n : ℕ) (steps : List Step) (s : Step) (w : CollPieces) (h : LineAt c n steps w) → read_at (cut_text c) ≡ Some c → node_at (steps ++ (s ∷ [])) (value (part_outline h.part)) ≡ option_map entry_tree (item_at w.close s w.items w.rest)
 line_node c n steps s w h read =
-    let o : Outline = outline_of h.part in
+    let o : Outline = part_outline h.part in
     let f : FoundLine = h.line.0 in
     let known = document_known (cut_text c) c n h.part (record { read = read; there = h.there }) in
     let m : ℕ = level_or 0 o in
@@ -117,7 +117,7 @@ line_node c n steps s w h read =
 
 -- ---- nothing outside flow collections
 
-none_seat : (path : List Step) (s : Step) (p : Part) (y : FoundLine × List Step) → found_at path (outline_of p) ≡ Some (y.0, y.1 ++ (s ∷ [])) → row_line_of path p.rows ≡ None
+none_seat : (path : List Step) (s : Step) (p : Part) (y : FoundLine × List Step) → found_at path (part_outline p) ≡ Some (y.0, y.1 ++ (s ∷ [])) → row_line_of path p.rows ≡ None
 none_seat [] s p y e = refl
 none_seat (t ∷ ts) s p y e = ap (λ (o : Option (FoundLine × List Step)). option_and_then (λ x. found_line x.0 x.1) o >>= λ n. row_line n p.rows) e ∙ go y.1
   where
@@ -145,11 +145,11 @@ module _ (c : Cut) (n : ℕ) (path : List Step) (a : EntryAt c n path) where
   -- the node there
   pub part_node : read_at (cut_text c) ≡ Some c → node_in n path c ≡ Some (tree_of a.item.node)
   part_node read =
-      ap (λ (o : Option Document). o >>= λ d. node_at path d.root) (slice_get-map document_of (document_parts c) n ∙ ap (option_map document_of) line.there)
-      ∙ (ap (λ (ss : List Step). node_at ss (value (outline_of line.part))) path_is ∙ (line_node c n a.init a.step a.coll line read ∙ ap (option_map entry_tree) a.at))
+      ap (λ (o : Option Document). o >>= λ d. node_at path d.root) (slice_get-map part_document (document_parts c) n ∙ ap (option_map part_document) line.there)
+      ∙ (ap (λ (ss : List Step). node_at ss (value (part_outline line.part))) path_is ∙ (line_node c n a.init a.step a.coll line read ∙ ap (option_map entry_tree) a.at))
 
   -- nothing stands there outside flow collections
   pub none_there : standing_at n path c ≡ None
   none_there = none_standing n path c (a.init, a.step) a.last (λ d is.
       let same : d.part ≡ line.part = same_Some _ _ (ap part_of (sym is) ∙ (sym (document_placed n c) ∙ line.there)) in
-      none_seat path a.step d.part line.line (ap (λ (ss : List Step). found_at ss (outline_of d.part)) path_is ∙ (ap (λ (q : Part). found_at (a.init ++ (a.step ∷ [])) (outline_of q)) same ∙ head_on a.init a.step (outline_of line.part) line.line line.found)))
+      none_seat path a.step d.part line.line (ap (λ (ss : List Step). found_at ss (part_outline d.part)) path_is ∙ (ap (λ (q : Part). found_at (a.init ++ (a.step ∷ [])) (part_outline q)) same ∙ head_on a.init a.step (part_outline line.part) line.line line.found)))

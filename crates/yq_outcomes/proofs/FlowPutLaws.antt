@@ -6,18 +6,18 @@ use Rattle.std.specs.Str.{IsCharBoundary}
 use Rattle.yq_flow_scalars.specs.Answers.{◌>>=◌}
 use Rattle.yq_text.specs.Limit.{text_limit}
 use Rattle.yq_flow_scalars.specs.Keys.{depth}
-use Rattle.yq_flow_scalars.specs.Paths.{Step, change, change_child, is_here, further, within}
+use Rattle.yq_flow_scalars.specs.Paths.{Step, changed_at, change_child, is_here, further, within}
 use Rattle.yq_flow_scalars.specs.Scalar.{ScalarText}
 use Rattle.yq_flow_scalars.specs.Tree as tree
 use Rattle.yq_flow_scalars.specs.declared.style.Place.TheVariants.{Flow}
-use Rattle.yq_nodes.specs.Collections.{CollAt, CollPieces, IsCollAt, item_in, put_at, room_in}
+use Rattle.yq_nodes.specs.Collections.{CollAt, CollPieces, IsCollAt, item_in, collection_put, room_in}
 use Rattle.yq_nodes.specs.Entries.{EntryPieces, item_at}
 use Rattle.yq_flow.specs.FlowEdits.{FlowEdit, IsFlowEdited, anchor_in, content_node, put_content, put_item, put_value, replacing, space_for, spaced_key}
 use Rattle.yq_nodes.specs.Nodes as inline
-use Rattle.yq_nodes.specs.Nodes.{Key, bare, keyed, Items, none, item, is_bare, node_text}
+use Rattle.yq_nodes.specs.Nodes.{Key, bare, keyed, Items, none, item, is_empty_node, node_text}
 use Rattle.yq_nodes.specs.Places.{locate}
-use Rattle.yq_nodes.specs.Scalars.{style_of}
-use Rattle.yq_nodes.specs.Trees.{inner, key_content, named, scalar_node}
+use Rattle.yq_nodes.specs.Scalars.{scalar_style}
+use Rattle.yq_nodes.specs.Trees.{inner, key_content, with_anchor_name, scalar_node}
 use Rattle.yq_flow.specs.Valued.{IsValueTree}
 use Rattle.yq_flow.proofs.EditLaws.{around_is}
 use Rattle.yq_flow.proofs.EditSpans.{EditIsSpan, replace_spans}
@@ -28,7 +28,7 @@ use Rattle.yq_flow.proofs.ValueFits.{scalar_block}
 use Rattle.yq_lines.specs.Outline.{anchored}
 use Rattle.yq_cut.specs.Rows.{Cut, cut_text}
 use Rattle.yq_documents.specs.Documents.{EachHasFitKeys, HasFitKey, HasFitKeys, lead_of}
-use Rattle.yq_documents.specs.TreeEdits.{anchor_of, replaced}
+use Rattle.yq_documents.specs.TreeEdits.{anchor_of, replaced_node}
 use Rattle.yq_documents.specs.Reading.{documents, read_at, root_of}
 use Rattle.yq_row_places.specs.FlowViews.{LeadsToHead}
 use Rattle.yq_row_places.proofs.FlowPieces.{named_is, none_anchored}
@@ -49,7 +49,7 @@ use Rattle.yq_row_places.specs.Standings.{FlowPart, last_step}
 use Rattle.yq_edits.specs.EditLaws.{CarriedOut, FlowValuesArePut, IsEdit}
 use Rattle.yq_edits.specs.FlowParts.{content_written, flow_put, flow_segments, flow_value}
 use Rattle.yq_edits.specs.Style.{style_in}
-use Rattle.yq_outcomes.specs.PartPuts.{IsPart}
+use Rattle.yq_outcomes.specs.PartPuts.{IsPartOf}
 use Rattle.yq_flow.proofs.ItemPlaces.{item_rest}
 use Rattle.yq_edits.proofs.FitLaws.{FitsReplace, fits_replace}
 use Rattle.yq_outcomes.proofs.FlowPieceLaws.{edit_pieces, nothing_piece, one_space}
@@ -68,17 +68,17 @@ use Rattle.yq_edits.proofs.ValueNodes.{flow_piece, scalar_is}
 -- ---- what is written of a value
 
 abbrev style_there : List ℕ → ScalarText → Rattle.yq_flow_scalars.specs.declared.style.Style.Style
-style_there old s = style_in Flow s (style_of old)
+style_there old s = style_in Flow s (scalar_style old)
 
 value_edited : (x : CollAt) (s : Step) (y : EntryPieces) (old : List ℕ) (v : tree.Node) → IsCollAt x → item_in s x ≡ Some y → IsValueTree v → depth v ≤ room_in x →
-    IsFlowEdited x (replacing s y (flow_value old v) x.coll) (change (x.steps ++ (s ∷ [])) (put_value v))
+    IsFlowEdited x (replacing s y (flow_value old v) x.coll) (changed_at (x.steps ++ (s ∷ [])) (put_value v))
 value_edited x s y old (tree.alias name) h at v deep = absurd v
 value_edited x s y old (tree.scalar a kind t) h at v deep =
     let z : ScalarText = record { kind = kind; text = t } in
     let e = replacing s y (flow_value old (tree.scalar a kind t)) x.coll in
-    let named : scalar_node z ≡ tree.scalar a kind t = ap (λ (b : Option (List ℕ)). tree.scalar b kind t) (sym v.0) in
-    subst (λ (n : tree.Node). IsFlowEdited x e (change (x.steps ++ (s ∷ [])) (put_value n))) named
-    (scalar_replaced x s y z (style_there old z) h at v.1 (style_inline Flow z (style_of old) (style_line old)) (style_writes Flow z (style_of old)))
+    let with_anchor_name : scalar_node z ≡ tree.scalar a kind t = ap (λ (b : Option (List ℕ)). tree.scalar b kind t) (sym v.0) in
+    subst (λ (n : tree.Node). IsFlowEdited x e (changed_at (x.steps ++ (s ∷ [])) (put_value n))) with_anchor_name
+    (scalar_replaced x s y z (style_there old z) h at v.1 (style_inline Flow z (scalar_style old) (style_line old)) (style_writes Flow z (scalar_style old)))
 value_edited x s y old (tree.list a cs) h at v deep = value_replaced x s y (tree.list a cs) h at v deep
 value_edited x s y old (tree.map a cs) h at v deep = value_replaced x s y (tree.map a cs) h at v deep
 
@@ -87,8 +87,8 @@ unfolding node_text
 written_piece old (tree.alias name) v = absurd v
 written_piece old (tree.scalar a kind t) v =
     let z : ScalarText = record { kind = kind; text = t } in
-    let fits = style_inline Flow z (style_of old) (style_line old) in
-    subst IsPiece (sym (append-nil _)) (scalar_is a kind t (style_there old z) v fits (scalar_block z (style_there old z) fits (style_writes Flow z (style_of old)))).1
+    let fits = style_inline Flow z (scalar_style old) (style_line old) in
+    subst IsPiece (sym (append-nil _)) (scalar_is a kind t (style_there old z) v fits (scalar_block z (style_there old z) fits (style_writes Flow z (scalar_style old)))).1
 written_piece old (tree.list a cs) v = flow_piece (tree.list a cs) v
 written_piece old (tree.map a cs) v = flow_piece (tree.map a cs) v
 
@@ -104,14 +104,14 @@ spaced_fit : (key : Key) → HasFitKey key → HasFitKey (spaced_key key)
 spaced_fit bare h = tt
 spaced_fit (keyed p b g) h = h
 
-content_fit : (m : inline.Node) (key : Key) (n : inline.Node) → HasFitKeys m → HasFitKey key → HasFitKey (put_content m key n).0 × HasFitKeys (put_content m key n).1
+content_fit : (m : inline.FlowNode) (key : Key) (n : inline.FlowNode) → HasFitKeys m → HasFitKey key → HasFitKey (put_content m key n).0 × HasFitKeys (put_content m key n).1
 content_fit m key inline.empty h k = (spaced_fit key k, h)
 content_fit m key (inline.alias n) h k = (k, h)
 content_fit m key (inline.scalar p) h k = (k, h)
 content_fit m key (inline.coll close gap is) h k = (k, h)
 content_fit m key (inline.anchored n gap node) h k = (k, h)
 
-put_fit : (s : Step) (m : inline.Node) (is : Items) → HasFitKeys m → EachHasFitKeys is → EachHasFitKeys (put_item s m is)
+put_fit : (s : Step) (m : inline.FlowNode) (is : Items) → HasFitKeys m → EachHasFitKeys is → EachHasFitKeys (put_item s m is)
 put_fit s m none h k = tt
 put_fit s m (item key n sep is) h k =
     let x = content_fit m key n h k.0 in
@@ -120,8 +120,8 @@ put_fit s m (item key n sep is) h k =
 
 -- ---- the tree
 
-put_is : (v old : tree.Node) → put_value v old ≡ replaced v old
-put_is v old = ap (λ (a : Option (List ℕ)). named a v) (own old) ∙ go (anchor_of old)
+put_is : (v old : tree.Node) → put_value v old ≡ replaced_node v old
+put_is v old = ap (λ (a : Option (List ℕ)). with_anchor_name a v) (own old) ∙ go (anchor_of old)
   where
     own : (n : tree.Node) → anchor_in n ≡ anchor_of n
     own (tree.alias name) = refl
@@ -129,19 +129,19 @@ put_is v old = ap (λ (a : Option (List ℕ)). named a v) (own old) ∙ go (anch
     own (tree.list a cs) = refl
     own (tree.map a cs) = refl
 
-    go : (a : Option (List ℕ)) → named a v ≡ anchored a v
+    go : (a : Option (List ℕ)) → with_anchor_name a v ≡ anchored a v
     go None = none_anchored v
     go (Some a) = named_is a v
 
 -- the change at the last step of a path
-step_change : (path init : List Step) (s : Step) (f : tree.Node → tree.Node) → last_step path ≡ Some (init, s) → change init (within (change_child s f)) ≡ change path f
-step_change path init s f last = change_last init s f ∙ ap (λ (p : List Step). change p f) (sym (last_is path init s last))
+step_change : (path init : List Step) (s : Step) (f : tree.Node → tree.Node) → last_step path ≡ Some (init, s) → changed_at init (within (change_child s f)) ≡ changed_at path f
+step_change path init s f last = change_last init s f ∙ ap (λ (p : List Step). changed_at p f) (sym (last_is path init s last))
 
 below_root : (block : Bool) (path init : List Step) (s : Step) → last_step path ≡ Some (init, s) → path ≡ [] → block ≡ false
 below_root block path init s last none_left = absurd (none-some _ (ap last_step (sym none_left) ∙ last))
 
-space_there : (n : inline.Node) → IsPiece (space_for n)
-space_there n = cond_both (is_bare n) (32 ∷ []) [] IsPiece (λ _. one_space) (λ _. nothing_piece)
+space_there : (n : inline.FlowNode) → IsPiece (space_for n)
+space_there n = cond_both (is_empty_node n) (32 ∷ []) [] IsPiece (λ _. one_space) (λ _. nothing_piece)
 
 -- ---- at an item or entry
 
@@ -152,7 +152,7 @@ module _ (c : Cut) (doc : ℕ) (path : List Step) (v : tree.Node) (read : read_a
   abbrev pub x : CollAt
   x = standing.x c doc a.init a.coll read a.found
 
-  abbrev pub m : inline.Node
+  abbrev pub m : inline.FlowNode
   m = flow_value (content_written a.item.node) v
 
   abbrev pub e : FlowEdit
@@ -182,20 +182,20 @@ module _ (c : Cut) (doc : ℕ) (path : List Step) (v : tree.Node) (read : read_a
         let size : length path ≡ length a.init + 1 = ap length (last_is path a.init a.step a.last) ∙ length-append a.init (a.step ∷ []) in
         omega (arith, standing.fewer c doc a.init a.coll read a.found, fitting.may.value_is.nested, size)
 
-    edited : IsFlowEdited x e (change at.rest (within (change_child a.step (replaced v))))
+    edited : IsFlowEdited x e (changed_at at.rest (within (change_child a.step (replaced_node v))))
     edited =
-        let same : change (at.rest ++ (a.step ∷ [])) (put_value v) ≡ change at.rest (within (change_child a.step (replaced v))) =
-        ap (change (at.rest ++ (a.step ∷ []))) (λ i n. put_is v n i) ∙ sym (change_last at.rest a.step (replaced v)) in
+        let same : changed_at (at.rest ++ (a.step ∷ [])) (put_value v) ≡ changed_at at.rest (within (change_child a.step (replaced_node v))) =
+        ap (changed_at (at.rest ++ (a.step ∷ []))) (λ i n. put_is v n i) ∙ sym (change_last at.rest a.step (replaced_node v)) in
         subst (IsFlowEdited x e) same (value_edited x a.step a.item (content_written a.item.node) v stands a.at h room)
 
-    sound : IsSoundRoot (change a.init (within (change_child a.step (replaced v))) (root_of at.part))
+    sound : IsSoundRoot (changed_at a.init (within (change_child a.step (replaced_node v))) (root_of at.part))
     sound =
         let known = document_known (cut_text c) c doc at.part (standing.old c doc a.init a.coll read a.found) in
         let old : IsSoundRoot (root_of at.part) = record { unique = known.document.unique; nested = known.document.nested; bound = known.document.bound } in
-        subst (λ (f : tree.Node → tree.Node). IsSoundRoot (f (root_of at.part))) (sym (step_change path a.init a.step (replaced v) a.last))
+        subst (λ (f : tree.Node → tree.Node). IsSoundRoot (f (root_of at.part))) (sym (step_change path a.init a.step (replaced_node v) a.last))
         (replace_keeps path (root_of at.part) fitting.node v old fitting.there fitting.may)
 
-    done : FlowCarried (replace doc path v) c a.init a.coll at e (change_child a.step (replaced v))
+    done : FlowCarried (replace doc path v) c a.init a.coll at e (change_child a.step (replaced_node v))
     done =
         let p = standing.piece c doc a.init a.coll read a.found in
         let parts = edit_pieces (cut_text c) there.before e p there.text bounds.0 bounds.1 there.whole in
@@ -204,8 +204,8 @@ module _ (c : Cut) (doc : ℕ) (path : List Step) (v : tree.Node) (read : read_a
           keys = flow_keys (cut_text c) c doc at.part a.init at.line at.rest at.row a.coll e.gap e.items (standing.old c doc a.init a.coll read a.found) at.at (put_fit a.step m a.coll.items (value_keys (content_written a.item.node) v fitting.long));
           sound = sound;
           root =
-              ap (λ (f : tree.Node → tree.Node). f (root_of at.part)) (step_change path a.init a.step (replaced v) a.last)
-              ∙ ap (λ n. change path (replaced n) (root_of at.part)) (sym (led_same (is_block_root at.part) (lead_of at.part) path v (below_root (is_block_root at.part) path a.init a.step a.last)));
+              ap (λ (f : tree.Node → tree.Node). f (root_of at.part)) (step_change path a.init a.step (replaced_node v) a.last)
+              ∙ ap (λ n. changed_at path (replaced_node n) (root_of at.part)) (sym (led_same (is_block_root at.part) (lead_of at.part) path v (below_root (is_block_root at.part) path a.init a.step a.last)));
           pieces = (subst IsPiece (sym (before_is (cut_text c) there.before (e.old ++ e.behind) there.text)) parts.0, (space_there (content_node a.item.node), (written_piece (content_written a.item.node) v h, (parts.1, tt))));
           stays = omega (
             arith,
@@ -215,11 +215,11 @@ module _ (c : Cut) (doc : ℕ) (path : List Step) (v : tree.Node) (read : read_a
         }
 
     pub replaced_carried : length (new_text (flow_segments (cut_text c) e)) ≤ text_limit → CarriedOut (replace doc path v) c (flow_segments (cut_text c) e)
-    replaced_carried size = flow_carried (replace doc path v) c a.init a.coll at e (change_child a.step (replaced v)) read done size
+    replaced_carried size = flow_carried (replace doc path v) c a.init a.coll at e (change_child a.step (replaced_node v)) read done size
 
     -- the cut as which that reads
     pub replaced_reads : length (new_text (flow_segments (cut_text c) e)) ≤ text_limit → read_at (new_text (flow_segments (cut_text c) e)) ≡ Some (made_cut (replace doc path v) c a.init a.coll at e)
-    replaced_reads size = made_reads (replace doc path v) c a.init a.coll at e (change_child a.step (replaced v)) read done size
+    replaced_reads size = made_reads (replace doc path v) c a.init a.coll at e (change_child a.step (replaced_node v)) read done size
 
   -- Behind it the steps to the head lead there still, and the later parts of its collections are as they were.
   module _ (stem left : List Step) (init : a.init ≡ stem ++ left) (h : LeadsToHead c doc stem) where
@@ -232,13 +232,13 @@ module _ (c : Cut) (doc : ℕ) (path : List Step) (v : tree.Node) (read : read_a
     pub head_behind : LeadsToHead next doc stem
     head_behind = stay.head_behind c doc a.init a.coll at a.coll.gap items stem left init h
 
-    pub part_behind : (ss : List Step) (r : Step) (z : EntryPieces) → IsPart c doc (stem ++ ss) r z → length z.rest < length a.item.rest → length (node_text (content_node z.node) z.rest) ≤ length a.item.rest → IsPart next doc (stem ++ ss) r z
+    pub part_behind : (ss : List Step) (r : Step) (z : EntryPieces) → IsPartOf c doc (stem ++ ss) r z → length z.rest < length a.item.rest → length (node_text (content_node z.node) z.rest) ≤ length a.item.rest → IsPartOf next doc (stem ++ ss) r z
     part_behind ss r z part less begins =
         let slot : EntryPieces = record { key = bare; node = at.row.node; rest = behind_node c doc at.part at.row } in
         let own = λ (o : Option CollPieces). o >>= λ w. item_at w.close r w.items w.rest in
         let before = sym (parts_along ss r slot) ∙ (sym (ap own (stay.collection_before c doc a.init a.coll at a.coll.gap items stem left init h ss)) ∙ part) in
         ap own (stay.collection_behind c doc a.init a.coll at a.coll.gap items stem left init h ss)
-        ∙ (parts_along ss r (record slot { node = put_at at.rest a.coll.gap items at.row.node }) ∙ later_part at.rest (ss ++ (r ∷ [])) a.step m slot a.coll a.item z at.at.along a.at before less begins)
+        ∙ (parts_along ss r (record slot { node = collection_put at.rest a.coll.gap items at.row.node }) ∙ later_part at.rest (ss ++ (r ∷ [])) a.step m slot a.coll a.item z at.at.along a.at before less begins)
 
 -- Replace: a value put in the place of a content of a flow collection.
 pub flow_values_put : FlowValuesArePut

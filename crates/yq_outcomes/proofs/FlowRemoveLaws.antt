@@ -4,7 +4,7 @@ use Rattle.std.proofs.lemmas.Option.{same_Some}
 use Rattle.std.specs.Str.{IsCharBoundary}
 use Rattle.yq_flow_scalars.specs.Characters.{pairs_returns}
 use Rattle.yq_text.specs.Limit.{text_limit}
-use Rattle.yq_flow_scalars.specs.Paths.{Step, change, remove_child, within}
+use Rattle.yq_flow_scalars.specs.Paths.{Step, changed_at, remove_child, within}
 use Rattle.yq_nodes.specs.Collections.{CollAt, CollPieces, IsCollAt}
 use Rattle.yq_flow.specs.FlowEdits.{FlowEdit, IsFlowEdited}
 use Rattle.yq_flow.specs.FlowPlaces.{place_edit}
@@ -57,7 +57,7 @@ module _ (c : Cut) (doc : ℕ) (path init : List Step) (s : Step) (w : CollPiece
   pairs : pairs_returns (row_text.before ++ node_text x.node x.rest) ≡ true
   pairs = standing.pairs c doc init w read found
 
-  edited : IsFlowEdited x e (change at.rest (within (remove_child s)))
+  edited : IsFlowEdited x e (changed_at at.rest (within (remove_child s)))
   edited = removed x s e stands gone (pairs_behind row_text.before (node_text x.node x.rest) pairs)
 
   pub texts : FlowTexts c (put_document doc (with_node at.part at.row (edited_at c doc init w at e)) c) e (node_text at.row.node (behind_node c doc at.part at.row))
@@ -76,7 +76,7 @@ module _ (c : Cut) (doc : ℕ) (path init : List Step) (s : Step) (w : CollPiece
   removed_carried fits size =
       let old = standing.old c doc init w read found in
       let known = document_known (cut_text c) c doc at.part old in
-      let root : fits.0.root ≡ root_of at.part = ap (λ (d : Document). d.root) (same_Some _ _ (sym fits.1 ∙ nth_map doc at.part reading.document_of (document_parts c) at.there)) in
+      let root : fits.0.root ≡ root_of at.part = ap (λ (d : Document). d.root) (same_Some _ _ (sym fits.1 ∙ nth_map doc at.part reading.part_document (document_parts c) at.there)) in
       let n = subst (λ r. (n : Rattle.yq_flow_scalars.specs.Tree.Node) × (Rattle.yq_flow_scalars.specs.Paths.node_at path r ≡ Some n) × (Rattle.yq_meaning.specs.Changes.is_used_in (Rattle.yq_flow_scalars.specs.Anchors.names_of r) (Some n) ≡ Rattle.std.proofs.Common.false)) root fits.2.1 in
       let sound : IsSoundRoot (root_of at.part) = record { unique = known.document.unique; nested = known.document.nested; bound = known.document.bound } in
       let whole = removed_whole x s e stands gone row_text.before texts.before pairs (sym row_text.old ∙ texts.old) in

@@ -3,7 +3,7 @@ use Rattle.std.proofs.Common.{◌≡◌, inl, inr, ℕ, false, List, [], ◌∷�
 use Rattle.std.proofs.lemmas.Bool.{or_parts}
 use Rattle.std.proofs.lemmas.Option.{none-some, same_Some}
 use Rattle.std.specs.List.{list_any}
-use Rattle.yq_flow_scalars.specs.Paths.{Step, change, child_at, node_at, remove_child, within}
+use Rattle.yq_flow_scalars.specs.Paths.{Step, changed_at, child_at, node_at, remove_child, within}
 use Rattle.yq_flow_scalars.specs.Tree.{Node, children_of}
 use Rattle.yq_flow_scalars.specs.Anchors.{Name, Anchors, Refers, IsAmong, names_of}
 use Rattle.yq_documents.specs.TreeEdits.{at_end}
@@ -56,10 +56,10 @@ spared_of gone names e a h r = not_used a gone names e h r
 
 -- ---- an item or entry taken out
 
-pub remove_sound : (path init : List Step) (s : Step) (root n : Node) → IsSoundRoot root → last_step path ≡ Some (init, s) → node_at path root ≡ Some n → is_used_in (names_of root) (Some n) ≡ false → IsSoundRoot (change init (within (remove_child s)) root)
+pub remove_sound : (path init : List Step) (s : Step) (root n : Node) → IsSoundRoot root → last_step path ≡ Some (init, s) → node_at path root ≡ Some n → is_used_in (names_of root) (Some n) ≡ false → IsSoundRoot (changed_at init (within (remove_child s)) root)
 remove_sound path init s root n sound last there free =
     let a = above_is init s root n (subst (λ (x : List Step). node_at x root ≡ Some n) (last_is path init s last) there) in
     remove_keeps init root a.0 n s sound a.1 a.2 (spared_of (names_of n) (names_of root) free)
 
-pub remove_root : (path init : List Step) (s : Step) (root : Node) → last_step path ≡ Some (init, s) → change init (within (remove_child s)) root ≡ at_end remove_child path root
+pub remove_root : (path init : List Step) (s : Step) (root : Node) → last_step path ≡ Some (init, s) → changed_at init (within (remove_child s)) root ≡ at_end remove_child path root
 remove_root path init s root last = sym (ap (λ (x : List Step). at_end remove_child x root) (last_is path init s last) ∙ end_is_change remove_child init s root)

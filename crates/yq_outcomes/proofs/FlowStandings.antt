@@ -8,7 +8,7 @@ use Rattle.yq_flow_scalars.specs.Characters.{pairs_returns}
 use Rattle.yq_flow_scalars.specs.Paths.{Step}
 use Rattle.yq_flow_scalars.proofs.Bools.{bind_some}
 use Rattle.yq_nodes.specs.Collections.{CollAt, CollPieces, IsCollAt, coll_in}
-use Rattle.yq_nodes.specs.Entries.{EntryPieces, entry_pieces_at, inside, item_at, locate_entry, placed_entry_at}
+use Rattle.yq_nodes.specs.Entries.{EntryPieces, entry_pieces_at, path_inside, item_at, locate_entry, placed_entry_at}
 use Rattle.yq_nodes.specs.Nodes as inline
 use Rattle.yq_nodes.specs.Nodes.{bare, node_text}
 use Rattle.yq_nodes.specs.Places.{locate}
@@ -17,12 +17,12 @@ use Rattle.yq_nodes.proofs.PathLaws.{path_places}
 use Rattle.yq_cut.specs.Rows.{Cut, cut_text}
 use Rattle.yq_cut.proofs.CharacterLaws.{all_text}
 use Rattle.yq_row_places.specs.FlowNodes.{flow_collection}
-use Rattle.yq_documents.specs.Reading.{outline_of, read_at}
+use Rattle.yq_documents.specs.Reading.{part_outline, read_at}
 use Rattle.yq_row_places.specs.Standings.{FlowPart, flow_standing, last_step}
 use Rattle.yq_row_places.proofs.FlowSpanLaws.{entry_spans}
 use Rattle.yq_row_places.proofs.HeadSteps.{stem_found}
 use Rattle.yq_change.specs.DocumentRows.{IsDocumentPart}
-use Rattle.yq_change.specs.FlowRows.{coll_at, FlowAt, NodeStands}
+use Rattle.yq_change.specs.FlowRows.{row_collection, FlowAt, NodeStands}
 use Rattle.yq_change.specs.TextPieces.{IsPiece}
 use Rattle.yq_change.proofs.FlowPathLaws.{flow_found, row_texts}
 use Rattle.yq_change.proofs.FlowRowLaws.{flow_stands}
@@ -39,7 +39,7 @@ module _ (c : Cut) (doc : ℕ) (steps : List Step) (w : CollPieces) (read : read
   old = record { read = read; there = at.there }
 
   abbrev pub x : CollAt
-  x = coll_at c doc at.part at.row at.rest w
+  x = row_collection c doc at.part at.row at.rest w
 
   pub stands : IsCollAt x
   stands = flow_stands (cut_text c) c doc at.part steps at.line at.rest at.row w old at.at
@@ -55,7 +55,7 @@ module _ (c : Cut) (doc : ℕ) (steps : List Step) (w : CollPieces) (read : read
 
   -- the steps that go on in the head are no more than all
   pub fewer : length at.rest ≤ length steps
-  fewer = let h = stem_found steps (outline_of at.part) (at.line, at.rest) at.at.found in omega (arith, ap length h.steps_are, length-append h.stem at.rest)
+  fewer = let h = stem_found steps (part_outline at.part) (at.line, at.rest) at.at.found in omega (arith, ap length h.steps_are, length-append h.stem at.rest)
 
   abbrev pub placed : CollStands c w
   placed = coll_stands c doc steps w read at
@@ -86,18 +86,18 @@ entry_found c doc path x e = go (last_step path) refl e
     go (Some y) is e = let w = bind_some (flow_collection doc y.0 c) e in here' y is w.0 w.1 (item_at w.0.close y.1 w.0.items w.0.rest) refl w.2
 
 -- the items or entries of a node are those of its collection
-pub node_entry : (s : Step) (node : inline.Node) (rest : List ℕ) → (coll_in node rest >>= λ w. item_at w.close s w.items w.rest) ≡ inside s node rest
+pub node_entry : (s : Step) (node : inline.FlowNode) (rest : List ℕ) → (coll_in node rest >>= λ w. item_at w.close s w.items w.rest) ≡ path_inside s node rest
 node_entry s inline.empty rest = refl
 node_entry s (inline.alias n) rest = refl
 node_entry s (inline.scalar p) rest = refl
 node_entry s (inline.coll k gap is) rest = refl
 node_entry s (inline.anchored n gap node) rest = node_entry s node rest
 
-pub coll_entry : (s : Step) (node : inline.Node) (rest : List ℕ) (w : CollPieces) → coll_in node rest ≡ Some w → inside s node rest ≡ item_at w.close s w.items w.rest
+pub coll_entry : (s : Step) (node : inline.FlowNode) (rest : List ℕ) (w : CollPieces) → coll_in node rest ≡ Some w → path_inside s node rest ≡ item_at w.close s w.items w.rest
 coll_entry s node rest w e = sym (node_entry s node rest) ∙ ap (λ (o : Option CollPieces). o >>= λ w. item_at w.close s w.items w.rest) e
 
 -- the item or entry has its places in a text with those of the collection's node
-pub entry_placed : (t : List ℕ) (s : Step) (node : inline.Node) (rest : List ℕ) (w : CollPieces) (y : EntryPieces) → coll_in node rest ≡ Some w → item_at w.close s w.items w.rest ≡ Some y →
+pub entry_placed : (t : List ℕ) (s : Step) (node : inline.FlowNode) (rest : List ℕ) (w : CollPieces) (y : EntryPieces) → coll_in node rest ≡ Some w → item_at w.close s w.items w.rest ≡ Some y →
     HasSpans t (locate (length t) node rest) → HasSpans t (locate (length t) y.node y.rest)
 entry_placed t s node rest w y is at spans =
     let slot : EntryPieces = record { key = bare; node = node; rest = rest } in

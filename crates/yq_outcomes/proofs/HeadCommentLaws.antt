@@ -8,8 +8,8 @@ use Rattle.std.proofs.lemmas.Str.{IsUtf8-take}
 use Rattle.std.specs.Str.{IsUtf8}
 use Rattle.yq_block_scalars.specs.BlockWritten.{break_text}
 use Rattle.yq_text.specs.Limit.{text_limit}
-use Rattle.yq_flow_scalars.specs.Paths.{Step, change, relabel_child, within}
-use Rattle.yq_flow_scalars.specs.Text.{front, is_feed, past_white, joined, lines_of}
+use Rattle.yq_flow_scalars.specs.Paths.{Step, changed_at, relabel_child, within}
+use Rattle.yq_flow_scalars.specs.Text.{front, is_feed, past_white, joined, text_lines}
 use Rattle.yq_flow_scalars.specs.Text as text
 use Rattle.yq_block_scalars.specs.declared.block_types.Break.{Break}
 use Rattle.yq_flow_scalars.proofs.Bools.{guard_then}
@@ -49,8 +49,8 @@ use Rattle.yq_change.proofs.PathLaws.{path_head_commented}
 use Rattle.yq_change.proofs.ReplaceLaws.{rows_before_some}
 use Rattle.yq_change.proofs.ShapeLaws.{shapes_are_alike}
 use Rattle.yq_change.proofs.TextPieceLaws.{text_is_piece}
-use Rattle.yq_meaning.specs.Changes.{is_comment}
-use Rattle.yq_meaning.specs.Meaning.{head_of}
+use Rattle.yq_meaning.specs.Changes.{can_be_comment}
+use Rattle.yq_meaning.specs.Meaning.{head_comment_lines}
 use Rattle.yq_meaning.specs.Operations.{head_comment}
 use Rattle.yq_program.specs.declared.program.CommentPlace.TheVariants as comments
 use Rattle.yq_cut.proofs.NodeExchange.{starts_no_feed}
@@ -79,10 +79,10 @@ record IsAbove (doc : ℕ) (steps : List Step) (c : Cut) (e : LinesAbove) : Type
 above : (doc : ℕ) (steps : List Step) (c : Cut) (e : RowsOfEntry) → rows_of_entry doc steps c ≡ Some e → e.line ≡ 0 → IsAbove doc steps c (above_rows e)
 above doc steps c e is first = record { w = entry_row e; found = row_found doc steps c (entry_row e) (entry_is_row doc steps c e is); first = first; is = refl }
 
-gap_text : (w : PlacedRow) → w.before ++ print_row w.row w.behind ≡ (w.before ++ joined (before_run (lines_of w.row.gap))) ++ (joined (last_run (lines_of w.row.gap)) ++ behind_gap w.row w.behind)
+gap_text : (w : PlacedRow) → w.before ++ print_row w.row w.behind ≡ (w.before ++ joined (before_run (text_lines w.row.gap))) ++ (joined (last_run (text_lines w.row.gap)) ++ behind_gap w.row w.behind)
 gap_text w =
-    let k : List ℕ = joined (before_run (lines_of w.row.gap)) in
-    let u : List ℕ = joined (last_run (lines_of w.row.gap)) in
+    let k : List ℕ = joined (before_run (text_lines w.row.gap)) in
+    let u : List ℕ = joined (last_run (text_lines w.row.gap)) in
     ap (λ g. w.before ++ (g ++ behind_gap w.row w.behind)) (gap_split w.row.gap)
     ∙ (ap (λ l. w.before ++ l) (append_assoc k u (behind_gap w.row w.behind)) ∙ sym (append_assoc w.before k (u ++ behind_gap w.row w.behind)))
 
@@ -92,8 +92,8 @@ above_text doc steps c e a = found_text c _ a.w a.found.at ∙ (gap_text a.w ∙
 segments_old : (br text : List ℕ) (e : LinesAbove) → old_text (head_comment_segments br text e) ≡ e.before ++ (e.run ++ e.behind)
 segments_old br text e = ap (λ l. e.before ++ (e.run ++ l)) (append-nil e.behind)
 
-segments_new : (br text : List ℕ) (e : LinesAbove) → new_text (head_comment_segments br text e) ≡ e.before ++ (head_lines e.column br (head_of text) ++ e.behind)
-segments_new br text e = ap (λ l. e.before ++ (head_lines e.column br (head_of text) ++ l)) (append-nil e.behind)
+segments_new : (br text : List ℕ) (e : LinesAbove) → new_text (head_comment_segments br text e) ≡ e.before ++ (head_lines e.column br (head_comment_lines text) ++ e.behind)
+segments_new br text e = ap (λ l. e.before ++ (head_lines e.column br (head_comment_lines text) ++ l)) (append-nil e.behind)
 
 -- ---- its pieces
 
@@ -120,13 +120,13 @@ row_no_feed (suc n) t s = refl
 
 -- What is known of the pieces of the text above a row.
 record HasGapPieces (w : PlacedRow) : Type 0 where
-  before : IsPiece (w.before ++ joined (before_run (lines_of w.row.gap)))
+  before : IsPiece (w.before ++ joined (before_run (text_lines w.row.gap)))
   behind : IsPiece (behind_gap w.row w.behind)
 
 pieces : (c : Cut) (i : ℕ) (w : PlacedRow) → IsCut (cut_text c) c → IsPiece (cut_text c) → IsAt c i w.before w.row w.behind → HasGapPieces w
 pieces c i w cut text at =
-    let k : List ℕ = joined (before_run (lines_of w.row.gap)) in
-    let u : List ℕ = joined (last_run (lines_of w.row.gap)) in
+    let k : List ℕ = joined (before_run (text_lines w.row.gap)) in
+    let u : List ℕ = joined (last_run (text_lines w.row.gap)) in
     let b : List ℕ = behind_gap w.row w.behind in
     let row = found_row c i w cut at in
     let starts : Starts (behind_indent w.row w.behind) = row_starts row.limit w.row w.behind row.row in
@@ -139,8 +139,8 @@ pieces c i w cut text at =
     let first = clean_cut (w.before ++ w.row.gap) b all utf8 (λ e. absurd (false≢true (sym feed ∙ e))) in
     let split : w.before ++ w.row.gap ≡ (w.before ++ k) ++ u = ap (λ g. w.before ++ g) (gap_split w.row.gap) ∙ sym (append_assoc w.before k u) in
     let inner : IsPiece ((w.before ++ k) ++ u) = subst IsPiece split first.0 in
-    let inner_utf8 : IsUtf8 (w.before ++ k) = subst IsUtf8 (take-append_seam (w.before ++ k) u) (IsUtf8-take ((w.before ++ k) ++ u) (length (w.before ++ k)) inner.utf8 (before_ascii (w.before ++ k) u (run_ascii (lines_of w.row.gap)))) in
-    let none : front is_feed u ≡ false = ap (front is_feed) (sym (append-nil u)) ∙ run_no_feed (lines_of w.row.gap) [] refl in
+    let inner_utf8 : IsUtf8 (w.before ++ k) = subst IsUtf8 (take-append_seam (w.before ++ k) u) (IsUtf8-take ((w.before ++ k) ++ u) (length (w.before ++ k)) inner.utf8 (before_ascii (w.before ++ k) u (run_ascii (text_lines w.row.gap)))) in
+    let none : front is_feed u ≡ false = ap (front is_feed) (sym (append-nil u)) ∙ run_no_feed (text_lines w.row.gap) [] refl in
     record { before = (clean_cut (w.before ++ k) u inner inner_utf8 (λ e. absurd (false≢true (sym none ∙ e)))).0; behind = first.1 }
 
 -- ---- the law
@@ -148,14 +148,14 @@ pieces c i w cut text at =
 shapes_same : (front : List Row) (r : Row) (back : List Row) (gap : List ℕ) (p q : Part) → p.rows ≡ front ++ (r ∷ back) → q.rows ≡ front ++ (with_row_gap gap r ∷ back) → map row_shape q.rows ≡ map row_shape p.rows
 shapes_same front r back gap p q e n = ap (map row_shape) n ∙ (map-append row_shape front (with_row_gap gap r ∷ back) ∙ sym (ap (map row_shape) e ∙ map-append row_shape front (r ∷ back)))
 
-has_entries : (front : List Row) (r : Row) (back : List Row) (q : Part) → q.rows ≡ front ++ (r ∷ back) → is_block_root q ≡ true → HasEntries (group (lines.lines_of q.rows))
-has_entries front r back q e block = go (block_entries (lines.lines_of q.rows) block)
+has_entries : (front : List Row) (r : Row) (back : List Row) (q : Part) → q.rows ≡ front ++ (r ∷ back) → is_block_root q ≡ true → HasEntries (group (lines.lines_of_rows q.rows))
+has_entries front r back q e block = go (block_entries (lines.lines_of_rows q.rows) block)
   where
-    go : (HasEntries (group (lines.lines_of q.rows))) ⊎ (lines.lines_of q.rows ≡ []) → HasEntries (group (lines.lines_of q.rows))
+    go : (HasEntries (group (lines.lines_of_rows q.rows))) ⊎ (lines.lines_of_rows q.rows ≡ []) → HasEntries (group (lines.lines_of_rows q.rows))
     go (inl h) = h
-    go (inr h) = absurd (lines_some front r back (sym (ap lines.lines_of e) ∙ h))
+    go (inr h) = absurd (lines_some front r back (sym (ap lines.lines_of_rows e) ∙ h))
 
-both : (doc : ℕ) (steps : List Step) (text : List ℕ) (br : Break) (c : Cut) (e : LinesAbove) → read_at (cut_text c) ≡ Some c → IsAbove doc steps c e → IsUtf8 text → is_comment comments.Head text ≡ true →
+both : (doc : ℕ) (steps : List Step) (text : List ℕ) (br : Break) (c : Cut) (e : LinesAbove) → read_at (cut_text c) ≡ Some c → IsAbove doc steps c e → IsUtf8 text → can_be_comment comments.Head text ≡ true →
     length (new_text (head_comment_segments (break_text br) text e)) ≤ text_limit → ReadsAfter (head_comment doc steps text) c (new_text (head_comment_segments (break_text br) text e)) × IsLocalTo (head_comment_segments (break_text br) text e) c
 both doc steps text br c e read a utf8 fit size =
     let w : PlacedRow = a.w in
@@ -166,31 +166,31 @@ both doc steps text br c e read a utf8 fit size =
     let back : List Row = drop (suc i) p.rows in
     let r : Row = f.x.row in
     let own : PlacedRow = placed_row f.s f.x in
-    let parts : AreParts (head_of text) = head_parts text utf8 fit in
-    let run : List ℕ = head_lines r.column (break_text br) (head_of text) in
+    let parts : AreParts (head_comment_lines text) = head_parts text utf8 fit in
+    let run : List ℕ = head_lines r.column (break_text br) (head_comment_lines text) in
     let q : Part = rerun front_rows r back run p in
     let new : Cut = put_document doc q c in
     let above_is : above_row own ≡ e = ap above_row f.is ∙ a.is in
     let text_then : cut_text new ≡ new_text (head_comment_segments (break_text br) text e) =
     f.stands.put q
     ∙ (ap (λ l. f.s.before ++ l) (rows_front front_rows (with_row_gap (with_run r run) r ∷ back) (p.end ++ f.s.behind))
-    ∙ (regroup f.s.before (rows_text front_rows []) (joined (before_run (lines_of r.gap))) run (behind_gap r own.behind)
-    ∙ (ap (λ (x : LinesAbove). x.before ++ (head_lines x.column (break_text br) (head_of text) ++ x.behind)) above_is
+    ∙ (regroup f.s.before (rows_text front_rows []) (joined (before_run (text_lines r.gap))) run (behind_gap r own.behind)
+    ∙ (ap (λ (x : LinesAbove). x.before ++ (head_lines x.column (break_text br) (head_comment_lines text) ++ x.behind)) above_is
     ∙ sym (segments_new (break_text br) text e)))) in
     let k : HasGapPieces own = subst HasGapPieces (sym f.is) (pieces c _ w (cut_is c read) (text_is_piece c read) f.at) in
     let readable : IsReadable (new_text (head_comment_segments (break_text br) text e)) =
     segments_readable (head_comment_segments (break_text br) text e)
-    (subst IsPiece (ap (λ (x : LinesAbove). x.before) above_is) k.before, (lines_piece e.column br (head_of text) parts, (subst IsPiece (ap (λ (x : LinesAbove). x.behind) above_is) k.behind, tt))) size in
+    (subst IsPiece (ap (λ (x : LinesAbove). x.before) above_is) k.before, (lines_piece e.column br (head_comment_lines text) parts, (subst IsPiece (ap (λ (x : LinesAbove). x.behind) above_is) k.behind, tt))) size in
     let steps_are = some_steps steps p.rows f.x f.row_line_is in
     let rest : List ℕ = behind_gap r (rows_text back (p.end ++ behind_document doc c)) in
     let changed = path_head_commented (cut_text c) c doc p steps_are.0 steps_are.1 f.x front_rows back run (record { read = read; there = f.stands.there })
     (ap (λ (s : List Step). row_line_of s p.rows) (sym steps_are.2) ∙ f.row_line_is)
     (ap (λ (x : PlacedRow). x.line) f.is ∙ a.first)
-    (record { rows_are = f.rows_are; run_is = record { gap = lines_gap r.column br (head_of text) rest parts; stands = lines_stand r.column (break_text br) (head_of text) } })
+    (record { rows_are = f.rows_are; run_is = record { gap = lines_gap r.column br (head_comment_lines text) rest parts; stands = lines_stand r.column (break_text br) (head_comment_lines text) } })
     (count_front p.rows i r f.row) (subst IsReadable (sym text_then) readable) in
     let shapes = shapes_are_alike p q (shapes_same front_rows r back (with_run r run) p q f.rows_are refl) in
     let block : is_block_root p ≡ true = row_line_is_block steps p.rows f.x f.row_line_is in
-    let kept : List ℕ = joined (before_run (lines_of r.gap)) in
+    let kept : List ℕ = joined (before_run (text_lines r.gap)) in
     let ss : List Segment = head_comment_segments (break_text br) text e in
     let before_is : e.before ≡ (f.s.before ++ rows_text front_rows []) ++ kept = sym (ap (λ (x : LinesAbove). x.before) above_is) in
     let behind_is : e.behind ≡ behind_gap r (rows_text back (p.end ++ behind_document doc c)) =
@@ -223,8 +223,8 @@ both doc steps text br c e read a utf8 fit size =
             there = f.stands.there;
             rows = λ none. absurd (false≢true (sym (rows_before_some front_rows (with_row_gap (with_run r run) r ∷ back) refl) ∙ none));
             changed = changed;
-            root = ap (λ o. change steps_are.0 (within (relabel_child steps_are.1 (with_head_comment o))) (root_of p)) (lines_agree r.column br (head_of text) parts)
-                ∙ (sym (end_is_change (λ s. relabel_child s (with_head_comment (head_of text))) steps_are.0 steps_are.1 (root_of p)) ∙ ap (λ (s : List Step). at_end (λ s. relabel_child s (with_head_comment (head_of text))) s (root_of p)) (sym steps_are.2));
+            root = ap (λ o. changed_at steps_are.0 (within (relabel_child steps_are.1 (with_head_comment o))) (root_of p)) (lines_agree r.column br (head_comment_lines text) parts)
+                ∙ (sym (end_is_change (λ s. relabel_child s (with_head_comment (head_comment_lines text))) steps_are.0 steps_are.1 (root_of p)) ∙ ap (λ (s : List Step). at_end (λ s. relabel_child s (with_head_comment (head_comment_lines text))) s (root_of p)) (sym steps_are.2));
             lead_goes = block_lead_goes p q block (has_entries front_rows (with_row_gap (with_run r run) r) back q refl (shapes.1 ∙ block));
             block = λ x. shapes.1;
             equal_room = λ x. shapes.0;

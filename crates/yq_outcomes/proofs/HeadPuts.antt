@@ -23,7 +23,7 @@ use Rattle.yq_change.specs.StandingLaws.{StandsThere}
 use Rattle.yq_meaning.specs.Operations.{replace}
 use Rattle.yq_script.specs.Script.{Segment, new_text}
 use Rattle.yq_edits.specs.EditLaws.{CarriedOut}
-use Rattle.yq_edits.specs.ReplaceEdits.{apart, held_put}
+use Rattle.yq_edits.specs.ReplaceEdits.{spaced_text, held_put}
 use Rattle.yq_edits.specs.WrittenValues.{inline}
 use Rattle.yq_edits.proofs.FitLaws.{FitsReplace}
 use Rattle.yq_edits.proofs.ValueTexts.{IsWrittenFor}
@@ -52,14 +52,14 @@ module _ (n : ℕ) (s : Step) (ss : List Step) (c : Cut) (e : RowsOfEntry) (ther
 
 -- ---- another one in its place
 
-apart_then : (old t u : List ℕ) → apart old (t ++ u) ≡ apart old t ++ u
+apart_then : (old t u : List ℕ) → spaced_text old (t ++ u) ≡ spaced_text old t ++ u
 apart_then [] t u = refl
 apart_then (b ∷ old) t u = refl
 
 module _ (n : ℕ) (s : Step) (ss : List Step) (c : Cut) (e : RowsOfEntry) (there : StandsThere n s ss c e) (last : e.line ≡ length e.row.dashes) (k : KnowsHeld n s ss c e there last)
     (br : Break) (v : Node) (f : FitsReplace n (s ∷ ss) v c there.part) (t : List ℕ) (for : IsWrittenFor v t) (x : Content) (is : IsContentFor n s ss c (mark_node n s ss c e there last) v x)
     (spelled : (u : List ℕ) → e.start ++ (rows_text e.front [] ++ rows_text (with_content x e.row ∷ []) u) ≡
-    (held e).before ++ ((held e).space ++ apart (held e).head (node_text for.node (((held e).white ++ ((held e).comment ++ (held e).last)) ++ u)))) where
+    (held e).before ++ ((held e).space ++ spaced_text (held e).head (node_text for.node (((held e).white ++ ((held e).comment ++ (held e).last)) ++ u)))) where
   abbrev w : Held
   w = held e
 
@@ -91,8 +91,8 @@ module _ (n : ℕ) (s : Step) (ss : List Step) (c : Cut) (e : RowsOfEntry) (ther
     lead = lead;
     before_is = ap (λ y. w.before ++ y) (append-nil w.space) ∙ place_is;
     within = own_space_lead e.row;
-    begins = first_lead e.start front (print_row (with_content x e.row) []) (w.before ++ w.space) (apart w.head (node_text for.node (tail ++ []))) lead
-        (spelled [] ∙ sym (append_assoc w.before w.space (apart w.head (node_text for.node (tail ++ []))))) place_is;
+    begins = first_lead e.start front (print_row (with_content x e.row) []) (w.before ++ w.space) (spaced_text w.head (node_text for.node (tail ++ []))) lead
+        (spelled [] ∙ sym (append_assoc w.before w.space (spaced_text w.head (node_text for.node (tail ++ []))))) place_is;
   }
 
   pub head_carried : length (new_text us) ≤ text_limit → CarriedOut (replace n (s ∷ ss) v) c us

@@ -6,11 +6,11 @@ use Rattle.yq_text.specs.Limit.{text_limit}
 use Rattle.yq_flow_scalars.specs.Paths.{Step}
 use Rattle.yq_flow_scalars.specs.Tree.{Node}
 use Rattle.yq_block_scalars.specs.declared.block_types.Break.{Break}
-use Rattle.yq_lines.specs.Places.{content}
+use Rattle.yq_lines.specs.Places.{content_under}
 use Rattle.yq_lines.proofs.Finding.{FoundNode, path_node}
 use Rattle.yq_cut.specs.Items.{rows_items}
 use Rattle.yq_cut.specs.Rows.{Row, print_row, rows_text, Cut, cut_text}
-use Rattle.yq_documents.specs.Reading.{outline_of, read_at, root_of}
+use Rattle.yq_documents.specs.Reading.{part_outline, read_at, root_of}
 use Rattle.yq_row_places.specs.Standings.{Held, RowsOfEntry, behind_entry, held}
 use Rattle.yq_change.specs.Appends.{inserted}
 use Rattle.yq_change.specs.Changed.{put_document}
@@ -22,7 +22,7 @@ use Rattle.yq_script.specs.Script.{Segment, old_text, new_text, are_kept, kept_f
 use Rattle.yq_edits.specs.Done.{ArePieces}
 use Rattle.yq_edits.specs.EditLaws.{CarriedOut}
 use Rattle.yq_edits.specs.Local.{InFirst}
-use Rattle.yq_edits.specs.ReplaceEdits.{apart, held_put}
+use Rattle.yq_edits.specs.ReplaceEdits.{spaced_text, held_put}
 use Rattle.yq_edits.specs.WrittenValues.{Written, inline, compact_text, lines}
 use Rattle.yq_edits.proofs.CommentPieceLaws.{nothing, byte_then, break_piece}
 use Rattle.yq_edits.proofs.FitLaws.{FitsReplace}
@@ -56,7 +56,7 @@ module _ (n : ℕ) (s : Step) (ss : List Step) (c : Cut) (e : RowsOfEntry) (ther
   abbrev h : Held
   h = held e
 
-  apart_piece : (old t : List ℕ) → IsPiece t → IsPiece (apart old t)
+  apart_piece : (old t : List ℕ) → IsPiece t → IsPiece (spaced_text old t)
   apart_piece [] t p = byte_then 32 t refl p
   apart_piece (b ∷ old) t p = p
 
@@ -76,10 +76,10 @@ module _ (n : ℕ) (s : Step) (ss : List Step) (c : Cut) (e : RowsOfEntry) (ther
 
   module _ (v : Node) (f : FitsReplace n (s ∷ ss) v c there.part) where
     -- the node that is there
-    pub node_is : f.node ≡ content there.found.line there.found.under
-    node_is = same_Some _ _ (sym f.there ∙ (path_node s ss (outline_of there.part) ∙ ap FoundNode there.is))
+    pub node_is : f.node ≡ content_under there.found.line there.found.under
+    node_is = same_Some _ _ (sym f.there ∙ (path_node s ss (part_outline there.part) ∙ ap FoundNode there.is))
 
-    may : MayReplace v (content there.found.line there.found.under) (root_of there.part) (length (s ∷ ss))
+    may : MayReplace v (content_under there.found.line there.found.under) (root_of there.part) (length (s ∷ ss))
     may = subst (λ q. MayReplace v q (root_of there.part) (length (s ∷ ss))) node_is f.may
 
     -- Segments of the text that keep it from the end of the line that ends the rows carry out the replacement.

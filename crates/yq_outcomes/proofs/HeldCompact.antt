@@ -8,7 +8,7 @@ use Rattle.yq_flow_scalars.specs.Text.{is_empty}
 use Rattle.yq_flow_scalars.specs.Tree.{Node}
 use Rattle.yq_flow.specs.Valued.{IsValueTree}
 use Rattle.yq_lines.specs.Comments.{line_comment}
-use Rattle.yq_lines.specs.Places.{content}
+use Rattle.yq_lines.specs.Places.{content_under}
 use Rattle.yq_cut.specs.Exchange.{row_front}
 use Rattle.yq_cut.specs.Rows as rows
 use Rattle.yq_cut.specs.Rows.{Row, mark_column, rows_text, Cut}
@@ -80,7 +80,7 @@ module _ (n : ℕ) (s : Step) (ss : List Step) (c : Cut) (e : RowsOfEntry) (ther
   none : line_comment (tail_of e.row.content) ≡ None
   none = ap line_comment (sym (tail_is e.row.content)) ∙ (k.uncommented (not-false (is_empty w.comment) notes.1))
 
-  no_name : anchor_of (content there.found.line there.found.under) ≡ None
+  no_name : anchor_of (content_under there.found.line there.found.under) ≡ None
   no_name = k.named ∙ unnamed e.row.content (not-false (is_empty (slices e.row).anchor) notes.0)
 
   abbrev tail : List ℕ

@@ -17,7 +17,7 @@ use Rattle.yq_cut.specs.View.{slices}
 use Rattle.yq_cut.proofs.PlaceLaws.{row_front-append}
 use Rattle.yq_lines.specs.Lines.{head_of}
 use Rattle.yq_documents.specs.Reading.{read_at}
-use Rattle.yq_row_places.specs.CommentPlaces.{LineEnd, end_before}
+use Rattle.yq_row_places.specs.CommentPlaces.{LineEnd, end_in_line}
 use Rattle.yq_row_places.specs.PrintedLines.{last_break}
 use Rattle.yq_row_places.specs.Standings.{Held, RowsOfEntry, before_entry, held}
 use Rattle.yq_change.specs.Appends.{inserted}
@@ -27,7 +27,7 @@ use Rattle.yq_change.proofs.CoreLaws.{put_core}
 use Rattle.yq_meaning.specs.Operations.{replace}
 use Rattle.yq_script.specs.Script.{Segment, new_text}
 use Rattle.yq_edits.specs.EditLaws.{CarriedOut}
-use Rattle.yq_edits.specs.ReplaceEdits.{apart, held_put}
+use Rattle.yq_edits.specs.ReplaceEdits.{spaced_text, held_put}
 use Rattle.yq_edits.specs.WrittenValues.{inline}
 use Rattle.yq_edits.proofs.CommentRowLaws.{end_parts}
 use Rattle.yq_edits.proofs.FitLaws.{FitsReplace}
@@ -80,8 +80,8 @@ module _ (n : ℕ) (s : Step) (ss : List Step) (c : Cut) (e : RowsOfEntry) (ther
     held_is : IsHolding n s ss c h left z
     held_is = holding n s ss c e there last k tail z k.ended k.ended_comment
 
-    text_with : (u : List ℕ) → e.start ++ (front ++ rows_text (with_content (put_core for.node left) e.row ∷ []) u) ≡ w.before ++ (w.space ++ apart w.head (node_text for.node ((w.white ++ (w.comment ++ w.last)) ++ u)))
-    text_with u = text_beside n s ss c e there last k for.node tail u ∙ (λ i. w.before ++ (sym no_space i ++ apart (sym (is_empty_is w.head none) i) (node_text for.node (tail ++ u))))
+    text_with : (u : List ℕ) → e.start ++ (front ++ rows_text (with_content (put_core for.node left) e.row ∷ []) u) ≡ w.before ++ (w.space ++ spaced_text w.head (node_text for.node ((w.white ++ (w.comment ++ w.last)) ++ u)))
+    text_with u = text_beside n s ss c e there last k for.node tail u ∙ (λ i. w.before ++ (sym no_space i ++ spaced_text (sym (is_empty_is w.head none) i) (node_text for.node (tail ++ u))))
 
     nothing_carried : length (new_text us) ≤ text_limit → CarriedOut (replace n (s ∷ ss) v) c us
     nothing_carried = head_carried n s ss c e there last k br v f t for (put_core for.node left) (content_beside n s ss c h v for.node for.is left held_is) text_with
@@ -101,12 +101,12 @@ module _ (n : ℕ) (s : Step) (ss : List Step) (c : Cut) (e : RowsOfEntry) (ther
     -- no other lines are there, so that the end of its line is what was held
     tail_is : (slices e.row).tail ≡ w.white ++ (w.comment ++ w.last)
     tail_is =
-        let a : LineEnd = end_before [] (slices e.row).tail in
+        let a : LineEnd = end_in_line [] (slices e.row).tail in
         let end : w.last ≡ a.behind = λ i. let below : List ℕ = no_raw e.row.content block i ++ rows_text (k.headless some i) [] in cond (is_empty below) a.behind (last_break below) in
         end_parts [] (slices e.row).tail ∙ ap (λ b. a.white ++ (a.comment ++ b)) (sym end)
 
     -- the text before another rest
-    text_there : (u : List ℕ) → e.start ++ (front ++ rows_text (with_content (put_core for.node x) e.row ∷ []) u) ≡ w.before ++ (w.space ++ apart w.head (node_text for.node ((w.white ++ (w.comment ++ w.last)) ++ u)))
+    text_there : (u : List ℕ) → e.start ++ (front ++ rows_text (with_content (put_core for.node x) e.row ∷ []) u) ≡ w.before ++ (w.space ++ spaced_text w.head (node_text for.node ((w.white ++ (w.comment ++ w.last)) ++ u)))
     text_there u =
         ap (λ r. e.start ++ (front ++ r)) (row_front-append (with_content (put_core for.node x) e.row) u)
         ∙ (regroup e.start front (row_front e.row) (content_text (put_core for.node x) u)

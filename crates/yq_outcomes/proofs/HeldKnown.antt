@@ -5,7 +5,7 @@ use Rattle.yq_flow_scalars.specs.Paths.{Step}
 use Rattle.yq_flow_scalars.specs.Text.{is_empty}
 use Rattle.yq_block_scalars.specs.declared.block_types.Break.{Break}
 use Rattle.yq_lines.specs.Comments.{line_comment}
-use Rattle.yq_lines.specs.Places.{content}
+use Rattle.yq_lines.specs.Places.{content_under}
 use Rattle.yq_cut.specs.Gap.{IsBreak}
 use Rattle.yq_cut.specs.Grammar.{IsTail}
 use Rattle.yq_cut.specs.Rows.{Row, Cut, cut_text}
@@ -37,4 +37,4 @@ module _ (n : ℕ) (s : Step) (ss : List Step) (c : Cut) (e : RowsOfEntry) (ther
     pub ended_comment : line_comment ((held e).white ++ ((held e).comment ++ (held e).last)) ≡ line_comment (slices e.row).tail
     pub uncommented : is_empty (held e).comment ≡ true → line_comment (slices e.row).tail ≡ None
     pub headless : is_empty (slices e.row).head ≡ false → e.under ≡ []
-    pub named : anchor_of (content there.found.line there.found.under) ≡ content_anchor e.row.content
+    pub named : anchor_of (content_under there.found.line there.found.under) ≡ content_anchor e.row.content

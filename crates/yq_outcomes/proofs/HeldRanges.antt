@@ -10,7 +10,7 @@ use Rattle.yq_cut.specs.Grammar.{IsRow, IsTail, unlimited}
 use Rattle.yq_cut.specs.Rows.{Cut, cut_text, parent_indent, rows_text}
 use Rattle.yq_cut.specs.View.{slices}
 use Rattle.yq_documents.specs.Reading.{read_at}
-use Rattle.yq_row_places.specs.CommentPlaces.{LineEnd, end_before}
+use Rattle.yq_row_places.specs.CommentPlaces.{LineEnd, end_in_line}
 use Rattle.yq_row_places.specs.PrintedLines.{last_break}
 use Rattle.yq_row_places.specs.Standings.{Held, RowsOfEntry, behind_entry, held, rows_of_entry}
 use Rattle.yq_row_places.proofs.LineEndLaws.{line_tail}
@@ -74,7 +74,7 @@ held_in_line n s ss c e read at =
     let there : StandsThere n s ss c e = rows_stand n s ss c e read at in
     let row : IsRow (asked_behind unlimited e.front) e.row (rows_text e.under (behind_entry e)) = row_there n s ss c e there in
     let tail : IsTail (slices e.row).tail ((slices e.row).raw ++ rows_text e.under (behind_entry e)) = line_tail (parent_indent e.row) e.row.content (rows_text e.under (behind_entry e)) row.content in
-    let agrees : end_before [] (slices e.row).tail ≡ record { before = []; white = tail.white; comment = tail.comment; behind = tail.line.break } = end_agrees (slices e.row).tail _ tail in
+    let agrees : end_in_line [] (slices e.row).tail ≡ record { before = []; white = tail.white; comment = tail.comment; behind = tail.line.break } = end_agrees (slices e.row).tail _ tail in
     let below : List ℕ = (slices e.row).raw ++ rows_text e.under [] in
     let last : List ℕ = last_break below in
     let own : is_one_line tail.line.break ≡ true = break_line tail.line.break (break_cases tail.line.break _ tail.line.ends) in

@@ -6,21 +6,21 @@ use Rattle.yq_flow_scalars.specs.Characters.{pairs_returns}
 use Rattle.yq_flow_scalars.specs.Paths.{Step}
 use Rattle.yq_flow_scalars.specs.Text.{is_break, is_empty, is_line}
 use Rattle.yq_flow_scalars.specs.Tree.{Node}
-use Rattle.yq_nodes.specs.Nodes.{node_text, IsNode}
+use Rattle.yq_nodes.specs.Nodes.{node_text, IsFlowNode}
 use Rattle.yq_lines.specs.Comments.{line_comment}
 use Rattle.yq_lines.specs.Outline as outline
 use Rattle.yq_lines.specs.Outline.{IsOpen, Line, Outline, anchored, flatten, head_or, value}
-use Rattle.yq_lines.specs.Places.{content}
+use Rattle.yq_lines.specs.Places.{content_under}
 use Rattle.yq_cut.specs.Exchange.{asked_behind}
 use Rattle.yq_cut.specs.Gap.{IsBreak}
 use Rattle.yq_cut.specs.Grammar.{IsContent, IsRow, IsTail, unlimited}
 use Rattle.yq_cut.specs.Rows.{Content, Cut, Row, cut_text, parent_indent, rows_text}
 use Rattle.yq_cut.specs.View.{Slices, content_cut, slices}
 use Rattle.yq_cut.proofs.CharacterLaws.{pairs_back}
-use Rattle.yq_lines.specs.Lines.{content_anchor, head_of, lines_of, row_lines}
+use Rattle.yq_lines.specs.Lines.{content_anchor, head_of, lines_of_rows, row_lines}
 use Rattle.yq_documents.specs.TreeEdits.{anchor_of}
-use Rattle.yq_documents.specs.Reading.{outline_of, read_at}
-use Rattle.yq_row_places.specs.CommentPlaces.{LineEnd, end_before, line_text}
+use Rattle.yq_documents.specs.Reading.{part_outline, read_at}
+use Rattle.yq_row_places.specs.CommentPlaces.{LineEnd, end_in_line, text_to_line_end}
 use Rattle.yq_row_places.specs.PrintedLines.{last_break}
 use Rattle.yq_row_places.specs.Standings.{RowsOfEntry, before_entry, behind_entry, held, rows_of_entry}
 use Rattle.yq_row_places.proofs.CommentPieceLaws.{Ended}
@@ -66,12 +66,12 @@ last_ends own more h1 = search (rules, last_is, false≢true, no_line, lf_last, 
 
 -- what is written for a head is one
 pub head_there : (n : ℤ) (x : Content) (more : List ℕ) → IsContent n x more → is_empty (content_cut x).3 ≡ false → is_some (head_of x) ≡ true
-unfolding IsNode node_text
+unfolding IsFlowNode node_text
 head_there n x more h1 h2 = search (rules, false≢true)
 
-no_rows_there : (rs : List Row) → lines_of rs ≡ [] → rs ≡ []
+no_rows_there : (rs : List Row) → lines_of_rows rs ≡ [] → rs ≡ []
 no_rows_there [] e = refl
-no_rows_there (r ∷ rs) e = absurd (omega (arith, ap length e, length-append (row_lines r) (lines_of rs), row_count r))
+no_rows_there (r ∷ rs) e = absurd (omega (arith, ap length e, length-append (row_lines r) (lines_of_rows rs), row_count r))
 
 -- a block collection has no anchor of its own
 pub value_unnamed : (o : Outline) → HasEntries o → (a : Option (List ℕ)) → anchor_of (anchored a (value o)) ≡ a
@@ -95,7 +95,7 @@ module _ (n : ℕ) (s : Step) (ss : List Step) (c : Cut) (e : RowsOfEntry) (ther
   pub mark_tail : IsTail (slices e.row).tail ((slices e.row).raw ++ rows_text e.under (behind_entry e))
   mark_tail = line_tail (parent_indent e.row) e.row.content (rows_text e.under (behind_entry e)) row.content
 
-  pub mark_end : end_before [] (slices e.row).tail ≡ record { before = []; white = mark_tail.white; comment = mark_tail.comment; behind = mark_tail.line.break }
+  pub mark_end : end_in_line [] (slices e.row).tail ≡ record { before = []; white = mark_tail.white; comment = mark_tail.comment; behind = mark_tail.line.break }
   mark_end = end_agrees (slices e.row).tail _ mark_tail
 
   more_is : more ≡ below ++ behind_entry e
@@ -110,12 +110,12 @@ module _ (n : ℕ) (s : Step) (ss : List Step) (c : Cut) (e : RowsOfEntry) (ther
       go (x ∷ xs) ended h = last_ends (x ∷ xs) (behind_entry e) (ended refl)
 
   open' : IsOpen there.found.line.head there.found.under
-  open' = (under_even _ (outline_of there.part) s ss there.found (even_there n s ss c e there last) there.is).1.1
+  open' = (under_even _ (part_outline there.part) s ss there.found (even_there n s ss c e there last) there.is).1.1
 
   line_there : Rattle.yq_change.proofs.UnderLaws.line_with e.row e.row.content ≡ there.found.line
   line_there = line_is there.part s ss e.front e.row e.under e.back (under_it n s ss c e there last) (even_there n s ss c e there last)
 
-  lines_there : lines_of e.under ≡ flatten there.found.under
+  lines_there : lines_of_rows e.under ≡ flatten there.found.under
   lines_there = under_is there.part s ss e.front e.row e.under e.back (under_it n s ss c e there last) (even_there n s ss c e there last)
 
   pub headless_there : is_empty (slices e.row).head ≡ false → e.under ≡ []
@@ -123,15 +123,15 @@ module _ (n : ℕ) (s : Step) (ss : List Step) (c : Cut) (e : RowsOfEntry) (ther
       let head : is_some there.found.line.head ≡ true = ap (λ (l : Line). is_some l.head) (sym line_there) ∙ head_there (parent_indent e.row) e.row.content _ row.content some in
       no_rows_there e.under (lines_there ∙ (search (rules, false≢true, open', head)))
 
-  named_there : first_alone e.under ≡ false → anchor_of (content there.found.line there.found.under) ≡ content_anchor e.row.content
+  named_there : first_alone e.under ≡ false → anchor_of (content_under there.found.line there.found.under) ≡ content_anchor e.row.content
   named_there beside = go there.found.under refl
     where
       open_row : (o : Option Node) (l : Line) (u after : Outline) → IsOpen o (outline.row l u after) → o ≡ None
       open_row None l u after h = refl
       open_row (Some k) l u after h = absurd h
 
-      go : (u : Outline) → there.found.under ≡ u → anchor_of (content there.found.line there.found.under) ≡ content_anchor e.row.content
-      go outline.end is = (λ i. anchor_of (content (sym line_there i) (is i))) ∙ content_named (parent_indent e.row) e.row.content _ row.content
+      go : (u : Outline) → there.found.under ≡ u → anchor_of (content_under there.found.line there.found.under) ≡ content_anchor e.row.content
+      go outline.end is = (λ i. anchor_of (content_under (sym line_there i) (is i))) ∙ content_named (parent_indent e.row) e.row.content _ row.content
       go (outline.row l u after) is =
           let none : there.found.line.head ≡ None = open_row there.found.line.head l u after (subst (IsOpen there.found.line.head) is open') in
           let entries : HasEntries (outline.row l u after) = search (rules, false≢true, beside, lines_there ∙ ap flatten is) in
@@ -141,8 +141,8 @@ module _ (n : ℕ) (s : Step) (ss : List Step) (c : Cut) (e : RowsOfEntry) (ther
   module _ (read : read_at (cut_text c) ≡ Some c) (at : rows_of_entry n (s ∷ ss) c ≡ Some e) where
     pairs : pairs_returns ((slices e.row).tail ++ ((slices e.row).raw ++ rows_text e.under (behind_entry e))) ≡ true
     pairs =
-        let text : cut_text c ≡ (before_entry e ++ line_text e.row) ++ (sl.tail ++ more) = cut_spelled n (s ∷ ss) c e at ∙ line_whole (entry_row e) in
-        pairs_back (before_entry e ++ line_text e.row) (sl.tail ++ more) (ap pairs_returns (sym text) ∙ (and_parts _ (pairs_returns (cut_text c)) (text_is_piece c read).characters).1)
+        let text : cut_text c ≡ (before_entry e ++ text_to_line_end e.row) ++ (sl.tail ++ more) = cut_spelled n (s ∷ ss) c e at ∙ line_whole (entry_row e) in
+        pairs_back (before_entry e ++ text_to_line_end e.row) (sl.tail ++ more) (ap pairs_returns (sym text) ∙ (and_parts _ (pairs_returns (cut_text c)) (text_is_piece c read).characters).1)
 
     abbrev OtherTail : LineEnd → List ℕ → List ℕ → Type 0
     OtherTail x break behind = IsTail (x.white ++ (x.comment ++ break)) behind

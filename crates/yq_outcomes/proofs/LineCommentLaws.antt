@@ -5,7 +5,7 @@ use Rattle.std.proofs.lemmas.Option.{same_Some}
 use Rattle.std.specs.Str.{IsUtf8}
 use Rattle.yq_flow_scalars.specs.Answers.{◌>>=◌}
 use Rattle.yq_text.specs.Limit.{text_limit}
-use Rattle.yq_flow_scalars.specs.Paths.{Step, change, relabel_child, within}
+use Rattle.yq_flow_scalars.specs.Paths.{Step, changed_at, relabel_child, within}
 use Rattle.yq_flow_scalars.specs.Text.{is_empty}
 use Rattle.yq_flow_scalars.proofs.Bools.{guard_then}
 use Rattle.yq_cut.specs.Gap.{IsBreak}
@@ -13,7 +13,7 @@ use Rattle.yq_cut.specs.Grammar.{IsTail, no_rows}
 use Rattle.yq_cut.specs.Rows.{Row, parent_indent, print_row, rows_text, Part, Cut, cut_text, part_text}
 use Rattle.yq_cut.specs.View.{slices}
 use Rattle.yq_cut.proofs.splices.SpliceTexts.{own_gap, own_end}
-use Rattle.yq_row_places.specs.CommentPlaces.{LineEnd, end_before, line_text, end_of_line}
+use Rattle.yq_row_places.specs.CommentPlaces.{LineEnd, end_in_line, text_to_line_end, end_of_line}
 use Rattle.yq_documents.specs.Documents.{lead_of}
 use Rattle.yq_documents.specs.LinesInRows.{row_line_of}
 use Rattle.yq_row_places.specs.PlacedRows.{PlacedPart, PlacedRow, placed_row}
@@ -34,8 +34,8 @@ use Rattle.yq_change.proofs.PathTailLaws.{path_tail_put}
 use Rattle.yq_change.proofs.ReplaceLaws.{rows_before_some}
 use Rattle.yq_change.proofs.ShapeLaws.{shapes_are_alike}
 use Rattle.yq_change.proofs.TextPieceLaws.{text_is_piece}
-use Rattle.yq_meaning.specs.Changes.{is_comment}
-use Rattle.yq_meaning.specs.Meaning.{line_of}
+use Rattle.yq_meaning.specs.Changes.{can_be_comment}
+use Rattle.yq_meaning.specs.Meaning.{line_comment_text}
 use Rattle.yq_meaning.specs.Operations.{line_comment}
 use Rattle.yq_program.specs.declared.program.CommentPlace.TheVariants as comments
 use Rattle.yq_cut.proofs.splices.ContentPlaces.{count_front}
@@ -68,12 +68,12 @@ abbrev ends : Held → LineEnd
 ends h = record { before = h.before ++ (h.space ++ h.head); white = h.white; comment = h.comment; behind = h.break ++ (h.lines ++ (h.last ++ h.behind)) }
 
 -- the white space, the comment and the break that end a line don't depend on what is behind
-ends_same : (tail more : List ℕ) → IsTail tail more → end_before [] (tail ++ more) ≡ (record { before = []; white = (end_before [] tail).white; comment = (end_before [] tail).comment; behind = (end_before [] tail).behind ++ more })
+ends_same : (tail more : List ℕ) → IsTail tail more → end_in_line [] (tail ++ more) ≡ (record { before = []; white = (end_in_line [] tail).white; comment = (end_in_line [] tail).comment; behind = (end_in_line [] tail).behind ++ more })
 ends_same tail more h =
     let last : IsBreak h.line.break [] = ⊎_elim {0, 0, 0} (λ e. inl e) (λ e. inr (e.0, refl)) h.line.ends in
     let alone : IsTail tail [] = record { white = h.white; comment = h.comment; line = record { break = h.line.break; spelled = h.line.spelled; blank = h.line.blank; as_comment = h.line.as_comment; ends = last }; apart = h.apart } in
-    let own : end_before [] tail ≡ record { before = []; white = h.white; comment = h.comment; behind = h.line.break } =
-    ap (end_before []) (sym (append-nil tail)) ∙ (tail_is_end [] tail [] alone ∙ ap (λ t. record { before = []; white = h.white; comment = h.comment; behind = t }) (append-nil h.line.break)) in
+    let own : end_in_line [] tail ≡ record { before = []; white = h.white; comment = h.comment; behind = h.line.break } =
+    ap (end_in_line []) (sym (append-nil tail)) ∙ (tail_is_end [] tail [] alone ∙ ap (λ t. record { before = []; white = h.white; comment = h.comment; behind = t }) (append-nil h.line.break)) in
     tail_is_end [] tail more h ∙ sym (ap (λ (x : LineEnd). record { before = []; white = x.white; comment = x.comment; behind = x.behind ++ more }) own)
 
 -- what a key or dash holds tells the end of its line
@@ -82,12 +82,12 @@ ends_are n steps c e read f =
     let r : Row = e.row in
     let below : List ℕ = (slices r).raw ++ rows_text e.under [] in
     let behind : List ℕ = rows_text e.under (behind_entry e) in
-    let t : LineEnd = end_before [] (slices r).tail in
+    let t : LineEnd = end_in_line [] (slices r).tail in
     let row = found_row c _ (entry_row e) (cut_is c read) f.at in
     let h : IsTail (slices r).tail ((slices r).raw ++ behind) = line_tail (parent_indent r) r.content behind row.row.content in
     let rest : (slices r).raw ++ behind ≡ below ++ behind_entry e = ap (λ x. (slices r).raw ++ x) (rows_then e.under (behind_entry e)) ∙ sym (append_assoc (slices r).raw (rows_text e.under []) (behind_entry e)) in
     let line : t.behind ++ ((slices r).raw ++ behind) ≡ (ends (held e)).behind = ap (λ x. t.behind ++ x) rest ∙ below_is below t.behind (behind_entry e) in
-    ap (λ (x : LineEnd). record { before = before_entry e ++ line_text r; white = x.white; comment = x.comment; behind = x.behind }) (ends_same (slices r).tail ((slices r).raw ++ behind) h)
+    ap (λ (x : LineEnd). record { before = before_entry e ++ text_to_line_end r; white = x.white; comment = x.comment; behind = x.behind }) (ends_same (slices r).tail ((slices r).raw ++ behind) h)
     ∙ (λ i. record { before = front_is (before_entry e) r i; white = t.white; comment = t.comment; behind = line i })
 
 place : (n : ℕ) (steps : List Step) (c : Cut) (e : RowsOfEntry) → read_at (cut_text c) ≡ Some c → rows_of_entry n steps c ≡ Some e → e.line ≡ length e.row.dashes → IsEndOfLine n steps c (ends (held e))
@@ -99,7 +99,7 @@ place_text : (doc : ℕ) (steps : List Step) (c : Cut) (e : LineEnd) → IsEndOf
 place_text doc steps c e p =
     let w : PlacedRow = p.w in
     let rest : List ℕ = (slices w.row).tail ++ ((slices w.row).raw ++ w.behind) in
-    found_text c _ w p.found.at ∙ (line_whole w ∙ (ap (λ l. (w.before ++ line_text w.row) ++ l) (end_parts (w.before ++ line_text w.row) rest)
+    found_text c _ w p.found.at ∙ (line_whole w ∙ (ap (λ l. (w.before ++ text_to_line_end w.row) ++ l) (end_parts (w.before ++ text_to_line_end w.row) rest)
     ∙ ap (λ (x : LineEnd). x.before ++ (x.white ++ (x.comment ++ x.behind))) p.is))
 
 -- ---- the segments
@@ -146,7 +146,7 @@ comment_piece text t = go (is_empty text)
 
 -- ---- the law
 
-both : (doc : ℕ) (steps : List Step) (text : List ℕ) (c : Cut) (rows : RowsOfEntry) → read_at (cut_text c) ≡ Some c → rows_of_entry doc steps c ≡ Some rows → IsEndOfLine doc steps c (ends (held rows)) → IsUtf8 text → is_comment comments.Line text ≡ true →
+both : (doc : ℕ) (steps : List Step) (text : List ℕ) (c : Cut) (rows : RowsOfEntry) → read_at (cut_text c) ≡ Some c → rows_of_entry doc steps c ≡ Some rows → IsEndOfLine doc steps c (ends (held rows)) → IsUtf8 text → can_be_comment comments.Line text ≡ true →
     length (new_text (comment_put text (held rows))) ≤ text_limit → CarriedOut (line_comment doc steps text) c (comment_put text (held rows)) × ChangesRow doc c rows (comment_put text (held rows))
 both doc steps text c rows read is a utf8 fit size =
     let hd : Held = held rows in
@@ -169,13 +169,13 @@ both doc steps text c rows read is a utf8 fit size =
     let new : Cut = put_document doc q c in
     let rows_now : q.rows ≡ front_rows ++ (tailed tail r ∷ back) = ap (λ (b : List Row). front_rows ++ (tailed tail r ∷ b)) (own_gap back p.end) in
     let ending : q.end ≡ p.end = own_end back p.end in
-    let end_is : end_of_tail (own.before ++ line_text r) (slices r).tail ((slices r).raw ++ rest) h ≡ e =
-    sym (tail_is_end (own.before ++ line_text r) (slices r).tail ((slices r).raw ++ rest) h) ∙ (ap end_of_line f.is ∙ a.is) in
+    let end_is : end_of_tail (own.before ++ text_to_line_end r) (slices r).tail ((slices r).raw ++ rest) h ≡ e =
+    sym (tail_is_end (own.before ++ text_to_line_end r) (slices r).tail ((slices r).raw ++ rest) h) ∙ (ap end_of_line f.is ∙ a.is) in
     let text_then : cut_text new ≡ new_text ss =
     f.stands.put q
     ∙ (ap (λ l. f.s.before ++ l) ((λ j. rows_text (rows_now j) (ending j ++ f.s.behind)) ∙ (rows_front front_rows (tailed tail r ∷ back) (p.end ++ f.s.behind) ∙ ap (λ l. rows_text front_rows [] ++ l) (row_then_text r tail rest)))
-    ∙ (assoc f.s.before (rows_text front_rows []) (line_text r) (tail ++ ((slices r).raw ++ rest))
-    ∙ (ap (λ l. (own.before ++ line_text r) ++ l) (tail_parts (new_white text h.white h.comment) (new_comment text) h.line.break ((slices r).raw ++ rest))
+    ∙ (assoc f.s.before (rows_text front_rows []) (text_to_line_end r) (tail ++ ((slices r).raw ++ rest))
+    ∙ (ap (λ l. (own.before ++ text_to_line_end r) ++ l) (tail_parts (new_white text h.white h.comment) (new_comment text) h.line.break ((slices r).raw ++ rest))
     ∙ (ap (λ (x : LineEnd). x.before ++ (new_white text x.white x.comment ++ (new_comment text ++ x.behind))) end_is
     ∙ sym (segments_new text hd))))) in
     let whole : IsPiece (own.before ++ print_row own.row own.behind) = subst IsPiece (found_text c _ w f.at ∙ sym (ap (λ (x : PlacedRow). x.before ++ print_row x.row x.behind) f.is)) (text_is_piece c read) in
@@ -196,7 +196,7 @@ both doc steps text c rows read is a utf8 fit size =
     let shapes = shapes_are_alike p q (shapes_same front_rows r back tail p q f.rows_are rows_now) in
     let trail : List ℕ = h.line.break ++ (slices r).raw in
     let put_is : IsCommentPut hd (white_kept text hd) ss = comment_segments text hd in
-    let before_is : e.before ≡ (f.s.before ++ rows_text front_rows []) ++ line_text r = sym (ap (λ (x : LineEnd). x.before) end_is) in
+    let before_is : e.before ≡ (f.s.before ++ rows_text front_rows []) ++ text_to_line_end r = sym (ap (λ (x : LineEnd). x.before) end_is) in
     let behind_is : e.behind ≡ trail ++ rows_text back (p.end ++ behind_document doc c) =
     sym (ap (λ (x : LineEnd). x.behind) end_is) ∙ (sym (append_assoc h.line.break (slices r).raw rest) ∙ ap (λ u. trail ++ rows_text back (p.end ++ u)) (sym f.stands.behind)) in
     let local : IsLocal ss c new =
@@ -212,9 +212,9 @@ both doc steps text c rows read is a utf8 fit size =
       rows_are = f.rows_are;
       come_are = rows_now;
       end_is = ending;
-      lead = line_text r ++ white_kept text hd;
+      lead = text_to_line_end r ++ white_kept text hd;
       trail = trail;
-      before_is = put_is.before ∙ (ap (λ l. l ++ white_kept text hd) before_is ∙ append_assoc (f.s.before ++ rows_text front_rows []) (line_text r) (white_kept text hd));
+      before_is = put_is.before ∙ (ap (λ l. l ++ white_kept text hd) before_is ∙ append_assoc (f.s.before ++ rows_text front_rows []) (text_to_line_end r) (white_kept text hd));
       behind_is = put_is.behind ∙ behind_is;
       puts = put_is.puts;
       old_is = put_is.old ∙ sym (place_text doc steps c e a);
@@ -228,8 +228,8 @@ both doc steps text c rows read is a utf8 fit size =
               there = f.stands.there;
               rows = λ none. absurd (false≢true (sym (rows_before_some front_rows (tailed tail r ∷ back) refl) ∙ (sym (ap no_rows rows_now) ∙ none)));
               changed = changed;
-              root = ap (λ o. change steps_are.0 (within (relabel_child steps_are.1 (with_line_comment o))) (root_of p)) (new_comment_is text (slices r).tail ((slices r).raw ++ rest) h no_breaks.0)
-                  ∙ (sym (end_is_change (λ s. relabel_child s (with_line_comment (line_of text))) steps_are.0 steps_are.1 (root_of p)) ∙ ap (λ (s : List Step). at_end (λ s. relabel_child s (with_line_comment (line_of text))) s (root_of p)) (sym steps_are.2));
+              root = ap (λ o. changed_at steps_are.0 (within (relabel_child steps_are.1 (with_line_comment o))) (root_of p)) (new_comment_is text (slices r).tail ((slices r).raw ++ rest) h no_breaks.0)
+                  ∙ (sym (end_is_change (λ s. relabel_child s (with_line_comment (line_comment_text text))) steps_are.0 steps_are.1 (root_of p)) ∙ ap (λ (s : List Step). at_end (λ s. relabel_child s (with_line_comment (line_comment_text text))) s (root_of p)) (sym steps_are.2));
               lead_goes = same_lead_goes p q (lead_same front_rows r back tail p q f.rows_are rows_now) shapes.1;
               block = λ x. shapes.1;
               equal_room = λ x. shapes.0;

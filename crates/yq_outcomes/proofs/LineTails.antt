@@ -13,12 +13,12 @@ use Rattle.yq_cut.specs.Rows.{Content, Nothing, Inline, Block, Row, print_row, P
 use Rattle.yq_cut.specs.Splices.{first_gap}
 use Rattle.yq_cut.specs.View.{content_cut, slices}
 use Rattle.yq_cut.proofs.LineEnds.{white_none, text_line, white_again, behind_comment}
-use Rattle.yq_row_places.specs.CommentPlaces.{line_text}
+use Rattle.yq_row_places.specs.CommentPlaces.{text_to_line_end}
 use Rattle.yq_documents.specs.Documents.{lead_of}
 use Rattle.yq_row_places.proofs.CommentEndLaws.{row_text_parts}
 use Rattle.yq_change.specs.PathTails.{with_line_tail, IsLineTail, tailed}
 use Rattle.yq_change.specs.Rooms.{row_shape}
-use Rattle.yq_meaning.specs.Meaning.{line_of}
+use Rattle.yq_meaning.specs.Meaning.{line_comment_text}
 use Rattle.yq_edits.proofs.CommentReadLaws.{no_breaks_none, comment_behind, comment_is}
 
 -- ---- what stands there then
@@ -99,10 +99,10 @@ module _ (text tail more : List ℕ) (h : IsTail tail more) (no_breaks : Rattle.
       ap (λ x. cond (front (λ b. eqb b 35) x) (Some (Rattle.yq_lines.specs.Comments.less_space (Rattle.yq_flow_scalars.specs.Text.cut ends_line (drop 1 x)).0)) None) past
       ∙ ap (λ b. cond b (Some (Rattle.yq_lines.specs.Comments.less_space (Rattle.yq_flow_scalars.specs.Text.cut ends_line (drop 1 h.line.break)).0)) None) (no_hash h.line.break front_end)
 
-  pub new_comment_is : comment_in tail_then ≡ line_of text
+  pub new_comment_is : comment_in tail_then ≡ line_comment_text text
   new_comment_is = go text refl
     where
-      go : (u : List ℕ) → text ≡ u → comment_in (new_white text h.white h.comment ++ (new_comment text ++ h.line.break)) ≡ line_of u
+      go : (u : List ℕ) → text ≡ u → comment_in (new_white text h.white h.comment ++ (new_comment text ++ h.line.break)) ≡ line_comment_text u
       go [] e = ap (λ t. comment_in (new_white text h.white h.comment ++ (new_comment t ++ h.line.break))) e ∙ no_comment (new_white text h.white h.comment) blank
       go (b ∷ u) e =
           let parts = behind_comment [] h.line.break [] tt (alone h.line.ends) in
@@ -154,15 +154,15 @@ row_tail (Nothing e) tail = (refl, refl)
 row_tail (Inline space node e) tail = (refl, refl)
 row_tail (Block space anchor block) tail = (refl, refl)
 
-row_line_same : (r : Row) (tail : List ℕ) → line_text (tailed tail r) ≡ line_text r
+row_line_same : (r : Row) (tail : List ℕ) → text_to_line_end (tailed tail r) ≡ text_to_line_end r
 row_line_same r tail = go r.content refl
   where
-    go : (c : Content) → r.content ≡ c → line_text (tailed tail r) ≡ line_text r
-    go (Nothing e) is = ap (λ (x : Content). line_text (with_content (with_line_tail tail x) r)) is ∙ sym (ap (λ (x : Content). line_text (with_content x r)) is)
-    go (Inline space node e) is = ap (λ (x : Content). line_text (with_content (with_line_tail tail x) r)) is ∙ sym (ap (λ (x : Content). line_text (with_content x r)) is)
-    go (Block space anchor block) is = ap (λ (x : Content). line_text (with_content (with_line_tail tail x) r)) is ∙ sym (ap (λ (x : Content). line_text (with_content x r)) is)
+    go : (c : Content) → r.content ≡ c → text_to_line_end (tailed tail r) ≡ text_to_line_end r
+    go (Nothing e) is = ap (λ (x : Content). text_to_line_end (with_content (with_line_tail tail x) r)) is ∙ sym (ap (λ (x : Content). text_to_line_end (with_content x r)) is)
+    go (Inline space node e) is = ap (λ (x : Content). text_to_line_end (with_content (with_line_tail tail x) r)) is ∙ sym (ap (λ (x : Content). text_to_line_end (with_content x r)) is)
+    go (Block space anchor block) is = ap (λ (x : Content). text_to_line_end (with_content (with_line_tail tail x) r)) is ∙ sym (ap (λ (x : Content). text_to_line_end (with_content x r)) is)
 
-pub row_then_text : (r : Row) (tail rest : List ℕ) → print_row (tailed tail r) rest ≡ line_text r ++ (tail ++ ((slices r).raw ++ rest))
+pub row_then_text : (r : Row) (tail rest : List ℕ) → print_row (tailed tail r) rest ≡ text_to_line_end r ++ (tail ++ ((slices r).raw ++ rest))
 row_then_text r tail rest =
     let x = row_tail r.content tail in
     row_text_parts (tailed tail r) rest ∙ (λ i. row_line_same r tail i ++ (x.0 i ++ (x.1 i ++ rest)))

@@ -2,7 +2,7 @@
 use Rattle.std.proofs.Common.{◌≡◌, ◌⊎◌, inl, inr, ℕ, ◌≤◌, cond, List, [], ◌∷◌, ◌++◌, length, replicate, Some, refl, sym, ap, ◌∙◌, subst, append_assoc, append-nil, rules}
 use Rattle.std.proofs.lemmas.Bool.{false≢true}
 use Rattle.yq_text.specs.Limit.{text_limit}
-use Rattle.yq_flow_scalars.specs.Paths.{Step, change}
+use Rattle.yq_flow_scalars.specs.Paths.{Step, changed_at}
 use Rattle.yq_flow_scalars.specs.Tree.{Node}
 use Rattle.yq_flow_scalars.specs.declared.style.Place.TheVariants.{Block as InBlock}
 use Rattle.yq_nodes.specs.Nodes.{node_text}
@@ -17,7 +17,7 @@ use Rattle.yq_cut.proofs.NodePieces.{ends_behind}
 use Rattle.yq_cut.proofs.seams.SeamLaws.{rows_text-append}
 use Rattle.yq_documents.specs.Documents.{lead_of}
 use Rattle.yq_documents.specs.Reading.{documents, read_at, root_of}
-use Rattle.yq_documents.specs.TreeEdits.{replaced}
+use Rattle.yq_documents.specs.TreeEdits.{replaced_node}
 use Rattle.yq_row_places.specs.PlacedRows.{PlacedPart, PlacedRow, placed_document}
 use Rattle.yq_row_places.specs.RowPaths.{IsReadable}
 use Rattle.yq_row_places.specs.Standings.{Lone, lone}
@@ -45,7 +45,7 @@ use Rattle.yq_meaning.specs.Rooms.{room_of}
 use Rattle.yq_script.specs.Script.{Segment, new_text, old_text}
 use Rattle.yq_edits.specs.EditLaws.{CarriedOut, IsEdit}
 use Rattle.yq_edits.specs.Local.{IsLocal}
-use Rattle.yq_edits.specs.ReplaceEdits.{apart, lone_put}
+use Rattle.yq_edits.specs.ReplaceEdits.{spaced_text, lone_put}
 use Rattle.yq_edits.specs.ReadsAfter.{ReadsAfter}
 use Rattle.yq_edits.specs.WrittenValues.{value_text}
 use Rattle.yq_edits.proofs.DoneLaws.{document_done}
@@ -150,7 +150,7 @@ module _ (n : ℕ) (steps : List Step) (v : Node) (c : Cut) (read : read_at (cut
 
   -- ---- the new text
 
-  some_head : apart w.head t ≡ t
+  some_head : spaced_text w.head t ≡ t
   some_head = ap (λ b. cond b (32 ∷ t) t) place.some
 
   new_is : new_text us ≡ w.before ++ (t ++ w.behind)
@@ -170,7 +170,7 @@ module _ (n : ℕ) (steps : List Step) (v : Node) (c : Cut) (read : read_at (cut
       let same : cut_text (put_document n q c) ≡ new_text us =
       contents.text c n p old front r back rows_are mark no_dashes steps leads v x.node x.is d.before put ∙ (ap (λ u. w.before ++ u) spelled ∙ sym new_is) in
       let readable : IsReadable (new_text us) = segments_readable us (before_piece, (subst IsPiece (sym some_head) x.piece, (behind_piece, tt))) size in
-      let changed : IsChanged c (put_document n q c) n (lead_of p) (change steps (replaced v)) =
+      let changed : IsChanged c (put_document n q c) n (lead_of p) (changed_at steps (replaced_node v)) =
       contents.lone_changed c n p old front r back rows_are mark no_dashes steps leads v x.node x.is (subst IsReadable (sym same) readable) f.node f.there f.may in
       let lead : lead_of q ≡ lead_of p = contents.same_lead c n p old front r back rows_are mark no_dashes steps leads v x.node x.is in
       let block : is_block_root q ≡ is_block_root p = contents.same_block c n p old front r back rows_are mark no_dashes steps leads v x.node x.is in
@@ -197,12 +197,12 @@ module _ (n : ℕ) (steps : List Step) (v : Node) (c : Cut) (read : read_at (cut
       }) r (with_content (put_core x.node r.content) r) refl refl in
       record {
         reads = subst (ReadsAfter op c) same
-            (document_done op c p q (lead_of p) (change steps (replaced v)) (record {
+            (document_done op c p q (lead_of p) (changed_at steps (replaced_node v)) (record {
               read = read;
               there = stands.there;
               rows = λ none. absurd (false≢true (sym (contents.some_rows c n p old front r back rows_are mark no_dashes steps leads v x.node x.is) ∙ none));
               changed = changed;
-              root = ap (λ m. change steps (replaced m) (root_of p)) (sym (led_same (is_block_root p) (lead_of p) steps v (contents.rooted c n p old front r back rows_are mark no_dashes steps leads v x.node x.is)));
+              root = ap (λ m. changed_at steps (replaced_node m) (root_of p)) (sym (led_same (is_block_root p) (lead_of p) steps v (contents.rooted c n p old front r back rows_are mark no_dashes steps leads v x.node x.is)));
               lead_goes = same_lead_goes p q lead block;
               block = λ keeps. block;
               equal_room = λ sets. absurd sets;

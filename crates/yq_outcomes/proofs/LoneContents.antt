@@ -3,7 +3,7 @@ use Rattle.std.proofs.Common.{refl, ◌≡◌, ℕ, eqb, List, [], ◌∷◌, �
 use Rattle.std.proofs.lemmas.Bool.{and_right, false≢true}
 use Rattle.std.proofs.lemmas.Option.{same_Some}
 use Rattle.std.specs.Str.{is_utf8}
-use Rattle.yq_flow_scalars.specs.Paths.{Step, change, node_at}
+use Rattle.yq_flow_scalars.specs.Paths.{Step, changed_at, node_at}
 use Rattle.yq_flow_scalars.specs.Piece.{deeper}
 use Rattle.yq_flow_scalars.specs.Text.{is_marker}
 use Rattle.yq_flow_scalars.specs.Tree.{Node}
@@ -13,8 +13,8 @@ use Rattle.yq_nodes.specs.Nodes.{node_text}
 use Rattle.yq_lines.specs.Comments.{head_comment}
 use Rattle.yq_lines.specs.Group.{group, is_fine}
 use Rattle.yq_lines.specs.Outline.{Line}
-use Rattle.yq_lines.specs.Places.{FoundLine, content}
-use Rattle.yq_lines.specs.Sound.{is_entry}
+use Rattle.yq_lines.specs.Places.{FoundLine, content_under}
+use Rattle.yq_lines.specs.Sound.{is_entry_line}
 use Rattle.yq_lines.proofs.Finding.{FoundNode, path_node}
 use Rattle.yq_cut.specs.Exchange.{allows_first, asked_behind, row_front, with_content}
 use Rattle.yq_cut.specs.Grammar.{Limit, unlimited, AreRows, IsContent, IsMark, IsRow, limit_after, may_be_alone, no_rows}
@@ -27,10 +27,10 @@ use Rattle.yq_cut.proofs.seams.SeamLaws.{rows_text-append}
 use Rattle.yq_cut.proofs.splices.PartPlaces.{part_ends}
 use Rattle.yq_cut.proofs.splices.SpliceTexts.{own_gap, own_end}
 use Rattle.yq_documents.specs.Documents.{document_parts, lead_of}
-use Rattle.yq_lines.specs.Lines.{lines_of, mark_line, mark_of}
-use Rattle.yq_documents.specs.Reading.{outline_of, read_at, root_of}
+use Rattle.yq_lines.specs.Lines.{lines_of_rows, mark_line, line_mark}
+use Rattle.yq_documents.specs.Reading.{part_outline, read_at, root_of}
 use Rattle.yq_documents.specs.Ready.{begins_no_node}
-use Rattle.yq_documents.specs.TreeEdits.{replaced}
+use Rattle.yq_documents.specs.TreeEdits.{replaced_node}
 use Rattle.yq_row_places.specs.RowPaths.{IsReadable}
 use Rattle.yq_documents.proofs.PartRows.{each}
 use Rattle.yq_row_places.proofs.ReadLaws.{text_takes}
@@ -58,7 +58,7 @@ use Rattle.yq_change.proofs.ValueContentLaws.{content_alone, content_head, conte
 use Rattle.yq_outcomes.proofs.LoneHeads.{IsLoneHead, before_head, lone_head}
 
 module _ (c : Cut) (n : ℕ) (p : Part) (old : IsDocumentPart (cut_text c) c n p) (front : List Row) (r : Row) (back : List Row) (rows_are : p.rows ≡ front ++ (r ∷ back)) (mark : r.mark ≡ Bare) (no_dashes : r.dashes ≡ [])
-    (steps : List Step) (leads : LeadsToLone p steps front r) (v : Node) (node : inline.Node) (is : IsValueNode v node) where
+    (steps : List Step) (leads : LeadsToLone p steps front r) (v : Node) (node : inline.FlowNode) (is : IsValueNode v node) where
   abbrev rest : List ℕ
   rest = rows_text back (p.end ++ behind_document n c)
 
@@ -80,7 +80,7 @@ module _ (c : Cut) (n : ℕ) (p : Part) (old : IsDocumentPart (cut_text c) c n p
   pub head : IsLoneHead r.content
   head = lone_head (parent_indent r) r.content rest own.0.content alone
 
-  fine : is_fine (group (lines_of p.rows)) ≡ true
+  fine : is_fine (group (lines_of_rows p.rows)) ≡ true
   unfolding read_at
   fine = document_fine p (each (document_parts c) (text_takes (cut_text c) c (guard_then (is_utf8 (cut_text c)) old.read).1).1 n p old.there)
 
@@ -102,7 +102,7 @@ module _ (c : Cut) (n : ℕ) (p : Part) (old : IsDocumentPart (cut_text c) c n p
         (ap is_marker (λ i. dashes_text (no_dashes i) (mark_text (mark i) (content_text new rest))) ∙ content_unmarked v node is (parent_indent r) r.content rest alone own.0.content);
     dashes = own.0.dashes;
     mark = subst (λ m. IsMark m new rest) (sym mark) (content_alone v node is r.content alone);
-    content = content_new;
+    content_under = content_new;
   }
 
   pub there : q.rows ≡ front ++ (with_content new r ∷ back)
@@ -139,14 +139,14 @@ module _ (c : Cut) (n : ℕ) (p : Part) (old : IsDocumentPart (cut_text c) c n p
     text = readable;
   }
 
-  pub lone_changed : IsReadable (cut_text (put_document n q c)) → (m : Node) → node_at steps (root_of p) ≡ Some m → MayReplace v m (root_of p) (length steps) → IsChanged c (put_document n q c) n (lead_of p) (change steps (replaced v))
+  pub lone_changed : IsReadable (cut_text (put_document n q c)) → (m : Node) → node_at steps (root_of p) ≡ Some m → MayReplace v m (root_of p) (length steps) → IsChanged c (put_document n q c) n (lead_of p) (changed_at steps (replaced_node v))
   lone_changed readable = go steps leads
     where
-      go : (ss : List Step) → LeadsToLone p ss front r → (m : Node) → node_at ss (root_of p) ≡ Some m → MayReplace v m (root_of p) (length ss) → IsChanged c (put_document n q c) n (lead_of p) (change ss (replaced v))
+      go : (ss : List Step) → LeadsToLone p ss front r → (m : Node) → node_at ss (root_of p) ≡ Some m → MayReplace v m (root_of p) (length ss) → IsChanged c (put_document n q c) n (lead_of p) (changed_at ss (replaced_node v))
       go [] h m at may = root_content_replaced (cut_text c) c n p front back r v new (takes readable) h.count h.mark (subst (λ x. MayReplace v x (root_of p) 0) (sym (same_Some _ _ at)) may)
       go (s ∷ ss) h m at may =
           let f : FoundLine = h.found in
-          let own : node_at (s ∷ ss) (root_of p) ≡ Some (content f.line f.under) = path_node s ss (outline_of p) ∙ ap FoundNode h.is in
+          let own : node_at (s ∷ ss) (root_of p) ≡ Some (content_under f.line f.under) = path_node s ss (part_outline p) ∙ ap FoundNode h.is in
           lower_content_replaced (cut_text c) c n p front back r v new s ss f (takes readable) h.is h.open' h.count h.mark h.number (subst (λ x. MayReplace v x (root_of p) (length (s ∷ ss))) (same_Some _ _ (sym at ∙ own)) may)
 
   pub same_lead : lead_of q ≡ lead_of p
@@ -156,7 +156,7 @@ module _ (c : Cut) (n : ℕ) (p : Part) (old : IsDocumentPart (cut_text c) c n p
   some_rows = ap no_rows there ∙ front_some front (with_content new r) back
 
   abbrev above : List Line
-  above = lines_of front ++ dash_lines (head_comment r.gap) r.column r.dashes
+  above = lines_of_rows front ++ dash_lines (head_comment r.gap) r.column r.dashes
 
   abbrev line : Content → Line
   line x = mark_line (above_mark (head_comment r.gap) r.dashes) (mark_column r) r.mark x
@@ -166,10 +166,10 @@ module _ (c : Cut) (n : ℕ) (p : Part) (old : IsDocumentPart (cut_text c) c n p
 
   pub rooted : steps ≡ [] → is_block_root p ≡ false
   rooted e =
-      let all : lines_of p.rows ≡ above ++ (line r.content ∷ lines_of back) = ap lines_of rows_are ∙ last_lines front r back r.content in
-      ap begins_no_node all ∙ first above (line r.content) (lines_of back) (sym (ap length all) ∙ (subst (λ ss. LeadsToLone p ss front r) e leads).count) (ap (λ m. is_entry (mark_of m)) mark)
+      let all : lines_of_rows p.rows ≡ above ++ (line r.content ∷ lines_of_rows back) = ap lines_of_rows rows_are ∙ last_lines front r back r.content in
+      ap begins_no_node all ∙ first above (line r.content) (lines_of_rows back) (sym (ap length all) ∙ (subst (λ ss. LeadsToLone p ss front r) e leads).count) (ap (λ m. is_entry_line (line_mark m)) mark)
     where
-      first : (xs : List Line) (l : Line) (ls : List Line) → length (xs ++ (l ∷ ls)) ≡ 1 → is_entry l.mark ≡ false → begins_no_node (xs ++ (l ∷ ls)) ≡ false
+      first : (xs : List Line) (l : Line) (ls : List Line) → length (xs ++ (l ∷ ls)) ≡ 1 → is_entry_line l.mark ≡ false → begins_no_node (xs ++ (l ∷ ls)) ≡ false
       first [] l ls e m = m
       first (x ∷ []) l ls e m = absurd (cc)
       first (x ∷ (y ∷ xs)) l ls e m = absurd (cc)

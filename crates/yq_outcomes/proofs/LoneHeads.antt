@@ -3,7 +3,7 @@ use Rattle.std.proofs.Common.{◌≡◌, ◌⊎◌, ℕ, ℤ, ◌<◌, eqb, ◌|
 use Rattle.std.proofs.lemmas.Bool.{false≢true, not-true}
 use Rattle.yq_flow_scalars.specs.Text.{is_empty, is_return, is_white}
 use Rattle.yq_nodes.specs.Nodes as inline
-use Rattle.yq_nodes.specs.Nodes.{node_text, IsNode}
+use Rattle.yq_nodes.specs.Nodes.{node_text, IsFlowNode}
 use Rattle.yq_nodes.proofs.PieceLaws.{scalar_some}
 use Rattle.yq_cut.specs.Gap.{IsWhite}
 use Rattle.yq_cut.specs.Grammar.{IsContent, may_be_alone}
@@ -45,16 +45,16 @@ pub record IsLoneHead (x : Content) : Type 0 where
   pub block : is_block x ≡ false
   pub some : is_empty (content_cut x).3 ≡ false
   pub front : (before_head x ≡ []) ⊎ EndsLow (before_head x)
-  pub text : (b : List ℕ) (core : inline.Node) (z : List ℕ) → b ++ content_text (put_core core x) z ≡ (b ++ before_head x) ++ node_text core ((content_cut x).4 ++ z)
+  pub text : (b : List ℕ) (core : inline.FlowNode) (z : List ℕ) → b ++ content_text (put_core core x) z ≡ (b ++ before_head x) ++ node_text core ((content_cut x).4 ++ z)
 
 regroup : (b m g y : List ℕ) → b ++ (38 ∷ (m ++ (g ++ y))) ≡ (b ++ (38 ∷ (m ++ g))) ++ y
 regroup b m g y = simp append_assoc refl
 
-anchor_front : (n : ℤ) (m g : List ℕ) (node : inline.Node) (tail rest : List ℕ) → IsContent n (Inline [] (inline.anchored m g node) tail) rest → inline.is_bare node ≡ false → EndsLow (38 ∷ (m ++ g))
-unfolding IsNode
+anchor_front : (n : ℤ) (m g : List ℕ) (node : inline.FlowNode) (tail rest : List ℕ) → IsContent n (Inline [] (inline.anchored m g node) tail) rest → inline.is_empty_node node ≡ false → EndsLow (38 ∷ (m ++ g))
+unfolding IsFlowNode
 anchor_front n m g node tail rest h full =
     white_ends (38 ∷ m) g (space_white n (Inline [] (inline.anchored m g node) tail) rest h) (not-true (is_empty g) (ap (λ b. b || not (is_empty g)) (sym full) ∙ h.1.valid.2))
 
 pub lone_head : (n : ℤ) (x : Content) (rest : List ℕ) → IsContent n x rest → may_be_alone x ≡ true → IsLoneHead x
-unfolding IsNode node_text
+unfolding IsFlowNode node_text
 lone_head n x rest h1 h2 = search (rules, false≢true, append-nil, scalar_some, anchor_front, regroup)

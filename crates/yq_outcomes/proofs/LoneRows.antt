@@ -12,14 +12,14 @@ use Rattle.yq_lines.specs.Group.{level_or}
 use Rattle.yq_lines.specs.Outline as outline
 use Rattle.yq_lines.specs.Outline.{Line, Outline, end, row, flatten, IsEven, IsOpen, IsWhole}
 use Rattle.yq_lines.specs.Places.{find}
-use Rattle.yq_lines.specs.Positions.{is_bare}
+use Rattle.yq_lines.specs.Positions.{has_no_mark}
 use Rattle.yq_lines.proofs.Decides.{flatten-group}
 use Rattle.yq_cut.specs.Grammar.{AreRows, unlimited}
 use Rattle.yq_cut.specs.Rows as rows
 use Rattle.yq_cut.specs.Rows.{Row, rows_text, print_row, Part, Cut, cut_text}
 use Rattle.yq_cut.proofs.seams.SeamLaws.{rows_text-append}
-use Rattle.yq_lines.specs.Lines.{lines_from, lines_of, mark_line, mark_of, row_lines}
-use Rattle.yq_documents.specs.Reading.{outline_of, read_at}
+use Rattle.yq_lines.specs.Lines.{lines_from, lines_of_rows, mark_line, line_mark, row_lines}
+use Rattle.yq_documents.specs.Reading.{part_outline, read_at}
 use Rattle.yq_documents.specs.LinesInRows.{RowLine, row_line_of}
 use Rattle.yq_row_places.specs.PlacedRows.{PlacedPart, placed_document}
 use Rattle.yq_row_places.specs.Standings.{RowsOfEntry, before_entry, behind_entry, entry_rows_at, is_alone, lone, rows_of_entry}
@@ -51,18 +51,18 @@ use Rattle.yq_lines.proofs.Plug.{headless}
 
 -- such a row has neither dashes nor a mark
 alone_row : (r : Row) → is_alone r ≡ true → (r.mark ≡ rows.Bare) × (r.dashes ≡ [])
-alone_row r h = let p = and_parts (is_empty r.dashes) (is_bare (mark_of r.mark)) h in ((search (rules, false≢true, p.1)), is_empty_is r.dashes p.0)
+alone_row r h = let p = and_parts (is_empty r.dashes) (has_no_mark (line_mark r.mark)) h in ((search (rules, false≢true, p.1)), is_empty_is r.dashes p.0)
 
 -- it is one line
 alone_line : (r : Row) → is_alone r ≡ true → (l : Line) × (row_lines r ≡ l ∷ []) × (l.mark ≡ outline.Bare)
 alone_line r h = let p = alone_row r h in go r.dashes r.mark p.1 p.0
   where
-    go : (ns : List ℕ) (m : rows.Mark) → ns ≡ [] → m ≡ rows.Bare → (l : Line) × (lines_from (head_comment r.gap) r.column ns m r.content ≡ l ∷ []) × (l.mark ≡ outline.Bare)
-    go [] m e is = (mark_line (head_comment r.gap) r.column m r.content, refl, ap mark_of is)
+    go : (ns : List ℕ) (m : rows.RowMark) → ns ≡ [] → m ≡ rows.Bare → (l : Line) × (lines_from (head_comment r.gap) r.column ns m r.content ≡ l ∷ []) × (l.mark ≡ outline.Bare)
+    go [] m e is = (mark_line (head_comment r.gap) r.column m r.content, refl, ap line_mark is)
     go (n ∷ ns) m e is = absurd (let no : n ∷ ns ≡ [] = e in cc)
 
 -- a node on a line of its own is there, and is alone
-whole_bare : (m : outline.Mark) (h : Option Node) (a b : Outline) → m ≡ outline.Bare → IsOpen h a → IsWhole m h b → (a ≡ end) × (b ≡ end)
+whole_bare : (m : outline.LineMark) (h : Option Node) (a b : Outline) → m ≡ outline.Bare → IsOpen h a → IsWhole m h b → (a ≡ end) × (b ≡ end)
 whole_bare outline.Bare None a b e o w = absurd w
 whole_bare outline.Bare (Some x) end end e o w = (refl, refl)
 whole_bare outline.Bare (Some x) (row l u c) b e o w = absurd o
@@ -97,41 +97,41 @@ module _ (n : ℕ) (s : Step) (ss : List Step) (v : Node) (c : Cut) (read : read
   same : there.part ≡ d.part
   same = same_Some _ _ (sym there.old.there ∙ stands.there)
 
-  even : IsEven (level_or 0 (outline_of there.part)) (outline_of there.part)
+  even : IsEven (level_or 0 (part_outline there.part)) (part_outline there.part)
   even = (document_known (cut_text c) c n there.part there.old).even
 
-  lines : lines_of (r ∷ rs) ≡ flatten there.found.under
-  lines = ap lines_of (sym under) ∙ under_is there.part s ss e.front e.row e.under e.back (under_it n s ss c e there last) even
+  lines : lines_of_rows (r ∷ rs) ≡ flatten there.found.under
+  lines = ap lines_of_rows (sym under) ∙ under_is there.part s ss e.front e.row e.under e.back (under_it n s ss c e there last) even
 
   one : (l : Line) × (row_lines r ≡ l ∷ []) × (l.mark ≡ outline.Bare)
   one = alone_line r alone
 
-  first : one.0 ∷ lines_of rs ≡ flatten there.found.under
-  first = ap (λ (ls : List Line). ls ++ lines_of rs) (sym one.1) ∙ lines
+  first : one.0 ∷ lines_of_rows rs ≡ flatten there.found.under
+  first = ap (λ (ls : List Line). ls ++ lines_of_rows rs) (sym one.1) ∙ lines
 
   below : IsOpen there.found.line.head there.found.under × (m : ℕ) × IsEven m there.found.under
-  below = let old = (under_even (level_or 0 (outline_of there.part)) (outline_of there.part) s ss there.found even there.is).1 in (old.1, old.3.0, old.3.2)
+  below = let old = (under_even (level_or 0 (part_outline there.part)) (part_outline there.part) s ss there.found even there.is).1 in (old.1, old.3.0, old.3.2)
 
   no_head : there.found.line.head ≡ None
   no_head = go there.found.under first below.0
     where
-      go : (o : Outline) → one.0 ∷ lines_of rs ≡ flatten o → IsOpen there.found.line.head o → there.found.line.head ≡ None
-      go end e h = absurd (let no : one.0 ∷ lines_of rs ≡ [] = e in cc)
+      go : (o : Outline) → one.0 ∷ lines_of_rows rs ≡ flatten o → IsOpen there.found.line.head o → there.found.line.head ≡ None
+      go end e h = absurd (let no : one.0 ∷ lines_of_rows rs ≡ [] = e in cc)
       go (row l u a) e h = headless there.found.line.head l u a h
 
   leads : LeadsBelow d.part s ss front r
   leads = record {
     found = there.found;
-    is = subst (λ (p : Part). find s ss (outline_of p) ≡ Some (there.found, [])) same there.is;
+    is = subst (λ (p : Part). find s ss (part_outline p) ≡ Some (there.found, [])) same there.is;
     open' = no_head;
-    count = one_line below.1 there.found.under one.0 (lines_of rs) below.2 first one.2;
+    count = one_line below.1 there.found.under one.0 (lines_of_rows rs) below.2 first one.2;
     mark = (alone_row r alone).0;
     number = omega (
       arith,
       there.number,
       last,
       ap length (lines_append e.front (e.row ∷ [])),
-      length-append (lines_of e.front) (lines_of (e.row ∷ [])),
+      length-append (lines_of_rows e.front) (lines_of_rows (e.row ∷ [])),
       length-append (row_lines e.row) [],
       row_count e.row,
       ap length (alone_row r alone).1,
@@ -183,6 +183,6 @@ lone_root_edit n v c d r rs read placed are alone =
     root : IsRootRow d.part r
     root =
         let l = alone_line r alone in
-        let lines : lines_of d.part.rows ≡ l.0 ∷ lines_of rs = ap lines_of are ∙ ap (λ (ls : List Line). ls ++ lines_of rs) l.1 in
-        let flat : flatten (outline_of d.part) ≡ lines_of d.part.rows = flatten-group (lines_of d.part.rows) in
-        record { count = sym (ap length flat) ∙ one_line _ (outline_of d.part) l.0 (lines_of rs) (document_known (cut_text c) c n d.part old).even (sym lines ∙ sym flat) l.2; mark = (alone_row r alone).0 }
+        let lines : lines_of_rows d.part.rows ≡ l.0 ∷ lines_of_rows rs = ap lines_of_rows are ∙ ap (λ (ls : List Line). ls ++ lines_of_rows rs) l.1 in
+        let flat : flatten (part_outline d.part) ≡ lines_of_rows d.part.rows = flatten-group (lines_of_rows d.part.rows) in
+        record { count = sym (ap length flat) ∙ one_line _ (part_outline d.part) l.0 (lines_of_rows rs) (document_known (cut_text c) c n d.part old).even (sym lines ∙ sym flat) l.2; mark = (alone_row r alone).0 }

@@ -3,7 +3,7 @@ use Rattle.std.proofs.Common.{◌≡◌, ℕ, ℤ, true, false, cond, List, [], 
 use Rattle.std.proofs.lemmas.Bool.{false≢true, or_parts}
 use Rattle.yq_flow_scalars.specs.Text.{is_empty, separates}
 use Rattle.yq_nodes.specs.Nodes as inline
-use Rattle.yq_nodes.specs.Nodes.{begins_content, first_is, node_text, IsName, IsNode}
+use Rattle.yq_nodes.specs.Nodes.{begins_content, begins_with, node_text, IsName, IsFlowNode}
 use Rattle.yq_lines.specs.LineAnchors.{IsFree}
 use Rattle.yq_lines.specs.Outline.{Line}
 use Rattle.yq_cut.specs.Alone.{holds_nothing}
@@ -15,7 +15,7 @@ use Rattle.yq_cut.specs.View.{content_cut}
 use Rattle.yq_cut.proofs.NodeExchange.{space_apart}
 use Rattle.yq_cut.proofs.NothingLaws.{tail_apart, tail_lead, tail_no_node}
 use Rattle.yq_cut.proofs.seams.ScalarSeams.{name_seam}
-use Rattle.yq_lines.specs.Lines.{content_anchor, lines_from, lines_of, tail_of}
+use Rattle.yq_lines.specs.Lines.{content_anchor, lines_from, lines_of_rows, tail_of}
 use Rattle.yq_change.proofs.CoreLaws.{put_core}
 use Rattle.yq_block.proofs.LaidRows.{AreLaid}
 
@@ -32,7 +32,7 @@ Named space (Some m) text = IsWhite space × (more : List ℕ) × (text ≡ spac
 
 -- a content does with its own
 pub content_named : (n : ℤ) (x : Content) (old : List ℕ) → IsContent n x old → Named (content_cut x).0 (content_anchor x) (content_text x old)
-unfolding IsNode node_text
+unfolding IsFlowNode node_text
 content_named n x old h1 = search rules
 
 -- ---- the content
@@ -60,10 +60,10 @@ left_tail space (Some m) tail = refl
 
 -- it stands before a tail
 pub left_content : (n : ℤ) (space : List ℕ) (a : Option (List ℕ)) (text tail rest : List ℕ) → Named space a text → IsTail tail rest → IsContent n (left space a tail) rest
-unfolding IsNode node_text
+unfolding IsFlowNode node_text
 left_content n space None text tail rest h t = t
 left_content n space (Some m) text tail rest h t =
-    let none = or_parts (first_is 38 (tail ++ rest)) (begins_content false (tail ++ rest)) (tail_no_node tail rest t) in
+    let none = or_parts (begins_with 38 (tail ++ rest)) (begins_content false (tail ++ rest)) (tail_no_node tail rest t) in
     (h.0, record { valid = (name_seam m h.1 (tail ++ rest) (tail_apart tail rest t) h.3, tail_lead tail rest t, refl, refl, (none.1, none.0)); something = refl }, t)
 
 -- white space, a break or the end stands before it, where it does before the old one
@@ -78,7 +78,7 @@ pub left_text : (before : List ℕ) (x : Content) (tail rest : List ℕ) →
 unfolding node_text
 left_text before x tail rest = search (rules, append-nil, append_assoc)
 
-pub left_core_text : (before : List ℕ) (core : inline.Node) (x : Content) (tail rest : List ℕ) →
+pub left_core_text : (before : List ℕ) (core : inline.FlowNode) (x : Content) (tail rest : List ℕ) →
     before ++ content_text (put_core core (anchor_left x tail)) rest ≡ (before ++ cond (is_empty (content_cut x).1) [] ((content_cut x).0 ++ (content_cut x).1)) ++ (32 ∷ node_text core (tail ++ rest))
 unfolding node_text
 left_core_text before core x tail rest = search (rules, put_core, append-nil, append_assoc)
@@ -86,11 +86,11 @@ left_core_text before core x tail rest = search (rules, put_core, append-nil, ap
 -- ---- rows under it
 
 -- an anchor may stand before rows that begin with an entry or item
-entry_free : (a : List ℕ) (above : List (List ℕ)) (column : ℕ) (ns : List ℕ) (m : rows.Mark) (x : Content) (ls : List Line) → is_entry m ≡ true → IsFree (Some a) (lines_from above column ns m x ++ ls)
+entry_free : (a : List ℕ) (above : List (List ℕ)) (column : ℕ) (ns : List ℕ) (m : rows.RowMark) (x : Content) (ls : List Line) → is_entry m ≡ true → IsFree (Some a) (lines_from above column ns m x ++ ls)
 entry_free a above column [] rows.Bare x ls e = absurd (false≢true e)
 entry_free a above column [] rows.Dash x ls e = tt
 entry_free a above column [] (rows.Key key colon) x ls e = tt
 entry_free a above column (n ∷ ns) m x ls e = tt
 
-pub laid_free : (a : Option (List ℕ)) (column : ℕ) (rs : List Row) (rest : List ℕ) → AreLaid column rs rest → IsFree a (lines_of rs)
+pub laid_free : (a : Option (List ℕ)) (column : ℕ) (rs : List Row) (rest : List ℕ) → AreLaid column rs rest → IsFree a (lines_of_rows rs)
 laid_free a column rs rest h1 = search (rules, entry_free)

@@ -3,7 +3,7 @@ use Rattle.std.proofs.Common.{◌≡◌, ℕ, ℤ, true, false, cond, List, [], 
 use Rattle.std.proofs.lemmas.Bool.{false≢true}
 use Rattle.yq_flow_scalars.specs.Text.{is_empty}
 use Rattle.yq_nodes.specs.Nodes as inline
-use Rattle.yq_nodes.specs.Nodes.{node_text, IsNode}
+use Rattle.yq_nodes.specs.Nodes.{node_text, IsFlowNode}
 use Rattle.yq_nodes.proofs.PieceLaws.{scalar_some}
 use Rattle.yq_cut.specs.Grammar.{IsContent}
 use Rattle.yq_cut.specs.Rows.{Content, content_text}
@@ -17,15 +17,15 @@ no_raw x h1 = search (rules, false≢true)
 
 -- where nothing is written there is no white space before it
 pub none_written : (n : ℤ) (x : Content) (rest : List ℕ) → IsContent n x rest → is_empty (content_cut x).3 ≡ true → cond (is_empty (content_cut x).1) (content_cut x).0 (content_cut x).2 ≡ []
-unfolding IsNode node_text
+unfolding IsFlowNode node_text
 none_written n x rest h1 h2 = search (rules, false≢true, scalar_some, empty_gap)
 
 regroup : (b space m g u : List ℕ) → b ++ (space ++ (38 ∷ (m ++ (g ++ u)))) ≡ (b ++ (space ++ 38 ∷ m)) ++ (g ++ u)
 regroup b space m g u = simp append_assoc refl
 
 -- another node in the place of what is written, behind its anchor and the same white space
-pub core_text : (b : List ℕ) (core : inline.Node) (n : ℤ) (x : Content) (old z : List ℕ) → IsContent n x old → is_block x ≡ false → is_empty (content_cut x).3 ≡ false →
+pub core_text : (b : List ℕ) (core : inline.FlowNode) (n : ℤ) (x : Content) (old z : List ℕ) → IsContent n x old → is_block x ≡ false → is_empty (content_cut x).3 ≡ false →
     b ++ content_text (put_core core x) z
     ≡ (b ++ cond (is_empty (content_cut x).1) [] ((content_cut x).0 ++ (content_cut x).1)) ++ (cond (is_empty (content_cut x).1) (content_cut x).0 (content_cut x).2 ++ node_text core ((content_cut x).4 ++ z))
-unfolding IsNode node_text
+unfolding IsFlowNode node_text
 core_text b core n x old z h1 h2 h3 = search (rules, false≢true, append-nil, regroup)

@@ -22,10 +22,10 @@ some_last [] b = refl
 some_last (x ∷ w) b = refl
 
 -- the column of a value below a key or dash
-pub column_is : (m : rows.Mark) (x : Content) (rest : List ℕ) (l : Layout) (v : Node) (n : ℕ) → is_entry m ≡ true → IsMark m x rest →
+pub column_is : (m : rows.RowMark) (x : Content) (rest : List ℕ) (l : Layout) (v : Node) (n : ℕ) → is_entry m ≡ true → IsMark m x rest →
     cond (not (is_empty (colon_of m))) (n + indent_step l v) (item_column n) ≡ column_below l n (mark_key m) v
 column_is m x rest l v n h1 h2 = search (rules, false≢true, some_last)
 
 -- what is no key is a dash
-pub dash_is : (m : rows.Mark) (x : Content) (rest : List ℕ) → is_entry m ≡ true → IsMark m x rest → not (is_empty (colon_of m)) ≡ false → m ≡ rows.Dash
+pub dash_is : (m : rows.RowMark) (x : Content) (rest : List ℕ) → is_entry m ≡ true → IsMark m x rest → not (is_empty (colon_of m)) ≡ false → m ≡ rows.Dash
 dash_is m x rest h1 h2 h3 = search (rules, false≢true, some_last)

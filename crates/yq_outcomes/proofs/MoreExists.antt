@@ -11,21 +11,21 @@ use Rattle.yq_flow_scalars.specs.Paths.{Step, node_at}
 use Rattle.yq_flow_scalars.specs.Text.{is_empty}
 use Rattle.yq_flow_scalars.specs.Tree as tree
 use Rattle.yq_nodes.specs.Collections.{CollPieces}
-use Rattle.yq_nodes.specs.Nodes.{IsNode, Node, empty, alias, scalar, coll, anchored, node_text, takes_anchor}
+use Rattle.yq_nodes.specs.Nodes.{IsFlowNode, FlowNode, empty, alias, scalar, coll, anchored, node_text, takes_anchor}
 use Rattle.yq_nodes.specs.Trees.{node_head}
 use Rattle.yq_lines.specs.Comments.{head_comment}
 use Rattle.yq_lines.specs.Outline as outlines
 use Rattle.yq_lines.specs.Outline.{Line, Outline, flatten}
 use Rattle.yq_lines.specs.Places.{FoundLine, find}
-use Rattle.yq_lines.specs.Positions.{is_bare}
+use Rattle.yq_lines.specs.Positions.{has_no_mark}
 use Rattle.yq_lines.proofs.Decides.{flatten-group}
 use Rattle.yq_cut.specs.Exchange.{asked_behind}
 use Rattle.yq_cut.specs.Grammar.{IsContent, IsRow, Limit, unlimited}
 use Rattle.yq_cut.specs.Rows.{Content, Nothing, Inline, Block, Cut, Part, Row, cut_text, parent_indent, rows_text}
 use Rattle.yq_cut.specs.View.{anchor_cut, content_cut, slices}
 use Rattle.yq_documents.specs.Documents.{document_parts}
-use Rattle.yq_lines.specs.Lines.{head_of, lines_from, lines_of, mark_of}
-use Rattle.yq_documents.specs.Reading.{outline_of, read_at, root_of}
+use Rattle.yq_lines.specs.Lines.{head_of, lines_from, lines_of_rows, line_mark}
+use Rattle.yq_documents.specs.Reading.{part_outline, read_at, root_of}
 use Rattle.yq_row_places.specs.FlowNodes.{find_head, flow_collection}
 use Rattle.yq_row_places.specs.PlacedRows.{PlacedPart}
 use Rattle.yq_row_places.specs.Standings.{RowsOfEntry, Standing, behind_entry, behind_mark, below, beside, entry_standing, held, is_alone, root_standing, standing_at}
@@ -59,21 +59,21 @@ first_is : (o : Outline) (l : Line) (ls : List Line) → HasEntries o → l ∷ 
 first_is outlines.end l ls h e = absurd h
 first_is (outlines.row k u v) l ls h e = subst (λ (z : Line). IsEntry z.mark) (sym (head-eq_of_cons-eq e)) h
 
-no_bare : (m : outlines.Mark) → IsEntry m → is_bare m ≡ false
+no_bare : (m : outlines.LineMark) → IsEntry m → has_no_mark m ≡ false
 no_bare outlines.Bare h = absurd h
 no_bare (outlines.Key k) h = refl
 no_bare outlines.Dash h = refl
 
 -- their first row isn't a node alone on its line
-not_alone : (r : Row) (rs : List Row) (o : Outline) → HasEntries o → lines_of (r ∷ rs) ≡ flatten o → is_alone r ≡ false
+not_alone : (r : Row) (rs : List Row) (o : Outline) → HasEntries o → lines_of_rows (r ∷ rs) ≡ flatten o → is_alone r ≡ false
 not_alone r rs o block lines = go r.dashes refl
   where
     go : (ds : List ℕ) → r.dashes ≡ ds → is_alone r ≡ false
     go [] none =
         let first = ap (λ (ds : List ℕ). lines_from (head_comment r.gap) r.column ds r.mark r.content) none in
-        let own : is_bare (mark_of r.mark) ≡ false = no_bare (mark_of r.mark) (first_is o _ (lines_of rs) block (sym (ap (λ (ls : List Line). ls ++ lines_of rs) first) ∙ lines)) in
+        let own : has_no_mark (line_mark r.mark) ≡ false = no_bare (line_mark r.mark) (first_is o _ (lines_of_rows rs) block (sym (ap (λ (ls : List Line). ls ++ lines_of_rows rs) first) ∙ lines)) in
         (λ i. is_empty (none i) && own i)
-    go (d ∷ ds) some = ap (λ (xs : List ℕ). is_empty xs && is_bare (mark_of r.mark)) some
+    go (d ∷ ds) some = ap (λ (xs : List ℕ). is_empty xs && has_no_mark (line_mark r.mark)) some
 
 -- ---- at the end of a block collection
 
@@ -82,15 +82,15 @@ abbrev IsPut : Layout → Option (List ℕ) → tree.Node → Standing → Type 
 IsPut l key v s = (ss : List Segment) × (block_more l key v s ≡ Some ss)
 
 -- nothing but an anchor is written of a node without a head
-head_bare : (flow : Bool) (spaces : Option ℕ) (d : ℕ) (node : Node) (rest : List ℕ) → IsNode flow spaces d node rest → node_head node ≡ None → (anchor_cut node).2 ≡ []
-unfolding IsNode node_text
+head_bare : (flow : Bool) (spaces : Option ℕ) (d : ℕ) (node : FlowNode) (rest : List ℕ) → IsFlowNode flow spaces d node rest → node_head node ≡ None → (anchor_cut node).2 ≡ []
+unfolding IsFlowNode node_text
 head_bare flow spaces d empty rest h e = refl
 head_bare flow spaces d (alias n) rest h e = absurd (none-some _ (sym e))
 head_bare flow spaces d (scalar p) rest h e = absurd (none-some _ (sym e))
 head_bare flow spaces d (coll k g is) rest h e = absurd (none-some _ (sym e))
 head_bare flow spaces d (anchored n g node) rest h e = bare node h.3 e
   where
-    bare : (m : Node) → takes_anchor m ≡ true → node_head m ≡ None → node_text m [] ≡ []
+    bare : (m : FlowNode) → takes_anchor m ≡ true → node_head m ≡ None → node_text m [] ≡ []
     bare empty t e = refl
     bare (alias n) t e = absurd (none-some _ (sym e))
     bare (scalar p) t e = absurd (none-some _ (sym e))
@@ -98,16 +98,16 @@ head_bare flow spaces d (anchored n g node) rest h e = bare node h.3 e
     bare (anchored n g node) t e = absurd (false≢true t)
 
 module _ (l : Layout) (key : Option (List ℕ)) (v : tree.Node) where
-  below_put : (e : RowsOfEntry) (us : List Row) (o : Outline) → HasEntries o → lines_of us ≡ flatten o → IsPut l key v (below e us)
+  below_put : (e : RowsOfEntry) (us : List Row) (o : Outline) → HasEntries o → lines_of_rows us ≡ flatten o → IsPut l key v (below e us)
   below_put e [] o block lines = absurd (none_there o block lines)
   below_put e (r ∷ rs) o block lines = (_, ap (block_more l key v) (cond-false _ _ _ (not_alone r rs o block lines)))
 
-  root_put : (d : PlacedPart) (rs : List Row) (o : Outline) → HasEntries o → lines_of rs ≡ flatten o → IsPut l key v (root_standing d rs)
+  root_put : (d : PlacedPart) (rs : List Row) (o : Outline) → HasEntries o → lines_of_rows rs ≡ flatten o → IsPut l key v (root_standing d rs)
   root_put d [] o block lines = absurd (none_there o block lines)
   root_put d (r ∷ rs) o block lines = (_, ap (block_more l key v) (cond-false _ _ _ (not_alone r rs o block lines)))
 
   -- behind a mark, where no head is written
-  mark_put : (e : RowsOfEntry) (limit : Limit) (rest : List ℕ) (o : Outline) → IsRow limit e.row rest → head_of e.row.content ≡ None → HasEntries o → lines_of e.under ≡ flatten o → IsPut l key v (behind_mark e e.row.content)
+  mark_put : (e : RowsOfEntry) (limit : Limit) (rest : List ℕ) (o : Outline) → IsRow limit e.row rest → head_of e.row.content ≡ None → HasEntries o → lines_of_rows e.under ≡ flatten o → IsPut l key v (behind_mark e e.row.content)
   mark_put e limit rest o is head block lines = go e.row.content refl
     where
       go : (y : Content) → e.row.content ≡ y → IsPut l key v (behind_mark e y)
@@ -133,20 +133,20 @@ module _ (l : Layout) (key : Option (List ℕ)) (v : tree.Node) where
           (w.0, ap (block_more l key v) (cond-true _ _ _ is) ∙ w.1)
 
   -- the block collection at a path
-  block_put : (n : ℕ) (steps : List Step) (c : Cut) (p : Part) (h : NodeLines) → read_at (cut_text c) ≡ Some c → slice_get (document_parts c) n ≡ Some p → IsCollectionAt steps (outline_of p) h →
+  block_put : (n : ℕ) (steps : List Step) (c : Cut) (p : Part) (h : NodeLines) → read_at (cut_text c) ≡ Some c → slice_get (document_parts c) n ≡ Some p → IsCollectionAt steps (part_outline p) h →
       (ss : List Segment) × ((standing_at n steps c >>= block_more l key v) ≡ Some ss)
   block_put n [] c p h read there at =
       let d = placed_there c n p there in
-      let own : outline_of p ≡ h.lines = ap (λ (z : NodeLines). z.lines) (same_Some _ _ at.place_is) in
-      let lines : lines_of d.0.part.rows ≡ flatten h.lines = ap (λ (q : Part). lines_of q.rows) d.2 ∙ (sym (flatten-group (lines_of p.rows)) ∙ ap flatten own) in
+      let own : part_outline p ≡ h.lines = ap (λ (z : NodeLines). z.lines) (same_Some _ _ at.place_is) in
+      let lines : lines_of_rows d.0.part.rows ≡ flatten h.lines = ap (λ (q : Part). lines_of_rows q.rows) d.2 ∙ (sym (flatten-group (lines_of_rows p.rows)) ∙ ap flatten own) in
       let w = root_put d.0 d.0.part.rows h.lines at.block lines in
       (w.0, ap (λ (o : Option PlacedPart). option_map (λ (d : PlacedPart). root_standing d d.part.rows) o >>= block_more l key v) d.1 ∙ w.1)
   block_put n (s ∷ ss) c p h read there at =
-      let u = lines_found s ss (outline_of p) h at.place_is in
+      let u = lines_found s ss (part_outline p) h at.place_is in
       let e = rows_there n s ss c p there u.found u.is in
       let t = rows_stand n s ss c e.0 read e.1 in
       let part : t.part ≡ p = same_Some _ _ (sym t.old.there ∙ there) in
-      let found : t.found ≡ u.found = ap (λ (z : FoundLine × List Step). z.0) (same_Some _ _ (sym t.is ∙ (ap (λ (q : Part). find s ss (outline_of q)) part ∙ u.is))) in
+      let found : t.found ≡ u.found = ap (λ (z : FoundLine × List Step). z.0) (same_Some _ _ (sym t.is ∙ (ap (λ (q : Part). find s ss (part_outline q)) part ∙ u.is))) in
       let block : HasEntries t.found.under = subst (λ (f : FoundLine). HasEntries f.under) (sym found) (subst HasEntries (sym (ap (λ (z : NodeLines). z.lines) u.place_is)) at.block) in
       let w = entry_put n s ss c e.0 t (ap (λ (f : FoundLine). f.line.head) found ∙ u.open') block in
       (w.0, ap (λ (o : Option RowsOfEntry). option_map entry_standing o >>= block_more l key v) e.1 ∙ w.1)
@@ -172,10 +172,10 @@ takers_have_edit n steps key v c read fits =
     let p = part_of c n fits.0 fits.1 in
     let at : node_at steps (root_of p.part) ≡ Some fits.2.2.0 = ap (node_at steps) (sym p.root) ∙ fits.2.2.1 in
     let x = taken key fits.2.2.0 fits.2.2.2 in
-    go p.part p.there at x.0 x.1 x.2 (collection_cases steps (outline_of p.part) x.0 (fits.2.2.0, at, x.1))
+    go p.part p.there at x.0 x.1 x.2 (collection_cases steps (part_outline p.part) x.0 (fits.2.2.0, at, x.1))
   where
     go : (p : Part) → slice_get (document_parts c) n ≡ Some p → node_at steps (root_of p) ≡ Some fits.2.2.0 → (x : Holds) → held_in fits.2.2.0 ≡ Some x → x.0 ≡ is_some key →
-        ((y : FoundLine × List Step) × (find_head steps (outline_of p) ≡ Some y)) ⊎ ((h : NodeLines) × IsCollectionAt steps (outline_of p) h) → (ss : List Segment) × (appended n steps key v c ≡ Some ss)
+        ((y : FoundLine × List Step) × (find_head steps (part_outline p) ≡ Some y)) ⊎ ((h : NodeLines) × IsCollectionAt steps (part_outline p) h) → (ss : List Segment) × (appended n steps key v c ≡ Some ss)
     go p there at x holds takes (inl y) =
         let w = flow_there c n steps x (record { read = read; part = p; there = there; line = y.0.0; rest = y.0.1; found = y.1; at = (fits.2.2.0, at, holds) }) in
         let own : takes_key w.0.close key ≡ true = bracket_takes key w.0 (ap (λ (z : Holds). z.0) w.2 ∙ takes) in

@@ -14,7 +14,7 @@ use Rattle.yq_documents.specs.Reading.{read_at}
 use Rattle.yq_meaning.specs.Operations.{append}
 use Rattle.yq_script.specs.Script.{Segment}
 use Rattle.yq_row_places.specs.CollectionEnds.{CollectionEnd, is_broken}
-use Rattle.yq_row_places.specs.CommentPlaces.{line_text}
+use Rattle.yq_row_places.specs.CommentPlaces.{text_to_line_end}
 use Rattle.yq_row_places.specs.RowPieces.{past_dash, upto_dash}
 use Rattle.yq_row_places.specs.PlacedRows.{PlacedPart, placed_document}
 use Rattle.yq_row_places.specs.PrintedLines.{last_break}
@@ -67,9 +67,9 @@ module _ (n : ℕ) (s : Step) (ss : List Step) (key : Option (List ℕ)) (v : No
       some_behind r.gap (replicate r.column 32 ++ behind_indent r (rows_text rs [])) (some_behind (replicate r.column 32) (behind_indent r (rows_text rs [])) (entry_some _ r _ (rows_text rs []) first single)) in
       let some : is_empty below_text ≡ false = ap (λ us. is_empty ((slices e.row).raw ++ rows_text us [])) is ∙ some_behind (slices e.row).raw (print_row r (rows_text rs [])) own in
       let last_is : (held e).last ≡ last_break below_text = cond-false _ _ _ some in
-      let text : rows_text (e.front ++ (e.row ∷ e.under)) [] ≡ (rows_text e.front [] ++ (line_text e.row ++ (slices e.row).tail)) ++ below_text =
+      let text : rows_text (e.front ++ (e.row ∷ e.under)) [] ≡ (rows_text e.front [] ++ (text_to_line_end e.row ++ (slices e.row).tail)) ++ below_text =
       rows_front e.front (e.row ∷ e.under) []
-      ∙ (ap (λ t. rows_text e.front [] ++ t) (row_text_parts e.row (rows_text e.under []) ∙ sym (append_assoc (line_text e.row) (slices e.row).tail below_text)) ∙ sym (append_assoc (rows_text e.front []) (line_text e.row ++ (slices e.row).tail) below_text)) in
+      ∙ (ap (λ t. rows_text e.front [] ++ t) (row_text_parts e.row (rows_text e.under []) ∙ sym (append_assoc (text_to_line_end e.row) (slices e.row).tail below_text)) ∙ sym (append_assoc (rows_text e.front []) (text_to_line_end e.row ++ (slices e.row).tail) below_text)) in
       let broken : not (is_empty (held e).last) ≡ is_broken rows.last.content = ap (λ t. not (is_empty t)) last_is ∙ broken_by _ below_text text some in
       let end = ends_there n s ss c e there r.column (not (is_empty (held e).last)) (headless_mark n s ss c e there last none) (begins_under n s ss c e there r rs last is single) broken in
       let bare : RowsOfEntry = record { start = e.start; front = e.front; row = e.row; line = e.line; under = e.under; back = []; end = []; behind = [] } in

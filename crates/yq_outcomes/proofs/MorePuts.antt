@@ -45,7 +45,7 @@ put_both n steps key v c x read at g = go x.broken refl
 asked : (n : ℕ) (steps : List Step) (key : Option (List ℕ)) (v : Node) (c : Cut) (x : CollectionEnd) (read : read_at (cut_text c) ≡ Some c) (at : IsAppendPlace n steps c x) → HasOperand (append n steps key v) → Fits (room_of (cut_text c)) (append n steps key v) (documents c) →
     IsAsked steps key v (p n steps c x read at)
 asked n steps key v c x read at operand fits =
-    let d : reading.document_of at.part ≡ fits.0 = same_Some _ _ (sym (nth_map n at.part reading.document_of (document_parts c) at.there) ∙ fits.1) in
+    let d : reading.part_document at.part ≡ fits.0 = same_Some _ _ (sym (nth_map n at.part reading.part_document (document_parts c) at.there) ∙ fits.1) in
     record {
       key_utf8 = operand.0;
       value_tree = operand.1;

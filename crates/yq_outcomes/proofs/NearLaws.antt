@@ -36,14 +36,14 @@ use Rattle.yq_meaning.specs.Rooms.{room_of}
 use Rattle.yq_script.specs.Script.{Segment, from_first, keep, new_text, put}
 use Rattle.yq_block.specs.declared.layout.Layout.{Layout}
 use Rattle.yq_edits.specs.CommentEdits.{above_rows, comment_put, comment_written, head_comment_put, head_comment_segments, line_comment_put}
-use Rattle.yq_edits.specs.Edits.{emptied, part_removed, replaced, rows_or_sole, sole_removed}
+use Rattle.yq_edits.specs.Edits.{empty_collection, part_removed, replace_segments, rows_or_sole, sole_removed}
 use Rattle.yq_edits.specs.EntryEdits.{block_more, one_removed}
 use Rattle.yq_edits.specs.FlowParts.{flow_more, flow_put, flow_removed, flow_segments, takes_key}
 use Rattle.yq_edits.specs.Layouts.{layout_of}
 use Rattle.yq_edits.specs.Removing.{rows_removed}
 use Rattle.yq_edits.specs.RemovingFirst.{first_removed}
 use Rattle.yq_edits.specs.ReplaceEdits.{block_put, compact_put, has_text, held_put, literal_put, block_scalar_put, string_put, value_put}
-use Rattle.yq_edits.specs.Replacing.{is_kept}
+use Rattle.yq_edits.specs.Replacing.{keeps_scalar}
 use Rattle.yq_outcomes.specs.TouchedRanges.{AreInLines, EditsAreNear, IsLocalEdit}
 use Rattle.yq_edits.specs.WrittenValues.{Written, compact_text, inline, lines, written_at, written_under}
 use Rattle.yq_outcomes.proofs.HeldRanges.{IsInLine, held_in_line, nothing_line}
@@ -196,8 +196,8 @@ head_near br text e ss = go (eqb e.line 0)
 
 -- ---- the table
 
-replaced_near : (n : ℕ) (steps : List Step) (v : Node) (c : Cut) (ss : List Segment) → read_at (cut_text c) ≡ Some c → replaced n steps v c ≡ Some ss → InLines ss
-replaced_near n steps v c ss read is = go (is_kept (node_in n steps c) v) is
+replaced_near : (n : ℕ) (steps : List Step) (v : Node) (c : Cut) (ss : List Segment) → read_at (cut_text c) ≡ Some c → replace_segments n steps v c ≡ Some ss → InLines ss
+replaced_near n steps v c ss read is = go (keeps_scalar (node_in n steps c) v) is
   where
     there : (option_map (value_put (has_text (node_in n steps c)) (layout_of n c) v) (standing_at n steps c) ≡ Some ss) ⊎ (option_map (flow_put (cut_text c) v) (flow_standing n c (last_step steps)) ≡ Some ss) → InLines ss
     there (inl e) = let t = map_some (standing_at n steps c) e in subst InLines t.2 (value_near (has_text (node_in n steps c)) (layout_of n c) v t.0 (stands_in_line n steps c t.0 read t.1))
@@ -227,7 +227,7 @@ module _ (n : ℕ) (steps : List Step) (c : Cut) (ss : List Segment) (read : rea
   sole_near : (o : Option (List Step × Step)) → sole_removed n c o ≡ Some ss → IsLocalEdit ss
   sole_near None e = absurd (none-some _ e)
   sole_near (Some x) e =
-      let v = bind_some {f = λ (u : Node). replaced n x.0 u c} (node_in n x.0 c >>= emptied) e in
+      let v = bind_some {f = λ (u : Node). replace_segments n x.0 u c} (node_in n x.0 c >>= empty_collection) e in
       inl (replaced_near n x.0 v.0 c ss read v.2)
 
   rows_near_or_sole : (b : Bool) → has_others_at n steps c ≡ b → cond b (one_removed n steps c) (sole_removed n c (last_step steps)) ≡ Some ss → IsLocalEdit ss

@@ -2,7 +2,7 @@
 use Rattle.std.proofs.Common.{inl, ◌≡◌, ℕ, ◌≤◌, true, false, List, [], ◌∷◌, ◌++◌, length, Some, sym, ap, ◌∙◌, subst}
 use Rattle.yq_flow_scalars.specs.Paths.{Step}
 use Rattle.yq_flow_scalars.specs.Tree.{Node}
-use Rattle.yq_lines.specs.Places.{content}
+use Rattle.yq_lines.specs.Places.{content_under}
 use Rattle.yq_cut.specs.Rows.{Row, print_row, rows_text, Cut, cut_text}
 use Rattle.yq_cut.proofs.splices.SpliceTexts.{own_end}
 use Rattle.yq_documents.specs.Reading.{read_at, root_of}
@@ -35,7 +35,7 @@ pub record KeepsNode (doc : ℕ) (s : Step) (ss : List Step) (c : Cut) (h : Node
   pub old_is : old_text us ≡ cut_text c
 
 module _ (doc : ℕ) (s : Step) (ss : List Step) (c : Cut) (h : NodeRows doc s ss c) (v : Node) (new : List Row) (t : TakesNode doc s ss c h v new) where
-  pub node_carried : (us : List Segment) (n : KeepsNode doc s ss c h us) → MayReplace v (content h.found.line h.found.under) (root_of h.p) (length (s ∷ ss)) → IsReadable (new_text us) →
+  pub node_carried : (us : List Segment) (n : KeepsNode doc s ss c h us) → MayReplace v (content_under h.found.line h.found.under) (root_of h.p) (length (s ∷ ss)) → IsReadable (new_text us) →
       cut_text (put_document doc (inserted h.front new h.back h.p) c) ≡ new_text us → InFirst n.lead (rows_items new []) → CarriedOut (replace doc (s ∷ ss) v) c us
   node_carried us n may readable text begins =
       let there : IsReadable (cut_text (put_document doc (inserted h.front new h.back h.p) c)) = subst IsReadable (sym text) readable in
@@ -66,6 +66,6 @@ module _ (doc : ℕ) (s : Step) (ss : List Step) (c : Cut) (h : NodeRows doc s s
       }
 
   -- the cut of the text that they make
-  pub node_made : (us : List Segment) → MayReplace v (content h.found.line h.found.under) (root_of h.p) (length (s ∷ ss)) → IsReadable (new_text us) → cut_text (put_document doc (inserted h.front new h.back h.p) c) ≡ new_text us →
+  pub node_made : (us : List Segment) → MayReplace v (content_under h.found.line h.found.under) (root_of h.p) (length (s ∷ ss)) → IsReadable (new_text us) → cut_text (put_document doc (inserted h.front new h.back h.p) c) ≡ new_text us →
       read_at (new_text us) ≡ Some (put_document doc (inserted h.front new h.back h.p) c)
   node_made us may readable text = ap read_at (sym text) ∙ (node_changed doc s ss c h v new t may (subst IsReadable (sym text) readable)).read

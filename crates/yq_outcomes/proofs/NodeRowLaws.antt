@@ -14,8 +14,8 @@ use Rattle.yq_cut.specs.Exchange.{allows_first, asked_behind}
 use Rattle.yq_cut.specs.Grammar.{Limit, unlimited, limit_after, AreRows, is_entry}
 use Rattle.yq_cut.specs.Rows.{Row, mark_column, rows_text, Part, part_text, Cut, cut_text}
 use Rattle.yq_documents.specs.Documents.{document_parts}
-use Rattle.yq_lines.specs.Lines.{mark_of, lines_of}
-use Rattle.yq_documents.specs.Reading.{outline_of, read_at}
+use Rattle.yq_lines.specs.Lines.{line_mark, lines_of_rows}
+use Rattle.yq_documents.specs.Reading.{part_outline, read_at}
 use Rattle.yq_documents.proofs.PartRows.{each}
 use Rattle.yq_row_places.proofs.ReadLaws.{text_takes}
 use Rattle.yq_row_places.proofs.RowPathLaws.{StartsAt, document_fine, found_starts}
@@ -37,7 +37,7 @@ pub record NodeRows (doc : ℕ) (s : Step) (ss : List Step) (c : Cut) : Type 0 w
   pub p : Part
   pub old : IsDocumentPart (cut_text c) c doc p
   pub found : FoundLine
-  pub is : find s ss (outline_of p) ≡ Some (found, [])
+  pub is : find s ss (part_outline p) ≡ Some (found, [])
   pub front : List Row
   pub row : Row
   pub under : List Row
@@ -45,8 +45,8 @@ pub record NodeRows (doc : ℕ) (s : Step) (ss : List Step) (c : Cut) : Type 0 w
   pub rows_are : p.rows ≡ front ++ (row ∷ (under ++ back))
   pub mark : Row
   pub upto : IsUpto mark row
-  pub number : length (lines_of front) + length mark.dashes ≡ length (lines_before found.place)
-  pub count : length (lines_of (row ∷ under)) ≡ length mark.dashes + suc (length (flatten found.under))
+  pub number : length (lines_of_rows front) + length mark.dashes ≡ length (lines_before found.place)
+  pub count : length (lines_of_rows (row ∷ under)) ≡ length mark.dashes + suc (length (flatten found.under))
   pub start : List ℕ
   pub put : (q : Part) → cut_text (put_document doc q c) ≡ start ++ part_text q (behind_document doc c)
 
@@ -57,35 +57,35 @@ module _ (doc : ℕ) (s : Step) (ss : List Step) (c : Cut) (h : NodeRows doc s s
   abbrev pub limit : Limit
   limit = asked_behind unlimited h.front
 
-  pub known_lines : lines_of (h.row ∷ h.under) ≡ dashes_of h.mark ++ (line_with h.mark h.mark.content ∷ (lines_upto h.upto h.under).0)
+  pub known_lines : lines_of_rows (h.row ∷ h.under) ≡ dashes_of h.mark ++ (line_with h.mark h.mark.content ∷ (lines_upto h.upto h.under).0)
   known_lines = (lines_upto h.upto h.under).1
 
-  pub before_are : length (lines_of h.front) + length (dashes_of h.mark) ≡ length (lines_before h.found.place)
-  before_are = ap (λ (n : ℕ). length (lines_of h.front) + n) (dashes_count (head_comment h.mark.gap) h.mark.column h.mark.dashes) ∙ h.number
+  pub before_are : length (lines_of_rows h.front) + length (dashes_of h.mark) ≡ length (lines_before h.found.place)
+  before_are = ap (λ (n : ℕ). length (lines_of_rows h.front) + n) (dashes_count (head_comment h.mark.gap) h.mark.column h.mark.dashes) ∙ h.number
 
   pub size_is : suc (length (lines_upto h.upto h.under).0) ≡ suc (length (flatten h.found.under))
   size_is = search (rules, known_lines, length-append, dashes_of, line_with, lines_upto, dashes_count)
 
-  pub old_lines : lines_of h.p.rows ≡ (lines_of h.front ++ dashes_of h.mark) ++ ((line_with h.mark h.mark.content ∷ (lines_upto h.upto h.under).0) ++ lines_of h.back)
+  pub old_lines : lines_of_rows h.p.rows ≡ (lines_of_rows h.front ++ dashes_of h.mark) ++ ((line_with h.mark h.mark.content ∷ (lines_upto h.upto h.under).0) ++ lines_of_rows h.back)
   old_lines =
-      ap lines_of h.rows_are
+      ap lines_of_rows h.rows_are
       ∙ (rows_in_parts h.front (h.row ∷ h.under) h.back
-      ∙ (ap (λ (ls : List Line). lines_of h.front ++ (ls ++ lines_of h.back)) known_lines ∙ sym (around (lines_of h.front) (dashes_of h.mark) (line_with h.mark h.mark.content ∷ (lines_upto h.upto h.under).0) (lines_of h.back))))
+      ∙ (ap (λ (ls : List Line). lines_of_rows h.front ++ (ls ++ lines_of_rows h.back)) known_lines ∙ sym (around (lines_of_rows h.front) (dashes_of h.mark) (line_with h.mark h.mark.content ∷ (lines_upto h.upto h.under).0) (lines_of_rows h.back))))
 
-  pub parts : (lines_of h.front ++ dashes_of h.mark ≡ lines_before h.found.place) × (line_with h.mark h.mark.content ∷ (lines_upto h.upto h.under).0 ≡ h.found.line ∷ flatten h.found.under) ×
-      (lines_of h.back ≡ flatten h.found.after ++ lines_after h.found.place)
+  pub parts : (lines_of_rows h.front ++ dashes_of h.mark ≡ lines_before h.found.place) × (line_with h.mark h.mark.content ∷ (lines_upto h.upto h.under).0 ≡ h.found.line ∷ flatten h.found.under) ×
+      (lines_of_rows h.back ≡ flatten h.found.after ++ lines_after h.found.place)
   parts =
-      same_parts (lines_of h.front ++ dashes_of h.mark) (line_with h.mark h.mark.content ∷ (lines_upto h.upto h.under).0) (lines_of h.back) (lines_before h.found.place) (h.found.line ∷ flatten h.found.under)
-      (flatten h.found.after ++ lines_after h.found.place) (sym old_lines ∙ (sym (flatten-group (lines_of h.p.rows)) ∙ whole_line (outline_of h.p) s ss [] h.found h.is))
-      (length-append (lines_of h.front) (dashes_of h.mark) ∙ before_are) size_is
+      same_parts (lines_of_rows h.front ++ dashes_of h.mark) (line_with h.mark h.mark.content ∷ (lines_upto h.upto h.under).0) (lines_of_rows h.back) (lines_before h.found.place) (h.found.line ∷ flatten h.found.under)
+      (flatten h.found.after ++ lines_after h.found.place) (sym old_lines ∙ (sym (flatten-group (lines_of_rows h.p.rows)) ∙ whole_line (part_outline h.p) s ss [] h.found h.is))
+      (length-append (lines_of_rows h.front) (dashes_of h.mark) ∙ before_are) size_is
 
   pub line_is : line_with h.mark h.mark.content ≡ h.found.line
   line_is = head-eq_of_cons-eq parts.1
 
-  pub even : IsEven (level_or 0 (outline_of h.p)) (outline_of h.p)
+  pub even : IsEven (level_or 0 (part_outline h.p)) (part_outline h.p)
   even = (document_known (cut_text c) c doc h.p h.old).even
 
-  fine : is_fine (group (lines_of h.p.rows)) ≡ true
+  fine : is_fine (group (lines_of_rows h.p.rows)) ≡ true
   unfolding read_at
   fine = document_fine h.p (each (document_parts c) (text_takes (cut_text c) c (guard_then (is_utf8 (cut_text c)) h.old.read).1).1 doc h.p h.old.there)
 
@@ -96,10 +96,10 @@ module _ (doc : ℕ) (s : Step) (ss : List Step) (c : Cut) (h : NodeRows doc s s
   pub near : allows_first (record { column = Some (suc (mark_column h.mark)) }) h.back ≡ true
   unfolding level
   near =
-      let starts : Begins (level h.found.line) (lines_of h.back) = subst (Begins (level h.found.line)) (sym parts.2) (begins _ (found_starts (lines_of h.p.rows) s ss [] h.found h.is fine)) in
-      next_by (level h.found.line) (suc (mark_column h.mark)) h.back starts (omega (arith, ap level line_is, rank_high (mark_of h.mark.mark)))
+      let starts : Begins (level h.found.line) (lines_of_rows h.back) = subst (Begins (level h.found.line)) (sym parts.2) (begins _ (found_starts (lines_of_rows h.p.rows) s ss [] h.found h.is fine)) in
+      next_by (level h.found.line) (suc (mark_column h.mark)) h.back starts (omega (arith, ap level line_is, rank_high (line_mark h.mark.mark)))
     where
-      rank_high : (m : outline.Mark) → outline.rank m ≤ 3
+      rank_high : (m : outline.LineMark) → outline.rank m ≤ 3
       rank_high outline.Bare = omega arith
       rank_high (outline.Key j) = omega arith
       rank_high outline.Dash = omega arith

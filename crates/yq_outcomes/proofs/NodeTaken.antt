@@ -1,14 +1,14 @@
 -- The rows of an item or entry give way to rows that are written for a value: the document with that value there.
 use Rattle.std.proofs.Common.{◌≡◌, ℕ, suc, ◌<◌, ◌≤◌, Bool, true, false, List, [], ◌∷◌, ◌++◌, length, Option, Some, refl, sym, ap, ◌∙◌, subst, arith, append-nil, rules}
 use Rattle.std.proofs.lemmas.Bool.{false≢true, ltb-true}
-use Rattle.yq_flow_scalars.specs.Paths.{Step, change}
+use Rattle.yq_flow_scalars.specs.Paths.{Step, changed_at}
 use Rattle.yq_flow_scalars.specs.Tree.{Node}
 use Rattle.yq_nodes.specs.Alike.{Alike}
 use Rattle.yq_lines.specs.LineAnchors.{HaveOneAnchorEach}
 use Rattle.yq_lines.specs.Comments.{head_comment, line_comment}
 use Rattle.yq_lines.specs.Outline as outline
 use Rattle.yq_lines.specs.Outline.{Line, level, Outline, flatten, IsEven, IsOpen, anchored, head_or, label, value}
-use Rattle.yq_lines.specs.Places.{content}
+use Rattle.yq_lines.specs.Places.{content_under}
 use Rattle.yq_cut.specs.Exchange.{allows_first, asked_behind}
 use Rattle.yq_cut.specs.Gap.{IsGap}
 use Rattle.yq_cut.specs.Grammar.{Limit, allows, AreRows, no_rows}
@@ -17,8 +17,8 @@ use Rattle.yq_cut.specs.Splices.{behind_first, first_gap}
 use Rattle.yq_cut.proofs.seams.SeamLaws.{rows_text-append}
 use Rattle.yq_cut.proofs.splices.SpliceTexts.{own_gap, own_end, first_text, first_is}
 use Rattle.yq_documents.specs.Documents.{HaveFitKeys, lead_of}
-use Rattle.yq_lines.specs.Lines.{content_anchor, head_of, tail_of, lines_of}
-use Rattle.yq_documents.specs.TreeEdits.{anchor_of, led, replaced}
+use Rattle.yq_lines.specs.Lines.{content_anchor, head_of, tail_of, lines_of_rows}
+use Rattle.yq_documents.specs.TreeEdits.{anchor_of, led, replaced_node}
 use Rattle.yq_documents.specs.Ready.{begins_no_node}
 use Rattle.yq_documents.specs.Reading.{root_of}
 use Rattle.yq_row_places.specs.RowPaths.{IsReadable}
@@ -63,15 +63,15 @@ pub record TakesNode (doc : ℕ) (s : Step) (ss : List Step) (c : Cut) (h : Node
   pub content : Content
   pub level : ℕ
   pub under : Outline
-  pub comment : line_comment (tail_of content) ≡ line_comment (tail_of h.mark.content)
-  pub anchor : content_anchor content ≡ anchor_of (Rattle.yq_lines.specs.Places.content h.found.line h.found.under)
-  pub open' : IsOpen (head_of content) under
-  pub value_is : head_or (head_of content) (value under) ≡ v
+  pub comment : line_comment (tail_of content_under) ≡ line_comment (tail_of h.mark.content)
+  pub anchor : content_anchor content_under ≡ anchor_of (Rattle.yq_lines.specs.Places.content h.found.line h.found.under)
+  pub open' : IsOpen (head_of content_under) under
+  pub value_is : head_or (head_of content_under) (value under) ≡ v
   pub even : IsEven level under
-  pub deep : outline.level (line_with h.mark content) < level
-  pub lines : lines_of new ≡ dashes_of h.mark ++ (line_with h.mark content ∷ flatten under)
+  pub deep : outline.level (line_with h.mark content_under) < level
+  pub lines : lines_of_rows new ≡ dashes_of h.mark ++ (line_with h.mark content_under ∷ flatten under)
   pub keys : HaveFitKeys new
-  pub anchors : HaveOneAnchorEach (line_with h.mark content ∷ flatten under)
+  pub anchors : HaveOneAnchorEach (line_with h.mark content_under ∷ flatten under)
 
 module _ (doc : ℕ) (s : Step) (ss : List Step) (c : Cut) (h : NodeRows doc s ss c) (v : Node) (new : List Row) (t : TakesNode doc s ss c h v new) where
   abbrev z : List ℕ
@@ -106,7 +106,7 @@ module _ (doc : ℕ) (s : Step) (ss : List Step) (c : Cut) (h : NodeRows doc s s
     anchors = t.anchors;
   }
 
-  fits : LineFits [] h.found (replaced v) t.level (line_with h.mark t.content) t.under
+  fits : LineFits [] h.found (replaced_node v) t.level (line_with h.mark t.content) t.under
   unfolding level
   fits = record {
     label_is = ap (λ (o : Option (List ℕ)). record { key = outline.key_of (line_with h.mark t.content).mark; head_comment = (line_with h.mark t.content).head_comment; line_comment = o }) t.comment ∙ ap label (line_is doc s ss c h);
@@ -128,28 +128,28 @@ module _ (doc : ℕ) (s : Step) (ss : List Step) (c : Cut) (h : NodeRows doc s s
   same_block =
       let now : Line = line_with h.mark t.content in
       let was : Line = line_with h.mark h.mark.content in
-      let lines : lines_of q.rows ≡ (lines_of h.front ++ dashes_of h.mark) ++ ((now ∷ flatten t.under) ++ lines_of h.back) =
-      ap lines_of q_rows
-      ∙ (rows_in_parts h.front new h.back ∙ (ap (λ (ls : List Line). lines_of h.front ++ (ls ++ lines_of h.back)) t.lines ∙ sym (around (lines_of h.front) (dashes_of h.mark) (now ∷ flatten t.under) (lines_of h.back)))) in
+      let lines : lines_of_rows q.rows ≡ (lines_of_rows h.front ++ dashes_of h.mark) ++ ((now ∷ flatten t.under) ++ lines_of_rows h.back) =
+      ap lines_of_rows q_rows
+      ∙ (rows_in_parts h.front new h.back ∙ (ap (λ (ls : List Line). lines_of_rows h.front ++ (ls ++ lines_of_rows h.back)) t.lines ∙ sym (around (lines_of_rows h.front) (dashes_of h.mark) (now ∷ flatten t.under) (lines_of_rows h.back)))) in
       ap begins_no_node lines
-      ∙ (no_node_first (lines_of h.front ++ dashes_of h.mark) now was (flatten t.under ++ lines_of h.back) ((lines_upto h.upto h.under).0 ++ lines_of h.back) refl ∙ sym (ap begins_no_node (old_lines doc s ss c h)))
+      ∙ (no_node_first (lines_of_rows h.front ++ dashes_of h.mark) now was (flatten t.under ++ lines_of_rows h.back) ((lines_upto h.upto h.under).0 ++ lines_of_rows h.back) refl ∙ sym (ap begins_no_node (old_lines doc s ss c h)))
 
-  pub node_changed : MayReplace v (content h.found.line h.found.under) (root_of h.p) (length (s ∷ ss)) → IsReadable (cut_text (put_document doc (inserted h.front new h.back h.p) c)) →
-      IsChanged c (put_document doc (inserted h.front new h.back h.p) c) doc (lead_of h.p) (change (s ∷ ss) (replaced v))
+  pub node_changed : MayReplace v (content_under h.found.line h.found.under) (root_of h.p) (length (s ∷ ss)) → IsReadable (cut_text (put_document doc (inserted h.front new h.back h.p) c)) →
+      IsChanged c (put_document doc (inserted h.front new h.back h.p) c) doc (lead_of h.p) (changed_at (s ∷ ss) (replaced_node v))
   node_changed may readable =
       node_rows_replaced (cut_text c) c doc h.p s ss h.found v h.front (h.row ∷ h.under) new h.back (dashes_of h.mark) (line_with h.mark h.mark.content ∷ (lines_upto h.upto h.under).0) t.level (line_with h.mark t.content) t.under h.old h.is
       replace_rows takes_lines fits may readable
 
-  pub node_reads : MayReplace v (content h.found.line h.found.under) (root_of h.p) (length (s ∷ ss)) → IsReadable (cut_text (put_document doc (inserted h.front new h.back h.p) c)) →
+  pub node_reads : MayReplace v (content_under h.found.line h.found.under) (root_of h.p) (length (s ∷ ss)) → IsReadable (cut_text (put_document doc (inserted h.front new h.back h.p) c)) →
       ReadsAfter (replace doc (s ∷ ss) v) c (cut_text (put_document doc (inserted h.front new h.back h.p) c))
   node_reads may readable =
-      let changed : IsChanged c (put_document doc q c) doc (lead_of h.p) (change (s ∷ ss) (replaced v)) = node_changed may readable in
-      document_done (replace doc (s ∷ ss) v) c h.p q (lead_of h.p) (change (s ∷ ss) (replaced v)) (record {
+      let changed : IsChanged c (put_document doc q c) doc (lead_of h.p) (changed_at (s ∷ ss) (replaced_node v)) = node_changed may readable in
+      document_done (replace doc (s ∷ ss) v) c h.p q (lead_of h.p) (changed_at (s ∷ ss) (replaced_node v)) (record {
         read = h.old.read;
         there = h.old.there;
         rows = λ none. absurd (false≢true (sym (ap no_rows q_rows ∙ rows_before_some h.front (new ++ h.back) (ap (λ rs. no_rows (rs ++ h.back)) t.new_is)) ∙ none));
         changed = changed;
-        root = ap (λ m. change (s ∷ ss) (replaced m) (root_of h.p)) (sym (led_below (is_block_root h.p) (lead_of h.p) s ss v));
+        root = ap (λ m. changed_at (s ∷ ss) (replaced_node m) (root_of h.p)) (sym (led_below (is_block_root h.p) (lead_of h.p) s ss v));
         lead_goes = same_lead_goes h.p q (search (rules, q_rows, gap_same)) same_block;
         block = λ keeps. same_block;
         equal_room = λ sets. absurd sets;

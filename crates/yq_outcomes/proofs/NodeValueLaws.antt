@@ -11,7 +11,7 @@ use Rattle.yq_lines.specs.LineAnchors.{HaveOneAnchorEach}
 use Rattle.yq_lines.specs.Comments.{line_comment}
 use Rattle.yq_lines.specs.Outline as outline
 use Rattle.yq_lines.specs.Outline.{end, IsOpen, level, head_or, Stands, value}
-use Rattle.yq_lines.specs.Places.{content}
+use Rattle.yq_lines.specs.Places.{content_under}
 use Rattle.yq_lines.proofs.ByRules.{rules_give}
 use Rattle.yq_cut.specs.Alone.{holds_nothing}
 use Rattle.yq_cut.specs.Exchange.{with_content}
@@ -22,7 +22,7 @@ use Rattle.yq_cut.specs.Seams.{is_block}
 use Rattle.yq_cut.proofs.NodeExchange.{inline_starts, space_apart}
 use Rattle.yq_cut.proofs.splices.PartPlaces.{part_ends}
 use Rattle.yq_documents.specs.Documents.{ContentHasFitKeys}
-use Rattle.yq_lines.specs.Lines.{content_anchor, head_of, tail_of, lines_of, mark_of}
+use Rattle.yq_lines.specs.Lines.{content_anchor, head_of, tail_of, lines_of_rows, line_mark}
 use Rattle.yq_documents.specs.TreeEdits.{anchor_of}
 use Rattle.yq_change.specs.DocumentRows.{behind_document}
 use Rattle.yq_documents.specs.PartNumbers.{part_number}
@@ -49,12 +49,12 @@ use Rattle.yq_outcomes.proofs.NodeTaken.{TakesNode}
 -- ---- marks
 
 -- the key of a mark, if it is one
-abbrev pub mark_key : rows.Mark → Option (List ℕ)
+abbrev pub mark_key : rows.RowMark → Option (List ℕ)
 mark_key rows.Bare = None
 mark_key rows.Dash = None
 mark_key (rows.Key key colon) = Some key
 
-mark_level : (m : rows.Mark) (n : ℕ) → is_entry m ≡ true → 3 * n + outline.rank (mark_of m) ≡ entry_level (mark_key m) n
+mark_level : (m : rows.RowMark) (n : ℕ) → is_entry m ≡ true → 3 * n + outline.rank (line_mark m) ≡ entry_level (mark_key m) n
 mark_level m n h1 = search (rules, false≢true)
 
 -- ---- nothing but an anchor behind a mark
@@ -82,7 +82,7 @@ module _ (doc : ℕ) (s : Step) (ss : List Step) (c : Cut) (h : NodeRows doc s s
     pub stands : IsContent (parent_indent h.mark) x more
     pub apart : separates (content_text x more) ≡ true
     pub comment : line_comment (tail_of x) ≡ line_comment (tail_of h.mark.content)
-    pub anchor : content_anchor x ≡ anchor_of (content h.found.line h.found.under)
+    pub anchor : content_anchor x ≡ anchor_of (content_under h.found.line h.found.under)
 
   -- ---- under it
 
@@ -109,12 +109,12 @@ module _ (doc : ℕ) (s : Step) (ss : List Step) (c : Cut) (h : NodeRows doc s s
       upto = h.upto;
       deep = search rules;
       nothing = held.holds;
-      content = held.stands;
+      content_under = held.stands;
       apart = held.apart;
     }
 
-    stands : Stands (lines_of rs) v (level_at below v)
-    stands = rules_give (level_at below v) (lines_of rs) v (node_stands v l below last step filled.filled filled.value uncommented)
+    stands : Stands (lines_of_rows rs) v (level_at below v)
+    stands = rules_give (level_at below v) (lines_of_rows rs) v (node_stands v l below last step filled.filled filled.value uncommented)
 
     deep : outline.level (line_with h.mark x) < level_at below v
     unfolding level
@@ -129,7 +129,7 @@ module _ (doc : ℕ) (s : Step) (ss : List Step) (c : Cut) (h : NodeRows doc s s
           new_is = refl;
           gap_is = upto_gap h.upto;
           replaces = under_laid (limit doc s ss c h) h.row h.mark (rows_text (h.under ++ h.back) (h.p.end ++ behind_document doc c)) x below rs z above laid;
-          content = x;
+          content_under = x;
           level = level_at below v;
           under = stands.outline;
           comment = held.comment;
@@ -146,9 +146,9 @@ module _ (doc : ℕ) (s : Step) (ss : List Step) (c : Cut) (h : NodeRows doc s s
   -- ---- behind it on its line
 
   -- a content that is no block scalar, with the node of a value in the place of its own
-  module _ (v : Node) (node : inline.Node) (is : IsValueNode v node) (x : Content) (block : is_block x ≡ false) where
+  module _ (v : Node) (node : inline.FlowNode) (is : IsValueNode v node) (x : Content) (block : is_block x ≡ false) where
     pub content_for : IsContent (parent_indent h.mark) x (rest doc s ss c h) → separates (content_text x (rest doc s ss c h)) ≡ true → line_comment (tail_of x) ≡ line_comment (tail_of h.mark.content) →
-        content_anchor x ≡ anchor_of (content h.found.line h.found.under) → IsContentFor doc s ss c h v (put_core node x)
+        content_anchor x ≡ anchor_of (content_under h.found.line h.found.under) → IsContentFor doc s ss c h v (put_core node x)
     content_for stands apart comment anchor = record {
       stands = content_is v node is (parent_indent h.mark) x (rest doc s ss c h) block stands
           (λ tail ends. subst (λ n. ends_plain false (Some n) (tail ++ rest doc s ss c h) ≡ true) (sym (deeper_entry h.mark.mark (mark_column h.mark) (entry doc s ss c h))) (end_is tail ends).plain);
@@ -159,7 +159,7 @@ module _ (doc : ℕ) (s : Step) (ss : List Step) (c : Cut) (h : NodeRows doc s s
       keys = content_keys v node is x;
     }
 
-  module _ (v : Node) (node : inline.Node) (is : IsValueNode v node) (x : Content) (held : IsHolding x (rest doc s ss c h)) where
+  module _ (v : Node) (node : inline.FlowNode) (is : IsValueNode v node) (x : Content) (held : IsHolding x (rest doc s ss c h)) where
     pub content_beside : IsContentFor doc s ss c h v (put_core node x)
     content_beside = content_for v node is x (nothing_is x held.holds).2 held.stands held.apart held.comment held.anchor
 

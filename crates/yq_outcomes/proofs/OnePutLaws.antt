@@ -9,7 +9,7 @@ use Rattle.yq_script.specs.Script.{Segment, changes, keep, keep_before, merged, 
 use Rattle.yq_script.specs.Splice.{Splice}
 use Rattle.yq_script.proofs.TouchLaws.{put_twice}
 use Rattle.yq_edits.specs.CommentEdits.{comment_written}
-use Rattle.yq_edits.specs.ReplaceEdits.{apart}
+use Rattle.yq_edits.specs.ReplaceEdits.{spaced_text}
 use Rattle.yq_edits.specs.RowChanges.{CommentPutsOne, InlinePutsOne, PutsOne, inline_put, takes_white}
 use Rattle.yq_edits.specs.WrittenValues.{value_text}
 
@@ -64,7 +64,7 @@ module _ (h : Held) (v : Node) (some : is_empty h.head ≡ false) (none : h.brea
   abbrev behind : List ℕ
   behind = h.white ++ (h.comment ++ (h.last ++ h.behind))
 
-  text_is : apart h.head t ≡ t
+  text_is : spaced_text h.head t ≡ t
   text_is = ap (λ (b : Bool). cond b (32 ∷ t) t) some
 
   abbrev left : List Segment
@@ -76,9 +76,9 @@ module _ (h : Held) (v : Node) (some : is_empty h.head ≡ false) (none : h.brea
     old_is = (λ i. h.before ++ (h.space ++ (h.head ++ (h.white ++ (h.comment ++ (none i ++ (no_lines i ++ (h.last ++ append-nil h.behind i)))))))) ∙ sym (append_assoc h.before h.space (h.head ++ behind));
     new_is = (λ i. h.before ++ (h.space ++ (text_is i ++ (h.white ++ (h.comment ++ (h.last ++ append-nil h.behind i)))))) ∙ sym (append_assoc h.before h.space (t ++ behind));
     changes_are =
-        first_keep h.before (merged (keep h.space ∷ (put h.head (apart h.head t) ∷ left)))
-        ∙ (after_keep (length h.before) h.space (merged (put h.head (apart h.head t) ∷ left))
-        ∙ (put_quiet (length h.before + length h.space) h.head (apart h.head t) left (none, refl, (no_lines, refl, tt))
+        first_keep h.before (merged (keep h.space ∷ (put h.head (spaced_text h.head t) ∷ left)))
+        ∙ (after_keep (length h.before) h.space (merged (put h.head (spaced_text h.head t) ∷ left))
+        ∙ (put_quiet (length h.before + length h.space) h.head (spaced_text h.head t) left (none, refl, (no_lines, refl, tt))
         ∙ (λ i. splice_at (sym (length-append h.before h.space) i) h.head (text_is i))));
   }
 

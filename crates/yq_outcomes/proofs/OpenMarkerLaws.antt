@@ -13,7 +13,7 @@ use Rattle.yq_documents.specs.PartNumbers.{number_from, part_number}
 use Rattle.yq_row_places.specs.PlacedRows.{PlacedPart, before_part, placed_at, placed_document}
 use Rattle.yq_row_places.proofs.PlacedPartLaws.{part_stands}
 use Rattle.yq_change.specs.Changed.{put_document, put_part}
-use Rattle.yq_cut.specs.Items.{Item, end_item, rows_items, items_of}
+use Rattle.yq_cut.specs.Items.{Item, end_item, rows_items, items_of_cut}
 use Rattle.yq_change.proofs.DocumentItemLaws.{rows_before}
 
 -- a document behind a text with a break more, at the end of a text
@@ -33,8 +33,8 @@ record IsLast (break : List ℕ) (i : ℕ) (c : Cut) : Type 0 where
   pub put : (q : Part) → put_part i q (with_last_part break (nth_part i c) c) ≡ with_last_part break q c
   pub above : List Item
   pub gap : List ℕ
-  pub old_are : items_of c ≡ above ++ (end_item gap (last_marker c) ∷ rows_items (nth_part i c).rows (end_item (nth_part i c).end [] ∷ []))
-  pub new_are : (q : Part) → items_of (with_last_part break q c) ≡ above ++ (end_item gap (last_marker c ++ break) ∷ rows_items q.rows (end_item q.end [] ∷ []))
+  pub old_are : items_of_cut c ≡ above ++ (end_item gap (last_marker c) ∷ rows_items (nth_part i c).rows (end_item (nth_part i c).end [] ∷ []))
+  pub new_are : (q : Part) → items_of_cut (with_last_part break q c) ≡ above ++ (end_item gap (last_marker c ++ break) ∷ rows_items q.rows (end_item q.end [] ∷ []))
 
 begins_same : (m break : List ℕ) → 3 ≤ length m → begins_document (m ++ break) ≡ begins_document m
 begins_same [] break h = absurd (omega (arith, h))
@@ -102,8 +102,8 @@ pub record IsBehindMarker (break : List ℕ) (n : ℕ) (c : Cut) (d : PlacedPart
   pub put : (q : Part) → put_document n q (with_last_part break d.part c) ≡ with_last_part break q c
   pub above : List Item
   pub gap : List ℕ
-  pub old_are : items_of c ≡ above ++ (end_item gap (last_marker c) ∷ rows_items d.part.rows (end_item d.part.end [] ∷ []))
-  pub new_are : (q : Part) → items_of (with_last_part break q c) ≡ above ++ (end_item gap (last_marker c ++ break) ∷ rows_items q.rows (end_item q.end [] ∷ []))
+  pub old_are : items_of_cut c ≡ above ++ (end_item gap (last_marker c) ∷ rows_items d.part.rows (end_item d.part.end [] ∷ []))
+  pub new_are : (q : Part) → items_of_cut (with_last_part break q c) ≡ above ++ (end_item gap (last_marker c ++ break) ∷ rows_items q.rows (end_item q.end [] ∷ []))
 
 bare_same : (break : List ℕ) (q p : Part) (m : List ℕ) (c : Cut) → begins_bare (with_last_part break q (marked p m c)) ≡ begins_bare (marked p m c)
 bare_same break q p m (last x) = refl

@@ -36,7 +36,7 @@ use Rattle.yq_change.proofs.TextPieceLaws.{pieces_joined}
 use Rattle.yq_meaning.specs.Operations.{replace}
 use Rattle.yq_edits.specs.ClosedTexts.{is_closed_text}
 use Rattle.yq_change.specs.Changed.{put_document}
-use Rattle.yq_cut.specs.Items.{Item, end_item, rows_items, items_of, items_text}
+use Rattle.yq_cut.specs.Items.{Item, end_item, rows_items, items_of_cut, items_text}
 use Rattle.yq_change.specs.Replaces.{rooted}
 use Rattle.yq_cut.proofs.ItemLaws.{items_of_text, items_text-append}
 use Rattle.yq_script.specs.Script.{Segment, new_text, kept_front, kept_back}
@@ -199,7 +199,7 @@ module _ (n : ℕ) (c : Cut) (w : NoRows) (read : read_at (cut_text c) ≡ Some 
         let last : List Item = rows_items rs (end_item [] [] ∷ []) in
         let front : List Item = m.above in
         let lead : List ℕ = m.gap ++ last_marker c in
-        let old_are : items_of c ≡ front ++ (end_item m.gap (last_marker c) ∷ (end_item [] [] ∷ [])) = search (rules, front, m) in
+        let old_are : items_of_cut c ≡ front ++ (end_item m.gap (last_marker c) ∷ (end_item [] [] ∷ [])) = search (rules, front, m) in
         let front_text : items_text (front ++ (end_item m.gap (last_marker c) ∷ (end_item [] [] ∷ []))) [] ≡ items_text front lead =
         items_text-append front (end_item m.gap (last_marker c) ∷ (end_item [] [] ∷ [])) [] ∙ ap (λ t. items_text front (m.gap ++ t)) (append-nil (last_marker c)) in
         let local : IsLocal ss c (put_document n q c2) = record {
@@ -210,7 +210,7 @@ module _ (n : ℕ) (c : Cut) (w : NoRows) (read : read_at (cut_text c) ≡ Some 
           lead = lead;
           trail = [];
           old_are = old_are;
-          new_are = ap items_of (m.put q)
+          new_are = ap items_of_cut (m.put q)
               ∙ (m.new_are q
               ∙ ap (λ xs. front ++ xs) (ap (λ xs. end_item m.gap (last_marker c ++ break_text br) ∷ rows_items xs (end_item [] [] ∷ [])) (append-nil rs) ∙ sym (append-nil (end_item m.gap (last_marker c ++ break_text br) ∷ last))));
           before_is = before ∙ (sym (append-nil w.before) ∙ (ap (λ t. w.before ++ t) (sym (h.behind_is ∙ nothing_behind)) ∙ (unwritten_root.whole n c w read h ∙ (sym (items_of_text c) ∙ (ap (λ xs. items_text xs []) old_are ∙ front_text)))));

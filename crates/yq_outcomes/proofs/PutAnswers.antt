@@ -8,7 +8,7 @@ use Rattle.yq_flow_scalars.specs.Paths.{Step}
 use Rattle.yq_flow_scalars.specs.Tree as tree
 use Rattle.yq_flow_scalars.specs.declared.style.Place.TheVariants.{Flow as InFlow}
 use Rattle.yq_nodes.specs.Collections.{CollPieces}
-use Rattle.yq_nodes.specs.Entries.{EntryPieces, PlacedEntry, entry_pieces_at, item_at, locate_entry, part_at, parts_of, placed_entry_at}
+use Rattle.yq_nodes.specs.Entries.{EntryPieces, PlacedEntry, entry_pieces_at, item_at, locate_entry, flow_part_at, parts_of, placed_entry_at}
 use Rattle.yq_flow.specs.FlowEdits.{FlowEdit, replacing}
 use Rattle.yq_flow.specs.FlowPlaces.{edit_view, place_edit, replace_place}
 use Rattle.yq_flow.specs.declared.flow_place.EditPlace.{EditPlace}
@@ -25,10 +25,10 @@ use Rattle.yq_row_places.specs.NodesAt.{node_in}
 use Rattle.yq_row_places.specs.Standings.{FlowPart, flow_standing, last_step}
 use Rattle.yq_row_places.specs.declared.places.flow_node.FlowHead.{FlowHead}
 use Rattle.yq_edits.specs.FlowParts.{flow_value}
-use Rattle.yq_edits.specs.Replacing.{is_kept}
+use Rattle.yq_edits.specs.Replacing.{keeps_scalar}
 use Rattle.yq_edits.specs.WrittenValues.{value_text}
 use Rattle.yq_outcomes.specs.EditPlaces.{edit_segments, moved_on}
-use Rattle.yq_outcomes.specs.PartPuts.{ArePuts, IsPlaceOf, IsWritten, part_put, part_replaced, put_edit}
+use Rattle.yq_outcomes.specs.PartPuts.{ArePuts, IsPlaceOf, IsWrittenPart, part_put, part_replaced, put_edit}
 use Rattle.yq_outcomes.specs.declared.put.PartPut.{PartPut}
 use Rattle.yq_outcomes.proofs.FlowAnswers.{CollFound, edit_lies, edit_moved, entry_found, part_in, segments_at, standing_is}
 use Rattle.yq_outcomes.proofs.FlowHeads.{replace_found, replaced_within, whole_is}
@@ -50,10 +50,10 @@ one_piece : (o : Option EntryPieces) → option_and_then (entry_pieces_at []) o 
 one_piece None = refl
 one_piece (Some y) = refl
 
-part_placed : (total : ℕ) (s : Step) (w : CollPieces) → part_at s (parts_of (placed_collection total w)) ≡ option_map (locate_entry total) (item_at w.close s w.items w.rest)
+part_placed : (total : ℕ) (s : Step) (w : CollPieces) → flow_part_at s (parts_of (placed_collection total w)) ≡ option_map (locate_entry total) (item_at w.close s w.items w.rest)
 part_placed total s w =
     let slot : EntryPieces = record { key = bare; node = coll w.close w.gap w.items; rest = w.rest } in
-    sym (one_step (part_at s (parts_of (placed_collection total w)))) ∙ (path_places total (s ∷ []) slot ∙ ap (option_map (locate_entry total)) (one_piece (item_at w.close s w.items w.rest)))
+    sym (one_step (flow_part_at s (parts_of (placed_collection total w)))) ∙ (path_places total (s ∷ []) slot ∙ ap (option_map (locate_entry total)) (one_piece (item_at w.close s w.items w.rest)))
 
 -- what stands at the place of an edit
 old_at : (t before : List ℕ) (e : FlowEdit) → t ≡ before ++ (e.old ++ e.behind) → drop (length t - length (e.old ++ e.behind)) (take (length t - length e.behind) t) ≡ e.old
@@ -75,7 +75,7 @@ value_is old (tree.map a cs) = refl
 -- ---- the answers
 
 -- The part at the last step is found, or none is.
-module _ (c : Cut) (n : ℕ) (path init : List Step) (s : Step) (x : FlowHead) (q : Placed) (last : Some (init, s) ≡ last_step path) (f : CollFound c n init x q) (o : Option PlacedEntry) (is : o ≡ part_at s (parts_of q)) where
+module _ (c : Cut) (n : ℕ) (path init : List Step) (s : Step) (x : FlowHead) (q : Placed) (last : Some (init, s) ≡ last_step path) (f : CollFound c n init x q) (o : Option PlacedEntry) (is : o ≡ flow_part_at s (parts_of q)) where
   abbrev own : CollPieces
   own = f.agrees.at.coll
 
@@ -89,7 +89,7 @@ module _ (c : Cut) (n : ℕ) (path init : List Step) (s : Step) (x : FlowHead) (
   stands y at = standing_is c n path init s x q last f ∙ ap (λ (z : Option EntryPieces). option_map (part_in s f.coll) (option_map (entry_more f.agrees.behind) z)) at
 
   part_is : o ≡ option_map (locate_entry (length row)) (item_at own.close s own.items own.rest)
-  part_is = is ∙ (ap (part_at s) (sym (core_parts q) ∙ ap parts_of f.node) ∙ part_placed (length row) s own)
+  part_is = is ∙ (ap (flow_part_at s) (sym (core_parts q) ∙ ap parts_of f.node) ∙ part_placed (length row) s own)
 
   pub content_missing : o ≡ None → flow_standing n c (last_step path) ≡ None
   content_missing none = go (item_at own.close s own.items own.rest) refl (sym none ∙ part_is)
@@ -133,7 +133,7 @@ module _ (c : Cut) (n : ℕ) (path init : List Step) (s : Step) (x : FlowHead) (
       abbrev edit : FlowEdit
       edit = e c n path v f.read a
 
-      abbrev new : inline.Node
+      abbrev new : inline.FlowNode
       new = m c n path v f.read a
 
       abbrev alone : FlowEdit
@@ -167,13 +167,13 @@ no_collection t (Some w) x agrees none = absurd (none-some _ (none ∙ agrees.fo
 -- ---- the segments
 
 pub puts_none : (n : ℕ) (path : List Step) (v : tree.Node) (c : Cut) → flow_standing n c (last_step path) ≡ None → part_replaced n path v c ≡ None
-puts_none n path v c none = ap (option_map (part_put (cut_text c) (is_kept (node_in n path c) v) v)) none
+puts_none n path v c none = ap (option_map (part_put (cut_text c) (keeps_scalar (node_in n path c) v) v)) none
 
 pub puts_written : (n : ℕ) (path : List Step) (v : tree.Node) (c : Cut) (x : FlowHead) (p : PartPut) (written : String Global) (whole : List ℕ) → p.written ≡ Some written → whole ≡ cut_text c → ArePuts n path v c x (Some p) →
     part_replaced n path v c ≡ Some (edit_segments whole (moved_on x.before (edit_view p.place)) (string_bytes written))
 puts_written n path v c x p written whole some all h =
     let t : List ℕ = cut_text c in
     let w = h.2 in
-    let k = subst (IsWritten (node_in n path c) v h.0) some h.3 in
+    let k = subst (IsWrittenPart (node_in n path c) v h.0) some h.3 in
     (λ i. option_map (part_put t (k.0 i) v) (h.1 i))
     ∙ ap Some (sym (segments_at t w.before (put_edit v h.0) w.text) ∙ (λ i. edit_segments (sym all i) (sym w.place_is i) (sym k.1 i)))

@@ -5,13 +5,13 @@ use Rattle.std.specs.List.{slice_get}
 use Rattle.std.specs.Option.{option_or}
 use Rattle.yq_flow_scalars.specs.Answers.{◌>>=◌}
 use Rattle.yq_flow_scalars.specs.Paths.{Step}
-use Rattle.yq_lines.specs.Ends.{found_line, line_of, lines_end}
+use Rattle.yq_lines.specs.Ends.{found_line, line_at_steps, lines_end}
 use Rattle.yq_lines.specs.Group.{group}
 use Rattle.yq_lines.specs.Outline.{Line, flatten}
 use Rattle.yq_lines.specs.Places.{FoundLine, find, lines_after, lines_before}
 use Rattle.yq_cut.specs.Rows.{Part, Cut, cut_text}
 use Rattle.yq_documents.specs.declared.path.Part.TheVariants.{Entry}
-use Rattle.yq_lines.specs.Lines.{lines_of}
+use Rattle.yq_lines.specs.Lines.{lines_of_rows}
 use Rattle.yq_documents.specs.Pieces.{TextPiece}
 use Rattle.yq_documents.specs.Reading.{read_at}
 use Rattle.yq_documents.specs.LinesInRows.{RowLine, row_line, row_line_of}
@@ -39,12 +39,12 @@ module _ (n : ℕ) (s : Step) (ss : List Step) (c : Cut) (e : RowsOfEntry) (read
   p = x.part
 
   abbrev ls : List Line
-  ls = lines_of p.rows
+  ls = lines_of_rows p.rows
 
   abbrev at : ℕ
   at = length (lines_before x.found.place)
 
-  number : line_of (s ∷ ss) (lines_of x.part.rows) ≡ Some (length (lines_before x.found.place))
+  number : line_at_steps (s ∷ ss) (lines_of_rows x.part.rows) ≡ Some (length (lines_before x.found.place))
   number = ap (λ (o : Option (FoundLine × List Step)). option_and_then (λ y. found_line y.0 y.1) o) x.is
 
   -- the row in which its line stands

@@ -3,12 +3,12 @@ use Rattle.std.proofs.Common.{inl, arith, ◌≡◌, ℕ, ◌-◌, ◌≤◌, Bo
 use Rattle.std.proofs.lemmas.List.{take-append-drop, length-append}
 use Rattle.std.proofs.lemmas.Option.{same_Some}
 use Rattle.yq_flow_scalars.specs.Answers.{◌>>=◌}
-use Rattle.yq_block_scalars.specs.Block.{Lines}
-use Rattle.yq_block_scalars.specs.BlockRepair.{is_short, is_outside, repair}
+use Rattle.yq_block_scalars.specs.Block.{RawLines}
+use Rattle.yq_block_scalars.specs.BlockRepair.{is_short, is_outdented_comment, repair}
 use Rattle.yq_text.specs.Limit.{text_limit}
 use Rattle.yq_flow_scalars.specs.Lines.{is_blank}
 use Rattle.yq_flow_scalars.specs.Paths.{Step, node_at, remove_child}
-use Rattle.yq_flow_scalars.specs.Text.{cut, no_white, past_white, upto, joined, lines_of}
+use Rattle.yq_flow_scalars.specs.Text.{cut, no_white, past_white, upto, joined, text_lines}
 use Rattle.yq_flow_scalars.specs.Tree.{Node}
 use Rattle.yq_block_scalars.proofs.LineLaws.{joined_lines}
 use Rattle.yq_flow_scalars.specs.Anchors.{names_of}
@@ -32,7 +32,7 @@ use Rattle.yq_meaning.specs.Rooms.{room_of}
 use Rattle.yq_script.specs.Script.{Segment, keep, put, old_text, new_text, kept_back}
 use Rattle.yq_edits.specs.Done.{IsDone}
 use Rattle.yq_edits.specs.EditLaws.{IsEdit}
-use Rattle.yq_edits.specs.Removing.{indented, lines_mended, gap_mended, rows_removed}
+use Rattle.yq_edits.specs.Removing.{indent_put, lines_mended, gap_mended, rows_removed}
 use Rattle.yq_edits.specs.Local.{IsLocal, IsLocalTo}
 use Rattle.yq_outcomes.specs.TouchedRanges.{LiesInOne}
 use Rattle.yq_edits.specs.ReadsAfter.{ReadsAfter}
@@ -61,8 +61,8 @@ line_parts : (l : List ℕ) → (cut no_white l).0 ++ past_white l ≡ l
 line_parts l = take-append-drop (upto no_white l) l
 
 -- a line, whatever becomes of it, before others
-line_old : (b k sh out : Bool) (column : ℕ) (l : List ℕ) (ls : Lines) (ms : List Segment) → old_text ms ≡ joined ls →
-    old_text (cond b (cond k (put l [] ∷ []) (cond sh (keep l ∷ []) (indented 0 l)) ++ ms) (cond out (keep l ∷ []) (indented column l) ++ (keep (joined ls) ∷ []))) ≡ l ++ joined ls
+line_old : (b k sh out : Bool) (column : ℕ) (l : List ℕ) (ls : RawLines) (ms : List Segment) → old_text ms ≡ joined ls →
+    old_text (cond b (cond k (put l [] ∷ []) (cond sh (keep l ∷ []) (indent_put 0 l)) ++ ms) (cond out (keep l ∷ []) (indent_put column l) ++ (keep (joined ls) ∷ []))) ≡ l ++ joined ls
 line_old true true sh out column l ls ms h = ap (λ (x : List ℕ). l ++ x) h
 line_old true false true out column l ls ms h = ap (λ (x : List ℕ). l ++ x) h
 line_old true false false out column l ls ms h =
@@ -72,16 +72,16 @@ line_old false k sh false column l ls ms h =
     ap (λ (x : List ℕ). (cut no_white l).0 ++ (past_white l ++ x)) (append-nil (joined ls))
     ∙ (sym (append_assoc (cut no_white l).0 (past_white l) (joined ls)) ∙ ap (λ (x : List ℕ). x ++ joined ls) (line_parts l))
 
-lines_old : (s : Seam) (ls : Lines) → old_text (lines_mended s ls) ≡ joined ls
+lines_old : (s : Seam) (ls : RawLines) → old_text (lines_mended s ls) ≡ joined ls
 lines_old s [] = refl
-lines_old s (l ∷ ls) = line_old (is_blank l) s.keeps (is_short s.indent l) (is_outside s.indent l) s.column l ls (lines_mended s ls) (lines_old s ls)
+lines_old s (l ∷ ls) = line_old (is_blank l) s.keeps (is_short s.indent l) (is_outdented_comment s.indent l) s.column l ls (lines_mended s ls) (lines_old s ls)
 
 gap_old : (s : Option Seam) (gap : List ℕ) → old_text (gap_mended s gap) ≡ gap
 gap_old None gap = append-nil gap
-gap_old (Some s) gap = lines_old s (lines_of gap) ∙ joined_lines gap
+gap_old (Some s) gap = lines_old s (text_lines gap) ∙ joined_lines gap
 
-line_new : (b k sh out : Bool) (column : ℕ) (l : List ℕ) (ls rs : Lines) (ms : List Segment) → new_text ms ≡ joined rs →
-    new_text (cond b (cond k (put l [] ∷ []) (cond sh (keep l ∷ []) (indented 0 l)) ++ ms) (cond out (keep l ∷ []) (indented column l) ++ (keep (joined ls) ∷ [])))
+line_new : (b k sh out : Bool) (column : ℕ) (l : List ℕ) (ls rs : RawLines) (ms : List Segment) → new_text ms ≡ joined rs →
+    new_text (cond b (cond k (put l [] ∷ []) (cond sh (keep l ∷ []) (indent_put 0 l)) ++ ms) (cond out (keep l ∷ []) (indent_put column l) ++ (keep (joined ls) ∷ [])))
     ≡ joined (cond b (cond k rs (cond sh l (past_white l) ∷ rs)) (cond out l (replicate column 32 ++ past_white l) ∷ ls))
 line_new true true sh out column l ls rs ms h = h
 line_new true false true out column l ls rs ms h = ap (λ (x : List ℕ). l ++ x) h
@@ -90,14 +90,14 @@ line_new false k sh true column l ls rs ms h = ap (λ (x : List ℕ). l ++ x) (a
 line_new false k sh false column l ls rs ms h =
     ap (λ (x : List ℕ). replicate column 32 ++ (past_white l ++ x)) (append-nil (joined ls)) ∙ sym (append_assoc (replicate column 32) (past_white l) (joined ls))
 
-lines_new : (s : Seam) (ls : Lines) → new_text (lines_mended s ls) ≡ joined (repair s.keeps s.indent s.column ls)
+lines_new : (s : Seam) (ls : RawLines) → new_text (lines_mended s ls) ≡ joined (repair s.keeps s.indent s.column ls)
 unfolding repair
 lines_new s [] = refl
-lines_new s (l ∷ ls) = line_new (is_blank l) s.keeps (is_short s.indent l) (is_outside s.indent l) s.column l ls (repair s.keeps s.indent s.column ls) (lines_mended s ls) (lines_new s ls)
+lines_new s (l ∷ ls) = line_new (is_blank l) s.keeps (is_short s.indent l) (is_outdented_comment s.indent l) s.column l ls (repair s.keeps s.indent s.column ls) (lines_mended s ls) (lines_new s ls)
 
 gap_new : (s : Option Seam) (gap : List ℕ) → new_text (gap_mended s gap) ≡ mended s gap
 gap_new None gap = append-nil gap
-gap_new (Some s) gap = lines_new s (lines_of gap)
+gap_new (Some s) gap = lines_new s (text_lines gap)
 
 -- ---- what is taken out
 
@@ -147,9 +147,9 @@ taken_reads doc steps c t read out =
 
 gap_no_longer : (rs : List Row) (end : List ℕ) (first : Row) (others : List Row) → rs ≡ first ∷ others → length (kept_gap rs end) ≤ length (print_row first [])
 gap_no_longer rs end first others e =
-    let parts : joined (before_run (lines_of first.gap)) ++ joined (last_run (lines_of first.gap)) ≡ first.gap = run_split (lines_of first.gap) ∙ joined_lines first.gap in
-    let kept : length (kept_gap rs end) ≡ length (joined (before_run (lines_of first.gap))) = ap (λ (xs : List Row). length (kept_gap xs end)) e in
-    omega (arith, kept, length-append (joined (before_run (lines_of first.gap))) (joined (last_run (lines_of first.gap))), ap length parts, length-append first.gap (behind_gap first []))
+    let parts : joined (before_run (text_lines first.gap)) ++ joined (last_run (text_lines first.gap)) ≡ first.gap = run_split (text_lines first.gap) ∙ joined_lines first.gap in
+    let kept : length (kept_gap rs end) ≡ length (joined (before_run (text_lines first.gap))) = ap (λ (xs : List Row). length (kept_gap xs end)) e in
+    omega (arith, kept, length-append (joined (before_run (text_lines first.gap))) (joined (last_run (text_lines first.gap))), ap length parts, length-append first.gap (behind_gap first []))
 
 module _ (doc : ℕ) (steps : List Step) (c : Cut) (x : Removal) (old : old_text (rows_removed x) ≡ cut_text c) (out : IsTakenOut c doc steps (x.before ++ (mended x.seam x.gap ++ x.behind))) (a : AreRowsTaken c doc x out.old out.new) where
   -- the rows that go, with the gap behind them

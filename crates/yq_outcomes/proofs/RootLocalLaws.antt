@@ -25,7 +25,7 @@ use Rattle.std.specs.List.{slice_get}
 
 -- ---- the first row
 
-lone_first : (gap : List ℕ) (column : ℕ) (node : inline.Node) (last : List ℕ) → InFirst (gap ++ replicate column 32) (rows_items (lone_row gap column node last ∷ []) [])
+lone_first : (gap : List ℕ) (column : ℕ) (node : inline.FlowNode) (last : List ℕ) → InFirst (gap ++ replicate column 32) (rows_items (lone_row gap column node last ∷ []) [])
 lone_first gap column node last =
     omega (
       arith,

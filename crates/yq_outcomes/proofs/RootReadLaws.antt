@@ -14,7 +14,7 @@ use Rattle.yq_cut.specs.Rows.{Row, rows_text, Part, Cut, cut_text}
 use Rattle.yq_cut.specs.SpliceFits.{is_after}
 use Rattle.yq_cut.specs.Splices.{first_gap, marker_before}
 use Rattle.yq_documents.specs.Documents.{Document, document_parts, lead_of}
-use Rattle.yq_documents.specs.TreeEdits.{anchor_of, headed, lead_by, led, replaced}
+use Rattle.yq_documents.specs.TreeEdits.{anchor_of, headed, lead_by, led, replaced_node}
 use Rattle.yq_row_places.specs.PlacedRows.{PlacedPart}
 use Rattle.yq_documents.specs.Reading as reading
 use Rattle.yq_documents.specs.Reading.{root_of, read_at}
@@ -102,7 +102,7 @@ module _ (n : ℕ) (c : Cut) (d : PlacedPart) (gap last back : List ℕ) (h : Ta
   some_rows e = absurd (false≢true (sym (ap no_rows (append-nil rs) ∙ are.some) ∙ e))
 
   module _ (is : IsNewValue v 0) (spared : AreSpared (inner_names (root_of d.part)) [] (names_of (root_of d.part))) (readable : IsReadable (cut_text (put_document n q c))) where
-    changed : IsChanged c (put_document n q c) n (lead_of q) (replaced new)
+    changed : IsChanged c (put_document n q c) n (lead_of q) (replaced_node new)
     changed =
         root_rows_replaced (cut_text c) c n p new rs back are.level are.lines h.old takes
         (record {
@@ -115,7 +115,7 @@ module _ (n : ℕ) (c : Cut) (d : PlacedPart) (gap last back : List ℕ) (h : Ta
     root_is : root_of q ≡ new
     root_is =
         ap (λ (x : Document). x.root)
-        (nth_is n p q (part_changed (lead_of q) (replaced new)) (document_parts c) h.old.there (sym (ap (map reading.document_of) (document_put c n p q h.old.there some_rows)) ∙ changed.documents_are))
+        (nth_is n p q (part_changed (lead_of q) (replaced_node new)) (document_parts c) h.old.there (sym (ap (map reading.part_document) (document_put c n p q h.old.there some_rows)) ∙ changed.documents_are))
         ∙ (ap (λ a. anchored a new) (block_unnamed p h.block) ∙ anchored_none new)
 
     lead_goes : LeadGoes p q
@@ -126,13 +126,13 @@ module _ (n : ℕ) (c : Cut) (d : PlacedPart) (gap last back : List ℕ) (h : Ta
 
     pub root_reads : ReadsAfter (replace n [] v) c (cut_text (put_document n q c))
     root_reads =
-        document_done (replace n [] v) c p q (lead_of q) (replaced new)
+        document_done (replace n [] v) c p q (lead_of q) (replaced_node new)
         (record {
           read = h.old.read;
           there = h.old.there;
           rows = some_rows;
           changed = changed;
-          root = ap (λ b. replaced (led b lead [] v) (root_of p)) (sym h.block);
+          root = ap (λ b. replaced_node (led b lead [] v) (root_of p)) (sym h.block);
           lead_goes = lead_goes;
           block = λ keeps. absurd keeps;
           equal_room = λ sets. absurd sets;

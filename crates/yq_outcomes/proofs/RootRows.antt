@@ -15,11 +15,11 @@ use Rattle.yq_nodes.proofs.WrittenLaws.{node_then}
 use Rattle.yq_lines.specs.LineAnchors.{HaveOneAnchorEach}
 use Rattle.yq_lines.specs.Comments.{head_comment, line_comment}
 use Rattle.yq_lines.specs.Outline as outline
-use Rattle.yq_lines.specs.Outline.{Line, level, rank, Mark, Outline, end, row, flatten, IsEven, Stands, value}
+use Rattle.yq_lines.specs.Outline.{Line, level, rank, LineMark, Outline, end, row, flatten, IsEven, Stands, value}
 use Rattle.yq_lines.proofs.ByRules.{rules_give}
 use Rattle.yq_lines.proofs.NodeLaws.{anchored_none}
 use Rattle.yq_cut.specs.Gap.{IsGap}
-use Rattle.yq_cut.specs.Grammar.{is_entry, is_plain, IsTail, IsRow, unlimited, AreRows, no_rows, ends_part}
+use Rattle.yq_cut.specs.Grammar.{is_entry, is_plain_content, IsTail, IsRow, unlimited, AreRows, no_rows, ends_part}
 use Rattle.yq_cut.specs.Rows as rows
 use Rattle.yq_cut.specs.Rows.{Bare, Inline, Row, behind_gap, rows_text}
 use Rattle.yq_cut.specs.Splices.{with_first_gap, with_row_gap, first_gap}
@@ -27,7 +27,7 @@ use Rattle.yq_cut.proofs.PlainEnds.{tail_ends, gap_line}
 use Rattle.yq_cut.proofs.seams.FrontSeams.{behind_row_some}
 use Rattle.yq_cut.proofs.seams.SeamLaws.{part_line}
 use Rattle.yq_documents.specs.Documents.{HaveFitKeys, HasShortRoot, is_long_plain}
-use Rattle.yq_lines.specs.Lines.{mark_line, lines_from, lines_of}
+use Rattle.yq_lines.specs.Lines.{mark_line, lines_from, lines_of_rows}
 use Rattle.yq_documents.specs.TreeEdits.{headed}
 use Rattle.yq_block.specs.declared.layout.Layout.{Layout}
 use Rattle.yq_block.specs.BlockRows.{inline_of, node_rows}
@@ -47,11 +47,11 @@ use Rattle.yq_change.proofs.NodeLineLaws.{low_level}
 use Rattle.yq_edits.proofs.AppendEntryLaws.{rows_gap}
 
 -- a row with an inline node alone
-abbrev pub lone_row : (gap : List ℕ) → ℕ → inline.Node → (end : List ℕ) → Row
+abbrev pub lone_row : (gap : List ℕ) → ℕ → inline.FlowNode → (end : List ℕ) → Row
 lone_row gap column node last = record { gap = gap; column = column; dashes = []; mark = Bare; content = Inline [] node last }
 
 -- a value at a column behind a gap: on a row alone, or in the rows of block style
-abbrev pub rows_or : Option inline.Node → (gap : List ℕ) → ℕ → List ℕ → List Row → List Row
+abbrev pub rows_or : Option inline.FlowNode → (gap : List ℕ) → ℕ → List ℕ → List Row → List Row
 rows_or None gap column last rs = with_first_gap gap rs
 rows_or (Some node) gap column last rs = lone_row gap column node last ∷ []
 
@@ -80,7 +80,7 @@ pub record AreRootRows (v : Node) (gap : List ℕ) (text : List ℕ) (rs : List 
   pub lines : Outline
   pub even : IsEven level lines
   pub value_is : value lines ≡ within (headed (head_comment gap)) v
-  pub lines_are : lines_of rs ≡ flatten lines
+  pub lines_are : lines_of_rows rs ≡ flatten lines
   pub anchors : HaveOneAnchorEach (flatten lines)
 
 module _ (v : Node) (l : Layout) (gap : List ℕ) (column : ℕ) (last back rest : List ℕ) (step : 1 ≤ l.mapping) (tree_is : IsValueTree v) (room : HasRoom gap last back rest) where
@@ -96,8 +96,8 @@ module _ (v : Node) (l : Layout) (gap : List ℕ) (column : ℕ) (last back rest
     laid : AreLaid column old (back ++ rest)
     laid = value_laid v l column last (back ++ rest) (record { rows = record { filled = filled; value = tree_is }; near = near; ends = record { tail = room.tail; plain = plain (suc column) } })
 
-    stands : Stands (lines_of old) v (level_at column v)
-    stands = rules_give (level_at column v) (lines_of old) v (node_stands v l column last step filled tree_is room.uncommented)
+    stands : Stands (lines_of_rows old) v (level_at column v)
+    stands = rules_give (level_at column v) (lines_of_rows old) v (node_stands v l column last step filled tree_is room.uncommented)
 
     abbrev above : List (List ℕ)
     above = head_comment gap
@@ -107,7 +107,7 @@ module _ (v : Node) (l : Layout) (gap : List ℕ) (column : ℕ) (last back rest
     first_led c [] = []
     first_led c (x ∷ xs) = record x { head_comment = c } ∷ xs
 
-    led_row : (c d : List (List ℕ)) (k : ℕ) (ns : List ℕ) (m : rows.Mark) (x : rows.Content) (more : List Line) → lines_from c k ns m x ++ more ≡ first_led c (lines_from d k ns m x ++ more)
+    led_row : (c d : List (List ℕ)) (k : ℕ) (ns : List ℕ) (m : rows.RowMark) (x : rows.Content) (more : List Line) → lines_from c k ns m x ++ more ≡ first_led c (lines_from d k ns m x ++ more)
     led_row c d k [] m x more = refl
     led_row c d k (n ∷ ns) m x more = refl
 
@@ -115,21 +115,21 @@ module _ (v : Node) (l : Layout) (gap : List ℕ) (column : ℕ) (last back rest
     led_outline c end = refl
     led_outline c (row x u a) = refl
 
-    entries : (o : Outline) → flatten o ≡ lines_of old → IsEven (level_at column v) o → HasEntries o
+    entries : (o : Outline) → flatten o ≡ lines_of_rows old → IsEven (level_at column v) o → HasEntries o
     unfolding level
     entries end is even = absurd (none old laid (sym is))
       where
-        none : (rs : List Row) → AreLaid column rs (back ++ rest) → lines_of rs ≡ [] → ⊥
+        none : (rs : List Row) → AreLaid column rs (back ++ rest) → lines_of_rows rs ≡ [] → ⊥
         none [] h e = h
         none (r ∷ rs) h e = go r.dashes e
           where
-            go : (ns : List ℕ) → lines_from (head_comment r.gap) r.column ns r.mark r.content ++ lines_of rs ≡ [] → ⊥
+            go : (ns : List ℕ) → lines_from (head_comment r.gap) r.column ns r.mark r.content ++ lines_of_rows rs ≡ [] → ⊥
             go [] e = cc
             go (n ∷ ns) e = cc
     entries (row x u a) is even = go x.mark refl
       where
-        go : (m : Mark) → x.mark ≡ m → HasEntries (row (record x { mark = m }) u a)
-        go outline.Bare e = absurd (not_bare v filled (sym even.0 ∙ ap (λ (k : Mark). 3 * x.column + rank k) e))
+        go : (m : LineMark) → x.mark ≡ m → HasEntries (row (record x { mark = m }) u a)
+        go outline.Bare e = absurd (not_bare v filled (sym even.0 ∙ ap (λ (k : LineMark). 3 * x.column + rank k) e))
           where
             not_bare : (v : Node) → IsFilled v → level_at column v ≡ 3 * x.column + 1 → ⊥
             not_bare (tree.alias n) f e = f
@@ -139,7 +139,7 @@ module _ (v : Node) (l : Layout) (gap : List ℕ) (column : ℕ) (last back rest
         go (outline.Key k) e = tt
         go outline.Dash e = tt
 
-    laid_first : (rs : List Row) → AreLaid column rs (back ++ rest) → AreRows unlimited rs [] (back ++ rest) → (o : Outline) → flatten o ≡ lines_of rs → IsEven (level_at column v) o → HasEntries o → value o ≡ v → RowsAreFit rs →
+    laid_first : (rs : List Row) → AreLaid column rs (back ++ rest) → AreRows unlimited rs [] (back ++ rest) → (o : Outline) → flatten o ≡ lines_of_rows rs → IsEven (level_at column v) o → HasEntries o → value o ≡ v → RowsAreFit rs →
         rows_text rs (back ++ rest) ≡ replicate column 32 ++ (block_node l column v ++ (last ++ (back ++ rest))) →
         AreRootRows v gap (replicate column 32 ++ (block_node l column v ++ (last ++ (back ++ rest)))) (with_first_gap gap rs) back rest
     laid_first [] h are o is even block same fit text = absurd h
@@ -171,11 +171,11 @@ module _ (v : Node) (l : Layout) (gap : List ℕ) (column : ℕ) (last back rest
           lines = with_lead above o;
           even = w.0;
           value_is = w.1 ∙ ap (within (headed above)) same;
-          lines_are = led_row above (head_comment r.gap) r.column r.dashes r.mark r.content (lines_of rs) ∙ (ap (first_led above) (sym is) ∙ sym (led_outline above o));
+          lines_are = led_row above (head_comment r.gap) r.column r.dashes r.mark r.content (lines_of_rows rs) ∙ (ap (first_led above) (sym is) ∙ sym (led_outline above o));
           anchors = led_anchors o (subst HaveOneAnchorEach (sym is) (anchors_fit (r ∷ rs) fit));
         }
       where
-        entry_short : (mark : rows.Mark) (c : rows.Content) → is_entry mark ≡ true → is_long_plain mark c ≡ false
+        entry_short : (mark : rows.RowMark) (c : rows.Content) → is_entry mark ≡ true → is_long_plain mark c ≡ false
         entry_short rows.Bare c h = absurd (false≢true h)
         entry_short rows.Dash c h = refl
         entry_short (rows.Key k colon) c h = refl
@@ -191,7 +191,7 @@ module _ (v : Node) (l : Layout) (gap : List ℕ) (column : ℕ) (last back rest
 
   -- ---- on a row alone
 
-  module _ (node : inline.Node) (is : IsValueNode v node) (flat : (c : List (List ℕ)) → within (headed c) v ≡ v) where
+  module _ (node : inline.FlowNode) (is : IsValueNode v node) (flat : (c : List (List ℕ)) → within (headed c) v ≡ v) where
     abbrev lone : Row
     lone = lone_row gap column node last
 
@@ -230,8 +230,8 @@ module _ (v : Node) (l : Layout) (gap : List ℕ) (column : ℕ) (last back rest
     }
       where
         line_short : is_long_plain Bare (Inline [] node last) ≡ false
-        line_short = go (is_plain node) refl
+        line_short = go (is_plain_content node) refl
           where
-            go : (b : Bool) → is_plain node ≡ b → (b && holds_break (node_text node [])) ≡ false
+            go : (b : Bool) → is_plain_content node ≡ b → (b && holds_break (node_text node [])) ≡ false
             go true e = is.line e
             go false e = refl

@@ -6,7 +6,7 @@ use Rattle.yq_flow_scalars.specs.declared.kind.Kind.{Kind}
 use Rattle.yq_flow_scalars.specs.Tree as tree
 use Rattle.yq_flow_scalars.specs.Tree.{Node}
 use Rattle.yq_flow_scalars.specs.Writable.{can_write}
-use Rattle.yq_flow_scalars.specs.Written.{written}
+use Rattle.yq_flow_scalars.specs.Written.{written_scalar}
 use Rattle.yq_nodes.specs.Nodes as inline
 use Rattle.yq_flow.specs.Valued.{IsValueTree}
 use Rattle.yq_nodes.specs.Written.{scalar_text, flow_of, flow_items}
@@ -23,7 +23,7 @@ scalar_node : (a : Option (List ℕ)) (kind : Kind) (t : List ℕ) → IsValueTr
 unfolding scalar_text
 scalar_node a kind t h = go (can_write (record { kind = kind; text = t }) styles.Plain places.Block) refl
   where
-    go : (b : Bool) → can_write (record { kind = kind; text = t }) styles.Plain places.Block ≡ b → IsValueNode (tree.scalar a kind t) (inline.scalar (written (cond b styles.Plain styles.Double) t))
+    go : (b : Bool) → can_write (record { kind = kind; text = t }) styles.Plain places.Block ≡ b → IsValueNode (tree.scalar a kind t) (inline.scalar (written_scalar (cond b styles.Plain styles.Double) t))
     go true e = (scalar_is a kind t styles.Plain h tt e).0
     go false e = (scalar_is a kind t styles.Double h tt (double_when (record { kind = kind; text = t }) places.Block e)).0
 

@@ -16,7 +16,7 @@ use Rattle.yq_edits.specs.CommentEdits.{comment_put, line_comment_put}
 use Rattle.yq_edits.specs.FlowParts.{flow_put}
 use Rattle.yq_edits.specs.Layouts.{layout_of}
 use Rattle.yq_edits.specs.ReplaceEdits.{has_text, held_put, value_put, value_put_at}
-use Rattle.yq_edits.specs.Replacing.{is_kept}
+use Rattle.yq_edits.specs.Replacing.{keeps_scalar}
 use Rattle.yq_edits.specs.RowChanges.{CommentEdits, HoldsInline, InlineEdits, RowEdits, inline_put}
 use Rattle.yq_edits.specs.WrittenValues.{collection_at, inline, value_text}
 use Rattle.yq_outcomes.proofs.OnePutLaws.{comment_puts, inline_puts}
@@ -39,7 +39,7 @@ inline_edits n s ss v c e at h plain =
     let put : value_put_at n (s ∷ ss) v c ≡ Some (inline_put v (held e)) =
     ap (option_map (value_put (has_text (node_in n (s ∷ ss) c)) (layout_of n c) v)) stands
     ∙ ap (λ (b : Bool). Some (held_put (break_text (layout_of n c).br) (held e) (cond b (collection_at (layout_of n c) (held e).mark v) (inline (value_text InBlock (held e).head v))))) plain in
-    ap (λ (o : Option (List Segment)). cond (is_kept (node_in n (s ∷ ss) c) v) (Some (keep (cut_text c) ∷ [])) (option_or o (option_map (flow_put (cut_text c) v) (flow_standing n c (last_step (s ∷ ss)))))) put
+    ap (λ (o : Option (List Segment)). cond (keeps_scalar (node_in n (s ∷ ss) c) v) (Some (keep (cut_text c) ∷ [])) (option_or o (option_map (flow_put (cut_text c) v) (flow_standing n c (last_step (s ∷ ss)))))) put
 
 comment_edits : CommentEdits
 comment_edits n steps text c e at last =

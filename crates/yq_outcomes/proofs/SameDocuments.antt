@@ -24,7 +24,7 @@ pub same_reads : (op : Operation) (b c : Cut) (new : List ℕ) → read_at (cut_
 same_reads op b c new other read same h = record {
   cut = h.cut;
   read = h.read;
-  documents_are = h.documents_are ∙ (λ i. after_op (room_is i) op (map reading.document_of (same i)));
+  documents_are = h.documents_are ∙ (λ i. after_op (room_is i) op (map reading.part_document (same i)));
   room = subst (λ (r : ℕ → Room). LeavesRooms op r (room_of new) (documents_of new)) room_is h.room;
 }
   where

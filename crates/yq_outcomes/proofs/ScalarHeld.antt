@@ -5,7 +5,7 @@ use Rattle.yq_block_scalars.specs.Block.{BlockText, block_text}
 use Rattle.yq_flow_scalars.specs.Lines.{is_blank, is_hash}
 use Rattle.yq_flow_scalars.specs.Paths.{Step}
 use Rattle.yq_flow_scalars.specs.Text.{front, is_empty, is_line, is_white, past_white, separates}
-use Rattle.yq_lines.specs.Places.{content}
+use Rattle.yq_lines.specs.Places.{content_under}
 use Rattle.yq_cut.specs.Exchange.{row_front, with_content}
 use Rattle.yq_cut.specs.Gap.{IsBreak}
 use Rattle.yq_cut.specs.Grammar.{IsContent, IsTail}
@@ -14,7 +14,7 @@ use Rattle.yq_cut.specs.View.{slices}
 use Rattle.yq_cut.proofs.LineEnds.{comment_none, text_line, white_none}
 use Rattle.yq_lines.specs.Lines.{block_anchor, content_anchor}
 use Rattle.yq_documents.specs.TreeEdits.{anchor_of}
-use Rattle.yq_row_places.specs.CommentPlaces.{LineEnd, end_before}
+use Rattle.yq_row_places.specs.CommentPlaces.{LineEnd, end_in_line}
 use Rattle.yq_row_places.specs.PrintedLines.{last_break, less_break}
 use Rattle.yq_row_places.specs.RowPieces.{anchor_before, space_before}
 use Rattle.yq_row_places.specs.Standings.{RowsOfEntry, before_entry, held}
@@ -92,7 +92,7 @@ module _ (n : ℕ) (s : Step) (ss : List Step) (c : Cut) (e : RowsOfEntry) (ther
   pub apart_is : separates (space ++ anchor_text anchor (block_text block (rest n s ss c (mark_node n s ss c e there last)))) ≡ true
   apart_is = subst (λ x. separates (content_text x z) ≡ true) content_is (apart_there n s ss c e there last knows headed)
 
-  pub anchor_is : anchor_of (content there.found.line there.found.under) ≡ block_anchor anchor
+  pub anchor_is : anchor_of (content_under there.found.line there.found.under) ≡ block_anchor anchor
   anchor_is = knows.named ∙ ap content_anchor content_is
 
   -- the text up to the header
@@ -106,12 +106,12 @@ module _ (n : ℕ) (s : Step) (ss : List Step) (c : Cut) (e : RowsOfEntry) (ther
   pub tail_is : (slices e.row).tail ≡ block.tail
   tail_is = ap (λ (r : Row). (slices r).tail) row_is
 
-  break_there : IsLfOrCrLf (end_before [] (slices e.row).tail).behind
+  break_there : IsLfOrCrLf (end_in_line [] (slices e.row).tail).behind
   break_there =
       let line : is_line block.tail ≡ true = (and_parts (is_line block.tail) (is_blank block.tail || (front is_white block.tail && is_hash (past_white block.tail))) valid.2.tail).0 in
       subst (λ (x : LineEnd). IsLfOrCrLf x.behind) (sym (mark_end n s ss c e there last)) (has_break (slices e.row).tail _ (ap is_line tail_is ∙ line) (mark_tail n s ss c e there last))
 
-  line_is : line_break (held e) ≡ (end_before [] (slices e.row).tail).behind
+  line_is : line_break (held e) ≡ (end_in_line [] (slices e.row).tail).behind
   line_is = search (rules, break_there)
 
   pub line_piece : IsPiece (line_break (held e))
@@ -119,7 +119,7 @@ module _ (n : ℕ) (s : Step) (ss : List Step) (c : Cut) (e : RowsOfEntry) (ther
 
   pub header_line : (u : List ℕ) → (held e).white ++ ((held e).comment ++ (line_break (held e) ++ u)) ≡ block.tail ++ u
   header_line u =
-      let t : LineEnd = end_before [] (slices e.row).tail in
+      let t : LineEnd = end_in_line [] (slices e.row).tail in
       ap (λ q. t.white ++ (t.comment ++ (q ++ u))) line_is
       ∙ (ap (λ q. t.white ++ q) (sym (append_assoc t.comment t.behind u)) ∙ (sym (append_assoc t.white (t.comment ++ t.behind) u) ∙ ap (λ q. q ++ u) (sym (end_parts [] (slices e.row).tail) ∙ tail_is)))
 
@@ -128,4 +128,4 @@ module _ (n : ℕ) (s : Step) (ss : List Step) (c : Cut) (e : RowsOfEntry) (ther
   raw_old =
       let h = held e in
       (λ i. h.before ++ (h.space ++ (h.head ++ (h.white ++ (h.comment ++ (line_is i ++ (h.lines ++ (raw_last h ++ append-nil h.behind i))))))))
-      ∙ (ap (λ q. h.before ++ (h.space ++ (h.head ++ (h.white ++ (h.comment ++ q))))) (lines_old (end_before [] (slices e.row).tail).behind below h.behind break_there) ∙ sym knows.spells)
+      ∙ (ap (λ q. h.before ++ (h.space ++ (h.head ++ (h.white ++ (h.comment ++ q))))) (lines_old (end_in_line [] (slices e.row).tail).behind below h.behind break_there) ∙ sym knows.spells)

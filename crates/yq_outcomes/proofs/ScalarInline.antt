@@ -9,7 +9,7 @@ use Rattle.yq_flow_scalars.specs.Plain.{ends_plain}
 use Rattle.yq_flow_scalars.specs.Tree.{Node}
 use Rattle.yq_block_scalars.specs.declared.block_types.Break.{Break}
 use Rattle.yq_nodes.specs.Nodes as inline
-use Rattle.yq_nodes.specs.Nodes.{node_text, IsNode}
+use Rattle.yq_nodes.specs.Nodes.{node_text, IsFlowNode}
 use Rattle.yq_nodes.specs.Trees.{node_anchor}
 use Rattle.yq_lines.specs.Comments.{line_comment}
 use Rattle.yq_cut.specs.Exchange.{row_front, with_content}
@@ -31,7 +31,7 @@ use Rattle.yq_change.proofs.ValueContentLaws.{more_some}
 use Rattle.yq_meaning.specs.Operations.{replace}
 use Rattle.yq_script.specs.Script.{new_text}
 use Rattle.yq_edits.specs.EditLaws.{CarriedOut}
-use Rattle.yq_edits.specs.ReplaceEdits.{apart, held_put}
+use Rattle.yq_edits.specs.ReplaceEdits.{spaced_text, held_put}
 use Rattle.yq_edits.specs.WrittenValues as written
 use Rattle.yq_edits.proofs.FitLaws.{FitsReplace}
 use Rattle.yq_edits.proofs.ValueTexts.{IsWrittenFor}
@@ -48,7 +48,7 @@ use Rattle.yq_outcomes.proofs.StandingNodes.{mark_node}
 -- ---- an inline node behind the anchor of a block scalar
 
 -- a node that has that anchor
-abbrev carrier : Option Anchor → inline.Node
+abbrev carrier : Option Anchor → inline.FlowNode
 carrier None = inline.coll 93 [] inline.none
 carrier (Some a) = inline.anchored a.name a.gap (inline.coll 93 [] inline.none)
 
@@ -56,12 +56,12 @@ carrier_anchor : (a : Option Anchor) → node_anchor (carrier a) ≡ block_ancho
 carrier_anchor None = refl
 carrier_anchor (Some a) = refl
 
-named_node : (anchor : Option Anchor) (v : Node) (node : inline.Node) (spaces : Option ℕ) (d : ℕ) (old u : List ℕ) → IsAnchor anchor old → IsValueNode v node → IsNode false spaces d node u → IsNode false spaces d (recore node (carrier anchor)) u
+named_node : (anchor : Option Anchor) (v : Node) (node : inline.FlowNode) (spaces : Option ℕ) (d : ℕ) (old u : List ℕ) → IsAnchor anchor old → IsValueNode v node → IsFlowNode false spaces d node u → IsFlowNode false spaces d (recore node (carrier anchor)) u
 named_node None v node spaces d old u h is stands = stands
 named_node (Some a) v node spaces d old u h is stands =
     anchored_node spaces d node u is.unnamed (more_some node is.more) is.takes stands a.name a.gap (inline.coll 93 [] inline.none) (91 ∷ []) refl (anchor_other (Some a) old (91 ∷ []) h).0 (inl ((none_in_white a.gap (91 ∷ []) h.1, refl), refl)) (ap not h.2)
 
-named_text : (anchor : Option Anchor) (node : inline.Node) (u : List ℕ) → node_text (recore node (carrier anchor)) u ≡ anchor_text anchor (node_text node u)
+named_text : (anchor : Option Anchor) (node : inline.FlowNode) (u : List ℕ) → node_text (recore node (carrier anchor)) u ≡ anchor_text anchor (node_text node u)
 unfolding node_text
 named_text None node u = refl
 named_text (Some a) node u = refl
@@ -82,7 +82,7 @@ module _ (n : ℕ) (s : Step) (ss : List Step) (c : Cut) (e : RowsOfEntry) (ther
   abbrev tail : List ℕ
   tail = w.white ++ (w.comment ++ w.last)
 
-  abbrev node : inline.Node
+  abbrev node : inline.FlowNode
   node = recore for.node (carrier anchor)
 
   abbrev new : Content
@@ -103,14 +103,14 @@ module _ (n : ℕ) (s : Step) (ss : List Step) (c : Cut) (e : RowsOfEntry) (ther
           },
           k.ended,
         );
-        apart = space_apart space (anchor_text anchor (block_text block z)) (node_text node (tail ++ z)) old.0 (apart_is n s ss c e there last k space anchor block content_is) (block_no_space anchor block z);
+        spaced_text = space_apart space (anchor_text anchor (block_text block z)) (node_text node (tail ++ z)) old.0 (apart_is n s ss c e there last k space anchor block content_is) (block_no_space anchor block z);
         head = core_head for.node (carrier anchor) ∙ for.is.head;
         comment = k.ended_comment ∙ ap line_comment (tail_is e.row.content);
         anchor = core_anchor for.node (carrier anchor) for.is.unnamed ∙ (carrier_anchor anchor ∙ sym (anchor_is n s ss c e there last k space anchor block content_is));
         keys = core_keys for.node (carrier anchor) for.is.keys;
       }
 
-  spelled : (u : List ℕ) → e.start ++ (rows_text e.front [] ++ rows_text (with_content new e.row ∷ []) u) ≡ w.before ++ (w.space ++ apart w.head (node_text for.node (tail ++ u)))
+  spelled : (u : List ℕ) → e.start ++ (rows_text e.front [] ++ rows_text (with_content new e.row ∷ []) u) ≡ w.before ++ (w.space ++ spaced_text w.head (node_text for.node (tail ++ u)))
   spelled u =
       let b : List ℕ = rows_text e.front [] in
       ap (λ r. e.start ++ (b ++ r)) (row_front-append (with_content new e.row) u)

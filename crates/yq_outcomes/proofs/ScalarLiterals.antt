@@ -10,7 +10,7 @@ use Rattle.yq_text.specs.Limit.{text_limit}
 use Rattle.yq_flow_scalars.specs.Paths.{Step}
 use Rattle.yq_flow_scalars.specs.Piece.{deeper}
 use Rattle.yq_flow_scalars.specs.Scalar.{ScalarText}
-use Rattle.yq_flow_scalars.specs.Text.{joined, lines_of}
+use Rattle.yq_flow_scalars.specs.Text.{joined, text_lines}
 use Rattle.yq_flow_scalars.specs.Tree as tree
 use Rattle.yq_flow_scalars.specs.Tree.{Node}
 use Rattle.yq_flow_scalars.specs.Writable.{can_write}
@@ -96,10 +96,10 @@ module _ (n : ℕ) (s : Step) (ss : List Step) (c : Cut) (e : RowsOfEntry) (ther
     abbrev new : Content
     new = Block space anchor (written_block t block.indent.columns (break_text br) block.tail)
 
-    seam : ends_block false (record { columns = m; known = true }) (lines_of z) ≡ true
+    seam : ends_block false (record { columns = m; known = true }) (text_lines z) ≡ true
     seam =
         let old = (valid n s ss c e there last k space anchor block content_is).2.behind in
-        subst (λ b. ends_block false (record { columns = m; known = b }) (lines_of z) ≡ true) known (loose (keeps block.chomping) block.indent (lines_of z) old)
+        subst (λ b. ends_block false (record { columns = m; known = b }) (text_lines z) ≡ true) known (loose (keeps block.chomping) block.indent (text_lines z) old)
 
     stands : IsBlock (deeper (parent_indent e.row)) new_block z
     stands =
@@ -124,8 +124,8 @@ module _ (n : ℕ) (s : Step) (ss : List Step) (c : Cut) (e : RowsOfEntry) (ther
     text : e.start ++ (rows_text e.front [] ++ rows_text (with_content new e.row ∷ []) z) ≡ new_text us
     text =
         let b : List ℕ = rows_text e.front [] in
-        let head : List ℕ = header_text (chomping_of (lines_of t)) in
-        let raw : List ℕ = joined (literal.written m (break_text br) (lines_of t)) in
+        let head : List ℕ = header_text (chomping_of (text_lines t)) in
+        let raw : List ℕ = joined (literal.raw_written m (break_text br) (text_lines t)) in
         let own : List ℕ = space ++ anchor_text anchor (block_text new_block z) in
         ap (λ r. e.start ++ (b ++ r)) (row_front-append (with_content new e.row) z)
         ∙ (regroup e.start b (row_front e.row) own
@@ -154,6 +154,6 @@ module _ (n : ℕ) (s : Step) (ss : List Step) (c : Cut) (e : RowsOfEntry) (ther
     raw_literal size =
         put_carried n s ss c e there last k v f us (with_content new e.row ∷ []) spells [] (append-nil w.behind) refl refl (raw_old n s ss c e there last k space anchor block content_is) (
           k.pieces.before,
-          (k.pieces.space, (header_piece (chomping_of (lines_of t)), (k.white, (k.comment, (line_piece n s ss c e there last k space anchor block content_is, (nothing, (raw_piece m br x u can, (k.pieces.behind, tt)))))))),
+          (k.pieces.space, (header_piece (chomping_of (text_lines t)), (k.white, (k.comment, (line_piece n s ss c e there last k space anchor block content_is, (nothing, (raw_piece m br x u can, (k.pieces.behind, tt)))))))),
         )
         size

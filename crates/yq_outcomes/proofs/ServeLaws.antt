@@ -1,6 +1,6 @@
 -- Operations that may follow one another are carried out on a text that reads.
 use Rattle.std.proofs.Common.{◌≡◌, inl, inr, ℕ, List, [], ◌∷◌, refl, subst}
-use Rattle.yq_documents.specs.Documents.{Document, Reads}
+use Rattle.yq_documents.specs.Documents.{Document, ReadsDocuments}
 use Rattle.yq_row_places.proofs.ReadLaws.{one_reading}
 use Rattle.yq_meaning.specs.After.{after_op, all_after}
 use Rattle.yq_meaning.specs.Operations.{Operation}
@@ -10,7 +10,7 @@ use Rattle.yq_meaning.specs.declared.refusal.Refusal.TheVariants.{TooLarge}
 use Rattle.yq_meaning.proofs.updates.AlikeRooms.{rest_follow, rest_after}
 use Rattle.yq_script.specs.Splice.{Splice}
 use Rattle.yq_outcomes.specs.Carried.{carried, carry_all}
-use Rattle.yq_outcomes.specs.Edit.{Edit, unreadable, refuses, gives, behind, and_then}
+use Rattle.yq_outcomes.specs.Edit.{Edit, unreadable, refuses, gives, edit_behind, edit_then}
 use Rattle.yq_outcomes.specs.Theorems.{IsFitting, IsApplied, IsLarge, InOrder, StopsInOrder}
 use Rattle.yq_outcomes.specs.Valid.{Serves}
 use Rattle.yq_outcomes.proofs.ApplyLaws.{OperationComes, operation_comes}
@@ -19,7 +19,7 @@ use Rattle.yq_outcomes.proofs.ApplyLaws.{OperationComes, operation_comes}
 abbrev pub OperationsCome : List Document → List Operation → List ℕ → Edit → Type 0
 OperationsCome after ops t unreadable = ⊥
 OperationsCome after ops t (refuses why) = (why ≡ TooLarge) × StopsInOrder IsApplied IsLarge ops t
-OperationsCome after ops t (gives new cs) = InOrder IsApplied ops t new cs × Reads new after
+OperationsCome after ops t (gives new cs) = InOrder IsApplied ops t new cs × ReadsDocuments new after
 
 module _ (docs : List Document) (op : Operation) (ops : List Operation) (t : List ℕ) (s : Serves docs (op ∷ ops) t) where
   abbrev next : List Document
@@ -40,7 +40,7 @@ module _ (docs : List Document) (op : Operation) (ops : List Operation) (t : Lis
 
     pub others_serve : Serves next ops m
     others_serve = record {
-      read = subst (λ (ds : List Document). Reads m (after_op (room_of t) op ds)) same a.reads;
+      read = subst (λ (ds : List Document). ReadsDocuments m (after_op (room_of t) op ds)) same a.reads;
       operands = s.operands.1;
       follow = rest_follow op ops (room_of t) (room_of m) docs left s.follow;
     }
@@ -48,13 +48,13 @@ module _ (docs : List Document) (op : Operation) (ops : List Operation) (t : Lis
     others_come : all_after (room_of m) ops next ≡ last
     others_come = rest_after op ops (room_of t) (room_of m) docs left s.follow
 
-    comes_behind : (e : Edit) → OperationsCome last ops m e → OperationsCome last (op ∷ ops) t (behind cs e)
+    comes_behind : (e : Edit) → OperationsCome last ops m e → OperationsCome last (op ∷ ops) t (edit_behind cs e)
     comes_behind unreadable h = h
     comes_behind (refuses why) h = (h.0, inr (m, cs, a, h.1))
     comes_behind (gives new es) h = ((m, cs, es, a, h.0, refl), h.1)
 
   comes_more : ((m : List ℕ) → Serves next ops m → OperationsCome (all_after (room_of m) ops next) ops m (carry_all ops m)) →
-      (e : Edit) → OperationComes op t e → OperationsCome last (op ∷ ops) t (and_then (carry_all ops) e)
+      (e : Edit) → OperationComes op t e → OperationsCome last (op ∷ ops) t (edit_then (carry_all ops) e)
   comes_more others unreadable h = h
   comes_more others (refuses why) h = (h.0, inl h.1)
   comes_more others (gives m cs) a =

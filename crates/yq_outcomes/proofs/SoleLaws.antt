@@ -5,7 +5,7 @@ use Rattle.std.proofs.lemmas.Option.{none-some, same_Some}
 use Rattle.std.specs.List.{list_any, slice_get}
 use Rattle.yq_flow_scalars.specs.Answers.{◌>>=◌}
 use Rattle.yq_flow_scalars.specs.Keys.{depth}
-use Rattle.yq_flow_scalars.specs.Paths.{Step, change, change_child, child_at, further, is_here, node_at, remove_child, within}
+use Rattle.yq_flow_scalars.specs.Paths.{Step, changed_at, change_child, child_at, further, is_here, node_at, remove_child, within}
 use Rattle.yq_flow_scalars.specs.Shapes.{IsTree}
 use Rattle.yq_flow_scalars.specs.Tree as tree
 use Rattle.yq_flow_scalars.specs.Tree.{Label, Node, Children, none, child, children_of}
@@ -18,7 +18,7 @@ use Rattle.yq_cut.specs.Rows.{Cut, cut_text}
 use Rattle.yq_documents.specs.Documents.{Document}
 use Rattle.yq_documents.specs.Reading.{documents, documents_of, read_at, root_of}
 use Rattle.yq_row_places.specs.RemovalPlaces.{has_others_at, has_several}
-use Rattle.yq_documents.specs.TreeEdits.{change_nth, led, replaced}
+use Rattle.yq_documents.specs.TreeEdits.{change_nth, led, replaced_node}
 use Rattle.yq_change.proofs.AfterLaws.{end_is_change}
 use Rattle.yq_change.proofs.PartLaws.{document_known}
 use Rattle.yq_change.proofs.SoundRootLaws.{depth_at}
@@ -32,7 +32,7 @@ use Rattle.yq_meaning.specs.RoomsKept.{HasSome}
 use Rattle.yq_script.specs.Script.{new_text}
 use Rattle.yq_row_places.specs.NodesAt.{node_in}
 use Rattle.yq_edits.specs.EditLaws.{IsEdit, SoleIsRemoved}
-use Rattle.yq_edits.specs.Edits.{emptied}
+use Rattle.yq_edits.specs.Edits.{empty_collection}
 use Rattle.yq_edits.specs.ReadsAfter.{ReadsAfter}
 use Rattle.yq_edits.proofs.DoneLaws.{read_cut}
 use Rattle.yq_outcomes.proofs.FlowSoundLaws.{above_is, last_is}
@@ -47,8 +47,8 @@ record IsEmptied (o v : Node) : Type 0 where
   short : has_long_key v ≡ false
   flat : depth v ≤ depth o
   led_same : (block : Bool) (lead : List (List ℕ)) (path : List Step) → led block lead path v ≡ v
-  bare : children_of (replaced v o) ≡ none
-  left : (s : Step) → remove_child s (children_of o) ≡ none → replaced v o ≡ within (remove_child s) o
+  bare : children_of (replaced_node v o) ≡ none
+  left : (s : Step) → remove_child s (children_of o) ≡ none → replaced_node v o ≡ within (remove_child s) o
 
 first_none : (a : Option (List ℕ)) → Rattle.yq_lines.specs.Outline.first_anchor a None ≡ a
 first_none None = refl
@@ -64,7 +64,7 @@ led_map true lead [] = refl
 led_map false lead [] = refl
 led_map block lead (s ∷ path) = refl
 
-is_emptied : (o v : Node) → emptied o ≡ Some v → IsEmptied o v
+is_emptied : (o v : Node) → empty_collection o ≡ Some v → IsEmptied o v
 is_emptied (tree.alias name) v e = absurd (none-some _ e)
 is_emptied (tree.scalar a kind text) v e = absurd (none-some _ e)
 is_emptied (tree.list a cs) v e = subst (IsEmptied (tree.list a cs)) (same_Some _ _ e) (record {
@@ -118,12 +118,12 @@ child_alike s f g at (child label m cs) n h e = go (is_here s label) (child_alik
     go true later e = ap (λ x. child label x cs) (h m e)
     go false later e = ap (child label m) (later e)
 
-change_alike : (ss : List Step) (f g : Node → Node) (root n : Node) → node_at ss root ≡ Some n → f n ≡ g n → change ss f root ≡ change ss g root
+change_alike : (ss : List Step) (f g : Node → Node) (root n : Node) → node_at ss root ≡ Some n → f n ≡ g n → changed_at ss f root ≡ changed_at ss g root
 change_alike [] f g root n e h = subst (λ m. f m ≡ g m) (sym (same_Some _ _ e)) h
 change_alike (s ∷ ss) f g (tree.alias name) n e h = refl
 change_alike (s ∷ ss) f g (tree.scalar a kind t) n e h = refl
-change_alike (s ∷ ss) f g (tree.list a cs) n e h = ap (tree.list a) (child_alike s (change ss f) (change ss g) (node_at ss) cs n (λ m at. change_alike ss f g m n at h) e)
-change_alike (s ∷ ss) f g (tree.map a cs) n e h = ap (tree.map a) (child_alike s (change ss f) (change ss g) (node_at ss) cs n (λ m at. change_alike ss f g m n at h) e)
+change_alike (s ∷ ss) f g (tree.list a cs) n e h = ap (tree.list a) (child_alike s (changed_at ss f) (changed_at ss g) (node_at ss) cs n (λ m at. change_alike ss f g m n at h) e)
+change_alike (s ∷ ss) f g (tree.map a cs) n e h = ap (tree.map a) (child_alike s (changed_at ss f) (changed_at ss g) (node_at ss) cs n (λ m at. change_alike ss f g m n at h) e)
 
 nth_alike : (k : ℕ) (f g : Document → Document) (ds : List Document) (d : Document) → slice_get ds k ≡ Some d → f d ≡ g d → change_nth k f ds ≡ change_nth k g ds
 nth_alike k f g [] d e h = refl
@@ -186,15 +186,15 @@ module _ (doc : ℕ) (init : List Step) (s : Step) (v : Node) (c : Cut) (h : Sta
 
   same_root : (block : Bool) (lead : List (List ℕ)) → root_after block lead (replace doc init v) h.d.root ≡ root_after block lead (remove doc (init ++ (s ∷ []))) h.d.root
   same_root block lead =
-      ap (λ (n : Node). change init (replaced n) h.d.root) (h.empty.led_same block lead init)
-      ∙ (change_alike init (replaced v) (within (remove_child s)) h.d.root h.old at_init (h.empty.left s is_sole.gone) ∙ sym (end_is_change remove_child init s h.d.root))
+      ap (λ (n : Node). changed_at init (replaced_node n) h.d.root) (h.empty.led_same block lead init)
+      ∙ (change_alike init (replaced_node v) (within (remove_child s)) h.d.root h.old at_init (h.empty.left s is_sole.gone) ∙ sym (end_is_change remove_child init s h.d.root))
 
   same_document : (block : Bool) → done_to block (replace doc init v) h.d ≡ done_to block (remove doc (init ++ (s ∷ []))) h.d
   same_document block = ap (λ (n : Node). Rattle.yq_documents.specs.TreeEdits.with_tree block n h.d) (same_root block h.d.lead)
 
   -- where the root after it has items or entries, the collection is below it
-  below : (ss : List Step) (root : Node) → node_at ss root ≡ Some h.old → HasSome (children_of (change ss (replaced v) root)) → IsBelow ss
-  below [] root e some = absurd (subst HasSome (ap (λ (n : Node). children_of (replaced v n)) (same_Some _ _ e) ∙ h.empty.bare) some)
+  below : (ss : List Step) (root : Node) → node_at ss root ≡ Some h.old → HasSome (children_of (changed_at ss (replaced_node v) root)) → IsBelow ss
+  below [] root e some = absurd (subst HasSome (ap (λ (n : Node). children_of (replaced_node v n)) (same_Some _ _ e) ∙ h.empty.bare) some)
   below (t ∷ ts) root e some = tt
 
   read_so : (new : List ℕ) → ReadsAfter (replace doc init v) c new → ReadsAfter (remove doc (init ++ (s ∷ []))) c new
@@ -211,8 +211,8 @@ module _ (doc : ℕ) (init : List Step) (s : Step) (v : Node) (c : Cut) (h : Sta
           block = λ d at keeps.
               let at_doc : slice_get (documents_of new) doc ≡ Some (done_to block (replace doc init v) h.d) =
               ap (λ x. slice_get (documents x) doc) (read_cut new r.cut r.read) ∙ (ap (λ ds. slice_get ds doc) r.documents_are ∙ nth_changed doc (done_to block (replace doc init v)) (documents c) h.d h.document) in
-              let root : d.root ≡ change init (replaced v) h.d.root =
-              ap (λ (x : Document). x.root) (same_Some _ _ (sym at ∙ at_doc)) ∙ ap (λ (n : Node). change init (replaced n) h.d.root) (h.empty.led_same block h.d.lead init) in
+              let root : d.root ≡ changed_at init (replaced_node v) h.d.root =
+              ap (λ (x : Document). x.root) (same_Some _ _ (sym at ∙ at_doc)) ∙ ap (λ (n : Node). changed_at init (replaced_node n) h.d.root) (h.empty.led_same block h.d.lead init) in
               r.room.block d at (below init h.d.root at_init (subst (λ (n : Node). HasSome (children_of n)) root keeps));
         };
       }

@@ -11,15 +11,15 @@ use Rattle.yq_nodes.specs.Collections.{CollPieces}
 use Rattle.yq_nodes.specs.Entries.{EntryPieces, item_at}
 use Rattle.yq_nodes.specs.Trees.{items_tree}
 use Rattle.yq_lines.specs.Counts.{count}
-use Rattle.yq_lines.specs.Ends.{found_line, line_of}
+use Rattle.yq_lines.specs.Ends.{found_line, line_at_steps}
 use Rattle.yq_lines.specs.Outline.{Line, anchored, children, flatten, value}
-use Rattle.yq_lines.specs.Places.{FoundLine, content, find, find_row, lines_after, lines_before}
+use Rattle.yq_lines.specs.Places.{FoundLine, content_under, find, find_row, lines_after, lines_before}
 use Rattle.yq_lines.proofs.ChildLaws.{anchored_children}
 use Rattle.yq_lines.proofs.Finding.{row_child}
 use Rattle.yq_cut.specs.Rows.{Part, Cut, cut_text}
 use Rattle.yq_documents.specs.Documents.{Document, document_parts}
-use Rattle.yq_lines.specs.Lines.{lines_of}
-use Rattle.yq_documents.specs.Reading.{documents, outline_of, read_at, root_of}
+use Rattle.yq_lines.specs.Lines.{lines_of_rows}
+use Rattle.yq_documents.specs.Reading.{documents, part_outline, read_at, root_of}
 use Rattle.yq_documents.specs.LinesInRows.{row_line, row_line_of}
 use Rattle.yq_row_places.specs.FlowNodes.{find_head}
 use Rattle.yq_row_places.specs.NodesAt.{node_in}
@@ -60,12 +60,12 @@ abbrev pub HasPlacedRows : ℕ → Step → List Step → Cut → Type 0
 HasPlacedRows n s ss c = (e : RowsOfEntry) × (rows_of_entry n (s ∷ ss) c ≡ Some e)
 
 -- those of a line to which steps lead, where none goes on in its head
-pub rows_there : (n : ℕ) (s : Step) (ss : List Step) (c : Cut) (p : Part) → slice_get (document_parts c) n ≡ Some p → (f : FoundLine) → find s ss (outline_of p) ≡ Some (f, []) → HasPlacedRows n s ss c
+pub rows_there : (n : ℕ) (s : Step) (ss : List Step) (c : Cut) (p : Part) → slice_get (document_parts c) n ≡ Some p → (f : FoundLine) → find s ss (part_outline p) ≡ Some (f, []) → HasPlacedRows n s ss c
 rows_there n s ss c p there f found =
     let k : ℕ = length (lines_before f.place) in
-    let number : line_of (s ∷ ss) (lines_of p.rows) ≡ Some k = ap (λ (o : Option (FoundLine × List Step)). option_and_then (λ x. found_line x.0 x.1) o) found in
+    let number : line_at_steps (s ∷ ss) (lines_of_rows p.rows) ≡ Some k = ap (λ (o : Option (FoundLine × List Step)). option_and_then (λ x. found_line x.0 x.1) o) found in
     let rest : List Line = flatten f.under ++ (flatten f.after ++ lines_after f.place) in
-    let line : slice_get (lines_of p.rows) k ≡ Some f.line = ap (λ (ls : List Line). slice_get ls k) (found_lines (lines_of p.rows) s ss [] f found) ∙ middle (lines_before f.place) rest f.line in
+    let line : slice_get (lines_of_rows p.rows) k ≡ Some f.line = ap (λ (ls : List Line). slice_get ls k) (found_lines (lines_of_rows p.rows) s ss [] f found) ∙ middle (lines_before f.place) rest f.line in
     let x = row_line_found p.rows k f.line line in
     let d = placed_there c n p there in
     let printed_line : row_line_of (s ∷ ss) d.0.part.rows ≡ Some x.0 = ap (λ (q : Part). row_line_of (s ∷ ss) q.rows) d.2 ∙ (ap (λ (o : Option ℕ). o >>= λ k. row_line k p.rows) number ∙ x.1) in (
@@ -102,7 +102,7 @@ record NodeIn (c : Cut) (n : ℕ) (path : List Step) (v : Node) : Type 0 where
   node : node_in n init c ≡ Some old
   child : child_at step (children_of old) ≡ Some v
 
-part_there : (c : Cut) (n : ℕ) (path : List Step) (v : Node) (h : NodeIn c n path v) (y : FoundLine × List Step) → find_head h.init (outline_of h.part) ≡ Some y → HasPart n path c
+part_there : (c : Cut) (n : ℕ) (path : List Step) (v : Node) (h : NodeIn c n path v) (y : FoundLine × List Step) → find_head h.init (part_outline h.part) ≡ Some y → HasPart n path c
 part_there c n path v h y found =
     let x = holds_child h.step h.old v h.child in
     let w = flow_there c n h.init x.0 (record { read = h.read; part = h.part; there = h.there; line = y.0; rest = y.1; found = found; at = (h.old, h.above, x.1) }) in
@@ -120,13 +120,13 @@ part_there c n path v h y found =
 
 -- ---- an item or entry of a block collection
 
-line_there : (r : Option FoundLine) (n : Node) → option_map (λ f. content f.line f.under) r ≡ Some n → (f : FoundLine) × (r ≡ Some f)
+line_there : (r : Option FoundLine) (n : Node) → option_map (λ f. content_under f.line f.under) r ≡ Some n → (f : FoundLine) × (r ≡ Some f)
 line_there None n e = absurd (none-some _ e)
 line_there (Some f) n e = (f, refl)
 
-entry_there : (c : Cut) (n : ℕ) (path : List Step) (v : Node) (h : NodeIn c n path v) (b : NodeLines) → IsCollectionAt h.init (outline_of h.part) b → (f : FoundLine) × IsEntryAt h.init h.step (outline_of h.part) b f
+entry_there : (c : Cut) (n : ℕ) (path : List Step) (v : Node) (h : NodeIn c n path v) (b : NodeLines) → IsCollectionAt h.init (part_outline h.part) b → (f : FoundLine) × IsEntryAt h.init h.step (part_outline h.part) b f
 entry_there c n path v h b at =
-    let own : anchored b.anchor (value b.lines) ≡ h.old = same_Some _ _ (sym (lines_are_there h.init (outline_of h.part) b at.place_is) ∙ h.above) in
+    let own : anchored b.anchor (value b.lines) ≡ h.old = same_Some _ _ (sym (lines_are_there h.init (part_outline h.part) b at.place_is) ∙ h.above) in
     let cs : children b.lines ≡ children_of h.old = sym (children-value b.lines at.block) ∙ (sym (anchored_children b.anchor (value b.lines)) ∙ ap children_of own) in
     let f = line_there (find_row h.step b.lines) v (sym (row_child h.step b.lines) ∙ (ap (child_at h.step) cs ∙ h.child)) in
     (f.0, record { place_is = at.place_is; block = at.block; found = f.1 })
@@ -148,12 +148,12 @@ entries_stand n s ss c v read at = let d = bind_some (slice_get (documents c) n)
         let a = above_is l.0.0 l.0.1 (root_of p.part) v there in
         record { read = read; part = p.part; there = p.there; init = l.0.0; step = l.0.1; last = l.1; old = a.0; above = a.1; node = ap (λ (o : Option Document). o >>= λ e. node_at l.0.0 e.root) here ∙ (ap (node_at l.0.0) p.root ∙ a.1); child = a.2 }
 
-    cases : (h : NodeIn c n (s ∷ ss) v) → ((y : FoundLine × List Step) × (find_head h.init (outline_of h.part) ≡ Some y)) ⊎ ((b : NodeLines) × IsCollectionAt h.init (outline_of h.part) b) → HasPlacedRows n s ss c ⊎ HasPart n (s ∷ ss) c
+    cases : (h : NodeIn c n (s ∷ ss) v) → ((y : FoundLine × List Step) × (find_head h.init (part_outline h.part) ≡ Some y)) ⊎ ((b : NodeLines) × IsCollectionAt h.init (part_outline h.part) b) → HasPlacedRows n s ss c ⊎ HasPart n (s ∷ ss) c
     cases h (inl y) = inr (part_there c n (s ∷ ss) v h y.0 y.1)
     cases h (inr b) =
         let f = entry_there c n (s ∷ ss) v h b.0 b.1 in
-        let g = entry_line h.init h.step (outline_of h.part) b.0 f.0 f.1 in
-        inl (rows_there n s ss c h.part h.there g.0 (ap (λ (x : List Step). found_at x (outline_of h.part)) (last_is (s ∷ ss) h.init h.step h.last) ∙ g.1))
+        let g = entry_line h.init h.step (part_outline h.part) b.0 f.0 f.1 in
+        inl (rows_there n s ss c h.part h.there g.0 (ap (λ (x : List Step). found_at x (part_outline h.part)) (last_is (s ∷ ss) h.init h.step h.last) ∙ g.1))
 
     by : (d : Document) → slice_get (documents c) n ≡ Some d → node_at (s ∷ ss) d.root ≡ Some v → PartOf c n d → HasPlacedRows n s ss c ⊎ HasPart n (s ∷ ss) c
-    by d here is p = let h = node d here is p in let x = holds_child h.step h.old v h.child in cases h (collection_cases h.init (outline_of h.part) x.0 (h.old, h.above, x.1))
+    by d here is p = let h = node d here is p in let x = holds_child h.step h.old v h.child in cases h (collection_cases h.init (part_outline h.part) x.0 (h.old, h.above, x.1))

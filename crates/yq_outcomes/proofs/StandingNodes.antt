@@ -3,7 +3,7 @@ use Rattle.std.proofs.Common.{◌≡◌, ℕ, suc, ◌+◌, List, length, sym, a
 use Rattle.yq_flow_scalars.specs.Paths.{Step}
 use Rattle.yq_lines.specs.Outline.{flatten}
 use Rattle.yq_cut.specs.Rows.{Cut, Row}
-use Rattle.yq_lines.specs.Lines.{lines_of}
+use Rattle.yq_lines.specs.Lines.{lines_of_rows}
 use Rattle.yq_row_places.specs.Standings.{RowsOfEntry, behind_entry}
 use Rattle.yq_change.specs.StandingLaws.{StandsThere}
 use Rattle.yq_change.proofs.StandingMarks.{behind_there, entry_there}
@@ -25,7 +25,7 @@ module _ (n : ℕ) (s : Step) (ss : List Step) (c : Cut) (e : RowsOfEntry) (ther
     rows_are = there.rows_are;
     mark = mark;
     upto = upto;
-    number = ap (λ (k : ℕ). length (lines_of e.front) + k) line ∙ there.number;
+    number = ap (λ (k : ℕ). length (lines_of_rows e.front) + k) line ∙ there.number;
     count = there.count ∙ ap (λ (k : ℕ). k + suc (length (flatten there.found.under))) (sym line);
     start = e.start;
     put = there.put;

@@ -5,7 +5,7 @@ use Rattle.yq_flow_scalars.specs.Answers.{◌>>=◌}
 use Rattle.yq_flow_scalars.specs.Paths.{Step}
 use Rattle.yq_flow_scalars.specs.Tree.{Node}
 use Rattle.yq_lines.specs.Outline.{Outline}
-use Rattle.yq_lines.specs.Places.{FoundLine, find, in_head, inside}
+use Rattle.yq_lines.specs.Places.{FoundLine, find, in_head, place_inside}
 use Rattle.yq_row_places.specs.FlowNodes.{bare_line, find_head, head_line}
 use Rattle.yq_row_places.proofs.HeadSteps.{stem_found}
 use Rattle.yq_outcomes.proofs.EntryLines.{found_at}
@@ -18,9 +18,9 @@ module _ (y : Reached) (some : 0 < length y.1) where
   none_left g None e = none-some _ e
   none_left g (Some f) e = omega (arith, some, ap (λ (x : Reached). length x.1) (same_Some _ _ e))
 
-  line_left : (f : FoundLine) (h : Option Node) → in_head h (Some (f, [])) (option_map {U = Reached} (λ b. (inside f b, [])) (bare_line f.under)) ≡ Some y → ⊥
+  line_left : (f : FoundLine) (h : Option Node) → in_head h (Some (f, [])) (option_map {U = Reached} (λ b. (place_inside f b, [])) (bare_line f.under)) ≡ Some y → ⊥
   line_left f (Some n) e = omega (arith, some, ap (λ (x : Reached). length x.1) (same_Some _ _ e))
-  line_left f None e = none_left (inside f) (bare_line f.under) e
+  line_left f None e = none_left (place_inside f) (bare_line f.under) e
 
   -- steps that go on in a head lead to its line
   left_found : (ss : List Step) (o : Outline) → find_head ss o ≡ Some y → found_at ss o ≡ Some y

@@ -12,7 +12,7 @@ use Rattle.yq_flow_scalars.specs.declared.fault.ReadError.{ReadError}
 use Rattle.yq_flow_scalars.specs.declared.fault.ReadError.TheVariants as reading
 use Rattle.yq_row_places.specs.Answers.{IsNotUtf8}
 use Rattle.yq_documents.specs.Reading.{read_at}
-use Rattle.yq_outcomes.specs.Answers.{EditFails, of_reading}
+use Rattle.yq_outcomes.specs.Answers.{EditFails, error_of_reading}
 use Rattle.yq_outcomes.specs.Edit.{Edit, unreadable}
 
 -- What is known where bytes aren't read.
@@ -27,7 +27,7 @@ text_unread bytes t fault same utf8 h = (
 )
 
 -- an edit of a text that isn't read
-pub edit_not_read : (e : ReadError) (bytes t : List ℕ) (edit : Edit) → bytes ≡ t → IsUtf8 t → FailsToRead e bytes → (read_at t ≡ None → edit ≡ unreadable) → EditFails (of_reading e) edit
+pub edit_not_read : (e : ReadError) (bytes t : List ℕ) (edit : Edit) → bytes ≡ t → IsUtf8 t → FailsToRead e bytes → (read_at t ≡ None → edit ≡ unreadable) → EditFails (error_of_reading e) edit
 edit_not_read reading.Memory bytes t edit same utf8 h unread = tt
 edit_not_read (reading.Fault fault) bytes t edit same utf8 h unread = let k = text_unread bytes t fault same utf8 h in (unread k.0, k.1)
 

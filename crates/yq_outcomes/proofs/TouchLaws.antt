@@ -2,7 +2,7 @@
 use Rattle.std.proofs.Common.{◌≡◌, ℕ, ◌+◌, ◌-◌, ◌≤◌, ltb, cond, Bool, true, false, List, [], ◌∷◌, ◌++◌, length, refl, sym, ap, ◌∙◌, subst, append_assoc, arith}
 use Rattle.std.proofs.lemmas.Bool.{le-ltb}
 use Rattle.std.proofs.lemmas.List.{length-append}
-use Rattle.yq_cut.specs.Items.{Item, items_of, items_text}
+use Rattle.yq_cut.specs.Items.{Item, items_of_cut, items_text}
 use Rattle.yq_cut.proofs.ItemLaws.{items_text-append}
 use Rattle.yq_cut.proofs.KeptLaws.{items_apart}
 use Rattle.yq_script.specs.Script.{kept_front, kept_back}
@@ -93,9 +93,9 @@ local_touches ss c new h =
     let back_of : (is : List Item) → InLast h.trail is → in_back m (h.front ++ (is ++ h.back)) ≡ in_back m h.back = λ is b. back_behind h.front is h.back m h.trail behind b in
     let f = front_left n h.front in
     let z = back_left m h.back in
-    let old_front : in_front n h.front ≡ in_front n (items_of c) = sym (ap (in_front n) h.old_are ∙ front_of h.gone h.begins.0) in
-    let old_back : in_back m h.back ≡ in_back m (items_of c) = sym (ap (in_back m) h.old_are ∙ back_of h.gone h.ends.0) in
-    let split : (is : List Item) → h.front ++ (is ++ h.back) ≡ in_front n (items_of c) ++ ((f.0 ++ (is ++ z.0)) ++ in_back m (items_of c)) =
+    let old_front : in_front n h.front ≡ in_front n (items_of_cut c) = sym (ap (in_front n) h.old_are ∙ front_of h.gone h.begins.0) in
+    let old_back : in_back m h.back ≡ in_back m (items_of_cut c) = sym (ap (in_back m) h.old_are ∙ back_of h.gone h.ends.0) in
+    let split : (is : List Item) → h.front ++ (is ++ h.back) ≡ in_front n (items_of_cut c) ++ ((f.0 ++ (is ++ z.0)) ++ in_back m (items_of_cut c)) =
     λ is. (λ i. f.1 i ++ (is ++ z.1 i)) ∙ (five (in_front n h.front) f.0 is z.0 (in_back m h.back) ∙ (λ i. old_front i ++ ((f.0 ++ (is ++ z.0)) ++ old_back i))) in
     record {
       touched = f.0 ++ (h.gone ++ z.0);

@@ -7,7 +7,7 @@ use Rattle.yq_flow_scalars.specs.Text.{is_empty}
 use Rattle.yq_block_scalars.proofs.BlockPieceLaws.{IsLf}
 use Rattle.yq_flow_scalars.proofs.Bools.{guard_then}
 use Rattle.yq_cut.specs.Grammar.{IsCut}
-use Rattle.yq_cut.specs.Items.{Item, AreRowItems, items_of, items_text, nothing_asked}
+use Rattle.yq_cut.specs.Items.{Item, AreRowItems, items_of_cut, items_text, nothing_asked}
 use Rattle.yq_cut.specs.Rows.{Cut}
 use Rattle.yq_cut.specs.Touched.{in_back, in_front, item_text}
 use Rattle.yq_cut.proofs.ItemLaws.{items_of_text, items_text-append, parts_are_items}
@@ -45,14 +45,14 @@ module _ (ss : List Segment) (new : Cut) (near : IsLocalEdit ss) (kept : are_kep
   cut : IsCut (new_text ss) new
   cut = text_cut (new_text ss) new read
 
-  items : AreRowItems nothing_asked (items_of new) []
+  items : AreRowItems nothing_asked (items_of_cut new) []
   items = parts_are_items new true cut.parts
 
-  text : items_text (items_of new) [] ≡ new_text ss
+  text : items_text (items_of_cut new) [] ≡ new_text ss
   text = items_of_text new ∙ sym cut.text
 
   -- an item between those in front and others
-  item_touched : (done : List Item) (w : Item) (ws : List Item) → items_of new ≡ done ++ (w ∷ ws) → length (kept_front ss) ≤ length (items_text done []) + length (item_text w) → length (kept_back ss) ≤ length (items_text (w ∷ ws) []) →
+  item_touched : (done : List Item) (w : Item) (ws : List Item) → items_of_cut new ≡ done ++ (w ∷ ws) → length (kept_front ss) ≤ length (items_text done []) + length (item_text w) → length (kept_back ss) ≤ length (items_text (w ∷ ws) []) →
       IsTouched (length (items_text done [])) (length (items_text done []) + length (item_text w)) (put_ranges ss)
   item_touched done w ws are front back = by_near near
     where
@@ -92,32 +92,32 @@ module _ (ss : List Segment) (new : Cut) (near : IsLocalEdit ss) (kept : are_kep
       by_near (inr one) = by_side (side (one new read))
 
   -- items behind what is kept in front
-  later_touched : (back : List Item) → back ≡ in_back (length (kept_back ss)) (items_of new) → (done ws : List Item) → items_of new ≡ done ++ (ws ++ back) → length (kept_front ss) ≤ length (items_text done []) →
+  later_touched : (back : List Item) → back ≡ in_back (length (kept_back ss)) (items_of_cut new) → (done ws : List Item) → items_of_cut new ≡ done ++ (ws ++ back) → length (kept_front ss) ≤ length (items_text done []) →
       AreTouched (length (items_text done [])) ws (put_ranges ss)
   later_touched back behind done [] are front = tt
   later_touched back behind done (w ∷ ws) are front =
       let n : length (items_text (done ++ (w ∷ [])) []) ≡ length (items_text done []) + length (item_text w) = omega (arith, size_joined done (w ∷ []), size_one w []) in
       let back_long : length (kept_back ss) ≤ length (items_text (w ∷ (ws ++ back)) []) =
-      subst (λ (b : List Item). length (kept_back ss) ≤ length (items_text (w ∷ (ws ++ b)) [])) (sym behind) (back_stop (length (kept_back ss)) (items_of new) done w ws (are ∙ ap (λ (b : List Item). done ++ (w ∷ (ws ++ b))) behind)) in (
+      subst (λ (b : List Item). length (kept_back ss) ≤ length (items_text (w ∷ (ws ++ b)) [])) (sym behind) (back_stop (length (kept_back ss)) (items_of_cut new) done w ws (are ∙ ap (λ (b : List Item). done ++ (w ∷ (ws ++ b))) behind)) in (
         item_touched done w (ws ++ back) are (omega (arith, front)) back_long,
         subst (λ (k : ℕ). AreTouched k ws (put_ranges ss)) n (later_touched back behind (done ++ (w ∷ [])) ws (are ∙ sym (append_assoc done (w ∷ []) (ws ++ back))) (omega (arith, n, front))),
       )
 
   -- all of them
-  all_touched : (front back : List Item) → front ≡ in_front (length (kept_front ss)) (items_of new) → back ≡ in_back (length (kept_back ss)) (items_of new) → (ws : List Item) → items_of new ≡ front ++ (ws ++ back) →
+  all_touched : (front back : List Item) → front ≡ in_front (length (kept_front ss)) (items_of_cut new) → back ≡ in_back (length (kept_back ss)) (items_of_cut new) → (ws : List Item) → items_of_cut new ≡ front ++ (ws ++ back) →
       AreTouched (length (items_text front [])) ws (put_ranges ss)
   all_touched front back before behind [] are = tt
   all_touched front back before behind (w ∷ ws) are =
       let n : length (items_text (front ++ (w ∷ [])) []) ≡ length (items_text front []) + length (item_text w) = omega (arith, size_joined front (w ∷ []), size_one w []) in
       let front_long : length (kept_front ss) ≤ length (items_text front []) + length (item_text w) =
       subst (λ (f : List Item). length (kept_front ss) ≤ length (items_text f []) + length (item_text w)) (sym before)
-      (front_stop (length (kept_front ss)) (items_of new) w (ws ++ back) (are ∙ ap (λ (f : List Item). f ++ ((w ∷ ws) ++ back)) before)) in
+      (front_stop (length (kept_front ss)) (items_of_cut new) w (ws ++ back) (are ∙ ap (λ (f : List Item). f ++ ((w ∷ ws) ++ back)) before)) in
       let back_long : length (kept_back ss) ≤ length (items_text (w ∷ (ws ++ back)) []) =
-      subst (λ (b : List Item). length (kept_back ss) ≤ length (items_text (w ∷ (ws ++ b)) [])) (sym behind) (back_stop (length (kept_back ss)) (items_of new) front w ws (are ∙ ap (λ (b : List Item). front ++ (w ∷ (ws ++ b))) behind)) in (
+      subst (λ (b : List Item). length (kept_back ss) ≤ length (items_text (w ∷ (ws ++ b)) [])) (sym behind) (back_stop (length (kept_back ss)) (items_of_cut new) front w ws (are ∙ ap (λ (b : List Item). front ++ (w ∷ (ws ++ b))) behind)) in (
         item_touched front w (ws ++ back) are front_long back_long,
         subst (λ (k : ℕ). AreTouched k ws (put_ranges ss)) n (later_touched back behind (front ++ (w ∷ [])) ws (are ∙ sym (append_assoc front (w ∷ []) (ws ++ back))) (omega (arith, n, front_long))),
       )
 
 pub near_touched : NearAreTouched
 near_touched ss c new near kept read front back is behind t =
-    all_touched ss new near kept read (in_front front (items_of c)) (in_back back (items_of c)) (sym t.front_same ∙ ap (λ n. in_front n (items_of new)) is) (sym t.back_same ∙ ap (λ n. in_back n (items_of new)) behind) t.written t.new_are
+    all_touched ss new near kept read (in_front front (items_of_cut c)) (in_back back (items_of_cut c)) (sym t.front_same ∙ ap (λ n. in_front n (items_of_cut new)) is) (sym t.back_same ∙ ap (λ n. in_back n (items_of_cut new)) behind) t.written t.new_are

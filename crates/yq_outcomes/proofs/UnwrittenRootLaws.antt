@@ -25,7 +25,7 @@ use Rattle.yq_documents.specs.Documents.{lead_of}
 use Rattle.yq_row_places.specs.PlacedRows.{PlacedPart, before_part, placed_document}
 use Rattle.yq_documents.specs.Reading.{read_at}
 use Rattle.yq_documents.specs.Ready.{begins_no_node}
-use Rattle.yq_lines.specs.Lines.{lines_of}
+use Rattle.yq_lines.specs.Lines.{lines_of_rows}
 use Rattle.yq_row_places.specs.Standings.{NoRows}
 use Rattle.yq_row_places.proofs.CommentPieceLaws.{gap_end}
 use Rattle.yq_row_places.proofs.PlacedPartLaws.{part_stands}
@@ -170,7 +170,7 @@ module _ (n : ℕ) (c : Cut) (w : NoRows) (read : read_at (cut_text c) ≡ Some 
 
   -- no rows are there
   pub no_rows_there : is_block_root h.d.part ≡ true
-  no_rows_there = ap (λ xs. begins_no_node (lines_of xs)) h.rows_are
+  no_rows_there = ap (λ xs. begins_no_node (lines_of_rows xs)) h.rows_are
 
   pub lead_is : head_comment h.d.part.end ≡ lead_of h.d.part
   lead_is = ap (λ xs. head_comment (first_gap xs h.d.part.end)) (sym h.rows_are)

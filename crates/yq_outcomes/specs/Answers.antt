@@ -14,9 +14,9 @@ use Rattle.yq_outcomes.specs.declared.edit_error.EditError.TheVariants as error
 use Rattle.yq_meaning.specs.declared.refusal.Refusal.TheVariants.{TooLarge}
 
 -- the error of an edit whose text is not read (own)
-abbrev pub of_reading : ReadError → EditError
-of_reading reading.Memory = error.Memory
-of_reading (reading.Fault fault) = error.Read fault
+abbrev pub error_of_reading : ReadError → EditError
+error_of_reading reading.Memory = error.Memory
+error_of_reading (reading.Fault fault) = error.Read fault
 
 -- the error of an edit whose update is not planned (own)
 abbrev pub of_planning : ExprError → EditError

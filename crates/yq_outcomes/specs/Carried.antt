@@ -9,12 +9,12 @@ use Rattle.yq_meaning.specs.Plans.{plan}
 use Rattle.yq_program.specs.Program.{Program, Update, read, updates}
 use Rattle.yq_meaning.specs.Rooms.{room_of}
 use Rattle.yq_meaning.specs.declared.refusal.Refusal.TheVariants.{NotAnUpdate}
-use Rattle.yq_edits.specs.Edits.{edits, or_stay}
+use Rattle.yq_edits.specs.Edits.{op_edits, or_stay}
 use Rattle.yq_outcomes.specs.Edit.{Edit, refuses, in_order, by_reading, edit_of_segments}
 
 -- an operation carried out on the text of a cut (own)
 abbrev pub carry_one : Operation → Cut → Edit
-carry_one op c = edit_of_segments (or_stay c (edits op c))
+carry_one op c = edit_of_segments (or_stay c (op_edits op c))
 
 -- the same by the reading of a text (own)
 abbrev pub carried : Operation → List ℕ → Edit

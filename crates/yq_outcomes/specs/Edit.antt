@@ -15,21 +15,21 @@ pub data Edit : Type 0 where
   gives : List ℕ → List Splice → Edit
 
 -- an edit with splices before its own (own)
-abbrev pub behind : List Splice → Edit → Edit
-behind cs unreadable = unreadable
-behind cs (refuses why) = refuses why
-behind cs (gives t ds) = gives t (cs ++ ds)
+abbrev pub edit_behind : List Splice → Edit → Edit
+edit_behind cs unreadable = unreadable
+edit_behind cs (refuses why) = refuses why
+edit_behind cs (gives t ds) = gives t (cs ++ ds)
 
 -- an edit, and then one of the text that it gives (own)
-abbrev pub and_then : (List ℕ → Edit) → Edit → Edit
-and_then f unreadable = unreadable
-and_then f (refuses why) = refuses why
-and_then f (gives t cs) = behind cs (f t)
+abbrev pub edit_then : (List ℕ → Edit) → Edit → Edit
+edit_then f unreadable = unreadable
+edit_then f (refuses why) = refuses why
+edit_then f (gives t cs) = edit_behind cs (f t)
 
 -- an edit for each thing in order, each of the text that the one before gives (own)
 abbrev pub in_order : {A : Type 0} → (A → List ℕ → Edit) → List A → List ℕ → Edit
 in_order f [] t = gives t []
-in_order f (x ∷ xs) t = and_then (in_order f xs) (f x t)
+in_order f (x ∷ xs) t = edit_then (in_order f xs) (f x t)
 
 -- an edit by the reading of a text, if it has one (own)
 abbrev pub by_reading : (Cut → Edit) → Option Cut → Edit

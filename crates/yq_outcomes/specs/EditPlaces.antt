@@ -4,7 +4,7 @@ use Rattle.std.specs.Str.{IsCharBoundary}
 use Rattle.yq_flow_scalars.specs.Answers.{◌>>=◌}
 use Rattle.yq_flow_scalars.specs.Paths.{Step}
 use Rattle.yq_flow_scalars.specs.Tree.{Node}
-use Rattle.yq_nodes.specs.Places.{Content, nothing, name, text, sequence, mapping, Placed, placed}
+use Rattle.yq_nodes.specs.Places.{CoreNode, nothing, name, text, sequence, mapping, Placed, placed}
 use Rattle.yq_flow.specs.FlowPlaces.{PlacedEdit}
 use Rattle.yq_cut.specs.Rows.{Cut, cut_text}
 use Rattle.yq_row_places.specs.FlowNodes.{flow_collection}
@@ -28,7 +28,7 @@ pub record LiesIn (t : List ℕ) (p : PlacedEdit) : Type 0 where
   pub end : IsCharBoundary t p.end
 
 -- `takes_key` by the view with places: whether a content takes an entry of a key, or an item (7.4.1, 7.4.2)
-abbrev pub content_takes : Content → Option (List ℕ) → Bool
+abbrev pub content_takes : CoreNode → Option (List ℕ) → Bool
 content_takes nothing key = false
 content_takes (name n) key = false
 content_takes (text s piece) key = false

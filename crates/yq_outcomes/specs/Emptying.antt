@@ -3,12 +3,12 @@ use Rattle.std.specs.Prelude.{◌≡◌, ℕ, List, Option, Some, None, option_m
 use Rattle.yq_flow_scalars.specs.Answers.{◌>>=◌}
 use Rattle.yq_flow_scalars.specs.Paths.{Step}
 use Rattle.yq_flow_scalars.specs.Tree.{Node, list, map, none}
-use Rattle.yq_nodes.specs.Values.{node_of}
+use Rattle.yq_nodes.specs.Values.{value_node}
 use Rattle.yq_cut.specs.Rows.{Cut}
 use Rattle.yq_documents.specs.Located.{steps_of}
 use Rattle.yq_row_places.specs.NodesAt as nodes
 use Rattle.yq_row_places.specs.NodesAt.{NodeAt, node_in}
-use Rattle.yq_edits.specs.Edits.{emptied, replaced, sole_removed}
+use Rattle.yq_edits.specs.Edits.{empty_collection, replace_segments, sole_removed}
 use Rattle.yq_outcomes.specs.declared.sole.EmptyPut.{EmptyPut}
 
 -- the empty collection of the kind of a collection, by what is told of that
@@ -26,13 +26,13 @@ pub record Emptied : Type 0 where
 
 -- what the code lends of it
 abbrev pub emptied_view : EmptyPut → Emptied
-emptied_view e = record { doc = e.place.doc; steps = steps_of e.place; value = node_of e.value }
+emptied_view e = record { doc = e.place.doc; steps = steps_of e.place; value = value_node e.value }
 
 -- the empty collection of the kind of the one in which a path ends in document n; a root is in none
 abbrev pub emptying : ℕ → Cut → Option (List Step × Step) → Option Emptied
 emptying n c None = None
-emptying n c (Some x) = option_map (λ v. record { doc = n; steps = x.0; value = v }) (node_in n x.0 c >>= emptied)
+emptying n c (Some x) = option_map (λ v. record { doc = n; steps = x.0; value = v }) (node_in n x.0 c >>= empty_collection)
 
 -- A sole item or entry is removed by Replace of its collection with this one.
 abbrev pub SoleByEmptying : Type 0
-SoleByEmptying = (n : ℕ) (c : Cut) (o : Option (List Step × Step)) → sole_removed n c o ≡ (emptying n c o >>= λ e. replaced e.doc e.steps e.value c)
+SoleByEmptying = (n : ℕ) (c : Cut) (o : Option (List Step × Step)) → sole_removed n c o ≡ (emptying n c o >>= λ e. replace_segments e.doc e.steps e.value c)

@@ -10,7 +10,7 @@ use Rattle.yq_meaning.specs.Operations.{replace}
 use Rattle.yq_edits.specs.EditLaws.{IsEdit}
 use Rattle.yq_edits.specs.Layouts.{layout_of}
 use Rattle.yq_edits.specs.ReplaceEdits.{has_text, value_put}
-use Rattle.yq_edits.specs.Replacing.{is_kept}
+use Rattle.yq_edits.specs.Replacing.{keeps_scalar}
 
 -- whether something stands at an item or entry, or is a node alone on its line
 abbrev pub is_marked : Standing → Bool
@@ -26,5 +26,5 @@ is_marked (no_rows w) = false
 abbrev pub MarkedValuesArePut : Type 0
 MarkedValuesArePut =
     (n : ℕ) (steps : List Step) (v : Node) (c : Cut) (t : Standing) →
-    read_at (cut_text c) ≡ Some c → standing_at n steps c ≡ Some t → is_marked t ≡ true → is_kept (node_in n steps c) v ≡ false →
+    read_at (cut_text c) ≡ Some c → standing_at n steps c ≡ Some t → is_marked t ≡ true → keeps_scalar (node_in n steps c) v ≡ false →
     IsEdit (replace n steps v) c (value_put (has_text (node_in n steps c)) (layout_of n c) v t)

@@ -1,7 +1,7 @@
 -- What an accepted edit promises, and why an edit is refused.
 use Rattle.std.specs.Prelude.{◌≡◌, ⊤, ◌⊎◌, ℕ, ◌<◌, List, [], ◌∷◌, ◌++◌, Some, length}
 use Rattle.yq_text.specs.Limit.{text_limit}
-use Rattle.yq_documents.specs.Documents.{Document, Reads}
+use Rattle.yq_documents.specs.Documents.{Document, ReadsDocuments}
 use Rattle.yq_meaning.specs.After.{after_op}
 use Rattle.yq_meaning.specs.Fits.{Fits}
 use Rattle.yq_meaning.specs.Judgement.{gives, refuses}
@@ -15,7 +15,7 @@ use Rattle.yq_meaning.specs.Plans.{plan}
 use Rattle.yq_program.specs.Program.{Program, Update, read, updates}
 use Rattle.yq_script.specs.Splice.{Splice, all_done, lengths_done}
 use Rattle.yq_script.specs.Script.{Segment, old_text, new_text, changes}
-use Rattle.yq_edits.specs.Edits.{edits}
+use Rattle.yq_edits.specs.Edits.{op_edits}
 use Rattle.yq_outcomes.specs.declared.edit_error.EditError.{EditError}
 use Rattle.yq_outcomes.specs.declared.edit_error.EditError.TheVariants as error
 
@@ -45,28 +45,28 @@ pub record AreSplices (changes : List Splice) (t new : List ℕ) : Type 0 where
 -- A text reads as documents, which an operation fits (own).
 pub record IsFitting (op : Operation) (t : List ℕ) : Type 0 where
   pub before : List Document
-  pub read : Reads t before
+  pub read : ReadsDocuments t before
   pub fits : Fits (room_of t) op before
 
 -- An operation is carried out on a text that reads: of its segments some stay and some give way, and
 -- the new text, which they make, reads as the documents after the operation; the splices are theirs (own).
 pub record IsApplied (op : Operation) (t new : List ℕ) (cs : List Splice) : Type 0 where
   pub before : List Document
-  pub read : Reads t before
+  pub read : ReadsDocuments t before
   pub segments : List Segment
-  pub exchanged : edits op read.parts ≡ Some segments
+  pub exchanged : op_edits op read.parts ≡ Some segments
   pub old_is : old_text segments ≡ t
   pub new_is : new_text segments ≡ new
   pub splices : changes segments ≡ cs
-  pub reads : Reads new (after_op (room_of t) op before)
+  pub reads : ReadsDocuments new (after_op (room_of t) op before)
   pub room : LeavesRooms op (room_of t) (room_of new) (after_op (room_of t) op before)
 
 -- The text that an operation makes of a text that reads is larger than one may be (own).
 pub record IsLarge (op : Operation) (t : List ℕ) : Type 0 where
   pub before : List Document
-  pub read : Reads t before
+  pub read : ReadsDocuments t before
   pub segments : List Segment
-  pub exchanged : edits op read.parts ≡ Some segments
+  pub exchanged : op_edits op read.parts ≡ Some segments
   pub old_is : old_text segments ≡ t
   pub size : text_limit < length (new_text segments)
 
@@ -82,24 +82,24 @@ OpRefused error.Memory op t = ⊤
 -- the one before gives; and the last text reads as what the update means of the documents (own).
 pub record IsUpdated (u : Update) (t new : List ℕ) (cs : List Splice) : Type 0 where
   pub before : List Document
-  pub read : Reads t before
+  pub read : ReadsDocuments t before
   pub operations : List Operation
   pub planned : plan u (room_of t) before ≡ gives operations
   pub leads : InOrder IsApplied operations t new cs
   pub after : List Document
   pub meant : meaning u (room_of t) before ≡ gives after
-  pub reads : Reads new after
+  pub reads : ReadsDocuments new after
 
 -- The meaning of an update refuses it on the documents as which a text reads (own).
 pub record IsMeantRefused (why : Refusal) (u : Update) (t : List ℕ) : Type 0 where
   pub before : List Document
-  pub read : Reads t before
+  pub read : ReadsDocuments t before
   pub meant : meaning u (room_of t) before ≡ refuses why
 
 -- An operation of an update's plan makes too large a text of the one that those before it give (own).
 pub record IsTooLarge (u : Update) (t : List ℕ) : Type 0 where
   pub before : List Document
-  pub read : Reads t before
+  pub read : ReadsDocuments t before
   pub operations : List Operation
   pub planned : plan u (room_of t) before ≡ gives operations
   pub stops : StopsInOrder IsApplied IsLarge operations t
@@ -118,7 +118,7 @@ pub record IsEdited (p : Program) (t new : List ℕ) (cs : List Splice) : Type 0
 
 -- a text reads as documents (own)
 abbrev pub HasReading : List ℕ → Type 0
-HasReading t = (docs : List Document) × Reads t docs
+HasReading t = (docs : List Document) × ReadsDocuments t docs
 
 -- what refuses a program on a text: that it is a read, where the text reads; or what refuses an update
 -- on the text to which those before it lead (own)

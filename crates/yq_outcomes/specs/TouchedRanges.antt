@@ -2,7 +2,7 @@
 use Rattle.std.specs.Prelude.{◌≡◌, ◌⊎◌, ⊤, ℕ, ◌+◌, ◌≤◌, Bool, true, false, List, [], ◌∷◌, ◌++◌, length, Some, if◌then◌else◌}
 use Rattle.yq_text.specs.Limit.{text_limit}
 use Rattle.yq_flow_scalars.specs.Text.{is_empty, is_feed}
-use Rattle.yq_cut.specs.Items.{Item, items_of, items_text}
+use Rattle.yq_cut.specs.Items.{Item, items_of_cut, items_text}
 use Rattle.yq_cut.specs.Rows.{Cut, cut_text}
 use Rattle.yq_cut.specs.Touched.{TouchesOnly, in_front, item_text}
 use Rattle.yq_documents.specs.Reading.{documents, read_at}
@@ -10,7 +10,7 @@ use Rattle.yq_meaning.specs.Fits.{Fits}
 use Rattle.yq_meaning.specs.Operations.{Operation}
 use Rattle.yq_meaning.specs.Rooms.{room_of}
 use Rattle.yq_script.specs.Script.{Extent, Segment, are_kept, extents, from_first, keep, kept_back, kept_front, new_text, put, swapped_segments}
-use Rattle.yq_edits.specs.Edits.{edits}
+use Rattle.yq_edits.specs.Edits.{op_edits}
 use Rattle.yq_edits.specs.Operands.{HasOperand}
 
 -- ---- touched items
@@ -31,7 +31,7 @@ AreTouched from (i ∷ is) es = IsTouched from (from + length (item_text i)) es 
 
 -- each item that is written, behind those in front of an offset, is touched by a range of what segments put (own)
 abbrev pub PutAreTouched : (ss : List Segment) (front back : ℕ) (c new : Cut) → TouchesOnly front back c new → Type 0
-PutAreTouched ss front back c new t = AreTouched (length (items_text (in_front front (items_of c)) [])) t.written (put_ranges ss)
+PutAreTouched ss front back c new t = AreTouched (length (items_text (in_front front (items_of_cut c)) [])) t.written (put_ranges ss)
 
 -- ---- what segments keep between two that they exchange
 
@@ -51,7 +51,7 @@ pub record LiesInOne (ss : List Segment) (new : Cut) : Type 0 where
   pub front : List Item
   pub own : Item
   pub back : List Item
-  pub items_are : items_of new ≡ front ++ (own ∷ back)
+  pub items_are : items_of_cut new ≡ front ++ (own ∷ back)
   pub begins : length (items_text front []) ≤ length (kept_front ss)
   pub ends : length (items_text back []) ≤ length (kept_back ss)
 
@@ -71,5 +71,5 @@ NearAreTouched =
 -- What each operation puts is near.
 abbrev pub EditsAreNear : Type 0
 EditsAreNear =
-    (op : Operation) (c : Cut) (ss : List Segment) → read_at (cut_text c) ≡ Some c → edits op c ≡ Some ss →
+    (op : Operation) (c : Cut) (ss : List Segment) → read_at (cut_text c) ≡ Some c → op_edits op c ≡ Some ss →
     HasOperand op → Fits (room_of (cut_text c)) op (documents c) → length (new_text ss) ≤ text_limit → IsLocalEdit ss

@@ -1,14 +1,14 @@
 -- What private functions hand on: operands are valid, operations may follow one another, the segments of one, and how an update ended.
 use Rattle.std.specs.Prelude.{◌≡◌, ℕ, List, [], ◌∷◌, ⊤}
 use Rattle.yq_cut.specs.Rows.{Cut}
-use Rattle.yq_documents.specs.Documents.{Document, Reads}
+use Rattle.yq_documents.specs.Documents.{Document, ReadsDocuments}
 use Rattle.yq_meaning.specs.Operations.{Operation}
 use Rattle.yq_meaning.specs.Rooms.{room_of}
 use Rattle.yq_meaning.specs.RoomsKept.{MayFollow}
 use Rattle.yq_program.specs.Program.{Update, updates}
 use Rattle.yq_script.specs.Splice.{Splice}
 use Rattle.yq_script.specs.Script.{Segment}
-use Rattle.yq_edits.specs.Edits.{edits, or_stay}
+use Rattle.yq_edits.specs.Edits.{op_edits, or_stay}
 use Rattle.yq_edits.specs.Operands.{HasOperand}
 use Rattle.yq_outcomes.specs.Answers.{EditFails}
 use Rattle.yq_outcomes.specs.Carried.{updated}
@@ -25,7 +25,7 @@ HaveOperands (op ∷ ops) = HasOperand op × HaveOperands ops
 
 -- A text reads as documents, on which operations with valid operands may follow one another, with the room that it has (own).
 pub record Serves (docs : List Document) (ops : List Operation) (t : List ℕ) : Type 0 where
-  pub read : Reads t docs
+  pub read : ReadsDocuments t docs
   pub operands : HaveOperands ops
   pub follow : MayFollow (room_of t) ops docs
 
@@ -35,7 +35,7 @@ AreServed ops t = (docs : List Document) × Serves docs ops t
 
 -- the segments of a cut's text by which an operation is carried out; the text stays where there are none (own)
 abbrev pub segments_by : Operation → Cut → List Segment
-segments_by op c = or_stay c (edits op c)
+segments_by op c = or_stay c (op_edits op c)
 
 -- An update is carried out, as it comes to and as it means (own).
 pub record IsStep (u : Update) (t new : List ℕ) (cs : List Splice) : Type 0 where

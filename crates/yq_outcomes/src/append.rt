@@ -1,8 +1,8 @@
 //! Items and entries put into flow collections.
 ghost use Rattle.std.specs.Prelude.{◌≡◌, IfOk, string_bytes};
 ghost use Rattle.yq_nodes.specs.Nodes.{key_text};
-ghost use Rattle.yq_nodes.specs.Values.{node_of};
-ghost use Rattle.yq_nodes.specs.View.{view};
+ghost use Rattle.yq_nodes.specs.Values.{value_node};
+ghost use Rattle.yq_nodes.specs.View.{inline_view};
 ghost use Rattle.yq_nodes.specs.Written.{flow_key, flow_text};
 ghost use Rattle.yq_lines.specs.Bodies.{borrowed};
 ghost use Rattle.yq_documents.specs.Located.{steps_of};
@@ -20,7 +20,7 @@ use yq_script::Segments;
 
 /// Whether a node takes an entry of a key, or an item.
 fn takes(node: &Inline<'_>, key: Option<&str>) -> bool
-    ensures { result ≡ spec.placed_takes (view node.now) (borrowed key.entry) }
+    ensures { result ≡ spec.placed_takes (inline_view node.now) (borrowed key.entry) }
 {
     match &node.form {
         Form::List(_) => key.is_none(),
@@ -32,7 +32,7 @@ fn takes(node: &Inline<'_>, key: Option<&str>) -> bool
 /// An item or entry as it is written in flow.
 fn entry_text(alloc: Global, key: Option<&str>, value: &Value) -> Result<String, AllocError>
     ensures { IfOk result (λ s. string_bytes s ≡
-        key_text (flow_key (borrowed key.entry)) (flow_text (node_of value.now))) }
+        key_text (flow_key (borrowed key.entry)) (flow_text (value_node value.now))) }
 {
     match key {
         Some(key) => write_entry(alloc, key, value),
@@ -53,7 +53,7 @@ pub fn append_in_flow<'d>(
     value: &Value,
 ) -> Result<Option<Segments<'d>>, AllocError>
     ensures { GivesSegments result (spec.appended_in_flow path.now.doc (steps_of path.now)
-        (borrowed key.entry) (node_of value.now) (cut_of cut.now)) }
+        (borrowed key.entry) (value_node value.now) (cut_of cut.now)) }
 {
     let found = cut.flow_head(alloc, path.doc, &path.steps)?;
     let Some(head) = found else {

@@ -29,9 +29,9 @@ impl From<AllocError> for EditError {
 
 impl From<ReadError> for EditError {
     ghost use Rattle.std.specs.Prelude.{◌≡◌};
-    ghost use Rattle.yq_outcomes.specs.Answers.{of_reading};
+    ghost use Rattle.yq_outcomes.specs.Answers.{error_of_reading};
 
-    ghost from_gives = { λ r e. e ≡ of_reading r };
+    ghost from_gives = { λ r e. e ≡ error_of_reading r };
 
     fn from(error: ReadError) -> EditError {
         match error {

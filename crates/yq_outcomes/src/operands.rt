@@ -3,7 +3,7 @@
 ghost use Rattle.std.specs.Prelude.{option_map, string_bytes, true, false};
 ghost use Rattle.std.specs.Str.{IsUtf8};
 ghost use Rattle.yq_flow.specs.Valued.{AreValueTrees, IsValid, IsValueTree};
-ghost use Rattle.yq_nodes.specs.Values.{entries_of, items_of, node_of};
+ghost use Rattle.yq_nodes.specs.Values.{entries_of, items_of, value_node};
 ghost use Rattle.yq_meaning.specs.Operations.{operation_of, operations_of};
 ghost use Rattle.yq_edits.specs.Operands.{HasOperand, KeyIsUtf8};
 ghost use Rattle.yq_outcomes.specs.Valid.{HaveOperands};
@@ -36,7 +36,7 @@ fn key_holds(key: &Option<String>)
 
 #[cycle(values)]
 fn value_holds(value: &Value)
-    ensures { IsValueTree (node_of value.now) }
+    ensures { IsValueTree (value_node value.now) }
 {
     match value {
         Value::Scalar(scalar) => scalar_holds(scalar),

@@ -1,14 +1,14 @@
 //! Values put in flow collections.
 ghost use Rattle.std.specs.Prelude.{◌≡◌, IfOk, Some};
 ghost use Rattle.yq_nodes.specs.Trees.{placed_tree};
-ghost use Rattle.yq_nodes.specs.Values.{node_of};
-ghost use Rattle.yq_nodes.specs.View.{view};
+ghost use Rattle.yq_nodes.specs.Values.{value_node};
+ghost use Rattle.yq_nodes.specs.View.{inline_view};
 ghost use Rattle.yq_documents.specs.Located.{steps_of};
 ghost use Rattle.yq_documents.specs.Reading.{cut_of};
 ghost use Rattle.yq_row_places.specs.NodesAt.{scalar_in};
 ghost use Rattle.yq_row_places.specs.Standings as standings;
 ghost use Rattle.yq_edits.specs.Answers.{GivesSegments};
-ghost use Rattle.yq_edits.specs.Replacing.{are_same, is_kept};
+ghost use Rattle.yq_edits.specs.Replacing.{are_same, keeps_scalar};
 ghost use Rattle.yq_outcomes.specs.PartPuts as spec;
 
 use crate::edit::{bytes_at, collection_in, edit_at, last_step, unchanged};
@@ -35,7 +35,7 @@ pub struct PartPut {
 /// Whether a value is a scalar of that kind and that text.
 fn is_scalar(kind: Kind, text: &str, value: &Value) -> bool
     ensures { result ≡ are_same (Some (record { kind = kind; text = text.now }))
-        (scalar_in (node_of value.now)) }
+        (scalar_in (value_node value.now)) }
 {
     let Value::Scalar(scalar) = value else {
         return false;
@@ -46,7 +46,7 @@ fn is_scalar(kind: Kind, text: &str, value: &Value) -> bool
 
 /// Whether a value is a scalar equal to a node.
 fn is_same_node(node: &Inline<'_>, value: &Value) -> bool
-    ensures { result ≡ is_kept (Some (placed_tree (view node.now))) (node_of value.now) }
+    ensures { result ≡ keeps_scalar (Some (placed_tree (inline_view node.now))) (value_node value.now) }
 {
     match &node.form {
         Form::Empty => is_scalar(Kind::Null, "null", value),
@@ -68,8 +68,8 @@ pub fn put_at_part(
     path: &Path,
     value: &Value,
 ) -> Result<Option<PartPut>, AllocError>
-    requires { spec.IsHeadOf path.now.doc (standings.last_step (steps_of path.now)) cut.now head.now }
-    ensures { IfOk result (spec.ArePuts path.now.doc (steps_of path.now) (node_of value.now)
+    requires { spec.IsHeadOfPath path.now.doc (standings.last_step (steps_of path.now)) cut.now head.now }
+    ensures { IfOk result (spec.ArePuts path.now.doc (steps_of path.now) (value_node value.now)
         (cut_of cut.now) head.now) }
 {
     let Some((_, last)) = last_step(&path.steps) else {
@@ -109,7 +109,7 @@ pub fn put_in_flow<'d>(
     value: &Value,
 ) -> Result<Option<Segments<'d>>, AllocError>
     ensures { GivesSegments result (spec.part_replaced path.now.doc (steps_of path.now)
-        (node_of value.now) (cut_of cut.now)) }
+        (value_node value.now) (cut_of cut.now)) }
 {
     let Some((above, _)) = last_step(&path.steps) else {
         return Ok(None);

@@ -24,7 +24,7 @@ pub struct EmptyPut {
 
 /// The empty collection of the kind of this one.
 fn emptied(alloc: Global, node: &NodeAt<'_>) -> Option<Value>
-    ensures { option_map values.node_of result ≡ spec.emptied_summary (node_view node.now) }
+    ensures { option_map values.value_node result ≡ spec.emptied_summary (node_view node.now) }
 {
     match node {
         NodeAt::List(_) => Some(Value::List(Vec::new(alloc))),

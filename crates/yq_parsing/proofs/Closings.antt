@@ -6,10 +6,10 @@ use Rattle.std.specs.Char.{is_ascii_digit}
 use Rattle.std.specs.List.{prefix_len}
 use Rattle.yq_flow_scalars.specs.Text.{front}
 use Rattle.yq_flow_scalars.proofs.Bools.{at_byte}
-use Rattle.yq_program.specs.Tokens.{escape, begins_name}
+use Rattle.yq_program.specs.Tokens.{escaped_character, begins_name}
 use Rattle.yq_parsing.specs.declared.token.Form.{Form}
 use Rattle.yq_parsing.specs.declared.token.Form.TheVariants as form
-use Rattle.yq_parsing.specs.Lexing.{beyond, closing, quoted, fraction_len, number_len, dotted, marked, worded, measure}
+use Rattle.yq_parsing.specs.Lexing.{beyond, closing, quoted, fraction_len, number_len, dotted, marked, worded, token_measure}
 
 -- what a pattern's rest is
 abbrev pub behind : ℕ → List ℕ → List ℕ
@@ -40,11 +40,11 @@ foreign_here [] le back open_ = absurd (omega (arith, le))
 foreign_here (b ∷ []) le back open_ = absurd (omega (arith, le))
 foreign_here (b ∷ c ∷ bs) le back open_ = rw (back, open_) refl
 
-escape_here : (t : List ℕ) → 2 ≤ length t → get_or t 0 0 ≡ 92 → true ≡ is_some (escape (get_or t 1 0)) → closing t ≡ beyond false 2 (closing (drop 2 t))
+escape_here : (t : List ℕ) → 2 ≤ length t → get_or t 0 0 ≡ 92 → true ≡ is_some (escaped_character (get_or t 1 0)) → closing t ≡ beyond false 2 (closing (drop 2 t))
 unfolding closing
 escape_here [] le back known = absurd (omega (arith, le))
 escape_here (b ∷ []) le back known = absurd (omega (arith, le))
-escape_here (b ∷ c ∷ bs) le back known = rw (back, at_byte (λ b. is_some (escape b)) c 40 (sym known) refl, ← known) refl
+escape_here (b ∷ c ∷ bs) le back known = rw (back, at_byte (λ b. is_some (escaped_character b)) c 40 (sym known) refl, ← known) refl
 
 -- a `\(` is in front
 pub foreign_further : (o : Bool) (n : ℕ) (t text : List ℕ) → 2 ≤ length t → get_or t 0 0 ≡ 92 → get_or t 1 0 ≡ 40 → beyond o n (closing t) ≡ closing text
@@ -55,7 +55,7 @@ foreign_further o n t text le back open_ h =
     ∙ (sym (beyond_on o true n 2 (closing (drop 2 t))) ∙ (ap (beyond o n) (sym (foreign_here t le back open_)) ∙ h)))
 
 -- an escape is in front
-pub escape_further : (o : Bool) (n : ℕ) (t text : List ℕ) → 2 ≤ length t → get_or t 0 0 ≡ 92 → true ≡ is_some (escape (get_or t 1 0)) → beyond o n (closing t) ≡ closing text
+pub escape_further : (o : Bool) (n : ℕ) (t text : List ℕ) → 2 ≤ length t → get_or t 0 0 ≡ 92 → true ≡ is_some (escaped_character (get_or t 1 0)) → beyond o n (closing t) ≡ closing text
     → beyond o (n + 2) (closing (behind 2 t)) ≡ closing text
 escape_further o n t text le back known h =
     ap (λ (s : List ℕ). beyond o (n + 2) (closing s)) (behind_all 2 t)
@@ -84,20 +84,20 @@ worded_mark [] r le none is = absurd (omega (arith, le))
 worded_mark (b ∷ bs) r le none is = is ∙ (ap (marked b) (behind_all 1 (b ∷ bs)) ∙ rw (← none) refl)
 
 -- a quote is in front
-pub measured_quote : (t : List ℕ) (k : Option (Bool × ℕ)) (r : Option (Form × ℕ)) → 1 ≤ length t → get_or t 0 0 ≡ 34 → k ≡ closing (behind 1 t) → r ≡ quoted form.Text 1 k → r ≡ measure t
-unfolding measure
+pub measured_quote : (t : List ℕ) (k : Option (Bool × ℕ)) (r : Option (Form × ℕ)) → 1 ≤ length t → get_or t 0 0 ≡ 34 → k ≡ closing (behind 1 t) → r ≡ quoted form.Text 1 k → r ≡ token_measure t
+unfolding token_measure
 measured_quote [] k r le quote closes is = absurd (omega (arith, le))
 measured_quote (b ∷ bs) k r le quote closes is = is ∙ (ap (quoted form.Text 1) (closes ∙ ap closing (behind_all 1 (b ∷ bs))) ∙ rw quote refl)
 
 -- a dot is in front
-pub measured_dot : (t : List ℕ) (r : Option (Form × ℕ)) → 1 ≤ length t → get_or t 0 0 ≡ 46 → r ≡ dotted (behind 1 t) → r ≡ measure t
-unfolding measure
+pub measured_dot : (t : List ℕ) (r : Option (Form × ℕ)) → 1 ≤ length t → get_or t 0 0 ≡ 46 → r ≡ dotted (behind 1 t) → r ≡ token_measure t
+unfolding token_measure
 measured_dot [] r le dot is = absurd (omega (arith, le))
 measured_dot (b ∷ bs) r le dot is = is ∙ (ap dotted (behind_all 1 (b ∷ bs)) ∙ rw dot refl)
 
 -- a minus sign and a digit are in front
-pub measured_minus : (t : List ℕ) (n : ℕ) → 1 ≤ length t → true ≡ (get_or t 0 0 == 45 && front is_ascii_digit (behind 1 t)) → n ≡ number_len (behind 1 t) → Some (form.Number, 1 + n) ≡ measure t
-unfolding measure
+pub measured_minus : (t : List ℕ) (n : ℕ) → 1 ≤ length t → true ≡ (get_or t 0 0 == 45 && front is_ascii_digit (behind 1 t)) → n ≡ number_len (behind 1 t) → Some (form.Number, 1 + n) ≡ token_measure t
+unfolding token_measure
 measured_minus [] n le minus is = absurd (omega (arith, le))
 measured_minus (b ∷ bs) n le minus is =
     let tail : behind 1 (b ∷ bs) ≡ bs = behind_all 1 (b ∷ bs) in

@@ -6,7 +6,7 @@ use Rattle.std.proofs.lemmas.Slice.Eq.{bytes_eq-Decides}
 use Rattle.yq_program.specs.Tokens.{Token, symbol}
 use Rattle.yq_parsing.specs.Lexing.{after, taken, as_step}
 use Rattle.yq_program.specs.Grammar.{Production, HasSymbol, Are, Behind, AreParted}
-use Rattle.yq_parsing.specs.Parse.{Parse, many, behind_at, parted_at}
+use Rattle.yq_parsing.specs.Parse.{Parse, many, after_mark, parted_at}
 use Rattle.yq_parsing.proofs.Readers.{Lessens, many_next}
 
 pub after_again : (s : List ℕ) (ts r : List Token) → HasSymbol s ts r → after s ts ≡ Some r
@@ -35,18 +35,18 @@ many_again next Is Follows less again starts (x ∷ xs) ts rest are f none =
     let others = many_again next Is Follows less again starts xs are.0 rest are.2 f none in
     many_next next less ts ∙ rw (here, others) refl
 
-behind_again : {A : Type 0} (s : List ℕ) (at : Parse A) (Is : Production A) (Follows : List Token → Type 0) → Again at Is Follows → AgainMaybe (behind_at s at) (Behind s Is) Follows
+behind_again : {A : Type 0} (s : List ℕ) (at : Parse A) (Is : Production A) (Follows : List Token → Type 0) → Again at Is Follows → AgainMaybe (after_mark s at) (Behind s Is) Follows
 behind_again s at Is Follows again x ts rest h f = rw (after_again s ts h.0 h.1, again x h.0 rest h.2 f) refl
 
-pub parted_again : {A : Type 0} (s : List ℕ) (at : Parse A) (Is : Production A) (Follows : List Token → Type 0) → Lessens (behind_at s at) → Again at Is Follows → ((r : List Token) → Follows (symbol s ∷ r))
+pub parted_again : {A : Type 0} (s : List ℕ) (at : Parse A) (Is : Production A) (Follows : List Token → Type 0) → Lessens (after_mark s at) → Again at Is Follows → ((r : List Token) → Follows (symbol s ∷ r))
     → (xs : List A) (ts rest : List Token) → AreParted s Is xs ts rest → Follows rest → after s rest ≡ None → parted_at s at ts ≡ Some (xs, rest)
 parted_again s at Is Follows less again mark [] ts rest are f none = absurd are
 parted_again {A} s at Is Follows less again mark (x ∷ xs) ts rest are f none =
     let starts : Starts (Behind s Is) Follows = λ y us r is. subst Follows (sym is.1) (mark is.0) in
     let first_follows : Follows are.0 = follows_are (Behind s Is) Follows starts xs are.0 rest are.2 f in
     let here : at ts ≡ Some (x, are.0) = again x ts are.0 are.1 first_follows in
-    let stops : behind_at s at rest ≡ Some None = rw none refl in
-    let others = many_again (behind_at s at) (Behind s Is) Follows less (behind_again s at Is Follows again) starts xs are.0 rest are.2 f stops in
+    let stops : after_mark s at rest ≡ Some None = rw none refl in
+    let others = many_again (after_mark s at) (Behind s Is) Follows less (behind_again s at Is Follows again) starts xs are.0 rest are.2 f stops in
     rw (here, others) refl
 
 -- anything may follow

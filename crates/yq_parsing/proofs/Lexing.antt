@@ -12,16 +12,16 @@ use Rattle.yq_flow_scalars.specs.Text.{front}
 use Rattle.yq_flow_scalars.proofs.Boundaries.{boundary_unless}
 use Rattle.yq_flow_scalars.proofs.Upto.{upto_unless}
 use Rattle.yq_flow_scalars.proofs.Bools.{chosen, guard_then}
-use Rattle.yq_program.specs.Tokens.{Token, is_blank, begins_name, is_name_byte, is_word, is_mark, is_mark_before, is_foreign, escape}
-use Rattle.yq_parsing.specs.Lexing.{beyond, closing, escaping, quoted, fraction_len, number_len, dotted, marked, worded, measure, front_token, next, ahead, tokens_in, tokens}
+use Rattle.yq_program.specs.Tokens.{Token, is_token_blank, begins_name, is_name_byte, is_keyword, is_mark_character, is_mark_before, is_foreign, escaped_character}
+use Rattle.yq_parsing.specs.Lexing.{beyond, closing, escaping, quoted, fraction_len, number_len, dotted, marked, worded, token_measure, front_token, next_token, ahead, tokens_in, tokens}
 use Rattle.yq_parsing.specs.declared.token.Form.{Form}
 use Rattle.yq_parsing.specs.declared.token.Form.TheVariants as form
 
-pub blank_ascii : (b : ℕ) → is_blank b ≡ true → b < 128
+pub blank_ascii : (b : ℕ) → is_token_blank b ≡ true → b < 128
 blank_ascii b h = grind arith
 
-pub boundary_blank : (t : List ℕ) (n : ℕ) → n ≡ prefix_len is_blank t → IsUtf8 t → IsCharBoundary t n
-boundary_blank t n e u = rw e (rw (← upto_unless) (boundary_unless is_blank t u blank_ascii))
+pub boundary_blank : (t : List ℕ) (n : ℕ) → n ≡ prefix_len is_token_blank t → IsUtf8 t → IsCharBoundary t n
+boundary_blank t n e u = rw e (rw (← upto_unless) (boundary_unless is_token_blank t u blank_ascii))
 
 -- a length of at least 1, behind an ASCII byte of the text
 abbrev pub EndsAscii : List ℕ → ℕ → Type 0
@@ -70,7 +70,7 @@ mutual
         let x = beyond_some true 2 (closing bs) y here.1 in
         ends_behind_two c b bs x.0.1 y.1 (closing_ends bs x.0 x.1) x.2
     | inr on ↦
-        let g = guard_then (is_some (escape b)) on.1 in
+        let g = guard_then (is_some (escaped_character b)) on.1 in
         let x = beyond_some false 2 (closing bs) y g.1 in
         ends_behind_two c b bs x.0.1 y.1 (closing_ends bs x.0 x.1) x.2
   ]
@@ -137,7 +137,7 @@ number_ends (b ∷ bs) h =
 foreign_ascii : (b : ℕ) → is_foreign b ≡ true → b < 128
 foreign_ascii b h = grind arith
 
-mark_ascii : (b : ℕ) → is_mark b ≡ true → b < 128
+mark_ascii : (b : ℕ) → is_mark_character b ≡ true → b < 128
 mark_ascii b h = grind arith
 
 two_end : (b : ℕ) (bs : List ℕ) → front (λ c. c == 61) bs ≡ true → EndsAscii (b ∷ bs) 2
@@ -147,7 +147,7 @@ two_end b (c ∷ cs) h = (1, refl, omega arith, omega (arith, add-one, eqb-true 
 marked_ends : (b : ℕ) (bs : List ℕ) (y : Form × ℕ) → marked b bs ≡ Some y → EndsAscii (b ∷ bs) y.1
 marked_ends b bs y h = elim (chosen (is_mark_before b && front (λ c. c == 61) bs) h) [
   | inl two ↦ let e : 2 ≡ y.1 = len_is (form.Symbol, 2) y two.1 in subst (EndsAscii (b ∷ bs)) e (two_end b bs (and_parts (is_mark_before b) _ two.0).1)
-  | inr one ↦ elim (chosen (is_mark b) one.1) [
+  | inr one ↦ elim (chosen (is_mark_character b) one.1) [
     | inl mark ↦ ends_here b bs y.1 (mark_ascii b mark.0) (len_is (form.Symbol, 1) y mark.1)
     | inr other ↦
         let g = guard_then (is_foreign b) other.1 in
@@ -159,13 +159,13 @@ worded_ends : (b : ℕ) (bs : List ℕ) (y : Form × ℕ) → worded (b ∷ bs) 
 worded_ends b bs y h = elim (chosen (begins_name b) h) [
   | inl name ↦
       let n = prefix_len is_name_byte (b ∷ bs) in
-      let e : n ≡ y.1 = len_is (cond (is_word (take n (b ∷ bs))) form.Symbol form.Foreign, n) y name.1 in
+      let e : n ≡ y.1 = len_is (cond (is_keyword (take n (b ∷ bs))) form.Symbol form.Foreign, n) y name.1 in
       subst (EndsAscii (b ∷ bs)) e (run_ends is_name_byte b bs name_ascii (begins_is_name b name.0))
   | inr mark ↦ marked_ends b bs y mark.1
 ]
 
-pub measure_ends : (t : List ℕ) (y : Form × ℕ) → measure t ≡ Some y → EndsAscii t y.1
-unfolding measure
+pub measure_ends : (t : List ℕ) (y : Form × ℕ) → token_measure t ≡ Some y → EndsAscii t y.1
+unfolding token_measure
 measure_ends [] y h = cc
 measure_ends (b ∷ bs) y h = elim (chosen (b == 34) h) [
   | inl quote ↦
@@ -183,22 +183,22 @@ measure_ends (b ∷ bs) y h = elim (chosen (b == 34) h) [
   ]
 ]
 
-pub boundary_token : (t : List ℕ) (f : Form) (n : ℕ) → measure t ≡ Some (f, n) → IsUtf8 t → IsCharBoundary t n
+pub boundary_token : (t : List ℕ) (f : Form) (n : ℕ) → token_measure t ≡ Some (f, n) → IsUtf8 t → IsCharBoundary t n
 boundary_token t f n e u =
     let ends = measure_ends t (f, n) e in
     rw (ends.1, ← add-one) (IsCharBoundary-after_ascii t ends.0 u ends.2 ends.3)
 
 -- a token is not empty
-pub token_some : (t : List ℕ) (f : Form) (n : ℕ) → measure t ≡ Some (f, n) → 0 < n
+pub token_some : (t : List ℕ) (f : Form) (n : ℕ) → token_measure t ≡ Some (f, n) → 0 < n
 token_some t f n e = let ends = measure_ends t (f, n) e in omega (arith, ends.1)
 
 front_shorter : (t : List ℕ) (x : Token × List ℕ) → front_token t ≡ Some x → length x.1 < length t
 front_shorter t x h1 = search (rules, same_Some, measure_ends, length-drop)
 
 -- less is left behind a token
-pub next_shorter : (t : List ℕ) (x : Token × List ℕ) → next t ≡ Some x → length x.1 < length t
+pub next_shorter : (t : List ℕ) (x : Token × List ℕ) → next_token t ≡ Some x → length x.1 < length t
 next_shorter t x h =
-    let n = prefix_len is_blank t in
+    let n = prefix_len is_token_blank t in
     let lt = front_shorter (drop n t) x h in
     omega (arith, length-drop n t)
 
@@ -208,14 +208,14 @@ ahead_same f g (Some x) h = ap (λ ts. x.0 ∷ ts) (h x refl)
 
 enough : (n m : ℕ) (t : List ℕ) → length t < n → length t < m → tokens_in n t ≡ tokens_in m t
 unfolding tokens_in
-enough (suc n) (suc m) t h k = ahead_same (tokens_in n) (tokens_in m) (next t)
+enough (suc n) (suc m) t h k = ahead_same (tokens_in n) (tokens_in m) (next_token t)
     (λ x e. let lt = next_shorter t x e in enough n m x.1 (omega arith) (omega arith))
 enough _ _ t h k = absurd (omega arith)
 
 -- the tokens of a text are the one in front and those of what follows
-pub tokens_next : (t : List ℕ) → tokens t ≡ ahead tokens (next t)
+pub tokens_next : (t : List ℕ) → tokens t ≡ ahead tokens (next_token t)
 unfolding tokens tokens_in
 tokens_next t = search (rules, ahead_same, next_shorter, enough)
 
-pub tokens_some : (t : List ℕ) (x : Token × List ℕ) → Some x ≡ next t → tokens t ≡ x.0 ∷ tokens x.1
+pub tokens_some : (t : List ℕ) (x : Token × List ℕ) → Some x ≡ next_token t → tokens t ≡ x.0 ∷ tokens x.1
 tokens_some t x h = tokens_next t ∙ ap (ahead tokens) (sym h)

@@ -9,7 +9,7 @@ use Rattle.yq_flow_scalars.specs.SchemaReading.{is_one_of}
 use Rattle.yq_program.specs.Tokens.{Token, symbol, scalar_words}
 use Rattle.yq_parsing.specs.Lexing.{after, taken, as_step}
 use Rattle.yq_program.specs.Grammar.{Production, HasSymbol, IsPlainLiteral, AreListed, IsField, IsLiteral}
-use Rattle.yq_parsing.specs.Parse.{Parse, behind_at, word_at, scalar_at, listed_at, field_at, literal_at, begins_left}
+use Rattle.yq_parsing.specs.Parse.{Parse, after_mark, word_at, parse_scalar, listed_at, field_at, literal_at, begins_left}
 use Rattle.yq_parsing.proofs.Keys.{distinct_again}
 use Rattle.yq_parsing.proofs.Readers.{Lessens}
 use Rattle.yq_parsing.proofs.LoopSteps.{item_lessens, field_lessens}
@@ -18,8 +18,8 @@ use Rattle.yq_parsing.proofs.FormsAgain.{after_again, Again, parted_again, Anyth
 word_again : (w : List ℕ) (r : List Token) → is_one_of scalar_words w ≡ true → word_at (symbol w ∷ r) ≡ Some (w, r)
 word_again w r h = search (rules, cases_Bool, bytes_eq-Decides, false≢true)
 
-pub scalar_again : Again scalar_at IsPlainLiteral Anything
-unfolding scalar_at
+pub scalar_again : Again parse_scalar IsPlainLiteral Anything
+unfolding parse_scalar
 scalar_again s ts rest (inl h) f = rw (h.2, h.1) refl
 scalar_again s ts rest (inr (inl h)) f = rw (h.2, h.1) refl
 scalar_again s ts rest (inr (inr h)) f = rw (h.3, h.1) (rw (word_again h.0 rest h.2) refl)
@@ -49,7 +49,7 @@ pub literal_begins : (depth : ℕ) (n : Node) (ts rest : List Token) → IsLiter
 unfolding IsLiteral
 literal_begins depth n ts rest h1 = search (rules, scalar_begins, scalar_unnamed, listed_begins)
 
-listed_again : {A : Type 0} (opening closing : List ℕ) (at : Parse A) (Is : Production A) → Lessens (behind_at (codes ",") at) → Again at Is Anything
+listed_again : {A : Type 0} (opening closing : List ℕ) (at : Parse A) (Is : Production A) → Lessens (after_mark (codes ",") at) → Again at Is Anything
     → ((x : A) (ts rest : List Token) → Is x ts rest → after closing ts ≡ None) → ((r : List Token) → after (codes ",") (symbol closing ∷ r) ≡ None)
     → (xs : List A) (ts rest : List Token) → AreListed opening closing Is xs ts rest → (inner : List Token) × HasSymbol opening ts inner × (listed_at closing at inner ≡ Some (xs, rest))
 listed_again opening closing at Is less again front comma [] ts rest h =

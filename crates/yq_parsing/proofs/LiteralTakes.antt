@@ -9,15 +9,15 @@ use Rattle.yq_flow_scalars.specs.SchemaReading.{is_one_of}
 use Rattle.yq_program.specs.Tokens.{Token, symbol, scalar_words}
 use Rattle.yq_parsing.specs.Lexing.{after, taken, as_number, as_string}
 use Rattle.yq_program.specs.Grammar.{Production, HasSymbol, AreParted, IsPlainLiteral, AreListed, IsField, IsScalarNode, IsLiteral}
-use Rattle.yq_parsing.specs.Parse.{Parse, parted_at, word_at, scalar_at, listed_at, field_at, mapping_of, scalar_node_at, literal_at}
+use Rattle.yq_parsing.specs.Parse.{Parse, parted_at, word_at, parse_scalar, listed_at, field_at, mapping_of, scalar_node_at, literal_at}
 use Rattle.yq_parsing.proofs.Keys.{distinct_keys}
 use Rattle.yq_parsing.proofs.Readers.{either_cases, after_takes, string_takes, number_takes, Takes, Shortens, same_form, parted_takes, closed_takes, parted_shortens, between_shortens}
 
 word_takes : (ts : List Token) (x : List ℕ × List Token) → word_at ts ≡ Some x → (is_one_of scalar_words x.0 ≡ true) × (ts ≡ symbol x.0 ∷ x.1)
 word_takes ts x h = search (rules, either_cases, same_form, after_takes)
 
-pub scalar_takes : Takes scalar_at IsPlainLiteral
-unfolding scalar_at
+pub scalar_takes : Takes parse_scalar IsPlainLiteral
+unfolding parse_scalar
 scalar_takes ts x h = elim (either_cases (taken as_number ts) h) [
   | inl n ↦ same_form IsPlainLiteral ts n.2 (inr (inl (n.0.0, refl, number_takes ts n.0 n.1)))
   | inr on ↦ elim (either_cases (word_at ts) on.1) [
@@ -61,7 +61,7 @@ mapping_takes depth all y x are h =
 
 scalar_node_takes : Takes scalar_node_at IsScalarNode
 scalar_node_takes ts x h =
-    let s = bind_some (scalar_at ts) h in
+    let s = bind_some (parse_scalar ts) h in
     same_form IsScalarNode ts s.2 (s.0.0, refl, scalar_takes ts s.0 s.1)
 
 pub literal_takes : (depth : ℕ) → Takes (literal_at depth) (IsLiteral depth)

@@ -8,7 +8,7 @@ use Rattle.yq_program.specs.Tokens.{Token}
 use Rattle.yq_parsing.specs.ReadAnswers.{ParseFails, GivesForm, with_tokens, IsShorter}
 use Rattle.yq_parsing.specs.Lexing.{tokens, after}
 use Rattle.std.specs.Borrow.{Bor}
-use Rattle.yq_parsing.specs.Parse.{Parse, either, with_front, many, step_at, behind_at, parted_at, literal_at, field_at, stage_at, term_at, update_at}
+use Rattle.yq_parsing.specs.Parse.{Parse, either, with_front, many, step_at, after_mark, parted_at, literal_at, field_at, stage_at, term_at, parse_update}
 use Rattle.std.specs.Prelude.{codes}
 use Rattle.yq_parsing.proofs.Readers.{Lessens, many_next, Takes, Shortens, behind_takes, behind_shortens}
 use Rattle.yq_program.specs.Grammar.{Production, IsLiteral, IsField, IsStage, IsTerm, IsUpdate, literal_depth}
@@ -74,14 +74,14 @@ pub onto_new : {X Y : Type 0} (v : X → Y) (xs : List X) (o : Option (List Y ×
 onto_new v xs None is = refl
 onto_new v xs (Some y) is = ap (λ l. Some (map v l ++ y.0, y.1)) is
 
-behind_many : {A : Type 0} (s : List ℕ) (form : Parse A) → Lessens (behind_at s form) → (a : A) (ts : List Token)
-    → with_front a (many (behind_at s form) ts) ≡ either (after s ts) (λ r. with_front a (parted_at s form r)) (Some (a ∷ [], ts))
-behind_many {A} s form less a ts = ap (with_front a) (many_next (behind_at s form) less ts) ∙ go (after s ts)
+behind_many : {A : Type 0} (s : List ℕ) (form : Parse A) → Lessens (after_mark s form) → (a : A) (ts : List Token)
+    → with_front a (many (after_mark s form) ts) ≡ either (after s ts) (λ r. with_front a (parted_at s form r)) (Some (a ∷ [], ts))
+behind_many {A} s form less a ts = ap (with_front a) (many_next (after_mark s form) less ts) ∙ go (after s ts)
   where
     others : Option (Option (A × List Token)) → Option (List A × List Token)
-    others o = o >>= λ o. either o (λ x. with_front x.0 (many (behind_at s form) x.1)) (Some ([], ts))
+    others o = o >>= λ o. either o (λ x. with_front x.0 (many (after_mark s form) x.1)) (Some ([], ts))
 
-    read : (o : Option (A × List Token)) → others (o >>= λ x. Some (Some x)) ≡ (o >>= λ x. with_front x.0 (many (behind_at s form) x.1))
+    read : (o : Option (A × List Token)) → others (o >>= λ x. Some (Some x)) ≡ (o >>= λ x. with_front x.0 (many (after_mark s form) x.1))
     read None = refl
     read (Some x) = refl
 
@@ -90,15 +90,15 @@ behind_many {A} s form less a ts = ap (with_front a) (many_next (behind_at s for
     go None = refl
     go (Some r) = ap (with_front a) (read (form r))
 
-turn : {A : Type 0} (s : List ℕ) (form : Parse A) → Lessens (behind_at s form) → (xs : List A) (ts : List Token) (w : Option (List A × List Token))
+turn : {A : Type 0} (s : List ℕ) (form : Parse A) → Lessens (after_mark s form) → (xs : List A) (ts : List Token) (w : Option (List A × List Token))
     → onto xs (parted_at s form ts) ≡ w → (x : A) (r : List Token) → form ts ≡ Some (x, r) → (o : Option (List Token)) → after s r ≡ o
     → onto xs (either o (λ r. with_front x (parted_at s form r)) (Some (x ∷ [], r))) ≡ w
 turn s form less xs ts w h x r e o a =
     ap (λ o. onto xs (either o (λ r. with_front x (parted_at s form r)) (Some (x ∷ [], r)))) (sym a)
-    ∙ (ap (onto xs) (sym (behind_many s form less x r) ∙ sym (ap (λ o. o >>= λ y. with_front y.0 (many (behind_at s form) y.1)) e)) ∙ h)
+    ∙ (ap (onto xs) (sym (behind_many s form less x r) ∙ sym (ap (λ o. o >>= λ y. with_front y.0 (many (after_mark s form) y.1)) e)) ∙ h)
 
 -- a form is read, and the mark is behind it
-pub parted_more : {X Y : Type 0} (v : X → Y) (s : List ℕ) (form : Parse Y) → Lessens (behind_at s form) → (xs : List X) (ts : List Token) (w : Option (List Y × List Token))
+pub parted_more : {X Y : Type 0} (v : X → Y) (s : List ℕ) (form : Parse Y) → Lessens (after_mark s form) → (xs : List X) (ts : List Token) (w : Option (List Y × List Token))
     → onto (map v xs) (parted_at s form ts) ≡ w → (x : X) (r : List Token) → form ts ≡ Some (v x, r) → (ys : List X) → ys ≡ xs ++ x ∷ []
     → (q : List Token) → after s r ≡ Some q → onto (map v ys) (parted_at s form q) ≡ w
 parted_more v s form less xs ts w h x r e ys pushed q a =
@@ -106,7 +106,7 @@ parted_more v s form less xs ts w h x r e ys pushed q a =
     ∙ rw map_push (sym (onto_front (map v xs) (v x) (parted_at s form q)) ∙ turn s form less (map v xs) ts w h (v x) r e (Some q) a)
 
 -- a form is read, and no mark is behind it
-pub parted_end : {X Y : Type 0} (v : X → Y) (s : List ℕ) (form : Parse Y) → Lessens (behind_at s form) → (xs : List X) (ts : List Token) (w : Option (List Y × List Token))
+pub parted_end : {X Y : Type 0} (v : X → Y) (s : List ℕ) (form : Parse Y) → Lessens (after_mark s form) → (xs : List X) (ts : List Token) (w : Option (List Y × List Token))
     → onto (map v xs) (parted_at s form ts) ≡ w → (x : X) (r : List Token) → form ts ≡ Some (v x, r) → (ys : List X) → ys ≡ xs ++ x ∷ []
     → after s r ≡ None → w ≡ Some (map v ys, r)
 parted_end v s form less xs ts w h x r e ys pushed a =
@@ -115,7 +115,7 @@ parted_end v s form less xs ts w h x r e ys pushed a =
 -- a form is refused
 pub parted_fails : {A : Type 0} (s : List ℕ) (form : Parse A) (xs : List A) (ts : List Token) (w : Option (List A × List Token))
     → onto xs (parted_at s form ts) ≡ w → (e : ParseError) → ParseFails e (form ts) → ParseFails e w
-parted_fails s form xs ts w h error.Syntax f = sym h ∙ ap (λ o. onto xs (o >>= λ y. with_front y.0 (many (behind_at s form) y.1))) f
+parted_fails s form xs ts w h error.Syntax f = sym h ∙ ap (λ o. onto xs (o >>= λ y. with_front y.0 (many (after_mark s form) y.1))) f
 parted_fails s form xs ts w h error.Memory f = tt
 parted_fails s form xs ts w h _ f = f
 
@@ -124,20 +124,20 @@ parted_fails s form xs ts w h _ f = f
 pub step_lessens : Lessens step_at
 step_lessens ts x h = next_shortens x.0 ts x.1 (step_takes ts x h)
 
-behind_lessens : {A : Type 0} (s : List ℕ) (at : Parse A) (Is : Production A) → Takes at Is → Shortens Is → Lessens (behind_at s at)
+behind_lessens : {A : Type 0} (s : List ℕ) (at : Parse A) (Is : Production A) → Takes at Is → Shortens Is → Lessens (after_mark s at)
 behind_lessens s at Is takes less ts x h = behind_shortens s Is less x.0 ts x.1 (behind_takes s at Is takes ts x h)
 
-pub item_lessens : (depth : ℕ) → Lessens (behind_at (codes ",") (literal_at depth))
+pub item_lessens : (depth : ℕ) → Lessens (after_mark (codes ",") (literal_at depth))
 item_lessens depth = behind_lessens (codes ",") (literal_at depth) (IsLiteral depth) (literal_takes depth) (literal_shortens depth)
 
-pub field_lessens : (depth : ℕ) → Lessens (behind_at (codes ",") (field_at (literal_at depth)))
+pub field_lessens : (depth : ℕ) → Lessens (after_mark (codes ",") (field_at (literal_at depth)))
 field_lessens depth = behind_lessens (codes ",") (field_at (literal_at depth)) (IsField (IsLiteral depth)) (field_takes (literal_at depth) (IsLiteral depth) (literal_takes depth)) (field_shortens (IsLiteral depth) (literal_shortens depth))
 
-pub stage_lessens : Lessens (behind_at (codes "|") stage_at)
+pub stage_lessens : Lessens (after_mark (codes "|") stage_at)
 stage_lessens = behind_lessens (codes "|") stage_at IsStage stage_takes stage_shortens
 
-pub term_lessens : Lessens (behind_at (codes "+") (term_at literal_depth))
+pub term_lessens : Lessens (after_mark (codes "+") (term_at literal_depth))
 term_lessens = behind_lessens (codes "+") (term_at literal_depth) IsTerm term_takes term_shortens
 
-pub update_lessens : Lessens (behind_at (codes "|") (update_at literal_depth))
-update_lessens = behind_lessens (codes "|") (update_at literal_depth) IsUpdate update_takes update_shortens
+pub update_lessens : Lessens (after_mark (codes "|") (parse_update literal_depth))
+update_lessens = behind_lessens (codes "|") (parse_update literal_depth) IsUpdate update_takes update_shortens

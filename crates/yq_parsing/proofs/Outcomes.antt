@@ -10,8 +10,8 @@ use Rattle.yq_program.specs.Tokens.{Token, foreign, unread, AreTokens}
 use Rattle.yq_parsing.specs.Lexing.{tokens, AreRead}
 use Rattle.yq_program.specs.Program.{Program, LiteralsHold}
 use Rattle.yq_program.specs.Grammar.{literal_depth}
-use Rattle.yq_parsing.specs.Outcome.{parsed, refused, counted, is_opening, is_closing, opened, closed, IsTooDeep, HasForeign, has_pattern, Derives, ExprRefused, Answers}
-use Rattle.yq_parsing.specs.Parse.{is_unread, is_foreign_token, surveyed, program_at, unless_pattern, outcome_of, outcome}
+use Rattle.yq_parsing.specs.Outcome.{parsed, refused, count_if, is_opening, is_closing, opening_count, closing_count, IsTooDeep, HasForeign, has_pattern, Derives, ExprRefused, Answers}
+use Rattle.yq_parsing.specs.Parse.{is_unread, is_foreign_token, surveyed, program_at, unless_pattern, parse_outcome, outcome}
 use Rattle.yq_program.proofs.Literals.{literals_hold}
 use Rattle.yq_parsing.proofs.TextTokens.{tokens_take, tokens_again}
 use Rattle.yq_parsing.proofs.UpdateTakes.{program_takes}
@@ -47,16 +47,16 @@ all_read (t ∷ ts) o a b x h = elim (chosen (is_unread t) h) [
 
 -- so many brackets opened and closed before
 abbrev DeepFrom : ℕ → ℕ → List Token → ℕ → Type 0
-DeepFrom a b ts n = (closed (take n ts) + b) + 64 < opened (take n ts) + a
+DeepFrom a b ts n = (closing_count (take n ts) + b) + 64 < opening_count (take n ts) + a
 
-counted-add : (c : Bool) (x y : ℕ) → counted c x + y ≡ x + counted c y
+counted-add : (c : Bool) (x y : ℕ) → count_if c x + y ≡ x + count_if c y
 counted-add true x y = omega arith
 counted-add false x y = refl
 
-deep_later : (a b : ℕ) (t : Token) (ts : List Token) (n : ℕ) → DeepFrom (counted (is_opening t) a) (counted (is_closing t) b) ts n → DeepFrom a b (t ∷ ts) (suc n)
+deep_later : (a b : ℕ) (t : Token) (ts : List Token) (n : ℕ) → DeepFrom (count_if (is_opening t) a) (count_if (is_closing t) b) ts n → DeepFrom a b (t ∷ ts) (suc n)
 deep_later a b t ts n h = search (rules, counted-add)
 
-deep_before : (a b : ℕ) (t : Token) (ts : List Token) (n : ℕ) → DeepFrom a b (t ∷ ts) (suc n) → DeepFrom (counted (is_opening t) a) (counted (is_closing t) b) ts n
+deep_before : (a b : ℕ) (t : Token) (ts : List Token) (n : ℕ) → DeepFrom a b (t ∷ ts) (suc n) → DeepFrom (count_if (is_opening t) a) (count_if (is_closing t) b) ts n
 deep_before a b t ts n h = search (rules, counted-add)
 
 refused_in : (ts : List Token) (o : Bool) (a b : ℕ) → surveyed o a b ts ≡ Some true → (o ≡ true) ⊎ HasForeign ts ⊎ ((n : ℕ) × DeepFrom a b ts n)
@@ -65,8 +65,8 @@ refused_in [] o a b h = inl (cc)
 refused_in (t ∷ ts) o a b h = elim (chosen (is_unread t) h) [
   | inl here ↦ cc
   | inr on ↦
-      let a' = counted (is_opening t) a in
-      let b' = counted (is_closing t) b in
+      let a' = count_if (is_opening t) a in
+      let b' = count_if (is_closing t) b in
       elim (refused_in ts (o || is_foreign_token t || nat_lt (b' + 64) a') a' b' on.1) [
         | inl now ↦ elim (or_cases (o || is_foreign_token t) (nat_lt (b' + 64) a') now) [
           | inl x ↦ elim (or_cases o (is_foreign_token t) x) [
@@ -114,7 +114,7 @@ none_in (t ∷ ts) o a b h shallow = elim (chosen (is_unread t) h) [
     both one others (inl e) = one e
     both one others (inr e) = others e
 
-    go : ((n : ℕ) → DeepFrom (counted (is_opening t) a) (counted (is_closing t) b) ts n → ⊥) → (n : ℕ) → DeepFrom a b (t ∷ ts) n → ⊥
+    go : ((n : ℕ) → DeepFrom (count_if (is_opening t) a) (count_if (is_closing t) b) ts n → ⊥) → (n : ℕ) → DeepFrom a b (t ∷ ts) n → ⊥
     go later zero d = shallow (omega arith)
     go later (suc n) d = later n (deep_before a b t ts n d)
 
@@ -175,7 +175,7 @@ outcome_refused text e h = go (surveyed false 0 0 (tokens text)) refl h
       | inr none ↦ cc
     ]
 
-    go : (o : Option Bool) → surveyed false 0 0 (tokens text) ≡ o → outcome_of o (program_at literal_depth (tokens text)) ≡ refused e → ExprRefused e text
+    go : (o : Option Bool) → surveyed false 0 0 (tokens text) ≡ o → parse_outcome o (program_at literal_depth (tokens text)) ≡ refused e → ExprRefused e text
     go None s k = let is : error.Syntax ≡ e = cc in subst (λ (x : ParseError). ExprRefused x text) is (inl (survey_fails text s))
     go (Some true) s k = let is : error.NotInProfile ≡ e = cc in subst (λ (x : ParseError). ExprRefused x text) is (survey_refuses text s)
     go (Some false) s k = last (program_at literal_depth (tokens text)) refl s k

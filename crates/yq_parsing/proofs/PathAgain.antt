@@ -1,7 +1,7 @@
 -- Steps and paths of the grammar are read again.
 use Rattle.std.proofs.Common.{◌≡◌, ◌⊎◌, ℕ, false, List, [], ◌∷◌, Some, None, refl, inl, inr, rules}
 use Rattle.std.specs.Prelude.{codes}
-use Rattle.yq_program.specs.Program.{Step}
+use Rattle.yq_program.specs.Program.{PathStep}
 use Rattle.yq_program.specs.Tokens.{Token, is_symbol, step, symbol}
 use Rattle.yq_parsing.specs.Lexing.{after, taken, as_step}
 use Rattle.yq_program.specs.Grammar.{HasSymbol, IsBracket, IsNamed, IsFirst, IsNext, Are, IsPath}
@@ -9,14 +9,14 @@ use Rattle.yq_parsing.specs.Parse.{many, bracketed_at, bracket_at, step_at, path
 use Rattle.yq_parsing.proofs.LoopSteps.{step_lessens}
 use Rattle.yq_parsing.proofs.FormsAgain.{Again, AgainMaybe, many_again, Anything, Ends}
 
-bracket_again : (s : Step) (ts rest : List Token) → IsBracket s ts rest → bracket_at ts ≡ Some (Some (s, rest))
+bracket_again : (s : PathStep) (ts rest : List Token) → IsBracket s ts rest → bracket_at ts ≡ Some (Some (s, rest))
 unfolding bracketed_at
 bracket_again s ts rest h1 = search rules
 
-unnamed : (s : Step) (ts rest : List Token) → IsBracket s ts rest → (taken as_step ts ≡ None) × (after (codes ".") ts ≡ None)
+unnamed : (s : PathStep) (ts rest : List Token) → IsBracket s ts rest → (taken as_step ts ≡ None) × (after (codes ".") ts ≡ None)
 unnamed s ts rest h1 = search rules
 
-named_again : (s : Step) (ts rest : List Token) → IsNamed s ts rest → step_at ts ≡ Some (Some (s, rest))
+named_again : (s : PathStep) (ts rest : List Token) → IsNamed s ts rest → step_at ts ≡ Some (Some (s, rest))
 unfolding step_at
 named_again s ts rest h1 = search rules
 
@@ -30,17 +30,17 @@ step_ends : (ts : List Token) → Ends ts → step_at ts ≡ Some None
 unfolding step_at
 step_ends ts h = rw (h.0, h.2, h.1) refl
 
-steps_again : (steps : List Step) (ts rest : List Token) → Are IsNext steps ts rest → step_at rest ≡ Some None → many step_at ts ≡ Some (steps, rest)
+steps_again : (steps : List PathStep) (ts rest : List Token) → Are IsNext steps ts rest → step_at rest ≡ Some None → many step_at ts ≡ Some (steps, rest)
 steps_again steps ts rest are none = many_again step_at IsNext Anything step_lessens step_again (λ x us r is. tt) steps ts rest are tt none
 
 -- a path begins with a named step or a dot
 abbrev pub BeginsPath : List Token → Type 0
 BeginsPath ts = ((k : List ℕ) × (r : List Token) × (ts ≡ step k ∷ r)) ⊎ ((r : List Token) × HasSymbol (codes ".") ts r)
 
-first_begins : (s : Step) (ts rest : List Token) → IsFirst s ts rest → BeginsPath ts
+first_begins : (s : PathStep) (ts rest : List Token) → IsFirst s ts rest → BeginsPath ts
 first_begins s ts rest h1 = search rules
 
-pub path_begins : (steps : List Step) (ts rest : List Token) → IsPath steps ts rest → BeginsPath ts
+pub path_begins : (steps : List PathStep) (ts rest : List Token) → IsPath steps ts rest → BeginsPath ts
 path_begins [] ts rest h = inr (rest, h)
 path_begins (s ∷ steps) ts rest h = first_begins s ts h.0 h.1
 

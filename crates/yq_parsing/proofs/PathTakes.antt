@@ -3,15 +3,15 @@ use Rattle.std.proofs.Common.{◌≡◌, false, List, [], ◌∷◌, length, Som
 use Rattle.std.proofs.lemmas.Option.{same_Some}
 use Rattle.std.specs.Prelude.{codes}
 use Rattle.yq_flow_scalars.proofs.Bools.{bind_some, chosen}
-use Rattle.yq_program.specs.Program.{Step, key, index}
+use Rattle.yq_program.specs.Program.{PathStep, key, index}
 use Rattle.yq_program.specs.Tokens.{Token}
 use Rattle.yq_parsing.specs.Lexing.{after}
 use Rattle.yq_program.specs.Grammar.{Production, HasSymbol, IsBracket, IsDotted, IsNamed, IsFirst, IsNext, Are, IsPath}
-use Rattle.yq_parsing.specs.Parse.{many, bracketed_at, bracket_at, step_at, path_of, path_at}
+use Rattle.yq_parsing.specs.Parse.{many, bracketed_at, bracket_at, step_at, written_path, path_at}
 use Rattle.yq_parsing.proofs.Readers.{either_cases, after_takes, string_takes, number_takes, named_takes, Takes, TakesMaybe, Shortens, same_form, many_takes, many_shortens}
 
 -- a bracket from behind its opening mark
-abbrev Inner : Production Step
+abbrev Inner : Production PathStep
 Inner s ts rest = (all : List Token) → HasSymbol (codes "[") all ts → IsBracket s all rest
 
 bracketed_takes : Takes bracketed_at Inner
@@ -41,7 +41,7 @@ next_shortens s ts rest (inl h) = named_shortens s ts rest h
 next_shortens s ts rest (inr (inl h)) = bracket_shortens s ts rest h
 next_shortens s ts rest (inr (inr h)) = dotted_shortens s ts rest h
 
-path_takes_of : (ts : List Token) (y x : List Step × List Token) → is_some (after (codes "[") ts) ≡ false → Are IsNext y.0 ts y.1 → path_of y ≡ Some x → IsPath x.0 ts x.1
+path_takes_of : (ts : List Token) (y x : List PathStep × List Token) → is_some (after (codes "[") ts) ≡ false → Are IsNext y.0 ts y.1 → written_path y ≡ Some x → IsPath x.0 ts x.1
 path_takes_of ts y x = search (rules, bind_some, same_form, after_takes)
 
 pub path_takes : Takes path_at IsPath

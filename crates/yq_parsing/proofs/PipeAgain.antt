@@ -1,7 +1,7 @@
 -- Conditions, stages and pipes of the grammar are read again.
 use Rattle.std.proofs.Common.{◌≡◌, Bool, true, false, List, [], ◌∷◌, Some, None, refl, sym, subst, inl, inr, rules}
 use Rattle.std.specs.Prelude.{codes}
-use Rattle.yq_program.specs.Program.{is_simple, Step, each, Operand, value_at, document_index, compares, has, Stage, path, select}
+use Rattle.yq_program.specs.Program.{is_simple, PathStep, each, Operand, value_at, document_index, compares, has, Stage, path, select}
 use Rattle.yq_program.specs.Tokens.{Token, symbol}
 use Rattle.yq_parsing.specs.Lexing.{after}
 use Rattle.yq_program.specs.Grammar.{Production, HasSymbol, IsSimple, IsOperand, comparison, IsCondition, InParentheses, IsStage, IsPipe, IsLeft}
@@ -11,7 +11,7 @@ use Rattle.yq_parsing.proofs.FormsAgain.{after_again, Again, parted_again, Anyth
 use Rattle.yq_parsing.proofs.PathAgain.{no_mark, path_begins, path_again}
 use Rattle.yq_parsing.proofs.LiteralAgain.{scalar_again}
 
-simple_again : (steps : List Step) → IsSimple steps → is_simple steps ≡ true
+simple_again : (steps : List PathStep) → IsSimple steps → is_simple steps ≡ true
 simple_again [] h = refl
 simple_again (each ∷ steps) h = absurd h
 simple_again (_ ∷ steps) h = simple_again steps h

@@ -3,16 +3,16 @@ use Rattle.std.proofs.Common.{◌≡◌, Bool, true, List, [], ◌∷◌, length
 use Rattle.std.proofs.lemmas.Option.{cond_some}
 use Rattle.std.specs.Prelude.{codes}
 use Rattle.yq_flow_scalars.proofs.Bools.{bind_some}
-use Rattle.yq_program.specs.Program.{is_simple, Step, each, value_at, document_index, compares, has, path, select}
+use Rattle.yq_program.specs.Program.{is_simple, PathStep, each, value_at, document_index, compares, has, path, select}
 use Rattle.yq_program.specs.Tokens.{Token, string, symbol}
 use Rattle.yq_parsing.specs.Lexing.{after, taken, as_string}
 use Rattle.yq_program.specs.Grammar.{Production, HasSymbol, IsSimple, IsOperand, comparison, IsCondition, InParentheses, IsStage, IsPipe, IsLeft}
-use Rattle.yq_parsing.specs.Parse.{Parse, parenthesized_at, path_at, scalar_at, operand_at, comparison_at, condition_at, stage_at, pipe_at, left_at}
+use Rattle.yq_parsing.specs.Parse.{Parse, parenthesized_at, path_at, parse_scalar, operand_at, comparison_at, condition_at, stage_at, pipe_at, left_at}
 use Rattle.yq_parsing.proofs.Readers.{either_cases, after_takes, string_takes, Takes, Shortens, same_form, parted_takes, closed_takes, behind_shortens, parted_shortens, between_shortens}
 use Rattle.yq_parsing.proofs.PathTakes.{path_takes, path_shortens}
 use Rattle.yq_parsing.proofs.LiteralTakes.{scalar_takes, scalar_shortens}
 
-simple_is : (steps : List Step) → is_simple steps ≡ true → IsSimple steps
+simple_is : (steps : List PathStep) → is_simple steps ≡ true → IsSimple steps
 simple_is [] h = tt
 simple_is (each ∷ steps) h = cc
 simple_is (_ ∷ steps) h = simple_is steps h
@@ -38,7 +38,7 @@ condition_takes ts x h = elim (either_cases (after (codes "has") ts) h) [
   | inr on ↦
       let o = bind_some (operand_at ts) on.1 in
       let c = bind_some (comparison_at o.0.1) o.2 in
-      let s = bind_some (scalar_at c.0.1) c.2 in
+      let s = bind_some (parse_scalar c.0.1) c.2 in
       same_form IsCondition ts s.2 (o.0.1, c.0.1, operand_takes ts o.0 o.1, comparison_takes o.0.1 c.0 c.1, scalar_takes c.0.1 s.0 s.1)
 ]
 

@@ -10,7 +10,7 @@ use Rattle.yq_program.specs.declared.program.CommentPlace.TheVariants as place
 use Rattle.yq_program.specs.Program.{Stage, path, select, Update, assign, delete, comment, Program, read, updates}
 use Rattle.yq_program.specs.Tokens.{Token, string, symbol}
 use Rattle.yq_program.specs.Grammar.{HasSymbol, Are, Behind, AreParted, IsStage, IsPipe, IsLeft, literal_depth, operator_mark, place_word, IsUpdate, IsProgram}
-use Rattle.yq_parsing.specs.Parse.{pipe_at, all_of, updates_at, program_at}
+use Rattle.yq_parsing.specs.Parse.{pipe_at, whole_form, updates_at, program_at}
 use Rattle.yq_parsing.proofs.Readers.{second}
 use Rattle.yq_parsing.proofs.UpdateTakes.{whole_takes}
 use Rattle.yq_parsing.proofs.PipeTakes.{pipe_takes}
@@ -71,7 +71,7 @@ not_both (s ∷ stages) (assign left op right ∷ us) ts h k = no_stage s ts h.0
 not_both (s ∷ stages) (delete removed ∷ us) ts h k = no_delete s ts h.0 k.1.0 h.1 k.1.1
 not_both (s ∷ stages) (comment left p text ∷ us) ts h k = no_stage s ts h.0 k.1.0 left h.1 (pipe_goes_on stages h.0 h.2) k.1.1 (inr (p, symbol (codes "=") ∷ string text ∷ k.0, k.1.2))
 
-no_pipe : (us : List Update) (ts : List Token) → AreParted (codes "|") IsUpdate us ts [] → (o : Option (List Stage)) → all_of pipe_at ts ≡ o → o ≡ None
+no_pipe : (us : List Update) (ts : List Token) → AreParted (codes "|") IsUpdate us ts [] → (o : Option (List Stage)) → whole_form pipe_at ts ≡ o → o ≡ None
 no_pipe us ts h None e = refl
 no_pipe us ts h (Some stages) e = absurd (not_both stages us ts (whole_takes pipe_at IsPipe pipe_takes ts stages e) h)
 
@@ -79,5 +79,5 @@ pub program_again : (p : Program) (ts : List Token) → IsProgram p ts → progr
 unfolding program_at updates_at
 program_again (read stages) ts h = rw (pipe_again stages ts [] h (refl, refl, refl) refl) refl
 program_again (updates us) ts h =
-    let none : all_of pipe_at ts ≡ None = no_pipe us ts h (all_of pipe_at ts) refl in
+    let none : whole_form pipe_at ts ≡ None = no_pipe us ts h (whole_form pipe_at ts) refl in
     rw none (rw (updates_again us ts h) refl)

@@ -7,11 +7,11 @@ use Rattle.yq_flow_scalars.specs.Tree as tree
 use Rattle.yq_nodes.specs.Values.{items}
 use Rattle.yq_parsing.specs.declared.error.ParseError.{ParseError}
 use Rattle.yq_parsing.specs.declared.error.ParseError.TheVariants as error
-use Rattle.yq_program.specs.Program.{Step}
+use Rattle.yq_program.specs.Program.{PathStep}
 use Rattle.yq_program.specs.Tokens.{Token}
 use Rattle.yq_parsing.specs.ReadAnswers.{ParseFails, GivesForm, ReadsForm, with_tokens}
 use Rattle.yq_parsing.specs.Lexing.{tokens, after}
-use Rattle.yq_parsing.specs.Parse.{either, many, listed_at, field_at, literal_at, scalar_node_at, mapping_of, path_of}
+use Rattle.yq_parsing.specs.Parse.{either, many, listed_at, field_at, literal_at, scalar_node_at, mapping_of, written_path}
 use Rattle.yq_parsing.proofs.Readers.{Lessens}
 use Rattle.yq_parsing.proofs.LoopSteps.{onto, step_more}
 
@@ -90,6 +90,6 @@ pub seen_as : {X Y : Type 0} (f : X → Y) (o : Option X) (b : Bool) → is_some
 seen_as f None b h = h
 seen_as f (Some x) b h = h
 
-pub path_plain : {X : Type 0} (v : X → Step) (xs : List X) (ts : List Token) → (length xs == 0) ≡ false → path_of (map v xs, ts) ≡ Some (map v xs, ts)
+pub path_plain : {X : Type 0} (v : X → PathStep) (xs : List X) (ts : List Token) → (length xs == 0) ≡ false → written_path (map v xs, ts) ≡ Some (map v xs, ts)
 path_plain v [] ts h = cc
 path_plain v (x ∷ xs) ts h = refl

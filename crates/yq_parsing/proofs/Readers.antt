@@ -7,7 +7,7 @@ use Rattle.yq_flow_scalars.proofs.Bools.{bind_some}
 use Rattle.yq_program.specs.Tokens.{Token, is_symbol, string, number, step, symbol}
 use Rattle.yq_parsing.specs.Lexing.{after, taken, as_number, as_string, as_step}
 use Rattle.yq_program.specs.Grammar.{Production, HasSymbol, Are, Behind, AreParted, Between}
-use Rattle.yq_parsing.specs.Parse.{Parse, either, with_front, many_in, many, behind_at, parted_at, closed_at}
+use Rattle.yq_parsing.specs.Parse.{Parse, either, with_front, many_in, many, after_mark, parted_at, closed_at}
 
 pub either_cases : {A B : Type 0} {f : A → B} {y z : B} (o : Option A) → either o f y ≡ z → ((x : A) × (o ≡ Some x) × (f x ≡ z)) ⊎ ((o ≡ None) × (y ≡ z))
 either_cases (Some x) h = inl (x, refl, h)
@@ -95,14 +95,14 @@ pub many_takes : {A : Type 0} (next : List Token → Option (Option (A × List T
 unfolding many
 many_takes next Is takes ts = many_in_takes next Is takes (1 + length ts) ts
 
-pub behind_takes : {A : Type 0} (s : List ℕ) (at : Parse A) (Is : Production A) → Takes at Is → TakesMaybe (behind_at s at) (Behind s Is)
+pub behind_takes : {A : Type 0} (s : List ℕ) (at : Parse A) (Is : Production A) → Takes at Is → TakesMaybe (after_mark s at) (Behind s Is)
 behind_takes s at Is takes ts x h = search (rules, either_cases, bind_some, after_takes, same_form, same_Some)
 
 pub parted_takes : {A : Type 0} (s : List ℕ) (at : Parse A) (Is : Production A) → Takes at Is → Takes (parted_at s at) (AreParted s Is)
 parted_takes s at Is takes ts x h =
     let y = bind_some (at ts) h in
-    let w = with_front_some y.0.0 (many (behind_at s at) y.0.1) x y.2 in
-    let others = many_takes (behind_at s at) (Behind s Is) (behind_takes s at Is takes) y.0.1 w.0 w.1 in
+    let w = with_front_some y.0.0 (many (after_mark s at) y.0.1) x y.2 in
+    let others = many_takes (after_mark s at) (Behind s Is) (behind_takes s at Is takes) y.0.1 w.0 w.1 in
     same_form (AreParted s Is) ts w.2 (y.0.1, takes ts y.0 y.1, others)
 
 -- a form and then the mark

@@ -7,8 +7,8 @@ use Rattle.yq_flow_scalars.specs.Text.{front, unless}
 use Rattle.yq_flow_scalars.proofs.Bools.{chosen, guard_then}
 use Rattle.yq_parsing.specs.declared.token.Form.{Form}
 use Rattle.yq_parsing.specs.declared.token.Form.TheVariants as form
-use Rattle.yq_program.specs.Tokens.{Token, foreign, escape, Character, itself, escaped, spelling, AreCharacters, interpolates, put, said, IsString}
-use Rattle.yq_parsing.specs.Lexing.{beyond, closing, escaping, quoted, content, token_of}
+use Rattle.yq_program.specs.Tokens.{Token, foreign, escaped_character, Character, itself, escaped, spelling, AreCharacters, interpolates, character_before, said, IsString}
+use Rattle.yq_parsing.specs.Lexing.{beyond, closing, escaping, quoted, string_content, token_of}
 
 -- ---- runs of bytes that pass a test
 
@@ -52,7 +52,7 @@ closed_more b bs y plain c =
     let n : 1 + y.1 ≡ suc y.1 = omega arith in
     (itself b ∷ c.0, (plain, c.1), rw n (ap (λ (s : List ℕ). b ∷ s) c.2), c.3)
 
-pub closed_escape : (o : Bool) (b : ℕ) (bs : List ℕ) (y : Bool × ℕ) → (b == 40) ≡ o → (o || is_some (escape b)) ≡ true → Closed bs y → Closed (92 ∷ (b ∷ bs)) (o || y.0, 2 + y.1)
+pub closed_escape : (o : Bool) (b : ℕ) (bs : List ℕ) (y : Bool × ℕ) → (b == 40) ≡ o → (o || is_some (escaped_character b)) ≡ true → Closed bs y → Closed (92 ∷ (b ∷ bs)) (o || y.0, 2 + y.1)
 closed_escape o b bs y is known c =
     let n : 2 + y.1 ≡ suc (suc y.1) = omega arith in
     (escaped b ∷ c.0, (rw is known, c.1), rw n (ap (λ (s : List ℕ). 92 ∷ (b ∷ s)) c.2), rw (is, c.3) refl)
@@ -85,7 +85,7 @@ mutual
         let y = beyond_is true 2 (closing bs) x here.1 in
         subst (Closed (92 ∷ (b ∷ bs))) y.2 (closed_escape true b bs y.0 here.0 refl (closing_takes bs y.0 y.1))
     | inr on ↦
-        let g = guard_then (is_some (escape b)) on.1 in
+        let g = guard_then (is_some (escaped_character b)) on.1 in
         let y = beyond_is false 2 (closing bs) x g.1 in
         subst (Closed (92 ∷ (b ∷ bs))) y.2 (closed_escape false b bs y.0 on.0 g.0 (closing_takes bs y.0 y.1))
   ]
@@ -103,25 +103,25 @@ closing_again (escaped e ∷ cs) rest h =
     let n : 2 + suc (length (spelling cs)) ≡ suc (suc (suc (length (spelling cs)))) = omega arith in
     elim (cases_Bool (e == 40)) [
       | inl is ↦ rw (is, more, n) refl
-      | inr other ↦ let known : is_some (escape e) ≡ true = rw other at h.0 in rw (other, known, more, n) refl
+      | inr other ↦ let known : is_some (escaped_character e) ≡ true = rw other at h.0 in rw (other, known, more, n) refl
     ]
 
-pub content_again : (cs : List Character) (rest : List ℕ) → AreCharacters cs → content (spelling cs ++ 34 ∷ rest) ≡ said cs
-unfolding content
+pub content_again : (cs : List Character) (rest : List ℕ) → AreCharacters cs → string_content (spelling cs ++ 34 ∷ rest) ≡ said cs
+unfolding string_content
 content_again [] rest h = refl
 content_again (itself b ∷ cs) rest h =
     let no = or_parts (b == 34) (b == 92) h.0 in
     rw (no.0, no.1) (ap (λ (s : List ℕ). b ∷ s) (content_again cs rest h.1))
-content_again (escaped e ∷ cs) rest h = ap (put (escape e)) (content_again cs rest h.1)
+content_again (escaped e ∷ cs) rest h = ap (character_before (escaped_character e)) (content_again cs rest h.1)
 
 pub string_closed : (make : List ℕ → Token) (o : Bool) (p : List ℕ) (t : Token) (cs : List Character) → AreCharacters cs → p ≡ spelling cs ++ 34 ∷ [] → o ≡ interpolates cs
-    → t ≡ cond o foreign (make (content p)) → IsString make t (34 ∷ p)
+    → t ≡ cond o foreign (make (string_content p)) → IsString make t (34 ∷ p)
 string_closed make o p t cs are spelled_is flag is =
-    let text : content p ≡ said cs = ap content spelled_is ∙ content_again cs [] are in
+    let text : string_content p ≡ said cs = ap string_content spelled_is ∙ content_again cs [] are in
     (cs, are, ap (λ (s : List ℕ). 34 ∷ s) spelled_is, is ∙ rw (flag, text) refl)
 
 -- a string in front
-pub string_in : (make : List ℕ → Token) (x : Bool × ℕ) (bs : List ℕ) (t : Token) → closing bs ≡ Some x → t ≡ cond x.0 foreign (make (content (take x.1 bs))) → IsString make t (34 ∷ take x.1 bs)
+pub string_in : (make : List ℕ → Token) (x : Bool × ℕ) (bs : List ℕ) (t : Token) → closing bs ≡ Some x → t ≡ cond x.0 foreign (make (string_content (take x.1 bs))) → IsString make t (34 ∷ take x.1 bs)
 string_in make x bs t h is =
     let c = closing_takes bs x h in
     string_closed make x.0 (take x.1 bs) t c.0 c.1 c.2 c.3 is

@@ -10,8 +10,8 @@ use Rattle.yq_flow_scalars.specs.Text.{front}
 use Rattle.yq_flow_scalars.proofs.Bools.{chosen, guard_then}
 use Rattle.yq_parsing.specs.declared.token.Form.{Form}
 use Rattle.yq_parsing.specs.declared.token.Form.TheVariants as form
-use Rattle.yq_program.specs.Tokens.{Token, string, step, symbol, foreign, begins_name, is_name_byte, is_word, is_mark, is_mark_before, is_foreign, IsBareName, AreDigits, begins_fraction, IsUnsigned, goes_on, begins_equals, IsToken}
-use Rattle.yq_parsing.specs.Lexing.{closing, fraction_len, number_len, dotted, marked, worded, measure, token_of}
+use Rattle.yq_program.specs.Tokens.{Token, string, step, symbol, foreign, begins_name, is_name_byte, is_keyword, is_mark_character, is_mark_before, is_foreign, IsBareName, AreDigits, begins_fraction, IsUnsigned, dot_goes_on, begins_equals, IsToken}
+use Rattle.yq_parsing.specs.Lexing.{closing, fraction_len, number_len, dotted, marked, worded, token_measure, token_of}
 use Rattle.yq_parsing.proofs.Lexing.{begins_is_name}
 use Rattle.yq_parsing.proofs.RunLaws.{form_if, quoted_is, run_front, run_passes, run_stops, string_in}
 
@@ -70,7 +70,7 @@ front_some p (b ∷ bs) h = (b, bs, refl, h)
 
 -- what measuring gives of a piece, and what it is then
 abbrev pub Measures : Token → List ℕ → List ℕ → Type 0
-Measures t piece rest = (f : Form) × (measure (piece ++ rest) ≡ Some (f, length piece)) × (token_of f piece ≡ t)
+Measures t piece rest = (f : Form) × (token_measure (piece ++ rest) ≡ Some (f, length piece)) × (token_of f piece ≡ t)
 
 pub dotted_in : (t : List ℕ) (y : Form × ℕ) → dotted t ≡ Some y → Token_in (46 ∷ t) y
 dotted_in [] y h = subst (Token_in (46 ∷ [])) (same_Some _ _ h) (inr (inr (inr (inr (inr (inl (inr (46, refl, refl, refl, refl), refl)))))))
@@ -104,9 +104,9 @@ marked_in b bs y no_dot no_minus h = elim (chosen (is_mark_before b && front (λ
       let c_is : second.0 ≡ 61 = eqb-true second.0 61 second.3 in
       let piece : take 2 (b ∷ bs) ≡ b ∷ (61 ∷ []) = rw (second.2, c_is) refl in
       subst (Token_in (b ∷ bs)) (same_Some _ _ two.1) (inr (inr (inr (inr (inr (inl (inl (b, piece, parts.0), refl)))))))
-  | inr one ↦ elim (chosen (is_mark b) one.1) [
+  | inr one ↦ elim (chosen (is_mark_character b) one.1) [
     | inl mark ↦
-        let none : (b == 46 && goes_on bs) ≡ false = rw no_dot refl in
+        let none : (b == 46 && dot_goes_on bs) ≡ false = rw no_dot refl in
         subst (Token_in (b ∷ bs)) (same_Some _ _ mark.1) (inr (inr (inr (inr (inr (inl (inr (b, refl, mark.0, one.0, none), refl)))))))
     | inr other ↦
         let g = guard_then (is_foreign b) other.1 in
@@ -128,7 +128,7 @@ pub worded_in : (b : ℕ) (bs : List ℕ) (y : Form × ℕ) → (b == 46) ≡ fa
 worded_in b bs y no_dot no_minus h = elim (chosen (begins_name b) h) [
   | inl name ↦
       let w = take (prefix_len is_name_byte (b ∷ bs)) (b ∷ bs) in
-      subst (Token_in (b ∷ bs)) (same_Some _ _ name.1) (inr (inr (inr (inr (inl (name_in b bs name.0, form_word (is_word w) w))))))
+      subst (Token_in (b ∷ bs)) (same_Some _ _ name.1) (inr (inr (inr (inr (inl (name_in b bs name.0, form_word (is_keyword w) w))))))
   | inr mark ↦ marked_in b bs y no_dot no_minus mark.1
 ]
   where
@@ -136,8 +136,8 @@ worded_in b bs y no_dot no_minus h = elim (chosen (begins_name b) h) [
     form_word true w = refl
     form_word false w = refl
 
-pub measure_in : (t : List ℕ) (y : Form × ℕ) → measure t ≡ Some y → Token_in t y
-unfolding measure
+pub measure_in : (t : List ℕ) (y : Form × ℕ) → token_measure t ≡ Some y → Token_in t y
+unfolding token_measure
 measure_in [] y h = cc
 measure_in (b ∷ bs) y h = elim (chosen (b == 34) h) [
   | inl quote ↦

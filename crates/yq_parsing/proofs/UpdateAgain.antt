@@ -8,7 +8,7 @@ use Rattle.yq_program.specs.Program.{literal, found, Update, assign, delete, com
 use Rattle.yq_program.specs.Tokens.{Token, string, symbol}
 use Rattle.yq_parsing.specs.Lexing.{after}
 use Rattle.yq_program.specs.Grammar.{HasSymbol, AreParted, literal_depth, IsTerm, IsRight, operator_mark, place_word, IsUpdate}
-use Rattle.yq_parsing.specs.Parse.{parted_at, term_at, right_at, operator_at, place_at, action_at, update_at}
+use Rattle.yq_parsing.specs.Parse.{parted_at, term_at, right_at, operator_at, place_at, action_at, parse_update}
 use Rattle.yq_parsing.proofs.LoopSteps.{term_lessens, update_lessens}
 use Rattle.yq_parsing.proofs.FormsAgain.{Again, parted_again, Ends}
 use Rattle.yq_parsing.proofs.LiteralAgain.{literal_begins, literal_again}
@@ -38,8 +38,8 @@ pub place_again : (p : CommentPlace) (ts rest : List Token) → HasSymbol (place
 place_again place.Line ts rest h = (rw h refl, rw h refl, ((rw h refl, rw h refl, rw h refl), rw h refl))
 place_again place.Head ts rest h = (rw h refl, rw h refl, ((rw h refl, rw h refl, rw h refl), rw h refl))
 
-update_again : Again (update_at literal_depth) IsUpdate EndsSum
-unfolding update_at action_at
+update_again : Again (parse_update literal_depth) IsUpdate EndsSum
+unfolding parse_update action_at
 update_again (assign left op right) ts rest h f =
     let sign = operator_again op h.0 h.1 h.3 in
     let front = (left_begins left ts h.0 h.2).1 in
@@ -52,5 +52,5 @@ update_again (comment left p text) ts rest h f =
     let front = (left_begins left ts h.0 h.1).1 in
     rw (front, left_again left ts h.0 h.1 word.2.0, word.0, word.1) refl
 
-pub updates_again : (us : List Update) (ts : List Token) → AreParted (codes "|") IsUpdate us ts [] → parted_at (codes "|") (update_at literal_depth) ts ≡ Some (us, [])
-updates_again us ts h = parted_again (codes "|") (update_at literal_depth) IsUpdate EndsSum update_lessens update_again (λ r. ((refl, refl, refl), refl)) us ts [] h ((refl, refl, refl), refl) refl
+pub updates_again : (us : List Update) (ts : List Token) → AreParted (codes "|") IsUpdate us ts [] → parted_at (codes "|") (parse_update literal_depth) ts ≡ Some (us, [])
+updates_again us ts h = parted_again (codes "|") (parse_update literal_depth) IsUpdate EndsSum update_lessens update_again (λ r. ((refl, refl, refl), refl)) us ts [] h ((refl, refl, refl), refl) refl

@@ -10,7 +10,7 @@ use Rattle.yq_program.specs.Program.{Stage, literal, found, Update, assign, dele
 use Rattle.yq_program.specs.Tokens.{Token, string, symbol}
 use Rattle.yq_parsing.specs.Lexing.{after, taken, as_string}
 use Rattle.yq_program.specs.Grammar.{Production, HasSymbol, InParentheses, IsPipe, IsLeft, literal_depth, IsTerm, IsRight, operator_mark, place_word, IsUpdate, IsProgram}
-use Rattle.yq_parsing.specs.Parse.{Parse, parenthesized_at, pipe_at, left_at, term_at, right_at, operator_at, place_at, action_at, update_at, whole, updates_at, program_at}
+use Rattle.yq_parsing.specs.Parse.{Parse, parenthesized_at, pipe_at, left_at, term_at, right_at, operator_at, place_at, action_at, parse_update, all_read, updates_at, program_at}
 use Rattle.yq_parsing.proofs.Readers.{either_cases, after_takes, string_takes, Takes, Shortens, same_form, parted_takes, behind_shortens, parted_shortens, between_shortens}
 use Rattle.yq_parsing.proofs.LiteralTakes.{literal_takes, literal_shortens}
 use Rattle.yq_parsing.proofs.PipeTakes.{parenthesized_takes, pipe_takes, pipe_shortens, left_takes, left_shortens}
@@ -52,8 +52,8 @@ action_takes left all ts x is h = elim (either_cases (operator_at ts) h) [
       same_form IsUpdate all s.2 (ts, is, cc)
 ]
 
-pub update_takes : Takes (update_at literal_depth) IsUpdate
-unfolding update_at
+pub update_takes : Takes (parse_update literal_depth) IsUpdate
+unfolding parse_update
 update_takes ts x h = elim (either_cases (after (codes "del") ts) h) [
   | inl del ↦
       let y = bind_some (parenthesized_at pipe_at del.0) del.2 in
@@ -74,10 +74,10 @@ update_shortens (comment left p text) ts rest h =
     let front = left_shortens left ts h.0 h.1 in
     omega (arith, ap length h.2)
 
-whole_is : {A : Type 0} (x : A × List Token) (y : A) → whole x ≡ Some y → (x.0 ≡ y) × (x.1 ≡ [])
+whole_is : {A : Type 0} (x : A × List Token) (y : A) → all_read x ≡ Some y → (x.0 ≡ y) × (x.1 ≡ [])
 whole_is x y h = search (rules, same_Some)
 
-pub whole_takes : {A : Type 0} (at : Parse A) (Is : Production A) → Takes at Is → (ts : List Token) (x : A) → (at ts >>= whole) ≡ Some x → Is x ts []
+pub whole_takes : {A : Type 0} (at : Parse A) (Is : Production A) → Takes at Is → (ts : List Token) (x : A) → (at ts >>= all_read) ≡ Some x → Is x ts []
 whole_takes {A} at Is takes ts x h = search (rules, bind_some, whole_is)
 
 pub program_takes : (ts : List Token) (p : Program) → program_at literal_depth ts ≡ Some p → IsProgram p ts

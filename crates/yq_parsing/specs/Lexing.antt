@@ -3,7 +3,7 @@ use Rattle.std.specs.Prelude.{◌≡◌, ℕ, zero, suc, ◌+◌, if◌then◌el
 use Rattle.std.specs.Char.{is_ascii_digit}
 use Rattle.std.specs.List.{prefix_len}
 use Rattle.yq_flow_scalars.specs.Text.{front}
-use Rattle.yq_program.specs.Tokens.{Token, is_symbol, string, number, step, symbol, foreign, unread, is_blank, begins_name, is_name_byte, is_word, is_mark, is_mark_before, is_foreign, escape, put}
+use Rattle.yq_program.specs.Tokens.{Token, is_symbol, string, number, step, symbol, foreign, unread, is_token_blank, begins_name, is_name_byte, is_keyword, is_mark_character, is_mark_before, is_foreign, escaped_character, character_before}
 use Rattle.yq_parsing.specs.declared.token.Form.{Form}
 use Rattle.yq_parsing.specs.declared.token.Form.TheVariants as form
 
@@ -23,7 +23,7 @@ unfoldable mutual
   pub escaping : List ℕ → Option (Bool × ℕ)
   escaping [] = None
   escaping (b ∷ bs) =
-      if b == 40 then beyond true 2 (closing bs) else (if is_some (escape b) then beyond false 2 (closing bs) else None)
+      if b == 40 then beyond true 2 (closing bs) else (if is_some (escaped_character b) then beyond false 2 (closing bs) else None)
 
 -- a string of that form, or a foreign token, that so many bytes stand before (own)
 abbrev pub quoted : Form → ℕ → Option (Bool × ℕ) → Option (Form × ℕ)
@@ -47,24 +47,24 @@ dotted (b ∷ bs) =
     else (if begins_name b then Some (form.Name, 1 + prefix_len is_name_byte (b ∷ bs)) else Some (form.Symbol, 1)))
 
 -- the word or the foreign name in front (own)
-abbrev pub named : List ℕ → Option (Form × ℕ)
-named t = let n = prefix_len is_name_byte t in Some (if is_word (take n t) then form.Symbol else form.Foreign, n)
+abbrev pub read_word : List ℕ → Option (Form × ℕ)
+read_word t = let n = prefix_len is_name_byte t in Some (if is_keyword (take n t) then form.Symbol else form.Foreign, n)
 
 -- the mark or the foreign character in front (own)
 abbrev pub marked : ℕ → List ℕ → Option (Form × ℕ)
 marked b bs =
     if is_mark_before b && front (λ c. c == 61) bs then Some (form.Symbol, 2)
-    else (if is_mark b then Some (form.Symbol, 1) else (if is_foreign b then Some (form.Foreign, 1) else None))
+    else (if is_mark_character b then Some (form.Symbol, 1) else (if is_foreign b then Some (form.Foreign, 1) else None))
 
 -- the word, the foreign name, the mark or the foreign character in front (own)
 abbrev pub worded : List ℕ → Option (Form × ℕ)
 worded [] = None
-worded (b ∷ bs) = if begins_name b then named (b ∷ bs) else marked b bs
+worded (b ∷ bs) = if begins_name b then read_word (b ∷ bs) else marked b bs
 
 -- the form and the length of the token in front (own)
-unfoldable pub measure : List ℕ → Option (Form × ℕ)
-measure [] = None
-measure (b ∷ bs) =
+unfoldable pub token_measure : List ℕ → Option (Form × ℕ)
+token_measure [] = None
+token_measure (b ∷ bs) =
     if b == 34 then quoted form.Text 1 (closing bs)
     else (if b == 46 then dotted bs
     else (if b == 45 && front is_ascii_digit bs then Some (form.Number, 1 + number_len bs)
@@ -73,43 +73,43 @@ measure (b ∷ bs) =
 
 unfoldable mutual
   -- the content of a string, from behind its opening quote (own)
-  pub content : List ℕ → List ℕ
-  content [] = []
-  content (b ∷ bs) = if b == 34 then [] else (if b == 92 then content_escaped bs else b ∷ content bs)
+  pub string_content : List ℕ → List ℕ
+  string_content [] = []
+  string_content (b ∷ bs) = if b == 34 then [] else (if b == 92 then content_escaped bs else b ∷ string_content bs)
 
   -- the same from behind a backslash (own)
   pub content_escaped : List ℕ → List ℕ
   content_escaped [] = []
-  content_escaped (b ∷ bs) = put (escape b) (content bs)
+  content_escaped (b ∷ bs) = character_before (escaped_character b) (string_content bs)
 
 -- whether a byte of a string stands for itself (own)
-abbrev pub is_plain : ℕ → Bool
-is_plain b = not (b == 34) && not (b == 92)
+abbrev pub is_plain_byte : ℕ → Bool
+is_plain_byte b = not (b == 34) && not (b == 92)
 
 -- the character that an escape in front stands for, as a text, and what follows it (own)
 abbrev pub escape_front : List ℕ → Option (List ℕ × List ℕ)
-escape_front (b ∷ c ∷ bs) = if b == 92 then option_map (λ e. (e ∷ [], bs)) (escape c) else None
+escape_front (b ∷ c ∷ bs) = if b == 92 then option_map (λ e. (e ∷ [], bs)) (escaped_character c) else None
 escape_front (b ∷ []) = None
 escape_front [] = None
 
 -- what follows that character, if it is in front (own)
-abbrev pub past : ℕ → List ℕ → List ℕ
-past c [] = []
-past c (b ∷ bs) = if b == c then bs else b ∷ bs
+abbrev pub past_character : ℕ → List ℕ → List ℕ
+past_character c [] = []
+past_character c (b ∷ bs) = if b == c then bs else b ∷ bs
 
 -- the token that a piece of that form is (own)
 abbrev pub token_of : Form → List ℕ → Token
-token_of form.Text p = string (content (past 34 p))
+token_of form.Text p = string (string_content (past_character 34 p))
 token_of form.Number p = number p
-token_of form.Name p = step (past 46 p)
-token_of form.Quoted p = step (content (past 34 (past 46 p)))
+token_of form.Name p = step (past_character 46 p)
+token_of form.Quoted p = step (string_content (past_character 34 (past_character 46 p)))
 token_of form.Symbol p = symbol p
 token_of form.Foreign p = foreign
 token_of form.Unread p = unread
 
 -- what follows the white space in front (own)
 abbrev pub past_blank : List ℕ → List ℕ
-past_blank t = drop (prefix_len is_blank t) t
+past_blank t = drop (prefix_len is_token_blank t) t
 
 -- the text cut behind the token of that form and length; where there is none, nothing follows (own)
 abbrev pub cut_token : List ℕ → Option (Form × ℕ) → Token × List ℕ
@@ -119,11 +119,11 @@ cut_token t (Some x) = (token_of x.0 (take x.1 t), drop x.1 t)
 -- the token in front, where there is no white space, and what follows (own)
 abbrev pub front_token : List ℕ → Option (Token × List ℕ)
 front_token [] = None
-front_token (b ∷ bs) = Some (cut_token (b ∷ bs) (measure (b ∷ bs)))
+front_token (b ∷ bs) = Some (cut_token (b ∷ bs) (token_measure (b ∷ bs)))
 
 -- the token in front and what follows, if the text doesn't end before (own)
-abbrev pub next : List ℕ → Option (Token × List ℕ)
-next t = front_token (past_blank t)
+abbrev pub next_token : List ℕ → Option (Token × List ℕ)
+next_token t = front_token (past_blank t)
 
 -- a token before those of what follows it (own)
 abbrev pub ahead : (List ℕ → List Token) → Option (Token × List ℕ) → List Token
@@ -133,7 +133,7 @@ ahead rest (Some x) = x.0 ∷ rest x.1
 -- the tokens of a text, at most so many (own)
 unfoldable pub tokens_in : ℕ → List ℕ → List Token
 tokens_in zero t = []
-tokens_in (suc n) t = ahead (tokens_in n) (next t)
+tokens_in (suc n) t = ahead (tokens_in n) (next_token t)
 
 -- the tokens of a text (own)
 unfoldable pub tokens : List ℕ → List Token
@@ -177,9 +177,9 @@ taken view [] = None
 taken view (t ∷ ts) = option_map (λ a. (a, ts)) (view t)
 
 -- no token is left (own)
-abbrev pub is_end : List Token → Bool
-is_end [] = true
-is_end (t ∷ ts) = false
+abbrev pub no_tokens : List Token → Bool
+no_tokens [] = true
+no_tokens (t ∷ ts) = false
 
 -- every token is read (own)
 abbrev pub AreRead : List Token → Type 0

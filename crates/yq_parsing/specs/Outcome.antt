@@ -3,7 +3,7 @@ use Rattle.std.specs.Prelude.{◌≡◌, ◌≢◌, ℕ, ◌+◌, ◌<◌, ◌�
 use Rattle.std.specs.List.{list_any}
 use Rattle.yq_parsing.specs.declared.error.ParseError.{ParseError}
 use Rattle.yq_parsing.specs.declared.error.ParseError.TheVariants as error
-use Rattle.yq_program.specs.Program.{Step, key, index, each, Operand, value_at, document_index, Condition, compares, has, Stage, path, select, Term, literal, found, Update, assign, delete, comment, Program, read, updates}
+use Rattle.yq_program.specs.Program.{PathStep, key, index, each, Operand, value_at, document_index, Condition, compares, has, Stage, path, select, Term, literal, found, Update, assign, delete, comment, Program, read, updates}
 use Rattle.yq_program.specs.Tokens.{Token, foreign, is_symbol, AreTokens}
 use Rattle.yq_program.specs.Grammar.{IsProgram}
 
@@ -12,13 +12,13 @@ abbrev pub is_pattern : List ℕ → Bool
 is_pattern t = list_any (λ b. b == 42 || b == 63) t
 
 -- a step to a key with `*` or `?` (own)
-abbrev pub step_matches : Step → Bool
+abbrev pub step_matches : PathStep → Bool
 step_matches (key k) = is_pattern k
 step_matches (index n) = false
 step_matches each = false
 
 -- steps, one of which is such a step (own)
-abbrev pub path_matches : List Step → Bool
+abbrev pub path_matches : List PathStep → Bool
 path_matches steps = list_any step_matches steps
 
 -- what is compared has such a step (own)
@@ -65,23 +65,23 @@ abbrev pub is_closing : Token → Bool
 is_closing t = is_symbol (codes "]") t || is_symbol (codes "}") t
 
 -- one more, if the test holds (own)
-abbrev pub counted : Bool → ℕ → ℕ
-counted true n = n + 1
-counted false n = n
+abbrev pub count_if : Bool → ℕ → ℕ
+count_if true n = n + 1
+count_if false n = n
 
 -- how many of the tokens are `[` or `{` (own)
-abbrev pub opened : List Token → ℕ
-opened [] = 0
-opened (t ∷ ts) = counted (is_opening t) (opened ts)
+abbrev pub opening_count : List Token → ℕ
+opening_count [] = 0
+opening_count (t ∷ ts) = count_if (is_opening t) (opening_count ts)
 
 -- how many of the tokens are `]` or `}` (own)
-abbrev pub closed : List Token → ℕ
-closed [] = 0
-closed (t ∷ ts) = counted (is_closing t) (closed ts)
+abbrev pub closing_count : List Token → ℕ
+closing_count [] = 0
+closing_count (t ∷ ts) = count_if (is_closing t) (closing_count ts)
 
 -- up to some place `[` and `{` outnumber `]` and `}` by more than 64 (own)
 abbrev pub IsTooDeep : List Token → Type 0
-IsTooDeep ts = (n : ℕ) × (closed (take n ts) + 64 < opened (take n ts))
+IsTooDeep ts = (n : ℕ) × (closing_count (take n ts) + 64 < opening_count (take n ts))
 
 -- some token is one that only other expressions have (own)
 abbrev pub HasForeign : List Token → Type 0

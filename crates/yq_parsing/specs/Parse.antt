@@ -9,12 +9,12 @@ use Rattle.yq_program.specs.declared.program.Operator.{Operator}
 use Rattle.yq_program.specs.declared.program.Operator.TheVariants as operator
 use Rattle.yq_program.specs.declared.program.CommentPlace.{CommentPlace}
 use Rattle.yq_program.specs.declared.program.CommentPlace.TheVariants as place
-use Rattle.yq_program.specs.Program.{is_simple, Step, key, index, each, Operand, value_at, document_index, Condition, compares, has, Stage, path, select, Term, literal, found, Update, assign, delete, comment, Program, read, updates}
+use Rattle.yq_program.specs.Program.{is_simple, PathStep, key, index, each, Operand, value_at, document_index, Condition, compares, has, Stage, path, select, Term, literal, found, Update, assign, delete, comment, Program, read, updates}
 use Rattle.yq_program.specs.Tokens.{Token, string, number, step, symbol, foreign, unread}
-use Rattle.yq_parsing.specs.Outcome.{Outcome, parsed, refused, has_pattern, counted, is_opening, is_closing}
+use Rattle.yq_parsing.specs.Outcome.{Outcome, parsed, refused, has_pattern, count_if, is_opening, is_closing}
 use Rattle.yq_program.specs.Grammar.{literal_depth}
 use Rattle.yq_parsing.specs.declared.error.ParseError.TheVariants as error
-use Rattle.yq_parsing.specs.Lexing.{tokens, after, taken, as_number, as_string, as_step, is_end}
+use Rattle.yq_parsing.specs.Lexing.{tokens, after, taken, as_number, as_string, as_step, no_tokens}
 use Rattle.yq_nodes.specs.Values.{items, entries}
 use Rattle.yq_flow_scalars.specs.Keys.{are_distinct}
 
@@ -42,12 +42,12 @@ unfoldable pub many : {A : Type 0} → (List Token → Option (Option (A × List
 many next ts = many_in next (1 + length ts) ts
 
 -- a mark in front and then a form, or no mark (own)
-abbrev pub behind_at : {A : Type 0} → List ℕ → Parse A → List Token → Option (Option (A × List Token))
-behind_at s form ts = either (after s ts) (λ r. form r >>= λ x. Some (Some x)) (Some None)
+abbrev pub after_mark : {A : Type 0} → List ℕ → Parse A → List Token → Option (Option (A × List Token))
+after_mark s form ts = either (after s ts) (λ r. form r >>= λ x. Some (Some x)) (Some None)
 
 -- one form or more, with the mark between them (own)
 abbrev pub parted_at : {A : Type 0} → List ℕ → Parse A → Parse (List A)
-parted_at s form ts = form ts >>= λ x. with_front x.0 (many (behind_at s form) x.1)
+parted_at s form ts = form ts >>= λ x. with_front x.0 (many (after_mark s form) x.1)
 
 -- a form in front and then the mark (own)
 abbrev pub closed_at : {A : Type 0} → List ℕ → Parse A → Parse A
@@ -58,34 +58,34 @@ abbrev pub parenthesized_at : {A : Type 0} → Parse A → Parse A
 parenthesized_at form ts = after (codes "(") ts >>= closed_at (codes ")") form
 
 -- an index in brackets, from its number (own)
-abbrev pub index_at : List ℕ × List Token → Option (Step × List Token)
+abbrev pub index_at : List ℕ × List Token → Option (PathStep × List Token)
 index_at x = int_value x.0 >>= λ n. after (codes "]") x.1 >>= λ r. Some (index n, r)
 
 -- a step in brackets, from behind the opening one (own)
-unfoldable pub bracketed_at : Parse Step
+unfoldable pub bracketed_at : Parse PathStep
 bracketed_at ts =
     either (after (codes "]") ts) (λ r. Some (each, r))
     (either (taken as_number ts) index_at
     (taken as_string ts >>= λ x. after (codes "]") x.1 >>= λ r. Some (key x.0, r)))
 
 -- what stands in brackets, if an opening one is in front (own)
-abbrev pub bracket_at : List Token → Option (Option (Step × List Token))
+abbrev pub bracket_at : List Token → Option (Option (PathStep × List Token))
 bracket_at ts = either (after (codes "[") ts) (λ r. bracketed_at r >>= λ x. Some (Some x)) (Some None)
 
 -- a step of a path, if one is in front (own)
-unfoldable pub step_at : List Token → Option (Option (Step × List Token))
+unfoldable pub step_at : List Token → Option (Option (PathStep × List Token))
 step_at ts =
     either (taken as_step ts) (λ x. Some (Some (key x.0, x.1)))
     (either (after (codes ".") ts) bracket_at (bracket_at ts))
 
 -- a path that has these steps; without any it is `.` (own)
-abbrev pub path_of : List Step × List Token → Option (List Step × List Token)
-path_of ([], ts) = after (codes ".") ts >>= λ r. Some ([], r)
-path_of (s ∷ steps, ts) = Some (s ∷ steps, ts)
+abbrev pub written_path : List PathStep × List Token → Option (List PathStep × List Token)
+written_path ([], ts) = after (codes ".") ts >>= λ r. Some ([], r)
+written_path (s ∷ steps, ts) = Some (s ∷ steps, ts)
 
 -- a path (own)
-unfoldable pub path_at : Parse (List Step)
-path_at ts = if is_some (after (codes "[") ts) then None else (many step_at ts >>= path_of)
+unfoldable pub path_at : Parse (List PathStep)
+path_at ts = if is_some (after (codes "[") ts) then None else (many step_at ts >>= written_path)
 
 -- a word for a scalar in front (own)
 abbrev pub word_at : Parse (List ℕ)
@@ -99,8 +99,8 @@ abbrev pub plain_as : List ℕ × List Token → Option (ScalarText × List Toke
 plain_as x = Some (plain_of x.0, x.1)
 
 -- a scalar (own)
-unfoldable pub scalar_at : Parse ScalarText
-scalar_at ts =
+unfoldable pub parse_scalar : Parse ScalarText
+parse_scalar ts =
     either (taken as_number ts) plain_as
     (either (word_at ts) plain_as
     (taken as_string ts >>= λ x. Some (string_of x.0, x.1)))
@@ -119,7 +119,7 @@ mapping_of x = if are_distinct (map (λ e. e.0) x.0) then Some (tree.map None (e
 
 -- a scalar as a node (own)
 abbrev pub scalar_node_at : Parse Node
-scalar_node_at ts = scalar_at ts >>= λ x. Some (tree.scalar None x.0.kind x.0.text, x.1)
+scalar_node_at ts = parse_scalar ts >>= λ x. Some (tree.scalar None x.0.kind x.0.text, x.1)
 
 -- a literal, in which so many collections are nested at most (own)
 unfoldable pub literal_at : ℕ → Parse Node
@@ -130,7 +130,7 @@ literal_at (suc depth) ts =
     (scalar_node_at ts))
 
 -- steps as what is compared, if they are simple (own)
-abbrev pub simple_of : List Step × List Token → Option (Operand × List Token)
+abbrev pub simple_of : List PathStep × List Token → Option (Operand × List Token)
 simple_of x = if is_simple x.0 then Some (value_at x.0, x.1) else None
 
 -- what is compared (own)
@@ -150,7 +150,7 @@ comparison_at ts =
 unfoldable pub condition_at : Parse Condition
 condition_at ts =
     either (after (codes "has") ts) (λ r. parenthesized_at (taken as_string) r >>= λ x. Some (has x.0, x.1))
-    (operand_at ts >>= λ o. comparison_at o.1 >>= λ c. scalar_at c.1 >>= λ s. Some (compares o.0 c.0 s.0.kind s.0.text, s.1))
+    (operand_at ts >>= λ o. comparison_at o.1 >>= λ c. parse_scalar c.1 >>= λ s. Some (compares o.0 c.0 s.0.kind s.0.text, s.1))
 
 -- a stage of a pipe (own)
 unfoldable pub stage_at : Parse Stage
@@ -202,26 +202,26 @@ action_at depth left ts =
     (place_at ts >>= λ p. after (codes "=") p.1 >>= λ r. taken as_string r >>= λ x. Some (comment left p.0 x.0, x.1))
 
 -- an update (own)
-unfoldable pub update_at : ℕ → Parse Update
-update_at depth ts =
+unfoldable pub parse_update : ℕ → Parse Update
+parse_update depth ts =
     either (after (codes "del") ts) (λ r. parenthesized_at pipe_at r >>= λ x. Some (delete x.0, x.1))
     (left_at ts >>= λ x. action_at depth x.0 x.1)
 
 -- what was read, if no token is left (own)
-abbrev pub whole : {A : Type 0} → A × List Token → Option A
-whole x = if is_end x.1 then Some x.0 else None
+abbrev pub all_read : {A : Type 0} → A × List Token → Option A
+all_read x = if no_tokens x.1 then Some x.0 else None
 
 -- a form, and no more (own)
-abbrev pub all_of : {A : Type 0} → Parse A → List Token → Option A
-all_of form ts = form ts >>= whole
+abbrev pub whole_form : {A : Type 0} → Parse A → List Token → Option A
+whole_form form ts = form ts >>= all_read
 
 -- updates, and no more (own)
 unfoldable pub updates_at : ℕ → List Token → Option Program
-updates_at depth ts = all_of (parted_at (codes "|") (update_at depth)) ts >>= λ us. Some (updates us)
+updates_at depth ts = whole_form (parted_at (codes "|") (parse_update depth)) ts >>= λ us. Some (updates us)
 
 -- a program: a pipe if it is one, and else updates (own)
 unfoldable pub program_at : ℕ → List Token → Option Program
-program_at depth ts = either (all_of pipe_at ts) (λ stages. Some (read stages)) (updates_at depth ts)
+program_at depth ts = either (whole_form pipe_at ts) (λ stages. Some (read stages)) (updates_at depth ts)
 
 -- whether a token is where no token begins (own)
 abbrev pub is_unread : Token → Bool
@@ -246,8 +246,8 @@ is_foreign_token foreign = true
 unfoldable pub surveyed : Bool → ℕ → ℕ → List Token → Option Bool
 surveyed other opened closed [] = Some other
 surveyed other opened closed (t ∷ ts) =
-    let o = counted (is_opening t) opened in
-    let c = counted (is_closing t) closed in
+    let o = count_if (is_opening t) opened in
+    let c = count_if (is_closing t) closed in
     if is_unread t then None else surveyed (other || is_foreign_token t || nat_lt (c + 64) o) o c ts
 
 -- a program that is read, unless it has a pattern (own)
@@ -256,11 +256,11 @@ unless_pattern None = refused error.Syntax
 unless_pattern (Some p) = if has_pattern p then refused error.Pattern else parsed p
 
 -- a text's outcome, from what was told of its tokens (own)
-abbrev pub outcome_of : Option Bool → Option Program → Outcome
-outcome_of None p = refused error.Syntax
-outcome_of (Some true) p = refused error.NotInProfile
-outcome_of (Some false) p = unless_pattern p
+abbrev pub parse_outcome : Option Bool → Option Program → Outcome
+parse_outcome None p = refused error.Syntax
+parse_outcome (Some true) p = refused error.NotInProfile
+parse_outcome (Some false) p = unless_pattern p
 
 -- what comes of a text (own)
 unfoldable pub outcome : List ℕ → Outcome
-outcome t = outcome_of (surveyed false 0 0 (tokens t)) (program_at literal_depth (tokens t))
+outcome t = parse_outcome (surveyed false 0 0 (tokens t)) (program_at literal_depth (tokens t))

@@ -12,7 +12,7 @@ use std::alloc::Global;
 /// Whether no token is left.
 #[tactic(auto, using(crate::proofs::Lexing::tokens_next))]
 pub(crate) fn is_end(text: &str) -> bool
-    ensures { result ≡ spec.is_end (spec.tokens text.now) }
+    ensures { result ≡ spec.no_tokens (spec.tokens text.now) }
 {
     split_token(text).is_none()
 }

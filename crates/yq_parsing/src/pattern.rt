@@ -2,7 +2,7 @@
 ghost use Rattle.std.specs.List.{list_any};
 ghost use Rattle.std.specs.Prelude.{◌≡◌, ◌==◌, ◌||◌, string_bytes};
 ghost use Rattle.yq_parsing.specs.Outcome as spec;
-ghost use Rattle.yq_program.specs.View.{step_of, operand_of, condition_of, stage_of, term_of, update_of, program_of};
+ghost use Rattle.yq_program.specs.View.{program_step, operand_of, condition_of, stage_of, term_of, update_of, program_of};
 
 use yq_program::{Condition, Operand, Stage, Step, Syntax, Term, Update};
 
@@ -14,7 +14,7 @@ fn is_pattern(text: &str) -> bool
 }
 
 fn step_matches(step: &Step) -> bool
-    ensures { result ≡ spec.step_matches (step_of step.now) }
+    ensures { result ≡ spec.step_matches (program_step step.now) }
 {
     match step {
         Step::Key(key) => is_pattern(key.as_str()),
@@ -23,7 +23,7 @@ fn step_matches(step: &Step) -> bool
 }
 
 fn path_matches(steps: &[Step]) -> bool
-    ensures { result ≡ list_any (λ s. spec.step_matches (step_of s)) steps.now }
+    ensures { result ≡ list_any (λ s. spec.step_matches (program_step s)) steps.now }
 {
     steps.iter().any(|step| step_matches(step))
 }

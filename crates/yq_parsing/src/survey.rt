@@ -26,7 +26,7 @@ fn is_closing(token: Token<'_>) -> bool
 
 fn counted(found: bool, n: usize) -> usize
     requires { n + 1 < 2 ^ 64 }
-    ensures { result ≡ grammar.counted found n }
+    ensures { result ≡ grammar.count_if found n }
 {
     if found { n + 1 } else { n }
 }

@@ -5,7 +5,7 @@ ghost use Rattle.yq_parsing.specs.Lexing as spec;
 ghost use Rattle.yq_parsing.specs.Parse as parse;
 ghost use Rattle.yq_parsing.specs.TokenView.{token_view};
 ghost use Rattle.yq_program.specs.Tokens as grammar;
-ghost use Rattle.yq_program.specs.Tokens.{is_blank};
+ghost use Rattle.yq_program.specs.Tokens.{is_token_blank};
 
 mod measure;
 mod unescape;
@@ -39,13 +39,13 @@ pub(crate) struct Token<'t> {
 }
 
 fn is_blank_byte(b: u8) -> bool
-    ensures { result ≡ is_blank b }
+    ensures { result ≡ is_token_blank b }
 {
     matches!(b, b' ' | b'\t' | b'\n')
 }
 
 fn blanks_len(text: &[u8]) -> usize
-    ensures value { result ≡ prefix_len is_blank text.now }
+    ensures value { result ≡ prefix_len is_token_blank text.now }
     ensures within { result ≤ length text.now }
 {
     let mut n = 0;
@@ -67,7 +67,7 @@ fn past_blank(text: &str) -> &str
 /// The token in front and what follows it, if the text doesn't end before.
 #[tactic(auto, using(crate::proofs::Lexing::boundary_token, crate::proofs::Lexing::token_some))]
 pub(crate) fn split_token(text: &str) -> Option<(Token<'_>, &str)>
-    ensures value { option_map (λ x. (token_view x.0, x.1.now)) result ≡ spec.next text.now }
+    ensures value { option_map (λ x. (token_view x.0, x.1.now)) result ≡ spec.next_token text.now }
     ensures shorter { IfSome result (λ x. length x.1.now < length text.now) }
 {
     let text = past_blank(text);

@@ -2,7 +2,7 @@
 ghost use Rattle.std.specs.Prelude.{◌≡◌, map};
 ghost use Rattle.yq_flow_scalars.specs.Anchors.{names_of};
 ghost use Rattle.yq_flow_scalars.specs.Tree.{Node as TreeNode};
-ghost use Rattle.yq_nodes.specs.Entries.{step_of as tree_step};
+ghost use Rattle.yq_nodes.specs.Entries.{tree_step};
 ghost use Rattle.yq_meaning.specs.Changes as spec;
 ghost use Rattle.yq_meaning.specs.Judgement.{Judges};
 ghost use Rattle.yq_meaning.specs.PlacesApart.{IsIn};

@@ -2,9 +2,9 @@
 use Rattle.std.proofs.Common.{rules, ◌≡◌, None}
 use Rattle.yq_flow_scalars.specs.Scalar.{ScalarText}
 use Rattle.yq_flow_scalars.specs.Tree.{scalar}
-use Rattle.yq_nodes.specs.Values.{node_of}
+use Rattle.yq_nodes.specs.Values.{value_node}
 use Rattle.yq_nodes.specs.declared.value.Value.{the_lemmas}
 use Rattle.yq_nodes.specs.declared.value.Value.TheVariants as values
 
-pub scalar_value : (s : ScalarText) → node_of (values.Scalar s) ≡ scalar None s.kind s.text
+pub scalar_value : (s : ScalarText) → value_node (values.Scalar s) ≡ scalar None s.kind s.text
 scalar_value s = search (rules, the_lemmas)

@@ -1,8 +1,8 @@
 -- The changes that those of the code stand for.
 use Rattle.std.specs.Prelude.{List, [], ◌∷◌, map, Option, Some, None, option_map, string_bytes}
 use Rattle.std.specs.Global.{Vec}
-use Rattle.yq_nodes.specs.Entries.{step_of}
-use Rattle.yq_nodes.specs.Values.{node_of}
+use Rattle.yq_nodes.specs.Entries.{tree_step}
+use Rattle.yq_nodes.specs.Values.{value_node}
 use Rattle.yq_planning.specs.declared.updating.change.Addition as addition
 use Rattle.yq_planning.specs.declared.updating.change.Change as change
 use Rattle.yq_planning.specs.declared.updating.change.Changed as changed
@@ -11,19 +11,19 @@ use Rattle.yq_meaning.specs.Changes.{Addition, appends, overwrites, Change, repl
 
 -- the addition that one of the code stands for (own)
 abbrev pub addition_of : addition.Addition → Addition
-addition_of (addition.TheVariants.Appends k v) = appends (option_map string_bytes k) (node_of v)
-addition_of (addition.TheVariants.Overwrites k v) = overwrites (string_bytes k) (node_of v)
+addition_of (addition.TheVariants.Appends k v) = appends (option_map string_bytes k) (value_node v)
+addition_of (addition.TheVariants.Overwrites k v) = overwrites (string_bytes k) (value_node v)
 
 -- the change that one of the code stands for (own)
 abbrev pub change_of : change.Change → Change
-change_of (change.TheVariants.Replaces v) = replaces (node_of v)
+change_of (change.TheVariants.Replaces v) = replaces (value_node v)
 change_of (change.TheVariants.Adds xs) = adds (map addition_of xs.items)
 change_of change.TheVariants.Removes = removes
 change_of (change.TheVariants.SetsComment place text) = sets_comment place (string_bytes text)
 
 -- the same with its path (own)
 abbrev pub changed_of : changed.Changed → Changed
-changed_of c = (map step_of c.path.items, change_of c.change)
+changed_of c = (map tree_step c.path.items, change_of c.change)
 
 -- the changes of each document (own)
 abbrev pub all_changed_of : List (Vec changed.Changed) → List (List Changed)

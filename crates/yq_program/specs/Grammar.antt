@@ -9,7 +9,7 @@ use Rattle.yq_program.specs.declared.program.Operator.{Operator}
 use Rattle.yq_program.specs.declared.program.Operator.TheVariants as operator
 use Rattle.yq_program.specs.declared.program.CommentPlace.{CommentPlace}
 use Rattle.yq_program.specs.declared.program.CommentPlace.TheVariants as place
-use Rattle.yq_program.specs.Program.{Step, key, index, each, Operand, value_at, document_index, Condition, compares, has, Stage, path, select, Term, literal, found, Update, assign, delete, comment, Program, read, updates}
+use Rattle.yq_program.specs.Program.{PathStep, key, index, each, Operand, value_at, document_index, Condition, compares, has, Stage, path, select, Term, literal, found, Update, assign, delete, comment, Program, read, updates}
 use Rattle.yq_program.specs.Tokens.{Token, string, number, step, symbol, scalar_words}
 use Rattle.yq_nodes.specs.Values.{items, entries}
 
@@ -22,27 +22,27 @@ abbrev pub HasSymbol : List ℕ → List Token → List Token → Type 0
 HasSymbol s ts rest = ts ≡ symbol s ∷ rest
 
 -- "[" "]", "[" int "]" or "[" string "]"; an int is a number without a point, and in i64 (own)
-abbrev pub IsBracket : Production Step
+abbrev pub IsBracket : Production PathStep
 IsBracket (key k) ts rest = ts ≡ symbol (codes "[") ∷ string k ∷ symbol (codes "]") ∷ rest
 IsBracket (index n) ts rest = (w : List ℕ) × (int_value w ≡ Some n) × (ts ≡ symbol (codes "[") ∷ number w ∷ symbol (codes "]") ∷ rest)
 IsBracket each ts rest = ts ≡ symbol (codes "[") ∷ symbol (codes "]") ∷ rest
 
 -- "." and then a bracket (own)
-abbrev pub IsDotted : Production Step
+abbrev pub IsDotted : Production PathStep
 IsDotted s ts rest = (inner : List Token) × HasSymbol (codes ".") ts inner × IsBracket s inner rest
 
 -- a step `.name` or `."string"` (own)
-abbrev pub IsNamed : Production Step
+abbrev pub IsNamed : Production PathStep
 IsNamed (key k) ts rest = ts ≡ step k ∷ rest
 IsNamed (index n) ts rest = ⊥
 IsNamed each ts rest = ⊥
 
 -- the first step of a path: a named one, or "." and a bracket (own)
-abbrev pub IsFirst : Production Step
+abbrev pub IsFirst : Production PathStep
 IsFirst s ts rest = IsNamed s ts rest ⊎ IsDotted s ts rest
 
 -- a further step of a path: a named one, a bracket, or "." and a bracket (own)
-abbrev pub IsNext : Production Step
+abbrev pub IsNext : Production PathStep
 IsNext s ts rest = IsNamed s ts rest ⊎ IsBracket s ts rest ⊎ IsDotted s ts rest
 
 -- forms one after the other, as many as there are (own)
@@ -64,7 +64,7 @@ abbrev pub Between : {A : Type 0} → List ℕ → List ℕ → Production A →
 Between opening closing Is x ts rest = (inner after : List Token) × HasSymbol opening ts inner × Is x inner after × HasSymbol closing after rest
 
 -- path = "." | first { next } (own)
-abbrev pub IsPath : Production (List Step)
+abbrev pub IsPath : Production (List PathStep)
 IsPath [] ts rest = HasSymbol (codes ".") ts rest
 IsPath (s ∷ steps) ts rest = (after : List Token) × IsFirst s ts after × Are IsNext steps after rest
 
@@ -99,7 +99,7 @@ IsLiteral (suc depth) n ts rest =
     × AreListed (codes "{") (codes "}") (IsField (IsLiteral depth)) es ts rest)
 
 -- a path without "[" "]" is simple (own)
-abbrev pub IsSimple : List Step → Type 0
+abbrev pub IsSimple : List PathStep → Type 0
 IsSimple [] = Unit {0}
 IsSimple (key k ∷ steps) = IsSimple steps
 IsSimple (index n ∷ steps) = IsSimple steps
@@ -137,7 +137,7 @@ IsPipe = AreParted (codes "|") IsStage
 -- left = path | "(" pipe ")" (own)
 abbrev pub IsLeft : Production (List Stage)
 IsLeft stages ts rest =
-    ((steps : List Step) × (stages ≡ path steps ∷ []) × IsPath steps ts rest) ⊎ InParentheses IsPipe stages ts rest
+    ((steps : List PathStep) × (stages ≡ path steps ∷ []) × IsPath steps ts rest) ⊎ InParentheses IsPipe stages ts rest
 
 -- the literals of an expression nest 64 collections at most (own)
 unfoldable pub literal_depth : ℕ

@@ -10,14 +10,14 @@ use Rattle.yq_program.specs.declared.program.Operator.{Operator}
 use Rattle.yq_program.specs.declared.program.CommentPlace.{CommentPlace}
 
 -- a step of a path: to the value of a key, to an item by its index, or to each item or value (own)
-pub data Step : Type 0 where
-  key : List ℕ → Step
-  index : ℤ → Step
-  each : Step
+pub data PathStep : Type 0 where
+  key : List ℕ → PathStep
+  index : ℤ → PathStep
+  each : PathStep
 
 -- what is compared: the value that steps lead to, or the number of the document (own)
 pub data Operand : Type 0 where
-  value_at : List Step → Operand
+  value_at : List PathStep → Operand
   document_index : Operand
 
 -- what `select` asks: a comparison, equal or not, with a scalar, or that there is a key (own)
@@ -27,7 +27,7 @@ pub data Condition : Type 0 where
 
 -- a stage of a pipe (own)
 pub data Stage : Type 0 where
-  path : List Step → Stage
+  path : List PathStep → Stage
   select : Condition → Stage
 
 -- a term of a sum: a literal, which is a node without anchors and comments, or what a pipe finds (own)
@@ -62,19 +62,19 @@ update_at n (read stages) = None
 update_at n (updates us) = slice_get us n
 
 -- whether a step leads to one item or value at most (own)
-abbrev pub is_single : Step → Bool
+abbrev pub is_single : PathStep → Bool
 is_single (key k) = true
 is_single (index n) = true
 is_single each = false
 
 -- whether a step is an index (own)
-abbrev pub is_index : Step → Bool
+abbrev pub is_index : PathStep → Bool
 is_index (key k) = false
 is_index (index n) = true
 is_index each = false
 
 -- whether a path has no `[]` (own)
-abbrev pub is_simple : List Step → Bool
+abbrev pub is_simple : List PathStep → Bool
 is_simple steps = list_all is_single steps
 
 -- a value as it may be written: a tree, whose keys differ in each mapping, without anchors and aliases, in which 64 collections at most are nested (own)

@@ -26,8 +26,8 @@ is_symbol s foreign = false
 is_symbol s unread = false
 
 -- white space: a space, a tab or LF (own)
-abbrev pub is_blank : ℕ → Bool
-is_blank b = b == 32 || b == 9 || b == 10
+abbrev pub is_token_blank : ℕ → Bool
+is_token_blank b = b == 32 || b == 9 || b == 10
 
 -- the first character of a name: a letter or `_` (own)
 abbrev pub begins_name : ℕ → Bool
@@ -50,12 +50,12 @@ abbrev pub scalar_words : List (List ℕ)
 scalar_words = codes "true" ∷ codes "false" ∷ codes "null" ∷ []
 
 -- whether a name is a word of this language (own)
-abbrev pub is_word : List ℕ → Bool
-is_word name = is_one_of call_words name || is_one_of place_words name || is_one_of scalar_words name
+abbrev pub is_keyword : List ℕ → Bool
+is_keyword name = is_one_of call_words name || is_one_of place_words name || is_one_of scalar_words name
 
 -- the marks of one character: . [ ] ( ) { } , : | = + (own)
-abbrev pub is_mark : ℕ → Bool
-is_mark b = b == 46 || b == 91 || b == 93 || b == 40 || b == 41 || b == 123 || b == 125 || b == 44 || b == 58 || b == 124 || b == 61 || b == 43
+abbrev pub is_mark_character : ℕ → Bool
+is_mark_character b = b == 46 || b == 91 || b == 93 || b == 40 || b == 41 || b == 123 || b == 125 || b == 44 || b == 58 || b == 124 || b == 61 || b == 43
 
 -- what stands before `=` in a mark of two characters: |= += == != (own)
 abbrev pub is_mark_before : ℕ → Bool
@@ -66,8 +66,8 @@ abbrev pub is_foreign : ℕ → Bool
 is_foreign b = b == 42 || b == 47 || b == 37 || b == 60 || b == 62 || b == 36 || b == 59 || b == 63 || b == 64 || b == 38 || b == 126 || b == 94 || b == 33 || b == 45
 
 -- the character that stands behind a backslash for a character: \" \\ \n \t \r (own)
-abbrev pub escape : ℕ → Option ℕ
-escape b =
+abbrev pub escaped_character : ℕ → Option ℕ
+escaped_character b =
     if b == 34 then Some 34 else (if b == 92 then Some 92 else (if b == 110 then Some 10
     else (if b == 116 then Some 9 else (if b == 114 then Some 13 else None))))
 
@@ -77,19 +77,19 @@ pub data Character : Type 0 where
   escaped : ℕ → Character
 
 -- how a character is written (own)
-abbrev pub spelled : Character → List ℕ
-spelled (itself b) = b ∷ []
-spelled (escaped e) = 92 ∷ e ∷ []
+abbrev pub spelled_character : Character → List ℕ
+spelled_character (itself b) = b ∷ []
+spelled_character (escaped e) = 92 ∷ e ∷ []
 
 -- how characters are written, in order (own)
 abbrev pub spelling : List Character → List ℕ
 spelling [] = []
-spelling (c ∷ cs) = spelled c ++ spelling cs
+spelling (c ∷ cs) = spelled_character c ++ spelling cs
 
 -- every byte but a quote and a backslash stands for itself; the escapes are \" \\ \n \t \r, and \( (own)
 abbrev pub IsCharacter : Character → Type 0
 IsCharacter (itself b) = (b == 34 || b == 92) ≡ false
-IsCharacter (escaped e) = (e == 40 || is_some (escape e)) ≡ true
+IsCharacter (escaped e) = (e == 40 || is_some (escaped_character e)) ≡ true
 
 -- all of them are such characters (own)
 abbrev pub AreCharacters : List Character → Type 0
@@ -103,15 +103,15 @@ interpolates (itself b ∷ cs) = interpolates cs
 interpolates (escaped e ∷ cs) = e == 40 || interpolates cs
 
 -- a character, if there is one, before what follows it (own)
-abbrev pub put : Option ℕ → List ℕ → List ℕ
-put None cs = []
-put (Some c) cs = c ∷ cs
+abbrev pub character_before : Option ℕ → List ℕ → List ℕ
+character_before None cs = []
+character_before (Some c) cs = c ∷ cs
 
 -- what characters say: a byte itself, and an escape its character (own)
 abbrev pub said : List Character → List ℕ
 said [] = []
 said (itself b ∷ cs) = b ∷ said cs
-said (escaped e ∷ cs) = put (escape e) (said cs)
+said (escaped e ∷ cs) = character_before (escaped_character e) (said cs)
 
 -- a string: characters between quotes. One with \( is foreign; another one is the token made of what it says (own)
 abbrev pub IsString : (List ℕ → Token) → Token → List ℕ → Type 0
@@ -142,19 +142,19 @@ abbrev pub IsNumberToken : List ℕ → List ℕ → Type 0
 IsNumberToken piece rest = IsUnsigned piece rest ⊎ ((number : List ℕ) × (piece ≡ 45 ∷ number) × IsUnsigned number rest)
 
 -- whether a step or `..` begins behind a dot before this (own)
-abbrev pub goes_on : List ℕ → Bool
-goes_on [] = false
-goes_on (b ∷ bs) = b == 46 || b == 34 || begins_name b
+abbrev pub dot_goes_on : List ℕ → Bool
+dot_goes_on [] = false
+dot_goes_on (b ∷ bs) = b == 46 || b == 34 || begins_name b
 
 -- whether `=` is in front (own)
 abbrev pub begins_equals : List ℕ → Bool
 begins_equals rest = front (λ b. b == 61) rest
 
 -- a mark, which is no longer one: `=` doesn't follow one that it may end, nor a step or a dot a dot (own)
-abbrev pub IsMark : List ℕ → List ℕ → Type 0
-IsMark piece rest =
+abbrev pub IsMarkToken : List ℕ → List ℕ → Type 0
+IsMarkToken piece rest =
     ((b : ℕ) × (piece ≡ b ∷ 61 ∷ []) × (is_mark_before b ≡ true))
-    ⊎ ((b : ℕ) × (piece ≡ b ∷ []) × (is_mark b ≡ true) × ((is_mark_before b && begins_equals rest) ≡ false) × ((b == 46 && goes_on rest) ≡ false))
+    ⊎ ((b : ℕ) × (piece ≡ b ∷ []) × (is_mark_character b ≡ true) × ((is_mark_before b && begins_equals rest) ≡ false) × ((b == 46 && dot_goes_on rest) ≡ false))
 
 -- `..`, or a character that only other expressions have: no `!` before `=`, no `-` before a digit (own)
 abbrev pub IsForeign : List ℕ → List ℕ → Type 0
@@ -170,12 +170,12 @@ IsToken t piece rest =
     ⊎ ((quoted : List ℕ) × (piece ≡ 46 ∷ quoted) × IsString step t quoted)
     ⊎ ((name : List ℕ) × (piece ≡ 46 ∷ name) × IsBareName name rest × (t ≡ step name))
     ⊎ (IsNumberToken piece rest × (t ≡ number piece))
-    ⊎ (IsBareName piece rest × (t ≡ (if is_word piece then symbol piece else foreign)))
-    ⊎ (IsMark piece rest × (t ≡ symbol piece))
+    ⊎ (IsBareName piece rest × (t ≡ (if is_keyword piece then symbol piece else foreign)))
+    ⊎ (IsMarkToken piece rest × (t ≡ symbol piece))
     ⊎ (IsForeign piece rest × (t ≡ foreign))
 
 -- the tokens of a text: white space and a token, as often as there are tokens, and then white space (own)
 abbrev pub AreTokens : List Token → List ℕ → Type 0
-AreTokens [] text = list_all is_blank text ≡ true
+AreTokens [] text = list_all is_token_blank text ≡ true
 AreTokens (t ∷ ts) text =
-    (white piece rest : List ℕ) × (text ≡ white ++ (piece ++ rest)) × (list_all is_blank white ≡ true) × IsToken t piece rest × AreTokens ts rest
+    (white piece rest : List ℕ) × (text ≡ white ++ (piece ++ rest)) × (list_all is_token_blank white ≡ true) × IsToken t piece rest × AreTokens ts rest

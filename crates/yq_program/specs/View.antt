@@ -1,7 +1,7 @@
 -- The program that a value of the code stands for.
 use Rattle.std.specs.Prelude.{map, string_bytes}
-use Rattle.yq_program.specs.Program.{Step, key, index, each, Operand, value_at, document_index, Condition, compares, has, Stage, path, select, Term, literal, found, Update, assign, delete, comment, Program, read, updates}
-use Rattle.yq_nodes.specs.Values.{node_of}
+use Rattle.yq_program.specs.Program.{PathStep, key, index, each, Operand, value_at, document_index, Condition, compares, has, Stage, path, select, Term, literal, found, Update, assign, delete, comment, Program, read, updates}
+use Rattle.yq_nodes.specs.Values.{value_node}
 use Rattle.yq_program.specs.declared.program.Step as step
 use Rattle.yq_program.specs.declared.program.Operand as operand
 use Rattle.yq_program.specs.declared.program.Condition as condition
@@ -11,14 +11,14 @@ use Rattle.yq_program.specs.declared.program.Update as update
 use Rattle.yq_program.specs.declared.program.Syntax as syntax
 
 -- the step that one of the code stands for (own)
-abbrev pub step_of : step.Step → Step
-step_of (step.TheVariants.Key k) = key (string_bytes k)
-step_of (step.TheVariants.Index n) = index n
-step_of step.TheVariants.Each = each
+abbrev pub program_step : step.Step → PathStep
+program_step (step.TheVariants.Key k) = key (string_bytes k)
+program_step (step.TheVariants.Index n) = index n
+program_step step.TheVariants.Each = each
 
 -- the operand that one of the code stands for (own)
 abbrev pub operand_of : operand.Operand → Operand
-operand_of (operand.TheVariants.Path steps) = value_at (map step_of steps.items)
+operand_of (operand.TheVariants.Path steps) = value_at (map program_step steps.items)
 operand_of operand.TheVariants.DocumentIndex = document_index
 
 -- the condition that one of the code stands for (own)
@@ -28,12 +28,12 @@ condition_of (condition.TheVariants.Has k) = has (string_bytes k)
 
 -- the stage that one of the code stands for (own)
 abbrev pub stage_of : stage.Stage → Stage
-stage_of (stage.TheVariants.Path steps) = path (map step_of steps.items)
+stage_of (stage.TheVariants.Path steps) = path (map program_step steps.items)
 stage_of (stage.TheVariants.Select c) = select (condition_of c)
 
 -- the term that one of the code stands for (own)
 abbrev pub term_of : term.Term → Term
-term_of (term.TheVariants.Literal v) = literal (node_of v)
+term_of (term.TheVariants.Literal v) = literal (value_node v)
 term_of (term.TheVariants.Pipe stages) = found (map stage_of stages.items)
 
 -- the update that one of the code stands for (own)

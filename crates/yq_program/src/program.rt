@@ -2,7 +2,7 @@
 ghost use Rattle.std.specs.List.{list_all};
 ghost use Rattle.std.specs.Prelude.{◌≡◌};
 ghost use Rattle.yq_program.specs.Program as spec;
-ghost use Rattle.yq_program.specs.View.{program_of, step_of};
+ghost use Rattle.yq_program.specs.View.{program_of, program_step};
 
 use std::marker::Model;
 use yq_flow_scalars::Scalar;
@@ -140,20 +140,20 @@ pub enum CommentPlace {
 }
 
 fn is_single(step: &Step) -> bool
-    ensures { result ≡ spec.is_single (step_of step.now) }
+    ensures { result ≡ spec.is_single (program_step step.now) }
 {
     !matches!(step, Step::Each)
 }
 
 pub fn is_index(step: &Step) -> bool
-    ensures { result ≡ spec.is_index (step_of step.now) }
+    ensures { result ≡ spec.is_index (program_step step.now) }
 {
     matches!(step, Step::Index(_))
 }
 
 /// Whether each step leads to one item or value at most.
 pub fn is_simple(steps: &[Step]) -> bool
-    ensures { result ≡ list_all (λ s. spec.is_single (step_of s)) steps.now }
+    ensures { result ≡ list_all (λ s. spec.is_single (program_step s)) steps.now }
 {
     steps.iter().all(|step| is_single(step))
 }

@@ -6,19 +6,19 @@ use Rattle.std.specs.List.{slice_get}
 use Rattle.std.specs.Prelude.{is_none}
 use Rattle.yq_block_scalars.specs.declared.block_header.BlockStyle.{BlockStyle}
 use Rattle.yq_block_scalars.specs.declared.block_header.BlockStyle.TheVariants as styles
-use Rattle.yq_block_scalars.specs.Block.{mark_of as block_mark}
+use Rattle.yq_block_scalars.specs.Block.{style_indicator as block_mark}
 use Rattle.yq_flow_scalars.specs.Piece.{deeper}
 use Rattle.yq_flow_scalars.specs.Text.{is_empty}
 use Rattle.yq_flow_scalars.specs.Tree as tree
 use Rattle.yq_nodes.specs.Inline.{depth_limit}
-use Rattle.yq_nodes.specs.Nodes.{Node, empty, alias, scalar, coll, anchored, node_text, items_text, IsNode, first_is}
+use Rattle.yq_nodes.specs.Nodes.{FlowNode, empty, alias, scalar, coll, anchored, node_text, flow_items_text, IsFlowNode, begins_with}
 use Rattle.yq_nodes.specs.Scalars.{IsScalarAt, begins_scalar}
-use Rattle.yq_nodes.specs.Trees.{collection, items_tree, node_head, tree_of}
+use Rattle.yq_nodes.specs.Trees.{tree_collection, items_tree, node_head, tree_of}
 use Rattle.yq_nodes.proofs.NodeAgain.{is_anchored, takes_unanchored}
 use Rattle.yq_nodes.proofs.PieceLaws.{front_not, scalar_begins}
 use Rattle.yq_lines.specs.LinesReading.{is_free, is_no_alias, may_take}
-use Rattle.yq_lines.specs.Outline.{Mark, Bare, Key, Dash, Line}
-use Rattle.yq_lines.specs.Positions.{is_bare}
+use Rattle.yq_lines.specs.Outline.{LineMark, Bare, Key, Dash, Line}
+use Rattle.yq_lines.specs.Positions.{has_no_mark}
 use Rattle.yq_cut.specs.Grammar.{IsContent}
 use Rattle.yq_cut.specs.Rows as rows
 use Rattle.yq_cut.specs.Rows.{Content, Nothing, Inline, Block, Row}
@@ -57,43 +57,43 @@ pub row_fails : (all free rest : Bool) → all ≡ (free && rest) → false ≡ 
 row_fails all free rest e f = sym (e ∙ ap (λ b. b && rest) (sym f))
 
 -- an alias is in front
-opens : (k : ℕ) (t : List ℕ) → first_is 42 (cond (eqb k 125) 123 91 ∷ t) ≡ false
-opens k t = cond_both (eqb k 125) 123 91 (λ b. first_is 42 (b ∷ t) ≡ false) (λ _. refl) (λ _. refl)
+opens : (k : ℕ) (t : List ℕ) → begins_with 42 (cond (eqb k 125) 123 91 ∷ t) ≡ false
+opens k t = cond_both (eqb k 125) 123 91 (λ b. begins_with 42 (b ∷ t) ≡ false) (λ _. refl) (λ _. refl)
 
-not_alias : (k : ℕ) (cs : tree.Children) → is_no_alias (Some (collection k cs)) ≡ true
+not_alias : (k : ℕ) (cs : tree.Children) → is_no_alias (Some (tree_collection k cs)) ≡ true
 not_alias k cs = elim (eqb k 125) as (λ x. is_no_alias (Some (cond x (tree.map None cs) (tree.list None cs))) ≡ true) [ true ↦ refl | false ↦ refl ]
 
-scalar_star : (n : ℤ) (p rest : List ℕ) → IsScalarAt false (Some (deeper n)) p rest → first_is 42 p ≡ false
+scalar_star : (n : ℤ) (p rest : List ℕ) → IsScalarAt false (Some (deeper n)) p rest → begins_with 42 p ≡ false
 scalar_star n [] rest h = refl
 scalar_star n (b ∷ bs) rest h = front_not (begins_scalar false) 42 (λ cs. refl) (b ∷ (bs ++ rest)) (scalar_begins false (Some (deeper n)) (b ∷ bs) rest h)
 
-unnamed_star : (n : ℤ) (node : Node) (rest : List ℕ) → is_anchored node ≡ false → IsNode false (Some (deeper n)) depth_limit node rest → not (first_is 42 (node_text node [])) ≡ is_no_alias (node_head node)
-unfolding node_text IsNode tree_of
+unnamed_star : (n : ℤ) (node : FlowNode) (rest : List ℕ) → is_anchored node ≡ false → IsFlowNode false (Some (deeper n)) depth_limit node rest → not (begins_with 42 (node_text node [])) ≡ is_no_alias (node_head node)
+unfolding node_text IsFlowNode tree_of
 unnamed_star n empty rest a h = refl
 unnamed_star n (alias name) rest a h = refl
-unnamed_star n (scalar p) rest a h = ap (λ (t : List ℕ). not (first_is 42 t)) (append-nil p) ∙ ap not (scalar_star n p rest h)
-unnamed_star n (coll k g is) rest a h = ap not (opens k (g ++ items_text k is [])) ∙ sym (not_alias k (items_tree is))
+unnamed_star n (scalar p) rest a h = ap (λ (t : List ℕ). not (begins_with 42 t)) (append-nil p) ∙ ap not (scalar_star n p rest h)
+unnamed_star n (coll k g is) rest a h = ap not (opens k (g ++ flow_items_text k is [])) ∙ sym (not_alias k (items_tree is))
 unnamed_star n (anchored name g node) rest a h = absurd (false≢true (sym a))
 
-node_star : (n : ℤ) (node : Node) (rest : List ℕ) → IsNode false (Some (deeper n)) depth_limit node rest → not (first_is 42 (anchor_cut node).2) ≡ is_no_alias (node_head node)
-unfolding IsNode tree_of node_text
+node_star : (n : ℤ) (node : FlowNode) (rest : List ℕ) → IsFlowNode false (Some (deeper n)) depth_limit node rest → not (begins_with 42 (anchor_cut node).2) ≡ is_no_alias (node_head node)
+unfolding IsFlowNode tree_of node_text
 node_star n empty rest h = refl
 node_star n (alias name) rest h = refl
 node_star n (scalar p) rest h = unnamed_star n (scalar p) rest refl h
 node_star n (coll k g is) rest h = unnamed_star n (coll k g is) rest refl h
 node_star n (anchored name g node) rest h = unnamed_star n node rest (takes_unanchored node h.3) h.4
 
-block_star : (style : BlockStyle) (t : List ℕ) → first_is 42 (block_mark style ∷ t) ≡ false
+block_star : (style : BlockStyle) (t : List ℕ) → begins_with 42 (block_mark style ∷ t) ≡ false
 block_star styles.Literal t = refl
 block_star styles.Folded t = refl
 
-pub alias_is : (n : ℤ) (c : Content) (rest : List ℕ) → IsContent n c rest → not (first_is 42 (content_cut c).3) ≡ is_no_alias (head_of c)
+pub alias_is : (n : ℤ) (c : Content) (rest : List ℕ) → IsContent n c rest → not (begins_with 42 (content_cut c).3) ≡ is_no_alias (head_of c)
 alias_is n (Nothing tail) rest h = refl
 alias_is n (Inline space node tail) rest h = node_star n node (tail ++ rest) h.1.valid
 alias_is n (Block space anchor block) rest h = ap not (block_star block.style block.indicators)
 
 -- what a line takes, by its mark
-pub mark_takes : (m : Mark) (a : Option (List ℕ)) (h : Option tree.Node) → false ≡ is_bare m → true ≡ may_take m a h
+pub mark_takes : (m : LineMark) (a : Option (List ℕ)) (h : Option tree.Node) → false ≡ has_no_mark m → true ≡ may_take m a h
 mark_takes Bare a h e = absurd (false≢true e)
 mark_takes (Key k) a h e = refl
 mark_takes Dash a h e = refl
@@ -103,19 +103,19 @@ bare_takes None h = refl
 bare_takes (Some x) h = refl
 
 -- the first line of a row that is a node itself
-first_bare : (above : List (List ℕ)) (column : ℕ) (ns : List ℕ) (m : rows.Mark) (c : Content) (l : Line) → slice_get (lines_from above column ns m c) 0 ≡ Some l → true ≡ is_bare l.mark → (content_anchor c ≡ l.anchor) × (head_of c ≡ l.head)
+first_bare : (above : List (List ℕ)) (column : ℕ) (ns : List ℕ) (m : rows.RowMark) (c : Content) (l : Line) → slice_get (lines_from above column ns m c) 0 ≡ Some l → true ≡ has_no_mark l.mark → (content_anchor c ≡ l.anchor) × (head_of c ≡ l.head)
 first_bare above column [] m c l e bare = (ap (λ (y : Line). y.anchor) (same_Some _ _ e), ap (λ (y : Line). y.head) (same_Some _ _ e))
-first_bare above column (n ∷ ns) m c l e bare = absurd (false≢true (ap (λ (y : Line). is_bare y.mark) (same_Some _ _ e) ∙ sym bare))
+first_bare above column (n ∷ ns) m c l e bare = absurd (false≢true (ap (λ (y : Line). has_no_mark y.mark) (same_Some _ _ e) ∙ sym bare))
 
-pub bare_agrees : (n : ℤ) (r : Row) (rest : List ℕ) (l : Line) → IsContent n r.content rest → slice_get (row_lines r) 0 ≡ Some l → true ≡ is_bare l.mark →
-    (is_empty (content_cut r.content).1 && not (first_is 42 (content_cut r.content).3)) ≡ may_take l.mark l.anchor l.head
+pub bare_agrees : (n : ℤ) (r : Row) (rest : List ℕ) (l : Line) → IsContent n r.content rest → slice_get (row_lines r) 0 ≡ Some l → true ≡ has_no_mark l.mark →
+    (is_empty (content_cut r.content).1 && not (begins_with 42 (content_cut r.content).3)) ≡ may_take l.mark l.anchor l.head
 bare_agrees n r rest l valid e bare =
     let f = first_bare _ r.column r.dashes r.mark r.content l e bare in
     (λ i. anchor_some r.content i && alias_is n r.content rest valid i)
     ∙ ((λ i. is_none (f.0 i) && is_no_alias (f.1 i))
     ∙ (bare_takes l.anchor l.head ∙ ap (λ m. may_take m l.anchor l.head) (mark l.mark bare)))
   where
-    mark : (m : Mark) → true ≡ is_bare m → Bare ≡ m
+    mark : (m : LineMark) → true ≡ has_no_mark m → Bare ≡ m
     mark Bare e = refl
     mark (Key k) e = absurd (false≢true (sym e))
     mark Dash e = absurd (false≢true (sym e))

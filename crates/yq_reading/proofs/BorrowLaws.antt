@@ -6,12 +6,12 @@ use Rattle.yq_flow_scalars.specs.ContentReading.{quoted_content}
 use Rattle.yq_flow_scalars.specs.Plain.{holds_break}
 use Rattle.yq_flow_scalars.specs.Quoted.{IsQuotedText}
 use Rattle.yq_flow_scalars.specs.Text.{is_empty, is_feed}
-use Rattle.yq_nodes.specs.Nodes.{first_is}
-use Rattle.yq_nodes.specs.Scalars.{content_of, is_quoted}
+use Rattle.yq_nodes.specs.Nodes.{begins_with}
+use Rattle.yq_nodes.specs.Scalars.{scalar_content, is_quoted}
 use Rattle.yq_lines.proofs.OneLine.{kept, borrowed_quoted}
 use Rattle.yq_documents.specs.FlowReading.{head_flow_at}
 use Rattle.yq_documents.specs.Decoded.{borrowed_head, borrowed_text}
-use Rattle.yq_documents.specs.RowReading.{is_block_head, head_at, is_short_plain, string_head}
+use Rattle.yq_documents.specs.RowReading.{is_block_head, read_head, is_short_plain, string_head}
 use Rattle.yq_reading.specs.Checking.{begins_tree, holds_escape, borrows_head, borrows_text}
 
 any_drop : (f : ℕ → Bool) (n : ℕ) (t : List ℕ) → list_any f t ≡ false → list_any f (drop n t) ≡ false
@@ -27,8 +27,8 @@ any_take f (suc n) (b ∷ bs) e =
     let rest : list_any f (take n bs) ≡ false = any_take f n bs p.1 in
     (λ i. p.0 i || rest i)
 
-pub quoted_is : (t : List ℕ) → is_quoted t ≡ true → content_of t ≡ quoted_content t
-unfolding content_of
+pub quoted_is : (t : List ℕ) → is_quoted t ≡ true → scalar_content t ≡ quoted_content t
+unfolding scalar_content
 quoted_is t q = rw q refl
 
 -- it is on one line, and has no escapes
@@ -38,14 +38,14 @@ borrows_parts t e =
     (not-true (holds_break t) p.0, not-true (holds_escape t) p.1)
 
 -- a key or scalar that its text lends is borrowed as what it stands for
-pub borrows_key : (t : List ℕ) → (is_quoted t ≡ true → IsQuotedText t) → borrows_text t ≡ true → borrowed_text t ≡ content_of t
+pub borrows_key : (t : List ℕ) → (is_quoted t ≡ true → IsQuotedText t) → borrows_text t ≡ true → borrowed_text t ≡ scalar_content t
 borrows_key [] q e = kept [] refl refl
 borrows_key (b ∷ bs) q e = go (is_quoted (b ∷ bs)) refl
   where
     parts : (holds_break (b ∷ bs) ≡ false) × (holds_escape (b ∷ bs) ≡ false)
     parts = borrows_parts (b ∷ bs) e
 
-    go : (quoted : Bool) → is_quoted (b ∷ bs) ≡ quoted → borrowed_text (b ∷ bs) ≡ content_of (b ∷ bs)
+    go : (quoted : Bool) → is_quoted (b ∷ bs) ≡ quoted → borrowed_text (b ∷ bs) ≡ scalar_content (b ∷ bs)
     go true quoted =
         let inner : List ℕ = take (length (b ∷ bs) - 2) (drop 1 (b ∷ bs)) in
         cond-true (is_quoted (b ∷ bs)) inner (b ∷ bs) quoted
@@ -54,23 +54,23 @@ borrows_key (b ∷ bs) q e = go (is_quoted (b ∷ bs)) refl
     go false quoted = cond-false (is_quoted (b ∷ bs)) _ (b ∷ bs) quoted ∙ kept (b ∷ bs) quoted parts.0
 
 -- one in quotes, by what stands between them
-pub borrows_quoted : (t inner : List ℕ) (escaped : Bool) → holds_break t ≡ false → is_quoted t ≡ true → inner ≡ borrowed_text t → escaped ≡ list_any (λ b. eqb b (cond (first_is 34 t) 92 39)) inner → not escaped ≡ borrows_text t
-borrows_quoted t inner escaped broken quoted is e = rw (broken, quoted) (ap not (e ∙ ap (list_any (λ b. eqb b (cond (first_is 34 t) 92 39))) (rw quoted at is)))
+pub borrows_quoted : (t inner : List ℕ) (escaped : Bool) → holds_break t ≡ false → is_quoted t ≡ true → inner ≡ borrowed_text t → escaped ≡ list_any (λ b. eqb b (cond (begins_with 34 t) 92 39)) inner → not escaped ≡ borrows_text t
+borrows_quoted t inner escaped broken quoted is e = rw (broken, quoted) (ap not (e ∙ ap (list_any (λ b. eqb b (cond (begins_with 34 t) 92 39))) (rw quoted at is)))
 
 -- a head that is borrowed is read as what is borrowed of it, and holds no alias and no flow collection
 abbrev Borrowed : List ℕ → ℤ → List ℕ → List ℕ → Type 0
-Borrowed whole n h t = (head_at whole n h t ≡ Some (borrowed_head h)) × (head_flow_at whole n h t ≡ None)
+Borrowed whole n h t = (read_head whole n h t ≡ Some (borrowed_head h)) × (head_flow_at whole n h t ≡ None)
 
 borrowed_nothing : (whole : List ℕ) (n : ℤ) (t : List ℕ) → Borrowed whole n [] t
-unfolding head_at head_flow_at
+unfolding read_head head_flow_at
 borrowed_nothing whole n t = (refl, refl)
 
-borrowed_string : (whole : List ℕ) (n : ℤ) (h t : List ℕ) → is_empty h ≡ false → is_block_head h ≡ false → is_quoted h ≡ true → borrowed_text h ≡ content_of h → Borrowed whole n h t
-unfolding head_at head_flow_at
+borrowed_string : (whole : List ℕ) (n : ℤ) (h t : List ℕ) → is_empty h ≡ false → is_block_head h ≡ false → is_quoted h ≡ true → borrowed_text h ≡ scalar_content h → Borrowed whole n h t
+unfolding read_head head_flow_at
 borrowed_string whole n h t some block quoted same = (rw (some, block, quoted) (ap (λ x. Some (string_head x)) (sym (rw quoted at same))), rw (some, block, quoted) refl)
 
 borrowed_plain : (whole : List ℕ) (n : ℤ) (h t : List ℕ) → is_empty h ≡ false → is_block_head h ≡ false → is_quoted h ≡ false → is_short_plain h ≡ true → Borrowed whole n h t
-unfolding head_at head_flow_at
+unfolding read_head head_flow_at
 borrowed_plain whole n h t some block quoted short = (rw (some, block, short, quoted) refl, rw (some, block, short, quoted) refl)
 
 pub borrowed_read : (whole : List ℕ) (n : ℤ) (h t : List ℕ) → (is_quoted h ≡ true → IsQuotedText h) → borrows_head h ≡ true → Borrowed whole n h t
@@ -83,7 +83,7 @@ borrowed_read whole n (b ∷ bs) t q e = go (is_quoted (b ∷ bs)) refl
     parts : (not (begins_tree h) ≡ true) × (borrows_text h ≡ true)
     parts = and_parts (not (begins_tree h)) (borrows_text h) e
 
-    trees : (is_block_head h ≡ false) × ((first_is 42 h || (first_is 91 h || first_is 123 h)) ≡ false)
+    trees : (is_block_head h ≡ false) × ((begins_with 42 h || (begins_with 91 h || begins_with 123 h)) ≡ false)
     trees = or_parts (is_block_head h) _ (not-true (begins_tree h) parts.0)
 
     go : (quoted : Bool) → is_quoted (b ∷ bs) ≡ quoted → Borrowed whole n (b ∷ bs) t

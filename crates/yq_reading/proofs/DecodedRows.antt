@@ -10,7 +10,7 @@ use Rattle.yq_documents.specs.Decoded.{IsDecoded, IsDecodedBy, Rise, decoded_at}
 use Rattle.yq_documents.specs.Reading.{content_is_fit, cut_of, have_fit_keys, mark_is_fit}
 use Rattle.yq_documents.specs.RowReading.{row_fits}
 use Rattle.yq_documents.specs.declared.decoded.Decoded.{Decoded}
-use Rattle.yq_reading.specs.Decoding.{AreDecoded, OfRow, listed}
+use Rattle.yq_reading.specs.Decoding.{AreDecoded, OfRow, list_of_option}
 use Rattle.yq_reading.proofs.AllOf.{all_done, all_step}
 
 -- what is made of rows from one on, before another one, is in their order
@@ -103,7 +103,7 @@ module _ (t : List ℕ) (i : ℕ) (ms : List Decoded) (k : DecodedUpto t i ms) w
           fits = fits_more;
         })
 
-    pub row_step : (m : Option Decoded) (new : List Decoded) → IfSome m (λ x. x.row ≡ i) → new ≡ ms ++ listed m → IsDecodedBy (length t) (cut_of t) m i r → DecodedUpto t (i + 1) new
+    pub row_step : (m : Option Decoded) (new : List Decoded) → IfSome m (λ x. x.row ≡ i) → new ≡ ms ++ list_of_option m → IsDecodedBy (length t) (cut_of t) m i r → DecodedUpto t (i + 1) new
     row_step None new row pushed here = subst (DecodedUpto t (i + 1)) (sym (pushed ∙ append-nil ms)) (no_row_step here)
     row_step (Some m) new row pushed here = decoded_step m new row pushed here
 

@@ -11,7 +11,7 @@ use Rattle.yq_cut.specs.Grammar.{AreParts, IsCut, begins_document, no_rows}
 use Rattle.yq_cut.specs.Rows.{Row, Part, Cut, last, marked}
 use Rattle.yq_cut.specs.View.{RowsView, rows_of, rows_view}
 use Rattle.yq_cut.proofs.ScanLaws.{scan_again}
-use Rattle.yq_lines.specs.Lines.{lines_of}
+use Rattle.yq_lines.specs.Lines.{lines_of_rows}
 use Rattle.yq_lines.specs.RowWalk.{HasRows}
 use Rattle.yq_lines.specs.declared.line_position.Stretch.{Stretch}
 use Rattle.yq_documents.specs.Documents.{begins_bare, document_parts, has_begin, parts_from, with_part}
@@ -109,11 +109,11 @@ module _ (t : List ℕ) (s : RowsView) (ms : List Decoded) (ds : List DocumentRo
       agrees = m.agrees;
     }
 
-    pub ready_sound : (has_short_root ready.document.rows && lines_are_sound (lines_of ready.document.rows)) ≡ part_is_sound p
-    ready_sound = ap (λ (rs : List Row). has_short_root rs && lines_are_sound (lines_of rs)) stand.1.0
+    pub ready_sound : (has_short_root ready.document.rows && lines_are_sound (lines_of_rows ready.document.rows)) ≡ part_is_sound p
+    ready_sound = ap (λ (rs : List Row). has_short_root rs && lines_are_sound (lines_of_rows rs)) stand.1.0
 
-    part_refers_not : some_refer ms ≡ false → list_any is_reference (line_names (lines_of p.rows)) ≡ false
-    part_refers_not none = ap (λ (rs : List Row). list_any is_reference (line_names (lines_of rs))) (sym stand.1.0) ∙ ready_refers_not t s ms x ready none
+    part_refers_not : some_refer ms ≡ false → list_any is_reference (line_names (lines_of_rows p.rows)) ≡ false
+    part_refers_not none = ap (λ (rs : List Row). list_any is_reference (line_names (lines_of_rows rs))) (sym stand.1.0) ∙ ready_refers_not t s ms x ready none
 
   -- the document at an index
   module _ (n : ℕ) (less : n < length ds) (e : DocumentRows) where
@@ -123,7 +123,7 @@ module _ (t : List ℕ) (s : RowsView) (ms : List Decoded) (ds : List DocumentRo
     abbrev pub ready_at : IsCheckable t s ms (record { first = (get_or ds n e).first; end = (get_or ds n e).end })
     ready_at = ready n (get_or ds n e) (record { first = (get_or ds n e).first; end = (get_or ds n e).end }) part_at.0 (slice_get-get_or ds n e less) part_at.1 refl refl
 
-    pub sound_at : (has_short_root ready_at.document.rows && lines_are_sound (lines_of ready_at.document.rows)) ≡ part_is_sound part_at.0
+    pub sound_at : (has_short_root ready_at.document.rows && lines_are_sound (lines_of_rows ready_at.document.rows)) ≡ part_is_sound part_at.0
     sound_at = ready_sound n (get_or ds n e) (record { first = (get_or ds n e).first; end = (get_or ds n e).end }) part_at.0 (slice_get-get_or ds n e less) part_at.1 refl refl
 
   -- a document is there
@@ -135,7 +135,7 @@ module _ (t : List ℕ) (s : RowsView) (ms : List Decoded) (ds : List DocumentRo
   alias_free : some_refer ms ≡ false → (n : ℕ) → list_any is_reference (line_names (document_lines n t)) ≡ false
   alias_free none n = go (slice_get (document_parts (cut_of t)) n) refl
     where
-      go : (o : Option Part) → slice_get (document_parts (cut_of t)) n ≡ o → list_any is_reference (line_names (lines_of (part_rows o))) ≡ false
+      go : (o : Option Part) → slice_get (document_parts (cut_of t)) n ≡ o → list_any is_reference (line_names (lines_of_rows (part_rows o))) ≡ false
       go None e = refl
       go (Some p) e =
           let d = has_document ds n (omega (arith, a.count, slice_get_within (document_parts (cut_of t)) n p e)) in

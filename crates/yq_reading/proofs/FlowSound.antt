@@ -8,8 +8,8 @@ use Rattle.yq_flow_scalars.specs.Keys.{are_distinct, deepest, depth, keys_of}
 use Rattle.yq_flow_scalars.specs.Tree.{Children, Label, Node, child}
 use Rattle.yq_lines.specs.Sound.{are_sound, each_has_unique_keys, has_unique_keys, head_is_sound}
 use Rattle.yq_nodes.specs.Trees.{parts_tree, placed_tree}
-use Rattle.yq_nodes.specs.Values.{item}
-use Rattle.yq_nodes.specs.View.{entries_end, items_end, view}
+use Rattle.yq_nodes.specs.Values.{plain_label}
+use Rattle.yq_nodes.specs.View.{entries_end, items_end, inline_view}
 use Rattle.yq_nodes.specs.declared.inline.Inline.{Inline}
 
 abbrev Field : Type 0
@@ -54,11 +54,11 @@ module _ (d : ℕ) (is : List Inline) (i : ℕ) (x : Inline) (all : Bool) (withi
   items_from : all ≡ are_sound d (parts_tree (items_end (x ∷ drop (i + 1) is)))
   items_from = so_far ∙ ap (λ js. are_sound d (parts_tree (items_end js))) (first_of is i x within at)
 
-  pub items_more : head_is_sound d (Some (placed_tree (view x))) ≡ true → all ≡ are_sound d (parts_tree (items_end (drop (i + 1) is)))
-  items_more h = items_from ∙ sound_more d item (placed_tree (view x)) (parts_tree (items_end (drop (i + 1) is))) h
+  pub items_more : head_is_sound d (Some (placed_tree (inline_view x))) ≡ true → all ≡ are_sound d (parts_tree (items_end (drop (i + 1) is)))
+  items_more h = items_from ∙ sound_more d plain_label (placed_tree (inline_view x)) (parts_tree (items_end (drop (i + 1) is))) h
 
-  pub items_fail : head_is_sound d (Some (placed_tree (view x))) ≡ false → all ≡ false
-  items_fail h = items_from ∙ sound_fails d item (placed_tree (view x)) (parts_tree (items_end (drop (i + 1) is))) h
+  pub items_fail : head_is_sound d (Some (placed_tree (inline_view x))) ≡ false → all ≡ false
+  items_fail h = items_from ∙ sound_fails d plain_label (placed_tree (inline_view x)) (parts_tree (items_end (drop (i + 1) is))) h
 
 -- ---- entries, with the keys of those before
 
@@ -70,17 +70,17 @@ module _ (d : ℕ) (es : List Field) (i : ℕ) (e : Field) (keys : List (List �
   entries_from : all ≡ entries_ask d keys (e ∷ drop (i + 1) es)
   entries_from = so_far ∙ ap (entries_ask d keys) (first_of es i e within at)
 
-  pub entries_more : (k : List ℕ) (new : List (List ℕ)) → k ≡ string_bytes e.0 → new ≡ keys ++ k ∷ [] → head_is_sound d (Some (placed_tree (view e.2)))
+  pub entries_more : (k : List ℕ) (new : List (List ℕ)) → k ≡ string_bytes e.0 → new ≡ keys ++ k ∷ [] → head_is_sound d (Some (placed_tree (inline_view e.2)))
       ≡ true → all ≡ entries_ask d new (drop (i + 1) es)
   entries_more k new key is h =
       let rest = parts_tree (entries_end (drop (i + 1) es)) in
       let behind : keys ++ (string_bytes e.0 ∷ keys_of rest) ≡ new ++ keys_of rest =
       sym (append_assoc keys (string_bytes e.0 ∷ []) (keys_of rest)) ∙ ap (λ l. l ++ keys_of rest) (ap (λ (j : List ℕ). keys ++ j ∷ []) (sym key) ∙ sym is) in
       entries_from
-      ∙ (ap (λ b. b && are_distinct (keys ++ (string_bytes e.0 ∷ keys_of rest))) (sound_more d item (placed_tree (view e.2)) rest h)
+      ∙ (ap (λ b. b && are_distinct (keys ++ (string_bytes e.0 ∷ keys_of rest))) (sound_more d plain_label (placed_tree (inline_view e.2)) rest h)
       ∙ ap (λ ks. are_sound d rest && are_distinct ks) behind)
 
-  pub entries_fail : head_is_sound d (Some (placed_tree (view e.2))) ≡ false → all ≡ false
+  pub entries_fail : head_is_sound d (Some (placed_tree (inline_view e.2))) ≡ false → all ≡ false
   entries_fail h =
       let rest = parts_tree (entries_end (drop (i + 1) es)) in
-      entries_from ∙ ap (λ b. b && are_distinct (keys ++ (string_bytes e.0 ∷ keys_of rest))) (sound_fails d item (placed_tree (view e.2)) rest h)
+      entries_from ∙ ap (λ b. b && are_distinct (keys ++ (string_bytes e.0 ∷ keys_of rest))) (sound_fails d plain_label (placed_tree (inline_view e.2)) rest h)

@@ -16,7 +16,7 @@ use Rattle.yq_lines.specs.Sound.{head_is_sound}
 use Rattle.yq_lines.specs.View.{head_flow, head_view}
 use Rattle.yq_cut.specs.Rows.{Row}
 use Rattle.yq_cut.specs.View.{RowsView, rows_of, slices}
-use Rattle.yq_lines.specs.Lines.{lines_of}
+use Rattle.yq_lines.specs.Lines.{lines_of_rows}
 use Rattle.yq_lines.specs.RowWalk.{IsLine, line_number}
 use Rattle.yq_lines.specs.declared.line_position.Position.{Position}
 use Rattle.yq_lines.specs.declared.line_position.Stretch.{Stretch}
@@ -47,7 +47,7 @@ row_of_cut t s ms d k q at =
     ap (slice_get (rows_of k.cut)) (sym place) ∙ row_in_cut t s ms d k (q.row - d.first) l.row l.there
 
 -- the head of a line that has one is told
-pub head_line : (t : List ℕ) (s : RowsView) (ms : List Decoded) (d : Stretch) (k : IsCheckable t s ms d) (q : Position) (at : IsLine s d q) (l : Line) → slice_get (lines_of k.document.rows) (line_number d k.document.rows q) ≡ Some l → true ≡ is_some l.head →
+pub head_line : (t : List ℕ) (s : RowsView) (ms : List Decoded) (d : Stretch) (k : IsCheckable t s ms d) (q : Position) (at : IsLine s d q) (l : Line) → slice_get (lines_of_rows k.document.rows) (line_number d k.document.rows q) ≡ Some l → true ≡ is_some l.head →
     decoded_head (decoded_at q.row ms) (slices (located s d k.document q at).row).head ≡ l.head
 head_line t s ms d k q at l is some =
     let f = located s d k.document q at in
@@ -91,7 +91,7 @@ headless d None e = refl
 headless d (Some n) e = absurd (false≢true e)
 
 -- a line with no alias and no flow collection made of its row
-pub head_free : (t : List ℕ) (s : RowsView) (ms : List Decoded) (d : Stretch) (k : IsCheckable t s ms d) (q : Position) (at : IsLine s d q) (l : Line) → slice_get (lines_of k.document.rows) (line_number d k.document.rows q) ≡ Some l → (depth : ℕ) → decoded_flow (decoded_at q.row ms) ≡ None → head_is_sound depth l.head ≡ true
+pub head_free : (t : List ℕ) (s : RowsView) (ms : List Decoded) (d : Stretch) (k : IsCheckable t s ms d) (q : Position) (at : IsLine s d q) (l : Line) → slice_get (lines_of_rows k.document.rows) (line_number d k.document.rows q) ≡ Some l → (depth : ℕ) → decoded_flow (decoded_at q.row ms) ≡ None → head_is_sound depth l.head ≡ true
 head_free t s ms d k q at l is depth none = go (is_some l.head) refl
   where
     go : (b : Bool) → is_some l.head ≡ b → head_is_sound depth l.head ≡ true

@@ -3,7 +3,7 @@ use Rattle.std.proofs.Common.{◌≡◌, ℕ, ◌+◌, ◌≤◌, Bool, true, fa
 use Rattle.std.proofs.lemmas.List.{drop_all}
 use Rattle.std.specs.List.{slice_get}
 use Rattle.std.specs.Prelude.{option_and_then, option_map}
-use Rattle.yq_flow_scalars.specs.Anchors.{Name, with_anchor}
+use Rattle.yq_flow_scalars.specs.Anchors.{Name, anchor_names}
 use Rattle.yq_flow_scalars.specs.Scalar.{plain_of}
 use Rattle.yq_flow_scalars.specs.Text.{is_empty}
 use Rattle.yq_nodes.specs.Scalars.{is_quoted}
@@ -13,7 +13,7 @@ use Rattle.yq_lines.specs.Names.{head_names, line_names}
 use Rattle.yq_lines.specs.Outline.{Line}
 use Rattle.yq_lines.specs.View.{head_flow, head_view}
 use Rattle.yq_cut.specs.Rows.{Row}
-use Rattle.yq_lines.specs.Lines.{content_anchor, head_of, lines_of}
+use Rattle.yq_lines.specs.Lines.{content_anchor, head_of, lines_of_rows}
 use Rattle.yq_documents.specs.Decoded.{borrowed_head, borrowed_text, decoded_or, decoded_flow, decoded_head}
 use Rattle.yq_documents.specs.RowReading.{string_head}
 use Rattle.yq_documents.specs.declared.decoded.Decoded.{Decoded}
@@ -21,33 +21,33 @@ use Rattle.yq_reading.specs.Named.{flow_names}
 use Rattle.yq_lines.proofs.WalkLevels.{names_row}
 use Rattle.yq_reading.proofs.RowContents.{lines_at}
 
-with-append : (a : Option (List ℕ)) (xs ys : List Name) → with_anchor a (xs ++ ys) ≡ with_anchor a xs ++ ys
+with-append : (a : Option (List ℕ)) (xs ys : List Name) → anchor_names a (xs ++ ys) ≡ anchor_names a xs ++ ys
 with-append None xs ys = refl
 with-append (Some a) xs ys = refl
 
 -- the names of one more row
-names_step : (all before middle after : List Name) (rs : List Row) (i : ℕ) (r : Row) → slice_get rs i ≡ Some r → before ++ line_names (lines_of (drop i rs)) ≡ all →
-    middle ≡ before ++ with_anchor (content_anchor r.content) [] → after ≡ middle ++ head_names (head_of r.content) → after ++ line_names (lines_of (drop (i + 1) rs)) ≡ all
+names_step : (all before middle after : List Name) (rs : List Row) (i : ℕ) (r : Row) → slice_get rs i ≡ Some r → before ++ line_names (lines_of_rows (drop i rs)) ≡ all →
+    middle ≡ before ++ anchor_names (content_anchor r.content) [] → after ≡ middle ++ head_names (head_of r.content) → after ++ line_names (lines_of_rows (drop (i + 1) rs)) ≡ all
 names_step all before middle after rs i r is so_far anchor head =
-    let rest : List Line = lines_of (drop (i + 1) rs) in
+    let rest : List Line = lines_of_rows (drop (i + 1) rs) in
     let behind : List Name = line_names rest in
     let hn : List Name = head_names (head_of r.content) in
     let a : Option (List ℕ) = content_anchor r.content in
     ap (λ (x : List Name). x ++ behind) (head ∙ ap (λ (x : List Name). x ++ hn) anchor)
-    ∙ (append_assoc (before ++ with_anchor a []) hn behind
-    ∙ (append_assoc before (with_anchor a []) (hn ++ behind)
+    ∙ (append_assoc (before ++ anchor_names a []) hn behind
+    ∙ (append_assoc before (anchor_names a []) (hn ++ behind)
     ∙ (ap (λ (x : List Name). before ++ x) (sym (with-append a [] (hn ++ behind)))
     ∙ (ap (λ (x : List Name). before ++ x) (sym (ap line_names (lines_at rs i r is) ∙ names_row r rest)) ∙ so_far))))
 
 -- the same, by what the code adds
-pub names_pass : (all before middle after f : List Name) (a : Option (List ℕ)) (rs : List Row) (i j : ℕ) (r : Row) → slice_get rs i ≡ Some r → i + 1 ≡ j → before ++ line_names (lines_of (drop i rs)) ≡ all →
-    middle ≡ before ++ with_anchor a [] → a ≡ content_anchor r.content → after ≡ middle ++ f → f ≡ head_names (head_of r.content) → after ++ line_names (lines_of (drop j rs)) ≡ all
+pub names_pass : (all before middle after f : List Name) (a : Option (List ℕ)) (rs : List Row) (i j : ℕ) (r : Row) → slice_get rs i ≡ Some r → i + 1 ≡ j → before ++ line_names (lines_of_rows (drop i rs)) ≡ all →
+    middle ≡ before ++ anchor_names a [] → a ≡ content_anchor r.content → after ≡ middle ++ f → f ≡ head_names (head_of r.content) → after ++ line_names (lines_of_rows (drop j rs)) ≡ all
 names_pass all before middle after f a rs i j r is next so_far anchor named head flow =
-    ap (λ (k : ℕ). after ++ line_names (lines_of (drop k rs))) (sym next)
-    ∙ names_step all before middle after rs i r is so_far (anchor ∙ ap (λ (x : Option (List ℕ)). before ++ with_anchor x []) named) (head ∙ ap (λ (x : List Name). middle ++ x) flow)
+    ap (λ (k : ℕ). after ++ line_names (lines_of_rows (drop k rs))) (sym next)
+    ∙ names_step all before middle after rs i r is so_far (anchor ∙ ap (λ (x : Option (List ℕ)). before ++ anchor_names x []) named) (head ∙ ap (λ (x : List Name). middle ++ x) flow)
 
-pub names_all : (all names : List Name) (rs : List Row) (i : ℕ) → length rs ≤ i → names ++ line_names (lines_of (drop i rs)) ≡ all → names ≡ all
-names_all all names rs i past so_far = sym (append-nil names) ∙ (ap (λ (x : List Row). names ++ line_names (lines_of x)) (sym (drop_all i rs past)) ∙ so_far)
+pub names_all : (all names : List Name) (rs : List Row) (i : ℕ) → length rs ≤ i → names ++ line_names (lines_of_rows (drop i rs)) ≡ all → names ≡ all
+names_all all names rs i past so_far = sym (append-nil names) ∙ (ap (λ (x : List Row). names ++ line_names (lines_of_rows x)) (sym (drop_all i rs past)) ∙ so_far)
 
 -- the names in a head are those in what is made of it
 borrowed_named : (h : List ℕ) → head_names (borrowed_head h) ≡ []

@@ -1,13 +1,13 @@
 -- The names of the code, one by one.
 use Rattle.std.proofs.Common.{◌≡◌, ℕ, ◌+◌, ◌<◌, List, ◌∷◌, length, drop, get_or, ap, ◌∙◌, [], ◌++◌, sym, append_assoc, String, Bor, Option, Some, None, option_map, refl}
 use Rattle.std.proofs.lemmas.List.{drop_more}
-use Rattle.yq_flow_scalars.specs.Anchors.{Name, names_in, names_of, with_anchor}
+use Rattle.yq_flow_scalars.specs.Anchors.{Name, names_in, names_of, anchor_names}
 use Rattle.yq_reading.specs.Named.{name_view, all_named}
 use Rattle.yq_reading.specs.declared.names.Name as declared
 use Rattle.std.specs.declared.alloc.Global.{Global}
 use Rattle.yq_flow_scalars.specs.declared.piece.Piece.{Piece}
-use Rattle.yq_nodes.specs.View.{entries_end, items_end, view, anchor_name, form_view}
-use Rattle.yq_nodes.specs.Trees.{parts_tree, placed_tree, named}
+use Rattle.yq_nodes.specs.View.{entries_end, items_end, inline_view, anchor_name, form_view}
+use Rattle.yq_nodes.specs.Trees.{parts_tree, placed_tree, with_anchor_name}
 use Rattle.yq_nodes.specs.declared.inline.Inline.{Inline}
 use Rattle.yq_nodes.specs.declared.inline.Form as forms
 use Rattle.yq_nodes.specs.declared.inline.Form.TheFolds.{the_lemmas}
@@ -25,21 +25,21 @@ first_of xs i x within is = drop_more xs i x within ∙ ap (λ y. y ∷ drop (i 
 
 -- the names of one more item or entry stand behind those before it
 pub items_named : (is : List Inline) (i : ℕ) (x : Inline) (old new all : List Name) → i < length is → x ≡ get_or is i x → new ≡ old ++ names_of
-    (placed_tree (view x)) → old ++ names_in (parts_tree (items_end (drop i is))) ≡ all →
+    (placed_tree (inline_view x)) → old ++ names_in (parts_tree (items_end (drop i is))) ≡ all →
     new ++ names_in (parts_tree (items_end (drop (i + 1) is))) ≡ all
-items_named is i x old new all within at named so_far =
+items_named is i x old new all within at with_anchor_name so_far =
     let rest = names_in (parts_tree (items_end (drop (i + 1) is))) in
-    ap (λ l. l ++ rest) named
-    ∙ (append_assoc old (names_of (placed_tree (view x))) rest ∙ (ap (λ js. old ++ names_in (parts_tree (items_end js))) (sym (first_of is i x within at))
+    ap (λ l. l ++ rest) with_anchor_name
+    ∙ (append_assoc old (names_of (placed_tree (inline_view x))) rest ∙ (ap (λ js. old ++ names_in (parts_tree (items_end js))) (sym (first_of is i x within at))
     ∙ so_far))
 
 pub entries_named : (es : List Field) (i : ℕ) (e : Field) (old new all : List Name) → i < length es → e ≡ get_or es i e → new ≡ old ++ names_of
-    (placed_tree (view e.2)) → old ++ names_in (parts_tree (entries_end (drop i es))) ≡ all →
+    (placed_tree (inline_view e.2)) → old ++ names_in (parts_tree (entries_end (drop i es))) ≡ all →
     new ++ names_in (parts_tree (entries_end (drop (i + 1) es))) ≡ all
-entries_named es i e old new all within at named so_far =
+entries_named es i e old new all within at with_anchor_name so_far =
     let rest = names_in (parts_tree (entries_end (drop (i + 1) es))) in
-    ap (λ l. l ++ rest) named
-    ∙ (append_assoc old (names_of (placed_tree (view e.2))) rest ∙ (ap (λ js. old ++ names_in (parts_tree (entries_end js)))
+    ap (λ l. l ++ rest) with_anchor_name
+    ∙ (append_assoc old (names_of (placed_tree (inline_view e.2))) rest ∙ (ap (λ js. old ++ names_in (parts_tree (entries_end js)))
     (sym (first_of es i e within at)) ∙ so_far))
 
 -- ---- a node, by its form
@@ -47,6 +47,6 @@ entries_named es i e old new all within at named so_far =
 alias_is : (a : Bor (List ℕ)) → form_view (forms.TheVariants.Alias a) ≡ name a.now
 alias_is a = simp (the_lemmas) refl
 
-anchor_is : (a : Option (Bor (List ℕ))) (names : List Name) → with_anchor (anchor_name a) names ≡ with_anchor (option_map (λ x. x.now) a) [] ++ names
+anchor_is : (a : Option (Bor (List ℕ))) (names : List Name) → anchor_names (anchor_name a) names ≡ anchor_names (option_map (λ x. x.now) a) [] ++ names
 anchor_is None names = refl
 anchor_is (Some a) names = refl

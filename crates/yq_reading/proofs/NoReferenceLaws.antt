@@ -3,11 +3,11 @@ use Rattle.std.proofs.Common.{◌≡◌, ℕ, suc, ◌+◌, eqb, Bool, true, fal
 use Rattle.std.proofs.lemmas.Bool.{false≢true}
 use Rattle.std.proofs.lemmas.List.Folds.{list_any-append}
 use Rattle.std.specs.List.{list_any, slice_get}
-use Rattle.yq_flow_scalars.specs.Anchors.{Name, with_anchor}
+use Rattle.yq_flow_scalars.specs.Anchors.{Name, anchor_names}
 use Rattle.yq_lines.specs.Names.{head_names, is_reference, line_names}
 use Rattle.yq_cut.specs.Rows.{Row}
 use Rattle.yq_cut.specs.View.{RowsView, slices}
-use Rattle.yq_lines.specs.Lines.{content_anchor, head_of, lines_of}
+use Rattle.yq_lines.specs.Lines.{content_anchor, head_of, lines_of_rows}
 use Rattle.yq_lines.specs.declared.line_position.Stretch.{Stretch}
 use Rattle.yq_lines.proofs.WalkLevels.{names_row}
 use Rattle.yq_documents.specs.Decoded.{decoded_at, decoded_flow}
@@ -34,20 +34,20 @@ found_refers_not (m ∷ ms) i e =
     let p = or_parts (decoded_refers m) (some_refer ms) e in
     pick (eqb i m.row) (Some m) (decoded_at i ms) p.0 (found_refers_not ms i p.1)
 
-anchor_refers_not : (a : Option (List ℕ)) (xs : List Name) → list_any is_reference (with_anchor a xs) ≡ list_any is_reference xs
+anchor_refers_not : (a : Option (List ℕ)) (xs : List Name) → list_any is_reference (anchor_names a xs) ≡ list_any is_reference xs
 anchor_refers_not None xs = refl
 anchor_refers_not (Some a) xs = refl
 
-rows_refer_not : (rs : List Row) → ((i : ℕ) (r : Row) → slice_get rs i ≡ Some r → list_any is_reference (head_names (head_of r.content)) ≡ false) → list_any is_reference (line_names (lines_of rs)) ≡ false
+rows_refer_not : (rs : List Row) → ((i : ℕ) (r : Row) → slice_get rs i ≡ Some r → list_any is_reference (head_names (head_of r.content)) ≡ false) → list_any is_reference (line_names (lines_of_rows rs)) ≡ false
 rows_refer_not [] each = refl
 rows_refer_not (r ∷ rs) each =
     let here : list_any is_reference (head_names (head_of r.content)) ≡ false = each 0 r refl in
-    let rest : list_any is_reference (line_names (lines_of rs)) ≡ false = rows_refer_not rs (λ i x e. each (suc i) x e) in
-    ap (list_any is_reference) (names_row r (lines_of rs))
-    ∙ (anchor_refers_not (content_anchor r.content) (head_names (head_of r.content) ++ line_names (lines_of rs))
-    ∙ (list_any-append is_reference (head_names (head_of r.content)) (line_names (lines_of rs)) ∙ (λ i. here i || rest i)))
+    let rest : list_any is_reference (line_names (lines_of_rows rs)) ≡ false = rows_refer_not rs (λ i x e. each (suc i) x e) in
+    ap (list_any is_reference) (names_row r (lines_of_rows rs))
+    ∙ (anchor_refers_not (content_anchor r.content) (head_names (head_of r.content) ++ line_names (lines_of_rows rs))
+    ∙ (list_any-append is_reference (head_names (head_of r.content)) (line_names (lines_of_rows rs)) ∙ (λ i. here i || rest i)))
 
-pub ready_refers_not : (t : List ℕ) (s : RowsView) (ms : List Decoded) (d : Stretch) (k : IsCheckable t s ms d) → some_refer ms ≡ false → list_any is_reference (line_names (lines_of k.document.rows)) ≡ false
+pub ready_refers_not : (t : List ℕ) (s : RowsView) (ms : List Decoded) (d : Stretch) (k : IsCheckable t s ms d) → some_refer ms ≡ false → list_any is_reference (line_names (lines_of_rows k.document.rows)) ≡ false
 ready_refers_not t s ms d k none =
     rows_refer_not k.document.rows
     (λ i r e.

@@ -5,11 +5,11 @@ use Rattle.std.proofs.lemmas.Bool.{eq-eqb, eqb-true, false≢true, le-ltb, ne_eq
 use Rattle.std.proofs.lemmas.Option.{same_Some}
 use Rattle.std.specs.List.{slice_get}
 use Rattle.std.specs.Prelude.{is_some}
-use Rattle.yq_lines.specs.Outline.{Mark, Bare, Key, Dash, Line, key_of, level, rank}
-use Rattle.yq_lines.specs.Positions.{is_bare}
+use Rattle.yq_lines.specs.Outline.{LineMark, Bare, Key, Dash, Line, key_of, level, rank}
+use Rattle.yq_lines.specs.Positions.{has_no_mark}
 use Rattle.yq_flow_scalars.specs.Paths.{is_item}
-use Rattle.yq_nodes.specs.Scalars.{content_of}
-use Rattle.yq_lines.specs.Lines.{lines_of}
+use Rattle.yq_nodes.specs.Scalars.{scalar_content}
+use Rattle.yq_lines.specs.Lines.{lines_of_rows}
 use Rattle.yq_cut.specs.View.{Slices, slices, RowsView}
 use Rattle.yq_lines.specs.RowWalk.{HasRows, IsLine, IsPosition, line_level, line_number, line_rank}
 use Rattle.yq_lines.specs.declared.line_position.Position.{Position}
@@ -41,17 +41,17 @@ reached_line ms s d q left ahead at n agrees = record {
 }
 
 -- what a line begins with is told by how deep it is
-bare_mark : (column n : ℕ) (m : Mark) → n ≡ 3 * column + rank m → eqb (n % 3) 1 ≡ is_bare m
+bare_mark : (column n : ℕ) (m : LineMark) → n ≡ 3 * column + rank m → eqb (n % 3) 1 ≡ has_no_mark m
 bare_mark column n Bare e = eq-eqb (n % 3) 1 (omega (arith, e))
 bare_mark column n (Key k) e = ne_eqb (n % 3) 1 (λ same. omega (arith, e, same))
 bare_mark column n Dash e = ne_eqb (n % 3) 1 (λ same. omega (arith, e, same))
 
-key_mark : (column n : ℕ) (m : Mark) → n ≡ 3 * column + rank m → eqb (n % 3) 2 ≡ is_some (key_of m)
+key_mark : (column n : ℕ) (m : LineMark) → n ≡ 3 * column + rank m → eqb (n % 3) 2 ≡ is_some (key_of m)
 key_mark column n Bare e = ne_eqb (n % 3) 2 (λ same. omega (arith, e, same))
 key_mark column n (Key k) e = eq-eqb (n % 3) 2 (omega (arith, e))
 key_mark column n Dash e = ne_eqb (n % 3) 2 (λ same. omega (arith, e, same))
 
-pub bare_at : (n : ℕ) (l : Line) → n ≡ level l → eqb (n % 3) 1 ≡ is_bare l.mark
+pub bare_at : (n : ℕ) (l : Line) → n ≡ level l → eqb (n % 3) 1 ≡ has_no_mark l.mark
 unfolding level
 bare_at n l e = bare_mark l.column n l.mark e
 
@@ -68,7 +68,7 @@ ranked : (n : ℕ) (o : Option (List ℕ)) → not (eqb n 2) ≡ is_item o → t
 ranked n None e some = absurd (false≢true (sym some))
 ranked n (Some a) e some = eqb-true n 2 (not-false (eqb n 2) e)
 
-pub key_some : (s : RowsView) (d : Stretch) (h : HasRows s d) (q : Position) (at : IsLine s d q) (l : Line) → slice_get (lines_of h.rows) (line_number d h.rows q) ≡ Some l → true ≡ is_some (key_of l.mark) → Some (content_of (slices (located s d h q at).row).key) ≡ key_of l.mark
+pub key_some : (s : RowsView) (d : Stretch) (h : HasRows s d) (q : Position) (at : IsLine s d q) (l : Line) → slice_get (lines_of_rows h.rows) (line_number d h.rows q) ≡ Some l → true ≡ is_some (key_of l.mark) → Some (scalar_content (slices (located s d h q at).row).key) ≡ key_of l.mark
 key_some s d h q at l is some =
     let k = located s d h q at in
     let n : ℕ = line_rank q.line (slices k.row) in

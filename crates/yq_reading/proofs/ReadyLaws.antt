@@ -1,7 +1,7 @@
 -- What is told of the rows of a document that is checked.
 use Rattle.std.proofs.Common.{◌≡◌, ℕ, ◌<◌, ◌≤◌, List, length, Some, refl, sym, ap, ◌∙◌, arith}
 use Rattle.std.specs.List.{slice_get}
-use Rattle.yq_nodes.specs.Scalars.{content_of}
+use Rattle.yq_nodes.specs.Scalars.{scalar_content}
 use Rattle.yq_cut.specs.Rows.{Row}
 use Rattle.yq_cut.specs.View.{Slices, slices, RowsView, rows_of}
 use Rattle.yq_lines.specs.RowWalk.{HasRows, IsLine, IsPosition}
@@ -24,10 +24,10 @@ row_known t s ms d ready i x there =
     (r.0, r.2, ready.agrees i r.0 r.1)
 
 -- the key of a row
-pub key_agrees : (t : List ℕ) (s : RowsView) (ms : List Decoded) (d : Stretch) → IsCheckable t s ms d → (i : ℕ) (x : Slices) → slice_get s.rows i ≡ Some x → decoded_key (decoded_at i ms) x.key ≡ content_of x.key
+pub key_agrees : (t : List ℕ) (s : RowsView) (ms : List Decoded) (d : Stretch) → IsCheckable t s ms d → (i : ℕ) (x : Slices) → slice_get s.rows i ≡ Some x → decoded_key (decoded_at i ms) x.key ≡ scalar_content x.key
 key_agrees t s ms d ready i x there =
     let k = row_known t s ms d ready i x there in
-    ap (λ (y : Slices). decoded_key (decoded_at i ms) y.key) (sym k.1) ∙ (k.2.key ∙ ap (λ (y : Slices). content_of y.key) k.1)
+    ap (λ (y : Slices). decoded_key (decoded_at i ms) y.key) (sym k.1) ∙ (k.2.key ∙ ap (λ (y : Slices). scalar_content y.key) k.1)
 
 -- the first line of a row is a line
 pub row_first_line : (s : RowsView) (d : Stretch) (row : ℕ) → d.first ≤ row → row < d.end → IsLine s d (record { row = row; line = 0 })

@@ -1,13 +1,13 @@
 -- What a row's key begins with tells what it spells.
 use Rattle.std.proofs.Common.{◌≡◌, ℕ, true, false, List, [], ◌++◌, Some, refl, sym, ap, ◌∙◌, subst}
 use Rattle.std.specs.List.{slice_get}
-use Rattle.yq_nodes.specs.Scalars.{content_of, is_quoted}
+use Rattle.yq_nodes.specs.Scalars.{scalar_content, is_quoted}
 use Rattle.yq_lines.proofs.OneLine.{kept as stands}
 use Rattle.yq_cut.specs.Exchange.{behind_row, rows_behind}
 use Rattle.yq_cut.specs.Grammar.{IsMark}
 use Rattle.yq_cut.specs.Rows as rows
 use Rattle.yq_cut.specs.Rows.{Content, Row, content_text}
-use Rattle.yq_cut.specs.View.{Slices, RowsView, key_of, rows_of, slices}
+use Rattle.yq_cut.specs.View.{Slices, RowsView, key_of_mark, rows_of, slices}
 use Rattle.yq_cut.proofs.KeyLines.{key_line}
 use Rattle.yq_cut.proofs.PlaceLaws.{RowIn, row_in}
 use Rattle.yq_flow_scalars.specs.Quoted.{IsQuotedText}
@@ -18,7 +18,7 @@ use Rattle.yq_reading.specs.Checking.{IsCheckable}
 use Rattle.yq_reading.proofs.LineLevelLaws.{row_there}
 
 -- a key without quotes has one line, and stands for itself
-pub mark_plain : (m : rows.Mark) (c : Content) (rest : List ℕ) → IsMark m c rest → is_quoted (key_of m) ≡ false → key_of m ≡ content_of (key_of m)
+pub mark_plain : (m : rows.RowMark) (c : Content) (rest : List ℕ) → IsMark m c rest → is_quoted (key_of_mark m) ≡ false → key_of_mark m ≡ scalar_content (key_of_mark m)
 mark_plain rows.Bare c rest h e = stands [] refl refl
 mark_plain rows.Dash c rest h e = stands [] refl refl
 mark_plain (rows.Key key colon) c rest h e = stands key e (key_line key (colon ++ content_text c rest) h.scalar)
@@ -34,5 +34,5 @@ module _ (t : List ℕ) (s : RowsView) (ms : List Decoded) (d : Stretch) (ready 
   pub key_quoted : is_quoted x.key ≡ true → IsQuotedText x.key
   key_quoted = subst (λ (y : Slices). is_quoted y.key ≡ true → IsQuotedText y.key) found.2 (mark_quoted found.0.mark found.0.content (behind_row i ready.cut) row_is.row.mark)
 
-  pub key_plain : is_quoted x.key ≡ false → x.key ≡ content_of x.key
-  key_plain = subst (λ (y : Slices). is_quoted y.key ≡ false → y.key ≡ content_of y.key) found.2 (mark_plain found.0.mark found.0.content (behind_row i ready.cut) row_is.row.mark)
+  pub key_plain : is_quoted x.key ≡ false → x.key ≡ scalar_content x.key
+  key_plain = subst (λ (y : Slices). is_quoted y.key ≡ false → y.key ≡ scalar_content y.key) found.2 (mark_plain found.0.mark found.0.content (behind_row i ready.cut) row_is.row.mark)

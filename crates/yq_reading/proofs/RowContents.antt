@@ -10,7 +10,7 @@ use Rattle.yq_lines.specs.Outline.{Line}
 use Rattle.yq_lines.proofs.EndsLaws.{drop_at}
 use Rattle.yq_cut.specs.Grammar.{AreRows, IsContent, Limit, limit_after}
 use Rattle.yq_cut.specs.Rows.{Row, parent_indent}
-use Rattle.yq_lines.specs.Lines.{content_anchor, lines_of, row_lines}
+use Rattle.yq_lines.specs.Lines.{content_anchor, lines_of_rows, row_lines}
 use Rattle.yq_documents.specs.RowReading.{name_in}
 use Rattle.yq_lines.proofs.WalkLevels.{free_row}
 use Rattle.yq_reading.proofs.AnchorRows.{free_agrees}
@@ -22,15 +22,15 @@ row_content limit (x ∷ rs) end rest zero r valid e = subst (λ (y : Row). (t :
 row_content limit (x ∷ rs) end rest (suc i) r valid e = row_content (limit_after x) rs end rest i r valid.1 e
 
 -- the lines of rows from one on
-pub lines_at : (rs : List Row) (i : ℕ) (r : Row) → slice_get rs i ≡ Some r → lines_of (drop i rs) ≡ row_lines r ++ lines_of (drop (i + 1) rs)
-lines_at rs i r e = ap lines_of (drop_at rs i r e)
+pub lines_at : (rs : List Row) (i : ℕ) (r : Row) → slice_get rs i ≡ Some r → lines_of_rows (drop i rs) ≡ row_lines r ++ lines_of_rows (drop (i + 1) rs)
+lines_at rs i r e = ap lines_of_rows (drop_at rs i r e)
 
 -- what is asked of anchors from a row on, by its first line and the rows behind it
 pub anchor_step : (rs : List Row) (i : ℕ) (r : Row) (l : Line) (before : List ℕ) (all : Bool) → slice_get rs i ≡ Some r → slice_get (row_lines r) 0 ≡ Some l → is_empty before ≡ is_none (name_in before) →
-    all ≡ (is_free (name_in before) (lines_of (drop i rs)) && have_one_anchor_each (lines_of (drop i rs))) →
-    all ≡ ((is_empty before || may_take l.mark l.anchor l.head) && (is_free (content_anchor r.content) (lines_of (drop (i + 1) rs)) && have_one_anchor_each (lines_of (drop (i + 1) rs))))
+    all ≡ (is_free (name_in before) (lines_of_rows (drop i rs)) && have_one_anchor_each (lines_of_rows (drop i rs))) →
+    all ≡ ((is_empty before || may_take l.mark l.anchor l.head) && (is_free (content_anchor r.content) (lines_of_rows (drop (i + 1) rs)) && have_one_anchor_each (lines_of_rows (drop (i + 1) rs))))
 anchor_step rs i r l before all there first named so_far =
-    let rest : List Line = lines_of (drop (i + 1) rs) in
+    let rest : List Line = lines_of_rows (drop (i + 1) rs) in
     so_far
     ∙ ((λ j. is_free (name_in before) (lines_at rs i r there j) && have_one_anchor_each (lines_at rs i r there j))
     ∙ (λ j. free_agrees before (row_lines r) l rest named first j && free_row r rest j))
@@ -40,6 +40,6 @@ free_end : (a : Option (List ℕ)) → (is_free a [] && true) ≡ true
 free_end None = refl
 free_end (Some a) = refl
 
-pub nothing_left : (rs : List Row) (i : ℕ) (before : List ℕ) (all : Bool) → length rs ≤ i → all ≡ (is_free (name_in before) (lines_of (drop i rs)) && have_one_anchor_each (lines_of (drop i rs))) → true ≡ all
+pub nothing_left : (rs : List Row) (i : ℕ) (before : List ℕ) (all : Bool) → length rs ≤ i → all ≡ (is_free (name_in before) (lines_of_rows (drop i rs)) && have_one_anchor_each (lines_of_rows (drop i rs))) → true ≡ all
 nothing_left rs i before all past so_far =
-    sym (so_far ∙ (ap (λ (x : List Row). is_free (name_in before) (lines_of x) && have_one_anchor_each (lines_of x)) (drop_all i rs past) ∙ free_end (name_in before)))
+    sym (so_far ∙ (ap (λ (x : List Row). is_free (name_in before) (lines_of_rows x) && have_one_anchor_each (lines_of_rows x)) (drop_all i rs past) ∙ free_end (name_in before)))

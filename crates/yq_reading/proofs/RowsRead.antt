@@ -14,21 +14,21 @@ use Rattle.yq_flow_scalars.specs.Text.{is_empty}
 use Rattle.yq_flow_scalars.specs.Tree as trees
 use Rattle.yq_flow_scalars.specs.declared.fault.ReadError.{ReadError}
 use Rattle.yq_flow_scalars.specs.declared.fault.ReadError.TheVariants as errors
-use Rattle.yq_nodes.specs.Scalars.{content_of, is_quoted}
+use Rattle.yq_nodes.specs.Scalars.{scalar_content, is_quoted}
 use Rattle.yq_lines.specs.declared.line.Head.{Head}
 use Rattle.yq_lines.specs.View.{head_flow, head_view}
 use Rattle.yq_cut.specs.Exchange.{before_content, behind_row, rows_behind}
 use Rattle.yq_cut.specs.Grammar.{IsMark}
 use Rattle.yq_cut.specs.Rows as rows
 use Rattle.yq_cut.specs.Rows.{Row, Cut, parent_indent}
-use Rattle.yq_cut.specs.View.{Slices, colon_of, key_of, slices, rows_of, RowsView}
+use Rattle.yq_cut.specs.View.{Slices, colon_of, key_of_mark, slices, rows_of, RowsView}
 use Rattle.yq_cut.proofs.PlaceLaws.{RowIn, place, row_in}
 use Rattle.yq_cut.proofs.SliceLaws.{content_slices}
 use Rattle.yq_documents.specs.FlowReading.{head_flow_at, row_flow}
 use Rattle.yq_documents.specs.KeyReading.{EndsIn}
 use Rattle.yq_documents.specs.Decoded.{borrowed_head, borrowed_text}
 use Rattle.yq_documents.specs.Reading.{content_is_fit, cut_of, mark_is_fit}
-use Rattle.yq_documents.specs.RowReading.{head_at}
+use Rattle.yq_documents.specs.RowReading.{read_head}
 use Rattle.yq_lines.specs.Lines.{head_of}
 use Rattle.yq_documents.proofs.HeadLaws.{fitting, head_is, head_text}
 use Rattle.yq_documents.proofs.RowFlowLaws.{flow_is}
@@ -43,7 +43,7 @@ use Rattle.yq_reading.proofs.RowBegins.{mark_plain}
 use Rattle.yq_reading.proofs.BorrowLaws.{borrows_key, borrowed_read}
 
 -- a key is fit that is no plain `<<`
-key_fit : (m : rows.Mark) → key_fits (key_of m) ≡ mark_is_fit m
+key_fit : (m : rows.RowMark) → key_fits (key_of_mark m) ≡ mark_is_fit m
 key_fit rows.Bare = refl
 key_fit rows.Dash = refl
 key_fit (rows.Key key colon) = refl
@@ -58,7 +58,7 @@ pub fit_agrees : (o : Option (Option trees.Node)) (fit : Bool) (head x : Option 
 fit_agrees o fit head x is e = (cond_some fit _ _ (sym is ∙ e)).0
 
 -- a row without a colon has no key, which is fit and stands for itself
-no_key : (m : rows.Mark) (c : rows.Content) (rest : List ℕ) → IsMark m c rest → is_empty (colon_of m) ≡ true → (mark_is_fit m ≡ true) × (borrowed_text (key_of m) ≡ content_of (key_of m))
+no_key : (m : rows.RowMark) (c : rows.Content) (rest : List ℕ) → IsMark m c rest → is_empty (colon_of m) ≡ true → (mark_is_fit m ≡ true) × (borrowed_text (key_of_mark m) ≡ scalar_content (key_of_mark m))
 no_key rows.Bare c rest h e = (refl, kept [] refl refl)
 no_key rows.Dash c rest h e = (refl, kept [] refl refl)
 no_key (rows.Key key colon) c rest h e = absurd (false≢true (sym (ap is_empty h.colon_is.spelled ∙ colon_some h.colon_is.white) ∙ e))
@@ -142,7 +142,7 @@ module _ (t : List ℕ) (s : RowsView) (k : IsCutInto t s) (i : ℕ) (r : Row) (
       ∙ (place c i r is
       ∙ (ap (λ (y : List ℕ). before_content i c ++ y) (sym (content_slices r.content (behind_row i c))) ∙ regroup (before_content i c) x.space x.anchor x.apart behind))
 
-  read_again : head_at t (parent_indent r) (slices r).head behind ≡ fitting (content_is_fit r.content) (head_of r.content)
+  read_again : read_head t (parent_indent r) (slices r).head behind ≡ fitting (content_is_fit r.content) (head_of r.content)
   read_again = head_is t (parent_indent r) r.content (behind_row i c) (before, text_there) row_here.row.content
 
   flow_again : head_flow_at t (parent_indent r) (slices r).head behind ≡ row_flow (length t) r (behind_row i c)
@@ -176,13 +176,13 @@ module _ (t : List ℕ) (s : RowsView) (k : IsCutInto t s) (i : ℕ) (r : Row) (
     text_ends = (before, text_there ∙ ap (λ (x : List ℕ). before ++ x) (sym from_there))
 
     module _ (p : ℤ) (h : List ℕ) (parent : p ≡ parent_indent r) (head : h ≡ (slices r).head) where
-      pub head_read : head_at t p h text ≡ fitting (content_is_fit r.content) (head_of r.content)
-      head_read = (λ j. head_at t (parent j) (head j) (from_there j)) ∙ read_again
+      pub head_read : read_head t p h text ≡ fitting (content_is_fit r.content) (head_of r.content)
+      head_read = (λ j. read_head t (parent j) (head j) (from_there j)) ∙ read_again
 
       flow_read : head_flow_at t p h text ≡ row_flow (length t) r (behind_row i c)
       flow_read = (λ j. head_flow_at t (parent j) (head j) (from_there j)) ∙ flow_again
 
-      pub read_decoded : (x : Head) → head_at t p h text ≡ Some (head_view x) → head_flow x ≡ head_flow_at t p h text → IsHeadDecoded t i (Some x) r
+      pub read_decoded : (x : Head) → read_head t p h text ≡ Some (head_view x) → head_flow x ≡ head_flow_at t p h text → IsHeadDecoded t i (Some x) r
       read_decoded x view flow = record {
         head = sym (cond_some (content_is_fit r.content) _ _ (sym head_read ∙ view)).1;
         flow = flow ∙ flow_read;

@@ -3,22 +3,22 @@ use Rattle.std.proofs.Common.{◌≡◌, ℕ, Option, Some, None, Bool, true, fa
 use Rattle.std.proofs.lemmas.Bool.{false≢true, eq-eqb, ne_eqb, le-leb}
 use Rattle.std.specs.Prelude.{is_some}
 use Rattle.yq_flow_scalars.specs.Tree.{Node}
-use Rattle.yq_lines.specs.Ends.{is_end}
+use Rattle.yq_lines.specs.Ends.{has_no_lines}
 use Rattle.yq_lines.specs.Group.{is_open}
-use Rattle.yq_lines.specs.Outline.{Mark, Bare, Key, Dash, Line, level, Outline, end, row}
-use Rattle.yq_lines.specs.Sound.{is_sound, head_is_sound, are_sound_under, is_entry}
-use Rattle.yq_lines.specs.Positions.{is_bare}
+use Rattle.yq_lines.specs.Outline.{LineMark, Bare, Key, Dash, Line, level, Outline, end, row}
+use Rattle.yq_lines.specs.Sound.{is_sound_outline, head_is_sound, are_sound_under, is_entry_line}
+use Rattle.yq_lines.specs.Positions.{has_no_mark}
 
 -- a line at another level
 pub other_level : (d n : ℕ) (l : Line) (u : Outline) → (level l ≡ n → ⊥) → are_sound_under d n l u ≡ false
 other_level d n l u other = rw (ne_eqb (level l) n other) refl
 
 -- no lines are sound
-pub none_sound : (d : ℕ) (u : Outline) → is_end u ≡ true → is_sound d u ≡ true
+pub none_sound : (d : ℕ) (u : Outline) → has_no_lines u ≡ true → is_sound_outline d u ≡ true
 none_sound d end e = rw (le-leb 0 d (omega arith)) refl
 none_sound d (row l u a) e = absurd (false≢true e)
 
-open_end : (o : Option Node) (u : Outline) → is_end u ≡ true → is_open o u ≡ true
+open_end : (o : Option Node) (u : Outline) → has_no_lines u ≡ true → is_open o u ≡ true
 open_end None u e = refl
 open_end (Some h) end e = refl
 open_end (Some h) (row l u a) e = absurd (false≢true e)
@@ -28,14 +28,14 @@ and_true true = refl
 and_true false = refl
 
 -- a line under which there are none
-pub alone_sound : (d n : ℕ) (l : Line) (u : Outline) → level l ≡ n → is_end u ≡ true → are_sound_under d n l u ≡ head_is_sound d l.head
+pub alone_sound : (d n : ℕ) (l : Line) (u : Outline) → level l ≡ n → has_no_lines u ≡ true → are_sound_under d n l u ≡ head_is_sound d l.head
 alone_sound d n l u same e = rw (eq-eqb (level l) n same, open_end l.head u e, none_sound d u e) (and_true (head_is_sound d l.head))
 
 -- a line with a head, and lines under it
-pub both_there : (d n : ℕ) (l : Line) (u : Outline) → true ≡ is_some l.head → is_end u ≡ false → are_sound_under d n l u ≡ false
-both_there d n l u some e = rw (shut l.head u some e) (and_false (Rattle.std.specs.Prelude.nat_eq (level l) n) (is_sound d u))
+pub both_there : (d n : ℕ) (l : Line) (u : Outline) → true ≡ is_some l.head → has_no_lines u ≡ false → are_sound_under d n l u ≡ false
+both_there d n l u some e = rw (shut l.head u some e) (and_false (Rattle.std.specs.Prelude.nat_eq (level l) n) (is_sound_outline d u))
   where
-    shut : (o : Option Node) (w : Outline) → true ≡ is_some o → is_end w ≡ false → is_open o w ≡ false
+    shut : (o : Option Node) (w : Outline) → true ≡ is_some o → has_no_lines w ≡ false → is_open o w ≡ false
     shut None w s f = absurd (false≢true (sym s))
     shut (Some h) end s f = absurd (false≢true (sym f))
     shut (Some h) (row m v a) s f = refl
@@ -45,10 +45,10 @@ both_there d n l u some e = rw (shut l.head u some e) (and_false (Rattle.std.spe
     and_false false c = refl
 
 -- a line without a head, with lines under it
-pub under_sound : (d n : ℕ) (l : Line) (u : Outline) → level l ≡ n → false ≡ is_some l.head → is_sound d u ≡ are_sound_under d n l u
+pub under_sound : (d n : ℕ) (l : Line) (u : Outline) → level l ≡ n → false ≡ is_some l.head → is_sound_outline d u ≡ are_sound_under d n l u
 under_sound d n l u same none = go l.head refl none
   where
-    go : (o : Option Node) → l.head ≡ o → false ≡ is_some o → is_sound d u ≡ are_sound_under d n l u
+    go : (o : Option Node) → l.head ≡ o → false ≡ is_some o → is_sound_outline d u ≡ are_sound_under d n l u
     go None e f = sym (rw (eq-eqb (level l) n same, e) refl)
     go (Some h) e f = absurd (false≢true f)
 
@@ -69,12 +69,12 @@ pub bare_passes : (some alone head : Bool) → true ≡ some → alone ≡ true 
 bare_passes some alone head e f g = rw (sym e, f, g) refl
 
 -- a mark that begins an item or entry, or none
-pub bare_is : (m : Mark) → true ≡ is_bare m → m ≡ Bare
+pub bare_is : (m : LineMark) → true ≡ has_no_mark m → m ≡ Bare
 bare_is Bare e = refl
 bare_is (Key k) e = absurd (false≢true (sym e))
 bare_is Dash e = absurd (false≢true (sym e))
 
-pub entry_is : (m : Mark) → false ≡ is_bare m → is_entry m ≡ true
+pub entry_is : (m : LineMark) → false ≡ has_no_mark m → is_entry_line m ≡ true
 entry_is Bare e = absurd (false≢true e)
 entry_is (Key k) e = refl
 entry_is Dash e = refl

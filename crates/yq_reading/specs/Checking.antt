@@ -3,14 +3,14 @@ use Rattle.std.specs.Prelude.{◌≡◌, ℕ, ◌<◌, nat_lt, List, length, sli
 use Rattle.std.specs.List.{list_any}
 use Rattle.yq_flow_scalars.specs.Plain.{holds_break}
 use Rattle.yq_nodes.specs.Scalars.{is_quoted}
-use Rattle.yq_nodes.specs.Nodes.{first_is}
-use Rattle.yq_lines.specs.Ends.{IsEndOf, is_end, part}
+use Rattle.yq_nodes.specs.Nodes.{begins_with}
+use Rattle.yq_lines.specs.Ends.{IsEndOf, has_no_lines, part}
 use Rattle.yq_cut.specs.Grammar.{IsCut}
 use Rattle.yq_cut.specs.Rows.{Row, Cut}
 use Rattle.yq_cut.specs.View.{rows_of, RowsView, rows_view}
 use Rattle.yq_lines.specs.Extents.{IsRowsView}
 use Rattle.yq_lines.specs.Outline.{Line, level}
-use Rattle.yq_lines.specs.Lines.{lines_of}
+use Rattle.yq_lines.specs.Lines.{lines_of_rows}
 use Rattle.yq_lines.specs.RowWalk.{HasRows, IsPosition, OfLine, OfLines, line_number, lines_stop}
 use Rattle.yq_lines.specs.declared.line_position.Position.{Position}
 use Rattle.yq_lines.specs.declared.line_position.Stretch.{Stretch}
@@ -25,7 +25,7 @@ use Rattle.yq_reading.specs.declared.reached.Reached.{Reached}
 
 -- a backslash in double quotes, or a quote in single ones, stands behind the first byte and before the last (own)
 abbrev pub holds_escape : List ℕ → Bool
-holds_escape t = if is_quoted t then list_any (λ b. b == (if first_is 34 t then 92 else 39)) (take (length t - 2) (drop 1 t)) else false
+holds_escape t = if is_quoted t then list_any (λ b. b == (if begins_with 34 t then 92 else 39)) (take (length t - 2) (drop 1 t)) else false
 
 -- the text lends what a key or scalar stands for: it is on one line, and has no escapes (own)
 abbrev pub borrows_text : List ℕ → Bool
@@ -33,7 +33,7 @@ borrows_text t = not (holds_break t) && not (holds_escape t)
 
 -- an alias, a flow collection or a block scalar begins so (own)
 abbrev pub begins_tree : List ℕ → Bool
-begins_tree t = is_block_head t || (first_is 42 t || (first_is 91 t || first_is 123 t))
+begins_tree t = is_block_head t || (begins_with 42 t || (begins_with 91 t || begins_with 123 t))
 
 -- the text lends what a head spells (own)
 abbrev pub borrows_head : List ℕ → Bool
@@ -64,7 +64,7 @@ IsChecked x = IsCheckable x.text.now x.rows.now x.decoded.now x.document
 
 -- What is said of the lines of the document that is checked, with their numbers (own).
 abbrev pub OfChecked : Checked → (List Line → (Position → ℕ) → Type 0) → Type 0
-OfChecked x said = (k : IsChecked x) → said (lines_of k.document.rows) (line_number x.document k.document.rows)
+OfChecked x said = (k : IsChecked x) → said (lines_of_rows k.document.rows) (line_number x.document k.document.rows)
 
 -- What is said of one of them (own).
 abbrev pub OfCheckedLine : Checked → Position → (List Line → (Position → ℕ) → Line → Type 0) → Type 0
@@ -74,7 +74,7 @@ OfCheckedLine x at said = OfChecked x (λ ls n. (l : Line) → slice_get ls (n a
 pub record GivesStop (s : RowsView) (d : Stretch) (from : Position) (floor : ℕ) (q : Position) : Type 0 where
   pub position : IsPosition s d q
   pub number : OfLines s d (λ ls n. n q ≡ lines_stop (n from) floor ls)
-  pub later : OfLines s d (λ ls n. is_end (part ls (n from) floor) ≡ false → from.row < q.row)
+  pub later : OfLines s d (λ ls n. has_no_lines (part ls (n from) floor) ≡ false → from.row < q.row)
 
 -- The position behind a line and those under it is given, where there is no fault (own).
 pub record GivesEnd (s : RowsView) (d : Stretch) (at : Position) (q : Position) : Type 0 where
@@ -87,5 +87,5 @@ pub record IsReached (ms : List Decoded) (s : RowsView) (d : Stretch) (r : Reach
   pub position : IsPosition s d r.position
   pub some : 0 < r.level → r.position.row < d.end
   pub agrees : r.position.row < d.end → OfLine s d r.position (λ l. r.level ≡ level l)
-  pub deeper : (floor : ℕ) → OfLines s d (λ ls n. nat_lt floor r.level ≡ not (is_end (part ls (n r.position) floor)))
+  pub deeper : (floor : ℕ) → OfLines s d (λ ls n. nat_lt floor r.level ≡ not (has_no_lines (part ls (n r.position) floor)))
   pub decoded : IsAhead ms r.position.row r.decoded.now

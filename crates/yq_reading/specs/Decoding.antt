@@ -1,7 +1,7 @@
 -- Reading (own; a reader may skip it): what is made of the rows of a text.
 use Rattle.std.specs.Prelude.{◌≡◌, ℕ, List, [], ◌∷◌, length, slice_get, Option, Some, None, String, option_and_then, option_map, string_bytes}
 use Rattle.std.specs.declared.alloc.Global.{Global}
-use Rattle.yq_nodes.specs.Scalars.{content_of}
+use Rattle.yq_nodes.specs.Scalars.{scalar_content}
 use Rattle.yq_lines.specs.declared.line.Head.{Head}
 use Rattle.yq_lines.specs.View.{head_flow, head_view}
 use Rattle.yq_cut.specs.Exchange.{behind_row}
@@ -25,7 +25,7 @@ OfRow t i said = (r : Row) → slice_get (rows_of (cut_of t)) i ≡ Some r → s
 
 -- What a row's key stands for is told by the text that is made of it, if one is (own).
 abbrev pub IsKeyDecoded : Option (String Global) → Row → Type 0
-IsKeyDecoded k r = decoded_or (option_map string_bytes k) (borrowed_text (slices r).key) ≡ content_of (slices r).key
+IsKeyDecoded k r = decoded_or (option_map string_bytes k) (borrowed_text (slices r).key) ≡ scalar_content (slices r).key
 
 -- What a row's head spells is told by the head that is made of it, if one is (own).
 pub record IsHeadDecoded (t : List ℕ) (i : ℕ) (h : Option Head) (r : Row) : Type 0 where
@@ -38,6 +38,6 @@ pub record AreDecoded (t : List ℕ) (ms : List Decoded) : Type 0 where
   pub agrees : (i : ℕ) → OfRow t i (IsDecoded (length t) (cut_of t) ms i)
 
 -- what is made of a row, if anything is, as a list (own)
-abbrev pub listed : Option Decoded → List Decoded
-listed None = []
-listed (Some m) = m ∷ []
+abbrev pub list_of_option : Option Decoded → List Decoded
+list_of_option None = []
+list_of_option (Some m) = m ∷ []

@@ -3,22 +3,22 @@ use Rattle.std.specs.Prelude.{Bool, ◌||◌, ◌&&◌, not, List, ℕ, codes}
 use Rattle.std.specs.Str.{bytes_eq}
 use Rattle.yq_flow_scalars.specs.Plain.{holds_break}
 use Rattle.yq_flow_scalars.specs.Text.{is_empty}
-use Rattle.yq_nodes.specs.Nodes.{first_is}
+use Rattle.yq_nodes.specs.Nodes.{begins_with}
 use Rattle.yq_nodes.specs.Scalars.{is_quoted}
 use Rattle.yq_cut.specs.View.{Slices}
 use Rattle.yq_documents.specs.RowReading.{is_block_head}
 
 -- a plain scalar, among heads (own)
 abbrev pub is_plain_head : List ℕ → Bool
-is_plain_head head = not (is_empty head) && (not (is_block_head head) && not (is_quoted head || (first_is 42 head || (first_is 91 head || first_is 123 head))))
+is_plain_head head = not (is_empty head) && (not (is_block_head head) && not (is_quoted head || (begins_with 42 head || (begins_with 91 head || begins_with 123 head))))
 
 -- a break is in an anchor, behind it or in its head (own)
 abbrev pub has_break : Slices → Bool
 has_break s = holds_break s.anchor || (holds_break s.apart || holds_break s.head)
 
 -- the row is a plain scalar of several lines alone (own)
-abbrev pub is_long : Slices → Bool
-is_long s = is_empty s.dashes && (is_empty s.colon && (is_plain_head s.head && has_break s))
+abbrev pub is_multiline_plain : Slices → Bool
+is_multiline_plain s = is_empty s.dashes && (is_empty s.colon && (is_plain_head s.head && has_break s))
 
 -- a key as it is written, if there is one, is no plain `<<` (own)
 abbrev pub key_fits : List ℕ → Bool

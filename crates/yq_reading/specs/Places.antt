@@ -5,7 +5,7 @@ use Rattle.yq_lines.specs.LinesReading.{lines_are_sound}
 use Rattle.yq_cut.specs.Grammar.{begins_document}
 use Rattle.yq_cut.specs.Rows.{Part}
 use Rattle.yq_cut.specs.View.{Bound, Slices}
-use Rattle.yq_lines.specs.Lines.{lines_of}
+use Rattle.yq_lines.specs.Lines.{lines_of_rows}
 use Rattle.yq_documents.specs.Documents.{document_parts}
 use Rattle.yq_documents.specs.Holding.{IsLocated}
 use Rattle.yq_documents.specs.Reading.{cut_of, has_short_root}
@@ -17,18 +17,18 @@ gap_or None end = end
 gap_or (Some s) end = s.gap
 
 -- the gap before row k, where it stands before the end of a part, or the gap there (own)
-abbrev pub first_gap : List Slices → ℕ → Bound → List ℕ
-first_gap ss k b = if nat_lt k b.rows then gap_or (slice_get ss k) b.end else b.end
+abbrev pub gap_before_row : List Slices → ℕ → Bound → List ℕ
+gap_before_row ss k b = if nat_lt k b.rows then gap_or (slice_get ss k) b.end else b.end
 
 -- where the rows of a part begin and end, and the gap that its lead ends, if it is a document; k rows stand before it (own)
 abbrev pub part_row : List Slices → Bool → ℕ → Bound → List (ℕ × ℕ × List ℕ)
-part_row ss true k b = (k, b.rows, first_gap ss k b) ∷ []
+part_row ss true k b = (k, b.rows, gap_before_row ss k b) ∷ []
 part_row ss false k b = []
 
 -- the same of documents; of the first part it is known whether it is one (own)
-abbrev pub all_rows : List Slices → Bool → ℕ → List Bound → List (ℕ × ℕ × List ℕ)
-all_rows ss is k [] = []
-all_rows ss is k (b ∷ bs) = part_row ss is k b ++ all_rows ss (begins_document b.marker) b.rows bs
+abbrev pub all_document_rows : List Slices → Bool → ℕ → List Bound → List (ℕ × ℕ × List ℕ)
+all_document_rows ss is k [] = []
+all_document_rows ss is k (b ∷ bs) = part_row ss is k b ++ all_document_rows ss (begins_document b.marker) b.rows bs
 
 -- the same of a document of the code (own)
 abbrev pub document_view : DocumentRows → ℕ × ℕ × List ℕ
@@ -45,7 +45,7 @@ pub record AreLocated (t : List ℕ) (ds : List DocumentRows) : Type 0 where
 
 -- the root of a part is no plain scalar of several lines, and its lines are sound (own)
 abbrev pub part_is_sound : Part → Bool
-part_is_sound p = has_short_root p.rows && lines_are_sound (lines_of p.rows)
+part_is_sound p = has_short_root p.rows && lines_are_sound (lines_of_rows p.rows)
 
 -- the same of parts (own)
 abbrev pub all_sound : List Part → Bool

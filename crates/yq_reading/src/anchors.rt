@@ -13,7 +13,7 @@ use yq_walk::is_bare;
 
 /// Whether a node itself, written so, has no anchor and is no alias.
 fn is_unnamed(anchor: &str, head: &str) -> bool
-    ensures { result ≡ (is_empty anchor.now && not (nodes.first_is 42 head.now)) }
+    ensures { result ≡ (is_empty anchor.now && not (nodes.begins_with 42 head.now)) }
 {
     anchor.is_empty() && !first_is(b'*', head.as_bytes())
 }

@@ -1,7 +1,7 @@
 //! A document whose rows are checked.
 ghost use Rattle.std.specs.Prelude.{◌≡◌, ◌≢◌, ◌<◌, Some, length, slice_get};
 ghost use Rattle.yq_flow_scalars.specs.declared.fault.FaultKind.TheVariants.{NotUtf8};
-ghost use Rattle.yq_nodes.specs.Scalars.{content_of};
+ghost use Rattle.yq_nodes.specs.Scalars.{scalar_content};
 ghost use Rattle.yq_lines.specs.Bodies.{borrowed};
 ghost use Rattle.yq_lines.specs.Outline as outline;
 ghost use Rattle.yq_cut.specs.View.{Slices};
@@ -48,7 +48,7 @@ pub(crate) fn row_key<'a, 't>(x: Checked<'a, 't>, row: usize, decoded: &'a [Deco
     requires within { row < length x.rows.now.rows }
     requires decoded { IsAhead x.decoded.now row decoded.now }
     ensures { (s : Slices) → slice_get x.entry.rows.now.rows row ≡ Some s →
-        result.now ≡ content_of s.key }
+        result.now ≡ scalar_content s.key }
 {
     let piece = x.rows.key(row);
     if is_quoted(piece.as_bytes()) {

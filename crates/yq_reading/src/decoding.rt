@@ -11,7 +11,7 @@ ghost use Rattle.yq_documents.specs.Reading.{content_is_fit, cut_of, have_fit_ke
 ghost use Rattle.yq_documents.specs.RowReading.{row_fits};
 ghost use Rattle.yq_reading.specs.Checking as spec;
 ghost use Rattle.yq_reading.specs.Deciding.{Decides};
-ghost use Rattle.yq_reading.specs.Decoding.{AreDecoded, IsCutInto, IsHeadDecoded, IsKeyDecoded, OfRow, listed};
+ghost use Rattle.yq_reading.specs.Decoding.{AreDecoded, IsCutInto, IsHeadDecoded, IsKeyDecoded, OfRow, list_of_option};
 
 use crate::fit::key_fits;
 use crate::nested::flow_decoded;
@@ -169,7 +169,7 @@ fn push_decoded<'t>(
     decoded: Vec<Decoded<'t>>,
     row: Option<Decoded<'t>>,
 ) -> Result<Vec<Decoded<'t>>, AllocError>
-    ensures { IfOk result (λ ms. ms.items ≡ decoded.entry.items ++ listed row.entry) }
+    ensures { IfOk result (λ ms. ms.items ≡ decoded.entry.items ++ list_of_option row.entry) }
 {
     let mut decoded = decoded;
     match row {

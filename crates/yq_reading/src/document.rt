@@ -3,7 +3,7 @@ ghost use Rattle.std.specs.Prelude.{◌≡◌, ◌&&◌, [], IfErr};
 ghost use Rattle.yq_flow_scalars.specs.Answers.{IsOfText};
 ghost use Rattle.yq_lines.specs.LinesReading as lines;
 ghost use Rattle.yq_lines.specs.Names.{line_names};
-ghost use Rattle.yq_lines.specs.Lines.{lines_of};
+ghost use Rattle.yq_lines.specs.Lines.{lines_of_rows};
 ghost use Rattle.yq_documents.specs.Reading.{has_short_root};
 ghost use Rattle.yq_reading.specs.Checking.{IsChecked, OfChecked, some_refer};
 ghost use Rattle.yq_reading.specs.Deciding.{Decides};
@@ -63,7 +63,7 @@ pub(crate) fn check_document(
     requires ready { IsChecked x }
     requires refers { refers ≡ some_refer x.decoded.now }
     ensures sound { (k : IsChecked x.entry) → Decides result
-        (has_short_root k.document.rows && lines.lines_are_sound (lines_of k.document.rows)) }
+        (has_short_root k.document.rows && lines.lines_are_sound (lines_of_rows k.document.rows)) }
     ensures fault { IfErr result IsOfText }
 {
     let first = Position {

@@ -1,6 +1,6 @@
 //! The anchors and aliases of a document, in the order of the text.
 ghost use Rattle.std.specs.Prelude.{◌≡◌, ◌++◌, option_map, IfOk, OnOk};
-ghost use Rattle.yq_nodes.specs.View.{view};
+ghost use Rattle.yq_nodes.specs.View.{inline_view};
 ghost use Rattle.yq_lines.specs.Names.{line_names};
 ghost use Rattle.yq_reading.specs.Checking.{IsChecked, OfChecked};
 ghost use Rattle.yq_reading.specs.Named.{all_named, flow_names};
@@ -16,7 +16,7 @@ use yq_nodes::Inline;
 /// Adds the names in an alias or flow collection, if there is one.
 fn push_flow<'t>(names: &mut Vec<Name<'t>>, flow: Option<&Inline<'t>>) -> Result<(), AllocError>
     ensures { OnOk result (all_named names.new.items ≡ all_named names.old.items ++
-        flow_names (option_map (λ n. view n.now) flow.entry)) }
+        flow_names (option_map (λ n. inline_view n.now) flow.entry)) }
 {
     match flow {
         Some(node) => push_node(names, node),

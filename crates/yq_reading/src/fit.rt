@@ -1,6 +1,6 @@
 //! What is asked of the rows of a document, row by row.
 ghost use Rattle.std.specs.Prelude.{◌≡◌};
-ghost use Rattle.yq_cut.specs.View.{view as row_view};
+ghost use Rattle.yq_cut.specs.View.{row_view};
 ghost use Rattle.yq_reading.specs.FitReading as spec;
 ghost use Rattle.yq_lines.specs.RowWalk.{HasRows};
 ghost use Rattle.yq_documents.specs.Reading as reading;
@@ -30,7 +30,7 @@ fn has_break(row: &Row<'_>) -> bool
 
 /// Whether a row is a plain scalar of several lines alone.
 fn is_long(row: &Row<'_>) -> bool
-    ensures { result ≡ spec.is_long (row_view row.now) }
+    ensures { result ≡ spec.is_multiline_plain (row_view row.now) }
 {
     row.dashes().is_empty() && (row.colon().is_empty() && (is_plain(row.head()) && has_break(row)))
 }

@@ -3,7 +3,7 @@ ghost use Rattle.std.specs.Prelude.{◌&&◌, Some, IfErr};
 ghost use Rattle.yq_flow_scalars.specs.Answers.{IsOfText};
 ghost use Rattle.yq_flow_scalars.specs.Keys.{are_distinct, keys_of};
 ghost use Rattle.yq_nodes.specs.Trees.{parts_tree, placed_tree};
-ghost use Rattle.yq_nodes.specs.View.{entries_end, items_end, view};
+ghost use Rattle.yq_nodes.specs.View.{entries_end, items_end, inline_view};
 ghost use Rattle.yq_lines.specs.Sound as spec;
 ghost use Rattle.yq_reading.specs.Deciding.{Decides};
 
@@ -23,7 +23,7 @@ pub(crate) fn node_fault(
     node: &Inline<'_>,
     depth: usize,
 ) -> Result<(), ReadError>
-    ensures sound { Decides result (spec.head_is_sound depth (Some (placed_tree (view node.now)))) }
+    ensures sound { Decides result (spec.head_is_sound depth (Some (placed_tree (inline_view node.now)))) }
     ensures fault { IfErr result IsOfText }
 {
     match &node.form {

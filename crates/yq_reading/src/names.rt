@@ -22,7 +22,7 @@ pub(crate) fn push_anchor<'t>(
     anchor: Option<&'t str>,
 ) -> Result<(), AllocError>
     ensures { OnOk result (all_named names.new.items ≡ all_named names.old.items ++
-        spec.with_anchor (option_map (λ a. a.now) anchor.entry) []) }
+        spec.anchor_names (option_map (λ a. a.now) anchor.entry) []) }
 {
     match anchor {
         None => Ok(()),
@@ -37,7 +37,7 @@ pub(crate) fn push_anchor<'t>(
 #[cycle(names)]
 pub(crate) fn push_node<'t>(names: &mut Vec<Name<'t>>, node: &Inline<'t>) -> Result<(), AllocError>
     ensures { OnOk result (all_named names.new.items ≡ all_named names.old.items ++
-        spec.names_of (placed_tree (inline.view node.now))) }
+        spec.names_of (placed_tree (inline.inline_view node.now))) }
 {
     match &node.form {
         Form::Empty | Form::Scalar(..) => push_anchor(names, node.anchor),

@@ -1,7 +1,7 @@
 //! What is asked of a head: how deep collections are nested in it, and the keys of each.
 ghost use Rattle.std.specs.Prelude.{◌≡◌, List, option_map, IfErr, Some};
 ghost use Rattle.yq_flow_scalars.specs.Answers.{IsOfText};
-ghost use Rattle.yq_nodes.specs.View.{view};
+ghost use Rattle.yq_nodes.specs.View.{inline_view};
 ghost use Rattle.yq_lines.specs.Sound as spec;
 ghost use Rattle.yq_lines.specs.RowWalk.{IsLine};
 ghost use Rattle.yq_documents.specs.Decoded.{decoded_at, decoded_flow};
@@ -23,7 +23,7 @@ use yq_walk::has_head;
 
 /// The alias or flow collection that is made of a row, if one is.
 pub(crate) fn flow_decoded<'a, 't>(decoded: Option<&'a Decoded<'t>>) -> Option<&'a Inline<'t>>
-    ensures { option_map (λ n. view n.now) result ≡ decoded_flow (option_map (λ m. m.now) decoded.entry) }
+    ensures { option_map (λ n. inline_view n.now) result ≡ decoded_flow (option_map (λ m. m.now) decoded.entry) }
 {
     match decoded {
         Some(row) => match &row.head {
@@ -40,7 +40,7 @@ pub(crate) fn flow_decoded<'a, 't>(decoded: Option<&'a Decoded<'t>>) -> Option<&
 #[inline(always)]
 pub(crate) fn row_flow<'a, 't>(decoded: &'a [Decoded<'t>], i: usize) -> Option<&'a Inline<'t>>
     ensures { (all : List DecodedOf) → IsAhead all i decoded.now →
-        option_map (λ n. view n.now) result ≡ decoded_flow (decoded_at i all) }
+        option_map (λ n. inline_view n.now) result ≡ decoded_flow (decoded_at i all) }
 {
     flow_decoded(decoded_here(decoded, i))
 }

@@ -10,7 +10,7 @@ use yq_documents::{DocumentRows, first_is_document};
 
 /// The gap before the first row of a part, or that behind its rows where it has none.
 fn first_gap<'t>(rows: &Rows<'t>, from: usize, bound: Bound<'t>) -> &'t str
-    ensures { result.now ≡ spec.first_gap rows.now.rows from (bound_view bound.entry) }
+    ensures { result.now ≡ spec.gap_before_row rows.now.rows from (bound_view bound.entry) }
 {
     if from < bound.rows && from < rows.len() {
         return rows.gap(from);
@@ -45,7 +45,7 @@ pub(crate) fn document_rows<'t>(
     alloc: Global,
     rows: &Rows<'t>,
 ) -> Result<Vec<DocumentRows<'t>>, AllocError>
-    ensures { IfOk result (λ ds. spec.documents_view ds.items ≡ spec.all_rows rows.now.rows
+    ensures { IfOk result (λ ds. spec.documents_view ds.items ≡ spec.all_document_rows rows.now.rows
         (first_rows rows.now.bounds || not (some_begin rows.now.bounds)) 0 rows.now.bounds) }
 {
     let mut documents = Vec::with_capacity(alloc, rows.parts())?;

@@ -1,7 +1,7 @@
 //! Lines of a document that is checked, each with how deep it is.
 ghost use Rattle.std.specs.Prelude.{◌≡◌, ◌<◌, ◌+◌, not, is_some, IsTrue};
 ghost use Rattle.yq_lines.specs.Bodies.{borrowed};
-ghost use Rattle.yq_lines.specs.Ends.{is_end, part};
+ghost use Rattle.yq_lines.specs.Ends.{has_no_lines, part};
 ghost use Rattle.yq_lines.specs.Outline as outline;
 ghost use Rattle.yq_lines.specs.Positions as positions;
 ghost use Rattle.yq_lines.specs.RowWalk.{IsLine, IsPosition, OfLine, OfLines};
@@ -69,7 +69,7 @@ pub(crate) fn is_deeper(x: Checked<'_, '_>, at: Reached<'_, '_>, floor: usize) -
     requires reached { IsReached x.decoded.now x.rows.now x.document at }
     ensures some { IsTrue result → at.entry.position.row < x.entry.document.end }
     ensures test { OfLines x.entry.rows.now x.entry.document (λ ls n.
-        result ≡ not (is_end (part ls (n at.entry.position) floor))) }
+        result ≡ not (has_no_lines (part ls (n at.entry.position) floor))) }
 {
     floor < at.level
 }
@@ -79,7 +79,7 @@ pub(crate) fn is_bare(x: Checked<'_, '_>, at: Reached<'_, '_>) -> bool
     requires reached { IsReached x.decoded.now x.rows.now x.document at }
     requires line { IsLine x.rows.now x.document at.position }
     ensures { OfLine x.entry.rows.now x.entry.document at.entry.position (λ l.
-        result ≡ positions.is_bare l.mark) }
+        result ≡ positions.has_no_mark l.mark) }
 {
     at.level % 3 == 1
 }

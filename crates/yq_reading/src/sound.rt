@@ -3,7 +3,7 @@ ghost use Rattle.std.specs.Prelude.{◌≡◌, ◌≢◌, ◌+◌, ◌++◌, ◌
 ghost use Rattle.yq_flow_scalars.specs.Answers.{IsOfText};
 ghost use Rattle.yq_flow_scalars.specs.Keys.{with_key};
 ghost use Rattle.yq_flow_scalars.specs.declared.fault.FaultKind.TheVariants.{NotUtf8};
-ghost use Rattle.yq_lines.specs.Ends.{part, is_end};
+ghost use Rattle.yq_lines.specs.Ends.{part, has_no_lines};
 ghost use Rattle.yq_lines.specs.Outline as outline;
 ghost use Rattle.yq_lines.specs.Sound as spec;
 ghost use Rattle.yq_lines.specs.RowWalk.{IsLine, IsPosition, OfLine, OfLines};
@@ -46,9 +46,9 @@ fn check_bare<'a, 't>(
     requires at { IsReached x.decoded.now x.rows.now x.document at }
     requires line { IsLine x.rows.now x.document at.position }
     requires deep { OfLines x.rows.now x.document (λ ls n.
-        is_end (part ls (n at.position) floor) ≡ false) }
+        has_no_lines (part ls (n at.position) floor) ≡ false) }
     ensures sound { OfCheckedLine x.entry at.entry.position (λ ls n l.
-        Decides result ((is_some l.head && is_end (part ls (n at.entry.position + 1) floor)) &&
+        Decides result ((is_some l.head && has_no_lines (part ls (n at.entry.position + 1) floor)) &&
         spec.head_is_sound depth l.head)) }
     ensures reached { IfOk result (IsReached x.entry.decoded.now x.entry.rows.now x.entry.document) }
     ensures behind { IfOk result (λ r. GivesStop x.entry.rows.now x.entry.document at.entry.position
@@ -167,7 +167,7 @@ pub(crate) fn check_lines<'a, 't>(
     requires ready { IsChecked x }
     requires start { IsReached x.decoded.now x.rows.now x.document start }
     ensures sound { OfChecked x.entry (λ ls n. Decides result
-        (spec.is_sound depth (part ls (n start.entry.position) floor))) }
+        (spec.is_sound_outline depth (part ls (n start.entry.position) floor))) }
     ensures reached { IfOk result (IsReached x.entry.decoded.now x.entry.rows.now x.entry.document) }
     ensures behind { IfOk result (λ r.
         GivesStop x.entry.rows.now x.entry.document start.entry.position floor r.position) }

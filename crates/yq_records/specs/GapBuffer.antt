@@ -8,9 +8,9 @@ pub record GapView : Type 0 where
   pub behind : List ℕ
 
 -- the text that was cut (own)
-abbrev pub whole : GapView → List ℕ
-whole c = c.before ++ c.behind
+abbrev pub buffer_text : GapView → List ℕ
+buffer_text c = c.before ++ c.behind
 
 -- a splice of these parts (own)
-abbrev pub change : ℕ → List ℕ → List ℕ → Splice
-change at old new = record { at = at; old = old; new = new }
+abbrev pub splice_of_gap : ℕ → List ℕ → List ℕ → Splice
+splice_of_gap at old new = record { at = at; old = old; new = new }

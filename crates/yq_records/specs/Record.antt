@@ -44,9 +44,9 @@ join r q = record {
 }
 
 -- a record and those after it as one (own)
-abbrev pub joined : Record → List Record → Record
-joined r [] = r
-joined r (q ∷ qs) = joined (join r q) qs
+abbrev pub records_joined : Record → List Record → Record
+records_joined r [] = r
+records_joined r (q ∷ qs) = records_joined (join r q) qs
 
 -- whether each record ends with the length with which the next one begins (own)
 abbrev pub meet : List Record → Bool

@@ -3,7 +3,7 @@ use Rattle.std.specs.Prelude.{◌==◌, ℕ, ◌+◌, ◌-◌, Bool, false, List
 use Rattle.std.specs.Str.{bytes_eq}
 use Rattle.yq_records.specs.declared.moves.Move.{Move}
 use Rattle.yq_records.specs.declared.moves.Move.TheVariants.{Edit, Undo, Redo}
-use Rattle.yq_records.specs.Record.{Record, done, undone, joined}
+use Rattle.yq_records.specs.Record.{Record, done, undone, records_joined}
 
 -- an open move, with the whole text from which it starts (own)
 pub record Pending : Type 0 where
@@ -27,40 +27,40 @@ moved_text records at Undo t = if at == 0 then None else option_and_then (λ r. 
 moved_text records at Redo t = option_and_then (λ r. done r t) (slice_get records at)
 
 -- the journal after a move: an edit drops the records past the cursor (own)
-abbrev pub moved : State → Move → State
-moved s (Edit r) = record { records = take s.at s.records ++ r ∷ []; at = s.at + 1; pending = None }
-moved s Undo = record { records = s.records; at = s.at - 1; pending = None }
-moved s Redo = record { records = s.records; at = s.at + 1; pending = None }
+abbrev pub journal_after : State → Move → State
+journal_after s (Edit r) = record { records = take s.at s.records ++ r ∷ []; at = s.at + 1; pending = None }
+journal_after s Undo = record { records = s.records; at = s.at - 1; pending = None }
+journal_after s Redo = record { records = s.records; at = s.at + 1; pending = None }
 
 -- the journal with its open move dropped (own)
-abbrev pub closed : State → State
-closed s = record { records = s.records; at = s.at; pending = None }
+abbrev pub without_move : State → State
+without_move s = record { records = s.records; at = s.at; pending = None }
 
 -- the journal with a move opened on a text (own)
-abbrev pub opened : State → Move → List ℕ → State
-opened s step from = record { records = s.records; at = s.at; pending = Some (record { step = step; from = from }) }
+abbrev pub with_move : State → Move → List ℕ → State
+with_move s step from = record { records = s.records; at = s.at; pending = Some (record { step = step; from = from }) }
 
 -- whether that text was reached (own)
-abbrev pub is_text : Option (List ℕ) → List ℕ → Bool
-is_text None t = false
-is_text (Some u) t = bytes_eq u t
+abbrev pub is_reached : Option (List ℕ) → List ℕ → Bool
+is_reached None t = false
+is_reached (Some u) t = bytes_eq u t
 
 -- the journal that an open move leaves beside a text (own)
 abbrev pub settled_pending : State → Option Pending → List ℕ → Option State
 settled_pending s None t = Some s
 settled_pending s (Some p) t =
-    if bytes_eq p.from t then Some (closed s)
-    else if is_text (moved_text s.records s.at p.step p.from) t then Some (moved s p.step)
+    if bytes_eq p.from t then Some (without_move s)
+    else if is_reached (moved_text s.records s.at p.step p.from) t then Some (journal_after s p.step)
     else None
 
 -- the journal settled beside a text: an open move is dropped beside the text from which it starts, done beside the one to which it leads (own)
-abbrev pub settled : State → List ℕ → Option State
-settled s t = settled_pending s s.pending t
+abbrev pub settled_beside : State → List ℕ → Option State
+settled_beside s t = settled_pending s s.pending t
 
 -- several records as one, none as none (own)
 abbrev pub joined_of : List Record → List Record
 joined_of [] = []
-joined_of (r ∷ rs) = joined r rs ∷ []
+joined_of (r ∷ rs) = records_joined r rs ∷ []
 
 -- the last n records up to the cursor (own)
 abbrev pub last_done : List Record → ℕ → ℕ → List Record

@@ -3,6 +3,6 @@ use Rattle.std.specs.Prelude.{List, Bool, true, false}
 use Rattle.yq_script.specs.Splice.{Splice, flipped}
 
 -- splices in the one direction or the other (own)
-abbrev pub turned : Bool → List Splice → List Splice
-turned false ss = ss
-turned true ss = flipped ss
+abbrev pub turned_splices : Bool → List Splice → List Splice
+turned_splices false ss = ss
+turned_splices true ss = flipped ss

@@ -1,7 +1,7 @@
 //! Moves over the records of a journal.
 ghost use Rattle.std.specs.Prelude.{◌≡◌, ◌⊎◌, ◌≤◌, None, Some, OnOk, IfOk, IfErr, false, length};
 ghost use Rattle.yq_records.specs.Refusals.{ErrorIs, if_moves, no_way};
-ghost use Rattle.yq_records.specs.State.{is_text, moved, moved_text, state};
+ghost use Rattle.yq_records.specs.State.{is_reached, journal_after, moved_text, state};
 
 use crate::fault::{JournalError, JournalFault};
 use crate::record::{Record, redo_record, undo_record};
@@ -64,7 +64,7 @@ pub fn leads_to(
     ensures ok { OnOk result (moved_text records.now at step.now from.now ≡ Some text.now) }
     ensures err { IfErr result (λ e. (e ≡ JournalError.Memory) ⊎
         ((e ≡ JournalError.Fault JournalFault.Unsettled) ×
-        (is_text (moved_text records.now at step.now from.now) text.now ≡ false))) }
+        (is_reached (moved_text records.now at step.now from.now) text.now ≡ false))) }
 {
     match lead(alloc, records, at, step, from) {
         Ok(patched) if patched.as_slice() == text => Ok(()),
@@ -78,7 +78,7 @@ pub fn make(records: &mut Vec<Record>, at: &mut usize, step: Move) -> Result<(),
     requires within { at.old ≤ length records.old.items }
     requires room { no_way records.old.items at.old step ≡ None }
     ensures ok { OnOk result (state records.new.items at.new None ≡
-        moved (state records.old.items at.old None) step) }
+        journal_after (state records.old.items at.old None) step) }
     ensures err { IfErr result (λ back. (back ≡ step) × (records.new.items ≡ records.old.items) ×
         (at.new ≡ at.old)) }
     ensures within { at.new ≤ length records.new.items }

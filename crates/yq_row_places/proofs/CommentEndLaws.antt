@@ -6,7 +6,7 @@ use Rattle.std.proofs.lemmas.Option.{slice_get-map}
 use Rattle.std.specs.List.{slice_get}
 use Rattle.std.specs.Str.{IsUtf8, IsCharBoundary}
 use Rattle.yq_flow_scalars.specs.Answers.{◌>>=◌}
-use Rattle.yq_flow_scalars.specs.Text.{joined, lines_of}
+use Rattle.yq_flow_scalars.specs.Text.{joined, text_lines}
 use Rattle.yq_block_scalars.proofs.LineLaws.{joined_lines}
 use Rattle.yq_cut.specs.Exchange.{row_front}
 use Rattle.yq_cut.specs.Gap.{IsGap}
@@ -16,14 +16,14 @@ use Rattle.yq_cut.proofs.NodePieces.{BeginsAscii, before_ascii}
 use Rattle.yq_cut.proofs.PlaceLaws.{row_front-append, row_in}
 use Rattle.yq_cut.proofs.SliceLaws.{content_slices}
 use Rattle.yq_documents.specs.declared.path.Path.{Path}
-use Rattle.yq_row_places.specs.CommentPlaces.{LinesAbove, line_text, gap_above, above_row, lines_above}
+use Rattle.yq_row_places.specs.CommentPlaces.{LinesAbove, text_to_line_end, gap_above, above_row, lines_above}
 use Rattle.yq_row_places.specs.CommentViews.{GapStands}
 use Rattle.yq_lines.specs.Extents.{row_start}
 use Rattle.yq_documents.specs.Located.{steps_of}
 use Rattle.yq_documents.specs.Pieces.{before_run, last_run}
 use Rattle.yq_row_places.specs.PlacedRows.{PlacedRow}
 use Rattle.yq_documents.specs.Reading.{cut_of}
-use Rattle.yq_row_places.specs.RowLineReading.{Numbers, numbers}
+use Rattle.yq_row_places.specs.RowLineReading.{LineCounts, numbers}
 use Rattle.yq_documents.specs.LinesInRows.{row_line_at, document_row}
 use Rattle.yq_row_places.specs.RowWalk.{HasCut}
 use Rattle.yq_row_places.proofs.CommentPieceLaws.{row_place, run_begins}
@@ -33,17 +33,17 @@ use Rattle.yq_row_places.proofs.SeamLaws.{IsSeam, seam_boundary, seam_then, gap_
 use Rattle.yq_row_places.proofs.StartLaws.{start_agrees}
 
 -- a row up to the end of the line of its mark, and behind that
-pub row_text_parts : (r : Row) (rest : List ℕ) → print_row r rest ≡ line_text r ++ ((slices r).tail ++ ((slices r).raw ++ rest))
+pub row_text_parts : (r : Row) (rest : List ℕ) → print_row r rest ≡ text_to_line_end r ++ ((slices r).tail ++ ((slices r).raw ++ rest))
 row_text_parts r rest =
     let s : Slices = slices r in
     row_front-append r rest ∙ (ap (λ l. row_front r ++ l) (sym (content_slices r.content rest))
-    ∙ (let parts : row_front r ++ (s.space ++ (s.anchor ++ (s.apart ++ (s.head ++ (s.tail ++ (s.raw ++ rest)))))) ≡ line_text r ++ (s.tail ++ (s.raw ++ rest)) = simp append_assoc refl in parts))
+    ∙ (let parts : row_front r ++ (s.space ++ (s.anchor ++ (s.apart ++ (s.head ++ (s.tail ++ (s.raw ++ rest)))))) ≡ text_to_line_end r ++ (s.tail ++ (s.raw ++ rest)) = simp append_assoc refl in parts))
 
 pub no_lines_above : (path : Path) (c : Cut) (k : ℕ) → None ≡ option_map (numbers k) (row_line_at path c) → None ≡ lines_above path.doc (steps_of path) c
 no_lines_above path c k e = sym (ap (λ (o : Option PlacedRow). o >>= λ w. cond (eqb w.line 0) (Some (above_row w)) None) (no_row_line_placed path c k e))
 
 -- another line of a row
-module _ (path : Path) (c : Cut) (n : Numbers) (row_line_is : Some n ≡ option_map (numbers (document_row path.doc c)) (row_line_at path c)) where
+module _ (path : Path) (c : Cut) (n : LineCounts) (row_line_is : Some n ≡ option_map (numbers (document_row path.doc c)) (row_line_at path c)) where
   abbrev printed_line : PlacedRow
   printed_line = (row_line_placed path c n row_line_is).0
 
@@ -60,15 +60,15 @@ run_ascii ls = go (joined (last_run ls)) refl
         let size : length (joined (last_run ls)) ≡ length (b ∷ x) = ap length is in
         subst BeginsAscii (append-nil (joined (last_run ls)) ∙ is) (run_begins ls [] (omega (arith, size)))
 
-pub gap_split : (gap : List ℕ) → gap ≡ joined (before_run (lines_of gap)) ++ joined (last_run (lines_of gap))
-gap_split gap = sym (run_split (lines_of gap) ∙ joined_lines gap)
+pub gap_split : (gap : List ℕ) → gap ≡ joined (before_run (text_lines gap)) ++ joined (last_run (text_lines gap))
+gap_split gap = sym (run_split (text_lines gap) ∙ joined_lines gap)
 
 -- the lines above a row, by the length of their run
-module _ (t : List ℕ) (start : ℕ) (gap run : List ℕ) (h : GapStands t start gap) (is : lines_of run ≡ last_run (lines_of gap)) where
+module _ (t : List ℕ) (start : ℕ) (gap run : List ℕ) (h : GapStands t start gap) (is : text_lines run ≡ last_run (text_lines gap)) where
   abbrev kept : List ℕ
-  kept = joined (before_run (lines_of gap))
+  kept = joined (before_run (text_lines gap))
 
-  run_is : run ≡ joined (last_run (lines_of gap))
+  run_is : run ≡ joined (last_run (text_lines gap))
   run_is = sym (joined_lines run) ∙ ap joined is
 
   gap_is : gap ≡ kept ++ run
@@ -89,7 +89,7 @@ module _ (t : List ℕ) (start : ℕ) (gap run : List ℕ) (h : GapStands t star
   pub above_boundary : (front : List ℕ) → front ≡ take (start + length gap) t → IsCharBoundary front (start + length gap - length run)
   above_boundary front e =
       subst (λ n. IsCharBoundary front n) (sym size) (subst (λ x. IsCharBoundary x (length (h.before ++ kept))) (sym (e ∙ parts))
-      (before_ascii (h.before ++ kept) run (subst BeginsAscii (sym run_is) (run_ascii (lines_of gap)))))
+      (before_ascii (h.before ++ kept) run (subst BeginsAscii (sym run_is) (run_ascii (text_lines gap)))))
 
   pub above_is : (front before behind : List ℕ) (column : ℕ) → front ≡ take (start + length gap) t → behind ≡ drop (start + length gap) t → before ≡ take (start + length gap - length run) front →
       (k : GapStands t start gap) → ◌≡◌ {A = LinesAbove} (record { before = before; run = run; column = column; behind = behind }) (gap_above k.before gap column k.rest)
@@ -101,7 +101,7 @@ module _ (t : List ℕ) (start : ℕ) (gap run : List ℕ) (h : GapStands t star
       search (rules, append_assoc, drop-append_seam, run_is, first, ends, n)
 
 -- the row of a line that the code tells, in a text that is held
-module _ (t : List ℕ) (x : RowsView) (held : HasCut t x) (path : Path) (n : Numbers) (row_line_is : Some n ≡ option_map (numbers (document_row path.doc (cut_of t))) (row_line_at path (cut_of t))) where
+module _ (t : List ℕ) (x : RowsView) (held : HasCut t x) (path : Path) (n : LineCounts) (row_line_is : Some n ≡ option_map (numbers (document_row path.doc (cut_of t))) (row_line_at path (cut_of t))) where
   abbrev w : PlacedRow
   w = (row_line_placed path (cut_of t) n row_line_is).0
 

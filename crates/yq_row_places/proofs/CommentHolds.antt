@@ -3,7 +3,7 @@ use Rattle.std.proofs.Common.{◌≡◌, ◌⊎◌, inl, inr, ℕ, List, [], ◌
 use Rattle.std.proofs.lemmas.Option.{none-some}
 use Rattle.std.specs.Str.{IsUtf8}
 use Rattle.yq_flow_scalars.specs.Paths.{Step}
-use Rattle.yq_flow_scalars.specs.Text.{upto, lines_of}
+use Rattle.yq_flow_scalars.specs.Text.{upto, text_lines}
 use Rattle.yq_flow_scalars.proofs.Bools.{bind_some}
 use Rattle.yq_lines.specs.Group.{group}
 use Rattle.yq_lines.specs.Outline.{flatten}
@@ -13,7 +13,7 @@ use Rattle.yq_cut.specs.View.{content_cut}
 use Rattle.yq_documents.specs.declared.path.Part.TheVariants as parts
 use Rattle.yq_row_places.specs.PathPieces.{BlockEntry, PrintedDocument, found_entry, piece_in_entry, piece_in}
 use Rattle.yq_documents.specs.Pieces.{TextPiece, HoldsPiece, tail_comment, content_comment, gap_comment}
-use Rattle.yq_row_places.specs.PrintedLines.{behind_front, print_lines, line_in}
+use Rattle.yq_row_places.specs.PrintedLines.{line_rest, print_lines, line_in}
 use Rattle.yq_row_places.proofs.CommentPieceLaws.{Ended, tail_piece, gap_piece}
 use Rattle.yq_row_places.proofs.PrintedLaws.{IsPrinted, ArePrinted}
 use Rattle.yq_row_places.proofs.FoundEntries.{entry_found}
@@ -24,7 +24,7 @@ unfolding upto
 no_tail before behind = refl
 
 pub no_gap : (before behind : List ℕ) → gap_comment before [] behind ≡ None
-unfolding lines_of
+unfolding text_lines
 no_gap before behind = refl
 
 pub no_comment : (before : List ℕ) (c : Content) (behind : List ℕ) → c ≡ Nothing [] → content_comment before c behind ≡ None
@@ -42,8 +42,8 @@ entry_holds : (e : BlockEntry) (x : TextPiece) → IsUtf8 (entry_text e) → IsP
     (piece_in_entry parts.LineComment [] e ≡ Some x) ⊎ (piece_in_entry parts.HeadComment [] e ≡ Some x) → HoldsPiece (entry_text e) x
 entry_holds e x u as_printed (inl is) = search (rules, content_holds, entry_text, append_assoc)
 entry_holds e x u as_printed (inr is) =
-    let rest = e.line.spaces ++ behind_front e.line (print_lines e.under e.behind) in
-    let whole : e.before ++ (e.line.gap ++ (e.line.spaces ++ behind_front e.line (print_lines e.under e.behind))) ≡ entry_text e = simp (append_assoc) in
+    let rest = e.line.spaces ++ line_rest e.line (print_lines e.under e.behind) in
+    let whole : e.before ++ (e.line.gap ++ (e.line.spaces ++ line_rest e.line (print_lines e.under e.behind))) ≡ entry_text e = simp (append_assoc) in
     subst (λ q. HoldsPiece q x) whole (gap_piece e.before e.line.gap rest x (subst IsUtf8 (sym whole) u) as_printed.gap is)
 
 pub comments_hold : (steps : List Step) (s : PrintedDocument) (x : TextPiece) → IsUtf8 (document_text s) → ArePrinted s.lines s.behind →

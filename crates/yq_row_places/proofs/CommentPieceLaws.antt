@@ -7,13 +7,13 @@ use Rattle.std.proofs.lemmas.Option.{same_Some}
 use Rattle.std.proofs.lemmas.Str.{IsUtf8-take, IsUtf8-between}
 use Rattle.std.specs.List.{slice_get}
 use Rattle.std.specs.Str.{IsUtf8, IsCharBoundary}
-use Rattle.yq_flow_scalars.specs.Text.{cut, front, ends_line, is_break, is_line, is_empty, joined, lines_of, no_white, past_white, upto}
+use Rattle.yq_flow_scalars.specs.Text.{cut, front, ends_line, is_break, is_line, is_empty, joined, text_lines, no_white, past_white, upto}
 use Rattle.yq_block_scalars.proofs.BlockPieceLaws.{IsLf, line_lf, append_lf, cut_lf}
 use Rattle.yq_flow_scalars.proofs.Boundaries.{white_ascii, break_ascii}
 use Rattle.yq_block_scalars.proofs.LineLaws.{joined_lines}
 use Rattle.yq_flow_scalars.proofs.Upto.{upto_ends}
 use Rattle.yq_lines.specs.Comments.{are_comments}
-use Rattle.yq_cut.specs.Exchange.{before_content, behind_at, behind_row, HasPieces}
+use Rattle.yq_cut.specs.Exchange.{before_content, rows_text_behind, behind_row, HasPieces}
 use Rattle.yq_cut.specs.Gap.{IsLineEnd, IsGap, AreGapLines}
 use Rattle.yq_cut.specs.Grammar.{IsTail, IsContent}
 use Rattle.yq_cut.specs.Rows.{Content, Nothing, Inline, Block, Row, print_row, rows_text, Part, part_text, Cut, last, marked, cut_text}
@@ -172,33 +172,33 @@ some_bytes t h1 = search (rules, false≢true)
 
 -- the run in a gap, as a piece of the text
 pub gap_piece : (before gap rest : List ℕ) (q : TextPiece) → IsUtf8 (before ++ (gap ++ rest)) → (gap ≡ []) ⊎ Ended gap rest → gap_comment before gap rest ≡ Some q → HoldsPiece (before ++ (gap ++ rest)) q
-gap_piece before gap rest q u ended is = go (is_empty (joined (last_run (lines_of gap)))) refl is
+gap_piece before gap rest q u ended is = go (is_empty (joined (last_run (text_lines gap)))) refl is
   where
-    whole : before ++ (gap ++ rest) ≡ (before ++ joined (before_run (lines_of gap))) ++ (joined (last_run (lines_of gap)) ++ rest)
-    whole = ap (λ x. before ++ x) (ap (λ x. x ++ rest) (sym (run_split (lines_of gap) ∙ joined_lines gap)) ∙ append_assoc (joined (before_run (lines_of gap))) (joined (last_run (lines_of gap))) rest)
-        ∙ sym (append_assoc before (joined (before_run (lines_of gap))) (joined (last_run (lines_of gap)) ++ rest))
+    whole : before ++ (gap ++ rest) ≡ (before ++ joined (before_run (text_lines gap))) ++ (joined (last_run (text_lines gap)) ++ rest)
+    whole = ap (λ x. before ++ x) (ap (λ x. x ++ rest) (sym (run_split (text_lines gap) ∙ joined_lines gap)) ∙ append_assoc (joined (before_run (text_lines gap))) (joined (last_run (text_lines gap))) rest)
+        ∙ sym (append_assoc before (joined (before_run (text_lines gap))) (joined (last_run (text_lines gap)) ++ rest))
 
-    end_of : 0 < length (joined (last_run (lines_of gap))) → (gap ≡ []) ⊎ Ended gap rest → Ended (joined (last_run (lines_of gap))) rest
-    end_of some (inl none) = absurd (omega (arith, some, ap length none, ap length (sym (run_split (lines_of gap) ∙ joined_lines gap)), length-append (joined (before_run (lines_of gap))) (joined (last_run (lines_of gap)))))
-    end_of some (inr (inl lf)) = inl (suffix_lf (joined (before_run (lines_of gap))) (joined (last_run (lines_of gap))) (subst IsLf (sym (run_split (lines_of gap) ∙ joined_lines gap)) lf) some)
+    end_of : 0 < length (joined (last_run (text_lines gap))) → (gap ≡ []) ⊎ Ended gap rest → Ended (joined (last_run (text_lines gap))) rest
+    end_of some (inl none) = absurd (omega (arith, some, ap length none, ap length (sym (run_split (text_lines gap) ∙ joined_lines gap)), length-append (joined (before_run (text_lines gap))) (joined (last_run (text_lines gap)))))
+    end_of some (inr (inl lf)) = inl (suffix_lf (joined (before_run (text_lines gap))) (joined (last_run (text_lines gap))) (subst IsLf (sym (run_split (text_lines gap) ∙ joined_lines gap)) lf) some)
     end_of some (inr (inr none)) = inr none
 
-    go : (b : Bool) → is_empty (joined (last_run (lines_of gap))) ≡ b → cond b None (Some (record { before = before ++ joined (before_run (lines_of gap)); text = joined (last_run (lines_of gap)); behind = rest })) ≡ Some q → HoldsPiece (before ++ (gap ++ rest)) q
+    go : (b : Bool) → is_empty (joined (last_run (text_lines gap))) ≡ b → cond b None (Some (record { before = before ++ joined (before_run (text_lines gap)); text = joined (last_run (text_lines gap)); behind = rest })) ≡ Some q → HoldsPiece (before ++ (gap ++ rest)) q
     go true e found = absurd (cc)
     go false e found =
-        let some : 0 < length (joined (last_run (lines_of gap))) = some_bytes (joined (last_run (lines_of gap))) e in
-        let here : IsUtf8 ((before ++ joined (before_run (lines_of gap))) ++ (joined (last_run (lines_of gap)) ++ rest)) = subst IsUtf8 whole u in
+        let some : 0 < length (joined (last_run (text_lines gap))) = some_bytes (joined (last_run (text_lines gap))) e in
+        let here : IsUtf8 ((before ++ joined (before_run (text_lines gap))) ++ (joined (last_run (text_lines gap)) ++ rest)) = subst IsUtf8 whole u in
         subst (HoldsPiece (before ++ (gap ++ rest))) (same_Some _ _ found)
-        (subst (λ x. HasPieces x (before ++ joined (before_run (lines_of gap))) (joined (last_run (lines_of gap))) rest) (sym whole)
-        (pieces_at (before ++ joined (before_run (lines_of gap))) (joined (last_run (lines_of gap))) rest here
-        (begins_at (before ++ joined (before_run (lines_of gap))) (joined (last_run (lines_of gap))) rest (run_begins (lines_of gap) rest some))
-        (ends_there (before ++ joined (before_run (lines_of gap))) (joined (last_run (lines_of gap))) rest here (end_of some ended))))
+        (subst (λ x. HasPieces x (before ++ joined (before_run (text_lines gap))) (joined (last_run (text_lines gap))) rest) (sym whole)
+        (pieces_at (before ++ joined (before_run (text_lines gap))) (joined (last_run (text_lines gap))) rest here
+        (begins_at (before ++ joined (before_run (text_lines gap))) (joined (last_run (text_lines gap))) rest (run_begins (text_lines gap) rest some))
+        (ends_there (before ++ joined (before_run (text_lines gap))) (joined (last_run (text_lines gap))) rest here (end_of some ended))))
 
 -- the place of a row
-row_at : (rows : List Row) (i : ℕ) (r : Row) (rest : List ℕ) → slice_get rows i ≡ Some r → rows_text rows rest ≡ rows_text (take i rows) [] ++ print_row r (behind_at i rows rest)
+row_at : (rows : List Row) (i : ℕ) (r : Row) (rest : List ℕ) → slice_get rows i ≡ Some r → rows_text rows rest ≡ rows_text (take i rows) [] ++ print_row r (rows_text_behind i rows rest)
 row_at [] i r rest h = absurd (cc)
 row_at (x ∷ rows) zero r rest h = let is : x ≡ r = cc in ap (λ (y : Row). print_row y (rows_text rows rest)) is
-row_at (x ∷ rows) (suc i) r rest h = ap (print_row x) (row_at rows i r rest h) ∙ row_then x (rows_text (take i rows) []) (print_row r (behind_at i rows rest))
+row_at (x ∷ rows) (suc i) r rest h = ap (print_row x) (row_at rows i r rest h) ∙ row_then x (rows_text (take i rows) []) (print_row r (rows_text_behind i rows rest))
 
 part_place : (p : Part) (marker before text rest : List ℕ) → rest ≡ before ++ text → part_text p (marker ++ rest) ≡ part_text p (marker ++ before) ++ text
 part_place p marker before text rest h = ap (λ l. part_text p (marker ++ l)) h ∙ (ap (part_text p) (sym (append_assoc marker before text)) ∙ part_then p (marker ++ before) text)

@@ -3,7 +3,7 @@ use Rattle.std.proofs.Common.{◌≡◌, ℕ, ◌+◌, ◌-◌, ◌<◌, ◌≤�
 use Rattle.std.proofs.lemmas.Option.{slice_get-map}
 use Rattle.std.specs.List.{slice_get}
 use Rattle.yq_text.specs.Limit.{text_limit}
-use Rattle.yq_flow_scalars.specs.Text.{cut, upto, front, ends_line, no_white, past_white, is_empty, joined, lines_of}
+use Rattle.yq_flow_scalars.specs.Text.{cut, upto, front, ends_line, no_white, past_white, is_empty, joined, text_lines}
 use Rattle.yq_cut.specs.Exchange.{behind_row}
 use Rattle.yq_cut.specs.Rows.{Row, behind_gap, Cut}
 use Rattle.yq_cut.specs.View.{Slices, slices, rows_of, rows_view}
@@ -63,38 +63,38 @@ beside_agrees c i s k is = go (eqb s.line (length s.row.dashes))
     go b = search (rules, tail_view, before_length)
 
 -- the run in a gap
-run_length : (gap : List ℕ) → length gap ≡ length (joined (before_run (lines_of gap))) + length (joined (last_run (lines_of gap)))
+run_length : (gap : List ℕ) → length gap ≡ length (joined (before_run (text_lines gap))) + length (joined (last_run (text_lines gap)))
 run_length gap =
-    let ls : List (List ℕ) = lines_of gap in
+    let ls : List (List ℕ) = text_lines gap in
     ap length (sym (run_split ls ∙ joined_lines gap)) ∙ length-append (joined (before_run ls)) (joined (last_run ls))
 
-pub run_within : (gap run : List ℕ) → lines_of run ≡ last_run (lines_of gap) → length run ≤ length gap
-run_within gap run e = let same : run ≡ joined (last_run (lines_of gap)) = sym (joined_lines run) ∙ ap joined e in omega (arith, run_length gap, ap length same)
+pub run_within : (gap run : List ℕ) → text_lines run ≡ last_run (text_lines gap) → length run ≤ length gap
+run_within gap run e = let same : run ≡ joined (last_run (text_lines gap)) = sym (joined_lines run) ∙ ap joined e in omega (arith, run_length gap, ap length same)
 
-run_is : (gap run : List ℕ) → lines_of run ≡ last_run (lines_of gap) → joined (last_run (lines_of gap)) ≡ run
+run_is : (gap run : List ℕ) → text_lines run ≡ last_run (text_lines gap) → joined (last_run (text_lines gap)) ≡ run
 run_is gap run e = ap joined (sym e) ∙ joined_lines run
 
 -- where a run stands in a gap, by its length
 abbrev span_of : ℕ → List ℕ → List ℕ → Option (ℕ × ℕ)
 span_of start gap run = cond (is_empty run) None (Some (start + length gap - length run, start + length gap))
 
-pub no_run : (start : ℕ) (gap run : List ℕ) → lines_of run ≡ last_run (lines_of gap) → run ≡ [] → None ≡ gap_span start gap
+pub no_run : (start : ℕ) (gap run : List ℕ) → text_lines run ≡ last_run (text_lines gap) → run ≡ [] → None ≡ gap_span start gap
 no_run start gap run e none = ap (span_of start gap) (sym (run_is gap run e ∙ none))
 
 some_span : (start : ℕ) (gap run : List ℕ) → 0 < length run → Some (start + length gap - length run, start + length gap) ≡ span_of start gap run
 some_span start gap run h1 = search rules
 
-pub some_run : (start : ℕ) (gap run : List ℕ) → lines_of run ≡ last_run (lines_of gap) → 0 < length run → Some (start + length gap - length run, start + length gap) ≡ gap_span start gap
+pub some_run : (start : ℕ) (gap run : List ℕ) → text_lines run ≡ last_run (text_lines gap) → 0 < length run → Some (start + length gap - length run, start + length gap) ≡ gap_span start gap
 some_run start gap run e some = some_span start gap run some ∙ ap (span_of start gap) (sym (run_is gap run e))
 
 pub gap_agrees : (before gap behind : List ℕ) (start : ℕ) → start ≡ length before → gap_span start gap ≡ option_map piece_span (gap_comment before gap behind)
-gap_agrees before gap behind start e = go (is_empty (joined (last_run (lines_of gap))))
+gap_agrees before gap behind start e = go (is_empty (joined (last_run (text_lines gap))))
   where
     run : List ℕ
-    run = joined (last_run (lines_of gap))
+    run = joined (last_run (text_lines gap))
 
     other : List ℕ
-    other = joined (before_run (lines_of gap))
+    other = joined (before_run (text_lines gap))
 
     go : (b : Bool) → cond b None (Some (start + length gap - length run, start + length gap)) ≡ option_map piece_span (cond b None (Some (record { before = before ++ other; text = run; behind = behind })))
     go true = refl

@@ -4,7 +4,7 @@ use Rattle.std.proofs.lemmas.Bool.{eqb-true, eqb-false}
 use Rattle.std.specs.List.{slice_get}
 use Rattle.yq_flow_scalars.specs.Answers.{◌>>=◌}
 use Rattle.yq_flow_scalars.specs.Paths.{Step}
-use Rattle.yq_lines.specs.Ends.{found_line, line_of}
+use Rattle.yq_lines.specs.Ends.{found_line, line_at_steps}
 use Rattle.yq_lines.specs.Group.{group}
 use Rattle.yq_lines.specs.Places.{lines_before, FoundLine, find}
 use Rattle.yq_cut.specs.Exchange.{before_content, behind_row}
@@ -15,7 +15,7 @@ use Rattle.yq_documents.specs.declared.path.Path.{Path}
 use Rattle.yq_row_places.specs.CommentReading.{before_row, before_tail, line_comment_in, head_comment_in}
 use Rattle.yq_documents.specs.Documents.{document_parts}
 use Rattle.yq_documents.specs.Located.{steps_of}
-use Rattle.yq_row_places.specs.PathPieces.{PrintedDocument, printed_document, found_entry, piece_in_entry, piece_in, piece_at}
+use Rattle.yq_row_places.specs.PathPieces.{PrintedDocument, printed_document, found_entry, piece_in_entry, piece_in, path_piece}
 use Rattle.yq_documents.specs.Pieces.{piece_span, tail_comment, content_comment, gap_comment}
 use Rattle.yq_row_places.specs.PrintedLines.{PrintedLine, line_front, print_lines, printed_lines, line_in}
 use Rattle.yq_documents.specs.LinesInRows.{RowLine, row_line, row_line_of, row_line_at, document_row}
@@ -103,7 +103,7 @@ module _ (c : Cut) (p : Part) (more : List Row) (k : ℕ) (start end : List ℕ)
 
   pub beside_spans : (steps : List Step) → option_map piece_span (piece_in parts.LineComment steps document) ≡ option_map piece_span (row_line_of steps p.rows >>= λ q. line_comment_in (k + q.before) q c)
   beside_spans [] = refl
-  beside_spans (y ∷ ys) = go (find y ys (group (map line_in (printed_lines p.rows)))) refl ∙ ap (λ ls. option_map piece_span ((line_of (y ∷ ys) ls >>= λ n. row_line n p.rows) >>= λ q. line_comment_in (k + q.before) q c)) (lines_are p.rows)
+  beside_spans (y ∷ ys) = go (find y ys (group (map line_in (printed_lines p.rows)))) refl ∙ ap (λ ls. option_map piece_span ((line_at_steps (y ∷ ys) ls >>= λ n. row_line n p.rows) >>= λ q. line_comment_in (k + q.before) q c)) (lines_are p.rows)
     where
       go : (o : Option (FoundLine × List Step)) → find y ys (group (map line_in (printed_lines p.rows))) ≡ o →
           option_map piece_span (o >>= λ f. found_entry document f.0 >>= piece_in_entry parts.LineComment f.1) ≡
@@ -116,7 +116,7 @@ module _ (c : Cut) (p : Part) (more : List Row) (k : ℕ) (start end : List ℕ)
 
   pub above_spans : (steps : List Step) → option_map piece_span (piece_in parts.HeadComment steps document) ≡ option_map piece_span (row_line_of steps p.rows >>= λ q. head_comment_in (k + q.before) q c)
   above_spans [] = refl
-  above_spans (y ∷ ys) = go (find y ys (group (map line_in (printed_lines p.rows)))) refl ∙ ap (λ ls. option_map piece_span ((line_of (y ∷ ys) ls >>= λ n. row_line n p.rows) >>= λ q. head_comment_in (k + q.before) q c)) (lines_are p.rows)
+  above_spans (y ∷ ys) = go (find y ys (group (map line_in (printed_lines p.rows)))) refl ∙ ap (λ ls. option_map piece_span ((line_at_steps (y ∷ ys) ls >>= λ n. row_line n p.rows) >>= λ q. head_comment_in (k + q.before) q c)) (lines_are p.rows)
     where
       go : (o : Option (FoundLine × List Step)) → find y ys (group (map line_in (printed_lines p.rows))) ≡ o →
           option_map piece_span (o >>= λ f. found_entry document f.0 >>= piece_in_entry parts.HeadComment f.1) ≡
@@ -135,8 +135,8 @@ document_lines n c s e =
 
 -- Where the comments at a path stand, by their row lines.
 pub record AreSpans (path : Path) (c : Cut) : Type 0 where
-  pub line : option_map piece_span (piece_at path parts.LineComment c) ≡ option_map piece_span (row_line_at path c >>= λ q. line_comment_in (document_row path.doc c + q.before) q c)
-  pub head : option_map piece_span (piece_at path parts.HeadComment c) ≡ option_map piece_span (row_line_at path c >>= λ q. head_comment_in (document_row path.doc c + q.before) q c)
+  pub line : option_map piece_span (path_piece path parts.LineComment c) ≡ option_map piece_span (row_line_at path c >>= λ q. line_comment_in (document_row path.doc c + q.before) q c)
+  pub head : option_map piece_span (path_piece path parts.HeadComment c) ≡ option_map piece_span (row_line_at path c >>= λ q. head_comment_in (document_row path.doc c + q.before) q c)
 
 pub comment_spans : (path : Path) (c : Cut) → AreSpans path c
 comment_spans path c = record { line = beside (printed_document path.doc c) refl; head = above (printed_document path.doc c) refl }

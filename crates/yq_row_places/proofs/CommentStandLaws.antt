@@ -15,14 +15,14 @@ use Rattle.yq_row_places.specs.CommentLaws.{comment_of, comments_of, head_commen
 use Rattle.yq_documents.specs.Documents.{document_parts}
 use Rattle.yq_lines.specs.Group.{group, is_fine}
 use Rattle.yq_lines.specs.Labelled.{Labelled, labelled_from}
-use Rattle.yq_lines.specs.Lines.{tail_of, lines_of}
+use Rattle.yq_lines.specs.Lines.{tail_of, lines_of_rows}
 use Rattle.yq_documents.specs.Located.{steps_of, labelled_located, unlabelled}
 use Rattle.yq_lines.specs.Outline.{Line, anchored, head_or, value}
 use Rattle.yq_row_places.specs.PathPieces.{BlockEntry, PrintedDocument, printed_document, found_entry, piece_in_entry, piece_in}
 use Rattle.yq_documents.specs.Pieces.{TextPiece, content_comment}
 use Rattle.yq_lines.specs.Places.{FoundLine, find}
 use Rattle.yq_row_places.specs.PrintedLines.{line_in}
-use Rattle.yq_documents.specs.Reading.{all_documents, document_of, read_at}
+use Rattle.yq_documents.specs.Reading.{all_documents, part_document, read_at}
 use Rattle.yq_lines.proofs.Finding.{entry_of}
 use Rattle.yq_lines.proofs.LabelPaths.{reach, FoundEntry, path_entry}
 use Rattle.yq_lines.proofs.Values.{If}
@@ -88,18 +88,18 @@ text_agrees t c path read o is = subst (λ l. Agree l (o >>= piece_in parts.Line
     text : IsCut t c × (all_documents c ≡ true)
     text = text_takes t c (guard_then (is_utf8 t) read).1
 
-    tree : labelled_located path t ≡ option_and_then (λ d. labelled_from (steps_of path) (unlabelled, d.root)) (option_map document_of (slice_get (document_parts c) path.doc))
-    tree = cc (cut_is t c (text_takes t c (guard_then (is_utf8 t) read).1).0, slice_get-map document_of (document_parts c) path.doc)
+    tree : labelled_located path t ≡ option_and_then (λ d. labelled_from (steps_of path) (unlabelled, d.root)) (option_map part_document (slice_get (document_parts c) path.doc))
+    tree = cc (cut_is t c (text_takes t c (guard_then (is_utf8 t) read).1).0, slice_get-map part_document (document_parts c) path.doc)
 
     go : (o : Option PrintedDocument) → printed_document path.doc c ≡ o →
-        Agree (option_and_then (λ d. labelled_from (steps_of path) (unlabelled, d.root)) (option_map document_of (slice_get (document_parts c) path.doc)))
+        Agree (option_and_then (λ d. labelled_from (steps_of path) (unlabelled, d.root)) (option_map part_document (slice_get (document_parts c) path.doc)))
         (o >>= piece_in parts.LineComment (steps_of path)) (o >>= piece_in parts.HeadComment (steps_of path))
-    go None is = subst (λ d. Agree (option_and_then (λ d. labelled_from (steps_of path) (unlabelled, d.root)) (option_map document_of d)) None None) (sym (no_part path.doc c is)) no_one
+    go None is = subst (λ d. Agree (option_and_then (λ d. labelled_from (steps_of path) (unlabelled, d.root)) (option_map part_document d)) None None) (sym (no_part path.doc c is)) no_one
     go (Some s) is =
         let q = document_is path.doc c s text.0.parts is in
-        let lines : map line_in s.lines ≡ lines_of q.0.rows = ap (map line_in) q.2.lines ∙ lines_are q.0.rows in
+        let lines : map line_in s.lines ≡ lines_of_rows q.0.rows = ap (map line_in) q.2.lines ∙ lines_are q.0.rows in
         let fine = subst (λ ls. is_fine (group ls) ≡ true) (sym lines) (document_fine q.0 (each (document_parts c) text.1 path.doc q.0 q.1)) in
-        subst (λ d. Agree (option_and_then (λ d. labelled_from (steps_of path) (unlabelled, d.root)) (option_map document_of d)) (piece_in parts.LineComment (steps_of path) s) (piece_in parts.HeadComment (steps_of path) s)) (sym q.1)
+        subst (λ d. Agree (option_and_then (λ d. labelled_from (steps_of path) (unlabelled, d.root)) (option_map part_document d)) (piece_in parts.LineComment (steps_of path) s) (piece_in parts.HeadComment (steps_of path) s)) (sym q.1)
         (subst (λ ls. Agree (labelled_from (steps_of path) (unlabelled, value (group ls))) (piece_in parts.LineComment (steps_of path) s) (piece_in parts.HeadComment (steps_of path) s)) lines
         (document_agrees (steps_of path) s q.2.as_printed fine))
 

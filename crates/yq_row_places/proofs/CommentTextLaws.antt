@@ -2,7 +2,7 @@
 use Rattle.std.proofs.Common.{◌≡◌, ℕ, ◌<◌, eqb, List, [], ◌∷◌, ◌++◌, length, drop, Some, None, option_map, Bool, true, false, cond, refl, sym, ap, ◌∙◌, arith, rules}
 use Rattle.std.proofs.lemmas.Bool.{eqb-true, cond-true, cond-false}
 use mathlib.Core.List.{tail-eq_of_cons-eq}
-use Rattle.yq_flow_scalars.specs.Text.{cut, front, ends_line, no_white, past_white, upto, is_empty, joined, lines_of, line_len}
+use Rattle.yq_flow_scalars.specs.Text.{cut, front, ends_line, no_white, past_white, upto, is_empty, joined, text_lines, line_len}
 use Rattle.yq_block_scalars.proofs.LineLaws.{joined_lines, line_step}
 use Rattle.yq_lines.specs.Comments.{less_space, comment_text, are_comments, head_comment}
 use Rattle.yq_documents.specs.Pieces.{last_run, before_run, tail_comment, gap_comment}
@@ -32,13 +32,13 @@ tail_view before tail behind = go (past_white tail)
 
 -- the run in a gap is the lines of a text
 abbrev RunIs : List (List ℕ) → Type 0
-RunIs ls = (u : List ℕ) × (lines_of u ≡ last_run ls)
+RunIs ls = (u : List ℕ) × (text_lines u ≡ last_run ls)
 
 no_lines : (b : ℕ) (bs : List ℕ) → 0 < length (b ∷ bs)
 no_lines b bs = omega arith
 
-run_is : (ls : List (List ℕ)) (t : List ℕ) → lines_of t ≡ ls → RunIs ls
-unfolding lines_of
+run_is : (ls : List (List ℕ)) (t : List ℕ) → text_lines t ≡ ls → RunIs ls
+unfolding text_lines
 run_is [] t e = ([], refl)
 run_is (l ∷ ls) [] e = absurd (cc)
 run_is (l ∷ ls) (b ∷ bs) e = go (are_comments (l ∷ ls)) refl (run_is ls (drop (line_len (b ∷ bs)) (b ∷ bs)) (tail-eq_of_cons-eq (sym (line_step (b ∷ bs) (no_lines b bs)) ∙ e)))
@@ -47,16 +47,16 @@ run_is (l ∷ ls) (b ∷ bs) e = go (are_comments (l ∷ ls)) refl (run_is ls (d
     go true h again = (b ∷ bs, e ∙ sym (cond-true _ _ _ h))
     go false h again = (again.0, again.1 ∙ sym (cond-false _ _ _ h))
 
-lines_none : lines_of [] ≡ []
-unfolding lines_of
+lines_none : text_lines [] ≡ []
+unfolding text_lines
 lines_none = refl
 
 pub gap_agrees : (before gap behind : List ℕ) → comments_of (gap_comment before gap behind) ≡ head_comment gap
 gap_agrees before gap behind =
-    let run = run_is (lines_of gap) gap refl in
-    let same : joined (last_run (lines_of gap)) ≡ run.0 = ap joined (sym run.1) ∙ joined_lines run.0 in
-    ap (λ x. comments_of (cond (is_empty x) None (Some (record { before = before ++ joined (before_run (lines_of gap)); text = x; behind = behind })))) same
-    ∙ (go run.0 ∙ (ap texts run.1 ∙ run_texts (lines_of gap)))
+    let run = run_is (text_lines gap) gap refl in
+    let same : joined (last_run (text_lines gap)) ≡ run.0 = ap joined (sym run.1) ∙ joined_lines run.0 in
+    ap (λ x. comments_of (cond (is_empty x) None (Some (record { before = before ++ joined (before_run (text_lines gap)); text = x; behind = behind })))) same
+    ∙ (go run.0 ∙ (ap texts run.1 ∙ run_texts (text_lines gap)))
   where
-    go : (u : List ℕ) → comments_of (cond (is_empty u) None (Some (record { before = before ++ joined (before_run (lines_of gap)); text = u; behind = behind }))) ≡ texts (lines_of u)
+    go : (u : List ℕ) → comments_of (cond (is_empty u) None (Some (record { before = before ++ joined (before_run (text_lines gap)); text = u; behind = behind }))) ≡ texts (text_lines u)
     go u = search (rules, lines_none)

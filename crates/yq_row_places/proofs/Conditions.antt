@@ -25,7 +25,7 @@ is_fit_key : (key : inline.Key) → HasFitKey key → has_fit_key key ≡ true
 is_fit_key key h1 = search (rules, is_fit_of)
 
 mutual
-  fit_keys_are : (n : inline.Node) → has_fit_keys n ≡ true → HasFitKeys n
+  fit_keys_are : (n : inline.FlowNode) → has_fit_keys n ≡ true → HasFitKeys n
   fit_keys_are inline.empty e = tt
   fit_keys_are (inline.alias name) e = tt
   fit_keys_are (inline.scalar p) e = tt
@@ -39,7 +39,7 @@ mutual
       let q = and_parts (has_fit_keys n) (each_has_fit_keys is) p.1 in (fit_key_is key p.0, fit_keys_are n q.0, each_fit_is is q.1)
 
 mutual
-  are_fit_keys : (n : inline.Node) → HasFitKeys n → has_fit_keys n ≡ true
+  are_fit_keys : (n : inline.FlowNode) → HasFitKeys n → has_fit_keys n ≡ true
   are_fit_keys inline.empty h = refl
   are_fit_keys (inline.alias name) h = refl
   are_fit_keys (inline.scalar p) h = refl
@@ -58,10 +58,10 @@ is_content_fit : (c : Content) → ContentHasFitKeys c → content_is_fit c ≡ 
 is_content_fit (Inline space node tail) h = are_fit_keys node h
 is_content_fit x h = refl
 
-mark_fit_is : (m : rows.Mark) → mark_is_fit m ≡ true → MarkIsFit m
+mark_fit_is : (m : rows.RowMark) → mark_is_fit m ≡ true → MarkIsFit m
 mark_fit_is m h1 = search (rules, differ, not-true)
 
-is_mark_fit : (m : rows.Mark) → MarkIsFit m → mark_is_fit m ≡ true
+is_mark_fit : (m : rows.RowMark) → MarkIsFit m → mark_is_fit m ≡ true
 is_mark_fit m h1 = search (rules, differs)
 
 pub keys_are : (rs : List Row) → have_fit_keys rs ≡ true → HaveFitKeys rs

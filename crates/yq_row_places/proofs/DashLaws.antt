@@ -2,12 +2,12 @@
 use Rattle.std.proofs.Common.{◌≡◌, ℕ, zero, suc, ◌<◌, ◌≤◌, List, [], ◌∷◌, ◌++◌, length, take, drop, replicate, Some, refl, ap, ◌∙◌, subst, arith, append_assoc}
 use Rattle.yq_flow_scalars.specs.Paths.{Step}
 use Rattle.yq_flow_scalars.proofs.Bools.{bind_some}
-use Rattle.yq_lines.specs.Ends.{line_of}
+use Rattle.yq_lines.specs.Ends.{line_at_steps}
 use Rattle.yq_cut.specs.Exchange.{row_front}
 use Rattle.yq_cut.specs.Rows.{Row, behind_dashes, dashes_text, print_row, Cut}
 use Rattle.yq_cut.proofs.PlaceLaws.{dashes_then}
 use Rattle.yq_row_places.specs.RowPieces.{past_dash, upto_dash}
-use Rattle.yq_lines.specs.Lines.{lines_of}
+use Rattle.yq_lines.specs.Lines.{lines_of_rows}
 use Rattle.yq_row_places.specs.PlacedRows.{PlacedRow, placed_document, row_of_path}
 use Rattle.yq_documents.specs.LinesInRows.{row_line_of}
 use Rattle.yq_row_places.proofs.EntryPlaceLaws.{row_line_is}
@@ -40,5 +40,5 @@ pub line_within : (n : ℕ) (steps : List Step) (c : Cut) (w : PlacedRow) → ro
 line_within n steps c w e =
     let s = bind_some (placed_document n c) e in
     let x = map_some (row_line_of steps s.0.part.rows) s.2 in
-    let l = bind_some (line_of steps (lines_of s.0.part.rows)) x.1 in
+    let l = bind_some (line_at_steps steps (lines_of_rows s.0.part.rows)) x.1 in
     subst (λ (q : PlacedRow). q.line ≤ length q.row.dashes) x.2 (row_line_is l.0 s.0.part.rows x.0 l.2).1

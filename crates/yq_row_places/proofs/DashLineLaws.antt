@@ -6,7 +6,7 @@ use Rattle.std.specs.List.{slice_get}
 use Rattle.yq_lines.specs.Comments as comments
 use Rattle.yq_cut.specs.Rows as rows
 use Rattle.yq_cut.specs.Rows.{Content, Row}
-use Rattle.yq_lines.specs.Lines.{lines_from, row_lines, lines_of}
+use Rattle.yq_lines.specs.Lines.{lines_from, row_lines, lines_of_rows}
 use Rattle.yq_lines.specs.Outline.{Dash, Line}
 use Rattle.yq_documents.specs.LinesInRows.{RowLine, behind_one, row_line}
 use Rattle.yq_lines.proofs.RowLaws.{lines_count}
@@ -16,7 +16,7 @@ pub record IsDashLine (dashes n : ℕ) (l : Line) : Type 0 where
   pub within : n ≤ dashes
   pub dash : n < dashes → (l.mark ≡ Dash) × (l.head ≡ None)
 
-line_from : (above : List (List ℕ)) (column : ℕ) (ns : List ℕ) (m : rows.Mark) (c : Content) (n : ℕ) (l : Line) → slice_get (lines_from above column ns m c) n ≡ Some l → IsDashLine (length ns) n l
+line_from : (above : List (List ℕ)) (column : ℕ) (ns : List ℕ) (m : rows.RowMark) (c : Content) (n : ℕ) (l : Line) → slice_get (lines_from above column ns m c) n ≡ Some l → IsDashLine (length ns) n l
 line_from above column [] m c zero l e = record { within = omega arith; dash = λ p. absurd (omega (arith, p)) }
 line_from above column [] m c (suc n) l e = absurd (cc)
 line_from above column (k ∷ ns) m c zero l e = subst (IsDashLine (suc (length ns)) 0) (same_Some _ _ e) (record { within = omega arith; dash = λ p. (refl, refl) })
@@ -38,20 +38,20 @@ get_back (x ∷ xs) ys (suc n) l h e = let same : suc n - suc (length xs) ≡ n 
 abbrev pub OnDashLine : RowLine → Line → Type 0
 OnDashLine s l = IsDashLine (length s.row.dashes) s.line l
 
-pub row_line_found : (rs : List Row) (n : ℕ) (l : Line) → slice_get (lines_of rs) n ≡ Some l → (s : RowLine) × (row_line n rs ≡ Some s) × OnDashLine s l
+pub row_line_found : (rs : List Row) (n : ℕ) (l : Line) → slice_get (lines_of_rows rs) n ≡ Some l → (s : RowLine) × (row_line n rs ≡ Some s) × OnDashLine s l
 row_line_found [] n l e = absurd (cc)
 row_line_found (r ∷ rs) n l e = go (cases_lt (length r.dashes) n) (λ k there. row_line_found rs k l there)
   where
     count : length (row_lines r) ≡ suc (length r.dashes)
     count = lines_count (comments.head_comment r.gap) r.column r.dashes r.mark r.content
 
-    go : (length r.dashes < n) ⊎ (n ≤ length r.dashes) → ((k : ℕ) → slice_get (lines_of rs) k ≡ Some l → (s : RowLine) × (row_line k rs ≡ Some s) × OnDashLine s l) → (s : RowLine) × (row_line n (r ∷ rs) ≡ Some s) × OnDashLine s l
+    go : (length r.dashes < n) ⊎ (n ≤ length r.dashes) → ((k : ℕ) → slice_get (lines_of_rows rs) k ≡ Some l → (s : RowLine) × (row_line k rs ≡ Some s) × OnDashLine s l) → (s : RowLine) × (row_line n (r ∷ rs) ≡ Some s) × OnDashLine s l
     go (inl past) again =
         let at : n - length (row_lines r) ≡ n - suc (length r.dashes) = ap (λ (k : ℕ). n - k) count in
-        let q = again (n - suc (length r.dashes)) (ap (slice_get (lines_of rs)) (sym at) ∙ get_back (row_lines r) (lines_of rs) n l (omega (arith, past, count)) e) in
+        let q = again (n - suc (length r.dashes)) (ap (slice_get (lines_of_rows rs)) (sym at) ∙ get_back (row_lines r) (lines_of_rows rs) n l (omega (arith, past, count)) e) in
         (behind_one q.0, cond-true _ _ _ (lt-ltb (length r.dashes) n past) ∙ ap (option_map behind_one) q.1, q.2)
     go (inr here) again = (
       record { before = 0; row = r; line = n },
       cond-false _ _ _ (le-ltb (length r.dashes) n here),
-      line_from (comments.head_comment r.gap) r.column r.dashes r.mark r.content n l (get_front (row_lines r) (lines_of rs) n l (omega (arith, here, count)) e),
+      line_from (comments.head_comment r.gap) r.column r.dashes r.mark r.content n l (get_front (row_lines r) (lines_of_rows rs) n l (omega (arith, here, count)) e),
     )

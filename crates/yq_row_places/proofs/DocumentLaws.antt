@@ -8,7 +8,7 @@ use Rattle.yq_cut.specs.Rows.{Part}
 use Rattle.yq_documents.specs.Documents.{Document, IsRoot, IsDocument, AreDocuments}
 use Rattle.yq_lines.specs.Group.{group, is_fine}
 use Rattle.yq_lines.specs.Outline.{Line, value}
-use Rattle.yq_documents.specs.Reading.{document_of, is_document}
+use Rattle.yq_documents.specs.Reading.{part_document, is_document}
 use Rattle.yq_lines.proofs.ByRules.{rules_from, rules_give}
 use Rattle.yq_row_places.proofs.Conditions.{keys_are, are_keys, short_is, is_short}
 use Rattle.yq_lines.proofs.NameConditions.{anchors_are, are_anchors, bound_are, are_bound_of}
@@ -35,17 +35,17 @@ tests_are a b c d e h = search (rules, and_parts)
 are_tests : (a b c d e : Bool) → Tests a b c d e → (a && (b && (c && (d && e)))) ≡ true
 are_tests a b c d e h = and_from a _ h.0 (and_from b _ h.1 (and_from c _ h.2 (and_from d e h.3 h.4)))
 
-pub document_is : (p : Part) → is_document p ≡ true → IsDocument p (document_of p)
+pub document_is : (p : Part) → is_document p ≡ true → IsDocument p (part_document p)
 document_is p e = search (rules, tests_are, and_parts, root_is, keys_are, unique_is, leb-true, anchors_are, bound_are, short_is)
 
-pub is_document_of : (p : Part) (d : Document) → IsDocument p d → (is_document p ≡ true) × (document_of p ≡ d)
+pub is_document_of : (p : Part) (d : Document) → IsDocument p d → (is_document p ≡ true) × (part_document p ≡ d)
 is_document_of p d h = search (rules, is_root, le-leb, is_unique, are_bound_of, and_from, are_tests, are_keys, is_short, are_anchors)
 
-pub documents_take : (ps : List Part) → list_all is_document ps ≡ true → AreDocuments ps (map document_of ps)
+pub documents_take : (ps : List Part) → list_all is_document ps ≡ true → AreDocuments ps (map part_document ps)
 documents_take [] e = tt
 documents_take (p ∷ ps) e = let t = and_parts (is_document p) (list_all is_document ps) e in (document_is p t.0, documents_take ps t.1)
 
-pub documents_again : (ps : List Part) (ds : List Document) → AreDocuments ps ds → (list_all is_document ps ≡ true) × (map document_of ps ≡ ds)
+pub documents_again : (ps : List Part) (ds : List Document) → AreDocuments ps ds → (list_all is_document ps ≡ true) × (map part_document ps ≡ ds)
 documents_again [] [] h = (refl, refl)
 documents_again [] (d ∷ ds) h = absurd h
 documents_again (p ∷ ps) [] h = absurd h

@@ -10,16 +10,16 @@ use Rattle.yq_flow_scalars.proofs.Bools.{bind_some}
 use Rattle.yq_cut.specs.Grammar.{IsCut}
 use Rattle.yq_cut.specs.Rows.{Row, Part, Cut}
 use Rattle.yq_cut.specs.View.{Slices, slices, RowsView, rows_view}
-use Rattle.yq_lines.specs.Ends.{line_of}
+use Rattle.yq_lines.specs.Ends.{line_at_steps}
 use Rattle.yq_documents.specs.Documents.{document_parts}
-use Rattle.yq_lines.specs.Lines.{lines_of}
+use Rattle.yq_lines.specs.Lines.{lines_of_rows}
 use Rattle.yq_documents.specs.Reading.{cut_of}
 use Rattle.yq_documents.specs.LinesInRows.{RowLine, document_row, row_line, row_line_of}
 use Rattle.yq_lines.specs.Extents.{lines_before_mark}
 use Rattle.yq_row_places.specs.PlacedRows.{PlacedPart, placed_document}
 use Rattle.yq_lines.specs.RowWalk.{HasRows, IsLine, deeper_rows, line_level, line_number}
 use Rattle.yq_row_places.specs.Standings.{RowsOfEntry, entry_rows_at, rows_of_entry, under_count}
-use Rattle.yq_row_places.specs.StandingReading.{IsEntryIn, Numbers, numbers_at, numbers_of_entry, as_numbers}
+use Rattle.yq_row_places.specs.StandingReading.{IsEntryIn, StandingCounts, numbers_at, numbers_of_entry, as_numbers}
 use Rattle.yq_row_places.specs.declared.places.rows_of_entry.RowsOfEntry as declared
 use Rattle.yq_lines.specs.declared.line_position.Position.{Position}
 use Rattle.yq_lines.specs.declared.line_position.Stretch.{Stretch}
@@ -32,12 +32,12 @@ use Rattle.yq_lines.proofs.WalkPositions.{located}
 
 -- ---- where steps lead in a document
 
-pub none_along : (first : ℕ) (rs : List Row) (steps : List Step) → None ≡ line_of steps (lines_of rs) → None ≡ option_map (numbers_of_entry first rs) (row_line_of steps rs)
+pub none_along : (first : ℕ) (rs : List Row) (steps : List Step) → None ≡ line_at_steps steps (lines_of_rows rs) → None ≡ option_map (numbers_of_entry first rs) (row_line_of steps rs)
 none_along first rs steps e = ap (λ (o : Option ℕ). option_map (numbers_of_entry first rs) (o >>= λ n. row_line n rs)) e
 
 pub entry_row_agrees : (s : RowsView) (d : Stretch) (h : HasRows s d) (q : Position) → IsLine s d q → (steps : List Step) (level dashes end : ℕ) → ((x : Slices) → slice_get s.rows q.row ≡ Some x → level ≡ line_level q.line x) →
     ((x : Slices) → slice_get s.rows q.row ≡ Some x → dashes ≡ lines_before_mark x) → end ≡ (q.row + 1) + deeper_rows level (take (d.end - (q.row + 1)) (drop (q.row + 1) s.rows)) →
-    Some (line_number d h.rows q) ≡ line_of steps (lines_of h.rows) → Some (q.row, q.line, dashes, end) ≡ option_map (numbers_of_entry d.first h.rows) (row_line_of steps h.rows)
+    Some (line_number d h.rows q) ≡ line_at_steps steps (lines_of_rows h.rows) → Some (q.row, q.line, dashes, end) ≡ option_map (numbers_of_entry d.first h.rows) (row_line_of steps h.rows)
 entry_row_agrees s d h q at steps level dashes end level_is dashes_are end_is line =
     let l = located s d h q at in
     let i : ℕ = q.row - d.first in
@@ -81,8 +81,8 @@ entry_found t s n steps m cut is e =
     let line_in_row : row_line_of steps rs ≡ Some q = ap (λ (y : Part). row_line_of steps y.rows) d.2 ∙ x.1 in
     let count : ℕ = under_count q (drop (suc q.before) rs) in
     let same : numbers_of_entry k rs q ≡ as_numbers m = ap (λ (y : Part). numbers_of_entry k y.rows q) d.2 ∙ x.2 in
-    let row : slice_get rs q.before ≡ Some q.row = steps_row (line_of steps (lines_of rs)) rs q line_in_row in
-    let line = bind_some (line_of steps (lines_of rs)) line_in_row in
+    let row : slice_get rs q.before ≡ Some q.row = steps_row (line_at_steps steps (lines_of_rows rs)) rs q line_in_row in
+    let line = bind_some (line_at_steps steps (lines_of_rows rs)) line_in_row in
     let within = slice_get_within rs q.before q.row row in
     let next : q.before + 1 ≡ suc q.before = omega arith in
     let back : List Row = drop (suc q.before) rs in
@@ -90,8 +90,8 @@ entry_found t s n steps m cut is e =
     let front : length (take q.before rs) ≡ q.before = length-take-le q.before rs (omega (arith, within)) in
     let under : length (take count back) ≡ count = length-take-le count back fits in
     let rest : drop q.before rs ≡ q.row ∷ back = drop_at rs q.before q.row row ∙ ap (λ (j : ℕ). q.row ∷ drop j rs) next in
-    let row_is : k + q.before ≡ m.row = ap (λ (y : Numbers). y.0) same in
-    let end_is : k + q.before + 1 + count ≡ m.end = ap (λ (y : Numbers). y.3) same in
+    let row_is : k + q.before ≡ m.row = ap (λ (y : StandingCounts). y.0) same in
+    let end_is : k + q.before + 1 + count ≡ m.end = ap (λ (y : StandingCounts). y.3) same in
     record {
       entry = entry_rows_at d.0 q;
       is = record {
@@ -108,8 +108,8 @@ entry_found t s n steps m cut is e =
           row_is = omega (arith, row_is, front);
           last_is = omega (arith, row_is, end_is, under);
         };
-        line = sym (ap (λ (y : Numbers). y.1) same);
-        dashes = sym (ap (λ (y : Numbers). y.2) same);
+        line = sym (ap (λ (y : StandingCounts). y.1) same);
+        dashes = sym (ap (λ (y : StandingCounts). y.2) same);
         upto = (row_line_is line.0 rs q line.2).1;
       };
       row = omega (arith, row_is, front);

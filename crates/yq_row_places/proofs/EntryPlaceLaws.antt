@@ -14,13 +14,13 @@ use Rattle.yq_documents.specs.FlowReading.{row_flow}
 use Rattle.yq_documents.specs.declared.path.Path.{Path}
 use Rattle.yq_lines.specs.Group.{group}
 use Rattle.yq_lines.specs.Places.{lines_before, FoundLine, find}
-use Rattle.yq_lines.specs.Lines.{lines_of}
+use Rattle.yq_lines.specs.Lines.{lines_of_rows}
 use Rattle.yq_documents.specs.LinesInRows.{RowLine, behind_one, row_line, row_line_of, row_line_at}
 use Rattle.yq_lines.specs.Ends.{found_line, reached}
 use Rattle.yq_lines.proofs.Values.{If}
 use Rattle.yq_lines.proofs.KnownLaws.{get_dropped, get_front}
-use Rattle.yq_row_places.specs.EntryReading.{line_entry, line_content, entry_from, content_from, entry_of, content_of, entry_at, content_at, entry_within, line_entry_of, line_content_of, flow_entry_from, flow_entry_of, line_entry_at, line_content_at, flow_entry_at}
-use Rattle.yq_row_places.specs.RowLineReading.{Numbers, numbers}
+use Rattle.yq_row_places.specs.EntryReading.{line_entry, line_content, entry_from, content_from, entry_of, node_place_of, entry_at, content_row_place, entry_within, line_entry_of, line_content_of, flow_entry_from, flow_entry_of, line_entry_at, line_content_at, flow_entry_at}
+use Rattle.yq_row_places.specs.RowLineReading.{LineCounts, numbers}
 use Rattle.yq_row_places.proofs.FlowPlaceLaws.{flow_agrees}
 
 -- a line is one of its row, and that is one of the rows
@@ -50,13 +50,13 @@ TextSpan = Option (ℕ × ℕ)
 
 -- where steps go on in the head of a line
 pub flow_left : (k : ℕ) (c : Cut) (rs : List Row) (steps left : List Step) (n : ℕ) (q : RowLine) (flow : Option Placed) (found : Option PlacedEntry) → row_line n rs ≡ Some q →
-    flow ≡ row_flow (length (cut_text c)) q.row (behind_row (k + q.before) c) → found ≡ entry_within left flow → Some (n, left) ≡ reached steps (lines_of rs) → false ≡ eqb (length left) 0 → found ≡ flow_entry_of k c rs steps
+    flow ≡ row_flow (length (cut_text c)) q.row (behind_row (k + q.before) c) → found ≡ entry_within left flow → Some (n, left) ≡ reached steps (lines_of_rows rs) → false ≡ eqb (length left) 0 → found ≡ flow_entry_of k c rs steps
 flow_left k c rs steps left n q flow found h1 h2 h3 h4 h5 = search (rules, false≢true, eq-eqb, flow_agrees)
 
-pub no_flow_left : (k : ℕ) (c : Cut) (rs : List Row) (steps left : List Step) (n : ℕ) → Some (n, left) ≡ reached steps (lines_of rs) → true ≡ eqb (length left) 0 → None ≡ flow_entry_of k c rs steps
+pub no_flow_left : (k : ℕ) (c : Cut) (rs : List Row) (steps left : List Step) (n : ℕ) → Some (n, left) ≡ reached steps (lines_of_rows rs) → true ≡ eqb (length left) 0 → None ≡ flow_entry_of k c rs steps
 no_flow_left k c rs steps left n h1 h2 = search (rules, eqb-true)
 
-pub no_flow : (k : ℕ) (c : Cut) (rs : List Row) (steps : List Step) → None ≡ reached steps (lines_of rs) → None ≡ flow_entry_of k c rs steps
+pub no_flow : (k : ℕ) (c : Cut) (rs : List Row) (steps : List Step) → None ≡ reached steps (lines_of_rows rs) → None ≡ flow_entry_of k c rs steps
 no_flow k c rs steps e = ap (λ (o : Option (ℕ × List Step)). o >>= λ x. flow_entry_from k c rs x.0 x.1) e
 
 -- the place of what stands in a line, or in flow
@@ -73,15 +73,15 @@ by_line o = option_map (λ x. (length (lines_before x.0.place), x.1)) o
 
 entry_parts : (k : ℕ) (c : Cut) (rs : List Row) (steps : List Step) → entry_of k c rs steps ≡ or_flow (line_entry_of k c rs steps) (option_map entry_place (flow_entry_of k c rs steps))
 entry_parts k c rs [] = refl
-entry_parts k c rs (s ∷ ss) = go (find s ss (group (lines_of rs)))
+entry_parts k c rs (s ∷ ss) = go (find s ss (group (lines_of_rows rs)))
   where
     go : (o : Option (FoundLine × List Step)) → (by_line o >>= λ x. entry_from k c rs x.0 x.1) ≡
         or_flow (option_and_then (λ (x : FoundLine × List Step). found_line x.0 x.1) o >>= line_entry k c rs) (option_map entry_place (by_line o >>= λ x. flow_entry_from k c rs x.0 x.1))
     go o = search (rules, or_none)
 
-content_parts : (k : ℕ) (c : Cut) (rs : List Row) (steps : List Step) → content_of k c rs steps ≡ or_flow (line_content_of k c rs steps) (option_and_then (λ (e : PlacedEntry). content_place e.1) (flow_entry_of k c rs steps))
+content_parts : (k : ℕ) (c : Cut) (rs : List Row) (steps : List Step) → node_place_of k c rs steps ≡ or_flow (line_content_of k c rs steps) (option_and_then (λ (e : PlacedEntry). content_place e.1) (flow_entry_of k c rs steps))
 content_parts k c rs [] = or_none _
-content_parts k c rs (s ∷ ss) = go (find s ss (group (lines_of rs)))
+content_parts k c rs (s ∷ ss) = go (find s ss (group (lines_of_rows rs)))
   where
     go : (o : Option (FoundLine × List Step)) → (by_line o >>= λ x. content_from k c rs x.0 x.1) ≡
         or_flow (option_and_then (λ (x : FoundLine × List Step). found_line x.0 x.1) o >>= line_content k c rs)
@@ -91,15 +91,15 @@ content_parts k c rs (s ∷ ss) = go (find s ss (group (lines_of rs)))
 pub entry_either : (p : Path) (c : Cut) → entry_at p c ≡ or_flow (line_entry_at p c) (option_map entry_place (flow_entry_at p c))
 entry_either p c = search rules
 
-pub content_either : (p : Path) (c : Cut) → content_at p c ≡ or_flow (line_content_at p c) (option_and_then (λ (e : PlacedEntry). content_place e.1) (flow_entry_at p c))
+pub content_either : (p : Path) (c : Cut) → content_row_place p c ≡ or_flow (line_content_at p c) (option_and_then (λ (e : PlacedEntry). content_place e.1) (flow_entry_at p c))
 content_either p c = search rules
 
 -- the place of the entry or item of a line at a path
-line_entry_is : (k : ℕ) (c : Cut) (rs : List Row) (steps : List Step) (first : ℕ) (x : Numbers) → Some x ≡ option_map (numbers first) (row_line_of steps rs) → line_entry_of k c rs steps ≡ entry_of k c rs steps
+line_entry_is : (k : ℕ) (c : Cut) (rs : List Row) (steps : List Step) (first : ℕ) (x : LineCounts) → Some x ≡ option_map (numbers first) (row_line_of steps rs) → line_entry_of k c rs steps ≡ entry_of k c rs steps
 line_entry_is k c rs [] first x e = absurd (cc)
 line_entry_is k c rs (s ∷ ss) first x e = search rules
 
-pub row_line_entry : (p : Path) (c : Cut) (first : ℕ) (x : Numbers) → Some x ≡ option_map (numbers first) (row_line_at p c) → line_entry_at p c ≡ entry_at p c
+pub row_line_entry : (p : Path) (c : Cut) (first : ℕ) (x : LineCounts) → Some x ≡ option_map (numbers first) (row_line_at p c) → line_entry_at p c ≡ entry_at p c
 row_line_entry p c first x e = search rules
 
 -- ---- the first of the ends of parts before a row

@@ -15,12 +15,12 @@ use Rattle.yq_cut.specs.Rows.{Row, Cut, cut_text}
 use Rattle.yq_cut.specs.View.{rows_of}
 use Rattle.yq_documents.specs.declared.path.Path.{Path}
 use Rattle.yq_documents.specs.Documents.{document_parts}
-use Rattle.yq_row_places.specs.EntryReading.{lines_place, line_entry, line_head, lines_content, line_content, flow_entry, entry_from, content_from, entry_of, content_of, entry_at, content_at}
-use Rattle.yq_lines.specs.Lines.{row_lines, lines_of}
+use Rattle.yq_row_places.specs.EntryReading.{lines_place, line_entry, line_head, lines_content, line_content, flow_entry, entry_from, content_from, entry_of, node_place_of, entry_at, content_row_place}
+use Rattle.yq_lines.specs.Lines.{row_lines, lines_of_rows}
 use Rattle.yq_documents.specs.Located.{steps_of}
 use Rattle.yq_lines.specs.Ends.{reached, lines_end}
 use Rattle.yq_documents.specs.LinesInRows.{RowLine, behind_one, row_line, document_row}
-use Rattle.yq_lines.specs.Positions.{is_bare}
+use Rattle.yq_lines.specs.Positions.{has_no_mark}
 use Rattle.yq_row_places.proofs.EntryPlaceLaws.{row_there}
 use Rattle.yq_row_places.proofs.FinishLaws.{row_boundary, lines_order}
 use Rattle.yq_row_places.proofs.FlowSpanLaws.{AreSpans, flow_spans}
@@ -31,18 +31,18 @@ use Rattle.yq_row_places.proofs.SeamLaws.{line_boundary}
 use Rattle.yq_documents.proofs.PartRows.{part_begins}
 
 -- a line that has a row line is there, and lines have theirs in order
-row_line_within : (rs : List Row) (n : ℕ) (s : RowLine) → row_line n rs ≡ Some s → n < length (lines_of rs)
+row_line_within : (rs : List Row) (n : ℕ) (s : RowLine) → row_line n rs ≡ Some s → n < length (lines_of_rows rs)
 row_line_within [] n s e = absurd (none-some _ e)
 row_line_within (r ∷ rs) n s e = go (ltb (length r.dashes) n) refl (row_line (n - suc (length r.dashes)) rs) (λ q at. row_line_within rs (n - suc (length r.dashes)) q at) refl e
   where
     count : length (row_lines r) ≡ suc (length r.dashes)
     count = lines_count (comments.head_comment r.gap) r.column r.dashes r.mark r.content
 
-    go : (b : Bool) → ltb (length r.dashes) n ≡ b → (o : Option RowLine) → ((q : RowLine) → row_line (n - suc (length r.dashes)) rs ≡ Some q → n - suc (length r.dashes) < length (lines_of rs)) → row_line (n - suc (length r.dashes)) rs ≡ o →
-        cond b (option_map behind_one o) (Some (record { before = 0; row = r; line = n })) ≡ Some s → n < length (row_lines r ++ lines_of rs)
+    go : (b : Bool) → ltb (length r.dashes) n ≡ b → (o : Option RowLine) → ((q : RowLine) → row_line (n - suc (length r.dashes)) rs ≡ Some q → n - suc (length r.dashes) < length (lines_of_rows rs)) → row_line (n - suc (length r.dashes)) rs ≡ o →
+        cond b (option_map behind_one o) (Some (record { before = 0; row = r; line = n })) ≡ Some s → n < length (row_lines r ++ lines_of_rows rs)
     go true t None again at e = absurd (none-some _ e)
-    go true t (Some q) again at e = omega (arith, again q at, ltb-true (length r.dashes) n t, count, length-append (row_lines r) (lines_of rs))
-    go false t o again at e = omega (arith, ltb-false (length r.dashes) n t, count, length-append (row_lines r) (lines_of rs))
+    go true t (Some q) again at e = omega (arith, again q at, ltb-true (length r.dashes) n t, count, length-append (row_lines r) (lines_of_rows rs))
+    go false t o again at e = omega (arith, ltb-false (length r.dashes) n t, count, length-append (row_lines r) (lines_of_rows rs))
 
 row_lines_order : (rs : List Row) (from to : ℕ) (s q : RowLine) → from ≤ to → row_line from rs ≡ Some s → row_line to rs ≡ Some q → s.before ≤ q.before
 row_lines_order [] from to s q h e f = absurd (none-some _ e)
@@ -66,8 +66,8 @@ module _ (c : Cut) (rs more : List Row) (k : ℕ) (u : IsUtf8 (cut_text c)) (cut
   line_span : (n : ℕ) (x : ℕ × ℕ) → line_entry k c rs n ≡ Some x → Spans x
   line_span n x e =
       let a = bind_some (row_line n rs) e in
-      let ends = end_within (lines_of rs) n (row_line_within rs n a.0 a.1) in
-      lines_span n (lines_end n (lines_of rs) - 1) x (omega (arith, ends.0)) e
+      let ends = end_within (lines_of_rows rs) n (row_line_within rs n a.0 a.1) in
+      lines_span n (lines_end n (lines_of_rows rs) - 1) x (omega (arith, ends.0)) e
 
   head_spans : (n : ℕ) (x : ℕ × ℕ) → line_head k c rs n ≡ Some x → Spans x
   head_spans n x e = search (rules, bind_some, same_Some, head_span, row_there)
@@ -79,16 +79,16 @@ module _ (c : Cut) (rs more : List Row) (k : ℕ) (u : IsUtf8 (cut_text c)) (cut
       of true more e = head_spans from x e
       of false more e = lines_span from (to - 1) x (omega (arith, more)) e
 
-      go : (b : Bool) → eqb from to ≡ b → cond b None (slice_get (lines_of rs) from >>= λ l. cond (is_bare l.mark) (line_head k c rs from) (lines_place k c rs from (to - 1))) ≡ Some x → Spans x
+      go : (b : Bool) → eqb from to ≡ b → cond b None (slice_get (lines_of_rows rs) from >>= λ l. cond (has_no_mark l.mark) (line_head k c rs from) (lines_place k c rs from (to - 1))) ≡ Some x → Spans x
       go true t e = absurd (none-some _ e)
-      go false t e = let l = bind_some (slice_get (lines_of rs) from) e in of (is_bare l.0.mark) (omega (arith, less, eqb-false from to t)) l.2
+      go false t e = let l = bind_some (slice_get (lines_of_rows rs) from) e in of (has_no_mark l.0.mark) (omega (arith, less, eqb-false from to t)) l.2
 
   line_spans : (n : ℕ) (x : ℕ × ℕ) → line_content k c rs n ≡ Some x → Spans x
-  line_spans n x e = let l = bind_some (slice_get (lines_of rs) n) e in go (is_some l.0.head) (end_within (lines_of rs) n (slice_get_within (lines_of rs) n l.0 l.1)).0 l.2
+  line_spans n x e = let l = bind_some (slice_get (lines_of_rows rs) n) e in go (is_some l.0.head) (end_within (lines_of_rows rs) n (slice_get_within (lines_of_rows rs) n l.0 l.1)).0 l.2
     where
-      go : (b : Bool) → n < lines_end n (lines_of rs) → cond b (line_head k c rs n) (lines_content k c rs (suc n) (lines_end n (lines_of rs))) ≡ Some x → Spans x
+      go : (b : Bool) → n < lines_end n (lines_of_rows rs) → cond b (line_head k c rs n) (lines_content k c rs (suc n) (lines_end n (lines_of_rows rs))) ≡ Some x → Spans x
       go true less e = head_spans n x e
-      go false less e = lines_spans (suc n) (lines_end n (lines_of rs)) x (omega (arith, less)) e
+      go false less e = lines_spans (suc n) (lines_end n (lines_of_rows rs)) x (omega (arith, less)) e
 
   in_flow : (n : ℕ) (s : Step) (ss : List Step) (e : PlacedEntry) → flow_entry k c rs n (s ∷ ss) ≡ Some e → AreSpans (cut_text c) e
   in_flow n s ss e is = let a = bind_some (row_line n rs) is in flow_spans c (k + a.0.before) a.0.row u cut (row_there c rs more k n a.0 there a.1) s ss e a.2
@@ -109,17 +109,17 @@ module _ (c : Cut) (rs more : List Row) (k : ℕ) (u : IsUtf8 (cut_text c)) (cut
       go (Some y) is e = (in_flow n s ss y is).1 x e
 
   entries_span : (steps : List Step) (x : ℕ × ℕ) → entry_of k c rs steps ≡ Some x → Spans x
-  entries_span steps x e = let y = bind_some (reached steps (lines_of rs)) e in entry_span y.0.0 y.0.1 x y.2
+  entries_span steps x e = let y = bind_some (reached steps (lines_of_rows rs)) e in entry_span y.0.0 y.0.1 x y.2
 
-  contents_span : (steps : List Step) (x : ℕ × ℕ) → content_of k c rs steps ≡ Some x → Spans x
-  contents_span [] x e = lines_spans 0 (length (lines_of rs)) x (omega arith) e
-  contents_span (s ∷ ss) x e = let y = bind_some (reached (s ∷ ss) (lines_of rs)) e in content_span y.0.0 y.0.1 x y.2
+  contents_span : (steps : List Step) (x : ℕ × ℕ) → node_place_of k c rs steps ≡ Some x → Spans x
+  contents_span [] x e = lines_spans 0 (length (lines_of_rows rs)) x (omega arith) e
+  contents_span (s ∷ ss) x e = let y = bind_some (reached (s ∷ ss) (lines_of_rows rs)) e in content_span y.0.0 y.0.1 x y.2
 
-pub entries_placed : (t : List ℕ) (c : Cut) (p : Path) (x : ℕ × ℕ) → IsCut t c → IsUtf8 t → (entry_at p c ≡ Some x) ⊎ (content_at p c ≡ Some x) → IsSpan t x.0 x.1
+pub entries_placed : (t : List ℕ) (c : Cut) (p : Path) (x : ℕ × ℕ) → IsCut t c → IsUtf8 t → (entry_at p c ≡ Some x) ⊎ (content_row_place p c ≡ Some x) → IsSpan t x.0 x.1
 entries_placed t c p x cut u found =
     subst (λ (q : List ℕ). IsSpan q x.0 x.1) (sym cut.text) (go (subst IsUtf8 cut.text u) (subst (λ (q : List ℕ). IsCut q c) cut.text cut) found)
   where
-    go : IsUtf8 (cut_text c) → IsCut (cut_text c) c → (entry_at p c ≡ Some x) ⊎ (content_at p c ≡ Some x) → IsSpan (cut_text c) x.0 x.1
+    go : IsUtf8 (cut_text c) → IsCut (cut_text c) c → (entry_at p c ≡ Some x) ⊎ (content_row_place p c ≡ Some x) → IsSpan (cut_text c) x.0 x.1
     go u cut (inl e) =
         let d = bind_some (slice_get (document_parts c) p.doc) e in
         let b = part_begins c p.doc d.0 d.1 in

@@ -15,7 +15,7 @@ use Rattle.yq_cut.proofs.seams.SeamLaws.{rows_text-append}
 use Rattle.yq_cut.proofs.splices.SpliceTexts.{first_text}
 use Rattle.yq_documents.specs.Reading.{cut_of}
 use Rattle.yq_documents.specs.LinesInRows.{document_row}
-use Rattle.yq_row_places.specs.CommentPlaces.{line_text}
+use Rattle.yq_row_places.specs.CommentPlaces.{text_to_line_end}
 use Rattle.yq_row_places.specs.CommentReading.{before_row}
 use Rattle.yq_lines.specs.Extents.{IsRowsView, head_place, row_start}
 use Rattle.yq_row_places.specs.RemovalPlaces.{OwnRows, rows_out}
@@ -139,7 +139,7 @@ module _ (t : List ℕ) (s : RowsView) (e : RowsOfEntry) (row end : ℕ) (h : Ar
 
   -- ---- the line of the first row's mark
 
-  pub head_ends : (place : ℕ × ℕ) → ((c : Cut) → s ≡ rows_view c → (r : Row) → slice_get (rows_of c) row ≡ Some r → place ≡ head_place row c r) → place.1 ≡ length (before_entry e ++ line_text e.row)
+  pub head_ends : (place : ℕ × ℕ) → ((c : Cut) → s ≡ rows_view c → (r : Row) → slice_get (rows_of c) row ≡ Some r → place ≡ head_place row c r) → place.1 ≡ length (before_entry e ++ text_to_line_end e.row)
   head_ends place agrees =
       let x : Slices = slices e.row in
       let at : place.1 ≡ (head_place row c e.row).1 = ap (λ (p : ℕ × ℕ). p.1) (agrees c h.rows_view_is e.row first_at.there) in
@@ -151,7 +151,7 @@ module _ (t : List ℕ) (s : RowsView) (e : RowsOfEntry) (row end : ℕ) (h : Ar
         length-append x.anchor x.apart,
         front_in row c e.row first_at.there,
         ap length first_at.before_is,
-        length-append (before_entry e) (line_text e.row),
+        length-append (before_entry e) (text_to_line_end e.row),
         length-append (row_front e.row) (x.space ++ (x.anchor ++ (x.apart ++ x.head))),
         length-append x.space (x.anchor ++ (x.apart ++ x.head)),
         length-append x.anchor (x.apart ++ x.head),
@@ -160,7 +160,7 @@ module _ (t : List ℕ) (s : RowsView) (e : RowsOfEntry) (row end : ℕ) (h : Ar
 
   -- the text up to the end of that line, with what is below it, up to the end of the rows
   abbrev line : List ℕ
-  line = (before_entry e ++ line_text e.row) ++ (slices e.row).tail
+  line = (before_entry e ++ text_to_line_end e.row) ++ (slices e.row).tail
 
   abbrev lower : List ℕ
   lower = (slices e.row).raw ++ rows_text e.under []
@@ -168,7 +168,7 @@ module _ (t : List ℕ) (s : RowsView) (e : RowsOfEntry) (row end : ℕ) (h : Ar
   pub line_cut : t ≡ line ++ (lower ++ behind_entry e)
   line_cut =
       let x : Slices = slices e.row in
-      let parts : before_entry e ++ (line_text e.row ++ (x.tail ++ (x.raw ++ (rows_text e.under [] ++ behind_entry e)))) ≡ line ++ (lower ++ behind_entry e) = simp append_assoc refl in
+      let parts : before_entry e ++ (text_to_line_end e.row ++ (x.tail ++ (x.raw ++ (rows_text e.under [] ++ behind_entry e)))) ≡ line ++ (lower ++ behind_entry e) = simp append_assoc refl in
       text
       ∙ (ap (λ (u : List ℕ). before_entry e ++ print_row e.row u) (texts_then e.under [] (behind_entry e))
       ∙ (ap (λ (u : List ℕ). before_entry e ++ u) (row_text_parts e.row (rows_text e.under [] ++ behind_entry e)) ∙ parts))
@@ -176,7 +176,7 @@ module _ (t : List ℕ) (s : RowsView) (e : RowsOfEntry) (row end : ℕ) (h : Ar
   pub through_is : through ≡ line ++ lower
   through_is =
       let x : Slices = slices e.row in
-      let parts : before_entry e ++ (line_text e.row ++ (x.tail ++ (x.raw ++ rows_text e.under []))) ≡ line ++ lower = simp append_assoc refl in
+      let parts : before_entry e ++ (text_to_line_end e.row ++ (x.tail ++ (x.raw ++ rows_text e.under []))) ≡ line ++ lower = simp append_assoc refl in
       ap (λ (u : List ℕ). before_entry e ++ u) (row_text_parts e.row (rows_text e.under [])) ∙ parts
 
   pub line_boundary_at : IsUtf8 t → IsCharBoundary t (length line)
@@ -184,5 +184,5 @@ module _ (t : List ℕ) (s : RowsView) (e : RowsOfEntry) (row end : ℕ) (h : Ar
       let x : Slices = slices e.row in
       let ended = content_end (parent_indent e.row) e.row.content (rows_text e.under (behind_entry e)) row_valid.row.content in
       let rest : x.raw ++ rows_text e.under (behind_entry e) ≡ lower ++ behind_entry e = ap (λ (y : List ℕ). x.raw ++ y) (texts_then e.under [] (behind_entry e)) ∙ sym (append_assoc x.raw (rows_text e.under []) (behind_entry e)) in
-      let seam : LineSeam line (lower ++ behind_entry e) = inr (ended_after (before_entry e ++ line_text e.row) x.tail (lower ++ behind_entry e) (subst (Ended x.tail) rest ended)) in
+      let seam : LineSeam line (lower ++ behind_entry e) = inr (ended_after (before_entry e ++ text_to_line_end e.row) x.tail (lower ++ behind_entry e) (subst (Ended x.tail) rest ended)) in
       subst (λ (y : List ℕ). IsCharBoundary y (length line)) (sym line_cut) (line_boundary line (lower ++ behind_entry e) seam (subst IsUtf8 line_cut u))

@@ -1,7 +1,7 @@
 -- The smallest rows of which the first item or entry of a compact collection is taken out.
 use Rattle.std.proofs.Common.{◌≡◌, ℕ, List, [], ◌∷◌, ◌++◌, Some, None, refl, codes}
 use Rattle.yq_flow_scalars.specs.Paths.{Nth, To}
-use Rattle.yq_flow_scalars.specs.Text.{upto, line_len, lines_of}
+use Rattle.yq_flow_scalars.specs.Text.{upto, line_len, text_lines}
 use Rattle.yq_flow_scalars.specs.ContentReading as reading
 use Rattle.yq_nodes.specs.Nodes as inline
 use Rattle.yq_nodes.specs.Scalars as scalars
@@ -24,7 +24,7 @@ near = last (record { rows = entry [] 0 (2 ∷ []) (codes "a") (codes "1") ∷ e
 -- up to the next entry
 moved : first_removal 0 (Nth 0 ∷ To (codes "a") ∷ []) near
     ≡ Some (record { before = codes "-  "; space = []; entry = codes "a: 1"; break = break; indent = codes "   "; behind = codes "b: 2" ++ break })
-unfolding level inline.node_text less_break upto line_len lines_of scalars.content_of reading.content_on
+unfolding level inline.node_text less_break upto line_len text_lines scalars.scalar_content reading.content_on
 moved = refl
 
 -- `-  a: 1⏎⏎   b: 2⏎`
@@ -34,10 +34,10 @@ apart = last (record { rows = entry [] 0 (2 ∷ []) (codes "a") (codes "1") ∷ 
 -- from behind the dash to the end of the entry's line
 dropped : first_removal 0 (Nth 0 ∷ To (codes "a") ∷ []) apart
     ≡ Some (record { before = codes "-"; space = codes "  "; entry = codes "a: 1"; break = []; indent = []; behind = break ++ (break ++ (codes "   b: 2" ++ break)) })
-unfolding level inline.node_text less_break less_spaces upto line_len lines_of scalars.content_of reading.content_on
+unfolding level inline.node_text less_break less_spaces upto line_len text_lines scalars.scalar_content reading.content_on
 dropped = refl
 
 -- the second entry begins its row
 second : first_removal 0 (Nth 0 ∷ To (codes "b") ∷ []) near ≡ None
-unfolding level lines_of upto scalars.content_of reading.content_on
+unfolding level text_lines upto scalars.scalar_content reading.content_on
 second = refl

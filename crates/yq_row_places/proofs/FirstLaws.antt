@@ -15,10 +15,10 @@ use Rattle.yq_documents.specs.declared.path.Part.TheVariants as parts
 use Rattle.yq_documents.specs.declared.path.Path.{Path}
 use Rattle.yq_row_places.specs.FirstPlaces.{are_spaces, less_spaces, end_spaces, FirstOut, first_out, first_removal}
 use Rattle.yq_documents.specs.Located.{steps_of}
-use Rattle.yq_row_places.specs.PathPieces.{printed_document, piece_at}
+use Rattle.yq_row_places.specs.PathPieces.{printed_document, path_piece}
 use Rattle.yq_documents.specs.Pieces.{TextPiece, piece_span}
 use Rattle.yq_documents.specs.Reading.{all_documents}
-use Rattle.yq_row_places.specs.RowLineReading.{Numbers, numbers}
+use Rattle.yq_row_places.specs.RowLineReading.{LineCounts, numbers}
 use Rattle.yq_documents.specs.LinesInRows.{RowLine, row_line_at}
 use Rattle.yq_row_places.specs.EntryReading.{line_entry_at}
 use Rattle.yq_row_places.proofs.EntryPlaceLaws.{row_line_entry}
@@ -102,7 +102,7 @@ front_less t n e = (λ i. take (e i) (spaces_parts t i)) ∙ take-append_seam (l
 -- An item or entry at a path stands between two places of a text.
 pub record EntryStands (t : List ℕ) (c : Cut) (path : Path) (start end : ℕ) : Type 0 where
   pub piece : TextPiece
-  pub is : piece_at path parts.Entry c ≡ Some piece
+  pub is : path_piece path parts.Entry c ≡ Some piece
   pub order : start ≤ end
   pub begins : IsCharBoundary t start
   pub ends : IsCharBoundary (drop start t) (end - start)
@@ -111,14 +111,14 @@ pub record EntryStands (t : List ℕ) (c : Cut) (path : Path) (start end : ℕ) 
   pub behind_is : drop (end - start) (drop start t) ≡ piece.behind
 
 -- the place of a line's entry or item is that of the piece
-entry_is : (t : List ℕ) (c : Cut) (path : Path) (k : ℕ) (n : Numbers) → IsCut t c → all_documents c ≡ true → Some n ≡ option_map (numbers k) (row_line_at path c) → line_entry_at path c ≡ option_map piece_span (piece_at path parts.Entry c)
+entry_is : (t : List ℕ) (c : Cut) (path : Path) (k : ℕ) (n : LineCounts) → IsCut t c → all_documents c ≡ true → Some n ≡ option_map (numbers k) (row_line_at path c) → line_entry_at path c ≡ option_map piece_span (path_piece path parts.Entry c)
 entry_is t c path k n cut sound there = row_line_entry path c k n there ∙ sym (spans_are t c path cut sound).1
 
-pub entry_stands : (t : List ℕ) (c : Cut) (path : Path) (start end : ℕ) → IsUtf8 t → IsCut t c → all_documents c ≡ true → (k : ℕ) (n : Numbers) → Some n ≡ option_map (numbers k) (row_line_at path c) → Some (start, end) ≡ line_entry_at path c →
+pub entry_stands : (t : List ℕ) (c : Cut) (path : Path) (start end : ℕ) → IsUtf8 t → IsCut t c → all_documents c ≡ true → (k : ℕ) (n : LineCounts) → Some n ≡ option_map (numbers k) (row_line_at path c) → Some (start, end) ≡ line_entry_at path c →
     EntryStands t c path start end
 entry_stands t c path start end u cut sound k n there at =
-    let e : Some (start, end) ≡ option_map piece_span (piece_at path parts.Entry c) = at ∙ entry_is t c path k n cut sound there in
-    let w = map_some (piece_at path parts.Entry c) (sym e) in
+    let e : Some (start, end) ≡ option_map piece_span (path_piece path parts.Entry c) = at ∙ entry_is t c path k n cut sound there in
+    let w = map_some (path_piece path parts.Entry c) (sym e) in
     let x : TextPiece = w.0 in
     let s = bind_some (printed_document path.doc c) w.1 in
     let text : t ≡ x.before ++ (x.text ++ x.behind) = cut.text ∙ sym (piece_whole parts.Entry (steps_of path) s.0 x s.2 ∙ document_whole path.doc c s.0 s.1) in
@@ -150,11 +150,11 @@ first_out_of o e = option_map first_out (o >>= λ s. cond (eqb s.line 0) None e)
 pub no_first_row_line : (path : Path) (c : Cut) (k : ℕ) → None ≡ option_map (numbers k) (row_line_at path c) → None ≡ first_removal path.doc (steps_of path) c
 no_first_row_line path c k e = search rules
 
-pub other_first_line : (path : Path) (c : Cut) (k : ℕ) (n : Numbers) → Some n ≡ option_map (numbers k) (row_line_at path c) → n.1 ≡ 0 → None ≡ first_removal path.doc (steps_of path) c
+pub other_first_line : (path : Path) (c : Cut) (k : ℕ) (n : LineCounts) → Some n ≡ option_map (numbers k) (row_line_at path c) → n.1 ≡ 0 → None ≡ first_removal path.doc (steps_of path) c
 other_first_line path c k n e zero_is = search rules
 
-pub no_first_entry : (t : List ℕ) (c : Cut) (path : Path) (k : ℕ) (n : Numbers) → IsCut t c → all_documents c ≡ true → Some n ≡ option_map (numbers k) (row_line_at path c) → None ≡ line_entry_at path c → None ≡ first_removal path.doc (steps_of path) c
-no_first_entry t c path k n cut sound there e = go (piece_at path parts.Entry c) (e ∙ entry_is t c path k n cut sound there) (row_line_at path c)
+pub no_first_entry : (t : List ℕ) (c : Cut) (path : Path) (k : ℕ) (n : LineCounts) → IsCut t c → all_documents c ≡ true → Some n ≡ option_map (numbers k) (row_line_at path c) → None ≡ line_entry_at path c → None ≡ first_removal path.doc (steps_of path) c
+no_first_entry t c path k n cut sound there e = go (path_piece path parts.Entry c) (e ∙ entry_is t c path k n cut sound there) (row_line_at path c)
   where
     either : (b : Bool) → None ≡ option_map first_out (cond b None None)
     either b = search rules
@@ -162,5 +162,5 @@ no_first_entry t c path k n cut sound there e = go (piece_at path parts.Entry c)
     go : (x : Option TextPiece) → None ≡ option_map piece_span x → (o : Option RowLine) → None ≡ first_out_of o x
     go x h1 o = search rules
 
-pub first_is : (path : Path) (c : Cut) (k : ℕ) (n : Numbers) (x : TextPiece) → Some n ≡ option_map (numbers k) (row_line_at path c) → (n.1 ≡ 0 → ⊥) → piece_at path parts.Entry c ≡ Some x → Some (first_out x) ≡ first_removal path.doc (steps_of path) c
+pub first_is : (path : Path) (c : Cut) (k : ℕ) (n : LineCounts) (x : TextPiece) → Some n ≡ option_map (numbers k) (row_line_at path c) → (n.1 ≡ 0 → ⊥) → path_piece path parts.Entry c ≡ Some x → Some (first_out x) ≡ first_removal path.doc (steps_of path) c
 first_is path c k n x e other is = search rules

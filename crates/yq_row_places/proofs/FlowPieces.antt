@@ -12,10 +12,10 @@ use Rattle.yq_lines.proofs.PlaceLaws.{at}
 use Rattle.yq_row_places.proofs.RowPathLaws.{found_place}
 use Rattle.yq_flow_scalars.specs.Paths.{Step, is_here, further}
 use Rattle.yq_flow_scalars.specs.Tree as tree
-use Rattle.yq_nodes.specs.Entries.{EntryPieces, entry_pieces_at, inside}
+use Rattle.yq_nodes.specs.Entries.{EntryPieces, entry_pieces_at, path_inside}
 use Rattle.yq_nodes.specs.Entries as entries
-use Rattle.yq_nodes.specs.Nodes.{bare, Node, empty, alias, scalar, coll, anchored, Items, none, item, key_text, sep_text, open_of, node_text, items_text, IsNode}
-use Rattle.yq_nodes.specs.Trees.{inner, key_content, tree_of, items_tree, collection, with_name, node_head}
+use Rattle.yq_nodes.specs.Nodes.{bare, FlowNode, empty, alias, scalar, coll, anchored, Items, none, item, key_text, sep_text, opening_bracket, node_text, flow_items_text, IsFlowNode}
+use Rattle.yq_nodes.specs.Trees.{inner, key_content, tree_of, items_tree, tree_collection, with_name, node_head}
 use Rattle.yq_nodes.proofs.PathLaws.{path_holds}
 use Rattle.yq_cut.specs.Rows.{Content, Nothing, Inline, Block}
 use Rattle.yq_lines.specs.Lines.{head_of}
@@ -49,12 +49,12 @@ in_pieces k s before none behind = refl
 in_pieces k s before (item key n sep is) behind = go (is_here s (inner (key_content key))) (in_pieces k (further s) (before ++ key_text key (node_text n (sep_text sep []))) is behind)
   where
     go : (b : Bool) → option_map pieces (flow_in k (further s) (before ++ key_text key (node_text n (sep_text sep []))) is behind) ≡ entries.item_at k (further s) is behind →
-        option_map pieces (cond b (Some (record { before = before; key = key; node = n; behind = sep_text sep (items_text k is behind) })) (flow_in k (further s) (before ++ key_text key (node_text n (sep_text sep []))) is behind)) ≡
-        cond b (Some (record { key = key; node = n; rest = sep_text sep (items_text k is behind) })) (entries.item_at k (further s) is behind)
+        option_map pieces (cond b (Some (record { before = before; key = key; node = n; behind = sep_text sep (flow_items_text k is behind) })) (flow_in k (further s) (before ++ key_text key (node_text n (sep_text sep []))) is behind)) ≡
+        cond b (Some (record { key = key; node = n; rest = sep_text sep (flow_items_text k is behind) })) (entries.item_at k (further s) is behind)
     go b h1 = search rules
 
-pub under_pieces : (s : Step) (before : List ℕ) (node : Node) (behind : List ℕ) → option_map pieces (flow_under s before node behind) ≡ inside s node behind
-under_pieces s before (coll k gap is) behind = in_pieces k s (before ++ open_of k ∷ gap) is behind
+pub under_pieces : (s : Step) (before : List ℕ) (node : FlowNode) (behind : List ℕ) → option_map pieces (flow_under s before node behind) ≡ path_inside s node behind
+under_pieces s before (coll k gap is) behind = in_pieces k s (before ++ opening_bracket k ∷ gap) is behind
 under_pieces s before (anchored n gap node) behind = under_pieces s (before ++ 38 ∷ (n ++ gap)) node behind
 under_pieces s before x behind = refl
 
@@ -75,21 +75,21 @@ in_labels k s before (item key n sep is) behind = go (is_here s (inner (key_cont
   where
     go : (b : Bool) → labelled_at (further s) (items_tree is) ≡ option_map flow_label (flow_in k (further s) (before ++ key_text key (node_text n (sep_text sep []))) is behind) →
         cond b (Some (inner (key_content key), tree_of n)) (labelled_at (further s) (items_tree is)) ≡
-        option_map flow_label (cond b (Some (record { before = before; key = key; node = n; behind = sep_text sep (items_text k is behind) })) (flow_in k (further s) (before ++ key_text key (node_text n (sep_text sep []))) is behind))
+        option_map flow_label (cond b (Some (record { before = before; key = key; node = n; behind = sep_text sep (flow_items_text k is behind) })) (flow_in k (further s) (before ++ key_text key (node_text n (sep_text sep []))) is behind))
     go b h1 = search rules
 
-collection_children : (k : ℕ) (cs : tree.Children) → tree.children_of (collection k cs) ≡ cs
+collection_children : (k : ℕ) (cs : tree.Children) → tree.children_of (tree_collection k cs) ≡ cs
 collection_children k cs = search rules
 
 named_children : (a : List ℕ) (n : tree.Node) → tree.children_of (with_name a n) ≡ tree.children_of n
 named_children a n = search rules
 
-under_labels : (s : Step) (before : List ℕ) (node : Node) (behind : List ℕ) → labelled_at s (tree.children_of (tree_of node)) ≡ option_map flow_label (flow_under s before node behind)
+under_labels : (s : Step) (before : List ℕ) (node : FlowNode) (behind : List ℕ) → labelled_at s (tree.children_of (tree_of node)) ≡ option_map flow_label (flow_under s before node behind)
 unfolding tree_of
 under_labels s before empty behind = refl
 under_labels s before (alias n) behind = refl
 under_labels s before (scalar p) behind = refl
-under_labels s before (coll k gap is) behind = ap (labelled_at s) (collection_children k (items_tree is)) ∙ in_labels k s (before ++ open_of k ∷ gap) is behind
+under_labels s before (coll k gap is) behind = ap (labelled_at s) (collection_children k (items_tree is)) ∙ in_labels k s (before ++ opening_bracket k ∷ gap) is behind
 under_labels s before (anchored n gap node) behind = ap (labelled_at s) (named_children n (tree_of node)) ∙ under_labels s (before ++ 38 ∷ (n ++ gap)) node behind
 
 pub at_labels : (ss : List Step) (x : FlowEntry) → labelled_from ss (flow_label x) ≡ option_map flow_label (flow_at ss x)
@@ -100,14 +100,14 @@ at_labels (s ∷ ss) x = ap (option_and_then (labelled_from ss)) (under_labels s
         option_and_then (labelled_from ss) (option_map flow_label o) ≡ option_map flow_label (option_and_then (flow_at ss) o)
     go h1 o = search rules
 
-pub item_valid : (s : Step) (ss : List Step) (x y : FlowEntry) → flow_at (s ∷ ss) x ≡ Some y → IsValid x.node x.behind → (depth : ℕ) × IsNode true (Some 0) depth y.node y.behind
+pub item_valid : (s : Step) (ss : List Step) (x y : FlowEntry) → flow_at (s ∷ ss) x ≡ Some y → IsValid x.node x.behind → (depth : ℕ) × IsFlowNode true (Some 0) depth y.node y.behind
 item_valid s ss x y e v = let k = path_holds v.0 v.1 v.2 s ss (pieces x) (pieces y) v.3 (sym (at_pieces (s ∷ ss) x) ∙ ap (option_map pieces) e) in (k.0, k.2)
 
 -- the tree of a node by its head
 pub named_is : (a : List ℕ) (n : tree.Node) → with_name a n ≡ outlines.anchored (Some a) n
 named_is a x = refl
 
-pub head_tree : (node : Node) (h : tree.Node) → node_head node ≡ Some h → (a : Option (List ℕ)) × (tree_of node ≡ outlines.anchored a h)
+pub head_tree : (node : FlowNode) (h : tree.Node) → node_head node ≡ Some h → (a : Option (List ℕ)) × (tree_of node ≡ outlines.anchored a h)
 unfolding tree_of
 head_tree empty h e = absurd (none-some _ e)
 head_tree (alias n) h e = (None, same_Some _ _ e ∙ none_anchored h)
@@ -142,10 +142,10 @@ head_there ls y ys t ts f is fine =
 -- An item in a line's head is at its path, and is valid.
 pub record IsItemAt (ss : List Step) (f : FoundLine) (y : FlowEntry) : Type 0 where
   pub labelled : labelled_from ss (entry_of f.line f.under) ≡ Some (flow_label y)
-  pub valid : (depth : ℕ) × IsNode true (Some 0) depth y.node y.behind
+  pub valid : (depth : ℕ) × IsFlowNode true (Some 0) depth y.node y.behind
 
 content_valid : (t : Step) (ts : List Step) (before : List ℕ) (c : Content) (rest : List ℕ) (x y : FlowEntry) → content_inline before c rest ≡ Some x → flow_at (t ∷ ts) x ≡ Some y → IsWritten c rest →
-    (depth : ℕ) × IsNode true (Some 0) depth y.node y.behind
+    (depth : ℕ) × IsFlowNode true (Some 0) depth y.node y.behind
 content_valid t ts before c rest x y h1 h2 h3 = search (rules, at, none-some, item_valid, same_Some)
 
 pub head_item_at : (s : PrintedDocument) (t : Step) (ts : List Step) (e : BlockEntry) (f : FoundLine) (h : tree.Node) (x y : FlowEntry) → IsFound s e f → f.line.head ≡ Some h → line_inline e ≡ Some x →

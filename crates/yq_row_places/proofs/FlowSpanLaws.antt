@@ -4,7 +4,7 @@ use Rattle.std.proofs.lemmas.Option.{same_Some}
 use Rattle.std.specs.List.{slice_get}
 use Rattle.std.specs.Str.{IsUtf8}
 use Rattle.yq_flow_scalars.specs.Paths.{Step, is_here, further}
-use Rattle.yq_nodes.specs.Entries.{PlacedEntry, EntryPieces, parts_of, part_at, placed_entry_at, content_place, end_of, entry_start, entry_place, locate_entry, entry_pieces_at}
+use Rattle.yq_nodes.specs.Entries.{PlacedEntry, EntryPieces, parts_of, flow_part_at, placed_entry_at, content_place, end_of, entry_start, entry_place, locate_entry, entry_pieces_at}
 use Rattle.yq_nodes.specs.Nodes.{Key, bare, empty, node_text, key_text}
 use Rattle.yq_nodes.specs.Places.{Placed, Parts, end, part, key_placed, locate}
 use Rattle.yq_nodes.specs.Spans.{IsSpan, HasKeySpan, HasSpans, PartsHaveSpans}
@@ -27,18 +27,18 @@ EntrySpans t e = HasKeySpan t e.0 × HasSpans t e.1
 parts_spans : (t : List ℕ) (p : Placed) → HasSpans t p → PartsHaveSpans t (parts_of p)
 parts_spans t p h1 = search rules
 
-part_spans : (t : List ℕ) (s : Step) (ps : Parts) (e : PlacedEntry) → PartsHaveSpans t ps → part_at s ps ≡ Some e → EntrySpans t e
+part_spans : (t : List ℕ) (s : Step) (ps : Parts) (e : PlacedEntry) → PartsHaveSpans t ps → flow_part_at s ps ≡ Some e → EntrySpans t e
 part_spans t s end e h is = absurd (cc)
 part_spans t s (part key n ps) e h is = go (is_here s (inner (unplaced_key key))) (λ again. part_spans t (further s) ps e h.2 again) is
   where
-    go : (b : Bool) → (part_at (further s) ps ≡ Some e → EntrySpans t e) → cond b (Some (key, n)) (part_at (further s) ps) ≡ Some e → EntrySpans t e
+    go : (b : Bool) → (flow_part_at (further s) ps ≡ Some e → EntrySpans t e) → cond b (Some (key, n)) (flow_part_at (further s) ps) ≡ Some e → EntrySpans t e
     go b h1 h2 = search (rules, same_Some)
 
 pub entry_spans : (t : List ℕ) (ss : List Step) (slot e : PlacedEntry) → EntrySpans t slot → placed_entry_at ss slot ≡ Some e → EntrySpans t e
 entry_spans t [] slot e h is = subst (EntrySpans t) (same_Some _ _ is) h
-entry_spans t (s ∷ ss) slot e h is = go (part_at s (parts_of slot.1)) refl (λ x k again. entry_spans t ss x e k again) is
+entry_spans t (s ∷ ss) slot e h is = go (flow_part_at s (parts_of slot.1)) refl (λ x k again. entry_spans t ss x e k again) is
   where
-    go : (o : Option PlacedEntry) → part_at s (parts_of slot.1) ≡ o → ((x : PlacedEntry) → EntrySpans t x → placed_entry_at ss x ≡ Some e → EntrySpans t e) → option_and_then (placed_entry_at ss) o ≡ Some e → EntrySpans t e
+    go : (o : Option PlacedEntry) → flow_part_at s (parts_of slot.1) ≡ o → ((x : PlacedEntry) → EntrySpans t x → placed_entry_at ss x ≡ Some e → EntrySpans t e) → option_and_then (placed_entry_at ss) o ≡ Some e → EntrySpans t e
     go o h1 h2 h3 = search (rules, part_spans, parts_spans)
 
 -- an item or entry ends behind where it begins

@@ -1,8 +1,8 @@
 -- The spans of items and entries in flow.
 use Rattle.std.proofs.Common.{◌≡◌, ℕ, ◌+◌, ◌-◌, List, [], ◌∷◌, ◌++◌, length, option_map, refl, sym, ap, ◌∙◌, arith, append_assoc, length-append, rules}
 use Rattle.yq_nodes.specs.Entries.{entry_place, content_place, locate_entry}
-use Rattle.yq_nodes.specs.Nodes.{Key, bare, keyed, Node, empty, alias, scalar, coll, anchored, key_text, node_text}
-use Rattle.yq_nodes.specs.Places.{Placed, placed, locate, with_anchor}
+use Rattle.yq_nodes.specs.Nodes.{Key, bare, keyed, FlowNode, empty, alias, scalar, coll, anchored, key_text, node_text}
+use Rattle.yq_nodes.specs.Places.{Placed, placed, locate, anchored_node}
 use Rattle.yq_nodes.proofs.WrittenLaws.{key_append, node_then}
 use Rattle.yq_nodes.proofs.EditPlaces.{start_placed, end_placed}
 use Rattle.yq_documents.specs.Pieces.{piece_span, node_piece}
@@ -27,10 +27,10 @@ item_place y total e = (λ i. (start y.key refl i, stop i))
     stop : (entry_place (locate_entry total (pieces y))).1 ≡ length y.before + length (key_text y.key (node_text y.node []))
     stop = end_placed total y.node y.behind ∙ omega (arith, e, text, split)
 
-pub anchor_place : (n : List ℕ) (start : ℕ) (p : Placed) → content_place (with_anchor n start p) ≡ content_place p
+pub anchor_place : (n : List ℕ) (start : ℕ) (p : Placed) → content_place (anchored_node n start p) ≡ content_place p
 anchor_place n start (placed a s c e f) = refl
 
-pub node_place : (total : ℕ) (before : List ℕ) (node : Node) (rest : List ℕ) → total ≡ length (before ++ node_text node rest) → content_place (locate total node rest) ≡ option_map piece_span (node_piece before node rest)
+pub node_place : (total : ℕ) (before : List ℕ) (node : FlowNode) (rest : List ℕ) → total ≡ length (before ++ node_text node rest) → content_place (locate total node rest) ≡ option_map piece_span (node_piece before node rest)
 unfolding locate node_text
 node_place total before empty rest e = refl
 node_place total before (alias n) rest e = search (rules, length-append, node_then)

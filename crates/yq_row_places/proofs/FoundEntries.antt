@@ -8,7 +8,7 @@ use Rattle.yq_flow_scalars.specs.Answers.{◌>>=◌}
 use Rattle.yq_flow_scalars.specs.Paths.{Step}
 use Rattle.yq_flow_scalars.proofs.Bools.{bind_some}
 use Rattle.yq_lines.specs.Group.{group}
-use Rattle.yq_lines.specs.Outline.{Line, flatten, Mark, Outline, IsWhole}
+use Rattle.yq_lines.specs.Outline.{Line, flatten, LineMark, Outline, IsWhole}
 use Rattle.yq_lines.specs.Places.{lines_before, lines_after, FoundLine, find}
 use Rattle.yq_flow_scalars.specs.Tree.{Node}
 use Rattle.yq_lines.proofs.LabelPaths.{HasHead}
@@ -24,7 +24,7 @@ pub middle : (xs ys : List Line) (l : Line) → slice_get (xs ++ (l ∷ ys)) (le
 middle [] ys l = refl
 middle (x ∷ xs) ys l = middle xs ys l
 
-pub some_head : (t : Step) (ts : List Step) (m : Mark) (h : Option Node) (after : Outline) → HasHead (t ∷ ts) m h → IsWhole m h after → (n : Node) × (h ≡ Some n)
+pub some_head : (t : Step) (ts : List Step) (m : LineMark) (h : Option Node) (after : Outline) → HasHead (t ∷ ts) m h → IsWhole m h after → (n : Node) × (h ≡ Some n)
 some_head t ts m h after h1 h2 = search rules
 
 -- ---- the entries of lines that were found

@@ -8,8 +8,8 @@ use Rattle.yq_flow_scalars.specs.Paths.{Step, is_here, further}
 use Rattle.yq_flow_scalars.specs.Tree.{Node}
 use Rattle.yq_lines.specs.Ends.{part}
 use Rattle.yq_lines.specs.Group.{group}
-use Rattle.yq_lines.specs.Outline.{Mark, Bare, Key, Dash, Line, level, Outline, end, row, flatten, label}
-use Rattle.yq_lines.specs.Places.{Context, here, below, beside, compose, lines_before, FoundLine, next_to, find_row, inside, in_head, bare_or, find}
+use Rattle.yq_lines.specs.Outline.{LineMark, Bare, Key, Dash, Line, level, Outline, end, row, flatten, label}
+use Rattle.yq_lines.specs.Places.{Context, here, below, beside, compose, lines_before, FoundLine, next_to, find_row, place_inside, in_head, bare_or, find}
 use Rattle.yq_lines.proofs.LineEnds.{end_counted}
 use Rattle.yq_lines.proofs.NameLaws.{part-all}
 use Rattle.yq_lines.proofs.EndsLaws.{part_stop, row_parts}
@@ -80,14 +80,14 @@ before_inside here q l a = refl
 before_inside (below k p b) q l a = ap (λ (x : List Line). k ∷ x) (before_inside p q l a)
 before_inside (beside k v p) q l a = ap (λ (x : List Line). k ∷ x) (ap (λ (x : List Line). flatten v ++ x) (before_inside p q l a) ∙ sym (append_assoc (flatten v) (lines_before p) (l ∷ lines_before q)))
 
-pub inside_number : (first : ℕ) (f g : FoundLine) → first + length (lines_before (inside f g).place) ≡ ((first + length (lines_before f.place)) + 1) + length (lines_before g.place)
+pub inside_number : (first : ℕ) (f g : FoundLine) → first + length (lines_before (place_inside f g).place) ≡ ((first + length (lines_before f.place)) + 1) + length (lines_before g.place)
 inside_number first f g = omega (arith, ap length (before_inside f.place g.place f.line f.after), length-append (lines_before f.place) (f.line ∷ lines_before g.place))
 
 path_found : (s : Step) (ss : List Step) (o : Outline) (ls : List Line) (first floor : ℕ) → part ls first floor ≡ o → If (find s ss o) (λ x. IsFound ls first x.0)
 path_found s ss end ls first floor e = tt
 path_found s [] (row l u a) ls first floor e = go l.mark (find_row s (row l u a)) (row_found s (row l u a) ls first floor e)
   where
-    go : (m : Mark) (r : Option FoundLine) → If r (IsFound ls first) → If (bare_or m (Some (record { place = here; line = l; under = u; after = a }, s ∷ [])) (option_map (λ f. (f, [])) r)) (λ x. IsFound ls first x.0)
+    go : (m : LineMark) (r : Option FoundLine) → If r (IsFound ls first) → If (bare_or m (Some (record { place = here; line = l; under = u; after = a }, s ∷ [])) (option_map (λ f. (f, [])) r)) (λ x. IsFound ls first x.0)
     go Bare r h = found_first ls first floor l u a (first_is ls first floor l u a e)
     go (Key k) (Some f) h = h
     go Dash (Some f) h = h
@@ -95,17 +95,17 @@ path_found s [] (row l u a) ls first floor e = go l.mark (find_row s (row l u a)
 path_found s (t ∷ ts) (row l u a) ls first floor e = go (λ v n deep is. path_found t ts v ls n deep is) l.mark (find_row s (row l u a)) (row_found s (row l u a) ls first floor e)
   where
     under : (f : FoundLine) (h : Option Node) → IsFound ls first f → (q : Option (FoundLine × List Step)) → If q (λ x. IsFound ls ((first + length (lines_before f.place)) + 1) x.0) →
-        If (in_head h (Some (f, t ∷ ts)) (option_map (λ x. (inside f x.0, x.1)) q)) (λ x. IsFound ls first x.0)
+        If (in_head h (Some (f, t ∷ ts)) (option_map (λ x. (place_inside f x.0, x.1)) q)) (λ x. IsFound ls first x.0)
     under f (Some n) found_it q h = found_it
     under f None found_it None h = tt
-    under f None found_it (Some x) h = found_on ls _ first x.0 (inside f x.0) refl refl (sym (inside_number first f x.0)) h
+    under f None found_it (Some x) h = found_on ls _ first x.0 (place_inside f x.0) refl refl (sym (inside_number first f x.0)) h
 
-    found : ((v : Outline) (n deep : ℕ) → part ls n deep ≡ v → If (find t ts v) (λ x. IsFound ls n x.0)) → (r : Option FoundLine) → If r (IsFound ls first) → If (option_and_then (λ f. in_head f.line.head (Some (f, t ∷ ts)) (option_map (λ x. (inside f x.0, x.1)) (find t ts f.under))) r) (λ x. IsFound ls first x.0)
+    found : ((v : Outline) (n deep : ℕ) → part ls n deep ≡ v → If (find t ts v) (λ x. IsFound ls n x.0)) → (r : Option FoundLine) → If r (IsFound ls first) → If (option_and_then (λ f. in_head f.line.head (Some (f, t ∷ ts)) (option_map (λ x. (place_inside f x.0, x.1)) (find t ts f.under))) r) (λ x. IsFound ls first x.0)
     found again None h = tt
     found again (Some f) h = under f f.line.head h (find t ts f.under) (again f.under ((first + length (lines_before f.place)) + 1) (level f.line) (sym h.under))
 
-    go : ((v : Outline) (n deep : ℕ) → part ls n deep ≡ v → If (find t ts v) (λ x. IsFound ls n x.0)) → (m : Mark) (r : Option FoundLine) → If r (IsFound ls first) →
-        If (bare_or m (Some (record { place = here; line = l; under = u; after = a }, s ∷ (t ∷ ts))) (option_and_then (λ f. in_head f.line.head (Some (f, t ∷ ts)) (option_map (λ x. (inside f x.0, x.1)) (find t ts f.under))) r)) (λ x. IsFound ls first x.0)
+    go : ((v : Outline) (n deep : ℕ) → part ls n deep ≡ v → If (find t ts v) (λ x. IsFound ls n x.0)) → (m : LineMark) (r : Option FoundLine) → If r (IsFound ls first) →
+        If (bare_or m (Some (record { place = here; line = l; under = u; after = a }, s ∷ (t ∷ ts))) (option_and_then (λ f. in_head f.line.head (Some (f, t ∷ ts)) (option_map (λ x. (place_inside f x.0, x.1)) (find t ts f.under))) r)) (λ x. IsFound ls first x.0)
     go again Bare r h = found_first ls first floor l u a (first_is ls first floor l u a e)
     go again x r h = found again r h
 

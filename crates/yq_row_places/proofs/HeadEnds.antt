@@ -6,7 +6,7 @@ use Rattle.std.specs.List.{slice_get}
 use Rattle.yq_text.specs.Limit.{text_limit}
 use Rattle.yq_flow_scalars.specs.Piece.{deeper}
 use Rattle.yq_nodes.specs.Inline.{depth_limit}
-use Rattle.yq_nodes.specs.Nodes.{Node, node_text, takes_anchor, IsNode}
+use Rattle.yq_nodes.specs.Nodes.{FlowNode, node_text, takes_anchor, IsFlowNode}
 use Rattle.yq_nodes.specs.Scalars.{IsScalarAt}
 use Rattle.yq_nodes.proofs.PieceLaws.{front_not, scalar_begins}
 use Rattle.yq_cut.specs.Exchange.{behind_row}
@@ -18,7 +18,7 @@ use Rattle.yq_lines.specs.Extents.{row_start, front_length, head_place, IsRowsVi
 use Rattle.yq_documents.specs.RowReading.{is_block_head}
 use Rattle.yq_documents.proofs.HeadLaws.{block_marks}
 use Rattle.yq_lines.proofs.LengthLaws.{row_fits, view_small}
-use Rattle.yq_row_places.specs.EntryReading.{ending, head_end, head_extent, through_row, head_finish}
+use Rattle.yq_row_places.specs.EntryReading.{row_ending, head_end, head_extent, through_row, head_finish}
 use Rattle.yq_row_places.proofs.RowStarts.{head_is, row_ends}
 
 -- ---- a row by its pieces
@@ -38,12 +38,12 @@ Opens b = (t : List ℕ) → is_block_head (b ∷ t) ≡ false
 opens : (k : ℕ) → Opens (cond (eqb k 125) 123 91)
 opens k = cond_both (eqb k 125) 123 91 Opens (λ _ t. refl) (λ _ t. refl)
 
-behind_anchor : (n : ℤ) (node : Node) (rest : List ℕ) → takes_anchor node ≡ true → IsNode false (Some (deeper n)) depth_limit node rest → is_block_head (node_text node []) ≡ false
-unfolding node_text IsNode
+behind_anchor : (n : ℤ) (node : FlowNode) (rest : List ℕ) → takes_anchor node ≡ true → IsFlowNode false (Some (deeper n)) depth_limit node rest → is_block_head (node_text node []) ≡ false
+unfolding node_text IsFlowNode
 behind_anchor n node rest h1 h2 = search (rules, append-nil, scalar_begins_none, opens, false≢true)
 
-pub node_begins : (n : ℤ) (node : Node) (rest : List ℕ) → IsNode false (Some (deeper n)) depth_limit node rest → is_block_head (anchor_cut node).2 ≡ false
-unfolding node_text IsNode
+pub node_begins : (n : ℤ) (node : FlowNode) (rest : List ℕ) → IsFlowNode false (Some (deeper n)) depth_limit node rest → is_block_head (anchor_cut node).2 ≡ false
+unfolding node_text IsFlowNode
 node_begins n node rest h1 = search (rules, append-nil, scalar_begins_none, opens, behind_anchor)
 
 content_ends : (n : ℤ) (end : ℕ) (x : Content) (rest : List ℕ) → IsContent n x rest → cond (is_block_head (content_cut x).3) (end + length (content_cut x).4 + length (content_cut x).5) end ≡ head_end end x
@@ -66,5 +66,5 @@ pub head_agrees : (t : List ℕ) (c : Cut) (s : RowsView) (i : ℕ) (x : Slices)
 head_agrees t c s i x r place end cut is there row at e = search (rules, slice_get-map, same_Some, head_ends)
 
 -- the end of a row
-pub end_agrees : (c : Cut) (s : RowsView) (i : ℕ) (x : Slices) (r : Row) (place : ℕ × ℕ) (n : ℕ) → s ≡ rows_view c → slice_get s.rows i ≡ Some x → slice_get (rows_of c) i ≡ Some r → place ≡ head_place i c r → n ≡ length (ending x) → place.1 + n ≡ length (through_row i r c)
+pub end_agrees : (c : Cut) (s : RowsView) (i : ℕ) (x : Slices) (r : Row) (place : ℕ × ℕ) (n : ℕ) → s ≡ rows_view c → slice_get s.rows i ≡ Some x → slice_get (rows_of c) i ≡ Some r → place ≡ head_place i c r → n ≡ length (row_ending x) → place.1 + n ≡ length (through_row i r c)
 end_agrees c s i x r place n is there row at e = search (rules, slice_get-map, same_Some, row_ends)

@@ -5,11 +5,11 @@ use Rattle.std.proofs.lemmas.Bool.{false≢true, and_parts}
 use Rattle.std.specs.List.{slice_get}
 use Rattle.std.specs.Str.{IsUtf8, IsCharBoundary}
 use Rattle.yq_block_scalars.specs.declared.block_header.BlockStyle.{BlockStyle}
-use Rattle.yq_block_scalars.specs.Block.{mark_of}
+use Rattle.yq_block_scalars.specs.Block.{style_indicator}
 use Rattle.yq_nodes.specs.Entries.{end_of}
 use Rattle.yq_nodes.specs.Inline.{IsInlineAt}
-use Rattle.yq_nodes.specs.Nodes.{Node, node_text, IsNode}
-use Rattle.yq_nodes.specs.Places.{Placed, placed, with_anchor, locate}
+use Rattle.yq_nodes.specs.Nodes.{FlowNode, node_text, IsFlowNode}
+use Rattle.yq_nodes.specs.Places.{Placed, placed, anchored_node, locate}
 use Rattle.yq_nodes.specs.Spans.{IsSpan, HasSpans}
 use Rattle.yq_nodes.proofs.NodeAgain.{is_anchored, takes_unanchored}
 use Rattle.yq_nodes.proofs.SpanLaws.{inline_spans}
@@ -17,7 +17,7 @@ use Rattle.yq_nodes.proofs.WrittenLaws.{node_then}
 use Rattle.yq_nodes.proofs.EditPlaces.{end_placed}
 use Rattle.yq_cut.specs.Exchange.{before_content, behind_row, with_content, allows_first}
 use Rattle.yq_cut.specs.Grammar.{IsContent, AreDashes, IsMark, is_entry, IsCut, unlimited, limit_after}
-use Rattle.yq_cut.specs.Rows.{Mark, Content, Inline, Block, mark_text, dashes_text, Row, parent_indent, Cut, cut_text}
+use Rattle.yq_cut.specs.Rows.{RowMark, Content, Inline, Block, mark_text, dashes_text, Row, parent_indent, Cut, cut_text}
 use Rattle.yq_cut.specs.View.{Slices, anchor_cut, content_cut, slices, rows_of}
 use Rattle.yq_cut.proofs.NodePieces.{BeginsAscii, tail_ascii, before_ascii, node_pieces}
 use Rattle.yq_cut.proofs.PlaceLaws.{place, row_in}
@@ -36,30 +36,30 @@ use Rattle.yq_row_places.proofs.StartLaws.{front_in}
 abbrev core_of : Placed → ℕ
 core_of (placed a s c e f) = c
 
-anchor_core : (n : List ℕ) (start : ℕ) (p : Placed) → core_of (with_anchor n start p) ≡ core_of p
+anchor_core : (n : List ℕ) (start : ℕ) (p : Placed) → core_of (anchored_node n start p) ≡ core_of p
 anchor_core n start (placed a s c e f) = refl
 
-unnamed_core : (total : ℕ) (node : Node) (rest : List ℕ) → is_anchored node ≡ false → core_of (locate total node rest) ≡ total - length (node_text node [] ++ rest)
+unnamed_core : (total : ℕ) (node : FlowNode) (rest : List ℕ) → is_anchored node ≡ false → core_of (locate total node rest) ≡ total - length (node_text node [] ++ rest)
 unfolding locate
 unnamed_core total node rest h1 = search (rules, node_then, false≢true)
 
-node_core : (flow : Bool) (spaces : Option ℕ) (d total : ℕ) (node : Node) (rest : List ℕ) → IsNode flow spaces d node rest → core_of (locate total node rest) ≡ total - length ((anchor_cut node).2 ++ rest)
-unfolding locate IsNode node_text
+node_core : (flow : Bool) (spaces : Option ℕ) (d total : ℕ) (node : FlowNode) (rest : List ℕ) → IsFlowNode flow spaces d node rest → core_of (locate total node rest) ≡ total - length ((anchor_cut node).2 ++ rest)
+unfolding locate IsFlowNode node_text
 node_core flow spaces d total node rest h1 = search (rules, unnamed_core, anchor_core, takes_unanchored)
 
 core_span : (t : List ℕ) (p : Placed) → HasSpans t p → IsSpan t (core_of p) (end_of p)
 core_span t (placed a s c e f) h = h.1
 
 -- where a row's inline node begins, with its anchor
-bare_front : (ns : List ℕ) (m : Mark) → is_entry m ≡ false → AreDashes ns m → dashes_text ns (mark_text m []) ≡ []
+bare_front : (ns : List ℕ) (m : RowMark) → is_entry m ≡ false → AreDashes ns m → dashes_text ns (mark_text m []) ≡ []
 bare_front [] rows.Bare e h = refl
 bare_front (n ∷ ns) m e h = absurd (false≢true (sym e ∙ h.1))
 bare_front [] x e h = absurd (false≢true (sym e))
 
-bare_space : (m : Mark) (space : List ℕ) (node : Node) (tail rest : List ℕ) → is_entry m ≡ false → IsMark m (Inline space node tail) rest → space ≡ []
+bare_space : (m : RowMark) (space : List ℕ) (node : FlowNode) (tail rest : List ℕ) → is_entry m ≡ false → IsMark m (Inline space node tail) rest → space ≡ []
 bare_space m space node tail rest h1 h2 = search (rules, empty_is, and_parts, false≢true)
 
-pub mark_ascii : (style : BlockStyle) → mark_of style < 128
+pub mark_ascii : (style : BlockStyle) → style_indicator style < 128
 mark_ascii style = search rules
 
 regroup : (a b c d e x : List ℕ) → (a ++ (b ++ (c ++ (d ++ e)))) ++ x ≡ (a ++ (b ++ (c ++ d))) ++ (e ++ x)
@@ -77,7 +77,7 @@ module _ (c : Cut) (i : ℕ) (r : Row) (u : IsUtf8 (cut_text c)) (cut : IsCut (c
   holds : IsContent (parent_indent r) r.content (behind_row i c)
   holds = (row_in c i true r cut.parts is).row.content
 
-  node_boundary : (space : List ℕ) (node : Node) (tail : List ℕ) → r.content ≡ Inline space node tail → (b : Bool) → is_entry r.mark ≡ b → IsCharBoundary (cut_text c) (length (before_content i c ++ space))
+  node_boundary : (space : List ℕ) (node : FlowNode) (tail : List ℕ) → r.content ≡ Inline space node tail → (b : Bool) → is_entry r.mark ≡ b → IsCharBoundary (cut_text c) (length (before_content i c ++ space))
   node_boundary space node tail content true entry = (node_pieces (cut_text c) c i r space node tail cut u is content (inl entry)).start
   node_boundary space node tail content false alone =
       let row = (row_in c i true r cut.parts is).row in
@@ -87,7 +87,7 @@ module _ (c : Cut) (i : ℕ) (r : Row) (u : IsUtf8 (cut_text c)) (cut : IsCut (c
       omega (arith, front_in i c r is, length-append {A = ℕ}, ap length none, ap length (bare_front r.dashes r.mark alone row.dashes)) in
       subst (IsCharBoundary (cut_text c)) same (line_boundary c i 0 r u cut.parts is)
 
-  pub node_spans : (space : List ℕ) (node : Node) (tail : List ℕ) → r.content ≡ Inline space node tail → HasSpans (cut_text c) (locate (length (cut_text c)) node (tail ++ behind_row i c))
+  pub node_spans : (space : List ℕ) (node : FlowNode) (tail : List ℕ) → r.content ≡ Inline space node tail → HasSpans (cut_text c) (locate (length (cut_text c)) node (tail ++ behind_row i c))
   node_spans space node tail content =
       let before : List ℕ = before_content i c ++ space in
       let rest : List ℕ = tail ++ behind_row i c in
@@ -124,7 +124,7 @@ module _ (c : Cut) (i : ℕ) (r : Row) (u : IsUtf8 (cut_text c)) (cut : IsCut (c
       subst (IsCharBoundary (cut_text c)) (omega (arith, tail_length, length-append before last, length-append s.tail (s.raw ++ []), length-append s.raw []))
       (subst (λ (q : List ℕ). IsCharBoundary q (length (before ++ last))) (sym whole) (seam_boundary (before ++ last) (behind_row i c) (subst IsUtf8 whole u) (ended_seam (before ++ last) (behind_row i c) (ended_after before last (behind_row i c) ended))))
 
-  inline_span : (space : List ℕ) (node : Node) (tail : List ℕ) → r.content ≡ Inline space node tail → IsSpan (cut_text c) start (start + length (slices r).head)
+  inline_span : (space : List ℕ) (node : FlowNode) (tail : List ℕ) → r.content ≡ Inline space node tail → IsSpan (cut_text c) start (start + length (slices r).head)
   inline_span space node tail content =
       let s : Slices = slices r in
       let total : ℕ = length (cut_text c) in
@@ -155,5 +155,5 @@ module _ (c : Cut) (i : ℕ) (r : Row) (u : IsUtf8 (cut_text c)) (cut : IsCut (c
 pub free_first : (rs : List Row) → allows_first unlimited rs ≡ true
 free_first rs = search rules
 
-pub may_follow : (r : Row) (space : List ℕ) (new : Node) (tail : List ℕ) (rs : List Row) → allows_first (record { column = Some (deeper (parent_indent r)) }) rs ≡ true → allows_first (limit_after (with_content (Inline space new tail) r)) rs ≡ true
+pub may_follow : (r : Row) (space : List ℕ) (new : FlowNode) (tail : List ℕ) (rs : List Row) → allows_first (record { column = Some (deeper (parent_indent r)) }) rs ≡ true → allows_first (limit_after (with_content (Inline space new tail) r)) rs ≡ true
 may_follow r space new tail rs h = search rules

@@ -6,10 +6,10 @@ use Rattle.yq_flow_scalars.specs.Answers.{◌>>=◌}
 use Rattle.yq_flow_scalars.specs.Paths.{Step}
 use Rattle.yq_flow_scalars.specs.Tree.{Node}
 use Rattle.yq_lines.specs.Group.{group}
-use Rattle.yq_lines.specs.Outline.{Mark, Bare, Key, Dash, Line, Outline, end, row}
-use Rattle.yq_lines.specs.Places.{Context, here, below, beside, compose, FoundLine, bare_or, find_row, in_head, inside}
+use Rattle.yq_lines.specs.Outline.{LineMark, Bare, Key, Dash, Line, Outline, end, row}
+use Rattle.yq_lines.specs.Places.{Context, here, below, beside, compose, FoundLine, bare_or, find_row, in_head, place_inside}
 use Rattle.yq_row_places.specs.FlowNodes.{bare_line, find_head, head_line}
-use Rattle.yq_row_places.specs.NodeReading.{head_at}
+use Rattle.yq_row_places.specs.NodeReading.{head_line_of}
 use Rattle.yq_row_places.proofs.FlowViewLaws.{head_found, numbered}
 
 abbrev Reached : Type 0
@@ -17,25 +17,25 @@ Reached = FoundLine × List Step
 
 -- a line under another one, with the steps that go on in its head
 abbrev within : FoundLine → Reached → Reached
-within f x = (inside f x.0, x.1)
+within f x = (place_inside f x.0, x.1)
 
 compose_twice : (p q r : Context) → compose (compose p q) r ≡ compose p (compose q r)
 compose_twice here q r = refl
 compose_twice (below l p a) q r = ap (λ x. below l x a) (compose_twice p q r)
 compose_twice (beside l u p) q r = ap (beside l u) (compose_twice p q r)
 
-inside_twice : (f g b : FoundLine) → inside (inside f g) b ≡ inside f (inside g b)
+inside_twice : (f g b : FoundLine) → place_inside (place_inside f g) b ≡ place_inside f (place_inside g b)
 inside_twice f g b = ap (λ (p : Context). record b { place = p }) (compose_twice f.place (below f.line g.place f.after) (below g.line b.place g.after))
 
 -- the line in whose head a node stands, under another line
-head_inside : (f : FoundLine) (x : Reached) → head_line (inside f x.0) x.1 ≡ option_map (within f) (head_line x.0 x.1)
+head_inside : (f : FoundLine) (x : Reached) → head_line (place_inside f x.0) x.1 ≡ option_map (within f) (head_line x.0 x.1)
 head_inside f (g, s ∷ ss) = refl
 head_inside f (g, []) = go g.line.head (bare_line g.under)
   where
-    go : (h : Option Node) (o : Option FoundLine) → in_head h (Some (inside f g, [])) (option_map {U = Reached} (λ b. (inside (inside f g) b, [])) o) ≡ option_map (within f) (in_head h (Some (g, [])) (option_map {U = Reached} (λ b. (inside g b, [])) o))
+    go : (h : Option Node) (o : Option FoundLine) → in_head h (Some (place_inside f g, [])) (option_map {U = Reached} (λ b. (place_inside (place_inside f g) b, [])) o) ≡ option_map (within f) (in_head h (Some (g, [])) (option_map {U = Reached} (λ b. (place_inside g b, [])) o))
     go h o = search (rules, inside_twice)
 
-all_inside : (f : FoundLine) (r : Option Reached) → (option_map {U = Reached} (λ x. (inside f x.0, x.1)) r >>= λ x. head_line x.0 x.1) ≡ option_map (within f) (r >>= λ x. head_line x.0 x.1)
+all_inside : (f : FoundLine) (r : Option Reached) → (option_map {U = Reached} (λ x. (place_inside f x.0, x.1)) r >>= λ x. head_line x.0 x.1) ≡ option_map (within f) (r >>= λ x. head_line x.0 x.1)
 all_inside f r = search (rules, head_inside)
 
 -- ---- one step
@@ -92,7 +92,7 @@ stem_found (s ∷ ss) (row l u a) y e = go l.mark refl (find_row s (row l u a)) 
     })
     entry f all None is again e = under f all is (find_head ss f.under) refl again e
 
-    go : (m : Mark) → l.mark ≡ m → (r : Option FoundLine) → find_row s (row l u a) ≡ r → Stems ss → bare_or m (Some (first l u a, s ∷ ss)) (option_and_then (on_from ss) r) ≡ Some y → HasStem (s ∷ ss) (row l u a) y
+    go : (m : LineMark) → l.mark ≡ m → (r : Option FoundLine) → find_row s (row l u a) ≡ r → Stems ss → bare_or m (Some (first l u a, s ∷ ss)) (option_and_then (on_from ss) r) ≡ Some y → HasStem (s ∷ ss) (row l u a) y
     go Bare is r found again e = search (rules, same_Some, first_leads)
     go (Key k) is None found again e = absurd (none-some _ e)
     go (Key k) is (Some f) found again e =
@@ -105,9 +105,9 @@ stem_found (s ∷ ss) (row l u a) y e = go l.mark refl (find_row s (row l u a)) 
 pub record HasStemAt (steps : List Step) (ls : List Line) (x : ℕ × List Step) : Type 0 where
   pub stem : List Step
   pub steps_are : steps ≡ stem ++ x.1
-  pub leads : (left : List Step) → head_at (stem ++ left) ls ≡ Some (x.0, left)
+  pub leads : (left : List Step) → head_line_of (stem ++ left) ls ≡ Some (x.0, left)
 
-pub stem_at : (steps : List Step) (ls : List Line) (x : ℕ × List Step) → head_at steps ls ≡ Some x → HasStemAt steps ls x
+pub stem_at : (steps : List Step) (ls : List Line) (x : ℕ × List Step) → head_line_of steps ls ≡ Some x → HasStemAt steps ls x
 stem_at steps ls x e = go (find_head steps (group ls)) refl (head_found ls steps ∙ e)
   where
     go : (r : Option Reached) → find_head steps (group ls) ≡ r → option_map numbered r ≡ Some x → HasStemAt steps ls x

@@ -15,7 +15,7 @@ use Rattle.yq_cut.specs.View.{Slices, slices, content_cut, rows_of, RowsView, ro
 use Rattle.yq_lines.proofs.PathLines.{last_line}
 use Rattle.yq_lines.proofs.WalkPositions.{located}
 use Rattle.yq_lines.specs.Extents.{front_length, head_place, lines_before_mark}
-use Rattle.yq_lines.specs.Lines.{lines_of}
+use Rattle.yq_lines.specs.Lines.{lines_of_rows}
 use Rattle.yq_lines.specs.RowWalk.{HasRows, deeper_rows, line_level, line_number, stretch_view}
 use Rattle.yq_lines.specs.declared.line_position.Position.{Position}
 use Rattle.yq_lines.specs.declared.line_position.Stretch.{Stretch}
@@ -23,10 +23,10 @@ use Rattle.yq_documents.specs.LinesInRows.{row_line_of}
 use Rattle.yq_documents.specs.Reading.{all_documents, cut_of}
 use Rattle.yq_documents.specs.RowReading.{is_block_head}
 use Rattle.yq_documents.proofs.HeadLaws.{block_marks}
-use Rattle.yq_row_places.specs.CommentPlaces.{line_text}
+use Rattle.yq_row_places.specs.CommentPlaces.{text_to_line_end}
 use Rattle.yq_row_places.specs.PlacedRows.{PlacedPart, placed_document}
 use Rattle.yq_row_places.specs.RowPieces.{anchor_before, space_before}
-use Rattle.yq_row_places.specs.RowWalk.{IsLineAt, document_rows}
+use Rattle.yq_row_places.specs.RowWalk.{IsLineAt, document_row_range}
 use Rattle.yq_row_places.specs.Standings.{RowsOfEntry, before_entry, entry_rows_at, held, rows_of_entry}
 use Rattle.yq_row_places.specs.StandingReading.{AreRowsOf, numbers_of_entry}
 use Rattle.yq_row_places.specs.StandingViews.{IsHeldRow, IsLastOf}
@@ -70,7 +70,7 @@ line_in s d steps q h at =
     let l = located s d h q at.line in (slices l.row, (l.pieces, slice_get_within s.rows q.row (slices l.row) l.pieces))
 
 -- the rows of the item or entry to whose line steps lead
-line_found : (t : List ℕ) (s : RowsView) (n : ℕ) (d : Stretch) (steps : List Step) (q : Position) (y : Slices) → IsCut t (cut_of t) → s ≡ rows_view (cut_of t) → Some (stretch_view d) ≡ document_rows n (cut_of t) → all_documents (cut_of t) ≡ true →
+line_found : (t : List ℕ) (s : RowsView) (n : ℕ) (d : Stretch) (steps : List Step) (q : Position) (y : Slices) → IsCut t (cut_of t) → s ≡ rows_view (cut_of t) → Some (stretch_view d) ≡ document_row_range n (cut_of t) → all_documents (cut_of t) ≡ true →
     IsLineAt s d steps q → slice_get s.rows q.row ≡ Some y →
     FoundEntry t s n steps (record { row = q.row; line = q.line; dashes = lines_before_mark y; end = (q.row + 1) + deeper_rows (line_level q.line y) (take (d.end - (q.row + 1)) (drop (q.row + 1) s.rows)) })
 line_found t s n d steps q y cut is known sound at there =
@@ -80,7 +80,7 @@ line_found t s n d steps q y cut is known sound at there =
     (place_found t s (cut_of t) n d (Some (q.row, q.line, lines_before_mark y, end)) (λ k cut rows. option_map (numbers_of_entry k rows) (row_line_of steps rows)) cut is known sound
     (λ k. entry_row_agrees s d k.document.stand q at.line steps level (lines_before_mark y) end
     (λ z e. ap (line_level q.line) (same_Some _ _ (sym there ∙ e))) (λ z e. ap lines_before_mark (same_Some _ _ (sym there ∙ e))) refl
-    (last_line steps [] (lines_of k.document.stand.rows) (line_number d k.document.stand.rows q) (sym (at.leads k.document)) refl)))
+    (last_line steps [] (lines_of_rows k.document.stand.rows) (line_number d k.document.stand.rows q) (sym (at.leads k.document)) refl)))
 
 -- where what the key or dash of rows holds begins
 module _ (t : List ℕ) (s : RowsView) (e : RowsOfEntry) (row end : ℕ) (h : AreRowsOf t s e row end) where
@@ -103,7 +103,7 @@ module _ (t : List ℕ) (s : RowsView) (e : RowsOfEntry) (row end : ℕ) (h : Ar
         ap (λ (p : ℕ × ℕ). p.0) (place_is (cut_of t) h.rows_view_is e.row (first_at t s e row end h).there),
         head_ends t s e row end h place place_is,
         ap length (line_is e.row),
-        length-append (before_entry e) (line_text e.row),
+        length-append (before_entry e) (text_to_line_end e.row),
         length-append (row_front e.row ++ anchor_before x) (space_before x ++ x.head),
         length-append (space_before x) x.head,
         length-append (row_front e.row) (anchor_before x),
@@ -112,7 +112,7 @@ module _ (t : List ℕ) (s : RowsView) (e : RowsOfEntry) (row end : ℕ) (h : Ar
       )
 
 -- the row of the line that a walk has found is that of the item or entry to which the steps lead
-pub held_row_is : (t : List ℕ) (s : RowsView) (n : ℕ) (d : Stretch) (steps : List Step) (q : Position) (x : HeldRow) → IsCut t (cut_of t) → s ≡ rows_view (cut_of t) → Some (stretch_view d) ≡ document_rows n (cut_of t) → all_documents (cut_of t) ≡ true →
+pub held_row_is : (t : List ℕ) (s : RowsView) (n : ℕ) (d : Stretch) (steps : List Step) (q : Position) (x : HeldRow) → IsCut t (cut_of t) → s ≡ rows_view (cut_of t) → Some (stretch_view d) ≡ document_row_range n (cut_of t) → all_documents (cut_of t) ≡ true →
     IsLineAt s d steps q → (y : Slices) → slice_get s.rows q.row ≡ Some y → ((c : Cut) → s ≡ rows_view c → (r : Row) → slice_get (rows_of c) q.row ≡ Some r → IsLastOf c q r x) → IsHeldRow n steps (cut_of t) x
 held_row_is t s n d steps q x cut is known sound at y there says =
     let f = line_found t s n d steps q y cut is known sound at there in

@@ -13,9 +13,9 @@ use Rattle.yq_cut.specs.Exchange.{row_front}
 use Rattle.yq_cut.specs.Offsets.{row_length}
 use Rattle.yq_cut.specs.Rows.{Content, Nothing, Inline, Block, Row, behind_columns, dashes_text, mark_column, print_row, rows_text, Cut}
 use Rattle.yq_cut.specs.View.{Slices, slices, content_cut, last_dash, rows_of, RowsView, rows_view}
-use Rattle.yq_row_places.specs.CommentPlaces.{LineEnd, end_before, line_text}
+use Rattle.yq_row_places.specs.CommentPlaces.{LineEnd, end_in_line, text_to_line_end}
 use Rattle.yq_lines.specs.Extents.{head_place, row_start}
-use Rattle.yq_row_places.specs.LineReading.{CutsLines, LinesIn, lines_between, lines_of}
+use Rattle.yq_row_places.specs.LineReading.{CutsLines, LinesIn, lines_between, line_list}
 use Rattle.yq_row_places.specs.PrintedLines.{last_break}
 use Rattle.yq_lines.specs.RowWalk.{line_column}
 use Rattle.yq_row_places.specs.RowPieces.{anchor_before, space_before}
@@ -55,7 +55,7 @@ head_front x s u a b d = go s.anchor refl
         (λ i. s.space ++ (e i ++ (apart i ++ u))) ∙ sym (λ i. cond (is_empty (e i)) [] (s.space ++ s.anchor) ++ (cond (is_empty (e i)) s.space s.apart ++ u))
     go (b ∷ bs) e = sym (append_assoc s.space s.anchor (s.apart ++ u)) ∙ sym (λ i. cond (is_empty (e i)) [] (s.space ++ s.anchor) ++ (cond (is_empty (e i)) s.space s.apart ++ u))
 
-pub line_is : (r : Row) → line_text r ≡ (row_front r ++ anchor_before (slices r)) ++ (space_before (slices r) ++ (slices r).head)
+pub line_is : (r : Row) → text_to_line_end r ≡ (row_front r ++ anchor_before (slices r)) ++ (space_before (slices r) ++ (slices r).head)
 line_is r =
     let s : Slices = slices r in
     ap (λ (x : List ℕ). row_front r ++ x) (head_front r.content s s.head refl refl refl) ∙ sym (append_assoc (row_front r) (anchor_before s) (space_before s ++ s.head))
@@ -69,18 +69,18 @@ module _ (t : List ℕ) (s : RowsView) (e : RowsOfEntry) (row end : ℕ) (h : Ar
   abbrev front : List ℕ
   front = (before_entry e ++ row_front e.row) ++ anchor_before (slices e.row)
 
-  line_is_front : (before_entry e ++ line_text e.row) ++ (slices e.row).tail ≡ front ++ ((space_before (slices e.row) ++ (slices e.row).head) ++ (slices e.row).tail)
+  line_is_front : (before_entry e ++ text_to_line_end e.row) ++ (slices e.row).tail ≡ front ++ ((space_before (slices e.row) ++ (slices e.row).head) ++ (slices e.row).tail)
   line_is_front =
       let x : Slices = slices e.row in
       let parts : (before_entry e ++ ((row_front e.row ++ anchor_before x) ++ (space_before x ++ x.head))) ++ x.tail ≡ front ++ ((space_before x ++ x.head) ++ x.tail) = simp append_assoc refl in
       ap (λ (z : List ℕ). (before_entry e ++ z) ++ x.tail) (line_is e.row) ∙ parts
 
-  from_is : place.1 + length y.tail ≡ length ((before_entry e ++ line_text e.row) ++ (slices e.row).tail)
-  from_is = omega (arith, head_ends t s e row end h place agrees, ap (λ (z : Slices). length z.tail) same, length-append (before_entry e ++ line_text e.row) (slices e.row).tail)
+  from_is : place.1 + length y.tail ≡ length ((before_entry e ++ text_to_line_end e.row) ++ (slices e.row).tail)
+  from_is = omega (arith, head_ends t s e row end h place agrees, ap (λ (z : Slices). length z.tail) same, length-append (before_entry e ++ text_to_line_end e.row) (slices e.row).tail)
 
   pub lower_cut : (text : List ℕ) → text ≡ t → (tail : List ℕ) → tail ≡ y.tail → CutsLines text (place.1 + length tail) stop
   lower_cut text is tail tail_is =
-      let l : List ℕ = (before_entry e ++ line_text e.row) ++ (slices e.row).tail in
+      let l : List ℕ = (before_entry e ++ text_to_line_end e.row) ++ (slices e.row).tail in
       let from : place.1 + length tail ≡ length l = omega (arith, from_is, ap length tail_is) in
       let stops : stop ≡ length (before_entry e ++ print_row e.row (rows_text e.under [])) = stop_is t s e row end h stop stop_agrees in
       record {
@@ -96,12 +96,12 @@ module _ (t : List ℕ) (s : RowsView) (e : RowsOfEntry) (row end : ℕ) (h : Ar
 
   pub tail_fits : (tail : List ℕ) → tail ≡ y.tail → place.1 + length tail ≤ text_limit
   tail_fits tail tail_is =
-      let l : List ℕ = (before_entry e ++ line_text e.row) ++ (slices e.row).tail in
+      let l : List ℕ = (before_entry e ++ text_to_line_end e.row) ++ (slices e.row).tail in
       let lower : List ℕ = (slices e.row).raw ++ rows_text e.under [] in
       omega (arith, from_is, ap length tail_is, ap length (line_cut t s e row end h), length-append l (lower ++ behind_entry e), h.cut.size)
 
-  pub lower_is : (text : List ℕ) (is : text ≡ t) (tail : List ℕ) (tail_is : tail ≡ y.tail) (lower : LinesIn) → ((k : CutsLines text (place.1 + length tail) stop) → lower ≡ lines_of k) →
-      lower ≡ lines_between ((before_entry e ++ line_text e.row) ++ (slices e.row).tail) ((slices e.row).raw ++ rows_text e.under []) (behind_entry e)
+  pub lower_is : (text : List ℕ) (is : text ≡ t) (tail : List ℕ) (tail_is : tail ≡ y.tail) (lower : LinesIn) → ((k : CutsLines text (place.1 + length tail) stop) → lower ≡ line_list k) →
+      lower ≡ lines_between ((before_entry e ++ text_to_line_end e.row) ++ (slices e.row).tail) ((slices e.row).raw ++ rows_text e.under []) (behind_entry e)
   unfolding lower_cut
   lower_is text is tail tail_is lower says = says (lower_cut text is tail tail_is)
 
@@ -116,7 +116,7 @@ module _ (t : List ℕ) (s : RowsView) (e : RowsOfEntry) (row end : ℕ) (h : Ar
         ap (λ (z : Slices). length (space_before z)) same,
         ap (λ (z : Slices). length z.head) same,
         ap length (line_is e.row),
-        length-append (before_entry e) (line_text e.row),
+        length-append (before_entry e) (text_to_line_end e.row),
         length-append (row_front e.row ++ anchor_before x) (space_before x ++ x.head),
         length-append (space_before x) x.head,
         length-append (row_front e.row) (anchor_before x),
@@ -135,37 +135,37 @@ module _ (t : List ℕ) (s : RowsView) (e : RowsOfEntry) (row end : ℕ) (h : Ar
         ap (λ (z : Slices). length (space_before z)) same,
         ap (λ (z : Slices). length z.head) same,
         ap length (line_is e.row),
-        length-append (before_entry e) (line_text e.row),
+        length-append (before_entry e) (text_to_line_end e.row),
         length-append (row_front e.row ++ anchor_before x) (space_before x ++ x.head),
         length-append (space_before x) x.head,
       )
 
-  pub before_boundary : (before space head tail : List ℕ) → before ≡ (before_entry e ++ line_text e.row) ++ (slices e.row).tail → space ≡ space_before y → head ≡ y.head → tail ≡ y.tail → IsUtf8 space → IsUtf8 head → IsUtf8 tail →
+  pub before_boundary : (before space head tail : List ℕ) → before ≡ (before_entry e ++ text_to_line_end e.row) ++ (slices e.row).tail → space ≡ space_before y → head ≡ y.head → tail ≡ y.tail → IsUtf8 space → IsUtf8 head → IsUtf8 tail →
       IsCharBoundary before (place.1 - (length space + length head))
   before_boundary before space head tail is a b d ua ub ud =
       let whole : before ≡ front ++ ((space ++ head) ++ tail) = is ∙ (line_is_front ∙ (λ i. front ++ ((space_before (same i) ++ (same i).head) ++ (same i).tail)) ∙ sym (λ i. front ++ ((a i ++ b i) ++ d i))) in
       subst (IsCharBoundary before) (sym (size space head a b)) (IsCharBoundary-at_seam before front ((space ++ head) ++ tail) whole (IsUtf8-append (space ++ head) tail (IsUtf8-append space head ua ub) ud))
 
-  before_is : (before space head : List ℕ) → before ≡ (before_entry e ++ line_text e.row) ++ (slices e.row).tail → space ≡ space_before y → head ≡ y.head → take (place.1 - (length space + length head)) before ≡ front
+  before_is : (before space head : List ℕ) → before ≡ (before_entry e ++ text_to_line_end e.row) ++ (slices e.row).tail → space ≡ space_before y → head ≡ y.head → take (place.1 - (length space + length head)) before ≡ front
   before_is before space head is a b =
       let x : Slices = slices e.row in
       (λ i. take (size space head a b i) ((is ∙ line_is_front) i)) ∙ take-append_seam front ((space_before x ++ x.head) ++ x.tail)
 
-  pub held_is : (column dashes : ℕ) (keyed noted : Bool) (before space head break last : List ℕ) (tail : LineEnd) (lower : LinesIn) → column ≡ line_column dashes y → dashes ≡ length e.row.dashes → keyed ≡ not (is_empty y.colon) → tail ≡ end_before [] y.tail →
-      noted ≡ (not (is_empty y.anchor) || not (is_empty tail.comment)) → lower ≡ lines_between ((before_entry e ++ line_text e.row) ++ (slices e.row).tail) ((slices e.row).raw ++ rows_text e.under []) (behind_entry e) →
+  pub held_is : (column dashes : ℕ) (keyed noted : Bool) (before space head break last : List ℕ) (tail : LineEnd) (lower : LinesIn) → column ≡ line_column dashes y → dashes ≡ length e.row.dashes → keyed ≡ not (is_empty y.colon) → tail ≡ end_in_line [] y.tail →
+      noted ≡ (not (is_empty y.anchor) || not (is_empty tail.comment)) → lower ≡ lines_between ((before_entry e ++ text_to_line_end e.row) ++ (slices e.row).tail) ((slices e.row).raw ++ rows_text e.under []) (behind_entry e) →
       space ≡ space_before y → head ≡ y.head → before ≡ take (place.1 - (length space + length head)) lower.before → break ≡ cond lower.none [] tail.behind → last ≡ cond lower.none tail.behind lower.last →
       ◌≡◌ {A = Held} (record { mark = record { column = column; keyed = keyed; noted = noted }; before = before; space = space; head = head; white = tail.white; comment = tail.comment; break = break; lines = lower.lines; last = last; behind = lower.behind }) (held e)
   held_is column dashes keyed noted before space head break last tail lower columns_are dashes_are keyed_is tail_is noted_is lower_is space_is head_is before_cut break_is last_is_it =
       let r : Row = e.row in
-      let end : tail ≡ end_before [] (slices r).tail = tail_is ∙ ap (λ (z : Slices). end_before [] z.tail) (sym same) in
+      let end : tail ≡ end_in_line [] (slices r).tail = tail_is ∙ ap (λ (z : Slices). end_in_line [] z.tail) (sym same) in
       let a : column ≡ mark_column r = columns_are ∙ (ap (line_column dashes) (sym same) ∙ mark_column_is r dashes dashes_are) in
       let b : keyed ≡ not (is_empty (slices r).colon) = keyed_is ∙ ap (λ (z : Slices). not (is_empty z.colon)) (sym same) in
-      let d : noted ≡ (not (is_empty (slices r).anchor) || not (is_empty (end_before [] (slices r).tail).comment)) = noted_is ∙ (λ i. not (is_empty (sym same i).anchor) || not (is_empty (end i).comment)) in
+      let d : noted ≡ (not (is_empty (slices r).anchor) || not (is_empty (end_in_line [] (slices r).tail).comment)) = noted_is ∙ (λ i. not (is_empty (sym same i).anchor) || not (is_empty (end i).comment)) in
       let f : before ≡ front = before_cut ∙ before_is lower.before space head (ap (λ (z : LinesIn). z.before) lower_is) space_is head_is in
       let g : space ≡ space_before (slices r) = space_is ∙ ap space_before (sym same) in
       let k : head ≡ (slices r).head = head_is ∙ ap (λ (z : Slices). z.head) (sym same) in
-      let m : break ≡ cond (is_empty ((slices r).raw ++ rows_text e.under [])) [] (end_before [] (slices r).tail).behind = break_is ∙ (λ i. cond (lower_is i).none [] (end i).behind) in
-      let n : last ≡ cond (is_empty ((slices r).raw ++ rows_text e.under [])) (end_before [] (slices r).tail).behind (last_break ((slices r).raw ++ rows_text e.under [])) = last_is_it ∙ (λ i. cond (lower_is i).none (end i).behind (lower_is i).last) in
+      let m : break ≡ cond (is_empty ((slices r).raw ++ rows_text e.under [])) [] (end_in_line [] (slices r).tail).behind = break_is ∙ (λ i. cond (lower_is i).none [] (end i).behind) in
+      let n : last ≡ cond (is_empty ((slices r).raw ++ rows_text e.under [])) (end_in_line [] (slices r).tail).behind (last_break ((slices r).raw ++ rows_text e.under [])) = last_is_it ∙ (λ i. cond (lower_is i).none (end i).behind (lower_is i).last) in
       λ i. record {
         mark = record { column = a i; keyed = b i; noted = d i };
         before = f i;

@@ -4,7 +4,7 @@ use Rattle.std.proofs.lemmas.List.{take-append-le}
 use Rattle.std.proofs.lemmas.Option.{same_Some}
 use Rattle.std.specs.List.{slice_get, sum_by}
 use Rattle.std.specs.Prelude.{IfSome}
-use Rattle.yq_cut.specs.Items.{Item, row_item, end_item, items_of, rows_in_items, bounds_in_items, view_of_items}
+use Rattle.yq_cut.specs.Items.{Item, row_item, end_item, items_of_cut, rows_in_items, bounds_in_items, view_of_items}
 use Rattle.yq_cut.specs.Kept.{near}
 use Rattle.yq_cut.specs.Rows.{Cut}
 use Rattle.yq_cut.specs.Offsets.{row_length}
@@ -50,7 +50,7 @@ rows_joined (row_item r ∷ xs) ys = ap (λ (l : List Slices). slices r ∷ l) (
 rows_joined (end_item gap marker ∷ xs) ys = rows_joined xs ys
 
 -- the first rows of a cut whose items begin with others
-first_rows : (c : Cut) (front rest : List Item) (i : ℕ) → items_of c ≡ front ++ rest → i ≤ length (rows_in_items front) → take i (rows_view c).rows ≡ take i (rows_in_items front)
+first_rows : (c : Cut) (front rest : List Item) (i : ℕ) → items_of_cut c ≡ front ++ rest → i ≤ length (rows_in_items front) → take i (rows_view c).rows ≡ take i (rows_in_items front)
 first_rows c front rest i are within = cc (items_view_is c, rows_joined front rest, take-append-le i (rows_in_items front) (rows_in_items rest) within)
 
 -- where a row begins
@@ -63,11 +63,11 @@ begins_at xs i = omega (arith, ap (λ (j : ℕ). sum_by (passed_length j) (bound
 pub stays_known : (c : Cut) (k : KnownItem) (front : ℕ) → IsKnown (rows_view c).rows k → k.row < length (rows_view c).rows → row_start k.row (rows_view c) < front → StaysKnown front c k
 stays_known c k front known within before new back touched =
     let r = one_there (rows_view c).rows k.row within in
-    let there : slice_get (rows_in_items (items_of c)) k.row ≡ Some r.0 = ap (λ (x : RowsView). slice_get x.rows k.row) (items_view_is c) ∙ r.1 in
-    let n = near_at (items_of c) 0 0 k.row r.0 there in
-    let start : 0 + (sum_by row_length (take k.row (rows_in_items (items_of c))) + sum_by (passed_length (0 + k.row)) (bounds_in_items 0 (items_of c))) ≡ row_start k.row (rows_view c) = begins_at (items_of c) k.row ∙ ap (row_start k.row) (items_view_is c) in
-    let first : k.row ≤ length (rows_in_items (in_front front (items_of c))) = rows_in_front (items_of c) 0 front k.row _ n (omega (arith, before, start)) in
-    let old = first_rows c (in_front front (items_of c)) _ k.row touched.old_are first in
+    let there : slice_get (rows_in_items (items_of_cut c)) k.row ≡ Some r.0 = ap (λ (x : RowsView). slice_get x.rows k.row) (items_view_is c) ∙ r.1 in
+    let n = near_at (items_of_cut c) 0 0 k.row r.0 there in
+    let start : 0 + (sum_by row_length (take k.row (rows_in_items (items_of_cut c))) + sum_by (passed_length (0 + k.row)) (bounds_in_items 0 (items_of_cut c))) ≡ row_start k.row (rows_view c) = begins_at (items_of_cut c) k.row ∙ ap (row_start k.row) (items_view_is c) in
+    let first : k.row ≤ length (rows_in_items (in_front front (items_of_cut c))) = rows_in_front (items_of_cut c) 0 front k.row _ n (omega (arith, before, start)) in
+    let old = first_rows c (in_front front (items_of_cut c)) _ k.row touched.old_are first in
     search (rules, first_rows, first, old)
 
 pub view_stays : (s : RowsView) (k : KnownItem) (front : ℕ) → IsKnown s.rows k → k.row < length s.rows → row_start k.row s < front → (c : Cut) → s ≡ rows_view c → StaysKnown front c k

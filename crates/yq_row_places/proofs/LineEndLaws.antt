@@ -11,7 +11,7 @@ use Rattle.yq_cut.specs.Grammar.{IsTail, IsContent}
 use Rattle.yq_cut.specs.Rows.{Content}
 use Rattle.yq_cut.specs.View.{content_cut}
 use Rattle.yq_cut.proofs.LineEnds.{white_cut, white_again, white_none, text_line, behind_comment, comment_none}
-use Rattle.yq_row_places.specs.CommentPlaces.{LineEnd, end_before}
+use Rattle.yq_row_places.specs.CommentPlaces.{LineEnd, end_in_line}
 
 -- more text behind a break
 front_more : (p : ℕ → Rattle.std.proofs.Common.Bool) (c break more : List ℕ) → 0 < length break → front p (c ++ (break ++ more)) ≡ front p (c ++ break)
@@ -33,7 +33,7 @@ comment_more c break more h1 h2 = search (rules, none_more, some_break, comment_
 abbrev pub end_of_tail : (before tail more : List ℕ) → IsTail tail more → LineEnd
 end_of_tail before tail more h = record { before = before; white = h.white; comment = h.comment; behind = h.line.break ++ more }
 
-pub tail_is_end : (before tail more : List ℕ) (h : IsTail tail more) → end_before before (tail ++ more) ≡ end_of_tail before tail more h
+pub tail_is_end : (before tail more : List ℕ) (h : IsTail tail more) → end_in_line before (tail ++ more) ≡ end_of_tail before tail more h
 tail_is_end before tail more h =
     let rest : List ℕ = h.line.break ++ more in
     let whole : tail ++ more ≡ h.white ++ (h.comment ++ rest) = ap (λ x. x ++ more) h.line.spelled ∙ (append_assoc h.white (h.comment ++ h.line.break) more ∙ ap (λ x. h.white ++ x) (append_assoc h.comment h.line.break more)) in

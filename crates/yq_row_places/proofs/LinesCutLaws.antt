@@ -3,7 +3,7 @@ use Rattle.std.proofs.Common.{◌≡◌, inl, ℕ, ◌-◌, eqb, Bool, true, con
 use Rattle.std.proofs.Math.Seq.{drop-append_seam, take-append_seam}
 use Rattle.std.proofs.lemmas.Bool.{and_parts, eqb-true, ne_eqb}
 use Rattle.yq_flow_scalars.specs.Text.{is_empty}
-use Rattle.yq_row_places.specs.LineReading.{CutsLines, IsLastBreak, LinesIn, lines_of}
+use Rattle.yq_row_places.specs.LineReading.{CutsLines, IsLastBreak, LinesIn, line_list}
 use Rattle.yq_row_places.specs.PrintedLines.{is_last_break, last_break, less_break}
 
 -- a break that ends a text is one, or nothing
@@ -29,7 +29,7 @@ module _ (t : List ℕ) (from stop : ℕ) (h : CutsLines t from stop) where
   rest = (λ i. drop (h.from_is i) (h.text i)) ∙ drop-append_seam h.before (h.own ++ h.behind)
 
   pub lines_are : (before own lines last behind : List ℕ) (none : Bool) → before ≡ take from t → own ≡ take (stop - from) (drop from t) → behind ≡ drop (stop - from) (drop from t) → none ≡ eqb (length own) 0 → lines ≡ less_break own → last ≡ last_break own →
-      ◌≡◌ {A = LinesIn} (record { before = before; none = none; lines = lines; last = last; behind = behind }) (lines_of h)
+      ◌≡◌ {A = LinesIn} (record { before = before; none = none; lines = lines; last = last; behind = behind }) (line_list h)
   lines_are before own lines last behind none a b d e f g =
       let first : before ≡ h.before = a ∙ ((λ i. take (h.from_is i) (h.text i)) ∙ take-append_seam h.before (h.own ++ h.behind)) in
       let same : own ≡ h.own = b ∙ ((λ i. take (size i) (rest i)) ∙ take-append_seam h.own h.behind) in

@@ -8,7 +8,7 @@ use Rattle.std.specs.List.{slice_get}
 use Rattle.std.specs.Str.{IsUtf8, IsCharBoundary}
 use Rattle.yq_text.specs.Limit.{text_limit}
 use Rattle.yq_flow_scalars.specs.Text.{is_empty}
-use Rattle.yq_lines.specs.Positions.{is_bare}
+use Rattle.yq_lines.specs.Positions.{has_no_mark}
 use Rattle.yq_cut.specs.Exchange.{row_front}
 use Rattle.yq_cut.specs.Grammar.{IsMark}
 use Rattle.yq_cut.specs.Offsets.{row_length}
@@ -16,13 +16,13 @@ use Rattle.yq_cut.specs.Rows as rows
 use Rattle.yq_cut.specs.Rows.{Content, Nothing, Inline, Block, Row, dashes_text, parent_indent, print_row, rows_text, Cut}
 use Rattle.yq_cut.specs.View.{Slices, slices, content_cut, rows_of, RowsView, rows_view}
 use Rattle.yq_cut.proofs.NodePieces.{before_ascii, behind_ascii, tail_ascii}
-use Rattle.yq_lines.specs.Lines.{mark_of}
+use Rattle.yq_lines.specs.Lines.{line_mark}
 use Rattle.yq_documents.specs.Reading.{cut_of}
-use Rattle.yq_row_places.specs.CommentPlaces.{line_text}
+use Rattle.yq_row_places.specs.CommentPlaces.{text_to_line_end}
 use Rattle.yq_row_places.specs.RowPieces.{upto_dash}
 use Rattle.yq_row_places.specs.EntryReading.{line_begin}
 use Rattle.yq_lines.specs.Extents.{head_place, row_start}
-use Rattle.yq_row_places.specs.LineReading.{CutsLines, LinesIn, lines_between, lines_of}
+use Rattle.yq_row_places.specs.LineReading.{CutsLines, LinesIn, lines_between, line_list}
 use Rattle.yq_row_places.specs.Standings.{Lone, RowsOfEntry, before_entry, behind_entry, dash_text, is_alone, lone}
 use Rattle.yq_row_places.specs.StandingReading.{AreRowsOf}
 use Rattle.yq_row_places.proofs.CommentEndLaws.{row_text_parts}
@@ -31,7 +31,7 @@ use Rattle.yq_row_places.proofs.EntryRowLaws.{cut_in_two, first_at, head_ends, p
 use Rattle.yq_row_places.proofs.LineEndLaws.{line_tail}
 use Rattle.yq_row_places.proofs.RowStarts.{line_begins}
 
-raw_none : (m : rows.Mark) (x : Content) (rest : List ℕ) → IsMark m x rest → is_bare (mark_of m) ≡ true → (content_cut x).5 ≡ []
+raw_none : (m : rows.RowMark) (x : Content) (rest : List ℕ) → IsMark m x rest → has_no_mark (line_mark m) ≡ true → (content_cut x).5 ≡ []
 raw_none rows.Bare (Nothing tail) rest h bare = refl
 raw_none rows.Bare (Inline space node tail) rest h bare = refl
 raw_none rows.Bare (Block space anchor b) rest h bare = absurd (false≢true h)
@@ -51,14 +51,14 @@ module _ (t : List ℕ) (s : RowsView) (e : RowsOfEntry) (row end : ℕ) (h : Ar
   abbrev behind : List ℕ
   behind = (slices e.row).tail ++ ((slices e.row).raw ++ rows_text e.under (behind_entry e))
 
-  line : before_entry e ++ line_text e.row ≡ before ++ (slices e.row).head
+  line : before_entry e ++ text_to_line_end e.row ≡ before ++ (slices e.row).head
   line = let x : Slices = slices e.row in let parts : before_entry e ++ (row_front e.row ++ (x.space ++ (x.anchor ++ (x.apart ++ x.head)))) ≡ before ++ x.head = simp append_assoc refl in parts
 
   whole : t ≡ (before ++ (slices e.row).head) ++ behind
   whole =
       text t s e row end h
       ∙ (ap (λ (u : List ℕ). before_entry e ++ u) (row_text_parts e.row (rows_text e.under (behind_entry e)))
-      ∙ (sym (append_assoc (before_entry e) (line_text e.row) behind) ∙ ap (λ (u : List ℕ). u ++ behind) line))
+      ∙ (sym (append_assoc (before_entry e) (text_to_line_end e.row) behind) ∙ ap (λ (u : List ℕ). u ++ behind) line))
 
   stop : place.1 ≡ length (before ++ (slices e.row).head)
   stop = head_ends t s e row end h place agrees ∙ ap length line
@@ -88,7 +88,7 @@ module _ (t : List ℕ) (s : RowsView) (e : RowsOfEntry) (row end : ℕ) (h : Ar
   lone_is u front first last head is cut rest before_cut head_is a =
       let x : Slices = slices e.row in
       let b : first ≡ before = before_cut ∙ ((λ i. take (start i) (front_is_text u front is cut i)) ∙ take-append_seam before x.head) in
-      let none : x.raw ≡ [] = raw_none e.row.mark e.row.content (rows_text e.under (behind_entry e)) (row_valid t s e row end h).row.mark (and_parts (is_empty e.row.dashes) (is_bare (mark_of e.row.mark)) a).1 in
+      let none : x.raw ≡ [] = raw_none e.row.mark e.row.content (rows_text e.under (behind_entry e)) (row_valid t s e row end h).row.mark (and_parts (is_empty e.row.dashes) (has_no_mark (line_mark e.row.mark)) a).1 in
       let l : last ≡ x.tail ++ rows_text e.under (behind_entry e) =
       rest ∙ (((λ i. drop (stop i) ((is ∙ whole) i)) ∙ drop-append_seam (before ++ x.head) behind) ∙ ap (λ (z : List ℕ). x.tail ++ (z ++ rows_text e.under (behind_entry e))) none) in
       let own : head ≡ x.head = head_is ∙ ap (λ (z : Slices). z.head) (sym same) in
@@ -141,6 +141,6 @@ module _ (t : List ℕ) (s : RowsView) (e : RowsOfEntry) (row end : ℕ) (h : Ar
         stops = subst (λ (z : List ℕ). IsCharBoundary z stop) (sym is) (subst (IsCharBoundary t) (sym stops) (stop_boundary t s e row end h u));
       }
 
-  pub dash_lines : (v : List ℕ) (is : v ≡ t) (lower : LinesIn) → ((k : CutsLines v (start + 1) stop) → lower ≡ lines_of k) → lower ≡ lines_between front (dash_text e) (behind_entry e)
+  pub dash_lines : (v : List ℕ) (is : v ≡ t) (lower : LinesIn) → ((k : CutsLines v (start + 1) stop) → lower ≡ line_list k) → lower ≡ lines_between front (dash_text e) (behind_entry e)
   unfolding dash_cut
   dash_lines v is lower says = says (dash_cut v is)

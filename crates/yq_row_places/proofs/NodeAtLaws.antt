@@ -14,25 +14,25 @@ use Rattle.yq_flow_scalars.specs.Tree.{Node}
 use Rattle.yq_nodes.specs.declared.inline.Inline.{Inline}
 use Rattle.yq_nodes.specs.declared.inline.Form as forms
 use Rattle.yq_nodes.specs.declared.inline.Form.TheFolds.{the_lemmas}
-use Rattle.yq_nodes.specs.Places.{Placed, placed, Content, sequence, mapping as entries_form}
-use Rattle.yq_nodes.specs.Trees.{named, placed_tree, content_tree, parts_tree}
-use Rattle.yq_nodes.specs.View.{anchor_name, view, form_view, items_end, entries_end}
+use Rattle.yq_nodes.specs.Places.{Placed, placed, CoreNode, sequence, mapping as entries_form}
+use Rattle.yq_nodes.specs.Trees.{with_anchor_name, placed_tree, content_tree, parts_tree}
+use Rattle.yq_nodes.specs.View.{anchor_name, inline_view, form_view, items_end, entries_end}
 use Rattle.yq_documents.proofs.CountedLaws.{items_count, entries_count}
 use Rattle.yq_documents.proofs.FlowLaws.{Field}
 use Rattle.yq_lines.specs.Counts.{count}
-use Rattle.yq_lines.specs.Ends.{IsEndOf, is_end, part, reached}
+use Rattle.yq_lines.specs.Ends.{IsEndOf, has_no_lines, part, reached}
 use Rattle.yq_lines.specs.Group.{group}
-use Rattle.yq_lines.specs.Outline.{Mark, Bare, Key, Dash, Line, level, Outline, end, row, key_of, children, value}
+use Rattle.yq_lines.specs.Outline.{LineMark, Bare, Key, Dash, Line, level, Outline, end, row, key_of, children, value}
 use Rattle.yq_lines.specs.Places.{lines_before, FoundLine, find}
-use Rattle.yq_lines.specs.Positions.{is_bare, begins_with_node}
+use Rattle.yq_lines.specs.Positions.{has_no_mark, begins_with_node}
 use Rattle.yq_lines.proofs.EndsLaws.{deeper_line, not_end, row_parts}
 use Rattle.yq_lines.proofs.PlaceLaws.{at}
 use Rattle.yq_cut.specs.Rows.{Row, Part, Cut}
 use Rattle.yq_cut.specs.View.{RowsView}
 use Rattle.yq_documents.specs.Documents.{document_parts}
-use Rattle.yq_lines.specs.Lines.{head_of, lines_of}
-use Rattle.yq_documents.specs.Reading.{all_documents, document_of}
-use Rattle.yq_row_places.specs.NodeReading.{NodePlace, at_head, at_lines, line_place, with_line, node_place, place_line, summary_in_head, summary_in_line, summary_of_lines, line_or, place_node}
+use Rattle.yq_lines.specs.Lines.{head_of, lines_of_rows}
+use Rattle.yq_documents.specs.Reading.{all_documents, part_document}
+use Rattle.yq_row_places.specs.NodeReading.{NodePlace, at_head, at_lines, line_place, line_with_steps, node_place, place_line, summary_in_head, summary_in_line, summary_of_lines, line_or, place_node}
 use Rattle.yq_row_places.specs.NodesAt.{NodeAt, scalar, list, map as mapping, node_summary, node_in, summary_several, scalar_in, summary_scalar}
 use Rattle.yq_row_places.specs.RemovalPlaces.{has_several}
 use Rattle.yq_lines.specs.RowWalk.{HasRows, IsLine, line_number}
@@ -49,7 +49,7 @@ use Rattle.yq_row_places.proofs.WalkNodes.{row_is}
 use Rattle.yq_lines.proofs.WalkPositions.{Located, located}
 
 -- an anchor tells nothing of a node
-pub named_summary : (a : Option (List ℕ)) (n : Node) → node_summary (named a n) ≡ node_summary n
+pub named_summary : (a : Option (List ℕ)) (n : Node) → node_summary (with_anchor_name a n) ≡ node_summary n
 named_summary None n = refl
 named_summary (Some a) (tree.alias n) = refl
 named_summary (Some a) (tree.scalar b k t) = refl
@@ -57,7 +57,7 @@ named_summary (Some a) (tree.list b cs) = refl
 named_summary (Some a) (tree.map b cs) = refl
 
 -- an inline collection
-view_of_node : (node : Inline) → view node ≡ placed (anchor_name node.anchor) node.start node.content node.end (form_view node.form)
+view_of_node : (node : Inline) → inline_view node ≡ placed (anchor_name node.anchor) node.start node.content node.end (form_view node.form)
 view_of_node node = search (rules, the_lemmas)
 
 view_of_list : (v : Vec Inline Global) → form_view (forms.TheVariants.List v) ≡ sequence (items_end v.items)
@@ -66,15 +66,15 @@ view_of_list v = simp (the_lemmas) refl
 view_of_map : (v : Vec Field Global) → form_view (forms.TheVariants.Map v) ≡ entries_form (entries_end v.items)
 view_of_map v = simp (the_lemmas) refl
 
-pub items_agrees : (node : Inline) (v : Vec Inline Global) (n : ℕ) → node.form ≡ forms.TheVariants.List v → n ≡ vec_len v → list (ltb 1 n) ≡ node_summary (placed_tree (view node))
+pub items_agrees : (node : Inline) (v : Vec Inline Global) (n : ℕ) → node.form ≡ forms.TheVariants.List v → n ≡ vec_len v → list (ltb 1 n) ≡ node_summary (placed_tree (inline_view node))
 items_agrees node v n is size =
     ap (λ (k : ℕ). list (ltb 1 k)) (size ∙ (v.ok.0 ∙ sym (items_count v.items)))
-    ∙ (sym (named_summary (anchor_name node.anchor) (tree.list None (parts_tree (items_end v.items)))) ∙ sym (ap (λ (p : Placed). node_summary (placed_tree p)) (view_of_node node) ∙ ap (λ (x : Content). node_summary (named (anchor_name node.anchor) (content_tree x))) (ap form_view is ∙ view_of_list v)))
+    ∙ (sym (named_summary (anchor_name node.anchor) (tree.list None (parts_tree (items_end v.items)))) ∙ sym (ap (λ (p : Placed). node_summary (placed_tree p)) (view_of_node node) ∙ ap (λ (x : CoreNode). node_summary (with_anchor_name (anchor_name node.anchor) (content_tree x))) (ap form_view is ∙ view_of_list v)))
 
-pub entries_agrees : (node : Inline) (v : Vec Field Global) (n : ℕ) → node.form ≡ forms.TheVariants.Map v → n ≡ vec_len v → mapping (ltb 1 n) ≡ node_summary (placed_tree (view node))
+pub entries_agrees : (node : Inline) (v : Vec Field Global) (n : ℕ) → node.form ≡ forms.TheVariants.Map v → n ≡ vec_len v → mapping (ltb 1 n) ≡ node_summary (placed_tree (inline_view node))
 entries_agrees node v n is size =
     ap (λ (k : ℕ). mapping (ltb 1 k)) (size ∙ (v.ok.0 ∙ sym (entries_count v.items)))
-    ∙ (sym (named_summary (anchor_name node.anchor) (tree.map None (parts_tree (entries_end v.items)))) ∙ sym (ap (λ (p : Placed). node_summary (placed_tree p)) (view_of_node node) ∙ ap (λ (x : Content). node_summary (named (anchor_name node.anchor) (content_tree x))) (ap form_view is ∙ view_of_map v)))
+    ∙ (sym (named_summary (anchor_name node.anchor) (tree.map None (parts_tree (entries_end v.items)))) ∙ sym (ap (λ (p : Placed). node_summary (placed_tree p)) (view_of_node node) ∙ ap (λ (x : CoreNode). node_summary (with_anchor_name (anchor_name node.anchor) (content_tree x))) (ap form_view is ∙ view_of_map v)))
 
 -- no steps lead on from a scalar
 pub scalar_steps : (ss : List Step) (kind : Kind) (text : List ℕ) → false ≡ eqb (length ss) 0 → None ≡ summary_in_head ss (Some (tree.scalar None kind text))
@@ -87,21 +87,21 @@ scalar_there (s ∷ ss) kind text e = absurd (false≢true (sym (e ∙ ne_eqb (s
 
 -- ---- lines
 
-several_is : (a : Outline) → ltb 1 (suc (count (children a))) ≡ not (is_end a)
+several_is : (a : Outline) → ltb 1 (suc (count (children a))) ≡ not (has_no_lines a)
 several_is end = le-ltb 1 1 (omega arith)
 several_is (row l u a) = lt-ltb 1 (suc (suc (count (children a)))) (omega arith)
 
-collection_is : (l : Line) (u a : Outline) → is_bare l.mark ≡ false → node_summary (value (row l u a)) ≡ cond (is_item (key_of l.mark)) (list (not (is_end a))) (mapping (not (is_end a)))
+collection_is : (l : Line) (u a : Outline) → has_no_mark l.mark ≡ false → node_summary (value (row l u a)) ≡ cond (is_item (key_of l.mark)) (list (not (has_no_lines a))) (mapping (not (has_no_lines a)))
 collection_is l u a other = go l.mark other
   where
-    go : (m : Mark) → is_bare m ≡ false → node_summary (Rattle.yq_lines.specs.Outline.collection m (children (row l u a))) ≡ cond (is_item (key_of m)) (list (not (is_end a))) (mapping (not (is_end a)))
+    go : (m : LineMark) → has_no_mark m ≡ false → node_summary (Rattle.yq_lines.specs.Outline.collection m (children (row l u a))) ≡ cond (is_item (key_of m)) (list (not (has_no_lines a))) (mapping (not (has_no_lines a)))
     go Bare e = absurd (cc)
     go (Key k) e = ap mapping (several_is a)
     go Dash e = ap list (several_is a)
 
 -- the collection for which lines stand, by the first of them and what is behind that
-pub collection_view : (ls : List Line) (n floor next : ℕ) (l : Line) → slice_get ls n ≡ Some l → true ≡ not (is_end (part ls n floor)) → begins_with_node (part ls n floor) ≡ false → IsEndOf ls n next →
-    node_summary (value (part ls n floor)) ≡ cond (is_item (key_of l.mark)) (list (not (is_end (part ls next floor)))) (mapping (not (is_end (part ls next floor))))
+pub collection_view : (ls : List Line) (n floor next : ℕ) (l : Line) → slice_get ls n ≡ Some l → true ≡ not (has_no_lines (part ls n floor)) → begins_with_node (part ls n floor) ≡ false → IsEndOf ls n next →
+    node_summary (value (part ls n floor)) ≡ cond (is_item (key_of l.mark)) (list (not (has_no_lines (part ls next floor)))) (mapping (not (has_no_lines (part ls next floor))))
 collection_view ls n floor next l is some other ends =
     let whole = row_parts ls n floor next l is (deeper_line ls n floor l is (not_end _ some)) (ends.2 l is) in
     ap (λ o. node_summary (value o)) whole ∙ collection_is l (part ls (n + 1) (level l)) (part ls next floor) (sym (ap begins_with_node whole) ∙ other)
@@ -115,23 +115,23 @@ pub placed_at : (ls : List Line) (steps left : List Step) (n : ℕ) (l : Line) (
 placed_at ls [] left n l p e is place = absurd (cc)
 placed_at ls (s ∷ ss) left n l p e is place =
     ap (λ (q : NodePlace). Some (q, left)) place
-    ∙ (sym (ap (λ (o : Option Line). with_line n left o) is)
-    ∙ ap (λ (o : Option (ℕ × List Step)). o >>= λ x. with_line x.0 x.1 (slice_get ls x.0)) e)
+    ∙ (sym (ap (λ (o : Option Line). line_with_steps n left o) is)
+    ∙ ap (λ (o : Option (ℕ × List Step)). o >>= λ x. line_with_steps x.0 x.1 (slice_get ls x.0)) e)
 
 -- a node is written in the head of a line that is a node itself or has a head
-bare_first : (ls : List Line) (n m floor : ℕ) (l : Line) → cond (begins_with_node (part ls n floor)) (Some n) None ≡ Some m → slice_get ls m ≡ Some l → is_bare l.mark ≡ true
+bare_first : (ls : List Line) (n m floor : ℕ) (l : Line) → cond (begins_with_node (part ls n floor)) (Some n) None ≡ Some m → slice_get ls m ≡ Some l → has_no_mark l.mark ≡ true
 bare_first ls n m floor l e is = go (part ls n floor) refl e
   where
-    go : (o : Outline) → part ls n floor ≡ o → cond (begins_with_node o) (Some n) None ≡ Some m → is_bare l.mark ≡ true
+    go : (o : Outline) → part ls n floor ≡ o → cond (begins_with_node o) (Some n) None ≡ Some m → has_no_mark l.mark ≡ true
     go end there e = absurd (cc)
-    go (row k u a) there e = by (is_bare k.mark) refl e
+    go (row k u a) there e = by (has_no_mark k.mark) refl e
       where
-        by : (b : Bool) → is_bare k.mark ≡ b → cond b (Some n) None ≡ Some m → is_bare l.mark ≡ true
+        by : (b : Bool) → has_no_mark k.mark ≡ b → cond b (Some n) None ≡ Some m → has_no_mark l.mark ≡ true
         by false bare e = absurd (cc)
         by true bare e =
             let same : n ≡ m = same_Some _ _ e in
             let first : k ≡ l = same_Some _ _ (sym (first_is ls n floor k u a there).line ∙ (ap (slice_get ls) same ∙ is)) in
-            ap (λ (x : Line). is_bare x.mark) (sym first) ∙ bare
+            ap (λ (x : Line). has_no_mark x.mark) (sym first) ∙ bare
 
 pub head_takes : (ls : List Line) (steps left : List Step) (p : NodePlace) (n : ℕ) (l : Line) → Some (p, left) ≡ node_place steps ls → Some n ≡ place_line ls p → slice_get ls n ≡ Some l → TakesSteps l
 head_takes ls [] left p n l e found is =
@@ -148,11 +148,11 @@ head_takes ls (s ∷ ss) left p n l e found is = go (find s ss (group ls)) refl 
         by false head at = inl (bare_first ls _ n _ l (sym at) is)
 
     go : (r : Option (FoundLine × List Step)) → find s ss (group ls) ≡ r → Rattle.yq_lines.proofs.Values.If r Takes →
-        Some (p, left) ≡ (option_map numbered r >>= λ x. with_line x.0 x.1 (slice_get ls x.0)) → TakesSteps l
+        Some (p, left) ≡ (option_map numbered r >>= λ x. line_with_steps x.0 x.1 (slice_get ls x.0)) → TakesSteps l
     go None there takes e = absurd (cc)
     go (Some x) there takes e =
         let found_it = (found_in_lines s ss x.1 ls x.0 there).0 in
-        let place : p ≡ line_place (length (lines_before x.0.place)) x.1 x.0.line = ap (λ (y : NodePlace × List Step). y.0) (same_Some _ _ (e ∙ ap (λ (o : Option Line). with_line (length (lines_before x.0.place)) x.1 o) found_it)) in
+        let place : p ≡ line_place (length (lines_before x.0.place)) x.1 x.0.line = ap (λ (y : NodePlace × List Step). y.0) (same_Some _ _ (e ∙ ap (λ (o : Option Line). line_with_steps (length (lines_before x.0.place)) x.1 o) found_it)) in
         line x.0 x.1 takes found_it (found ∙ ap (place_line ls) place)
 
 -- its head is that of its row
@@ -163,7 +163,7 @@ row_takes s d h q l takes = go (cases_lt q.line (length l.row.dashes))
     go (inl less) = absurd (dash (l.agrees.dash less) takes)
       where
         dash : (l.line.mark ≡ Dash) × (l.line.head ≡ None) → TakesSteps l.line → ⊥
-        dash e (inl bare) = false≢true (sym (ap is_bare e.0) ∙ bare)
+        dash e (inl bare) = false≢true (sym (ap has_no_mark e.0) ∙ bare)
         dash e (inr head) = false≢true (sym (ap is_some e.1) ∙ head)
     go (inr past) = (l.agrees.mark (omega (arith, past, l.within))).1
 
@@ -171,17 +171,17 @@ row_takes s d h q l takes = go (cases_lt q.line (length l.row.dashes))
 
 -- among the rows of a document
 abbrev pub node_among : List Step → ℕ → Cut → List Row → Option NodeAt
-node_among steps k c rs = node_place steps (lines_of rs) >>= λ x. place_node (lines_of rs) x.0 x.1
+node_among steps k c rs = node_place steps (lines_of_rows rs) >>= λ x. place_node (lines_of_rows rs) x.0 x.1
 
 -- in no head
 pub block_numbers_of : (ls : List Line) (steps left : List Step) (p : NodePlace) → Some (p, left) ≡ node_place steps ls → None ≡ place_line ls p → summary_of_lines ls p ≡ (node_place steps ls >>= λ x. place_node ls x.0 x.1)
 block_numbers_of ls steps left p e none = ap (λ (o : Option ℕ). line_or o (summary_in_line ls left) (summary_of_lines ls p)) none ∙ ap (λ (o : Option (NodePlace × List Step)). o >>= λ x. place_node ls x.0 x.1) e
 
 -- in the head of a line, by its row
-pub head_agrees : (s : RowsView) (d : Stretch) (c : Cut) (k : InCut s d c) (q : Position) (w : IsLine s d q) (steps left : List Step) (p : NodePlace) (h : Option Node) → Some (p, left) ≡ node_place steps (lines_of k.document.stand.rows) →
-    Some (line_number d k.document.stand.rows q) ≡ place_line (lines_of k.document.stand.rows) p → h ≡ head_of (row_is s d c k q w).content → summary_in_head left h ≡ node_among steps d.first c k.document.stand.rows
+pub head_agrees : (s : RowsView) (d : Stretch) (c : Cut) (k : InCut s d c) (q : Position) (w : IsLine s d q) (steps left : List Step) (p : NodePlace) (h : Option Node) → Some (p, left) ≡ node_place steps (lines_of_rows k.document.stand.rows) →
+    Some (line_number d k.document.stand.rows q) ≡ place_line (lines_of_rows k.document.stand.rows) p → h ≡ head_of (row_is s d c k q w).content → summary_in_head left h ≡ node_among steps d.first c k.document.stand.rows
 head_agrees s d c k q w steps left p h e found head =
-    let ls : List Line = lines_of k.document.stand.rows in
+    let ls : List Line = lines_of_rows k.document.stand.rows in
     let l = located s d k.document.stand q w in
     let same : h ≡ l.line.head = head ∙ sym (row_takes s d k.document.stand q l (head_takes ls steps left p (line_number d k.document.stand.rows q) l.line e found l.is)) in
     ap (summary_in_head left) same
@@ -191,11 +191,11 @@ head_agrees s d c k q w steps left p h e found head =
 -- in a document of a text
 pub node_is : (c : Cut) (n : ℕ) (steps : List Step) (k : ℕ) → all_documents c ≡ true → (slice_get (document_parts c) n >>= λ p. node_among steps k c p.rows) ≡ option_map node_summary (node_in n steps c)
 node_is c n steps k sound =
-    go (slice_get (document_parts c) n) refl ∙ sym (ap (λ o. option_map node_summary (o >>= λ d. node_at steps d.root)) (slice_get-map document_of (document_parts c) n))
+    go (slice_get (document_parts c) n) refl ∙ sym (ap (λ o. option_map node_summary (o >>= λ d. node_at steps d.root)) (slice_get-map part_document (document_parts c) n))
   where
-    go : (o : Option Part) → slice_get (document_parts c) n ≡ o → (o >>= λ p. node_among steps k c p.rows) ≡ option_map node_summary (option_map document_of o >>= λ d. node_at steps d.root)
+    go : (o : Option Part) → slice_get (document_parts c) n ≡ o → (o >>= λ p. node_among steps k c p.rows) ≡ option_map node_summary (option_map part_document o >>= λ d. node_at steps d.root)
     go None is = refl
-    go (Some p) is = sym (node_found (lines_of p.rows) steps (document_fine p (each (document_parts c) sound n p is)))
+    go (Some p) is = sym (node_found (lines_of_rows p.rows) steps (document_fine p (each (document_parts c) sound n p is)))
 
 -- ---- scalars
 

@@ -3,15 +3,15 @@ use Rattle.std.proofs.Common.{◌≡◌, ℕ, List, [], ◌∷◌, ◌++◌, map
 use Rattle.std.proofs.lemmas.Option.{none-some, same_Some}
 use Rattle.yq_flow_scalars.specs.Answers.{◌>>=◌}
 use Rattle.yq_flow_scalars.specs.Paths.{Step}
-use Rattle.yq_nodes.specs.Nodes.{Node, empty, alias, scalar, coll, anchored, key_text}
+use Rattle.yq_nodes.specs.Nodes.{FlowNode, empty, alias, scalar, coll, anchored, key_text}
 use Rattle.yq_cut.specs.Rows.{Content, Nothing, Inline, Block, anchor_text}
 use Rattle.yq_documents.specs.declared.path.Part.TheVariants as parts
 use Rattle.yq_lines.specs.Group.{group}
 use Rattle.yq_documents.specs.Located.{steps_of}
 use Rattle.yq_lines.specs.Places.{FoundLine, find}
-use Rattle.yq_lines.specs.Positions.{is_bare}
+use Rattle.yq_lines.specs.Positions.{has_no_mark}
 use Rattle.yq_documents.specs.Pieces.{TextPiece, node_piece, head_piece}
-use Rattle.yq_row_places.specs.PrintedLines.{line_front, PrintedLine, behind_front, print_line, print_lines, line_in, run_piece, lines_piece}
+use Rattle.yq_row_places.specs.PrintedLines.{line_front, PrintedLine, line_rest, print_line, print_lines, line_in, run_piece, lines_piece}
 use Rattle.yq_row_places.specs.PathPieces.{BlockEntry, content_piece, FlowEntry, flow_at, line_inline, flow_piece, flow_content, PrintedDocument, printed_document, found_entry, piece_in_entry, piece_in}
 use Rattle.yq_row_places.specs.PieceLaws.{ContentsBegin}
 
@@ -25,7 +25,7 @@ here before x e = ([], e ∙ sym (append-nil before))
 further : (before more : List ℕ) (x : TextPiece) → From (before ++ more) x → From before x
 further before more x h = (more ++ h.0, h.1 ∙ append_assoc before more h.0)
 
-node_begins : (before : List ℕ) (node : Node) (rest : List ℕ) (x : TextPiece) → node_piece before node rest ≡ Some x → From before x
+node_begins : (before : List ℕ) (node : FlowNode) (rest : List ℕ) (x : TextPiece) → node_piece before node rest ≡ Some x → From before x
 node_begins before empty rest x e = absurd (none-some _ e)
 node_begins before (alias n) rest x e = here before x (ap (λ (p : TextPiece). p.before) (sym (same_Some _ _ e)))
 node_begins before (scalar p) rest x e = here before x (ap (λ (p : TextPiece). p.before) (sym (same_Some _ _ e)))
@@ -39,7 +39,7 @@ head_begins before (Block space anchor block) rest x e = (space ++ anchor_text a
 
 block_begins : (before : List ℕ) (ls : List PrintedLine) (rest : List ℕ) (x : TextPiece) → lines_piece before ls rest ≡ Some x → From before x
 block_begins before [] rest x e = absurd (none-some _ e)
-block_begins before (l ∷ ls) rest x e = go (is_bare l.line.mark) e
+block_begins before (l ∷ ls) rest x e = go (has_no_mark l.line.mark) e
   where
     go : (b : Bool) → cond b (head_piece (before ++ (line_front l ++ l.mark)) l.content (print_lines ls rest)) (Some (run_piece before l ls rest)) ≡ Some x → From before x
     go true e = further before (line_front l ++ l.mark) x (head_begins (before ++ (line_front l ++ l.mark)) l.content (print_lines ls rest) x e)
@@ -53,7 +53,7 @@ content_begins e x is = go (is_some e.line.line.head) is
   where
     go : (b : Bool) → cond b (head_piece (e.before ++ (line_front e.line ++ e.line.mark)) e.line.content (print_lines e.under e.behind)) (lines_piece (e.before ++ print_line e.line []) e.under e.behind) ≡ Some x → From (e.before ++ line_front e.line) x
     go true is = moved e.before (line_front e.line) e.line.mark x (head_begins (e.before ++ (line_front e.line ++ e.line.mark)) e.line.content (print_lines e.under e.behind) x is)
-    go false is = moved e.before (line_front e.line) (behind_front e.line []) x (block_begins (e.before ++ print_line e.line []) e.under e.behind x is)
+    go false is = moved e.before (line_front e.line) (line_rest e.line []) x (block_begins (e.before ++ print_line e.line []) e.under e.behind x is)
 
 item_begins : (o : Option FlowEntry) (e x : TextPiece) → option_map flow_piece o ≡ Some e → (o >>= flow_content) ≡ Some x → From e.before x
 item_begins None e x h k = absurd (none-some _ h)

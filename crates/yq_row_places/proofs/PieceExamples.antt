@@ -4,7 +4,7 @@ use Rattle.yq_flow_scalars.specs.Answers.{◌>>=◌}
 use Rattle.yq_flow_scalars.specs.Paths.{Step, Nth}
 use Rattle.yq_block_scalars.specs.declared.block_header.BlockStyle.TheVariants.{Literal}
 use Rattle.yq_block_scalars.specs.declared.block_header.Chomping.TheVariants.{Clip}
-use Rattle.yq_flow_scalars.specs.Text.{upto, lines_of}
+use Rattle.yq_flow_scalars.specs.Text.{upto, text_lines}
 use Rattle.yq_nodes.specs.Nodes as inline
 use Rattle.yq_cut.specs.Rows.{Dash, Content, Inline, Block, Row, Cut, last}
 use Rattle.yq_row_places.specs.PrintedLines.{less_break}
@@ -55,7 +55,7 @@ compact_item = refl
 
 -- an item of a flow collection
 flow : text_of parts.Entry (Nth 2 ∷ Nth 1 ∷ []) ≡ Some (codes "s")
-unfolding level inline.node_text inline.items_text
+unfolding level inline.node_text inline.flow_items_text
 flow = refl
 
 -- a block scalar ends with its last break, and its item before that
@@ -78,5 +78,5 @@ unfolding level inline.node_text upto
 beside = refl
 
 above : text_of parts.HeadComment (Nth 1 ∷ Nth 1 ∷ []) ≡ Some (codes "# h" ++ break)
-unfolding level inline.node_text upto lines_of
+unfolding level inline.node_text upto text_lines
 above = refl

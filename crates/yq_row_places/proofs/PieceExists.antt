@@ -8,7 +8,7 @@ use Rattle.yq_flow_scalars.specs.Answers.{◌>>=◌}
 use Rattle.yq_flow_scalars.specs.Paths.{Step, node_at}
 use Rattle.yq_flow_scalars.specs.Tree as tree
 use Rattle.yq_flow_scalars.proofs.Bools.{guard_then}
-use Rattle.yq_nodes.specs.Nodes.{Node, empty, anchored}
+use Rattle.yq_nodes.specs.Nodes.{FlowNode, empty, anchored}
 use Rattle.yq_cut.specs.Rows.{Content, Cut}
 use Rattle.yq_documents.specs.declared.path.Path.{Path}
 use Rattle.yq_documents.specs.declared.path.Part.TheVariants as parts
@@ -18,10 +18,10 @@ use Rattle.yq_lines.specs.Lines.{head_of}
 use Rattle.yq_nodes.specs.Trees.{tree_of, with_name, node_head}
 use Rattle.yq_documents.specs.Located.{steps_of, located}
 use Rattle.yq_lines.specs.Outline as outlines
-use Rattle.yq_lines.specs.Outline.{Mark, Outline, end, row, flatten, IsEven, IsWhole, value}
-use Rattle.yq_lines.specs.Places.{FoundLine, find, content}
-use Rattle.yq_documents.specs.Reading.{document_of, read_at}
-use Rattle.yq_lines.specs.Positions.{is_bare}
+use Rattle.yq_lines.specs.Outline.{LineMark, Outline, end, row, flatten, IsEven, IsWhole, value}
+use Rattle.yq_lines.specs.Places.{FoundLine, find, content_under}
+use Rattle.yq_documents.specs.Reading.{part_document, read_at}
+use Rattle.yq_lines.specs.Positions.{has_no_mark}
 use Rattle.yq_documents.proofs.PartRows.{each}
 use Rattle.yq_lines.proofs.Decides.{flatten-group, even_from}
 use Rattle.yq_lines.specs.Labelled.{labelled_from}
@@ -38,7 +38,7 @@ use Rattle.yq_row_places.proofs.PrintedLaws.{ArePrinted, lines_are, document_is}
 use Rattle.yq_row_places.proofs.FoundEntries.{IsFound, entry_there, entry_found}
 use Rattle.yq_row_places.proofs.FlowPieces.{flow_label, line_labels, head_there, head_item_at}
 
-node_some : (before : List ℕ) (node : Node) (rest : List ℕ) → is_some (node_piece before node rest) ≡ is_some (node_head node)
+node_some : (before : List ℕ) (node : FlowNode) (rest : List ℕ) → is_some (node_piece before node rest) ≡ is_some (node_head node)
 node_some before (anchored n g node) rest = node_some (before ++ 38 ∷ (n ++ g)) node rest
 node_some before x rest = refl
 
@@ -46,18 +46,18 @@ head_some : (before : List ℕ) (c : Content) (rest : List ℕ) → is_some (hea
 head_some before c rest = search (rules, node_some)
 
 -- a node on a line of its own has a head
-whole_head : (m : Mark) (h : Option tree.Node) (a : Outline) → is_bare m ≡ true → IsWhole m h a → is_some h ≡ true
+whole_head : (m : LineMark) (h : Option tree.Node) (a : Outline) → has_no_mark m ≡ true → IsWhole m h a → is_some h ≡ true
 whole_head m h a h1 h2 = search rules
 
 block_some : (before : List ℕ) (ls : List PrintedLine) (rest : List ℕ) (o : Outline) (m : ℕ) → ArePrinted ls rest → map line_in ls ≡ flatten o → IsEven m o → is_some (lines_piece before ls rest) ≡ some_lines ls
 block_some before [] rest o m as_printed lines even = refl
 block_some before (l ∷ ls) rest end m as_printed lines even = cc
-block_some before (l ∷ ls) rest (row k u a) m as_printed lines even = go (is_bare l.line.mark) refl
+block_some before (l ∷ ls) rest (row k u a) m as_printed lines even = go (has_no_mark l.line.mark) refl
   where
     first : l.line ≡ k
     first = cc
 
-    go : (b : Bool) → is_bare l.line.mark ≡ b → is_some (cond b (head_piece (before ++ (line_front l ++ l.mark)) l.content (print_lines ls rest)) (Some (run_piece before l ls rest))) ≡ true
+    go : (b : Bool) → has_no_mark l.line.mark ≡ b → is_some (cond b (head_piece (before ++ (line_front l ++ l.mark)) l.content (print_lines ls rest)) (Some (run_piece before l ls rest))) ≡ true
     go b h1 = search (rules, head_some, whole_head)
 
 content_some : (s : PrintedDocument) (e : BlockEntry) (f : FoundLine) (m : ℕ) → IsFound s e f → IsEven m f.under → is_some (content_piece e) ≡ (is_some e.line.line.head || some_lines e.under)
@@ -98,7 +98,7 @@ some_map f o = search rules
 
 -- an item or entry is in flow exactly where the node is
 line_agrees : (s : PrintedDocument) (t : Step) (ts : List Step) (e : BlockEntry) (f : FoundLine) (h : tree.Node) → IsFound s e f → f.line.head ≡ Some h →
-    is_some (line_inline e >>= flow_at (t ∷ ts)) ≡ is_some (node_at (t ∷ ts) (content f.line f.under))
+    is_some (line_inline e >>= flow_at (t ∷ ts)) ≡ is_some (node_at (t ∷ ts) (content_under f.line f.under))
 line_agrees s t ts e f h found head =
     sym (some_map flow_label (line_inline e >>= flow_at (t ∷ ts)))
     ∙ (ap is_some (sym (line_labels s t ts e f h found head))
@@ -109,7 +109,7 @@ then_map : {A B C : Type 0} (f : A → Option B) (g : B → C) (o : Option A) �
 then_map f g o = search (rules, some_map)
 
 entry_agrees : (s : PrintedDocument) (y : Step) (ys rest : List Step) (f : FoundLine) (e : BlockEntry) → find y ys (group (map line_in s.lines)) ≡ Some (f, rest) → is_fine (group (map line_in s.lines)) ≡ true → IsFound s e f →
-    is_some (piece_in_entry parts.Entry rest e) ≡ is_some (node_at rest (content f.line f.under))
+    is_some (piece_in_entry parts.Entry rest e) ≡ is_some (node_at rest (content_under f.line f.under))
 entry_agrees s y ys [] f e is fine found = refl
 entry_agrees s y ys (t ∷ ts) f e is fine found =
     let h = head_there (map line_in s.lines) y ys t ts f is fine in
@@ -126,7 +126,7 @@ steps_agree s y ys as_printed fine = go (find y ys (group (map line_in s.lines))
         ap (λ o. is_some (o >>= piece_in_entry parts.Entry f.1)) e.1 ∙ entry_agrees s y ys f.1 f.0 e.0 is fine (entry_found s y ys f.1 f.0 e.0 is as_printed e.1)
 
 -- a node for which nothing but an anchor is written
-headless : (node : Node) → node_head node ≡ None → IsNull (tree_of node)
+headless : (node : FlowNode) → node_head node ≡ None → IsNull (tree_of node)
 unfolding tree_of
 headless empty e = (None, refl)
 headless (anchored n g node) e = let k = headless node e in (Some n, ap (with_name n) k.1 ∙ go k.0)
@@ -145,7 +145,7 @@ no_head : (h : Option tree.Node) → is_some h ≡ false → h ≡ None
 no_head h h1 = search rules
 
 in_null : (s : PrintedDocument) (t : Step) (ts : List Step) (e : BlockEntry) (f : FoundLine) (h n : tree.Node) (o : Option FlowEntry) → IsFound s e f → f.line.head ≡ Some h → line_inline e ≡ o → is_some (o >>= flow_at (t ∷ ts)) ≡ true →
-    node_at (t ∷ ts) (content f.line f.under) ≡ Some n → or_false (o >>= λ x. option_map flow_written (flow_at (t ∷ ts) x)) ≡ false → IsNull n
+    node_at (t ∷ ts) (content_under f.line f.under) ≡ Some n → or_false (o >>= λ x. option_map flow_written (flow_at (t ∷ ts) x)) ≡ false → IsNull n
 in_null s t ts e f h n None found head is some at none = absurd (false≢true some)
 in_null s t ts e f h n (Some x) found head is some at none = go (flow_at (t ∷ ts) x) refl some none
   where
@@ -156,7 +156,7 @@ in_null s t ts e f h n (Some x) found head is some at none = go (flow_at (t ∷ 
         subst IsNull (same_Some _ _ (ap (option_map (λ x. x.1)) (sym labelled) ∙ (labelled_path (t ∷ ts) (entry_of f.line f.under) ∙ at))) (headless w.node (no_head (node_head w.node) none))
 
 entry_null : (s : PrintedDocument) (y : Step) (ys rest : List Step) (f : FoundLine) (e : BlockEntry) (n : tree.Node) → find y ys (group (map line_in s.lines)) ≡ Some (f, rest) → is_fine (group (map line_in s.lines)) ≡ true → IsFound s e f →
-    node_at rest (content f.line f.under) ≡ Some n → entry_written rest e ≡ false → IsNull n
+    node_at rest (content_under f.line f.under) ≡ Some n → entry_written rest e ≡ false → IsNull n
 entry_null s y ys [] f e n is fine found at none = search (rules, or_parts, no_head, same_Some, no_lines)
 entry_null s y ys (t ∷ ts) f e n is fine found at none =
     let h = head_there (map line_in s.lines) y ys t ts f is fine in
@@ -190,8 +190,8 @@ no_document : (t : List ℕ) (c : Cut) (p : Path) → read_at t ≡ Some c → p
 unfolding read_at
 no_document t c p read is =
     let cut = text_takes t c (guard_then (is_utf8 t) read).1 in
-    ap (λ (x : Cut). option_and_then (λ (d : Document). node_at (steps_of p) d.root) (slice_get (map document_of (document_parts x)) p.doc)) (cut_is t c cut.0)
-    ∙ ap (option_and_then (λ (d : Document). node_at (steps_of p) d.root)) (slice_get-map document_of (document_parts c) p.doc ∙ ap (option_map document_of) (no_part p.doc c is))
+    ap (λ (x : Cut). option_and_then (λ (d : Document). node_at (steps_of p) d.root) (slice_get (map part_document (document_parts x)) p.doc)) (cut_is t c cut.0)
+    ∙ ap (option_and_then (λ (d : Document). node_at (steps_of p) d.root)) (slice_get-map part_document (document_parts c) p.doc ∙ ap (option_map part_document) (no_part p.doc c is))
 
 pub contents_exist : ContentsExist
 contents_exist t c p read = go (printed_document p.doc c) refl

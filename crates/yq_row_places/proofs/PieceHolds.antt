@@ -15,7 +15,7 @@ use Rattle.yq_documents.specs.declared.path.Part.TheVariants as parts
 use Rattle.yq_documents.specs.declared.path.Path.{Path}
 use Rattle.yq_documents.specs.Documents.{document_parts}
 use Rattle.yq_documents.specs.PartNumbers.{part_number}
-use Rattle.yq_row_places.specs.EntryReading.{content_at, entry_at}
+use Rattle.yq_row_places.specs.EntryReading.{content_row_place, entry_at}
 use Rattle.yq_lines.specs.Group.{group, is_fine}
 use Rattle.yq_documents.specs.Located.{steps_of}
 use Rattle.yq_documents.specs.Pieces.{piece_span, HoldsPiece}
@@ -28,7 +28,7 @@ use Rattle.yq_row_places.proofs.ReadLaws.{text_takes}
 use Rattle.yq_row_places.proofs.RowPathLaws.{document_fine}
 use Rattle.yq_documents.proofs.PartRows.{part_begins}
 use Rattle.yq_row_places.specs.PrintedLines.{printed_lines, line_in}
-use Rattle.yq_row_places.specs.PathPieces.{PrintedDocument, printed_part, printed_document, piece_in, piece_at}
+use Rattle.yq_row_places.specs.PathPieces.{PrintedDocument, printed_part, printed_document, piece_in, path_piece}
 use Rattle.yq_row_places.specs.PlacedRows.{placed_at, placed_document}
 use Rattle.yq_row_places.specs.PieceLaws.{PiecesHold}
 use Rattle.yq_row_places.proofs.PieceTexts.{document_text, document_whole, whole_text}
@@ -45,11 +45,11 @@ no_part n c e = none_map (λ p. placed_at (part_number n c) c) _ (none_map print
 
 -- what the code answers is the span of the piece
 pub spans_are : (t : List ℕ) (c : Cut) (path : Path) → IsCut t c → all_documents c ≡ true →
-    (option_map piece_span (piece_at path parts.Content c) ≡ content_at path c) × (option_map piece_span (piece_at path parts.Entry c) ≡ entry_at path c)
+    (option_map piece_span (path_piece path parts.Content c) ≡ content_row_place path c) × (option_map piece_span (path_piece path parts.Entry c) ≡ entry_at path c)
 spans_are t c path cut sound = go (printed_document path.doc c) refl
   where
     go : (o : Option PrintedDocument) → printed_document path.doc c ≡ o →
-        (option_map piece_span (o >>= piece_in parts.Content (steps_of path)) ≡ content_at path c) × (option_map piece_span (o >>= piece_in parts.Entry (steps_of path)) ≡ entry_at path c)
+        (option_map piece_span (o >>= piece_in parts.Content (steps_of path)) ≡ content_row_place path c) × (option_map piece_span (o >>= piece_in parts.Entry (steps_of path)) ≡ entry_at path c)
     go None is = search (rules, no_part)
     go (Some s) is =
         let q = document_is path.doc c s cut.parts is in
@@ -86,7 +86,7 @@ pieces_hold t c path part x read found = go part found
         let whole = document_whole path.doc c s is ∙ sym text in
         subst (λ q. HoldsPiece q x) whole (comments_hold (steps_of path) s x (subst IsUtf8 (sym whole) u) (document_is path.doc c s takes.0.parts is).2.as_printed e)
 
-    go : (part : WhichPart) → piece_at path part c ≡ Some x → HoldsPiece t x
+    go : (part : WhichPart) → path_piece path part c ≡ Some x → HoldsPiece t x
     go parts.Content e =
         let span = sym (spans_are t c path takes.0 takes.1).0 ∙ ap (option_map piece_span) e in
         pieces_at t x.before x.text x.behind (whole_text t c path parts.Content x read e) u (entries_placed t c path (piece_span x) takes.0 u (inr span))

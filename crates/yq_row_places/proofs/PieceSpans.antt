@@ -22,12 +22,12 @@ use Rattle.yq_row_places.specs.EntryReading as places
 use Rattle.yq_row_places.specs.EntryReading.{lines_place, line_head, lines_content, line_content, line_entry, inline_node, placed_inline, flow_entry, entry_from, content_from}
 use Rattle.yq_lines.specs.Ends.{deeper_count, lines_end, reached}
 use Rattle.yq_lines.specs.Group.{group, level_or, is_fine}
-use Rattle.yq_lines.specs.Lines.{head_of, tail_of, lines_of}
+use Rattle.yq_lines.specs.Lines.{head_of, tail_of, lines_of_rows}
 use Rattle.yq_lines.specs.Outline as outlines
 use Rattle.yq_lines.specs.Outline.{Line, level, Outline, end, row, flatten, IsEven, IsWhole}
 use Rattle.yq_lines.specs.Places.{lines_before, lines_after, FoundLine, find}
 use Rattle.yq_documents.specs.LinesInRows.{RowLine, row_line}
-use Rattle.yq_lines.specs.Positions.{is_bare}
+use Rattle.yq_lines.specs.Positions.{has_no_mark}
 use Rattle.yq_lines.proofs.Decides.{flatten-group, even_from}
 use Rattle.yq_row_places.proofs.EntryPlaceLaws.{by_line, row_there}
 use Rattle.yq_row_places.proofs.RowPathLaws.{found_lines, found_place}
@@ -55,7 +55,7 @@ whole_head : (h : Option tree.Node) (a : Outline) → IsWhole outlines.Bare h a 
 whole_head h a h1 = search rules
 
 -- a line of its own spells a node
-pub bare_head : (e : ℕ) (l : PrintedLine) (us : List PrintedLine) (o : Outline) → IsEven e o → map line_in (l ∷ us) ≡ flatten o → is_bare l.line.mark ≡ true → (n : tree.Node) × (l.line.head ≡ Some n)
+pub bare_head : (e : ℕ) (l : PrintedLine) (us : List PrintedLine) (o : Outline) → IsEven e o → map line_in (l ∷ us) ≡ flatten o → has_no_mark l.line.mark ≡ true → (n : tree.Node) × (l.line.head ≡ Some n)
 bare_head e l us end even lines t = cc
 bare_head e l us (row x u a) even lines t = search (rules, bare_is, whole_head)
 
@@ -65,7 +65,7 @@ module _ (c : Cut) (p : Part) (more : List Row) (k : ℕ) (before behind : List 
   abbrev document : PrintedDocument
   document = record { before = before; lines = printed_lines p.rows; behind = behind }
 
-  line_at : (n : ℕ) (l : PrintedLine) → slice_get (printed_lines p.rows) n ≡ Some l → slice_get (lines_of p.rows) n ≡ Some l.line
+  line_at : (n : ℕ) (l : PrintedLine) → slice_get (printed_lines p.rows) n ≡ Some l → slice_get (lines_of_rows p.rows) n ≡ Some l.line
   line_at n l e = ap (λ x. slice_get x n) (sym (lines_are p.rows)) ∙ (slice_get-map line_in (printed_lines p.rows) n ∙ ap (option_map line_in) e)
 
   -- the last line of a node is the last of its row
@@ -84,14 +84,14 @@ module _ (c : Cut) (p : Part) (more : List Row) (k : ℕ) (before behind : List 
       let us : List PrintedLine = take j (drop (suc from) (printed_lines p.rows)) in
       let split : take (suc j) (drop from (printed_lines p.rows)) ≡ l.0 ∷ us = ap (take (suc j)) (get_some (printed_lines p.rows) from l.0 l.1) in
       ap (λ x. option_map piece_span (lines_piece (before ++ print_lines (take from (printed_lines p.rows)) []) x rest)) split
-      ∙ (go l.0 l.1 o even (ap (map line_in) (sym split) ∙ lines) (subst (λ x. ArePrinted x rest) split agrees_in) (is_bare l.0.line.mark) refl
-      ∙ sym (cond-false _ _ _ (apart (eqb from (from + suc j)) refl) ∙ ap (λ (x : Option Line). x >>= λ y. cond (is_bare y.mark) (line_head k c p.rows from) (lines_place k c p.rows from (from + suc j - 1))) (line_at from l.0 l.1)))
+      ∙ (go l.0 l.1 o even (ap (map line_in) (sym split) ∙ lines) (subst (λ x. ArePrinted x rest) split agrees_in) (has_no_mark l.0.line.mark) refl
+      ∙ sym (cond-false _ _ _ (apart (eqb from (from + suc j)) refl) ∙ ap (λ (x : Option Line). x >>= λ y. cond (has_no_mark y.mark) (line_head k c p.rows from) (lines_place k c p.rows from (from + suc j - 1))) (line_at from l.0 l.1)))
     where
       apart : (b : Bool) → eqb from (from + suc j) ≡ b → b ≡ false
       apart b h1 = search (rules, eqb-true)
 
       go : (l : PrintedLine) → slice_get (printed_lines p.rows) from ≡ Some l → (o : Outline) → IsEven e o → map line_in (l ∷ take j (drop (suc from) (printed_lines p.rows))) ≡ flatten o →
-          ArePrinted (l ∷ take j (drop (suc from) (printed_lines p.rows))) rest → (b : Bool) → is_bare l.line.mark ≡ b →
+          ArePrinted (l ∷ take j (drop (suc from) (printed_lines p.rows))) rest → (b : Bool) → has_no_mark l.line.mark ≡ b →
           option_map piece_span (cond b (head_piece ((before ++ print_lines (take from (printed_lines p.rows)) []) ++ (line_front l ++ l.mark)) l.content (print_lines (take j (drop (suc from) (printed_lines p.rows))) rest))
           (Some (run_piece (before ++ print_lines (take from (printed_lines p.rows)) []) l (take j (drop (suc from) (printed_lines p.rows))) rest))) ≡
           cond b (line_head k c p.rows from) (lines_place k c p.rows from (from + suc j - 1))
@@ -130,7 +130,7 @@ module _ (c : Cut) (p : Part) (more : List Row) (k : ℕ) (before behind : List 
     pub line_in_it : e.line ≡ l
     pub under_is : e.under ≡ take m (drop (suc n) (printed_lines p.rows))
     pub count : m ≡ deeper_count (level l.line) (drop (suc n) (map line_in (printed_lines p.rows)))
-    pub ends : lines_end n (lines_of p.rows) ≡ suc n + m
+    pub ends : lines_end n (lines_of_rows p.rows) ≡ suc n + m
     pub fits : suc n + m ≤ length (printed_lines p.rows)
     pub found : IsFound document e f
     pub even : (d : ℕ) × IsEven d f.under
@@ -177,12 +177,12 @@ module _ (c : Cut) (p : Part) (more : List Row) (k : ℕ) (before behind : List 
   content_span : (f : FoundLine) (n m : ℕ) (l : PrintedLine) (e : BlockEntry) → IsEntryAt f n m l e → option_map piece_span (content_piece e) ≡ line_content k c p.rows n
   content_span f n m l e h =
       go l.line.head refl
-      ∙ sym (ap (λ (o : Option Line). o >>= λ x. cond (is_some x.head) (line_head k c p.rows n) (lines_content k c p.rows (suc n) (lines_end n (lines_of p.rows)))) (line_at n l h.line))
+      ∙ sym (ap (λ (o : Option Line). o >>= λ x. cond (is_some x.head) (line_head k c p.rows n) (lines_content k c p.rows (suc n) (lines_end n (lines_of_rows p.rows)))) (line_at n l h.line))
     where
       head_is : e.line.line.head ≡ l.line.head
       head_is = ap (λ (x : PrintedLine). x.line.head) h.line_in_it
 
-      go : (o : Option tree.Node) → l.line.head ≡ o → option_map piece_span (content_piece e) ≡ cond (is_some l.line.head) (line_head k c p.rows n) (lines_content k c p.rows (suc n) (lines_end n (lines_of p.rows)))
+      go : (o : Option tree.Node) → l.line.head ≡ o → option_map piece_span (content_piece e) ≡ cond (is_some l.line.head) (line_head k c p.rows n) (lines_content k c p.rows (suc n) (lines_end n (lines_of_rows p.rows)))
       go (Some x) head =
           ap (option_map piece_span) (cond-true _ _ _ (ap is_some (head_is ∙ head)))
           ∙ ((λ i. option_map piece_span (head_piece (h.before_is i ++ (line_front (h.line_in_it i) ++ (h.line_in_it i).mark)) (h.line_in_it i).content (print_lines e.under e.behind)))
@@ -302,7 +302,7 @@ module _ (c : Cut) (p : Part) (more : List Row) (k : ℕ) (before behind : List 
       let h = head_there (map line_in (printed_lines p.rows)) y ys t ts f is fine in
       ap (λ o. option_map piece_span (o >>= piece_in_entry parts.Entry (t ∷ ts))) e.1 ∙ (flow_span f (length (lines_before f.place)) (length (flatten f.under)) e.2 e.0 t ts e.3 h.0 h.1).0
 
-  pub contents_span : (steps : List Step) → option_map piece_span (piece_in parts.Content steps document) ≡ places.content_of k c p.rows steps
+  pub contents_span : (steps : List Step) → option_map piece_span (piece_in parts.Content steps document) ≡ places.node_place_of k c p.rows steps
   contents_span [] =
       let whole_list : take (length (printed_lines p.rows)) (printed_lines p.rows) ≡ printed_lines p.rows = take_whole (printed_lines p.rows) in
       ap (λ x. option_map piece_span (lines_piece x (printed_lines p.rows) behind)) (sym (append-nil before))

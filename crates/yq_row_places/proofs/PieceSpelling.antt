@@ -7,8 +7,8 @@ use Rattle.yq_block_scalars.specs.Block.{IsBlock}
 use Rattle.yq_flow_scalars.specs.Paths.{Step, node_at}
 use Rattle.yq_flow_scalars.specs.Tree as tree
 use Rattle.yq_flow_scalars.proofs.Bools.{bind_some, guard_then}
-use Rattle.yq_nodes.specs.Entries.{inside}
-use Rattle.yq_nodes.specs.Nodes.{Node, node_text, empty, alias, scalar, coll, anchored, IsNode}
+use Rattle.yq_nodes.specs.Entries.{path_inside}
+use Rattle.yq_nodes.specs.Nodes.{FlowNode, node_text, empty, alias, scalar, coll, anchored, IsFlowNode}
 use Rattle.yq_nodes.specs.Trees.{node_anchor, tree_of, node_head}
 use Rattle.yq_cut.specs.Rows.{Content, Nothing, Inline, Block, Cut}
 use Rattle.yq_documents.specs.declared.path.Part.{Part as WhichPart}
@@ -16,16 +16,16 @@ use Rattle.yq_documents.specs.declared.path.Part.TheVariants as parts
 use Rattle.yq_documents.specs.declared.path.Path.{Path}
 use Rattle.yq_documents.specs.Documents.{document_parts, Document}
 use Rattle.yq_lines.specs.Group.{group, level_or, is_fine}
-use Rattle.yq_lines.specs.Lines.{head_of, lines_of}
+use Rattle.yq_lines.specs.Lines.{head_of, lines_of_rows}
 use Rattle.yq_lines.specs.Labelled.{Labelled, labelled_from}
 use Rattle.yq_lines.proofs.LabelPaths.{FoundEntry, path_entry}
 use Rattle.yq_documents.specs.Located.{steps_of, document_at, labelled_located, located, unlabelled}
 use Rattle.yq_lines.specs.Outline as outlines
-use Rattle.yq_lines.specs.Outline.{Mark, Line, level, Outline, end, row, flatten, IsEven, first_anchor, head_or, value}
+use Rattle.yq_lines.specs.Outline.{LineMark, Line, level, Outline, end, row, flatten, IsEven, first_anchor, head_or, value}
 use Rattle.yq_lines.specs.Places.{FoundLine, find}
 use Rattle.yq_lines.specs.Places as places
 use Rattle.yq_documents.specs.Reading.{read_at}
-use Rattle.yq_lines.specs.Positions.{is_bare}
+use Rattle.yq_lines.specs.Positions.{has_no_mark}
 use Rattle.yq_documents.proofs.PartRows.{each}
 use Rattle.yq_lines.proofs.Decides.{flatten-group, even_from}
 use Rattle.yq_lines.proofs.Finding.{entry_of, labelled_path}
@@ -34,7 +34,7 @@ use Rattle.yq_row_places.proofs.RowPathLaws.{found_place, document_fine}
 use Rattle.yq_documents.specs.Pieces.{TextPiece, node_piece, head_piece}
 use Rattle.yq_row_places.specs.PrintedLines.{line_front, PrintedLine, print_line, print_lines, line_in, run_piece, lines_piece}
 use Rattle.yq_row_places.specs.PathPieces.{BlockEntry, content_piece, FlowEntry, flow_at, line_inline, flow_content, PrintedDocument, printed_document, found_entry, piece_in_entry, piece_in}
-use Rattle.yq_row_places.specs.PieceLaws.{IsInlinePiece, IsRun, SpellsTree, SpellsNode, IsEntryRun, IsFlowPiece, ContentsSpell, EntriesSpell, LinesStand}
+use Rattle.yq_row_places.specs.PieceLaws.{IsInlinePiece, IsLineRun, SpellsTree, SpellsNode, IsEntryRun, IsFlowPiece, ContentsSpell, EntriesSpell, LinesStand}
 use Rattle.yq_row_places.proofs.PrintedTexts.{map_some, lines_then, lines_append}
 use Rattle.yq_row_places.proofs.PieceTexts.{document_whole}
 use Rattle.yq_row_places.proofs.PrintedLaws.{IsValid, IsWritten, IsPrinted, ArePrinted, lines_are, document_is}
@@ -42,14 +42,14 @@ use Rattle.yq_row_places.proofs.FoundEntries.{IsIn, IsFound, entry_found}
 use Rattle.yq_row_places.proofs.FlowPieces.{none_anchored, twice, head_tree, head_item_at, head_there}
 
 -- an inline node
-piece_is : (node : Node) (before behind : List ℕ) (x : TextPiece) → node_anchor node ≡ None → Some (record { before = before; text = node_text node []; behind = behind }) ≡ Some x → IsValid node behind → IsInlinePiece x (tree_of node)
+piece_is : (node : FlowNode) (before behind : List ℕ) (x : TextPiece) → node_anchor node ≡ None → Some (record { before = before; text = node_text node []; behind = behind }) ≡ Some x → IsValid node behind → IsInlinePiece x (tree_of node)
 piece_is node before behind x none e v =
     let same = same_Some _ _ e in
     record { node = node; unnamed = none; text = ap (λ (p : TextPiece). p.text) (sym same); valid = subst (λ (p : TextPiece). IsValid node p.behind) same v; tree = refl }
 
-pub node_spells : (before : List ℕ) (node : Node) (behind : List ℕ) (x : TextPiece) → node_piece before node behind ≡ Some x → IsValid node behind →
+pub node_spells : (before : List ℕ) (node : FlowNode) (behind : List ℕ) (x : TextPiece) → node_piece before node behind ≡ Some x → IsValid node behind →
     (h : tree.Node) × (node_head node ≡ Some h) × IsInlinePiece x h
-unfolding IsNode
+unfolding IsFlowNode
 node_spells before empty behind x e v = absurd (none-some _ e)
 node_spells before (alias name) behind x e v = (tree_of (alias name), refl, piece_is (alias name) before behind x refl e v)
 node_spells before (scalar p) behind x e v = (tree_of (scalar p), refl, piece_is (scalar p) before behind x refl e v)
@@ -73,32 +73,32 @@ line_spells s before l rest x as_printed e n =
     let k = head_spells s before l.content rest x e as_printed.written in
     record { anchor = l.line.anchor; tree = k.0; node = ap (λ h. outlines.anchored l.line.anchor (head_or h n)) (as_printed.head ∙ k.1); spelled = k.2 }
 
-pub bare_is : (m : Mark) → is_bare m ≡ true → m ≡ outlines.Bare
+pub bare_is : (m : LineMark) → has_no_mark m ≡ true → m ≡ outlines.Bare
 bare_is m h1 = search rules
 
-run_of : (s : PrintedDocument) (before : List ℕ) (l : PrintedLine) (ls : List PrintedLine) (behind : List ℕ) (x : TextPiece) → IsIn s before (l ∷ ls) behind → run_piece before l ls behind ≡ x → IsRun s l ls x
+run_of : (s : PrintedDocument) (before : List ℕ) (l : PrintedLine) (ls : List PrintedLine) (behind : List ℕ) (x : TextPiece) → IsIn s before (l ∷ ls) behind → run_piece before l ls behind ≡ x → IsLineRun s l ls x
 run_of s before l ls behind x h e = record { above = h.above; below = h.below; lines = h.lines; piece = sym e ∙ (λ i. run_piece (h.start i) l ls (h.stop i)) }
 
 -- the node for which lines stand
 pub block_spells : (s : PrintedDocument) (before : List ℕ) (ls : List PrintedLine) (behind : List ℕ) (x : TextPiece) (o : Outline) (m : ℕ) → IsIn s before ls behind → lines_piece before ls behind ≡ Some x →
     ArePrinted ls behind → map line_in ls ≡ flatten o → IsEven m o → SpellsNode s x (value o)
-block_spells s before [] behind x o m inside e as_printed lines even = absurd (none-some _ e)
-block_spells s before (l ∷ ls) behind x end m inside e as_printed lines even = cc
-block_spells s before (l ∷ ls) behind x (row k u a) m inside e as_printed lines even = go (is_bare l.line.mark) refl e
+block_spells s before [] behind x o m path_inside e as_printed lines even = absurd (none-some _ e)
+block_spells s before (l ∷ ls) behind x end m path_inside e as_printed lines even = cc
+block_spells s before (l ∷ ls) behind x (row k u a) m path_inside e as_printed lines even = go (has_no_mark l.line.mark) refl e
   where
     first : l.line ≡ k
     first = cc
 
-    go : (b : Bool) → is_bare l.line.mark ≡ b → cond b (head_piece (before ++ (line_front l ++ l.mark)) l.content (print_lines ls behind)) (Some (run_piece before l ls behind)) ≡ Some x → SpellsNode s x (value (row k u a))
+    go : (b : Bool) → has_no_mark l.line.mark ≡ b → cond b (head_piece (before ++ (line_front l ++ l.mark)) l.content (print_lines ls behind)) (Some (run_piece before l ls behind)) ≡ Some x → SpellsNode s x (value (row k u a))
     go true t e =
         let bare = sym (ap (λ (j : Line). j.mark) first) ∙ bare_is l.line.mark t in
-        subst (SpellsNode s x) (ap (λ (j : Line). outlines.anchored j.anchor (head_or j.head (value u))) first ∙ sym (ap (λ (m : Mark). outlines.collection m (outlines.children (row k u a))) bare))
+        subst (SpellsNode s x) (ap (λ (j : Line). outlines.anchored j.anchor (head_or j.head (value u))) first ∙ sym (ap (λ (m : LineMark). outlines.outline_node m (outlines.children (row k u a))) bare))
         (line_spells s (before ++ (line_front l ++ l.mark)) l (print_lines ls behind) x as_printed.0 e (value u))
     go false t e = record {
       anchor = None;
       tree = value (row k u a);
       node = none_anchored (value (row k u a));
-      spelled = inr (inr (record { first = l; others = ls; run = run_of s before l ls behind x inside (same_Some _ _ e); entry = t; outline = row k u a; even = (m, even); lines = lines; tree = refl }));
+      spelled = inr (inr (record { first = l; others = ls; run = run_of s before l ls behind x path_inside (same_Some _ _ e); entry = t; outline = row k u a; even = (m, even); lines = lines; tree = refl }));
     }
 
 under_in : (s : PrintedDocument) (e : BlockEntry) → IsIn s e.before (e.line ∷ e.under) e.behind → IsIn s (e.before ++ print_line e.line []) e.under e.behind
@@ -113,11 +113,11 @@ under_in s e h = record {
 }
 
 -- the content of a line
-pub content_spells : (s : PrintedDocument) (e : BlockEntry) (f : FoundLine) (x : TextPiece) (m : ℕ) → IsFound s e f → IsEven m f.under → content_piece e ≡ Some x → SpellsNode s x (places.content f.line f.under)
+pub content_spells : (s : PrintedDocument) (e : BlockEntry) (f : FoundLine) (x : TextPiece) (m : ℕ) → IsFound s e f → IsEven m f.under → content_piece e ≡ Some x → SpellsNode s x (places.content_under f.line f.under)
 content_spells s e f x m h even is = go e.line.line.head refl is
   where
     go : (o : Option tree.Node) → e.line.line.head ≡ o → cond (is_some o) (head_piece (e.before ++ (line_front e.line ++ e.line.mark)) e.line.content (print_lines e.under e.behind)) (lines_piece (e.before ++ print_line e.line []) e.under e.behind) ≡ Some x →
-        SpellsNode s x (places.content f.line f.under)
+        SpellsNode s x (places.content_under f.line f.under)
     go (Some k) head is =
         subst (λ (j : Line). SpellsNode s x (outlines.anchored j.anchor (head_or j.head (value f.under)))) h.line
         (line_spells s (e.before ++ (line_front e.line ++ e.line.mark)) e.line (print_lines e.under e.behind) x h.as_printed.0 is (value f.under))
@@ -194,7 +194,7 @@ by_part part t c p s x read there is =
     let cut = text_takes t c (guard_then (is_utf8 t) read).1 in
     let found : piece_in part (steps_of p) s ≡ Some x = ap (λ o. o >>= piece_in part (steps_of p)) (sym there) ∙ is in
     let q = document_is p.doc c s cut.0.parts there in
-    let lines : map line_in s.lines ≡ lines_of q.0.rows = ap (map line_in) q.2.lines ∙ lines_are q.0.rows in
+    let lines : map line_in s.lines ≡ lines_of_rows q.0.rows = ap (map line_in) q.2.lines ∙ lines_are q.0.rows in
     let fine = subst (λ ls. is_fine (group ls) ≡ true) (sym lines) (document_fine q.0 (each (document_parts c) cut.1 p.doc q.0 q.1)) in
     search (rules, option_and_then, cut_is, slice_get-map, document_spells, cut, found, q, lines, fine)
 

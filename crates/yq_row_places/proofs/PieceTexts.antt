@@ -6,10 +6,10 @@ use Rattle.std.specs.List.{slice_get}
 use Rattle.std.specs.Str.{is_utf8}
 use Rattle.yq_flow_scalars.specs.Answers.{◌>>=◌}
 use Rattle.yq_flow_scalars.specs.Paths.{Step, is_here, further}
-use Rattle.yq_flow_scalars.specs.Text.{cut, front, ends_line, is_empty, joined, lines_of, no_white, past_white, upto}
+use Rattle.yq_flow_scalars.specs.Text.{cut, front, ends_line, is_empty, joined, text_lines, no_white, past_white, upto}
 use Rattle.yq_block_scalars.proofs.LineLaws.{joined_lines}
 use Rattle.yq_flow_scalars.proofs.Bools.{bind_some, guard_then}
-use Rattle.yq_nodes.specs.Nodes.{Node, empty, alias, scalar, coll, anchored, Items, none, item, key_text, sep_text, open_of, node_text, items_text}
+use Rattle.yq_nodes.specs.Nodes.{FlowNode, empty, alias, scalar, coll, anchored, Items, none, item, key_text, sep_text, opening_bracket, node_text, flow_items_text}
 use Rattle.yq_nodes.specs.Trees.{inner, key_content}
 use Rattle.yq_nodes.proofs.WrittenLaws.{key_append, sep_append, node_append, node_then}
 use Rattle.yq_nodes.proofs.PathLaws.{then_some}
@@ -37,7 +37,7 @@ abbrev pub piece_text : TextPiece → List ℕ
 piece_text p = p.before ++ (p.text ++ p.behind)
 
 -- a node
-pub node_whole : (before : List ℕ) (node : Node) (behind : List ℕ) (x : TextPiece) → node_piece before node behind ≡ Some x → piece_text x ≡ before ++ node_text node behind
+pub node_whole : (before : List ℕ) (node : FlowNode) (behind : List ℕ) (x : TextPiece) → node_piece before node behind ≡ Some x → piece_text x ≡ before ++ node_text node behind
 unfolding node_text
 node_whole before empty behind x e = absurd (none-some _ e)
 node_whole before (alias name) behind x e = ap piece_text (sym (same_Some _ _ e)) ∙ ap (λ l. before ++ l) (sym (node_then (alias name) behind))
@@ -87,13 +87,13 @@ key_before x = append_assoc x.before (key_text x.key []) (node_text x.node x.beh
 value_whole : (x : FlowEntry) (p : TextPiece) → flow_content x ≡ Some p → piece_text p ≡ item_text x
 value_whole x p e = node_whole (x.before ++ key_text x.key []) x.node x.behind p e ∙ key_before x
 
-items_whole : (k : ℕ) (s : Step) (before : List ℕ) (is : Items) (behind : List ℕ) (x : FlowEntry) → flow_in k s before is behind ≡ Some x → item_text x ≡ before ++ items_text k is behind
-unfolding items_text
+items_whole : (k : ℕ) (s : Step) (before : List ℕ) (is : Items) (behind : List ℕ) (x : FlowEntry) → flow_in k s before is behind ≡ Some x → item_text x ≡ before ++ flow_items_text k is behind
+unfolding flow_items_text
 items_whole k s before none behind x e = absurd (none-some _ e)
 items_whole k s before (item key n sep is) behind x e = go (is_here s (inner (key_content key))) (λ h. items_whole k (further s) (before ++ key_text key (node_text n (sep_text sep []))) is behind x h) e
   where
     tail : List ℕ
-    tail = items_text k is behind
+    tail = flow_items_text k is behind
 
     front : List ℕ
     front = key_text key (node_text n (sep_text sep []))
@@ -106,12 +106,12 @@ items_whole k s before (item key n sep is) behind x e = go (is_here s (inner (ke
     go true again e = ap item_text (sym (same_Some _ _ e))
     go false again e = again e ∙ (append_assoc before front tail ∙ ap (λ l. before ++ l) (sym split))
 
-under_whole : (s : Step) (before : List ℕ) (node : Node) (behind : List ℕ) (x : FlowEntry) → flow_under s before node behind ≡ Some x → item_text x ≡ before ++ node_text node behind
+under_whole : (s : Step) (before : List ℕ) (node : FlowNode) (behind : List ℕ) (x : FlowEntry) → flow_under s before node behind ≡ Some x → item_text x ≡ before ++ node_text node behind
 unfolding node_text
 under_whole s before empty behind x e = absurd (none-some _ e)
 under_whole s before (alias n) behind x e = absurd (none-some _ e)
 under_whole s before (scalar p) behind x e = absurd (none-some _ e)
-under_whole s before (coll k gap is) behind x e = items_whole k s (before ++ open_of k ∷ gap) is behind x e ∙ append_assoc before (open_of k ∷ gap) (items_text k is behind)
+under_whole s before (coll k gap is) behind x e = items_whole k s (before ++ opening_bracket k ∷ gap) is behind x e ∙ append_assoc before (opening_bracket k ∷ gap) (flow_items_text k is behind)
 under_whole s before (anchored n gap node) behind x e =
     under_whole s (before ++ 38 ∷ (n ++ gap)) node behind x e
     ∙ (append_assoc before (38 ∷ (n ++ gap)) (node_text node behind) ∙ ap (λ l. before ++ (38 ∷ l)) (append_assoc n gap (node_text node behind)))
@@ -153,14 +153,14 @@ comment_whole : (before : List ℕ) (c : Content) (behind : List ℕ) (x : TextP
 comment_whole before c behind x e = search (rules, tail_whole, tail_text)
 
 gap_whole : (before gap behind : List ℕ) (x : TextPiece) → gap_comment before gap behind ≡ Some x → piece_text x ≡ before ++ (gap ++ behind)
-gap_whole before gap behind x e = go (is_empty (joined (last_run (lines_of gap)))) e
+gap_whole before gap behind x e = go (is_empty (joined (last_run (text_lines gap)))) e
   where
-    go : (b : Bool) → cond b None (Some (record { before = before ++ joined (before_run (lines_of gap)); text = joined (last_run (lines_of gap)); behind = behind })) ≡ Some x → piece_text x ≡ before ++ (gap ++ behind)
+    go : (b : Bool) → cond b None (Some (record { before = before ++ joined (before_run (text_lines gap)); text = joined (last_run (text_lines gap)); behind = behind })) ≡ Some x → piece_text x ≡ before ++ (gap ++ behind)
     go true e = absurd (none-some _ e)
     go false e =
         ap piece_text (sym (same_Some _ _ e))
-        ∙ (append_assoc before (joined (before_run (lines_of gap))) (joined (last_run (lines_of gap)) ++ behind)
-        ∙ ap (λ l. before ++ l) (sym (append_assoc (joined (before_run (lines_of gap))) (joined (last_run (lines_of gap))) behind) ∙ ap (λ l. l ++ behind) (run_split (lines_of gap) ∙ joined_lines gap)))
+        ∙ (append_assoc before (joined (before_run (text_lines gap))) (joined (last_run (text_lines gap)) ++ behind)
+        ∙ ap (λ l. before ++ l) (sym (append_assoc (joined (before_run (text_lines gap))) (joined (last_run (text_lines gap))) behind) ∙ ap (λ l. l ++ behind) (run_split (text_lines gap) ∙ joined_lines gap)))
 
 -- the part of an entry
 pub entry_piece_whole : (part : WhichPart) (ss : List Step) (e : BlockEntry) (x : TextPiece) → piece_in_entry part ss e ≡ Some x → piece_text x ≡ entry_text e

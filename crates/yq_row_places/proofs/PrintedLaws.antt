@@ -3,16 +3,16 @@ use Rattle.std.proofs.Common.{◌≡◌, ◌⊎◌, inl, ℕ, suc, ◌+◌, List
 use Rattle.std.specs.List.{slice_get}
 use Rattle.yq_block_scalars.specs.Block.{IsBlock}
 use Rattle.yq_flow_scalars.specs.Text.{upto}
-use Rattle.yq_nodes.specs.Nodes.{Node, IsNode}
+use Rattle.yq_nodes.specs.Nodes.{FlowNode, IsFlowNode}
 use Rattle.yq_lines.specs.Comments as comments
 use Rattle.yq_cut.specs.Grammar.{Limit, unlimited, limit_after, IsContent, AreRows, AreParts}
 use Rattle.yq_cut.specs.Rows as rows
 use Rattle.yq_cut.specs.View.{content_cut}
 use Rattle.yq_cut.specs.Rows.{Content, Nothing, Inline, Block, content_text, mark_text, dashes_text, behind_gap, Row, rows_text, Part, Cut}
 use Rattle.yq_documents.specs.Documents.{document_parts}
-use Rattle.yq_lines.specs.Lines.{head_of, tail_of, lines_from, lines_of}
+use Rattle.yq_lines.specs.Lines.{head_of, tail_of, lines_from, lines_of_rows}
 use Rattle.yq_lines.proofs.RowLaws.{no_comments}
-use Rattle.yq_row_places.specs.PrintedLines.{behind_front, PrintedLine, print_lines, printed_from, printed_row, printed_lines, line_in}
+use Rattle.yq_row_places.specs.PrintedLines.{line_rest, PrintedLine, print_lines, printed_from, printed_row, printed_lines, line_in}
 use Rattle.yq_row_places.specs.PathPieces.{PrintedDocument, printed_document}
 use Rattle.yq_row_places.specs.PlacedRows.{placed_document}
 use Rattle.yq_row_places.proofs.CommentPieceLaws.{Ended, content_end, gap_end}
@@ -20,8 +20,8 @@ use Rattle.yq_row_places.proofs.PlacedPartLaws.{part_rows, part_stands}
 use Rattle.yq_row_places.proofs.PrintedTexts.{alone, from_is, map_some, lines_append, rows_are}
 
 -- an inline node is valid where it stands
-abbrev pub IsValid : Node → List ℕ → Type 0
-IsValid node rest = (flow : Bool) × (spaces : Option ℕ) × (depth : ℕ) × IsNode flow spaces depth node rest
+abbrev pub IsValid : FlowNode → List ℕ → Type 0
+IsValid node rest = (flow : Bool) × (spaces : Option ℕ) × (depth : ℕ) × IsFlowNode flow spaces depth node rest
 
 -- a content is valid where it stands
 abbrev pub IsWritten : Content → List ℕ → Type 0
@@ -35,7 +35,7 @@ pub record IsPrinted (l : PrintedLine) (rest : List ℕ) : Type 0 where
   pub above : l.line.head_comment ≡ comments.head_comment l.gap
   pub beside : l.line.line_comment ≡ comments.line_comment (tail_of l.content)
   pub written : IsWritten l.content rest
-  pub gap : (l.gap ≡ []) ⊎ Ended l.gap (l.spaces ++ behind_front l rest)
+  pub gap : (l.gap ≡ []) ⊎ Ended l.gap (l.spaces ++ line_rest l rest)
   pub tail : (l.content ≡ Nothing []) ⊎ Ended (content_cut l.content).4 ((content_cut l.content).5 ++ rest)
 
 abbrev pub ArePrinted : List PrintedLine → List ℕ → Type 0
@@ -58,7 +58,7 @@ pub none_beside : comments.line_comment [] ≡ None
 unfolding upto
 none_beside = refl
 
-pub from_printed : (gap spaces : List ℕ) (column : ℕ) (ns : List ℕ) (m : rows.Mark) (c : Content) (rest : List ℕ) → IsWritten c rest → Ended (content_cut c).4 ((content_cut c).5 ++ rest) →
+pub from_printed : (gap spaces : List ℕ) (column : ℕ) (ns : List ℕ) (m : rows.RowMark) (c : Content) (rest : List ℕ) → IsWritten c rest → Ended (content_cut c).4 ((content_cut c).5 ++ rest) →
     (gap ≡ []) ⊎ Ended gap (spaces ++ dashes_text ns (mark_text m (content_text c rest))) → ArePrinted (printed_from gap spaces column ns m c) rest
 from_printed gap spaces column [] m c rest h e g = search (rules, alone)
 from_printed gap spaces column (n ∷ ns) m c rest h e g = (
@@ -80,11 +80,11 @@ pub map_append : (xs ys : List PrintedLine) → map line_in (xs ++ ys) ≡ map l
 map_append [] ys = refl
 map_append (x ∷ xs) ys = ap (λ l. line_in x ∷ l) (map_append xs ys)
 
-pub from_lines : (gap spaces : List ℕ) (column : ℕ) (ns : List ℕ) (m : rows.Mark) (c : Content) → map line_in (printed_from gap spaces column ns m c) ≡ lines_from (comments.head_comment gap) column ns m c
+pub from_lines : (gap spaces : List ℕ) (column : ℕ) (ns : List ℕ) (m : rows.RowMark) (c : Content) → map line_in (printed_from gap spaces column ns m c) ≡ lines_from (comments.head_comment gap) column ns m c
 from_lines gap spaces column [] m c = refl
 from_lines gap spaces column (n ∷ ns) m c = cc (from_lines [] [] (suc (column + n)) ns m c, no_comments)
 
-pub lines_are : (rs : List Row) → map line_in (printed_lines rs) ≡ lines_of rs
+pub lines_are : (rs : List Row) → map line_in (printed_lines rs) ≡ lines_of_rows rs
 lines_are [] = refl
 lines_are (r ∷ rs) = map_append (printed_row r) (printed_lines rs) ∙ (λ i. from_lines r.gap (replicate r.column 32) r.column r.dashes r.mark r.content i ++ lines_are rs i)
 

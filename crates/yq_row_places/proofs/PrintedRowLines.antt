@@ -9,7 +9,7 @@ use Rattle.yq_lines.specs.Comments.{head_comment}
 use Rattle.yq_cut.specs.Rows as rows
 use Rattle.yq_cut.specs.Rows.{Content, Nothing, Row, dashes_text, mark_text, rows_text, Part, Cut}
 use Rattle.yq_documents.specs.Documents.{document_parts}
-use Rattle.yq_lines.specs.Lines.{mark_of, dash_line}
+use Rattle.yq_lines.specs.Lines.{line_mark, dash_line}
 use Rattle.yq_lines.specs.Outline.{level}
 use Rattle.yq_row_places.specs.CommentReading.{before_row}
 use Rattle.yq_documents.specs.LinesInRows.{RowLine, behind_one, row_line, document_row}
@@ -21,7 +21,7 @@ use Rattle.yq_row_places.specs.PathPieces.{PrintedDocument, printed_document}
 use Rattle.yq_row_places.proofs.PrintedTexts.{map_some, lines_append, row_is}
 
 -- Line n of those of a row.
-pub record IsInRow (ls : List PrintedLine) (gap spaces : List ℕ) (ns : List ℕ) (m : rows.Mark) (c : Content) (n : ℕ) : Type 0 where
+pub record IsInRow (ls : List PrintedLine) (gap spaces : List ℕ) (ns : List ℕ) (m : rows.RowMark) (c : Content) (n : ℕ) : Type 0 where
   pub line : PrintedLine
   pub there : slice_get ls n ≡ Some line
   pub start : print_lines (take n ls) (line_front line) ≡ (gap ++ spaces) ++ dashes_text (take n ns) []
@@ -32,13 +32,13 @@ pub record IsInRow (ls : List PrintedLine) (gap spaces : List ℕ) (ns : List �
   pub dash : n < length ns → line.content ≡ Nothing []
 
 -- the first line behind a dash is deeper
-first_deeper : (above : List (List ℕ)) (column k : ℕ) (ns : List ℕ) (m : rows.Mark) (c : Content) →
+first_deeper : (above : List (List ℕ)) (column k : ℕ) (ns : List ℕ) (m : rows.RowMark) (c : Content) →
     (next : PrintedLine) × (slice_get (printed_from [] [] (suc (column + k)) ns m c) 0 ≡ Some next) × (level (dash_line above column) < level next.line)
 unfolding level
-first_deeper above column k [] m c = (_, refl, omega (arith, (rank_small (mark_of m)).0))
+first_deeper above column k [] m c = (_, refl, omega (arith, (rank_small (line_mark m)).0))
 first_deeper above column k (n ∷ ns) m c = (_, refl, omega arith)
 
-in_row : (gap spaces : List ℕ) (column : ℕ) (ns : List ℕ) (m : rows.Mark) (c : Content) (n : ℕ) → n ≤ length ns → IsInRow (printed_from gap spaces column ns m c) gap spaces ns m c n
+in_row : (gap spaces : List ℕ) (column : ℕ) (ns : List ℕ) (m : rows.RowMark) (c : Content) (n : ℕ) → n ≤ length ns → IsInRow (printed_from gap spaces column ns m c) gap spaces ns m c n
 in_row gap spaces column [] m c zero h =
     record {
       line = _;
@@ -84,7 +84,7 @@ get_behind : {A : Type 0} (xs ys : List A) (n : ℕ) → slice_get (xs ++ ys) (l
 get_behind [] ys n = ap (slice_get ys) (omega arith)
 get_behind (x ∷ xs) ys n = let more : suc (length xs) + n ≡ suc (length xs + n) = omega arith in ap (slice_get (x ∷ (xs ++ ys))) more ∙ get_behind xs ys n
 
-pub row_count : (gap spaces : List ℕ) (column : ℕ) (ns : List ℕ) (m : rows.Mark) (c : Content) → length (printed_from gap spaces column ns m c) ≡ suc (length ns)
+pub row_count : (gap spaces : List ℕ) (column : ℕ) (ns : List ℕ) (m : rows.RowMark) (c : Content) → length (printed_from gap spaces column ns m c) ≡ suc (length ns)
 row_count gap spaces column [] m c = refl
 row_count gap spaces column (n ∷ ns) m c = ap suc (row_count [] [] (suc (column + n)) ns m c)
 

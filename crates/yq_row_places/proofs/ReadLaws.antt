@@ -11,7 +11,7 @@ use Rattle.yq_cut.specs.Slicing.{read_view}
 use Rattle.yq_cut.specs.Reading.{scan_at}
 use Rattle.yq_cut.specs.Rows.{Cut}
 use Rattle.yq_cut.proofs.ScanLaws.{scan_takes, scan_again}
-use Rattle.yq_documents.specs.Documents.{Document, document_parts, Reads}
+use Rattle.yq_documents.specs.Documents.{Document, document_parts, ReadsDocuments}
 use Rattle.yq_documents.specs.Reading.{documents, all_documents, checked, checked_at, read_at, cut_or, cut_of}
 use Rattle.yq_row_places.proofs.DocumentLaws.{documents_take, documents_again}
 
@@ -44,18 +44,18 @@ pub scan_fails : (t : List ℕ) (e : ReadError) → ReadFails e (read_view (scan
 unfolding checked_at
 scan_fails t e h1 = search (rules, not_cut)
 
-pub read_takes : (bytes : List ℕ) (c : Cut) → read_at bytes ≡ Some c → Reads bytes (documents c)
+pub read_takes : (bytes : List ℕ) (c : Cut) → read_at bytes ≡ Some c → ReadsDocuments bytes (documents c)
 unfolding read_at
 read_takes bytes c e =
     let p = guard_then (is_utf8 bytes) e in
     let q = text_takes bytes c p.1 in
     record { utf8 = p.0; parts = c; cut = q.0; documents = documents_take (document_parts c) q.1 }
 
-pub read_again : (bytes : List ℕ) (docs : List Document) → Reads bytes docs → (c : Cut) × (read_at bytes ≡ Some c) × (documents c ≡ docs)
+pub read_again : (bytes : List ℕ) (docs : List Document) → ReadsDocuments bytes docs → (c : Cut) × (read_at bytes ≡ Some c) × (documents c ≡ docs)
 unfolding read_at
 read_again bytes docs h = search (rules, documents_again, cond-true, text_again)
 
-pub one_reading : (bytes : List ℕ) (docs others : List Document) → Reads bytes docs → Reads bytes others → docs ≡ others
+pub one_reading : (bytes : List ℕ) (docs others : List Document) → ReadsDocuments bytes docs → ReadsDocuments bytes others → docs ≡ others
 one_reading bytes docs others h k =
     let a = read_again bytes docs h in
     let b = read_again bytes others k in
@@ -66,16 +66,16 @@ pub read_as_text : (bytes text : List ℕ) (read : Option Cut) → (is_utf8 byte
 unfolding read_at
 read_as_text bytes text read is e = cond-true _ _ _ is.0 ∙ (ap checked_at (sym is.1) ∙ e)
 
-pub only_by : (bytes : List ℕ) (c : Cut) → read_at bytes ≡ Some c → (docs : List Document) → Reads bytes docs → Some docs ≡ Some (documents c)
+pub only_by : (bytes : List ℕ) (c : Cut) → read_at bytes ≡ Some c → (docs : List Document) → ReadsDocuments bytes docs → Some docs ≡ Some (documents c)
 only_by bytes c e docs h = let a = read_again bytes docs h in ap Some (sym a.2 ∙ ap documents (same_Some _ _ (sym a.1 ∙ e)))
 
-pub none_by : (bytes : List ℕ) → read_at bytes ≡ None → (docs : List Document) → Reads bytes docs → Some docs ≡ None
+pub none_by : (bytes : List ℕ) → read_at bytes ≡ None → (docs : List Document) → ReadsDocuments bytes docs → Some docs ≡ None
 none_by bytes e docs h = let a = read_again bytes docs h in absurd (none-some _ (sym e ∙ a.1))
 
 -- ---- reading gives a cut exactly where the grammar reads the bytes by it
 
 -- the cut that is read is that of the grammar
-read_parts : (bytes : List ℕ) (c : Cut) → read_at bytes ≡ Some c → (reads : Reads bytes (documents c)) × (reads.parts ≡ c)
+read_parts : (bytes : List ℕ) (c : Cut) → read_at bytes ≡ Some c → (reads : ReadsDocuments bytes (documents c)) × (reads.parts ≡ c)
 unfolding read_at
 read_parts bytes c e =
     let p = guard_then (is_utf8 bytes) e in
@@ -83,9 +83,9 @@ read_parts bytes c e =
     (record { utf8 = p.0; parts = c; cut = q.0; documents = documents_take (document_parts c) q.1 }, refl)
 
 -- the cut of the grammar is read
-pub parts_read : (bytes : List ℕ) (docs : List Document) (h : Reads bytes docs) → (read_at bytes ≡ Some h.parts) × (documents h.parts ≡ docs)
+pub parts_read : (bytes : List ℕ) (docs : List Document) (h : ReadsDocuments bytes docs) → (read_at bytes ≡ Some h.parts) × (documents h.parts ≡ docs)
 unfolding read_at
 parts_read bytes docs h = search (rules, documents_again, cond-true, text_again)
 
-pub exact_reading : (bytes : List ℕ) (c : Cut) → (read_at bytes ≡ Some c) ↔ ((reads : Reads bytes (documents c)) × (reads.parts ≡ c))
+pub exact_reading : (bytes : List ℕ) (c : Cut) → (read_at bytes ≡ Some c) ↔ ((reads : ReadsDocuments bytes (documents c)) × (reads.parts ≡ c))
 exact_reading bytes c = (read_parts bytes c, λ h. (parts_read bytes (documents c) h.0).0 ∙ ap Some h.1)

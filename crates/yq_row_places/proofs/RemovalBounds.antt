@@ -8,7 +8,7 @@ use Rattle.yq_cut.specs.Rows.{Row, Part, Cut, last, marked}
 use Rattle.yq_cut.specs.Splices.{first_gap, nth_part}
 use Rattle.yq_cut.specs.View.{rows_of, Bound, bounds_from, bounds_of, bounds_at, rows_view}
 use Rattle.yq_row_places.specs.PlacedRows.{PlacedPart, placed_document}
-use Rattle.yq_row_places.specs.RemovalReading.{gap_at, gap_and_column}
+use Rattle.yq_row_places.specs.RemovalReading.{gap_counts, gap_and_column}
 use Rattle.yq_documents.specs.LinesInRows.{document_row}
 use Rattle.yq_documents.specs.PartNumbers.{part_number, rows_to}
 use Rattle.yq_row_places.proofs.PlacedPartLaws.{part_stands}
@@ -48,7 +48,7 @@ ends_at (suc m) k (marked p marker c) j i some at =
 -- the gap before the rows of a document behind some, and its column
 pub gap_behind : (n : ℕ) (c : Cut) (d : PlacedPart) (some back : List Row) → placed_document n c ≡ Some d → d.part.rows ≡ some ++ back → 0 < length some →
     ((r : Row) (rs : List Row) → back ≡ r ∷ rs → slice_get (rows_of c) (document_row n c + length some) ≡ Some r) →
-    gap_at (document_row n c + length some) (rows_view c) ≡ (first_gap back d.part.end, next_column back)
+    gap_counts (document_row n c + length some) (rows_view c) ≡ (first_gap back d.part.end, next_column back)
 gap_behind n c d some back e rows more there = go back refl (subst (λ (y : PlacedPart). EndsAt 0 i c y.part (length some)) (part_stands n c d e).is (ends_at (part_number n c) 0 c (length some) i more (omega arith)))
   where
     i : ℕ

@@ -3,8 +3,8 @@ use Rattle.std.proofs.Common.{◌≡◌, ◌⊎◌, inl, inr, ℕ, zero, suc, �
 use Rattle.std.proofs.Math.Seq.{drop-append_seam}
 use Rattle.std.proofs.lemmas.Bool.{and_parts}
 use Rattle.std.proofs.lemmas.List.{take-append-drop}
-use Rattle.yq_block_scalars.specs.Block.{Lines}
-use Rattle.yq_flow_scalars.specs.Text.{is_empty, is_line, joined, lines_of as text_lines}
+use Rattle.yq_block_scalars.specs.Block.{RawLines}
+use Rattle.yq_flow_scalars.specs.Text.{is_empty, is_line, joined, text_lines}
 use Rattle.yq_block_scalars.proofs.BlockPieceLaws.{IsLf, line_lf, append_lf, raw_lf}
 use Rattle.yq_cut.specs.Exchange.{asked_behind}
 use Rattle.yq_cut.specs.Gap.{IsGap, AreGapLines}
@@ -148,7 +148,7 @@ are_lines d front r rs back lies rows =
     let next : Limit = asked_behind asked (take (length (r ∷ rs)) ((r ∷ rs) ++ back)) in
     let rest : AreRows next back end d.behind =
     subst (λ (x : List Row). AreRows next x end d.behind) (drop-append_seam (r ∷ rs) back) (rows_drop (length (r ∷ rs)) ((r ∷ rs) ++ back) asked end d.behind own) in
-    let ls : Lines = text_lines r.gap in
+    let ls : RawLines = text_lines r.gap in
     let x : List ℕ = behind_gap r (rows_text (rs ++ back) (end ++ d.behind)) in
     let kept : AreGapLines (before_run ls) (joined (last_run ls) ++ x) = gap_front r.gap x (before_run ls) (last_run ls) own.0.gap (run_parts ls) in
     let kept_line : AtLine (joined (before_run ls)) =

@@ -10,16 +10,16 @@ use Rattle.std.specs.Str.{IsUtf8, IsCharBoundary}
 use Rattle.yq_flow_scalars.specs.Answers.{◌>>=◌}
 use Rattle.yq_flow_scalars.specs.Paths.{Step}
 use Rattle.yq_flow_scalars.specs.Lines.{is_blank}
-use Rattle.yq_flow_scalars.specs.Text.{joined, lines_of as text_lines}
+use Rattle.yq_flow_scalars.specs.Text.{joined, text_lines}
 use Rattle.yq_flow_scalars.proofs.Bools.{bind_some}
 use Rattle.yq_block_scalars.proofs.LineLaws.{joined_lines}
 use Rattle.yq_lines.specs.Comments.{head_comment}
-use Rattle.yq_lines.specs.Ends.{line_of, lines_end}
+use Rattle.yq_lines.specs.Ends.{line_at_steps, lines_end}
 use Rattle.yq_lines.specs.Outline.{Line}
 use Rattle.yq_cut.specs.Grammar.{no_rows}
 use Rattle.yq_cut.specs.Removal.{hold_comment}
-use Rattle.yq_cut.specs.Rows.{Mark, Content, Row}
-use Rattle.yq_lines.specs.Lines.{lines_from, row_lines, lines_of}
+use Rattle.yq_cut.specs.Rows.{RowMark, Content, Row}
+use Rattle.yq_lines.specs.Lines.{lines_from, row_lines, lines_of_rows}
 use Rattle.yq_documents.specs.Pieces.{before_run, last_run}
 use Rattle.yq_row_places.specs.RemovalPlaces.{OwnRows, row_count, in_three, own_rows}
 use Rattle.yq_row_places.specs.RemovalReading.{marks}
@@ -58,16 +58,16 @@ three_whole i n rs = sym (ap (λ (x : List Row). take i rs ++ x) (take-append-dr
 
 -- ---- the row of a line
 
-from_count : (above : List (List ℕ)) (column : ℕ) (ns : List ℕ) (m : Mark) (x : Content) → length (lines_from above column ns m x) ≡ suc (length ns)
+from_count : (above : List (List ℕ)) (column : ℕ) (ns : List ℕ) (m : RowMark) (x : Content) → length (lines_from above column ns m x) ≡ suc (length ns)
 from_count above column [] m x = refl
 from_count above column (n ∷ ns) m x = ap suc (from_count [] (suc (column + n)) ns m x)
 
-more_lines : (r : Row) (rs : List Row) → length (lines_of (r ∷ rs)) ≡ suc (length r.dashes) + length (lines_of rs)
-more_lines r rs = omega (arith, length-append (row_lines r) (lines_of rs), from_count (head_comment r.gap) r.column r.dashes r.mark r.content)
+more_lines : (r : Row) (rs : List Row) → length (lines_of_rows (r ∷ rs)) ≡ suc (length r.dashes) + length (lines_of_rows rs)
+more_lines r rs = omega (arith, length-append (row_lines r) (lines_of_rows rs), from_count (head_comment r.gap) r.column r.dashes r.mark r.content)
 
 -- A line's row is among the rows, and so many lines stand from it on.
 abbrev RowLineIn : ℕ → List Row → RowLine → Type 0
-RowLineIn n rs s = (s.before < length rs) × (n + length (lines_of (drop s.before rs)) ≡ length (lines_of rs) + s.line)
+RowLineIn n rs s = (s.before < length rs) × (n + length (lines_of_rows (drop s.before rs)) ≡ length (lines_of_rows rs) + s.line)
 
 row_line_in : (n : ℕ) (rs : List Row) (s : RowLine) → row_line n rs ≡ Some s → RowLineIn n rs s
 row_line_in n [] s e = absurd (cc)
@@ -86,27 +86,27 @@ end_past n [] h = absurd (omega (arith, h))
 end_past zero (l ∷ ls) h = omega arith
 end_past (suc n) (l ∷ ls) h = omega (arith, end_past n ls (omega (arith, h)))
 
-some_lines : (rs : List Row) → 0 < length rs → 0 < length (lines_of rs)
+some_lines : (rs : List Row) → 0 < length rs → 0 < length (lines_of_rows rs)
 some_lines [] h = absurd (omega (arith, h))
 some_lines (r ∷ rs) h = omega (arith, more_lines r rs)
 
 -- so many rows have the lines of the first of them
-count_rows : (j : ℕ) (rs : List Row) → j ≤ length rs → row_count (length (lines_of (take j rs))) rs ≡ j
+count_rows : (j : ℕ) (rs : List Row) → j ≤ length rs → row_count (length (lines_of_rows (take j rs))) rs ≡ j
 count_rows zero rs h = refl
 count_rows (suc j) [] h = absurd (omega (arith, h))
 count_rows (suc j) (r ∷ rs) h =
-    let m : ℕ = length (lines_of (take j rs)) in
-    let size : length (lines_of (r ∷ take j rs)) ≡ suc (length r.dashes + m) = omega (arith, more_lines r (take j rs)) in
+    let m : ℕ = length (lines_of_rows (take j rs)) in
+    let size : length (lines_of_rows (r ∷ take j rs)) ≡ suc (length r.dashes + m) = omega (arith, more_lines r (take j rs)) in
     let less : length r.dashes + m - length r.dashes ≡ m = omega arith in
     ap (λ (k : ℕ). row_count k (r ∷ rs)) size ∙ ap suc (ap (λ (k : ℕ). row_count k rs) less ∙ count_rows j rs (omega (arith, h)))
 
 -- the lines of rows between others
-lines_between : (i e : ℕ) (rs : List Row) → i ≤ e → length (lines_of (take e rs)) ≡ length (lines_of (take i rs)) + length (lines_of (take (e - i) (drop i rs)))
-lines_between zero e rs h = let same : e ≡ e - 0 = omega arith in omega (arith, ap (λ (k : ℕ). length (lines_of (take k rs))) same)
+lines_between : (i e : ℕ) (rs : List Row) → i ≤ e → length (lines_of_rows (take e rs)) ≡ length (lines_of_rows (take i rs)) + length (lines_of_rows (take (e - i) (drop i rs)))
+lines_between zero e rs h = let same : e ≡ e - 0 = omega arith in omega (arith, ap (λ (k : ℕ). length (lines_of_rows (take k rs))) same)
 lines_between (suc i) zero rs h = absurd (omega (arith, h))
 lines_between (suc i) (suc e) [] h = omega (arith, none (suc e - suc i))
   where
-    none : (k : ℕ) → length (lines_of (take k [])) ≡ 0
+    none : (k : ℕ) → length (lines_of_rows (take k [])) ≡ 0
     none zero = refl
     none (suc k) = refl
 lines_between (suc i) (suc e) (r ∷ rs) h =
@@ -116,21 +116,21 @@ lines_between (suc i) (suc e) (r ∷ rs) h =
       lines_between i e rs (omega (arith, h)),
       more_lines r (take e rs),
       more_lines r (take i rs),
-      ap (λ (k : ℕ). length (lines_of (take k (drop i rs)))) less,
+      ap (λ (k : ℕ). length (lines_of_rows (take k (drop i rs)))) less,
     )
 
 -- ---- the rows of an item or entry
 
 -- A line of a path is that of an own row.
 pub record OwnLine (steps : List Step) (rs : List Row) (n : ℕ) (q : RowLine) : Type 0 where
-  pub line : line_of steps (lines_of rs) ≡ Some n
+  pub line : line_at_steps steps (lines_of_rows rs) ≡ Some n
   pub row : row_line n rs ≡ Some q
   pub first : q.line ≡ 0
 
-own_is : (steps : List Step) (rs : List Row) (n : ℕ) (q : RowLine) → OwnLine steps rs n q → own_rows steps rs ≡ Some (in_three q.before (row_count (lines_end n (lines_of rs) - n) (drop q.before rs)) rs)
+own_is : (steps : List Step) (rs : List Row) (n : ℕ) (q : RowLine) → OwnLine steps rs n q → own_rows steps rs ≡ Some (in_three q.before (row_count (lines_end n (lines_of_rows rs) - n) (drop q.before rs)) rs)
 own_is steps rs n q h =
-    ap (λ o. o >>= λ n. row_line n rs >>= λ s. cond (eqb s.line 0) (Some (in_three s.before (row_count (lines_end n (lines_of rs) - n) (drop s.before rs)) rs)) None) h.line
-    ∙ (ap (λ o. o >>= λ (s : RowLine). cond (eqb s.line 0) (Some (in_three s.before (row_count (lines_end n (lines_of rs) - n) (drop s.before rs)) rs)) None) h.row
+    ap (λ o. o >>= λ n. row_line n rs >>= λ s. cond (eqb s.line 0) (Some (in_three s.before (row_count (lines_end n (lines_of_rows rs) - n) (drop s.before rs)) rs)) None) h.line
+    ∙ (ap (λ o. o >>= λ (s : RowLine). cond (eqb s.line 0) (Some (in_three s.before (row_count (lines_end n (lines_of_rows rs) - n) (drop s.before rs)) rs)) None) h.row
     ∙ cond-true (eqb q.line 0) _ None (eq-eqb q.line 0 h.first))
 
 -- what is own is the rows, and there are some
@@ -145,7 +145,7 @@ some_own (suc k) (r ∷ rs) h e = refl
 
 own_line : (steps : List Step) (rs : List Row) (x : OwnRows) → own_rows steps rs ≡ Some x → (n : ℕ) × (q : RowLine) × OwnLine steps rs n q
 own_line steps rs x e =
-    let n = bind_some (line_of steps (lines_of rs)) e in
+    let n = bind_some (line_at_steps steps (lines_of_rows rs)) e in
     let q = bind_some (row_line n.0 rs) n.2 in
     let g = cond_some (eqb q.0.line 0) _ _ q.2 in
     (n.0, q.0, record { line = n.1; row = q.1; first = eqb-true q.0.line 0 g.0 })
@@ -157,24 +157,24 @@ own_stands steps rs x e =
     let q : RowLine = l.1 in
     let at = row_line_in n rs q l.2.row in
     let left : length (drop q.before rs) ≡ length rs - q.before = length-drop q.before rs in
-    let lines : 0 < length (lines_of (drop q.before rs)) = some_lines (drop q.before rs) (omega (arith, left, at.0)) in
-    let past = end_past n (lines_of rs) (omega (arith, at.1, l.2.first, lines)) in
+    let lines : 0 < length (lines_of_rows (drop q.before rs)) = some_lines (drop q.before rs) (omega (arith, left, at.0)) in
+    let past = end_past n (lines_of_rows rs) (omega (arith, at.1, l.2.first, lines)) in
     subst (OwnStand rs) (same_Some _ _ (sym (own_is steps rs n q l.2) ∙ e)) (record {
-      rows_are = three_whole q.before (row_count (lines_end n (lines_of rs) - n) (drop q.before rs)) rs;
-      some = some_own (lines_end n (lines_of rs) - n) (drop q.before rs) (omega (arith, past)) (omega (arith, left, at.0));
+      rows_are = three_whole q.before (row_count (lines_end n (lines_of_rows rs) - n) (drop q.before rs)) rs;
+      some = some_own (lines_end n (lines_of_rows rs) - n) (drop q.before rs) (omega (arith, past)) (omega (arith, left, at.0));
     })
 
 -- what the code counts
-pub own_agrees : (d : Stretch) (rs : List Row) (steps : List Step) (q e : Position) (r : Row) → Some (line_number d rs q) ≡ line_of steps (lines_of rs) → slice_get rs (q.row - d.first) ≡ Some r → d.first ≤ q.row → q.line ≡ 0 → e.line ≡ 0 → q.row < e.row →
-    e.row - d.first ≤ length rs → line_number d rs e ≡ lines_end (line_number d rs q) (lines_of rs) → Some (d.first, q.row, e.row) ≡ option_map (marks d.first) (own_rows steps rs)
+pub own_agrees : (d : Stretch) (rs : List Row) (steps : List Step) (q e : Position) (r : Row) → Some (line_number d rs q) ≡ line_at_steps steps (lines_of_rows rs) → slice_get rs (q.row - d.first) ≡ Some r → d.first ≤ q.row → q.line ≡ 0 → e.line ≡ 0 → q.row < e.row →
+    e.row - d.first ≤ length rs → line_number d rs e ≡ lines_end (line_number d rs q) (lines_of_rows rs) → Some (d.first, q.row, e.row) ≡ option_map (marks d.first) (own_rows steps rs)
 own_agrees d rs steps q e r line there from none last less within end =
     let i : ℕ = q.row - d.first in
     let j : ℕ = e.row - d.first in
     let n : ℕ = line_number d rs q in
-    let k : ℕ = lines_end n (lines_of rs) - n in
+    let k : ℕ = lines_end n (lines_of_rows rs) - n in
     let h : OwnLine steps rs n (record { before = i; row = r; line = q.line }) = record { line = sym line; row = row_line_number rs i q.line r there (omega (arith, none)); first = none } in
     let left : length (drop i rs) ≡ length rs - i = length-drop i rs in
-    let size : k ≡ length (lines_of (take (j - i) (drop i rs))) = omega (arith, end, none, last, lines_between i j rs (omega (arith, less))) in
+    let size : k ≡ length (lines_of_rows (take (j - i) (drop i rs))) = omega (arith, end, none, last, lines_between i j rs (omega (arith, less))) in
     let count : row_count k (drop i rs) ≡ j - i = ap (λ (m : ℕ). row_count m (drop i rs)) size ∙ count_rows (j - i) (drop i rs) (omega (arith, left, within)) in
     let front : length (take i rs) ≡ i = length-take-le i rs (omega (arith, within, less, from)) in
     let own : length (take (row_count k (drop i rs)) (drop i rs)) ≡ j - i = ap (λ (m : ℕ). length (take m (drop i rs))) count ∙ length-take-le (j - i) (drop i rs) (omega (arith, left, within)) in
@@ -183,15 +183,15 @@ own_agrees d rs steps q e r line there from none last less within end =
     (λ x. Some (d.first, begin x, finish x)) ∙ ap (option_map (marks d.first)) (sym (own_is steps rs n (record { before = i; row = r; line = q.line }) h))
 
 -- no line, or none that begins a row
-pub no_own : (first : ℕ) (rs : List Row) (steps : List Step) → None ≡ line_of steps (lines_of rs) → None ≡ option_map (marks first) (own_rows steps rs)
+pub no_own : (first : ℕ) (rs : List Row) (steps : List Step) → None ≡ line_at_steps steps (lines_of_rows rs) → None ≡ option_map (marks first) (own_rows steps rs)
 no_own first rs steps e =
-    ap (λ (o : Option ℕ). option_map (marks first) (o >>= λ n. row_line n rs >>= λ s. cond (eqb s.line 0) (Some (in_three s.before (row_count (lines_end n (lines_of rs) - n) (drop s.before rs)) rs)) None)) e
+    ap (λ (o : Option ℕ). option_map (marks first) (o >>= λ n. row_line n rs >>= λ s. cond (eqb s.line 0) (Some (in_three s.before (row_count (lines_end n (lines_of_rows rs) - n) (drop s.before rs)) rs)) None)) e
 
-pub not_own : (first n : ℕ) (rs : List Row) (steps : List Step) (q : RowLine) → Some n ≡ line_of steps (lines_of rs) → row_line n rs ≡ Some q → (q.line ≡ 0 → ⊥) → None ≡ option_map (marks first) (own_rows steps rs)
+pub not_own : (first n : ℕ) (rs : List Row) (steps : List Step) (q : RowLine) → Some n ≡ line_at_steps steps (lines_of_rows rs) → row_line n rs ≡ Some q → (q.line ≡ 0 → ⊥) → None ≡ option_map (marks first) (own_rows steps rs)
 not_own first n rs steps q line is some =
-    ap (option_map (marks first)) (sym (cond-false (eqb q.line 0) (Some (in_three q.before (row_count (lines_end n (lines_of rs) - n) (drop q.before rs)) rs)) None (ne_eqb q.line 0 some)))
-    ∙ (ap (λ (o : Option RowLine). option_map (marks first) (o >>= λ s. cond (eqb s.line 0) (Some (in_three s.before (row_count (lines_end n (lines_of rs) - n) (drop s.before rs)) rs)) None)) (sym is)
-    ∙ ap (λ (o : Option ℕ). option_map (marks first) (o >>= λ n. row_line n rs >>= λ s. cond (eqb s.line 0) (Some (in_three s.before (row_count (lines_end n (lines_of rs) - n) (drop s.before rs)) rs)) None)) line)
+    ap (option_map (marks first)) (sym (cond-false (eqb q.line 0) (Some (in_three q.before (row_count (lines_end n (lines_of_rows rs) - n) (drop q.before rs)) rs)) None (ne_eqb q.line 0 some)))
+    ∙ (ap (λ (o : Option RowLine). option_map (marks first) (o >>= λ s. cond (eqb s.line 0) (Some (in_three s.before (row_count (lines_end n (lines_of_rows rs) - n) (drop s.before rs)) rs)) None)) (sym is)
+    ∙ ap (λ (o : Option ℕ). option_map (marks first) (o >>= λ n. row_line n rs >>= λ s. cond (eqb s.line 0) (Some (in_three s.before (row_count (lines_end n (lines_of_rows rs) - n) (drop s.before rs)) rs)) None)) line)
 
 -- ---- the loops
 

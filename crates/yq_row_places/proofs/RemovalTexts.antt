@@ -1,8 +1,8 @@
 -- The text of a document, by rows that are taken out of it.
 use Rattle.std.proofs.Common.{◌≡◌, Bool, false, cond, ℕ, List, [], ◌∷◌, ◌++◌, refl, sym, ap, ◌∙◌, append_assoc, rules}
 use Rattle.std.proofs.lemmas.Bool.{false≢true}
-use Rattle.yq_block_scalars.specs.Block.{Lines}
-use Rattle.yq_flow_scalars.specs.Text.{joined, lines_of as text_lines}
+use Rattle.yq_block_scalars.specs.Block.{RawLines}
+use Rattle.yq_flow_scalars.specs.Text.{joined, text_lines}
 use Rattle.yq_block_scalars.proofs.LineLaws.{joined_lines}
 use Rattle.yq_lines.specs.Comments.{are_comments}
 use Rattle.yq_cut.specs.Grammar.{no_rows}
@@ -30,7 +30,7 @@ pub gap_parts : (gap : List ℕ) → joined (before_run (text_lines gap)) ++ joi
 gap_parts gap = run_split (text_lines gap) ∙ joined_lines gap
 
 -- the same by lines
-pub run_parts : (ls : Lines) → ls ≡ before_run ls ++ last_run ls
+pub run_parts : (ls : RawLines) → ls ≡ before_run ls ++ last_run ls
 run_parts [] = refl
 run_parts (l ∷ ls) = go (are_comments (l ∷ ls)) (run_parts ls)
   where

@@ -8,7 +8,7 @@ use Rattle.std.specs.List.{slice_get}
 use Rattle.std.specs.Str.{IsUtf8, IsCharBoundary}
 use Rattle.yq_flow_scalars.specs.Answers.{◌>>=◌}
 use Rattle.yq_flow_scalars.specs.Paths.{Step}
-use Rattle.yq_flow_scalars.specs.Text.{joined, lines_of as text_lines}
+use Rattle.yq_flow_scalars.specs.Text.{joined, text_lines}
 use Rattle.yq_block_scalars.proofs.BlockPieceLaws.{cut_lf}
 use Rattle.yq_flow_scalars.proofs.Bools.{bind_some}
 use Rattle.yq_cut.specs.Grammar.{IsCut, no_rows}
@@ -26,7 +26,7 @@ use Rattle.yq_documents.specs.Pieces.{before_run}
 use Rattle.yq_documents.specs.Reading.{cut_of}
 use Rattle.yq_row_places.specs.PlacedRows.{PlacedPart, placed_document}
 use Rattle.yq_row_places.specs.RemovalPlaces.{OwnRows, own_rows, Removal, kept_gap, rows_out, removal_place}
-use Rattle.yq_row_places.specs.RemovalReading.{RowCounts, marks, marks_at, gap_at, IsOwn}
+use Rattle.yq_row_places.specs.RemovalReading.{RowCounts, marks, mark_counts, gap_counts, IsOwn}
 use Rattle.yq_documents.specs.LinesInRows.{document_row}
 use Rattle.yq_row_places.proofs.CommentPieceLaws.{gap_end}
 use Rattle.yq_cut.proofs.SliceLaws.{print-length}
@@ -81,7 +81,7 @@ pub record OutAgrees (t : List ℕ) (s : RowsView) (d : PlacedPart) (x : OwnRows
   pub kept : (y : Slices) → slice_get s.rows at ≡ Some y → joined (before_run (text_lines y.gap)) ≡ kept_gap x.own d.part.end
   pub start : row_start at s + length (kept_gap x.own d.part.end) ≡ length (rows_out d x).before
   pub stop : row_start (end - 1) s + row_length final ≡ length (rows_out d x).before + length (rows_out d x).gone
-  pub gap : gap_at end s ≡ (first_gap x.back d.part.end, next_column x.back)
+  pub gap : gap_counts end s ≡ (first_gap x.back d.part.end, next_column x.back)
   pub more : List Row
   pub rows : drop first (rows_of (cut_of t)) ≡ d.part.rows ++ more
   pub front_size : at - first ≤ length d.part.rows
@@ -163,7 +163,7 @@ agrees_first t s d front r rs back m h =
         whole,
         parts,
       );
-      gap = (λ i. gap_at ((end_is ∙ sizes front own k) i) (h.rows_view_is i))
+      gap = (λ i. gap_counts ((end_is ∙ sizes front own k) i) (h.rows_view_is i))
           ∙ gap_behind n c d (front ++ own) back h.placed (h.rows_are ∙ sym (append_assoc front own back)) (omega (arith, length-append front own))
           (λ q qs is. ap (slice_get (rows_of c)) (sym (sizes front own k) ∙ three k front own) ∙ there (length front + length own) q (ap (λ (z : List Row). slice_get z (length front + length own)) (h.rows_are ∙ (sym (append_assoc front own back) ∙ ap (λ (z : List Row). (front ++ own) ++ z) is)) ∙ (ap (slice_get ((front ++ own) ++ (q ∷ qs))) (sym (length-append front own)) ∙ slice_seam (front ++ own) q qs)));
       more = begin.0;
@@ -231,7 +231,7 @@ pub record CodeAgrees (t : List ℕ) (d : PlacedPart) (x : OwnRows) (kept gap : 
   pub cuts : FourCuts t (rows_out d x) (begin + length kept) (stop - (begin + length kept)) (length gap)
 
 pub code_agrees : (t : List ℕ) (s : RowsView) (d : PlacedPart) (x : OwnRows) (first at end : ℕ) (y : Slices) (kept gap : List ℕ) (begin stop column : ℕ) → IsUtf8 t → (o : OutAgrees t s d x first at end) → slice_get s.rows at ≡ Some y →
-    kept ≡ joined (before_run (text_lines y.gap)) → begin ≡ row_start at s → stop ≡ row_start (end - 1) s + row_length o.final → (gap, column) ≡ gap_at end s → CodeAgrees t d x kept gap begin stop column
+    kept ≡ joined (before_run (text_lines y.gap)) → begin ≡ row_start at s → stop ≡ row_start (end - 1) s + row_length o.final → (gap, column) ≡ gap_counts end s → CodeAgrees t d x kept gap begin stop column
 code_agrees t s d x first at end y kept gap begin stop column u o there kept_now begin_is stop_is pair =
     let out : Removal = rows_out d x in
     let own : kept ≡ kept_gap x.own d.part.end = kept_now ∙ o.kept y there in
@@ -260,7 +260,7 @@ pub record TakenAt (t : List ℕ) (s : RowsView) (n : ℕ) (steps : List Step) (
   pub is : IsOwn t s part rows m
   pub place : removal_place n steps (cut_of t) ≡ Some (rows_out part rows)
 
-pub taken_at : (t : List ℕ) (s : RowsView) (n : ℕ) (steps : List Step) (m : RowCounts) → IsCut t (cut_of t) → s ≡ rows_view (cut_of t) → Some m ≡ marks_at n steps (cut_of t) → TakenAt t s n steps m
+pub taken_at : (t : List ℕ) (s : RowsView) (n : ℕ) (steps : List Step) (m : RowCounts) → IsCut t (cut_of t) → s ≡ rows_view (cut_of t) → Some m ≡ mark_counts n steps (cut_of t) → TakenAt t s n steps m
 taken_at t s n steps m cut is e =
     let c : Cut = cut_of t in
     let p = bind_some (slice_get (document_parts c) n) (sym e) in
@@ -275,13 +275,13 @@ taken_at t s n steps m cut is e =
       place = ap (λ o. o >>= λ d. option_map (rows_out d) (own_rows steps d.part.rows)) d.1 ∙ ap (option_map (rows_out d.0)) own;
     }
 
-pub none_taken : (n : ℕ) (steps : List Step) (c : Cut) → None ≡ marks_at n steps c → None ≡ removal_place n steps c
+pub none_taken : (n : ℕ) (steps : List Step) (c : Cut) → None ≡ mark_counts n steps c → None ≡ removal_place n steps c
 none_taken n steps c e = go (placed_document n c) refl
   where
     rows : (d : PlacedPart) (o : Option OwnRows) → own_rows steps d.part.rows ≡ o → slice_get (document_parts c) n ≡ Some d.part → None ≡ option_map (rows_out d) o
     rows d None is there = refl
     rows d (Some x) is there =
-        let some : marks_at n steps c ≡ Some (marks (document_row n c) x) = ap (λ o. o >>= λ (p : Part). option_map (marks (document_row n c)) (own_rows steps p.rows)) there ∙ ap (option_map (marks (document_row n c))) is in
+        let some : mark_counts n steps c ≡ Some (marks (document_row n c) x) = ap (λ o. o >>= λ (p : Part). option_map (marks (document_row n c)) (own_rows steps p.rows)) there ∙ ap (option_map (marks (document_row n c))) is in
         absurd (none-some _ (e ∙ some))
 
     go : (o : Option PlacedPart) → placed_document n c ≡ o → None ≡ (o >>= λ d. option_map (rows_out d) (own_rows steps d.part.rows))

@@ -13,10 +13,10 @@ use Rattle.yq_documents.specs.Reading.{cut_of}
 use Rattle.yq_documents.specs.LinesInRows.{document_row}
 use Rattle.yq_row_places.specs.EntryReading.{before_line, line_begin}
 use Rattle.yq_lines.specs.Extents.{row_start}
-use Rattle.yq_row_places.specs.LineReading.{CutsLines, LinesIn, lines_between, lines_of}
+use Rattle.yq_row_places.specs.LineReading.{CutsLines, LinesIn, lines_between, line_list}
 use Rattle.yq_row_places.specs.PlacedRows.{PlacedPart, placed_document}
 use Rattle.yq_row_places.specs.RootReading.{if_rowless, rowless_at, rowless_place}
-use Rattle.yq_row_places.specs.RowWalk.{document_rows}
+use Rattle.yq_row_places.specs.RowWalk.{document_row_range}
 use Rattle.yq_row_places.specs.Standings.{NoRows, RowsOfEntry, alone, before_entry, behind_entry, block_root, is_alone, lone, no_rows, root, root_standing, standing_at}
 use Rattle.yq_row_places.specs.StandingReading.{IsRootOf, root_entry}
 use Rattle.yq_lines.specs.declared.line_position.Stretch.{Stretch}
@@ -54,7 +54,7 @@ bare_stands n c w e = go (placed_document n c) e
     go None e = absurd (none-some _ (sym e))
     go (Some d) e = in_rows d d.part.rows refl e
 
-pub none_stands : (n : ℕ) (c : Cut) → None ≡ document_rows n c → None ≡ standing_at n [] c
+pub none_stands : (n : ℕ) (c : Cut) → None ≡ document_row_range n c → None ≡ standing_at n [] c
 none_stands n c e = go (placed_document n c) refl
   where
     go : (o : Option PlacedPart) → placed_document n c ≡ o → None ≡ option_map (λ (d : PlacedPart). root_standing d d.part.rows) o
@@ -147,6 +147,6 @@ module _ (t : List ℕ) (s : RowsView) (d : Stretch) (h : IsRootOf t s d) where
           stops = subst (λ (z : List ℕ). IsCharBoundary z stop) (sym is) (subst (IsCharBoundary t) (sym stops) (stop_boundary t s e d.first d.end h.is u));
         }
 
-    pub root_lines : (v : List ℕ) (is : v ≡ t) (lower : LinesIn) → ((k : CutsLines v start stop) → lower ≡ lines_of k) → lower ≡ lines_between before own (h.part.part.end ++ h.part.behind)
+    pub root_lines : (v : List ℕ) (is : v ≡ t) (lower : LinesIn) → ((k : CutsLines v start stop) → lower ≡ line_list k) → lower ≡ lines_between before own (h.part.part.end ++ h.part.behind)
     unfolding root_cut
     root_lines v is lower says = says (root_cut v is)

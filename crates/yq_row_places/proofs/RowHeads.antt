@@ -9,7 +9,7 @@ use Rattle.std.specs.List.{slice_get}
 use Rattle.std.specs.Str.{IsUtf8, IsCharBoundary}
 use Rattle.yq_block_scalars.specs.Block.{ends_block, keeps}
 use Rattle.yq_block_scalars.specs.declared.block_lines.TextIndent.{TextIndent}
-use Rattle.yq_flow_scalars.specs.Text.{is_line, lines_of}
+use Rattle.yq_flow_scalars.specs.Text.{is_line, text_lines}
 use Rattle.yq_cut.specs.Exchange.{before_content, behind_row}
 use Rattle.yq_cut.specs.Grammar.{IsCut, IsRow, Limit}
 use Rattle.yq_cut.specs.Rows.{Content, Nothing, Inline, Block, Row, Cut, cut_text, parent_indent}
@@ -60,8 +60,8 @@ line_within s d c k q at = slice_get_within (rows_of c) q.row (row_at s d c k q 
 closed_end : (tail : List ℕ) → is_closed tail [] ≡ true
 closed_end tail = or_right (is_line tail) true refl
 
-none_ends : (keep : Bool) (f : TextIndent) → ends_block keep f (lines_of []) ≡ true
-unfolding lines_of ends_block
+none_ends : (keep : Bool) (f : TextIndent) → ends_block keep f (text_lines []) ≡ true
+unfolding text_lines ends_block
 none_ends keep f = refl
 
 seam_end : (c : Content) → is_seam c [] ≡ true

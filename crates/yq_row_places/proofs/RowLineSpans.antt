@@ -8,13 +8,13 @@ use Rattle.yq_cut.specs.View.{Slices, slices, rows_of, RowsView, rows_view}
 use Rattle.yq_documents.specs.declared.path.Path.{Path}
 use Rattle.yq_documents.specs.Documents.{document_parts}
 use Rattle.yq_lines.specs.Extents.{row_start}
-use Rattle.yq_lines.specs.Lines.{lines_of}
+use Rattle.yq_lines.specs.Lines.{lines_of_rows}
 use Rattle.yq_documents.specs.Located.{steps_of}
 use Rattle.yq_documents.specs.Pieces.{TextPiece, piece_span}
 use Rattle.yq_documents.specs.Reading.{cut_of}
-use Rattle.yq_lines.specs.Ends.{line_of}
+use Rattle.yq_lines.specs.Ends.{line_at_steps}
 use Rattle.yq_row_places.specs.RowWalk.{HasCut}
-use Rattle.yq_row_places.specs.RowLineReading.{Numbers, numbers}
+use Rattle.yq_row_places.specs.RowLineReading.{LineCounts, numbers}
 use Rattle.yq_documents.specs.LinesInRows.{RowLine, behind_one, row_line, row_line_of, row_line_at, document_row}
 use Rattle.yq_documents.proofs.PartRows.{part_begins}
 use Rattle.yq_lines.proofs.KnownLaws.{get_dropped, get_front}
@@ -41,16 +41,16 @@ document_row_line path c (Some p) s is e =
     let b = part_begins c path.doc p is in
     sym (get_dropped (rows_of c) (document_row path.doc c) s.before)
     ∙ (ap (λ (rs : List Row). slice_get rs s.before) b.1
-    ∙ get_front p.rows b.0 s.before s.row (steps_row (line_of (steps_of path) (lines_of p.rows)) p.rows s e))
+    ∙ get_front p.rows b.0 s.before s.row (steps_row (line_at_steps (steps_of path) (lines_of_rows p.rows)) p.rows s e))
 
 pub path_row : (path : Path) (c : Cut) (s : RowLine) → row_line_at path c ≡ Some s → slice_get (rows_of c) (document_row path.doc c + s.before) ≡ Some s.row
 path_row path c s e = document_row_line path c (slice_get (document_parts c) path.doc) s refl e
 
 -- the row of the code's line is there
-row_slices : (path : Path) (c : Cut) (s : RowLine) (n : Numbers) → row_line_at path c ≡ Some s → n ≡ numbers (document_row path.doc c) s → slice_get (rows_view c).rows n.0 ≡ Some (slices s.row)
-row_slices path c s n is e = ap (λ (x : Numbers). slice_get (rows_view c).rows x.0) e ∙ (slice_get-map slices (rows_of c) (document_row path.doc c + s.before) ∙ ap (option_map slices) (path_row path c s is))
+row_slices : (path : Path) (c : Cut) (s : RowLine) (n : LineCounts) → row_line_at path c ≡ Some s → n ≡ numbers (document_row path.doc c) s → slice_get (rows_view c).rows n.0 ≡ Some (slices s.row)
+row_slices path c s n is e = ap (λ (x : LineCounts). slice_get (rows_view c).rows x.0) e ∙ (slice_get-map slices (rows_of c) (document_row path.doc c + s.before) ∙ ap (option_map slices) (path_row path c s is))
 
-pub row_within : (t : List ℕ) (x : RowsView) (path : Path) (n : Numbers) → HasCut t x → Some n ≡ option_map (numbers (document_row path.doc (cut_of t))) (row_line_at path (cut_of t)) → n.0 < length x.rows
+pub row_within : (t : List ℕ) (x : RowsView) (path : Path) (n : LineCounts) → HasCut t x → Some n ≡ option_map (numbers (document_row path.doc (cut_of t))) (row_line_at path (cut_of t)) → n.0 < length x.rows
 row_within t x path n h e = go (row_line_at path (cut_of t)) refl e
   where
     go : (o : Option RowLine) → row_line_at path (cut_of t) ≡ o → Some n ≡ option_map (numbers (document_row path.doc (cut_of t))) o → n.0 < length x.rows
@@ -59,7 +59,7 @@ row_within t x path n h e = go (row_line_at path (cut_of t)) refl e
 
 -- a part, by where the row begins and its pieces
 abbrev SpanIn : Type 0
-SpanIn = ℕ → Slices → Numbers → Option (ℕ × ℕ)
+SpanIn = ℕ → Slices → LineCounts → Option (ℕ × ℕ)
 
 -- the same as a piece of the text, in row i
 abbrev PieceIn : Type 0
@@ -68,7 +68,7 @@ PieceIn = ℕ → RowLine → Cut → Option TextPiece
 abbrev SpanAgrees : SpanIn → PieceIn → Type 0
 SpanAgrees of in_ = (c : Cut) (i : ℕ) (s : RowLine) (k : ℕ) → slice_get (rows_of c) i ≡ Some s.row → of (row_start i (rows_view c)) (slices s.row) (numbers k s) ≡ option_map piece_span (in_ i s c)
 
-pub part_agrees : (of : SpanIn) (in_ : PieceIn) → SpanAgrees of in_ → (t : List ℕ) (x : RowsView) (path : Path) (n : Numbers) (found : Option (ℕ × ℕ)) → HasCut t x →
+pub part_agrees : (of : SpanIn) (in_ : PieceIn) → SpanAgrees of in_ → (t : List ℕ) (x : RowsView) (path : Path) (n : LineCounts) (found : Option (ℕ × ℕ)) → HasCut t x →
     Some n ≡ option_map (numbers (document_row path.doc (cut_of t))) (row_line_at path (cut_of t)) → ((y : Slices) → slice_get x.rows n.0 ≡ Some y → found ≡ of (row_start n.0 x) y n) →
     found ≡ option_map piece_span (row_line_at path (cut_of t) >>= λ s. in_ (document_row path.doc (cut_of t) + s.before) s (cut_of t))
 part_agrees of in_ reports t x path n found h e agrees = go (row_line_at path (cut_of t)) refl e

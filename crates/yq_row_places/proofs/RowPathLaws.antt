@@ -5,7 +5,7 @@ use Rattle.yq_flow_scalars.specs.Paths.{Step}
 use Rattle.yq_cut.specs.Rows.{Part}
 use Rattle.yq_lines.specs.Group.{group, level_or, is_fine}
 use Rattle.yq_lines.specs.Laws.{with_lines}
-use Rattle.yq_lines.specs.Lines.{lines_of}
+use Rattle.yq_lines.specs.Lines.{lines_of_rows}
 use Rattle.yq_lines.specs.Outline.{Line, level, Outline, row, flatten, IsEven, end}
 use Rattle.yq_lines.specs.Places.{plug, FoundLine, find, Context, here, below, beside, lines_after}
 use Rattle.yq_documents.specs.Reading.{is_document}
@@ -30,7 +30,7 @@ found_place ls s ss rest f is fine =
     allows_from (level_or 0 o) f.place f.line f.under f.after (subst (λ x. IsEven (level_or 0 o) x) (sym whole) (even_from (level_or 0 o) o fine))
 
 -- the lines of a document are even
-pub document_fine : (p : Part) → is_document p ≡ true → is_fine (group (lines_of p.rows)) ≡ true
+pub document_fine : (p : Part) → is_document p ≡ true → is_fine (group (lines_of_rows p.rows)) ≡ true
 document_fine p e = search (rules, and_parts)
 
 -- ---- behind a line and what is under it the next line is no deeper

@@ -6,7 +6,7 @@ use Rattle.std.proofs.lemmas.Option.{slice_get-map}
 use Rattle.std.specs.List.{slice_get}
 use Rattle.yq_cut.specs.Rows.{Row, Cut}
 use Rattle.yq_cut.specs.View.{Slices, slices, rows_of, rows_view}
-use Rattle.yq_row_places.specs.EntryReading.{before_line, ending, through_row, line_begin}
+use Rattle.yq_row_places.specs.EntryReading.{before_line, row_ending, through_row, line_begin}
 use Rattle.yq_lines.specs.Extents.{row_start, front_length, head_place}
 use Rattle.yq_lines.proofs.LengthLaws.{head_agrees}
 use Rattle.yq_row_places.proofs.StartLaws.{start_agrees}
@@ -23,5 +23,5 @@ pub line_begins : (c : Cut) (i k : ℕ) (r : Row) → slice_get (rows_of c) i �
 line_begins c i k r is within = search (rules, length-replicate, start_agrees, to_dash, last_is, length-append)
 
 -- where a row ends
-pub row_ends : (c : Cut) (i : ℕ) (r : Row) → slice_get (rows_of c) i ≡ Some r → (head_place i c r).1 + length (ending (slices r)) ≡ length (through_row i r c)
+pub row_ends : (c : Cut) (i : ℕ) (r : Row) → slice_get (rows_of c) i ≡ Some r → (head_place i c r).1 + length (row_ending (slices r)) ≡ length (through_row i r c)
 row_ends c i r is = search (rules, length-append)

@@ -6,15 +6,15 @@ use Rattle.std.proofs.lemmas.Option.{slice_get-map, slice_get_within, none-some,
 use Rattle.std.specs.List.{slice_get}
 use Rattle.yq_flow_scalars.specs.Answers.{◌>>=◌}
 use Rattle.yq_flow_scalars.specs.Tree as tree
-use Rattle.yq_nodes.specs.Nodes.{Node, empty, scalar, coll, anchored, node_text, takes_anchor, IsNode}
+use Rattle.yq_nodes.specs.Nodes.{FlowNode, empty, scalar, coll, anchored, node_text, takes_anchor, IsFlowNode}
 use Rattle.yq_cut.specs.Exchange.{row_front, before_content}
 use Rattle.yq_cut.specs.Rows as rows
 use Rattle.yq_cut.specs.Rows.{Content, Nothing, Inline, Block, dashes_text, mark_text, anchor_text, Row, rows_text, Part, Cut}
-use Rattle.yq_cut.specs.View.{anchor_cut, anchor_of, apart_of, content_cut, rows_of}
+use Rattle.yq_cut.specs.View.{anchor_cut, anchor_with_sign, apart_of, content_cut, rows_of}
 use Rattle.yq_cut.proofs.PlaceLaws.{part_then}
 use Rattle.yq_lines.proofs.KnownLaws.{get_dropped}
 use Rattle.yq_row_places.specs.EntryReading.{before_line, through_row, lines_place, head_end, head_extent, line_head}
-use Rattle.yq_lines.specs.Lines.{head_of, lines_of}
+use Rattle.yq_lines.specs.Lines.{head_of, lines_of_rows}
 use Rattle.yq_nodes.specs.Trees.{node_head}
 use Rattle.yq_row_places.specs.CommentReading.{before_row}
 use Rattle.yq_documents.specs.LinesInRows.{RowLine, row_line}
@@ -29,7 +29,7 @@ use Rattle.yq_row_places.proofs.PrintedLaws.{IsValid, IsWritten, IsPrinted, line
 use Rattle.yq_row_places.proofs.PrintedRowLines.{row_begin, IsPrintedLine, printed_line, IsPlaced}
 
 -- an anchor with the white space behind it, and what is behind that
-abbrev front_of : Node → List ℕ
+abbrev front_of : FlowNode → List ℕ
 front_of node = (anchor_cut node).0 ++ (anchor_cut node).1
 
 abbrev Spans : ℕ → ℕ → Option TextPiece → Type 0
@@ -38,22 +38,22 @@ Spans from to o = (x : TextPiece) × (o ≡ Some x) × (length x.before ≡ from
 pub spans_is : (from to : ℕ) (o : Option TextPiece) → Spans from to o → option_map piece_span o ≡ Some (from, to)
 spans_is from to o h = ap (option_map piece_span) h.1 ∙ (λ i. Some (h.2 i, h.3 i))
 
-core_size : (before : List ℕ) (node : Node) (rest : List ℕ) (h : tree.Node) → takes_anchor node ≡ true → node_head node ≡ Some h → Spans (length before) (length before + length (node_text node [])) (node_piece before node rest)
+core_size : (before : List ℕ) (node : FlowNode) (rest : List ℕ) (h : tree.Node) → takes_anchor node ≡ true → node_head node ≡ Some h → Spans (length before) (length before + length (node_text node [])) (node_piece before node rest)
 core_size before empty rest h t e = absurd (none-some _ e)
 core_size before (scalar p) rest h t e = (_, refl, refl, refl)
 core_size before (coll k g is) rest h t e = (_, refl, refl, refl)
 core_size before x rest h t e = cc
 
-node_size : (before : List ℕ) (node : Node) (rest : List ℕ) (h : tree.Node) → IsValid node rest → node_head node ≡ Some h →
+node_size : (before : List ℕ) (node : FlowNode) (rest : List ℕ) (h : tree.Node) → IsValid node rest → node_head node ≡ Some h →
     Spans (length before + length (front_of node)) (length before + length (front_of node) + length (anchor_cut node).2) (node_piece before node rest)
-unfolding IsNode
+unfolding IsFlowNode
 node_size before empty rest h v e = absurd (none-some _ e)
 node_size before (anchored n g node) rest h v e =
     let k = core_size (before ++ 38 ∷ (n ++ g)) node rest h v.3.3 e in
     (k.0, k.1, omega (arith, k.2, length-append before (38 ∷ (n ++ g))), omega (arith, k.3, length-append before (38 ∷ (n ++ g))))
 node_size before x rest h v e = (_, refl, omega arith, omega arith)
 
-anchor_size : (a : Option rows.Anchor) → length (anchor_text a []) ≡ length (anchor_of a) + length (apart_of a)
+anchor_size : (a : Option rows.Anchor) → length (anchor_text a []) ≡ length (anchor_with_sign a) + length (apart_of a)
 anchor_size a = search (rules, length-append)
 
 -- what stands before the head of a content
@@ -138,7 +138,7 @@ module _ (c : Cut) (p : Part) (more : List Row) (k : ℕ) (s : PrintedDocument) 
   -- a line that is there is in its row line
   pub row_line_at : (n : ℕ) (l : PrintedLine) → slice_get (printed_lines p.rows) n ≡ Some l → (q : RowLine) × (row_line n p.rows ≡ Some q) × (d : IsPrintedLine p.rows n q) × (d.line ≡ l)
   row_line_at n l e =
-      let line : slice_get (lines_of p.rows) n ≡ Some l.line = ap (λ x. slice_get x n) (sym (lines_are p.rows)) ∙ (slice_get-map line_in (printed_lines p.rows) n ∙ ap (option_map line_in) e) in
+      let line : slice_get (lines_of_rows p.rows) n ≡ Some l.line = ap (λ x. slice_get x n) (sym (lines_are p.rows)) ∙ (slice_get-map line_in (printed_lines p.rows) n ∙ ap (option_map line_in) e) in
       let q = row_line_found p.rows n l.line line in
       let d = printed_line p.rows n q.0 q.1 in
       (q.0, q.1, d, same_Some _ _ (sym d.there ∙ e))

@@ -5,14 +5,14 @@ use Rattle.yq_flow_scalars.specs.Answers.{◌>>=◌}
 use Rattle.yq_block_scalars.specs.Block.{BlockText}
 use Rattle.yq_flow_scalars.specs.Paths.{Step}
 use Rattle.yq_flow_scalars.specs.Text.{is_empty}
-use Rattle.yq_lines.specs.Positions.{is_bare}
+use Rattle.yq_lines.specs.Positions.{has_no_mark}
 use Rattle.yq_cut.specs.Grammar.{IsMark}
 use Rattle.yq_cut.specs.Removal.{block_numbers, block_of}
 use Rattle.yq_cut.specs.Rows as rows
 use Rattle.yq_cut.specs.Rows.{Content, Nothing, Inline, Block, Row, dashes_text, print_row, rows_text, Cut}
 use Rattle.yq_cut.specs.View.{Slices, slices, colon_of, content_cut, last_dash, RowsView}
 use Rattle.yq_cut.proofs.seams.SeamLaws.{rows_text-append}
-use Rattle.yq_lines.specs.Lines.{mark_of}
+use Rattle.yq_lines.specs.Lines.{line_mark}
 use Rattle.yq_documents.specs.Reading.{cut_of}
 use Rattle.yq_lines.proofs.RowLaws.{colon_some}
 use Rattle.yq_row_places.specs.Standings.{RowsOfEntry, alone, before_entry, behind_entry, behind_mark, below, beside, block, compact, compact_in, entry_standing, held, is_alone, lone, rows_of_entry, standing_at, under}
@@ -25,7 +25,7 @@ use Rattle.yq_row_places.proofs.RemovalTexts.{texts_then}
 
 -- ---- a node that is alone on its line
 
-marks : (ns : List ℕ) (m : rows.Mark) (x : Content) (rest : List ℕ) → IsMark m x rest → (is_empty (dashes_text ns (last_dash m)) && is_empty (colon_of m)) ≡ (is_empty ns && is_bare (mark_of m))
+marks : (ns : List ℕ) (m : rows.RowMark) (x : Content) (rest : List ℕ) → IsMark m x rest → (is_empty (dashes_text ns (last_dash m)) && is_empty (colon_of m)) ≡ (is_empty ns && has_no_mark (line_mark m))
 marks (n ∷ ns) m x rest h = refl
 marks [] rows.Bare x rest h = refl
 marks [] rows.Dash x rest h = refl

@@ -4,7 +4,7 @@ use Rattle.yq_flow_scalars.specs.Tree.{Label, Node, alias, scalar, list, map, Ch
 use Rattle.yq_flow_scalars.specs.Paths.{Step, is_here, further}
 use Rattle.yq_nodes.specs.Nodes as inline
 use Rattle.yq_nodes.specs.Nodes.{Items, item}
-use Rattle.yq_nodes.specs.Trees.{tree_of, items_tree, collection, with_name, node_head}
+use Rattle.yq_nodes.specs.Trees.{tree_of, items_tree, tree_collection, with_name, node_head}
 use Rattle.yq_cut.specs.Rows.{Content}
 use Rattle.yq_lines.specs.Labelled.{Labelled, labelled_at, labelled_from}
 use Rattle.yq_lines.specs.Lines.{head_of}
@@ -28,7 +28,7 @@ abbrev mutual
   AreUncommented none = Unit {0}
   AreUncommented (child l n cs) = HasNone l × Uncommented n × AreUncommented cs
 
-uncommented_collection : (k : ℕ) (cs : Children) → AreUncommented cs → Uncommented (collection k cs)
+uncommented_collection : (k : ℕ) (cs : Children) → AreUncommented cs → Uncommented (tree_collection k cs)
 uncommented_collection k cs h = search rules
 
 uncommented_named : (a : List ℕ) (n : Node) → Uncommented n → Uncommented (with_name a n)
@@ -37,7 +37,7 @@ uncommented_named a n h1 = search rules
 mutual
   unfolding tree_of items_tree
 
-  uncommented_tree : (n : inline.Node) → Uncommented (tree_of n)
+  uncommented_tree : (n : inline.FlowNode) → Uncommented (tree_of n)
   uncommented_tree inline.empty = tt
   uncommented_tree (inline.alias n) = tt
   uncommented_tree (inline.scalar p) = tt
@@ -48,7 +48,7 @@ mutual
   uncommented_items inline.none = tt
   uncommented_items (item key n sep is) = ((refl, refl), uncommented_tree n, uncommented_items is)
 
-uncommented_head : (n : inline.Node) → If (node_head n) Uncommented
+uncommented_head : (n : inline.FlowNode) → If (node_head n) Uncommented
 uncommented_head inline.empty = tt
 uncommented_head (inline.alias n) = uncommented_tree (inline.alias n)
 uncommented_head (inline.scalar p) = uncommented_tree (inline.scalar p)

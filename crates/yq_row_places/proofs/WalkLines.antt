@@ -4,7 +4,7 @@ use Rattle.std.specs.List.{slice_get}
 use Rattle.yq_flow_scalars.specs.Answers.{◌>>=◌}
 use Rattle.yq_cut.specs.Rows.{Row, Cut}
 use Rattle.yq_cut.specs.View.{Slices, slices, rows_of, RowsView}
-use Rattle.yq_lines.specs.Lines.{lines_of}
+use Rattle.yq_lines.specs.Lines.{lines_of_rows}
 use Rattle.yq_documents.specs.LinesInRows.{RowLine, row_line}
 use Rattle.yq_row_places.specs.EntryReading.{before_line, through_row, lines_place, line_begin}
 use Rattle.yq_lines.specs.Extents.{row_start}
@@ -32,8 +32,8 @@ module _ (s : RowsView) (d : Stretch) (h : HasRows s d) (q : Position) where
       let l = located s d h row_before at in
       let i : ℕ = (q.row - 1) - d.first in
       let next : q.row - d.first ≡ suc i + 0 = omega (arith, less) in
-      let number : line_number d h.rows q - 1 ≡ length (lines_of (take i h.rows)) + length l.row.dashes =
-      omega (arith, first, ap (λ (k : ℕ). length (lines_of (take k h.rows))) next, lines_upto h.rows i 0 l.row l.there) in
+      let number : line_number d h.rows q - 1 ≡ length (lines_of_rows (take i h.rows)) + length l.row.dashes =
+      omega (arith, first, ap (λ (k : ℕ). length (lines_of_rows (take k h.rows))) next, lines_upto h.rows i 0 l.row l.there) in
       ap (λ (n : ℕ). row_line n h.rows) number ∙ row_line_number h.rows i (length l.row.dashes) l.row l.there (omega arith)
 
 pub lines_view : (s : RowsView) (d : Stretch) (c : Cut) (k : InCut s d c) (p q : Position) (start end : ℕ) → AreLinesTo s d p q → p.row < q.row → ((x : Slices) → slice_get s.rows p.row ≡ Some x → start ≡ line_begin (row_start p.row s) x p.line) →

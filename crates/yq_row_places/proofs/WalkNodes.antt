@@ -6,8 +6,8 @@ use Rattle.std.proofs.lemmas.Option.{slice_get_cases}
 use Rattle.std.specs.List.{slice_get}
 use Rattle.yq_flow_scalars.specs.Answers.{◌>>=◌}
 use Rattle.yq_flow_scalars.specs.Paths.{Step}
-use Rattle.yq_lines.specs.Ends.{is_end, part, deeper_count, lines_end}
-use Rattle.yq_lines.specs.Group.{deeper, group}
+use Rattle.yq_lines.specs.Ends.{has_no_lines, part, deeper_count, lines_end}
+use Rattle.yq_lines.specs.Group.{deeper_lines, group}
 use Rattle.yq_lines.specs.Outline.{Line, level}
 use Rattle.yq_lines.proofs.EndsLaws.{drop_at, not_end, part_row, part_stop}
 use Rattle.yq_lines.proofs.LineEnds.{end_line}
@@ -24,33 +24,33 @@ use Rattle.yq_row_places.proofs.WalkDocuments.{row_line_number}
 use Rattle.yq_lines.proofs.WalkPositions.{located}
 
 -- lines that are deeper than a level end where they begin exactly where there are none
-pub stops_here : (ls : List Line) (n floor : ℕ) → eqb n (lines_stop n floor ls) ≡ is_end (part ls n floor)
+pub stops_here : (ls : List Line) (n floor : ℕ) → eqb n (lines_stop n floor ls) ≡ has_no_lines (part ls n floor)
 stops_here ls n floor = go ((slice_get_cases ls n).1)
   where
-    go2 : (m : Line) → slice_get ls n ≡ Some m → (floor < level m) ⊎ (level m ≤ floor) → eqb n (lines_stop n floor ls) ≡ is_end (part ls n floor)
+    go2 : (m : Line) → slice_get ls n ≡ Some m → (floor < level m) ⊎ (level m ≤ floor) → eqb n (lines_stop n floor ls) ≡ has_no_lines (part ls n floor)
     go2 m at (inl deep) =
         let more = ap (deeper_count floor) (drop_at ls n m at) ∙ cond-true _ (suc (deeper_count floor (drop (n + 1) ls))) 0 (lt-ltb floor (level m) deep) in
-        ne_eqb n (lines_stop n floor ls) (λ e. omega (arith, e, more)) ∙ sym (ap is_end (part_row ls n floor m at deep))
+        ne_eqb n (lines_stop n floor ls) (λ e. omega (arith, e, more)) ∙ sym (ap has_no_lines (part_row ls n floor m at deep))
     go2 m at (inr low) =
         let none = ap (deeper_count floor) (drop_at ls n m at) ∙ cond-false _ (suc (deeper_count floor (drop (n + 1) ls))) 0 (le-ltb floor (level m) low) in
-        eq-eqb n (lines_stop n floor ls) (omega (arith, none)) ∙ sym (ap is_end (part_stop ls n floor m at low))
+        eq-eqb n (lines_stop n floor ls) (omega (arith, none)) ∙ sym (ap has_no_lines (part_stop ls n floor m at low))
 
-    go : ((x : Line) × (n < length ls) × (slice_get ls n ≡ Some x) × (get_or ls n x ≡ x)) ⊎ ((length ls ≤ n) × (slice_get ls n ≡ None)) → eqb n (lines_stop n floor ls) ≡ is_end (part ls n floor)
+    go : ((x : Line) × (n < length ls) × (slice_get ls n ≡ Some x) × (get_or ls n x ≡ x)) ⊎ ((length ls ≤ n) × (slice_get ls n ≡ None)) → eqb n (lines_stop n floor ls) ≡ has_no_lines (part ls n floor)
     go (inr past) =
         let none : drop n ls ≡ [] = drop_all n ls past.0 in
-        eq-eqb n (lines_stop n floor ls) (omega (arith, ap (deeper_count floor) none)) ∙ sym (ap is_end (ap (λ (ms : List Line). deeper floor (group ms)) none))
+        eq-eqb n (lines_stop n floor ls) (omega (arith, ap (deeper_count floor) none)) ∙ sym (ap has_no_lines (ap (λ (ms : List Line). deeper_lines floor (group ms)) none))
     go (inl there) = go2 there.0 there.2 (cases_lt floor (level there.0))
 
 -- what is said of the first of them
 module _ {A : Type 0} (ls : List Line) (n floor : ℕ) (said : Line → Option A) where
-  pub none_here : false ≡ not (is_end (part ls n floor)) → None ≡ cond (eqb n (lines_stop n floor ls)) None (slice_get ls n >>= said)
-  none_here none = sym (cond-true _ None (slice_get ls n >>= said) (stops_here ls n floor ∙ ends (is_end (part ls n floor)) none))
+  pub none_here : false ≡ not (has_no_lines (part ls n floor)) → None ≡ cond (eqb n (lines_stop n floor ls)) None (slice_get ls n >>= said)
+  none_here none = sym (cond-true _ None (slice_get ls n >>= said) (stops_here ls n floor ∙ ends (has_no_lines (part ls n floor)) none))
     where
       ends : (b : Bool) → false ≡ not b → b ≡ true
       ends true e = refl
       ends false e = absurd (false≢true e)
 
-  pub first_here : (l : Line) → slice_get ls n ≡ Some l → true ≡ not (is_end (part ls n floor)) → said l ≡ cond (eqb n (lines_stop n floor ls)) None (slice_get ls n >>= said)
+  pub first_here : (l : Line) → slice_get ls n ≡ Some l → true ≡ not (has_no_lines (part ls n floor)) → said l ≡ cond (eqb n (lines_stop n floor ls)) None (slice_get ls n >>= said)
   first_here l is some = ap (λ (o : Option Line). o >>= said) (sym is) ∙ sym (cond-false _ None (slice_get ls n >>= said) (stops_here ls n floor ∙ not_end _ some))
 
 -- where the lines under a line end, and those of a document

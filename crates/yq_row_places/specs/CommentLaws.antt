@@ -1,7 +1,7 @@
 -- What the comments in pieces of a text tell (own).
 use Rattle.std.specs.Prelude.{ℕ, List, [], drop, Option, Some, None, option_map, ◌≡◌}
 use Rattle.yq_flow_scalars.specs.Answers.{◌>>=◌}
-use Rattle.yq_flow_scalars.specs.Text.{lines_of}
+use Rattle.yq_flow_scalars.specs.Text.{text_lines}
 use Rattle.yq_cut.specs.Rows.{Cut}
 use Rattle.yq_documents.specs.declared.path.Path.{Path}
 use Rattle.yq_documents.specs.Located.{labelled_located}
@@ -11,7 +11,7 @@ use Rattle.yq_documents.specs.Reading.{read_at}
 use Rattle.yq_documents.specs.Texts.{texts}
 use Rattle.yq_documents.specs.declared.path.Part.TheVariants as parts
 use Rattle.yq_documents.specs.Pieces.{TextPiece}
-use Rattle.yq_row_places.specs.PathPieces.{piece_at}
+use Rattle.yq_row_places.specs.PathPieces.{path_piece}
 use Rattle.yq_documents.specs.declared.path.Part.TheVariants as parts
 
 -- the text of the comment in a piece: what follows its `#`, less one leading space
@@ -21,7 +21,7 @@ comment_of p = less_space (drop 1 p.text)
 -- the texts of the comment lines in a piece; none where there is no piece
 abbrev pub comments_of : Option TextPiece → List (List ℕ)
 comments_of None = []
-comments_of (Some p) = texts (lines_of p.text)
+comments_of (Some p) = texts (text_lines p.text)
 
 -- the head comment that is told of an entry or item; none where there is none
 abbrev pub head_comment_of : Option Labelled → List (List ℕ)
@@ -32,5 +32,5 @@ head_comment_of (Some x) = x.0.head_comment
 abbrev pub CommentsStand : Type 0
 CommentsStand =
     (t : List ℕ) (c : Cut) (p : Path) → read_at t ≡ Some c →
-    ((labelled_located p t >>= λ x. x.0.line_comment) ≡ option_map comment_of (piece_at p parts.LineComment c))
-    × (head_comment_of (labelled_located p t) ≡ comments_of (piece_at p parts.HeadComment c))
+    ((labelled_located p t >>= λ x. x.0.line_comment) ≡ option_map comment_of (path_piece p parts.LineComment c))
+    × (head_comment_of (labelled_located p t) ≡ comments_of (path_piece p parts.HeadComment c))

@@ -3,7 +3,7 @@ use Rattle.std.specs.Prelude.{ℕ, ◌==◌, List, ◌++◌, Option, Some, None,
 use Rattle.yq_flow_scalars.specs.Answers.{◌>>=◌}
 use Rattle.yq_flow_scalars.specs.Paths.{Step}
 use Rattle.yq_flow_scalars.specs.Text as text
-use Rattle.yq_flow_scalars.specs.Text.{ends_line, joined, lines_of, no_white, past_white}
+use Rattle.yq_flow_scalars.specs.Text.{ends_line, joined, text_lines, no_white, past_white}
 use Rattle.yq_cut.specs.Exchange.{row_front}
 use Rattle.yq_cut.specs.Rows.{Row, behind_gap, Cut}
 use Rattle.yq_cut.specs.View.{slices}
@@ -18,18 +18,18 @@ pub record LineEnd : Type 0 where
   pub behind : List ℕ
 
 -- the end of a line, by the text before the white space that ends it, and the text from that on (6.6)
-abbrev pub end_before : List ℕ → List ℕ → LineEnd
-end_before before rest =
+abbrev pub end_in_line : List ℕ → List ℕ → LineEnd
+end_in_line before rest =
     let line = text.cut ends_line (past_white rest) in
     record { before = before; white = (text.cut no_white rest).0; comment = line.0; behind = line.1 }
 
 -- the text of a row up to the end of the line of its key or dash: with what is written there, or with the header of a block scalar
-abbrev pub line_text : Row → List ℕ
-line_text r = let s = slices r in row_front r ++ (s.space ++ (s.anchor ++ (s.apart ++ s.head)))
+abbrev pub text_to_line_end : Row → List ℕ
+text_to_line_end r = let s = slices r in row_front r ++ (s.space ++ (s.anchor ++ (s.apart ++ s.head)))
 
 -- the end of the line of a row's key or dash (6.6; own)
 abbrev pub end_of_line : PlacedRow → LineEnd
-end_of_line w = let s = slices w.row in end_before (w.before ++ line_text w.row) (s.tail ++ (s.raw ++ w.behind))
+end_of_line w = let s = slices w.row in end_in_line (w.before ++ text_to_line_end w.row) (s.tail ++ (s.raw ++ w.behind))
 
 -- The lines above a row: the text before the run of comment lines that ends them, that run, which may be nothing, the row's column, and
 -- the text from the row's line on (6.6; own).
@@ -42,8 +42,8 @@ pub record LinesAbove : Type 0 where
 -- the lines of a gap between two texts, above a row in a column (6.6; own)
 abbrev pub gap_above : List ℕ → List ℕ → ℕ → List ℕ → LinesAbove
 gap_above before gap column rest = record {
-  before = before ++ joined (before_run (lines_of gap));
-  run = joined (last_run (lines_of gap));
+  before = before ++ joined (before_run (text_lines gap));
+  run = joined (last_run (text_lines gap));
   column = column;
   behind = rest;
 }

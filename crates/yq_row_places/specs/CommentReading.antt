@@ -1,9 +1,9 @@
 -- Reading (own; a reader may skip it): where comments stand, by the pieces of rows.
 use Rattle.std.specs.Prelude.{ℕ, ◌+◌, ◌-◌, ◌==◌, List, length, Option, Some, None, if◌then◌else◌, [], ◌++◌, nat_lt, take}
-use Rattle.yq_flow_scalars.specs.Text.{cut, front, ends_line, is_empty, joined, lines_of, no_white, past_white}
+use Rattle.yq_flow_scalars.specs.Text.{cut, front, ends_line, is_empty, joined, text_lines, no_white, past_white}
 use Rattle.yq_cut.specs.View.{Slices, slices}
 use Rattle.yq_lines.specs.Extents.{front_length}
-use Rattle.yq_row_places.specs.RowLineReading.{Numbers}
+use Rattle.yq_row_places.specs.RowLineReading.{LineCounts}
 use Rattle.yq_cut.specs.Exchange.{before_content, behind_row}
 use Rattle.yq_cut.specs.Rows.{Row, Cut, rows_text, part_text, last, marked, behind_gap}
 use Rattle.yq_documents.specs.LinesInRows.{RowLine}
@@ -34,13 +34,13 @@ tail_span start tail =
     if front (λ b. b == 35) (past_white tail) then Some (start + white, start + white + length (cut ends_line (past_white tail)).0) else None
 
 -- where the line comment of a line stands, by where its row begins and that row's pieces
-abbrev pub line_comment_span : ℕ → Slices → Numbers → Option (ℕ × ℕ)
+abbrev pub line_comment_span : ℕ → Slices → LineCounts → Option (ℕ × ℕ)
 line_comment_span start x s = if s.1 == s.2 then tail_span (start + front_length x + length x.head) x.tail else None
 
 -- where the run of comment lines stands that ends a gap, by where the gap begins
 abbrev pub gap_span : ℕ → List ℕ → Option (ℕ × ℕ)
-gap_span start gap = let run = joined (last_run (lines_of gap)) in if is_empty run then None else Some (start + length gap - length run, start + length gap)
+gap_span start gap = let run = joined (last_run (text_lines gap)) in if is_empty run then None else Some (start + length gap - length run, start + length gap)
 
 -- where the head comment of a line stands, by where its row begins and that row's pieces
-abbrev pub head_comment_span : ℕ → Slices → Numbers → Option (ℕ × ℕ)
+abbrev pub head_comment_span : ℕ → Slices → LineCounts → Option (ℕ × ℕ)
 head_comment_span start x s = if s.1 == 0 then gap_span start x.gap else None

@@ -5,7 +5,7 @@ use Rattle.yq_flow_scalars.specs.Answers.{◌>>=◌}
 use Rattle.yq_flow_scalars.specs.Paths.{Step}
 use Rattle.yq_flow_scalars.specs.Text.{is_empty, joined}
 use Rattle.yq_nodes.specs.Entries.{PlacedEntry, placed_entry_at, entry_place, content_place}
-use Rattle.yq_nodes.specs.Nodes.{Node, empty}
+use Rattle.yq_nodes.specs.Nodes.{FlowNode, empty}
 use Rattle.yq_nodes.specs.Places.{Placed, locate}
 use Rattle.yq_cut.specs.Exchange.{behind_row}
 use Rattle.yq_cut.specs.Rows.{Content, Nothing, Inline, Block, Row, dashes_text, Cut, cut_text}
@@ -13,11 +13,11 @@ use Rattle.yq_cut.specs.View.{Slices, slices}
 use Rattle.yq_documents.specs.declared.path.Path.{Path}
 use Rattle.yq_row_places.specs.CommentReading.{before_tail, before_row}
 use Rattle.yq_documents.specs.Documents.{document_parts}
-use Rattle.yq_lines.specs.Lines.{tail_of, lines_of}
+use Rattle.yq_lines.specs.Lines.{tail_of, lines_of_rows}
 use Rattle.yq_documents.specs.Located.{steps_of}
-use Rattle.yq_lines.specs.Ends.{line_of, reached, lines_end}
+use Rattle.yq_lines.specs.Ends.{line_at_steps, reached, lines_end}
 use Rattle.yq_documents.specs.LinesInRows.{row_line, document_row}
-use Rattle.yq_lines.specs.Positions.{is_bare}
+use Rattle.yq_lines.specs.Positions.{has_no_mark}
 use Rattle.yq_documents.specs.RowReading.{is_block_head}
 use Rattle.yq_row_places.specs.PrintedLines.{less_break}
 
@@ -26,12 +26,12 @@ abbrev pub before_line : ℕ → ℕ → Row → Cut → List ℕ
 before_line i k r c = before_row i c ++ (r.gap ++ (replicate r.column 32 ++ dashes_text (take k r.dashes) []))
 
 -- the tail of a row and its raw lines, less the break of the last of these lines
-abbrev pub ending : Slices → List ℕ
-ending s = if is_empty s.raw then less_break s.tail else s.tail ++ less_break s.raw
+abbrev pub row_ending : Slices → List ℕ
+row_ending s = if is_empty s.raw then less_break s.tail else s.tail ++ less_break s.raw
 
 -- the text of a cut up to the end of the last line of row i, before its break
 abbrev pub through_row : ℕ → Row → Cut → List ℕ
-through_row i r c = before_tail i r c ++ ending (slices r)
+through_row i r c = before_tail i r c ++ row_ending (slices r)
 
 -- the place of lines of rows, before which k rows of a cut stand: from the beginning of one line to the end of another one's row, before its break
 abbrev pub lines_place : ℕ → Cut → List Row → ℕ → ℕ → Option (ℕ × ℕ)
@@ -40,7 +40,7 @@ lines_place k c rs from to =
 
 -- the place of the entry or item of line n: from its key or dash to the end of its last line, before its break
 abbrev pub line_entry : ℕ → Cut → List Row → ℕ → Option (ℕ × ℕ)
-line_entry k c rs n = lines_place k c rs n (lines_end n (lines_of rs) - 1)
+line_entry k c rs n = lines_place k c rs n (lines_end n (lines_of_rows rs) - 1)
 
 -- where a head ends, by where it ends on its first line: the lines of a block scalar and the tail before them belong to it (8.1)
 abbrev pub head_end : ℕ → Content → ℕ
@@ -61,15 +61,15 @@ line_head k c rs n = row_line n rs >>= λ s. Some (head_extent (k + s.before) s.
 abbrev pub lines_content : ℕ → Cut → List Row → ℕ → ℕ → Option (ℕ × ℕ)
 lines_content k c rs from to =
     if from == to then None
-    else (slice_get (lines_of rs) from >>= λ l. if is_bare l.mark then line_head k c rs from else lines_place k c rs from (to - 1))
+    else (slice_get (lines_of_rows rs) from >>= λ l. if has_no_mark l.mark then line_head k c rs from else lines_place k c rs from (to - 1))
 
 -- the place of the node of line n: its head, or what the lines under it stand for (8.2)
 abbrev pub line_content : ℕ → Cut → List Row → ℕ → Option (ℕ × ℕ)
 line_content k c rs n =
-    slice_get (lines_of rs) n >>= λ l. if is_some l.head then line_head k c rs n else lines_content k c rs (suc n) (lines_end n (lines_of rs))
+    slice_get (lines_of_rows rs) n >>= λ l. if is_some l.head then line_head k c rs n else lines_content k c rs (suc n) (lines_end n (lines_of_rows rs))
 
 -- the inline node behind a row's mark, or nothing where there is none (7, 8.2)
-abbrev pub inline_node : Content → Node
+abbrev pub inline_node : Content → FlowNode
 inline_node (Nothing tail) = empty
 inline_node (Inline space node tail) = node
 inline_node (Block space anchor block) = empty
@@ -94,29 +94,29 @@ content_from k c rs n (s ∷ ss) = option_and_then (λ e. content_place e.1) (fl
 
 -- the place of the entry or item to which steps lead among rows; the root is none
 abbrev pub entry_of : ℕ → Cut → List Row → List Step → Option (ℕ × ℕ)
-entry_of k c rs steps = reached steps (lines_of rs) >>= λ x. entry_from k c rs x.0 x.1
+entry_of k c rs steps = reached steps (lines_of_rows rs) >>= λ x. entry_from k c rs x.0 x.1
 
 -- the place of the node to which steps lead among rows
-abbrev pub content_of : ℕ → Cut → List Row → List Step → Option (ℕ × ℕ)
-content_of k c rs [] = lines_content k c rs 0 (length (lines_of rs))
-content_of k c rs (s ∷ ss) = reached (s ∷ ss) (lines_of rs) >>= λ x. content_from k c rs x.0 x.1
+abbrev pub node_place_of : ℕ → Cut → List Row → List Step → Option (ℕ × ℕ)
+node_place_of k c rs [] = lines_content k c rs 0 (length (lines_of_rows rs))
+node_place_of k c rs (s ∷ ss) = reached (s ∷ ss) (lines_of_rows rs) >>= λ x. content_from k c rs x.0 x.1
 
 -- the place of the entry or item at a path
 abbrev pub entry_at : Path → Cut → Option (ℕ × ℕ)
 entry_at p c = slice_get (document_parts c) p.doc >>= λ d. entry_of (document_row p.doc c) c d.rows (steps_of p)
 
 -- the place of the content of the node at a path
-abbrev pub content_at : Path → Cut → Option (ℕ × ℕ)
-content_at p c = slice_get (document_parts c) p.doc >>= λ d. content_of (document_row p.doc c) c d.rows (steps_of p)
+abbrev pub content_row_place : Path → Cut → Option (ℕ × ℕ)
+content_row_place p c = slice_get (document_parts c) p.doc >>= λ d. node_place_of (document_row p.doc c) c d.rows (steps_of p)
 
 -- the place of the entry or item of the line to which steps lead among rows
 abbrev pub line_entry_of : ℕ → Cut → List Row → List Step → Option (ℕ × ℕ)
-line_entry_of k c rs steps = line_of steps (lines_of rs) >>= line_entry k c rs
+line_entry_of k c rs steps = line_at_steps steps (lines_of_rows rs) >>= line_entry k c rs
 
 -- the place of the node of rows, or of the line to which steps lead among them
 abbrev pub line_content_of : ℕ → Cut → List Row → List Step → Option (ℕ × ℕ)
-line_content_of k c rs [] = lines_content k c rs 0 (length (lines_of rs))
-line_content_of k c rs (s ∷ ss) = line_of (s ∷ ss) (lines_of rs) >>= line_content k c rs
+line_content_of k c rs [] = lines_content k c rs 0 (length (lines_of_rows rs))
+line_content_of k c rs (s ∷ ss) = line_at_steps (s ∷ ss) (lines_of_rows rs) >>= line_content k c rs
 
 -- the item or entry to which steps lead in the head of line n, if any are left (7.4)
 abbrev pub flow_entry_from : ℕ → Cut → List Row → ℕ → List Step → Option PlacedEntry
@@ -125,7 +125,7 @@ flow_entry_from k c rs n (s ∷ ss) = flow_entry k c rs n (s ∷ ss)
 
 -- the item or entry of a flow collection to which steps lead among rows (7.4)
 abbrev pub flow_entry_of : ℕ → Cut → List Row → List Step → Option PlacedEntry
-flow_entry_of k c rs steps = reached steps (lines_of rs) >>= λ x. flow_entry_from k c rs x.0 x.1
+flow_entry_of k c rs steps = reached steps (lines_of_rows rs) >>= λ x. flow_entry_from k c rs x.0 x.1
 
 -- the place of the entry or item at a path, unless it stands in flow
 abbrev pub line_entry_at : Path → Cut → Option (ℕ × ℕ)

@@ -13,7 +13,7 @@ use Rattle.yq_documents.specs.Located.{steps_of, located}
 use Rattle.yq_lines.specs.Places.{find}
 use Rattle.yq_documents.specs.Reading.{read_at}
 use Rattle.yq_row_places.specs.PrintedLines.{PrintedLine, line_in}
-use Rattle.yq_row_places.specs.PathPieces.{BlockEntry, FlowEntry, flow_at, line_inline, PrintedDocument, printed_document, found_entry, piece_at}
+use Rattle.yq_row_places.specs.PathPieces.{BlockEntry, FlowEntry, flow_at, line_inline, PrintedDocument, printed_document, found_entry, path_piece}
 
 -- whether there are no steps, so that they end at the root
 abbrev pub are_none : List Step → Bool
@@ -60,9 +60,9 @@ is_written p c = or_false (option_map (document_written (steps_of p)) (printed_d
 abbrev pub ContentsExist : Type 0
 ContentsExist =
     (t : List ℕ) (c : Cut) (p : Path) → read_at t ≡ Some c →
-    (is_some (piece_at p parts.Content c) ≡ is_written p c) × ((n : Node) → located p t ≡ Some n → is_written p c ≡ false → IsNull n)
+    (is_some (path_piece p parts.Content c) ≡ is_written p c) × ((n : Node) → located p t ≡ Some n → is_written p c ≡ false → IsNull n)
 
 -- There is an entry or item exactly where the path isn't that of a root and the tree has a node there.
 abbrev pub EntriesExist : Type 0
 EntriesExist =
-    (t : List ℕ) (c : Cut) (p : Path) → read_at t ≡ Some c → is_some (piece_at p parts.Entry c) ≡ (not (is_root p) && is_some (located p t))
+    (t : List ℕ) (c : Cut) (p : Path) → read_at t ≡ Some c → is_some (path_piece p parts.Entry c) ≡ (not (is_root p) && is_some (located p t))

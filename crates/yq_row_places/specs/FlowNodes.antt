@@ -6,20 +6,20 @@ use Rattle.yq_nodes.specs.Collections.{CollPieces, coll_along}
 use Rattle.yq_cut.specs.Exchange.{behind_row}
 use Rattle.yq_cut.specs.Rows.{Content, Nothing, Inline, Block, Row, Part, Cut}
 use Rattle.yq_lines.specs.Outline.{Outline, end, row}
-use Rattle.yq_lines.specs.Places.{here, lines_before, FoundLine, find, in_head, inside}
-use Rattle.yq_lines.specs.Positions.{is_bare}
+use Rattle.yq_lines.specs.Places.{here, lines_before, FoundLine, find, in_head, place_inside}
+use Rattle.yq_lines.specs.Positions.{has_no_mark}
 use Rattle.yq_documents.specs.Documents.{document_parts}
-use Rattle.yq_documents.specs.Reading.{outline_of}
+use Rattle.yq_documents.specs.Reading.{part_outline}
 use Rattle.yq_documents.specs.LinesInRows.{row_line, document_row}
 
 -- the first line, if it is a node itself (8.2)
 abbrev pub bare_line : Outline → Option FoundLine
 bare_line end = None
-bare_line (row l under after) = if is_bare l.mark then Some (record { place = here; line = l; under = under; after = after }) else None
+bare_line (row l under after) = if has_no_mark l.mark then Some (record { place = here; line = l; under = under; after = after }) else None
 
 -- the line in whose head the node of an entry stands: its own, or the one under it that is a node itself; where steps go on in the head, its own (8.2)
 abbrev pub head_line : FoundLine → List Step → Option (FoundLine × List Step)
-head_line f [] = in_head f.line.head (Some (f, [])) (option_map (λ g. (inside f g, [])) (bare_line f.under))
+head_line f [] = in_head f.line.head (Some (f, [])) (option_map (λ g. (place_inside f g, [])) (bare_line f.under))
 head_line f (s ∷ ss) = Some (f, s ∷ ss)
 
 -- the line in whose head the node at a path stands, and the steps that go on in the head
@@ -39,7 +39,7 @@ line_collection k c rs n steps = row_line n rs >>= λ s. content_flow steps s.ro
 
 -- the same at a path of a document, before which k rows stand (7.4)
 abbrev pub part_collection : ℕ → Cut → List Step → Part → Option CollPieces
-part_collection k c steps p = find_head steps (outline_of p) >>= λ x. line_collection k c p.rows (length (lines_before x.0.place)) x.1
+part_collection k c steps p = find_head steps (part_outline p) >>= λ x. line_collection k c p.rows (length (lines_before x.0.place)) x.1
 
 -- the flow collection at a path of document n, with all text behind it (7.4)
 abbrev pub flow_collection : ℕ → List Step → Cut → Option CollPieces

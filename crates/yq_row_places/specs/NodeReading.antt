@@ -2,7 +2,7 @@
 use Rattle.std.specs.Prelude.{ℕ, ◌+◌, List, [], ◌∷◌, slice_get, map, Option, Some, None, is_some, option_map, if◌then◌else◌}
 use denote.Bor.{Bor}
 use Rattle.yq_nodes.specs.declared.path.Step as steps
-use Rattle.yq_nodes.specs.Entries.{step_of}
+use Rattle.yq_nodes.specs.Entries.{tree_step}
 use Rattle.yq_flow_scalars.specs.Answers.{◌>>=◌}
 use Rattle.yq_flow_scalars.specs.Paths.{Step, node_at}
 use Rattle.yq_flow_scalars.specs.Tree as tree
@@ -27,13 +27,13 @@ line_place n (s ∷ ss) l = at_head n
 line_place n [] l = if is_some l.head then at_head n else at_lines (n + 1) (level l)
 
 -- the same with the steps that go on there, if there is such a line
-abbrev pub with_line : ℕ → List Step → Option Line → Option (NodePlace × List Step)
-with_line n ss l = option_map (λ l. (line_place n ss l, ss)) l
+abbrev pub line_with_steps : ℕ → List Step → Option Line → Option (NodePlace × List Step)
+line_with_steps n ss l = option_map (λ l. (line_place n ss l, ss)) l
 
 -- where the node at a path is written, and the steps that go on there
 abbrev pub node_place : List Step → List Line → Option (NodePlace × List Step)
 node_place [] ls = Some (at_lines 0 0, [])
-node_place (s ∷ ss) ls = reached (s ∷ ss) ls >>= λ x. with_line x.0 x.1 (slice_get ls x.0)
+node_place (s ∷ ss) ls = reached (s ∷ ss) ls >>= λ x. line_with_steps x.0 x.1 (slice_get ls x.0)
 
 -- what is said of the node that is written there, where no steps go on: of the head of a line, or of the lines from one up to another one
 abbrev pub said_at : {A : Type 0} → (ℕ → Option A) → (ℕ → ℕ → Option A) → List Line → NodePlace × List Step → Option A
@@ -51,8 +51,8 @@ abbrev pub with_steps : List Step → Option ℕ → Option (ℕ × List Step)
 with_steps ss n = option_map (λ n. (n, ss)) n
 
 -- the line in whose head the node at a path is written, if it is in one, and the steps that go on there
-abbrev pub head_at : List Step → List Line → Option (ℕ × List Step)
-head_at steps ls = node_place steps ls >>= λ x. with_steps x.1 (place_line ls x.0)
+abbrev pub head_line_of : List Step → List Line → Option (ℕ × List Step)
+head_line_of steps ls = node_place steps ls >>= λ x. with_steps x.1 (place_line ls x.0)
 
 -- where a place of the code is, with lines by their numbers
 abbrev pub place_view : Stretch → List Row → declared.NodePlace → NodePlace
@@ -61,7 +61,7 @@ place_view d rs (declared.TheVariants.Lines q floor) = at_lines (line_number d r
 
 -- the same with the steps that go on there
 abbrev pub node_place_view : Stretch → List Row → declared.NodePlace × Bor (List steps.Step) → NodePlace × List Step
-node_place_view d rs x = (place_view d rs x.0, map step_of x.1.now)
+node_place_view d rs x = (place_view d rs x.0, map tree_step x.1.now)
 
 -- A place is that of lines of a document.
 abbrev pub IsPlace : RowsView → Stretch → declared.NodePlace → Type 0

@@ -2,7 +2,7 @@
 use Rattle.std.specs.Prelude.{ℕ, suc, List, [], ◌∷◌, ◌++◌, length, take, drop, map, slice_get, Option, Some, None, is_some, option_map, option_and_then, if◌then◌else◌}
 use Rattle.yq_flow_scalars.specs.Answers.{◌>>=◌}
 use Rattle.yq_flow_scalars.specs.Paths.{Step, is_here, further}
-use Rattle.yq_nodes.specs.Nodes.{Key, bare, Node, empty, alias, scalar, coll, anchored, Items, none, item, key_text, sep_text, open_of, node_text, items_text}
+use Rattle.yq_nodes.specs.Nodes.{Key, bare, FlowNode, empty, alias, scalar, coll, anchored, Items, none, item, key_text, sep_text, opening_bracket, node_text, flow_items_text}
 use Rattle.yq_nodes.specs.Trees.{inner, key_content}
 use Rattle.yq_cut.specs.Rows.{Content, Nothing, Inline, Block, Cut}
 use Rattle.yq_documents.specs.declared.path.Part.{Part}
@@ -14,7 +14,7 @@ use Rattle.yq_lines.specs.Places.{lines_before, FoundLine, find}
 use Rattle.yq_documents.specs.declared.path.Part.TheVariants as parts
 use Rattle.yq_documents.specs.Pieces.{TextPiece, node_piece, head_piece, content_comment, gap_comment}
 use Rattle.yq_row_places.specs.PlacedRows.{PlacedPart, placed_document}
-use Rattle.yq_row_places.specs.PrintedLines.{PrintedLine, line_front, behind_front, print_line, print_lines, printed_lines, line_in, run_piece, lines_piece}
+use Rattle.yq_row_places.specs.PrintedLines.{PrintedLine, line_front, line_rest, print_line, print_lines, printed_lines, line_in, run_piece, lines_piece}
 
 -- A line and those under it, with the text before and behind them.
 pub record BlockEntry : Type 0 where
@@ -37,22 +37,22 @@ content_piece e =
 pub record FlowEntry : Type 0 where
   pub before : List ℕ
   pub key : Key
-  pub node : Node
+  pub node : FlowNode
   pub behind : List ℕ
 
 -- the item or entry to which a step leads, among those of a flow collection between two texts (7.4)
 abbrev pub flow_in : ℕ → Step → List ℕ → Items → List ℕ → Option FlowEntry
 flow_in k s before none behind = None
 flow_in k s before (item key n sep is) behind =
-    if is_here s (inner (key_content key)) then Some (record { before = before; key = key; node = n; behind = sep_text sep (items_text k is behind) })
+    if is_here s (inner (key_content key)) then Some (record { before = before; key = key; node = n; behind = sep_text sep (flow_items_text k is behind) })
     else flow_in k (further s) (before ++ key_text key (node_text n (sep_text sep []))) is behind
 
 -- the same in an inline node between two texts (7.4)
-abbrev pub flow_under : Step → List ℕ → Node → List ℕ → Option FlowEntry
+abbrev pub flow_under : Step → List ℕ → FlowNode → List ℕ → Option FlowEntry
 flow_under s before empty behind = None
 flow_under s before (alias n) behind = None
 flow_under s before (scalar p) behind = None
-flow_under s before (coll k gap is) behind = flow_in k s (before ++ open_of k ∷ gap) is behind
+flow_under s before (coll k gap is) behind = flow_in k s (before ++ opening_bracket k ∷ gap) is behind
 flow_under s before (anchored n gap node) behind = flow_under s (before ++ 38 ∷ (n ++ gap)) node behind
 
 -- the item or entry to which steps lead from one
@@ -112,7 +112,7 @@ piece_in_entry parts.Content [] e = content_piece e
 piece_in_entry parts.Content (s ∷ ss) e = line_inline e >>= λ x. flow_at (s ∷ ss) x >>= flow_content
 piece_in_entry parts.Entry [] e = Some (entry_piece e)
 piece_in_entry parts.Entry (s ∷ ss) e = line_inline e >>= λ x. option_map flow_piece (flow_at (s ∷ ss) x)
-piece_in_entry parts.HeadComment [] e = gap_comment e.before e.line.gap (e.line.spaces ++ behind_front e.line (print_lines e.under e.behind))
+piece_in_entry parts.HeadComment [] e = gap_comment e.before e.line.gap (e.line.spaces ++ line_rest e.line (print_lines e.under e.behind))
 piece_in_entry parts.HeadComment (s ∷ ss) e = None
 piece_in_entry parts.LineComment [] e = content_comment (e.before ++ (line_front e.line ++ e.line.mark)) e.line.content (print_lines e.under e.behind)
 piece_in_entry parts.LineComment (s ∷ ss) e = None
@@ -126,5 +126,5 @@ piece_in parts.LineComment [] s = None
 piece_in part (x ∷ xs) s = find x xs (group (map line_in s.lines)) >>= λ f. found_entry s f.0 >>= piece_in_entry part f.1
 
 -- the piece of a part of the node at a path, if it has that part
-abbrev pub piece_at : Path → Part → Cut → Option TextPiece
-piece_at p part c = printed_document p.doc c >>= piece_in part (steps_of p)
+abbrev pub path_piece : Path → Part → Cut → Option TextPiece
+path_piece p part c = printed_document p.doc c >>= piece_in part (steps_of p)

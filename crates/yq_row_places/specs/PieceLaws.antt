@@ -4,30 +4,30 @@ use Rattle.yq_flow_scalars.specs.declared.kind.Kind.TheVariants.{Text}
 use Rattle.yq_block_scalars.specs.Block.{BlockText, block_text, IsBlock}
 use Rattle.yq_block_scalars.specs.BlockContent.{block_content}
 use Rattle.yq_flow_scalars.specs.Tree as tree
-use Rattle.yq_nodes.specs.Nodes.{Key, key_text, Node, node_text, IsNode}
+use Rattle.yq_nodes.specs.Nodes.{Key, key_text, FlowNode, node_text, IsFlowNode}
 use Rattle.yq_nodes.specs.Trees.{tree_of, inner, key_content, node_anchor}
 use Rattle.yq_cut.specs.Rows.{Part as Rows, Cut}
 use Rattle.yq_documents.specs.declared.path.Part.{Part}
 use Rattle.yq_documents.specs.declared.path.Part.TheVariants.{Content, Entry}
 use Rattle.yq_documents.specs.declared.path.Path.{Path}
 use Rattle.yq_documents.specs.Documents.{document_parts}
-use Rattle.yq_lines.specs.Lines.{lines_of}
+use Rattle.yq_lines.specs.Lines.{lines_of_rows}
 use Rattle.yq_documents.specs.Located.{labelled_located, located}
 use Rattle.yq_lines.specs.Labelled.{Labelled}
 use Rattle.yq_lines.specs.Outline.{level, Outline, flatten, IsEven, anchored, value, label}
-use Rattle.yq_lines.specs.Places.{content}
+use Rattle.yq_lines.specs.Places.{content_under}
 use Rattle.yq_documents.specs.Reading.{read_at}
-use Rattle.yq_lines.specs.Positions.{is_bare}
+use Rattle.yq_lines.specs.Positions.{has_no_mark}
 use Rattle.yq_documents.specs.Pieces.{TextPiece, HoldsPiece}
 use Rattle.yq_row_places.specs.PrintedLines.{PrintedLine, print_lines, printed_lines, line_in, run_piece}
-use Rattle.yq_row_places.specs.PathPieces.{PrintedDocument, printed_document, piece_at}
+use Rattle.yq_row_places.specs.PathPieces.{PrintedDocument, printed_document, path_piece}
 
 -- A piece is an inline node without an anchor, which stands for a tree (7).
 pub record IsInlinePiece (p : TextPiece) (n : tree.Node) : Type 0 where
-  pub node : Node
+  pub node : FlowNode
   pub unnamed : node_anchor node ≡ None
   pub text : p.text ≡ node_text node []
-  pub valid : (flow : Bool) × (spaces : Option ℕ) × (depth : ℕ) × IsNode flow spaces depth node p.behind
+  pub valid : (flow : Bool) × (spaces : Option ℕ) × (depth : ℕ) × IsFlowNode flow spaces depth node p.behind
   pub tree : n ≡ tree_of node
 
 -- A piece is a block scalar, from its header to its last raw line (8.1).
@@ -38,7 +38,7 @@ pub record IsScalarPiece (p : TextPiece) (n : tree.Node) : Type 0 where
   pub tree : n ≡ tree.scalar None Text (block_content block)
 
 -- A piece is that of a run of lines of a document, which stands behind others and before others.
-pub record IsRun (s : PrintedDocument) (first : PrintedLine) (others : List PrintedLine) (p : TextPiece) : Type 0 where
+pub record IsLineRun (s : PrintedDocument) (first : PrintedLine) (others : List PrintedLine) (p : TextPiece) : Type 0 where
   pub above : List PrintedLine
   pub below : List PrintedLine
   pub lines : s.lines ≡ above ++ (first ∷ (others ++ below))
@@ -48,8 +48,8 @@ pub record IsRun (s : PrintedDocument) (first : PrintedLine) (others : List Prin
 pub record IsRunPiece (s : PrintedDocument) (p : TextPiece) (n : tree.Node) : Type 0 where
   pub first : PrintedLine
   pub others : List PrintedLine
-  pub run : IsRun s first others p
-  pub entry : is_bare first.line.mark ≡ false
+  pub run : IsLineRun s first others p
+  pub entry : has_no_mark first.line.mark ≡ false
   pub outline : Outline
   pub even : (m : ℕ) × IsEven m outline
   pub lines : map line_in (first ∷ others) ≡ flatten outline
@@ -70,19 +70,19 @@ pub record SpellsNode (s : PrintedDocument) (p : TextPiece) (n : tree.Node) : Ty
 pub record IsEntryRun (s : PrintedDocument) (p : TextPiece) (n : Labelled) : Type 0 where
   pub first : PrintedLine
   pub others : List PrintedLine
-  pub run : IsRun s first others p
+  pub run : IsLineRun s first others p
   pub under : Outline
   pub even : (m : ℕ) × (level first.line < m) × IsEven m under
   pub lines : map line_in others ≡ flatten under
   pub label : n.0 ≡ label first.line
-  pub tree : n.1 ≡ content first.line under
+  pub tree : n.1 ≡ content_under first.line under
 
 -- A piece is an item of a flow collection with its node, or an entry with its key (7.4).
 pub record IsFlowPiece (p : TextPiece) (n : Labelled) : Type 0 where
   pub key : Key
-  pub node : Node
+  pub node : FlowNode
   pub text : p.text ≡ key_text key (node_text node [])
-  pub valid : (depth : ℕ) × IsNode true (Some 0) depth node p.behind
+  pub valid : (depth : ℕ) × IsFlowNode true (Some 0) depth node p.behind
   pub label : n.0 ≡ inner (key_content key)
   pub tree : n.1 ≡ tree_of node
 
@@ -90,7 +90,7 @@ pub record IsFlowPiece (p : TextPiece) (n : Labelled) : Type 0 where
 abbrev pub EntriesSpell : Type 0
 EntriesSpell =
     (t : List ℕ) (c : Cut) (p : Path) (s : PrintedDocument) (x : TextPiece) → read_at t ≡ Some c → printed_document p.doc c ≡ Some s →
-    piece_at p Entry c ≡ Some x →
+    path_piece p Entry c ≡ Some x →
     (n : Labelled) × (labelled_located p t ≡ Some n) × (IsEntryRun s x n ⊎ IsFlowPiece x n)
 
 -- The lines of document n are those of its rows, and with the text before and behind them they are the whole text.
@@ -98,21 +98,21 @@ abbrev pub LinesStand : Type 0
 LinesStand =
     (t : List ℕ) (c : Cut) (n : ℕ) (s : PrintedDocument) → read_at t ≡ Some c → printed_document n c ≡ Some s →
     (t ≡ s.before ++ print_lines s.lines s.behind)
-    × ((d : Rows) × (slice_get (document_parts c) n ≡ Some d) × (s.lines ≡ printed_lines d.rows) × (map line_in s.lines ≡ lines_of d.rows))
+    × ((d : Rows) × (slice_get (document_parts c) n ≡ Some d) × (s.lines ≡ printed_lines d.rows) × (map line_in s.lines ≡ lines_of_rows d.rows))
 
 -- The piece of a content at a path spells the node there.
 abbrev pub ContentsSpell : Type 0
 ContentsSpell =
     (t : List ℕ) (c : Cut) (p : Path) (s : PrintedDocument) (x : TextPiece) → read_at t ≡ Some c → printed_document p.doc c ≡ Some s →
-    piece_at p Content c ≡ Some x →
+    path_piece p Content c ≡ Some x →
     (n : tree.Node) × (located p t ≡ Some n) × SpellsNode s x n
 
 -- The text holds each piece, from one whole character to another.
 abbrev pub PiecesHold : Type 0
-PiecesHold = (t : List ℕ) (c : Cut) (p : Path) (part : Part) (x : TextPiece) → read_at t ≡ Some c → piece_at p part c ≡ Some x → HoldsPiece t x
+PiecesHold = (t : List ℕ) (c : Cut) (p : Path) (part : Part) (x : TextPiece) → read_at t ≡ Some c → path_piece p part c ≡ Some x → HoldsPiece t x
 
 -- The content of an entry or item begins in that entry or item.
 abbrev pub ContentsBegin : Type 0
 ContentsBegin =
-    (c : Cut) (p : Path) (e x : TextPiece) → piece_at p Entry c ≡ Some e → piece_at p Content c ≡ Some x →
+    (c : Cut) (p : Path) (e x : TextPiece) → path_piece p Entry c ≡ Some e → path_piece p Content c ≡ Some x →
     (front : List ℕ) × (x.before ≡ e.before ++ front)

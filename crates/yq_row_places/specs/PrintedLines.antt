@@ -5,7 +5,7 @@ use Rattle.yq_cut.specs.Rows.{Content, Nothing, mark_text, content_text, Row, la
 use Rattle.yq_cut.specs.View.{content_cut}
 use Rattle.yq_lines.specs.Lines.{mark_line, dash_line}
 use Rattle.yq_lines.specs.Outline.{Line}
-use Rattle.yq_lines.specs.Positions.{is_bare}
+use Rattle.yq_lines.specs.Positions.{has_no_mark}
 use Rattle.yq_lines.specs.Comments as comments
 use Rattle.yq_cut.specs.Rows as rows
 use Rattle.yq_documents.specs.Pieces.{TextPiece, head_piece}
@@ -51,12 +51,12 @@ abbrev pub line_front : PrintedLine → List ℕ
 line_front l = l.gap ++ l.spaces
 
 -- the text of a line from its key or dash on, before a rest
-abbrev pub behind_front : PrintedLine → List ℕ → List ℕ
-behind_front l rest = l.mark ++ content_text l.content rest
+abbrev pub line_rest : PrintedLine → List ℕ → List ℕ
+line_rest l rest = l.mark ++ content_text l.content rest
 
 -- the text of a line, before a rest
 abbrev pub print_line : PrintedLine → List ℕ → List ℕ
-print_line l rest = line_front l ++ behind_front l rest
+print_line l rest = line_front l ++ line_rest l rest
 
 -- the text of lines, before a rest
 abbrev pub print_lines : List PrintedLine → List ℕ → List ℕ
@@ -64,7 +64,7 @@ print_lines [] rest = rest
 print_lines (l ∷ ls) rest = print_line l (print_lines ls rest)
 
 -- a line for each dash and one for the mark, from a column on, the first behind a gap and spaces (8.2)
-abbrev pub printed_from : List ℕ → List ℕ → ℕ → List ℕ → rows.Mark → Content → List PrintedLine
+abbrev pub printed_from : List ℕ → List ℕ → ℕ → List ℕ → rows.RowMark → Content → List PrintedLine
 printed_from gap spaces column [] m c =
     record { line = mark_line (comments.head_comment gap) column m c; gap = gap; spaces = spaces; mark = mark_text m []; content = c } ∷ []
 printed_from gap spaces column (n ∷ ns) m c =
@@ -87,7 +87,7 @@ line_in l = l.line
 -- the text of a run of lines: from the key or dash of the first one to the end of the last one, before its break
 abbrev pub run_text : PrintedLine → List PrintedLine → List ℕ
 run_text l [] = l.mark ++ less_end l.content
-run_text l (k ∷ ks) = behind_front l (line_front k ++ run_text k ks)
+run_text l (k ∷ ks) = line_rest l (line_front k ++ run_text k ks)
 
 -- the break of the last line of a run, if it has one
 abbrev pub run_break : PrintedLine → List PrintedLine → List ℕ
@@ -102,4 +102,4 @@ run_piece before l ls behind = record { before = before ++ line_front l; text = 
 abbrev pub lines_piece : List ℕ → List PrintedLine → List ℕ → Option TextPiece
 lines_piece before [] behind = None
 lines_piece before (l ∷ ls) behind =
-    if is_bare l.line.mark then head_piece (before ++ (line_front l ++ l.mark)) l.content (print_lines ls behind) else Some (run_piece before l ls behind)
+    if has_no_mark l.line.mark then head_piece (before ++ (line_front l ++ l.mark)) l.content (print_lines ls behind) else Some (run_piece before l ls behind)

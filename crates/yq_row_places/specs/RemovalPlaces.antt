@@ -3,14 +3,14 @@ use Rattle.std.specs.Prelude.{ℕ, zero, suc, ◌-◌, ◌==◌, nat_lt, List, [
 use Rattle.yq_flow_scalars.specs.Answers.{◌>>=◌}
 use Rattle.yq_block_scalars.specs.Block.{BlockText, keeps}
 use Rattle.yq_flow_scalars.specs.Paths.{Step, node_at}
-use Rattle.yq_flow_scalars.specs.Text.{joined, lines_of as text_lines}
+use Rattle.yq_flow_scalars.specs.Text.{joined, text_lines}
 use Rattle.yq_flow_scalars.specs.Tree.{Node, children_of}
 use Rattle.yq_cut.specs.Removal.{hold_comment, last_block, next_column}
 use Rattle.yq_cut.specs.Rows.{Row, rows_text, Cut}
 use Rattle.yq_cut.specs.Splices.{behind_first, first_gap}
 use Rattle.yq_lines.specs.Counts.{count}
-use Rattle.yq_lines.specs.Ends.{line_of, lines_end}
-use Rattle.yq_lines.specs.Lines.{lines_of}
+use Rattle.yq_lines.specs.Ends.{line_at_steps, lines_end}
+use Rattle.yq_lines.specs.Lines.{lines_of_rows}
 use Rattle.yq_documents.specs.Pieces.{before_run, last_run}
 use Rattle.yq_row_places.specs.PlacedRows.{PlacedPart, placed_document}
 use Rattle.yq_documents.specs.Reading.{documents}
@@ -35,8 +35,8 @@ in_three i n rs = record { front = take i rs; own = take n (drop i rs); back = d
 -- the rows of the item or entry to which steps lead, where its line is the first one of a row; their last one has the last line under its own
 abbrev pub own_rows : List Step → List Row → Option OwnRows
 own_rows steps rs =
-    line_of steps (lines_of rs) >>= λ n. row_line n rs >>= λ s.
-    if s.line == 0 then Some (in_three s.before (row_count (lines_end n (lines_of rs) - n) (drop s.before rs)) rs) else None
+    line_at_steps steps (lines_of_rows rs) >>= λ n. row_line n rs >>= λ s.
+    if s.line == 0 then Some (in_three s.before (row_count (lines_end n (lines_of_rows rs) - n) (drop s.before rs)) rs) else None
 
 -- What a gap that comes to stand behind a block scalar has to fit: whether the scalar keeps the empty lines at its end, how far its text is
 -- indented, and in which column the next row begins (8.1.1; own).

@@ -1,6 +1,6 @@
 -- Reading (own; a reader may skip it): what is taken out with an item or entry, by the pieces of rows, as the code counts.
 use Rattle.std.specs.Prelude.{◌≡◌, ℕ, ◌+◌, false, List, [], ◌∷◌, ◌++◌, length, slice_get, Option, Some, None, option_map}
-use Rattle.yq_text.specs.Halves.{whole}
+use Rattle.yq_text.specs.Halves.{halves_text}
 use Rattle.yq_flow_scalars.specs.Answers.{◌>>=◌}
 use Rattle.yq_flow_scalars.specs.Paths.{Step}
 use Rattle.yq_cut.specs.Grammar.{IsCut, no_rows}
@@ -21,8 +21,8 @@ gap_and_column [] None = ([], 0)
 gap_and_column [] (Some s) = (s.gap, s.column)
 
 -- the same of row i
-abbrev pub gap_at : ℕ → RowsView → List ℕ × ℕ
-gap_at i s = gap_and_column (bounds_at i s.bounds) (slice_get s.rows i)
+abbrev pub gap_counts : ℕ → RowsView → List ℕ × ℕ
+gap_counts i s = gap_and_column (bounds_at i s.bounds) (slice_get s.rows i)
 
 -- how many rows stand before a document, before an item or entry of it, and before what is behind that
 abbrev pub RowCounts : Type 0
@@ -33,8 +33,8 @@ abbrev pub marks : ℕ → OwnRows → RowCounts
 marks k x = (k, k + length x.front, k + length x.front + length x.own)
 
 -- these numbers for the item or entry to which steps lead in document n
-abbrev pub marks_at : ℕ → List Step → Cut → Option RowCounts
-marks_at n steps c = slice_get (document_parts c) n >>= λ p. option_map (marks (document_row n c)) (own_rows steps p.rows)
+abbrev pub mark_counts : ℕ → List Step → Cut → Option RowCounts
+mark_counts n steps c = slice_get (document_parts c) n >>= λ p. option_map (marks (document_row n c)) (own_rows steps p.rows)
 
 -- Rows of a document are an item's or entry's own, by where they begin and end.
 pub record IsOwn (t : List ℕ) (s : RowsView) (d : PlacedPart) (x : OwnRows) (m : RowCounts) : Type 0 where
@@ -58,4 +58,4 @@ seam_view s = record { keeps = s.keeps; indent = s.indent; column = s.column }
 
 -- what is taken out, as the code lends it
 abbrev pub removal_view : declared.Removal → Removal
-removal_view r = record { before = whole r.before; gone = whole r.gone; gap = r.gap.now; behind = whole r.behind; seam = option_map seam_view r.seam }
+removal_view r = record { before = halves_text r.before; gone = halves_text r.gone; gap = r.gap.now; behind = halves_text r.behind; seam = option_map seam_view r.seam }

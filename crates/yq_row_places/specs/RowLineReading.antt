@@ -4,13 +4,13 @@ use Rattle.yq_row_places.specs.declared.places.stretch.RowLine as declared
 use Rattle.yq_documents.specs.LinesInRows.{RowLine}
 
 -- a line by three numbers: the rows before its row, the lines of its row before it, and the lines of its row before that of the mark
-abbrev pub Numbers : Type 0
-Numbers = ℕ × ℕ × ℕ
+abbrev pub LineCounts : Type 0
+LineCounts = ℕ × ℕ × ℕ
 
 -- the numbers of a line, behind so many rows
-abbrev pub numbers : ℕ → RowLine → Numbers
+abbrev pub numbers : ℕ → RowLine → LineCounts
 numbers k s = (k + s.before, s.line, length s.row.dashes)
 
 -- the numbers that the code tells
-abbrev pub line_view : declared.RowLine → Numbers
+abbrev pub line_view : declared.RowLine → LineCounts
 line_view s = (s.row, s.line, s.dashes)

@@ -10,12 +10,12 @@ use Rattle.yq_lines.specs.Lines.{content_anchor, head_of}
 use Rattle.yq_lines.specs.Outline.{anchored, head_or, null_node}
 
 -- the node that a row spells behind its mark; where nothing is written but perhaps an anchor, a null (7.2)
-abbrev pub spelled : Content → Node
-spelled c = anchored (content_anchor c) (head_or (head_of c) null_node)
+abbrev pub spelled_node : Content → Node
+spelled_node c = anchored (content_anchor c) (head_or (head_of c) null_node)
 
 -- the white space before a scalar that is put behind an anchor: what there was before a node, or one space where none was written
-abbrev pub apart : List ℕ → inline.Node → List ℕ
-apart gap node = if inline.is_bare node then 32 ∷ [] else gap
+abbrev pub space_after_anchor : List ℕ → inline.FlowNode → List ℕ
+space_after_anchor gap node = if inline.is_empty_node node then 32 ∷ [] else gap
 
 -- A text that may be read: it is UTF-8, its characters are those of a text, and it is not too long (5.1, 5.2; own).
 pub record IsReadable (t : List ℕ) : Type 0 where

@@ -7,10 +7,10 @@ use Rattle.yq_cut.specs.View.{rows_of, RowsView, rows_view}
 use Rattle.yq_documents.specs.Documents.{document_parts}
 use Rattle.yq_documents.specs.Reading.{all_documents, cut_of}
 use Rattle.yq_documents.specs.LinesInRows.{document_row}
-use Rattle.yq_nodes.specs.Entries.{step_of}
+use Rattle.yq_nodes.specs.Entries.{tree_step}
 use Rattle.yq_lines.specs.Ends.{reached}
 use Rattle.yq_flow_scalars.specs.Paths.{Step}
-use Rattle.yq_lines.specs.Lines.{lines_of}
+use Rattle.yq_lines.specs.Lines.{lines_of_rows}
 use Rattle.yq_lines.specs.RowWalk.{IsKnown, AreKnown, HasDocument, IsLine, line_number}
 use Rattle.yq_lines.specs.declared.line_position.KnownItem.{KnownItem}
 use Rattle.yq_lines.specs.declared.line_position.KnownItems.{KnownItems}
@@ -29,15 +29,15 @@ StayKnown front c ks = (new : Cut) (back : ℕ) → TouchesOnly front back c new
 -- The line of a document to which all of these steps lead.
 pub record IsLineAt (s : RowsView) (d : Stretch) (steps : List Step) (q : Position) : Type 0 where
   pub line : IsLine s d q
-  pub leads : (h : HasDocument s d) → reached steps (lines_of h.stand.rows) ≡ Some (line_number d h.stand.rows q, [])
+  pub leads : (h : HasDocument s d) → reached steps (lines_of_rows h.stand.rows) ≡ Some (line_number d h.stand.rows q, [])
 
 -- It is known to which line the steps of a path lead.
 abbrev pub IsKnownLine : RowsView → KnownLine → Type 0
-IsKnownLine s k = IsLineAt s k.document (map step_of k.steps.now) k.at
+IsKnownLine s k = IsLineAt s k.document (map tree_step k.steps.now) k.at
 
 -- how many rows stand before document n of a cut, and up to its end
-abbrev pub document_rows : ℕ → Cut → Option (ℕ × ℕ)
-document_rows n c = option_map (λ p. (document_row n c, document_row n c + length p.rows)) (slice_get (document_parts c) n)
+abbrev pub document_row_range : ℕ → Cut → Option (ℕ × ℕ)
+document_row_range n c = option_map (λ p. (document_row n c, document_row n c + length p.rows)) (slice_get (document_parts c) n)
 
 -- A text with its cut: these are the pieces of the cut, and its parts stand for documents.
 pub record HasCut (t : List ℕ) (s : RowsView) : Type 0 where

@@ -15,19 +15,19 @@ use Rattle.yq_lines.specs.declared.line_position.Stretch.{Stretch}
 
 -- how many rows stand before the first one, how many lines of that before the one of the key or dash and before that of its mark, and how
 -- many rows stand before what is behind
-abbrev pub Numbers : Type 0
-Numbers = ℕ × ℕ × ℕ × ℕ
+abbrev pub StandingCounts : Type 0
+StandingCounts = ℕ × ℕ × ℕ × ℕ
 
 -- these numbers for a line of a document, behind so many rows
-abbrev pub numbers_of_entry : ℕ → List Row → RowLine → Numbers
+abbrev pub numbers_of_entry : ℕ → List Row → RowLine → StandingCounts
 numbers_of_entry k rs s = (k + s.before, s.line, length s.row.dashes, k + s.before + 1 + under_count s (drop (suc s.before) rs))
 
 -- these numbers for the item or entry to which steps lead in document n
-abbrev pub numbers_at : ℕ → List Step → Cut → Option Numbers
+abbrev pub numbers_at : ℕ → List Step → Cut → Option StandingCounts
 numbers_at n steps c = slice_get (document_parts c) n >>= λ p. option_map (numbers_of_entry (document_row n c) p.rows) (row_line_of steps p.rows)
 
 -- the numbers that the code tells
-abbrev pub as_numbers : declared.RowsOfEntry → Numbers
+abbrev pub as_numbers : declared.RowsOfEntry → StandingCounts
 as_numbers m = (m.row, m.line, m.dashes, m.end)
 
 -- An item's or entry's rows are those of a text from number `row` up to number `end`, which isn't one of them.

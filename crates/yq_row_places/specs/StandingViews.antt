@@ -1,6 +1,6 @@
 -- What the code tells of what stands at a place (own).
 use Rattle.std.specs.Prelude.{◌≡◌, ℕ, ◌+◌, ◌==◌, ◌&&◌, not, true, false, List, length, Option, Some, None, if◌then◌else◌}
-use Rattle.yq_text.specs.Halves.{whole}
+use Rattle.yq_text.specs.Halves.{halves_text}
 use Rattle.yq_flow_scalars.specs.Answers.{◌>>=◌}
 use Rattle.yq_flow_scalars.specs.Paths.{Step}
 use Rattle.yq_flow_scalars.specs.Text.{is_empty}
@@ -11,7 +11,7 @@ use Rattle.yq_documents.specs.LinesInRows.{document_row}
 use Rattle.yq_documents.specs.RowReading.{is_block_head}
 use Rattle.yq_lines.specs.Extents.{head_place, lines_before_mark}
 use Rattle.yq_lines.specs.declared.line_position.Position.{Position}
-use Rattle.yq_row_places.specs.Standings.{Mark, Held, Lone, Compact, BlockRoot, NoRows, Standing, RowsOfEntry, alone, beside, under, compact, block, root, no_rows, held, rows_of_entry}
+use Rattle.yq_row_places.specs.Standings.{MarkPieces, Held, Lone, Compact, BlockRoot, NoRows, Standing, RowsOfEntry, alone, beside, under, compact, block, root, no_rows, held, rows_of_entry}
 use Rattle.yq_row_places.specs.declared.places.held.Held as declared_held
 use Rattle.yq_row_places.specs.declared.places.held_row.HeldRow as declared_row
 use Rattle.yq_row_places.specs.declared.places.held.Mark as declared_mark
@@ -22,39 +22,39 @@ use Rattle.yq_row_places.specs.declared.places.standing.NoRows as declared_no_ro
 use Rattle.yq_row_places.specs.declared.places.standing.Standing as declared
 
 -- a key or dash that the code lends
-abbrev pub held_mark_view : declared_mark.Mark → Mark
+abbrev pub held_mark_view : declared_mark.Mark → MarkPieces
 held_mark_view m = record { column = m.column; keyed = m.keyed; noted = m.noted }
 
 -- a key or dash that the code lends, with what it holds
 abbrev pub held_view : declared_held.Held → Held
 held_view h = record {
   mark = held_mark_view h.mark;
-  before = whole h.before;
+  before = halves_text h.before;
   space = h.space.now;
   head = h.head.now;
   white = h.white.now;
   comment = h.comment.now;
   break = h.line_break.now;
-  lines = whole h.lines;
+  lines = halves_text h.lines;
   last = h.last.now;
-  behind = whole h.behind;
+  behind = halves_text h.behind;
 }
 
 -- a lone node that the code lends
 abbrev pub lone_view : declared_lone.Lone → Lone
-lone_view w = record { before = whole w.before; head = w.head.now; behind = whole w.behind }
+lone_view w = record { before = halves_text w.before; head = w.head.now; behind = halves_text w.behind }
 
 -- a collection behind a dash that the code lends
 abbrev pub compact_view : declared_compact.Compact → Compact
-compact_view p = record { mark = held_mark_view p.mark; column = p.column; before = whole p.before; old = whole p.old; last = p.last.now; behind = whole p.behind }
+compact_view p = record { mark = held_mark_view p.mark; column = p.column; before = halves_text p.before; old = halves_text p.old; last = p.last.now; behind = halves_text p.behind }
 
 -- a root that the code lends
 abbrev pub root_view : declared_root.BlockRoot → BlockRoot
-root_view w = record { column = w.column; before = whole w.before; old = whole w.old; last = w.last.now; behind = whole w.behind }
+root_view w = record { column = w.column; before = halves_text w.before; old = halves_text w.old; last = w.last.now; behind = halves_text w.behind }
 
 -- a document without rows that the code lends
 abbrev pub no_rows_view : declared_no_rows.NoRows → NoRows
-no_rows_view w = record { before = whole w.before; behind = whole w.behind }
+no_rows_view w = record { before = halves_text w.before; behind = halves_text w.behind }
 
 -- what stands at a place, as the code lends it
 abbrev pub standing_view : declared.Standing → Standing

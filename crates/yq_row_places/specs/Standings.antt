@@ -5,13 +5,13 @@ use Rattle.yq_flow_scalars.specs.Paths.{Step}
 use Rattle.yq_flow_scalars.specs.Text.{is_empty}
 use Rattle.yq_nodes.specs.Collections.{CollPieces}
 use Rattle.yq_nodes.specs.Entries.{EntryPieces, item_at}
-use Rattle.yq_lines.specs.Positions.{is_bare}
+use Rattle.yq_lines.specs.Positions.{has_no_mark}
 use Rattle.yq_cut.specs.Exchange.{row_front}
 use Rattle.yq_cut.specs.Rows.{Content, Nothing, Inline, Block, Cut, Row, behind_columns, behind_dashes, behind_indent, mark_column, print_row, rows_text}
 use Rattle.yq_cut.specs.View.{Slices, slices}
-use Rattle.yq_lines.specs.Lines.{mark_of}
+use Rattle.yq_lines.specs.Lines.{line_mark}
 use Rattle.yq_documents.specs.LinesInRows.{RowLine, row_line_of}
-use Rattle.yq_row_places.specs.CommentPlaces.{LineEnd, end_before}
+use Rattle.yq_row_places.specs.CommentPlaces.{LineEnd, end_in_line}
 use Rattle.yq_row_places.specs.FlowNodes.{flow_collection}
 use Rattle.yq_row_places.specs.PlacedRows.{PlacedPart, placed_document}
 use Rattle.yq_row_places.specs.PrintedLines.{last_break, less_break}
@@ -70,7 +70,7 @@ behind_entry e = rows_text e.back (e.end ++ e.behind)
 
 -- A key or dash: its column, whether it is a key, and whether its row has an anchor before what is written behind its last mark, or a
 -- comment behind that (8.2).
-pub record Mark : Type 0 where
+pub record MarkPieces : Type 0 where
   pub column : ℕ
   pub keyed : Bool
   pub noted : Bool
@@ -81,7 +81,7 @@ pub record Mark : Type 0 where
 -- nothing, and `last` ends its line (8.1, 8.2). Of `a: &x | # c`, with the line `  t` below: before `a: &x`, space and white one space each,
 -- head `|`, comment `# c`, lines `  t`.
 pub record Held : Type 0 where
-  pub mark : Mark
+  pub mark : MarkPieces
   pub before : List ℕ
   pub space : List ℕ
   pub head : List ℕ
@@ -102,7 +102,7 @@ pub record Lone : Type 0 where
 -- A collection that begins on the line of a dash: the dash; the column of its items or entries; the text up to the dash, with it; what stands
 -- behind it up to the end of the last line; the break of that; and the text behind (8.2.1).
 pub record Compact : Type 0 where
-  pub mark : Mark
+  pub mark : MarkPieces
   pub column : ℕ
   pub before : List ℕ
   pub old : List ℕ
@@ -137,7 +137,7 @@ pub data Standing : Type 0 where
 -- ---- by rows
 
 -- the key or dash of a row, by its pieces
-abbrev pub mark_in : Row → Slices → LineEnd → Mark
+abbrev pub mark_in : Row → Slices → LineEnd → MarkPieces
 mark_in r s t = record { column = mark_column r; keyed = not (is_empty s.colon); noted = not (is_empty s.anchor) || not (is_empty t.comment) }
 
 -- what a key or dash holds, by the pieces of its row, the end of its line, and the lines below that
@@ -157,7 +157,7 @@ held_by e s t below = record {
 
 -- what the key or dash of rows holds: the lines below its line are those of a block scalar, or the rows under it
 abbrev pub held : RowsOfEntry → Held
-held e = let s = slices e.row in held_by e s (end_before [] s.tail) (s.raw ++ rows_text e.under [])
+held e = let s = slices e.row in held_by e s (end_in_line [] s.tail) (s.raw ++ rows_text e.under [])
 
 -- the node in a row that is alone on its line, between two texts
 abbrev pub lone : List ℕ → Row → List ℕ → Lone
@@ -166,7 +166,7 @@ lone before r behind =
 
 -- whether a row is a node that is alone on its line (8.2)
 abbrev pub is_alone : Row → Bool
-is_alone r = is_empty r.dashes && is_bare (mark_of r.mark)
+is_alone r = is_empty r.dashes && has_no_mark (line_mark r.mark)
 
 -- what stands behind a key or dash behind which no node is written: nothing, a node on the line under it, or a block collection (8.2)
 abbrev pub below : RowsOfEntry → List Row → Standing
@@ -190,7 +190,7 @@ compact_in e = record {
   mark = record {
     column = behind_columns e.row.column (take e.line e.row.dashes);
     keyed = false;
-    noted = (mark_in e.row (slices e.row) (end_before [] (slices e.row).tail)).noted;
+    noted = (mark_in e.row (slices e.row) (end_in_line [] (slices e.row).tail)).noted;
   };
   column = behind_columns e.row.column (take (suc e.line) e.row.dashes);
   before = before_entry e ++ row_front (upto_dash e.line e.row);

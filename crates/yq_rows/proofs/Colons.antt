@@ -4,7 +4,7 @@ use Rattle.std.proofs.lemmas.Bool.{false≢true, and_parts}
 use Rattle.std.specs.Str.{IsUtf8, IsCharBoundary}
 use Rattle.yq_flow_scalars.specs.Text.{cut, no_white, separates, upto}
 use Rattle.yq_flow_scalars.proofs.Upto.{cut_takes}
-use Rattle.yq_cut.specs.Reading.{is_colon, colon_at}
+use Rattle.yq_cut.specs.Reading.{is_colon, read_colon}
 use Rattle.yq_cut.proofs.NodePieces.{behind_ascii}
 
 colon_is : (t : List ℕ) → is_colon t ≡ true → t ≡ 58 ∷ drop 1 t
@@ -22,8 +22,8 @@ colon_boundary t white rest e colon u =
     let here = behind_ascii front (drop 1 rest) (subst IsUtf8 is u) (record { front = white; last = 58; is = refl; ascii = omega arith }) in
     subst (λ (l : List ℕ). IsCharBoundary l (length white + 1)) (sym is) (subst (λ (n : ℕ). IsCharBoundary (front ++ drop 1 rest) n) long here)
 
-pub colon_found : (t white rest front behind : List ℕ) → (white, rest) ≡ cut no_white t → is_colon rest ≡ true → front ≡ take (length white + 1) t → behind ≡ drop (length white + 1) t → Some (front, behind) ≡ colon_at t
-unfolding colon_at
+pub colon_found : (t white rest front behind : List ℕ) → (white, rest) ≡ cut no_white t → is_colon rest ≡ true → front ≡ take (length white + 1) t → behind ≡ drop (length white + 1) t → Some (front, behind) ≡ read_colon t
+unfolding read_colon
 colon_found t white rest front behind e colon f b =
     let n : ℕ = upto no_white t in
     let rest_is : rest ≡ drop n t = ap (λ (y : List ℕ × List ℕ). y.1) e in

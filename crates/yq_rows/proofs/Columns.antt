@@ -3,7 +3,7 @@ use Rattle.std.proofs.Common.{◌≡◌, ℕ, ◌+◌, ◌-◌, ◌<◌, ◌≤�
 use Rattle.yq_flow_scalars.specs.Text.{cut, no_space}
 use Rattle.yq_flow_scalars.proofs.Upto.{cut_takes}
 use Rattle.yq_cut.specs.Offsets.{Ends}
-use Rattle.yq_cut.specs.Slicing.{Begun, behind_front}
+use Rattle.yq_cut.specs.Slicing.{Begun, with_dashes}
 
 -- the spaces in front and what follows are the text
 spaces_length : (t s rest : List ℕ) → (s, rest) ≡ cut no_space t → length t ≡ length s + length rest
@@ -22,7 +22,7 @@ ends_within t whole h =
     let is : length t ≡ length whole - (length whole - length t) = ap length (sym h) ∙ length-drop (length whole - length t) whole in
     omega (arith, is)
 
-pub front_none : (b : Begun) → behind_front [] b ≡ b
+pub front_none : (b : Begun) → with_dashes [] b ≡ b
 front_none b =
     let none : 0 + b.columns ≡ b.columns = omega arith in
     ap (λ (k : ℕ). record { dashes = b.dashes; columns = k; mark = b.mark; rest = b.rest }) none

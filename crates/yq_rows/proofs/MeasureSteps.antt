@@ -7,12 +7,12 @@ use Rattle.yq_flow_scalars.proofs.Bools.{bind_some}
 use Rattle.yq_flow_scalars.specs.declared.piece.Piece.{Piece}
 use Rattle.yq_flow_scalars.specs.declared.style.Style.{Style}
 use Rattle.yq_flow_scalars.specs.declared.style.Style.TheVariants as styles
-use Rattle.yq_rows.specs.Measured.{kind_of_style, measure, measured, past, is_bare, may_follow, closing, past_part}
-use Rattle.yq_nodes.specs.Nodes.{Node, first_is, begins_content, coll, Items}
-use Rattle.yq_nodes.specs.Places.{Placed, placed, Content, nothing, name, text, sequence, mapping, Parts, part, with_anchor, placed_between, bare_placed, holder, key_here, locate_items}
-use Rattle.yq_nodes.specs.PlacedReading.{content_in, placed_node, placed_items, placed_content, placed_coll, placed_item, placed_entry, split_key, past_sep, stands_behind, then_anchored}
-use Rattle.yq_nodes.specs.Reading.{gap_at, scalar_at, name_at, lead_at, coll_at, content_at, kids_of, all_items}
-use Rattle.yq_nodes.specs.Scalars.{style_of, begins_scalar}
+use Rattle.yq_rows.specs.Measured.{kind_of_style, node_measure, measured, past_node, is_no_node, node_may_follow, closing_byte, past_part}
+use Rattle.yq_nodes.specs.Nodes.{FlowNode, begins_with, begins_content, coll, Items}
+use Rattle.yq_nodes.specs.Places.{Placed, placed, CoreNode, nothing, name, text, sequence, mapping, Parts, part, anchored_node, placed_between, bare_placed, holder, key_here, locate_items}
+use Rattle.yq_nodes.specs.PlacedReading.{core_between, placed_node, placed_items, placed_content, placed_coll, placed_item, placed_entry, split_key, past_sep, stands_behind, then_anchored}
+use Rattle.yq_nodes.specs.Reading.{read_gap, read_scalar, name_at, lead_at, read_collection, read_core, kids_of, all_items}
+use Rattle.yq_nodes.specs.Scalars.{scalar_style, begins_scalar}
 use Rattle.yq_rows.specs.declared.measuring.NodeKind.{NodeKind}
 use Rattle.yq_rows.specs.declared.measuring.NodeKind.TheVariants as kinds
 use Rattle.yq_nodes.proofs.Loops.{node_shorter}
@@ -25,7 +25,7 @@ within a b c h k = omega arith
 pub record Found (o : Option (Placed × List ℕ)) (a : Bool) (k : NodeKind) (r : List ℕ) : Type 0 where
   pub node : Placed
   pub read : o ≡ Some (node, r)
-  pub measured_as : measure node ≡ (a, k)
+  pub measured_as : node_measure node ≡ (a, k)
 
 pub found : (o : Option (Placed × List ℕ)) (a : Bool) (k : NodeKind) (r : List ℕ) → measured o ≡ Some ((a, k), r) → Found o a k r
 found o a k r h =
@@ -42,14 +42,14 @@ pub unread : (o : Option (Placed × List ℕ)) → measured o ≡ None → o ≡
 unread None h = refl
 unread (Some x) h = cc
 
-style_bare : (y : Style) → false ≡ is_bare (false, kind_of_style y)
+style_bare : (y : Style) → false ≡ is_no_node (false, kind_of_style y)
 style_bare styles.Plain = refl
 style_bare styles.Single = refl
 style_bare styles.Double = refl
 style_bare styles.Literal = refl
 style_bare styles.Folded = refl
 
-bare_measure : (s : Placed) → bare_placed s ≡ is_bare (measure s)
+bare_measure : (s : Placed) → bare_placed s ≡ is_no_node (node_measure s)
 bare_measure (placed None s c e nothing) = refl
 bare_measure (placed None s c e (name n)) = refl
 bare_measure (placed None s c e (text t p)) = style_bare p.style
@@ -57,14 +57,14 @@ bare_measure (placed None s c e (sequence x)) = refl
 bare_measure (placed None s c e (mapping x)) = refl
 bare_measure (placed (Some a) s c e f) = refl
 
-style_follow : (g : List ℕ) (y : Style) → ((false || not (is_empty g)) && true) ≡ may_follow g (false, kind_of_style y)
+style_follow : (g : List ℕ) (y : Style) → ((false || not (is_empty g)) && true) ≡ node_may_follow g (false, kind_of_style y)
 style_follow g styles.Plain = refl
 style_follow g styles.Single = refl
 style_follow g styles.Double = refl
 style_follow g styles.Literal = refl
 style_follow g styles.Folded = refl
 
-follow_measure : (g : List ℕ) (s : Placed) → stands_behind g s ≡ may_follow g (measure s)
+follow_measure : (g : List ℕ) (s : Placed) → stands_behind g s ≡ node_may_follow g (node_measure s)
 follow_measure g (placed None s c e nothing) = refl
 follow_measure g (placed None s c e (name n)) = refl
 follow_measure g (placed None s c e (text t p)) = style_follow g p.style
@@ -72,171 +72,171 @@ follow_measure g (placed None s c e (sequence x)) = refl
 follow_measure g (placed None s c e (mapping x)) = refl
 follow_measure g (placed (Some a) s c e f) = refl
 
-with_measure : (n : List ℕ) (i : ℕ) (s : Placed) → measure (with_anchor n i s) ≡ (true, (measure s).1)
+with_measure : (n : List ℕ) (i : ℕ) (s : Placed) → node_measure (anchored_node n i s) ≡ (true, (node_measure s).1)
 with_measure n i (placed a s c e f) = refl
 
 -- contents
-front_parts : (flow : Bool) (t : List ℕ) (s : Bool) → first_is 42 t ≡ false → first_is 91 t ≡ false → first_is 123 t ≡ false → begins_content flow t ≡ s → begins_scalar flow t ≡ s
+front_parts : (flow : Bool) (t : List ℕ) (s : Bool) → begins_with 42 t ≡ false → begins_with 91 t ≡ false → begins_with 123 t ≡ false → begins_content flow t ≡ s → begins_scalar flow t ≡ s
 front_parts flow t s a b c h = rw (a, b, c) at h
 
-pub named_none : (flow : Bool) (spaces : Option ℕ) (d : ℕ) (t : List ℕ) → first_is 42 t ≡ true → name_at (drop 1 t) ≡ None → measured (placed_content flow spaces 0 d t) ≡ None
-unfolding content_at
+pub named_none : (flow : Bool) (spaces : Option ℕ) (d : ℕ) (t : List ℕ) → begins_with 42 t ≡ true → name_at (drop 1 t) ≡ None → measured (placed_content flow spaces 0 d t) ≡ None
+unfolding read_core
 named_none flow spaces d t star e = rw star (rw e refl)
 
-pub named_some : (flow : Bool) (spaces : Option ℕ) (d : ℕ) (t n r : List ℕ) → first_is 42 t ≡ true → name_at (drop 1 t) ≡ Some (n, r) → measured (placed_content flow spaces 0 d t) ≡ Some ((false, kinds.Alias), r)
-unfolding content_at
+pub named_some : (flow : Bool) (spaces : Option ℕ) (d : ℕ) (t n r : List ℕ) → begins_with 42 t ≡ true → name_at (drop 1 t) ≡ Some (n, r) → measured (placed_content flow spaces 0 d t) ≡ Some ((false, kinds.Alias), r)
+unfolding read_core
 named_some flow spaces d t n r star e = rw star (rw e refl)
 
 abbrev as_collection : Option (List ℕ) → Option ((Bool × NodeKind) × List ℕ)
 as_collection o = o >>= λ r. Some ((false, kinds.Collection), r)
 
-abbrev coll_of : ℕ → List ℕ → Items × List ℕ → Option (Node × List ℕ)
+abbrev coll_of : ℕ → List ℕ → Items × List ℕ → Option (FlowNode × List ℕ)
 coll_of k g y = Some (coll k g y.0, y.1)
 
-abbrev holder_of : ℕ → Items × List ℕ → Option (Content × List ℕ)
+abbrev holder_of : ℕ → Items × List ℕ → Option (CoreNode × List ℕ)
 holder_of k x = Some (holder k (locate_items 0 k x.0 x.1), x.1)
 
-abbrev placed_of : List ℕ → Node × List ℕ → Option (Placed × List ℕ)
-placed_of t x = Some (placed_between 0 t x.1 (content_in 0 t x.0 x.1), x.1)
+abbrev placed_of : List ℕ → FlowNode × List ℕ → Option (Placed × List ℕ)
+placed_of t x = Some (placed_between 0 t x.1 (core_between 0 t x.0 x.1), x.1)
 
-sequence_items : (t g : List ℕ) (o : Option (Items × List ℕ)) → measured ((o >>= coll_of 93 g) >>= placed_of t) ≡ as_collection (past (o >>= holder_of 93))
+sequence_items : (t g : List ℕ) (o : Option (Items × List ℕ)) → measured ((o >>= coll_of 93 g) >>= placed_of t) ≡ as_collection (past_node (o >>= holder_of 93))
 sequence_items t g None = refl
 sequence_items t g (Some y) = refl
 
-sequence_gap : (d : ℕ) (t : List ℕ) (o : Option (List ℕ × List ℕ)) → measured ((o >>= λ gap. kids_of d 93 gap.1 >>= coll_of 93 gap.0) >>= placed_of t) ≡ as_collection (past (o >>= λ gap. kids_of d 93 gap.1 >>= holder_of 93))
+sequence_gap : (d : ℕ) (t : List ℕ) (o : Option (List ℕ × List ℕ)) → measured ((o >>= λ gap. kids_of d 93 gap.1 >>= coll_of 93 gap.0) >>= placed_of t) ≡ as_collection (past_node (o >>= λ gap. kids_of d 93 gap.1 >>= holder_of 93))
 sequence_gap d t None = refl
 sequence_gap d t (Some g) = sequence_items t g.0 (kids_of d 93 g.1)
 
-sequence_is : (flow : Bool) (spaces : Option ℕ) (d : ℕ) (t : List ℕ) → first_is 42 t ≡ false → first_is 91 t ≡ true → measured (placed_content flow spaces 0 d t) ≡ as_collection (past (placed_coll 0 d 93 (drop 1 t)))
-unfolding content_at coll_at
-sequence_is flow spaces d t star opens = rw (star, opens) (sequence_gap d t (gap_at (drop 1 t)))
+sequence_is : (flow : Bool) (spaces : Option ℕ) (d : ℕ) (t : List ℕ) → begins_with 42 t ≡ false → begins_with 91 t ≡ true → measured (placed_content flow spaces 0 d t) ≡ as_collection (past_node (placed_coll 0 d 93 (drop 1 t)))
+unfolding read_core read_collection
+sequence_is flow spaces d t star opens = rw (star, opens) (sequence_gap d t (read_gap (drop 1 t)))
 
-mapping_items : (t g : List ℕ) (o : Option (Items × List ℕ)) → measured ((o >>= coll_of 125 g) >>= placed_of t) ≡ as_collection (past (o >>= holder_of 125))
+mapping_items : (t g : List ℕ) (o : Option (Items × List ℕ)) → measured ((o >>= coll_of 125 g) >>= placed_of t) ≡ as_collection (past_node (o >>= holder_of 125))
 mapping_items t g None = refl
 mapping_items t g (Some y) = refl
 
-mapping_gap : (d : ℕ) (t : List ℕ) (o : Option (List ℕ × List ℕ)) → measured ((o >>= λ gap. kids_of d 125 gap.1 >>= coll_of 125 gap.0) >>= placed_of t) ≡ as_collection (past (o >>= λ gap. kids_of d 125 gap.1 >>= holder_of 125))
+mapping_gap : (d : ℕ) (t : List ℕ) (o : Option (List ℕ × List ℕ)) → measured ((o >>= λ gap. kids_of d 125 gap.1 >>= coll_of 125 gap.0) >>= placed_of t) ≡ as_collection (past_node (o >>= λ gap. kids_of d 125 gap.1 >>= holder_of 125))
 mapping_gap d t None = refl
 mapping_gap d t (Some g) = mapping_items t g.0 (kids_of d 125 g.1)
 
-mapping_is : (flow : Bool) (spaces : Option ℕ) (d : ℕ) (t : List ℕ) → first_is 42 t ≡ false → first_is 91 t ≡ false → first_is 123 t ≡ true → measured (placed_content flow spaces 0 d t) ≡ as_collection (past (placed_coll 0 d 125 (drop 1 t)))
-unfolding content_at coll_at
-mapping_is flow spaces d t star other opens = rw (star, other, opens) (mapping_gap d t (gap_at (drop 1 t)))
+mapping_is : (flow : Bool) (spaces : Option ℕ) (d : ℕ) (t : List ℕ) → begins_with 42 t ≡ false → begins_with 91 t ≡ false → begins_with 123 t ≡ true → measured (placed_content flow spaces 0 d t) ≡ as_collection (past_node (placed_coll 0 d 125 (drop 1 t)))
+unfolding read_core read_collection
+mapping_is flow spaces d t star other opens = rw (star, other, opens) (mapping_gap d t (read_gap (drop 1 t)))
 
-pub sequence_none : (flow : Bool) (spaces : Option ℕ) (d : ℕ) (t : List ℕ) → first_is 42 t ≡ false → first_is 91 t ≡ true → past (placed_coll 0 d 93 (drop 1 t)) ≡ None → measured (placed_content flow spaces 0 d t) ≡ None
+pub sequence_none : (flow : Bool) (spaces : Option ℕ) (d : ℕ) (t : List ℕ) → begins_with 42 t ≡ false → begins_with 91 t ≡ true → past_node (placed_coll 0 d 93 (drop 1 t)) ≡ None → measured (placed_content flow spaces 0 d t) ≡ None
 sequence_none flow spaces d t star opens e = sequence_is flow spaces d t star opens ∙ ap as_collection e
 
-pub sequence_some : (flow : Bool) (spaces : Option ℕ) (d : ℕ) (t r : List ℕ) → first_is 42 t ≡ false → first_is 91 t ≡ true → past (placed_coll 0 d 93 (drop 1 t)) ≡ Some r → measured (placed_content flow spaces 0 d t) ≡ Some ((false, kinds.Collection), r)
+pub sequence_some : (flow : Bool) (spaces : Option ℕ) (d : ℕ) (t r : List ℕ) → begins_with 42 t ≡ false → begins_with 91 t ≡ true → past_node (placed_coll 0 d 93 (drop 1 t)) ≡ Some r → measured (placed_content flow spaces 0 d t) ≡ Some ((false, kinds.Collection), r)
 sequence_some flow spaces d t r star opens e = sequence_is flow spaces d t star opens ∙ ap as_collection e
 
-pub mapping_none : (flow : Bool) (spaces : Option ℕ) (d : ℕ) (t : List ℕ) → first_is 42 t ≡ false → first_is 91 t ≡ false → first_is 123 t ≡ true → past (placed_coll 0 d 125 (drop 1 t)) ≡ None → measured (placed_content flow spaces 0 d t) ≡ None
+pub mapping_none : (flow : Bool) (spaces : Option ℕ) (d : ℕ) (t : List ℕ) → begins_with 42 t ≡ false → begins_with 91 t ≡ false → begins_with 123 t ≡ true → past_node (placed_coll 0 d 125 (drop 1 t)) ≡ None → measured (placed_content flow spaces 0 d t) ≡ None
 mapping_none flow spaces d t star other opens e = mapping_is flow spaces d t star other opens ∙ ap as_collection e
 
-pub mapping_some : (flow : Bool) (spaces : Option ℕ) (d : ℕ) (t r : List ℕ) → first_is 42 t ≡ false → first_is 91 t ≡ false → first_is 123 t ≡ true → past (placed_coll 0 d 125 (drop 1 t)) ≡ Some r → measured (placed_content flow spaces 0 d t) ≡ Some ((false, kinds.Collection), r)
+pub mapping_some : (flow : Bool) (spaces : Option ℕ) (d : ℕ) (t r : List ℕ) → begins_with 42 t ≡ false → begins_with 91 t ≡ false → begins_with 123 t ≡ true → past_node (placed_coll 0 d 125 (drop 1 t)) ≡ Some r → measured (placed_content flow spaces 0 d t) ≡ Some ((false, kinds.Collection), r)
 mapping_some flow spaces d t r star other opens e = mapping_is flow spaces d t star other opens ∙ ap as_collection e
 
-pub scalar_none : (flow : Bool) (spaces : Option ℕ) (d : ℕ) (t : List ℕ) → first_is 42 t ≡ false → first_is 91 t ≡ false → first_is 123 t ≡ false → begins_content flow t ≡ true → scalar_at flow spaces t ≡ None → measured (placed_content flow spaces 0 d t) ≡ None
-unfolding content_at
+pub scalar_none : (flow : Bool) (spaces : Option ℕ) (d : ℕ) (t : List ℕ) → begins_with 42 t ≡ false → begins_with 91 t ≡ false → begins_with 123 t ≡ false → begins_content flow t ≡ true → read_scalar flow spaces t ≡ None → measured (placed_content flow spaces 0 d t) ≡ None
+unfolding read_core
 scalar_none flow spaces d t a b c s e = let f = front_parts flow t true a b c s in rw (a, b, c) (rw f (rw e refl))
 
-pub scalar_some : (flow : Bool) (spaces : Option ℕ) (d : ℕ) (t p r : List ℕ) → first_is 42 t ≡ false → first_is 91 t ≡ false → first_is 123 t ≡ false → begins_content flow t ≡ true → scalar_at flow spaces t ≡ Some (p, r) → measured (placed_content flow spaces 0 d t) ≡ Some ((false, kind_of_style (style_of p)), r)
-unfolding content_at
+pub scalar_some : (flow : Bool) (spaces : Option ℕ) (d : ℕ) (t p r : List ℕ) → begins_with 42 t ≡ false → begins_with 91 t ≡ false → begins_with 123 t ≡ false → begins_content flow t ≡ true → read_scalar flow spaces t ≡ Some (p, r) → measured (placed_content flow spaces 0 d t) ≡ Some ((false, kind_of_style (scalar_style p)), r)
+unfolding read_core
 scalar_some flow spaces d t p r a b c s e = let f = front_parts flow t true a b c s in rw (a, b, c) (rw f (rw e refl))
 
-pub nothing_here : (flow : Bool) (spaces : Option ℕ) (d : ℕ) (t : List ℕ) → first_is 42 t ≡ false → first_is 91 t ≡ false → first_is 123 t ≡ false → begins_content flow t ≡ false → measured (placed_content flow spaces 0 d t) ≡ Some ((false, kinds.Nothing), t)
-unfolding content_at
+pub nothing_here : (flow : Bool) (spaces : Option ℕ) (d : ℕ) (t : List ℕ) → begins_with 42 t ≡ false → begins_with 91 t ≡ false → begins_with 123 t ≡ false → begins_content flow t ≡ false → measured (placed_content flow spaces 0 d t) ≡ Some ((false, kinds.Nothing), t)
+unfolding read_core
 nothing_here flow spaces d t a b c s = let f = front_parts flow t false a b c s in rw (a, b, c) (rw f refl)
 
 -- nodes
-pub node_content : (flow : Bool) (spaces : Option ℕ) (d : ℕ) (t : List ℕ) → first_is 38 t ≡ false → measured (placed_node flow spaces 0 d t) ≡ measured (placed_content flow spaces 0 d t)
+pub node_content : (flow : Bool) (spaces : Option ℕ) (d : ℕ) (t : List ℕ) → begins_with 38 t ≡ false → measured (placed_node flow spaces 0 d t) ≡ measured (placed_content flow spaces 0 d t)
 node_content flow spaces d t h = ap measured (node_plain flow spaces 0 d t h)
 
-pub node_nameless : (flow : Bool) (spaces : Option ℕ) (d : ℕ) (t : List ℕ) → first_is 38 t ≡ true → name_at (drop 1 t) ≡ None → measured (placed_node flow spaces 0 d t) ≡ None
+pub node_nameless : (flow : Bool) (spaces : Option ℕ) (d : ℕ) (t : List ℕ) → begins_with 38 t ≡ true → name_at (drop 1 t) ≡ None → measured (placed_node flow spaces 0 d t) ≡ None
 node_nameless flow spaces d t amp e = ap measured (node_no_name flow spaces 0 d t amp e)
 
-pub node_leadless : (flow : Bool) (spaces : Option ℕ) (d : ℕ) (t n r : List ℕ) → first_is 38 t ≡ true → name_at (drop 1 t) ≡ Some (n, r) → lead_at flow (begins_content flow) r ≡ None → measured (placed_node flow spaces 0 d t) ≡ None
+pub node_leadless : (flow : Bool) (spaces : Option ℕ) (d : ℕ) (t n r : List ℕ) → begins_with 38 t ≡ true → name_at (drop 1 t) ≡ Some (n, r) → lead_at flow (begins_content flow) r ≡ None → measured (placed_node flow spaces 0 d t) ≡ None
 node_leadless flow spaces d t n r amp e f = ap measured (node_no_lead flow spaces 0 d t n r amp e f)
 
-pub node_none : (flow : Bool) (spaces : Option ℕ) (d : ℕ) (t n r g s : List ℕ) → first_is 38 t ≡ true → name_at (drop 1 t) ≡ Some (n, r) → lead_at flow (begins_content flow) r ≡ Some (g, s) → measured (placed_content flow spaces 0 d s) ≡ None → measured (placed_node flow spaces 0 d t) ≡ None
+pub node_none : (flow : Bool) (spaces : Option ℕ) (d : ℕ) (t n r g s : List ℕ) → begins_with 38 t ≡ true → name_at (drop 1 t) ≡ Some (n, r) → lead_at flow (begins_content flow) r ≡ Some (g, s) → measured (placed_content flow spaces 0 d s) ≡ None → measured (placed_node flow spaces 0 d t) ≡ None
 node_none flow spaces d t n r g s amp e f h =
     ap measured (node_anchored flow spaces 0 d t n r g s amp e f ∙ ap (λ o. o >>= then_anchored 0 t n g) (unread (placed_content flow spaces 0 d s) h))
 
 -- a node behind an anchor, by whether it may stand there
-anchored_is : (flow : Bool) (spaces : Option ℕ) (d : ℕ) (t n r g s u : List ℕ) (a : Bool) (k : NodeKind) → first_is 38 t ≡ true → name_at (drop 1 t) ≡ Some (n, r) → lead_at flow (begins_content flow) r ≡ Some (g, s) → measured (placed_content flow spaces 0 d s) ≡ Some ((a, k), u) →
-    measured (placed_node flow spaces 0 d t) ≡ cond (may_follow g (a, k)) (Some ((true, k), u)) None
+anchored_is : (flow : Bool) (spaces : Option ℕ) (d : ℕ) (t n r g s u : List ℕ) (a : Bool) (k : NodeKind) → begins_with 38 t ≡ true → name_at (drop 1 t) ≡ Some (n, r) → lead_at flow (begins_content flow) r ≡ Some (g, s) → measured (placed_content flow spaces 0 d s) ≡ Some ((a, k), u) →
+    measured (placed_node flow spaces 0 d t) ≡ cond (node_may_follow g (a, k)) (Some ((true, k), u)) None
 anchored_is flow spaces d t n r g s u a k amp e f h =
     let y = found (placed_content flow spaces 0 d s) a k u h in
-    let may : stands_behind g y.node ≡ may_follow g (a, k) = follow_measure g y.node ∙ ap (may_follow g) y.measured_as in
-    let is : measure (with_anchor n (0 - length t) y.node) ≡ (true, k) = with_measure n (0 - length t) y.node ∙ ap (λ (m : Bool × NodeKind). (true, m.1)) y.measured_as in
+    let may : stands_behind g y.node ≡ node_may_follow g (a, k) = follow_measure g y.node ∙ ap (node_may_follow g) y.measured_as in
+    let is : node_measure (anchored_node n (0 - length t) y.node) ≡ (true, k) = with_measure n (0 - length t) y.node ∙ ap (λ (m : Bool × NodeKind). (true, m.1)) y.measured_as in
     ap measured (node_anchored flow spaces 0 d t n r g s amp e f ∙ ap (λ o. o >>= then_anchored 0 t n g) y.read)
-    ∙ (go (stands_behind g y.node) (with_anchor n (0 - length t) y.node) u ∙ ap (λ (m : Bool × NodeKind). cond (stands_behind g y.node) (Some (m, u)) None) is ∙ ap (λ c. cond c (Some ((true, k), u)) None) may)
+    ∙ (go (stands_behind g y.node) (anchored_node n (0 - length t) y.node) u ∙ ap (λ (m : Bool × NodeKind). cond (stands_behind g y.node) (Some (m, u)) None) is ∙ ap (λ c. cond c (Some ((true, k), u)) None) may)
   where
-    go : (c : Bool) (x : Placed) (v : List ℕ) → measured (cond c (Some (x, v)) None) ≡ cond c (Some (measure x, v)) None
+    go : (c : Bool) (x : Placed) (v : List ℕ) → measured (cond c (Some (x, v)) None) ≡ cond c (Some (node_measure x, v)) None
     go true x v = refl
     go false x v = refl
 
-pub node_apart : (flow : Bool) (spaces : Option ℕ) (d : ℕ) (t n r g s u : List ℕ) (a : Bool) (k : NodeKind) → first_is 38 t ≡ true → name_at (drop 1 t) ≡ Some (n, r) → lead_at flow (begins_content flow) r ≡ Some (g, s) → measured (placed_content flow spaces 0 d s) ≡ Some ((a, k), u) →
-    may_follow g (a, k) ≡ false → measured (placed_node flow spaces 0 d t) ≡ None
+pub node_apart : (flow : Bool) (spaces : Option ℕ) (d : ℕ) (t n r g s u : List ℕ) (a : Bool) (k : NodeKind) → begins_with 38 t ≡ true → name_at (drop 1 t) ≡ Some (n, r) → lead_at flow (begins_content flow) r ≡ Some (g, s) → measured (placed_content flow spaces 0 d s) ≡ Some ((a, k), u) →
+    node_may_follow g (a, k) ≡ false → measured (placed_node flow spaces 0 d t) ≡ None
 node_apart flow spaces d t n r g s u a k amp e f h may = anchored_is flow spaces d t n r g s u a k amp e f h ∙ ap (λ c. cond c (Some ((true, k), u)) None) may
 
-pub node_some : (flow : Bool) (spaces : Option ℕ) (d : ℕ) (t n r g s u : List ℕ) (a : Bool) (k : NodeKind) → first_is 38 t ≡ true → name_at (drop 1 t) ≡ Some (n, r) → lead_at flow (begins_content flow) r ≡ Some (g, s) → measured (placed_content flow spaces 0 d s) ≡ Some ((a, k), u) →
-    may_follow g (a, k) ≡ true → measured (placed_node flow spaces 0 d t) ≡ Some ((true, k), u)
+pub node_some : (flow : Bool) (spaces : Option ℕ) (d : ℕ) (t n r g s u : List ℕ) (a : Bool) (k : NodeKind) → begins_with 38 t ≡ true → name_at (drop 1 t) ≡ Some (n, r) → lead_at flow (begins_content flow) r ≡ Some (g, s) → measured (placed_content flow spaces 0 d s) ≡ Some ((a, k), u) →
+    node_may_follow g (a, k) ≡ true → measured (placed_node flow spaces 0 d t) ≡ Some ((true, k), u)
 node_some flow spaces d t n r g s u a k amp e f h may = anchored_is flow spaces d t n r g s u a k amp e f h ∙ ap (λ c. cond c (Some ((true, k), u)) None) may
 
 -- collections
-pub coll_no_gap : (d k : ℕ) (t : List ℕ) → gap_at t ≡ None → past (placed_coll 0 d k t) ≡ None
+pub coll_no_gap : (d k : ℕ) (t : List ℕ) → read_gap t ≡ None → past_node (placed_coll 0 d k t) ≡ None
 coll_no_gap d k t h = rw h refl
 
-pub coll_too_deep : (k : ℕ) (t g r : List ℕ) → gap_at t ≡ Some (g, r) → past (placed_coll 0 0 k t) ≡ None
+pub coll_too_deep : (k : ℕ) (t g r : List ℕ) → read_gap t ≡ Some (g, r) → past_node (placed_coll 0 0 k t) ≡ None
 coll_too_deep k t g r h = rw h refl
 
-coll_deeper : (d k : ℕ) (t g r : List ℕ) → gap_at t ≡ Some (g, r) → past (placed_coll 0 (suc d) k t) ≡ past (placed_items 0 d k r)
+coll_deeper : (d k : ℕ) (t g r : List ℕ) → read_gap t ≡ Some (g, r) → past_node (placed_coll 0 (suc d) k t) ≡ past_node (placed_items 0 d k r)
 coll_deeper d k t g r h = rw h (go (all_items d k r)) where
-  go : (o : Option (Items × List ℕ)) → past (o >>= λ x. Some (holder k (locate_items 0 k x.0 x.1), x.1)) ≡ past (o >>= λ x. Some (locate_items 0 k x.0 x.1, x.1))
+  go : (o : Option (Items × List ℕ)) → past_node (o >>= λ x. Some (holder k (locate_items 0 k x.0 x.1), x.1)) ≡ past_node (o >>= λ x. Some (locate_items 0 k x.0 x.1, x.1))
   go None = refl
   go (Some x) = refl
 
-pub coll_items : (d k : ℕ) (t g r : List ℕ) → 0 < d → gap_at t ≡ Some (g, r) → past (placed_coll 0 d k t) ≡ past (placed_items 0 (d - 1) k r)
+pub coll_items : (d k : ℕ) (t g r : List ℕ) → 0 < d → read_gap t ≡ Some (g, r) → past_node (placed_coll 0 d k t) ≡ past_node (placed_items 0 (d - 1) k r)
 coll_items d k t g r some h =
     let one : suc (d - 1) ≡ d = omega arith in
-    subst (λ (n : ℕ). past (placed_coll 0 n k t) ≡ past (placed_items 0 (d - 1) k r)) one (coll_deeper (d - 1) k t g r h)
+    subst (λ (n : ℕ). past_node (placed_coll 0 n k t) ≡ past_node (placed_items 0 (d - 1) k r)) one (coll_deeper (d - 1) k t g r h)
 
 -- items
-item_is : (d : ℕ) (t r : List ℕ) (a : Bool) (k : NodeKind) → measured (placed_node true (Some 0) 0 d t) ≡ Some ((a, k), r) → past (placed_item 0 d t) ≡ cond (is_bare (a, k)) None (past_sep 93 r)
+item_is : (d : ℕ) (t r : List ℕ) (a : Bool) (k : NodeKind) → measured (placed_node true (Some 0) 0 d t) ≡ Some ((a, k), r) → past_node (placed_item 0 d t) ≡ cond (is_no_node (a, k)) None (past_sep 93 r)
 item_is d t r a k h =
     let y = found (placed_node true (Some 0) 0 d t) a k r h in
-    let bare : bare_placed y.node ≡ is_bare (a, k) = bare_measure y.node ∙ ap is_bare y.measured_as in
-    rw (y.read, bare) (go (is_bare (a, k)) y.node (past_sep 93 r))
+    let bare : bare_placed y.node ≡ is_no_node (a, k) = bare_measure y.node ∙ ap is_no_node y.measured_as in
+    rw (y.read, bare) (go (is_no_node (a, k)) y.node (past_sep 93 r))
   where
-    go : (c : Bool) (x : Placed) (o : Option (List ℕ)) → past (cond c None (o >>= λ s. Some (x, s))) ≡ cond c None o
+    go : (c : Bool) (x : Placed) (o : Option (List ℕ)) → past_node (cond c None (o >>= λ s. Some (x, s))) ≡ cond c None o
     go true x o = refl
     go false x None = refl
     go false x (Some s) = refl
 
-pub item_none : (d : ℕ) (t : List ℕ) → measured (placed_node true (Some 0) 0 d t) ≡ None → past (placed_item 0 d t) ≡ None
+pub item_none : (d : ℕ) (t : List ℕ) → measured (placed_node true (Some 0) 0 d t) ≡ None → past_node (placed_item 0 d t) ≡ None
 item_none d t h = rw (unread (placed_node true (Some 0) 0 d t) h) refl
 
-pub item_bare : (d : ℕ) (t r : List ℕ) (a : Bool) (k : NodeKind) → measured (placed_node true (Some 0) 0 d t) ≡ Some ((a, k), r) → is_bare (a, k) ≡ true → past (placed_item 0 d t) ≡ None
+pub item_bare : (d : ℕ) (t r : List ℕ) (a : Bool) (k : NodeKind) → measured (placed_node true (Some 0) 0 d t) ≡ Some ((a, k), r) → is_no_node (a, k) ≡ true → past_node (placed_item 0 d t) ≡ None
 item_bare d t r a k h bare = item_is d t r a k h ∙ ap (λ c. cond c None (past_sep 93 r)) bare
 
-pub item_some : (d : ℕ) (t r : List ℕ) (a : Bool) (k : NodeKind) → measured (placed_node true (Some 0) 0 d t) ≡ Some ((a, k), r) → is_bare (a, k) ≡ false → past (placed_item 0 d t) ≡ past_sep 93 r
+pub item_some : (d : ℕ) (t r : List ℕ) (a : Bool) (k : NodeKind) → measured (placed_node true (Some 0) 0 d t) ≡ Some ((a, k), r) → is_no_node (a, k) ≡ false → past_node (placed_item 0 d t) ≡ past_sep 93 r
 item_some d t r a k h bare = item_is d t r a k h ∙ ap (λ c. cond c None (past_sep 93 r)) bare
 
-pub item_shorter : (d : ℕ) (t r : List ℕ) (a : Bool) (k : NodeKind) → measured (placed_node true (Some 0) 0 d t) ≡ Some ((a, k), r) → is_bare (a, k) ≡ false → length r < length t
+pub item_shorter : (d : ℕ) (t r : List ℕ) (a : Bool) (k : NodeKind) → measured (placed_node true (Some 0) 0 d t) ≡ Some ((a, k), r) → is_no_node (a, k) ≡ false → length r < length t
 item_shorter d t r a k h bare =
     let y = found (placed_node true (Some 0) 0 d t) a k r h in
-    node_shorter 0 d t y.node r y.read (bare_measure y.node ∙ (ap is_bare y.measured_as ∙ bare))
+    node_shorter 0 d t y.node r y.read (bare_measure y.node ∙ (ap is_no_node y.measured_as ∙ bare))
 
-pub items_last : (d k : ℕ) (t : List ℕ) → first_is k t ≡ true → past (placed_items 0 d k t) ≡ Some (drop 1 t)
-items_last d k t h = ap past (items_end 0 d k t h)
+pub items_last : (d k : ℕ) (t : List ℕ) → begins_with k t ≡ true → past_node (placed_items 0 d k t) ≡ Some (drop 1 t)
+items_last d k t h = ap past_node (items_end 0 d k t h)
 
-items_are : (d : ℕ) (t : List ℕ) → first_is 93 t ≡ false → past (placed_items 0 d 93 t) ≡ (past (placed_item 0 d t) >>= λ r. past (placed_items 0 d 93 r))
-items_are d t h = ap past (items_more 0 d t h) ∙ go (placed_item 0 d t) where
-  behind : (x : Placed) (o : Option (Parts × List ℕ)) → past (o >>= λ y. Some (part None x y.0, y.1)) ≡ past o
+items_are : (d : ℕ) (t : List ℕ) → begins_with 93 t ≡ false → past_node (placed_items 0 d 93 t) ≡ (past_node (placed_item 0 d t) >>= λ r. past_node (placed_items 0 d 93 r))
+items_are d t h = ap past_node (items_more 0 d t h) ∙ go (placed_item 0 d t) where
+  behind : (x : Placed) (o : Option (Parts × List ℕ)) → past_node (o >>= λ y. Some (part None x y.0, y.1)) ≡ past_node o
   behind x None = refl
   behind x (Some y) = refl
 
-  go : (o : Option (Placed × List ℕ)) → past (o >>= λ x. placed_items 0 d 93 x.1 >>= λ y. Some (part None x.0 y.0, y.1)) ≡ (past o >>= λ r. past (placed_items 0 d 93 r))
+  go : (o : Option (Placed × List ℕ)) → past_node (o >>= λ x. placed_items 0 d 93 x.1 >>= λ y. Some (part None x.0 y.0, y.1)) ≡ (past_node o >>= λ r. past_node (placed_items 0 d 93 r))
   go None = refl
   go (Some x) = behind x.0 (placed_items 0 d 93 x.1)
 
@@ -245,49 +245,49 @@ items_are d t h = ap past (items_more 0 d t h) ∙ go (placed_item 0 d t) where
 abbrev with_entry : List ℕ × Piece → Placed → Option (List ℕ) → Option (((List ℕ × Piece) × Placed) × List ℕ)
 with_entry key x o = o >>= λ r. Some ((key, x), r)
 
-past_entry : (key : List ℕ × Piece) (x : Placed) (o : Option (List ℕ)) → past (with_entry key x o) ≡ o
+past_entry : (key : List ℕ × Piece) (x : Placed) (o : Option (List ℕ)) → past_node (with_entry key x o) ≡ o
 past_entry key x None = refl
 past_entry key x (Some r) = refl
 
-past_value : (key : List ℕ × Piece) (o : Option (Placed × List ℕ)) → past (o >>= λ x. with_entry key x.0 (past_sep 125 x.1)) ≡ (past o >>= past_sep 125)
+past_value : (key : List ℕ × Piece) (o : Option (Placed × List ℕ)) → past_node (o >>= λ x. with_entry key x.0 (past_sep 125 x.1)) ≡ (past_node o >>= past_sep 125)
 past_value key None = refl
 past_value key (Some x) = past_entry key x.0 (past_sep 125 x.1)
 
-entry_is : (d : ℕ) (t k u : List ℕ) → split_key t ≡ Some (k, u) → past (placed_entry 0 d t) ≡ (past (placed_node true (Some 0) 0 d u) >>= past_sep 125)
+entry_is : (d : ℕ) (t k u : List ℕ) → split_key t ≡ Some (k, u) → past_node (placed_entry 0 d t) ≡ (past_node (placed_node true (Some 0) 0 d u) >>= past_sep 125)
 entry_is d t k u h = rw h (past_value (key_here 0 t k) (placed_node true (Some 0) 0 d u))
 
-past_measured : (o : Option (Placed × List ℕ)) → past o ≡ past (measured o)
+past_measured : (o : Option (Placed × List ℕ)) → past_node o ≡ past_node (measured o)
 past_measured None = refl
 past_measured (Some x) = refl
 
-pub entry_no_key : (d : ℕ) (t : List ℕ) → split_key t ≡ None → past (placed_entry 0 d t) ≡ None
+pub entry_no_key : (d : ℕ) (t : List ℕ) → split_key t ≡ None → past_node (placed_entry 0 d t) ≡ None
 entry_no_key d t h = rw h refl
 
-pub entry_none : (d : ℕ) (t k u : List ℕ) → split_key t ≡ Some (k, u) → measured (placed_node true (Some 0) 0 d u) ≡ None → past (placed_entry 0 d t) ≡ None
-entry_none d t k u h e = entry_is d t k u h ∙ ap (λ o. o >>= past_sep 125) (past_measured (placed_node true (Some 0) 0 d u) ∙ ap past e)
+pub entry_none : (d : ℕ) (t k u : List ℕ) → split_key t ≡ Some (k, u) → measured (placed_node true (Some 0) 0 d u) ≡ None → past_node (placed_entry 0 d t) ≡ None
+entry_none d t k u h e = entry_is d t k u h ∙ ap (λ o. o >>= past_sep 125) (past_measured (placed_node true (Some 0) 0 d u) ∙ ap past_node e)
 
-pub entry_some : (d : ℕ) (t k u r : List ℕ) (a : Bool) (kind : NodeKind) → split_key t ≡ Some (k, u) → measured (placed_node true (Some 0) 0 d u) ≡ Some ((a, kind), r) → past (placed_entry 0 d t) ≡ past_sep 125 r
-entry_some d t k u r a kind h e = entry_is d t k u h ∙ ap (λ o. o >>= past_sep 125) (past_measured (placed_node true (Some 0) 0 d u) ∙ ap past e)
+pub entry_some : (d : ℕ) (t k u r : List ℕ) (a : Bool) (kind : NodeKind) → split_key t ≡ Some (k, u) → measured (placed_node true (Some 0) 0 d u) ≡ Some ((a, kind), r) → past_node (placed_entry 0 d t) ≡ past_sep 125 r
+entry_some d t k u r a kind h e = entry_is d t k u h ∙ ap (λ o. o >>= past_sep 125) (past_measured (placed_node true (Some 0) 0 d u) ∙ ap past_node e)
 
-entries_are : (d : ℕ) (t : List ℕ) → first_is 125 t ≡ false → past (placed_items 0 d 125 t) ≡ (past (placed_entry 0 d t) >>= λ r. past (placed_items 0 d 125 r))
-entries_are d t h = ap past (entries_more 0 d t h) ∙ go (placed_entry 0 d t) where
-  behind : (key : List ℕ × Piece) (x : Placed) (o : Option (Parts × List ℕ)) → past (o >>= λ y. Some (part (Some key) x y.0, y.1)) ≡ past o
+entries_are : (d : ℕ) (t : List ℕ) → begins_with 125 t ≡ false → past_node (placed_items 0 d 125 t) ≡ (past_node (placed_entry 0 d t) >>= λ r. past_node (placed_items 0 d 125 r))
+entries_are d t h = ap past_node (entries_more 0 d t h) ∙ go (placed_entry 0 d t) where
+  behind : (key : List ℕ × Piece) (x : Placed) (o : Option (Parts × List ℕ)) → past_node (o >>= λ y. Some (part (Some key) x y.0, y.1)) ≡ past_node o
   behind key x None = refl
   behind key x (Some y) = refl
 
-  go : (o : Option (((List ℕ × Piece) × Placed) × List ℕ)) → past (o >>= λ x. placed_items 0 d 125 x.1 >>= λ y. Some (part (Some x.0.0) x.0.1 y.0, y.1)) ≡ (past o >>= λ r. past (placed_items 0 d 125 r))
+  go : (o : Option (((List ℕ × Piece) × Placed) × List ℕ)) → past_node (o >>= λ x. placed_items 0 d 125 x.1 >>= λ y. Some (part (Some x.0.0) x.0.1 y.0, y.1)) ≡ (past_node o >>= λ r. past_node (placed_items 0 d 125 r))
   go None = refl
   go (Some x) = behind x.0.0 x.0.1 (placed_items 0 d 125 x.1)
 
-parts_are : (keyed : Bool) (d : ℕ) (t : List ℕ) → first_is (closing keyed) t ≡ false → past (placed_items 0 d (closing keyed) t) ≡ (past_part keyed d t >>= λ r. past (placed_items 0 d (closing keyed) r))
+parts_are : (keyed : Bool) (d : ℕ) (t : List ℕ) → begins_with (closing_byte keyed) t ≡ false → past_node (placed_items 0 d (closing_byte keyed) t) ≡ (past_part keyed d t >>= λ r. past_node (placed_items 0 d (closing_byte keyed) r))
 parts_are true d t h = entries_are d t h
 parts_are false d t h = items_are d t h
 
-pub parts_none : (keyed : Bool) (d : ℕ) (t : List ℕ) → first_is (closing keyed) t ≡ false → past_part keyed d t ≡ None → past (placed_items 0 d (closing keyed) t) ≡ None
-parts_none keyed d t h e = parts_are keyed d t h ∙ ap (λ o. o >>= λ r. past (placed_items 0 d (closing keyed) r)) e
+pub parts_none : (keyed : Bool) (d : ℕ) (t : List ℕ) → begins_with (closing_byte keyed) t ≡ false → past_part keyed d t ≡ None → past_node (placed_items 0 d (closing_byte keyed) t) ≡ None
+parts_none keyed d t h e = parts_are keyed d t h ∙ ap (λ o. o >>= λ r. past_node (placed_items 0 d (closing_byte keyed) r)) e
 
-pub parts_some : (keyed : Bool) (d : ℕ) (t r : List ℕ) → first_is (closing keyed) t ≡ false → past_part keyed d t ≡ Some r → past (placed_items 0 d (closing keyed) t) ≡ past (placed_items 0 d (closing keyed) r)
-parts_some keyed d t r h e = parts_are keyed d t h ∙ ap (λ o. o >>= λ r. past (placed_items 0 d (closing keyed) r)) e
+pub parts_some : (keyed : Bool) (d : ℕ) (t r : List ℕ) → begins_with (closing_byte keyed) t ≡ false → past_part keyed d t ≡ Some r → past_node (placed_items 0 d (closing_byte keyed) t) ≡ past_node (placed_items 0 d (closing_byte keyed) r)
+parts_some keyed d t r h e = parts_are keyed d t h ∙ ap (λ o. o >>= λ r. past_node (placed_items 0 d (closing_byte keyed) r)) e
 
 -- the steps of measuring a node, and a node without an anchor
 pub ruleset node_steps = (node_content, node_nameless, node_leadless, node_none, node_apart, node_some)

@@ -4,7 +4,7 @@ use Rattle.yq_flow_scalars.specs.Piece.{deeper}
 use Rattle.yq_flow_scalars.specs.declared.style.Style.{Style}
 use Rattle.yq_flow_scalars.specs.declared.style.Style.TheVariants as styles
 use Rattle.yq_nodes.specs.Inline.{depth_limit}
-use Rattle.yq_rows.specs.Measured.{kind_of_style, measure, measured, is_nothing}
+use Rattle.yq_rows.specs.Measured.{kind_of_style, node_measure, measured, is_nothing}
 use Rattle.yq_nodes.specs.Places.{Placed, placed, nothing, name, text, sequence, mapping}
 use Rattle.yq_nodes.specs.PlacedReading.{placed_node}
 use Rattle.yq_rows.specs.declared.measuring.NodeKind.{NodeKind}
@@ -20,7 +20,7 @@ style_nothing styles.Double = refl
 style_nothing styles.Literal = refl
 style_nothing styles.Folded = refl
 
-nothing_by_kind : (s : Placed) → nothing_placed s ≡ is_nothing (measure s).1
+nothing_by_kind : (s : Placed) → nothing_placed s ≡ is_nothing (node_measure s).1
 nothing_by_kind (placed a s c e nothing) = refl
 nothing_by_kind (placed a s c e (name n)) = refl
 nothing_by_kind (placed a s c e (text t p)) = style_nothing p.style
@@ -34,7 +34,7 @@ style_plain styles.Double = refl
 style_plain styles.Literal = refl
 style_plain styles.Folded = refl
 
-plain_by_kind : (s : Placed) → plain_placed s ≡ is_plain_kind (measure s).1
+plain_by_kind : (s : Placed) → plain_placed s ≡ is_plain_kind (node_measure s).1
 plain_by_kind (placed a s c e nothing) = refl
 plain_by_kind (placed a s c e (name n)) = refl
 plain_by_kind (placed a s c e (text t p)) = style_plain p.style
@@ -51,7 +51,7 @@ pub record Known (spaces : Option ℕ) (t rest : List ℕ) (k : NodeKind) : Type
 pub known : (n : ℤ) (spaces : Option ℕ) (t rest : List ℕ) (a : Bool) (k : NodeKind) → spaces ≡ Some (deeper n) → measured (placed_node false spaces 0 depth_limit t) ≡ Some ((a, k), rest) → Known (Some (deeper n)) t rest k
 known n spaces t rest a k e h =
     let y = found (placed_node false (Some (deeper n)) 0 depth_limit t) a k rest (subst (λ (o : Option ℕ). measured (placed_node false o 0 depth_limit t) ≡ Some ((a, k), rest)) e h) in
-    let kind : (measure y.node).1 ≡ k = ap (λ (m : Bool × NodeKind). m.1) y.measured_as in
+    let kind : (node_measure y.node).1 ≡ k = ap (λ (m : Bool × NodeKind). m.1) y.measured_as in
     record {
       node = y.node;
       read = node_read (Some (deeper n)) 0 t rest y.node y.read;

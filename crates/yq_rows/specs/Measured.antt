@@ -2,7 +2,7 @@
 use Rattle.std.specs.Prelude.{ℕ, Bool, true, false, ◌||◌, ◌&&◌, not, List, Option, Some, None}
 use Rattle.yq_flow_scalars.specs.Answers.{◌>>=◌}
 use Rattle.yq_flow_scalars.specs.Text.{is_empty}
-use Rattle.yq_nodes.specs.Places.{Placed, placed, Content, nothing, name, text, sequence, mapping}
+use Rattle.yq_nodes.specs.Places.{Placed, placed, CoreNode, nothing, name, text, sequence, mapping}
 use Rattle.yq_nodes.specs.PlacedReading.{placed_entry, placed_item}
 use Rattle.yq_rows.specs.declared.measuring.NodeKind.{NodeKind}
 use Rattle.yq_rows.specs.declared.measuring.NodeKind.TheVariants as kinds
@@ -19,7 +19,7 @@ kind_of_style styles.Literal = kinds.Quoted
 kind_of_style styles.Folded = kinds.Quoted
 
 -- the kind of what a node is (own)
-abbrev pub kind_in : Content → NodeKind
+abbrev pub kind_in : CoreNode → NodeKind
 kind_in nothing = kinds.Nothing
 kind_in (name n) = kinds.Alias
 kind_in (text s p) = kind_of_style p.style
@@ -32,20 +32,20 @@ is_anchor None = false
 is_anchor (Some a) = true
 
 -- whether a node has an anchor, and its kind (own)
-abbrev pub measure : Placed → Bool × NodeKind
-measure (placed a s c e f) = (is_anchor a, kind_in f)
+abbrev pub node_measure : Placed → Bool × NodeKind
+node_measure (placed a s c e f) = (is_anchor a, kind_in f)
 
 -- the same of the node that was read, and what follows (own)
 abbrev pub measured : Option (Placed × List ℕ) → Option ((Bool × NodeKind) × List ℕ)
-measured o = o >>= λ x. Some (measure x.0, x.1)
+measured o = o >>= λ x. Some (node_measure x.0, x.1)
 
 -- the same of the code (own)
 abbrev pub measured_view : Measured → (Bool × NodeKind) × List ℕ
 measured_view m = ((m.anchored, m.kind), m.rest.now)
 
 -- what follows what was read (own)
-abbrev pub past : {A : Type 0} → Option (A × List ℕ) → Option (List ℕ)
-past o = o >>= λ x. Some x.1
+abbrev pub past_node : {A : Type 0} → Option (A × List ℕ) → Option (List ℕ)
+past_node o = o >>= λ x. Some x.1
 
 -- nothing, by its kind (own)
 abbrev pub is_nothing : NodeKind → Bool
@@ -64,19 +64,19 @@ is_alias kinds.Quoted = false
 is_alias kinds.Collection = false
 
 -- nothing, not even an anchor (own)
-abbrev pub is_bare : Bool × NodeKind → Bool
-is_bare m = not m.0 && is_nothing m.1
+abbrev pub is_no_node : Bool × NodeKind → Bool
+is_no_node m = not m.0 && is_nothing m.1
 
 -- a node may stand behind an anchor and this gap (own)
-abbrev pub may_follow : List ℕ → Bool × NodeKind → Bool
-may_follow gap m = (is_bare m || not (is_empty gap)) && (not m.0 && not (is_alias m.1))
+abbrev pub node_may_follow : List ℕ → Bool × NodeKind → Bool
+node_may_follow gap m = (is_no_node m || not (is_empty gap)) && (not m.0 && not (is_alias m.1))
 
 -- the byte that ends the entries of a mapping, or the items of a sequence (own)
-abbrev pub closing : Bool → ℕ
-closing true = 125
-closing false = 93
+abbrev pub closing_byte : Bool → ℕ
+closing_byte true = 125
+closing_byte false = 93
 
 -- what follows the entry, or item, in front and what separates it (own)
 abbrev pub past_part : Bool → ℕ → List ℕ → Option (List ℕ)
-past_part true d t = past (placed_entry 0 d t)
-past_part false d t = past (placed_item 0 d t)
+past_part true d t = past_node (placed_entry 0 d t)
+past_part false d t = past_node (placed_item 0 d t)

@@ -3,7 +3,7 @@ use Rattle.std.specs.Prelude.{◌≡◌, ℕ, Bool, true, false, List, ◌++◌,
 use Rattle.yq_rows.specs.declared.measuring.NodeKind.{NodeKind}
 use Rattle.yq_rows.specs.declared.measuring.NodeKind.TheVariants as kinds
 use Rattle.yq_cut.specs.Grammar.{Limit}
-use Rattle.yq_cut.specs.Rows.{Mark, Bare, Dash, Key}
+use Rattle.yq_cut.specs.Rows.{RowMark, Bare, Dash, Key}
 use Rattle.yq_cut.specs.View.{Slices}
 use Rattle.yq_rows.specs.declared.content.Filling.{Filling}
 use Rattle.yq_rows.specs.declared.marks.Mark.{Mark as Sign}
@@ -17,7 +17,7 @@ abbrev pub limit_view : asked.Limit → Limit
 limit_view limit = record { column = limit.column }
 
 -- the mark that the code read (own)
-abbrev pub mark_view : Sign → Mark
+abbrev pub mark_view : Sign → RowMark
 mark_view signs.Bare = Bare
 mark_view signs.Dash = Dash
 mark_view (signs.Key key colon) = Key key.now colon.now

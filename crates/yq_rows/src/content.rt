@@ -45,9 +45,9 @@ pub struct Filling<'t> {
 }
 
 /// The tail in front, and what follows.
-#[tactic(auto, unfolding(yq_cut::specs::Reading::tail_at))]
+#[tactic(auto, unfolding(yq_cut::specs::Reading::read_tail))]
 pub(crate) fn find_tail(text: &str) -> Option<(&str, &str)>
-    ensures { option_map (λ x. (x.0.now, x.1.now)) result ≡ spec.tail_at text.now }
+    ensures { option_map (λ x. (x.0.now, x.1.now)) result ≡ spec.read_tail text.now }
 {
     if first_is(b'\n', text.as_bytes()) {
         return Some(text.split_at(1));

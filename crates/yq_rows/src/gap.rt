@@ -19,7 +19,7 @@ pub(crate) fn is_hash(text: &[u8]) -> bool
 
 /// Whether a letter, a digit or a dash is in front.
 fn begins_row(text: &[u8]) -> bool
-    ensures { result ≡ (front spec.is_word text.now || nodes.first_is 45 text.now) }
+    ensures { result ≡ (front spec.is_alphanumeric text.now || nodes.begins_with 45 text.now) }
 {
     begins_word(text) || first_is(b'-', text)
 }

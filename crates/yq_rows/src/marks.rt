@@ -51,7 +51,7 @@ pub(crate) fn is_entry(mark: Mark<'_>) -> bool
 /// The key of a mark, and what stands behind it up to its `:`; nothing where it has none.
 #[inline]
 pub(crate) fn key_of<'t>(mark: Mark<'t>) -> (&'t str, &'t str)
-    ensures key { result.0.now ≡ view.key_of (mark_view mark.entry) }
+    ensures key { result.0.now ≡ view.key_of_mark (mark_view mark.entry) }
     ensures colon { result.1.now ≡ view.colon_of (mark_view mark.entry) }
 {
     match mark {
@@ -83,9 +83,9 @@ pub(crate) fn is_colon(text: &[u8]) -> bool
 }
 
 /// White space and the `:` of a key in front, and what follows.
-#[tactic(auto, unfolding(yq_cut::specs::Reading::colon_at))]
+#[tactic(auto, unfolding(yq_cut::specs::Reading::read_colon))]
 fn find_colon(text: &str) -> Option<(&str, &str)>
-    ensures { option_map (λ x. (x.0.now, x.1.now)) result ≡ spec.colon_at text.now }
+    ensures { option_map (λ x. (x.0.now, x.1.now)) result ≡ spec.read_colon text.now }
 {
     let (white, rest) = split_white(text);
     if !is_colon(rest.as_bytes()) {
@@ -108,10 +108,10 @@ fn has_key_room(key: &str, colon: &str) -> bool
 }
 
 /// The key in front, what stands behind it up to its `:`, and what follows.
-#[tactic(auto, unfolding(yq_cut::specs::Reading::key_at))]
+#[tactic(auto, unfolding(yq_cut::specs::Reading::read_row_key))]
 #[inline(always)]
 fn find_key(text: &str) -> Option<(&str, &str, &str)>
-    ensures { option_map (λ x. (x.0.now, x.1.now, x.2.now)) result ≡ spec.key_at text.now }
+    ensures { option_map (λ x. (x.0.now, x.1.now, x.2.now)) result ≡ spec.read_row_key text.now }
 {
     let Ok((key, rest)) = read_front(None, text, text) else {
         return None;
@@ -170,7 +170,7 @@ fn holds_colon(text: &[u8]) -> bool
 #[tactic(auto, using(yq_cut::proofs::KeyLines::no_key_line))]
 fn key_behind<'t>(spaces: &str, next: &'t str) -> Option<(&'t str, &'t str, &'t str)>
     ensures { option_map (λ x. (x.0.now, x.1.now, x.2.now)) result
-        ≡ (if is_empty spaces.now then None else spec.key_at next.now) }
+        ≡ (if is_empty spaces.now then None else spec.read_row_key next.now) }
 {
     if spaces.is_empty() || !holds_colon(next.as_bytes()) {
         None
@@ -191,7 +191,7 @@ fn read_mark(text: &str) -> (Mark<'_>, &str)
 
 /// The dashes in front, the mark behind them, and what follows.
 pub(crate) fn read_begin(text: &str) -> Begin<'_>
-    ensures read { begin_view result ≡ begun (spec.marks_at text.now) }
+    ensures read { begin_view result ≡ begun (spec.read_marks text.now) }
     ensures within { result.columns ≤ length text.now }
     ensures shorter { length result.rest.now ≤ length text.now }
 {

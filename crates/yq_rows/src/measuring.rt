@@ -1,11 +1,11 @@
 //! The ends of inline nodes, found without their trees.
 ghost use Rattle.std.specs.Prelude.{◌≡◌, ◌≢◌, ◌<◌, ◌≤◌, IfErr, IfOk, false, length};
-ghost use Rattle.yq_flow_scalars.specs.Answers.{Reads};
+ghost use Rattle.yq_flow_scalars.specs.Answers.{ReadsAs};
 ghost use Rattle.yq_flow_scalars.specs.declared.fault.FaultKind.TheVariants.{NotUtf8};
 ghost use Rattle.yq_rows.specs.Measured as spec;
-ghost use Rattle.yq_rows.specs.Measured.{measured, measured_view, past};
+ghost use Rattle.yq_rows.specs.Measured.{measured, measured_view, past_node};
 ghost use Rattle.yq_nodes.specs.PlacedReading as reading;
-ghost use Rattle.yq_nodes.specs.Scalars.{style_of as style_at};
+ghost use Rattle.yq_nodes.specs.Scalars.{scalar_style as style_at};
 
 use yq_flow_scalars::{FaultKind, ReadFault};
 use yq_inline::fault::{fault, flow_fault};
@@ -52,14 +52,14 @@ fn kind_of(piece: &str) -> NodeKind
 
 /// Whether the node is nothing, not even an anchor.
 fn is_bare(node: Measured<'_>) -> bool
-    ensures { result ≡ spec.is_bare (node.entry.anchored, node.entry.kind) }
+    ensures { result ≡ spec.is_no_node (node.entry.anchored, node.entry.kind) }
 {
     !node.anchored && matches!(node.kind, NodeKind::Nothing)
 }
 
 /// Whether the node may stand behind an anchor and this gap.
 fn may_follow(gap: &str, node: Measured<'_>) -> bool
-    ensures { result ≡ spec.may_follow gap.now (node.entry.anchored, node.entry.kind) }
+    ensures { result ≡ spec.node_may_follow gap.now (node.entry.anchored, node.entry.kind) }
 {
     (is_bare(node) || !gap.is_empty()) && !node.anchored && !matches!(node.kind, NodeKind::Alias)
 }
@@ -86,7 +86,7 @@ pub fn measure_node<'t>(
     text: &'t str,
 ) -> Result<Measured<'t>, ReadFault>
     ensures shorter { IfOk result (λ m. length m.rest.now ≤ length text.now) }
-    ensures read { Reads measured_view result
+    ensures read { ReadsAs measured_view result
         (measured (reading.placed_node flow spaces 0 depth text.now)) }
     ensures fault { IfErr result (λ f. f.kind ≢ NotUtf8) }
 {
@@ -117,7 +117,7 @@ fn measure_content<'t>(
     text: &'t str,
 ) -> Result<Measured<'t>, ReadFault>
     ensures shorter { IfOk result (λ m. length m.rest.now ≤ length text.now) }
-    ensures read { Reads measured_view result
+    ensures read { ReadsAs measured_view result
         (measured (reading.placed_content flow spaces 0 depth text.now)) }
     ensures fault { IfErr result (λ f. f.kind ≢ NotUtf8) }
 {
@@ -150,8 +150,8 @@ fn measure_collection<'t>(
     text: &'t str,
 ) -> Result<&'t str, ReadFault>
     ensures shorter { IfOk result (λ r. length r.now ≤ length text.now) }
-    ensures read { Reads (λ r. r.now) result
-        (past (reading.placed_coll 0 depth (spec.closing keyed) text.now)) }
+    ensures read { ReadsAs (λ r. r.now) result
+        (past_node (reading.placed_coll 0 depth (spec.closing_byte keyed) text.now)) }
     ensures fault { IfErr result (λ f. f.kind ≢ NotUtf8) }
 {
     let (_, rest) = read_gap(whole, text)?;
@@ -172,7 +172,7 @@ fn measure_part<'t>(
     text: &'t str,
 ) -> Result<&'t str, ReadFault>
     ensures shorter { IfOk result (λ r. length r.now < length text.now) }
-    ensures read { Reads (λ r. r.now) result (spec.past_part keyed depth text.now) }
+    ensures read { ReadsAs (λ r. r.now) result (spec.past_part keyed depth text.now) }
     ensures fault { IfErr result (λ f. f.kind ≢ NotUtf8) }
 {
     if keyed {
@@ -200,8 +200,8 @@ fn measure_parts<'t>(
     text: &'t str,
 ) -> Result<&'t str, ReadFault>
     ensures shorter { IfOk result (λ r. length r.now ≤ length text.now) }
-    ensures read { Reads (λ r. r.now) result
-        (past (reading.placed_items 0 depth (spec.closing keyed) text.now)) }
+    ensures read { ReadsAs (λ r. r.now) result
+        (past_node (reading.placed_items 0 depth (spec.closing_byte keyed) text.now)) }
     ensures fault { IfErr result (λ f. f.kind ≢ NotUtf8) }
 {
     let closing = if keyed { b'}' } else { b']' };

@@ -1,6 +1,6 @@
 //! Rows, read one behind the other.
 ghost use Rattle.std.specs.Prelude.{◌≡◌, ◌≢◌, ◌<◌, ◌≤◌, ◌+◌, ◌++◌, ◌-◌, ◌^◌, ◌==◌, ◌&&◌, ◌||◌, ℕ, List, not, length, true, IfErr, IfOk};
-ghost use Rattle.yq_flow_scalars.specs.Answers.{Gives, IsOfText, Reads};
+ghost use Rattle.yq_flow_scalars.specs.Answers.{Gives, IsOfText, ReadsAs};
 ghost use Rattle.yq_flow_scalars.specs.Text;
 ghost use Rattle.yq_flow_scalars.specs.declared.fault.FaultKind.TheVariants.{NotUtf8};
 ghost use Rattle.yq_cut.specs.Grammar as grammar;
@@ -155,7 +155,7 @@ fn may_begin(is_open: bool, text: &[u8]) -> bool
 
 /// Adds where the rows of a part stand; gives the gap behind them, and what follows. Where no document
 /// is open there may be no rows.
-#[tactic(auto, unfolding(yq_cut::specs::Reading::part_at))]
+#[tactic(auto, unfolding(yq_cut::specs::Reading::read_cut_part))]
 pub(crate) fn read_part<'t>(
     alloc: Global,
     rows: Vec<Offsets>,
@@ -167,10 +167,10 @@ pub(crate) fn read_part<'t>(
     requires stand { Stand whole.now rows.items }
     requires small { length whole.now < 2 ^ 32 }
     ensures found { Gives (λ x. (rows_in whole.now x.0.items, x.1.now, x.2.now)) result
-        (rows_sliced (rows_in whole.now rows.items) (spec.part_at is_open text.now)) }
+        (rows_sliced (rows_in whole.now rows.items) (spec.read_cut_part is_open text.now)) }
     ensures placed { Gives (λ x. x.0.items) result
         (rows_placed rows.items (length whole.now - length text.now)
-        (spec.part_at is_open text.now)) }
+        (spec.read_cut_part is_open text.now)) }
     ensures kept { IfOk result (λ x. Stand whole.now x.0.items) }
     ensures behind { IfOk result (λ x. Ends x.2.now whole.now) }
     ensures fault { IfErr result IsOfText }
@@ -187,7 +187,7 @@ pub(crate) fn read_part<'t>(
 #[tactic(auto, unfolding(yq_cut::specs::Reading::marker_at))]
 pub(crate) fn read_marker<'t>(whole: &str, text: &'t str) -> Result<(&'t str, &'t str), ReadFault>
     requires { Text.is_marker text.now ≡ true }
-    ensures read { Reads (λ x. (x.0.now, x.1.now)) result (spec.marker_at text.now) }
+    ensures read { ReadsAs (λ x. (x.0.now, x.1.now)) result (spec.marker_at text.now) }
     ensures fault { IfErr result (λ f. f.kind ≢ NotUtf8) }
 {
     match find_tail(text.split_at(3).1) {

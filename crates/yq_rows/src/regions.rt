@@ -2,9 +2,9 @@
 ghost use Rattle.std.specs.Prelude.{◌≡◌, ◌<◌, ◌^◌, List, [], Some, length, true};
 ghost use Rattle.yq_flow_scalars.specs.Answers.{Gives};
 ghost use Rattle.yq_cut.specs.Items.{Item, items_text, view_of_items};
-ghost use Rattle.yq_cut.specs.Regions.{IsReadAlone, alone};
+ghost use Rattle.yq_cut.specs.Regions.{IsReadAlone, region_items};
 ghost use Rattle.yq_cut.specs.Slicing.{read_view};
-ghost use Rattle.yq_cut.specs.Meter.{counted, line_count};
+ghost use Rattle.yq_cut.specs.Meter.{count_after, line_count};
 ghost use Rattle.yq_cut.specs.Reading.{all_parts};
 
 use crate::meter::{Meter, count_lines};
@@ -25,8 +25,8 @@ pub fn read_region<'t>(
     ensures exact { Gives (λ s. s) result (read_view (all_parts true text.now)) }
     // The text of items that are read alone gives these.
     ensures alone { (xs back : List Item) → IsReadAlone xs back → text.now ≡ items_text xs [] →
-        Gives (λ s. s) result (Some (view_of_items (alone xs back))) }
-    ensures counted { meter.new ≡ counted (line_count text.now) meter.old }
+        Gives (λ s. s) result (Some (view_of_items (region_items xs back))) }
+    ensures counted { meter.new ≡ count_after (line_count text.now) meter.old }
 {
     count_lines(text, meter);
     cut(alloc, text)

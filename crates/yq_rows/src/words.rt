@@ -1,6 +1,6 @@
 //! What a letter or a digit in front tells.
 ghost use Rattle.std.specs.Prelude.{◌≡◌, ◌≢◌, IfErr, false};
-ghost use Rattle.yq_flow_scalars.specs.Answers.{Reads};
+ghost use Rattle.yq_flow_scalars.specs.Answers.{ReadsAs};
 ghost use Rattle.yq_flow_scalars.specs.Text.{front};
 ghost use Rattle.yq_flow_scalars.specs.declared.fault.FaultKind.TheVariants.{NotUtf8};
 ghost use Rattle.yq_nodes.specs.Reading as inline;
@@ -12,7 +12,7 @@ use yq_inline::pieces::read_scalar;
 
 /// Whether a letter or a digit is in front.
 pub(crate) fn begins_word(text: &[u8]) -> bool
-    ensures { result ≡ front spec.is_word text.now }
+    ensures { result ≡ front spec.is_alphanumeric text.now }
 {
     matches!(text, [b'a'..=b'z' | b'A'..=b'Z' | b'0'..=b'9', ..])
 }
@@ -25,7 +25,7 @@ pub(crate) fn read_front<'t>(
     whole: &str,
     text: &'t str,
 ) -> Result<(&'t str, &'t str), ReadFault>
-    ensures read { Reads (λ x. (x.0.now, x.1.now)) result (inline.scalar_at false spaces text.now) }
+    ensures read { ReadsAs (λ x. (x.0.now, x.1.now)) result (inline.read_scalar false spaces text.now) }
     ensures fault { IfErr result (λ f. f.kind ≢ NotUtf8) }
 {
     if begins_word(text.as_bytes()) {

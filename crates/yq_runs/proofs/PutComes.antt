@@ -19,11 +19,11 @@ use Rattle.yq_meaning.specs.declared.refusal.Refusal.TheVariants.{TooLarge}
 use Rattle.yq_script.specs.Exchanging as exchange
 use Rattle.yq_script.specs.Script.{Segment, changes, keep, new_text, put, splice_at}
 use Rattle.yq_script.proofs.ScriptLaws.{kept_changes}
-use Rattle.yq_edits.specs.Edits.{edits, or_stay}
+use Rattle.yq_edits.specs.Edits.{op_edits, or_stay}
 use Rattle.yq_edits.specs.FlowParts.{flow_put, flow_segments}
 use Rattle.yq_edits.specs.Layouts.{layout_of}
 use Rattle.yq_edits.specs.ReplaceEdits.{has_text, value_put}
-use Rattle.yq_edits.specs.Replacing.{is_kept}
+use Rattle.yq_edits.specs.Replacing.{keeps_scalar}
 use Rattle.yq_outcomes.specs.PartPuts.{put_edit}
 use Rattle.yq_outcomes.proofs.CutLaws.{cut_read}
 use Rattle.yq_outcomes.proofs.FlowEditLaws.{before_is}
@@ -89,20 +89,20 @@ module _ (d : Cut) (n : ℕ) (path : List Step) (v : Node) (read : read_at (cut_
   no_block : option_map (value_put (has_text (node_in n path d)) (layout_of n d) v) (standing_at n path d) ≡ None
   no_block = ap (λ (o : Option Standing). option_map (value_put (has_text (node_in n path d)) (layout_of n d) v) o) (none_there d n path a)
 
-  by_kept : (b : Bool) → is_kept (Some (tree_of a.item.node)) v ≡ b → edits (replace n path v) d ≡ cond b (Some (keep t ∷ [])) (Some (flow_put t v part))
+  by_kept : (b : Bool) → keeps_scalar (Some (tree_of a.item.node)) v ≡ b → op_edits (replace n path v) d ≡ cond b (Some (keep t ∷ [])) (Some (flow_put t v part))
   by_kept b kept =
-      (λ i. cond ((ap (λ (o : Option Node). is_kept o v) (part_node d n path a read) ∙ kept) i) (Some (keep t ∷ [])) (option_or (no_block i) (option_map (flow_put t v) (there i))))
+      (λ i. cond ((ap (λ (o : Option Node). keeps_scalar o v) (part_node d n path a read) ∙ kept) i) (Some (keep t ∷ [])) (option_or (no_block i) (option_map (flow_put t v) (there i))))
 
-  comes : (ss : List Segment) → edits (replace n path v) d ≡ Some ss → carried (replace n path v) t ≡ edit_of_segments ss
+  comes : (ss : List Segment) → op_edits (replace n path v) d ≡ Some ss → carried (replace n path v) t ≡ edit_of_segments ss
   comes ss is = ap (by_reading (carry_one (replace n path v))) read ∙ ap (λ (o : Option (List Segment)). edit_of_segments (or_stay d o)) is
 
   -- an equal scalar
-  pub kept_comes : is_kept (Some (tree_of a.item.node)) v ≡ true → carried (replace n path v) t ≡ gives t []
+  pub kept_comes : keeps_scalar (Some (tree_of a.item.node)) v ≡ true → carried (replace n path v) t ≡ gives t []
   kept_comes kept =
       comes (keep t ∷ []) (by_kept true kept)
       ∙ ((λ i. exchange_edit (cond (leb (length (append-nil t i)) text_limit) (exchange.gives (append-nil t i) (kept_changes (keep t ∷ []) (tt, tt) i)) exchange.too_large))
       ∙ ap (λ (b : Bool). exchange_edit (cond b (exchange.gives t []) exchange.too_large)) (le-leb (length t) text_limit (cut_read t d read).size))
 
   -- another value
-  pub put_comes : is_kept (Some (tree_of a.item.node)) v ≡ false → carried (replace n path v) t ≡ edit_of_segments (flow_segments t (put_edit v part))
+  pub put_comes : keeps_scalar (Some (tree_of a.item.node)) v ≡ false → carried (replace n path v) t ≡ edit_of_segments (flow_segments t (put_edit v part))
   put_comes other = comes (flow_put t v part) (by_kept false other)

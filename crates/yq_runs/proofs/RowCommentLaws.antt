@@ -7,7 +7,7 @@ use Rattle.yq_flow_scalars.specs.Paths.{Step}
 use Rattle.yq_cut.specs.Rows.{Cut, cut_text}
 use Rattle.yq_cut.specs.View.{slices}
 use Rattle.yq_documents.specs.Reading.{cut_of, read_at}
-use Rattle.yq_row_places.specs.CommentPlaces.{LineEnd, end_before}
+use Rattle.yq_row_places.specs.CommentPlaces.{LineEnd, end_in_line}
 use Rattle.yq_row_places.specs.StandingViews.{IsHeldRow}
 use Rattle.yq_row_places.specs.declared.places.held_row.HeldRow.{HeldRow}
 use Rattle.yq_row_places.specs.Standings.{Held, RowsOfEntry, held, rows_of_entry}
@@ -82,12 +82,12 @@ module _ (n : ℕ) (s : Step) (ss : List Step) (text : List ℕ) (c : Cut) (e : 
       subst (IsCharBoundary (cut_text c)) (length-append (comment_front text (held e)) (comment_old text (held e))) (IsCharBoundary-at_seam (cut_text c) (comment_front text (held e) ++ comment_old text (held e)) _ apart below.utf8)
 
 -- the end of the line of a key or dash whose line is the last one of its row
-end_there : (e : RowsOfEntry) (x : HeldRow) → x.tail.now ≡ (slices e.row).tail → end_before [] x.tail.now ≡ end_before [] (slices e.row).tail
-end_there e x same = ap (end_before []) same
+end_there : (e : RowsOfEntry) (x : HeldRow) → x.tail.now ≡ (slices e.row).tail → end_in_line [] x.tail.now ≡ end_in_line [] (slices e.row).tail
+end_there e x same = ap (end_in_line []) same
 
 -- what the code tells of a line comment that is put in a row
 pub comment_puts_there : (t : List ℕ) (n : ℕ) (steps : List Step) (text white comment : List ℕ) (x : HeldRow) (put : RowPut) → read_at t ≡ Some (cut_of t) → IsHeldRow n steps (cut_of t) x → HasOperand (line_comment n steps text) →
-    white ≡ (end_before [] x.tail.now).white → comment ≡ (end_before [] x.tail.now).comment → put.doc ≡ n → put.row ≡ x.row → put.start ≡ (x.start + length x.head.now) + length (white_left text white comment) →
+    white ≡ (end_in_line [] x.tail.now).white → comment ≡ (end_in_line [] x.tail.now).comment → put.doc ≡ n → put.row ≡ x.row → put.start ≡ (x.start + length x.head.now) + length (white_left text white comment) →
     put.end ≡ (x.start + length x.head.now) + (length white + length comment) → bytes_in string_bytes put.written ≡ Some (comment_written text comment) → PutsInRow (line_comment n steps text) (cut_of t) put
 comment_puts_there t n [] text white comment x put read is operand whites comments doc row start finish written = absurd (no_root_rows n (cut_of t) is.entry is.found)
 comment_puts_there t n (s ∷ ss) text white comment x put read is operand whites comments doc row start finish written =
@@ -135,7 +135,7 @@ comment_puts_there t n (s ∷ ss) text white comment x put read is operand white
     taken false u v = omega (arith)
 
 -- the text up to the end of a line comment is no longer than a text may be
-pub comment_fits : (t : List ℕ) (n : ℕ) (steps : List Step) (white comment : List ℕ) (x : HeldRow) → read_at t ≡ Some (cut_of t) → IsHeldRow n steps (cut_of t) x → white ≡ (end_before [] x.tail.now).white → comment ≡ (end_before [] x.tail.now).comment →
+pub comment_fits : (t : List ℕ) (n : ℕ) (steps : List Step) (white comment : List ℕ) (x : HeldRow) → read_at t ≡ Some (cut_of t) → IsHeldRow n steps (cut_of t) x → white ≡ (end_in_line [] x.tail.now).white → comment ≡ (end_in_line [] x.tail.now).comment →
     (x.start + length x.head.now) + (length white + length comment) ≤ text_limit
 comment_fits t n [] white comment x read is whites comments = absurd (no_root_rows n (cut_of t) is.entry is.found)
 comment_fits t n (s ∷ ss) white comment x read is whites comments =

@@ -13,7 +13,7 @@ use Rattle.yq_cut.specs.Rows.{Cut, cut_text, parent_indent, rows_text}
 use Rattle.yq_cut.specs.View.{slices}
 use Rattle.yq_lines.specs.Lines.{content_anchor, head_of}
 use Rattle.yq_documents.specs.Reading.{cut_of, read_at}
-use Rattle.yq_row_places.specs.CommentPlaces.{end_before}
+use Rattle.yq_row_places.specs.CommentPlaces.{end_in_line}
 use Rattle.yq_row_places.specs.StandingViews.{IsHeldRow}
 use Rattle.yq_row_places.specs.declared.places.held_row.HeldRow.{HeldRow}
 use Rattle.yq_row_places.specs.NodesAt.{node_in}
@@ -30,9 +30,9 @@ use Rattle.yq_change.proofs.TextPieceLaws.{pieces_joined}
 use Rattle.yq_block.specs.BlockReading.{is_filled}
 use Rattle.yq_meaning.specs.Operations.{replace}
 use Rattle.yq_script.specs.Script.{keep}
-use Rattle.yq_edits.specs.Edits.{edits}
+use Rattle.yq_edits.specs.Edits.{op_edits}
 use Rattle.yq_edits.specs.Operands.{HasOperand}
-use Rattle.yq_edits.specs.Replacing.{is_kept}
+use Rattle.yq_edits.specs.Replacing.{keeps_scalar}
 use Rattle.yq_edits.specs.RowChanges.{HoldsInline, inline_put}
 use Rattle.yq_edits.specs.WrittenValues.{value_text}
 use Rattle.yq_edits.proofs.HeldPieces.{held_spells}
@@ -57,7 +57,7 @@ module _ (m : ℕ) (s : Step) (ss : List Step) (d : Cut) (e : RowsOfEntry) (read
   none_below = λ i. no_raw e.row.content h.block i ++ rows_text (headless_there m s ss d e there h.last h.some i) []
 
   pub no_break : (held e).break ≡ []
-  no_break = ap (λ (b : List ℕ). cond (is_empty b) [] (end_before [] (slices e.row).tail).behind) none_below
+  no_break = ap (λ (b : List ℕ). cond (is_empty b) [] (end_in_line [] (slices e.row).tail).behind) none_below
 
   pub no_lines : (held e).lines ≡ []
   unfolding less_break
@@ -82,17 +82,17 @@ module _ (m : ℕ) (s : Step) (ss : List Step) (v : Node) (c : Cut) (e : RowsOfE
         let x : (y : Node) × (head_of e.row.content ≡ Some y) = head m s ss c e read at h in
         node_there m s ss d now read_d still.found holds x.0 x.1 ∙ sym (node_there m s ss c e read at h x.0 x.1)
 
-    by_kept : (b : Bool) → is_kept (node_in m (s ∷ ss) c) v ≡ b → edits (replace m (s ∷ ss) v) d ≡ cond b (Some (keep (cut_text d) ∷ [])) (Some (inline_put v (held now)))
+    by_kept : (b : Bool) → keeps_scalar (node_in m (s ∷ ss) c) v ≡ b → op_edits (replace m (s ∷ ss) v) d ≡ cond b (Some (keep (cut_text d) ∷ [])) (Some (inline_put v (held now)))
     by_kept b kept =
         row_edits.inline m s ss v d now still.found holds plain
-        ∙ ap (λ (k : Bool). cond k (Some (keep (cut_text d) ∷ [])) (Some (inline_put v (held now)))) (ap (λ (o : Option Node). is_kept o v) same_node ∙ kept)
+        ∙ ap (λ (k : Bool). cond k (Some (keep (cut_text d) ∷ [])) (Some (inline_put v (held now)))) (ap (λ (o : Option Node). keeps_scalar o v) same_node ∙ kept)
 
     -- an equal scalar
-    pub value_stays : is_kept (node_in m (s ∷ ss) c) v ≡ true → edits (replace m (s ∷ ss) v) d ≡ Some (keep (cut_text d) ∷ [])
+    pub value_stays : keeps_scalar (node_in m (s ∷ ss) c) v ≡ true → op_edits (replace m (s ∷ ss) v) d ≡ Some (keep (cut_text d) ∷ [])
     value_stays = by_kept true
 
     -- another value
-    pub value_comes : is_kept (node_in m (s ∷ ss) c) v ≡ false → PutsText (replace m (s ∷ ss) v) d now (held e).head (value_text InBlock (held e).head v) ((held e).white ++ ((held e).comment ++ ((held e).last ++ (held e).behind)))
+    pub value_comes : keeps_scalar (node_in m (s ∷ ss) c) v ≡ false → PutsText (replace m (s ∷ ss) v) d now (held e).head (value_text InBlock (held e).head v) ((held e).white ++ ((held e).comment ++ ((held e).last ++ (held e).behind)))
     value_comes other =
         let edited = by_kept false other in
         record {

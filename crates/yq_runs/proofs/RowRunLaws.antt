@@ -15,7 +15,7 @@ use Rattle.yq_change.specs.Appends.{inserted}
 use Rattle.yq_change.specs.Changed.{put_document}
 use Rattle.yq_change.specs.RowStays.{IsBehind, StandsStill, StaysFrom}
 use Rattle.yq_change.proofs.RowStayLaws.{rows_stay_there}
-use Rattle.yq_meaning.specs.After.{document_of}
+use Rattle.yq_meaning.specs.After.{op_document}
 use Rattle.yq_meaning.specs.Fits.{Fits}
 use Rattle.yq_meaning.specs.Operations.{Operation}
 use Rattle.yq_meaning.specs.Rooms.{room_of}
@@ -23,14 +23,14 @@ use Rattle.yq_meaning.specs.declared.refusal.Refusal.TheVariants.{TooLarge}
 use Rattle.yq_script.specs.Exchanging as exchange
 use Rattle.yq_script.specs.Script.{Segment, changes, keep, new_text, splice_at}
 use Rattle.yq_script.proofs.ScriptLaws.{kept_changes}
-use Rattle.yq_edits.specs.Edits.{edits, or_stay}
+use Rattle.yq_edits.specs.Edits.{op_edits, or_stay}
 use Rattle.yq_edits.specs.Operands.{HasOperand}
 use Rattle.yq_edits.specs.RowChanges.{ChangesRow}
 use Rattle.yq_outcomes.proofs.CutLaws.{cut_read, text_read}
 use Rattle.yq_outcomes.specs.Carried.{carried, carry_one}
 use Rattle.yq_outcomes.specs.Edit.{by_reading, edit_of_segments, exchange_edit, gives, refuses}
 use Rattle.yq_runs.specs.RowRuns.{IsRowRun, PutsText, rows_still}
-use Rattle.yq_runs.specs.Runs.{run_text}
+use Rattle.yq_runs.specs.Runs.{text_after_run}
 use Rattle.yq_outcomes.specs.Theorems.{IsFitting}
 use Rattle.yq_outcomes.proofs.ApplyLaws.{fits}
 
@@ -44,13 +44,13 @@ behind_both k n m i l j (inr a) (inr b) = inr (a.0 ∙ b.0, omega (arith, a.1, b
 sized : (k n m i j : ℕ) → i ≡ j → IsBehind k n m i → IsBehind k n m j
 sized k n m i j e h = subst (λ (x : ℕ). IsBehind k n m x) e h
 
-module _ (c : Cut) (k n : ℕ) (out : List ℕ) (done : ℕ) (run : IsRowRun c k n out done) (op : Operation) (steps : List Step) (e : RowsOfEntry) (at : rows_of_entry (document_of op) steps c ≡ Some e) (later : IsBehind k n (document_of op) (length e.front)) where
+module _ (c : Cut) (k n : ℕ) (out : List ℕ) (done : ℕ) (run : IsRowRun c k n out done) (op : Operation) (steps : List Step) (e : RowsOfEntry) (at : rows_of_entry (op_document op) steps c ≡ Some e) (later : IsBehind k n (op_document op) (length e.front)) where
   -- the rows in the text as it is now
-  abbrev pub still : StandsStill e (document_of op) steps run.cut
-  still = run.stays (document_of op) steps e at later
+  abbrev pub still : StandsStill e (op_document op) steps run.cut
+  still = run.stays (op_document op) steps e at later
 
   abbrev now : List ℕ
-  now = run_text (cut_text c) out done
+  now = text_after_run (cut_text c) out done
 
   pub text_now : cut_text run.cut ≡ now
   text_now = text_read now run.cut run.read
@@ -58,11 +58,11 @@ module _ (c : Cut) (k n : ℕ) (out : List ℕ) (done : ℕ) (run : IsRowRun c k
   pub read_now : read_at (cut_text run.cut) ≡ Some run.cut
   read_now = ap read_at text_now ∙ run.read
 
-  comes : (ss : List Segment) → edits op run.cut ≡ Some ss → carried op now ≡ edit_of_segments ss
+  comes : (ss : List Segment) → op_edits op run.cut ≡ Some ss → carried op now ≡ edit_of_segments ss
   comes ss edited = ap (by_reading (carry_one op)) run.read ∙ ap (λ (o : Option (List Segment)). edit_of_segments (or_stay run.cut o)) edited
 
   -- all bytes stay
-  pub row_stays : edits op run.cut ≡ Some (keep (cut_text run.cut) ∷ []) → carried op now ≡ gives now []
+  pub row_stays : op_edits op run.cut ≡ Some (keep (cut_text run.cut) ∷ []) → carried op now ≡ gives now []
   row_stays edited =
       let t : List ℕ = cut_text run.cut in
       comes (keep t ∷ []) edited
@@ -118,28 +118,28 @@ module _ (c : Cut) (k n : ℕ) (out : List ℕ) (done : ℕ) (run : IsRowRun c k
         let upto : take finish t ≡ before ++ old = (λ i. take (size i) (apart i)) ∙ take-append_seam (before ++ old) behind in
         ap (drop start) upto ∙ drop-append_seam before old
 
-    new_is : new_text ss ≡ run_text t new_out finish
+    new_is : new_text ss ≡ text_after_run t new_out finish
     new_is = x.puts.new_is ∙ ((λ i. front_is i ++ (new ++ sym left_is i)) ∙ sym (append_assoc new_front new (drop finish t)))
 
     changes_are : changes ss ≡ splice_at (length new_front) old new
     changes_are = x.puts.changes_are ∙ ap (λ (u : List ℕ). splice_at (length u) old new) front_is
 
-    pub row_put_comes : length (run_text t new_out finish) ≤ text_limit → carried op now ≡ gives (run_text t new_out finish) (splice_at (length new_front) old new)
+    pub row_put_comes : length (text_after_run t new_out finish) ≤ text_limit → carried op now ≡ gives (text_after_run t new_out finish) (splice_at (length new_front) old new)
     row_put_comes small =
         comes ss x.edited
         ∙ ((λ i. exchange_edit (cond (leb (length (new_is i)) text_limit) (exchange.gives (new_is i) (changes_are i)) exchange.too_large))
-        ∙ ap (λ (b : Bool). exchange_edit (cond b (exchange.gives (run_text t new_out finish) (splice_at (length new_front) old new)) exchange.too_large)) (le-leb (length (run_text t new_out finish)) text_limit small))
+        ∙ ap (λ (b : Bool). exchange_edit (cond b (exchange.gives (text_after_run t new_out finish) (splice_at (length new_front) old new)) exchange.too_large)) (le-leb (length (text_after_run t new_out finish)) text_limit small))
 
-    pub row_put_large : text_limit < length (run_text t new_out finish) → carried op now ≡ refuses TooLarge
+    pub row_put_large : text_limit < length (text_after_run t new_out finish) → carried op now ≡ refuses TooLarge
     row_put_large large =
         comes ss x.edited
         ∙ ((λ i. exchange_edit (cond (leb (length (new_is i)) text_limit) (exchange.gives (new_is i) (changes_are i)) exchange.too_large))
-        ∙ ap (λ (b : Bool). exchange_edit (cond b (exchange.gives (run_text t new_out finish) (splice_at (length new_front) old new)) exchange.too_large)) (lt-leb (length (run_text t new_out finish)) text_limit large))
+        ∙ ap (λ (b : Bool). exchange_edit (cond b (exchange.gives (text_after_run t new_out finish) (splice_at (length new_front) old new)) exchange.too_large)) (lt-leb (length (text_after_run t new_out finish)) text_limit large))
 
     -- the run goes on behind it
-    pub row_goes_on : IsCharBoundary t finish → HasOperand op → IsFitting op now → length (run_text t new_out finish) ≤ text_limit → IsRowRun c (document_of op) (suc (length e.front)) new_out finish
+    pub row_goes_on : IsCharBoundary t finish → HasOperand op → IsFitting op now → length (text_after_run t new_out finish) ≤ text_limit → IsRowRun c (op_document op) (suc (length e.front)) new_out finish
     row_goes_on edge operand fitting small =
-        let m : ℕ = document_of op in
+        let m : ℕ = op_document op in
         let same : fitting.read.parts ≡ run.cut = same_Some _ _ (sym (parts_read now fitting.before fitting.read).0 ∙ run.read) in
         let fit : Fits (room_of (cut_text run.cut)) op (documents run.cut) = subst (λ (d : Cut). Fits (room_of (cut_text d)) op (documents d)) same (fits op now operand fitting) in
         let y : ChangesRow m run.cut (rows_still e still) ss = x.changes operand fit (omega (arith, small, ap length new_is)) in

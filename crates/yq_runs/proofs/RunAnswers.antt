@@ -8,7 +8,7 @@ use Rattle.std.specs.Str.{IsCharBoundary}
 use Rattle.std.specs.declared.alloc.Global.{Global}
 use Rattle.yq_flow_scalars.specs.Paths.{Step}
 use Rattle.yq_flow_scalars.specs.Tree.{Node}
-use Rattle.yq_nodes.specs.Entries.{step_of}
+use Rattle.yq_nodes.specs.Entries.{tree_step}
 use Rattle.yq_nodes.specs.declared.path.Step as declared
 use Rattle.yq_flow.specs.FlowPlaces.{edit_view}
 use Rattle.yq_cut.specs.Rows.{Cut, cut_text}
@@ -21,16 +21,16 @@ use Rattle.yq_meaning.specs.Operations.{Operation, replace}
 use Rattle.yq_script.specs.Script.{splice_at}
 use Rattle.yq_script.specs.Splice.{Splice}
 use Rattle.yq_edits.specs.Operands.{HasOperand}
-use Rattle.yq_edits.specs.Replacing.{is_kept}
+use Rattle.yq_edits.specs.Replacing.{keeps_scalar}
 use Rattle.yq_outcomes.specs.EditPlaces.{LiesIn, moved_on}
-use Rattle.yq_outcomes.specs.PartPuts.{IsHeadOf, ArePuts, IsWritten, put_edit}
+use Rattle.yq_outcomes.specs.PartPuts.{IsHeadOfPath, ArePuts, IsWrittenPart, put_edit}
 use Rattle.yq_outcomes.specs.declared.put.PartPut.{PartPut}
 use Rattle.yq_outcomes.proofs.CutLaws.{text_read}
 use Rattle.yq_outcomes.proofs.FlowAnswers.{whole_text}
 use Rattle.yq_outcomes.specs.Answers.{EditFails}
 use Rattle.yq_outcomes.specs.Carried.{carried}
 use Rattle.yq_outcomes.specs.Edit.{gives, refuses}
-use Rattle.yq_runs.specs.Runs.{EndsAt, EndsIn, HasPut, IsRun, PutFails, PutsAt, Runs, RunsOn, now_text, run_front, run_text}
+use Rattle.yq_runs.specs.Runs.{EndsAt, EndsInCollection, HasPut, IsPutRun, PutFails, PutsAt, Runs, RunsOn, now_text, run_front, text_after_run}
 use Rattle.yq_outcomes.specs.Theorems.{IsFitting}
 use Rattle.yq_outcomes.specs.declared.edit_error.EditError.{EditError}
 use Rattle.yq_outcomes.specs.declared.edit_error.EditError.TheVariants as error
@@ -40,7 +40,7 @@ use Rattle.yq_runs.proofs.RunLaws.{goes_on, kept_there, large_there, put_there}
 use Rattle.yq_outcomes.proofs.TextFaults.{text_utf8}
 
 -- a run of nothing
-pub run_begins : (t : List ℕ) (n : ℕ) (stem : List Step) → read_at t ≡ Some (cut_of t) → LeadsToHead (cut_of t) n stem → IsRun (cut_of t) n stem [] 0
+pub run_begins : (t : List ℕ) (n : ℕ) (stem : List Step) → read_at t ≡ Some (cut_of t) → LeadsToHead (cut_of t) n stem → IsPutRun (cut_of t) n stem [] 0
 run_begins t n stem read leads =
     let same : cut_text (cut_of t) ≡ t = text_read t (cut_of t) read in
     record {
@@ -56,31 +56,31 @@ run_begins t n stem read leads =
 pub begins : (t : List ℕ) (n : ℕ) (stem : List Step) (r : Run) → read_at t ≡ Some (cut_of t) → LeadsToHead (cut_of t) n stem →
     string_bytes r.text ≡ [] → r.done ≡ 0 → Runs (cut_of t) n stem r
 begins t n stem r read leads text done =
-    subst (λ (d : ℕ). IsRun (cut_of t) n stem (string_bytes r.text) d) (sym done)
-    (subst (λ (l : List ℕ). IsRun (cut_of t) n stem l 0) (sym text) (run_begins t n stem read leads))
+    subst (λ (d : ℕ). IsPutRun (cut_of t) n stem (string_bytes r.text) d) (sym done)
+    (subst (λ (l : List ℕ). IsPutRun (cut_of t) n stem l 0) (sym text) (run_begins t n stem read leads))
 
 -- the text of a run in which nothing was put
 pub begins_with : (t : List ℕ) (r : Run) → read_at t ≡ Some (cut_of t) → string_bytes r.text ≡ [] → r.done ≡ 0 → now_text (cut_of t) r ≡ t
-begins_with t r read text done = (λ i. run_text (cut_text (cut_of t)) (text i) (done i)) ∙ text_read t (cut_of t) read
+begins_with t r read text done = (λ i. text_after_run (cut_text (cut_of t)) (text i) (done i)) ∙ text_read t (cut_of t) read
 
 -- a path ends there, if the steps above its last one are those to the head and others
 pub ends_there : (path above stem left : List Step) (s : Step) → Some (above, s) ≡ last_step path → above ≡ stem ++ left → EndsAt stem left path
 ends_there path above stem left s last same = (s, sym last ∙ ap (λ (ss : List Step). Some (ss, s)) same)
 
 -- the steps to a head, by how many go on in it
-pub stem_is : (above left : List declared.Step) (stem : List Step) (n : ℕ) → map step_of above ≡ stem ++ map step_of left → n ≡ length above - length left → map step_of (take n above) ≡ stem
+pub stem_is : (above left : List declared.Step) (stem : List Step) (n : ℕ) → map tree_step above ≡ stem ++ map tree_step left → n ≡ length above - length left → map tree_step (take n above) ≡ stem
 stem_is above left stem n same size =
-    let long : length stem ≡ n = omega (arith, size, ap length same, length-append stem (map step_of left), length-map above step_of, length-map left step_of) in
-    sym (take-map step_of n above) ∙ ((λ i. take (sym long i) (same i)) ∙ take-append_seam stem (map step_of left))
+    let long : length stem ≡ n = omega (arith, size, ap length same, length-append stem (map tree_step left), length-map above tree_step, length-map left tree_step) in
+    sym (take-map tree_step n above) ∙ ((λ i. take (sym long i) (same i)) ∙ take-append_seam stem (map tree_step left))
 
 -- the head is that of the collection there, once it has the steps that go on to it
-pub head_there : (t : List ℕ) (m n : ℕ) (stem path : List Step) (x y : FlowHead) → ReportsHead t (cut_of t) n stem x → (m ≡ n) × EndsAt stem (map step_of y.left.now) path → y.node ≡ x.node → y.text ≡ x.text → y.before ≡ x.before → IsHeadOf m (last_step path) t y
+pub head_there : (t : List ℕ) (m n : ℕ) (stem path : List Step) (x y : FlowHead) → ReportsHead t (cut_of t) n stem x → (m ≡ n) × EndsAt stem (map tree_step y.left.now) path → y.node ≡ x.node → y.text ≡ x.text → y.before ≡ x.before → IsHeadOfPath m (last_step path) t y
 head_there t m n stem path x y head ends node text before =
-    subst (λ (k : ℕ). IsHeadOf k (last_step path) t y) (sym ends.0) (subst (λ (o : Option (List Step × Step)). IsHeadOf n o t y) (sym ends.1.1) (head.reports y node text before))
+    subst (λ (k : ℕ). IsHeadOfPath k (last_step path) t y) (sym ends.0) (subst (λ (o : Option (List Step × Step)). IsHeadOfPath n o t y) (sym ends.1.1) (head.reports y node text before))
 
 -- a value is put at a part in that collection
 pub puts_at : {E : Type 0} (t : List ℕ) (m n : ℕ) (stem : List Step) (op : Operation) (path : List Step) (v : Node) (x : FlowHead) →
-    op ≡ replace m path v → HasOperand op → (m ≡ n) × EndsIn stem path → (r : Result (Option PartPut) E) → IfOk r (λ o. ArePuts m path v (cut_of t) x o) →
+    op ≡ replace m path v → HasOperand op → (m ≡ n) × EndsInCollection stem path → (r : Result (Option PartPut) E) → IfOk r (λ o. ArePuts m path v (cut_of t) x o) →
     IfOk r (λ o. IfSome o (λ p. PutsAt op t n stem x p))
 puts_at t m n stem op path v x is operand beside (Ok None) h = tt
 puts_at t m n stem op path v x is operand beside (Ok (Some p)) h =
@@ -132,7 +132,7 @@ module _ (t u : List ℕ) (n : ℕ) (steps : List Step) (op : Operation) (before
   -- an equal scalar
   pub kept_on : p.written ≡ None → RunsOn op c n steps before before
   kept_on none =
-      let kept = subst (IsWritten (node_in n h.path c) h.value h.part) none h.written in
+      let kept = subst (IsWrittenPart (node_in n h.path c) h.value h.part) none h.written in
       let comes = kept_there c n steps h.path h.value (string_bytes before.text) before.done again run h.ends h.part h.standing x p.place h.placed behind passes kept in
       runs_so before (record { new_bytes = []; comes = comes; applied = applied_by own now h.valid own_fits now [] comes; splices = sym (append-nil before.splices.items); run = run })
 
@@ -149,15 +149,15 @@ module _ (t u : List ℕ) (n : ℕ) (steps : List Step) (op : Operation) (before
     whole_is : u ≡ cut_text c
     whole_is = whole_text t u read all
 
-    is : (is_kept (node_in n h.path c) h.value ≡ false) × (string_bytes s ≡ (put_edit h.value h.part).written)
-    is = subst (IsWritten (node_in n h.path c) h.value h.part) some h.written
+    is : (keeps_scalar (node_in n h.path c) h.value ≡ false) × (string_bytes s ≡ (put_edit h.value h.part).written)
+    is = subst (IsWrittenPart (node_in n h.path c) h.value h.part) some h.written
 
     -- another value
     pub put_on : (after : Run) → HasPut u start finish new before after → RunsOn op c n steps before after
     put_on after has_put =
         let a : HasPut (cut_text c) start finish new before after = subst (λ (l : List ℕ). HasPut l start finish new before after) whole_is has_put in
         let cs : List Splice = splice_at (length (run_front (cut_text c) before start)) (drop start (take finish (cut_text c))) new in
-        let text : run_text (cut_text c) (run_front (cut_text c) before start ++ new) finish ≡ now_text c after = λ i. run_text (cut_text c) (sym a.text i) (sym a.done i) in
+        let text : text_after_run (cut_text c) (run_front (cut_text c) before start ++ new) finish ≡ now_text c after = λ i. text_after_run (cut_text c) (sym a.text i) (sym a.done i) in
         let comes : carried own now ≡ gives (now_text c after) cs =
         put_there c n steps h.path h.value (string_bytes before.text) before.done again run h.ends h.part h.standing x p.place h.placed behind passes (string_bytes s) is.0 is.1 a.size
         ∙ ap (λ (l : List ℕ). gives l cs) text in
@@ -167,7 +167,7 @@ module _ (t u : List ℕ) (n : ℕ) (steps : List Step) (op : Operation) (before
           comes = comes;
           applied = applied_by own now h.valid own_fits (now_text c after) cs comes;
           splices = a.splices;
-          run = subst (λ (d : ℕ). IsRun c n steps (string_bytes after.text) d) (sym a.done) (subst (λ (l : List ℕ). IsRun c n steps l finish) (sym a.text) on);
+          run = subst (λ (d : ℕ). IsPutRun c n steps (string_bytes after.text) d) (sym a.done) (subst (λ (l : List ℕ). IsPutRun c n steps l finish) (sym a.text) on);
         })
 
     large : (e : EditError) → PutFails e (cut_text c) start finish new before → EditFails e (carried own now)

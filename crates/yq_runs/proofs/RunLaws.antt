@@ -31,15 +31,15 @@ use Rattle.yq_meaning.specs.declared.refusal.Refusal.TheVariants.{TooLarge}
 use Rattle.yq_script.specs.Script.{new_text, splice_at}
 use Rattle.yq_script.specs.Splice.{Splice}
 use Rattle.yq_edits.specs.FlowParts.{flow_segments}
-use Rattle.yq_edits.specs.Replacing.{is_kept}
-use Rattle.yq_outcomes.specs.PartPuts.{IsPart, IsPlaceOf, put_edit}
+use Rattle.yq_edits.specs.Replacing.{keeps_scalar}
+use Rattle.yq_outcomes.specs.PartPuts.{IsPartOf, IsPlaceOf, put_edit}
 use Rattle.yq_outcomes.proofs.CutLaws.{text_read}
 use Rattle.yq_outcomes.proofs.FlowPartNodes.{part_node}
 use Rattle.yq_outcomes.proofs.FlowPutLaws.{head_behind, next, part_behind, replaced_reads}
 use Rattle.yq_outcomes.proofs.FlowStandings.{EntryAt, entry_found}
 use Rattle.yq_outcomes.specs.Carried.{carried}
 use Rattle.yq_outcomes.specs.Edit.{edit_of_segments, gives, refuses}
-use Rattle.yq_runs.specs.Runs.{EndsIn, IsRun, run_text}
+use Rattle.yq_runs.specs.Runs.{EndsInCollection, IsPutRun, text_after_run}
 use Rattle.yq_outcomes.specs.Theorems.{IsFitting}
 use Rattle.yq_outcomes.proofs.ApplyLaws.{fits}
 use Rattle.yq_runs.proofs.PutComes.{kept_comes, made_text, new_is, put_comes, segments_come, segments_large}
@@ -48,14 +48,14 @@ use Rattle.yq_runs.proofs.PutComes.{kept_comes, made_text, new_is, put_comes, se
 abbrev between : List ℕ → List ℕ → (done start : ℕ) → List ℕ
 between out t done start = out ++ drop done (take start t)
 
-module _ (c : Cut) (n : ℕ) (stem path : List Step) (v : Node) (out : List ℕ) (done : ℕ) (whole : read_at (cut_text c) ≡ Some c) (run : IsRun c n stem out done)
-    (ends : EndsIn stem path) (z : FlowPart) (standing : flow_standing n c (last_step path) ≡ Some z) (x : FlowHead) (place : EditPlace)
+module _ (c : Cut) (n : ℕ) (stem path : List Step) (v : Node) (out : List ℕ) (done : ℕ) (whole : read_at (cut_text c) ≡ Some c) (run : IsPutRun c n stem out done)
+    (ends : EndsInCollection stem path) (z : FlowPart) (standing : flow_standing n c (last_step path) ≡ Some z) (x : FlowHead) (place : EditPlace)
     (placed : IsPlaceOf (cut_text c) v z x place) (behind : done ≤ x.before + place.start) (passes : done < x.before + place.end) where
   abbrev t : List ℕ
   t = cut_text c
 
   abbrev now : List ℕ
-  now = run_text t out done
+  now = text_after_run t out done
 
   abbrev start : ℕ
   start = x.before + place.start
@@ -95,13 +95,13 @@ module _ (c : Cut) (n : ℕ) (stem path : List Step) (v : Node) (out : List ℕ)
   steps_are : b.init ≡ stem ++ left
   steps_are = ap (λ (y : List Step × Step). y.0) (same_Some _ _ (sym b.last ∙ ends.1.1))
 
-  first : IsPart c n (stem ++ left) b.step b.item
+  first : IsPartOf c n (stem ++ left) b.step b.item
   first = ap (λ (o : Option CollPieces). o >>= λ w. item_at w.close b.step w.items w.rest) (ap (λ (ss : List Step). flow_collection n ss c) (sym steps_are) ∙ b.found) ∙ b.at
 
   content_is : length (e.old ++ e.behind) ≡ length (node_text (content_node b.item.node) b.item.rest)
   content_is = ap length (sym (node_then (content_node b.item.node) b.item.rest))
 
-  stays : IsPart run.cut n (stem ++ left) b.step b.item
+  stays : IsPartOf run.cut n (stem ++ left) b.step b.item
   stays = run.stays left b.step b.item first (omega (arith, passes, finish_is, size)) (omega (arith, behind, start_is, content_is, size, run.within, length-append e.old e.behind))
 
   abbrev a : EntryAt run.cut n path
@@ -115,15 +115,15 @@ module _ (c : Cut) (n : ℕ) (stem path : List Step) (v : Node) (out : List ℕ)
   read : read_at (cut_text run.cut) ≡ Some run.cut
   read = ap read_at text ∙ run.read
 
-  same_kept : is_kept (node_in n path c) v ≡ is_kept (Some (tree_of b.item.node)) v
-  same_kept = ap (λ (o : Option Node). is_kept o v) (part_node c n path b whole)
+  same_kept : keeps_scalar (node_in n path c) v ≡ keeps_scalar (Some (tree_of b.item.node)) v
+  same_kept = ap (λ (o : Option Node). keeps_scalar o v) (part_node c n path b whole)
 
   -- an equal scalar
-  pub kept_there : is_kept (node_in n path c) v ≡ true → carried (replace n path v) now ≡ gives now []
+  pub kept_there : keeps_scalar (node_in n path c) v ≡ true → carried (replace n path v) now ≡ gives now []
   kept_there kept = subst (λ (u : List ℕ). carried (replace n path v) u ≡ gives u []) text (kept_comes run.cut n path v read a (sym same_kept ∙ kept))
 
   -- another value
-  module _ (written : List ℕ) (other : is_kept (node_in n path c) v ≡ false) (is : written ≡ (put_edit v z).written) where
+  module _ (written : List ℕ) (other : keeps_scalar (node_in n path c) v ≡ false) (is : written ≡ (put_edit v z).written) where
     written_is : written ≡ e.written
     written_is = is ∙ ap (λ (y : FlowPart). (put_edit v y).written) (sym (entry_found c n path z standing).1)
 
@@ -165,7 +165,7 @@ module _ (c : Cut) (n : ℕ) (stem path : List Step) (v : Node) (out : List ℕ)
     lead_is : place.lead.now ≡ e.lead
     lead_is = ap (λ (p : PlacedEdit). p.lead) at.place_is
 
-    new_bytes_are : made_text front e ≡ run_text t new_out finish
+    new_bytes_are : made_text front e ≡ text_after_run t new_out finish
     new_bytes_are = λ i. (front ++ (sym lead_is i ++ sym written_is i)) ++ sym left_is i
 
     cs_is : splice_at (length front) e.old (e.lead ++ e.written) ≡ cs
@@ -174,16 +174,16 @@ module _ (c : Cut) (n : ℕ) (stem path : List Step) (v : Node) (out : List ℕ)
     comes : carried (replace n path v) now ≡ edit_of_segments (flow_segments (cut_text run.cut) e)
     comes = ap (carried (replace n path v)) (sym text) ∙ put_comes run.cut n path v read a (sym same_kept ∙ other)
 
-    pub put_there : length (run_text t new_out finish) ≤ text_limit → carried (replace n path v) now ≡ gives (run_text t new_out finish) cs
+    pub put_there : length (text_after_run t new_out finish) ≤ text_limit → carried (replace n path v) now ≡ gives (text_after_run t new_out finish) cs
     put_there small = comes ∙ (segments_come (cut_text run.cut) front e split (omega (arith, small, ap length new_bytes_are)) ∙ λ i. gives (new_bytes_are i) (cs_is i))
 
-    pub large_there : text_limit < length (run_text t new_out finish) → carried (replace n path v) now ≡ refuses TooLarge
+    pub large_there : text_limit < length (text_after_run t new_out finish) → carried (replace n path v) now ≡ refuses TooLarge
     large_there large = comes ∙ segments_large (cut_text run.cut) front e split (omega (arith, large, ap length new_bytes_are))
 
     -- the run goes on behind it
-    pub goes_on : IsValueTree v → IsFitting (replace n path v) now → length (run_text t new_out finish) ≤ text_limit → IsRun c n stem new_out finish
+    pub goes_on : IsValueTree v → IsFitting (replace n path v) now → length (text_after_run t new_out finish) ≤ text_limit → IsPutRun c n stem new_out finish
     goes_on value fitting small =
-        let new_bytes : new_text (flow_segments (cut_text run.cut) e) ≡ run_text t new_out finish = new_is (cut_text run.cut) front e split ∙ new_bytes_are in
+        let new_bytes : new_text (flow_segments (cut_text run.cut) e) ≡ text_after_run t new_out finish = new_is (cut_text run.cut) front e split ∙ new_bytes_are in
         let same : fitting.read.parts ≡ run.cut = same_Some _ _ (sym (parts_read now fitting.before fitting.read).0 ∙ run.read) in
         let fit : Fits (room_of (cut_text run.cut)) (replace n path v) (documents run.cut) = subst (λ (d : Cut). Fits (room_of (cut_text d)) (replace n path v) (documents d)) same (fits (replace n path v) now value fitting) in
         let reads = replaced_reads run.cut n path v read a value fit (omega (arith, small, ap length new_bytes)) in

@@ -11,20 +11,20 @@ use Rattle.yq_documents.specs.LinesInRows.{document_row}
 use Rattle.yq_documents.specs.Reading.{documents, read_at}
 use Rattle.yq_row_places.specs.Standings.{RowsOfEntry, rows_of_entry}
 use Rattle.yq_change.specs.RowStays.{IsBehind, StandsStill}
-use Rattle.yq_meaning.specs.After.{document_of}
+use Rattle.yq_meaning.specs.After.{op_document}
 use Rattle.yq_meaning.specs.Fits.{Fits}
 use Rattle.yq_meaning.specs.Operations.{Operation}
 use Rattle.yq_meaning.specs.Rooms.{room_of}
 use Rattle.yq_script.specs.Script.{Segment, keep, new_text, old_text}
 use Rattle.yq_script.specs.Splice.{Splice}
-use Rattle.yq_edits.specs.Edits.{edits}
+use Rattle.yq_edits.specs.Edits.{op_edits}
 use Rattle.yq_edits.specs.Operands.{HasOperand}
-use Rattle.yq_edits.specs.Replacing.{is_kept}
+use Rattle.yq_edits.specs.Replacing.{keeps_scalar}
 use Rattle.yq_edits.specs.RowChanges.{ChangesRow, PutsOne}
 use Rattle.yq_edits.specs.WrittenValues.{value_text}
 use Rattle.yq_outcomes.specs.Carried.{carried}
 use Rattle.yq_outcomes.specs.Edit.{gives}
-use Rattle.yq_runs.specs.Runs.{now_text, run_text}
+use Rattle.yq_runs.specs.Runs.{now_text, text_after_run}
 use Rattle.yq_outcomes.specs.Theorems.{IsApplied}
 use Rattle.yq_runs.specs.declared.in_rows.RowPut.{RowPut}
 use Rattle.yq_runs.specs.declared.run.Run.{Run}
@@ -37,7 +37,7 @@ pub record IsRowRun (c : Cut) (k n : ℕ) (out : List ℕ) (done : ℕ) : Type 0
   pub within : done ≤ length (cut_text c)
   pub edge : IsCharBoundary (cut_text c) done
   pub cut : Cut
-  pub read : read_at (run_text (cut_text c) out done) ≡ Some cut
+  pub read : read_at (text_after_run (cut_text c) out done) ≡ Some cut
   pub stays : (m : ℕ) (steps : List Step) (e : RowsOfEntry) → rows_of_entry m steps c ≡ Some e → IsBehind k n m (length e.front) → StandsStill e m steps cut
 
 -- the row that was changed last, by its document and how many rows stand before it, is the one in front of row n of document k (own)
@@ -65,20 +65,20 @@ rows_still e s = record e { start = s.start; front = s.front }
 
 -- where what an operation makes fits, it changes one row (own)
 abbrev pub ChangesIfFit : Operation → Cut → RowsOfEntry → List Segment → Type 0
-ChangesIfFit op d e ss = HasOperand op → Fits (room_of (cut_text d)) op (documents d) → length (new_text ss) ≤ text_limit → ChangesRow (document_of op) d e ss
+ChangesIfFit op d e ss = HasOperand op → Fits (room_of (cut_text d)) op (documents d) → length (new_text ss) ≤ text_limit → ChangesRow (op_document op) d e ss
 
 -- An operation puts one text in the place of another, and changes one row (own).
 pub record PutsText (op : Operation) (d : Cut) (e : RowsOfEntry) (old new behind : List ℕ) : Type 0 where
   pub segments : List Segment
   pub front : List ℕ
-  pub edited : edits op d ≡ Some segments
+  pub edited : op_edits op d ≡ Some segments
   pub whole : old_text segments ≡ cut_text d
   pub puts : PutsOne segments front old new behind
   pub changes : ChangesIfFit op d e segments
 
 -- an operation puts this text, or leaves all bytes alone, if there is none (own)
 abbrev pub PutsSo : Operation → Cut → RowsOfEntry → (old behind : List ℕ) → Option (List ℕ) → Type 0
-PutsSo op d e old behind None = edits op d ≡ Some (keep (cut_text d) ∷ [])
+PutsSo op d e old behind None = op_edits op d ≡ Some (keep (cut_text d) ∷ [])
 PutsSo op d e old behind (Some new) = PutsText op d e old new behind
 
 -- the bytes of a text, if there is one (own)
@@ -88,8 +88,8 @@ bytes_in f (Some s) = Some (f s)
 
 -- what is written for a value on one line in the place of a text, if it isn't the scalar that is there (own)
 abbrev pub IsWrittenSo : Option Node → Node → List ℕ → Option (List ℕ) → Type 0
-IsWrittenSo old v head None = is_kept old v ≡ true
-IsWrittenSo old v head (Some w) = (is_kept old v ≡ false) × (w ≡ value_text InBlock head v)
+IsWrittenSo old v head None = keeps_scalar old v ≡ true
+IsWrittenSo old v head (Some w) = (keeps_scalar old v ≡ false) × (w ≡ value_text InBlock head v)
 
 -- the white space that stays before a line comment, in the place of one that is there or of none (own)
 abbrev pub white_left : (text white comment : List ℕ) → List ℕ
@@ -98,15 +98,15 @@ white_left text white comment = if is_empty text && not (is_empty comment) then 
 -- an operation puts a text, or leaves all bytes alone, wherever the item or entry stands still (own)
 abbrev pub PutsWhereStill : Operation → RowsOfEntry → List Step → (old behind : List ℕ) → Option (List ℕ) → Type 0
 PutsWhereStill op e steps old behind new =
-    (d : Cut) → read_at (cut_text d) ≡ Some d → (s : StandsStill e (document_of op) steps d) → PutsSo op d (rows_still e s) old behind new
+    (d : Cut) → read_at (cut_text d) ≡ Some d → (s : StandsStill e (op_document op) steps d) → PutsSo op d (rows_still e s) old behind new
 
 -- An operation puts a text in a row, or leaves it alone, wherever the item or entry stands still (own).
 pub record PutsInRow (op : Operation) (c : Cut) (x : RowPut) : Type 0 where
   pub steps : List Step
   pub entry : RowsOfEntry
-  pub found : rows_of_entry (document_of op) steps c ≡ Some entry
-  pub document : x.doc ≡ document_of op
-  pub row : x.row ≡ document_row (document_of op) c + length entry.front
+  pub found : rows_of_entry (op_document op) steps c ≡ Some entry
+  pub document : x.doc ≡ op_document op
+  pub row : x.row ≡ document_row (op_document op) c + length entry.front
   pub valid : HasOperand op
   pub before : List ℕ
   pub old : List ℕ

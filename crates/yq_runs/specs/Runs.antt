@@ -18,7 +18,7 @@ use Rattle.yq_meaning.specs.Operations.{Operation, replace}
 use Rattle.yq_meaning.specs.declared.refusal.Refusal.TheVariants.{TooLarge}
 use Rattle.yq_script.specs.Script.{splice_at}
 use Rattle.yq_script.specs.Splice.{Splice}
-use Rattle.yq_outcomes.specs.PartPuts.{IsPart, IsPlaceOf, IsWritten}
+use Rattle.yq_outcomes.specs.PartPuts.{IsPartOf, IsPlaceOf, IsWrittenPart}
 use Rattle.yq_outcomes.specs.declared.put.PartPut.{PartPut}
 use Rattle.yq_outcomes.specs.Carried.{carried}
 use Rattle.yq_outcomes.specs.Edit.{gives}
@@ -28,35 +28,35 @@ use Rattle.yq_outcomes.specs.declared.edit_error.EditError.TheVariants as error
 use Rattle.yq_runs.specs.declared.run.Run.{Run}
 
 -- a text whose first bytes gave way to others (own)
-abbrev pub run_text : List ℕ → (out : List ℕ) → (done : ℕ) → List ℕ
-run_text t out done = out ++ drop done t
+abbrev pub text_after_run : List ℕ → (out : List ℕ) → (done : ℕ) → List ℕ
+text_after_run t out done = out ++ drop done t
 
 -- The first bytes of a cut's text gave way to others, by values put at parts of the head to which steps lead: the text reads, the steps lead to a head
 -- in it, and the parts whose contents stand in the bytes that stay are there as they were, in whichever collections (own).
-pub record IsRun (c : Cut) (n : ℕ) (stem : List Step) (out : List ℕ) (done : ℕ) : Type 0 where
+pub record IsPutRun (c : Cut) (n : ℕ) (stem : List Step) (out : List ℕ) (done : ℕ) : Type 0 where
   pub within : done ≤ length (cut_text c)
   pub edge : IsCharBoundary (cut_text c) done
   pub cut : Cut
-  pub read : read_at (run_text (cut_text c) out done) ≡ Some cut
+  pub read : read_at (text_after_run (cut_text c) out done) ≡ Some cut
   pub leads : LeadsToHead cut n stem
-  pub stays : (left : List Step) (s : Step) (y : EntryPieces) → IsPart c n (stem ++ left) s y → length y.rest < length (cut_text c) - done →
-      length (node_text (content_node y.node) y.rest) ≤ length (cut_text c) - done → IsPart cut n (stem ++ left) s y
+  pub stays : (left : List Step) (s : Step) (y : EntryPieces) → IsPartOf c n (stem ++ left) s y → length y.rest < length (cut_text c) - done →
+      length (node_text (content_node y.node) y.rest) ≤ length (cut_text c) - done → IsPartOf cut n (stem ++ left) s y
 
 -- a path ends in the collection to which steps lead on in the head to which others lead (own)
 abbrev pub EndsAt : (stem left steps : List Step) → Type 0
 EndsAt stem left steps = (s : Step) × (last_step steps ≡ Some (stem ++ left, s))
 
 -- a path ends in a collection of the head to which steps lead (own)
-abbrev pub EndsIn : (stem steps : List Step) → Type 0
-EndsIn stem steps = (left : List Step) × EndsAt stem left steps
+abbrev pub EndsInCollection : (stem steps : List Step) → Type 0
+EndsInCollection stem steps = (left : List Step) × EndsAt stem left steps
 
 -- the text that a run has made so far (own)
 abbrev pub now_text : Cut → Run → List ℕ
-now_text c r = run_text (cut_text c) (string_bytes r.text) r.done
+now_text c r = text_after_run (cut_text c) (string_bytes r.text) r.done
 
 -- a run of the code is one (own)
 abbrev pub Runs : Cut → ℕ → List Step → Run → Type 0
-Runs c n stem r = IsRun c n stem (string_bytes r.text) r.done
+Runs c n stem r = IsPutRun c n stem (string_bytes r.text) r.done
 
 -- An operation puts a value at a part of the head to which steps lead in document n of a text, which was read (own).
 pub record PutsAt (op : Operation) (t : List ℕ) (n : ℕ) (stem : List Step) (x : FlowHead) (p : PartPut) : Type 0 where
@@ -64,11 +64,11 @@ pub record PutsAt (op : Operation) (t : List ℕ) (n : ℕ) (stem : List Step) (
   pub value : Node
   pub operation : op ≡ replace n path value
   pub valid : IsValueTree value
-  pub ends : EndsIn stem path
+  pub ends : EndsInCollection stem path
   pub part : FlowPart
   pub standing : flow_standing n (cut_of t) (last_step path) ≡ Some part
   pub placed : IsPlaceOf (cut_text (cut_of t)) value part x p.place
-  pub written : IsWritten (node_in n path (cut_of t)) value part p.written
+  pub written : IsWrittenPart (node_in n path (cut_of t)) value part p.written
 
 -- what a run has written, with what stays up to a place (own)
 abbrev pub run_front : List ℕ → Run → ℕ → List ℕ
@@ -79,12 +79,12 @@ pub record HasPut (t : List ℕ) (start end : ℕ) (new : List ℕ) (before afte
   pub text : string_bytes after.text ≡ run_front t before start ++ new
   pub done : after.done ≡ end
   pub splices : after.splices.items ≡ before.splices.items ++ splice_at (length (run_front t before start)) (drop start (take end t)) new
-  pub size : length (run_text t (run_front t before start ++ new) end) ≤ text_limit
+  pub size : length (text_after_run t (run_front t before start ++ new) end) ≤ text_limit
 
 -- why it has not: the whole would be too large, or memory ran out (own)
 abbrev pub PutFails : EditError → List ℕ → (start end : ℕ) → List ℕ → Run → Type 0
 PutFails (error.Read fault) t start end new r = ⊥
-PutFails (error.Refused why) t start end new r = (why ≡ TooLarge) × (text_limit < length (run_text t (run_front t r start ++ new) end))
+PutFails (error.Refused why) t start end new r = (why ≡ TooLarge) × (text_limit < length (text_after_run t (run_front t r start ++ new) end))
 PutFails error.Memory t start end new r = ⊤
 
 -- An operation is carried out on the text of a run, which goes on behind it (own).

@@ -2,7 +2,7 @@
 //! were read.
 ghost use Rattle.std.specs.Prelude.{◌≡◌, ◌+◌, ◌≤◌, length, true, IfErr, IfOk, IfSome, string_bytes};
 ghost use Rattle.yq_text.specs.Limit.{text_limit};
-ghost use Rattle.yq_nodes.specs.Values.{node_of};
+ghost use Rattle.yq_nodes.specs.Values.{value_node};
 ghost use Rattle.yq_documents.specs.Located.{steps_of};
 ghost use Rattle.yq_documents.specs.Reading.{cut_of};
 ghost use Rattle.yq_row_places.specs.NodesAt.{node_in};
@@ -56,7 +56,7 @@ fn value_written(
     requires row { IsHeldRow path.now.doc (steps_of path.now) (cut_of cut.now) at.now }
     requires inline { at.now.inline ≡ true }
     ensures { IfOk result (λ o. spec.IsWrittenSo (node_in path.now.doc (steps_of path.now)
-        (cut_of cut.now)) (node_of value.now) at.now.head.now (spec.bytes_in string_bytes o)) }
+        (cut_of cut.now)) (value_node value.now) at.now.head.now (spec.bytes_in string_bytes o)) }
 {
     let stays = is_kept_in_row(alloc, cut, path, at, value)?;
     if stays {
@@ -74,10 +74,10 @@ fn value_in_row(
     at: &HeldRow<'_>,
     value: &Value,
 ) -> Result<Option<RowPut>, AllocError>
-    requires operand { HasOperand (replace path.now.doc (steps_of path.now) (node_of value.now)) }
+    requires operand { HasOperand (replace path.now.doc (steps_of path.now) (value_node value.now)) }
     requires row { IsHeldRow path.now.doc (steps_of path.now) (cut_of cut.now) at.now }
     ensures { IfOk result (λ o. IfSome o (spec.PutsInRow
-        (replace path.now.doc (steps_of path.now) (node_of value.now)) (cut_of cut.now))) }
+        (replace path.now.doc (steps_of path.now) (value_node value.now)) (cut_of cut.now))) }
 {
     if !at.inline || is_filled(value) {
         return Ok(None);

@@ -1,7 +1,7 @@
 //! Values that an update puts in the flow collections of one head: they are carried out together, and the
 //! head is read once.
 ghost use Rattle.std.specs.Prelude.{◌≡◌, true, map, IfErr, IfOk, IfSome, string_bytes};
-ghost use Rattle.yq_nodes.specs.Entries.{step_of};
+ghost use Rattle.yq_nodes.specs.Entries.{tree_step};
 ghost use Rattle.yq_documents.specs.Located.{steps_of};
 ghost use Rattle.yq_documents.specs.Reading.{cut_of};
 ghost use Rattle.yq_row_places.specs.FlowViews.{ReportsHead};
@@ -25,7 +25,7 @@ use yq_script::Edited;
 
 /// Whether steps are the same.
 fn is_same_step(one: &Step, other: &Step) -> bool
-    ensures { result ≡ true → step_of one.now ≡ step_of other.now }
+    ensures { result ≡ true → tree_step one.now ≡ tree_step other.now }
 {
     match (one, other) {
         (Step::Key(one), Step::Key(other)) => one.as_str() == other.as_str(),
@@ -36,7 +36,7 @@ fn is_same_step(one: &Step, other: &Step) -> bool
 
 /// Whether paths are the same.
 fn are_same_steps(some: &[Step], others: &[Step]) -> bool
-    ensures { result ≡ true → map step_of some.now ≡ map step_of others.now }
+    ensures { result ≡ true → map tree_step some.now ≡ map tree_step others.now }
 {
     if some.len() != others.len() {
         return false;
@@ -53,7 +53,7 @@ fn are_same_steps(some: &[Step], others: &[Step]) -> bool
 /// that lead to the head.
 fn steps_in_head<'s>(path: &'s Path, doc: usize, stem: &[Step]) -> Option<&'s [Step]>
     ensures { IfSome result (λ left. (path.now.doc ≡ doc) ×
-        spec.EndsAt (map step_of stem.now) (map step_of left.now) (steps_of path.now)) }
+        spec.EndsAt (map tree_step stem.now) (map tree_step left.now) (steps_of path.now)) }
 {
     let Some((above, _)) = last_step(&path.steps) else {
         return None;
@@ -81,10 +81,10 @@ fn part_put<'s>(
     head: &mut FlowHead<'s, '_>,
     op: &'s Op,
 ) -> Result<Option<PartPut>, AllocError>
-    requires { ReportsHead cut.now (cut_of cut.now) doc (map step_of stem.now) head.old }
-    ensures head { ReportsHead cut.now (cut_of cut.now) doc (map step_of stem.now) head.new }
+    requires { ReportsHead cut.now (cut_of cut.now) doc (map tree_step stem.now) head.old }
+    ensures head { ReportsHead cut.now (cut_of cut.now) doc (map tree_step stem.now) head.new }
     ensures put { IfOk result (λ o. IfSome o (λ p. spec.PutsAt (operation_of op.now) cut.now doc
-        (map step_of stem.now) head.new p)) }
+        (map tree_step stem.now) head.new p)) }
 {
     operand_holds(op);
     let Op::Replace(path, value) = op else {
@@ -108,12 +108,12 @@ fn put_one<'s>(
     op: &'s Op,
     run: &mut Run,
 ) -> Result<bool, EditError>
-    requires head { ReportsHead cut.now (cut_of cut.now) doc (map step_of stem.now) head.old }
-    requires run { spec.Runs (cut_of cut.now) doc (map step_of stem.now) run.old }
+    requires head { ReportsHead cut.now (cut_of cut.now) doc (map tree_step stem.now) head.old }
+    requires run { spec.Runs (cut_of cut.now) doc (map tree_step stem.now) run.old }
     requires fits { IsFitting (operation_of op.now) (spec.now_text (cut_of cut.now) run.old) }
-    ensures head { ReportsHead cut.now (cut_of cut.now) doc (map step_of stem.now) head.new }
+    ensures head { ReportsHead cut.now (cut_of cut.now) doc (map tree_step stem.now) head.new }
     ensures ok { IfOk result (λ b. b ≡ true → spec.RunsOn (operation_of op.now) (cut_of cut.now) doc
-        (map step_of stem.now) run.old run.new) }
+        (map tree_step stem.now) run.old run.new) }
     ensures err { IfErr result (λ e. EditFails e (carried (operation_of op.now)
         (spec.now_text (cut_of cut.now) run.old))) }
 {
@@ -143,7 +143,7 @@ fn put_each<'s>(
     head: &mut FlowHead<'s, '_>,
     ops: &'s [Op],
 ) -> Result<Option<Edited>, EditError>
-    requires head { ReportsHead cut.now (cut_of cut.now) doc (map step_of stem.now) head.old }
+    requires head { ReportsHead cut.now (cut_of cut.now) doc (map tree_step stem.now) head.old }
     requires serves { AreServed (operations_of ops.now) cut.now }
     ensures ok { IfOk result (λ o. IfSome o (λ e. carry_all (operations_of ops.now) cut.now ≡
         gives (string_bytes e.text) e.splices.items)) }

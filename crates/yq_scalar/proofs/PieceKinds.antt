@@ -2,7 +2,7 @@
 use Rattle.std.proofs.Common.{◌≡◌, ◌⊎◌, ⊎_elim, inl, inr, ℕ, ◌+◌, ◌-◌, ◌==◌, List, drop, length, take, refl, sym, ap, ◌∙◌, subst, arith}
 use Rattle.std.proofs.Math.Seq.{take-append_seam}
 use Rattle.std.proofs.lemmas.Bool.{cond_both}
-use Rattle.yq_flow_scalars.specs.Quoted.{IsQuoted, Lines}
+use Rattle.yq_flow_scalars.specs.Quoted.{IsQuoted, QuotedLines}
 use Rattle.yq_flow_scalars.specs.declared.piece.Piece.{Piece}
 use Rattle.yq_flow_scalars.specs.declared.style.Style.{Style}
 use Rattle.yq_flow_scalars.specs.declared.style.Style.TheVariants as styles
@@ -27,7 +27,7 @@ quoted_kind text p h =
     ap (λ (q : Piece). kind q.style) h.1.piece
     ∙ cond_both (h.1.quote == 39) styles.Single styles.Double (λ (s : Style). kind s ≡ 1) (λ _. refl) (λ _. refl)
 
-style_kind : (s : BlockStyle) → kind (block.style_of s) ≡ 2
+style_kind : (s : BlockStyle) → kind (block.any_style s) ≡ 2
 style_kind block_styles.Literal = refl
 style_kind block_styles.Folded = refl
 
@@ -53,7 +53,7 @@ either_kind s a b n first second h = ⊎_elim {0, 0, 0} (λ (e : s ≡ a). ap ki
 
 -- what stands between the ends of a quoted piece is a scalar in quotes
 pub text_quoted : (text : List ℕ) (p : Piece) (t : List ℕ) → IsQuotedScalar text p → t ≡ piece_text text p
-    → (q : ℕ) × ((ls : Lines) × ((rest : List ℕ) × IsQuoted q ls t rest))
+    → (q : ℕ) × ((ls : QuotedLines) × ((rest : List ℕ) × IsQuoted q ls t rest))
 text_quoted text p t h e =
     let is = h.1 in
     let at = h.0 in

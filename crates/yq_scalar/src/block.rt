@@ -1,12 +1,12 @@
 //! The block scalar at an offset of a text (YAML 1.2.2, section 8.1).
 ghost use Rattle.std.specs.Prelude.{◌≡◌, ◌<◌, ◌≤◌, ◌+◌, ◌^◌, length, drop, true, IfErr, IfOk, Ok};
 ghost use Rattle.std.specs.Str.{IsCharBoundary};
-ghost use Rattle.yq_flow_scalars.specs.Answers.{Reads};
+ghost use Rattle.yq_flow_scalars.specs.Answers.{ReadsAs};
 ghost use Rattle.yq_block_scalars.specs.Block as spec;
 ghost use Rattle.yq_block_scalars.specs.BlockReading as reading;
 ghost use Rattle.yq_block_scalars.specs.ScalarPiece.{IsReadPiece};
 ghost use Rattle.yq_flow_scalars.specs.Piece.{deeper};
-ghost use Rattle.yq_flow_scalars.specs.Text.{lines_of};
+ghost use Rattle.yq_flow_scalars.specs.Text.{text_lines};
 ghost use Rattle.yq_flow_scalars.specs.declared.piece.Piece.{Piece};
 
 use yq_block_scalars::block_header::{keeps, read_style, read_tail, split_indicators, style_of};
@@ -25,7 +25,7 @@ fn least_indent(parent: i64) -> usize
 #[tactic(auto, unfolding(yq_block_scalars::specs::BlockReading::indent_at))]
 fn read_indent(least: usize, digit: Option<u8>, text: &[u8]) -> Result<TextIndent, FaultKind>
     requires { least ≤ 2 ^ 63 }
-    ensures read { Reads (λ f. f) result (reading.indent_at least digit (lines_of text.now)) }
+    ensures read { ReadsAs (λ f. f) result (reading.indent_at least digit (text_lines text.now)) }
     ensures fault { IfErr result (λ kind. spec.is_block_fault kind ≡ true) }
 {
     match digit {
@@ -42,7 +42,7 @@ fn read_indent(least: usize, digit: Option<u8>, text: &[u8]) -> Result<TextInden
 fn read_at(text: &[u8], start: usize, least: usize) -> Result<Piece, FaultKind>
     requires small { least ≤ 2 ^ 63 }
     requires fits { start + length text.now < 2 ^ 64 }
-    ensures read { Reads (λ p. p) result (reading.piece_at start least text.now) }
+    ensures read { ReadsAs (λ p. p) result (reading.read_block_piece start least text.now) }
     ensures fault { IfErr result (λ kind. spec.is_block_fault kind ≡ true) }
 {
     let (style, rest) = read_style(text)?;
@@ -74,7 +74,7 @@ fn read_at(text: &[u8], start: usize, least: usize) -> Result<Piece, FaultKind>
 /// scalar. No memory is taken.
 pub fn read_block(text: &str, at: usize, parent: i64) -> Result<Piece, FaultKind>
     requires { IsCharBoundary text.now at }
-    ensures exact { Reads (λ p. p) result (reading.block_from parent at text.now) }
+    ensures exact { ReadsAs (λ p. p) result (reading.block_from parent at text.now) }
     ensures found { IfOk result (spec.IsBlockPiece parent at text.now) }
     ensures only { (p : Piece) → spec.IsBlockPiece parent at text.now p → result ≡ Ok p }
     ensures is_piece { IfOk result (IsReadPiece text.now) }

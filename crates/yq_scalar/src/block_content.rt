@@ -5,7 +5,7 @@ ghost use Rattle.std.specs.String.{string_bytes};
 ghost use Rattle.yq_block_scalars.specs.Block.{IsBlockPiece, IsBlockScalar};
 ghost use Rattle.yq_block_scalars.specs.BlockContent as spec;
 ghost use Rattle.yq_block_scalars.specs.BlockReading as reading;
-ghost use Rattle.yq_flow_scalars.specs.Text.{front, is_white, lines_of};
+ghost use Rattle.yq_flow_scalars.specs.Text.{front, is_white, text_lines};
 ghost use Rattle.yq_block_scalars.specs.declared.block_types.Before.TheVariants.{Nothing};
 
 use std::alloc::{AllocError, Global};
@@ -71,7 +71,7 @@ fn push_ending(
     empty: usize,
 ) -> Result<(), AllocError>
     ensures { OnOk result (string_bytes out.new ≡ string_bytes out.old ++
-        spec.ending chomping before empty) }
+        spec.chomped_end chomping before empty) }
 {
     match (chomping, before) {
         (Chomping::Strip, _) | (Chomping::Clip, Before::Nothing) => Ok(()),
@@ -87,7 +87,7 @@ fn push_ending(
 /// Adds a line's text, and perhaps an LF.
 fn push_line(out: &mut String, text: &str, broken: bool) -> Result<(), AllocError>
     ensures { OnOk result (string_bytes out.new ≡ string_bytes out.old ++
-        (text.now ++ spec.broken broken)) }
+        (text.now ++ spec.optional_break broken)) }
 {
     out.push_str(text)?;
     if broken { out.push_str("\n") } else { Ok(()) }
@@ -108,7 +108,7 @@ fn push_literal(
     raw: &str,
 ) -> Result<(), AllocError>
     ensures { OnOk result (string_bytes out.new ≡ string_bytes out.old ++
-        spec.literal strip indent (lines_of raw.now)) }
+        spec.literal strip indent (text_lines raw.now)) }
 {
     let mut rest = raw;
     'each: while !rest.is_empty() {
@@ -121,7 +121,7 @@ fn push_literal(
 
 /// What a line of text is for the one behind it.
 fn kind_of(text: &[u8]) -> Before
-    ensures { result ≡ spec.kind_of text.now }
+    ensures { result ≡ spec.is_spaced_line text.now }
 {
     if begins_white(text) {
         Before::Spaced
@@ -138,7 +138,7 @@ fn push_folded(
     raw: &str,
 ) -> Result<(), AllocError>
     ensures { OnOk result (string_bytes out.new ≡ string_bytes out.old ++
-        spec.folded chomping indent Nothing 0 (lines_of raw.now)) }
+        spec.folded chomping indent Nothing 0 (text_lines raw.now)) }
 {
     let mut before = Before::Nothing;
     let mut empty = 0usize;
@@ -174,8 +174,8 @@ fn content_of(
     indent: TextIndent,
     raw: &str,
 ) -> Result<String, AllocError>
-    ensures { IfOk result (λ s. string_bytes s ≡ spec.content_of style chomping indent
-        (lines_of raw.now)) }
+    ensures { IfOk result (λ s. string_bytes s ≡ spec.block_lines_content style chomping indent
+        (text_lines raw.now)) }
 {
     let mut out = String::with_capacity(alloc, raw.len())?;
     let added = match style {
@@ -201,7 +201,7 @@ fn block_style(style: Style) -> BlockStyle
 /// The indentation of raw lines whose text is indented by so many columns.
 #[tactic(auto, unfolding(yq_block_scalars::specs::BlockReading::indent_of))]
 fn indent_of(digit: Option<u8>, columns: usize, raw: &[u8]) -> TextIndent
-    ensures { result ≡ reading.indent_of digit columns (lines_of raw.now) }
+    ensures { result ≡ reading.indent_of digit columns (text_lines raw.now) }
 {
     let known = TextIndent {
         columns,
@@ -220,7 +220,7 @@ fn indent_of(digit: Option<u8>, columns: usize, raw: &[u8]) -> TextIndent
 /// break as an LF or folded, the breaks at the end as its header asks.
 pub(crate) fn block_content(alloc: Global, text: &str, piece: &Piece) -> Result<String, AllocError>
     requires { IsBlockScalar text.now piece.now }
-    ensures exact { IfOk result (λ s. string_bytes s ≡ reading.piece_content text.now piece.now) }
+    ensures exact { IfOk result (λ s. string_bytes s ≡ reading.block_piece_content text.now piece.now) }
     ensures found { (n : ℤ) (p : IsBlockPiece n piece.now.start text.now piece.now) →
         IfOk result (λ s. string_bytes s ≡ spec.block_content p.block) }
 {

@@ -1,13 +1,13 @@
 //! Laws of block scalars, each the contract of a function that does nothing.
 ghost use Rattle.std.specs.Prelude.{◌≡◌, ◌<◌, ◌≤◌, ◌++◌, ◌⊎◌, [], Bool, List, Some, false, true, ℕ};
 ghost use Rattle.std.specs.Str.{IsUtf8};
-ghost use Rattle.yq_block_scalars.specs.Block.{BlockText, IsBlock, Lines, block_text, ends_block, is_tail, keeps};
+ghost use Rattle.yq_block_scalars.specs.Block.{BlockText, IsBlock, RawLines, block_text, ends_block, is_tail, keeps};
 ghost use Rattle.yq_block_scalars.specs.BlockContent.{block_content};
 ghost use Rattle.yq_block_scalars.specs.BlockReading.{block_at};
 ghost use Rattle.yq_block_scalars.specs.BlockRepair.{AreGap, is_behind, comment_lines, repair};
-ghost use Rattle.yq_block_scalars.specs.BlockWritten.{break_text, closed, written_block};
+ghost use Rattle.yq_block_scalars.specs.BlockWritten.{break_text, ends_with_break, written_block};
 ghost use Rattle.yq_flow_scalars.specs.Scalar.{ScalarText};
-ghost use Rattle.yq_flow_scalars.specs.Text.{joined, lines_of};
+ghost use Rattle.yq_flow_scalars.specs.Text.{joined, text_lines};
 ghost use Rattle.yq_flow_scalars.specs.Writable.{can_write};
 ghost use Rattle.yq_block_scalars.specs.declared.block_lines.TextIndent.{TextIndent};
 ghost use Rattle.yq_block_scalars.specs.declared.block_types.Break.{Break};
@@ -31,7 +31,7 @@ pub fn one_block()
 pub fn literal_spells()
     ensures block { (least m : ℕ) (b : Break) (s : ScalarText) (tail rest : List ℕ) →
         IsUtf8 s.text → can_write s Literal Block ≡ true → least ≤ m → is_tail tail ≡ true →
-        ends_block false (record { columns = m; known = true }) (lines_of rest) ≡ true →
+        ends_block false (record { columns = m; known = true }) (text_lines rest) ≡ true →
         IsBlock least (written_block s.text m (break_text b) tail) rest }
     ensures content { (m : ℕ) (b : Break) (s : ScalarText) (tail : List ℕ) → IsUtf8 s.text →
         can_write s Literal Block ≡ true →
@@ -42,14 +42,14 @@ pub fn literal_spells()
 /// comments are the same. The gap ends in a break, or the text with it.
 pub fn repaired()
     ensures stands { (least column : ℕ) (b : BlockText) (old gap rest : List ℕ) →
-        IsBlock least b old → AreGap (lines_of gap) →
-        ((closed (lines_of gap) ≡ true) ⊎ (rest ≡ [])) → is_behind b.indent (lines_of rest) ≡ true →
+        IsBlock least b old → AreGap (text_lines gap) →
+        ((ends_with_break (text_lines gap) ≡ true) ⊎ (rest ≡ [])) → is_behind b.indent (text_lines rest) ≡ true →
         column < b.indent.columns →
         IsBlock least b (joined (repair (keeps b.chomping) b.indent.columns column
-        (lines_of gap)) ++ rest) }
-    ensures ends { (keep : Bool) (indent : TextIndent) (column : ℕ) (gap rest : Lines) →
+        (text_lines gap)) ++ rest) }
+    ensures ends { (keep : Bool) (indent : TextIndent) (column : ℕ) (gap rest : RawLines) →
         AreGap gap → is_behind indent rest ≡ true → column < indent.columns →
         ends_block keep indent (repair keep indent.columns column gap ++ rest) ≡ true }
-    ensures comments { (keep : Bool) (indent column : ℕ) (gap : Lines) → AreGap gap →
+    ensures comments { (keep : Bool) (indent column : ℕ) (gap : RawLines) → AreGap gap →
         comment_lines (repair keep indent column gap) ≡ comment_lines gap }
 {}

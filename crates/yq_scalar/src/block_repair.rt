@@ -2,7 +2,7 @@
 ghost use Rattle.std.specs.Prelude.{◌≡◌, ◌++◌, [], OnOk, IfOk, if◌then◌else◌};
 ghost use Rattle.std.specs.String.{string_bytes};
 ghost use Rattle.yq_block_scalars.specs.BlockRepair as spec;
-ghost use Rattle.yq_flow_scalars.specs.Text.{joined, lines_of};
+ghost use Rattle.yq_flow_scalars.specs.Text.{joined, text_lines};
 
 use std::alloc::{AllocError, Global};
 use yq_flow_reading::push_spaces;
@@ -19,7 +19,7 @@ pub fn is_short(indent: usize, line: &[u8]) -> bool
 
 /// A line that begins with fewer spaces, and no tab behind them.
 pub fn is_outside(indent: usize, line: &[u8]) -> bool
-    ensures { result ≡ spec.is_outside indent line.now }
+    ensures { result ≡ spec.is_outdented_comment indent line.now }
 {
     spaces_len(line) < indent && !matches!(behind_spaces(line), [b'\t', ..])
 }
@@ -72,7 +72,7 @@ fn push_gap(
     gap: &str,
 ) -> Result<(), AllocError>
     ensures { OnOk result (string_bytes out.new ≡ string_bytes out.old ++
-        joined (spec.repair keep indent column (lines_of gap.now))) }
+        joined (spec.repair keep indent column (text_lines gap.now))) }
 {
     let mut rest = gap;
     'each: while !rest.is_empty() {
@@ -94,7 +94,7 @@ fn push_gap(
 /// Memory is taken once.
 pub fn repair(alloc: Global, scalar: &Piece, column: usize, gap: &str) -> Result<String, AllocError>
     ensures exact { IfOk result (λ s. string_bytes s ≡ joined
-        (spec.repair scalar.now.keep scalar.now.indent column (lines_of gap.now))) }
+        (spec.repair scalar.now.keep scalar.now.indent column (text_lines gap.now))) }
 {
     let mut out = String::with_capacity(alloc, gap.len().saturating_add(column))?;
     match push_gap(&mut out, scalar.keep, scalar.indent, column, gap) {

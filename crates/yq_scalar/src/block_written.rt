@@ -2,7 +2,7 @@
 ghost use Rattle.std.specs.Prelude.{◌≡◌, ◌++◌, ◌-◌, ◌^◌, length, min, OnOk, IfOk};
 ghost use Rattle.std.specs.String.{string_bytes};
 ghost use Rattle.yq_block_scalars.specs.BlockWritten as spec;
-ghost use Rattle.yq_flow_scalars.specs.Text.{joined, lines_of};
+ghost use Rattle.yq_flow_scalars.specs.Text.{joined, text_lines};
 
 use std::alloc::{AllocError, Global};
 use yq_block_scalars::Break;
@@ -21,7 +21,7 @@ pub fn break_text(br: Break) -> &'static str
 
 /// How long a line of that text is as it is written, in bytes.
 fn written_line_len(indent: usize, br: Break, text: &str) -> usize
-    ensures { result ≡ min (length (spec.indented indent text.now ++ spec.break_text br))
+    ensures { result ≡ min (length (spec.indented_text indent text.now ++ spec.break_text br))
         (2 ^ 64 - 1) }
 {
     if text.is_empty() {
@@ -35,8 +35,8 @@ fn written_line_len(indent: usize, br: Break, text: &str) -> usize
 
 /// How long the lines of a text are as they are written, in bytes, or 2^64 - 1 where they are longer.
 fn written_len(indent: usize, br: Break, text: &str) -> usize
-    ensures { result ≡ min (length (joined (spec.written indent (spec.break_text br)
-        (lines_of text.now)))) (2 ^ 64 - 1) }
+    ensures { result ≡ min (length (joined (spec.raw_written indent (spec.break_text br)
+        (text_lines text.now)))) (2 ^ 64 - 1) }
 {
     let mut len = 0usize;
     let mut rest = text;
@@ -51,7 +51,7 @@ fn written_len(indent: usize, br: Break, text: &str) -> usize
 /// Adds a line of that text.
 fn push_written(out: &mut String, indent: usize, br: Break, text: &str) -> Result<(), AllocError>
     ensures { OnOk result (string_bytes out.new ≡ string_bytes out.old ++
-        (spec.indented indent text.now ++ spec.break_text br)) }
+        (spec.indented_text indent text.now ++ spec.break_text br)) }
 {
     if !text.is_empty() {
         push_spaces(out, indent)?;
@@ -63,7 +63,7 @@ fn push_written(out: &mut String, indent: usize, br: Break, text: &str) -> Resul
 /// Adds the lines of a text.
 fn push_lines(out: &mut String, indent: usize, br: Break, text: &str) -> Result<(), AllocError>
     ensures { OnOk result (string_bytes out.new ≡ string_bytes out.old ++
-        joined (spec.written indent (spec.break_text br) (lines_of text.now))) }
+        joined (spec.raw_written indent (spec.break_text br) (text_lines text.now))) }
 {
     let mut rest = text;
     'each: while !rest.is_empty() {
@@ -98,9 +98,9 @@ pub fn write_block(
     br: Break,
 ) -> Result<(&'static str, String), AllocError>
     ensures header { IfOk result (λ r. r.0.now ≡ spec.header_text
-        (spec.chomping_of (lines_of text.now))) }
+        (spec.chomping_of (text_lines text.now))) }
     ensures raw { IfOk result (λ r. string_bytes r.1 ≡ joined
-        (spec.written indent (spec.break_text br) (lines_of text.now))) }
+        (spec.raw_written indent (spec.break_text br) (text_lines text.now))) }
 {
     let mut raw = String::with_capacity(alloc, written_len(indent, br, text))?;
     match push_lines(&mut raw, indent, br, text) {

@@ -5,7 +5,7 @@ ghost use Rattle.yq_block_scalars.specs.BlockContent as block;
 ghost use Rattle.yq_block_scalars.specs.ScalarPiece as spec;
 ghost use Rattle.yq_flow_scalars.specs.Piece.{IsPlainPiece};
 ghost use Rattle.yq_flow_scalars.specs.PlainContent.{IsPlainLines};
-ghost use Rattle.yq_flow_scalars.specs.Quoted.{Lines, content as content_of};
+ghost use Rattle.yq_flow_scalars.specs.Quoted.{QuotedLines, quoted_lines_content as content_of};
 ghost use Rattle.yq_block_scalars.specs.QuotedPiece.{IsQuotedPiece};
 ghost use Rattle.yq_flow_scalars.specs.declared.style.Place.{Place};
 
@@ -22,7 +22,7 @@ pub fn content(alloc: Global, text: &str, piece: &Piece) -> Result<String, Alloc
     requires { spec.IsReadPiece text.now piece.now }
     ensures exact { IfOk result (λ s. string_bytes s ≡ spec.piece_content text.now piece.now) }
     ensures plain { (place : Place) (n : ℤ) (at : ℕ)
-        (h : IsPlainPiece place n at text.now piece.now) (ls : Lines) → IsPlainLines ls h.scalar →
+        (h : IsPlainPiece place n at text.now piece.now) (ls : QuotedLines) → IsPlainLines ls h.scalar →
         IfOk result (λ s. string_bytes s ≡ content_of ls) }
     ensures quoted { (at : ℕ) (h : IsQuotedPiece at text.now piece.now) →
         IfOk result (λ s. string_bytes s ≡ content_of h.ls) }

@@ -1,7 +1,7 @@
 //! The plain scalar at an offset of a text.
 ghost use Rattle.std.specs.Prelude.{◌≡◌, IfErr, IfOk, Ok};
 ghost use Rattle.std.specs.Str.{IsCharBoundary};
-ghost use Rattle.yq_flow_scalars.specs.Answers.{Reads};
+ghost use Rattle.yq_flow_scalars.specs.Answers.{ReadsAs};
 ghost use Rattle.yq_block_scalars.specs.ScalarPiece.{IsReadPiece};
 ghost use Rattle.yq_flow_scalars.specs.Piece as spec;
 ghost use Rattle.yq_flow_scalars.specs.declared.fault.FaultKind.TheVariants.{BadScalar};
@@ -18,7 +18,7 @@ use yq_flow_scalars::{FaultKind, Piece, Place, Style, further_spaces, inline_pie
 #[tactic(auto, using(yq_block_scalars::proofs::PieceLaws::found_by))]
 pub fn read_plain(text: &str, at: usize, place: Place, indent: i64) -> Result<Piece, FaultKind>
     requires { IsCharBoundary text.now at }
-    ensures exact { Reads (λ p. p) result (spec.plain_from place indent at text.now) }
+    ensures exact { ReadsAs (λ p. p) result (spec.plain_from place indent at text.now) }
     ensures found { IfOk result (spec.IsPlainPiece place indent at text.now) }
     ensures only { (p : Piece) → spec.IsPlainPiece place indent at text.now p → result ≡ Ok p }
     ensures is_piece { IfOk result (IsReadPiece text.now) }
@@ -30,7 +30,7 @@ pub fn read_plain(text: &str, at: usize, place: Place, indent: i64) -> Result<Pi
 #[tactic(auto, unfolding(yq_flow_scalars::specs::Piece::plain_from, yq_flow_scalars::specs::Plain::plain_at))]
 fn plain_from(text: &str, at: usize, place: Place, indent: i64) -> Result<Piece, FaultKind>
     requires { IsCharBoundary text.now at }
-    ensures read { Reads (λ p. p) result (spec.plain_from place indent at text.now) }
+    ensures read { ReadsAs (λ p. p) result (spec.plain_from place indent at text.now) }
     ensures fault { IfErr result (λ kind. kind ≡ BadScalar) }
 {
     let flow = in_flow(place);

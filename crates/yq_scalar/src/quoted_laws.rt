@@ -5,7 +5,7 @@ ghost use Rattle.std.specs.Str.{IsUtf8, chars};
 ghost use Rattle.yq_flow_scalars.specs.Characters.{is_text};
 ghost use Rattle.yq_flow_scalars.specs.ContentReading.{plain_content, quoted_content};
 ghost use Rattle.yq_flow_scalars.specs.PlainContent.{IsPlainLines};
-ghost use Rattle.yq_flow_scalars.specs.Quoted.{IsQuoted, Lines, content};
+ghost use Rattle.yq_flow_scalars.specs.Quoted.{IsQuoted, QuotedLines, quoted_lines_content};
 ghost use Rattle.yq_flow_scalars.specs.QuotedReading.{quoted_at};
 ghost use Rattle.yq_flow_scalars.specs.Plain.{holds_break};
 ghost use Rattle.yq_flow_scalars.specs.Text.{front};
@@ -15,38 +15,38 @@ ghost use Rattle.yq_flow_scalars.specs.Written.{double, single};
 /// What is read as a quoted scalar is one, what is one is read, and a text begins with one at most.
 pub fn one_quoted()
     ensures takes { (t : List ℕ) (x : List ℕ × List ℕ) → quoted_at t ≡ Some x →
-        (t ≡ x.0 ++ x.1) × ((quote : ℕ) × ((ls : Lines) × IsQuoted quote ls x.0 x.1)) }
-    ensures again { (quote : ℕ) (ls : Lines) (p rest : List ℕ) → IsQuoted quote ls p rest →
+        (t ≡ x.0 ++ x.1) × ((quote : ℕ) × ((ls : QuotedLines) × IsQuoted quote ls x.0 x.1)) }
+    ensures again { (quote : ℕ) (ls : QuotedLines) (p rest : List ℕ) → IsQuoted quote ls p rest →
         quoted_at (p ++ rest) ≡ Some (p, rest) }
-    ensures one { (quote other_quote : ℕ) (ls other_ls : Lines) (p rest q other : List ℕ) →
+    ensures one { (quote other_quote : ℕ) (ls other_ls : QuotedLines) (p rest q other : List ℕ) →
         p ++ rest ≡ q ++ other → IsQuoted quote ls p rest → IsQuoted other_quote other_ls q other →
         (p ≡ q) × (rest ≡ other) }
 {}
 
 /// What is read as the content of a quoted scalar is what its lines stand for.
 pub fn quoted_folds()
-    ensures { (quote : ℕ) (ls : Lines) (piece rest : List ℕ) → IsQuoted quote ls piece rest →
-        quoted_content piece ≡ content ls }
+    ensures { (quote : ℕ) (ls : QuotedLines) (piece rest : List ℕ) → IsQuoted quote ls piece rest →
+        quoted_content piece ≡ quoted_lines_content ls }
 {}
 
 /// Each text is made of lines, and what is read as the content of a plain scalar is what these
 /// stand for.
 pub fn plain_folds()
-    ensures lines { (text : List ℕ) → ((ls : Lines) × IsPlainLines ls text) }
-    ensures content { (ls : Lines) (text : List ℕ) → IsPlainLines ls text →
-        plain_content text ≡ content ls }
+    ensures lines { (text : List ℕ) → ((ls : QuotedLines) × IsPlainLines ls text) }
+    ensures content { (ls : QuotedLines) (text : List ℕ) → IsPlainLines ls text →
+        plain_content text ≡ quoted_lines_content ls }
 {}
 
 /// What is written in quotes is a quoted scalar that stands for its string, is a text, and holds no
 /// break; in single quotes it is one before any rest but a further quote.
 pub fn quoted_spells()
     ensures double { (t rest : List ℕ) → IsUtf8 t →
-        ((ls : Lines) × (IsQuoted 34 ls (double t) rest × (content ls ≡ t))) }
+        ((ls : QuotedLines) × (IsQuoted 34 ls (double t) rest × (quoted_lines_content ls ≡ t))) }
     ensures double_line { (t : List ℕ) → IsUtf8 t →
         (is_text (double t) ≡ true) × (holds_break (double t) ≡ false) }
     ensures single { (t rest : List ℕ) → IsUtf8 t → list_all is_single_char (chars t) ≡ true →
         front (λ b. b == 39) rest ≡ false →
-        ((ls : Lines) × (IsQuoted 39 ls (single t) rest × (content ls ≡ t))) }
+        ((ls : QuotedLines) × (IsQuoted 39 ls (single t) rest × (quoted_lines_content ls ≡ t))) }
     ensures single_line { (t : List ℕ) → IsUtf8 t → list_all is_single_char (chars t) ≡ true →
         (is_text (single t) ≡ true) × (holds_break (single t) ≡ false) }
 {}

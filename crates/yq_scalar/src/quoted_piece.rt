@@ -1,7 +1,7 @@
 //! The quoted scalar at an offset of a text.
 ghost use Rattle.std.specs.Prelude.{◌≡◌, IfErr, IfOk, Ok};
 ghost use Rattle.std.specs.Str.{IsCharBoundary};
-ghost use Rattle.yq_flow_scalars.specs.Answers.{Reads};
+ghost use Rattle.yq_flow_scalars.specs.Answers.{ReadsAs};
 ghost use Rattle.yq_block_scalars.specs.ScalarPiece.{IsReadPiece};
 ghost use Rattle.yq_block_scalars.specs.QuotedPiece as spec;
 ghost use Rattle.yq_flow_scalars.specs.declared.fault.FaultKind.TheVariants.{BadScalar};
@@ -12,7 +12,7 @@ use yq_flow_scalars::{FaultKind, Piece, Style, inline_piece};
 
 /// The style of a scalar in these quotes.
 fn style_of(quote: u8) -> Style
-    ensures { result ≡ spec.style_of quote }
+    ensures { result ≡ spec.quoted_style quote }
 {
     if quote == b'\'' {
         Style::Single
@@ -28,7 +28,7 @@ fn style_of(quote: u8) -> Style
 #[tactic(auto, using(yq_block_scalars::proofs::QuotedPieceLaws::found_by))]
 pub fn read_quoted(text: &str, at: usize) -> Result<Piece, FaultKind>
     requires { IsCharBoundary text.now at }
-    ensures exact { Reads (λ p. p) result (spec.quoted_from at text.now) }
+    ensures exact { ReadsAs (λ p. p) result (spec.quoted_from at text.now) }
     ensures found { IfOk result (spec.IsQuotedPiece at text.now) }
     ensures only { (p : Piece) → spec.IsQuotedPiece at text.now p → result ≡ Ok p }
     ensures is_piece { IfOk result (IsReadPiece text.now) }
@@ -40,7 +40,7 @@ pub fn read_quoted(text: &str, at: usize) -> Result<Piece, FaultKind>
 #[tactic(auto, unfolding(yq_block_scalars::specs::QuotedPiece::quoted_from))]
 fn quoted_from(text: &str, at: usize) -> Result<Piece, FaultKind>
     requires { IsCharBoundary text.now at }
-    ensures read { Reads (λ p. p) result (spec.quoted_from at text.now) }
+    ensures read { ReadsAs (λ p. p) result (spec.quoted_from at text.now) }
     ensures fault { IfErr result (λ kind. kind ≡ BadScalar) }
 {
     let (scalar, _) = split_quoted(text.split_at(at).1)?;

@@ -113,7 +113,7 @@ pub fn write_scalar(
 ) -> Result<String, AllocError>
     requires can { can_write scalar.now style place ≡ true }
     requires inline { spec.IsOneLine style }
-    ensures { IfOk result (λ s. string_bytes s ≡ spec.written style scalar.now.text) }
+    ensures { IfOk result (λ s. string_bytes s ≡ spec.written_scalar style scalar.now.text) }
 {
     match style {
         Style::Single => write_quoted(alloc, scalar.text(), '\''),

@@ -7,7 +7,7 @@ ghost use Rattle.yq_flow_scalars.specs.Piece.{deeper, further_spaces};
 ghost use Rattle.yq_flow_scalars.specs.Plain.{ends_plain};
 ghost use Rattle.yq_block_scalars.specs.ReadBack as spec;
 ghost use Rattle.yq_flow_scalars.specs.Scalar.{IsScalar, ScalarText};
-ghost use Rattle.yq_flow_scalars.specs.Text.{front, lines_of};
+ghost use Rattle.yq_flow_scalars.specs.Text.{front, text_lines};
 ghost use Rattle.yq_flow_scalars.specs.Writable.{can_write, in_flow};
 ghost use Rattle.yq_block_scalars.specs.declared.block_lines.TextIndent.{TextIndent};
 ghost use Rattle.yq_block_scalars.specs.declared.block_types.Break.{Break};
@@ -43,6 +43,6 @@ pub fn double_is_read_back()
 pub fn literal_is_read_back()
     ensures { (s : ScalarText) (n : ℤ) (m : ℕ) (br : Break) (before tail rest : List ℕ) →
         IsUtf8 s.text → can_write s Literal Block ≡ true → deeper n ≤ m → is_tail tail ≡ true →
-        ends_block false (record { columns = m; known = true }) (lines_of rest) ≡ true →
+        ends_block false (record { columns = m; known = true }) (text_lines rest) ≡ true →
         spec.BlockIsReadBack n s m br tail before rest }
 {}

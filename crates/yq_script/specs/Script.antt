@@ -21,8 +21,8 @@ new_text (keep t ∷ ss) = t ++ new_text ss
 new_text (put o w ∷ ss) = w ++ new_text ss
 
 -- the text before what stands at its end (own)
-abbrev pub text_before : List ℕ → List ℕ → List ℕ
-text_before t behind = take (length t - length behind) t
+abbrev pub script_text_before : List ℕ → List ℕ → List ℕ
+script_text_before t behind = take (length t - length behind) t
 
 -- a kept segment before others; no bytes are no segment (own)
 abbrev pub keep_before : List ℕ → List Segment → List Segment

@@ -12,7 +12,7 @@ use Rattle.yq_flow_scalars.specs.Text.{is_empty}
 use Rattle.yq_flow_scalars.specs.Tree.{Node}
 use Rattle.yq_flow_scalars.specs.declared.kind.Kind.{Kind}
 use Rattle.yq_flow_scalars.specs.declared.kind.Kind.TheVariants as kinds
-use Rattle.yq_nodes.specs.Nodes.{first_is}
+use Rattle.yq_nodes.specs.Nodes.{begins_with}
 use Rattle.yq_nodes.specs.Scalars.{is_quoted}
 use Rattle.yq_nodes.specs.Trees.{scalar_node}
 use Rattle.yq_lines.specs.Outline.{anchored}
@@ -22,7 +22,7 @@ use Rattle.yq_cut.specs.Seams.{is_block}
 use Rattle.yq_cut.specs.View.{content_cut}
 use Rattle.yq_lines.specs.Lines.{content_anchor, head_of}
 use Rattle.yq_documents.specs.Reading.{content_is_fit, cut_of, read_at}
-use Rattle.yq_documents.specs.RowReading.{head_at, is_block_head, is_short_plain}
+use Rattle.yq_documents.specs.RowReading.{read_head, is_block_head, is_short_plain}
 use Rattle.yq_documents.proofs.HeadLaws.{fitting, head_is, head_text}
 use Rattle.yq_row_places.specs.NodesAt.{node_in, scalar_in}
 use Rattle.yq_row_places.specs.StandingViews.{IsHeldRow}
@@ -35,7 +35,7 @@ use Rattle.yq_change.specs.StandingLaws.{StandsThere}
 use Rattle.yq_change.proofs.RowStayLaws.{rows_stay_there}
 use Rattle.yq_change.proofs.StandingMarks.{row_there}
 use Rattle.yq_change.proofs.StandingRows.{rows_stand}
-use Rattle.yq_edits.specs.Replacing.{are_same, is_kept, may_spell}
+use Rattle.yq_edits.specs.Replacing.{are_same, keeps_scalar, may_spell}
 use Rattle.yq_edits.specs.Style.{is_same, table_row}
 
 -- ---- a plain text that a scalar can't have
@@ -71,8 +71,8 @@ other_plain t s e = go (resolve t)
 -- ---- the scalar in the head of a row
 
 -- a plain scalar on one line is read as one
-by_plain : (whole : List ℕ) (n : ℤ) (head t : List ℕ) → is_empty head ≡ false → is_block_head head ≡ false → is_quoted head ≡ false → is_short_plain head ≡ true → head_at whole n head t ≡ Some (Some (scalar_node (plain_of head)))
-unfolding head_at
+by_plain : (whole : List ℕ) (n : ℤ) (head t : List ℕ) → is_empty head ≡ false → is_block_head head ≡ false → is_quoted head ≡ false → is_short_plain head ≡ true → read_head whole n head t ≡ Some (Some (scalar_node (plain_of head)))
+unfolding read_head
 by_plain whole n head t some block quoted short = rw (some, block, short, quoted) refl
 
 no_mark : (n : ℤ) (x : Content) (rest : List ℕ) → IsContent n x rest → is_block x ≡ false → is_empty (content_cut x).3 ≡ false → is_block_head (content_cut x).3 ≡ false
@@ -82,7 +82,7 @@ no_mark n (Block space anchor b) rest h plain some = absurd (false≢true (sym p
 
 no_quotes : (head : List ℕ) → is_short_plain head ≡ true → is_quoted head ≡ false
 no_quotes head short =
-    let marks : Bool = first_is 42 head || (first_is 91 head || first_is 123 head) in
+    let marks : Bool = begins_with 42 head || (begins_with 91 head || begins_with 123 head) in
     (neither (is_quoted head) marks (not_so (is_quoted head || marks) (and_parts (not (is_quoted head || marks)) (not (holds_break head)) short).0)).0
 
 fitted : (b : Bool) (o : Option Node) (x : Node) → fitting b o ≡ Some (Some x) → o ≡ Some x
@@ -100,7 +100,7 @@ read_again : (t : List ℕ) → read_at t ≡ Some (cut_of t) → read_at (cut_t
 read_again t read = let r = (exact_reading t (cut_of t)).0 read in ap read_at (sym (r.0.cut.text ∙ ap cut_text r.1)) ∙ read
 
 -- whether a value is the scalar that is there
-pub kept_in_row : (t : List ℕ) (n : ℕ) (steps : List Step) (v : Node) (x : HeldRow) → read_at t ≡ Some (cut_of t) → IsHeldRow n steps (cut_of t) x → x.inline ≡ true → is_short_plain x.head.now ≡ true → are_same (Some (plain_of x.head.now)) (scalar_in v) ≡ is_kept (node_in n steps (cut_of t)) v
+pub kept_in_row : (t : List ℕ) (n : ℕ) (steps : List Step) (v : Node) (x : HeldRow) → read_at t ≡ Some (cut_of t) → IsHeldRow n steps (cut_of t) x → x.inline ≡ true → is_short_plain x.head.now ≡ true → are_same (Some (plain_of x.head.now)) (scalar_in v) ≡ keeps_scalar (node_in n steps (cut_of t)) v
 kept_in_row t n [] v x read is inline short = absurd (no_root_rows n (cut_of t) is.entry is.found)
 kept_in_row t n (s ∷ ss) v x read is inline short =
     let c : Cut = cut_of t in

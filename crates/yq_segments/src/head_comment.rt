@@ -1,6 +1,6 @@
 //! HeadComment: comments on lines above a key or dash.
 ghost use Rattle.std.specs.Prelude.{◌≡◌, ◌++◌, IfOk, OnOk, string_bytes};
-ghost use Rattle.yq_meaning.specs.Meaning.{head_of};
+ghost use Rattle.yq_meaning.specs.Meaning.{head_comment_lines};
 ghost use Rattle.yq_documents.specs.Located.{steps_of};
 ghost use Rattle.yq_documents.specs.Reading.{cut_of};
 ghost use Rattle.yq_edits.specs.CommentEdits as spec;
@@ -30,7 +30,7 @@ fn push_line(out: &mut String, column: usize, br: &str, text: &str) -> Result<()
 
 /// The lines of a head comment with a text: one for each line of that.
 fn head_lines(alloc: Global, column: usize, br: &str, text: &str) -> Result<String, AllocError>
-    ensures { IfOk result (λ s. string_bytes s ≡ spec.head_lines column br.now (head_of text.now)) }
+    ensures { IfOk result (λ s. string_bytes s ≡ spec.head_lines column br.now (head_comment_lines text.now)) }
 {
     let mut out = String::new(alloc);
     if text.is_empty() {

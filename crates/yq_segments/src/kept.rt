@@ -20,7 +20,7 @@ use yq_row_places::HeldRow;
 
 /// Whether a value is a scalar.
 fn holds_scalar(value: &Value) -> bool
-    ensures { result ≡ is_some (scalar_in (values.node_of value.now)) }
+    ensures { result ≡ is_some (scalar_in (values.value_node value.now)) }
 {
     matches!(value, Value::Scalar(_))
 }
@@ -28,7 +28,7 @@ fn holds_scalar(value: &Value) -> bool
 /// Whether a value is a scalar of that kind and that text.
 fn is_scalar(kind: Kind, text: &str, value: &Value) -> bool
     ensures { result ≡ spec.are_same (Some (record { kind = kind; text = text.now }))
-        (scalar_in (values.node_of value.now)) }
+        (scalar_in (values.value_node value.now)) }
 {
     let Value::Scalar(scalar) = value else {
         return false;
@@ -47,8 +47,8 @@ pub fn is_kept(
     value: &Value,
 ) -> Result<bool, AllocError>
     ensures { IfOk result (λ b. b ≡
-        spec.is_kept (node_in path.now.doc (steps_of path.now) (cut_of text.now))
-        (values.node_of value.now)) }
+        spec.keeps_scalar (node_in path.now.doc (steps_of path.now) (cut_of text.now))
+        (values.value_node value.now)) }
 {
     if !holds_scalar(value) {
         return Ok(false);
@@ -83,7 +83,7 @@ fn spells(text: &str, scalar: &Scalar) -> bool
 /// Whether a value is the scalar for which a plain text on one line stands.
 fn is_plain(text: &str, value: &Value) -> bool
     ensures { result ≡ spec.are_same (Some (plain_of text.now))
-        (scalar_in (values.node_of value.now)) }
+        (scalar_in (values.value_node value.now)) }
 {
     let Value::Scalar(scalar) = value else {
         return false;
@@ -105,8 +105,8 @@ pub fn is_kept_in_row(
     requires row { IsHeldRow path.now.doc (steps_of path.now) (cut_of text.now) at.now }
     requires inline { at.now.inline ≡ true }
     ensures { IfOk result (λ b. b ≡
-        spec.is_kept (node_in path.now.doc (steps_of path.now) (cut_of text.now))
-        (values.node_of value.now)) }
+        spec.keeps_scalar (node_in path.now.doc (steps_of path.now) (cut_of text.now))
+        (values.value_node value.now)) }
 {
     if !is_short_plain(at.head) {
         return is_kept(alloc, text, path, value);

@@ -1,6 +1,6 @@
 //! Remove: one of several items or entries of a block collection.
 ghost use Rattle.std.specs.Prelude.{◌≡◌, ◌++◌, IfOk, OnOk, option_map, replicate, string_bytes};
-ghost use Rattle.yq_flow_scalars.specs.Text.{lines_of};
+ghost use Rattle.yq_flow_scalars.specs.Text.{text_lines};
 ghost use Rattle.yq_documents.specs.Located.{steps_of};
 ghost use Rattle.yq_documents.specs.Reading.{cut_of};
 ghost use Rattle.yq_row_places.specs.FirstViews.{first_view};
@@ -37,7 +37,7 @@ fn push_indented<'t>(
     column: usize,
     line: &'t str,
 ) -> Result<(), AllocError>
-    ensures { OnOk result (segments.new ≡ segments.old ++ spec.indented column line.now) }
+    ensures { OnOk result (segments.new ≡ segments.old ++ spec.indent_put column line.now) }
 {
     let (white, rest) = split_white(line);
     let indent = spaces(alloc, column)?;
@@ -88,7 +88,7 @@ fn push_lines<'t>(
     gap: &'t str,
 ) -> Result<(), AllocError>
     ensures { OnOk result (segments.new ≡
-        segments.old ++ spec.lines_mended (seam_view seam) (lines_of gap.now)) }
+        segments.old ++ spec.lines_mended (seam_view seam) (text_lines gap.now)) }
 {
     let mut rest = gap;
     'lines: while !rest.is_empty() {

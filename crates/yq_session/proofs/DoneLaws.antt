@@ -2,7 +2,7 @@
 use Rattle.std.proofs.Common.{◌≡◌, ℕ, List, ◌++◌, if◌then◌else◌, refl, sym, ap, ◌∙◌, subst, append_assoc, rules}
 use Rattle.std.specs.Prelude.{Err, Result, is_ok}
 use Rattle.yq_cut.specs.Grammar.{IsCut}
-use Rattle.yq_cut.specs.Items.{items_of}
+use Rattle.yq_cut.specs.Items.{items_of_cut}
 use Rattle.yq_cut.specs.Kept.{IsPlaced}
 use Rattle.yq_cut.specs.Rows.{Cut}
 use Rattle.yq_cut.specs.View.{rows_view}
@@ -56,7 +56,7 @@ gives_way t new kept p x come k read = record {
   small = k.small;
 }
 
-new_sides : (t new : List ℕ) (kept : Kept) (p q : Places) (x : Touched) (come : Come) (d : Cut) → (k : TextChange t new kept p x) → ArePlacesRead k.read.written come → RowsExchanged p x come q → IsCut (exchanged kept t new) d → BothSides q (items_of d)
+new_sides : (t new : List ℕ) (kept : Kept) (p q : Places) (x : Touched) (come : Come) (d : Cut) → (k : TextChange t new kept p x) → ArePlacesRead k.read.written come → RowsExchanged p x come q → IsCut (exchanged kept t new) d → BothSides q (items_of_cut d)
 unfolding gives_way
 new_sides t new kept p q x come d k read done is =
     (k.before ++ k.read.written, k.read.behind, append_assoc k.before k.read.written k.read.behind ∙ k.items d is, done (gives_way t new kept p x come k read))

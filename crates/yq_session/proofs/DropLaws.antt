@@ -6,11 +6,11 @@ use Rattle.std.proofs.lemmas.Option.{get_or_from_slice_get, same_Some, slice_get
 use Rattle.std.proofs.lemmas.Str.{IsUtf8-nil}
 use Rattle.yq_cut.specs.Ends.{end_at}
 use Rattle.yq_cut.specs.Grammar.{IsCut}
-use Rattle.yq_cut.specs.Items.{Item, row_item, end_item, items_of, items_text}
-use Rattle.yq_cut.specs.Kept.{ArePlaced, near, ends_near, turned, TextsIn}
+use Rattle.yq_cut.specs.Items.{Item, row_item, end_item, items_of_cut, items_text}
+use Rattle.yq_cut.specs.Kept.{ArePlaced, near, ends_near, row_from_end, TextsIn}
 use Rattle.yq_cut.specs.Offsets.{offsets_of}
 use Rattle.yq_cut.specs.Reading.{all_parts}
-use Rattle.yq_cut.specs.Regions.{IsReadAlone, alone, no_items}
+use Rattle.yq_cut.specs.Regions.{IsReadAlone, region_items, no_items}
 use Rattle.yq_cut.specs.Rows.{Row, Cut}
 use Rattle.yq_cut.specs.Touched.{TouchesOnly}
 use Rattle.yq_cut.specs.View.{slices}
@@ -48,10 +48,10 @@ row_next p f ys e at own less = go ys (at.ends_are ∙ ends_joined 0 0 f ys)
         absurd (omega (arith, less, ap (λ (x : EndPlace). x.rows) same))
 
 -- the first row behind a split begins where it stands
-first_there : (n m : ℕ) (os tail : List declared.Offsets) (r : Row) → map (turned n) os ≡ offsets_of m (slices r) ∷ tail → first_byte n os ≡ m
+first_there : (n m : ℕ) (os tail : List declared.Offsets) (r : Row) → map (row_from_end n) os ≡ offsets_of m (slices r) ∷ tail → first_byte n os ≡ m
 first_there n m [] tail r e = absurd cc
 first_there n m (o ∷ os) tail r e =
-    let first : turned n o ≡ offsets_of m (slices r) = cc in
+    let first : row_from_end n o ≡ offsets_of m (slices r) = cc in
     ap (λ (x : declared.Offsets). x.start) first
 
 none_behind : (l : List Item) → false ≡ not (no_items l) → l ≡ []
@@ -59,10 +59,10 @@ none_behind [] e = refl
 none_behind (i ∷ l) e = absurd cc
 
 -- items with one text are read alone as the same ones
-read_same : (w z xs ys : List Item) → IsReadAlone w z → IsReadAlone xs ys → items_text w [] ≡ items_text xs [] → alone w z ≡ alone xs ys
+read_same : (w z xs ys : List Item) → IsReadAlone w z → IsReadAlone xs ys → items_text w [] ≡ items_text xs [] → region_items w z ≡ region_items xs ys
 read_same w z xs ys h j text =
     let same : h.cut ≡ j.cut = same_Some h.cut j.cut (sym h.read ∙ (ap (all_parts true) text ∙ j.read)) in
-    sym h.items ∙ (ap items_of same ∙ j.items)
+    sym h.items ∙ (ap items_of_cut same ∙ j.items)
 
 module _ (t : List ℕ) (kept : Kept) (p : Places) (x : Touched) (last : EndPlace) (k : TextChange t [] kept p x) (d : DropsLast p (length t) x kept last) (c : Cut) (is : IsCut t c) where
   abbrev b : List Item
@@ -104,7 +104,7 @@ module _ (t : List ℕ) (kept : Kept) (p : Places) (x : Touched) (last : EndPlac
 
   -- the split
   abbrev back : List declared.Offsets
-  back = map (turned (text_length (f ++ rest))) (reverse p.behind.items)
+  back = map (row_from_end (text_length (f ++ rest))) (reverse p.behind.items)
 
   sides : p.front.items ++ back ≡ near 0 f ++ near (0 + text_length f) rest
   sides = placed.rows_are ∙ near_joined 0 f rest
@@ -144,8 +144,8 @@ module _ (t : List ℕ) (kept : Kept) (p : Places) (x : Touched) (last : EndPlac
   written : k.read.written ≡ one ++ final
   written =
       let mine : IsReadAlone one rest = region one rest (record { text = t; cut = c; is_cut = is; front = b; items = sym (k.old_items c is) ∙ ap (λ l. b ++ l) own.2; some = refl }) in
-      ap (alone k.read.written) (sym nothing)
-      ∙ (read_same k.read.written k.read.behind one rest k.read.read mine (sym k.read.text ∙ (region_is ∙ front_text)) ∙ ap (alone one) next.2)
+      ap (region_items k.read.written) (sym nothing)
+      ∙ (read_same k.read.written k.read.behind one rest k.read.read mine (sym k.read.text ∙ (region_is ∙ front_text)) ∙ ap (region_items one) next.2)
 
   -- the places that stay
   ends_final : ends_near 0 0 (f ++ final) ≡ ends_near 0 0 f ++ end_at (0 + text_length f) (0 + length (near 0 f)) [] [] ∷ []
@@ -183,7 +183,7 @@ module _ (t : List ℕ) (kept : Kept) (p : Places) (x : Touched) (last : EndPlac
   pub dropped_places : (u : List ℕ) (q : Places) (new : Cut) → IsCut (exchanged kept t []) new → u ≡ take kept.front t →
       q.front.items ≡ p.front.items → q.behind.items ≡ [] → q.ends.items ≡ slice_set p.ends.items (length p.ends.items - 1) last → q.split ≡ kept.front → ArePlacesOf u q
   dropped_places u q new new_is text_is rows behind ends split =
-      let both : BothSides q (items_of new) = (b ++ k.read.written, k.read.behind, append_assoc b k.read.written k.read.behind ∙ k.items new new_is, rows_dropped q rows behind ends split) in
+      let both : BothSides q (items_of_cut new) = (b ++ k.read.written, k.read.behind, append_assoc b k.read.written k.read.behind ∙ k.items new new_is, rows_dropped q rows behind ends split) in
       subst (λ (l : List ℕ). ArePlacesOf l q) (sym (text_is ∙ kept_text)) (places_of (exchanged kept t []) q (placed_in (exchanged kept t []) q new new_is both))
 
   -- what is counted

@@ -8,7 +8,7 @@ use Rattle.std.proofs.lemmas.Option.{get_or_from_slice_get, slice_get_within}
 use Rattle.std.specs.List.{All}
 use Rattle.yq_cut.specs.Items.{Item, row_item, end_item}
 use Rattle.yq_cut.specs.Kept.{ArePlaced, far, kept_rows, near, ends_near, raised, placed_rows, TextsIn}
-use Rattle.yq_cut.specs.Regions.{alone}
+use Rattle.yq_cut.specs.Regions.{region_items}
 use Rattle.yq_cut.specs.Rows.{print_row}
 use Rattle.yq_cut.specs.declared.ends.EndPlace.{EndPlace}
 use Rattle.yq_cut.specs.declared.offsets.Offsets as declared
@@ -88,9 +88,9 @@ texts_second (end_item gap marker ∷ xs) ys h = texts_second xs ys h.2
 
 -- items that were read alone, and the empty end behind them
 pub record AloneAre (w z : List Item) : Type 0 where
-  pub long : text_length (alone w z) ≡ text_length w
-  pub rows : near 0 (alone w z) ≡ near 0 w
-  pub texts : TextsIn (alone w z) → TextsIn w
+  pub long : text_length (region_items w z) ≡ text_length w
+  pub rows : near 0 (region_items w z) ≡ near 0 w
+  pub texts : TextsIn (region_items w z) → TextsIn w
 
 pub alone_are : (w z : List Item) → AloneAre w z
 alone_are w z = search (rules, joined_long, near_joined, append-nil, texts_first)

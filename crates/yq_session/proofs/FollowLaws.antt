@@ -5,7 +5,7 @@ use Rattle.std.proofs.lemmas.List.{append_cancel_left, append_cancel_right}
 use Rattle.std.proofs.lemmas.Str.{IsUtf8-nil}
 use Rattle.std.specs.Str.{IsUtf8}
 use Rattle.yq_cut.specs.Grammar.{IsCut, IsMarkerLine}
-use Rattle.yq_cut.specs.Items.{Item, end_item, items_of, items_text, nothing_asked, asked_of, AreRowItems}
+use Rattle.yq_cut.specs.Items.{Item, end_item, items_of_cut, items_text, nothing_asked, asked_of, AreRowItems}
 use Rattle.yq_cut.specs.Kept.{kept_rows, near, ends_near, TextsIn}
 use Rattle.yq_cut.specs.Meter.{begins_line}
 use Rattle.yq_cut.specs.Regions.{StandIn, ended, no_items}
@@ -44,7 +44,7 @@ three a b c = text_split a (b ++ c) ∙ ap (λ l. items_text a [] ++ l) (text_sp
 module _ (t new : List ℕ) (kept : Kept) (p : Places) (x : Touched) (h : Follows t p kept new) (split : IsSplitAt kept.front (length t) p) (before : IsSideBefore p kept.front x.front) (behind : IsSideBehind p (length t) kept.back x.old)
     (marked_is : x.marked ≡ marked_end p.ends.items x.front x.old (length t - kept.back)) (more_is : x.more ≡ (ltb x.old.rows (length (kept_rows p)) || ltb x.old.ends (length p.ends.items))) where
   abbrev xs : List Item
-  xs = items_of h.old_cut
+  xs = items_of_cut h.old_cut
 
   abbrev f : List Item
   f = in_front kept.front xs
@@ -149,7 +149,7 @@ module _ (t new : List ℕ) (kept : Kept) (p : Places) (x : Touched) (h : Follow
       go l h1 h2 = search (rules, le-ltb, ⊎_elim, lt-ltb, some_behind, cases_lt, or_right)
 
   -- the items that are read
-  some_left : (l : List Item) → items_of h.new_cut ≡ f ++ l → no_items l ≡ false
+  some_left : (l : List Item) → items_of_cut h.new_cut ≡ f ++ l → no_items l ≡ false
   some_left l h1 = search (rules, append-nil, all_in_front, cut_some, new_size, cut_long, long, length-append, length-take, length-drop)
 
   stand_in : (a b : List Item) → w ++ z ≡ a ++ b → StandIn a b
@@ -227,8 +227,8 @@ module _ (t new : List ℕ) (kept : Kept) (p : Places) (x : Touched) (h : Follow
     front_rows = ap (λ (n : ℕ). take n p.front.items) (ap (λ (s : Side). s.rows) front_is) ∙ front_taken p xs kept.front at_xs here (omega (arith, fits));
     back_rows = back_taken p xs kept.front kept.back at_xs here fits;
     edges = edges;
-    old_items = λ c is. sym h.touches.old_are ∙ ap items_of (one_cut t h.old_cut c h.old_is is);
-    items = λ d is. sym h.touches.new_are ∙ ap items_of (one_cut (exchanged kept t new) h.new_cut d h.new_is is);
+    old_items = λ c is. sym h.touches.old_are ∙ ap items_of_cut (one_cut t h.old_cut c h.old_is is);
+    items = λ d is. sym h.touches.new_are ∙ ap items_of_cut (one_cut (exchanged kept t new) h.new_cut d h.new_is is);
     small = omega (arith, new_size, h.new_is.size, joined_long f (w ++ z), joined_long w z);
     once = once;
   }

@@ -4,8 +4,8 @@ use Rattle.std.proofs.lemmas.List.{reverse-append, reverse-reverse}
 use Rattle.std.proofs.lemmas.List.Elements.{All-head, All-nil, All-push, All-tail}
 use Rattle.std.specs.List.{All}
 use Rattle.yq_cut.specs.Grammar.{IsCut}
-use Rattle.yq_cut.specs.Items.{Item, row_item, end_item, items_of, items_text, view_of_items}
-use Rattle.yq_cut.specs.Kept.{ArePlaced, IsPlaced, far, near, ends_near, placed_rows, turned, TextsIn}
+use Rattle.yq_cut.specs.Items.{Item, row_item, end_item, items_of_cut, items_text, view_of_items}
+use Rattle.yq_cut.specs.Kept.{ArePlaced, IsPlaced, far, near, ends_near, placed_rows, row_from_end, TextsIn}
 use Rattle.yq_cut.specs.Offsets.{offsets_of}
 use Rattle.yq_cut.specs.Rows.{Cut, print_row}
 use Rattle.yq_cut.specs.View.{RowsView, rows_view, slices}
@@ -28,7 +28,7 @@ pub placed_at : (p : Places) (b z : List Item) → ArePlaced p b z → AreAt p (
 placed_at p b z h =
     let n = text_length (b ++ z) in
     let front : p.front.items ≡ near 0 b = h.front_are in
-    let back : map (turned n) (reverse p.behind.items) ≡ near (text_length b) z = ap (map (turned n)) h.behind_are ∙ far_near z (items_text b []) (items_text (b ++ z) []) (text_split b z) in
+    let back : map (row_from_end n) (reverse p.behind.items) ≡ near (text_length b) z = ap (map (row_from_end n)) h.behind_are ∙ far_near z (items_text b []) (items_text (b ++ z) []) (text_split b z) in
     search (rules, near_joined, front, back)
 
 pub places_are : (p : Places) (s : RowsView) (xs : List Item) → IsPlaced p s → s ≡ view_of_items xs → AreAt p xs
@@ -36,10 +36,10 @@ places_are p s xs h e =
     let same = same_view (h.before ++ h.behind) xs 0 [] (sym h.rows_view_is ∙ e) in
     search (rules, placed_at, same)
 
-pub cut_places : (p : Places) (c : Cut) → IsPlaced p (rows_view c) → AreAt p (items_of c)
-cut_places p c h = places_are p (rows_view c) (items_of c) h (sym (items_view_is c))
+pub cut_places : (p : Places) (c : Cut) → IsPlaced p (rows_view c) → AreAt p (items_of_cut c)
+cut_places p c h = places_are p (rows_view c) (items_of_cut c) h (sym (items_view_is c))
 
-pub cut_long : (t : List ℕ) (c : Cut) → IsCut t c → length t ≡ text_length (items_of c)
+pub cut_long : (t : List ℕ) (c : Cut) → IsCut t c → length t ≡ text_length (items_of_cut c)
 cut_long t c h = ap length (h.text ∙ sym (items_of_text c))
 
 -- ---- where rows stand
@@ -66,7 +66,7 @@ record Divided (m n : ℕ) (front behind : List declared.Offsets) (xs : List Ite
   pub later : List Item
   pub items : before ++ later ≡ xs
   pub front_are : front ≡ near m before
-  pub behind_are : map (turned n) behind ≡ near (m + text_length before) later
+  pub behind_are : map (row_from_end n) behind ≡ near (m + text_length before) later
   pub first : first_byte n behind ≡ m + text_length before
 
 -- the firsts of two lists that are one, and what is behind them
@@ -79,7 +79,7 @@ others x y xs ys e = cc
 some_none : {A : Type 0} (x : A) (xs : List A) → x ∷ xs ≡ [] → ⊥
 some_none x xs e = absurd cc
 
-divided : (xs : List Item) (m n : ℕ) (front behind : List declared.Offsets) → front ++ map (turned n) behind ≡ near m xs → m + text_length xs ≡ n → Divided m n front behind xs
+divided : (xs : List Item) (m n : ℕ) (front behind : List declared.Offsets) → front ++ map (row_from_end n) behind ≡ near m xs → m + text_length xs ≡ n → Divided m n front behind xs
 divided [] m n [] [] e long = record { before = []; later = []; items = refl; front_are = refl; behind_are = refl; first = sym long }
 divided [] m n [] (o ∷ os) e long = absurd (some_none _ _ e)
 divided [] m n (f ∷ front) behind e long = absurd (some_none _ _ e)
@@ -90,13 +90,13 @@ divided (end_item gap marker ∷ xs) m n front behind e long =
     record { before = end_item gap marker ∷ d.before; later = d.later; items = ap (λ l. end_item gap marker ∷ l) d.items; front_are = d.front_are; behind_are = d.behind_are ∙ ap (λ (k : ℕ). near k d.later) size; first = d.first ∙ size }
 divided (row_item r ∷ xs) m n [] [] e long = absurd (some_none _ _ (sym e))
 divided (row_item r ∷ xs) m n [] (o ∷ os) e long =
-    let first : turned n o ≡ offsets_of m (slices r) = firsts _ _ _ _ e in
+    let first : row_from_end n o ≡ offsets_of m (slices r) = firsts _ _ _ _ e in
     let here : m ≡ m + text_length [] = omega arith in
     record { before = []; later = row_item r ∷ xs; items = refl; front_are = refl; behind_are = e ∙ ap (λ (k : ℕ). near k (row_item r ∷ xs)) here; first = ap (λ (x : declared.Offsets). x.start) first ∙ here }
 divided (row_item r ∷ xs) m n (f ∷ front) behind e long =
     let own = length (print_row r []) in
     let first : f ≡ offsets_of m (slices r) = firsts _ _ _ _ e in
-    let rest : front ++ map (turned n) behind ≡ near (m + own) xs = others _ _ _ _ e in
+    let rest : front ++ map (row_from_end n) behind ≡ near (m + own) xs = others _ _ _ _ e in
     let d = divided xs (m + own) n front behind rest (omega (arith, long, first_long (row_item r) xs)) in
     let size : (m + own) + text_length d.before ≡ m + text_length (row_item r ∷ d.before) = omega (arith, first_long (row_item r) d.before) in
     record { before = row_item r ∷ d.before; later = d.later; items = ap (λ l. row_item r ∷ l) d.items; front_are = (λ i. first i ∷ d.front_are i); behind_are = d.behind_are ∙ ap (λ (k : ℕ). near k d.later) size; first = d.first ∙ size }
@@ -112,14 +112,14 @@ settled p xs h within split =
     let text : items_text xs [] ≡ items_text d.before [] ++ items_text d.later [] = ap (λ (l : List Item). items_text l []) (sym d.items) ∙ text_split d.before d.later in
     let size : text_length d.later ≤ n = omega (arith, ap text_length d.items, joined_long d.before d.later) in
     let begin : 0 + text_length d.before ≡ text_length d.before = omega arith in
-    let turned_far : map (turned n) (reverse p.behind.items) ≡ map (turned n) (far d.later) = d.behind_are ∙ (ap (λ (k : ℕ). near k d.later) begin ∙ sym (far_near d.later (items_text d.before []) (items_text xs []) text)) in (
+    let turned_far : map (row_from_end n) (reverse p.behind.items) ≡ map (row_from_end n) (far d.later) = d.behind_are ∙ (ap (λ (k : ℕ). near k d.later) begin ∙ sym (far_near d.later (items_text d.before []) (items_text xs []) text)) in (
       d.before,
       d.later,
       d.items,
       record {
         split_is = split ∙ (d.first ∙ begin);
         front_are = d.front_are;
-        behind_are = sym (turned_twice n (reverse p.behind.items) (all_reversed (Within n) p.behind.items within)) ∙ (ap (map (turned n)) turned_far ∙ turned_twice n (far d.later) (far_within n d.later size));
+        behind_are = sym (turned_twice n (reverse p.behind.items) (all_reversed (Within n) p.behind.items within)) ∙ (ap (map (row_from_end n)) turned_far ∙ turned_twice n (far d.later) (far_within n d.later size));
         ends_are = h.ends_are ∙ ap (λ l. ends_near 0 0 l) (sym d.items);
         texts = subst TextsIn (sym d.items) h.texts;
         small = subst (λ (l : List Item). text_length l < 2 ^ 32) (sym d.items) h.small;
@@ -128,7 +128,7 @@ settled p xs h within split =
 
 -- ---- places of a text
 
-pub placed_in : (t : List ℕ) (p : Places) (c : Cut) → IsCut t c → BothSides p (items_of c) → IsPlacedIn t p
+pub placed_in : (t : List ℕ) (p : Places) (c : Cut) → IsCut t c → BothSides p (items_of_cut c) → IsPlacedIn t p
 placed_in t p c cut s = record { cut = c; is_cut = cut; placed = record { before = s.0; behind = s.1; placed = s.3; rows_view_is = sym (items_view_is c) ∙ ap view_of_items (sym s.2) } }
 
 pub places_of : (t : List ℕ) (p : Places) → IsPlacedIn t p → ArePlacesOf t p
@@ -142,7 +142,7 @@ still_at p q xs len long rows ends h = search rules
 
 long_by : (t : List ℕ) (c : Cut) (p : Places) → IsCut t c → (h : IsPlaced p (rows_view c)) → text_length (h.before ++ h.behind) ≡ length t
 long_by t c p cut h =
-    let same = same_view (items_of c) (h.before ++ h.behind) 0 [] (items_view_is c ∙ h.rows_view_is) in
+    let same = same_view (items_of_cut c) (h.before ++ h.behind) 0 [] (items_view_is c ∙ h.rows_view_is) in
     sym (cut_long t c cut ∙ ap length same.text)
 
 -- where rows stand before they are moved
@@ -153,8 +153,8 @@ pub behind_in : (t : List ℕ) (p : Places) (n : ℕ) → n ≡ length t → IsP
 behind_in t p n long h = subst (λ (m : ℕ). All (Within m) p.behind.items) (long_by t h.cut p h.is_cut h.placed ∙ sym long) (behind_within p h.placed.before h.placed.behind h.placed.placed)
 
 -- and once they are
-pub moved_sides : (t : List ℕ) (p q : Places) (n : ℕ) → n ≡ length t → (h : IsPlacedIn t p) → placed_rows n q ≡ placed_rows n p → q.ends.items ≡ p.ends.items → All (Within n) q.behind.items → q.split ≡ first_byte n (reverse q.behind.items) → BothSides q (items_of h.cut)
+pub moved_sides : (t : List ℕ) (p q : Places) (n : ℕ) → n ≡ length t → (h : IsPlacedIn t p) → placed_rows n q ≡ placed_rows n p → q.ends.items ≡ p.ends.items → All (Within n) q.behind.items → q.split ≡ first_byte n (reverse q.behind.items) → BothSides q (items_of_cut h.cut)
 moved_sides t p q n long h same ends within split =
-    let xs = items_of h.cut in
+    let xs = items_of_cut h.cut in
     let size : n ≡ text_length xs = long ∙ cut_long t h.cut h.is_cut in
     settled q xs (still_at p q xs n size same ends (cut_places p h.cut h.placed)) (subst (λ (m : ℕ). All (Within m) q.behind.items) size within) (subst (λ (m : ℕ). q.split ≡ first_byte m (reverse q.behind.items)) size split)

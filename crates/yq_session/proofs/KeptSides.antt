@@ -1,7 +1,7 @@
 -- How long what a change keeps on either side is.
 use Rattle.std.proofs.Common.{◌≡◌, ⊎_elim, ltb, cond, Bool, true, false, ℕ, ◌+◌, ◌-◌, ◌<◌, ◌≤◌, List, [], ◌∷◌, ◌++◌, length, refl, sym, ap, ◌∙◌, arith, append_assoc, length-append, ltb-true, rules}
 use Rattle.std.proofs.lemmas.Bool.{cases_lt, lt-ltb}
-use Rattle.yq_cut.specs.Items.{Item, row_item, end_item, items_of, rows_items}
+use Rattle.yq_cut.specs.Items.{Item, row_item, end_item, items_of_cut, rows_items}
 use Rattle.yq_cut.specs.Kept.{near, ends_near}
 use Rattle.yq_cut.specs.Regions.{no_items}
 use Rattle.yq_cut.specs.Rows.{Row, Cut, last, marked}
@@ -26,9 +26,9 @@ rows_some : (rs : List Row) (i : Item) (xs : List Item) → no_items (rows_items
 rows_some [] i xs = refl
 rows_some (r ∷ rs) i xs = refl
 
-pub cut_some : (c : Cut) → no_items (items_of c) ≡ false
+pub cut_some : (c : Cut) → no_items (items_of_cut c) ≡ false
 cut_some (last p) = rows_some p.rows (end_item p.end []) []
-cut_some (marked p marker c) = rows_some p.rows (end_item p.end marker) (items_of c)
+cut_some (marked p marker c) = rows_some p.rows (end_item p.end marker) (items_of_cut c)
 
 -- how long what is kept on either side is
 pub front_long : (n : ℕ) (xs : List Item) → text_length (in_front n xs) ≤ n

@@ -4,7 +4,7 @@ use Rattle.std.proofs.lemmas.Bool.{and_parts, cases_Bool, false≢true, not-fals
 use Rattle.std.specs.Str.Parse.{AllDigits}
 use Rattle.std.specs.Char.{digit_value}
 use Rattle.yq_flow_scalars.specs.Plain.{ends_plain}
-use Rattle.yq_flow_scalars.specs.Quoted.{Break, Char, Lines, last, line, spell_char, spell_chars, spell_end, spell_lines, AreChars, AreLines, IsChar, beside}
+use Rattle.yq_flow_scalars.specs.Quoted.{Break, Char, QuotedLines, last, line, spell_char, spell_chars, spell_end, spell_lines, AreChars, AreLines, IsChar, beside}
 use Rattle.yq_flow_scalars.specs.Text.{is_empty, is_feed, is_line, is_marker, is_space, upto, NoneIn}
 
 -- No line but the first begins with a marker in a piece before a rest, nor does the first, where the piece begins a line.
@@ -99,7 +99,7 @@ chars_no_feed quote (c ∷ cs) rest h = both_no_feed (spell_char c) (spell_chars
 break_lines : (escaped : Bool) (b : Break) (t rest : List ℕ) → Upto true t rest → Upto false (spell_end escaped b ++ t) rest
 break_lines escaped b t rest h1 = search (rules, upto_byte, upto_more, false≢true)
 
-pub quoted_lines : (quote : ℕ) (ls : Lines) (t rest : List ℕ) → AreLines quote ls t → Upto false t rest → Upto false (spell_lines ls ++ t) rest
+pub quoted_lines : (quote : ℕ) (ls : QuotedLines) (t rest : List ℕ) → AreLines quote ls t → Upto false t rest → Upto false (spell_lines ls ++ t) rest
 quoted_lines quote (last cs) t rest h k = upto_piece (spell_chars cs) t rest (chars_no_feed quote cs t h) k
 quoted_lines quote (line cs escaped b ls) t rest h k =
     let more = quoted_lines quote ls t rest h.3 k in

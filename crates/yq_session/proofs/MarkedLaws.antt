@@ -15,7 +15,7 @@ use Rattle.yq_cut.specs.Offsets.{offsets_of}
 use Rattle.yq_cut.specs.Rows.{Row}
 use Rattle.yq_cut.specs.View.{slices}
 use Rattle.yq_cut.specs.declared.ends.EndPlace.{EndPlace}
-use Rattle.yq_session.specs.Following.{kept_marker, last_marker, marker_of}
+use Rattle.yq_session.specs.Following.{kept_marker, marker_line, marker_of}
 use Rattle.yq_sides.specs.Sides.{keeps_marker, marked_end, side_of, text_length}
 use Rattle.yq_sides.specs.declared.sides.Side.{Side}
 use Rattle.yq_sides.proofs.BeginLaws.{first_long, joined_long}
@@ -53,11 +53,11 @@ some_items : (u : List Item) (i : Item) → no_items (u ++ (i ∷ [])) ≡ false
 some_items [] i = refl
 some_items (x ∷ u) i = refl
 
-last_marker_is : (u : List Item) (i : Item) → last_marker (u ++ (i ∷ [])) ≡ marker_of i
+last_marker_is : (u : List Item) (i : Item) → marker_line (u ++ (i ∷ [])) ≡ marker_of i
 last_marker_is [] i = refl
 last_marker_is (x ∷ u) i = rw (some_items u i) (last_marker_is u i)
 
-kept_none : (n : ℕ) (xs : List Item) → last_marker xs ≡ [] → kept_marker n xs ≡ 0
+kept_none : (n : ℕ) (xs : List Item) → marker_line xs ≡ [] → kept_marker n xs ≡ 0
 kept_none n xs h = rw h (⊎_elim {0, 0, 0} (λ e. rw e refl) (λ e. rw e refl) (cases_Bool (leb 0 n)))
 
 slice_joined : (es rest : List EndPlace) (n : ℕ) (e : EndPlace) → n ≡ length es → slice_get (es ++ (e ∷ rest)) n ≡ Some e
@@ -116,7 +116,7 @@ agrees_row f touched z es front old len back u r h is = search (rules, ⊎_elim,
     n = back - text_length z
 
     zero : kept_marker n touched ≡ 0
-    zero = kept_none n touched (ap last_marker is ∙ last_marker_is u (row_item r))
+    zero = kept_none n touched (ap marker_line is ∙ last_marker_is u (row_item r))
 
     g : List Item
     g = f ++ u
@@ -167,8 +167,8 @@ agrees_end f touched z es front old len back u gap marker h is = search (rules, 
     low : front.ends < old.ends
     low = omega (arith, ends, ap (λ (s : Side). s.ends) h.front_is, ap length (ends_joined 0 0 f u), length-append (ends_near 0 0 f) (ends_near (0 + text_length f) (0 + length (near 0 f)) u))
 
-    own : last_marker touched ≡ marker
-    own = ap last_marker is ∙ last_marker_is u (end_item gap marker)
+    own : marker_line touched ≡ marker
+    own = ap marker_line is ∙ last_marker_is u (end_item gap marker)
 
     size : len ≡ ((text_length g + length gap) + length marker) + text_length z
     size = h.long ∙ omega (arith, ap text_length all, joined_long g (end_item gap marker ∷ []), first_long (end_item gap marker) [], length-append gap marker)

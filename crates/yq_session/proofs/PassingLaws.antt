@@ -5,7 +5,7 @@ use Rattle.std.proofs.lemmas.List.{reverse-append}
 use Rattle.std.proofs.lemmas.List.Elements.{All-pop}
 use Rattle.std.proofs.lemmas.Option.{get_or_from_slice_get, slice_get_within}
 use Rattle.std.specs.List.{All}
-use Rattle.yq_cut.specs.Kept.{turned}
+use Rattle.yq_cut.specs.Kept.{row_from_end}
 use Rattle.yq_cut.specs.declared.offsets.Offsets as declared
 use Rattle.yq_sides.specs.Sides.{LastBefore, both_sides}
 use Rattle.yq_sides.proofs.SplitLaws.{Within, last_of_joined, turned_one}
@@ -14,11 +14,11 @@ pub popped : (old new : List declared.Offsets) (n m : ℕ) (r : Option declared.
     m ≡ n → 0 < n → o ≡ slice_index_or old (m - 1) o → old ≡ new ++ o ∷ []
 popped old new n m r o all last same some own = search (rules, slice_index_or, option_to_list)
 
-pub passed_front : (n : ℕ) (front behind : List declared.Offsets) (o : declared.Offsets) → both_sides n (front ++ turned n o ∷ []) behind ≡ both_sides n front (behind ++ o ∷ [])
-passed_front n front behind o = append_assoc front (turned n o ∷ []) (map (turned n) (reverse behind)) ∙ ap (λ l. front ++ map (turned n) l) (sym (reverse-append behind (o ∷ [])))
+pub passed_front : (n : ℕ) (front behind : List declared.Offsets) (o : declared.Offsets) → both_sides n (front ++ row_from_end n o ∷ []) behind ≡ both_sides n front (behind ++ o ∷ [])
+passed_front n front behind o = append_assoc front (row_from_end n o ∷ []) (map (row_from_end n) (reverse behind)) ∙ ap (λ l. front ++ map (row_from_end n) l) (sym (reverse-append behind (o ∷ [])))
 
-pub passed_behind : (n : ℕ) (front behind : List declared.Offsets) (o : declared.Offsets) → Within n o → both_sides n front (behind ++ turned n o ∷ []) ≡ both_sides n (front ++ o ∷ []) behind
-passed_behind n front behind o h = sym (passed_front n front behind (turned n o)) ∙ ap (λ (p : declared.Offsets). both_sides n (front ++ p ∷ []) behind) (turned_one n o h)
+pub passed_behind : (n : ℕ) (front behind : List declared.Offsets) (o : declared.Offsets) → Within n o → both_sides n front (behind ++ row_from_end n o ∷ []) ≡ both_sides n (front ++ o ∷ []) behind
+passed_behind n front behind o h = sym (passed_front n front behind (row_from_end n o)) ∙ ap (λ (p : declared.Offsets). both_sides n (front ++ p ∷ []) behind) (turned_one n o h)
 
 pub last_pushed : (at : ℕ) (front : List declared.Offsets) (o : declared.Offsets) → o.start < at → LastBefore at (front ++ o ∷ [])
 last_pushed at front o less x e =

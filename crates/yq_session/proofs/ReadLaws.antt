@@ -13,17 +13,17 @@ use Rattle.yq_flow_scalars.specs.declared.fault.ReadError.TheVariants as reading
 use Rattle.yq_flow_scalars.specs.declared.fault.ReadFault.{ReadFault}
 use Rattle.yq_flow_scalars.specs.Text.{front}
 use Rattle.yq_cut.specs.Ends.{end_at}
-use Rattle.yq_cut.specs.Items.{Item, end_item, items_of, items_text, rows_items, view_of_items}
+use Rattle.yq_cut.specs.Items.{Item, end_item, items_of_cut, items_text, rows_items, view_of_items}
 use Rattle.yq_cut.specs.Kept.{IsPlaced, near, ends_near, TextsIn}
 use Rattle.yq_cut.specs.Meter.{begins_line}
-use Rattle.yq_cut.specs.Regions.{IsReadAlone, alone, ended, no_items}
+use Rattle.yq_cut.specs.Regions.{IsReadAlone, region_items, ended, no_items}
 use Rattle.yq_cut.specs.Rows.{Row, Cut, last, marked, print_row}
 use Rattle.yq_cut.specs.View.{RowsView}
 use Rattle.yq_cut.specs.declared.ends.EndPlace.{EndPlace}
 use Rattle.yq_cut.specs.declared.places.Places.{Places}
 use Rattle.yq_cut.proofs.KeptLaws.{texts_joined}
 use Rattle.yq_session.specs.Following.{without_line}
-use Rattle.yq_session.specs.Reading.{ArePlacesRead, IsRead, IsUnread, marked_as, read_part, settled, unread_end, without_marker}
+use Rattle.yq_session.specs.Reading.{ArePlacesRead, IsRead, IsUnread, marked_as, read_part, settled_ends, unread_end, without_marker}
 use Rattle.yq_sides.specs.Sides.{text_length}
 use Rattle.yq_session.specs.declared.reading.Come.{Come}
 use Rattle.yq_session.specs.declared.touched.Touched.{Touched}
@@ -38,26 +38,26 @@ pub record Parted (text : List ℕ) (written : List Item) (u : Option EndPlace) 
   pub back : List Item
   pub text_is : text ≡ items_text items []
   pub read : IsReadAlone items back
-  pub rows : near 0 (alone items back) ≡ near 0 written
-  pub some : 1 ≤ length (ends_near 0 0 (alone items back))
-  pub ends : settled (ends_near 0 0 (alone items back)) u more ≡ ends_near 0 0 written
-  pub texts : TextsIn (alone items back) → TextsIn written
+  pub rows : near 0 (region_items items back) ≡ near 0 written
+  pub some : 1 ≤ length (ends_near 0 0 (region_items items back))
+  pub ends : settled_ends (ends_near 0 0 (region_items items back)) u more ≡ ends_near 0 0 written
+  pub texts : TextsIn (region_items items back) → TextsIn written
 
 -- one end behind others
 last_more : (es : List EndPlace) (e : EndPlace) → length (es ++ e ∷ []) - 1 ≡ length es
 last_more es e = omega (arith, length-append es (e ∷ []))
 
-settled_more : (es : List EndPlace) (e : EndPlace) → settled (es ++ e ∷ []) None true ≡ es
+settled_more : (es : List EndPlace) (e : EndPlace) → settled_ends (es ++ e ∷ []) None true ≡ es
 settled_more es e = take_at es (e ∷ []) (length (es ++ e ∷ []) - 1) (sym (last_more es e))
 
-settled_marked : (es : List EndPlace) (x e : EndPlace) (more : Bool) → settled (es ++ x ∷ []) (Some e) more ≡ es ++ marked_as e x ∷ []
+settled_marked : (es : List EndPlace) (x e : EndPlace) (more : Bool) → settled_ends (es ++ x ∷ []) (Some e) more ≡ es ++ marked_as e x ∷ []
 settled_marked es x e more = simp (last_more, take_at, drop_at)
 
 some_more : (es : List EndPlace) (e : EndPlace) → 1 ≤ length (es ++ e ∷ [])
 some_more es e = omega (arith, length-append es (e ∷ []))
 
 -- the last end, marked
-pub settled_set : (es : List EndPlace) (e x : EndPlace) (n : ℕ) (more : Bool) → n ≡ length es - 1 → 1 ≤ length es → x ≡ get_or es n x → slice_set es n (marked_as e x) ≡ settled es (Some e) more
+pub settled_set : (es : List EndPlace) (e x : EndPlace) (n : ℕ) (more : Bool) → n ≡ length es - 1 → 1 ≤ length es → x ≡ get_or es n x → slice_set es n (marked_as e x) ≡ settled_ends es (Some e) more
 settled_set es e x n more is some own = search (rules, drop_all, drop_more, set_split)
 
 marked_text : (xs : List Item) (e : EndPlace) (h : IsUnread xs e) → items_text xs [] ≡ (items_text h.front [] ++ h.gap) ++ h.marker
@@ -80,7 +80,7 @@ marked_parted region written e more text h =
       read = h.read;
       rows = rows_end f h.gap [] ∙ (sym (rows_end f h.gap h.marker) ∙ ap (near 0) (sym h.items));
       some = subst (λ l. 1 ≤ length l) (sym own) (some_more (ends_near 0 0 f) (end_at (text_length f) k h.gap []));
-      ends = ap (λ l. settled l (Some e) more) own ∙ (settled_marked (ends_near 0 0 f) (end_at (text_length f) k h.gap []) e more ∙ (ap (λ (x : EndPlace). ends_near 0 0 f ++ x ∷ []) last ∙ (sym (ends_end f h.gap h.marker) ∙ ap (ends_near 0 0) (sym h.items))));
+      ends = ap (λ l. settled_ends l (Some e) more) own ∙ (settled_marked (ends_near 0 0 f) (end_at (text_length f) k h.gap []) e more ∙ (ap (λ (x : EndPlace). ends_near 0 0 f ++ x ∷ []) last ∙ (sym (ends_end f h.gap h.marker) ∙ ap (ends_near 0 0) (sym h.items))));
       texts = λ t. subst TextsIn (sym h.items) (texts_joined f (end_item h.gap h.marker ∷ []) (texts_first f (end_item h.gap [] ∷ []) t) ((texts_second f (end_item h.gap [] ∷ []) t).0, h.text, tt));
     }
 
@@ -89,14 +89,14 @@ rows_ends : (rs : List Row) (n k : ℕ) (xs : List Item) → ((m j : ℕ) → 1 
 rows_ends [] n k xs h = h n k
 rows_ends (r ∷ rs) n k xs h = rows_ends rs (n + length (print_row r [])) (k + 1) xs h
 
-cut_ends : (c : Cut) → 1 ≤ length (ends_near 0 0 (items_of c))
+cut_ends : (c : Cut) → 1 ≤ length (ends_near 0 0 (items_of_cut c))
 cut_ends (last p) = rows_ends p.rows 0 0 (end_item p.end [] ∷ []) (λ m j. omega arith)
-cut_ends (marked p marker c) = rows_ends p.rows 0 0 (end_item p.end marker ∷ items_of c) (λ m j. omega arith)
+cut_ends (marked p marker c) = rows_ends p.rows 0 0 (end_item p.end marker ∷ items_of_cut c) (λ m j. omega arith)
 
 -- the others
 whole_parted : (region : List ℕ) (w z : List Item) (more : Bool) → region ≡ items_text w [] → IsReadAlone w z → more ≡ not (no_items z) → Parted region w None more
 whole_parted region w [] more text read is =
-    record { items = w; back = []; text_is = text; read = read; rows = refl; some = subst (λ (l : List Item). 1 ≤ length (ends_near 0 0 l)) read.items (cut_ends read.cut); ends = ap (settled (ends_near 0 0 w) None) is; texts = λ t. t }
+    record { items = w; back = []; text_is = text; read = read; rows = refl; some = subst (λ (l : List Item). 1 ≤ length (ends_near 0 0 l)) read.items (cut_ends read.cut); ends = ap (settled_ends (ends_near 0 0 w) None) is; texts = λ t. t }
 whole_parted region w (i ∷ z) more text read is =
     let a = alone_are w (i ∷ z) in
     let e = end_at (0 + text_length w) (0 + length (near 0 w)) [] [] in
@@ -108,7 +108,7 @@ whole_parted region w (i ∷ z) more text read is =
       read = read;
       rows = a.rows;
       some = subst (λ l. 1 ≤ length l) (sym own) (some_more (ends_near 0 0 w) e);
-      ends = ap (settled (ends_near 0 0 (ended w [] [])) None) is ∙ (ap (λ l. settled l None true) own ∙ settled_more (ends_near 0 0 w) e);
+      ends = ap (settled_ends (ends_near 0 0 (ended w [] [])) None) is ∙ (ap (λ l. settled_ends l None true) own ∙ settled_more (ends_near 0 0 w) e);
       texts = a.texts;
     }
 
@@ -124,15 +124,15 @@ part_short region None = omega arith
 part_short region (Some e) = omega (arith, length-take (length region - e.marker) region)
 
 -- the places that come of it
-pub comes : (region text : List ℕ) (x : Touched) (u : Option EndPlace) (p : Places) (s : RowsView) (ends : List EndPlace) (come : Come) (h : IsRead region x) → (k : Parted text h.written u x.more) → IsPlaced p s → s ≡ view_of_items (alone k.items k.back) →
-    ends ≡ settled p.ends.items u x.more → come.places.front.items ≡ p.front.items → come.places.behind.items ≡ p.behind.items → come.places.ends.items ≡ ends → come.read ≡ length text → come.len ≡ length region → text ≡ without_marker region u → ArePlacesRead h.written come
+pub comes : (region text : List ℕ) (x : Touched) (u : Option EndPlace) (p : Places) (s : RowsView) (ends : List EndPlace) (come : Come) (h : IsRead region x) → (k : Parted text h.written u x.more) → IsPlaced p s → s ≡ view_of_items (region_items k.items k.back) →
+    ends ≡ settled_ends p.ends.items u x.more → come.places.front.items ≡ p.front.items → come.places.behind.items ≡ p.behind.items → come.places.ends.items ≡ ends → come.read ≡ length text → come.len ≡ length region → text ≡ without_marker region u → ArePlacesRead h.written come
 comes region text x u p s ends come h k placed shows ends_are front behind own read long part =
-    let at = places_are p s (alone k.items k.back) placed shows in
+    let at = places_are p s (region_items k.items k.back) placed shows in
     search (rules, part_short, alone_are, at)
 
 -- how many ends were read
-pub ends_read : (region text : List ℕ) (x : Touched) (u : Option EndPlace) (p : Places) (s : RowsView) (h : IsRead region x) → (k : Parted text h.written u x.more) → IsPlaced p s → s ≡ view_of_items (alone k.items k.back) → 1 ≤ length p.ends.items
-ends_read region text x u p s h k placed shows = subst (λ (l : List EndPlace). 1 ≤ length l) (sym (places_are p s (alone k.items k.back) placed shows).ends_are) k.some
+pub ends_read : (region text : List ℕ) (x : Touched) (u : Option EndPlace) (p : Places) (s : RowsView) (h : IsRead region x) → (k : Parted text h.written u x.more) → IsPlaced p s → s ≡ view_of_items (region_items k.items k.back) → 1 ≤ length p.ends.items
+ends_read region text x u p s h k placed shows = subst (λ (l : List EndPlace). 1 ≤ length l) (sym (places_are p s (region_items k.items k.back) placed shows).ends_are) k.some
 
 -- where the line of a marker begins that isn't read
 pub part_edge : (region : List ℕ) (x : Touched) (h : IsRead region x) (u : Option EndPlace) → u ≡ unread_end region x.marked → IfSome u (λ e. IsCharBoundary region (length region - e.marker))

@@ -1,7 +1,7 @@
 -- No line begins with a document marker inside a row.
 use Rattle.std.proofs.Common.{◌≡◌, ⊎_elim, ℕ, zero, suc, ◌+◌, ◌≤◌, true, false, ◌&&◌, eqb, List, [], ◌∷◌, ◌++◌, length, drop, Option, Some, None, refl, sym, ap, ◌∙◌, subst, arith, append_assoc, eqb-true, replicate, rules}
 use Rattle.std.proofs.lemmas.Bool.{and_from, and_parts, cases_Bool, false≢true, leb-true, ne_eqb, or_cases, or_right}
-use Rattle.yq_block_scalars.specs.Block.{BlockText, IsBlock, IsDetected, IsDigit, IsIndicators, IsRawLine, IsTextIndent, AreRaw, block_text, digit_text, mark_of, sign_text}
+use Rattle.yq_block_scalars.specs.Block.{BlockText, IsBlock, IsDetected, IsDigit, IsIndicators, IsRawLine, IsTextIndent, AreRaw, block_text, digit_text, style_indicator, sign_text}
 use Rattle.yq_block_scalars.specs.declared.block_header.BlockStyle.{BlockStyle}
 use Rattle.yq_block_scalars.specs.declared.block_header.BlockStyle.TheVariants as styles
 use Rattle.yq_block_scalars.specs.declared.block_header.Chomping.{Chomping}
@@ -11,7 +11,7 @@ use Rattle.yq_flow_scalars.specs.Text.{ends_line, is_break, is_empty, is_feed, i
 use Rattle.yq_nodes.specs.Nodes.{node_text}
 use Rattle.yq_cut.specs.Gap.{AreGapLines, IsBreak, IsComment, IsGap, IsLineEnd, IsWhite}
 use Rattle.yq_cut.specs.Grammar.{IsAnchor, IsContent, IsMark, IsMarkerLine, IsRow, IsTail, Limit, may_be_alone}
-use Rattle.yq_cut.specs.Rows.{Anchor, Bare, Content, Dash, Inline, Key, Mark, Nothing, Row, anchor_text, behind_gap, behind_indent, content_text, dashes_text, mark_column, mark_text, parent_of, print_row}
+use Rattle.yq_cut.specs.Rows.{Anchor, Bare, Content, Dash, Inline, Key, RowMark, Nothing, Row, anchor_text, behind_gap, behind_indent, content_text, dashes_text, mark_column, mark_text, parent_of, print_row}
 use Rattle.yq_cut.specs.Rows as rows
 use Rattle.yq_cut.proofs.seams.MarkerSeams.{marker_byte}
 use Rattle.yq_session.proofs.LineLaws.{NoFeed, Upto, line_lines, no_marker_byte, space_no_marker, upto_byte, upto_inside, upto_line, upto_none, upto_piece}
@@ -105,14 +105,14 @@ raw_lines f (l ∷ ls) rest some h =
     let own = upto_line true (l ++ (joined ls ++ rest)) rest (raw_no_marker f l (joined ls ++ rest) some h.0) (line_lines l (joined ls ++ rest) rest h.0.0 more) in
     subst (λ (p : List ℕ). Upto true p rest) (sym (append_assoc l (joined ls) rest)) own
 
-mark_byte : (s : BlockStyle) → is_feed (mark_of s) ≡ false
+mark_byte : (s : BlockStyle) → is_feed (style_indicator s) ≡ false
 mark_byte styles.Literal = refl
 mark_byte styles.Folded = refl
 
 block_lines : (least : ℕ) (b : BlockText) (rest : List ℕ) → 1 ≤ least → IsBlock least b rest → Upto false (block_text b rest) rest
 block_lines least b rest some h =
     let deep = indent_some least b.digit b.indent b.raw h.indicators.small h.indent in
-    upto_byte (mark_of b.style) (b.indicators ++ (b.tail ++ (joined b.raw ++ rest))) rest (mark_byte b.style)
+    upto_byte (style_indicator b.style) (b.indicators ++ (b.tail ++ (joined b.raw ++ rest))) rest (mark_byte b.style)
     (upto_piece b.indicators (b.tail ++ (joined b.raw ++ rest)) rest (indicators_all b.digit b.chomping b.indicators h.indicators)
     (line_lines b.tail (joined b.raw ++ rest) rest (and_parts (is_line b.tail) _ h.tail).0 (raw_lines b.indent b.raw rest (omega (arith, some, deep)) h.lines)))
 
@@ -122,17 +122,17 @@ anchor_lines : (a : Option Anchor) (t rest : List ℕ) → IsAnchor a t → Upto
 anchor_lines None t rest h k = k
 anchor_lines (Some a) t rest h k = upto_byte 38 (a.name ++ (a.gap ++ t)) rest refl (upto_piece a.name (a.gap ++ t) rest (name_no_feed a.name (a.gap ++ t) h.0.inside) (upto_piece a.gap t rest (white_all a.gap h.1) k))
 
-deep_mark : (m : Mark) (c : Content) (column : ℕ) (rest : List ℕ) → IsMark m c rest → may_be_alone c ≡ false → 1 ≤ deeper (parent_of m column)
+deep_mark : (m : RowMark) (c : Content) (column : ℕ) (rest : List ℕ) → IsMark m c rest → may_be_alone c ≡ false → 1 ≤ deeper (parent_of m column)
 deep_mark m c column rest h1 h2 = search (rules, false≢true)
 
-content_lines : (m : Mark) (c : Content) (column : ℕ) (rest : List ℕ) → IsMark m c rest → IsContent (parent_of m column) c rest → Upto false (content_text c rest) rest
+content_lines : (m : RowMark) (c : Content) (column : ℕ) (rest : List ℕ) → IsMark m c rest → IsContent (parent_of m column) c rest → Upto false (content_text c rest) rest
 content_lines m (Nothing tail) column rest mark h = tail_lines tail rest h
 content_lines m (Inline space node tail) column rest mark h = upto_piece space (node_text node (tail ++ rest)) rest (white_all space h.0) (node_lines false _ _ node (tail ++ rest) rest h.1.valid (tail_lines tail rest h.2))
 content_lines m (rows.Block space anchor block) column rest mark h =
     upto_piece space (anchor_text anchor (block_text block rest)) rest (white_all space h.0)
     (anchor_lines anchor (block_text block rest) rest h.1 (block_lines (deeper (parent_of m column)) block rest (deep_mark m (rows.Block space anchor block) column rest mark refl) h.2))
 
-mark_lines : (m : Mark) (c : Content) (rest : List ℕ) → IsMark m c rest → Upto false (content_text c rest) rest → Upto false (mark_text m (content_text c rest)) rest
+mark_lines : (m : RowMark) (c : Content) (rest : List ℕ) → IsMark m c rest → Upto false (content_text c rest) rest → Upto false (mark_text m (content_text c rest)) rest
 mark_lines Bare c rest h k = k
 mark_lines Dash c rest h k = upto_byte 45 (content_text c rest) rest refl k
 mark_lines (Key key colon) c rest h k =

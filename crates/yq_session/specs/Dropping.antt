@@ -1,6 +1,6 @@
 -- Rows that go from the end of a text, behind one that stays as it was read (own; a reader of the contracts may skip it).
 use Rattle.std.specs.Prelude.{◌≡◌, ℕ, ◌+◌, ◌<◌, false, length, reverse, None, Some, slice_get}
-use Rattle.yq_cut.specs.Kept.{moved}
+use Rattle.yq_cut.specs.Kept.{moved_end}
 use Rattle.yq_cut.specs.declared.ends.EndPlace.{EndPlace}
 use Rattle.yq_cut.specs.declared.places.Places.{Places}
 use Rattle.yq_sides.specs.Sides.{first_byte}
@@ -21,4 +21,4 @@ pub record DropsLast (p : Places) (len : ℕ) (x : Touched) (kept : Kept) (last 
   pub marker : end.marker ≡ 0
   pub later : length p.front.items < end.rows
   pub begins : first_byte len (reverse p.behind.items) ≡ kept.front
-  pub last_is : last ≡ moved (length p.front.items) kept.front end
+  pub last_is : last ≡ moved_end (length p.front.items) kept.front end

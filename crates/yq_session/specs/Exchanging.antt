@@ -1,8 +1,8 @@
 -- What a change touches and what is written in its place, and rows and ends of parts that give way to others (own; a reader of the contracts may skip it).
 use Rattle.std.specs.Prelude.{◌≡◌, ℕ, ◌+◌, ◌-◌, ◌<◌, ◌^◌, List, ◌++◌, drop, length, map, reverse, take}
 use Rattle.yq_cut.specs.Grammar.{IsCut}
-use Rattle.yq_cut.specs.Items.{Item, items_of}
-use Rattle.yq_cut.specs.Kept.{near, far, moved, ArePlaced}
+use Rattle.yq_cut.specs.Items.{Item, items_of_cut}
+use Rattle.yq_cut.specs.Kept.{near, far, moved_end, ArePlaced}
 use Rattle.yq_cut.specs.Rows.{Cut}
 use Rattle.yq_cut.specs.Touched.{TouchesOnly}
 use Rattle.yq_cut.specs.declared.ends.EndPlace.{EndPlace}
@@ -17,7 +17,7 @@ use Rattle.yq_session.specs.declared.touched.Touched.{Touched}
 
 -- the end of a part that stood behind one place, behind another (own)
 abbrev pub moved_from : Side → Side → EndPlace → EndPlace
-moved_from from to e = moved ((e.rows - from.rows) + to.rows) ((e.start - from.bytes) + to.bytes) e
+moved_from from to e = moved_end ((e.rows - from.rows) + to.rows) ((e.start - from.bytes) + to.bytes) e
 
 -- it has a place there (own)
 abbrev pub IsMovable : Side → Side → EndPlace → Type 0
@@ -48,8 +48,8 @@ pub record TextChange (t new : List ℕ) (kept : Kept) (p : Places) (x : Touched
   pub front_rows : take x.front.rows p.front.items ≡ near 0 before
   pub back_rows : reverse (take (length (near 0 read.behind)) p.behind.items) ≡ far read.behind
   pub edges : AreEdges t x kept
-  pub old_items : (c : Cut) → IsCut t c → before ++ (touched ++ read.behind) ≡ items_of c
-  pub items : (d : Cut) → IsCut (exchanged kept t new) d → before ++ (read.written ++ read.behind) ≡ items_of d
+  pub old_items : (c : Cut) → IsCut t c → before ++ (touched ++ read.behind) ≡ items_of_cut c
+  pub items : (d : Cut) → IsCut (exchanged kept t new) d → before ++ (read.written ++ read.behind) ≡ items_of_cut d
   pub small : text_length (before ++ (read.written ++ read.behind)) < 2 ^ 32
   pub once : (c d : Cut) → IsCut t c → IsCut (exchanged kept t new) d → (h : TouchesOnly kept.front kept.back c d) →
       read_text kept c d h ≡ read_part (region_text t x kept new) x.marked

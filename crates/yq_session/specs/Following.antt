@@ -2,9 +2,9 @@
 use Rattle.std.specs.Prelude.{◌≡◌, ℕ, ◌+◌, ◌-◌, ◌≤◌, nat_le, List, [], ◌∷◌, ◌++◌, length, take, drop, if◌then◌else◌}
 use Rattle.std.specs.Str.{IsCharBoundary}
 use Rattle.yq_cut.specs.Grammar.{IsCut}
-use Rattle.yq_cut.specs.Items.{Item, row_item, end_item, items_of, items_text}
+use Rattle.yq_cut.specs.Items.{Item, row_item, end_item, items_of_cut, items_text}
 use Rattle.yq_cut.specs.Kept.{IsPlaced}
-use Rattle.yq_cut.specs.Meter.{begins_line, counted, line_count}
+use Rattle.yq_cut.specs.Meter.{begins_line, count_after, line_count}
 use Rattle.yq_cut.specs.Regions.{no_items}
 use Rattle.yq_cut.specs.Rows.{Cut}
 use Rattle.yq_cut.specs.Touched.{TouchesOnly, in_back}
@@ -45,13 +45,13 @@ marker_of (row_item r) = []
 marker_of (end_item gap marker) = marker
 
 -- the line of the marker behind the last of items (own)
-abbrev pub last_marker : List Item → List ℕ
-last_marker [] = []
-last_marker (x ∷ xs) = if no_items xs then marker_of x else last_marker xs
+abbrev pub marker_line : List Item → List ℕ
+marker_line [] = []
+marker_line (x ∷ xs) = if no_items xs then marker_of x else marker_line xs
 
 -- how long that line is, where all of it is among so many bytes at the end of items, else 0 (own)
 abbrev pub kept_marker : ℕ → List Item → ℕ
-kept_marker n xs = if nat_le (length (last_marker xs)) n then length (last_marker xs) else 0
+kept_marker n xs = if nat_le (length (marker_line xs)) n then length (marker_line xs) else 0
 
 -- a text without its last bytes, where a line begins with them (own)
 abbrev pub without_line : ℕ → List ℕ → List ℕ
@@ -60,9 +60,9 @@ without_line n t = if begins_line t (length t - n) then take (length t - n) t el
 -- The text that is read where rows and ends of parts are exchanged: that of those that come, without the line of a marker which the change keeps, where it
 -- begins a line still (own).
 abbrev pub read_text : (kept : Kept) (c new : Cut) → TouchesOnly kept.front kept.back c new → List ℕ
-read_text kept c new h = without_line (kept_marker (kept.back - length (items_text (in_back kept.back (items_of c)) [])) h.touched) (items_text h.written [])
+read_text kept c new h = without_line (kept_marker (kept.back - length (items_text (in_back kept.back (items_of_cut c)) [])) h.touched) (items_text h.written [])
 
 -- a count that rose by the lines that are read where a change exchanges rows and ends of parts (own)
 abbrev pub CountsWritten : (t new : List ℕ) → Kept → (before after : ℕ) → Type 0
 CountsWritten t new kept before after =
-    (c d : Cut) → IsCut t c → IsCut new d → (h : TouchesOnly kept.front kept.back c d) → after ≡ counted (line_count (read_text kept c d h)) before
+    (c d : Cut) → IsCut t c → IsCut new d → (h : TouchesOnly kept.front kept.back c d) → after ≡ count_after (line_count (read_text kept c d h)) before

@@ -40,10 +40,10 @@ abbrev pub marked_as : EndPlace → EndPlace → EndPlace
 marked_as e x = record x { marker = e.marker }
 
 -- the ends of parts that were read, the last one with the marker that wasn't read, or without that one, where it is the empty one before others (own)
-abbrev pub settled : List EndPlace → Option EndPlace → Bool → List EndPlace
-settled es (Some e) more = take (length es - 1) es ++ map (marked_as e) (drop (length es - 1) es)
-settled es None true = take (length es - 1) es
-settled es None false = es
+abbrev pub settled_ends : List EndPlace → Option EndPlace → Bool → List EndPlace
+settled_ends es (Some e) more = take (length es - 1) es ++ map (marked_as e) (drop (length es - 1) es)
+settled_ends es None true = take (length es - 1) es
+settled_ends es None false = es
 
 -- Items end with the end of a part, with a marker as long as this one's, and read alone without its line (own).
 pub record IsUnread (xs : List Item) (e : EndPlace) : Type 0 where

@@ -1,8 +1,8 @@
 //! Rows that go from the end of a text, behind one that stays as it was read.
 ghost use Rattle.std.specs.Prelude.{◌≡◌, ◌≤◌, ◌<◌, ◌+◌, ◌-◌, ◌^◌, IfSome, IsTrue, None, [], drop, false, length, slice_set, take};
 ghost use Rattle.std.specs.Str.{IsCharBoundary};
-ghost use Rattle.yq_text.specs.Split.{joined};
-ghost use Rattle.yq_cut.specs.Meter.{counted, line_count};
+ghost use Rattle.yq_text.specs.Split.{halves_joined};
+ghost use Rattle.yq_cut.specs.Meter.{count_after, line_count};
 ghost use Rattle.yq_session.specs.Dropping.{DropsLast};
 
 use crate::kept::Kept;
@@ -77,11 +77,11 @@ pub(crate) fn drop_rows(places: &mut Places, end: EndPlace, at: usize)
 
 /// The bytes from a place on go, and the lines of those between another place and it are counted.
 pub(crate) fn drop_text(text: &mut SplitText, from: usize, at: usize, meter: &mut Meter)
-    requires begin { IsCharBoundary (take at (joined text.old)) from }
-    requires end { IsCharBoundary (joined text.old) at }
-    ensures text { joined text.new ≡ take at (joined text.old) }
+    requires begin { IsCharBoundary (take at (halves_joined text.old)) from }
+    requires end { IsCharBoundary (halves_joined text.old) at }
+    ensures text { halves_joined text.new ≡ take at (halves_joined text.old) }
     ensures counted { meter.new ≡
-        counted (line_count (drop from (take at (joined text.old)))) meter.old }
+        count_after (line_count (drop from (take at (halves_joined text.old)))) meter.old }
 {
     text.move_split(at);
     let halves = text.halves();

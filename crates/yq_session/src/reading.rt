@@ -1,8 +1,8 @@
 //! What is read where rows and ends of parts are exchanged.
 ghost use Rattle.std.specs.Prelude.{◌≡◌, ◌-◌, ◌≤◌, ◌<◌, ◌^◌, IfOk, IfSome, OnOk, length, take, drop, string_bytes};
 ghost use Rattle.std.specs.Str.{IsCharBoundary};
-ghost use Rattle.yq_text.specs.Halves.{whole};
-ghost use Rattle.yq_cut.specs.Meter.{counted, line_count};
+ghost use Rattle.yq_text.specs.Halves.{halves_text};
+ghost use Rattle.yq_cut.specs.Meter.{count_after, line_count};
 ghost use Rattle.yq_session.specs.Reading.{Comes};
 ghost use Rattle.yq_session.specs.Reading as spec;
 
@@ -26,9 +26,9 @@ pub(crate) struct Come {
 
 /// What stands between two places of a text.
 fn between<'t>(text: Halves<'t>, from: usize, to: usize) -> Halves<'t>
-    requires end { IsCharBoundary (whole text) to }
-    requires begin { IsCharBoundary (take to (whole text)) from }
-    ensures { whole result ≡ drop from (take to (whole text.entry)) }
+    requires end { IsCharBoundary (halves_text text) to }
+    requires begin { IsCharBoundary (take to (halves_text text)) from }
+    ensures { halves_text result ≡ drop from (take to (halves_text text.entry)) }
 {
     text.split_at(to).0.split_at(from).1
 }
@@ -41,10 +41,10 @@ pub(crate) fn region(
     kept: Kept,
     new: &str,
 ) -> Result<String, AllocError>
-    requires edges { spec.AreEdges (whole text) touched kept }
-    requires small { length (spec.region_text (whole text) touched kept new.now) < 2 ^ 32 }
+    requires edges { spec.AreEdges (halves_text text) touched kept }
+    requires small { length (spec.region_text (halves_text text) touched kept new.now) < 2 ^ 32 }
     ensures { IfOk result (λ s. string_bytes s ≡
-        spec.region_text (whole text.entry) touched kept new.now) }
+        spec.region_text (halves_text text.entry) touched kept new.now) }
 {
     let front = between(text, touched.front.bytes, kept.front);
     let back = between(
@@ -93,7 +93,7 @@ fn read_part(region: &str, unread: Option<EndPlace>) -> &str
 /// wasn't read, or, where others stand behind the region, the empty one behind it goes.
 fn settle(ends: &mut Vec<EndPlace>, unread: Option<EndPlace>, more: bool)
     requires { 1 ≤ length ends.old.items }
-    ensures { ends.new.items ≡ spec.settled ends.old.items unread more }
+    ensures { ends.new.items ≡ spec.settled_ends ends.old.items unread more }
 {
     let last = ends.len() - 1;
     match unread {
@@ -117,7 +117,7 @@ pub(crate) fn read(
     requires { spec.IsRead region.now touched }
     ensures come { IfOk result (λ x. Comes region.now touched x) }
     ensures counted { OnOk result (meter.new ≡
-        counted (line_count (spec.read_part region.now touched.marked)) meter.old) }
+        count_after (line_count (spec.read_part region.now touched.marked)) meter.old) }
 {
     let unread = unread(region, touched.marked);
     let text = read_part(region, unread);

@@ -4,7 +4,7 @@ use Rattle.std.proofs.lemmas.List.{get_or_append_left, get_or_at}
 use Rattle.std.proofs.lemmas.Option.{slice_get-get_or}
 use Rattle.yq_cut.specs.Ends.{end_at}
 use Rattle.yq_cut.specs.Items.{Item, row_item, end_item}
-use Rattle.yq_cut.specs.Kept.{near, ends_near, turned}
+use Rattle.yq_cut.specs.Kept.{near, ends_near, row_from_end}
 use Rattle.yq_cut.specs.Offsets.{offsets_of}
 use Rattle.yq_cut.specs.Rows.{Row}
 use Rattle.yq_cut.specs.Touched.{in_front, item_text}
@@ -38,7 +38,7 @@ front_kept p xs at placed gap h =
     let rows = placed.rows_are ∙ (ap (near 0) h.split ∙ near_joined 0 f h.rest) in
     let ends = placed.ends_are ∙ (ap (ends_near 0 0) h.split ∙ ends_joined 0 0 f h.rest) in
     record {
-      rows_are = one_split (λ o. o.start < at) (λ o. at ≤ o.start) (λ o a b. omega (arith, a, b)) p.front.items (map (turned (text_length xs)) (reverse p.behind.items)) (near 0 f) (near m h.rest) rows gap.0 (first_turned at (text_length xs) p.behind.items gap.1)
+      rows_are = one_split (λ o. o.start < at) (λ o. at ≤ o.start) (λ o a b. omega (arith, a, b)) p.front.items (map (row_from_end (text_length xs)) (reverse p.behind.items)) (near 0 f) (near m h.rest) rows gap.0 (first_turned at (text_length xs) p.behind.items gap.1)
           (rows_begin (λ s. s < at) 0 f begun) (rows_begin (λ s. at ≤ s) m h.rest later);
       rest = ends_near m k h.rest;
       ends_are = ends;

@@ -4,7 +4,7 @@ use Rattle.std.proofs.lemmas.List.{reverse-append, reverse-reverse}
 use Rattle.std.proofs.lemmas.List.Elements.{All-cons, All-head, All-nil, All-tail}
 use Rattle.std.specs.List.{All}
 use Rattle.yq_cut.specs.Items.{Item, row_item, end_item}
-use Rattle.yq_cut.specs.Kept.{far, turned}
+use Rattle.yq_cut.specs.Kept.{far, row_from_end}
 use Rattle.yq_cut.specs.Offsets.{offsets_of}
 use Rattle.yq_cut.specs.View.{slices}
 use Rattle.yq_cut.specs.declared.ends.EndPlace.{EndPlace}
@@ -66,9 +66,9 @@ last_of_joined a o = ap (λ (n : ℕ). slice_get (a ++ (o ∷ [])) n) (let n : l
   go [] = refl
   go (p ∷ a) = go a
 
-pub first_turned : (at len : ℕ) (behind : List declared.Offsets) → FirstFrom at len behind → FirstIs (λ o. at ≤ o.start) (map (turned len) (reverse behind))
+pub first_turned : (at len : ℕ) (behind : List declared.Offsets) → FirstFrom at len behind → FirstIs (λ o. at ≤ o.start) (map (row_from_end len) (reverse behind))
 first_turned at len behind h = go (reverse behind) (sym (reverse-reverse behind)) where
-  go : (back : List declared.Offsets) → behind ≡ reverse back → FirstIs (λ o. at ≤ o.start) (map (turned len) back)
+  go : (back : List declared.Offsets) → behind ≡ reverse back → FirstIs (λ o. at ≤ o.start) (map (row_from_end len) back)
   go [] is o e = absurd cc
   go (p ∷ back) is o e =
       let all : behind ≡ reverse back ++ (p ∷ []) = is ∙ reverse-append (p ∷ []) back in
@@ -92,12 +92,12 @@ nearer_split back os a b e h k = ap (nearer back) e ∙ nearer_are back a b h k
 abbrev pub Within : ℕ → declared.Offsets → Type 0
 Within n o = o.start ≤ n
 
-pub turned_one : (n : ℕ) (o : declared.Offsets) → Within n o → turned n (turned n o) ≡ o
+pub turned_one : (n : ℕ) (o : declared.Offsets) → Within n o → row_from_end n (row_from_end n o) ≡ o
 turned_one n o h = ap (λ (s : ℕ). record o { start = s }) (let s : n - (n - o.start) ≡ o.start = omega (arith, h) in s)
 
-pub turned_twice : (n : ℕ) (os : List declared.Offsets) → All (Within n) os → map (turned n) (map (turned n) os) ≡ os
+pub turned_twice : (n : ℕ) (os : List declared.Offsets) → All (Within n) os → map (row_from_end n) (map (row_from_end n) os) ≡ os
 turned_twice n [] h = refl
-turned_twice n (o ∷ os) h = ap (λ (p : declared.Offsets). p ∷ map (turned n) (map (turned n) os)) (turned_one n o (All-head (Within n) o os h)) ∙ ap (λ l. o ∷ l) (turned_twice n os (All-tail (Within n) o os h))
+turned_twice n (o ∷ os) h = ap (λ (p : declared.Offsets). p ∷ map (row_from_end n) (map (row_from_end n) os)) (turned_one n o (All-head (Within n) o os h)) ∙ ap (λ l. o ∷ l) (turned_twice n os (All-tail (Within n) o os h))
 
 -- ---- rows by their distance from the end of a text
 

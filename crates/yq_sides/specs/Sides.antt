@@ -2,7 +2,7 @@
 use Rattle.std.specs.Prelude.{◌≡◌, ◌==◌, ◌&&◌, Bool, ℕ, suc, ◌+◌, ◌-◌, ◌<◌, ◌≤◌, ◌^◌, nat_le, nat_lt, List, [], ◌∷◌, ◌++◌, length, map, reverse, Option, Some, None, slice_get, if◌then◌else◌}
 use Rattle.yq_flow_scalars.specs.Answers.{◌>>=◌}
 use Rattle.yq_cut.specs.Items.{Item, items_text}
-use Rattle.yq_cut.specs.Kept.{near, ends_near, placed_rows, turned, TextsIn}
+use Rattle.yq_cut.specs.Kept.{near, ends_near, placed_rows, row_from_end, TextsIn}
 use Rattle.yq_cut.specs.Touched.{in_front}
 use Rattle.yq_cut.specs.declared.ends.EndPlace.{EndPlace}
 use Rattle.yq_cut.specs.declared.offsets.Offsets as declared
@@ -15,7 +15,7 @@ text_length xs = length (items_text xs [])
 
 -- rows in front of a split and those behind it, the last one first, by their places in a text of so many bytes (own)
 abbrev pub both_sides : ℕ → List declared.Offsets → List declared.Offsets → List declared.Offsets
-both_sides n front behind = front ++ map (turned n) (reverse behind)
+both_sides n front behind = front ++ map (row_from_end n) (reverse behind)
 
 -- where the first of rows that are kept by their distance from the end of a text begins, or where the text ends (own)
 abbrev pub first_byte : ℕ → List declared.Offsets → ℕ

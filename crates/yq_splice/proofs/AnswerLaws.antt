@@ -10,7 +10,7 @@ use Rattle.yq_script.specs.declared.edited.Edited.{Edited}
 use Rattle.yq_script.proofs.PlaceInList.{get_some, split_at, take_next}
 use Rattle.yq_outcomes.specs.Answers.{Edits, EditFails}
 use Rattle.yq_outcomes.specs.Carried.{updated, program_done, edit_of}
-use Rattle.yq_outcomes.specs.Edit.{unreadable, gives, and_then, by_reading, in_order}
+use Rattle.yq_outcomes.specs.Edit.{unreadable, gives, edit_then, by_reading, in_order}
 use Rattle.yq_outcomes.specs.Theorems.{AreSplices, EditRefused, HasReading, InOrder, IsEdited, IsUpdated, UpdateRefused}
 use Rattle.yq_outcomes.specs.Valid.{IsStep, UpdateFails, FailsAt, FailsEach}
 use Rattle.yq_outcomes.specs.declared.edit_error.EditError.{EditError}
@@ -78,7 +78,7 @@ program_edit [] t some = absurd (omega (arith, some))
 program_edit (u ∷ us) t some = go (read_at t) refl
   where
     go : (r : Option Cut) → read_at t ≡ r → by_reading (λ c. in_order updated (u ∷ us) t) r ≡ in_order updated (u ∷ us) t
-    go None is = sym (ap (and_then (in_order updated us)) (unread_updated u t is))
+    go None is = sym (ap (edit_then (in_order updated us)) (unread_updated u t is))
     go (Some c) is = refl
 
 has_updates : (p : Program) → 0 < update_count p → (us : List Update) × (p ≡ updates us) × (0 < length us)

@@ -14,12 +14,12 @@ abbrev pub FileMap : Type 0
 FileMap = FinMap (slice_cmp nat_cmp) (List ℕ)
 
 -- the names and the bytes of a log
-abbrev pub entries_of : List (String Global × Vec ℕ Global) → List (List ℕ × List ℕ)
-entries_of log = map (λ e. (string_bytes e.0, e.1.items)) log
+abbrev pub log_entries : List (String Global × Vec ℕ Global) → List (List ℕ × List ℕ)
+log_entries log = map (λ e. (string_bytes e.0, e.1.items)) log
 
 -- the content that a log of writes makes, the newest write first
-abbrev pub content_of : List (String Global × Vec ℕ Global) → FileMap
-content_of log = from_entries (entries_of log)
+abbrev pub file_bytes : List (String Global × Vec ℕ Global) → FileMap
+file_bytes log = from_entries (log_entries log)
 
 -- what a name holds after a write to it
 pub get_written : (m : FileMap) (k v : List ℕ) → get (insert m k v) k ≡ Some v

@@ -2,7 +2,7 @@
 ghost use Rattle.std.specs.Prelude.{◌≡◌, true, [], IfOk, OnErr, option_map};
 ghost use Rattle.std.specs.FinMap as map;
 ghost use Rattle.std.specs.String.{string_bytes};
-ghost use Rattle.yq_store.specs.FileMap.{content_of};
+ghost use Rattle.yq_store.specs.FileMap.{file_bytes};
 
 use crate::store::{FileReadError, FileWriteError, Store};
 use std::alloc::Global;
@@ -66,7 +66,7 @@ impl MemoryStore {
     /// The bytes of a file, without a call of the store.
     pub fn bytes(&self, name: &str) -> Option<&Vec<u8>>
         ensures { option_map (λ v. v.now.items) result ≡
-            map.get (content_of self.now.log.items) name.now }
+            map.get (file_bytes self.now.log.items) name.now }
     {
         find_bytes(&self.log, name)
     }
@@ -87,7 +87,7 @@ impl MemoryStore {
 
 /// The newest bytes of a name.
 fn find_bytes<'a>(log: &'a VecDeque<(String, Vec<u8>)>, name: &str) -> Option<&'a Vec<u8>>
-    ensures { option_map (λ v. v.now.items) result ≡ map.get (content_of log.now.items) name.now }
+    ensures { option_map (λ v. v.now.items) result ≡ map.get (file_bytes log.now.items) name.now }
 {
     'entries: for (k, bytes) in log {
         if name == k.as_str() {
@@ -114,7 +114,7 @@ fn entry(alloc: Global, name: &str, bytes: &[u8]) -> Result<(String, Vec<u8>), F
 impl Store for MemoryStore {
     ghost keeps = { true };
 
-    ghost content = { λ s. content_of s.log.items };
+    ghost content = { λ s. file_bytes s.log.items };
 
     ghost failures = { λ s. s.failures };
 

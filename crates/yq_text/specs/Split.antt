@@ -9,8 +9,8 @@ pub record Split : Type 0 where
   pub room : ℕ
 
 -- the text that is kept so (own)
-abbrev pub joined : Split → List ℕ
-joined s = s.front ++ s.back
+abbrev pub halves_joined : Split → List ℕ
+halves_joined s = s.front ++ s.back
 
 -- of these bytes so many stand in front of the room, those behind it begin so far on, and both are text (own)
 pub record IsKept (bytes : List ℕ) (front back : ℕ) : Type 0 where

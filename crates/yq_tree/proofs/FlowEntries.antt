@@ -10,7 +10,7 @@ use Rattle.yq_cut.specs.Exchange.{behind_row}
 use Rattle.yq_cut.specs.Grammar.{IsCut}
 use Rattle.yq_cut.specs.Rows.{Row, cut_text}
 use Rattle.yq_cut.specs.View.{rows_of, RowsView, rows_view}
-use Rattle.yq_lines.specs.Lines.{lines_of}
+use Rattle.yq_lines.specs.Lines.{lines_of_rows}
 use Rattle.yq_lines.specs.RowWalk.{HasDocument, IsLine, line_number, stretch_view}
 use Rattle.yq_lines.specs.declared.line_position.Position.{Position}
 use Rattle.yq_lines.specs.declared.line_position.Stretch.{Stretch}
@@ -19,13 +19,13 @@ use Rattle.yq_documents.specs.FlowReading.{row_flow}
 use Rattle.yq_documents.specs.Reading.{all_documents, cut_of}
 use Rattle.yq_documents.specs.LinesInRows.{RowLine, document_row}
 use Rattle.yq_row_places.specs.EntryReading.{entry_within, flow_entry_of}
-use Rattle.yq_row_places.specs.RowWalk.{document_rows}
+use Rattle.yq_row_places.specs.RowWalk.{document_row_range}
 use Rattle.yq_row_places.proofs.EntryPlaceLaws.{flow_left}
 use Rattle.yq_row_places.proofs.WalkDocuments.{place_found}
 use Rattle.yq_row_places.proofs.WalkNodes.{before_is, row_in_cut, row_is, row_line_is}
 
 pub flow_found : (t : List ℕ) (s : RowsView) (i : ℕ) (d : Stretch) (q : Position) (steps left : List Step) (flow : Option Placed) (found : Option PlacedEntry) → IsCut t (cut_of t) → s ≡ rows_view (cut_of t) →
-    Some (stretch_view d) ≡ document_rows i (cut_of t) → all_documents (cut_of t) ≡ true → IsLine s d q → ((h : HasDocument s d) → Some (line_number d h.stand.rows q, left) ≡ reached steps (lines_of h.stand.rows)) →
+    Some (stretch_view d) ≡ document_row_range i (cut_of t) → all_documents (cut_of t) ≡ true → IsLine s d q → ((h : HasDocument s d) → Some (line_number d h.stand.rows q, left) ≡ reached steps (lines_of_rows h.stand.rows)) →
     ((r : Row) → slice_get (rows_of (cut_of t)) q.row ≡ Some r → flow ≡ row_flow (length t) r (behind_row q.row (cut_of t))) → found ≡ entry_within left flow → false ≡ eqb (length left) 0 →
     found ≡ (slice_get (document_parts (cut_of t)) i >>= λ p. flow_entry_of (document_row i (cut_of t)) (cut_of t) p.rows steps)
 flow_found t s i d q steps left flow found cut is place sound line leads decoded agrees some =

@@ -1,6 +1,6 @@
 //! Where items and entries stand in flow collections, and their contents.
 ghost use Rattle.std.specs.Prelude.{◌≡◌, map, option_map};
-ghost use Rattle.yq_nodes.specs.Entries.{content_place, entry_place, entry_view, step_of};
+ghost use Rattle.yq_nodes.specs.Entries.{content_place, entry_place, entry_view, tree_step};
 ghost use Rattle.yq_lines.specs.View.{head_flow};
 ghost use Rattle.yq_documents.specs.Decoded.{decoded_flow};
 ghost use Rattle.yq_documents.specs.Pieces.{span};
@@ -16,7 +16,7 @@ use yq_walk::reach;
 /// The item or entry to which steps lead in a head.
 fn head_entry<'d, 't>(head: &'d Head<'t>, steps: &[Step]) -> Option<Entry<'d, 't>>
     ensures { option_map entry_view result ≡
-        spec.entry_within (map step_of steps.now) (head_flow head.now) }
+        spec.entry_within (map tree_step steps.now) (head_flow head.now) }
 {
     match head {
         Head::Nothing => None,
@@ -44,7 +44,7 @@ pub(crate) fn content_span(entry: &Entry<'_, '_>) -> Option<Span>
 /// The item or entry to which steps lead in what is made of a row.
 fn decoded_entry<'d, 't>(decoded: Option<&'d Decoded<'t>>, steps: &[Step]) -> Option<Entry<'d, 't>>
     ensures { option_map entry_view result ≡
-        spec.entry_within (map step_of steps.now) (decoded_flow (option_map (λ m. m.now) decoded.entry)) }
+        spec.entry_within (map tree_step steps.now) (decoded_flow (option_map (λ m. m.now) decoded.entry)) }
 {
     match &decoded?.head {
         Some(head) => head_entry(head, steps),

@@ -1,7 +1,7 @@
 //! Where the parts of entries and items stand.
 ghost use Rattle.std.specs.Prelude.{◌≡◌, option_map};
 ghost use Rattle.yq_documents.specs.Pieces.{piece_span, span};
-ghost use Rattle.yq_row_places.specs.PathPieces.{piece_at};
+ghost use Rattle.yq_row_places.specs.PathPieces.{path_piece};
 ghost use Rattle.yq_documents.specs.Reading.{cut_of};
 ghost use Rattle.yq_documents.specs.declared.path.Part.TheVariants as parts;
 
@@ -13,7 +13,7 @@ impl Documents<'_> {
     /// The place of the entry or item at a path.
     fn entry_place(&self, path: &Path) -> Option<Span>
         ensures { option_map span result ≡
-            option_map piece_span (piece_at path.now parts.Entry (cut_of self.now)) }
+            option_map piece_span (path_piece path.now parts.Entry (cut_of self.now)) }
     {
         let _whole = self.whole();
         if let Some(place) = self.cut().entry_place(path) {
@@ -26,7 +26,7 @@ impl Documents<'_> {
     /// The place of the content of the node at a path.
     fn content_place(&self, path: &Path) -> Option<Span>
         ensures { option_map span result ≡
-            option_map piece_span (piece_at path.now parts.Content (cut_of self.now)) }
+            option_map piece_span (path_piece path.now parts.Content (cut_of self.now)) }
     {
         let _whole = self.whole();
         if let Some(place) = self.cut().content_place(path) {
@@ -47,7 +47,7 @@ impl Documents<'_> {
     /// to the line's end, before its break.
     pub fn extent(&self, path: &Path, part: Part) -> Option<Span>
         ensures { option_map span result ≡
-            option_map piece_span (piece_at path.now part (cut_of self.now)) }
+            option_map piece_span (path_piece path.now part (cut_of self.now)) }
     {
         match part {
             Part::Content => self.content_place(path),

@@ -6,7 +6,7 @@ ghost use Rattle.yq_flow_scalars.specs.Answers.{Gives, IsOfText};
 ghost use Rattle.yq_cut.specs.Grammar.{IsCut};
 ghost use Rattle.yq_cut.specs.Rows.{Cut};
 ghost use Rattle.yq_row_places.specs.Answers.{IsNotUtf8};
-ghost use Rattle.yq_documents.specs.Documents.{Document, Reads};
+ghost use Rattle.yq_documents.specs.Documents.{Document, ReadsDocuments};
 ghost use Rattle.yq_documents.specs.Reading as spec;
 ghost use Rattle.yq_documents.specs.Ready.{TextIsReady};
 
@@ -57,9 +57,9 @@ fn read_text(alloc: Global, text: &str) -> Result<Documents<'_>, ReadError>
 #[tactic(auto, unfolding(yq_documents::specs::Reading::read_at))]
 pub fn read(alloc: Global, bytes: &[u8]) -> Result<Documents<'_>, ReadError>
     // The bytes read as the documents.
-    ensures found { IfOk result (λ d. Reads bytes.now (spec.documents_of d)) }
+    ensures found { IfOk result (λ d. ReadsDocuments bytes.now (spec.documents_of d)) }
     // Bytes that read as documents are read so, unless memory runs out.
-    ensures only { (docs : List Document) → Reads bytes.now docs →
+    ensures only { (docs : List Document) → ReadsDocuments bytes.now docs →
         Gives spec.documents_of result (Some docs) }
     // The fault that bytes are no text comes where they are none.
     ensures not_utf8 { IsNotUtf8 result ↔ (is_utf8 bytes.now ≡ false) }
@@ -83,8 +83,8 @@ pub fn read(alloc: Global, bytes: &[u8]) -> Result<Documents<'_>, ReadError>
 
 /// No bytes have two readings.
 pub fn one_reading()
-    ensures { (bytes : List ℕ) (docs others : List Document) → Reads bytes docs →
-        Reads bytes others → docs ≡ others }
+    ensures { (bytes : List ℕ) (docs others : List Document) → ReadsDocuments bytes docs →
+        ReadsDocuments bytes others → docs ≡ others }
 {}
 
 /// What reading from left to right gives is a text's cut, whose parts stand for documents.
@@ -98,7 +98,7 @@ pub fn cut_read()
 /// Each document of bytes that read is a tree, with no more collections nested than may be, and has the
 /// head comment of its first item or entry as its lead, where its root is a block collection.
 pub fn documents_ready()
-    ensures { (bytes : List ℕ) (docs : List Document) → Reads bytes docs → TextIsReady bytes }
+    ensures { (bytes : List ℕ) (docs : List Document) → ReadsDocuments bytes docs → TextIsReady bytes }
 {
     lines_shaped();
 }

@@ -1,6 +1,6 @@
 //! Laws on reading, for the crates above.
 ghost use Rattle.std.specs.Prelude.{◌≡◌, ◌↔◌, ℕ, List, Some};
-ghost use Rattle.yq_documents.specs.Documents.{Reads};
+ghost use Rattle.yq_documents.specs.Documents.{ReadsDocuments};
 ghost use Rattle.yq_documents.specs.Reading.{documents, read_at};
 ghost use Rattle.yq_cut.specs.Rows.{Cut};
 
@@ -8,5 +8,5 @@ ghost use Rattle.yq_cut.specs.Rows.{Cut};
 /// that cut, by that cut.
 pub fn exact_reading()
     ensures { (bytes : List ℕ) (c : Cut) →
-        (read_at bytes ≡ Some c) ↔ ((reads : Reads bytes (documents c)) × (reads.parts ≡ c)) }
+        (read_at bytes ≡ Some c) ↔ ((reads : ReadsDocuments bytes (documents c)) × (reads.parts ≡ c)) }
 {}

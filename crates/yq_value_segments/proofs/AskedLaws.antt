@@ -5,14 +5,14 @@ use Rattle.std.specs.Prelude.{Vec}
 use Rattle.yq_flow_scalars.specs.Tree as tree
 use Rattle.yq_nodes.specs.declared.value.Value.{Value}
 use Rattle.yq_nodes.specs.declared.value.Value.TheVariants as values
-use Rattle.yq_nodes.specs.Values.{entries, entries_of, field_of, node_of}
+use Rattle.yq_nodes.specs.Values.{entries, entries_of, field_of, value_node}
 use Rattle.yq_nodes.proofs.WrittenLaws.{node_map, map_twice}
 use Rattle.yq_edits.specs.Layouts.{children_ask, node_asks}
 
 -- a mapping asks as its entries do
-map_node : (v : Vec (String Global × Value) Global) → node_of (values.Map v) ≡ tree.map None (entries (map field_of v.items))
+map_node : (v : Vec (String Global × Value) Global) → value_node (values.Map v) ≡ tree.map None (entries (map field_of v.items))
 map_node v = simp (string_bytes, node_map, map_twice)
 
-pub map_asked : (dashes : Bool) (v : Vec (String Global × Value) Global) → children_ask dashes (entries_of v.items) ≡ node_asks dashes (node_of (values.Map v))
+pub map_asked : (dashes : Bool) (v : Vec (String Global × Value) Global) → children_ask dashes (entries_of v.items) ≡ node_asks dashes (value_node (values.Map v))
 unfolding node_asks
 map_asked dashes v = sym (ap (node_asks dashes) (map_node v))

@@ -1,10 +1,10 @@
 //! Append: one more item or entry at the end of a block collection.
 ghost use Rattle.std.specs.Prelude.{◌≡◌, ◌++◌, IfOk, OnOk, string_bytes};
-ghost use Rattle.yq_nodes.specs.Values.{node_of};
+ghost use Rattle.yq_nodes.specs.Values.{value_node};
 ghost use Rattle.yq_lines.specs.Bodies.{borrowed};
 ghost use Rattle.yq_documents.specs.Located.{steps_of};
 ghost use Rattle.yq_documents.specs.Reading.{cut_of};
-ghost use Rattle.yq_text.specs.Halves.{whole};
+ghost use Rattle.yq_text.specs.Halves.{halves_text};
 ghost use Rattle.yq_row_places.specs.StandingViews.{held_view};
 ghost use Rattle.yq_edits.specs.EntryEdits as spec;
 ghost use Rattle.yq_edits.specs.Layouts as layouts;
@@ -33,7 +33,7 @@ fn push_lines(
 ) -> Result<(), AllocError>
     ensures { OnOk result (string_bytes out.new ≡
         string_bytes out.old ++ spec.entry_lines layout.now column (borrowed key.entry)
-        (node_of value.now)) }
+        (value_node value.now)) }
 {
     push_spaces(out, column)?;
     push_entry(alloc, out, layout, column, key, value)
@@ -50,7 +50,7 @@ fn entry_text(
     last: &str,
 ) -> Result<String, AllocError>
     ensures { IfOk result (λ s. string_bytes s ≡
-        spec.more_lines layout.now (borrowed key.entry) (node_of value.now) column last.now) }
+        spec.more_lines layout.now (borrowed key.entry) (value_node value.now) column last.now) }
 {
     let mut out = String::new(alloc);
     if last.is_empty() {
@@ -75,7 +75,7 @@ fn more_lines(
 ) -> Result<String, AllocError>
     ensures { IfOk result (λ s. string_bytes s ≡ spec.more_lines
         (layouts.layout_of doc (cut_of cut.now)) (borrowed key.entry)
-        (node_of value.now) column last.now) }
+        (value_node value.now) column last.now) }
 {
     let layout = layout_for(cut, doc, key.is_some(), value);
     entry_text(alloc, &layout, key, value, column, last)
@@ -110,8 +110,8 @@ fn behind_lines<'t>(
     behind: Halves<'t>,
 ) -> Result<Segments<'t>, AllocError>
     ensures { IfOk result (λ ss. ss ≡
-        spec.behind_lines (whole before.entry) (whole old.entry) last.now (string_bytes new)
-        (whole behind.entry)) }
+        spec.behind_lines (halves_text before.entry) (halves_text old.entry) last.now (string_bytes new)
+        (halves_text behind.entry)) }
 {
     let segments = vec![in alloc;
         Segment::Keep(before),
@@ -136,7 +136,7 @@ pub fn more_at<'t>(
     value: &Value,
 ) -> Result<Option<Segments<'t>>, AllocError>
     ensures { GivesSegments result (spec.more_at path.now.doc (steps_of path.now) (cut_of cut.now)
-        (borrowed key.entry) (node_of value.now)) }
+        (borrowed key.entry) (value_node value.now)) }
 {
     let doc = path.doc;
     match cut.standing(path) {

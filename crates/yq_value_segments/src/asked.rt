@@ -1,6 +1,6 @@
 //! Whether a value asks how much deeper than its key a collection stands.
 ghost use Rattle.std.specs.Prelude.{◌≡◌};
-ghost use Rattle.yq_nodes.specs.Values.{entries_of, items_of, node_of};
+ghost use Rattle.yq_nodes.specs.Values.{entries_of, items_of, value_node};
 ghost use Rattle.yq_edits.specs.Layouts as spec;
 
 use yq_block::is_filled;
@@ -8,7 +8,7 @@ use yq_nodes::Value;
 
 /// Whether a value is a sequence, or a mapping, with items or entries.
 fn is_filled_as(dashes: bool, value: &Value) -> bool
-    ensures { result ≡ spec.is_filled_as dashes (node_of value.now) }
+    ensures { result ≡ spec.is_filled_as dashes (value_node value.now) }
 {
     match value {
         Value::Scalar(_) => false,
@@ -21,7 +21,7 @@ fn is_filled_as(dashes: bool, value: &Value) -> bool
 #[cycle(asks)]
 #[tactic(auto, unfolding(yq_edits::specs::Layouts::node_asks), using(crate::proofs::AskedLaws::map_asked))]
 fn node_asks(dashes: bool, value: &Value) -> bool
-    ensures { result ≡ spec.node_asks dashes (node_of value.now) }
+    ensures { result ≡ spec.node_asks dashes (value_node value.now) }
 {
     match value {
         Value::Scalar(_) => false,
@@ -61,7 +61,7 @@ fn entries_ask(dashes: bool, entries: &Vec<(String, Value)>) -> bool
 /// Whether a value asks for the step of sequences, or of mappings, where it is put under a key, or
 /// elsewhere.
 pub(crate) fn is_asked(keyed: bool, dashes: bool, value: &Value) -> bool
-    ensures { result ≡ spec.is_asked keyed dashes (node_of value.now) }
+    ensures { result ≡ spec.is_asked keyed dashes (value_node value.now) }
 {
     (keyed && is_filled_as(dashes, value)) || node_asks(dashes, value)
 }

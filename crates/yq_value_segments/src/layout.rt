@@ -1,6 +1,6 @@
 //! How block style looks in documents.
 ghost use Rattle.std.specs.Prelude.{◌≡◌, true};
-ghost use Rattle.yq_nodes.specs.Values.{node_of};
+ghost use Rattle.yq_nodes.specs.Values.{value_node};
 ghost use Rattle.yq_documents.specs.Reading.{cut_of};
 ghost use Rattle.yq_edits.specs.Layouts as spec;
 
@@ -12,8 +12,8 @@ use yq_places::CutText;
 /// By how many columns sequences, or mappings, stand deeper than their keys in document `doc`, if a value
 /// asks for it, since all rows of the document may be looked at.
 fn step_for(cut: &CutText<'_, '_>, doc: usize, keyed: bool, dashes: bool, value: &Value) -> usize
-    ensures { spec.is_asked keyed dashes (node_of value.now) ≡ true →
-        result ≡ spec.step_of dashes (spec.layout_of doc (cut_of cut.now)) }
+    ensures { spec.is_asked keyed dashes (value_node value.now) ≡ true →
+        result ≡ spec.columns_deeper dashes (spec.layout_of doc (cut_of cut.now)) }
 {
     if is_asked(keyed, dashes, value) {
         return cut.step(doc, dashes);
@@ -24,7 +24,7 @@ fn step_for(cut: &CutText<'_, '_>, doc: usize, keyed: bool, dashes: bool, value:
 /// How block style looks in document `doc`, as far as a value asks for it, which is put under a key, or
 /// elsewhere: with the text's first break, and that document's steps, in columns.
 pub(crate) fn layout_for(cut: &CutText<'_, '_>, doc: usize, keyed: bool, value: &Value) -> Layout
-    ensures { spec.LooksLike keyed (node_of value.now) result
+    ensures { spec.LooksLike keyed (value_node value.now) result
         (spec.layout_of doc (cut_of cut.now)) }
 {
     Layout {

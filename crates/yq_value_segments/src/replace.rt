@@ -1,7 +1,7 @@
 //! Replace, outside flow collections: a value in the place of what stands there.
 ghost use Rattle.std.specs.List.{list_any};
 ghost use Rattle.std.specs.Prelude.{◌≡◌, IfOk, not};
-ghost use Rattle.yq_nodes.specs.Values.{node_of};
+ghost use Rattle.yq_nodes.specs.Values.{value_node};
 ghost use Rattle.yq_flow_scalars.specs.Tree.{Node as NodeOf};
 ghost use Rattle.yq_flow_scalars.specs.Text.{is_feed};
 ghost use Rattle.yq_documents.specs.Located.{steps_of};
@@ -38,7 +38,7 @@ fn value_put<'t>(
     standing: &Standing<'t>,
 ) -> Result<Segments<'t>, AllocError>
     ensures { IfOk result (λ ss. ss ≡
-        spec.value_put has_text layout.now (node_of value.now) (standing_view standing.now)) }
+        spec.value_put has_text layout.now (value_node value.now) (standing_view standing.now)) }
 {
     match standing {
         Standing::Alone(lone) => lone_put(alloc, lone, value),
@@ -98,7 +98,7 @@ fn text_there(
 
 /// Whether a key holds what stands there.
 fn is_keyed(standing: &Standing<'_>) -> bool
-    ensures { result ≡ layouts.is_keyed (standing_view standing.now) }
+    ensures { result ≡ layouts.is_under_key (standing_view standing.now) }
 {
     match standing {
         Standing::Beside(held) => held.mark.keyed,
@@ -120,7 +120,7 @@ pub fn value_put_at<'t>(
     path: &Path,
     value: &Value,
 ) -> Result<Option<Segments<'t>>, AllocError>
-    ensures { GivesSegments result (spec.value_put_at path.now.doc (steps_of path.now) (node_of value.now)
+    ensures { GivesSegments result (spec.value_put_at path.now.doc (steps_of path.now) (value_node value.now)
         (cut_of cut.now)) }
 {
     let Some(standing) = cut.standing(path) else {

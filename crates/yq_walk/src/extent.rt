@@ -3,15 +3,15 @@ ghost use Rattle.std.specs.Prelude.{◌≡◌, ◌<◌, ◌≤◌, ◌-◌, leng
 ghost use Rattle.yq_text.specs.Limit.{text_limit};
 ghost use Rattle.yq_cut.specs.Offsets.{row_length};
 ghost use Rattle.yq_cut.specs.Rows.{Cut, Row as RowOf};
-ghost use Rattle.yq_cut.specs.View.{rows_of, rows_view, view, Slices};
+ghost use Rattle.yq_cut.specs.View.{rows_of, rows_view, row_view, Slices};
 ghost use Rattle.yq_lines.specs.Extents as spec;
 
 use yq_cut::{Row, Rows};
 
 /// How long a row is, with its gap.
 pub fn row_len(row: &Row<'_>) -> usize
-    requires { row_length (view row.now) ≤ text_limit }
-    ensures { result ≡ row_length (view row.now) }
+    requires { row_length (row_view row.now) ≤ text_limit }
+    ensures { result ≡ row_length (row_view row.now) }
 {
     row.gap().len()
         + row.column()
@@ -28,8 +28,8 @@ pub fn row_len(row: &Row<'_>) -> usize
 
 /// How long the pieces of a row before its head are.
 pub fn front_len(row: &Row<'_>) -> usize
-    requires { row_length (view row.now) ≤ text_limit }
-    ensures { result ≡ spec.front_length (view row.now) }
+    requires { row_length (row_view row.now) ≤ text_limit }
+    ensures { result ≡ spec.front_length (row_view row.now) }
 {
     row.gap().len()
         + row.column()

@@ -1,9 +1,9 @@
 //! Lines of a document by their rows, and how deep they are.
 ghost use Rattle.std.specs.Prelude.{◌≡◌, ◌<◌, ◌≤◌, ◌+◌, ◌-◌, ◌*◌, drop, length, nat_lt, not, slice_get, take, if◌then◌else◌, IsTrue, Some};
-ghost use Rattle.yq_lines.specs.Ends.{IsEndOf, is_end, part};
+ghost use Rattle.yq_lines.specs.Ends.{IsEndOf, has_no_lines, part};
 ghost use Rattle.yq_lines.specs.Outline.{level};
-ghost use Rattle.yq_cut.specs.View.{view, Slices};
-ghost use Rattle.yq_lines.specs.Lines.{lines_of};
+ghost use Rattle.yq_cut.specs.View.{row_view, Slices};
+ghost use Rattle.yq_lines.specs.Lines.{lines_of_rows};
 ghost use Rattle.yq_text.specs.Limit.{text_limit};
 ghost use Rattle.yq_lines.specs.Extents as extents;
 ghost use Rattle.yq_lines.specs.Extents.{IsRowsView};
@@ -16,9 +16,9 @@ use yq_lines::{Position, Stretch};
 
 /// The column of a line of a row.
 pub fn line_column(row: &Row<'_>, line: usize) -> usize
-    requires { (view row.now).column + length (view row.now).dashes ≤ text_limit }
-    ensures value { result ≡ spec.line_column line (view row.now) }
-    ensures within { result ≤ (view row.now).column + length (view row.now).dashes }
+    requires { (row_view row.now).column + length (row_view row.now).dashes ≤ text_limit }
+    ensures value { result ≡ spec.line_column line (row_view row.now) }
+    ensures within { result ≤ (row_view row.now).column + length (row_view row.now).dashes }
 {
     row.column() + dash_at(row.dashes().as_bytes(), line)
 }
@@ -122,7 +122,7 @@ pub fn is_deeper(rows: &Rows<'_>, document: Stretch, position: Position, floor: 
     requires position { IsPosition rows.now document position }
     ensures some { IsTrue result → position.row < document.end }
     ensures test { (h : HasRows rows.now document) → result ≡
-        not (is_end (part (lines_of h.rows) (spec.line_number document h.rows position) floor)) }
+        not (has_no_lines (part (lines_of_rows h.rows) (spec.line_number document h.rows position) floor)) }
 {
     if position.row >= document.end {
         return false;
@@ -136,7 +136,7 @@ pub fn behind(rows: &Rows<'_>, document: Stretch, position: Position) -> Positio
     requires document { HasRows rows.now document }
     requires position { IsLine rows.now document position }
     ensures end { (h : HasRows rows.now document) →
-        IsEndOf (lines_of h.rows) (spec.line_number document h.rows position)
+        IsEndOf (lines_of_rows h.rows) (spec.line_number document h.rows position)
         (spec.line_number document h.rows result) }
     ensures position { IsPosition rows.now document result }
     ensures line { result.line ≡ 0 }

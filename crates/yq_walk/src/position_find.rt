@@ -1,6 +1,6 @@
 //! Where a step of a path leads among the lines of a document, row by row.
 ghost use Rattle.std.specs.Prelude.{IfSome};
-ghost use Rattle.yq_nodes.specs.Entries.{step_of};
+ghost use Rattle.yq_nodes.specs.Entries.{tree_step};
 ghost use Rattle.yq_flow_scalars.specs.Paths as steps;
 ghost use Rattle.yq_lines.specs.Extents.{IsRowsView};
 ghost use Rattle.yq_lines.specs.RowWalk.{AreKnown, Finds, HasDocument, HaveKeys, IsLine, IsPosition};
@@ -108,7 +108,7 @@ pub fn find_step(
     requires under { IsPosition rows.now document under }
     requires keys { HaveKeys rows.now document under floor }
     ensures within { IfSome result (IsLine rows.now document) }
-    ensures found { Finds rows.now document under floor (step_of step.now) result }
+    ensures found { Finds rows.now document under floor (tree_step step.now) result }
 {
     match step {
         Step::Key(key) => find_entry(rows, document, known, under, floor, key.as_str()),

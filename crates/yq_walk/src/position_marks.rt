@@ -18,7 +18,7 @@ pub fn is_bare(rows: &Rows<'_>, document: Stretch, position: Position) -> bool
     requires rows_view { IsRowsView rows.now }
     requires document { HasRows rows.now document }
     requires position { IsLine rows.now document position }
-    ensures { OfLine rows.now document position (λ l. result ≡ positions.is_bare l.mark) }
+    ensures { OfLine rows.now document position (λ l. result ≡ positions.has_no_mark l.mark) }
 {
     rank_at(rows, position) == 1
 }

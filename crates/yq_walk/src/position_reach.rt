@@ -1,9 +1,9 @@
 //! The line of a document to which steps lead, and the steps that go on in its head, row by row.
 ghost use Rattle.std.specs.Prelude.{◌≡◌, ◌∷◌, map, option_map, IfSome, IsTrue, Some};
-ghost use Rattle.yq_nodes.specs.Entries.{step_of};
-ghost use Rattle.yq_lines.specs.Ends.{line_of, part, reached};
+ghost use Rattle.yq_nodes.specs.Entries.{tree_step};
+ghost use Rattle.yq_lines.specs.Ends.{line_at_steps, part, reached};
 ghost use Rattle.yq_lines.specs.Positions as positions;
-ghost use Rattle.yq_lines.specs.Lines.{lines_of};
+ghost use Rattle.yq_lines.specs.Lines.{lines_of_rows};
 ghost use Rattle.yq_lines.specs.Extents.{IsRowsView};
 ghost use Rattle.yq_lines.specs.RowWalk as spec;
 ghost use Rattle.yq_lines.specs.RowWalk.{AreKnown, HasDocument, HasRows, HaveKeys, IsLine, IsPosition, LeadsTo, line_number};
@@ -23,7 +23,7 @@ pub fn begins_with_node(rows: &Rows<'_>, document: Stretch, under: Position, flo
     requires under { IsPosition rows.now document under }
     ensures some { IsTrue result → IsLine rows.now document under }
     ensures test { (h : HasRows rows.now document) → result ≡
-        positions.begins_with_node (part (lines_of h.rows) (line_number document h.rows under) floor) }
+        positions.begins_with_node (part (lines_of_rows h.rows) (line_number document h.rows under) floor) }
 {
     if !is_deeper(rows, document, under, floor) {
         return false;
@@ -48,8 +48,8 @@ fn next_in(
     requires keys { HaveKeys rows.now document under floor }
     ensures within { IfSome result (λ x. IsLine rows.now document (spec.next_position x)) }
     ensures found { LeadsTo rows.now document
-        (λ ls n ss. positions.reach_in ls (n under) floor (step_of step.now) ss)
-        (step_of step.now) result }
+        (λ ls n ss. positions.reach_in ls (n under) floor (tree_step step.now) ss)
+        (tree_step step.now) result }
 {
     if begins_with_node(rows, document, under, floor) {
         return Some(Next::Head(under));
@@ -73,7 +73,7 @@ fn next_from(
     requires at { IsLine rows.now document at }
     ensures within { IfSome result (λ x. IsLine rows.now document (spec.next_position x)) }
     ensures found { LeadsTo rows.now document (λ ls n ss. positions.reach_from ls (Some (n at))
-        (step_of step.now ∷ ss)) (step_of step.now) result }
+        (tree_step step.now ∷ ss)) (tree_step step.now) result }
 {
     if has_head(rows, document, at) {
         return Some(Next::Head(at));
@@ -97,7 +97,7 @@ pub fn next_at(
     requires from { IfSome from (IsLine rows.now document) }
     ensures within { IfSome result (λ x. IsLine rows.now document (spec.next_position x)) }
     ensures found { LeadsTo rows.now document (λ ls n ss. positions.reach_from ls (option_map n from)
-        (step_of step.now ∷ ss)) (step_of step.now) result }
+        (tree_step step.now ∷ ss)) (tree_step step.now) result }
 {
     match from {
         Some(at) => next_from(rows, document, known, at, step),
@@ -125,7 +125,7 @@ pub fn reach<'s>(
     ensures within { IfSome result (λ x. IsLine rows.now document x.0) }
     ensures found { (h : HasDocument rows.now document) →
         option_map (spec.reached_view document h.stand.rows) result ≡
-        reached (map step_of steps.now) (lines_of h.stand.rows) }
+        reached (map tree_step steps.now) (lines_of_rows h.stand.rows) }
 {
     let mut found = None;
     let mut left = steps;
@@ -154,7 +154,7 @@ pub fn line_at(
     ensures within { IfSome result (IsLine rows.now document) }
     ensures found { (h : HasDocument rows.now document) →
         option_map (line_number document h.stand.rows) result ≡
-        line_of (map step_of steps.now) (lines_of h.stand.rows) }
+        line_at_steps (map tree_step steps.now) (lines_of_rows h.stand.rows) }
 {
     let (at, left) = reach(rows, document, known, steps)?;
     if left.is_empty() { Some(at) } else { None }

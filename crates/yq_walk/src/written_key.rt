@@ -36,11 +36,11 @@ fn is_quoted_key(piece: &str, key: &str) -> bool
 
 /// Whether a key on one line that is written so is this one.
 #[inline(always)]
-#[tactic(auto, unfolding(yq_nodes::specs::Scalars::content_of))]
+#[tactic(auto, unfolding(yq_nodes::specs::Scalars::scalar_content))]
 pub(crate) fn is_written(piece: &str, key: &str) -> bool
     requires quoted { scalars.is_quoted piece.now ≡ true → IsQuotedText piece.now }
     requires line { holds_break piece.now ≡ false }
-    ensures { result ≡ bytes_eq (scalars.content_of piece.now) key.now }
+    ensures { result ≡ bytes_eq (scalars.scalar_content piece.now) key.now }
 {
     if is_quoted(piece.as_bytes()) {
         return is_quoted_key(piece, key);

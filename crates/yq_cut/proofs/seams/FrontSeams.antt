@@ -1,7 +1,7 @@
 -- What rows in front ask of a text that stands behind them in the place of another one.
 use Rattle.std.proofs.Common.{◌≡◌, ℕ, ℤ, true, false, ◌||◌, List, [], ◌∷◌, ◌++◌, refl, sym, ap, ◌∙◌, ⊎_elim, replicate, Some, rules}
 use Rattle.std.proofs.lemmas.Bool.{false≢true, or_right}
-use Rattle.yq_flow_scalars.specs.Text.{is_empty, is_line, lines_of}
+use Rattle.yq_flow_scalars.specs.Text.{is_empty, is_line, text_lines}
 use Rattle.yq_nodes.specs.Alike.{Alike}
 use Rattle.yq_cut.specs.Grammar.{IsTail, IsContent, IsRow, Limit, limit_after, AreRows, no_rows}
 use Rattle.yq_cut.specs.Rows.{Content, Row, behind_indent, behind_gap, parent_indent, print_row, rows_text}
@@ -45,7 +45,7 @@ content_any n c t u h1 h2 h3 = search (rules, tail_any, false≢true)
 closed_same : (tail t u : List ℕ) → is_empty t ≡ is_empty u → is_closed tail t ≡ true → is_closed tail u ≡ true
 closed_same tail t u e h = ap (λ x. is_line tail || x) (sym e) ∙ h
 
-seam_same : (c : Content) (t u : List ℕ) → is_empty t ≡ is_empty u → LinesAlike (lines_of t) (lines_of u) → is_seam c t ≡ true → is_seam c u ≡ true
+seam_same : (c : Content) (t u : List ℕ) → is_empty t ≡ is_empty u → LinesAlike (text_lines t) (text_lines u) → is_seam c t ≡ true → is_seam c u ≡ true
 seam_same c t u h1 h2 h3 = search (rules, closed_same, ends_alike)
 
 -- the same of rows
@@ -59,7 +59,7 @@ seams_any [] rows limit end rest u h some b = refl
 seams_any (r ∷ []) rows limit end rest u h some b = content_any (parent_indent r) r.content (rows_text rows (end ++ rest)) u b (rows_some (limit_after r) rows end rest some h.1) h.0.content
 seams_any (r ∷ (q ∷ front)) rows limit end rest u h some b = seams_any (q ∷ front) rows (limit_after r) end rest u h.1 some b
 
-seams_same : (front : List Row) (t u : List ℕ) → is_empty t ≡ is_empty u → LinesAlike (lines_of t) (lines_of u) → are_seamed front t ≡ true → are_seamed front u ≡ true
+seams_same : (front : List Row) (t u : List ℕ) → is_empty t ≡ is_empty u → LinesAlike (text_lines t) (text_lines u) → are_seamed front t ≡ true → are_seamed front u ≡ true
 seams_same [] t u e a h = refl
 seams_same (r ∷ []) t u e a h = seam_same r.content t u e a h
 seams_same (r ∷ (q ∷ front)) t u e a h = seams_same (q ∷ front) t u e a h

@@ -1,10 +1,10 @@
 -- Gaps one behind the other, and what stays in front of a gap behind a block scalar.
 use Rattle.std.proofs.Common.{◌≡◌, ℕ, Bool, true, false, not, List, [], ◌∷◌, ◌++◌, refl, sym, ap, ◌∙◌, subst, ⊎_elim, rules}
 use Rattle.std.proofs.lemmas.Bool.{false≢true, not-false, not-true, and_parts, cases_Bool, or_parts}
-use Rattle.yq_block_scalars.specs.Block.{Lines, ends_block, is_empty_line, is_less_indented}
+use Rattle.yq_block_scalars.specs.Block.{RawLines, ends_block, is_empty_line, is_less_indented}
 use Rattle.yq_block_scalars.specs.declared.block_lines.TextIndent.{TextIndent}
 use Rattle.yq_flow_scalars.specs.Lines.{behind_spaces, is_blank}
-use Rattle.yq_flow_scalars.specs.Text.{is_empty, ends_line, joined, lines_of}
+use Rattle.yq_flow_scalars.specs.Text.{is_empty, ends_line, joined, text_lines}
 use Rattle.yq_block_scalars.specs.BlockRepair.{repair}
 use Rattle.yq_block_scalars.proofs.SpaceLaws.{char_not_blank}
 use Rattle.yq_block_scalars.proofs.LineLaws.{joined-append}
@@ -29,20 +29,20 @@ gap_joined g h x y some a b = record {
   each = lines_joined a.lines b.lines x y some a.each b.each;
 }
 
-pub gap_lines : (gap rest : List ℕ) (h : IsGap gap rest) → lines_of gap ≡ h.lines
-gap_lines gap rest h = ap lines_of h.spelled ∙ gap_lines_of h.lines rest h.each
+pub gap_lines : (gap rest : List ℕ) (h : IsGap gap rest) → text_lines gap ≡ h.lines
+gap_lines gap rest h = ap text_lines h.spelled ∙ gap_lines_of h.lines rest h.each
 
-pub lines_joined_of : (kept next x : List ℕ) → is_empty x ≡ false → IsGap kept x → lines_of (kept ++ next) ≡ lines_of kept ++ lines_of next
-lines_joined_of kept next x some h = ap (λ g. lines_of (g ++ next)) h.spelled ∙ (lines_before h.lines x next some h.each ∙ ap (λ ls. ls ++ lines_of next) (sym (gap_lines kept x h)))
+pub lines_joined_of : (kept next x : List ℕ) → is_empty x ≡ false → IsGap kept x → text_lines (kept ++ next) ≡ text_lines kept ++ text_lines next
+lines_joined_of kept next x some h = ap (λ g. text_lines (g ++ next)) h.spelled ∙ (lines_before h.lines x next some h.each ∙ ap (λ ls. ls ++ text_lines next) (sym (gap_lines kept x h)))
 
-pub gap_repaired : (keep : Bool) (m column : ℕ) (gap rest : List ℕ) → IsGap gap rest → IsGap (joined (repair keep m column (lines_of gap))) rest
-gap_repaired keep m column gap rest h = subst (λ (ls : Lines). IsGap (joined (repair keep m column ls)) rest) (sym (gap_lines gap rest h)) (repaired_gap keep m column h.lines rest h.each)
+pub gap_repaired : (keep : Bool) (m column : ℕ) (gap rest : List ℕ) → IsGap gap rest → IsGap (joined (repair keep m column (text_lines gap))) rest
+gap_repaired keep m column gap rest h = subst (λ (ls : RawLines). IsGap (joined (repair keep m column ls)) rest) (sym (gap_lines gap rest h)) (repaired_gap keep m column h.lines rest h.each)
 
 -- what stays in front
 blank_not_less : (f : TextIndent) (l : List ℕ) → is_blank l ≡ true → is_less_indented f l ≡ true → ⊥
 blank_not_less f l b h = search (rules, and_parts, false≢true, char_not_blank, not-true)
 
-pub ends_blank : (keep : Bool) (f : TextIndent) (ls old new : Lines) → hold_comment ls ≡ false → ends_block keep f (ls ++ old) ≡ true → ends_block keep f new ≡ true → ends_block keep f (ls ++ new) ≡ true
+pub ends_blank : (keep : Bool) (f : TextIndent) (ls old new : RawLines) → hold_comment ls ≡ false → ends_block keep f (ls ++ old) ≡ true → ends_block keep f new ≡ true → ends_block keep f (ls ++ new) ≡ true
 unfolding ends_block
 ends_blank keep f [] old new c h k = k
 ends_blank keep f (l ∷ ls) old new c h k =
@@ -56,7 +56,7 @@ ends_blank keep f (l ∷ ls) old new c h k =
     (λ e. absurd (blank_not_less f l blank (rw e at h)))
     (cases_Bool (is_empty_line f l))
 
-pub ends_comment : (keep : Bool) (f : TextIndent) (ls old new : Lines) → hold_comment ls ≡ true → ends_block keep f (ls ++ old) ≡ true → ends_block keep f (ls ++ new) ≡ true
+pub ends_comment : (keep : Bool) (f : TextIndent) (ls old new : RawLines) → hold_comment ls ≡ true → ends_block keep f (ls ++ old) ≡ true → ends_block keep f (ls ++ new) ≡ true
 unfolding ends_block
 ends_comment keep f [] old new c h = absurd (false≢true c)
 ends_comment keep f (l ∷ ls) old new c h = ⊎_elim {0, 0, 0}

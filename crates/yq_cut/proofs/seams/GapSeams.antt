@@ -1,11 +1,11 @@
 -- Gaps joined, and repaired behind a block scalar.
 use Rattle.std.proofs.Common.{◌≡◌, ◌⊎◌, inl, inr, ℕ, Bool, true, false, ◌&&◌, ◌||◌, List, [], ◌∷◌, ◌++◌, refl, sym, ap, ◌∙◌, subst, ⊎_elim, append_assoc, append-nil, replicate, rules}
 use Rattle.std.proofs.lemmas.Bool.{false≢true, cond_both, and_parts, cases_Bool, or_parts}
-use Rattle.yq_block_scalars.specs.Block.{Lines}
-use Rattle.yq_block_scalars.specs.BlockRepair.{AreGap, is_short, is_outside, repaired_blank, repaired_comment, repair}
-use Rattle.yq_block_scalars.specs.BlockWritten.{closed}
+use Rattle.yq_block_scalars.specs.Block.{RawLines}
+use Rattle.yq_block_scalars.specs.BlockRepair.{AreGap, is_short, is_outdented_comment, repaired_blank, repaired_comment, repair}
+use Rattle.yq_block_scalars.specs.BlockWritten.{ends_with_break}
 use Rattle.yq_flow_scalars.specs.Lines.{is_hash, is_blank}
-use Rattle.yq_flow_scalars.specs.Text.{no_white, NoneIn, is_feed, is_return, is_break, is_empty, is_line, ends_line, front, past_white, put_byte, lines_of, joined}
+use Rattle.yq_flow_scalars.specs.Text.{no_white, NoneIn, is_feed, is_return, is_break, is_empty, is_line, ends_line, front, past_white, put_byte, text_lines, joined}
 use Rattle.yq_block_scalars.proofs.LineLaws.{lines_again}
 use Rattle.yq_cut.specs.Gap.{IsBreak, IsLineEnd, IsGapLine, AreGapLines, IsGap}
 use Rattle.yq_cut.proofs.EmptyTexts.{empty_is, none_is, empty_or}
@@ -26,11 +26,11 @@ line_kind : (l rest : List ℕ) → IsGapLine l rest → (is_blank l || is_hash 
 line_kind l rest h = let past = past_line h.white h.comment l rest h.line in ap (λ u. ends_line u || is_hash u) past.0 ∙ past.1
 
 -- the lines of a gap
-pub gap_kinds : (ls : Lines) (rest : List ℕ) → AreGapLines ls rest → AreGap ls
+pub gap_kinds : (ls : RawLines) (rest : List ℕ) → AreGapLines ls rest → AreGap ls
 gap_kinds [] rest h = tt
 gap_kinds (l ∷ ls) rest h = (line_kind l (joined ls ++ rest) h.0, gap_kinds ls rest h.1)
 
-joined_some : (ls : Lines) (rest : List ℕ) → AreGapLines ls rest → joined ls ++ rest ≡ [] → ls ≡ []
+joined_some : (ls : RawLines) (rest : List ℕ) → AreGapLines ls rest → joined ls ++ rest ≡ [] → ls ≡ []
 joined_some [] rest h e = refl
 joined_some (l ∷ ls) rest h e = search (rules, none_is, append_assoc, false≢true)
 
@@ -43,39 +43,39 @@ line_is l rest h = ⊎_elim {0, 0, 0}
     inr (e.1, subst (λ (x : List ℕ). NoneIn ends_line x []) (sym is) (subst (NoneIn ends_line (h.white ++ h.comment)) e.0 none)))
     h.line.ends
 
-one_line : (b : ℕ) (p : List ℕ) → NoneIn ends_line (b ∷ p) [] → lines_of (b ∷ p) ≡ (b ∷ p) ∷ []
-unfolding lines_of
+one_line : (b : ℕ) (p : List ℕ) → NoneIn ends_line (b ∷ p) [] → text_lines (b ∷ p) ≡ (b ∷ p) ∷ []
+unfolding text_lines
 one_line b [] h = rw (or_parts (is_feed b) (is_return b && false) h.0).0 refl
 one_line b (c ∷ p) h = rw (or_parts (is_feed b) (is_return b && front is_feed (c ∷ (p ++ []))) h.0).0 (ap (put_byte b) (one_line c p h.1))
 
-some_line : (l : List ℕ) → is_empty l ≡ false → NoneIn ends_line l [] → lines_of (l ++ []) ≡ l ∷ []
+some_line : (l : List ℕ) → is_empty l ≡ false → NoneIn ends_line l [] → text_lines (l ++ []) ≡ l ∷ []
 some_line [] some h = absurd (false≢true (sym some))
-some_line (b ∷ p) some h = ap lines_of (append-nil (b ∷ p)) ∙ one_line b p h
+some_line (b ∷ p) some h = ap text_lines (append-nil (b ∷ p)) ∙ one_line b p h
 
-pub gap_lines_of : (ls : Lines) (rest : List ℕ) → AreGapLines ls rest → lines_of (joined ls) ≡ ls
-unfolding lines_of
+pub gap_lines_of : (ls : RawLines) (rest : List ℕ) → AreGapLines ls rest → text_lines (joined ls) ≡ ls
+unfolding text_lines
 gap_lines_of [] rest h = refl
 gap_lines_of (l ∷ ls) rest h = ⊎_elim {0, 0, 0}
     (λ e. lines_again l (joined ls) e ∙ ap (λ x. l ∷ x) (gap_lines_of ls rest h.1))
     (λ e.
     let none : ls ≡ [] = joined_some ls rest h.1 e.0 in
-    ap (λ x. lines_of (l ++ joined x)) none ∙ (some_line l h.0.some e.1 ∙ ap (λ x. l ∷ x) (sym none)))
+    ap (λ x. text_lines (l ++ joined x)) none ∙ (some_line l h.0.some e.1 ∙ ap (λ x. l ∷ x) (sym none)))
     (line_is l (joined ls ++ rest) h.0)
 
-pub lines_before : (ls : Lines) (rest y : List ℕ) → is_empty rest ≡ false → AreGapLines ls rest → lines_of (joined ls ++ y) ≡ ls ++ lines_of y
+pub lines_before : (ls : RawLines) (rest y : List ℕ) → is_empty rest ≡ false → AreGapLines ls rest → text_lines (joined ls ++ y) ≡ ls ++ text_lines y
 lines_before [] rest y some h = refl
 lines_before (l ∷ ls) rest y some h = ⊎_elim {0, 0, 0}
-    (λ e. ap lines_of (append_assoc l (joined ls) y) ∙ (lines_again l (joined ls ++ y) e ∙ ap (λ x. l ∷ x) (lines_before ls rest y some h.1)))
+    (λ e. ap text_lines (append_assoc l (joined ls) y) ∙ (lines_again l (joined ls ++ y) e ∙ ap (λ x. l ∷ x) (lines_before ls rest y some h.1)))
     (λ e. absurd (none_is (joined ls ++ rest) (some_behind (joined ls) rest some) e.0))
     (line_is l (joined ls ++ rest) h.0)
 
-all_closed : (ls : Lines) (rest : List ℕ) → is_empty rest ≡ false → AreGapLines ls rest → closed ls ≡ true
-unfolding closed
+all_closed : (ls : RawLines) (rest : List ℕ) → is_empty rest ≡ false → AreGapLines ls rest → ends_with_break ls ≡ true
+unfolding ends_with_break
 all_closed [] rest some h = refl
 all_closed (l ∷ []) rest some h = ⊎_elim {0, 0, 0} (λ e. e) (λ e. absurd (none_is rest some e.0)) (line_is l rest h.0)
 all_closed (l ∷ (m ∷ ls)) rest some h = all_closed (m ∷ ls) rest some h.1
 
-pub gap_closed : (ls : Lines) (rest : List ℕ) → AreGapLines ls rest → (closed ls ≡ true) ⊎ (rest ≡ [])
+pub gap_closed : (ls : RawLines) (rest : List ℕ) → AreGapLines ls rest → (ends_with_break ls ≡ true) ⊎ (rest ≡ [])
 gap_closed ls rest h = ⊎_elim {0, 0, 0} (λ e. inl (all_closed ls rest e h)) (λ e. inr e) (empty_or rest)
 
 -- a repaired gap is a gap
@@ -89,7 +89,7 @@ put_gap white comment p g rest h k = ⊎_elim {0, 0, 0}
     })
     (cases_Bool (is_empty p))
 
-nothing_left : (keep : Bool) (m column : ℕ) (ls : Lines) (rest : List ℕ) → AreGapLines ls rest → joined ls ++ rest ≡ [] → joined (repair keep m column ls) ++ rest ≡ []
+nothing_left : (keep : Bool) (m column : ℕ) (ls : RawLines) (rest : List ℕ) → AreGapLines ls rest → joined ls ++ rest ≡ [] → joined (repair keep m column ls) ++ rest ≡ []
 unfolding repair
 nothing_left keep m column ls rest h e = search (rules, joined_some)
 
@@ -105,11 +105,11 @@ blank_line m l old new h none =
 
 comment_line : (m column : ℕ) (l rest : List ℕ) → IsGapLine l rest → EndOf (repaired_comment m column l) rest
 comment_line m column l rest h =
-    cond_both (is_outside m l) l (replicate column 32 ++ past_white l) (λ x. EndOf x rest)
+    cond_both (is_outdented_comment m l) l (replicate column 32 ++ past_white l) (λ x. EndOf x rest)
     (λ _. (h.white, h.comment, h.line))
     (λ _. (replicate column 32, h.comment, record { break = h.line.break; spelled = ap (λ x. replicate column 32 ++ x) (past_line h.white h.comment l rest h.line).0; blank = white_spaces column; as_comment = h.line.as_comment; ends = h.line.ends }))
 
-pub repaired_gap : (keep : Bool) (m column : ℕ) (ls : Lines) (rest : List ℕ) → AreGapLines ls rest → IsGap (joined (repair keep m column ls)) rest
+pub repaired_gap : (keep : Bool) (m column : ℕ) (ls : RawLines) (rest : List ℕ) → AreGapLines ls rest → IsGap (joined (repair keep m column ls)) rest
 unfolding repair
 repaired_gap keep m column [] rest h = record { lines = []; spelled = refl; each = tt }
 repaired_gap true m column (l ∷ ls) rest h = ⊎_elim {0, 0, 0}

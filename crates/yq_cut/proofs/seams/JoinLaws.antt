@@ -4,7 +4,7 @@ use Rattle.std.proofs.lemmas.Bool.{false≢true}
 use Rattle.yq_flow_scalars.specs.Text.{is_empty, separates}
 use Rattle.yq_nodes.specs.Alike.{Alike, byte}
 use Rattle.yq_cut.specs.Grammar.{IsContent, IsMark, AreDashes, is_entry, IsRow, Limit, limit_after, limit_behind}
-use Rattle.yq_cut.specs.Rows.{Mark, dashes_text, behind_columns, mark_column, parent_of, Row, behind_dashes, behind_indent, parent_indent, Dash, Content, content_text, mark_text}
+use Rattle.yq_cut.specs.Rows.{RowMark, dashes_text, behind_columns, mark_column, parent_of, Row, behind_dashes, behind_indent, parent_indent, Dash, Content, content_text, mark_text}
 use Rattle.yq_cut.specs.Joined.{joined_row, Joins, dashed_row, DashFits, compact_row, CompactFits}
 use Rattle.yq_cut.specs.Seams.{TakesPlace}
 use Rattle.yq_cut.proofs.AlikeRows.{dashes_text_alike}
@@ -18,7 +18,7 @@ pub behind_columns-append : (column : ℕ) (ns ms : List ℕ) → behind_columns
 behind_columns-append column [] ms = refl
 behind_columns-append column (n ∷ ns) ms = behind_columns-append (suc (column + n)) ns ms
 
-dashes_joined : (ns ms : List ℕ) (old new : Mark) → is_entry new ≡ true → AreDashes ns old → AreDashes ms new → AreDashes (ns ++ ms) new
+dashes_joined : (ns ms : List ℕ) (old new : RowMark) → is_entry new ≡ true → AreDashes ns old → AreDashes ms new → AreDashes (ns ++ ms) new
 dashes_joined [] ms old new e h k = k
 dashes_joined (n ∷ ns) ms old new e h k = (h.0, e, dashes_joined ns ms old new e h.2 k)
 
@@ -26,7 +26,7 @@ pub space_apart : (n : ℕ) (t : List ℕ) → 1 ≤ n → separates (replicate 
 space_apart zero t h = absurd (omega (arith, h))
 space_apart (suc n) t h = refl
 
-dashes_alike : (ns t u : List ℕ) (mark : Mark) → is_empty ns ≡ false → AreDashes ns mark → Alike (Some false) (dashes_text ns t) (dashes_text ns u)
+dashes_alike : (ns t u : List ℕ) (mark : RowMark) → is_empty ns ≡ false → AreDashes ns mark → Alike (Some false) (dashes_text ns t) (dashes_text ns u)
 dashes_alike [] t u mark some h = absurd (false≢true (sym some))
 dashes_alike (n ∷ ns) t u mark some h = byte refl refl (space_apart n (dashes_text ns t) h.0) (space_apart n (dashes_text ns u) h.0)
 
@@ -44,11 +44,11 @@ pub limit_joined : (r q : Row) → q.column ≡ mark_column r → limit_after (j
 limit_joined r q e = ap (λ (n : ℤ). limit_behind n q.content) (same_parent r q e)
 
 -- a row with other pieces behind its first dashes
-dashes_front : (ns ms : List ℕ) (old : Mark) → AreDashes (ns ++ ms) old → AreDashes ns Dash
+dashes_front : (ns ms : List ℕ) (old : RowMark) → AreDashes (ns ++ ms) old → AreDashes ns Dash
 dashes_front [] ms old h = tt
 dashes_front (n ∷ ns) ms old h = (h.0, refl, dashes_front ns ms old h.2)
 
-dashes_back : (ns ms : List ℕ) (old : Mark) → AreDashes (ns ++ ms) old → AreDashes ms old
+dashes_back : (ns ms : List ℕ) (old : RowMark) → AreDashes (ns ++ ms) old → AreDashes ms old
 dashes_back [] ms old h = h
 dashes_back (n ∷ ns) ms old h = dashes_back ns ms old h.2
 
@@ -65,8 +65,8 @@ row_dashed limit r ns n ms new t u h f =
 pub row_compact : (limit other : Limit) (n : ℕ) (r q : Row) (t u : List ℕ) → IsRow limit r t → IsRow other q u → CompactFits n r q → TakesPlace limit r t (compact_row n r q) u
 row_compact limit other n r q t u h k f =
     let x : List ℕ = content_text r.content t in
-    let apart : separates x ≡ true = subst (λ (m : Mark). IsMark m r.content t) f.dash h.mark in
-    let old : behind_indent r t ≡ dashes_text r.dashes (45 ∷ x) = ap (λ (m : Mark). dashes_text r.dashes (mark_text m x)) f.dash in
+    let apart : separates x ≡ true = subst (λ (m : RowMark). IsMark m r.content t) f.dash h.mark in
+    let old : behind_indent r t ≡ dashes_text r.dashes (45 ∷ x) = ap (λ (m : RowMark). dashes_text r.dashes (mark_text m x)) f.dash in
     let new : dashes_text (r.dashes ++ (n ∷ q.dashes)) (behind_dashes q u) ≡ dashes_text r.dashes (45 ∷ (replicate n 32 ++ behind_indent q u)) = dashes_text-append r.dashes (n ∷ q.dashes) (behind_dashes q u) in
     let indent : Alike (Some false) (behind_indent r t) (dashes_text (r.dashes ++ (n ∷ q.dashes)) (behind_dashes q u)) =
     rw (old, new) (dashes_text_alike r.dashes _ _ (byte refl refl apart (space_apart n (behind_indent q u) f.space))) in

@@ -1,16 +1,16 @@
 -- A row before one text is a row before another one.
 use Rattle.std.proofs.Common.{◌≡◌, inl, inr, ℕ, ℤ, Bool, true, false, not, ◌||◌, List, [], ◌∷◌, ◌++◌, Option, Some, None, refl, rules}
 use Rattle.std.proofs.lemmas.Bool.{false≢true, cases_Bool}
-use Rattle.yq_block_scalars.specs.Block.{BlockText, block_text, mark_of, IsBlock, ends_block, keeps}
+use Rattle.yq_block_scalars.specs.Block.{BlockText, block_text, style_indicator, IsBlock, ends_block, keeps}
 use Rattle.yq_block_scalars.specs.declared.block_header.BlockStyle.{BlockStyle}
 use Rattle.yq_block_scalars.specs.declared.block_header.BlockStyle.TheVariants as styles
 use Rattle.yq_flow_scalars.specs.Piece.{deeper}
-use Rattle.yq_flow_scalars.specs.Text.{lines_of, joined, separates}
+use Rattle.yq_flow_scalars.specs.Text.{text_lines, joined, separates}
 use Rattle.yq_nodes.specs.Inline.{depth_limit}
-use Rattle.yq_nodes.specs.Nodes.{Node, node_text, in_name, is_bare}
+use Rattle.yq_nodes.specs.Nodes.{FlowNode, node_text, in_name, is_empty_node}
 use Rattle.yq_nodes.specs.Alike.{Alike}
 use Rattle.yq_cut.specs.Grammar.{IsAnchor, IsContent, IsMark, may_be_alone, is_entry, IsRow, Limit}
-use Rattle.yq_cut.specs.Rows.{Mark, Anchor, Content, Nothing, Inline, Block, anchor_text, mark_text, content_text, Row, parent_indent}
+use Rattle.yq_cut.specs.Rows.{RowMark, Anchor, Content, Nothing, Inline, Block, anchor_text, mark_text, content_text, Row, parent_indent}
 use Rattle.yq_cut.specs.Seams.{TakesPlace, with_tail, retail, TailFits}
 use Rattle.yq_nodes.proofs.Alikes.{alike_append}
 use Rattle.yq_cut.proofs.AlikeRows.{dashes_text_alike}
@@ -38,18 +38,18 @@ abbrev pub Joined : Content → List ℕ → (new rest : List ℕ) → Type 0
 Joined c t new u = Joint (plain_of c) (behind_node c t) (behind_node (with_tail new c) u)
 
 -- inline nodes
-abbrev NodeKept : ℤ → List ℕ → Node → List ℕ → List ℕ → List ℕ → List ℕ → Type 0
+abbrev NodeKept : ℤ → List ℕ → FlowNode → List ℕ → List ℕ → List ℕ → List ℕ → Type 0
 NodeKept n space node tail t new u = IsContent n (Inline space node new) u × Alike (Some false) (node_text node (tail ++ t)) (node_text node (new ++ u))
 
 something : (b : Bool) → (false || not b) ≡ true → b ≡ false
 something false h = refl
 something true h = absurd (false≢true h)
 
-pub inline_seam : (n : ℤ) (space : List ℕ) (node : Node) (tail t new u : List ℕ) → IsContent n (Inline space node tail) t → TailFits n new (Inline space node tail) u → Joined (Inline space node tail) t new u → NodeKept n space node tail t new u
+pub inline_seam : (n : ℤ) (space : List ℕ) (node : FlowNode) (tail t new u : List ℕ) → IsContent n (Inline space node tail) t → TailFits n new (Inline space node tail) u → Joined (Inline space node tail) t new u → NodeKept n space node tail t new u
 inline_seam n space node tail t new u h f j =
     let behind : Behind (Some (deeper n)) node (tail ++ t) (new ++ u) = record { was = tail_apart tail t h.2; apart = tail_apart new u f.0; lead = tail_lead new u f.0; ends = f.1; joint = j } in
     let kept = node_seam (Some (deeper n)) node depth_limit (tail ++ t) (new ++ u) behind h.1.valid in
-    ((h.0, record { valid = kept.0; something = h.1.something }, f.0), kept.1 (something (is_bare node) h.1.something))
+    ((h.0, record { valid = kept.0; something = h.1.something }, f.0), kept.1 (something (is_empty_node node) h.1.something))
 
 -- block scalars
 anchor_seam : (anchor : Option Anchor) (t u : List ℕ) → IsAnchor anchor t → IsAnchor anchor u
@@ -60,10 +60,10 @@ anchor_seam (Some a) t u h = (
   h.2,
 )
 
-block_seam : (least : ℕ) (b : BlockText) (t u : List ℕ) → ends_block (keeps b.chomping) b.indent (lines_of u) ≡ true → IsBlock least b t → IsBlock least b u
+block_seam : (least : ℕ) (b : BlockText) (t u : List ℕ) → ends_block (keeps b.chomping) b.indent (text_lines u) ≡ true → IsBlock least b t → IsBlock least b u
 block_seam least b t u e h = record { indicators = h.indicators; tail = h.tail; indent = h.indent; lines = h.lines; ends = h.ends; behind = e }
 
-pub style_no_space : (s : BlockStyle) (t : List ℕ) → separates (mark_of s ∷ t) ≡ false
+pub style_no_space : (s : BlockStyle) (t : List ℕ) → separates (style_indicator s ∷ t) ≡ false
 style_no_space styles.Literal t = refl
 style_no_space styles.Folded t = refl
 
@@ -84,13 +84,13 @@ content_front n c t new u h1 h2 h3 = search (rules, tail_apart, space_apart, inl
 alone_tail : (c : Content) (new : List ℕ) → may_be_alone c ≡ true → may_be_alone (with_tail new c) ≡ true
 alone_tail c new h1 = search rules
 
-bare_mark : (m : Mark) (c : Content) (t : List ℕ) (new : Content) (u : List ℕ) → is_entry m ≡ false → IsMark m c t → (may_be_alone c ≡ true → may_be_alone new ≡ true) → IsMark m new u
+bare_mark : (m : RowMark) (c : Content) (t : List ℕ) (new : Content) (u : List ℕ) → is_entry m ≡ false → IsMark m c t → (may_be_alone c ≡ true → may_be_alone new ≡ true) → IsMark m new u
 bare_mark m c t new u h1 h2 h3 = search (rules, false≢true)
 
-bare_alone : (m : Mark) (c : Content) (t : List ℕ) → is_entry m ≡ false → IsMark m c t → may_be_alone c ≡ true
+bare_alone : (m : RowMark) (c : Content) (t : List ℕ) → is_entry m ≡ false → IsMark m c t → may_be_alone c ≡ true
 bare_alone m c t h1 h2 = search (rules, false≢true)
 
-bare_text : (m : Mark) (t u : List ℕ) → is_entry m ≡ false → Alike (Some false) t u → Alike (Some false) (mark_text m t) (mark_text m u)
+bare_text : (m : RowMark) (t u : List ℕ) → is_entry m ≡ false → Alike (Some false) t u → Alike (Some false) (mark_text m t) (mark_text m u)
 bare_text m t u h1 h2 = search (rules, false≢true)
 
 -- the texts of what is alone on its line

@@ -3,12 +3,12 @@ use Rattle.std.proofs.Common.{◌≡◌, ◌⊎◌, inl, inr, ℕ, Bool, true, f
 use Rattle.std.proofs.lemmas.Bool.{false≢true, not-false, false_from_ne_true, or_cases, or_right, and_parts, cases_Bool, or_parts}
 use Rattle.std.proofs.Math.Bool.{and-false}
 use Rattle.std.specs.Option.{option_or}
-use Rattle.yq_flow_scalars.specs.Plain.{begins_plain, ends_plain, ends_text, no_gap, last_line, may_follow, follows, IsPlain}
+use Rattle.yq_flow_scalars.specs.Plain.{begins_plain, ends_plain, ends_text, no_gap, last_line, plain_may_follow, follows, IsPlain}
 use Rattle.yq_flow_scalars.specs.Quoted.{spell_lines, IsQuoted}
 use Rattle.yq_flow_scalars.specs.Quoted as quotes
 use Rattle.yq_flow_scalars.specs.Text.{upto, cut, NoneIn, front, unless, is_empty, is_feed, is_return, is_space, separates}
 use Rattle.yq_flow_scalars.proofs.Bools.{at_byte}
-use Rattle.yq_nodes.specs.Nodes.{first_is, in_name, begins_node, IsName}
+use Rattle.yq_nodes.specs.Nodes.{begins_with, in_name, begins_node, IsName}
 use Rattle.yq_nodes.specs.Scalars.{is_quoted}
 use Rattle.yq_nodes.proofs.PieceLaws.{front_not}
 use Rattle.yq_nodes.specs.Alike.{Alike, byte, after}
@@ -47,7 +47,7 @@ quote_no_space q t h = ⊎_elim {0, 0, 0} (λ e. rw e refl) (λ e. rw e refl) h
 quote_alike : (q : ℕ) (t u : List ℕ) → (q ≡ 34) ⊎ (q ≡ 39) → separates t ≡ true → separates u ≡ true → Alike (Some false) (q ∷ t) (q ∷ u)
 quote_alike q t u is x y = byte (quote_no_space q t is) (quote_no_space q u is) x y
 
-pub quoted_seam : (q : ℕ) (ls : quotes.Lines) (p t u : List ℕ) → separates t ≡ true → separates u ≡ true → IsQuoted q ls p t → IsQuoted q ls p u × Alike (Some false) (p ++ t) (p ++ u)
+pub quoted_seam : (q : ℕ) (ls : quotes.QuotedLines) (p t u : List ℕ) → separates t ≡ true → separates u ≡ true → IsQuoted q ls p t → IsQuoted q ls p u × Alike (Some false) (p ++ t) (p ++ u)
 quoted_seam q ls p t u x y h =
     let close = quote_alike q t u h.quotes x y in
     let no : (eqb q 39 && front (λ b. eqb b 39) u) ≡ false = rw (apart_no_quote u y) (and-false (eqb q 39)) in
@@ -66,7 +66,7 @@ abbrev pub Joint : List ℕ → List ℕ → List ℕ → Type 0
 Joint p t u = (front is_feed t ≡ front is_feed u) ⊎ (ends_return p ≡ false)
 
 -- plain scalars end with no white space
-may_more : (spaces : Option ℕ) (o : Option (List ℕ)) (y x : List ℕ) (f : Bool) → may_follow spaces (option_or o (if f then Some y else None)) x ≡ true → may_follow spaces o x ≡ true
+may_more : (spaces : Option ℕ) (o : Option (List ℕ)) (y x : List ℕ) (f : Bool) → plain_may_follow spaces (option_or o (if f then Some y else None)) x ≡ true → plain_may_follow spaces o x ≡ true
 may_more spaces None y x f h = refl
 may_more spaces (Some l) y x f h = h
 
@@ -93,12 +93,12 @@ not_followed spaces b t h = elim (cases_Bool (is_space t)) [
       let x = (cut no_gap t).1 in
       let here : not (follows false spaces g x) ≡ true = rw e at h in
       false_from_ne_true (follows false spaces (b ∷ g) x) (λ f.
-      let more : follows false spaces g x ≡ true = follow_more (is_empty x) (front (λ c. eqb c 35) x) (ends_text false x) (may_follow spaces (last_line (b ∷ g)) x) (may_follow spaces (last_line g) x) (may_more spaces (last_line g) g x (is_feed b)) f in
+      let more : follows false spaces g x ≡ true = follow_more (is_empty x) (front (λ c. eqb c 35) x) (ends_text false x) (plain_may_follow spaces (last_line (b ∷ g)) x) (plain_may_follow spaces (last_line g) x) (may_more spaces (last_line g) g x (is_feed b)) f in
       false≢true (ap not (sym more) ∙ here)))
   | inr e ↦ (
       let here : (is_empty t || ends_text false t) ≡ true = rw e at h in
       let parts = cut_none t e in
-      ap (λ (x : List ℕ × List ℕ). follows false spaces (b ∷ x.0) x.1) parts ∙ follow_ended (is_empty t) (front (λ c. eqb c 35) t) (ends_text false t) (may_follow spaces (last_line (b ∷ [])) t) here)
+      ap (λ (x : List ℕ × List ℕ). follows false spaces (b ∷ x.0) x.1) parts ∙ follow_ended (is_empty t) (front (λ c. eqb c 35) t) (ends_text false t) (plain_may_follow spaces (last_line (b ∷ [])) t) here)
 ]
 
 pub last_no_space : (spaces : Option ℕ) (b : ℕ) (t : List ℕ) → ends_plain false spaces (b ∷ t) ≡ false → ends_plain false spaces t ≡ true → is_space (b ∷ t) ≡ false
@@ -125,7 +125,7 @@ plain_inside spaces b (c ∷ p) t u h e x y j =
 pub plain_seam : (spaces : Option ℕ) (p t u : List ℕ) → separates t ≡ true → separates u ≡ true → Joint p t u → ends_plain false spaces u ≡ true → IsPlain false spaces p t → IsPlain false spaces p u × Alike (Some false) (p ++ t) (p ++ u)
 plain_seam spaces [] t u x y j e h = absurd (
     let begins : begins_plain false t ≡ true = h.begins in
-    false≢true (sym (apart_no_node t x) ∙ or_right (first_is 38 t) _ (or_right (first_is 42 t) _ (or_right (first_is 91 t) _ (or_right (first_is 123 t) _ (or_right (is_quoted t) (begins_plain false t) begins))))))
+    false≢true (sym (apart_no_node t x) ∙ or_right (begins_with 38 t) _ (or_right (begins_with 42 t) _ (or_right (begins_with 91 t) _ (or_right (begins_with 123 t) _ (or_right (is_quoted t) (begins_plain false t) begins))))))
 plain_seam spaces (b ∷ p) t u x y j e h =
     let inner = plain_inside spaces b p t u h.inside h.ends x y j in
     (record { begins = sym (alike_begins false (b ∷ (p ++ t)) (b ∷ (p ++ u)) inner.1) ∙ h.begins; inside = inner.0; ends = e }, inner.1)

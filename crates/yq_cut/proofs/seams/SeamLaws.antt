@@ -8,7 +8,7 @@ use Rattle.yq_flow_scalars.specs.Text.{is_empty, front, is_break, is_line, is_ma
 use Rattle.yq_nodes.specs.Alike.{Alike}
 use Rattle.yq_cut.specs.Exchange.{allows_first, asked_behind, with_content}
 use Rattle.yq_cut.specs.Gap.{IsBreak, IsLineEnd}
-use Rattle.yq_cut.specs.Grammar.{IsTail, IsContent, is_plain, IsRow, Limit, unlimited, limit_after, limit_behind, AreRows, no_rows, ends_part}
+use Rattle.yq_cut.specs.Grammar.{IsTail, IsContent, is_plain_content, IsRow, Limit, unlimited, limit_after, limit_behind, AreRows, no_rows, ends_part}
 use Rattle.yq_cut.specs.Rows.{Content, Nothing, Inline, Block, Row, parent_indent, print_row, rows_text}
 use Rattle.yq_cut.specs.Seams.{is_closed, is_seam, MayFollowRows, TakesPlace, with_tail, tail_behind, TailFits}
 use Rattle.yq_cut.specs.Splices.{with_first_gap, end_gap, behind_first}
@@ -57,7 +57,7 @@ joint_tail p tail t u h1 h2 = search (rules, closed_end, no_line, ⊎_elim, no_t
 -- behind a plain scalar the lines are not deep
 abbrev pub PlainEnds : ℤ → Content → List ℕ → Type 0
 PlainEnds n (Nothing tail) u = Unit {0}
-PlainEnds n (Inline space node tail) u = is_plain node ≡ true → IsTail tail u → ends_plain false (Some (deeper n)) (tail ++ u) ≡ true
+PlainEnds n (Inline space node tail) u = is_plain_content node ≡ true → IsTail tail u → ends_plain false (Some (deeper n)) (tail ++ u) ≡ true
 PlainEnds n (Block space anchor block) u = Unit {0}
 
 own_fits : (n : ℤ) (c : Content) (t u : List ℕ) → IsContent n c t → is_seam c u ≡ true → PlainEnds n c u → TailFits n (tail_behind c) c u
@@ -87,7 +87,7 @@ plain_before n (Nothing tail) rs end rest h e = tt
 plain_before n (Block space anchor block) rs end rest h e = tt
 plain_before n (Inline space node tail) rs end rest h e = λ plain last.
     let d = deeper n in
-    let asked : Limit = if is_plain node then record { column = Some d } else unlimited in
+    let asked : Limit = if is_plain_content node then record { column = Some d } else unlimited in
     let allowed : allows_first asked rs ≡ true = first_allowed asked rs end rest h in
     let next : allows_first (record { column = Some d }) rs ≡ true = rw plain at allowed in
     tail_ends d last.white last.comment tail (rows_text rs (end ++ rest)) last.line last.apart (rows_line d rs asked end rest h next (part_line d rest e))

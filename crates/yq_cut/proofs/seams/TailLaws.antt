@@ -6,7 +6,7 @@ use Rattle.yq_flow_scalars.specs.Characters.{pairs_returns}
 use Rattle.yq_flow_scalars.specs.Plain.{ends_plain}
 use Rattle.yq_flow_scalars.specs.Quoted.{spell_lines}
 use Rattle.yq_flow_scalars.specs.Text.{is_white, is_feed, is_return, is_break, is_space, is_line, ends_line, front, NoneIn}
-use Rattle.yq_nodes.specs.Nodes.{Node, empty, alias, scalar, coll, anchored, node_text, IsNode}
+use Rattle.yq_nodes.specs.Nodes.{FlowNode, empty, alias, scalar, coll, anchored, node_text, IsFlowNode}
 use Rattle.yq_cut.specs.Exchange.{asked_behind, row_front}
 use Rattle.yq_cut.specs.Gap.{IsComment}
 use Rattle.yq_cut.specs.Grammar.{IsTail, IsContent, IsRow, Limit, limit_after, limit_behind, AreRows, ends_part}
@@ -47,8 +47,8 @@ last_return (b ∷ (c ∷ p)) q = last_return (c ∷ p) q
 quote_no_return : (q : ℕ) (p : List ℕ) → (q ≡ 34) ⊎ (q ≡ 39) → ends_return (q ∷ (p ++ q ∷ [])) ≡ false
 quote_no_return q p h = last_return (q ∷ p) q ∙ ⊎_elim {0, 0, 0} (λ e. rw e refl) (λ e. rw e refl) h
 
-node_no_return : (spaces : Option ℕ) (node : Node) (d : ℕ) (t : List ℕ) → IsNode false spaces d node t → pairs_returns (node_text node t) ≡ true → ends_return (plain_text node) ≡ false
-unfolding node_text IsNode
+node_no_return : (spaces : Option ℕ) (node : FlowNode) (d : ℕ) (t : List ℕ) → IsFlowNode false spaces d node t → pairs_returns (node_text node t) ≡ true → ends_return (plain_text node) ≡ false
+unfolding node_text IsFlowNode
 node_no_return spaces empty d t h pairs = refl
 node_no_return spaces (alias n) d t h pairs = refl
 node_no_return spaces (scalar p) d t (inl h) pairs = plain_no_return spaces p t h.inside h.ends pairs

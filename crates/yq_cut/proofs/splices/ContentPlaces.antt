@@ -4,9 +4,9 @@ use Rattle.std.proofs.Math.Dec.{ltb}
 use Rattle.std.proofs.lemmas.Bool.{false≢true, ltb-true, ltb-false, cases_Bool}
 use Rattle.std.specs.List.{slice_get}
 use Rattle.yq_cut.specs.Counted.{RowPlace}
-use Rattle.yq_cut.specs.Exchange.{with_content, with_content_at, with_content_in, exchange, behind_at, behind_row, rows_behind, allows_first, FitsRow}
+use Rattle.yq_cut.specs.Exchange.{with_content, with_content_at, with_content_in, exchange, rows_text_behind, behind_row, rows_behind, allows_first, FitsRow}
 use Rattle.yq_cut.specs.Grammar.{IsMark, may_be_alone, is_entry, IsRow, Limit, limit_after, IsCut}
-use Rattle.yq_cut.specs.Rows.{Mark, Content, Row, behind_gap, rows_text, Part, Cut, last, marked, cut_text}
+use Rattle.yq_cut.specs.Rows.{RowMark, Content, Row, behind_gap, rows_text, Part, Cut, last, marked, cut_text}
 use Rattle.yq_cut.specs.Splices.{first_gap, splice_part, asked_at, rest_behind, CutsItsText}
 use Rattle.yq_cut.specs.View.{rows_of}
 use Rattle.yq_cut.proofs.ExchangeLaws.{one_row, slice_front, slice_back}
@@ -33,7 +33,7 @@ content_around [] i r new h = cc
 content_around (x ∷ rows) zero r new h = let is : x ≡ r = cc in ap (λ (y : Row). with_content new y ∷ rows) is
 content_around (x ∷ rows) (suc i) r new h = ap (λ l. x ∷ l) (content_around rows i r new h)
 
-behind_is : (rows : List Row) (i : ℕ) (rest : List ℕ) → behind_at i rows rest ≡ rows_text (drop (suc i) rows) rest
+behind_is : (rows : List Row) (i : ℕ) (rest : List ℕ) → rows_text_behind i rows rest ≡ rows_text (drop (suc i) rows) rest
 behind_is [] i rest = refl
 behind_is (x ∷ rows) zero rest = refl
 behind_is (x ∷ rows) (suc i) rest = behind_is rows i rest
@@ -93,7 +93,7 @@ pub content_exchanged : (t : List ℕ) (c : Cut) (i : ℕ) (r : Row) (new : Cont
 content_exchanged t c i r new h is f = exchanged_by t c i r new h is (λ limit row. (one_row limit r new (behind_row i c) (behind_row i c) row f.entry f.content f.apart).row) f.next
 
 -- a row with neither a dash nor a key
-bare_mark : (m : Mark) (new : Content) (rest : List ℕ) → is_entry m ≡ false → may_be_alone new ≡ true → IsMark m new rest
+bare_mark : (m : RowMark) (new : Content) (rest : List ℕ) → is_entry m ≡ false → may_be_alone new ≡ true → IsMark m new rest
 bare_mark m new rest h1 h2 = search (rules, false≢true)
 
 bare_row : (limit : Limit) (r : Row) (new : Content) (rest : List ℕ) (behind : List Row) → IsRow limit r rest → FitsAlone new r rest behind → IsRow limit (with_content new r) rest

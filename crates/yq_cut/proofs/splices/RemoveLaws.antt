@@ -1,9 +1,9 @@
 -- Rows taken away, with the gap behind them repaired.
 use Rattle.std.proofs.Common.{◌≡◌, ℕ, ◌<◌, true, false, List, [], ◌∷◌, ◌++◌, Option, Some, None, take, refl, sym, ap, ◌∙◌, subst, append_assoc}
 use Rattle.std.proofs.lemmas.Bool.{false≢true}
-use Rattle.yq_block_scalars.specs.Block.{Lines, BlockText, IsBlock}
+use Rattle.yq_block_scalars.specs.Block.{RawLines, BlockText, IsBlock}
 use Rattle.yq_block_scalars.specs.BlockRepair.{is_behind}
-use Rattle.yq_flow_scalars.specs.Text.{is_empty, lines_of, joined}
+use Rattle.yq_flow_scalars.specs.Text.{is_empty, text_lines, joined}
 use Rattle.yq_block_scalars.proofs.LineLaws.{joined-append, joined_lines}
 use Rattle.yq_cut.specs.Exchange.{asked_behind}
 use Rattle.yq_cut.specs.Gap.{AreGapLines, IsGap}
@@ -27,11 +27,11 @@ pub behind_some : (limit : Limit) (rs : List Row) (end rest : List ℕ) → no_r
 behind_some limit [] end rest n h = absurd (false≢true (sym n))
 behind_some limit (r ∷ rs) end rest n h = behind_row_some limit r (rows_text rs (end ++ rest)) h.0
 
-kept_text : (gap : List ℕ) (ks run : Lines) → lines_of gap ≡ ks ++ run → gap ≡ joined ks ++ joined run
+kept_text : (gap : List ℕ) (ks run : RawLines) → text_lines gap ≡ ks ++ run → gap ≡ joined ks ++ joined run
 kept_text gap ks run h = sym (joined_lines gap) ∙ (ap joined h ∙ joined-append ks run)
 
-by_block : (front back : List Row) (end rest : List ℕ) (column : ℕ) (ks : Lines) (x next u : List ℕ) (o : Option BlockText) → last_block front ≡ o → ends_in_block front ≡ true → StandsLess o column →
-    ((m : TextIndent) → column < m.columns → is_behind m (lines_of u) ≡ true) → AreRows unlimited (front ++ back) end rest → rows_text back (end ++ rest) ≡ joined ks ++ x → AreGapLines ks x → is_empty x ≡ false → IsGap next u →
+by_block : (front back : List Row) (end rest : List ℕ) (column : ℕ) (ks : RawLines) (x next u : List ℕ) (o : Option BlockText) → last_block front ≡ o → ends_in_block front ≡ true → StandsLess o column →
+    ((m : TextIndent) → column < m.columns → is_behind m (text_lines u) ≡ true) → AreRows unlimited (front ++ back) end rest → rows_text back (end ++ rest) ≡ joined ks ++ x → AreGapLines ks x → is_empty x ≡ false → IsGap next u →
     are_seamed front (seam_gap o column (joined ks) next ++ u) ≡ true
 by_block front back end rest column ks x next u None is e less lower whole old kept some follows = absurd (false≢true (sym (last_none front is) ∙ e))
 by_block front back end rest column ks x next u (Some b) is e less lower whole old kept some follows =
@@ -40,7 +40,7 @@ by_block front back end rest column ks x next u (Some b) is e less lower whole o
     last.seam (seam_gap (Some b) column (joined ks) next ++ u) (block_seam last.least column b ks x next u block kept some follows less (lower b.indent less))
 
 -- Rows are taken away, and the gap in their place is repaired behind a block scalar.
-pub removed_repaired : (t : List ℕ) (c : Cut) (k i j : ℕ) (ks run : Lines) → IsCut t c → RepairFits k i j ks run c → CutsItsText (without_rows k i j ks c)
+pub removed_repaired : (t : List ℕ) (c : Cut) (k i j : ℕ) (ks run : RawLines) → IsCut t c → RepairFits k i j ks run c → CutsItsText (without_rows k i j ks c)
 removed_repaired t c k i j ks run h f =
     let p = nth_part k c in
     let rest = behind_part k c in
@@ -62,6 +62,6 @@ removed_repaired t c k i j ks run h f =
     let new : IsGap gap u = seam_gap_is (last_block front) column ks x next u kept x_some follows in
     let lines = kept_text (first_gap back p.end) ks run f.lines in
     let old : rows_text back (p.end ++ rest) ≡ joined ks ++ x = first_text back p.end rest ∙ (ap (λ g. g ++ behind_first back p.end rest) lines ∙ append_assoc (joined ks) (joined run) (behind_first back p.end rest)) in
-    let lower : (m : TextIndent) → column < m.columns → is_behind m (lines_of u) ≡ true = λ m l. behind_less m (asked_behind unlimited (take j p.rows)) more p.end rest other (part_ends c k true h.parts) l in
+    let lower : (m : TextIndent) → column < m.columns → is_behind m (text_lines u) ≡ true = λ m l. behind_less m (asked_behind unlimited (take j p.rows)) more p.end rest other (part_ends c k true h.parts) l in
     let seam : ends_in_block front ≡ true → are_seamed front (gap ++ u) ≡ true = λ e. by_block front back p.end rest column ks x next u (last_block front) refl e f.less lower whole old kept x_some follows in
     removed t c k i j gap h (record { some = f.some; is_gap = new; next = f.next; seam = seam })

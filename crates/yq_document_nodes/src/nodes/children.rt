@@ -37,7 +37,7 @@ pub struct Children<'d, 't> {
 /// The items or entries of a node in a line's head or in a flow collection.
 #[tactic(auto, using(yq_lines::proofs::ChildLaws::inline_children))]
 fn inline_rest<'d, 't>(node: &'d Inline<'t>) -> Rest<'d, 't>
-    ensures { spec.rest_of result ≡ children_of (placed_tree (inline.view node.now)) }
+    ensures { spec.rest_of result ≡ children_of (placed_tree (inline.inline_view node.now)) }
 {
     match &node.form {
         Form::Empty => Rest::Nothing,

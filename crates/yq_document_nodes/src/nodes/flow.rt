@@ -1,7 +1,7 @@
 //! Nodes in flow collections.
 ghost use Rattle.std.specs.Prelude.{◌≡◌, Some, None, option_map};
 ghost use Rattle.yq_nodes.specs.Trees.{inner, parts_tree, placed_tree};
-ghost use Rattle.yq_nodes.specs.View.{entries_end, items_end, view};
+ghost use Rattle.yq_nodes.specs.View.{entries_end, items_end, inline_view};
 ghost use Rattle.yq_flow_scalars.specs.Paths.{To, Nth};
 ghost use Rattle.yq_lines.specs.Labelled.{labelled_at};
 ghost use Rattle.yq_document_nodes.specs.Nodes as spec;
@@ -17,7 +17,7 @@ use yq_nodes::{Form, Inline};
 /// What a node of a flow collection is.
 #[tactic(auto, using(crate::proofs::KindLaws::kind_named))]
 pub(crate) fn inline_kind(node: &Inline<'_>) -> NodeKind
-    ensures { result ≡ spec.kind_of (placed_tree (view node.now)) }
+    ensures { result ≡ spec.kind_of (placed_tree (inline_view node.now)) }
 {
     match &node.form {
         Form::Empty => NodeKind::Scalar(Kind::Null),
@@ -31,7 +31,7 @@ pub(crate) fn inline_kind(node: &Inline<'_>) -> NodeKind
 /// The text of a scalar in a flow collection, or the name of an alias.
 #[tactic(auto, using(crate::proofs::KindLaws::text_named))]
 pub(crate) fn inline_text<'d>(node: &'d Inline<'_>) -> &'d str
-    ensures { result.now ≡ spec.text_of (placed_tree (view node.now)) }
+    ensures { result.now ≡ spec.text_of (placed_tree (inline_view node.now)) }
 {
     match &node.form {
         Form::Empty => "null",
@@ -56,7 +56,7 @@ pub(crate) fn first_anchor<'d>(first: Option<&'d str>, second: Option<&'d str>) 
 #[tactic(auto, using(crate::proofs::KindLaws::anchor_scalar, crate::proofs::KindLaws::anchor_list, crate::proofs::KindLaws::anchor_map, crate::proofs::KindLaws::anchor_alias))]
 pub(crate) fn inline_anchor<'t>(before: Option<&'t str>, node: &Inline<'t>) -> Option<&'t str>
     ensures { borrowed result ≡ anchor_of (anchored (borrowed before.entry)
-        (placed_tree (view node.now))) }
+        (placed_tree (inline_view node.now))) }
 {
     match node.form {
         Form::Alias(_) => None,
@@ -69,7 +69,7 @@ pub(crate) fn inline_anchor<'t>(before: Option<&'t str>, node: &Inline<'t>) -> O
 
 /// The item of an index.
 pub(crate) fn item_at<'d, 't>(items: &'d [Inline<'t>], index: usize) -> Option<&'d Inline<'t>>
-    ensures { option_map (λ n. (inner None, placed_tree (view n.now))) result ≡
+    ensures { option_map (λ n. (inner None, placed_tree (inline_view n.now))) result ≡
         labelled_at (Nth index) (parts_tree (items_end items.now)) }
 {
     match items.get(index) {
@@ -83,7 +83,7 @@ pub(crate) fn entry_at<'d, 't>(
     entries: &'d [(String, Piece, Inline<'t>)],
     key: &str,
 ) -> Option<(&'d str, &'d Inline<'t>)>
-    ensures { option_map (λ e. (inner (Some e.0.now), placed_tree (view e.1.now))) result ≡
+    ensures { option_map (λ e. (inner (Some e.0.now), placed_tree (inline_view e.1.now))) result ≡
         labelled_at (To key.now) (parts_tree (entries_end entries.now)) }
 {
     'each: for entry in entries {

@@ -1,10 +1,10 @@
 //! Lines of documents, by the rows of their text.
 ghost use Rattle.std.specs.Prelude.{◌≡◌, ◌<◌, IsTrue, length, not};
-ghost use Rattle.yq_lines.specs.Ends.{is_end};
+ghost use Rattle.yq_lines.specs.Ends.{has_no_lines};
 ghost use Rattle.yq_lines.specs.Outline.{key_of};
 ghost use Rattle.yq_lines.specs.Positions as positions;
 ghost use Rattle.yq_flow_scalars.specs.Paths.{is_item};
-ghost use Rattle.yq_document_nodes.specs.Bodies.{outline_of};
+ghost use Rattle.yq_document_nodes.specs.Bodies.{body_outline};
 ghost use Rattle.yq_document_nodes.specs.Children.{lines_left};
 ghost use Rattle.yq_documents.specs.Reading.{documents_of};
 ghost use Rattle.yq_documents.specs.Stretches.{IsLineIn, OfLineIn, count_from, lines_under};
@@ -18,7 +18,7 @@ use yq_walk::{is_bare, is_deeper, is_item_at, level_at, next};
 pub(crate) fn has_lines(under: Under<'_, '_>) -> bool
     ensures some { IsTrue result →
         IsLineIn under.entry.text.now under.entry.document under.entry.first }
-    ensures test { result ≡ not (is_end (outline_of under.entry)) }
+    ensures test { result ≡ not (has_no_lines (body_outline under.entry)) }
 {
     let (rows, document) = under.text.document_rows(under.document);
     is_deeper(rows, document, under.first, under.floor)
@@ -28,7 +28,7 @@ pub(crate) fn has_lines(under: Under<'_, '_>) -> bool
 pub(crate) fn begins_node(text: &ReadText<'_>, document: usize, at: Position) -> bool
     requires there { document < length (documents_of text.now) }
     requires line { IsLineIn text.now document at }
-    ensures { OfLineIn text.now document at (λ l. result ≡ positions.is_bare l.mark) }
+    ensures { OfLineIn text.now document at (λ l. result ≡ positions.has_no_mark l.mark) }
 {
     let (rows, stretch) = text.document_rows(document);
     is_bare(rows, stretch, at)
@@ -52,7 +52,7 @@ pub(crate) fn under_line<'d, 't>(
 ) -> Under<'d, 't>
     requires there { document < length (documents_of text.now) }
     requires line { IsLineIn text.now document at }
-    ensures lines { OfLineIn text.now document at (λ l. outline_of result ≡
+    ensures lines { OfLineIn text.now document at (λ l. body_outline result ≡
         lines_under text.now document at l) }
     ensures fewer { lines_left result < count_from text.now document at }
 {

@@ -7,7 +7,7 @@ ghost use Rattle.yq_nodes.specs.Trees.{inner, placed_tree};
 ghost use Rattle.yq_nodes.specs.View as inline;
 ghost use Rattle.yq_lines.specs.Bodies.{borrowed};
 ghost use Rattle.yq_lines.specs.Outline.{label};
-ghost use Rattle.yq_lines.specs.Places.{content};
+ghost use Rattle.yq_lines.specs.Places.{content_under};
 ghost use Rattle.yq_document_nodes.specs.Bodies.{body_node};
 ghost use Rattle.yq_documents.specs.Documents.{Document};
 ghost use Rattle.yq_documents.specs.Located.{document_at, unlabelled};
@@ -111,7 +111,7 @@ impl<'d, 't> Node<'d, 't> {
         requires there { document < length (documents_of text.now) }
         requires line { IsLineIn text.now document at }
         ensures node { OfLineIn text.now document at (λ l. spec.node_of result ≡
-            content l (lines_under text.now document at l)) }
+            content_under l (lines_under text.now document at l)) }
         ensures label { OfLineIn text.now document at (λ l. spec.label_of result ≡ label l) }
     {
         Node {
@@ -123,7 +123,7 @@ impl<'d, 't> Node<'d, 't> {
     /// A node of a flow collection, behind its key, if it has one.
     #[tactic(auto, using(yq_lines::proofs::NodeLaws::anchored_none))]
     pub(crate) fn of_inline(key: Option<&'d str>, node: &'d Inline<'t>) -> Node<'d, 't>
-        ensures node { spec.node_of result ≡ placed_tree (inline.view node.now) }
+        ensures node { spec.node_of result ≡ placed_tree (inline.inline_view node.now) }
         ensures label { spec.label_of result ≡ inner (borrowed key.entry) }
     {
         let named = Named {

@@ -2,7 +2,7 @@
 ghost use Rattle.std.specs.Prelude.{◌≡◌, ◌<◌, length};
 ghost use Rattle.yq_lines.specs.Bodies.{borrowed};
 ghost use Rattle.yq_lines.specs.Outline.{anchored, value};
-ghost use Rattle.yq_lines.specs.Places.{content};
+ghost use Rattle.yq_lines.specs.Places.{content_under};
 ghost use Rattle.yq_document_nodes.specs.Bodies as spec;
 ghost use Rattle.yq_documents.specs.Reading.{documents_of};
 ghost use Rattle.yq_documents.specs.Stretches.{IsLineIn, OfLineIn, lines_under};
@@ -19,7 +19,7 @@ use yq_lines::Position;
 /// the first anchor before it.
 pub(crate) fn lines_node<'d, 't>(under: Under<'d, 't>, before: Option<&'t str>) -> Named<'d, 't>
     ensures { spec.named_node result ≡
-        anchored (borrowed before.entry) (value (spec.outline_of under.entry)) }
+        anchored (borrowed before.entry) (value (spec.body_outline under.entry)) }
 {
     let mut anchor = before;
     let mut these = under;
@@ -59,7 +59,7 @@ pub(crate) fn line_node<'d, 't>(
     requires there { document < length (documents_of text.now) }
     requires line { IsLineIn text.now document at }
     ensures { OfLineIn text.now document at (λ l. spec.named_node result ≡
-        content l (lines_under text.now document at l)) }
+        content_under l (lines_under text.now document at l)) }
 {
     let anchor = line_anchor(text, document, at);
     if let Some(body) = line_head(text, document, at) {

@@ -1,12 +1,12 @@
 //! Where steps lead from a node.
 ghost use Rattle.std.specs.Prelude.{◌≡◌, map, option_map};
-ghost use Rattle.yq_nodes.specs.Entries.{step_of};
+ghost use Rattle.yq_nodes.specs.Entries.{tree_step};
 ghost use Rattle.yq_flow_scalars.specs.Paths.{To, Nth, child_at, node_at};
 ghost use Rattle.yq_flow_scalars.specs.Tree.{children_of};
 ghost use Rattle.yq_document_nodes.specs.Children.{rest_of};
 ghost use Rattle.yq_lines.specs.Labelled.{labelled_at, labelled_from};
 ghost use Rattle.yq_document_nodes.specs.Nodes.{labelled_of, node_of};
-ghost use Rattle.yq_document_nodes.specs.Bodies.{outline_of};
+ghost use Rattle.yq_document_nodes.specs.Bodies.{body_outline};
 ghost use Rattle.yq_lines.specs.Outline.{children};
 
 use crate::nodes::children::Rest;
@@ -20,7 +20,7 @@ use yq_walk::{find_item, find_key};
 /// The entry of a key among those of lines.
 fn line_entry<'d, 't>(under: Under<'d, 't>, key: &str) -> Option<Node<'d, 't>>
     ensures { option_map labelled_of result ≡
-        labelled_at (To key.now) (children (outline_of under.entry)) }
+        labelled_at (To key.now) (children (body_outline under.entry)) }
 {
     let (rows, document) = under.text.document_rows(under.document);
     let at = find_key(rows, document, under.first, under.floor, key)?;
@@ -30,7 +30,7 @@ fn line_entry<'d, 't>(under: Under<'d, 't>, key: &str) -> Option<Node<'d, 't>>
 /// The item of an index among those of lines.
 fn line_item<'d, 't>(under: Under<'d, 't>, index: usize) -> Option<Node<'d, 't>>
     ensures { option_map labelled_of result ≡
-        labelled_at (Nth index) (children (outline_of under.entry)) }
+        labelled_at (Nth index) (children (body_outline under.entry)) }
 {
     let (rows, document) = under.text.document_rows(under.document);
     let known = KnownItems::none();
@@ -94,9 +94,9 @@ impl<'d, 't> Node<'d, 't> {
     /// The node to which a step leads.
     pub fn child(&self, step: &Step) -> Option<Node<'d, 't>>
         ensures node { option_map node_of result ≡
-            child_at (step_of step.now) (children_of (node_of self.now)) }
+            child_at (tree_step step.now) (children_of (node_of self.now)) }
         ensures labelled { option_map labelled_of result ≡
-            labelled_at (step_of step.now) (children_of (node_of self.now)) }
+            labelled_at (tree_step step.now) (children_of (node_of self.now)) }
     {
         match step {
             Step::Key(key) => self.entry(key.as_str()),
@@ -107,9 +107,9 @@ impl<'d, 't> Node<'d, 't> {
     /// The node to which steps lead.
     pub fn descend(&self, steps: &[Step]) -> Option<Node<'d, 't>>
         ensures node { option_map node_of result ≡
-            node_at (map step_of steps.now) (node_of self.now) }
+            node_at (map tree_step steps.now) (node_of self.now) }
         ensures labelled { option_map labelled_of result ≡
-            labelled_from (map step_of steps.now) (labelled_of self.now) }
+            labelled_from (map tree_step steps.now) (labelled_of self.now) }
     {
         let mut node = *self;
         'steps: for step in steps {

@@ -11,9 +11,9 @@ use yq_records::{Record, leads};
 use yq_script::Splice;
 
 /// A splice, whose keys are `at`, `new` and `old`.
-#[tactic(auto, unfolding(crate::specs::Json::change_of))]
+#[tactic(auto, unfolding(crate::specs::Json::splice_of))]
 fn splice(alloc: Global, value: &Value) -> Result<Option<Splice>, AllocError>
-    ensures { IfOk result (λ o. o ≡ spec.change_of (view value.now)) }
+    ensures { IfOk result (λ o. o ≡ spec.splice_of (view value.now)) }
 {
     if !has_keys(value, 3) {
         return Ok(None);
@@ -32,7 +32,7 @@ fn splice(alloc: Global, value: &Value) -> Result<Option<Splice>, AllocError>
 
 /// A list of splices.
 fn splices(alloc: Global, value: &Value) -> Result<Option<Vec<Splice>>, AllocError>
-    ensures { IfOk result (λ o. option_map (λ v. v.items) o ≡ spec.changes_of (view value.now)) }
+    ensures { IfOk result (λ o. option_map (λ v. v.items) o ≡ spec.splices_of (view value.now)) }
 {
     let Some(values) = value.as_array() else {
         return Ok(None);
@@ -61,7 +61,7 @@ fn count(value: &Value, counted: bool) -> Option<u64>
 /// The splices under a key.
 fn splices_at(alloc: Global, value: &Value, key: &str) -> Result<Option<Vec<Splice>>, AllocError>
     ensures { IfOk result (λ o. option_map (λ v. v.items) o ≡
-        option_and_then spec.changes_of (get key.now (view value.now))) }
+        option_and_then spec.splices_of (get key.now (view value.now))) }
 {
     match value.get(key) {
         Some(value) => splices(alloc, value),

@@ -55,9 +55,9 @@ fn move_at(alloc: Global, value: &Value, counted: bool) -> Result<Option<Move>, 
 }
 
 /// An open move, whose keys are `from`, `kind` and `record`.
-#[tactic(auto, unfolding(crate::specs::Json::open_of))]
+#[tactic(auto, unfolding(crate::specs::Json::open_move_of))]
 fn open(alloc: Global, value: &Value, counted: bool) -> Result<Option<Open>, AllocError>
-    ensures { IfOk result (λ o. o ≡ spec.open_of counted (view value.now)) }
+    ensures { IfOk result (λ o. o ≡ spec.open_move_of counted (view value.now)) }
 {
     if !has_keys(value, 3) {
         return Ok(None);

@@ -6,7 +6,7 @@ ghost use Rattle.yq_meaning.specs.Conditions as spec;
 ghost use Rattle.yq_meaning.specs.Judgement.{Judges};
 ghost use Rattle.yq_matching.specs.PlaceView.{place_of, places_of};
 ghost use Rattle.yq_program.specs.Program.{value_at};
-ghost use Rattle.yq_program.specs.View.{condition_of, operand_of, step_of};
+ghost use Rattle.yq_program.specs.View.{condition_of, operand_of, program_step};
 
 use crate::matching::place::Place;
 use crate::matching::traverse::traverse;
@@ -78,7 +78,7 @@ fn place_is(place: &Place<'_, '_>, scalar: &Scalar) -> Result<bool, ExprError>
 
 /// Whether the value at the first of places is that scalar.
 fn first_is(places: &[Place<'_, '_>], scalar: &Scalar) -> Result<bool, ExprError>
-    ensures { Judges (λ b. b) result (spec.first_is scalar.now.kind scalar.now.text
+    ensures { Judges (λ b. b) result (spec.first_equals scalar.now.kind scalar.now.text
         (places_of places.now)) }
 {
     match places {
@@ -95,7 +95,7 @@ fn value_is<'a, 't>(
     scalar: &Scalar,
     place: &Place<'a, 't>,
 ) -> Result<bool, ExprError>
-    ensures { Judges (λ b. b) result (spec.operand_is 0 (value_at (map step_of steps.now))
+    ensures { Judges (λ b. b) result (spec.operand_is 0 (value_at (map program_step steps.now))
         scalar.now.kind scalar.now.text (place_of place.now)) }
 {
     let places = traverse(alloc, bump, steps, place.alone(alloc)?)?;
@@ -152,7 +152,7 @@ pub(crate) fn holds<'a, 't>(
     condition: &'a Condition,
     place: Place<'a, 't>,
 ) -> Result<bool, ExprError>
-    ensures { Judges (λ b. b) result (spec.holds doc (condition_of condition.now)
+    ensures { Judges (λ b. b) result (spec.condition_holds doc (condition_of condition.now)
         (place_of place.entry)) }
 {
     match condition {

@@ -1,6 +1,6 @@
 //! Copies of nodes, as values.
 ghost use Rattle.std.specs.Prelude.{◌≡◌, map, IfOk, string_bytes};
-ghost use Rattle.yq_nodes.specs.Values.{field_of, node_of as value_node};
+ghost use Rattle.yq_nodes.specs.Values.{field_of, value_node};
 ghost use Rattle.yq_flow_scalars.specs.Scalar.{IsScalar};
 ghost use Rattle.yq_flow_scalars.specs.Tree.{children_of};
 ghost use Rattle.yq_document_nodes.specs.Nodes.{label_of, node_of};

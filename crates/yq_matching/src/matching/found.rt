@@ -7,7 +7,7 @@ ghost use Rattle.yq_matching.specs.PlaceView.{path_of, places_of};
 ghost use Rattle.yq_meaning.specs.Pipes as spec;
 ghost use Rattle.yq_meaning.specs.Places as steps;
 ghost use Rattle.yq_program.specs.Program.{each, path};
-ghost use Rattle.yq_program.specs.View.{stage_of, step_of};
+ghost use Rattle.yq_program.specs.View.{stage_of, program_step};
 
 use crate::matching::pipe::find;
 use crate::matching::place::{Missing, Place};
@@ -41,8 +41,8 @@ impl FoundPlaces<'_, '_> {
 
 /// The steps before the last one of a pipe that is a path, if that one leads to all items or values.
 fn before_each(pipe: &[Stage]) -> Option<(&[Step], &Step)>
-    ensures { IfSome result (λ x. (step_of x.1.now ≡ each) × (map stage_of pipe.now ≡
-        path (map step_of x.0.now ++ each ∷ []) ∷ [])) }
+    ensures { IfSome result (λ x. (program_step x.1.now ≡ each) × (map stage_of pipe.now ≡
+        path (map program_step x.0.now ++ each ∷ []) ∷ [])) }
 {
     let [Stage::Path(steps)] = pipe else {
         return None;
@@ -80,7 +80,7 @@ fn all_of<'a, 't>(
     last: &'a Step,
     places: &[Place<'a, 't>],
 ) -> Result<FoundPlaces<'a, 't>, ExprError>
-    requires { step_of last.now ≡ each }
+    requires { program_step last.now ≡ each }
     ensures { Judges found_places result (steps.for_each (steps.step_on each)
         (places_of places.now)) }
 {

@@ -5,7 +5,7 @@ ghost use Rattle.yq_document_nodes.specs.Nodes.{label_of, node_of};
 ghost use Rattle.yq_meaning.specs.Conditions as conditions;
 ghost use Rattle.yq_matching.specs.PlaceView.{missing_of, node_step_of, path_of, node_or_null, place_of, places_of};
 ghost use Rattle.yq_meaning.specs.Places as spec;
-ghost use Rattle.yq_program.specs.View.{step_of};
+ghost use Rattle.yq_program.specs.View.{program_step};
 
 use std::alloc::{AllocError, Global};
 use yq_document_nodes::Node;
@@ -48,7 +48,7 @@ pub struct Place<'a, 't> {
 impl<'a> Missing<'a> {
     /// One step more than these.
     fn behind(front: &'a Missing<'a>, step: &'a Step) -> Missing<'a>
-        ensures { missing_of result ≡ missing_of front.now ++ step_of step.now ∷ [] }
+        ensures { missing_of result ≡ missing_of front.now ++ program_step step.now ∷ [] }
     {
         Missing::Further(front, step)
     }
@@ -106,7 +106,7 @@ impl<'a, 't> Place<'a, 't> {
     /// The place from which one more step is missing than these, which are missing from here.
     pub(crate) fn further(&self, front: &'a Missing<'a>, step: &'a Step) -> Place<'a, 't>
         ensures { missing_of front.now ≡ missing_of self.now.missing → place_of result ≡
-            spec.further_place (step_of step.now) (place_of self.now) }
+            spec.further_place (program_step step.now) (place_of self.now) }
     {
         Place {
             path: self.path,

@@ -14,7 +14,7 @@ use yq_meaning::{ExprError, Refusal};
 
 /// The entry of a key, if there is one, with the step that leads to it.
 fn entry<'a, 't>(node: &Node<'a, 't>, key: &'a str) -> Option<(NodeStep<'a>, Node<'a, 't>)>
-    ensures { found_of result ≡ spec.find (To key.now) (children_of (node_of node.now)) }
+    ensures { found_of result ≡ spec.step_child (To key.now) (children_of (node_of node.now)) }
 {
     let value = node.entry(key)?;
     Some((NodeStep::Key(key), value))
@@ -55,7 +55,7 @@ fn item<'a, 't>(
     node: &Node<'a, 't>,
     index: i64,
 ) -> Result<Option<(NodeStep<'a>, Node<'a, 't>)>, ExprError>
-    ensures { Judges found_of result (spec.item index (children_of (node_of node.now))) }
+    ensures { Judges found_of result (spec.item_at_index index (children_of (node_of node.now))) }
 {
     let number = item_number(node, index)?;
     let Some(item) = node.item(number) else {

@@ -7,7 +7,7 @@ ghost use Rattle.yq_meaning.specs.Judgement.{Judges};
 ghost use Rattle.yq_matching.specs.PlaceView.{found_of, place_of, places_of, put_behind};
 ghost use Rattle.yq_meaning.specs.Places as spec;
 ghost use Rattle.yq_program.specs.Program.{each};
-ghost use Rattle.yq_program.specs.View.{step_of};
+ghost use Rattle.yq_program.specs.View.{program_step};
 
 use crate::matching::place::{Missing, NodePath, NodeStep, Place};
 use crate::matching::step::{index_step, key_step};
@@ -27,7 +27,7 @@ fn push_missing<'a, 't>(
     places: &mut Vec<Place<'a, 't>>,
 ) -> Result<(), AllocError>
     ensures { OnOk result (places_of places.new.items ≡ places_of places.old.items ++
-        spec.miss (step_of step.now) (place_of place.now)) }
+        spec.miss (program_step step.now) (place_of place.now)) }
 {
     match step {
         Step::Key(_) | Step::Index(_) => {
@@ -49,7 +49,7 @@ fn push_found<'a, 't>(
     places: &mut Vec<Place<'a, 't>>,
 ) -> Result<(), AllocError>
     ensures { OnOk result (places_of places.new.items ≡
-        places_of places.old.items ++ spec.found_place (step_of step.now) (place_of place.now)
+        places_of places.old.items ++ spec.found_place (program_step step.now) (place_of place.now)
         (found_of found.now)) }
 {
     match found {
@@ -113,7 +113,7 @@ fn push_step<'a, 't>(
 ) -> Result<(), ExprError>
     ensures { Judges (λ _. places_of places.new.items) result
         (put_behind (places_of places.old.items)
-        (spec.step_on (step_of step.now) (place_of place.now))) }
+        (spec.step_on (program_step step.now) (place_of place.now))) }
 {
     if let Missing::Further(..) = place.missing {
         return Ok(push_missing(bump, step, place, places)?);
@@ -134,7 +134,7 @@ pub(crate) fn step_each<'a, 't>(
     places: &[Place<'a, 't>],
 ) -> Result<Vec<Place<'a, 't>>, ExprError>
     ensures { Judges (λ v. places_of v.items) result
-        (spec.for_each (spec.step_on (step_of step.now)) (places_of places.now)) }
+        (spec.for_each (spec.step_on (program_step step.now)) (places_of places.now)) }
 {
     let mut next = Vec::new(alloc);
     'places: for place in places {
@@ -151,7 +151,7 @@ pub(crate) fn traverse<'a, 't>(
     start: Vec<Place<'a, 't>>,
 ) -> Result<Vec<Place<'a, 't>>, ExprError>
     ensures { Judges (λ v. places_of v.items) result
-        (spec.traverse (map step_of steps.now) (places_of start.entry.items)) }
+        (spec.traverse (map program_step steps.now) (places_of start.entry.items)) }
 {
     let mut places = start;
     'steps: for step in steps {

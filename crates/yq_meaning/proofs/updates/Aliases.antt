@@ -6,9 +6,9 @@ use Rattle.yq_flow_scalars.specs.Tree as tree
 use Rattle.yq_flow_scalars.specs.Tree.{Label, Node, list, Children, none, child}
 use Rattle.yq_flow_scalars.specs.Paths.{Step, is_here, further, change_child, append_child, within}
 use Rattle.yq_meaning.specs.Changes.{Addition, Change, replaces, adds, Changed, value_in}
-use Rattle.yq_meaning.specs.NodeEdits.{NodeEdit, becomes, NodeEdits, step_to, under, done_at, child_by, inside, each_at_once, at_once, same_path, done_by}
+use Rattle.yq_meaning.specs.NodeEdits.{NodeEdit, becomes, NodeEdits, step_to, under, done_at, child_by, node_edit_inside, each_at_once, at_once, same_path, done_by}
 use Rattle.yq_meaning.specs.Meaning.{add_to, add_all, placed_edit, node_edit_of}
-use Rattle.yq_documents.specs.TreeEdits.{replaced, led}
+use Rattle.yq_documents.specs.TreeEdits.{replaced_node, led}
 use Rattle.yq_meaning.proofs.updates.Mentions.{Mentions, AnyMentions, HasNoAlias, MentionsNoMore}
 use Rattle.yq_meaning.proofs.updates.Each.{Each}
 use Rattle.yq_meaning.proofs.updates.Spares.{child_kept_or_gone}
@@ -32,7 +32,7 @@ done_no_more a (Some (becomes g)) b n m f h = b (becomes g) refl n a h
 done_no_more a (Some _) b n m f h = h
 
 mutual
-  inside_no_more : (a : List ℕ) (f : NodeEdits) → BringNone f → (n : Node) → Mentions a (inside f n) → Mentions a n
+  inside_no_more : (a : List ℕ) (f : NodeEdits) → BringNone f → (n : Node) → Mentions a (node_edit_inside f n) → Mentions a n
   inside_no_more a f b (list anchor cs) h = each_no_more a f b 0 cs h
   inside_no_more a f b (tree.map anchor cs) h = each_no_more a f b 0 cs h
   inside_no_more a f b _ h = h
@@ -40,17 +40,17 @@ mutual
   each_no_more : (a : List ℕ) (f : NodeEdits) → BringNone f → (i : ℕ) (cs : Children) → AnyMentions a (each_at_once f i cs) → AnyMentions a cs
   each_no_more a f b i none h = h
   each_no_more a f b i (child label n cs) h =
-      child_no_more a (f (step_to i label ∷ [])) label (done_at (f (step_to i label ∷ [])) n (inside (under (step_to i label) f) n)) n (each_at_once f (suc i) cs) cs
-      (done_no_more a (f (step_to i label ∷ [])) (b (step_to i label ∷ [])) n (inside (under (step_to i label) f) n) (inside_no_more a (under (step_to i label) f) (λ q. b (step_to i label ∷ q)) n))
+      child_no_more a (f (step_to i label ∷ [])) label (done_at (f (step_to i label ∷ [])) n (node_edit_inside (under (step_to i label) f) n)) n (each_at_once f (suc i) cs) cs
+      (done_no_more a (f (step_to i label ∷ [])) (b (step_to i label ∷ [])) n (node_edit_inside (under (step_to i label) f) n) (inside_no_more a (under (step_to i label) f) (λ q. b (step_to i label ∷ q)) n))
       (each_no_more a f b (suc i) cs) h
 
 -- all that is done brings none
 pub at_once_no_more : (f : NodeEdits) → BringNone f → (n : Node) → MentionsNoMore (at_once f n) n
-at_once_no_more f b n a h = done_no_more a (f []) (b []) n (inside f n) (inside_no_more a f b n) h
+at_once_no_more f b n a h = done_no_more a (f []) (b []) n (node_edit_inside f n) (inside_no_more a f b n) h
 
 -- ---- changes
 
-replaced_mentions : (a : List ℕ) (v old : Node) → Mentions a (replaced v old) → Mentions a v
+replaced_mentions : (a : List ℕ) (v old : Node) → Mentions a (replaced_node v old) → Mentions a v
 replaced_mentions a v old h1 = search rules
 
 led_mentions : (a : List ℕ) (block : Bool) (lead : List (List ℕ)) (p : List Step) (v : Node) → Mentions a (led block lead p v) → Mentions a v
@@ -62,12 +62,12 @@ append_mentions a label v none (inr h) = inr h
 append_mentions a label v (child first n cs) (inl h) = inr (inl h)
 append_mentions a label v (child first n cs) (inr h) = elim (append_mentions a label v cs h) [ inl k ↦ inl k | inr k ↦ inr (inr k) ]
 
-change_mentions : (a : List ℕ) (s : Step) (v : Node) (cs : Children) → AnyMentions a (change_child s (replaced v) cs) → Mentions a v ⊎ AnyMentions a cs
+change_mentions : (a : List ℕ) (s : Step) (v : Node) (cs : Children) → AnyMentions a (change_child s (replaced_node v) cs) → Mentions a v ⊎ AnyMentions a cs
 change_mentions a s v none h = inr h
 change_mentions a s v (child label n cs) h = go (is_here s label) (change_mentions a (further s) v cs) h
   where
-    go : (b : Bool) → (AnyMentions a (change_child (further s) (replaced v) cs) → Mentions a v ⊎ AnyMentions a cs) →
-        AnyMentions a (cond b (child label (replaced v n) cs) (child label n (change_child (further s) (replaced v) cs))) → Mentions a v ⊎ AnyMentions a (child label n cs)
+    go : (b : Bool) → (AnyMentions a (change_child (further s) (replaced_node v) cs) → Mentions a v ⊎ AnyMentions a cs) →
+        AnyMentions a (cond b (child label (replaced_node v n) cs) (child label n (change_child (further s) (replaced_node v) cs))) → Mentions a v ⊎ AnyMentions a (child label n cs)
     go true ih (inl e) = inl (replaced_mentions a v n e)
     go true ih (inr e) = inr (inr e)
     go false ih (inl e) = inr (inl e)

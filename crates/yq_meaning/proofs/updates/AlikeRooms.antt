@@ -6,7 +6,7 @@ use Rattle.std.proofs.lemmas.Bool.{eqb-true, eqb-false}
 use Rattle.yq_flow_scalars.specs.Tree.{Node}
 use Rattle.yq_documents.specs.Documents.{Document}
 use Rattle.yq_documents.specs.TreeEdits.{change_nth}
-use Rattle.yq_meaning.specs.After.{document_of, done_to, after_op, all_after}
+use Rattle.yq_meaning.specs.After.{op_document, done_to, after_op, all_after}
 use Rattle.yq_meaning.specs.Changes.{Room}
 use Rattle.yq_meaning.specs.Fits.{FitsRoot, Fits, AllFit}
 use Rattle.yq_meaning.specs.Operations.{Operation}
@@ -17,12 +17,12 @@ root_alike old new op root h1 h2 = search rules
 
 module _ (old new : ℕ → Room) where
   -- an operation fits by either
-  pub fits_alike : (op : Operation) (docs : List Document) → AlikeFor op (old (document_of op)) (new (document_of op)) → Fits old op docs → Fits new op docs
-  fits_alike op docs a h = (h.0, h.1, root_alike (old (document_of op)) (new (document_of op)) op h.0.root a h.2)
+  pub fits_alike : (op : Operation) (docs : List Document) → AlikeFor op (old (op_document op)) (new (op_document op)) → Fits old op docs → Fits new op docs
+  fits_alike op docs a h = (h.0, h.1, root_alike (old (op_document op)) (new (op_document op)) op h.0.root a h.2)
 
   -- it makes the same of documents
-  pub after_alike : (op : Operation) (docs : List Document) → AlikeFor op (old (document_of op)) (new (document_of op)) → after_op new op docs ≡ after_op old op docs
-  after_alike op docs a = ap (λ (b : Bool). change_nth (document_of op) (done_to b op) docs) a.block
+  pub after_alike : (op : Operation) (docs : List Document) → AlikeFor op (old (op_document op)) (new (op_document op)) → after_op new op docs ≡ after_op old op docs
+  after_alike op docs a = ap (λ (b : Bool). change_nth (op_document op) (done_to b op) docs) a.block
 
   -- so do operations
   pub all_after_alike : (ops : List Operation) (docs : List Document) → AreAlike old new ops → all_after new ops docs ≡ all_after old ops docs
@@ -38,7 +38,7 @@ module _ (old new : ℕ → Room) where
   lasts_alike : (ops : List Operation) (docs : List Document) → AreAlike old new ops → BlockLasts old ops docs → BlockLasts new ops docs
   lasts_alike [] docs a h = tt
   lasts_alike (op ∷ ops) docs a h =
-      subst (λ (after : List Document). (KeepsBlockIn op after ⊎ NoneOn (document_of op) ops) × BlockLasts new ops after) (sym (after_alike op docs a.0))
+      subst (λ (after : List Document). (KeepsBlockIn op after ⊎ NoneOn (op_document op) ops) × BlockLasts new ops after) (sym (after_alike op docs a.0))
       (h.0, lasts_alike ops (after_op old op docs) a.1 h.1)
 
 -- ---- the rooms after an operation
@@ -49,32 +49,32 @@ nth_changed zero f (y ∷ ys) x h = ap (λ o. option_map f o) h
 nth_changed (suc n) f (y ∷ ys) x h = nth_changed n f ys x h
 
 -- the document of an operation that fits is there after it
-there_after : (rooms : ℕ → Room) (op : Operation) (docs : List Document) → Fits rooms op docs → (d : Document) × (slice_get (after_op rooms op docs) (document_of op) ≡ Some d)
-there_after rooms op docs fits = (done_to (rooms (document_of op)).block op fits.0, nth_changed (document_of op) (done_to (rooms (document_of op)).block op) docs fits.0 fits.1)
+there_after : (rooms : ℕ → Room) (op : Operation) (docs : List Document) → Fits rooms op docs → (d : Document) × (slice_get (after_op rooms op docs) (op_document op) ≡ Some d)
+there_after rooms op docs fits = (done_to (rooms (op_document op)).block op fits.0, nth_changed (op_document op) (done_to (rooms (op_document op)).block op) docs fits.0 fits.1)
 
-module _ (op : Operation) (old new : ℕ → Room) (docs : List Document) (left : LeavesRooms op old new docs) (there : (d : Document) × (slice_get docs (document_of op) ≡ Some d)) where
+module _ (op : Operation) (old new : ℕ → Room) (docs : List Document) (left : LeavesRooms op old new docs) (there : (d : Document) × (slice_get docs (op_document op) ≡ Some d)) where
   -- by what is so of the room of the operation's document, and of that of any other
-  by_document : (P : ℕ → Type 0) → P (document_of op) → ((i : ℕ) → (i ≡ document_of op → ⊥) → P i) → (i : ℕ) → P i
+  by_document : (P : ℕ → Type 0) → P (op_document op) → ((i : ℕ) → (i ≡ op_document op → ⊥) → P i) → (i : ℕ) → P i
   by_document P here other i = search (rules, eqb-true, eqb-false, cases_Bool)
 
   all_same : SetsComment op → (others : List Operation) → AreAlike old new others
   all_same set [] = tt
-  all_same set (x ∷ xs) = let same : SameRoom (old (document_of x)) (new (document_of x)) = by_document (λ i. SameRoom (old i) (new i)) (left.comments set) left.others (document_of x) in (record { block = same.block; has = λ c. same.has }, all_same set xs)
+  all_same set (x ∷ xs) = let same : SameRoom (old (op_document x)) (new (op_document x)) = by_document (λ i. SameRoom (old i) (new i)) (left.comments set) left.others (op_document x) in (record { block = same.block; has = λ c. same.has }, all_same set xs)
 
   same_block : KeepsBlockIn op docs → (others : List Operation) → SetNoComment others → AreAlike old new others
   same_block kept [] none = tt
   same_block kept (x ∷ xs) none =
-      (record { block = by_document (λ i. (new i).block ≡ (old i).block) go (λ i apart. (left.others i apart).block) (document_of x); has = λ c. absurd (none.0 c) }, same_block kept xs none.1)
+      (record { block = by_document (λ i. (new i).block ≡ (old i).block) go (λ i apart. (left.others i apart).block) (op_document x); has = λ c. absurd (none.0 c) }, same_block kept xs none.1)
     where
-      go : (new (document_of op)).block ≡ (old (document_of op)).block
+      go : (new (op_document op)).block ≡ (old (op_document op)).block
       go = left.block there.0 there.1 (kept there.0 there.1)
 
-  same_others : (others : List Operation) → NoneOn (document_of op) others → SetNoComment others → AreAlike old new others
+  same_others : (others : List Operation) → NoneOn (op_document op) others → SetNoComment others → AreAlike old new others
   same_others [] apart none = tt
-  same_others (x ∷ xs) apart none = (record { block = (left.others (document_of x) apart.0).block; has = λ c. absurd (none.0 c) }, same_others xs apart.1 none.1)
+  same_others (x ∷ xs) apart none = (record { block = (left.others (op_document x) apart.0).block; has = λ c. absurd (none.0 c) }, same_others xs apart.1 none.1)
 
 -- the rooms that an operation leaves are alike for the later ones
-next_alike : (op : Operation) (ops : List Operation) (old new : ℕ → Room) (after : List Document) → LeavesRooms op old new after → ((d : Document) × (slice_get after (document_of op) ≡ Some d)) → (KeepsBlockIn op after ⊎ NoneOn (document_of op) ops) → SetComments (op ∷ ops) ⊎ SetNoComment (op ∷ ops) → AreAlike old new ops
+next_alike : (op : Operation) (ops : List Operation) (old new : ℕ → Room) (after : List Document) → LeavesRooms op old new after → ((d : Document) × (slice_get after (op_document op) ≡ Some d)) → (KeepsBlockIn op after ⊎ NoneOn (op_document op) ops) → SetComments (op ∷ ops) ⊎ SetNoComment (op ∷ ops) → AreAlike old new ops
 next_alike op ops old new after h1 h2 h3 h4 = search (rules, all_same, same_block, same_others)
 
 rest_comments : (op : Operation) (ops : List Operation) → SetComments (op ∷ ops) ⊎ SetNoComment (op ∷ ops) → SetComments ops ⊎ SetNoComment ops

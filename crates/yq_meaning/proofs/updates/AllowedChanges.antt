@@ -8,13 +8,13 @@ use Rattle.yq_flow_scalars.specs.Paths.{To, key_is, child_at, node_at, change_ch
 use Rattle.yq_flow_scalars.specs.Anchors.{names_of}
 use Rattle.yq_meaning.specs.Judgement.{Judgement, gives}
 use Rattle.yq_meaning.specs.Matching.{key_step}
-use Rattle.yq_meaning.specs.Changes.{Addition, appends, overwrites, addition, additions, is_long, has_long_key, writes_long_key, value_in, is_deep, is_used_inside, overwrites_used}
+use Rattle.yq_meaning.specs.Changes.{Addition, appends, overwrites, addition, additions, is_overlong_key, has_long_key, writes_long_key, value_in, is_deep, is_used_inside, overwrites_used}
 use Rattle.yq_meaning.specs.Meaning.{add_to}
 use Rattle.yq_meaning.specs.Pipes.{places, select_on}
 use Rattle.yq_meaning.specs.Places.{Place, root_place, child_place, for_each, miss, step_there, step_on}
 use Rattle.yq_flow_scalars.specs.Shapes.{IsNew, AreItems, AreEntries, IsTree, AreTrees}
 use Rattle.yq_documents.specs.TreeEdits.{new_label}
-use Rattle.yq_program.specs.Program.{Step, key, Condition, Stage}
+use Rattle.yq_program.specs.Program.{PathStep, key, Condition, Stage}
 use Rattle.yq_meaning.proofs.JudgementLaws.{then_gives, gives_same}
 use Rattle.yq_meaning.proofs.ChildPlaces.{node_further}
 use Rattle.yq_meaning.proofs.PathLaws.{bytes_differ, bytes_same}
@@ -29,12 +29,12 @@ use Rattle.yq_meaning.proofs.updates.StepPlaces.{step_keeps}
 -- ---- what is missing
 
 -- a node lacks what a step leads to, if it is a mapping
-abbrev Lacks : Step → Node → Type 0
+abbrev Lacks : PathStep → Node → Type 0
 Lacks (key k) (tree.map anchor cs) = child_at (To k) cs ≡ None
 Lacks _ (tree.map anchor cs) = ⊥
 Lacks s _ = Unit {0}
 
-abbrev pub IsMissed : List Step → Node → Type 0
+abbrev pub IsMissed : List PathStep → Node → Type 0
 IsMissed [] n = Unit {0}
 IsMissed (m ∷ ms) n = Lacks m n
 
@@ -54,13 +54,13 @@ children_missed p (x ∷ xs) = (tt, children_missed p xs)
 key_lacks : (k : List ℕ) (n : Node) → key_step k n ≡ gives None → Lacks (key k) n
 key_lacks k n h1 = search (rules, gives_same, none-some)
 
-miss_missed : (s : Step) (p : Place) → IsMissed p.missing p.node → (p.missing ≡ [] → Lacks s p.node) → AreMissed (miss s p)
+miss_missed : (s : PathStep) (p : Place) → IsMissed p.missing p.node → (p.missing ≡ [] → Lacks s p.node) → AreMissed (miss s p)
 miss_missed s p h1 h2 = search rules
 
-there_missed : (s : Step) → Keeps (step_there s)
+there_missed : (s : PathStep) → Keeps (step_there s)
 there_missed s = search (rules, then_gives, gives_same, miss_missed, key_lacks, children_missed)
 
-step_missed : (s : Step) → Keeps (step_on s)
+step_missed : (s : PathStep) → Keeps (step_on s)
 step_missed s p qs m h = step_keeps AreMissed s p qs (there_missed s p qs m) (λ x xs is. miss_missed s p m (λ there. absurd (cons≢nil (sym is ∙ there)))) h
 
 select_missed : (doc : ℕ) (c : Condition) → Keeps (select_on doc c)
@@ -119,7 +119,7 @@ module _ (root : Node) (p : List paths.Step) (a first : Option (List ℕ)) (cs :
       go : (o : Option Node) → child_at (To k) cs ≡ o → Unrefused root p (cond (is_some o) (overwrites k v) (appends (Some k) v) ∷ xs) →
           FitAdds root p (tree.map a (add_to (cond (is_some o) (overwrites k v) (appends (Some k) v)) es)) xs → FitAdds root p (tree.map a es) (cond (is_some o) (overwrites k v) (appends (Some k) v) ∷ xs)
       go None is h r =
-          let long = or_parts (is_long (Some k)) (has_long_key v) (or_parts (is_long (Some k) || has_long_key v) (list_any writes_long_key xs) h.0).0 in
+          let long = or_parts (is_overlong_key (Some k)) (has_long_key v) (or_parts (is_overlong_key (Some k) || has_long_key v) (list_any writes_long_key xs) h.0).0 in
           ((long.0, (tree_is, long.1, (or_parts (is_deep (suc (length p)) v) (list_any (λ y. is_deep (suc (length p)) (value_in y)) xs) h.1).0), (a, es, refl, same ∙ is)), r)
       go (Some m) is h r =
           let used : is_used_inside (names_of root) (node_at (p ++ To k ∷ []) root) ≡ false = (or_parts (overwrites_used root p (overwrites k v)) (list_any (overwrites_used root p) xs) h.2).0 in (

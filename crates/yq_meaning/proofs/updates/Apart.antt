@@ -4,8 +4,8 @@ use Rattle.std.proofs.lemmas.Bool.{cases_Bool, cond-false, cond-true, cond_both}
 use Rattle.std.specs.Str.{bytes_eq}
 use Rattle.yq_flow_scalars.specs.Tree as tree
 use Rattle.yq_flow_scalars.specs.Tree.{Label, Node, Children, none, child, children_of}
-use Rattle.yq_flow_scalars.specs.Paths.{Step, To, Nth, key_is, is_item, child_at, node_at, change}
-use Rattle.yq_meaning.specs.NodeEdits.{NodeEdit, becomes, goes, NodeEdits, under, done_at, child_by, inside, each_at_once, at_once, same_path, and_at, done_by}
+use Rattle.yq_flow_scalars.specs.Paths.{Step, To, Nth, key_is, is_item, child_at, node_at, changed_at}
+use Rattle.yq_meaning.specs.NodeEdits.{NodeEdit, becomes, goes, NodeEdits, under, done_at, child_by, node_edit_inside, each_at_once, at_once, same_path, and_at, done_by}
 use Rattle.yq_meaning.specs.Places.{step_by}
 use Rattle.yq_flow_scalars.specs.PathOrder.{Before, Apart}
 use Rattle.yq_flow_scalars.specs.Shapes.{AreItems, AreEntries, IsTree}
@@ -85,7 +85,7 @@ find_item (suc r) m f free behind i is (child label n cs) items =
     (at_once (under (Nth i) f) n) (each_at_once f (suc i) cs)
     ∙ find_item r m f free behind (suc i) next cs items.1)
 
-find_inside : (s : Step) (f : NodeEdits) → f (s ∷ []) ≡ None → ((m i : ℕ) → s ≡ Nth m → f (Nth i ∷ []) ≡ Some goes → m < i) → (n : Node) → IsTree n → child_at s (children_of (inside f n)) ≡ done_child s f (child_at s (children_of n))
+find_inside : (s : Step) (f : NodeEdits) → f (s ∷ []) ≡ None → ((m i : ℕ) → s ≡ Nth m → f (Nth i ∷ []) ≡ Some goes → m < i) → (n : Node) → IsTree n → child_at s (children_of (node_edit_inside f n)) ≡ done_child s f (child_at s (children_of n))
 find_inside s f h1 h2 n h3 = search (rules, find_key, find_item, no_entry_done, no_entry)
 
 -- what is done elsewhere leaves the node at a path as it is
@@ -95,7 +95,7 @@ node_spared (s ∷ p) f n tree spared =
     let below : Spares (under s f) p = spares_under f s p spared in
     let behind : (m i : ℕ) → s ≡ Nth m → f (Nth i ∷ []) ≡ Some goes → m < i =
     λ m i is gone. spares_behind m i p (subst (λ (t : Step). Before (t ∷ p) (Nth i ∷ [])) is (subst (λ (d : Option NodeEdit). IsSpared d (s ∷ p) (Nth i ∷ [])) gone (spared (Nth i ∷ [])))) in
-    ap (λ (d : Option NodeEdit). node_at (s ∷ p) (done_at d n (inside f n))) (spares_root f (s ∷ p) spared)
+    ap (λ (d : Option NodeEdit). node_at (s ∷ p) (done_at d n (node_edit_inside f n))) (spares_root f (s ∷ p) spared)
     ∙ (ap (option_and_then (node_at p)) (find_inside s f (spares_root (under s f) p below) behind n tree)
     ∙ go (child_at s (children_of n)) (λ m is. node_spared p (under s f) m (child_tree s (children_of n) m (children_tree n tree) is) below))
   where
@@ -112,18 +112,18 @@ alone p g = and_at p (becomes g) (done_by [])
 spares_alone : (p q : List Step) (g : Node → Node) → Apart p q → Spares (alone q g) p
 spares_alone p q g h r = cond_both (same_path q r) (Some (becomes g)) None (λ d. IsSpared d p r) (λ e. subst (Apart p) (path_same q r e) h) (λ e. tt)
 
-alone_is : (p : List Step) (g : Node → Node) (n : Node) → IsTree n → at_once (alone p g) n ≡ change p g n
+alone_is : (p : List Step) (g : Node → Node) (n : Node) → IsTree n → at_once (alone p g) n ≡ changed_at p g n
 alone_is p g n tree = search (rules, one_more, idle, one_becomes)
 
 -- a change of one node leaves the node at a path that is apart as it is
-pub node_apart : (p q : List Step) (g : Node → Node) (n : Node) → IsTree n → Apart p q → node_at p (change q g n) ≡ node_at p n
+pub node_apart : (p q : List Step) (g : Node → Node) (n : Node) → IsTree n → Apart p q → node_at p (changed_at q g n) ≡ node_at p n
 node_apart p q g n tree h = ap (node_at p) (sym (alone_is q g n tree)) ∙ node_spared p (alone q g) n tree (spares_alone p q g h)
 
-both : (p q : List Step) (f g : Node → Node) (n : Node) → IsTree n → Apart p q → at_once (and_at p (becomes f) (alone q g)) n ≡ change p f (change q g n)
+both : (p q : List Step) (f g : Node → Node) (n : Node) → IsTree n → Apart p q → at_once (and_at p (becomes f) (alone q g)) n ≡ changed_at p f (changed_at q g n)
 both p q f g n tree h = simp (one_more, spares_alone, one_becomes, alone_is)
 
 -- two changes at paths that are apart may be made in either order
-pub changes_commute : (p q : List Step) (f g : Node → Node) (n : Node) → IsTree n → Apart p q → change p f (change q g n) ≡ change q g (change p f n)
+pub changes_commute : (p q : List Step) (f g : Node → Node) (n : Node) → IsTree n → Apart p q → changed_at p f (changed_at q g n) ≡ changed_at q g (changed_at p f n)
 changes_commute p q f g n tree h =
     sym (both p q f g n tree h)
     ∙ (ap (λ (d : NodeEdits). at_once d n) (node_edits_same (and_at p (becomes f) (alone q g)) (and_at q (becomes g) (alone p f)) (λ r. go r (same_path p r) (same_path q r) refl refl))

@@ -4,7 +4,7 @@ use Rattle.std.proofs.lemmas.Bool.{cases_Bool, cond-false, cond-true}
 use Rattle.std.proofs.lemmas.Option.{none-some, same_Some}
 use Rattle.yq_flow_scalars.specs.Tree.{Label, Node, list, Children, none, child, map}
 use Rattle.yq_flow_scalars.specs.Paths.{To, Nth, key_is, is_here, further, Step, within}
-use Rattle.yq_meaning.specs.NodeEdits.{step_to, NodeEdit, goes, NodeEdits, under, done_at, child_by, inside, each_at_once, at_once, same_path, and_at, at_child, here, one_at}
+use Rattle.yq_meaning.specs.NodeEdits.{step_to, NodeEdit, goes, NodeEdits, under, done_at, child_by, node_edit_inside, each_at_once, at_once, same_path, and_at, at_child, here, one_at}
 use Rattle.yq_meaning.specs.Places.{step_by}
 use Rattle.yq_flow_scalars.specs.PathOrder.{Before}
 use Rattle.yq_flow_scalars.specs.Shapes.{IsNew, AreItems, AreEntries, IsTree, AreTrees}
@@ -182,7 +182,7 @@ and_here : (p : List Step) (x : NodeEdit) (f : NodeEdits) → f [] ≡ None → 
 and_here [] x f h = refl
 and_here (s ∷ p) x f h = h
 
-in_tree : (s : Step) (x : NodeEdit) (p : List Step) (f g : NodeEdits) → More s x p f g → (n : Node) → IsTree n → inside f n ≡ within (at_child s (there x p)) (inside g n)
+in_tree : (s : Step) (x : NodeEdit) (p : List Step) (f g : NodeEdits) → More s x p f g → (n : Node) → IsTree n → node_edit_inside f n ≡ within (at_child s (there x p)) (node_edit_inside g n)
 in_tree s x p f g more (list anchor cs) tree = ap (list anchor) (more_each s x p f g more cs (inl tree.0) tree.1)
 in_tree s x p f g more (map anchor cs) tree = ap (map anchor) (more_each s x p f g more cs (inr tree.0) tree.1)
 in_tree s x p f g more _ tree = refl
@@ -190,7 +190,7 @@ in_tree s x p f g more _ tree = refl
 -- one thing more is done at once as it is done alone, after the others
 pub one_more : (p : List Step) (x : NodeEdit) (f : NodeEdits) (n : Node) → IsTree n → Spares f p → at_once (and_at p x f) n ≡ one_at p x (at_once f n)
 one_more [] x f n tree spared =
-    done_one x n (inside (and_at [] x f) n) ∙ ap (λ m. done_at (Some x) m m) (sym (idle f n (λ q. nothing (f q) [] q (apart_root q) (spared q))))
+    done_one x n (node_edit_inside (and_at [] x f) n) ∙ ap (λ m. done_at (Some x) m m) (sym (idle f n (λ q. nothing (f q) [] q (apart_root q) (spared q))))
 one_more (s ∷ p) x f n tree spared =
     let free : f [] ≡ None = spares_root f (s ∷ p) spared in
     let below : Spares (under s f) p = spares_under f s p spared in

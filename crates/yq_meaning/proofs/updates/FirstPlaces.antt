@@ -8,7 +8,7 @@ use Rattle.yq_flow_scalars.specs.Paths as paths
 use Rattle.yq_flow_scalars.specs.Paths.{node_at}
 use Rattle.yq_meaning.specs.Judgement.{Judgement, and_then, gives}
 use Rattle.yq_meaning.specs.Matching.{ChildFound, key_step, index_step}
-use Rattle.yq_program.specs.Program.{Step, key, index, each, Condition, Stage}
+use Rattle.yq_program.specs.Program.{PathStep, key, index, each, Condition, Stage}
 use Rattle.yq_meaning.specs.NodeEdits.{step_to}
 use Rattle.yq_meaning.specs.Pipes.{select_on, places}
 use Rattle.yq_meaning.specs.Places.{Place, root_place, child_place, for_each, miss, found_place, stepped, all_steps, step_there, step_on}
@@ -100,10 +100,10 @@ first_children root s first p at (child label n cs) is kind = go p.path refl
         root_children s p (stepped 1 cs) top (subst (λ (t : paths.Step). StepsBefore t (stepped 1 cs)) step (apart kind).0)
     go (t ∷ r) top = other_children s t r p (stepped 1 cs) top
 
-miss_later : (s : paths.Step) (step : Step) (p : Place) → NoPlaceLater s (miss step p)
+miss_later : (s : paths.Step) (step : PathStep) (p : Place) → NoPlaceLater s (miss step p)
 miss_later s step p = search rules
 
-found_later : (s : paths.Step) (step : Step) (p : Place) (j : Judgement ChildFound) (qs : List Place) → and_then (λ x. gives (found_place step p x)) j ≡ gives qs → NoPlaceLater s qs
+found_later : (s : paths.Step) (step : PathStep) (p : Place) (j : Judgement ChildFound) (qs : List Place) → and_then (λ x. gives (found_place step p x)) j ≡ gives qs → NoPlaceLater s qs
 found_later s step p j qs h = search (rules, then_gives, gives_same, miss_later)
 
 all_later : (root : Node) (s : paths.Step) → IsFirstStep root s → (p : Place) (n : Node) → p.node ≡ n → IsTree p.node → IsIn root p → (qs : List Place) → and_then (λ xs. gives (map (child_place p) xs))
@@ -115,10 +115,10 @@ all_later root s first p (list anchor cs) is tree at qs h =
 all_later root s first p (tree.map anchor cs) is tree at qs h =
     subst (NoPlaceLater s) (gives_same h) (first_children root s first p at cs (ap children_of is) (inr (subst IsTree is tree).0))
 
-step_first : (root : Node) (s : paths.Step) → IsFirstStep root s → (step : Step) → LeadsFirst root s (step_on step)
+step_first : (root : Node) (s : paths.Step) → IsFirstStep root s → (step : PathStep) → LeadsFirst root s (step_on step)
 step_first root s first step p qs tree at h = step_keeps (NoPlaceLater s) step p qs (there step) (λ m ms is. miss_later s step p) h
   where
-    there : (step : Step) → step_there step p ≡ gives qs → NoPlaceLater s qs
+    there : (step : PathStep) → step_there step p ≡ gives qs → NoPlaceLater s qs
     there (key k) e = found_later s (key k) p (key_step k p.node) qs e
     there (index i) e = found_later s (index i) p (index_step i p.node) qs e
     there each e = all_later root s first p p.node refl tree at qs e

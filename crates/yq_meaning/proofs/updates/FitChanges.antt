@@ -7,14 +7,14 @@ use Rattle.yq_flow_scalars.specs.Anchors.{names_of}
 use Rattle.yq_program.specs.declared.program.CommentPlace.{CommentPlace}
 use Rattle.yq_program.specs.declared.program.Operator.TheVariants as operator
 use Rattle.yq_meaning.specs.Judgement.{Judgement, and_then, gives}
-use Rattle.yq_meaning.specs.Changes.{Change, replaces, Changed, Room, nested, created, put_at, addition, additions, added, add_below, add_at, remove_at, comment_at, is_too_long, is_too_deep, is_used_inside, takes_used, allowed, all_allowed, at_each, with_value, changes_at, left_of, changes_in, is_comment, has_comment, value_in}
+use Rattle.yq_meaning.specs.Changes.{Change, replaces, Changed, Room, nested, created, put_with_path, addition, additions, added, add_below, add_at, remove_at, comment_at, is_too_long, is_too_deep, is_used_inside, takes_used, allowed, all_allowed, at_each, with_value, changes_at, left_pipe, changes_in, can_be_comment, has_comment, value_in}
 use Rattle.yq_meaning.proofs.updates.Mentions.{HasNoAlias, IsPure}
 use Rattle.yq_meaning.specs.Pipes.{places}
 use Rattle.yq_meaning.specs.Places.{Place, root_place}
 use Rattle.yq_meaning.specs.PlacesApart.{IsIn}
 use Rattle.yq_meaning.specs.RightValues.{is_null, as_items, sum, right_value}
 use Rattle.yq_flow_scalars.specs.Shapes.{IsTree}
-use Rattle.yq_program.specs.Program.{SumHolds, UpdatesHold, Step, key, Term, Update, assign, delete, comment}
+use Rattle.yq_program.specs.Program.{SumHolds, UpdatesHold, PathStep, key, Term, Update, assign, delete, comment}
 use Rattle.yq_meaning.proofs.updates.Aliases.{AddNone, WritesNone}
 use Rattle.yq_meaning.proofs.updates.AllowedChanges.{IsMissed, AreMissed, places_missed, list_fits, entries_fit}
 use Rattle.yq_meaning.proofs.updates.FitsInOrder.{MayChange, AreFit}
@@ -68,20 +68,20 @@ each_fit room root f so ps cs s m h =
 puts_fit : (room : Room) (root : Node) (p : Place) (v : Node) → IsIn root p → IsPure v → IfFree room root (p.path, replaces v)
 puts_fit room root p v at pure = (pure.1, λ f. ((pure.0, f.0, f.1), (p.node, at, ap (is_used_inside (names_of root)) (sym at) ∙ f.2)))
 
-nested_free : (ms : List Step) (v : Node) → HasNoAlias v → HasNoAlias (nested ms v)
+nested_free : (ms : List PathStep) (v : Node) → HasNoAlias v → HasNoAlias (nested ms v)
 nested_free [] v free = free
 nested_free (key k ∷ ms) v free = λ a m. elim m [ inl e ↦ nested_free ms v free a e | inr e ↦ e ]
 nested_free (_ ∷ ms) v free = nested_free ms v free
 
-nested_tree : (ms : List Step) (v : Node) → IsTree v → IsTree (nested ms v)
+nested_tree : (ms : List PathStep) (v : Node) → IsTree v → IsTree (nested ms v)
 nested_tree [] v h = h
 nested_tree (key k ∷ ms) v h = (((k, refl, tt), tt), (nested_tree ms v h, tt))
 nested_tree (_ ∷ ms) v h = nested_tree ms v h
 
-nested_pure : (ms : List Step) (v : Node) → IsPure v → IsPure (nested ms v)
+nested_pure : (ms : List PathStep) (v : Node) → IsPure v → IsPure (nested ms v)
 nested_pure ms v h = (nested_tree ms v h.0, nested_free ms v h.1)
 
-put_fits : (room : Room) (root : Node) (v : Node) → IsPure v → SoFits room root (λ p. put_at p v)
+put_fits : (room : Room) (root : Node) (v : Node) → IsPure v → SoFits room root (λ p. put_with_path p v)
 put_fits room root v pure p cs tree at miss h = search (rules, then_gives, gives_same, puts_fit, nested_pure, nested_free, or_parts, nested_tree, cases_Bool)
 
 addition_value : (cs : Children) (o : Option (List ℕ)) (v : Node) → value_in (addition cs o v) ≡ v
@@ -106,7 +106,7 @@ added_fit room root p _ _ is at pure c h = absurd (cc)
 add_fits : (room : Room) (root : Node) (v : Node) → IsPure v → SoFits room root (λ p. add_at p v)
 add_fits room root v pure p cs tree at miss h = go (is_null v) h
   where
-    below : (missing : List Step) → p.missing ≡ missing → add_below missing p v ≡ gives cs → EachIfFree room root cs
+    below : (missing : List PathStep) → p.missing ≡ missing → add_below missing p v ≡ gives cs → EachIfFree room root cs
     below [] is e =
         let x = then_gives (λ (c : Change). gives ((p.path, c) ∷ [])) (added p.node v) cs e in
         subst (EachIfFree room root) (gives_same x.2) (added_fit room root p v p.node refl at pure x.0 x.1, tt)
@@ -119,14 +119,14 @@ add_fits room root v pure p cs tree at miss h = go (is_null v) h
 remove_fits : (room : Room) (root : Node) → SoFits room root remove_at
 remove_fits room root p cs tree at miss h = search (rules, gives_same)
 
-say_fits : (room : Room) (root : Node) (place : CommentPlace) (text : List ℕ) → is_comment place text ≡ true → SoFits room root (comment_at room place text)
+say_fits : (room : Room) (root : Node) (place : CommentPlace) (text : List ℕ) → can_be_comment place text ≡ true → SoFits room root (comment_at room place text)
 say_fits room root place text good p cs tree at miss h = search (rules, gives_same, and_parts, cases_Bool)
 
 -- ---- of an update
 
-modify_fits : (room : Room) (root : Node) (doc : ℕ) (right : List Term) → SumHolds right → SoFits room root (λ p. and_then (put_at p) (right_value doc right p))
+modify_fits : (room : Room) (root : Node) (doc : ℕ) (right : List Term) → SumHolds right → SoFits room root (λ p. and_then (put_with_path p) (right_value doc right p))
 modify_fits room root doc right free p cs tree at miss h =
-    let x = then_gives (put_at p) (right_value doc right p) cs h in put_fits room root x.0 (right_pure root doc p tree at right x.0 free x.1) p cs tree at miss x.2
+    let x = then_gives (put_with_path p) (right_value doc right p) cs h in put_fits room root x.0 (right_pure root doc p tree at right x.0 free x.1) p cs tree at miss x.2
 
 with_fit : (room : Room) (root : Node) (right : Judgement Node) (f : Place → Node → Judgement (List Changed)) → ((v : Node) → right ≡ gives v → SoFits room root (λ p. f p v)) →
     (ps : List Place) (cs : List Changed) → AreSound root ps → AreMissed ps → with_value root right f ps ≡ gives cs → AreFit room root cs
@@ -137,8 +137,8 @@ with_fit room root right f so (p ∷ ps) cs s m h =
 changes_fit : (doc : ℕ) (room : Room) (root : Node) (u : Update) → IsTree root → UpdatesHold (u ∷ []) → has_comment u ≡ true → (ps : List Place) (cs : List Changed) → AreSound root ps → AreMissed ps →
     changes_at doc room root u ps ≡ gives cs → AreFit room root cs
 changes_fit doc room root (assign left operator.Set right) tree pure good ps cs s m h =
-    with_fit room root (right_value doc right (root_place root)) put_at (λ v is. put_fits room root v (right_pure root doc (root_place root) tree refl right v pure.0 is)) ps cs s m h
-changes_fit doc room root (assign left operator.Modify right) tree pure good ps cs s m h = each_fit room root (λ p. and_then (put_at p) (right_value doc right p)) (modify_fits room root doc right pure.0) ps cs s m h
+    with_fit room root (right_value doc right (root_place root)) put_with_path (λ v is. put_fits room root v (right_pure root doc (root_place root) tree refl right v pure.0 is)) ps cs s m h
+changes_fit doc room root (assign left operator.Modify right) tree pure good ps cs s m h = each_fit room root (λ p. and_then (put_with_path p) (right_value doc right p)) (modify_fits room root doc right pure.0) ps cs s m h
 changes_fit doc room root (assign left operator.Add right) tree pure good ps cs s m h =
     with_fit room root (right_value doc right (root_place root)) add_at (λ v is. add_fits room root v (right_pure root doc (root_place root) tree refl right v pure.0 is)) ps cs s m h
 changes_fit doc room root (delete left) tree pure good ps cs s m h = each_fit room root remove_at (remove_fits room root) ps cs s m h
@@ -147,5 +147,5 @@ changes_fit doc room root (comment left place text) tree pure good ps cs s m h =
 -- what an update changes in a tree may be made there
 pub update_fit : (u : Update) (doc : ℕ) (room : Room) (root : Node) (cs : List Changed) → IsTree root → UpdatesHold (u ∷ []) → has_comment u ≡ true → changes_in u doc room root ≡ gives cs → AreFit room root cs
 update_fit u doc room root cs tree pure good h =
-    let x = then_gives (changes_at doc room root u) (places doc (left_of u) root) cs h in
-    changes_fit doc room root u tree pure good x.0 cs (places_apart doc (left_of u) root x.0 tree x.1).sound (places_missed doc (left_of u) root x.0 x.1) x.2
+    let x = then_gives (changes_at doc room root u) (places doc (left_pipe u) root) cs h in
+    changes_fit doc room root u tree pure good x.0 cs (places_apart doc (left_pipe u) root x.0 tree x.1).sound (places_missed doc (left_pipe u) root x.0 x.1) x.2

@@ -4,11 +4,11 @@ use Rattle.std.proofs.lemmas.List.{reverse-reverse}
 use Rattle.std.proofs.lemmas.Option.{same_Some}
 use Rattle.yq_flow_scalars.specs.Tree as tree
 use Rattle.yq_flow_scalars.specs.Tree.{Node, alias, list, Children, none, child, children_of}
-use Rattle.yq_flow_scalars.specs.Paths.{Step, To, is_here, further, child_at, node_at, change_child, within, change}
+use Rattle.yq_flow_scalars.specs.Paths.{Step, To, is_here, further, child_at, node_at, change_child, within, changed_at}
 use Rattle.yq_flow_scalars.specs.Anchors.{names_of}
 use Rattle.yq_program.specs.declared.program.CommentPlace.TheVariants as comments
 use Rattle.yq_meaning.specs.After.{root_after}
-use Rattle.yq_meaning.specs.Changes.{Addition, appends, overwrites, replaces, adds, sets_comment, Changed, Room, is_long, is_used_inside, is_used_in}
+use Rattle.yq_meaning.specs.Changes.{Addition, appends, overwrites, replaces, adds, sets_comment, Changed, Room, is_overlong_key, is_used_inside, is_used_in}
 use Rattle.yq_meaning.specs.NodeEdits.{at_once}
 use Rattle.yq_meaning.specs.Fits.{IsWritableAt, Takes, IsBelow, MayComment, FitsRoot}
 use Rattle.yq_meaning.proofs.updates.Mentions.{AnyMentions, MentionsNoMore, inside_less, in_less}
@@ -40,7 +40,7 @@ fit_join block lead room (op ∷ ops) others n h k = (h.0, fit_join block lead r
 -- additions to a node at a path of a root, each of which fits at its turn
 abbrev pub FitAdds : Node → List Step → Node → List Addition → Type 0
 FitAdds root p n [] = Unit {0}
-FitAdds root p n (appends k v ∷ xs) = ((is_long k ≡ false) × IsWritableAt (suc (length p)) v × Takes k n) × FitAdds root p (within (add_to (appends k v)) n) xs
+FitAdds root p n (appends k v ∷ xs) = ((is_overlong_key k ≡ false) × IsWritableAt (suc (length p)) v × Takes k n) × FitAdds root p (within (add_to (appends k v)) n) xs
 FitAdds root p n (overwrites k v ∷ xs) =
     (IsWritableAt (suc (length p)) v × ((m : Node) × (child_at (To k) (children_of n) ≡ Some m) × (is_used_inside (names_of root) (Some m) ≡ false))) × FitAdds root p (within (add_to (overwrites k v)) n) xs
 
@@ -68,13 +68,13 @@ children_within : (s : Step) (f : Node → Node) (r n : Node) → child_at s (ch
 children_within s f r n h1 = search (rules, child_changed)
 
 -- the node at a path, changed
-node_change : (p : List Step) (f : Node → Node) (r n : Node) → node_at p r ≡ Some n → node_at p (change p f r) ≡ Some (f n)
+node_change : (p : List Step) (f : Node → Node) (r n : Node) → node_at p r ≡ Some n → node_at p (changed_at p f r) ≡ Some (f n)
 node_change [] f r n h = let same : r ≡ n = cc in ap (λ (x : Node). Some (f x)) same
 node_change (s ∷ p) f r n h = go (child_at s (children_of r)) refl (λ m. node_change p f m n) h
   where
-    go : (o : Option Node) → child_at s (children_of r) ≡ o → ((m : Node) → node_at p m ≡ Some n → node_at p (change p f m) ≡ Some (f n)) → option_and_then (node_at p) o ≡ Some n → node_at (s ∷ p) (change (s ∷ p) f r) ≡ Some (f n)
+    go : (o : Option Node) → child_at s (children_of r) ≡ o → ((m : Node) → node_at p m ≡ Some n → node_at p (changed_at p f m) ≡ Some (f n)) → option_and_then (node_at p) o ≡ Some n → node_at (s ∷ p) (changed_at (s ∷ p) f r) ≡ Some (f n)
     go None is ih e = absurd (cc)
-    go (Some m) is ih e = ap (option_and_then (node_at p)) (children_within s (change p f) r m is) ∙ ih m e
+    go (Some m) is ih e = ap (option_and_then (node_at p)) (children_within s (changed_at p f) r m is) ∙ ih m e
 
 child_no_more : (a : List ℕ) (s : Step) (f : Node → Node) → ((m : Node) → MentionsNoMore (f m) m) → (cs : Children) → AnyMentions a (change_child s f cs) → AnyMentions a cs
 child_no_more a s f less none h = h
@@ -86,10 +86,10 @@ child_no_more a s f less (child label n cs) h = go (is_here s label) (child_no_m
     go false ih (inl e) = inl e
     go false ih (inr e) = inr (ih e)
 
-change_no_more : (p : List Step) (f : Node → Node) → ((m : Node) → MentionsNoMore (f m) m) → (r : Node) → MentionsNoMore (change p f r) r
+change_no_more : (p : List Step) (f : Node → Node) → ((m : Node) → MentionsNoMore (f m) m) → (r : Node) → MentionsNoMore (changed_at p f r) r
 change_no_more [] f less r a h = less r a h
-change_no_more (s ∷ p) f less (list anchor cs) a h = child_no_more a s (change p f) (change_no_more p f less) cs h
-change_no_more (s ∷ p) f less (tree.map anchor cs) a h = child_no_more a s (change p f) (change_no_more p f less) cs h
+change_no_more (s ∷ p) f less (list anchor cs) a h = child_no_more a s (changed_at p f) (change_no_more p f less) cs h
+change_no_more (s ∷ p) f less (tree.map anchor cs) a h = child_no_more a s (changed_at p f) (change_no_more p f less) cs h
 change_no_more (s ∷ p) f less _ a h = h
 
 node_join : (p : List Step) (s : Step) (r n : Node) → node_at p r ≡ Some n → node_at (p ++ s ∷ []) r ≡ child_at s (children_of n)
@@ -111,7 +111,7 @@ module _ (block : Bool) (lead : List (List ℕ)) (room : Room) (doc : ℕ) (root
   adds_fit : (p : List Step) (xs : List Addition) (n r : Node) → node_at p r ≡ Some n → MentionsNoMore r root → AddNone xs → FitAdds root p n xs → AllFitRoot block lead room (map (add_op doc p) xs) r
   adds_fit p [] n r at less free h = tt
   adds_fit p (x ∷ xs) n r at less free h =
-      let next : Node = change p (within (add_to x)) r in (
+      let next : Node = changed_at p (within (add_to x)) r in (
         add_fits p x xs n r at less h,
         subst (AllFitRoot block lead room (map (add_op doc p) xs)) (sym (add_after block lead doc p x r))
             (adds_fit p xs (within (add_to x) n) next (node_change p (within (add_to x)) r n at) (λ a e. less a (change_no_more p (within (add_to x)) (one_no_more x free.0) r a e)) free.1 (rest_fits p x xs n h)),

@@ -6,7 +6,7 @@ use Rattle.std.specs.Str.{bytes_eq}
 use Rattle.std.proofs.lemmas.Bool.{false≢true, or_cases, or_left, or_right}
 use Rattle.yq_flow_scalars.specs.Tree as tree
 use Rattle.yq_flow_scalars.specs.Tree.{Node, alias, scalar, list, Children, none, child, children_of}
-use Rattle.yq_flow_scalars.specs.Anchors.{Name, Anchors, Refers, with_anchor, names_of, names_in}
+use Rattle.yq_flow_scalars.specs.Anchors.{Name, Anchors, Refers, anchor_names, names_of, names_in}
 use Rattle.yq_meaning.specs.Changes.{refers_to, is_used, is_used_inside, is_used_in}
 use Rattle.yq_flow_scalars.specs.Shapes.{IsTree}
 use Rattle.yq_program.specs.Program.{IsValue}
@@ -47,7 +47,7 @@ any_right : {A : Type 0} (f : A → Bool) (xs ys : List A) → list_any f ys ≡
 any_right f [] ys h = h
 any_right f (x ∷ xs) ys h = or_right (f x) (list_any f (xs ++ ys)) (any_right f xs ys h)
 
-any_anchor : (a : List ℕ) (anchor : Option (List ℕ)) (names : List Name) → list_any (refers_to a) (with_anchor anchor names) ≡ list_any (refers_to a) names
+any_anchor : (a : List ℕ) (anchor : Option (List ℕ)) (names : List Name) → list_any (refers_to a) (anchor_names anchor names) ≡ list_any (refers_to a) names
 any_anchor a None names = refl
 any_anchor a (Some b) names = refl
 

@@ -1,15 +1,15 @@
 -- What operations do, one after the other, is what is done at single places.
 use Rattle.std.proofs.Common.{◌≡◌, ℕ, Bool, true, false, cond, List, [], ◌∷◌, ◌++◌, map, Option, Some, refl, sym, ap, ◌∙◌, rules}
 use Rattle.yq_flow_scalars.specs.Tree.{Label, Node, Children, none, child}
-use Rattle.yq_flow_scalars.specs.Paths.{Step, is_here, further, change_child, relabel_child, remove_child, within, change}
+use Rattle.yq_flow_scalars.specs.Paths.{Step, is_here, further, change_child, relabel_child, remove_child, within, changed_at}
 use Rattle.yq_program.specs.declared.program.CommentPlace.TheVariants as comments
 use Rattle.yq_meaning.specs.After.{root_after}
 use Rattle.yq_meaning.specs.Changes.{Addition, appends, overwrites, replaces, adds, sets_comment, Changed}
 use Rattle.yq_meaning.specs.NodeEdits.{NodeEdit, becomes, line, head, goes, done_at, child_by, at_child, one_at}
-use Rattle.yq_meaning.specs.Meaning.{add_to, add_all, head_of, line_of, node_edit_of}
+use Rattle.yq_meaning.specs.Meaning.{add_to, add_all, head_comment_lines, line_comment_text, node_edit_of}
 use Rattle.yq_meaning.specs.Operations.{Operation}
 use Rattle.yq_meaning.specs.Plans.{add_op, change_ops}
-use Rattle.yq_documents.specs.TreeEdits.{replaced, at_end, with_line_comment, with_head_comment, led}
+use Rattle.yq_documents.specs.TreeEdits.{replaced_node, at_end, with_line_comment, with_head_comment, led}
 use Rattle.yq_meaning.specs.Changes as changes
 
 -- ---- changes of one node
@@ -40,21 +40,21 @@ child_twice s f g (child label n cs) = go (is_here s label) refl (child_twice (f
     go true is ih = ap (λ (b : Bool). cond b (child label (f (g n)) cs) (child label (g n) (change_child (further s) f cs))) is
     go false is ih = ap (λ (b : Bool). cond b (child label (f n) (change_child (further s) g cs)) (child label n (change_child (further s) f (change_child (further s) g cs)))) is ∙ ap (child label n) ih
 
-pub change_none : (p : List Step) (n : Node) → change p (λ m. m) n ≡ n
+pub change_none : (p : List Step) (n : Node) → changed_at p (λ m. m) n ≡ n
 change_none [] n = refl
 change_none (s ∷ p) n =
-    within_same (change_child s (change p (λ m. m))) (λ cs. cs) (λ cs. ap (λ (h : Node → Node). change_child s h cs) (λ i m. change_none p m i) ∙ child_none s cs) n ∙ within_none n
+    within_same (change_child s (changed_at p (λ m. m))) (λ cs. cs) (λ cs. ap (λ (h : Node → Node). change_child s h cs) (λ i m. change_none p m i) ∙ child_none s cs) n ∙ within_none n
 
 -- two changes of one node
-pub change_twice : (p : List Step) (f g : Node → Node) (n : Node) → change p f (change p g n) ≡ change p (λ m. f (g m)) n
+pub change_twice : (p : List Step) (f g : Node → Node) (n : Node) → changed_at p f (changed_at p g n) ≡ changed_at p (λ m. f (g m)) n
 change_twice [] f g n = refl
 change_twice (s ∷ p) f g n =
-    within_twice (change_child s (change p f)) (change_child s (change p g)) n
-    ∙ within_same (λ cs. change_child s (change p f) (change_child s (change p g) cs)) (change_child s (change p (λ m. f (g m))))
-    (λ cs. child_twice s (change p f) (change p g) cs ∙ ap (λ (h : Node → Node). change_child s h cs) (λ i m. change_twice p f g m i)) n
+    within_twice (change_child s (changed_at p f)) (change_child s (changed_at p g)) n
+    ∙ within_same (λ cs. change_child s (changed_at p f) (change_child s (changed_at p g) cs)) (change_child s (changed_at p (λ m. f (g m))))
+    (λ cs. child_twice s (changed_at p f) (changed_at p g) cs ∙ ap (λ (h : Node → Node). change_child s h cs) (λ i m. change_twice p f g m i)) n
 
 -- a change further on
-pub change_join : (p q : List Step) (f : Node → Node) (n : Node) → change (p ++ q) f n ≡ change p (change q f) n
+pub change_join : (p q : List Step) (f : Node → Node) (n : Node) → changed_at (p ++ q) f n ≡ changed_at p (changed_at q f) n
 change_join [] q f n = refl
 change_join (s ∷ p) q f n = ap (λ (h : Node → Node). within (change_child s h) n) (λ i m. change_join p q f m i)
 
@@ -76,13 +76,13 @@ at_child_remove s none = refl
 at_child_remove s (child label n cs) = ap (λ ds. cond (is_here s label) cs (child label n ds)) (at_child_remove (further s) cs)
 
 -- a node that becomes another
-pub one_becomes : (p : List Step) (g : Node → Node) (n : Node) → one_at p (becomes g) n ≡ change p g n
+pub one_becomes : (p : List Step) (g : Node → Node) (n : Node) → one_at p (becomes g) n ≡ changed_at p g n
 one_becomes [] g n = refl
 one_becomes (s ∷ []) g n = within_same (at_child s (λ label m cs. child label (g m) cs)) (change_child s g) (at_child_change s g) n
 one_becomes (s ∷ (t ∷ p)) g n =
-    within_same (at_child s (λ label m cs. child label (one_at (t ∷ p) (becomes g) m) cs)) (change_child s (change (t ∷ p) g))
-    (λ cs. at_child_same s (λ label m ds. child label (one_at (t ∷ p) (becomes g) m) ds) (λ label m ds. child label (change (t ∷ p) g m) ds) (λ label m ds. ap (λ k. child label k ds) (one_becomes (t ∷ p) g m)) cs
-    ∙ at_child_change s (change (t ∷ p) g) cs) n
+    within_same (at_child s (λ label m cs. child label (one_at (t ∷ p) (becomes g) m) cs)) (change_child s (changed_at (t ∷ p) g))
+    (λ cs. at_child_same s (λ label m ds. child label (one_at (t ∷ p) (becomes g) m) ds) (λ label m ds. child label (changed_at (t ∷ p) g m) ds) (λ label m ds. ap (λ k. child label k ds) (one_becomes (t ∷ p) g m)) cs
+    ∙ at_child_change s (changed_at (t ∷ p) g) cs) n
 
 -- what is done among the items or entries where a path ends
 module _ (x : NodeEdit) (e : Step → Children → Children) (root : (n : Node) → done_at (Some x) n n ≡ n)
@@ -119,20 +119,20 @@ led_below : (block : Bool) (lead : List (List ℕ)) (p : List Step) (s : Step) (
 led_below block lead [] s v = refl
 led_below block lead (t ∷ p) s v = refl
 
-pub add_after : (block : Bool) (lead : List (List ℕ)) (doc : ℕ) (p : List Step) (x : Addition) (n : Node) → root_after block lead (add_op doc p x) n ≡ change p (within (add_to x)) n
+pub add_after : (block : Bool) (lead : List (List ℕ)) (doc : ℕ) (p : List Step) (x : Addition) (n : Node) → root_after block lead (add_op doc p x) n ≡ changed_at p (within (add_to x)) n
 add_after block lead doc p (appends k v) n = refl
 add_after block lead doc p (overwrites k v) n = simp (led_below, change_join)
 
-adds_after : (block : Bool) (lead : List (List ℕ)) (doc : ℕ) (p : List Step) (xs : List Addition) (n : Node) → roots_after block lead (map (add_op doc p) xs) n ≡ change p (add_all xs) n
+adds_after : (block : Bool) (lead : List (List ℕ)) (doc : ℕ) (p : List Step) (xs : List Addition) (n : Node) → roots_after block lead (map (add_op doc p) xs) n ≡ changed_at p (add_all xs) n
 adds_after block lead doc p [] n = sym (change_none p n)
 adds_after block lead doc p (x ∷ xs) n =
     ap (roots_after block lead (map (add_op doc p) xs)) (add_after block lead doc p x n)
-    ∙ (adds_after block lead doc p xs (change p (within (add_to x)) n) ∙ change_twice p (add_all xs) (within (add_to x)) n)
+    ∙ (adds_after block lead doc p xs (changed_at p (within (add_to x)) n) ∙ change_twice p (add_all xs) (within (add_to x)) n)
 
 -- the operations of a change do what is done at its place
 pub change_after : (block : Bool) (lead : List (List ℕ)) (doc : ℕ) (c : Changed) (n : Node) → roots_after block lead (change_ops doc c) n ≡ one_at c.0 (node_edit_of block lead c) n
-change_after block lead doc (p, replaces v) n = sym (one_becomes p (replaced (led block lead p v)) n)
+change_after block lead doc (p, replaces v) n = sym (one_becomes p (replaced_node (led block lead p v)) n)
 change_after block lead doc (p, adds xs) n = adds_after block lead doc p xs n ∙ sym (one_becomes p (add_all xs) n)
 change_after block lead doc (p, changes.removes) n = sym (one_goes p n)
-change_after block lead doc (p, sets_comment comments.Line text) n = sym (one_line (line_of text) p n)
-change_after block lead doc (p, sets_comment comments.Head text) n = sym (one_head (head_of text) p n)
+change_after block lead doc (p, sets_comment comments.Line text) n = sym (one_line (line_comment_text text) p n)
+change_after block lead doc (p, sets_comment comments.Head text) n = sym (one_head (head_comment_lines text) p n)

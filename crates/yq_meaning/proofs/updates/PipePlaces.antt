@@ -2,9 +2,9 @@
 use Rattle.std.proofs.Common.{◌≡◌, ℕ, Bool, true, false, List, [], ◌∷◌, refl, subst}
 use Rattle.yq_flow_scalars.specs.Tree.{Node}
 use Rattle.yq_meaning.specs.Judgement.{gives}
-use Rattle.yq_program.specs.Program.{Step, Condition, Stage, path, select}
-use Rattle.yq_meaning.specs.Conditions.{holds}
-use Rattle.yq_meaning.specs.Pipes.{kept, select_on, stage_on, pipe_on, places}
+use Rattle.yq_program.specs.Program.{PathStep, Condition, Stage, path, select}
+use Rattle.yq_meaning.specs.Conditions.{condition_holds}
+use Rattle.yq_meaning.specs.Pipes.{kept_place, select_on, stage_on, pipe_on, places}
 use Rattle.yq_meaning.specs.Places.{Place, root_place, for_each, step_on, chained, traverse}
 use Rattle.yq_meaning.specs.PlacesApart.{AreApart, AreIn}
 use Rattle.yq_flow_scalars.specs.Shapes.{IsTree}
@@ -16,20 +16,20 @@ use Rattle.yq_meaning.proofs.updates.StepPlaces.{leads_step}
 -- what is so of a place alone and of none is so of what a condition keeps
 pub select_keeps : (R : List Place → Type 0) (doc : ℕ) (c : Condition) (p : Place) (qs : List Place) → R (p ∷ []) → R [] → select_on doc c p ≡ gives qs → R qs
 select_keeps R doc c p qs here none h =
-    let x = then_gives (λ (b : Bool). gives (kept p b)) (holds doc c p) qs h in
-    subst R (gives_same x.2) (elim x.0 as (λ b. R (kept p b)) [ true ↦ here | false ↦ none ])
+    let x = then_gives (λ (b : Bool). gives (kept_place p b)) (condition_holds doc c p) qs h in
+    subst R (gives_same x.2) (elim x.0 as (λ b. R (kept_place p b)) [ true ↦ here | false ↦ none ])
 
 pub leads_select : (root : Node) (doc : ℕ) (c : Condition) → LeadsSo root (select_on doc c)
 leads_select root doc c p qs tree at h = select_keeps (LeadsInto root p) doc c p qs (leads_self root p p refl refl tree at) (leads_none root p) h
 
 -- what is so of places, and of those to which each step and each condition leads from such, is so of those to which a pipe leads
-pub pipe_keeps : (doc : ℕ) (R : List Place → Type 0) → ((s : Step) (ps qs : List Place) → R ps → for_each (step_on s) ps ≡ gives qs → R qs) →
+pub pipe_keeps : (doc : ℕ) (R : List Place → Type 0) → ((s : PathStep) (ps qs : List Place) → R ps → for_each (step_on s) ps ≡ gives qs → R qs) →
     ((c : Condition) (ps qs : List Place) → R ps → for_each (select_on doc c) ps ≡ gives qs → R qs) → (stages : List Stage) (ps qs : List Place) → R ps → pipe_on doc stages ps ≡ gives qs → R qs
 pipe_keeps doc R step chosen [] ps qs r h = subst R (gives_same h) r
 pipe_keeps doc R step chosen (stage ∷ stages) ps qs r h =
     let x = then_gives (chained (stage_on doc) stages) (stage_on doc stage ps) qs h in pipe_keeps doc R step chosen stages x.0 qs (staged stage x.0 x.1) x.2
   where
-    walked : (ss : List Step) (from to : List Place) → R from → traverse ss from ≡ gives to → R to
+    walked : (ss : List PathStep) (from to : List Place) → R from → traverse ss from ≡ gives to → R to
     walked [] from to f e = subst R (gives_same e) f
     walked (s ∷ ss) from to f e =
         let x = then_gives (chained (λ u. for_each (step_on u)) ss) (for_each (step_on s) from) to e in walked ss x.0 to (step s from x.0 f x.1) x.2

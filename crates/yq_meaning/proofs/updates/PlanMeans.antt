@@ -6,8 +6,8 @@ use Rattle.yq_documents.specs.Documents.{Document}
 use Rattle.yq_program.specs.declared.program.CommentPlace.TheVariants as comments
 use Rattle.yq_meaning.specs.declared.refusal.Refusal.{Refusal}
 use Rattle.yq_meaning.specs.Judgement.{Judgement, and_then, gives, refuses}
-use Rattle.yq_meaning.specs.After.{document_of, done_to, after_op, all_after}
-use Rattle.yq_meaning.specs.Changes.{Addition, appends, overwrites, replaces, adds, sets_comment, Changed, Room, has_comment, changes_in, changes_from, changes_of}
+use Rattle.yq_meaning.specs.After.{op_document, done_to, after_op, all_after}
+use Rattle.yq_meaning.specs.Changes.{Addition, appends, overwrites, replaces, adds, sets_comment, Changed, Room, has_comment, changes_in, changes_from, update_changes}
 use Rattle.yq_meaning.specs.Meaning.{changed_at_once, all_changed, roots_of, meaning, AreReady}
 use Rattle.yq_meaning.specs.Operations.{Operation}
 use Rattle.yq_meaning.specs.Plans.{add_op, change_ops, ops_of, is_removal, ordered, all_ops, plan}
@@ -22,7 +22,7 @@ use Rattle.yq_meaning.proofs.updates.Each.{Each, each_join}
 -- ---- operations on the document of a number
 
 abbrev pub AreOf : ℕ → List Operation → Type 0
-AreOf n ops = Each (λ op. document_of op ≡ n) ops
+AreOf n ops = Each (λ op. op_document op ≡ n) ops
 
 adds_of : (n : ℕ) (p : List paths.Step) (xs : List Addition) → AreOf n (map (add_op n p) xs)
 adds_of n p [] = tt
@@ -38,13 +38,13 @@ change_of n (p, sets_comment comments.Head text) = (refl, tt)
 
 pub ops_are_of : (n : ℕ) (cs : List Changed) → AreOf n (ops_of n cs)
 ops_are_of n [] = tt
-ops_are_of n (c ∷ cs) = each_join (λ op. document_of op ≡ n) (change_ops n c) (ops_of n cs) (change_of n c) (ops_are_of n cs)
+ops_are_of n (c ∷ cs) = each_join (λ op. op_document op ≡ n) (change_ops n c) (ops_of n cs) (change_of n c) (ops_are_of n cs)
 
 with_at : (f : Document → Document) (front : List Document) (d : Document) (ds : List Document) → change_nth (length front) f (front ++ d ∷ ds) ≡ front ++ f d ∷ ds
 with_at f [] d ds = refl
 with_at f (e ∷ es) d ds = ap (λ xs. e ∷ xs) (with_at f es d ds)
 
-pub after_at : (rooms : ℕ → Room) (op : Operation) (front : List Document) (d : Document) (ds : List Document) → document_of op ≡ length front →
+pub after_at : (rooms : ℕ → Room) (op : Operation) (front : List Document) (d : Document) (ds : List Document) → op_document op ≡ length front →
     after_op rooms op (front ++ d ∷ ds) ≡ front ++ done_to (rooms (length front)).block op d ∷ ds
 after_at rooms op front d ds is = ap (λ (n : ℕ). change_nth n (done_to (rooms n).block op) (front ++ d ∷ ds)) is ∙ with_at (done_to (rooms (length front)).block op) front d ds
 
@@ -81,9 +81,9 @@ from_means u rooms n (d ∷ ds) front css is ready h =
 -- a plan comes of changes, where a comment's text may stand
 pub plan_parts : (u : Update) (rooms : ℕ → Room) (docs : List Document) (ops : List Operation) → plan u rooms docs ≡ gives ops →
     (css : List (List Changed)) × (has_comment u ≡ true)
-    × (changes_from u rooms 0 (roots_of docs) ≡ gives css) × (changes_of u rooms (roots_of docs) ≡ gives css) × (all_ops (is_removal u) 0 css ≡ ops)
+    × (changes_from u rooms 0 (roots_of docs) ≡ gives css) × (update_changes u rooms (roots_of docs) ≡ gives css) × (all_ops (is_removal u) 0 css ≡ ops)
 plan_parts u rooms docs ops h =
-    let x = then_gives (λ (css : List (List Changed)). gives (all_ops (is_removal u) 0 css)) (changes_of u rooms (roots_of docs)) ops h in
+    let x = then_gives (λ (css : List (List Changed)). gives (all_ops (is_removal u) 0 css)) (update_changes u rooms (roots_of docs)) ops h in
     elim (chosen (has_comment u) x.1) [ inl c ↦ (x.0, c.0, c.1, x.1, gives_same x.2) | inr c ↦ absurd (let e = c.1 in cc) ]
 
 -- the operations of a plan, one after the other, make what the update means
@@ -101,7 +101,7 @@ then_refuses f g (refuses other) why h = let same : other ≡ why = cc in ap ref
 
 -- a plan is refused as the update is
 pub plan_refused : (u : Update) (rooms : ℕ → Room) (docs : List Document) (why : Refusal) → plan u rooms docs ≡ refuses why → meaning u rooms docs ≡ refuses why
-plan_refused u rooms docs why h = then_refuses (λ css. all_ops (is_removal u) 0 css) (λ css. all_changed rooms 0 css docs) (changes_of u rooms (roots_of docs)) why h
+plan_refused u rooms docs why h = then_refuses (λ css. all_ops (is_removal u) 0 css) (λ css. all_changed rooms 0 css docs) (update_changes u rooms (roots_of docs)) why h
 
 pub meaning_refused : (u : Update) (rooms : ℕ → Room) (docs : List Document) (why : Refusal) → meaning u rooms docs ≡ refuses why → plan u rooms docs ≡ refuses why
-meaning_refused u rooms docs why h = then_refuses (λ css. all_changed rooms 0 css docs) (λ css. all_ops (is_removal u) 0 css) (changes_of u rooms (roots_of docs)) why h
+meaning_refused u rooms docs why h = then_refuses (λ css. all_changed rooms 0 css docs) (λ css. all_ops (is_removal u) 0 css) (update_changes u rooms (roots_of docs)) why h

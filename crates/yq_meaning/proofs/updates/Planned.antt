@@ -7,8 +7,8 @@ use Rattle.yq_flow_scalars.specs.Paths as paths
 use Rattle.yq_program.specs.declared.program.CommentPlace.{CommentPlace}
 use Rattle.yq_program.specs.declared.program.Operator.TheVariants as operator
 use Rattle.yq_meaning.specs.Judgement.{Judgement, and_then, gives}
-use Rattle.yq_program.specs.Program.{Step, Term, Update, assign, delete, comment}
-use Rattle.yq_meaning.specs.Changes.{Change, Changed, Room, put_below, put_at, added, add_at, remove_at, comment_at, allowed, all_allowed, at_each, with_value, changes_at, left_of, changes_in}
+use Rattle.yq_program.specs.Program.{PathStep, Term, Update, assign, delete, comment}
+use Rattle.yq_meaning.specs.Changes.{Change, Changed, Room, put_below, put_with_path, added, add_at, remove_at, comment_at, allowed, all_allowed, at_each, with_value, changes_at, left_pipe, changes_in}
 use Rattle.yq_meaning.specs.NodeEdits.{step_to}
 use Rattle.yq_meaning.specs.Pipes.{places}
 use Rattle.yq_meaning.specs.Places.{Place, root_place, for_each}
@@ -85,14 +85,14 @@ at_ordered root P f so ps cs a h = each_ordered P (λ p. and_then (all_allowed r
 single : (P : Change → Type 0) (p : Place) (c : Change) (cs : List Changed) → P c → gives ((p.path, c) ∷ []) ≡ gives cs → FromPlace P p cs
 single P p c cs k h = subst (FromPlace P p) (gives_same h) (refl, (k, tt))
 
-put_written : (n : Node) (missing : List Step) (v : Node) (c : Change) → put_below n missing v ≡ gives c → IsWritten c
+put_written : (n : Node) (missing : List PathStep) (v : Node) (c : Change) → put_below n missing v ≡ gives c → IsWritten c
 put_written n missing v c h1 = search (rules, gives_same)
 
-put_so : (v : Node) → IsSo IsWritten (λ p. put_at p v)
+put_so : (v : Node) → IsSo IsWritten (λ p. put_with_path p v)
 put_so v p cs h = search (rules, then_gives, single, put_written)
 
-modify_so : (doc : ℕ) (right : List Term) → IsSo IsWritten (λ p. and_then (put_at p) (right_value doc right p))
-modify_so doc right p cs h = let x = then_gives (put_at p) (right_value doc right p) cs h in put_so x.0 p cs x.2
+modify_so : (doc : ℕ) (right : List Term) → IsSo IsWritten (λ p. and_then (put_with_path p) (right_value doc right p))
+modify_so doc right p cs h = let x = then_gives (put_with_path p) (right_value doc right p) cs h in put_so x.0 p cs x.2
 
 added_written : (n v : Node) (c : Change) → added n v ≡ gives c → IsWritten c
 added_written n v c h1 = search (rules, then_gives, gives_same)
@@ -115,8 +115,8 @@ with_ordered root right f so (p ∷ ps) cs a h =
     let x = then_gives (λ (v : Node). at_each root (λ q. f q v) (p ∷ ps)) right cs h in at_ordered root IsWritten (λ q. f q x.0) (so x.0) (p ∷ ps) cs a x.2
 
 changes_ordered : (doc : ℕ) (room : Room) (root : Node) (u : Update) (ps : List Place) (cs : List Changed) → AreApart ps → changes_at doc room root u ps ≡ gives cs → InOrder (IsOf u) cs
-changes_ordered doc room root (assign left operator.Set right) ps cs a h = with_ordered root (right_value doc right (root_place root)) put_at put_so ps cs a h
-changes_ordered doc room root (assign left operator.Modify right) ps cs a h = at_ordered root IsWritten (λ p. and_then (put_at p) (right_value doc right p)) (modify_so doc right) ps cs a h
+changes_ordered doc room root (assign left operator.Set right) ps cs a h = with_ordered root (right_value doc right (root_place root)) put_with_path put_so ps cs a h
+changes_ordered doc room root (assign left operator.Modify right) ps cs a h = at_ordered root IsWritten (λ p. and_then (put_with_path p) (right_value doc right p)) (modify_so doc right) ps cs a h
 changes_ordered doc room root (assign left operator.Add right) ps cs a h = with_ordered root (right_value doc right (root_place root)) add_at add_so ps cs a h
 changes_ordered doc room root (delete left) ps cs a h = at_ordered root IsGone remove_at remove_so ps cs a h
 changes_ordered doc room root (comment left place text) ps cs a h = at_ordered root IsSaid (comment_at room place text) (say_so room place text) ps cs a h
@@ -124,8 +124,8 @@ changes_ordered doc room root (comment left place text) ps cs a h = at_ordered r
 -- what an update changes in a tree stands in order, and is of its kind
 pub update_kind : (u : Update) (doc : ℕ) (room : Room) (root : Node) (cs : List Changed) → IsTree root → changes_in u doc room root ≡ gives cs → InOrder (IsOf u) cs
 update_kind u doc room root cs tree h =
-    let x = then_gives (changes_at doc room root u) (places doc (left_of u) root) cs h in
-    changes_ordered doc room root u x.0 cs (places_apart doc (left_of u) root x.0 tree x.1).apart x.2
+    let x = then_gives (changes_at doc room root u) (places doc (left_pipe u) root) cs h in
+    changes_ordered doc room root u x.0 cs (places_apart doc (left_pipe u) root x.0 tree x.1).apart x.2
 
 -- changes in order, which may be made
 abbrev pub AreOrdered : Bool → List Changed → Type 0

@@ -3,7 +3,7 @@ use Rattle.std.proofs.Common.{◌≡◌, ℕ, List, [], ◌∷◌, Option, Some,
 use Rattle.yq_flow_scalars.specs.Shapes.{IsNew, AreItems, AreEntries, IsTree, AreTrees}
 use Rattle.yq_flow_scalars.specs.Tree as tree
 use Rattle.yq_flow_scalars.specs.Tree.{Label, Node, alias, scalar, list, Children, none, child}
-use Rattle.yq_nodes.specs.Values.{item, entry, items, entries}
+use Rattle.yq_nodes.specs.Values.{plain_label, entry, items, entries}
 use Rattle.yq_meaning.specs.Copies.{key_or_empty, and_others, keyed, copy, item_copies, entry_copies}
 use Rattle.yq_meaning.proofs.updates.Mentions.{AnyMentions, IsPure}
 use Rattle.yq_meaning.specs.Judgement.{gives}
@@ -67,7 +67,7 @@ mutual
   items_free (child label n cs) vs t h =
       let x = then_gives (and_others (item_copies cs)) (copy n) vs h in
       let y = then_gives (λ (rest : List Node). gives (x.0 ∷ rest)) (item_copies cs) vs x.2 in
-      subst (λ (ws : List Node). AreFree (items ws)) (gives_same y.2) (free_child item x.0 (items y.0) (copy_pure n x.0 t.0 x.1) (items_free cs y.0 t.1 y.1))
+      subst (λ (ws : List Node). AreFree (items ws)) (gives_same y.2) (free_child plain_label x.0 (items y.0) (copy_pure n x.0 t.0 x.1) (items_free cs y.0 t.1 y.1))
 
   entries_free : (cs : Children) (es : List (List ℕ × Node)) → AreTrees cs → entry_copies cs ≡ gives es → AreFree (entries es)
   entries_free none es t h = subst (λ (fs : List (List ℕ × Node)). AreFree (entries fs)) (gives_same h) (tt, λ a m. m)

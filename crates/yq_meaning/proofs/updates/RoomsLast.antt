@@ -6,7 +6,7 @@ use Rattle.yq_flow_scalars.specs.Paths.{Step}
 use Rattle.yq_flow_scalars.specs.Tree.{Node}
 use Rattle.yq_documents.specs.Documents.{Document}
 use Rattle.yq_program.specs.declared.program.CommentPlace.TheVariants as comments
-use Rattle.yq_meaning.specs.After.{document_of, after_op}
+use Rattle.yq_meaning.specs.After.{op_document, after_op}
 use Rattle.yq_meaning.specs.Changes as changes
 use Rattle.yq_meaning.specs.Changes.{Addition, appends, overwrites, replaces, adds, sets_comment, Changed, Room, changes_in, changes_from}
 use Rattle.yq_meaning.specs.Fits.{AllFit}
@@ -37,7 +37,7 @@ RemovesMore _ ops = ⊥
 -- each operation leaves items and entries, or is the last one of its document, or removes what isn't the last
 abbrev KeepBlocks : List Operation → Type 0
 KeepBlocks [] = Unit {0}
-KeepBlocks (op ∷ ops) = (KeepsSome op ⊎ (NoneOn (document_of op) ops ⊎ RemovesMore op ops)) × KeepBlocks ops
+KeepBlocks (op ∷ ops) = (KeepsSome op ⊎ (NoneOn (op_document op) ops ⊎ RemovesMore op ops)) × KeepBlocks ops
 
 removes_keeps : (rooms : ℕ → Room) (op : Operation) (ops : List Operation) (docs : List Document) → RemovesMore op ops → AllFit rooms ops docs → KeepsBlockIn op docs
 removes_keeps rooms op ops docs h1 h2 = search (rules, same_Some, option_and_then)
@@ -46,7 +46,7 @@ keep_last : (rooms : ℕ → Room) (ops : List Operation) (docs : List Document)
 keep_last rooms [] docs t f = tt
 keep_last rooms (op ∷ ops) docs t f = (go t.0, keep_last rooms ops (after_op rooms op docs) t.1 f.1)
   where
-    go : KeepsSome op ⊎ (NoneOn (document_of op) ops ⊎ RemovesMore op ops) → KeepsBlockIn op (after_op rooms op docs) ⊎ NoneOn (document_of op) ops
+    go : KeepsSome op ⊎ (NoneOn (op_document op) ops ⊎ RemovesMore op ops) → KeepsBlockIn op (after_op rooms op docs) ⊎ NoneOn (op_document op) ops
     go (inl l) = inl (λ d at. some_keeps_block op l d.root)
     go (inr (inl n)) = inr n
     go (inr (inr r)) = inl (removes_keeps rooms op ops (after_op rooms op docs) r f.1)

@@ -4,18 +4,18 @@ use Rattle.std.proofs.lemmas.Bool.{cond_both}
 use mathlib.Core.List.{nil≢cons}
 use Rattle.yq_flow_scalars.specs.Tree as tree
 use Rattle.yq_flow_scalars.specs.Tree.{Label, Node, Children, none, child, children_of}
-use Rattle.yq_flow_scalars.specs.Paths.{Step, To, is_here, further, change_child, relabel_child, append_child, within, change}
+use Rattle.yq_flow_scalars.specs.Paths.{Step, To, is_here, further, change_child, relabel_child, append_child, within, changed_at}
 use Rattle.yq_documents.specs.Documents.{Document}
 use Rattle.yq_program.specs.declared.program.CommentPlace.TheVariants as comments
 use Rattle.yq_meaning.specs.After.{root_after, done_to}
 use Rattle.yq_meaning.specs.Changes.{Addition, appends, overwrites, replaces, adds, sets_comment, Changed}
 use Rattle.yq_meaning.specs.NodeEdits.{NodeEdits, same_path, step_to, at_once}
-use Rattle.yq_meaning.specs.Meaning.{head_of, line_of, node_edit_of, changed_at_once, IsLed}
+use Rattle.yq_meaning.specs.Meaning.{head_comment_lines, line_comment_text, node_edit_of, changed_at_once, IsLed}
 use Rattle.yq_meaning.specs.Operations.{Operation, replace, append, remove, line_comment, head_comment}
 use Rattle.yq_meaning.specs.Plans.{add_op, change_ops, ops_of, ordered}
 use Rattle.yq_flow_scalars.specs.PathOrder.{Before}
 use Rattle.yq_flow_scalars.specs.Shapes.{IsTree}
-use Rattle.yq_documents.specs.TreeEdits.{replaced, at_end, with_line_comment, with_head_comment, lead_by, with_tree, new_label}
+use Rattle.yq_documents.specs.TreeEdits.{replaced_node, at_end, with_line_comment, with_head_comment, lead_by, with_tree, new_label}
 use Rattle.yq_meaning.specs.Changes as changes
 use Rattle.yq_meaning.proofs.updates.AtOnce.{one_more}
 use Rattle.yq_meaning.proofs.updates.Spares.{idle, spares_root}
@@ -70,12 +70,12 @@ end_keeps g (s ∷ (t ∷ p)) n h = within_keeps (change_child s (at_end (λ r. 
 
 op_keeps_some : (block : Bool) (lead : List (List ℕ)) (op : Operation) → KeepsSome op → (n : Node) → IsNone (children_of (root_after block lead op n)) → IsNone (children_of n)
 op_keeps_some block lead (replace doc [] v) l n h = absurd (nil≢cons l.2)
-op_keeps_some block lead (replace doc (s ∷ p) v) l n h = within_keeps (change_child s (change p (replaced v))) (change_keeps s (change p (replaced v))) n h
+op_keeps_some block lead (replace doc (s ∷ p) v) l n h = within_keeps (change_child s (changed_at p (replaced_node v))) (change_keeps s (changed_at p (replaced_node v))) n h
 op_keeps_some block lead (append doc [] k v) l n h = within_keeps (append_child (new_label k) v) (append_keeps (new_label k) v) n h
-op_keeps_some block lead (append doc (s ∷ p) k v) l n h = within_keeps (change_child s (change p (within (append_child (new_label k) v)))) (change_keeps s (change p (within (append_child (new_label k) v)))) n h
+op_keeps_some block lead (append doc (s ∷ p) k v) l n h = within_keeps (change_child s (changed_at p (within (append_child (new_label k) v)))) (change_keeps s (changed_at p (within (append_child (new_label k) v)))) n h
 op_keeps_some block lead (remove doc path) l n h = absurd l
-op_keeps_some block lead (line_comment doc path text) l n h = end_keeps (with_line_comment (line_of text)) path n h
-op_keeps_some block lead (head_comment doc path text) l n h = end_keeps (with_head_comment (head_of text)) path n h
+op_keeps_some block lead (line_comment doc path text) l n h = end_keeps (with_line_comment (line_comment_text text)) path n h
+op_keeps_some block lead (head_comment doc path text) l n h = end_keeps (with_head_comment (head_comment_lines text)) path n h
 
 ops_leave : (block : Bool) (lead : List (List ℕ)) (ops : List Operation) → AllKeepSome ops → (n : Node) → IsNone (children_of (roots_after block lead ops n)) → IsNone (children_of n)
 ops_leave block lead [] l n h = h

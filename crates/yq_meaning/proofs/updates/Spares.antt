@@ -2,7 +2,7 @@
 use Rattle.std.proofs.Common.{◌≡◌, ℕ, suc, ◌<◌, List, [], ◌∷◌, Option, Some, None, refl, ap, ◌∙◌, inl, inr, rules}
 use Rattle.yq_flow_scalars.specs.Tree.{Label, Node, list, Children, none, child, map}
 use Rattle.yq_flow_scalars.specs.Paths.{Nth, Step}
-use Rattle.yq_meaning.specs.NodeEdits.{step_to, NodeEdit, line, head, goes, NodeEdits, under, done_at, child_by, inside, each_at_once, at_once}
+use Rattle.yq_meaning.specs.NodeEdits.{step_to, NodeEdit, line, head, goes, NodeEdits, under, done_at, child_by, node_edit_inside, each_at_once, at_once}
 use Rattle.yq_flow_scalars.specs.PathOrder.{Before, Apart}
 use Rattle.yq_meaning.proofs.PathLaws.{before_not_in, before_under, apart_under, apart_root, apart_not_in}
 
@@ -55,7 +55,7 @@ abbrev pub child_done : NodeEdits → Label → Node → Children → Children
 child_done f label n rest = child_by (f []) label (at_once f n) rest
 
 mutual
-  idle_inside : (f : NodeEdits) (n : Node) → ((q : List Step) → f q ≡ None) → inside f n ≡ n
+  idle_inside : (f : NodeEdits) (n : Node) → ((q : List Step) → f q ≡ None) → node_edit_inside f n ≡ n
   idle_inside f (list anchor cs) h = ap (list anchor) (idle_each f 0 cs h)
   idle_inside f (map anchor cs) h = ap (map anchor) (idle_each f 0 cs h)
   idle_inside f _ h = refl
@@ -63,8 +63,8 @@ mutual
   idle_each : (f : NodeEdits) (i : ℕ) (cs : Children) → ((q : List Step) → f q ≡ None) → each_at_once f i cs ≡ cs
   idle_each f i none h = refl
   idle_each f i (child label n cs) h =
-      ap (λ (d : Option NodeEdit). child_by d label (done_at d n (inside (under (step_to i label) f) n)) (each_at_once f (suc i) cs)) (h (step_to i label ∷ []))
+      ap (λ (d : Option NodeEdit). child_by d label (done_at d n (node_edit_inside (under (step_to i label) f) n)) (each_at_once f (suc i) cs)) (h (step_to i label ∷ []))
       ∙ (ap (λ m. child label m (each_at_once f (suc i) cs)) (idle_inside (under (step_to i label) f) n (λ q. h (step_to i label ∷ q))) ∙ ap (child label n) (idle_each f (suc i) cs h))
 
 pub idle : (f : NodeEdits) (n : Node) → ((q : List Step) → f q ≡ None) → at_once f n ≡ n
-idle f n h = ap (λ (d : Option NodeEdit). done_at d n (inside f n)) (h []) ∙ idle_inside f n h
+idle f n h = ap (λ (d : Option NodeEdit). done_at d n (node_edit_inside f n)) (h []) ∙ idle_inside f n h

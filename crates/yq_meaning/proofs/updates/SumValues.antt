@@ -7,7 +7,7 @@ use Rattle.yq_flow_scalars.specs.Tree as tree
 use Rattle.yq_flow_scalars.specs.Tree.{Label, Node, alias, scalar, list, Children, none, child}
 use Rattle.yq_flow_scalars.specs.Paths.{To, key_is, child_at, change_child, append_child, append_children}
 use Rattle.yq_meaning.specs.Judgement.{and_then, gives}
-use Rattle.yq_program.specs.Program.{SumHolds, Step, Term, literal, found}
+use Rattle.yq_program.specs.Program.{SumHolds, PathStep, Term, literal, found}
 use Rattle.yq_meaning.specs.Conditions.{node_there, value_of}
 use Rattle.yq_meaning.specs.Copies.{copy_at}
 use Rattle.yq_meaning.proofs.updates.Mentions.{literal_pure, IsPure}
@@ -131,7 +131,7 @@ sum_pure n v w p q h = go (is_null n) (is_null v) h
 at_pure : (p : Place) (v : Node) → IsTree p.node → copy_at p ≡ gives v → IsPure v
 at_pure p v t h = copy_pure (value_of p) v (go p.missing) h
   where
-    go : (missing : List Step) → IsTree (node_there missing p.node)
+    go : (missing : List PathStep) → IsTree (node_there missing p.node)
     go [] = t
     go (m ∷ ms) = tt
 

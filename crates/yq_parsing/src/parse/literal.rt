@@ -3,7 +3,7 @@ ghost use Rattle.std.specs.Prelude.{◌≡◌, ◌<◌, codes, length, map, opti
 ghost use Rattle.yq_parsing.specs.ReadAnswers.{ReadsForm, Shortens, IsShorter, with_tokens};
 ghost use Rattle.yq_parsing.specs.Lexing.{tokens};
 ghost use Rattle.yq_parsing.specs.Parse as spec;
-ghost use Rattle.yq_nodes.specs.Values.{node_of, field_of};
+ghost use Rattle.yq_nodes.specs.Values.{value_node, field_of};
 ghost use Rattle.yq_flow_scalars.specs.Keys.{are_distinct};
 
 use crate::error::ParseError;
@@ -31,9 +31,9 @@ fn word(text: &str) -> Option<(&'static str, &str)>
 }
 
 /// A scalar.
-#[tactic(auto, unfolding(crate::specs::Parse::scalar_at))]
+#[tactic(auto, unfolding(crate::specs::Parse::parse_scalar))]
 pub(super) fn scalar(alloc: Global, text: &str) -> Result<(Scalar, &str), ParseError>
-    ensures value { ReadsForm (λ s. s) result (spec.scalar_at (tokens text.now)) }
+    ensures value { ReadsForm (λ s. s) result (spec.parse_scalar (tokens text.now)) }
     ensures shorter { Shortens text.now result }
 {
     if let Some((digits, rest)) = number(text) {
@@ -69,7 +69,7 @@ fn keys_differ(alloc: Global, fields: &Vec<(String, Value)>) -> Result<bool, All
 
 /// A scalar as a value.
 fn scalar_value(alloc: Global, text: &str) -> Result<(Value, &str), ParseError>
-    ensures value { ReadsForm node_of result (spec.scalar_node_at (tokens text.now)) }
+    ensures value { ReadsForm value_node result (spec.scalar_node_at (tokens text.now)) }
     ensures shorter { Shortens text.now result }
 {
     scalar(alloc, text).map(|(scalar, rest)| (Value::Scalar(scalar), rest))
@@ -79,7 +79,7 @@ fn scalar_value(alloc: Global, text: &str) -> Result<(Value, &str), ParseError>
 #[cycle(literal)]
 #[tactic(auto, unfolding(crate::specs::Parse::literal_at))]
 pub(super) fn literal(alloc: Global, text: &str, depth: usize) -> Result<(Value, &str), ParseError>
-    ensures value { ReadsForm node_of result (spec.literal_at depth (tokens text.now)) }
+    ensures value { ReadsForm value_node result (spec.literal_at depth (tokens text.now)) }
     ensures shorter { Shortens text.now result }
 {
     if depth == 0 {
@@ -102,7 +102,7 @@ pub(super) fn literal(alloc: Global, text: &str, depth: usize) -> Result<(Value,
 /// The items of a list, from behind its opening bracket.
 #[cycle(literal)]
 fn list(alloc: Global, text: &str, depth: usize) -> Result<(Vec<Value>, &str), ParseError>
-    ensures value { ReadsForm (λ v. map node_of v.items) result (spec.listed_at (codes "]")
+    ensures value { ReadsForm (λ v. map value_node v.items) result (spec.listed_at (codes "]")
         (spec.literal_at depth) (tokens text.now)) }
     ensures shorter { Shortens text.now result }
 {

@@ -3,7 +3,7 @@ ghost use Rattle.std.specs.Prelude.{◌≡◌, ◌<◌, ◌≤◌, vec_len, leng
 ghost use Rattle.yq_parsing.specs.ReadAnswers.{GivesForm, ReadsForm, ReadsMaybe, Shortens, IsShorter, with_tokens};
 ghost use Rattle.yq_parsing.specs.Lexing.{tokens};
 ghost use Rattle.yq_parsing.specs.Parse as spec;
-ghost use Rattle.yq_program.specs.View.{step_of};
+ghost use Rattle.yq_program.specs.View.{program_step};
 
 use crate::error::ParseError;
 use crate::front::{after, closed, key, number, string};
@@ -14,7 +14,7 @@ use yq_program::Step;
 /// A step in brackets, from behind the opening one.
 #[tactic(auto, unfolding(crate::specs::Parse::bracketed_at))]
 fn bracketed(alloc: Global, text: &str) -> Result<(Step, &str), ParseError>
-    ensures value { ReadsForm step_of result (spec.bracketed_at (tokens text.now)) }
+    ensures value { ReadsForm program_step result (spec.bracketed_at (tokens text.now)) }
     ensures shorter { Shortens text.now result }
 {
     if let Some(rest) = after(text, "]") {
@@ -30,7 +30,7 @@ fn bracketed(alloc: Global, text: &str) -> Result<(Step, &str), ParseError>
 
 /// A step in brackets, if an opening one is in front.
 fn bracket(alloc: Global, text: &str) -> Result<Option<(Step, &str)>, ParseError>
-    ensures value { ReadsMaybe step_of result (spec.bracket_at (tokens text.now)) }
+    ensures value { ReadsMaybe program_step result (spec.bracket_at (tokens text.now)) }
     ensures shorter { IfOk result (λ o. IsShorter text.now o) }
 {
     match after(text, "[") {
@@ -42,7 +42,7 @@ fn bracket(alloc: Global, text: &str) -> Result<Option<(Step, &str)>, ParseError
 /// A step of a path, if one is in front.
 #[tactic(auto, unfolding(crate::specs::Parse::step_at))]
 fn next_step(alloc: Global, text: &str) -> Result<Option<(Step, &str)>, ParseError>
-    ensures value { ReadsMaybe step_of result (spec.step_at (tokens text.now)) }
+    ensures value { ReadsMaybe program_step result (spec.step_at (tokens text.now)) }
     ensures shorter { IfOk result (λ o. IsShorter text.now o) }
 {
     if let Some((key, rest)) = key(alloc, text)? {
@@ -56,7 +56,7 @@ fn next_step(alloc: Global, text: &str) -> Result<Option<(Step, &str)>, ParseErr
 
 /// The steps in front, all of them.
 fn steps(alloc: Global, text: &str) -> Result<(Vec<Step>, &str), ParseError>
-    ensures value { ReadsForm (λ v. map step_of v.items) result
+    ensures value { ReadsForm (λ v. map program_step v.items) result
         (spec.many spec.step_at (tokens text.now)) }
     ensures within { IfOk result (λ x. length x.1.now ≤ length text.now) }
     ensures shorter { IfOk result (λ x. 0 < vec_len x.0 → length x.1.now < length text.now) }
@@ -77,7 +77,7 @@ fn steps(alloc: Global, text: &str) -> Result<(Vec<Step>, &str), ParseError>
 /// A path: its steps, none for `.`.
 #[tactic(auto, unfolding(crate::specs::Parse::path_at))]
 pub(super) fn path(alloc: Global, text: &str) -> Result<(Vec<Step>, &str), ParseError>
-    ensures value { ReadsForm (λ v. map step_of v.items) result (spec.path_at (tokens text.now)) }
+    ensures value { ReadsForm (λ v. map program_step v.items) result (spec.path_at (tokens text.now)) }
     ensures shorter { Shortens text.now result }
 {
     if after(text, "[").is_some() {

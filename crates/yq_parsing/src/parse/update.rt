@@ -110,9 +110,9 @@ fn action(alloc: Global, left: Vec<Stage>, text: &str) -> Result<(Update, &str),
 }
 
 /// An update.
-#[tactic(auto, unfolding(crate::specs::Parse::update_at))]
+#[tactic(auto, unfolding(crate::specs::Parse::parse_update))]
 fn update(alloc: Global, text: &str) -> Result<(Update, &str), ParseError>
-    ensures value { ReadsForm update_of result (spec.update_at literal_depth (tokens text.now)) }
+    ensures value { ReadsForm update_of result (spec.parse_update literal_depth (tokens text.now)) }
     ensures shorter { Shortens text.now result }
 {
     if let Some(rest) = after(text, "del") {
@@ -126,7 +126,7 @@ fn update(alloc: Global, text: &str) -> Result<(Update, &str), ParseError>
 /// Updates, one after the other.
 pub(super) fn updates(alloc: Global, text: &str) -> Result<(Vec<Update>, &str), ParseError>
     ensures value { ReadsForm (λ v. map update_of v.items) result
-        (spec.parted_at (codes "|") (spec.update_at literal_depth) (tokens text.now)) }
+        (spec.parted_at (codes "|") (spec.parse_update literal_depth) (tokens text.now)) }
     ensures shorter { Shortens text.now result }
 {
     let mut found = Vec::new(alloc);

@@ -11,7 +11,7 @@ ghost use Rattle.yq_program.specs.Tokens.{is_name_byte};
 use super::Form;
 
 fn is_escape(b: u8) -> bool
-    ensures { result ≡ is_some (grammar.escape b) }
+    ensures { result ≡ is_some (grammar.escaped_character b) }
 {
     matches!(b, b'"' | b'\\' | b'n' | b't' | b'r')
 }
@@ -129,7 +129,7 @@ fn is_scalar_word(name: &[u8]) -> bool
 }
 
 fn is_word(name: &[u8]) -> bool
-    ensures { result ≡ grammar.is_word name.now }
+    ensures { result ≡ grammar.is_keyword name.now }
 {
     is_call_word(name) || is_place_word(name) || is_scalar_word(name)
 }
@@ -156,7 +156,7 @@ fn dotted(text: &[u8]) -> Option<(Form, usize)>
 }
 
 fn named(text: &[u8]) -> Option<(Form, usize)>
-    ensures { result ≡ spec.named text.now }
+    ensures { result ≡ spec.read_word text.now }
 {
     let len = name_len(text);
     let form = if is_word(text.split_at(len).0) {
@@ -168,7 +168,7 @@ fn named(text: &[u8]) -> Option<(Form, usize)>
 }
 
 fn is_mark(b: u8) -> bool
-    ensures { result ≡ grammar.is_mark b }
+    ensures { result ≡ grammar.is_mark_character b }
 {
     matches!(
         b,
@@ -230,9 +230,9 @@ fn is_negative(first: u8, rest: &[u8]) -> bool
 }
 
 /// The form and the length of the token in front.
-#[tactic(auto, unfolding(crate::specs::Lexing::measure))]
+#[tactic(auto, unfolding(crate::specs::Lexing::token_measure))]
 pub(super) fn measure(text: &[u8]) -> Option<(Form, usize)>
-    ensures { result ≡ spec.measure text.now }
+    ensures { result ≡ spec.token_measure text.now }
 {
     let [first, rest @ ..] = text else {
         return None;

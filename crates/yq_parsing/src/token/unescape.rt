@@ -20,7 +20,7 @@ pub(super) fn skip(text: &str, n: usize) -> &str
 
 /// What follows the character, if it is in front.
 pub(super) fn past_quote(text: &str) -> &str
-    ensures { result.now ≡ spec.past 34 text.now }
+    ensures { result.now ≡ spec.past_character 34 text.now }
 {
     match text.as_bytes() {
         [b'"', ..] => skip(text, 1),
@@ -29,7 +29,7 @@ pub(super) fn past_quote(text: &str) -> &str
 }
 
 pub(super) fn past_dot(text: &str) -> &str
-    ensures { result.now ≡ spec.past 46 text.now }
+    ensures { result.now ≡ spec.past_character 46 text.now }
 {
     match text.as_bytes() {
         [b'.', ..] => skip(text, 1),
@@ -38,13 +38,13 @@ pub(super) fn past_dot(text: &str) -> &str
 }
 
 fn is_plain(b: u8) -> bool
-    ensures { result ≡ spec.is_plain b }
+    ensures { result ≡ spec.is_plain_byte b }
 {
     b != b'"' && b != b'\\'
 }
 
 fn plain_len(text: &[u8]) -> usize
-    ensures value { result ≡ prefix_len spec.is_plain text.now }
+    ensures value { result ≡ prefix_len spec.is_plain_byte text.now }
     ensures within { result ≤ length text.now }
 {
     let mut n = 0;
@@ -57,13 +57,13 @@ fn plain_len(text: &[u8]) -> usize
 /// The text cut before the first quote or backslash.
 #[tactic(auto, using(crate::proofs::Content::boundary_plain, yq_flow_scalars::proofs::Upto::upto_unless))]
 fn split_plain(text: &str) -> (&str, &str)
-    ensures { (result.0.now, result.1.now) ≡ cut (unless spec.is_plain) text.now }
+    ensures { (result.0.now, result.1.now) ≡ cut (unless spec.is_plain_byte) text.now }
 {
     text.split_at(plain_len(text.as_bytes()))
 }
 
 fn escape(b: u8) -> Option<&'static str>
-    ensures { option_map (λ s. s.now) result ≡ option_map (λ c. c ∷ []) (grammar.escape b) }
+    ensures { option_map (λ s. s.now) result ≡ option_map (λ c. c ∷ []) (grammar.escaped_character b) }
 {
     match b {
         b'"' => Some("\""),
@@ -92,7 +92,7 @@ fn split_escape(text: &str) -> Option<(&'static str, &str)>
 
 /// The content of a string, from behind its opening quote.
 pub(super) fn content(alloc: Global, text: &str) -> Result<String, AllocError>
-    ensures { IfOk result (λ s. string_bytes s ≡ spec.content text.now) }
+    ensures { IfOk result (λ s. string_bytes s ≡ spec.string_content text.now) }
 {
     let mut out = String::new(alloc);
     let mut rest = text;

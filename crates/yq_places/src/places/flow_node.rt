@@ -1,6 +1,6 @@
 //! Flow collections at paths, with their places.
 ghost use Rattle.std.specs.Prelude.{map, IfOk, IfSome};
-ghost use Rattle.yq_nodes.specs.Entries.{step_of};
+ghost use Rattle.yq_nodes.specs.Entries.{tree_step};
 ghost use Rattle.yq_documents.specs.Reading.{cut_of};
 ghost use Rattle.yq_row_places.specs.FlowNodes.{flow_collection};
 ghost use Rattle.yq_row_places.specs.FlowViews as spec;
@@ -21,9 +21,9 @@ impl<'t> CutText<'_, 't> {
         steps: &'s [Step],
     ) -> Result<Option<FlowHead<'s, 't>>, AllocError>
         ensures found { IfOk result (spec.FlowAgrees self.now (flow_collection doc
-            (map step_of steps.now) (cut_of self.now))) }
+            (map tree_step steps.now) (cut_of self.now))) }
         ensures whole { IfOk result (λ o. IfSome o (spec.IsHeadFor self.now (cut_of self.now) doc
-            (map step_of steps.now))) }
+            (map tree_step steps.now))) }
     {
         let _whole = self.whole();
         let rows = self.rows();

@@ -1,6 +1,6 @@
 //! What the nodes at paths are, each read from the rows that tell it.
 ghost use Rattle.std.specs.Prelude.{◌≡◌, map, option_and_then, option_map, false, IfOk, None};
-ghost use Rattle.yq_nodes.specs.Entries.{step_of};
+ghost use Rattle.yq_nodes.specs.Entries.{tree_step};
 ghost use Rattle.yq_documents.specs.Located.{steps_of};
 ghost use Rattle.yq_documents.specs.Reading.{cut_of};
 ghost use Rattle.yq_row_places.specs.NodesAt as spec;
@@ -23,7 +23,7 @@ impl<'t> CutText<'_, 't> {
         steps: &[Step],
     ) -> Result<Option<NodeAt<'t>>, AllocError>
         ensures { IfOk result (λ o. option_map spec.node_view o ≡
-            option_map spec.node_summary (spec.node_in doc (map step_of steps.now)
+            option_map spec.node_summary (spec.node_in doc (map tree_step steps.now)
             (cut_of self.now))) }
     {
         let _whole = self.whole();

@@ -1,6 +1,6 @@
 //! What is taken out of a text with an item or entry of a block collection.
 ghost use Rattle.std.specs.Prelude.{◌≡◌, ◌<◌, ◌-◌, Option, option_map, Some};
-ghost use Rattle.yq_text.specs.Halves.{whole};
+ghost use Rattle.yq_text.specs.Halves.{halves_text};
 ghost use Rattle.yq_documents.specs.Located.{steps_of};
 ghost use Rattle.yq_documents.specs.Reading.{cut_of};
 ghost use Rattle.yq_row_places.specs.RemovalPlaces as spec;
@@ -16,7 +16,7 @@ impl<'t> CutText<'_, 't> {
     /// begin.
     fn own(&self, path: &Path) -> Option<(usize, usize, usize)>
         ensures { option_map (λ m. (m.0, m.1, m.2)) result ≡
-            reading.marks_at path.now.doc (steps_of path.now) (cut_of self.now) }
+            reading.mark_counts path.now.doc (steps_of path.now) (cut_of self.now) }
     {
         let document = self.stretch(path.doc)?;
         let _whole = self.whole();

@@ -1,6 +1,6 @@
 //! A value that is added to a node.
 ghost use Rattle.std.specs.Prelude.{◌≡◌, IfOk, None, Some, map, false};
-ghost use Rattle.yq_nodes.specs.Values.{entries_of, node_of as value_node, items_of};
+ghost use Rattle.yq_nodes.specs.Values.{entries_of, value_node, items_of};
 ghost use Rattle.yq_flow_scalars.specs.Tree.{Children, children_of, none, scalar};
 ghost use Rattle.yq_document_nodes.specs.Nodes.{node_of};
 ghost use Rattle.yq_meaning.specs.Changes as spec;

@@ -1,7 +1,7 @@
 //! Changes that can't be written: with too long a key, or nested too deep.
 ghost use Rattle.std.specs.List.{list_any};
 ghost use Rattle.std.specs.Prelude.{◌≡◌, ◌||◌, IfOk, Some, suc};
-ghost use Rattle.yq_nodes.specs.Values.{node_of};
+ghost use Rattle.yq_nodes.specs.Values.{value_node};
 ghost use Rattle.yq_meaning.specs.Changes as spec;
 ghost use Rattle.yq_planning.specs.ChangeView.{addition_of, change_of};
 
@@ -12,8 +12,8 @@ use yq_nodes::Value;
 
 /// Whether a key or one in a value is too long.
 fn is_long_entry(alloc: Global, key: &str, value: &Value) -> Result<bool, AllocError>
-    ensures { IfOk result (λ b. b ≡ (spec.is_long (Some key.now) || spec.has_long_key
-        (node_of value.now))) }
+    ensures { IfOk result (λ b. b ≡ (spec.is_overlong_key (Some key.now) || spec.has_long_key
+        (value_node value.now))) }
 {
     if is_long_key(alloc, key)? {
         return Ok(true);

@@ -9,7 +9,7 @@ use yq_program::{CommentPlace, Update};
 
 /// Whether a line comment can have a text: no character is a break.
 fn is_line(text: &str) -> bool
-    ensures { result ≡ spec.is_comment CommentPlace.Line text.now }
+    ensures { result ≡ spec.can_be_comment CommentPlace.Line text.now }
 {
     text.chars()
         .all(|c| is_text_char(c) && c != '\n' && c != '\r')
@@ -17,7 +17,7 @@ fn is_line(text: &str) -> bool
 
 /// Whether a head comment can have a text: its lines are parted by LF.
 fn is_head(text: &str) -> bool
-    ensures { result ≡ spec.is_comment CommentPlace.Head text.now }
+    ensures { result ≡ spec.can_be_comment CommentPlace.Head text.now }
 {
     text.chars().all(|c| is_text_char(c) && c != '\r')
 }

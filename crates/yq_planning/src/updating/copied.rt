@@ -1,6 +1,6 @@
 //! Copies of values, which own all that they hold.
 ghost use Rattle.std.specs.Prelude.{◌≡◌, IfOk, map};
-ghost use Rattle.yq_nodes.specs.Values.{field_of, node_of};
+ghost use Rattle.yq_nodes.specs.Values.{field_of, value_node};
 
 use std::alloc::{AllocError, Global};
 use yq_nodes::Value;
@@ -8,7 +8,7 @@ use yq_nodes::Value;
 /// The same value again.
 #[cycle(copied)]
 pub fn copied(alloc: Global, value: &Value) -> Result<Value, AllocError>
-    ensures { IfOk result (λ v. node_of v ≡ node_of value.now) }
+    ensures { IfOk result (λ v. value_node v ≡ value_node value.now) }
 {
     match value {
         Value::Scalar(scalar) => Ok(Value::Scalar(scalar.copy(alloc)?)),
@@ -20,7 +20,7 @@ pub fn copied(alloc: Global, value: &Value) -> Result<Value, AllocError>
 /// The same items again.
 #[cycle(copied)]
 fn copied_items(alloc: Global, items: &Vec<Value>) -> Result<Vec<Value>, AllocError>
-    ensures { IfOk result (λ v. map node_of v.items ≡ map node_of items.now.items) }
+    ensures { IfOk result (λ v. map value_node v.items ≡ map value_node items.now.items) }
 {
     let mut copies = Vec::new(alloc);
     'each: for item in items {

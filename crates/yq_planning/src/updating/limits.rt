@@ -1,6 +1,6 @@
 //! What can't be written: values with too long a key, or nested too deep.
 ghost use Rattle.std.specs.Prelude.{◌≡◌, IfOk, nat_lt, suc};
-ghost use Rattle.yq_nodes.specs.Values.{entries_of, items_of, node_of};
+ghost use Rattle.yq_nodes.specs.Values.{entries_of, items_of, value_node};
 ghost use Rattle.yq_flow_scalars.specs.Keys.{deepest, depth};
 ghost use Rattle.yq_meaning.specs.Changes as spec;
 
@@ -30,7 +30,7 @@ pub(crate) fn is_long_key(alloc: Global, key: &str) -> Result<bool, AllocError>
 /// Whether a value has too long a key.
 #[cycle(long)]
 pub(crate) fn holds_long_key(alloc: Global, value: &Value) -> Result<bool, AllocError>
-    ensures { IfOk result (λ b. b ≡ spec.has_long_key (node_of value.now)) }
+    ensures { IfOk result (λ b. b ≡ spec.has_long_key (value_node value.now)) }
 {
     match value {
         Value::Scalar(_) => Ok(false),
@@ -71,7 +71,7 @@ fn some_has_long_key(alloc: Global, entries: &Vec<(String, Value)>) -> Result<bo
 /// Whether more than so many collections are nested in a value.
 #[cycle(deeper)]
 fn is_deeper(value: &Value, limit: usize) -> bool
-    ensures { result ≡ nat_lt limit (depth (node_of value.now)) }
+    ensures { result ≡ nat_lt limit (depth (value_node value.now)) }
 {
     match value {
         Value::Scalar(_) => false,
@@ -118,14 +118,14 @@ fn some_value_is_deeper(entries: &Vec<(String, Value)>, limit: usize) -> bool
 
 /// Whether so many collections, and those of a value in them, are too many.
 pub(crate) fn is_deep(outer: usize, value: &Value) -> bool
-    ensures { result ≡ spec.is_deep outer (node_of value.now) }
+    ensures { result ≡ spec.is_deep outer (value_node value.now) }
 {
     outer > DEPTH_LIMIT || is_deeper(value, DEPTH_LIMIT - outer)
 }
 
 /// The same of a value in one collection more.
 pub(crate) fn is_deep_inside(outer: usize, value: &Value) -> bool
-    ensures { result ≡ spec.is_deep (suc outer) (node_of value.now) }
+    ensures { result ≡ spec.is_deep (suc outer) (value_node value.now) }
 {
     outer >= DEPTH_LIMIT || is_deeper(value, DEPTH_LIMIT - 1 - outer)
 }

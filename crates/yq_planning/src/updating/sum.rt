@@ -1,7 +1,7 @@
 //! Sums of values (yq manual, `+`).
 ghost use Rattle.std.specs.Fmt.{signed_decimal};
 ghost use Rattle.std.specs.Prelude.{◌≡◌, ◌++◌, IfOk, None, OnOk, Some, map, option_map, string_bytes};
-ghost use Rattle.yq_nodes.specs.Values.{entries_of, field_of, items_of, node_of};
+ghost use Rattle.yq_nodes.specs.Values.{entries_of, field_of, items_of, value_node};
 ghost use Rattle.yq_flow_scalars.specs.SchemaReading as numbers;
 ghost use Rattle.yq_flow_scalars.specs.Tree.{scalar};
 ghost use Rattle.yq_flow_scalars.specs.declared.kind.Kind.TheVariants.{Int, Text};
@@ -19,7 +19,7 @@ use yq_nodes::Value;
 
 /// The int of a number.
 fn int(alloc: Global, number: i64) -> Result<Value, AllocError>
-    ensures { IfOk result (λ v. node_of v ≡ scalar None Int (signed_decimal number)) }
+    ensures { IfOk result (λ v. value_node v ≡ scalar None Int (signed_decimal number)) }
 {
     let text = number.to_string(alloc)?;
     Ok(Value::Scalar(Scalar::of_kind(Kind::Int, text)))
@@ -27,7 +27,7 @@ fn int(alloc: Global, number: i64) -> Result<Value, AllocError>
 
 /// The sum of two ints.
 fn int_sum(alloc: Global, one: &str, other: &str) -> Result<Value, ExprError>
-    ensures { Judges node_of result (spec.int_sum (numbers.int_value one.now)
+    ensures { Judges value_node result (spec.int_sum (numbers.int_value one.now)
         (numbers.int_value other.now)) }
 {
     let (Some(m), Some(n)) = (int_value(one), int_value(other)) else {
@@ -41,7 +41,7 @@ fn int_sum(alloc: Global, one: &str, other: &str) -> Result<Value, ExprError>
 
 /// One string behind another.
 fn text_sum(alloc: Global, one: &str, other: &str) -> Result<Value, AllocError>
-    ensures { IfOk result (λ v. node_of v ≡ scalar None Text (one.now ++ other.now)) }
+    ensures { IfOk result (λ v. value_node v ≡ scalar None Text (one.now ++ other.now)) }
 {
     let mut text = String::from_str(alloc, one)?;
     text.push_str(other)?;
@@ -50,7 +50,7 @@ fn text_sum(alloc: Global, one: &str, other: &str) -> Result<Value, AllocError>
 
 /// The sum of two scalars, neither of which is null.
 pub fn scalar_sum(alloc: Global, kind: Kind, text: &str, other: &Scalar) -> Result<Value, ExprError>
-    ensures { Judges node_of result (spec.scalar_sum kind text.now other.now.kind other.now.text) }
+    ensures { Judges value_node result (spec.scalar_sum kind text.now other.now.kind other.now.text) }
 {
     match (kind, other.kind()) {
         (Kind::Int, Kind::Int) => int_sum(alloc, text, other.text()),
@@ -64,7 +64,7 @@ pub fn scalar_sum(alloc: Global, kind: Kind, text: &str, other: &Scalar) -> Resu
 
 /// Whether a value is null.
 pub fn is_null(value: &Value) -> bool
-    ensures { result ≡ spec.is_null (node_of value.now) }
+    ensures { result ≡ spec.is_null (value_node value.now) }
 {
     match value {
         Value::Scalar(scalar) => scalar.kind() == Kind::Null,
@@ -76,7 +76,7 @@ pub fn is_null(value: &Value) -> bool
 /// or the value as one item.
 fn push_items(items: &mut Vec<Value>, value: Value) -> Result<(), AllocError>
     ensures { OnOk result (items_of items.new.items ≡ append_children (items_of items.old.items)
-        (spec.as_items (node_of value))) }
+        (spec.as_items (value_node value))) }
 {
     match value {
         Value::List(others) => push_all(items, others),
@@ -107,7 +107,7 @@ fn put_entry(
 ) -> Result<(), AllocError>
     requires { AreNumbered (map field_of entries.old.items) numbers.old }
     ensures entries { OnOk result (entries_of entries.new.items ≡
-        spec.with_entry (Some (string_bytes key)) (node_of value) (entries_of entries.old.items)) }
+        spec.with_entry (Some (string_bytes key)) (value_node value) (entries_of entries.old.items)) }
     ensures numbers { OnOk result (AreNumbered (map field_of entries.new.items) numbers.new) }
 {
     match number_of(numbers, key.as_str()) {
@@ -141,7 +141,7 @@ fn put_entries(
 
 /// The sum of two values, neither of which is null.
 fn value_sum(alloc: Global, one: Value, other: Value) -> Result<Value, ExprError>
-    ensures { Judges node_of result (spec.value_sum (node_of one) (node_of other)) }
+    ensures { Judges value_node result (spec.value_sum (value_node one) (value_node other)) }
 {
     match (one, other) {
         (Value::Scalar(scalar), Value::Scalar(added)) => {
@@ -163,7 +163,7 @@ fn value_sum(alloc: Global, one: Value, other: Value) -> Result<Value, ExprError
 
 /// The sum of two values.
 pub fn sum(alloc: Global, one: Value, other: Value) -> Result<Value, ExprError>
-    ensures { Judges node_of result (spec.sum (node_of one) (node_of other)) }
+    ensures { Judges value_node result (spec.sum (value_node one) (value_node other)) }
 {
     if is_null(&one) {
         return Ok(other);

@@ -1,11 +1,11 @@
 //! Where the contents of nodes stand outside flow collections.
 ghost use Rattle.std.specs.Prelude.{◌≡◌, map, option_map};
-ghost use Rattle.yq_nodes.specs.Entries.{step_of};
+ghost use Rattle.yq_nodes.specs.Entries.{tree_step};
 ghost use Rattle.yq_row_places.specs.EntryReading as spec;
 ghost use Rattle.yq_lines.specs.Extents.{IsRowsView};
 ghost use Rattle.yq_lines.specs.RowWalk.{AreKnown, HasDocument, IsPosition, lines_stop};
 ghost use Rattle.yq_row_places.specs.RowWalk.{InEach};
-ghost use Rattle.yq_lines.specs.Lines.{lines_of};
+ghost use Rattle.yq_lines.specs.Lines.{lines_of_rows};
 ghost use Rattle.yq_documents.specs.Pieces.{span};
 
 use crate::places::entry_place::lines_place;
@@ -31,7 +31,7 @@ fn lines_content(
     requires known { AreKnown rows.now.rows known }
     requires from { IsPosition rows.now document from }
     ensures { InEach rows.now document (λ first c rs n. option_map span result ≡
-        spec.lines_content first c rs (n from) (lines_stop (n from) floor (lines_of rs))) }
+        spec.lines_content first c rs (n from) (lines_stop (n from) floor (lines_of_rows rs))) }
 {
     if !is_deeper(rows, document, from, floor) {
         return None;
@@ -54,7 +54,7 @@ pub fn content_of(
     requires document { HasDocument rows.now document }
     requires known { AreKnown rows.now.rows known }
     ensures { InEach rows.now document (λ first c rs n. option_map span result ≡
-        spec.line_content_of first c rs (map step_of steps.now)) }
+        spec.line_content_of first c rs (map tree_step steps.now)) }
 {
     let (place, left) = node_place(rows, document, known, None, steps)?;
     if !left.is_empty() {

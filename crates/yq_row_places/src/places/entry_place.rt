@@ -1,6 +1,6 @@
 //! Where entries and items stand in block collections.
 ghost use Rattle.std.specs.Prelude.{◌≡◌, ◌<◌, ◌-◌, map, option_map, Some};
-ghost use Rattle.yq_nodes.specs.Entries.{step_of};
+ghost use Rattle.yq_nodes.specs.Entries.{tree_step};
 ghost use Rattle.yq_row_places.specs.EntryReading as spec;
 ghost use Rattle.yq_lines.specs.Extents.{IsRowsView};
 ghost use Rattle.yq_lines.specs.RowWalk.{AreKnown, AreLinesTo, HasDocument};
@@ -40,7 +40,7 @@ pub fn entry_of(
     requires document { HasDocument rows.now document }
     requires known { AreKnown rows.now.rows known }
     ensures { InEach rows.now document (λ first c rs n. option_map span result ≡
-        spec.line_entry_of first c rs (map step_of steps.now)) }
+        spec.line_entry_of first c rs (map tree_step steps.now)) }
 {
     let at = line_at(rows, document, known, steps)?;
     let to = behind(rows, document, at);

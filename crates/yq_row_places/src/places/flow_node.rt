@@ -1,7 +1,7 @@
 //! Flow collections at paths, with their places.
 ghost use Rattle.std.specs.Prelude.{◌≡◌, map, option_map};
-ghost use Rattle.yq_nodes.specs.Entries.{step_of};
-ghost use Rattle.yq_nodes.specs.View.{view};
+ghost use Rattle.yq_nodes.specs.Entries.{tree_step};
+ghost use Rattle.yq_nodes.specs.View.{inline_view};
 ghost use Rattle.yq_row_places.specs.FlowViews as spec;
 
 use yq_nodes::{Form, Inline, Step};
@@ -21,8 +21,8 @@ pub struct FlowHead<'s, 't> {
 
 /// The flow collection to which steps lead in a node.
 pub fn collection_along<'d, 't>(node: &'d Inline<'t>, steps: &[Step]) -> Option<&'d Inline<'t>>
-    ensures { option_map (λ n. spec.behind_anchor (view n.now)) result ≡
-        spec.collection_along (map step_of steps.now) (view node.now) }
+    ensures { option_map (λ n. spec.behind_anchor (inline_view n.now)) result ≡
+        spec.collection_along (map tree_step steps.now) (inline_view node.now) }
 {
     let entry = node.entry(steps)?;
     match &entry.node.form {

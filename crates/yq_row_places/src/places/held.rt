@@ -1,9 +1,9 @@
 //! Keys and dashes of a text, with what they hold.
 ghost use Rattle.std.specs.Prelude.{◌≡◌, ◌≤◌, ◌+◌, ◌||◌, length, not};
-ghost use Rattle.yq_text.specs.Halves.{whole};
+ghost use Rattle.yq_text.specs.Halves.{halves_text};
 ghost use Rattle.yq_text.specs.Limit.{text_limit};
 ghost use Rattle.yq_flow_scalars.specs.Text.{is_empty};
-ghost use Rattle.yq_cut.specs.View.{view};
+ghost use Rattle.yq_cut.specs.View.{row_view};
 ghost use Rattle.yq_lines.specs.RowWalk.{line_column};
 ghost use Rattle.yq_row_places.specs.RowPieces as pieces;
 ghost use Rattle.yq_row_places.specs.Standings as spec;
@@ -57,10 +57,10 @@ pub struct Held<'t> {
 
 /// The key or dash of a line of a row that ends with a comment, or with none.
 pub fn mark_of(row: &Row<'_>, line: usize, keyed: bool, comment: &str) -> Mark
-    requires { (view row.now).column + length (view row.now).dashes ≤ text_limit }
-    ensures column { result.column ≡ line_column line (view row.now) }
+    requires { (row_view row.now).column + length (row_view row.now).dashes ≤ text_limit }
+    ensures column { result.column ≡ line_column line (row_view row.now) }
     ensures keyed { result.keyed ≡ keyed }
-    ensures noted { result.noted ≡ (not (is_empty (view row.now).anchor) ||
+    ensures noted { result.noted ≡ (not (is_empty (row_view row.now).anchor) ||
         not (is_empty comment.now)) }
 {
     Mark {
@@ -72,14 +72,14 @@ pub fn mark_of(row: &Row<'_>, line: usize, keyed: bool, comment: &str) -> Mark
 
 /// Whether a row has a key.
 fn has_key(row: &Row<'_>) -> bool
-    ensures { result ≡ not (is_empty (view row.now).colon) }
+    ensures { result ≡ not (is_empty (row_view row.now).colon) }
 {
     !row.colon().is_empty()
 }
 
 /// The white space before the head of a row. Without a head there is none, it is in the tail.
 fn space_before<'t>(row: &Row<'t>) -> &'t str
-    ensures { result.now ≡ pieces.space_before (view row.now) }
+    ensures { result.now ≡ pieces.space_before (row_view row.now) }
 {
     if row.anchor().is_empty() {
         row.space()
@@ -90,8 +90,8 @@ fn space_before<'t>(row: &Row<'t>) -> &'t str
 
 /// What the key or dash of rows holds.
 pub fn held_in<'t>(rows: &Rows<'t>, text: Halves<'t>, at: RowsOfEntry) -> Held<'t>
-    requires { HasEntry (whole text) rows.now at }
-    ensures { (e : spec.RowsOfEntry) → IsEntryIn (whole text.entry) rows.now e at →
+    requires { HasEntry (halves_text text) rows.now at }
+    ensures { (e : spec.RowsOfEntry) → IsEntryIn (halves_text text.entry) rows.now e at →
         row_agrees.held_view result ≡ spec.held e }
 {
     is_text(text);

@@ -5,7 +5,7 @@ ghost use Rattle.yq_cut.specs.Rows.{Cut, Row as RowOf};
 ghost use Rattle.yq_cut.specs.View.{rows_of, rows_view};
 ghost use Rattle.yq_documents.specs.RowReading.{is_block_head};
 ghost use Rattle.yq_lines.specs.Extents.{IsRowsView};
-ghost use Rattle.yq_row_places.specs.CommentPlaces.{end_before};
+ghost use Rattle.yq_row_places.specs.CommentPlaces.{end_in_line};
 ghost use Rattle.yq_row_places.specs.StandingViews as row_agrees;
 
 use yq_cut::Rows;
@@ -34,8 +34,8 @@ impl<'t> HeldRow<'t> {
     /// The white space that ends its line, or stands before the line's comment, and that comment, if the
     /// line has one.
     pub fn line_end(&self) -> (&'t str, &'t str)
-        ensures white { result.0.now ≡ (end_before [] self.now.tail.now).white }
-        ensures comment { result.1.now ≡ (end_before [] self.now.tail.now).comment }
+        ensures white { result.0.now ≡ (end_in_line [] self.now.tail.now).white }
+        ensures comment { result.1.now ≡ (end_in_line [] self.now.tail.now).comment }
     {
         let (white, line) = split_white(self.tail);
         (white, split_at_break(line).0)

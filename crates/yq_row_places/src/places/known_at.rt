@@ -1,6 +1,6 @@
 //! The item on the way of a path from which a later walk may go on.
 ghost use Rattle.std.specs.Prelude.{◌≡◌, map, IfSome};
-ghost use Rattle.yq_nodes.specs.Entries.{step_of};
+ghost use Rattle.yq_nodes.specs.Entries.{tree_step};
 ghost use Rattle.yq_cut.specs.Rows.{Cut};
 ghost use Rattle.yq_cut.specs.View.{rows_view};
 ghost use Rattle.yq_lines.specs.Extents.{IsRowsView};
@@ -97,7 +97,7 @@ pub fn known_along(
     requires document { HasDocument rows.now document }
     requires known { AreKnown rows.now.rows known }
     ensures known { AreKnown rows.now.rows result.0 }
-    ensures line { IfSome result.1 (IsLineAt rows.now document (map step_of steps.now)) }
+    ensures line { IfSome result.1 (IsLineAt rows.now document (map tree_step steps.now)) }
 {
     let mut from = None;
     let mut found = KnownItems::none();
@@ -121,7 +121,7 @@ pub fn line_known<'s>(
     steps: &'s [Step],
     at: Option<Position>,
 ) -> Option<KnownLine<'s>>
-    requires line { IfSome at (IsLineAt rows.now document (map step_of steps.now)) }
+    requires line { IfSome at (IsLineAt rows.now document (map tree_step steps.now)) }
     ensures { IfSome result (IsKnownLine rows.now) }
 {
     let _rows = rows;

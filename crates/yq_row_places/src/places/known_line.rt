@@ -1,8 +1,8 @@
 //! The line to which a path leads, where it is known.
 ghost use Rattle.std.specs.Prelude.{◌≡◌, map, option_map, IfSome, IsTrue};
-ghost use Rattle.yq_nodes.specs.Entries.{step_of};
-ghost use Rattle.yq_lines.specs.Ends.{line_of, reached};
-ghost use Rattle.yq_lines.specs.Lines.{lines_of};
+ghost use Rattle.yq_nodes.specs.Entries.{tree_step};
+ghost use Rattle.yq_lines.specs.Ends.{line_at_steps, reached};
+ghost use Rattle.yq_lines.specs.Lines.{lines_of_rows};
 ghost use Rattle.yq_lines.specs.Extents.{IsRowsView};
 ghost use Rattle.yq_lines.specs.RowWalk.{AreKnown, HasDocument, IsLine, line_number, reached_view};
 ghost use Rattle.yq_row_places.specs.RowWalk.{IsKnownLine, IsLineAt};
@@ -23,7 +23,7 @@ pub struct KnownLine<'s> {
 /// Whether two steps are the same.
 #[inline(always)]
 fn is_same(step: &Step, other: &Step) -> bool
-    ensures { IsTrue result → step_of step.now ≡ step_of other.now }
+    ensures { IsTrue result → tree_step step.now ≡ tree_step other.now }
 {
     match step {
         Step::Key(key) => match other {
@@ -40,7 +40,7 @@ fn is_same(step: &Step, other: &Step) -> bool
 /// Whether two paths have the same steps.
 #[inline(always)]
 fn are_same(steps: &[Step], others: &[Step]) -> bool
-    ensures { IsTrue result → map step_of steps.now ≡ map step_of others.now }
+    ensures { IsTrue result → map tree_step steps.now ≡ map tree_step others.now }
 {
     let mut left = steps;
     let mut rest = others;
@@ -66,7 +66,7 @@ fn if_along(
     steps: &[Step],
 ) -> Option<Position>
     requires line { IfSome line (IsKnownLine rows.now) }
-    ensures { IfSome result (IsLineAt rows.now document (map step_of steps.now)) }
+    ensures { IfSome result (IsLineAt rows.now document (map tree_step steps.now)) }
 {
     let _rows = rows;
     let Some(found) = line else {
@@ -97,7 +97,7 @@ pub fn reach_by<'s>(
     ensures within { IfSome result (λ x. IsLine rows.now document x.0) }
     ensures found { (h : HasDocument rows.now document) →
         option_map (reached_view document h.stand.rows) result ≡
-        reached (map step_of steps.now) (lines_of h.stand.rows) }
+        reached (map tree_step steps.now) (lines_of_rows h.stand.rows) }
 {
     match if_along(rows, document, line, steps) {
         Some(at) => Some((at, &steps[steps.len()..])),
@@ -121,7 +121,7 @@ pub fn line_by(
     ensures within { IfSome result (IsLine rows.now document) }
     ensures found { (h : HasDocument rows.now document) →
         option_map (line_number document h.stand.rows) result ≡
-        line_of (map step_of steps.now) (lines_of h.stand.rows) }
+        line_at_steps (map tree_step steps.now) (lines_of_rows h.stand.rows) }
 {
     match if_along(rows, document, line, steps) {
         Some(at) => Some(at),

@@ -1,8 +1,8 @@
 //! Lines cut out of a text, and the ends of lines.
 ghost use Rattle.std.specs.Prelude.{[], ◌≡◌, if◌then◌else◌};
-ghost use Rattle.yq_text.specs.Halves.{whole};
-ghost use Rattle.yq_cut.specs.View.{view};
-ghost use Rattle.yq_row_places.specs.CommentPlaces.{end_before};
+ghost use Rattle.yq_text.specs.Halves.{halves_text};
+ghost use Rattle.yq_cut.specs.View.{row_view};
+ghost use Rattle.yq_row_places.specs.CommentPlaces.{end_in_line};
 ghost use Rattle.yq_row_places.specs.LineReading as reading;
 
 use crate::places::halves::split_break;
@@ -34,8 +34,8 @@ pub struct TailCut<'t> {
 
 /// A break that ends a text, as one string.
 fn last_break<'t>(end: Halves<'_>) -> &'t str
-    requires { reading.IsLastBreak (whole end) }
-    ensures { result.now ≡ whole end.entry }
+    requires { reading.IsLastBreak (halves_text end) }
+    ensures { result.now ≡ halves_text end.entry }
 {
     match end.len() {
         0 => "",
@@ -46,9 +46,9 @@ fn last_break<'t>(end: Halves<'_>) -> &'t str
 
 /// Lines from a place on up to another one, in bytes.
 pub fn cut_lines<'t>(text: Halves<'t>, from: usize, stop: usize) -> LinesCut<'t>
-    requires { reading.CutsLines (whole text) from stop }
-    ensures { (h : reading.CutsLines (whole text.entry) from stop) →
-        reading.lines_view result ≡ reading.lines_of h }
+    requires { reading.CutsLines (halves_text text) from stop }
+    ensures { (h : reading.CutsLines (halves_text text.entry) from stop) →
+        reading.lines_view result ≡ reading.line_list h }
 {
     let (before, own, behind) = cut_at(text, from, stop);
     let (lines, last) = split_break(own);
@@ -63,7 +63,7 @@ pub fn cut_lines<'t>(text: Halves<'t>, from: usize, stop: usize) -> LinesCut<'t>
 
 /// The end of the line of a row's mark.
 pub fn cut_tail<'t>(row: &Row<'t>) -> TailCut<'t>
-    ensures { reading.tail_view result ≡ end_before [] (view row.now).tail }
+    ensures { reading.tail_view result ≡ end_in_line [] (row_view row.now).tail }
 {
     let (white, line) = split_white(row.tail());
     let (comment, line_break) = split_at_break(line);

@@ -1,6 +1,6 @@
 //! What the nodes at paths are, each read from the rows that tell it.
 ghost use Rattle.std.specs.Prelude.{◌≡◌, map, option_map, false, IfOk, None};
-ghost use Rattle.yq_nodes.specs.Entries.{step_of};
+ghost use Rattle.yq_nodes.specs.Entries.{tree_step};
 ghost use Rattle.yq_flow_scalars.specs.Paths.{node_at};
 ghost use Rattle.yq_nodes.specs.Trees.{placed_tree};
 ghost use Rattle.yq_nodes.specs.View as inline;
@@ -8,7 +8,7 @@ ghost use Rattle.yq_lines.specs.Ends.{part};
 ghost use Rattle.yq_lines.specs.Outline.{value};
 ghost use Rattle.yq_lines.specs.Positions.{begins_with_node};
 ghost use Rattle.yq_lines.specs.View.{head_view};
-ghost use Rattle.yq_lines.specs.Lines.{lines_of};
+ghost use Rattle.yq_lines.specs.Lines.{lines_of_rows};
 ghost use Rattle.yq_lines.specs.Extents.{IsRowsView};
 ghost use Rattle.yq_row_places.specs.NodeReading as reading;
 ghost use Rattle.yq_row_places.specs.NodesAt as spec;
@@ -63,7 +63,7 @@ fn inline_node<'t>(
     steps: &[Step],
 ) -> Result<Option<NodeAt<'t>>, AllocError>
     ensures { IfOk result (λ o. option_map spec.node_view o ≡ option_map spec.node_summary
-        (node_at (map step_of steps.now) (placed_tree (inline.view node.now)))) }
+        (node_at (map tree_step steps.now) (placed_tree (inline.inline_view node.now)))) }
 {
     let Some(entry) = node.entry(steps) else {
         return Ok(None);
@@ -87,7 +87,7 @@ pub fn head_node<'t>(
     steps: &[Step],
 ) -> Result<Option<NodeAt<'t>>, AllocError>
     ensures { IfOk result (λ o. option_map spec.node_view o ≡
-        reading.summary_in_head (map step_of steps.now) (head_view head.entry)) }
+        reading.summary_in_head (map tree_step steps.now) (head_view head.entry)) }
 {
     match head {
         Head::Nothing => Ok(None),
@@ -108,9 +108,9 @@ fn lines_node<'t>(rows: &Rows<'_>, document: Stretch, under: Position, floor: us
     requires document { HasRows rows.now document }
     requires under { IsPosition rows.now document under }
     ensures { (h : HasRows rows.now document) →
-        begins_with_node (part (lines_of h.rows) (line_number document h.rows under) floor) ≡
+        begins_with_node (part (lines_of_rows h.rows) (line_number document h.rows under) floor) ≡
         false → spec.node_view result ≡ spec.node_summary
-        (value (part (lines_of h.rows) (line_number document h.rows under) floor)) }
+        (value (part (lines_of_rows h.rows) (line_number document h.rows under) floor)) }
 {
     if !is_deeper(rows, document, under, floor) {
         return NodeAt::Scalar(Kind::Null, Content::Slice("null"));
@@ -130,9 +130,9 @@ pub fn block_node<'t>(rows: &Rows<'_>, document: Stretch, place: NodePlace) -> O
     requires document { HasRows rows.now document }
     requires place { reading.IsPlace rows.now document place }
     ensures { (h : HasRows rows.now document) →
-        reading.place_line (lines_of h.rows) (reading.place_view document h.rows place) ≡ None →
+        reading.place_line (lines_of_rows h.rows) (reading.place_view document h.rows place) ≡ None →
         option_map spec.node_view result ≡
-        reading.summary_of_lines (lines_of h.rows) (reading.place_view document h.rows place) }
+        reading.summary_of_lines (lines_of_rows h.rows) (reading.place_view document h.rows place) }
 {
     match place {
         NodePlace::Head(_) => None,

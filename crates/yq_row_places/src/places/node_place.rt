@@ -1,8 +1,8 @@
 //! Where the nodes at paths are written among the lines of a document, row by row.
 ghost use Rattle.std.specs.Prelude.{◌≡◌, map, option_map, slice_get, IfSome, Some};
-ghost use Rattle.yq_nodes.specs.Entries.{step_of};
+ghost use Rattle.yq_nodes.specs.Entries.{tree_step};
 ghost use Rattle.yq_lines.specs.Outline.{Line};
-ghost use Rattle.yq_lines.specs.Lines.{lines_of};
+ghost use Rattle.yq_lines.specs.Lines.{lines_of_rows};
 ghost use Rattle.yq_lines.specs.Extents.{IsRowsView};
 ghost use Rattle.yq_row_places.specs.NodeReading as spec;
 ghost use Rattle.yq_row_places.specs.RowWalk.{IsKnownLine};
@@ -32,9 +32,9 @@ fn line_place(rows: &Rows<'_>, document: Stretch, at: Position, left: &[Step]) -
     requires at { IsLine rows.now document at }
     ensures within { spec.IsPlace rows.now document result }
     ensures agrees { (h : HasRows rows.now document) (l : Line) →
-        slice_get (lines_of h.rows) (line_number document h.rows at) ≡ Some l →
+        slice_get (lines_of_rows h.rows) (line_number document h.rows at) ≡ Some l →
         spec.place_view document h.rows result ≡
-        spec.line_place (line_number document h.rows at) (map step_of left.now) l }
+        spec.line_place (line_number document h.rows at) (map tree_step left.now) l }
 {
     if !left.is_empty() {
         return NodePlace::Head(at);
@@ -61,7 +61,7 @@ pub fn node_place<'s>(
     ensures within { IfSome result (λ x. spec.IsPlace rows.now document x.0) }
     ensures found { (h : HasDocument rows.now document) →
         option_map (spec.node_place_view document h.stand.rows) result ≡
-        spec.node_place (map step_of steps.now) (lines_of h.stand.rows) }
+        spec.node_place (map tree_step steps.now) (lines_of_rows h.stand.rows) }
 {
     if steps.is_empty() {
         let first = Position {
@@ -83,7 +83,7 @@ pub fn place_line(rows: &Rows<'_>, document: Stretch, place: NodePlace) -> Optio
     ensures within { IfSome result (IsLine rows.now document) }
     ensures found { (h : HasRows rows.now document) →
         option_map (line_number document h.rows) result ≡
-        spec.place_line (lines_of h.rows) (spec.place_view document h.rows place) }
+        spec.place_line (lines_of_rows h.rows) (spec.place_view document h.rows place) }
 {
     match place {
         NodePlace::Head(at) => Some(at),

@@ -1,13 +1,13 @@
 //! What is taken out of a text with an item or entry of a block collection.
 ghost use Rattle.std.specs.Prelude.{◌≡◌, ◌<◌, ◌≤◌, ◌+◌, ◌-◌, ◌++◌, ℕ, List, Option, drop, take, length, map, option_map, IfSome, Some};
-ghost use Rattle.yq_text.specs.Halves.{whole};
-ghost use Rattle.yq_nodes.specs.Entries.{step_of};
+ghost use Rattle.yq_text.specs.Halves.{halves_text};
+ghost use Rattle.yq_nodes.specs.Entries.{tree_step};
 ghost use Rattle.yq_cut.specs.Grammar.{IsCut};
 ghost use Rattle.yq_cut.specs.Removal.{block_numbers, hold_comment, last_block};
 ghost use Rattle.yq_cut.specs.Rows.{Cut, Part, Row as RowOf};
 ghost use Rattle.yq_cut.specs.View.{rows_of, rows_view};
 ghost use Rattle.yq_block_scalars.specs.Block.{BlockText};
-ghost use Rattle.yq_flow_scalars.specs.Text.{joined, lines_of as text_lines};
+ghost use Rattle.yq_flow_scalars.specs.Text.{joined, text_lines};
 ghost use Rattle.yq_lines.specs.Extents.{IsRowsView};
 ghost use Rattle.yq_documents.specs.Pieces as pieces;
 ghost use Rattle.yq_row_places.specs.PlacedRows.{PlacedPart};
@@ -94,7 +94,7 @@ pub fn own_rows(
     ensures { (h : HasDocument rows.now document) →
         option_map (λ m. (m.0, m.1, m.2)) result ≡
         option_map (reading.marks document.first)
-        (spec.own_rows (map step_of steps.now) h.stand.rows) }
+        (spec.own_rows (map tree_step steps.now) h.stand.rows) }
 {
     let at = line_by(rows, document, known, line, steps)?;
     if at.line != 0 {
@@ -105,7 +105,7 @@ pub fn own_rows(
 
 /// The gap before row `i` and its column; where a part ends before it, the gap there and 0.
 fn gap_before<'t>(rows: &Rows<'t>, i: usize) -> (&'t str, usize)
-    ensures { (result.0.now, result.1) ≡ reading.gap_at i rows.now }
+    ensures { (result.0.now, result.1) ≡ reading.gap_counts i rows.now }
 {
     let (from, to) = rows.rest(i);
     if from < to {
@@ -155,9 +155,9 @@ fn seam_of(block: Option<(bool, usize)>, column: usize, kept: &str) -> Option<Se
 
 /// What is taken out of a text with these rows of a document.
 pub fn rows_out<'d>(rows: &Rows<'d>, text: Halves<'d>, marks: (usize, usize, usize)) -> Removal<'d>
-    requires { reading.HasOwn (whole text) rows.now (marks.0, marks.1, marks.2) }
+    requires { reading.HasOwn (halves_text text) rows.now (marks.0, marks.1, marks.2) }
     ensures { (d : PlacedPart) (x : spec.OwnRows) →
-        reading.IsOwn (whole text.entry) rows.now d x (marks.0, marks.1, marks.2) →
+        reading.IsOwn (halves_text text.entry) rows.now d x (marks.0, marks.1, marks.2) →
         reading.removal_view result ≡ spec.rows_out d x }
 {
     is_text(text);

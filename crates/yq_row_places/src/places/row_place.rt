@@ -4,7 +4,7 @@ ghost use Rattle.yq_text.specs.Limit.{text_limit};
 ghost use Rattle.yq_cut.specs.Grammar.{IsCut};
 ghost use Rattle.yq_cut.specs.Offsets.{row_length};
 ghost use Rattle.yq_cut.specs.Rows.{Cut, Row as RowOf};
-ghost use Rattle.yq_cut.specs.View.{rows_of, rows_view, Slices, view};
+ghost use Rattle.yq_cut.specs.View.{rows_of, rows_view, Slices, row_view};
 ghost use Rattle.yq_row_places.specs.EntryReading as spec;
 ghost use Rattle.yq_lines.specs.Extents as extents;
 ghost use Rattle.yq_lines.specs.Extents.{IsRowsView};
@@ -41,9 +41,9 @@ pub fn row_stop(rows: &Rows<'_>, i: usize) -> usize
 
 /// How long the tail and the raw lines of a row are less their last break, in bytes.
 fn ending_len(row: &Row<'_>) -> usize
-    requires { length (view row.now).tail + length (view row.now).raw ≤ text_limit }
-    ensures value { result ≡ length (spec.ending (view row.now)) }
-    ensures within { result ≤ length (view row.now).tail + length (view row.now).raw }
+    requires { length (row_view row.now).tail + length (row_view row.now).raw ≤ text_limit }
+    ensures value { result ≡ length (spec.row_ending (row_view row.now)) }
+    ensures within { result ≤ length (row_view row.now).tail + length (row_view row.now).raw }
 {
     if row.raw().is_empty() {
         less_break_len(Halves::of(row.tail()))
@@ -66,8 +66,8 @@ pub fn row_end(rows: &Rows<'_>, i: usize) -> usize
 /// Where what a head spells ends, in bytes, by where it ends on its first line: a block scalar ends
 /// behind its last line.
 fn head_end(row: &Row<'_>, end: usize) -> usize
-    requires { end + (length (view row.now).tail + length (view row.now).raw) ≤ text_limit }
-    ensures { result ≡ spec.head_finish end (view row.now) }
+    requires { end + (length (row_view row.now).tail + length (row_view row.now).raw) ≤ text_limit }
+    ensures { result ≡ spec.head_finish end (row_view row.now) }
 {
     if is_block_head(row.head().as_bytes()) {
         end + row.tail().len() + row.raw().len()

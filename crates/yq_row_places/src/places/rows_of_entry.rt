@@ -1,6 +1,6 @@
 //! The rows of items and entries among those of a text.
 ghost use Rattle.std.specs.Prelude.{◌≡◌, map, option_map, IfSome};
-ghost use Rattle.yq_nodes.specs.Entries.{step_of};
+ghost use Rattle.yq_nodes.specs.Entries.{tree_step};
 ghost use Rattle.yq_documents.specs.LinesInRows.{row_line_of};
 ghost use Rattle.yq_lines.specs.Extents.{IsRowsView};
 ghost use Rattle.yq_lines.specs.RowWalk.{AreKnown, HasDocument};
@@ -43,7 +43,7 @@ pub fn entry_along(
     ensures { (h : HasDocument rows.now document) →
         option_map reading.as_numbers result ≡
         option_map (reading.numbers_of_entry document.first h.stand.rows)
-        (row_line_of (map step_of steps.now) h.stand.rows) }
+        (row_line_of (map tree_step steps.now) h.stand.rows) }
 {
     let at = line_by(rows, document, known, line, steps)?;
     let level = level_at(rows, at);

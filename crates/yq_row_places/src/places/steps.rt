@@ -1,6 +1,6 @@
 //! By how many columns the collections of a document stand deeper than their keys.
 ghost use Rattle.std.specs.Prelude.{◌≡◌};
-ghost use Rattle.yq_lines.specs.Lines.{lines_of};
+ghost use Rattle.yq_lines.specs.Lines.{lines_of_rows};
 ghost use Rattle.yq_lines.specs.Extents.{IsRowsView};
 ghost use Rattle.yq_lines.specs.RowWalk.{HasRows};
 ghost use Rattle.yq_row_places.specs.StepReading as reading;
@@ -13,7 +13,7 @@ use yq_walk::{level_at, lines_before_mark};
 /// Whether of two lines of these levels, one right behind the other, the first is a key and the other
 /// begins a collection under it, one of dashes or of keys.
 fn begins_under(above: usize, level: usize, dashes: bool) -> bool
-    ensures { result ≡ reading.begins_under dashes above level }
+    ensures { result ≡ reading.begins_under_level dashes above level }
 {
     let kind = if dashes { 0 } else { 2 };
     above % 3 == 2 && (level % 3 == kind && above < level)
@@ -25,7 +25,7 @@ pub fn first_step(rows: &Rows<'_>, document: Stretch, dashes: bool) -> usize
     requires rows_view { IsRowsView rows.now }
     requires document { HasRows rows.now document }
     ensures { (h : HasRows rows.now document) →
-        result ≡ spec.first_step (spec.is_kind dashes) (lines_of h.rows) }
+        result ≡ spec.first_step (spec.is_kind dashes) (lines_of_rows h.rows) }
 {
     let mut above = 0;
     'rows: for at in document.first..document.end {

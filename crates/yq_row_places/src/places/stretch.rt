@@ -1,6 +1,6 @@
 //! The rows of documents among those of a text, and lines of them at paths.
 ghost use Rattle.std.specs.Prelude.{◌≡◌, ◌-◌, map, option_map};
-ghost use Rattle.yq_nodes.specs.Entries.{step_of};
+ghost use Rattle.yq_nodes.specs.Entries.{tree_step};
 ghost use Rattle.yq_documents.specs.LinesInRows.{row_line_of};
 ghost use Rattle.yq_lines.specs.Extents.{IsRowsView};
 ghost use Rattle.yq_lines.specs.RowWalk.{AreKnown, HasDocument};
@@ -33,7 +33,7 @@ pub fn row_line_along(
     requires document { HasDocument rows.now document }
     requires known { AreKnown rows.now.rows known }
     ensures { (h : HasDocument rows.now document) → option_map line_view result ≡
-        option_map (numbers document.first) (row_line_of (map step_of steps.now) h.stand.rows) }
+        option_map (numbers document.first) (row_line_of (map tree_step steps.now) h.stand.rows) }
 {
     let position = line_at(rows, document, known, steps)?;
     Some(RowLine {

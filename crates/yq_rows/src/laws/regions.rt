@@ -2,7 +2,7 @@
 ghost use Rattle.std.specs.Prelude.{◌≡◌, ◌≤◌, ℕ, List, [], ◌++◌, Bool};
 ghost use Rattle.yq_cut.specs.Grammar.{AreParts, unlimited};
 ghost use Rattle.yq_cut.specs.ItemSplices.{SplicedItems};
-ghost use Rattle.yq_cut.specs.Items.{Asked, AreRowItems, Item, asked_of, items_of, items_text, view_of_items};
+ghost use Rattle.yq_cut.specs.Items.{Asked, AreRowItems, Item, asked_of, items_of_cut, items_text, view_of_items};
 ghost use Rattle.yq_cut.specs.Regions.{IsReadAlone, StandIn, ended};
 ghost use Rattle.yq_cut.specs.Rows.{Cut, Row, cut_text};
 ghost use Rattle.yq_cut.specs.View.{rows_view};
@@ -10,10 +10,10 @@ ghost use Rattle.yq_cut.specs.View.{rows_view};
 /// The rows and ends of a cut are its text, and what the code lends of it; each is one behind those
 /// in front of it.
 pub fn items_are()
-    ensures text { (c : Cut) → items_text (items_of c) [] ≡ cut_text c }
-    ensures sliced { (c : Cut) → view_of_items (items_of c) ≡ rows_view c }
+    ensures text { (c : Cut) → items_text (items_of_cut c) [] ≡ cut_text c }
+    ensures sliced { (c : Cut) → view_of_items (items_of_cut c) ≡ rows_view c }
     ensures grammar { (c : Cut) (started : Bool) → AreParts started c →
-        AreRowItems (record { limit = unlimited; started = started }) (items_of c) [] }
+        AreRowItems (record { limit = unlimited; started = started }) (items_of_cut c) [] }
     ensures joined { (xs ys : List Item) (rest : List ℕ) →
         items_text (xs ++ ys) rest ≡ items_text xs (items_text ys rest) }
     ensures behind { (xs ys : List Item) (asked : Asked) (rest : List ℕ) →

@@ -2,7 +2,7 @@
 ghost use Rattle.std.specs.Prelude.{◌≡◌, ℕ, Bool, List, [], ◌∷◌, ◌++◌, false, true};
 ghost use Rattle.yq_block_scalars.specs.BlockRepair.{repair};
 ghost use Rattle.yq_flow_scalars.specs.Characters.{pairs_returns};
-ghost use Rattle.yq_flow_scalars.specs.Text.{is_empty, joined, lines_of};
+ghost use Rattle.yq_flow_scalars.specs.Text.{is_empty, joined, text_lines};
 ghost use Rattle.yq_cut.specs.Gap.{IsGap};
 ghost use Rattle.yq_cut.specs.Grammar.{IsRow, AreRows, Limit, limit_after};
 ghost use Rattle.yq_cut.specs.Joined.{CompactFits, DashFits, Joins, compact_row, dashed_row, joined_row};
@@ -56,9 +56,9 @@ pub fn row_dashed()
 /// second one is; repaired, it is one too.
 pub fn gaps_joined()
     ensures lines { (kept next x : List ℕ) → is_empty x ≡ false → IsGap kept x →
-        lines_of (kept ++ next) ≡ lines_of kept ++ lines_of next }
+        text_lines (kept ++ next) ≡ text_lines kept ++ text_lines next }
     ensures gap { (kept next x y : List ℕ) → is_empty x ≡ false → IsGap kept x → IsGap next y →
         IsGap (kept ++ next) y }
     ensures repaired { (keep : Bool) (m column : ℕ) (gap rest : List ℕ) → IsGap gap rest →
-        IsGap (joined (repair keep m column (lines_of gap))) rest }
+        IsGap (joined (repair keep m column (text_lines gap))) rest }
 {}

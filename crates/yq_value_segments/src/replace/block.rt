@@ -1,6 +1,6 @@
 //! A value in the place of a block scalar.
 ghost use Rattle.std.specs.Prelude.{◌≡◌, [], IfOk, true};
-ghost use Rattle.yq_nodes.specs.Values.{node_of};
+ghost use Rattle.yq_nodes.specs.Values.{value_node};
 ghost use Rattle.yq_block_scalars.specs.BlockWritten.{break_text};
 ghost use Rattle.yq_flow_scalars.specs.Writable.{is_string};
 ghost use Rattle.yq_row_places.specs.NodesAt.{scalar_in};
@@ -68,8 +68,8 @@ fn lines_put<'t>(
 ) -> Result<Segments<'t>, AllocError>
     ensures { IfOk result (λ ss. ss ≡
         spec.block_put (break_text layout.now.br) (held_view held.now) (lines (lines_in
-        layout.now (column_under layout.now (held_mark_view held.now.mark) (node_of value.now))
-        (node_of value.now)))) }
+        layout.now (column_under layout.now (held_mark_view held.now.mark) (value_node value.now))
+        (value_node value.now)))) }
 {
     let raw = lines_and_break(alloc, layout, held.mark, value)?;
     let (line_break, last) = line_breaks(held);
@@ -117,7 +117,7 @@ fn block_put<'t>(
 ) -> Result<Segments<'t>, AllocError>
     ensures { IfOk result (λ ss. ss ≡
         spec.block_put (break_text layout.now.br) (held_view held.now) (written_at
-        layout.now (held_mark_view held.now.mark) [] (node_of value.now))) }
+        layout.now (held_mark_view held.now.mark) [] (value_node value.now))) }
 {
     if !is_filled(value) {
         let text = value_text(alloc, Place::Block, b"", value)?;
@@ -141,8 +141,8 @@ pub(crate) fn block_scalar_put<'t>(
 ) -> Result<Segments<'t>, AllocError>
     ensures { IfOk result (λ ss. ss ≡
         spec.block_scalar_put has_text (break_text layout.now.br) (held_view held.now) indent
-        (written_at layout.now (held_mark_view held.now.mark) [] (node_of value.now))
-        (scalar_in (node_of value.now))) }
+        (written_at layout.now (held_mark_view held.now.mark) [] (value_node value.now))
+        (scalar_in (value_node value.now))) }
 {
     if let Value::Scalar(scalar) = value {
         if has_text && scalar.kind() == Kind::Text {

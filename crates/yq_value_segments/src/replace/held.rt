@@ -1,6 +1,6 @@
 //! A value in the place of what a key or dash holds, or of a compact collection.
 ghost use Rattle.std.specs.Prelude.{◌≡◌, ℕ, List, [], false, IfOk, if◌then◌else◌, string_bytes};
-ghost use Rattle.yq_nodes.specs.Values.{node_of};
+ghost use Rattle.yq_nodes.specs.Values.{value_node};
 ghost use Rattle.yq_block_scalars.specs.BlockWritten.{break_text};
 ghost use Rattle.yq_row_places.specs.StandingViews.{compact_view, held_view, held_mark_view};
 ghost use Rattle.yq_block.specs.BlockReading.{is_filled as filled};
@@ -56,10 +56,10 @@ pub(crate) fn put_filled<'t>(
     ensures { IfOk result (λ ss. ss ≡
         spec.held_put (break_text layout.now.br) (held_view held.now) (if compact
         then written.compact_text (block_value layout.now (item_column held.now.mark.column)
-        (node_of value.now))
+        (value_node value.now))
         else written.lines (written.lines_in layout.now
-        (written.column_under layout.now (held_mark_view held.now.mark) (node_of value.now))
-        (node_of value.now)))) }
+        (written.column_under layout.now (held_mark_view held.now.mark) (value_node value.now))
+        (value_node value.now)))) }
 {
     let (new, lines) = if compact {
         (
@@ -96,10 +96,10 @@ pub(crate) fn text_put<'t>(
     held: &Held<'t>,
     value: &Value,
 ) -> Result<Segments<'t>, AllocError>
-    requires { filled (node_of value.now) ≡ false }
+    requires { filled (value_node value.now) ≡ false }
     ensures { (l : LayoutOf) → IfOk result (λ ss. ss ≡
         spec.held_put (break_text l.br) (held_view held.now) (written.written_at
-        l (held_mark_view held.now.mark) held.now.head.now (node_of value.now))) }
+        l (held_mark_view held.now.mark) held.now.head.now (value_node value.now))) }
 {
     let text = value_text(alloc, Place::Block, held.head.as_bytes(), value)?;
     put_inline(alloc, held, text)
@@ -114,7 +114,7 @@ pub(crate) fn beside_put<'t>(
 ) -> Result<Segments<'t>, AllocError>
     ensures { IfOk result (λ ss. ss ≡
         spec.held_put (break_text layout.now.br) (held_view held.now) (written.written_at
-        layout.now (held_mark_view held.now.mark) held.now.head.now (node_of value.now))) }
+        layout.now (held_mark_view held.now.mark) held.now.head.now (value_node value.now))) }
 {
     if !is_filled(value) {
         return text_put(alloc, held, value);
@@ -131,7 +131,7 @@ pub(crate) fn under_put<'t>(
 ) -> Result<Segments<'t>, AllocError>
     ensures { IfOk result (λ ss. ss ≡
         spec.held_put (break_text layout.now.br) (held_view held.now) (written.written_under
-        layout.now (held_mark_view held.now.mark) (node_of value.now))) }
+        layout.now (held_mark_view held.now.mark) (value_node value.now))) }
 {
     if is_filled(value) {
         return put_filled(alloc, layout, held, false, value);
@@ -147,7 +147,7 @@ fn put_behind<'t>(
     text: String,
 ) -> Result<Segments<'t>, AllocError>
     ensures { IfOk result (λ ss. ss ≡
-        spec.behind_dash (compact_view compact.now) (string_bytes text)) }
+        spec.put_compact (compact_view compact.now) (string_bytes text)) }
 {
     let segments = vec![in alloc;
         Segment::Keep(compact.before),
@@ -167,7 +167,7 @@ pub(crate) fn compact_put<'t>(
 ) -> Result<Segments<'t>, AllocError>
     ensures { IfOk result (λ ss. ss ≡
         spec.compact_put (break_text layout.now.br) (compact_view compact.now) (written.written_at
-        layout.now (held_mark_view compact.now.mark) [] (node_of value.now))) }
+        layout.now (held_mark_view compact.now.mark) [] (value_node value.now))) }
 {
     let text = if !is_filled(value) {
         let text = value_text(alloc, Place::Block, b"", value)?;

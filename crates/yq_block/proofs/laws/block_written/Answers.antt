@@ -1,6 +1,6 @@
 use Rattle.std.proofs.Common.{subst}
 use Rattle.yq_lines.proofs.ByRules.{rules_give}
-use Rattle.yq_lines.specs.Lines.{lines_of}
+use Rattle.yq_lines.specs.Lines.{lines_of_rows}
 use Rattle.yq_cut.specs.Grammar.{key_limit}
 use Rattle.yq_block.specs.BlockRows.{node_rows}
 use Rattle.yq_block.specs.BlockValues.{level_at}
@@ -27,7 +27,7 @@ pub returns-clause-follow : goal.returns-clause-follow
 returns-clause-follow c = λ v l column k end rest limit h within. laid_follow column (node_rows l column end v) rest limit k (value_laid v l column end rest h) within
 
 pub returns-clause-lines : goal.returns-clause-lines
-returns-clause-lines c = λ v l column end step h uncommented. rules_give (level_at column v) (lines_of (node_rows l column end v)) v (node_stands v l column end step h.filled h.value uncommented)
+returns-clause-lines c = λ v l column end step h uncommented. rules_give (level_at column v) (lines_of_rows (node_rows l column end v)) v (node_stands v l column end step h.filled h.value uncommented)
 
 pub returns-clause-fit : goal.returns-clause-fit
 returns-clause-fit c = λ v l column end h. let fit = node_fit v l column end h in (keys_fit (node_rows l column end v) fit, anchors_fit (node_rows l column end v) fit)

@@ -1,5 +1,5 @@
 use Rattle.std.proofs.Common.{◌≡◌, length}
-use Rattle.yq_flow_scalars.specs.Text.{lines_of}
+use Rattle.yq_flow_scalars.specs.Text.{text_lines}
 use Rattle.yq_block_scalars.specs.BlockReading as spec
 use Rattle.yq_block_scalars.proofs.block_lines.detect_indent.Given as goal
 
@@ -7,4 +7,4 @@ abbrev pub decreases-each : goal.decreases-each
 decreases-each l = length l.rest
 
 abbrev pub invariant-each : goal.invariant-each
-invariant-each l = spec.detected_at l.least l.most (lines_of l.rest) ≡ spec.detected_at l.least 0 (lines_of l.text)
+invariant-each l = spec.detected_at l.least l.most (text_lines l.rest) ≡ spec.detected_at l.least 0 (text_lines l.text)

@@ -9,5 +9,5 @@ abbrev pub invariant-each : goal.invariant-each
 invariant-each l = record {
   within : l.scanned + length l.rest ≡ length l.text;
   kept : l.keep ≡ true → l.within ≡ l.scanned;
-  so_far : spec.counted l.within l.scanned (spec.len_at l.keep l.indent l.rest) ≡ spec.len_at l.keep l.indent l.text;
+  so_far : spec.raw_length l.within l.scanned (spec.len_at l.keep l.indent l.rest) ≡ spec.len_at l.keep l.indent l.text;
 }

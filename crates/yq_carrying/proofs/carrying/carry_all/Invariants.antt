@@ -2,13 +2,13 @@ use Rattle.std.proofs.Common.{◌≡◌, length}
 use Rattle.std.specs.String.{string_bytes}
 use Rattle.yq_meaning.specs.Operations.{operations_of}
 use Rattle.yq_outcomes.specs.Carried.{carry_all}
-use Rattle.yq_outcomes.specs.Edit.{behind}
+use Rattle.yq_outcomes.specs.Edit.{edit_behind}
 use Rattle.yq_outcomes.specs.Valid.{AreServed}
 use Rattle.yq_carrying.proofs.carrying.carry_all.Given as goal
 
 abbrev pub invariant-operations : goal.invariant-operations
 invariant-operations l = record {
-  whole : behind l.splices.items (carry_all (operations_of l.rest) l.session.text) ≡ behind l.fn.splices.items (carry_all (operations_of l.fn.ops) (string_bytes l.fn.text));
+  whole : edit_behind l.splices.items (carry_all (operations_of l.rest) l.session.text) ≡ edit_behind l.fn.splices.items (carry_all (operations_of l.fn.ops) (string_bytes l.fn.text));
   serves : AreServed (operations_of l.rest) l.session.text;
 }
 

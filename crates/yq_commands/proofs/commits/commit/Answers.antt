@@ -3,9 +3,9 @@ use Rattle.std.proofs.lemmas.Result.{err_from_is_err_and}
 use Rattle.std.proofs.lemmas.Slice.Eq.{bytes_eq-Decides}
 use Rattle.yq_history.specs.Effects.{Works}
 use Rattle.yq_commands.specs.CommandEffects.{edit_effect}
-use Rattle.yq_commands.specs.Editing.{edits}
+use Rattle.yq_commands.specs.Editing.{program_edits}
 use Rattle.yq_commands.specs.Edits.{edit_record}
-use Rattle.yq_history.specs.Faults.{is_outside}
+use Rattle.yq_history.specs.Faults.{is_outer_fault}
 use Rattle.yq_records.specs.Record.{Record, done}
 use Rattle.yq_commands.proofs.EditLaws.{edit_done, edit_ends}
 use Rattle.yq_history.proofs.EffectLaws.{works_outside}
@@ -36,7 +36,7 @@ returns g c =
       text = λ keeps apart there. e.text keeps apart;
       effect = λ keeps apart p gives.
           edit_works c.args.file.now c.args.journal.now (g.D.Store.content c.args.store.now) c.args.expr.now c.args.state.now c.args.old.items _ _ _ made
-          (edits p c.args.old.items) _ c.carry_out.result gives changes
+          (program_edits p c.args.old.items) _ c.carry_out.result gives changes
           (record {
             leads = leads;
             ok = e.ok keeps apart;
@@ -58,5 +58,5 @@ pub returns-in_err-edit-clause-effect : goal.returns-in_err-edit-clause-effect
 returns-in_err-edit-clause-effect g c = λ keeps apart p gives.
     let r = err_from_is_err_and c.from_residual.result c.from_residual.ensures.1 in
     let content = g.D.Store.content c.args.store.now in
-    let effect = edit_effect c.args.expr.now (edits p c.args.old.items) c.args.old.items c.args.state.now in
-    subst (Works effect c.args.file.now c.args.journal.now content content) (sym r.1) (works_outside (Unit {0}) effect c.args.file.now c.args.journal.now content r.0 (ap is_outside r.2))
+    let effect = edit_effect c.args.expr.now (program_edits p c.args.old.items) c.args.old.items c.args.state.now in
+    subst (Works effect c.args.file.now c.args.journal.now content content) (sym r.1) (works_outside (Unit {0}) effect c.args.file.now c.args.journal.now content r.0 (ap is_outer_fault r.2))

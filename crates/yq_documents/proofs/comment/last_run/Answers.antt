@@ -1,11 +1,11 @@
 use Rattle.std.proofs.Common.{rules, sym, ap, ◌∙◌}
 use Rattle.yq_block_scalars.proofs.BlockSteps.{at_cut, at_end}
-use Rattle.yq_flow_scalars.specs.Text.{lines_of}
+use Rattle.yq_flow_scalars.specs.Text.{text_lines}
 use Rattle.yq_documents.proofs.RunLaws.{run_or, run_here, run_on, run_anew, run_end}
 use Rattle.yq_documents.proofs.comment.last_run.Goals as goal
 
 pub lines-init : goal.lines-init
-lines-init c = record { run_text = c.utf8.gap; rest_text = c.utf8.gap; so_far = run_here (lines_of c.args.gap.now) }
+lines-init c = record { run_text = c.utf8.gap; rest_text = c.utf8.gap; so_far = run_here (text_lines c.args.gap.now) }
 
 pub lines-smaller-then-not-is_comment : goal.lines-smaller-then-not-is_comment
 lines-smaller-then-not-is_comment c = (at_cut _ _ _ _ c.is_empty.ensures c.lines-test.true c.split_line.ensures).1
@@ -15,8 +15,8 @@ lines-smaller c = (at_cut _ _ _ _ c.is_empty.ensures c.lines-test.true c.split_l
 
 pub lines-preserved-then-not-is_comment : goal.lines-preserved-then-not-is_comment
 lines-preserved-then-not-is_comment c =
-    let run = lines_of c.lines.run.now in
-    let after = lines_of c.split_line.result.1.now in
+    let run = text_lines c.lines.run.now in
+    let after = text_lines c.split_line.result.1.now in
     let cut = at_cut _ _ _ _ c.is_empty.ensures c.lines-test.true c.split_line.ensures in
     record {
       run_text = search rules;
@@ -26,8 +26,8 @@ lines-preserved-then-not-is_comment c =
 
 pub lines-preserved : goal.lines-preserved
 lines-preserved c =
-    let run = lines_of c.lines.run.now in
-    let after = lines_of c.split_line.result.1.now in
+    let run = text_lines c.lines.run.now in
+    let after = text_lines c.split_line.result.1.now in
     let cut = at_cut _ _ _ _ c.is_empty.ensures c.lines-test.true c.split_line.ensures in
     record {
       run_text = c.lines.invariant.run_text;
@@ -36,4 +36,4 @@ lines-preserved c =
     }
 
 pub returns : goal.returns
-returns c = sym (c.lines.invariant.so_far ∙ run_end (lines_of c.lines.run.now) c.lines.rest.now (at_end _ _ c.is_empty.ensures c.lines-test.false))
+returns c = sym (c.lines.invariant.so_far ∙ run_end (text_lines c.lines.run.now) c.lines.rest.now (at_end _ _ c.is_empty.ensures c.lines-test.false))

@@ -1,6 +1,6 @@
 use Rattle.std.proofs.Common.{◌≡◌, length}
 use Rattle.std.specs.Str.{IsUtf8}
-use Rattle.yq_flow_scalars.specs.Text.{lines_of}
+use Rattle.yq_flow_scalars.specs.Text.{text_lines}
 use Rattle.yq_documents.specs.Pieces as pieces
 use Rattle.yq_documents.proofs.RunLaws.{run_or}
 use Rattle.yq_documents.proofs.comment.last_run.Given as goal
@@ -10,7 +10,7 @@ abbrev pub invariant-lines : goal.invariant-lines
 invariant-lines l = record {
   run_text : IsUtf8 l.run;
   rest_text : IsUtf8 l.rest;
-  so_far : pieces.last_run (lines_of l.gap) ≡ run_or (lines_of l.run) (lines_of l.rest);
+  so_far : pieces.last_run (text_lines l.gap) ≡ run_or (text_lines l.run) (text_lines l.rest);
 }
 
 abbrev pub decreases-lines : goal.decreases-lines

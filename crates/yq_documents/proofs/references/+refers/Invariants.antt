@@ -1,14 +1,14 @@
 use Rattle.std.proofs.Common.{◌≡◌, ◌+◌, ◌*◌, drop}
 use Rattle.std.specs.List.{list_any}
 use Rattle.yq_nodes.specs.Trees.{parts_tree}
-use Rattle.yq_nodes.specs.View.{view, items_end, entries_end}
+use Rattle.yq_nodes.specs.View.{inline_view, items_end, entries_end}
 use Rattle.yq_flow_scalars.specs.Anchors.{names_in}
 use Rattle.yq_lines.specs.Names.{is_reference}
 use Rattle.yq_lines.proofs.SizeLaws.{node_size, parts_size}
 use Rattle.yq_documents.proofs.references.+refers.Given as goal
 
 abbrev pub decreases-node_refers : goal.decreases-node_refers
-decreases-node_refers l = 2 * node_size (view l.node.now)
+decreases-node_refers l = 2 * node_size (inline_view l.node.now)
 
 abbrev pub decreases-items_refer : goal.decreases-items_refer
 decreases-items_refer l = 2 * parts_size (items_end l.items.now.items) + 1

@@ -7,7 +7,7 @@ use Rattle.yq_meaning.specs.Changes.{Changed, all_allowed, at_each}
 use Rattle.yq_planning.specs.ChangeView.{changed_of}
 use Rattle.yq_expr.specs.EffectView.{effect_at}
 use Rattle.yq_meaning.specs.Judgement.{MatchFails, Judgement, and_then, gives}
-use Rattle.yq_matching.specs.FoundView.{node_place}
+use Rattle.yq_matching.specs.FoundView.{place_at_path}
 use Rattle.yq_matching.specs.PlaceView.{path_of, put_behind}
 use Rattle.yq_meaning.specs.PlacesApart.{AreIn, IsIn}
 use Rattle.yq_meaning.specs.Places.{Place, child_place, stepped}
@@ -20,14 +20,14 @@ use Rattle.yq_expr.proofs.at_places.at_children.Goals as goal
 
 pub push_effect-requires : goal.push_effect-requires
 push_effect-requires c =
-    let p : Place = node_place (path_of c.args.parent.now.path) (node_of c.args.parent.now.node) in
+    let p : Place = place_at_path (path_of c.args.parent.now.path) (node_of c.args.parent.now.node) in
     let first = first_child p c.children.before (left_of c.children.children) (left_of c.next.new.self) (label_of c.in-Some.child) (node_of c.in-Some.child) c.in-Some.ensures.steps in
     subst (λ (q : Place). HasScalars q.node) (sym (c.nth_below-place.ensures p refl)) (subst HaveScalars first c.children.invariant.scalars).0
 
 pub returns-in_err-push_effect : goal.returns-in_err-push_effect
 returns-in_err-push_effect c = λ root named within.
     let e = err_from_is_err_and c.from_residual-in_err-push_effect.result c.from_residual-in_err-push_effect.ensures.1 in
-    let p : Place = node_place (path_of c.args.parent.now.path) (node_of c.args.parent.now.node) in
+    let p : Place = place_at_path (path_of c.args.parent.now.path) (node_of c.args.parent.now.node) in
     let f : Place → Judgement (List Changed) = λ q. and_then (all_allowed root) (effect_at c.args.doc (room_of c.args.documents.now c.args.doc) c.args.effect q) in
     let first = first_child p c.children.before (left_of c.children.children) (left_of c.next.new.self) (label_of c.in-Some.child) (node_of c.in-Some.child) c.in-Some.ensures.steps in
     let here = c.nth_below-place.ensures p refl in
@@ -39,7 +39,7 @@ returns-in_err-push_effect c = λ root named within.
 
 pub children-preserved : goal.children-preserved
 children-preserved c =
-    let p : Place = node_place (path_of c.args.parent.now.path) (node_of c.args.parent.now.node) in
+    let p : Place = place_at_path (path_of c.args.parent.now.path) (node_of c.args.parent.now.node) in
     let first = first_child p c.children.before (left_of c.children.children) (left_of c.next.new.self) (label_of c.in-Some.child) (node_of c.in-Some.child) c.in-Some.ensures.steps in
     let here = c.nth_below-place.ensures p refl in
     let counted = ap count c.in-Some.ensures.steps in
@@ -58,7 +58,7 @@ children-preserved c =
 
 pub returns : goal.returns
 returns c = λ root named within.
-    let p : Place = node_place (path_of c.args.parent.now.path) (node_of c.args.parent.now.node) in
+    let p : Place = place_at_path (path_of c.args.parent.now.path) (node_of c.args.parent.now.node) in
     let f : Place → Judgement (List Changed) = λ q. and_then (all_allowed root) (effect_at c.args.doc (room_of c.args.documents.now c.args.doc) c.args.effect q) in
     let zero : count (left_of c.children.children) ≡ 0 = omega (arith, c.children.invariant.counted, c.children-test.false) in
     children_done f p c.children.before (left_of c.children.children) (map changed_of c.children.changes.items) _ (none_counted (left_of c.children.children) zero) (c.children.invariant.so_far root named within)
@@ -68,7 +68,7 @@ overflow_add-before c = omega (arith, c.children-test.true)
 
 pub children-init : goal.children-init
 children-init c =
-    let p : Place = node_place (path_of c.args.parent.now.path) (node_of c.args.parent.now.node) in
+    let p : Place = place_at_path (path_of c.args.parent.now.path) (node_of c.args.parent.now.node) in
     let all = c.children-children.ensures in
     record {
       same = c.cut-cut.ensures;
@@ -83,6 +83,6 @@ children-init c =
 
 pub returns-in_default : goal.returns-in_default
 returns-in_default c = λ root named within.
-    let p : Place = node_place (path_of c.args.parent.now.path) (node_of c.args.parent.now.node) in
+    let p : Place = place_at_path (path_of c.args.parent.now.path) (node_of c.args.parent.now.node) in
     let f : Place → Judgement (List Changed) = λ q. and_then (all_allowed root) (effect_at c.args.doc (room_of c.args.documents.now c.args.doc) c.args.effect q) in
     children_done f p c.children.before (left_of c.children.children) (map changed_of c.children.changes.items) _ c.in_default.ensures.steps.0 (c.children.invariant.so_far root named within)

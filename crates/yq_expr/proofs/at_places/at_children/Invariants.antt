@@ -8,7 +8,7 @@ use Rattle.yq_meaning.specs.Changes.{at_each}
 use Rattle.yq_planning.specs.ChangeView.{changed_of}
 use Rattle.yq_expr.specs.EffectView.{effect_at}
 use Rattle.yq_planning.specs.Indexes.{HasAliases}
-use Rattle.yq_matching.specs.FoundView.{child_places, node_place}
+use Rattle.yq_matching.specs.FoundView.{child_places, place_at_path}
 use Rattle.yq_matching.specs.PlaceView.{path_of, put_behind}
 use Rattle.yq_meaning.specs.Places.{child_place, stepped}
 use Rattle.yq_meaning.specs.PlacesApart.{AreIn}
@@ -18,7 +18,7 @@ use Rattle.yq_expr.proofs.at_places.at_children.Given as goal
 
 abbrev pub invariant-children : goal.invariant-children
 invariant-children l =
-    let left = map (child_place (node_place (path_of l.parent.path) (node_of l.parent.node))) (stepped l.before (left_of l.children)) in
+    let left = map (child_place (place_at_path (path_of l.parent.path) (node_of l.parent.node))) (stepped l.before (left_of l.children)) in
     record {
       same : l.cut ≡ l.documents;
       counted : l.before + count (left_of l.children) ≡ l.count;

@@ -1,6 +1,6 @@
 use Rattle.std.proofs.Common.{◌≡◌, drop}
 use Rattle.yq_documents.specs.Reading.{documents_of}
-use Rattle.yq_meaning.specs.Changes.{changes_from, changes_of}
+use Rattle.yq_meaning.specs.Changes.{changes_from, update_changes}
 use Rattle.yq_planning.specs.ChangeView.{all_changed_of}
 use Rattle.yq_meaning.specs.Meaning.{roots_of}
 use Rattle.yq_matching.specs.PlaceView.{put_behind}
@@ -11,4 +11,4 @@ use Rattle.yq_expr.proofs.changes.changes.Given as goal
 abbrev pub invariant-documents : goal.invariant-documents
 invariant-documents l =
     put_behind (all_changed_of l.changes.items) (changes_from (update_of l.update) (room_of l.documents) l.doc (roots_of (drop l.doc (documents_of l.documents))))
-    ≡ changes_of (update_of l.update) (room_of l.documents) (roots_of (documents_of l.documents))
+    ≡ update_changes (update_of l.update) (room_of l.documents) (roots_of (documents_of l.documents))

@@ -1,9 +1,9 @@
 use Rattle.std.proofs.Common.{◌≡◌, if◌then◌else◌, Err, Vec, map, sym, ap, ◌∙◌, subst}
 use Rattle.std.proofs.lemmas.Result.{err_from_is_err_and}
 use Rattle.std.specs.declared.alloc.Global.{Global}
-use Rattle.yq_nodes.specs.Values.{node_of as value_node}
+use Rattle.yq_nodes.specs.Values.{value_node}
 use Rattle.yq_document_nodes.specs.Nodes.{node_of}
-use Rattle.yq_meaning.specs.Changes.{add_at, put_at}
+use Rattle.yq_meaning.specs.Changes.{add_at, put_with_path}
 use Rattle.yq_planning.specs.ChangeView.{changed_of}
 use Rattle.yq_meaning.specs.Judgement.{MatchFails, Judges, gives}
 use Rattle.yq_matching.specs.FoundView.{found_places}
@@ -22,7 +22,7 @@ returns-in_err-value c =
     let ts = map term_of c.args.right.now in
     let p = err_from_is_err_and c.from_residual.result c.from_residual.ensures.1 in
     failed _ _ _ _ (p.1 ∙ ap Err p.2)
-    (value_fails root (right_value c.args.doc ts (root_place root)) (if c.args.adds then add_at else put_at) (found_places c.args.places.now) _ c.requires.some
+    (value_fails root (right_value c.args.doc ts (root_place root)) (if c.args.adds then add_at else put_with_path) (found_places c.args.places.now) _ c.requires.some
     (subst (MatchFails _) (ap (right_value c.args.doc ts) c.of_root.ensures) c.in_err-value.ensures))
 
 pub returns : goal.returns
@@ -34,5 +34,5 @@ returns c =
     let found = c.at_found.ensures root c.requires.aliases c.requires.within in
     elim c.if-adds.branch [
       | then-adds w ↦ rw w.if-adds.true (subst (Judges (λ (v : Vec Changed Global). map changed_of v.items) c.at_found.result) (sym (put add_at)) (rw w.effect-is at found))
-      | else-adds w ↦ rw w.if-adds.false (subst (Judges (λ (v : Vec Changed Global). map changed_of v.items) c.at_found.result) (sym (put put_at)) (rw w.effect-is at found))
+      | else-adds w ↦ rw w.if-adds.false (subst (Judges (λ (v : Vec Changed Global). map changed_of v.items) c.at_found.result) (sym (put put_with_path)) (rw w.effect-is at found))
     ]

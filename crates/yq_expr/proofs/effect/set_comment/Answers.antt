@@ -5,15 +5,15 @@ use Rattle.yq_meaning.specs.Changes.{is_there, sets_comment}
 use Rattle.yq_meaning.specs.Judgement.{gives, refuses}
 use Rattle.yq_meaning.specs.Rooms.{room_of}
 use Rattle.yq_meaning.specs.declared.refusal.Refusal.{Refusal}
-use Rattle.yq_program.specs.Program.{Step}
-use Rattle.yq_program.specs.View.{step_of}
+use Rattle.yq_program.specs.Program.{PathStep}
+use Rattle.yq_program.specs.View.{program_step}
 use Rattle.yq_expr.proofs.StepLists.{not_there}
 use Rattle.yq_expr.proofs.effect.set_comment.Goals as goal
 
 pub returns-in-Further-clause-change : goal.returns-in-Further-clause-change
 returns-in-Further-clause-change c =
-    let front : List Step = missing_of c.in-Further.field-0.now in
-    let step : Step = step_of c.in-Further.field-1.now in
+    let front : List PathStep = missing_of c.in-Further.field-0.now in
+    let step : PathStep = program_step c.in-Further.field-1.now in
     let x = path_of c.args.place.now.path in
     let missed : missing_of c.args.place.now.missing ≡ front ++ step ∷ [] = ap missing_of c.in-Further.is ∙ search (rules, the_lemmas) in
     ap (λ b. if b && (room_of c.args.cut.now c.args.path.now.doc).has c.args.comment x then gives ((x, sets_comment c.args.comment c.args.text.now) ∷ []) else refuses Refusal.NoPlaceForComment)

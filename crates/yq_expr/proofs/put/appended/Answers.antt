@@ -1,13 +1,13 @@
 use Rattle.std.proofs.Common.{◌≡◌, rules, [], ◌∷◌, ◌++◌, map, option_map, string_bytes, ap, ◌∙◌}
-use Rattle.yq_nodes.specs.Values.{node_of}
+use Rattle.yq_nodes.specs.Values.{value_node}
 use Rattle.yq_meaning.specs.Changes.{adds, appends, step_key}
 use Rattle.yq_planning.specs.ChangeView.{addition_of}
 use Rattle.yq_planning.specs.declared.updating.change.Addition.TheVariants as additions
-use Rattle.yq_program.specs.View.{step_of}
+use Rattle.yq_program.specs.View.{program_step}
 use Rattle.yq_expr.proofs.put.appended.Goals as goal
 
 pub returns : goal.returns
 returns c =
-    let key : option_map string_bytes c.match-step.key ≡ step_key (step_of c.args.step.now) = search rules in
+    let key : option_map string_bytes c.match-step.key ≡ step_key (program_step c.args.step.now) = search rules in
     ap (λ xs. adds (map addition_of xs)) (c.in_ok-push.ensures.items ∙ ap (λ l. l ++ additions.Appends c.match-step.key c.args.value ∷ []) c.in_ok-additions.ensures.items)
-    ∙ ap (λ k. adds (appends k (node_of c.args.value) ∷ [])) key
+    ∙ ap (λ k. adds (appends k (value_node c.args.value) ∷ [])) key

@@ -1,11 +1,11 @@
 use Rattle.std.proofs.Common.{rules}
-use Rattle.yq_nodes.specs.Values.{node_of}
-use Rattle.yq_program.specs.View.{step_of}
+use Rattle.yq_nodes.specs.Values.{value_node}
+use Rattle.yq_program.specs.View.{program_step}
 use Rattle.yq_expr.proofs.ChangeLaws.{one_out}
 use Rattle.yq_expr.proofs.put.nested.Goals as goal
 
 pub steps-preserved : goal.steps-preserved
 steps-preserved c = record {
   short = search rules;
-  so_far = one_out (λ s. step_of s.now) c.steps.rest.now c.last-item.result (node_of c.steps.nested) (node_of c.in_ok-nested.nested) _ c.in-len1-up.len_at_least c.last-item.is c.in_ok-nested.ensures c.steps.invariant.so_far;
+  so_far = one_out (λ s. program_step s.now) c.steps.rest.now c.last-item.result (value_node c.steps.nested) (value_node c.in_ok-nested.nested) _ c.in-len1-up.len_at_least c.last-item.is c.in_ok-nested.ensures c.steps.invariant.so_far;
 }

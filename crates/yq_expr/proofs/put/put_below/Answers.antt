@@ -1,18 +1,18 @@
 use Rattle.std.proofs.Common.{true, false, sym, ap, ◌∙◌}
-use Rattle.yq_nodes.specs.Values.{node_of as value_node}
+use Rattle.yq_nodes.specs.Values.{value_node}
 use Rattle.yq_document_nodes.specs.Nodes.{node_of}
 use Rattle.yq_meaning.specs.Judgement.{gives}
-use Rattle.yq_program.specs.View.{step_of}
+use Rattle.yq_program.specs.View.{program_step}
 use Rattle.yq_expr.proofs.ChangeLaws.{put_first}
 use Rattle.yq_expr.proofs.put.put_below.Goals as goal
 
 pub returns-then-has_index : goal.returns-then-has_index
 returns-then-has_index c =
-    put_first (λ s. step_of s.now) (node_of c.args.node.now) c.args.missing.now c.first-item.result (value_node c.args.value) true
+    put_first (λ s. program_step s.now) (node_of c.args.node.now) c.args.missing.now c.first-item.result (value_node c.args.value) true
     c.in-len1-up.len_at_least c.first-item.is (sym c.has_index.ensures ∙ c.if-has_index.true)
 
 pub returns : goal.returns
 returns c =
-    put_first (λ s. step_of s.now) (node_of c.args.node.now) c.args.missing.now c.first-item.result (value_node c.args.value) false
+    put_first (λ s. program_step s.now) (node_of c.args.node.now) c.args.missing.now c.first-item.result (value_node c.args.value) false
     c.in-len1-up.len_at_least c.first-item.is (sym c.has_index.ensures ∙ c.if-has_index.false)
     ∙ ap gives (sym c.in_ok-created.ensures)

@@ -1,5 +1,5 @@
 use Rattle.std.proofs.Common.{sym, subst, arith}
-use Rattle.yq_nodes.specs.Values.{node_of}
+use Rattle.yq_nodes.specs.Values.{value_node}
 use Rattle.yq_meaning.specs.Judgement.{Judges}
 use Rattle.yq_matching.specs.PlaceView.{place_of}
 use Rattle.yq_program.specs.View.{term_of}
@@ -8,6 +8,6 @@ use Rattle.yq_expr.proofs.right_value.right_value.Goals as goal
 
 pub returns : goal.returns
 returns c =
-    subst (Judges node_of c.with_terms.result)
-    (sym (right_on term_of c.args.doc (place_of c.args.place.now) c.args.terms.now c.term-item.result (node_of c.in_ok-first.first) (omega (arith, c.in-len1-up.len_at_least)) c.term-item.is c.in_ok-first.ensures))
+    subst (Judges value_node c.with_terms.result)
+    (sym (right_on term_of c.args.doc (place_of c.args.place.now) c.args.terms.now c.term-item.result (value_node c.in_ok-first.first) (omega (arith, c.in-len1-up.len_at_least)) c.term-item.is c.in_ok-first.ensures))
     c.with_terms.ensures

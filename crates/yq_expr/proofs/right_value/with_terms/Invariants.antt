@@ -1,5 +1,5 @@
 use Rattle.std.proofs.Common.{◌≡◌, drop, map}
-use Rattle.yq_nodes.specs.Values.{node_of}
+use Rattle.yq_nodes.specs.Values.{value_node}
 use Rattle.yq_meaning.specs.Judgement.{and_then}
 use Rattle.yq_matching.specs.PlaceView.{place_of}
 use Rattle.yq_meaning.specs.Places.{chained}
@@ -9,5 +9,5 @@ use Rattle.yq_expr.proofs.right_value.with_terms.Given as goal
 
 abbrev pub invariant-terms : goal.invariant-terms
 invariant-terms l =
-    chained (λ t v. and_then (sum v) (term_value l.doc (place_of l.place) t)) (map term_of (drop l.term-index l.terms)) (node_of l.total)
-    ≡ chained (λ t v. and_then (sum v) (term_value l.doc (place_of l.place) t)) (map term_of l.terms) (node_of l.fn.first)
+    chained (λ t v. and_then (sum v) (term_value l.doc (place_of l.place) t)) (map term_of (drop l.term-index l.terms)) (value_node l.total)
+    ≡ chained (λ t v. and_then (sum v) (term_value l.doc (place_of l.place) t)) (map term_of l.terms) (value_node l.fn.first)

@@ -1,10 +1,10 @@
 use Rattle.std.proofs.Common.{◌≡◌, ◌++◌, length, map, reverse}
 use Rattle.yq_matching.specs.PlaceView.{missing_of}
-use Rattle.yq_program.specs.View.{step_of}
+use Rattle.yq_program.specs.View.{program_step}
 use Rattle.yq_expr.proofs.steps.missing_steps.Given as goal
 
 abbrev pub invariant-steps : goal.invariant-steps
-invariant-steps l = missing_of l.rest ++ reverse (map (λ s. step_of s.now) l.steps.items) ≡ missing_of l.fn.missing
+invariant-steps l = missing_of l.rest ++ reverse (map (λ s. program_step s.now) l.steps.items) ≡ missing_of l.fn.missing
 
 abbrev pub decreases-steps : goal.decreases-steps
 decreases-steps l = length (missing_of l.rest)

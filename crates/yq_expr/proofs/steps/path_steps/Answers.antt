@@ -1,6 +1,6 @@
 use Rattle.std.proofs.Common.{◌≡◌, rules, List, [], ◌∷◌, map, reverse, sym, ap, ◌++◌, ◌∙◌, ◌+◌, length, arith}
 use Rattle.yq_flow_scalars.specs.Paths.{Step}
-use Rattle.yq_nodes.specs.Entries.{step_of}
+use Rattle.yq_nodes.specs.Entries.{tree_step}
 use Rattle.std.proofs.lemmas.List.{length-append}
 use Rattle.yq_expr.proofs.StepLists.{pushed_back}
 use Rattle.yq_matching.specs.PlaceView.{node_step_of, path_of}
@@ -13,17 +13,17 @@ ends = search (rules, the_lemmas)
 
 pub returns : goal.returns
 returns c =
-    ap (map step_of) c.reverse.ensures.items
-    ∙ (map_reverse step_of c.steps.steps.items
-    ∙ (ap (λ (xs : List Step). xs ++ reverse (map step_of c.steps.steps.items)) (sym (ap path_of c.in-Root.is ∙ ends)) ∙ c.steps.invariant))
+    ap (map tree_step) c.reverse.ensures.items
+    ∙ (map_reverse tree_step c.steps.steps.items
+    ∙ (ap (λ (xs : List Step). xs ++ reverse (map tree_step c.steps.steps.items)) (sym (ap path_of c.in-Root.is ∙ ends)) ∙ c.steps.invariant))
 
 pub steps-preserved : goal.steps-preserved
 steps-preserved c =
     let linked : path_of c.steps.rest ≡ path_of c.in-Below.front.now ++ node_step_of c.in-Below.last ∷ [] = ap path_of c.in-Below.is ∙ search (rules, the_lemmas) in
-    ap (λ l. path_of c.in-Below.front.now ++ reverse (map step_of l)) c.in_ok-push-in-Below.ensures.items
-    ∙ pushed_back step_of (path_of c.in-Below.front.now) c.steps.steps.items c.in_ok-owned-in-Below.field-0
-    ∙ ap (λ s. (path_of c.in-Below.front.now ++ s ∷ []) ++ reverse (map step_of c.steps.steps.items)) c.in_ok-owned-in-Below.ensures
-    ∙ ap (λ (xs : List Step). xs ++ reverse (map step_of c.steps.steps.items)) (sym linked) ∙ c.steps.invariant
+    ap (λ l. path_of c.in-Below.front.now ++ reverse (map tree_step l)) c.in_ok-push-in-Below.ensures.items
+    ∙ pushed_back tree_step (path_of c.in-Below.front.now) c.steps.steps.items c.in_ok-owned-in-Below.field-0
+    ∙ ap (λ s. (path_of c.in-Below.front.now ++ s ∷ []) ++ reverse (map tree_step c.steps.steps.items)) c.in_ok-owned-in-Below.ensures
+    ∙ ap (λ (xs : List Step). xs ++ reverse (map tree_step c.steps.steps.items)) (sym linked) ∙ c.steps.invariant
 
 pub steps-smaller : goal.steps-smaller
 steps-smaller c =

@@ -1,10 +1,10 @@
 use Rattle.std.proofs.Common.{◌≡◌, ◌++◌, length, map, reverse}
-use Rattle.yq_nodes.specs.Entries.{step_of}
+use Rattle.yq_nodes.specs.Entries.{tree_step}
 use Rattle.yq_matching.specs.PlaceView.{path_of}
 use Rattle.yq_expr.proofs.steps.path_steps.Given as goal
 
 abbrev pub invariant-steps : goal.invariant-steps
-invariant-steps l = path_of l.rest ++ reverse (map step_of l.steps.items) ≡ path_of l.fn.path
+invariant-steps l = path_of l.rest ++ reverse (map tree_step l.steps.items) ≡ path_of l.fn.path
 
 abbrev pub decreases-steps : goal.decreases-steps
 decreases-steps l = length (path_of l.rest)

@@ -13,4 +13,4 @@ pub returns : goal.returns
 returns c =
     let inner = c.split_at-2.ensures.front ∙ between_quotes c.args.piece.now _ c.split_at.ensures.back in
     let quote = ap (λ (l : List ℕ). slice_index l 0) c.as_bytes.ensures.value in
-    ap (spec.content_of (slice_index c.as_bytes.result.now 0)) inner ∙ ap (λ q. spec.content_of q (take (length c.args.piece.now - 2) (drop 1 c.args.piece.now))) quote
+    ap (spec.quoted_text (slice_index c.as_bytes.result.now 0)) inner ∙ ap (λ q. spec.quoted_text q (take (length c.args.piece.now - 2) (drop 1 c.args.piece.now))) quote

@@ -9,4 +9,4 @@ abbrev pub decreases-each : goal.decreases-each
 decreases-each l = length l.rest
 
 abbrev pub invariant-each : goal.invariant-each
-invariant-each l = record { text : shadow (Utf8 l.rest); so_far : string_bytes l.out ++ spec.content_on l.quote 0 (spec.before_of l.joined) [] l.rest ≡ spec.content_of l.quote l.text }
+invariant-each l = record { text : shadow (Utf8 l.rest); so_far : string_bytes l.out ++ spec.content_on l.quote 0 (spec.before_of l.joined) [] l.rest ≡ spec.quoted_text l.quote l.text }

@@ -9,4 +9,4 @@ abbrev pub decreases-each : goal.decreases-each
 decreases-each l = length l.rest
 
 abbrev pub invariant-each : goal.invariant-each
-invariant-each l = record { text : shadow (Utf8 l.rest); wanted : shadow (Utf8 l.wanted); so_far : bytes_eq (spec.content_on l.quote 0 (spec.before_of l.joined) [] l.rest) l.wanted ≡ bytes_eq (spec.content_of l.quote l.text) l.content }
+invariant-each l = record { text : shadow (Utf8 l.rest); wanted : shadow (Utf8 l.wanted); so_far : bytes_eq (spec.content_on l.quote 0 (spec.before_of l.joined) [] l.rest) l.wanted ≡ bytes_eq (spec.quoted_text l.quote l.text) l.content }

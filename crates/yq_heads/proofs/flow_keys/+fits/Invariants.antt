@@ -1,12 +1,12 @@
 use Rattle.std.proofs.Common.{◌≡◌, drop, ◌+◌, ◌*◌}
-use Rattle.yq_nodes.specs.View.{view, items_end, entries_end}
+use Rattle.yq_nodes.specs.View.{inline_view, items_end, entries_end}
 use Rattle.yq_documents.specs.KeyReading.{parts_fit}
 use Rattle.yq_nodes.specs.Spans.{PartsHaveSpans}
 use Rattle.yq_lines.proofs.SizeLaws.{node_size, parts_size}
 use Rattle.yq_heads.proofs.flow_keys.+fits.Given as goal
 
 abbrev pub decreases-keys_fault : goal.decreases-keys_fault
-decreases-keys_fault l = 2 * node_size (view l.node.now)
+decreases-keys_fault l = 2 * node_size (inline_view l.node.now)
 
 abbrev pub decreases-items_fault : goal.decreases-items_fault
 decreases-items_fault l = 2 * parts_size (items_end l.items.now.items) + 1

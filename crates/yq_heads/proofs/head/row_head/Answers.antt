@@ -2,7 +2,7 @@ use Rattle.std.proofs.Common.{◌≡◌, rules, List, ℕ, true, sym, ◌∙◌,
 use Rattle.std.proofs.lemmas.Int.{to_z-of_z}
 use Rattle.std.proofs.lemmas.Option.{same_Some}
 use Rattle.yq_nodes.specs.Scalars.{is_quoted}
-use Rattle.yq_cut.specs.View.{view as row_view}
+use Rattle.yq_cut.specs.View.{row_view}
 use Rattle.yq_flow_scalars.specs.Quoted.{IsQuotedText}
 use Rattle.yq_documents.proofs.RowFlowLaws.{flow_again}
 use Rattle.yq_documents.proofs.RowLineLaws.{quoted_again, head_again}

@@ -1,7 +1,7 @@
 use Rattle.std.proofs.Common.{◌≡◌, sym, ap, ◌∙◌}
 use Rattle.std.specs.FinMap.{get}
 use Rattle.yq_journal.specs.Good.{journal_beside}
-use Rattle.yq_records.specs.State.{settled}
+use Rattle.yq_records.specs.State.{settled_beside}
 use Rattle.yq_history.proofs.PairLaws.{opens}
 use Rattle.yq_history.proofs.EffectLaws.{settles}
 use Rattle.yq_history.proofs.pair.open_pair.Goals as goal
@@ -14,7 +14,7 @@ returns-clause-opens g c = λ keeps h good.
     (c.in_ok-state.ensures.same keeps ∙ first)
     (c.in_ok-text.ensures.found keeps)
     (sym (ap (λ m. journal_beside (get m c.args.journal.now)) first) ∙ c.in_ok-state.ensures.ok keeps)
-    (sym (ap (settled c.in_ok-state.state) c.deref.ensures.value) ∙ c.in_ok-settle.ensures.ok)
+    (sym (ap (settled_beside c.in_ok-state.state) c.deref.ensures.value) ∙ c.in_ok-settle.ensures.ok)
     good
 
 pub returns-clause-found : goal.returns-clause-found
@@ -23,4 +23,4 @@ returns-clause-found g c = λ keeps go.
     let first : content c.read.new.self ≡ content c.args.store.now = c.in_ok-text.ensures.same keeps in
     settles (get (content c.args.store.now) c.args.file.now) (get (content c.args.store.now) c.args.journal.now) _ (c.in_ok-text.ensures.found keeps)
     _ (sym (ap (λ m. journal_beside (get m c.args.journal.now)) first) ∙ c.in_ok-state.ensures.ok keeps)
-    _ (sym (ap (settled c.in_ok-state.state) c.deref.ensures.value) ∙ c.in_ok-settle.ensures.ok) go
+    _ (sym (ap (settled_beside c.in_ok-state.state) c.deref.ensures.value) ∙ c.in_ok-settle.ensures.ok) go

@@ -2,7 +2,7 @@ use Rattle.std.proofs.Common.{ℕ, Bool, List, Ok, Err, sym, ap, ap₂, ◌∙�
 use Rattle.std.proofs.lemmas.Result.{err_from_is_err_and}
 use Rattle.yq_history.specs.Effects.{listing_effect, printed_by}
 use Rattle.yq_history.specs.Listing.{record_lines}
-use Rattle.yq_history.specs.Faults.{is_outside}
+use Rattle.yq_history.specs.Faults.{is_outer_fault}
 use Rattle.yq_history.specs.Report.{Report}
 use Rattle.yq_history.proofs.PrintLaws.{listed_output}
 use Rattle.yq_history.proofs.EffectLaws.{not_opened, from_opened, listing_cut}
@@ -25,7 +25,7 @@ pub returns-in_err-report-clause-effect : goal.returns-in_err-report-clause-effe
 returns-in_err-report-clause-effect g c = λ keeps.
     let p = err_from_is_err_and c.from_residual-in_err-report.result c.from_residual-in_err-report.ensures.1 in
     from_opened _ _ listing_effect _ _ (g.D.Store.content c.args.store.now) _ _ c.in_ok-_text._text.items c.in_ok-_text.state c.from_residual-in_err-report.result (c.in_ok-_text.ensures.same keeps) (c.in_ok-_text.ensures.found keeps listing_effect)
-    (listing_cut c.args.file.now c.args.journal.now _ (record_lines c.in_ok-_text.state) c.from_residual-in_err-report.result p.0 p.1 (ap is_outside p.2))
+    (listing_cut c.args.file.now c.args.journal.now _ (record_lines c.in_ok-_text.state) c.from_residual-in_err-report.result p.0 p.1 (ap is_outer_fault p.2))
 
 pub returns-clause-effect : goal.returns-clause-effect
 returns-clause-effect g c = λ keeps.

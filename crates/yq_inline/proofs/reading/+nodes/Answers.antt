@@ -5,7 +5,7 @@ use Rattle.yq_nodes.specs.declared.inline.Form.TheFolds.{the_lemmas}
 use Rattle.yq_nodes.specs.Nodes.{begins_content}
 use Rattle.yq_nodes.specs.Places.{Placed}
 use Rattle.yq_nodes.specs.PlacedReading.{placed_coll}
-use Rattle.yq_nodes.specs.View.{entries_end, form_view, items_end, view}
+use Rattle.yq_nodes.specs.View.{entries_end, form_view, items_end, inline_view}
 use Rattle.yq_inline.proofs.FormLaws.{content_fails, content_given, form_alias, form_unnamed, sequence_form, mapping_form, text_form, no_form, coll_unopened, coll_given, coll_fails, item_given, item_refused, item_fails, gives_same}
 use Rattle.yq_inline.proofs.reading.+nodes.Goals as goal
 
@@ -61,7 +61,7 @@ pub read_item-returns-in_err-behind-in-Ok-clause-read : goal.read_item-returns-i
 read_item-returns-in_err-behind-in-Ok-clause-read t c = search (rules, item_refused)
 
 pub read_item-returns-in_ok-behind-in-Ok-clause-read : goal.read_item-returns-in_ok-behind-in-Ok-clause-read
-read_item-returns-in_ok-behind-in-Ok-clause-read t c = item_given (length c.args.whole.now) c.args.depth c.args.text.now (view c.in-Ok.item) c.in-Ok.rest.now c.in_ok-behind-in-Ok.behind.now c.in-Ok.ensures.read c.in_ok-behind-in-Ok.ensures.read
+read_item-returns-in_ok-behind-in-Ok-clause-read t c = item_given (length c.args.whole.now) c.args.depth c.args.text.now (inline_view c.in-Ok.item) c.in-Ok.rest.now c.in_ok-behind-in-Ok.behind.now c.in-Ok.ensures.read c.in_ok-behind-in-Ok.ensures.read
 
 pub read_item-returns-in_ok-behind-in-Ok-clause-shorter : goal.read_item-returns-in_ok-behind-in-Ok-clause-shorter
 read_item-returns-in_ok-behind-in-Ok-clause-shorter t c = omega (arith, c.in_ok-behind-in-Ok.ensures.shorter, node_shorter (length c.args.whole.now) c.args.depth c.args.text.now _ _ c.in-Ok.ensures.read c.in_ok-behind-in-Ok.ensures.some)

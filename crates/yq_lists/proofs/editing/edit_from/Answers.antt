@@ -2,7 +2,7 @@ use Rattle.std.proofs.Common.{◌≡◌, ℕ, List, Err, string_bytes, sym, ap, 
 use Rattle.std.proofs.lemmas.Result.{err_from_is_err_and}
 use Rattle.yq_history.proofs.MoveLaws.{on_ok_map}
 use Rattle.yq_program.specs.View.{program_of}
-use Rattle.yq_commands.specs.Editing.{edited, edits}
+use Rattle.yq_commands.specs.Editing.{edited, program_edits}
 use Rattle.yq_commands.specs.FileEdits.{IsTextEdited}
 use Rattle.yq_commands.proofs.EditEffects.{edit_fails}
 use Rattle.yq_commands.proofs.FileEditLaws.{holds_comes}
@@ -14,8 +14,8 @@ returns g c =
     let a = c.in_ok-edited_to in
     let u : List ℕ = string_bytes a.field-0.text in
     let new : u ≡ c.as_bytes.result.now = sym c.as_bytes.ensures.value in
-    let gives : edits (program_of c.args.program.now) c.args.text.items ≡ edited c.as_bytes.result.now a.field-0.splices.items =
-    ap (edits (program_of c.args.program.now)) (sym c.as_slice.ensures.value) ∙ a.ensures.ok ∙ (λ i. edited (new i) a.field-0.splices.items) in
+    let gives : program_edits (program_of c.args.program.now) c.args.text.items ≡ edited c.as_bytes.result.now a.field-0.splices.items =
+    ap (program_edits (program_of c.args.program.now)) (sym c.as_slice.ensures.value) ∙ a.ensures.ok ∙ (λ i. edited (new i) a.field-0.splices.items) in
     record {
       arrives = λ keeps apart h k. e.arrives keeps apart h (program_of c.args.program.now) k gives;
       effect = λ keeps apart. e.effect keeps apart (program_of c.args.program.now) gives;
@@ -34,4 +34,4 @@ returns-in_err-edited_to-clause-effect g c =
     let p = err_from_is_err_and c.from_residual.result c.from_residual.ensures.1 in
     rw (← c.as_slice.ensures.value)
     (λ keeps apart. edit_fails c.args.file.now c.args.journal.now (g.D.Store.content c.args.store.now) c.args.expr.now c.args.state.now c.as_slice.result.now
-    (edits (program_of c.args.program.now) c.as_slice.result.now) c.from_residual.result _ (p.1 ∙ ap Err p.2) c.in_err-edited_to.ensures.err)
+    (program_edits (program_of c.args.program.now) c.as_slice.result.now) c.from_residual.result _ (p.1 ∙ ap Err p.2) c.in_err-edited_to.ensures.err)

@@ -2,7 +2,7 @@ use Rattle.std.proofs.Common.{rules, ◌≡◌, ◌∷◌, ◌++◌, [], ◌+◌
 use Rattle.std.specs.List.{list_all}
 use Rattle.std.proofs.lemmas.Grind.{common_steps}
 use Rattle.std.proofs.lemmas.List.{append-nil, take_more}
-use Rattle.yq_store.specs.Count.{one_more}
+use Rattle.yq_store.specs.Count.{count_plus_one}
 use Rattle.yq_commands.specs.CommandNames.{IsNotNamed}
 use Rattle.yq_commands.specs.Lists.{Keeps, failures_in, output_failures_in, reports_failure, reports_output}
 use Rattle.yq_history.specs.Report.{report_by}
@@ -39,7 +39,7 @@ commands-preserved g c =
     let ok : is_ok c.push.result ≡ true = ap is_ok c.unwrap.ensures in
     let pushed : c.push.new.self.items ≡ c.commands.answers.items ++ answer ∷ [] =
     c.push.ensures.items ∙ ap (λ b. if b then c.commands.answers.items ++ answer ∷ [] else c.commands.answers.items) ok in
-    let put : failures c.answer_of-answer.new.out ≡ (if reports_output answer then one_more (failures c.commands.out) else failures c.commands.out) =
+    let put : failures c.answer_of-answer.new.out ≡ (if reports_output answer then count_plus_one (failures c.commands.out) else failures c.commands.out) =
     put_passing done answer report (failures c.commands.out) _ answered ran.no_output c.answer_of-answer.ensures.count in
     record {
       count = c.push.ensures.len ∙ ap (λ b. if b then vec_len c.commands.answers + 1 else vec_len c.commands.answers) ok ∙ ap (λ n. n + 1) before.count;

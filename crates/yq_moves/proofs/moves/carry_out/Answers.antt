@@ -6,7 +6,7 @@ use Rattle.std.specs.FinMap.{get}
 use Rattle.yq_store.specs.FileMap.{get_written}
 use Rattle.yq_history.proofs.EffectLaws.{on_ok}
 use Rattle.std.proofs.lemmas.Option.{none-some}
-use Rattle.yq_history.specs.Faults.{counted}
+use Rattle.yq_history.specs.Faults.{failures_after}
 use Rattle.yq_moves.proofs.FaultLaws.{all_outside, way_there}
 use Rattle.yq_moves.proofs.moves.carry_out.Goals as goal
 
@@ -44,7 +44,7 @@ returns g c =
           absurd (barred free);
       others = λ keeps q apart beside. c.write_journal-2.ensures.others keeps q beside ∙ c.in_ok-replace.ensures.others keeps q apart ∙ c.in_ok-write_journal.ensures.others keeps q beside;
       no_output = c.write_journal-2.ensures.no_output;
-      count = c.write_journal-2.ensures.count ∙ ap (counted c.write_journal-2.result) (c.in_ok-replace.ensures.count ∙ c.in_ok-write_journal.ensures.count);
+      count = c.write_journal-2.ensures.count ∙ ap (failures_after c.write_journal-2.result) (c.in_ok-replace.ensures.count ∙ c.in_ok-write_journal.ensures.count);
     }
 
 pub returns-in_err-write_journal-clause-err : goal.returns-in_err-write_journal-clause-err

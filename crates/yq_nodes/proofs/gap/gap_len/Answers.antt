@@ -1,6 +1,6 @@
 use Rattle.std.proofs.Common.{arith, sym, ap, ◌∙◌}
 use Rattle.yq_flow_scalars.proofs.Across.{rest_length}
-use Rattle.yq_nodes.specs.Gaps.{is_break}
+use Rattle.yq_nodes.specs.Gaps.{at_line_start}
 use Rattle.yq_nodes.proofs.GapLoops.{gap_stops, gap_goes, gap_none}
 use Rattle.yq_nodes.proofs.gap.gap_len.Goals as goal
 
@@ -12,7 +12,7 @@ returns-then-not-goes-clause-len c =
 pub returns-then-not-goes-clause-line : goal.returns-then-not-goes-clause-line
 returns-then-not-goes-clause-line c =
     let here = gap_stops c.bytes.before c.bytes.rest.now c.in-len1-up.len_at_least (sym c.goes.ensures ∙ c.if-not-goes.true) in
-    c.is_break.ensures ∙ ap is_break (sym here.1 ∙ c.bytes.invariant.stands)
+    c.is_break.ensures ∙ ap at_line_start (sym here.1 ∙ c.bytes.invariant.stands)
 
 pub bytes-preserved : goal.bytes-preserved
 bytes-preserved c =
@@ -27,4 +27,4 @@ pub returns-clause-len : goal.returns-clause-len
 returns-clause-len c = omega (arith, (gap_none c.bytes.before c.bytes.rest.now c.in_default.len_below).0, c.bytes.invariant.so_far)
 
 pub returns-clause-line : goal.returns-clause-line
-returns-clause-line c = c.is_break-2.ensures ∙ ap is_break (sym (gap_none c.bytes.before c.bytes.rest.now c.in_default.len_below).1 ∙ c.bytes.invariant.stands)
+returns-clause-line c = c.is_break-2.ensures ∙ ap at_line_start (sym (gap_none c.bytes.before c.bytes.rest.now c.in_default.len_below).1 ∙ c.bytes.invariant.stands)

@@ -1,13 +1,13 @@
 use Rattle.std.proofs.Common.{ap, arith, sym, ◌∙◌}
 use Rattle.yq_flow_scalars.specs.Paths.{To}
-use Rattle.yq_nodes.specs.Entries.{part_at}
+use Rattle.yq_nodes.specs.Entries.{flow_part_at}
 use Rattle.yq_nodes.specs.View.{entries_end}
 use Rattle.yq_nodes.proofs.PathLoops.{Field, entry_found, entry_past, entry_missing}
 use Rattle.std.proofs.Common.{List}
 use Rattle.yq_nodes.proofs.path.entry_at.Goals as goal
 
 pub each-init : goal.each-init
-each-init c = ap (λ (es : List Field). part_at (To c.args.key.now) (entries_end es)) c.deref-entry-items.ensures.value
+each-init c = ap (λ (es : List Field). flow_part_at (To c.args.key.now) (entries_end es)) c.deref-entry-items.ensures.value
 
 pub returns-then-eq : goal.returns-then-eq
 returns-then-eq c = entry_found c.args.key.now c.deref-entry-items.result.now c.each.entry-index c.entry-item.result c.entry-item.result c.as_str-then-eq.result.now _ (omega (arith, c.each-test.true)) c.entry-item.is c.as_str-then-eq.ensures.value

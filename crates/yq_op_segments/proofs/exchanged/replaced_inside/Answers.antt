@@ -1,5 +1,5 @@
 use Rattle.std.proofs.Common.{◌∙◌}
-use Rattle.yq_nodes.specs.Values.{node_of}
+use Rattle.yq_nodes.specs.Values.{value_node}
 use Rattle.yq_cut.specs.Rows.{cut_text}
 use Rattle.yq_documents.specs.Reading.{cut_of}
 use Rattle.yq_op_segments.proofs.ChoiceLaws.{put_inside, put_nowhere}
@@ -7,7 +7,7 @@ use Rattle.yq_op_segments.proofs.exchanged.replaced_inside.Goals as goal
 
 pub returns-in_default : goal.returns-in_default
 returns-in_default c =
-    λ h. put_nowhere c.unless_kept.result (cut_text (cut_of c.args.cut.now)) (node_of c.args.value.now) _ _ _ h (c.in_ok-inside.ensures ∙ c.in_default.is) c.unless_kept.ensures
+    λ h. put_nowhere c.unless_kept.result (cut_text (cut_of c.args.cut.now)) (value_node c.args.value.now) _ _ _ h (c.in_ok-inside.ensures ∙ c.in_default.is) c.unless_kept.ensures
 
 pub returns : goal.returns
-returns c = λ h. put_inside (cut_text (cut_of c.args.cut.now)) (node_of c.args.value.now) _ _ _ c.in-Some.segments h (c.in_ok-inside.ensures ∙ c.in-Some.is)
+returns c = λ h. put_inside (cut_text (cut_of c.args.cut.now)) (value_node c.args.value.now) _ _ _ c.in-Some.segments h (c.in_ok-inside.ensures ∙ c.in-Some.is)

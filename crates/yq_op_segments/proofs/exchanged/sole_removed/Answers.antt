@@ -4,7 +4,7 @@ use Rattle.yq_documents.specs.Located.{steps_of}
 use Rattle.yq_documents.specs.Reading.{cut_of}
 use Rattle.yq_row_places.specs.Standings.{last_step}
 use Rattle.yq_edits.specs.Answers.{GivesSegments}
-use Rattle.yq_edits.specs.Edits.{replaced}
+use Rattle.yq_edits.specs.Edits.{replace_segments}
 use Rattle.yq_outcomes.specs.Emptying.{Emptied, emptied_view}
 use Rattle.yq_outcomes.proofs.EmptyingAnswers.{sole_by_emptying}
 use Rattle.yq_op_segments.proofs.exchanged.sole_removed.Goals as goal
@@ -14,5 +14,5 @@ returns c =
     let cut = cut_of c.args.cut.now in
     let empties = sym c.in_ok-empty.ensures ∙ ap (option_map emptied_view) c.in-Some.is in
     subst (GivesSegments c.replaced.result)
-    (sym (sole_by_emptying c.args.path.now.doc cut (last_step (steps_of c.args.path.now)) ∙ ap (λ (o : Option Emptied). o >>= λ e. replaced e.doc e.steps e.value cut) empties))
+    (sym (sole_by_emptying c.args.path.now.doc cut (last_step (steps_of c.args.path.now)) ∙ ap (λ (o : Option Emptied). o >>= λ e. replace_segments e.doc e.steps e.value cut) empties))
     c.replaced.ensures

@@ -2,60 +2,60 @@ use Rattle.std.proofs.Common.{◌∙◌, ℕ, List, Option, Some, map, refl, sym
 use Rattle.yq_flow_scalars.specs.Answers.{◌>>=◌}
 use Rattle.yq_flow_scalars.specs.declared.style.Place.TheVariants.{Flow as InFlow}
 use Rattle.yq_nodes.specs.Collections.{CollPieces}
-use Rattle.yq_nodes.specs.Entries.{entry_view, step_of}
-use Rattle.yq_nodes.specs.Values.{node_of}
-use Rattle.yq_nodes.specs.View.{view}
+use Rattle.yq_nodes.specs.Entries.{entry_view, tree_step}
+use Rattle.yq_nodes.specs.Values.{value_node}
+use Rattle.yq_nodes.specs.View.{inline_view}
 use Rattle.yq_flow_scalars.specs.Tree.{Node}
 use Rattle.yq_documents.specs.Located.{steps_of}
 use Rattle.yq_documents.specs.Reading.{cut_of}
 use Rattle.yq_row_places.specs.Standings.{flow_part, flow_standing, last_step}
-use Rattle.yq_edits.specs.Replacing.{is_kept}
+use Rattle.yq_edits.specs.Replacing.{keeps_scalar}
 use Rattle.yq_edits.specs.WrittenValues.{value_text}
-use Rattle.yq_outcomes.specs.PartPuts.{IsHeadOf}
+use Rattle.yq_outcomes.specs.PartPuts.{IsHeadOfPath}
 use Rattle.yq_outcomes.proofs.FlowAnswers.{coll_found}
 use Rattle.yq_outcomes.proofs.PutAnswers.{content_missing, no_collection, node_there, place_found, standing_there, text_found}
 use Rattle.yq_outcomes.proofs.put.put_at_part.Goals as goal
 
 pub returns-in_default-collection_in : goal.returns-in_default-collection_in
 returns-in_default-collection_in c =
-    let last = c.in-Some.ensures ∙ ap (λ ss. last_step (map step_of ss)) c.deref.ensures.value in
-    let agrees = subst (λ o. IsHeadOf c.args.path.now.doc o c.args.cut.now c.args.head.now) (sym last) c.requires in
-    ap (flow_standing c.args.path.now.doc (cut_of c.args.cut.now)) (sym last) ∙ ap (λ (o : Option CollPieces). o >>= flow_part (step_of c.in-Some.last.now)) (no_collection c.args.cut.now _ c.args.head.now agrees c.in_default-collection_in.ensures)
+    let last = c.in-Some.ensures ∙ ap (λ ss. last_step (map tree_step ss)) c.deref.ensures.value in
+    let agrees = subst (λ o. IsHeadOfPath c.args.path.now.doc o c.args.cut.now c.args.head.now) (sym last) c.requires in
+    ap (flow_standing c.args.path.now.doc (cut_of c.args.cut.now)) (sym last) ∙ ap (λ (o : Option CollPieces). o >>= flow_part (tree_step c.in-Some.last.now)) (no_collection c.args.cut.now _ c.args.head.now agrees c.in_default-collection_in.ensures)
 
 pub returns-in_default-part : goal.returns-in_default-part
 returns-in_default-part c =
-    let last = c.in-Some.ensures ∙ ap (λ ss. last_step (map step_of ss)) c.deref.ensures.value in
-    let agrees = subst (λ o. IsHeadOf c.args.path.now.doc o c.args.cut.now c.args.head.now) (sym last) c.requires in
-    let q = view c.in-Some-collection_in.node.now in
+    let last = c.in-Some.ensures ∙ ap (λ ss. last_step (map tree_step ss)) c.deref.ensures.value in
+    let agrees = subst (λ o. IsHeadOfPath c.args.path.now.doc o c.args.cut.now c.args.head.now) (sym last) c.requires in
+    let q = inline_view c.in-Some-collection_in.node.now in
     let f = coll_found c.args.cut.now c.args.path.now.doc _ (Some c.args.head.now) c.args.head.now q c.text-text.ensures.read agrees refl c.in-Some-collection_in.ensures in
-    content_missing _ _ (steps_of c.args.path.now) _ (step_of c.in-Some.last.now) c.args.head.now q last f _ c.in_default-part.ensures refl
+    content_missing _ _ (steps_of c.args.path.now) _ (tree_step c.in-Some.last.now) c.args.head.now q last f _ c.in_default-part.ensures refl
 
 pub returns-then-is_same_node : goal.returns-then-is_same_node
 returns-then-is_same_node c =
-    let last = c.in-Some.ensures ∙ ap (λ ss. last_step (map step_of ss)) c.deref.ensures.value in
-    let agrees = subst (λ o. IsHeadOf c.args.path.now.doc o c.args.cut.now c.args.head.now) (sym last) c.requires in
-    let q = view c.in-Some-collection_in.node.now in
+    let last = c.in-Some.ensures ∙ ap (λ ss. last_step (map tree_step ss)) c.deref.ensures.value in
+    let agrees = subst (λ o. IsHeadOfPath c.args.path.now.doc o c.args.cut.now c.args.head.now) (sym last) c.requires in
+    let q = inline_view c.in-Some-collection_in.node.now in
     let f = coll_found c.args.cut.now c.args.path.now.doc _ (Some c.args.head.now) c.args.head.now q c.text-text.ensures.read agrees refl c.in-Some-collection_in.ensures in
     let p = entry_view c.in-Some-part.entry in (
       _,
-      standing_there _ _ (steps_of c.args.path.now) _ (step_of c.in-Some.last.now) c.args.head.now q last f _ c.in-Some-part.ensures p refl,
-      place_found _ _ (steps_of c.args.path.now) _ (step_of c.in-Some.last.now) c.args.head.now q last f _ c.in-Some-part.ensures p refl (node_of c.args.value.now) c.replace_place-place.result c.replace_place-place.ensures,
-      ap (λ (n : Option Node). is_kept n (node_of c.args.value.now)) (node_there _ _ (steps_of c.args.path.now) _ (step_of c.in-Some.last.now) c.args.head.now q last f _ c.in-Some-part.ensures p refl) ∙ (sym c.is_same_node.ensures ∙ c.if-is_same_node.true),
+      standing_there _ _ (steps_of c.args.path.now) _ (tree_step c.in-Some.last.now) c.args.head.now q last f _ c.in-Some-part.ensures p refl,
+      place_found _ _ (steps_of c.args.path.now) _ (tree_step c.in-Some.last.now) c.args.head.now q last f _ c.in-Some-part.ensures p refl (value_node c.args.value.now) c.replace_place-place.result c.replace_place-place.ensures,
+      ap (λ (n : Option Node). keeps_scalar n (value_node c.args.value.now)) (node_there _ _ (steps_of c.args.path.now) _ (tree_step c.in-Some.last.now) c.args.head.now q last f _ c.in-Some-part.ensures p refl) ∙ (sym c.is_same_node.ensures ∙ c.if-is_same_node.true),
     )
 
 pub returns : goal.returns
 returns c =
-    let last = c.in-Some.ensures ∙ ap (λ ss. last_step (map step_of ss)) c.deref.ensures.value in
-    let agrees = subst (λ o. IsHeadOf c.args.path.now.doc o c.args.cut.now c.args.head.now) (sym last) c.requires in
-    let q = view c.in-Some-collection_in.node.now in
+    let last = c.in-Some.ensures ∙ ap (λ ss. last_step (map tree_step ss)) c.deref.ensures.value in
+    let agrees = subst (λ o. IsHeadOfPath c.args.path.now.doc o c.args.cut.now c.args.head.now) (sym last) c.requires in
+    let q = inline_view c.in-Some-collection_in.node.now in
     let f = coll_found c.args.cut.now c.args.path.now.doc _ (Some c.args.head.now) c.args.head.now q c.text-text.ensures.read agrees refl c.in-Some-collection_in.ensures in
     let p = entry_view c.in-Some-part.entry in
-    let written = c.in_ok-written.ensures ∙ ap (λ (l : List ℕ). value_text InFlow l (node_of c.args.value.now)) c.bytes_at.ensures in (
+    let written = c.in_ok-written.ensures ∙ ap (λ (l : List ℕ). value_text InFlow l (value_node c.args.value.now)) c.bytes_at.ensures in (
       _,
-      standing_there _ _ (steps_of c.args.path.now) _ (step_of c.in-Some.last.now) c.args.head.now q last f _ c.in-Some-part.ensures p refl,
-      place_found _ _ (steps_of c.args.path.now) _ (step_of c.in-Some.last.now) c.args.head.now q last f _ c.in-Some-part.ensures p refl (node_of c.args.value.now) c.replace_place-place.result c.replace_place-place.ensures,
+      standing_there _ _ (steps_of c.args.path.now) _ (tree_step c.in-Some.last.now) c.args.head.now q last f _ c.in-Some-part.ensures p refl,
+      place_found _ _ (steps_of c.args.path.now) _ (tree_step c.in-Some.last.now) c.args.head.now q last f _ c.in-Some-part.ensures p refl (value_node c.args.value.now) c.replace_place-place.result c.replace_place-place.ensures,
       (
-        ap (λ (n : Option Node). is_kept n (node_of c.args.value.now)) (node_there _ _ (steps_of c.args.path.now) _ (step_of c.in-Some.last.now) c.args.head.now q last f _ c.in-Some-part.ensures p refl) ∙ (sym c.is_same_node.ensures ∙ c.if-is_same_node.false),
-        written ∙ text_found _ _ (steps_of c.args.path.now) _ (step_of c.in-Some.last.now) c.args.head.now q last f _ c.in-Some-part.ensures p refl (node_of c.args.value.now) c.replace_place-place.result c.replace_place-place.ensures,
+        ap (λ (n : Option Node). keeps_scalar n (value_node c.args.value.now)) (node_there _ _ (steps_of c.args.path.now) _ (tree_step c.in-Some.last.now) c.args.head.now q last f _ c.in-Some-part.ensures p refl) ∙ (sym c.is_same_node.ensures ∙ c.if-is_same_node.false),
+        written ∙ text_found _ _ (steps_of c.args.path.now) _ (tree_step c.in-Some.last.now) c.args.head.now q last f _ c.in-Some-part.ensures p refl (value_node c.args.value.now) c.replace_place-place.result c.replace_place-place.ensures,
       ),
     )

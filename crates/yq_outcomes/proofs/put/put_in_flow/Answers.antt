@@ -1,7 +1,7 @@
 use Rattle.std.proofs.Common.{◌∙◌, ℕ, List, map, sym, ap, subst}
-use Rattle.yq_text.specs.Halves.{whole}
-use Rattle.yq_nodes.specs.Entries.{step_of}
-use Rattle.yq_nodes.specs.Values.{node_of}
+use Rattle.yq_text.specs.Halves.{halves_text}
+use Rattle.yq_nodes.specs.Entries.{tree_step}
+use Rattle.yq_nodes.specs.Values.{value_node}
 use Rattle.yq_documents.specs.Located.{steps_of}
 use Rattle.yq_documents.specs.Reading.{cut_of}
 use Rattle.yq_flow.specs.FlowPlaces.{edit_view}
@@ -10,30 +10,30 @@ use Rattle.yq_row_places.specs.FlowViews.{FlowAgrees}
 use Rattle.yq_row_places.specs.Standings.{last_step}
 use Rattle.yq_edits.specs.Answers.{GivesSegments}
 use Rattle.yq_outcomes.specs.EditPlaces.{LiesIn, moved_on}
-use Rattle.yq_outcomes.specs.PartPuts.{ArePuts, IsHeadOf}
+use Rattle.yq_outcomes.specs.PartPuts.{ArePuts, IsHeadOfPath}
 use Rattle.yq_outcomes.proofs.FlowAnswers.{whole_text}
 use Rattle.yq_outcomes.proofs.PutAnswers.{puts_none, puts_written}
 use Rattle.yq_outcomes.proofs.put.put_in_flow.Goals as goal
 
 pub put_at_part-requires : goal.put_at_part-requires
 put_at_part-requires c =
-    let last = c.in-Some.ensures ∙ ap (λ ss. last_step (map step_of ss)) c.deref.ensures.value in
-    let agrees = subst (FlowAgrees c.args.cut.now (flow_collection c.args.path.now.doc (map step_of c.in-Some.above.now) (cut_of c.args.cut.now))) c.in-Some-found.is c.in_ok-found.ensures.found in
-    subst (λ o. IsHeadOf c.args.path.now.doc o c.args.cut.now c.in-Some-found.head) last agrees
+    let last = c.in-Some.ensures ∙ ap (λ ss. last_step (map tree_step ss)) c.deref.ensures.value in
+    let agrees = subst (FlowAgrees c.args.cut.now (flow_collection c.args.path.now.doc (map tree_step c.in-Some.above.now) (cut_of c.args.cut.now))) c.in-Some-found.is c.in_ok-found.ensures.found in
+    subst (λ o. IsHeadOfPath c.args.path.now.doc o c.args.cut.now c.in-Some-found.head) last agrees
 
 pub returns-in_default-put : goal.returns-in_default-put
 returns-in_default-put c =
-    puts_none c.args.path.now.doc (steps_of c.args.path.now) (node_of c.args.value.now) (cut_of c.args.cut.now)
-    (subst (ArePuts c.args.path.now.doc (steps_of c.args.path.now) (node_of c.args.value.now) (cut_of c.args.cut.now) c.in-Some-found.head) c.in_default-put.is c.in_ok-put.ensures)
+    puts_none c.args.path.now.doc (steps_of c.args.path.now) (value_node c.args.value.now) (cut_of c.args.cut.now)
+    (subst (ArePuts c.args.path.now.doc (steps_of c.args.path.now) (value_node c.args.value.now) (cut_of c.args.cut.now) c.in-Some-found.head) c.in_default-put.is c.in_ok-put.ensures)
 
 pub edit_at-requires : goal.edit_at-requires
 edit_at-requires c =
-    let h = subst (ArePuts c.args.path.now.doc (steps_of c.args.path.now) (node_of c.args.value.now) (cut_of c.args.cut.now) c.in-Some-found.head) c.in-Some-put.is c.in_ok-put.ensures in
-    let all = whole_text c.args.cut.now (whole c.text-text.result) c.text-text.ensures.read c.text-text.ensures.text in
+    let h = subst (ArePuts c.args.path.now.doc (steps_of c.args.path.now) (value_node c.args.value.now) (cut_of c.args.cut.now) c.in-Some-found.head) c.in-Some-put.is c.in_ok-put.ensures in
+    let all = whole_text c.args.cut.now (halves_text c.text-text.result) c.text-text.ensures.read c.text-text.ensures.text in
     record { lies = subst (λ (t : List ℕ). LiesIn t (moved_on c.in-Some-found.head.before (edit_view c.in-Some-put.field-0.place))) (sym all) h.2.lies }
 
 pub returns-in-Some-written : goal.returns-in-Some-written
 returns-in-Some-written c =
-    let h = subst (ArePuts c.args.path.now.doc (steps_of c.args.path.now) (node_of c.args.value.now) (cut_of c.args.cut.now) c.in-Some-found.head) c.in-Some-put.is c.in_ok-put.ensures in
-    let all = whole_text c.args.cut.now (whole c.text-text.result) c.text-text.ensures.read c.text-text.ensures.text in
-    subst (GivesSegments c.edit_at.result) (sym (puts_written c.args.path.now.doc (steps_of c.args.path.now) (node_of c.args.value.now) (cut_of c.args.cut.now) c.in-Some-found.head c.in-Some-put.field-0 c.in-Some-written.written (whole c.text-text.result) c.in-Some-written.is all h)) c.edit_at.ensures
+    let h = subst (ArePuts c.args.path.now.doc (steps_of c.args.path.now) (value_node c.args.value.now) (cut_of c.args.cut.now) c.in-Some-found.head) c.in-Some-put.is c.in_ok-put.ensures in
+    let all = whole_text c.args.cut.now (halves_text c.text-text.result) c.text-text.ensures.read c.text-text.ensures.text in
+    subst (GivesSegments c.edit_at.result) (sym (puts_written c.args.path.now.doc (steps_of c.args.path.now) (value_node c.args.value.now) (cut_of c.args.cut.now) c.in-Some-found.head c.in-Some-put.field-0 c.in-Some-written.written (halves_text c.text-text.result) c.in-Some-written.is all h)) c.edit_at.ensures

@@ -2,7 +2,7 @@ use Rattle.std.proofs.Common.{not, Some, ◌&&◌, sym, ap, ◌∙◌}
 use Rattle.std.proofs.lemmas.Option.{same_Some}
 use Rattle.std.specs.List.{slice_get}
 use Rattle.yq_flow_scalars.specs.Text.{is_empty}
-use Rattle.yq_nodes.specs.Nodes.{first_is}
+use Rattle.yq_nodes.specs.Nodes.{begins_with}
 use Rattle.yq_cut.specs.View.{slices}
 use Rattle.yq_lines.specs.Lines.{row_lines}
 use Rattle.yq_lines.proofs.WalkPositions.{located}
@@ -28,5 +28,5 @@ returns c = λ h l is.
     let v = row_content h.limit h.rows h.end h.rest _ k.row h.valid k.there in
     let first = ap (slice_get (row_lines k.row)) (sym c.requires.first) ∙ (k.in_row ∙ ap Some own) in
     c.is_unnamed.ensures
-    ∙ ((λ i. is_empty (c.anchor.ensures (slices k.row) k.pieces i) && not (first_is 42 (c.head.ensures (slices k.row) k.pieces i)))
+    ∙ ((λ i. is_empty (c.anchor.ensures (slices k.row) k.pieces i) && not (begins_with 42 (c.head.ensures (slices k.row) k.pieces i)))
     ∙ bare_agrees (parent_indent k.row) k.row v.0 l v.1 first (c.if-not-is_bare.ensures h l is))

@@ -3,7 +3,7 @@ use Rattle.std.specs.Prelude.{is_none}
 use Rattle.yq_flow_scalars.specs.Text.{is_empty}
 use Rattle.yq_lines.specs.LinesReading.{have_one_anchor_each, is_free}
 use Rattle.yq_cut.specs.View.{slices}
-use Rattle.yq_lines.specs.Lines.{content_anchor, lines_of}
+use Rattle.yq_lines.specs.Lines.{content_anchor, lines_of_rows}
 use Rattle.yq_lines.specs.RowWalk.{IsLine}
 use Rattle.yq_lines.proofs.WalkRows.{rows_length}
 use Rattle.yq_lines.proofs.WalkPositions.{located}
@@ -20,7 +20,7 @@ rows-init c = record {
   text = search rules;
   so_far = λ h.
       let none : 0 ≡ c.args.x.document.first - c.args.x.document.first = omega arith in
-      ap (λ (j : ℕ). have_one_anchor_each (lines_of (drop j h.rows))) none;
+      ap (λ (j : ℕ). have_one_anchor_each (lines_of_rows (drop j h.rows))) none;
 }
 
 pub is_free-requires-clause-line : goal.is_free-requires-clause-line
@@ -53,7 +53,7 @@ rows-preserved c =
           let name : content_anchor k.row.content ≡ name_in c.anchor-before.result.now = sym (anchor_is k.row.content) ∙ ap name_in (sym here) in
           let next : (c.rows.row - d.first) + 1 ≡ (c.rows.row + 1) - d.first = omega (arith, c.rows.auto.row) in
           row_passes _ _ _ (anchor_step h.rows (c.rows.row - d.first) k.row k.line c.rows.before.now _ k.there k.in_row c.rows.invariant.named (c.rows.invariant.so_far h)) (c.if-not-is_free.ensures h k.line k.is)
-          ∙ (λ i. is_free (name i) (lines_of (drop (next i) h.rows)) && have_one_anchor_each (lines_of (drop (next i) h.rows)));
+          ∙ (λ i. is_free (name i) (lines_of_rows (drop (next i) h.rows)) && have_one_anchor_each (lines_of_rows (drop (next i) h.rows)));
     }
 
 pub returns : goal.returns

@@ -1,7 +1,7 @@
 use Rattle.std.proofs.Common.{sym, ap, ◌∙◌}
 use Rattle.std.proofs.lemmas.Bool.{not-false}
 use Rattle.yq_flow_scalars.specs.Text.{is_empty}
-use Rattle.yq_nodes.specs.Scalars.{content_of, is_quoted}
+use Rattle.yq_nodes.specs.Scalars.{scalar_content, is_quoted}
 use Rattle.yq_cut.specs.View.{slices}
 use Rattle.yq_reading.proofs.BorrowLaws.{quoted_is}
 use Rattle.yq_reading.proofs.RowsRead.{key_fits_is, key_borrowed, key_quoted, key_unquoted, keyless, pieces_there, row_at}
@@ -68,4 +68,4 @@ returns-clause-fits c = λ r is.
 pub returns-clause-agrees : goal.returns-clause-agrees
 returns-clause-agrees c = λ r is.
     let key = c.key-key.ensures (slices r) (pieces_there c.args.text.now c.args.rows.now c.requires.cut c.args.i r is) in
-    c.in_ok-quoted_content.ensures.exact ∙ (sym (quoted_is c.key-key.result.now (ap is_quoted (sym c.as_bytes.ensures.value) ∙ (sym c.is_quoted.ensures ∙ c.if-not-is_quoted.false))) ∙ ap content_of key)
+    c.in_ok-quoted_content.ensures.exact ∙ (sym (quoted_is c.key-key.result.now (ap is_quoted (sym c.as_bytes.ensures.value) ∙ (sym c.is_quoted.ensures ∙ c.if-not-is_quoted.false))) ∙ ap scalar_content key)

@@ -2,14 +2,14 @@ use Rattle.std.proofs.Common.{[], is_none, sym, ap, ◌∙◌}
 use Rattle.yq_lines.specs.LinesReading.{are_bound}
 use Rattle.yq_lines.specs.Names.{line_names}
 use Rattle.yq_lines.proofs.AliasLaws.{bound_alone}
-use Rattle.yq_lines.specs.Lines.{lines_of}
+use Rattle.yq_lines.specs.Lines.{lines_of_rows}
 use Rattle.yq_reading.specs.Named.{all_named}
 use Rattle.yq_reading.proofs.NoReferenceLaws.{ready_refers_not}
 use Rattle.yq_reading.proofs.document.check_aliases.Goals as goal
 
 pub returns-then-not-refers-clause-sound : goal.returns-then-not-refers-clause-sound
 returns-then-not-refers-clause-sound c = λ k.
-    bound_alone [] (line_names (lines_of k.document.rows)) (ready_refers_not c.args.x.text.now c.args.x.rows.now c.args.x.decoded.now c.args.x.document k (sym c.requires.refers ∙ c.if-not-refers.true))
+    bound_alone [] (line_names (lines_of_rows k.document.rows)) (ready_refers_not c.args.x.text.now c.args.x.rows.now c.args.x.decoded.now c.args.x.document k (sym c.requires.refers ∙ c.if-not-refers.true))
 
 pub returns-in-Some-clause-sound : goal.returns-in-Some-clause-sound
 returns-in-Some-clause-sound c = λ k.

@@ -1,7 +1,7 @@
 use Rattle.std.proofs.Common.{◌≡◌, ℕ, ◌+◌, ◌-◌, ◌++◌, drop, sym, ap, ◌∙◌, arith}
 use Rattle.yq_lines.specs.Names.{head_names, line_names}
 use Rattle.yq_cut.specs.View.{slices}
-use Rattle.yq_lines.specs.Lines.{lines_of}
+use Rattle.yq_lines.specs.Lines.{lines_of_rows}
 use Rattle.yq_lines.specs.RowWalk.{IsLine}
 use Rattle.yq_lines.proofs.WalkRows.{rows_length}
 use Rattle.yq_lines.proofs.WalkPositions.{located}
@@ -19,8 +19,8 @@ rows-init c = record {
   ahead = λ k. (c.args.x.document.first, omega arith, c.ahead_from-decoded.ensures);
   names = λ k.
       let none : c.args.x.document.first - c.args.x.document.first ≡ 0 = omega arith in
-      ap (λ ns. all_named ns ++ line_names (lines_of (drop (c.args.x.document.first - c.args.x.document.first) k.document.rows))) c.new-names.ensures.items
-      ∙ ap (λ (j : ℕ). line_names (lines_of (drop j k.document.rows))) none;
+      ap (λ ns. all_named ns ++ line_names (lines_of_rows (drop (c.args.x.document.first - c.args.x.document.first) k.document.rows))) c.new-names.ensures.items
+      ∙ ap (λ (j : ℕ). line_names (lines_of_rows (drop j k.document.rows))) none;
 }
 
 pub anchor-requires : goal.anchor-requires
@@ -41,9 +41,9 @@ rows-preserved c = record {
       let name = c.anchor_name.ensures ∙ (ap name_in (c.anchor.ensures (slices f.row) f.pieces) ∙ anchor_is f.row.content) in
       let agrees = k.agrees c.rows.i f.row (row_of_cut x.text.now x.rows.now x.decoded.now d k (record { row = c.rows.i; line = 0 }) at) in
       let next : (c.rows.i - d.first) + 1 ≡ (c.rows.i + 1) - d.first = omega (arith, c.rows.auto.i) in
-      names_pass (line_names (lines_of k.document.rows)) _ _ _ _ _ k.document.rows (c.rows.i - d.first) ((c.rows.i + 1) - d.first) f.row f.there next (c.rows.invariant.names k) c.in_ok-push_anchor.ensures name c.in_ok-push_flow.ensures
+      names_pass (line_names (lines_of_rows k.document.rows)) _ _ _ _ _ k.document.rows (c.rows.i - d.first) ((c.rows.i + 1) - d.first) f.row f.there next (c.rows.invariant.names k) c.in_ok-push_anchor.ensures name c.in_ok-push_flow.ensures
       (ap flow_names (c.row_flow.ensures x.decoded.now (c.ahead_of-decoded.ensures x.decoded.now a.0 a.1 a.2)) ∙ (sym (flow_named (decoded_at c.rows.i x.decoded.now) (slices f.row).head) ∙ ap head_names agrees.head));
 }
 
 pub returns : goal.returns
-returns c = λ k. names_all (line_names (lines_of k.document.rows)) (all_named c.rows.names.items) k.document.rows (c.rows.i - c.args.x.document.first) (omega (arith, rows_length c.args.x.rows.now c.args.x.document k.document, c.rows-test.false)) (c.rows.invariant.names k)
+returns c = λ k. names_all (line_names (lines_of_rows k.document.rows)) (all_named c.rows.names.items) k.document.rows (c.rows.i - c.args.x.document.first) (omega (arith, rows_length c.args.x.rows.now c.args.x.document k.document, c.rows-test.false)) (c.rows.invariant.names k)

@@ -1,6 +1,6 @@
 use Rattle.std.proofs.Common.{◌≡◌, ℕ, ◌-◌, ◌≤◌, ◌++◌, drop}
 use Rattle.yq_lines.specs.Names.{line_names}
-use Rattle.yq_lines.specs.Lines.{lines_of}
+use Rattle.yq_lines.specs.Lines.{lines_of_rows}
 use Rattle.yq_reading.specs.Ahead.{IsAhead}
 use Rattle.yq_reading.specs.Checking.{IsChecked}
 use Rattle.yq_reading.specs.Named.{all_named}
@@ -10,5 +10,5 @@ use Rattle.yq_reading.proofs.document_names.names_of.Given as goal
 abbrev pub invariant-rows : goal.invariant-rows
 invariant-rows l = record {
   ahead : (k : IsChecked l.x) → (n : ℕ) × (n ≤ l.i) × IsAhead l.x.decoded.now n l.decoded;
-  names : (k : IsChecked l.x) → all_named l.names.items ++ line_names (lines_of (drop (l.i - l.x.document.first) k.document.rows)) ≡ line_names (lines_of k.document.rows);
+  names : (k : IsChecked l.x) → all_named l.names.items ++ line_names (lines_of_rows (drop (l.i - l.x.document.first) k.document.rows)) ≡ line_names (lines_of_rows k.document.rows);
 }

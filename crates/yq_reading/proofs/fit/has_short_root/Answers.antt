@@ -1,5 +1,5 @@
 use Rattle.std.proofs.Common.{not, ap, ◌∙◌}
-use Rattle.yq_cut.specs.View.{view as row_view}
+use Rattle.yq_cut.specs.View.{row_view}
 use Rattle.yq_reading.proofs.FitLaws.{short_some, short_none}
 use Rattle.yq_reading.proofs.fit.has_short_root.Goals as goal
 

@@ -1,13 +1,13 @@
 use Rattle.std.proofs.Common.{◌≡◌, ◌+◌, ◌*◌, ◌++◌, drop}
 use Rattle.yq_nodes.specs.Trees.{parts_tree}
-use Rattle.yq_nodes.specs.View.{view, items_end, entries_end}
+use Rattle.yq_nodes.specs.View.{inline_view, items_end, entries_end}
 use Rattle.yq_flow_scalars.specs.Anchors.{names_in}
 use Rattle.yq_reading.specs.Named.{all_named}
 use Rattle.yq_lines.proofs.SizeLaws.{node_size, parts_size}
 use Rattle.yq_reading.proofs.names.+names.Given as goal
 
 abbrev pub decreases-push_node : goal.decreases-push_node
-decreases-push_node l = 2 * node_size (view l.node.now)
+decreases-push_node l = 2 * node_size (inline_view l.node.now)
 
 abbrev pub decreases-push_items : goal.decreases-push_items
 decreases-push_items l = 2 * parts_size (items_end l.items.now.items) + 1

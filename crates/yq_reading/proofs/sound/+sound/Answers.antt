@@ -1,12 +1,12 @@
 use Rattle.std.proofs.Common.{◌-◌, inl, refl, sym, ◌∙◌, subst, arith, map}
-use Rattle.yq_lines.specs.Ends.{is_end, part}
-use Rattle.yq_lines.specs.Sound.{is_sound}
+use Rattle.yq_lines.specs.Ends.{has_no_lines, part}
+use Rattle.yq_lines.specs.Sound.{is_sound_outline}
 use Rattle.yq_lines.proofs.EndsLaws.{is_at_end, not_end}
 use Rattle.yq_lines.proofs.EntryLaws.{start_asked, start_deep, start_bare, one_fails, one_passes, no_more}
 use Rattle.yq_lines.proofs.KeyLaws.{distinct_agrees}
 use Rattle.yq_lines.proofs.LineEnds.{end_counted}
 use Rattle.yq_lines.proofs.SoundLaws.{IsEntryLevel, entry_level}
-use Rattle.yq_lines.specs.Lines.{lines_of}
+use Rattle.yq_lines.specs.Lines.{lines_of_rows}
 use Rattle.yq_lines.specs.RowWalk.{line_number}
 use Rattle.yq_lines.proofs.WalkPositions.{located, position_line}
 use Rattle.yq_reading.proofs.DecidingLaws.{decides_as, denies_as}
@@ -24,14 +24,14 @@ pub check_line-returns-in-Err-clause-sound : goal.check_line-returns-in-Err-clau
 check_line-returns-in-Err-clause-sound t c = λ r l is.
     let h = r.document in
     let same = sym (c.requires.at.agrees c.requires.line.upto h l is) ∙ c.if-level-n.false in
-    let none = (λ i. is_end (part (lines_of h.rows) (sym (c.line_behind-after.ensures.number h) i) (same i))) ∙ is_at_end _ (c.if-not-is_deeper.ensures.test h) in
+    let none = (λ i. has_no_lines (part (lines_of_rows h.rows) (sym (c.line_behind-after.ensures.number h) i) (same i))) ∙ is_at_end _ (c.if-not-is_deeper.ensures.test h) in
     denies_as c.in-Err.e _ _ (λ bad. alone_sound c.args.depth c.args.n l _ same none ∙ bad) (c.in-Err.ensures.sound r l is)
 
 pub check_line-returns-in-Ok-clause-sound : goal.check_line-returns-in-Ok-clause-sound
 check_line-returns-in-Ok-clause-sound t c = λ r l is.
     let h = r.document in
     let same = sym (c.requires.at.agrees c.requires.line.upto h l is) ∙ c.if-level-n.false in
-    let none = (λ i. is_end (part (lines_of h.rows) (sym (c.line_behind-after.ensures.number h) i) (same i))) ∙ is_at_end _ (c.if-not-is_deeper.ensures.test h) in
+    let none = (λ i. has_no_lines (part (lines_of_rows h.rows) (sym (c.line_behind-after.ensures.number h) i) (same i))) ∙ is_at_end _ (c.if-not-is_deeper.ensures.test h) in
     alone_sound c.args.depth c.args.n l _ same none ∙ c.in-Ok.ensures.sound r l is
 
 pub check_line-returns-in-Ok-clause-reached : goal.check_line-returns-in-Ok-clause-reached
@@ -47,7 +47,7 @@ pub check_line-returns-then-has_head-clause-sound : goal.check_line-returns-then
 check_line-returns-then-has_head-clause-sound t c = λ r l is.
     let h = r.document in
     let same = sym (c.requires.at.agrees c.requires.line.upto h l is) ∙ c.if-level-n.false in
-    let some = (λ i. is_end (part (lines_of h.rows) (sym (c.line_behind-after.ensures.number h) i) (same i))) ∙ not_end _ (c.if-not-is_deeper.ensures.test h) in
+    let some = (λ i. has_no_lines (part (lines_of_rows h.rows) (sym (c.line_behind-after.ensures.number h) i) (same i))) ∙ not_end _ (c.if-not-is_deeper.ensures.test h) in
     both_there c.args.depth c.args.n l _ (c.if-has_head.ensures h l is) some
 
 pub check_line-returns-clause-sound : goal.check_line-returns-clause-sound
@@ -55,7 +55,7 @@ check_line-returns-clause-sound t c = λ r l is.
     let h = r.document in
     let same = sym (c.requires.at.agrees c.requires.line.upto h l is) ∙ c.if-level-n.false in
     decides_as c.check_lines.result _ _
-    ((λ i. is_sound c.args.depth (part (lines_of h.rows) (c.line_behind-after.ensures.number h i) (sym same i))) ∙ under_sound c.args.depth c.args.n l _ same (c.if-has_head.ensures h l is))
+    ((λ i. is_sound_outline c.args.depth (part (lines_of_rows h.rows) (c.line_behind-after.ensures.number h i) (sym same i))) ∙ under_sound c.args.depth c.args.n l _ same (c.if-has_head.ensures h l is))
     (c.check_lines.ensures.sound r)
 
 pub check_line-returns-clause-behind : goal.check_line-returns-clause-behind
@@ -90,14 +90,14 @@ check_lines-returns-then-is_bare-clause-sound t c = λ r.
     let h = r.document in
     let k = located c.args.x.rows.now c.args.x.document h c.args.start.position (position_line c.args.x.rows.now c.args.x.document c.args.start.position c.requires.start.position (c.if-not-is_deeper.ensures.some refl)) in
     decides_as c.check_bare.result _ _
-    (sym (start_bare (lines_of h.rows) (line_number c.args.x.document h.rows c.args.start.position) c.args.floor c.args.depth k.line k.is (c.if-not-is_deeper.ensures.test h) (bare_is k.line.mark (c.if-is_bare.ensures h k.line k.is))))
+    (sym (start_bare (lines_of_rows h.rows) (line_number c.args.x.document h.rows c.args.start.position) c.args.floor c.args.depth k.line k.is (c.if-not-is_deeper.ensures.test h) (bare_is k.line.mark (c.if-is_bare.ensures h k.line k.is))))
     (c.check_bare.ensures.sound r k.line k.is)
 
 pub check_lines-returns-then-depth-eq0-clause-sound : goal.check_lines-returns-then-depth-eq0-clause-sound
 check_lines-returns-then-depth-eq0-clause-sound t c = λ r.
     let h = r.document in
     let k = located c.args.x.rows.now c.args.x.document h c.args.start.position (position_line c.args.x.rows.now c.args.x.document c.args.start.position c.requires.start.position (c.if-not-is_deeper.ensures.some refl)) in
-    start_deep (lines_of h.rows) (line_number c.args.x.document h.rows c.args.start.position) c.args.floor c.args.depth k.line k.is (c.if-not-is_deeper.ensures.test h) (entry_is k.line.mark (c.if-is_bare.ensures h k.line k.is)) c.if-depth-eq0.true
+    start_deep (lines_of_rows h.rows) (line_number c.args.x.document h.rows c.args.start.position) c.args.floor c.args.depth k.line k.is (c.if-not-is_deeper.ensures.test h) (entry_is k.line.mark (c.if-is_bare.ensures h k.line k.is)) c.if-depth-eq0.true
 
 pub check_lines-lines-init : goal.check_lines-lines-init
 check_lines-lines-init t c =
@@ -112,7 +112,7 @@ check_lines-lines-init t c =
       so_far = λ r.
           let h = r.document in
           let k = located c.args.x.rows.now c.args.x.document h c.args.start.position at in
-          rw (c.requires.start.agrees at.upto h k.line k.is, c.new-keys.ensures.items) (start_asked (lines_of h.rows) (line_number c.args.x.document h.rows c.args.start.position) c.args.floor c.args.depth k.line k.is (c.if-not-is_deeper.ensures.test h) (c.args.depth - 1) (entry_is k.line.mark (c.if-is_bare.ensures h k.line k.is)) (omega (arith, c.if-depth-eq0.false)));
+          rw (c.requires.start.agrees at.upto h k.line k.is, c.new-keys.ensures.items) (start_asked (lines_of_rows h.rows) (line_number c.args.x.document h.rows c.args.start.position) c.args.floor c.args.depth k.line k.is (c.if-not-is_deeper.ensures.test h) (c.args.depth - 1) (entry_is k.line.mark (c.if-is_bare.ensures h k.line k.is)) (omega (arith, c.if-depth-eq0.false)));
       stop = λ h. refl;
     }
 
@@ -124,10 +124,10 @@ check_lines-returns-in-Err-clause-sound t c = λ r.
     let h = r.document in
     let k = located c.args.x.rows.now c.args.x.document h c.lines.at.position (position_line c.args.x.rows.now c.args.x.document c.lines.at.position c.lines.invariant.at.position (c.lines-test.ensures.some refl)) in
     let num = line_number c.args.x.document h.rows in
-    let ends = end_counted (lines_of h.rows) (num c.lines.at.position) k.line k.is in
+    let ends = end_counted (lines_of_rows h.rows) (num c.lines.at.position) k.line k.is in
     denies_as c.in-Err.e _ _
     (λ bad.
-    sym (one_fails (lines_of h.rows) (num c.lines.at.position) c.args.floor _ (c.args.depth - 1) c.args.start.level (map (λ k. k.now) c.lines.keys.items) k.line k.is (c.lines-test.ensures.test h) ends c.lines.invariant.entries _ (c.lines.invariant.so_far r) (sym bad)))
+    sym (one_fails (lines_of_rows h.rows) (num c.lines.at.position) c.args.floor _ (c.args.depth - 1) c.args.start.level (map (λ k. k.now) c.lines.keys.items) k.line k.is (c.lines-test.ensures.test h) ends c.lines.invariant.entries _ (c.lines.invariant.so_far r) (sym bad)))
     (c.in-Err.ensures.sound r k.line k.is)
 
 pub check_lines-lines-preserved : goal.check_lines-lines-preserved
@@ -144,7 +144,7 @@ check_lines-lines-preserved t c =
           let h = r.document in
           let k = located x.rows.now x.document h c.lines.at.position at in
           let num = line_number x.document h.rows in
-          rw (c.in_ok-push_key.ensures h k.line k.is) (one_passes (lines_of h.rows) (num c.lines.at.position) c.args.floor (num c.in-Ok.after.position) (c.args.depth - 1) c.args.start.level (map (λ k. k.now) c.lines.keys.items) k.line k.is (c.lines-test.ensures.test h) (g.end h) c.lines.invariant.entries _ (c.lines.invariant.so_far r) (sym (c.in-Ok.ensures.sound r k.line k.is)));
+          rw (c.in_ok-push_key.ensures h k.line k.is) (one_passes (lines_of_rows h.rows) (num c.lines.at.position) c.args.floor (num c.in-Ok.after.position) (c.args.depth - 1) c.args.start.level (map (λ k. k.now) c.lines.keys.items) k.line k.is (c.lines-test.ensures.test h) (g.end h) c.lines.invariant.entries _ (c.lines.invariant.so_far r) (sym (c.in-Ok.ensures.sound r k.line k.is)));
       stop = λ h. stop_same x.rows.now x.document h c.args.start.position c.lines.at.position c.in-Ok.after.position c.args.floor at (c.lines.invariant.stop h) (not_end _ (c.lines-test.ensures.test h)) g;
     }
 

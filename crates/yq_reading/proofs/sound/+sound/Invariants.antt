@@ -1,6 +1,6 @@
 use Rattle.std.proofs.Common.{◌≡◌, ◌⊎◌, ◌+◌, ◌-◌, ◌*◌, ◌<◌, map}
 use Rattle.yq_lines.specs.Ends.{part}
-use Rattle.yq_lines.specs.Sound.{is_sound}
+use Rattle.yq_lines.specs.Sound.{is_sound_outline}
 use Rattle.yq_lines.proofs.SoundLaws.{asked, IsEntryLevel}
 use Rattle.yq_lines.specs.RowWalk.{OfLines, lines_stop}
 use Rattle.yq_reading.specs.Checking.{IsReached, OfChecked}
@@ -22,6 +22,6 @@ invariant-check_lines-lines l = record {
   moved : (l.at.position ≡ l.start.position) ⊎ (l.start.position.row < l.at.position.row);
   more : 0 < l.depth;
   entries : IsEntryLevel l.start.level;
-  so_far : OfChecked l.x (λ ls num. is_sound l.depth (part ls (num l.start.position) l.floor) ≡ asked (l.depth - 1) l.start.level (map (λ k. k.now) l.keys.items) (part ls (num l.at.position) l.floor));
+  so_far : OfChecked l.x (λ ls num. is_sound_outline l.depth (part ls (num l.start.position) l.floor) ≡ asked (l.depth - 1) l.start.level (map (λ k. k.now) l.keys.items) (part ls (num l.at.position) l.floor));
   stop : OfLines l.x.rows.now l.x.document (λ ls num. lines_stop (num l.start.position) l.floor ls ≡ lines_stop (num l.at.position) l.floor ls);
 }

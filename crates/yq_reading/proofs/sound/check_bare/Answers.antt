@@ -1,9 +1,9 @@
 use Rattle.std.proofs.Common.{◌+◌, sym, ap, ◌∙◌}
 use Rattle.std.specs.Prelude.{is_some}
-use Rattle.yq_lines.specs.Ends.{is_end, part}
+use Rattle.yq_lines.specs.Ends.{has_no_lines, part}
 use Rattle.yq_lines.specs.Sound.{head_is_sound}
 use Rattle.yq_lines.proofs.EndsLaws.{is_at_end, not_end}
-use Rattle.yq_lines.specs.Lines.{lines_of}
+use Rattle.yq_lines.specs.Lines.{lines_of_rows}
 use Rattle.yq_lines.specs.RowWalk.{line_number}
 use Rattle.yq_reading.proofs.DecidingLaws.{denies_as}
 use Rattle.yq_reading.proofs.GivesLaws.{gives_bare}
@@ -18,20 +18,20 @@ pub returns-then-is_deeper-clause-sound : goal.returns-then-is_deeper-clause-sou
 returns-then-is_deeper-clause-sound c = λ r l is.
     let h = r.document in
     bare_under _ _ (head_is_sound c.args.depth l.head)
-    (ap (λ m. is_end (part (lines_of h.rows) m c.args.floor)) (sym (c.line_behind-after.ensures.number h)) ∙ not_end _ (c.if-is_deeper.ensures.test h))
+    (ap (λ m. has_no_lines (part (lines_of_rows h.rows) m c.args.floor)) (sym (c.line_behind-after.ensures.number h)) ∙ not_end _ (c.if-is_deeper.ensures.test h))
 
 pub returns-in-Err-clause-sound : goal.returns-in-Err-clause-sound
 returns-in-Err-clause-sound c = λ r l is.
     let h = r.document in
     denies_as c.in-Err.e (head_is_sound c.args.depth l.head) _
-    (bare_head (is_some l.head) (is_end (part (lines_of h.rows) (line_number c.args.x.document h.rows c.args.at.position + 1) c.args.floor)) (head_is_sound c.args.depth l.head))
+    (bare_head (is_some l.head) (has_no_lines (part (lines_of_rows h.rows) (line_number c.args.x.document h.rows c.args.at.position + 1) c.args.floor)) (head_is_sound c.args.depth l.head))
     (c.in-Err.ensures.sound r l is)
 
 pub returns-in-Ok-clause-sound : goal.returns-in-Ok-clause-sound
 returns-in-Ok-clause-sound c = λ r l is.
     let h = r.document in
     bare_passes _ _ _ (c.if-not-has_head.ensures h l is)
-    (ap (λ m. is_end (part (lines_of h.rows) m c.args.floor)) (sym (c.line_behind-after.ensures.number h)) ∙ is_at_end _ (c.if-is_deeper.ensures.test h))
+    (ap (λ m. has_no_lines (part (lines_of_rows h.rows) m c.args.floor)) (sym (c.line_behind-after.ensures.number h)) ∙ is_at_end _ (c.if-is_deeper.ensures.test h))
     (c.in-Ok.ensures.sound r l is)
 
 pub returns-in-Ok-clause-behind : goal.returns-in-Ok-clause-behind

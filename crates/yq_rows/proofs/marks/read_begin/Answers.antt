@@ -1,5 +1,5 @@
 use Rattle.std.proofs.Common.{◌≡◌, ◌-◌, length, take, rules, refl, sym, ap, ◌∙◌, true, false, arith}
-use Rattle.yq_cut.specs.Reading.{is_dash, marks_at}
+use Rattle.yq_cut.specs.Reading.{is_dash, read_marks}
 use Rattle.yq_cut.specs.Slicing.{begun}
 use Rattle.yq_cut.proofs.BeginSteps.{dash_further, dash_boundary, dash_last, no_dash, mark_within}
 use Rattle.yq_cut.proofs.DashSteps.{dash_goes, none_goes, key_goes, dash_keyed}
@@ -79,5 +79,5 @@ dashes-init c =
       text = c.utf8.text;
       short = omega arith;
       stands = rw none refl;
-      so_far = rw none (front_none (begun (marks_at c.args.text.now)));
+      so_far = rw none (front_none (begun (read_marks c.args.text.now)));
     }

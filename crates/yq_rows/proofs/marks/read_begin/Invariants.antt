@@ -1,7 +1,7 @@
 use Rattle.std.proofs.Common.{◌≡◌, ◌-◌, ◌≤◌, length, take, drop}
 use Rattle.std.specs.Str.{IsUtf8}
-use Rattle.yq_cut.specs.Slicing.{begun, behind_front}
-use Rattle.yq_cut.specs.Reading.{marks_at}
+use Rattle.yq_cut.specs.Slicing.{begun, with_dashes}
+use Rattle.yq_cut.specs.Reading.{read_marks}
 use Rattle.yq_rows.proofs.marks.read_begin.Given as goal
 
 abbrev pub decreases-dashes : goal.decreases-dashes
@@ -12,5 +12,5 @@ invariant-dashes l = record {
   text : IsUtf8 l.rest;
   short : length l.rest ≤ length l.text;
   stands : drop (length l.text - length l.rest) l.text ≡ l.rest;
-  so_far : behind_front (take (length l.text - length l.rest) l.text) (begun (marks_at l.rest)) ≡ begun (marks_at l.text);
+  so_far : with_dashes (take (length l.text - length l.rest) l.text) (begun (read_marks l.rest)) ≡ begun (read_marks l.text);
 }

@@ -1,6 +1,6 @@
 use Rattle.std.proofs.Common.{◌≡◌, ◌+◌, ◌*◌, ◌≤◌, length}
 use Rattle.std.specs.Str.{IsUtf8}
-use Rattle.yq_rows.specs.Measured.{closing, past}
+use Rattle.yq_rows.specs.Measured.{closing_byte, past_node}
 use Rattle.yq_nodes.specs.PlacedReading.{placed_items}
 use Rattle.yq_rows.proofs.measuring.+ends.Given as goal
 
@@ -26,6 +26,6 @@ abbrev pub invariant-measure_parts-each : goal.invariant-measure_parts-each
 invariant-measure_parts-each l = record {
   utf8 : IsUtf8 l.rest;
   within : length l.rest ≤ length l.fn.text;
-  mark : l.closing ≡ closing l.keyed;
-  so_far : past (placed_items 0 l.depth (closing l.keyed) l.rest) ≡ past (placed_items 0 l.depth (closing l.keyed) l.fn.text);
+  mark : l.closing ≡ closing_byte l.keyed;
+  so_far : past_node (placed_items 0 l.depth (closing_byte l.keyed) l.rest) ≡ past_node (placed_items 0 l.depth (closing_byte l.keyed) l.fn.text);
 }

@@ -2,7 +2,7 @@ use Rattle.std.proofs.Common.{List, Option, length, map, refl, sym, ap, ◌∙�
 use Rattle.std.proofs.lemmas.List.{length-map}
 use Rattle.std.specs.Prelude.{IfSome}
 use Rattle.yq_flow_scalars.specs.Paths.{Step}
-use Rattle.yq_nodes.specs.Entries.{step_of}
+use Rattle.yq_nodes.specs.Entries.{tree_step}
 use Rattle.yq_documents.specs.Reading.{cut_of}
 use Rattle.yq_row_places.specs.FlowViews.{IsHeadFor, ReportsHead}
 use Rattle.yq_row_places.specs.declared.places.flow_node.FlowHead.{FlowHead}
@@ -11,11 +11,11 @@ use Rattle.yq_runs.proofs.together.carry_together.Goals as goal
 
 pub overflow_sub-above : goal.overflow_sub-above
 overflow_sub-above c =
-    let h = subst (λ (o : Option FlowHead). IfSome o (IsHeadFor c.args.cut.now (cut_of c.args.cut.now) c.in-Replace.first.doc (map step_of c.in-Some.above.now))) c.in-Some-2.is c.in_ok-head.ensures.whole in
-    omega (arith, ap length h.1, length-append h.0 (map step_of c.in-Some-2.head.left.now), length-map c.in-Some.above.now step_of, length-map c.in-Some-2.head.left.now step_of)
+    let h = subst (λ (o : Option FlowHead). IfSome o (IsHeadFor c.args.cut.now (cut_of c.args.cut.now) c.in-Replace.first.doc (map tree_step c.in-Some.above.now))) c.in-Some-2.is c.in_ok-head.ensures.whole in
+    omega (arith, ap length h.1, length-append h.0 (map tree_step c.in-Some-2.head.left.now), length-map c.in-Some.above.now tree_step, length-map c.in-Some-2.head.left.now tree_step)
 
 pub put_each-requires-clause-head : goal.put_each-requires-clause-head
 put_each-requires-clause-head c =
-    let h = subst (λ (o : Option FlowHead). IfSome o (IsHeadFor c.args.cut.now (cut_of c.args.cut.now) c.in-Replace.first.doc (map step_of c.in-Some.above.now))) c.in-Some-2.is c.in_ok-head.ensures.whole in
+    let h = subst (λ (o : Option FlowHead). IfSome o (IsHeadFor c.args.cut.now (cut_of c.args.cut.now) c.in-Replace.first.doc (map tree_step c.in-Some.above.now))) c.in-Some-2.is c.in_ok-head.ensures.whole in
     subst (λ (ss : List Step). ReportsHead c.args.cut.now (cut_of c.args.cut.now) c.in-Replace.first.doc ss c.in-Some-2.head)
-    (sym (ap (map step_of) c.split_at.ensures.front ∙ stem_is c.in-Some.above.now c.in-Some-2.head.left.now h.0 _ h.1 refl)) h.2
+    (sym (ap (map tree_step) c.split_at.ensures.front ∙ stem_is c.in-Some.above.now c.in-Some-2.head.left.now h.0 _ h.1 refl)) h.2

@@ -1,6 +1,6 @@
 use Rattle.std.proofs.Common.{rules, string_bytes, IfOk, ◌≡◌}
 use Rattle.std.specs.Str.{IsCharBoundary}
-use Rattle.yq_block_scalars.specs.BlockReading.{piece_content}
+use Rattle.yq_block_scalars.specs.BlockReading.{block_piece_content}
 use Rattle.yq_block_scalars.proofs.BlockPieceLaws.{stands, content_is}
 use Rattle.yq_flow_scalars.proofs.ContentLaws.{if_ok_same}
 use Rattle.yq_scalar.proofs.block_content.block_content.Goals as goal
@@ -12,7 +12,7 @@ pub range-raw-requires-clause-end_boundary : goal.range-raw-requires-clause-end_
 range-raw-requires-clause-end_boundary c = let at : IsCharBoundary c.args.text.now c.args.piece.now.end = (stands c.requires.0 c.args.text.now c.args.piece.now c.utf8.text c.requires.1).ends in search rules
 
 pub returns : goal.returns
-unfolding piece_content
+unfolding block_piece_content
 returns c =
-    let exact : IfOk c.content_of.result (λ s. string_bytes s ≡ piece_content c.args.text.now c.args.piece.now) = search rules in
+    let exact : IfOk c.content_of.result (λ s. string_bytes s ≡ block_piece_content c.args.text.now c.args.piece.now) = search rules in
     record { exact = exact; found = λ n p. if_ok_same c.content_of.result (λ s. string_bytes s) _ _ exact (content_is n c.args.text.now c.args.piece.now p) }

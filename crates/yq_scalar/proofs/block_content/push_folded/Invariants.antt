@@ -1,7 +1,7 @@
 use Rattle.std.proofs.Common.{◌≡◌, ◌++◌, ◌+◌, ◌≤◌, length}
 use Rattle.std.specs.Str.{IsUtf8}
 use Rattle.std.specs.String.{string_bytes}
-use Rattle.yq_flow_scalars.specs.Text.{lines_of}
+use Rattle.yq_flow_scalars.specs.Text.{text_lines}
 use Rattle.yq_block_scalars.specs.BlockContent as spec
 use Rattle.yq_block_scalars.specs.declared.block_types.Before.TheVariants.{Nothing}
 use Rattle.yq_scalar.proofs.block_content.push_folded.Given as goal
@@ -13,5 +13,5 @@ abbrev pub invariant-each : goal.invariant-each
 invariant-each l = record {
   utf8 : IsUtf8 l.rest;
   few : l.empty + length l.rest ≤ length l.raw;
-  so_far : string_bytes l.out ++ spec.folded l.chomping l.indent l.before l.empty (lines_of l.rest) ≡ string_bytes l.fn.out ++ spec.folded l.chomping l.indent Nothing 0 (lines_of l.raw);
+  so_far : string_bytes l.out ++ spec.folded l.chomping l.indent l.before l.empty (text_lines l.rest) ≡ string_bytes l.fn.out ++ spec.folded l.chomping l.indent Nothing 0 (text_lines l.raw);
 }

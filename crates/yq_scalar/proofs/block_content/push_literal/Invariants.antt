@@ -1,7 +1,7 @@
 use Rattle.std.proofs.Common.{◌≡◌, ◌++◌, length}
 use Rattle.std.specs.Str.{IsUtf8}
 use Rattle.std.specs.String.{string_bytes}
-use Rattle.yq_flow_scalars.specs.Text.{lines_of}
+use Rattle.yq_flow_scalars.specs.Text.{text_lines}
 use Rattle.yq_block_scalars.specs.BlockContent as spec
 use Rattle.yq_scalar.proofs.block_content.push_literal.Given as goal
 
@@ -11,5 +11,5 @@ decreases-each l = length l.rest
 abbrev pub invariant-each : goal.invariant-each
 invariant-each l = record {
   utf8 : IsUtf8 l.rest;
-  so_far : string_bytes l.out ++ spec.literal l.strip l.indent (lines_of l.rest) ≡ string_bytes l.fn.out ++ spec.literal l.strip l.indent (lines_of l.raw);
+  so_far : string_bytes l.out ++ spec.literal l.strip l.indent (text_lines l.rest) ≡ string_bytes l.fn.out ++ spec.literal l.strip l.indent (text_lines l.raw);
 }

@@ -1,7 +1,7 @@
 use Rattle.std.proofs.Common.{◌≡◌, ◌++◌, length}
 use Rattle.std.specs.Str.{IsUtf8}
 use Rattle.std.specs.String.{string_bytes}
-use Rattle.yq_flow_scalars.specs.Text.{lines_of, joined}
+use Rattle.yq_flow_scalars.specs.Text.{text_lines, joined}
 use Rattle.yq_block_scalars.specs.BlockWritten as spec
 use Rattle.yq_scalar.proofs.block_written.push_lines.Given as goal
 
@@ -11,5 +11,5 @@ decreases-each l = length l.rest
 abbrev pub invariant-each : goal.invariant-each
 invariant-each l = record {
   utf8 : IsUtf8 l.rest;
-  so_far : string_bytes l.out ++ joined (spec.written l.indent (spec.break_text l.br) (lines_of l.rest)) ≡ string_bytes l.fn.out ++ joined (spec.written l.indent (spec.break_text l.br) (lines_of l.text));
+  so_far : string_bytes l.out ++ joined (spec.raw_written l.indent (spec.break_text l.br) (text_lines l.rest)) ≡ string_bytes l.fn.out ++ joined (spec.raw_written l.indent (spec.break_text l.br) (text_lines l.text));
 }

@@ -1,6 +1,6 @@
 use Rattle.std.proofs.Common.{◌≡◌, ◌+◌, ◌-◌, ◌≤◌, ◌^◌, length, min}
 use Rattle.std.specs.Str.{IsUtf8}
-use Rattle.yq_flow_scalars.specs.Text.{lines_of, joined}
+use Rattle.yq_flow_scalars.specs.Text.{text_lines, joined}
 use Rattle.yq_block_scalars.specs.BlockWritten as spec
 use Rattle.yq_scalar.proofs.block_written.written_len.Given as goal
 
@@ -11,5 +11,5 @@ abbrev pub invariant-each : goal.invariant-each
 invariant-each l = record {
   utf8 : IsUtf8 l.rest;
   fits : l.len ≤ 2 ^ 64 - 1;
-  so_far : min (l.len + length (joined (spec.written l.indent (spec.break_text l.br) (lines_of l.rest)))) (2 ^ 64 - 1) ≡ min (length (joined (spec.written l.indent (spec.break_text l.br) (lines_of l.text)))) (2 ^ 64 - 1);
+  so_far : min (l.len + length (joined (spec.raw_written l.indent (spec.break_text l.br) (text_lines l.rest)))) (2 ^ 64 - 1) ≡ min (length (joined (spec.raw_written l.indent (spec.break_text l.br) (text_lines l.text)))) (2 ^ 64 - 1);
 }

@@ -1,6 +1,6 @@
 use Rattle.std.proofs.Common.{◌≡◌, ◌++◌, length}
 use Rattle.std.specs.Str.{IsUtf8}
-use Rattle.yq_flow_scalars.specs.Text.{lines_of}
+use Rattle.yq_flow_scalars.specs.Text.{text_lines}
 use Rattle.yq_row_places.specs.RemovalReading.{seam_view}
 use Rattle.yq_edits.specs.Removing.{lines_mended}
 use Rattle.yq_segments.proofs.removing.push_lines.Given as goal
@@ -9,7 +9,7 @@ use Rattle.yq_segments.proofs.removing.push_lines.Given as goal
 abbrev pub invariant-lines : goal.invariant-lines
 invariant-lines l = record {
   rest_text : IsUtf8 l.rest;
-  so_far : l.segments ++ lines_mended (seam_view l.seam) (lines_of l.rest) ≡ l.initial.segments ++ lines_mended (seam_view l.seam) (lines_of l.gap);
+  so_far : l.segments ++ lines_mended (seam_view l.seam) (text_lines l.rest) ≡ l.initial.segments ++ lines_mended (seam_view l.seam) (text_lines l.gap);
 }
 
 abbrev pub decreases-lines : goal.decreases-lines

@@ -1,8 +1,8 @@
 use Rattle.std.proofs.Common.{◌≡◌, ◌∙◌, ◌++◌, List, [], ℕ, eqb-true, length, refl, sym, ap, subst, ◌+◌, ◌-◌, ◌≤◌}
 use Rattle.std.proofs.lemmas.List.{nil_from_length}
-use Rattle.yq_text.specs.Split.{joined}
+use Rattle.yq_text.specs.Split.{halves_joined}
 use Rattle.yq_cut.specs.Grammar.{IsCut}
-use Rattle.yq_cut.specs.Meter.{counted, line_count}
+use Rattle.yq_cut.specs.Meter.{count_after, line_count}
 use Rattle.yq_session.specs.Dropping.{DropsLast}
 use Rattle.yq_session.specs.Exchanging.{TextChange}
 use Rattle.yq_session.specs.Following.{Follows, exchanged}
@@ -13,11 +13,11 @@ use Rattle.std.specs.Str.{IsCharBoundary}
 use Rattle.yq_session.proofs.following.follow.Goals as goal
 
 pub move_split-requires : goal.move_split-requires
-move_split-requires c = placed_before (joined c.args.text.now) c.args.places.now c.args.kept c.args.new.now c.requires
+move_split-requires c = placed_before (halves_joined c.args.text.now) c.args.places.now c.args.kept c.args.new.now c.requires
 
 pub read-requires : goal.read-requires
 read-requires c =
-    let t = joined c.args.text.now in
+    let t = halves_joined c.args.text.now in
     let p = c.move_split.new.places in
     let x = c.find_touched-touched.result in
     let k : TextChange t c.args.new.now c.args.kept p x = c.find_touched-touched.ensures t c.args.new.now c.len.ensures (moved_follows t c.args.places.now p c.args.kept c.args.new.now c.requires c.move_split.ensures.placed) in
@@ -27,7 +27,7 @@ read-requires c =
 
 pub exchange-requires : goal.exchange-requires
 exchange-requires c =
-    let t = joined c.args.text.now in
+    let t = halves_joined c.args.text.now in
     let p = c.move_split.new.places in
     let x = c.find_touched-touched.result in
     let k : TextChange t c.args.new.now c.args.kept p x = c.find_touched-touched.ensures t c.args.new.now c.len.ensures (moved_follows t c.args.places.now p c.args.kept c.args.new.now c.requires c.move_split.ensures.placed) in
@@ -37,7 +37,7 @@ exchange-requires c =
 
 pub returns : goal.returns
 returns c =
-    let t = joined c.args.text.now in
+    let t = halves_joined c.args.text.now in
     let p = c.move_split.new.places in
     let x = c.find_touched-touched.result in
     let empty : c.args.new.now ≡ [] = nil_from_length c.args.new.now (eqb-true (length c.args.new.now) 0 (sym c.is_empty.ensures ∙ c.if-is_empty.true)) in
@@ -50,15 +50,15 @@ returns c =
       placed =
           dropped_places t c.args.kept p x c.in-Some.end k drops h.old_cut h.old_is _ c.drop_rows.new.places h.new_cut h.new_is c.drop_text.ensures.text
           c.drop_rows.ensures.front c.drop_rows.ensures.behind c.drop_rows.ensures.ends c.drop_rows.ensures.split;
-      counted = λ old d was is j.
-          c.drop_text.ensures.counted ∙ ap (λ (u : List ℕ). counted (line_count u) c.args.meter.now)
+      count_after = λ old d was is j.
+          c.drop_text.ensures.counted ∙ ap (λ (u : List ℕ). count_after (line_count u) c.args.meter.now)
           (dropped_text t c.args.kept p x c.in-Some.end k drops h.old_cut h.old_is old d was
           (subst (λ (u : List ℕ). IsCut u d) (c.drop_text.ensures.text ∙ kept_text t c.args.kept p x c.in-Some.end k drops h.old_cut h.old_is) is) j);
     }
 
 pub returns-2 : goal.returns-2
 returns-2 c =
-    let t = joined c.args.text.now in
+    let t = halves_joined c.args.text.now in
     let p = c.move_split.new.places in
     let x = c.find_touched-touched.result in
     let k : TextChange t c.args.new.now c.args.kept p x = c.find_touched-touched.ensures t c.args.new.now c.len.ensures (moved_follows t c.args.places.now p c.args.kept c.args.new.now c.requires c.move_split.ensures.placed) in
@@ -69,12 +69,12 @@ returns-2 c =
       text =
           c.write.ensures ∙ ap (λ (u : List ℕ). exchanged c.args.kept u c.args.new.now) same;
       placed =
-          new_places t (joined c.reserve.new.self) (joined c.write.new.text) c.args.new.now c.args.kept p c.exchange.new.places x c.in_ok-come.come
+          new_places t (halves_joined c.reserve.new.self) (halves_joined c.write.new.text) c.args.new.now c.args.kept p c.exchange.new.places x c.in_ok-come.come
           c.requires.new_cut same c.write.ensures k
           (subst (λ (u : List ℕ). Comes u x c.in_ok-come.come) part c.in_ok-come.ensures.come k.read) c.in_ok-exchange.ensures.ok c.requires.new_is;
-      counted = λ old d was is h.
+      count_after = λ old d was is h.
           let spliced = c.write.ensures ∙ ap (λ (u : List ℕ). exchanged c.args.kept u c.args.new.now) same in
-          c.in_ok-come.ensures.counted ∙ ap (λ (u : List ℕ). counted (line_count u) c.args.meter.now)
+          c.in_ok-come.ensures.counted ∙ ap (λ (u : List ℕ). count_after (line_count u) c.args.meter.now)
           (ap (λ (u : List ℕ). read_part u x.marked) part ∙ sym (k.once old d was (subst (λ (u : List ℕ). IsCut u d) spliced is) h));
     }
 
@@ -90,30 +90,30 @@ write-requires c = record {
 }
 
 pub returns-in_err-move_split-clause-placed : goal.returns-in_err-move_split-clause-placed
-returns-in_err-move_split-clause-placed c = still_placed (joined c.args.text.now) _ _ refl c.move_split.ensures.placed
+returns-in_err-move_split-clause-placed c = still_placed (halves_joined c.args.text.now) _ _ refl c.move_split.ensures.placed
 
 pub region-requires-clause-edges : goal.region-requires-clause-edges
 region-requires-clause-edges c =
-    let t = joined c.args.text.now in
+    let t = halves_joined c.args.text.now in
     let p = c.move_split.new.places in
     let k : TextChange t c.args.new.now c.args.kept p c.find_touched-touched.result = c.find_touched-touched.ensures t c.args.new.now c.len.ensures (moved_follows t c.args.places.now p c.args.kept c.args.new.now c.requires c.move_split.ensures.placed) in
     let whole = (λ i. c.halves.ensures.front i ++ c.halves.ensures.back i) ∙ refl in
     subst (λ (u : List ℕ). AreEdges u c.find_touched-touched.result c.args.kept) (sym whole) k.edges
 
 pub returns-in_err-region-clause-placed : goal.returns-in_err-region-clause-placed
-returns-in_err-region-clause-placed c = still_placed (joined c.args.text.now) _ _ refl c.move_split.ensures.placed
+returns-in_err-region-clause-placed c = still_placed (halves_joined c.args.text.now) _ _ refl c.move_split.ensures.placed
 
 pub returns-in_err-come-clause-placed : goal.returns-in_err-come-clause-placed
-returns-in_err-come-clause-placed c = still_placed (joined c.args.text.now) _ _ refl c.move_split.ensures.placed
+returns-in_err-come-clause-placed c = still_placed (halves_joined c.args.text.now) _ _ refl c.move_split.ensures.placed
 
 pub returns-in_err-reserve-clause-placed : goal.returns-in_err-reserve-clause-placed
-returns-in_err-reserve-clause-placed c = still_placed (joined c.args.text.now) _ _ ((λ i. c.reserve.ensures.front i ++ c.reserve.ensures.back i) ∙ refl) c.move_split.ensures.placed
+returns-in_err-reserve-clause-placed c = still_placed (halves_joined c.args.text.now) _ _ ((λ i. c.reserve.ensures.front i ++ c.reserve.ensures.back i) ∙ refl) c.move_split.ensures.placed
 
 pub returns-in_err-exchange-clause-placed : goal.returns-in_err-exchange-clause-placed
-returns-in_err-exchange-clause-placed c = same_places (joined c.args.text.now) _ c.move_split.new.places _ ((λ i. c.reserve.ensures.front i ++ c.reserve.ensures.back i) ∙ refl) c.move_split.ensures.placed c.in_err-exchange.ensures.err
+returns-in_err-exchange-clause-placed c = same_places (halves_joined c.args.text.now) _ c.move_split.new.places _ ((λ i. c.reserve.ensures.front i ++ c.reserve.ensures.back i) ∙ refl) c.move_split.ensures.placed c.in_err-exchange.ensures.err
 
 pub drop_text-requires-clause-begin : goal.drop_text-requires-clause-begin
 drop_text-requires-clause-begin c =
-    let t = joined c.args.text.now in
+    let t = halves_joined c.args.text.now in
     let k : TextChange t c.args.new.now c.args.kept c.move_split.new.places c.find_touched-touched.result = c.find_touched-touched.ensures t c.args.new.now c.len.ensures (moved_follows t c.args.places.now c.move_split.new.places c.args.kept c.args.new.now c.requires c.move_split.ensures.placed) in
     k.edges.begin

@@ -1,6 +1,6 @@
 use Rattle.std.proofs.Common.{◌≡◌, ◌∙◌, ◌-◌, sym, ap, take, length, Option, slice_set, refl, arith}
 use Rattle.yq_cut.specs.declared.ends.EndPlace.{EndPlace}
-use Rattle.yq_session.specs.Reading.{settled}
+use Rattle.yq_session.specs.Reading.{settled_ends}
 use Rattle.yq_session.proofs.ReadLaws.{settled_set}
 use Rattle.yq_session.proofs.reading.settle.Goals as goal
 
@@ -8,7 +8,7 @@ pub returns-in-Some : goal.returns-in-Some
 returns-in-Some c =
     ap (slice_set c.args.ends.now.items (c.len-last.result - 1)) c.marked_as.ensures
     ∙ (settled_set c.args.ends.now.items c.in-Some.end c.index.result.now (c.len-last.result - 1) c.args.more (omega arith) c.requires c.index.ensures
-    ∙ ap (λ (u : Option EndPlace). settled c.args.ends.now.items u c.args.more) (sym c.in-Some.is))
+    ∙ ap (λ (u : Option EndPlace). settled_ends c.args.ends.now.items u c.args.more) (sym c.in-Some.is))
 
 pub returns-in-None : goal.returns-in-None
 returns-in-None c =

@@ -3,12 +3,12 @@ use Rattle.std.specs.FinMap.{find, get-from_entries}
 use Rattle.std.specs.Ordering.{nat_cmp}
 use Rattle.std.specs.Cmp.Lexicographic.{slice_cmp, nat_list_cmp_total}
 use Rattle.std.proofs.lemmas.Grind.{common_steps}
-use Rattle.yq_store.specs.FileMap.{entries_of}
+use Rattle.yq_store.specs.FileMap.{log_entries}
 use Rattle.yq_store.proofs.Found.{found_first, found_later}
 use Rattle.yq_store.proofs.memory.find_bytes.Goals as goal
 
 pub entries-init : goal.entries-init
-entries-init c = get-from_entries nat_list_cmp_total _ _ ∙ ap (λ es. find (slice_cmp nat_cmp) c.args.name.now (entries_of es)) (sym c.into_iter-k-iterator.ensures.into_iter_gives.0)
+entries-init c = get-from_entries nat_list_cmp_total _ _ ∙ ap (λ es. find (slice_cmp nat_cmp) c.args.name.now (log_entries es)) (sym c.into_iter-k-iterator.ensures.into_iter_gives.0)
 
 pub returns-then-eq : goal.returns-then-eq
 returns-then-eq c = grind (arith, common_steps, found_first)

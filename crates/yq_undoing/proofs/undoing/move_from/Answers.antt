@@ -2,9 +2,9 @@ use Rattle.std.proofs.Common.{Some, sym, ap, ◌∙◌}
 use Rattle.std.proofs.lemmas.Result.{err_from_is_err_and}
 use Rattle.std.proofs.lemmas.Slice.Eq.{bytes_eq-Decides}
 use Rattle.yq_records.specs.Refusals.{way_fault}
-use Rattle.yq_records.specs.State.{moved, moved_text, opened}
+use Rattle.yq_records.specs.State.{journal_after, moved_text, with_move}
 use Rattle.yq_history.proofs.MoveLaws.{refused_move, equal_move, other_move}
-use Rattle.yq_history.specs.Directions.{step_of}
+use Rattle.yq_history.specs.Directions.{walk_move}
 use Rattle.yq_history.proofs.EffectLaws.{move_refused, move_equal, move_other, way_free}
 use Rattle.yq_undoing.proofs.undoing.move_from.Goals as goal
 
@@ -53,8 +53,8 @@ returns-then-eq-clause-effect g c =
     let s = c.args.state.now in
     let free = ap (λ x. way_fault s.records s.at x c.as_slice-old.result.now) (sym c.step.ensures) ∙ c.in_ok-new.ensures.free in
     let same = ap (λ x. moved_text s.records s.at x c.as_slice-old.result.now) (sym c.step.ensures) ∙ c.in_ok-new.ensures.ok ∙ ap Some (sym c.as_slice.ensures.value ∙ (bytes_eq-Decides c.as_slice.result.now c.as_slice-old.result.now).0 (sym c.eq.ensures ∙ c.if-eq.true)) in
-    move_equal c.args.file.now c.args.journal.now (g.D.Store.content c.args.store.now) _ c.args.state.now c.as_slice-old.result.now (step_of c.args.dir) c.move_only.result
-    there (e.others keeps _ apart) (way_free s.records s.at (step_of c.args.dir) c.as_slice-old.result.now c.as_slice-old.result.now (opened s (step_of c.args.dir) c.as_slice-old.result.now) (moved s (step_of c.args.dir)) free same)
+    move_equal c.args.file.now c.args.journal.now (g.D.Store.content c.args.store.now) _ c.args.state.now c.as_slice-old.result.now (walk_move c.args.dir) c.move_only.result
+    there (e.others keeps _ apart) (way_free s.records s.at (walk_move c.args.dir) c.as_slice-old.result.now c.as_slice-old.result.now (with_move s (walk_move c.args.dir) c.as_slice-old.result.now) (journal_after s (walk_move c.args.dir)) free same)
     (e.moved keeps) (e.cut keeps) e.outside)
 
 pub returns-else-eq-clause-effect : goal.returns-else-eq-clause-effect

@@ -3,7 +3,7 @@ use Rattle.yq_flow_scalars.specs.Paths.{Nth}
 use Rattle.yq_lines.specs.Ends.{part}
 use Rattle.yq_lines.specs.Places.{find_row}
 use Rattle.yq_lines.specs.Positions.{position}
-use Rattle.yq_lines.specs.Lines.{lines_of}
+use Rattle.yq_lines.specs.Lines.{lines_of_rows}
 use Rattle.yq_lines.specs.RowWalk.{HasDocument, IsPosition, line_number}
 use Rattle.yq_walk.proofs.position_find.find_item.Given as goal
 
@@ -15,6 +15,6 @@ abbrev pub invariant-lines : goal.invariant-lines
 invariant-lines l = record {
   at : IsPosition l.rows l.document l.at;
   found : (h : HasDocument l.rows l.document) →
-      position (line_number l.document h.stand.rows l.fn.under) (find_row (Nth l.index) (part (lines_of h.stand.rows) (line_number l.document h.stand.rows l.fn.under) l.floor)) ≡
-      position (line_number l.document h.stand.rows l.at) (find_row (Nth l.left) (part (lines_of h.stand.rows) (line_number l.document h.stand.rows l.at) l.floor));
+      position (line_number l.document h.stand.rows l.fn.under) (find_row (Nth l.index) (part (lines_of_rows h.stand.rows) (line_number l.document h.stand.rows l.fn.under) l.floor)) ≡
+      position (line_number l.document h.stand.rows l.at) (find_row (Nth l.left) (part (lines_of_rows h.stand.rows) (line_number l.document h.stand.rows l.at) l.floor));
 }

@@ -1,6 +1,6 @@
 use Rattle.std.proofs.Common.{refl, sym, ◌∙◌}
 use Rattle.yq_flow_scalars.specs.Paths.{To}
-use Rattle.yq_lines.specs.Lines.{lines_of}
+use Rattle.yq_lines.specs.Lines.{lines_of_rows}
 use Rattle.yq_lines.proofs.PositionLaws.{position_here, position_passed, position_end}
 use Rattle.yq_lines.specs.RowWalk.{line_number}
 use Rattle.yq_lines.proofs.WalkPositions.{located, position_line}
@@ -18,7 +18,7 @@ returns-then-is_key-clause-within c = position_line c.args.rows.now c.args.docum
 pub returns-then-is_key-clause-found : goal.returns-then-is_key-clause-found
 returns-then-is_key-clause-found c = λ h.
     let k = located c.args.rows.now c.args.document h.stand c.lines.at (position_line c.args.rows.now c.args.document c.lines.at c.lines.invariant.at (c.lines-test.ensures.some refl)) in
-    c.lines.invariant.found h ∙ position_here (lines_of h.stand.rows) (line_number c.args.document h.stand.rows c.lines.at) c.args.floor k.line k.is (c.lines-test.ensures.test h.stand) (To c.args.key.now) (sym (c.if-is_key.ensures h.stand k.line k.is))
+    c.lines.invariant.found h ∙ position_here (lines_of_rows h.stand.rows) (line_number c.args.document h.stand.rows c.lines.at) c.args.floor k.line k.is (c.lines-test.ensures.test h.stand) (To c.args.key.now) (sym (c.if-is_key.ensures h.stand k.line k.is))
 
 pub behind-at-requires-clause-position : goal.behind-at-requires-clause-position
 behind-at-requires-clause-position c = position_line c.args.rows.now c.args.document c.lines.at c.lines.invariant.at (c.lines-test.ensures.some refl)
@@ -29,7 +29,7 @@ lines-preserved c = record {
   found = λ h.
       let k = located c.args.rows.now c.args.document h.stand c.lines.at (position_line c.args.rows.now c.args.document c.lines.at c.lines.invariant.at (c.lines-test.ensures.some refl)) in
       c.lines.invariant.found h
-      ∙ position_passed (lines_of h.stand.rows) (line_number c.args.document h.stand.rows c.lines.at) c.args.floor k.line k.is (c.lines-test.ensures.test h.stand) (To c.args.key.now) (line_number c.args.document h.stand.rows c.behind-at.result) (c.behind-at.ensures.end h.stand) (sym (c.if-is_key.ensures h.stand k.line k.is));
+      ∙ position_passed (lines_of_rows h.stand.rows) (line_number c.args.document h.stand.rows c.lines.at) c.args.floor k.line k.is (c.lines-test.ensures.test h.stand) (To c.args.key.now) (line_number c.args.document h.stand.rows c.behind-at.result) (c.behind-at.ensures.end h.stand) (sym (c.if-is_key.ensures h.stand k.line k.is));
 }
 
 pub returns-clause-found : goal.returns-clause-found

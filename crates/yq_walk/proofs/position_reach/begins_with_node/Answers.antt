@@ -1,5 +1,5 @@
 use Rattle.std.proofs.Common.{refl, sym, ap, ◌∙◌}
-use Rattle.yq_lines.specs.Lines.{lines_of}
+use Rattle.yq_lines.specs.Lines.{lines_of_rows}
 use Rattle.yq_lines.specs.Positions as positions
 use Rattle.yq_lines.proofs.EndsLaws.{deeper_line, not_end, part_row}
 use Rattle.yq_lines.specs.RowWalk.{line_number}
@@ -8,7 +8,7 @@ use Rattle.yq_walk.proofs.position_reach.begins_with_node.Goals as goal
 
 pub returns-clause-test : goal.returns-clause-test
 returns-clause-test c = λ h.
-    let ls = lines_of h.rows in
+    let ls = lines_of_rows h.rows in
     let n = line_number c.args.document h.rows c.args.under in
     let k = located c.args.rows.now c.args.document h c.args.under (position_line c.args.rows.now c.args.document c.args.under c.requires.under (c.if-not-is_deeper.ensures.some refl)) in
     let deep = deeper_line ls n c.args.floor k.line k.is (not_end _ (c.if-not-is_deeper.ensures.test h)) in

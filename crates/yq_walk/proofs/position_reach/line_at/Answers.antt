@@ -1,7 +1,7 @@
 use Rattle.std.proofs.Common.{map, rules}
 use Rattle.std.proofs.lemmas.List.{length-map}
-use Rattle.yq_nodes.specs.Entries.{step_of}
-use Rattle.yq_lines.specs.Lines.{lines_of}
+use Rattle.yq_nodes.specs.Entries.{tree_step}
+use Rattle.yq_lines.specs.Lines.{lines_of_rows}
 use Rattle.yq_lines.proofs.PathLines.{last_line, no_last_line}
 use Rattle.yq_lines.proofs.WalkPositions.{no_line}
 use Rattle.yq_walk.proofs.position_reach.line_at.Goals as goal
@@ -13,4 +13,4 @@ pub returns-else-is_empty-clause-found : goal.returns-else-is_empty-clause-found
 returns-else-is_empty-clause-found c = search (rules, no_last_line, length-map)
 
 pub returns-in_err-at-clause-found : goal.returns-in_err-at-clause-found
-returns-in_err-at-clause-found c = rw c.from_residual.ensures (λ h. no_line (map step_of c.args.steps.now) (lines_of h.stand.rows) (c.in_err-at.ensures.found h))
+returns-in_err-at-clause-found c = rw c.from_residual.ensures (λ h. no_line (map tree_step c.args.steps.now) (lines_of_rows h.stand.rows) (c.in_err-at.ensures.found h))

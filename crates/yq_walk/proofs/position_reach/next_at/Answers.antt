@@ -1,6 +1,6 @@
 use Rattle.std.proofs.Common.{◌∷◌, option_map, ap, ◌∙◌, rules}
-use Rattle.yq_nodes.specs.Entries.{step_of}
-use Rattle.yq_lines.specs.Lines.{lines_of}
+use Rattle.yq_nodes.specs.Entries.{tree_step}
+use Rattle.yq_lines.specs.Lines.{lines_of_rows}
 use Rattle.yq_lines.specs.Positions.{reach_in, reach_from}
 use Rattle.yq_lines.specs.RowWalk.{line_number}
 use Rattle.yq_lines.proofs.EntryKeys.{root_keys}
@@ -12,5 +12,5 @@ next_in-requires-clause-keys c = search (rules, first_number, root_keys)
 
 pub returns-in-None-clause-found : goal.returns-in-None-clause-found
 returns-in-None-clause-found c = λ h ss.
-    ap (λ o. reach_from (lines_of h.stand.rows) (option_map (line_number c.args.document h.stand.rows) o) (step_of c.args.step.now ∷ ss)) c.in-None.is
-    ∙ ((λ j. reach_in (lines_of h.stand.rows) (first_number c.args.document h.stand.rows j) 0 (step_of c.args.step.now) ss) ∙ c.next_in.ensures.found h ss)
+    ap (λ o. reach_from (lines_of_rows h.stand.rows) (option_map (line_number c.args.document h.stand.rows) o) (tree_step c.args.step.now ∷ ss)) c.in-None.is
+    ∙ ((λ j. reach_in (lines_of_rows h.stand.rows) (first_number c.args.document h.stand.rows j) 0 (tree_step c.args.step.now) ss) ∙ c.next_in.ensures.found h ss)

@@ -1,12 +1,12 @@
 use Rattle.std.proofs.Common.{arith, map}
 use Rattle.std.proofs.lemmas.Grind.{common_steps}
-use Rattle.yq_nodes.specs.Entries.{step_of}
-use Rattle.yq_lines.specs.Lines.{lines_of}
+use Rattle.yq_nodes.specs.Entries.{tree_step}
+use Rattle.yq_lines.specs.Lines.{lines_of_rows}
 use Rattle.yq_lines.proofs.PathLines.{from_root}
 use Rattle.yq_walk.proofs.position_reach.reach.Goals as goal
 
 pub steps-init : goal.steps-init
-steps-init c = record { within = tt; leads = λ h. from_root (lines_of h.stand.rows) (map step_of c.args.steps.now) }
+steps-init c = record { within = tt; leads = λ h. from_root (lines_of_rows h.stand.rows) (map tree_step c.args.steps.now) }
 
 pub steps-preserved : goal.steps-preserved
 steps-preserved c = grind (arith, common_steps)

@@ -1,10 +1,10 @@
 use Rattle.std.proofs.Common.{◌≡◌}
-use Rattle.yq_lines.specs.Positions.{is_bare}
+use Rattle.yq_lines.specs.Positions.{has_no_mark}
 use Rattle.yq_documents.proofs.WalkedRows.{line_here, of_line, stands}
 use Rattle.yq_document_nodes.proofs.nodes.lines.begins_node.Goals as goal
 
 pub returns : goal.returns
-returns c = of_line c.document_rows.ensures c.args.at (λ l. c.is_bare.result ≡ is_bare l.mark) c.is_bare.ensures
+returns c = of_line c.document_rows.ensures c.args.at (λ l. c.is_bare.result ≡ has_no_mark l.mark) c.is_bare.ensures
 
 pub is_bare-requires-clause-rows_view : goal.is_bare-requires-clause-rows_view
 is_bare-requires-clause-rows_view c = c.document_rows.ensures.small

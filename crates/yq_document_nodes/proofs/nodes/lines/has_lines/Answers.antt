@@ -1,5 +1,5 @@
 use Rattle.std.proofs.Common.{◌≡◌, not}
-use Rattle.yq_lines.specs.Ends.{is_end, part}
+use Rattle.yq_lines.specs.Ends.{has_no_lines, part}
 use Rattle.yq_lines.proofs.WalkPositions.{position_line}
 use Rattle.yq_documents.proofs.WalkedRows.{line_back, position_here, stands, agrees_rows}
 use Rattle.yq_document_nodes.proofs.nodes.lines.has_lines.Goals as goal
@@ -26,5 +26,5 @@ returns-clause-some c = λ yes.
 pub returns-clause-test : goal.returns-clause-test
 returns-clause-test c =
     let t = c.args.under.text.now in
-    agrees_rows c.document_rows.ensures (λ ls num. c.is_deeper.result ≡ not (is_end (part ls (num c.args.under.first) c.args.under.floor)))
+    agrees_rows c.document_rows.ensures (λ ls num. c.is_deeper.result ≡ not (has_no_lines (part ls (num c.args.under.first) c.args.under.floor)))
     c.is_deeper.ensures.test

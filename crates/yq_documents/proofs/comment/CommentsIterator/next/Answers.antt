@@ -1,6 +1,6 @@
 use Rattle.std.proofs.Common.{refl, ap, ◌∙◌}
 use Rattle.yq_block_scalars.proofs.BlockSteps.{at_cut, at_end}
-use Rattle.yq_flow_scalars.specs.Text.{lines_of}
+use Rattle.yq_flow_scalars.specs.Text.{text_lines}
 use Rattle.yq_documents.specs.Texts.{texts}
 use Rattle.yq_documents.proofs.CommentLaws.{no_text, one_text, none_left}
 use Rattle.yq_documents.proofs.comment.CommentsIterator.next.Goals as goal
@@ -13,9 +13,9 @@ returns-then-is_empty-clause-steps c =
 pub returns-in-Some-clause-steps : goal.returns-in-Some-clause-steps
 returns-in-Some-clause-steps c =
     let cut = at_cut _ _ _ _ c.is_empty.ensures c.if-is_empty.false c.split_line.ensures in
-    ap texts cut.0 ∙ one_text c.split_line.result.0.now c.in-Some.text.now (lines_of c.split_line.result.1.now) c.in-Some.ensures
+    ap texts cut.0 ∙ one_text c.split_line.result.0.now c.in-Some.text.now (text_lines c.split_line.result.1.now) c.in-Some.ensures
 
 pub returns-in-None-clause-steps : goal.returns-in-None-clause-steps
 returns-in-None-clause-steps c =
     let cut = at_cut _ _ _ _ c.is_empty.ensures c.if-is_empty.false c.split_line.ensures in
-    (ap texts cut.0 ∙ no_text c.split_line.result.0.now (lines_of c.split_line.result.1.now) c.in-None.ensures, none_left _ refl)
+    (ap texts cut.0 ∙ no_text c.split_line.result.0.now (text_lines c.split_line.result.1.now) c.in-None.ensures, none_left _ refl)

@@ -1,6 +1,6 @@
 use Rattle.std.proofs.Common.{ℕ, List, [], ◌∷◌, ◌++◌, map, refl, sym, ap, ◌∙◌, subst, arith}
 use Rattle.std.proofs.lemmas.List.{map_push}
-use Rattle.yq_nodes.specs.Values.{field_of, node_of as value_node}
+use Rattle.yq_nodes.specs.Values.{field_of, value_node}
 use Rattle.yq_flow_scalars.specs.Tree.{Node}
 use Rattle.yq_document_nodes.specs.Children.{left_of}
 use Rattle.yq_document_nodes.specs.Nodes.{label_of, node_of}

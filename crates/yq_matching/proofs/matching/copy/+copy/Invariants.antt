@@ -1,5 +1,5 @@
 use Rattle.std.proofs.Common.{◌≡◌, ◌+◌, ◌*◌, ◌≤◌, map}
-use Rattle.yq_nodes.specs.Values.{field_of, node_of as value_node}
+use Rattle.yq_nodes.specs.Values.{field_of, value_node}
 use Rattle.yq_flow_scalars.specs.Keys.{depth, deepest}
 use Rattle.yq_flow_scalars.specs.Tree.{children_of}
 use Rattle.yq_document_nodes.specs.Children.{left_of}

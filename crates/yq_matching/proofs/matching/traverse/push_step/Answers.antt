@@ -1,13 +1,13 @@
 use Rattle.std.proofs.Common.{ap, ◌∙◌, sym}
 use Rattle.yq_matching.specs.PlaceView.{missing_of, place_of, places_of}
-use Rattle.yq_program.specs.View.{step_of}
+use Rattle.yq_program.specs.View.{program_step}
 use Rattle.yq_matching.proofs.StepLaws.{one_missing, step_missed}
 use Rattle.yq_meaning.specs.Judgement.{gives}
 use Rattle.yq_matching.proofs.matching.traverse.push_step.Goals as goal
 
 pub returns-in-Further : goal.returns-in-Further
 returns-in-Further c =
-    step_missed (places_of c.args.places.now.items) (step_of c.args.step.now) (step_of c.in-Further.field-1.now) (place_of c.args.place.now)
+    step_missed (places_of c.args.places.now.items) (program_step c.args.step.now) (program_step c.in-Further.field-1.now) (place_of c.args.place.now)
     (missing_of c.in-Further.field-0.now)
     (one_missing c.args.place.now.missing c.in-Further.field-0 c.in-Further.field-1 c.in-Further.is)
     ∙ ap gives (sym c.in_ok-push_missing.ensures)

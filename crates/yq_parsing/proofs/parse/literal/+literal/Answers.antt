@@ -7,7 +7,7 @@ use Rattle.yq_parsing.specs.Parse.{literal_at, field_at}
 use Rattle.yq_parsing.specs.Lexing.{tokens}
 use Rattle.yq_nodes.proofs.WrittenLaws.{node_list}
 use Rattle.yq_program.proofs.ValueMaps.{node_of-map}
-use Rattle.yq_nodes.specs.Values.{node_of, field_of}
+use Rattle.yq_nodes.specs.Values.{value_node, field_of}
 use Rattle.yq_flow_scalars.specs.Keys.{are_distinct}
 use Rattle.yq_parsing.proofs.parse.literal.+literal.Goals as goal
 
@@ -52,29 +52,29 @@ literal-returns-in_err-fields-clause-value t c =
     (fails_as _ _ _ (deeper _ _ (omega arith) ∙ either_none _ _ _ _ (sym c.in_default.ensures.value) (either_some _ _ _ _ _ (sym c.in-Some-after.ensures.value) refl)) (bind_fails _ _ _ c.in_err-fields.ensures.value))
 
 pub list-items-init : goal.list-items-init
-list-items-init t c = (search rules, omega arith, onto_new node_of _ _ c.new-found.ensures.items)
+list-items-init t c = (search rules, omega arith, onto_new value_node _ _ c.new-found.ensures.items)
 
 pub list-items-preserved : goal.list-items-preserved
 list-items-preserved t c = (
   search rules,
   omega (arith, c.in_ok-item.ensures.shorter, c.in-Some-after.ensures.shorter, c.items.invariant.1),
-  parted_more node_of (codes ",") (literal_at c.args.depth) (item_lessens c.args.depth) _ (tokens c.items.rest.now) _ c.items.invariant.2 _ _ c.in_ok-item.ensures.value _ c.in_ok-push.ensures.items _ (sym c.in-Some-after.ensures.value),
+  parted_more value_node (codes ",") (literal_at c.args.depth) (item_lessens c.args.depth) _ (tokens c.items.rest.now) _ c.items.invariant.2 _ _ c.in_ok-item.ensures.value _ c.in_ok-push.ensures.items _ (sym c.in-Some-after.ensures.value),
 )
 
 pub list-returns-in-Some-clause-value : goal.list-returns-in-Some-clause-value
 list-returns-in-Some-clause-value t c =
-    either_some _ _ _ _ _ (sym c.in-Some.ensures.value) (ap (λ l. Some (map node_of l, tokens c.in-Some.rest.now)) (sym c.new-found.ensures.items))
+    either_some _ _ _ _ _ (sym c.in-Some.ensures.value) (ap (λ l. Some (map value_node l, tokens c.in-Some.rest.now)) (sym c.new-found.ensures.items))
 
 pub list-returns-in_err-item-clause-value : goal.list-returns-in_err-item-clause-value
 list-returns-in_err-item-clause-value t c =
     failed _ c.from_residual.result _ _ (err_from_is_err_and c.from_residual.result c.from_residual.ensures.1)
     (fails_as _ _ _ (either_none _ _ _ _ (sym c.in_default.ensures.value) refl)
-    (bind_fails _ _ _ (parted_fails (codes ",") (literal_at c.args.depth) (map node_of c.items.found.items) (tokens c.items.rest.now) _ c.items.invariant.2 _ c.in_err-item.ensures.value)))
+    (bind_fails _ _ _ (parted_fails (codes ",") (literal_at c.args.depth) (map value_node c.items.found.items) (tokens c.items.rest.now) _ c.items.invariant.2 _ c.in_err-item.ensures.value)))
 
 pub list-returns-in-None-clause-value : goal.list-returns-in-None-clause-value
 list-returns-in-None-clause-value t c =
     gives_as _ c.closed.result _ _ (either_none _ _ _ _ (sym c.in_default.ensures.value)
-    (bind_gives _ _ _ _ (parted_end node_of (codes ",") (literal_at c.args.depth) (item_lessens c.args.depth) _ (tokens c.items.rest.now) _ c.items.invariant.2 _ _ c.in_ok-item.ensures.value _ c.in_ok-push.ensures.items (sym c.in-None.ensures.value)) refl))
+    (bind_gives _ _ _ _ (parted_end value_node (codes ",") (literal_at c.args.depth) (item_lessens c.args.depth) _ (tokens c.items.rest.now) _ c.items.invariant.2 _ _ c.in_ok-item.ensures.value _ c.in_ok-push.ensures.items (sym c.in-None.ensures.value)) refl))
     (closed_reads _ c.closed.result _ _ c.closed.ensures.value)
 
 pub mapping-fields-init : goal.mapping-fields-init

@@ -4,7 +4,7 @@ use denote.Text.{Utf8}
 use denote.Shadow.{shadow}
 use Rattle.yq_parsing.specs.Lexing.{tokens}
 use Rattle.yq_parsing.specs.Parse.{parted_at, field_at, literal_at}
-use Rattle.yq_nodes.specs.Values.{node_of, field_of}
+use Rattle.yq_nodes.specs.Values.{value_node, field_of}
 use Rattle.yq_parsing.proofs.LoopSteps.{onto}
 use Rattle.yq_parsing.proofs.parse.literal.+literal.Given as goal
 
@@ -23,7 +23,7 @@ decreases-mapping l = 3 * l.depth + 2
 abbrev pub invariant-list-items : goal.invariant-list-items
 invariant-list-items l =
     shadow (Utf8 l.rest) × (length l.rest ≤ length l.fn.text)
-    × (onto (map node_of l.found.items) (parted_at (codes ",") (literal_at l.fn.depth) (tokens l.rest)) ≡ parted_at (codes ",") (literal_at l.fn.depth) (tokens l.fn.text))
+    × (onto (map value_node l.found.items) (parted_at (codes ",") (literal_at l.fn.depth) (tokens l.rest)) ≡ parted_at (codes ",") (literal_at l.fn.depth) (tokens l.fn.text))
 
 abbrev pub decreases-list-items : goal.decreases-list-items
 decreases-list-items l = length l.rest

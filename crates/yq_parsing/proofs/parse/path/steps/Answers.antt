@@ -4,7 +4,7 @@ use Rattle.yq_parsing.proofs.LoopSteps.{onto, step_end, loop_fails, failed, befo
 use Rattle.yq_parsing.proofs.ReadSteps.{onto_nothing, step_pushed}
 use Rattle.yq_parsing.specs.Lexing.{tokens}
 use Rattle.yq_parsing.specs.Parse.{step_at, many}
-use Rattle.yq_program.specs.View.{step_of}
+use Rattle.yq_program.specs.View.{program_step}
 use Rattle.yq_parsing.proofs.parse.path.steps.Goals as goal
 
 pub returns-in_err-step-clause-value : goal.returns-in_err-step-clause-value
@@ -18,18 +18,18 @@ steps-preserved c =
       search rules,
       omega (arith, less, c.steps.invariant.1),
       (λ some. omega (arith, less, c.steps.invariant.1)),
-      step_pushed step_of step_at step_lessens _ _ _ c.steps.invariant.3 _ c.in_ok-step.ensures.value _ _ c.in-Some.is _ c.in_ok-push-in-Some.ensures.items,
+      step_pushed program_step step_at step_lessens _ _ _ c.steps.invariant.3 _ c.in_ok-step.ensures.value _ _ c.in-Some.is _ c.in_ok-push-in-Some.ensures.items,
     )
 
 pub returns-in-None-clause-value : goal.returns-in-None-clause-value
-returns-in-None-clause-value c = step_end step_of step_at step_lessens _ _ _ c.steps.invariant.3 _ c.in_ok-step.ensures.value c.in-None.is
+returns-in-None-clause-value c = step_end program_step step_at step_lessens _ _ _ c.steps.invariant.3 _ c.in_ok-step.ensures.value c.in-None.is
 
 pub steps-init : goal.steps-init
 steps-init c = (
   search rules,
   omega arith,
   (λ some. omega (arith, some, c.new-steps.ensures.len)),
-  ap (λ l. onto (map step_of l) (many step_at (tokens c.args.text.now))) c.new-steps.ensures.items ∙ onto_nothing (many step_at (tokens c.args.text.now)),
+  ap (λ l. onto (map program_step l) (many step_at (tokens c.args.text.now))) c.new-steps.ensures.items ∙ onto_nothing (many step_at (tokens c.args.text.now)),
 )
 
 pub steps-smaller : goal.steps-smaller

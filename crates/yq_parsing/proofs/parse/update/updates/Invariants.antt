@@ -4,7 +4,7 @@ use denote.Text.{Utf8}
 use denote.Shadow.{shadow}
 use Rattle.yq_program.specs.Grammar.{literal_depth}
 use Rattle.yq_parsing.specs.Lexing.{tokens}
-use Rattle.yq_parsing.specs.Parse.{parted_at, update_at}
+use Rattle.yq_parsing.specs.Parse.{parted_at, parse_update}
 use Rattle.yq_program.specs.View.{update_of}
 use Rattle.yq_parsing.proofs.LoopSteps.{onto}
 use Rattle.yq_parsing.proofs.parse.update.updates.Given as goal
@@ -12,7 +12,7 @@ use Rattle.yq_parsing.proofs.parse.update.updates.Given as goal
 abbrev pub invariant-updates : goal.invariant-updates
 invariant-updates l =
     shadow (Utf8 l.rest) × (length l.rest ≤ length l.text)
-    × (onto (map update_of l.found.items) (parted_at (codes "|") (update_at literal_depth) (tokens l.rest)) ≡ parted_at (codes "|") (update_at literal_depth) (tokens l.text))
+    × (onto (map update_of l.found.items) (parted_at (codes "|") (parse_update literal_depth) (tokens l.rest)) ≡ parted_at (codes "|") (parse_update literal_depth) (tokens l.text))
 
 abbrev pub decreases-updates : goal.decreases-updates
 decreases-updates l = length l.rest

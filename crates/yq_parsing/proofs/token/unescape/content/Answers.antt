@@ -1,6 +1,6 @@
 use Rattle.std.proofs.Common.{◌≡◌, ◌++◌, ◌∙◌, ℕ, List, length, ap, sym, arith, rules, length-drop, string_bytes}
 use Rattle.yq_flow_scalars.specs.Text.{unless, upto}
-use Rattle.yq_parsing.specs.Lexing.{is_plain}
+use Rattle.yq_parsing.specs.Lexing.{is_plain_byte}
 use Rattle.yq_parsing.proofs.Content.{content_next, content_done}
 use Rattle.yq_parsing.proofs.token.unescape.content.Goals as goal
 
@@ -18,4 +18,4 @@ returns-in-None c =
 
 pub runs-smaller : goal.runs-smaller
 runs-smaller c =
-    omega (arith, c.in-Some.ensures.shorter, ap (λ (p : List ℕ × List ℕ). length p.1) c.split_plain.ensures, length-drop (upto (unless is_plain) c.runs.rest.now) c.runs.rest.now)
+    omega (arith, c.in-Some.ensures.shorter, ap (λ (p : List ℕ × List ℕ). length p.1) c.split_plain.ensures, length-drop (upto (unless is_plain_byte) c.runs.rest.now) c.runs.rest.now)

@@ -1,5 +1,5 @@
 use Rattle.std.proofs.Common.{List, ℕ, map, option_map, ap, ◌∙◌}
-use Rattle.yq_nodes.specs.Entries.{step_of}
+use Rattle.yq_nodes.specs.Entries.{tree_step}
 use Rattle.yq_documents.specs.Located.{steps_of}
 use Rattle.yq_documents.specs.Reading.{cut_of}
 use Rattle.yq_documents.specs.LinesInRows.{row_line_of}
@@ -20,7 +20,7 @@ pub returns : goal.returns
 returns c =
     let t : List ℕ = c.args.self.now in
     place_found t c.rows.result.now (cut_of t) c.args.path.now.doc c.in_ok-document.document _ (λ k cut rows. option_map (numbers_of_entry k rows) (row_line_of (steps_of c.args.path.now) rows)) c.whole-whole.ensures.cut c.rows.ensures c.in_ok-document.ensures.place c.in_ok-document.ensures.sound
-    (λ k. c.entry_along.ensures k.document ∙ ap (λ xs. option_map (numbers_of_entry c.in_ok-document.document.first k.document.stand.rows) (row_line_of (map step_of xs) k.document.stand.rows)) c.deref.ensures.value)
+    (λ k. c.entry_along.ensures k.document ∙ ap (λ xs. option_map (numbers_of_entry c.in_ok-document.document.first k.document.stand.rows) (row_line_of (map tree_step xs) k.document.stand.rows)) c.deref.ensures.value)
 
 pub entry_along-requires-clause-rows_view : goal.entry_along-requires-clause-rows_view
 entry_along-requires-clause-rows_view c = rows_are_view c.args.self.now c.rows.result.now c.whole-whole.ensures.cut c.rows.ensures

@@ -1,5 +1,5 @@
 use Rattle.std.proofs.Common.{List, ℕ, map, ap, ◌∙◌}
-use Rattle.yq_nodes.specs.Entries.{step_of}
+use Rattle.yq_nodes.specs.Entries.{tree_step}
 use Rattle.yq_documents.specs.Located.{steps_of}
 use Rattle.yq_documents.specs.Reading.{cut_of}
 use Rattle.yq_row_places.specs.EntryReading.{line_entry_of}
@@ -18,7 +18,7 @@ pub returns : goal.returns
 returns c =
     let t : List ℕ = c.args.self.now in
     place_found t c.rows.result.now (cut_of t) c.args.path.now.doc c.in_ok-document.document _ (λ k cut rows. line_entry_of k cut rows (steps_of c.args.path.now)) c.whole-whole.ensures.cut c.rows.ensures c.in_ok-document.ensures.place c.in_ok-document.ensures.sound
-    (λ k. c.entry_of.ensures (cut_of t) k ∙ ap (λ xs. line_entry_of c.in_ok-document.document.first (cut_of t) k.document.stand.rows (map step_of xs)) c.deref.ensures.value)
+    (λ k. c.entry_of.ensures (cut_of t) k ∙ ap (λ xs. line_entry_of c.in_ok-document.document.first (cut_of t) k.document.stand.rows (map tree_step xs)) c.deref.ensures.value)
 
 pub entry_of-requires-clause-rows_view : goal.entry_of-requires-clause-rows_view
 entry_of-requires-clause-rows_view c = rows_are_view c.args.self.now c.rows.result.now c.whole-whole.ensures.cut c.rows.ensures

@@ -1,7 +1,7 @@
 use Rattle.std.proofs.Common.{ℕ, List, ◌-◌, Some, take, drop, sym, ap, ◌∙◌, subst}
 use Rattle.std.specs.Str.{IsUtf8, IsCharBoundary}
 use Rattle.yq_row_places.specs.FirstPlaces.{first_out}
-use Rattle.yq_row_places.specs.FirstViews.{piece_of}
+use Rattle.yq_row_places.specs.FirstViews.{piece_between}
 use Rattle.yq_documents.specs.Reading.{cut_of}
 use Rattle.yq_row_places.specs.RowLineReading.{line_view}
 use Rattle.yq_row_places.proofs.FirstLaws.{entry_stands, first_is, no_first_entry, no_first_row_line, other_first_line}
@@ -44,5 +44,5 @@ returns c =
     let before = c.cut_at.ensures.before ∙ (ap (take from) text ∙ h.before_is) in
     let entry = c.cut_at.ensures.middle ∙ (ap (λ (y : List ℕ). take size (drop from y)) text ∙ h.text_is) in
     let behind = c.cut_at.ensures.behind ∙ (ap (λ (y : List ℕ). drop size (drop from y)) text ∙ h.behind_is) in
-    ap Some (c.first_out.ensures ∙ (λ i. first_out (piece_of (before i) (entry i) (behind i))))
+    ap Some (c.first_out.ensures ∙ (λ i. first_out (piece_between (before i) (entry i) (behind i))))
     ∙ first_is c.args.path.now (cut_of t) _ (line_view c.in_ok-row_line.row_line) h.piece c.in_ok-row_line.ensures c.if-row_line-eq0.false h.is

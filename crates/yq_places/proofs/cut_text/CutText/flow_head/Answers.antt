@@ -1,11 +1,11 @@
 use Rattle.std.proofs.Common.{ℕ, List, length, map, Some, None, refl, sym, ap, ◌∙◌}
-use Rattle.yq_nodes.specs.Entries.{step_of}
+use Rattle.yq_nodes.specs.Entries.{tree_step}
 use Rattle.yq_lines.specs.View.{head_flow}
 use Rattle.yq_row_places.specs.FlowNodes.{flow_collection}
 use Rattle.yq_row_places.specs.NodeReading.{place_view}
 use Rattle.yq_lines.specs.RowWalk.{line_number}
 use Rattle.yq_flow_scalars.specs.Paths.{Step}
-use Rattle.yq_lines.specs.Lines.{lines_of}
+use Rattle.yq_lines.specs.Lines.{lines_of_rows}
 use Rattle.yq_documents.specs.Reading.{cut_of}
 use Rattle.yq_row_places.proofs.FlowNodeLaws.{collection_is, agrees_for, head_line_at, head_for, no_collection, no_flow_agrees, no_head_at, other_head, rows_collection}
 use Rattle.yq_row_places.proofs.RowHeads.{line_fit, line_within, row_start, row_text}
@@ -35,28 +35,28 @@ row_head-requires-clause-fit c =
 pub returns-in_default-node_place-clause-found : goal.returns-in_default-node_place-clause-found
 returns-in_default-node_place-clause-found c =
     let t : List ℕ = c.args.self.now in
-    let steps : List Step = map step_of c.args.steps.now in
+    let steps : List Step = map tree_step c.args.steps.now in
     let d = c.in-Some.document in
     no_flow_agrees t (flow_collection c.args.doc steps (cut_of t))
     (place_found t c.rows-rows.result.now (cut_of t) c.args.doc d None (λ k x rs. rows_collection k x rs steps) c.whole-whole.ensures.cut c.rows-rows.ensures c.in-Some.ensures.place c.in-Some.ensures.sound
-    (λ k. no_collection d.first (cut_of t) k.document.stand.rows steps (no_head_at (lines_of k.document.stand.rows) steps (c.in_default-node_place.ensures.found k.document)))
+    (λ k. no_collection d.first (cut_of t) k.document.stand.rows steps (no_head_at (lines_of_rows k.document.stand.rows) steps (c.in_default-node_place.ensures.found k.document)))
     ∙ collection_is (cut_of t) c.args.doc steps)
 
 pub returns-in_default-place_line-clause-found : goal.returns-in_default-place_line-clause-found
 returns-in_default-place_line-clause-found c =
     let t : List ℕ = c.args.self.now in
-    let steps : List Step = map step_of c.args.steps.now in
+    let steps : List Step = map tree_step c.args.steps.now in
     let d = c.in-Some.document in
     no_flow_agrees t (flow_collection c.args.doc steps (cut_of t))
     (place_found t c.rows-rows.result.now (cut_of t) c.args.doc d None (λ k x rs. rows_collection k x rs steps) c.whole-whole.ensures.cut c.rows-rows.ensures c.in-Some.ensures.place c.in-Some.ensures.sound
-    (λ k. no_collection d.first (cut_of t) k.document.stand.rows steps (head_line_at (lines_of k.document.stand.rows) steps (map step_of c.in-Some-node_place.left.now) (place_view d k.document.stand.rows c.in-Some-node_place.place) None (c.in-Some-node_place.ensures.found k.document) (c.in_default-place_line.ensures.found k.document.stand)))
+    (λ k. no_collection d.first (cut_of t) k.document.stand.rows steps (head_line_at (lines_of_rows k.document.stand.rows) steps (map tree_step c.in-Some-node_place.left.now) (place_view d k.document.stand.rows c.in-Some-node_place.place) None (c.in-Some-node_place.ensures.found k.document) (c.in_default-place_line.ensures.found k.document.stand)))
     ∙ collection_is (cut_of t) c.args.doc steps)
 
 pub returns-in-Nothing-clause-found : goal.returns-in-Nothing-clause-found
 returns-in-Nothing-clause-found c =
     let t : List ℕ = c.args.self.now in
-    let steps : List Step = map step_of c.args.steps.now in
-    let left : List Step = map step_of c.in-Some-node_place.left.now in
+    let steps : List Step = map tree_step c.args.steps.now in
+    let left : List Step = map tree_step c.in-Some-node_place.left.now in
     let rows = c.rows-rows.result.now in
     let d = c.in-Some.document in
     let q = c.in-Some-place_line.at in
@@ -64,15 +64,15 @@ returns-in-Nothing-clause-found c =
     let cut = c.whole-whole.ensures.cut in
     let f = found_document t rows (cut_of t) c.args.doc d cut c.rows-rows.ensures c.in-Some.ensures.place c.in-Some.ensures.sound in
     let k = (found_in_cut t rows (cut_of t) c.args.doc d cut c.rows-rows.ensures f).0 in
-    let leads = head_line_at (lines_of k.document.stand.rows) steps left (place_view d k.document.stand.rows c.in-Some-node_place.place) (Some (line_number d k.document.stand.rows q)) (c.in-Some-node_place.ensures.found k.document) (c.in-Some-place_line.ensures.found k.document.stand) in
+    let leads = head_line_at (lines_of_rows k.document.stand.rows) steps left (place_view d k.document.stand.rows c.in-Some-node_place.place) (Some (line_number d k.document.stand.rows q)) (c.in-Some-node_place.ensures.found k.document) (c.in-Some-place_line.ensures.found k.document.stand) in
     let head = c.in_ok-head.ensures (row_is rows d (cut_of t) k q at) (row_in_cut rows d (cut_of t) k q at) in
     other_head t rows (cut_of t) c.args.doc d cut c.rows-rows.ensures f q at steps left (sym leads) (length c.in_ok-head.field-0.text.now) (ap head_flow (sym c.in-Nothing.is) ∙ head.flow)
 
 pub returns-in-Scalar-clause-found : goal.returns-in-Scalar-clause-found
 returns-in-Scalar-clause-found c =
     let t : List ℕ = c.args.self.now in
-    let steps : List Step = map step_of c.args.steps.now in
-    let left : List Step = map step_of c.in-Some-node_place.left.now in
+    let steps : List Step = map tree_step c.args.steps.now in
+    let left : List Step = map tree_step c.in-Some-node_place.left.now in
     let rows = c.rows-rows.result.now in
     let d = c.in-Some.document in
     let q = c.in-Some-place_line.at in
@@ -80,15 +80,15 @@ returns-in-Scalar-clause-found c =
     let cut = c.whole-whole.ensures.cut in
     let f = found_document t rows (cut_of t) c.args.doc d cut c.rows-rows.ensures c.in-Some.ensures.place c.in-Some.ensures.sound in
     let k = (found_in_cut t rows (cut_of t) c.args.doc d cut c.rows-rows.ensures f).0 in
-    let leads = head_line_at (lines_of k.document.stand.rows) steps left (place_view d k.document.stand.rows c.in-Some-node_place.place) (Some (line_number d k.document.stand.rows q)) (c.in-Some-node_place.ensures.found k.document) (c.in-Some-place_line.ensures.found k.document.stand) in
+    let leads = head_line_at (lines_of_rows k.document.stand.rows) steps left (place_view d k.document.stand.rows c.in-Some-node_place.place) (Some (line_number d k.document.stand.rows q)) (c.in-Some-node_place.ensures.found k.document) (c.in-Some-place_line.ensures.found k.document.stand) in
     let head = c.in_ok-head.ensures (row_is rows d (cut_of t) k q at) (row_in_cut rows d (cut_of t) k q at) in
     other_head t rows (cut_of t) c.args.doc d cut c.rows-rows.ensures f q at steps left (sym leads) (length c.in_ok-head.field-0.text.now) (ap head_flow (sym c.in-Scalar.is) ∙ head.flow)
 
 pub returns-clause-whole : goal.returns-clause-whole
 returns-clause-whole c =
     let t : List ℕ = c.args.self.now in
-    let steps : List Step = map step_of c.args.steps.now in
-    let left : List Step = map step_of c.in-Some-node_place.left.now in
+    let steps : List Step = map tree_step c.args.steps.now in
+    let left : List Step = map tree_step c.in-Some-node_place.left.now in
     let rows = c.rows-rows.result.now in
     let d = c.in-Some.document in
     let q = c.in-Some-place_line.at in
@@ -96,7 +96,7 @@ returns-clause-whole c =
     let cut = c.whole-whole.ensures.cut in
     let f = found_document t rows (cut_of t) c.args.doc d cut c.rows-rows.ensures c.in-Some.ensures.place c.in-Some.ensures.sound in
     let k = (found_in_cut t rows (cut_of t) c.args.doc d cut c.rows-rows.ensures f).0 in
-    let leads = head_line_at (lines_of k.document.stand.rows) steps left (place_view d k.document.stand.rows c.in-Some-node_place.place) (Some (line_number d k.document.stand.rows q)) (c.in-Some-node_place.ensures.found k.document) (c.in-Some-place_line.ensures.found k.document.stand) in
+    let leads = head_line_at (lines_of_rows k.document.stand.rows) steps left (place_view d k.document.stand.rows c.in-Some-node_place.place) (Some (line_number d k.document.stand.rows q)) (c.in-Some-node_place.ensures.found k.document) (c.in-Some-place_line.ensures.found k.document.stand) in
     let row = row_is rows d (cut_of t) k q at in
     let there = row_in_cut rows d (cut_of t) k q at in
     let head = c.in_ok-head.ensures row there in
@@ -107,7 +107,7 @@ returns-clause-whole c =
     (ap head_flow (sym c.in-Inline.is) ∙ head.flow)
 
 pub returns-clause-found : goal.returns-clause-found
-returns-clause-found c = agrees_for c.args.self.now (cut_of c.args.self.now) c.args.doc (map step_of c.args.steps.now) _ (returns-clause-whole c)
+returns-clause-found c = agrees_for c.args.self.now (cut_of c.args.self.now) c.args.doc (map tree_step c.args.steps.now) _ (returns-clause-whole c)
 
 pub node_place-requires-clause-rows_view : goal.node_place-requires-clause-rows_view
 node_place-requires-clause-rows_view c = rows_are_view c.args.self.now c.rows-rows.result.now c.whole-whole.ensures.cut c.rows-rows.ensures

@@ -1,5 +1,5 @@
 use Rattle.std.proofs.Common.{◌≡◌, ◌-◌, length, map, take, option_map, sym, ap, ◌∙◌, arith}
-use Rattle.yq_nodes.specs.Entries.{step_of}
+use Rattle.yq_nodes.specs.Entries.{tree_step}
 use Rattle.yq_documents.specs.Reading.{cut_of}
 use Rattle.yq_row_places.specs.NodesAt.{node_in, node_view}
 use Rattle.yq_row_places.specs.RemovalPlaces.{has_several}
@@ -11,9 +11,9 @@ returns-in-Some c =
     let doc = c.args.path.now.doc in
     let cut = cut_of c.args.self.now in
     let n : c.saturating_sub-above.result ≡ length c.args.path.now.steps.items - 1 = omega (arith, c.saturating_sub-above.ensures, c.len.ensures) in
-    let above = (λ i. map step_of (take c.saturating_sub-above.result (c.deref.ensures.value i))) ∙ steps_above step_of c.args.path.now.steps.items c.saturating_sub-above.result n in
+    let above = (λ i. map tree_step (take c.saturating_sub-above.result (c.deref.ensures.value i))) ∙ steps_above tree_step c.args.path.now.steps.items c.saturating_sub-above.result n in
     c.has_several.ensures
-    ∙ (several_agrees (node_in doc (map step_of (take c.saturating_sub-above.result c.deref.result.now)) cut) (node_view c.in-Some.node) (sym (ap (option_map node_view) c.in-Some.is) ∙ c.in_ok-node.ensures)
+    ∙ (several_agrees (node_in doc (map tree_step (take c.saturating_sub-above.result c.deref.result.now)) cut) (node_view c.in-Some.node) (sym (ap (option_map node_view) c.in-Some.is) ∙ c.in_ok-node.ensures)
     ∙ ap (λ ss. has_several (node_in doc ss cut)) above)
 
 pub returns-in-None : goal.returns-in-None
@@ -21,5 +21,5 @@ returns-in-None c =
     let doc = c.args.path.now.doc in
     let cut = cut_of c.args.self.now in
     let n : c.saturating_sub-above.result ≡ length c.args.path.now.steps.items - 1 = omega (arith, c.saturating_sub-above.ensures, c.len.ensures) in
-    let above = (λ i. map step_of (take c.saturating_sub-above.result (c.deref.ensures.value i))) ∙ steps_above step_of c.args.path.now.steps.items c.saturating_sub-above.result n in
-    none_agrees (node_in doc (map step_of (take c.saturating_sub-above.result c.deref.result.now)) cut) (sym (ap (option_map node_view) c.in-None.is) ∙ c.in_ok-node.ensures) ∙ ap (λ ss. has_several (node_in doc ss cut)) above
+    let above = (λ i. map tree_step (take c.saturating_sub-above.result (c.deref.ensures.value i))) ∙ steps_above tree_step c.args.path.now.steps.items c.saturating_sub-above.result n in
+    none_agrees (node_in doc (map tree_step (take c.saturating_sub-above.result c.deref.result.now)) cut) (sym (ap (option_map node_view) c.in-None.is) ∙ c.in_ok-node.ensures) ∙ ap (λ ss. has_several (node_in doc ss cut)) above

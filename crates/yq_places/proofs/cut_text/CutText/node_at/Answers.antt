@@ -1,9 +1,9 @@
 use Rattle.std.proofs.Common.{ℕ, List, map, Option, None, sym, ap, ◌∙◌}
 use Rattle.std.proofs.lemmas.Result.{IfOk-weaker}
-use Rattle.yq_nodes.specs.Entries.{step_of}
+use Rattle.yq_nodes.specs.Entries.{tree_step}
 use Rattle.yq_flow_scalars.specs.Answers.{◌>>=◌}
 use Rattle.yq_flow_scalars.specs.Paths.{Step}
-use Rattle.yq_lines.specs.Lines.{lines_of}
+use Rattle.yq_lines.specs.Lines.{lines_of_rows}
 use Rattle.yq_documents.specs.Reading.{cut_of}
 use Rattle.yq_lines.specs.View.{head_view}
 use Rattle.yq_row_places.specs.NodeReading.{NodePlace, place_node, place_view}
@@ -26,18 +26,18 @@ block_node-requires-clause-document c = (found_document c.args.self.now c.rows-r
 pub returns-in_default-node_place : goal.returns-in_default-node_place
 returns-in_default-node_place c =
     let t : List ℕ = c.args.self.now in
-    let steps : List Step = map step_of c.args.steps.now in
+    let steps : List Step = map tree_step c.args.steps.now in
     place_found t c.rows-rows.result.now (cut_of t) c.args.doc c.in-Some.document None (node_among steps) c.whole-whole.ensures.cut c.rows-rows.ensures c.in-Some.ensures.place c.in-Some.ensures.sound
-    (λ k. ap (λ (o : Option (NodePlace × List Step)). o >>= λ x. place_node (lines_of k.document.stand.rows) x.0 x.1) (c.in_default-node_place.ensures.found k.document))
+    (λ k. ap (λ (o : Option (NodePlace × List Step)). o >>= λ x. place_node (lines_of_rows k.document.stand.rows) x.0 x.1) (c.in_default-node_place.ensures.found k.document))
     ∙ node_is (cut_of t) c.args.doc steps 0 c.whole-whole.ensures.documents
 
 pub returns-in_default-place_line : goal.returns-in_default-place_line
 returns-in_default-place_line c =
     let t : List ℕ = c.args.self.now in
-    let steps : List Step = map step_of c.args.steps.now in
+    let steps : List Step = map tree_step c.args.steps.now in
     place_found t c.rows-rows.result.now (cut_of t) c.args.doc c.in-Some.document _ (node_among steps) c.whole-whole.ensures.cut c.rows-rows.ensures c.in-Some.ensures.place c.in-Some.ensures.sound
     (λ k. c.block_node.ensures k.document.stand (sym (c.in_default-place_line.ensures.found k.document.stand))
-    ∙ block_numbers_of (lines_of k.document.stand.rows) steps (map step_of c.in-Some-node_place.left.now) (place_view c.in-Some.document k.document.stand.rows c.in-Some-node_place.place) (c.in-Some-node_place.ensures.found k.document) (c.in_default-place_line.ensures.found k.document.stand))
+    ∙ block_numbers_of (lines_of_rows k.document.stand.rows) steps (map tree_step c.in-Some-node_place.left.now) (place_view c.in-Some.document k.document.stand.rows c.in-Some-node_place.place) (c.in-Some-node_place.ensures.found k.document) (c.in_default-place_line.ensures.found k.document.stand))
     ∙ node_is (cut_of t) c.args.doc steps 0 c.whole-whole.ensures.documents
 
 pub row_head-requires-clause-within : goal.row_head-requires-clause-within
@@ -55,12 +55,12 @@ row_head-requires-clause-fit c =
 pub returns : goal.returns
 returns c =
     let t : List ℕ = c.args.self.now in
-    let steps : List Step = map step_of c.args.steps.now in
+    let steps : List Step = map tree_step c.args.steps.now in
     let rows = c.rows-rows.result.now in
     let d = c.in-Some.document in
     let q = c.in-Some-place_line.at in
     let at = c.in-Some-place_line.ensures.within in
-    let left : List Step = map step_of c.in-Some-node_place.left.now in
+    let left : List Step = map tree_step c.in-Some-node_place.left.now in
     let agrees = place_found t rows (cut_of t) c.args.doc d _ (node_among steps) c.whole-whole.ensures.cut c.rows-rows.ensures c.in-Some.ensures.place c.in-Some.ensures.sound
     (λ k. head_agrees rows d (cut_of t) k q at steps left (place_view d k.document.stand.rows c.in-Some-node_place.place) (head_view c.in_ok-head.head.head) (c.in-Some-node_place.ensures.found k.document) (c.in-Some-place_line.ensures.found k.document.stand)
     (c.in_ok-head.ensures (row_is rows d (cut_of t) k q at) (row_in_cut rows d (cut_of t) k q at)).view)

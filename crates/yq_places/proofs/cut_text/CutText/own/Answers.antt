@@ -1,5 +1,5 @@
 use Rattle.std.proofs.Common.{List, ℕ, map, option_map, ap, ◌∙◌}
-use Rattle.yq_nodes.specs.Entries.{step_of}
+use Rattle.yq_nodes.specs.Entries.{tree_step}
 use Rattle.yq_documents.specs.Located.{steps_of}
 use Rattle.yq_documents.specs.Reading.{cut_of}
 use Rattle.yq_row_places.specs.RemovalPlaces.{own_rows}
@@ -20,7 +20,7 @@ pub returns : goal.returns
 returns c =
     let t : List ℕ = c.args.self.now in
     place_found t c.rows.result.now (cut_of t) c.args.path.now.doc c.in_ok-document.document _ (λ k cut rows. option_map (marks k) (own_rows (steps_of c.args.path.now) rows)) c.whole-whole.ensures.cut c.rows.ensures c.in_ok-document.ensures.place c.in_ok-document.ensures.sound
-    (λ k. c.own_rows.ensures k.document ∙ ap (λ xs. option_map (marks c.in_ok-document.document.first) (own_rows (map step_of xs) k.document.stand.rows)) c.deref.ensures.value)
+    (λ k. c.own_rows.ensures k.document ∙ ap (λ xs. option_map (marks c.in_ok-document.document.first) (own_rows (map tree_step xs) k.document.stand.rows)) c.deref.ensures.value)
 
 pub own_rows-requires-clause-rows_view : goal.own_rows-requires-clause-rows_view
 own_rows-requires-clause-rows_view c = rows_are_view c.args.self.now c.rows.result.now c.whole-whole.ensures.cut c.rows.ensures

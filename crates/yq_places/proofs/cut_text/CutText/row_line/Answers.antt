@@ -1,5 +1,5 @@
 use Rattle.std.proofs.Common.{map, ap}
-use Rattle.yq_nodes.specs.Entries.{step_of}
+use Rattle.yq_nodes.specs.Entries.{tree_step}
 use Rattle.yq_documents.specs.Reading.{cut_of}
 use Rattle.yq_row_places.proofs.WalkDocuments.{found_document, row_line_found}
 use Rattle.yq_places.proofs.CutRows.{rows_are_view, items_known}
@@ -12,7 +12,7 @@ row_line_along-requires-clause-document c =
 pub returns : goal.returns
 returns c =
     let f = found_document c.args.self.now c.rows.result.now (cut_of c.args.self.now) c.args.path.now.doc c.in_ok-document.document c.whole-whole.ensures.cut c.rows.ensures c.in_ok-document.ensures.place c.in_ok-document.ensures.sound in
-    row_line_found c.rows.result.now (cut_of c.args.self.now) c.args.path.now c.in_ok-document.document (map step_of c.deref.result.now) _ f (ap (map step_of) c.deref.ensures.value) (c.row_line_along.ensures f.document)
+    row_line_found c.rows.result.now (cut_of c.args.self.now) c.args.path.now c.in_ok-document.document (map tree_step c.deref.result.now) _ f (ap (map tree_step) c.deref.ensures.value) (c.row_line_along.ensures f.document)
 
 pub row_line_along-requires-clause-rows_view : goal.row_line_along-requires-clause-rows_view
 row_line_along-requires-clause-rows_view c = rows_are_view c.args.self.now c.rows.result.now c.whole-whole.ensures.cut c.rows.ensures

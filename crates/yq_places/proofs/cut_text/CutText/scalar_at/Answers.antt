@@ -1,5 +1,5 @@
 use Rattle.std.proofs.Common.{map, option_and_then, option_map, sym, ap, ◌∙◌}
-use Rattle.yq_nodes.specs.Entries.{step_of}
+use Rattle.yq_nodes.specs.Entries.{tree_step}
 use Rattle.yq_flow_scalars.specs.Answers.{◌>>=◌}
 use Rattle.yq_documents.specs.Reading.{cut_of}
 use Rattle.yq_row_places.specs.NodesAt.{node_in, node_view, scalar_in, summary_scalar}
@@ -12,11 +12,11 @@ returns-in-Some c =
     let cut = cut_of c.args.self.now in
     c.scalar.ensures
     ∙ (ap (λ o. o >>= summary_scalar) (sym (ap (option_map node_view) c.in-Some.is) ∙ c.in_ok-node.ensures)
-    ∙ (scalar_agrees (node_in doc (map step_of c.deref.result.now) cut) ∙ ap (λ xs. option_and_then scalar_in (node_in doc (map step_of xs) cut)) c.deref.ensures.value))
+    ∙ (scalar_agrees (node_in doc (map tree_step c.deref.result.now) cut) ∙ ap (λ xs. option_and_then scalar_in (node_in doc (map tree_step xs) cut)) c.deref.ensures.value))
 
 pub returns-in-None : goal.returns-in-None
 returns-in-None c =
     let doc = c.args.path.now.doc in
     let cut = cut_of c.args.self.now in
     ap (λ o. o >>= summary_scalar) (sym (ap (option_map node_view) c.in-None.is) ∙ c.in_ok-node.ensures)
-    ∙ (scalar_agrees (node_in doc (map step_of c.deref.result.now) cut) ∙ ap (λ xs. option_and_then scalar_in (node_in doc (map step_of xs) cut)) c.deref.ensures.value)
+    ∙ (scalar_agrees (node_in doc (map tree_step c.deref.result.now) cut) ∙ ap (λ xs. option_and_then scalar_in (node_in doc (map tree_step xs) cut)) c.deref.ensures.value)

@@ -1,8 +1,8 @@
 use Rattle.std.proofs.Common.{◌≡◌, Bool, true, false, cond, List, refl, ap, ◌∙◌}
 use Rattle.yq_lines.specs.Outline.{Line}
 use Rattle.yq_documents.specs.Reading.{cut_of}
-use Rattle.yq_lines.specs.Lines.{lines_of}
-use Rattle.yq_row_places.specs.Steps.{Steps, first_step, is_kind, steps_in}
+use Rattle.yq_lines.specs.Lines.{lines_of_rows}
+use Rattle.yq_row_places.specs.Steps.{IndentSteps, first_step, is_kind, steps_in}
 use Rattle.yq_row_places.proofs.StepLaws.{steps_found}
 use Rattle.yq_row_places.proofs.WalkDocuments.{found_document}
 use Rattle.yq_places.proofs.cut_text.CutText.step.Goals as goal
@@ -19,4 +19,4 @@ first_step-requires-clause-document c =
 pub returns : goal.returns
 returns c =
     let f = found_document c.args.self.now c.rows-rows.result.now (cut_of c.args.self.now) c.args.doc c.in-Some.document c.whole-whole.ensures.cut c.rows-rows.ensures c.in-Some.ensures.place c.in-Some.ensures.sound in
-    c.first_step.ensures f.document.stand ∙ (step_in c.args.dashes (lines_of f.document.stand.rows) ∙ ap (λ (x : Steps). cond c.args.dashes x.sequence x.mapping) (steps_found c.rows-rows.result.now (cut_of c.args.self.now) c.args.doc c.in-Some.document f))
+    c.first_step.ensures f.document.stand ∙ (step_in c.args.dashes (lines_of_rows f.document.stand.rows) ∙ ap (λ (x : IndentSteps). cond c.args.dashes x.sequence x.mapping) (steps_found c.rows-rows.result.now (cut_of c.args.self.now) c.args.doc c.in-Some.document f))

@@ -1,5 +1,5 @@
 use Rattle.std.proofs.Common.{List, sym, ap, ◌∙◌}
-use Rattle.yq_nodes.specs.Values.{node_of as value_node}
+use Rattle.yq_nodes.specs.Values.{value_node}
 use Rattle.yq_flow_scalars.specs.Tree.{children_of}
 use Rattle.yq_document_nodes.specs.Nodes.{node_of}
 use Rattle.yq_meaning.specs.Changes.{Addition, adds, added_entries}

@@ -1,6 +1,6 @@
 use Rattle.std.proofs.Common.{List, map, refl, ap, ◌∙◌}
 use Rattle.std.proofs.lemmas.List.{map_push}
-use Rattle.yq_nodes.specs.Values.{items, node_of}
+use Rattle.yq_nodes.specs.Values.{items, value_node}
 use Rattle.yq_nodes.specs.declared.value.Value.TheVariants as values
 use Rattle.yq_flow_scalars.specs.Tree.{Node}
 use Rattle.yq_program.proofs.ValueMaps.{node_of-map}
@@ -10,10 +10,10 @@ use Rattle.yq_planning.proofs.updating.sum.push_items.Goals as goal
 
 pub returns-in_ok-push-in-Scalar : goal.returns-in_ok-push-in-Scalar
 returns-in_ok-push-in-Scalar c =
-    ap (λ (ns : List Node). items ns) (ap (map node_of) c.in_ok-push-in-Scalar.ensures.items ∙ map_push node_of c.args.items.now.items (values.Scalar c.in-Scalar.scalar))
-    ∙ one_item (map node_of c.args.items.now.items) (node_of (values.Scalar c.in-Scalar.scalar)) (node_of c.args.value) _ (scalar_value c.in-Scalar.scalar) (ap node_of c.in-Scalar.is ∙ scalar_value c.in-Scalar.scalar) refl
+    ap (λ (ns : List Node). items ns) (ap (map value_node) c.in_ok-push-in-Scalar.ensures.items ∙ map_push value_node c.args.items.now.items (values.Scalar c.in-Scalar.scalar))
+    ∙ one_item (map value_node c.args.items.now.items) (value_node (values.Scalar c.in-Scalar.scalar)) (value_node c.args.value) _ (scalar_value c.in-Scalar.scalar) (ap value_node c.in-Scalar.is ∙ scalar_value c.in-Scalar.scalar) refl
 
 pub returns-in_ok-push-in-Map : goal.returns-in_ok-push-in-Map
 returns-in_ok-push-in-Map c =
-    ap (λ (ns : List Node). items ns) (ap (map node_of) c.in_ok-push-in-Map.ensures.items ∙ map_push node_of c.args.items.now.items (values.Map c.in-Map.entries))
-    ∙ one_item (map node_of c.args.items.now.items) (node_of (values.Map c.in-Map.entries)) (node_of c.args.value) _ (node_of-map c.in-Map.entries) (ap node_of c.in-Map.is ∙ node_of-map c.in-Map.entries) refl
+    ap (λ (ns : List Node). items ns) (ap (map value_node) c.in_ok-push-in-Map.ensures.items ∙ map_push value_node c.args.items.now.items (values.Map c.in-Map.entries))
+    ∙ one_item (map value_node c.args.items.now.items) (value_node (values.Map c.in-Map.entries)) (value_node c.args.value) _ (node_of-map c.in-Map.entries) (ap value_node c.in-Map.is ∙ node_of-map c.in-Map.entries) refl

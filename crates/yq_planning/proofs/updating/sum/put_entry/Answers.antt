@@ -1,7 +1,7 @@
 use Rattle.std.proofs.Common.{◌≡◌, ℕ, List, Some, String, length, map, string_bytes, sym, ap, ◌∙◌, rules}
 use Rattle.std.proofs.lemmas.List.{length-map, map-set, map_push}
 use Rattle.std.specs.declared.alloc.Global.{Global}
-use Rattle.yq_nodes.specs.Values.{entries, field_of, node_of}
+use Rattle.yq_nodes.specs.Values.{entries, field_of, value_node}
 use Rattle.yq_nodes.specs.declared.value.Value.{Value}
 use Rattle.yq_flow_scalars.specs.Tree.{Node}
 use Rattle.yq_planning.specs.EntryNumbers.{entry_number}
@@ -22,7 +22,7 @@ returns-in-Some-clause-entries c =
     let same : entry_number k (map field_of es) ≡ Some c.in-Some.number =
     ap (λ (j : List ℕ). entry_number j (map field_of es)) (sym c.as_str.ensures.value) ∙ (sym (c.requires c.as_str.result.now) ∙ (sym c.number_of.ensures ∙ c.in-Some.is)) in
     ap (λ (xs : List (List ℕ × Node)). entries xs) (map-set field_of es c.in-Some.number (r.0, c.args.value))
-    ∙ sym (with_present k (map field_of es) c.in-Some.number (string_bytes r.0) (node_of c.args.value) (field_of r) same
+    ∙ sym (with_present k (map field_of es) c.in-Some.number (string_bytes r.0) (value_node c.args.value) (field_of r) same
     (ap (λ (x : List ℕ × Node). x.0) (map_get field_of es c.in-Some.number r) ∙ ap (λ (x : Entry). string_bytes x.0) (sym c.index_mut.ensures.value)))
 
 pub returns-in-Some-clause-numbers : goal.returns-in-Some-clause-numbers
@@ -33,7 +33,7 @@ returns-in-Some-clause-numbers c = λ k.
     let at : entry_number j (map field_of es) ≡ Some c.in-Some.number = sym (c.requires j) ∙ (sym c.number_of.ensures ∙ c.in-Some.is) in
     c.requires k
     ∙ sym (ap (entry_number k) (map-set field_of es c.in-Some.number (r.0, c.args.value))
-    ∙ number_same k (map field_of es) c.in-Some.number (string_bytes r.0) (node_of c.args.value) (field_of r) (number_within j (map field_of es) c.in-Some.number at)
+    ∙ number_same k (map field_of es) c.in-Some.number (string_bytes r.0) (value_node c.args.value) (field_of r) (number_within j (map field_of es) c.in-Some.number at)
     (ap (λ (x : List ℕ × Node). x.0) (map_get field_of es c.in-Some.number r) ∙ ap (λ (x : Entry). string_bytes x.0) (sym c.index_mut.ensures.value)))
 
 pub returns-in_ok-push-in-None-clause-entries : goal.returns-in_ok-push-in-None-clause-entries

@@ -1,7 +1,7 @@
 use Rattle.std.proofs.Common.{◌-◌, ℕ, Option, ap, ◌∙◌, arith}
 use Rattle.std.proofs.lemmas.Option.{slice_get_within}
 use Rattle.yq_flow_scalars.specs.Answers.{◌>>=◌}
-use Rattle.yq_lines.specs.Lines.{lines_of}
+use Rattle.yq_lines.specs.Lines.{lines_of_rows}
 use Rattle.yq_lines.proofs.LineEnds.{end_agrees}
 use Rattle.yq_row_places.specs.EntryReading.{line_entry, lines_place}
 use Rattle.yq_lines.specs.RowWalk.{line_number}
@@ -27,5 +27,5 @@ returns c = λ cut k.
     let n = line_number d rs at in
     let l = located c.args.rows.now d k.document.stand at c.in_ok-at.ensures.within in
     c.lines_place.ensures cut k
-    ∙ (ap (λ (m : ℕ). lines_place d.first cut rs n (m - 1)) (end_agrees (lines_of rs) n (line_number d rs c.behind-to.result) (slice_get_within _ _ l.line l.is) (c.behind-to.ensures.end k.document.stand))
+    ∙ (ap (λ (m : ℕ). lines_place d.first cut rs n (m - 1)) (end_agrees (lines_of_rows rs) n (line_number d rs c.behind-to.result) (slice_get_within _ _ l.line l.is) (c.behind-to.ensures.end k.document.stand))
     ∙ ap (λ (o : Option ℕ). o >>= line_entry d.first cut rs) (c.in_ok-at.ensures.found k.document))

@@ -1,9 +1,9 @@
 use Rattle.std.proofs.Common.{◌≡◌, length, map, option_map}
 use Rattle.std.specs.Prelude.{IfSome}
-use Rattle.yq_nodes.specs.Entries.{step_of}
+use Rattle.yq_nodes.specs.Entries.{tree_step}
 use Rattle.yq_lines.specs.Ends.{reached}
 use Rattle.yq_lines.specs.Positions.{reach_from}
-use Rattle.yq_lines.specs.Lines.{lines_of}
+use Rattle.yq_lines.specs.Lines.{lines_of_rows}
 use Rattle.yq_lines.specs.RowWalk.{AreKnown, HasDocument, IsLine, line_number}
 use Rattle.yq_row_places.proofs.places.known_at.known_along.Given as goal
 
@@ -14,6 +14,6 @@ decreases-steps l = length l.left
 abbrev pub invariant-steps : goal.invariant-steps
 invariant-steps l = record {
   from : IfSome l.from (IsLine l.rows l.document);
-  leads : (h : HasDocument l.rows l.document) → reach_from (lines_of h.stand.rows) (option_map (line_number l.document h.stand.rows) l.from) (map step_of l.left) ≡ reached (map step_of l.steps) (lines_of h.stand.rows);
+  leads : (h : HasDocument l.rows l.document) → reach_from (lines_of_rows h.stand.rows) (option_map (line_number l.document h.stand.rows) l.from) (map tree_step l.left) ≡ reached (map tree_step l.steps) (lines_of_rows h.stand.rows);
   known : AreKnown l.rows.rows l.found;
 }

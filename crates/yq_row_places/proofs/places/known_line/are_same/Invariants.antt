@@ -1,5 +1,5 @@
 use Rattle.std.proofs.Common.{◌≡◌, length, map}
-use Rattle.yq_nodes.specs.Entries.{step_of}
+use Rattle.yq_nodes.specs.Entries.{tree_step}
 use Rattle.yq_row_places.proofs.places.known_line.are_same.Given as goal
 
 abbrev pub decreases-steps : goal.decreases-steps
@@ -7,4 +7,4 @@ decreases-steps l = length l.left
 
 -- the steps are the same where those that are left are
 abbrev pub invariant-steps : goal.invariant-steps
-invariant-steps l = map step_of l.left ≡ map step_of l.rest → map step_of l.steps ≡ map step_of l.others
+invariant-steps l = map tree_step l.left ≡ map tree_step l.rest → map tree_step l.steps ≡ map tree_step l.others

@@ -1,5 +1,5 @@
 use Rattle.std.proofs.Common.{◌≡◌, IfSome, arith, map, refl, subst}
-use Rattle.yq_nodes.specs.Entries.{step_of}
+use Rattle.yq_nodes.specs.Entries.{tree_step}
 use Rattle.yq_lines.specs.declared.line_position.Stretch.{Stretch}
 use Rattle.yq_row_places.specs.RowWalk.{IsKnownLine, IsLineAt}
 use Rattle.yq_row_places.proofs.places.known_line.if_along.Goals as goal
@@ -12,4 +12,4 @@ returns c =
     let first : k.document.first ≡ c.args.document.first = omega (arith, c.if-found-document.false) in
     let end : k.document.end ≡ c.args.document.end = omega (arith, c.if-found-document-2.false) in
     let document : k.document ≡ c.args.document = λ i. record { first = first i; end = end i } in
-    subst (λ (d : Stretch). IsLineAt s d (map step_of c.args.steps.now) k.at) document (subst (λ ss. IsLineAt s k.document ss k.at) (c.if-not-are_same.ensures refl) is)
+    subst (λ (d : Stretch). IsLineAt s d (map tree_step c.args.steps.now) k.at) document (subst (λ ss. IsLineAt s k.document ss k.at) (c.if-not-are_same.ensures refl) is)

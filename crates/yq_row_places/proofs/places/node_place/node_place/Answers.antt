@@ -1,6 +1,6 @@
 use Rattle.std.proofs.Common.{map}
-use Rattle.yq_lines.specs.Lines.{lines_of}
-use Rattle.yq_nodes.specs.Entries.{step_of}
+use Rattle.yq_lines.specs.Lines.{lines_of_rows}
+use Rattle.yq_nodes.specs.Entries.{tree_step}
 use Rattle.yq_row_places.specs.NodeReading.{place_view}
 use Rattle.yq_lines.specs.RowWalk.{line_number}
 use Rattle.yq_row_places.proofs.NodeAtLaws.{placed_at}
@@ -11,5 +11,5 @@ pub returns-clause-found : goal.returns-clause-found
 returns-clause-found c = λ h.
     let d = c.args.document in
     let k = located c.args.rows.now d h.stand c.in_ok-at.at c.in_ok-at.ensures.within in
-    placed_at (lines_of h.stand.rows) (map step_of c.args.steps.now) (map step_of c.in_ok-at.left.now) (line_number d h.stand.rows c.in_ok-at.at) k.line (place_view d h.stand.rows c.line_place.result)
+    placed_at (lines_of_rows h.stand.rows) (map tree_step c.args.steps.now) (map tree_step c.in_ok-at.left.now) (line_number d h.stand.rows c.in_ok-at.at) k.line (place_view d h.stand.rows c.line_place.result)
     (c.in_ok-at.ensures.found h) k.is (c.line_place.ensures.agrees h.stand k.line k.is)

@@ -1,6 +1,6 @@
 use Rattle.std.proofs.Common.{rules, sym, ap, ◌∙◌}
 use Rattle.yq_flow_scalars.specs.Lines.{is_blank}
-use Rattle.yq_flow_scalars.specs.Text.{lines_of}
+use Rattle.yq_flow_scalars.specs.Text.{text_lines}
 use Rattle.yq_block_scalars.proofs.BlockSteps.{at_cut, at_end}
 use Rattle.yq_cut.specs.Removal.{hold_comment}
 use Rattle.yq_row_places.proofs.RemovalPlaceLaws.{held_here, held_on, none_held}
@@ -10,7 +10,7 @@ pub returns-then-not-is_blank : goal.returns-then-not-is_blank
 returns-then-not-is_blank c =
     let cut = at_cut _ _ _ _ c.is_empty.ensures c.lines-test.true c.split_line.ensures in
     sym (c.lines.invariant.so_far
-    ∙ (ap hold_comment cut.0 ∙ held_here c.split_line.result.0.now (lines_of c.split_line.result.1.now) (ap is_blank (sym c.as_bytes.ensures.value) ∙ (sym c.is_blank.ensures ∙ c.if-not-is_blank.true))))
+    ∙ (ap hold_comment cut.0 ∙ held_here c.split_line.result.0.now (text_lines c.split_line.result.1.now) (ap is_blank (sym c.as_bytes.ensures.value) ∙ (sym c.is_blank.ensures ∙ c.if-not-is_blank.true))))
 
 pub lines-smaller : goal.lines-smaller
 lines-smaller c = (at_cut _ _ _ _ c.is_empty.ensures c.lines-test.true c.split_line.ensures).1
@@ -21,7 +21,7 @@ lines-preserved c =
     record {
       rest_text = search rules;
       so_far = c.lines.invariant.so_far
-          ∙ (ap hold_comment cut.0 ∙ held_on c.split_line.result.0.now (lines_of c.split_line.result.1.now) (ap is_blank (sym c.as_bytes.ensures.value) ∙ (sym c.is_blank.ensures ∙ c.if-not-is_blank.false)));
+          ∙ (ap hold_comment cut.0 ∙ held_on c.split_line.result.0.now (text_lines c.split_line.result.1.now) (ap is_blank (sym c.as_bytes.ensures.value) ∙ (sym c.is_blank.ensures ∙ c.if-not-is_blank.false)));
     }
 
 pub returns : goal.returns

@@ -1,11 +1,11 @@
 use Rattle.std.proofs.Common.{◌≡◌, length}
 use Rattle.std.specs.Str.{IsUtf8}
-use Rattle.yq_flow_scalars.specs.Text.{lines_of}
+use Rattle.yq_flow_scalars.specs.Text.{text_lines}
 use Rattle.yq_cut.specs.Removal.{hold_comment}
 use Rattle.yq_row_places.proofs.places.removal_place.holds_comment.Given as goal
 
 abbrev pub invariant-lines : goal.invariant-lines
-invariant-lines l = record { rest_text : IsUtf8 l.rest; so_far : hold_comment (lines_of l.gap) ≡ hold_comment (lines_of l.rest) }
+invariant-lines l = record { rest_text : IsUtf8 l.rest; so_far : hold_comment (text_lines l.gap) ≡ hold_comment (text_lines l.rest) }
 
 abbrev pub decreases-lines : goal.decreases-lines
 decreases-lines l = length l.rest

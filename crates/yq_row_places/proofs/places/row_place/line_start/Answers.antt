@@ -1,5 +1,5 @@
 use Rattle.std.proofs.Common.{rules}
-use Rattle.yq_cut.specs.View.{view}
+use Rattle.yq_cut.specs.View.{row_view}
 use Rattle.yq_lines.proofs.LengthLaws.{row_fits, view_small}
 use Rattle.yq_row_places.proofs.places.row_place.line_start.Goals as goal
 
@@ -11,5 +11,5 @@ overflow_add-result-2 c = search (rules, row_fits, view_small)
 
 pub overflow_add-result-3 : goal.overflow_add-result-3
 overflow_add-result-3 c =
-    let f = row_fits c.args.rows.now c.args.position.row (view c.row-row.result) c.row-row.ensures in
+    let f = row_fits c.args.rows.now c.args.position.row (row_view c.row-row.result) c.row-row.ensures in
     search (rules, view_small, f)

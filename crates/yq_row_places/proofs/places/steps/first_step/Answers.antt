@@ -1,12 +1,12 @@
 use Rattle.std.proofs.Common.{◌≡◌, ◌-◌, drop, sym, ap, ◌∙◌, arith}
-use Rattle.yq_lines.specs.Lines.{lines_of}
+use Rattle.yq_lines.specs.Lines.{lines_of_rows}
 use Rattle.yq_row_places.proofs.StepLaws.{step_behind, steps_agrees, step_here, step_on}
 use Rattle.yq_row_places.proofs.places.steps.first_step.Goals as goal
 
 pub rows-init : goal.rows-init
 rows-init c = λ h.
     let none : c.args.document.first - c.args.document.first ≡ 0 = omega arith in
-    ap (λ k. step_behind c.args.dashes 0 (lines_of (drop k h.rows))) none ∙ steps_agrees c.args.dashes (lines_of h.rows)
+    ap (λ k. step_behind c.args.dashes 0 (lines_of_rows (drop k h.rows))) none ∙ steps_agrees c.args.dashes (lines_of_rows h.rows)
 
 pub returns-then-begins_under : goal.returns-then-begins_under
 returns-then-begins_under c = λ h.

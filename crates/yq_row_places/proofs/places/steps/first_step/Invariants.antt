@@ -1,5 +1,5 @@
 use Rattle.std.proofs.Common.{◌≡◌, ◌-◌, drop}
-use Rattle.yq_lines.specs.Lines.{lines_of}
+use Rattle.yq_lines.specs.Lines.{lines_of_rows}
 use Rattle.yq_lines.specs.RowWalk.{HasRows}
 use Rattle.yq_row_places.specs.Steps.{first_step, is_kind}
 use Rattle.yq_row_places.proofs.StepLaws.{step_behind}
@@ -7,4 +7,4 @@ use Rattle.yq_row_places.proofs.places.steps.first_step.Given as goal
 
 -- the step that is looked for is that of the lines from this row on
 abbrev pub invariant-rows : goal.invariant-rows
-invariant-rows l = (h : HasRows l.rows l.fn.document) → step_behind l.dashes l.above (lines_of (drop (l.at - l.fn.document.first) h.rows)) ≡ first_step (is_kind l.dashes) (lines_of h.rows)
+invariant-rows l = (h : HasRows l.rows l.fn.document) → step_behind l.dashes l.above (lines_of_rows (drop (l.at - l.fn.document.first) h.rows)) ≡ first_step (is_kind l.dashes) (lines_of_rows h.rows)

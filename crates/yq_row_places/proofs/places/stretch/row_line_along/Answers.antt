@@ -1,12 +1,12 @@
 use Rattle.std.proofs.Common.{◌≡◌, ◌-◌, ◌+◌, map, length, ◌∙◌, arith}
 use Rattle.yq_cut.specs.View.{slices}
-use Rattle.yq_nodes.specs.Entries.{step_of}
+use Rattle.yq_nodes.specs.Entries.{tree_step}
 use Rattle.yq_row_places.proofs.WalkDocuments.{row_line_reached, none_reached}
 use Rattle.yq_lines.proofs.WalkPositions.{located}
 use Rattle.yq_row_places.proofs.places.stretch.row_line_along.Goals as goal
 
 pub returns-in_err-position : goal.returns-in_err-position
-returns-in_err-position c = rw c.from_residual.ensures (λ h. none_reached h.stand.rows (map step_of c.args.steps.now) c.args.document.first (c.in_err-position.ensures.found h))
+returns-in_err-position c = rw c.from_residual.ensures (λ h. none_reached h.stand.rows (map tree_step c.args.steps.now) c.args.document.first (c.in_err-position.ensures.found h))
 
 pub returns : goal.returns
 returns c = λ h.
@@ -15,4 +15,4 @@ returns c = λ h.
     let k = located c.args.rows.now d h.stand q c.in_ok-position.ensures.within in
     let there : q.row ≡ d.first + (q.row - d.first) = omega (arith, c.in_ok-position.ensures.within.from) in
     let count : c.lines_before_mark.result ≡ length k.row.dashes = c.lines_before_mark.ensures (slices k.row) k.pieces ∙ k.row_agrees.counted in
-    row_line_reached h.stand.rows (map step_of c.args.steps.now) d.first (q.row - d.first) q.line c.lines_before_mark.result q.row k.row k.there k.within there count (c.in_ok-position.ensures.found h)
+    row_line_reached h.stand.rows (map tree_step c.args.steps.now) d.first (q.row - d.first) q.line c.lines_before_mark.result q.row k.row k.there k.within there count (c.in_ok-position.ensures.found h)

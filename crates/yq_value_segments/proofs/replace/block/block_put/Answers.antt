@@ -1,5 +1,5 @@
 use Rattle.std.proofs.Common.{[], IfOk, ◌≡◌, sym, ap, ◌∙◌, subst}
-use Rattle.yq_nodes.specs.Values.{node_of}
+use Rattle.yq_nodes.specs.Values.{value_node}
 use Rattle.yq_block_scalars.specs.BlockWritten.{break_text}
 use Rattle.yq_row_places.specs.StandingViews.{held_view, held_mark_view}
 use Rattle.yq_edits.specs.ReplaceEdits.{block_put}
@@ -12,4 +12,4 @@ returns-then-not-is_filled c =
     let l = c.args.layout.now in
     let h = c.args.held.now in
     let none = sym c.is_filled.ensures ∙ c.if-not-is_filled.true in
-    subst (λ w. IfOk c.put_inline.result (λ ss. ss ≡ block_put (break_text l.br) (held_view h) w)) (ap inline c.in_ok-text.ensures ∙ sym (unfilled_at l (held_mark_view h.mark) (node_of c.args.value.now) none [])) (c.put_inline.ensures (break_text l.br))
+    subst (λ w. IfOk c.put_inline.result (λ ss. ss ≡ block_put (break_text l.br) (held_view h) w)) (ap inline c.in_ok-text.ensures ∙ sym (unfilled_at l (held_mark_view h.mark) (value_node c.args.value.now) none [])) (c.put_inline.ensures (break_text l.br))

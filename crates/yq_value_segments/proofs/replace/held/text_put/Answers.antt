@@ -1,6 +1,6 @@
 use Rattle.std.proofs.Common.{ℕ, List, IfOk, ◌≡◌, sym, ap, ◌∙◌, subst}
 use Rattle.yq_flow_scalars.specs.declared.style.Place.TheVariants.{Block as InBlock}
-use Rattle.yq_nodes.specs.Values.{node_of}
+use Rattle.yq_nodes.specs.Values.{value_node}
 use Rattle.yq_block_scalars.specs.BlockWritten.{break_text}
 use Rattle.yq_row_places.specs.StandingViews.{held_view, held_mark_view}
 use Rattle.yq_edits.specs.ReplaceEdits.{held_put}
@@ -11,6 +11,6 @@ use Rattle.yq_value_segments.proofs.replace.held.text_put.Goals as goal
 pub returns : goal.returns
 returns c = λ l.
     let h = c.args.held.now in
-    let v = node_of c.args.value.now in
+    let v = value_node c.args.value.now in
     let text = c.in_ok-text.ensures ∙ ap (λ (l : List ℕ). value_text InBlock l v) c.as_bytes.ensures.value in
     subst (λ w. IfOk c.put_inline.result (λ ss. ss ≡ held_put (break_text l.br) (held_view h) w)) (ap inline text ∙ sym (unfilled_at l (held_mark_view h.mark) v c.requires h.head.now)) (c.put_inline.ensures (break_text l.br))

@@ -4,14 +4,14 @@ use Rattle.yq_matching.proofs.PlaceLaws.{null_there}
 use Rattle.yq_matching.specs.PlaceView.{missing_of}
 use Rattle.yq_matching.specs.declared.matching.place.Missing.{the_lemmas}
 use Rattle.yq_meaning.specs.Conditions.{node_there}
-use Rattle.yq_program.specs.Program.{Step}
-use Rattle.yq_program.specs.View.{step_of}
+use Rattle.yq_program.specs.Program.{PathStep}
+use Rattle.yq_program.specs.View.{program_step}
 use Rattle.yq_matching.proofs.matching.place.Place.found.Goals as goal
 
 pub returns-in-Further : goal.returns-in-Further
 returns-in-Further c =
     let n = node_of c.args.self.now.node in
-    let front : List Step = missing_of c.in-Further.field-0.now in
-    let step : Step = step_of c.in-Further.field-1.now in
+    let front : List PathStep = missing_of c.in-Further.field-0.now in
+    let step : PathStep = program_step c.in-Further.field-1.now in
     let missed : missing_of c.args.self.now.missing ≡ front ++ step ∷ [] = ap missing_of c.in-Further.is ∙ search (rules, the_lemmas) in
-    sym (ap (λ (ms : List Step). node_there ms n) missed ∙ null_there front step n)
+    sym (ap (λ (ms : List PathStep). node_there ms n) missed ∙ null_there front step n)
