@@ -5,7 +5,7 @@
 # make demo: one edit and its undo, once all is proved.
 # make install, make uninstall: the program, its man page, pages for users and completions below PREFIX, or not.
 # make dist: an archive of these for those who don't build, dist/yq-VERSION-linux-x86_64.tar.gz.
-# make wrong-bodies CRATES="yq_rows yq_places": the wrong bodies that the gate doesn't try; all crates where none is named.
+# make wrong-bodies CRATES="yq_rows yq_lookup": the wrong bodies that the gate doesn't try; all crates where none is named.
 # make corpus DIR=FOLDER: edits and their undo in a copy of each YAML file of a folder.
 # make bench: time, instructions and memory of reading, editing and parsing; DIR=FOLDER names a folder of YAML files to be read too.
 # make clean: what was proved and built goes.

@@ -5,7 +5,7 @@ import re
 
 from crates import ROOT
 
-HELP = os.path.join("crates", "yq_output", "src", "help.rt")
+HELP = os.path.join("crates", "yq_commands", "src", "help.rt")
 # Where else it stands: in the man page's foot, and as the first heading of the changes.
 OTHERS = {
     os.path.join("man", "yq.1"): re.compile(r"^\.Os yq (\S+)$", re.MULTILINE),

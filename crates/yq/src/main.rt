@@ -7,7 +7,7 @@ use crate::program::answer_to_words;
 use std::io;
 use std::process::ExitCode;
 use yq_history::Fault;
-use yq_lists::{Answer, report_usage};
+use yq_run::{Answer, report_usage};
 
 fn main(rt: HostRuntime) -> io::Result<ExitCode> {
     match answer_to_words(&rt) {

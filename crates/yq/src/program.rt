@@ -3,7 +3,7 @@
 use std::io::IsTerminal;
 use std::slice;
 use yq_history::Fault;
-use yq_lists::{Answer, StandardOut, asked_command, purpose_of, run_list};
+use yq_run::{Answer, StandardOut, asked_command, purpose_of, run_list};
 use yq_store::DiskStore;
 
 /// The answer to the command.

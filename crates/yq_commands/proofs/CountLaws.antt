@@ -1,6 +1,6 @@
 -- Counts of failures, one answer more.
 use Rattle.std.proofs.Common.{◌≡◌, inl, inr, ℕ, ◌+◌, ◌-◌, ◌^◌, ◌<◌, min, Bool, true, false, if◌then◌else◌, List, [], ◌∷◌, ◌++◌, Result, Ok, Err, MatchResult, IfErr, sym, ap, ◌∙◌, subst, refl, arith}
-use Rattle.yq_output.specs.declared.answer.Answer.{Answer}
+use Rattle.yq_commands.specs.declared.answer.Answer.{Answer}
 use Rattle.yq_history.specs.declared.fault.Fault.{Fault}
 use Rattle.yq_store.specs.Count.{count_plus_one}
 use Rattle.yq_history.specs.Faults.{is_output, failures_after}

@@ -1,12 +1,12 @@
 -- The effects of edits, from the contracts of the calls of which they are made.
 use Rattle.std.proofs.Common.{◌≡◌, ◌≢◌, ℕ, Bool, true, false, nat_le, List, [], length, Option, Some, None, Result, Ok, Err, MatchBool, if◌then◌else◌, sym, ap, ◌∙◌, subst, refl}
-use Rattle.yq_program.specs.Program.{Program}
-use Rattle.yq_script.specs.Splice.{Splice}
-use Rattle.yq_records.specs.declared.fault.JournalFault.TheVariants as journal
-use Rattle.yq_records.specs.declared.moves.Move.TheVariants as move
-use Rattle.yq_records.specs.Record.{Record}
-use Rattle.yq_records.specs.Refusals.{most_records, no_way}
-use Rattle.yq_records.specs.State.{State, journal_after, moved_text, with_move}
+use Rattle.yq_semantics.specs.Program.{Program}
+use Rattle.yq_text.specs.Splice.{Splice}
+use Rattle.yq_journal.specs.declared.fault.JournalFault.TheVariants as journal
+use Rattle.yq_journal.specs.declared.moves.Move.TheVariants as move
+use Rattle.yq_journal.specs.Record.{Record}
+use Rattle.yq_journal.specs.Refusals.{most_records, no_way}
+use Rattle.yq_journal.specs.State.{State, journal_after, moved_text, with_move}
 use Rattle.yq_history.specs.declared.fault.Fault.{Fault}
 use Rattle.yq_history.specs.declared.fault.Fault.TheVariants as fault
 use Rattle.yq_store.specs.FileMap.{FileMap}

@@ -2,15 +2,15 @@
 use Rattle.std.proofs.Common.{◌≡◌, ◌≢◌, ◌⊎◌, ℕ, Bool, true, false, nat_le, List, length, Some, None, Result, Ok, OnOk, OnErr, if◌then◌else◌, sym, ap, ◌∙◌, subst, refl}
 use Rattle.std.proofs.lemmas.Bool.{eq-eqb}
 use Rattle.std.proofs.lemmas.Option.{none-some}
-use Rattle.yq_program.specs.Program.{Program}
-use Rattle.yq_script.specs.Splice.{Splice, all_done}
-use Rattle.yq_records.specs.declared.fault.JournalFault.TheVariants as journal
-use Rattle.yq_records.specs.declared.moves.Move.TheVariants.{Edit}
+use Rattle.yq_semantics.specs.Program.{Program}
+use Rattle.yq_text.specs.Splice.{Splice, all_done}
+use Rattle.yq_journal.specs.declared.fault.JournalFault.TheVariants as journal
+use Rattle.yq_journal.specs.declared.moves.Move.TheVariants.{Edit}
 use Rattle.yq_journal.specs.Good.{after_move}
 use Rattle.yq_journal.specs.History.{History, text_at, after_edit}
-use Rattle.yq_records.specs.Record.{Record, done, if_length}
-use Rattle.yq_records.specs.Refusals.{no_way, most_records}
-use Rattle.yq_records.specs.State.{State}
+use Rattle.yq_journal.specs.Record.{Record, done, if_length}
+use Rattle.yq_journal.specs.Refusals.{no_way, most_records}
+use Rattle.yq_journal.specs.State.{State}
 use Rattle.yq_history.specs.declared.fault.Fault.{Fault}
 use Rattle.yq_history.specs.declared.fault.Fault.TheVariants.{JournalFull}
 use Rattle.yq_history.specs.Causes.{IsFor, named}

@@ -1,12 +1,12 @@
 -- What an accepted edit makes of a file, and an expression that is no program.
 use Rattle.std.proofs.Common.{◌≡◌, ◌≢◌, ℕ, List, false, Option, Some, Result, Ok, Err, IfOk, OnOk, string_bytes, refl, sym, ap, ◌∙◌, subst}
 use Rattle.std.proofs.lemmas.Option.{same_Some, none-some}
-use Rattle.yq_program.specs.Program.{Program, is_read, updates}
-use Rattle.yq_script.specs.declared.edited.Edited.{Edited}
-use Rattle.yq_outcomes.specs.Answers.{Edits}
-use Rattle.yq_outcomes.specs.Carried.{edit_of}
-use Rattle.yq_outcomes.specs.Theorems.{IsEdited}
-use Rattle.yq_outcomes.specs.declared.edit_error.EditError.{EditError}
+use Rattle.yq_semantics.specs.Program.{Program, is_read, updates}
+use Rattle.yq_text.specs.declared.edited.Edited.{Edited}
+use Rattle.yq_edit_laws.specs.Answers.{Edits}
+use Rattle.yq_edit_laws.specs.Carried.{edit_of}
+use Rattle.yq_edit_laws.specs.Theorems.{IsEdited}
+use Rattle.yq_edit_laws.specs.declared.edit_error.EditError.{EditError}
 use Rattle.yq_history.specs.declared.fault.Fault.{Fault}
 use Rattle.yq_history.specs.declared.fault.Fault.TheVariants.{OutOfMemory}
 use Rattle.yq_commands.specs.CommandEffects.{IsUnparsed, fault_of}

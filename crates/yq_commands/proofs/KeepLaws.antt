@@ -4,17 +4,17 @@ use Rattle.std.proofs.lemmas.List.Elements.{All-head, All-tail}
 use Rattle.std.specs.Str.{bytes_eq}
 use Rattle.std.specs.FinMap.{get}
 use Rattle.std.specs.String.{string_bytes}
-use Rattle.yq_program.specs.Program.{Program}
-use Rattle.yq_records.specs.declared.moves.Move.{Move}
-use Rattle.yq_records.specs.declared.moves.Move.TheVariants as move
+use Rattle.yq_semantics.specs.Program.{Program}
+use Rattle.yq_journal.specs.declared.moves.Move.{Move}
+use Rattle.yq_journal.specs.declared.moves.Move.TheVariants as move
 use Rattle.yq_journal.specs.Good.{Good, journal_beside}
 use Rattle.yq_journal.specs.History.{History}
-use Rattle.yq_records.specs.Refusals.{most_records, no_way, squash_fault}
-use Rattle.yq_records.specs.State.{State, journal_after, moved_text, with_move, settled_beside, squashed}
-use Rattle.yq_output.specs.declared.answer.Answer.{Answer}
-use Rattle.yq_output.specs.declared.answer.Answer.TheVariants.{Done, Refused}
-use Rattle.yq_line.specs.declared.command.Command.{Command}
-use Rattle.yq_line.specs.declared.command.Command.TheVariants.{Eval, Undo, Redo, History as Lists, Squash, Help}
+use Rattle.yq_journal.specs.Refusals.{most_records, no_way, squash_fault}
+use Rattle.yq_journal.specs.State.{State, journal_after, moved_text, with_move, settled_beside, squashed}
+use Rattle.yq_commands.specs.declared.answer.Answer.{Answer}
+use Rattle.yq_commands.specs.declared.answer.Answer.TheVariants.{Done, Refused}
+use Rattle.yq_args.specs.declared.command.Command.{Command}
+use Rattle.yq_args.specs.declared.command.Command.TheVariants.{Eval, Undo, Redo, History as Lists, Squash, Help}
 use Rattle.yq_history.specs.declared.fault.Fault.{Fault}
 use Rattle.yq_history.specs.declared.fault.Fault.TheVariants as fault
 use Rattle.yq_history.specs.Causes.{named}

@@ -5,16 +5,16 @@ use Rattle.std.proofs.lemmas.Option.{none-some}
 use Rattle.std.specs.List.{list_all}
 use Rattle.std.specs.Str.{bytes_eq}
 use Rattle.std.specs.String.{string_bytes}
-use Rattle.yq_program.specs.Program.{Program}
-use Rattle.yq_records.specs.declared.moves.Move.{Move}
-use Rattle.yq_records.specs.declared.moves.Move.TheVariants as move
+use Rattle.yq_semantics.specs.Program.{Program}
+use Rattle.yq_journal.specs.declared.moves.Move.{Move}
+use Rattle.yq_journal.specs.declared.moves.Move.TheVariants as move
 use Rattle.yq_journal.specs.Good.{after_move, squash_refusal, step_fault}
 use Rattle.yq_journal.specs.History.{History, text_at, after_edit, after_squash}
-use Rattle.yq_records.specs.Refusals.{most_records}
-use Rattle.yq_output.specs.declared.answer.Answer.{Answer}
-use Rattle.yq_output.specs.declared.answer.Answer.TheVariants.{Done, NoMatch, Refused}
-use Rattle.yq_line.specs.declared.command.Command.{Command}
-use Rattle.yq_line.specs.declared.command.Command.TheVariants.{Eval, Undo, Redo, History as Lists, Squash, Help}
+use Rattle.yq_journal.specs.Refusals.{most_records}
+use Rattle.yq_commands.specs.declared.answer.Answer.{Answer}
+use Rattle.yq_commands.specs.declared.answer.Answer.TheVariants.{Done, NoMatch, Refused}
+use Rattle.yq_args.specs.declared.command.Command.{Command}
+use Rattle.yq_args.specs.declared.command.Command.TheVariants.{Eval, Undo, Redo, History as Lists, Squash, Help}
 use Rattle.yq_history.specs.declared.fault.Fault.{Fault}
 use Rattle.yq_history.specs.declared.fault.Fault.TheVariants as fault
 use Rattle.yq_history.specs.Causes.{Cause, IsFor, named}

@@ -2,8 +2,8 @@
 use Rattle.std.proofs.Common.{◌≡◌, inl, inr, ℕ, false, List, Option, Some, None, Result, Ok, Err, IfErr, Vec, sym, ap, subst, refl}
 use Rattle.std.specs.declared.alloc.Global.{Global}
 use Rattle.yq_journal.specs.History.{History}
-use Rattle.yq_records.specs.State.{State}
-use Rattle.yq_program.specs.Program.{Program}
+use Rattle.yq_journal.specs.State.{State}
+use Rattle.yq_semantics.specs.Program.{Program}
 use Rattle.yq_store.specs.FileMap.{FileMap}
 use Rattle.yq_history.specs.declared.fault.Fault.{Fault}
 use Rattle.yq_history.specs.declared.fault.Fault.TheVariants.{NotThere, OutOfMemory}

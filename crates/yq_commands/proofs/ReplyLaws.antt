@@ -1,8 +1,8 @@
 -- Replies, and the bytes that the output took of them.
 use Rattle.std.proofs.Common.{◌≡◌, inl, inr, ℕ, ◌+◌, ◌-◌, ◌^◌, ◌<◌, min, Bool, true, false, if◌then◌else◌, List, [], ◌∷◌, ◌++◌, append_assoc, Result, Ok, Err, MatchResult, sym, ap, ap₂, ◌∙◌, refl, arith}
 use Rattle.std.proofs.lemmas.List.{append-nil}
-use Rattle.yq_output.specs.declared.answer.Answer.{Answer}
-use Rattle.yq_output.specs.declared.answer.Answer.TheVariants.{Done, NoMatch, Refused}
+use Rattle.yq_commands.specs.declared.answer.Answer.{Answer}
+use Rattle.yq_commands.specs.declared.answer.Answer.TheVariants.{Done, NoMatch, Refused}
 use Rattle.yq_history.specs.declared.fault.Fault.{Fault}
 use Rattle.yq_store.specs.Count.{count_plus_one}
 use Rattle.yq_commands.specs.Lists.{answer_by, Reply, answers_in, printed_in, IsAnswer, reports_failure, reports_output, is_unfailed_refusal}

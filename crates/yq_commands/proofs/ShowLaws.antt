@@ -3,19 +3,19 @@ use Rattle.std.proofs.Common.{◌≡◌, ◌≢◌, inl, true, false, Bool, ℕ,
 use Rattle.std.proofs.lemmas.Option.{same_Some}
 use Rattle.std.specs.FinMap.{get}
 use Rattle.std.specs.Str.{is_utf8}
-use Rattle.yq_flow_scalars.specs.Answers.{ReadFails}
-use Rattle.yq_flow_scalars.specs.Tree.{Node}
-use Rattle.yq_flow_scalars.specs.declared.fault.ReadError.{ReadError}
-use Rattle.yq_flow_scalars.specs.declared.fault.ReadError.TheVariants as reading
-use Rattle.yq_row_places.specs.Answers.{IsNotUtf8}
+use Rattle.yq_core.specs.Answers.{ReadFails}
+use Rattle.yq_core.specs.Tree.{Node}
+use Rattle.yq_core.specs.declared.fault.ReadError.{ReadError}
+use Rattle.yq_core.specs.declared.fault.ReadError.TheVariants as reading
+use Rattle.yq_lookup.specs.Answers.{IsNotUtf8}
 use Rattle.yq_documents.specs.Documents.{Document}
 use Rattle.yq_documents.specs.Reading.{documents, read_at}
-use Rattle.yq_meaning.specs.Copies.{matches}
-use Rattle.yq_meaning.specs.Judgement.{Judgement, refuses}
-use Rattle.yq_meaning.specs.Judgement as judgement
-use Rattle.yq_meaning.specs.declared.expr_error.ExprError.{ExprError}
-use Rattle.yq_meaning.specs.declared.expr_error.ExprError.TheVariants as matching
-use Rattle.yq_program.specs.Program.{Program, Stage, is_read, read, updates}
+use Rattle.yq_semantics.specs.Copies.{matches}
+use Rattle.yq_semantics.specs.Judgement.{Judgement, refuses}
+use Rattle.yq_semantics.specs.Judgement as judgement
+use Rattle.yq_semantics.specs.declared.expr_error.ExprError.{ExprError}
+use Rattle.yq_semantics.specs.declared.expr_error.ExprError.TheVariants as matching
+use Rattle.yq_semantics.specs.Program.{Program, Stage, is_read, read, updates}
 use Rattle.yq_journal.specs.History.{History, text_at}
 use Rattle.yq_history.specs.declared.fault.Fault.{Fault}
 use Rattle.yq_history.specs.declared.fault.Fault.TheVariants.{OutOfMemory, Unreadable}

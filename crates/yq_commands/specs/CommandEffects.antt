@@ -2,13 +2,13 @@
 use Rattle.std.specs.Prelude.{◌≡◌, ◌≢◌, ℕ, List, [], length, nat_le, if◌then◌else◌, Option, Some, None, Result, Ok, Err, MatchResult, true}
 use Rattle.std.specs.Str.{bytes_eq}
 use Rattle.std.specs.String.{string_bytes}
-use Rattle.yq_program.specs.Program.{Program}
-use Rattle.yq_records.specs.declared.moves.Move.TheVariants as move
-use Rattle.yq_records.specs.Record.{Record}
-use Rattle.yq_records.specs.Refusals.{most_records}
-use Rattle.yq_records.specs.State.{State, journal_after, with_move}
-use Rattle.yq_line.specs.declared.command.Command.{Command}
-use Rattle.yq_line.specs.declared.command.Command.TheVariants.{Eval, Undo, Redo, History as Lists, Squash}
+use Rattle.yq_semantics.specs.Program.{Program}
+use Rattle.yq_journal.specs.declared.moves.Move.TheVariants as move
+use Rattle.yq_journal.specs.Record.{Record}
+use Rattle.yq_journal.specs.Refusals.{most_records}
+use Rattle.yq_journal.specs.State.{State, journal_after, with_move}
+use Rattle.yq_args.specs.declared.command.Command.{Command}
+use Rattle.yq_args.specs.declared.command.Command.TheVariants.{Eval, Undo, Redo, History as Lists, Squash}
 use Rattle.yq_history.specs.declared.fault.Fault.{Fault}
 use Rattle.yq_history.specs.declared.fault.Fault.TheVariants.{JournalFull, OutOfMemory}
 use Rattle.yq_commands.specs.Editing.{EditOutcome, unreadable, refused, edited, program_in, program_edits}

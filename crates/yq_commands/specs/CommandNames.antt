@@ -1,8 +1,8 @@
 -- The file and the journal that a command names (own).
 use Rattle.std.specs.Prelude.{◌≡◌, ◌≢◌, ℕ, List, true, false}
 use Rattle.std.specs.String.{string_bytes}
-use Rattle.yq_line.specs.declared.command.Command.{Command}
-use Rattle.yq_line.specs.declared.command.Command.TheVariants.{Eval, Undo, Redo, History as Lists, Squash, Help}
+use Rattle.yq_args.specs.declared.command.Command.{Command}
+use Rattle.yq_args.specs.declared.command.Command.TheVariants.{Eval, Undo, Redo, History as Lists, Squash, Help}
 
 -- the command works on this file with this journal; an expression that isn't carried out in place, with any
 abbrev pub IsOn : List ℕ → List ℕ → Command → Type 0

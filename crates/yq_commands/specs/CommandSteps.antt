@@ -2,12 +2,12 @@
 use Rattle.std.specs.Prelude.{ℕ, true, false, if◌then◌else◌, List, nat_le, Option, Some, None, Result, Ok, Err}
 use Rattle.std.specs.Str.{bytes_eq}
 use Rattle.std.specs.String.{string_bytes}
-use Rattle.yq_program.specs.Program.{Program}
-use Rattle.yq_records.specs.declared.moves.Move.TheVariants as move
+use Rattle.yq_semantics.specs.Program.{Program}
+use Rattle.yq_journal.specs.declared.moves.Move.TheVariants as move
 use Rattle.yq_journal.specs.History.{History, text_at, after_edit}
-use Rattle.yq_records.specs.Refusals.{most_records}
-use Rattle.yq_line.specs.declared.command.Command.{Command}
-use Rattle.yq_line.specs.declared.command.Command.TheVariants.{Eval, Undo, Redo, History as Lists, Squash, Help}
+use Rattle.yq_journal.specs.Refusals.{most_records}
+use Rattle.yq_args.specs.declared.command.Command.{Command}
+use Rattle.yq_args.specs.declared.command.Command.TheVariants.{Eval, Undo, Redo, History as Lists, Squash, Help}
 use Rattle.yq_history.specs.declared.fault.Fault.{Fault}
 use Rattle.yq_history.specs.declared.fault.Fault.TheVariants.{NotThere, JournalFull}
 use Rattle.yq_history.specs.Causes.{Cause, named, no_reading}

@@ -1,12 +1,12 @@
 -- What an expression makes of a text.
 use Rattle.std.specs.Prelude.{◌≡◌, ℕ, List, Result, Ok, Err}
-use Rattle.yq_program.specs.Program.{Program}
-use Rattle.yq_parsing.specs.Parse.{outcome}
-use Rattle.yq_parsing.specs.Outcome as expr
-use Rattle.yq_script.specs.Splice.{Splice}
-use Rattle.yq_outcomes.specs.Carried.{edit_of}
-use Rattle.yq_outcomes.specs.Edit.{Edit}
-use Rattle.yq_outcomes.specs.Edit as edit
+use Rattle.yq_semantics.specs.Program.{Program}
+use Rattle.yq_parser.specs.Parse.{outcome}
+use Rattle.yq_parser.specs.Outcome as expr
+use Rattle.yq_text.specs.Splice.{Splice}
+use Rattle.yq_edit_laws.specs.Carried.{edit_of}
+use Rattle.yq_edit_laws.specs.Edit.{Edit}
+use Rattle.yq_edit_laws.specs.Edit as edit
 use Rattle.yq_history.specs.declared.fault.Fault.{Fault}
 use Rattle.yq_history.specs.Causes.{IsUnreadable}
 use Rattle.yq_commands.specs.CommandFaults.{of_parse, of_refusal}

@@ -1,7 +1,7 @@
 -- The record of one edit (own).
 use Rattle.std.specs.Prelude.{ℕ, List}
-use Rattle.yq_script.specs.Splice.{Splice}
-use Rattle.yq_records.specs.Record.{Record}
+use Rattle.yq_text.specs.Splice.{Splice}
+use Rattle.yq_journal.specs.Record.{Record}
 
 -- a record of these parts, of one edit
 abbrev pub edit_record : List ℕ → List Splice → ℕ → ℕ → Record

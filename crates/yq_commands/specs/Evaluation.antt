@@ -1,11 +1,11 @@
 -- What an expression that isn't carried out in place shows of a file (own).
 use Rattle.std.specs.Prelude.{ℕ, Bool, List, Option, Some, None, option_map, Result, Ok, Err}
-use Rattle.yq_flow_scalars.specs.Tree.{Node}
+use Rattle.yq_core.specs.Tree.{Node}
 use Rattle.yq_documents.specs.Documents.{Document}
 use Rattle.yq_documents.specs.Reading.{documents, read_at}
-use Rattle.yq_meaning.specs.Copies.{matches}
-use Rattle.yq_meaning.specs.Judgement.{Judgement, gives, refuses}
-use Rattle.yq_program.specs.Program.{Program, Stage, read, updates}
+use Rattle.yq_semantics.specs.Copies.{matches}
+use Rattle.yq_semantics.specs.Judgement.{Judgement, gives, refuses}
+use Rattle.yq_semantics.specs.Program.{Program, Stage, read, updates}
 use Rattle.yq_journal.specs.History.{History, text_at}
 use Rattle.yq_history.specs.declared.fault.Fault.{Fault}
 use Rattle.yq_history.specs.declared.fault.Fault.TheVariants.{NotThere}

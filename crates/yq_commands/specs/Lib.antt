@@ -1,3 +1,4 @@
+pub mod WordFaults
 pub mod CommandEffects
 pub mod CommandFaults
 pub mod CommandNames

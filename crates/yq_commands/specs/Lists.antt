@@ -2,9 +2,9 @@
 use Rattle.std.specs.Prelude.{◌≡◌, ◌≢◌, ◌⊎◌, ◌||◌, ◌+◌, ℕ, Bool, true, false, not, List, [], ◌∷◌, map, flat_map, All, if◌then◌else◌, MatchBool, MatchResult, Option, Some, None, Result, Ok, Err}
 use Rattle.std.specs.FinMap.{get}
 use Rattle.yq_journal.specs.History.{History}
-use Rattle.yq_output.specs.declared.answer.Answer.{Answer}
-use Rattle.yq_output.specs.declared.answer.Answer.TheVariants.{Done, NoMatch, Refused}
-use Rattle.yq_line.specs.declared.command.Command.{Command}
+use Rattle.yq_commands.specs.declared.answer.Answer.{Answer}
+use Rattle.yq_commands.specs.declared.answer.Answer.TheVariants.{Done, NoMatch, Refused}
+use Rattle.yq_args.specs.declared.command.Command.{Command}
 use Rattle.yq_history.specs.declared.fault.Fault.{Fault}
 use Rattle.yq_history.specs.declared.fault.Fault.TheVariants.{OutFailed, OutOfMemory}
 use Rattle.yq_history.specs.Causes.{Cause, IsFor}

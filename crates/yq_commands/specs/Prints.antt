@@ -2,8 +2,8 @@
 use Rattle.std.specs.Prelude.{Bool, true, false, Option}
 use Rattle.std.specs.String.{string_bytes}
 use Rattle.yq_journal.specs.History.{History}
-use Rattle.yq_line.specs.declared.command.Command.{Command}
-use Rattle.yq_line.specs.declared.command.Command.TheVariants.{Eval, Undo, Redo, History as Lists, Squash, Help}
+use Rattle.yq_args.specs.declared.command.Command.{Command}
+use Rattle.yq_args.specs.declared.command.Command.TheVariants.{Eval, Undo, Redo, History as Lists, Squash, Help}
 use Rattle.yq_commands.specs.Editing.{program_in}
 use Rattle.yq_commands.specs.Evaluation.{evaluated, report_in}
 use Rattle.yq_history.specs.Listing.{listing_output}

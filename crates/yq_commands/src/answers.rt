@@ -6,8 +6,8 @@ ghost use Rattle.yq_commands.specs.Lists.{IsAnswer, reports_output};
 ghost use Rattle.yq_commands.specs.Lists as spec;
 ghost use Rattle.yq_history.specs.Report.{report_by};
 
+use crate::{Answer, Out};
 use yq_history::{Fault, Report};
-use yq_output::{Answer, Out};
 
 /// The answer to a command that was carried out.
 fn answer_by(is_match: bool) -> Answer

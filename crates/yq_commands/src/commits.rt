@@ -1,9 +1,9 @@
 //! An edited text, kept in its file beside the journal.
 ghost use Rattle.std.specs.Prelude.{◌≡◌, ◌≢◌, Some, Ok, IfOk, OnOk, IfErr, IsTrue, IsNone, false, length};
 ghost use Rattle.yq_journal.specs.History.{History};
-ghost use Rattle.yq_script.specs.Splice.{Splice, all_done, lengths_done};
+ghost use Rattle.yq_text.specs.Splice.{Splice, all_done, lengths_done};
 ghost use Rattle.std.specs.FinMap as map;
-ghost use Rattle.yq_program.specs.Program as spec;
+ghost use Rattle.yq_semantics.specs.Program as spec;
 ghost use Rattle.yq_commands.specs.Editing.{edited, program_edits};
 ghost use Rattle.yq_commands.specs.Edits.{edit_record};
 ghost use Rattle.yq_commands.specs.CommandEffects.{edit_effect};
@@ -13,12 +13,10 @@ ghost use Rattle.yq_history.specs.Pair.{Arrives, OthersStay, PairAtRest};
 ghost use Rattle.yq_commands.specs.CommandSteps.{update_cause, update_next};
 
 use std::alloc::{AllocError, Global};
-use yq_history::Fault;
-use yq_journal::Journal;
-use yq_moves::carry_out;
-use yq_records::{Move, Record};
-use yq_script::Splice;
+use yq_history::{Fault, carry_out};
+use yq_journal::{Journal, Move, Record};
 use yq_store::Store;
+use yq_text::Splice;
 
 /// The record of an edit from one text to another.
 fn record_of(

@@ -2,10 +2,10 @@
 ghost use Rattle.std.specs.Prelude.{◌≡◌};
 ghost use Rattle.yq_commands.specs.CommandFaults.{of_edit, of_matching, of_parse, of_refusal};
 
+use yq_edit_laws::EditError;
 use yq_history::Fault;
-use yq_meaning::{ExprError, Refusal};
-use yq_outcomes::EditError;
-use yq_parsing::ParseError;
+use yq_parser::ParseError;
+use yq_semantics::{ExprError, Refusal};
 
 /// Why an expression has no program.
 pub fn parse_fault(error: ParseError) -> Fault

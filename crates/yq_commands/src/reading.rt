@@ -1,7 +1,7 @@
 //! An expression as a program, and the bytes of a file as a text.
 ghost use Rattle.std.specs.Prelude.{◌≡◌, ◌≢◌, None, Ok, IfOk, IfErr, OnErr, true, false};
 ghost use Rattle.std.specs.Str.{is_utf8};
-ghost use Rattle.yq_program.specs.View.{program_of};
+ghost use Rattle.yq_semantics.specs.View.{program_of};
 ghost use Rattle.yq_documents.specs.Reading.{read_at};
 ghost use Rattle.yq_history.specs.Causes.{IsUnreadable};
 ghost use Rattle.yq_commands.specs.Editing.{program_in};
@@ -10,8 +10,8 @@ ghost use Rattle.yq_history.specs.Faults.{is_failure, is_output};
 use crate::faults::parse_fault;
 use std::alloc::Global;
 use yq_history::Fault;
-use yq_parsing::parse_expr;
-use yq_program::Program;
+use yq_parser::parse_expr;
+use yq_semantics::Program;
 use yq_tree::text_of;
 
 /// The program of an expression.

@@ -2,11 +2,11 @@
 ghost use Rattle.std.specs.Prelude.{◌≡◌, ◌≢◌, ◌++◌, Ok, IfOk, IfErr, OnOk, None, true, false};
 ghost use Rattle.std.specs.List.{list_all};
 ghost use Rattle.std.specs.String.{string_bytes};
-ghost use Rattle.yq_nodes.specs.Values.{value_node};
-ghost use Rattle.yq_matches.specs.MatchView.{matches_of};
-ghost use Rattle.yq_block.specs.Print.{print_text};
-ghost use Rattle.yq_program.specs.Program.{is_read};
-ghost use Rattle.yq_program.specs.View.{program_of};
+ghost use Rattle.yq_core.specs.Values.{value_node};
+ghost use Rattle.yq_eval.specs.MatchView.{matches_of};
+ghost use Rattle.yq_edits.specs.Print.{print_text};
+ghost use Rattle.yq_semantics.specs.Program.{is_read};
+ghost use Rattle.yq_semantics.specs.View.{program_of};
 ghost use Rattle.yq_history.specs.Causes.{IsFor};
 ghost use Rattle.yq_history.specs.Faults.{is_failure, is_output};
 ghost use Rattle.yq_commands.specs.Evaluation.{cause_in, shows};
@@ -16,12 +16,11 @@ ghost use Rattle.yq_history.specs.Report.{report_by};
 use crate::faults::match_fault;
 use crate::reading::utf8_text;
 use std::alloc::{AllocError, Global};
-use yq_block::print;
-use yq_flow_scalars::{Kind, is_true_word};
+use yq_core::{Kind, Value, is_true_word};
+use yq_edits::print;
+use yq_eval::{Match, matches};
 use yq_history::{Fault, Report};
-use yq_matches::{Match, matches};
-use yq_nodes::Value;
-use yq_program::Program;
+use yq_semantics::Program;
 use yq_tree::read;
 
 /// Adds what stands before a match: the line `---`, where the match before it is in another document.

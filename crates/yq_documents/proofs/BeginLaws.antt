@@ -2,10 +2,10 @@
 use Rattle.std.proofs.Common.{◌≡◌, ℕ, suc, ◌+◌, true, false, ◌||◌, not, eqb, List, [], ◌∷◌, length, drop, Some, refl, sym, ap, ◌∙◌, arith, eqb-true}
 use Rattle.std.proofs.lemmas.Bool.{false_from_ne_true}
 use Rattle.std.specs.List.{slice_get}
-use Rattle.yq_lines.proofs.EndsLaws.{drop_at}
-use Rattle.yq_cut.specs.Grammar.{begins_document, no_rows}
-use Rattle.yq_cut.specs.Rows.{Row, Cut, last, marked}
-use Rattle.yq_cut.specs.View.{Bound, bounds_from, bounds_of, RowsView, rows_view}
+use Rattle.yq_outline.proofs.EndsLaws.{drop_at}
+use Rattle.yq_row_table.specs.Grammar.{begins_document, no_rows}
+use Rattle.yq_row_table.specs.Rows.{Row, Cut, last, marked}
+use Rattle.yq_row_table.specs.View.{Bound, bounds_from, bounds_of, RowsView, rows_view}
 use Rattle.yq_documents.specs.Documents.{has_begin, begins_bare}
 use Rattle.yq_documents.specs.PartReading.{some_begin, first_rows}
 

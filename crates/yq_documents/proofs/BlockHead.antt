@@ -1,12 +1,12 @@
 -- The head that a block scalar is.
 use Rattle.std.proofs.Common.{◌≡◌, ℕ, ℤ, List, drop, Option, Some, None, refl, sym, ap, ◌∙◌, subst}
-use Rattle.yq_flow_scalars.specs.Answers.{◌>>=◌}
-use Rattle.yq_block_scalars.specs.Block.{BlockText, block_piece, IsBlockPiece}
-use Rattle.yq_block_scalars.specs.BlockContent.{block_content}
-use Rattle.yq_block_scalars.specs.BlockReading.{block_at, block_from}
-use Rattle.yq_flow_scalars.specs.Piece.{deeper}
-use Rattle.yq_flow_scalars.specs.declared.piece.Piece.{Piece}
-use Rattle.yq_block_scalars.proofs.BlockLaws.{block_again}
+use Rattle.yq_core.specs.Answers.{◌>>=◌}
+use Rattle.yq_core.specs.Block.{BlockText, block_piece, IsBlockPiece}
+use Rattle.yq_core.specs.BlockContent.{block_content}
+use Rattle.yq_core.specs.BlockReading.{block_at, block_from}
+use Rattle.yq_core.specs.Piece.{deeper}
+use Rattle.yq_core.specs.declared.piece.Piece.{Piece}
+use Rattle.yq_core.proofs.BlockLaws.{block_again}
 use Rattle.yq_documents.specs.RowReading.{string_head, block_head_at}
 
 none_then : (o : Option (BlockText × List ℕ)) → (o >>= λ x. Some (block_piece 0 x.0)) ≡ None → (o >>= λ x. Some (string_head (block_content x.0))) ≡ None

@@ -1,9 +1,9 @@
 -- The texts of comment lines.
 use Rattle.std.proofs.Common.{◌≡◌, ℕ, true, false, eqb, List, [], ◌∷◌, drop, Some, None, refl, sym, ap, ◌∙◌}
 use Rattle.std.proofs.lemmas.Bool.{cond-true, cond-false, and_parts}
-use Rattle.yq_flow_scalars.specs.Text.{cut, front, ends_line, text_lines, past_white}
-use Rattle.yq_nodes.specs.Nodes.{begins_with}
-use Rattle.yq_lines.specs.Comments.{less_space, comment_text, are_comments, with_text, last_comments}
+use Rattle.yq_core.specs.Text.{cut, front, ends_line, text_lines, past_white}
+use Rattle.yq_core.specs.Nodes.{begins_with}
+use Rattle.yq_outline.specs.Comments.{less_space, comment_text, are_comments, with_text, last_comments}
 use Rattle.yq_documents.specs.Texts.{text_then, texts}
 
 pub space_there : (t r : List ℕ) → begins_with 32 t ≡ true → r ≡ drop 1 t → r ≡ less_space t

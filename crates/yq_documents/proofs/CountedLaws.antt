@@ -1,9 +1,9 @@
 -- How many items and entries nodes have.
 use Rattle.std.proofs.Common.{◌≡◌, List, [], ◌∷◌, length, refl, ap, suc}
-use Rattle.yq_nodes.specs.declared.inline.Inline.{Inline}
-use Rattle.yq_nodes.specs.Trees.{parts_tree}
-use Rattle.yq_nodes.specs.View.{items_end, entries_end}
-use Rattle.yq_lines.specs.Counts.{count}
+use Rattle.yq_core.specs.declared.inline.Inline.{Inline}
+use Rattle.yq_core.specs.Trees.{parts_tree}
+use Rattle.yq_core.specs.View.{items_end, entries_end}
+use Rattle.yq_outline.specs.Counts.{count}
 use Rattle.yq_documents.proofs.FlowLaws.{Field}
 
 pub items_count : (is : List Inline) → count (parts_tree (items_end is)) ≡ length is

@@ -4,13 +4,13 @@ use Rattle.std.proofs.lemmas.Bool.{false≢true, ltb-true, lt-ltb, cases_lt}
 use Rattle.std.proofs.lemmas.List.{drop_more, drop_all}
 use Rattle.std.specs.declared.alloc.Global.{Global}
 use Rattle.std.specs.Str.{bytes_eq}
-use Rattle.yq_flow_scalars.specs.declared.piece.Piece.{Piece}
-use Rattle.yq_flow_scalars.specs.Paths.{To, Nth}
-use Rattle.yq_flow_scalars.specs.Tree.{Children}
-use Rattle.yq_nodes.specs.declared.inline.Inline.{Inline}
-use Rattle.yq_nodes.specs.Trees.{inner, placed_tree, parts_tree}
-use Rattle.yq_nodes.specs.View.{inline_view, items_end, entries_end}
-use Rattle.yq_lines.specs.Labelled.{Labelled, labelled_at}
+use Rattle.yq_core.specs.declared.piece.Piece.{Piece}
+use Rattle.yq_core.specs.Paths.{To, Nth}
+use Rattle.yq_core.specs.Tree.{Children}
+use Rattle.yq_core.specs.declared.inline.Inline.{Inline}
+use Rattle.yq_core.specs.Trees.{inner, placed_tree, parts_tree}
+use Rattle.yq_core.specs.View.{inline_view, items_end, entries_end}
+use Rattle.yq_outline.specs.Labelled.{Labelled, labelled_at}
 
 abbrev pub items_tree : List Inline → Children
 items_tree is = parts_tree (items_end is)

@@ -3,14 +3,14 @@ use Rattle.std.proofs.Common.{◌≡◌, ℕ, ◌<◌, ◌≤◌, List, length, 
 use Rattle.std.proofs.lemmas.List.{length-map}
 use Rattle.std.proofs.lemmas.Option.{same_Some, slice_get-map, slice_get_within}
 use Rattle.std.specs.List.{list_any, slice_get}
-use Rattle.yq_lines.specs.Comments.{head_comment}
-use Rattle.yq_lines.specs.Names.{is_reference, line_names}
-use Rattle.yq_cut.specs.Grammar.{IsCut}
-use Rattle.yq_cut.specs.Rows.{Row, Part}
-use Rattle.yq_cut.specs.View.{rows_of, RowsView, rows_view}
+use Rattle.yq_outline.specs.Comments.{head_comment}
+use Rattle.yq_outline.specs.Names.{is_reference, line_names}
+use Rattle.yq_row_table.specs.Grammar.{IsCut}
+use Rattle.yq_row_table.specs.Rows.{Row, Part}
+use Rattle.yq_row_table.specs.View.{rows_of, RowsView, rows_view}
 use Rattle.yq_text.specs.Limit.{text_limit}
-use Rattle.yq_lines.specs.Extents.{IsRowsView}
-use Rattle.yq_lines.specs.declared.line_position.Stretch.{Stretch}
+use Rattle.yq_outline.specs.Extents.{IsRowsView}
+use Rattle.yq_outline.specs.declared.line_position.Stretch.{Stretch}
 use Rattle.yq_documents.specs.Documents.{Document, document_parts}
 use Rattle.yq_documents.specs.Holding.{Holds}
 use Rattle.yq_documents.specs.Located.{document_at}

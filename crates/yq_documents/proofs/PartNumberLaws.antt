@@ -4,10 +4,10 @@ use Rattle.std.proofs.Math.Seq.{drop-append-add}
 use Rattle.std.proofs.lemmas.Bool.{eq-eqb, eqb-true, false≢true}
 use Rattle.std.proofs.lemmas.Option.{same_Some}
 use Rattle.std.specs.List.{slice_get}
-use Rattle.yq_cut.specs.Grammar.{begins_document}
-use Rattle.yq_cut.specs.Rows.{Row, Part, Cut, last, marked}
-use Rattle.yq_cut.specs.Splices.{nth_part}
-use Rattle.yq_cut.specs.View.{Bound, bounds_from, rows_of, RowsView, rows_view}
+use Rattle.yq_row_table.specs.Grammar.{begins_document}
+use Rattle.yq_row_table.specs.Rows.{Row, Part, Cut, last, marked}
+use Rattle.yq_row_table.specs.Splices.{nth_part}
+use Rattle.yq_row_table.specs.View.{Bound, bounds_from, rows_of, RowsView, rows_view}
 use Rattle.yq_documents.specs.Documents.{parts_from, document_parts, begins_bare, has_begin}
 use Rattle.yq_documents.specs.PartNumbers.{number_from, part_number, document_part, rows_to}
 use Rattle.yq_documents.specs.PartReading.{some_begin, first_rows, number_in}

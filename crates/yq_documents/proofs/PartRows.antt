@@ -3,19 +3,19 @@ use Rattle.std.proofs.Common.{◌≡◌, ℕ, zero, suc, ◌+◌, ◌-◌, ◌<�
 use Rattle.std.proofs.lemmas.Bool.{and_parts}
 use Rattle.std.proofs.lemmas.List.{drop-map, length-map, length-drop, take_at, map-append}
 use Rattle.std.specs.List.{list_all, slice_get}
-use Rattle.yq_nodes.specs.Inline.{depth_limit}
-use Rattle.yq_lines.specs.Group.{group}
-use Rattle.yq_lines.specs.LinesReading.{have_one_anchor_each, are_bound}
-use Rattle.yq_lines.specs.Sound.{is_sound_outline}
-use Rattle.yq_cut.specs.Grammar.{IsCut, unlimited, AreRows}
-use Rattle.yq_cut.specs.Rows.{Row, Part, Cut}
-use Rattle.yq_cut.specs.Splices.{nth_part, behind_part}
-use Rattle.yq_cut.specs.View.{slices, rows_of, RowsView, rows_view}
-use Rattle.yq_cut.proofs.splices.PartPlaces.{part_in}
-use Rattle.yq_flow_scalars.specs.Anchors.{names_of}
-use Rattle.yq_lines.specs.Lines.{lines_of_rows}
-use Rattle.yq_lines.specs.RowWalk.{HasDocument, HasRows}
-use Rattle.yq_lines.specs.declared.line_position.Stretch.{Stretch}
+use Rattle.yq_core.specs.Inline.{depth_limit}
+use Rattle.yq_outline.specs.Group.{group}
+use Rattle.yq_outline.specs.LinesReading.{have_one_anchor_each, are_bound}
+use Rattle.yq_outline.specs.Sound.{is_sound_outline}
+use Rattle.yq_row_table.specs.Grammar.{IsCut, unlimited, AreRows}
+use Rattle.yq_row_table.specs.Rows.{Row, Part, Cut}
+use Rattle.yq_row_table.specs.Splices.{nth_part, behind_part}
+use Rattle.yq_row_table.specs.View.{slices, rows_of, RowsView, rows_view}
+use Rattle.yq_row_table.proofs.splices.PartPlaces.{part_in}
+use Rattle.yq_core.specs.Anchors.{names_of}
+use Rattle.yq_outline.specs.Lines.{lines_of_rows}
+use Rattle.yq_outline.specs.RowWalk.{HasDocument, HasRows}
+use Rattle.yq_outline.specs.declared.line_position.Stretch.{Stretch}
 use Rattle.yq_documents.specs.Documents.{document_parts}
 use Rattle.yq_documents.specs.Reading.{all_documents, is_document, have_fit_keys, has_short_root, root_of}
 use Rattle.yq_documents.specs.PartNumbers.{part_number}

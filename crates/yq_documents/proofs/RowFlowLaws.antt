@@ -1,24 +1,24 @@
 -- The alias or flow collection in a row's head stands where its pieces say.
 use Rattle.std.proofs.Common.{◌≡◌, ℕ, ℤ, ◌-◌, true, false, not, List, [], ◌∷◌, ◌++◌, length, Some, None, refl, sym, ap, ◌∙◌, ⊎_elim, append-nil, subst}
 use Rattle.std.proofs.lemmas.Bool.{false≢true, cases_Bool}
-use Rattle.yq_flow_scalars.specs.Answers.{◌>>=◌}
-use Rattle.yq_flow_scalars.specs.declared.style.Place.TheVariants as places
-use Rattle.yq_block_scalars.specs.Block.{style_indicator}
-use Rattle.yq_flow_scalars.specs.Piece.{deeper}
-use Rattle.yq_flow_scalars.specs.Text.{is_empty}
-use Rattle.yq_nodes.specs.Inline.{depth_limit, IsInlineAt}
-use Rattle.yq_nodes.specs.Nodes.{FlowNode, empty, alias, scalar, coll, anchored, node_text, flow_items_text, is_empty_node, IsFlowNode}
-use Rattle.yq_nodes.specs.Places.{locate}
-use Rattle.yq_nodes.specs.Scalars.{is_quoted}
-use Rattle.yq_nodes.proofs.InlineLaws.{inline_again}
-use Rattle.yq_nodes.proofs.NodeAgain.{is_anchored, takes_unanchored}
-use Rattle.yq_nodes.proofs.WrittenLaws.{node_then}
-use Rattle.yq_cut.specs.Grammar.{IsContent}
-use Rattle.yq_cut.specs.Rows.{Content, Nothing, Inline, Block, parent_indent}
-use Rattle.yq_cut.specs.View.{Slices, anchor_cut, content_cut}
+use Rattle.yq_core.specs.Answers.{◌>>=◌}
+use Rattle.yq_core.specs.declared.style.Place.TheVariants as places
+use Rattle.yq_core.specs.Block.{style_indicator}
+use Rattle.yq_core.specs.Piece.{deeper}
+use Rattle.yq_core.specs.Text.{is_empty}
+use Rattle.yq_core.specs.Inline.{depth_limit, IsInlineAt}
+use Rattle.yq_core.specs.Nodes.{FlowNode, empty, alias, scalar, coll, anchored, node_text, flow_items_text, is_empty_node, IsFlowNode}
+use Rattle.yq_core.specs.Places.{locate}
+use Rattle.yq_core.specs.Scalars.{is_quoted}
+use Rattle.yq_core.proofs.InlineLaws.{inline_again}
+use Rattle.yq_core.proofs.NodeAgain.{is_anchored, takes_unanchored}
+use Rattle.yq_core.proofs.NodesWrittenLaws.{node_then}
+use Rattle.yq_row_table.specs.Grammar.{IsContent}
+use Rattle.yq_row_table.specs.Rows.{Content, Nothing, Inline, Block, parent_indent}
+use Rattle.yq_row_table.specs.View.{Slices, anchor_cut, content_cut}
 use Rattle.yq_documents.specs.FlowReading.{alias_or_collection, node_flow_at, head_flow_at, core, content_core, row_flow}
 use Rattle.yq_documents.specs.KeyReading.{EndsIn}
-use Rattle.yq_lines.specs.Lines.{tail_of}
+use Rattle.yq_outline.specs.Lines.{tail_of}
 use Rattle.yq_documents.specs.RowReading.{is_short_plain, is_block_head, HasHead}
 use Rattle.yq_documents.proofs.HeadLaws.{ends_drop, head_text, opens, block_marks, scalar_some_is}
 

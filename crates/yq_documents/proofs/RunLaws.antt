@@ -1,8 +1,8 @@
 -- The run of comment lines that ends lines.
 use Rattle.std.proofs.Common.{◌≡◌, ℕ, Bool, true, false, cond, eqb, ◌&&◌, List, [], ◌∷◌, ◌++◌, refl, sym, ap, ◌∙◌, append_assoc}
 use Rattle.std.proofs.lemmas.Bool.{cond-true, cond-false}
-use Rattle.yq_flow_scalars.specs.Text.{front, joined, text_lines, past_white}
-use Rattle.yq_lines.specs.Comments.{are_comments, last_comments}
+use Rattle.yq_core.specs.Text.{front, joined, text_lines, past_white}
+use Rattle.yq_outline.specs.Comments.{are_comments, last_comments}
 use Rattle.yq_documents.specs.Pieces.{before_run, last_run}
 use Rattle.yq_documents.specs.Texts.{texts}
 use Rattle.yq_documents.proofs.CommentLaws.{all_texts}

@@ -3,16 +3,16 @@ use Rattle.std.proofs.Common.{◌≡◌, ℕ, ◌+◌, ◌-◌, ◌<◌, List, l
 use Rattle.std.proofs.lemmas.List.{length-map}
 use Rattle.std.proofs.lemmas.Option.{same_Some, slice_get-map}
 use Rattle.std.specs.List.{slice_get}
-use Rattle.yq_lines.specs.Group.{group}
-use Rattle.yq_lines.specs.Outline.{Line, value}
-use Rattle.yq_cut.specs.Rows.{Row, Part, Cut}
-use Rattle.yq_cut.specs.View.{rows_of, RowsView}
-use Rattle.yq_lines.specs.Lines.{lines_of_rows}
-use Rattle.yq_lines.specs.RowWalk.{HasDocument, HasRows, IsLine, IsPosition, OfLine, line_number}
-use Rattle.yq_lines.specs.declared.line_position.Position.{Position}
-use Rattle.yq_lines.specs.declared.line_position.Stretch.{Stretch}
-use Rattle.yq_lines.proofs.KnownLaws.{get_dropped, get_front}
-use Rattle.yq_lines.proofs.WalkPositions.{Located, first_number, located}
+use Rattle.yq_outline.specs.Group.{group}
+use Rattle.yq_outline.specs.Outline.{Line, value}
+use Rattle.yq_row_table.specs.Rows.{Row, Part, Cut}
+use Rattle.yq_row_table.specs.View.{rows_of, RowsView}
+use Rattle.yq_outline.specs.Lines.{lines_of_rows}
+use Rattle.yq_outline.specs.RowWalk.{HasDocument, HasRows, IsLine, IsPosition, OfLine, line_number}
+use Rattle.yq_outline.specs.declared.line_position.Position.{Position}
+use Rattle.yq_outline.specs.declared.line_position.Stretch.{Stretch}
+use Rattle.yq_outline.proofs.KnownLaws.{get_dropped, get_front}
+use Rattle.yq_outline.proofs.WalkPositions.{Located, first_number, located}
 use Rattle.yq_documents.specs.Documents.{Document, document_parts}
 use Rattle.yq_documents.specs.Reading.{cut_of, part_document, documents_of}
 use Rattle.yq_documents.specs.LinesInRows.{document_row}

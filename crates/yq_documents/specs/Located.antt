@@ -1,11 +1,11 @@
 -- The documents of the code, and the nodes at paths in them.
 use Rattle.std.specs.Prelude.{List, [], ℕ, map, None, Option, option_and_then, slice_get}
-use Rattle.yq_nodes.specs.Entries.{tree_step}
-use Rattle.yq_flow_scalars.specs.Paths.{Step, node_at}
-use Rattle.yq_flow_scalars.specs.Tree.{Label, Node}
+use Rattle.yq_core.specs.Entries.{tree_step}
+use Rattle.yq_core.specs.Paths.{Step, node_at}
+use Rattle.yq_core.specs.Tree.{Label, Node}
 use Rattle.yq_documents.specs.declared.path.Path.{Path}
 use Rattle.yq_documents.specs.Documents.{Document}
-use Rattle.yq_lines.specs.Labelled.{Labelled, labelled_from}
+use Rattle.yq_outline.specs.Labelled.{Labelled, labelled_from}
 use Rattle.yq_documents.specs.Reading.{documents_of}
 
 -- the steps of a path (own)

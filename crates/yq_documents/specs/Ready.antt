@@ -1,14 +1,14 @@
 -- What a reading promises of its documents, so that updates have a meaning on them (own).
 use Rattle.std.specs.Prelude.{◌≡◌, ℕ, ◌≤◌, List, [], ◌∷◌, Option, Some, None, slice_get, Bool, true}
-use Rattle.yq_flow_scalars.specs.Keys.{depth}
-use Rattle.yq_flow_scalars.specs.Shapes.{IsTree}
-use Rattle.yq_flow_scalars.specs.Tree.{children_of}
-use Rattle.yq_nodes.specs.Inline.{depth_limit}
-use Rattle.yq_lines.specs.Outline.{Line}
-use Rattle.yq_lines.specs.Sound.{is_entry_line}
-use Rattle.yq_cut.specs.Rows.{Part}
+use Rattle.yq_core.specs.Keys.{depth}
+use Rattle.yq_core.specs.Shapes.{IsTree}
+use Rattle.yq_core.specs.Tree.{children_of}
+use Rattle.yq_core.specs.Inline.{depth_limit}
+use Rattle.yq_outline.specs.Outline.{Line}
+use Rattle.yq_outline.specs.Sound.{is_entry_line}
+use Rattle.yq_row_table.specs.Rows.{Part}
 use Rattle.yq_documents.specs.Documents.{Document, document_parts}
-use Rattle.yq_lines.specs.Lines.{lines_of_rows}
+use Rattle.yq_outline.specs.Lines.{lines_of_rows}
 use Rattle.yq_documents.specs.Located.{document_at}
 use Rattle.yq_documents.specs.Reading.{cut_of}
 use Rattle.yq_documents.specs.TreeEdits.{lead_by}

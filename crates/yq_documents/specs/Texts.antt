@@ -1,8 +1,8 @@
 -- The texts of comment lines (own).
 use Rattle.std.specs.Prelude.{◌≡◌, List, [], ◌∷◌, Option, Some, None, ℕ}
 use denote.Bor.{Bor}
-use Rattle.yq_flow_scalars.specs.Text.{text_lines}
-use Rattle.yq_lines.specs.Comments.{comment_text}
+use Rattle.yq_core.specs.Text.{text_lines}
+use Rattle.yq_outline.specs.Comments.{comment_text}
 use Rattle.yq_documents.specs.declared.comment.Comments.{Comments}
 
 -- a text before others, or nothing where there is none (own)

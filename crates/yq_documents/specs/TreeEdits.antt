@@ -1,10 +1,10 @@
 -- Changes of a tree and of a document that operations and the meaning of updates share (own).
 use Rattle.std.specs.Prelude.{ℕ, zero, suc, Bool, true, false, List, [], ◌∷◌, Option, None}
-use Rattle.yq_flow_scalars.specs.Paths.{Step, change_child, within}
-use Rattle.yq_flow_scalars.specs.Tree.{Label, Node, Children, none, child, children_of}
-use Rattle.yq_lines.specs.Outline.{anchored}
+use Rattle.yq_core.specs.Paths.{Step, change_child, within}
+use Rattle.yq_core.specs.Tree.{Label, Node, Children, none, child, children_of}
+use Rattle.yq_outline.specs.Outline.{anchored}
 use Rattle.yq_documents.specs.Documents.{Document}
-use Rattle.yq_flow_scalars.specs.Tree.{alias, scalar, list, map}
+use Rattle.yq_core.specs.Tree.{alias, scalar, list, map}
 
 -- the anchor of a node, if it has one (YAML 1.2.2, section 6.9.2)
 abbrev pub anchor_of : Node → Option (List ℕ)

@@ -1,12 +1,12 @@
 //! What rows spell, as it is written.
 ghost use Rattle.std.specs.Prelude.{◌≡◌, ◌<◌, None, Some, option_map, true};
-ghost use Rattle.yq_nodes.specs.Scalars.{is_quoted};
-ghost use Rattle.yq_flow_scalars.specs.Quoted.{IsQuotedText};
+ghost use Rattle.yq_core.specs.Scalars.{is_quoted};
+ghost use Rattle.yq_core.specs.Quoted.{IsQuotedText};
 ghost use Rattle.yq_documents.specs.Decoded as spec;
 
 use crate::decoded::Decoded;
-use yq_lines::between_quotes;
-use yq_nodes::is_quoted;
+use yq_core::is_quoted;
+use yq_outline::between_quotes;
 
 /// A text as it is written, without its quotes.
 pub fn borrowed_text(piece: &str) -> &str

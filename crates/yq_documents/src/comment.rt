@@ -1,14 +1,14 @@
 //! Comments, each by its text.
 ghost use Rattle.std.specs.Iterator.{at_most};
 ghost use Rattle.std.specs.Prelude.{◌≡◌, ◌==◌, [], length, option_map};
-ghost use Rattle.yq_lines.specs.Comments as spec;
-ghost use Rattle.yq_flow_scalars.specs.Text.{front, text_lines, past_white};
+ghost use Rattle.yq_outline.specs.Comments as spec;
+ghost use Rattle.yq_core.specs.Text.{front, text_lines, past_white};
 ghost use Rattle.yq_documents.specs.Pieces as pieces;
 ghost use Rattle.yq_documents.specs.Texts.{texts_left, YieldsText};
 
-use yq_flow_scalars::lines::{split_at_break, split_line};
-use yq_flow_scalars::text::{past_white, split_white};
-use yq_nodes::strip;
+use yq_core::lines::{split_at_break, split_line};
+use yq_core::strip;
+use yq_core::text::{past_white, split_white};
 
 /// A comment's text without the one space that may begin it.
 #[tactic(auto, using(crate::proofs::CommentLaws::space_there, crate::proofs::CommentLaws::no_space))]

@@ -1,6 +1,6 @@
 //! What rows spell that their text doesn't lend.
 
-use yq_lines::Head;
+use yq_outline::Head;
 
 /// What a row spells that its text doesn't lend: a key with escapes, a scalar with escapes or of several
 /// lines, an alias or a flow collection.

@@ -1,11 +1,11 @@
 //! Which parts of a text are documents.
 ghost use Rattle.std.specs.Prelude.{◌≡◌, ◌<◌, ◌==◌, ◌-◌, ◌||◌, ◌&&◌, not, length, IfSome, if◌then◌else◌};
-ghost use Rattle.yq_cut.specs.Rows.{Cut};
-ghost use Rattle.yq_cut.specs.View.{rows_view};
+ghost use Rattle.yq_row_table.specs.Rows.{Cut};
+ghost use Rattle.yq_row_table.specs.View.{rows_view};
 ghost use Rattle.yq_documents.specs.PartNumbers as numbers;
 ghost use Rattle.yq_documents.specs.PartReading as spec;
 
-use yq_cut::{Rows, begins_document};
+use yq_row_table::{Rows, begins_document};
 
 /// Whether some marker is `---`.
 fn some_begin(rows: &Rows<'_>) -> bool

@@ -1,9 +1,9 @@
 //! Where a text is at fault.
 ghost use Rattle.std.specs.Prelude.{◌≢◌};
-ghost use Rattle.yq_flow_scalars.specs.declared.fault.FaultKind.TheVariants.{NotUtf8};
+ghost use Rattle.yq_core.specs.declared.fault.FaultKind.TheVariants.{NotUtf8};
 
 use std::num::NonZeroU64;
-use yq_flow_scalars::{FaultKind, ReadFault};
+use yq_core::{FaultKind, ReadFault};
 
 /// A fault that begins at an offset, in bytes, of a text.
 pub fn fault_at(kind: FaultKind, text: &str, at: usize) -> ReadFault

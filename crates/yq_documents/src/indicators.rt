@@ -2,7 +2,7 @@
 ghost use Rattle.std.specs.Prelude.{◌≡◌, option_map};
 ghost use Rattle.yq_documents.specs.RowReading as spec;
 
-use yq_nodes::strip;
+use yq_core::strip;
 
 /// The name of an anchor that is written with its `&`.
 pub fn anchor_name(anchor: &str) -> Option<&str>

@@ -1,10 +1,10 @@
 //! What is made of a row.
 ghost use Rattle.std.specs.Prelude.{◌≡◌, option_and_then, option_map};
-ghost use Rattle.yq_lines.specs.View.{head_view};
+ghost use Rattle.yq_outline.specs.View.{head_view};
 ghost use Rattle.yq_documents.specs.Decoded as spec;
 
 use crate::decoded::Decoded;
-use yq_lines::Head;
+use yq_outline::Head;
 
 /// What is made of a row, if anything is.
 pub fn decoded_at<'d, 't>(decoded: &'d [Decoded<'t>], row: usize) -> Option<&'d Decoded<'t>>

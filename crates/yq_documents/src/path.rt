@@ -1,6 +1,6 @@
 //! Paths into documents, and places of their nodes.
 
-use yq_nodes::Step;
+use yq_core::Step;
 
 /// Where a node stands: its document, counted from 0, and the steps from the root of that document.
 #[derive(Debug, Drop)]

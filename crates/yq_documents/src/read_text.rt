@@ -1,11 +1,11 @@
 //! A text that reads as documents, by its rows.
 ghost use Rattle.std.specs.Prelude.{◌≡◌, ◌<◌, ℕ, List, length, slice_get, Some, false, option_map, true};
 ghost use Rattle.std.specs.List.{list_any};
-ghost use Rattle.yq_lines.specs.Names.{is_reference, line_names};
-ghost use Rattle.yq_cut.specs.Grammar.{IsCut};
-ghost use Rattle.yq_cut.specs.Rows.{Row as RowOf};
-ghost use Rattle.yq_cut.specs.View.{rows_of, rows_view};
-ghost use Rattle.yq_lines.specs.Extents.{IsRowsView};
+ghost use Rattle.yq_outline.specs.Names.{is_reference, line_names};
+ghost use Rattle.yq_row_table.specs.Grammar.{IsCut};
+ghost use Rattle.yq_row_table.specs.Rows.{Row as RowOf};
+ghost use Rattle.yq_row_table.specs.View.{rows_of, rows_view};
+ghost use Rattle.yq_outline.specs.Extents.{IsRowsView};
 ghost use Rattle.yq_documents.specs.Documents.{Document};
 ghost use Rattle.yq_documents.specs.Decoded.{IsDecodedBy};
 ghost use Rattle.yq_documents.specs.Located.{document_at};
@@ -17,8 +17,8 @@ use crate::comment::Comments;
 use crate::decoded::Decoded;
 use crate::of_row::decoded_at;
 use std::marker::Model;
-use yq_cut::Rows;
-use yq_lines::Stretch;
+use yq_outline::Stretch;
+use yq_row_table::Rows;
 
 /// The rows of a document among those of a text, and the gap that its lead ends.
 #[derive(Clone, Copy)]

@@ -1,13 +1,12 @@
 //! Aliases in inline nodes.
 ghost use Rattle.std.specs.Prelude.{◌≡◌};
-ghost use Rattle.yq_nodes.specs.Trees.{parts_tree, placed_tree};
-ghost use Rattle.yq_nodes.specs.View.{entries_end, items_end, inline_view};
+ghost use Rattle.yq_core.specs.Trees.{parts_tree, placed_tree};
+ghost use Rattle.yq_core.specs.View.{entries_end, items_end, inline_view};
 ghost use Rattle.std.specs.List.{list_any};
-ghost use Rattle.yq_flow_scalars.specs.Anchors.{names_in, names_of};
-ghost use Rattle.yq_lines.specs.Names.{is_reference};
+ghost use Rattle.yq_core.specs.Anchors.{names_in, names_of};
+ghost use Rattle.yq_outline.specs.Names.{is_reference};
 
-use yq_flow_scalars::Piece;
-use yq_nodes::{Form, Inline};
+use yq_core::{Form, Inline, Piece};
 
 /// Whether an alias stands in an inline node.
 #[cycle(refers)]

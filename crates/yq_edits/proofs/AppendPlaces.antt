@@ -3,54 +3,54 @@ use Rattle.std.proofs.Common.{inl, inr, ◌≡◌, ℕ, suc, true, false, List, 
 use Rattle.std.proofs.lemmas.Bool.{false≢true}
 use Rattle.std.proofs.lemmas.Option.{same_Some}
 use Rattle.std.specs.List.{slice_get}
-use Rattle.yq_flow_scalars.specs.Keys.{HasUniqueKeys, keys_of}
-use Rattle.yq_flow_scalars.specs.Paths.{Step, append_child, changed_at, node_at, within}
-use Rattle.yq_flow_scalars.specs.Tree as tree
-use Rattle.yq_flow_scalars.specs.Tree.{Node}
-use Rattle.yq_flow.specs.Valued.{IsValueTree}
-use Rattle.yq_lines.specs.LineAnchors.{HaveOneAnchorEach}
-use Rattle.yq_lines.specs.Outline.{children, label}
-use Rattle.yq_lines.specs.Places.{content_under}
-use Rattle.yq_cut.specs.Grammar.{unlimited, AreRows, no_rows, Limit, allows}
-use Rattle.yq_cut.specs.Rows.{rows_text, Part, Cut, cut_text}
-use Rattle.yq_cut.proofs.seams.SeamLaws.{rows_text-append}
-use Rattle.yq_row_places.specs.CollectionEnds.{CollectionEnd}
+use Rattle.yq_core.specs.Keys.{HasUniqueKeys, keys_of}
+use Rattle.yq_core.specs.Paths.{Step, append_child, changed_at, node_at, within}
+use Rattle.yq_core.specs.Tree as tree
+use Rattle.yq_core.specs.Tree.{Node}
+use Rattle.yq_flow_edits.specs.Valued.{IsValueTree}
+use Rattle.yq_outline.specs.LineAnchors.{HaveOneAnchorEach}
+use Rattle.yq_outline.specs.Outline.{children, label}
+use Rattle.yq_outline.specs.Places.{content_under}
+use Rattle.yq_row_table.specs.Grammar.{unlimited, AreRows, no_rows, Limit, allows}
+use Rattle.yq_row_table.specs.Rows.{rows_text, Part, Cut, cut_text}
+use Rattle.yq_row_table.proofs.seams.SeamLaws.{rows_text-append}
+use Rattle.yq_lookup.specs.CollectionEnds.{CollectionEnd}
 use Rattle.yq_documents.specs.Documents.{document_parts, lead_of}
 use Rattle.yq_documents.specs.Reading.{part_outline, read_at, root_of}
-use Rattle.yq_row_places.proofs.CommentPieceLaws.{Ended}
-use Rattle.yq_block.specs.declared.layout.Layout.{Layout}
-use Rattle.yq_block.specs.Alone.{sole_collection}
-use Rattle.yq_block.specs.BlockRows.{node_rows}
-use Rattle.yq_block.specs.BlockText.{block_value}
-use Rattle.yq_block.specs.BlockValues.{IsFilledValue, IsEnd}
-use Rattle.yq_block.proofs.CharacterLaws.{value_sound}
-use Rattle.yq_change.specs.Appends.{AreMoreRows}
-use Rattle.yq_change.specs.Changed.{IsChanged, put_document}
-use Rattle.yq_change.specs.CollectionPlaces.{IsCollectionEnd}
-use Rattle.yq_change.specs.DocumentRows.{IsDocumentPart, behind_document}
-use Rattle.yq_change.specs.Rooms.{is_block_root}
-use Rattle.yq_change.specs.SoundRoots.{IsNewKey, IsNewValue}
-use Rattle.yq_change.specs.TextPieces.{IsPiece}
-use Rattle.yq_change.proofs.AppendPlaceLaws.{EndAllows, end_allows}
-use Rattle.yq_change.proofs.EditedLaws.{lines_are_there}
-use Rattle.yq_change.proofs.EndedRowLaws.{rows_ended, rows_then}
-use Rattle.yq_change.proofs.LeadLaws.{same_lead_goes}
-use Rattle.yq_change.proofs.TextPieceLaws.{text_is_piece, pieces_joined, line_cut}
-use Rattle.yq_meaning.specs.Changes.{is_overlong_key, has_long_key, is_deep}
-use Rattle.yq_meaning.specs.Fits.{Takes}
-use Rattle.yq_meaning.specs.Operations.{append}
+use Rattle.yq_lookup.proofs.CommentPieceLaws.{Ended}
+use Rattle.yq_edits.specs.declared.layout.Layout.{Layout}
+use Rattle.yq_edits.specs.Alone.{sole_collection}
+use Rattle.yq_edits.specs.BlockRows.{node_rows}
+use Rattle.yq_edits.specs.BlockText.{block_value}
+use Rattle.yq_edits.specs.BlockValues.{IsFilledValue, IsEnd}
+use Rattle.yq_edits.proofs.CharacterLaws.{value_sound}
+use Rattle.yq_edits.specs.Appends.{AreMoreRows}
+use Rattle.yq_edits.specs.Changed.{IsChanged, put_document}
+use Rattle.yq_edits.specs.CollectionPlaces.{IsCollectionEnd}
+use Rattle.yq_edits.specs.DocumentRows.{IsDocumentPart, behind_document}
+use Rattle.yq_edits.specs.Rooms.{is_block_root}
+use Rattle.yq_edits.specs.SoundRoots.{IsNewKey, IsNewValue}
+use Rattle.yq_edits.specs.TextPieces.{IsPiece}
+use Rattle.yq_edits.proofs.AppendPlaceLaws.{EndAllows, end_allows}
+use Rattle.yq_edits.proofs.EditedLaws.{lines_are_there}
+use Rattle.yq_edits.proofs.EndedRowLaws.{rows_ended, rows_then}
+use Rattle.yq_edits.proofs.LeadLaws.{same_lead_goes}
+use Rattle.yq_edits.proofs.TextPieceLaws.{text_is_piece, pieces_joined, line_cut}
+use Rattle.yq_semantics.specs.Changes.{is_overlong_key, has_long_key, is_deep}
+use Rattle.yq_semantics.specs.Fits.{Takes}
+use Rattle.yq_semantics.specs.Operations.{append}
 use Rattle.yq_edits.specs.Layouts.{layout_of}
-use Rattle.yq_script.specs.Script.{Segment, keep, put}
+use Rattle.yq_text.specs.Script.{Segment, keep, put}
 use Rattle.yq_edits.specs.EntryEdits.{entry_lines}
 use Rattle.yq_edits.specs.Operands.{KeyIsUtf8}
 use Rattle.yq_edits.specs.ReadsAfter.{ReadsAfter}
 use Rattle.yq_edits.proofs.AppendEntryLaws.{alone_value, alone_writable, IsEntryOf, entry_of, entry_keys, entry_anchors, entry_bare, entry_rows_are}
 use Rattle.yq_edits.proofs.DoneLaws.{document_done}
-use Rattle.yq_edits.proofs.FitLaws.{new_value, key_near, near_keys}
+use Rattle.yq_edits.proofs.EditsFitLaws.{new_value, key_near, near_keys}
 use Rattle.yq_edits.proofs.CommentPieceLaws.{nothing}
-use Rattle.yq_lines.specs.Comments.{line_comment as said}
-use Rattle.yq_cut.specs.Gap.{IsGap}
-use Rattle.yq_change.proofs.RemovalPieceLaws.{spaces_piece}
+use Rattle.yq_outline.specs.Comments.{line_comment as said}
+use Rattle.yq_row_table.specs.Gap.{IsGap}
+use Rattle.yq_edits.proofs.RemovalPieceLaws.{spaces_piece}
 use Rattle.yq_edits.proofs.AppendTakers.{IsTaker, taker}
 use Rattle.yq_edits.proofs.LayoutLaws.{steps_least}
 

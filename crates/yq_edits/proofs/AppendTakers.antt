@@ -1,16 +1,16 @@
 -- Which collection takes one more item or entry.
 use Rattle.std.proofs.Common.{◌≡◌, ℕ, List, Option, refl, rules}
-use Rattle.yq_flow_scalars.specs.Keys.{keys_of}
-use Rattle.yq_flow_scalars.specs.Tree as tree
-use Rattle.yq_flow_scalars.specs.Tree.{Node, Children}
-use Rattle.yq_lines.specs.Group.{level_or}
-use Rattle.yq_lines.specs.Outline.{LineMark, Line, level, Outline, end, row, anchored, children, outline_node, value}
-use Rattle.yq_change.specs.CollectionPlaces.{BeginsAt}
-use Rattle.yq_change.specs.Siblings.{IsEntry, HasEntries}
-use Rattle.yq_change.specs.SoundRoots.{IsNewKey}
-use Rattle.yq_meaning.specs.Fits.{Takes}
+use Rattle.yq_core.specs.Keys.{keys_of}
+use Rattle.yq_core.specs.Tree as tree
+use Rattle.yq_core.specs.Tree.{Node, Children}
+use Rattle.yq_outline.specs.Group.{level_or}
+use Rattle.yq_outline.specs.Outline.{LineMark, Line, level, Outline, end, row, anchored, children, outline_node, value}
+use Rattle.yq_edits.specs.CollectionPlaces.{BeginsAt}
+use Rattle.yq_edits.specs.Siblings.{IsEntry, HasEntries}
+use Rattle.yq_edits.specs.SoundRoots.{IsNewKey}
+use Rattle.yq_semantics.specs.Fits.{Takes}
 use Rattle.yq_edits.proofs.AppendEntryLaws.{entry_level}
-use Rattle.yq_edits.proofs.FitLaws.{new_key}
+use Rattle.yq_edits.proofs.EditsFitLaws.{new_key}
 
 -- ---- the collection that gets more
 

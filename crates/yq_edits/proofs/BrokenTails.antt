@@ -1,14 +1,14 @@
 -- The end of a line with another break.
 use Rattle.std.proofs.Common.{◌≡◌, ◌⊎◌, ℕ, true, false, ◌&&◌, List, [], ◌∷◌, ◌++◌, refl, sym, ap, ◌∙◌, append_assoc, rules}
 use Rattle.std.proofs.lemmas.Bool.{false≢true, and_parts, cases_Bool, or_parts}
-use Rattle.yq_flow_scalars.specs.Characters.{pairs_returns}
-use Rattle.yq_flow_scalars.specs.Text.{front, is_feed, is_return, is_empty, ends_line, NoneIn}
-use Rattle.yq_lines.specs.Comments.{line_comment}
-use Rattle.yq_cut.specs.Gap.{IsBreak, IsComment}
-use Rattle.yq_cut.specs.Grammar.{IsTail}
-use Rattle.yq_cut.proofs.CharacterLaws.{pairs_back}
-use Rattle.yq_cut.proofs.seams.ScalarSeams.{ends_return}
-use Rattle.yq_change.proofs.EndLaws.{after_hash, comment_is}
+use Rattle.yq_core.specs.Characters.{pairs_returns}
+use Rattle.yq_core.specs.Text.{front, is_feed, is_return, is_empty, ends_line, NoneIn}
+use Rattle.yq_outline.specs.Comments.{line_comment}
+use Rattle.yq_row_table.specs.Gap.{IsBreak, IsComment}
+use Rattle.yq_row_table.specs.Grammar.{IsTail}
+use Rattle.yq_row_table.proofs.CharacterLaws.{pairs_back}
+use Rattle.yq_row_table.proofs.seams.ScalarSeams.{ends_return}
+use Rattle.yq_edits.proofs.EndLaws.{after_hash, comment_is}
 
 -- what stands in front of a break ends in no CR
 front_clean : (c rest : List ℕ) → pairs_returns (c ++ rest) ≡ true → NoneIn ends_line c rest → ends_return c ≡ false
@@ -32,7 +32,7 @@ comment_other (b ∷ c) old rest new p h e =
     (h.0, none_other c (old ++ rest) new more (front_clean c (old ++ rest) (pairs_back (b ∷ []) (c ++ (old ++ rest)) p) more))
   where
     more : NoneIn ends_line c (old ++ rest)
-    more = (Rattle.yq_row_places.proofs.LineEndLaws.comment_more (b ∷ c) old rest h e).1
+    more = (Rattle.yq_lookup.proofs.LineEndLaws.comment_more (b ∷ c) old rest h e).1
 
 -- the end of a line, with another break behind its white space and its comment
 module _ (tail more : List ℕ) (h : IsTail tail more) (pairs : pairs_returns (tail ++ more) ≡ true) (break behind : List ℕ) (ends : IsBreak break behind) where

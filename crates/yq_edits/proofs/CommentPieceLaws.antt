@@ -6,22 +6,22 @@ use Rattle.std.proofs.Math.Seq.{take-append_seam}
 use Rattle.std.proofs.Math.Utf8.{encodes, encode, scalars, low_scalar}
 use Rattle.std.specs.List.{list_all}
 use Rattle.std.specs.Str.{chars, IsUtf8}
-use Rattle.yq_block_scalars.specs.BlockWritten.{break_text}
-use Rattle.yq_flow_scalars.specs.Characters.{is_text, is_text_char, pairs_returns}
-use Rattle.yq_flow_scalars.specs.Text.{is_feed, is_return, is_empty}
-use Rattle.yq_block_scalars.specs.declared.block_types.Break.{Break}
-use Rattle.yq_flow_scalars.proofs.Bools.{not_byte}
-use Rattle.yq_block_scalars.proofs.Bytes.{Each, each_byte}
-use Rattle.yq_block_scalars.proofs.WrittenText.{no_break, is_line_ascii, IsLine, line_is_text}
-use Rattle.yq_cut.proofs.NodePieces.{before_ascii}
-use Rattle.yq_cut.proofs.seams.ScalarSeams.{ends_return}
-use Rattle.yq_change.specs.TextPieces.{IsPiece}
-use Rattle.yq_change.proofs.LineFrontLaws.{clean_byte, clean_cut}
-use Rattle.yq_change.proofs.TextPieceLaws.{pieces_joined, line_cut}
-use Rattle.yq_meaning.specs.Changes.{can_be_comment}
-use Rattle.yq_program.specs.declared.program.CommentPlace.TheVariants as comments
-use Rattle.yq_change.proofs.RemovalPieceLaws.{spaces_piece}
-use Rattle.yq_meaning.specs.Meaning.{head_comment_lines, lines_parted}
+use Rattle.yq_core.specs.BlockWritten.{break_text}
+use Rattle.yq_core.specs.Characters.{is_text, is_text_char, pairs_returns}
+use Rattle.yq_core.specs.Text.{is_feed, is_return, is_empty}
+use Rattle.yq_core.specs.declared.block_types.Break.{Break}
+use Rattle.yq_core.proofs.Bools.{not_byte}
+use Rattle.yq_core.proofs.Bytes.{Each, each_byte}
+use Rattle.yq_core.proofs.WrittenText.{no_break, is_line_ascii, IsLine, line_is_text}
+use Rattle.yq_row_table.proofs.NodePieces.{before_ascii}
+use Rattle.yq_row_table.proofs.seams.ScalarSeams.{ends_return}
+use Rattle.yq_edits.specs.TextPieces.{IsPiece}
+use Rattle.yq_edits.proofs.LineFrontLaws.{clean_byte, clean_cut}
+use Rattle.yq_edits.proofs.TextPieceLaws.{pieces_joined, line_cut}
+use Rattle.yq_semantics.specs.Changes.{can_be_comment}
+use Rattle.yq_semantics.specs.declared.program.CommentPlace.TheVariants as comments
+use Rattle.yq_edits.proofs.RemovalPieceLaws.{spaces_piece}
+use Rattle.yq_semantics.specs.Meaning.{head_comment_lines, lines_parted}
 use Rattle.yq_edits.specs.CommentEdits.{comment_line, head_lines}
 
 -- ---- single bytes

@@ -3,17 +3,17 @@ use Rattle.std.proofs.Common.{◌≡◌, ◌≢◌, ℕ, ◌||◌, List, [], ◌
 use Rattle.std.proofs.lemmas.Bool.{false≢true, ltb-false, or_parts}
 use Rattle.std.specs.Prelude.{codes}
 use Rattle.std.specs.Str.{chars}
-use Rattle.yq_flow_scalars.specs.PlainText.{is_plain_text}
-use Rattle.yq_flow_scalars.specs.Scalar.{string_of}
-use Rattle.yq_flow_scalars.specs.Tree as tree
-use Rattle.yq_flow_scalars.specs.Tree.{Children}
-use Rattle.yq_flow_scalars.specs.Writable.{can_write_plain}
-use Rattle.yq_flow_scalars.specs.Written.{written_scalar}
-use Rattle.yq_flow_scalars.specs.declared.style.Style.TheVariants as styles
-use Rattle.yq_block_scalars.proofs.PlainSpells.{writable_text}
-use Rattle.yq_nodes.specs.Written.{scalar_text, flow_key, flow_of, flow_items}
+use Rattle.yq_core.specs.PlainText.{is_plain_text}
+use Rattle.yq_core.specs.Scalar.{string_of}
+use Rattle.yq_core.specs.Tree as tree
+use Rattle.yq_core.specs.Tree.{Children}
+use Rattle.yq_core.specs.Writable.{can_write_plain}
+use Rattle.yq_core.specs.Written.{written_scalar}
+use Rattle.yq_core.specs.declared.style.Style.TheVariants as styles
+use Rattle.yq_core.proofs.PlainSpells.{writable_text}
+use Rattle.yq_core.specs.NodesWritten.{scalar_text, flow_key, flow_of, flow_items}
 use Rattle.yq_documents.specs.Documents.{HasFitKey, HasFitKeys, EachHasFitKeys}
-use Rattle.yq_meaning.specs.Changes.{is_overlong_key, has_long_key, have_long_key}
+use Rattle.yq_semantics.specs.Changes.{is_overlong_key, has_long_key, have_long_key}
 
 -- a key doesn't merge
 plain_apart : (k : List ℕ) → is_plain_text true k ≡ true → k ≡ 60 ∷ 60 ∷ [] → ⊥

@@ -4,25 +4,25 @@ use Rattle.std.proofs.lemmas.Bool.{cases_lt, eqb-true, false≢true, false_from_
 use Rattle.std.proofs.Math.Seq.{take-append_seam}
 use Rattle.std.proofs.lemmas.Str.{IsUtf8-take}
 use Rattle.std.specs.Str.{IsUtf8}
-use Rattle.yq_flow_scalars.specs.Text.{front, is_empty, is_feed, is_return, is_white, no_white, unless, NoneIn}
-use Rattle.yq_flow_scalars.proofs.Bools.{at_byte}
-use Rattle.yq_nodes.specs.Nodes as inline
-use Rattle.yq_nodes.specs.Nodes.{in_name, node_text, IsLead, IsName, IsFlowNode}
-use Rattle.yq_nodes.proofs.WrittenLaws.{node_then}
-use Rattle.yq_cut.specs.Gap.{IsWhite}
-use Rattle.yq_cut.specs.Grammar.{IsContent, IsMark, is_entry}
-use Rattle.yq_cut.specs.Rows as rows
-use Rattle.yq_cut.specs.Rows.{Content, Nothing, Inline, Block, dashes_text, mark_text}
-use Rattle.yq_cut.specs.View.{Slices, content_cut}
-use Rattle.yq_cut.proofs.NodePieces.{BeginsAscii, before_ascii, behind_ascii}
-use Rattle.yq_cut.proofs.seams.ScalarSeams.{ends_return}
-use Rattle.yq_row_places.specs.PrintedLines.{is_last_break, less_break, last_break}
-use Rattle.yq_row_places.specs.RowPieces.{anchor_before, space_before}
-use Rattle.yq_row_places.proofs.PrintedTexts.{less_is}
-use Rattle.yq_change.specs.TextPieces.{IsPiece}
-use Rattle.yq_change.proofs.LineFrontLaws.{clean_cut, ends_more}
-use Rattle.yq_change.proofs.TextPieceLaws.{byte_cut}
-use Rattle.yq_block_scalars.specs.declared.block_types.Break.TheVariants.{Lf, CrLf}
+use Rattle.yq_core.specs.Text.{front, is_empty, is_feed, is_return, is_white, no_white, unless, NoneIn}
+use Rattle.yq_core.proofs.Bools.{at_byte}
+use Rattle.yq_core.specs.Nodes as inline
+use Rattle.yq_core.specs.Nodes.{in_name, node_text, IsLead, IsName, IsFlowNode}
+use Rattle.yq_core.proofs.NodesWrittenLaws.{node_then}
+use Rattle.yq_row_table.specs.Gap.{IsWhite}
+use Rattle.yq_row_table.specs.Grammar.{IsContent, IsMark, is_entry}
+use Rattle.yq_row_table.specs.Rows as rows
+use Rattle.yq_row_table.specs.Rows.{Content, Nothing, Inline, Block, dashes_text, mark_text}
+use Rattle.yq_row_table.specs.View.{Slices, content_cut}
+use Rattle.yq_row_table.proofs.NodePieces.{BeginsAscii, before_ascii, behind_ascii}
+use Rattle.yq_row_table.proofs.seams.ScalarSeams.{ends_return}
+use Rattle.yq_lookup.specs.PrintedLines.{is_last_break, less_break, last_break}
+use Rattle.yq_lookup.specs.RowPieces.{anchor_before, space_before}
+use Rattle.yq_lookup.proofs.PrintedTexts.{less_is}
+use Rattle.yq_edits.specs.TextPieces.{IsPiece}
+use Rattle.yq_edits.proofs.LineFrontLaws.{clean_cut, ends_more}
+use Rattle.yq_edits.proofs.TextPieceLaws.{byte_cut}
+use Rattle.yq_core.specs.declared.block_types.Break.TheVariants.{Lf, CrLf}
 use Rattle.yq_edits.proofs.BreakLaws.{IsLfOrCrLf, last_is}
 use Rattle.yq_edits.proofs.CommentPieceLaws.{nothing, break_piece}
 
@@ -90,7 +90,7 @@ anchor_ends n (Inline space (inline.anchored m g node) z) rest some h =
 anchor_ends n (Block space None block) rest some h = absurd (false≢true (sym some))
 anchor_ends n (Block space (Some a) block) rest some h =
     let head : List ℕ = (content_cut (Block space (Some a) block)).3 in
-    let more : List ℕ = block.tail ++ (Rattle.yq_flow_scalars.specs.Text.joined block.raw ++ rest) in
+    let more : List ℕ = block.tail ++ (Rattle.yq_core.specs.Text.joined block.raw ++ rest) in
     record {
       clean = name_clean 38 a.name (a.gap ++ (head ++ more)) refl h.1.0.inside;
       ascii = ascii_front (a.gap ++ head) more (subst BeginsAscii (sym (append_assoc a.gap head more)) (unnamed_ascii (a.gap ++ (head ++ more)) h.1.0.ends));

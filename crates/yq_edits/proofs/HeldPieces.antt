@@ -1,28 +1,28 @@
 -- What a key or dash holds is in pieces of the text.
 use Rattle.std.proofs.Common.{inl, inr, ◌≡◌, ◌⊎◌, ℕ, false, cond, List, [], ◌∷◌, ◌++◌, length, replicate, Some, refl, sym, ap, ◌∙◌, subst, append_assoc, append-nil}
 use Rattle.std.proofs.lemmas.Bool.{false≢true}
-use Rattle.yq_flow_scalars.specs.Paths.{Step}
-use Rattle.yq_flow_scalars.specs.Text.{is_empty}
-use Rattle.yq_block_scalars.proofs.BlockPieceLaws.{IsLf}
-use Rattle.yq_cut.specs.Exchange.{asked_behind, row_front}
-use Rattle.yq_cut.specs.Gap.{IsBreak}
-use Rattle.yq_cut.specs.Grammar.{IsRow, IsTail, unlimited}
-use Rattle.yq_cut.specs.Rows.{Cut, cut_text, mark_text, parent_indent, rows_text}
-use Rattle.yq_cut.specs.View.{Slices, slices}
+use Rattle.yq_core.specs.Paths.{Step}
+use Rattle.yq_core.specs.Text.{is_empty}
+use Rattle.yq_core.proofs.BlockPieceLaws.{IsLf}
+use Rattle.yq_row_table.specs.Exchange.{asked_behind, row_front}
+use Rattle.yq_row_table.specs.Gap.{IsBreak}
+use Rattle.yq_row_table.specs.Grammar.{IsRow, IsTail, unlimited}
+use Rattle.yq_row_table.specs.Rows.{Cut, cut_text, mark_text, parent_indent, rows_text}
+use Rattle.yq_row_table.specs.View.{Slices, slices}
 use Rattle.yq_documents.specs.Reading.{read_at}
-use Rattle.yq_row_places.specs.CommentPlaces.{LineEnd, end_in_line, text_to_line_end}
-use Rattle.yq_row_places.specs.PrintedLines.{last_break, less_break}
-use Rattle.yq_row_places.specs.RowPieces.{space_before}
-use Rattle.yq_row_places.specs.Standings.{RowsOfEntry, before_entry, behind_entry, held, rows_of_entry}
-use Rattle.yq_row_places.proofs.CommentEndLaws.{row_text_parts}
-use Rattle.yq_row_places.proofs.CommentPieceLaws.{Ended}
-use Rattle.yq_row_places.proofs.LineEndLaws.{line_tail, tail_is_end}
-use Rattle.yq_row_places.proofs.RunSpans.{rows_then}
-use Rattle.yq_change.specs.StandingLaws.{HeldSpells, HoldsPieces, StandsThere}
-use Rattle.yq_change.specs.TextPieces.{IsPiece}
-use Rattle.yq_change.proofs.StandingMarks.{entry_there, row_there, rows_ended_there}
-use Rattle.yq_change.proofs.StandingRows.{rows_stand}
-use Rattle.yq_change.proofs.TextPieceLaws.{line_cut, piece_back, text_is_piece}
+use Rattle.yq_lookup.specs.CommentPlaces.{LineEnd, end_in_line, text_to_line_end}
+use Rattle.yq_lookup.specs.PrintedLines.{last_break, less_break}
+use Rattle.yq_lookup.specs.RowPieces.{space_before}
+use Rattle.yq_lookup.specs.Standings.{RowsOfEntry, before_entry, behind_entry, held, rows_of_entry}
+use Rattle.yq_lookup.proofs.CommentEndLaws.{row_text_parts}
+use Rattle.yq_lookup.proofs.CommentPieceLaws.{Ended}
+use Rattle.yq_lookup.proofs.LineEndLaws.{line_tail, tail_is_end}
+use Rattle.yq_lookup.proofs.RunSpans.{rows_then}
+use Rattle.yq_edits.specs.StandingLaws.{HeldSpells, HoldsPieces, StandsThere}
+use Rattle.yq_edits.specs.TextPieces.{IsPiece}
+use Rattle.yq_edits.proofs.StandingMarks.{entry_there, row_there, rows_ended_there}
+use Rattle.yq_edits.proofs.StandingRows.{rows_stand}
+use Rattle.yq_edits.proofs.TextPieceLaws.{line_cut, piece_back, text_is_piece}
 use Rattle.yq_edits.proofs.BreakLaws.{IsLfOrCrLf, break_is, last_is}
 use Rattle.yq_edits.proofs.CommentRowLaws.{entry_row}
 use Rattle.yq_edits.proofs.HeldCuts.{EndsIn, anchor_cut, anchor_ends, break_is_piece, dashes_end, ends_behind, last_of, less_piece, low_last, mark_ends, space_white}

@@ -2,20 +2,20 @@
 use Rattle.std.proofs.Common.{◌≡◌, ℕ, List, [], ◌∷◌, Option, Some, None, Bool, true, false, refl, sym, ap, ◌∙◌, subst, append-nil, rules}
 use Rattle.std.proofs.lemmas.Bool.{false≢true}
 use Rattle.std.specs.List.{slice_get}
-use Rattle.yq_flow_scalars.specs.Paths.{Step, changed_at, node_at}
-use Rattle.yq_flow_scalars.specs.Scalar.{ScalarText}
-use Rattle.yq_flow_scalars.specs.Tree as tree
-use Rattle.yq_flow_scalars.specs.Tree.{Node}
-use Rattle.yq_flow.specs.Valued.{IsValueTree}
-use Rattle.yq_cut.specs.Rows.{Part, Cut, cut_text}
+use Rattle.yq_core.specs.Paths.{Step, changed_at, node_at}
+use Rattle.yq_core.specs.Scalar.{ScalarText}
+use Rattle.yq_core.specs.Tree as tree
+use Rattle.yq_core.specs.Tree.{Node}
+use Rattle.yq_flow_edits.specs.Valued.{IsValueTree}
+use Rattle.yq_row_table.specs.Rows.{Part, Cut, cut_text}
 use Rattle.yq_documents.specs.Documents.{document_parts, lead_of}
 use Rattle.yq_documents.specs.Reading as reading
 use Rattle.yq_documents.specs.Reading.{documents, read_at, root_of}
 use Rattle.yq_documents.specs.TreeEdits.{led, replaced_node}
-use Rattle.yq_change.specs.Changed.{changed, IsChanged, put_document}
-use Rattle.yq_change.proofs.LeadLaws.{same_lead_goes}
-use Rattle.yq_meaning.specs.Operations.{replace}
-use Rattle.yq_row_places.specs.NodesAt.{scalar_in}
+use Rattle.yq_edits.specs.Changed.{changed, IsChanged, put_document}
+use Rattle.yq_edits.proofs.LeadLaws.{same_lead_goes}
+use Rattle.yq_semantics.specs.Operations.{replace}
+use Rattle.yq_lookup.specs.NodesAt.{scalar_in}
 use Rattle.yq_edits.specs.Replacing.{are_same}
 use Rattle.yq_edits.specs.EditLaws.{EqualScalarsStay}
 use Rattle.yq_edits.specs.ReadsAfter.{ReadsAfter}

@@ -3,19 +3,19 @@ use Rattle.std.proofs.Common.{◌≡◌, ℕ, ◌+◌, ◌-◌, ◌≤◌, ◌&&
 use Rattle.std.proofs.lemmas.Bool.{false≢true, ltb-true, and_parts, or_left, or_right}
 use Rattle.std.specs.List.{slice_get}
 use Rattle.std.specs.Option.{is_none, is_some}
-use Rattle.yq_block_scalars.specs.BlockWritten.{break_text}
-use Rattle.yq_flow_scalars.specs.Text.{is_empty}
-use Rattle.yq_flow_scalars.specs.Tree.{Node, alias, scalar, list, map, Children, none, child}
-use Rattle.yq_nodes.specs.Nodes as inline
-use Rattle.yq_lines.specs.Outline.{Line, level}
-use Rattle.yq_cut.specs.Rows.{Part, Cut}
+use Rattle.yq_core.specs.BlockWritten.{break_text}
+use Rattle.yq_core.specs.Text.{is_empty}
+use Rattle.yq_core.specs.Tree.{Node, alias, scalar, list, map, Children, none, child}
+use Rattle.yq_core.specs.Nodes as inline
+use Rattle.yq_outline.specs.Outline.{Line, level}
+use Rattle.yq_row_table.specs.Rows.{Part, Cut}
 use Rattle.yq_documents.specs.Documents.{document_parts}
-use Rattle.yq_lines.specs.Lines.{lines_of_rows}
-use Rattle.yq_row_places.specs.Steps.{is_kind, begins_under, first_step, steps_of_part}
-use Rattle.yq_block.specs.BlockReading.{is_filled}
-use Rattle.yq_block.specs.BlockRows.{block_key, column_below, indent_step, inline_of}
-use Rattle.yq_block.specs.BlockText.{block_children, block_entry, block_node, block_value, inline_or, then_lines}
-use Rattle.yq_block.specs.declared.layout.Layout.{Layout}
+use Rattle.yq_outline.specs.Lines.{lines_of_rows}
+use Rattle.yq_lookup.specs.Steps.{is_kind, begins_under, first_step, steps_of_part}
+use Rattle.yq_edits.specs.BlockReading.{is_filled}
+use Rattle.yq_edits.specs.BlockRows.{block_key, column_below, indent_step, inline_of}
+use Rattle.yq_edits.specs.BlockText.{block_children, block_entry, block_node, block_value, inline_or, then_lines}
+use Rattle.yq_edits.specs.declared.layout.Layout.{Layout}
 use Rattle.yq_edits.specs.ClosedTexts.{lines_put_behind}
 use Rattle.yq_edits.specs.EntryEdits.{entry_lines, more_lines}
 use Rattle.yq_edits.specs.Layouts.{LooksLike, children_ask, node_asks, is_filled_as, layout_of, columns_deeper}

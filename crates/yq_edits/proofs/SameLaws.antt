@@ -2,9 +2,9 @@
 use Rattle.std.proofs.Common.{◌≡◌, true, refl, eqb-true, rules}
 use Rattle.std.proofs.lemmas.Bool.{and_parts}
 use Rattle.std.proofs.lemmas.Slice.Eq.{bytes_eq-Decides}
-use Rattle.yq_flow_scalars.specs.Scalar.{ScalarText}
-use Rattle.yq_flow_scalars.specs.declared.kind.Kind.{Kind}
-use Rattle.yq_flow_scalars.specs.declared.kind.Kind.TheVariants as kinds
+use Rattle.yq_core.specs.Scalar.{ScalarText}
+use Rattle.yq_core.specs.declared.kind.Kind.{Kind}
+use Rattle.yq_core.specs.declared.kind.Kind.TheVariants as kinds
 use Rattle.yq_edits.specs.Style.{table_row, is_same}
 
 same_kind : (a b : Kind) → table_row a ≡ table_row b → a ≡ b

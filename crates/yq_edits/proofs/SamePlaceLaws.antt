@@ -3,15 +3,15 @@ use Rattle.std.proofs.Common.{◌≡◌, ℕ, zero, suc, List, [], ◌∷◌, Op
 use Rattle.std.proofs.lemmas.Option.{same_Some}
 use Rattle.std.specs.List.{slice_get}
 use Rattle.std.specs.Prelude.{option_and_then}
-use Rattle.yq_flow_scalars.specs.Paths.{Step, further, child_at, change_child, changed_at, node_at}
-use Rattle.yq_flow_scalars.specs.Tree.{Node, alias, scalar, list, map, Children, none, child}
-use Rattle.yq_cut.specs.Rows.{Part, Cut, last, marked}
-use Rattle.yq_cut.specs.Splices.{nth_part}
+use Rattle.yq_core.specs.Paths.{Step, further, child_at, change_child, changed_at, node_at}
+use Rattle.yq_core.specs.Tree.{Node, alias, scalar, list, map, Children, none, child}
+use Rattle.yq_row_table.specs.Rows.{Part, Cut, last, marked}
+use Rattle.yq_row_table.specs.Splices.{nth_part}
 use Rattle.yq_documents.specs.Documents.{document_parts}
 use Rattle.yq_documents.specs.PartNumbers.{part_number}
 use Rattle.yq_documents.proofs.PartNumberLaws.{part_there}
 use Rattle.yq_documents.specs.TreeEdits.{change_nth}
-use Rattle.yq_change.specs.Changed.{put_part, put_document}
+use Rattle.yq_edits.specs.Changed.{put_part, put_document}
 
 -- one that is put in its own place
 part_own : (i : ℕ) (c : Cut) → put_part i (nth_part i c) c ≡ c

@@ -4,21 +4,21 @@ use Rattle.std.proofs.Math.Seq.{take-append_seam}
 use Rattle.std.proofs.lemmas.Bool.{false≢true, or_cases, eqb-true, and_parts, cases_Bool}
 use Rattle.std.proofs.lemmas.Str.{IsUtf8-take}
 use Rattle.std.specs.Str.{IsUtf8}
-use Rattle.yq_flow_scalars.specs.Characters.{pairs_returns}
-use Rattle.yq_flow_scalars.specs.Text.{front, is_feed, ends_line, NoneIn}
-use Rattle.yq_block_scalars.proofs.WrittenText.{is_line_ascii}
-use Rattle.yq_cut.specs.Gap.{IsWhite}
-use Rattle.yq_cut.specs.Grammar.{IsTail, IsRow, Limit}
-use Rattle.yq_cut.specs.Rows.{print_row}
-use Rattle.yq_cut.specs.View.{slices}
-use Rattle.yq_cut.proofs.CharacterLaws.{pairs_back}
-use Rattle.yq_cut.proofs.LineEnds.{white_none}
-use Rattle.yq_cut.proofs.NodePieces.{before_ascii, tail_ascii}
-use Rattle.yq_cut.proofs.seams.ScalarSeams.{ends_return}
-use Rattle.yq_row_places.specs.CommentPlaces.{text_to_line_end}
-use Rattle.yq_row_places.specs.PlacedRows.{PlacedRow}
-use Rattle.yq_change.specs.TextPieces.{IsPiece}
-use Rattle.yq_change.proofs.LineFrontLaws.{ends_more, clean_cut, line_ends_clean}
+use Rattle.yq_core.specs.Characters.{pairs_returns}
+use Rattle.yq_core.specs.Text.{front, is_feed, ends_line, NoneIn}
+use Rattle.yq_core.proofs.WrittenText.{is_line_ascii}
+use Rattle.yq_row_table.specs.Gap.{IsWhite}
+use Rattle.yq_row_table.specs.Grammar.{IsTail, IsRow, Limit}
+use Rattle.yq_row_table.specs.Rows.{print_row}
+use Rattle.yq_row_table.specs.View.{slices}
+use Rattle.yq_row_table.proofs.CharacterLaws.{pairs_back}
+use Rattle.yq_row_table.proofs.LineEnds.{white_none}
+use Rattle.yq_row_table.proofs.NodePieces.{before_ascii, tail_ascii}
+use Rattle.yq_row_table.proofs.seams.ScalarSeams.{ends_return}
+use Rattle.yq_lookup.specs.CommentPlaces.{text_to_line_end}
+use Rattle.yq_lookup.specs.PlacedRows.{PlacedRow}
+use Rattle.yq_edits.specs.TextPieces.{IsPiece}
+use Rattle.yq_edits.proofs.LineFrontLaws.{ends_more, clean_cut, line_ends_clean}
 use Rattle.yq_edits.proofs.CommentPieceLaws.{nothing, byte_then}
 use Rattle.yq_edits.proofs.CommentRowLaws.{line_whole, line_some}
 
@@ -38,7 +38,7 @@ pub record HasTailPieces (w : PlacedRow) (tail more : List ℕ) (h : IsTail tail
   pub line : IsPiece (h.white ++ h.comment)
   pub behind : IsPiece (h.line.break ++ more)
 
-front_utf8 : (a b : List ℕ) → IsPiece (a ++ b) → Rattle.yq_cut.proofs.NodePieces.BeginsAscii b → IsUtf8 a
+front_utf8 : (a b : List ℕ) → IsPiece (a ++ b) → Rattle.yq_row_table.proofs.NodePieces.BeginsAscii b → IsUtf8 a
 front_utf8 a b h k = subst IsUtf8 (take-append_seam a b) (IsUtf8-take (a ++ b) (length a) h.utf8 (before_ascii a b k))
 
 pub pieces : (w : PlacedRow) (limit : Limit) → IsRow limit w.row w.behind → IsPiece (w.before ++ print_row w.row w.behind) → (h : IsTail (slices w.row).tail ((slices w.row).raw ++ w.behind)) → HasTailPieces w (slices w.row).tail ((slices w.row).raw ++ w.behind) h
@@ -55,6 +55,6 @@ pieces w limit row whole h =
     let split : tail ++ more ≡ line ++ behind = search (rules, append_assoc, more, line) in
     let rest : IsPiece (line ++ behind) = subst IsPiece split first.1 in
     let ends : IsTail h.line.break more = record { white = []; comment = []; line = record { break = h.line.break; spelled = refl; blank = tt; as_comment = tt; ends = h.line.ends }; apart = refl } in
-    let none : NoneIn ends_line line behind = white_none h.white h.comment behind h.line.blank (Rattle.yq_row_places.proofs.LineEndLaws.comment_more h.comment h.line.break more h.line.as_comment h.line.ends) in
+    let none : NoneIn ends_line line behind = white_none h.white h.comment behind h.line.blank (Rattle.yq_lookup.proofs.LineEndLaws.comment_more h.comment h.line.break more h.line.as_comment h.line.ends) in
     let second = clean_cut line behind rest (front_utf8 line behind rest (tail_ascii h.line.break more ends)) (λ f. none_clean line behind none f) in
     record { before = first.0; white = white_piece h.white h.line.blank; line = second.0; behind = second.1 }

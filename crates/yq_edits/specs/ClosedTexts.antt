@@ -1,6 +1,6 @@
 -- Lines put behind a text (YAML 1.2.2, 5.4; own).
 use Rattle.std.specs.Prelude.{ℕ, List, [], ◌∷◌, ◌++◌, Bool, true, false}
-use Rattle.yq_flow_scalars.specs.Text.{is_feed}
+use Rattle.yq_core.specs.Text.{is_feed}
 
 -- whether a text is empty or ends in a break (5.4)
 unfoldable pub is_closed_text : List ℕ → Bool

@@ -1,15 +1,15 @@
 -- LineComment and HeadComment: what is exchanged, by what stands at the place (YAML 1.2.2, 6.6; own).
 use Rattle.std.specs.Prelude.{ℕ, ◌==◌, ◌&&◌, not, List, [], ◌∷◌, ◌++◌, length, replicate, Option, Some, None, if◌then◌else◌}
-use Rattle.yq_flow_scalars.specs.Answers.{◌>>=◌}
-use Rattle.yq_block_scalars.specs.BlockWritten.{break_text}
-use Rattle.yq_flow_scalars.specs.Paths.{Step}
-use Rattle.yq_flow_scalars.specs.Text.{is_empty}
-use Rattle.yq_cut.specs.Rows.{Cut, behind_gap, cut_text, rows_text}
-use Rattle.yq_row_places.specs.CommentPlaces.{LinesAbove, gap_above}
-use Rattle.yq_row_places.specs.FirstBreak.{first_break}
-use Rattle.yq_row_places.specs.Standings.{Held, RowsOfEntry, before_entry, behind_entry, held, rows_of_entry}
-use Rattle.yq_meaning.specs.Meaning.{head_comment_lines}
-use Rattle.yq_script.specs.Script.{Segment, keep, put}
+use Rattle.yq_core.specs.Answers.{◌>>=◌}
+use Rattle.yq_core.specs.BlockWritten.{break_text}
+use Rattle.yq_core.specs.Paths.{Step}
+use Rattle.yq_core.specs.Text.{is_empty}
+use Rattle.yq_row_table.specs.Rows.{Cut, behind_gap, cut_text, rows_text}
+use Rattle.yq_lookup.specs.CommentPlaces.{LinesAbove, gap_above}
+use Rattle.yq_lookup.specs.FirstBreak.{first_break}
+use Rattle.yq_lookup.specs.Standings.{Held, RowsOfEntry, before_entry, behind_entry, held, rows_of_entry}
+use Rattle.yq_semantics.specs.Meaning.{head_comment_lines}
+use Rattle.yq_text.specs.Script.{Segment, keep, put}
 
 -- what is written for a line comment, in the place of one or behind a space (6.6)
 abbrev pub comment_written : List ℕ → List ℕ → List ℕ

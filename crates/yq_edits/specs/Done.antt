@@ -1,18 +1,18 @@
 -- One document of a text in the place of another, as an operation makes it (own).
 use Rattle.std.specs.Prelude.{◌≡◌, ℕ, ◌≤◌, List, [], ◌∷◌, length, slice_get, Some, ⊤}
 use Rattle.yq_text.specs.Limit.{text_limit}
-use Rattle.yq_flow_scalars.specs.Tree.{Node}
-use Rattle.yq_cut.specs.Rows.{Part, Cut, cut_text}
+use Rattle.yq_core.specs.Tree.{Node}
+use Rattle.yq_row_table.specs.Rows.{Part, Cut, cut_text}
 use Rattle.yq_documents.specs.Documents.{document_parts, lead_of}
 use Rattle.yq_documents.specs.Reading.{read_at, root_of}
-use Rattle.yq_row_places.specs.RowPaths.{IsReadable}
-use Rattle.yq_change.specs.Changed.{IsChanged, KeepsRows, put_document}
-use Rattle.yq_change.specs.Rooms.{is_block_root, LeadGoes, EqualRoom}
-use Rattle.yq_change.specs.TextPieces.{IsPiece}
-use Rattle.yq_meaning.specs.After.{op_document, root_after}
-use Rattle.yq_meaning.specs.Operations.{Operation}
-use Rattle.yq_meaning.specs.RoomsKept.{KeepsBlock, SetsComment}
-use Rattle.yq_script.specs.Script.{Segment, keep, put, new_text}
+use Rattle.yq_lookup.specs.RowPaths.{IsReadable}
+use Rattle.yq_edits.specs.Changed.{IsChanged, KeepsRows, put_document}
+use Rattle.yq_edits.specs.Rooms.{is_block_root, LeadGoes, EqualRoom}
+use Rattle.yq_edits.specs.TextPieces.{IsPiece}
+use Rattle.yq_semantics.specs.After.{op_document, root_after}
+use Rattle.yq_semantics.specs.Operations.{Operation}
+use Rattle.yq_semantics.specs.RoomsKept.{KeepsBlock, SetsComment}
+use Rattle.yq_text.specs.Script.{Segment, keep, put, new_text}
 use Rattle.yq_edits.specs.ReadsAfter.{ReadsAfter}
 
 -- The document of an operation has part p, and with part q for it the text reads so that this document is as the operation makes it (own).

@@ -1,22 +1,22 @@
 -- What is owed of the segments that an operation exchanges, by what stands at its place (own).
 use Rattle.std.specs.Prelude.{◌≡◌, ◌⊎◌, ℕ, ◌≤◌, List, [], ◌∷◌, length, Option, Some, true, false}
-use Rattle.yq_flow_scalars.specs.Answers.{◌>>=◌}
-use Rattle.yq_block_scalars.specs.BlockWritten.{break_text}
+use Rattle.yq_core.specs.Answers.{◌>>=◌}
+use Rattle.yq_core.specs.BlockWritten.{break_text}
 use Rattle.yq_text.specs.Limit.{text_limit}
-use Rattle.yq_flow_scalars.specs.Paths.{Step}
-use Rattle.yq_flow_scalars.specs.Tree.{Node}
-use Rattle.yq_nodes.specs.Collections.{CollPieces}
-use Rattle.yq_cut.specs.Rows.{Cut, cut_text}
+use Rattle.yq_core.specs.Paths.{Step}
+use Rattle.yq_core.specs.Tree.{Node}
+use Rattle.yq_core.specs.Collections.{CollPieces}
+use Rattle.yq_row_table.specs.Rows.{Cut, cut_text}
 use Rattle.yq_documents.specs.Reading.{documents, read_at}
-use Rattle.yq_row_places.specs.FirstBreak.{first_break}
-use Rattle.yq_row_places.specs.FlowNodes.{flow_collection}
-use Rattle.yq_row_places.specs.NodesAt.{node_in}
-use Rattle.yq_row_places.specs.RemovalPlaces.{has_others_at}
-use Rattle.yq_row_places.specs.Standings.{FlowPart, RowsOfEntry, Standing, flow_standing, last_step, rows_of_entry, standing_at}
-use Rattle.yq_meaning.specs.Fits.{Fits}
-use Rattle.yq_meaning.specs.Operations.{Operation, replace, append, remove, line_comment, head_comment}
-use Rattle.yq_meaning.specs.Rooms.{room_of}
-use Rattle.yq_script.specs.Script.{Segment, AllStay, keep, new_text, old_text}
+use Rattle.yq_lookup.specs.FirstBreak.{first_break}
+use Rattle.yq_lookup.specs.FlowNodes.{flow_collection}
+use Rattle.yq_lookup.specs.NodesAt.{node_in}
+use Rattle.yq_lookup.specs.RemovalPlaces.{has_others_at}
+use Rattle.yq_lookup.specs.Standings.{FlowPart, RowsOfEntry, Standing, flow_standing, last_step, rows_of_entry, standing_at}
+use Rattle.yq_semantics.specs.Fits.{Fits}
+use Rattle.yq_semantics.specs.Operations.{Operation, replace, append, remove, line_comment, head_comment}
+use Rattle.yq_semantics.specs.Rooms.{room_of}
+use Rattle.yq_text.specs.Script.{Segment, AllStay, keep, new_text, old_text}
 use Rattle.yq_edits.specs.CommentEdits.{head_comment_put, line_comment_put}
 use Rattle.yq_edits.specs.Edits.{appended, op_edits, empty_collection}
 use Rattle.yq_edits.specs.EntryEdits.{block_more, one_removed}

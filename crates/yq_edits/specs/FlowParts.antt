@@ -1,17 +1,17 @@
 -- Edits in flow collections: what is exchanged, by the part of the collection (YAML 1.2.2, 7.4; own).
 use Rattle.std.specs.Prelude.{ℕ, ◌==◌, List, [], ◌∷◌, ◌++◌, Option, Some, None, is_some, option_map, Bool, not, if◌then◌else◌}
-use Rattle.yq_flow_scalars.specs.Paths.{Step}
-use Rattle.yq_flow_scalars.specs.Tree as tree
-use Rattle.yq_flow_scalars.specs.Written.{written_scalar}
-use Rattle.yq_flow_scalars.specs.declared.style.Place.TheVariants.{Flow as InFlow}
-use Rattle.yq_nodes.specs.Collections.{CollPieces}
-use Rattle.yq_nodes.specs.Nodes.{FlowNode, alias, scalar, node_text}
-use Rattle.yq_nodes.specs.Scalars.{scalar_style}
-use Rattle.yq_nodes.specs.Written.{flow_key, flow_of}
-use Rattle.yq_flow.specs.FlowEdits.{FlowEdit, appending, content_node, replacing}
-use Rattle.yq_flow.specs.Removals.{removing}
-use Rattle.yq_row_places.specs.Standings.{FlowPart}
-use Rattle.yq_script.specs.Script.{Segment, keep, put, script_text_before}
+use Rattle.yq_core.specs.Paths.{Step}
+use Rattle.yq_core.specs.Tree as tree
+use Rattle.yq_core.specs.Written.{written_scalar}
+use Rattle.yq_core.specs.declared.style.Place.TheVariants.{Flow as InFlow}
+use Rattle.yq_core.specs.Collections.{CollPieces}
+use Rattle.yq_core.specs.Nodes.{FlowNode, alias, scalar, node_text}
+use Rattle.yq_core.specs.Scalars.{scalar_style}
+use Rattle.yq_core.specs.NodesWritten.{flow_key, flow_of}
+use Rattle.yq_flow_edits.specs.FlowEdits.{FlowEdit, appending, content_node, replacing}
+use Rattle.yq_flow_edits.specs.Removals.{removing}
+use Rattle.yq_lookup.specs.Standings.{FlowPart}
+use Rattle.yq_text.specs.Script.{Segment, keep, put, script_text_before}
 use Rattle.yq_edits.specs.Style.{style_in}
 
 -- the segments of a text in which a flow collection is edited

@@ -1,10 +1,10 @@
 -- Which rows and ends of parts of a text an operation exchanges: those that it touches (own).
 use Rattle.std.specs.Prelude.{◌≡◌, ℕ, ◌≤◌, List, [], ◌∷◌, ◌++◌, length, Some}
-use Rattle.yq_cut.specs.Items.{Item, items_of_cut, items_text}
-use Rattle.yq_cut.specs.Rows.{Cut}
-use Rattle.yq_cut.specs.Touched.{item_text, TouchesOnly}
+use Rattle.yq_row_table.specs.Items.{Item, items_of_cut, items_text}
+use Rattle.yq_row_table.specs.Rows.{Cut}
+use Rattle.yq_row_table.specs.Touched.{item_text, TouchesOnly}
 use Rattle.yq_documents.specs.Reading.{read_at}
-use Rattle.yq_script.specs.Script.{Segment, new_text, kept_front, kept_back}
+use Rattle.yq_text.specs.Script.{Segment, new_text, kept_front, kept_back}
 
 -- these bytes lie in the first of items, from its beginning on (own)
 abbrev pub InFirst : List ℕ → List Item → Type 0

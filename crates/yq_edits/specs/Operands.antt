@@ -1,8 +1,8 @@
 -- What is known of the operands of an operation, since the code holds no others.
 use Rattle.std.specs.Prelude.{ℕ, List, Option, Some, None, ⊤}
 use Rattle.std.specs.Str.{IsUtf8}
-use Rattle.yq_flow.specs.Valued.{IsValueTree}
-use Rattle.yq_meaning.specs.Operations.{Operation, replace, append, remove, line_comment, head_comment}
+use Rattle.yq_flow_edits.specs.Valued.{IsValueTree}
+use Rattle.yq_semantics.specs.Operations.{Operation, replace, append, remove, line_comment, head_comment}
 
 -- a key is UTF-8, if there is one (own)
 abbrev pub KeyIsUtf8 : Option (List ℕ) → Type 0

@@ -1,10 +1,10 @@
 -- What is exchanged where an item or entry is taken out with its rows (YAML 1.2.2, 8.2; own).
 use Rattle.std.specs.Prelude.{ℕ, List, [], ◌∷◌, ◌++◌, replicate, Option, Some, None, if◌then◌else◌}
-use Rattle.yq_block_scalars.specs.BlockRepair.{is_short, is_outdented_comment}
-use Rattle.yq_flow_scalars.specs.Lines.{is_blank}
-use Rattle.yq_flow_scalars.specs.Text.{cut, no_white, past_white, joined, text_lines}
-use Rattle.yq_row_places.specs.RemovalPlaces.{Seam, Removal}
-use Rattle.yq_script.specs.Script.{Segment, keep, put}
+use Rattle.yq_core.specs.BlockRepair.{is_short, is_outdented_comment}
+use Rattle.yq_core.specs.Lines.{is_blank}
+use Rattle.yq_core.specs.Text.{cut, no_white, past_white, joined, text_lines}
+use Rattle.yq_lookup.specs.RemovalPlaces.{Seam, Removal}
+use Rattle.yq_text.specs.Script.{Segment, keep, put}
 
 -- the white space in front of a line gives way to so many spaces (own)
 abbrev pub indent_put : ℕ → List ℕ → List Segment

@@ -1,7 +1,7 @@
 -- What is exchanged where the first item or entry of a compact collection is taken out (YAML 1.2.2, 8.2.1; own).
 use Rattle.std.specs.Prelude.{List, [], ◌∷◌}
-use Rattle.yq_row_places.specs.FirstPlaces.{FirstOut}
-use Rattle.yq_script.specs.Script.{Segment, keep, put}
+use Rattle.yq_lookup.specs.FirstPlaces.{FirstOut}
+use Rattle.yq_text.specs.Script.{Segment, keep, put}
 
 -- the segments in which what stands between the text before and the text behind goes (own)
 abbrev pub first_removed : FirstOut → List Segment

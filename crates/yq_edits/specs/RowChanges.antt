@@ -1,25 +1,25 @@
 -- Operations that give one row of a text another content of the same shape (own).
 use Rattle.std.specs.Prelude.{◌≡◌, ℕ, ◌≤◌, ◌&&◌, not, Bool, List, [], ◌∷◌, ◌++◌, length, slice_get, Some, false, if◌then◌else◌}
 use Rattle.yq_text.specs.Limit.{text_limit}
-use Rattle.yq_flow_scalars.specs.Paths.{Step}
-use Rattle.yq_flow_scalars.specs.Text.{is_empty}
-use Rattle.yq_flow_scalars.specs.Tree.{Node}
-use Rattle.yq_flow_scalars.specs.declared.style.Place.TheVariants.{Block as InBlock}
-use Rattle.yq_cut.specs.Rows.{Cut, Part, Row, cut_text}
-use Rattle.yq_cut.specs.Seams.{is_block}
-use Rattle.yq_cut.specs.View.{slices}
+use Rattle.yq_core.specs.Paths.{Step}
+use Rattle.yq_core.specs.Text.{is_empty}
+use Rattle.yq_core.specs.Tree.{Node}
+use Rattle.yq_core.specs.declared.style.Place.TheVariants.{Block as InBlock}
+use Rattle.yq_row_table.specs.Rows.{Cut, Part, Row, cut_text}
+use Rattle.yq_row_table.specs.Seams.{is_block}
+use Rattle.yq_row_table.specs.View.{slices}
 use Rattle.yq_documents.specs.Documents.{document_parts}
 use Rattle.yq_documents.specs.Reading.{documents, read_at}
-use Rattle.yq_row_places.specs.Standings.{Held, RowsOfEntry, held, rows_of_entry}
-use Rattle.yq_change.specs.Appends.{inserted}
-use Rattle.yq_change.specs.Changed.{put_document}
-use Rattle.yq_change.specs.Rooms.{row_shape}
-use Rattle.yq_block.specs.BlockReading.{is_filled}
-use Rattle.yq_meaning.specs.Fits.{Fits}
-use Rattle.yq_meaning.specs.Operations.{line_comment, replace}
-use Rattle.yq_meaning.specs.Rooms.{room_of}
-use Rattle.yq_script.specs.Script.{Segment, changes, keep, new_text, old_text, splice_at}
-use Rattle.yq_row_places.specs.NodesAt.{node_in}
+use Rattle.yq_lookup.specs.Standings.{Held, RowsOfEntry, held, rows_of_entry}
+use Rattle.yq_edits.specs.Appends.{inserted}
+use Rattle.yq_edits.specs.Changed.{put_document}
+use Rattle.yq_edits.specs.Rooms.{row_shape}
+use Rattle.yq_edits.specs.BlockReading.{is_filled}
+use Rattle.yq_semantics.specs.Fits.{Fits}
+use Rattle.yq_semantics.specs.Operations.{line_comment, replace}
+use Rattle.yq_semantics.specs.Rooms.{room_of}
+use Rattle.yq_text.specs.Script.{Segment, changes, keep, new_text, old_text, splice_at}
+use Rattle.yq_lookup.specs.NodesAt.{node_in}
 use Rattle.yq_edits.specs.CommentEdits.{comment_put, comment_written}
 use Rattle.yq_edits.specs.Edits.{op_edits}
 use Rattle.yq_edits.specs.Operands.{HasOperand}

@@ -1,12 +1,12 @@
 //! How a scalar is written in the place of another one.
 ghost use Rattle.std.specs.Prelude.{◌≡◌, true};
-ghost use Rattle.yq_flow_scalars.specs.Writable as writable;
-ghost use Rattle.yq_flow_scalars.specs.Written.{IsOneLine};
-ghost use Rattle.yq_flow.specs.Valued.{IsValid};
+ghost use Rattle.yq_core.specs.Writable as writable;
+ghost use Rattle.yq_core.specs.Written.{IsOneLine};
+ghost use Rattle.yq_flow_edits.specs.Valued.{IsValid};
 ghost use Rattle.yq_edits.specs.Style as spec;
 
-use yq_flow_reading::can_write;
-use yq_flow_scalars::{Kind, Place, Scalar, Style};
+use yq_core::{Kind, Place, Scalar, Style};
+use yq_scalar_reader::can_write;
 
 /// Whether a scalar has that kind and that text.
 pub fn is_same(kind: Kind, text: &str, scalar: &Scalar) -> bool

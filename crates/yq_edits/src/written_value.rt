@@ -1,23 +1,22 @@
 //! How a value is written at a place.
 ghost use Rattle.std.specs.Prelude.{◌≡◌, ◌∷◌, ◌++◌, IfOk, OnOk, string_bytes};
-ghost use Rattle.yq_nodes.specs.Values.{value_node};
-ghost use Rattle.yq_block_scalars.specs.BlockWritten.{break_text};
-ghost use Rattle.yq_row_places.specs.StandingViews.{held_mark_view};
-ghost use Rattle.yq_block.specs.BlockRows.{item_column};
-ghost use Rattle.yq_block.specs.BlockText.{block_value};
+ghost use Rattle.yq_core.specs.Values.{value_node};
+ghost use Rattle.yq_core.specs.BlockWritten.{break_text};
+ghost use Rattle.yq_places.specs.StandingViews.{held_mark_view};
+ghost use Rattle.yq_edits.specs.BlockRows.{item_column};
+ghost use Rattle.yq_edits.specs.BlockText.{block_value};
 ghost use Rattle.yq_edits.specs.WrittenValues as spec;
 
 use crate::style::style_in;
+use crate::{Layout, indent_step, push_block};
 use std::alloc::{AllocError, Global};
-use yq_block::{Layout, indent_step, push_block};
-use yq_flow::write_inline;
-use yq_flow_reading::push_spaces;
-use yq_flow_scalars::Place;
+use yq_core::{Place, Value};
+use yq_flow_edits::write_inline;
 use yq_inline::style_of;
-use yq_nodes::Value;
-use yq_row_places::Mark;
+use yq_places::Mark;
 use yq_scalar::block_written::break_text;
 use yq_scalar::write_scalar;
+use yq_scalar_reader::push_spaces;
 
 /// A value on one line, in the place of a text.
 ///

@@ -2,14 +2,14 @@
 use Rattle.std.proofs.Common.{◌≡◌, ℕ, zero, suc, ◌-◌, ◌≤◌, Bool, cond, List, [], ◌∷◌, ◌++◌, length, map, take, drop, get_or, Some, None, refl, sym, ap, ◌∙◌, arith}
 use Rattle.std.specs.List.{list_any}
 use Rattle.std.proofs.lemmas.List.{map_push, take_rest}
-use Rattle.yq_flow_scalars.specs.Tree as tree
-use Rattle.yq_flow_scalars.specs.Tree.{Node, none, child}
+use Rattle.yq_core.specs.Tree as tree
+use Rattle.yq_core.specs.Tree.{Node, none, child}
 use Rattle.yq_documents.specs.TreeEdits.{new_label}
-use Rattle.yq_meaning.specs.Changes.{nested, created, put_below}
-use Rattle.yq_meaning.specs.Judgement.{gives, refuses}
-use Rattle.yq_meaning.specs.declared.refusal.Refusal.TheVariants.{IndexOutOfRange}
-use Rattle.yq_program.proofs.Lists.{list_any_map}
-use Rattle.yq_program.specs.Program.{is_index, PathStep, key}
+use Rattle.yq_semantics.specs.Changes.{nested, created, put_below}
+use Rattle.yq_semantics.specs.Judgement.{gives, refuses}
+use Rattle.yq_semantics.specs.declared.refusal.Refusal.TheVariants.{IndexOutOfRange}
+use Rattle.yq_semantics.proofs.Lists.{list_any_map}
+use Rattle.yq_semantics.specs.Program.{is_index, PathStep, key}
 
 -- a value under one key more, inside the others
 pub nested_last : (ms : List PathStep) (m : PathStep) (v : Node) → nested (ms ++ m ∷ []) v ≡ nested ms (nested (m ∷ []) v)

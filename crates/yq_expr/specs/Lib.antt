@@ -1,4 +1,4 @@
-pub use Rattle.yq_nodes.specs.Values
-pub use Rattle.yq_flow_scalars.specs.Tree
+pub use Rattle.yq_core.specs.Values
+pub use Rattle.yq_core.specs.Tree
 pub mod EffectView
 pub mod Summand

@@ -1,27 +1,27 @@
 //! What is changed at each of places.
 ghost use Rattle.std.specs.Prelude.{◌≡◌, map};
-ghost use Rattle.yq_flow_scalars.specs.Tree.{Node as TreeNode};
-ghost use Rattle.yq_flow_scalars.specs.Anchors.{names_of};
-ghost use Rattle.yq_document_nodes.specs.Nodes.{node_of};
-ghost use Rattle.yq_meaning.specs.Changes as spec;
-ghost use Rattle.yq_planning.specs.ChangeView.{changed_of};
+ghost use Rattle.yq_core.specs.Tree.{Node as TreeNode};
+ghost use Rattle.yq_core.specs.Anchors.{names_of};
+ghost use Rattle.yq_nodes.specs.Nodes.{node_of};
+ghost use Rattle.yq_semantics.specs.Changes as spec;
+ghost use Rattle.yq_planner.specs.ChangeView.{changed_of};
 ghost use Rattle.yq_expr.specs.EffectView.{effect_at};
-ghost use Rattle.yq_planning.specs.Indexes.{HasAliases};
-ghost use Rattle.yq_meaning.specs.Judgement.{Judges, and_then};
-ghost use Rattle.yq_matching.specs.FoundView.{child_places, found_places};
-ghost use Rattle.yq_matching.specs.PlaceView.{path_of, place_of, places_of, put_behind};
-ghost use Rattle.yq_meaning.specs.PlacesApart.{AreIn, IsIn};
-ghost use Rattle.yq_meaning.specs.Rooms.{room_of};
-ghost use Rattle.yq_matching.specs.TreeScalars.{HasScalars, HaveScalars};
+ghost use Rattle.yq_planner.specs.Indexes.{HasAliases};
+ghost use Rattle.yq_semantics.specs.Judgement.{Judges, and_then};
+ghost use Rattle.yq_eval.specs.FoundView.{child_places, found_places};
+ghost use Rattle.yq_eval.specs.PlaceView.{path_of, place_of, places_of, put_behind};
+ghost use Rattle.yq_semantics.specs.PlacesApart.{AreIn, IsIn};
+ghost use Rattle.yq_semantics.specs.Rooms.{room_of};
+ghost use Rattle.yq_eval.specs.TreeScalars.{HasScalars, HaveScalars};
 
 use crate::effect::{Action, change_at};
+use crate::push_change;
 use crate::steps::path_steps;
 use std::alloc::Global;
 use yq_documents::Path;
-use yq_matching::{FoundPlaces, Place};
-use yq_meaning::ExprError;
-use yq_placed_changes::push_change;
-use yq_planning::{Aliases, Changed};
+use yq_eval::{FoundPlaces, Place};
+use yq_planner::{Aliases, Changed};
+use yq_semantics::ExprError;
 use yq_tree::{CutText, Documents};
 
 /// Puts what is changed at a place behind other changes.

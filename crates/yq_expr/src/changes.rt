@@ -1,32 +1,31 @@
 //! What an update changes in documents.
 ghost use Rattle.std.specs.Prelude.{◌≡◌, ◌<◌, length, map, if◌then◌else◌};
-ghost use Rattle.yq_flow_scalars.specs.Shapes.{IsTree};
-ghost use Rattle.yq_flow_scalars.specs.Anchors.{names_of};
-ghost use Rattle.yq_document_nodes.specs.Nodes.{node_of};
+ghost use Rattle.yq_core.specs.Shapes.{IsTree};
+ghost use Rattle.yq_core.specs.Anchors.{names_of};
+ghost use Rattle.yq_nodes.specs.Nodes.{node_of};
 ghost use Rattle.yq_documents.specs.Reading.{documents_of};
-ghost use Rattle.yq_meaning.specs.Changes as spec;
-ghost use Rattle.yq_planning.specs.ChangeView.{all_changed_of, changed_of};
-ghost use Rattle.yq_planning.specs.Indexes.{HasAliases};
-ghost use Rattle.yq_meaning.specs.Judgement.{Judges};
-ghost use Rattle.yq_meaning.specs.Meaning.{roots_of};
-ghost use Rattle.yq_matching.specs.FoundView.{found_places};
-ghost use Rattle.yq_meaning.specs.Places.{root_place};
-ghost use Rattle.yq_meaning.specs.PlacesApart.{AreIn};
-ghost use Rattle.yq_meaning.specs.RightValues.{right_value as right_sum};
-ghost use Rattle.yq_meaning.specs.Rooms.{room_of};
-ghost use Rattle.yq_matching.specs.TreeScalars.{HasScalars, HaveScalars};
-ghost use Rattle.yq_program.specs.View.{stage_of, term_of, update_of};
+ghost use Rattle.yq_semantics.specs.Changes as spec;
+ghost use Rattle.yq_planner.specs.ChangeView.{all_changed_of, changed_of};
+ghost use Rattle.yq_planner.specs.Indexes.{HasAliases};
+ghost use Rattle.yq_semantics.specs.Judgement.{Judges};
+ghost use Rattle.yq_semantics.specs.Meaning.{roots_of};
+ghost use Rattle.yq_eval.specs.FoundView.{found_places};
+ghost use Rattle.yq_semantics.specs.Places.{root_place};
+ghost use Rattle.yq_semantics.specs.PlacesApart.{AreIn};
+ghost use Rattle.yq_semantics.specs.RightValues.{right_value as right_sum};
+ghost use Rattle.yq_semantics.specs.Rooms.{room_of};
+ghost use Rattle.yq_eval.specs.TreeScalars.{HasScalars, HaveScalars};
+ghost use Rattle.yq_semantics.specs.View.{stage_of, term_of, update_of};
 
 use crate::at_places::at_found;
 use crate::effect::Action;
 use crate::right_value::right_value;
 use bumpalo::Bump;
 use std::alloc::Global;
-use yq_document_nodes::Node;
-use yq_matching::{FoundPlaces, Place, find_places};
-use yq_meaning::{ExprError, Refusal};
-use yq_planning::{Aliases, Changed, aliases_of, has_comment};
-use yq_program::{Assignment, Operator, Stage, Term, Update};
+use yq_eval::{FoundPlaces, Place, find_places};
+use yq_nodes::Node;
+use yq_planner::{Aliases, Changed, aliases_of, has_comment};
+use yq_semantics::{Assignment, ExprError, Operator, Refusal, Stage, Term, Update};
 use yq_tree::Documents;
 
 /// What an update changes at places of document `doc`, which has that root.

@@ -1,24 +1,23 @@
 //! What an update does at one place.
 ghost use Rattle.std.specs.Prelude.{◌≡◌, map};
-ghost use Rattle.yq_planning.specs.ChangeView.{placed};
+ghost use Rattle.yq_planner.specs.ChangeView.{placed};
 ghost use Rattle.yq_expr.specs.EffectView.{effect_at};
-ghost use Rattle.yq_meaning.specs.Judgement.{Judges};
+ghost use Rattle.yq_semantics.specs.Judgement.{Judges};
 ghost use Rattle.yq_documents.specs.Located.{steps_of};
-ghost use Rattle.yq_matching.specs.PlaceView.{path_of, place_of};
-ghost use Rattle.yq_meaning.specs.Changes as spec;
-ghost use Rattle.yq_meaning.specs.Rooms.{comment_part, room_of};
-ghost use Rattle.yq_matching.specs.TreeScalars.{HasScalars};
-ghost use Rattle.yq_nodes.specs.Values.{value_node};
+ghost use Rattle.yq_eval.specs.PlaceView.{path_of, place_of};
+ghost use Rattle.yq_semantics.specs.Changes as spec;
+ghost use Rattle.yq_semantics.specs.Rooms.{comment_part, room_of};
+ghost use Rattle.yq_eval.specs.TreeScalars.{HasScalars};
+ghost use Rattle.yq_core.specs.Values.{value_node};
 
 use crate::put::put;
 use crate::right_value::right_value;
 use std::alloc::Global;
+use yq_core::Value;
 use yq_documents::{Part, Path};
-use yq_matching::{Missing, NodePath, Place};
-use yq_meaning::{ExprError, Refusal};
-use yq_nodes::Value;
-use yq_planning::{Change, added, copied, is_null};
-use yq_program::{CommentPlace, Term};
+use yq_eval::{Missing, NodePath, Place};
+use yq_planner::{Change, added, copied, is_null};
+use yq_semantics::{CommentPlace, ExprError, Refusal, Term};
 use yq_tree::CutText;
 
 /// What an update does at each place.

@@ -1,21 +1,20 @@
 //! Planning: the operations that carry out an update on documents.
 ghost use Rattle.std.specs.Prelude.{◌≡◌, ◌<◌, ◌∷◌, ◌⊎◌, [], IfOk, Some};
 ghost use Rattle.yq_documents.specs.Reading.{documents_of};
-ghost use Rattle.yq_meaning.specs.After.{all_after};
-ghost use Rattle.yq_meaning.specs.Fits.{AllFit};
-ghost use Rattle.yq_meaning.specs.Judgement.{Judges, gives, refuses};
-ghost use Rattle.yq_meaning.specs.Meaning.{meaning};
-ghost use Rattle.yq_meaning.specs.Operations.{operations_of};
-ghost use Rattle.yq_meaning.specs.Plans as plans;
-ghost use Rattle.yq_program.specs.Program as spec;
-ghost use Rattle.yq_meaning.specs.Rooms.{room_of};
-ghost use Rattle.yq_program.specs.View.{program_of, update_of};
+ghost use Rattle.yq_semantics.specs.After.{all_after};
+ghost use Rattle.yq_semantics.specs.Fits.{AllFit};
+ghost use Rattle.yq_semantics.specs.Judgement.{Judges, gives, refuses};
+ghost use Rattle.yq_semantics.specs.Meaning.{meaning};
+ghost use Rattle.yq_semantics.specs.Operations.{operations_of};
+ghost use Rattle.yq_semantics.specs.Plans as plans;
+ghost use Rattle.yq_semantics.specs.Program as spec;
+ghost use Rattle.yq_semantics.specs.Rooms.{room_of};
+ghost use Rattle.yq_semantics.specs.View.{program_of, update_of};
 
 use crate::changes::changes;
 use std::alloc::Global;
-use yq_meaning::{ExprError, Op, Refusal};
-use yq_planning::operations;
-use yq_program::{Program, Syntax, Update};
+use yq_planner::operations;
+use yq_semantics::{ExprError, Op, Program, Refusal, Syntax, Update};
 use yq_tree::Documents;
 
 fn is_removal(update: &Update) -> bool

@@ -1,23 +1,22 @@
 //! A value that is put at a place.
 ghost use Rattle.std.specs.List.{list_any};
 ghost use Rattle.std.specs.Prelude.{◌≡◌, ◌∷◌, [], IfOk, map};
-ghost use Rattle.yq_nodes.specs.Values.{value_node};
-ghost use Rattle.yq_document_nodes.specs.Nodes.{node_of};
-ghost use Rattle.yq_meaning.specs.Changes as spec;
-ghost use Rattle.yq_planning.specs.ChangeView.{change_of, placed};
-ghost use Rattle.yq_meaning.specs.Judgement.{Judges};
-ghost use Rattle.yq_matching.specs.PlaceView.{place_of};
-ghost use Rattle.yq_program.specs.Program.{is_index};
-ghost use Rattle.yq_program.specs.View.{program_step};
+ghost use Rattle.yq_core.specs.Values.{value_node};
+ghost use Rattle.yq_nodes.specs.Nodes.{node_of};
+ghost use Rattle.yq_semantics.specs.Changes as spec;
+ghost use Rattle.yq_planner.specs.ChangeView.{change_of, placed};
+ghost use Rattle.yq_semantics.specs.Judgement.{Judges};
+ghost use Rattle.yq_eval.specs.PlaceView.{place_of};
+ghost use Rattle.yq_semantics.specs.Program.{is_index};
+ghost use Rattle.yq_semantics.specs.View.{program_step};
 
 use crate::steps::missing_steps;
 use std::alloc::{AllocError, Global};
-use yq_document_nodes::{Node, NodeKind};
-use yq_matching::{Missing, Place};
-use yq_meaning::{ExprError, Refusal};
-use yq_nodes::Value;
-use yq_planning::{Addition, Change};
-use yq_program::{Step, is_index};
+use yq_core::Value;
+use yq_eval::{Missing, Place};
+use yq_nodes::{Node, NodeKind};
+use yq_planner::{Addition, Change};
+use yq_semantics::{ExprError, Refusal, Step, is_index};
 
 /// Whether some step is an index.
 fn has_index(steps: &[&Step]) -> bool

@@ -1,25 +1,23 @@
 //! Right sides: sums of terms, from a place.
 ghost use Rattle.std.specs.Prelude.{◌≡◌, ◌∷◌, ℕ, [], IfSome, map, true};
-ghost use Rattle.yq_nodes.specs.Values.{value_node};
-ghost use Rattle.yq_meaning.specs.Judgement.{Judges, and_then};
-ghost use Rattle.yq_meaning.specs.Pipes.{pipe_on};
+ghost use Rattle.yq_core.specs.Values.{value_node};
+ghost use Rattle.yq_semantics.specs.Judgement.{Judges, and_then};
+ghost use Rattle.yq_semantics.specs.Pipes.{pipe_on};
 ghost use Rattle.yq_expr.specs.Summand.{IsSummand};
-ghost use Rattle.yq_matching.specs.PlaceView.{place_of, places_of};
-ghost use Rattle.yq_meaning.specs.Places.{Place as SpecPlace, chained};
-ghost use Rattle.yq_meaning.specs.RightValues as spec;
-ghost use Rattle.yq_matching.specs.TreeScalars.{HasScalars, HaveScalars};
-ghost use Rattle.yq_program.specs.Program.{path};
-ghost use Rattle.yq_program.specs.View.{stage_of, term_of};
+ghost use Rattle.yq_eval.specs.PlaceView.{place_of, places_of};
+ghost use Rattle.yq_semantics.specs.Places.{Place as SpecPlace, chained};
+ghost use Rattle.yq_semantics.specs.RightValues as spec;
+ghost use Rattle.yq_eval.specs.TreeScalars.{HasScalars, HaveScalars};
+ghost use Rattle.yq_semantics.specs.Program.{path};
+ghost use Rattle.yq_semantics.specs.View.{stage_of, term_of};
 
 use bumpalo::Bump;
 use std::alloc::Global;
-use yq_document_nodes::NodeKind;
-use yq_flow_scalars::{Kind, Scalar};
-use yq_matching::{Place, copy_at, pipe_on};
-use yq_meaning::{ExprError, Refusal};
-use yq_nodes::Value;
-use yq_planning::{copied, scalar_sum, sum};
-use yq_program::{Stage, Term};
+use yq_core::{Kind, Scalar, Value};
+use yq_eval::{Place, copy_at, pipe_on};
+use yq_nodes::NodeKind;
+use yq_planner::{copied, scalar_sum, sum};
+use yq_semantics::{ExprError, Refusal, Stage, Term};
 
 /// A copy of the value at the one place that there is.
 fn only(alloc: Global, places: &[Place<'_, '_>]) -> Result<Value, ExprError>

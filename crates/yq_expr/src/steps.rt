@@ -1,15 +1,15 @@
 //! The steps of a place, in order.
 ghost use Rattle.std.specs.Prelude.{◌≡◌, IfOk, map};
-ghost use Rattle.yq_nodes.specs.Entries.{tree_step};
-ghost use Rattle.yq_matching.specs.PlaceView.{missing_of, path_of};
-ghost use Rattle.yq_program.specs.View.{program_step};
+ghost use Rattle.yq_core.specs.Entries.{tree_step};
+ghost use Rattle.yq_eval.specs.PlaceView.{missing_of, path_of};
+ghost use Rattle.yq_semantics.specs.View.{program_step};
 
 use std::alloc::{AllocError, Global};
-use yq_matching::{Missing, NodePath, owned};
-use yq_program::Step;
+use yq_eval::{Missing, NodePath, owned};
+use yq_semantics::Step;
 
 /// The steps of a path.
-pub fn path_steps(alloc: Global, path: NodePath<'_>) -> Result<Vec<yq_nodes::Step>, AllocError>
+pub fn path_steps(alloc: Global, path: NodePath<'_>) -> Result<Vec<yq_core::Step>, AllocError>
     ensures { IfOk result (λ v. map tree_step v.items ≡ path_of path.entry) }
 {
     let mut steps = Vec::with_capacity(alloc, 1)?;

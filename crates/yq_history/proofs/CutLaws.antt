@@ -2,7 +2,7 @@
 use Rattle.std.proofs.Common.{◌≡◌, ◌≢◌, inl, inr, ℕ, List, Some, sym, ap, ◌∙◌, subst}
 use Rattle.std.specs.FinMap.{get, insert}
 use Rattle.yq_journal.specs.Json.{journal_text}
-use Rattle.yq_records.specs.State.{State}
+use Rattle.yq_journal.specs.State.{State}
 use Rattle.yq_store.specs.FileMap.{FileMap, get_written, get_other}
 use Rattle.yq_history.specs.Effects.{IsCutShort}
 use Rattle.yq_history.specs.Pair.{IsJournal, Writes}

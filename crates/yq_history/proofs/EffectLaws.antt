@@ -3,15 +3,15 @@ use Rattle.std.proofs.Common.{◌≡◌, ◌⊎◌, inl, ℕ, Bool, true, false,
 use Rattle.std.specs.Option.{option_or}
 use Rattle.std.proofs.lemmas.Option.{same_Some, none-some}
 use Rattle.std.specs.FinMap.{get}
-use Rattle.yq_records.specs.declared.fault.JournalError.{JournalError}
-use Rattle.yq_records.specs.declared.fault.JournalError.TheVariants as error
-use Rattle.yq_records.specs.declared.fault.JournalFault.{JournalFault}
-use Rattle.yq_records.specs.declared.fault.JournalFault.TheVariants as journal
-use Rattle.yq_records.specs.declared.moves.Move.{Move}
+use Rattle.yq_journal.specs.declared.fault.JournalError.{JournalError}
+use Rattle.yq_journal.specs.declared.fault.JournalError.TheVariants as error
+use Rattle.yq_journal.specs.declared.fault.JournalFault.{JournalFault}
+use Rattle.yq_journal.specs.declared.fault.JournalFault.TheVariants as journal
+use Rattle.yq_journal.specs.declared.moves.Move.{Move}
 use Rattle.yq_journal.specs.Good.{journal_beside}
-use Rattle.yq_records.specs.Record.{Record}
-use Rattle.yq_records.specs.Refusals.{ErrorIs, Reports, no_way, if_moves, way_fault, squash_fault}
-use Rattle.yq_records.specs.State.{State, journal_after, moved_text, with_move, settled_beside, squashed}
+use Rattle.yq_journal.specs.Record.{Record}
+use Rattle.yq_journal.specs.Refusals.{ErrorIs, Reports, no_way, if_moves, way_fault, squash_fault}
+use Rattle.yq_journal.specs.State.{State, journal_after, moved_text, with_move, settled_beside, squashed}
 use Rattle.yq_history.specs.declared.fault.Fault.{Fault}
 use Rattle.yq_history.specs.declared.fault.Fault.TheVariants as fault
 use Rattle.yq_store.specs.declared.store.FileReadError.TheVariants as read

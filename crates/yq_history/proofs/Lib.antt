@@ -4,3 +4,4 @@ pub mod MoveLaws
 pub mod PairLaws
 pub mod PrintLaws
 pub mod SquashLaws
+pub mod FaultLaws

@@ -5,18 +5,18 @@ use Rattle.std.specs.Str.{bytes_eq}
 use Rattle.std.specs.Option.{option_or}
 use Rattle.std.proofs.lemmas.Option.{same_Some, none-some}
 use Rattle.std.proofs.lemmas.Slice.Eq.{bytes_eq-Decides}
-use Rattle.yq_records.specs.declared.fault.JournalError.{JournalError}
-use Rattle.yq_records.specs.declared.fault.JournalError.TheVariants as error
-use Rattle.yq_records.specs.declared.fault.JournalFault.{JournalFault}
-use Rattle.yq_records.specs.declared.fault.JournalFault.TheVariants as journal
-use Rattle.yq_records.specs.declared.moves.Move.{Move}
-use Rattle.yq_records.specs.declared.moves.Move.TheVariants.{Edit, Undo, Redo}
+use Rattle.yq_journal.specs.declared.fault.JournalError.{JournalError}
+use Rattle.yq_journal.specs.declared.fault.JournalError.TheVariants as error
+use Rattle.yq_journal.specs.declared.fault.JournalFault.{JournalFault}
+use Rattle.yq_journal.specs.declared.fault.JournalFault.TheVariants as journal
+use Rattle.yq_journal.specs.declared.moves.Move.{Move}
+use Rattle.yq_journal.specs.declared.moves.Move.TheVariants.{Edit, Undo, Redo}
 use Rattle.yq_journal.specs.Good.{AtRest, Describes, after_move, journal_beside, step_fault}
 use Rattle.yq_journal.specs.Json.{journal_text}
-use Rattle.yq_records.specs.Record.{Record}
+use Rattle.yq_journal.specs.Record.{Record}
 use Rattle.yq_journal.specs.History.{History}
-use Rattle.yq_records.specs.Refusals.{ErrorIs, no_way, if_moves, way_fault}
-use Rattle.yq_records.specs.State.{State, without_move, is_reached, journal_after, moved_text, with_move, settled_beside}
+use Rattle.yq_journal.specs.Refusals.{ErrorIs, no_way, if_moves, way_fault}
+use Rattle.yq_journal.specs.State.{State, without_move, is_reached, journal_after, moved_text, with_move, settled_beside}
 use Rattle.yq_journal.proofs.GoodLaws.{describes, open_before, open_after, settled_rests, undo_fault, redo_fault}
 use Rattle.yq_journal.proofs.HistoryLaws.{move_moves}
 use Rattle.yq_history.specs.declared.fault.Fault.{Fault}

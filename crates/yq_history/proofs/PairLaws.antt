@@ -5,7 +5,7 @@ use Rattle.std.specs.FinMap.{get}
 use Rattle.std.specs.declared.alloc.Global.{Global}
 use Rattle.yq_journal.specs.Good.{Describes, journal_beside}
 use Rattle.yq_journal.specs.History.{History, text_at}
-use Rattle.yq_records.specs.State.{State, settled_beside}
+use Rattle.yq_journal.specs.State.{State, settled_beside}
 use Rattle.yq_journal.proofs.GoodLaws.{settles, settled_rests}
 use Rattle.yq_store.specs.FileMap.{FileMap}
 use Rattle.yq_history.specs.Pair.{GoodIn, Opens, PairAtRest}

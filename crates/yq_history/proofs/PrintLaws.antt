@@ -7,8 +7,8 @@ use Prim.Native.Nat.{zero}
 use Rattle.std.proofs.lemmas.List.{append-nil}
 use Rattle.yq_journal.specs.Good.{Leads, AtRest}
 use Rattle.yq_journal.specs.History.{History, Revision}
-use Rattle.yq_records.specs.Record.{Record}
-use Rattle.yq_records.specs.State.{State}
+use Rattle.yq_journal.specs.Record.{Record}
+use Rattle.yq_journal.specs.State.{State}
 use Rattle.yq_store.specs.FileMap.{FileMap}
 use Rattle.yq_history.specs.Pair.{Opens}
 use Rattle.yq_history.specs.Listing.{edit_line, listing_behind, history_lines, listing_output}

@@ -2,13 +2,13 @@
 use Rattle.std.proofs.Common.{◌≡◌, ◌≢◌, ◌⊎◌, inl, inr, ℕ, ◌≤◌, true, false, ◌&&◌, nat_le, List, Option, Some, None, Result, Ok, Err, OnOk, OnErr, IfErr, IsTrue, Bool, Vec, option_map, if◌then◌else◌, sym, ap, ◌∙◌, subst, refl, arith}
 use Rattle.std.proofs.lemmas.Bool.Decides.{nat_tests}
 use Rattle.std.specs.declared.alloc.Global.{Global}
-use Rattle.yq_records.specs.declared.fault.JournalError.{JournalError}
-use Rattle.yq_records.specs.declared.fault.JournalError.TheVariants as error
-use Rattle.yq_records.specs.declared.fault.JournalFault.TheVariants as journal
+use Rattle.yq_journal.specs.declared.fault.JournalError.{JournalError}
+use Rattle.yq_journal.specs.declared.fault.JournalError.TheVariants as error
+use Rattle.yq_journal.specs.declared.fault.JournalFault.TheVariants as journal
 use Rattle.yq_journal.specs.Good.{squash_refusal}
 use Rattle.yq_journal.specs.History.{History, after_squash}
-use Rattle.yq_records.specs.Refusals.{Reports, squash_fault}
-use Rattle.yq_records.specs.State.{State, squashed}
+use Rattle.yq_journal.specs.Refusals.{Reports, squash_fault}
+use Rattle.yq_journal.specs.State.{State, squashed}
 use Rattle.yq_journal.proofs.GoodLaws.{describes}
 use Rattle.yq_journal.proofs.SquashLaws.{squash_fault_of, squash_one, squash_rests}
 use Rattle.yq_history.specs.declared.fault.Fault.{Fault}

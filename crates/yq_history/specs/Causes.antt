@@ -1,7 +1,7 @@
 -- Why a command is refused (own).
 use Rattle.std.specs.Prelude.{◌≡◌, ◌↔◌, ℕ, false, List, Option, Some, None}
 use Rattle.std.specs.Str.{is_utf8}
-use Rattle.yq_flow_scalars.specs.declared.fault.FaultKind.TheVariants.{NotUtf8}
+use Rattle.yq_core.specs.declared.fault.FaultKind.TheVariants.{NotUtf8}
 use Rattle.yq_history.specs.declared.fault.Fault.{Fault}
 use Rattle.yq_history.specs.declared.fault.Fault.TheVariants.{Unreadable}
 

@@ -1,6 +1,6 @@
 -- Undo and redo as moves of a journal (own).
-use Rattle.yq_records.specs.declared.moves.Move.{Move}
-use Rattle.yq_records.specs.declared.moves.Move.TheVariants as move
+use Rattle.yq_journal.specs.declared.moves.Move.{Move}
+use Rattle.yq_journal.specs.declared.moves.Move.TheVariants as move
 use Rattle.yq_history.specs.declared.direction.Direction.{Direction}
 use Rattle.yq_history.specs.declared.direction.Direction.TheVariants.{Undo, Redo}
 

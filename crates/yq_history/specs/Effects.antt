@@ -1,11 +1,11 @@
 -- What is done to a file and its journal, by their bytes as they are, good for a history or not (own).
 use Rattle.std.specs.Prelude.{◌≡◌, ◌⊎◌, ◌==◌, ℕ, List, [], if◌then◌else◌, Option, Some, None, Result, Ok, Err, IsTrue, MatchBool}
 use Rattle.std.specs.FinMap.{get}
-use Rattle.yq_records.specs.declared.fault.JournalFault.{JournalFault}
-use Rattle.yq_records.specs.declared.moves.Move.{Move}
+use Rattle.yq_journal.specs.declared.fault.JournalFault.{JournalFault}
+use Rattle.yq_journal.specs.declared.moves.Move.{Move}
 use Rattle.yq_journal.specs.Good.{journal_beside}
-use Rattle.yq_records.specs.Refusals.{no_way, squash_fault}
-use Rattle.yq_records.specs.State.{State, journal_after, moved_text, with_move, settled_beside, squashed}
+use Rattle.yq_journal.specs.Refusals.{no_way, squash_fault}
+use Rattle.yq_journal.specs.State.{State, journal_after, moved_text, with_move, settled_beside, squashed}
 use Rattle.yq_history.specs.declared.fault.Fault.{Fault}
 use Rattle.yq_history.specs.declared.fault.Fault.TheVariants.{NotThere, DoesNotStand, BadJournal, Unsettled}
 use Rattle.yq_store.specs.FileMap.{FileMap}

@@ -5,7 +5,7 @@ use Rattle.std.specs.declared.alloc.Global.{Global}
 use Rattle.yq_journal.specs.Good.{Good, PairHolds, AtRest, journal_beside}
 use Rattle.yq_journal.specs.History.{History}
 use Rattle.yq_journal.specs.Json.{journal_in, journal_text}
-use Rattle.yq_records.specs.State.{State}
+use Rattle.yq_journal.specs.State.{State}
 use Rattle.yq_history.specs.declared.fault.Fault.{Fault}
 use Rattle.yq_history.specs.declared.fault.Fault.TheVariants.{NotThere}
 use Rattle.yq_store.specs.FileMap.{FileMap}

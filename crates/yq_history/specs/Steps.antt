@@ -1,7 +1,7 @@
 -- What an undo, a redo and a squash do to a history, and why they and its listing are refused (own).
 use Rattle.std.specs.Prelude.{ℕ, [], Option, Some, None, option_map}
-use Rattle.yq_records.specs.declared.fault.JournalFault.{JournalFault}
-use Rattle.yq_records.specs.declared.moves.Move.{Move}
+use Rattle.yq_journal.specs.declared.fault.JournalFault.{JournalFault}
+use Rattle.yq_journal.specs.declared.moves.Move.{Move}
 use Rattle.yq_journal.specs.Good.{after_move, squash_refusal, step_fault}
 use Rattle.yq_journal.specs.History.{History, after_squash}
 use Rattle.yq_history.specs.declared.fault.Fault.TheVariants.{NotThere}

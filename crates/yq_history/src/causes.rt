@@ -2,8 +2,8 @@
 
 use crate::fault::Fault;
 use std::alloc::{AllocError, AllocFailed};
-use yq_flow_scalars::{ReadError, ReadFault};
-use yq_records::{JournalError, JournalFault};
+use yq_core::{ReadError, ReadFault};
+use yq_journal::{JournalError, JournalFault};
 use yq_store::{FileReadError, FileWriteError};
 
 impl From<AllocError> for Fault {

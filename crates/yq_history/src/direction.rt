@@ -1,8 +1,7 @@
 //! Undo and redo.
 
 use std::alloc::Global;
-use yq_journal::Journal;
-use yq_records::{JournalError, Move};
+use yq_journal::{Journal, JournalError, Move};
 
 /// A step along the edits that were made.
 #[derive(Clone, Copy, Debug, PartialEq, Eq)]
@@ -13,8 +12,8 @@ pub enum Direction {
 
 impl Direction {
     ghost use Rattle.std.specs.Prelude.{◌≡◌, Some, None, IfOk, IfErr, OnOk, OnErr};
-    ghost use Rattle.yq_records.specs.Refusals.{ErrorIs, move_fault};
-    ghost use Rattle.yq_records.specs.State.{journal_after, moved_text};
+    ghost use Rattle.yq_journal.specs.Refusals.{ErrorIs, move_fault};
+    ghost use Rattle.yq_journal.specs.State.{journal_after, moved_text};
     ghost use Rattle.yq_history.specs.Directions.{walk_move};
 
     /// The journal's move.

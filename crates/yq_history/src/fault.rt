@@ -2,8 +2,8 @@
 
 use std::error::Error;
 use std::fmt::{self, Debug, Display, Formatter, Write};
-use yq_flow_scalars::{FaultKind, ReadFault};
-use yq_line::UsageCause;
+use yq_args::UsageCause;
+use yq_core::{FaultKind, ReadFault};
 
 /// Why a command is refused. Its text is the line that the program prints.
 #[derive(Clone, Copy, PartialEq, Eq)]

@@ -3,7 +3,7 @@ ghost use Rattle.std.specs.Prelude.{◌≡◌, ◌≢◌, ◌⊎◌, ℕ, List, 
 ghost use Rattle.std.specs.FinMap as map;
 ghost use Rattle.yq_journal.specs.Good.{journal_beside};
 ghost use Rattle.yq_journal.specs.History.{History};
-ghost use Rattle.yq_records.specs.State.{State};
+ghost use Rattle.yq_journal.specs.State.{State};
 ghost use Rattle.yq_history.specs.Effects.{Effect, from_names, refuses};
 ghost use Rattle.yq_history.specs.Faults.{is_outer_fault, is_output, failures_after};
 ghost use Rattle.yq_history.specs.Pair.{GoodIn, Opens, Writes};

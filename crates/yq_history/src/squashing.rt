@@ -2,8 +2,8 @@
 ghost use Rattle.std.specs.Prelude.{◌≡◌, ◌≢◌, ℕ, List, Option, Some, Err, IfErr, IsTrue, IsNone, false};
 ghost use Rattle.std.specs.FinMap as map;
 ghost use Rattle.yq_journal.specs.History.{History};
-ghost use Rattle.yq_records.specs.Refusals.{squash_fault};
-ghost use Rattle.yq_records.specs.declared.fault.JournalFault.{JournalFault};
+ghost use Rattle.yq_journal.specs.Refusals.{squash_fault};
+ghost use Rattle.yq_journal.specs.declared.fault.JournalFault.{JournalFault};
 ghost use Rattle.yq_history.specs.Effects.{Works, from_names, squash_effect};
 ghost use Rattle.yq_history.specs.Faults.{is_outer_fault, is_output, failures_after, of_fault};
 ghost use Rattle.yq_history.specs.Pair.{Arrives, GoodIn, PairAtRest};

@@ -1,10 +1,10 @@
 //! Where a text is at fault.
 ghost use Rattle.std.specs.Prelude.{◌≢◌};
-ghost use Rattle.yq_flow_scalars.specs.declared.fault.FaultKind.TheVariants.{NotUtf8};
+ghost use Rattle.yq_core.specs.declared.fault.FaultKind.TheVariants.{NotUtf8};
 
 use std::num::NonZeroU64;
-use yq_flow_scalars::text::{behind_spaces, spaces_len};
-use yq_flow_scalars::{FaultKind, ReadFault};
+use yq_core::text::{behind_spaces, spaces_len};
+use yq_core::{FaultKind, ReadFault};
 
 /// A fault that begins where this rest of the whole text does.
 pub fn fault(kind: FaultKind, whole: &str, rest: &str) -> ReadFault

@@ -1,16 +1,15 @@
 //! What stands behind the items of a sequence.
 ghost use Rattle.std.specs.Prelude.{◌≡◌, ◌≢◌, ◌≤◌, IfErr, IfOk, false, length};
-ghost use Rattle.yq_flow_scalars.specs.Answers.{ReadsAs};
-ghost use Rattle.yq_flow_scalars.specs.declared.fault.FaultKind.TheVariants.{NotUtf8};
+ghost use Rattle.yq_core.specs.Answers.{ReadsAs};
+ghost use Rattle.yq_core.specs.declared.fault.FaultKind.TheVariants.{NotUtf8};
 ghost use Rattle.yq_inline.specs.Forms as spec;
-ghost use Rattle.yq_nodes.specs.Places.{bare_placed};
-ghost use Rattle.yq_nodes.specs.View.{inline_view};
+ghost use Rattle.yq_core.specs.Places.{bare_placed};
+ghost use Rattle.yq_core.specs.View.{inline_view};
 
 use crate::fault::flow_fault;
 use crate::pieces::{no_node, read_sep};
 use crate::reading::is_bare;
-use yq_flow_scalars::{FaultKind, ReadFault};
-use yq_nodes::Inline;
+use yq_core::{FaultKind, Inline, ReadFault};
 
 /// What follows an item and the comma behind it, if there is one; the item, which is not to be nothing,
 /// is in front of `text`, and behind the `[` stood `open`.

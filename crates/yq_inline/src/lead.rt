@@ -1,17 +1,16 @@
 //! The gap between two tokens, and that behind an opening bracket, read.
 ghost use Rattle.std.specs.Prelude.{◌≢◌, ◌≤◌, IfErr, IfOk, length};
-ghost use Rattle.yq_flow_scalars.specs.Answers.{ReadsAs};
-ghost use Rattle.yq_flow_scalars.specs.declared.fault.FaultKind.TheVariants.{NotUtf8};
+ghost use Rattle.yq_core.specs.Answers.{ReadsAs};
+ghost use Rattle.yq_core.specs.declared.fault.FaultKind.TheVariants.{NotUtf8};
 ghost use Rattle.yq_inline.specs.Forms.{after_bracket};
-ghost use Rattle.yq_nodes.specs.Reading as reading;
+ghost use Rattle.yq_core.specs.Reading as reading;
 
 use crate::fault::fault;
-use yq_flow_scalars::text::is_marker;
-use yq_flow_scalars::{FaultKind, ReadFault};
-use yq_nodes::gap_len;
+use yq_core::text::is_marker;
+use yq_core::{FaultKind, ReadFault, gap_len};
 
 /// The gap in front, and what follows it.
-#[tactic(auto, unfolding(yq_nodes::specs::Reading::read_gap))]
+#[tactic(auto, unfolding(yq_core::specs::Reading::read_gap))]
 pub fn read_gap<'t>(whole: &str, text: &'t str) -> Result<(&'t str, &'t str), ReadFault>
     ensures read { ReadsAs (λ x. (x.0.now, x.1.now)) result (reading.read_gap text.now) }
     ensures shorter { IfOk result (λ x. length x.1.now ≤ length text.now) }

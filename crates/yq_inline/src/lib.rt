@@ -14,5 +14,4 @@ pub use laws::{entry_places, one_inline, one_tree};
 pub use lead::read_gap;
 pub use read::read_inline;
 pub use scalar::style_of;
-pub use yq_flow_scalars::ReadFault;
-pub use yq_nodes::{DEPTH_LIMIT, Entry, Form, Inline, Step, Value, first_is, gap_len};
+pub use yq_core::{DEPTH_LIMIT, Entry, Form, Inline, ReadFault, Step, Value, first_is, gap_len};

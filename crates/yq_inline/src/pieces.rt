@@ -1,21 +1,20 @@
 //! The pieces of inline nodes, read one behind the other.
 ghost use Rattle.std.specs.Prelude.{◌≡◌, ◌≢◌, ◌<◌, ◌≤◌, IfErr, IfOk, length, true};
-ghost use Rattle.yq_flow_scalars.specs.Answers.{ReadsAs};
-ghost use Rattle.yq_flow_scalars.specs.Quoted.{IsQuotedText};
-ghost use Rattle.yq_flow_scalars.specs.declared.fault.FaultKind.TheVariants.{NotUtf8};
-ghost use Rattle.yq_nodes.specs.Nodes as nodes;
-ghost use Rattle.yq_nodes.specs.PlacedReading as reading;
-ghost use Rattle.yq_nodes.specs.Reading as spec;
-ghost use Rattle.yq_nodes.specs.Scalars as scalars;
+ghost use Rattle.yq_core.specs.Answers.{ReadsAs};
+ghost use Rattle.yq_core.specs.Quoted.{IsQuotedText};
+ghost use Rattle.yq_core.specs.declared.fault.FaultKind.TheVariants.{NotUtf8};
+ghost use Rattle.yq_core.specs.Nodes as nodes;
+ghost use Rattle.yq_core.specs.PlacedReading as reading;
+ghost use Rattle.yq_core.specs.Reading as spec;
+ghost use Rattle.yq_core.specs.Scalars as scalars;
 ghost use Rattle.std.specs.List.{prefix_len};
 
 use crate::fault::{fault, flow_fault};
 use crate::lead::read_gap;
-use yq_flow_reading::plain::{begins_plain, holds_break, is_flow_indicator, split_plain};
-use yq_flow_reading::quoted::split_quoted;
-use yq_flow_scalars::text::{is_white, separates, split_white};
-use yq_flow_scalars::{FaultKind, ReadFault};
-use yq_nodes::{first_is, is_quoted, strip};
+use yq_core::text::{is_white, separates, split_white};
+use yq_core::{FaultKind, ReadFault, first_is, is_quoted, strip};
+use yq_scalar_reader::plain::{begins_plain, holds_break, is_flow_indicator, split_plain};
+use yq_scalar_reader::quoted::split_quoted;
 
 /// Whether a name holds this byte.
 fn in_name(b: u8) -> bool
@@ -32,7 +31,7 @@ pub fn name_len(text: &[u8]) -> usize
 }
 
 /// The name of an anchor or alias in front, and what follows it.
-#[tactic(auto, unfolding(yq_nodes::specs::Reading::name_at), using(yq_flow_scalars::proofs::Upto::upto_unless, yq_nodes::proofs::Bounds::name_none))]
+#[tactic(auto, unfolding(yq_core::specs::Reading::name_at), using(yq_core::proofs::Upto::upto_unless, yq_core::proofs::Bounds::name_none))]
 pub fn read_name<'t>(whole: &str, text: &'t str) -> Result<(&'t str, &'t str), ReadFault>
     ensures read { ReadsAs (λ x. (x.0.now, x.1.now)) result (spec.name_at text.now) }
     ensures shorter { IfOk result (λ x. length x.1.now ≤ length text.now) }
@@ -105,7 +104,7 @@ fn read_quoted<'t>(
 
 /// The scalar in front, and what follows it. A further line of it begins with so many spaces at least;
 /// without a number it has one line.
-#[tactic(auto, unfolding(yq_nodes::specs::Reading::read_scalar, yq_flow_scalars::specs::Plain::plain_at), using(yq_nodes::proofs::Bounds::plain_unquoted))]
+#[tactic(auto, unfolding(yq_core::specs::Reading::read_scalar, yq_core::specs::Plain::plain_at), using(yq_core::proofs::Bounds::plain_unquoted))]
 pub fn read_scalar<'t>(
     flow: bool,
     spaces: Option<usize>,
@@ -140,7 +139,7 @@ fn read_apart<'t>(flow: bool, whole: &str, text: &'t str) -> Result<(&'t str, &'
 }
 
 /// The same, if a content begins behind it.
-#[tactic(auto, unfolding(yq_nodes::specs::Reading::lead_at))]
+#[tactic(auto, unfolding(yq_core::specs::Reading::lead_at))]
 pub fn read_lead<'t>(
     flow: bool,
     whole: &str,
@@ -160,7 +159,7 @@ pub fn read_lead<'t>(
 }
 
 /// The gap behind a `:`, if a node begins behind it.
-#[tactic(auto, unfolding(yq_nodes::specs::Reading::lead_at))]
+#[tactic(auto, unfolding(yq_core::specs::Reading::lead_at))]
 fn read_value_lead<'t>(whole: &str, text: &'t str) -> Result<(&'t str, &'t str), ReadFault>
     ensures read { ReadsAs (λ x. (x.0.now, x.1.now)) result
         (spec.lead_at true (nodes.begins_node true) text.now) }
@@ -183,7 +182,7 @@ fn ends_key(piece: &str, text: &[u8]) -> bool
 }
 
 /// What follows the `:` of a key; behind the mapping's `{` stood `open`.
-#[tactic(auto, unfolding(yq_nodes::specs::Reading::after_colon))]
+#[tactic(auto, unfolding(yq_core::specs::Reading::after_colon))]
 fn read_colon<'t>(piece: &str, whole: &str, open: &str, text: &'t str) -> Result<&'t str, ReadFault>
     ensures read { ReadsAs (λ x. x.now) result (spec.after_colon piece.now text.now) }
     ensures shorter { IfOk result (λ x. length x.now < length text.now) }
@@ -197,7 +196,7 @@ fn read_colon<'t>(piece: &str, whole: &str, open: &str, text: &'t str) -> Result
 
 /// What follows an item and the comma behind it, if there is one; behind the collection's bracket stood
 /// `open`.
-#[tactic(auto, unfolding(yq_nodes::specs::Reading::sep_at, yq_nodes::specs::Reading::sep_behind))]
+#[tactic(auto, unfolding(yq_core::specs::Reading::sep_at, yq_core::specs::Reading::sep_behind))]
 pub fn read_sep<'t>(close: u8, whole: &str, open: &str, text: &'t str) -> Result<&'t str, ReadFault>
     ensures read { ReadsAs (λ x. x.now) result (reading.past_sep close text.now) }
     ensures shorter { IfOk result (λ x. length x.now ≤ length text.now) }
@@ -218,7 +217,7 @@ pub fn read_sep<'t>(close: u8, whole: &str, open: &str, text: &'t str) -> Result
 
 /// A key with what quotes it, and what follows its `:` and the gap behind it; behind the mapping's `{`
 /// stood `open`.
-#[tactic(auto, unfolding(yq_nodes::specs::Reading::read_flow_key))]
+#[tactic(auto, unfolding(yq_core::specs::Reading::read_flow_key))]
 pub fn read_key<'t>(whole: &str, open: &str, text: &'t str) -> Result<(&'t str, &'t str), ReadFault>
     ensures read { ReadsAs (λ x. (x.0.now, x.1.now)) result (reading.split_key text.now) }
     ensures quoted { IfOk result (λ x. scalars.is_quoted x.0.now ≡ true → IsQuotedText x.0.now) }

@@ -1,20 +1,19 @@
 //! The inline node at an offset of a text.
 ghost use Rattle.std.specs.Prelude.{◌≡◌, ◌⊎◌, IfErr, IfOk, Some};
 ghost use Rattle.std.specs.Str.{IsCharBoundary};
-ghost use Rattle.yq_flow_scalars.specs.Answers.{Gives, IsOfText};
-ghost use Rattle.yq_flow_scalars.specs.declared.style.Place.TheVariants.{Block, Flow};
-ghost use Rattle.yq_nodes.specs.Inline as spec;
-ghost use Rattle.yq_nodes.specs.Places.{Placed};
-ghost use Rattle.yq_nodes.specs.Spans.{HasSpans, IsNested};
-ghost use Rattle.yq_nodes.specs.View.{inline_view};
+ghost use Rattle.yq_core.specs.Answers.{Gives, IsOfText};
+ghost use Rattle.yq_core.specs.declared.style.Place.TheVariants.{Block, Flow};
+ghost use Rattle.yq_core.specs.Inline as spec;
+ghost use Rattle.yq_core.specs.Places.{Placed};
+ghost use Rattle.yq_core.specs.Spans.{HasSpans, IsNested};
+ghost use Rattle.yq_core.specs.View.{inline_view};
 
 use crate::fault::fault;
 use crate::pieces::no_node;
 use crate::reading::{is_bare, read_node};
 use std::alloc::Global;
-use yq_flow_reading::in_flow;
-use yq_flow_scalars::{FaultKind, Place, ReadError, further_spaces};
-use yq_nodes::{DEPTH_LIMIT, Inline};
+use yq_core::{DEPTH_LIMIT, FaultKind, Inline, Place, ReadError, further_spaces};
+use yq_scalar_reader::in_flow;
 
 fn inline_at<'t>(
     alloc: Global,
@@ -51,7 +50,7 @@ fn inline_at<'t>(
 /// The node is something, if only an anchor. Outside flow collections what an anchor stands before is on
 /// the anchor's line. A node with which more than 64 collections would be
 /// nested is refused, before it is read.
-#[tactic(auto, using(yq_nodes::proofs::InlineLaws::inline_laws, yq_nodes::proofs::SpanLaws::spans_by, yq_nodes::proofs::NestedLaws::nested_by))]
+#[tactic(auto, using(yq_core::proofs::InlineLaws::inline_laws, yq_core::proofs::SpanLaws::spans_by, yq_core::proofs::NestedLaws::nested_by))]
 pub fn read_inline<'t>(
     alloc: Global,
     text: &'t str,

@@ -1,11 +1,11 @@
 //! Inline nodes, read from left to right.
 ghost use Rattle.std.specs.Prelude.{◌≡◌, ◌<◌, ◌≤◌, IfErr, IfOk, Some, length, true};
 ghost use Rattle.std.specs.String.{string_bytes};
-ghost use Rattle.yq_flow_scalars.specs.Answers.{Gives, IsOfText};
+ghost use Rattle.yq_core.specs.Answers.{Gives, IsOfText};
 ghost use Rattle.yq_inline.specs.Forms.{placed_form};
-ghost use Rattle.yq_nodes.specs.Places as spec;
-ghost use Rattle.yq_nodes.specs.PlacedReading as reading;
-ghost use Rattle.yq_nodes.specs.View.{entries_end, form_view, items_end, inline_view};
+ghost use Rattle.yq_core.specs.Places as spec;
+ghost use Rattle.yq_core.specs.PlacedReading as reading;
+ghost use Rattle.yq_core.specs.View.{entries_end, form_view, items_end, inline_view};
 
 use crate::fault::fault;
 use crate::item::read_behind;
@@ -13,8 +13,7 @@ use crate::lead::read_open;
 use crate::pieces::{begins_content, read_lead, read_name, read_sep};
 use crate::scalar::{read_entry_key, read_text};
 use std::alloc::Global;
-use yq_flow_scalars::{FaultKind, Piece, ReadError};
-use yq_nodes::{Form, Inline, strip};
+use yq_core::{FaultKind, Form, Inline, Piece, ReadError, strip};
 
 /// A node without an anchor between two rests of the whole text.
 fn placed_between<'t>(whole: &str, text: &str, rest: &str, form: Form<'t>) -> Inline<'t>
@@ -233,7 +232,7 @@ fn read_item<'t>(
 
 /// The items in front, and what follows their `]`; behind their `[` stood `open`.
 #[cycle(nodes)]
-#[tactic(auto, using(yq_nodes::proofs::Steps::items_more, yq_nodes::proofs::Steps::items_end))]
+#[tactic(auto, using(yq_core::proofs::Steps::items_more, yq_core::proofs::Steps::items_end))]
 fn read_items<'t>(
     alloc: Global,
     whole: &'t str,
@@ -283,7 +282,7 @@ fn read_entry<'t>(
 
 /// The entries in front, and what follows their `}`; behind their `{` stood `open`.
 #[cycle(nodes)]
-#[tactic(auto, using(yq_nodes::proofs::Steps::entries_more, yq_nodes::proofs::Steps::items_end))]
+#[tactic(auto, using(yq_core::proofs::Steps::entries_more, yq_core::proofs::Steps::items_end))]
 fn read_entries<'t>(
     alloc: Global,
     whole: &'t str,

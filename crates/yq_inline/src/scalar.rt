@@ -1,18 +1,17 @@
 //! Scalars and keys with what they stand for and their pieces.
 ghost use Rattle.std.specs.Prelude.{◌≡◌, ◌<◌, ◌≤◌, IfErr, IfOk, length, string_bytes, true};
-ghost use Rattle.yq_flow_scalars.specs.Answers.{Gives, IsOfText};
-ghost use Rattle.yq_flow_scalars.specs.Quoted.{IsQuotedText};
-ghost use Rattle.yq_flow_scalars.specs.Written.{IsOneLine};
-ghost use Rattle.yq_nodes.specs.PlacedReading as reading;
-ghost use Rattle.yq_nodes.specs.Scalars as scalars;
-ghost use Rattle.yq_nodes.specs.View.{form_view};
+ghost use Rattle.yq_core.specs.Answers.{Gives, IsOfText};
+ghost use Rattle.yq_core.specs.Quoted.{IsQuotedText};
+ghost use Rattle.yq_core.specs.Written.{IsOneLine};
+ghost use Rattle.yq_core.specs.PlacedReading as reading;
+ghost use Rattle.yq_core.specs.Scalars as scalars;
+ghost use Rattle.yq_core.specs.View.{form_view};
 
 use crate::pieces::{read_key, read_scalar};
 use std::alloc::{AllocError, Global};
-use yq_flow_reading::folding::{plain_content, quoted_content};
-use yq_flow_scalars::piece::inline_piece;
-use yq_flow_scalars::{Piece, ReadError, Scalar, Style};
-use yq_nodes::{Form, is_quoted};
+use yq_core::piece::inline_piece;
+use yq_core::{Form, Piece, ReadError, Scalar, Style, is_quoted};
+use yq_scalar_reader::folding::{plain_content, quoted_content};
 
 /// The style of a plain or quoted scalar, as it is written (YAML 1.2.2, 7.3).
 pub fn style_of(piece: &[u8]) -> Style
@@ -27,7 +26,7 @@ pub fn style_of(piece: &[u8]) -> Style
 }
 
 /// The text that a scalar, as it is written, stands for.
-#[tactic(auto, unfolding(yq_nodes::specs::Scalars::scalar_content))]
+#[tactic(auto, unfolding(yq_core::specs::Scalars::scalar_content))]
 fn content_of(alloc: Global, piece: &str) -> Result<String, AllocError>
     requires { scalars.is_quoted piece.now ≡ true → IsQuotedText piece.now }
     ensures { IfOk result (λ s. string_bytes s ≡ scalars.scalar_content piece.now) }
@@ -40,7 +39,7 @@ fn content_of(alloc: Global, piece: &str) -> Result<String, AllocError>
 }
 
 /// The scalar that it stands for.
-#[tactic(auto, unfolding(yq_nodes::specs::Scalars::scalar_of))]
+#[tactic(auto, unfolding(yq_core::specs::Scalars::scalar_of))]
 fn scalar_of(alloc: Global, piece: &str) -> Result<Scalar, AllocError>
     requires { scalars.is_quoted piece.now ≡ true → IsQuotedText piece.now }
     ensures { IfOk result (λ s. s ≡ scalars.scalar_of piece.now) }

@@ -7,17 +7,17 @@ use Rattle.std.proofs.lemmas.Bool.Decides.{nat_tests}
 use Rattle.std.proofs.lemmas.Option.{same_Some}
 use Rattle.std.proofs.lemmas.Slice.Eq.{bytes_eq-Decides}
 use Rattle.std.specs.Option.{option_or}
-use Rattle.yq_records.specs.declared.fault.JournalFault.{JournalFault}
-use Rattle.yq_records.specs.declared.fault.JournalFault.TheVariants as fault
-use Rattle.yq_records.specs.declared.moves.Move.{Move}
-use Rattle.yq_records.specs.declared.moves.Move.TheVariants.{Edit, Undo, Redo}
+use Rattle.yq_journal.specs.declared.fault.JournalFault.{JournalFault}
+use Rattle.yq_journal.specs.declared.fault.JournalFault.TheVariants as fault
+use Rattle.yq_journal.specs.declared.moves.Move.{Move}
+use Rattle.yq_journal.specs.declared.moves.Move.TheVariants.{Edit, Undo, Redo}
 use Rattle.yq_journal.specs.Good.{AtRest, Underway, DescribesPending, Describes, Rests, step_fault, after_move}
 use Rattle.yq_journal.specs.History.{History, text_after_edits}
-use Rattle.yq_records.specs.Record.{Record, done, undone}
-use Rattle.yq_records.specs.Refusals.{no_way, if_moves, way_fault}
-use Rattle.yq_records.specs.State.{State, Pending, moved_text, journal_after, without_move, with_move, settled_beside, settled_pending, is_reached}
+use Rattle.yq_journal.specs.Record.{Record, done, undone}
+use Rattle.yq_journal.specs.Refusals.{no_way, if_moves, way_fault}
+use Rattle.yq_journal.specs.State.{State, Pending, moved_text, journal_after, without_move, with_move, settled_beside, settled_pending, is_reached}
 use Rattle.yq_journal.proofs.HistoryLaws.{same_length, leads_at, move_moves}
-use Rattle.yq_records.proofs.RecordLaws.{undone_after_done}
+use Rattle.yq_journal.proofs.RecordLaws.{undone_after_done}
 
 pub bytes_same : (t : List ℕ) → bytes_eq t t ≡ true
 bytes_same t = (bytes_eq-Decides t t).1 refl

@@ -5,13 +5,13 @@ use Prim.Native.Nat.{zero}
 use Rattle.std.proofs.lemmas.Bool.Decides.{nat_tests}
 use Rattle.std.proofs.lemmas.Grind.{common_steps}
 use Rattle.std.proofs.lemmas.Option.{option_and_then_some, slice_get_within, same_Some}
-use Rattle.yq_records.specs.declared.moves.Move.{Move}
-use Rattle.yq_records.specs.declared.moves.Move.TheVariants.{Edit, Undo, Redo}
+use Rattle.yq_journal.specs.declared.moves.Move.{Move}
+use Rattle.yq_journal.specs.declared.moves.Move.TheVariants.{Edit, Undo, Redo}
 use Rattle.yq_journal.specs.Good.{Leads, AtRest, after_move}
 use Rattle.yq_journal.specs.History.{History, Revision, text_after_edits, text_at, after_edit, after_undo, after_redo}
-use Rattle.yq_records.specs.Record.{Record, done, undone}
-use Rattle.yq_records.specs.State.{State, moved_text, journal_after}
-use Rattle.yq_records.proofs.RecordLaws.{undone_after_done}
+use Rattle.yq_journal.specs.Record.{Record, done, undone}
+use Rattle.yq_journal.specs.State.{State, moved_text, journal_after}
+use Rattle.yq_journal.proofs.RecordLaws.{undone_after_done}
 
 pub same_length : (t : List ℕ) (rs : List Record) (es : List Revision) → Leads t rs es → length rs ≡ length es
 same_length t [] [] l = refl

@@ -3,19 +3,19 @@ use Rattle.std.proofs.Common.{◌≡◌, ℕ, ◌≤◌, ◌<◌, List, [], ◌�
 use Rattle.std.specs.Prelude.{◌==◌, ◌&&◌, Bool, false, slice_get, take}
 use Prim.Native.Nat.{zero}
 use Rattle.std.proofs.lemmas.Bool.{eqb-true, and_parts}
-use Rattle.yq_script.proofs.SpliceLaws.{lengths_done-append}
+use Rattle.yq_text.proofs.SpliceLaws.{lengths_done-append}
 use Rattle.std.specs.Prelude.{◌+◌, ◌-◌, drop, if◌then◌else◌, nat_le}
 use Rattle.std.specs.Cmp.Derive.{both_true}
 use Rattle.std.proofs.Common.{sym, get_or, take_all}
 use Rattle.std.proofs.lemmas.Bool.{le-leb}
 use Rattle.std.proofs.lemmas.List.{drop-take}
-use Rattle.yq_records.specs.declared.fault.JournalError.{JournalError}
-use Rattle.yq_records.specs.declared.fault.JournalError.TheVariants as error
-use Rattle.yq_records.specs.declared.fault.JournalFault.{JournalFault}
-use Rattle.yq_records.specs.declared.fault.JournalFault.TheVariants.{BadCount}
-use Rattle.yq_records.specs.Refusals.{Reports, count_fault}
-use Rattle.yq_records.specs.State.{last_done}
-use Rattle.yq_records.specs.Record.{Record, IsRecord, join, records_joined, meet}
+use Rattle.yq_journal.specs.declared.fault.JournalError.{JournalError}
+use Rattle.yq_journal.specs.declared.fault.JournalError.TheVariants as error
+use Rattle.yq_journal.specs.declared.fault.JournalFault.{JournalFault}
+use Rattle.yq_journal.specs.declared.fault.JournalFault.TheVariants.{BadCount}
+use Rattle.yq_journal.specs.Refusals.{Reports, count_fault}
+use Rattle.yq_journal.specs.State.{last_done}
+use Rattle.yq_journal.specs.Record.{Record, IsRecord, join, records_joined, meet}
 
 -- fewer than two records meet
 pub short_meet : (rs : List Record) → length rs < 2 → meet rs ≡ true

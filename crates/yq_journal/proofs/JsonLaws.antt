@@ -14,9 +14,9 @@ use Rattle.serde_json.specs.Read.{read}
 use Rattle.serde_json.specs.View.{view, items_of, items_view, members_view}
 use Rattle.serde_json.specs.declared.value.Value.{Value}
 use Rattle.yq_journal.specs.Json.{count_members, counts, and_more, each_of, can_move, is_sound_journal, record_of, pending_of, state_from, state_of, journal_of, journal_object}
-use Rattle.yq_records.specs.Record.{Record}
-use Rattle.yq_records.specs.Refusals.{most_records, CanMove, IsSound, way_fault}
-use Rattle.yq_records.specs.State.{Pending, State, moved_text, is_reached}
+use Rattle.yq_journal.specs.Record.{Record}
+use Rattle.yq_journal.specs.Refusals.{most_records, CanMove, IsSound, way_fault}
+use Rattle.yq_journal.specs.State.{Pending, State, moved_text, is_reached}
 
 count_members-members_view : (es : List (String Global × Value)) → count_members (members_view es) ≡ length es
 count_members-members_view [] = refl

@@ -1,3 +1,5 @@
+pub mod GapLaws
+pub mod RecordLaws
 pub mod GoodLaws
 pub mod HistoryLaws
 pub mod JoinLaws

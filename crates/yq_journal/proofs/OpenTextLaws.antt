@@ -26,12 +26,12 @@ use Rattle.serde_json.specs.Read.{read, max_depth, of_json}
 use Rattle.serde_json.specs.Written.{IsInOrder, compact_text, has_float, outline, items_outline, members_outline}
 use Rattle.serde_json.proofs.Numbers.{number_of-decimal}
 use Rattle.serde_json.proofs.Texts.{tokens_from_order, print-outline}
-use Rattle.yq_records.specs.declared.moves.Move.{Move}
-use Rattle.yq_records.specs.declared.moves.Move.TheVariants.{Edit}
+use Rattle.yq_journal.specs.declared.moves.Move.{Move}
+use Rattle.yq_journal.specs.declared.moves.Move.TheVariants.{Edit}
 use Rattle.yq_journal.specs.Json.{each_of, bytes_data, journal_data, journal_in, journal_object, journal_of, journal_text, kind_text, list_data, move_data, move_of, open_from, open_move_of, pending_data, pending_of, record_data, record_of}
 use Rattle.yq_journal.specs.OpenText.{IsWrittenJson, journal_text_before, journal_text_behind}
-use Rattle.yq_records.specs.Refusals.{IsSound}
-use Rattle.yq_records.specs.State.{Pending, State}
+use Rattle.yq_journal.specs.Refusals.{IsSound}
+use Rattle.yq_journal.specs.State.{Pending, State}
 use Rattle.yq_journal.proofs.JsonLaws.{journal_reads}
 use Rattle.yq_journal.proofs.LineFeed.{tokens-line_feed}
 use Rattle.yq_journal.proofs.WriteLaws.{shallow}

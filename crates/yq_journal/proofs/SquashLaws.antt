@@ -5,14 +5,14 @@ use Rattle.std.specs.Cmp.Derive.{both_true}
 use Prim.Native.Nat.{zero}
 use Rattle.std.proofs.Math.Bool.{and-true}
 use Rattle.std.proofs.lemmas.List.{length-take-le, take-append-drop, take-take}
-use Rattle.yq_script.proofs.SpliceLaws.{all_done-append}
-use Rattle.yq_records.specs.declared.fault.JournalFault.TheVariants.{BadCount, Unsettled}
+use Rattle.yq_text.proofs.SpliceLaws.{all_done-append}
+use Rattle.yq_journal.specs.declared.fault.JournalFault.TheVariants.{BadCount, Unsettled}
 use Rattle.yq_journal.specs.Good.{Leads, AtRest, squash_refusal}
 use Rattle.yq_journal.specs.History.{History, Revision, text_after_edits, text_at, latest, latest_of, after_squash}
-use Rattle.yq_records.specs.Record.{Record, done, join, records_joined, meet}
-use Rattle.yq_records.specs.Refusals.{squash_fault}
-use Rattle.yq_records.specs.State.{State, joined_of, last_done, squashed}
-use Rattle.yq_records.proofs.RecordLaws.{stands_of, of_stands}
+use Rattle.yq_journal.specs.Record.{Record, done, join, records_joined, meet}
+use Rattle.yq_journal.specs.Refusals.{squash_fault}
+use Rattle.yq_journal.specs.State.{State, joined_of, last_done, squashed}
+use Rattle.yq_journal.proofs.RecordLaws.{stands_of, of_stands}
 
 -- one record done after the other is their join done
 done_join : (r q : Record) (b c d : List ℕ) → done r b ≡ Some c → done q c ≡ Some d → done (join r q) b ≡ Some d

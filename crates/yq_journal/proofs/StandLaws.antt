@@ -7,12 +7,12 @@ use Rattle.std.proofs.lemmas.Bool.{and_parts, le-leb, leb-true, lt-ltb, ltb-true
 use Rattle.std.proofs.lemmas.Bool.Decides.{nat_tests}
 use Rattle.std.proofs.lemmas.List.{take-append-drop, length-take-le}
 use Rattle.std.proofs.lemmas.Option.{cond_some, none-some, option_and_then_some, same_Some}
-use Rattle.yq_script.specs.Splice.{Splice, swapped, change_done, all_done, flipped, length_done, lengths_done}
-use Rattle.yq_script.proofs.PlaceInList.{split_at, take_next}
-use Rattle.yq_script.proofs.SpliceLaws.{done-from_exchanges, exchanges-from_done, all_done-append, lengths_done-append}
-use Rattle.yq_records.specs.Turned.{turned_splices}
-use Rattle.yq_records.proofs.GapLaws.{none_done}
-use Rattle.yq_records.specs.Record.{if_length}
+use Rattle.yq_text.specs.Splice.{Splice, swapped, change_done, all_done, flipped, length_done, lengths_done}
+use Rattle.yq_text.proofs.PlaceInList.{split_at, take_next}
+use Rattle.yq_text.proofs.SpliceLaws.{done-from_exchanges, exchanges-from_done, all_done-append, lengths_done-append}
+use Rattle.yq_journal.specs.Turned.{turned_splices}
+use Rattle.yq_journal.proofs.GapLaws.{none_done}
+use Rattle.yq_journal.specs.Record.{if_length}
 
 and_then_one : (o : Option (List ℕ)) (s : Splice) → option_and_then (all_done (s ∷ [])) o ≡ option_and_then (change_done s) o
 and_then_one None s = refl

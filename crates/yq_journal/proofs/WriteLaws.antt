@@ -10,12 +10,12 @@ use Rattle.serde_json.specs.Data.{Data, array, depth, items_depth}
 use Rattle.serde_json.specs.Read.{read, max_depth}
 use Rattle.serde_json.specs.View.{items_of}
 use Rattle.serde_json.specs.Written.{IsInOrder, has_float, items_have_float}
-use Rattle.yq_script.specs.Splice.{Splice}
-use Rattle.yq_records.specs.declared.moves.Move.{Move}
-use Rattle.yq_records.specs.declared.moves.Move.TheVariants.{Edit}
+use Rattle.yq_text.specs.Splice.{Splice}
+use Rattle.yq_journal.specs.declared.moves.Move.{Move}
+use Rattle.yq_journal.specs.declared.moves.Move.TheVariants.{Edit}
 use Rattle.yq_journal.specs.Json.{change_data, record_data, move_data, pending_data, journal_data, journal_of, journal_in}
-use Rattle.yq_records.specs.Record.{Record}
-use Rattle.yq_records.specs.State.{Pending, State}
+use Rattle.yq_journal.specs.Record.{Record}
+use Rattle.yq_journal.specs.State.{Pending, State}
 use Rattle.yq_journal.proofs.LineFeed.{tokens_of_line}
 
 no_float_changes : (cs : List Splice) → items_have_float (items_of (map change_data cs)) ≡ false

@@ -9,12 +9,12 @@ use Rattle.serde_json.specs.View.{items_of}
 use Rattle.serde_json.specs.Written.{compact_text}
 use Rattle.base64.specs.GeneralPurpose.{encode_of, decode_of}
 use Rattle.base64.specs.Engines.{standard}
-use Rattle.yq_script.specs.Splice.{Splice, lengths_done}
-use Rattle.yq_records.specs.declared.moves.Move.{Move}
-use Rattle.yq_records.specs.declared.moves.Move.TheVariants.{Edit, Undo, Redo}
-use Rattle.yq_records.specs.Record.{Record, is_length}
-use Rattle.yq_records.specs.State.{Pending, State, state, moved_text, is_reached}
-use Rattle.yq_records.specs.Refusals.{most_records, way_fault}
+use Rattle.yq_text.specs.Splice.{Splice, lengths_done}
+use Rattle.yq_journal.specs.declared.moves.Move.{Move}
+use Rattle.yq_journal.specs.declared.moves.Move.TheVariants.{Edit, Undo, Redo}
+use Rattle.yq_journal.specs.Record.{Record, is_length}
+use Rattle.yq_journal.specs.State.{Pending, State, state, moved_text, is_reached}
+use Rattle.yq_journal.specs.Refusals.{most_records, way_fault}
 
 -- how many members there are (own)
 abbrev pub count_members : Members → ℕ

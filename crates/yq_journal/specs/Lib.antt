@@ -1,5 +1,10 @@
+pub use Rattle.yq_text.specs.Splice
+pub mod GapBuffer
+pub mod Record
+pub mod Refusals
+pub mod State
+pub mod Turned
 pub mod Good
 pub mod History
 pub mod Json
 pub mod OpenText
-pub use Rattle.yq_script.specs.Splice

@@ -1,13 +1,13 @@
 //! The journal: records, a cursor, and perhaps an open move.
 ghost use Rattle.std.specs.Prelude.{◌≡◌, ◌<◌, None, Some, IfOk, IfErr, OnOk, OnErr, IsNone, length, slice_get};
-ghost use Rattle.yq_records.specs.Refusals.{ErrorIs, Reports, move_fault, no_way, push_fault, squash_fault, way_fault};
-ghost use Rattle.yq_records.specs.State.{empty_state, journal_after, moved_text, squashed};
+ghost use Rattle.yq_journal.specs.Refusals.{ErrorIs, Reports, move_fault, no_way, push_fault, squash_fault, way_fault};
+ghost use Rattle.yq_journal.specs.State.{empty_state, journal_after, moved_text, squashed};
 
 use crate::squash::{join_last, replace_run};
 use crate::ways::target;
+use crate::{JournalError, JournalFault, MAX_RECORDS, Move, Record, make};
 use std::alloc::Global;
 use std::marker::Model;
-use yq_records::{JournalError, JournalFault, MAX_RECORDS, Move, Record, make};
 
 /// A move that is open, and the whole text from which it starts.
 #[derive(Drop)]
@@ -17,7 +17,7 @@ pub(crate) struct Open {
 }
 
 impl Model for Open {
-    ghost use Rattle.yq_records.specs.State.{Pending};
+    ghost use Rattle.yq_journal.specs.State.{Pending};
 
     ghost Value = { Pending };
 
@@ -34,8 +34,8 @@ pub struct Journal {
 }
 
 impl Model for Journal {
-    ghost use Rattle.yq_records.specs.Refusals.{IsSound};
-    ghost use Rattle.yq_records.specs.State.{State, state};
+    ghost use Rattle.yq_journal.specs.Refusals.{IsSound};
+    ghost use Rattle.yq_journal.specs.State.{State, state};
 
     ghost Value = { State };
 

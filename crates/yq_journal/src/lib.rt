@@ -1,22 +1,30 @@
+//! Records of the edits of a text, done and undone on it, and the moves over them.
+//!
 //! A journal of edits: records of splices, a cursor and an open move.
 #![tactic(auto)]
 
+mod fault;
+mod gap;
 mod journal;
 mod laws;
+mod lengths;
 mod members;
+mod moves;
 mod open_text;
 mod opening;
 mod read;
+mod record;
 mod squash;
 mod stands;
 mod ways;
 mod write;
 
+pub use fault::{JournalError, JournalFault};
 pub use journal::Journal;
 pub use laws::{
     faults_are_of_history, moves_go_on, open_moves_describe, settling_rests, squashes_go_on,
 };
+pub use lengths::leads;
+pub use moves::{MAX_RECORDS, Move, lead, leads_to, make};
+pub use record::{Record, record_inverts, redo_record, undo_record};
 pub use stands::{stands_after, stands_before};
-pub use yq_records::{
-    JournalError, JournalFault, Move, Record, record_inverts, redo_record, undo_record,
-};

@@ -13,10 +13,10 @@ ghost use Rattle.yq_journal.specs.OpenText as spec;
 
 use crate::journal::{Journal, Open};
 use crate::write::{kind, move_value, record_values};
+use crate::{Move, Record};
 use base64::engine::general_purpose::STANDARD;
 use serde_json::Value;
 use std::alloc::{AllocError, Global};
-use yq_records::{Move, Record};
 
 /// The text of a value.
 fn value_text(alloc: Global, value: &Value) -> Result<String, AllocError>

@@ -4,20 +4,20 @@ ghost use Rattle.std.specs.Str.{is_utf8};
 ghost use Rattle.serde_json.specs.Read.{read};
 ghost use Rattle.serde_json.specs.View.{view};
 ghost use Rattle.yq_journal.specs.Json as spec;
-ghost use Rattle.yq_records.specs.Refusals.{ErrorIs, if_journal};
-ghost use Rattle.yq_records.specs.State.{state};
+ghost use Rattle.yq_journal.specs.Refusals.{ErrorIs, if_journal};
+ghost use Rattle.yq_journal.specs.State.{state};
 
 pub(crate) mod edits;
 mod fields;
 mod open_move;
 
 use crate::journal::{Journal, Open};
+use crate::{JournalError, JournalFault, MAX_RECORDS, Record};
 use edits::records;
 use fields::{has_keys, number};
 use open_move::{can_move, pending};
 use serde_json::Value;
 use std::alloc::{AllocError, Global};
-use yq_records::{JournalError, JournalFault, MAX_RECORDS, Record};
 
 /// Whether a journal has no more records than it may, its cursor among them,
 /// and no open move but one that can be made.

@@ -1,13 +1,13 @@
 //! Several records joined into one.
 ghost use Rattle.std.specs.Prelude.{◌≡◌, true, ◌<◌, ◌≤◌, ◌∷◌, ◌++◌, [], IfErr, IfOk, None, OnOk, drop, length, take};
-ghost use Rattle.yq_records.specs.Record.{IsRecord, join, records_joined, meet};
-ghost use Rattle.yq_records.specs.Refusals.{Reports, count_fault};
-ghost use Rattle.yq_records.specs.State.{joined_of, last_done};
+ghost use Rattle.yq_journal.specs.Record.{IsRecord, join, records_joined, meet};
+ghost use Rattle.yq_journal.specs.Refusals.{Reports, count_fault};
+ghost use Rattle.yq_journal.specs.State.{joined_of, last_done};
 
+use crate::{JournalError, JournalFault, Record};
 use std::alloc::{AllocError, Global};
 use std::marker::Model;
-use yq_records::{JournalError, JournalFault, Record};
-use yq_script::Splice;
+use yq_text::Splice;
 
 /// The parts of records that are joined one after the other.
 #[derive(Drop)]
@@ -21,7 +21,7 @@ struct Parts {
 
 impl Model for Parts {
     ghost use Rattle.std.specs.String.{string_bytes};
-    ghost use Rattle.yq_records.specs.Record.{Record};
+    ghost use Rattle.yq_journal.specs.Record.{Record};
 
     ghost Value = { Record };
 

@@ -1,12 +1,12 @@
 //! Whether splices can be done on a text, told without memory.
 ghost use Rattle.std.specs.Prelude.{◌≡◌, ◌≢◌, ◌⊎◌, ◌+◌, ◌-◌, ◌^◌, ◌<◌, ◌≤◌, ◌↔◌, ℕ, IfSome, IsTrue, List, None, Some, drop, length, is_some, slice_get, take};
-ghost use Rattle.yq_script.specs.Splice.{Splice, all_done, flipped, lengths_done};
-ghost use Rattle.yq_records.specs.GapBuffer.{splice_of_gap};
-ghost use Rattle.yq_records.specs.Record.{done, undone};
-ghost use Rattle.yq_records.specs.Turned.{turned_splices};
+ghost use Rattle.yq_text.specs.Splice.{Splice, all_done, flipped, lengths_done};
+ghost use Rattle.yq_journal.specs.GapBuffer.{splice_of_gap};
+ghost use Rattle.yq_journal.specs.Record.{done, undone};
+ghost use Rattle.yq_journal.specs.Turned.{turned_splices};
 
-use yq_records::Record;
-use yq_script::Splice;
+use crate::Record;
+use yq_text::Splice;
 
 /// The splice at a place: its offset, the bytes that it finds and those that
 /// it puts there.

@@ -1,11 +1,11 @@
 //! Whether a move over the records of a journal can be made, and the text to which it leads.
 ghost use Rattle.std.specs.Prelude.{◌≡◌, None, Some, OnOk, IfOk, IfErr};
-ghost use Rattle.yq_records.specs.Refusals.{ErrorIs, if_moves, no_way, way_fault};
-ghost use Rattle.yq_records.specs.State.{moved_text};
+ghost use Rattle.yq_journal.specs.Refusals.{ErrorIs, if_moves, no_way, way_fault};
+ghost use Rattle.yq_journal.specs.State.{moved_text};
 
 use crate::stands::stands_before;
+use crate::{JournalError, JournalFault, MAX_RECORDS, Move, Record, lead};
 use std::alloc::Global;
-use yq_records::{JournalError, JournalFault, MAX_RECORDS, Move, Record, lead};
 
 /// How many bytes a sole splice may take out that are compared one by one.
 const FEW_BYTES: usize = 4096;

@@ -5,10 +5,10 @@ ghost use Rattle.yq_journal.specs.Json as spec;
 
 use crate::journal::{Journal, Open};
 use crate::members::{add_bytes, add_text};
+use crate::{Move, Record};
 use serde_json::{Map, Value, put};
 use std::alloc::{AllocError, Global};
-use yq_records::{Move, Record};
-use yq_script::Splice;
+use yq_text::Splice;
 
 #[tactic(auto, unfolding(crate::specs::Json::splice_of))]
 fn splice_value(alloc: Global, splice: &Splice) -> Result<Value, AllocError>

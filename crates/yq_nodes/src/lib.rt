@@ -1,14 +1,7 @@
-//! Inline nodes of YAML: their types and forms, where paths lead in them, and values.
+//! Nodes of documents that were read: kinds, texts, comments, and where steps lead.
 #![tactic(auto)]
 
-mod gap;
-mod inline;
-mod path;
-mod tokens;
-mod value;
+mod nodes;
 
-pub use gap::gap_len;
-pub use inline::{Form, Inline};
-pub use path::{DEPTH_LIMIT, Entry, Step};
-pub use tokens::{first_is, is_quoted, strip};
-pub use value::Value;
+pub use nodes::children::Children;
+pub use nodes::node::{Node, NodeKind};

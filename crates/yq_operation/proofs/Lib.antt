@@ -1,0 +1,2 @@
+pub mod ChoiceLaws
+pub mod RowsGoneLaws

@@ -1,20 +1,20 @@
 //! One operation carried out on a text with its cut.
 ghost use Rattle.std.specs.Prelude.{IfErr, IfOk};
-ghost use Rattle.yq_meaning.specs.Operations.{operation_of};
+ghost use Rattle.yq_semantics.specs.Operations.{operation_of};
 ghost use Rattle.yq_documents.specs.Reading.{cut_of};
-ghost use Rattle.yq_script.specs.Changing.{IsChange};
-ghost use Rattle.yq_row_places.specs.RowWalk.{StayKnown};
-ghost use Rattle.yq_outcomes.specs.Answers.{Edits, EditFails};
-ghost use Rattle.yq_outcomes.specs.Carried as spec;
-ghost use Rattle.yq_outcomes.specs.Valid.{segments_by};
+ghost use Rattle.yq_text.specs.Changing.{IsChange};
+ghost use Rattle.yq_places.specs.RowWalk.{StayKnown};
+ghost use Rattle.yq_edit_laws.specs.Answers.{Edits, EditFails};
+ghost use Rattle.yq_edit_laws.specs.Carried as spec;
+ghost use Rattle.yq_edit_laws.specs.Valid.{segments_by};
 
+use crate::{change, op_segments};
 use std::alloc::Global;
-use yq_lines::KnownItems;
-use yq_meaning::Op;
-use yq_op_segments::{change, op_segments};
-use yq_outcomes::{EditError, on_the_way};
-use yq_places::CutText;
-use yq_script::{Changed, Edited, exchange};
+use yq_edit_laws::{EditError, on_the_way};
+use yq_lookup::CutText;
+use yq_outline::KnownItems;
+use yq_semantics::Op;
+use yq_text::{Changed, Edited, exchange};
 
 /// What an operation changes in a text with its cut, and what is known behind it of its way.
 pub fn change_one<'d>(

@@ -1,14 +1,30 @@
-//! Where nodes, entries and comments stand in a text, found row by row.
+//! Where nodes, entries and comments stand among the rows of a text: what stands there, in pieces, and what is taken out.
 #![tactic(auto)]
 
-mod cut_text;
-mod laws;
 mod places;
 
-pub use cut_text::CutText;
-pub use laws::path_laws::comments_stand;
-pub use laws::piece_laws::{contents_spell, entries_spell, pieces_exist, pieces_hold};
-pub use yq_row_places::{
-    BlockRoot, Compact, FirstRemoval, FlowHead, Held, HeldRow, LinesAbove, Lone, Mark, NoRows,
-    NodeAt, Removal, Seam, Standing, collection_along, split_break,
-};
+pub use places::comment_place::{head_comment_in, line_comment_in};
+pub use places::content_place::content_of;
+pub use places::entry_place::entry_of;
+pub use places::entry_standing::entry_standing;
+pub use places::first_break::break_of;
+pub use places::first_removal::{FirstRemoval, first_out};
+pub use places::flow_node::{FlowHead, collection_along};
+pub use places::halves::{is_text, split_break};
+pub use places::held::{Held, Mark, held_in};
+pub use places::held_row::{HeldRow, row_of_last};
+pub use places::known_at::{if_in_front, known_along, line_known, with_item};
+pub use places::known_end::known_end;
+pub use places::known_line::KnownLine;
+pub use places::lines_above::{LinesAbove, above};
+pub use places::node_at::{NodeAt, block_node, head_node};
+pub use places::node_place::{node_place, place_line};
+pub use places::removal_place::{Removal, Seam, own_rows, rows_out};
+pub use places::room::line_has_room;
+pub use places::root_standing::rows_standing;
+pub use places::row_head::{RowHead, in_one};
+pub use places::rows_of_entry::{RowsOfEntry, entry_along};
+pub use places::standing::{BlockRoot, Compact, Lone, NoRows, Standing};
+pub use places::steps::first_step;
+pub use places::stretch::{RowLine, row_line_along};
+pub use places::written::cut_at;

@@ -1,22 +1,29 @@
-//! Where entries, contents and comments stand in a text; what stands at a path, in pieces; and what is
-//! taken out.
+//! Where entries, contents and comments stand among rows; what stands there, in pieces; and what is taken out.
 
-mod comment_place;
-mod content_place;
-mod entry_place;
-mod first_break;
-mod first_removal;
-mod flow_node;
-mod held;
-mod held_row;
-mod known_at;
-mod lines_above;
-mod node_at;
-mod removal_place;
-mod room;
-mod root_standing;
-mod row_head;
-mod rows_of_entry;
-mod standing;
-mod steps;
-mod stretch;
+pub mod comment_place;
+pub mod content_place;
+pub mod entry_place;
+pub mod entry_standing;
+pub mod first_break;
+pub mod first_removal;
+pub mod flow_node;
+pub mod halves;
+pub mod held;
+pub mod held_row;
+pub mod known_at;
+pub mod known_end;
+pub mod known_line;
+pub mod lines_above;
+mod lines_cut;
+pub mod node_at;
+pub mod node_place;
+pub mod removal_place;
+pub mod room;
+pub mod root_standing;
+pub mod row_head;
+mod row_place;
+pub mod rows_of_entry;
+pub mod standing;
+pub mod steps;
+pub mod stretch;
+pub mod written;

@@ -1,14 +1,14 @@
 -- What is told of an inline node of which only the end is found (own).
 use Rattle.std.specs.Prelude.{ℕ, Bool, true, false, ◌||◌, ◌&&◌, not, List, Option, Some, None}
-use Rattle.yq_flow_scalars.specs.Answers.{◌>>=◌}
-use Rattle.yq_flow_scalars.specs.Text.{is_empty}
-use Rattle.yq_nodes.specs.Places.{Placed, placed, CoreNode, nothing, name, text, sequence, mapping}
-use Rattle.yq_nodes.specs.PlacedReading.{placed_entry, placed_item}
+use Rattle.yq_core.specs.Answers.{◌>>=◌}
+use Rattle.yq_core.specs.Text.{is_empty}
+use Rattle.yq_core.specs.Places.{Placed, placed, CoreNode, nothing, name, text, sequence, mapping}
+use Rattle.yq_core.specs.PlacedReading.{placed_entry, placed_item}
 use Rattle.yq_rows.specs.declared.measuring.NodeKind.{NodeKind}
 use Rattle.yq_rows.specs.declared.measuring.NodeKind.TheVariants as kinds
 use Rattle.yq_rows.specs.declared.measuring.Measured.{Measured}
-use Rattle.yq_flow_scalars.specs.declared.style.Style.{Style}
-use Rattle.yq_flow_scalars.specs.declared.style.Style.TheVariants as styles
+use Rattle.yq_core.specs.declared.style.Style.{Style}
+use Rattle.yq_core.specs.declared.style.Style.TheVariants as styles
 
 -- the kind of a scalar of this style (own)
 abbrev pub kind_of_style : Style → NodeKind

@@ -2,14 +2,14 @@
 use Rattle.std.specs.Prelude.{◌≡◌, ℕ, Bool, true, false, List, ◌++◌, Some}
 use Rattle.yq_rows.specs.declared.measuring.NodeKind.{NodeKind}
 use Rattle.yq_rows.specs.declared.measuring.NodeKind.TheVariants as kinds
-use Rattle.yq_cut.specs.Grammar.{Limit}
-use Rattle.yq_cut.specs.Rows.{RowMark, Bare, Dash, Key}
-use Rattle.yq_cut.specs.View.{Slices}
+use Rattle.yq_row_table.specs.Grammar.{Limit}
+use Rattle.yq_row_table.specs.Rows.{RowMark, Bare, Dash, Key}
+use Rattle.yq_row_table.specs.View.{Slices}
 use Rattle.yq_rows.specs.declared.content.Filling.{Filling}
 use Rattle.yq_rows.specs.declared.marks.Mark.{Mark as Sign}
 use Rattle.yq_rows.specs.declared.marks.Mark.TheVariants as signs
 use Rattle.yq_rows.specs.declared.marks.Begin.{Begin}
-use Rattle.yq_cut.specs.Slicing.{Begun, Filled, row_of, row_sliced}
+use Rattle.yq_row_table.specs.Slicing.{Begun, Filled, row_of, row_sliced}
 use Rattle.yq_rows.specs.declared.limit.Limit as asked
 
 -- what the code's limit asks of the next row (own)

@@ -1,16 +1,16 @@
 //! What stands behind a row's mark.
 ghost use Rattle.std.specs.Option.{option_map};
 ghost use Rattle.std.specs.Prelude.{◌≡◌, ◌≢◌, ◌≤◌, ◌==◌, ◌||◌, ◌&&◌, not, length, true, false, IfErr};
-ghost use Rattle.yq_flow_scalars.specs.Answers.{Gives, IsOfText};
+ghost use Rattle.yq_core.specs.Answers.{Gives, IsOfText};
 ghost use Rattle.yq_rows.specs.Measured as measured;
-ghost use Rattle.yq_nodes.specs.Scalars as scalars;
-ghost use Rattle.yq_cut.specs.Slicing as slicing;
+ghost use Rattle.yq_core.specs.Scalars as scalars;
+ghost use Rattle.yq_row_table.specs.Slicing as slicing;
 ghost use Rattle.yq_rows.specs.ReadPieces.{is_plain_kind};
-ghost use Rattle.yq_cut.specs.Slicing.{filled_at};
+ghost use Rattle.yq_row_table.specs.Slicing.{filled_at};
 ghost use Rattle.yq_rows.specs.ReadPieces.{filling_view};
-ghost use Rattle.yq_flow_scalars.specs.Text.{front, is_empty};
-ghost use Rattle.yq_flow_scalars.specs.declared.fault.FaultKind.TheVariants.{NotUtf8};
-ghost use Rattle.yq_cut.specs.Reading as spec;
+ghost use Rattle.yq_core.specs.Text.{front, is_empty};
+ghost use Rattle.yq_core.specs.declared.fault.FaultKind.TheVariants.{NotUtf8};
+ghost use Rattle.yq_row_table.specs.Reading as spec;
 
 use crate::fault::{block_fault, fault};
 use crate::gap::is_hash;
@@ -18,11 +18,12 @@ use crate::marks::Mark;
 use crate::measuring::{Measured, NodeKind, measure_node};
 use crate::naming::{no_content, no_further_line, no_tail};
 use crate::words::{begins_word, read_front};
-use yq_flow_scalars::lines::split_line;
-use yq_flow_scalars::text::{ends_line, split_white};
-use yq_flow_scalars::{FaultKind, Place, ReadError, ReadFault, further_spaces};
+use yq_core::lines::split_line;
+use yq_core::text::{ends_line, split_white};
+use yq_core::{
+    DEPTH_LIMIT, FaultKind, Place, ReadError, ReadFault, first_is, further_spaces, is_quoted, strip,
+};
 use yq_inline::pieces::{begins_scalar, name_len};
-use yq_nodes::{DEPTH_LIMIT, first_is, is_quoted, strip};
 use yq_scalar::read_block;
 
 /// What stands behind a mark, by its pieces.
@@ -45,7 +46,7 @@ pub struct Filling<'t> {
 }
 
 /// The tail in front, and what follows.
-#[tactic(auto, unfolding(yq_cut::specs::Reading::read_tail))]
+#[tactic(auto, unfolding(yq_row_table::specs::Reading::read_tail))]
 pub(crate) fn find_tail(text: &str) -> Option<(&str, &str)>
     ensures { option_map (λ x. (x.0.now, x.1.now)) result ≡ spec.read_tail text.now }
 {
@@ -91,7 +92,7 @@ fn is_block_mark(text: &[u8]) -> bool
 }
 
 /// Whether a block scalar begins here, perhaps behind an anchor.
-#[tactic(auto, using(yq_cut::proofs::BlockSlicing::block_begins))]
+#[tactic(auto, using(yq_row_table::proofs::BlockSlicing::block_begins))]
 fn begins_block(text: &str) -> bool
     ensures { result ≡ spec.begins_block text.now }
 {

@@ -1,12 +1,12 @@
 //! Where a text is at fault.
 ghost use Rattle.std.specs.Prelude.{◌≢◌};
-ghost use Rattle.yq_flow_scalars.specs.declared.fault.FaultKind.TheVariants.{NotUtf8};
+ghost use Rattle.yq_core.specs.declared.fault.FaultKind.TheVariants.{NotUtf8};
 
 use std::num::NonZeroU64;
-use yq_flow_scalars::characters::is_text_char;
-use yq_flow_scalars::lines::line_len;
-use yq_flow_scalars::text::{behind_spaces, is_blank, spaces_len};
-use yq_flow_scalars::{FaultKind, ReadFault};
+use yq_core::characters::is_text_char;
+use yq_core::lines::line_len;
+use yq_core::text::{behind_spaces, is_blank, spaces_len};
+use yq_core::{FaultKind, ReadFault};
 use yq_text::TEXT_LIMIT;
 
 /// A fault behind so many line breaks.

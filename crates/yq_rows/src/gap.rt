@@ -1,14 +1,14 @@
 //! Blank lines and comment lines.
 ghost use Rattle.std.specs.Prelude.{◌≡◌, ◌||◌};
-ghost use Rattle.yq_flow_scalars.specs.Lines as lines;
-ghost use Rattle.yq_flow_scalars.specs.Text.{front};
-ghost use Rattle.yq_nodes.specs.Nodes as nodes;
-ghost use Rattle.yq_cut.specs.Reading as spec;
+ghost use Rattle.yq_core.specs.Lines as lines;
+ghost use Rattle.yq_core.specs.Text.{front};
+ghost use Rattle.yq_core.specs.Nodes as nodes;
+ghost use Rattle.yq_row_table.specs.Reading as spec;
 
 use crate::words::begins_word;
-use yq_flow_scalars::lines::line_len;
-use yq_flow_scalars::text::{ends_line, past_white, spaces_len};
-use yq_nodes::first_is;
+use yq_core::first_is;
+use yq_core::lines::line_len;
+use yq_core::text::{ends_line, past_white, spaces_len};
 
 /// Whether a `#` is in front.
 pub(crate) fn is_hash(text: &[u8]) -> bool
@@ -26,7 +26,7 @@ fn begins_row(text: &[u8]) -> bool
 
 /// Whether a blank line or a comment line is in front (YAML 1.2.2, sections 6.4
 /// and 6.6).
-#[tactic(auto, using(yq_cut::proofs::WordFronts::row_gap, yq_cut::proofs::WordFronts::indented_gap, yq_cut::proofs::WordFronts::behind_spaces))]
+#[tactic(auto, using(yq_row_table::proofs::WordFronts::row_gap, yq_row_table::proofs::WordFronts::indented_gap, yq_row_table::proofs::WordFronts::behind_spaces))]
 pub fn begins_gap(text: &[u8]) -> bool
     ensures { result ≡ spec.begins_gap text.now }
 {
@@ -42,7 +42,7 @@ pub fn begins_gap(text: &[u8]) -> bool
 }
 
 /// How long the gap in front is, in bytes.
-#[tactic(auto, using(yq_cut::proofs::GapLaws::gap_step, yq_cut::proofs::GapLaws::gap_stop))]
+#[tactic(auto, using(yq_row_table::proofs::GapLaws::gap_step, yq_row_table::proofs::GapLaws::gap_stop))]
 #[inline(always)]
 fn gap_len(text: &[u8]) -> usize
     ensures { result ≡ spec.gap_len text.now }

@@ -2,11 +2,11 @@
 ghost use Rattle.std.specs.Prelude.{◌≡◌, ◌<◌, ◌-◌, ◌^◌, length};
 ghost use Rattle.std.specs.Str.{IsUtf8};
 ghost use Rattle.yq_rows.specs.ReadPieces.{IsSliced, read_slices};
-ghost use Rattle.yq_cut.specs.Offsets as spec;
+ghost use Rattle.yq_row_table.specs.Offsets as spec;
 
 use crate::content::Filling;
 use crate::marks::{Begin, key_of};
-use yq_cut::Offsets;
+use yq_row_table::Offsets;
 
 /// How long a piece is.
 #[inline]

@@ -3,20 +3,20 @@ ghost use Rattle.std.specs.List.{prefix_len};
 ghost use Rattle.std.specs.Option.{option_map};
 ghost use Rattle.std.specs.Prelude.{◌≡◌, ◌≤◌, ◌==◌, ◌&&◌, ◌+◌, length, nat_le, not, None, if◌then◌else◌};
 ghost use Rattle.std.specs.Str.{chars};
-ghost use Rattle.yq_flow_scalars.specs.Text.{is_empty};
-ghost use Rattle.yq_cut.specs.Grammar as grammar;
-ghost use Rattle.yq_cut.specs.Grammar.{key_limit};
-ghost use Rattle.yq_cut.specs.Slicing.{begun};
+ghost use Rattle.yq_core.specs.Text.{is_empty};
+ghost use Rattle.yq_row_table.specs.Grammar as grammar;
+ghost use Rattle.yq_row_table.specs.Grammar.{key_limit};
+ghost use Rattle.yq_row_table.specs.Slicing.{begun};
 ghost use Rattle.yq_rows.specs.ReadPieces.{begin_view, mark_view};
-ghost use Rattle.yq_cut.specs.Reading as spec;
-ghost use Rattle.yq_cut.specs.Rows as rows;
-ghost use Rattle.yq_cut.specs.View as view;
+ghost use Rattle.yq_row_table.specs.Reading as spec;
+ghost use Rattle.yq_row_table.specs.Rows as rows;
+ghost use Rattle.yq_row_table.specs.View as view;
 
 use crate::words::read_front;
-use yq_cut::{KEY_LIMIT, before_column};
-use yq_flow_scalars::characters::char_count;
-use yq_flow_scalars::text::{separates, split_spaces, split_white};
-use yq_nodes::first_is;
+use yq_core::characters::char_count;
+use yq_core::first_is;
+use yq_core::text::{separates, split_spaces, split_white};
+use yq_row_table::{KEY_LIMIT, before_column};
 
 /// What a row begins with behind the dashes before it.
 #[derive(Clone, Copy)]
@@ -83,7 +83,7 @@ pub(crate) fn is_colon(text: &[u8]) -> bool
 }
 
 /// White space and the `:` of a key in front, and what follows.
-#[tactic(auto, unfolding(yq_cut::specs::Reading::read_colon))]
+#[tactic(auto, unfolding(yq_row_table::specs::Reading::read_colon))]
 fn find_colon(text: &str) -> Option<(&str, &str)>
     ensures { option_map (λ x. (x.0.now, x.1.now)) result ≡ spec.read_colon text.now }
 {
@@ -96,7 +96,7 @@ fn find_colon(text: &str) -> Option<(&str, &str)>
 
 /// Whether a key, and what stands behind it up to its `:`, are as short as they have to be. Characters
 /// are counted where there are more bytes than that.
-#[tactic(auto, using(yq_cut::proofs::KeyRoom::room_by_bytes))]
+#[tactic(auto, using(yq_row_table::proofs::KeyRoom::room_by_bytes))]
 fn has_key_room(key: &str, colon: &str) -> bool
     ensures { result ≡ nat_le (length (chars key.now) + length (chars colon.now)) (key_limit + 1) }
 {
@@ -108,7 +108,7 @@ fn has_key_room(key: &str, colon: &str) -> bool
 }
 
 /// The key in front, what stands behind it up to its `:`, and what follows.
-#[tactic(auto, unfolding(yq_cut::specs::Reading::read_row_key))]
+#[tactic(auto, unfolding(yq_row_table::specs::Reading::read_row_key))]
 #[inline(always)]
 fn find_key(text: &str) -> Option<(&str, &str, &str)>
     ensures { option_map (λ x. (x.0.now, x.1.now, x.2.now)) result ≡ spec.read_row_key text.now }
@@ -167,7 +167,7 @@ fn holds_colon(text: &[u8]) -> bool
 
 /// The key behind a dash and these spaces, what stands behind it up to its `:`, and what follows. No
 /// scalar is read where the line has no `:`.
-#[tactic(auto, using(yq_cut::proofs::KeyLines::no_key_line))]
+#[tactic(auto, using(yq_row_table::proofs::KeyLines::no_key_line))]
 fn key_behind<'t>(spaces: &str, next: &'t str) -> Option<(&'t str, &'t str, &'t str)>
     ensures { option_map (λ x. (x.0.now, x.1.now, x.2.now)) result
         ≡ (if is_empty spaces.now then None else spec.read_row_key next.now) }

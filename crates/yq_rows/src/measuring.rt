@@ -1,19 +1,18 @@
 //! The ends of inline nodes, found without their trees.
 ghost use Rattle.std.specs.Prelude.{◌≡◌, ◌≢◌, ◌<◌, ◌≤◌, IfErr, IfOk, false, length};
-ghost use Rattle.yq_flow_scalars.specs.Answers.{ReadsAs};
-ghost use Rattle.yq_flow_scalars.specs.declared.fault.FaultKind.TheVariants.{NotUtf8};
+ghost use Rattle.yq_core.specs.Answers.{ReadsAs};
+ghost use Rattle.yq_core.specs.declared.fault.FaultKind.TheVariants.{NotUtf8};
 ghost use Rattle.yq_rows.specs.Measured as spec;
 ghost use Rattle.yq_rows.specs.Measured.{measured, measured_view, past_node};
-ghost use Rattle.yq_nodes.specs.PlacedReading as reading;
-ghost use Rattle.yq_nodes.specs.Scalars.{scalar_style as style_at};
+ghost use Rattle.yq_core.specs.PlacedReading as reading;
+ghost use Rattle.yq_core.specs.Scalars.{scalar_style as style_at};
 
-use yq_flow_scalars::{FaultKind, ReadFault};
+use yq_core::{FaultKind, ReadFault, strip};
 use yq_inline::fault::{fault, flow_fault};
 use yq_inline::pieces::{
     begins_content, no_node, read_key, read_lead, read_name, read_scalar, read_sep,
 };
 use yq_inline::read_gap;
-use yq_nodes::strip;
 
 /// What a node is, behind its anchor.
 #[derive(Clone, Copy)]

@@ -1,10 +1,10 @@
 //! Which fault a row has that can't be read.
 ghost use Rattle.std.specs.Prelude.{◌≢◌, IfSome};
-ghost use Rattle.yq_flow_scalars.specs.declared.fault.FaultKind.TheVariants.{NotUtf8};
+ghost use Rattle.yq_core.specs.declared.fault.FaultKind.TheVariants.{NotUtf8};
 
 use crate::marks::{Mark, begins_entry, is_colon};
-use yq_flow_scalars::FaultKind;
-use yq_flow_scalars::text::{past_white, separates, split_spaces};
+use yq_core::FaultKind;
+use yq_core::text::{past_white, separates, split_spaces};
 
 /// Whether a tab is in this white space.
 fn holds_tab(space: &str) -> bool {

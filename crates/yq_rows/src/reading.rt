@@ -1,15 +1,15 @@
 //! Rows, read one behind the other.
 ghost use Rattle.std.specs.Prelude.{◌≡◌, ◌≢◌, ◌<◌, ◌≤◌, ◌+◌, ◌++◌, ◌-◌, ◌^◌, ◌==◌, ◌&&◌, ◌||◌, ℕ, List, not, length, true, IfErr, IfOk};
-ghost use Rattle.yq_flow_scalars.specs.Answers.{Gives, IsOfText, ReadsAs};
-ghost use Rattle.yq_flow_scalars.specs.Text;
-ghost use Rattle.yq_flow_scalars.specs.declared.fault.FaultKind.TheVariants.{NotUtf8};
-ghost use Rattle.yq_cut.specs.Grammar as grammar;
-ghost use Rattle.yq_cut.specs.Grammar.{unlimited, ends_part};
-ghost use Rattle.yq_cut.specs.Kept.{rows_placed};
-ghost use Rattle.yq_cut.specs.Slicing.{marked_sliced, row_sliced, row_of, rows_sliced};
+ghost use Rattle.yq_core.specs.Answers.{Gives, IsOfText, ReadsAs};
+ghost use Rattle.yq_core.specs.Text;
+ghost use Rattle.yq_core.specs.declared.fault.FaultKind.TheVariants.{NotUtf8};
+ghost use Rattle.yq_row_table.specs.Grammar as grammar;
+ghost use Rattle.yq_row_table.specs.Grammar.{unlimited, ends_part};
+ghost use Rattle.yq_row_table.specs.Kept.{rows_placed};
+ghost use Rattle.yq_row_table.specs.Slicing.{marked_sliced, row_sliced, row_of, rows_sliced};
 ghost use Rattle.yq_rows.specs.ReadPieces.{begin_view, filling_view};
-ghost use Rattle.yq_cut.specs.Offsets.{Ends, Stand, IsCutIn, offsets_of, rows_in, slices_in};
-ghost use Rattle.yq_cut.specs.Reading as spec;
+ghost use Rattle.yq_row_table.specs.Offsets.{Ends, Stand, IsCutIn, offsets_of, rows_in, slices_in};
+ghost use Rattle.yq_row_table.specs.Reading as spec;
 ghost use Rattle.yq_rows.specs.ReadPieces.{limit_view};
 
 use crate::content::{Filling, find_tail, read_content};
@@ -20,9 +20,9 @@ use crate::limit::Limit;
 use crate::marks::{Begin, is_entry, parent_of, read_begin};
 use crate::naming::not_alone;
 use std::alloc::Global;
-use yq_cut::Offsets;
-use yq_flow_scalars::text::{is_marker, split_spaces};
-use yq_flow_scalars::{FaultKind, ReadError, ReadFault};
+use yq_core::text::{is_marker, split_spaces};
+use yq_core::{FaultKind, ReadError, ReadFault};
+use yq_row_table::Offsets;
 
 /// What stands behind the marks of a row that are read already, below a parent of this indentation.
 #[inline]
@@ -56,7 +56,7 @@ fn may_stand(limit: Limit, column: usize, text: &[u8]) -> bool
 
 /// Where the row in front stands, whose gap is read already, what it asks of the next one, and what
 /// follows.
-#[tactic(auto, unfolding(yq_cut::specs::Reading::row_at))]
+#[tactic(auto, unfolding(yq_row_table::specs::Reading::row_at))]
 #[inline]
 fn read_row<'t>(
     whole: &'t str,
@@ -155,7 +155,7 @@ fn may_begin(is_open: bool, text: &[u8]) -> bool
 
 /// Adds where the rows of a part stand; gives the gap behind them, and what follows. Where no document
 /// is open there may be no rows.
-#[tactic(auto, unfolding(yq_cut::specs::Reading::read_cut_part))]
+#[tactic(auto, unfolding(yq_row_table::specs::Reading::read_cut_part))]
 pub(crate) fn read_part<'t>(
     alloc: Global,
     rows: Vec<Offsets>,
@@ -184,7 +184,7 @@ pub(crate) fn read_part<'t>(
 }
 
 /// The line of the marker in front, and what follows.
-#[tactic(auto, unfolding(yq_cut::specs::Reading::marker_at))]
+#[tactic(auto, unfolding(yq_row_table::specs::Reading::marker_at))]
 pub(crate) fn read_marker<'t>(whole: &str, text: &'t str) -> Result<(&'t str, &'t str), ReadFault>
     requires { Text.is_marker text.now ≡ true }
     ensures read { ReadsAs (λ x. (x.0.now, x.1.now)) result (spec.marker_at text.now) }

@@ -1,17 +1,17 @@
 //! Regions of a text: rows and ends of parts between others, read alone.
 ghost use Rattle.std.specs.Prelude.{◌≡◌, ◌<◌, ◌^◌, List, [], Some, length, true};
-ghost use Rattle.yq_flow_scalars.specs.Answers.{Gives};
-ghost use Rattle.yq_cut.specs.Items.{Item, items_text, view_of_items};
-ghost use Rattle.yq_cut.specs.Regions.{IsReadAlone, region_items};
-ghost use Rattle.yq_cut.specs.Slicing.{read_view};
-ghost use Rattle.yq_cut.specs.Meter.{count_after, line_count};
-ghost use Rattle.yq_cut.specs.Reading.{all_parts};
+ghost use Rattle.yq_core.specs.Answers.{Gives};
+ghost use Rattle.yq_row_table.specs.Items.{Item, items_text, view_of_items};
+ghost use Rattle.yq_row_table.specs.Regions.{IsReadAlone, region_items};
+ghost use Rattle.yq_row_table.specs.Slicing.{read_view};
+ghost use Rattle.yq_row_table.specs.Meter.{count_after, line_count};
+ghost use Rattle.yq_row_table.specs.Reading.{all_parts};
 
 use crate::meter::{Meter, count_lines};
 use crate::scanning::cut;
 use std::alloc::Global;
-use yq_cut::Rows;
-use yq_flow_scalars::ReadError;
+use yq_core::ReadError;
+use yq_row_table::Rows;
 
 /// The rows and ends of parts that are read in a region of a text. Its lines are given one by one,
 /// and each is counted once.

@@ -1,14 +1,14 @@
 //! What a letter or a digit in front tells.
 ghost use Rattle.std.specs.Prelude.{◌≡◌, ◌≢◌, IfErr, false};
-ghost use Rattle.yq_flow_scalars.specs.Answers.{ReadsAs};
-ghost use Rattle.yq_flow_scalars.specs.Text.{front};
-ghost use Rattle.yq_flow_scalars.specs.declared.fault.FaultKind.TheVariants.{NotUtf8};
-ghost use Rattle.yq_nodes.specs.Reading as inline;
-ghost use Rattle.yq_cut.specs.Reading as spec;
+ghost use Rattle.yq_core.specs.Answers.{ReadsAs};
+ghost use Rattle.yq_core.specs.Text.{front};
+ghost use Rattle.yq_core.specs.declared.fault.FaultKind.TheVariants.{NotUtf8};
+ghost use Rattle.yq_core.specs.Reading as inline;
+ghost use Rattle.yq_row_table.specs.Reading as spec;
 
-use yq_flow_reading::plain::split_plain;
-use yq_flow_scalars::ReadFault;
+use yq_core::ReadFault;
 use yq_inline::pieces::read_scalar;
+use yq_scalar_reader::plain::split_plain;
 
 /// Whether a letter or a digit is in front.
 pub(crate) fn begins_word(text: &[u8]) -> bool

@@ -3,7 +3,7 @@ use Rattle.std.proofs.Common.{inl, inr, ◌≡◌, ◌<◌, ℕ, Bool, ◌==◌,
 use Rattle.std.proofs.lemmas.Bool.{cases_Bool}
 use Rattle.std.proofs.lemmas.Option.{same_Some}
 use Rattle.std.proofs.lemmas.Str.{encode_ascii}
-use Rattle.yq_flow_scalars.specs.Written.{double_by, in_double, letter_of, written_letters}
+use Rattle.yq_core.specs.Written.{double_by, in_double, letter_of, written_letters}
 
 -- what is added behind what was added
 pub more_added : (out mid now a b : List ℕ) → mid ≡ out ++ a → now ≡ mid ++ b → now ≡ out ++ (a ++ b)

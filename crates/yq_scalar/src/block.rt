@@ -1,17 +1,17 @@
 //! The block scalar at an offset of a text (YAML 1.2.2, section 8.1).
 ghost use Rattle.std.specs.Prelude.{◌≡◌, ◌<◌, ◌≤◌, ◌+◌, ◌^◌, length, drop, true, IfErr, IfOk, Ok};
 ghost use Rattle.std.specs.Str.{IsCharBoundary};
-ghost use Rattle.yq_flow_scalars.specs.Answers.{ReadsAs};
-ghost use Rattle.yq_block_scalars.specs.Block as spec;
-ghost use Rattle.yq_block_scalars.specs.BlockReading as reading;
-ghost use Rattle.yq_block_scalars.specs.ScalarPiece.{IsReadPiece};
-ghost use Rattle.yq_flow_scalars.specs.Piece.{deeper};
-ghost use Rattle.yq_flow_scalars.specs.Text.{text_lines};
-ghost use Rattle.yq_flow_scalars.specs.declared.piece.Piece.{Piece};
+ghost use Rattle.yq_core.specs.Answers.{ReadsAs};
+ghost use Rattle.yq_core.specs.Block as spec;
+ghost use Rattle.yq_core.specs.BlockReading as reading;
+ghost use Rattle.yq_core.specs.ScalarPiece.{IsReadPiece};
+ghost use Rattle.yq_core.specs.Piece.{deeper};
+ghost use Rattle.yq_core.specs.Text.{text_lines};
+ghost use Rattle.yq_core.specs.declared.piece.Piece.{Piece};
 
-use yq_block_scalars::block_header::{keeps, read_style, read_tail, split_indicators, style_of};
-use yq_block_scalars::block_lines::{TextIndent, detect_indent, raw_len};
-use yq_flow_scalars::{FaultKind, Piece};
+use yq_core::block_header::{keeps, read_style, read_tail, split_indicators, style_of};
+use yq_core::block_lines::{TextIndent, detect_indent, raw_len};
+use yq_core::{FaultKind, Piece};
 
 /// One column more than the indentation of a parent.
 fn least_indent(parent: i64) -> usize
@@ -22,7 +22,7 @@ fn least_indent(parent: i64) -> usize
 }
 
 /// The indentation of the text, by the digit or by the lines.
-#[tactic(auto, unfolding(yq_block_scalars::specs::BlockReading::indent_at))]
+#[tactic(auto, unfolding(yq_core::specs::BlockReading::indent_at))]
 fn read_indent(least: usize, digit: Option<u8>, text: &[u8]) -> Result<TextIndent, FaultKind>
     requires { least ≤ 2 ^ 63 }
     ensures read { ReadsAs (λ f. f) result (reading.indent_at least digit (text_lines text.now)) }
@@ -38,7 +38,7 @@ fn read_indent(least: usize, digit: Option<u8>, text: &[u8]) -> Result<TextInden
 }
 
 /// The block scalar in front of a text that begins at an offset.
-#[tactic(auto, unfolding(yq_block_scalars::specs::BlockReading::block_at, yq_block_scalars::specs::BlockReading::block_behind))]
+#[tactic(auto, unfolding(yq_core::specs::BlockReading::block_at, yq_core::specs::BlockReading::block_behind))]
 fn read_at(text: &[u8], start: usize, least: usize) -> Result<Piece, FaultKind>
     requires small { least ≤ 2 ^ 63 }
     requires fits { start + length text.now < 2 ^ 64 }

@@ -2,18 +2,17 @@
 ghost use Rattle.std.specs.Prelude.{◌≡◌, ◌<◌, ◌≤◌, ◌==◌, ◌&&◌, not, ◌++◌, ℤ, length, OnOk, IfOk};
 ghost use Rattle.std.specs.Str.{IsCharBoundary};
 ghost use Rattle.std.specs.String.{string_bytes};
-ghost use Rattle.yq_block_scalars.specs.Block.{IsBlockPiece, IsBlockScalar};
-ghost use Rattle.yq_block_scalars.specs.BlockContent as spec;
-ghost use Rattle.yq_block_scalars.specs.BlockReading as reading;
-ghost use Rattle.yq_flow_scalars.specs.Text.{front, is_white, text_lines};
-ghost use Rattle.yq_block_scalars.specs.declared.block_types.Before.TheVariants.{Nothing};
+ghost use Rattle.yq_core.specs.Block.{IsBlockPiece, IsBlockScalar};
+ghost use Rattle.yq_core.specs.BlockContent as spec;
+ghost use Rattle.yq_core.specs.BlockReading as reading;
+ghost use Rattle.yq_core.specs.Text.{front, is_white, text_lines};
+ghost use Rattle.yq_core.specs.declared.block_types.Before.TheVariants.{Nothing};
 
 use std::alloc::{AllocError, Global};
-use yq_block_scalars::Before;
-use yq_block_scalars::block_header::{BlockStyle, Chomping, split_indicators};
-use yq_block_scalars::block_lines::{TextIndent, detect_indent};
-use yq_flow_reading::push_breaks;
-use yq_flow_scalars::{Piece, Style, is_white, spaces_len, split_at_break, split_line};
+use yq_core::block_header::{BlockStyle, Chomping, split_indicators};
+use yq_core::block_lines::{TextIndent, detect_indent};
+use yq_core::{Before, Piece, Style, is_white, spaces_len, split_at_break, split_line};
+use yq_scalar_reader::push_breaks;
 
 /// The line without its indentation.
 fn unindented(indent: TextIndent, line: &str) -> &str
@@ -199,7 +198,7 @@ fn block_style(style: Style) -> BlockStyle
 }
 
 /// The indentation of raw lines whose text is indented by so many columns.
-#[tactic(auto, unfolding(yq_block_scalars::specs::BlockReading::indent_of))]
+#[tactic(auto, unfolding(yq_core::specs::BlockReading::indent_of))]
 fn indent_of(digit: Option<u8>, columns: usize, raw: &[u8]) -> TextIndent
     ensures { result ≡ reading.indent_of digit columns (text_lines raw.now) }
 {

@@ -1,14 +1,12 @@
 //! A gap that comes to stand behind a block scalar.
 ghost use Rattle.std.specs.Prelude.{◌≡◌, ◌++◌, [], OnOk, IfOk, if◌then◌else◌};
 ghost use Rattle.std.specs.String.{string_bytes};
-ghost use Rattle.yq_block_scalars.specs.BlockRepair as spec;
-ghost use Rattle.yq_flow_scalars.specs.Text.{joined, text_lines};
+ghost use Rattle.yq_core.specs.BlockRepair as spec;
+ghost use Rattle.yq_core.specs.Text.{joined, text_lines};
 
 use std::alloc::{AllocError, Global};
-use yq_flow_reading::push_spaces;
-use yq_flow_scalars::{
-    Piece, behind_spaces, ends_line, is_blank, spaces_len, split_line, split_white,
-};
+use yq_core::{Piece, behind_spaces, ends_line, is_blank, spaces_len, split_line, split_white};
+use yq_scalar_reader::push_spaces;
 
 /// A line of spaces alone, so many at most.
 pub fn is_short(indent: usize, line: &[u8]) -> bool

@@ -1,13 +1,12 @@
 //! A text written as a literal block scalar.
 ghost use Rattle.std.specs.Prelude.{◌≡◌, ◌++◌, ◌-◌, ◌^◌, length, min, OnOk, IfOk};
 ghost use Rattle.std.specs.String.{string_bytes};
-ghost use Rattle.yq_block_scalars.specs.BlockWritten as spec;
-ghost use Rattle.yq_flow_scalars.specs.Text.{joined, text_lines};
+ghost use Rattle.yq_core.specs.BlockWritten as spec;
+ghost use Rattle.yq_core.specs.Text.{joined, text_lines};
 
 use std::alloc::{AllocError, Global};
-use yq_block_scalars::Break;
-use yq_flow_reading::push_spaces;
-use yq_flow_scalars::{split_at_break, split_line};
+use yq_core::{Break, split_at_break, split_line};
+use yq_scalar_reader::push_spaces;
 
 /// The bytes of a break.
 pub fn break_text(br: Break) -> &'static str

@@ -21,11 +21,10 @@ pub use piece_content::content;
 pub use plain_piece::read_plain;
 pub use quoted_piece::read_quoted;
 pub use write::write_scalar;
-pub use yq_block_scalars::Break;
-pub use yq_flow_reading::{
-    are_distinct, can_write, in_flow, int_value, is_plain_content, is_quoted_content, push_spaces,
-};
-pub use yq_flow_scalars::{
-    FaultKind, Kind, Piece, Place, ReadError, ReadFault, Scalar, Style, further_spaces,
+pub use yq_core::{
+    Break, FaultKind, Kind, Piece, Place, ReadError, ReadFault, Scalar, Style, further_spaces,
     is_true_word, resolve,
+};
+pub use yq_scalar_reader::{
+    are_distinct, can_write, in_flow, int_value, is_plain_content, is_quoted_content, push_spaces,
 };

@@ -1,18 +1,18 @@
 //! What the scalar of a piece stands for.
 ghost use Rattle.std.specs.Prelude.{◌≡◌, IfOk, string_bytes, ℕ, ℤ};
-ghost use Rattle.yq_block_scalars.specs.Block.{IsBlockPiece};
-ghost use Rattle.yq_block_scalars.specs.BlockContent as block;
-ghost use Rattle.yq_block_scalars.specs.ScalarPiece as spec;
-ghost use Rattle.yq_flow_scalars.specs.Piece.{IsPlainPiece};
-ghost use Rattle.yq_flow_scalars.specs.PlainContent.{IsPlainLines};
-ghost use Rattle.yq_flow_scalars.specs.Quoted.{QuotedLines, quoted_lines_content as content_of};
-ghost use Rattle.yq_block_scalars.specs.QuotedPiece.{IsQuotedPiece};
-ghost use Rattle.yq_flow_scalars.specs.declared.style.Place.{Place};
+ghost use Rattle.yq_core.specs.Block.{IsBlockPiece};
+ghost use Rattle.yq_core.specs.BlockContent as block;
+ghost use Rattle.yq_core.specs.ScalarPiece as spec;
+ghost use Rattle.yq_core.specs.Piece.{IsPlainPiece};
+ghost use Rattle.yq_core.specs.PlainContent.{IsPlainLines};
+ghost use Rattle.yq_core.specs.Quoted.{QuotedLines, quoted_lines_content as content_of};
+ghost use Rattle.yq_core.specs.QuotedPiece.{IsQuotedPiece};
+ghost use Rattle.yq_core.specs.declared.style.Place.{Place};
 
 use crate::block_content::block_content;
 use std::alloc::{AllocError, Global};
-use yq_flow_reading::{plain_content, quoted_content};
-use yq_flow_scalars::{Piece, Style};
+use yq_core::{Piece, Style};
+use yq_scalar_reader::{plain_content, quoted_content};
 
 /// What the scalar of a piece stands for, where the piece was given for this text: the lines of a plain
 /// or quoted scalar folded and its escapes read, those of a block scalar without their indentation.

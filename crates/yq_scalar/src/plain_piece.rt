@@ -1,21 +1,21 @@
 //! The plain scalar at an offset of a text.
 ghost use Rattle.std.specs.Prelude.{◌≡◌, IfErr, IfOk, Ok};
 ghost use Rattle.std.specs.Str.{IsCharBoundary};
-ghost use Rattle.yq_flow_scalars.specs.Answers.{ReadsAs};
-ghost use Rattle.yq_block_scalars.specs.ScalarPiece.{IsReadPiece};
-ghost use Rattle.yq_flow_scalars.specs.Piece as spec;
-ghost use Rattle.yq_flow_scalars.specs.declared.fault.FaultKind.TheVariants.{BadScalar};
-ghost use Rattle.yq_flow_scalars.specs.declared.piece.Piece.{Piece};
+ghost use Rattle.yq_core.specs.Answers.{ReadsAs};
+ghost use Rattle.yq_core.specs.ScalarPiece.{IsReadPiece};
+ghost use Rattle.yq_core.specs.Piece as spec;
+ghost use Rattle.yq_core.specs.declared.fault.FaultKind.TheVariants.{BadScalar};
+ghost use Rattle.yq_core.specs.declared.piece.Piece.{Piece};
 
-use yq_flow_reading::{begins_plain, in_flow, split_plain};
-use yq_flow_scalars::{FaultKind, Piece, Place, Style, further_spaces, inline_piece};
+use yq_core::{FaultKind, Piece, Place, Style, further_spaces, inline_piece};
+use yq_scalar_reader::{begins_plain, in_flow, split_plain};
 
 /// The plain scalar that begins at an offset, in bytes, of a text, going on as far as it may. `indent`
 /// is the indentation of its parent, in columns, and -1 below no parent.
 ///
 /// The error is [`FaultKind::BadScalar`], exactly where no plain scalar begins there. No memory is
 /// taken.
-#[tactic(auto, using(yq_block_scalars::proofs::PieceLaws::found_by))]
+#[tactic(auto, using(yq_core::proofs::PieceLaws::found_by))]
 pub fn read_plain(text: &str, at: usize, place: Place, indent: i64) -> Result<Piece, FaultKind>
     requires { IsCharBoundary text.now at }
     ensures exact { ReadsAs (λ p. p) result (spec.plain_from place indent at text.now) }
@@ -27,7 +27,7 @@ pub fn read_plain(text: &str, at: usize, place: Place, indent: i64) -> Result<Pi
     plain_from(text, at, place, indent)
 }
 
-#[tactic(auto, unfolding(yq_flow_scalars::specs::Piece::plain_from, yq_flow_scalars::specs::Plain::plain_at))]
+#[tactic(auto, unfolding(yq_core::specs::Piece::plain_from, yq_core::specs::Plain::plain_at))]
 fn plain_from(text: &str, at: usize, place: Place, indent: i64) -> Result<Piece, FaultKind>
     requires { IsCharBoundary text.now at }
     ensures read { ReadsAs (λ p. p) result (spec.plain_from place indent at text.now) }

@@ -2,15 +2,15 @@
 ghost use Rattle.std.specs.List.{list_all};
 ghost use Rattle.std.specs.Prelude.{◌≡◌, ◌==◌, ◌++◌, List, Some, false, true, ℕ};
 ghost use Rattle.std.specs.Str.{IsUtf8, chars};
-ghost use Rattle.yq_flow_scalars.specs.Characters.{is_text};
-ghost use Rattle.yq_flow_scalars.specs.ContentReading.{plain_content, quoted_content};
-ghost use Rattle.yq_flow_scalars.specs.PlainContent.{IsPlainLines};
-ghost use Rattle.yq_flow_scalars.specs.Quoted.{IsQuoted, QuotedLines, quoted_lines_content};
-ghost use Rattle.yq_flow_scalars.specs.QuotedReading.{quoted_at};
-ghost use Rattle.yq_flow_scalars.specs.Plain.{holds_break};
-ghost use Rattle.yq_flow_scalars.specs.Text.{front};
-ghost use Rattle.yq_flow_scalars.specs.Writable.{is_single_char};
-ghost use Rattle.yq_flow_scalars.specs.Written.{double, single};
+ghost use Rattle.yq_core.specs.Characters.{is_text};
+ghost use Rattle.yq_core.specs.ContentReading.{plain_content, quoted_content};
+ghost use Rattle.yq_core.specs.PlainContent.{IsPlainLines};
+ghost use Rattle.yq_core.specs.Quoted.{IsQuoted, QuotedLines, quoted_lines_content};
+ghost use Rattle.yq_core.specs.QuotedReading.{quoted_at};
+ghost use Rattle.yq_core.specs.Plain.{holds_break};
+ghost use Rattle.yq_core.specs.Text.{front};
+ghost use Rattle.yq_core.specs.Writable.{is_single_char};
+ghost use Rattle.yq_core.specs.Written.{double, single};
 
 /// What is read as a quoted scalar is one, what is one is read, and a text begins with one at most.
 pub fn one_quoted()

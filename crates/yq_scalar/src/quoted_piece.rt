@@ -1,14 +1,14 @@
 //! The quoted scalar at an offset of a text.
 ghost use Rattle.std.specs.Prelude.{◌≡◌, IfErr, IfOk, Ok};
 ghost use Rattle.std.specs.Str.{IsCharBoundary};
-ghost use Rattle.yq_flow_scalars.specs.Answers.{ReadsAs};
-ghost use Rattle.yq_block_scalars.specs.ScalarPiece.{IsReadPiece};
-ghost use Rattle.yq_block_scalars.specs.QuotedPiece as spec;
-ghost use Rattle.yq_flow_scalars.specs.declared.fault.FaultKind.TheVariants.{BadScalar};
-ghost use Rattle.yq_flow_scalars.specs.declared.piece.Piece.{Piece};
+ghost use Rattle.yq_core.specs.Answers.{ReadsAs};
+ghost use Rattle.yq_core.specs.ScalarPiece.{IsReadPiece};
+ghost use Rattle.yq_core.specs.QuotedPiece as spec;
+ghost use Rattle.yq_core.specs.declared.fault.FaultKind.TheVariants.{BadScalar};
+ghost use Rattle.yq_core.specs.declared.piece.Piece.{Piece};
 
-use yq_flow_reading::split_quoted;
-use yq_flow_scalars::{FaultKind, Piece, Style, inline_piece};
+use yq_core::{FaultKind, Piece, Style, inline_piece};
+use yq_scalar_reader::split_quoted;
 
 /// The style of a scalar in these quotes.
 fn style_of(quote: u8) -> Style
@@ -25,7 +25,7 @@ fn style_of(quote: u8) -> Style
 ///
 /// The error is [`FaultKind::BadScalar`], exactly where no quoted scalar begins there. No memory is
 /// taken.
-#[tactic(auto, using(yq_block_scalars::proofs::QuotedPieceLaws::found_by))]
+#[tactic(auto, using(yq_core::proofs::QuotedPieceLaws::found_by))]
 pub fn read_quoted(text: &str, at: usize) -> Result<Piece, FaultKind>
     requires { IsCharBoundary text.now at }
     ensures exact { ReadsAs (λ p. p) result (spec.quoted_from at text.now) }
@@ -37,7 +37,7 @@ pub fn read_quoted(text: &str, at: usize) -> Result<Piece, FaultKind>
     quoted_from(text, at)
 }
 
-#[tactic(auto, unfolding(yq_block_scalars::specs::QuotedPiece::quoted_from))]
+#[tactic(auto, unfolding(yq_core::specs::QuotedPiece::quoted_from))]
 fn quoted_from(text: &str, at: usize) -> Result<Piece, FaultKind>
     requires { IsCharBoundary text.now at }
     ensures read { ReadsAs (λ p. p) result (spec.quoted_from at text.now) }

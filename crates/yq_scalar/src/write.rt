@@ -2,11 +2,11 @@
 ghost use Rattle.std.specs.List.{flat_map};
 ghost use Rattle.std.specs.Prelude.{◌≡◌, ◌==◌, ◌++◌, ◌<◌, ◌∷◌, [], OnOk, IfOk, encode_utf8, if◌then◌else◌, string_bytes, true};
 ghost use Rattle.std.specs.Str.{chars};
-ghost use Rattle.yq_flow_scalars.specs.Writable.{can_write};
-ghost use Rattle.yq_flow_scalars.specs.Written as spec;
+ghost use Rattle.yq_core.specs.Writable.{can_write};
+ghost use Rattle.yq_core.specs.Written as spec;
 
 use std::alloc::{AllocError, Global};
-use yq_flow_scalars::{Place, Scalar, Style, is_text_char};
+use yq_core::{Place, Scalar, Style, is_text_char};
 
 /// The letter that stands behind a backslash for the character.
 fn letter_of(c: char) -> Option<char>

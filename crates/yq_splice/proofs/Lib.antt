@@ -1,2 +1,4 @@
+pub mod SessionLaws
+pub mod FollowLaws
 pub mod SpliceLaws
 pub mod AnswerLaws

@@ -1,16 +1,16 @@
 //! Editing: a program carried out on a text.
 ghost use Rattle.std.specs.Prelude.{◌≡◌, ◌++◌, ◌<◌, List, [], Some, IfErr, IfOk, string_bytes};
-ghost use Rattle.yq_program.specs.Program.{LiteralsHold, Update, update_at, update_count, updates};
-ghost use Rattle.yq_program.specs.View.{program_of};
-ghost use Rattle.yq_outcomes.specs.Answers.{Edits};
-ghost use Rattle.yq_outcomes.specs.Carried as spec;
-ghost use Rattle.yq_outcomes.specs.Theorems.{AreSplices, EditRefused, InOrder, IsEdited};
-ghost use Rattle.yq_outcomes.specs.Valid.{FailsAt, FailsEach, IsStep};
+ghost use Rattle.yq_semantics.specs.Program.{LiteralsHold, Update, update_at, update_count, updates};
+ghost use Rattle.yq_semantics.specs.View.{program_of};
+ghost use Rattle.yq_edit_laws.specs.Answers.{Edits};
+ghost use Rattle.yq_edit_laws.specs.Carried as spec;
+ghost use Rattle.yq_edit_laws.specs.Theorems.{AreSplices, EditRefused, InOrder, IsEdited};
+ghost use Rattle.yq_edit_laws.specs.Valid.{FailsAt, FailsEach, IsStep};
 
+use crate::{EditError, carry_plan, operands_hold};
 use std::alloc::{AllocError, Global};
-use yq_carrying::{EditError, carry_plan, operands_hold};
 use yq_expr::{Program, Refusal, plan};
-use yq_script::{Edited, Splice};
+use yq_text::{Edited, Splice};
 use yq_tree::read;
 
 /// The text as it is.
@@ -68,7 +68,7 @@ fn update_each(alloc: Global, text: &str, program: &Program) -> Result<Edited, E
 }
 
 /// A program without updates on a text: none is carried out.
-#[tactic(auto, unfolding(yq_outcomes::specs::Carried::edit_of))]
+#[tactic(auto, unfolding(yq_edit_laws::specs::Carried::edit_of))]
 fn no_updates(alloc: Global, text: &str, program: &Program) -> Result<Edited, EditError>
     requires { update_count (program_of program.now) ≡ 0 }
     ensures { Edits result (spec.edit_of (program_of program.now) text.now) }

@@ -1,10 +1,16 @@
+//! Operations carried out on a text, one by one or many together, and sessions over its rows.
+//!
 //! Edits of a text, as splices.
 #![tactic(auto)]
 
+mod carrying;
 pub mod edit_laws;
 mod editing;
+mod session;
 
+pub use carrying::{apply_op, carry_plan};
 pub use editing::edit;
-pub use yq_block::print;
-pub use yq_carrying::{EditError, Session, apply_op};
-pub use yq_script::{Edited, Splice};
+pub use session::Session;
+pub use yq_edit_laws::{EditError, operands_hold};
+pub use yq_edits::print;
+pub use yq_text::{Edited, Splice};

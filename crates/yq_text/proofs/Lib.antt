@@ -1,3 +1,14 @@
 pub mod SplitLaws
 pub mod HalvesLaws
 pub mod RoomLaws
+pub mod SpliceLaws
+pub mod ScriptLaws
+pub mod ExtentLaws
+pub mod TouchLaws
+pub mod LoopLaws
+pub mod PlaceInList
+pub mod KeptSegments
+pub mod BetweenLaws
+pub mod ChangeLaws
+pub mod FirstSegment
+pub mod DraftLaws

@@ -1,3 +1,8 @@
 pub mod Halves
 pub mod Limit
 pub mod Split
+pub mod Splice
+pub mod Script
+pub mod Segments
+pub mod Exchanging
+pub mod Changing

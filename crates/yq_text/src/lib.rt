@@ -1,11 +1,31 @@
 //! How long a text may be, and texts that are kept in two halves, so that an edit between them moves no
 //! other byte.
+//!
+//! Scripts: a text as segments that stay and segments that give way, the text
+//! that they make, and the splices that lead to it.
 #![tactic(auto)]
 
+mod changed;
+mod changing;
+mod draft;
+mod edited;
+mod exchange_error;
+mod exchanging;
 mod halves;
+mod laws;
+mod segment;
+mod splice;
 mod split_text;
 
+pub use changed::Changed;
+pub use changing::changes;
+pub use edited::Edited;
+pub use exchange_error::ExchangeError;
+pub use exchanging::exchange;
 pub use halves::Halves;
+pub use laws::{changes_lead, outside_stays, touching_are_one, unchanged_stay};
+pub use segment::{Segment, Segments};
+pub use splice::{Splice, splice_exchanges, splices_invert};
 pub use split_text::SplitText;
 
 /// How many bytes a text has at most.

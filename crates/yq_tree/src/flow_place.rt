@@ -1,17 +1,17 @@
 //! Where items and entries stand in flow collections, and their contents.
 ghost use Rattle.std.specs.Prelude.{◌≡◌, map, option_map};
-ghost use Rattle.yq_nodes.specs.Entries.{content_place, entry_place, entry_view, tree_step};
-ghost use Rattle.yq_lines.specs.View.{head_flow};
+ghost use Rattle.yq_core.specs.Entries.{content_place, entry_place, entry_view, tree_step};
+ghost use Rattle.yq_outline.specs.View.{head_flow};
 ghost use Rattle.yq_documents.specs.Decoded.{decoded_flow};
 ghost use Rattle.yq_documents.specs.Pieces.{span};
 ghost use Rattle.yq_documents.specs.Reading.{cut_of};
-ghost use Rattle.yq_row_places.specs.EntryReading as spec;
+ghost use Rattle.yq_places.specs.EntryReading as spec;
 
 use crate::document::Documents;
+use yq_core::{Entry, Step};
 use yq_documents::{Decoded, Path, Span};
-use yq_lines::Head;
-use yq_nodes::{Entry, Step};
-use yq_walk::reach;
+use yq_outline::Head;
+use yq_row_walk::reach;
 
 /// The item or entry to which steps lead in a head.
 fn head_entry<'d, 't>(head: &'d Head<'t>, steps: &[Step]) -> Option<Entry<'d, 't>>

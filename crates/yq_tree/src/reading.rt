@@ -1,11 +1,11 @@
 //! Reading bytes as documents.
 ghost use Rattle.std.specs.Prelude.{◌≡◌, ◌↔◌, ℕ, List, IfErr, IfOk, Some, MatchResult, true, false};
 ghost use Rattle.std.specs.Str.{is_utf8};
-ghost use Rattle.yq_flow_scalars.specs.declared.fault.FaultKind.TheVariants.{NotUtf8};
-ghost use Rattle.yq_flow_scalars.specs.Answers.{Gives, IsOfText};
-ghost use Rattle.yq_cut.specs.Grammar.{IsCut};
-ghost use Rattle.yq_cut.specs.Rows.{Cut};
-ghost use Rattle.yq_row_places.specs.Answers.{IsNotUtf8};
+ghost use Rattle.yq_core.specs.declared.fault.FaultKind.TheVariants.{NotUtf8};
+ghost use Rattle.yq_core.specs.Answers.{Gives, IsOfText};
+ghost use Rattle.yq_row_table.specs.Grammar.{IsCut};
+ghost use Rattle.yq_row_table.specs.Rows.{Cut};
+ghost use Rattle.yq_places.specs.Answers.{IsNotUtf8};
 ghost use Rattle.yq_documents.specs.Documents.{Document, ReadsDocuments};
 ghost use Rattle.yq_documents.specs.Reading as spec;
 ghost use Rattle.yq_documents.specs.Ready.{TextIsReady};
@@ -13,9 +13,9 @@ ghost use Rattle.yq_documents.specs.Ready.{TextIsReady};
 use crate::document::Documents;
 use std::alloc::Global;
 use std::num::NonZeroU64;
-use yq_flow_scalars::{FaultKind, ReadError, ReadFault};
-use yq_lines::lines_shaped;
-use yq_reading::read_rows;
+use yq_compose::read_rows;
+use yq_core::{FaultKind, ReadError, ReadFault};
+use yq_outline::lines_shaped;
 use yq_rows::scan;
 
 /// The text that bytes are in UTF-8. Bytes that are none are refused as

@@ -5,10 +5,10 @@ ghost use Rattle.serde_json.specs.View.{view};
 ghost use Rattle.yq_journal.specs.Json as spec;
 
 use super::fields::{bytes, has_keys, number, text};
+use crate::{Record, leads};
 use serde_json::Value;
 use std::alloc::{AllocError, Global};
-use yq_records::{Record, leads};
-use yq_script::Splice;
+use yq_text::Splice;
 
 /// A splice, whose keys are `at`, `new` and `old`.
 #[tactic(auto, unfolding(crate::specs::Json::splice_of))]

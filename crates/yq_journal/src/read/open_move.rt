@@ -7,9 +7,9 @@ use super::edits::record;
 use super::fields::{bytes, has_keys, text};
 use crate::journal::Open;
 use crate::ways::target;
+use crate::{JournalError, Move, Record};
 use serde_json::Value;
 use std::alloc::{AllocError, Global};
-use yq_records::{JournalError, Move, Record};
 
 /// The move of a kind that has no record.
 fn bare_move(kind: &str) -> Option<Move>

@@ -1,30 +1,72 @@
 //! Where the comments of entries and items stand.
-ghost use Rattle.std.specs.Prelude.{◌≡◌, ◌<◌, option_map};
-ghost use Rattle.yq_documents.specs.Pieces.{piece_span, span};
-ghost use Rattle.yq_row_places.specs.PathPieces.{path_piece};
-ghost use Rattle.yq_documents.specs.Reading.{cut_of};
-ghost use Rattle.yq_documents.specs.declared.path.Part.TheVariants as parts;
+ghost use Rattle.std.specs.Prelude.{◌≡◌, ◌<◌, ◌≤◌, ◌+◌, length, option_map, slice_get, Some};
+ghost use Rattle.yq_text.specs.Limit.{text_limit};
+ghost use Rattle.yq_row_table.specs.View.{Slices};
+ghost use Rattle.yq_places.specs.CommentReading as spec;
+ghost use Rattle.yq_outline.specs.Extents as extents;
+ghost use Rattle.yq_documents.specs.Pieces.{span};
+ghost use Rattle.yq_outline.specs.Extents.{IsRowsView};
+ghost use Rattle.yq_places.specs.RowLineReading.{line_view};
 
-use crate::cut_text::CutText;
-use yq_documents::{Path, Span};
-use yq_row_places::{head_comment_in, line_comment_in};
+use crate::places::stretch::RowLine;
+use yq_core::lines::split_at_break;
+use yq_core::text::split_white;
+use yq_documents::{Span, is_comment, last_run};
+use yq_row_table::Rows;
+use yq_row_walk::{front_len, row_start};
 
-impl<'t> CutText<'_, 't> {
-    /// The place of the comment behind the entry or item at a path, on the line of its key or dash.
-    pub fn line_comment_place(&self, path: &Path) -> Option<Span>
-        ensures { option_map span result ≡
-            option_map piece_span (path_piece path.now parts.LineComment (cut_of self.now)) }
-    {
-        let row_line = self.row_line(path)?;
-        line_comment_in(self.rows, row_line)
+/// The place of the comment in a tail that begins at a place.
+fn tail_comment(start: usize, tail: &str) -> Option<Span>
+    requires { start + length tail.now ≤ text_limit }
+    ensures { option_map span result ≡ spec.tail_span start tail.now }
+{
+    if !is_comment(tail) {
+        return None;
     }
+    let (white, comment) = split_white(tail);
+    let start = start + white.len();
+    let end = start + split_at_break(comment).0.len();
+    Some(Span { start, end })
+}
 
-    /// The place of the run of comments above the entry or item at a path, with the breaks.
-    pub fn head_comment_place(&self, path: &Path) -> Option<Span>
-        ensures { option_map span result ≡
-            option_map piece_span (path_piece path.now parts.HeadComment (cut_of self.now)) }
-    {
-        let row_line = self.row_line(path)?;
-        head_comment_in(self.rows, row_line)
+/// The place of the line comment of a line.
+pub fn line_comment_in(rows: &Rows<'_>, row_line: RowLine) -> Option<Span>
+    requires within { row_line.row < length rows.now.rows }
+    requires rows_view { IsRowsView rows.now }
+    ensures { (x : Slices) → slice_get rows.now.rows row_line.row ≡ Some x → option_map span result ≡
+        spec.line_comment_span (extents.row_start row_line.row rows.now) x (line_view row_line) }
+{
+    if row_line.line != row_line.dashes {
+        return None;
     }
+    let row = rows.row(row_line.row);
+    let start = row_start(rows, row_line.row) + front_len(&row) + row.head().len();
+    tail_comment(start, row.tail())
+}
+
+/// The place of the run of comments that ends a gap, where the gap begins at a place.
+fn gap_comment(start: usize, gap: &str) -> Option<Span>
+    requires { start + length gap.now ≤ text_limit }
+    ensures { option_map span result ≡ spec.gap_span start gap.now }
+{
+    let run = last_run(gap);
+    if run.is_empty() {
+        return None;
+    }
+    let end = start + gap.len();
+    let start = end - run.len();
+    Some(Span { start, end })
+}
+
+/// The place of the head comment of a line.
+pub fn head_comment_in(rows: &Rows<'_>, row_line: RowLine) -> Option<Span>
+    requires within { row_line.row < length rows.now.rows }
+    requires rows_view { IsRowsView rows.now }
+    ensures { (x : Slices) → slice_get rows.now.rows row_line.row ≡ Some x → option_map span result ≡
+        spec.head_comment_span (extents.row_start row_line.row rows.now) x (line_view row_line) }
+{
+    if row_line.line != 0 {
+        return None;
+    }
+    gap_comment(row_start(rows, row_line.row), rows.row(row_line.row).gap())
 }

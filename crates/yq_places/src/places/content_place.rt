@@ -1,20 +1,67 @@
 //! Where the contents of nodes stand outside flow collections.
-ghost use Rattle.std.specs.Prelude.{◌≡◌, option_map};
-ghost use Rattle.yq_row_places.specs.EntryReading as spec;
+ghost use Rattle.std.specs.Prelude.{◌≡◌, map, option_map};
+ghost use Rattle.yq_core.specs.Entries.{tree_step};
+ghost use Rattle.yq_places.specs.EntryReading as spec;
+ghost use Rattle.yq_outline.specs.Extents.{IsRowsView};
+ghost use Rattle.yq_outline.specs.RowWalk.{AreKnown, HasDocument, IsPosition, lines_stop};
+ghost use Rattle.yq_places.specs.RowWalk.{InEach};
+ghost use Rattle.yq_outline.specs.Lines.{lines_of_rows};
 ghost use Rattle.yq_documents.specs.Pieces.{span};
-ghost use Rattle.yq_documents.specs.Reading.{cut_of};
 
-use crate::cut_text::CutText;
-use yq_documents::{Path, Span};
-use yq_row_places::content_of;
+use crate::places::entry_place::lines_place;
+use crate::places::known_end::behind_all;
+use crate::places::node_place::{NodePlace, node_place};
+use crate::places::row_place::head_extent;
+use yq_core::Step;
+use yq_documents::Span;
+use yq_outline::{KnownItems, Position, Stretch};
+use yq_row_table::Rows;
+use yq_row_walk::{is_bare, is_deeper};
 
-impl CutText<'_, '_> {
-    /// The place of the content of the node at a path, unless it stands in flow.
-    pub fn content_place(&self, path: &Path) -> Option<Span>
-        ensures { option_map span result ≡ spec.line_content_at path.now (cut_of self.now) }
-    {
-        let document = self.stretch(path.doc)?;
-        let _whole = self.whole();
-        content_of(self.rows(), document, self.known(), &path.steps)
+/// The place of the node for which the lines stand, from one on, that are deeper than a level.
+fn lines_content(
+    rows: &Rows<'_>,
+    document: Stretch,
+    known: KnownItems,
+    from: Position,
+    floor: usize,
+) -> Option<Span>
+    requires rows_view { IsRowsView rows.now }
+    requires document { HasDocument rows.now document }
+    requires known { AreKnown rows.now.rows known }
+    requires from { IsPosition rows.now document from }
+    ensures { InEach rows.now document (λ first c rs n. option_map span result ≡
+        spec.lines_content first c rs (n from) (lines_stop (n from) floor (lines_of_rows rs))) }
+{
+    if !is_deeper(rows, document, from, floor) {
+        return None;
+    }
+    if is_bare(rows, document, from) {
+        return Some(head_extent(rows, from.row));
+    }
+    let to = behind_all(rows, document, known, from, floor);
+    Some(lines_place(rows, document, from, to))
+}
+
+/// The place of the node to which steps lead, unless they go on in a head.
+pub fn content_of(
+    rows: &Rows<'_>,
+    document: Stretch,
+    known: KnownItems,
+    steps: &[Step],
+) -> Option<Span>
+    requires rows_view { IsRowsView rows.now }
+    requires document { HasDocument rows.now document }
+    requires known { AreKnown rows.now.rows known }
+    ensures { InEach rows.now document (λ first c rs n. option_map span result ≡
+        spec.line_content_of first c rs (map tree_step steps.now)) }
+{
+    let (place, left) = node_place(rows, document, known, None, steps)?;
+    if !left.is_empty() {
+        return None;
+    }
+    match place {
+        NodePlace::Head(at) => Some(head_extent(rows, at.row)),
+        NodePlace::Lines(from, floor) => lines_content(rows, document, known, from, floor),
     }
 }

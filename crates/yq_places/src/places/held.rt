@@ -1,25 +1,118 @@
 //! Keys and dashes of a text, with what they hold.
-ghost use Rattle.std.specs.Prelude.{◌≡◌, option_map};
-ghost use Rattle.yq_documents.specs.Located.{steps_of};
-ghost use Rattle.yq_documents.specs.Reading.{cut_of};
-ghost use Rattle.yq_row_places.specs.StandingViews as row_agrees;
+ghost use Rattle.std.specs.Prelude.{◌≡◌, ◌≤◌, ◌+◌, ◌||◌, length, not};
+ghost use Rattle.yq_text.specs.Halves.{halves_text};
+ghost use Rattle.yq_text.specs.Limit.{text_limit};
+ghost use Rattle.yq_core.specs.Text.{is_empty};
+ghost use Rattle.yq_row_table.specs.View.{row_view};
+ghost use Rattle.yq_outline.specs.RowWalk.{line_column};
+ghost use Rattle.yq_places.specs.RowPieces as pieces;
+ghost use Rattle.yq_places.specs.Standings as spec;
+ghost use Rattle.yq_places.specs.StandingReading.{HasEntry, IsEntryIn};
+ghost use Rattle.yq_places.specs.StandingViews as row_agrees;
 
-use crate::cut_text::CutText;
-use yq_documents::Path;
-use yq_row_places::{Held, held_in};
+use crate::places::halves::is_text;
+use crate::places::lines_cut::{cut_lines, cut_tail, either};
+use crate::places::row_place::row_stop;
+use crate::places::rows_of_entry::RowsOfEntry;
+use yq_row_table::{Row, Rows};
+use yq_row_walk::{head_place, line_column};
+use yq_text::Halves;
 
-impl<'t> CutText<'_, 't> {
-    /// The key or dash of the item or entry at a path, with what it holds, if its line is the last one
-    /// of its row. The root has none, nor has what stands in flow.
-    pub fn held(&self, path: &Path) -> Option<Held<'t>>
-        ensures { option_map row_agrees.held_view result ≡
-            row_agrees.held_at path.now.doc (steps_of path.now) (cut_of self.now) }
-    {
-        let text = self.whole();
-        let entry = self.entry(path)?;
-        if entry.line != entry.dashes {
-            return None;
-        }
-        Some(held_in(self.rows(), text, entry))
+/// A key or dash of a text.
+#[derive(Clone, Copy)]
+pub struct Mark {
+    /// Its column, counted from 0.
+    pub column: usize,
+    /// Whether it is a key.
+    pub keyed: bool,
+    /// Whether its row has an anchor before what is written behind its last mark, or a comment behind
+    /// that.
+    pub noted: bool,
+}
+
+/// A key or dash of a text, with what it holds.
+#[derive(Clone, Copy)]
+pub struct Held<'t> {
+    /// The key or dash.
+    pub mark: Mark,
+    /// The text up to it, or to its anchor, with these.
+    pub before: Halves<'t>,
+    /// The white space behind that.
+    pub space: &'t str,
+    /// What is written there: an inline node, the header of a block scalar or nothing.
+    pub head: &'t str,
+    /// The white space that ends its line, or stands before the line's comment.
+    pub white: &'t str,
+    /// The comment, if the line has one.
+    pub comment: &'t str,
+    /// The line's break, where lines are under it; empty where none are.
+    pub line_break: &'t str,
+    /// The lines under it, less the break of the last one.
+    pub lines: Halves<'t>,
+    /// The break that ends it all: of the last line under it, or of its own line.
+    pub last: &'t str,
+    /// The text behind.
+    pub behind: Halves<'t>,
+}
+
+/// The key or dash of a line of a row that ends with a comment, or with none.
+pub fn mark_of(row: &Row<'_>, line: usize, keyed: bool, comment: &str) -> Mark
+    requires { (row_view row.now).column + length (row_view row.now).dashes ≤ text_limit }
+    ensures column { result.column ≡ line_column line (row_view row.now) }
+    ensures keyed { result.keyed ≡ keyed }
+    ensures noted { result.noted ≡ (not (is_empty (row_view row.now).anchor) ||
+        not (is_empty comment.now)) }
+{
+    Mark {
+        column: line_column(row, line),
+        keyed,
+        noted: !row.anchor().is_empty() || !comment.is_empty(),
+    }
+}
+
+/// Whether a row has a key.
+fn has_key(row: &Row<'_>) -> bool
+    ensures { result ≡ not (is_empty (row_view row.now).colon) }
+{
+    !row.colon().is_empty()
+}
+
+/// The white space before the head of a row. Without a head there is none, it is in the tail.
+fn space_before<'t>(row: &Row<'t>) -> &'t str
+    ensures { result.now ≡ pieces.space_before (row_view row.now) }
+{
+    if row.anchor().is_empty() {
+        row.space()
+    } else {
+        row.apart()
+    }
+}
+
+/// What the key or dash of rows holds.
+pub fn held_in<'t>(rows: &Rows<'t>, text: Halves<'t>, at: RowsOfEntry) -> Held<'t>
+    requires { HasEntry (halves_text text) rows.now at }
+    ensures { (e : spec.RowsOfEntry) → IsEntryIn (halves_text text.entry) rows.now e at →
+        row_agrees.held_view result ≡ spec.held e }
+{
+    is_text(text);
+    let row = rows.row(at.row);
+    let (_, end) = head_place(rows, at.row);
+    let stop = row_stop(rows, at.end - 1);
+    let lower = cut_lines(text, end + row.tail().len(), stop);
+    let space = space_before(&row);
+    let head = row.head();
+    let (before, _) = lower.before.split_at(end - (space.len() + head.len()));
+    let tail = cut_tail(&row);
+    Held {
+        mark: mark_of(&row, at.dashes, has_key(&row), tail.comment),
+        before,
+        space,
+        head,
+        white: tail.white,
+        comment: tail.comment,
+        line_break: either(lower.none, "", tail.line_break),
+        lines: lower.lines,
+        last: either(lower.none, tail.line_break, lower.last),
+        behind: lower.behind,
     }
 }

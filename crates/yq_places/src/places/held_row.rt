@@ -1,26 +1,71 @@
 //! Keys and dashes whose line is the last one of its row, with that row and what it holds behind them.
-ghost use Rattle.std.specs.Prelude.{◌≡◌, ◌<◌, IfSome};
-ghost use Rattle.yq_documents.specs.Located.{steps_of};
-ghost use Rattle.yq_documents.specs.Reading.{cut_of};
-ghost use Rattle.yq_row_places.specs.StandingViews as row_agrees;
+ghost use Rattle.std.specs.Prelude.{[], ◌≡◌, ◌<◌, ◌&&◌, length, not, slice_get, IfSome, Some};
+ghost use Rattle.yq_core.specs.Text.{is_empty};
+ghost use Rattle.yq_row_table.specs.Rows.{Cut, Row as RowOf};
+ghost use Rattle.yq_row_table.specs.View.{rows_of, rows_view};
+ghost use Rattle.yq_documents.specs.RowReading.{is_block_head};
+ghost use Rattle.yq_outline.specs.Extents.{IsRowsView};
+ghost use Rattle.yq_places.specs.CommentPlaces.{end_in_line};
+ghost use Rattle.yq_places.specs.StandingViews as row_agrees;
 
-use crate::cut_text::CutText;
-use yq_documents::Path;
-use yq_row_places::{HeldRow, known_along, row_of_last};
+use yq_core::lines::split_at_break;
+use yq_core::text::split_white;
+use yq_documents::is_block_head;
+use yq_outline::Position;
+use yq_row_table::Rows;
+use yq_row_walk::{front_len, lines_before_mark};
 
-impl<'d, 't> CutText<'d, 't> {
-    /// The key or dash of the item or entry at a path with its row, where the row ends in its line. From
-    /// then on it is known what stands on the way of the path.
-    pub fn to_held_row(&mut self, path: &Path) -> Option<HeldRow<'t>>
-        ensures same { self.new ≡ self.old }
-        ensures row { IfSome result (row_agrees.IsHeldRow path.now.doc (steps_of path.now)
-            (cut_of self.old)) }
+/// A key or dash of a text whose line is the last one of its row, with what that row holds behind it.
+#[derive(Clone, Copy)]
+pub struct HeldRow<'t> {
+    /// How many rows of the text stand before it.
+    pub row: usize,
+    /// Whether an inline node is written there.
+    pub inline: bool,
+    /// How many bytes of the text stand before what is written there.
+    pub start: usize,
+    /// What is written there: an inline node, the header of a block scalar or nothing.
+    pub head: &'t str,
+    /// The end of the line behind that, with its break.
+    pub tail: &'t str,
+}
+
+impl<'t> HeldRow<'t> {
+    /// The white space that ends its line, or stands before the line's comment, and that comment, if the
+    /// line has one.
+    pub fn line_end(&self) -> (&'t str, &'t str)
+        ensures white { result.0.now ≡ (end_in_line [] self.now.tail.now).white }
+        ensures comment { result.1.now ≡ (end_in_line [] self.now.tail.now).comment }
     {
-        let text = self.whole();
-        let rows = self.rows();
-        let document = self.stretch(path.doc)?;
-        let (known, at) = known_along(rows, document, self.known(), &path.steps);
-        *self = CutText::resumed(text, rows, known);
-        row_of_last(rows, at?)
+        let (white, line) = split_white(self.tail);
+        (white, split_at_break(line).0)
     }
+}
+
+/// Whether the head of a row is an inline node.
+fn is_inline(head: &str) -> bool
+    ensures { result ≡ (not (is_empty head.now) && not (is_block_head head.now)) }
+{
+    !(head.is_empty() || is_block_head(head.as_bytes()))
+}
+
+/// The row of a line, with what it holds behind that, if it is its last one.
+pub fn row_of_last<'t>(rows: &Rows<'t>, at: Position) -> Option<HeldRow<'t>>
+    requires within { at.row < length rows.now.rows }
+    requires rows_view { IsRowsView rows.now }
+    ensures { IfSome result (λ x. (c : Cut) → rows.now ≡ rows_view c → (r : RowOf) →
+        slice_get (rows_of c) at.row ≡ Some r → row_agrees.IsLastOf c at r x) }
+{
+    if at.line != lines_before_mark(rows, at.row) {
+        return None;
+    }
+    let row = rows.row(at.row);
+    let head = row.head();
+    Some(HeldRow {
+        row: at.row,
+        inline: is_inline(head),
+        start: rows.start(at.row) + front_len(&row),
+        head,
+        tail: row.tail(),
+    })
 }

@@ -1,73 +1,140 @@
 //! What the nodes at paths are, each read from the rows that tell it.
-ghost use Rattle.std.specs.Prelude.{◌≡◌, map, option_and_then, option_map, false, IfOk, None};
-ghost use Rattle.yq_nodes.specs.Entries.{tree_step};
-ghost use Rattle.yq_documents.specs.Located.{steps_of};
-ghost use Rattle.yq_documents.specs.Reading.{cut_of};
-ghost use Rattle.yq_row_places.specs.NodesAt as spec;
-ghost use Rattle.yq_row_places.specs.RemovalPlaces.{has_others_at};
+ghost use Rattle.std.specs.Prelude.{◌≡◌, map, option_map, false, IfOk, None};
+ghost use Rattle.yq_core.specs.Entries.{tree_step};
+ghost use Rattle.yq_core.specs.Paths.{node_at};
+ghost use Rattle.yq_core.specs.Trees.{placed_tree};
+ghost use Rattle.yq_core.specs.View as inline;
+ghost use Rattle.yq_outline.specs.Ends.{part};
+ghost use Rattle.yq_outline.specs.Outline.{value};
+ghost use Rattle.yq_outline.specs.Positions.{begins_with_node};
+ghost use Rattle.yq_outline.specs.View.{head_view};
+ghost use Rattle.yq_outline.specs.Lines.{lines_of_rows};
+ghost use Rattle.yq_outline.specs.Extents.{IsRowsView};
+ghost use Rattle.yq_places.specs.NodeReading as reading;
+ghost use Rattle.yq_places.specs.NodesAt as spec;
+ghost use Rattle.yq_outline.specs.RowWalk.{HasRows, IsPosition, line_number};
 
-use crate::cut_text::CutText;
+use crate::places::node_place::NodePlace;
 use std::alloc::{AllocError, Global};
-use yq_documents::Path;
-use yq_flow_scalars::Kind;
-use yq_lines::Content;
-use yq_nodes::Step;
-use yq_row_places::{NodeAt, block_node, head_node, node_place, place_line};
+use yq_core::{Form, Inline, Kind, Step};
+use yq_outline::{Content, Head, Position, Stretch};
+use yq_row_table::Rows;
+use yq_row_walk::{behind, is_deeper, is_item_at};
 
-impl<'t> CutText<'_, 't> {
-    /// What the node at a path of document `doc`, counted from 0, is.
-    pub fn node_at(
-        &self,
-        alloc: Global,
-        doc: usize,
-        steps: &[Step],
-    ) -> Result<Option<NodeAt<'t>>, AllocError>
-        ensures { IfOk result (λ o. option_map spec.node_view o ≡
-            option_map spec.node_summary (spec.node_in doc (map tree_step steps.now)
-            (cut_of self.now))) }
-    {
-        let _whole = self.whole();
-        let rows = self.rows();
-        let Some(document) = self.stretch(doc) else {
-            return Ok(None);
-        };
-        let Some((place, left)) = node_place(rows, document, self.known(), self.line(), steps)
-        else {
-            return Ok(None);
-        };
-        let Some(at) = place_line(rows, document, place) else {
-            return Ok(block_node(rows, document, place));
-        };
-        let head = self.row_head(alloc, at.row)?;
-        head_node(alloc, head.head, left)
-    }
+/// What a node is, as far as updates ask.
+#[derive(Drop)]
+pub enum NodeAt<'t> {
+    Alias,
+    Scalar(Kind, Content<'t>),
+    /// A sequence, and whether it has several items.
+    List(bool),
+    /// A mapping, and whether it has several entries.
+    Map(bool),
+}
 
-    /// The scalar at a path, if one is there.
-    pub fn scalar_at(
-        &self,
-        alloc: Global,
-        path: &Path,
-    ) -> Result<Option<(Kind, Content<'t>)>, AllocError>
-        ensures { IfOk result (λ o. option_map spec.scalar_view o ≡
-            option_and_then spec.scalar_in (spec.node_in path.now.doc (steps_of path.now)
-            (cut_of self.now))) }
+impl<'t> NodeAt<'t> {
+    /// The scalar that it is, if it is one.
+    pub fn scalar(self) -> Option<(Kind, Content<'t>)>
+        ensures { option_map spec.scalar_view result ≡
+            spec.summary_scalar (spec.node_view self.entry) }
     {
-        match self.node_at(alloc, path.doc, &path.steps)? {
-            Some(node) => Ok(node.scalar()),
-            None => Ok(None),
+        match self {
+            NodeAt::Scalar(kind, text) => Some((kind, text)),
+            NodeAt::Alias | NodeAt::List(_) | NodeAt::Map(_) => None,
         }
     }
 
-    /// Whether the collection in which a path ends has others beside the item or entry to which it
-    /// leads.
-    pub fn has_others(&self, alloc: Global, path: &Path) -> Result<bool, AllocError>
-        ensures { IfOk result (λ b. b ≡ has_others_at path.now.doc (steps_of path.now)
-            (cut_of self.now)) }
+    /// Whether it has several items or entries.
+    pub fn has_several(&self) -> bool
+        ensures { result ≡ spec.summary_several (spec.node_view self.now) }
     {
-        let above = path.steps.len().saturating_sub(1);
-        match self.node_at(alloc, path.doc, &path.steps[..above])? {
-            Some(node) => Ok(node.has_several()),
-            None => Ok(false),
+        match self {
+            NodeAt::Alias | NodeAt::Scalar(..) => false,
+            NodeAt::List(several) | NodeAt::Map(several) => *several,
         }
+    }
+}
+
+/// What the node is to which steps lead in an inline node, if there is one.
+fn inline_node<'t>(
+    alloc: Global,
+    node: &Inline<'t>,
+    steps: &[Step],
+) -> Result<Option<NodeAt<'t>>, AllocError>
+    ensures { IfOk result (λ o. option_map spec.node_view o ≡ option_map spec.node_summary
+        (node_at (map tree_step steps.now) (placed_tree (inline.inline_view node.now)))) }
+{
+    let Some(entry) = node.entry(steps) else {
+        return Ok(None);
+    };
+    match &entry.node.form {
+        Form::Empty => Ok(Some(NodeAt::Scalar(Kind::Null, Content::Slice("null")))),
+        Form::Alias(_) => Ok(Some(NodeAt::Alias)),
+        Form::Scalar(scalar, _) => {
+            let text = String::from_str(alloc, scalar.text())?;
+            Ok(Some(NodeAt::Scalar(scalar.kind(), Content::Own(text))))
+        }
+        Form::List(items) => Ok(Some(NodeAt::List(items.len() > 1))),
+        Form::Map(entries) => Ok(Some(NodeAt::Map(entries.len() > 1))),
+    }
+}
+
+/// What the node is to which steps lead in a head, if there is one.
+pub fn head_node<'t>(
+    alloc: Global,
+    head: Head<'t>,
+    steps: &[Step],
+) -> Result<Option<NodeAt<'t>>, AllocError>
+    ensures { IfOk result (λ o. option_map spec.node_view o ≡
+        reading.summary_in_head (map tree_step steps.now) (head_view head.entry)) }
+{
+    match head {
+        Head::Nothing => Ok(None),
+        Head::Scalar(kind, text) => {
+            if !steps.is_empty() {
+                return Ok(None);
+            }
+            Ok(Some(NodeAt::Scalar(kind, text)))
+        }
+        Head::Inline(node) => inline_node(alloc, &node, steps),
+    }
+}
+
+/// What the node is for which the lines stand, from one on, that are deeper than a level, where the
+/// first of them is no node itself.
+fn lines_node<'t>(rows: &Rows<'_>, document: Stretch, under: Position, floor: usize) -> NodeAt<'t>
+    requires rows_view { IsRowsView rows.now }
+    requires document { HasRows rows.now document }
+    requires under { IsPosition rows.now document under }
+    ensures { (h : HasRows rows.now document) →
+        begins_with_node (part (lines_of_rows h.rows) (line_number document h.rows under) floor) ≡
+        false → spec.node_view result ≡ spec.node_summary
+        (value (part (lines_of_rows h.rows) (line_number document h.rows under) floor)) }
+{
+    if !is_deeper(rows, document, under, floor) {
+        return NodeAt::Scalar(Kind::Null, Content::Slice("null"));
+    }
+    let others = behind(rows, document, under);
+    let several = is_deeper(rows, document, others, floor);
+    if is_item_at(rows, document, under, 0) {
+        NodeAt::List(several)
+    } else {
+        NodeAt::Map(several)
+    }
+}
+
+/// What the node is that is written in the head of no line.
+pub fn block_node<'t>(rows: &Rows<'_>, document: Stretch, place: NodePlace) -> Option<NodeAt<'t>>
+    requires rows_view { IsRowsView rows.now }
+    requires document { HasRows rows.now document }
+    requires place { reading.IsPlace rows.now document place }
+    ensures { (h : HasRows rows.now document) →
+        reading.place_line (lines_of_rows h.rows) (reading.place_view document h.rows place) ≡ None →
+        option_map spec.node_view result ≡
+        reading.summary_of_lines (lines_of_rows h.rows) (reading.place_view document h.rows place) }
+{
+    match place {
+        NodePlace::Head(_) => None,
+        NodePlace::Lines(under, floor) => Some(lines_node(rows, document, under, floor)),
     }
 }

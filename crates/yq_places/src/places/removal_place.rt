@@ -1,43 +1,180 @@
 //! What is taken out of a text with an item or entry of a block collection.
-ghost use Rattle.std.specs.Prelude.{◌≡◌, ◌<◌, ◌-◌, Option, option_map, Some};
+ghost use Rattle.std.specs.Prelude.{◌≡◌, ◌<◌, ◌≤◌, ◌+◌, ◌-◌, ◌++◌, ℕ, List, Option, drop, take, length, map, option_map, IfSome, Some};
 ghost use Rattle.yq_text.specs.Halves.{halves_text};
-ghost use Rattle.yq_documents.specs.Located.{steps_of};
-ghost use Rattle.yq_documents.specs.Reading.{cut_of};
-ghost use Rattle.yq_row_places.specs.RemovalPlaces as spec;
-ghost use Rattle.yq_row_places.specs.RemovalReading as reading;
+ghost use Rattle.yq_core.specs.Entries.{tree_step};
+ghost use Rattle.yq_row_table.specs.Grammar.{IsCut};
+ghost use Rattle.yq_row_table.specs.Removal.{block_numbers, hold_comment, last_block};
+ghost use Rattle.yq_row_table.specs.Rows.{Cut, Part, Row as RowOf};
+ghost use Rattle.yq_row_table.specs.View.{rows_of, rows_view};
+ghost use Rattle.yq_core.specs.Block.{BlockText};
+ghost use Rattle.yq_core.specs.Text.{joined, text_lines};
+ghost use Rattle.yq_outline.specs.Extents.{IsRowsView};
+ghost use Rattle.yq_documents.specs.Pieces as pieces;
+ghost use Rattle.yq_places.specs.PlacedRows.{PlacedPart};
+ghost use Rattle.yq_places.specs.RemovalPlaces as spec;
+ghost use Rattle.yq_places.specs.RemovalReading as reading;
+ghost use Rattle.yq_places.specs.RowWalk.{IsKnownLine};
+ghost use Rattle.yq_outline.specs.RowWalk.{AreKnown, HasDocument};
 
-use crate::cut_text::CutText;
-use yq_documents::Path;
-use yq_row_places::{Removal, own_rows, rows_out};
-use yq_walk::behind;
+use crate::places::halves::is_text;
+use crate::places::known_line::{KnownLine, line_by};
+use crate::places::row_place::row_stop;
+use yq_core::Step;
+use yq_core::lines::split_line;
+use yq_core::text::is_blank;
+use yq_documents::last_run;
+use yq_outline::{KnownItems, Stretch};
+use yq_row_table::Rows;
+use yq_row_walk::{behind, row_start};
+use yq_text::Halves;
 
-impl<'t> CutText<'_, 't> {
-    /// Where the rows of the item or entry at a path begin and end, behind where those of its document
-    /// begin.
-    fn own(&self, path: &Path) -> Option<(usize, usize, usize)>
-        ensures { option_map (λ m. (m.0, m.1, m.2)) result ≡
-            reading.mark_counts path.now.doc (steps_of path.now) (cut_of self.now) }
-    {
-        let document = self.stretch(path.doc)?;
-        let _whole = self.whole();
-        own_rows(
-            self.rows(),
-            document,
-            self.known(),
-            self.line(),
-            &path.steps,
-        )
+/// What a gap that comes to stand behind a block scalar asks.
+#[derive(Clone, Copy)]
+pub struct Seam {
+    /// Whether the scalar keeps the empty lines at its end.
+    pub keeps: bool,
+    /// How far its text is indented, in columns.
+    pub indent: usize,
+    /// In which column the next row begins; 0 at the document's end.
+    pub column: usize,
+}
+
+/// What is taken out of a text with an item or entry.
+#[derive(Clone, Copy)]
+pub struct Removal<'d> {
+    /// The text before the lines that go.
+    pub before: Halves<'d>,
+    /// The lines that go: the comment above the item or entry, and its rows.
+    pub gone: Halves<'d>,
+    /// The gap behind them.
+    pub gap: &'d str,
+    /// The text behind that gap.
+    pub behind: Halves<'d>,
+    /// The seam of that gap, where it then stands behind a block scalar.
+    pub seam: Option<Seam>,
+}
+
+/// A gap cut before the comment that ends it.
+fn split_run(gap: &str) -> (&str, &str)
+    ensures kept { result.0.now ≡ joined (pieces.before_run (text_lines gap.now)) }
+    ensures run { result.1.now ≡ joined (pieces.last_run (text_lines gap.now)) }
+{
+    let run = last_run(gap);
+    gap.split_at(gap.len() - run.len())
+}
+
+/// Whether one of these lines isn't blank.
+fn holds_comment(gap: &str) -> bool
+    ensures { result ≡ hold_comment (text_lines gap.now) }
+{
+    let mut rest = gap;
+    'lines: while !rest.is_empty() {
+        let (line, after) = split_line(rest);
+        if !is_blank(line.as_bytes()) {
+            return true;
+        }
+        rest = after;
     }
+    false
+}
 
-    /// What is taken out of the text with the item or entry at a path: the lines of the comment above
-    /// it, and its rows, less the gap before the first one. None, where its line is not the first one of
-    /// a row, as in flow, or behind another dash.
-    pub fn removal(&self, path: &Path) -> Option<Removal<'t>>
-        ensures { option_map reading.removal_view result ≡
-            spec.removal_place path.now.doc (steps_of path.now) (cut_of self.now) }
-    {
-        let whole = self.whole();
-        let marks = self.own(path)?;
-        Some(rows_out(self.rows(), whole, marks))
+/// Where the rows of the item or entry begin and end to which steps lead, behind where those of its
+/// document begin, if its line is the first one of a row.
+pub fn own_rows(
+    rows: &Rows<'_>,
+    document: Stretch,
+    known: KnownItems,
+    line: Option<KnownLine<'_>>,
+    steps: &[Step],
+) -> Option<(usize, usize, usize)>
+    requires rows_view { IsRowsView rows.now }
+    requires document { HasDocument rows.now document }
+    requires known { AreKnown rows.now.rows known }
+    requires line { IfSome line (IsKnownLine rows.now) }
+    ensures { (h : HasDocument rows.now document) →
+        option_map (λ m. (m.0, m.1, m.2)) result ≡
+        option_map (reading.marks document.first)
+        (spec.own_rows (map tree_step steps.now) h.stand.rows) }
+{
+    let at = line_by(rows, document, known, line, steps)?;
+    if at.line != 0 {
+        return None;
+    }
+    Some((document.first, at.row, behind(rows, document, at).row))
+}
+
+/// The gap before row `i` and its column; where a part ends before it, the gap there and 0.
+fn gap_before<'t>(rows: &Rows<'t>, i: usize) -> (&'t str, usize)
+    ensures { (result.0.now, result.1) ≡ reading.gap_counts i rows.now }
+{
+    let (from, to) = rows.rest(i);
+    if from < to {
+        return (rows.part(from).end, 0);
+    }
+    if i < rows.len() {
+        let row = rows.row(i);
+        (row.gap(), row.column())
+    } else {
+        ("", 0)
+    }
+}
+
+/// What a gap asks that stands behind the block scalar of the row before row `at` of a document, the
+/// first row of which is this one; none, where that row holds no block scalar.
+fn block_before(rows: &Rows<'_>, first: usize, at: usize) -> Option<(bool, usize)>
+    requires order { first ≤ at }
+    requires within { at < length rows.now.rows }
+    ensures { (t : List ℕ) (c : Cut) → IsCut t c → rows.now ≡ rows_view c → (p : Part)
+        (more : List RowOf) → drop first (rows_of c) ≡ p.rows ++ more → at - first ≤ length p.rows →
+        option_map (λ b. (b.0, b.1)) result ≡
+        option_map block_numbers (last_block (take (at - first) p.rows)) }
+{
+    if at == first {
+        None
+    } else {
+        rows.block(at - 1)
+    }
+}
+
+/// The seam behind a block scalar, where no comment line stays behind it.
+fn seam_of(block: Option<(bool, usize)>, column: usize, kept: &str) -> Option<Seam>
+    ensures { (b : Option BlockText) → option_map (λ b. (b.0, b.1)) block ≡
+        option_map block_numbers b → option_map reading.seam_view result ≡
+        spec.seam_behind b column kept.now }
+{
+    let (keeps, indent) = block?;
+    if holds_comment(kept) {
+        return None;
+    }
+    Some(Seam {
+        keeps,
+        indent,
+        column,
+    })
+}
+
+/// What is taken out of a text with these rows of a document.
+pub fn rows_out<'d>(rows: &Rows<'d>, text: Halves<'d>, marks: (usize, usize, usize)) -> Removal<'d>
+    requires { reading.HasOwn (halves_text text) rows.now (marks.0, marks.1, marks.2) }
+    ensures { (d : PlacedPart) (x : spec.OwnRows) →
+        reading.IsOwn (halves_text text.entry) rows.now d x (marks.0, marks.1, marks.2) →
+        reading.removal_view result ≡ spec.rows_out d x }
+{
+    is_text(text);
+    let (first, at, end) = marks;
+    let (kept, _) = split_run(rows.row(at).gap());
+    let start = row_start(rows, at) + kept.len();
+    let stop = row_stop(rows, end - 1);
+    let (gap, column) = gap_before(rows, end);
+    let block = block_before(rows, first, at);
+    let (before, rest) = text.split_at(start);
+    let (gone, rest) = rest.split_at(stop - start);
+    let (_, behind) = rest.split_at(gap.len());
+    Removal {
+        before,
+        gone,
+        gap,
+        behind,
+        seam: seam_of(block, column, kept),
     }
 }

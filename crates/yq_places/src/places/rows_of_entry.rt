@@ -1,28 +1,57 @@
 //! The rows of items and entries among those of a text.
-ghost use Rattle.std.specs.Prelude.{◌≡◌, option_map};
-ghost use Rattle.yq_documents.specs.Located.{steps_of};
-ghost use Rattle.yq_documents.specs.Reading.{cut_of};
-ghost use Rattle.yq_row_places.specs.StandingReading as reading;
+ghost use Rattle.std.specs.Prelude.{◌≡◌, map, option_map, IfSome};
+ghost use Rattle.yq_core.specs.Entries.{tree_step};
+ghost use Rattle.yq_documents.specs.LinesInRows.{row_line_of};
+ghost use Rattle.yq_outline.specs.Extents.{IsRowsView};
+ghost use Rattle.yq_outline.specs.RowWalk.{AreKnown, HasDocument};
+ghost use Rattle.yq_places.specs.RowWalk.{IsKnownLine};
+ghost use Rattle.yq_places.specs.StandingReading as reading;
 
-use crate::cut_text::CutText;
-use yq_documents::Path;
-use yq_row_places::{RowsOfEntry, entry_along};
+use crate::places::known_end::row_behind;
+use crate::places::known_line::{KnownLine, line_by};
+use yq_core::Step;
+use yq_outline::{KnownItems, Stretch};
+use yq_row_table::Rows;
+use yq_row_walk::{level_at, lines_before_mark};
 
-impl<'t> CutText<'_, 't> {
-    /// The rows of the item or entry at a path.
-    #[inline(always)]
-    pub(crate) fn entry(&self, path: &Path) -> Option<RowsOfEntry>
-        ensures { option_map reading.as_numbers result ≡
-            reading.numbers_at path.now.doc (steps_of path.now) (cut_of self.now) }
-    {
-        let document = self.stretch(path.doc)?;
-        let _whole = self.whole();
-        entry_along(
-            self.rows(),
-            document,
-            self.known(),
-            self.line(),
-            &path.steps,
-        )
-    }
+/// The rows of an item or entry.
+#[derive(Clone, Copy)]
+pub struct RowsOfEntry {
+    /// How many rows of the text stand before the first one.
+    pub row: usize,
+    /// How many lines of that row stand before the one of the key or dash.
+    pub line: usize,
+    /// How many lines of it stand before that of its mark.
+    pub dashes: usize,
+    /// How many rows of the text stand before what is behind the last one.
+    pub end: usize,
+}
+
+/// The rows of the item or entry to which steps lead in a document.
+#[inline(always)]
+pub fn entry_along(
+    rows: &Rows<'_>,
+    document: Stretch,
+    known: KnownItems,
+    line: Option<KnownLine<'_>>,
+    steps: &[Step],
+) -> Option<RowsOfEntry>
+    requires rows_view { IsRowsView rows.now }
+    requires document { HasDocument rows.now document }
+    requires known { AreKnown rows.now.rows known }
+    requires line { IfSome line (IsKnownLine rows.now) }
+    ensures { (h : HasDocument rows.now document) →
+        option_map reading.as_numbers result ≡
+        option_map (reading.numbers_of_entry document.first h.stand.rows)
+        (row_line_of (map tree_step steps.now) h.stand.rows) }
+{
+    let at = line_by(rows, document, known, line, steps)?;
+    let level = level_at(rows, at);
+    let dashes = lines_before_mark(rows, at.row);
+    Some(RowsOfEntry {
+        row: at.row,
+        line: at.line,
+        dashes,
+        end: row_behind(rows, document, known, at, dashes, level),
+    })
 }

@@ -1,26 +1,74 @@
 //! What stands in a text where paths lead, outside flow collections.
-ghost use Rattle.std.specs.Prelude.{◌≡◌, option_map};
-ghost use Rattle.yq_documents.specs.Located.{steps_of};
-ghost use Rattle.yq_documents.specs.Reading.{cut_of};
-ghost use Rattle.yq_row_places.specs.Standings.{standing_at};
-ghost use Rattle.yq_row_places.specs.StandingViews.{standing_view};
+use crate::places::held::{Held, Mark};
+use yq_text::Halves;
 
-use crate::cut_text::CutText;
-use yq_documents::Path;
-use yq_row_places::{Standing, entry_standing};
+/// A node that is alone on its line: under a key or dash, or as a root.
+#[derive(Clone, Copy)]
+pub struct Lone<'t> {
+    /// The text before it, with its anchor.
+    pub before: Halves<'t>,
+    /// The node without its anchor, never nothing.
+    pub head: &'t str,
+    /// The text behind it.
+    pub behind: Halves<'t>,
+}
 
-impl<'t> CutText<'_, 't> {
-    /// What stands at a path; none where no item, entry or document is there, or where it stands in a
-    /// flow collection.
-    pub fn standing(&self, path: &Path) -> Option<Standing<'t>>
-        ensures { option_map standing_view result ≡
-            standing_at path.now.doc (steps_of path.now) (cut_of self.now) }
-    {
-        if path.steps.is_empty() {
-            return self.root_standing(path.doc);
-        }
-        let text = self.whole();
-        let entry = self.entry(path)?;
-        Some(entry_standing(self.rows(), text, entry))
-    }
+/// A collection of a text that begins on the line of a dash.
+#[derive(Clone, Copy)]
+pub struct Compact<'t> {
+    /// The dash.
+    pub mark: Mark,
+    /// The column of the collection's items or entries, counted from 0.
+    pub column: usize,
+    /// The text up to the dash, with it.
+    pub before: Halves<'t>,
+    /// What stands behind the dash, up to the end of the last line.
+    pub old: Halves<'t>,
+    /// The break of that line.
+    pub last: &'t str,
+    /// The text behind.
+    pub behind: Halves<'t>,
+}
+
+/// A block collection of a text that is a root.
+#[derive(Clone, Copy)]
+pub struct BlockRoot<'t> {
+    /// The column of its items or entries, counted from 0.
+    pub column: usize,
+    /// The text before it.
+    pub before: Halves<'t>,
+    /// Its own text, up to the last break.
+    pub old: Halves<'t>,
+    /// That break.
+    pub last: &'t str,
+    /// The text behind.
+    pub behind: Halves<'t>,
+}
+
+/// A document of a text without rows.
+#[derive(Clone, Copy)]
+pub struct NoRows<'t> {
+    /// The text up to the end of its gap.
+    pub before: Halves<'t>,
+    /// The text behind.
+    pub behind: Halves<'t>,
+}
+
+/// What stands in a text where a path leads, outside flow collections.
+#[derive(Clone, Copy)]
+pub enum Standing<'t> {
+    /// A node alone on its line.
+    Alone(Lone<'t>),
+    /// An inline node, or nothing, on the line of a key or dash.
+    Beside(Held<'t>),
+    /// A block collection on the lines under a key or dash, by its column, counted from 0.
+    Under(Held<'t>, usize),
+    /// A collection that begins on the line of its dash.
+    Compact(Compact<'t>),
+    /// A block scalar, by the indentation of its text, in columns.
+    Block(Held<'t>, usize),
+    /// A root that is a block collection.
+    Root(BlockRoot<'t>),
+    /// No rows.
+    NoRows(NoRows<'t>),
 }

@@ -1,40 +1,44 @@
 //! The rows of documents among those of a text, and lines of them at paths.
-ghost use Rattle.std.specs.Prelude.{◌≡◌, ◌-◌, option_map, true};
-ghost use Rattle.yq_documents.specs.Reading.{all_documents, cut_of};
-ghost use Rattle.yq_documents.specs.LinesInRows.{document_row, row_line_at};
-ghost use Rattle.yq_row_places.specs.RowWalk as spec;
-ghost use Rattle.yq_lines.specs.RowWalk.{stretch_view};
-ghost use Rattle.yq_row_places.specs.RowLineReading.{numbers, line_view};
+ghost use Rattle.std.specs.Prelude.{◌≡◌, ◌-◌, map, option_map};
+ghost use Rattle.yq_core.specs.Entries.{tree_step};
+ghost use Rattle.yq_documents.specs.LinesInRows.{row_line_of};
+ghost use Rattle.yq_outline.specs.Extents.{IsRowsView};
+ghost use Rattle.yq_outline.specs.RowWalk.{AreKnown, HasDocument};
+ghost use Rattle.yq_places.specs.RowLineReading.{numbers, line_view};
 
-use crate::cut_text::CutText;
-use yq_documents::{Path, document_part, rows_to};
-use yq_lines::Stretch;
-use yq_row_places::{RowLine, row_line_along};
+use yq_core::Step;
+use yq_outline::{KnownItems, Stretch};
+use yq_row_table::Rows;
+use yq_row_walk::{line_at, lines_before_mark};
 
-impl<'d, 't> CutText<'d, 't> {
-    /// The rows of document `doc`, counted from 0, if there is one.
-    #[inline(always)]
-    pub fn stretch(&self, doc: usize) -> Option<Stretch>
-        ensures place { option_map stretch_view result ≡ spec.document_row_range doc (cut_of self.now) }
-        ensures sound { all_documents (cut_of self.now) ≡ true }
-    {
-        let _whole = self.whole();
-        let rows = self.rows();
-        let part = document_part(rows, doc)?;
-        Some(Stretch {
-            first: rows_to(rows, part),
-            end: rows.part(part).rows,
-        })
-    }
+/// A line of a row.
+#[derive(Clone, Copy)]
+pub struct RowLine {
+    /// How many rows of the text stand before the row.
+    pub row: usize,
+    /// How many lines of the row stand before this one.
+    pub line: usize,
+    /// How many lines of the row stand before that of its mark.
+    pub dashes: usize,
+}
 
-    /// The line of the entry or item at a path, if one of a row is.
-    pub(crate) fn row_line(&self, path: &Path) -> Option<RowLine>
-        ensures { option_map line_view result ≡
-            option_map (numbers (document_row path.now.doc (cut_of self.now)))
-            (row_line_at path.now (cut_of self.now)) }
-    {
-        let document = self.stretch(path.doc)?;
-        let _whole = self.whole();
-        row_line_along(self.rows(), document, self.known(), &path.steps)
-    }
+/// The line of the entry or item to which steps lead in a document, if one of a row is.
+pub fn row_line_along(
+    rows: &Rows<'_>,
+    document: Stretch,
+    known: KnownItems,
+    steps: &[Step],
+) -> Option<RowLine>
+    requires rows_view { IsRowsView rows.now }
+    requires document { HasDocument rows.now document }
+    requires known { AreKnown rows.now.rows known }
+    ensures { (h : HasDocument rows.now document) → option_map line_view result ≡
+        option_map (numbers document.first) (row_line_of (map tree_step steps.now) h.stand.rows) }
+{
+    let position = line_at(rows, document, known, steps)?;
+    Some(RowLine {
+        row: position.row,
+        line: position.line,
+        dashes: lines_before_mark(rows, position.row),
+    })
 }

@@ -1,14 +1,14 @@
 //! Laws of splices: a cut, of which other rows stand in the place of some.
 ghost use Rattle.std.specs.Prelude.{◌≡◌, ◌≤◌, ℕ, List, [], ◌∷◌, ◌++◌, Some, false, length, slice_get, true};
-ghost use Rattle.yq_cut.specs.Counted.{RowPlace};
-ghost use Rattle.yq_cut.specs.Exchange.{allows_first};
-ghost use Rattle.yq_cut.specs.Grammar.{IsCut, limit_after};
-ghost use Rattle.yq_cut.specs.Removal.{RepairFits, without_rows};
-ghost use Rattle.yq_cut.specs.Rows.{Cut, Row, cut_text, parent_indent, rows_text};
-ghost use Rattle.yq_cut.specs.Seams.{TailFits, TakesPlace, are_seamed, ends_in_block, ends_in_line, retail};
-ghost use Rattle.yq_cut.specs.SpliceFits.{FitsIn, InsertFits, RemoveFits, ReplaceFits, StandsFor};
-ghost use Rattle.yq_cut.specs.Splices.{CutsItsText, StandsBetween, asked_at, before_rows, behind_rows, first_gap, gap_before, replace_row, nth_part, rows_between, splice, rest_behind};
-ghost use Rattle.yq_cut.specs.View.{rows_of};
+ghost use Rattle.yq_row_table.specs.Counted.{RowPlace};
+ghost use Rattle.yq_row_table.specs.Exchange.{allows_first};
+ghost use Rattle.yq_row_table.specs.Grammar.{IsCut, limit_after};
+ghost use Rattle.yq_row_table.specs.Removal.{RepairFits, without_rows};
+ghost use Rattle.yq_row_table.specs.Rows.{Cut, Row, cut_text, parent_indent, rows_text};
+ghost use Rattle.yq_row_table.specs.Seams.{TailFits, TakesPlace, are_seamed, ends_in_block, ends_in_line, retail};
+ghost use Rattle.yq_row_table.specs.SpliceFits.{FitsIn, InsertFits, RemoveFits, ReplaceFits, StandsFor};
+ghost use Rattle.yq_row_table.specs.Splices.{CutsItsText, StandsBetween, asked_at, before_rows, behind_rows, first_gap, gap_before, replace_row, nth_part, rows_between, splice, rest_behind};
+ghost use Rattle.yq_row_table.specs.View.{rows_of};
 
 /// A cut, of which other rows stand in the place of some, is a cut where they fit and the new text
 /// may stand. Its text is that before those rows, the new rows with the gap behind them, and the
@@ -26,7 +26,7 @@ pub fn rows_spliced()
 {}
 
 /// Rows exchanged for others whose text begins like theirs: nothing is asked of the rows in front.
-#[tactic(auto, using(yq_cut::proofs::splices::SpliceCases::replaced))]
+#[tactic(auto, using(yq_row_table::proofs::splices::SpliceCases::replaced))]
 pub fn rows_replaced()
     ensures { (t : List ℕ) (c : Cut) (k i j : ℕ) (new : List Row) (gap : List ℕ) → IsCut t c →
         ReplaceFits k i j new gap c →
@@ -34,7 +34,7 @@ pub fn rows_replaced()
 {}
 
 /// One row exchanged for another one that takes its place, behind which the next row may stand.
-#[tactic(auto, using(yq_cut::proofs::splices::RowReplaced::row_replaced))]
+#[tactic(auto, using(yq_row_table::proofs::splices::RowReplaced::row_replaced))]
 pub fn row_replaced()
     ensures { (t : List ℕ) (c : Cut) (k : ℕ) (front : List Row) (r : Row) (back : List Row)
         (new : Row) → IsCut t c → StandsBetween k front r back c →
@@ -45,7 +45,7 @@ pub fn row_replaced()
 
 /// One row exchanged for another one behind the same gap and at the same column: the rows in front
 /// ask no more of it.
-#[tactic(auto, using(yq_cut::proofs::splices::RowReplaced::row_exchanged))]
+#[tactic(auto, using(yq_row_table::proofs::splices::RowReplaced::row_exchanged))]
 pub fn row_exchanged()
     ensures { (t : List ℕ) (c : Cut) (k : ℕ) (front : List Row) (r : Row) (back : List Row)
         (new : Row) → IsCut t c → StandsBetween k front r back c →
@@ -54,7 +54,7 @@ pub fn row_exchanged()
 {}
 
 /// A cut, of which a row has another tail that fits, is a cut where the new text may stand.
-#[tactic(auto, using(yq_cut::proofs::splices::RowReplaced::tail_replaced))]
+#[tactic(auto, using(yq_row_table::proofs::splices::RowReplaced::tail_replaced))]
 pub fn tail_replaced()
     ensures { (t : List ℕ) (c : Cut) (k : ℕ) (front : List Row) (r : Row) (back : List Row)
         (new : List ℕ) → IsCut t c → StandsBetween k front r back c →
@@ -64,7 +64,7 @@ pub fn tail_replaced()
 
 /// Rows put in behind a row: what that row asks of the text behind it, and where the next row
 /// stands. Behind a tail with a break any text may stand.
-#[tactic(auto, using(yq_cut::proofs::splices::SpliceCases::inserted, yq_cut::proofs::seams::FrontSeams::seams_line))]
+#[tactic(auto, using(yq_row_table::proofs::splices::SpliceCases::inserted, yq_row_table::proofs::seams::FrontSeams::seams_line))]
 pub fn rows_inserted()
     ensures cut { (t : List ℕ) (c : Cut) (k i : ℕ) (new : List Row) (gap : List ℕ) → IsCut t c →
         InsertFits k i new gap c →
@@ -76,7 +76,7 @@ pub fn rows_inserted()
 /// A cut, from which rows are taken away, is a cut where a gap stands in their place, the next row
 /// may stand there, and behind a block scalar stands what ends it. So is the cut whose gap is
 /// repaired.
-#[tactic(auto, using(yq_cut::proofs::splices::SpliceCases::removed, yq_cut::proofs::splices::RemoveLaws::removed_repaired))]
+#[tactic(auto, using(yq_row_table::proofs::splices::SpliceCases::removed, yq_row_table::proofs::splices::RemoveLaws::removed_repaired))]
 pub fn rows_removed()
     ensures any { (t : List ℕ) (c : Cut) (k i j : ℕ) (gap : List ℕ) → IsCut t c →
         RemoveFits k i j gap c → CutsItsText (splice k i j [] gap c) }
@@ -86,7 +86,7 @@ pub fn rows_removed()
 {}
 
 /// A row counted through all parts stands in one of them between other rows.
-#[tactic(auto, using(yq_cut::proofs::splices::ContentPlaces::row_placed))]
+#[tactic(auto, using(yq_row_table::proofs::splices::ContentPlaces::row_placed))]
 pub fn row_placed()
     ensures { (c : Cut) (i : ℕ) (r : Row) → slice_get (rows_of c) i ≡ Some r → RowPlace i r c }
 {}

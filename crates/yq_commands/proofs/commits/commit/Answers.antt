@@ -6,7 +6,7 @@ use Rattle.yq_commands.specs.CommandEffects.{edit_effect}
 use Rattle.yq_commands.specs.Editing.{program_edits}
 use Rattle.yq_commands.specs.Edits.{edit_record}
 use Rattle.yq_history.specs.Faults.{is_outer_fault}
-use Rattle.yq_records.specs.Record.{Record, done}
+use Rattle.yq_journal.specs.Record.{Record, done}
 use Rattle.yq_commands.proofs.EditLaws.{edit_done, edit_ends}
 use Rattle.yq_history.proofs.EffectLaws.{works_outside}
 use Rattle.yq_commands.proofs.EditEffects.{edit_works}

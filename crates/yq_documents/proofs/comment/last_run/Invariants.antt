@@ -1,6 +1,6 @@
 use Rattle.std.proofs.Common.{◌≡◌, length}
 use Rattle.std.specs.Str.{IsUtf8}
-use Rattle.yq_flow_scalars.specs.Text.{text_lines}
+use Rattle.yq_core.specs.Text.{text_lines}
 use Rattle.yq_documents.specs.Pieces as pieces
 use Rattle.yq_documents.proofs.RunLaws.{run_or}
 use Rattle.yq_documents.proofs.comment.last_run.Given as goal

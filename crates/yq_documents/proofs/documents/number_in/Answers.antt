@@ -1,8 +1,8 @@
 use Rattle.std.proofs.Common.{◌∙◌, ◌+◌, drop, sym, ap}
-use Rattle.yq_cut.specs.Grammar.{begins_document}
-use Rattle.yq_cut.specs.View.{bound_view}
+use Rattle.yq_row_table.specs.Grammar.{begins_document}
+use Rattle.yq_row_table.specs.View.{bound_view}
 use Rattle.yq_documents.specs.PartReading.{number_in}
-use Rattle.yq_lines.proofs.EndsLaws.{drop_at}
+use Rattle.yq_outline.proofs.EndsLaws.{drop_at}
 use Rattle.yq_documents.proofs.PartNumberLaws.{part_here, part_later}
 use Rattle.yq_documents.proofs.documents.number_in.Goals as goal
 

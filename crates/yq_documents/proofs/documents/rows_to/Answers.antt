@@ -1,5 +1,5 @@
 use Rattle.std.proofs.Common.{◌∙◌, sym, ap}
-use Rattle.yq_cut.specs.View.{bound_view}
+use Rattle.yq_row_table.specs.View.{bound_view}
 use Rattle.yq_documents.specs.PartNumbers.{rows_to}
 use Rattle.yq_documents.proofs.PartNumberLaws.{none_before, start_agrees}
 use Rattle.yq_documents.proofs.documents.rows_to.Goals as goal

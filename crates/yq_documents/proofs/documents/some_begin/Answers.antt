@@ -1,6 +1,6 @@
 use Rattle.std.proofs.Common.{sym, ap, ◌∙◌, arith}
-use Rattle.yq_cut.specs.Grammar.{begins_document}
-use Rattle.yq_cut.specs.View.{bound_view}
+use Rattle.yq_row_table.specs.Grammar.{begins_document}
+use Rattle.yq_row_table.specs.View.{bound_view}
 use Rattle.yq_documents.proofs.BeginLaws.{begin_here, begin_later}
 use Rattle.yq_documents.proofs.documents.some_begin.Goals as goal
 

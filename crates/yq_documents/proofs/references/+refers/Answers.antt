@@ -1,6 +1,6 @@
 use Rattle.std.proofs.Common.{arith, ap}
-use Rattle.yq_nodes.specs.View.{entries_end, items_end}
-use Rattle.yq_lines.proofs.SizeLaws.{entry_size, item_size, parts_size}
+use Rattle.yq_core.specs.View.{entries_end, items_end}
+use Rattle.yq_outline.proofs.SizeLaws.{entry_size, item_size, parts_size}
 use Rattle.yq_documents.proofs.references.+refers.Goals as goal
 
 pub entries_refer-node_refers-requires : goal.entries_refer-node_refers-requires

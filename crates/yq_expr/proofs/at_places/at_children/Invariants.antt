@@ -1,19 +1,19 @@
 use Rattle.std.proofs.Common.{◌≡◌, ◌+◌, ◌-◌, map}
-use Rattle.yq_flow_scalars.specs.Tree.{Node}
-use Rattle.yq_flow_scalars.specs.Anchors.{names_of}
-use Rattle.yq_document_nodes.specs.Children.{left_of}
-use Rattle.yq_document_nodes.specs.Nodes.{node_of}
-use Rattle.yq_lines.specs.Counts.{count}
-use Rattle.yq_meaning.specs.Changes.{at_each}
-use Rattle.yq_planning.specs.ChangeView.{changed_of}
+use Rattle.yq_core.specs.Tree.{Node}
+use Rattle.yq_core.specs.Anchors.{names_of}
+use Rattle.yq_core.specs.Children.{left_of}
+use Rattle.yq_core.specs.Nodes.{node_of}
+use Rattle.yq_outline.specs.Counts.{count}
+use Rattle.yq_semantics.specs.Changes.{at_each}
+use Rattle.yq_planner.specs.ChangeView.{changed_of}
 use Rattle.yq_expr.specs.EffectView.{effect_at}
-use Rattle.yq_planning.specs.Indexes.{HasAliases}
-use Rattle.yq_matching.specs.FoundView.{child_places, place_at_path}
-use Rattle.yq_matching.specs.PlaceView.{path_of, put_behind}
-use Rattle.yq_meaning.specs.Places.{child_place, stepped}
-use Rattle.yq_meaning.specs.PlacesApart.{AreIn}
-use Rattle.yq_meaning.specs.Rooms.{room_of}
-use Rattle.yq_matching.specs.TreeScalars.{HaveScalars}
+use Rattle.yq_planner.specs.Indexes.{HasAliases}
+use Rattle.yq_eval.specs.FoundView.{child_places, place_at_path}
+use Rattle.yq_eval.specs.PlaceView.{path_of, put_behind}
+use Rattle.yq_semantics.specs.Places.{child_place, stepped}
+use Rattle.yq_semantics.specs.PlacesApart.{AreIn}
+use Rattle.yq_semantics.specs.Rooms.{room_of}
+use Rattle.yq_eval.specs.TreeScalars.{HaveScalars}
 use Rattle.yq_expr.proofs.at_places.at_children.Given as goal
 
 abbrev pub invariant-children : goal.invariant-children

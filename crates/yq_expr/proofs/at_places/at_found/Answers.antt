@@ -1,14 +1,14 @@
 use Rattle.std.proofs.Common.{List, Vec, map, sym, ap, subst}
 use Rattle.std.specs.declared.alloc.Global.{Global}
 use Rattle.yq_expr.specs.EffectView.{effect_at}
-use Rattle.yq_matching.specs.FoundView.{found_places}
-use Rattle.yq_meaning.specs.Changes.{at_each}
-use Rattle.yq_meaning.specs.Judgement.{Judges}
-use Rattle.yq_meaning.specs.Places.{Place}
-use Rattle.yq_meaning.specs.PlacesApart.{AreIn}
-use Rattle.yq_meaning.specs.Rooms.{room_of}
-use Rattle.yq_planning.specs.ChangeView.{changed_of}
-use Rattle.yq_planning.specs.declared.updating.change.Changed.{Changed}
+use Rattle.yq_eval.specs.FoundView.{found_places}
+use Rattle.yq_semantics.specs.Changes.{at_each}
+use Rattle.yq_semantics.specs.Judgement.{Judges}
+use Rattle.yq_semantics.specs.Places.{Place}
+use Rattle.yq_semantics.specs.PlacesApart.{AreIn}
+use Rattle.yq_semantics.specs.Rooms.{room_of}
+use Rattle.yq_planner.specs.ChangeView.{changed_of}
+use Rattle.yq_planner.specs.declared.updating.change.Changed.{Changed}
 use Rattle.yq_expr.proofs.at_places.at_found.Goals as goal
 
 pub returns-in-Children : goal.returns-in-Children

@@ -1,14 +1,14 @@
 use Rattle.std.proofs.Common.{ℕ, List, Vec, map, sym, ap, ◌∙◌, subst}
 use Rattle.std.specs.declared.alloc.Global.{Global}
-use Rattle.yq_document_nodes.specs.Nodes.{node_of}
-use Rattle.yq_meaning.specs.Changes.{at_each, changes_at, comment_at}
-use Rattle.yq_planning.specs.ChangeView.{changed_of}
-use Rattle.yq_meaning.specs.Judgement.{Judges}
-use Rattle.yq_matching.specs.FoundView.{found_places}
-use Rattle.yq_meaning.specs.Rooms.{room_of}
-use Rattle.yq_program.specs.View.{update_of}
-use Rattle.yq_planning.specs.declared.updating.change.Changed.{Changed}
-use Rattle.yq_program.specs.declared.program.Update.{Update}
+use Rattle.yq_core.specs.Nodes.{node_of}
+use Rattle.yq_semantics.specs.Changes.{at_each, changes_at, comment_at}
+use Rattle.yq_planner.specs.ChangeView.{changed_of}
+use Rattle.yq_semantics.specs.Judgement.{Judges}
+use Rattle.yq_eval.specs.FoundView.{found_places}
+use Rattle.yq_semantics.specs.Rooms.{room_of}
+use Rattle.yq_semantics.specs.View.{update_of}
+use Rattle.yq_planner.specs.declared.updating.change.Changed.{Changed}
+use Rattle.yq_semantics.specs.declared.program.Update.{Update}
 use Rattle.yq_expr.proofs.changes.changes_at.Goals as goal
 
 pub returns : goal.returns

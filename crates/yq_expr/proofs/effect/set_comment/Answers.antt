@@ -1,12 +1,12 @@
 use Rattle.std.proofs.Common.{rules, ◌≡◌, List, [], ◌∷◌, ◌++◌, if◌then◌else◌, ◌&&◌, ap, ◌∙◌}
-use Rattle.yq_matching.specs.PlaceView.{missing_of, path_of}
-use Rattle.yq_matching.specs.declared.matching.place.Missing.{the_lemmas}
-use Rattle.yq_meaning.specs.Changes.{is_there, sets_comment}
-use Rattle.yq_meaning.specs.Judgement.{gives, refuses}
-use Rattle.yq_meaning.specs.Rooms.{room_of}
-use Rattle.yq_meaning.specs.declared.refusal.Refusal.{Refusal}
-use Rattle.yq_program.specs.Program.{PathStep}
-use Rattle.yq_program.specs.View.{program_step}
+use Rattle.yq_eval.specs.PlaceView.{missing_of, path_of}
+use Rattle.yq_eval.specs.declared.matching.place.Missing.{the_lemmas}
+use Rattle.yq_semantics.specs.Changes.{is_there, sets_comment}
+use Rattle.yq_semantics.specs.Judgement.{gives, refuses}
+use Rattle.yq_semantics.specs.Rooms.{room_of}
+use Rattle.yq_semantics.specs.declared.refusal.Refusal.{Refusal}
+use Rattle.yq_semantics.specs.Program.{PathStep}
+use Rattle.yq_semantics.specs.View.{program_step}
 use Rattle.yq_expr.proofs.StepLists.{not_there}
 use Rattle.yq_expr.proofs.effect.set_comment.Goals as goal
 

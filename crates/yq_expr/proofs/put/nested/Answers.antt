@@ -1,6 +1,6 @@
 use Rattle.std.proofs.Common.{rules}
-use Rattle.yq_nodes.specs.Values.{value_node}
-use Rattle.yq_program.specs.View.{program_step}
+use Rattle.yq_core.specs.Values.{value_node}
+use Rattle.yq_semantics.specs.View.{program_step}
 use Rattle.yq_expr.proofs.ChangeLaws.{one_out}
 use Rattle.yq_expr.proofs.put.nested.Goals as goal
 

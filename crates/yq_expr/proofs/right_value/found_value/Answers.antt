@@ -1,11 +1,11 @@
 use Rattle.std.proofs.Common.{rules, ◌≡◌, List, [], ◌∷◌, map, sym, ap, ◌∙◌, subst}
-use Rattle.yq_meaning.specs.Judgement.{gives}
-use Rattle.yq_meaning.specs.Pipes.{pipe_on}
-use Rattle.yq_matching.specs.PlaceView.{place_of, places_of}
-use Rattle.yq_matching.specs.TreeScalars.{HaveScalars}
-use Rattle.yq_program.specs.View.{stage_of}
-use Rattle.yq_matching.specs.declared.matching.place.Place as declared
-use Rattle.yq_matching.proofs.MatchLaws.{pipe_have}
+use Rattle.yq_semantics.specs.Judgement.{gives}
+use Rattle.yq_semantics.specs.Pipes.{pipe_on}
+use Rattle.yq_eval.specs.PlaceView.{place_of, places_of}
+use Rattle.yq_eval.specs.TreeScalars.{HaveScalars}
+use Rattle.yq_semantics.specs.View.{stage_of}
+use Rattle.yq_eval.specs.declared.matching.place.Place as declared
+use Rattle.yq_eval.proofs.MatchLaws.{pipe_have}
 use Rattle.yq_expr.proofs.right_value.found_value.Goals as goal
 
 pub only-requires : goal.only-requires

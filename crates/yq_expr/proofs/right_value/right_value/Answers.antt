@@ -1,9 +1,9 @@
 use Rattle.std.proofs.Common.{sym, subst, arith}
-use Rattle.yq_nodes.specs.Values.{value_node}
-use Rattle.yq_meaning.specs.Judgement.{Judges}
-use Rattle.yq_matching.specs.PlaceView.{place_of}
-use Rattle.yq_program.specs.View.{term_of}
-use Rattle.yq_planning.proofs.SumLaws.{right_on}
+use Rattle.yq_core.specs.Values.{value_node}
+use Rattle.yq_semantics.specs.Judgement.{Judges}
+use Rattle.yq_eval.specs.PlaceView.{place_of}
+use Rattle.yq_semantics.specs.View.{term_of}
+use Rattle.yq_planner.proofs.SumLaws.{right_on}
 use Rattle.yq_expr.proofs.right_value.right_value.Goals as goal
 
 pub returns : goal.returns

@@ -1,7 +1,7 @@
 use Rattle.std.proofs.Common.{arith}
 use Rattle.yq_expr.proofs.SummandLaws.{two_added}
-use Rattle.yq_matching.specs.PlaceView.{place_of}
-use Rattle.yq_program.specs.View.{term_of}
+use Rattle.yq_eval.specs.PlaceView.{place_of}
+use Rattle.yq_semantics.specs.View.{term_of}
 use Rattle.yq_expr.proofs.right_value.scalar_terms.Goals as goal
 
 pub returns : goal.returns

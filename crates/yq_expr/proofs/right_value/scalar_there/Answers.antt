@@ -1,15 +1,15 @@
 use Rattle.std.proofs.Common.{rules, ◌≡◌, ℕ, List, [], ◌∷◌, false, map, None, sym, ap, ◌∙◌}
-use Rattle.yq_flow_scalars.specs.Tree.{scalar}
-use Rattle.yq_document_nodes.specs.Nodes.{node_of, kind_of}
-use Rattle.yq_document_nodes.specs.declared.nodes.node.NodeKind.TheVariants as kinds
+use Rattle.yq_core.specs.Tree.{scalar}
+use Rattle.yq_core.specs.Nodes.{node_of, kind_of}
+use Rattle.yq_core.specs.declared.nodes.node.NodeKind.TheVariants as kinds
 use Rattle.yq_expr.proofs.SummandLaws.{scalar_copied}
-use Rattle.yq_matching.specs.PlaceView.{place_of}
-use Rattle.yq_meaning.specs.Conditions.{value_of}
-use Rattle.yq_meaning.specs.Copies.{copy}
-use Rattle.yq_meaning.specs.Judgement.{gives}
-use Rattle.yq_meaning.specs.RightValues.{is_null, term_value}
-use Rattle.yq_program.specs.Program.{found, path}
-use Rattle.yq_program.specs.View.{stage_of, term_of}
+use Rattle.yq_eval.specs.PlaceView.{place_of}
+use Rattle.yq_semantics.specs.Conditions.{value_of}
+use Rattle.yq_semantics.specs.Copies.{copy}
+use Rattle.yq_semantics.specs.Judgement.{gives}
+use Rattle.yq_semantics.specs.RightValues.{is_null, term_value}
+use Rattle.yq_semantics.specs.Program.{found, path}
+use Rattle.yq_semantics.specs.View.{stage_of, term_of}
 use Rattle.yq_expr.proofs.right_value.scalar_there.Goals as goal
 
 pub returns-in-Scalar : goal.returns-in-Scalar

@@ -1,11 +1,11 @@
 use Rattle.std.proofs.Common.{Err, ap, ◌∙◌}
 use Rattle.std.proofs.lemmas.Result.{err_from_is_err_and}
-use Rattle.yq_nodes.specs.Values.{value_node}
-use Rattle.yq_meaning.specs.Judgement.{and_then}
-use Rattle.yq_matching.specs.PlaceView.{place_of}
-use Rattle.yq_meaning.specs.RightValues.{sum, term_value}
-use Rattle.yq_program.specs.View.{term_of}
-use Rattle.yq_matching.proofs.EachLaws.{chain_more, chain_fails, failed}
+use Rattle.yq_core.specs.Values.{value_node}
+use Rattle.yq_semantics.specs.Judgement.{and_then}
+use Rattle.yq_eval.specs.PlaceView.{place_of}
+use Rattle.yq_semantics.specs.RightValues.{sum, term_value}
+use Rattle.yq_semantics.specs.View.{term_of}
+use Rattle.yq_eval.proofs.EachLaws.{chain_more, chain_fails, failed}
 use Rattle.yq_expr.proofs.right_value.with_terms.Goals as goal
 
 pub returns-in_err-total : goal.returns-in_err-total

@@ -1,6 +1,6 @@
 use Rattle.std.proofs.Common.{◌≡◌, ◌++◌, length, map, reverse}
-use Rattle.yq_matching.specs.PlaceView.{missing_of}
-use Rattle.yq_program.specs.View.{program_step}
+use Rattle.yq_eval.specs.PlaceView.{missing_of}
+use Rattle.yq_semantics.specs.View.{program_step}
 use Rattle.yq_expr.proofs.steps.missing_steps.Given as goal
 
 abbrev pub invariant-steps : goal.invariant-steps

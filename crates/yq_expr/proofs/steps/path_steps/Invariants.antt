@@ -1,6 +1,6 @@
 use Rattle.std.proofs.Common.{◌≡◌, ◌++◌, length, map, reverse}
-use Rattle.yq_nodes.specs.Entries.{tree_step}
-use Rattle.yq_matching.specs.PlaceView.{path_of}
+use Rattle.yq_core.specs.Entries.{tree_step}
+use Rattle.yq_eval.specs.PlaceView.{path_of}
 use Rattle.yq_expr.proofs.steps.path_steps.Given as goal
 
 abbrev pub invariant-steps : goal.invariant-steps

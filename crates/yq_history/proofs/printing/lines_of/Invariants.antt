@@ -1,6 +1,6 @@
 use Rattle.std.proofs.Common.{◌≡◌, map, take}
 use Rattle.std.specs.String.{string_bytes}
-use Rattle.yq_records.specs.Record.{Record}
+use Rattle.yq_journal.specs.Record.{Record}
 use Rattle.yq_history.specs.Listing.{listing_behind}
 use Rattle.yq_history.proofs.printing.lines_of.Given as goal
 

@@ -1,4 +1,4 @@
-use Rattle.yq_nodes.proofs.PathLaws.{path_places, path_stands, path_holds}
+use Rattle.yq_core.proofs.PathLaws.{path_places, path_stands, path_holds}
 use Rattle.yq_inline.proofs.laws.entry_places.Goals as goal
 
 pub returns : goal.returns

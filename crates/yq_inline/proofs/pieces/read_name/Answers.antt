@@ -1,4 +1,4 @@
-use Rattle.yq_nodes.proofs.Bounds.{boundary_name}
+use Rattle.yq_core.proofs.Bounds.{boundary_name}
 use Rattle.yq_inline.proofs.pieces.read_name.Goals as goal
 
 pub split_at-requires : goal.split_at-requires

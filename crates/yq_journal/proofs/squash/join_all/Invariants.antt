@@ -1,5 +1,5 @@
 use Rattle.std.proofs.Common.{◌≡◌, take}
-use Rattle.yq_records.specs.Record.{IsRecord, records_joined}
+use Rattle.yq_journal.specs.Record.{IsRecord, records_joined}
 use Rattle.yq_journal.proofs.squash.join_all.Given as goal
 
 abbrev pub invariant-rest : goal.invariant-rest

@@ -1,5 +1,5 @@
 use Rattle.std.proofs.Common.{◌≡◌, length}
-use Rattle.yq_records.specs.Record.{meet}
+use Rattle.yq_journal.specs.Record.{meet}
 use Rattle.yq_journal.proofs.squash.meets.Given as goal
 
 abbrev pub invariant-pairs : goal.invariant-pairs

@@ -1,6 +1,6 @@
 use Rattle.std.proofs.Common.{◌≡◌, ◌≤◌, ◌<◌, ◌+◌, ◌-◌, ◌^◌, length, sym, ◌∙◌, arith, refl, rules}
 use Rattle.std.proofs.lemmas.Option.{same_Some}
-use Rattle.yq_records.specs.Turned.{turned_splices}
+use Rattle.yq_journal.specs.Turned.{turned_splices}
 use Rattle.yq_journal.proofs.StandLaws.{one_earlier, came_from}
 use Rattle.yq_journal.proofs.stands.byte_after.Goals as goal
 

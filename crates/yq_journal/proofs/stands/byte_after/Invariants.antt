@@ -1,7 +1,7 @@
 use Rattle.std.proofs.Common.{◌≡◌, ◌≤◌, ◌<◌, ℕ, List, Some, take, length}
 use Rattle.std.specs.Prelude.{slice_get}
-use Rattle.yq_script.specs.Splice.{all_done}
-use Rattle.yq_records.specs.Turned.{turned_splices}
+use Rattle.yq_text.specs.Splice.{all_done}
+use Rattle.yq_journal.specs.Turned.{turned_splices}
 use Rattle.yq_journal.proofs.stands.byte_after.Given as goal
 
 abbrev pub invariant-splices : goal.invariant-splices

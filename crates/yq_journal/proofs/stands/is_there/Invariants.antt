@@ -1,6 +1,6 @@
 use Rattle.std.proofs.Common.{◌≡◌, ℕ, List, Some, take, drop}
-use Rattle.yq_script.specs.Splice.{all_done}
-use Rattle.yq_records.specs.Turned.{turned_splices}
+use Rattle.yq_text.specs.Splice.{all_done}
+use Rattle.yq_journal.specs.Turned.{turned_splices}
 use Rattle.yq_journal.proofs.stands.is_there.Given as goal
 
 abbrev pub invariant-bytes : goal.invariant-bytes

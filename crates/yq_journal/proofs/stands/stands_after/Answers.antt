@@ -1,5 +1,5 @@
 use Rattle.std.proofs.Common.{Some, sym, ap, ◌∙◌, rules}
-use Rattle.yq_script.specs.Splice.{lengths_done}
+use Rattle.yq_text.specs.Splice.{lengths_done}
 use Rattle.yq_journal.proofs.StandLaws.{ends_alike, lengths_flip}
 use Rattle.yq_journal.proofs.stands.stands_after.Goals as goal
 

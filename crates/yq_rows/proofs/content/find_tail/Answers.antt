@@ -1,7 +1,7 @@
 use Rattle.std.proofs.Common.{arith, ap, sym, ◌∙◌}
-use Rattle.yq_nodes.specs.Nodes.{begins_with}
-use Rattle.yq_nodes.proofs.Bounds.{boundary_first}
-use Rattle.yq_cut.proofs.WordFronts.{feed_tail}
+use Rattle.yq_core.specs.Nodes.{begins_with}
+use Rattle.yq_core.proofs.Bounds.{boundary_first}
+use Rattle.yq_row_table.proofs.WordFronts.{feed_tail}
 use Rattle.yq_rows.proofs.content.find_tail.Goals as goal
 
 pub split_at-requires : goal.split_at-requires

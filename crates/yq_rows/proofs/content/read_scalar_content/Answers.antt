@@ -1,8 +1,8 @@
 use Rattle.std.proofs.Common.{◌≡◌, Some, w64, sym, ap, ◌∙◌, not}
 use Rattle.std.proofs.lemmas.Int.{to_z-of_z}
-use Rattle.yq_flow_scalars.specs.Piece.{deeper}
-use Rattle.yq_nodes.specs.Scalars.{is_quoted}
-use Rattle.yq_cut.proofs.ScalarSlicing.{scalar_none, scalar_no_tail, scalar_some}
+use Rattle.yq_core.specs.Piece.{deeper}
+use Rattle.yq_core.specs.Scalars.{is_quoted}
+use Rattle.yq_row_table.proofs.ScalarSlicing.{scalar_none, scalar_no_tail, scalar_some}
 use Rattle.yq_rows.proofs.content.read_scalar_content.Goals as goal
 
 pub returns-in-Err-clause-read : goal.returns-in-Err-clause-read

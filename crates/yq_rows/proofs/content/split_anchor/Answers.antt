@@ -1,7 +1,7 @@
 use Rattle.std.proofs.Common.{◌≡◌, ap, ◌∙◌, arith}
 use Rattle.std.specs.List.{prefix_len}
-use Rattle.yq_nodes.specs.Nodes.{in_name}
-use Rattle.yq_cut.proofs.InlineSlicing.{anchor_some, anchor_within, anchor_boundary}
+use Rattle.yq_core.specs.Nodes.{in_name}
+use Rattle.yq_row_table.proofs.InlineSlicing.{anchor_some, anchor_within, anchor_boundary}
 use Rattle.yq_rows.proofs.content.split_anchor.Goals as goal
 
 pub overflow_add-name_len : goal.overflow_add-name_len

@@ -1,6 +1,6 @@
 use Rattle.std.proofs.Common.{sym, ap, ◌∙◌}
-use Rattle.yq_nodes.specs.Nodes.{begins_with}
-use Rattle.yq_cut.proofs.BlockSlicing.{apart_none, apart_some}
+use Rattle.yq_core.specs.Nodes.{begins_with}
+use Rattle.yq_row_table.proofs.BlockSlicing.{apart_none, apart_some}
 use Rattle.yq_rows.proofs.content.split_apart.Goals as goal
 
 pub returns-then-not-first_is : goal.returns-then-not-first_is

@@ -1,4 +1,4 @@
-use Rattle.yq_cut.proofs.InlineSlicing.{lead_none, lead_some}
+use Rattle.yq_row_table.proofs.InlineSlicing.{lead_none, lead_some}
 use Rattle.yq_rows.proofs.content.split_lead.Goals as goal
 
 pub returns-then-nothing : goal.returns-then-nothing

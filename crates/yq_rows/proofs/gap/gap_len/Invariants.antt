@@ -1,5 +1,5 @@
 use Rattle.std.proofs.Common.{◌≡◌, ◌+◌, ◌-◌, ◌≤◌, length}
-use Rattle.yq_cut.specs.Reading as spec
+use Rattle.yq_row_table.specs.Reading as spec
 use Rattle.yq_rows.proofs.gap.gap_len.Given as goal
 
 abbrev pub decreases-lines : goal.decreases-lines

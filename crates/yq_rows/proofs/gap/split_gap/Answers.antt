@@ -1,4 +1,4 @@
-use Rattle.yq_cut.proofs.GapLaws.{boundary_gap}
+use Rattle.yq_row_table.proofs.GapLaws.{boundary_gap}
 use Rattle.yq_rows.proofs.gap.split_gap.Goals as goal
 
 pub split_at-requires : goal.split_at-requires

@@ -1,4 +1,4 @@
-use Rattle.yq_cut.proofs.ScanLaws.{one_cut, scan_takes, scan_again}
+use Rattle.yq_row_table.proofs.ScanLaws.{one_cut, scan_takes, scan_again}
 use Rattle.yq_rows.proofs.laws.one_cut.Goals as goal
 
 pub returns-clause-one : goal.returns-clause-one

@@ -1,4 +1,4 @@
-use Rattle.yq_cut.proofs.PlainEnds.{plain_ends}
+use Rattle.yq_row_table.proofs.PlainEnds.{plain_ends}
 use Rattle.yq_rows.proofs.laws.plain_ends.Goals as goal
 
 pub returns : goal.returns

@@ -1,5 +1,5 @@
 use Rattle.std.proofs.Common.{◌≡◌, true, sym, ap, ◌∙◌}
-use Rattle.yq_cut.specs.Reading.{is_colon}
+use Rattle.yq_row_table.specs.Reading.{is_colon}
 use Rattle.yq_rows.proofs.Colons.{colon_boundary, colon_found}
 use Rattle.yq_rows.proofs.marks.find_colon.Goals as goal
 

@@ -1,7 +1,7 @@
 use Rattle.std.proofs.Common.{◌≡◌, ◌+◌, ◌*◌, ◌≤◌, length}
 use Rattle.std.specs.Str.{IsUtf8}
 use Rattle.yq_rows.specs.Measured.{closing_byte, past_node}
-use Rattle.yq_nodes.specs.PlacedReading.{placed_items}
+use Rattle.yq_core.specs.PlacedReading.{placed_items}
 use Rattle.yq_rows.proofs.measuring.+ends.Given as goal
 
 abbrev pub decreases-measure_node : goal.decreases-measure_node

@@ -1,4 +1,4 @@
-use Rattle.yq_cut.proofs.MeterLaws.{line_boundary}
+use Rattle.yq_row_table.proofs.MeterLaws.{line_boundary}
 use Rattle.yq_rows.proofs.meter.next_line.Goals as goal
 
 pub split_at-requires : goal.split_at-requires

@@ -1,5 +1,5 @@
 use Rattle.std.proofs.Common.{rules, sym}
-use Rattle.yq_cut.proofs.PartSlicing.{marker_within, marker_boundary, marker_some}
+use Rattle.yq_row_table.proofs.PartSlicing.{marker_within, marker_boundary, marker_some}
 use Rattle.yq_rows.proofs.reading.read_marker.Goals as goal
 
 pub overflow_sub-text : goal.overflow_sub-text

@@ -1,4 +1,4 @@
-use Rattle.yq_cut.proofs.ScanLaws.{found_by, only_by}
+use Rattle.yq_row_table.proofs.ScanLaws.{found_by, only_by}
 use Rattle.yq_rows.proofs.scanning.scan.Goals as goal
 
 pub returns-clause-found : goal.returns-clause-found

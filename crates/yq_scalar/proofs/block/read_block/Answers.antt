@@ -1,8 +1,8 @@
 use Rattle.std.proofs.Common.{rules}
-use Rattle.yq_flow_scalars.specs.Answers.{ReadsAs}
-use Rattle.yq_block_scalars.specs.BlockReading.{block_from}
-use Rattle.yq_block_scalars.proofs.BlockFound.{found_by, only_by}
-use Rattle.yq_block_scalars.proofs.ScalarPieceLaws.{block_is_piece}
+use Rattle.yq_core.specs.Answers.{ReadsAs}
+use Rattle.yq_core.specs.BlockReading.{block_from}
+use Rattle.yq_core.proofs.BlockFound.{found_by, only_by}
+use Rattle.yq_core.proofs.ScalarPieceLaws.{block_is_piece}
 use Rattle.yq_scalar.proofs.block.read_block.Goals as goal
 
 read : (c : goal.After-read_at) → ReadsAs (λ p. p) c.read_at.result (block_from c.args.parent c.args.at c.args.text.now)

@@ -1,9 +1,9 @@
 use Rattle.std.proofs.Common.{◌≡◌, ◌++◌, ◌+◌, ◌≤◌, length}
 use Rattle.std.specs.Str.{IsUtf8}
 use Rattle.std.specs.String.{string_bytes}
-use Rattle.yq_flow_scalars.specs.Text.{text_lines}
-use Rattle.yq_block_scalars.specs.BlockContent as spec
-use Rattle.yq_block_scalars.specs.declared.block_types.Before.TheVariants.{Nothing}
+use Rattle.yq_core.specs.Text.{text_lines}
+use Rattle.yq_core.specs.BlockContent as spec
+use Rattle.yq_core.specs.declared.block_types.Before.TheVariants.{Nothing}
 use Rattle.yq_scalar.proofs.block_content.push_folded.Given as goal
 
 abbrev pub decreases-each : goal.decreases-each

@@ -1,5 +1,5 @@
 use Rattle.std.proofs.Common.{◌≤◌, arith}
-use Rattle.yq_flow_scalars.proofs.Boundaries.{boundary_in_spaces}
+use Rattle.yq_core.proofs.Boundaries.{boundary_in_spaces}
 use Rattle.yq_scalar.proofs.block_content.unindented.Goals as goal
 use Rattle.yq_scalar.proofs.block_content.unindented.Goals.{then-indent, else-indent}
 

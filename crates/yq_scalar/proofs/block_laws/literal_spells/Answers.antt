@@ -1,4 +1,4 @@
-use Rattle.yq_block_scalars.proofs.LiteralText.{literal_block, literal_content}
+use Rattle.yq_core.proofs.LiteralText.{literal_block, literal_content}
 use Rattle.yq_scalar.proofs.block_laws.literal_spells.Goals as goal
 
 pub returns-clause-block : goal.returns-clause-block

@@ -1,4 +1,4 @@
-use Rattle.yq_block_scalars.proofs.BlockLaws.{block_takes, block_again, one_block}
+use Rattle.yq_core.proofs.BlockLaws.{block_takes, block_again, one_block}
 use Rattle.yq_scalar.proofs.block_laws.one_block.Goals as goal
 
 pub returns-clause-takes : goal.returns-clause-takes

@@ -1,8 +1,8 @@
 use Rattle.std.proofs.Common.{◌≡◌, ◌++◌, length}
 use Rattle.std.specs.Str.{IsUtf8}
 use Rattle.std.specs.String.{string_bytes}
-use Rattle.yq_flow_scalars.specs.Text.{text_lines, joined}
-use Rattle.yq_block_scalars.specs.BlockRepair as spec
+use Rattle.yq_core.specs.Text.{text_lines, joined}
+use Rattle.yq_core.specs.BlockRepair as spec
 use Rattle.yq_scalar.proofs.block_repair.push_gap.Given as goal
 
 abbrev pub decreases-each : goal.decreases-each

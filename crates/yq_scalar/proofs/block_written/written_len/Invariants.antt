@@ -1,7 +1,7 @@
 use Rattle.std.proofs.Common.{◌≡◌, ◌+◌, ◌-◌, ◌≤◌, ◌^◌, length, min}
 use Rattle.std.specs.Str.{IsUtf8}
-use Rattle.yq_flow_scalars.specs.Text.{text_lines, joined}
-use Rattle.yq_block_scalars.specs.BlockWritten as spec
+use Rattle.yq_core.specs.Text.{text_lines, joined}
+use Rattle.yq_core.specs.BlockWritten as spec
 use Rattle.yq_scalar.proofs.block_written.written_len.Given as goal
 
 abbrev pub decreases-each : goal.decreases-each

@@ -1,4 +1,4 @@
-use Rattle.yq_flow_scalars.specs.declared.style.Style.TheVariants as styles
+use Rattle.yq_core.specs.declared.style.Style.TheVariants as styles
 use Rattle.yq_scalar.proofs.PieceKinds.{either_kind, is_plain, is_quoted, kind, text_quoted}
 use Rattle.std.proofs.Common.{refl, ap, inl}
 use Rattle.yq_scalar.proofs.piece_content.content_at.Goals as goal

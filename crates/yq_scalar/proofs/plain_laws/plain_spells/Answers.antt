@@ -1,6 +1,6 @@
-use Rattle.yq_flow_scalars.specs.Writable.{in_flow}
-use Rattle.yq_block_scalars.proofs.PlainSpells.{plain_is_text, plain_line, plain_opens, plain_some, writable_text, writable_same, writable_piece}
-use Rattle.yq_block_scalars.proofs.PlainWritten.{plain_text_parts}
+use Rattle.yq_core.specs.Writable.{in_flow}
+use Rattle.yq_core.proofs.PlainSpells.{plain_is_text, plain_line, plain_opens, plain_some, writable_text, writable_same, writable_piece}
+use Rattle.yq_core.proofs.PlainWritten.{plain_text_parts}
 use Rattle.yq_scalar.proofs.plain_laws.plain_spells.Goals as goal
 
 pub returns-clause-piece : goal.returns-clause-piece

@@ -1,4 +1,4 @@
-use Rattle.yq_flow_scalars.proofs.QuotedFound.{quoted_takes, quoted_again, quoted_one}
+use Rattle.yq_core.proofs.QuotedFound.{quoted_takes, quoted_again, quoted_one}
 use Rattle.yq_scalar.proofs.quoted_laws.one_quoted.Goals as goal
 
 pub returns : goal.returns

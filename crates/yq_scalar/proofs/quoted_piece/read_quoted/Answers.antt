@@ -1,5 +1,5 @@
-use Rattle.yq_block_scalars.proofs.ScalarPieceLaws.{quoted_is_piece}
-use Rattle.yq_block_scalars.proofs.QuotedPieceLaws.{only_by}
+use Rattle.yq_core.proofs.ScalarPieceLaws.{quoted_is_piece}
+use Rattle.yq_core.proofs.QuotedPieceLaws.{only_by}
 use Rattle.yq_scalar.proofs.quoted_piece.read_quoted.Goals as goal
 
 pub returns-clause-only : goal.returns-clause-only

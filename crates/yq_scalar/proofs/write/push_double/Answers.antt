@@ -1,5 +1,5 @@
 use Rattle.yq_scalar.proofs.Pushes.{letter_written, on_added, on_pushed, on_same}
-use Rattle.yq_flow_scalars.specs.Written.{in_double}
+use Rattle.yq_core.specs.Written.{in_double}
 use Rattle.std.proofs.Common.{◌++◌, encode_utf8, string_bytes, sym, ◌∙◌}
 use Rattle.yq_scalar.proofs.write.push_double.Goals as goal
 

@@ -3,7 +3,7 @@ use Rattle.std.proofs.Common.{◌≡◌, ◌==◌, ◌++◌, encode_utf8, flat_m
 use Rattle.std.specs.Str.{chars}
 use Rattle.std.proofs.lemmas.Iterator.{YieldsList-from_chars}
 use Rattle.std.proofs.lemmas.Iterator.Consumers.{YieldsList-end}
-use Rattle.yq_flow_scalars.specs.Written.{in_double, in_single}
+use Rattle.yq_core.specs.Written.{in_double, in_single}
 use Rattle.yq_scalar.proofs.write.write_quoted.Goals as goal
 
 abbrev in_quotes : ℕ → ℕ → List ℕ

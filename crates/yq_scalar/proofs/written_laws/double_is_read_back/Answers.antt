@@ -1,4 +1,4 @@
-use Rattle.yq_block_scalars.proofs.ReadBackLaws.{double_back}
+use Rattle.yq_core.proofs.ReadBackLaws.{double_back}
 use Rattle.yq_scalar.proofs.written_laws.double_is_read_back.Goals as goal
 
 pub returns : goal.returns

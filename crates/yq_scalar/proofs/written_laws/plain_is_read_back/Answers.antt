@@ -1,4 +1,4 @@
-use Rattle.yq_block_scalars.proofs.ReadBackLaws.{plain_back}
+use Rattle.yq_core.proofs.ReadBackLaws.{plain_back}
 use Rattle.yq_scalar.proofs.written_laws.plain_is_read_back.Goals as goal
 
 pub returns : goal.returns

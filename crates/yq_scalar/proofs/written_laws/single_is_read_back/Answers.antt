@@ -1,4 +1,4 @@
-use Rattle.yq_block_scalars.proofs.ReadBackLaws.{single_back}
+use Rattle.yq_core.proofs.ReadBackLaws.{single_back}
 use Rattle.yq_scalar.proofs.written_laws.single_is_read_back.Goals as goal
 
 pub returns : goal.returns

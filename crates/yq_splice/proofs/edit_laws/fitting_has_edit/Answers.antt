@@ -1,4 +1,4 @@
-use Rattle.yq_outcomes.proofs.EditsHold.{edit_there}
+use Rattle.yq_edit_laws.proofs.EditsHold.{edit_there}
 use Rattle.yq_splice.proofs.edit_laws.fitting_has_edit.Goals as goal
 
 pub returns : goal.returns

@@ -1,4 +1,4 @@
-use Rattle.yq_program.specs.View.{program_of}
+use Rattle.yq_semantics.specs.View.{program_of}
 use Rattle.yq_splice.proofs.AnswerLaws.{answer_splices}
 use Rattle.yq_splice.proofs.editing.edit.Goals as goal
 

@@ -3,15 +3,15 @@ use Rattle.std.proofs.lemmas.Result.{err_from_is_err_and}
 use Rattle.std.specs.Prelude.{Vec}
 use Rattle.std.specs.declared.alloc.Global.{Global}
 use Rattle.yq_documents.specs.Reading.{cut_of, documents, read_at}
-use Rattle.yq_meaning.specs.Operations.{Operation, operations_of}
-use Rattle.yq_meaning.specs.declared.op.Op.{Op}
-use Rattle.yq_program.specs.View.{program_of}
-use Rattle.yq_outcomes.specs.Answers.{Edits}
-use Rattle.yq_outcomes.specs.Carried.{carry_all}
-use Rattle.yq_outcomes.specs.Edit.{edit_behind}
-use Rattle.yq_outcomes.specs.Valid.{AreServed, HaveOperands}
-use Rattle.yq_outcomes.proofs.MeaningLaws.{plan_serves}
-use Rattle.yq_outcomes.proofs.UpdateLaws.{update_not_read, update_unplanned, update_planned, update_holds, update_there, update_ok, update_err}
+use Rattle.yq_semantics.specs.Operations.{Operation, operations_of}
+use Rattle.yq_semantics.specs.declared.op.Op.{Op}
+use Rattle.yq_semantics.specs.View.{program_of}
+use Rattle.yq_edit_laws.specs.Answers.{Edits}
+use Rattle.yq_edit_laws.specs.Carried.{carry_all}
+use Rattle.yq_edit_laws.specs.Edit.{edit_behind}
+use Rattle.yq_edit_laws.specs.Valid.{AreServed, HaveOperands}
+use Rattle.yq_edit_laws.proofs.MeaningLaws.{plan_serves}
+use Rattle.yq_edit_laws.proofs.UpdateLaws.{update_not_read, update_unplanned, update_planned, update_holds, update_there, update_ok, update_err}
 use Rattle.yq_splice.proofs.editing.step.Goals as goal
 
 pub returns-in_err-documents-clause-err : goal.returns-in_err-documents-clause-err

@@ -1,5 +1,5 @@
 use Rattle.std.proofs.Common.{ap, ◌∙◌}
-use Rattle.yq_flow_scalars.specs.Text.{text_lines}
+use Rattle.yq_core.specs.Text.{text_lines}
 use Rattle.yq_documents.specs.Texts.{texts}
 use Rattle.yq_documents.proofs.RunLaws.{run_texts}
 use Rattle.yq_documents.proofs.comment.Comments.of.Goals as goal

@@ -5,7 +5,7 @@ use Rattle.base64.specs.GeneralPurpose.{encode_of}
 use Rattle.json.specs.Print.{escape}
 use Rattle.yq_journal.specs.Json.{journal_in, journal_text, kind_text}
 use Rattle.yq_journal.specs.OpenText.{journal_text_before, journal_text_behind}
-use Rattle.yq_records.specs.State.{Pending, State, state}
+use Rattle.yq_journal.specs.State.{Pending, State, state}
 use Rattle.yq_journal.proofs.OpenTextLaws.{ArePieces, reads_back, whole_text}
 use Rattle.yq_journal.proofs.journal.Journal.open_text.Goals as goal
 

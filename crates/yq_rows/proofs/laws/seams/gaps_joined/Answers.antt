@@ -1,5 +1,5 @@
 use Rattle.yq_rows.proofs.laws.seams.gaps_joined.Goals as goal
-use Rattle.yq_cut.proofs.seams.GapFronts.{gap_joined, gap_repaired, lines_joined_of}
+use Rattle.yq_row_table.proofs.seams.GapFronts.{gap_joined, gap_repaired, lines_joined_of}
 
 pub returns-clause-lines : goal.returns-clause-lines
 returns-clause-lines c = lines_joined_of

@@ -1,5 +1,5 @@
 use Rattle.yq_rows.proofs.laws.seams.row_dashed.Goals as goal
-use Rattle.yq_cut.proofs.seams.JoinLaws.{row_compact, row_dashed}
+use Rattle.yq_row_table.proofs.seams.JoinLaws.{row_compact, row_dashed}
 
 pub returns-clause-cut : goal.returns-clause-cut
 returns-clause-cut c = row_dashed

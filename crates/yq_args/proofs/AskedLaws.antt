@@ -1,0 +1,27 @@
+-- What a command's word asks for, by the name that it has.
+use Rattle.std.proofs.Common.{◌≡◌, ◌∙◌, ◌&&◌, not, Bool, true, false, Option, Some, None, is_some, ap, refl, sym}
+use Rattle.clap.specs.Words.{Text}
+use Rattle.std.specs.Prelude.{codes}
+use Rattle.std.specs.Str.{bytes_eq}
+use Rattle.yq_args.specs.Asked.{journal_name, names_fit}
+
+-- of two tests the second fails
+second_fails : (b : Bool) → (b && false) ≡ false
+second_fails true = refl
+second_fails false = refl
+
+-- a text that is missing, whatever the names are
+pub missing_fails : (n : Bool) (text : Option Text) → text ≡ None → (n && is_some text) ≡ false
+missing_fails n text is = ap (λ t. n && is_some t) is ∙ second_fails n
+
+-- names that may not stand: the file's is `-`, or the journal's is the same
+module _ (found journal : Option Text) (file : Text) (is : found ≡ Some file) where
+  pub dash_fails : bytes_eq file (codes "-") ≡ true → names_fit found journal ≡ false
+  dash_fails dash =
+      ap (λ f. names_fit f journal) is ∙ ap (λ b. not b && not (bytes_eq (journal_name journal file) file)) dash
+
+  pub same_fails : (text : Text) → text ≡ journal_name journal file → bytes_eq text file ≡ true → names_fit found journal ≡ false
+  same_fails text named same =
+      ap (λ f. names_fit f journal) is
+      ∙ ap (λ b. not (bytes_eq file (codes "-")) && not b) (ap (λ t. bytes_eq t file) (sym named) ∙ same)
+      ∙ second_fails (not (bytes_eq file (codes "-")))

@@ -1,0 +1,128 @@
+-- What the words of a command line ask for, by what clap finds in them (own).
+use Rattle.std.specs.Prelude.{◌≡◌, ◌≢◌, ◌⊎◌, ◌&&◌, ◌||◌, ◌^◌, ℕ, Bool, true, false, not, List, [], ◌∷◌, ◌++◌, length, codes, nat_lt, if◌then◌else◌, Option, Some, None, is_some, option_and_then}
+use Rattle.std.specs.List.{list_any}
+use Rattle.std.specs.Option.{option_map_or}
+use Rattle.std.specs.Str.{bytes_eq, all_ascii_digits}
+use Rattle.std.specs.Str.Parse.{digits_value}
+use Rattle.std.specs.String.{string_bytes}
+use Rattle.clap.specs.Words.{IsAmong, Row, Text, fault_of, first_of, one_of, subcommand_of, takes}
+use Rattle.clap.specs.declared.error.kind.ErrorKind.TheVariants.{DisplayHelp}
+use Rattle.yq_args.specs.declared.command.Command.{Command}
+use Rattle.yq_args.specs.declared.command.Command.TheVariants.{Eval, Undo, Redo, History, Squash, Help}
+use Rattle.yq_args.specs.declared.words_error.WordsError.{WordsError}
+use Rattle.yq_args.specs.declared.words_error.WordsError.TheVariants.{OutOfMemory, Usage}
+use Rattle.yq_args.specs.CommandWords.{with_command}
+use Rattle.yq_args.specs.Line.{yq}
+
+-- the words as clap reads them, behind the program's name
+abbrev pub full_words : List Text → List Text
+full_words words = codes "yq" ∷ with_command words
+
+-- a word that asks for help
+abbrev pub is_help_word : Text → Bool
+is_help_word word = bytes_eq word (codes "-h") || bytes_eq word (codes "--help")
+
+-- some word asks for help
+abbrev pub asks_help : List Text → Bool
+asks_help words = list_any is_help_word words
+
+-- a word asks for help, and clap's reading of the words may end at a call for help
+abbrev pub MayCallHelp : List Text → Type 0
+MayCallHelp words = (asks_help words ≡ true) × IsAmong DisplayHelp (fault_of yq (full_words words))
+
+-- a word asks for help, and clap's reading of the words can end at a call for help alone
+abbrev pub CallsHelp : List Text → Type 0
+CallsHelp words = (asks_help words ≡ true) × (fault_of yq (full_words words) ≡ DisplayHelp ∷ [])
+
+-- the journal's name: the one that is given, else the file's followed by `.undo.json`
+abbrev pub journal_name : Option Text → Text → Text
+journal_name None file = file ++ codes ".undo.json"
+journal_name (Some name) file = name
+
+-- the number of a text of decimal digits, up to the last of 64 bits
+abbrev pub count_in : Text → Option ℕ
+count_in text =
+    if all_ascii_digits text && (nat_lt 0 (length text) && nat_lt (digits_value 10 text) (2 ^ 64))
+    then Some (digits_value 10 text) else None
+
+-- the switch is on where clap finds `true`, and off where it finds `false`
+abbrev pub IsSwitch : Option Text → Bool → Type 0
+IsSwitch found on = (found ≡ Some (codes "true") → on ≡ true) × (found ≡ Some (codes "false") → on ≡ false)
+
+-- the file and the journal have the names that are given, which differ, and the file's isn't `-`
+pub record HasNames (rows : List Row) (file journal : Text) : Type 0 where
+  pub file_is : first_of (codes "file") rows ≡ Some file
+  pub journal_is : journal ≡ journal_name (first_of (codes "journal") rows) file
+  pub not_dash : file ≢ codes "-"
+  pub differ : journal ≢ file
+
+-- the command's word is this one, and what stands behind it has this property
+abbrev pub CommandIs : Text → (List Row → Type 0) → Option (Text × List Row) → Type 0
+CommandIs name holds None = ⊥
+CommandIs name holds (Some found) = (found.0 ≡ name) × holds found.1
+
+-- the command is the one that clap finds, with its texts and switches; of help nothing is said
+abbrev pub IsAsked : Option (Text × List Row) → Command → Type 0
+IsAsked found (Eval expr file journal in_place exit_status no_doc) = CommandIs (codes "eval") (λ rows.
+    (first_of (codes "expr") rows ≡ Some (string_bytes expr))
+    × HasNames rows (string_bytes file) (string_bytes journal)
+    × IsSwitch (one_of (codes "inplace") rows) in_place
+    × IsSwitch (one_of (codes "exit-status") rows) exit_status
+    × IsSwitch (one_of (codes "no-doc") rows) no_doc) found
+IsAsked found (Undo file journal) = CommandIs (codes "undo") (λ rows. HasNames rows (string_bytes file) (string_bytes journal)) found
+IsAsked found (Redo file journal) = CommandIs (codes "redo") (λ rows. HasNames rows (string_bytes file) (string_bytes journal)) found
+IsAsked found (History file journal) = CommandIs (codes "history") (λ rows. HasNames rows (string_bytes file) (string_bytes journal)) found
+IsAsked found (Squash n file journal) = CommandIs (codes "squash") (λ rows.
+    (option_and_then count_in (first_of (codes "n") rows) ≡ Some n)
+    × HasNames rows (string_bytes file) (string_bytes journal)) found
+IsAsked found Help = Unit {0}
+
+-- the file's name isn't `-`, and the journal's is another
+abbrev pub name_fits : Option Text → Text → Bool
+name_fits journal file = not (bytes_eq file (codes "-")) && not (bytes_eq (journal_name journal file) file)
+
+-- the names are there, and may stand
+abbrev pub names_fit : Option Text → Option Text → Bool
+names_fit None journal = false
+names_fit (Some file) journal = name_fits journal file
+
+-- a word names a command, and what that needs besides its names is there and may stand
+abbrev pub words_fit : Text → List Row → Bool
+words_fit name rows =
+    if bytes_eq name (codes "eval") then is_some (first_of (codes "expr") rows)
+    else if bytes_eq name (codes "squash") then is_some (option_and_then count_in (first_of (codes "n") rows))
+    else list_any (λ x. bytes_eq name x) (codes "undo" ∷ codes "redo" ∷ codes "history" ∷ [])
+
+-- the texts that a command needs are there, and may stand
+abbrev pub passes : Text → List Row → Bool
+passes name rows = names_fit (first_of (codes "file") rows) (first_of (codes "journal") rows) && words_fit name rows
+
+-- the words are no command, whatever the cause
+abbrev pub is_usage : WordsError → Bool
+is_usage (Usage cause) = true
+is_usage OutOfMemory = false
+
+-- memory ran out, or a text that the command needs is missing or may not stand
+abbrev pub IsMissed : Text → List Row → WordsError → Type 0
+IsMissed name rows fault = (fault ≡ OutOfMemory) ⊎ ((is_usage fault ≡ true) × (passes name rows ≡ false))
+
+-- clap finds a command, whose texts are there and may stand
+abbrev pub finds : Option (Text × List Row) → Bool
+finds None = false
+finds (Some found) = passes found.0 found.1
+
+-- memory ran out, or clap doesn't take the words, or finds no such command in them
+abbrev pub IsNotTaken : List Text → WordsError → Type 0
+IsNotTaken full fault =
+    (fault ≡ OutOfMemory) ⊎ ((is_usage fault ≡ true) × (takes yq full ≡ true → finds (subcommand_of yq full) ≡ false))
+
+-- the program's own checks of the texts that clap finds: FILE isn't `-`, the journal has another name, and N is a number of 64 bits
+abbrev pub checks : List Row → Bool
+checks rows =
+    option_map_or (name_fits (first_of (codes "journal") rows)) (first_of (codes "file") rows) true
+    && option_map_or (λ text. is_some (count_in text)) (first_of (codes "n") rows) true
+
+-- memory ran out, or clap doesn't take the words, or they fail the program's own checks
+abbrev pub WordsRefused : List Text → WordsError → Type 0
+WordsRefused full fault = (fault ≡ OutOfMemory) ⊎ ((is_usage fault ≡ true)
+    × (takes yq full ≡ true → option_map_or (λ found. checks found.1) (subcommand_of yq full) true ≡ false))

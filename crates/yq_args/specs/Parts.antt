@@ -1,0 +1,36 @@
+-- The command line by the parts that the code makes it of: arguments, and the commands that have them (own).
+use Rattle.std.specs.Prelude.{List, [], ◌∷◌, codes}
+use Rattle.clap.specs.Words.{App, Rule, with_rule, with_subcommand}
+use Rattle.yq_args.specs.declared.line.Argument.{Argument}
+use Rattle.yq_args.specs.declared.line.Argument.TheVariants.{Inplace, ExitStatus, NoDoc, Journal, Expr, Count, File}
+use Rattle.yq_args.specs.declared.line.SubCommand.{SubCommand}
+use Rattle.yq_args.specs.declared.line.SubCommand.TheVariants.{Eval, Undo, Redo, History, Squash}
+use Rattle.yq_args.specs.Line.{positional, journal_option, switch, file_command, squash_command, eval_command}
+
+-- the rule of an argument
+abbrev pub argument_rule : Argument → Rule
+argument_rule Inplace = switch (codes "inplace") 105
+argument_rule ExitStatus = switch (codes "exit-status") 101
+argument_rule NoDoc = switch (codes "no-doc") 78
+argument_rule Journal = journal_option
+argument_rule Expr = positional (codes "expr")
+argument_rule Count = positional (codes "n")
+argument_rule File = positional (codes "file")
+
+-- a command with these arguments behind those that it has
+abbrev pub with_arguments : App → List Argument → App
+with_arguments app [] = app
+with_arguments app (arg ∷ args) = with_arguments (with_rule app (argument_rule arg)) args
+
+-- the command of a word
+abbrev pub command_app : SubCommand → App
+command_app Eval = eval_command
+command_app Undo = file_command (codes "undo")
+command_app Redo = file_command (codes "redo")
+command_app History = file_command (codes "history")
+command_app Squash = squash_command
+
+-- a command with these ones below it, behind those that it has
+abbrev pub with_commands : App → List SubCommand → App
+with_commands app [] = app
+with_commands app (command ∷ commands) = with_commands (with_subcommand app (command_app command).top) commands

@@ -1,0 +1,159 @@
+-- One more operation that changes a row, behind those that did: it comes to what it does on the rows as they were read, but for the text in front.
+use Rattle.std.proofs.Common.{◌≡◌, inl, inr, ℕ, suc, ◌+◌, ◌≤◌, ◌<◌, Bool, cond, leb, List, [], ◌∷◌, ◌++◌, length, take, drop, Option, Some, sym, ap, ◌∙◌, subst, append_assoc, append-nil, arith, length-append}
+use Rattle.std.proofs.Math.Seq.{take-append_seam, drop-append_seam}
+use Rattle.std.proofs.lemmas.Bool.{le-leb, lt-leb}
+use Rattle.std.proofs.lemmas.List.{append_cancel_right, drop-append-le}
+use Rattle.std.proofs.lemmas.Option.{same_Some}
+use Rattle.std.specs.Str.{IsCharBoundary}
+use Rattle.yq_text.specs.Limit.{text_limit}
+use Rattle.yq_core.specs.Paths.{Step}
+use Rattle.yq_row_table.specs.Rows.{Cut, cut_text}
+use Rattle.yq_documents.specs.Reading.{documents, read_at}
+use Rattle.yq_lookup.specs.Standings.{RowsOfEntry, rows_of_entry}
+use Rattle.yq_lookup.proofs.ReadLaws.{parts_read}
+use Rattle.yq_edits.specs.Appends.{inserted}
+use Rattle.yq_edits.specs.Changed.{put_document}
+use Rattle.yq_edits.specs.RowStays.{IsBehind, StandsStill, StaysFrom}
+use Rattle.yq_edits.proofs.RowStayLaws.{rows_stay_there}
+use Rattle.yq_semantics.specs.After.{op_document}
+use Rattle.yq_semantics.specs.Fits.{Fits}
+use Rattle.yq_semantics.specs.Operations.{Operation}
+use Rattle.yq_semantics.specs.Rooms.{room_of}
+use Rattle.yq_semantics.specs.declared.refusal.Refusal.TheVariants.{TooLarge}
+use Rattle.yq_text.specs.Exchanging as exchange
+use Rattle.yq_text.specs.Script.{Segment, changes, keep, new_text, splice_at}
+use Rattle.yq_text.proofs.ScriptLaws.{kept_changes}
+use Rattle.yq_edits.specs.Edits.{op_edits, or_stay}
+use Rattle.yq_edits.specs.Operands.{HasOperand}
+use Rattle.yq_edits.specs.RowChanges.{ChangesRow}
+use Rattle.yq_edit_laws.proofs.CutLaws.{cut_read, text_read}
+use Rattle.yq_edit_laws.specs.Carried.{carried, carry_one}
+use Rattle.yq_edit_laws.specs.Edit.{by_reading, edit_of_segments, exchange_edit, gives, refuses}
+use Rattle.yq_batch.specs.RowRuns.{IsRowRun, PutsText, rows_still}
+use Rattle.yq_batch.specs.Runs.{text_after_run}
+use Rattle.yq_edit_laws.specs.Theorems.{IsFitting}
+use Rattle.yq_edit_laws.proofs.ApplyLaws.{fits}
+
+-- what is behind one row behind another is behind that
+behind_both : (k n m i l j : ℕ) → IsBehind k n m i → IsBehind m (suc i) l j → IsBehind k n l j
+behind_both k n m i l j (inl a) (inl b) = inl (omega (arith, a, b))
+behind_both k n m i l j (inl a) (inr b) = inl (omega (arith, a, b.0))
+behind_both k n m i l j (inr a) (inl b) = inl (omega (arith, a.0, b))
+behind_both k n m i l j (inr a) (inr b) = inr (a.0 ∙ b.0, omega (arith, a.1, b.1))
+
+sized : (k n m i j : ℕ) → i ≡ j → IsBehind k n m i → IsBehind k n m j
+sized k n m i j e h = subst (λ (x : ℕ). IsBehind k n m x) e h
+
+module _ (c : Cut) (k n : ℕ) (out : List ℕ) (done : ℕ) (run : IsRowRun c k n out done) (op : Operation) (steps : List Step) (e : RowsOfEntry) (at : rows_of_entry (op_document op) steps c ≡ Some e) (later : IsBehind k n (op_document op) (length e.front)) where
+  -- the rows in the text as it is now
+  abbrev pub still : StandsStill e (op_document op) steps run.cut
+  still = run.stays (op_document op) steps e at later
+
+  abbrev now : List ℕ
+  now = text_after_run (cut_text c) out done
+
+  pub text_now : cut_text run.cut ≡ now
+  text_now = text_read now run.cut run.read
+
+  pub read_now : read_at (cut_text run.cut) ≡ Some run.cut
+  read_now = ap read_at text_now ∙ run.read
+
+  comes : (ss : List Segment) → op_edits op run.cut ≡ Some ss → carried op now ≡ edit_of_segments ss
+  comes ss edited = ap (by_reading (carry_one op)) run.read ∙ ap (λ (o : Option (List Segment)). edit_of_segments (or_stay run.cut o)) edited
+
+  -- all bytes stay
+  pub row_stays : op_edits op run.cut ≡ Some (keep (cut_text run.cut) ∷ []) → carried op now ≡ gives now []
+  row_stays edited =
+      let t : List ℕ = cut_text run.cut in
+      comes (keep t ∷ []) edited
+      ∙ ((λ i. exchange_edit (cond (leb (length (append-nil t i)) text_limit) (exchange.gives (append-nil t i) (kept_changes (keep t ∷ []) (tt, tt) i)) exchange.too_large))
+      ∙ (ap (λ (b : Bool). exchange_edit (cond b (exchange.gives t []) exchange.too_large)) (le-leb (length t) text_limit (cut_read t run.cut read_now).size) ∙ ap (λ (u : List ℕ). gives u []) text_now))
+
+  -- a text is put there
+  module _ (before old new behind : List ℕ) (text_is : cut_text c ≡ before ++ (old ++ behind)) (ordered : done ≤ length before) (x : PutsText op run.cut (rows_still e still) old new behind) where
+    abbrev t : List ℕ
+    t = cut_text c
+
+    abbrev start : ℕ
+    start = length before
+
+    abbrev finish : ℕ
+    finish = length before + length old
+
+    abbrev new_front : List ℕ
+    new_front = out ++ drop done (take start t)
+
+    abbrev new_out : List ℕ
+    new_out = new_front ++ new
+
+    abbrev ss : List Segment
+    ss = x.segments
+
+    before_is : take start t ≡ before
+    before_is = ap (take start) text_is ∙ take-append_seam before (old ++ behind)
+
+    -- the text in front is what the run has made, and what stays behind that
+    front_is : x.front ≡ new_front
+    front_is =
+        append_cancel_right x.front new_front (old ++ behind)
+        (sym x.puts.old_is
+        ∙ (x.whole
+        ∙ (text_now
+        ∙ (ap (λ (u : List ℕ). out ++ drop done u) text_is
+        ∙ (ap (λ (u : List ℕ). out ++ u) (drop-append-le done before (old ++ behind) ordered)
+        ∙ (sym (append_assoc out (drop done before) (old ++ behind))
+        ∙ ap (λ (u : List ℕ). (out ++ drop done u) ++ (old ++ behind)) (sym before_is)))))))
+
+    size : finish ≡ length (before ++ old)
+    size = omega (arith, length-append before old)
+
+    apart : t ≡ (before ++ old) ++ behind
+    apart = text_is ∙ sym (append_assoc before old behind)
+
+    left_is : drop finish t ≡ behind
+    left_is = (λ i. drop (size i) (apart i)) ∙ drop-append_seam (before ++ old) behind
+
+    pub old_is : drop start (take finish t) ≡ old
+    old_is =
+        let upto : take finish t ≡ before ++ old = (λ i. take (size i) (apart i)) ∙ take-append_seam (before ++ old) behind in
+        ap (drop start) upto ∙ drop-append_seam before old
+
+    new_is : new_text ss ≡ text_after_run t new_out finish
+    new_is = x.puts.new_is ∙ ((λ i. front_is i ++ (new ++ sym left_is i)) ∙ sym (append_assoc new_front new (drop finish t)))
+
+    changes_are : changes ss ≡ splice_at (length new_front) old new
+    changes_are = x.puts.changes_are ∙ ap (λ (u : List ℕ). splice_at (length u) old new) front_is
+
+    pub row_put_comes : length (text_after_run t new_out finish) ≤ text_limit → carried op now ≡ gives (text_after_run t new_out finish) (splice_at (length new_front) old new)
+    row_put_comes small =
+        comes ss x.edited
+        ∙ ((λ i. exchange_edit (cond (leb (length (new_is i)) text_limit) (exchange.gives (new_is i) (changes_are i)) exchange.too_large))
+        ∙ ap (λ (b : Bool). exchange_edit (cond b (exchange.gives (text_after_run t new_out finish) (splice_at (length new_front) old new)) exchange.too_large)) (le-leb (length (text_after_run t new_out finish)) text_limit small))
+
+    pub row_put_large : text_limit < length (text_after_run t new_out finish) → carried op now ≡ refuses TooLarge
+    row_put_large large =
+        comes ss x.edited
+        ∙ ((λ i. exchange_edit (cond (leb (length (new_is i)) text_limit) (exchange.gives (new_is i) (changes_are i)) exchange.too_large))
+        ∙ ap (λ (b : Bool). exchange_edit (cond b (exchange.gives (text_after_run t new_out finish) (splice_at (length new_front) old new)) exchange.too_large)) (lt-leb (length (text_after_run t new_out finish)) text_limit large))
+
+    -- the run goes on behind it
+    pub row_goes_on : IsCharBoundary t finish → HasOperand op → IsFitting op now → length (text_after_run t new_out finish) ≤ text_limit → IsRowRun c (op_document op) (suc (length e.front)) new_out finish
+    row_goes_on edge operand fitting small =
+        let m : ℕ = op_document op in
+        let same : fitting.read.parts ≡ run.cut = same_Some _ _ (sym (parts_read now fitting.before fitting.read).0 ∙ run.read) in
+        let fit : Fits (room_of (cut_text run.cut)) op (documents run.cut) = subst (λ (d : Cut). Fits (room_of (cut_text d)) op (documents d)) same (fits op now operand fitting) in
+        let y : ChangesRow m run.cut (rows_still e still) ss = x.changes operand fit (omega (arith, small, ap length new_is)) in
+        let front_size : length y.front ≡ length e.front = y.front_size ∙ still.size in
+        let kept : StaysFrom (suc (length e.front)) y.part (inserted y.front (y.new ∷ []) y.back y.part) =
+        subst (λ (i : ℕ). StaysFrom (suc i) y.part (inserted y.front (y.new ∷ []) y.back y.part)) front_size (rows_stay_there.exchanges y.part y.front y.back y.row y.new y.rows_are y.shape) in
+        record {
+          within = omega (arith, ap length text_is, length-append before (old ++ behind), length-append old behind);
+          edge = edge;
+          cut = put_document m (inserted y.front (y.new ∷ []) y.back y.part) run.cut;
+          read = ap read_at (sym new_is) ∙ y.read;
+          stays = λ l path f found after.
+              let first : StandsStill f l path run.cut = run.stays l path f found (behind_both k n m (length e.front) l (length f.front) later after) in
+              let z = rows_stay_there.entries run.cut m (suc (length e.front)) y.part (inserted y.front (y.new ∷ []) y.back y.part) l path (record f { start = first.start; front = first.front }) y.there kept first.found
+              (sized m (suc (length e.front)) l (length f.front) (length first.front) (sym first.size) after) in
+              record { start = z.start; front = z.front; found = z.found; size = z.size ∙ first.size };
+        }

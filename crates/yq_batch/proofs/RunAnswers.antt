@@ -1,0 +1,182 @@
+-- Runs of values that are put in the collections of one head, as the code makes them.
+use Rattle.std.proofs.Common.{◌≡◌, ℕ, ◌+◌, ◌-◌, ◌≤◌, ◌<◌, false, List, [], ◌++◌, length, length-append, map, take, drop, Option, Some, None, Result, Ok, Err, IfOk, sym, ap, ◌∙◌, subst, append-nil, arith, string_bytes}
+use Rattle.std.proofs.Math.Seq.{take-append_seam}
+use Rattle.std.proofs.lemmas.List.{length-map, take-map}
+use Rattle.std.proofs.lemmas.Str.{IsCharBoundary-start}
+use Rattle.std.specs.Prelude.{IfSome, String}
+use Rattle.std.specs.Str.{IsCharBoundary}
+use Rattle.std.specs.declared.alloc.Global.{Global}
+use Rattle.yq_core.specs.Paths.{Step}
+use Rattle.yq_core.specs.Tree.{Node}
+use Rattle.yq_core.specs.Entries.{tree_step}
+use Rattle.yq_core.specs.declared.path.Step as declared
+use Rattle.yq_flow_edits.specs.FlowPlaces.{edit_view}
+use Rattle.yq_row_table.specs.Rows.{Cut, cut_text}
+use Rattle.yq_documents.specs.Reading.{cut_of, read_at}
+use Rattle.yq_lookup.specs.FlowViews.{LeadsToHead, ReportsHead}
+use Rattle.yq_lookup.specs.NodesAt.{node_in}
+use Rattle.yq_lookup.specs.Standings.{last_step}
+use Rattle.yq_lookup.specs.declared.places.flow_node.FlowHead.{FlowHead}
+use Rattle.yq_semantics.specs.Operations.{Operation, replace}
+use Rattle.yq_text.specs.Script.{splice_at}
+use Rattle.yq_text.specs.Splice.{Splice}
+use Rattle.yq_edits.specs.Operands.{HasOperand}
+use Rattle.yq_edits.specs.Replacing.{keeps_scalar}
+use Rattle.yq_edit_laws.specs.EditPlaces.{LiesIn, moved_on}
+use Rattle.yq_edit_laws.specs.PartPuts.{IsHeadOfPath, ArePuts, IsWrittenPart, put_edit}
+use Rattle.yq_edit_laws.specs.declared.put.PartPut.{PartPut}
+use Rattle.yq_edit_laws.proofs.CutLaws.{text_read}
+use Rattle.yq_edit_laws.proofs.FlowAnswers.{whole_text}
+use Rattle.yq_edit_laws.specs.Answers.{EditFails}
+use Rattle.yq_edit_laws.specs.Carried.{carried}
+use Rattle.yq_edit_laws.specs.Edit.{gives, refuses}
+use Rattle.yq_batch.specs.Runs.{EndsAt, EndsInCollection, HasPut, IsPutRun, PutFails, PutsAt, Runs, RunsOn, now_text, run_front, text_after_run}
+use Rattle.yq_edit_laws.specs.Theorems.{IsFitting}
+use Rattle.yq_edit_laws.specs.declared.edit_error.EditError.{EditError}
+use Rattle.yq_edit_laws.specs.declared.edit_error.EditError.TheVariants as error
+use Rattle.yq_batch.specs.declared.run.Run.{Run}
+use Rattle.yq_edit_laws.proofs.ApplyLaws.{applied_by}
+use Rattle.yq_batch.proofs.RunLaws.{goes_on, kept_there, large_there, put_there}
+use Rattle.yq_edit_laws.proofs.TextFaults.{text_utf8}
+
+-- a run of nothing
+pub run_begins : (t : List ℕ) (n : ℕ) (stem : List Step) → read_at t ≡ Some (cut_of t) → LeadsToHead (cut_of t) n stem → IsPutRun (cut_of t) n stem [] 0
+run_begins t n stem read leads =
+    let same : cut_text (cut_of t) ≡ t = text_read t (cut_of t) read in
+    record {
+      within = omega arith;
+      edge = IsCharBoundary-start (cut_text (cut_of t)) (text_utf8 (cut_text (cut_of t)) (cut_of t) (ap read_at same ∙ read));
+      cut = cut_of t;
+      read = ap read_at same ∙ read;
+      leads = leads;
+      stays = λ left s y there less begins. there;
+    }
+
+-- the same of a run that the code begins
+pub begins : (t : List ℕ) (n : ℕ) (stem : List Step) (r : Run) → read_at t ≡ Some (cut_of t) → LeadsToHead (cut_of t) n stem →
+    string_bytes r.text ≡ [] → r.done ≡ 0 → Runs (cut_of t) n stem r
+begins t n stem r read leads text done =
+    subst (λ (d : ℕ). IsPutRun (cut_of t) n stem (string_bytes r.text) d) (sym done)
+    (subst (λ (l : List ℕ). IsPutRun (cut_of t) n stem l 0) (sym text) (run_begins t n stem read leads))
+
+-- the text of a run in which nothing was put
+pub begins_with : (t : List ℕ) (r : Run) → read_at t ≡ Some (cut_of t) → string_bytes r.text ≡ [] → r.done ≡ 0 → now_text (cut_of t) r ≡ t
+begins_with t r read text done = (λ i. text_after_run (cut_text (cut_of t)) (text i) (done i)) ∙ text_read t (cut_of t) read
+
+-- a path ends there, if the steps above its last one are those to the head and others
+pub ends_there : (path above stem left : List Step) (s : Step) → Some (above, s) ≡ last_step path → above ≡ stem ++ left → EndsAt stem left path
+ends_there path above stem left s last same = (s, sym last ∙ ap (λ (ss : List Step). Some (ss, s)) same)
+
+-- the steps to a head, by how many go on in it
+pub stem_is : (above left : List declared.Step) (stem : List Step) (n : ℕ) → map tree_step above ≡ stem ++ map tree_step left → n ≡ length above - length left → map tree_step (take n above) ≡ stem
+stem_is above left stem n same size =
+    let long : length stem ≡ n = omega (arith, size, ap length same, length-append stem (map tree_step left), length-map above tree_step, length-map left tree_step) in
+    sym (take-map tree_step n above) ∙ ((λ i. take (sym long i) (same i)) ∙ take-append_seam stem (map tree_step left))
+
+-- the head is that of the collection there, once it has the steps that go on to it
+pub head_there : (t : List ℕ) (m n : ℕ) (stem path : List Step) (x y : FlowHead) → ReportsHead t (cut_of t) n stem x → (m ≡ n) × EndsAt stem (map tree_step y.left.now) path → y.node ≡ x.node → y.text ≡ x.text → y.before ≡ x.before → IsHeadOfPath m (last_step path) t y
+head_there t m n stem path x y head ends node text before =
+    subst (λ (k : ℕ). IsHeadOfPath k (last_step path) t y) (sym ends.0) (subst (λ (o : Option (List Step × Step)). IsHeadOfPath n o t y) (sym ends.1.1) (head.reports y node text before))
+
+-- a value is put at a part in that collection
+pub puts_at : {E : Type 0} (t : List ℕ) (m n : ℕ) (stem : List Step) (op : Operation) (path : List Step) (v : Node) (x : FlowHead) →
+    op ≡ replace m path v → HasOperand op → (m ≡ n) × EndsInCollection stem path → (r : Result (Option PartPut) E) → IfOk r (λ o. ArePuts m path v (cut_of t) x o) →
+    IfOk r (λ o. IfSome o (λ p. PutsAt op t n stem x p))
+puts_at t m n stem op path v x is operand beside (Ok None) h = tt
+puts_at t m n stem op path v x is operand beside (Ok (Some p)) h =
+    let a : ArePuts n path v (cut_of t) x (Some p) = subst (λ (k : ℕ). ArePuts k path v (cut_of t) x (Some p)) beside.0 h in
+    record {
+      path = path;
+      value = v;
+      operation = is ∙ ap (λ (k : ℕ). replace k path v) beside.0;
+      valid = subst HasOperand is operand;
+      ends = beside.1;
+      part = a.0;
+      standing = a.1;
+      placed = a.2;
+      written = a.3;
+    }
+puts_at t m n stem op path v x is operand beside (Err e) h = tt
+
+-- where a run ends, and a value comes, in the text of the cut
+module _ (t u : List ℕ) (read : read_at t ≡ Some (cut_of t)) (all : u ≡ t) where
+  text_is : u ≡ cut_text (cut_of t)
+  text_is = whole_text t u read all
+
+  pub edge_in : (n : ℕ) (steps : List Step) (r : Run) → Runs (cut_of t) n steps r → IsCharBoundary u r.done
+  edge_in n steps r run = subst (λ (l : List ℕ). IsCharBoundary l r.done) (sym text_is) run.edge
+
+  pub lies_in : (op : Operation) (n : ℕ) (steps : List Step) (x : FlowHead) (p : PartPut) → PutsAt op t n steps x p → LiesIn u (moved_on x.before (edit_view p.place))
+  lies_in op n steps x p h = subst (λ (l : List ℕ). LiesIn l (moved_on x.before (edit_view p.place))) (sym text_is) h.placed.lies
+
+module _ (t u : List ℕ) (n : ℕ) (steps : List Step) (op : Operation) (before : Run) (x : FlowHead) (p : PartPut) (read : read_at t ≡ Some (cut_of t)) (all : u ≡ t)
+    (run : Runs (cut_of t) n steps before) (h : PutsAt op t n steps x p) (behind : before.done ≤ x.before + p.place.start) (passes : before.done < x.before + p.place.end) (fitting : IsFitting op (now_text (cut_of t) before)) where
+  abbrev c : Cut
+  c = cut_of t
+
+  abbrev own : Operation
+  own = replace n h.path h.value
+
+  abbrev now : List ℕ
+  now = now_text c before
+
+  again : read_at (cut_text c) ≡ Some c
+  again = ap read_at (text_read t c read) ∙ read
+
+  own_fits : IsFitting own now
+  own_fits = subst (λ (o : Operation). IsFitting o now) h.operation fitting
+
+  runs_so : (after : Run) → RunsOn own c n steps before after → RunsOn op c n steps before after
+  runs_so after = subst (λ (o : Operation). RunsOn o c n steps before after) (sym h.operation)
+
+  -- an equal scalar
+  pub kept_on : p.written ≡ None → RunsOn op c n steps before before
+  kept_on none =
+      let kept = subst (IsWrittenPart (node_in n h.path c) h.value h.part) none h.written in
+      let comes = kept_there c n steps h.path h.value (string_bytes before.text) before.done again run h.ends h.part h.standing x p.place h.placed behind passes kept in
+      runs_so before (record { new_bytes = []; comes = comes; applied = applied_by own now h.valid own_fits now [] comes; splices = sym (append-nil before.splices.items); run = run })
+
+  module _ (s : String Global) (some : p.written ≡ Some s) where
+    abbrev start : ℕ
+    start = x.before + p.place.start
+
+    abbrev finish : ℕ
+    finish = x.before + p.place.end
+
+    abbrev new : List ℕ
+    new = p.place.lead.now ++ string_bytes s
+
+    whole_is : u ≡ cut_text c
+    whole_is = whole_text t u read all
+
+    is : (keeps_scalar (node_in n h.path c) h.value ≡ false) × (string_bytes s ≡ (put_edit h.value h.part).written)
+    is = subst (IsWrittenPart (node_in n h.path c) h.value h.part) some h.written
+
+    -- another value
+    pub put_on : (after : Run) → HasPut u start finish new before after → RunsOn op c n steps before after
+    put_on after has_put =
+        let a : HasPut (cut_text c) start finish new before after = subst (λ (l : List ℕ). HasPut l start finish new before after) whole_is has_put in
+        let cs : List Splice = splice_at (length (run_front (cut_text c) before start)) (drop start (take finish (cut_text c))) new in
+        let text : text_after_run (cut_text c) (run_front (cut_text c) before start ++ new) finish ≡ now_text c after = λ i. text_after_run (cut_text c) (sym a.text i) (sym a.done i) in
+        let comes : carried own now ≡ gives (now_text c after) cs =
+        put_there c n steps h.path h.value (string_bytes before.text) before.done again run h.ends h.part h.standing x p.place h.placed behind passes (string_bytes s) is.0 is.1 a.size
+        ∙ ap (λ (l : List ℕ). gives l cs) text in
+        let on = goes_on c n steps h.path h.value (string_bytes before.text) before.done again run h.ends h.part h.standing x p.place h.placed behind passes (string_bytes s) is.0 is.1 h.valid own_fits a.size in
+        runs_so after (record {
+          new_bytes = cs;
+          comes = comes;
+          applied = applied_by own now h.valid own_fits (now_text c after) cs comes;
+          splices = a.splices;
+          run = subst (λ (d : ℕ). IsPutRun c n steps (string_bytes after.text) d) (sym a.done) (subst (λ (l : List ℕ). IsPutRun c n steps l finish) (sym a.text) on);
+        })
+
+    large : (e : EditError) → PutFails e (cut_text c) start finish new before → EditFails e (carried own now)
+    large (error.Read fault) fails = absurd fails
+    large (error.Refused why) fails =
+        large_there c n steps h.path h.value (string_bytes before.text) before.done again run h.ends h.part h.standing x p.place h.placed behind passes (string_bytes s) is.0 is.1 fails.1
+        ∙ ap refuses (sym fails.0)
+    large error.Memory fails = tt
+
+    -- too large a text
+    pub put_fails : (e : EditError) → PutFails e u start finish new before → EditFails e (carried op now)
+    put_fails e fails = subst (λ (o : Operation). EditFails e (carried o now)) (sym h.operation) (large e (subst (λ (l : List ℕ). PutFails e l start finish new before) whole_is fails))

@@ -1,0 +1,199 @@
+-- One more value put in a head, behind those that were.
+use Rattle.std.proofs.Common.{◌≡◌, ℕ, ◌+◌, ◌-◌, ◌≤◌, ◌<◌, true, false, List, [], ◌++◌, length, take, drop, Option, Some, refl, sym, ap, ◌∙◌, subst, append_assoc, arith, length-append}
+use Rattle.std.proofs.Math.Seq.{take-append_seam, drop-append_seam}
+use Rattle.std.proofs.lemmas.List.{drop-append-le}
+use Rattle.std.proofs.lemmas.Option.{same_Some}
+use Rattle.yq_text.specs.Limit.{text_limit}
+use Rattle.yq_core.specs.Paths.{Step}
+use Rattle.yq_core.specs.Tree.{Node}
+use Rattle.yq_core.specs.Answers.{◌>>=◌}
+use Rattle.yq_core.proofs.Bools.{bind_some}
+use Rattle.yq_core.specs.Collections.{CollPieces}
+use Rattle.yq_core.specs.Entries.{item_at}
+use Rattle.yq_core.specs.Nodes.{node_text}
+use Rattle.yq_core.proofs.NodesWrittenLaws.{node_then}
+use Rattle.yq_core.specs.Trees.{tree_of}
+use Rattle.yq_flow_edits.specs.FlowEdits.{FlowEdit, content_node}
+use Rattle.yq_flow_edits.specs.FlowPlaces.{PlacedEdit}
+use Rattle.yq_flow_edits.specs.Valued.{IsValueTree}
+use Rattle.yq_flow_edits.specs.declared.flow_place.EditPlace.{EditPlace}
+use Rattle.yq_row_table.specs.Rows.{Cut, cut_text}
+use Rattle.yq_documents.specs.Reading.{documents, read_at}
+use Rattle.yq_lookup.specs.FlowNodes.{flow_collection}
+use Rattle.yq_lookup.specs.NodesAt.{node_in}
+use Rattle.yq_lookup.specs.Standings.{FlowPart, flow_standing, last_step}
+use Rattle.yq_lookup.specs.declared.places.flow_node.FlowHead.{FlowHead}
+use Rattle.yq_lookup.proofs.ReadLaws.{parts_read}
+use Rattle.yq_semantics.specs.Fits.{Fits}
+use Rattle.yq_semantics.specs.Operations.{replace}
+use Rattle.yq_semantics.specs.Rooms.{room_of}
+use Rattle.yq_semantics.specs.declared.refusal.Refusal.TheVariants.{TooLarge}
+use Rattle.yq_text.specs.Script.{new_text, splice_at}
+use Rattle.yq_text.specs.Splice.{Splice}
+use Rattle.yq_edits.specs.FlowParts.{flow_segments}
+use Rattle.yq_edits.specs.Replacing.{keeps_scalar}
+use Rattle.yq_edit_laws.specs.PartPuts.{IsPartOf, IsPlaceOf, put_edit}
+use Rattle.yq_edit_laws.proofs.CutLaws.{text_read}
+use Rattle.yq_edit_laws.proofs.FlowPartNodes.{part_node}
+use Rattle.yq_edit_laws.proofs.FlowPutLaws.{head_behind, next, part_behind, replaced_reads}
+use Rattle.yq_edit_laws.proofs.FlowStandings.{EntryAt, entry_found}
+use Rattle.yq_edit_laws.specs.Carried.{carried}
+use Rattle.yq_edit_laws.specs.Edit.{edit_of_segments, gives, refuses}
+use Rattle.yq_batch.specs.Runs.{EndsInCollection, IsPutRun, text_after_run}
+use Rattle.yq_edit_laws.specs.Theorems.{IsFitting}
+use Rattle.yq_edit_laws.proofs.ApplyLaws.{fits}
+use Rattle.yq_batch.proofs.PutComes.{kept_comes, made_text, new_is, put_comes, segments_come, segments_large}
+
+-- what a run has written, with what stays up to the next place
+abbrev between : List ℕ → List ℕ → (done start : ℕ) → List ℕ
+between out t done start = out ++ drop done (take start t)
+
+module _ (c : Cut) (n : ℕ) (stem path : List Step) (v : Node) (out : List ℕ) (done : ℕ) (whole : read_at (cut_text c) ≡ Some c) (run : IsPutRun c n stem out done)
+    (ends : EndsInCollection stem path) (z : FlowPart) (standing : flow_standing n c (last_step path) ≡ Some z) (x : FlowHead) (place : EditPlace)
+    (placed : IsPlaceOf (cut_text c) v z x place) (behind : done ≤ x.before + place.start) (passes : done < x.before + place.end) where
+  abbrev t : List ℕ
+  t = cut_text c
+
+  abbrev now : List ℕ
+  now = text_after_run t out done
+
+  abbrev start : ℕ
+  start = x.before + place.start
+
+  abbrev finish : ℕ
+  finish = x.before + place.end
+
+  -- the part as it was read
+  abbrev b : EntryAt c n path
+  b = (entry_found c n path z standing).0
+
+  abbrev first_part : FlowPart
+  first_part = record { step = b.step; collection = b.coll; part = b.item }
+
+  abbrev e : FlowEdit
+  e = put_edit v first_part
+
+  at : IsPlaceOf t v first_part x place
+  at = subst (λ (y : FlowPart). IsPlaceOf t v y x place) (sym (entry_found c n path z standing).1) placed
+
+  start_is : start ≡ length t - length (e.old ++ e.behind)
+  start_is = ap (λ (p : PlacedEdit). p.start) at.place_is
+
+  finish_is : finish ≡ length t - length e.behind
+  finish_is = ap (λ (p : PlacedEdit). p.end) at.place_is
+
+  size : length t ≡ length at.before + (length e.old + length e.behind)
+  size = omega (arith, ap length at.text, length-append at.before (e.old ++ e.behind), length-append e.old e.behind)
+
+  front_size : start ≡ length at.before
+  front_size = omega (arith, start_is, size, length-append e.old e.behind)
+
+  -- and as it is now
+  abbrev left : List Step
+  left = ends.0
+
+  steps_are : b.init ≡ stem ++ left
+  steps_are = ap (λ (y : List Step × Step). y.0) (same_Some _ _ (sym b.last ∙ ends.1.1))
+
+  first : IsPartOf c n (stem ++ left) b.step b.item
+  first = ap (λ (o : Option CollPieces). o >>= λ w. item_at w.close b.step w.items w.rest) (ap (λ (ss : List Step). flow_collection n ss c) (sym steps_are) ∙ b.found) ∙ b.at
+
+  content_is : length (e.old ++ e.behind) ≡ length (node_text (content_node b.item.node) b.item.rest)
+  content_is = ap length (sym (node_then (content_node b.item.node) b.item.rest))
+
+  stays : IsPartOf run.cut n (stem ++ left) b.step b.item
+  stays = run.stays left b.step b.item first (omega (arith, passes, finish_is, size)) (omega (arith, behind, start_is, content_is, size, run.within, length-append e.old e.behind))
+
+  abbrev a : EntryAt run.cut n path
+  a =
+      let there = bind_some (flow_collection n (stem ++ left) run.cut) stays in
+      record { init = stem ++ left; step = b.step; last = b.last ∙ ap (λ (ss : List Step). Some (ss, b.step)) steps_are; coll = there.0; found = there.1; item = b.item; at = there.2 }
+
+  text : cut_text run.cut ≡ now
+  text = text_read now run.cut run.read
+
+  read : read_at (cut_text run.cut) ≡ Some run.cut
+  read = ap read_at text ∙ run.read
+
+  same_kept : keeps_scalar (node_in n path c) v ≡ keeps_scalar (Some (tree_of b.item.node)) v
+  same_kept = ap (λ (o : Option Node). keeps_scalar o v) (part_node c n path b whole)
+
+  -- an equal scalar
+  pub kept_there : keeps_scalar (node_in n path c) v ≡ true → carried (replace n path v) now ≡ gives now []
+  kept_there kept = subst (λ (u : List ℕ). carried (replace n path v) u ≡ gives u []) text (kept_comes run.cut n path v read a (sym same_kept ∙ kept))
+
+  -- another value
+  module _ (written : List ℕ) (other : keeps_scalar (node_in n path c) v ≡ false) (is : written ≡ (put_edit v z).written) where
+    written_is : written ≡ e.written
+    written_is = is ∙ ap (λ (y : FlowPart). (put_edit v y).written) (sym (entry_found c n path z standing).1)
+
+    abbrev front : List ℕ
+    front = between out t done start
+
+    abbrev new_out : List ℕ
+    new_out = front ++ (place.lead.now ++ written)
+
+    abbrev cs : List Splice
+    cs = splice_at (length front) (drop start (take finish t)) (place.lead.now ++ written)
+
+    front_is : take start t ≡ at.before
+    front_is = (λ i. take (front_size i) (at.text i)) ∙ take-append_seam at.before (e.old ++ e.behind)
+
+    rest_is : drop done t ≡ drop done (take start t) ++ (e.old ++ e.behind)
+    rest_is =
+        ap (drop done) at.text
+        ∙ (drop-append-le done at.before (e.old ++ e.behind) (omega (arith, behind, front_size))
+        ∙ ap (λ (l : List ℕ). drop done l ++ (e.old ++ e.behind)) (sym front_is))
+
+    split : cut_text run.cut ≡ front ++ (e.old ++ e.behind)
+    split = text ∙ (ap (λ (l : List ℕ). out ++ l) rest_is ∙ sym (append_assoc out (drop done (take start t)) (e.old ++ e.behind)))
+
+    whole_split : t ≡ (at.before ++ e.old) ++ e.behind
+    whole_split = at.text ∙ sym (append_assoc at.before e.old e.behind)
+
+    finish_size : finish ≡ length (at.before ++ e.old)
+    finish_size = omega (arith, finish_is, size, length-append at.before e.old)
+
+    old_is : drop start (take finish t) ≡ e.old
+    old_is =
+        let upto : take finish t ≡ at.before ++ e.old = (λ i. take (finish_size i) (whole_split i)) ∙ take-append_seam (at.before ++ e.old) e.behind in
+        (λ i. drop (front_size i) (upto i)) ∙ drop-append_seam at.before e.old
+
+    left_is : drop finish t ≡ e.behind
+    left_is = (λ i. drop (finish_size i) (whole_split i)) ∙ drop-append_seam (at.before ++ e.old) e.behind
+
+    lead_is : place.lead.now ≡ e.lead
+    lead_is = ap (λ (p : PlacedEdit). p.lead) at.place_is
+
+    new_bytes_are : made_text front e ≡ text_after_run t new_out finish
+    new_bytes_are = λ i. (front ++ (sym lead_is i ++ sym written_is i)) ++ sym left_is i
+
+    cs_is : splice_at (length front) e.old (e.lead ++ e.written) ≡ cs
+    cs_is = λ i. splice_at (length front) (sym old_is i) (sym lead_is i ++ sym written_is i)
+
+    comes : carried (replace n path v) now ≡ edit_of_segments (flow_segments (cut_text run.cut) e)
+    comes = ap (carried (replace n path v)) (sym text) ∙ put_comes run.cut n path v read a (sym same_kept ∙ other)
+
+    pub put_there : length (text_after_run t new_out finish) ≤ text_limit → carried (replace n path v) now ≡ gives (text_after_run t new_out finish) cs
+    put_there small = comes ∙ (segments_come (cut_text run.cut) front e split (omega (arith, small, ap length new_bytes_are)) ∙ λ i. gives (new_bytes_are i) (cs_is i))
+
+    pub large_there : text_limit < length (text_after_run t new_out finish) → carried (replace n path v) now ≡ refuses TooLarge
+    large_there large = comes ∙ segments_large (cut_text run.cut) front e split (omega (arith, large, ap length new_bytes_are))
+
+    -- the run goes on behind it
+    pub goes_on : IsValueTree v → IsFitting (replace n path v) now → length (text_after_run t new_out finish) ≤ text_limit → IsPutRun c n stem new_out finish
+    goes_on value fitting small =
+        let new_bytes : new_text (flow_segments (cut_text run.cut) e) ≡ text_after_run t new_out finish = new_is (cut_text run.cut) front e split ∙ new_bytes_are in
+        let same : fitting.read.parts ≡ run.cut = same_Some _ _ (sym (parts_read now fitting.before fitting.read).0 ∙ run.read) in
+        let fit : Fits (room_of (cut_text run.cut)) (replace n path v) (documents run.cut) = subst (λ (d : Cut). Fits (room_of (cut_text d)) (replace n path v) (documents d)) same (fits (replace n path v) now value fitting) in
+        let reads = replaced_reads run.cut n path v read a value fit (omega (arith, small, ap length new_bytes)) in
+        record {
+          within = omega (arith, finish_is);
+          edge = at.lies.end;
+          cut = next run.cut n path v read a stem left refl run.leads;
+          read = ap read_at (sym new_bytes) ∙ reads;
+          leads = head_behind run.cut n path v read a stem left refl run.leads;
+          stays = λ ss r y there less begins.
+              part_behind run.cut n path v read a stem left refl run.leads ss r y
+              (run.stays ss r y there (omega (arith, less, passes)) (omega (arith, begins, passes))) (omega (arith, less, finish_is, size)) (omega (arith, begins, finish_is, size));
+        }

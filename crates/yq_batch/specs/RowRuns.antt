@@ -1,0 +1,127 @@
+-- Operations that change one row each, one behind the other, on the rows as they were read (YAML 1.2.2, 8; own).
+use Rattle.std.specs.Prelude.{◌≡◌, ⊤, ◌⊎◌, ◌&&◌, not, if◌then◌else◌, ℕ, ◌+◌, ◌<◌, ◌≤◌, List, [], ◌∷◌, ◌++◌, length, Option, Some, None, true, false, string_bytes}
+use Rattle.std.specs.Str.{IsCharBoundary}
+use Rattle.yq_text.specs.Limit.{text_limit}
+use Rattle.yq_core.specs.Paths.{Step}
+use Rattle.yq_core.specs.Text.{is_empty}
+use Rattle.yq_core.specs.Tree.{Node}
+use Rattle.yq_core.specs.declared.style.Place.TheVariants.{Block as InBlock}
+use Rattle.yq_row_table.specs.Rows.{Cut, cut_text}
+use Rattle.yq_documents.specs.LinesInRows.{document_row}
+use Rattle.yq_documents.specs.Reading.{documents, read_at}
+use Rattle.yq_lookup.specs.Standings.{RowsOfEntry, rows_of_entry}
+use Rattle.yq_edits.specs.RowStays.{IsBehind, StandsStill}
+use Rattle.yq_semantics.specs.After.{op_document}
+use Rattle.yq_semantics.specs.Fits.{Fits}
+use Rattle.yq_semantics.specs.Operations.{Operation}
+use Rattle.yq_semantics.specs.Rooms.{room_of}
+use Rattle.yq_text.specs.Script.{Segment, keep, new_text, old_text}
+use Rattle.yq_text.specs.Splice.{Splice}
+use Rattle.yq_edits.specs.Edits.{op_edits}
+use Rattle.yq_edits.specs.Operands.{HasOperand}
+use Rattle.yq_edits.specs.Replacing.{keeps_scalar}
+use Rattle.yq_edits.specs.RowChanges.{ChangesRow, PutsOne}
+use Rattle.yq_edits.specs.WrittenValues.{value_text}
+use Rattle.yq_edit_laws.specs.Carried.{carried}
+use Rattle.yq_edit_laws.specs.Edit.{gives}
+use Rattle.yq_batch.specs.Runs.{now_text, text_after_run}
+use Rattle.yq_edit_laws.specs.Theorems.{IsApplied}
+use Rattle.yq_batch.specs.declared.in_rows.RowPut.{RowPut}
+use Rattle.yq_batch.specs.declared.run.Run.{Run}
+
+-- ---- runs
+
+-- The first bytes of a cut's text gave way to others, by contents of rows in front of row n of document k: the text reads, and items and entries from there
+-- on stand as they did (own).
+pub record IsRowRun (c : Cut) (k n : ℕ) (out : List ℕ) (done : ℕ) : Type 0 where
+  pub within : done ≤ length (cut_text c)
+  pub edge : IsCharBoundary (cut_text c) done
+  pub cut : Cut
+  pub read : read_at (text_after_run (cut_text c) out done) ≡ Some cut
+  pub stays : (m : ℕ) (steps : List Step) (e : RowsOfEntry) → rows_of_entry m steps c ≡ Some e → IsBehind k n m (length e.front) → StandsStill e m steps cut
+
+-- the row that was changed last, by its document and how many rows stand before it, is the one in front of row n of document k (own)
+abbrev pub IsLast : Cut → Option (ℕ × ℕ) → (k n : ℕ) → Type 0
+IsLast c None k n = (k ≡ 0) × (n ≡ 0)
+IsLast c (Some x) k n = (x.0 ≡ k) × (x.1 + 1 ≡ document_row k c + n)
+
+-- a row of a document stands behind the last one that was changed (own)
+abbrev pub Passed : Option (ℕ × ℕ) → (m row : ℕ) → Type 0
+Passed None m row = ⊤
+Passed (Some x) m row = (x.0 < m) ⊎ ((x.0 ≡ m) × (x.1 < row))
+
+-- a run of the code is one, by the row that was changed last (own)
+pub record IsRowsRun (c : Cut) (o : Option (ℕ × ℕ)) (r : Run) : Type 0 where
+  pub document : ℕ
+  pub row : ℕ
+  pub last : IsLast c o document row
+  pub run : IsRowRun c document row (string_bytes r.text) r.done
+
+-- ---- operations
+
+-- the rows of an item or entry that stands still (own)
+abbrev pub rows_still : {m : ℕ} {steps : List Step} {d : Cut} → (e : RowsOfEntry) → StandsStill e m steps d → RowsOfEntry
+rows_still e s = record e { start = s.start; front = s.front }
+
+-- where what an operation makes fits, it changes one row (own)
+abbrev pub ChangesIfFit : Operation → Cut → RowsOfEntry → List Segment → Type 0
+ChangesIfFit op d e ss = HasOperand op → Fits (room_of (cut_text d)) op (documents d) → length (new_text ss) ≤ text_limit → ChangesRow (op_document op) d e ss
+
+-- An operation puts one text in the place of another, and changes one row (own).
+pub record PutsText (op : Operation) (d : Cut) (e : RowsOfEntry) (old new behind : List ℕ) : Type 0 where
+  pub segments : List Segment
+  pub front : List ℕ
+  pub edited : op_edits op d ≡ Some segments
+  pub whole : old_text segments ≡ cut_text d
+  pub puts : PutsOne segments front old new behind
+  pub changes : ChangesIfFit op d e segments
+
+-- an operation puts this text, or leaves all bytes alone, if there is none (own)
+abbrev pub PutsSo : Operation → Cut → RowsOfEntry → (old behind : List ℕ) → Option (List ℕ) → Type 0
+PutsSo op d e old behind None = op_edits op d ≡ Some (keep (cut_text d) ∷ [])
+PutsSo op d e old behind (Some new) = PutsText op d e old new behind
+
+-- the bytes of a text, if there is one (own)
+abbrev pub bytes_in : {S : Type 0} → (S → List ℕ) → Option S → Option (List ℕ)
+bytes_in f None = None
+bytes_in f (Some s) = Some (f s)
+
+-- what is written for a value on one line in the place of a text, if it isn't the scalar that is there (own)
+abbrev pub IsWrittenSo : Option Node → Node → List ℕ → Option (List ℕ) → Type 0
+IsWrittenSo old v head None = keeps_scalar old v ≡ true
+IsWrittenSo old v head (Some w) = (keeps_scalar old v ≡ false) × (w ≡ value_text InBlock head v)
+
+-- the white space that stays before a line comment, in the place of one that is there or of none (own)
+abbrev pub white_left : (text white comment : List ℕ) → List ℕ
+white_left text white comment = if is_empty text && not (is_empty comment) then [] else white
+
+-- an operation puts a text, or leaves all bytes alone, wherever the item or entry stands still (own)
+abbrev pub PutsWhereStill : Operation → RowsOfEntry → List Step → (old behind : List ℕ) → Option (List ℕ) → Type 0
+PutsWhereStill op e steps old behind new =
+    (d : Cut) → read_at (cut_text d) ≡ Some d → (s : StandsStill e (op_document op) steps d) → PutsSo op d (rows_still e s) old behind new
+
+-- An operation puts a text in a row, or leaves it alone, wherever the item or entry stands still (own).
+pub record PutsInRow (op : Operation) (c : Cut) (x : RowPut) : Type 0 where
+  pub steps : List Step
+  pub entry : RowsOfEntry
+  pub found : rows_of_entry (op_document op) steps c ≡ Some entry
+  pub document : x.doc ≡ op_document op
+  pub row : x.row ≡ document_row (op_document op) c + length entry.front
+  pub valid : HasOperand op
+  pub before : List ℕ
+  pub old : List ℕ
+  pub behind : List ℕ
+  pub text : cut_text c ≡ before ++ (old ++ behind)
+  pub start : x.start ≡ length before
+  pub finish : x.end ≡ length before + length old
+  pub starts : IsCharBoundary (cut_text c) x.start
+  pub ends : IsCharBoundary (cut_text c) x.end
+  pub there : PutsWhereStill op entry steps old behind (bytes_in string_bytes x.written)
+
+-- An operation is carried out on the text of a run, which goes on behind it, and behind the row that was changed last then (own).
+pub record RowsGoOn (op : Operation) (c : Cut) (before : Run) (last : Option (ℕ × ℕ)) (after : Run) : Type 0 where
+  pub new_bytes : List Splice
+  pub comes : carried op (now_text c before) ≡ gives (now_text c after) new_bytes
+  pub applied : IsApplied op (now_text c before) (now_text c after) new_bytes
+  pub splices : after.splices.items ≡ before.splices.items ++ new_bytes
+  pub run : IsRowsRun c last after

@@ -1,0 +1,245 @@
+//! Operations of an update that each change one row: they are carried out together, on the rows as they
+//! were read.
+ghost use Rattle.std.specs.Prelude.{◌≡◌, ◌+◌, ◌≤◌, length, true, IfErr, IfOk, IfSome, string_bytes};
+ghost use Rattle.yq_text.specs.Limit.{text_limit};
+ghost use Rattle.yq_core.specs.Values.{value_node};
+ghost use Rattle.yq_documents.specs.Located.{steps_of};
+ghost use Rattle.yq_documents.specs.Reading.{cut_of};
+ghost use Rattle.yq_places.specs.NodesAt.{node_in};
+ghost use Rattle.yq_places.specs.StandingViews.{IsHeldRow};
+ghost use Rattle.yq_semantics.specs.Operations.{line_comment, operation_of, operations_of, replace};
+ghost use Rattle.yq_edits.specs.Operands.{HasOperand};
+ghost use Rattle.yq_edit_laws.specs.Answers.{EditFails};
+ghost use Rattle.yq_edit_laws.specs.Carried.{carry_all, carried};
+ghost use Rattle.yq_edit_laws.specs.Edit.{gives};
+ghost use Rattle.yq_batch.specs.RowRuns as spec;
+ghost use Rattle.yq_batch.specs.Runs.{now_text};
+ghost use Rattle.yq_edit_laws.specs.Theorems.{IsFitting};
+ghost use Rattle.yq_edit_laws.specs.Valid.{AreServed};
+
+use crate::run::Run;
+use std::alloc::{AllocError, Global};
+use yq_block_edits::{comment_written, is_kept_in_row};
+use yq_core::{Place, Value};
+use yq_documents::Path;
+use yq_edit_laws::{EditError, on_the_way, operand_holds};
+use yq_edits::{is_filled, value_text};
+use yq_lookup::CutText;
+use yq_places::HeldRow;
+use yq_semantics::Op;
+use yq_text::Edited;
+
+/// A text that an operation puts in a row, in the place of what stands between two places.
+#[derive(Drop)]
+pub(crate) struct RowPut {
+    /// The row's document.
+    pub(crate) doc: usize,
+    /// How many rows stand before it.
+    pub(crate) row: usize,
+    pub(crate) start: usize,
+    pub(crate) end: usize,
+    /// Nothing, where an equal scalar stands there.
+    pub(crate) written: Option<String>,
+}
+
+/// What is written for a value on one line in the place of an inline node; nothing, where it is the scalar
+/// that is there.
+fn value_written(
+    alloc: Global,
+    cut: &CutText<'_, '_>,
+    path: &Path,
+    at: &HeldRow<'_>,
+    value: &Value,
+) -> Result<Option<String>, AllocError>
+    requires row { IsHeldRow path.now.doc (steps_of path.now) (cut_of cut.now) at.now }
+    requires inline { at.now.inline ≡ true }
+    ensures { IfOk result (λ o. spec.IsWrittenSo (node_in path.now.doc (steps_of path.now)
+        (cut_of cut.now)) (value_node value.now) at.now.head.now (spec.bytes_in string_bytes o)) }
+{
+    let stays = is_kept_in_row(alloc, cut, path, at, value)?;
+    if stays {
+        return Ok(None);
+    }
+    let written = value_text(alloc, Place::Block, at.head.as_bytes(), value)?;
+    Ok(Some(written))
+}
+
+/// A value without items and entries in the place of an inline node.
+fn value_in_row(
+    alloc: Global,
+    cut: &CutText<'_, '_>,
+    path: &Path,
+    at: &HeldRow<'_>,
+    value: &Value,
+) -> Result<Option<RowPut>, AllocError>
+    requires operand { HasOperand (replace path.now.doc (steps_of path.now) (value_node value.now)) }
+    requires row { IsHeldRow path.now.doc (steps_of path.now) (cut_of cut.now) at.now }
+    ensures { IfOk result (λ o. IfSome o (spec.PutsInRow
+        (replace path.now.doc (steps_of path.now) (value_node value.now)) (cut_of cut.now))) }
+{
+    if !at.inline || is_filled(value) {
+        return Ok(None);
+    }
+    let _text = cut.text();
+    let written = value_written(alloc, cut, path, at, value)?;
+    Ok(Some(RowPut {
+        doc: path.doc,
+        row: at.row,
+        start: at.start,
+        end: at.start + at.head.len(),
+        written,
+    }))
+}
+
+/// Where what gives way to a line comment begins and ends, behind so many bytes, by the white space and the
+/// comment that stand there.
+fn comment_place(text: &str, front: usize, white: &str, comment: &str) -> (usize, usize)
+    requires { front + (length white.now + length comment.now) ≤ text_limit }
+    ensures start { result.0 ≡ front + length (spec.white_left text.now white.now comment.now) }
+    ensures end { result.1 ≡ front + (length white.now + length comment.now) }
+{
+    let behind = front + white.len();
+    let end = behind + comment.len();
+    if text.is_empty() && !comment.is_empty() {
+        (front, end)
+    } else {
+        (behind, end)
+    }
+}
+
+/// A line comment in the place of another one, or of none.
+fn comment_in_row(
+    alloc: Global,
+    cut: &CutText<'_, '_>,
+    path: &Path,
+    at: &HeldRow<'_>,
+    text: &str,
+) -> Result<Option<RowPut>, AllocError>
+    requires operand { HasOperand (line_comment path.now.doc (steps_of path.now) text.now) }
+    requires row { IsHeldRow path.now.doc (steps_of path.now) (cut_of cut.now) at.now }
+    ensures { IfOk result (λ o. IfSome o (spec.PutsInRow
+        (line_comment path.now.doc (steps_of path.now) text.now) (cut_of cut.now))) }
+{
+    let _text = cut.text();
+    let (white, comment) = at.line_end();
+    let (start, end) = comment_place(text, at.start + at.head.len(), white, comment);
+    let written = comment_written(alloc, text, comment)?;
+    Ok(Some(RowPut {
+        doc: path.doc,
+        row: at.row,
+        start,
+        end,
+        written: Some(written),
+    }))
+}
+
+/// What an operation puts in a row, if it does no more than that. From then on it is known what stands on
+/// its way.
+fn row_put(alloc: Global, cut: &mut CutText<'_, '_>, op: &Op) -> Result<Option<RowPut>, AllocError>
+    ensures same { cut.new ≡ cut.old }
+    ensures puts { IfOk result (λ o. IfSome o (spec.PutsInRow (operation_of op.now)
+        (cut_of cut.old))) }
+{
+    operand_holds(op);
+    match op {
+        Op::Replace(path, value) => match cut.to_held_row(path) {
+            Some(at) => value_in_row(alloc, cut, path, &at, value),
+            None => Ok(None),
+        },
+        Op::LineComment(path, text) => match cut.to_held_row(path) {
+            Some(at) => comment_in_row(alloc, cut, path, &at, text),
+            None => Ok(None),
+        },
+        Op::Append(_, _, _) | Op::Remove(_) | Op::HeadComment(_, _) => Ok(None),
+    }
+}
+
+/// Whether a row of a document stands behind another one, by its document and how many rows stand before
+/// it, if there is that.
+fn is_behind(last: Option<(usize, usize)>, doc: usize, row: usize) -> bool
+    ensures { result ≡ true → spec.Passed last doc row }
+{
+    match last {
+        None => true,
+        Some((other, before)) => other < doc || (other == doc && before < row),
+    }
+}
+
+/// Carries out an operation on the text of a run, if it changes one row, behind the last one that was
+/// changed; and tells which one that is then.
+fn put_one(
+    alloc: Global,
+    cut: &mut CutText<'_, '_>,
+    op: &Op,
+    last: Option<(usize, usize)>,
+    run: &mut Run,
+) -> Result<Option<Option<(usize, usize)>>, EditError>
+    requires run { spec.IsRowsRun (cut_of cut.old) last run.old }
+    requires fits { IsFitting (operation_of op.now) (now_text (cut_of cut.old) run.old) }
+    ensures same { cut.new ≡ cut.old }
+    ensures ok { IfOk result (λ o. IfSome o (λ next. spec.RowsGoOn (operation_of op.now)
+        (cut_of cut.old) run.old next run.new)) }
+    ensures err { IfErr result (λ e. EditFails e (carried (operation_of op.now)
+        (now_text (cut_of cut.old) run.old))) }
+{
+    let text = cut.text();
+    let Some(put) = row_put(alloc, cut, op)? else {
+        return Ok(None);
+    };
+    let RowPut {
+        doc,
+        row,
+        start,
+        end,
+        written,
+    } = put;
+    if !is_behind(last, doc, row) || start < run.done {
+        return Ok(None);
+    }
+    let Some(written) = written else {
+        return Ok(Some(last));
+    };
+    run.put_text(alloc, text, start, end, written)?;
+    Ok(Some(Some((doc, row))))
+}
+
+/// Whether an operation may be one that changes one row.
+fn may_change_row(op: &Op) -> bool {
+    match op {
+        Op::Replace(_, _) | Op::LineComment(_, _) => true,
+        Op::Append(_, _, _) | Op::Remove(_) | Op::HeadComment(_, _) => false,
+    }
+}
+
+/// Carries out operations together that change one row each, one behind the other; nothing, where one of
+/// them does more, or stands in front of one before it.
+pub fn carry_in_rows<'d>(
+    alloc: Global,
+    cut: &CutText<'d, '_>,
+    ops: &'d [Op],
+) -> Result<Option<Edited>, EditError>
+    requires { AreServed (operations_of ops.now) cut.now }
+    ensures ok { IfOk result (λ o. IfSome o (λ e. carry_all (operations_of ops.now) cut.now ≡
+        gives (string_bytes e.text) e.splices.items)) }
+    ensures err { IfErr result (λ e. EditFails e (carry_all (operations_of ops.now) cut.now)) }
+{
+    let [first, _, ..] = ops else {
+        return Ok(None);
+    };
+    if !may_change_row(first) {
+        return Ok(None);
+    }
+    let text = cut.text();
+    let mut way = on_the_way(cut, first);
+    let mut run = Run::with_room(alloc, text.len(), ops.len())?;
+    let mut last = None;
+    let mut rest = ops;
+    'operations: while let [op, after @ ..] = rest {
+        let Some(next) = put_one(alloc, &mut way, op, last, &mut run)? else {
+            return Ok(None);
+        };
+        last = next;
+        rest = after;
+    }
+    Ok(Some(run.end(text)?))
+}

@@ -1,0 +1,170 @@
+//! Runs: the text and the splices that values make which are put one behind the other.
+ghost use Rattle.std.specs.Prelude.{◌≡◌, ◌≤◌, ◌<◌, ◌++◌, [], true, IfErr, IfOk, OnOk, drop, take, string_bytes};
+ghost use Rattle.std.specs.Str.{IsCharBoundary};
+ghost use Rattle.yq_text.specs.Halves.{halves_text};
+ghost use Rattle.yq_text.specs.Script.{splice_at};
+ghost use Rattle.yq_batch.specs.Runs as spec;
+
+use std::alloc::{AllocError, Global};
+use yq_edit_laws::EditError;
+use yq_semantics::Refusal;
+use yq_text::{Edited, Halves, Splice, TEXT_LIMIT};
+
+/// What values put one behind the other made of a text so far.
+#[derive(Drop)]
+pub(crate) struct Run {
+    /// What stands in the new text up to the end of the last one.
+    pub(crate) text: String,
+    /// How many bytes of the old text that takes the place of.
+    pub(crate) done: usize,
+    pub(crate) splices: Vec<Splice>,
+}
+
+/// What stands between two places of a text.
+fn between<'t>(text: Halves<'t>, from: usize, to: usize) -> Halves<'t>
+    requires order { from ≤ to }
+    requires from { IsCharBoundary (halves_text text) from }
+    requires to { IsCharBoundary (halves_text text) to }
+    ensures { halves_text result ≡ drop from (take to (halves_text text.entry)) }
+{
+    text.split_at(to).0.split_at(from).1
+}
+
+/// The bytes of a text.
+fn bytes_of(alloc: Global, text: Halves<'_>) -> Result<Vec<u8>, AllocError>
+    ensures { IfOk result (λ v. v.items ≡ halves_text text.entry) }
+{
+    let mut bytes = Vec::new(alloc);
+    bytes.extend_from_slice(text.front.as_bytes())?;
+    bytes.extend_from_slice(text.back.as_bytes())?;
+    Ok(bytes)
+}
+
+/// Adds a splice, if it changes bytes.
+fn push_splice(
+    splices: &mut Vec<Splice>,
+    at: usize,
+    old: Vec<u8>,
+    new: Vec<u8>,
+) -> Result<(), AllocError>
+    ensures { OnOk result (splices.new.items ≡
+        splices.old.items ++ splice_at at old.items new.items) }
+{
+    if old.as_slice() == new.as_slice() {
+        return Ok(());
+    }
+    let at = at as u64;
+    splices.push(Splice { at, old, new })?;
+    Ok(())
+}
+
+impl Run {
+    /// Nothing yet.
+    pub(crate) fn new(alloc: Global) -> Run
+        ensures text { string_bytes result.text ≡ [] }
+        ensures done { result.done ≡ 0 }
+        ensures splices { result.splices.items ≡ [] }
+    {
+        Run {
+            text: String::new(alloc),
+            done: 0,
+            splices: Vec::new(alloc),
+        }
+    }
+
+    /// Nothing yet, with room for a text of so many bytes and so many splices.
+    pub(crate) fn with_room(alloc: Global, size: usize, count: usize) -> Result<Run, AllocError>
+        ensures text { IfOk result (λ r. string_bytes r.text ≡ []) }
+        ensures done { IfOk result (λ r. r.done ≡ 0) }
+        ensures splices { IfOk result (λ r. r.splices.items ≡ []) }
+    {
+        Ok(Run {
+            text: String::with_capacity(alloc, size)?,
+            done: 0,
+            splices: Vec::with_capacity(alloc, count)?,
+        })
+    }
+
+    /// Whether what stands between two places of the old text is behind all that gave way.
+    pub(crate) fn ends_before(&self, start: usize, end: usize) -> bool
+        ensures { result ≡ true → (self.now.done ≤ start) × (self.now.done < end) }
+    {
+        self.done <= start && self.done < end
+    }
+
+    /// A text comes in the place of what stands between two places.
+    pub(crate) fn put_text(
+        &mut self,
+        alloc: Global,
+        text: Halves<'_>,
+        start: usize,
+        end: usize,
+        written: String,
+    ) -> Result<(), EditError>
+        requires done { self.old.done ≤ start }
+        requires order { start ≤ end }
+        requires edge { IsCharBoundary (halves_text text) self.old.done }
+        requires start { IsCharBoundary (halves_text text) start }
+        requires end { IsCharBoundary (halves_text text) end }
+        ensures ok { OnOk result (spec.HasPut (halves_text text.entry) start end (string_bytes written)
+            self.old self.new) }
+        ensures err { IfErr result (λ e. spec.PutFails e (halves_text text.entry) start end
+            (string_bytes written) self.old) }
+    {
+        let kept = between(text, self.done, start);
+        self.text.push_str(kept.front)?;
+        self.text.push_str(kept.back)?;
+        let at = self.text.len();
+        self.text.push_str(&written)?;
+        self.done = end;
+        let rest = text.split_at(end).1.len();
+        if rest > TEXT_LIMIT || self.text.len() > TEXT_LIMIT - rest {
+            return Err(EditError::Refused(Refusal::TooLarge));
+        }
+        let old = bytes_of(alloc, between(text, start, end))?;
+        Ok(push_splice(&mut self.splices, at, old, written.into_bytes())?)
+    }
+
+    /// The same of a text behind a lead.
+    pub(crate) fn put(
+        &mut self,
+        alloc: Global,
+        text: Halves<'_>,
+        start: usize,
+        end: usize,
+        lead: &str,
+        written: &str,
+    ) -> Result<(), EditError>
+        requires done { self.old.done ≤ start }
+        requires order { start ≤ end }
+        requires edge { IsCharBoundary (halves_text text) self.old.done }
+        requires start { IsCharBoundary (halves_text text) start }
+        requires end { IsCharBoundary (halves_text text) end }
+        ensures ok { OnOk result (spec.HasPut (halves_text text.entry) start end (lead.now ++ written.now)
+            self.old self.new) }
+        ensures err { IfErr result (λ e. spec.PutFails e (halves_text text.entry) start end
+            (lead.now ++ written.now) self.old) }
+    {
+        let mut new = String::from_str(alloc, lead)?;
+        new.push_str(written)?;
+        self.put_text(alloc, text, start, end, new)
+    }
+
+    /// The text that it made, with all that is left of the old one, and its splices.
+    pub(crate) fn end(self, text: Halves<'_>) -> Result<Edited, AllocError>
+        requires { IsCharBoundary (halves_text text) self.done }
+        ensures text { IfOk result (λ e. string_bytes e.text ≡
+            spec.text_after_run (halves_text text.entry) (string_bytes self.text) self.done) }
+        ensures splices { IfOk result (λ e. e.splices.items ≡ self.splices.items) }
+    {
+        let Run {
+            text: mut new,
+            done,
+            splices,
+        } = self;
+        let left = text.split_at(done).1;
+        new.push_str(left.front)?;
+        new.push_str(left.back)?;
+        Ok(Edited { text: new, splices })
+    }
+}

@@ -1,0 +1,191 @@
+//! Values that an update puts in the flow collections of one head: they are carried out together, and the
+//! head is read once.
+ghost use Rattle.std.specs.Prelude.{◌≡◌, true, map, IfErr, IfOk, IfSome, string_bytes};
+ghost use Rattle.yq_core.specs.Entries.{tree_step};
+ghost use Rattle.yq_documents.specs.Located.{steps_of};
+ghost use Rattle.yq_documents.specs.Reading.{cut_of};
+ghost use Rattle.yq_places.specs.FlowViews.{ReportsHead};
+ghost use Rattle.yq_semantics.specs.Operations.{operation_of, operations_of};
+ghost use Rattle.yq_edit_laws.specs.Answers.{EditFails};
+ghost use Rattle.yq_edit_laws.specs.Carried.{carry_all, carried};
+ghost use Rattle.yq_edit_laws.specs.Edit.{gives};
+ghost use Rattle.yq_batch.specs.Runs as spec;
+ghost use Rattle.yq_edit_laws.specs.Theorems.{IsFitting};
+ghost use Rattle.yq_edit_laws.specs.Valid.{AreServed};
+
+use crate::run::Run;
+use std::alloc::{AllocError, Global};
+use yq_core::Step;
+use yq_documents::Path;
+use yq_edit_laws::{EditError, PartPut, last_step, operand_holds, put_at_part};
+use yq_lookup::CutText;
+use yq_places::FlowHead;
+use yq_semantics::Op;
+use yq_text::Edited;
+
+/// Whether steps are the same.
+fn is_same_step(one: &Step, other: &Step) -> bool
+    ensures { result ≡ true → tree_step one.now ≡ tree_step other.now }
+{
+    match (one, other) {
+        (Step::Key(one), Step::Key(other)) => one.as_str() == other.as_str(),
+        (Step::Index(one), Step::Index(other)) => *one == *other,
+        _ => false,
+    }
+}
+
+/// Whether paths are the same.
+fn are_same_steps(some: &[Step], others: &[Step]) -> bool
+    ensures { result ≡ true → map tree_step some.now ≡ map tree_step others.now }
+{
+    if some.len() != others.len() {
+        return false;
+    }
+    'steps: for i in 0..some.len() {
+        if !is_same_step(&some[i], &others[i]) {
+            return false;
+        }
+    }
+    true
+}
+
+/// The steps that go on in a head to the collection in which a path ends, if it leads there by the steps
+/// that lead to the head.
+fn steps_in_head<'s>(path: &'s Path, doc: usize, stem: &[Step]) -> Option<&'s [Step]>
+    ensures { IfSome result (λ left. (path.now.doc ≡ doc) ×
+        spec.EndsAt (map tree_step stem.now) (map tree_step left.now) (steps_of path.now)) }
+{
+    let Some((above, _)) = last_step(&path.steps) else {
+        return None;
+    };
+    if path.doc != doc {
+        return None;
+    }
+    if above.len() < stem.len() {
+        return None;
+    }
+    let (front, left) = above.split_at(stem.len());
+    if !are_same_steps(front, stem) {
+        return None;
+    }
+    Some(left)
+}
+
+/// What it comes to that an operation puts a value in a collection of a head; nothing, where it does
+/// something else.
+fn part_put<'s>(
+    alloc: Global,
+    cut: &CutText<'_, '_>,
+    doc: usize,
+    stem: &[Step],
+    head: &mut FlowHead<'s, '_>,
+    op: &'s Op,
+) -> Result<Option<PartPut>, AllocError>
+    requires { ReportsHead cut.now (cut_of cut.now) doc (map tree_step stem.now) head.old }
+    ensures head { ReportsHead cut.now (cut_of cut.now) doc (map tree_step stem.now) head.new }
+    ensures put { IfOk result (λ o. IfSome o (λ p. spec.PutsAt (operation_of op.now) cut.now doc
+        (map tree_step stem.now) head.new p)) }
+{
+    operand_holds(op);
+    let Op::Replace(path, value) = op else {
+        return Ok(None);
+    };
+    let Some(left) = steps_in_head(path, doc, stem) else {
+        return Ok(None);
+    };
+    head.left = left;
+    put_at_part(alloc, cut, head, path, value)
+}
+
+/// Carries out an operation on the text of a run, if it puts a value in a collection of a head, behind
+/// those that were put.
+fn put_one<'s>(
+    alloc: Global,
+    cut: &CutText<'_, '_>,
+    doc: usize,
+    stem: &[Step],
+    head: &mut FlowHead<'s, '_>,
+    op: &'s Op,
+    run: &mut Run,
+) -> Result<bool, EditError>
+    requires head { ReportsHead cut.now (cut_of cut.now) doc (map tree_step stem.now) head.old }
+    requires run { spec.Runs (cut_of cut.now) doc (map tree_step stem.now) run.old }
+    requires fits { IsFitting (operation_of op.now) (spec.now_text (cut_of cut.now) run.old) }
+    ensures head { ReportsHead cut.now (cut_of cut.now) doc (map tree_step stem.now) head.new }
+    ensures ok { IfOk result (λ b. b ≡ true → spec.RunsOn (operation_of op.now) (cut_of cut.now) doc
+        (map tree_step stem.now) run.old run.new) }
+    ensures err { IfErr result (λ e. EditFails e (carried (operation_of op.now)
+        (spec.now_text (cut_of cut.now) run.old))) }
+{
+    let text = cut.text();
+    let Some(PartPut { place, written }) = part_put(alloc, cut, doc, stem, head, op)? else {
+        return Ok(false);
+    };
+    let start = head.before + place.start;
+    let end = head.before + place.end;
+    if !run.ends_before(start, end) {
+        return Ok(false);
+    }
+    let Some(written) = written else {
+        return Ok(true);
+    };
+    run.put(alloc, text, start, end, place.lead, &written)?;
+    Ok(true)
+}
+
+/// Carries out operations that put values in the collections of a head; nothing, where one of them does
+/// something else, or stands in front of one before it.
+fn put_each<'s>(
+    alloc: Global,
+    cut: &CutText<'_, '_>,
+    doc: usize,
+    stem: &[Step],
+    head: &mut FlowHead<'s, '_>,
+    ops: &'s [Op],
+) -> Result<Option<Edited>, EditError>
+    requires head { ReportsHead cut.now (cut_of cut.now) doc (map tree_step stem.now) head.old }
+    requires serves { AreServed (operations_of ops.now) cut.now }
+    ensures ok { IfOk result (λ o. IfSome o (λ e. carry_all (operations_of ops.now) cut.now ≡
+        gives (string_bytes e.text) e.splices.items)) }
+    ensures err { IfErr result (λ e. EditFails e (carry_all (operations_of ops.now) cut.now)) }
+{
+    let text = cut.text();
+    let mut run = Run::new(alloc);
+    let mut rest = ops;
+    'operations: while let [op, after @ ..] = rest {
+        let put = put_one(alloc, cut, doc, stem, head, op, &mut run)?;
+        if !put {
+            return Ok(None);
+        }
+        rest = after;
+    }
+    Ok(Some(run.end(text)?))
+}
+
+/// Carries out operations together that put values in the flow collections of one head, one behind the
+/// other; nothing, where they don't.
+pub fn carry_together(
+    alloc: Global,
+    cut: &CutText<'_, '_>,
+    ops: &[Op],
+) -> Result<Option<Edited>, EditError>
+    requires { AreServed (operations_of ops.now) cut.now }
+    ensures ok { IfOk result (λ o. IfSome o (λ e. carry_all (operations_of ops.now) cut.now ≡
+        gives (string_bytes e.text) e.splices.items)) }
+    ensures err { IfErr result (λ e. EditFails e (carry_all (operations_of ops.now) cut.now)) }
+{
+    let [op, _, ..] = ops else {
+        return Ok(None);
+    };
+    let Op::Replace(first, _) = op else {
+        return Ok(None);
+    };
+    let Some((above, _)) = last_step(&first.steps) else {
+        return Ok(None);
+    };
+    let Some(mut head) = cut.flow_head(alloc, first.doc, above)? else {
+        return Ok(None);
+    };
+    let (stem, _) = above.split_at(above.len() - head.left.len());
+    put_each(alloc, cut, first.doc, stem, &mut head, ops)
+}

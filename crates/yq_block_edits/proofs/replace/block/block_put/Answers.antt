@@ -1,0 +1,15 @@
+use Rattle.std.proofs.Common.{[], IfOk, ◌≡◌, sym, ap, ◌∙◌, subst}
+use Rattle.yq_core.specs.Values.{value_node}
+use Rattle.yq_core.specs.BlockWritten.{break_text}
+use Rattle.yq_lookup.specs.StandingViews.{held_view, held_mark_view}
+use Rattle.yq_edits.specs.ReplaceEdits.{block_put}
+use Rattle.yq_edits.specs.WrittenValues.{inline}
+use Rattle.yq_block_edits.proofs.PlacedValueLaws.{unfilled_at}
+use Rattle.yq_block_edits.proofs.replace.block.block_put.Goals as goal
+
+pub returns-then-not-is_filled : goal.returns-then-not-is_filled
+returns-then-not-is_filled c =
+    let l = c.args.layout.now in
+    let h = c.args.held.now in
+    let none = sym c.is_filled.ensures ∙ c.if-not-is_filled.true in
+    subst (λ w. IfOk c.put_inline.result (λ ss. ss ≡ block_put (break_text l.br) (held_view h) w)) (ap inline c.in_ok-text.ensures ∙ sym (unfilled_at l (held_mark_view h.mark) (value_node c.args.value.now) none [])) (c.put_inline.ensures (break_text l.br))

@@ -1,0 +1,72 @@
+//! HeadComment: comments on lines above a key or dash.
+ghost use Rattle.std.specs.Prelude.{◌≡◌, ◌++◌, IfOk, OnOk, string_bytes};
+ghost use Rattle.yq_semantics.specs.Meaning.{head_comment_lines};
+ghost use Rattle.yq_documents.specs.Located.{steps_of};
+ghost use Rattle.yq_documents.specs.Reading.{cut_of};
+ghost use Rattle.yq_edits.specs.CommentEdits as spec;
+ghost use Rattle.yq_edits.specs.Answers.{GivesSegments};
+
+use std::alloc::{AllocError, Global};
+use yq_documents::Path;
+use yq_lookup::CutText;
+use yq_scalar::block_written::break_text;
+use yq_scalar_reader::push_spaces;
+use yq_text::{Halves, Segment, Segments};
+
+/// Adds a line of a head comment, with its break.
+fn push_line(out: &mut String, column: usize, br: &str, text: &str) -> Result<(), AllocError>
+    ensures { OnOk result (string_bytes out.new ≡
+        string_bytes out.old ++ spec.comment_line column br.now text.now) }
+{
+    push_spaces(out, column)?;
+    out.push('#')?;
+    if !text.is_empty() {
+        out.push(' ')?;
+        out.push_str(text)?;
+    }
+    out.push_str(br)
+}
+
+/// The lines of a head comment with a text: one for each line of that.
+fn head_lines(alloc: Global, column: usize, br: &str, text: &str) -> Result<String, AllocError>
+    ensures { IfOk result (λ s. string_bytes s ≡ spec.head_lines column br.now (head_comment_lines text.now)) }
+{
+    let mut out = String::new(alloc);
+    if text.is_empty() {
+        return Ok(out);
+    }
+    let mut rest = text;
+    'lines: while let Some((line, after)) = rest.split_once('\n') {
+        push_line(&mut out, column, br, line)?;
+        rest = after;
+    }
+    push_line(&mut out, column, br, rest)?;
+    Ok(out)
+}
+
+/// A head comment set at a path; `None` where no item or entry outside flow collections is there, or
+/// its line isn't the first one of its row.
+///
+/// # Errors
+/// [`AllocError`] where memory is refused.
+pub fn head_comment_at<'t>(
+    alloc: Global,
+    cut: &CutText<'_, 't>,
+    path: &Path,
+    text: &str,
+) -> Result<Option<Segments<'t>>, AllocError>
+    ensures { GivesSegments result (spec.head_comment_at path.now.doc (steps_of path.now) (cut_of cut.now)
+        text.now) }
+{
+    let Some(above) = cut.lines_above(path) else {
+        return Ok(None);
+    };
+    let br = break_text(cut.first_break());
+    let new = head_lines(alloc, above.column, br, text)?;
+    let segments = vec![in alloc;
+        Segment::Keep(above.before),
+        Segment::Put(Halves::of(above.run), new),
+        Segment::Keep(above.behind),
+    ]?;
+    Ok(Some(Segments::new(segments)))
+}

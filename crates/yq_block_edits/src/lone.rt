@@ -1,0 +1,129 @@
+//! A value in the place of a node that isn't behind a key or dash.
+ghost use Rattle.std.specs.Prelude.{◌≡◌, IfOk, string_bytes};
+ghost use Rattle.yq_text.specs.Halves.{halves_text};
+ghost use Rattle.yq_core.specs.Values.{value_node};
+ghost use Rattle.yq_core.specs.BlockWritten.{break_text};
+ghost use Rattle.yq_places.specs.StandingViews.{lone_view, no_rows_view, root_view};
+ghost use Rattle.yq_edits.specs.BlockText.{block_value};
+ghost use Rattle.yq_edits.specs.ClosedTexts as closed;
+ghost use Rattle.yq_edits.specs.ReplaceEdits as spec;
+
+use crate::space::apart;
+use std::alloc::{AllocError, Global};
+use yq_core::{Place, Value};
+use yq_edits::{Layout, push_block, value_text};
+use yq_places::{BlockRoot, Lone, NoRows};
+use yq_scalar::block_written::break_text;
+use yq_text::{Halves, Segment, Segments};
+
+/// A value in one line in the place of a node that is alone on its line.
+///
+/// # Errors
+/// [`AllocError`] where memory is refused.
+pub fn lone_put<'t>(
+    alloc: Global,
+    lone: &Lone<'t>,
+    value: &Value,
+) -> Result<Segments<'t>, AllocError>
+    ensures { IfOk result (λ ss. ss ≡ spec.lone_put (lone_view lone.now) (value_node value.now)) }
+{
+    let text = value_text(alloc, Place::Block, lone.head.as_bytes(), value)?;
+    let new = apart(alloc, lone.head, text)?;
+    let segments = vec![in alloc;
+        Segment::Keep(lone.before),
+        Segment::Put(Halves::of(lone.head), new),
+        Segment::Keep(lone.behind),
+    ]?;
+    Ok(Segments::new(segments))
+}
+
+/// A value in block style in the place of a root that is a block collection.
+///
+/// # Errors
+/// [`AllocError`] where memory is refused.
+pub fn root_put<'t>(
+    alloc: Global,
+    layout: &Layout,
+    root: &BlockRoot<'t>,
+    value: &Value,
+) -> Result<Segments<'t>, AllocError>
+    ensures { IfOk result (λ ss. ss ≡
+        spec.root_put layout.now (value_node value.now) (root_view root.now)) }
+{
+    let mut text = String::new(alloc);
+    push_block(alloc, &mut text, layout, root.column, value)?;
+    let segments = vec![in alloc;
+        Segment::Keep(root.before),
+        Segment::Put(root.old, text),
+        Segment::Keep(Halves::of(root.last)),
+        Segment::Keep(root.behind),
+    ]?;
+    Ok(Segments::new(segments))
+}
+
+/// Whether a text is empty or ends in a break.
+#[tactic(auto, unfolding(yq_edits::specs::ClosedTexts::is_closed_text))]
+fn is_closed_text(text: &[u8]) -> bool
+    ensures { result ≡ closed.is_closed_text text.now }
+{
+    match text {
+        [] => true,
+        [.., last] => *last == b'\n',
+    }
+}
+
+/// The same of a text in two halves.
+#[tactic(auto, using(crate::proofs::ClosedLaws::half_agrees))]
+fn is_closed(text: Halves<'_>) -> bool
+    ensures { result ≡ closed.is_closed_text (halves_text text.entry) }
+{
+    if text.back.is_empty() {
+        return is_closed_text(text.front.as_bytes());
+    }
+    is_closed_text(text.back.as_bytes())
+}
+
+/// A value on lines of its own behind a text: with a break behind it, or in front of it, where that
+/// text ends in none.
+fn lines_behind(
+    alloc: Global,
+    layout: &Layout,
+    before: Halves<'_>,
+    value: &Value,
+) -> Result<String, AllocError>
+    ensures { IfOk result (λ s. string_bytes s ≡
+        closed.lines_put_behind (closed.is_closed_text (halves_text before.entry))
+        (break_text layout.now.br) (block_value layout.now 0 (value_node value.now))) }
+{
+    let mut text = String::new(alloc);
+    if is_closed(before) {
+        push_block(alloc, &mut text, layout, 0, value)?;
+        text.push_str(break_text(layout.br))?;
+    } else {
+        text.push_str(break_text(layout.br))?;
+        push_block(alloc, &mut text, layout, 0, value)?;
+    }
+    Ok(text)
+}
+
+/// A value in block style behind the gap of a document without rows.
+///
+/// # Errors
+/// [`AllocError`] where memory is refused.
+pub fn no_rows_put<'t>(
+    alloc: Global,
+    layout: &Layout,
+    place: &NoRows<'t>,
+    value: &Value,
+) -> Result<Segments<'t>, AllocError>
+    ensures { IfOk result (λ ss. ss ≡
+        spec.no_rows_put layout.now (value_node value.now) (no_rows_view place.now)) }
+{
+    let lines = lines_behind(alloc, layout, place.before, value)?;
+    let segments = vec![in alloc;
+        Segment::Keep(place.before),
+        Segment::Put(Halves::of(""), lines),
+        Segment::Keep(place.behind),
+    ]?;
+    Ok(Segments::new(segments))
+}

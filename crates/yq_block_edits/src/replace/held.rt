@@ -1,0 +1,180 @@
+//! A value in the place of what a key or dash holds, or of a compact collection.
+ghost use Rattle.std.specs.Prelude.{◌≡◌, ℕ, List, [], false, IfOk, if◌then◌else◌, string_bytes};
+ghost use Rattle.yq_core.specs.Values.{value_node};
+ghost use Rattle.yq_core.specs.BlockWritten.{break_text};
+ghost use Rattle.yq_places.specs.StandingViews.{compact_view, held_view, held_mark_view};
+ghost use Rattle.yq_edits.specs.BlockReading.{is_filled as filled};
+ghost use Rattle.yq_edits.specs.BlockRows.{item_column};
+ghost use Rattle.yq_edits.specs.BlockText.{block_value};
+ghost use Rattle.yq_edits.specs.declared.layout.Layout.{Layout as LayoutOf};
+ghost use Rattle.yq_edits.specs.ReplaceEdits as spec;
+ghost use Rattle.yq_edits.specs.WrittenValues as written;
+
+use crate::apart;
+use std::alloc::{AllocError, Global};
+use yq_core::{Place, Value};
+use yq_edits::{
+    Layout, behind_space, break_and_lines, compact_text, is_filled, takes_compact, value_text,
+};
+use yq_places::{Compact, Held};
+use yq_text::{Halves, Segment, Segments};
+
+/// A text on one line in the place of the head; lines below go.
+pub(crate) fn put_inline<'t>(
+    alloc: Global,
+    held: &Held<'t>,
+    text: String,
+) -> Result<Segments<'t>, AllocError>
+    ensures { (br : List ℕ) → IfOk result (λ ss. ss ≡
+        spec.held_put br (held_view held.now) (written.inline (string_bytes text))) }
+{
+    let new = apart(alloc, held.head, text)?;
+    let segments = vec![in alloc;
+        Segment::Keep(held.before),
+        Segment::Keep(Halves::of(held.space)),
+        Segment::Put(Halves::of(held.head), new),
+        Segment::Keep(Halves::of(held.white)),
+        Segment::Keep(Halves::of(held.comment)),
+        Segment::Put(Halves::of(held.line_break), String::new(alloc)),
+        Segment::Put(held.lines, String::new(alloc)),
+        Segment::Keep(Halves::of(held.last)),
+        Segment::Keep(held.behind),
+    ]?;
+    Ok(Segments::new(segments))
+}
+
+/// A collection in the place of the white space and the head, or of lines below: a compact one begins on
+/// the line of a dash.
+pub(crate) fn put_filled<'t>(
+    alloc: Global,
+    layout: &Layout,
+    held: &Held<'t>,
+    compact: bool,
+    value: &Value,
+) -> Result<Segments<'t>, AllocError>
+    ensures { IfOk result (λ ss. ss ≡
+        spec.held_put (break_text layout.now.br) (held_view held.now) (if compact
+        then written.compact_text (block_value layout.now (item_column held.now.mark.column)
+        (value_node value.now))
+        else written.lines (written.lines_in layout.now
+        (written.column_under layout.now (held_mark_view held.now.mark) (value_node value.now))
+        (value_node value.now)))) }
+{
+    let (new, lines) = if compact {
+        (
+            compact_text(alloc, layout, held.mark, value)?,
+            String::new(alloc),
+        )
+    } else {
+        (
+            String::new(alloc),
+            break_and_lines(alloc, layout, held.mark, value)?,
+        )
+    };
+    let gone = Halves {
+        front: held.space,
+        back: held.head,
+    };
+    let segments = vec![in alloc;
+        Segment::Keep(held.before),
+        Segment::Put(gone, new),
+        Segment::Keep(Halves::of(held.white)),
+        Segment::Keep(Halves::of(held.comment)),
+        Segment::Put(Halves::of(held.line_break), String::new(alloc)),
+        Segment::Put(held.lines, lines),
+        Segment::Keep(Halves::of(held.last)),
+        Segment::Keep(held.behind),
+    ]?;
+    Ok(Segments::new(segments))
+}
+
+/// A value without items and entries on one line in the place of an inline node, or of nothing. It looks
+/// the same in each document.
+pub(crate) fn text_put<'t>(
+    alloc: Global,
+    held: &Held<'t>,
+    value: &Value,
+) -> Result<Segments<'t>, AllocError>
+    requires { filled (value_node value.now) ≡ false }
+    ensures { (l : LayoutOf) → IfOk result (λ ss. ss ≡
+        spec.held_put (break_text l.br) (held_view held.now) (written.written_at
+        l (held_mark_view held.now.mark) held.now.head.now (value_node value.now))) }
+{
+    let text = value_text(alloc, Place::Block, held.head.as_bytes(), value)?;
+    put_inline(alloc, held, text)
+}
+
+/// A value in the place of an inline node, or of nothing.
+pub(crate) fn beside_put<'t>(
+    alloc: Global,
+    layout: &Layout,
+    held: &Held<'t>,
+    value: &Value,
+) -> Result<Segments<'t>, AllocError>
+    ensures { IfOk result (λ ss. ss ≡
+        spec.held_put (break_text layout.now.br) (held_view held.now) (written.written_at
+        layout.now (held_mark_view held.now.mark) held.now.head.now (value_node value.now))) }
+{
+    if !is_filled(value) {
+        return text_put(alloc, held, value);
+    }
+    put_filled(alloc, layout, held, takes_compact(held.mark), value)
+}
+
+/// A value in the place of a block collection on lines below.
+pub(crate) fn under_put<'t>(
+    alloc: Global,
+    layout: &Layout,
+    held: &Held<'t>,
+    value: &Value,
+) -> Result<Segments<'t>, AllocError>
+    ensures { IfOk result (λ ss. ss ≡
+        spec.held_put (break_text layout.now.br) (held_view held.now) (written.written_under
+        layout.now (held_mark_view held.now.mark) (value_node value.now))) }
+{
+    if is_filled(value) {
+        return put_filled(alloc, layout, held, false, value);
+    }
+    let text = value_text(alloc, Place::Block, b"", value)?;
+    put_inline(alloc, held, text)
+}
+
+/// A text in the place of a compact collection.
+fn put_behind<'t>(
+    alloc: Global,
+    compact: &Compact<'t>,
+    text: String,
+) -> Result<Segments<'t>, AllocError>
+    ensures { IfOk result (λ ss. ss ≡
+        spec.put_compact (compact_view compact.now) (string_bytes text)) }
+{
+    let segments = vec![in alloc;
+        Segment::Keep(compact.before),
+        Segment::Put(compact.old, text),
+        Segment::Keep(Halves::of(compact.last)),
+        Segment::Keep(compact.behind),
+    ]?;
+    Ok(Segments::new(segments))
+}
+
+/// A value behind a dash, in the place of a compact collection.
+pub(crate) fn compact_put<'t>(
+    alloc: Global,
+    layout: &Layout,
+    compact: &Compact<'t>,
+    value: &Value,
+) -> Result<Segments<'t>, AllocError>
+    ensures { IfOk result (λ ss. ss ≡
+        spec.compact_put (break_text layout.now.br) (compact_view compact.now) (written.written_at
+        layout.now (held_mark_view compact.now.mark) [] (value_node value.now))) }
+{
+    let text = if !is_filled(value) {
+        let text = value_text(alloc, Place::Block, b"", value)?;
+        behind_space(alloc, &text)?
+    } else if takes_compact(compact.mark) {
+        compact_text(alloc, layout, compact.mark, value)?
+    } else {
+        break_and_lines(alloc, layout, compact.mark, value)?
+    };
+    put_behind(alloc, compact, text)
+}

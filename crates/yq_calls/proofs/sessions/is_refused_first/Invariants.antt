@@ -1,5 +1,0 @@
-use Rattle.std.proofs.Common.{◌≡◌}
-use Rattle.yq_calls.proofs.sessions.is_refused_first.Given as goal
-
-abbrev pub invariant-growths : goal.invariant-growths
-invariant-growths l = l.session ≡ l.fn.session

@@ -1,8 +1,0 @@
-use Rattle.std.proofs.Common.{subst}
-use Rattle.yq_carrying.specs.Session.{SessionState}
-use Rattle.yq_outcomes.specs.Theorems.{HasReading}
-use Rattle.yq_carrying.proofs.SessionLaws.{has_reading}
-use Rattle.yq_carrying.proofs.session.Session.text.Goals as goal
-
-pub returns-clause-read : goal.returns-clause-read
-returns-clause-read c = subst (λ (s : SessionState). HasReading s.text) c.self.view_is (has_reading _ c.self.invariant.0.cut c.self.invariant.0.read)

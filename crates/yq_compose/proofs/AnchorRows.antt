@@ -1,0 +1,121 @@
+-- Anchors of neighbouring lines, by the rows of these.
+use Rattle.std.proofs.Common.{◌≡◌, ℕ, ℤ, eqb, List, [], ◌∷◌, ◌++◌, Option, Some, None, Bool, true, false, cond, not, ◌&&◌, ◌||◌, refl, sym, ap, ◌∙◌, append-nil}
+use Rattle.std.proofs.lemmas.Bool.{false≢true, cond_both}
+use Rattle.std.proofs.lemmas.Option.{same_Some}
+use Rattle.std.specs.List.{slice_get}
+use Rattle.std.specs.Prelude.{is_none}
+use Rattle.yq_core.specs.declared.block_header.BlockStyle.{BlockStyle}
+use Rattle.yq_core.specs.declared.block_header.BlockStyle.TheVariants as styles
+use Rattle.yq_core.specs.Block.{style_indicator as block_mark}
+use Rattle.yq_core.specs.Piece.{deeper}
+use Rattle.yq_core.specs.Text.{is_empty}
+use Rattle.yq_core.specs.Tree as tree
+use Rattle.yq_core.specs.Inline.{depth_limit}
+use Rattle.yq_core.specs.Nodes.{FlowNode, empty, alias, scalar, coll, anchored, node_text, flow_items_text, IsFlowNode, begins_with}
+use Rattle.yq_core.specs.Scalars.{IsScalarAt, begins_scalar}
+use Rattle.yq_core.specs.Trees.{tree_collection, items_tree, node_head, tree_of}
+use Rattle.yq_core.proofs.NodeAgain.{is_anchored, takes_unanchored}
+use Rattle.yq_core.proofs.NodesPieceLaws.{front_not, scalar_begins}
+use Rattle.yq_outline.specs.LinesReading.{is_free, is_no_alias, may_take}
+use Rattle.yq_outline.specs.Outline.{LineMark, Bare, Key, Dash, Line}
+use Rattle.yq_outline.specs.Positions.{has_no_mark}
+use Rattle.yq_row_table.specs.Grammar.{IsContent}
+use Rattle.yq_row_table.specs.Rows as rows
+use Rattle.yq_row_table.specs.Rows.{Content, Nothing, Inline, Block, Row}
+use Rattle.yq_row_table.specs.View.{anchor_cut, content_cut}
+use Rattle.yq_outline.specs.Lines.{content_anchor, head_of, lines_from, row_lines}
+use Rattle.yq_documents.specs.RowReading.{name_in}
+
+-- whether a row has an anchor
+pub anchor_some : (c : Content) → is_empty (content_cut c).1 ≡ is_none (content_anchor c)
+anchor_some (Nothing tail) = refl
+anchor_some (Inline space empty tail) = refl
+anchor_some (Inline space (alias name) tail) = refl
+anchor_some (Inline space (scalar p) tail) = refl
+anchor_some (Inline space (coll k g is) tail) = refl
+anchor_some (Inline space (anchored name g node) tail) = refl
+anchor_some (Block space None block) = refl
+anchor_some (Block space (Some a) block) = refl
+
+-- whether an anchor before lines is the only one of their node, by their first one
+first_of : (a : List ℕ) (xs : List Line) (l : Line) (ys : List Line) → slice_get xs 0 ≡ Some l → is_free (Some a) (xs ++ ys) ≡ may_take l.mark l.anchor l.head
+first_of a [] l ys e = absurd (cc)
+first_of a (x ∷ xs) l ys e = ap (λ (y : Line). may_take y.mark y.anchor y.head) (same_Some _ _ e)
+
+pub free_agrees : (t : List ℕ) (xs : List Line) (l : Line) (ys : List Line) → is_empty t ≡ is_none (name_in t) → slice_get xs 0 ≡ Some l → is_free (name_in t) (xs ++ ys) ≡ (is_empty t || may_take l.mark l.anchor l.head)
+free_agrees t xs l ys named e = go (name_in t) refl
+  where
+    go : (o : Option (List ℕ)) → name_in t ≡ o → is_free (name_in t) (xs ++ ys) ≡ (is_empty t || may_take l.mark l.anchor l.head)
+    go None is = ap (λ a. is_free a (xs ++ ys)) is ∙ sym (ap (λ b. b || may_take l.mark l.anchor l.head) (named ∙ ap is_none is))
+    go (Some a) is = ap (λ o. is_free o (xs ++ ys)) is ∙ (first_of a xs l ys e ∙ sym (ap (λ b. b || may_take l.mark l.anchor l.head) (named ∙ ap is_none is)))
+
+-- one more row passes, or fails
+pub row_passes : (all free rest : Bool) → all ≡ (free && rest) → true ≡ free → all ≡ rest
+row_passes all free rest e f = e ∙ ap (λ b. b && rest) (sym f)
+
+pub row_fails : (all free rest : Bool) → all ≡ (free && rest) → false ≡ free → false ≡ all
+row_fails all free rest e f = sym (e ∙ ap (λ b. b && rest) (sym f))
+
+-- an alias is in front
+opens : (k : ℕ) (t : List ℕ) → begins_with 42 (cond (eqb k 125) 123 91 ∷ t) ≡ false
+opens k t = cond_both (eqb k 125) 123 91 (λ b. begins_with 42 (b ∷ t) ≡ false) (λ _. refl) (λ _. refl)
+
+not_alias : (k : ℕ) (cs : tree.Children) → is_no_alias (Some (tree_collection k cs)) ≡ true
+not_alias k cs = elim (eqb k 125) as (λ x. is_no_alias (Some (cond x (tree.map None cs) (tree.list None cs))) ≡ true) [ true ↦ refl | false ↦ refl ]
+
+scalar_star : (n : ℤ) (p rest : List ℕ) → IsScalarAt false (Some (deeper n)) p rest → begins_with 42 p ≡ false
+scalar_star n [] rest h = refl
+scalar_star n (b ∷ bs) rest h = front_not (begins_scalar false) 42 (λ cs. refl) (b ∷ (bs ++ rest)) (scalar_begins false (Some (deeper n)) (b ∷ bs) rest h)
+
+unnamed_star : (n : ℤ) (node : FlowNode) (rest : List ℕ) → is_anchored node ≡ false → IsFlowNode false (Some (deeper n)) depth_limit node rest → not (begins_with 42 (node_text node [])) ≡ is_no_alias (node_head node)
+unfolding node_text IsFlowNode tree_of
+unnamed_star n empty rest a h = refl
+unnamed_star n (alias name) rest a h = refl
+unnamed_star n (scalar p) rest a h = ap (λ (t : List ℕ). not (begins_with 42 t)) (append-nil p) ∙ ap not (scalar_star n p rest h)
+unnamed_star n (coll k g is) rest a h = ap not (opens k (g ++ flow_items_text k is [])) ∙ sym (not_alias k (items_tree is))
+unnamed_star n (anchored name g node) rest a h = absurd (false≢true (sym a))
+
+node_star : (n : ℤ) (node : FlowNode) (rest : List ℕ) → IsFlowNode false (Some (deeper n)) depth_limit node rest → not (begins_with 42 (anchor_cut node).2) ≡ is_no_alias (node_head node)
+unfolding IsFlowNode tree_of node_text
+node_star n empty rest h = refl
+node_star n (alias name) rest h = refl
+node_star n (scalar p) rest h = unnamed_star n (scalar p) rest refl h
+node_star n (coll k g is) rest h = unnamed_star n (coll k g is) rest refl h
+node_star n (anchored name g node) rest h = unnamed_star n node rest (takes_unanchored node h.3) h.4
+
+block_star : (style : BlockStyle) (t : List ℕ) → begins_with 42 (block_mark style ∷ t) ≡ false
+block_star styles.Literal t = refl
+block_star styles.Folded t = refl
+
+pub alias_is : (n : ℤ) (c : Content) (rest : List ℕ) → IsContent n c rest → not (begins_with 42 (content_cut c).3) ≡ is_no_alias (head_of c)
+alias_is n (Nothing tail) rest h = refl
+alias_is n (Inline space node tail) rest h = node_star n node (tail ++ rest) h.1.valid
+alias_is n (Block space anchor block) rest h = ap not (block_star block.style block.indicators)
+
+-- what a line takes, by its mark
+pub mark_takes : (m : LineMark) (a : Option (List ℕ)) (h : Option tree.Node) → false ≡ has_no_mark m → true ≡ may_take m a h
+mark_takes Bare a h e = absurd (false≢true e)
+mark_takes (Key k) a h e = refl
+mark_takes Dash a h e = refl
+
+bare_takes : (a : Option (List ℕ)) (h : Option tree.Node) → (is_none a && is_no_alias h) ≡ may_take Bare a h
+bare_takes None h = refl
+bare_takes (Some x) h = refl
+
+-- the first line of a row that is a node itself
+first_bare : (above : List (List ℕ)) (column : ℕ) (ns : List ℕ) (m : rows.RowMark) (c : Content) (l : Line) → slice_get (lines_from above column ns m c) 0 ≡ Some l → true ≡ has_no_mark l.mark → (content_anchor c ≡ l.anchor) × (head_of c ≡ l.head)
+first_bare above column [] m c l e bare = (ap (λ (y : Line). y.anchor) (same_Some _ _ e), ap (λ (y : Line). y.head) (same_Some _ _ e))
+first_bare above column (n ∷ ns) m c l e bare = absurd (false≢true (ap (λ (y : Line). has_no_mark y.mark) (same_Some _ _ e) ∙ sym bare))
+
+pub bare_agrees : (n : ℤ) (r : Row) (rest : List ℕ) (l : Line) → IsContent n r.content rest → slice_get (row_lines r) 0 ≡ Some l → true ≡ has_no_mark l.mark →
+    (is_empty (content_cut r.content).1 && not (begins_with 42 (content_cut r.content).3)) ≡ may_take l.mark l.anchor l.head
+bare_agrees n r rest l valid e bare =
+    let f = first_bare _ r.column r.dashes r.mark r.content l e bare in
+    (λ i. anchor_some r.content i && alias_is n r.content rest valid i)
+    ∙ ((λ i. is_none (f.0 i) && is_no_alias (f.1 i))
+    ∙ (bare_takes l.anchor l.head ∙ ap (λ m. may_take m l.anchor l.head) (mark l.mark bare)))
+  where
+    mark : (m : LineMark) → true ≡ has_no_mark m → Bare ≡ m
+    mark Bare e = refl
+    mark (Key k) e = absurd (false≢true (sym e))
+    mark Dash e = absurd (false≢true (sym e))

@@ -1,0 +1,93 @@
+-- What is borrowed as it is written is what it spells.
+use Rattle.std.proofs.Common.{◌≡◌, ℕ, ℤ, zero, suc, ◌-◌, eqb, Bool, true, false, cond, not, ◌||◌, ◌&&◌, List, [], ◌∷◌, drop, take, length, Some, None, refl, sym, ap, ◌∙◌}
+use Rattle.std.proofs.lemmas.Bool.{and_parts, cond-false, cond-true, not-true, or_parts}
+use Rattle.std.specs.List.{list_any}
+use Rattle.yq_core.specs.ContentReading.{quoted_content}
+use Rattle.yq_core.specs.Plain.{holds_break}
+use Rattle.yq_core.specs.Quoted.{IsQuotedText}
+use Rattle.yq_core.specs.Text.{is_empty, is_feed}
+use Rattle.yq_core.specs.Nodes.{begins_with}
+use Rattle.yq_core.specs.Scalars.{scalar_content, is_quoted}
+use Rattle.yq_outline.proofs.OneLine.{kept, borrowed_quoted}
+use Rattle.yq_documents.specs.FlowReading.{head_flow_at}
+use Rattle.yq_documents.specs.Decoded.{borrowed_head, borrowed_text}
+use Rattle.yq_documents.specs.RowReading.{is_block_head, read_head, is_short_plain, string_head}
+use Rattle.yq_compose.specs.Checking.{begins_tree, holds_escape, borrows_head, borrows_text}
+
+any_drop : (f : ℕ → Bool) (n : ℕ) (t : List ℕ) → list_any f t ≡ false → list_any f (drop n t) ≡ false
+any_drop f zero t e = e
+any_drop f (suc n) [] e = refl
+any_drop f (suc n) (b ∷ bs) e = any_drop f n bs (or_parts (f b) (list_any f bs) e).1
+
+any_take : (f : ℕ → Bool) (n : ℕ) (t : List ℕ) → list_any f t ≡ false → list_any f (take n t) ≡ false
+any_take f zero t e = refl
+any_take f (suc n) [] e = refl
+any_take f (suc n) (b ∷ bs) e =
+    let p = or_parts (f b) (list_any f bs) e in
+    let rest : list_any f (take n bs) ≡ false = any_take f n bs p.1 in
+    (λ i. p.0 i || rest i)
+
+pub quoted_is : (t : List ℕ) → is_quoted t ≡ true → scalar_content t ≡ quoted_content t
+unfolding scalar_content
+quoted_is t q = rw q refl
+
+-- it is on one line, and has no escapes
+borrows_parts : (t : List ℕ) → borrows_text t ≡ true → (holds_break t ≡ false) × (holds_escape t ≡ false)
+borrows_parts t e =
+    let p = and_parts (not (holds_break t)) (not (holds_escape t)) e in
+    (not-true (holds_break t) p.0, not-true (holds_escape t) p.1)
+
+-- a key or scalar that its text lends is borrowed as what it stands for
+pub borrows_key : (t : List ℕ) → (is_quoted t ≡ true → IsQuotedText t) → borrows_text t ≡ true → borrowed_text t ≡ scalar_content t
+borrows_key [] q e = kept [] refl refl
+borrows_key (b ∷ bs) q e = go (is_quoted (b ∷ bs)) refl
+  where
+    parts : (holds_break (b ∷ bs) ≡ false) × (holds_escape (b ∷ bs) ≡ false)
+    parts = borrows_parts (b ∷ bs) e
+
+    go : (quoted : Bool) → is_quoted (b ∷ bs) ≡ quoted → borrowed_text (b ∷ bs) ≡ scalar_content (b ∷ bs)
+    go true quoted =
+        let inner : List ℕ = take (length (b ∷ bs) - 2) (drop 1 (b ∷ bs)) in
+        cond-true (is_quoted (b ∷ bs)) inner (b ∷ bs) quoted
+        ∙ (borrowed_quoted (b ∷ bs) inner (b ∷ bs) (q quoted) refl refl (any_take is_feed (length (b ∷ bs) - 2) bs (any_drop is_feed 1 (b ∷ bs) parts.0))
+        (sym (cond-true (is_quoted (b ∷ bs)) (list_any (λ x. eqb x (cond (eqb b 34) 92 39)) inner) false quoted) ∙ parts.1) ∙ sym (quoted_is (b ∷ bs) quoted))
+    go false quoted = cond-false (is_quoted (b ∷ bs)) _ (b ∷ bs) quoted ∙ kept (b ∷ bs) quoted parts.0
+
+-- one in quotes, by what stands between them
+pub borrows_quoted : (t inner : List ℕ) (escaped : Bool) → holds_break t ≡ false → is_quoted t ≡ true → inner ≡ borrowed_text t → escaped ≡ list_any (λ b. eqb b (cond (begins_with 34 t) 92 39)) inner → not escaped ≡ borrows_text t
+borrows_quoted t inner escaped broken quoted is e = rw (broken, quoted) (ap not (e ∙ ap (list_any (λ b. eqb b (cond (begins_with 34 t) 92 39))) (rw quoted at is)))
+
+-- a head that is borrowed is read as what is borrowed of it, and holds no alias and no flow collection
+abbrev Borrowed : List ℕ → ℤ → List ℕ → List ℕ → Type 0
+Borrowed whole n h t = (read_head whole n h t ≡ Some (borrowed_head h)) × (head_flow_at whole n h t ≡ None)
+
+borrowed_nothing : (whole : List ℕ) (n : ℤ) (t : List ℕ) → Borrowed whole n [] t
+unfolding read_head head_flow_at
+borrowed_nothing whole n t = (refl, refl)
+
+borrowed_string : (whole : List ℕ) (n : ℤ) (h t : List ℕ) → is_empty h ≡ false → is_block_head h ≡ false → is_quoted h ≡ true → borrowed_text h ≡ scalar_content h → Borrowed whole n h t
+unfolding read_head head_flow_at
+borrowed_string whole n h t some block quoted same = (rw (some, block, quoted) (ap (λ x. Some (string_head x)) (sym (rw quoted at same))), rw (some, block, quoted) refl)
+
+borrowed_plain : (whole : List ℕ) (n : ℤ) (h t : List ℕ) → is_empty h ≡ false → is_block_head h ≡ false → is_quoted h ≡ false → is_short_plain h ≡ true → Borrowed whole n h t
+unfolding read_head head_flow_at
+borrowed_plain whole n h t some block quoted short = (rw (some, block, short, quoted) refl, rw (some, block, short, quoted) refl)
+
+pub borrowed_read : (whole : List ℕ) (n : ℤ) (h t : List ℕ) → (is_quoted h ≡ true → IsQuotedText h) → borrows_head h ≡ true → Borrowed whole n h t
+borrowed_read whole n [] t q e = borrowed_nothing whole n t
+borrowed_read whole n (b ∷ bs) t q e = go (is_quoted (b ∷ bs)) refl
+  where
+    h : List ℕ
+    h = b ∷ bs
+
+    parts : (not (begins_tree h) ≡ true) × (borrows_text h ≡ true)
+    parts = and_parts (not (begins_tree h)) (borrows_text h) e
+
+    trees : (is_block_head h ≡ false) × ((begins_with 42 h || (begins_with 91 h || begins_with 123 h)) ≡ false)
+    trees = or_parts (is_block_head h) _ (not-true (begins_tree h) parts.0)
+
+    go : (quoted : Bool) → is_quoted (b ∷ bs) ≡ quoted → Borrowed whole n (b ∷ bs) t
+    go true quoted = borrowed_string whole n h t refl trees.0 quoted (borrows_key h q parts.1)
+    go false quoted =
+        let short : is_short_plain h ≡ true = λ i. not (quoted i || trees.1 i) && not ((borrows_parts h parts.1).0 i) in
+        borrowed_plain whole n h t refl trees.0 quoted short

@@ -1,0 +1,115 @@
+-- What is made of rows, one behind the other.
+use Rattle.std.proofs.Common.{◌≡◌, ◌⊎◌, inl, inr, ℕ, suc, ◌+◌, ◌<◌, ◌≤◌, eqb, Bool, true, false, ◌&&◌, cond, List, [], ◌∷◌, ◌++◌, length, drop, Option, Some, None, refl, sym, ap, ◌∙◌, subst, arith, append-nil}
+use Rattle.std.proofs.lemmas.Bool.{cases_lt, cond-false, cond-true, eq-eqb, ne_eqb}
+use Rattle.std.proofs.lemmas.Option.{same_Some, slice_get_within}
+use Rattle.std.specs.List.{list_all, slice_get}
+use Rattle.std.specs.Prelude.{IfSome}
+use Rattle.yq_row_table.specs.Rows.{Row}
+use Rattle.yq_row_table.specs.View.{rows_of}
+use Rattle.yq_documents.specs.Decoded.{IsDecoded, IsDecodedBy, Rise, decoded_at}
+use Rattle.yq_documents.specs.Reading.{content_is_fit, cut_of, have_fit_keys, mark_is_fit}
+use Rattle.yq_documents.specs.RowReading.{row_fits}
+use Rattle.yq_documents.specs.declared.decoded.Decoded.{Decoded}
+use Rattle.yq_compose.specs.Decoding.{AreDecoded, OfRow, list_of_option}
+use Rattle.yq_compose.proofs.AllOf.{all_done, all_step}
+
+-- what is made of rows from one on, before another one, is in their order
+abbrev pub RiseUpto : ℕ → ℕ → List Decoded → Type 0
+RiseUpto n i [] = n ≤ i
+RiseUpto n i (m ∷ ms) = (n ≤ m.row) × RiseUpto (suc m.row) i ms
+
+rise_of : (n i : ℕ) (ms : List Decoded) → RiseUpto n i ms → Rise n ms
+rise_of n i [] h = tt
+rise_of n i (m ∷ ms) h = (h.0, rise_of (suc m.row) i ms h.1)
+
+rise_order : (n i : ℕ) (ms : List Decoded) → RiseUpto n i ms → n ≤ i
+rise_order n i [] h = h
+rise_order n i (m ∷ ms) h = omega (arith, h.0, rise_order (suc m.row) i ms h.1)
+
+rise_more : (n i : ℕ) (ms : List Decoded) → RiseUpto n i ms → RiseUpto n (i + 1) ms
+rise_more n i [] h = omega (arith, h)
+rise_more n i (m ∷ ms) h = (h.0, rise_more (suc m.row) i ms h.1)
+
+rise_push : (n i : ℕ) (ms : List Decoded) (m : Decoded) → RiseUpto n i ms → m.row ≡ i → RiseUpto n (i + 1) (ms ++ m ∷ [])
+rise_push n i [] m h e = (omega (arith, h, e), omega (arith, e))
+rise_push n i (x ∷ ms) m h e = (h.0, rise_push (suc x.row) i ms m h.1 e)
+
+-- what is made of a row, by its number
+decoded_none : (n i j : ℕ) (ms : List Decoded) → RiseUpto n i ms → i ≤ j → decoded_at j ms ≡ None
+decoded_none n i j [] h le = refl
+decoded_none n i j (m ∷ ms) h le =
+    cond-false (eqb j m.row) (Some m) (decoded_at j ms) (ne_eqb j m.row (λ e. omega (arith, e, le, rise_order (suc m.row) i ms h.1))) ∙ decoded_none (suc m.row) i j ms h.1 le
+
+decoded_same : (i j : ℕ) (ms : List Decoded) (m : Decoded) → m.row ≡ i → j < i → decoded_at j (ms ++ m ∷ []) ≡ decoded_at j ms
+decoded_same i j [] m e less = cond-false (eqb j m.row) (Some m) None (ne_eqb j m.row (λ q. omega (arith, q, e, less)))
+decoded_same i j (x ∷ ms) m e less = ap (λ (o : Option Decoded). cond (eqb j x.row) (Some x) o) (decoded_same i j ms m e less)
+
+decoded_last : (n i : ℕ) (ms : List Decoded) (m : Decoded) → RiseUpto n i ms → m.row ≡ i → decoded_at i (ms ++ m ∷ []) ≡ Some m
+decoded_last n i [] m h e = cond-true (eqb i m.row) (Some m) None (eq-eqb i m.row (sym e))
+decoded_last n i (x ∷ ms) m h e =
+    cond-false (eqb i x.row) (Some x) (decoded_at i (ms ++ m ∷ [])) (ne_eqb i x.row (λ q. omega (arith, q, rise_order (suc x.row) i ms h.1))) ∙ decoded_last (suc x.row) i ms m h.1 e
+
+-- the keys of rows are fit where those of each are
+and_assoc : (a b c : Bool) → (a && (b && c)) ≡ ((a && b) && c)
+and_assoc true b c = refl
+and_assoc false b c = refl
+
+pub each_fits : (rs : List Row) → list_all row_fits rs ≡ have_fit_keys rs
+each_fits [] = refl
+each_fits (r ∷ rs) = ap (λ b. row_fits r && b) (each_fits rs) ∙ sym (and_assoc (mark_is_fit r.mark) (content_is_fit r.content) (have_fit_keys rs))
+
+-- What is made of the rows of a text before one, whose keys are fit.
+pub record DecodedUpto (t : List ℕ) (i : ℕ) (ms : List Decoded) : Type 0 where
+  pub rise : RiseUpto 0 i ms
+  pub agrees : (j : ℕ) → j < i → OfRow t j (IsDecoded (length t) (cut_of t) ms j)
+  pub fits : list_all row_fits (drop i (rows_of (cut_of t))) ≡ have_fit_keys (rows_of (cut_of t))
+
+pub decoded_start : (t : List ℕ) (ms : List Decoded) → ms ≡ [] → DecodedUpto t 0 ms
+decoded_start t ms none = subst (DecodedUpto t 0) (sym none) (record { rise = omega arith; agrees = λ j less r is. absurd (omega (arith, less)); fits = each_fits (rows_of (cut_of t)) })
+
+module _ (t : List ℕ) (i : ℕ) (ms : List Decoded) (k : DecodedUpto t i ms) where
+  pub decoded_done : length (rows_of (cut_of t)) ≤ i → have_fit_keys (rows_of (cut_of t)) ≡ true
+  decoded_done past = all_done row_fits (rows_of (cut_of t)) i _ k.fits past
+
+  module _ (r : Row) (is : slice_get (rows_of (cut_of t)) i ≡ Some r) (fit : row_fits r ≡ true) where
+    agrees_more : (new : List Decoded) → ((j : ℕ) → j < i → decoded_at j new ≡ decoded_at j ms) → IsDecoded (length t) (cut_of t) new i r → (j : ℕ) → j < i + 1 → OfRow t j (IsDecoded (length t) (cut_of t) new j)
+    agrees_more new same here j less x at = go (cases_lt j i)
+      where
+        go : (j < i) ⊎ (i ≤ j) → IsDecoded (length t) (cut_of t) new j x
+        go (inl before) = subst (λ (o : Option Decoded). IsDecodedBy (length t) (cut_of t) o j x) (sym (same j before)) (k.agrees j before x at)
+        go (inr behind) =
+            let last : i ≡ j = omega (arith, behind, less) in
+            let own : r ≡ x = same_Some _ _ (sym is ∙ (ap (slice_get (rows_of (cut_of t))) last ∙ at)) in
+            subst (λ (y : ℕ × Row). IsDecoded (length t) (cut_of t) new y.0 y.1) (λ l. (last l, own l)) here
+
+    fits_more : list_all row_fits (drop (i + 1) (rows_of (cut_of t))) ≡ have_fit_keys (rows_of (cut_of t))
+    fits_more = all_step row_fits (rows_of (cut_of t)) i _ k.fits r is fit
+
+    -- nothing is made of the row
+    no_row_step : IsDecodedBy (length t) (cut_of t) None i r → DecodedUpto t (i + 1) ms
+    no_row_step here = record {
+      rise = rise_more 0 i ms k.rise;
+      agrees = agrees_more ms (λ j less. refl) (subst (λ (o : Option Decoded). IsDecodedBy (length t) (cut_of t) o i r) (sym (decoded_none 0 i i ms k.rise (omega arith))) here);
+      fits = fits_more;
+    }
+
+    -- something is made of it
+    decoded_step : (m : Decoded) (new : List Decoded) → m.row ≡ i → new ≡ ms ++ m ∷ [] → IsDecodedBy (length t) (cut_of t) (Some m) i r → DecodedUpto t (i + 1) new
+    decoded_step m new row pushed here =
+        subst (DecodedUpto t (i + 1)) (sym pushed)
+        (record {
+          rise = rise_push 0 i ms m k.rise row;
+          agrees = agrees_more (ms ++ m ∷ []) (λ j less. decoded_same i j ms m row less) (subst (λ (o : Option Decoded). IsDecodedBy (length t) (cut_of t) o i r) (sym (decoded_last 0 i ms m k.rise row)) here);
+          fits = fits_more;
+        })
+
+    pub row_step : (m : Option Decoded) (new : List Decoded) → IfSome m (λ x. x.row ≡ i) → new ≡ ms ++ list_of_option m → IsDecodedBy (length t) (cut_of t) m i r → DecodedUpto t (i + 1) new
+    row_step None new row pushed here = subst (DecodedUpto t (i + 1)) (sym (pushed ∙ append-nil ms)) (no_row_step here)
+    row_step (Some m) new row pushed here = decoded_step m new row pushed here
+
+-- all rows are passed
+pub are_decoded : (t : List ℕ) (i : ℕ) (ms : List Decoded) → DecodedUpto t i ms → length (rows_of (cut_of t)) ≤ i → AreDecoded t ms
+are_decoded t i ms k past = record {
+  rise = rise_of 0 i ms k.rise;
+  agrees = λ j r is. k.agrees j (omega (arith, past, slice_get_within (rows_of (cut_of t)) j r is)) r is;
+}

@@ -1,0 +1,99 @@
+-- What a line's head spells, by what is made of its row.
+use Rattle.std.proofs.Common.{◌≡◌, ℕ, zero, suc, ◌+◌, ◌-◌, Bool, true, false, cond, List, [], ◌∷◌, take, drop, Option, Some, None, refl, sym, ap, ◌∙◌, arith}
+use Rattle.std.proofs.lemmas.Bool.{false≢true, le-leb}
+use Rattle.std.proofs.lemmas.Option.{same_Some}
+use Rattle.std.specs.List.{slice_get}
+use Rattle.std.specs.Prelude.{is_some, option_and_then, option_map}
+use Rattle.yq_core.specs.Scalar.{plain_of}
+use Rattle.yq_core.specs.Text.{is_empty}
+use Rattle.yq_core.specs.Tree.{Node}
+use Rattle.yq_core.specs.Places.{Placed}
+use Rattle.yq_core.specs.Scalars.{is_quoted}
+use Rattle.yq_core.specs.Trees.{placed_tree, scalar_node}
+use Rattle.yq_outline.specs.declared.line.Head as heads
+use Rattle.yq_outline.specs.Outline.{Line}
+use Rattle.yq_outline.specs.Sound.{head_is_sound}
+use Rattle.yq_outline.specs.View.{head_flow, head_view}
+use Rattle.yq_row_table.specs.Rows.{Row}
+use Rattle.yq_row_table.specs.View.{RowsView, rows_of, slices}
+use Rattle.yq_outline.specs.Lines.{lines_of_rows}
+use Rattle.yq_outline.specs.RowWalk.{IsLine, line_number}
+use Rattle.yq_outline.specs.declared.line_position.Position.{Position}
+use Rattle.yq_outline.specs.declared.line_position.Stretch.{Stretch}
+use Rattle.yq_outline.proofs.KnownLaws.{get_dropped}
+use Rattle.yq_outline.proofs.WalkPositions.{located}
+use Rattle.yq_documents.specs.Decoded.{borrowed_head, borrowed_text, decoded_at, decoded_or, decoded_flow, decoded_head}
+use Rattle.yq_documents.specs.RowReading.{string_head}
+use Rattle.yq_documents.specs.declared.decoded.Decoded.{Decoded}
+use Rattle.yq_compose.specs.Checking.{IsCheckable}
+use Rattle.yq_compose.proofs.PositionOrder.{head_last}
+
+-- an item of a part of a list is one of the list
+get_take : {A : Type 0} (n i : ℕ) (xs : List A) (x : A) → slice_get (take n xs) i ≡ Some x → slice_get xs i ≡ Some x
+get_take zero i xs x e = absurd (cc)
+get_take (suc n) i [] x e = absurd (cc)
+get_take (suc n) zero (y ∷ xs) x e = e
+get_take (suc n) (suc i) (y ∷ xs) x e = get_take n i xs x e
+
+pub row_in_cut : (t : List ℕ) (s : RowsView) (ms : List Decoded) (d : Stretch) (k : IsCheckable t s ms d) (i : ℕ) (r : Row) → slice_get k.document.rows i ≡ Some r → slice_get (rows_of k.cut) (d.first + i) ≡ Some r
+row_in_cut t s ms d k i r e =
+    sym (get_dropped (rows_of k.cut) d.first i) ∙ get_take (d.end - d.first) i (drop d.first (rows_of k.cut)) r (ap (λ (rs : List Row). slice_get rs i) (sym k.there) ∙ e)
+
+-- the row of a line is one of the cut
+pub row_of_cut : (t : List ℕ) (s : RowsView) (ms : List Decoded) (d : Stretch) (k : IsCheckable t s ms d) (q : Position) (at : IsLine s d q) → slice_get (rows_of k.cut) q.row ≡ Some (located s d k.document q at).row
+row_of_cut t s ms d k q at =
+    let l = located s d k.document q at in
+    let place : d.first + (q.row - d.first) ≡ q.row = omega (arith, at.from) in
+    ap (slice_get (rows_of k.cut)) (sym place) ∙ row_in_cut t s ms d k (q.row - d.first) l.row l.there
+
+-- the head of a line that has one is told
+pub head_line : (t : List ℕ) (s : RowsView) (ms : List Decoded) (d : Stretch) (k : IsCheckable t s ms d) (q : Position) (at : IsLine s d q) (l : Line) → slice_get (lines_of_rows k.document.rows) (line_number d k.document.rows q) ≡ Some l → true ≡ is_some l.head →
+    decoded_head (decoded_at q.row ms) (slices (located s d k.document q at).row).head ≡ l.head
+head_line t s ms d k q at l is some =
+    let f = located s d k.document q at in
+    let own : f.line ≡ l = same_Some _ _ (sym f.is ∙ is) in
+    let last = head_last s d k.document q at l is some in
+    (k.agrees q.row f.row (row_of_cut t s ms d k q at)).head ∙ (sym (f.agrees.mark last).1 ∙ ap (λ (y : Line). y.head) own)
+
+-- an alias or flow collection that is made is the head
+flow_of : (o : Option heads.Head) (h : List ℕ) (p : Placed) → option_and_then head_flow o ≡ Some p → Some (placed_tree p) ≡ decoded_or (option_map head_view o) (borrowed_head h)
+flow_of None h p e = absurd (cc)
+flow_of (Some heads.TheVariants.Nothing) h p e = absurd (cc)
+flow_of (Some (heads.TheVariants.Scalar kind text)) h p e = absurd (cc)
+flow_of (Some (heads.TheVariants.Inline node)) h p e = ap (λ (x : Placed). Some (placed_tree x)) (sym (same_Some _ _ e))
+
+pub head_some : (m : Option Decoded) (h : List ℕ) (p : Placed) → decoded_flow m ≡ Some p → Some (placed_tree p) ≡ decoded_head m h
+head_some None h p e = absurd (cc)
+head_some (Some x) h p e = flow_of x.head h p e
+
+-- what is borrowed is a scalar
+borrowed_flat : (d : ℕ) (h : List ℕ) → head_is_sound d (borrowed_head h) ≡ true
+borrowed_flat d h = go (is_empty h) (is_quoted h)
+  where
+    go : (a b : Bool) → head_is_sound d (cond a None (cond b (string_head (borrowed_text h)) (Some (scalar_node (plain_of h))))) ≡ true
+    go true b = refl
+    go false true = rw (le-leb 0 d (omega arith)) refl
+    go false false = rw (le-leb 0 d (omega arith)) refl
+
+flat_of : (d : ℕ) (o : Option heads.Head) (h : List ℕ) → option_and_then head_flow o ≡ None → head_is_sound d (decoded_or (option_map head_view o) (borrowed_head h)) ≡ true
+flat_of d None h e = borrowed_flat d h
+flat_of d (Some heads.TheVariants.Nothing) h e = refl
+flat_of d (Some (heads.TheVariants.Scalar kind text)) h e = rw (le-leb 0 d (omega arith)) refl
+flat_of d (Some (heads.TheVariants.Inline node)) h e = absurd (cc)
+
+head_flat : (d : ℕ) (m : Option Decoded) (h : List ℕ) → decoded_flow m ≡ None → head_is_sound d (decoded_head m h) ≡ true
+head_flat d None h e = borrowed_flat d h
+head_flat d (Some x) h e = flat_of d x.head h e
+
+-- a line without a head
+pub headless : (d : ℕ) (o : Option Node) → false ≡ is_some o → head_is_sound d o ≡ true
+headless d None e = refl
+headless d (Some n) e = absurd (false≢true e)
+
+-- a line with no alias and no flow collection made of its row
+pub head_free : (t : List ℕ) (s : RowsView) (ms : List Decoded) (d : Stretch) (k : IsCheckable t s ms d) (q : Position) (at : IsLine s d q) (l : Line) → slice_get (lines_of_rows k.document.rows) (line_number d k.document.rows q) ≡ Some l → (depth : ℕ) → decoded_flow (decoded_at q.row ms) ≡ None → head_is_sound depth l.head ≡ true
+head_free t s ms d k q at l is depth none = go (is_some l.head) refl
+  where
+    go : (b : Bool) → is_some l.head ≡ b → head_is_sound depth l.head ≡ true
+    go true e = ap (head_is_sound depth) (sym (head_line t s ms d k q at l is (sym e))) ∙ head_flat depth (decoded_at q.row ms) (slices (located s d k.document q at).row).head none
+    go false e = headless depth l.head (sym e)

@@ -1,0 +1,69 @@
+-- The anchors and aliases of lines, row by row.
+use Rattle.std.proofs.Common.{◌≡◌, ℕ, ◌+◌, ◌≤◌, Bool, true, false, cond, List, [], ◌++◌, drop, length, Option, Some, None, refl, sym, ap, ◌∙◌, append_assoc, append-nil}
+use Rattle.std.proofs.lemmas.List.{drop_all}
+use Rattle.std.specs.List.{slice_get}
+use Rattle.std.specs.Prelude.{option_and_then, option_map}
+use Rattle.yq_core.specs.Anchors.{Name, anchor_names}
+use Rattle.yq_core.specs.Scalar.{plain_of}
+use Rattle.yq_core.specs.Text.{is_empty}
+use Rattle.yq_core.specs.Scalars.{is_quoted}
+use Rattle.yq_core.specs.Trees.{scalar_node}
+use Rattle.yq_outline.specs.declared.line.Head as heads
+use Rattle.yq_outline.specs.Names.{head_names, line_names}
+use Rattle.yq_outline.specs.Outline.{Line}
+use Rattle.yq_outline.specs.View.{head_flow, head_view}
+use Rattle.yq_row_table.specs.Rows.{Row}
+use Rattle.yq_outline.specs.Lines.{content_anchor, head_of, lines_of_rows}
+use Rattle.yq_documents.specs.Decoded.{borrowed_head, borrowed_text, decoded_or, decoded_flow, decoded_head}
+use Rattle.yq_documents.specs.RowReading.{string_head}
+use Rattle.yq_documents.specs.declared.decoded.Decoded.{Decoded}
+use Rattle.yq_compose.specs.Named.{flow_names}
+use Rattle.yq_outline.proofs.WalkLevels.{names_row}
+use Rattle.yq_compose.proofs.RowContents.{lines_at}
+
+with-append : (a : Option (List ℕ)) (xs ys : List Name) → anchor_names a (xs ++ ys) ≡ anchor_names a xs ++ ys
+with-append None xs ys = refl
+with-append (Some a) xs ys = refl
+
+-- the names of one more row
+names_step : (all before middle after : List Name) (rs : List Row) (i : ℕ) (r : Row) → slice_get rs i ≡ Some r → before ++ line_names (lines_of_rows (drop i rs)) ≡ all →
+    middle ≡ before ++ anchor_names (content_anchor r.content) [] → after ≡ middle ++ head_names (head_of r.content) → after ++ line_names (lines_of_rows (drop (i + 1) rs)) ≡ all
+names_step all before middle after rs i r is so_far anchor head =
+    let rest : List Line = lines_of_rows (drop (i + 1) rs) in
+    let behind : List Name = line_names rest in
+    let hn : List Name = head_names (head_of r.content) in
+    let a : Option (List ℕ) = content_anchor r.content in
+    ap (λ (x : List Name). x ++ behind) (head ∙ ap (λ (x : List Name). x ++ hn) anchor)
+    ∙ (append_assoc (before ++ anchor_names a []) hn behind
+    ∙ (append_assoc before (anchor_names a []) (hn ++ behind)
+    ∙ (ap (λ (x : List Name). before ++ x) (sym (with-append a [] (hn ++ behind)))
+    ∙ (ap (λ (x : List Name). before ++ x) (sym (ap line_names (lines_at rs i r is) ∙ names_row r rest)) ∙ so_far))))
+
+-- the same, by what the code adds
+pub names_pass : (all before middle after f : List Name) (a : Option (List ℕ)) (rs : List Row) (i j : ℕ) (r : Row) → slice_get rs i ≡ Some r → i + 1 ≡ j → before ++ line_names (lines_of_rows (drop i rs)) ≡ all →
+    middle ≡ before ++ anchor_names a [] → a ≡ content_anchor r.content → after ≡ middle ++ f → f ≡ head_names (head_of r.content) → after ++ line_names (lines_of_rows (drop j rs)) ≡ all
+names_pass all before middle after f a rs i j r is next so_far anchor named head flow =
+    ap (λ (k : ℕ). after ++ line_names (lines_of_rows (drop k rs))) (sym next)
+    ∙ names_step all before middle after rs i r is so_far (anchor ∙ ap (λ (x : Option (List ℕ)). before ++ anchor_names x []) named) (head ∙ ap (λ (x : List Name). middle ++ x) flow)
+
+pub names_all : (all names : List Name) (rs : List Row) (i : ℕ) → length rs ≤ i → names ++ line_names (lines_of_rows (drop i rs)) ≡ all → names ≡ all
+names_all all names rs i past so_far = sym (append-nil names) ∙ (ap (λ (x : List Row). names ++ line_names (lines_of_rows x)) (sym (drop_all i rs past)) ∙ so_far)
+
+-- the names in a head are those in what is made of it
+borrowed_named : (h : List ℕ) → head_names (borrowed_head h) ≡ []
+borrowed_named h = go (is_empty h) (is_quoted h)
+  where
+    go : (a b : Bool) → head_names (cond a None (cond b (string_head (borrowed_text h)) (Some (scalar_node (plain_of h))))) ≡ []
+    go true b = refl
+    go false true = refl
+    go false false = refl
+
+decoded_named : (o : Option heads.Head) (h : List ℕ) → head_names (decoded_or (option_map head_view o) (borrowed_head h)) ≡ flow_names (option_and_then head_flow o)
+decoded_named None h = borrowed_named h
+decoded_named (Some heads.TheVariants.Nothing) h = refl
+decoded_named (Some (heads.TheVariants.Scalar kind text)) h = refl
+decoded_named (Some (heads.TheVariants.Inline node)) h = refl
+
+pub flow_named : (m : Option Decoded) (h : List ℕ) → head_names (decoded_head m h) ≡ flow_names (decoded_flow m)
+flow_named None h = borrowed_named h
+flow_named (Some x) h = decoded_named x.head h

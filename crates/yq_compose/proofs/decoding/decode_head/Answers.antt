@@ -1,0 +1,94 @@
+use Rattle.std.proofs.Common.{rules, ℕ, refl, sym, ap, ◌∙◌, SFits, w64}
+use Rattle.std.proofs.lemmas.Bool.{not-false}
+use Rattle.yq_core.specs.Text.{is_empty}
+use Rattle.std.proofs.lemmas.Int.{to_z-of_z}
+use Rattle.std.proofs.lemmas.Option.{same_Some}
+use Rattle.yq_row_table.specs.View.{Slices, slices}
+use Rattle.yq_documents.specs.Reading.{cut_of}
+use Rattle.yq_compose.proofs.RowsRead.{fit_agrees, head_quoted, head_read, borrowed_fit, none_decoded, no_head, pieces_there, place_whole, read_decoded, row_at, text_ends, unfit_agrees}
+use Rattle.yq_compose.proofs.DocumentsRead.{cut_view}
+use Rattle.yq_compose.proofs.decoding.decode_head.Goals as goal
+
+pub returns-then-not-has_head-clause-fits : goal.returns-then-not-has_head-clause-fits
+returns-then-not-has_head-clause-fits c = λ r is.
+    let k = c.requires.cut in
+    let none = not-false (is_empty (slices r).head) (sym (c.has_head.ensures (slices r) (pieces_there c.args.text.now c.args.rows.now k c.args.i r is)) ∙ c.if-not-has_head.true) in
+    borrowed_fit c.args.text.now c.args.rows.now k c.args.i r is (slices r).head refl (no_head (slices r).head none)
+
+pub returns-then-not-has_head-clause-agrees : goal.returns-then-not-has_head-clause-agrees
+returns-then-not-has_head-clause-agrees c = λ r is.
+    let k = c.requires.cut in
+    let none = not-false (is_empty (slices r).head) (sym (c.has_head.ensures (slices r) (pieces_there c.args.text.now c.args.rows.now k c.args.i r is)) ∙ c.if-not-has_head.true) in
+    none_decoded c.args.text.now c.args.rows.now k c.args.i r is (slices r).head refl (no_head (slices r).head none)
+
+pub borrows_head-requires : goal.borrows_head-requires
+borrows_head-requires c =
+    let k = c.requires.cut in
+    let r = row_at c.args.text.now c.args.rows.now k c.args.i c.requires.within in
+    head_quoted c.args.text.now c.args.rows.now k c.args.i r.0 r.1 c.head-head.result.now (c.head-head.ensures (slices r.0) (pieces_there c.args.text.now c.args.rows.now k c.args.i r.0 r.1))
+
+pub returns-then-borrows_head-clause-fits : goal.returns-then-borrows_head-clause-fits
+returns-then-borrows_head-clause-fits c = λ r is.
+    let k = c.requires.cut in
+    let head = c.head-head.ensures (slices r) (pieces_there c.args.text.now c.args.rows.now k c.args.i r is) in
+    borrowed_fit c.args.text.now c.args.rows.now k c.args.i r is c.head-head.result.now head (sym c.borrows_head.ensures ∙ c.if-borrows_head.true)
+
+pub returns-then-borrows_head-clause-agrees : goal.returns-then-borrows_head-clause-agrees
+returns-then-borrows_head-clause-agrees c = λ r is.
+    let k = c.requires.cut in
+    let head = c.head-head.ensures (slices r) (pieces_there c.args.text.now c.args.rows.now k c.args.i r is) in
+    none_decoded c.args.text.now c.args.rows.now k c.args.i r is c.head-head.result.now head (sym c.borrows_head.ensures ∙ c.if-borrows_head.true)
+
+pub split_at-requires : goal.split_at-requires
+split_at-requires c =
+    let k = c.requires.cut in
+    let r = row_at c.args.text.now c.args.rows.now k c.args.i c.requires.within in
+    let head = c.head-head.ensures (slices r.0) (pieces_there c.args.text.now c.args.rows.now k c.args.i r.0 r.1) in
+    let start = ap (λ (x : ℕ × ℕ). x.0) (c.head_place-start.ensures (cut_of c.args.text.now) k.rows r.0 r.1) in
+    place_whole c.args.text.now c.args.rows.now k c.args.i r.0 r.1 c.head-head.result.now c.head_place-start.result.0 head (sym c.borrows_head.ensures ∙ c.if-borrows_head.false) c.head-head.utf8 start
+
+pub read_head-requires-clause-quoted : goal.read_head-requires-clause-quoted
+read_head-requires-clause-quoted c =
+    let k = c.requires.cut in
+    let r = row_at c.args.text.now c.args.rows.now k c.args.i c.requires.within in
+    head_quoted c.args.text.now c.args.rows.now k c.args.i r.0 r.1 c.head-head.result.now (c.head-head.ensures (slices r.0) (pieces_there c.args.text.now c.args.rows.now k c.args.i r.0 r.1))
+
+pub read_head-requires-clause-ends : goal.read_head-requires-clause-ends
+read_head-requires-clause-ends c =
+    let k = c.requires.cut in
+    let r = row_at c.args.text.now c.args.rows.now k c.args.i c.requires.within in
+    let start = ap (λ (x : ℕ × ℕ). x.0) (c.head_place-start.ensures (cut_of c.args.text.now) k.rows r.0 r.1) in
+    text_ends c.args.text.now c.args.rows.now k c.args.i r.0 r.1 c.split_at.result.1.now c.head_place-start.result.0 c.split_at.ensures.back start
+
+pub returns-in-Ok-clause-fits : goal.returns-in-Ok-clause-fits
+returns-in-Ok-clause-fits c = λ r is.
+    let k = c.requires.cut in
+    let pieces = pieces_there c.args.text.now c.args.rows.now k c.args.i r is in
+    let head = c.head-head.ensures (slices r) pieces in
+    let start = ap (λ (x : ℕ × ℕ). x.0) (c.head_place-start.ensures (cut_of c.args.text.now) k.rows r is) in
+    let f : SFits w64 c.parent_indent-parent.result = search rules in
+    let parent = to_z-of_z w64 c.parent_indent-parent.result f ∙ (c.parent_indent-parent.ensures ∙ ap (λ (x : Slices). x.parent) (same_Some _ _ (sym c.row.ensures ∙ pieces))) in
+    fit_agrees _ _ _ _ (head_read c.args.text.now c.args.rows.now k c.args.i r is c.split_at.result.1.now c.head_place-start.result.0 c.split_at.ensures.back start _ c.head-head.result.now parent head) c.in-Ok.ensures.view
+
+pub returns-in-Ok-clause-agrees : goal.returns-in-Ok-clause-agrees
+returns-in-Ok-clause-agrees c = λ r is.
+    let k = c.requires.cut in
+    let pieces = pieces_there c.args.text.now c.args.rows.now k c.args.i r is in
+    let head = c.head-head.ensures (slices r) pieces in
+    let start = ap (λ (x : ℕ × ℕ). x.0) (c.head_place-start.ensures (cut_of c.args.text.now) k.rows r is) in
+    let f : SFits w64 c.parent_indent-parent.result = search rules in
+    let parent = to_z-of_z w64 c.parent_indent-parent.result f ∙ (c.parent_indent-parent.ensures ∙ ap (λ (x : Slices). x.parent) (same_Some _ _ (sym c.row.ensures ∙ pieces))) in
+    read_decoded c.args.text.now c.args.rows.now k c.args.i r is c.split_at.result.1.now c.head_place-start.result.0 c.split_at.ensures.back start _ c.head-head.result.now parent head c.in-Ok.head c.in-Ok.ensures.view c.in-Ok.ensures.flow
+
+pub returns-in-Err-clause-fits : goal.returns-in-Err-clause-fits
+returns-in-Err-clause-fits c = λ r is.
+    let k = c.requires.cut in
+    let pieces = pieces_there c.args.text.now c.args.rows.now k c.args.i r is in
+    let head = c.head-head.ensures (slices r) pieces in
+    let start = ap (λ (x : ℕ × ℕ). x.0) (c.head_place-start.ensures (cut_of c.args.text.now) k.rows r is) in
+    let f : SFits w64 c.parent_indent-parent.result = search rules in
+    let parent = to_z-of_z w64 c.parent_indent-parent.result f ∙ (c.parent_indent-parent.ensures ∙ ap (λ (x : Slices). x.parent) (same_Some _ _ (sym c.row.ensures ∙ pieces))) in
+    unfit_agrees c.in-Err.e _ _ _ (head_read c.args.text.now c.args.rows.now k c.args.i r is c.split_at.result.1.now c.head_place-start.result.0 c.split_at.ensures.back start _ c.head-head.result.now parent head) c.in-Err.ensures.view
+
+pub head_place-start-requires-clause-rows_view : goal.head_place-start-requires-clause-rows_view
+head_place-start-requires-clause-rows_view c = cut_view c.args.text.now c.args.rows.now c.requires.cut

@@ -1,0 +1,43 @@
+-- Reading (own; a reader may skip it): what is made of the rows of a text.
+use Rattle.std.specs.Prelude.{◌≡◌, ℕ, List, [], ◌∷◌, length, slice_get, Option, Some, None, String, option_and_then, option_map, string_bytes}
+use Rattle.std.specs.declared.alloc.Global.{Global}
+use Rattle.yq_core.specs.Scalars.{scalar_content}
+use Rattle.yq_outline.specs.declared.line.Head.{Head}
+use Rattle.yq_outline.specs.View.{head_flow, head_view}
+use Rattle.yq_row_table.specs.Exchange.{behind_row}
+use Rattle.yq_row_table.specs.Grammar.{IsCut}
+use Rattle.yq_row_table.specs.Rows.{Row}
+use Rattle.yq_row_table.specs.View.{rows_of, slices, RowsView, rows_view}
+use Rattle.yq_outline.specs.Lines.{head_of}
+use Rattle.yq_documents.specs.FlowReading.{row_flow}
+use Rattle.yq_documents.specs.Decoded.{IsDecoded, Rise, borrowed_head, borrowed_text, decoded_or}
+use Rattle.yq_documents.specs.Reading.{cut_of}
+use Rattle.yq_documents.specs.declared.decoded.Decoded.{Decoded}
+
+-- A text has a cut, and these are its pieces (own).
+pub record IsCutInto (t : List ℕ) (s : RowsView) : Type 0 where
+  pub cut : IsCut t (cut_of t)
+  pub rows : s ≡ rows_view (cut_of t)
+
+-- What is said of row i of a text (own).
+abbrev pub OfRow : List ℕ → ℕ → (Row → Type 0) → Type 0
+OfRow t i said = (r : Row) → slice_get (rows_of (cut_of t)) i ≡ Some r → said r
+
+-- What a row's key stands for is told by the text that is made of it, if one is (own).
+abbrev pub IsKeyDecoded : Option (String Global) → Row → Type 0
+IsKeyDecoded k r = decoded_or (option_map string_bytes k) (borrowed_text (slices r).key) ≡ scalar_content (slices r).key
+
+-- What a row's head spells is told by the head that is made of it, if one is (own).
+pub record IsHeadDecoded (t : List ℕ) (i : ℕ) (h : Option Head) (r : Row) : Type 0 where
+  pub head : decoded_or (option_map head_view h) (borrowed_head (slices r).head) ≡ head_of r.content
+  pub flow : option_and_then head_flow h ≡ row_flow (length t) r (behind_row i (cut_of t))
+
+-- What the rows of a text spell is told by what is made of them, which is in their order (own).
+pub record AreDecoded (t : List ℕ) (ms : List Decoded) : Type 0 where
+  pub rise : Rise 0 ms
+  pub agrees : (i : ℕ) → OfRow t i (IsDecoded (length t) (cut_of t) ms i)
+
+-- what is made of a row, if anything is, as a list (own)
+abbrev pub list_of_option : Option Decoded → List Decoded
+list_of_option None = []
+list_of_option (Some m) = m ∷ []

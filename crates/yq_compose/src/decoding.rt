@@ -1,0 +1,223 @@
+//! What rows spell, made where their text doesn't lend it.
+ghost use Rattle.std.specs.List.{list_any};
+ghost use Rattle.std.specs.Prelude.{◌≡◌, ◌<◌, ◌++◌, ◌==◌, if◌then◌else◌, length, option_and_then, option_map, string_bytes, true, IfErr, IfOk, IfSome};
+ghost use Rattle.yq_core.specs.Answers.{IsOfText};
+ghost use Rattle.yq_core.specs.Quoted.{IsQuotedText};
+ghost use Rattle.yq_core.specs.Scalars.{is_quoted as is_in_quotes};
+ghost use Rattle.yq_outline.specs.View.{head_flow, head_view};
+ghost use Rattle.yq_row_table.specs.View.{rows_of};
+ghost use Rattle.yq_documents.specs.Decoded.{IsDecodedBy};
+ghost use Rattle.yq_documents.specs.Reading.{content_is_fit, cut_of, have_fit_keys, mark_is_fit};
+ghost use Rattle.yq_documents.specs.RowReading.{row_fits};
+ghost use Rattle.yq_compose.specs.Checking as spec;
+ghost use Rattle.yq_compose.specs.Deciding.{Decides};
+ghost use Rattle.yq_compose.specs.Decoding.{AreDecoded, IsCutInto, IsHeadDecoded, IsKeyDecoded, OfRow, list_of_option};
+
+use crate::fit::key_fits;
+use crate::nested::flow_decoded;
+use std::alloc::{AllocError, Global};
+use yq_core::{FaultKind, ReadError, first_is, is_quoted};
+use yq_documents::{Decoded, borrowed_text, fault_at, node_refers};
+use yq_outline::Head;
+use yq_row_heads::read_head;
+use yq_row_table::Rows;
+use yq_row_walk::head_place;
+use yq_scalar_reader::folding::quoted_content;
+use yq_scalar_reader::plain::holds_break;
+
+/// Whether a backslash stands in what is between double quotes, or a quote between single ones.
+fn holds_escape(is_double: bool, inner: &str) -> bool
+    ensures { result ≡ list_any (λ b. b == (if is_double then 92 else 39)) inner.now }
+{
+    let sign = if is_double { b'\\' } else { b'\'' };
+    inner.as_bytes().iter().any(|b| *b == sign)
+}
+
+/// Whether the text lends what a key or scalar stands for: it is on one line, and has no escapes.
+fn borrows_text(piece: &str) -> bool
+    requires { is_in_quotes piece.now ≡ true → IsQuotedText piece.now }
+    ensures { result ≡ spec.borrows_text piece.now }
+{
+    if holds_break(piece) {
+        return false;
+    }
+    if !is_quoted(piece.as_bytes()) {
+        return true;
+    }
+    let is_double = first_is(b'"', piece.as_bytes());
+    !holds_escape(is_double, borrowed_text(piece))
+}
+
+/// Whether an alias, a flow collection or a block scalar begins so.
+fn begins_tree(head: &[u8]) -> bool
+    ensures { result ≡ spec.begins_tree head.now }
+{
+    matches!(head, [b'|' | b'>' | b'*' | b'[' | b'{', ..])
+}
+
+/// Whether the text lends what a head spells.
+fn borrows_head(head: &str) -> bool
+    requires { is_in_quotes head.now ≡ true → IsQuotedText head.now }
+    ensures { result ≡ spec.borrows_head head.now }
+{
+    !begins_tree(head.as_bytes()) && borrows_text(head)
+}
+
+/// The text of row `i`'s key that its text doesn't lend, where the key is fit.
+fn decode_key<'t>(
+    alloc: Global,
+    text: &'t str,
+    rows: &Rows<'t>,
+    i: usize,
+) -> Result<Option<String>, ReadError>
+    requires cut { IsCutInto text.now rows.now }
+    requires within { i < length rows.now.rows }
+    ensures fits { OfRow text.now i (λ r. Decides result (mark_is_fit r.mark)) }
+    ensures agrees { OfRow text.now i (λ r. IfOk result (λ k. IsKeyDecoded k r)) }
+    ensures fault { IfErr result IsOfText }
+{
+    if !rows.has_colon(i) {
+        return Ok(None);
+    }
+    let key = rows.key(i);
+    if !key_fits(key) {
+        let place = rows.start(i).saturating_add(rows.gap(i).len());
+        return Err(ReadError::Fault(fault_at(FaultKind::MergeKey, text, place)));
+    }
+    if !is_quoted(key.as_bytes()) {
+        return Ok(None);
+    }
+    if borrows_text(key) {
+        return Ok(None);
+    }
+    Ok(Some(quoted_content(alloc, key)?))
+}
+
+/// The head of row `i` that its text doesn't lend, where its keys are fit.
+fn decode_head<'t>(
+    alloc: Global,
+    text: &'t str,
+    rows: &Rows<'t>,
+    i: usize,
+) -> Result<Option<Head<'t>>, ReadError>
+    requires cut { IsCutInto text.now rows.now }
+    requires within { i < length rows.now.rows }
+    ensures fits { OfRow text.now i (λ r. Decides result (content_is_fit r.content)) }
+    ensures agrees { OfRow text.now i (λ r. IfOk result (λ h. IsHeadDecoded text.now i h r)) }
+    ensures fault { IfErr result IsOfText }
+{
+    if !rows.has_head(i) {
+        return Ok(None);
+    }
+    let head = rows.head(i);
+    if borrows_head(head) {
+        return Ok(None);
+    }
+    let (start, _) = head_place(rows, i);
+    let behind = text.split_at(start).1;
+    let parent = rows.row(i).parent_indent();
+    match read_head(alloc, text, parent, head, behind) {
+        Ok(head) => Ok(Some(head)),
+        Err(e) => Err(e),
+    }
+}
+
+/// What is made of row `i`, by what is made of its key and of its head, if anything is.
+fn decoded_row<'t>(i: usize, key: Option<String>, head: Option<Head<'t>>) -> Option<Decoded<'t>>
+    ensures row { IfSome result (λ m. m.row ≡ i) }
+    ensures key { option_and_then (λ m. option_map string_bytes m.key) result ≡
+        option_map string_bytes key }
+    ensures head { option_and_then (λ m. option_map head_view m.head) result ≡
+        option_map head_view head.entry }
+    ensures flow { option_and_then (λ m. option_and_then head_flow m.head) result ≡
+        option_and_then head_flow head.entry }
+{
+    if key.is_none() && head.is_none() {
+        return None;
+    }
+    Some(Decoded { row: i, key, head })
+}
+
+/// What is made of row `i`, where its keys are fit; nothing where its text lends all it spells.
+fn decoded_of<'t>(
+    alloc: Global,
+    text: &'t str,
+    rows: &Rows<'t>,
+    i: usize,
+) -> Result<Option<Decoded<'t>>, ReadError>
+    requires cut { IsCutInto text.now rows.now }
+    requires within { i < length rows.now.rows }
+    ensures fits { OfRow text.now i (λ r. Decides result (row_fits r)) }
+    ensures agrees { OfRow text.now i (λ r.
+        IfOk result (λ m. IsDecodedBy (length text.now) (cut_of text.now) m i r)) }
+    ensures row { IfOk result (λ m. IfSome m (λ x. x.row ≡ i)) }
+    ensures fault { IfErr result IsOfText }
+{
+    let key = match decode_key(alloc, text, rows, i) {
+        Ok(key) => key,
+        Err(e) => return Err(e),
+    };
+    match decode_head(alloc, text, rows, i) {
+        Ok(head) => Ok(decoded_row(i, key, head)),
+        Err(e) => Err(e),
+    }
+}
+
+/// Adds what is made of one more row, if anything is.
+fn push_decoded<'t>(
+    decoded: Vec<Decoded<'t>>,
+    row: Option<Decoded<'t>>,
+) -> Result<Vec<Decoded<'t>>, AllocError>
+    ensures { IfOk result (λ ms. ms.items ≡ decoded.entry.items ++ list_of_option row.entry) }
+{
+    let mut decoded = decoded;
+    match row {
+        Some(found) => {
+            decoded.push(found)?;
+            Ok(decoded)
+        }
+        None => Ok(decoded),
+    }
+}
+
+/// What is made of the rows of a text, where the keys of each are fit.
+pub(crate) fn decode_rows<'t>(
+    alloc: Global,
+    text: &'t str,
+    rows: &Rows<'t>,
+) -> Result<Vec<Decoded<'t>>, ReadError>
+    requires cut { IsCutInto text.now rows.now }
+    ensures fits { Decides result (have_fit_keys (rows_of (cut_of text.now))) }
+    ensures decoded { IfOk result (λ ms. AreDecoded text.now ms.items) }
+    ensures fault { IfErr result IsOfText }
+{
+    let mut decoded = Vec::new(alloc);
+    let mut at = 0;
+    'rows: while at < rows.len() {
+        let row = match decoded_of(alloc, text, rows, at) {
+            Ok(row) => row,
+            Err(e) => return Err(e),
+        };
+        decoded = push_decoded(decoded, row)?;
+        at += 1;
+    }
+    decoded.shrink_to_fit();
+    Ok(decoded)
+}
+
+/// Whether an alias is in what is made of a row.
+fn row_refers(row: &Decoded<'_>) -> bool
+    ensures { result ≡ spec.decoded_refers row.now }
+{
+    match flow_decoded(Some(row)) {
+        Some(node) => node_refers(node),
+        None => false,
+    }
+}
+
+/// Whether an alias is in what is made of rows.
+pub(crate) fn some_refer(decoded: &[Decoded<'_>]) -> bool
+    ensures { result ≡ spec.some_refer decoded.now }
+{
+    decoded.iter().any(|row| row_refers(row))
+}

@@ -1,0 +1,70 @@
+//! What is asked of a head: how deep collections are nested in it, and the keys of each.
+ghost use Rattle.std.specs.Prelude.{◌≡◌, List, option_map, IfErr, Some};
+ghost use Rattle.yq_core.specs.Answers.{IsOfText};
+ghost use Rattle.yq_core.specs.View.{inline_view};
+ghost use Rattle.yq_outline.specs.Sound as spec;
+ghost use Rattle.yq_outline.specs.RowWalk.{IsLine};
+ghost use Rattle.yq_documents.specs.Decoded.{decoded_at, decoded_flow};
+ghost use Rattle.yq_documents.specs.declared.decoded.Decoded.{Decoded as DecodedOf};
+ghost use Rattle.yq_compose.specs.Ahead.{IsAhead};
+ghost use Rattle.yq_compose.specs.Checking.{IsChecked, IsReached, OfCheckedLine};
+ghost use Rattle.yq_compose.specs.Deciding.{Decides};
+
+use crate::ahead::decoded_here;
+use crate::checked::Checked;
+use crate::inline_fault::node_fault;
+use crate::reached::Reached;
+use std::alloc::Global;
+use yq_core::{Inline, ReadError};
+use yq_documents::Decoded;
+use yq_outline::Head;
+use yq_row_walk::has_head;
+
+/// The alias or flow collection that is made of a row, if one is.
+pub(crate) fn flow_decoded<'a, 't>(decoded: Option<&'a Decoded<'t>>) -> Option<&'a Inline<'t>>
+    ensures { option_map (λ n. inline_view n.now) result ≡ decoded_flow (option_map (λ m. m.now) decoded.entry) }
+{
+    match decoded {
+        Some(row) => match &row.head {
+            Some(Head::Inline(node)) => Some(node),
+            Some(Head::Scalar(..)) => None,
+            Some(Head::Nothing) => None,
+            None => None,
+        },
+        None => None,
+    }
+}
+
+/// The alias or flow collection in the head of row `i`, if one is there, by what is made from it on.
+#[inline(always)]
+pub(crate) fn row_flow<'a, 't>(decoded: &'a [Decoded<'t>], i: usize) -> Option<&'a Inline<'t>>
+    ensures { (all : List DecodedOf) → IsAhead all i decoded.now →
+        option_map (λ n. inline_view n.now) result ≡ decoded_flow (decoded_at i all) }
+{
+    flow_decoded(decoded_here(decoded, i))
+}
+
+/// The head of a line, in which at most so many collections may be nested.
+#[inline(always)]
+pub(crate) fn head_fault(
+    alloc: Global,
+    x: Checked<'_, '_>,
+    at: Reached<'_, '_>,
+    depth: usize,
+) -> Result<(), ReadError>
+    requires ready { IsChecked x }
+    requires at { IsReached x.decoded.now x.rows.now x.document at }
+    requires line { IsLine x.rows.now x.document at.position }
+    ensures sound { OfCheckedLine x.entry at.entry.position (λ ls n l. Decides result
+        (spec.head_is_sound depth l.head)) }
+    ensures fault { IfErr result IsOfText }
+{
+    let node = match row_flow(at.decoded, at.position.row) {
+        Some(node) => node,
+        None => return Ok(()),
+    };
+    if !has_head(x.rows, x.document, at.position) {
+        return Ok(());
+    }
+    node_fault(alloc, x.text, node, depth)
+}

@@ -1,0 +1,83 @@
+//! A text that is cut into rows, read as documents.
+ghost use Rattle.std.specs.Prelude.{◌≡◌, IfErr, IfOk};
+ghost use Rattle.yq_core.specs.Answers.{IsOfText};
+ghost use Rattle.yq_row_table.specs.Grammar.{IsCut};
+ghost use Rattle.yq_row_table.specs.Rows.{Cut};
+ghost use Rattle.yq_row_table.specs.View.{rows_view};
+ghost use Rattle.yq_documents.specs.Documents.{document_parts};
+ghost use Rattle.yq_documents.specs.Reading.{all_documents, cut_of};
+ghost use Rattle.yq_compose.specs.Checking.{some_refer};
+ghost use Rattle.yq_compose.specs.Deciding.{Decides};
+ghost use Rattle.yq_compose.specs.Decoding.{AreDecoded, IsCutInto};
+ghost use Rattle.yq_compose.specs.Places.{AreLocated, all_sound};
+
+use crate::checked::Checked;
+use crate::decoding::{decode_rows, some_refer};
+use crate::document::check_document;
+use crate::parts::document_rows;
+use std::alloc::Global;
+use yq_core::ReadError;
+use yq_documents::{Decoded, DocumentRows, ReadText};
+use yq_outline::Stretch;
+use yq_row_table::Rows;
+
+/// The documents of a text, each checked by its rows. Whether an alias may stand in them is known.
+fn check_documents<'t>(
+    alloc: Global,
+    text: &'t str,
+    rows: &Rows<'t>,
+    decoded: &[Decoded<'t>],
+    documents: &[DocumentRows<'t>],
+    refers: bool,
+) -> Result<(), ReadError>
+    requires cut { IsCutInto text.now rows.now }
+    requires decoded { AreDecoded text.now decoded.now }
+    requires places { AreLocated text.now documents.now }
+    requires refers { refers ≡ some_refer decoded.now }
+    ensures sound { Decides result (all_sound (document_parts (cut_of text.now))) }
+    ensures fault { IfErr result IsOfText }
+{
+    let mut at = 0;
+    'documents: while at < documents.len() {
+        let document = Stretch {
+            first: documents[at].first,
+            end: documents[at].end,
+        };
+        let x = Checked {
+            text,
+            rows,
+            decoded,
+            document,
+        };
+        match check_document(alloc, x, refers) {
+            Ok(()) => {}
+            Err(e) => return Err(e),
+        }
+        at += 1;
+    }
+    Ok(())
+}
+
+/// The documents of a text that is cut into these rows.
+pub fn read_rows<'t>(
+    alloc: Global,
+    text: &'t str,
+    rows: Rows<'t>,
+) -> Result<ReadText<'t>, ReadError>
+    requires { (c : Cut) × IsCut text.now c × (rows ≡ rows_view c) }
+    ensures text { IfOk result (λ r. r ≡ text.now) }
+    ensures documents { (c : Cut) → IsCut text.now c → Decides result (all_documents c) }
+    ensures fault { IfErr result IsOfText }
+{
+    let decoded = match decode_rows(alloc, text, &rows) {
+        Ok(decoded) => decoded,
+        Err(e) => return Err(e),
+    };
+    let documents = document_rows(alloc, &rows)?;
+    let refers = some_refer(&decoded);
+    match check_documents(alloc, text, &rows, &decoded, &documents, refers) {
+        Ok(()) => {}
+        Err(e) => return Err(e),
+    }
+    Ok(ReadText::new(text, rows, documents, decoded, refers))
+}

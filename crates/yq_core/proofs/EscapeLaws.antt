@@ -1,0 +1,161 @@
+-- Escapes: how long they are, and that they are ASCII.
+use Rattle.std.proofs.Common.{◌≡◌, ℕ, zero, suc, ◌+◌, ◌*◌, ◌<◌, ◌≤◌, Bool, true, false, ◌&&◌, not, eqb, ltb, eqb-true, List, [], ◌∷◌, length, drop, get_or, Option, Some, None, ◌⊎◌, refl, sym, ap, ◌∙◌, inl, inr, arith, rules}
+use Rattle.std.proofs.lemmas.Bool.{false≢true, ltb-true, cases_lt, le-ltb, and_parts}
+use Rattle.std.proofs.lemmas.Option.{cond_some, same_Some}
+use Rattle.std.specs.Char.{digit_value}
+use Rattle.std.specs.List.{list_all}
+use Rattle.yq_core.specs.Answers.{◌>>=◌, more}
+use Rattle.yq_core.specs.Text.{is_feed, is_break, is_marker}
+use Rattle.yq_core.specs.Quoted.{letters, beside, digit_counts, is_unicode}
+use Rattle.yq_core.specs.SchemaReading.{is_digit}
+use Rattle.yq_core.specs.QuotedReading.{hex, hex_digit, escape_in_front, escape_len, closes, coded, lettered, length_of, quoted_len}
+use Rattle.yq_core.proofs.Bools.{chosen, bind_some, more_more, more_none}
+use Rattle.yq_core.proofs.Across.{rest_of, rest_is}
+
+quote_only : (b : Bool) → (true && not (b && false)) ≡ true
+quote_only true = refl
+quote_only false = refl
+
+no_second : (r : Option ℕ) (f : ℕ → Option ℕ) → (r >>= (λ d. None)) ≡ ((r >>= (λ d. None)) >>= f)
+no_second (Some d) f = refl
+no_second None f = refl
+
+both_digits : (r s : Option ℕ) (v : ℕ) (f : ℕ → Option ℕ) → (r >>= (λ d. s >>= (λ e. f ((v * 16 + d) * 16 + e)))) ≡ ((r >>= (λ d. s >>= (λ e. Some ((v * 16 + d) * 16 + e)))) >>= f)
+both_digits (Some d) (Some e) v f = refl
+both_digits (Some d) None v f = refl
+both_digits None s v f = refl
+
+-- the first two digits, and the others
+pub hex_split : (m v : ℕ) (t : List ℕ) → hex (suc (suc m)) v t ≡ (hex 2 v t >>= (λ w. hex m w (drop 2 t)))
+unfolding hex
+hex_split m v [] = refl
+hex_split m v (b ∷ []) = no_second (hex_digit b) (λ w. hex m w [])
+hex_split m v (b ∷ c ∷ bs) = both_digits (hex_digit b) (hex_digit c) v (λ w. hex m w bs)
+
+pub hex_none : (m v : ℕ) (t : List ℕ) → hex 2 v t ≡ None → hex (suc (suc m)) v t ≡ None
+hex_none m v t h = hex_split m v t ∙ ap (λ o. o >>= (λ w. hex m w (drop 2 t))) h
+
+pub hex_some : (m v w : ℕ) (t : List ℕ) → hex 2 v t ≡ Some w → hex (suc (suc m)) v t ≡ hex m w (drop 2 t)
+hex_some m v w t h = hex_split m v t ∙ ap (λ o. o >>= (λ w. hex m w (drop 2 t))) h
+
+pub digit_below : (b d : ℕ) → hex_digit b ≡ Some d → d < 16
+digit_below b d h = let g = cond_some (is_digit 16 b) _ _ h in omega (arith, ltb-true (digit_value b) 16 g.0, g.1)
+
+-- the digits stand in the text
+pub hex_within : (n v w : ℕ) (t : List ℕ) → hex n v t ≡ Some w → n ≤ length t
+unfolding hex
+hex_within zero v w t h = omega arith
+hex_within (suc n) v w [] h = absurd (let e = h in cc)
+hex_within (suc n) v w (b ∷ t) h = let x = bind_some (hex_digit b) h in let again = hex_within n (v * 16 + x.0) w t x.2 in omega arith
+
+scalar_len : (n c k : ℕ) (o : Option ℕ) → coded n o ≡ Some (c, k) → (v : ℕ) × (o ≡ Some v) × (suc n ≡ k)
+scalar_len n c k None h = absurd (let e = h in cc)
+scalar_len n c k (Some v) h = let g = cond_some (is_unicode v) _ _ h in (v, refl, ap (λ p. p.1) g.1)
+
+letter_len : (c k : ℕ) (o : Option ℕ) → lettered o ≡ Some (c, k) → 1 ≡ k
+letter_len c k None h = absurd (let e = h in cc)
+letter_len c k (Some v) h = ap (λ p. p.1) (same_Some (v, 1) (c, k) h)
+
+-- what is read as an escape: a letter that digits follow, and these, or a letter alone
+pub escape_cases : (b c k : ℕ) (bs : List ℕ) → escape_in_front (b ∷ bs) ≡ Some (c, k) → ((n : ℕ) × (beside b digit_counts ≡ Some n) × (coded n (hex n 0 bs) ≡ Some (c, k))) ⊎ (lettered (beside b letters) ≡ Some (c, k))
+unfolding escape_in_front
+escape_cases b c k bs h = elim (chosen (eqb b 120) h) [
+  | inl x ↦ inl (2, rw x.0 refl, x.1)
+  | inr x ↦ elim (chosen (eqb b 117) x.1) [
+    | inl y ↦ inl (4, rw (x.0, y.0) refl, y.1)
+    | inr y ↦ elim (chosen (eqb b 85) y.1) [
+      | inl z ↦ inl (8, rw (x.0, y.0, z.0) refl, z.1)
+      | inr z ↦ inr z.1
+    ]
+  ]
+]
+
+pub none_escaped : (c k : ℕ) → escape_in_front [] ≡ Some (c, k) → ⊥
+unfolding escape_in_front
+none_escaped c k h = cc
+
+pub escape_within : (t : List ℕ) (c k : ℕ) → escape_in_front t ≡ Some (c, k) → k ≤ length t
+escape_within [] c k h = absurd (none_escaped c k h)
+escape_within (b ∷ bs) c k h = elim (escape_cases b c k bs h) [
+  | inl x ↦ let v = scalar_len x.0 c k (hex x.0 0 bs) x.2 in omega (arith, hex_within x.0 0 v.0 bs v.1, v.2)
+  | inr x ↦ omega (arith, letter_len c k (beside b letters) x)
+]
+
+next_quote : (q b : ℕ) (bs : List ℕ) → closes q (b ∷ bs) ≡ false → eqb b q ≡ true → 1 ≤ length bs
+next_quote q b [] opened e = let no : (eqb b q && not (eqb q 39 && false)) ≡ false = opened in absurd (false≢true (sym (rw e at no) ∙ quote_only (eqb q 39)))
+next_quote q b (c ∷ bs) opened e = omega arith
+
+pub length_of_some : (o : Option (ℕ × ℕ)) (k : ℕ) → length_of o ≡ Some k → (c : ℕ) × (o ≡ Some (c, k))
+length_of_some None k h = absurd (let e = h in cc)
+length_of_some (Some e) k h = (e.0, let same : e.1 ≡ k = cc in ap (λ (x : ℕ). Some (e.0, x)) same)
+
+-- what belongs to a byte stands behind it, unless the byte is a quote that closes
+pub behind_within : (q b k : ℕ) (bs : List ℕ) → closes q (b ∷ bs) ≡ false → escape_len q b bs ≡ Some k → k ≤ length bs
+behind_within q b k bs opened h = elim (chosen (is_feed b && is_marker bs) h) [
+  | inl x ↦ absurd (let e : None ≡ Some k = x.1 in cc)
+  | inr x ↦ elim (chosen (eqb q 34 && eqb b 92) x.1) [
+    | inl y ↦ elim (chosen (is_break bs) y.1) [
+      | inl z ↦ omega (arith, same_Some 0 k z.1)
+      | inr z ↦ let e = length_of_some (escape_in_front bs) k z.1 in escape_within bs e.0 k e.1
+    ]
+    | inr y ↦ elim (chosen (eqb b q) y.1) [
+      | inl z ↦ omega (arith, next_quote q b bs opened z.0, same_Some 1 k z.1)
+      | inr z ↦ omega (arith, same_Some 0 k z.1)
+    ]
+  ]
+]
+
+-- how far it is behind bytes that are passed over
+pub length_skip : (q k : ℕ) (t : List ℕ) → k ≤ length t → quoted_len q k t ≡ more k (quoted_len q 0 (drop k t))
+unfolding quoted_len
+length_skip q zero t h = sym (more_none (quoted_len q 0 t))
+length_skip q (suc k) [] h = absurd (omega arith)
+length_skip q (suc k) (b ∷ bs) h = ap (more 1) (length_skip q k bs (omega arith)) ∙ (sym (more_more 1 k (quoted_len q 0 (drop k bs))) ∙ ap (λ n. more n (quoted_len q 0 (drop k bs))) (omega arith))
+
+pub length_item : (q b k : ℕ) (bs : List ℕ) → closes q (b ∷ bs) ≡ false → escape_len q b bs ≡ Some k → quoted_len q 0 (b ∷ bs) ≡ more (k + 1) (quoted_len q 0 (drop k bs))
+unfolding quoted_len
+length_item q b k bs opened h = rw (opened, h) (ap (more 1) (length_skip q k bs (behind_within q b k bs opened h)) ∙ (sym (more_more 1 k (quoted_len q 0 (drop k bs))) ∙ ap (λ n. more n (quoted_len q 0 (drop k bs))) (omega arith)))
+
+pub item_within : (q k : ℕ) (r : List ℕ) → 1 ≤ length r → closes q r ≡ false → escape_len q (get_or r 0 0) (rest_of r) ≡ Some k → k ≤ length (rest_of r)
+item_within q k [] le opened h = absurd (omega arith)
+item_within q k (b ∷ bs) le opened h = rw (rest_is) (behind_within q b k bs opened (ap (escape_len q b) (sym (rest_is b bs)) ∙ h))
+
+pub go_item : (q k n : ℕ) (r : List ℕ) (z : Option ℕ) → 1 ≤ length r → closes q r ≡ false → escape_len q (get_or r 0 0) (rest_of r) ≡ Some k →
+    more n (quoted_len q 0 r) ≡ z → more (n + (k + 1)) (quoted_len q 0 (drop k (rest_of r))) ≡ z
+go_item q k n [] z le opened h e = absurd (omega arith)
+go_item q k n (b ∷ bs) z le opened h e =
+    rw (rest_is) (more_more n (k + 1) (quoted_len q 0 (drop k bs)) ∙ (ap (more n) (sym (length_item q b k bs opened (ap (escape_len q b) (sym (rest_is b bs)) ∙ h))) ∙ e))
+
+digit_ascii : (b d : ℕ) → hex_digit b ≡ Some d → b < 128
+digit_ascii b d h = search (rules, cases_lt, le-ltb, cond_some, ltb-true)
+
+hex_ascii : (n v w : ℕ) (t : List ℕ) → hex n v t ≡ Some w → (j : ℕ) → j < n → get_or t j 0 < 128
+unfolding hex
+hex_ascii zero v w t h j lt = absurd (omega arith)
+hex_ascii (suc n) v w [] h j lt = absurd (let e = h in cc)
+hex_ascii (suc n) v w (b ∷ t) h zero lt = let x = bind_some (hex_digit b) h in digit_ascii b x.0 x.1
+hex_ascii (suc n) v w (b ∷ t) h (suc j) lt = let x = bind_some (hex_digit b) h in hex_ascii n (v * 16 + x.0) w t x.2 j (omega arith)
+
+letter_ascii : (b c : ℕ) (es : List (ℕ × ℕ)) → list_all (λ e. ltb e.0 128) es ≡ true → beside b es ≡ Some c → b < 128
+letter_ascii b c [] low h = absurd (let e = h in cc)
+letter_ascii b c (e ∷ es) low h =
+    let p = and_parts (ltb e.0 128) (list_all (λ e. ltb e.0 128) es) low in
+    elim (chosen (eqb b e.0) h) [
+      | inl x ↦ omega (arith, eqb-true b e.0 x.0, ltb-true e.0 128 p.0)
+      | inr x ↦ letter_ascii b c es p.1 x.1
+    ]
+
+letter_some : (c k : ℕ) (o : Option ℕ) → lettered o ≡ Some (c, k) → (v : ℕ) × (o ≡ Some v)
+letter_some c k None h = absurd (let e = h in cc)
+letter_some c k (Some v) h = (v, refl)
+
+pub escape_ascii : (t : List ℕ) (c k : ℕ) → escape_in_front t ≡ Some (c, k) → (j : ℕ) → j < k → get_or t j 0 < 128
+escape_ascii [] c k h j lt = absurd (none_escaped c k h)
+escape_ascii (b ∷ bs) c k h zero lt = elim (escape_cases b c k bs h) [
+  | inl x ↦ letter_ascii b x.0 digit_counts refl x.1
+  | inr x ↦ let v = letter_some c k (beside b letters) x in letter_ascii b v.0 letters refl v.1
+]
+escape_ascii (b ∷ bs) c k h (suc j) lt = elim (escape_cases b c k bs h) [
+  | inl x ↦ let v = scalar_len x.0 c k (hex x.0 0 bs) x.2 in hex_ascii x.0 0 v.0 bs v.1 j (omega (arith, lt, v.2))
+  | inr x ↦ absurd (omega (arith, lt, letter_len c k (beside b letters) x))
+]

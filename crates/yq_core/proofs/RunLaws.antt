@@ -1,0 +1,73 @@
+-- Runs of bytes: what lanes tell.
+use Rattle.std.proofs.Common.{◌≡◌, ℕ, ◌+◌, ◌%◌, ◌^◌, ◌<◌, ◌≤◌, Bool, true, false, cond, ◌||◌, ◌&&◌, not, eqb, suc, List, [], ◌∷◌, map, length, drop, Fits, w8, refl, ap, ap₂, ◌∙◌, arith, one-add}
+use Rattle.std.proofs.lemmas.Bool.{agree_below, agree_below_at, eq-eqb, ne_eqb}
+use Rattle.std.proofs.Math.Dec.{eqb-suc-suc, eqb-zero-suc}
+use Rattle.std.proofs.lemmas.List.{length-map}
+use Rattle.std.proofs.lemmas.List.Folds.{prefix_len-append}
+use Rattle.std.proofs.lemmas.List.Sums.{prefix_len-le-length}
+use Rattle.std.proofs.lemmas.Simd.{chunk-drop, length-chunk, mask_l-mod}
+use Rattle.std.specs.List.{prefix_len, list_all}
+use lib.Bits.{bit_or}
+use lib.Lanes.{chunk, mask_l, top, Each1}
+use Rattle.yq_core.specs.Characters.{is_text_byte}
+use Rattle.yq_core.specs.Runs.{run_goes_on}
+use Rattle.yq_core.specs.declared.runs.Run.TheVariants.{Spaces, Text}
+
+-- the bits of lanes that were computed byte by byte
+pub lanes_mask : (f : ℕ → ℕ) (p : ℕ → Bool) (v z : List ℕ) → length v ≡ 16 → z ≡ map f v → map (top 7) (map f v) ≡ map p v → mask_l (map (top 7) z) % 2 ^ 64 ≡ mask_l (map p v)
+lanes_mask f p v z long e same = ap (λ l. mask_l l % 2 ^ 64) (ap (map (top 7)) e ∙ same) ∙ mask_l-mod (map p v) 64 (omega (arith, length-map v p, long))
+
+-- such lanes, held to a test at each of the 256 bytes
+pub each_byte : (f : ℕ → ℕ) (p : ℕ → Bool) → agree_below (λ x. top 7 (f x)) p 256 ≡ true → (v : List ℕ) → Each1 (Fits w8) v → map (top 7) (map f v) ≡ map p v
+each_byte f p all [] fits = refl
+each_byte f p all (x ∷ xs) fits = ap₂ (λ a b. a ∷ b) (agree_below_at (λ y. top 7 (f y)) p 256 x all fits.0.fits) (each_byte f p all xs fits.1)
+
+abbrev pub lane : Bool → ℕ
+lane b = cond b 255 0
+
+three_lanes : (p q r : Bool) → top 7 (bit_or (bit_or (lane p) (lane q)) (lane r)) ≡ (p || q || r)
+three_lanes true true true = refl
+three_lanes true true false = refl
+three_lanes true false true = refl
+three_lanes true false false = refl
+three_lanes false true true = refl
+three_lanes false true false = refl
+three_lanes false false true = refl
+three_lanes false false false = refl
+
+-- lanes that are any of three bytes
+pub any_byte : (a b c : ℕ) (v : List ℕ) → map (top 7) (map (λ x. bit_or (bit_or (lane (eqb x a)) (lane (eqb x b))) (lane (eqb x c))) v) ≡ map (λ x. eqb x a || eqb x b || eqb x c) v
+any_byte a b c [] = refl
+any_byte a b c (x ∷ xs) = ap₂ (λ h t. h ∷ t) (three_lanes (eqb x a) (eqb x b) (eqb x c)) (any_byte a b c xs)
+
+-- a run that ends in sixteen bytes, and one that goes over them
+pub run_ends : (q : ℕ → Bool) (d : List ℕ) (i : ℕ) → i + 16 ≤ length d → prefix_len q (chunk i 16 d) < 16 → prefix_len q (drop i d) ≡ prefix_len q (chunk i 16 d)
+run_ends q d i room short =
+    let c = chunk i 16 d in
+    let some : eqb (prefix_len q c) (length c) ≡ false = ne_eqb _ _ (λ e. absurd (omega (arith, e, short, length-chunk i 16 d room))) in
+    ap (prefix_len q) (chunk-drop i 16 d) ∙ prefix_len-append q c (drop (i + 16) d) ∙ rw some refl
+
+pub run_over : (q : ℕ → Bool) (d : List ℕ) (i : ℕ) → i + 16 ≤ length d → 16 ≤ prefix_len q (chunk i 16 d) → prefix_len q (drop i d) ≡ 16 + prefix_len q (drop (i + 16) d)
+run_over q d i room whole =
+    let c = chunk i 16 d in
+    let long = length-chunk i 16 d room in
+    let all : eqb (prefix_len q c) (length c) ≡ true = eq-eqb _ _ (omega (arith, whole, long, prefix_len-le-length q c)) in
+    ap (prefix_len q) (chunk-drop i 16 d) ∙ prefix_len-append q c (drop (i + 16) d) ∙ rw (all, long) refl
+
+not_not : (b : Bool) → not (not b) ≡ b
+not_not true = refl
+not_not false = refl
+
+-- a run of spaces
+pub spaces_run : (t : List ℕ) → prefix_len (run_goes_on Spaces) t ≡ prefix_len (λ b. eqb b 32) t
+spaces_run [] = refl
+spaces_run (b ∷ bs) = ap₂ (λ c n. cond c (1 + n) 0) (not_not (eqb b 32)) (spaces_run bs)
+
+-- a run of bytes of a text goes over all of them
+run_turn : (c : Bool) (n m : ℕ) → eqb (cond (not (not c)) (1 + n) 0) (suc m) ≡ (c && eqb n m)
+run_turn true n m = rw (one-add, eqb-suc-suc) refl
+run_turn false n m = eqb-zero-suc m
+
+pub text_run : (t : List ℕ) → eqb (prefix_len (run_goes_on Text) t) (length t) ≡ list_all is_text_byte t
+text_run [] = refl
+text_run (b ∷ bs) = run_turn (is_text_byte b) _ _ ∙ ap (λ r. is_text_byte b && r) (text_run bs)

@@ -1,0 +1,186 @@
+-- What is written in quotes is a quoted scalar that stands for its string.
+use Rattle.std.proofs.Common.{◌≡◌, ℕ, ◌/◌, ◌%◌, ◌<◌, ◌≤◌, Bool, true, false, cond, ◌&&◌, ◌||◌, not, eqb, leb, ltb, List, [], ◌∷◌, ◌++◌, Option, Some, None, is_none, flat_map, refl, sym, inl, inr, ap, ◌∙◌, subst, arith, eqb-true, append_assoc, append-nil, rules}
+use Rattle.std.proofs.lemmas.Bool.{false≢true, cases_lt, cond_both, ltb-true, ltb-false, le-leb, lt-ltb, le-ltb, and_from, not_from_false, or_cases, or_right, ne_eqb, and_parts, cases_Bool}
+use Rattle.std.proofs.Math.Utf8.{encodes, encode, scalar, scalars}
+use Rattle.std.proofs.lemmas.Str.{encode_ascii, encodes-chars, scalars-chars}
+use Rattle.std.specs.Char.{digit_value}
+use Rattle.std.specs.List.{list_all}
+use Rattle.std.specs.Str.{chars, IsUtf8}
+use Rattle.std.specs.Str.Parse.{digits_value}
+use Rattle.yq_core.specs.Characters.{is_text_char}
+use Rattle.yq_core.specs.Text.{is_feed, is_return, front}
+use Rattle.yq_core.specs.Quoted.{letters, beside, is_unicode, Char, itself, doubled, escape, code, spell_char, spell_chars, char_text, chars_text, bytes_of, IsChar, AreChars, last, quoted_lines_content, IsQuoted}
+use Rattle.yq_core.specs.Writable.{is_single_char}
+use Rattle.yq_core.specs.Written.{written_letters, letter_of, upper, two_digits, four_digits, code_escape, double_by, in_double, in_single, single, double}
+use Rattle.yq_core.proofs.Bools.{chosen, at_byte, not_byte}
+use Rattle.yq_core.proofs.Bytes.{Each, each_encode}
+
+-- a character, written so in these quotes
+pub record Stands (q : ℕ) (text p : List ℕ) : Type 0 where
+  pub items : List Char
+  pub spelled : spell_chars items ≡ p
+  pub means : chars_text items ≡ text
+  pub are : (rest : List ℕ) → AreChars q items rest
+
+one_char : (q : ℕ) (c : Char) (text p : List ℕ) → spell_char c ≡ p → char_text c ≡ text → ((rest : List ℕ) → IsChar q c rest) → Stands q text p
+one_char q c text p e f is = record {
+  items = c ∷ [];
+  spelled = append-nil (spell_char c) ∙ e;
+  means = append-nil (char_text c) ∙ f;
+  are = λ rest. (is rest, tt);
+}
+
+spell_append : (a b : List Char) → spell_chars (a ++ b) ≡ spell_chars a ++ spell_chars b
+spell_append [] b = refl
+spell_append (c ∷ a) b = ap (λ l. spell_char c ++ l) (spell_append a b) ∙ sym (append_assoc (spell_char c) (spell_chars a) (spell_chars b))
+
+text_append : (a b : List Char) → chars_text (a ++ b) ≡ chars_text a ++ chars_text b
+text_append [] b = refl
+text_append (c ∷ a) b = ap (λ l. char_text c ++ l) (text_append a b) ∙ sym (append_assoc (char_text c) (chars_text a) (chars_text b))
+
+are_append : (q : ℕ) (a b : List Char) (rest : List ℕ) → AreChars q a (spell_chars b ++ rest) → AreChars q b rest → AreChars q (a ++ b) rest
+are_append q [] b rest h k = k
+are_append q (c ∷ a) b rest h k = search (rules, append_assoc, spell_append, are_append q a b rest h.1 k)
+
+both : (q : ℕ) (t u p r : List ℕ) → Stands q t p → Stands q u r → Stands q (t ++ u) (p ++ r)
+both q t u p r a b = record {
+  items = a.items ++ b.items;
+  spelled = spell_append a.items b.items ∙ (ap (λ l. l ++ spell_chars b.items) a.spelled ∙ ap (λ l. p ++ l) b.spelled);
+  means = text_append a.items b.items ∙ (ap (λ l. l ++ chars_text b.items) a.means ∙ ap (λ l. t ++ l) b.means);
+  are = λ rest. are_append q a.items b.items rest (a.are (spell_chars b.items ++ rest)) (b.are rest);
+}
+
+none_stands : (q : ℕ) → Stands q [] []
+none_stands q = record { items = []; spelled = refl; means = refl; are = λ rest. tt }
+
+-- a byte that stands for itself in these quotes
+abbrev pub is_ordinary : ℕ → ℕ → Bool
+is_ordinary q b = not (eqb b q) && not (is_feed b) && not (is_return b) && not (eqb q 34 && eqb b 92)
+
+ordinary_parts : (w x y z : Bool) → (not w && not x && not y && not z) ≡ true → (w ≡ false) × (x ≡ false) × (y ≡ false) × (z ≡ false)
+ordinary_parts w x y z h1 = search (rules, false≢true)
+
+ordinary_is : (q b : ℕ) (rest : List ℕ) → is_ordinary q b ≡ true → IsChar q (itself b) rest
+ordinary_is q b rest h = search (rules, ordinary_parts)
+
+bytes_stand : (q : ℕ) (t : List ℕ) → Each (is_ordinary q) t → Stands q t t
+bytes_stand q [] h = none_stands q
+bytes_stand q (b ∷ t) h = both q (b ∷ []) t (b ∷ []) t (one_char q (itself b) (b ∷ []) (b ∷ []) refl refl (λ rest. ordinary_is q b rest h.0)) (bytes_stand q t h.1)
+
+not_both : (b : Bool) → not (b && false) ≡ true
+not_both true = refl
+not_both false = refl
+
+high_ordinary : (q b : ℕ) → q < 128 → 128 ≤ b → is_ordinary q b ≡ true
+high_ordinary q b low high = rw (not_byte b q (omega arith), not_byte b 10 (omega arith), not_byte b 13 (omega arith), not_byte b 92 (omega arith)) (not_both (eqb q 34))
+
+itself_stands : (q c : ℕ) → q < 128 → (c < 128 → is_ordinary q c ≡ true) → Stands q (encode c) (encode c)
+itself_stands q c low h = bytes_stand q (encode c) (each_encode (is_ordinary q) c h (λ b high. high_ordinary q b low high))
+
+-- the letters
+abbrev pub AllBeside : List (ℕ × ℕ) → Type 0
+AllBeside [] = Unit {0}
+AllBeside (e ∷ es) = (beside e.0 letters ≡ Some e.1) × AllBeside es
+
+all_beside : AllBeside written_letters
+all_beside = (refl, (refl, (refl, (refl, (refl, (refl, (refl, (refl, (refl, (refl, (refl, (refl, (refl, (refl, tt))))))))))))))
+
+letter_beside : (es : List (ℕ × ℕ)) (c l : ℕ) → AllBeside es → letter_of c es ≡ Some l → beside l letters ≡ Some c
+letter_beside [] c l all h = absurd (let e : None ≡ Some l = h in cc)
+letter_beside (e ∷ es) c l all h = elim (chosen (eqb c e.1) h) [
+  | inl w ↦ (let is : e.1 ≡ c = sym (eqb-true c e.1 w.0) in let same : e.0 ≡ l = (let k : Some e.0 ≡ Some l = w.1 in cc) in
+      ap (λ x. beside x letters) (sym same) ∙ (all.0 ∙ ap (λ (x : ℕ). Some x) is))
+  | inr w ↦ letter_beside es c l all.1 w.1
+]
+
+letter_stands : (c l : ℕ) → letter_of c written_letters ≡ Some l → Stands 34 (encode c) (92 ∷ l ∷ [])
+letter_stands c l h =
+    let e = letter_beside written_letters c l all_beside h in
+    one_char 34 (escape l) (encode c) (92 ∷ l ∷ []) refl (ap bytes_of e) (λ rest. (refl, (c, e)))
+
+-- digits
+upper_value : (d : ℕ) → d < 16 → digit_value (upper d) ≡ d
+upper_value d h = search (rules, cond_both, ltb-true, le-ltb, lt-ltb, ltb-false)
+
+digit_at : (d : ℕ) → d < 16 → digit_value (upper d) < 16
+digit_at d h = omega (arith, upper_value d h)
+
+two_value : (c : ℕ) → c < 256 → digits_value 16 (two_digits c) ≡ c
+two_value c h = rw (upper_value (c / 16 % 16) (omega arith), upper_value (c % 16) (omega arith)) (omega arith)
+
+four_value : (c : ℕ) → c < 65536 → digits_value 16 (four_digits c) ≡ c
+four_value c h = rw (upper_value (c / 4096 % 16) (omega arith), upper_value (c / 256 % 16) (omega arith), upper_value (c / 16 % 16) (omega arith), upper_value (c % 16) (omega arith)) (omega arith)
+
+code_stands : (c : ℕ) → c < 65536 → is_unicode c ≡ true → Stands 34 (encode c) (code_escape c)
+code_stands c h s = elim (cases_Bool (ltb c 256)) [
+  | inl lt ↦ (let low : c < 256 = ltb-true c 256 lt in rw lt (one_char 34 (code 120 (two_digits c)) (encode c) (92 ∷ 120 ∷ two_digits c) refl (ap encode (two_value c low))
+      (λ rest. (refl, refl, (digit_at (c / 16 % 16) (omega arith), (digit_at (c % 16) (omega arith), tt)), ap is_unicode (two_value c low) ∙ s))))
+  | inr ge ↦ rw ge (one_char 34 (code 117 (four_digits c)) (encode c) (92 ∷ 117 ∷ four_digits c) refl (ap encode (four_value c h))
+      (λ rest. (refl, refl, (digit_at (c / 4096 % 16) (omega arith), (digit_at (c / 256 % 16) (omega arith), (digit_at (c / 16 % 16) (omega arith), (digit_at (c % 16) (omega arith), tt)))), ap is_unicode (four_value c h) ∙ s)))
+]
+
+high_text : (c : ℕ) → 65536 ≤ c → c < 1114112 → is_text_char c ≡ true
+high_text c ge lt = search (rules, and_from, le-leb, or_right, not_from_false, ne_eqb)
+
+-- a character that no text may hold is one of the first 65,536
+below : (c : ℕ) → is_text_char c ≡ false → is_unicode c ≡ true → c < 65536
+below c h s = search (rules, or_cases, ltb-true, and_parts, cases_lt, false≢true, high_text)
+
+double_ordinary : (c : ℕ) → letter_of c written_letters ≡ None → is_ordinary 34 c ≡ true
+double_ordinary c h = search (rules, is_none, at_byte)
+
+double_as : (c : ℕ) (o : Option ℕ) → letter_of c written_letters ≡ o → is_unicode c ≡ true → Stands 34 (encode c) (double_by o c)
+double_as c (Some l) h s = letter_stands c l h
+double_as c None h s = elim (cases_Bool (is_text_char c)) [
+  | inl p ↦ rw p (itself_stands 34 c (omega arith) (λ low. double_ordinary c h))
+  | inr p ↦ rw p (code_stands c (below c p s) s)
+]
+
+same_scalar : (x y : Bool) → cond x true y ≡ true → (x || y) ≡ true
+same_scalar true y h = refl
+same_scalar false y h = h
+
+double_stands : (cs : List ℕ) → scalars cs ≡ true → Stands 34 (encodes cs) (flat_map in_double cs)
+double_stands [] h = none_stands 34
+double_stands (c ∷ cs) h =
+    let p = and_parts (scalar c) (scalars cs) h in
+    both 34 (encode c) (encodes cs) (in_double c) (flat_map in_double cs) (double_as c (letter_of c written_letters) refl (same_scalar (ltb c 55296) (leb 57344 c && ltb c 1114112) p.0)) (double_stands cs p.1)
+
+single_ordinary : (c : ℕ) → is_single_char c ≡ true → eqb c 39 ≡ false → is_ordinary 39 c ≡ true
+single_ordinary c h n = rw (n, at_byte is_single_char c 10 h refl, at_byte is_single_char c 13 h refl) refl
+
+single_as : (c : ℕ) → is_single_char c ≡ true → Stands 39 (encode c) (in_single c)
+single_as c h = elim (cases_Bool (eqb c 39)) [
+  | inl e ↦ (let is : c ≡ 39 = eqb-true c 39 e in subst (λ (x : ℕ). Stands 39 (encode x) (in_single x)) (sym is) (one_char 39 doubled (encode 39) (39 ∷ 39 ∷ []) refl (sym (encode_ascii 39 (omega arith))) (λ rest. refl)))
+  | inr n ↦ rw n (itself_stands 39 c (omega arith) (λ low. single_ordinary c h n))
+]
+
+single_stands : (cs : List ℕ) → list_all is_single_char cs ≡ true → Stands 39 (encodes cs) (flat_map in_single cs)
+single_stands [] h = none_stands 39
+single_stands (c ∷ cs) h =
+    let p = and_parts (is_single_char c) (list_all is_single_char cs) h in
+    both 39 (encode c) (encodes cs) (in_single c) (flat_map in_single cs) (single_as c p.0) (single_stands cs p.1)
+
+-- a string in quotes
+pub record Spells (q : ℕ) (t piece rest : List ℕ) : Type 0 where
+  pub chars : List Char
+  pub is : IsQuoted q (last chars) piece rest
+  pub same : quoted_lines_content (last chars) ≡ t
+
+pub double_spells : (t rest : List ℕ) → IsUtf8 t → Spells 34 t (double t) rest
+double_spells t rest u =
+    let s = double_stands (chars t) (scalars-chars t u) in
+    record {
+      chars = s.items;
+      is = record { quotes = inl refl; spelled = ap (λ l. 34 ∷ (l ++ 34 ∷ [])) (sym s.spelled); lines = s.are (34 ∷ rest); closed = refl };
+      same = s.means ∙ encodes-chars t u;
+    }
+
+pub single_spells : (t rest : List ℕ) → IsUtf8 t → list_all is_single_char (chars t) ≡ true → front (λ b. eqb b 39) rest ≡ false → Spells 39 t (single t) rest
+single_spells t rest u all open_ =
+    let s = single_stands (chars t) all in
+    record {
+      chars = s.items;
+      is = record { quotes = inr refl; spelled = ap (λ l. 39 ∷ (l ++ 39 ∷ [])) (sym s.spelled); lines = s.are (39 ∷ rest); closed = open_ };
+      same = s.means ∙ encodes-chars t u;
+    }

@@ -1,0 +1,9 @@
+use Rattle.std.proofs.Common.{◌≡◌, ◌+◌, length}
+use Rattle.yq_core.specs.Text.{upto, ends_line}
+use Rattle.yq_core.proofs.lines.text_len.Given as goal
+
+abbrev pub decreases-each : goal.decreases-each
+decreases-each l = length l.rest
+
+abbrev pub invariant-each : goal.invariant-each
+invariant-each l = record { within : l.n + length l.rest ≡ length l.text; so_far : l.n + upto ends_line l.rest ≡ upto ends_line l.text }

@@ -1,0 +1,10 @@
+use Rattle.std.proofs.Common.{◌≡◌, ◌+◌, ◌-◌, ◌≤◌, length, drop}
+use Rattle.std.specs.List.{prefix_len}
+use Rattle.yq_core.specs.Runs.{run_goes_on}
+use Rattle.yq_core.proofs.runs.run_len.Given as goal
+
+abbrev pub decreases-lanes : goal.decreases-lanes
+decreases-lanes l = length l.text - l.at
+
+abbrev pub invariant-lanes : goal.invariant-lanes
+invariant-lanes l = record { within : l.at ≤ length l.text; so_far : l.at + prefix_len (run_goes_on l.run) (drop l.at l.text) ≡ prefix_len (run_goes_on l.run) l.text }

@@ -1,0 +1,23 @@
+-- Runs of bytes (own; a reader may skip it: only private clauses cite it).
+use Rattle.std.specs.Prelude.{ℕ, Bool, ◌||◌, not, ◌==◌, nat_le, if◌then◌else◌}
+use Rattle.std.specs.Int.{w64, trailing_zeros}
+use Rattle.yq_core.specs.Characters.{is_text_byte}
+use Rattle.yq_core.specs.Text.{is_feed}
+use Rattle.yq_core.specs.Plain.{is_flow_indicator}
+use Rattle.yq_core.specs.declared.runs.Run.{Run}
+use Rattle.yq_core.specs.declared.runs.Run.TheVariants.{Text, Spaces, Plain, Quoted}
+
+-- a byte at which a run stops: of a plain scalar, one at which it may end, by what follows; of a quoted one, its quote, a backslash or an LF (own)
+abbrev pub is_stop : Run → ℕ → Bool
+is_stop Text b = not (is_text_byte b)
+is_stop Spaces b = not (b == 32)
+is_stop Plain b = nat_le b 32 || b == 58 || is_flow_indicator b
+is_stop (Quoted quote) b = b == quote || b == 92 || is_feed b
+
+-- a byte over which a run goes (own)
+abbrev pub run_goes_on : Run → ℕ → Bool
+run_goes_on run b = not (is_stop run b)
+
+-- how many of sixteen lanes stand before the first one whose bit is set (own)
+abbrev pub first_set : ℕ → ℕ
+first_set bits = if bits == 0 then 16 else trailing_zeros w64 bits

@@ -1,0 +1,29 @@
+-- The tree that a document stands for.
+use Rattle.std.specs.Prelude.{ℕ, List, Option}
+use Rattle.yq_core.specs.declared.kind.Kind.{Kind}
+
+-- what is told of an item or entry: its key, which an item has not, and its comments (YAML 1.2.2, section 3.2.2; own)
+pub record Label : Type 0 where
+  pub key : Option (List ℕ)
+  pub head_comment : List (List ℕ)
+  pub line_comment : Option (List ℕ)
+
+mutual
+  -- a node: an alias by its name, or, each with its anchor, a scalar, a sequence or a mapping (YAML 1.2.2, section 3.2.1)
+  pub data Node : Type 0 where
+    alias : List ℕ → Node
+    scalar : Option (List ℕ) → Kind → List ℕ → Node
+    list : Option (List ℕ) → Children → Node
+    map : Option (List ℕ) → Children → Node
+
+  -- items or entries in order (YAML 1.2.2, section 3.2.1)
+  pub data Children : Type 0 where
+    none : Children
+    child : Label → Node → Children → Children
+
+-- the items or entries of a node (own)
+abbrev pub children_of : Node → Children
+children_of (alias name) = none
+children_of (scalar anchor kind text) = none
+children_of (list anchor cs) = cs
+children_of (map anchor cs) = cs

@@ -1,0 +1,20 @@
+//! Types of block scalars.
+ghost use Rattle.yq_core.specs.declared.block_types.Before.TheVariants.{Nothing};
+
+/// What stands before a line of folded text.
+#[derive(Clone, Copy)]
+pub enum Before {
+    /// Empty lines alone.
+    Nothing,
+    /// A line of text.
+    Text,
+    /// A line that begins with white space behind the indentation.
+    Spaced,
+}
+
+/// The break that is written.
+#[derive(Clone, Copy, Debug)]
+pub enum Break {
+    Lf,
+    CrLf,
+}

@@ -1,0 +1,114 @@
+//! Why a text is refused.
+
+use std::alloc::{AllocError, AllocFailed};
+use std::fmt::{self, Debug, Formatter, Write};
+use std::num::NonZeroU64;
+
+/// What is at fault in a text.
+#[derive(Clone, Copy, Debug, PartialEq, Eq)]
+pub enum FaultKind {
+    /// The bytes are not UTF-8.
+    NotUtf8,
+    /// A character that is not printable, or U+FEFF.
+    ControlCharacter,
+    /// A tab where indentation is made of spaces.
+    TabIndent,
+    /// A `%` in column 0 before a document.
+    Directive,
+    /// A tag.
+    Tag,
+    /// A key behind `? `.
+    ExplicitKey,
+    /// A plain key `<<`.
+    MergeKey,
+    /// An absent, too long or otherwise impossible key.
+    BadKey,
+    /// A row at a column where none may stand.
+    BadIndent,
+    /// An unclosed or otherwise impossible scalar.
+    BadScalar,
+    /// An unclosed or otherwise impossible flow collection.
+    BadFlow,
+    /// A block scalar header that is none, or that stands where none may.
+    BadBlockHeader,
+    /// A key that its mapping has already.
+    DuplicateKey,
+    /// An alias without an earlier anchor of its name.
+    UnknownAlias,
+    /// An anchor on a key.
+    AnchorOnKey,
+    /// Content on the line of a marker, or a bare document after `...`.
+    ContentOnMarkerLine,
+    /// More than 64 nested collections.
+    TooDeep,
+    /// More than 16,777,216 bytes.
+    TooLarge,
+    /// A text that ends, without a break, in a block scalar.
+    NoFinalBreak,
+    /// A CR that no LF follows.
+    CarriageReturn,
+}
+
+/// A fault, and the line, counted from 1, on which the construct at fault begins.
+#[derive(Clone, Copy, PartialEq, Eq)]
+pub struct ReadFault {
+    pub kind: FaultKind,
+    pub line: NonZeroU64,
+}
+
+impl Debug for ReadFault {
+    fn fmt<W: Write>(&self, f: &mut Formatter<W>) -> fmt::Result {
+        write!(f, "{:?} on line {}", self.kind, self.line)
+    }
+}
+
+/// Why a text was not read.
+#[derive(Clone, Copy)]
+pub enum ReadError {
+    /// Memory ran out.
+    Memory,
+    /// The text is refused.
+    Fault(ReadFault),
+}
+
+impl Debug for ReadError {
+    fn fmt<W: Write>(&self, f: &mut Formatter<W>) -> fmt::Result {
+        match self {
+            ReadError::Memory => f.write_str("memory ran out"),
+            ReadError::Fault(fault) => fault.fmt(f),
+        }
+    }
+}
+
+impl From<AllocError> for ReadError {
+    ghost use Rattle.std.specs.Prelude.{◌≡◌};
+    ghost use Rattle.yq_core.specs.declared.fault.ReadError.TheVariants.{Memory};
+
+    ghost from_gives = { λ _ e. e ≡ Memory };
+
+    fn from(_refused: AllocError) -> ReadError {
+        ReadError::Memory
+    }
+}
+
+impl<T: Drop> From<AllocFailed<T>> for ReadError {
+    ghost use Rattle.std.specs.Prelude.{◌≡◌};
+    ghost use Rattle.yq_core.specs.declared.fault.ReadError.TheVariants.{Memory};
+
+    ghost from_gives = { λ _ e. e ≡ Memory };
+
+    fn from(_refused: AllocFailed<T>) -> ReadError {
+        ReadError::Memory
+    }
+}
+
+impl From<ReadFault> for ReadError {
+    ghost use Rattle.std.specs.Prelude.{◌≡◌};
+    ghost use Rattle.yq_core.specs.declared.fault.ReadError.TheVariants.{Fault};
+
+    ghost from_gives = { λ fault e. e ≡ Fault fault };
+
+    fn from(fault: ReadFault) -> ReadError {
+        ReadError::Fault(fault)
+    }
+}

@@ -1,0 +1,73 @@
+//! What stands between two tokens of a flow collection.
+ghost use Rattle.std.specs.Prelude.{◌≡◌, ◌∷◌, ◌≤◌, length};
+ghost use Rattle.yq_core.specs.Gaps as spec;
+ghost use Rattle.yq_core.specs.Reading as reading;
+ghost use Rattle.yq_core.specs.declared.gap.Before.TheVariants.{Token as token};
+
+use crate::text::is_space;
+
+/// What stands before the next byte.
+#[derive(Clone, Copy)]
+pub enum Before {
+    /// A token.
+    Token,
+    /// White space.
+    White,
+    /// A break.
+    Break,
+    /// A comment that goes on.
+    Comment,
+}
+
+/// Whether the gap goes on with the byte in front.
+fn goes(before: Before, first: u8, text: &[u8], after: &[u8]) -> bool
+    requires { text.now ≡ first ∷ after.now }
+    ensures { result ≡ spec.goes before first after.now }
+{
+    match before {
+        Before::Token => is_space(text),
+        Before::White | Before::Break => is_space(text) || first == b'#',
+        Before::Comment => true,
+    }
+}
+
+/// What stands before the byte behind this one.
+fn next(before: Before, first: u8) -> Before
+    ensures { result ≡ spec.next_gap_place before first }
+{
+    if first == b'\n' {
+        Before::Break
+    } else if first == b'#' || matches!(before, Before::Comment) {
+        Before::Comment
+    } else {
+        Before::White
+    }
+}
+
+/// Whether a line begins here.
+fn is_break(before: Before) -> bool
+    ensures { result ≡ spec.at_line_start before }
+{
+    matches!(before, Before::Break)
+}
+
+/// How long the gap in front is, in bytes, and whether what follows begins a line.
+#[inline(always)]
+pub fn gap_len(text: &[u8]) -> (usize, bool)
+    ensures len { result.0 ≡ reading.flow_gap_len token text.now }
+    ensures within { result.0 ≤ length text.now }
+    ensures line { result.1 ≡ spec.at_line_start (reading.gap_end token text.now) }
+{
+    let mut n = 0;
+    let mut before = Before::Token;
+    let mut rest = text;
+    'bytes: while let [first, after @ ..] = rest {
+        if !goes(before, *first, rest, after) {
+            return (n, is_break(before));
+        }
+        before = next(before, *first);
+        n += 1;
+        rest = after;
+    }
+    (n, is_break(before))
+}

@@ -1,0 +1,42 @@
+//! Characters, lines, plain and quoted scalars of YAML, the core schema, and the tree that a text stands for.
+//!
+//! Block scalars of YAML: their forms and laws, their headers and lines.
+//!
+//! Inline nodes of YAML: their types and forms, where paths lead in them, and values.
+#![tactic(auto)]
+
+pub mod block_header;
+pub mod block_lines;
+mod block_types;
+pub mod characters;
+mod fault;
+mod gap;
+mod inline;
+mod kind;
+pub mod lines;
+mod path;
+pub mod piece;
+mod runs;
+mod scalar;
+mod schema;
+mod style;
+pub mod text;
+mod tokens;
+mod value;
+
+pub use block_types::{Before, Break};
+pub use characters::is_text_char;
+pub use fault::{FaultKind, ReadError, ReadFault};
+pub use gap::gap_len;
+pub use inline::{Form, Inline};
+pub use kind::Kind;
+pub use lines::{is_line, line_len, split_at_break, split_line};
+pub use path::{DEPTH_LIMIT, Entry, Step};
+pub use piece::{Piece, further_spaces, inline_piece};
+pub use runs::{Run, run_len};
+pub use scalar::Scalar;
+pub use schema::{are_digits, has_base, is_true_word, resolve};
+pub use style::{Place, Style};
+pub use text::{behind_spaces, ends_line, is_blank, is_white, past_white, spaces_len, split_white};
+pub use tokens::{first_is, is_quoted, strip};
+pub use value::Value;

@@ -1,4 +1,0 @@
-use Rattle.yq_cut.proofs.rows.Rows.anchor.Goals as goal
-
-pub anchor-requires : goal.anchor-requires
-anchor-requires c = c.found.ensures.cuts

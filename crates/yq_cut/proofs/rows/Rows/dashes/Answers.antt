@@ -1,4 +1,0 @@
-use Rattle.yq_cut.proofs.rows.Rows.dashes.Goals as goal
-
-pub dashes-requires : goal.dashes-requires
-dashes-requires c = c.found.ensures.cuts

@@ -1,4 +1,0 @@
-use Rattle.yq_cut.proofs.rows.Rows.tail.Goals as goal
-
-pub tail-requires : goal.tail-requires
-tail-requires c = c.found.ensures.cuts

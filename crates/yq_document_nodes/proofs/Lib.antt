@@ -1,3 +1,0 @@
-pub mod KindLaws
-pub mod WalkLaws
-mod RestLaws

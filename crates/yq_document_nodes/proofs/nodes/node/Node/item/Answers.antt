@@ -1,9 +1,0 @@
-use Rattle.std.proofs.Common.{ap, ◌∙◌}
-use Rattle.yq_flow_scalars.specs.Paths.{Nth}
-use Rattle.yq_lines.specs.Labelled.{labelled_at}
-use Rattle.yq_document_nodes.specs.Nodes.{node_of}
-use Rattle.yq_document_nodes.proofs.WalkLaws.{child_node}
-use Rattle.yq_document_nodes.proofs.nodes.node.Node.item.Goals as goal
-
-pub returns-clause-node : goal.returns-clause-node
-returns-clause-node c = child_node (Nth c.args.index) (node_of c.args.self.now) c.rest_item.result (c.rest_item.ensures ∙ ap (labelled_at (Nth c.args.index)) c.rest.ensures)

@@ -1,0 +1,187 @@
+-- One item or entry more behind a line that has a break.
+use Rattle.std.proofs.Common.{◌≡◌, ℕ, suc, ◌≤◌, true, false, List, [], ◌∷◌, ◌++◌, length, Option, Some, refl, sym, ap, ◌∙◌, subst, append_assoc, append-nil, replicate}
+use Rattle.std.proofs.lemmas.Bool.{false≢true}
+use Rattle.yq_core.specs.BlockWritten.{break_text}
+use Rattle.yq_text.specs.Limit.{text_limit}
+use Rattle.yq_core.specs.Paths.{Step}
+use Rattle.yq_core.specs.Tree.{Node}
+use Rattle.yq_core.specs.Text.{is_line}
+use Rattle.yq_outline.specs.Comments as comments
+use Rattle.yq_row_table.specs.Exchange.{asked_behind}
+use Rattle.yq_row_table.specs.Grammar.{unlimited, no_rows}
+use Rattle.yq_row_table.proofs.PlainEnds.{AtLine}
+use Rattle.yq_row_table.specs.Rows.{Content, Nothing, Inline, Block, Row, rows_text, Part, Cut, cut_text}
+use Rattle.yq_row_table.specs.Seams.{is_block, tail_behind, ends_in_block, ends_in_line}
+use Rattle.yq_row_table.specs.Splices.{first_gap, behind_first}
+use Rattle.yq_row_table.proofs.seams.SeamLaws.{rows_text-append}
+use Rattle.yq_row_table.proofs.splices.SpliceTexts.{own_gap, own_end, first_text}
+use Rattle.yq_lookup.specs.CollectionEnds.{CollectionEnd, is_broken}
+use Rattle.yq_documents.specs.Documents.{lead_of}
+use Rattle.yq_outline.specs.Lines.{lines_from, lines_of_rows}
+use Rattle.yq_documents.specs.Ready.{begins_no_node}
+use Rattle.yq_documents.specs.Reading.{read_at}
+use Rattle.yq_lookup.specs.RowPaths.{IsReadable}
+use Rattle.yq_edits.specs.declared.layout.Layout.{Layout}
+use Rattle.yq_edits.specs.Alone.{sole_collection}
+use Rattle.yq_edits.specs.BlockRows.{node_rows}
+use Rattle.yq_edits.specs.BlockText.{block_value}
+use Rattle.yq_edits.proofs.BlockEndLaws.{line_ends}
+use Rattle.yq_edits.proofs.TextLaws.{value_spelled}
+use Rattle.yq_edits.specs.Appends.{TakesRows, inserted}
+use Rattle.yq_edits.specs.Changed.{put_document}
+use Rattle.yq_edits.specs.CollectionPlaces.{IsCollectionEnd}
+use Rattle.yq_edits.specs.DocumentRows.{behind_document}
+use Rattle.yq_edits.specs.Rooms.{is_block_root}
+use Rattle.yq_edits.proofs.AppendLaws.{block_appended}
+use Rattle.yq_edits.proofs.EndedRowLaws.{rows_then}
+use Rattle.yq_edits.proofs.TextPieceLaws.{pieces_joined}
+use Rattle.yq_edits.proofs.BlockLineLaws.{break_uncommented}
+use Rattle.yq_semantics.specs.Operations.{append}
+use Rattle.yq_text.specs.Script.{Segment, new_text}
+use Rattle.yq_row_table.specs.Items.{rows_items}
+use Rattle.yq_edits.specs.Local.{IsLocal, IsLocalTo}
+use Rattle.yq_edits.proofs.ItemsLocal.{first_nothing, last_nothing}
+use Rattle.yq_edits.proofs.LocalLaws.{cut_known, rows_local}
+use Rattle.yq_edits.specs.Layouts.{layout_of}
+use Rattle.yq_edits.specs.EntryEdits.{entry_lines}
+use Rattle.yq_edits.specs.ReadsAfter.{ReadsAfter}
+use Rattle.yq_edits.proofs.CommentPieceLaws.{break_piece}
+use Rattle.yq_edits.proofs.SegmentLaws.{segments_readable}
+use Rattle.yq_edits.proofs.AppendPlaces.{IsAppendPlace, put_segments, old_is, p, there, e, allows_there, kept_pieces, IsAsked, entry, written, new_rows_are, entry_piece, filled, finished}
+
+last_closed : (others : List Row) (r : Row) → is_broken r.content ≡ true → ends_in_block (others ++ (r ∷ [])) ≡ false → ends_in_line (others ++ (r ∷ [])) ≡ true
+last_closed [] r e inside = last r.content e inside
+  where
+    last : (c : Content) → is_broken c ≡ true → is_block c ≡ false → is_line (tail_behind c) ≡ true
+    last (Nothing tail) e n = e
+    last (Inline space node tail) e n = e
+    last (Block space anchor block) e n = absurd (false≢true (sym n))
+last_closed (x ∷ []) r e inside = last_closed [] r e inside
+last_closed (x ∷ (y ∷ others)) r e inside = last_closed (y ∷ others) r e inside
+
+-- ---- rows in front stay
+
+some_rows : (others : List Row) (r : Row) (more : List Row) → no_rows ((others ++ (r ∷ [])) ++ more) ≡ false
+some_rows [] r more = refl
+some_rows (y ∷ others) r more = refl
+
+first_same : (others : List Row) (r : Row) (a b : List Row) (f g : List ℕ) → first_gap ((others ++ (r ∷ [])) ++ a) f ≡ first_gap ((others ++ (r ∷ [])) ++ b) g
+first_same [] r a b f g = refl
+first_same (y ∷ others) r a b f g = refl
+
+row_begins : (r : Row) (a b : List Row) → begins_no_node (lines_of_rows (r ∷ a)) ≡ begins_no_node (lines_of_rows (r ∷ b))
+row_begins r a b = go r.dashes
+  where
+    go : (ns : List ℕ) → begins_no_node (lines_from (comments.head_comment r.gap) r.column ns r.mark r.content ++ lines_of_rows a) ≡ begins_no_node (lines_from (comments.head_comment r.gap) r.column ns r.mark r.content ++ lines_of_rows b)
+    go [] = refl
+    go (n ∷ ns) = refl
+
+begins_same : (others : List Row) (r : Row) (a b : List Row) → begins_no_node (lines_of_rows ((others ++ (r ∷ [])) ++ a)) ≡ begins_no_node (lines_of_rows ((others ++ (r ∷ [])) ++ b))
+begins_same [] r a b = row_begins r a b
+begins_same (y ∷ others) r a b = row_begins y ((others ++ (r ∷ [])) ++ a) ((others ++ (r ∷ [])) ++ b)
+
+-- ---- behind a line that has a break
+
+module _ (doc : ℕ) (steps : List Step) (key : Option (List ℕ)) (v : Node) (c : Cut) (x : CollectionEnd) (read : read_at (cut_text c) ≡ Some c) (at : IsAppendPlace doc steps c x) (g : IsAsked steps key v (p doc steps c x read at)) where
+  abbrev l : Layout
+  l = layout_of doc c
+
+  abbrev rest : List ℕ
+  rest = behind_document doc c
+
+  abbrev part : Part
+  part = p doc steps c x read at
+
+  abbrev place : IsCollectionEnd c doc (p doc steps c x read at) steps x
+  place = e doc steps c x read at
+
+  abbrev new : List Row
+  new = node_rows l x.column (break_text l.br) (sole_collection key v)
+
+  abbrev lines : List ℕ
+  lines = entry_lines l x.column key v
+
+  abbrev q : Part
+  q = inserted place.front new place.back part
+
+  q_rows : q.rows ≡ place.front ++ (new ++ place.back)
+  q_rows = ap (λ rs. place.front ++ (new ++ rs)) (own_gap place.back part.end)
+
+  new_is : cut_text (put_document doc q c) ≡ new_text (put_segments x (lines ++ break_text l.br))
+  new_is =
+      let w = filled doc steps key v c x read at g in
+      place.new_text q
+      ∙ (ap (λ z. place.start ++ z)
+      ((λ i. rows_text (q_rows i) (own_end place.back part.end i ++ rest))
+      ∙ (rows_text-append place.front (new ++ place.back) (part.end ++ rest) ∙ (rows_then place.front (rows_text (new ++ place.back) (part.end ++ rest)) ∙ ap (λ z. rows_text place.front [] ++ z) (rows_text-append new place.back (part.end ++ rest)))))
+      ∙ (sym (append_assoc place.start (rows_text place.front []) (rows_text new (rows_text place.back (part.end ++ rest))))
+      ∙ ((λ i. sym place.before_is i ++ rows_text new (sym place.behind_is i))
+      ∙ ap (λ z. x.before ++ z)
+      (value_spelled (sole_collection key v) l x.column (break_text l.br) x.behind w.filled w.value
+      ∙ (sym (append_assoc (replicate x.column 32) (block_value l x.column (sole_collection key v)) (break_text l.br ++ x.behind))
+      ∙ (sym (append_assoc lines (break_text l.br) x.behind) ∙ ap (λ z. (lines ++ break_text l.br) ++ z) (sym (append-nil x.behind))))))))
+
+  readable : length (new_text (put_segments x (lines ++ break_text l.br))) ≤ text_limit → IsReadable (cut_text (put_document doc q c))
+  readable size =
+      let kept = kept_pieces doc steps c x read at in
+      subst IsReadable (sym new_is) (segments_readable (put_segments x (lines ++ break_text l.br)) (kept.0, (pieces_joined lines (break_text l.br) (entry_piece doc steps key v c x read at g) (break_piece l.br), (kept.1, tt))) size)
+
+  takes : x.broken ≡ true → TakesRows part place.front new place.back rest
+  takes broken =
+      let h = allows_there doc steps c x read at in
+      record {
+        rows_are = place.rows_are;
+        new_are = new_rows_are doc steps key v c x read at g (break_text l.br) (first_gap place.back part.end) (behind_first place.back part.end rest) (asked_behind unlimited place.front)
+            (line_ends l.br x.column (first_gap place.back part.end ++ behind_first place.back part.end rest) (subst (AtLine (suc x.column)) (place.behind_is ∙ first_text place.back part.end rest) h.line)) h.allowed h.gap;
+        closed = λ none_back none_block. ap ends_in_line place.front_is ∙ last_closed place.others place.last (sym place.broken ∙ broken) (ap ends_in_block (sym place.front_is) ∙ none_block);
+      }
+
+  p_split : part.rows ≡ (place.others ++ (place.last ∷ [])) ++ place.back
+  p_split = place.rows_are ∙ ap (λ rs. rs ++ place.back) place.front_is
+
+  q_split : q.rows ≡ (place.others ++ (place.last ∷ [])) ++ (new ++ place.back)
+  q_split = q_rows ∙ ap (λ rs. rs ++ (new ++ place.back)) place.front_is
+
+  same_block : is_block_root q ≡ is_block_root part
+  same_block = ap (λ rs. begins_no_node (lines_of_rows rs)) q_split ∙ (begins_same place.others place.last (new ++ place.back) place.back ∙ ap (λ rs. begins_no_node (lines_of_rows rs)) (sym p_split))
+
+  same_lead : lead_of q ≡ lead_of part
+  same_lead =
+      ap (λ rs. comments.head_comment (first_gap rs q.end)) q_split
+      ∙ (ap comments.head_comment (first_same place.others place.last (new ++ place.back) place.back q.end part.end) ∙ ap (λ rs. comments.head_comment (first_gap rs part.end)) (sym p_split))
+
+  pub inside_both : x.broken ≡ true → length (new_text (put_segments x (lines ++ break_text l.br))) ≤ text_limit →
+      ReadsAfter (append doc steps key v) c (new_text (put_segments x (lines ++ break_text l.br))) × IsLocalTo (put_segments x (lines ++ break_text l.br)) c
+  inside_both broken size =
+      let uncommented = break_uncommented l.br in
+      let w = entry doc steps key v c x read at g (break_text l.br) uncommented in
+      let changed =
+      block_appended (cut_text c) c doc part steps place.h place.front place.back new w.deep.0 w.line w.under (there doc steps c x read at) place.collection place.count
+      (written doc steps key v c x read at g (break_text l.br) uncommented) (takes broken) (readable size) in
+      let ss : List Segment = put_segments x (lines ++ break_text l.br) in
+      let before_is : x.before ≡ (place.start ++ rows_text place.front []) ++ [] = place.before_is ∙ sym (append-nil (place.start ++ rows_text place.front [])) in
+      let local : IsLocal ss c (put_document doc q c) =
+      rows_local ss c doc q (record {
+        p = part;
+        there = (there doc steps c x read at).there;
+        start = place.start;
+        put = place.new_text;
+        front = place.front;
+        gone = [];
+        come = new;
+        back = place.back;
+        rows_are = place.rows_are;
+        come_are = q_rows;
+        end_is = own_end place.back part.end;
+        lead = [];
+        trail = [];
+        before_is = append-nil x.before ∙ before_is;
+        behind_is = append-nil x.behind ∙ place.behind_is;
+        puts = refl;
+        old_is = ap (λ z. x.before ++ z) (append-nil x.behind) ∙ old_is doc steps c x read at;
+        new_is = sym new_is;
+      }) refl (first_nothing (rows_items new [])) refl (last_nothing (rows_items new [])) in (
+        subst (ReadsAfter (append doc steps key v) c) new_is
+            (finished doc steps key v c x read at g q (break_text l.br) uncommented changed same_lead same_block (ap no_rows q_split ∙ some_rows place.others place.last (new ++ place.back))),
+        cut_known ss c (put_document doc q c) changed.read new_is local,
+      )

@@ -1,0 +1,216 @@
+-- Where the block collection stands that is the root of a document.
+use Rattle.std.proofs.Common.{◌≡◌, ◌⊎◌, inl, inr, ℕ, List, [], ◌∷◌, ◌++◌, replicate, Some, None, true, false, refl, sym, ap, ◌∙◌, subst, append_assoc, append-nil}
+use Rattle.std.proofs.lemmas.Bool.{false≢true}
+use Rattle.yq_core.specs.declared.block_types.Break.TheVariants as breaks
+use Rattle.yq_core.specs.Text.{separates}
+use Rattle.yq_core.proofs.BlockPieceLaws.{IsLf, append_lf}
+use Rattle.yq_outline.specs.Comments.{head_comment, line_comment}
+use Rattle.yq_row_table.specs.Gap.{IsGap}
+use Rattle.yq_row_table.specs.Grammar.{IsCut, IsTail, unlimited, AreRows, no_rows, ends_part}
+use Rattle.yq_row_table.specs.Rows.{Row, behind_gap, behind_indent, rows_text, Cut, cut_text}
+use Rattle.yq_row_table.specs.Splices.{first_gap}
+use Rattle.yq_row_table.proofs.NothingLaws.{gap_other}
+use Rattle.yq_row_table.proofs.seams.FrontSeams.{behind_row_some}
+use Rattle.yq_row_table.proofs.splices.PartPlaces.{part_ends}
+use Rattle.yq_outline.specs.Lines.{lines_of_rows}
+use Rattle.yq_documents.specs.Reading.{read_at}
+use Rattle.yq_documents.specs.Ready.{begins_no_node}
+use Rattle.yq_lookup.specs.PlacedRows.{PlacedPart, placed_document}
+use Rattle.yq_lookup.specs.PrintedLines.{last_break, less_break}
+use Rattle.yq_lookup.specs.Standings.{BlockRoot, is_alone}
+use Rattle.yq_lookup.proofs.CommentPieceLaws.{Ended, gap_end}
+use Rattle.yq_lookup.proofs.PrintedTexts.{less_is}
+use Rattle.yq_lookup.proofs.RemovalLines.{LineSeam, LiesIn, lies_in, seam_join}
+use Rattle.yq_edits.specs.DocumentRows.{IsDocumentPart}
+use Rattle.yq_documents.specs.PartNumbers.{part_number}
+use Rattle.yq_edits.specs.PlacedParts.{StandsAt}
+use Rattle.yq_edits.specs.TextPieces.{IsPiece}
+use Rattle.yq_edits.proofs.AppendPlaceLaws.{rows_behind}
+use Rattle.yq_edits.proofs.EndedRowLaws.{rows_ended, rows_then}
+use Rattle.yq_edits.proofs.FirstBreakLaws.{IsOneBreak, break_tail, break_apart, break_bare}
+use Rattle.yq_edits.proofs.PartLaws.{document_known}
+use Rattle.yq_edits.proofs.PlacedPartLaws.{document_stands_at}
+use Rattle.yq_edits.proofs.TextPieceLaws.{pieces_joined, text_is_piece}
+use Rattle.yq_edits.proofs.RemovalPieceLaws.{spaces_piece, seam_pieces}
+use Rattle.yq_edits.proofs.AppendAtEnd.{nothing_tail}
+use Rattle.yq_edits.proofs.AppendEntryLaws.{none_uncommented}
+use Rattle.yq_edits.proofs.CommentPieceLaws.{nothing, break_piece}
+use Rattle.yq_edits.proofs.LastRows.{lf_end}
+use Rattle.yq_edit_laws.proofs.RootReadLaws.{TakesValue}
+use Rattle.yq_edit_laws.proofs.RootRows.{HasRoom}
+use Rattle.yq_edit_laws.proofs.StandingRoots.{HasRoot}
+use Rattle.yq_edit_laws.proofs.FirstRows.{ends_with, row_entry, row_some, some_length}
+
+-- ---- the rows of the root
+
+-- A block collection as the root of document n: its part, its first row, and the text round it.
+pub record IsBlockRoot (n : ℕ) (c : Cut) (w : BlockRoot) : Type 0 where
+  pub d : PlacedPart
+  pub placed : placed_document n c ≡ Some d
+  pub row : Row
+  pub others : List Row
+  pub rows_are : d.part.rows ≡ row ∷ others
+  pub block : begins_no_node (lines_of_rows d.part.rows) ≡ true
+  pub ends : (IsOneBreak w.last) ⊎ ((w.last ≡ []) × (d.part.end ++ d.behind ≡ []))
+  pub before_is : w.before ≡ d.before ++ (row.gap ++ replicate row.column 32)
+  pub behind_is : w.behind ≡ d.part.end ++ d.behind
+  pub column_is : w.column ≡ row.column
+  pub whole : w.before ++ (w.old ++ (w.last ++ w.behind)) ≡ cut_text c
+
+-- the last of rows
+last_row : (r : Row) (rs : List Row) → (front : List Row) × (z : Row) × (r ∷ rs ≡ front ++ (z ∷ []))
+last_row r [] = ([], r, refl)
+last_row r (q ∷ rs) = let x = last_row q rs in (r ∷ x.0, x.1, ap (λ xs. r ∷ xs) x.2)
+
+module _ (d : PlacedPart) (r : Row) (rs : List Row) (are : AreRows unlimited (r ∷ rs) d.part.end d.behind) where
+  abbrev own : List ℕ
+  own = behind_indent r (rows_text rs [])
+
+  rows_split : (more : List ℕ) → rows_text (r ∷ rs) more ≡ (r.gap ++ replicate r.column 32) ++ (behind_indent r (rows_text rs []) ++ more)
+  rows_split more =
+      rows_then (r ∷ rs) more
+      ∙ (ap (λ t. t ++ more) (sym (append_assoc r.gap (replicate r.column 32) (behind_indent r (rows_text rs [])))) ∙ append_assoc (r.gap ++ replicate r.column 32) (behind_indent r (rows_text rs [])) more)
+
+  all_ended : Ended (rows_text (r ∷ rs) []) (d.part.end ++ d.behind)
+  all_ended =
+      let z = last_row r rs in
+      subst (λ xs. Ended (rows_text xs []) (d.part.end ++ d.behind)) (sym z.2) (rows_ended unlimited z.0 z.1 [] d.part.end d.behind (subst (λ xs. AreRows unlimited xs d.part.end d.behind) z.2 are))
+
+  own_ended : is_alone r ≡ false → Ended (behind_indent r (rows_text rs [])) (d.part.end ++ d.behind)
+  own_ended alone = go all_ended
+    where
+      go : Ended (rows_text (r ∷ rs) []) (d.part.end ++ d.behind) → Ended (behind_indent r (rows_text rs [])) (d.part.end ++ d.behind)
+      go (inl lf) =
+          inl (lf_end (r.gap ++ replicate r.column 32) own (subst IsLf (sym (append_assoc r.gap (replicate r.column 32) (behind_indent r (rows_text rs [])))) lf) (some_length own (row_some r _ (rows_text rs []) are.0.mark alone)))
+      go (inr none) = inr none
+
+pub block_root_at : (n : ℕ) (c : Cut) (w : BlockRoot) → read_at (cut_text c) ≡ Some c → HasRoot n c w → IsBlockRoot n c w
+block_root_at n c w read h = subst (IsBlockRoot n c) h.is (record {
+  d = h.d;
+  placed = h.placed;
+  row = h.row;
+  others = h.others;
+  rows_are = h.rows_are;
+  block = ap (λ xs. begins_no_node (lines_of_rows xs)) h.rows_are ∙ row_entry h.row h.others h.block;
+  ends = ends_with t more (own_ended h.d h.row h.others are h.block);
+  before_is = refl;
+  behind_is = refl;
+  column_is = refl;
+  whole = ap (λ u. (h.d.before ++ front) ++ u) (sym (append_assoc (less_break t) (last_break t) more) ∙ ap (λ u. u ++ more) (less_is t))
+      ∙ (append_assoc h.d.before front (t ++ more)
+      ∙ (ap (λ u. h.d.before ++ u) (sym (rows_split h.d h.row h.others are more)) ∙ (ap (λ xs. h.d.before ++ rows_text xs more) (sym h.rows_are) ∙ sym stands.text)));
+})
+  where
+    t : List ℕ
+    t = behind_indent h.row (rows_text h.others [])
+
+    more : List ℕ
+    more = h.d.part.end ++ h.d.behind
+
+    front : List ℕ
+    front = h.row.gap ++ replicate h.row.column 32
+
+    stands : StandsAt c n h.d
+    stands = document_stands_at c n h.d h.placed
+
+    cut : IsCut (cut_text c) c
+    cut = (document_known (cut_text c) c n h.d.part (record { read = read; there = stands.there })).cut
+
+    lies : LiesIn h.d
+    lies = lies_in n c h.d cut.parts h.placed
+
+    are : AreRows unlimited (h.row ∷ h.others) h.d.part.end h.d.behind
+    are = subst (λ xs. AreRows unlimited xs h.d.part.end h.d.behind) h.rows_are lies.rows
+
+-- ---- a value may come there
+
+end_seam : (a b c : List ℕ) → Ended b c → LineSeam (a ++ b) c
+end_seam a b c (inl lf) = inr (inl (append_lf a b lf))
+end_seam a b c (inr e) = inr (inr e)
+
+one_break_piece : (t : List ℕ) → IsOneBreak t → IsPiece t
+one_break_piece t (inl e) = subst IsPiece (sym e) (break_piece breaks.Lf)
+one_break_piece t (inr e) = subst IsPiece (sym e) (break_piece breaks.CrLf)
+
+module _ (n : ℕ) (c : Cut) (w : BlockRoot) (read : read_at (cut_text c) ≡ Some c) (h : IsBlockRoot n c w) where
+  stands : StandsAt c n h.d
+  stands = document_stands_at c n h.d h.placed
+
+  there : IsDocumentPart (cut_text c) c n h.d.part
+  there = record { read = read; there = stands.there }
+
+  cut : IsCut (cut_text c) c
+  cut = (document_known (cut_text c) c n h.d.part there).cut
+
+  lies : LiesIn h.d
+  lies = lies_in n c h.d cut.parts h.placed
+
+  abbrev more : List ℕ
+  more = h.d.part.end ++ h.d.behind
+
+  abbrev behind_row : List ℕ
+  behind_row = behind_gap h.row (rows_text h.others (h.d.part.end ++ h.d.behind))
+
+  all : AreRows unlimited (h.row ∷ h.others) h.d.part.end h.d.behind
+  all = subst (λ xs. AreRows unlimited xs h.d.part.end h.d.behind) h.rows_are lies.rows
+
+  gap_is : IsGap h.d.part.end h.d.behind
+  gap_is = rows_behind (h.row ∷ h.others) [] unlimited h.d.part.end h.d.behind (subst (λ xs. AreRows unlimited xs h.d.part.end h.d.behind) (sym (append-nil (h.row ∷ h.others))) all)
+
+  room : HasRoom h.row.gap w.last h.d.part.end h.d.behind
+  room = record {
+    front = λ x some. gap_other h.row.gap behind_row x (behind_row_some unlimited h.row (rows_text h.others more) all.0) all.0.gap;
+    tail = tail h.ends;
+    apart = apart h.ends;
+    uncommented = uncommented h.ends;
+    back_is = gap_is;
+    ends = subst (λ t. ends_part t ≡ true) stands.behind (part_ends c (part_number n c) true cut.parts);
+  }
+    where
+      tail : (IsOneBreak w.last) ⊎ ((w.last ≡ []) × (h.d.part.end ++ h.d.behind ≡ [])) → IsTail w.last (h.d.part.end ++ h.d.behind)
+      tail (inl b) = break_tail w.last more b
+      tail (inr e) = subst (λ x. IsTail x more) (sym e.0) (subst (IsTail []) (sym e.1) nothing_tail)
+
+      apart : (IsOneBreak w.last) ⊎ ((w.last ≡ []) × (h.d.part.end ++ h.d.behind ≡ [])) → separates (w.last ++ (h.d.part.end ++ h.d.behind)) ≡ true
+      apart (inl b) = break_apart w.last more b
+      apart (inr e) = (λ i. separates (e.0 i ++ e.1 i))
+
+      uncommented : (IsOneBreak w.last) ⊎ ((w.last ≡ []) × (h.d.part.end ++ h.d.behind ≡ [])) → line_comment w.last ≡ None
+      uncommented (inl b) = break_bare w.last b
+      uncommented (inr e) = ap line_comment e.0 ∙ none_uncommented
+
+  pub takes_value : TakesValue n c h.d h.row.gap w.last h.d.part.end
+  takes_value = record {
+    stands = stands;
+    old = there;
+    block = h.block;
+    room = room;
+    lead = ap (λ xs. head_comment (first_gap xs h.d.part.end)) (sym h.rows_are);
+    starts = λ t e. absurd (false≢true (ap no_rows (sym h.rows_are) ∙ e));
+  }
+
+  -- the text round it is made of pieces
+  whole_rows : cut_text c ≡ (h.d.before ++ h.row.gap) ++ behind_row
+  whole_rows = stands.text ∙ (ap (λ xs. h.d.before ++ rows_text xs more) h.rows_are ∙ sym (append_assoc h.d.before h.row.gap behind_row))
+
+  pub before_piece : IsPiece w.before
+  before_piece =
+      let seam : LineSeam h.d.before (h.row.gap ++ behind_row) = subst (λ xs. LineSeam h.d.before (rows_text xs more)) h.rows_are lies.seam in
+      let both = seam_pieces (h.d.before ++ h.row.gap) behind_row (seam_join h.d.before h.row.gap behind_row seam (gap_end h.row.gap behind_row all.0.gap)) (subst IsPiece whole_rows (text_is_piece c read)) in
+      subst IsPiece (sym (h.before_is ∙ sym (append_assoc h.d.before h.row.gap (replicate h.row.column 32)))) (pieces_joined (h.d.before ++ h.row.gap) (replicate h.row.column 32) both.0 (spaces_piece h.row.column))
+
+  pub last_piece : IsPiece w.last
+  last_piece = go h.ends
+    where
+      go : (IsOneBreak w.last) ⊎ ((w.last ≡ []) × (h.d.part.end ++ h.d.behind ≡ [])) → IsPiece w.last
+      go (inl b) = one_break_piece w.last b
+      go (inr e) = subst IsPiece (sym e.0) nothing
+
+  more_piece : IsPiece (h.d.part.end ++ h.d.behind)
+  more_piece =
+      let own : List ℕ = rows_text (h.row ∷ h.others) [] in
+      let text : cut_text c ≡ h.d.before ++ (own ++ more) = stands.text ∙ (ap (λ xs. h.d.before ++ rows_text xs more) h.rows_are ∙ ap (λ t. h.d.before ++ t) (rows_then (h.row ∷ h.others) more)) in
+      (seam_pieces (h.d.before ++ own) more (end_seam h.d.before own more (all_ended h.d h.row h.others all)) (subst IsPiece (text ∙ sym (append_assoc h.d.before own more)) (text_is_piece c read))).1
+
+  pub behind_piece : IsPiece w.behind
+  behind_piece = subst IsPiece (sym h.behind_is) more_piece

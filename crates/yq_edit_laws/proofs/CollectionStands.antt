@@ -1,0 +1,209 @@
+-- A block collection that stands at a place, by its rows, and where it ends.
+use Rattle.std.proofs.Common.{inl, inr, ◌⊎◌, ◌≡◌, ℕ, suc, ◌+◌, ◌<◌, ◌≤◌, Bool, true, false, ◌&&◌, List, [], ◌∷◌, ◌++◌, length, take, Option, Some, None, option_and_then, refl, sym, ap, ◌∙◌, subst, arith, append_assoc, append-nil, length-append}
+use Rattle.std.proofs.lemmas.Bool.{cases_lt, false≢true}
+use Rattle.std.proofs.lemmas.Option.{same_Some}
+use Rattle.std.specs.List.{slice_get}
+use Rattle.std.specs.Option.{is_none}
+use Rattle.yq_core.specs.Paths.{Step}
+use Rattle.yq_core.specs.Text.{is_empty}
+use Rattle.yq_core.specs.Tree.{Node}
+use Rattle.yq_outline.specs.Comments.{head_comment}
+use Rattle.yq_outline.specs.Outline.{Line, Outline, end, row, flatten}
+use Rattle.yq_outline.specs.Places.{FoundLine, here, lines_after, lines_before}
+use Rattle.yq_outline.specs.Positions.{has_no_mark}
+use Rattle.yq_outline.proofs.Decides.{flatten-group}
+use Rattle.yq_row_table.specs.Grammar.{AreDashes, AreRows, IsRow, Limit, is_entry, unlimited}
+use Rattle.yq_row_table.specs.Rows as rows
+use Rattle.yq_row_table.specs.Rows.{Row, Part, Cut, behind_columns, cut_text, part_text, print_row, rows_text}
+use Rattle.yq_row_table.specs.View.{slices}
+use Rattle.yq_documents.specs.Documents.{document_parts}
+use Rattle.yq_outline.specs.Lines.{dash_line, head_of, lines_from, lines_of_rows, mark_line, line_mark, row_lines}
+use Rattle.yq_documents.specs.Reading.{part_outline}
+use Rattle.yq_lookup.specs.CollectionEnds.{CollectionEnd, is_broken}
+use Rattle.yq_lookup.specs.Standings.{RowsOfEntry, before_entry, behind_entry, is_alone}
+use Rattle.yq_lookup.proofs.FlowViewLaws.{before_under}
+use Rattle.yq_lookup.proofs.RowPathLaws.{found_lines}
+use Rattle.yq_lookup.proofs.UnderExchange.{lines_append}
+use Rattle.yq_outline.proofs.WalkLevels.{RowsAgree, IsLineOf, RowAgrees, line_in}
+use Rattle.yq_outline.proofs.WalkRows.{rows_agree}
+use Rattle.yq_edits.specs.Changed.{put_document}
+use Rattle.yq_edits.specs.CollectionPlaces.{BeginsAt, IsCollectionEnd}
+use Rattle.yq_edits.specs.DocumentRows.{behind_document}
+use Rattle.yq_edits.specs.Siblings.{HasEntries, IsEntry, lines_below, under_line}
+use Rattle.yq_edits.specs.StandingLaws.{StandsThere}
+use Rattle.yq_edits.proofs.EndedRowLaws.{row_there}
+use Rattle.yq_edits.proofs.LineLaws.{row_count}
+use Rattle.yq_edits.proofs.PartLaws.{document_known, part_rows}
+use Rattle.yq_edit_laws.proofs.CollectionRows.{get_behind, get_front, behind_front, row_agrees_in, columns_are, no_bare}
+use Rattle.yq_edits.proofs.CommentRowLaws.{rows_front}
+use Rattle.yq_edits.proofs.SamePlaceLaws.{put_own}
+
+-- ---- under a line
+
+module _ (n : ℕ) (s : Step) (ss : List Step) (c : Cut) (e : RowsOfEntry) (there : StandsThere n s ss c e) where
+  abbrev p : Part
+  p = there.part
+
+  abbrev f : FoundLine
+  f = there.found
+
+  abbrev behind : List Line
+  behind = flatten f.after ++ lines_after f.place
+
+  pub are : AreRows unlimited p.rows p.end (behind_document n c)
+  are = part_rows (cut_text c) c n p there.old (document_known (cut_text c) c n p there.old).cut
+
+  row_agrees : RowAgrees e.row
+  row_agrees = row_agrees_in e.front (e.under ++ e.back) e.row (subst RowsAgree there.rows_are (rows_agree unlimited p.rows p.end (behind_document n c) are))
+
+  -- the lines from that one on
+  lines_there : (i : ℕ) → slice_get (row_lines e.row ++ (lines_of_rows e.under ++ lines_of_rows e.back)) (e.line + i) ≡ slice_get (f.line ∷ (flatten f.under ++ behind)) i
+  lines_there i =
+      let rest : List Line = row_lines e.row ++ (lines_of_rows e.under ++ lines_of_rows e.back) in
+      let rows : lines_of_rows p.rows ≡ lines_of_rows e.front ++ rest =
+      ap lines_of_rows there.rows_are ∙ (lines_append e.front (e.row ∷ (e.under ++ e.back)) ∙ ap (λ ls. lines_of_rows e.front ++ (row_lines e.row ++ ls)) (lines_append e.under e.back)) in
+      let found : lines_of_rows p.rows ≡ lines_before f.place ++ (f.line ∷ (flatten f.under ++ behind)) = found_lines (lines_of_rows p.rows) s ss [] f there.is in
+      let same : length (lines_of_rows e.front) + (e.line + i) ≡ length (lines_before f.place) + i = omega (arith, there.number) in
+      sym (get_behind (lines_of_rows e.front) rest (e.line + i))
+      ∙ ((λ j. slice_get ((sym rows ∙ found) j) (same j)) ∙ get_behind (lines_before f.place) (f.line ∷ (flatten f.under ++ behind)) i)
+
+  -- where the key or dash has nothing behind it
+  pub headless_mark : e.line ≡ length e.row.dashes → is_empty (slices e.row).head ≡ true → f.line.head ≡ None
+  headless_mark last none =
+      let l = line_in (head_comment e.row.gap) e.row.column e.row.dashes e.row.mark e.row.content e.line (omega (arith, last)) in
+      let at : slice_get (row_lines e.row ++ (lines_of_rows e.under ++ lines_of_rows e.back)) e.line ≡ Some l.0 = get_front (row_lines e.row) (lines_of_rows e.under ++ lines_of_rows e.back) e.line l.0 l.1 in
+      let plain : e.line + 0 ≡ e.line = omega arith in
+      let same : l.0 ≡ f.line = same_Some _ _ (sym at ∙ (ap (slice_get (row_lines e.row ++ (lines_of_rows e.under ++ lines_of_rows e.back))) (sym plain) ∙ lines_there 0)) in
+      ap (λ (x : Line). x.head) (sym same) ∙ ((l.2.mark last).1 ∙ no_head (head_of e.row.content) (sym row_agrees.head ∙ none))
+    where
+      no_head : (o : Option Node) → is_none o ≡ true → o ≡ None
+      no_head None h = refl
+      no_head (Some m) h = absurd (false≢true h)
+
+  pub headless_dash : e.line < length e.row.dashes → f.line.head ≡ None
+  headless_dash less =
+      let l = line_in (head_comment e.row.gap) e.row.column e.row.dashes e.row.mark e.row.content e.line (omega (arith, less)) in
+      let at : slice_get (row_lines e.row ++ (lines_of_rows e.under ++ lines_of_rows e.back)) e.line ≡ Some l.0 = get_front (row_lines e.row) (lines_of_rows e.under ++ lines_of_rows e.back) e.line l.0 l.1 in
+      let plain : e.line + 0 ≡ e.line = omega arith in
+      let same : l.0 ≡ f.line = same_Some _ _ (sym at ∙ (ap (slice_get (row_lines e.row ++ (lines_of_rows e.under ++ lines_of_rows e.back))) (sym plain) ∙ lines_there 0)) in
+      ap (λ (x : Line). x.head) (sym same) ∙ (l.2.dash less).1
+
+  -- the first line under it
+  begins : (x : Line) (column : ℕ) → slice_get (row_lines e.row ++ (lines_of_rows e.under ++ lines_of_rows e.back)) (e.line + 1) ≡ Some x → IsEntry x.mark → x.column ≡ column → 0 < length (flatten f.under) → HasEntries f.under × BeginsAt column f.under
+  begins x column at entry col some = go f.under some (sym (lines_there 1) ∙ at)
+    where
+      go : (o : Outline) → 0 < length (flatten o) → slice_get (f.line ∷ (flatten o ++ behind)) 1 ≡ Some x → HasEntries o × BeginsAt column o
+      go end some h = absurd (omega (arith, some))
+      go (row l u a) some h = let same : l ≡ x = same_Some _ _ h in (subst IsEntry (ap (λ (y : Line). y.mark) (sym same)) entry, ap (λ (y : Line). y.column) same ∙ col)
+
+  -- a collection on the lines under the key or dash
+  pub begins_under : (r : Row) (rs : List Row) → e.line ≡ length e.row.dashes → e.under ≡ r ∷ rs → is_alone r ≡ false → HasEntries f.under × BeginsAt r.column f.under
+  begins_under r rs last under alone =
+      let l = line_in (head_comment r.gap) r.column r.dashes r.mark r.content 0 (omega arith) in
+      let count : length (row_lines e.row) ≡ e.line + 1 = omega (arith, row_count e.row, last) in
+      let at : slice_get (row_lines e.row ++ (lines_of_rows e.under ++ lines_of_rows e.back)) (e.line + 1) ≡ Some l.0 =
+      (λ i. slice_get (row_lines e.row ++ (lines_of_rows (under i) ++ lines_of_rows e.back)) (sym count i))
+      ∙ (let plain : length (row_lines e.row) ≡ length (row_lines e.row) + 0 = omega arith in ap (slice_get (row_lines e.row ++ (lines_of_rows (r ∷ rs) ++ lines_of_rows e.back))) plain
+      ∙ (get_behind (row_lines e.row) (lines_of_rows (r ∷ rs) ++ lines_of_rows e.back) 0 ∙ get_front (lines_of_rows (r ∷ rs)) (lines_of_rows e.back) 0 l.0 (get_front (row_lines r) (lines_of_rows rs) 0 l.0 l.1))) in
+      let some : 0 < length (flatten f.under) =
+      omega (arith, there.count, last, row_count e.row, length-append (row_lines e.row) (lines_of_rows e.under), ap (λ x. length (lines_of_rows x)) under, row_count r, length-append (row_lines r) (lines_of_rows rs)) in
+      begins l.0 r.column at (first_entry r.dashes r.mark l.0 alone l.2) (omega (arith, l.2.column_is)) some
+    where
+      first_entry : (ns : List ℕ) (m : rows.RowMark) (l : Line) → (is_empty ns && has_no_mark (line_mark m)) ≡ false → IsLineOf r.column ns m r.content 0 l → IsEntry l.mark
+      first_entry [] m l e is = subst IsEntry (sym (is.mark refl).0) (no_bare (line_mark m) e)
+      first_entry (k ∷ ns) m l e is = subst IsEntry (sym (is.dash (omega arith)).0) tt
+
+  -- a collection behind the dash
+  pub begins_behind : e.line < length e.row.dashes → HasEntries f.under × BeginsAt (behind_columns e.row.column (take (suc e.line) e.row.dashes)) f.under
+  begins_behind less =
+      let l = line_in (head_comment e.row.gap) e.row.column e.row.dashes e.row.mark e.row.content (suc e.line) (omega (arith, less)) in
+      let next : e.line + 1 ≡ suc e.line = omega arith in
+      let at : slice_get (row_lines e.row ++ (lines_of_rows e.under ++ lines_of_rows e.back)) (e.line + 1) ≡ Some l.0 =
+      ap (slice_get (row_lines e.row ++ (lines_of_rows e.under ++ lines_of_rows e.back))) next ∙ get_front (row_lines e.row) (lines_of_rows e.under ++ lines_of_rows e.back) (suc e.line) l.0 l.1 in
+      let some : 0 < length (flatten f.under) = omega (arith, there.count, less, row_count e.row, length-append (row_lines e.row) (lines_of_rows e.under)) in
+      begins l.0 (behind_columns e.row.column (take (suc e.line) e.row.dashes)) at (entry l.0 l.2) (l.2.column_is ∙ sym (columns_are e.row.column (take (suc e.line) e.row.dashes))) some
+    where
+      marked : (ns : List ℕ) (m : rows.RowMark) → 0 < length ns → AreDashes ns m → is_entry m ≡ true
+      marked [] m some h = absurd (omega (arith, some))
+      marked (k ∷ ns) m some h = h.1
+
+      entry_mark : (m : rows.RowMark) → is_entry m ≡ true → IsEntry (line_mark m)
+      entry_mark rows.Bare h = absurd (false≢true h)
+      entry_mark rows.Dash h = tt
+      entry_mark (rows.Key key colon) h = tt
+
+      row_is : (l : Limit) × IsRow l e.row (rows_text (e.under ++ e.back) (p.end ++ behind_document n c))
+      row_is = row_there unlimited e.front e.row (e.under ++ e.back) p.end (behind_document n c) (subst (λ rs. AreRows unlimited rs p.end (behind_document n c)) there.rows_are are)
+
+      entry : (l : Line) → IsLineOf e.row.column e.row.dashes e.row.mark e.row.content (suc e.line) l → IsEntry l.mark
+      entry l is = go (cases_lt (suc e.line) (length e.row.dashes))
+        where
+          go : (suc e.line < length e.row.dashes) ⊎ (length e.row.dashes ≤ suc e.line) → IsEntry l.mark
+          go (inl more) = subst IsEntry (sym (is.dash more).0) tt
+          go (inr past) = subst IsEntry (sym (is.mark (omega (arith, past, less))).0) (entry_mark e.row.mark (marked e.row.dashes e.row.mark (omega (arith, less)) row_is.1.dashes))
+
+  -- its end
+  abbrev pub end_at : ℕ → Bool → CollectionEnd
+  end_at column broken = record { column = column; before = before_entry e ++ print_row e.row (rows_text e.under []); broken = broken; behind = behind_entry e }
+
+  pub ends_there : (column : ℕ) (broken : Bool) → f.line.head ≡ None → HasEntries f.under × BeginsAt column f.under → broken ≡ is_broken (behind_front e.front e.row e.under).last.content → IsCollectionEnd c n p (s ∷ ss) (end_at column broken)
+  ends_there column broken none begin last =
+      let h = behind_front e.front e.row e.under in
+      let above : length (lines_before (under_line f).place) ≡ length (lines_before f.place) + 1 = ap length (before_under f.place f.line f.after) ∙ length-append (lines_before f.place) (f.line ∷ []) in
+      record {
+        h = under_line f;
+        collection = record {
+          place_is = ap (λ o. option_and_then (λ z. lines_below z.0.line.head z.1 z.0) o) there.is ∙ ap (λ m. lines_below m [] f) none;
+          block = begin.0;
+        };
+        first = begin.1;
+        front = e.front ++ (e.row ∷ e.under);
+        back = e.back;
+        rows_are = there.rows_are ∙ sym (append_assoc e.front (e.row ∷ e.under) e.back);
+        others = h.others;
+        last = h.last;
+        front_is = h.is;
+        broken = last;
+        count = omega (arith, ap length (lines_append e.front (e.row ∷ e.under)), length-append (lines_of_rows e.front) (lines_of_rows (e.row ∷ e.under)), there.number, there.count, above);
+        start = e.start;
+        before_is = append_assoc e.start (rows_text e.front []) (print_row e.row (rows_text e.under [])) ∙ ap (λ t. e.start ++ t) (sym (rows_front e.front (e.row ∷ e.under) []));
+        behind_is = λ i. rows_text e.back (there.end_is i ++ there.behind_is i);
+        old_text = sym (ap cut_text (put_own n c p there.old.there)) ∙ there.put p;
+        new_text = there.put;
+      }
+
+-- ---- at the root
+
+pub root_ends : (n : ℕ) (c : Cut) (p : Part) (start : List ℕ) (r : Row) (rs : List Row) (broken : Bool) → slice_get (document_parts c) n ≡ Some p → p.rows ≡ r ∷ rs → is_alone r ≡ false →
+    ((q : Part) → cut_text (put_document n q c) ≡ start ++ part_text q (behind_document n c)) → broken ≡ is_broken (behind_front [] r rs).last.content →
+    IsCollectionEnd c n p [] (record { column = r.column; before = start ++ rows_text p.rows []; broken = broken; behind = p.end ++ behind_document n c })
+root_ends n c part start r rs broken at are_rows alone put last =
+    let h = behind_front [] r rs in
+    let begin = begins (part_outline part) (flatten-group (lines_of_rows part.rows) ∙ ap lines_of_rows are_rows) in
+    record {
+      h = record { place = here; above = 0; anchor = None; lines = part_outline part };
+      collection = record { place_is = refl; block = begin.0 };
+      first = begin.1;
+      front = part.rows;
+      back = [];
+      rows_are = sym (append-nil part.rows);
+      others = h.others;
+      last = h.last;
+      front_is = are_rows ∙ h.is;
+      broken = last;
+      count = omega (arith, ap length (flatten-group (lines_of_rows part.rows)));
+      start = start;
+      before_is = refl;
+      behind_is = refl;
+      old_text = sym (ap cut_text (put_own n c part at)) ∙ put part;
+      new_text = put;
+    }
+  where
+    first : (above : List (List ℕ)) (column : ℕ) (ns : List ℕ) (m : rows.RowMark) (x : rows.Content) (more : List Line) → (is_empty ns && has_no_mark (line_mark m)) ≡ false → (o : Outline) → flatten o ≡ lines_from above column ns m x ++ more → HasEntries o × BeginsAt column o
+    first above column [] m x more e end is = absurd (cc)
+    first above column (k ∷ ns) m x more e end is = absurd (cc)
+    first above column [] m x more e (row l u a) is = let same : l ≡ mark_line above column m x = cc in (subst IsEntry (ap (λ (y : Line). y.mark) (sym same)) (no_bare (line_mark m) e), ap (λ (y : Line). y.column) same)
+    first above column (k ∷ ns) m x more e (row l u a) is = let same : l ≡ dash_line above column = cc in (subst IsEntry (ap (λ (y : Line). y.mark) (sym same)) tt, ap (λ (y : Line). y.column) same)
+
+    begins : (o : Outline) → flatten o ≡ lines_of_rows (r ∷ rs) → HasEntries o × BeginsAt r.column o
+    begins o is = first (head_comment r.gap) r.column r.dashes r.mark r.content (lines_of_rows rs) alone o is

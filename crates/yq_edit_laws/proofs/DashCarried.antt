@@ -1,0 +1,214 @@
+-- A value behind a dash, in the place of the compact collection that begins there.
+use Rattle.std.proofs.Common.{◌≡◌, inl, ℕ, ◌<◌, ◌≤◌, Bool, true, false, cond, List, [], ◌∷◌, ◌++◌, length, replicate, None, Some, refl, sym, ap, ◌∙◌, subst, append_assoc, append-nil}
+use Rattle.std.proofs.lemmas.Option.{same_Some}
+use Rattle.yq_core.specs.BlockWritten.{break_text}
+use Rattle.yq_text.specs.Limit.{text_limit}
+use Rattle.yq_core.specs.Paths.{Step}
+use Rattle.yq_core.specs.Tree.{Node}
+use Rattle.yq_core.specs.declared.style.Place.TheVariants.{Block as InBlock}
+use Rattle.yq_flow_edits.specs.Valued.{IsValueTree}
+use Rattle.yq_core.proofs.NodesWrittenLaws.{node_then}
+use Rattle.yq_outline.specs.Comments.{line_comment}
+use Rattle.yq_outline.specs.Places.{content_under}
+use Rattle.yq_outline.proofs.Finding.{FoundNode, path_node}
+use Rattle.yq_row_table.specs.Exchange.{row_front, with_content}
+use Rattle.yq_row_table.specs.Grammar.{IsTail}
+use Rattle.yq_row_table.specs.Items.{rows_items}
+use Rattle.yq_row_table.specs.Rows.{Cut, Nothing, Row, cut_text, mark_column, rows_text}
+use Rattle.yq_row_table.proofs.NothingLaws.{tail_apart}
+use Rattle.yq_row_table.proofs.PlaceLaws.{row_front-append}
+use Rattle.yq_documents.specs.Reading.{part_outline, read_at, root_of}
+use Rattle.yq_lookup.specs.RowPieces.{upto_dash}
+use Rattle.yq_lookup.specs.PrintedLines.{last_break, less_break}
+use Rattle.yq_lookup.specs.Standings.{Compact, RowsOfEntry, compact_in, dash_text, rows_of_entry}
+use Rattle.yq_lookup.proofs.PrintedTexts.{less_is}
+use Rattle.yq_edits.specs.Appends.{inserted}
+use Rattle.yq_edits.specs.Changed.{put_document}
+use Rattle.yq_edits.specs.SoundRoots.{MayReplace}
+use Rattle.yq_edits.specs.StandingLaws.{StandsThere}
+use Rattle.yq_edits.specs.TextPieces.{IsPiece}
+use Rattle.yq_edits.specs.Unders.{spaced_content}
+use Rattle.yq_edits.proofs.TextPieceLaws.{pieces_joined}
+use Rattle.yq_edits.specs.declared.layout.Layout.{Layout}
+use Rattle.yq_edits.specs.BlockReading.{is_filled}
+use Rattle.yq_edits.specs.BlockRows.{item_column, node_rows}
+use Rattle.yq_edits.specs.BlockText.{block_value}
+use Rattle.yq_edits.specs.BlockValues.{IsFilledValue}
+use Rattle.yq_edits.proofs.TextLaws.{value_spelled}
+use Rattle.yq_semantics.specs.Operations.{Operation, replace}
+use Rattle.yq_text.specs.Script.{Segment, keep, new_text, old_text, put}
+use Rattle.yq_edits.specs.Done.{ArePieces}
+use Rattle.yq_edits.specs.EditLaws.{CarriedOut}
+use Rattle.yq_edits.specs.Layouts.{layout_of}
+use Rattle.yq_edits.specs.Local.{InFirst}
+use Rattle.yq_edits.specs.ReplaceEdits.{compact_put}
+use Rattle.yq_edits.specs.WrittenValues.{Written, compact_text, inline, lines, lines_in, takes_compact, value_text, written_at}
+use Rattle.yq_edits.proofs.BreakLaws.{last_is}
+use Rattle.yq_edits.proofs.BrokenTails.{uncommented_tail}
+use Rattle.yq_edits.proofs.CommentPieceLaws.{break_piece, byte_then}
+use Rattle.yq_edits.proofs.CommentReadLaws.{break_is}
+use Rattle.yq_edits.proofs.EditsFitLaws.{FitsReplace}
+use Rattle.yq_edits.proofs.HeldCuts.{break_is_piece}
+use Rattle.yq_edits.proofs.LayoutLaws.{mapping_least}
+use Rattle.yq_edits.proofs.OneLines.{break_line}
+use Rattle.yq_edits.proofs.SegmentLaws.{segments_readable}
+use Rattle.yq_edits.proofs.ValueTexts.{IsWrittenFor, value_for}
+use Rattle.yq_edit_laws.proofs.DashNodes.{dash_behind, dash_last_ends, dash_node, dash_pieces, dash_spelled, dash_unnamed, upto}
+use Rattle.yq_edit_laws.proofs.DashValueLaws.{behind_first, behind_rows, behind_spelled, takes_behind}
+use Rattle.yq_edit_laws.proofs.HeldLines.{block_piece, break_tail, lines_piece}
+use Rattle.yq_edit_laws.proofs.MarkKinds.{filled_is}
+use Rattle.yq_edit_laws.proofs.NodeCarriedLaws.{KeepsNode, node_carried}
+use Rattle.yq_edit_laws.proofs.NodeLeads.{content_first, upto_long}
+use Rattle.yq_edit_laws.proofs.NodeRowLaws.{NodeRows, rest}
+use Rattle.yq_edit_laws.proofs.RowLines.{no_comment}
+use Rattle.yq_edit_laws.proofs.NodeTaken.{TakesNode, q_text}
+use Rattle.yq_edit_laws.proofs.NodeValueLaws.{IsHolding, end_is, rows_beside, rows_under, takes_beside, takes_under}
+
+module _ (n : ℕ) (s : Step) (ss : List Step) (c : Cut) (e : RowsOfEntry) (there : StandsThere n s ss c e) (less : e.line < length e.row.dashes) (read : read_at (cut_text c) ≡ Some c) (at : rows_of_entry n (s ∷ ss) c ≡ Some e) where
+  abbrev h : NodeRows n s ss c
+  h = dash_node n s ss c e there less
+
+  abbrev l : Layout
+  l = layout_of n c
+
+  abbrev p : Compact
+  p = compact_in e
+
+  abbrev mark : Row
+  mark = upto_dash e.line e.row
+
+  abbrev last : List ℕ
+  last = last_break (dash_text e)
+
+  abbrev z : List ℕ
+  z = rest n s ss c (dash_node n s ss c e there less)
+
+  abbrev segments : List ℕ → List Segment
+  segments t = keep p.before ∷ (put p.old t ∷ (keep p.last ∷ (keep p.behind ∷ [])))
+
+  -- the old text
+  old_there : (t : List ℕ) → old_text (segments t) ≡ cut_text c
+  old_there t =
+      let parts : p.before ++ (less_break (dash_text e) ++ (last ++ (p.behind ++ []))) ≡ p.before ++ ((less_break (dash_text e) ++ last) ++ p.behind) = simp (append_assoc, append-nil) refl in
+      parts ∙ (ap (λ o. p.before ++ (o ++ p.behind)) (less_is (dash_text e)) ∙ sym (dash_spelled n s ss c e there less read at))
+
+  pub dash_old : (br : List ℕ) (w : Written) → old_text (compact_put br (compact_in e) w) ≡ cut_text c
+  dash_old br (inline t) = old_there (32 ∷ t)
+  dash_old br (compact_text t) = old_there (32 ∷ t)
+  dash_old br (lines t) = old_there (br ++ t)
+
+  -- what is kept
+  abbrev keeps : (t : List ℕ) → KeepsNode n s ss c h (segments t)
+  keeps t = record {
+    lead = row_front mark;
+    trail = last;
+    before_is = append-nil p.before;
+    behind_is = ap (λ b. last ++ b) (append-nil p.behind ∙ dash_behind n s ss c e there less);
+    one = break_line last z (dash_last_ends n s ss c e there less);
+    begins = upto_long (upto n s ss c e there less);
+    puts = refl;
+    old_is = old_there t;
+  }
+
+  -- it is in pieces
+  new_pieces : (t : List ℕ) → IsPiece t → ArePieces (segments t)
+  new_pieces t piece = let k = dash_pieces n s ss c e there less read at in (k.0, (piece, (break_is_piece last (last_is (dash_text e)), (k.1, tt))))
+
+  -- the end of the last line
+  abbrev last_tail : IsTail last z
+  last_tail = break_tail last z (dash_last_ends n s ss c e there less)
+
+  uncommented : line_comment last ≡ None
+  uncommented = uncommented_tail last z last_tail refl
+
+  -- what may stand behind the dash: the end of its line, without a comment
+  holding : (t more : List ℕ) → IsTail t more → line_comment t ≡ None → IsHolding n s ss c h (Nothing t) more
+  holding t more tail none = record { holds = refl; stands = tail; apart = tail_apart t more tail; comment = none ∙ sym no_comment; anchor = sym (dash_unnamed n s ss c e there less) }
+
+  module _ (v : Node) (tree : IsValueTree v) (f : FitsReplace n (s ∷ ss) v c there.part) where
+    abbrev op : Operation
+    op = replace n (s ∷ ss) v
+
+    may : MayReplace v (content_under there.found.line there.found.under) (root_of there.part) (length (s ∷ ss))
+    may = subst (λ q. MayReplace v q (root_of there.part) (length (s ∷ ss))) (same_Some _ _ (sym f.there ∙ (path_node s ss (part_outline there.part) ∙ ap FoundNode there.is))) f.may
+
+    abbrev CarriedWith : List ℕ → Type 0
+    CarriedWith t = length (new_text (segments t)) ≤ text_limit → CarriedOut op c (segments t)
+
+    -- a text for which the document is known reads, where it may be read
+    carried_as : (new : List Row) → TakesNode n s ss c h v new → (t : List ℕ) → rows_text new z ≡ row_front mark ++ (t ++ (last ++ z)) → InFirst (row_front mark) (rows_items new []) → IsPiece t → CarriedWith t
+    carried_as new takes t text begins piece size =
+        let a : List ℕ = rows_text e.front [] in
+        let m : List ℕ = row_front mark in
+        let parts : e.start ++ (a ++ (m ++ (t ++ (last ++ p.behind)))) ≡ p.before ++ (t ++ (last ++ (p.behind ++ []))) = simp (append_assoc, append-nil) refl in
+        let same : cut_text (put_document n (inserted e.front new e.back there.part) c) ≡ new_text (segments t) =
+        q_text n s ss c h v new takes ∙ (ap (λ r. e.start ++ (a ++ r)) text ∙ (ap (λ r. e.start ++ (a ++ (m ++ (t ++ (last ++ r))))) (sym (dash_behind n s ss c e there less)) ∙ parts)) in
+        node_carried n s ss c h v new takes (segments t) (keeps t) may (segments_readable (segments t) (new_pieces t piece) size) same begins
+
+    -- ---- on its line
+
+    module _ (text : List ℕ) (for : IsWrittenFor v text) where
+      abbrev beside : List Row
+      beside = rows_beside n s ss c h v for.node for.is (Nothing last) (holding last z last_tail uncommented)
+
+      beside_text : rows_text beside z ≡ row_front mark ++ ((32 ∷ text) ++ (last ++ z))
+      beside_text =
+          row_front-append (with_content (spaced_content for.node last) mark) z
+          ∙ ap (λ r. row_front mark ++ (32 ∷ r)) (node_then for.node (last ++ z) ∙ ap (λ r. r ++ (last ++ z)) for.text)
+
+      beside_carried : CarriedWith (32 ∷ text)
+      beside_carried =
+          carried_as beside (takes_beside n s ss c h v for.node for.is (Nothing last) (holding last z last_tail uncommented)) (32 ∷ text) beside_text (content_first (spaced_content for.node last) mark) (byte_then 32 text refl for.piece)
+
+    -- ---- in rows
+
+    module _ (full : is_filled v ≡ true) where
+      filled : IsFilledValue v
+      filled = record { filled = filled_is v full; value = tree }
+
+      abbrev column : ℕ
+      column = item_column (mark_column mark)
+
+      -- the first one on the line of the dash
+      abbrev behind : List Row
+      behind = behind_rows n s ss c h l (mapping_least n c) v filled f.near last refl (end_is n s ss c h last last_tail) uncommented no_comment (dash_unnamed n s ss c e there less)
+
+      behind_carried : CarriedWith (32 ∷ block_value l column v)
+      behind_carried =
+          carried_as behind (takes_behind n s ss c h l (mapping_least n c) v filled f.near last refl (end_is n s ss c h last last_tail) uncommented no_comment (dash_unnamed n s ss c e there less)) (32 ∷ block_value l column v)
+          (behind_spelled n s ss c h l (mapping_least n c) v filled f.near last refl (end_is n s ss c h last last_tail) uncommented no_comment (dash_unnamed n s ss c e there less))
+          (behind_first n s ss c h l (mapping_least n c) v filled f.near last refl (end_is n s ss c h last last_tail) uncommented no_comment (dash_unnamed n s ss c e there less))
+          (byte_then 32 (block_value l column v) refl (block_piece l column v tree))
+
+      -- all on lines under it
+      abbrev br : List ℕ
+      br = break_text l.br
+
+      abbrev below : List ℕ
+      below = rows_text (node_rows l column last v) z
+
+      break_holds : IsHolding n s ss c h (Nothing br) below
+      break_holds = let tail = break_tail br below (inl (break_is l.br)) in holding br below tail (uncommented_tail br below tail refl)
+
+      abbrev under : List Row
+      under = rows_under n s ss c h l (mapping_least n c) v filled f.near (Nothing br) last break_holds (end_is n s ss c h last last_tail) uncommented
+
+      under_text : rows_text under z ≡ row_front mark ++ ((br ++ lines_in l column v) ++ (last ++ z))
+      under_text =
+          let parts : br ++ (replicate column 32 ++ (block_value l column v ++ (last ++ z))) ≡ (br ++ lines_in l column v) ++ (last ++ z) = simp append_assoc refl in
+          row_front-append (with_content (Nothing br) mark) (rows_text (node_rows l column last v) z)
+          ∙ ap (λ r. row_front mark ++ r) (ap (λ r. br ++ r) (value_spelled v l column last z filled.filled filled.value) ∙ parts)
+
+      under_carried : CarriedWith (br ++ lines_in l column v)
+      under_carried =
+          carried_as under (takes_under n s ss c h l (mapping_least n c) v filled f.near (Nothing br) last break_holds (end_is n s ss c h last last_tail) uncommented) (br ++ lines_in l column v) under_text (content_first (Nothing br) mark) (pieces_joined br (lines_in l column v) (break_piece l.br) (lines_piece l column v tree))
+
+    pub dash_carried : length (new_text (compact_put (break_text l.br) (compact_in e) (written_at l (compact_in e).mark [] v))) ≤ text_limit → CarriedOut (replace n (s ∷ ss) v) c (compact_put (break_text l.br) (compact_in e) (written_at l (compact_in e).mark [] v))
+    dash_carried = go (is_filled v) (takes_compact p.mark) refl
+      where
+        go : (b d : Bool) → is_filled v ≡ b →
+            length (new_text (compact_put (break_text l.br) p (cond b (cond d (compact_text (block_value l (item_column p.mark.column) v)) (lines (lines_in l (item_column p.mark.column) v))) (inline (value_text InBlock [] v))))) ≤ text_limit →
+            CarriedOut op c (compact_put (break_text l.br) p (cond b (cond d (compact_text (block_value l (item_column p.mark.column) v)) (lines (lines_in l (item_column p.mark.column) v))) (inline (value_text InBlock [] v))))
+        go true true full = behind_carried full
+        go true false full = under_carried full
+        go false d full = beside_carried (value_text InBlock [] v) (value_for [] v tree f.deep f.long)

@@ -1,0 +1,98 @@
+-- A value in rows on the line of an item's dash.
+use Rattle.std.proofs.Common.{◌≡◌, ℕ, ◌*◌, ◌+◌, ◌<◌, ◌≤◌, List, [], ◌∷◌, ◌++◌, None, refl, sym, ap, ◌∙◌, subst, arith, append_assoc, rules}
+use Rattle.yq_core.specs.Paths.{Step}
+use Rattle.yq_core.specs.Text.{upto}
+use Rattle.yq_core.specs.Tree.{Node}
+use Rattle.yq_outline.specs.LineAnchors.{HaveOneAnchorEach}
+use Rattle.yq_outline.specs.Comments.{line_comment}
+use Rattle.yq_outline.specs.Outline.{level, Stands}
+use Rattle.yq_outline.specs.Places.{content_under}
+use Rattle.yq_outline.proofs.ByRules.{rules_give}
+use Rattle.yq_row_table.specs.Exchange.{row_front}
+use Rattle.yq_row_table.specs.Rows as rows
+use Rattle.yq_row_table.specs.Rows.{Nothing, Row, mark_column, rows_text, Cut}
+use Rattle.yq_outline.specs.Lines.{lines_of_rows, tail_of}
+use Rattle.yq_documents.specs.TreeEdits.{anchor_of}
+use Rattle.yq_edits.specs.DocumentRows.{behind_document}
+use Rattle.yq_edits.proofs.LineLaws.{above_mark, mark_behind}
+use Rattle.yq_edits.proofs.UnderLaws.{dashes_of, line_with}
+use Rattle.yq_edits.specs.declared.layout.Layout.{Layout}
+use Rattle.yq_edits.specs.BlockPlaces.{compact_rows, Replaces}
+use Rattle.yq_edits.specs.BlockRows.{item_column, node_rows}
+use Rattle.yq_edits.specs.BlockText.{block_value}
+use Rattle.yq_edits.specs.BlockValues.{HasNearKeys, IsFilledValue, IsEnd, entry_level, level_at}
+use Rattle.yq_edits.proofs.FitLaws.{anchors_fit, keys_fit, node_fit}
+use Rattle.yq_edits.proofs.BlockLineLaws.{BeginAt, lines_deeper, node_begun, node_stands}
+use Rattle.yq_edits.proofs.PlaceLaws.{behind_laid, compact_lines}
+use Rattle.yq_edits.proofs.RowLaws.{deeper_laid}
+use Rattle.yq_edits.proofs.TextLaws.{value_spelled}
+use Rattle.yq_row_table.specs.Items.{rows_items}
+use Rattle.yq_edits.specs.Local.{InFirst}
+use Rattle.yq_edit_laws.proofs.BehindDashLaws.{behind_lead, behind_text, first_row, gap_same, keys_same, more_rows, rows_are}
+use Rattle.yq_edit_laws.proofs.ContentRows.{upto_gap}
+use Rattle.yq_edit_laws.proofs.NodeRowLaws.{NodeRows, limit, rest, rows_there}
+use Rattle.yq_edit_laws.proofs.NodeTaken.{TakesNode}
+
+no_comment : line_comment [] ≡ None
+unfolding upto
+no_comment = refl
+
+-- in the place of what stands behind the dash, which has neither an anchor nor a comment: before an end of the line without a comment
+module _ (doc : ℕ) (s : Step) (ss : List Step) (c : Cut) (h : NodeRows doc s ss c) (l : Layout) (step : 1 ≤ l.mapping) (v : Node) (filled : IsFilledValue v) (near_keys : HasNearKeys v) (last : List ℕ) (dash : h.mark.mark ≡ rows.Dash)
+    (ends : IsEnd (mark_column h.mark) last (rest doc s ss c h)) (uncommented : line_comment last ≡ None) (none : line_comment (tail_of h.mark.content) ≡ None) (unnamed : anchor_of (content_under h.found.line h.found.under) ≡ None) where
+  abbrev below : ℕ
+  below = item_column (mark_column h.mark)
+
+  abbrev rs : List Row
+  rs = node_rows l (item_column (mark_column h.mark)) last v
+
+  abbrev z : List ℕ
+  z = rest doc s ss c h
+
+  abbrev pub behind_rows : List Row
+  behind_rows = compact_rows h.mark (node_rows l (item_column (mark_column h.mark)) last v)
+
+  begun : BeginAt (item_column (mark_column h.mark)) (node_rows l (item_column (mark_column h.mark)) last v)
+  begun = node_begun v l below last filled.filled filled.value
+
+  replaces : Replaces (limit doc s ss c h) (mark_column h.mark) h.row (rows_text (h.under ++ h.back) (h.p.end ++ behind_document doc c)) behind_rows (rest doc s ss c h)
+  replaces =
+      behind_laid (limit doc s ss c h) h.row h.mark (rows_text (h.under ++ h.back) (h.p.end ++ behind_document doc c)) rs z (rows_there doc s ss c h).0 h.upto dash
+      (deeper_laid v l (mark_column h.mark) below last z (omega arith) (record { rows = filled; near = near_keys; ends = ends }))
+
+  stands : Stands (lines_of_rows rs) v (level_at below v)
+  stands = rules_give (level_at below v) (lines_of_rows rs) v (node_stands v l below last step filled.filled filled.value uncommented)
+
+  dash_level : level (line_with h.mark (Nothing [])) ≡ entry_level None (mark_column h.mark)
+  unfolding level
+  dash_level = ap (λ m. 3 * mark_column h.mark + Rattle.yq_outline.specs.Outline.rank (Rattle.yq_outline.specs.Lines.mark_of m)) dash
+
+  pub takes_behind : TakesNode doc s ss c h v behind_rows
+  takes_behind =
+      let fit = node_fit v l below last filled.value in
+      record {
+        first = first_row h.mark rs;
+        more = more_rows rs;
+        new_is = rows_are below h.mark rs begun;
+        gap_is = gap_same below h.mark rs begun ∙ upto_gap h.upto;
+        replaces = replaces;
+        content_under = Nothing [];
+        level = level_at below v;
+        under = stands.outline;
+        comment = no_comment ∙ sym none;
+        anchor = sym unnamed;
+        open' = tt;
+        value_is = stands.node_is;
+        even = stands.even;
+        deep = subst (λ n. n < level_at below v) (sym dash_level) (lines_deeper v l (mark_column h.mark) None step filled.filled);
+        lines = search (rules, dashes_of, above_mark, compact_lines, begun, mark_behind, append_assoc);
+        keys = keys_same h.mark rs (keys_fit rs fit);
+        anchors = subst (λ ls. HaveOneAnchorEach (line_with h.mark (Nothing []) ∷ ls)) (sym stands.lines_are) (tt, anchors_fit rs fit);
+      }
+
+  -- their text
+  pub behind_spelled : rows_text behind_rows (rest doc s ss c h) ≡ row_front h.mark ++ (32 ∷ (block_value l (item_column (mark_column h.mark)) v ++ (last ++ rest doc s ss c h)))
+  behind_spelled = behind_text below h.mark rs (block_value l below v ++ (last ++ z)) z begun dash (value_spelled v l below last z filled.filled filled.value)
+
+  pub behind_first : InFirst (row_front h.mark) (rows_items behind_rows [])
+  behind_first = behind_lead below h.mark rs begun dash

@@ -1,0 +1,137 @@
+-- One item or entry more in a flow collection.
+use Rattle.std.proofs.Common.{◌≡◌, ℕ, suc, ◌+◌, ◌-◌, ◌≤◌, Bool, true, false, not, eqb, cond, List, [], ◌∷◌, ◌++◌, length, Option, Some, None, refl, sym, ap, ◌∙◌, subst, arith}
+use Rattle.std.proofs.lemmas.Bool.{cond_both, false≢true}
+use Rattle.std.proofs.lemmas.Option.{none-some, same_Some}
+use Rattle.std.specs.Prelude.{is_some}
+use Rattle.std.specs.Str.{IsCharBoundary}
+use Rattle.yq_text.specs.Limit.{text_limit}
+use Rattle.yq_core.specs.Keys.{depth, keys_of}
+use Rattle.yq_core.specs.Paths.{Step, append_child, node_at}
+use Rattle.yq_core.specs.Tree as tree
+use Rattle.yq_core.specs.Tree.{children_of}
+use Rattle.yq_core.specs.Collections.{CollAt, CollPieces, IsCollAt, room_in}
+use Rattle.yq_flow_edits.specs.FlowEdits.{FlowEdit, add_item, appending, behind_appended, is_none}
+use Rattle.yq_core.specs.Nodes.{Key, FlowNode, Items, none, item, node_text}
+use Rattle.yq_flow_edits.specs.Valued.{IsLabel, IsValueTree}
+use Rattle.yq_core.specs.NodesWritten.{flow_key, flow_of}
+use Rattle.yq_flow_edits.proofs.EditLaws.{around_is}
+use Rattle.yq_flow_edits.proofs.EditSpans.{ends_bound}
+use Rattle.yq_flow_edits.proofs.ValueEdits.{appended_ends, value_appended}
+use Rattle.yq_row_table.specs.Rows.{Cut, cut_text}
+use Rattle.yq_documents.specs.Documents.{Document, EachHasFitKeys, HasFitKey, HasFitKeys, document_parts}
+use Rattle.yq_lookup.specs.FlowNodes.{flow_collection}
+use Rattle.yq_documents.specs.Reading as reading
+use Rattle.yq_documents.specs.Reading.{documents, read_at, root_of}
+use Rattle.yq_documents.specs.TreeEdits.{new_label}
+use Rattle.yq_edits.specs.FlowRows.{FlowAt}
+use Rattle.yq_edits.specs.SoundRoots.{IsNewKey, IsNewValue, IsSoundRoot}
+use Rattle.yq_edits.specs.TextPieces.{IsPiece}
+use Rattle.yq_edits.proofs.FlowKeptLaws.{flow_keys}
+use Rattle.yq_edits.proofs.PartLaws.{document_known}
+use Rattle.yq_edits.proofs.SoundRootLaws.{append_keeps}
+use Rattle.yq_semantics.specs.Fits.{Fits, Takes}
+use Rattle.yq_semantics.specs.Operations.{append}
+use Rattle.yq_semantics.specs.Rooms.{room_of}
+use Rattle.yq_text.specs.Script.{new_text}
+use Rattle.yq_edits.specs.EditLaws.{CarriedOut, FlowMoreIsPut, IsEdit}
+use Rattle.yq_edits.specs.FlowParts.{flow_segments, takes_key}
+use Rattle.yq_edits.specs.Operands.{KeyIsUtf8}
+use Rattle.yq_flow_edits.proofs.ItemPlaces.{last_rest}
+use Rattle.yq_edits.proofs.DoneLaws.{nth_map}
+use Rattle.yq_edits.proofs.EditsFitLaws.{new_key, new_value, tree_unique}
+use Rattle.yq_edit_laws.proofs.FlowPieceLaws.{edit_pieces, nothing_piece}
+use Rattle.yq_edit_laws.proofs.FlowStandings as standing
+use Rattle.yq_edit_laws.proofs.FlowEditLaws.{before_is, flow_carried, segments_old}
+use Rattle.yq_edit_laws.proofs.FlowWholeLaws.{StandsBefore, appended_stands}
+use Rattle.yq_edits.proofs.FlowWritten.{flow_fits, key_fits}
+use Rattle.yq_edits.proofs.ValueNodes.{comma_piece, flow_piece, key_piece}
+
+-- ---- the edit
+
+lead_piece : (w : CollPieces) → IsPiece (cond (is_none w.items) [] (44 ∷ (32 ∷ [])))
+lead_piece w = cond_both (is_none w.items) [] (44 ∷ (32 ∷ [])) IsPiece (λ _. nothing_piece) (λ _. comma_piece)
+
+add_fit : (key : Key) (m : FlowNode) (gap : List ℕ) (is : Items) → HasFitKey key → HasFitKeys m → EachHasFitKeys is → EachHasFitKeys (add_item key m gap is)
+add_fit key m gap none h k f = (h, k, tt)
+add_fit key m gap (item j n sep none) h k f = (f.0, f.1, (h, k, tt))
+add_fit key m gap (item j n sep (item j2 n2 sep2 is)) h k f = (f.0, f.1, add_fit key m gap (item j2 n2 sep2 is) h k f.2)
+
+-- ---- the key
+
+label_is : (close : ℕ) (key : Option (List ℕ)) → KeyIsUtf8 key → takes_key close key ≡ true → IsLabel (eqb close 125) (new_label key)
+label_is close key u h = go (eqb close 125) key u h
+  where
+    go : (b : Bool) (key : Option (List ℕ)) → KeyIsUtf8 key → cond b (is_some key) (not (is_some key)) ≡ true → IsLabel b (new_label key)
+    go true None u h = absurd (false≢true h)
+    go true (Some k) u h = (k, refl, u)
+    go false None u h = refl
+    go false (Some k) u h = absurd (false≢true h)
+
+key_new : (key : Option (List ℕ)) (n : tree.Node) → Takes key n → IsNewKey key (keys_of (children_of n))
+key_new None n t = tt
+key_new (Some k) n t = subst (λ (m : tree.Node). IsNewKey (Some k) (keys_of (children_of m))) (sym t.2) (new_key k t.1 t.3)
+
+-- ---- in a collection
+
+module _ (c : Cut) (doc : ℕ) (steps : List Step) (key : Option (List ℕ)) (v : tree.Node) (w : CollPieces) (read : read_at (cut_text c) ≡ Some c) (found : flow_collection doc steps c ≡ Some w) where
+  abbrev at : FlowAt c doc steps w
+  at = standing.at c doc steps w read found
+
+  abbrev x : CollAt
+  x = standing.x c doc steps w read found
+
+  abbrev pub e : FlowEdit
+  e = appending (flow_key key) (flow_of v) w
+
+  stands : IsCollAt x
+  stands = standing.stands c doc steps w read found
+
+  old_is : cut_text c ≡ (standing.row_text c doc steps w read found).before ++ node_text x.node x.rest
+  old_is = (standing.row_text c doc steps w read found).old
+
+  pub there : StandsBefore (cut_text c) (e.old ++ e.behind)
+  there = subst (λ (t : List ℕ). StandsBefore t (behind_appended w)) (sym old_is) (appended_stands x (standing.row_text c doc steps w read found).before stands)
+
+  pub bounds : IsCharBoundary (cut_text c) (length (cut_text c) - length (e.old ++ e.behind)) × IsCharBoundary (cut_text c) (length (cut_text c) - length e.behind)
+  bounds = let i = around_is x stands in let b = ends_bound w.close (cut_text c) there.before (behind_appended w) i.closes (appended_ends x i) there.text in (b, b)
+
+  -- one that fits
+  append_carried : KeyIsUtf8 key → IsValueTree v → takes_key w.close key ≡ true → Fits (room_of (cut_text c)) (append doc steps key v) (documents c) → length (new_text (flow_segments (cut_text c) e)) ≤ text_limit →
+      CarriedOut (append doc steps key v) c (flow_segments (cut_text c) e)
+  append_carried u h takes fits size =
+      let known = document_known (cut_text c) c doc at.part (standing.old c doc steps w read found) in
+      let old : IsSoundRoot (root_of at.part) = record { unique = known.document.unique; nested = known.document.nested; bound = known.document.bound } in
+      let root : fits.0.root ≡ root_of at.part = ap (λ (d : Document). d.root) (same_Some _ _ (sym fits.1 ∙ nth_map doc at.part reading.part_document (document_parts c) at.there)) in
+      let node : node_at steps (root_of at.part) ≡ Some fits.2.2.0 = ap (node_at steps) (sym root) ∙ fits.2.2.1 in
+      let new : IsNewValue v (suc (length steps)) = new_value (suc (length steps)) v h (tree_unique v fits.2.1.0) fits.2.1.2 in
+      let room : depth v ≤ room_in x = omega (arith, standing.fewer c doc steps w read found, new.nested) in
+      let p = standing.piece c doc steps w read found in
+      let parts = edit_pieces (cut_text c) there.before e p there.text bounds.0 bounds.1 there.whole in
+      flow_carried (append doc steps key v) c steps w at e (append_child (new_label key) v) read (record {
+        edited = value_appended x (new_label key) v stands (label_is w.close key u takes) h room;
+        keys = flow_keys (cut_text c) c doc at.part steps at.line at.rest at.row w e.gap e.items (standing.old c doc steps w read found) at.at (add_fit (flow_key key) (flow_of v) w.gap w.items (key_fits key fits.2.0) (flow_fits v fits.2.1.1));
+        sound = append_keeps steps (root_of at.part) fits.2.2.0 v (new_label key) old node new (key_new key fits.2.2.0 fits.2.2.2);
+        root = refl;
+        pieces = (
+          subst IsPiece (sym (before_is (cut_text c) there.before (e.old ++ e.behind) there.text)) parts.0,
+          (
+            lead_piece w,
+            (key_piece (eqb w.close 125) (new_label key) (node_text (flow_of v) []) (label_is w.close key u takes) (flow_piece v h), (parts.1, tt)),
+          ),
+        );
+        stays = omega (arith, (around_is x stands).longer, last_rest w.close w.gap w.items w.rest);
+      }) size
+
+-- Append: one more item or entry, where the collection takes it.
+pub flow_more_put : FlowMoreIsPut
+flow_more_put n steps key v c w ss read found is = go (takes_key w.close key) refl is
+  where
+    at_end : takes_key w.close key ≡ true → IsEdit (append n steps key v) c (flow_segments (cut_text c) (e c n steps key v w read found))
+    at_end takes = let t = there c n steps key v w read found in record {
+      old = segments_old (cut_text c) t.before (e c n steps key v w read found) t.text;
+      carried = λ h fits size. append_carried c n steps key v w read found h.0 h.1 takes fits size;
+    }
+
+    go : (b : Bool) → takes_key w.close key ≡ b → cond b (Some (flow_segments (cut_text c) (appending (flow_key key) (flow_of v) w))) None ≡ Some ss → IsEdit (append n steps key v) c ss
+    go true takes e = subst (IsEdit (append n steps key v) c) (same_Some _ _ e) (at_end takes)
+    go false takes e = absurd (none-some _ e)

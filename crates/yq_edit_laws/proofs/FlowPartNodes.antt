@@ -1,0 +1,155 @@
+-- What stands at a path that leads to an item or entry of a flow collection: its node, and nothing outside flow collections.
+use Rattle.std.proofs.Common.{◌≡◌, ℕ, ◌+◌, List, [], ◌∷◌, ◌++◌, length, Option, Some, None, option_map, refl, sym, ap, ◌∙◌, subst}
+use Rattle.std.proofs.lemmas.Option.{none-some, same_Some, slice_get-map}
+use Rattle.std.specs.List.{slice_get}
+use Rattle.std.specs.Prelude.{option_and_then}
+use Rattle.yq_core.specs.Answers.{◌>>=◌}
+use Rattle.yq_core.specs.Paths.{Step, child_at, node_at}
+use Rattle.yq_core.specs.Tree as tree
+use Rattle.yq_core.specs.Tree.{children_of}
+use Rattle.yq_core.proofs.Bools.{bind_some}
+use Rattle.yq_core.specs.Collections.{CollPieces, coll_along}
+use Rattle.yq_core.specs.Entries.{EntryPieces, path_inside, item_at}
+use Rattle.yq_core.specs.Nodes.{FlowNode}
+use Rattle.yq_core.specs.Trees.{tree_of}
+use Rattle.yq_outline.specs.Ends.{found_line}
+use Rattle.yq_outline.specs.Group.{level_or}
+use Rattle.yq_outline.specs.Outline.{Outline, IsEven, level, row, anchored, head_or, value}
+use Rattle.yq_outline.specs.Places.{FoundLine, content_under, lines_before}
+use Rattle.yq_outline.proofs.Finding.{FoundNode, node-anchored, path_node}
+use Rattle.yq_outline.proofs.Plug.{allows_from}
+use Rattle.yq_row_table.specs.Exchange.{behind_row}
+use Rattle.yq_row_table.specs.Rows.{Content, Nothing, Inline, Block, Part, Cut, cut_text}
+use Rattle.yq_documents.specs.Documents.{Document, document_parts}
+use Rattle.yq_documents.specs.Reading.{part_document, part_outline, read_at}
+use Rattle.yq_documents.specs.LinesInRows.{RowLine, document_row, row_line, row_line_of}
+use Rattle.yq_outline.specs.Lines.{content_anchor, head_of}
+use Rattle.yq_lookup.specs.FlowNodes.{content_flow, find_head}
+use Rattle.yq_lookup.specs.NodesAt.{node_in}
+use Rattle.yq_lookup.specs.PlacedRows.{PlacedPart, placed_document}
+use Rattle.yq_lookup.specs.Standings.{entry_rows_at, entry_standing, last_step, standing_at}
+use Rattle.yq_lookup.proofs.FlowPieces.{head_tree}
+use Rattle.yq_lookup.proofs.PlacedRowLaws.{document_placed, part_of}
+use Rattle.yq_edits.proofs.FlowLineLaws.{head_takes, head_whole}
+use Rattle.yq_edits.proofs.PartLaws.{document_known}
+use Rattle.yq_edit_laws.proofs.EntryLines.{found_at}
+use Rattle.yq_edit_laws.proofs.FlowHeldLines.{head_row, head_there}
+use Rattle.yq_edit_laws.proofs.FlowHeldNodes.{entry_tree, inside_child, kids_held}
+use Rattle.yq_edit_laws.proofs.FlowSoundLaws.{last_is}
+use Rattle.yq_edit_laws.proofs.FlowStandings.{EntryAt, coll_entry}
+use Rattle.yq_edit_laws.proofs.StepsOn.{head_on}
+
+-- ---- in an inline node
+
+one_node : (o : Option tree.Node) → option_and_then (node_at []) o ≡ o
+one_node None = refl
+one_node (Some n) = refl
+
+-- a step into a node leads to the item or entry there
+child_is : (s : Step) (node : FlowNode) (rest : List ℕ) → child_at s (children_of (tree_of node)) ≡ option_map entry_tree (path_inside s node rest)
+child_is s node rest = ap (child_at s) (kids_held (tree_of node)) ∙ sym (inside_child s node rest)
+
+-- one step more than those to a collection leads to its item or entry
+coll_node : (ss : List Step) (s : Step) (node : FlowNode) (rest : List ℕ) (w : CollPieces) → coll_along ss node rest ≡ Some w → node_at (ss ++ (s ∷ [])) (tree_of node) ≡ option_map entry_tree (item_at w.close s w.items w.rest)
+coll_node [] s node rest w e = one_node (child_at s (children_of (tree_of node))) ∙ (child_is s node rest ∙ ap (option_map entry_tree) (coll_entry s node rest w e))
+coll_node (t ∷ ss) s node rest w e = ap (option_and_then (node_at (ss ++ (s ∷ [])))) (child_is t node rest) ∙ go (path_inside t node rest) e (λ y at. coll_node ss s y.node y.rest w at)
+  where
+    go : (o : Option EntryPieces) → option_and_then (λ (y : EntryPieces). coll_along ss y.node y.rest) o ≡ Some w →
+        ((y : EntryPieces) → coll_along ss y.node y.rest ≡ Some w → node_at (ss ++ (s ∷ [])) (entry_tree y) ≡ option_map entry_tree (item_at w.close s w.items w.rest)) →
+        option_and_then (node_at (ss ++ (s ∷ []))) (option_map entry_tree o) ≡ option_map entry_tree (item_at w.close s w.items w.rest)
+    go None e again = absurd (none-some _ e)
+    go (Some y) e again = again y e
+
+-- an anchor changes nothing of what is in a node
+drop_anchor : (a : Option (List ℕ)) (ss : List Step) (s : Step) (n : tree.Node) → node_at (ss ++ (s ∷ [])) (anchored a n) ≡ node_at (ss ++ (s ∷ [])) n
+drop_anchor a [] s n = node-anchored a s [] n
+drop_anchor a (t ∷ ss) s n = node-anchored a t (ss ++ (s ∷ [])) n
+
+-- the same in the content of a row
+content_node : (x : Content) (h : tree.Node) (ss : List Step) (s : Step) (behind : List ℕ) (w : CollPieces) → head_of x ≡ Some h → content_flow ss x behind ≡ Some w →
+    node_at (ss ++ (s ∷ [])) (anchored (content_anchor x) h) ≡ option_map entry_tree (item_at w.close s w.items w.rest)
+content_node (Nothing tail) h ss s behind w head e = absurd (none-some _ e)
+content_node (Block space anchor block) h ss s behind w head e = absurd (none-some _ e)
+content_node (Inline space node tail) h ss s behind w head e =
+    let n = head_tree node h head in
+    drop_anchor (content_anchor (Inline space node tail)) ss s h
+    ∙ (sym (drop_anchor n.0 ss s h) ∙ (ap (node_at (ss ++ (s ∷ []))) (sym n.1) ∙ coll_node ss s node (tail ++ behind) w e))
+
+-- ---- in a document
+
+-- The line in whose head a flow collection at a path stands.
+record LineAt (c : Cut) (n : ℕ) (steps : List Step) (w : CollPieces) : Type 0 where
+  part : Part
+  there : slice_get (document_parts c) n ≡ Some part
+  line : FoundLine × List Step
+  found : find_head steps (part_outline part) ≡ Some line
+  row_line_is : RowLine
+  printed_line : row_line (length (lines_before line.0.place)) part.rows ≡ Some row_line_is
+  flow : content_flow line.1 row_line_is.row.content (behind_row (document_row n c + row_line_is.before) c) ≡ Some w
+
+line_at : (c : Cut) (n : ℕ) (steps : List Step) (w : CollPieces) → Rattle.yq_lookup.specs.FlowNodes.flow_collection n steps c ≡ Some w → LineAt c n steps w
+line_at c n steps w e =
+    let d = bind_some (slice_get (document_parts c) n) e in
+    let x = bind_some (find_head steps (part_outline d.0)) d.2 in
+    let s = bind_some (row_line (length (lines_before x.0.0.place)) d.0.rows) x.2 in
+    record { part = d.0; there = d.1; line = x.0; found = x.1; row_line_is = s.0; printed_line = s.1; flow = s.2 }
+
+-- the node at a path is the one that its line stands for
+node_found : (steps : List Step) (s : Step) (o : Outline) → node_at (steps ++ (s ∷ [])) (value o) ≡ FoundNode (found_at (steps ++ (s ∷ [])) o)
+node_found [] s o = path_node s [] o
+node_found (t ∷ ts) s o = path_node t (ts ++ (s ∷ [])) o
+
+line_node : (c : Cut) (n : ℕ) (steps : List Step) (s : Step) (w : CollPieces) (h : LineAt c n steps w) → read_at (cut_text c) ≡ Some c → node_at (steps ++ (s ∷ [])) (value (part_outline h.part)) ≡ option_map entry_tree (item_at w.close s w.items w.rest)
+line_node c n steps s w h read =
+    let o : Outline = part_outline h.part in
+    let f : FoundLine = h.line.0 in
+    let known = document_known (cut_text c) c n h.part (record { read = read; there = h.there }) in
+    let m : ℕ = level_or 0 o in
+    let r = head_row m h.part steps f h.line.1 known.even h.found in
+    let even : IsEven (level f.line) (row f.line f.under f.after) = (allows_from m f.place f.line f.under f.after (subst (IsEven m) (sym (head_whole m o steps f h.line.1 known.even h.found)) known.even)).1 in
+    let head = head_there f (head_takes m o steps f h.line.1 known.even h.found) even.2 in
+    let same : r.row_line_is ≡ h.row_line_is = same_Some _ _ (sym r.there ∙ h.printed_line) in
+    let flow : content_flow h.line.1 r.row_line_is.row.content (behind_row (document_row n c + h.row_line_is.before) c) ≡ Some w = ap (λ (z : RowLine). content_flow h.line.1 z.row.content (behind_row (document_row n c + h.row_line_is.before) c)) same ∙ h.flow in
+    node_found steps s o
+    ∙ (ap FoundNode (head_on steps s o h.line h.found)
+    ∙ ((λ i. node_at (h.line.1 ++ (s ∷ [])) (anchored (sym r.anchor i) (head_or (head.1 i) (value f.under))))
+    ∙ content_node r.row_line_is.row.content head.0 h.line.1 s _ w (r.head ∙ head.1) flow))
+
+-- ---- nothing outside flow collections
+
+none_seat : (path : List Step) (s : Step) (p : Part) (y : FoundLine × List Step) → found_at path (part_outline p) ≡ Some (y.0, y.1 ++ (s ∷ [])) → row_line_of path p.rows ≡ None
+none_seat [] s p y e = refl
+none_seat (t ∷ ts) s p y e = ap (λ (o : Option (FoundLine × List Step)). option_and_then (λ x. found_line x.0 x.1) o >>= λ n. row_line n p.rows) e ∙ go y.1
+  where
+    go : (ss : List Step) → (found_line y.0 (ss ++ (s ∷ [])) >>= λ n. row_line n p.rows) ≡ None
+    go [] = refl
+    go (u ∷ ss) = refl
+
+none_standing : (n : ℕ) (path : List Step) (c : Cut) (x : List Step × Step) → last_step path ≡ Some x → ((d : PlacedPart) → placed_document n c ≡ Some d → row_line_of path d.part.rows ≡ None) → standing_at n path c ≡ None
+none_standing n [] c x last h = absurd (none-some _ last)
+none_standing n (t ∷ ts) c x last h = go (placed_document n c) h
+  where
+    go : (o : Option PlacedPart) → ((d : PlacedPart) → o ≡ Some d → row_line_of (t ∷ ts) d.part.rows ≡ None) → option_map entry_standing (o >>= λ d. option_map (entry_rows_at d) (row_line_of (t ∷ ts) d.part.rows)) ≡ None
+    go None h = refl
+    go (Some d) h = ap (λ (s : Option RowLine). option_map entry_standing (option_map (entry_rows_at d) s)) (h d refl)
+
+-- ---- at a path
+
+module _ (c : Cut) (n : ℕ) (path : List Step) (a : EntryAt c n path) where
+  line : LineAt c n a.init a.coll
+  line = line_at c n a.init a.coll a.found
+
+  path_is : path ≡ a.init ++ (a.step ∷ [])
+  path_is = last_is path a.init a.step a.last
+
+  -- the node there
+  pub part_node : read_at (cut_text c) ≡ Some c → node_in n path c ≡ Some (tree_of a.item.node)
+  part_node read =
+      ap (λ (o : Option Document). o >>= λ d. node_at path d.root) (slice_get-map part_document (document_parts c) n ∙ ap (option_map part_document) line.there)
+      ∙ (ap (λ (ss : List Step). node_at ss (value (part_outline line.part))) path_is ∙ (line_node c n a.init a.step a.coll line read ∙ ap (option_map entry_tree) a.at))
+
+  -- nothing stands there outside flow collections
+  pub none_there : standing_at n path c ≡ None
+  none_there = none_standing n path c (a.init, a.step) a.last (λ d is.
+      let same : d.part ≡ line.part = same_Some _ _ (ap part_of (sym is) ∙ (sym (document_placed n c) ∙ line.there)) in
+      none_seat path a.step d.part line.line (ap (λ (ss : List Step). found_at ss (part_outline d.part)) path_is ∙ (ap (λ (q : Part). found_at (a.init ++ (a.step ∷ [])) (part_outline q)) same ∙ head_on a.init a.step (part_outline line.part) line.line line.found)))

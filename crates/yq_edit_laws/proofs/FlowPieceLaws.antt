@@ -1,0 +1,82 @@
+-- The pieces of a text from which an item or entry of a flow collection is taken out.
+use Rattle.std.proofs.Common.{◌≡◌, ◌⊎◌, inl, inr, ℕ, ◌-◌, Bool, true, false, ◌&&◌, cond, List, [], ◌∷◌, ◌++◌, length, take, refl, sym, ap, ◌∙◌, subst, arith, append_assoc, length-append}
+use Rattle.std.proofs.Math.Seq.{take-append_seam, drop-append_seam}
+use Rattle.std.proofs.lemmas.Bool.{false≢true, and_from, and_parts}
+use Rattle.std.proofs.lemmas.Str.{IsUtf8-drop, IsUtf8-take, IsUtf8-nil, IsUtf8-from_ascii}
+use Rattle.std.proofs.lemmas.Str.Ascii.{IsAscii-cons, IsAscii-nil}
+use Rattle.std.specs.Str.{chars, IsUtf8, IsCharBoundary}
+use Rattle.yq_core.specs.Characters.{pairs_returns}
+use Rattle.yq_core.specs.Text.{front, is_feed, is_return}
+use Rattle.yq_flow_edits.specs.FlowEdits.{FlowEdit}
+use Rattle.yq_flow_edits.proofs.ReturnLaws.{Whole}
+use Rattle.yq_row_table.proofs.CharacterLaws.{all_text, all_join, pairs_back}
+use Rattle.yq_edits.specs.TextPieces.{IsPiece}
+
+-- ---- a text cut in two
+
+pairs_whole : (x u : List ℕ) → pairs_returns (x ++ u) ≡ true → Whole x u → pairs_returns x ≡ true
+unfolding pairs_returns
+pairs_whole [] u h w = refl
+pairs_whole (b ∷ []) u h w = go (is_return b) h w
+  where
+    go : (r : Bool) → cond r (front is_feed u && pairs_returns u) (pairs_returns u) ≡ true → (r && front is_feed u) ≡ false → cond r (front is_feed [] && pairs_returns []) (pairs_returns []) ≡ true
+    go true h w = absurd (false≢true (sym w ∙ (and_parts (front is_feed u) (pairs_returns u) h).0))
+    go false h w = refl
+pairs_whole (b ∷ (c ∷ x)) u h w = go (is_return b) h (λ k. pairs_whole (c ∷ x) u k w)
+  where
+    go : (r : Bool) → cond r (is_feed c && pairs_returns (c ∷ (x ++ u))) (pairs_returns (c ∷ (x ++ u))) ≡ true → (pairs_returns (c ∷ (x ++ u)) ≡ true → pairs_returns (c ∷ x) ≡ true) →
+        cond r (is_feed c && pairs_returns (c ∷ x)) (pairs_returns (c ∷ x)) ≡ true
+    go true h again = let y = and_parts (is_feed c) (pairs_returns (c ∷ (x ++ u))) h in and_from _ _ y.0 (again y.1)
+    go false h again = again h
+
+-- the text before a place
+front_utf8 : (t a b : List ℕ) (n : ℕ) → t ≡ a ++ b → IsUtf8 t → IsCharBoundary t n → n ≡ length t - length b → IsUtf8 a
+front_utf8 t a b n e u at size =
+    let there : n ≡ length a = omega (arith, size, ap length e, length-append a b) in
+    subst IsUtf8 ((λ i. take (there i) (e i)) ∙ take-append_seam a b) (IsUtf8-take t n u at)
+
+behind_utf8 : (a b : List ℕ) → IsUtf8 (a ++ b) → IsCharBoundary (a ++ b) (length a) → IsUtf8 b
+behind_utf8 a b u at = subst IsUtf8 (drop-append_seam a b) (IsUtf8-drop (a ++ b) (length a) u at)
+
+pub piece_front : (a b : List ℕ) → IsPiece (a ++ b) → IsUtf8 a → Whole a b → IsPiece a
+piece_front a b h u w =
+    let x = and_parts (all_text (a ++ b)) (pairs_returns (a ++ b)) h.characters in
+    let y = and_parts (all_text a) (all_text b) (sym (all_join a b u) ∙ x.0) in
+    record { utf8 = u; characters = and_from _ _ y.0 (pairs_whole a b x.1 w) }
+
+pub piece_behind : (a b : List ℕ) → IsPiece (a ++ b) → IsUtf8 a → IsCharBoundary (a ++ b) (length a) → IsPiece b
+piece_behind a b h u at =
+    let x = and_parts (all_text (a ++ b)) (pairs_returns (a ++ b)) h.characters in
+    let y = and_parts (all_text a) (all_text b) (sym (all_join a b u) ∙ x.0) in
+    record { utf8 = behind_utf8 a b h.utf8 at; characters = and_from _ _ y.1 (pairs_back a b x.1) }
+
+-- Of an edit that begins and ends at whole characters, where no CR stands before an LF, the text before and behind it are pieces.
+pub edit_pieces : (t before : List ℕ) (e : FlowEdit) → IsPiece t → t ≡ before ++ (e.old ++ e.behind) → IsCharBoundary t (length t - length (e.old ++ e.behind)) → IsCharBoundary t (length t - length e.behind) →
+    Whole before (e.old ++ e.behind) → IsPiece before × IsPiece e.behind
+edit_pieces t before e piece is start ends whole =
+    let u = front_utf8 t before (e.old ++ e.behind) (length t - length (e.old ++ e.behind)) is piece.utf8 start refl in
+    let parts : t ≡ (before ++ e.old) ++ e.behind = is ∙ sym (append_assoc before e.old e.behind) in
+    let v = front_utf8 t (before ++ e.old) e.behind (length t - length e.behind) parts piece.utf8 ends refl in
+    let size : length t - length e.behind ≡ length (before ++ e.old) = omega (arith, ap length parts, length-append (before ++ e.old) e.behind) in (
+      piece_front before (e.old ++ e.behind) (subst IsPiece is piece) u whole,
+      piece_behind (before ++ e.old) e.behind (subst IsPiece parts piece) v (subst (λ (n : ℕ). IsCharBoundary ((before ++ e.old) ++ e.behind) n) size (subst (λ (l : List ℕ). IsCharBoundary l (length t - length e.behind)) parts ends)),
+    )
+
+-- ---- what takes the place of an item or entry
+
+ascii_piece : (b : ℕ) → (b ≡ 32) ⊎ (b ≡ 44) → IsPiece (b ∷ [])
+unfolding chars pairs_returns
+ascii_piece b (inl e) = subst (λ (x : ℕ). IsPiece (x ∷ [])) (sym e) (record { utf8 = IsUtf8-from_ascii (32 ∷ []) (IsAscii-cons 32 [] (omega arith) IsAscii-nil); characters = refl })
+ascii_piece b (inr e) = subst (λ (x : ℕ). IsPiece (x ∷ [])) (sym e) (record { utf8 = IsUtf8-from_ascii (44 ∷ []) (IsAscii-cons 44 [] (omega arith) IsAscii-nil); characters = refl })
+
+pub one_space : IsPiece (32 ∷ [])
+one_space = ascii_piece 32 (inl refl)
+
+pub nothing_piece : IsPiece []
+unfolding chars pairs_returns
+nothing_piece = record { utf8 = IsUtf8-nil; characters = refl }
+
+pub lead_piece : (l : List ℕ) → (l ≡ []) ⊎ ((l ≡ 32 ∷ []) ⊎ (l ≡ 44 ∷ [])) → IsPiece l
+lead_piece l (inl e) = subst IsPiece (sym e) nothing_piece
+lead_piece l (inr (inl e)) = subst IsPiece (sym e) one_space
+lead_piece l (inr (inr e)) = subst IsPiece (sym e) (ascii_piece 44 (inr refl))

@@ -1,0 +1,65 @@
+-- The paths of operations in flow collections, and the roots that they leave.
+use Rattle.std.proofs.Common.{◌≡◌, inl, inr, ℕ, false, List, [], ◌∷◌, ◌++◌, Option, Some, None, option_map, option_and_then, refl, sym, ap, ◌∙◌, subst}
+use Rattle.std.proofs.lemmas.Bool.{or_parts}
+use Rattle.std.proofs.lemmas.Option.{none-some, same_Some}
+use Rattle.std.specs.List.{list_any}
+use Rattle.yq_core.specs.Paths.{Step, changed_at, child_at, node_at, remove_child, within}
+use Rattle.yq_core.specs.Tree.{Node, children_of}
+use Rattle.yq_core.specs.Anchors.{Name, Anchors, Refers, IsAmong, names_of}
+use Rattle.yq_documents.specs.TreeEdits.{at_end}
+use Rattle.yq_lookup.specs.Standings.{last_step}
+use Rattle.yq_edits.specs.Conditions.{AreSpared, anchors_in, aliases_in}
+use Rattle.yq_edits.specs.SoundRoots.{IsSoundRoot}
+use Rattle.yq_edits.proofs.AfterLaws.{end_is_change}
+use Rattle.yq_edits.proofs.SoundRootLess.{remove_keeps}
+use Rattle.yq_semantics.specs.Changes.{refers_to, is_used, is_used_in}
+use Rattle.yq_edits.proofs.EditsFitLaws.{none_refers}
+
+-- ---- the last step of a path
+
+pub last_is : (path init : List Step) (s : Step) → last_step path ≡ Some (init, s) → path ≡ init ++ (s ∷ [])
+last_is [] init s e = absurd (none-some _ e)
+last_is (t ∷ []) init s e = ap (λ (y : List Step × Step). y.0 ++ (y.1 ∷ [])) (same_Some _ _ e)
+last_is (t ∷ (u ∷ path)) init s e = go (last_step (u ∷ path)) refl e (λ a b is. last_is (u ∷ path) a b is)
+  where
+    go : (o : Option (List Step × Step)) → last_step (u ∷ path) ≡ o → option_map {U = List Step × Step} (λ (x : List Step × Step). (t ∷ x.0, x.1)) o ≡ Some (init, s) → ((a : List Step) (b : Step) → last_step (u ∷ path) ≡ Some (a, b) → u ∷ path ≡ a ++ (b ∷ [])) →
+        t ∷ (u ∷ path) ≡ init ++ (s ∷ [])
+    go None is e again = absurd (none-some _ e)
+    go (Some x) is e again = ap (λ (l : List Step). t ∷ l) (again x.0 x.1 is) ∙ ap (λ (y : List Step × Step). y.0 ++ (y.1 ∷ [])) (same_Some _ _ e)
+
+-- the node above the one to which a path leads
+pub above_is : (init : List Step) (s : Step) (root n : Node) → node_at (init ++ (s ∷ [])) root ≡ Some n → (old : Node) × (node_at init root ≡ Some old) × (child_at s (children_of old) ≡ Some n)
+above_is [] s root n e = (root, refl, go (child_at s (children_of root)) e)
+  where
+    go : (o : Option Node) → option_and_then (node_at []) o ≡ Some n → o ≡ Some n
+    go None e = absurd (none-some _ e)
+    go (Some x) e = e
+above_is (t ∷ init) s root n e = go (child_at t (children_of root)) refl e (λ x is. above_is init s x n is)
+  where
+    go : (o : Option Node) → child_at t (children_of root) ≡ o → option_and_then (node_at (init ++ (s ∷ []))) o ≡ Some n →
+        ((x : Node) → node_at (init ++ (s ∷ [])) x ≡ Some n → (old : Node) × (node_at init x ≡ Some old) × (child_at s (children_of old) ≡ Some n)) →
+        (old : Node) × (node_at (t ∷ init) root ≡ Some old) × (child_at s (children_of old) ≡ Some n)
+    go None at e again = absurd (none-some _ e)
+    go (Some x) at e again = let a = again x e in (a.0, ap (option_and_then (node_at init)) at ∙ a.1, a.2)
+
+-- ---- anchors that nobody names
+
+not_used : (a : List ℕ) (gone names : List Name) → list_any (is_used names) gone ≡ false → IsAmong a (anchors_in gone) → IsAmong a (aliases_in names) → ⊥
+not_used a [] names e h r = h
+not_used a (Refers b ∷ gone) names e h r = not_used a gone names e h r
+not_used a (Anchors b ∷ gone) names e (inl same) r =
+    let x = or_parts (list_any (refers_to b) names) (list_any (is_used names) gone) e in none_refers b names x.0 (subst (λ (c : List ℕ). IsAmong c (aliases_in names)) same r)
+not_used a (Anchors b ∷ gone) names e (inr h) r = let x = or_parts (list_any (refers_to b) names) (list_any (is_used names) gone) e in not_used a gone names x.1 h r
+
+spared_of : (gone names : List Name) → list_any (is_used names) gone ≡ false → AreSpared gone [] names
+spared_of gone names e a h r = not_used a gone names e h r
+
+-- ---- an item or entry taken out
+
+pub remove_sound : (path init : List Step) (s : Step) (root n : Node) → IsSoundRoot root → last_step path ≡ Some (init, s) → node_at path root ≡ Some n → is_used_in (names_of root) (Some n) ≡ false → IsSoundRoot (changed_at init (within (remove_child s)) root)
+remove_sound path init s root n sound last there free =
+    let a = above_is init s root n (subst (λ (x : List Step). node_at x root ≡ Some n) (last_is path init s last) there) in
+    remove_keeps init root a.0 n s sound a.1 a.2 (spared_of (names_of n) (names_of root) free)
+
+pub remove_root : (path init : List Step) (s : Step) (root : Node) → last_step path ≡ Some (init, s) → changed_at init (within (remove_child s)) root ≡ at_end remove_child path root
+remove_root path init s root last = sym (ap (λ (x : List Step). at_end remove_child x root) (last_is path init s last) ∙ end_is_change remove_child init s root)

@@ -1,0 +1,132 @@
+-- Where something is written in a flow collection, no CR stands before an LF.
+use Rattle.std.proofs.Common.{◌≡◌, ℕ, Bool, true, false, not, ◌&&◌, cond, eqb, List, [], ◌∷◌, ◌++◌, Some, refl, sym, ap, ◌∙◌, subst, append_assoc}
+use Rattle.std.proofs.lemmas.Bool.{false≢true}
+use Rattle.yq_core.specs.Paths.{Step}
+use Rattle.yq_core.specs.Text.{front, is_feed}
+use Rattle.yq_core.specs.Collections.{CollAt, IsCollAt, item_in}
+use Rattle.yq_core.specs.Entries.{EntryPieces, pieces_text}
+use Rattle.yq_flow_edits.specs.FlowEdits.{behind_appended, behind_last, content_node}
+use Rattle.yq_core.specs.Nodes.{bare, FlowNode, empty, alias, scalar, coll, anchored, Items, none, item, key_text, node_text, flow_items_text, AreFlowItems, is_close, is_empty_node, IsFlowNode, opening_bracket}
+use Rattle.yq_flow_edits.specs.Removals.{ends_return}
+use Rattle.yq_flow_edits.proofs.EditLaws.{Around, around_is}
+use Rattle.yq_flow_edits.proofs.ItemLaws.{item_begins, item_some}
+use Rattle.yq_flow_edits.proofs.ItemPlaces.{Behind, further_behind, item_behind, last_behind}
+use Rattle.yq_flow_edits.proofs.LocalLaws.{node_no_feed}
+use Rattle.yq_flow_edits.proofs.ReturnLaws.{Whole, item_return, return_some, whole_by, whole_front}
+use Rattle.yq_core.proofs.NodesWrittenLaws.{key_append, node_then}
+
+-- Behind a text stands another one, and no CR before an LF.
+pub record StandsBefore (t behind : List ℕ) : Type 0 where
+  pub before : List ℕ
+  pub text : t ≡ before ++ behind
+  pub whole : Whole before behind
+
+-- what stands behind an item or entry
+rest_stands : (d k : ℕ) (t : List ℕ) (y : EntryPieces) → is_close k ≡ true → Behind d k t y → StandsBefore t y.rest
+rest_stands d k t y c h =
+    let own : List ℕ = key_text y.key (node_text y.node []) in
+    let cut : pieces_text y ≡ own ++ y.rest = ap (key_text y.key) (node_then y.node y.rest) ∙ key_append y.key (node_text y.node []) y.rest in
+    let ends : ends_return (h.before ++ own) ≡ ends_return own = return_some h.before own (item_some d k y.key y.node y.rest h.fits.key_is h.fits.some h.fits.is) in
+    record {
+      before = h.before ++ own;
+      text = h.text ∙ (ap (λ (l : List ℕ). h.before ++ l) cut ∙ sym (append_assoc h.before own y.rest));
+      whole = subst (λ (b : Bool). (b && front is_feed y.rest) ≡ false) (sym ends) (item_return k d y.key y.node y.rest c h.ends h.fits.key_is h.fits.is);
+    }
+
+-- its content, with what stands behind it
+content_split : (n : FlowNode) (rest : List ℕ) → (p : List ℕ) × (node_text n rest ≡ p ++ node_text (content_node n) rest)
+unfolding node_text
+content_split empty rest = ([], refl)
+content_split (alias m) rest = ([], refl)
+content_split (scalar p) rest = ([], refl)
+content_split (coll k gap is) rest = ([], refl)
+content_split (anchored m gap node) rest = (38 ∷ (m ++ gap), ap (λ (l : List ℕ). 38 ∷ l) (sym (append_assoc m gap (node_text node rest))))
+
+-- before a content
+content_no_feed : (d : ℕ) (n : FlowNode) (rest : List ℕ) → IsFlowNode true (Some 0) d n rest → is_empty_node (content_node n) ≡ false → front is_feed (node_text (content_node n) [] ++ rest) ≡ false
+unfolding IsFlowNode
+content_no_feed d n rest h some = ap (front is_feed) (sym (node_then (content_node n) rest)) ∙ go n h some
+  where
+    begins : (m : FlowNode) → IsFlowNode true (Some 0) d m rest → is_empty_node m ≡ false → front is_feed (node_text m rest) ≡ false
+    begins m h some = node_no_feed (node_text m rest) (item_begins d 93 bare m rest refl (ap not some) h)
+
+    go : (n : FlowNode) → IsFlowNode true (Some 0) d n rest → is_empty_node (content_node n) ≡ false → front is_feed (node_text (content_node n) rest) ≡ false
+    go empty h some = absurd (false≢true (sym some))
+    go (alias m) h some = begins (alias m) h some
+    go (scalar p) h some = begins (scalar p) h some
+    go (coll k gap is) h some = begins (coll k gap is) h some
+    go (anchored m gap node) h some = begins node h.4 some
+
+bare_written : (n : FlowNode) → is_empty_node n ≡ true → node_text n [] ≡ []
+unfolding node_text
+bare_written empty e = refl
+bare_written (alias m) e = absurd (false≢true e)
+bare_written (scalar p) e = absurd (false≢true e)
+bare_written (coll k gap is) e = absurd (false≢true e)
+bare_written (anchored m gap node) e = absurd (false≢true e)
+
+open_return : (k : ℕ) → ends_return (opening_bracket k ∷ []) ≡ false
+open_return k = elim (eqb k 125) as (λ c. ends_return (cond c 123 91 ∷ []) ≡ false) [ true ↦ refl | false ↦ refl ]
+
+-- what stands behind the last item or entry, or behind the opening bracket
+last_stands : (d k : ℕ) (a gap : List ℕ) (is : Items) (rest : List ℕ) → is_close k ≡ true → AreFlowItems d k is rest → StandsBefore (a ++ (opening_bracket k ∷ (gap ++ flow_items_text k is rest))) (behind_last k gap is rest)
+unfolding flow_items_text
+last_stands d k a gap none rest c h = record {
+  before = a ++ (opening_bracket k ∷ []);
+  text = sym (append_assoc a (opening_bracket k ∷ []) (gap ++ (k ∷ rest)));
+  whole = whole_by (a ++ (opening_bracket k ∷ [])) (gap ++ (k ∷ rest)) (return_some a (opening_bracket k ∷ []) (opening_bracket k, ([], refl)) ∙ open_return k);
+}
+last_stands d k a gap (item key n sep is) rest c h =
+    let items : List ℕ = flow_items_text k (item key n sep is) rest in
+    let t : List ℕ = a ++ (opening_bracket k ∷ (gap ++ items)) in
+    let y = last_behind d k gap (item key n sep is) rest refl h in
+    subst (StandsBefore t) y.1 (rest_stands d k t y.0 c (further_behind d k t items (a ++ (opening_bracket k ∷ gap)) y.0 (sym (append_assoc a (opening_bracket k ∷ gap) items)) y.2))
+
+-- what stands from its content on
+content_stands : (d k : ℕ) (t : List ℕ) (y : EntryPieces) → is_close k ≡ true → Behind d k t y → StandsBefore t (node_text (content_node y.node) [] ++ y.rest)
+content_stands d k t y c h = go (is_empty_node (content_node y.node)) refl
+  where
+    content : List ℕ
+    content = node_text (content_node y.node) [] ++ y.rest
+
+    go : (b : Bool) → is_empty_node (content_node y.node) ≡ b → StandsBefore t content
+    go true e = subst (StandsBefore t) (sym (ap (λ (l : List ℕ). l ++ y.rest) (bare_written (content_node y.node) e))) (rest_stands d k t y c h)
+    go false e =
+        let x = content_split y.node y.rest in
+        let pieces : pieces_text y ≡ key_text y.key x.0 ++ content =
+        ap (key_text y.key) (x.1 ∙ ap (λ (l : List ℕ). x.0 ++ l) (node_then (content_node y.node) y.rest)) ∙ key_append y.key x.0 content in
+        record {
+          before = h.before ++ key_text y.key x.0;
+          text = h.text ∙ (ap (λ (l : List ℕ). h.before ++ l) pieces ∙ sym (append_assoc h.before (key_text y.key x.0) content));
+          whole = whole_front (h.before ++ key_text y.key x.0) content (content_no_feed d y.node y.rest h.fits.is e);
+        }
+
+module _ (x : CollAt) (text : List ℕ) (h : IsCollAt x) where
+  abbrev pub t : List ℕ
+  t = text ++ node_text x.node x.rest
+
+  abbrev around : Around x
+  around = around_is x h
+
+  abbrev opened : List ℕ
+  opened = text ++ (around.before ++ (opening_bracket x.coll.close ∷ x.coll.gap))
+
+  split : t ≡ opened ++ flow_items_text x.coll.close x.coll.items x.coll.rest
+  split =
+      let items : List ℕ = flow_items_text x.coll.close x.coll.items x.coll.rest in
+      ap (λ (l : List ℕ). text ++ l) (around.text ∙ sym (append_assoc around.before (opening_bracket x.coll.close ∷ x.coll.gap) items)) ∙ sym (append_assoc text (around.before ++ (opening_bracket x.coll.close ∷ x.coll.gap)) items)
+
+  in_text : (y : EntryPieces) → Behind around.inner_depth x.coll.close (flow_items_text x.coll.close x.coll.items x.coll.rest) y → Behind around.inner_depth x.coll.close t y
+  in_text y b = further_behind around.inner_depth x.coll.close t (flow_items_text x.coll.close x.coll.items x.coll.rest) opened y split b
+
+  -- the content of an item or entry
+  pub replaced_stands : (s : Step) (y : EntryPieces) → item_in s x ≡ Some y → StandsBefore t (node_text (content_node y.node) [] ++ y.rest)
+  replaced_stands s y found = content_stands around.inner_depth x.coll.close t y around.closes (in_text y (item_behind around.inner_depth x.coll.close s x.coll.items x.coll.rest y around.items found))
+
+  -- what stands behind one more item or entry
+  pub appended_stands : StandsBefore t (behind_appended x.coll)
+  appended_stands =
+      let c = x.coll in
+      let all : t ≡ (text ++ around.before) ++ (opening_bracket c.close ∷ (c.gap ++ flow_items_text c.close c.items c.rest)) =
+      ap (λ (l : List ℕ). text ++ l) around.text ∙ sym (append_assoc text around.before (opening_bracket c.close ∷ (c.gap ++ flow_items_text c.close c.items c.rest))) in
+      subst (λ (l : List ℕ). StandsBefore l (behind_appended c)) (sym all) (last_stands around.inner_depth c.close (text ++ around.before) c.gap c.items c.rest around.closes around.items)

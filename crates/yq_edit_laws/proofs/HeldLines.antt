@@ -1,0 +1,130 @@
+-- A collection on lines under a key or dash, in the place of what this holds.
+use Rattle.std.proofs.Common.{◌≡◌, ℕ, ◌≤◌, true, List, [], ◌∷◌, ◌++◌, length, replicate, None, refl, sym, ap, ◌∙◌, append_assoc, append-nil}
+use Rattle.yq_core.specs.BlockWritten.{break_text}
+use Rattle.yq_text.specs.Limit.{text_limit}
+use Rattle.yq_core.specs.Paths.{Step}
+use Rattle.yq_core.specs.Tree.{Node}
+use Rattle.yq_flow_edits.specs.Valued.{IsValueTree}
+use Rattle.yq_outline.specs.Comments.{line_comment}
+use Rattle.yq_row_table.specs.Exchange.{row_front, with_content}
+use Rattle.yq_row_table.specs.Gap.{IsBreak}
+use Rattle.yq_row_table.specs.Grammar.{IsTail}
+use Rattle.yq_row_table.specs.Rows.{Content, Row, mark_column, print_row, rows_text, Cut}
+use Rattle.yq_row_table.specs.View.{slices}
+use Rattle.yq_lookup.specs.RowPieces.{anchor_before}
+use Rattle.yq_lookup.specs.Standings.{Held, RowsOfEntry, held}
+use Rattle.yq_edits.specs.StandingLaws.{StandsThere}
+use Rattle.yq_edits.specs.TextPieces.{IsPiece}
+use Rattle.yq_edits.proofs.RemovalPieceLaws.{spaces_piece}
+use Rattle.yq_edits.proofs.TextPieceLaws.{pieces_joined}
+use Rattle.yq_edits.proofs.StandingMarks.{entry_there}
+use Rattle.yq_edits.specs.declared.layout.Layout.{Layout}
+use Rattle.yq_edits.specs.BlockReading.{is_filled}
+use Rattle.yq_edits.specs.BlockRows.{column_below, node_rows}
+use Rattle.yq_edits.specs.BlockText.{block_value}
+use Rattle.yq_edits.specs.BlockValues.{IsEnd, IsFilledValue}
+use Rattle.yq_edits.proofs.CharacterLaws.{value_sound}
+use Rattle.yq_edits.proofs.TextLaws.{value_spelled}
+use Rattle.yq_semantics.specs.Operations.{replace}
+use Rattle.yq_text.specs.Script.{Segment, kept_front, new_text}
+use Rattle.yq_edits.specs.EditLaws.{CarriedOut}
+use Rattle.yq_edits.specs.Layouts.{layout_of}
+use Rattle.yq_edits.specs.ReplaceEdits.{held_put}
+use Rattle.yq_edits.specs.WrittenValues.{column_under, lines, lines_in}
+use Rattle.yq_edits.proofs.BrokenTails.{uncommented_tail}
+use Rattle.yq_edits.proofs.EditsFitLaws.{FitsReplace}
+use Rattle.yq_edits.proofs.LayoutLaws.{mapping_least}
+use Rattle.yq_edit_laws.proofs.HeldCarried.{Spells, held_carried}
+use Rattle.yq_edit_laws.proofs.HeldKnown.{KnowsHeld}
+use Rattle.yq_edit_laws.proofs.HeldTexts.{holding, text_left}
+use Rattle.yq_edit_laws.proofs.MarkContentLaws.{anchor_left}
+use Rattle.yq_edit_laws.proofs.MarkKinds.{column_is, filled_is}
+use Rattle.yq_edit_laws.proofs.NodeLeads.{first_lead, own_lead}
+use Rattle.yq_edit_laws.proofs.NodeRowLaws.{NodeRows, rest, rows_there}
+use Rattle.yq_edit_laws.proofs.NodeValueLaws.{IsHolding, end_is, mark_key, rows_under, takes_under}
+use Rattle.yq_edit_laws.proofs.StandingNodes.{behind_is, mark_node}
+
+-- a value in block style is a piece of a text
+pub block_piece : (l : Layout) (column : ℕ) (v : Node) → IsValueTree v → IsPiece (block_value l column v)
+block_piece l column v tree = let x = value_sound v l column tree in record { utf8 = x.0; characters = x.1 }
+
+pub lines_piece : (l : Layout) (column : ℕ) (v : Node) → IsValueTree v → IsPiece (lines_in l column v)
+lines_piece l column v tree = pieces_joined (replicate column 32) (block_value l column v) (spaces_piece column) (block_piece l column v tree)
+
+-- a break alone ends a line
+abbrev pub break_tail : (b more : List ℕ) → IsBreak b more → IsTail b more
+break_tail b more ends = record { white = []; comment = []; line = record { break = b; spelled = refl; blank = tt; as_comment = tt; ends = ends }; apart = refl }
+
+module _ (n : ℕ) (s : Step) (ss : List Step) (c : Cut) (e : RowsOfEntry) (there : StandsThere n s ss c e) (last : e.line ≡ length e.row.dashes) (k : KnowsHeld n s ss c e there last)
+    (v : Node) (tree : IsValueTree v) (f : FitsReplace n (s ∷ ss) v c there.part) (full : is_filled v ≡ true) where
+  abbrev l : Layout
+  l = layout_of n c
+
+  abbrev w : Held
+  w = held e
+
+  abbrev h : NodeRows n s ss c
+  h = mark_node n s ss c e there last
+
+  abbrev z : List ℕ
+  z = rest n s ss c (mark_node n s ss c e there last)
+
+  abbrev under : ℕ
+  under = column_below l (mark_column e.row) (mark_key e.row.mark) v
+
+  pub filled : IsFilledValue v
+  filled = record { filled = filled_is v full; value = tree }
+
+  column : column_under l w.mark v ≡ under
+  column = column_is e.row.mark e.row.content _ l v (mark_column e.row) (entry_there n s ss c e there last) (rows_there n s ss c h).0.mark
+
+  -- behind an end of the line with its comment, and before an end of the last line
+  module _ (tail final : List ℕ) (is : (more : List ℕ) → IsTail tail more) (same : line_comment tail ≡ line_comment (slices e.row).tail) (ends : IsBreak final (rest n s ss c (mark_node n s ss c e there last))) where
+    abbrev left : Content
+    left = anchor_left e.row.content tail
+
+    abbrev value_rows : List Row
+    value_rows = node_rows l under final v
+
+    pub held_is : IsHolding n s ss c h left (rows_text value_rows z)
+    held_is = holding n s ss c e there last k tail (rows_text value_rows z) (is (rows_text value_rows z)) same
+
+    pub final_ends : IsEnd (mark_column e.row) final z
+    final_ends = end_is n s ss c h final (break_tail final z ends)
+
+    pub uncommented : line_comment final ≡ None
+    uncommented = uncommented_tail final z (break_tail final z ends) refl
+
+    abbrev pub rows_put : List Row
+    rows_put = rows_under n s ss c h l (mapping_least n c) v filled f.near left final held_is final_ends uncommented
+
+    text : e.start ++ (rows_text e.front [] ++ rows_text rows_put z) ≡ w.before ++ (tail ++ (lines_in l (column_under l w.mark v) v ++ (final ++ w.behind)))
+    text =
+        text_left n s ss c e there last k tail value_rows z
+        ∙ (ap (λ r. w.before ++ (tail ++ r)) (value_spelled v l under final z filled.filled filled.value ∙ sym (append_assoc (replicate under 32) (block_value l under v) (final ++ z)))
+        ∙ (λ i. w.before ++ (tail ++ (lines_in l (sym column i) v ++ (final ++ sym (behind_is n s ss c e there last) i)))))
+
+    before_is : w.before ≡ (e.start ++ rows_text e.front []) ++ (row_front e.row ++ anchor_before (slices e.row))
+    before_is = append_assoc (e.start ++ rows_text e.front []) (row_front e.row) (anchor_before (slices e.row))
+
+    pub rows_spell : (us : List Segment) → kept_front us ≡ w.before → w.before ++ (tail ++ (lines_in l (column_under l w.mark v) v ++ (final ++ w.behind))) ≡ new_text us → Spells n s ss c e there last k v us rows_put
+    rows_spell us kept new = record {
+      takes = takes_under n s ss c h l (mapping_least n c) v filled f.near left final held_is final_ends uncommented;
+      text = text ∙ new;
+      lead = row_front e.row ++ anchor_before (slices e.row);
+      before_is = kept ∙ before_is;
+      within = own_lead e.row;
+      begins = first_lead e.start (rows_text e.front []) (print_row (with_content left e.row) []) w.before (tail ++ []) (row_front e.row ++ anchor_before (slices e.row)) (text_left n s ss c e there last k tail [] []) before_is;
+    }
+
+  -- in the place of anything but a block scalar
+  abbrev us : List Segment
+  us = held_put (break_text l.br) w (lines (lines_in l (column_under l w.mark v) v))
+
+  pub held_lines : length (new_text us) ≤ text_limit → CarriedOut (replace n (s ∷ ss) v) c us
+  held_lines =
+      let br : List ℕ = break_text l.br in
+      let tail : List ℕ = w.white ++ (w.comment ++ br) in
+      let new : w.before ++ (tail ++ (lines_in l (column_under l w.mark v) v ++ (w.last ++ w.behind))) ≡ new_text us = simp (append_assoc, append-nil) refl in
+      held_carried n s ss c e there last k v f l.br (lines (lines_in l (column_under l w.mark v) v)) (rows_put tail w.last (k.broken l.br) (k.broken_comment l.br) k.ends)
+      (rows_spell tail w.last (k.broken l.br) (k.broken_comment l.br) k.ends us (append-nil w.before) new) (lines_piece l (column_under l w.mark v) v tree)

@@ -1,0 +1,41 @@
+-- A value on one line in the place of an inline node changes its row alone, and leaves its shape.
+use Rattle.std.proofs.Common.{◌≡◌, List, [], ◌∷◌, ◌++◌, is_some, sym, ap, ◌∙◌, refl}
+use Rattle.yq_core.specs.declared.style.Place.TheVariants.{Block as InBlock}
+use Rattle.yq_row_table.specs.Exchange.{with_content}
+use Rattle.yq_row_table.specs.Rows.{Row, parent_indent}
+use Rattle.yq_lookup.specs.Standings.{held}
+use Rattle.yq_edits.proofs.StandingRows.{rows_stand}
+use Rattle.yq_edits.specs.Layouts.{layout_of}
+use Rattle.yq_edits.specs.RowChanges.{InlineValuesChangeRows}
+use Rattle.yq_edits.specs.WrittenValues.{value_text}
+use Rattle.yq_edits.proofs.EditsFitLaws.{fits_replace}
+use Rattle.yq_edits.proofs.ValueTexts.{value_for}
+use Rattle.yq_edit_laws.proofs.HeadPuts.{content_there}
+use Rattle.yq_edit_laws.proofs.HeldInline.{RowMade, node_made}
+use Rattle.yq_edit_laws.proofs.HeldKnown.{KnowsHeld, first_alone}
+use Rattle.yq_edit_laws.proofs.HeldRows.{head_there, headless_there, held_known}
+use Rattle.yq_edit_laws.proofs.NodeRowLaws.{rest}
+use Rattle.yq_edit_laws.proofs.StandingNodes.{mark_node}
+
+pub inline_values_change_rows : InlineValuesChangeRows
+inline_values_change_rows n s ss v c e read at inline plain operand fits size =
+    let there = rows_stand n s ss c e read at in
+    let none : e.under ≡ [] = headless_there n s ss c e there inline.last inline.some in
+    let k : KnowsHeld n s ss c e there inline.last = held_known n s ss c e there inline.last read at (ap first_alone none) in
+    let f = fits_replace n (s ∷ ss) v c there.part there.old.there operand fits in
+    let made : RowMade n c e there.part _ v =
+    node_made n s ss c e there inline.last k (layout_of n c).br v f (value_text InBlock (held e).head v) (value_for (held e).head v operand f.deep f.long) inline.some inline.block size in
+    let old = head_there (parent_indent e.row) e.row.content (rest n s ss c (mark_node n s ss c e there inline.last)) (content_there n s ss c e there inline.last k inline.some) inline.some in
+    let headed = ap is_some made.headed ∙ sym old in
+    record {
+      part = there.part;
+      there = there.old.there;
+      front = e.front;
+      row = e.row;
+      new = with_content made.content e.row;
+      back = e.back;
+      rows_are = there.rows_are ∙ ap (λ (us : List Row). e.front ++ (e.row ∷ (us ++ e.back))) none;
+      front_size = refl;
+      shape = λ j. record { column = e.row.column; dashes = e.row.dashes; mark = e.row.mark; headed = headed j };
+      read = made.read;
+    }

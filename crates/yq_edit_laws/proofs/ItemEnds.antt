@@ -1,0 +1,76 @@
+-- Items of a cut end in an LF, where something is behind them; and which of them lie at the bytes that a change keeps.
+use Rattle.std.proofs.Common.{◌≡◌, ◌⊎◌, inl, inr, ℕ, ◌+◌, ◌-◌, ◌≤◌, Bool, true, false, cond, ltb, List, [], ◌∷◌, ◌++◌, length, refl, sym, ap, ◌∙◌, subst, arith, append-nil}
+use mathlib.Core.List.{head-eq_of_cons-eq, tail-eq_of_cons-eq}
+use Rattle.std.proofs.lemmas.Bool.{false≢true, ltb-false}
+use Rattle.std.proofs.lemmas.List.{length-append}
+use Rattle.yq_core.specs.Text.{is_empty}
+use Rattle.yq_core.proofs.BlockPieceLaws.{IsLf, append_lf, line_lf}
+use Rattle.yq_row_table.specs.Items.{Item, row_item, end_item, items_text, Asked, asked_by, IsPartEnd, IsItem, AreRowItems}
+use Rattle.yq_row_table.specs.Touched.{item_text, in_back, in_front}
+use Rattle.yq_row_table.proofs.ItemLaws.{items_text-append}
+use Rattle.yq_row_table.proofs.KeptLaws.{items_apart}
+use Rattle.yq_row_table.proofs.NothingLaws.{some_behind}
+use Rattle.yq_row_table.proofs.seams.MarkerSeams.{marker_line_is}
+use Rattle.yq_lookup.proofs.CommentPieceLaws.{Ended}
+use Rattle.yq_edits.proofs.EndedRowLaws.{row_ended}
+use Rattle.yq_edits.proofs.ItemsLocal.{item_apart}
+use Rattle.yq_edit_laws.proofs.TouchLaws.{size_one}
+
+-- ---- what ends them
+
+item_ended : (asked : Asked) (i : Item) (xs : List Item) → IsItem asked i xs [] → is_empty (items_text xs []) ≡ false → IsLf (item_text i)
+item_ended asked (row_item r) xs h some = go (row_ended asked.limit r (items_text xs []) h.1)
+  where
+    go : Ended (item_text (row_item r)) (items_text xs []) → IsLf (item_text (row_item r))
+    go (inl lf) = lf
+    go (inr none) = absurd (false≢true (sym some ∙ ap is_empty none))
+item_ended asked (end_item gap marker) xs h some = go h.1
+  where
+    go : IsPartEnd marker xs [] → IsLf (gap ++ marker)
+    go (inl line) = append_lf gap marker (line_lf marker (marker_line_is marker (items_text xs []) line some))
+    go (inr none) = absurd (false≢true (sym some ∙ ap (λ (l : List Item). is_empty (items_text l [])) none.1))
+
+-- several of them
+pub items_ended : (asked : Asked) (xs ys : List Item) → AreRowItems asked (xs ++ ys) [] → is_empty (items_text ys []) ≡ false → (xs ≡ []) ⊎ IsLf (items_text xs [])
+items_ended asked [] ys h some = inl refl
+items_ended asked (x ∷ xs) ys h some = inr (subst IsLf (sym (item_apart x xs [])) (go (items_ended (asked_by asked x) xs ys h.1 some)))
+  where
+    behind : is_empty (items_text (xs ++ ys) []) ≡ false
+    behind = ap is_empty (items_text-append xs ys [] ∙ items_apart xs (items_text ys [])) ∙ some_behind (items_text xs []) (items_text ys []) some
+
+    own : IsLf (item_text x)
+    own = item_ended asked x (xs ++ ys) h.0 behind
+
+    go : (xs ≡ []) ⊎ IsLf (items_text xs []) → IsLf (item_text x ++ items_text xs [])
+    go (inl none) = subst (λ (l : List Item). IsLf (item_text x ++ items_text l [])) (sym none) (subst IsLf (sym (append-nil (item_text x))) own)
+    go (inr lf) = append_lf (item_text x) (items_text xs []) lf
+
+-- ---- which of them are in front and behind
+
+-- the first item that isn't in front of an offset reaches it
+pub front_stop : (n : ℕ) (is : List Item) (y : Item) (ys : List Item) → is ≡ in_front n is ++ (y ∷ ys) → n ≤ length (items_text (in_front n is) []) + length (item_text y)
+front_stop n [] y ys e = absurd (let no : [] ≡ y ∷ ys = e in cc)
+front_stop n (i ∷ is) y ys e = go (in_front (n - length (item_text i)) is) (front_stop (n - length (item_text i)) is y ys) (ltb (length (item_text i)) n) refl e
+  where
+    go : (rest : List Item) → (is ≡ rest ++ (y ∷ ys) → n - length (item_text i) ≤ length (items_text rest []) + length (item_text y)) → (b : Bool) → ltb (length (item_text i)) n ≡ b →
+        i ∷ is ≡ cond b (i ∷ rest) [] ++ (y ∷ ys) → n ≤ length (items_text (cond b (i ∷ rest) []) []) + length (item_text y)
+    go rest again true less k = let more = again (tail-eq_of_cons-eq k) in omega (arith, more, size_one i rest)
+    go rest again false less k = let own : i ≡ y = head-eq_of_cons-eq k in omega (arith, ltb-false (length (item_text i)) n less, ap (λ (x : Item). length (item_text x)) own)
+
+-- an item in front of those that are behind a place begins at it or in front of it
+pub back_stop : (n : ℕ) (is xs : List Item) (w : Item) (ws : List Item) → is ≡ xs ++ (w ∷ (ws ++ in_back n is)) → n ≤ length (items_text (w ∷ (ws ++ in_back n is)) [])
+back_stop n [] [] w ws e = absurd (let no : [] ≡ w ∷ (ws ++ in_back n []) = e in cc)
+back_stop n [] (x ∷ xs) w ws e = absurd (let no : [] ≡ x ∷ (xs ++ (w ∷ (ws ++ in_back n []))) = e in cc)
+back_stop n (i ∷ is) xs w ws e = go (λ ys k. back_stop n is ys w ws k) (ltb (length (items_text (i ∷ is) [])) n) refl e
+  where
+    whole : (xs : List Item) → i ∷ is ≡ xs ++ (w ∷ (ws ++ (i ∷ is))) → ⊥
+    whole xs k = omega (arith, ap length k, length-append xs (w ∷ (ws ++ (i ∷ is))), length-append ws (i ∷ is))
+
+    less : ((ys : List Item) → is ≡ ys ++ (w ∷ (ws ++ in_back n is)) → n ≤ length (items_text (w ∷ (ws ++ in_back n is)) [])) → (xs : List Item) → i ∷ is ≡ xs ++ (w ∷ (ws ++ in_back n is)) → n ≤ length (items_text (i ∷ is) []) →
+        n ≤ length (items_text (w ∷ (ws ++ in_back n is)) [])
+    less again [] k h = subst (λ (l : List Item). n ≤ length (items_text l [])) k h
+    less again (x ∷ xs) k h = again xs (tail-eq_of_cons-eq k)
+
+    go : ((ys : List Item) → is ≡ ys ++ (w ∷ (ws ++ in_back n is)) → n ≤ length (items_text (w ∷ (ws ++ in_back n is)) [])) → (b : Bool) → ltb (length (items_text (i ∷ is) [])) n ≡ b → i ∷ is ≡ xs ++ (w ∷ (ws ++ cond b (i ∷ is) (in_back n is))) → n ≤ length (items_text (w ∷ (ws ++ cond b (i ∷ is) (in_back n is))) [])
+    go again true long k = absurd (whole xs k)
+    go again false long k = less again xs k (ltb-false (length (items_text (i ∷ is) [])) n long)

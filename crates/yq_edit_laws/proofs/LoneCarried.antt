@@ -1,0 +1,214 @@
+-- A value in the place of a node alone on its line.
+use Rattle.std.proofs.Common.{◌≡◌, ◌⊎◌, inl, inr, ℕ, ◌≤◌, cond, List, [], ◌∷◌, ◌++◌, length, replicate, Some, refl, sym, ap, ◌∙◌, subst, append_assoc, append-nil, rules}
+use Rattle.std.proofs.lemmas.Bool.{false≢true}
+use Rattle.yq_text.specs.Limit.{text_limit}
+use Rattle.yq_core.specs.Paths.{Step, changed_at}
+use Rattle.yq_core.specs.Tree.{Node}
+use Rattle.yq_core.specs.declared.style.Place.TheVariants.{Block as InBlock}
+use Rattle.yq_core.specs.Nodes.{node_text}
+use Rattle.yq_core.proofs.NodesWrittenLaws.{node_then}
+use Rattle.yq_flow_edits.specs.Valued.{IsValueTree}
+use Rattle.yq_row_table.specs.Exchange.{asked_behind, row_front, with_content}
+use Rattle.yq_row_table.specs.Grammar.{IsMark, IsRow, IsTail, unlimited}
+use Rattle.yq_row_table.specs.Rows.{Bare, Row, behind_gap, parent_indent, print_row, rows_text, Cut, cut_text, Part, part_text}
+use Rattle.yq_row_table.specs.View.{slices}
+use Rattle.yq_row_table.proofs.CharacterLaws.{ends_after}
+use Rattle.yq_row_table.proofs.NodePieces.{ends_behind}
+use Rattle.yq_row_table.proofs.seams.SeamLaws.{rows_text-append}
+use Rattle.yq_documents.specs.Documents.{lead_of}
+use Rattle.yq_documents.specs.Reading.{documents, read_at, root_of}
+use Rattle.yq_documents.specs.TreeEdits.{replaced_node}
+use Rattle.yq_lookup.specs.PlacedRows.{PlacedPart, PlacedRow, placed_document}
+use Rattle.yq_lookup.specs.RowPaths.{IsReadable}
+use Rattle.yq_lookup.specs.Standings.{Lone, lone}
+use Rattle.yq_lookup.proofs.CommentEndLaws.{row_text_parts}
+use Rattle.yq_lookup.proofs.CommentPieceLaws.{gap_end}
+use Rattle.yq_lookup.proofs.LineEndLaws.{line_tail}
+use Rattle.yq_lookup.proofs.RemovalLines.{LiesIn, LineSeam, lies_in, seam_join}
+use Rattle.yq_lookup.proofs.RunSpans.{rows_then}
+use Rattle.yq_edits.specs.Changed.{IsChanged, put_document}
+use Rattle.yq_edits.specs.DocumentRows.{IsDocumentPart, behind_document}
+use Rattle.yq_edits.specs.InlineRows.{LeadsToLone}
+use Rattle.yq_edits.specs.PlacedParts.{StandsAt}
+use Rattle.yq_edits.specs.Rooms.{is_block_root}
+use Rattle.yq_edits.specs.TextPieces.{IsPiece}
+use Rattle.yq_edits.proofs.CoreLaws.{put_core}
+use Rattle.yq_edits.proofs.InlineReplaceLaws.{own_rows}
+use Rattle.yq_edits.proofs.LeadLaws.{same_lead_goes}
+use Rattle.yq_edits.proofs.PartLaws.{document_known}
+use Rattle.yq_edits.proofs.PlacedPartLaws.{document_stands_at}
+use Rattle.yq_edits.proofs.RemovalPieceLaws.{seam_pieces, spaces_piece}
+use Rattle.yq_edits.proofs.TextPieceLaws.{cut_behind, pieces_joined, text_is_piece}
+use Rattle.yq_semantics.specs.Fits.{Fits}
+use Rattle.yq_semantics.specs.Operations.{Operation, replace}
+use Rattle.yq_semantics.specs.Rooms.{room_of}
+use Rattle.yq_text.specs.Script.{Segment, new_text, old_text}
+use Rattle.yq_edits.specs.EditLaws.{CarriedOut, IsEdit}
+use Rattle.yq_edits.specs.Local.{IsLocal}
+use Rattle.yq_edits.specs.ReplaceEdits.{spaced_text, lone_put}
+use Rattle.yq_edits.specs.ReadsAfter.{ReadsAfter}
+use Rattle.yq_edits.specs.WrittenValues.{value_text}
+use Rattle.yq_edits.proofs.DoneLaws.{document_done}
+use Rattle.yq_edits.proofs.EditsFitLaws.{FitsReplace, fits_replace}
+use Rattle.yq_edits.proofs.KeptLaws.{led_same}
+use Rattle.yq_edits.proofs.TailPieces.{HasTailPieces, pieces}
+use Rattle.yq_edits.proofs.LocalLaws.{cut_known, row_local}
+use Rattle.yq_edits.proofs.SegmentLaws.{segments_readable}
+use Rattle.yq_edits.proofs.ValueTexts.{IsWrittenFor, value_for}
+use Rattle.yq_edit_laws.proofs.LoneContents as contents
+use Rattle.yq_edit_laws.proofs.LoneHeads.{EndsLow, IsLoneHead, before_head, lone_head}
+use Rattle.yq_edit_laws.proofs.MarkHeads.{no_raw}
+
+-- A row that is alone on its line, among the rows of a document, to whose content steps lead; the rows before it end in an LF.
+module _ (n : ℕ) (steps : List Step) (v : Node) (c : Cut) (read : read_at (cut_text c) ≡ Some c) (d : PlacedPart) (placed : placed_document n c ≡ Some d) (front : List Row) (r : Row) (back : List Row) (rows_are : d.part.rows ≡ front ++ (r ∷ back))
+    (mark : r.mark ≡ Bare) (no_dashes : r.dashes ≡ []) (leads : LeadsToLone d.part steps front r) (ended : LineSeam (rows_text front []) (rows_text (r ∷ back) (d.part.end ++ d.behind))) where
+  abbrev z : List ℕ
+  z = rows_text back (d.part.end ++ d.behind)
+
+  abbrev base : List ℕ
+  base = d.before ++ rows_text front []
+
+  abbrev w : Lone
+  w = lone (d.before ++ rows_text front []) r (rows_text back (d.part.end ++ d.behind))
+
+  abbrev us : List Segment
+  us = lone_put w v
+
+  abbrev t : List ℕ
+  t = value_text InBlock (slices r).head v
+
+  stands : StandsAt c n d
+  stands = document_stands_at c n d placed
+
+  old : IsDocumentPart (cut_text c) c n d.part
+  old = record { read = read; there = stands.there }
+
+  row : IsRow (asked_behind unlimited front) r z
+  row = subst (λ u. IsRow (asked_behind unlimited front) r (rows_text back (d.part.end ++ u))) stands.behind (own_rows (cut_text c) c n d.part front r back old rows_are).0
+
+  place : IsLoneHead r.content
+  place = lone_head (parent_indent r) r.content z row.content (subst (λ m. IsMark m r.content z) mark row.mark)
+
+  raw : (slices r).raw ≡ []
+  raw = no_raw r.content place.block
+
+  -- ---- the text
+
+  rows_there : part_text d.part d.behind ≡ rows_text front [] ++ print_row r z
+  rows_there = ap (λ xs. rows_text xs (d.part.end ++ d.behind)) rows_are ∙ (rows_text-append front (r ∷ back) (d.part.end ++ d.behind) ∙ rows_then front (print_row r z))
+
+  text : cut_text c ≡ base ++ print_row r z
+  text = stands.text ∙ (ap (λ u. d.before ++ u) rows_there ∙ sym (append_assoc d.before (rows_text front []) (print_row r z)))
+
+  whole : cut_text c ≡ w.before ++ (w.head ++ w.behind)
+  whole = simp (append_assoc, text, row_text_parts, raw)
+
+  old_is : old_text us ≡ cut_text c
+  old_is = ap (λ u. w.before ++ (w.head ++ u)) (append-nil w.behind) ∙ sym whole
+
+  -- ---- its pieces
+
+  lies : LiesIn d
+  lies = lies_in n c d (document_known (cut_text c) c n d.part old).cut.parts placed
+
+  abbrev indent : List ℕ
+  indent = (base ++ r.gap) ++ replicate r.column 32
+
+  seam : LineSeam (base ++ r.gap) (behind_gap r z)
+  seam =
+      seam_join base r.gap (behind_gap r z) (seam_join d.before (rows_text front []) (print_row r z) (subst (LineSeam d.before) rows_there lies.seam) ended)
+      (gap_end r.gap (behind_gap r z) row.gap)
+
+  indent_piece : IsPiece indent
+  indent_piece =
+      pieces_joined (base ++ r.gap) (replicate r.column 32)
+      (seam_pieces (base ++ r.gap) (behind_gap r z) seam (subst IsPiece (text ∙ sym (append_assoc base r.gap (behind_gap r z))) (text_is_piece c read))).0
+      (spaces_piece r.column)
+
+  before_is : w.before ≡ indent ++ before_head r.content
+  before_is = search (rules, append_assoc, append-nil)
+
+  before_piece : IsPiece w.before
+  before_piece = subst IsPiece (sym before_is) (go place.front)
+    where
+      go : (before_head r.content ≡ []) ⊎ EndsLow (before_head r.content) → IsPiece (indent ++ before_head r.content)
+      go (inl e) = subst IsPiece (sym (ap (λ u. indent ++ u) e ∙ append-nil indent)) indent_piece
+      go (inr e) =
+          (cut_behind (indent ++ before_head r.content) (w.head ++ w.behind) (subst IsPiece (whole ∙ ap (λ u. u ++ (w.head ++ w.behind)) before_is) (text_is_piece c read)) (ends_behind indent (before_head r.content) e.0)
+          (ends_after indent (before_head r.content) e.1)).0
+
+  tail : IsTail (slices r).tail ((slices r).raw ++ z)
+  tail = line_tail (parent_indent r) r.content z row.content
+
+  behind_piece : IsPiece w.behind
+  behind_piece =
+      let at : PlacedRow = record { before = base; row = r; line = 0; behind = z } in
+      let k : HasTailPieces at (slices r).tail ((slices r).raw ++ z) tail = pieces at (asked_behind unlimited front) row (subst IsPiece text (text_is_piece c read)) tail in
+      let parts : (tail.white ++ tail.comment) ++ (tail.line.break ++ ((slices r).raw ++ z)) ≡ (tail.white ++ (tail.comment ++ tail.line.break)) ++ ((slices r).raw ++ z) = simp append_assoc refl in
+      subst IsPiece (parts ∙ (ap (λ u. u ++ ((slices r).raw ++ z)) (sym tail.line.spelled) ∙ ap (λ u. (slices r).tail ++ (u ++ z)) raw))
+      (pieces_joined (tail.white ++ tail.comment) (tail.line.break ++ ((slices r).raw ++ z)) k.line k.behind)
+
+  -- ---- the new text
+
+  some_head : spaced_text w.head t ≡ t
+  some_head = ap (λ b. cond b (32 ∷ t) t) place.some
+
+  new_is : new_text us ≡ w.before ++ (t ++ w.behind)
+  new_is = λ i. w.before ++ (some_head i ++ append-nil w.behind i)
+
+  put : (x : Part) → cut_text (put_document n x c) ≡ d.before ++ part_text x (behind_document n c)
+  put x = stands.put x ∙ ap (λ u. d.before ++ part_text x u) (sym stands.behind)
+
+  carried : IsValueTree v → Fits (room_of (cut_text c)) (replace n steps v) (documents c) → length (new_text us) ≤ text_limit → CarriedOut (replace n steps v) c us
+  carried tree fits size =
+      let p : Part = d.part in
+      let op : Operation = replace n steps v in
+      let f : FitsReplace n steps v c p = fits_replace n steps v c p stands.there tree fits in
+      let x : IsWrittenFor v t = value_for (slices r).head v tree f.deep f.long in
+      let q : Part = contents.q c n p old front r back rows_are mark no_dashes steps leads v x.node x.is in
+      let spelled : node_text x.node ((slices r).tail ++ rows_text back (p.end ++ behind_document n c)) ≡ t ++ w.behind = search (rules, node_then, x, p) in
+      let same : cut_text (put_document n q c) ≡ new_text us =
+      contents.text c n p old front r back rows_are mark no_dashes steps leads v x.node x.is d.before put ∙ (ap (λ u. w.before ++ u) spelled ∙ sym new_is) in
+      let readable : IsReadable (new_text us) = segments_readable us (before_piece, (subst IsPiece (sym some_head) x.piece, (behind_piece, tt))) size in
+      let changed : IsChanged c (put_document n q c) n (lead_of p) (changed_at steps (replaced_node v)) =
+      contents.lone_changed c n p old front r back rows_are mark no_dashes steps leads v x.node x.is (subst IsReadable (sym same) readable) f.node f.there f.may in
+      let lead : lead_of q ≡ lead_of p = contents.same_lead c n p old front r back rows_are mark no_dashes steps leads v x.node x.is in
+      let block : is_block_root q ≡ is_block_root p = contents.same_block c n p old front r back rows_are mark no_dashes steps leads v x.node x.is in
+      let local : IsLocal us c (put_document n q c) =
+      row_local us c n q (record {
+        p = p;
+        there = stands.there;
+        start = d.before;
+        put = put;
+        front = front;
+        gone = r ∷ [];
+        come = with_content (put_core x.node r.content) r ∷ [];
+        back = back;
+        rows_are = rows_are;
+        come_are = contents.there c n p old front r back rows_are mark no_dashes steps leads v x.node x.is;
+        end_is = contents.same_end c n p old front r back rows_are mark no_dashes steps leads v x.node x.is;
+        lead = row_front r ++ before_head r.content;
+        trail = (slices r).tail;
+        before_is = append-nil w.before;
+        behind_is = append-nil w.behind ∙ ap (λ u. (slices r).tail ++ rows_text back (d.part.end ++ u)) (sym stands.behind);
+        puts = refl;
+        old_is = old_is;
+        new_is = sym same;
+      }) r (with_content (put_core x.node r.content) r) refl refl in
+      record {
+        reads = subst (ReadsAfter op c) same
+            (document_done op c p q (lead_of p) (changed_at steps (replaced_node v)) (record {
+              read = read;
+              there = stands.there;
+              rows = λ none. absurd (false≢true (sym (contents.some_rows c n p old front r back rows_are mark no_dashes steps leads v x.node x.is) ∙ none));
+              changed = changed;
+              root = ap (λ m. changed_at steps (replaced_node m) (root_of p)) (sym (led_same (is_block_root p) (lead_of p) steps v (contents.rooted c n p old front r back rows_are mark no_dashes steps leads v x.node x.is)));
+              lead_goes = same_lead_goes p q lead block;
+              block = λ keeps. block;
+              equal_room = λ sets. absurd sets;
+            }));
+        local = inl (cut_known us c (put_document n q c) changed.read same local);
+      }
+
+  pub lone_carried : IsEdit (replace n steps v) c us
+  lone_carried = record { old = old_is; carried = carried }

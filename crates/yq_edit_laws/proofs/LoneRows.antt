@@ -1,0 +1,188 @@
+-- Rows that are alone on their lines: under a key or dash, and as roots.
+use Rattle.std.proofs.Common.{option_map, append-nil, ◌≡◌, inl, inr, ℕ, true, List, [], ◌∷◌, ◌++◌, length, Option, Some, None, refl, sym, ap, ◌∙◌, subst, arith, append_assoc, length-append, rules}
+use Rattle.std.proofs.lemmas.Bool.{and_parts, false≢true}
+use Rattle.std.proofs.lemmas.Option.{same_Some}
+use Rattle.yq_core.specs.Answers.{◌>>=◌}
+use Rattle.yq_core.specs.Paths.{Step}
+use Rattle.yq_core.specs.Text.{is_empty}
+use Rattle.yq_core.specs.Tree.{Node}
+use Rattle.yq_core.proofs.Bools.{bind_some}
+use Rattle.yq_outline.specs.Comments.{head_comment}
+use Rattle.yq_outline.specs.Group.{level_or}
+use Rattle.yq_outline.specs.Outline as outline
+use Rattle.yq_outline.specs.Outline.{Line, Outline, end, row, flatten, IsEven, IsOpen, IsWhole}
+use Rattle.yq_outline.specs.Places.{find}
+use Rattle.yq_outline.specs.Positions.{has_no_mark}
+use Rattle.yq_outline.proofs.Decides.{flatten-group}
+use Rattle.yq_row_table.specs.Grammar.{AreRows, unlimited}
+use Rattle.yq_row_table.specs.Rows as rows
+use Rattle.yq_row_table.specs.Rows.{Row, rows_text, print_row, Part, Cut, cut_text}
+use Rattle.yq_row_table.proofs.seams.SeamLaws.{rows_text-append}
+use Rattle.yq_outline.specs.Lines.{lines_from, lines_of_rows, mark_line, line_mark, row_lines}
+use Rattle.yq_documents.specs.Reading.{part_outline, read_at}
+use Rattle.yq_documents.specs.LinesInRows.{RowLine, row_line_of}
+use Rattle.yq_lookup.specs.PlacedRows.{PlacedPart, placed_document}
+use Rattle.yq_lookup.specs.Standings.{RowsOfEntry, before_entry, behind_entry, entry_rows_at, is_alone, lone, rows_of_entry}
+use Rattle.yq_lookup.proofs.CommentPieceLaws.{Ended}
+use Rattle.yq_lookup.proofs.PrintedTexts.{map_some}
+use Rattle.yq_lookup.proofs.RemovalLines.{LineSeam}
+use Rattle.yq_lookup.proofs.RunSpans.{rows_then}
+use Rattle.yq_lookup.proofs.UnderExchange.{lines_append}
+use Rattle.yq_edits.specs.DocumentRows.{IsDocumentPart, behind_document}
+use Rattle.yq_edits.specs.InlineRows.{LeadsBelow, IsRootRow}
+use Rattle.yq_edits.specs.PlacedParts.{StandsAt}
+use Rattle.yq_edits.specs.StandingLaws.{StandsThere}
+use Rattle.yq_edits.proofs.EndedRowLaws.{rows_ended}
+use Rattle.yq_edits.proofs.LineLaws.{row_count}
+use Rattle.yq_edits.proofs.NodeLineLaws.{under_even}
+use Rattle.yq_edits.proofs.PartLaws.{document_known, part_rows}
+use Rattle.yq_edits.proofs.PlacedPartLaws.{document_stands_at}
+use Rattle.yq_edits.proofs.StandingRows.{rows_stand}
+use Rattle.yq_edits.proofs.UnderLaws.{under_is}
+use Rattle.yq_semantics.specs.Operations.{replace}
+use Rattle.yq_edits.specs.EditLaws.{IsEdit}
+use Rattle.yq_edits.specs.ReplaceEdits.{lone_put}
+use Rattle.yq_edits.proofs.StandingMarks.{under_it}
+use Rattle.yq_edit_laws.proofs.LoneCarried.{lone_carried}
+use Rattle.yq_core.proofs.LineLaws.{is_empty_is}
+use Rattle.yq_outline.proofs.Plug.{headless}
+
+-- ---- a row alone
+
+-- such a row has neither dashes nor a mark
+alone_row : (r : Row) → is_alone r ≡ true → (r.mark ≡ rows.Bare) × (r.dashes ≡ [])
+alone_row r h = let p = and_parts (is_empty r.dashes) (has_no_mark (line_mark r.mark)) h in ((search (rules, false≢true, p.1)), is_empty_is r.dashes p.0)
+
+-- it is one line
+alone_line : (r : Row) → is_alone r ≡ true → (l : Line) × (row_lines r ≡ l ∷ []) × (l.mark ≡ outline.Bare)
+alone_line r h = let p = alone_row r h in go r.dashes r.mark p.1 p.0
+  where
+    go : (ns : List ℕ) (m : rows.RowMark) → ns ≡ [] → m ≡ rows.Bare → (l : Line) × (lines_from (head_comment r.gap) r.column ns m r.content ≡ l ∷ []) × (l.mark ≡ outline.Bare)
+    go [] m e is = (mark_line (head_comment r.gap) r.column m r.content, refl, ap line_mark is)
+    go (n ∷ ns) m e is = absurd (let no : n ∷ ns ≡ [] = e in cc)
+
+-- a node on a line of its own is there, and is alone
+whole_bare : (m : outline.LineMark) (h : Option Node) (a b : Outline) → m ≡ outline.Bare → IsOpen h a → IsWhole m h b → (a ≡ end) × (b ≡ end)
+whole_bare outline.Bare None a b e o w = absurd w
+whole_bare outline.Bare (Some x) end end e o w = (refl, refl)
+whole_bare outline.Bare (Some x) (row l u c) b e o w = absurd o
+whole_bare outline.Bare (Some x) end (row l u c) e o w = absurd w
+whole_bare (outline.Key k) h a b e o w = absurd (cc)
+whole_bare outline.Dash h a b e o w = absurd (cc)
+
+-- an outline of lines of which the first one is bare is of one line
+one_line : (m : ℕ) (o : Outline) (l : Line) (ls : List Line) → IsEven m o → l ∷ ls ≡ flatten o → l.mark ≡ outline.Bare → length (flatten o) ≡ 1
+one_line m end l ls even e bare = absurd (let no : l ∷ ls ≡ [] = e in cc)
+one_line m (row x u a) l ls even e bare = search (rules, whole_bare)
+
+-- ---- under a key or dash
+
+module _ (n : ℕ) (s : Step) (ss : List Step) (v : Node) (c : Cut) (read : read_at (cut_text c) ≡ Some c) (d : PlacedPart) (placed : placed_document n c ≡ Some d) (x : RowLine) (printed_line : row_line_of (s ∷ ss) d.part.rows ≡ Some x) (r : Row) (rs : List Row)
+    (last : (entry_rows_at d x).line ≡ length (entry_rows_at d x).row.dashes) (under : (entry_rows_at d x).under ≡ r ∷ rs) (alone : is_alone r ≡ true) where
+  abbrev e : RowsOfEntry
+  e = entry_rows_at d x
+
+  abbrev front : List Row
+  front = e.front ++ (e.row ∷ [])
+
+  at : rows_of_entry n (s ∷ ss) c ≡ Some e
+  at = ap (λ (o : Option PlacedPart). o >>= λ q. option_map (entry_rows_at q) (row_line_of (s ∷ ss) q.part.rows)) placed ∙ ap (option_map (entry_rows_at d)) printed_line
+
+  there : StandsThere n s ss c e
+  there = rows_stand n s ss c e read at
+
+  stands : StandsAt c n d
+  stands = document_stands_at c n d placed
+
+  same : there.part ≡ d.part
+  same = same_Some _ _ (sym there.old.there ∙ stands.there)
+
+  even : IsEven (level_or 0 (part_outline there.part)) (part_outline there.part)
+  even = (document_known (cut_text c) c n there.part there.old).even
+
+  lines : lines_of_rows (r ∷ rs) ≡ flatten there.found.under
+  lines = ap lines_of_rows (sym under) ∙ under_is there.part s ss e.front e.row e.under e.back (under_it n s ss c e there last) even
+
+  one : (l : Line) × (row_lines r ≡ l ∷ []) × (l.mark ≡ outline.Bare)
+  one = alone_line r alone
+
+  first : one.0 ∷ lines_of_rows rs ≡ flatten there.found.under
+  first = ap (λ (ls : List Line). ls ++ lines_of_rows rs) (sym one.1) ∙ lines
+
+  below : IsOpen there.found.line.head there.found.under × (m : ℕ) × IsEven m there.found.under
+  below = let old = (under_even (level_or 0 (part_outline there.part)) (part_outline there.part) s ss there.found even there.is).1 in (old.1, old.3.0, old.3.2)
+
+  no_head : there.found.line.head ≡ None
+  no_head = go there.found.under first below.0
+    where
+      go : (o : Outline) → one.0 ∷ lines_of_rows rs ≡ flatten o → IsOpen there.found.line.head o → there.found.line.head ≡ None
+      go end e h = absurd (let no : one.0 ∷ lines_of_rows rs ≡ [] = e in cc)
+      go (row l u a) e h = headless there.found.line.head l u a h
+
+  leads : LeadsBelow d.part s ss front r
+  leads = record {
+    found = there.found;
+    is = subst (λ (p : Part). find s ss (part_outline p) ≡ Some (there.found, [])) same there.is;
+    open' = no_head;
+    count = one_line below.1 there.found.under one.0 (lines_of_rows rs) below.2 first one.2;
+    mark = (alone_row r alone).0;
+    number = omega (
+      arith,
+      there.number,
+      last,
+      ap length (lines_append e.front (e.row ∷ [])),
+      length-append (lines_of_rows e.front) (lines_of_rows (e.row ∷ [])),
+      length-append (row_lines e.row) [],
+      row_count e.row,
+      ap length (alone_row r alone).1,
+    );
+  }
+
+  rows_are : d.part.rows ≡ front ++ (r ∷ (rs ++ e.back))
+  rows_are = search (rules, same, append_assoc)
+
+  ended : LineSeam (rows_text front []) (rows_text (r ∷ (rs ++ e.back)) (d.part.end ++ d.behind))
+  ended =
+      let all : AreRows unlimited (e.front ++ (e.row ∷ (r ∷ (rs ++ e.back)))) d.part.end (behind_document n c) =
+      subst (λ (us : List Row). AreRows unlimited us d.part.end (behind_document n c)) (rows_are ∙ append_assoc e.front (e.row ∷ []) (r ∷ (rs ++ e.back)))
+      (part_rows (cut_text c) c n d.part (record { read = read; there = stands.there }) (document_known (cut_text c) c n d.part (record { read = read; there = stands.there })).cut) in
+      inr (subst (λ u. Ended (rows_text front []) (rows_text (r ∷ (rs ++ e.back)) (d.part.end ++ u))) stands.behind (rows_ended unlimited e.front e.row (r ∷ (rs ++ e.back)) d.part.end (behind_document n c) all))
+
+  -- the texts round it
+  before_is : d.before ++ rows_text front [] ≡ before_entry e ++ print_row e.row []
+  before_is = ap (λ t. d.before ++ t) (rows_text-append e.front (e.row ∷ []) [] ∙ rows_then e.front (print_row e.row [])) ∙ sym (append_assoc d.before (rows_text e.front []) (print_row e.row []))
+
+  behind_is : rows_text (rs ++ e.back) (d.part.end ++ d.behind) ≡ rows_text rs (behind_entry e)
+  behind_is = rows_text-append rs e.back (d.part.end ++ d.behind)
+
+  edit_there : IsEdit (replace n (s ∷ ss) v) c (lone_put (lone (before_entry e ++ print_row e.row []) r (rows_text rs (behind_entry e))) v)
+  edit_there =
+      subst (λ (b : List ℕ). IsEdit (replace n (s ∷ ss) v) c (lone_put (lone b r (rows_text rs (behind_entry e))) v)) before_is
+      (subst (λ (z : List ℕ). IsEdit (replace n (s ∷ ss) v) c (lone_put (lone (d.before ++ rows_text front []) r z) v)) behind_is
+      (lone_carried n (s ∷ ss) v c read d placed front r (rs ++ e.back) rows_are (alone_row r alone).0 (alone_row r alone).1 leads ended))
+
+pub lone_edit : (n : ℕ) (s : Step) (ss : List Step) (v : Node) (c : Cut) (e : RowsOfEntry) (r : Row) (rs : List Row) → read_at (cut_text c) ≡ Some c → rows_of_entry n (s ∷ ss) c ≡ Some e → e.line ≡ length e.row.dashes →
+    e.under ≡ r ∷ rs → is_alone r ≡ true → IsEdit (replace n (s ∷ ss) v) c (lone_put (lone (before_entry e ++ print_row e.row []) r (rows_text rs (behind_entry e))) v)
+lone_edit n s ss v c e r rs read at last under alone =
+    let d = bind_some (placed_document n c) at in
+    let x = map_some (row_line_of (s ∷ ss) d.0.part.rows) d.2 in
+    subst (λ (y : RowsOfEntry). y.line ≡ length y.row.dashes → y.under ≡ r ∷ rs → IsEdit (replace n (s ∷ ss) v) c (lone_put (lone (before_entry y ++ print_row y.row []) r (rows_text rs (behind_entry y))) v)) x.2
+    (λ own below. edit_there n s ss v c read d.0 d.1 x.0 x.1 r rs own below alone) last under
+
+-- ---- a root
+
+pub lone_root_edit : (n : ℕ) (v : Node) (c : Cut) (d : PlacedPart) (r : Row) (rs : List Row) → read_at (cut_text c) ≡ Some c → placed_document n c ≡ Some d → d.part.rows ≡ r ∷ rs → is_alone r ≡ true →
+    IsEdit (replace n [] v) c (lone_put (lone d.before r (rows_text rs (d.part.end ++ d.behind))) v)
+lone_root_edit n v c d r rs read placed are alone =
+    subst (λ (b : List ℕ). IsEdit (replace n [] v) c (lone_put (lone b r (rows_text rs (d.part.end ++ d.behind))) v)) (append-nil d.before)
+    (lone_carried n [] v c read d placed [] r rs are (alone_row r alone).0 (alone_row r alone).1 root (inl refl))
+  where
+    old : IsDocumentPart (cut_text c) c n d.part
+    old = record { read = read; there = (document_stands_at c n d placed).there }
+
+    root : IsRootRow d.part r
+    root =
+        let l = alone_line r alone in
+        let lines : lines_of_rows d.part.rows ≡ l.0 ∷ lines_of_rows rs = ap lines_of_rows are ∙ ap (λ (ls : List Line). ls ++ lines_of_rows rs) l.1 in
+        let flat : flatten (part_outline d.part) ≡ lines_of_rows d.part.rows = flatten-group (lines_of_rows d.part.rows) in
+        record { count = sym (ap length flat) ∙ one_line _ (part_outline d.part) l.0 (lines_of_rows rs) (document_known (cut_text c) c n d.part old).even (sym lines ∙ sym flat) l.2; mark = (alone_row r alone).0 }

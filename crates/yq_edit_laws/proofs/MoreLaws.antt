@@ -1,0 +1,192 @@
+-- One item or entry more at the end of a block collection: what is put there reads as the documents after the operation.
+use Rattle.std.proofs.Common.{inl, inr, ◌⊎◌, ◌≡◌, ℕ, zero, suc, ◌<◌, ◌≤◌, Bool, true, false, cond, eqb, not, List, [], ◌∷◌, ◌++◌, length, drop, replicate, Option, Some, refl, sym, ap, ◌∙◌, subst, arith, append_assoc, append-nil}
+use Rattle.std.proofs.lemmas.Bool.{cases_lt, cond-false, eqb-true, eqb-false}
+use Rattle.std.proofs.lemmas.Option.{none-some, same_Some}
+use Rattle.yq_core.specs.Paths.{Step}
+use Rattle.yq_core.specs.Text.{is_empty}
+use Rattle.yq_core.specs.Tree.{Node}
+use Rattle.yq_row_table.specs.Exchange.{row_front}
+use Rattle.yq_row_table.specs.Grammar.{AreDashes, AreRows, IsRow, Limit, unlimited}
+use Rattle.yq_row_table.specs.Rows.{Content, Nothing, Inline, Block, Cut, Row, behind_dashes, behind_indent, cut_text, dashes_text, part_text, print_row, rows_text}
+use Rattle.yq_row_table.specs.View.{content_cut, slices}
+use Rattle.yq_row_table.proofs.NothingLaws.{some_behind}
+use Rattle.yq_documents.specs.Reading.{read_at}
+use Rattle.yq_semantics.specs.Operations.{append}
+use Rattle.yq_text.specs.Script.{Segment}
+use Rattle.yq_lookup.specs.CollectionEnds.{CollectionEnd, is_broken}
+use Rattle.yq_lookup.specs.CommentPlaces.{text_to_line_end}
+use Rattle.yq_lookup.specs.RowPieces.{past_dash, upto_dash}
+use Rattle.yq_lookup.specs.PlacedRows.{PlacedPart, placed_document}
+use Rattle.yq_lookup.specs.PrintedLines.{last_break}
+use Rattle.yq_lookup.specs.Standings.{BlockRoot, Compact, Held, RowsOfEntry, alone, beside, compact, root, under, before_entry, behind_entry, behind_mark, below, block_root, compact_in, dash_text, entry_standing, held, is_alone, lone, rows_of_entry, root_standing}
+use Rattle.yq_lookup.proofs.CommentEndLaws.{row_text_parts}
+use Rattle.yq_lookup.proofs.DashLaws.{line_within, row_cut}
+use Rattle.yq_lookup.proofs.PrintedTexts.{less_is, map_some}
+use Rattle.yq_edits.specs.CollectionPlaces.{IsCollectionEnd}
+use Rattle.yq_edits.specs.DocumentRows.{IsDocumentPart, behind_document}
+use Rattle.yq_edits.specs.PlacedParts.{StandsAt}
+use Rattle.yq_edits.specs.StandingLaws.{StandsThere}
+use Rattle.yq_edits.proofs.EndedRowLaws.{row_there}
+use Rattle.yq_edits.proofs.PartLaws.{document_known, part_rows}
+use Rattle.yq_edits.proofs.PlacedPartLaws.{document_stands_at}
+use Rattle.yq_edits.proofs.StandingRows.{rows_stand}
+use Rattle.yq_edits.specs.EditLaws.{IsEdit, MoreIsPut}
+use Rattle.yq_edits.specs.EntryEdits.{behind_held, behind_lines, more_lines, block_more}
+use Rattle.yq_edits.specs.Layouts.{layout_of}
+use Rattle.yq_edits.proofs.AppendPlaces.{IsAppendPlace}
+use Rattle.yq_edit_laws.proofs.CollectionRows.{EndIn, behind_front, text_broken}
+use Rattle.yq_edit_laws.proofs.CollectionStands.{are, begins_behind, begins_under, end_at, ends_there, headless_dash, headless_mark, root_ends}
+use Rattle.yq_edits.proofs.CommentRowLaws.{entry_is_row, entry_row, rows_front}
+use Rattle.yq_edit_laws.proofs.FinalBreaks.{entry_some, mark_some}
+use Rattle.yq_edits.proofs.HeldLaws.{held_spelled}
+use Rattle.yq_edit_laws.proofs.MorePuts.{IsPutAt, edit_at, held_put_at, lines_put_at}
+
+module _ (n : ℕ) (s : Step) (ss : List Step) (key : Option (List ℕ)) (v : Node) (c : Cut) (e : RowsOfEntry) (read : read_at (cut_text c) ≡ Some c) (is_there : rows_of_entry n (s ∷ ss) c ≡ Some e) where
+  there : StandsThere n s ss c e
+  there = rows_stand n s ss c e read is_there
+
+  place : (column : ℕ) (broken : Bool) → IsCollectionEnd c n there.part (s ∷ ss) (end_at n s ss c e there column broken) → IsAppendPlace n (s ∷ ss) c (end_at n s ss c e there column broken)
+  place column broken h = record { part = there.part; there = there.old.there; end = h }
+
+  abbrev rows : EndIn (e.front ++ (e.row ∷ e.under))
+  rows = behind_front e.front e.row e.under
+
+  broken_by : (a t : List ℕ) → rows_text (e.front ++ (e.row ∷ e.under)) [] ≡ a ++ t → is_empty t ≡ false → not (is_empty (last_break t)) ≡ is_broken rows.last.content
+  broken_by a t is some =
+      text_broken (e.front ++ (e.row ∷ e.under)) e.back there.part.end (behind_document n c) rows
+      (subst (λ rs. AreRows unlimited rs there.part.end (behind_document n c)) (there.rows_are ∙ sym (append_assoc e.front (e.row ∷ e.under) e.back)) (are n s ss c e there)) a t is some
+
+  -- the lines under a key or dash
+  under_edit : (r : Row) (rs : List Row) → e.line ≡ length e.row.dashes → is_empty (slices e.row).head ≡ true → e.under ≡ r ∷ rs → is_alone r ≡ false →
+      IsEdit (append n (s ∷ ss) key v) c (behind_held (held e) (more_lines (layout_of n c) key v r.column (held e).last))
+  under_edit r rs last none is single =
+      let below_text : List ℕ = (slices e.row).raw ++ rows_text e.under [] in
+      let first : IsRow _ r _ = (row_there unlimited (e.front ++ (e.row ∷ [])) r (rs ++ e.back) there.part.end (behind_document n c)
+      (subst (λ us. AreRows unlimited us there.part.end (behind_document n c)) (there.rows_are ∙ (ap (λ us. e.front ++ (e.row ∷ (us ++ e.back))) is ∙ sym (append_assoc e.front (e.row ∷ []) (r ∷ (rs ++ e.back))))) (are n s ss c e there))).1 in
+      let own : is_empty (print_row r (rows_text rs [])) ≡ false =
+      some_behind r.gap (replicate r.column 32 ++ behind_indent r (rows_text rs [])) (some_behind (replicate r.column 32) (behind_indent r (rows_text rs [])) (entry_some _ r _ (rows_text rs []) first single)) in
+      let some : is_empty below_text ≡ false = ap (λ us. is_empty ((slices e.row).raw ++ rows_text us [])) is ∙ some_behind (slices e.row).raw (print_row r (rows_text rs [])) own in
+      let last_is : (held e).last ≡ last_break below_text = cond-false _ _ _ some in
+      let text : rows_text (e.front ++ (e.row ∷ e.under)) [] ≡ (rows_text e.front [] ++ (text_to_line_end e.row ++ (slices e.row).tail)) ++ below_text =
+      rows_front e.front (e.row ∷ e.under) []
+      ∙ (ap (λ t. rows_text e.front [] ++ t) (row_text_parts e.row (rows_text e.under []) ∙ sym (append_assoc (text_to_line_end e.row) (slices e.row).tail below_text)) ∙ sym (append_assoc (rows_text e.front []) (text_to_line_end e.row ++ (slices e.row).tail) below_text)) in
+      let broken : not (is_empty (held e).last) ≡ is_broken rows.last.content = ap (λ t. not (is_empty t)) last_is ∙ broken_by _ below_text text some in
+      let end = ends_there n s ss c e there r.column (not (is_empty (held e).last)) (headless_mark n s ss c e there last none) (begins_under n s ss c e there r rs last is single) broken in
+      let bare : RowsOfEntry = record { start = e.start; front = e.front; row = e.row; line = e.line; under = e.under; back = []; end = []; behind = [] } in
+      let h : Held = held e in
+      let spelled : h.before ++ (h.space ++ (h.head ++ (h.white ++ (h.comment ++ (h.break ++ (h.lines ++ h.last)))))) ≡ before_entry e ++ print_row e.row (rows_text e.under []) =
+      ap (λ t. h.before ++ (h.space ++ (h.head ++ (h.white ++ (h.comment ++ (h.break ++ (h.lines ++ t))))))) (sym (append-nil h.last)) ∙ sym (held_spelled bare) in
+      edit_at n (s ∷ ss) key v c (end_at n s ss c e there r.column (not (is_empty h.last))) _ read (place r.column (not (is_empty h.last)) end) (held_put_at h r.column _ _ _ spelled)
+
+  -- a compact collection
+  compact_edit : e.line < length e.row.dashes → IsEdit (append n (s ∷ ss) key v) c (behind_lines (compact_in e).before (compact_in e).old (compact_in e).last (more_lines (layout_of n c) key v (compact_in e).column (compact_in e).last) (compact_in e).behind)
+  compact_edit less =
+      let w : Compact = compact_in e in
+      let t : List ℕ = dash_text e in
+      let row_is = row_there unlimited e.front e.row (e.under ++ e.back) there.part.end (behind_document n c)
+      (subst (λ us. AreRows unlimited us there.part.end (behind_document n c)) there.rows_are (are n s ss c e there)) in
+      let cut_is : print_row e.row (rows_text e.under []) ≡ row_front (upto_dash e.line e.row) ++ t = row_cut e.line e.row (rows_text e.under []) less in
+      let text : rows_text (e.front ++ (e.row ∷ e.under)) [] ≡ (rows_text e.front [] ++ row_front (upto_dash e.line e.row)) ++ t =
+      rows_front e.front (e.row ∷ e.under) [] ∙ (ap (λ z. rows_text e.front [] ++ z) cut_is ∙ sym (append_assoc (rows_text e.front []) (row_front (upto_dash e.line e.row)) t)) in
+      let some : is_empty t ≡ false = dash_some e.line e.row.dashes less row_is.1.dashes row_is.1 in
+      let broken : not (is_empty w.last) ≡ is_broken rows.last.content = broken_by _ t text some in
+      let end = ends_there n s ss c e there w.column (not (is_empty w.last)) (headless_dash n s ss c e there less) (begins_behind n s ss c e there less) broken in
+      let spelled : w.before ++ (w.old ++ w.last) ≡ before_entry e ++ print_row e.row (rows_text e.under []) =
+      ap (λ z. w.before ++ z) (less_is t) ∙ (append_assoc (before_entry e) (row_front (upto_dash e.line e.row)) t ∙ ap (λ z. before_entry e ++ z) (sym cut_is)) in
+      edit_at n (s ∷ ss) key v c (end_at n s ss c e there w.column (not (is_empty w.last))) _ read (place w.column (not (is_empty w.last)) end) (lines_put_at w.before w.old w.last w.behind w.column _ _ _ spelled)
+    where
+      dashed : (ns ms : List ℕ) (limit : Limit) (rest : List ℕ) → IsRow limit e.row rest → (1 ≤ length ns) → AreDashes ns e.row.mark → is_empty (dashes_text ms (behind_dashes e.row (rows_text e.under []))) ≡ false
+      dashed [] ms limit rest h k d = absurd (omega (arith, k))
+      dashed (m ∷ ns) [] limit rest h k d = mark_some e.row.mark e.row.content rest _ h.mark d.1
+      dashed (m ∷ ns) (q ∷ ms) limit rest h k d = refl
+
+      past : (k : ℕ) (ns : List ℕ) → k < length ns → (m : ℕ) × (ms : List ℕ) × (drop k ns ≡ m ∷ ms)
+      past k [] h = absurd (omega (arith, h))
+      past zero (m ∷ ns) h = (m, ns, refl)
+      past (suc k) (m ∷ ns) h = past k ns (omega (arith, h))
+
+      dash_some : (k : ℕ) (ns : List ℕ) → k < length ns → AreDashes ns e.row.mark → {l : Limit} {rest : List ℕ} → IsRow l e.row rest → is_empty (past_dash (drop k ns) (behind_dashes e.row (rows_text e.under []))) ≡ false
+      dash_some k ns h d {l} {rest} row =
+          let x = past k ns h in
+          ap (λ us. is_empty (past_dash us (behind_dashes e.row (rows_text e.under [])))) x.2
+          ∙ some_behind (replicate x.0 32) (dashes_text x.1 (behind_dashes e.row (rows_text e.under []))) (dashed ns x.1 l rest row (omega (arith, h)) d)
+
+  -- a line that isn't the last one of its row
+  within : (e.line ≡ length e.row.dashes → ⊥) → e.line < length e.row.dashes
+  within other = go (cases_lt e.line (length e.row.dashes))
+    where
+      most : e.line ≤ length e.row.dashes
+      most = line_within n (s ∷ ss) c (entry_row e) (entry_is_row n (s ∷ ss) c e is_there)
+
+      go : (e.line < length e.row.dashes) ⊎ (length e.row.dashes ≤ e.line) → e.line < length e.row.dashes
+      go (inl h) = h
+      go (inr h) = absurd (other (omega (arith, h, most)))
+
+  entry_edit : (us : List Segment) → block_more (layout_of n c) key v (entry_standing e) ≡ Some us → IsEdit (append n (s ∷ ss) key v) c us
+  entry_edit us is = go (eqb e.line (length e.row.dashes)) refl is
+    where
+      under_by : (rs : List Row) → e.under ≡ rs → e.line ≡ length e.row.dashes → is_empty (slices e.row).head ≡ true → block_more (layout_of n c) key v (below e rs) ≡ Some us → IsEdit (append n (s ∷ ss) key v) c us
+      under_by [] at last none h = absurd (none-some _ h)
+      under_by (r ∷ rs) at last none h = by (is_alone r) refl h
+        where
+          by : (b : Bool) → is_alone r ≡ b → block_more (layout_of n c) key v (cond b (alone (lone (before_entry e ++ print_row e.row []) r (rows_text rs (behind_entry e)))) (under (held e) r.column)) ≡ Some us → IsEdit (append n (s ∷ ss) key v) c us
+          by true a h = absurd (none-some _ h)
+          by false a h = subst (IsEdit (append n (s ∷ ss) key v) c) (same_Some _ _ h) (under_edit r rs last none at a)
+
+      mark_by : (x : Content) → e.row.content ≡ x → e.line ≡ length e.row.dashes → block_more (layout_of n c) key v (behind_mark e x) ≡ Some us → IsEdit (append n (s ∷ ss) key v) c us
+      mark_by (Nothing tail) at last h = under_by e.under refl last (ap (λ (y : Content). is_empty (content_cut y).3) at) h
+      mark_by (Inline space node tail) at last h = by (is_empty (slices e.row).head) refl h
+        where
+          by : (b : Bool) → is_empty (slices e.row).head ≡ b → block_more (layout_of n c) key v (cond b (below e e.under) (beside (held e))) ≡ Some us → IsEdit (append n (s ∷ ss) key v) c us
+          by true a h = under_by e.under refl last a h
+          by false a h = absurd (none-some _ h)
+      mark_by (Block space anchor b) at last h = absurd (none-some _ h)
+
+      go : (b : Bool) → eqb e.line (length e.row.dashes) ≡ b → block_more (layout_of n c) key v (cond b (behind_mark e e.row.content) (compact (compact_in e))) ≡ Some us → IsEdit (append n (s ∷ ss) key v) c us
+      go true b h = mark_by e.row.content refl (eqb-true e.line (length e.row.dashes) b) h
+      go false b h =
+          subst (IsEdit (append n (s ∷ ss) key v) c) (same_Some _ _ h) (compact_edit (within (eqb-false e.line (length e.row.dashes) b)))
+
+-- a root
+root_edit : (n : ℕ) (key : Option (List ℕ)) (v : Node) (c : Cut) (d : PlacedPart) (us : List Segment) → read_at (cut_text c) ≡ Some c → placed_document n c ≡ Some d → block_more (layout_of n c) key v (root_standing d d.part.rows) ≡ Some us → IsEdit (append n [] key v) c us
+root_edit n key v c d us read at is = go d.part.rows refl is
+  where
+    stands : StandsAt c n d
+    stands = document_stands_at c n d at
+
+    go : (rs : List Row) → d.part.rows ≡ rs → block_more (layout_of n c) key v (root_standing d rs) ≡ Some us → IsEdit (append n [] key v) c us
+    go [] are_rows h = absurd (none-some _ h)
+    go (r ∷ rs) are_rows h = by (is_alone r) refl h
+      where
+        edit : is_alone r ≡ false → IsEdit (append n [] key v) c (behind_lines (block_root d r rs).before (block_root d r rs).old (block_root d r rs).last (more_lines (layout_of n c) key v r.column (block_root d r rs).last) (block_root d r rs).behind)
+        edit a =
+            let w : BlockRoot = block_root d r rs in
+            let t : List ℕ = behind_indent r (rows_text rs []) in
+            let rest : List ℕ = behind_document n c in
+            let old : IsDocumentPart (cut_text c) c n d.part = record { read = read; there = stands.there } in
+            let all = part_rows (cut_text c) c n d.part old (document_known (cut_text c) c n d.part old).cut in
+            let rows_are = subst (λ us. AreRows unlimited us d.part.end rest) are_rows all in
+            let some : is_empty t ≡ false = entry_some unlimited r _ (rows_text rs []) rows_are.0 a in
+            let text : rows_text (r ∷ rs) [] ≡ (r.gap ++ replicate r.column 32) ++ t = sym (append_assoc r.gap (replicate r.column 32) t) in
+            let broken : not (is_empty w.last) ≡ is_broken (behind_front [] r rs).last.content =
+            text_broken (r ∷ rs) [] d.part.end rest (behind_front [] r rs) (subst (λ us. AreRows unlimited us d.part.end rest) (sym (append-nil (r ∷ rs))) rows_are) _ t text some in
+            let x : CollectionEnd = record { column = r.column; before = d.before ++ rows_text d.part.rows []; broken = not (is_empty w.last); behind = d.part.end ++ rest } in
+            let end : IsCollectionEnd c n d.part [] x =
+            root_ends n c d.part d.before r rs (not (is_empty w.last)) stands.there are_rows a (λ q. stands.put q ∙ ap (λ u. d.before ++ part_text q u) (sym stands.behind)) broken in
+            let spelled : w.before ++ (w.old ++ w.last) ≡ x.before =
+            ap (λ z. w.before ++ z) (less_is t) ∙ (append_assoc d.before (r.gap ++ replicate r.column 32) t ∙ (ap (λ z. d.before ++ z) (sym text) ∙ ap (λ us. d.before ++ rows_text us []) (sym are_rows))) in
+            edit_at n [] key v c x _ read (record { part = d.part; there = stands.there; end = end })
+            (subst (λ (z : List ℕ). IsPutAt (record { column = r.column; before = x.before; broken = x.broken; behind = d.part.end ++ z }) (more_lines (layout_of n c) key v r.column w.last) (behind_lines w.before w.old w.last (more_lines (layout_of n c) key v r.column w.last) w.behind)) (sym stands.behind)
+            (lines_put_at w.before w.old w.last w.behind r.column _ _ _ spelled))
+
+        by : (b : Bool) → is_alone r ≡ b → block_more (layout_of n c) key v (cond b (alone (lone d.before r (rows_text rs (d.part.end ++ d.behind)))) (root (block_root d r rs))) ≡ Some us → IsEdit (append n [] key v) c us
+        by true a h = absurd (none-some _ h)
+        by false a h = subst (IsEdit (append n [] key v) c) (same_Some _ _ h) (edit a)
+
+pub more_is_put : MoreIsPut
+more_is_put n [] key v c t us read at is =
+    let d = map_some (placed_document n c) at in
+    root_edit n key v c d.0 us read d.1 (ap (block_more (layout_of n c) key v) d.2 ∙ is)
+more_is_put n (s ∷ ss) key v c t us read at is =
+    let e = map_some (rows_of_entry n (s ∷ ss) c) at in
+    entry_edit n s ss key v c e.0 read e.1 us (ap (block_more (layout_of n c) key v) e.2 ∙ is)

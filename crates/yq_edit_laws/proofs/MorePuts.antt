@@ -1,0 +1,122 @@
+-- One item or entry more at the end of a block collection: the segments that put it there, and what they come to.
+use Rattle.std.proofs.Common.{inl, ◌≡◌, ℕ, ◌≤◌, Bool, true, false, List, [], ◌++◌, length, Option, Some, refl, sym, ap, ◌∙◌, subst, append_assoc, append-nil}
+use Rattle.std.proofs.lemmas.Option.{same_Some}
+use Rattle.yq_core.specs.BlockWritten.{break_text}
+use Rattle.yq_text.specs.Limit.{text_limit}
+use Rattle.yq_core.specs.Paths.{Step, node_at}
+use Rattle.yq_core.specs.Tree.{Node}
+use Rattle.yq_row_table.specs.Rows.{Cut, cut_text}
+use Rattle.yq_documents.specs.Documents.{Document, document_parts}
+use Rattle.yq_documents.specs.Reading as reading
+use Rattle.yq_documents.specs.Reading.{documents, read_at}
+use Rattle.yq_semantics.specs.Fits.{Fits}
+use Rattle.yq_semantics.specs.Operations.{append}
+use Rattle.yq_semantics.specs.Rooms.{room_of}
+use Rattle.yq_text.specs.Script.{Segment, kept_back, kept_front, new_text, old_text}
+use Rattle.yq_lookup.specs.CollectionEnds.{CollectionEnd}
+use Rattle.yq_lookup.specs.Standings.{Held}
+use Rattle.yq_edits.specs.ClosedTexts.{lines_put_behind}
+use Rattle.yq_edits.specs.EditLaws.{IsEdit}
+use Rattle.yq_edits.specs.EntryEdits.{behind_held, behind_lines, entry_lines}
+use Rattle.yq_edits.specs.Layouts.{layout_of}
+use Rattle.yq_edits.specs.Local.{IsLocalTo}
+use Rattle.yq_edits.specs.Operands.{HasOperand}
+use Rattle.yq_edits.specs.ReadsAfter.{ReadsAfter}
+use Rattle.yq_edits.proofs.AppendAtEnd.{end_both}
+use Rattle.yq_edit_laws.proofs.AppendInside.{inside_both}
+use Rattle.yq_edits.proofs.AppendPlaces.{IsAppendPlace, IsAsked, old_is, p, put_segments}
+use Rattle.yq_edits.proofs.DoneLaws.{nth_map}
+use Rattle.yq_edits.proofs.EditsFitLaws.{tree_unique}
+
+-- ---- at the end of a collection
+
+-- what is put there, by whether its last line has a break
+abbrev put_at : ℕ → Option (List ℕ) → Node → Cut → CollectionEnd → Bool → List Segment
+put_at n key v c x b = put_segments x (lines_put_behind b (break_text (layout_of n c).br) (entry_lines (layout_of n c) x.column key v))
+
+put_both : (n : ℕ) (steps : List Step) (key : Option (List ℕ)) (v : Node) (c : Cut) (x : CollectionEnd) (read : read_at (cut_text c) ≡ Some c) (at : IsAppendPlace n steps c x) → IsAsked steps key v (p n steps c x read at) →
+    length (new_text (put_at n key v c x x.broken)) ≤ text_limit → ReadsAfter (append n steps key v) c (new_text (put_at n key v c x x.broken)) × IsLocalTo (put_at n key v c x x.broken) c
+put_both n steps key v c x read at g = go x.broken refl
+  where
+    go : (b : Bool) → x.broken ≡ b → length (new_text (put_at n key v c x b)) ≤ text_limit → ReadsAfter (append n steps key v) c (new_text (put_at n key v c x b)) × IsLocalTo (put_at n key v c x b) c
+    go true is size = inside_both n steps key v c x read at g is size
+    go false is size = end_both n steps key v c x read at g is size
+
+asked : (n : ℕ) (steps : List Step) (key : Option (List ℕ)) (v : Node) (c : Cut) (x : CollectionEnd) (read : read_at (cut_text c) ≡ Some c) (at : IsAppendPlace n steps c x) → HasOperand (append n steps key v) → Fits (room_of (cut_text c)) (append n steps key v) (documents c) →
+    IsAsked steps key v (p n steps c x read at)
+asked n steps key v c x read at operand fits =
+    let d : reading.part_document at.part ≡ fits.0 = same_Some _ _ (sym (nth_map n at.part reading.part_document (document_parts c) at.there) ∙ fits.1) in
+    record {
+      key_utf8 = operand.0;
+      value_tree = operand.1;
+      unique = tree_unique v fits.2.1.0;
+      short = fits.2.0;
+      near = fits.2.1.1;
+      deep = fits.2.1.2;
+      node = fits.2.2.0;
+      node_is = ap (λ (y : Document). node_at steps y.root) d ∙ fits.2.2.1;
+      takes = fits.2.2.2;
+    }
+
+-- Segments put a text at the end of a collection.
+pub record IsPutAt (x : CollectionEnd) (new : List ℕ) (ss : List Segment) : Type 0 where
+  pub before : kept_front ss ≡ x.before
+  pub behind : kept_back ss ≡ x.behind
+  pub old : old_text ss ≡ x.before ++ x.behind
+  pub text : new_text ss ≡ x.before ++ (new ++ x.behind)
+
+pub edit_at : (n : ℕ) (steps : List Step) (key : Option (List ℕ)) (v : Node) (c : Cut) (x : CollectionEnd) (ss : List Segment) → read_at (cut_text c) ≡ Some c → IsAppendPlace n steps c x →
+    IsPutAt x (lines_put_behind x.broken (break_text (layout_of n c).br) (entry_lines (layout_of n c) x.column key v)) ss → IsEdit (append n steps key v) c ss
+edit_at n steps key v c x ss read at is = record {
+  old = is.old ∙ old_is n steps c x read at;
+  carried = λ operand fits size.
+      let us : List Segment = put_at n key v c x x.broken in
+      let new : List ℕ = lines_put_behind x.broken (break_text (layout_of n c).br) (entry_lines (layout_of n c) x.column key v) in
+      let text : new_text us ≡ new_text ss = ap (λ z. x.before ++ (new ++ z)) (append-nil x.behind) ∙ sym is.text in
+      let both = put_both n steps key v c x read at (asked n steps key v c x read at operand fits) (subst (λ t. length t ≤ text_limit) (sym text) size) in
+      record {
+        reads = subst (ReadsAfter (append n steps key v) c) text both.0;
+        local = inl (λ d reads.
+            let h = both.1 d (subst (λ t. read_at t ≡ Some d) (sym text) reads) in
+            record {
+              front = h.front;
+              gone = h.gone;
+              come = h.come;
+              back = h.back;
+              lead = h.lead;
+              trail = h.trail;
+              old_are = h.old_are;
+              new_are = h.new_are;
+              before_is = is.before ∙ (sym (append-nil x.before) ∙ h.before_is);
+              behind_is = is.behind ∙ (sym (append-nil x.behind) ∙ h.behind_is);
+              begins = h.begins;
+              ends = h.ends;
+            });
+      };
+}
+
+-- ---- the segments
+
+pub held_put_at : (h : Held) (column : ℕ) (new : List ℕ) (before : List ℕ) (broken : Bool) → h.before ++ (h.space ++ (h.head ++ (h.white ++ (h.comment ++ (h.break ++ (h.lines ++ h.last)))))) ≡ before →
+    IsPutAt (record { column = column; before = before; broken = broken; behind = h.behind }) new (behind_held h new)
+held_put_at h column new before broken is =
+    let front : List ℕ = h.before ++ (h.space ++ (h.head ++ (h.white ++ (h.comment ++ (h.break ++ (h.lines ++ h.last)))))) in
+    let kept : kept_front (behind_held h new) ≡ front = simp append-nil refl in
+    let all : (t : List ℕ) → h.before ++ (h.space ++ (h.head ++ (h.white ++ (h.comment ++ (h.break ++ (h.lines ++ (h.last ++ t))))))) ≡ front ++ t = λ t. simp append_assoc refl in
+    record {
+      before = kept ∙ is;
+      behind = append-nil h.behind;
+      old = all (h.behind ++ []) ∙ (λ i. is i ++ append-nil h.behind i);
+      text = all (new ++ (h.behind ++ [])) ∙ (λ i. is i ++ (new ++ append-nil h.behind i));
+    }
+
+pub lines_put_at : (before old last behind : List ℕ) (column : ℕ) (new text : List ℕ) (broken : Bool) → before ++ (old ++ last) ≡ text →
+    IsPutAt (record { column = column; before = text; broken = broken; behind = behind }) new (behind_lines before old last new behind)
+lines_put_at before old last behind column new text broken is =
+    let all : (t : List ℕ) → before ++ (old ++ (last ++ t)) ≡ (before ++ (old ++ last)) ++ t = λ t. simp append_assoc refl in
+    record {
+      before = ap (λ t. before ++ (old ++ t)) (append-nil last) ∙ is;
+      behind = append-nil behind;
+      old = all (behind ++ []) ∙ (λ i. is i ++ append-nil behind i);
+      text = all (new ++ (behind ++ [])) ∙ (λ i. is i ++ (new ++ append-nil behind i));
+    }

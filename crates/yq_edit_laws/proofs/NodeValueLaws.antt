@@ -1,0 +1,170 @@
+-- The rows that are written for a value in the place of those of an item or entry: behind its key or dash, or under it.
+use Rattle.std.proofs.Common.{◌≡◌, ℕ, suc, ◌+◌, ◌*◌, ◌<◌, ◌≤◌, true, false, List, [], ◌∷◌, ◌++◌, Option, Some, None, refl, sym, ap, ◌∙◌, subst, rules}
+use Rattle.std.proofs.lemmas.Bool.{false≢true}
+use Rattle.yq_core.specs.Paths.{Step}
+use Rattle.yq_core.specs.Piece.{deeper}
+use Rattle.yq_core.specs.Plain.{ends_plain}
+use Rattle.yq_core.specs.Text.{separates}
+use Rattle.yq_core.specs.Tree.{Node}
+use Rattle.yq_core.specs.Nodes as inline
+use Rattle.yq_outline.specs.LineAnchors.{HaveOneAnchorEach}
+use Rattle.yq_outline.specs.Comments.{line_comment}
+use Rattle.yq_outline.specs.Outline as outline
+use Rattle.yq_outline.specs.Outline.{end, IsOpen, level, head_or, Stands, value}
+use Rattle.yq_outline.specs.Places.{content_under}
+use Rattle.yq_outline.proofs.ByRules.{rules_give}
+use Rattle.yq_row_table.specs.Alone.{holds_nothing}
+use Rattle.yq_row_table.specs.Exchange.{with_content}
+use Rattle.yq_row_table.specs.Grammar.{IsContent, IsTail, is_entry}
+use Rattle.yq_row_table.specs.Rows as rows
+use Rattle.yq_row_table.specs.Rows.{Content, content_text, Row, mark_column, parent_indent, rows_text, Cut, cut_text}
+use Rattle.yq_row_table.specs.Seams.{is_block}
+use Rattle.yq_row_table.proofs.NodeExchange.{inline_starts, space_apart}
+use Rattle.yq_row_table.proofs.splices.PartPlaces.{part_ends}
+use Rattle.yq_documents.specs.Documents.{ContentHasFitKeys}
+use Rattle.yq_outline.specs.Lines.{content_anchor, head_of, tail_of, lines_of_rows, line_mark}
+use Rattle.yq_documents.specs.TreeEdits.{anchor_of}
+use Rattle.yq_edits.specs.DocumentRows.{behind_document}
+use Rattle.yq_documents.specs.PartNumbers.{part_number}
+use Rattle.yq_edits.specs.InlineRows.{IsValueNode}
+use Rattle.yq_edits.proofs.CoreLaws.{put_core, recore}
+use Rattle.yq_edits.proofs.InlineReplaceLaws.{deeper_entry, tail_ends_plain}
+use Rattle.yq_edits.proofs.PartLaws.{document_known}
+use Rattle.yq_edits.proofs.UnderLaws.{line_with, gone_lines}
+use Rattle.yq_edits.proofs.ValueContentLaws.{content_is, content_head, content_named, content_tail, content_keys}
+use Rattle.yq_edits.specs.declared.layout.Layout.{Layout}
+use Rattle.yq_edits.specs.BlockPlaces.{IsAbove}
+use Rattle.yq_edits.specs.BlockRows.{column_below, node_rows}
+use Rattle.yq_edits.specs.BlockValues.{HasNearKeys, IsFilledValue, IsEnd, entry_level, level_at}
+use Rattle.yq_edits.proofs.FitLaws.{anchors_fit, keys_fit, node_fit}
+use Rattle.yq_edits.proofs.LaidRows.{AreLaid}
+use Rattle.yq_edits.proofs.BlockLineLaws.{lines_deeper, node_stands}
+use Rattle.yq_edits.proofs.PlaceLaws.{under_laid}
+use Rattle.yq_edits.proofs.RowLaws.{deeper_laid}
+use Rattle.yq_edit_laws.proofs.ContentRows.{IsContentFor, mark_fit, takes_content, upto_gap}
+use Rattle.yq_edit_laws.proofs.MarkContentLaws.{laid_free}
+use Rattle.yq_edit_laws.proofs.NodeRowLaws.{NodeRows, back_there, entry, limit, near, rest, rows_there}
+use Rattle.yq_edit_laws.proofs.NodeTaken.{TakesNode}
+
+-- ---- marks
+
+-- the key of a mark, if it is one
+abbrev pub mark_key : rows.RowMark → Option (List ℕ)
+mark_key rows.Bare = None
+mark_key rows.Dash = None
+mark_key (rows.Key key colon) = Some key
+
+mark_level : (m : rows.RowMark) (n : ℕ) → is_entry m ≡ true → 3 * n + outline.rank (line_mark m) ≡ entry_level (mark_key m) n
+mark_level m n h1 = search (rules, false≢true)
+
+-- ---- nothing but an anchor behind a mark
+
+-- it has no head and no key that is too long, and is no block scalar
+nothing_is : (x : Content) → holds_nothing x ≡ true → (head_of x ≡ None) × ContentHasFitKeys x × (is_block x ≡ false)
+nothing_is x h1 = search (rules, false≢true)
+
+module _ (doc : ℕ) (s : Step) (ss : List Step) (c : Cut) (h : NodeRows doc s ss c) where
+  -- the end of a line before the rows behind ends what is written in the place
+  pub end_is : (tail : List ℕ) → IsTail tail (rest doc s ss c h) → IsEnd (mark_column h.mark) tail (rest doc s ss c h)
+  end_is tail ends =
+      let below : deeper (parent_indent h.mark) ≡ suc (mark_column h.mark) = deeper_entry h.mark.mark (mark_column h.mark) (entry doc s ss c h) in
+      record {
+        tail = ends;
+        plain = subst (λ n. ends_plain false (Some n) (tail ++ rest doc s ss c h) ≡ true) below
+            (tail_ends_plain (parent_indent h.mark) tail _ h.back h.p.end (behind_document doc c) ends (back_there doc s ss c h)
+            (subst (λ n. Rattle.yq_row_table.specs.Exchange.allows_first (record { column = Some n }) h.back ≡ true) (sym below) (near doc s ss c h))
+            (part_ends c (part_number doc c) true (document_known (cut_text c) c doc h.p h.old).cut.parts));
+      }
+
+  -- What stands behind the key or dash on its line, before lines under it or the rows behind: nothing but perhaps the old anchor, and the end of the line with the old comment.
+  pub record IsHolding (x : Content) (more : List ℕ) : Type 0 where
+    pub holds : holds_nothing x ≡ true
+    pub stands : IsContent (parent_indent h.mark) x more
+    pub apart : separates (content_text x more) ≡ true
+    pub comment : line_comment (tail_of x) ≡ line_comment (tail_of h.mark.content)
+    pub anchor : content_anchor x ≡ anchor_of (content_under h.found.line h.found.under)
+
+  -- ---- under it
+
+  module _ (l : Layout) (step : 1 ≤ l.mapping) (v : Node) (filled : IsFilledValue v) (near_keys : HasNearKeys v) (x : Content) (last : List ℕ)
+      (held : IsHolding x (rows_text (node_rows l (column_below l (mark_column h.mark) (mark_key h.mark.mark) v) last v) (rest doc s ss c h))) (ends : IsEnd (mark_column h.mark) last (rest doc s ss c h)) (uncommented : line_comment last ≡ None) where
+    abbrev pub below : ℕ
+    below = column_below l (mark_column h.mark) (mark_key h.mark.mark) v
+
+    abbrev rs : List Row
+    rs = node_rows l (column_below l (mark_column h.mark) (mark_key h.mark.mark) v) last v
+
+    abbrev pub rows_under : List Row
+    rows_under = with_content x h.mark ∷ node_rows l (column_below l (mark_column h.mark) (mark_key h.mark.mark) v) last v
+
+    abbrev z : List ℕ
+    z = rest doc s ss c h
+
+    laid : AreLaid below rs z
+    laid = deeper_laid v l (mark_column h.mark) below last z (search rules) (record { rows = filled; near = near_keys; ends = ends })
+
+    above : IsAbove (limit doc s ss c h) h.row (rows_text (h.under ++ h.back) (h.p.end ++ behind_document doc c)) h.mark x below (rows_text rs z)
+    above = record {
+      row = (rows_there doc s ss c h).0;
+      upto = h.upto;
+      deep = search rules;
+      nothing = held.holds;
+      content_under = held.stands;
+      apart = held.apart;
+    }
+
+    stands : Stands (lines_of_rows rs) v (level_at below v)
+    stands = rules_give (level_at below v) (lines_of_rows rs) v (node_stands v l below last step filled.filled filled.value uncommented)
+
+    deep : outline.level (line_with h.mark x) < level_at below v
+    unfolding level
+    deep = search (rules, mark_level, entry, lines_deeper)
+
+    pub takes_under : TakesNode doc s ss c h v rows_under
+    takes_under =
+        let fit = node_fit v l below last filled.value in
+        record {
+          first = with_content x h.mark;
+          more = rs;
+          new_is = refl;
+          gap_is = upto_gap h.upto;
+          replaces = under_laid (limit doc s ss c h) h.row h.mark (rows_text (h.under ++ h.back) (h.p.end ++ behind_document doc c)) x below rs z above laid;
+          content_under = x;
+          level = level_at below v;
+          under = stands.outline;
+          comment = held.comment;
+          anchor = held.anchor;
+          open' = subst (λ o. IsOpen o stands.outline) (sym (nothing_is x held.holds).0) tt;
+          value_is = ap (λ o. head_or o (value stands.outline)) (nothing_is x held.holds).0 ∙ stands.node_is;
+          even = stands.even;
+          deep = deep;
+          lines = gone_lines (with_content x h.mark) rs ∙ ap (λ ls. Rattle.yq_edits.proofs.UnderLaws.dashes_of h.mark ++ (line_with h.mark x ∷ ls)) (sym stands.lines_are);
+          keys = (mark_fit doc s ss c h, (nothing_is x held.holds).1, keys_fit rs fit);
+          anchors = subst (λ ls. HaveOneAnchorEach (line_with h.mark x ∷ ls)) (sym stands.lines_are) (laid_free (content_anchor x) below rs z laid, anchors_fit rs fit);
+        }
+
+  -- ---- behind it on its line
+
+  -- a content that is no block scalar, with the node of a value in the place of its own
+  module _ (v : Node) (node : inline.FlowNode) (is : IsValueNode v node) (x : Content) (block : is_block x ≡ false) where
+    pub content_for : IsContent (parent_indent h.mark) x (rest doc s ss c h) → separates (content_text x (rest doc s ss c h)) ≡ true → line_comment (tail_of x) ≡ line_comment (tail_of h.mark.content) →
+        content_anchor x ≡ anchor_of (content_under h.found.line h.found.under) → IsContentFor doc s ss c h v (put_core node x)
+    content_for stands apart comment anchor = record {
+      stands = content_is v node is (parent_indent h.mark) x (rest doc s ss c h) block stands
+          (λ tail ends. subst (λ n. ends_plain false (Some n) (tail ++ rest doc s ss c h) ≡ true) (sym (deeper_entry h.mark.mark (mark_column h.mark) (entry doc s ss c h))) (end_is tail ends).plain);
+      apart = search (rules, space_apart, recore, inline_starts, stands, apart);
+      head = content_head v node is x block;
+      comment = content_tail v node is x ∙ comment;
+      anchor = content_named v node is x ∙ anchor;
+      keys = content_keys v node is x;
+    }
+
+  module _ (v : Node) (node : inline.FlowNode) (is : IsValueNode v node) (x : Content) (held : IsHolding x (rest doc s ss c h)) where
+    pub content_beside : IsContentFor doc s ss c h v (put_core node x)
+    content_beside = content_for v node is x (nothing_is x held.holds).2 held.stands held.apart held.comment held.anchor
+
+    abbrev pub rows_beside : List Row
+    rows_beside = with_content (put_core node x) h.mark ∷ []
+
+    pub takes_beside : TakesNode doc s ss c h v rows_beside
+    takes_beside = takes_content doc s ss c h v (put_core node x) content_beside

@@ -1,0 +1,129 @@
+-- Segments that put one text in the place of another: a value on one line, or a line comment.
+use Rattle.std.proofs.Common.{◌≡◌, ℕ, ◌+◌, Bool, true, false, cond, List, [], ◌∷◌, ◌++◌, length, refl, sym, ap, ◌∙◌, arith, append-nil, append_assoc, length-append}
+use Rattle.std.specs.Prelude.{⊤}
+use Rattle.yq_core.specs.Text.{is_empty}
+use Rattle.yq_core.specs.Tree.{Node}
+use Rattle.yq_core.specs.declared.style.Place.TheVariants.{Block as InBlock}
+use Rattle.yq_lookup.specs.Standings.{Held}
+use Rattle.yq_text.specs.Script.{Segment, changes, keep, keep_before, merged, put, put_before, splice_at, splices_at}
+use Rattle.yq_text.specs.Splice.{Splice}
+use Rattle.yq_text.proofs.TouchLaws.{put_twice}
+use Rattle.yq_edits.specs.CommentEdits.{comment_written}
+use Rattle.yq_edits.specs.ReplaceEdits.{spaced_text}
+use Rattle.yq_edits.specs.RowChanges.{CommentPutsOne, InlinePutsOne, PutsOne, inline_put, takes_white}
+use Rattle.yq_edits.specs.WrittenValues.{value_text}
+
+-- ---- segments that exchange no bytes
+
+abbrev AreQuiet : List Segment → Type 0
+AreQuiet [] = ⊤
+AreQuiet (keep t ∷ ss) = AreQuiet ss
+AreQuiet (put o w ∷ ss) = (o ≡ []) × (w ≡ []) × AreQuiet ss
+
+after_keep : (n : ℕ) (t : List ℕ) (ss : List Segment) → splices_at n (keep_before t ss) ≡ splices_at (n + length t) ss
+after_keep n [] ss = let same : n ≡ n + 0 = omega arith in ap (λ (m : ℕ). splices_at m ss) same
+after_keep n (b ∷ t) [] = refl
+after_keep n (b ∷ t) (keep u ∷ ss) = let same : n + length (b ∷ (t ++ u)) ≡ n + length (b ∷ t) + length u = omega (arith, length-append t u) in ap (λ (m : ℕ). splices_at m ss) same
+after_keep n (b ∷ t) (put o w ∷ ss) = refl
+
+first_keep : (t : List ℕ) (ss : List Segment) → splices_at 0 (keep_before t ss) ≡ splices_at (length t) ss
+first_keep t ss = let same : 0 + length t ≡ length t = omega arith in after_keep 0 t ss ∙ ap (λ (m : ℕ). splices_at m ss) same
+
+put_nothing : (n : ℕ) (ss : List Segment) → splices_at n (put_before [] [] ss) ≡ splices_at n ss
+put_nothing n [] = refl
+put_nothing n (keep t ∷ ss) = let same : n + 0 ≡ n = omega arith in ap (λ (m : ℕ). splices_at m (keep t ∷ ss)) same
+put_nothing n (put o w ∷ ss) = refl
+
+quiet_splices : (n : ℕ) (ss : List Segment) → AreQuiet ss → splices_at n (merged ss) ≡ []
+quiet_splices n [] h = refl
+quiet_splices n (keep t ∷ ss) h = after_keep n t (merged ss) ∙ quiet_splices (n + length t) ss h
+quiet_splices n (put o w ∷ ss) h = (λ i. splices_at n (put_before (h.0 i) (h.1 i) (merged ss))) ∙ (put_nothing n (merged ss) ∙ quiet_splices n ss h.2)
+
+put_keep : (o w : List ℕ) (b : ℕ) (t : List ℕ) (ss : List Segment) → put_before o w (keep_before (b ∷ t) ss) ≡ put o w ∷ keep_before (b ∷ t) ss
+put_keep o w b t [] = refl
+put_keep o w b t (keep u ∷ ss) = refl
+put_keep o w b t (put p x ∷ ss) = refl
+
+-- before such ones an exchange is one splice
+put_quiet : (n : ℕ) (o w : List ℕ) (ss : List Segment) → AreQuiet ss → splices_at n (put_before o w (merged ss)) ≡ splice_at n o w
+put_quiet n o w [] h = append-nil (splice_at n o w)
+put_quiet n o w (keep [] ∷ ss) h = put_quiet n o w ss h
+put_quiet n o w (keep (b ∷ t) ∷ ss) h =
+    ap (splices_at n) (put_keep o w b t (merged ss))
+    ∙ (ap (λ (cs : List Splice). splice_at n o w ++ cs) (quiet_splices (n + length w) (keep (b ∷ t) ∷ ss) h) ∙ append-nil (splice_at n o w))
+put_quiet n o w (put p x ∷ ss) h =
+    (λ i. splices_at n (put_before o w (put_before (h.0 i) (h.1 i) (merged ss))))
+    ∙ (ap (splices_at n) (put_twice o w [] [] (merged ss)) ∙ ((λ i. splices_at n (put_before (append-nil o i) (append-nil w i) (merged ss))) ∙ put_quiet n o w ss h.2))
+
+-- ---- a value on one line
+
+module _ (h : Held) (v : Node) (some : is_empty h.head ≡ false) (none : h.break ≡ []) (no_lines : h.lines ≡ []) where
+  abbrev t : List ℕ
+  t = value_text InBlock h.head v
+
+  abbrev behind : List ℕ
+  behind = h.white ++ (h.comment ++ (h.last ++ h.behind))
+
+  text_is : spaced_text h.head t ≡ t
+  text_is = ap (λ (b : Bool). cond b (32 ∷ t) t) some
+
+  abbrev left : List Segment
+  left = keep h.white ∷ (keep h.comment ∷ (put h.break [] ∷ (put h.lines [] ∷ (keep h.last ∷ (keep h.behind ∷ [])))))
+
+  one_put : PutsOne (inline_put v h) (h.before ++ h.space) h.head t behind
+  unfolding changes
+  one_put = record {
+    old_is = (λ i. h.before ++ (h.space ++ (h.head ++ (h.white ++ (h.comment ++ (none i ++ (no_lines i ++ (h.last ++ append-nil h.behind i)))))))) ∙ sym (append_assoc h.before h.space (h.head ++ behind));
+    new_is = (λ i. h.before ++ (h.space ++ (text_is i ++ (h.white ++ (h.comment ++ (h.last ++ append-nil h.behind i)))))) ∙ sym (append_assoc h.before h.space (t ++ behind));
+    changes_are =
+        first_keep h.before (merged (keep h.space ∷ (put h.head (spaced_text h.head t) ∷ left)))
+        ∙ (after_keep (length h.before) h.space (merged (put h.head (spaced_text h.head t) ∷ left))
+        ∙ (put_quiet (length h.before + length h.space) h.head (spaced_text h.head t) left (none, refl, (no_lines, refl, tt))
+        ∙ (λ i. splice_at (sym (length-append h.before h.space) i) h.head (text_is i))));
+  }
+
+pub inline_puts : InlinePutsOne
+inline_puts v h some none no_lines = one_put h v some none no_lines
+
+-- ---- a line comment
+
+module _ (h : Held) (text : List ℕ) where
+  abbrev lower : List ℕ
+  lower = h.break ++ (h.lines ++ (h.last ++ h.behind))
+
+  abbrev kept : List Segment
+  kept = keep h.break ∷ (keep h.lines ∷ (keep h.last ∷ (keep h.behind ∷ [])))
+
+  abbrev new : List ℕ
+  new = comment_written text h.comment
+
+  abbrev segments : Bool → List Segment
+  segments b = keep h.before ∷ (keep h.space ∷ (keep h.head ∷ (cond b (put h.white []) (keep h.white) ∷ (put h.comment new ∷ kept))))
+
+  by_white : (b : Bool) → PutsOne (segments b) (h.before ++ (h.space ++ (h.head ++ cond b [] h.white))) (cond b h.white [] ++ h.comment) new lower
+  unfolding changes
+  by_white true = record {
+    old_is = simp (append_assoc, append-nil) refl;
+    new_is = simp (append_assoc, append-nil) refl;
+    changes_are =
+        first_keep h.before (merged (keep h.space ∷ (keep h.head ∷ (put h.white [] ∷ (put h.comment new ∷ kept)))))
+        ∙ (after_keep (length h.before) h.space (merged (keep h.head ∷ (put h.white [] ∷ (put h.comment new ∷ kept))))
+        ∙ (after_keep (length h.before + length h.space) h.head (merged (put h.white [] ∷ (put h.comment new ∷ kept)))
+        ∙ (ap (splices_at (length h.before + length h.space + length h.head)) (put_twice h.white [] h.comment new (merged kept))
+        ∙ (put_quiet (length h.before + length h.space + length h.head) (h.white ++ h.comment) new kept tt
+        ∙ ap (λ (m : ℕ). splice_at m (h.white ++ h.comment) new) (omega (arith, length-append h.before (h.space ++ (h.head ++ [])), length-append h.space (h.head ++ []), length-append h.head []))))));
+  }
+  by_white false = record {
+    old_is = simp (append_assoc, append-nil) refl;
+    new_is = simp (append_assoc, append-nil) refl;
+    changes_are =
+        first_keep h.before (merged (keep h.space ∷ (keep h.head ∷ (keep h.white ∷ (put h.comment new ∷ kept)))))
+        ∙ (after_keep (length h.before) h.space (merged (keep h.head ∷ (keep h.white ∷ (put h.comment new ∷ kept))))
+        ∙ (after_keep (length h.before + length h.space) h.head (merged (keep h.white ∷ (put h.comment new ∷ kept)))
+        ∙ (after_keep (length h.before + length h.space + length h.head) h.white (merged (put h.comment new ∷ kept))
+        ∙ (put_quiet (length h.before + length h.space + length h.head + length h.white) h.comment new kept tt
+        ∙ ap (λ (m : ℕ). splice_at m h.comment new) (omega (arith, length-append h.before (h.space ++ (h.head ++ h.white)), length-append h.space (h.head ++ h.white), length-append h.head h.white))))));
+  }
+
+pub comment_puts : CommentPutsOne
+comment_puts text h = by_white h text (takes_white text h)

@@ -1,0 +1,116 @@
+-- A gap without a final break, with one behind it: it is a gap before any text, and ends in the same comment.
+use Rattle.std.proofs.Common.{◌≡◌, ◌&&◌, inl, inr, eqb, List, [], ◌∷◌, ◌++◌, ℕ, is_some, true, false, cond, refl, sym, ap, ◌∙◌, subst, append_assoc, append-nil, ⊎_elim, rules}
+use Rattle.std.proofs.lemmas.Bool.{false≢true}
+use Rattle.yq_core.specs.BlockWritten.{break_text}
+use Rattle.yq_core.specs.Characters.{pairs_returns}
+use Rattle.yq_core.specs.Text.{front, is_empty, joined, past_white}
+use Rattle.yq_core.specs.declared.block_types.Break.{Break}
+use Rattle.yq_outline.specs.Comments.{comment_text, are_comments, with_text, last_comments, head_comment}
+use Rattle.yq_row_table.specs.Gap.{IsComment, IsGapLine, AreGapLines, IsGap}
+use Rattle.yq_row_table.proofs.CharacterLaws.{pairs_back}
+use Rattle.yq_row_table.proofs.NothingLaws.{line_end_other}
+use Rattle.yq_row_table.proofs.seams.GapFronts.{gap_lines}
+use Rattle.yq_row_table.proofs.GapLaws.{some_more}
+use Rattle.yq_edits.proofs.EndLaws.{comment_is}
+use Rattle.yq_edits.specs.ClosedTexts.{is_closed_text}
+use Rattle.yq_edits.proofs.BreakLaws.{break_is as break_kind}
+use Rattle.yq_edits.proofs.BrokenTails.{comment_other}
+use Rattle.yq_edits.proofs.CommentReadLaws.{break_is}
+use Rattle.yq_edit_laws.proofs.ClosedTexts.{closed_behind, closed_end}
+
+-- lines, of which the last one gets a break
+abbrev pub broken_lines : List (List ℕ) → List ℕ → List (List ℕ)
+broken_lines [] b = []
+broken_lines (l ∷ []) b = (l ++ b) ∷ []
+broken_lines (l ∷ (k ∷ ls)) b = l ∷ broken_lines (k ∷ ls) b
+
+joined_broken : (l : List ℕ) (ls : List (List ℕ)) (b : List ℕ) → joined (broken_lines (l ∷ ls) b) ≡ joined (l ∷ ls) ++ b
+joined_broken l [] b = append-nil (l ++ b) ∙ ap (λ x. x ++ b) (sym (append-nil l))
+joined_broken l (k ∷ ls) b = ap (λ x. l ++ x) (joined_broken k ls b) ∙ sym (append_assoc l (joined (k ∷ ls)) b)
+
+-- ---- its last line
+
+-- a line without a break is white space and a comment
+no_break : (l : List ℕ) (h : IsGapLine l []) → is_closed_text l ≡ false → h.line.break ≡ []
+no_break l h open' = ⊎_elim {0, 0, 0}
+    (λ k. absurd (false≢true (sym open' ∙ (ap is_closed_text (h.line.spelled ∙ sym (append_assoc h.white h.comment h.line.break)) ∙ closed_end (h.white ++ h.comment) h.line.break (break_kind h.line.break k)))))
+    (λ e. e.0)
+    h.line.ends
+
+module _ (l : List ℕ) (h : IsGapLine l []) (open' : is_closed_text l ≡ false) (pairs : pairs_returns l ≡ true) (br : Break) where
+  none : h.line.break ≡ []
+  none = no_break l h open'
+
+  bare : l ≡ h.white ++ h.comment
+  bare = h.line.spelled ∙ (ap (λ x. h.white ++ (h.comment ++ x)) none ∙ ap (λ x. h.white ++ x) (append-nil h.comment))
+
+  old_comment : IsComment h.comment []
+  old_comment = subst (IsComment h.comment) none h.line.as_comment
+
+  as_comment : IsComment h.comment (break_text br)
+  as_comment = comment_other h.comment [] [] (break_text br) (ap pairs_returns (append-nil h.comment) ∙ pairs_back h.white h.comment (ap pairs_returns (sym bare) ∙ pairs)) old_comment (inr (refl, refl))
+
+  spelled : l ++ break_text br ≡ h.white ++ (h.comment ++ break_text br)
+  spelled = ap (λ x. x ++ break_text br) bare ∙ append_assoc h.white h.comment (break_text br)
+
+  last_broken : (x : List ℕ) → IsGapLine (l ++ break_text br) x
+  last_broken x = record {
+    white = h.white;
+    comment = h.comment;
+    line = record { break = break_text br; spelled = spelled; blank = h.line.blank; as_comment = as_comment; ends = inl (break_is br) };
+    some = some_more l (break_text br) h.some;
+  }
+
+  same_text : comment_text (l ++ break_text br) ≡ comment_text l
+  same_text = search (rules, spelled, comment_is, as_comment, break_is, old_comment, append-nil, bare)
+
+-- a line is a comment line where it has the text of one
+text_there : (l : List ℕ) → is_some (comment_text l) ≡ front (λ b. eqb b 35) (past_white l)
+text_there l = search rules
+
+-- ---- its lines
+
+lines_broken : (l : List ℕ) (ls : List (List ℕ)) (x : List ℕ) (br : Break) → AreGapLines (l ∷ ls) [] → is_closed_text (joined (l ∷ ls)) ≡ false → pairs_returns (joined (l ∷ ls)) ≡ true →
+    AreGapLines (broken_lines (l ∷ ls) (break_text br)) x × (last_comments (broken_lines (l ∷ ls) (break_text br)) ≡ last_comments (l ∷ ls)) × (are_comments (broken_lines (l ∷ ls) (break_text br)) ≡ are_comments (l ∷ ls))
+lines_broken l [] x br h open' pairs =
+    let own : is_closed_text l ≡ false = ap is_closed_text (sym (append-nil l)) ∙ open' in
+    let two : pairs_returns l ≡ true = ap pairs_returns (sym (append-nil l)) ∙ pairs in
+    let text : comment_text (l ++ break_text br) ≡ comment_text l = same_text l h.0 own two br in
+    let marks : front (λ b. eqb b 35) (past_white (l ++ break_text br)) ≡ front (λ b. eqb b 35) (past_white l) = sym (text_there (l ++ break_text br)) ∙ (ap is_some text ∙ text_there l) in (
+      (last_broken l h.0 own two br x, tt),
+      (λ i. cond (marks i && true) (with_text (text i) []) []),
+      ap (λ b. b && true) marks,
+    )
+lines_broken l (k ∷ ls) x br h open' pairs =
+    let some : is_empty (joined (k ∷ ls)) ≡ false = some_more k (joined ls) h.1.0.some in
+    let own : is_closed_text (joined (k ∷ ls)) ≡ false = sym (closed_behind l (joined (k ∷ ls)) some) ∙ open' in
+    let w = lines_broken k ls x br h.1 own (pairs_back l (joined (k ∷ ls)) pairs) in
+    let all : are_comments (l ∷ broken_lines (k ∷ ls) (break_text br)) ≡ are_comments (l ∷ (k ∷ ls)) = ap (λ b. front (λ b. eqb b 35) (past_white l) && b) w.2 in
+    let more : is_empty (joined (broken_lines (k ∷ ls) (break_text br)) ++ x) ≡ false =
+    ap (λ t. is_empty (t ++ x)) (joined_broken k ls (break_text br)) ∙ some_more (joined (k ∷ ls) ++ break_text br) x (some_more (joined (k ∷ ls)) (break_text br) some) in (
+      (
+        record {
+          white = h.0.white;
+          comment = h.0.comment;
+          line = line_end_other h.0.white h.0.comment l (joined (k ∷ ls) ++ []) (joined (broken_lines (k ∷ ls) (break_text br)) ++ x) (some_more (joined (k ∷ ls)) [] some) h.0.line;
+          some = h.0.some;
+        },
+        w.0,
+      ),
+      (λ i. cond (all i) (with_text (comment_text l) (w.1 i)) (w.1 i)),
+      all,
+    )
+
+-- ---- the gap
+
+pub open_gap : (p x : List ℕ) (br : Break) → IsGap p [] → is_closed_text p ≡ false → pairs_returns p ≡ true → IsGap (p ++ break_text br) x × (head_comment (p ++ break_text br) ≡ head_comment p)
+unfolding is_closed_text
+open_gap p x br h open' pairs = go h.lines h.spelled h.each
+  where
+    go : (ls : List (List ℕ)) → p ≡ joined ls → AreGapLines ls [] → IsGap (p ++ break_text br) x × (head_comment (p ++ break_text br) ≡ head_comment p)
+    go [] is each = absurd (false≢true (sym open' ∙ ap is_closed_text is))
+    go (l ∷ ls) is each =
+        let w = lines_broken l ls x br each (ap is_closed_text (sym is) ∙ open') (ap pairs_returns (sym is) ∙ pairs) in
+        let text : p ++ break_text br ≡ joined (broken_lines (l ∷ ls) (break_text br)) = ap (λ t. t ++ break_text br) is ∙ sym (joined_broken l ls (break_text br)) in
+        let new : IsGap (p ++ break_text br) x = record { lines = broken_lines (l ∷ ls) (break_text br); spelled = text; each = w.0 } in
+        (new, ap last_comments (gap_lines (p ++ break_text br) x new) ∙ (w.1 ∙ ap last_comments (sym (gap_lines p [] (record { lines = l ∷ ls; spelled = is; each = each })))))

@@ -1,0 +1,242 @@
+-- Where the root of a document comes that has no rows, behind a text that doesn't end in a break: on a line of its own, behind a break that comes first.
+use Rattle.std.proofs.Common.{◌≡◌, ◌⊎◌, inl, inr, ℕ, ◌≤◌, List, [], ◌∷◌, ◌++◌, length, Some, true, false, refl, sym, ap, ◌∙◌, subst, arith, append_assoc, append-nil, length-append, rules}
+use Rattle.std.proofs.lemmas.Bool.{false≢true, cond-true, false_from_ne_true, and_parts}
+use Rattle.std.proofs.lemmas.Str.{is_utf8-from_IsUtf8}
+use Rattle.std.specs.List.{list_all}
+use Rattle.std.specs.Str.{chars, is_utf8}
+use Rattle.yq_core.specs.BlockWritten.{break_text}
+use Rattle.yq_core.specs.Characters.{is_text, is_text_char, pairs_returns}
+use Rattle.yq_text.specs.Limit.{text_limit}
+use Rattle.yq_core.specs.Text.{is_empty, is_line}
+use Rattle.yq_core.specs.Tree.{Node}
+use Rattle.yq_core.specs.declared.block_types.Break.{Break}
+use Rattle.yq_core.proofs.Bools.{guard_then}
+use Rattle.yq_flow_edits.specs.Valued.{IsValueTree}
+use Rattle.yq_outline.specs.Comments.{head_comment}
+use Rattle.yq_row_table.specs.Appending.{last_marker, with_last_part, PartFits}
+use Rattle.yq_row_table.specs.Gap.{IsGap}
+use Rattle.yq_row_table.specs.Grammar.{IsCut}
+use Rattle.yq_row_table.specs.Rows.{Row, Part, part_text, Cut, cut_text}
+use Rattle.yq_row_table.proofs.CharacterLaws.{pairs_back}
+use Rattle.yq_row_table.proofs.splices.MarkerLaws.{marker_appended}
+use Rattle.yq_row_table.proofs.GapLaws.{some_more}
+use Rattle.yq_lookup.specs.PlacedRows.{PlacedPart}
+use Rattle.yq_documents.specs.Reading.{all_documents, is_document, read_at}
+use Rattle.yq_lookup.specs.Standings.{NoRows}
+use Rattle.yq_lookup.specs.RowPaths.{IsReadable}
+use Rattle.yq_lookup.proofs.ReadLaws.{text_again, text_takes}
+use Rattle.yq_lookup.proofs.RemovalLines.{LineSeam}
+use Rattle.yq_edits.specs.declared.layout.Layout.{Layout}
+use Rattle.yq_edits.specs.BlockText.{block_value}
+use Rattle.yq_edits.proofs.LaidRows.{no_gap_here}
+use Rattle.yq_edits.specs.PlacedParts.{StandsAt}
+use Rattle.yq_edits.specs.TextPieces.{IsPiece}
+use Rattle.yq_edits.proofs.PlacedPartLaws.{document_stands_at}
+use Rattle.yq_edits.proofs.TextPieceLaws.{pieces_joined}
+use Rattle.yq_semantics.specs.Operations.{replace}
+use Rattle.yq_edits.specs.ClosedTexts.{is_closed_text}
+use Rattle.yq_edits.specs.Changed.{put_document}
+use Rattle.yq_row_table.specs.Items.{Item, end_item, rows_items, items_of_cut, items_text}
+use Rattle.yq_edits.specs.Replaces.{rooted}
+use Rattle.yq_row_table.proofs.ItemLaws.{items_of_text, items_text-append}
+use Rattle.yq_text.specs.Script.{Segment, new_text, kept_front, kept_back}
+use Rattle.yq_edits.specs.Local.{IsLocal}
+use Rattle.yq_edits.specs.ReadsAfter.{ReadsAfter}
+use Rattle.yq_edits.specs.EditLaws.{CarriedOut}
+use Rattle.yq_edits.proofs.ItemsLocal.{last_nothing}
+use Rattle.yq_edits.proofs.LocalLaws.{cut_known}
+use Rattle.yq_edits.proofs.AppendAtEnd.{nothing_tail}
+use Rattle.yq_edits.proofs.AppendEntryLaws.{none_uncommented}
+use Rattle.yq_edit_laws.proofs.FirstRows.{empty_cases}
+use Rattle.yq_edits.proofs.BreakLaws.{break_is as break_kind}
+use Rattle.yq_edit_laws.proofs.ClosedTexts.{closed_behind, closed_end, closed_line, open_some}
+use Rattle.yq_edits.proofs.CommentPieceLaws.{break_piece}
+use Rattle.yq_edits.proofs.CommentReadLaws.{break_is}
+use Rattle.yq_edit_laws.proofs.OpenGapLaws.{open_gap}
+use Rattle.yq_edit_laws.proofs.OpenMarkerLaws.{broken_before, IsBehindMarker, behind_marker}
+use Rattle.yq_edit_laws.proofs.RootFits.{FitsPart, value_carried}
+use Rattle.yq_edit_laws.proofs.RootLocalLaws.{gap_moves}
+use Rattle.yq_edit_laws.proofs.RootReadLaws.{TakesValue, are, text_is, root_read, root_reads}
+use Rattle.yq_edit_laws.proofs.RootRows.{root_rows, HasRoom}
+use Rattle.yq_edit_laws.proofs.SameDocuments.{same_reads}
+use Rattle.yq_edit_laws.proofs.StandingRoots.{IsUnwrittenRoot}
+use Rattle.yq_edit_laws.proofs.UnwrittenRootLaws as unwritten_root
+use Rattle.yq_edit_laws.proofs.UnwrittenRootLaws.{long_some, stands, there, cut, gap_is, part_is, seam, pieces, no_rows_there, lead_is, starts_at, takes_unwritten}
+
+-- rows come behind a gap, at the end of a text
+room_at_end : (gap : List ℕ) → ((x : List ℕ) → is_empty x ≡ false → IsGap gap x) → HasRoom gap [] [] []
+room_at_end gap front = record { front = front; tail = nothing_tail; apart = refl; uncommented = none_uncommented; back_is = no_gap_here []; ends = refl }
+
+front_short : (a b : List ℕ) (limit : ℕ) → length (a ++ b) ≤ limit → length a ≤ limit
+front_short a b limit h = omega (arith, h, length-append a b)
+
+module _ (n : ℕ) (c : Cut) (w : NoRows) (read : read_at (cut_text c) ≡ Some c) (h : IsUnwrittenRoot n c w) (open' : is_closed_text w.before ≡ false) (br : Break) where
+  all_open : is_closed_text (h.d.before ++ h.d.part.end) ≡ false
+  all_open = ap is_closed_text (sym h.before_is) ∙ open'
+
+  -- so it is the end of the text
+  nothing_behind : h.d.behind ≡ []
+  unfolding is_closed_text
+  nothing_behind = go (seam n c w read h)
+    where
+      go : LineSeam (h.d.before ++ h.d.part.end) h.d.behind → h.d.behind ≡ []
+      go (inl e) = absurd (false≢true (sym all_open ∙ ap is_closed_text e))
+      go (inr (inl lf)) = absurd (false≢true (sym all_open ∙ (ap is_closed_text lf.1 ∙ closed_behind lf.0 (10 ∷ []) refl)))
+      go (inr (inr e)) = e
+
+  -- ---- behind comments or white space
+
+  module _ (some : is_empty h.d.part.end ≡ false) where
+    gap_open : is_closed_text h.d.part.end ≡ false
+    gap_open = sym (closed_behind h.d.before h.d.part.end some) ∙ all_open
+
+    characters : is_text (h.d.before ++ h.d.part.end) ≡ true
+    characters = (subst IsPiece h.before_is (pieces n c w read h).0).characters
+
+    pairs : pairs_returns h.d.part.end ≡ true
+    pairs = pairs_back h.d.before h.d.part.end (and_parts (list_all is_text_char (chars (h.d.before ++ h.d.part.end))) (pairs_returns (h.d.before ++ h.d.part.end)) characters).1
+
+    broken : (x : List ℕ) → IsGap (h.d.part.end ++ break_text br) x × (head_comment (h.d.part.end ++ break_text br) ≡ head_comment h.d.part.end)
+    broken x = open_gap h.d.part.end x br (subst (IsGap h.d.part.end) nothing_behind (gap_is n c w read h)) gap_open pairs
+
+    takes_behind_gap : TakesValue n c h.d (h.d.part.end ++ break_text br) [] []
+    takes_behind_gap = record {
+      stands = stands n c w read h;
+      old = there n c w read h;
+      block = no_rows_there n c w read h;
+      room = subst (HasRoom (h.d.part.end ++ break_text br) [] []) (sym nothing_behind) (room_at_end (h.d.part.end ++ break_text br) (λ x more. (broken x).0));
+      lead = (broken []).1 ∙ lead_is n c w read h;
+      starts = λ t e. starts_at n c w read h (λ none. absurd (false≢true (sym (some_more h.d.part.end h.d.behind some) ∙ ap is_empty none))) t;
+    }
+
+  -- ---- behind a marker
+
+  module _ (none : h.d.part.end ≡ []) where
+    no_gap : h.d.before ++ h.d.part.end ≡ h.d.before
+    no_gap = ap (λ x. h.d.before ++ x) none ∙ append-nil h.d.before
+
+    before_open : is_closed_text h.d.before ≡ false
+    before_open = ap is_closed_text (sym no_gap) ∙ all_open
+
+    abbrev broken_text : List ℕ
+    broken_text = h.d.before ++ break_text br
+
+    marker : IsBehindMarker (break_text br) n c h.d
+    marker = behind_marker (break_text br) n c h.d (cut n c w read h).parts h.placed nothing_behind (open_some h.d.before before_open)
+
+    marker_open : is_closed_text (last_marker c) ≡ false
+    marker_open = sym (closed_behind marker.pre (last_marker c) (long_some (last_marker c) marker.long)) ∙ (ap is_closed_text (sym marker.before_is) ∙ before_open)
+
+    fits_there : PartFits (break_text br) h.d.part c
+    fits_there = record {
+      some = long_some (last_marker c) marker.long;
+      bare = false_from_ne_true (is_line (last_marker c)) (λ line. false≢true (sym marker_open ∙ closed_line (last_marker c) line));
+      break_is = break_is br;
+      part = marker.part_is;
+    }
+
+    -- the text with a break behind it
+    abbrev other : Cut
+    other = with_last_part (break_text br) h.d.part c
+
+    abbrev d : PlacedPart
+    d = broken_before (break_text br) h.d
+
+    other_stands : StandsAt (with_last_part (break_text br) h.d.part c) n (broken_before (break_text br) h.d)
+    other_stands = document_stands_at other n d marker.placed
+
+    other_text : cut_text (with_last_part (break_text br) h.d.part c) ≡ h.d.before ++ break_text br
+    other_text = other_stands.text ∙ (ap (λ t. broken_text ++ t) (part_is n c w read h [] ∙ ap (λ t. t ++ []) none) ∙ append-nil broken_text)
+
+    piece : IsPiece (h.d.before ++ break_text br)
+    piece = pieces_joined h.d.before (break_text br) (subst IsPiece (h.before_is ∙ no_gap) (pieces n c w read h).0) (break_piece br)
+
+    module _ (size : length (h.d.before ++ break_text br) ≤ text_limit) where
+      other_cut : IsCut (cut_text (with_last_part (break_text br) h.d.part c)) (with_last_part (break_text br) h.d.part c)
+      other_cut = marker_appended (cut_text c) c (break_text br) h.d.part (cut n c w read h) fits_there (ap is_text other_text ∙ piece.characters) (subst (λ t. length t ≤ text_limit) (sym other_text) size)
+
+      other_documents : all_documents (with_last_part (break_text br) h.d.part c) ≡ true
+      unfolding read_at
+      other_documents = ap (list_all is_document) marker.parts_are ∙ (text_takes (cut_text c) c (guard_then _ read).1).1
+
+      other_read : read_at (cut_text (with_last_part (break_text br) h.d.part c)) ≡ Some (with_last_part (break_text br) h.d.part c)
+      unfolding read_at
+      other_read = cond-true _ _ _ (ap is_utf8 other_text ∙ is_utf8-from_IsUtf8 broken_text piece.utf8) ∙ text_again (cut_text other) other other_cut other_documents
+
+      abbrev place : NoRows
+      place = record { before = (h.d.before ++ break_text br) ++ h.d.part.end; behind = [] }
+
+      other_root : IsUnwrittenRoot n (with_last_part (break_text br) h.d.part c) (record { before = (h.d.before ++ break_text br) ++ h.d.part.end; behind = [] })
+      other_root = record { d = broken_before (break_text br) h.d; placed = marker.placed; rows_are = h.rows_are; before_is = refl; behind_is = refl }
+
+      other_closed : is_closed_text ((h.d.before ++ break_text br) ++ h.d.part.end) ≡ true
+      other_closed = ap is_closed_text (ap (λ x. broken_text ++ x) none ∙ append-nil broken_text) ∙ closed_end h.d.before (break_text br) (break_kind (break_text br) (break_is br))
+
+      takes_behind_marker : TakesValue n (with_last_part (break_text br) h.d.part c) (broken_before (break_text br) h.d) h.d.part.end [] []
+      unfolding other_root
+      takes_behind_marker =
+          let t = takes_unwritten n other place other_read other_root other_closed br in
+          record { stands = t.stands; old = t.old; block = t.block; room = room_at_end h.d.part.end t.room.front; lead = t.lead; starts = t.starts }
+
+  -- ---- both
+
+  module _ (v : Node) (l : Layout) (step : 1 ≤ l.mapping) (value_tree : IsValueTree v) (fits : FitsPart v h.d.part) (ss : List Segment) (before : kept_front ss ≡ w.before) (behind : kept_back ss ≡ w.behind)
+      (is : new_text ss ≡ h.d.before ++ (h.d.part.end ++ (break_text br ++ (block_value l 0 v ++ h.d.behind)))) (readable : IsReadable (new_text ss)) where
+    -- the marker gets a break, and rows come behind it
+    carried_behind_marker : h.d.part.end ≡ [] → CarriedOut (replace n [] v) c ss
+    carried_behind_marker none =
+        let text : (h.d.before ++ break_text br) ++ (h.d.part.end ++ (block_value l 0 v ++ [])) ≡ new_text ss = search (rules, append_assoc, nothing_behind) in
+        let size : length (h.d.before ++ break_text br) ≤ text_limit =
+        front_short (h.d.before ++ break_text br) (h.d.part.end ++ (block_value l 0 v ++ [])) text_limit (subst (λ t. length t ≤ text_limit) (sym text) readable.size) in
+        let takes = takes_behind_marker none size in
+        let d2 : PlacedPart = broken_before (break_text br) h.d in
+        let c2 : Cut = with_last_part (break_text br) h.d.part c in
+        let m = marker none in
+        let rs : List Row = root_rows l h.d.part.end 0 [] v in
+        let q : Part = rooted rs [] h.d.part in
+        let whole : cut_text (put_document n q c2) ≡ new_text ss = text_is n c2 d2 h.d.part.end [] [] takes v l 0 step value_tree fits.near ∙ text in
+        let there : IsReadable (cut_text (put_document n q c2)) = subst IsReadable (sym whole) readable in
+        let last : List Item = rows_items rs (end_item [] [] ∷ []) in
+        let front : List Item = m.above in
+        let lead : List ℕ = m.gap ++ last_marker c in
+        let old_are : items_of_cut c ≡ front ++ (end_item m.gap (last_marker c) ∷ (end_item [] [] ∷ [])) = search (rules, front, m) in
+        let front_text : items_text (front ++ (end_item m.gap (last_marker c) ∷ (end_item [] [] ∷ []))) [] ≡ items_text front lead =
+        items_text-append front (end_item m.gap (last_marker c) ∷ (end_item [] [] ∷ [])) [] ∙ ap (λ t. items_text front (m.gap ++ t)) (append-nil (last_marker c)) in
+        let local : IsLocal ss c (put_document n q c2) = record {
+          front = front;
+          gone = end_item m.gap (last_marker c) ∷ (end_item [] [] ∷ []);
+          come = end_item m.gap (last_marker c ++ break_text br) ∷ last;
+          back = [];
+          lead = lead;
+          trail = [];
+          old_are = old_are;
+          new_are = ap items_of_cut (m.put q)
+              ∙ (m.new_are q
+              ∙ ap (λ xs. front ++ xs) (ap (λ xs. end_item m.gap (last_marker c ++ break_text br) ∷ rows_items xs (end_item [] [] ∷ [])) (append-nil rs) ∙ sym (append-nil (end_item m.gap (last_marker c ++ break_text br) ∷ last))));
+          before_is = before ∙ (sym (append-nil w.before) ∙ (ap (λ t. w.before ++ t) (sym (h.behind_is ∙ nothing_behind)) ∙ (unwritten_root.whole n c w read h ∙ (sym (items_of_text c) ∙ (ap (λ xs. items_text xs []) old_are ∙ front_text)))));
+          behind_is = behind ∙ (h.behind_is ∙ nothing_behind);
+          begins = (omega arith, omega (arith, length-append m.gap (last_marker c), length-append m.gap (last_marker c ++ break_text br), length-append (last_marker c) (break_text br)));
+          ends = (omega arith, last_nothing (end_item m.gap (last_marker c ++ break_text br) ∷ last));
+        } in
+        record {
+          reads = same_reads (replace n [] v) c2 c (new_text ss) (other_read none size) read m.parts_are
+              (subst (ReadsAfter (replace n [] v) c2) whole (root_reads n c2 d2 h.d.part.end [] [] takes v l 0 step value_tree fits.near fits.value_is fits.spared there));
+          local = inl (cut_known ss c (put_document n q c2) (root_read n c2 d2 h.d.part.end [] [] takes v l 0 step value_tree fits.near fits.value_is fits.spared there) whole local);
+        }
+
+    carried_behind_gap : is_empty h.d.part.end ≡ false → CarriedOut (replace n [] v) c ss
+    carried_behind_gap some =
+        let takes = takes_behind_gap some in
+        let st = stands n c w read h in
+        let rows = are n c h.d (h.d.part.end ++ break_text br) [] [] takes v l 0 step value_tree fits.near in
+        value_carried n c h.d (h.d.part.end ++ break_text br) [] [] v l 0 ss takes step value_tree fits
+        (ap (λ t. h.d.before ++ t) (append_assoc h.d.part.end (break_text br) (block_value l 0 v ++ h.d.behind)) ∙ sym is) readable
+        (λ new there. gap_moves n c h.d.part st.there h.d.before (λ x. st.put x ∙ ap (λ t. h.d.before ++ part_text x t) (sym st.behind)) ss (root_rows l (h.d.part.end ++ break_text br) 0 [] v) (break_text br) h.rows_are rows.some rows.first
+        (before ∙ h.before_is) (behind ∙ (h.behind_is ∙ sym st.behind)))
+
+    pub open_carried : CarriedOut (replace n [] v) c ss
+    open_carried = go (empty_cases h.d.part.end)
+      where
+        go : (h.d.part.end ≡ []) ⊎ (is_empty h.d.part.end ≡ false) → CarriedOut (replace n [] v) c ss
+        go (inl none) = carried_behind_marker none
+        go (inr some) = carried_behind_gap some

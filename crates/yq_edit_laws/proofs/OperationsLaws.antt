@@ -1,0 +1,65 @@
+-- Operations of a plan, the first of them apart.
+use Rattle.std.proofs.Common.{◌≡◌, ℕ, ◌-◌, ◌≤◌, List, [], ◌∷◌, ◌++◌, length, take, drop, slice_index_or, refl, sym, ap, ◌∙◌, subst, take_all, append-nil, arith}
+use Rattle.yq_semantics.specs.Operations.{operation_of, operations_of}
+use Rattle.yq_semantics.specs.declared.op.Op.{Op}
+use Rattle.yq_text.specs.Splice.{Splice}
+use Rattle.yq_edit_laws.specs.Answers.{EditFails}
+use Rattle.yq_edit_laws.specs.Carried.{carried, carry_all}
+use Rattle.yq_edit_laws.specs.Edit.{Edit, unreadable, refuses, gives, edit_behind, edit_then}
+use Rattle.yq_edit_laws.specs.Theorems.{IsApplied, IsFitting}
+use Rattle.yq_edit_laws.specs.Valid.{AreServed}
+use Rattle.yq_edit_laws.specs.declared.edit_error.EditError.{EditError}
+use Rattle.yq_edit_laws.proofs.OrderLaws.{behind_both, fails_behind, fails_on}
+use Rattle.yq_edit_laws.proofs.ServeLaws.{fits, others_serve}
+
+-- an edit, and then nothing more
+then_nothing : (e : Edit) → edit_then (carry_all []) e ≡ e
+then_nothing unreadable = refl
+then_nothing (refuses why) = refl
+then_nothing (gives t cs) = ap (gives t) (append-nil cs)
+
+abbrev later : List Op → List Op
+later os = take (length os - 1) (drop 1 os)
+
+first_apart : (os : List Op) (op : Op) → 1 ≤ length os → op ≡ slice_index_or os 0 op → os ≡ op ∷ later os
+first_apart [] op some at = absurd (omega (arith, some))
+first_apart (x ∷ os) op some at = (λ i. sym at i ∷ sym (take_all (length (x ∷ os) - 1) os (omega arith)) i)
+
+-- one that is the last one
+pub last_comes : (os : List Op) (op : Op) (t : List ℕ) → 1 ≤ length os → op ≡ slice_index_or os 0 op → length (later os) ≡ 0 → carried (operation_of op) t ≡ carry_all (operations_of os) t
+last_comes os op t some at none = sym (ap (λ (x : List Op). carry_all (operations_of x) t) (first_apart os op some at) ∙ go (later os) none)
+  where
+    go : (ls : List Op) → length ls ≡ 0 → carry_all (operations_of (op ∷ ls)) t ≡ carried (operation_of op) t
+    go [] e = then_nothing (carried (operation_of op) t)
+    go (l ∷ ls) e = absurd (omega (arith, e))
+
+-- one that others follow
+pub others_come : (os : List Op) (op : Op) (t m : List ℕ) (bs cs all : List Splice) → 1 ≤ length os → op ≡ slice_index_or os 0 op → carried (operation_of op) t ≡ gives m cs → all ≡ bs ++ cs →
+    edit_behind all (carry_all (operations_of (later os)) m) ≡ edit_behind bs (carry_all (operations_of os) t)
+others_come os op t m bs cs all some at new_bytes joined =
+    ap (λ (x : List Splice). edit_behind x (carry_all (operations_of (later os)) m)) joined
+    ∙ (behind_both bs cs (carry_all (operations_of (later os)) m)
+    ∙ (ap (λ (x : Edit). edit_behind bs (edit_then (carry_all (operations_of (later os))) x)) (sym new_bytes)
+    ∙ ap (λ (x : List Op). edit_behind bs (carry_all (operations_of x) t)) (sym (first_apart os op some at))))
+
+pub others_served : (os : List Op) (op : Op) (t m : List ℕ) (cs : List Splice) → 1 ≤ length os → op ≡ slice_index_or os 0 op → AreServed (operations_of os) t → IsApplied (operation_of op) t m cs →
+    AreServed (operations_of (later os)) m
+others_served os op t m cs some at h a =
+    let s = subst (λ (x : List Op). AreServed (operations_of x) t) (first_apart os op some at) h in
+    (_, others_serve s.0 (operation_of op) (operations_of (later os)) t s.1 m cs a)
+
+-- one that fails
+pub first_fails : (os : List Op) (op : Op) (t : List ℕ) (bs : List Splice) (e : EditError) → 1 ≤ length os → op ≡ slice_index_or os 0 op → EditFails e (carried (operation_of op) t) → EditFails e (edit_behind bs (carry_all (operations_of os) t))
+first_fails os op t bs e some at h =
+    fails_behind e bs (carry_all (operations_of os) t)
+    (subst (λ (x : List Op). EditFails e (carry_all (operations_of x) t)) (sym (first_apart os op some at)) (fails_on e (carry_all (operations_of (later os))) (carried (operation_of op) t) h))
+
+-- none
+pub none_come : (os : List Op) (t : List ℕ) (bs : List Splice) → length os ≡ 0 → edit_behind bs (carry_all (operations_of os) t) ≡ gives t bs
+none_come [] t bs e = ap (gives t) (append-nil bs)
+none_come (o ∷ os) t bs e = absurd (omega (arith, e))
+
+pub first_fits : (os : List Op) (op : Op) (t : List ℕ) → 1 ≤ length os → op ≡ slice_index_or os 0 op → AreServed (operations_of os) t → IsFitting (operation_of op) t
+first_fits os op t some at h =
+    let s = subst (λ (x : List Op). AreServed (operations_of x) t) (first_apart os op some at) h in
+    fits s.0 (operation_of op) (operations_of (later os)) t s.1

@@ -1,0 +1,179 @@
+-- What putting a value into a flow collection comes to, by what the code finds.
+use Rattle.std.proofs.Common.{◌≡◌, ℕ, ◌-◌, List, [], ◌∷◌, ◌++◌, length, take, drop, Option, Some, None, option_map, refl, sym, ap, ◌∙◌, subst, arith, append_assoc, append-nil, length-append}
+use Rattle.std.proofs.Math.Seq.{take-append_seam, drop-append_seam}
+use Rattle.std.proofs.lemmas.Option.{none-some, same_Some}
+use Rattle.std.specs.Prelude.{option_and_then, String, string_bytes}
+use Rattle.std.specs.declared.alloc.Global.{Global}
+use Rattle.yq_core.specs.Paths.{Step}
+use Rattle.yq_core.specs.Tree as tree
+use Rattle.yq_core.specs.declared.style.Place.TheVariants.{Flow as InFlow}
+use Rattle.yq_core.specs.Collections.{CollPieces}
+use Rattle.yq_core.specs.Entries.{EntryPieces, PlacedEntry, entry_pieces_at, item_at, locate_entry, flow_part_at, parts_of, placed_entry_at}
+use Rattle.yq_flow_edits.specs.FlowEdits.{FlowEdit, replacing}
+use Rattle.yq_flow_edits.specs.FlowPlaces.{edit_view, place_edit, replace_place}
+use Rattle.yq_flow_edits.specs.declared.flow_place.EditPlace.{EditPlace}
+use Rattle.yq_core.specs.Nodes as inline
+use Rattle.yq_core.specs.Nodes.{bare, coll, node_text}
+use Rattle.yq_core.specs.Places.{Placed, placed, locate}
+use Rattle.yq_core.specs.Trees.{placed_tree}
+use Rattle.yq_core.specs.NodesWritten.{flow_of}
+use Rattle.yq_core.proofs.PathLaws.{path_places}
+use Rattle.yq_core.proofs.TreeLaws.{node_tree}
+use Rattle.yq_row_table.specs.Rows.{Cut, cut_text}
+use Rattle.yq_lookup.specs.FlowViews.{FlowAgrees, behind_anchor, collection_view, placed_collection}
+use Rattle.yq_lookup.specs.NodesAt.{node_in}
+use Rattle.yq_lookup.specs.Standings.{FlowPart, flow_standing, last_step}
+use Rattle.yq_lookup.specs.declared.places.flow_node.FlowHead.{FlowHead}
+use Rattle.yq_edits.specs.FlowParts.{flow_value}
+use Rattle.yq_edits.specs.Replacing.{keeps_scalar}
+use Rattle.yq_edits.specs.WrittenValues.{value_text}
+use Rattle.yq_edit_laws.specs.EditPlaces.{edit_segments, moved_on}
+use Rattle.yq_edit_laws.specs.PartPuts.{ArePuts, IsPlaceOf, IsWrittenPart, part_put, part_replaced, put_edit}
+use Rattle.yq_edit_laws.specs.declared.put.PartPut.{PartPut}
+use Rattle.yq_edit_laws.proofs.FlowAnswers.{CollFound, edit_lies, edit_moved, entry_found, part_in, segments_at, standing_is}
+use Rattle.yq_edit_laws.proofs.FlowHeads.{replace_found, replaced_within, whole_is}
+use Rattle.yq_edit_laws.proofs.FlowLonger.{edit_more, entry_more}
+use Rattle.yq_edit_laws.proofs.FlowPartNodes.{part_node}
+use Rattle.yq_edit_laws.proofs.FlowPutLaws.{bounds, e, m, there}
+use Rattle.yq_edit_laws.proofs.FlowStandings.{EntryAt}
+use Rattle.yq_edit_laws.proofs.FlowWholeLaws.{StandsBefore, replaced_stands}
+
+-- the parts of a node without its anchor
+core_parts : (q : Placed) → parts_of (behind_anchor q) ≡ parts_of q
+core_parts (placed a b c e f) = refl
+
+one_step : (o : Option PlacedEntry) → option_and_then (placed_entry_at []) o ≡ o
+one_step None = refl
+one_step (Some y) = refl
+
+one_piece : (o : Option EntryPieces) → option_and_then (entry_pieces_at []) o ≡ o
+one_piece None = refl
+one_piece (Some y) = refl
+
+part_placed : (total : ℕ) (s : Step) (w : CollPieces) → flow_part_at s (parts_of (placed_collection total w)) ≡ option_map (locate_entry total) (item_at w.close s w.items w.rest)
+part_placed total s w =
+    let slot : EntryPieces = record { key = bare; node = coll w.close w.gap w.items; rest = w.rest } in
+    sym (one_step (flow_part_at s (parts_of (placed_collection total w)))) ∙ (path_places total (s ∷ []) slot ∙ ap (option_map (locate_entry total)) (one_piece (item_at w.close s w.items w.rest)))
+
+-- what stands at the place of an edit
+old_at : (t before : List ℕ) (e : FlowEdit) → t ≡ before ++ (e.old ++ e.behind) → drop (length t - length (e.old ++ e.behind)) (take (length t - length e.behind) t) ≡ e.old
+old_at t before e is =
+    let whole : t ≡ (before ++ e.old) ++ e.behind = is ∙ sym (append_assoc before e.old e.behind) in
+    let start : length t - length (e.old ++ e.behind) ≡ length before = omega (arith, ap length is, length-append before (e.old ++ e.behind)) in
+    let end_ : length t - length e.behind ≡ length (before ++ e.old) = omega (arith, ap length whole, length-append (before ++ e.old) e.behind) in
+    let front : take (length t - length e.behind) t ≡ before ++ e.old = (λ i. take (end_ i) (whole i)) ∙ take-append_seam (before ++ e.old) e.behind in
+    (λ i. drop (start i) (front i)) ∙ drop-append_seam before e.old
+
+-- how a value is written is the text of its node
+value_is : (old : List ℕ) (v : tree.Node) → value_text InFlow old v ≡ node_text (flow_value old v) []
+unfolding node_text flow_of
+value_is old (tree.alias name) = refl
+value_is old (tree.scalar a kind t) = sym (append-nil _)
+value_is old (tree.list a cs) = refl
+value_is old (tree.map a cs) = refl
+
+-- ---- the answers
+
+-- The part at the last step is found, or none is.
+module _ (c : Cut) (n : ℕ) (path init : List Step) (s : Step) (x : FlowHead) (q : Placed) (last : Some (init, s) ≡ last_step path) (f : CollFound c n init x q) (o : Option PlacedEntry) (is : o ≡ flow_part_at s (parts_of q)) where
+  abbrev own : CollPieces
+  own = f.agrees.at.coll
+
+  abbrev row : List ℕ
+  row = x.text.now
+
+  abbrev part_of : EntryPieces → FlowPart
+  part_of y = part_in s f.coll (entry_more f.agrees.behind y)
+
+  stands : (y : Option EntryPieces) → item_at own.close s own.items own.rest ≡ y → flow_standing n c (last_step path) ≡ option_map (part_in s f.coll) (option_map (entry_more f.agrees.behind) y)
+  stands y at = standing_is c n path init s x q last f ∙ ap (λ (z : Option EntryPieces). option_map (part_in s f.coll) (option_map (entry_more f.agrees.behind) z)) at
+
+  part_is : o ≡ option_map (locate_entry (length row)) (item_at own.close s own.items own.rest)
+  part_is = is ∙ (ap (flow_part_at s) (sym (core_parts q) ∙ ap parts_of f.node) ∙ part_placed (length row) s own)
+
+  pub content_missing : o ≡ None → flow_standing n c (last_step path) ≡ None
+  content_missing none = go (item_at own.close s own.items own.rest) refl (sym none ∙ part_is)
+    where
+      go : (y : Option EntryPieces) → item_at own.close s own.items own.rest ≡ y → None ≡ option_map (locate_entry (length row)) y → flow_standing n c (last_step path) ≡ None
+      go None at is = stands None at
+      go (Some y) at is = absurd (none-some _ is)
+
+  -- The item or entry is one of the row alone.
+  pub record PartFound (p : PlacedEntry) : Type 0 where
+    pub item : EntryPieces
+    pub at : item_at own.close s own.items own.rest ≡ Some item
+    pub placed_is : p ≡ locate_entry (length row) item
+
+  pub part_found : (p : PlacedEntry) → o ≡ Some p → PartFound p
+  part_found p some = go (item_at own.close s own.items own.rest) refl (sym some ∙ part_is)
+    where
+      go : (y : Option EntryPieces) → item_at own.close s own.items own.rest ≡ y → Some p ≡ option_map (locate_entry (length row)) y → PartFound p
+      go None at e = absurd (none-some _ (sym e))
+      go (Some y) at e = record { item = y; at = at; placed_is = same_Some _ _ e }
+
+  module _ (p : PlacedEntry) (some : o ≡ Some p) where
+    abbrev y : EntryPieces
+    y = (part_found p some).item
+
+    abbrev pub z : FlowPart
+    z = part_of y
+
+    abbrev a : EntryAt c n path
+    a = entry_found c n path init s x q last f y (part_found p some).at
+
+    pub standing_there : flow_standing n c (last_step path) ≡ Some z
+    standing_there = stands (Some y) (part_found p some).at
+
+    -- the node there
+    pub node_there : node_in n path c ≡ Some (placed_tree p.1)
+    node_there = part_node c n path a f.read ∙ ap Some (sym (ap (λ (e : PlacedEntry). placed_tree e.1) (part_found p some).placed_is ∙ node_tree (length row) y.node y.rest))
+
+    -- The place of its content is that of the edit that puts a value there.
+    module _ (v : tree.Node) (r : EditPlace) (place : edit_view r ≡ replace_place p.1) where
+      abbrev edit : FlowEdit
+      edit = e c n path v f.read a
+
+      abbrev new : inline.FlowNode
+      new = m c n path v f.read a
+
+      abbrev alone : FlowEdit
+      alone = replacing s y new own
+
+      own_place : edit_view r ≡ place_edit (length row) alone
+      own_place =
+          place
+          ∙ (ap (λ (e : PlacedEntry). replace_place e.1) (part_found p some).placed_is
+          ∙ subst (λ (l : List ℕ). replace_place (locate (length l) y.node y.rest) ≡ place_edit (length l) alone) (sym f.agrees.node_is) (replace_found f.agrees.at f.agrees.stands s y new (part_found p some).at))
+
+      pub place_found : IsPlaceOf (cut_text c) v z x r
+      place_found =
+          let same : edit ≡ edit_more f.agrees.behind alone = ap (λ (w : CollPieces). replacing s (entry_more f.agrees.behind y) new w) (whole_is (cut_text c) f.coll x f.agrees) in
+          let moved = edit_moved c n init x q f edit alone (edit_view r) same (replaced_within f.agrees.at f.agrees.stands s y new (part_found p some).at) own_place in
+          let t = there c n path v f.read a in
+          record { lies = edit_lies c n init x q f edit (edit_view r) (bounds c n path v f.read a) moved; place_is = moved; before = t.before; text = t.text }
+
+      pub text_found : value_text InFlow (drop r.start (take r.end row)) v ≡ (put_edit v z).written
+      text_found =
+          let stood = subst (λ (l : List ℕ). StandsBefore l (alone.old ++ alone.behind)) (sym f.agrees.node_is) (replaced_stands f.agrees.at [] f.agrees.stands s y (part_found p some).at) in
+          (λ i. value_text InFlow (drop (own_place i).start (take (own_place i).end row)) v)
+          ∙ (ap (λ (l : List ℕ). value_text InFlow l v) (old_at row stood.before alone stood.text) ∙ value_is edit.old v)
+
+-- ---- no collection
+
+pub no_collection : (t : List ℕ) (o : Option CollPieces) (x : FlowHead) → FlowAgrees t o (Some x) → None ≡ collection_view x → o ≡ None
+no_collection t None x agrees none = refl
+no_collection t (Some w) x agrees none = absurd (none-some _ (none ∙ agrees.found))
+
+-- ---- the segments
+
+pub puts_none : (n : ℕ) (path : List Step) (v : tree.Node) (c : Cut) → flow_standing n c (last_step path) ≡ None → part_replaced n path v c ≡ None
+puts_none n path v c none = ap (option_map (part_put (cut_text c) (keeps_scalar (node_in n path c) v) v)) none
+
+pub puts_written : (n : ℕ) (path : List Step) (v : tree.Node) (c : Cut) (x : FlowHead) (p : PartPut) (written : String Global) (whole : List ℕ) → p.written ≡ Some written → whole ≡ cut_text c → ArePuts n path v c x (Some p) →
+    part_replaced n path v c ≡ Some (edit_segments whole (moved_on x.before (edit_view p.place)) (string_bytes written))
+puts_written n path v c x p written whole some all h =
+    let t : List ℕ = cut_text c in
+    let w = h.2 in
+    let k = subst (IsWrittenPart (node_in n path c) v h.0) some h.3 in
+    (λ i. option_map (part_put t (k.0 i) v) (h.1 i))
+    ∙ ap Some (sym (segments_at t w.before (put_edit v h.0) w.text) ∙ (λ i. edit_segments (sym all i) (sym w.place_is i) (sym k.1 i)))

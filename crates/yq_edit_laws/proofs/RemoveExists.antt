@@ -1,0 +1,100 @@
+-- An item or entry that stands in rows can be taken out.
+use Rattle.std.proofs.Common.{◌≡◌, ◌-◌, Bool, true, false, cond, eqb, ℕ, List, [], ◌∷◌, ◌++◌, length, drop, map, Option, Some, None, option_map, option_and_then, refl, ap, ◌∙◌}
+use Rattle.std.proofs.lemmas.Bool.{cond-true, cond-false}
+use Rattle.std.specs.List.{slice_get}
+use Rattle.std.specs.Option.{option_or}
+use Rattle.yq_core.specs.Answers.{◌>>=◌}
+use Rattle.yq_core.specs.Paths.{Step}
+use Rattle.yq_outline.specs.Ends.{found_line, line_at_steps, lines_end}
+use Rattle.yq_outline.specs.Group.{group}
+use Rattle.yq_outline.specs.Outline.{Line, flatten}
+use Rattle.yq_outline.specs.Places.{FoundLine, find, lines_after, lines_before}
+use Rattle.yq_row_table.specs.Rows.{Part, Cut, cut_text}
+use Rattle.yq_documents.specs.declared.path.Part.TheVariants.{Entry}
+use Rattle.yq_outline.specs.Lines.{lines_of_rows}
+use Rattle.yq_documents.specs.Pieces.{TextPiece}
+use Rattle.yq_documents.specs.Reading.{read_at}
+use Rattle.yq_documents.specs.LinesInRows.{RowLine, row_line, row_line_of}
+use Rattle.yq_lookup.specs.FirstPlaces.{first_entry, first_out, first_removal}
+use Rattle.yq_lookup.specs.PathPieces.{BlockEntry, PrintedDocument, entry_piece, found_entry, piece_in, piece_in_entry, printed_document}
+use Rattle.yq_lookup.specs.PlacedRows.{PlacedPart}
+use Rattle.yq_lookup.specs.PrintedLines.{line_in}
+use Rattle.yq_lookup.specs.RemovalPlaces.{OwnRows, in_three, own_rows, removal_place, row_count, rows_out}
+use Rattle.yq_lookup.specs.Standings.{RowsOfEntry, rows_of_entry}
+use Rattle.yq_lookup.proofs.FoundEntries.{entry_there, middle}
+use Rattle.yq_lookup.proofs.PrintedLaws.{lines_are}
+use Rattle.yq_lookup.proofs.RowPathLaws.{found_lines}
+use Rattle.yq_lookup.proofs.DashLineLaws.{row_line_found}
+use Rattle.yq_edits.specs.StandingLaws.{StandsThere}
+use Rattle.yq_edits.proofs.StandingRows.{rows_stand}
+use Rattle.yq_text.specs.Script.{Segment}
+use Rattle.yq_edits.specs.EntryEdits.{one_removed}
+use Rattle.yq_edits.specs.Removing.{rows_removed}
+use Rattle.yq_edits.specs.RemovingFirst.{first_removed}
+use Rattle.yq_edit_laws.proofs.PrintedDocuments.{printed_at}
+use Rattle.yq_edit_laws.proofs.StandingExists.{placed_there}
+
+module _ (n : ℕ) (s : Step) (ss : List Step) (c : Cut) (e : RowsOfEntry) (read : read_at (cut_text c) ≡ Some c) (x : StandsThere n s ss c e) where
+  abbrev p : Part
+  p = x.part
+
+  abbrev ls : List Line
+  ls = lines_of_rows p.rows
+
+  abbrev at : ℕ
+  at = length (lines_before x.found.place)
+
+  number : line_at_steps (s ∷ ss) (lines_of_rows x.part.rows) ≡ Some (length (lines_before x.found.place))
+  number = ap (λ (o : Option (FoundLine × List Step)). option_and_then (λ y. found_line y.0 y.1) o) x.is
+
+  -- the row in which its line stands
+  printed_line : (w : RowLine) × (row_line (length (lines_before x.found.place)) x.part.rows ≡ Some w)
+  printed_line =
+      let lines : ls ≡ lines_before x.found.place ++ (x.found.line ∷ (flatten x.found.under ++ (flatten x.found.after ++ lines_after x.found.place))) = found_lines ls s ss [] x.found x.is in
+      let there : slice_get ls at ≡ Some x.found.line =
+      ap (λ (l : List Line). slice_get l at) lines ∙ middle (lines_before x.found.place) (flatten x.found.under ++ (flatten x.found.after ++ lines_after x.found.place)) x.found.line in
+      let w = row_line_found p.rows at x.found.line there in
+      (w.0, w.1)
+
+  -- the first line of a row
+  by_rows : (w : RowLine) → row_line at p.rows ≡ Some w → eqb w.line 0 ≡ true → (us : List Segment) × (option_map rows_removed (removal_place n (s ∷ ss) c) ≡ Some us)
+  by_rows w is first =
+      let d = placed_there c n p x.old.there in
+      let own : OwnRows = in_three w.before (row_count (lines_end at ls - at) (drop w.before p.rows)) p.rows in
+      let rows : own_rows (s ∷ ss) p.rows ≡ Some own =
+      ap (λ (o : Option ℕ). o >>= λ k. row_line k p.rows >>= λ y. cond (eqb y.line 0) (Some (in_three y.before (row_count (lines_end k ls - k) (drop y.before p.rows)) p.rows)) None) number
+      ∙ (ap (λ (o : Option RowLine). o >>= λ y. cond (eqb y.line 0) (Some (in_three y.before (row_count (lines_end at ls - at) (drop y.before p.rows)) p.rows)) None) is ∙ cond-true _ _ _ first) in
+      let place : removal_place n (s ∷ ss) c ≡ Some (rows_out d.0 own) =
+      ap (λ (o : Option PlacedPart). o >>= λ q. option_map (rows_out q) (own_rows (s ∷ ss) q.part.rows)) d.1 ∙ ap (option_map (rows_out d.0)) (ap (λ (q : Part). own_rows (s ∷ ss) q.rows) d.2 ∙ rows) in
+      (rows_removed (rows_out d.0 own), ap (option_map rows_removed) place)
+
+  -- a line behind a dash
+  piece_there : (y : TextPiece) × ((printed_document n c >>= piece_in Entry (s ∷ ss)) ≡ Some y)
+  piece_there =
+      let d = printed_at c n p read x.old.there in
+      let found : find s ss (group (map line_in d.document.lines)) ≡ Some (x.found, []) = ap (λ (k : List Line). find s ss (group k)) (ap (map line_in) d.printed.lines ∙ lines_are p.rows) ∙ x.is in
+      let y = entry_there d.document s ss [] x.found found in (
+        entry_piece y.0,
+        ap (λ (o : Option PrintedDocument). o >>= piece_in Entry (s ∷ ss)) d.is
+            ∙ (ap (λ (o : Option (FoundLine × List Step)). o >>= λ f. found_entry d.document f.0 >>= piece_in_entry Entry f.1) found ∙ ap (λ (o : Option BlockEntry). o >>= piece_in_entry Entry []) y.1),
+      )
+
+  by_first : (w : RowLine) → row_line at p.rows ≡ Some w → eqb w.line 0 ≡ false → (us : List Segment) × (option_map first_removed (first_removal n (s ∷ ss) c) ≡ Some us)
+  by_first w is later =
+      let y = piece_there in
+      let row_found : row_line_of (s ∷ ss) p.rows ≡ Some w = ap (λ (o : Option ℕ). o >>= λ k. row_line k p.rows) number ∙ is in
+      let line : first_entry n (s ∷ ss) c ≡ Some y.0 =
+      ap (λ (o : Option Part). o >>= (λ (q : Part). row_line_of (s ∷ ss) q.rows) >>= λ z. cond (eqb z.line 0) None (printed_document n c >>= piece_in Entry (s ∷ ss))) x.old.there
+      ∙ (ap (λ (o : Option RowLine). o >>= λ z. cond (eqb z.line 0) None (printed_document n c >>= piece_in Entry (s ∷ ss))) row_found ∙ (cond-false _ _ _ later ∙ y.1)) in
+      (first_removed (first_out y.0), ap (λ (o : Option TextPiece). option_map first_removed (option_map first_out o)) line)
+
+  either : (w : RowLine) → row_line at p.rows ≡ Some w → (b : Bool) → eqb w.line 0 ≡ b → (us : List Segment) × (one_removed n (s ∷ ss) c ≡ Some us)
+  either w is true first = let y = by_rows w is first in (y.0, ap (λ (o : Option (List Segment)). option_or o (option_map first_removed (first_removal n (s ∷ ss) c))) y.1)
+  either w is false first = behind (option_map rows_removed (removal_place n (s ∷ ss) c)) (by_first w is first)
+    where
+      behind : (o : Option (List Segment)) → ((us : List Segment) × (option_map first_removed (first_removal n (s ∷ ss) c) ≡ Some us)) → (us : List Segment) × (option_or o (option_map first_removed (first_removal n (s ∷ ss) c)) ≡ Some us)
+      behind None h = h
+      behind (Some us) h = (us, refl)
+
+pub one_there : (n : ℕ) (s : Step) (ss : List Step) (c : Cut) (e : RowsOfEntry) → read_at (cut_text c) ≡ Some c → rows_of_entry n (s ∷ ss) c ≡ Some e → (us : List Segment) × (one_removed n (s ∷ ss) c ≡ Some us)
+one_there n s ss c e read is = let x = rows_stand n s ss c e read is in let w = printed_line n s ss c e read x in either n s ss c e read x w.0 w.1 (eqb w.0.line 0) refl

@@ -1,0 +1,95 @@
+-- The first of several items or entries of a compact collection taken out of a text, by its segments.
+use Rattle.std.proofs.Common.{◌≡◌, ◌⊎◌, inl, inr, refl, ◌∷◌, [], ℕ, ◌≤◌, true, List, ◌++◌, length, Option, Some, None, option_map, sym, ap, ◌∙◌, subst, append-nil}
+use Rattle.std.proofs.lemmas.Option.{none-some, same_Some}
+use Rattle.yq_text.specs.Limit.{text_limit}
+use Rattle.yq_core.specs.Paths.{Step}
+use Rattle.std.specs.Option.{option_or}
+use Rattle.yq_row_table.specs.Rows.{Row, Cut, cut_text}
+use Rattle.yq_lookup.specs.FirstPlaces.{FirstOut, first_removal}
+use Rattle.yq_documents.specs.Reading.{read_at}
+use Rattle.yq_lookup.specs.RemovalPlaces.{Removal, has_others_at, removal_place}
+use Rattle.yq_edits.specs.Changed.{put_document}
+use Rattle.yq_row_table.specs.Items.{row_item, rows_items}
+use Rattle.yq_edits.specs.RemovalChanges.{IsTakenOut}
+use Rattle.yq_edits.proofs.DocumentItemLaws.{rows_joined}
+use Rattle.yq_edits.proofs.FirstBreakLaws.{IsOneBreak}
+use Rattle.yq_edits.proofs.FirstOutLaws.{first_stands}
+use Rattle.yq_edits.proofs.FirstRemovalLaws.{IsRowLeft, EndLastRow, first_gone}
+use Rattle.yq_semantics.specs.Operations.{remove}
+use Rattle.yq_text.specs.Script.{Segment, old_text, new_text}
+use Rattle.yq_edits.specs.EditLaws.{IsEdit, OneIsRemoved}
+use Rattle.yq_edits.specs.Removing.{rows_removed}
+use Rattle.yq_edits.specs.RemovingFirst.{first_removed}
+use Rattle.yq_edits.specs.Local.{InLast, IsLocalTo}
+use Rattle.yq_edits.specs.ReadsAfter.{ReadsAfter}
+use Rattle.yq_edits.proofs.LastRows.{gone_last}
+use Rattle.yq_edits.proofs.OneLines.{is_one_line}
+use Rattle.yq_edits.proofs.ItemsLocal.{rows_last}
+use Rattle.yq_edits.proofs.LocalLaws.{cut_known, RowsGiveWay, one_local}
+use Rattle.yq_edit_laws.proofs.RemovingLaws.{may_take, rows_out, taken_reads}
+
+removed_old : (x : FirstOut) → old_text (first_removed x) ≡ x.before ++ (x.space ++ (x.entry ++ (x.break ++ (x.indent ++ x.behind))))
+removed_old x = ap (λ (t : List ℕ). x.before ++ (x.space ++ (x.entry ++ (x.break ++ (x.indent ++ t))))) (append-nil x.behind)
+
+removed_new : (x : FirstOut) → new_text (first_removed x) ≡ x.before ++ x.behind
+removed_new x = ap (λ (t : List ℕ). x.before ++ t) (append-nil x.behind)
+
+-- ---- the items that go
+
+one_break : (t : List ℕ) → IsOneBreak t → is_one_line t ≡ true
+one_break t (inl e) = ap is_one_line e
+one_break t (inr e) = ap is_one_line e
+
+left_local : (doc : ℕ) (steps : List Step) (c : Cut) (x : FirstOut) → read_at (cut_text c) ≡ Some c → old_text (first_removed x) ≡ cut_text c → (out : IsTakenOut c doc steps (x.before ++ x.behind)) → IsRowLeft c doc x out.old out.new →
+    IsLocalTo (first_removed x) c
+left_local doc steps c x read old out a =
+    let ss : List Segment = first_removed x in
+    let e : RowsGiveWay ss c doc out.new = record {
+      p = out.old;
+      there = out.there;
+      start = a.start;
+      put = a.put;
+      front = a.front;
+      gone = a.first ∷ a.others;
+      come = a.row ∷ [];
+      back = a.back;
+      rows_are = a.rows_are;
+      come_are = a.new_are;
+      end_is = a.end_is;
+      lead = a.lead;
+      trail = a.trail;
+      before_is = append-nil x.before ∙ a.before_is;
+      behind_is = append-nil x.behind ∙ a.behind_is;
+      puts = refl;
+      old_is = old;
+      new_is = removed_new x ∙ sym out.text;
+    } in
+    cut_known ss c (put_document doc out.new c) out.changed.read (out.text ∙ sym (removed_new x)) (one_local ss c doc out.new e a.row refl a.begins (go e a.ends))
+  where
+    go : (e : RowsGiveWay (first_removed x) c doc out.new) → IsOneBreak e.trail ⊎ EndLastRow e.trail e.gone → InLast e.trail (rows_items e.gone [])
+    go e (inl one) = gone_last (first_removed x) c doc out.new e read (one_break e.trail one)
+    go e (inr h) =
+        subst (λ (rs : List Row). InLast e.trail (rows_items rs [])) (sym h.2)
+        (subst (InLast e.trail) (sym (rows_joined h.0 (h.1 ∷ []) [])) (rows_last h.0 (row_item h.1) e.trail h.3))
+
+-- the first item or entry of a compact collection taken out
+first_is_out : (n : ℕ) (steps : List Step) (c : Cut) (x : FirstOut) → read_at (cut_text c) ≡ Some c → has_others_at n steps c ≡ true → first_removal n steps c ≡ Some x → IsEdit (remove n steps) c (first_removed x)
+first_is_out n steps c x read others place =
+    let old : old_text (first_removed x) ≡ cut_text c = removed_old x ∙ sym (first_stands c n steps x place) in
+    record {
+      old = old;
+      carried = λ operand fits size.
+          let both = first_gone c n steps x read place (may_take n steps c others fits) (subst (λ (t : List ℕ). length t ≤ text_limit) (removed_new x) size) in
+          record { reads = subst (ReadsAfter (remove n steps) c) (sym (removed_new x)) (taken_reads n steps c (x.before ++ x.behind) read both.0); local = inl (left_local n steps c x read old both.0 both.1) };
+    }
+
+pub one_is_removed : OneIsRemoved
+one_is_removed n steps c ss read others is = go (removal_place n steps c) refl is
+  where
+    first : (o : Option FirstOut) → first_removal n steps c ≡ o → option_map first_removed o ≡ Some ss → IsEdit (remove n steps) c ss
+    first None at h = absurd (none-some _ h)
+    first (Some x) at h = subst (IsEdit (remove n steps) c) (same_Some _ _ h) (first_is_out n steps c x read others at)
+
+    go : (o : Option Removal) → removal_place n steps c ≡ o → option_or (option_map rows_removed o) (option_map first_removed (first_removal n steps c)) ≡ Some ss → IsEdit (remove n steps) c ss
+    go None at h = first (first_removal n steps c) refl h
+    go (Some x) at h = subst (IsEdit (remove n steps) c) (same_Some _ _ h) (rows_out n steps c x read others at)

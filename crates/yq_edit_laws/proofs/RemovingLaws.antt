@@ -1,0 +1,222 @@
+-- One of several items or entries taken out of a text, by its segments.
+use Rattle.std.proofs.Common.{inl, arith, ◌≡◌, ℕ, ◌-◌, ◌≤◌, Bool, true, false, cond, List, [], ◌∷◌, ◌++◌, length, take, replicate, Option, Some, None, refl, sym, ap, ◌∙◌, subst, append_assoc, append-nil}
+use Rattle.std.proofs.lemmas.List.{take-append-drop, length-append}
+use Rattle.std.proofs.lemmas.Option.{same_Some}
+use Rattle.yq_core.specs.Answers.{◌>>=◌}
+use Rattle.yq_core.specs.Block.{RawLines}
+use Rattle.yq_core.specs.BlockRepair.{is_short, is_outdented_comment, repair}
+use Rattle.yq_text.specs.Limit.{text_limit}
+use Rattle.yq_core.specs.Lines.{is_blank}
+use Rattle.yq_core.specs.Paths.{Step, node_at, remove_child}
+use Rattle.yq_core.specs.Text.{cut, no_white, past_white, upto, joined, text_lines}
+use Rattle.yq_core.specs.Tree.{Node}
+use Rattle.yq_core.proofs.LineLaws.{joined_lines}
+use Rattle.yq_core.specs.Anchors.{names_of}
+use Rattle.yq_row_table.specs.Rows.{Row, print_row, behind_gap, Part, Cut, cut_text}
+use Rattle.yq_row_table.specs.Splices.{first_gap}
+use Rattle.yq_documents.specs.Documents.{Document, document_parts, lead_of}
+use Rattle.yq_documents.specs.Reading.{documents, read_at, root_of}
+use Rattle.yq_lookup.specs.RemovalPlaces.{kept_gap, Seam, Removal, removal_place, has_several, has_others, has_others_at}
+use Rattle.yq_documents.specs.TreeEdits.{at_end}
+use Rattle.yq_edits.specs.Conditions.{AreSpared}
+use Rattle.yq_edits.specs.RemovalChanges.{mended, MayTakeOut, IsTakenOut}
+use Rattle.yq_edits.proofs.LeadLaws.{block_lead_goes}
+use Rattle.yq_edits.proofs.RemovalChangeLaws.{AreRowsTaken, removal_stands, entry_taken}
+use Rattle.yq_edits.specs.Changed.{put_document}
+use Rattle.yq_edits.specs.Removes.{left_gap, without}
+use Rattle.yq_documents.specs.Pieces.{before_run, last_run}
+use Rattle.yq_documents.proofs.RunLaws.{run_split}
+use Rattle.yq_semantics.specs.Fits.{Fits}
+use Rattle.yq_semantics.specs.Operations.{remove}
+use Rattle.yq_semantics.specs.Rooms.{room_of}
+use Rattle.yq_text.specs.Script.{Segment, keep, put, old_text, new_text, kept_back}
+use Rattle.yq_edits.specs.Done.{IsDone}
+use Rattle.yq_edits.specs.EditLaws.{IsEdit}
+use Rattle.yq_edits.specs.Removing.{indent_put, lines_mended, gap_mended, rows_removed}
+use Rattle.yq_edits.specs.Local.{IsLocal, IsLocalTo}
+use Rattle.yq_edit_laws.specs.TouchedRanges.{LiesInOne}
+use Rattle.yq_edits.specs.ReadsAfter.{ReadsAfter}
+use Rattle.yq_text.proofs.KeptSegments.{IsBehind, behind, back_last}
+use Rattle.yq_edit_laws.proofs.GapLaws.{RowsGoOut, out_in_one, out_local}
+use Rattle.yq_edits.proofs.ItemsLocal.{last_within}
+use Rattle.yq_edits.proofs.LocalLaws.{at_row, cut_known}
+use Rattle.yq_edits.proofs.DoneLaws.{document_done, part_of}
+use Rattle.yq_edits.proofs.EditsFitLaws.{not_used}
+
+-- ---- segments one behind the other
+
+old_both : (a b : List Segment) → old_text (a ++ b) ≡ old_text a ++ old_text b
+old_both [] b = refl
+old_both (keep t ∷ a) b = ap (λ (x : List ℕ). t ++ x) (old_both a b) ∙ sym (append_assoc t (old_text a) (old_text b))
+old_both (put o w ∷ a) b = ap (λ (x : List ℕ). o ++ x) (old_both a b) ∙ sym (append_assoc o (old_text a) (old_text b))
+
+new_both : (a b : List Segment) → new_text (a ++ b) ≡ new_text a ++ new_text b
+new_both [] b = refl
+new_both (keep t ∷ a) b = ap (λ (x : List ℕ). t ++ x) (new_both a b) ∙ sym (append_assoc t (new_text a) (new_text b))
+new_both (put o w ∷ a) b = ap (λ (x : List ℕ). w ++ x) (new_both a b) ∙ sym (append_assoc w (new_text a) (new_text b))
+
+-- ---- the gap that is mended
+
+line_parts : (l : List ℕ) → (cut no_white l).0 ++ past_white l ≡ l
+line_parts l = take-append-drop (upto no_white l) l
+
+-- a line, whatever becomes of it, before others
+line_old : (b k sh out : Bool) (column : ℕ) (l : List ℕ) (ls : RawLines) (ms : List Segment) → old_text ms ≡ joined ls →
+    old_text (cond b (cond k (put l [] ∷ []) (cond sh (keep l ∷ []) (indent_put 0 l)) ++ ms) (cond out (keep l ∷ []) (indent_put column l) ++ (keep (joined ls) ∷ []))) ≡ l ++ joined ls
+line_old true true sh out column l ls ms h = ap (λ (x : List ℕ). l ++ x) h
+line_old true false true out column l ls ms h = ap (λ (x : List ℕ). l ++ x) h
+line_old true false false out column l ls ms h =
+    ap (λ (x : List ℕ). (cut no_white l).0 ++ (past_white l ++ x)) h ∙ (sym (append_assoc (cut no_white l).0 (past_white l) (joined ls)) ∙ ap (λ (x : List ℕ). x ++ joined ls) (line_parts l))
+line_old false k sh true column l ls ms h = ap (λ (x : List ℕ). l ++ x) (append-nil (joined ls))
+line_old false k sh false column l ls ms h =
+    ap (λ (x : List ℕ). (cut no_white l).0 ++ (past_white l ++ x)) (append-nil (joined ls))
+    ∙ (sym (append_assoc (cut no_white l).0 (past_white l) (joined ls)) ∙ ap (λ (x : List ℕ). x ++ joined ls) (line_parts l))
+
+lines_old : (s : Seam) (ls : RawLines) → old_text (lines_mended s ls) ≡ joined ls
+lines_old s [] = refl
+lines_old s (l ∷ ls) = line_old (is_blank l) s.keeps (is_short s.indent l) (is_outdented_comment s.indent l) s.column l ls (lines_mended s ls) (lines_old s ls)
+
+gap_old : (s : Option Seam) (gap : List ℕ) → old_text (gap_mended s gap) ≡ gap
+gap_old None gap = append-nil gap
+gap_old (Some s) gap = lines_old s (text_lines gap) ∙ joined_lines gap
+
+line_new : (b k sh out : Bool) (column : ℕ) (l : List ℕ) (ls rs : RawLines) (ms : List Segment) → new_text ms ≡ joined rs →
+    new_text (cond b (cond k (put l [] ∷ []) (cond sh (keep l ∷ []) (indent_put 0 l)) ++ ms) (cond out (keep l ∷ []) (indent_put column l) ++ (keep (joined ls) ∷ [])))
+    ≡ joined (cond b (cond k rs (cond sh l (past_white l) ∷ rs)) (cond out l (replicate column 32 ++ past_white l) ∷ ls))
+line_new true true sh out column l ls rs ms h = h
+line_new true false true out column l ls rs ms h = ap (λ (x : List ℕ). l ++ x) h
+line_new true false false out column l ls rs ms h = ap (λ (x : List ℕ). past_white l ++ x) h
+line_new false k sh true column l ls rs ms h = ap (λ (x : List ℕ). l ++ x) (append-nil (joined ls))
+line_new false k sh false column l ls rs ms h =
+    ap (λ (x : List ℕ). replicate column 32 ++ (past_white l ++ x)) (append-nil (joined ls)) ∙ sym (append_assoc (replicate column 32) (past_white l) (joined ls))
+
+lines_new : (s : Seam) (ls : RawLines) → new_text (lines_mended s ls) ≡ joined (repair s.keeps s.indent s.column ls)
+unfolding repair
+lines_new s [] = refl
+lines_new s (l ∷ ls) = line_new (is_blank l) s.keeps (is_short s.indent l) (is_outdented_comment s.indent l) s.column l ls (repair s.keeps s.indent s.column ls) (lines_mended s ls) (lines_new s ls)
+
+gap_new : (s : Option Seam) (gap : List ℕ) → new_text (gap_mended s gap) ≡ mended s gap
+gap_new None gap = append-nil gap
+gap_new (Some s) gap = lines_new s (text_lines gap)
+
+-- ---- what is taken out
+
+removed_old : (x : Removal) → old_text (rows_removed x) ≡ x.before ++ (x.gone ++ (x.gap ++ x.behind))
+removed_old x =
+    ap (λ (t : List ℕ). x.before ++ (x.gone ++ t))
+    (old_both (gap_mended x.seam x.gap) (keep x.behind ∷ []) ∙ (ap (λ (t : List ℕ). t ++ (x.behind ++ [])) (gap_old x.seam x.gap) ∙ ap (λ (t : List ℕ). x.gap ++ t) (append-nil x.behind)))
+
+removed_new : (x : Removal) → new_text (rows_removed x) ≡ x.before ++ (mended x.seam x.gap ++ x.behind)
+removed_new x =
+    ap (λ (t : List ℕ). x.before ++ t)
+    (new_both (gap_mended x.seam x.gap) (keep x.behind ∷ []) ∙ (ap (λ (t : List ℕ). t ++ (x.behind ++ [])) (gap_new x.seam x.gap) ∙ ap (λ (t : List ℕ). mended x.seam x.gap ++ t) (append-nil x.behind)))
+
+-- ---- the documents after it
+
+pub may_take : (doc : ℕ) (steps : List Step) (c : Cut) → has_others_at doc steps c ≡ true → Fits (room_of (cut_text c)) (remove doc steps) (documents c) → MayTakeOut c doc steps
+may_take doc steps c others fits =
+    let d : Document = fits.0 in
+    let p = part_of (document_parts c) doc d fits.1 in
+    let root : d.root ≡ root_of p.0 = ap (λ (x : Document). x.root) (sym p.2) in
+    let n : Node = fits.2.1.0 in
+    record {
+      part = p.0;
+      there = p.1;
+      others = (λ i. has_others steps (sym root i)) ∙ (sym (ap (λ o. has_several (o >>= λ (y : Document). node_at (take (length steps - 1) steps) y.root)) fits.1) ∙ others);
+      node = n;
+      node_is = (λ i. node_at steps (sym root i)) ∙ fits.2.1.1;
+      spared = subst (λ (r : Node). AreSpared (names_of n) [] (names_of r)) root (not_used (names_of d.root) (names_of n) fits.2.1.2);
+    }
+
+-- the text without an item or entry reads so
+pub taken_reads : (doc : ℕ) (steps : List Step) (c : Cut) (t : List ℕ) → read_at (cut_text c) ≡ Some c → IsTakenOut c doc steps t → ReadsAfter (remove doc steps) c t
+taken_reads doc steps c t read out =
+    let done : IsDone (remove doc steps) c out.old out.new (lead_of out.new) (at_end remove_child steps) = record {
+      read = read;
+      there = out.there;
+      rows = out.rows;
+      changed = out.changed;
+      root = refl;
+      lead_goes = block_lead_goes out.old out.new out.old_block out.new_entries;
+      block = λ k. out.new_block ∙ sym out.old_block;
+      equal_room = λ k. absurd k;
+    } in
+    subst (ReadsAfter (remove doc steps) c) out.text (document_done (remove doc steps) c out.old out.new (lead_of out.new) (at_end remove_child steps) done)
+
+-- ---- the items that go
+
+gap_no_longer : (rs : List Row) (end : List ℕ) (first : Row) (others : List Row) → rs ≡ first ∷ others → length (kept_gap rs end) ≤ length (print_row first [])
+gap_no_longer rs end first others e =
+    let parts : joined (before_run (text_lines first.gap)) ++ joined (last_run (text_lines first.gap)) ≡ first.gap = run_split (text_lines first.gap) ∙ joined_lines first.gap in
+    let kept : length (kept_gap rs end) ≡ length (joined (before_run (text_lines first.gap))) = ap (λ (xs : List Row). length (kept_gap xs end)) e in
+    omega (arith, kept, length-append (joined (before_run (text_lines first.gap))) (joined (last_run (text_lines first.gap))), ap length parts, length-append first.gap (behind_gap first []))
+
+module _ (doc : ℕ) (steps : List Step) (c : Cut) (x : Removal) (old : old_text (rows_removed x) ≡ cut_text c) (out : IsTakenOut c doc steps (x.before ++ (mended x.seam x.gap ++ x.behind))) (a : AreRowsTaken c doc x out.old out.new) where
+  -- the rows that go, with the gap behind them
+  abbrev own : List Row
+  own = a.first ∷ a.others
+
+  new_text_is : cut_text (put_document doc (without a.front own a.back out.old) c) ≡ new_text (rows_removed x)
+  new_text_is = ap (λ (q : Part). cut_text (put_document doc q c)) (sym a.new_is) ∙ (out.text ∙ sym (removed_new x))
+
+  went_out : RowsGoOut (rows_removed x) c doc out.old
+  went_out =
+      let p : Part = out.old in
+      let kept : List ℕ = kept_gap own p.end in
+      let m : IsBehind (gap_mended x.seam x.gap) = behind (gap_mended x.seam x.gap) in
+      let u : List ℕ = kept_back (gap_mended x.seam x.gap) in
+      record {
+        there = out.there;
+        start = a.start;
+        put = a.put;
+        front = a.front;
+        first = a.first;
+        others = a.others;
+        back = a.back;
+        gap = left_gap a.front own a.back p;
+        rows_are = a.rows_are;
+        lead = kept;
+        end' = u;
+        before_is = append-nil x.before ∙ (a.before_is ∙ at_row a.start a.front kept);
+        behind_is = back_last (gap_mended x.seam x.gap) x.behind ∙ ap (λ t. u ++ t) a.behind_is;
+        begins = gap_no_longer own p.end a.first a.others refl;
+        ends = last_within (first_gap a.back p.end) m.old u (sym a.gap_is ∙ (sym (gap_old x.seam x.gap) ∙ m.old_is));
+        puts = refl;
+        old_is = old;
+        new_is = sym new_text_is;
+      }
+
+  taken_local : IsLocalTo (rows_removed x) c
+  unfolding went_out
+  taken_local =
+      let local : IsLocal (rows_removed x) c (put_document doc (without a.front own a.back out.old) c) = out_local (rows_removed x) c doc out.old went_out in
+      cut_known (rows_removed x) c (put_document doc out.new c) out.changed.read (out.text ∙ sym (removed_new x)) (subst (λ (q : Part). IsLocal (rows_removed x) c (put_document doc q c)) (sym a.new_is) local)
+
+  -- All that is written lies in the item that begins with the gap.
+  lies_there : LiesInOne (rows_removed x) (put_document doc (without a.front own a.back out.old) c)
+  unfolding went_out
+  lies_there = out_in_one (rows_removed x) c doc out.old went_out
+
+  pub lies_in_one : (new : Cut) → read_at (new_text (rows_removed x)) ≡ Some new → LiesInOne (rows_removed x) new
+  lies_in_one new read =
+      subst (LiesInOne (rows_removed x)) (same_Some _ _ (sym out.changed.read ∙ (ap read_at (out.text ∙ sym (removed_new x)) ∙ read)))
+      (subst (λ (q : Part). LiesInOne (rows_removed x) (put_document doc q c)) (sym a.new_is) lies_there)
+
+-- an item or entry taken out with its rows
+pub rows_out : (n : ℕ) (steps : List Step) (c : Cut) (x : Removal) → read_at (cut_text c) ≡ Some c → has_others_at n steps c ≡ true → removal_place n steps c ≡ Some x → IsEdit (remove n steps) c (rows_removed x)
+rows_out n steps c x read others place =
+    let t : List ℕ = x.before ++ (mended x.seam x.gap ++ x.behind) in
+    let old : old_text (rows_removed x) ≡ cut_text c = removed_old x ∙ sym (removal_stands c n steps x read place) in
+    record {
+      old = old;
+      carried = λ operand fits size.
+          let both = entry_taken c n steps x read place (may_take n steps c others fits) (subst (λ (t : List ℕ). length t ≤ text_limit) (removed_new x) size) in
+          record { reads = subst (ReadsAfter (remove n steps) c) (sym (removed_new x)) (taken_reads n steps c t read both.0); local = inl (taken_local n steps c x old both.0 both.1) };
+    }
+
+-- what is written then lies in one item
+pub rows_near : (n : ℕ) (steps : List Step) (c : Cut) (x : Removal) → read_at (cut_text c) ≡ Some c → has_others_at n steps c ≡ true → removal_place n steps c ≡ Some x → Fits (room_of (cut_text c)) (remove n steps) (documents c) →
+    length (new_text (rows_removed x)) ≤ text_limit → (new : Cut) → read_at (new_text (rows_removed x)) ≡ Some new → LiesInOne (rows_removed x) new
+rows_near n steps c x read others place fits size =
+    let both = entry_taken c n steps x read place (may_take n steps c others fits) (subst (λ (t : List ℕ). length t ≤ text_limit) (removed_new x) size) in
+    lies_in_one n steps c x (removed_old x ∙ sym (removal_stands c n steps x read place)) both.0 both.1

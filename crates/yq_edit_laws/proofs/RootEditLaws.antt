@@ -1,0 +1,160 @@
+-- A value put in the place of a root that is a block collection, or where none is written, carries out its operation.
+use Rattle.std.proofs.Common.{arith, length-append, ◌≡◌, ◌⊎◌, inl, inr, ℕ, ◌≤◌, Bool, true, false, List, [], ◌∷◌, ◌++◌, length, replicate, Some, refl, sym, ap, ◌∙◌, subst, append_assoc, append-nil, rules}
+use Rattle.yq_core.specs.BlockWritten.{break_text}
+use Rattle.yq_text.specs.Limit.{text_limit}
+use Rattle.yq_core.specs.Paths.{Step}
+use Rattle.yq_core.specs.Tree.{Node}
+use Rattle.yq_flow_edits.specs.Valued.{IsValueTree}
+use Rattle.yq_row_table.specs.Rows.{behind_gap, behind_indent, print_row, part_text, Cut, cut_text}
+use Rattle.yq_documents.specs.Reading.{documents, read_at}
+use Rattle.yq_lookup.specs.RowPaths.{IsReadable}
+use Rattle.yq_lookup.specs.Standings.{BlockRoot, NoRows}
+use Rattle.yq_edits.specs.Replaces.{rooted}
+use Rattle.yq_edits.specs.TextPieces.{IsPiece}
+use Rattle.yq_edits.proofs.FirstBreakLaws.{IsOneBreak}
+use Rattle.yq_edits.proofs.TextPieceLaws.{pieces_joined}
+use Rattle.yq_edits.specs.declared.layout.Layout.{Layout}
+use Rattle.yq_edits.specs.BlockText.{block_value}
+use Rattle.yq_edits.proofs.CharacterLaws.{value_sound}
+use Rattle.yq_semantics.specs.Fits.{Fits}
+use Rattle.yq_semantics.specs.Operations.{replace}
+use Rattle.yq_semantics.specs.Rooms.{room_of}
+use Rattle.yq_text.specs.Script.{old_text, new_text}
+use Rattle.yq_edits.specs.ClosedTexts.{is_closed_text, lines_put_behind}
+use Rattle.yq_edits.specs.EditLaws.{CarriedOut, IsEdit}
+use Rattle.yq_edits.specs.Layouts.{layout_of}
+use Rattle.yq_edits.specs.ReplaceEdits.{no_rows_put, root_put}
+use Rattle.yq_edits.proofs.CommentPieceLaws.{break_piece}
+use Rattle.yq_edits.proofs.LastRows.{lines_local}
+use Rattle.yq_edits.proofs.LayoutLaws.{mapping_least}
+use Rattle.yq_edits.proofs.OneLines.{is_one_line}
+use Rattle.yq_edits.proofs.SegmentLaws.{segments_readable}
+use Rattle.yq_edit_laws.specs.RootEdits.{NoRowsArePut, RootsArePut}
+use Rattle.yq_edit_laws.proofs.BlockRootLaws.{IsBlockRoot, block_root_at, takes_value, before_piece, last_piece, behind_piece}
+use Rattle.yq_edit_laws.proofs.OpenRootLaws.{open_carried}
+use Rattle.yq_edit_laws.proofs.RootFits.{FitsPart, LocalRoot, fits_part, value_carried}
+use Rattle.yq_edit_laws.proofs.RootLocalLaws.{gap_moves, root_first}
+use Rattle.yq_edit_laws.proofs.RootReadLaws.{are}
+use Rattle.yq_edit_laws.proofs.RootRows.{root_rows}
+use Rattle.yq_edit_laws.proofs.StandingRoots.{IsUnwrittenRoot, has_root, has_no_rows}
+use Rattle.yq_edit_laws.proofs.UnwrittenRootLaws.{stands, whole, pieces, takes_unwritten}
+
+value_piece : (v : Node) (l : Layout) (column : ℕ) → IsValueTree v → IsPiece (block_value l column v)
+value_piece v l column h = let x = value_sound v l column h in record { utf8 = x.0; characters = x.1 }
+
+-- ---- in the place of a block collection
+
+module _ (n : ℕ) (v : Node) (c : Cut) (w : BlockRoot) (read : read_at (cut_text c) ≡ Some c) (h : IsBlockRoot n c w) where
+  abbrev l : Layout
+  l = layout_of n c
+
+  old_is : old_text (root_put l v w) ≡ cut_text c
+  old_is = ap (λ t. w.before ++ (w.old ++ (w.last ++ t))) (append-nil w.behind) ∙ h.whole
+
+  module _ (value_tree : IsValueTree v) (fits : Fits (room_of (cut_text c)) (replace n [] v) (documents c)) where
+    text_there : h.d.before ++ (h.row.gap ++ (replicate w.column 32 ++ (block_value (layout_of n c) w.column v ++ (w.last ++ (h.d.part.end ++ h.d.behind))))) ≡ new_text (root_put (layout_of n c) v w)
+    text_there = search (rules, append_assoc, append-nil)
+
+    local : LocalRoot n c h.d (root_rows (layout_of n c) h.row.gap w.column w.last v) h.d.part.end (root_put (layout_of n c) v w)
+    local new there =
+        let st = (takes_value n c w read h).stands in
+        let lead : List ℕ = h.row.gap ++ replicate w.column 32 in
+        let same : replicate {A = ℕ} h.row.column 32 ≡ replicate w.column 32 = ap (λ k. replicate k 32) (sym h.column_is) in
+        lines_local (root_put l v w) c n (rooted (root_rows l h.row.gap w.column w.last v) h.d.part.end h.d.part) (record {
+          p = h.d.part;
+          there = st.there;
+          start = h.d.before;
+          put = λ x. st.put x ∙ ap (λ t. h.d.before ++ part_text x t) (sym st.behind);
+          front = [];
+          gone = h.row ∷ h.others;
+          come = root_rows l h.row.gap w.column w.last v;
+          back = [];
+          rows_are = h.rows_are ∙ sym (append-nil (h.row ∷ h.others));
+          come_are = refl;
+          end_is = refl;
+          lead = lead;
+          trail = w.last;
+          before_is = append-nil w.before ∙ (h.before_is ∙ (λ i. sym (append-nil h.d.before) i ++ (h.row.gap ++ same i)));
+          behind_is = ap (λ t. w.last ++ t) (append-nil w.behind ∙ (h.behind_is ∙ ap (λ t. h.d.part.end ++ t) (sym st.behind)));
+          puts = refl;
+          old_is = old_is;
+          new_is = new;
+        }) read there (one h.ends) begins (root_first v l h.row.gap w.column w.last value_tree)
+      where
+        one : (IsOneBreak w.last) ⊎ ((w.last ≡ []) × (h.d.part.end ++ h.d.behind ≡ [])) → is_one_line w.last ≡ true
+        one (inl (inl e)) = ap is_one_line e
+        one (inl (inr e)) = ap is_one_line e
+        one (inr e) = ap is_one_line e.0
+
+        begins : length (h.row.gap ++ replicate w.column 32) ≤ length (print_row h.row [])
+        begins =
+            omega (
+              arith,
+              ap (λ (k : ℕ). length (replicate {A = ℕ} k 32)) h.column_is,
+              length-append h.row.gap (replicate {A = ℕ} w.column 32),
+              length-append h.row.gap (behind_gap h.row []),
+              length-append (replicate h.row.column 32) (behind_indent h.row []),
+            )
+
+    carried : length (new_text (root_put l v w)) ≤ text_limit → CarriedOut (replace n [] v) c (root_put l v w)
+    carried size =
+        let takes = takes_value n c w read h in
+        let readable : IsReadable (new_text (root_put l v w)) =
+        segments_readable (root_put l v w) (before_piece n c w read h, (value_piece v l w.column value_tree, (last_piece n c w read h, (behind_piece n c w read h, tt)))) size in
+        value_carried n c h.d h.row.gap w.last h.d.part.end v l w.column (root_put l v w) takes (mapping_least n c) value_tree (fits_part n v c h.d.part takes.old.there value_tree fits) text_there readable local
+
+-- ---- where none is written
+
+put_piece : (closed : Bool) (br lines : List ℕ) → IsPiece br → IsPiece lines → IsPiece (lines_put_behind closed br lines)
+put_piece true br lines b k = pieces_joined lines br k b
+put_piece false br lines b k = pieces_joined br lines b k
+
+module _ (n : ℕ) (v : Node) (c : Cut) (w : NoRows) (read : read_at (cut_text c) ≡ Some c) (h : IsUnwrittenRoot n c w) where
+  first_old : old_text (no_rows_put (layout_of n c) v w) ≡ cut_text c
+  first_old = ap (λ t. w.before ++ t) (append-nil w.behind) ∙ whole n c w read h
+
+  module _ (value_tree : IsValueTree v) (fits : Fits (room_of (cut_text c)) (replace n [] v) (documents c)) where
+    abbrev br : List ℕ
+    br = break_text (layout_of n c).br
+
+    abbrev lines : List ℕ
+    lines = block_value (layout_of n c) 0 v
+
+    there : FitsPart v h.d.part
+    there = fits_part n v c h.d.part (stands n c w read h).there value_tree fits
+
+    new_is : new_text (no_rows_put (layout_of n c) v w) ≡ h.d.before ++ (h.d.part.end ++ (lines_put_behind (is_closed_text w.before) (break_text (layout_of n c).br) (block_value (layout_of n c) 0 v) ++ h.d.behind))
+    new_is = search (rules, append-nil, append_assoc)
+
+    by_break : (closed : Bool) → is_closed_text w.before ≡ closed → IsReadable (new_text (no_rows_put (layout_of n c) v w)) → CarriedOut (replace n [] v) c (no_rows_put (layout_of n c) v w)
+    by_break true e readable =
+        let takes = takes_unwritten n c w read h e (layout_of n c).br in
+        let st = stands n c w read h in
+        let rows = are n c h.d h.d.part.end br [] takes v (layout_of n c) 0 (mapping_least n c) value_tree there.near in
+        value_carried n c h.d h.d.part.end br [] v (layout_of n c) 0 (no_rows_put (layout_of n c) v w) takes (mapping_least n c) value_tree there
+        (sym (new_is ∙ ((λ i. h.d.before ++ (h.d.part.end ++ (lines_put_behind (e i) br lines ++ h.d.behind))) ∙ ap (λ t. h.d.before ++ (h.d.part.end ++ t)) (append_assoc lines br h.d.behind)))) readable
+        (λ new known. gap_moves n c h.d.part st.there h.d.before (λ x. st.put x ∙ ap (λ t. h.d.before ++ part_text x t) (sym st.behind)) (no_rows_put (layout_of n c) v w) (root_rows (layout_of n c) h.d.part.end 0 br v) [] h.rows_are rows.some
+        (rows.first ∙ sym (append-nil h.d.part.end)) (append-nil w.before ∙ h.before_is) (append-nil w.behind ∙ (h.behind_is ∙ sym st.behind)))
+    by_break false e readable =
+        open_carried n c w read h e (layout_of n c).br v (layout_of n c) (mapping_least n c) value_tree there (no_rows_put (layout_of n c) v w) (append-nil w.before) (append-nil w.behind)
+        (new_is ∙ ((λ i. h.d.before ++ (h.d.part.end ++ (lines_put_behind (e i) br lines ++ h.d.behind))) ∙ ap (λ t. h.d.before ++ (h.d.part.end ++ t)) (append_assoc br lines h.d.behind))) readable
+
+    first_carried : length (new_text (no_rows_put (layout_of n c) v w)) ≤ text_limit → CarriedOut (replace n [] v) c (no_rows_put (layout_of n c) v w)
+    first_carried size =
+        let kept = pieces n c w read h in
+        let put_there : IsPiece (lines_put_behind (is_closed_text w.before) br (block_value (layout_of n c) 0 v)) =
+        put_piece (is_closed_text w.before) br (block_value (layout_of n c) 0 v) (break_piece (layout_of n c).br) (value_piece v (layout_of n c) 0 value_tree) in
+        by_break (is_closed_text w.before) refl (segments_readable (no_rows_put (layout_of n c) v w) (kept.0, (put_there, (kept.1, tt))) size)
+
+-- ---- both
+
+pub roots_are_put : RootsArePut
+roots_are_put n steps v c w read at =
+    let x = has_root n steps c w at in
+    let h = block_root_at n c w read x.1 in
+    subst (λ (ts : List Step). IsEdit (replace n ts v) c (root_put (layout_of n c) v w)) (sym x.0) (record { old = old_is n v c w read h; carried = carried n v c w read h })
+
+pub first_nodes_are_put : NoRowsArePut
+first_nodes_are_put n steps v c w read at =
+    let x = has_no_rows n steps c w at in
+    subst (λ (ts : List Step). IsEdit (replace n ts v) c (no_rows_put (layout_of n c) v w)) (sym x.0) (record { old = first_old n v c w read x.1; carried = first_carried n v c w read x.1 })

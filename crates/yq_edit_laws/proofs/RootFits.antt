@@ -1,0 +1,57 @@
+-- A value that fits as the root of a document: what that says of it, and the text in which it comes there.
+use Rattle.std.proofs.Common.{inl, ◌≡◌, ℕ, ◌≤◌, List, [], ◌++◌, replicate, Some, sym, ◌∙◌, subst}
+use Rattle.std.proofs.lemmas.Option.{same_Some}
+use Rattle.std.specs.List.{slice_get}
+use Rattle.yq_core.specs.Tree.{Node}
+use Rattle.yq_flow_edits.specs.Valued.{IsValueTree}
+use Rattle.yq_core.specs.Anchors.{names_of}
+use Rattle.yq_row_table.specs.Rows.{Row, Part, Cut, cut_text}
+use Rattle.yq_documents.specs.Documents.{document_parts}
+use Rattle.yq_lookup.specs.PlacedRows.{PlacedPart}
+use Rattle.yq_documents.specs.Reading.{documents, read_at, root_of}
+use Rattle.yq_lookup.specs.RowPaths.{IsReadable}
+use Rattle.yq_edits.specs.declared.layout.Layout.{Layout}
+use Rattle.yq_edits.specs.BlockText.{block_value}
+use Rattle.yq_edits.specs.BlockValues.{HasNearKeys}
+use Rattle.yq_edits.specs.Changed.{put_document}
+use Rattle.yq_edits.specs.Conditions.{AreSpared}
+use Rattle.yq_edits.specs.Replaces.{rooted}
+use Rattle.yq_edits.specs.SoundRoots.{inner_names, IsNewValue}
+use Rattle.yq_semantics.specs.Fits.{Fits}
+use Rattle.yq_semantics.specs.Operations.{replace}
+use Rattle.yq_semantics.specs.Rooms.{room_of}
+use Rattle.yq_text.specs.Script.{Segment, new_text}
+use Rattle.yq_edits.specs.Local.{IsLocal}
+use Rattle.yq_edits.specs.ReadsAfter.{ReadsAfter}
+use Rattle.yq_edits.specs.EditLaws.{CarriedOut}
+use Rattle.yq_edits.proofs.LocalLaws.{cut_known}
+use Rattle.yq_edit_laws.proofs.RootRows.{root_rows}
+use Rattle.yq_edits.proofs.EditsFitLaws.{fits_replace}
+use Rattle.yq_edit_laws.proofs.RootReadLaws.{TakesValue, text_is, root_read, root_reads}
+
+-- A value may stand in the place of the root of a part.
+pub record FitsPart (v : Node) (p : Part) : Type 0 where
+  pub near : HasNearKeys v
+  pub value_is : IsNewValue v 0
+  pub spared : AreSpared (inner_names (root_of p)) [] (names_of (root_of p))
+
+pub fits_part : (n : ℕ) (v : Node) (c : Cut) (p : Part) → slice_get (document_parts c) n ≡ Some p → IsValueTree v → Fits (room_of (cut_text c)) (replace n [] v) (documents c) → FitsPart v p
+fits_part n v c p there value_tree fits =
+    let f = fits_replace n [] v c p there value_tree fits in
+    record { near = f.near; value_is = f.may.value_is; spared = subst (λ m. AreSpared (inner_names m) [] (names_of (root_of p))) (sym (same_Some _ _ f.there)) f.may.spared }
+
+-- what is asked of segments that write the root, besides that they make this text
+abbrev pub LocalRoot : (n : ℕ) (c : Cut) (d : PlacedPart) (rs : List Row) (back : List ℕ) (ss : List Segment) → Type 0
+LocalRoot n c d rs back ss =
+    new_text ss ≡ cut_text (put_document n (rooted rs back d.part) c) → read_at (cut_text (put_document n (rooted rs back d.part) c)) ≡ Some (put_document n (rooted rs back d.part) c) → IsLocal ss c (put_document n (rooted rs back d.part) c)
+
+pub value_carried : (n : ℕ) (c : Cut) (d : PlacedPart) (gap last back : List ℕ) (v : Node) (l : Layout) (column : ℕ) (ss : List Segment) → TakesValue n c d gap last back → 1 ≤ l.mapping → IsValueTree v → FitsPart v d.part →
+    d.before ++ (gap ++ (replicate column 32 ++ (block_value l column v ++ (last ++ (back ++ d.behind))))) ≡ new_text ss → IsReadable (new_text ss) → LocalRoot n c d (root_rows l gap column last v) back ss → CarriedOut (replace n [] v) c ss
+value_carried n c d gap last back v l column ss takes step value_tree fits text readable local =
+    let whole = text_is n c d gap last back takes v l column step value_tree fits.near ∙ text in
+    let there : IsReadable (cut_text (put_document n (rooted (root_rows l gap column last v) back d.part) c)) = subst IsReadable (sym whole) readable in
+    let read = root_read n c d gap last back takes v l column step value_tree fits.near fits.value_is fits.spared there in
+    record {
+      reads = subst (ReadsAfter (replace n [] v) c) whole (root_reads n c d gap last back takes v l column step value_tree fits.near fits.value_is fits.spared there);
+      local = inl (cut_known ss c (put_document n (rooted (root_rows l gap column last v) back d.part) c) read whole (local (sym whole) read));
+    }

@@ -1,0 +1,139 @@
+-- A value as the root of a document in which that is a block collection, or isn't written: what the text then reads as.
+use Rattle.std.proofs.Common.{Some, ◌≡◌, ℕ, ◌+◌, ◌≤◌, List, [], ◌∷◌, ◌++◌, map, replicate, None, true, false, sym, ap, ◌∙◌, subst, append-nil, rules}
+use Rattle.std.proofs.lemmas.Bool.{false≢true}
+use Rattle.yq_core.specs.Paths.{within}
+use Rattle.yq_core.specs.Tree.{Node, children_of}
+use Rattle.yq_core.specs.Inline.{depth_limit}
+use Rattle.yq_flow_edits.specs.Valued.{IsValueTree}
+use Rattle.yq_core.specs.Anchors.{names_of}
+use Rattle.yq_outline.specs.Comments.{head_comment}
+use Rattle.yq_outline.specs.Outline.{anchored}
+use Rattle.yq_outline.proofs.NodeLaws.{anchored_none}
+use Rattle.yq_row_table.specs.Grammar.{unlimited, AreRows, no_rows}
+use Rattle.yq_row_table.specs.Rows.{Row, rows_text, Part, Cut, cut_text}
+use Rattle.yq_row_table.specs.SpliceFits.{is_after}
+use Rattle.yq_row_table.specs.Splices.{first_gap, marker_before}
+use Rattle.yq_documents.specs.Documents.{Document, document_parts, lead_of}
+use Rattle.yq_documents.specs.TreeEdits.{anchor_of, headed, lead_by, led, replaced_node}
+use Rattle.yq_lookup.specs.PlacedRows.{PlacedPart}
+use Rattle.yq_documents.specs.Reading as reading
+use Rattle.yq_documents.specs.Reading.{root_of, read_at}
+use Rattle.yq_lookup.specs.RowPaths.{IsReadable}
+use Rattle.yq_edits.specs.declared.layout.Layout.{Layout}
+use Rattle.yq_edits.specs.BlockText.{block_value}
+use Rattle.yq_edits.specs.BlockValues.{HasNearKeys}
+use Rattle.yq_edits.specs.Changed.{changed as part_changed, IsChanged, KeepsRows, put_document}
+use Rattle.yq_edits.specs.Conditions.{AreSpared}
+use Rattle.yq_edits.specs.DocumentRows.{IsDocumentPart, behind_document}
+use Rattle.yq_documents.specs.PartNumbers.{part_number}
+use Rattle.yq_edits.specs.PlacedParts.{StandsAt}
+use Rattle.yq_edits.specs.Replaces.{TakesRoot, rooted}
+use Rattle.yq_edits.specs.Rooms.{is_block_root, LeadGoes}
+use Rattle.yq_edits.specs.SoundRoots.{inner_names, IsNewValue}
+use Rattle.yq_edits.proofs.AfterLaws.{nth_is}
+use Rattle.yq_edits.proofs.ChangedLaws.{document_put}
+use Rattle.yq_edits.proofs.EditedLaws.{led_same}
+use Rattle.yq_edits.proofs.RootLaws.{root_rows_replaced}
+use Rattle.yq_semantics.specs.Operations.{replace}
+use Rattle.yq_edits.specs.ReadsAfter.{ReadsAfter}
+use Rattle.yq_edits.proofs.DoneLaws.{document_done}
+use Rattle.yq_edit_laws.proofs.RootRows.{root_rows, HasRoom, AreRootRows}
+use Rattle.yq_edit_laws.proofs.RootValues.{value_root_rows}
+
+block_unnamed : (p : Part) → is_block_root p ≡ true → anchor_of (root_of p) ≡ None
+block_unnamed p h = search (rules, false≢true)
+
+-- a new value under a lead
+headed_new : (above : List (List ℕ)) (v : Node) → IsNewValue v 0 → IsNewValue (within (headed above) v) 0
+headed_new above v h =
+    let w = led_same above v in
+    record { bare = w.0 ∙ h.bare; unique = w.2 h.unique; nested = subst (λ k. k ≤ depth_limit) (ap (λ d. 0 + d) (sym w.1)) h.nested }
+
+-- A value may come as the root of document n, between a gap that tells its lead and the end of the document.
+pub record TakesValue (n : ℕ) (c : Cut) (d : PlacedPart) (gap last back : List ℕ) : Type 0 where
+  pub stands : StandsAt c n d
+  pub old : IsDocumentPart (cut_text c) c n d.part
+  pub block : is_block_root d.part ≡ true
+  pub room : HasRoom gap last back d.behind
+  pub lead : head_comment gap ≡ lead_of d.part
+  pub starts : (t : List ℕ) → no_rows d.part.rows ≡ true → is_after (marker_before [] (part_number n c) c) t ≡ true
+
+module _ (n : ℕ) (c : Cut) (d : PlacedPart) (gap last back : List ℕ) (h : TakesValue n c d gap last back) (v : Node) (l : Layout) (column : ℕ) (step : 1 ≤ l.mapping) (value_tree : IsValueTree v) (near : HasNearKeys v) where
+  abbrev p : Part
+  p = d.part
+
+  abbrev rs : List Row
+  rs = root_rows l gap column last v
+
+  abbrev pub q : Part
+  q = rooted (root_rows l gap column last v) back d.part
+
+  abbrev lead : List (List ℕ)
+  lead = lead_of d.part
+
+  -- what is written as a root
+  abbrev new : Node
+  new = within (headed (lead_of d.part)) v
+
+  pub are : AreRootRows v gap (replicate column 32 ++ (block_value l column v ++ (last ++ (back ++ d.behind)))) rs back d.behind
+  are = value_root_rows v l gap column last back d.behind step value_tree near h.room
+
+  -- the new text
+  pub text_is : cut_text (put_document n q c) ≡ d.before ++ (gap ++ (replicate column 32 ++ (block_value l column v ++ (last ++ (back ++ d.behind)))))
+  text_is = h.stands.put q ∙ ap (λ t. d.before ++ t) (ap (λ xs. rows_text xs (back ++ d.behind)) (append-nil rs) ∙ are.spelled)
+
+  takes : TakesRoot c n p rs back
+  takes = record {
+    some = are.some;
+    new_are = subst (AreRows unlimited rs back) (sym h.stands.behind) are.rows;
+    start = λ e. h.starts (rows_text rs (back ++ behind_document n c)) e;
+    keys = are.keys;
+    short = are.short;
+  }
+
+  gap_first : (xs : List Row) → no_rows xs ≡ false → first_gap xs [] ≡ gap → first_gap (xs ++ []) back ≡ gap
+  gap_first [] some e = absurd (false≢true (sym some))
+  gap_first (x ∷ xs) some e = e
+
+  lead_is : lead_of q ≡ lead
+  lead_is = ap head_comment (gap_first rs are.some are.first) ∙ h.lead
+
+  some_rows : KeepsRows p q
+  some_rows e = absurd (false≢true (sym (ap no_rows (append-nil rs) ∙ are.some) ∙ e))
+
+  module _ (is : IsNewValue v 0) (spared : AreSpared (inner_names (root_of d.part)) [] (names_of (root_of d.part))) (readable : IsReadable (cut_text (put_document n q c))) where
+    changed : IsChanged c (put_document n q c) n (lead_of q) (replaced_node new)
+    changed =
+        root_rows_replaced (cut_text c) c n p new rs back are.level are.lines h.old takes
+        (record {
+          deep = are.deep;
+          even = are.even;
+          value_is = are.value_is ∙ (ap (λ c. within (headed c) v) h.lead ∙ (sym (anchored_none new) ∙ ap (λ a. anchored a new) (sym (block_unnamed p h.block))));
+          anchors = are.anchors;
+        }) are.lines_are (record { value_is = headed_new lead v is; spared = spared }) readable
+
+    root_is : root_of q ≡ new
+    root_is =
+        ap (λ (x : Document). x.root)
+        (nth_is n p q (part_changed (lead_of q) (replaced_node new)) (document_parts c) h.old.there (sym (ap (map reading.part_document) (document_put c n p q h.old.there some_rows)) ∙ changed.documents_are))
+        ∙ (ap (λ a. anchored a new) (block_unnamed p h.block) ∙ anchored_none new)
+
+    lead_goes : LeadGoes p q
+    lead_goes = lead_is ∙ (sym (search rules) ∙ (λ i. lead_by (sym h.block i) (children_of (sym root_is i)) lead))
+
+    pub root_read : read_at (cut_text (put_document n q c)) ≡ Some (put_document n q c)
+    root_read = changed.read
+
+    pub root_reads : ReadsAfter (replace n [] v) c (cut_text (put_document n q c))
+    root_reads =
+        document_done (replace n [] v) c p q (lead_of q) (replaced_node new)
+        (record {
+          read = h.old.read;
+          there = h.old.there;
+          rows = some_rows;
+          changed = changed;
+          root = ap (λ b. replaced_node (led b lead [] v) (root_of p)) (sym h.block);
+          lead_goes = lead_goes;
+          block = λ keeps. absurd keeps;
+          equal_room = λ sets. absurd sets;
+        })

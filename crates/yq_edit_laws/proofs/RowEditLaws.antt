@@ -1,0 +1,50 @@
+-- What operations exchange that change one row.
+use Rattle.std.proofs.Common.{◌≡◌, Bool, true, cond, eqb, eq-eqb, List, [], ◌∷◌, length, Option, Some, None, option_map, refl, sym, ap, ◌∙◌}
+use Rattle.std.proofs.lemmas.Bool.{false≢true}
+use Rattle.std.specs.Option.{option_or}
+use Rattle.yq_core.specs.Answers.{◌>>=◌}
+use Rattle.yq_core.specs.Text.{is_empty}
+use Rattle.yq_core.specs.declared.style.Place.TheVariants.{Block as InBlock}
+use Rattle.yq_core.specs.BlockWritten.{break_text}
+use Rattle.yq_row_table.specs.Rows.{Content, Nothing, Inline, Block, cut_text}
+use Rattle.yq_row_table.specs.Seams.{is_block}
+use Rattle.yq_row_table.specs.View.{content_cut}
+use Rattle.yq_lookup.specs.NodesAt.{node_in}
+use Rattle.yq_lookup.specs.Standings.{RowsOfEntry, behind_mark, below, beside, compact, compact_in, entry_standing, flow_standing, held, last_step, standing_at}
+use Rattle.yq_text.specs.Script.{Segment, keep}
+use Rattle.yq_edits.specs.CommentEdits.{comment_put, line_comment_put}
+use Rattle.yq_edits.specs.FlowParts.{flow_put}
+use Rattle.yq_edits.specs.Layouts.{layout_of}
+use Rattle.yq_edits.specs.ReplaceEdits.{has_text, held_put, value_put, value_put_at}
+use Rattle.yq_edits.specs.Replacing.{keeps_scalar}
+use Rattle.yq_edits.specs.RowChanges.{CommentEdits, HoldsInline, InlineEdits, RowEdits, inline_put}
+use Rattle.yq_edits.specs.WrittenValues.{collection_at, inline, value_text}
+use Rattle.yq_edit_laws.proofs.OnePutLaws.{comment_puts, inline_puts}
+
+-- an inline node stands beside its key or dash
+beside_there : (e : RowsOfEntry) → HoldsInline e → entry_standing e ≡ beside (held e)
+beside_there e h = ap (λ (b : Bool). cond b (behind_mark e e.row.content) (compact (compact_in e))) at_mark ∙ go e.row.content refl
+  where
+    at_mark : eqb e.line (length e.row.dashes) ≡ true
+    at_mark = eq-eqb e.line (length e.row.dashes) h.last
+
+    go : (x : Content) → e.row.content ≡ x → behind_mark e x ≡ beside (held e)
+    go (Nothing tail) is = absurd (false≢true (sym h.some ∙ ap (λ (y : Content). is_empty (content_cut y).3) is))
+    go (Inline space node tail) is = ap (λ (b : Bool). cond b (below e e.under) (beside (held e))) h.some
+    go (Block space anchor b) is = absurd (false≢true (sym h.block ∙ ap is_block is))
+
+inline_edits : InlineEdits
+inline_edits n s ss v c e at h plain =
+    let stands : standing_at n (s ∷ ss) c ≡ Some (beside (held e)) = ap (option_map entry_standing) at ∙ ap Some (beside_there e h) in
+    let put : value_put_at n (s ∷ ss) v c ≡ Some (inline_put v (held e)) =
+    ap (option_map (value_put (has_text (node_in n (s ∷ ss) c)) (layout_of n c) v)) stands
+    ∙ ap (λ (b : Bool). Some (held_put (break_text (layout_of n c).br) (held e) (cond b (collection_at (layout_of n c) (held e).mark v) (inline (value_text InBlock (held e).head v))))) plain in
+    ap (λ (o : Option (List Segment)). cond (keeps_scalar (node_in n (s ∷ ss) c) v) (Some (keep (cut_text c) ∷ [])) (option_or o (option_map (flow_put (cut_text c) v) (flow_standing n c (last_step (s ∷ ss)))))) put
+
+comment_edits : CommentEdits
+comment_edits n steps text c e at last =
+    ap (λ (o : Option RowsOfEntry). o >>= line_comment_put text) at
+    ∙ ap (λ (b : Bool). cond b (Some (comment_put text (held e))) None) (eq-eqb e.line (length e.row.dashes) last)
+
+pub row_edits : RowEdits
+row_edits = record { inline = inline_edits; comment = comment_edits; inline_puts = inline_puts; comment_puts = comment_puts }

@@ -1,0 +1,131 @@
+-- What a key or dash holds that has a block scalar: its header's line, and the lines below.
+use Rattle.std.proofs.Common.{◌≡◌, inl, inr, ℕ, cond, List, [], ◌++◌, length, Option, None, Some, true, false, ◌&&◌, ◌||◌, refl, sym, ap, ◌∙◌, subst, append_assoc, append-nil, rules}
+use Rattle.std.proofs.lemmas.Bool.{false≢true, and_parts}
+use Rattle.yq_core.specs.Block.{BlockText, block_text}
+use Rattle.yq_core.specs.Lines.{is_blank, is_hash}
+use Rattle.yq_core.specs.Paths.{Step}
+use Rattle.yq_core.specs.Text.{front, is_empty, is_line, is_white, past_white, separates}
+use Rattle.yq_outline.specs.Places.{content_under}
+use Rattle.yq_row_table.specs.Exchange.{row_front, with_content}
+use Rattle.yq_row_table.specs.Gap.{IsBreak}
+use Rattle.yq_row_table.specs.Grammar.{IsContent, IsTail}
+use Rattle.yq_row_table.specs.Rows.{Anchor, Block, anchor_text, content_text, Row, parent_indent, rows_text, Cut, cut_text}
+use Rattle.yq_row_table.specs.View.{slices}
+use Rattle.yq_row_table.proofs.LineEnds.{comment_none, text_line, white_none}
+use Rattle.yq_outline.specs.Lines.{block_anchor, content_anchor}
+use Rattle.yq_documents.specs.TreeEdits.{anchor_of}
+use Rattle.yq_lookup.specs.CommentPlaces.{LineEnd, end_in_line}
+use Rattle.yq_lookup.specs.PrintedLines.{last_break, less_break}
+use Rattle.yq_lookup.specs.RowPieces.{anchor_before, space_before}
+use Rattle.yq_lookup.specs.Standings.{RowsOfEntry, before_entry, held}
+use Rattle.yq_edits.specs.StandingLaws.{StandsThere}
+use Rattle.yq_edits.specs.TextPieces.{IsPiece}
+use Rattle.yq_edits.specs.ReplaceEdits.{line_break, raw_last}
+use Rattle.yq_edits.proofs.BreakLaws.{IsLfOrCrLf, break_is}
+use Rattle.yq_edits.proofs.CommentPieceLaws.{break_piece}
+use Rattle.yq_edits.proofs.CommentRowLaws.{end_parts}
+use Rattle.yq_core.specs.declared.block_types.Break.TheVariants.{Lf, CrLf}
+use Rattle.yq_edit_laws.proofs.HeadPuts.{apart_there, content_there}
+use Rattle.yq_edit_laws.proofs.HeldKnown.{KnowsHeld}
+use Rattle.yq_edit_laws.proofs.HeldRows.{mark_end, mark_tail}
+use Rattle.yq_edit_laws.proofs.NodeRowLaws.{rest}
+use Rattle.yq_edit_laws.proofs.StandingNodes.{mark_node}
+
+-- ---- the break of a header's line
+
+broken_line : (b : List ℕ) → IsLfOrCrLf b → IsPiece b
+broken_line b (inl e) = subst IsPiece (sym e) (break_piece Lf)
+broken_line b (inr e) = subst IsPiece (sym e) (break_piece CrLf)
+
+has_break : (tail more : List ℕ) → is_line tail ≡ true → (h : IsTail tail more) → IsLfOrCrLf h.line.break
+unfolding is_line
+has_break tail more line h = go h.line.ends
+  where
+    same : is_line tail ≡ is_line h.line.break
+    same = ap is_line (h.line.spelled ∙ sym (append_assoc h.white h.comment h.line.break)) ∙ text_line (h.white ++ h.comment) h.line.break (white_none h.white h.comment h.line.break h.line.blank (comment_none h.comment h.line.break h.line.as_comment))
+
+    go : IsBreak h.line.break more → IsLfOrCrLf h.line.break
+    go (inl k) = break_is h.line.break k
+    go (inr k) = absurd (false≢true (sym (ap is_line k.0) ∙ (sym same ∙ line)))
+
+-- a break and lines behind it, as they are held: the break of the line is that one, with or without lines
+abbrev gone_of : List ℕ → List ℕ → List ℕ
+gone_of b below = cond (is_empty below) [] b
+
+abbrev final_of : List ℕ → List ℕ → List ℕ
+final_of b below = cond (is_empty below) b (last_break below)
+
+no_break : less_break [] ≡ []
+unfolding less_break
+no_break = refl
+
+lines_old : (b below u : List ℕ) → IsLfOrCrLf b →
+    b ++ (less_break below ++ (cond (is_empty (gone_of b below)) [] (final_of b below) ++ u)) ≡ gone_of b below ++ (less_break below ++ (final_of b below ++ u))
+lines_old b below u h1 = search (rules, no_break)
+
+-- ---- the text up to a header
+
+front_with : (base space : List ℕ) (anchor : Option Anchor) (block : BlockText) (r : Row) (u : List ℕ) → let s = slices (with_content (Block space anchor block) r) in
+    (base ++ anchor_before s) ++ (space_before s ++ u) ≡ base ++ (space ++ anchor_text anchor u)
+front_with base space None block r u = ap (λ t. t ++ (space ++ u)) (append-nil base)
+front_with base space (Some a) block r u = simp append_assoc refl
+
+-- ---- a key or dash
+
+module _ (n : ℕ) (s : Step) (ss : List Step) (c : Cut) (e : RowsOfEntry) (there : StandsThere n s ss c e) (last : e.line ≡ length e.row.dashes) (knows : KnowsHeld n s ss c e there last)
+    (space : List ℕ) (anchor : Option Anchor) (block : BlockText) (content_is : e.row.content ≡ Block space anchor block) where
+  abbrev z : List ℕ
+  z = rest n s ss c (mark_node n s ss c e there last)
+
+  abbrev base : List ℕ
+  base = before_entry e ++ row_front e.row
+
+  pub row_is : e.row ≡ with_content (Block space anchor block) e.row
+  row_is = ap (λ x. with_content x e.row) content_is
+
+  pub headed : is_empty (slices e.row).head ≡ false
+  headed = ap (λ (r : Row). is_empty (slices r).head) row_is
+
+  pub valid : IsContent (parent_indent e.row) (Block space anchor block) (rest n s ss c (mark_node n s ss c e there last))
+  valid = subst (λ x. IsContent (parent_indent e.row) x z) content_is (content_there n s ss c e there last knows headed)
+
+  pub apart_is : separates (space ++ anchor_text anchor (block_text block (rest n s ss c (mark_node n s ss c e there last)))) ≡ true
+  apart_is = subst (λ x. separates (content_text x z) ≡ true) content_is (apart_there n s ss c e there last knows headed)
+
+  pub anchor_is : anchor_of (content_under there.found.line there.found.under) ≡ block_anchor anchor
+  anchor_is = knows.named ∙ ap content_anchor content_is
+
+  -- the text up to the header
+  pub front_text : (u : List ℕ) → (held e).before ++ ((held e).space ++ u) ≡ (before_entry e ++ row_front e.row) ++ (space ++ anchor_text anchor u)
+  front_text u = ap (λ (r : Row). (base ++ anchor_before (slices r)) ++ (space_before (slices r) ++ u)) row_is ∙ front_with base space anchor block e.row u
+
+  -- the rest of the header's line
+  abbrev below : List ℕ
+  below = (slices e.row).raw ++ rows_text e.under []
+
+  pub tail_is : (slices e.row).tail ≡ block.tail
+  tail_is = ap (λ (r : Row). (slices r).tail) row_is
+
+  break_there : IsLfOrCrLf (end_in_line [] (slices e.row).tail).behind
+  break_there =
+      let line : is_line block.tail ≡ true = (and_parts (is_line block.tail) (is_blank block.tail || (front is_white block.tail && is_hash (past_white block.tail))) valid.2.tail).0 in
+      subst (λ (x : LineEnd). IsLfOrCrLf x.behind) (sym (mark_end n s ss c e there last)) (has_break (slices e.row).tail _ (ap is_line tail_is ∙ line) (mark_tail n s ss c e there last))
+
+  line_is : line_break (held e) ≡ (end_in_line [] (slices e.row).tail).behind
+  line_is = search (rules, break_there)
+
+  pub line_piece : IsPiece (line_break (held e))
+  line_piece = broken_line (line_break (held e)) (subst IsLfOrCrLf (sym line_is) break_there)
+
+  pub header_line : (u : List ℕ) → (held e).white ++ ((held e).comment ++ (line_break (held e) ++ u)) ≡ block.tail ++ u
+  header_line u =
+      let t : LineEnd = end_in_line [] (slices e.row).tail in
+      ap (λ q. t.white ++ (t.comment ++ (q ++ u))) line_is
+      ∙ (ap (λ q. t.white ++ q) (sym (append_assoc t.comment t.behind u)) ∙ (sym (append_assoc t.white (t.comment ++ t.behind) u) ∙ ap (λ q. q ++ u) (sym (end_parts [] (slices e.row).tail) ∙ tail_is)))
+
+  -- the old text
+  pub raw_old : (held e).before ++ ((held e).space ++ ((held e).head ++ ((held e).white ++ ((held e).comment ++ (line_break (held e) ++ ((held e).lines ++ (raw_last (held e) ++ ((held e).behind ++ [])))))))) ≡ cut_text c
+  raw_old =
+      let h = held e in
+      (λ i. h.before ++ (h.space ++ (h.head ++ (h.white ++ (h.comment ++ (line_is i ++ (h.lines ++ (raw_last h ++ append-nil h.behind i))))))))
+      ∙ (ap (λ q. h.before ++ (h.space ++ (h.head ++ (h.white ++ (h.comment ++ q))))) (lines_old (end_in_line [] (slices e.row).tail).behind below h.behind break_there) ∙ sym knows.spells)

@@ -1,0 +1,37 @@
+-- A text that isn't read, which is never since it is no UTF-8, and one that is.
+use Rattle.std.proofs.Common.{◌≡◌, ◌≢◌, ◌↔◌, List, ℕ, Some, None, Err, false, sym, ap, ◌∙◌}
+use Rattle.std.specs.Str.{IsUtf8, is_utf8}
+use Rattle.std.proofs.lemmas.Bool.{false≢true}
+use Rattle.std.proofs.lemmas.Str.{IsUtf8-from_is_utf8, is_utf8-from_IsUtf8}
+use Rattle.yq_core.proofs.Bools.{guard_then}
+use Rattle.yq_row_table.specs.Rows.{Cut}
+use Rattle.yq_core.specs.Answers.{ReadFails as FailsReading}
+use Rattle.yq_core.specs.declared.ReadFault.{ReadFault}
+use Rattle.yq_core.specs.declared.fault.FaultKind.TheVariants.{NotUtf8}
+use Rattle.yq_core.specs.declared.fault.ReadError.{ReadError}
+use Rattle.yq_core.specs.declared.fault.ReadError.TheVariants as reading
+use Rattle.yq_lookup.specs.Answers.{IsNotUtf8}
+use Rattle.yq_documents.specs.Reading.{read_at}
+use Rattle.yq_edit_laws.specs.Answers.{EditFails, error_of_reading}
+use Rattle.yq_edit_laws.specs.Edit.{Edit, unreadable}
+
+-- What is known where bytes aren't read.
+pub record FailsToRead (e : ReadError) (bytes : List ℕ) : Type 0 where
+  pub none : FailsReading e (read_at bytes)
+  pub utf8 : IsNotUtf8 {X = List ℕ} (Err e) ↔ (is_utf8 bytes ≡ false)
+
+pub text_unread : (bytes t : List ℕ) (fault : ReadFault) → bytes ≡ t → IsUtf8 t → FailsToRead (reading.Fault fault) bytes → (read_at t ≡ None) × (fault.kind ≢ NotUtf8)
+text_unread bytes t fault same utf8 h = (
+  ap read_at (sym same) ∙ h.none,
+  λ is. false≢true (sym (h.utf8.0 is) ∙ (ap is_utf8 same ∙ is_utf8-from_IsUtf8 t utf8)),
+)
+
+-- an edit of a text that isn't read
+pub edit_not_read : (e : ReadError) (bytes t : List ℕ) (edit : Edit) → bytes ≡ t → IsUtf8 t → FailsToRead e bytes → (read_at t ≡ None → edit ≡ unreadable) → EditFails (error_of_reading e) edit
+edit_not_read reading.Memory bytes t edit same utf8 h unread = tt
+edit_not_read (reading.Fault fault) bytes t edit same utf8 h unread = let k = text_unread bytes t fault same utf8 h in (unread k.0, k.1)
+
+-- a text that is read is UTF-8
+pub text_utf8 : (t : List ℕ) (c : Cut) → read_at t ≡ Some c → IsUtf8 t
+unfolding read_at
+text_utf8 t c is = IsUtf8-from_is_utf8 t (guard_then (is_utf8 t) is).0

@@ -1,0 +1,123 @@
+-- Each item that segments write is touched by what they put, where that is near.
+use Rattle.std.proofs.Common.{◌≡◌, ◌⊎◌, inl, inr, ℕ, ◌+◌, ◌≤◌, true, false, List, [], ◌∷◌, ◌++◌, length, Some, sym, ap, ◌∙◌, subst, append_assoc, arith}
+use mathlib.Core.List.{head-eq_of_cons-eq, tail-eq_of_cons-eq}
+use Rattle.std.proofs.lemmas.List.{length-append}
+use Rattle.std.specs.Str.{is_utf8}
+use Rattle.yq_core.specs.Text.{is_empty}
+use Rattle.yq_core.proofs.BlockPieceLaws.{IsLf}
+use Rattle.yq_core.proofs.Bools.{guard_then}
+use Rattle.yq_row_table.specs.Grammar.{IsCut}
+use Rattle.yq_row_table.specs.Items.{Item, AreRowItems, items_of_cut, items_text, nothing_asked}
+use Rattle.yq_row_table.specs.Rows.{Cut}
+use Rattle.yq_row_table.specs.Touched.{in_back, in_front, item_text}
+use Rattle.yq_row_table.proofs.ItemLaws.{items_of_text, items_text-append, parts_are_items}
+use Rattle.yq_row_table.proofs.KeptLaws.{items_apart}
+use Rattle.yq_documents.specs.Reading.{read_at}
+use Rattle.yq_lookup.proofs.ReadLaws.{text_takes}
+use Rattle.yq_text.specs.Script.{Segment, are_kept, kept_back, kept_front, new_text}
+use Rattle.yq_edit_laws.specs.TouchedRanges.{AreTouched, IsLocalEdit, IsTouched, LiesInOne, NearAreTouched, put_ranges}
+use Rattle.yq_edit_laws.proofs.ItemEnds.{back_stop, front_stop, items_ended}
+use Rattle.yq_edit_laws.proofs.RangeLaws.{at_first, at_last, from_front}
+use Rattle.yq_edit_laws.proofs.TouchLaws.{size_joined, size_one}
+
+text_cut : (t : List ℕ) (c : Cut) → read_at t ≡ Some c → IsCut t c
+unfolding read_at
+text_cut t c h = (text_takes t c (guard_then (is_utf8 t) h).1).0
+
+-- items of a list that is cut at another place too: they are in front of that, or behind it
+apart : (done front : List Item) (w own : Item) (ws back : List Item) → done ++ (w ∷ ws) ≡ front ++ (own ∷ back) →
+    (length (items_text done []) ≤ length (items_text front [])) ⊎ (length (items_text (w ∷ ws) []) ≤ length (items_text back []))
+apart [] front w own ws back e = inl (omega arith)
+apart (x ∷ done) [] w own ws back e =
+    let tail : done ++ (w ∷ ws) ≡ back = tail-eq_of_cons-eq e in
+    inr (let size = ap (λ (l : List Item). length (items_text l [])) tail in omega (arith, size, size_joined done (w ∷ ws)))
+apart (x ∷ done) (y ∷ front) w own ws back e = go (apart done front w own ws back (tail-eq_of_cons-eq e))
+  where
+    same : x ≡ y
+    same = head-eq_of_cons-eq e
+
+    go : (length (items_text done []) ≤ length (items_text front [])) ⊎ (length (items_text (w ∷ ws) []) ≤ length (items_text back [])) →
+        (length (items_text (x ∷ done) []) ≤ length (items_text (y ∷ front) [])) ⊎ (length (items_text (w ∷ ws) []) ≤ length (items_text back []))
+    go (inl k) = inl (omega (arith, k, size_one x done, size_one y front, ap (λ (i : Item). length (item_text i)) same))
+    go (inr k) = inr k
+
+module _ (ss : List Segment) (new : Cut) (near : IsLocalEdit ss) (kept : are_kept ss ≡ false) (read : read_at (new_text ss) ≡ Some new) where
+  cut : IsCut (new_text ss) new
+  cut = text_cut (new_text ss) new read
+
+  items : AreRowItems nothing_asked (items_of_cut new) []
+  items = parts_are_items new true cut.parts
+
+  text : items_text (items_of_cut new) [] ≡ new_text ss
+  text = items_of_text new ∙ sym cut.text
+
+  -- an item between those in front and others
+  item_touched : (done : List Item) (w : Item) (ws : List Item) → items_of_cut new ≡ done ++ (w ∷ ws) → length (kept_front ss) ≤ length (items_text done []) + length (item_text w) → length (kept_back ss) ≤ length (items_text (w ∷ ws) []) →
+      IsTouched (length (items_text done [])) (length (items_text done []) + length (item_text w)) (put_ranges ss)
+  item_touched done w ws are front back = by_near near
+    where
+      before : List ℕ
+      before = items_text done []
+
+      behind : List ℕ
+      behind = items_text (w ∷ ws) []
+
+      whole : new_text ss ≡ before ++ behind
+      whole = sym text ∙ (ap (λ (l : List Item). items_text l []) are ∙ (items_text-append done (w ∷ ws) [] ∙ items_apart done (items_text (w ∷ ws) [])))
+
+      size : length (new_text ss) ≡ length before + length behind
+      size = ap length whole ∙ length-append before behind
+
+      ended : is_empty behind ≡ false → (before ≡ []) ⊎ IsLf before
+      ended some = go (items_ended nothing_asked done (w ∷ ws) (subst (λ (l : List Item). AreRowItems nothing_asked l []) are items) some)
+        where
+          go : (done ≡ []) ⊎ IsLf before → (before ≡ []) ⊎ IsLf before
+          go (inl none) = inl (ap (λ (l : List Item). items_text l []) none)
+          go (inr lf) = inr lf
+
+      side : LiesInOne ss new → (length before ≤ length (kept_front ss)) ⊎ (length behind ≤ length (kept_back ss))
+      side one = go (apart done one.front w one.own ws one.back (sym are ∙ one.items_are))
+        where
+          go : (length before ≤ length (items_text one.front [])) ⊎ (length behind ≤ length (items_text one.back [])) → (length before ≤ length (kept_front ss)) ⊎ (length behind ≤ length (kept_back ss))
+          go (inl k) = inl (omega (arith, k, one.begins))
+          go (inr k) = inr (omega (arith, k, one.ends))
+
+      by_side : (length before ≤ length (kept_front ss)) ⊎ (length behind ≤ length (kept_back ss)) → IsTouched (length before) (length before + length (item_text w)) (put_ranges ss)
+      by_side (inl k) = at_first 0 (length before) (length before + length (item_text w)) ss kept (omega (arith, k)) (omega (arith, front))
+      by_side (inr k) = at_last 0 (length before) (length before + length (item_text w)) ss kept (omega (arith, size, back)) (omega (arith, size, k)) (omega arith)
+
+      by_near : IsLocalEdit ss → IsTouched (length before) (length before + length (item_text w)) (put_ranges ss)
+      by_near (inl lines) =
+          from_front before behind (length before + length (item_text w)) ended (omega arith) [] ss whole lines kept (omega (arith, front)) back (omega (arith, size_one w ws))
+      by_near (inr one) = by_side (side (one new read))
+
+  -- items behind what is kept in front
+  later_touched : (back : List Item) → back ≡ in_back (length (kept_back ss)) (items_of_cut new) → (done ws : List Item) → items_of_cut new ≡ done ++ (ws ++ back) → length (kept_front ss) ≤ length (items_text done []) →
+      AreTouched (length (items_text done [])) ws (put_ranges ss)
+  later_touched back behind done [] are front = tt
+  later_touched back behind done (w ∷ ws) are front =
+      let n : length (items_text (done ++ (w ∷ [])) []) ≡ length (items_text done []) + length (item_text w) = omega (arith, size_joined done (w ∷ []), size_one w []) in
+      let back_long : length (kept_back ss) ≤ length (items_text (w ∷ (ws ++ back)) []) =
+      subst (λ (b : List Item). length (kept_back ss) ≤ length (items_text (w ∷ (ws ++ b)) [])) (sym behind) (back_stop (length (kept_back ss)) (items_of_cut new) done w ws (are ∙ ap (λ (b : List Item). done ++ (w ∷ (ws ++ b))) behind)) in (
+        item_touched done w (ws ++ back) are (omega (arith, front)) back_long,
+        subst (λ (k : ℕ). AreTouched k ws (put_ranges ss)) n (later_touched back behind (done ++ (w ∷ [])) ws (are ∙ sym (append_assoc done (w ∷ []) (ws ++ back))) (omega (arith, n, front))),
+      )
+
+  -- all of them
+  all_touched : (front back : List Item) → front ≡ in_front (length (kept_front ss)) (items_of_cut new) → back ≡ in_back (length (kept_back ss)) (items_of_cut new) → (ws : List Item) → items_of_cut new ≡ front ++ (ws ++ back) →
+      AreTouched (length (items_text front [])) ws (put_ranges ss)
+  all_touched front back before behind [] are = tt
+  all_touched front back before behind (w ∷ ws) are =
+      let n : length (items_text (front ++ (w ∷ [])) []) ≡ length (items_text front []) + length (item_text w) = omega (arith, size_joined front (w ∷ []), size_one w []) in
+      let front_long : length (kept_front ss) ≤ length (items_text front []) + length (item_text w) =
+      subst (λ (f : List Item). length (kept_front ss) ≤ length (items_text f []) + length (item_text w)) (sym before)
+      (front_stop (length (kept_front ss)) (items_of_cut new) w (ws ++ back) (are ∙ ap (λ (f : List Item). f ++ ((w ∷ ws) ++ back)) before)) in
+      let back_long : length (kept_back ss) ≤ length (items_text (w ∷ (ws ++ back)) []) =
+      subst (λ (b : List Item). length (kept_back ss) ≤ length (items_text (w ∷ (ws ++ b)) [])) (sym behind) (back_stop (length (kept_back ss)) (items_of_cut new) front w ws (are ∙ ap (λ (b : List Item). front ++ (w ∷ (ws ++ b))) behind)) in (
+        item_touched front w (ws ++ back) are front_long back_long,
+        subst (λ (k : ℕ). AreTouched k ws (put_ranges ss)) n (later_touched back behind (front ++ (w ∷ [])) ws (are ∙ sym (append_assoc front (w ∷ []) (ws ++ back))) (omega (arith, n, front_long))),
+      )
+
+pub near_touched : NearAreTouched
+near_touched ss c new near kept read front back is behind t =
+    all_touched ss new near kept read (in_front front (items_of_cut c)) (in_back back (items_of_cut c)) (sym t.front_same ∙ ap (λ n. in_front n (items_of_cut new)) is) (sym t.back_same ∙ ap (λ n. in_back n (items_of_cut new)) behind) t.written t.new_are

@@ -1,0 +1,224 @@
+-- Where the root of a document comes that has no rows: in general, and behind a text that ends in a break.
+use Rattle.std.proofs.Common.{◌≡◌, ◌⊎◌, inl, inr, ℕ, zero, suc, ◌≤◌, List, [], ◌∷◌, ◌++◌, length, Some, Bool, true, false, refl, sym, ap, ◌∙◌, subst, arith, append_assoc, append-nil, ⊎_elim, length-append, rules}
+use Rattle.std.proofs.lemmas.List.{nil_from_length}
+use Rattle.std.proofs.lemmas.Bool.{false≢true, or_right, and_parts, or_parts}
+use Rattle.yq_core.specs.BlockWritten.{break_text}
+use Rattle.yq_core.specs.Text.{is_empty, is_feed, is_break, is_line, ends_line, separates, NoneIn, joined}
+use Rattle.yq_core.specs.declared.block_types.Break.{Break}
+use Rattle.yq_core.specs.declared.block_types.Break.TheVariants as breaks
+use Rattle.yq_outline.specs.Comments.{head_comment}
+use Rattle.yq_row_table.specs.Gap.{IsLineEnd, IsGapLine, AreGapLines, IsGap}
+use Rattle.yq_row_table.specs.Grammar.{IsCut, IsMarkerLine, IsTail, unlimited, AreRows, AreParts, begins_document, ends_part}
+use Rattle.yq_row_table.specs.Rows.{rows_text, part_text, Cut, last, marked, cut_text}
+use Rattle.yq_row_table.specs.SpliceFits.{is_after}
+use Rattle.yq_row_table.specs.Splices.{behind_part, first_gap, marker_before, nth_part}
+use Rattle.yq_row_table.proofs.LineEnds.{white_none, comment_none}
+use Rattle.yq_row_table.proofs.seams.SeamLaws.{line_by_break}
+use Rattle.yq_row_table.proofs.NothingLaws.{gap_other, line_end_other}
+use Rattle.yq_row_table.proofs.PlaceLaws.{part_then}
+use Rattle.yq_row_table.proofs.seams.MarkerSeams.{marker_byte, three_lines, after_some}
+use Rattle.yq_row_table.proofs.splices.PartPlaces.{part_ends}
+use Rattle.yq_row_table.proofs.GapLaws.{some_more}
+use Rattle.yq_edits.proofs.BlockEndLaws.{break_tail}
+use Rattle.yq_edits.proofs.LaidRows.{no_gap_here}
+use Rattle.yq_documents.specs.Documents.{lead_of}
+use Rattle.yq_lookup.specs.PlacedRows.{PlacedPart, before_part, placed_document}
+use Rattle.yq_documents.specs.Reading.{read_at}
+use Rattle.yq_documents.specs.Ready.{begins_no_node}
+use Rattle.yq_outline.specs.Lines.{lines_of_rows}
+use Rattle.yq_lookup.specs.Standings.{NoRows}
+use Rattle.yq_lookup.proofs.CommentPieceLaws.{gap_end}
+use Rattle.yq_lookup.proofs.PlacedPartLaws.{part_stands}
+use Rattle.yq_lookup.proofs.RemovalLines.{LineSeam, LiesIn, lies_in, seam_join}
+use Rattle.yq_edits.specs.DocumentRows.{IsDocumentPart}
+use Rattle.yq_documents.specs.PartNumbers.{part_number}
+use Rattle.yq_edits.specs.PlacedParts.{StandsAt}
+use Rattle.yq_edits.specs.Rooms.{is_block_root}
+use Rattle.yq_edits.specs.TextPieces.{IsPiece}
+use Rattle.yq_edits.proofs.PartLaws.{document_known, part_numbered}
+use Rattle.yq_edits.proofs.PlacedPartLaws.{document_stands_at}
+use Rattle.yq_edits.proofs.TextPieceLaws.{text_is_piece}
+use Rattle.yq_edits.proofs.RemovalPieceLaws.{seam_pieces}
+use Rattle.yq_edits.proofs.BlockLineLaws.{break_uncommented}
+use Rattle.yq_edits.specs.ClosedTexts.{is_closed_text}
+use Rattle.yq_edit_laws.proofs.FirstRows.{empty_cases}
+use Rattle.yq_edit_laws.proofs.ClosedTexts.{closed_behind}
+use Rattle.yq_edit_laws.proofs.RootReadLaws.{TakesValue}
+use Rattle.yq_edit_laws.proofs.RootRows.{HasRoom}
+use Rattle.yq_edit_laws.proofs.StandingRoots.{IsUnwrittenRoot}
+
+-- ---- texts that end in a break
+
+open_end : (l : List ℕ) → is_empty l ≡ false → NoneIn ends_line l [] → is_closed_text l ≡ false
+unfolding is_closed_text
+open_end [] some none = absurd (false≢true (sym some))
+open_end (b ∷ []) some none = (or_parts (is_feed b) _ none.0).0
+open_end (b ∷ (d ∷ t)) some none = open_end (d ∷ t) refl none.1
+
+-- white space and a comment end in none
+comment_open : (white comment l rest : List ℕ) (h : IsLineEnd white comment l rest) → is_empty l ≡ false → h.break ≡ [] → is_closed_text l ≡ false
+comment_open white comment l rest h some e =
+    let is : l ≡ white ++ comment = h.spelled ∙ (ap (λ x. white ++ (comment ++ x)) e ∙ ap (λ x. white ++ x) (append-nil comment)) in
+    let none = white_none white comment h.break h.blank (comment_none comment h.break h.as_comment) in
+    open_end l some (subst (λ x. NoneIn ends_line x []) (sym is) (subst (NoneIn ends_line (white ++ comment)) e none))
+
+-- ---- gaps that end in a break
+
+last_line : (l x : List ℕ) → IsGapLine l [] → is_closed_text l ≡ true → IsGapLine l x
+last_line l x h closed = ⊎_elim {0, 0, 0}
+    (λ k. record { white = h.white; comment = h.comment; line = record { break = h.line.break; spelled = h.line.spelled; blank = h.line.blank; as_comment = h.line.as_comment; ends = inl k }; some = h.some })
+    (λ e. absurd (false≢true (sym (comment_open h.white h.comment l [] h.line h.some e.0) ∙ closed)))
+    h.line.ends
+
+closed_lines : (ls : List (List ℕ)) (x : List ℕ) → AreGapLines ls [] → is_closed_text (joined ls) ≡ true → AreGapLines ls x
+closed_lines [] x h e = tt
+closed_lines (l ∷ []) x h e = (last_line l x h.0 (sym (ap is_closed_text (append-nil l)) ∙ e), tt)
+closed_lines (l ∷ (k ∷ ls)) x h e =
+    let some : is_empty (k ++ joined ls) ≡ false = some_more k (joined ls) h.1.0.some in (
+      record {
+        white = h.0.white;
+        comment = h.0.comment;
+        line = line_end_other h.0.white h.0.comment l ((k ++ joined ls) ++ []) ((k ++ joined ls) ++ x) (some_more (k ++ joined ls) [] some) h.0.line;
+        some = h.0.some;
+      },
+      closed_lines (k ∷ ls) x h.1 (sym (closed_behind l (k ++ joined ls) some) ∙ e),
+    )
+
+-- ---- the marker in front
+
+marker_at : (c : Cut) (k : ℕ) (started : Bool) → AreParts started c → (marker_before [] k c ≡ []) ⊎ IsMarkerLine (marker_before [] k c) (part_text (nth_part k c) (behind_part k c))
+marker_at (last p) k started h = inl refl
+marker_at (marked p marker c) zero started h = inl refl
+marker_at (marked p marker c) (suc k) started h = inr (go c k marker (begins_document marker) h.2 h.1)
+  where
+    go : (c : Cut) (k : ℕ) (before : List ℕ) (started : Bool) → AreParts started c → IsMarkerLine before (cut_text c) → IsMarkerLine (marker_before before k c) (part_text (nth_part k c) (behind_part k c))
+    go (last p) k before started h line = line
+    go (marked p marker c) zero before started h line = line
+    go (marked p marker c) (suc k) before started h line = go c k marker (begins_document marker) h.2 h.1
+
+-- the text before a document ends in it
+ends_at_marker : (i : ℕ) (c : Cut) (before : List ℕ) → (pre : List ℕ) × (before ++ before_part i c ≡ pre ++ marker_before before i c)
+ends_at_marker i (last p) before = ([], append-nil before)
+ends_at_marker zero (marked p marker c) before = ([], append-nil before)
+ends_at_marker (suc i) (marked p marker c) before =
+    let w = ends_at_marker i c marker in (
+      (before ++ part_text p []) ++ w.0,
+      ap (λ t. before ++ (t ++ before_part i c)) (part_then p [] marker)
+          ∙ (ap (λ t. before ++ t) (append_assoc (part_text p []) marker (before_part i c))
+          ∙ (sym (append_assoc before (part_text p []) (marker ++ before_part i c))
+          ∙ (ap (λ t. (before ++ part_text p []) ++ t) w.1 ∙ sym (append_assoc (before ++ part_text p []) w.0 (marker_before marker i c))))),
+    )
+
+ends_in_marker : (n : ℕ) (c : Cut) (d : PlacedPart) → placed_document n c ≡ Some d → (pre : List ℕ) × (d.before ≡ pre ++ marker_before [] (part_number n c) c)
+ends_in_marker n c d e = let w = ends_at_marker (part_number n c) c [] in (w.0, ap (λ (y : PlacedPart). y.before) (sym (part_stands n c d e).is) ∙ w.1)
+
+-- a marker's line that ends in a break
+open_tail : (a b c : ℕ) (p : List ℕ) (t : IsTail p []) → is_feed c ≡ false → is_closed_text (a ∷ (b ∷ (c ∷ p))) ≡ true → t.line.break ≡ [] → ⊥
+unfolding is_closed_text
+open_tail a b c [] t feed closed e = false≢true (sym feed ∙ closed)
+open_tail a b c (x ∷ p) t feed closed e = false≢true (sym (comment_open t.white t.comment (x ∷ p) [] t.line refl e) ∙ (sym (closed_behind (a ∷ (b ∷ (c ∷ []))) (x ∷ p) refl) ∙ closed))
+
+closed_tail : (a b c : ℕ) (p : List ℕ) → is_feed c ≡ false → IsTail p [] → is_closed_text (a ∷ (b ∷ (c ∷ p))) ≡ true → is_line p ≡ true
+closed_tail a b c p feed t closed = ⊎_elim {0, 0, 0}
+    (λ k. line_by_break t.white t.comment p [] t.line ∙ (and_parts (is_break t.line.break) (is_line t.line.break) k).1)
+    (λ e. absurd (open_tail a b c p t feed closed e.0))
+    t.line.ends
+
+closed_marker : (m : List ℕ) → IsMarkerLine m [] → is_closed_text m ≡ true → is_line m ≡ true
+closed_marker m h1 h2 = search (rules, ⊎_elim, three_lines, closed_tail, marker_byte)
+
+after_closed : (m t u : List ℕ) → IsMarkerLine m t → (t ≡ []) ⊎ (is_empty t ≡ false) → (t ≡ [] → is_closed_text m ≡ true) → is_after m u ≡ true
+after_closed m t u h (inr some) closed = after_some m t u h some
+after_closed m t u h (inl e) closed = let line = closed_marker m (subst (IsMarkerLine m) e h) (closed e) in rw line (or_right (is_empty m) true refl)
+
+pub long_some : (m : List ℕ) → 3 ≤ length m → is_empty m ≡ false
+long_some [] h = absurd (omega (arith, h))
+long_some (b ∷ m) h = refl
+
+-- ---- the root of a document without rows
+
+module _ (n : ℕ) (c : Cut) (w : NoRows) (read : read_at (cut_text c) ≡ Some c) (h : IsUnwrittenRoot n c w) where
+  pub stands : StandsAt c n h.d
+  stands = document_stands_at c n h.d h.placed
+
+  pub there : IsDocumentPart (cut_text c) c n h.d.part
+  there = record { read = read; there = stands.there }
+
+  pub cut : IsCut (cut_text c) c
+  cut = (document_known (cut_text c) c n h.d.part there).cut
+
+  lies : LiesIn h.d
+  lies = lies_in n c h.d cut.parts h.placed
+
+  pub gap_is : IsGap h.d.part.end h.d.behind
+  gap_is = subst (λ xs. AreRows unlimited xs h.d.part.end h.d.behind) h.rows_are lies.rows
+
+  pub part_is : (rest : List ℕ) → part_text h.d.part rest ≡ h.d.part.end ++ rest
+  part_is rest = ap (λ xs. rows_text xs (h.d.part.end ++ rest)) h.rows_are
+
+  -- the old text
+  pub whole : w.before ++ w.behind ≡ cut_text c
+  whole = (λ i. h.before_is i ++ h.behind_is i) ∙ (append_assoc h.d.before h.d.part.end h.d.behind ∙ (ap (λ t. h.d.before ++ t) (sym (part_is h.d.behind)) ∙ sym stands.text))
+
+  pub seam : LineSeam (h.d.before ++ h.d.part.end) h.d.behind
+  seam = seam_join h.d.before h.d.part.end h.d.behind (subst (LineSeam h.d.before) (part_is h.d.behind) lies.seam) (gap_end h.d.part.end h.d.behind gap_is)
+
+  pub pieces : IsPiece w.before × IsPiece w.behind
+  pieces =
+      let both = seam_pieces (h.d.before ++ h.d.part.end) h.d.behind seam (subst IsPiece (sym ((λ i. sym h.before_is i ++ sym h.behind_is i) ∙ whole)) (text_is_piece c read)) in
+      (subst IsPiece (sym h.before_is) both.0, subst IsPiece (sym h.behind_is) both.1)
+
+  -- no rows are there
+  pub no_rows_there : is_block_root h.d.part ≡ true
+  no_rows_there = ap (λ xs. begins_no_node (lines_of_rows xs)) h.rows_are
+
+  pub lead_is : head_comment h.d.part.end ≡ lead_of h.d.part
+  lead_is = ap (λ xs. head_comment (first_gap xs h.d.part.end)) (sym h.rows_are)
+
+  abbrev marker : List ℕ
+  marker = marker_before [] (part_number n c) c
+
+  own_line : IsMarkerLine marker (part_text (nth_part (part_number n c) c) (behind_part (part_number n c) c)) → IsMarkerLine marker (h.d.part.end ++ h.d.behind)
+  own_line = subst (IsMarkerLine marker) ((λ i. part_text ((part_numbered c n h.d.part stands.there).0 i) (stands.behind i)) ∙ part_is h.d.behind)
+
+  -- rows may stand behind the marker in front, where the text before them is closed or some stands behind that
+  pub starts_at : (h.d.part.end ++ h.d.behind ≡ [] → is_closed_text (h.d.before ++ h.d.part.end) ≡ true) → (t : List ℕ) → is_after marker t ≡ true
+  starts_at closed t = go (marker_at c (part_number n c) true cut.parts)
+    where
+      ends_closed : IsMarkerLine marker (h.d.part.end ++ h.d.behind) → h.d.part.end ++ h.d.behind ≡ [] → is_closed_text marker ≡ true
+      ends_closed own none =
+          let front = ends_in_marker n c h.d h.placed in
+          let before : h.d.before ≡ h.d.before ++ h.d.part.end = sym (append-nil h.d.before) ∙ ap (λ x. h.d.before ++ x) (sym (nil_from_length h.d.part.end (omega (arith, ap length none, length-append h.d.part.end h.d.behind)))) in
+          sym (closed_behind front.0 marker (long_some marker own.long)) ∙ (ap is_closed_text (sym front.1 ∙ before) ∙ closed none)
+
+      by_line : IsMarkerLine marker (h.d.part.end ++ h.d.behind) → is_after marker t ≡ true
+      by_line own = after_closed marker (h.d.part.end ++ h.d.behind) t own (empty_cases (h.d.part.end ++ h.d.behind)) (ends_closed own)
+
+      go : (marker ≡ []) ⊎ IsMarkerLine marker (part_text (nth_part (part_number n c) c) (behind_part (part_number n c) c)) → is_after marker t ≡ true
+      go (inl e) = ap (λ m. is_after m t) e
+      go (inr line) = by_line (own_line line)
+
+  module _ (closed : is_closed_text w.before ≡ true) (br : Break) where
+    all_closed : is_closed_text (h.d.before ++ h.d.part.end) ≡ true
+    all_closed = ap is_closed_text (sym h.before_is) ∙ closed
+
+    gap_closed : (h.d.part.end ≡ []) ⊎ (is_empty h.d.part.end ≡ false) → (h.d.part.end ≡ []) ⊎ (is_closed_text h.d.part.end ≡ true)
+    gap_closed (inl e) = inl e
+    gap_closed (inr some) = inr (sym (closed_behind h.d.before h.d.part.end some) ∙ all_closed)
+
+    room : HasRoom h.d.part.end (break_text br) [] h.d.behind
+    room = record {
+      front = λ x some. (search (rules, no_gap_here, gap_other, closed_lines, gap_is, gap_closed (empty_cases h.d.part.end), empty_cases h.d.behind));
+      tail = break_tail br h.d.behind;
+      apart = apart br;
+      uncommented = break_uncommented br;
+      back_is = no_gap_here h.d.behind;
+      ends = subst (λ t. ends_part t ≡ true) stands.behind (part_ends c (part_number n c) true cut.parts);
+    }
+      where
+        apart : (br : Break) → separates (break_text br ++ h.d.behind) ≡ true
+        apart breaks.Lf = refl
+        apart breaks.CrLf = refl
+
+    pub takes_unwritten : TakesValue n c h.d h.d.part.end (break_text br) []
+    takes_unwritten = record { stands = stands; old = there; block = no_rows_there; room = room; lead = lead_is; starts = λ t e. starts_at (λ none. all_closed) t }

@@ -1,0 +1,131 @@
+-- An update that is planned on the documents of a text and carried out.
+use Rattle.std.proofs.Common.{◌≡◌, ◌≢◌, ℕ, zero, suc, ◌<◌, List, [], ◌∷◌, ◌++◌, slice_get, Some, None, Result, Ok, Err, IfOk, IfErr, string_bytes, sym, ap, ◌∙◌, subst, arith}
+use Rattle.std.proofs.lemmas.Option.{none-some, same_Some}
+use Rattle.std.specs.Str.{IsUtf8}
+use Rattle.yq_core.specs.declared.ReadFault.{ReadFault}
+use Rattle.yq_core.specs.declared.fault.FaultKind.TheVariants.{NotUtf8}
+use Rattle.yq_core.specs.declared.fault.ReadError.{ReadError}
+use Rattle.yq_core.specs.declared.fault.ReadError.TheVariants as reading
+use Rattle.yq_row_table.specs.Rows.{Cut}
+use Rattle.yq_documents.specs.Reading.{documents, documents_of, cut_of, read_at}
+use Rattle.yq_lookup.proofs.ReadLaws.{parts_read}
+use Rattle.yq_semantics.specs.Judgement as judgement
+use Rattle.yq_semantics.specs.Judgement.{Judges}
+use Rattle.yq_semantics.specs.Operations.{Operation}
+use Rattle.yq_semantics.specs.Plans.{plan}
+use Rattle.yq_semantics.specs.Program.{Program, Update, assign, delete, comment, read, updates, update_at, update_count, UpdatesHold, LiteralsHold}
+use Rattle.yq_semantics.specs.Rooms.{room_of}
+use Rattle.yq_semantics.specs.declared.refusal.Refusal.{Refusal}
+use Rattle.yq_semantics.specs.declared.expr_error.ExprError.{ExprError}
+use Rattle.yq_semantics.specs.declared.expr_error.ExprError.TheVariants as planning
+use Rattle.yq_text.specs.Splice.{Splice}
+use Rattle.yq_text.proofs.PlaceInList.{get_some}
+use Rattle.yq_text.specs.declared.edited.Edited.{Edited}
+use Rattle.yq_edit_laws.specs.Answers.{Edits, EditFails, of_planning, error_of_reading}
+use Rattle.yq_edit_laws.specs.Carried.{carry_all, carry_out, updated}
+use Rattle.yq_edit_laws.specs.Edit.{Edit, unreadable, refuses, gives, edit_behind, by_reading}
+use Rattle.yq_edit_laws.specs.Theorems.{HasReading, IsUpdated}
+use Rattle.yq_edit_laws.specs.Valid.{HaveOperands, IsStep, UpdateFails, FailsAt}
+use Rattle.yq_edit_laws.specs.declared.edit_error.EditError.{EditError}
+use Rattle.yq_edit_laws.specs.declared.edit_error.EditError.TheVariants as error
+use Rattle.yq_edit_laws.proofs.MeaningLaws.{UpdateComes, plan_comes, plan_stops}
+use Rattle.yq_edit_laws.proofs.OrderLaws.{fails_itself}
+use Rattle.yq_edit_laws.proofs.TextFaults.{FailsToRead, text_unread}
+
+-- a text that isn't read has no reading
+pub no_reading : (t : List ℕ) → read_at t ≡ None → ¬ HasReading t
+no_reading t none h = none-some _ (sym none ∙ (parts_read t h.0 h.1).0)
+
+-- an update by the reading of the text
+read_updated : (u : Update) (t : List ℕ) (c : Cut) → read_at t ≡ Some c → updated u t ≡ carry_out t (plan u (room_of t) (documents c))
+read_updated u t c is = ap (by_reading (λ k. carry_out t (plan u (room_of t) (documents k)))) is
+
+pub unread_updated : (u : Update) (t : List ℕ) → read_at t ≡ None → updated u t ≡ unreadable
+unread_updated u t is = ap (by_reading (λ k. carry_out t (plan u (room_of t) (documents k)))) is
+
+-- an update that is planned, and whose literals and operands are valid
+module _ (u : Update) (t : List ℕ) (c : Cut) (ops : List Operation) (is : read_at t ≡ Some c) (planned : plan u (room_of t) (documents c) ≡ judgement.gives ops)
+    (holds : UpdatesHold (u ∷ [])) (operands : HaveOperands ops) where
+  done : updated u t ≡ carry_all ops t
+  done = read_updated u t c is ∙ ap (carry_out t) planned
+
+  comes : UpdateComes u t (carry_all ops t)
+  comes = plan_comes u t c is ops planned operands holds
+
+  step_so : (ds : List Splice) (x : Edit) (new : List ℕ) (all : List Splice) → updated u t ≡ x → UpdateComes u t x → edit_behind ds x ≡ gives new all → (cs : List Splice) × IsStep u t new cs × (all ≡ ds ++ cs)
+  step_so ds unreadable new all is_done means h = absurd (cc)
+  step_so ds (refuses why) new all is_done means h = absurd (cc)
+  step_so ds (gives m cs) new all is_done means h =
+      let text : m ≡ new = cc in
+      let splices : ds ++ cs ≡ all = cc in
+      (cs, record { exact = is_done ∙ ap (λ (x : List ℕ). gives x cs) text; is = subst (λ (x : List ℕ). IsUpdated u t x cs) text means }, sym splices)
+
+  pub update_ok : (r : Result Edited EditError) (ds : List Splice) → Edits r (edit_behind ds (carry_all ops t)) →
+      IfOk r (λ e. (cs : List Splice) × IsStep u t (string_bytes e.text) cs × (e.splices.items ≡ ds ++ cs))
+  update_ok (Ok e) ds h = step_so ds (carry_all ops t) (string_bytes e.text) e.splices.items done comes h
+  update_ok (Err e) ds h = tt
+
+  fails_so : (e : EditError) → EditFails e (carry_all ops t) → UpdateFails e u t
+  fails_so (error.Read fault) h = absurd (subst (UpdateComes u t) h.0 comes)
+  fails_so (error.Refused why) h = subst (UpdateComes u t) h comes
+  fails_so error.Memory h = tt
+
+  pub update_err : (r : Result Edited EditError) (ds : List Splice) → Edits r (edit_behind ds (carry_all ops t)) → IfErr r (λ e. FailsAt e u t)
+  update_err (Ok e) ds h = tt
+  update_err (Err e) ds h = let own = fails_itself e ds (carry_all ops t) h in record { fails = subst (EditFails e) (sym done) own; why = fails_so e own }
+
+-- an update that is refused
+update_refused : (u : Update) (t : List ℕ) (c : Cut) (why : Refusal) → read_at t ≡ Some c → plan u (room_of t) (documents c) ≡ judgement.refuses why → FailsAt (error.Refused why) u t
+update_refused u t c why is refused = record { fails = read_updated u t c is ∙ ap (carry_out t) refused; why = plan_stops u t c is why refused }
+
+-- a text that has no reading
+update_unread : (u : Update) (t : List ℕ) (fault : ReadFault) → read_at t ≡ None → fault.kind ≢ NotUtf8 → FailsAt (error.Read fault) u t
+update_unread u t fault none text = record { fails = (unread_updated u t none, text); why = no_reading t none }
+
+-- memory that ran out
+update_refused_memory : (u : Update) (t : List ℕ) → FailsAt error.Memory u t
+update_refused_memory u t = record { fails = tt; why = tt }
+
+-- an update of a text that isn't read
+pub update_not_read : (u : Update) (bytes t : List ℕ) (e : ReadError) → bytes ≡ t → IsUtf8 t → FailsToRead e bytes → FailsAt (error_of_reading e) u t
+update_not_read u bytes t reading.Memory same utf8 h = update_refused_memory u t
+update_not_read u bytes t (reading.Fault fault) same utf8 h = let k = text_unread bytes t fault same utf8 h in update_unread u t fault k.0 k.1
+
+-- an update that is not planned, by the documents of a text
+pub update_unplanned : {X : Type 0} (view : X → List Operation) (u : Update) (t d : List ℕ) (p : ExprError) → read_at t ≡ Some (cut_of d) → d ≡ t →
+    Judges view (Err p) (plan u (room_of d) (documents_of d)) → FailsAt (of_planning p) u t
+update_unplanned view u t d (planning.Refused why) is same h = update_refused u t (cut_of d) why is (ap (λ (x : List ℕ). plan u (room_of x) (documents_of d)) (sym same) ∙ h)
+update_unplanned view u t d planning.Memory is same h = update_refused_memory u t
+
+-- and one that is
+pub update_planned : (u : Update) (t d : List ℕ) (ops : List Operation) → d ≡ t → plan u (room_of d) (documents_of d) ≡ judgement.gives ops →
+    plan u (room_of t) (documents (cut_of d)) ≡ judgement.gives ops
+update_planned u t d ops same h = ap (λ (x : List ℕ). plan u (room_of x) (documents_of d)) (sym same) ∙ h
+
+-- ---- literals
+
+-- those of the first of updates, and of the others
+first_holds : (u : Update) (us : List Update) → UpdatesHold (u ∷ us) → UpdatesHold (u ∷ [])
+first_holds (assign left operator right) us h = (h.0, tt)
+first_holds (delete left) us h = tt
+first_holds (comment left place text) us h = tt
+
+others_hold : (u : Update) (us : List Update) → UpdatesHold (u ∷ us) → UpdatesHold us
+others_hold (assign left operator right) us h = h.1
+others_hold (delete left) us h = h
+others_hold (comment left place text) us h = h
+
+nth_holds : (us : List Update) (n : ℕ) (u : Update) → UpdatesHold us → slice_get us n ≡ Some u → UpdatesHold (u ∷ [])
+nth_holds [] n u h at = absurd (none-some _ at)
+nth_holds (x ∷ us) zero u h at = subst (λ y. UpdatesHold (y ∷ [])) (same_Some _ _ at) (first_holds x us h)
+nth_holds (x ∷ us) (suc n) u h at = nth_holds us n u (others_hold x us h) at
+
+-- those of an update of a program
+pub update_holds : (p : Program) (n : ℕ) (u : Update) → LiteralsHold p → update_at n p ≡ Some u → UpdatesHold (u ∷ [])
+update_holds (read stages) n u h at = absurd (none-some _ at)
+update_holds (updates us) n u h at = nth_holds us n u h at
+
+-- an update of that number
+pub update_there : (p : Program) (n : ℕ) → n < update_count p → (u : Update) × (update_at n p ≡ Some u)
+update_there (read stages) n h = absurd (omega (arith, h))
+update_there (updates us) n h = get_some us n h

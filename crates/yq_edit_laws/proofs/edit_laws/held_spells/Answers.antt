@@ -1,0 +1,5 @@
+use Rattle.yq_edits.proofs.HeldPieces.{held_spells}
+use Rattle.yq_edit_laws.proofs.edit_laws.held_spells.Goals as goal
+
+pub returns : goal.returns
+returns c = held_spells

@@ -1,0 +1,61 @@
+use Rattle.std.proofs.Common.{◌∙◌, ℕ, List, Option, Some, map, refl, sym, ap, subst}
+use Rattle.yq_core.specs.Answers.{◌>>=◌}
+use Rattle.yq_core.specs.declared.style.Place.TheVariants.{Flow as InFlow}
+use Rattle.yq_core.specs.Collections.{CollPieces}
+use Rattle.yq_core.specs.Entries.{entry_view, tree_step}
+use Rattle.yq_core.specs.Values.{value_node}
+use Rattle.yq_core.specs.View.{inline_view}
+use Rattle.yq_core.specs.Tree.{Node}
+use Rattle.yq_documents.specs.Located.{steps_of}
+use Rattle.yq_documents.specs.Reading.{cut_of}
+use Rattle.yq_lookup.specs.Standings.{flow_part, flow_standing, last_step}
+use Rattle.yq_edits.specs.Replacing.{keeps_scalar}
+use Rattle.yq_edits.specs.WrittenValues.{value_text}
+use Rattle.yq_edit_laws.specs.PartPuts.{IsHeadOfPath}
+use Rattle.yq_edit_laws.proofs.FlowAnswers.{coll_found}
+use Rattle.yq_edit_laws.proofs.PutAnswers.{content_missing, no_collection, node_there, place_found, standing_there, text_found}
+use Rattle.yq_edit_laws.proofs.put.put_at_part.Goals as goal
+
+pub returns-in_default-collection_in : goal.returns-in_default-collection_in
+returns-in_default-collection_in c =
+    let last = c.in-Some.ensures ∙ ap (λ ss. last_step (map tree_step ss)) c.deref.ensures.value in
+    let agrees = subst (λ o. IsHeadOfPath c.args.path.now.doc o c.args.cut.now c.args.head.now) (sym last) c.requires in
+    ap (flow_standing c.args.path.now.doc (cut_of c.args.cut.now)) (sym last) ∙ ap (λ (o : Option CollPieces). o >>= flow_part (tree_step c.in-Some.last.now)) (no_collection c.args.cut.now _ c.args.head.now agrees c.in_default-collection_in.ensures)
+
+pub returns-in_default-part : goal.returns-in_default-part
+returns-in_default-part c =
+    let last = c.in-Some.ensures ∙ ap (λ ss. last_step (map tree_step ss)) c.deref.ensures.value in
+    let agrees = subst (λ o. IsHeadOfPath c.args.path.now.doc o c.args.cut.now c.args.head.now) (sym last) c.requires in
+    let q = inline_view c.in-Some-collection_in.node.now in
+    let f = coll_found c.args.cut.now c.args.path.now.doc _ (Some c.args.head.now) c.args.head.now q c.text-text.ensures.read agrees refl c.in-Some-collection_in.ensures in
+    content_missing _ _ (steps_of c.args.path.now) _ (tree_step c.in-Some.last.now) c.args.head.now q last f _ c.in_default-part.ensures refl
+
+pub returns-then-is_same_node : goal.returns-then-is_same_node
+returns-then-is_same_node c =
+    let last = c.in-Some.ensures ∙ ap (λ ss. last_step (map tree_step ss)) c.deref.ensures.value in
+    let agrees = subst (λ o. IsHeadOfPath c.args.path.now.doc o c.args.cut.now c.args.head.now) (sym last) c.requires in
+    let q = inline_view c.in-Some-collection_in.node.now in
+    let f = coll_found c.args.cut.now c.args.path.now.doc _ (Some c.args.head.now) c.args.head.now q c.text-text.ensures.read agrees refl c.in-Some-collection_in.ensures in
+    let p = entry_view c.in-Some-part.entry in (
+      _,
+      standing_there _ _ (steps_of c.args.path.now) _ (tree_step c.in-Some.last.now) c.args.head.now q last f _ c.in-Some-part.ensures p refl,
+      place_found _ _ (steps_of c.args.path.now) _ (tree_step c.in-Some.last.now) c.args.head.now q last f _ c.in-Some-part.ensures p refl (value_node c.args.value.now) c.replace_place-place.result c.replace_place-place.ensures,
+      ap (λ (n : Option Node). keeps_scalar n (value_node c.args.value.now)) (node_there _ _ (steps_of c.args.path.now) _ (tree_step c.in-Some.last.now) c.args.head.now q last f _ c.in-Some-part.ensures p refl) ∙ (sym c.is_same_node.ensures ∙ c.if-is_same_node.true),
+    )
+
+pub returns : goal.returns
+returns c =
+    let last = c.in-Some.ensures ∙ ap (λ ss. last_step (map tree_step ss)) c.deref.ensures.value in
+    let agrees = subst (λ o. IsHeadOfPath c.args.path.now.doc o c.args.cut.now c.args.head.now) (sym last) c.requires in
+    let q = inline_view c.in-Some-collection_in.node.now in
+    let f = coll_found c.args.cut.now c.args.path.now.doc _ (Some c.args.head.now) c.args.head.now q c.text-text.ensures.read agrees refl c.in-Some-collection_in.ensures in
+    let p = entry_view c.in-Some-part.entry in
+    let written = c.in_ok-written.ensures ∙ ap (λ (l : List ℕ). value_text InFlow l (value_node c.args.value.now)) c.bytes_at.ensures in (
+      _,
+      standing_there _ _ (steps_of c.args.path.now) _ (tree_step c.in-Some.last.now) c.args.head.now q last f _ c.in-Some-part.ensures p refl,
+      place_found _ _ (steps_of c.args.path.now) _ (tree_step c.in-Some.last.now) c.args.head.now q last f _ c.in-Some-part.ensures p refl (value_node c.args.value.now) c.replace_place-place.result c.replace_place-place.ensures,
+      (
+        ap (λ (n : Option Node). keeps_scalar n (value_node c.args.value.now)) (node_there _ _ (steps_of c.args.path.now) _ (tree_step c.in-Some.last.now) c.args.head.now q last f _ c.in-Some-part.ensures p refl) ∙ (sym c.is_same_node.ensures ∙ c.if-is_same_node.false),
+        written ∙ text_found _ _ (steps_of c.args.path.now) _ (tree_step c.in-Some.last.now) c.args.head.now q last f _ c.in-Some-part.ensures p refl (value_node c.args.value.now) c.replace_place-place.result c.replace_place-place.ensures,
+      ),
+    )

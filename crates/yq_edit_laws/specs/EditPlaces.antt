@@ -1,0 +1,44 @@
+-- Where flow collections of a text are edited, by places in bytes (YAML 1.2.2, 7.4; own).
+use Rattle.std.specs.Prelude.{ℕ, ◌+◌, ◌≤◌, ◌<◌, ◌^◌, List, [], ◌∷◌, drop, length, take, Option, is_some, Bool, false, not}
+use Rattle.std.specs.Str.{IsCharBoundary}
+use Rattle.yq_core.specs.Answers.{◌>>=◌}
+use Rattle.yq_core.specs.Paths.{Step}
+use Rattle.yq_core.specs.Tree.{Node}
+use Rattle.yq_core.specs.Places.{CoreNode, nothing, name, text, sequence, mapping, Placed, placed}
+use Rattle.yq_flow_edits.specs.FlowPlaces.{PlacedEdit}
+use Rattle.yq_row_table.specs.Rows.{Cut, cut_text}
+use Rattle.yq_lookup.specs.FlowNodes.{flow_collection}
+use Rattle.yq_text.specs.Script.{Segment, keep, put}
+use Rattle.yq_edits.specs.FlowParts.{flow_more}
+
+-- the segments of a text in which the bytes at a place give way to what leads there and to a text that is written
+abbrev pub edit_segments : List ℕ → PlacedEdit → List ℕ → List Segment
+edit_segments t p written =
+    keep (take p.start t) ∷ (put (drop p.start (take p.end t)) p.lead ∷ (put [] written ∷ (keep (drop p.end t) ∷ [])))
+
+-- an edit of a part of a text, before which so many bytes of the text stand, as one of the text
+abbrev pub moved_on : ℕ → PlacedEdit → PlacedEdit
+moved_on n p = record { start = n + p.start; end = n + p.end; lead = p.lead }
+
+-- A place lies in a text, between characters.
+pub record LiesIn (t : List ℕ) (p : PlacedEdit) : Type 0 where
+  pub small : length t < 2 ^ 64
+  pub order : p.start ≤ p.end
+  pub start : IsCharBoundary t p.start
+  pub end : IsCharBoundary t p.end
+
+-- `takes_key` by the view with places: whether a content takes an entry of a key, or an item (7.4.1, 7.4.2)
+abbrev pub content_takes : CoreNode → Option (List ℕ) → Bool
+content_takes nothing key = false
+content_takes (name n) key = false
+content_takes (text s piece) key = false
+content_takes (sequence parts) key = not (is_some key)
+content_takes (mapping parts) key = is_some key
+
+-- `takes_key` by the view with places, of a node with its anchor
+abbrev pub placed_takes : Placed → Option (List ℕ) → Bool
+placed_takes (placed anchor start content end form) key = content_takes form key
+
+-- one more item or entry in the flow collection to which steps lead in document n
+abbrev pub appended_in_flow : ℕ → List Step → Option (List ℕ) → Node → Cut → Option (List Segment)
+appended_in_flow n steps key v c = flow_collection n steps c >>= flow_more (cut_text c) key v

@@ -1,0 +1,23 @@
+-- What is owed of the segments that a value exchanges as the root of a document (own).
+use Rattle.std.specs.Prelude.{◌≡◌, ℕ, List, Some}
+use Rattle.yq_core.specs.Paths.{Step}
+use Rattle.yq_core.specs.Tree.{Node}
+use Rattle.yq_row_table.specs.Rows.{Cut, cut_text}
+use Rattle.yq_documents.specs.Reading.{read_at}
+use Rattle.yq_lookup.specs.Standings.{BlockRoot, NoRows, root, no_rows, standing_at}
+use Rattle.yq_semantics.specs.Operations.{replace}
+use Rattle.yq_edits.specs.EditLaws.{IsEdit}
+use Rattle.yq_edits.specs.Layouts.{layout_of}
+use Rattle.yq_edits.specs.ReplaceEdits.{no_rows_put, root_put}
+
+-- Replace: a value put in the place of a root that is a block collection.
+abbrev pub RootsArePut : Type 0
+RootsArePut =
+    (n : ℕ) (steps : List Step) (v : Node) (c : Cut) (w : BlockRoot) →
+    read_at (cut_text c) ≡ Some c → standing_at n steps c ≡ Some (root w) → IsEdit (replace n steps v) c (root_put (layout_of n c) v w)
+
+-- Replace: a value put as the root of a document without rows.
+abbrev pub NoRowsArePut : Type 0
+NoRowsArePut =
+    (n : ℕ) (steps : List Step) (v : Node) (c : Cut) (w : NoRows) →
+    read_at (cut_text c) ≡ Some c → standing_at n steps c ≡ Some (no_rows w) → IsEdit (replace n steps v) c (no_rows_put (layout_of n c) v w)

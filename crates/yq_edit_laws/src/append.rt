@@ -1,0 +1,74 @@
+//! Items and entries put into flow collections.
+ghost use Rattle.std.specs.Prelude.{◌≡◌, IfOk, string_bytes};
+ghost use Rattle.yq_core.specs.Nodes.{key_text};
+ghost use Rattle.yq_core.specs.Values.{value_node};
+ghost use Rattle.yq_core.specs.View.{inline_view};
+ghost use Rattle.yq_core.specs.NodesWritten.{flow_key, flow_text};
+ghost use Rattle.yq_outline.specs.Bodies.{borrowed};
+ghost use Rattle.yq_documents.specs.Located.{steps_of};
+ghost use Rattle.yq_documents.specs.Reading.{cut_of};
+ghost use Rattle.yq_edits.specs.Answers.{GivesSegments};
+ghost use Rattle.yq_edit_laws.specs.EditPlaces as spec;
+
+use crate::edit::{collection_in, edit_at};
+use std::alloc::{AllocError, Global};
+use yq_core::{Form, Inline, Value};
+use yq_documents::Path;
+use yq_flow_edits::{append_place, write_entry, write_inline};
+use yq_lookup::CutText;
+use yq_text::Segments;
+
+/// Whether a node takes an entry of a key, or an item.
+fn takes(node: &Inline<'_>, key: Option<&str>) -> bool
+    ensures { result ≡ spec.placed_takes (inline_view node.now) (borrowed key.entry) }
+{
+    match &node.form {
+        Form::List(_) => key.is_none(),
+        Form::Map(_) => key.is_some(),
+        Form::Empty | Form::Alias(_) | Form::Scalar(..) => false,
+    }
+}
+
+/// An item or entry as it is written in flow.
+fn entry_text(alloc: Global, key: Option<&str>, value: &Value) -> Result<String, AllocError>
+    ensures { IfOk result (λ s. string_bytes s ≡
+        key_text (flow_key (borrowed key.entry)) (flow_text (value_node value.now))) }
+{
+    match key {
+        Some(key) => write_entry(alloc, key, value),
+        None => write_inline(alloc, value),
+    }
+}
+
+/// An item or entry put behind the last one of a flow collection, or right behind its bracket;
+/// `None` where the path leads to no flow collection, or to one that takes no key, or no item.
+///
+/// # Errors
+/// [`AllocError`] where memory is refused.
+pub fn append_in_flow<'d>(
+    alloc: Global,
+    cut: &CutText<'_, 'd>,
+    path: &Path,
+    key: Option<&str>,
+    value: &Value,
+) -> Result<Option<Segments<'d>>, AllocError>
+    ensures { GivesSegments result (spec.appended_in_flow path.now.doc (steps_of path.now)
+        (borrowed key.entry) (value_node value.now) (cut_of cut.now)) }
+{
+    let found = cut.flow_head(alloc, path.doc, &path.steps)?;
+    let Some(head) = found else {
+        return Ok(None);
+    };
+    let Some(node) = collection_in(&head) else {
+        return Ok(None);
+    };
+    let text = cut.text();
+    if !takes(node, key) {
+        return Ok(None);
+    }
+    let Some(place) = append_place(node) else {
+        return Ok(None);
+    };
+    let new = entry_text(alloc, key, value)?;
+    edit_at(alloc, text, head.before, place, new)
+}

@@ -1,0 +1,84 @@
+//! Edits of flow collections, by their places in the text.
+ghost use Rattle.std.specs.Prelude.{◌≡◌, ◌∷◌, IfOk, [], Some, drop, map, option_map, string_bytes, take};
+ghost use Rattle.yq_text.specs.Halves.{halves_text};
+ghost use Rattle.yq_core.specs.Entries.{tree_step};
+ghost use Rattle.yq_core.specs.View.{inline_view};
+ghost use Rattle.yq_flow_edits.specs.FlowPlaces.{edit_view};
+ghost use Rattle.yq_row_table.specs.Rows.{cut_text};
+ghost use Rattle.yq_documents.specs.Reading.{cut_of};
+ghost use Rattle.yq_places.specs.FlowViews.{behind_anchor, collection_view};
+ghost use Rattle.yq_places.specs.Standings as standings;
+ghost use Rattle.yq_text.specs.Script.{keep};
+ghost use Rattle.yq_edits.specs.Answers.{GivesSegments};
+ghost use Rattle.yq_edit_laws.specs.EditPlaces as spec;
+
+use std::alloc::{AllocError, Global};
+use yq_core::{Inline, Step};
+use yq_flow_edits::{EditPlace, behind};
+use yq_lookup::CutText;
+use yq_places::{FlowHead, collection_along};
+use yq_text::{Halves, Segment, Segments};
+
+/// The steps to the collection in which a path ends, and the last one.
+pub fn last_step(steps: &[Step]) -> Option<(&[Step], &Step)>
+    ensures { option_map (λ x. (map tree_step x.0.now, tree_step x.1.now)) result ≡
+        standings.last_step (map tree_step steps.now) }
+{
+    match steps {
+        [] => None,
+        [above @ .., last] => Some((above, last)),
+    }
+}
+
+/// The collection to which steps lead on in the head of a line.
+pub(crate) fn collection_in<'h, 't>(head: &'h FlowHead<'_, 't>) -> Option<&'h Inline<'t>>
+    ensures { option_map (λ n. behind_anchor (inline_view n.now)) result ≡ collection_view head.now }
+{
+    collection_along(&head.node, head.left)
+}
+
+/// A text of which all bytes stay.
+#[tactic(auto, using(crate::proofs::CutLaws::whole_kept))]
+pub fn unchanged<'d>(alloc: Global, cut: &CutText<'_, 'd>) -> Result<Segments<'d>, AllocError>
+    ensures { IfOk result (λ ss. ss ≡ keep (cut_text (cut_of cut.now)) ∷ []) }
+{
+    let whole = vec![in alloc; Segment::Keep(cut.text())]?;
+    Ok(Segments::new(whole))
+}
+
+/// A text in which the bytes of an edit give way to what it leads with and to what is written; so
+/// many bytes stand before the part of the text in which the edit has its place.
+pub(crate) fn edit_at<'d>(
+    alloc: Global,
+    text: Halves<'d>,
+    before: usize,
+    place: EditPlace,
+    written: String,
+) -> Result<Option<Segments<'d>>, AllocError>
+    requires lies { spec.LiesIn (halves_text text) (spec.moved_on before (edit_view place)) }
+    ensures { GivesSegments result (Some (spec.edit_segments (halves_text text.entry)
+        (spec.moved_on before (edit_view place)) (string_bytes written))) }
+{
+    let (front, behind) = text.split_at(before + place.end);
+    let (kept, old) = front.split_at(before + place.start);
+    let lead = String::from_str(alloc, place.lead)?;
+    let segments = vec![in alloc;
+        Segment::Keep(kept),
+        Segment::Put(old, lead),
+        Segment::Put(Halves::of(""), written),
+        Segment::Keep(behind),
+    ]?;
+    Ok(Some(Segments::new(segments)))
+}
+
+/// What stands at the place of an edit.
+pub(crate) fn bytes_at(text: &str, place: EditPlace) -> &[u8]
+    ensures { result.now ≡ drop place.start (take place.end text.now) }
+{
+    let bytes = text.as_bytes();
+    if place.end <= bytes.len() {
+        behind(bytes.split_at(place.end).0, place.start)
+    } else {
+        behind(bytes, place.start)
+    }
+}

@@ -1,0 +1,29 @@
+//! Laws on edits of flow collections, and on what stands where a node is.
+ghost use Rattle.yq_edits.specs.StandingLaws.{EntriesStand, RootsStand};
+ghost use Rattle.yq_edit_laws.specs.Emptying.{SoleByEmptying};
+ghost use Rattle.yq_edits.specs.EditLaws.{FlowMoreIsPut, FlowPartIsRemoved, FlowValuesArePut};
+ghost use Rattle.yq_edits.specs.EditLaws.{SoleIsRemoved, AppendHasEdit};
+
+/// What is exchanged in a flow collection carries out the operation.
+pub fn flow_edits_carry_out()
+    ensures put { FlowValuesArePut }
+    ensures more { FlowMoreIsPut }
+    ensures removed { FlowPartIsRemoved }
+{}
+
+/// An empty collection in the place of its own removes a sole item or entry.
+pub fn emptying_removes()
+    ensures sole { SoleIsRemoved }
+    ensures emptying { SoleByEmptying }
+{}
+
+/// Where a node is, something stands.
+pub fn nodes_stand()
+    ensures roots { RootsStand }
+    ensures entries { EntriesStand }
+{}
+
+/// A collection that takes one more item or entry has a place for it.
+pub fn appends_have_edit()
+    ensures { AppendHasEdit }
+{}

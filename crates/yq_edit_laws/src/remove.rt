@@ -1,0 +1,44 @@
+//! Items and entries removed from flow collections.
+ghost use Rattle.yq_documents.specs.Located.{steps_of};
+ghost use Rattle.yq_documents.specs.Reading.{cut_of};
+ghost use Rattle.yq_places.specs.Standings.{last_step};
+ghost use Rattle.yq_edits.specs.Answers.{GivesSegments};
+ghost use Rattle.yq_edits.specs.Edits.{part_removed};
+
+use crate::edit::{collection_in, edit_at, last_step};
+use std::alloc::{AllocError, Global};
+use yq_documents::Path;
+use yq_flow_edits::remove_place;
+use yq_lookup::CutText;
+use yq_text::Segments;
+
+/// An item or entry removed from a flow collection, with the white space and comma that go with
+/// it; `None` where the path leads to no part of a flow collection, or to a sole one.
+///
+/// # Errors
+/// [`AllocError`] where memory is refused.
+pub fn remove_in_flow<'d>(
+    alloc: Global,
+    cut: &CutText<'_, 'd>,
+    path: &Path,
+) -> Result<Option<Segments<'d>>, AllocError>
+    ensures { GivesSegments result (part_removed path.now.doc (cut_of cut.now)
+        (last_step (steps_of path.now))) }
+{
+    let Some((above, last)) = last_step(&path.steps) else {
+        return Ok(None);
+    };
+    let found = cut.flow_head(alloc, path.doc, above)?;
+    let Some(head) = found else {
+        return Ok(None);
+    };
+    let Some(node) = collection_in(&head) else {
+        return Ok(None);
+    };
+    let text = cut.text();
+    let Some(place) = remove_place(node, head.text, last) else {
+        return Ok(None);
+    };
+    let nothing = String::new(alloc);
+    edit_at(alloc, text, head.before, place, nothing)
+}

@@ -1,0 +1,131 @@
+-- The break behind the lines of an item or entry.
+use Rattle.std.proofs.Common.{◌≡◌, ◌⊎◌, inl, inr, ℕ, ℤ, ◌<◌, Bool, true, false, cond, List, [], ◌∷◌, ◌++◌, length, drop, None, refl, sym, ap, ◌∙◌, subst, arith, append-nil, rules}
+use Rattle.std.proofs.lemmas.Bool.{false≢true, eqb-true, and_parts}
+use Rattle.yq_core.specs.Text.{cut_line, is_empty, separates}
+use Rattle.yq_core.proofs.BlockPieceLaws.{IsLf, line_lf, raw_lf}
+use Rattle.yq_core.specs.Text.{is_line}
+use Rattle.yq_core.specs.Text.{joined}
+use Rattle.yq_outline.specs.Comments.{line_comment}
+use Rattle.yq_row_table.specs.Grammar.{IsContent, IsTail, AreRows, Limit, limit_after}
+use Rattle.yq_row_table.specs.Rows as rows
+use Rattle.yq_row_table.specs.Rows.{Content, Nothing, Inline, Block, Row, parent_indent, rows_text}
+use Rattle.yq_row_table.proofs.NothingLaws.{some_behind}
+use Rattle.yq_row_table.proofs.NodePieces.{BeginsAscii}
+use Rattle.yq_lookup.specs.PrintedLines.{is_last_break, less_break, last_break, end_break, PrintedLine, printed_from, printed_row, printed_lines, run_break}
+use Rattle.yq_lookup.proofs.CommentPieceLaws.{Ended, tail_end}
+use Rattle.yq_lookup.proofs.FinishLaws.{lf_behind}
+
+-- LF, or CR LF (5.4)
+abbrev pub IsOneBreak : List ℕ → Type 0
+IsOneBreak t = (t ≡ 10 ∷ []) ⊎ (t ≡ 13 ∷ (10 ∷ []))
+
+-- ---- the break that ends a text
+
+no_lf : IsLf [] → ⊥
+no_lf h = go h.0 h.1
+  where
+    go : (t : List ℕ) → [] ≡ t ++ 10 ∷ [] → ⊥
+    go [] e = cc
+    go (x ∷ t) e = cc
+
+last_lf : (t : List ℕ) → IsLf t → IsOneBreak (last_break t)
+unfolding less_break
+last_lf [] h = absurd (no_lf h)
+last_lf (b ∷ bs) h = go (is_last_break (b ∷ bs)) refl (λ lf. last_lf bs lf)
+  where
+    go : (c : Bool) → is_last_break (b ∷ bs) ≡ c → (IsLf bs → IsOneBreak (last_break bs)) → IsOneBreak (drop (length (cond c [] (b ∷ less_break bs))) (b ∷ bs))
+    go true e again = search (rules, eqb-true, and_parts, false≢true, e)
+    go false e again = again (lf_behind b bs e h)
+
+content_break : (n : ℤ) (x : Content) (rest : List ℕ) → IsContent n x rest → is_empty rest ≡ false → IsOneBreak (end_break x)
+content_break n (Nothing tail) rest h some = go (tail_end tail rest h)
+  where
+    go : Ended tail rest → IsOneBreak (last_break tail)
+    go (inl lf) = last_lf tail lf
+    go (inr none) = absurd (false≢true (sym some ∙ ap is_empty none))
+content_break n (Inline space node tail) rest h some = go (tail_end tail rest h.2)
+  where
+    go : Ended tail rest → IsOneBreak (last_break tail)
+    go (inl lf) = last_lf tail lf
+    go (inr none) = absurd (false≢true (sym some ∙ ap is_empty none))
+content_break n (Block space anchor block) rest h some = go (raw_lf block.indent block.raw h.2.lines)
+  where
+    line : IsLf block.tail
+    line = line_lf block.tail (and_parts (is_line block.tail) _ h.2.tail).0
+
+    go : (joined block.raw ≡ []) ⊎ IsLf (joined block.raw) → IsOneBreak (cond (is_empty (joined block.raw)) (last_break block.tail) (last_break (joined block.raw)))
+    go (inl none) = subst (λ (t : List ℕ). IsOneBreak (cond (is_empty t) (last_break block.tail) (last_break t))) (sym none) (last_lf block.tail line)
+    go (inr lf) =
+        let full : is_empty (joined block.raw) ≡ false = ap is_empty lf.1 ∙ some_behind lf.0 (10 ∷ []) refl in
+        subst (λ (b : Bool). IsOneBreak (cond b (last_break block.tail) (last_break (joined block.raw)))) (sym full) (last_lf (joined block.raw) lf)
+
+-- ---- the break behind lines
+
+-- the break of the last of these lines
+abbrev pub lines_break : List PrintedLine → List ℕ
+lines_break [] = []
+lines_break (l ∷ ls) = run_break l ls
+
+break_behind : (xs : List PrintedLine) (y : PrintedLine) (ys : List PrintedLine) → lines_break (xs ++ (y ∷ ys)) ≡ lines_break (y ∷ ys)
+break_behind [] y ys = refl
+break_behind (x ∷ []) y ys = refl
+break_behind (x ∷ (z ∷ xs)) y ys = break_behind (z ∷ xs) y ys
+
+break_last : (xs ys : List PrintedLine) → (ys ≡ [] → ⊥) → lines_break (xs ++ ys) ≡ lines_break ys
+break_last xs [] some = absurd (some refl)
+break_last xs (y ∷ ys) some = break_behind xs y ys
+
+from_break : (gap spaces : List ℕ) (column : ℕ) (ns : List ℕ) (m : rows.RowMark) (c : Content) → lines_break (printed_from gap spaces column ns m c) ≡ end_break c
+from_break gap spaces column [] m c = refl
+from_break gap spaces column (n ∷ []) m c = refl
+from_break gap spaces column (n ∷ (k ∷ ns)) m c = from_break [] [] _ (k ∷ ns) m c
+
+from_some : (gap spaces : List ℕ) (column : ℕ) (ns : List ℕ) (m : rows.RowMark) (c : Content) (z : List PrintedLine) → printed_from gap spaces column ns m c ++ z ≡ [] → ⊥
+from_some gap spaces column [] m c z e = cc
+from_some gap spaces column (n ∷ ns) m c z e = cc
+
+pub rows_break : (limit : Limit) (r : Row) (gone more : List Row) (end rest gap spaces : List ℕ) (column : ℕ) (es : List ℕ) → AreRows limit (r ∷ (gone ++ more)) end rest →
+    is_empty (rows_text more (end ++ rest)) ≡ false →
+    IsOneBreak (lines_break (printed_from gap spaces column es r.mark r.content ++ printed_lines gone))
+rows_break limit r [] more end rest gap spaces column es h some =
+    subst IsOneBreak (sym (ap lines_break (append-nil (printed_from gap spaces column es r.mark r.content)) ∙ from_break gap spaces column es r.mark r.content))
+    (content_break (parent_indent r) r.content (rows_text more (end ++ rest)) h.0.content some)
+rows_break limit r (g ∷ gone) more end rest gap spaces column es h some =
+    subst IsOneBreak (sym (break_last (printed_from gap spaces column es r.mark r.content) (printed_row g ++ printed_lines gone)
+    (from_some g.gap _ g.column g.dashes g.mark g.content (printed_lines gone))))
+    (rows_break (limit_after r) g gone more end rest g.gap _ g.column g.dashes h.1 some)
+
+-- ---- what a break is
+
+pub break_cut : (b rest : List ℕ) → IsOneBreak b → cut_line (b ++ rest) ≡ (b, rest)
+unfolding Rattle.yq_core.specs.Text.line_len
+break_cut b rest (inl e) = ap (λ (x : List ℕ). cut_line (x ++ rest)) e ∙ ap (λ (x : List ℕ). (x, rest)) (sym e)
+break_cut b rest (inr e) = ap (λ (x : List ℕ). cut_line (x ++ rest)) e ∙ ap (λ (x : List ℕ). (x, rest)) (sym e)
+
+pub break_tail : (b rest : List ℕ) → IsOneBreak b → IsTail b rest
+unfolding is_line
+break_tail b rest (inl e) = subst (λ (x : List ℕ). IsTail x rest) (sym e) (record {
+  white = [];
+  comment = [];
+  line = record { break = 10 ∷ []; spelled = refl; blank = tt; as_comment = tt; ends = inl refl };
+  apart = refl;
+})
+break_tail b rest (inr e) = subst (λ (x : List ℕ). IsTail x rest) (sym e) (record {
+  white = [];
+  comment = [];
+  line = record { break = 13 ∷ (10 ∷ []); spelled = refl; blank = tt; as_comment = tt; ends = inl refl };
+  apart = refl;
+})
+
+pub break_apart : (b rest : List ℕ) → IsOneBreak b → separates (b ++ rest) ≡ true
+break_apart b rest (inl e) = ap (λ (x : List ℕ). separates (x ++ rest)) e
+break_apart b rest (inr e) = ap (λ (x : List ℕ). separates (x ++ rest)) e
+
+pub break_bare : (b : List ℕ) → IsOneBreak b → line_comment b ≡ None
+unfolding Rattle.yq_core.specs.Text.upto
+break_bare b (inl e) = ap line_comment e
+break_bare b (inr e) = ap line_comment e
+
+pub break_ascii : (b rest : List ℕ) → IsOneBreak b → BeginsAscii (b ++ rest)
+break_ascii b rest (inl e) = subst (λ (x : List ℕ). BeginsAscii (x ++ rest)) (sym e) (let less : 10 < 128 = omega arith in less)
+break_ascii b rest (inr e) = subst (λ (x : List ℕ). BeginsAscii (x ++ rest)) (sym e) (let less : 13 < 128 = omega arith in less)

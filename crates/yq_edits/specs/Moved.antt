@@ -1,0 +1,44 @@
+-- The first entry or item of a compact collection taken out: the next one's row stands behind the dash (8.2.1; own).
+use Rattle.std.specs.Prelude.{◌≡◌, ℕ, suc, ◌+◌, List, [], ◌∷◌, ◌++◌, None}
+use Rattle.yq_outline.specs.Comments.{head_comment, line_comment}
+use Rattle.yq_row_table.specs.Rows as rows
+use Rattle.yq_row_table.specs.Rows.{Content, Nothing, Row, behind_columns}
+use Rattle.yq_outline.specs.Lines.{dash_line, lines_from, lines_of_rows}
+use Rattle.yq_outline.specs.Outline.{Line}
+
+-- the lines of dashes, from a column on
+abbrev pub dash_lines : List (List ℕ) → ℕ → List ℕ → List Line
+dash_lines above column [] = []
+dash_lines above column (n ∷ ns) = dash_line above column ∷ dash_lines [] (suc (column + n)) ns
+
+-- a row behind the first dashes of another one, whose gap and column it takes
+abbrev pub moved_up : Row → List ℕ → Row → Row
+moved_up r dashes b = record b { gap = r.gap; column = r.column; dashes = dashes ++ b.dashes }
+
+-- a row with nothing behind its last dash
+abbrev pub emptied_row : Row → List ℕ → List ℕ → Row
+emptied_row r dashes tail = record r { dashes = dashes; mark = rows.Dash; content = Nothing tail }
+
+-- Where the next entry's row b, in the same column and with no comment above it, stands behind the first dashes of row r, the lines are the old ones without
+-- those of the first entry.
+abbrev pub FirstMoved : Type 0
+FirstMoved =
+    (before gone behind : List Row) (r b : Row) (n : ℕ) (ns es : List ℕ) → r.dashes ≡ n ∷ (ns ++ es) → b.column ≡ behind_columns r.column (n ∷ ns) →
+    head_comment b.gap ≡ [] →
+    (lines_of_rows (before ++ (r ∷ (gone ++ (b ∷ behind)))) ≡
+    (lines_of_rows before ++ dash_lines (head_comment r.gap) r.column (n ∷ ns)) ++ ((lines_from [] b.column es r.mark r.content ++ lines_of_rows gone) ++ lines_of_rows (b ∷ behind))) ×
+    (lines_of_rows (before ++ (moved_up r (n ∷ ns) b ∷ behind)) ≡ (lines_of_rows before ++ dash_lines (head_comment r.gap) r.column (n ∷ ns)) ++ lines_of_rows (b ∷ behind))
+
+-- The same where nothing but a tail without a comment stays behind the dashes, and the rows behind the first entry keep their places.
+abbrev pub FirstEmptied : Type 0
+FirstEmptied =
+    (before gone behind : List Row) (r : Row) (n : ℕ) (ns es tail : List ℕ) → r.dashes ≡ (ns ++ (n ∷ [])) ++ es → line_comment tail ≡ None →
+    (lines_of_rows (before ++ (r ∷ (gone ++ behind))) ≡
+    (lines_of_rows before ++ dash_lines (head_comment r.gap) r.column (ns ++ (n ∷ []))) ++ ((lines_from [] (behind_columns r.column (ns ++ (n ∷ []))) es r.mark r.content ++ lines_of_rows gone) ++ lines_of_rows behind)) ×
+    (lines_of_rows (before ++ (emptied_row r ns tail ∷ behind)) ≡ (lines_of_rows before ++ dash_lines (head_comment r.gap) r.column (ns ++ (n ∷ []))) ++ lines_of_rows behind)
+
+-- The lines of a row are those of its first dashes, and then those of a row that begins behind them and has no comment above it.
+abbrev pub DashesFirst : Type 0
+DashesFirst =
+    (above : List (List ℕ)) (column n : ℕ) (ns es : List ℕ) (mark : rows.RowMark) (c : Content) →
+    lines_from above column (n ∷ (ns ++ es)) mark c ≡ dash_lines above column (n ∷ ns) ++ lines_from [] (behind_columns column (n ∷ ns)) es mark c

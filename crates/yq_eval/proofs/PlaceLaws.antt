@@ -1,0 +1,42 @@
+-- What is missing from a place.
+use Rattle.std.proofs.Common.{◌≡◌, ℕ, suc, ◌+◌, List, [], ◌∷◌, ◌++◌, map, refl, sym, ap, ◌∙◌, append_assoc, add-one, arith, Fits, w64, ◌<◌}
+use Rattle.std.proofs.lemmas.List.{map_push}
+use Rattle.yq_core.specs.Tree.{Label, Node, Children, none, child}
+use Rattle.yq_outline.specs.Counts.{count}
+use Rattle.yq_outline.specs.Outline.{null_node}
+use Rattle.yq_semantics.specs.Conditions.{node_there}
+use Rattle.yq_semantics.specs.Judgement.{gives}
+use Rattle.yq_eval.specs.PlaceView.{place_of, places_of}
+use Rattle.yq_semantics.specs.Places.{Place, child_place, miss, step_by, step_from, stepped}
+use Rattle.yq_semantics.specs.Program.{PathStep}
+use Rattle.yq_eval.specs.declared.matching.place.Place as declared
+
+-- where a step is missing there is null
+pub null_there : (front : List PathStep) (s : PathStep) (n : Node) → node_there (front ++ s ∷ []) n ≡ null_node
+null_there [] s n = refl
+null_there (t ∷ ts) s n = refl
+
+-- behind a missing step another one is missing
+pub missed_on : (front : List PathStep) (s step : PathStep) (p : Place) → step_from (front ++ s ∷ []) step p ≡ gives (miss step p)
+missed_on [] s step p = refl
+missed_on (t ∷ ts) s step p = refl
+
+-- one more item or entry has a place
+pub children_more : (p : Place) (before : ℕ) (cs rest : Children) (label : Label) (n : Node) (items : List declared.Place) (new : declared.Place) (all : List Place) →
+    cs ≡ child label n rest → place_of new ≡ child_place p (step_by before label.key, n) → places_of items ++ map (child_place p) (stepped before cs) ≡ all →
+    places_of (items ++ new ∷ []) ++ map (child_place p) (stepped (before + 1) rest) ≡ all
+children_more p before cs rest label n items new all is place so_far =
+    let others : List Place = map (child_place p) (stepped (suc before) rest) in
+    ap (λ (i : ℕ). places_of (items ++ new ∷ []) ++ map (child_place p) (stepped i rest)) (add-one before)
+    ∙ (ap (λ (ps : List Place). ps ++ others) (map_push place_of items new)
+    ∙ (append_assoc (places_of items) (place_of new ∷ []) others
+    ∙ (ap (λ (q : Place). places_of items ++ (q ∷ others)) place
+    ∙ (ap (λ (ds : Children). places_of items ++ map (child_place p) (stepped before ds)) (sym is) ∙ so_far))))
+
+-- where nothing is counted there is none
+pub none_counted : (cs : Children) → count cs ≡ 0 → cs ≡ none
+none_counted none h = refl
+none_counted (child label n cs) h = absurd (omega arith)
+
+pub next_fits : (n all : ℕ) → n < all → all < 18446744073709551616 → Fits w64 (n + 1)
+next_fits n all less fits = omega arith

@@ -1,0 +1,66 @@
+-- Where a step leads from a place, by what it is and by what stands there.
+use Rattle.std.proofs.Common.{◌≡◌, ◌⊎◌, inl, inr, ℕ, ◌≤◌, ◌<◌, List, [], ◌∷◌, ◌++◌, length, map, slice_index_or, Option, option_map, Bor, refl, sym, ap, ◌∙◌, rules, arith, append-nil}
+use Rattle.std.specs.Prelude.{ℤ}
+use Rattle.yq_core.specs.Paths.{Nth, child_at}
+use Rattle.yq_core.specs.Tree as tree
+use Rattle.yq_core.specs.Tree.{Node, alias, scalar, list, Children, children_of}
+use Rattle.yq_core.specs.Nodes.{kind_of, node_of}
+use Rattle.yq_core.specs.declared.nodes.node.NodeKind.{NodeKind}
+use Rattle.yq_core.specs.declared.nodes.node.NodeKind.TheVariants as node_kinds
+use Rattle.yq_eval.specs.declared.matching.place.Missing.{Missing, Further, Nothing, the_lemmas}
+use Rattle.yq_eval.specs.declared.matching.place.Place as declared
+use Rattle.yq_eval.specs.FoundView.{child_places}
+use Rattle.yq_eval.specs.PlaceView.{missing_of, path_of, place_of, places_of, put_behind}
+use Rattle.yq_semantics.specs.Judgement.{and_then, gives}
+use Rattle.yq_semantics.specs.Matching.{step_child, item_at_index, item_number}
+use Rattle.yq_semantics.specs.Places.{Place, all_steps, child_place, for_each, miss, step_from, step_on, stepped}
+use Rattle.yq_semantics.specs.Program.{PathStep, each}
+use Rattle.yq_semantics.specs.View.{program_step}
+use Rattle.yq_semantics.specs.declared.program.Step as program
+use Rattle.yq_eval.proofs.PlaceLaws.{missed_on}
+
+-- ---- what is missing
+
+pub one_missing : (m : Missing) (front : Bor Missing) (step : Bor program.Step) → m ≡ Further front step → missing_of m ≡ missing_of front.now ++ program_step
+    step.now ∷ []
+one_missing m front step is = ap missing_of is ∙ search (rules, the_lemmas)
+
+pub none_missing : (m : Missing) → m ≡ Nothing → missing_of m ≡ []
+none_missing m is = ap missing_of is ∙ search (rules, the_lemmas)
+
+-- behind a missing step
+pub step_missed : (before : List Place) (s last : PathStep) (p : Place) (front : List PathStep) → p.missing ≡ front ++ last ∷ [] → put_behind before (step_on s p)
+    ≡ gives (before ++ miss s p)
+step_missed before s last p front is = ap (λ ms. put_behind before (step_from ms s p)) is ∙ ap (put_behind before) (missed_on front last s p)
+
+-- ---- from a node, by its kind
+
+pub steps_of_coll : (n : Node) (k : NodeKind) → k ≡ kind_of n → (k ≡ node_kinds.List) ⊎ (k ≡ node_kinds.Map) → all_steps n ≡ gives (stepped 0 (children_of n))
+steps_of_coll (list anchor cs) k is coll = refl
+steps_of_coll (tree.map anchor cs) k is coll = refl
+steps_of_coll (alias name) k is (inl e) = absurd (cc)
+steps_of_coll (alias name) k is (inr e) = absurd (cc)
+steps_of_coll (scalar anchor kind text) k is (inl e) = absurd (cc)
+steps_of_coll (scalar anchor kind text) k is (inr e) = absurd (cc)
+
+-- the item of an index, by its number
+pub item_found : (i j : ℤ) (cs : Children) (n : ℕ) (o : Option Node) → j ≡ i → item_number j cs ≡ gives n → o ≡ child_at (Nth n) cs → item_at_index i cs ≡ gives
+    (option_map (λ m. (Nth n, m)) o)
+item_found i j cs n o same h at =
+    ap (and_then (λ m. gives (step_child (Nth m) cs))) (ap (λ k. item_number k cs) (sym same) ∙ h) ∙ ap (λ q. gives (option_map (λ m. (Nth n, m)) q)) (sym at)
+
+-- ---- of places
+
+-- the items or values at the only place
+pub parent_gives : (ps : List declared.Place) (x : declared.Place) (k : NodeKind) → 1 ≤ length ps → length ps < 2 → x ≡ slice_index_or ps 0 x → x.missing
+    ≡ Nothing → k ≡ kind_of (node_of x.node) → (k ≡ node_kinds.List) ⊎ (k ≡ node_kinds.Map) →
+    for_each (step_on each) (places_of ps) ≡ gives (child_places (path_of x.path) (node_of x.node))
+parent_gives [] x k some one at none is coll = absurd (omega (arith, some))
+parent_gives (y ∷ (z ∷ ps)) x k some one at none is coll = absurd (omega (arith, one))
+parent_gives (y ∷ []) x k some one at none is coll =
+    let p : Place = place_of x in
+    let xs = map (child_place p) (stepped 0 (children_of p.node)) in
+    let steps : step_on each p ≡ gives xs =
+    ap (λ ms. step_from ms each p) (none_missing x.missing none) ∙ ap (and_then (λ ys. gives (map (child_place p) ys))) (steps_of_coll p.node k is coll) in
+    ap (λ (z : declared.Place). for_each (step_on each) (places_of (z ∷ []))) (sym at)
+    ∙ (ap (and_then (λ first. and_then (λ others. gives (first ++ others)) (gives []))) steps ∙ ap gives (append-nil xs))

@@ -1,0 +1,14 @@
+//! Where pipes lead in a tree, and copies of what stands there.
+//!
+//! The matches of a read: copies of what its pipe finds in documents.
+#![tactic(auto)]
+
+mod matched;
+mod matching;
+
+pub use matched::{Match, matches};
+pub use matching::copy::copy_at;
+pub use matching::found::{FoundPlaces, find_places};
+pub use matching::owned;
+pub use matching::pipe::{find, pipe_on};
+pub use matching::place::{Missing, NodePath, NodeStep, Place};

@@ -1,0 +1,119 @@
+//! Matches: copies of what a pipe finds in documents.
+ghost use Rattle.std.specs.Prelude.{◌≡◌, IfOk, List, map, true};
+ghost use Rattle.yq_nodes.specs.Nodes.{node_of};
+ghost use Rattle.yq_documents.specs.Reading.{documents_of};
+ghost use Rattle.yq_semantics.specs.Conditions.{value_of};
+ghost use Rattle.yq_semantics.specs.Copies as spec;
+ghost use Rattle.yq_semantics.specs.Judgement.{Judges};
+ghost use Rattle.yq_semantics.specs.MatchTrees.{AreMatches};
+ghost use Rattle.yq_eval.specs.MatchView.{matches_of};
+ghost use Rattle.yq_eval.specs.PlaceView.{place_of, places_of, put_behind};
+ghost use Rattle.yq_semantics.specs.Places.{for_each};
+ghost use Rattle.yq_semantics.specs.Program.{Stage as PipeStage, is_read, read};
+ghost use Rattle.yq_eval.specs.TreeScalars.{HasScalars, HaveScalars};
+ghost use Rattle.yq_semantics.specs.View.{program_of, stage_of};
+
+use crate::{Place, copy_at, find};
+use bumpalo::Bump;
+use std::alloc::Global;
+use yq_core::Value;
+use yq_nodes::Node;
+use yq_semantics::{ExprError, Program, Stage, Syntax};
+use yq_tree::Documents;
+
+/// A match: its document, counted from 0, and a copy of the value there, which
+/// has no anchors and no comments. What is missing is null.
+#[derive(Drop)]
+pub struct Match {
+    pub doc: usize,
+    pub value: Value,
+}
+
+/// Puts the match at a place behind others.
+fn push_match(
+    alloc: Global,
+    doc: usize,
+    place: &Place<'_, '_>,
+    matches: &mut Vec<Match>,
+) -> Result<(), ExprError>
+    requires { HasScalars (value_of (place_of place.now)) }
+    ensures { Judges (λ _. matches_of matches.new.items) result
+        (put_behind (matches_of matches.old.items) (spec.match_at doc (place_of place.now))) }
+{
+    let value = copy_at(alloc, place)?;
+    matches.push(Match { doc, value })?;
+    Ok(())
+}
+
+/// Puts the matches at places behind others.
+fn push_copies(
+    alloc: Global,
+    doc: usize,
+    places: &[Place<'_, '_>],
+    matches: &mut Vec<Match>,
+) -> Result<(), ExprError>
+    requires { HaveScalars (places_of places.now) }
+    ensures { Judges (λ _. matches_of matches.new.items) result
+        (put_behind (matches_of matches.old.items)
+        (for_each (spec.match_at doc) (places_of places.now))) }
+{
+    'places: for place in places {
+        push_match(alloc, doc, place, matches)?;
+    }
+    Ok(())
+}
+
+/// Puts the matches of a pipe in document `doc`, which has that root, behind
+/// others.
+fn push_document(
+    alloc: Global,
+    doc: usize,
+    pipe: &[Stage],
+    root: Node<'_, '_>,
+    matches: &mut Vec<Match>,
+) -> Result<(), ExprError>
+    requires { HasScalars (node_of root) }
+    ensures { Judges (λ _. matches_of matches.new.items) result
+        (put_behind (matches_of matches.old.items)
+        (spec.matches_in doc (map stage_of pipe.now) (node_of root.entry))) }
+{
+    let bump = Bump::new(alloc);
+    let places = find(alloc, &bump, doc, pipe, root)?;
+    push_copies(alloc, doc, &places, matches)
+}
+
+/// The matches of a pipe in documents.
+fn pipe_matches(
+    alloc: Global,
+    pipe: &[Stage],
+    documents: &Documents<'_>,
+) -> Result<Vec<Match>, ExprError>
+    ensures { Judges (λ v. matches_of v.items) result
+        (spec.matches (map stage_of pipe.now) (documents_of documents.now)) }
+{
+    let mut matches = Vec::new(alloc);
+    'documents: for doc in 0..documents.count() {
+        push_document(alloc, doc, pipe, documents.root(doc), &mut matches)?;
+    }
+    Ok(matches)
+}
+
+/// The matches of a read in documents, document by document.
+pub fn matches(
+    alloc: Global,
+    program: &Program,
+    documents: &Documents<'_>,
+) -> Result<Vec<Match>, ExprError>
+    requires { is_read (program_of program.now) ≡ true }
+    // The copies of what the pipe finds, or the first refusal.
+    ensures exact { (pipe : List PipeStage) → program_of program.now ≡ read pipe →
+        Judges (λ v. matches_of v.items) result (spec.matches pipe (documents_of documents.now)) }
+    // Each copy is a tree, in which the keys of a mapping differ, with no more collections nested than may be.
+    ensures trees { IfOk result (λ v. AreMatches (matches_of v.items)) }
+{
+    let Syntax::Read(pipe) = program.syntax() else {
+        return Ok(Vec::new(alloc));
+    };
+    documents.are_ready();
+    pipe_matches(alloc, pipe, documents)
+}

@@ -1,0 +1,165 @@
+//! What `select` asks of a place.
+ghost use Rattle.std.specs.Prelude.{◌≡◌, map};
+ghost use Rattle.yq_core.specs.SchemaReading as numbers;
+ghost use Rattle.yq_nodes.specs.Nodes.{node_of};
+ghost use Rattle.yq_semantics.specs.Conditions as spec;
+ghost use Rattle.yq_semantics.specs.Judgement.{Judges};
+ghost use Rattle.yq_eval.specs.PlaceView.{place_of, places_of};
+ghost use Rattle.yq_semantics.specs.Program.{value_at};
+ghost use Rattle.yq_semantics.specs.View.{condition_of, operand_of, program_step};
+
+use crate::matching::place::Place;
+use crate::matching::traverse::traverse;
+use bumpalo::Bump;
+use std::alloc::Global;
+use yq_core::{Kind, Scalar, is_true_word};
+use yq_nodes::{Node, NodeKind};
+use yq_scalar_reader::int_value;
+use yq_semantics::{Condition, ExprError, Operand, Refusal, Step};
+
+/// Whether two ints are the same: by their numbers, where both have one in 64
+/// bits, and else by their texts.
+fn same_int(one: &str, other: &str) -> bool
+    ensures { result ≡ spec.same_int (numbers.int_value one.now)
+        (numbers.int_value other.now) one.now other.now }
+{
+    match (int_value(one), int_value(other)) {
+        (Some(m), Some(n)) => m == n,
+        (Some(_), None) => one == other,
+        (None, _) => one == other,
+    }
+}
+
+/// Whether two bools are the same.
+fn same_bool(one: bool, other: bool) -> bool
+    ensures { result ≡ spec.same_bool one other }
+{
+    if one { other } else { !other }
+}
+
+/// Whether a kind and a text are those of a scalar, or of one with the same
+/// value.
+fn same_scalar(kind: Kind, text: &str, scalar: &Scalar) -> bool
+    ensures { result ≡ spec.same_scalar kind text.now scalar.now.kind scalar.now.text }
+{
+    match (kind, scalar.kind()) {
+        (Kind::Null, Kind::Null) => true,
+        (Kind::Bool, Kind::Bool) => same_bool(is_true_word(text), is_true_word(scalar.text())),
+        (Kind::Int, Kind::Int) => same_int(text, scalar.text()),
+        (Kind::Float, Kind::Float) => text == scalar.text(),
+        (Kind::Text, Kind::Text) => text == scalar.text(),
+        _ => false,
+    }
+}
+
+/// Whether a node is that scalar.
+fn node_is(node: &Node<'_, '_>, scalar: &Scalar) -> Result<bool, ExprError>
+    ensures { Judges (λ b. b) result (spec.is_scalar scalar.now.kind scalar.now.text
+        (node_of node.now)) }
+{
+    match node.kind() {
+        NodeKind::Alias => Err(ExprError::Refused(Refusal::ThroughAlias)),
+        NodeKind::Scalar(kind) => Ok(same_scalar(kind, node.text(), scalar)),
+        NodeKind::List | NodeKind::Map => Ok(false),
+    }
+}
+
+/// Whether the value at a place is that scalar: null where a step is missing.
+fn place_is(place: &Place<'_, '_>, scalar: &Scalar) -> Result<bool, ExprError>
+    ensures { Judges (λ b. b) result (spec.is_scalar scalar.now.kind scalar.now.text
+        (spec.value_of (place_of place.now))) }
+{
+    match place.found() {
+        Some(node) => node_is(node, scalar),
+        None => Ok(same_scalar(Kind::Null, "null", scalar)),
+    }
+}
+
+/// Whether the value at the first of places is that scalar.
+fn first_is(places: &[Place<'_, '_>], scalar: &Scalar) -> Result<bool, ExprError>
+    ensures { Judges (λ b. b) result (spec.first_equals scalar.now.kind scalar.now.text
+        (places_of places.now)) }
+{
+    match places {
+        [] => Ok(false),
+        [first, ..] => place_is(first, scalar),
+    }
+}
+
+/// Whether the value to which steps lead from a place is that scalar.
+fn value_is<'a, 't>(
+    alloc: Global,
+    bump: &'a Bump,
+    steps: &'a [Step],
+    scalar: &Scalar,
+    place: &Place<'a, 't>,
+) -> Result<bool, ExprError>
+    ensures { Judges (λ b. b) result (spec.operand_is 0 (value_at (map program_step steps.now))
+        scalar.now.kind scalar.now.text (place_of place.now)) }
+{
+    let places = traverse(alloc, bump, steps, place.alone(alloc)?)?;
+    first_is(&places, scalar)
+}
+
+/// Whether what is compared is that scalar, at a place in document `doc`.
+fn operand_is<'a, 't>(
+    alloc: Global,
+    bump: &'a Bump,
+    doc: usize,
+    operand: &'a Operand,
+    scalar: &Scalar,
+    place: &Place<'a, 't>,
+) -> Result<bool, ExprError>
+    ensures { Judges (λ b. b) result (spec.operand_is doc (operand_of operand.now) scalar.now.kind
+        scalar.now.text (place_of place.now)) }
+{
+    match operand {
+        Operand::Path(steps) => value_is(alloc, bump, steps, scalar, place),
+        Operand::DocumentIndex => {
+            let number = doc.to_string(alloc)?;
+            Ok(same_scalar(Kind::Int, number.as_str(), scalar))
+        }
+    }
+}
+
+/// Whether a node is a mapping with that key.
+fn node_has(node: &Node<'_, '_>, key: &str) -> Result<bool, ExprError>
+    ensures { Judges (λ b. b) result (spec.has_key key.now (node_of node.now)) }
+{
+    match node.kind() {
+        NodeKind::Alias => Err(ExprError::Refused(Refusal::ThroughAlias)),
+        NodeKind::Scalar(_) | NodeKind::List => Ok(false),
+        NodeKind::Map => Ok(node.entry(key).is_some()),
+    }
+}
+
+/// Whether the value at a place is a mapping with that key.
+fn place_has(place: &Place<'_, '_>, key: &str) -> Result<bool, ExprError>
+    ensures { Judges (λ b. b) result (spec.has_key key.now (spec.value_of (place_of place.now))) }
+{
+    match place.found() {
+        Some(node) => node_has(node, key),
+        None => Ok(false),
+    }
+}
+
+/// Whether a condition holds at a place in document `doc`.
+pub(crate) fn holds<'a, 't>(
+    alloc: Global,
+    bump: &'a Bump,
+    doc: usize,
+    condition: &'a Condition,
+    place: Place<'a, 't>,
+) -> Result<bool, ExprError>
+    ensures { Judges (λ b. b) result (spec.condition_holds doc (condition_of condition.now)
+        (place_of place.entry)) }
+{
+    match condition {
+        Condition::Compare(comparison) => {
+            let operand = &comparison.operand;
+            let same = operand_is(alloc, bump, doc, operand, &comparison.scalar, &place)?;
+            Ok(same_bool(comparison.equal, same))
+        }
+        Condition::Has(key) => place_has(&place, key.as_str()),
+    }
+}

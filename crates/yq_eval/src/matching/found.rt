@@ -1,0 +1,110 @@
+//! What a pipe finds: places in a list, or the items or values of one node, which are not listed.
+ghost use Rattle.std.specs.Prelude.{◌≡◌, ◌++◌, ◌∷◌, ◌==◌, [], IfSome, length, map};
+ghost use Rattle.yq_nodes.specs.Nodes.{node_of};
+ghost use Rattle.yq_semantics.specs.Judgement.{Judges, gives};
+ghost use Rattle.yq_eval.specs.FoundView.{child_places, found_places};
+ghost use Rattle.yq_eval.specs.PlaceView.{path_of, places_of};
+ghost use Rattle.yq_semantics.specs.Pipes as spec;
+ghost use Rattle.yq_semantics.specs.Places as steps;
+ghost use Rattle.yq_semantics.specs.Program.{each, path};
+ghost use Rattle.yq_semantics.specs.View.{stage_of, program_step};
+
+use crate::matching::pipe::find;
+use crate::matching::place::{Missing, Place};
+use crate::matching::traverse::{step_each, traverse};
+use bumpalo::Bump;
+use std::alloc::Global;
+use yq_nodes::{Node, NodeKind};
+use yq_semantics::{ExprError, Stage, Step};
+
+/// The places that a pipe finds.
+#[derive(Drop)]
+pub enum FoundPlaces<'a, 't> {
+    /// These.
+    Listed(Vec<Place<'a, 't>>),
+    /// Those of all items or values of the node at a place.
+    Children(&'a Place<'a, 't>),
+}
+
+impl FoundPlaces<'_, '_> {
+    /// Whether there are none.
+    pub fn is_empty(&self) -> bool
+        ensures { result ≡ (length (found_places self.now) == 0) }
+    {
+        match self {
+            FoundPlaces::Listed(places) => places.is_empty(),
+            FoundPlaces::Children(place) => place.node.children().next().is_none(),
+        }
+    }
+}
+
+/// The steps before the last one of a pipe that is a path, if that one leads to all items or values.
+fn before_each(pipe: &[Stage]) -> Option<(&[Step], &Step)>
+    ensures { IfSome result (λ x. (program_step x.1.now ≡ each) × (map stage_of pipe.now ≡
+        path (map program_step x.0.now ++ each ∷ []) ∷ [])) }
+{
+    let [Stage::Path(steps)] = pipe else {
+        return None;
+    };
+    let [front @ .., last] = steps.as_slice() else {
+        return None;
+    };
+    match last {
+        Step::Each => Some((front, last)),
+        Step::Key(_) | Step::Index(_) => None,
+    }
+}
+
+/// The one place that there is, if its node has items or values.
+fn parent<'p, 'a, 't>(places: &'p [Place<'a, 't>]) -> Option<&'p Place<'a, 't>>
+    ensures { IfSome result (λ p. steps.for_each (steps.step_on each) (places_of places.now) ≡
+        gives (child_places (path_of p.now.path) (node_of p.now.node))) }
+{
+    let [place] = places else {
+        return None;
+    };
+    if let Missing::Further(..) = place.missing {
+        return None;
+    }
+    match place.node.kind() {
+        NodeKind::List | NodeKind::Map => Some(place),
+        NodeKind::Alias | NodeKind::Scalar(_) => None,
+    }
+}
+
+/// The places of all items or values of nodes.
+fn all_of<'a, 't>(
+    alloc: Global,
+    bump: &'a Bump,
+    last: &'a Step,
+    places: &[Place<'a, 't>],
+) -> Result<FoundPlaces<'a, 't>, ExprError>
+    requires { program_step last.now ≡ each }
+    ensures { Judges found_places result (steps.for_each (steps.step_on each)
+        (places_of places.now)) }
+{
+    if let Some(place) = parent(places) {
+        let place = bump.try_alloc(*place)?;
+        return Ok(FoundPlaces::Children(place));
+    }
+    step_each(alloc, bump, last, places).map(FoundPlaces::Listed)
+}
+
+/// Where a pipe leads in document `doc`, which has that root.
+pub fn find_places<'a, 't>(
+    alloc: Global,
+    bump: &'a Bump,
+    doc: usize,
+    pipe: &'a [Stage],
+    root: Node<'a, 't>,
+) -> Result<FoundPlaces<'a, 't>, ExprError>
+    ensures { Judges found_places result (spec.places doc (map stage_of pipe.now)
+        (node_of root.entry)) }
+{
+    let Some((front, last)) = before_each(pipe) else {
+        return find(alloc, bump, doc, pipe, root).map(FoundPlaces::Listed);
+    };
+    let start = Place::of_root(&root).alone(alloc)?;
+    let places = traverse(alloc, bump, front, start)?;
+    all_of(alloc, bump, last, &places)
+}

@@ -1,0 +1,102 @@
+//! Where a pipe leads: each stage acts on all places before the next one does.
+ghost use Rattle.std.specs.Prelude.{◌≡◌, map};
+ghost use Rattle.yq_nodes.specs.Nodes.{node_of};
+ghost use Rattle.yq_semantics.specs.Judgement.{Judges};
+ghost use Rattle.yq_semantics.specs.Pipes as spec;
+ghost use Rattle.yq_eval.specs.PlaceView.{place_of, places_of, put_behind};
+ghost use Rattle.yq_semantics.specs.Places.{for_each};
+ghost use Rattle.yq_semantics.specs.View.{condition_of, stage_of};
+
+use crate::matching::condition::holds;
+use crate::matching::place::Place;
+use crate::matching::traverse::traverse;
+use bumpalo::Bump;
+use std::alloc::Global;
+use yq_nodes::Node;
+use yq_semantics::{Condition, ExprError, Stage};
+
+/// Puts a place behind others if the condition holds there.
+fn push_kept<'a, 't>(
+    alloc: Global,
+    doc: usize,
+    condition: &'a Condition,
+    place: &Place<'a, 't>,
+    places: &mut Vec<Place<'a, 't>>,
+) -> Result<(), ExprError>
+    ensures { Judges (λ _. places_of places.new.items) result
+        (put_behind (places_of places.old.items)
+        (spec.select_on doc (condition_of condition.now) (place_of place.now))) }
+{
+    let bump = Bump::new(alloc);
+    if holds(alloc, &bump, doc, condition, *place)? {
+        places.push(*place)?;
+    }
+    Ok(())
+}
+
+/// The places for which the condition holds.
+fn select_each<'a, 't>(
+    alloc: Global,
+    doc: usize,
+    condition: &'a Condition,
+    places: &[Place<'a, 't>],
+) -> Result<Vec<Place<'a, 't>>, ExprError>
+    ensures { Judges (λ v. places_of v.items) result
+        (for_each (spec.select_on doc (condition_of condition.now)) (places_of places.now)) }
+{
+    let mut kept = Vec::new(alloc);
+    'places: for place in places {
+        push_kept(alloc, doc, condition, place, &mut kept)?;
+    }
+    Ok(kept)
+}
+
+/// Where a stage leads from places.
+fn stage_on<'a, 't>(
+    alloc: Global,
+    bump: &'a Bump,
+    doc: usize,
+    stage: &'a Stage,
+    places: Vec<Place<'a, 't>>,
+) -> Result<Vec<Place<'a, 't>>, ExprError>
+    ensures { Judges (λ v. places_of v.items) result
+        (spec.stage_on doc (stage_of stage.now) (places_of places.entry.items)) }
+{
+    match stage {
+        Stage::Path(steps) => traverse(alloc, bump, steps, places),
+        Stage::Select(condition) => select_each(alloc, doc, condition, &places),
+    }
+}
+
+/// Where a pipe leads from places.
+pub fn pipe_on<'a, 't>(
+    alloc: Global,
+    bump: &'a Bump,
+    doc: usize,
+    pipe: &'a [Stage],
+    start: Vec<Place<'a, 't>>,
+) -> Result<Vec<Place<'a, 't>>, ExprError>
+    ensures { Judges (λ v. places_of v.items) result
+        (spec.pipe_on doc (map stage_of pipe.now) (places_of start.entry.items)) }
+{
+    let mut places = start;
+    'stages: for stage in pipe {
+        places = stage_on(alloc, bump, doc, stage, places)?;
+    }
+    Ok(places)
+}
+
+/// Where a pipe leads in document `doc`, which has that root.
+pub fn find<'a, 't>(
+    alloc: Global,
+    bump: &'a Bump,
+    doc: usize,
+    pipe: &'a [Stage],
+    root: Node<'a, 't>,
+) -> Result<Vec<Place<'a, 't>>, ExprError>
+    ensures { Judges (λ v. places_of v.items) result
+        (spec.places doc (map stage_of pipe.now) (node_of root.entry)) }
+{
+    let start = Place::of_root(&root).alone(alloc)?;
+    pipe_on(alloc, bump, doc, pipe, start)
+}

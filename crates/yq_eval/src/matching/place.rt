@@ -1,0 +1,134 @@
+//! Places to which steps lead. Paths share their fronts in an arena, so that a
+//! place takes one link, however deep it lies.
+ghost use Rattle.std.specs.Prelude.{◌≡◌, ◌++◌, ◌∷◌, [], IfOk};
+ghost use Rattle.yq_nodes.specs.Nodes.{label_of, node_of};
+ghost use Rattle.yq_semantics.specs.Conditions as conditions;
+ghost use Rattle.yq_eval.specs.PlaceView.{missing_of, node_step_of, path_of, node_or_null, place_of, places_of};
+ghost use Rattle.yq_semantics.specs.Places as spec;
+ghost use Rattle.yq_semantics.specs.View.{program_step};
+
+use std::alloc::{AllocError, Global};
+use yq_nodes::Node;
+use yq_semantics::Step;
+
+/// A step to a node of a document.
+#[derive(Clone, Copy)]
+pub enum NodeStep<'a> {
+    /// To the value of a key.
+    Key(&'a str),
+    /// To an item, counted from 0.
+    Index(usize),
+}
+
+/// The path from a root to a node.
+#[derive(Clone, Copy)]
+pub enum NodePath<'a> {
+    Root,
+    /// One step further than another path.
+    Below(&'a NodePath<'a>, NodeStep<'a>),
+}
+
+/// Steps that are missing.
+#[derive(Clone, Copy)]
+pub enum Missing<'a> {
+    Nothing,
+    /// One step further than others.
+    Further(&'a Missing<'a>, &'a Step),
+}
+
+/// A place: the last node on the way, its path, and the steps that are missing
+/// from there.
+#[derive(Clone, Copy)]
+pub struct Place<'a, 't> {
+    pub path: NodePath<'a>,
+    pub node: Node<'a, 't>,
+    pub missing: Missing<'a>,
+}
+
+impl<'a> Missing<'a> {
+    /// One step more than these.
+    fn behind(front: &'a Missing<'a>, step: &'a Step) -> Missing<'a>
+        ensures { missing_of result ≡ missing_of front.now ++ program_step step.now ∷ [] }
+    {
+        Missing::Further(front, step)
+    }
+}
+
+/// The step to an item or entry before which so many stand.
+fn step_to<'a>(child: &Node<'a, '_>, before: usize) -> NodeStep<'a>
+    ensures { node_step_of result ≡ spec.step_by before (label_of child.now).key }
+{
+    match child.key() {
+        Some(key) => NodeStep::Key(key),
+        None => NodeStep::Index(before),
+    }
+}
+
+impl<'a, 't> Place<'a, 't> {
+    /// The place of a root.
+    pub fn of_root(node: &Node<'a, 't>) -> Place<'a, 't>
+        ensures { place_of result ≡ spec.root_place (node_of node.now) }
+    {
+        Place {
+            path: NodePath::Root,
+            node: *node,
+            missing: Missing::Nothing,
+        }
+    }
+
+    /// The place of a node one step below a path.
+    pub(crate) fn below(
+        path: &'a NodePath<'a>,
+        step: NodeStep<'a>,
+        node: &Node<'a, 't>,
+    ) -> Place<'a, 't>
+        ensures { (p : spec.Place) → p.path ≡ path_of path.now → place_of result ≡
+            spec.child_place p (node_step_of step.entry, node_of node.now) }
+    {
+        Place {
+            path: NodePath::Below(path, step),
+            node: *node,
+            missing: Missing::Nothing,
+        }
+    }
+
+    /// The place of an item or entry one step below a path, before which so many stand.
+    pub fn nth_below(path: &'a NodePath<'a>, before: usize, child: &Node<'a, 't>) -> Place<'a, 't>
+        ensures { (p : spec.Place) → p.path ≡ path_of path.now → place_of result ≡
+            spec.child_place p (
+              spec.step_by before (label_of child.now).key,
+              node_of child.now,
+            ) }
+    {
+        Place::below(path, step_to(child, before), child)
+    }
+
+    /// The place from which one more step is missing than these, which are missing from here.
+    pub(crate) fn further(&self, front: &'a Missing<'a>, step: &'a Step) -> Place<'a, 't>
+        ensures { missing_of front.now ≡ missing_of self.now.missing → place_of result ≡
+            spec.further_place (program_step step.now) (place_of self.now) }
+    {
+        Place {
+            path: self.path,
+            node: self.node,
+            missing: Missing::behind(front, step),
+        }
+    }
+
+    /// The node there, or none where a step is missing: it is null there.
+    pub fn found(&self) -> Option<&Node<'a, 't>>
+        ensures { node_or_null result ≡ conditions.value_of (place_of self.now) }
+    {
+        match self.missing {
+            Missing::Nothing => Some(&self.node),
+            Missing::Further(..) => None,
+        }
+    }
+
+    /// This place alone.
+    pub fn alone(&self, alloc: Global) -> Result<Vec<Place<'a, 't>>, AllocError>
+        ensures { IfOk result (λ v. places_of v.items ≡ place_of self.now ∷ []) }
+    {
+        Ok(vec![in alloc; *self]?)
+    }
+}

@@ -1,0 +1,160 @@
+//! Where steps lead from places: each acts on all of them before the next one
+//! does.
+ghost use Rattle.std.specs.Prelude.{◌≡◌, ◌++◌, map, OnOk};
+ghost use Rattle.yq_core.specs.Tree.{children_of};
+ghost use Rattle.yq_nodes.specs.Nodes.{node_of};
+ghost use Rattle.yq_semantics.specs.Judgement.{Judges};
+ghost use Rattle.yq_eval.specs.PlaceView.{found_of, place_of, places_of, put_behind};
+ghost use Rattle.yq_semantics.specs.Places as spec;
+ghost use Rattle.yq_semantics.specs.Program.{each};
+ghost use Rattle.yq_semantics.specs.View.{program_step};
+
+use crate::matching::place::{Missing, NodePath, NodeStep, Place};
+use crate::matching::step::{index_step, key_step};
+use bumpalo::Bump;
+use std::alloc::{AllocError, Global};
+use yq_core::Kind;
+use yq_nodes::{Node, NodeKind};
+use yq_semantics::{ExprError, Refusal, Step};
+
+/// Puts the place from which the step is missing behind others. `[]` leads to
+/// none there.
+fn push_missing<'a, 't>(
+    bump: &'a Bump,
+    step: &'a Step,
+    place: &Place<'a, 't>,
+    places: &mut Vec<Place<'a, 't>>,
+) -> Result<(), AllocError>
+    ensures { OnOk result (places_of places.new.items ≡ places_of places.old.items ++
+        spec.miss (program_step step.now) (place_of place.now)) }
+{
+    match step {
+        Step::Key(_) | Step::Index(_) => {
+            let front: &'a Missing<'a> = bump.try_alloc(place.missing)?;
+            places.push(place.further(front, step))?;
+            Ok(())
+        }
+        Step::Each => Ok(()),
+    }
+}
+
+/// Puts the place of what was found behind others, or that from which the step
+/// is missing.
+fn push_found<'a, 't>(
+    bump: &'a Bump,
+    step: &'a Step,
+    place: &Place<'a, 't>,
+    found: &Option<(NodeStep<'a>, Node<'a, 't>)>,
+    places: &mut Vec<Place<'a, 't>>,
+) -> Result<(), AllocError>
+    ensures { OnOk result (places_of places.new.items ≡
+        places_of places.old.items ++ spec.found_place (program_step step.now) (place_of place.now)
+        (found_of found.now)) }
+{
+    match found {
+        None => push_missing(bump, step, place, places),
+        Some((to, node)) => {
+            let path: &'a NodePath<'a> = bump.try_alloc(place.path)?;
+            places.push(Place::below(path, *to, node))?;
+            Ok(())
+        }
+    }
+}
+
+/// Puts the places of all items or values of a place's node behind others.
+fn push_children<'a, 't>(
+    bump: &'a Bump,
+    place: &Place<'a, 't>,
+    places: &mut Vec<Place<'a, 't>>,
+) -> Result<(), AllocError>
+    ensures { OnOk result (places_of places.new.items ≡
+        places_of places.old.items ++ map (spec.child_place (place_of place.now))
+        (spec.stepped 0 (children_of (node_of place.now.node)))) }
+{
+    let path: &'a NodePath<'a> = bump.try_alloc(place.path)?;
+    let count = place.node.count();
+    let mut children = place.node.children();
+    let mut before = 0;
+    'each: while before < count {
+        let Some(child) = children.next() else {
+            return Ok(());
+        };
+        places.push(Place::nth_below(path, before, &child))?;
+        before += 1;
+    }
+    Ok(())
+}
+
+/// Puts the places of all items or values of a place's node behind others.
+fn push_all<'a, 't>(
+    bump: &'a Bump,
+    place: &Place<'a, 't>,
+    places: &mut Vec<Place<'a, 't>>,
+) -> Result<(), ExprError>
+    ensures { Judges (λ _. places_of places.new.items) result
+        (put_behind (places_of places.old.items) (spec.step_there each (place_of place.now))) }
+{
+    match place.node.kind() {
+        NodeKind::Alias => Err(ExprError::Refused(Refusal::ThroughAlias)),
+        NodeKind::Scalar(Kind::Null) => Ok(()),
+        NodeKind::Scalar(_) => Err(ExprError::Refused(Refusal::NotASequence)),
+        NodeKind::List | NodeKind::Map => Ok(push_children(bump, place, places)?),
+    }
+}
+
+/// Puts the places to which a step leads from a place behind others.
+#[tactic(auto, using(crate::proofs::PlaceLaws::missed_on))]
+fn push_step<'a, 't>(
+    bump: &'a Bump,
+    step: &'a Step,
+    place: &Place<'a, 't>,
+    places: &mut Vec<Place<'a, 't>>,
+) -> Result<(), ExprError>
+    ensures { Judges (λ _. places_of places.new.items) result
+        (put_behind (places_of places.old.items)
+        (spec.step_on (program_step step.now) (place_of place.now))) }
+{
+    if let Missing::Further(..) = place.missing {
+        return Ok(push_missing(bump, step, place, places)?);
+    }
+    let found = match step {
+        Step::Key(key) => key_step(&place.node, key.as_str())?,
+        Step::Index(index) => index_step(&place.node, *index)?,
+        Step::Each => return push_all(bump, place, places),
+    };
+    Ok(push_found(bump, step, place, &found, places)?)
+}
+
+/// Where a step leads from places, one after the other.
+pub(crate) fn step_each<'a, 't>(
+    alloc: Global,
+    bump: &'a Bump,
+    step: &'a Step,
+    places: &[Place<'a, 't>],
+) -> Result<Vec<Place<'a, 't>>, ExprError>
+    ensures { Judges (λ v. places_of v.items) result
+        (spec.for_each (spec.step_on (program_step step.now)) (places_of places.now)) }
+{
+    let mut next = Vec::new(alloc);
+    'places: for place in places {
+        push_step(bump, step, place, &mut next)?;
+    }
+    Ok(next)
+}
+
+/// Where steps lead from places.
+pub(crate) fn traverse<'a, 't>(
+    alloc: Global,
+    bump: &'a Bump,
+    steps: &'a [Step],
+    start: Vec<Place<'a, 't>>,
+) -> Result<Vec<Place<'a, 't>>, ExprError>
+    ensures { Judges (λ v. places_of v.items) result
+        (spec.traverse (map program_step steps.now) (places_of start.entry.items)) }
+{
+    let mut places = start;
+    'steps: for step in steps {
+        places = step_each(alloc, bump, step, &places)?;
+    }
+    Ok(places)
+}

@@ -1,6 +1,0 @@
-use Rattle.yq_flow.proofs.EditLaws.{appended}
-use Rattle.yq_flow.proofs.ValueEdits.{value_appended}
-use Rattle.yq_flow.proofs.flow_laws.appended_in_flow.Goals as goal
-
-pub returns : goal.returns
-returns c = record { item = appended; value = value_appended }

@@ -1,5 +1,0 @@
-use Rattle.yq_flow.proofs.RemoveLaws.{removed}
-use Rattle.yq_flow.proofs.flow_laws.removed_in_flow.Goals as goal
-
-pub returns : goal.returns
-returns c = λ x s e h at pairs. removed x s e h at pairs

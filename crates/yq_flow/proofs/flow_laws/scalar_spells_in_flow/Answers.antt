@@ -1,5 +1,0 @@
-use Rattle.yq_flow.proofs.FlowSpelled.{scalar_in_flow}
-use Rattle.yq_flow.proofs.flow_laws.scalar_spells_in_flow.Goals as goal
-
-pub returns : goal.returns
-returns c = scalar_in_flow

@@ -1,0 +1,172 @@
+-- The bytes of an item that is taken out.
+use Rattle.std.proofs.Common.{◌≡◌, ◌⊎◌, inl, inr, ℕ, ◌≤◌, Bool, true, false, ◌&&◌, cond, List, [], ◌∷◌, ◌++◌, length, Option, Some, None, option_map, refl, sym, ap, ◌∙◌, subst, arith, append_assoc, append-nil, length-append, rules}
+use Rattle.std.proofs.lemmas.Bool.{cond_both}
+use Rattle.std.proofs.lemmas.Option.{none-some, same_Some}
+use Rattle.std.specs.Option.{option_or}
+use Rattle.yq_core.specs.Paths.{Step, is_here, further}
+use Rattle.yq_core.specs.PlainText.{begins_marker}
+use Rattle.yq_core.specs.Alike.{fresh}
+use Rattle.yq_core.specs.Nodes.{Key, Sep, last, comma, FlowNode, Items, none, item, key_text, sep_text, node_text, flow_items_text}
+use Rattle.yq_core.specs.Trees.{inner, key_content}
+use Rattle.yq_core.proofs.NodeAgain.{items_longer}
+use Rattle.yq_core.proofs.NodesWrittenLaws.{sep_append}
+use Rattle.yq_flow_edits.specs.FlowEdits.{Becomes, FlowEdit}
+use Rattle.yq_flow_edits.specs.Removals.{before_next, edit_from_item, comma_left, ends_marked, gap_of, last_gone, last_out, last_removed, next_text, removing_from, space_to, with_gap}
+use Rattle.yq_flow_edits.proofs.ItemLaws.{put_before, becomes_same}
+use Rattle.yq_flow_edits.proofs.ItemSwaps.{item_cut, text_cut}
+
+-- ---- one of two, and what is made of one
+
+pub either : {A : Type 0} {y : A} (a b : Option A) → option_or a b ≡ Some y → (a ≡ Some y) ⊎ (b ≡ Some y)
+either None b is = inr is
+either (Some x) b is = inl is
+
+pub option_some : {A B : Type 0} (f : A → B) (o : Option A) (y : B) → option_map f o ≡ Some y → (x : A) × (o ≡ Some x) × (f x ≡ y)
+option_some f None y e = absurd (none-some _ e)
+option_some f (Some x) y e = (x, refl, same_Some _ _ e)
+
+-- ---- what stands behind an item
+
+-- the text between an item and the gap before the next one
+pub sep_front : Sep → List ℕ
+sep_front (last b) = b
+sep_front (comma b g) = b ++ (44 ∷ [])
+
+sep_with : (h : List ℕ) (sep : Sep) (x : List ℕ) → sep_text (with_gap h sep) x ≡ sep_front sep ++ (h ++ x)
+unfolding sep_front
+sep_with h (last b) x = append_assoc b h x
+sep_with h (comma b g) x = sym (append_assoc b (44 ∷ []) (h ++ x))
+
+sep_own : (sep : Sep) (x : List ℕ) → sep_text sep x ≡ sep_front sep ++ (gap_of sep ++ x)
+unfolding sep_front
+sep_own (last b) x = refl
+sep_own (comma b g) x = sym (append_assoc b (44 ∷ []) (g ++ x))
+
+-- the text of items behind a gap, from the gap before the next one on
+front_cut : (g : List ℕ) (key : Key) (n : FlowNode) (f z : List ℕ) → g ++ key_text key (node_text n (f ++ z)) ≡ (g ++ (key_text key (node_text n []) ++ f)) ++ z
+front_cut g key n f z = search (rules, text_cut, append_assoc)
+
+pub behind_cut : (g : List ℕ) (key : Key) (n : FlowNode) (sep : Sep) (x : List ℕ) → g ++ key_text key (node_text n (sep_text sep x)) ≡ (g ++ (key_text key (node_text n []) ++ sep_front sep)) ++ (gap_of sep ++ x)
+behind_cut g key n sep x = ap (λ l. g ++ key_text key (node_text n l)) (sep_own sep x) ∙ front_cut g key n (sep_front sep) (gap_of sep ++ x)
+
+-- ---- the bytes
+
+-- What is known of the bytes of an item that is taken out of items behind a gap.
+pub record RemovedText (k : ℕ) (rest g : List ℕ) (is : Items) (e : FlowEdit) : Type 0 where
+  pub text : Becomes (g ++ flow_items_text k is rest) (e.gap ++ flow_items_text k e.items rest) e.old (e.lead ++ e.written) e.behind
+  pub none_written : e.written ≡ []
+  pub longer : length rest ≤ length e.behind
+  pub lead : (e.lead ≡ []) ⊎ ((e.lead ≡ 32 ∷ []) ⊎ (e.lead ≡ 44 ∷ []))
+
+-- up to the next one
+before_text : (k : ℕ) (rest g : List ℕ) (key : Key) (n : FlowNode) (sep : Sep) (is : Items) (e : FlowEdit) → before_next k rest g key n sep is ≡ Some e → RemovedText k rest g (item key n sep is) e
+unfolding flow_items_text
+before_text k rest g key n sep none e at = absurd (none-some _ at)
+before_text k rest g key n sep (item key2 n2 sep2 is) e at =
+    let y : List ℕ = flow_items_text k (item key2 n2 sep2 is) rest in
+    let own : List ℕ = key_text key2 (node_text n2 []) in
+    subst (RemovedText k rest g (item key n sep (item key2 n2 sep2 is))) (same_Some _ _ at) (record {
+      text = record {
+        before = g;
+        was = ap (λ l. g ++ l) (item_cut key n sep y);
+        is = append_assoc g (space_to g own) y ∙ ap (λ l. g ++ (l ++ y)) (sym (append-nil (space_to g own)));
+      };
+      none_written = refl;
+      longer = omega (arith, items_longer k (item key2 n2 sep2 is) rest);
+      lead = cond_both (fresh false g && begins_marker own) (32 ∷ []) [] (λ (l : List ℕ). (l ≡ []) ⊎ ((l ≡ 32 ∷ []) ⊎ (l ≡ 44 ∷ []))) (λ _. inr (inl refl)) (λ _. inl refl);
+    })
+
+-- from the end of one to that of the next one
+pub next_is : (sep : Sep) (key : Key) (n : FlowNode) (u : List ℕ) → next_text sep key n ++ u ≡ sep_text sep (key_text key (node_text n u))
+next_is sep key n u = sym (ap (sep_text sep) (text_cut key n u) ∙ sep_append sep (key_text key (node_text n [])) u)
+
+-- An item before the last one has another separator when that is taken out, and these bytes give way.
+pub record LastBytes (k : ℕ) (rest : List ℕ) (sep : Sep) (key : Key) (n : FlowNode) (sep2 left : Sep) (old lead behind : List ℕ) : Type 0 where
+  pub was : old ++ behind ≡ sep_text sep (key_text key (node_text n (sep_text sep2 (k ∷ rest))))
+  pub is : lead ++ behind ≡ sep_text left (k ∷ rest)
+  pub longer : length rest ≤ length behind
+  pub lead_is : (lead ≡ []) ⊎ ((lead ≡ 32 ∷ []) ⊎ (lead ≡ 44 ∷ []))
+
+pub gone_bytes : (k : ℕ) (rest : List ℕ) (sep : Sep) (key : Key) (n : FlowNode) (sep2 : Sep) → LastBytes k rest sep key n sep2 sep2 (next_text sep key n) [] (sep_text sep2 (k ∷ rest))
+gone_bytes k rest sep key n sep2 = record { was = next_is sep key n (sep_text sep2 (k ∷ rest)); is = refl; longer = longer sep2; lead_is = inl refl }
+  where
+    longer : (s : Sep) → length rest ≤ length (sep_text s (k ∷ rest))
+    longer (last b) = omega (arith, length-append b (k ∷ rest))
+    longer (comma b h) = omega (arith, length-append b (44 ∷ (h ++ (k ∷ rest))), length-append h (k ∷ rest))
+
+pub comma_new_bytes : (k : ℕ) (rest : List ℕ) (sep : Sep) (key : Key) (n : FlowNode) (b : List ℕ) → LastBytes k rest sep key n (last b) (comma [] b) (next_text sep key n) (44 ∷ []) (b ++ (k ∷ rest))
+comma_new_bytes k rest sep key n b = record { was = next_is sep key n (b ++ (k ∷ rest)); is = refl; longer = omega (arith, length-append b (k ∷ rest)); lead_is = inr (inr refl) }
+
+pub comma_old_bytes : (k : ℕ) (rest : List ℕ) (sep : Sep) (key : Key) (n : FlowNode) (b h : List ℕ) → LastBytes k rest sep key n (comma b h) (comma [] h) (next_text sep key n ++ b) [] (44 ∷ (h ++ (k ∷ rest)))
+comma_old_bytes k rest sep key n b h = record {
+  was = append_assoc (next_text sep key n) b (44 ∷ (h ++ (k ∷ rest))) ∙ next_is sep key n (b ++ (44 ∷ (h ++ (k ∷ rest))));
+  is = refl;
+  longer = omega (arith, length-append h (k ∷ rest));
+  lead_is = inl refl;
+}
+
+last_bytes : (k : ℕ) (rest g : List ℕ) (key : Key) (n : FlowNode) (sep : Sep) (key2 : Key) (n2 : FlowNode) (sep2 left : Sep) (old lead behind : List ℕ) → LastBytes k rest sep key2 n2 sep2 left old lead behind →
+    RemovedText k rest g (item key n sep (item key2 n2 sep2 none)) (record { gap = g; items = item key n left none; old = old; lead = lead; written = []; behind = behind })
+unfolding flow_items_text
+last_bytes k rest g key n sep key2 n2 sep2 left old lead behind h =
+    let own : List ℕ = key_text key (node_text n []) in
+    let cut : (t : List ℕ) → g ++ key_text key (node_text n t) ≡ (g ++ own) ++ t = λ t. ap (λ l. g ++ l) (text_cut key n t) ∙ sym (append_assoc g own t) in
+    record {
+      text = record {
+        before = g ++ own;
+        was = cut (sep_text sep (key_text key2 (node_text n2 (sep_text sep2 (k ∷ rest))))) ∙ ap (λ l. (g ++ own) ++ l) (sym h.was);
+        is = cut (sep_text left (k ∷ rest)) ∙ (ap (λ l. (g ++ own) ++ l) (sym h.is) ∙ ap (λ l. (g ++ own) ++ (l ++ behind)) (sym (append-nil lead)));
+      };
+      none_written = refl;
+      longer = h.longer;
+      lead = h.lead_is;
+    }
+
+last_text : (k : ℕ) (rest : List ℕ) (s : Step) (g : List ℕ) (key : Key) (n : FlowNode) (sep : Sep) (is : Items) (e : FlowEdit) → last_out k rest s g key n sep is ≡ Some e → RemovedText k rest g (item key n sep is) e
+last_text k rest s g key n sep none e at = absurd (none-some _ at)
+last_text k rest s g key n sep (item key2 n2 sep2 (item key3 n3 sep3 is)) e at = absurd (none-some _ at)
+last_text k rest s g key n sep (item key2 n2 sep2 none) e at = go (is_here s (inner (key_content key2))) at
+  where
+    commas : (sep2 : Sep) → RemovedText k rest g (item key n sep (item key2 n2 sep2 none)) (comma_left k rest g key n sep key2 n2 sep2)
+    commas (last b) = last_bytes k rest g key n sep key2 n2 (last b) (comma [] b) _ _ _ (comma_new_bytes k rest sep key2 n2 b)
+    commas (comma b h) = last_bytes k rest g key n sep key2 n2 (comma b h) (comma [] h) _ _ _ (comma_old_bytes k rest sep key2 n2 b h)
+
+    known : RemovedText k rest g (item key n sep (item key2 n2 sep2 none)) (last_removed k rest g key n sep key2 n2 sep2)
+    known =
+        cond_both (ends_marked (fresh false g) (key_text key (node_text n []))) (comma_left k rest g key n sep key2 n2 sep2) (last_gone k rest g key n sep key2 n2 sep2)
+        (RemovedText k rest g (item key n sep (item key2 n2 sep2 none))) (λ _. commas sep2) (λ _. last_bytes k rest g key n sep key2 n2 sep2 sep2 _ _ _ (gone_bytes k rest sep key2 n2 sep2))
+
+    go : (b : Bool) → cond b (Some (last_removed k rest g key n sep key2 n2 sep2)) None ≡ Some e → RemovedText k rest g (item key n sep (item key2 n2 sep2 none)) e
+    go true at = subst (RemovedText k rest g (item key n sep (item key2 n2 sep2 none))) (same_Some _ _ at) known
+    go false at = absurd (none-some _ at)
+
+-- of the items from another one on
+behind_text : (k : ℕ) (rest g : List ℕ) (key : Key) (n : FlowNode) (sep : Sep) (is : Items) (e : FlowEdit) → RemovedText k rest (gap_of sep) is e → RemovedText k rest g (item key n sep is) (edit_from_item g key n sep e)
+unfolding flow_items_text
+behind_text k rest g key n sep is e h =
+    let f : List ℕ = sep_front sep in
+    let new : g ++ key_text key (node_text n (sep_text (with_gap e.gap sep) (flow_items_text k e.items rest))) ≡ (g ++ (key_text key (node_text n []) ++ f)) ++ (e.gap ++ flow_items_text k e.items rest) =
+    ap (λ l. g ++ key_text key (node_text n l)) (sep_with e.gap sep (flow_items_text k e.items rest)) ∙ front_cut g key n f (e.gap ++ flow_items_text k e.items rest) in
+    record {
+      text = becomes_same _ _ _ _ e.old (e.lead ++ e.written) e.behind (behind_cut g key n sep (flow_items_text k is rest)) new (put_before (g ++ (key_text key (node_text n []) ++ f)) (gap_of sep ++ flow_items_text k is rest) (e.gap ++ flow_items_text k e.items rest) e.old (e.lead ++ e.written) e.behind h.text);
+      none_written = h.none_written;
+      longer = h.longer;
+      lead = h.lead;
+    }
+
+pub removed_text : (k : ℕ) (rest : List ℕ) (s : Step) (g : List ℕ) (is : Items) (e : FlowEdit) → removing_from k rest s g is ≡ Some e → RemovedText k rest g is e
+removed_text k rest s g none e at = absurd (none-some _ at)
+removed_text k rest s g (item key n sep is) e at = go (is_here s (inner (key_content key))) (λ x. removed_text k rest (further s) (gap_of sep) is x) at
+  where
+    behind : ((x : FlowEdit) → removing_from k rest (further s) (gap_of sep) is ≡ Some x → RemovedText k rest (gap_of sep) is x) →
+        (last_out k rest (further s) g key n sep is ≡ Some e) ⊎ (option_map (edit_from_item g key n sep) (removing_from k rest (further s) (gap_of sep) is) ≡ Some e) → RemovedText k rest g (item key n sep is) e
+    behind again (inl at) = last_text k rest (further s) g key n sep is e at
+    behind again (inr at) =
+        let x = option_some (edit_from_item g key n sep) (removing_from k rest (further s) (gap_of sep) is) e at in
+        subst (RemovedText k rest g (item key n sep is)) x.2 (behind_text k rest g key n sep is x.0 (again x.0 x.1))
+
+    go : (b : Bool) → ((x : FlowEdit) → removing_from k rest (further s) (gap_of sep) is ≡ Some x → RemovedText k rest (gap_of sep) is x) →
+        cond b (before_next k rest g key n sep is) (option_or (last_out k rest (further s) g key n sep is) (option_map (edit_from_item g key n sep) (removing_from k rest (further s) (gap_of sep) is))) ≡ Some e →
+        RemovedText k rest g (item key n sep is) e
+    go true again at = before_text k rest g key n sep is e at
+    go false again at = behind again (either _ _ at)

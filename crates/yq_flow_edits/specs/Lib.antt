@@ -1,0 +1,15 @@
+pub use Rattle.yq_core.specs.Answers
+pub use Rattle.yq_core.specs.Plain
+pub use Rattle.yq_core.specs.Piece
+pub use Rattle.yq_core.specs.Quoted
+pub use Rattle.yq_core.specs.Scalar
+pub use Rattle.yq_core.specs.Text
+pub mod Valued
+pub mod FlowEdits
+pub mod Removals
+pub mod FlowPlaces
+pub mod FlowValues
+pub use Rattle.yq_core.specs.Keys
+pub use Rattle.yq_core.specs.Paths
+pub use Rattle.yq_core.specs.Tree
+pub use Rattle.yq_core.specs.Writable

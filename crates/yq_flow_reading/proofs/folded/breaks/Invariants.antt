@@ -1,9 +1,0 @@
-use Rattle.std.proofs.Common.{◌≡◌, ◌≤◌, ◌+◌, length}
-use Rattle.yq_flow_scalars.specs.ContentReading as spec
-use Rattle.yq_flow_reading.proofs.folded.breaks.Given as goal
-
-abbrev pub decreases-each : goal.decreases-each
-decreases-each l = length l.rest
-
-abbrev pub invariant-each : goal.invariant-each
-invariant-each l = record { within : l.n + length l.rest ≤ length l.text; so_far : l.n + spec.breaks l.rest ≡ spec.breaks l.text }

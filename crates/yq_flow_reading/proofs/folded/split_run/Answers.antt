@@ -1,5 +1,0 @@
-use Rattle.yq_flow_scalars.proofs.ItemLaws.{boundary_run}
-use Rattle.yq_flow_reading.proofs.folded.split_run.Goals as goal
-
-pub split_at-requires : goal.split_at-requires
-split_at-requires c = boundary_run c.args.quote c.args.text.now _ (rw c.as_bytes.ensures.value at c.run_len.ensures)

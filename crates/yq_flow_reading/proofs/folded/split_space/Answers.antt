@@ -1,5 +1,0 @@
-use Rattle.yq_flow_scalars.proofs.ItemLaws.{boundary_space}
-use Rattle.yq_flow_reading.proofs.folded.split_space.Goals as goal
-
-pub split_at-requires : goal.split_at-requires
-split_at-requires c = boundary_space c.args.text.now _ (rw c.as_bytes.ensures.value at c.space_len.ensures) c.utf8.text

@@ -1,6 +1,0 @@
-use Rattle.std.proofs.Common.{◌∙◌}
-use Rattle.yq_flow_reading.proofs.IntegerLaws.{decimal_parsed}
-use Rattle.yq_flow_reading.proofs.integer.decimal_value.Goals as goal
-
-pub returns : goal.returns
-returns c = c.ok.ensures.value ∙ decimal_parsed c.args.text.now _ c.from_str_radix.ensures.value

@@ -1,9 +1,0 @@
-use Rattle.std.proofs.Common.{◌≡◌, length}
-use Rattle.yq_flow_scalars.specs.PlainText.{no_rest, needs_quotes}
-use Rattle.yq_flow_reading.proofs.plain_text.needs_no_quotes.Given as goal
-
-abbrev pub decreases-each : goal.decreases-each
-decreases-each l = length l.rest
-
-abbrev pub invariant-each : goal.invariant-each
-invariant-each l = no_rest (needs_quotes l.flow) l.rest ≡ no_rest (needs_quotes l.flow) l.text

@@ -1,6 +1,0 @@
-use Rattle.std.proofs.Common.{◌≡◌, ◌++◌, replicate}
-use Rattle.std.specs.String.{string_bytes}
-use Rattle.yq_flow_reading.proofs.pushing.push_spaces.Given as goal
-
-abbrev pub invariant-loop : goal.invariant-loop
-invariant-loop l = string_bytes l.out ≡ string_bytes l.fn.out ++ replicate l.counter 32

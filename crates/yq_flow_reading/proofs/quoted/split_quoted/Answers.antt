@@ -1,5 +1,0 @@
-use Rattle.yq_flow_scalars.proofs.QuotedFound.{quoted_text}
-use Rattle.yq_flow_reading.proofs.quoted.split_quoted.Goals as goal
-
-pub returns-in-Some-clause-found : goal.returns-in-Some-clause-found
-returns-in-Some-clause-found c = quoted_text c.args.text.now _ _ c.in-Some.ensures

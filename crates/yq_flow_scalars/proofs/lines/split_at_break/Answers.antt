@@ -1,5 +1,0 @@
-use Rattle.yq_flow_scalars.proofs.Boundaries.{boundary_break}
-use Rattle.yq_flow_scalars.proofs.lines.split_at_break.Goals as goal
-
-pub split_at-requires : goal.split_at-requires
-split_at-requires c = boundary_break c.args.text.now _ (rw c.as_bytes.ensures.value at c.text_len.ensures)

@@ -1,5 +1,0 @@
-use Rattle.yq_flow_scalars.proofs.Boundaries.{boundary_white}
-use Rattle.yq_flow_scalars.proofs.text.split_white.Goals as goal
-
-pub split_at-requires : goal.split_at-requires
-split_at-requires c = boundary_white c.args.text.now _ (rw c.as_bytes.ensures.value at c.whites_len.ensures.value) c.utf8.text

@@ -1,0 +1,86 @@
+use Rattle.std.proofs.Common.{inl, inr, refl, ap, ◌∙◌}
+use Rattle.yq_history.proofs.MoveLaws.{first_write, second_write, third_write, same_content, moved_journal, on_err, on_ok_map, on_err_map, either}
+use Rattle.std.proofs.Common.{refl, sym, ap, ◌∙◌}
+use Rattle.yq_history.proofs.CutLaws.{cut_unwritten, cut_opened, cut_changed, cut_settled}
+use Rattle.std.specs.FinMap.{get}
+use Rattle.yq_store.specs.FileMap.{get_written}
+use Rattle.yq_history.proofs.EffectLaws.{on_ok}
+use Rattle.std.proofs.lemmas.Option.{none-some}
+use Rattle.yq_history.specs.Faults.{failures_after}
+use Rattle.yq_history.proofs.FaultLaws.{all_outside, way_there}
+use Rattle.yq_history.proofs.moves.carry_out.Goals as goal
+
+pub returns : goal.returns
+returns g c =
+    let free = way_there c.args.state.now c.args.step c.args.old.items _ c.requires.at_rest c.requires.moves c.in_ok-start_with.ensures.free in
+    record {
+      ok = λ keeps apart h k.
+          on_ok_map _ (c.write_journal-2.ensures.ok keeps)
+          (third_write _ _ apart _ _ _ _ _ _ _ k c.requires.moves _ _ _ _ c.requires.changes c.in_ok-start_with.ensures.ok (c.in_ok-replace.ensures.written keeps) c.in_ok-finish.ensures.ok);
+      err = λ keeps apart h k.
+          let put = c.in_ok-replace.ensures.written keeps in
+          on_err_map _ (c.write_journal-2.ensures.err keeps)
+          (λ x. inr (either x
+          (λ same. same_content _ _ _ _ _ same (second_write _ _ apart _ _ _ _ _ _ _ k c.requires.moves _ _ c.requires.changes c.in_ok-start_with.ensures.ok (c.in_ok-write_journal.ensures.ok keeps) put))
+          (third_write _ _ apart _ _ _ _ _ _ _ k c.requires.moves _ _ _ _ c.requires.changes c.in_ok-start_with.ensures.ok put c.in_ok-finish.ensures.ok)));
+      text = λ keeps apart.
+          on_ok c.write_journal-2.result
+          (c.write_journal-2.ensures.others keeps c.args.file.now apart ∙ ap (λ m. get m c.args.file.now) (c.in_ok-replace.ensures.written keeps) ∙ get_written _ c.args.file.now _);
+      moved = λ keeps. on_ok_map _ (c.write_journal-2.ensures.ok keeps)
+          (moved_journal _ c.args.state.now _ _ c.args.step _ _ _ _ c.requires.moves c.requires.changes c.in_ok-start_with.ensures.ok c.in_ok-finish.ensures.ok);
+      cut = λ keeps apart.
+          let put = c.in_ok-replace.ensures.written keeps in
+          let file = c.write_journal-2.ensures.others keeps c.args.file.now apart ∙ ap (λ m. get m c.args.file.now) put ∙ get_written _ c.args.file.now _ in
+          on_err_map _ (c.write_journal-2.ensures.err keeps)
+          (λ x. either x
+          (λ same. cut_changed _ _ _ _ _ _ apart _ _ c.in_ok-start_with.ensures.ok (c.in_ok-write_journal.ensures.ok keeps) _ (same ∙ put))
+          (λ w. cut_settled _ _ _ _ _ _ _ file
+          (moved_journal _ c.args.state.now _ _ c.args.step _ _ _ _ c.requires.moves c.requires.changes c.in_ok-start_with.ensures.ok c.in_ok-finish.ensures.ok w)));
+      fault = all_outside _ c.write_journal-2.result c.write_journal-2.ensures.outside;
+      refused = λ f why.
+          absurd (none-some f (sym free ∙ why));
+      kept = λ keeps. all_outside _ c.write_journal-2.result c.write_journal-2.ensures.outside;
+      barred = λ keeps barred.
+          absurd (barred free);
+      others = λ keeps q apart beside. c.write_journal-2.ensures.others keeps q beside ∙ c.in_ok-replace.ensures.others keeps q apart ∙ c.in_ok-write_journal.ensures.others keeps q beside;
+      no_output = c.write_journal-2.ensures.no_output;
+      count = c.write_journal-2.ensures.count ∙ ap (failures_after c.write_journal-2.result) (c.in_ok-replace.ensures.count ∙ c.in_ok-write_journal.ensures.count);
+    }
+
+pub returns-in_err-write_journal-clause-err : goal.returns-in_err-write_journal-clause-err
+returns-in_err-write_journal-clause-err g c = λ keeps apart h k. on_err _ (inl
+    (either (c.in_err-write_journal.ensures.err keeps)
+    (λ same. same_content _ _ _ _ _ same k.stands)
+    (λ w. first_write _ _ apart _ _ _ _ _ _ _ k c.requires.moves _ c.requires.changes c.in_ok-start_with.ensures.ok w)))
+
+pub returns-in_err-replace-clause-err : goal.returns-in_err-replace-clause-err
+returns-in_err-replace-clause-err g c = λ keeps apart h k.
+    let w = c.in_ok-write_journal.ensures.ok keeps in
+    on_err _
+    (either (c.in_err-replace.ensures.err keeps)
+    (λ same. inl (same_content _ _ _ _ _ same (first_write _ _ apart _ _ _ _ _ _ _ k c.requires.moves _ c.requires.changes c.in_ok-start_with.ensures.ok w)))
+    (λ put. inr (second_write _ _ apart _ _ _ _ _ _ _ k c.requires.moves _ _ c.requires.changes c.in_ok-start_with.ensures.ok w put)))
+
+pub returns-in_err-finish-clause-err : goal.returns-in_err-finish-clause-err
+returns-in_err-finish-clause-err g c = λ keeps apart h k.
+    on_err _ (inr (second_write _ _ apart _ _ _ _ _ _ _ k c.requires.moves _ _ c.requires.changes c.in_ok-start_with.ensures.ok
+    (c.in_ok-write_journal.ensures.ok keeps) (c.in_ok-replace.ensures.written keeps)))
+
+pub returns-in_err-write_journal-clause-cut : goal.returns-in_err-write_journal-clause-cut
+returns-in_err-write_journal-clause-cut g c = λ keeps apart.
+    on_err _
+    (either (c.in_err-write_journal.ensures.err keeps)
+    (cut_unwritten _ _ _ _ _ _ _)
+    (λ w. cut_opened _ _ _ _ _ _ apart _ _ c.in_ok-start_with.ensures.ok w _ refl))
+
+pub returns-in_err-replace-clause-cut : goal.returns-in_err-replace-clause-cut
+returns-in_err-replace-clause-cut g c = λ keeps apart.
+    let w = c.in_ok-write_journal.ensures.ok keeps in
+    on_err _
+    (either (c.in_err-replace.ensures.err keeps)
+    (cut_opened _ _ _ _ _ _ apart _ _ c.in_ok-start_with.ensures.ok w _)
+    (cut_changed _ _ _ _ _ _ apart _ _ c.in_ok-start_with.ensures.ok w _))
+
+pub returns-in_err-finish-clause-cut : goal.returns-in_err-finish-clause-cut
+returns-in_err-finish-clause-cut g c = λ keeps apart.
+    on_err _ (cut_changed _ _ _ _ _ _ apart _ _ c.in_ok-start_with.ensures.ok (c.in_ok-write_journal.ensures.ok keeps) _ (c.in_ok-replace.ensures.written keeps))

@@ -1,0 +1,18 @@
+use Rattle.std.proofs.Common.{Err, ap, ◌∙◌}
+use Rattle.std.specs.FinMap.{get}
+use Rattle.std.proofs.lemmas.Result.{err_from_is_err_and}
+use Rattle.yq_history.specs.Effects.{move_effect}
+use Rattle.yq_history.specs.Directions.{walk_move}
+use Rattle.yq_history.proofs.EffectLaws.{not_opened, from_opened}
+use Rattle.yq_history.proofs.undoing.move_file.Goals as goal
+
+pub returns-in_err-text-clause-effect : goal.returns-in_err-text-clause-effect
+returns-in_err-text-clause-effect g c = λ keeps apart.
+    let p = err_from_is_err_and c.from_residual.result c.from_residual.ensures.1 in
+    not_opened _ _ (move_effect (walk_move c.args.dir)) _ _ _ _ c.from_residual.result _ (p.1 ∙ ap Err p.2) (c.in_err-text.ensures.same keeps) (c.in_err-text.ensures.missed keeps)
+
+pub returns-clause-effect : goal.returns-clause-effect
+returns-clause-effect g c = λ keeps apart.
+    let same = c.in_ok-text.ensures.same keeps in
+    from_opened _ _ (move_effect (walk_move c.args.dir)) _ _ (g.D.Store.content c.args.store.now) _ _ c.in_ok-text.text.items c.in_ok-text.state c.move_from.result same (c.in_ok-text.ensures.found keeps (move_effect (walk_move c.args.dir)))
+    (c.move_from.ensures.effect keeps apart (ap (λ m. get m c.args.file.now) same ∙ c.in_ok-text.ensures.text keeps))

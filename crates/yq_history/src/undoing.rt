@@ -1,0 +1,113 @@
+//! Undo and redo of a file and its journal.
+ghost use Rattle.std.specs.Prelude.{◌≡◌, ◌≢◌, ◌⊎◌, ℕ, List, Option, Some, None, false, IsTrue, IsNone, IfErr, OnOk, OnErr};
+ghost use Rattle.std.specs.FinMap as map;
+ghost use Rattle.yq_journal.specs.Good.{after_move};
+ghost use Rattle.yq_journal.specs.History.{History};
+ghost use Rattle.yq_journal.specs.Refusals.{way_fault};
+ghost use Rattle.yq_journal.specs.State.{journal_after, moved_text};
+ghost use Rattle.yq_history.specs.Effects.{Works, from_names, move_effect};
+ghost use Rattle.yq_history.specs.Faults.{is_outer_fault, is_output, failures_after};
+ghost use Rattle.yq_history.specs.Pair.{Arrives, GoodIn, IsJournal, OthersStay, PairAtRest, PairStands};
+ghost use Rattle.yq_history.specs.Steps.{move_cause, move_next};
+ghost use Rattle.yq_history.specs.Directions.{walk_move};
+
+use crate::{Direction, Fault, carry_out, open_pair, write_journal};
+use std::alloc::Global;
+use yq_journal::Journal;
+use yq_store::Store;
+
+/// Carries out an undo or redo that leaves the text equal: the settled journal alone is written.
+fn move_only<D: Store>(
+    alloc: Global,
+    store: &mut D,
+    journal: &str,
+    state: &mut Journal,
+    dir: Direction,
+    text: &[u8],
+) -> Result<(), Fault>
+    requires at_rest { IsNone state.old.pending }
+    requires way { way_fault state.old.records state.old.at (walk_move dir) text.now ≡ None }
+    requires equal { moved_text state.old.records state.old.at (walk_move dir) text.now ≡
+        Some text.now }
+    ensures ok { IsTrue D.keeps → (file : List ℕ) → file ≢ journal.now → (h : History) →
+        PairAtRest (D.content store.old) file journal.now state.old text.now h →
+        OnOk result (PairStands (D.content store.new) file journal.now
+        (after_move h (walk_move dir) text.now)) }
+    ensures err { IsTrue D.keeps → (file : List ℕ) → file ≢ journal.now → (h : History) →
+        PairAtRest (D.content store.old) file journal.now state.old text.now h →
+        OnErr result (PairStands (D.content store.new) file journal.now h ⊎ PairStands (D.content store.new)
+        file journal.now (after_move h (walk_move dir) text.now)) }
+    ensures moved { IsTrue D.keeps → OnOk result (IsJournal (map.get (D.content store.new) journal.now)
+        (journal_after state.old (walk_move dir))) }
+    ensures cut { IsTrue D.keeps → OnErr result ((D.content store.new ≡ D.content store.old)
+        ⊎ IsJournal (map.get (D.content store.new) journal.now) (journal_after state.old (walk_move dir))) }
+    ensures outside { IfErr result (λ e. IsTrue (is_outer_fault e)) }
+    ensures others { IsTrue D.keeps → (q : List ℕ) → q ≢ journal.now →
+        map.get (D.content store.new) q ≡ map.get (D.content store.old) q }
+    ensures no_output { IfErr result (λ e. is_output e ≡ false) }
+    ensures count { D.failures store.new ≡ failures_after result (D.failures store.old) }
+{
+    dir.make(state, text)?;
+    write_journal(alloc, store, journal, state)
+}
+
+/// Carries out an undo or a redo beside a settled journal.
+fn move_from<D: Store>(
+    alloc: Global,
+    store: &mut D,
+    file: &str,
+    journal: &str,
+    state: &mut Journal,
+    dir: Direction,
+    text: Vec<u8>,
+) -> Result<(), Fault>
+    requires at_rest { IsNone state.old.pending }
+    ensures arrives { IsTrue D.keeps → file.now ≢ journal.now → (h : History) →
+        PairAtRest (D.content store.old) file.now journal.now state.old text.items h →
+        Arrives (D.content store.new) file.now journal.now (move_cause (walk_move dir) (Some h))
+        (Some h) (move_next (walk_move dir) (Some h)) result }
+    ensures effect { IsTrue D.keeps → file.now ≢ journal.now →
+        map.get (D.content store.old) file.now ≡ Some text.items →
+        Works (move_effect (walk_move dir) text.items state.old) file.now journal.now
+        (D.content store.old) (D.content store.new) result }
+    ensures kept { IsTrue D.keeps → IfErr result (λ e. is_outer_fault e ≡ false →
+        D.content store.new ≡ D.content store.old) }
+    ensures others { IsTrue D.keeps → OthersStay (D.content store.old)
+        (D.content store.new) file.now journal.now }
+    ensures no_output { IfErr result (λ e. is_output e ≡ false) }
+    ensures count { D.failures store.new ≡ failures_after result (D.failures store.old) }
+{
+    let old = text.as_slice();
+    let new = state.target(alloc, &dir.step(), old)?;
+    if new.as_slice() == old {
+        move_only(alloc, store, journal, state, dir, old)
+    } else {
+        carry_out(alloc, store, file, journal, state, dir.step(), text, &new)
+    }
+}
+
+/// Undoes or redoes an edit of a file.
+pub fn move_file<D: Store>(
+    alloc: Global,
+    store: &mut D,
+    file: &str,
+    journal: &str,
+    dir: Direction,
+) -> Result<(), Fault>
+    ensures arrives { IsTrue D.keeps → file.now ≢ journal.now → (h : Option History) →
+        GoodIn (D.content store.old) file.now journal.now h →
+        Arrives (D.content store.new) file.now journal.now (move_cause (walk_move dir) h) h
+        (move_next (walk_move dir) h) result }
+    ensures effect { IsTrue D.keeps → file.now ≢ journal.now →
+        Works (from_names (D.content store.old) file.now journal.now (move_effect (walk_move dir)))
+        file.now journal.now (D.content store.old) (D.content store.new) result }
+    ensures kept { IsTrue D.keeps → IfErr result (λ e. is_outer_fault e ≡ false →
+        D.content store.new ≡ D.content store.old) }
+    ensures others { IsTrue D.keeps → OthersStay (D.content store.old)
+        (D.content store.new) file.now journal.now }
+    ensures no_output { IfErr result (λ e. is_output e ≡ false) }
+    ensures count { D.failures store.new ≡ failures_after result (D.failures store.old) }
+{
+    let (text, mut state) = open_pair(alloc, store, file, journal)?;
+    move_from(alloc, store, file, journal, &mut state, dir, text)
+}

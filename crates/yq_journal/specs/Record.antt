@@ -1,0 +1,55 @@
+-- What an edit did, as splices between two lengths, and what it is to do and to undo it.
+use Rattle.std.specs.Prelude.{◌≡◌, ◌==◌, ℕ, ◌+◌, ◌-◌, ◌^◌, ◌≤◌, ◌&&◌, Bool, true, false, List, [], ◌∷◌, ◌++◌, length, min, codes, if◌then◌else◌, Option, Some, None}
+use Rattle.yq_text.specs.Splice.{Splice, all_done, flipped, lengths_done}
+
+-- a record: an edit's expression, its splices, the lengths of the texts before and after it, and how many edits it stands for (own)
+pub record Record : Type 0 where
+  pub expr : List ℕ
+  pub changes : List Splice
+  pub before_len : ℕ
+  pub after_len : ℕ
+  pub count : ℕ
+
+-- what holds of every record: it stands for an edit at least, and its splices lead from its one length to its other (own)
+pub record IsRecord (r : Record) : Type 0 where
+  pub counted : 1 ≤ r.count
+  pub lengths : lengths_done r.changes r.before_len ≡ Some r.after_len
+
+-- whether it is the length that was reached (own)
+abbrev pub is_length : Option ℕ → ℕ → Bool
+is_length None n = false
+is_length (Some m) n = m == n
+
+-- the text that was reached, where it has that length (own)
+abbrev pub if_length : ℕ → Option (List ℕ) → Option (List ℕ)
+if_length n None = None
+if_length n (Some b) = if length b == n then Some b else None
+
+-- the text that an edit leads to from this one, where its record stands before it (own)
+abbrev pub done : Record → List ℕ → Option (List ℕ)
+done r b = if length b == r.before_len then if_length r.after_len (all_done r.changes b) else None
+
+-- the text that it led from to this one, where its record stands after it (own)
+abbrev pub undone : Record → List ℕ → Option (List ℕ)
+undone r b = if length b == r.after_len then if_length r.before_len (all_done (flipped r.changes) b) else None
+
+-- two records as one: the expressions joined by " | ", the splices in order, the lengths of the ends, the sum of the counts as far as 64 bits go (own)
+abbrev pub join : Record → Record → Record
+join r q = record {
+  expr = r.expr ++ codes " | " ++ q.expr;
+  changes = r.changes ++ q.changes;
+  before_len = r.before_len;
+  after_len = q.after_len;
+  count = min (r.count + q.count) (2 ^ 64 - 1);
+}
+
+-- a record and those after it as one (own)
+abbrev pub records_joined : Record → List Record → Record
+records_joined r [] = r
+records_joined r (q ∷ qs) = records_joined (join r q) qs
+
+-- whether each record ends with the length with which the next one begins (own)
+abbrev pub meet : List Record → Bool
+meet [] = true
+meet (r ∷ []) = true
+meet (r ∷ q ∷ qs) = (r.after_len == q.before_len) && meet (q ∷ qs)

@@ -1,0 +1,102 @@
+//! A record of an edit, and what it does to a text.
+ghost use Rattle.std.specs.Prelude.{◌≡◌, ◌↔◌, ℕ, List, Some, IfOk, IfErr};
+ghost use Rattle.std.specs.String.{string_bytes};
+ghost use Rattle.yq_text.specs.Splice.{lengths_done};
+ghost use Rattle.yq_journal.specs.Record.{Record, done, undone};
+ghost use Rattle.yq_journal.specs.Refusals.{ErrorIs, if_moves};
+
+use crate::fault::{JournalError, JournalFault};
+use crate::gap::spliced;
+use std::alloc::Global;
+use std::marker::Model;
+use yq_text::Splice;
+
+/// What an edit did: its expression, its splices in order, and the lengths
+/// in bytes of the texts before and after it.
+#[derive(Drop)]
+pub struct Record {
+    pub expr: String,
+    pub splices: Vec<Splice>,
+    pub before_len: u64,
+    pub after_len: u64,
+    /// How many edits it stands for.
+    pub count: u64,
+}
+
+impl Model for Record {
+    ghost use Rattle.std.specs.String.{string_bytes};
+    ghost use Rattle.yq_journal.specs.Record.{Record, IsRecord};
+
+    ghost Value = { Record };
+
+    ghost view = { λ r. record { expr = string_bytes r.expr; changes = r.splices.items; before_len = r.before_len; after_len = r.after_len; count = r.count } };
+
+    ghost invariant = { λ r. IsRecord (record {
+      expr = string_bytes r.expr;
+      changes =
+          r.splices.items;
+      before_len = r.before_len;
+      after_len = r.after_len;
+      count = r.count;
+    }) };
+}
+
+impl Record {
+    /// The record of one edit, on condition that each splice lies within the
+    /// length reached so far and the lengths end at `after_len`.
+    pub fn new(expr: String, splices: Vec<Splice>, before_len: u64, after_len: u64) -> Record
+        requires { lengths_done splices.items before_len ≡ Some after_len }
+        ensures { result ≡ record {
+          expr = string_bytes expr;
+          changes = splices.items;
+          before_len =
+              before_len;
+          after_len = after_len;
+          count = 1;
+        } }
+    {
+        Record {
+            expr,
+            splices,
+            before_len,
+            after_len,
+            count: 1,
+        }
+    }
+}
+
+/// The text that an edit leads to from this one: refused as `DoesNotStand`
+/// exactly where its record doesn't stand before it.
+pub fn redo_record(alloc: Global, patch: &Record, text: &[u8]) -> Result<Vec<u8>, JournalError>
+    ensures ok { IfOk result (λ v. done patch.now text.now ≡ Some v.items) }
+    ensures err { IfErr result (λ e. ErrorIs e (if_moves (done patch.now text.now))) }
+{
+    if text.len() as u64 != patch.before_len {
+        return Err(JournalError::Fault(JournalFault::DoesNotStand));
+    }
+    match spliced(alloc, &patch.splices, false, text)? {
+        Some(patched) if patched.len() as u64 == patch.after_len => Ok(patched),
+        _ => Err(JournalError::Fault(JournalFault::DoesNotStand)),
+    }
+}
+
+/// The text from which an edit led to this one: refused as `DoesNotStand`
+/// exactly where its record doesn't stand after it.
+pub fn undo_record(alloc: Global, patch: &Record, text: &[u8]) -> Result<Vec<u8>, JournalError>
+    ensures ok { IfOk result (λ v. undone patch.now text.now ≡ Some v.items) }
+    ensures err { IfErr result (λ e. ErrorIs e (if_moves (undone patch.now text.now))) }
+{
+    if text.len() as u64 != patch.after_len {
+        return Err(JournalError::Fault(JournalFault::DoesNotStand));
+    }
+    match spliced(alloc, &patch.splices, true, text)? {
+        Some(patched) if patched.len() as u64 == patch.before_len => Ok(patched),
+        _ => Err(JournalError::Fault(JournalFault::DoesNotStand)),
+    }
+}
+
+/// What a record did is undone, and what it undid is done again, on every
+/// text on which it stands.
+pub fn record_inverts()
+    ensures { (r : Record) (b c : List ℕ) → (done r b ≡ Some c) ↔ (undone r c ≡ Some b) }
+{}

@@ -1,0 +1,24 @@
+-- The rows of a text with its cut, and what is known of them.
+use Rattle.std.proofs.Common.{◌≡◌, ℕ, ◌<◌, List, length, sym, ap, subst, arith}
+use Rattle.std.proofs.lemmas.List.{length-map}
+use Rattle.std.specs.Prelude.{IfSome, Option}
+use Rattle.yq_row_table.specs.Grammar.{IsCut}
+use Rattle.yq_row_table.specs.View.{RowsView, rows_of, rows_view, slices}
+use Rattle.yq_documents.specs.Reading.{cut_of}
+use Rattle.yq_outline.specs.declared.line_position.KnownItems.{KnownItems}
+use Rattle.yq_outline.specs.Extents.{IsRowsView}
+use Rattle.yq_outline.specs.RowWalk.{AreKnown}
+use Rattle.yq_lookup.specs.declared.places.known_line.KnownLine.{KnownLine}
+use Rattle.yq_lookup.specs.RowWalk.{IsKnownLine}
+
+pub rows_are_view : (t : List ℕ) (s : RowsView) → IsCut t (cut_of t) → s ≡ rows_view (cut_of t) → IsRowsView s
+rows_are_view t s cut rows = record { cut = cut_of t; is = rows; size = omega (arith, ap length cut.text, cut.size) }
+
+pub row_within : (t : List ℕ) (s : RowsView) (i : ℕ) → s ≡ rows_view (cut_of t) → i < length (rows_of (cut_of t)) → i < length s.rows
+row_within t s i rows h = omega (arith, h, ap (λ (x : RowsView). length x.rows) rows, length-map (rows_of (cut_of t)) slices)
+
+pub items_known : (t : List ℕ) (s : RowsView) (k : KnownItems) → s ≡ rows_view (cut_of t) → AreKnown (rows_view (cut_of t)).rows k → AreKnown s.rows k
+items_known t s k rows h = subst (λ (x : RowsView). AreKnown x.rows k) (sym rows) h
+
+pub line_known : (t : List ℕ) (s : RowsView) (o : Option KnownLine) → s ≡ rows_view (cut_of t) → IfSome o (IsKnownLine (rows_view (cut_of t))) → IfSome o (IsKnownLine s)
+line_known t s o rows h = subst (λ (x : RowsView). IfSome o (IsKnownLine x)) (sym rows) h

@@ -1,0 +1,19 @@
+use Rattle.std.proofs.Common.{Some, ap, ◌∙◌}
+use Rattle.yq_row_table.specs.View.{bound_view}
+use Rattle.yq_documents.specs.Reading.{cut_of}
+use Rattle.yq_lookup.proofs.RootPlaceLaws.{written_none, end_there, no_end}
+use Rattle.yq_lookup.proofs.cut_text.CutText.rowless_end.Goals as goal
+
+pub returns-in_err-part : goal.returns-in_err-part
+returns-in_err-part c = rw c.from_residual.ensures (no_end (cut_of c.args.self.now) c.args.doc (c.in_err-part.ensures.value (cut_of c.args.self.now) c.rows-rows.ensures))
+
+pub returns-then-rows_to-part : goal.returns-then-rows_to-part
+returns-then-rows_to-part c =
+    let cut = cut_of c.args.self.now in
+    written_none c.rows-rows.result.now cut c.args.doc c.in_ok-part.part c.rows_to.result (bound_view c.part.result) c.rows-rows.ensures (c.in_ok-part.ensures.value cut c.rows-rows.ensures) (c.rows_to.ensures cut c.rows-rows.ensures) c.part.ensures c.if-rows_to-part.true
+
+pub returns : goal.returns
+returns c =
+    let cut = cut_of c.args.self.now in
+    ap Some (c.part_end.ensures (bound_view c.part.result) c.part.ensures)
+    ∙ end_there c.rows-rows.result.now cut c.args.doc c.in_ok-part.part c.rows_to.result (bound_view c.part.result) c.rows-rows.ensures (c.in_ok-part.ensures.value cut c.rows-rows.ensures) (c.rows_to.ensures cut c.rows-rows.ensures) c.part.ensures c.if-rows_to-part.false

@@ -1,0 +1,22 @@
+use Rattle.std.proofs.Common.{◌≡◌, Bool, true, false, cond, List, refl, ap, ◌∙◌}
+use Rattle.yq_outline.specs.Outline.{Line}
+use Rattle.yq_documents.specs.Reading.{cut_of}
+use Rattle.yq_outline.specs.Lines.{lines_of_rows}
+use Rattle.yq_lookup.specs.Steps.{IndentSteps, first_step, is_kind, steps_in}
+use Rattle.yq_lookup.proofs.StepLaws.{steps_found}
+use Rattle.yq_lookup.proofs.WalkDocuments.{found_document}
+use Rattle.yq_lookup.proofs.cut_text.CutText.step.Goals as goal
+
+-- the step of one kind among those of lines
+step_in : (dashes : Bool) (ls : List Line) → first_step (is_kind dashes) ls ≡ cond dashes (steps_in ls).sequence (steps_in ls).mapping
+step_in true ls = refl
+step_in false ls = refl
+
+pub first_step-requires-clause-document : goal.first_step-requires-clause-document
+first_step-requires-clause-document c =
+    (found_document c.args.self.now c.rows-rows.result.now (cut_of c.args.self.now) c.args.doc c.in-Some.document c.whole-whole.ensures.cut c.rows-rows.ensures c.in-Some.ensures.place c.in-Some.ensures.sound).document.stand
+
+pub returns : goal.returns
+returns c =
+    let f = found_document c.args.self.now c.rows-rows.result.now (cut_of c.args.self.now) c.args.doc c.in-Some.document c.whole-whole.ensures.cut c.rows-rows.ensures c.in-Some.ensures.place c.in-Some.ensures.sound in
+    c.first_step.ensures f.document.stand ∙ (step_in c.args.dashes (lines_of_rows f.document.stand.rows) ∙ ap (λ (x : IndentSteps). cond c.args.dashes x.sequence x.mapping) (steps_found c.rows-rows.result.now (cut_of c.args.self.now) c.args.doc c.in-Some.document f))

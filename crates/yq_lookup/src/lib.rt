@@ -1,0 +1,14 @@
+//! Where nodes, entries and comments stand in a text, found row by row.
+#![tactic(auto)]
+
+mod cut_text;
+mod laws;
+mod places;
+
+pub use cut_text::CutText;
+pub use laws::path_laws::comments_stand;
+pub use laws::piece_laws::{contents_spell, entries_spell, pieces_exist, pieces_hold};
+pub use yq_places::{
+    BlockRoot, Compact, FirstRemoval, FlowHead, Held, HeldRow, LinesAbove, Lone, Mark, NoRows,
+    NodeAt, Removal, Seam, Standing, collection_along, split_break,
+};

@@ -1,0 +1,20 @@
+//! Where entries and items stand in block collections.
+ghost use Rattle.std.specs.Prelude.{◌≡◌, ◌<◌, ◌-◌, option_map};
+ghost use Rattle.yq_places.specs.EntryReading as spec;
+ghost use Rattle.yq_documents.specs.Pieces.{span};
+ghost use Rattle.yq_documents.specs.Reading.{cut_of};
+
+use crate::cut_text::CutText;
+use yq_documents::{Path, Span};
+use yq_places::entry_of;
+
+impl CutText<'_, '_> {
+    /// The place of the entry or item at a path, unless it stands in flow.
+    pub fn entry_place(&self, path: &Path) -> Option<Span>
+        ensures { option_map span result ≡ spec.line_entry_at path.now (cut_of self.now) }
+    {
+        let document = self.stretch(path.doc)?;
+        let _whole = self.whole();
+        entry_of(self.rows(), document, self.known(), &path.steps)
+    }
+}

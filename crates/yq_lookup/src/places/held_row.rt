@@ -1,0 +1,26 @@
+//! Keys and dashes whose line is the last one of its row, with that row and what it holds behind them.
+ghost use Rattle.std.specs.Prelude.{◌≡◌, ◌<◌, IfSome};
+ghost use Rattle.yq_documents.specs.Located.{steps_of};
+ghost use Rattle.yq_documents.specs.Reading.{cut_of};
+ghost use Rattle.yq_places.specs.StandingViews as row_agrees;
+
+use crate::cut_text::CutText;
+use yq_documents::Path;
+use yq_places::{HeldRow, known_along, row_of_last};
+
+impl<'d, 't> CutText<'d, 't> {
+    /// The key or dash of the item or entry at a path with its row, where the row ends in its line. From
+    /// then on it is known what stands on the way of the path.
+    pub fn to_held_row(&mut self, path: &Path) -> Option<HeldRow<'t>>
+        ensures same { self.new ≡ self.old }
+        ensures row { IfSome result (row_agrees.IsHeldRow path.now.doc (steps_of path.now)
+            (cut_of self.old)) }
+    {
+        let text = self.whole();
+        let rows = self.rows();
+        let document = self.stretch(path.doc)?;
+        let (known, at) = known_along(rows, document, self.known(), &path.steps);
+        *self = CutText::resumed(text, rows, known);
+        row_of_last(rows, at?)
+    }
+}

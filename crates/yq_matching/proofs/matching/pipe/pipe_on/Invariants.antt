@@ -1,8 +1,0 @@
-use Rattle.std.proofs.Common.{◌≡◌, drop, map}
-use Rattle.yq_meaning.specs.Pipes as spec
-use Rattle.yq_matching.specs.PlaceView.{places_of}
-use Rattle.yq_program.specs.View.{stage_of}
-use Rattle.yq_matching.proofs.matching.pipe.pipe_on.Given as goal
-
-abbrev pub invariant-stages : goal.invariant-stages
-invariant-stages l = spec.pipe_on l.doc (map stage_of (drop l.stage-index l.pipe)) (places_of l.places.items) ≡ spec.pipe_on l.doc (map stage_of l.pipe) (places_of l.fn.start.items)

@@ -1,0 +1,10 @@
+use Rattle.std.proofs.Common.{◌≡◌, drop}
+use Rattle.yq_core.specs.Trees.{parts_tree}
+use Rattle.yq_core.specs.View.{entries_end}
+use Rattle.yq_core.specs.Paths.{To}
+use Rattle.yq_outline.specs.Labelled.{labelled_at}
+use Rattle.yq_core.proofs.nodes.flow.entry_at.Given as goal
+
+-- what is looked for is what is looked for from here on
+abbrev pub invariant-each : goal.invariant-each
+invariant-each l = labelled_at (To l.key) (parts_tree (entries_end (drop l.entry-index l.entries))) ≡ labelled_at (To l.fn.key) (parts_tree (entries_end l.fn.entries))

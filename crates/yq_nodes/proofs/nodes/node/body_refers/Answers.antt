@@ -1,0 +1,13 @@
+use Rattle.yq_outline.proofs.AliasLaws.{none_part}
+use Rattle.yq_documents.specs.Stretches.{document_lines, number_of}
+use Rattle.yq_core.proofs.nodes.node.body_refers.Goals as goal
+
+pub returns-in-Map : goal.returns-in-Map
+returns-in-Map c = λ no.
+    let u = c.in-Map.under in
+    rw c.in-Map.is (none_part (document_lines u.document u.text.now) (number_of u.document u.text.now u.first) u.floor (c.may_refer.ensures no u.document))
+
+pub returns-in-List : goal.returns-in-List
+returns-in-List c = λ no.
+    let u = c.in-List.under in
+    rw c.in-List.is (none_part (document_lines u.document u.text.now) (number_of u.document u.text.now u.first) u.floor (c.may_refer-in-List.ensures no u.document))

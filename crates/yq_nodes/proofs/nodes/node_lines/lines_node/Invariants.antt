@@ -1,0 +1,13 @@
+use Rattle.std.proofs.Common.{◌≡◌}
+use Rattle.yq_outline.specs.Bodies.{borrowed}
+use Rattle.yq_outline.specs.Outline.{anchored, value}
+use Rattle.yq_core.specs.Bodies.{body_outline}
+use Rattle.yq_core.specs.Children.{lines_left}
+use Rattle.yq_core.proofs.nodes.node_lines.lines_node.Given as goal
+
+-- what the lines stand for is what those from here on do
+abbrev pub invariant-bare : goal.invariant-bare
+invariant-bare l = anchored (borrowed l.anchor) (value (body_outline l.these)) ≡ anchored (borrowed l.fn.before) (value (body_outline l.fn.under))
+
+abbrev pub decreases-bare : goal.decreases-bare
+decreases-bare l = lines_left l.these

@@ -1,0 +1,26 @@
+//! What nodes are, where they stand on lines or in heads.
+
+use crate::nodes::under::Under;
+use yq_core::{Inline, Kind};
+
+/// What a node is, but for the anchor before it.
+#[derive(Clone, Copy)]
+pub(crate) enum Body<'d, 't> {
+    /// A null of which nothing is written.
+    Null,
+    /// A scalar behind a mark.
+    Scalar(Kind, &'d str),
+    /// The entries of these lines.
+    Map(Under<'d, 't>),
+    /// The items of these lines.
+    List(Under<'d, 't>),
+    /// An alias or a flow collection behind a mark, or what is in one.
+    Inline(&'d Inline<'t>),
+}
+
+/// A node, with the anchor before it.
+#[derive(Clone, Copy)]
+pub(crate) struct Named<'d, 't> {
+    pub(crate) anchor: Option<&'t str>,
+    pub(crate) body: Body<'d, 't>,
+}

@@ -1,0 +1,38 @@
+//! How many items or entries a node has.
+ghost use Rattle.std.specs.Prelude.{◌≡◌};
+ghost use Rattle.yq_core.specs.Tree.{children_of};
+ghost use Rattle.yq_nodes.specs.Children.{lines_rest, rest_of};
+ghost use Rattle.yq_outline.specs.Counts as spec;
+ghost use Rattle.yq_nodes.specs.Nodes.{node_of};
+
+use crate::nodes::children::{Rest, behind_first};
+use crate::nodes::node::Node;
+use crate::nodes::under::Under;
+
+/// How many items or entries these lines begin.
+fn count_lines(under: Under<'_, '_>) -> usize
+    ensures { result ≡ spec.count (rest_of (lines_rest under.entry)) }
+{
+    let mut rest = under;
+    let mut count = 0;
+    'lines: while let Some(behind) = behind_first(rest) {
+        rest = behind;
+        count += 1;
+    }
+    count
+}
+
+impl Node<'_, '_> {
+    /// How many items or entries it has.
+    #[tactic(auto, using(yq_documents::proofs::CountedLaws::items_count, yq_documents::proofs::CountedLaws::entries_count))]
+    pub fn count(&self) -> usize
+        ensures { result ≡ spec.count (children_of (node_of self.now)) }
+    {
+        match self.rest() {
+            Rest::Nothing => 0,
+            Rest::Lines(under) => count_lines(under),
+            Rest::Items(items) => items.len(),
+            Rest::Entries(entries) => entries.len(),
+        }
+    }
+}

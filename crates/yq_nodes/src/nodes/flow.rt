@@ -1,0 +1,94 @@
+//! Nodes in flow collections.
+ghost use Rattle.std.specs.Prelude.{◌≡◌, Some, None, option_map};
+ghost use Rattle.yq_core.specs.Trees.{inner, parts_tree, placed_tree};
+ghost use Rattle.yq_core.specs.View.{entries_end, items_end, inline_view};
+ghost use Rattle.yq_core.specs.Paths.{To, Nth};
+ghost use Rattle.yq_outline.specs.Labelled.{labelled_at};
+ghost use Rattle.yq_nodes.specs.Nodes as spec;
+ghost use Rattle.yq_documents.specs.TreeEdits.{anchor_of};
+ghost use Rattle.yq_outline.specs.Outline.{anchored};
+ghost use Rattle.yq_outline.specs.Outline as outline;
+ghost use Rattle.yq_outline.specs.Bodies.{borrowed};
+
+use crate::nodes::node::NodeKind;
+use yq_core::{Form, Inline, Kind, Piece};
+
+/// What a node of a flow collection is.
+#[tactic(auto, using(crate::proofs::KindLaws::kind_named))]
+pub(crate) fn inline_kind(node: &Inline<'_>) -> NodeKind
+    ensures { result ≡ spec.kind_of (placed_tree (inline_view node.now)) }
+{
+    match &node.form {
+        Form::Empty => NodeKind::Scalar(Kind::Null),
+        Form::Alias(_) => NodeKind::Alias,
+        Form::Scalar(scalar, _) => NodeKind::Scalar(scalar.kind()),
+        Form::List(_) => NodeKind::List,
+        Form::Map(_) => NodeKind::Map,
+    }
+}
+
+/// The text of a scalar in a flow collection, or the name of an alias.
+#[tactic(auto, using(crate::proofs::KindLaws::text_named))]
+pub(crate) fn inline_text<'d>(node: &'d Inline<'_>) -> &'d str
+    ensures { result.now ≡ spec.text_of (placed_tree (inline_view node.now)) }
+{
+    match &node.form {
+        Form::Empty => "null",
+        Form::Alias(name) => name,
+        Form::Scalar(scalar, _) => scalar.text(),
+        Form::List(_) => "",
+        Form::Map(_) => "",
+    }
+}
+
+/// The first of two anchors.
+pub(crate) fn first_anchor<'d>(first: Option<&'d str>, second: Option<&'d str>) -> Option<&'d str>
+    ensures { borrowed result ≡ outline.first_anchor (borrowed first.entry) (borrowed second.entry) }
+{
+    match first {
+        Some(name) => Some(name),
+        None => second,
+    }
+}
+
+/// The anchor of a node behind another anchor; an alias has none.
+#[tactic(auto, using(crate::proofs::KindLaws::anchor_scalar, crate::proofs::KindLaws::anchor_list, crate::proofs::KindLaws::anchor_map, crate::proofs::KindLaws::anchor_alias))]
+pub(crate) fn inline_anchor<'t>(before: Option<&'t str>, node: &Inline<'t>) -> Option<&'t str>
+    ensures { borrowed result ≡ anchor_of (anchored (borrowed before.entry)
+        (placed_tree (inline_view node.now))) }
+{
+    match node.form {
+        Form::Alias(_) => None,
+        Form::Empty => first_anchor(before, node.anchor),
+        Form::Scalar(..) => first_anchor(before, node.anchor),
+        Form::List(_) => first_anchor(before, node.anchor),
+        Form::Map(_) => first_anchor(before, node.anchor),
+    }
+}
+
+/// The item of an index.
+pub(crate) fn item_at<'d, 't>(items: &'d [Inline<'t>], index: usize) -> Option<&'d Inline<'t>>
+    ensures { option_map (λ n. (inner None, placed_tree (inline_view n.now))) result ≡
+        labelled_at (Nth index) (parts_tree (items_end items.now)) }
+{
+    match items.get(index) {
+        Some(item) => Some(item),
+        None => None,
+    }
+}
+
+/// The entry of a key, by its key and its node.
+pub(crate) fn entry_at<'d, 't>(
+    entries: &'d [(String, Piece, Inline<'t>)],
+    key: &str,
+) -> Option<(&'d str, &'d Inline<'t>)>
+    ensures { option_map (λ e. (inner (Some e.0.now), placed_tree (inline_view e.1.now))) result ≡
+        labelled_at (To key.now) (parts_tree (entries_end entries.now)) }
+{
+    'each: for entry in entries {
+        if entry.0.as_str() == key {
+            return Some((entry.0.as_str(), &entry.2));
+        }
+    }
+    None
+}

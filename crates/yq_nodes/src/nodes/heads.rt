@@ -1,0 +1,150 @@
+//! What the lines of rows spell, borrowed or made.
+ghost use Rattle.std.specs.Prelude.{◌≡◌, ◌<◌, None, Some, length, option_map, true};
+ghost use Rattle.yq_core.specs.Scalars.{is_quoted};
+ghost use Rattle.yq_core.specs.Trees.{scalar_node};
+ghost use Rattle.yq_outline.specs.Bodies.{borrowed};
+ghost use Rattle.yq_outline.specs.Comments as comments;
+ghost use Rattle.yq_outline.specs.Outline.{key_of, label};
+ghost use Rattle.yq_outline.specs.View.{head_view};
+ghost use Rattle.yq_core.specs.Quoted.{IsQuotedText};
+ghost use Rattle.yq_core.specs.Scalar.{plain_of};
+ghost use Rattle.yq_core.specs.Tree.{scalar};
+ghost use Rattle.yq_nodes.specs.Bodies.{body_node};
+ghost use Rattle.yq_documents.specs.Decoded as spec;
+ghost use Rattle.yq_nodes.specs.Nodes.{written_label};
+ghost use Rattle.yq_documents.specs.Reading.{documents_of};
+ghost use Rattle.yq_documents.specs.Stretches.{IsLineIn, OfLineIn};
+
+use crate::nodes::body::Body;
+use crate::nodes::node::Written;
+use yq_core::{Kind, is_quoted, resolve};
+use yq_documents::{ReadText, anchor_name, decoded_key, head_decoded};
+use yq_outline::{Head, Position, between_quotes};
+use yq_row_walk::{has_head, lines_before_mark, rank_at};
+
+/// The kind and the text of a plain scalar on one line.
+fn plain_kind(text: &str) -> (Kind, &str)
+    ensures { scalar None result.0 result.1.now ≡ scalar_node (plain_of text.now) }
+{
+    match resolve(text) {
+        Kind::Null => (Kind::Null, "null"),
+        kind => (kind, text),
+    }
+}
+
+/// What a head spells that is borrowed as it is written.
+fn borrowed_head<'d, 't>(head: &'d str) -> Option<Body<'d, 't>>
+    requires { is_quoted head.now ≡ true → IsQuotedText head.now }
+    ensures { option_map body_node result ≡ spec.borrowed_head head.now }
+{
+    if head.is_empty() {
+        return None;
+    }
+    if is_quoted(head.as_bytes()) {
+        return Some(Body::Scalar(Kind::Text, between_quotes(head)));
+    }
+    let (kind, text) = plain_kind(head);
+    Some(Body::Scalar(kind, text))
+}
+
+/// What a head spells, if it has one.
+fn head_body<'d, 't>(head: &'d Head<'t>) -> Option<Body<'d, 't>>
+    ensures { option_map body_node result ≡ head_view head.now }
+{
+    match head {
+        Head::Nothing => None,
+        Head::Scalar(kind, content) => Some(Body::Scalar(*kind, content.text())),
+        Head::Inline(node) => Some(Body::Inline(node)),
+    }
+}
+
+/// What the head of a line spells, if it has one.
+pub(crate) fn line_head<'d, 't>(
+    text: &'d ReadText<'t>,
+    document: usize,
+    at: Position,
+) -> Option<Body<'d, 't>>
+    requires there { document < length (documents_of text.now) }
+    requires line { IsLineIn text.now document at }
+    ensures { OfLineIn text.now document at (λ l. option_map body_node result ≡ l.head) }
+{
+    let (rows, stretch) = text.document_rows(document);
+    if !has_head(rows, stretch, at) {
+        return None;
+    }
+    match head_decoded(text.decoded(at.row)) {
+        Some(head) => head_body(head),
+        None => borrowed_head(rows.head(at.row)),
+    }
+}
+
+/// The anchor in a line.
+pub(crate) fn line_anchor<'t>(text: &ReadText<'t>, document: usize, at: Position) -> Option<&'t str>
+    requires there { document < length (documents_of text.now) }
+    requires line { IsLineIn text.now document at }
+    ensures { OfLineIn text.now document at (λ l. borrowed result ≡ l.anchor) }
+{
+    let (rows, _stretch) = text.document_rows(document);
+    if at.line < lines_before_mark(rows, at.row) {
+        return None;
+    }
+    anchor_name(rows.anchor(at.row))
+}
+
+/// The key of a line's entry; an item has none.
+fn line_key<'d>(text: &'d ReadText<'_>, document: usize, at: Position) -> Option<&'d str>
+    requires there { document < length (documents_of text.now) }
+    requires line { IsLineIn text.now document at }
+    ensures { OfLineIn text.now document at (λ l. borrowed result ≡ key_of l.mark) }
+{
+    let (rows, _stretch) = text.document_rows(document);
+    if rank_at(rows, at) != 2 {
+        return None;
+    }
+    Some(decoded_key(text.decoded(at.row), rows.key(at.row)))
+}
+
+/// The gap before a line's row, where the line begins it.
+fn line_gap<'t>(text: &ReadText<'t>, document: usize, at: Position) -> &'t str
+    requires there { document < length (documents_of text.now) }
+    requires line { IsLineIn text.now document at }
+    ensures { OfLineIn text.now document at (λ l. comments.head_comment result.now ≡
+        l.head_comment) }
+{
+    let (rows, _stretch) = text.document_rows(document);
+    if at.line > 0 {
+        return "";
+    }
+    rows.gap(at.row)
+}
+
+/// The tail of a line, where it ends its row's first line.
+fn line_tail<'t>(text: &ReadText<'t>, document: usize, at: Position) -> &'t str
+    requires there { document < length (documents_of text.now) }
+    requires line { IsLineIn text.now document at }
+    ensures { OfLineIn text.now document at (λ l. comments.line_comment result.now ≡
+        l.line_comment) }
+{
+    let (rows, _stretch) = text.document_rows(document);
+    if at.line < lines_before_mark(rows, at.row) {
+        return "";
+    }
+    rows.tail(at.row)
+}
+
+/// What is written about the entry or item of a line.
+pub(crate) fn line_written<'d, 't>(
+    text: &'d ReadText<'t>,
+    document: usize,
+    at: Position,
+) -> Written<'d, 't>
+    requires there { document < length (documents_of text.now) }
+    requires line { IsLineIn text.now document at }
+    ensures { OfLineIn text.now document at (λ l. written_label result ≡ label l) }
+{
+    Written {
+        key: line_key(text, document, at),
+        gap: line_gap(text, document, at),
+        tail: line_tail(text, document, at),
+    }
+}

@@ -1,4 +1,0 @@
-use Rattle.yq_op_segments.proofs.exchanged.edits.Goals as goal
-
-pub returns-in-Replace : goal.returns-in-Replace
-returns-in-Replace c = rw c.in-Replace.is c.replaced.ensures

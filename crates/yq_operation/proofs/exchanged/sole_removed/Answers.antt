@@ -1,0 +1,18 @@
+use Rattle.std.proofs.Common.{Option, option_map, sym, ap, ◌∙◌, subst}
+use Rattle.yq_core.specs.Answers.{◌>>=◌}
+use Rattle.yq_documents.specs.Located.{steps_of}
+use Rattle.yq_documents.specs.Reading.{cut_of}
+use Rattle.yq_lookup.specs.Standings.{last_step}
+use Rattle.yq_edits.specs.Answers.{GivesSegments}
+use Rattle.yq_edits.specs.Edits.{replace_segments}
+use Rattle.yq_edit_laws.specs.Emptying.{Emptied, emptied_view}
+use Rattle.yq_edit_laws.proofs.EmptyingAnswers.{sole_by_emptying}
+use Rattle.yq_operation.proofs.exchanged.sole_removed.Goals as goal
+
+pub returns : goal.returns
+returns c =
+    let cut = cut_of c.args.cut.now in
+    let empties = sym c.in_ok-empty.ensures ∙ ap (option_map emptied_view) c.in-Some.is in
+    subst (GivesSegments c.replaced.result)
+    (sym (sole_by_emptying c.args.path.now.doc cut (last_step (steps_of c.args.path.now)) ∙ ap (λ (o : Option Emptied). o >>= λ e. replace_segments e.doc e.steps e.value cut) empties))
+    c.replaced.ensures

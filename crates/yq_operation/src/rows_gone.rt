@@ -1,0 +1,141 @@
+//! Items and entries that are taken out of block collections with their lines, where no other byte changes.
+ghost use Rattle.std.specs.Prelude.{◌≡◌, ◌<◌, ◌^◌, IfOk, IfErr, IfSome, None, length};
+ghost use Rattle.std.specs.Str.{IsUtf8};
+ghost use Rattle.yq_text.specs.Halves.{halves_text};
+ghost use Rattle.yq_documents.specs.Located.{steps_of};
+ghost use Rattle.yq_documents.specs.Reading.{cut_of};
+ghost use Rattle.yq_semantics.specs.Operations.{operation_of, remove};
+ghost use Rattle.yq_places.specs.RemovalReading.{removal_view};
+ghost use Rattle.yq_places.specs.Standings.{last_step};
+ghost use Rattle.yq_text.specs.Changing.{IsChange};
+ghost use Rattle.yq_edits.specs.Edits.{part_removed};
+ghost use Rattle.yq_edits.specs.Removing.{rows_removed};
+ghost use Rattle.yq_edit_laws.specs.Answers.{EditFails};
+ghost use Rattle.yq_edit_laws.specs.Carried.{carry_one};
+ghost use Rattle.yq_operation.specs.RowsGone.{IsSmall};
+ghost use Rattle.yq_edit_laws.specs.Valid.{segments_by};
+
+use crate::exchanged::op_segments;
+use std::alloc::{AllocError, Global};
+use yq_documents::Path;
+use yq_edit_laws::{EditError, remove_in_flow};
+use yq_lookup::CutText;
+use yq_places::Removal;
+use yq_semantics::Op;
+use yq_text::{Changed, Halves, Segments, Splice, changes};
+
+/// How many bytes a text has; they are characters.
+#[tactic(auto, using(crate::proofs::RowsGoneLaws::texts_joined))]
+fn text_len(text: Halves<'_>) -> usize
+    requires { length (halves_text text) < 2 ^ 64 }
+    ensures len { result ≡ length (halves_text text.entry) }
+    ensures text { IsUtf8 (halves_text text.entry) }
+{
+    text.front.as_bytes().len() + text.back.as_bytes().len()
+}
+
+/// The bytes of a text.
+fn bytes_of(alloc: Global, text: Halves<'_>) -> Result<Vec<u8>, AllocError>
+    ensures { IfOk result (λ v. v.items ≡ halves_text text.entry) }
+{
+    let mut bytes = Vec::new(alloc);
+    bytes.extend_from_slice(text.front.as_bytes())?;
+    if !text.back.is_empty() {
+        bytes.extend_from_slice(text.back.as_bytes())?;
+    }
+    Ok(bytes)
+}
+
+/// What it changes that lines go, where nothing behind them is mended.
+fn lines_gone(alloc: Global, removal: &Removal<'_>) -> Result<Option<Changed>, AllocError>
+    requires { IsSmall (removal_view removal.now) }
+    ensures { IfOk result (λ o. IfSome o (IsChange (rows_removed (removal_view removal.now)))) }
+{
+    if removal.seam.is_some() || removal.gone.is_empty() {
+        return Ok(None);
+    }
+    let front = text_len(removal.before);
+    let back = removal.gap.as_bytes().len() + text_len(removal.behind);
+    let old = bytes_of(alloc, removal.gone)?;
+    let splices = vec![in alloc;
+        Splice {
+            at: front as u64,
+            old,
+            new: Vec::new(alloc),
+        },
+    ]?;
+    Ok(Some(Changed {
+        front,
+        back,
+        new: String::new(alloc),
+        splices,
+    }))
+}
+
+/// What it changes that one of several items or entries is taken out with its lines, outside flow
+/// collections; nothing, where something behind them is mended, or its line doesn't begin its rows.
+fn rows_gone(
+    alloc: Global,
+    cut: &CutText<'_, '_>,
+    path: &Path,
+) -> Result<Option<Changed>, AllocError>
+    requires { part_removed path.now.doc (cut_of cut.now) (last_step (steps_of path.now)) ≡ None }
+    ensures { IfOk result (λ o. IfSome o (IsChange (segments_by
+        (remove path.now.doc (steps_of path.now)) (cut_of cut.now)))) }
+{
+    let _text = cut.text();
+    let others = cut.has_others(alloc, path)?;
+    if !others {
+        return Ok(None);
+    }
+    let Some(removal) = cut.removal(path) else {
+        return Ok(None);
+    };
+    lines_gone(alloc, &removal)
+}
+
+/// What an operation changes in a text with its cut, by its segments.
+fn changed(
+    alloc: Global,
+    cut: &CutText<'_, '_>,
+    op: &Op,
+    segments: &Segments<'_>,
+) -> Result<Changed, EditError>
+    requires { segments.now ≡ segments_by (operation_of op.now) (cut_of cut.now) }
+    ensures ok { IfOk result (IsChange (segments_by (operation_of op.now) (cut_of cut.now))) }
+    ensures err { IfErr result (λ e. EditFails e (carry_one (operation_of op.now)
+        (cut_of cut.now))) }
+{
+    let _text = cut.text();
+    Ok(changes(alloc, segments)?)
+}
+
+/// The same of an operation of any kind.
+fn change_by(alloc: Global, cut: &CutText<'_, '_>, op: &Op) -> Result<Changed, EditError>
+    ensures ok { IfOk result (IsChange (segments_by (operation_of op.now) (cut_of cut.now))) }
+    ensures err { IfErr result (λ e. EditFails e (carry_one (operation_of op.now)
+        (cut_of cut.now))) }
+{
+    let segments = op_segments(alloc, cut, op)?;
+    changed(alloc, cut, op, &segments)
+}
+
+/// What an operation changes in a text with its cut.
+pub fn change(alloc: Global, cut: &CutText<'_, '_>, op: &Op) -> Result<Changed, EditError>
+    ensures ok { IfOk result (IsChange (segments_by (operation_of op.now) (cut_of cut.now))) }
+    ensures err { IfErr result (λ e. EditFails e (carry_one (operation_of op.now)
+        (cut_of cut.now))) }
+{
+    let Op::Remove(path) = op else {
+        return change_by(alloc, cut, op);
+    };
+    let inside = remove_in_flow(alloc, cut, path)?;
+    if let Some(segments) = inside {
+        return changed(alloc, cut, op, &segments);
+    }
+    let gone = rows_gone(alloc, cut, path)?;
+    match gone {
+        Some(changed) => Ok(changed),
+        None => change_by(alloc, cut, op),
+    }
+}

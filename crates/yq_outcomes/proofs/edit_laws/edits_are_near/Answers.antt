@@ -1,5 +1,0 @@
-use Rattle.yq_outcomes.proofs.NearLaws.{edits_are_near}
-use Rattle.yq_outcomes.proofs.edit_laws.edits_are_near.Goals as goal
-
-pub returns : goal.returns
-returns c = edits_are_near

@@ -1,5 +1,0 @@
-use Rattle.yq_edits.proofs.KeptLaws.{equal_scalars_stay}
-use Rattle.yq_outcomes.proofs.edit_laws.equal_scalars_stay.Goals as goal
-
-pub returns : goal.returns
-returns c = equal_scalars_stay

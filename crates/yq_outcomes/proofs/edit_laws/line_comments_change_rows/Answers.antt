@@ -1,5 +1,0 @@
-use Rattle.yq_outcomes.proofs.LineCommentLaws.{line_comments_change_rows}
-use Rattle.yq_outcomes.proofs.edit_laws.line_comments_change_rows.Goals as goal
-
-pub returns : goal.returns
-returns c = line_comments_change_rows

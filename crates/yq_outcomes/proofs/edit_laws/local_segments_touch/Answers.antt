@@ -1,5 +1,0 @@
-use Rattle.yq_outcomes.proofs.TouchLaws.{local_touches}
-use Rattle.yq_outcomes.proofs.edit_laws.local_segments_touch.Goals as goal
-
-pub returns : goal.returns
-returns c = local_touches

@@ -1,5 +1,0 @@
-use Rattle.yq_outcomes.proofs.MoreLaws.{more_is_put}
-use Rattle.yq_outcomes.proofs.edit_laws.more_is_put.Goals as goal
-
-pub returns : goal.returns
-returns c = more_is_put

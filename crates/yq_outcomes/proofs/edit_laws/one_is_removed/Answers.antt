@@ -1,5 +1,0 @@
-use Rattle.yq_outcomes.proofs.RemovingFirstLaws.{one_is_removed}
-use Rattle.yq_outcomes.proofs.edit_laws.one_is_removed.Goals as goal
-
-pub returns : goal.returns
-returns c = one_is_removed

@@ -1,5 +1,0 @@
-use Rattle.yq_outcomes.proofs.RowEditLaws.{row_edits}
-use Rattle.yq_outcomes.proofs.edit_laws.row_edits_are.Goals as goal
-
-pub returns : goal.returns
-returns c = row_edits

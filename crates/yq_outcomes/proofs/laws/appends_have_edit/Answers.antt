@@ -1,5 +1,0 @@
-use Rattle.yq_outcomes.proofs.MoreExists.{takers_have_edit}
-use Rattle.yq_outcomes.proofs.laws.appends_have_edit.Goals as goal
-
-pub returns : goal.returns
-returns c = takers_have_edit

@@ -1,9 +1,0 @@
-use Rattle.yq_outcomes.proofs.EmptyingAnswers.{sole_by_emptying}
-use Rattle.yq_outcomes.proofs.SoleLaws.{sole_removed}
-use Rattle.yq_outcomes.proofs.laws.emptying_removes.Goals as goal
-
-pub returns-clause-sole : goal.returns-clause-sole
-returns-clause-sole c = sole_removed
-
-pub returns-clause-emptying : goal.returns-clause-emptying
-returns-clause-emptying c = sole_by_emptying

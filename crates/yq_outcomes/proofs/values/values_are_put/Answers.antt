@@ -1,5 +1,0 @@
-use Rattle.yq_outcomes.proofs.MarkedValueLaws.{marked_values}
-use Rattle.yq_outcomes.proofs.values.values_are_put.Goals as goal
-
-pub returns : goal.returns
-returns c = marked_values

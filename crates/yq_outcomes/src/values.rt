@@ -1,8 +1,0 @@
-//! Laws of values that are put at items and entries.
-ghost use Rattle.yq_outcomes.specs.MarkedValues.{MarkedValuesArePut};
-
-/// A value put at an item or entry, or in the place of a node alone on its line, carries out
-/// Replace.
-pub fn values_are_put()
-    ensures { MarkedValuesArePut }
-{}

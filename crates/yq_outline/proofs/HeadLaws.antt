@@ -1,0 +1,72 @@
+-- The comment lines that end lines, behind others, or where the lines are repaired.
+use Rattle.std.proofs.Common.{◌≡◌, ℕ, Bool, true, false, ◌&&◌, List, [], ◌∷◌, ◌++◌, Option, Some, refl, sym, ap, ◌∙◌, ⊎_elim, replicate, eqb-true, drop, rules}
+use Rattle.std.proofs.lemmas.Bool.{false≢true, cond_both, cond-true, cond-false, false_from_ne_true, and_parts, cases_Bool}
+use Rattle.yq_core.specs.Block.{RawLines}
+use Rattle.yq_core.specs.BlockRepair.{AreGap, is_short, is_outdented_comment, repaired_blank, repaired_comment, repair}
+use Rattle.yq_core.specs.Lines.{is_hash, is_blank}
+use Rattle.yq_core.specs.Text.{upto, cut, is_white, ends_line, past_white}
+use Rattle.yq_core.proofs.SpaceLaws.{white_drop}
+use Rattle.yq_core.proofs.BlockRepairLaws.{white_front}
+use Rattle.yq_outline.specs.Comments.{less_space, comment_text, are_comments, with_text, last_comments}
+
+-- lines behind lines
+all_behind : (ls ms : RawLines) → are_comments ls ≡ false → are_comments (ls ++ ms) ≡ false
+all_behind [] ms h = absurd (false≢true (sym h))
+all_behind (l ∷ ls) ms h = ⊎_elim {0, 0, 0}
+    (λ e. let more : are_comments ls ≡ false = rw e at h in rw e (all_behind ls ms more))
+    (λ e. rw e refl)
+    (cases_Bool (is_hash (past_white l)))
+
+hash_text : (l : List ℕ) → is_hash (past_white l) ≡ true → (t : List ℕ) × (comment_text l ≡ Some t)
+hash_text l h = (less_space (cut ends_line (drop 1 (past_white l))).0, cond-true _ _ _ h)
+
+some_text : (o : Option (List ℕ)) (t : List ℕ) (ts : RawLines) → o ≡ Some t → with_text o ts ≡ [] → ⊥
+some_text x t ts e h = absurd (cc)
+
+no_run : (l : List ℕ) (ls : RawLines) → last_comments (l ∷ ls) ≡ [] → are_comments (l ∷ ls) ≡ false
+no_run l ls h = search (rules, false_from_ne_true, hash_text, and_parts, some_text, cond-true)
+
+pub comments_behind : (ls ms : RawLines) → last_comments ls ≡ [] → last_comments (ls ++ ms) ≡ last_comments ms
+comments_behind [] ms h = refl
+comments_behind (l ∷ ls) ms h =
+    let none = no_run l ls h in
+    let more : last_comments ls ≡ [] = sym (cond-false _ _ _ none) ∙ h in
+    cond-false _ _ _ (all_behind (l ∷ ls) ms none) ∙ comments_behind ls ms more
+
+-- a line with other white space in front
+same_line : (l x : List ℕ) (ls : RawLines) → past_white x ≡ past_white l → last_comments (x ∷ ls) ≡ last_comments (l ∷ ls)
+same_line l x ls h = rw h refl
+
+past_again : (l : List ℕ) → past_white (past_white l) ≡ past_white l
+unfolding upto
+past_again [] = refl
+past_again (b ∷ l) = ⊎_elim {0, 0, 0}
+    (λ e. rw (white_drop b l) (rw e (past_again l)))
+    (λ e. rw (white_drop b l) (rw e (white_drop b l ∙ rw e refl)))
+    (cases_Bool (is_white b))
+
+blank_past : (m : ℕ) (l : List ℕ) → past_white (repaired_blank m l) ≡ past_white l
+blank_past m l = cond_both (is_short m l) l (past_white l) (λ x. past_white x ≡ past_white l) (λ _. refl) (λ _. past_again l)
+
+comment_past : (m column : ℕ) (l : List ℕ) → past_white (repaired_comment m column l) ≡ past_white l
+comment_past m column l = cond_both (is_outdented_comment m l) l (replicate column 32 ++ past_white l) (λ x. past_white x ≡ past_white l) (λ _. refl) (λ _. white_front column (past_white l) ∙ past_again l)
+
+pub end_no_hash : (t : List ℕ) → ends_line t ≡ true → is_hash t ≡ false
+end_no_hash t h1 = search (rules, false_from_ne_true, eqb-true, false≢true)
+
+blank_off : (l : List ℕ) (ls : RawLines) → is_blank l ≡ true → last_comments (l ∷ ls) ≡ last_comments ls
+blank_off l ls h = cond-false _ _ _ (ap (λ b. b && are_comments ls) (end_no_hash (past_white l) h))
+
+pub head_repaired : (keep : Bool) (m column : ℕ) (ls : RawLines) → AreGap ls → last_comments (repair keep m column ls) ≡ last_comments ls
+unfolding repair
+head_repaired keep m column [] h = refl
+head_repaired true m column (l ∷ ls) h = ⊎_elim {0, 0, 0}
+    (λ b. rw b (head_repaired true m column ls h.1 ∙ sym (blank_off l ls b)))
+    (λ b. rw b (same_line l (repaired_comment m column l) ls (comment_past m column l)))
+    (cases_Bool (is_blank l))
+head_repaired false m column (l ∷ ls) h = ⊎_elim {0, 0, 0}
+    (λ b.
+    let blank : is_blank (repaired_blank m l) ≡ true = ap ends_line (blank_past m l) ∙ b in
+    rw b (blank_off (repaired_blank m l) (repair false m column ls) blank ∙ (head_repaired false m column ls h.1 ∙ sym (blank_off l ls b))))
+    (λ b. rw b (same_line l (repaired_comment m column l) ls (comment_past m column l)))
+    (cases_Bool (is_blank l))

@@ -1,0 +1,77 @@
+-- Unique keys, as a test and as a fact.
+use Rattle.std.proofs.Common.{◌≡◌, ◌≢◌, ℕ, zero, suc, List, [], ◌∷◌, get_or, Bool, true, false, not, refl, sym, ap, ◌∙◌, arith, bytes_eq, ◌↔◌, rules, ◌≤◌, ◌++◌, length, drop, ◌&&◌, append-nil}
+use Rattle.std.specs.Bool.{IsTrue}
+use Rattle.std.proofs.lemmas.Bool.{and_parts, and_from, or_parts, false≢true, false_from_ne_true, not-true, le-leb}
+use Rattle.std.proofs.lemmas.List.Folds.{list_any_none}
+use Rattle.std.proofs.lemmas.List.Kept.{AllPairs-cons}
+use Rattle.std.proofs.lemmas.Slice.Eq.{bytes_eq-Decides}
+use Rattle.std.specs.List.{list_any, All}
+use Rattle.yq_core.specs.Tree.{Node, alias, scalar, list, map, Children, none, child}
+use Rattle.yq_core.specs.Keys.{AreDistinct, keys_of, HasUniqueKeys, EachHasUniqueKeys, are_distinct}
+use Rattle.std.proofs.lemmas.List.{drop_all}
+use Rattle.std.specs.Prelude.{String}
+use Rattle.std.specs.declared.alloc.Global.{Global}
+use Rattle.yq_core.specs.declared.piece.Piece.{Piece}
+use Rattle.yq_core.specs.declared.inline.Inline.{Inline}
+use Rattle.yq_core.specs.Trees.{parts_tree}
+use Rattle.yq_core.specs.View.{entries_end}
+use Rattle.yq_outline.specs.Sound.{has_unique_keys, each_has_unique_keys, are_sound}
+
+pub differ : (a b : List ℕ) → bytes_eq a b ≡ false → a ≢ b
+differ a b e is = false≢true (sym e ∙ (bytes_eq-Decides a b).1 is)
+
+pub differs : (a b : List ℕ) → a ≢ b → bytes_eq a b ≡ false
+differs a b h = false_from_ne_true (bytes_eq a b) (λ e. h ((bytes_eq-Decides a b).0 e))
+
+none_is : (k : List ℕ) (ks : List (List ℕ)) → list_any (bytes_eq k) ks ≡ false → All (λ b. k ≢ b) ks
+none_is k [] e j d within = absurd (omega arith)
+none_is k (x ∷ xs) e zero d within = differ k x (or_parts (bytes_eq k x) (list_any (bytes_eq k) xs) e).0
+none_is k (x ∷ xs) e (suc j) d within = none_is k xs (or_parts (bytes_eq k x) (list_any (bytes_eq k) xs) e).1 j d (omega arith)
+
+pub distinct_is : (ks : List (List ℕ)) → are_distinct ks ≡ true → AreDistinct ks
+distinct_is [] e = λ i j d lt within. absurd (omega arith)
+distinct_is (k ∷ ks) e =
+    let p = and_parts (not (list_any (bytes_eq k) ks)) (are_distinct ks) e in
+    AllPairs-cons (λ a b. a ≢ b) k ks (none_is k ks (not-true (list_any (bytes_eq k) ks) p.0)) (distinct_is ks p.1)
+
+pub is_distinct : (ks : List (List ℕ)) → AreDistinct ks → are_distinct ks ≡ true
+is_distinct [] h = refl
+is_distinct (k ∷ ks) h =
+    let fresh : list_any (bytes_eq k) ks ≡ false = list_any_none (bytes_eq k) ks (λ j d within. differs k (get_or ks j d) (h zero (suc j) d (omega arith) (omega arith))) in
+    and_from (not (list_any (bytes_eq k) ks)) (are_distinct ks) (ap not fresh) (is_distinct ks (λ i j d lt within. h (suc i) (suc j) d (omega arith) (omega arith)))
+
+-- what a test of keys tells
+pub distinct_agrees : (ks : List (List ℕ)) (b : Bool) → IsTrue b ↔ AreDistinct ks → are_distinct ks ≡ b
+distinct_agrees ks b h1 = search (rules, is_distinct, false_from_ne_true, false≢true, distinct_is)
+
+mutual
+  pub unique_is : (n : Node) → has_unique_keys n ≡ true → HasUniqueKeys n
+  unique_is (alias name) e = tt
+  unique_is (scalar a k t) e = tt
+  unique_is (list a cs) e = each_unique_is cs e
+  unique_is (map a cs) e = let p = and_parts (are_distinct (keys_of cs)) (each_has_unique_keys cs) e in (distinct_is (keys_of cs) p.0, each_unique_is cs p.1)
+
+  pub each_unique_is : (cs : Children) → each_has_unique_keys cs ≡ true → EachHasUniqueKeys cs
+  each_unique_is none e = tt
+  each_unique_is (child label n cs) e = let p = and_parts (has_unique_keys n) (each_has_unique_keys cs) e in (unique_is n p.0, each_unique_is cs p.1)
+
+mutual
+  pub is_unique : (n : Node) → HasUniqueKeys n → has_unique_keys n ≡ true
+  is_unique (alias name) h = refl
+  is_unique (scalar a k t) h = refl
+  is_unique (list a cs) h = each_is_unique cs h
+  is_unique (map a cs) h = and_from (are_distinct (keys_of cs)) (each_has_unique_keys cs) (is_distinct (keys_of cs) h.0) (each_is_unique cs h.1)
+
+  pub each_is_unique : (cs : Children) → EachHasUniqueKeys cs → each_has_unique_keys cs ≡ true
+  each_is_unique none h = refl
+  each_is_unique (child label n cs) h = and_from (has_unique_keys n) (each_has_unique_keys cs) (is_unique n h.0) (each_is_unique cs h.1)
+
+-- ---- what is asked of the entries of an inline mapping
+
+abbrev pub Field : Type 0
+Field = String Global × Piece × Inline
+
+-- behind the last entry the keys are left to ask of
+pub entries_left : (d i : ℕ) (es : List Field) (keys : List (List ℕ)) (b all : Bool) → length es ≤ i →
+    all ≡ (are_sound d (parts_tree (entries_end (drop i es))) && are_distinct (keys ++ keys_of (parts_tree (entries_end (drop i es))))) → IsTrue b ↔ AreDistinct keys → b ≡ all
+entries_left d i es keys b all past is agrees = cc (drop_all i es past, le-leb 0 d (omega arith), append-nil keys, distinct_agrees keys b agrees)

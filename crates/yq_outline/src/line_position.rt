@@ -1,0 +1,63 @@
+//! Where lines of a document stand among its rows.
+ghost use Rattle.std.specs.Prelude.{◌≡◌, ◌<◌, ◌-◌, None};
+ghost use Rattle.yq_outline.specs.Outline.{level};
+
+/// The rows of a document: those of a text from one up to another one.
+#[derive(Clone, Copy)]
+pub struct Stretch {
+    pub first: usize,
+    pub end: usize,
+}
+
+/// A line of a document by its row, of those of the text, and by how many lines of that row stand
+/// before it; or the end behind the document's rows.
+#[derive(Clone, Copy)]
+pub struct Position {
+    pub row: usize,
+    pub line: usize,
+}
+
+/// An item of a collection of rows, from which a walk over the items behind it may go on: how many
+/// of them stand before its row.
+#[derive(Clone, Copy)]
+pub struct KnownItem {
+    /// The line of the collection's first item.
+    pub under: Position,
+    /// How deep the collection is; its items are deeper.
+    pub floor: usize,
+    /// How deep its items are.
+    pub level: usize,
+    /// How many of its items begin before the row.
+    pub index: usize,
+    /// How many rows of the text stand before the item's.
+    pub row: usize,
+}
+
+/// Items from which walks over a text may go on: the two on the way of a path that passed most rows.
+#[derive(Clone, Copy)]
+pub struct KnownItems {
+    pub far: Option<KnownItem>,
+    pub near: Option<KnownItem>,
+}
+
+impl KnownItems {
+    /// No items.
+    pub fn none() -> KnownItems
+        ensures far { result.far ≡ None }
+        ensures near { result.near ≡ None }
+    {
+        KnownItems {
+            far: None,
+            near: None,
+        }
+    }
+}
+
+/// Where a step leads.
+#[derive(Clone, Copy)]
+pub enum Next {
+    /// To a line.
+    Line(Position),
+    /// On in the head of a line.
+    Head(Position),
+}

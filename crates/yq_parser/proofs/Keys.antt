@@ -1,0 +1,43 @@
+-- Keys that differ, as a test.
+use Rattle.std.proofs.Common.{◌≡◌, ◌≢◌, ℕ, zero, suc, not, Bool, true, false, List, [], ◌∷◌, get_or, refl, sym, ap, ◌∙◌, arith, map, IsTrue, ◌↔◌}
+use Rattle.std.specs.Str.{bytes_eq}
+use Rattle.std.specs.List.{list_any, All}
+use Rattle.std.proofs.lemmas.Bool.{and_from, not-true, false≢true, false_from_ne_true, and_parts}
+use Rattle.std.proofs.lemmas.List.Folds.{list_any_at, list_any_none}
+use Rattle.std.proofs.lemmas.List.Kept.{AllPairs-cons}
+use Rattle.std.proofs.lemmas.Slice.Eq.{bytes_eq-Decides}
+use Rattle.yq_core.specs.Keys.{AreDistinct, are_distinct}
+use Rattle.std.specs.Prelude.{string_bytes, String}
+use Rattle.std.specs.declared.alloc.Global.{Global}
+use Rattle.yq_core.specs.declared.value.Value.{Value}
+use Rattle.yq_core.specs.Values.{field_of}
+
+others : (k : List ℕ) (ks : List (List ℕ)) → list_any (bytes_eq k) ks ≡ false → All (λ x. k ≢ x) ks
+others k ks none i d lt same =
+    let here : bytes_eq k (get_or ks i d) ≡ true = (bytes_eq-Decides k (get_or ks i d)).1 same in
+    false≢true (sym none ∙ list_any_at (bytes_eq k) ks i d lt here)
+
+pub distinct_keys : (ks : List (List ℕ)) → are_distinct ks ≡ true → AreDistinct ks
+distinct_keys [] h = λ i j d lt last. absurd (omega arith)
+distinct_keys (k ∷ ks) h =
+    let parts = and_parts _ (are_distinct ks) h in
+    AllPairs-cons (λ a b. a ≢ b) k ks (others k ks (not-true _ parts.0)) (distinct_keys ks parts.1)
+
+pub distinct_again : (ks : List (List ℕ)) → AreDistinct ks → are_distinct ks ≡ true
+distinct_again [] h = refl
+distinct_again (k ∷ ks) h =
+    let fresh : list_any (bytes_eq k) ks ≡ false =
+    list_any_none (bytes_eq k) ks (λ j d within. false_from_ne_true _ (λ e.
+    h zero (suc j) d (omega arith) (omega arith) ((bytes_eq-Decides k (get_or ks j d)).0 e))) in
+    and_from (not (list_any (bytes_eq k) ks)) (are_distinct ks) (ap not fresh)
+    (distinct_again ks (λ i j d lt within. h (suc i) (suc j) d (omega arith) (omega arith)))
+
+-- a test that tells whether they differ is that test
+pub tested : (b : Bool) (ks : List (List ℕ)) → IsTrue b ↔ AreDistinct ks → b ≡ are_distinct ks
+tested true ks h = sym (distinct_again ks (h.0 refl))
+tested false ks h = sym (false_from_ne_true (are_distinct ks) (λ passes. false≢true (h.1 (distinct_keys ks passes))))
+
+-- the keys of entries
+pub keys_of_fields : (es : List (String Global × Value)) → map (λ e. string_bytes e.0) es ≡ map (λ e. e.0) (map field_of es)
+keys_of_fields [] = refl
+keys_of_fields (e ∷ es) = ap (λ (ks : List (List ℕ)). string_bytes e.0 ∷ ks) (keys_of_fields es)

@@ -1,5 +1,0 @@
-use Rattle.yq_parsing.proofs.OutcomeLaws.{one_list}
-use Rattle.yq_parsing.proofs.laws.one_token_list.Goals as goal
-
-pub returns : goal.returns
-returns c = one_list

@@ -1,0 +1,116 @@
+-- The places of entries and of their contents, by lines or in flow.
+use Rattle.std.proofs.Common.{◌≡◌, ℕ, suc, ◌+◌, ◌-◌, ◌≤◌, eqb, ltb, List, [], ◌∷◌, ◌++◌, length, drop, Option, Some, None, option_map, option_and_then, Bool, true, false, cond, refl, ap, zero, ◌<◌, take, rules}
+use Rattle.std.proofs.lemmas.Bool.{ltb-false, eq-eqb, eqb-true, false≢true}
+use Rattle.std.proofs.lemmas.Option.{same_Some}
+use Rattle.std.specs.List.{slice_get}
+use Rattle.yq_core.specs.Answers.{◌>>=◌}
+use Rattle.yq_core.specs.Paths.{Step}
+use Rattle.yq_core.specs.Entries.{PlacedEntry, entry_place, content_place}
+use Rattle.yq_core.specs.Places.{Placed}
+use Rattle.yq_row_table.specs.Exchange.{behind_row}
+use Rattle.yq_row_table.specs.Rows.{Row, Cut, cut_text}
+use Rattle.yq_row_table.specs.View.{rows_of, Bound}
+use Rattle.yq_documents.specs.FlowReading.{row_flow}
+use Rattle.yq_documents.specs.declared.path.Path.{Path}
+use Rattle.yq_outline.specs.Group.{group}
+use Rattle.yq_outline.specs.Places.{lines_before, FoundLine, find}
+use Rattle.yq_outline.specs.Lines.{lines_of_rows}
+use Rattle.yq_documents.specs.LinesInRows.{RowLine, behind_one, row_line, row_line_of, row_line_at}
+use Rattle.yq_outline.specs.Ends.{found_line, reached}
+use Rattle.yq_outline.proofs.Values.{If}
+use Rattle.yq_outline.proofs.KnownLaws.{get_dropped, get_front}
+use Rattle.yq_lookup.specs.EntryReading.{line_entry, line_content, entry_from, content_from, entry_of, node_place_of, entry_at, content_row_place, entry_within, line_entry_of, line_content_of, flow_entry_from, flow_entry_of, line_entry_at, line_content_at, flow_entry_at}
+use Rattle.yq_lookup.specs.RowLineReading.{LineCounts, numbers}
+use Rattle.yq_lookup.proofs.FlowPlaceLaws.{flow_agrees}
+
+-- a line is one of its row, and that is one of the rows
+abbrev pub IsLineInRow : List Row → RowLine → Type 0
+IsLineInRow rs s = (slice_get rs s.before ≡ Some s.row) × (s.line ≤ length s.row.dashes)
+
+line_in_row : (n : ℕ) (rs : List Row) → If (row_line n rs) (IsLineInRow rs)
+line_in_row n [] = tt
+line_in_row n (r ∷ rs) = go (ltb (length r.dashes) n) refl (row_line (n - suc (length r.dashes)) rs) (line_in_row (n - suc (length r.dashes)) rs)
+  where
+    go : (b : Bool) → ltb (length r.dashes) n ≡ b → (o : Option RowLine) → If o (IsLineInRow rs) → If (cond b (option_map behind_one o) (Some (record { before = 0; row = r; line = n }))) (IsLineInRow (r ∷ rs))
+    go b h1 o h2 = search (rules, ltb-false)
+
+pub row_line_is : (n : ℕ) (rs : List Row) (s : RowLine) → row_line n rs ≡ Some s → IsLineInRow rs s
+row_line_is n rs s e = go (row_line n rs) (line_in_row n rs) e
+  where
+    go : (o : Option RowLine) → If o (IsLineInRow rs) → o ≡ Some s → IsLineInRow rs s
+    go o h1 h2 = search (rules, same_Some)
+
+-- the row of a line of rows that stand among those of a cut
+pub row_there : (c : Cut) (rs more : List Row) (first n : ℕ) (s : RowLine) → drop first (rows_of c) ≡ rs ++ more → row_line n rs ≡ Some s → slice_get (rows_of c) (first + s.before) ≡ Some s.row
+row_there c rs more first n s there e = cc (get_dropped (rows_of c) first s.before, get_front rs more s.before s.row (row_line_is n rs s e).0)
+
+-- a place in a text
+abbrev pub TextSpan : Type 0
+TextSpan = Option (ℕ × ℕ)
+
+-- where steps go on in the head of a line
+pub flow_left : (k : ℕ) (c : Cut) (rs : List Row) (steps left : List Step) (n : ℕ) (q : RowLine) (flow : Option Placed) (found : Option PlacedEntry) → row_line n rs ≡ Some q →
+    flow ≡ row_flow (length (cut_text c)) q.row (behind_row (k + q.before) c) → found ≡ entry_within left flow → Some (n, left) ≡ reached steps (lines_of_rows rs) → false ≡ eqb (length left) 0 → found ≡ flow_entry_of k c rs steps
+flow_left k c rs steps left n q flow found h1 h2 h3 h4 h5 = search (rules, false≢true, eq-eqb, flow_agrees)
+
+pub no_flow_left : (k : ℕ) (c : Cut) (rs : List Row) (steps left : List Step) (n : ℕ) → Some (n, left) ≡ reached steps (lines_of_rows rs) → true ≡ eqb (length left) 0 → None ≡ flow_entry_of k c rs steps
+no_flow_left k c rs steps left n h1 h2 = search (rules, eqb-true)
+
+pub no_flow : (k : ℕ) (c : Cut) (rs : List Row) (steps : List Step) → None ≡ reached steps (lines_of_rows rs) → None ≡ flow_entry_of k c rs steps
+no_flow k c rs steps e = ap (λ (o : Option (ℕ × List Step)). o >>= λ x. flow_entry_from k c rs x.0 x.1) e
+
+-- the place of what stands in a line, or in flow
+abbrev pub or_flow : TextSpan → TextSpan → TextSpan
+or_flow None y = y
+or_flow (Some x) y = Some x
+
+or_none : (x : TextSpan) → x ≡ or_flow x None
+or_none x = search rules
+
+-- where a path leads among lines, by the number of the line
+abbrev pub by_line : Option (FoundLine × List Step) → Option (ℕ × List Step)
+by_line o = option_map (λ x. (length (lines_before x.0.place), x.1)) o
+
+entry_parts : (k : ℕ) (c : Cut) (rs : List Row) (steps : List Step) → entry_of k c rs steps ≡ or_flow (line_entry_of k c rs steps) (option_map entry_place (flow_entry_of k c rs steps))
+entry_parts k c rs [] = refl
+entry_parts k c rs (s ∷ ss) = go (find s ss (group (lines_of_rows rs)))
+  where
+    go : (o : Option (FoundLine × List Step)) → (by_line o >>= λ x. entry_from k c rs x.0 x.1) ≡
+        or_flow (option_and_then (λ (x : FoundLine × List Step). found_line x.0 x.1) o >>= line_entry k c rs) (option_map entry_place (by_line o >>= λ x. flow_entry_from k c rs x.0 x.1))
+    go o = search (rules, or_none)
+
+content_parts : (k : ℕ) (c : Cut) (rs : List Row) (steps : List Step) → node_place_of k c rs steps ≡ or_flow (line_content_of k c rs steps) (option_and_then (λ (e : PlacedEntry). content_place e.1) (flow_entry_of k c rs steps))
+content_parts k c rs [] = or_none _
+content_parts k c rs (s ∷ ss) = go (find s ss (group (lines_of_rows rs)))
+  where
+    go : (o : Option (FoundLine × List Step)) → (by_line o >>= λ x. content_from k c rs x.0 x.1) ≡
+        or_flow (option_and_then (λ (x : FoundLine × List Step). found_line x.0 x.1) o >>= line_content k c rs)
+        (option_and_then (λ (e : PlacedEntry). content_place e.1) (by_line o >>= λ x. flow_entry_from k c rs x.0 x.1))
+    go o = search (rules, or_none)
+
+pub entry_either : (p : Path) (c : Cut) → entry_at p c ≡ or_flow (line_entry_at p c) (option_map entry_place (flow_entry_at p c))
+entry_either p c = search rules
+
+pub content_either : (p : Path) (c : Cut) → content_row_place p c ≡ or_flow (line_content_at p c) (option_and_then (λ (e : PlacedEntry). content_place e.1) (flow_entry_at p c))
+content_either p c = search rules
+
+-- the place of the entry or item of a line at a path
+line_entry_is : (k : ℕ) (c : Cut) (rs : List Row) (steps : List Step) (first : ℕ) (x : LineCounts) → Some x ≡ option_map (numbers first) (row_line_of steps rs) → line_entry_of k c rs steps ≡ entry_of k c rs steps
+line_entry_is k c rs [] first x e = absurd (cc)
+line_entry_is k c rs (s ∷ ss) first x e = search rules
+
+pub row_line_entry : (p : Path) (c : Cut) (first : ℕ) (x : LineCounts) → Some x ≡ option_map (numbers first) (row_line_at p c) → line_entry_at p c ≡ entry_at p c
+row_line_entry p c first x e = search rules
+
+-- ---- the first of the ends of parts before a row
+
+first_taken : (bs : List Bound) (from k : ℕ) (b : Bound) → slice_get bs from ≡ Some b → take (suc k) (drop from bs) ≡ b ∷ take k (drop (suc from) bs)
+first_taken [] from k b h = cc
+first_taken (x ∷ bs) zero k b h = ap (λ (y : Bound). y ∷ take k bs) (same_Some _ _ h)
+first_taken (x ∷ bs) (suc from) k b h = first_taken bs from k b h
+
+pub range_first : (bs : List Bound) (from to : ℕ) (b : Bound) → slice_get bs from ≡ Some b → from < to → take (to - from) (drop from bs) ≡ b ∷ take (to - from - 1) (drop (suc from) bs)
+range_first bs from to b h less = search (rules, first_taken)
+
+pub range_none : (bs : List Bound) (from to : ℕ) → to ≤ from → take (to - from) (drop from bs) ≡ []
+range_none bs from to le = search rules

@@ -1,0 +1,80 @@
+-- Items stay known in a text that keeps what is in front.
+use Rattle.std.proofs.Common.{◌≡◌, ℕ, zero, suc, ◌+◌, ◌-◌, ◌<◌, ◌≤◌, ltb, cond, Bool, List, [], ◌∷◌, ◌++◌, length, take, Option, Some, None, refl, ap, ◌∙◌, subst, arith, ltb-false, rules}
+use Rattle.std.proofs.lemmas.List.{take-append-le}
+use Rattle.std.proofs.lemmas.Option.{same_Some}
+use Rattle.std.specs.List.{slice_get, sum_by}
+use Rattle.std.specs.Prelude.{IfSome}
+use Rattle.yq_row_table.specs.Items.{Item, row_item, end_item, items_of_cut, rows_in_items, bounds_in_items, view_of_items}
+use Rattle.yq_row_table.specs.Kept.{near}
+use Rattle.yq_row_table.specs.Rows.{Cut}
+use Rattle.yq_row_table.specs.Offsets.{row_length}
+use Rattle.yq_row_table.specs.RowStarts.{passed_length, row_start}
+use Rattle.yq_row_table.specs.Touched.{TouchesOnly, item_text, in_front}
+use Rattle.yq_row_table.specs.View.{Slices, slices, RowsView, rows_view}
+use Rattle.yq_row_table.specs.declared.offsets.Offsets as declared
+use Rattle.yq_row_table.proofs.ItemLaws.{items_view_is}
+use Rattle.yq_row_table.proofs.NearLaws.{near_at}
+use Rattle.yq_outline.specs.RowWalk.{IsKnown}
+use Rattle.yq_lookup.specs.RowWalk.{StaysKnown}
+use Rattle.yq_outline.specs.declared.line_position.KnownItem.{KnownItem}
+use Rattle.yq_outline.proofs.KnownLaws.{one_there}
+
+begins_behind : (xs : List Item) (m i : ℕ) (o : declared.Offsets) → slice_get (near m xs) i ≡ Some o → m ≤ o.start
+begins_behind [] m i o e = absurd (cc)
+begins_behind (row_item r ∷ xs) m zero o e = omega (arith, ap (λ (p : declared.Offsets). p.start) (same_Some _ _ e))
+begins_behind (row_item r ∷ xs) m (suc i) o e = omega (arith, begins_behind xs _ i o e)
+begins_behind (end_item gap marker ∷ xs) m i o e = omega (arith, begins_behind xs _ i o e)
+
+-- the rows before one that begins in front of an offset are among the items in front of it
+rows_in_front : (xs : List Item) (m n i : ℕ) (o : declared.Offsets) → slice_get (near m xs) i ≡ Some o → o.start < m + n → i ≤ length (rows_in_items (in_front n xs))
+rows_in_front [] m n i o e less = absurd (cc)
+rows_in_front (row_item r ∷ xs) m n zero o e less = omega arith
+rows_in_front (row_item r ∷ xs) m n (suc i) o e less = go (ltb own n) refl (rows_in_front xs (m + own) (n - own) i o e)
+  where
+    own : ℕ
+    own = length (item_text (row_item r))
+
+    go : (b : Bool) → ltb own n ≡ b → (o.start < (m + own) + (n - own) → i ≤ length (rows_in_items (in_front (n - own) xs))) → suc i ≤ length (rows_in_items (cond b (row_item r ∷ in_front (n - own) xs) []))
+    go b h1 h2 = search (rules, ltb-false, begins_behind)
+rows_in_front (end_item gap marker ∷ xs) m n i o e less = go (ltb own n) refl (rows_in_front xs (m + own) (n - own) i o e)
+  where
+    own : ℕ
+    own = length (item_text (end_item gap marker))
+
+    go : (b : Bool) → ltb own n ≡ b → (o.start < (m + own) + (n - own) → i ≤ length (rows_in_items (in_front (n - own) xs))) → i ≤ length (rows_in_items (cond b (end_item gap marker ∷ in_front (n - own) xs) []))
+    go b h1 h2 = search (rules, ltb-false, begins_behind)
+
+rows_joined : (xs ys : List Item) → rows_in_items (xs ++ ys) ≡ rows_in_items xs ++ rows_in_items ys
+rows_joined [] ys = refl
+rows_joined (row_item r ∷ xs) ys = ap (λ (l : List Slices). slices r ∷ l) (rows_joined xs ys)
+rows_joined (end_item gap marker ∷ xs) ys = rows_joined xs ys
+
+-- the first rows of a cut whose items begin with others
+first_rows : (c : Cut) (front rest : List Item) (i : ℕ) → items_of_cut c ≡ front ++ rest → i ≤ length (rows_in_items front) → take i (rows_view c).rows ≡ take i (rows_in_items front)
+first_rows c front rest i are within = cc (items_view_is c, rows_joined front rest, take-append-le i (rows_in_items front) (rows_in_items rest) within)
+
+-- where a row begins
+none_before : (i : ℕ) → 0 + i ≡ i
+none_before i = omega arith
+
+begins_at : (xs : List Item) (i : ℕ) → 0 + (sum_by row_length (take i (rows_in_items xs)) + sum_by (passed_length (0 + i)) (bounds_in_items 0 xs)) ≡ row_start i (view_of_items xs)
+begins_at xs i = omega (arith, ap (λ (j : ℕ). sum_by (passed_length j) (bounds_in_items 0 xs)) (none_before i))
+
+pub stays_known : (c : Cut) (k : KnownItem) (front : ℕ) → IsKnown (rows_view c).rows k → k.row < length (rows_view c).rows → row_start k.row (rows_view c) < front → StaysKnown front c k
+stays_known c k front known within before new back touched =
+    let r = one_there (rows_view c).rows k.row within in
+    let there : slice_get (rows_in_items (items_of_cut c)) k.row ≡ Some r.0 = ap (λ (x : RowsView). slice_get x.rows k.row) (items_view_is c) ∙ r.1 in
+    let n = near_at (items_of_cut c) 0 0 k.row r.0 there in
+    let start : 0 + (sum_by row_length (take k.row (rows_in_items (items_of_cut c))) + sum_by (passed_length (0 + k.row)) (bounds_in_items 0 (items_of_cut c))) ≡ row_start k.row (rows_view c) = begins_at (items_of_cut c) k.row ∙ ap (row_start k.row) (items_view_is c) in
+    let first : k.row ≤ length (rows_in_items (in_front front (items_of_cut c))) = rows_in_front (items_of_cut c) 0 front k.row _ n (omega (arith, before, start)) in
+    let old = first_rows c (in_front front (items_of_cut c)) _ k.row touched.old_are first in
+    search (rules, first_rows, first, old)
+
+pub view_stays : (s : RowsView) (k : KnownItem) (front : ℕ) → IsKnown s.rows k → k.row < length s.rows → row_start k.row s < front → (c : Cut) → s ≡ rows_view c → StaysKnown front c k
+view_stays s k front known within before c is =
+    stays_known c k front (subst (λ (x : RowsView). IsKnown x.rows k) is known) (subst (λ (x : RowsView). k.row < length x.rows) is within) (subst (λ (x : RowsView). row_start k.row x < front) is before)
+
+-- an item, if there is one, stays known in a text that keeps what is in front
+pub one_stays : (front back : ℕ) (s : RowsView) (c new : Cut) (k : Option KnownItem) → s ≡ rows_view c → IfSome k (λ x. (a : Cut) → s ≡ rows_view a → StaysKnown front a x) → TouchesOnly front back c new → IfSome k (IsKnown (rows_view new).rows)
+one_stays front back s c new None is h touched = h
+one_stays front back s c new (Some k) is h touched = h c is new back touched

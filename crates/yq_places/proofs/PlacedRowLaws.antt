@@ -1,0 +1,113 @@
+-- A document's rows in the text of a cut, and the row of a line, by the rows of all parts.
+use Rattle.std.proofs.Common.{◌≡◌, ℕ, zero, suc, ◌+◌, ◌-◌, ltb, List, [], ◌∷◌, ◌++◌, length, take, drop, Option, Some, None, option_map, refl, sym, ap, ◌∙◌, subst, arith, rules}
+use Rattle.std.proofs.lemmas.Bool.{lt-ltb, le-ltb, cond-true, cond-false}
+use Rattle.std.proofs.lemmas.Option.{slice_get_within, none-some, same_Some}
+use Rattle.std.specs.List.{slice_get}
+use Rattle.yq_core.specs.Answers.{◌>>=◌}
+use Rattle.yq_row_table.specs.Exchange.{rows_text_behind, behind_row}
+use Rattle.yq_row_table.specs.Rows.{Row, rows_text, Part, Cut, last, marked, cut_text}
+use Rattle.yq_row_table.specs.Splices.{nth_part, behind_part}
+use Rattle.yq_row_table.specs.View.{rows_of}
+use Rattle.yq_outline.specs.Ends.{line_at_steps}
+use Rattle.yq_documents.specs.declared.path.Path.{Path}
+use Rattle.yq_lookup.specs.CommentReading.{before_row}
+use Rattle.yq_documents.specs.Documents.{document_parts}
+use Rattle.yq_outline.specs.Lines.{lines_of_rows}
+use Rattle.yq_documents.specs.Located.{steps_of}
+use Rattle.yq_lookup.specs.PlacedRows.{PlacedPart, PlacedRow, placed_at, placed_document, placed_row, row_of_path}
+use Rattle.yq_lookup.specs.RowLineReading.{LineCounts, numbers}
+use Rattle.yq_documents.specs.LinesInRows.{RowLine, row_line_of, row_line_at, document_row}
+use Rattle.yq_documents.specs.PartNumbers.{part_number, rows_to}
+use Rattle.yq_documents.proofs.PartNumberLaws.{part_there}
+use Rattle.yq_lookup.proofs.PlacedPartLaws.{part_stands, row_before}
+use Rattle.yq_outline.proofs.KnownLaws.{get_front}
+use Rattle.yq_lookup.proofs.RowLineSpans.{steps_row}
+
+-- A row of a cut stands behind others, between these texts.
+pub record IsAt (c : Cut) (i : ℕ) (before : List ℕ) (r : Row) (behind : List ℕ) : Type 0 where
+  pub there : slice_get (rows_of c) i ≡ Some r
+  pub before_is : before_row i c ≡ before
+  pub behind_is : behind_row i c ≡ behind
+
+-- So do the rows of a document.
+abbrev pub HasRowsAt : Cut → ℕ → PlacedPart → Type 0
+HasRowsAt c k s = (j : ℕ) (r : Row) → slice_get s.part.rows j ≡ Some r → IsAt c (k + j) (s.before ++ rows_text (take j s.part.rows) []) r (rows_text (drop (suc j) s.part.rows) (s.part.end ++ s.behind))
+
+rows_behind : (rows : List Row) (i : ℕ) (rest : List ℕ) → rows_text_behind i rows rest ≡ rows_text (drop (suc i) rows) rest
+rows_behind [] i rest = refl
+rows_behind (x ∷ rows) zero rest = refl
+rows_behind (x ∷ rows) (suc i) rest = rows_behind rows i rest
+
+get_behind : (xs ys : List Row) (n : ℕ) → slice_get (xs ++ ys) (length xs + n) ≡ slice_get ys n
+get_behind [] ys n = ap (slice_get ys) (omega arith)
+get_behind (x ∷ xs) ys n = let more : suc (length xs) + n ≡ suc (length xs + n) = omega arith in ap (slice_get (x ∷ (xs ++ ys))) more ∙ get_behind xs ys n
+
+rows_at : (i : ℕ) (c : Cut) (j : ℕ) (r : Row) → slice_get (nth_part i c).rows j ≡ Some r →
+    (slice_get (rows_of c) (rows_to i c + j) ≡ Some r) × (behind_row (rows_to i c + j) c ≡ rows_text (drop (suc j) (nth_part i c).rows) ((nth_part i c).end ++ behind_part i c))
+rows_at i (last p) j r is =
+    let at : 0 + j ≡ j = omega arith in
+    (ap (slice_get p.rows) at ∙ is, ap (λ n. rows_text_behind n p.rows (p.end ++ [])) at ∙ rows_behind p.rows j (p.end ++ []))
+rows_at zero (marked p marker c) j r is =
+    let at : 0 + j ≡ j = omega arith in
+    let rest : List ℕ = p.end ++ (marker ++ cut_text c) in
+    let here = lt-ltb j (length p.rows) (slice_get_within p.rows j r is) in (
+      ap (slice_get (p.rows ++ rows_of c)) at ∙ get_front p.rows (rows_of c) j r is,
+      ap (λ n. behind_row n (marked p marker c)) at ∙ (cond-true (ltb j (length p.rows)) (rows_text_behind j p.rows rest) (behind_row (j - length p.rows) c) here ∙ rows_behind p.rows j rest),
+    )
+rows_at (suc i) (marked q marker c) j r is =
+    let x = rows_at i c j r is in
+    let n : ℕ = rows_to i c + j in
+    let m : ℕ = length q.rows + n in
+    let at : length q.rows + rows_to i c + j ≡ m = omega arith in
+    let left : m - length q.rows ≡ n = omega arith in
+    let past = le-ltb m (length q.rows) (omega arith) in (
+      ap (slice_get (q.rows ++ rows_of c)) at ∙ (get_behind q.rows (rows_of c) n ∙ x.0),
+      ap (λ k. behind_row k (marked q marker c)) at
+          ∙ (cond-false (ltb m (length q.rows)) (rows_text_behind m q.rows (q.end ++ (marker ++ cut_text c))) (behind_row (m - length q.rows) c) past ∙ (ap (λ k. behind_row k c) left ∙ x.1)),
+    )
+
+pub part_at : (n : ℕ) (c : Cut) (s : PlacedPart) → placed_document n c ≡ Some s → HasRowsAt c (document_row n c) s
+part_at n c s e = search (rules, part_stands, rows_at, row_before, slice_get_within)
+
+-- a document's part
+abbrev pub part_of : Option PlacedPart → Option Part
+part_of o = option_map (λ (s : PlacedPart). s.part) o
+
+pub document_placed : (n : ℕ) (c : Cut) → slice_get (document_parts c) n ≡ part_of (placed_document n c)
+document_placed n c = go (slice_get (document_parts c) n) refl
+  where
+    go : (o : Option Part) → slice_get (document_parts c) n ≡ o → o ≡ part_of (option_map (λ p. placed_at (part_number n c) c) o)
+    go o h1 = search (rules, part_there)
+
+-- The line that the code tells is one of a row that stands there.
+pub record IsRowLineOf (path : Path) (c : Cut) (n : LineCounts) (w : PlacedRow) : Type 0 where
+  pub is : row_of_path path.doc (steps_of path) c ≡ Some w
+  pub line : n.1 ≡ w.line
+  pub dashes : n.2 ≡ length w.row.dashes
+  pub at : IsAt c n.0 w.before w.row w.behind
+
+pub row_line_placed : (path : Path) (c : Cut) (n : LineCounts) → Some n ≡ option_map (numbers (document_row path.doc c)) (row_line_at path c) → (w : PlacedRow) × IsRowLineOf path c n w
+row_line_placed path c n e = go (placed_document path.doc c) refl (e ∙ ap (λ (o : Option Part). option_map (numbers (document_row path.doc c)) (o >>= λ d. row_line_of (steps_of path) d.rows)) (document_placed path.doc c))
+  where
+    at_row_line : (s : PlacedPart) → placed_document path.doc c ≡ Some s → (o : Option RowLine) → row_line_of (steps_of path) s.part.rows ≡ o → Some n ≡ option_map (numbers (document_row path.doc c)) o → (w : PlacedRow) × IsRowLineOf path c n w
+    at_row_line s there None is e = absurd (none-some _ (sym e))
+    at_row_line s there (Some x) is e =
+        let found : n ≡ numbers (document_row path.doc c) x = same_Some _ _ e in
+        let row = steps_row (line_at_steps (steps_of path) (lines_of_rows s.part.rows)) s.part.rows x is in
+        let at = part_at path.doc c s there x.before x.row row in
+        let w : PlacedRow = placed_row s x in (
+          w,
+          record {
+            is = ap (λ (o : Option PlacedPart). o >>= λ s. option_map (placed_row s) (row_line_of (steps_of path) s.part.rows)) there ∙ ap (option_map (placed_row s)) is;
+            line = ap (λ (y : LineCounts). y.1) found;
+            dashes = ap (λ (y : LineCounts). y.2) found;
+            at = subst (λ i. IsAt c i w.before w.row w.behind) (sym (ap (λ (y : LineCounts). y.0) found)) at;
+          },
+        )
+
+    go : (o : Option PlacedPart) → placed_document path.doc c ≡ o → Some n ≡ option_map (numbers (document_row path.doc c)) (part_of o >>= λ d. row_line_of (steps_of path) d.rows) → (w : PlacedRow) × IsRowLineOf path c n w
+    go None is e = absurd (none-some _ (sym e))
+    go (Some s) is e = at_row_line s is (row_line_of (steps_of path) s.part.rows) refl e
+
+pub no_row_line_placed : (path : Path) (c : Cut) (k : ℕ) → None ≡ option_map (numbers k) (row_line_at path c) → row_of_path path.doc (steps_of path) c ≡ None
+no_row_line_placed path c k e = search (rules, document_placed)

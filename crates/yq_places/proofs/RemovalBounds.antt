@@ -1,0 +1,75 @@
+-- Rows of a document and the gaps behind them, among all rows of a text.
+use Rattle.std.proofs.Common.{◌≡◌, ℕ, zero, suc, ◌+◌, ◌-◌, ◌<◌, ◌≤◌, eqb, List, [], ◌∷◌, ◌++◌, length, length-append, take, Some, refl, ap, ◌∙◌, subst, arith, rules}
+use Rattle.std.proofs.lemmas.Bool.{cond-true, cond-false, eq-eqb, ne_eqb}
+use Rattle.std.proofs.lemmas.Option.{slice_get-map}
+use Rattle.std.specs.List.{slice_get}
+use Rattle.yq_row_table.specs.Removal.{block_of, last_block, next_column}
+use Rattle.yq_row_table.specs.Rows.{Row, Part, Cut, last, marked}
+use Rattle.yq_row_table.specs.Splices.{first_gap, nth_part}
+use Rattle.yq_row_table.specs.View.{rows_of, Bound, bounds_from, bounds_of, bounds_at, rows_view}
+use Rattle.yq_lookup.specs.PlacedRows.{PlacedPart, placed_document}
+use Rattle.yq_lookup.specs.RemovalReading.{gap_counts, gap_and_column}
+use Rattle.yq_documents.specs.LinesInRows.{document_row}
+use Rattle.yq_documents.specs.PartNumbers.{part_number, rows_to}
+use Rattle.yq_lookup.proofs.PlacedPartLaws.{part_stands}
+
+-- ---- the ends of parts before a row
+
+none_low : (i k : ℕ) (c : Cut) → i < k → bounds_at i (bounds_from k c) ≡ []
+none_low i k (last p) h = cond-false (eqb i (k + length p.rows)) (record { rows = k + length p.rows; end = p.end; marker = [] } ∷ []) [] (ne_eqb i (k + length p.rows) (λ e. omega (arith, e, h)))
+none_low i k (marked p marker c) h = cc (ne_eqb i (k + length p.rows) (λ e. omega (arith, e, h)), none_low i (k + length p.rows) c (omega (arith, h)))
+
+-- Inside a document no part ends before a row; behind its last row it does.
+record EndsAt (k i : ℕ) (c : Cut) (p : Part) (j : ℕ) : Type 0 where
+  pub inside : j < length p.rows → bounds_at i (bounds_from k c) ≡ []
+  pub behind : j ≡ length p.rows → (b : Bound) × (bs : List Bound) × (bounds_at i (bounds_from k c) ≡ b ∷ bs) × (b.end ≡ p.end)
+
+ends_at : (m k : ℕ) (c : Cut) (j i : ℕ) → 0 < j → i ≡ k + rows_to m c + j → EndsAt k i c (nth_part m c) j
+ends_at m k (last p) j i some at =
+    let b : Bound = record { rows = k + length p.rows; end = p.end; marker = [] } in
+    record {
+      inside = λ h. cond-false (eqb i (k + length p.rows)) (b ∷ []) [] (ne_eqb i (k + length p.rows) (λ e. omega (arith, e, at, h)));
+      behind = λ h. (b, [], cond-true (eqb i (k + length p.rows)) (b ∷ []) [] (eq-eqb i (k + length p.rows) (omega (arith, at, h))), refl);
+    }
+ends_at zero k (marked p marker c) j i some at =
+    let b : Bound = record { rows = k + length p.rows; end = p.end; marker = marker } in
+    let others : List Bound = bounds_at i (bounds_from (k + length p.rows) c) in
+    record {
+      inside = λ h. cond-false (eqb i (k + length p.rows)) (b ∷ others) others (ne_eqb i (k + length p.rows) (λ e. omega (arith, e, at, h))) ∙ none_low i (k + length p.rows) c (omega (arith, at, h));
+      behind = λ h. (b, others, cond-true (eqb i (k + length p.rows)) (b ∷ others) others (eq-eqb i (k + length p.rows) (omega (arith, at, h))), refl);
+    }
+ends_at (suc m) k (marked p marker c) j i some at =
+    let b : Bound = record { rows = k + length p.rows; end = p.end; marker = marker } in
+    let others : List Bound = bounds_at i (bounds_from (k + length p.rows) c) in
+    let h = ends_at m (k + length p.rows) c j i some (omega (arith, at)) in
+    let past = cond-false (eqb i (k + length p.rows)) (b ∷ others) others (ne_eqb i (k + length p.rows) (λ e. omega (arith, e, at, some))) in
+    record { inside = λ x. past ∙ h.inside x; behind = λ x. let y = h.behind x in (y.0, y.1, past ∙ y.2, y.3) }
+
+-- the gap before the rows of a document behind some, and its column
+pub gap_behind : (n : ℕ) (c : Cut) (d : PlacedPart) (some back : List Row) → placed_document n c ≡ Some d → d.part.rows ≡ some ++ back → 0 < length some →
+    ((r : Row) (rs : List Row) → back ≡ r ∷ rs → slice_get (rows_of c) (document_row n c + length some) ≡ Some r) →
+    gap_counts (document_row n c + length some) (rows_view c) ≡ (first_gap back d.part.end, next_column back)
+gap_behind n c d some back e rows more there = go back refl (subst (λ (y : PlacedPart). EndsAt 0 i c y.part (length some)) (part_stands n c d e).is (ends_at (part_number n c) 0 c (length some) i more (omega arith)))
+  where
+    i : ℕ
+    i = document_row n c + length some
+
+    size : (bs : List Row) → back ≡ bs → length d.part.rows ≡ length some + length bs
+    size bs is = ap length (rows ∙ ap (λ (x : List Row). some ++ x) is) ∙ length-append some bs
+
+    go : (bs : List Row) → back ≡ bs → EndsAt 0 (document_row n c + length some) c d.part (length some) →
+        gap_and_column (bounds_at (document_row n c + length some) (bounds_of c)) (slice_get (rows_view c).rows (document_row n c + length some)) ≡ (first_gap back d.part.end, next_column back)
+    go [] is h = search rules
+    go (r ∷ rs) is h =
+        let none_there = h.inside (omega (arith, size (r ∷ rs) is)) in
+        search (rules, slice_get-map, none_there)
+
+-- the last of several rows
+pub last_row : (k : ℕ) (rs : List Row) → 0 < k → k ≤ length rs → (r : Row) × (slice_get rs (k - 1) ≡ Some r) × (last_block (take k rs) ≡ block_of r.content)
+last_row zero rs h less = absurd (omega (arith, h))
+last_row (suc k) [] h less = absurd (omega (arith, less))
+last_row (suc zero) (r ∷ rs) h less = (r, refl, refl)
+last_row (suc (suc k)) (r ∷ []) h less = absurd (omega (arith, less))
+last_row (suc (suc k)) (r ∷ (q ∷ rs)) h less =
+    let x = last_row (suc k) (q ∷ rs) (omega arith) (omega (arith, less)) in
+    search (rules, x)

@@ -1,0 +1,144 @@
+-- Where a document ends in which no rows are, as the code counts it.
+use Rattle.std.proofs.Common.{◌≡◌, ℕ, zero, suc, ◌+◌, List, [], ◌∷◌, ◌++◌, length, map, take, drop, Option, Some, None, option_map, true, false, refl, sym, ap, ◌∙◌, subst, arith, append_assoc, append-nil, length-append}
+use Rattle.std.proofs.Math.Seq.{drop-append_seam, take-append_seam, take-append-add}
+use Rattle.std.proofs.lemmas.Bool.{false≢true, cond-true, cond-false}
+use Rattle.std.proofs.lemmas.List.{length-map, map-append, nil_from_length}
+use Rattle.std.proofs.lemmas.List.Sums.{sum_by-cons, sum_by-append}
+use Rattle.std.proofs.lemmas.Option.{same_Some}
+use Rattle.std.specs.List.{slice_get, sum_by}
+use Rattle.std.specs.Str.{IsUtf8, IsCharBoundary}
+use Rattle.yq_core.specs.Answers.{◌>>=◌}
+use Rattle.yq_core.proofs.Bools.{bind_some, guard_then}
+use Rattle.yq_row_table.specs.Grammar.{unlimited, AreRows, IsCut, no_rows}
+use Rattle.yq_row_table.specs.Offsets.{row_length}
+use Rattle.yq_row_table.specs.Rows.{Row, rows_text, Part, part_text, Cut, last, marked}
+use Rattle.yq_row_table.specs.Splices.{nth_part}
+use Rattle.yq_row_table.specs.View.{Slices, slices, Bound, bounds_from, bounds_of, rows_of, RowsView, rows_view}
+use Rattle.yq_outline.specs.Extents.{bound_length}
+use Rattle.yq_documents.specs.PartNumbers.{part_number, document_part, rows_to}
+use Rattle.yq_documents.proofs.PartNumberLaws.{document_found, document_missing, end_agrees}
+use Rattle.yq_lookup.specs.PlacedRows.{before_part, placed_at, placed_document}
+use Rattle.yq_documents.specs.Reading.{cut_of}
+use Rattle.yq_row_table.specs.RowStarts.{part_end}
+use Rattle.yq_lookup.specs.RootReading.{if_rowless, rowless_place, rowless_at}
+use Rattle.yq_lookup.specs.Standings.{NoRows}
+use Rattle.yq_lookup.proofs.CommentPieceLaws.{gap_end}
+use Rattle.yq_outline.proofs.LengthLaws.{part-length}
+use Rattle.yq_lookup.proofs.PlacedPartLaws.{map_some, part_stands}
+use Rattle.yq_lookup.proofs.RemovalLines.{LineSeam, lies_in, seam_join}
+use Rattle.yq_lookup.proofs.RemovalViewLaws.{line_boundary}
+
+-- ---- the sums of the code
+
+-- how long rows are
+abbrev rows_sum : List Row → ℕ
+rows_sum rows = sum_by row_length (map slices rows)
+
+-- the rows of a part, and some behind it
+rows_first : (a b : List Row) (m : ℕ) → sum_by row_length (take (length a + m) (map slices (a ++ b))) ≡ rows_sum a + sum_by row_length (take m (map slices b))
+rows_first a b m =
+    ap (λ (l : List Slices). sum_by row_length (take (length a + m) l)) (map-append slices a b)
+    ∙ (ap (λ (k : ℕ). sum_by row_length (take (k + m) (map slices a ++ map slices b))) (sym (length-map a slices))
+    ∙ (ap (sum_by row_length) (take-append-add (map slices a) (map slices b) m) ∙ sum_by-append row_length (map slices a) (take m (map slices b))))
+
+no_sum : (ss : List Slices) → sum_by row_length (take 0 ss) ≡ 0
+no_sum ss = refl
+
+ends_here : (p : Part) (behind : List Row) → sum_by row_length (take (0 + length p.rows) (map slices (p.rows ++ behind))) ≡ rows_sum p.rows
+ends_here p behind =
+    let none : 0 + length p.rows ≡ length p.rows + 0 = omega arith in
+    ap (λ (k : ℕ). sum_by row_length (take k (map slices (p.rows ++ behind)))) none ∙ (rows_first p.rows behind 0 ∙ omega (arith, no_sum (map slices behind)))
+
+-- the rows before the end of part i, and the bounds before it, are the text up to there
+ends_at : (i n : ℕ) (c : Cut) (b : Bound) → slice_get (bounds_from n c) i ≡ Some b →
+    sum_by row_length (take (rows_to i c + length (nth_part i c).rows) (map slices (rows_of c))) + sum_by bound_length (take i (bounds_from n c)) + length b.end ≡ length (before_part i c ++ part_text (nth_part i c) [])
+ends_at zero n (last p) b e =
+    let all = ap (λ (rs : List Row). sum_by row_length (take (0 + length p.rows) (map slices rs))) (sym (append-nil p.rows)) ∙ ends_here p [] in
+    omega (arith, all, part-length p [], ap (λ (x : Bound). length x.end) (same_Some _ _ e))
+ends_at (suc i) n (last p) b e = absurd (cc)
+ends_at zero n (marked p marker c) b e = omega (arith, ends_here p (rows_of c), part-length p [], ap (λ (x : Bound). length x.end) (same_Some _ _ e))
+ends_at (suc i) n (marked p marker c) b e =
+    let first : Bound = record { rows = n + length p.rows; end = p.end; marker = marker } in
+    let bs : List Bound = bounds_from (n + length p.rows) c in
+    let size : ℕ = rows_to i c + length (nth_part i c).rows in
+    let text : length ((part_text p marker ++ before_part i c) ++ part_text (nth_part i c) []) ≡ length (part_text p marker) + length (before_part i c ++ part_text (nth_part i c) []) =
+    omega (arith, length-append (part_text p marker ++ before_part i c) (part_text (nth_part i c) []), length-append (part_text p marker) (before_part i c), length-append (before_part i c) (part_text (nth_part i c) [])) in
+    let sum : length p.rows + rows_to i c + length (nth_part i c).rows ≡ length p.rows + size = omega arith in
+    let rows = ap (λ (k : ℕ). sum_by row_length (take k (map slices (p.rows ++ rows_of c)))) sum ∙ rows_first p.rows (rows_of c) size in
+    omega (arith, rows, sum_by-cons bound_length first (take i bs), ends_at i (n + length p.rows) c b e, part-length p marker, text)
+
+-- ---- documents that were found
+
+pub no_end : (c : Cut) (i : ℕ) → None ≡ document_part i c → None ≡ rowless_at i c
+no_end c i e =
+    sym (ap (λ (o : Option Part). option_map (λ (x : NoRows). length x.before) (option_map (λ (p : Part). placed_at (part_number i c) c) o >>= if_rowless)) (document_missing c i e))
+
+-- where a document ends, by the bound of its part
+module _ (s : RowsView) (c : Cut) (i k first : ℕ) (b : Bound) (is : s ≡ rows_view c) (number : Some k ≡ document_part i c) (from : first ≡ rows_to k c) (bound : slice_get s.bounds k ≡ Some b) where
+  at : slice_get (bounds_of c) k ≡ Some b
+  at = ap (λ (x : RowsView). slice_get x.bounds k) (sym is) ∙ bound
+
+  size : b.rows ≡ rows_to k c + length (nth_part k c).rows
+  size = end_agrees k 0 c b at ∙ omega arith
+
+  placed : rowless_place i c ≡ if_rowless (placed_at k c)
+  placed =
+      let d = document_found c i k number in
+      ap (λ (o : Option Part). option_map (λ (p : Part). placed_at (part_number i c) c) o >>= if_rowless) d.1 ∙ ap (λ j. if_rowless (placed_at j c)) (sym d.2)
+
+  pub written_none : (first ≡ b.rows → ⊥) → None ≡ rowless_at i c
+  written_none some = sym (ap (option_map (λ (x : NoRows). length x.before)) (placed ∙ cond-false _ _ _ (go (nth_part k c).rows refl)))
+    where
+      go : (rs : List Row) → (nth_part k c).rows ≡ rs → no_rows rs ≡ false
+      go [] none = absurd (some (omega (arith, from, size, ap length none)))
+      go (r ∷ rs) none = refl
+
+  pub end_there : first ≡ b.rows → Some (part_end k b s) ≡ rowless_at i c
+  end_there none =
+      let rows : (nth_part k c).rows ≡ [] = nil_from_length (nth_part k c).rows (omega (arith, none, from, size)) in
+      let lengths : part_end k b s ≡ length (before_part k c ++ part_text (nth_part k c) []) =
+      (λ j. sum_by row_length (take (size j) (is j).rows) + sum_by bound_length (take k (is j).bounds) + length b.end) ∙ ends_at k 0 c b at in
+      let text : part_text (nth_part k c) [] ≡ (nth_part k c).end = ap (λ (rs : List Row). rows_text rs ((nth_part k c).end ++ [])) rows ∙ append-nil (nth_part k c).end in
+      ap Some (lengths ∙ ap (λ x. length (before_part k c ++ x)) text)
+      ∙ sym (ap (option_map (λ (x : NoRows). length x.before)) (placed ∙ cond-true _ _ _ (ap no_rows rows)))
+
+-- ---- the place in the text
+
+-- A text in two at the place of a root that isn't written.
+record IsUnwritten (t : List ℕ) (w : NoRows) : Type 0 where
+  pub text : t ≡ w.before ++ w.behind
+  pub seam : LineSeam w.before w.behind
+
+unwritten_is : (t : List ℕ) (i : ℕ) (w : NoRows) → IsCut t (cut_of t) → rowless_place i (cut_of t) ≡ Some w → IsUnwritten t w
+unwritten_is t i w cut e =
+    let c : Cut = cut_of t in
+    let d = bind_some (placed_document i c) e in
+    let g = guard_then (no_rows d.0.part.rows) d.2 in
+    let rows : d.0.part.rows ≡ [] = none_left d.0.part.rows g.0 in
+    let st = part_stands i c d.0 d.1 in
+    let lies = lies_in i c d.0 cut.parts d.1 in
+    let part : part_text d.0.part d.0.behind ≡ d.0.part.end ++ d.0.behind = ap (λ (rs : List Row). rows_text rs (d.0.part.end ++ d.0.behind)) rows in
+    let gap = gap_end d.0.part.end d.0.behind (subst (λ (rs : List Row). AreRows unlimited rs d.0.part.end d.0.behind) rows lies.rows) in
+    subst (IsUnwritten t) (same_Some _ _ g.1) (record {
+      text = cut.text ∙ (st.text ∙ (ap (λ x. d.0.before ++ x) part ∙ sym (append_assoc d.0.before d.0.part.end d.0.behind)));
+      seam = seam_join d.0.before d.0.part.end d.0.behind (subst (LineSeam d.0.before) part lies.seam) gap;
+    })
+  where
+    none_left : (rs : List Row) → no_rows rs ≡ true → rs ≡ []
+    none_left [] e = refl
+    none_left (r ∷ rs) e = absurd (false≢true e)
+
+pub unwritten_boundary : (t : List ℕ) (i end : ℕ) → IsCut t (cut_of t) → IsUtf8 t → Some end ≡ rowless_at i (cut_of t) → IsCharBoundary t end
+unwritten_boundary t i end cut u e =
+    let w = map_some (λ (x : NoRows). length x.before) (rowless_place i (cut_of t)) end (sym e) in
+    let x = unwritten_is t i w.0 cut w.1 in
+    subst (λ (y : List ℕ). IsCharBoundary y end) (sym x.text) (subst (IsCharBoundary (w.0.before ++ w.0.behind)) w.2 (line_boundary w.0.before w.0.behind x.seam (subst IsUtf8 x.text u)))
+
+pub rowless_agrees : (t : List ℕ) (i end : ℕ) (before behind : List ℕ) → IsCut t (cut_of t) → Some end ≡ rowless_at i (cut_of t) → before ≡ take end t → behind ≡ drop end t →
+    Some (record { before = before; behind = behind }) ≡ rowless_place i (cut_of t)
+rowless_agrees t i end before behind cut e first second =
+    let w = map_some (λ (x : NoRows). length x.before) (rowless_place i (cut_of t)) end (sym e) in
+    let x = unwritten_is t i w.0 cut w.1 in
+    let a : before ≡ w.0.before = first ∙ ((λ j. take (sym w.2 j) (x.text j)) ∙ take-append_seam w.0.before w.0.behind) in
+    let b : behind ≡ w.0.behind = second ∙ ((λ j. drop (sym w.2 j) (x.text j)) ∙ drop-append_seam w.0.before w.0.behind) in
+    (λ j. Some (record { before = a j; behind = b j })) ∙ sym w.1

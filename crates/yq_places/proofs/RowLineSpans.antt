@@ -1,0 +1,87 @@
+-- Where a part of a line stands, by the pieces of its row.
+use Rattle.std.proofs.Common.{◌≡◌, ℕ, suc, ◌+◌, ◌-◌, ◌<◌, ltb, List, [], ◌∷◌, length, Option, Some, None, option_map, Bool, cond, refl, sym, ap, ◌∙◌, subst, rules}
+use Rattle.std.proofs.lemmas.Option.{slice_get_within, slice_get-map, same_Some}
+use Rattle.std.specs.List.{slice_get}
+use Rattle.yq_core.specs.Answers.{◌>>=◌}
+use Rattle.yq_row_table.specs.Rows.{Row, Part, Cut}
+use Rattle.yq_row_table.specs.View.{Slices, slices, rows_of, RowsView, rows_view}
+use Rattle.yq_documents.specs.declared.path.Path.{Path}
+use Rattle.yq_documents.specs.Documents.{document_parts}
+use Rattle.yq_outline.specs.Extents.{row_start}
+use Rattle.yq_outline.specs.Lines.{lines_of_rows}
+use Rattle.yq_documents.specs.Located.{steps_of}
+use Rattle.yq_documents.specs.Pieces.{TextPiece, piece_span}
+use Rattle.yq_documents.specs.Reading.{cut_of}
+use Rattle.yq_outline.specs.Ends.{line_at_steps}
+use Rattle.yq_lookup.specs.RowWalk.{HasCut}
+use Rattle.yq_lookup.specs.RowLineReading.{LineCounts, numbers}
+use Rattle.yq_documents.specs.LinesInRows.{RowLine, behind_one, row_line, row_line_of, row_line_at, document_row}
+use Rattle.yq_documents.proofs.PartRows.{part_begins}
+use Rattle.yq_outline.proofs.KnownLaws.{get_dropped, get_front}
+use Rattle.yq_outline.proofs.Values.{If}
+
+-- the row of a line
+row_line_row : (n : ℕ) (rs : List Row) → If (row_line n rs) (λ s. slice_get rs s.before ≡ Some s.row)
+row_line_row n [] = tt
+row_line_row n (r ∷ rs) = go (ltb (length r.dashes) n) (row_line (n - suc (length r.dashes)) rs) (row_line_row (n - suc (length r.dashes)) rs)
+  where
+    go : (b : Bool) (o : Option RowLine) → If o (λ s. slice_get rs s.before ≡ Some s.row) → If (cond b (option_map behind_one o) (Some (record { before = 0; row = r; line = n }))) (λ s. slice_get (r ∷ rs) s.before ≡ Some s.row)
+    go b o h1 = search rules
+
+of_some : (P : RowLine → Type 0) (o : Option RowLine) (s : RowLine) → If o P → o ≡ Some s → P s
+of_some P o s h1 h2 = search (rules, same_Some)
+
+pub steps_row : (steps : Option ℕ) (rs : List Row) (s : RowLine) → (steps >>= λ n. row_line n rs) ≡ Some s → slice_get rs s.before ≡ Some s.row
+steps_row None rs s e = absurd (cc)
+steps_row (Some n) rs s e = of_some (λ q. slice_get rs q.before ≡ Some q.row) (row_line n rs) s (row_line_row n rs) e
+
+document_row_line : (path : Path) (c : Cut) (o : Option Part) (s : RowLine) → slice_get (document_parts c) path.doc ≡ o → (o >>= λ d. row_line_of (steps_of path) d.rows) ≡ Some s → slice_get (rows_of c) (document_row path.doc c + s.before) ≡ Some s.row
+document_row_line path c None s is e = absurd (cc)
+document_row_line path c (Some p) s is e =
+    let b = part_begins c path.doc p is in
+    sym (get_dropped (rows_of c) (document_row path.doc c) s.before)
+    ∙ (ap (λ (rs : List Row). slice_get rs s.before) b.1
+    ∙ get_front p.rows b.0 s.before s.row (steps_row (line_at_steps (steps_of path) (lines_of_rows p.rows)) p.rows s e))
+
+pub path_row : (path : Path) (c : Cut) (s : RowLine) → row_line_at path c ≡ Some s → slice_get (rows_of c) (document_row path.doc c + s.before) ≡ Some s.row
+path_row path c s e = document_row_line path c (slice_get (document_parts c) path.doc) s refl e
+
+-- the row of the code's line is there
+row_slices : (path : Path) (c : Cut) (s : RowLine) (n : LineCounts) → row_line_at path c ≡ Some s → n ≡ numbers (document_row path.doc c) s → slice_get (rows_view c).rows n.0 ≡ Some (slices s.row)
+row_slices path c s n is e = ap (λ (x : LineCounts). slice_get (rows_view c).rows x.0) e ∙ (slice_get-map slices (rows_of c) (document_row path.doc c + s.before) ∙ ap (option_map slices) (path_row path c s is))
+
+pub row_within : (t : List ℕ) (x : RowsView) (path : Path) (n : LineCounts) → HasCut t x → Some n ≡ option_map (numbers (document_row path.doc (cut_of t))) (row_line_at path (cut_of t)) → n.0 < length x.rows
+row_within t x path n h e = go (row_line_at path (cut_of t)) refl e
+  where
+    go : (o : Option RowLine) → row_line_at path (cut_of t) ≡ o → Some n ≡ option_map (numbers (document_row path.doc (cut_of t))) o → n.0 < length x.rows
+    go None is e = absurd (cc)
+    go (Some s) is e = subst (λ (y : RowsView). n.0 < length y.rows) (sym h.rows) (slice_get_within (rows_view (cut_of t)).rows n.0 (slices s.row) (row_slices path (cut_of t) s n is (same_Some _ _ e)))
+
+-- a part, by where the row begins and its pieces
+abbrev SpanIn : Type 0
+SpanIn = ℕ → Slices → LineCounts → Option (ℕ × ℕ)
+
+-- the same as a piece of the text, in row i
+abbrev PieceIn : Type 0
+PieceIn = ℕ → RowLine → Cut → Option TextPiece
+
+abbrev SpanAgrees : SpanIn → PieceIn → Type 0
+SpanAgrees of in_ = (c : Cut) (i : ℕ) (s : RowLine) (k : ℕ) → slice_get (rows_of c) i ≡ Some s.row → of (row_start i (rows_view c)) (slices s.row) (numbers k s) ≡ option_map piece_span (in_ i s c)
+
+pub part_agrees : (of : SpanIn) (in_ : PieceIn) → SpanAgrees of in_ → (t : List ℕ) (x : RowsView) (path : Path) (n : LineCounts) (found : Option (ℕ × ℕ)) → HasCut t x →
+    Some n ≡ option_map (numbers (document_row path.doc (cut_of t))) (row_line_at path (cut_of t)) → ((y : Slices) → slice_get x.rows n.0 ≡ Some y → found ≡ of (row_start n.0 x) y n) →
+    found ≡ option_map piece_span (row_line_at path (cut_of t) >>= λ s. in_ (document_row path.doc (cut_of t) + s.before) s (cut_of t))
+part_agrees of in_ reports t x path n found h e agrees = go (row_line_at path (cut_of t)) refl e
+  where
+    go : (o : Option RowLine) → row_line_at path (cut_of t) ≡ o → Some n ≡ option_map (numbers (document_row path.doc (cut_of t))) o → found ≡ option_map piece_span (o >>= λ s. in_ (document_row path.doc (cut_of t) + s.before) s (cut_of t))
+    go None is e = absurd (cc)
+    go (Some s) is e =
+        let k : ℕ = document_row path.doc (cut_of t) in
+        let same = same_Some _ _ e in
+        agrees (slices s.row) (ap (λ (y : RowsView). slice_get y.rows n.0) h.rows ∙ row_slices path (cut_of t) s n is same)
+        ∙ ((λ j. of (row_start (same j).0 (h.rows j)) (slices s.row) (same j))
+        ∙ reports (cut_of t) (k + s.before) s k (path_row path (cut_of t) s is))
+
+pub no_part : (in_ : PieceIn) (t : List ℕ) (path : Path) → None ≡ option_map (numbers (document_row path.doc (cut_of t))) (row_line_at path (cut_of t)) →
+    None ≡ option_map piece_span (row_line_at path (cut_of t) >>= λ s. in_ (document_row path.doc (cut_of t) + s.before) s (cut_of t))
+no_part in_ t path e = search rules

@@ -1,0 +1,180 @@
+-- What stands at items and entries, by the rows that the code has found.
+use Rattle.std.proofs.Common.{◌≡◌, ℕ, suc, ◌+◌, ◌<◌, eqb, Bool, true, false, ◌&&◌, List, [], ◌∷◌, ◌++◌, length, length-append, map, Option, Some, None, option_map, refl, sym, ap, ◌∙◌, arith, append_assoc}
+use Rattle.std.proofs.lemmas.Bool.{cond-false, cond-true, eq-eqb, false≢true, ne_eqb}
+use Rattle.yq_core.specs.Answers.{◌>>=◌}
+use Rattle.yq_core.specs.Block.{BlockText}
+use Rattle.yq_core.specs.Paths.{Step}
+use Rattle.yq_core.specs.Text.{is_empty}
+use Rattle.yq_outline.specs.Positions.{has_no_mark}
+use Rattle.yq_row_table.specs.Grammar.{IsMark}
+use Rattle.yq_row_table.specs.Removal.{block_numbers, block_of}
+use Rattle.yq_row_table.specs.Rows as rows
+use Rattle.yq_row_table.specs.Rows.{Content, Nothing, Inline, Block, Row, dashes_text, print_row, rows_text, Cut}
+use Rattle.yq_row_table.specs.View.{Slices, slices, colon_of, content_cut, last_dash, RowsView}
+use Rattle.yq_row_table.proofs.seams.SeamLaws.{rows_text-append}
+use Rattle.yq_outline.specs.Lines.{line_mark}
+use Rattle.yq_documents.specs.Reading.{cut_of}
+use Rattle.yq_outline.proofs.RowLaws.{colon_some}
+use Rattle.yq_lookup.specs.Standings.{RowsOfEntry, alone, before_entry, behind_entry, behind_mark, below, beside, block, compact, compact_in, entry_standing, held, is_alone, lone, rows_of_entry, standing_at, under}
+use Rattle.yq_lookup.specs.StandingReading.{AreRowsOf, IsEntryIn, numbers_at}
+use Rattle.yq_lookup.specs.StandingViews.{held_at, held_if_last}
+use Rattle.yq_lookup.specs.declared.places.rows_of_entry.RowsOfEntry as declared
+use Rattle.yq_lookup.proofs.EntryNumbers.{FoundEntry, no_entry}
+use Rattle.yq_lookup.proofs.LinesCutLaws.{none_is}
+use Rattle.yq_lookup.proofs.RemovalTexts.{texts_then}
+
+-- ---- a node that is alone on its line
+
+marks : (ns : List ℕ) (m : rows.RowMark) (x : Content) (rest : List ℕ) → IsMark m x rest → (is_empty (dashes_text ns (last_dash m)) && is_empty (colon_of m)) ≡ (is_empty ns && has_no_mark (line_mark m))
+marks (n ∷ ns) m x rest h = refl
+marks [] rows.Bare x rest h = refl
+marks [] rows.Dash x rest h = refl
+marks [] (rows.Key key colon) x rest h = ap is_empty h.colon_is.spelled ∙ colon_some h.colon_is.white
+
+alone_agrees : (r : Row) (s : Slices) (rest : List ℕ) → slices r ≡ s → IsMark r.mark r.content rest → (is_empty s.dashes && is_empty s.colon) ≡ is_alone r
+alone_agrees r s rest is h = ap (λ (y : Slices). is_empty y.dashes && is_empty y.colon) (sym is) ∙ marks r.dashes r.mark r.content rest h
+
+pub then_alone : (r : Row) (s : Slices) (rest dashes colon : List ℕ) → slices r ≡ s → IsMark r.mark r.content rest → dashes ≡ s.dashes → colon ≡ s.colon → eqb (length dashes) 0 ≡ true → eqb (length colon) 0 ≡ is_alone r
+then_alone r s rest dashes colon is h a b e =
+    let none : true ≡ is_empty s.dashes = sym e ∙ (none_is dashes ∙ ap is_empty a) in
+    none_is colon ∙ (ap is_empty b ∙ (ap (λ x. x && is_empty s.colon) none ∙ alone_agrees r s rest is h))
+
+pub else_alone : (r : Row) (s : Slices) (rest dashes : List ℕ) → slices r ≡ s → IsMark r.mark r.content rest → dashes ≡ s.dashes → eqb (length dashes) 0 ≡ false → false ≡ is_alone r
+else_alone r s rest dashes is h a e =
+    let some : false ≡ is_empty s.dashes = sym e ∙ (none_is dashes ∙ ap is_empty a) in
+    ap (λ x. x && is_empty s.colon) some ∙ alone_agrees r s rest is h
+
+-- ---- rows under it
+
+pub none_below : (t : List ℕ) (s : RowsView) (e : RowsOfEntry) (m : declared.RowsOfEntry) → IsEntryIn t s e m → m.row + 1 ≡ m.end → beside (held e) ≡ below e e.under
+none_below t s e m h same = go e.under refl
+  where
+    go : (us : List Row) → e.under ≡ us → beside (held e) ≡ below e us
+    go [] is = refl
+    go (r ∷ rs) is = absurd (let size : length e.under ≡ suc (length rs) = ap length is in omega (arith, h.rows.last_is, same, size))
+
+-- the first row under it, with those under that, as rows of an item or entry
+abbrev pub next_entry : RowsOfEntry → Row → List Row → RowsOfEntry
+next_entry e r rs = record { start = e.start; front = e.front ++ (e.row ∷ []); row = r; line = 0; under = rs; back = e.back; end = e.end; behind = e.behind }
+
+-- The first row under it, with the others.
+pub record HasUnder (t : List ℕ) (s : RowsView) (e : RowsOfEntry) (row end : ℕ) : Type 0 where
+  pub first : Row
+  pub others : List Row
+  pub under_is : e.under ≡ first ∷ others
+  pub rows : AreRowsOf t s (next_entry e first others) (row + 1) end
+
+pub has_under : (t : List ℕ) (s : RowsView) (e : RowsOfEntry) (m : declared.RowsOfEntry) → IsEntryIn t s e m → (m.row + 1 ≡ m.end → ⊥) → HasUnder t s e m.row m.end
+has_under t s e m h some = go e.under refl
+  where
+    go : (us : List Row) → e.under ≡ us → HasUnder t s e m.row m.end
+    go [] is = absurd (some (let size : length e.under ≡ 0 = ap length is in omega (arith, h.rows.last_is, size)))
+    go (r ∷ rs) is =
+        let own = h.rows in
+        let size : length e.under ≡ suc (length rs) = ap length is in
+        record {
+          first = r;
+          others = rs;
+          under_is = is;
+          rows = record {
+            cut = own.cut;
+            rows_view_is = own.rows_view_is;
+            document = own.document;
+            part = own.part;
+            placed = own.placed;
+            rows_are = own.rows_are ∙ (ap (λ (us : List Row). e.front ++ (e.row ∷ (us ++ e.back))) is ∙ sym (append_assoc e.front (e.row ∷ []) (r ∷ (rs ++ e.back))));
+            start_is = own.start_is;
+            end_is = own.end_is;
+            behind_is = own.behind_is;
+            row_is = omega (arith, own.row_is, length-append e.front (e.row ∷ []));
+            last_is = omega (arith, own.last_is, size);
+          };
+        }
+
+module _ (t : List ℕ) (s : RowsView) (e : RowsOfEntry) (row end : ℕ) (h : HasUnder t s e row end) where
+  before_is : before_entry (next_entry e h.first h.others) ≡ before_entry e ++ print_row e.row []
+  before_is =
+      ap (λ (x : List ℕ). e.start ++ x) (rows_text-append e.front (e.row ∷ []) [] ∙ texts_then e.front [] (print_row e.row []))
+      ∙ sym (append_assoc e.start (rows_text e.front []) (print_row e.row []))
+
+  pub alone_is : is_alone h.first ≡ true → alone (lone (before_entry (next_entry e h.first h.others)) h.first (rows_text h.others (behind_entry e))) ≡ below e e.under
+  alone_is a =
+      ap (λ (x : List ℕ). alone (lone x h.first (rows_text h.others (behind_entry e)))) before_is
+      ∙ (sym (cond-true (is_alone h.first) (alone (lone (before_entry e ++ print_row e.row []) h.first (rows_text h.others (behind_entry e)))) (under (held e) h.first.column) a)
+      ∙ ap (below e) (sym h.under_is))
+
+  pub under_is : is_alone h.first ≡ false → under (held e) h.first.column ≡ below e e.under
+  under_is a =
+      sym (cond-false (is_alone h.first) (alone (lone (before_entry e ++ print_row e.row []) h.first (rows_text h.others (behind_entry e)))) (under (held e) h.first.column) a)
+      ∙ ap (below e) (sym h.under_is)
+
+-- ---- by the row's content
+
+pub some_block : (o : Option BlockText) (z : ℕ) (k : Bool) → Some (k, z) ≡ option_map block_numbers o → (b : BlockText) × ((o ≡ Some b) × (z ≡ b.indent.columns))
+some_block None z k e = absurd (cc)
+some_block (Some b) z k e = let same : (k, z) ≡ block_numbers b = cc in (b, (refl, ap (λ (p : Bool × ℕ). p.1) same))
+
+pub no_block : (o : Option BlockText) → None ≡ option_map block_numbers o → o ≡ None
+no_block None e = refl
+no_block (Some b) e = absurd (cc)
+
+block_mark : (e : RowsOfEntry) (x : Content) (b : BlockText) → block_of x ≡ Some b → block (held e) b.indent.columns ≡ behind_mark e x
+block_mark e (Nothing tail) b is = absurd (cc)
+block_mark e (Inline space node tail) b is = absurd (cc)
+block_mark e (Block space anchor k) b is = ap (λ (y : BlockText). block (held e) y.indent.columns) (let same : b ≡ k = cc in same)
+
+no_head : (e : RowsOfEntry) (x : Content) → block_of x ≡ None → is_empty (slices e.row).head ≡ true → below e e.under ≡ behind_mark e x
+no_head e (Nothing tail) none is = refl
+no_head e (Inline space node tail) none is = sym (cond-true (is_empty (slices e.row).head) (below e e.under) (beside (held e)) is)
+no_head e (Block space anchor k) none is = absurd (cc)
+
+some_head : (e : RowsOfEntry) (x : Content) → block_of x ≡ None → (slices e.row).head ≡ (content_cut x).3 → is_empty (slices e.row).head ≡ false → beside (held e) ≡ behind_mark e x
+some_head e (Nothing tail) none head is = absurd (false≢true (sym is ∙ ap is_empty head))
+some_head e (Inline space node tail) none head is = sym (cond-false (is_empty (slices e.row).head) (below e e.under) (beside (held e)) is)
+some_head e (Block space anchor k) none head is = absurd (cc)
+
+module _ (t : List ℕ) (s : RowsView) (e : RowsOfEntry) (m : declared.RowsOfEntry) (h : IsEntryIn t s e m) where
+  mark_here : m.line ≡ m.dashes → behind_mark e e.row.content ≡ entry_standing e
+  mark_here same = sym (cond-true (eqb e.line (length e.row.dashes)) (behind_mark e e.row.content) (compact (compact_in e)) (eq-eqb e.line (length e.row.dashes) (sym h.line ∙ (same ∙ h.dashes))))
+
+  pub block_here : m.line ≡ m.dashes → (b : BlockText) → block_of e.row.content ≡ Some b → block (held e) b.indent.columns ≡ entry_standing e
+  block_here same b is = block_mark e e.row.content b is ∙ mark_here same
+
+  pub below_here : m.line ≡ m.dashes → block_of e.row.content ≡ None → is_empty (slices e.row).head ≡ true → below e e.under ≡ entry_standing e
+  below_here same none is = no_head e e.row.content none is ∙ mark_here same
+
+  pub beside_here : m.line ≡ m.dashes → block_of e.row.content ≡ None → is_empty (slices e.row).head ≡ false → beside (held e) ≡ entry_standing e
+  beside_here same none is = some_head e e.row.content none refl is ∙ mark_here same
+
+-- ---- at a path
+
+pub some_steps : {A : Type 0} (f : A → Step) (xs : List A) {n : ℕ} → eqb n 0 ≡ false → n ≡ length xs → 0 < length (map f xs)
+some_steps f [] e same = absurd (false≢true (sym e ∙ eq-eqb _ 0 same))
+some_steps f (x ∷ xs) e same = omega arith
+
+pub no_held : (n : ℕ) (steps : List Step) (c : Cut) → None ≡ numbers_at n steps c → None ≡ held_at n steps c
+no_held n steps c e = sym (ap (λ (o : Option RowsOfEntry). o >>= held_if_last) (no_entry n steps c e))
+
+pub no_standing : (n : ℕ) (steps : List Step) (c : Cut) → None ≡ numbers_at n steps c → 0 < length steps → None ≡ standing_at n steps c
+no_standing n [] c e some = absurd (omega (arith, some))
+no_standing n (s ∷ ss) c e some = sym (ap (option_map entry_standing) (no_entry n (s ∷ ss) c e))
+
+module _ (t : List ℕ) (s : RowsView) (n : ℕ) (steps : List Step) (m : declared.RowsOfEntry) (f : FoundEntry t s n steps m) where
+  pub other_held : (m.line ≡ m.dashes → ⊥) → None ≡ held_at n steps (cut_of t)
+  other_held other =
+      let h = f.is in
+      sym (cond-false (eqb f.entry.line (length f.entry.row.dashes)) (Some (held f.entry)) None (ne_eqb f.entry.line (length f.entry.row.dashes) (λ same. other (h.line ∙ (same ∙ sym h.dashes)))))
+      ∙ sym (ap (λ (o : Option RowsOfEntry). o >>= held_if_last) f.place)
+
+  pub held_there : m.line ≡ m.dashes → Some (held f.entry) ≡ held_at n steps (cut_of t)
+  held_there same =
+      let h = f.is in
+      sym (cond-true (eqb f.entry.line (length f.entry.row.dashes)) (Some (held f.entry)) None (eq-eqb f.entry.line (length f.entry.row.dashes) (sym h.line ∙ (same ∙ h.dashes))))
+      ∙ sym (ap (λ (o : Option RowsOfEntry). o >>= held_if_last) f.place)
+
+  pub standing_there : 0 < length steps → Some (entry_standing f.entry) ≡ standing_at n steps (cut_of t)
+  standing_there some = go steps some f.place
+    where
+      go : (ss : List Step) → 0 < length ss → rows_of_entry n ss (cut_of t) ≡ Some f.entry → Some (entry_standing f.entry) ≡ standing_at n ss (cut_of t)
+      go [] some e = absurd (omega (arith, some))
+      go (x ∷ xs) some e = sym (ap (option_map entry_standing) e)

@@ -1,6 +1,0 @@
-use Rattle.std.proofs.Common.{rules}
-use Rattle.yq_row_places.proofs.KnownFronts.{one_stays}
-use Rattle.yq_places.proofs.cut_text.CutText.known_in_front.Goals as goal
-
-pub returns : goal.returns
-returns c = search (rules, one_stays)

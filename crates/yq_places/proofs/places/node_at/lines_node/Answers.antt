@@ -1,0 +1,26 @@
+use Rattle.std.proofs.Common.{cond, not, refl, sym, ap, ◌∙◌}
+use Rattle.yq_outline.specs.Lines.{lines_of_rows}
+use Rattle.yq_outline.specs.Ends.{has_no_lines, part}
+use Rattle.yq_lookup.specs.NodesAt.{list, map as mapping}
+use Rattle.yq_outline.specs.RowWalk.{line_number}
+use Rattle.yq_lookup.proofs.NodeAtLaws.{collection_view}
+use Rattle.yq_outline.proofs.WalkPositions.{located, position_line}
+use Rattle.yq_lookup.proofs.places.node_at.lines_node.Goals as goal
+
+pub returns-then-is_item_at : goal.returns-then-is_item_at
+returns-then-is_item_at c = λ h other.
+    let d = c.args.document in
+    let k = located c.args.rows.now d h c.args.under (position_line c.args.rows.now d c.args.under c.requires.under (c.if-not-is_deeper.ensures.some refl)) in
+    let several = not (has_no_lines (part (lines_of_rows h.rows) (line_number d h.rows c.behind-others.result) c.args.floor)) in
+    ap list (c.is_deeper-several.ensures.test h)
+    ∙ sym (collection_view (lines_of_rows h.rows) (line_number d h.rows c.args.under) c.args.floor (line_number d h.rows c.behind-others.result) k.line k.is (c.if-not-is_deeper.ensures.test h) other (c.behind-others.ensures.end h)
+    ∙ ap (λ b. cond b (list several) (mapping several)) (sym (c.if-is_item_at.ensures h k.line k.is)))
+
+pub returns-else-is_item_at : goal.returns-else-is_item_at
+returns-else-is_item_at c = λ h other.
+    let d = c.args.document in
+    let k = located c.args.rows.now d h c.args.under (position_line c.args.rows.now d c.args.under c.requires.under (c.if-not-is_deeper.ensures.some refl)) in
+    let several = not (has_no_lines (part (lines_of_rows h.rows) (line_number d h.rows c.behind-others.result) c.args.floor)) in
+    ap mapping (c.is_deeper-several.ensures.test h)
+    ∙ sym (collection_view (lines_of_rows h.rows) (line_number d h.rows c.args.under) c.args.floor (line_number d h.rows c.behind-others.result) k.line k.is (c.if-not-is_deeper.ensures.test h) other (c.behind-others.ensures.end h)
+    ∙ ap (λ b. cond b (list several) (mapping several)) (sym (c.if-is_item_at.ensures h k.line k.is)))

@@ -1,0 +1,58 @@
+-- Where the comments of entries and items stand, or would stand, in a text (YAML 1.2.2, 6.6; own).
+use Rattle.std.specs.Prelude.{ℕ, ◌==◌, List, ◌++◌, Option, Some, None, if◌then◌else◌}
+use Rattle.yq_core.specs.Answers.{◌>>=◌}
+use Rattle.yq_core.specs.Paths.{Step}
+use Rattle.yq_core.specs.Text as text
+use Rattle.yq_core.specs.Text.{ends_line, joined, text_lines, no_white, past_white}
+use Rattle.yq_row_table.specs.Exchange.{row_front}
+use Rattle.yq_row_table.specs.Rows.{Row, behind_gap, Cut}
+use Rattle.yq_row_table.specs.View.{slices}
+use Rattle.yq_documents.specs.Pieces.{before_run, last_run}
+use Rattle.yq_lookup.specs.PlacedRows.{PlacedRow, row_of_path}
+
+-- The end of a line: the text before it, the white space and the comment that end the line, each of which may be nothing, and the text from its break on (6.6).
+pub record LineEnd : Type 0 where
+  pub before : List ℕ
+  pub white : List ℕ
+  pub comment : List ℕ
+  pub behind : List ℕ
+
+-- the end of a line, by the text before the white space that ends it, and the text from that on (6.6)
+abbrev pub end_in_line : List ℕ → List ℕ → LineEnd
+end_in_line before rest =
+    let line = text.cut ends_line (past_white rest) in
+    record { before = before; white = (text.cut no_white rest).0; comment = line.0; behind = line.1 }
+
+-- the text of a row up to the end of the line of its key or dash: with what is written there, or with the header of a block scalar
+abbrev pub text_to_line_end : Row → List ℕ
+text_to_line_end r = let s = slices r in row_front r ++ (s.space ++ (s.anchor ++ (s.apart ++ s.head)))
+
+-- the end of the line of a row's key or dash (6.6; own)
+abbrev pub end_of_line : PlacedRow → LineEnd
+end_of_line w = let s = slices w.row in end_in_line (w.before ++ text_to_line_end w.row) (s.tail ++ (s.raw ++ w.behind))
+
+-- The lines above a row: the text before the run of comment lines that ends them, that run, which may be nothing, the row's column, and
+-- the text from the row's line on (6.6; own).
+pub record LinesAbove : Type 0 where
+  pub before : List ℕ
+  pub run : List ℕ
+  pub column : ℕ
+  pub behind : List ℕ
+
+-- the lines of a gap between two texts, above a row in a column (6.6; own)
+abbrev pub gap_above : List ℕ → List ℕ → ℕ → List ℕ → LinesAbove
+gap_above before gap column rest = record {
+  before = before ++ joined (before_run (text_lines gap));
+  run = joined (last_run (text_lines gap));
+  column = column;
+  behind = rest;
+}
+
+-- the lines above a row (6.6; own)
+abbrev pub above_row : PlacedRow → LinesAbove
+above_row w = gap_above w.before w.row.gap w.row.column (behind_gap w.row w.behind)
+
+-- the lines above the entry or item to which steps lead in document n, where its head comment stands or would stand, if its line is the
+-- first one of its row (6.6; own)
+abbrev pub lines_above : ℕ → List Step → Cut → Option LinesAbove
+lines_above n steps c = row_of_path n steps c >>= λ w. if w.line == 0 then Some (above_row w) else None

@@ -1,0 +1,59 @@
+-- Where the first item or entry of a compact collection stands in a text, and what is taken out of the text with it (YAML 1.2.2, 8.2.1; own).
+use Rattle.std.specs.Prelude.{ℕ, ◌==◌, ◌&&◌, Bool, true, List, [], ◌∷◌, length, drop, slice_get, Option, None, option_map, if◌then◌else◌}
+use Rattle.yq_core.specs.Answers.{◌>>=◌}
+use Rattle.yq_core.specs.Paths.{Step}
+use Rattle.yq_core.specs.Text.{cut, cut_line, no_space}
+use Rattle.yq_row_table.specs.Rows.{Cut}
+use Rattle.yq_row_table.specs.Reading.{begins_gap}
+use Rattle.yq_documents.specs.declared.path.Part.TheVariants.{Entry}
+use Rattle.yq_documents.specs.Documents.{document_parts}
+use Rattle.yq_lookup.specs.PathPieces.{printed_document, piece_in}
+use Rattle.yq_documents.specs.Pieces.{TextPiece}
+use Rattle.yq_documents.specs.LinesInRows.{RowLine, row_line_of}
+
+-- whether each byte is a space (5.5)
+abbrev pub are_spaces : List ℕ → Bool
+are_spaces [] = true
+are_spaces (b ∷ bs) = b == 32 && are_spaces bs
+
+-- a text less the spaces that end it (5.5)
+unfoldable pub less_spaces : List ℕ → List ℕ
+less_spaces [] = []
+less_spaces (b ∷ bs) = if are_spaces (b ∷ bs) then [] else b ∷ less_spaces bs
+
+-- the spaces that end a text (5.5)
+abbrev pub end_spaces : List ℕ → List ℕ
+end_spaces t = drop (length (less_spaces t)) t
+
+-- the line of the item or entry to which steps lead in document n (8.2)
+abbrev pub line_row_line : ℕ → List Step → Cut → Option RowLine
+line_row_line n steps c = slice_get (document_parts c) n >>= λ p. row_line_of steps p.rows
+
+-- the item or entry to which steps lead in document n, where its line isn't the first one of its row: behind a dash stands the first one of
+-- a compact collection (8.2.1)
+abbrev pub first_entry : ℕ → List Step → Cut → Option TextPiece
+first_entry n steps c = line_row_line n steps c >>= λ s. if s.line == 0 then None else (printed_document n c >>= piece_in Entry steps)
+
+-- What is taken out with the first item or entry of a compact collection, between the text before and the text behind: spaces, the item or
+-- entry, its break and the next one's spaces, of which all but the second may be nothing (8.2.1; own).
+pub record FirstOut : Type 0 where
+  pub before : List ℕ
+  pub space : List ℕ
+  pub entry : List ℕ
+  pub break : List ℕ
+  pub indent : List ℕ
+  pub behind : List ℕ
+
+-- what is taken out with such an item or entry: where a gap is behind its last line, what stands behind the dash up to the end of that line,
+-- before its break; else all up to the next one (8.2.1; own)
+abbrev pub first_out : TextPiece → FirstOut
+first_out p =
+    let line = cut_line p.behind in
+    let next = cut no_space line.1 in
+    if begins_gap line.1
+    then record { before = less_spaces p.before; space = end_spaces p.before; entry = p.text; break = []; indent = []; behind = p.behind }
+    else record { before = p.before; space = []; entry = p.text; break = line.0; indent = next.0; behind = next.1 }
+
+-- what is taken out with the item or entry to which steps lead in document n, if it is the first one of a compact collection (8.2.1; own)
+abbrev pub first_removal : ℕ → List Step → Cut → Option FirstOut
+first_removal n steps c = option_map first_out (first_entry n steps c)

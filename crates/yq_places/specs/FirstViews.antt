@@ -1,0 +1,21 @@
+-- What the code tells of what is taken out with the first item or entry of a compact collection.
+use Rattle.std.specs.Prelude.{ℕ, List}
+use Rattle.yq_text.specs.Halves.{halves_text}
+use Rattle.yq_lookup.specs.declared.places.first_removal.FirstRemoval as declared
+use Rattle.yq_lookup.specs.FirstPlaces.{FirstOut}
+use Rattle.yq_documents.specs.Pieces.{TextPiece}
+
+-- a piece between two texts (own)
+abbrev pub piece_between : (before text behind : List ℕ) → TextPiece
+piece_between before text behind = record { before = before; text = text; behind = behind }
+
+-- what is taken out, as the code lends it (own)
+abbrev pub first_view : declared.FirstRemoval → FirstOut
+first_view r = record {
+  before = halves_text r.before;
+  space = halves_text r.space;
+  entry = halves_text r.entry;
+  break = halves_text r.line;
+  indent = halves_text r.indent;
+  behind = halves_text r.behind;
+}

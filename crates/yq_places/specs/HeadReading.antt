@@ -1,0 +1,17 @@
+-- Reading (own; a reader may skip it): the heads of rows, as the code reads them again.
+use Rattle.std.specs.Prelude.{◌≡◌, ℕ, [], length}
+use Rattle.yq_outline.specs.View.{head_flow, head_view}
+use Rattle.yq_row_table.specs.Rows.{Row, Cut}
+use Rattle.yq_row_table.specs.View.{slices}
+use Rattle.yq_documents.specs.FlowReading.{row_flow}
+use Rattle.yq_outline.specs.Lines.{head_of}
+use Rattle.yq_documents.specs.RowReading.{from_head}
+use Rattle.yq_outline.specs.Extents.{head_place}
+use Rattle.yq_lookup.specs.declared.places.row_head.RowHead.{RowHead}
+
+-- The head of row i, with the text from there to the end of the row, in which it has its places.
+pub record IsRowHead (i : ℕ) (r : Row) (c : Cut) (x : RowHead) : Type 0 where
+  pub view : head_view x.head ≡ head_of r.content
+  pub flow : head_flow x.head ≡ row_flow (length x.text.now) r []
+  pub text : x.text.now ≡ from_head (slices r) []
+  pub before : x.before ≡ (head_place i c r).0

@@ -1,0 +1,96 @@
+-- What the code tells of what stands at a place (own).
+use Rattle.std.specs.Prelude.{◌≡◌, ℕ, ◌+◌, ◌==◌, ◌&&◌, not, true, false, List, length, Option, Some, None, if◌then◌else◌}
+use Rattle.yq_text.specs.Halves.{halves_text}
+use Rattle.yq_core.specs.Answers.{◌>>=◌}
+use Rattle.yq_core.specs.Paths.{Step}
+use Rattle.yq_core.specs.Text.{is_empty}
+use Rattle.yq_row_table.specs.Rows.{Cut, Row}
+use Rattle.yq_row_table.specs.Seams.{is_block}
+use Rattle.yq_row_table.specs.View.{slices}
+use Rattle.yq_documents.specs.LinesInRows.{document_row}
+use Rattle.yq_documents.specs.RowReading.{is_block_head}
+use Rattle.yq_outline.specs.Extents.{head_place, lines_before_mark}
+use Rattle.yq_outline.specs.declared.line_position.Position.{Position}
+use Rattle.yq_lookup.specs.Standings.{MarkPieces, Held, Lone, Compact, BlockRoot, NoRows, Standing, RowsOfEntry, alone, beside, under, compact, block, root, no_rows, held, rows_of_entry}
+use Rattle.yq_lookup.specs.declared.places.held.Held as declared_held
+use Rattle.yq_lookup.specs.declared.places.held_row.HeldRow as declared_row
+use Rattle.yq_lookup.specs.declared.places.held.Mark as declared_mark
+use Rattle.yq_lookup.specs.declared.places.standing.BlockRoot as declared_root
+use Rattle.yq_lookup.specs.declared.places.standing.Compact as declared_compact
+use Rattle.yq_lookup.specs.declared.places.standing.Lone as declared_lone
+use Rattle.yq_lookup.specs.declared.places.standing.NoRows as declared_no_rows
+use Rattle.yq_lookup.specs.declared.places.standing.Standing as declared
+
+-- a key or dash that the code lends
+abbrev pub held_mark_view : declared_mark.Mark → MarkPieces
+held_mark_view m = record { column = m.column; keyed = m.keyed; noted = m.noted }
+
+-- a key or dash that the code lends, with what it holds
+abbrev pub held_view : declared_held.Held → Held
+held_view h = record {
+  mark = held_mark_view h.mark;
+  before = halves_text h.before;
+  space = h.space.now;
+  head = h.head.now;
+  white = h.white.now;
+  comment = h.comment.now;
+  break = h.line_break.now;
+  lines = halves_text h.lines;
+  last = h.last.now;
+  behind = halves_text h.behind;
+}
+
+-- a lone node that the code lends
+abbrev pub lone_view : declared_lone.Lone → Lone
+lone_view w = record { before = halves_text w.before; head = w.head.now; behind = halves_text w.behind }
+
+-- a collection behind a dash that the code lends
+abbrev pub compact_view : declared_compact.Compact → Compact
+compact_view p = record { mark = held_mark_view p.mark; column = p.column; before = halves_text p.before; old = halves_text p.old; last = p.last.now; behind = halves_text p.behind }
+
+-- a root that the code lends
+abbrev pub root_view : declared_root.BlockRoot → BlockRoot
+root_view w = record { column = w.column; before = halves_text w.before; old = halves_text w.old; last = w.last.now; behind = halves_text w.behind }
+
+-- a document without rows that the code lends
+abbrev pub no_rows_view : declared_no_rows.NoRows → NoRows
+no_rows_view w = record { before = halves_text w.before; behind = halves_text w.behind }
+
+-- what stands at a place, as the code lends it
+abbrev pub standing_view : declared.Standing → Standing
+standing_view (declared.TheVariants.Alone w) = alone (lone_view w)
+standing_view (declared.TheVariants.Beside h) = beside (held_view h)
+standing_view (declared.TheVariants.Under h column) = under (held_view h) column
+standing_view (declared.TheVariants.Compact p) = compact (compact_view p)
+standing_view (declared.TheVariants.Block h indent) = block (held_view h) indent
+standing_view (declared.TheVariants.Root w) = root (root_view w)
+standing_view (declared.TheVariants.NoRows w) = no_rows (no_rows_view w)
+
+-- what the key or dash of rows holds, if its line is the last one of its row
+abbrev pub held_if_last : RowsOfEntry → Option Held
+held_if_last e = if e.line == length e.row.dashes then Some (held e) else None
+
+-- what the key or dash holds of the item or entry to which steps lead in document n, if its line is the last one of its row
+abbrev pub held_at : ℕ → List Step → Cut → Option Held
+held_at n steps c = rows_of_entry n steps c >>= held_if_last
+
+-- The row that the code tells is that of a line in a cut, which is its last one: where its head begins, that, and the end of its first line (own).
+pub record IsLastOf (c : Cut) (q : Position) (r : Row) (x : declared_row.HeldRow) : Type 0 where
+  pub row : x.row ≡ q.row
+  pub last : q.line ≡ lines_before_mark (slices r)
+  pub start : x.start ≡ (head_place q.row c r).0
+  pub head : x.head.now ≡ (slices r).head
+  pub tail : x.tail.now ≡ (slices r).tail
+  pub inline : x.inline ≡ (not (is_empty (slices r).head) && not (is_block_head (slices r).head))
+
+-- A row that the code tells is that of the item or entry to which steps lead in document n, whose line is its last one; with where what its key or dash
+-- holds begins, that and the end of its line, and that it is an inline node, if the code tells that (own).
+pub record IsHeldRow (n : ℕ) (steps : List Step) (c : Cut) (x : declared_row.HeldRow) : Type 0 where
+  pub entry : RowsOfEntry
+  pub found : rows_of_entry n steps c ≡ Some entry
+  pub last : entry.line ≡ length entry.row.dashes
+  pub row : x.row ≡ document_row n c + length entry.front
+  pub start : x.start ≡ length (held entry).before + length (held entry).space
+  pub head : x.head.now ≡ (held entry).head
+  pub tail : x.tail.now ≡ (slices entry.row).tail
+  pub inline : x.inline ≡ true → (is_block entry.row.content ≡ false) × (is_empty (slices entry.row).head ≡ false)

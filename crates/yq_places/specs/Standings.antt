@@ -1,0 +1,249 @@
+-- What stands where steps lead in a text, by the rows in which it stands (YAML 1.2.2, 7.4, 8 and 9.1; own).
+use Rattle.std.specs.Prelude.{ℕ, ◌==◌, ◌||◌, ◌&&◌, not, suc, List, [], ◌∷◌, ◌++◌, drop, length, map, replicate, take, Option, Some, None, option_map, Bool, false, if◌then◌else◌}
+use Rattle.yq_core.specs.Answers.{◌>>=◌}
+use Rattle.yq_core.specs.Paths.{Step}
+use Rattle.yq_core.specs.Text.{is_empty}
+use Rattle.yq_core.specs.Collections.{CollPieces}
+use Rattle.yq_core.specs.Entries.{EntryPieces, item_at}
+use Rattle.yq_outline.specs.Positions.{has_no_mark}
+use Rattle.yq_row_table.specs.Exchange.{row_front}
+use Rattle.yq_row_table.specs.Rows.{Content, Nothing, Inline, Block, Cut, Row, behind_columns, behind_dashes, behind_indent, mark_column, print_row, rows_text}
+use Rattle.yq_row_table.specs.View.{Slices, slices}
+use Rattle.yq_outline.specs.Lines.{line_mark}
+use Rattle.yq_documents.specs.LinesInRows.{RowLine, row_line_of}
+use Rattle.yq_lookup.specs.CommentPlaces.{LineEnd, end_in_line}
+use Rattle.yq_lookup.specs.FlowNodes.{flow_collection}
+use Rattle.yq_lookup.specs.PlacedRows.{PlacedPart, placed_document}
+use Rattle.yq_lookup.specs.PrintedLines.{last_break, less_break}
+use Rattle.yq_lookup.specs.RowPieces.{anchor_before, past_dash, space_before, upto_dash}
+use Rattle.yq_outline.specs.RowWalk.{deeper_rows, line_level}
+
+-- ---- the rows of an item or entry
+
+-- The rows of an item or entry in a text: the text before its document, and the document's rows in front of them; the first one of them,
+-- and how many of its lines stand before that of the key or dash; those under it; the further rows of the document; its end gap;
+-- and the text behind the document (8.2). A line is a key, a dash or a node alone; a row line is the row in which it stands; slices are a row's pieces.
+pub record RowsOfEntry : Type 0 where
+  pub start : List ℕ
+  pub front : List Row
+  pub row : Row
+  pub line : ℕ
+  pub under : List Row
+  pub back : List Row
+  pub end : List ℕ
+  pub behind : List ℕ
+
+-- how many of the rows behind a line's own are under it: they begin deeper (8.2)
+abbrev pub under_count : RowLine → List Row → ℕ
+under_count s rs = deeper_rows (line_level s.line (slices s.row)) (map slices rs)
+
+-- the rows of the item or entry of a line, with the first n of the rows behind it under it
+abbrev pub entry_rows_with : PlacedPart → RowLine → ℕ → RowsOfEntry
+entry_rows_with d s n = record {
+  start = d.before;
+  front = take s.before d.part.rows;
+  row = s.row;
+  line = s.line;
+  under = take n (drop (suc s.before) d.part.rows);
+  back = drop n (drop (suc s.before) d.part.rows);
+  end = d.part.end;
+  behind = d.behind;
+}
+
+-- the rows of the item or entry of a line: under it are those that begin deeper (8.2)
+abbrev pub entry_rows_at : PlacedPart → RowLine → RowsOfEntry
+entry_rows_at d s = entry_rows_with d s (under_count s (drop (suc s.before) d.part.rows))
+
+-- the rows of the item or entry to which steps lead in document n
+abbrev pub rows_of_entry : ℕ → List Step → Cut → Option RowsOfEntry
+rows_of_entry n steps c = placed_document n c >>= λ d. option_map (entry_rows_at d) (row_line_of steps d.part.rows)
+
+-- the text in front of the rows of an item or entry
+abbrev pub before_entry : RowsOfEntry → List ℕ
+before_entry e = e.start ++ rows_text e.front []
+
+-- the text behind the rows of an item or entry
+abbrev pub behind_entry : RowsOfEntry → List ℕ
+behind_entry e = rows_text e.back (e.end ++ e.behind)
+
+-- ---- what stands there, in pieces
+
+-- A key or dash: its column, whether it is a key, and whether its row has an anchor before what is written behind its last mark, or a
+-- comment behind that (8.2).
+pub record MarkPieces : Type 0 where
+  pub column : ℕ
+  pub keyed : Bool
+  pub noted : Bool
+
+-- A key or dash in a text, with what it holds. In order: the text up to its end, or to that of its anchor; the white space behind that, and
+-- what is written there, an inline node, the header of a block scalar or nothing; the white space and the comment that end its line. Where
+-- lines are below, `break` ends its line, `lines` are they, and `last` is the break of the last one. Where none are, `break` and `lines` are
+-- nothing, and `last` ends its line (8.1, 8.2). Of `a: &x | # c`, with the line `  t` below: before `a: &x`, space and white one space each,
+-- head `|`, comment `# c`, lines `  t`.
+pub record Held : Type 0 where
+  pub mark : MarkPieces
+  pub before : List ℕ
+  pub space : List ℕ
+  pub head : List ℕ
+  pub white : List ℕ
+  pub comment : List ℕ
+  pub break : List ℕ
+  pub lines : List ℕ
+  pub last : List ℕ
+  pub behind : List ℕ
+
+-- A node that is alone on its line, under a key or dash or as a root: the text before it, with its anchor; the node without that, which is
+-- never nothing; and the text behind (7, 8.2).
+pub record Lone : Type 0 where
+  pub before : List ℕ
+  pub head : List ℕ
+  pub behind : List ℕ
+
+-- A collection that begins on the line of a dash: the dash; the column of its items or entries; the text up to the dash, with it; what stands
+-- behind it up to the end of the last line; the break of that; and the text behind (8.2.1).
+pub record Compact : Type 0 where
+  pub mark : MarkPieces
+  pub column : ℕ
+  pub before : List ℕ
+  pub old : List ℕ
+  pub last : List ℕ
+  pub behind : List ℕ
+
+-- A block collection that is a root: its column; the text before it; its own, up to the last break; that break; and the text behind (8.2, 9.1).
+pub record BlockRoot : Type 0 where
+  pub column : ℕ
+  pub before : List ℕ
+  pub old : List ℕ
+  pub last : List ℕ
+  pub behind : List ℕ
+
+-- A document without rows: the text up to the end of its gap, and the text behind (7.2, 9.1).
+pub record NoRows : Type 0 where
+  pub before : List ℕ
+  pub behind : List ℕ
+
+-- What stands outside flow collections: a node alone on its line; one behind a key or dash on its line, or nothing; a block collection on the
+-- lines under a key or dash, by its column; one that begins on the line of its dash; a block scalar, by its text's indentation in columns; a
+-- root that is a block collection; or no rows.
+pub data Standing : Type 0 where
+  alone : Lone → Standing
+  beside : Held → Standing
+  under : Held → (column : ℕ) → Standing
+  compact : Compact → Standing
+  block : Held → (indent : ℕ) → Standing
+  root : BlockRoot → Standing
+  no_rows : NoRows → Standing
+
+-- ---- by rows
+
+-- the key or dash of a row, by its pieces
+abbrev pub mark_in : Row → Slices → LineEnd → MarkPieces
+mark_in r s t = record { column = mark_column r; keyed = not (is_empty s.colon); noted = not (is_empty s.anchor) || not (is_empty t.comment) }
+
+-- what a key or dash holds, by the pieces of its row, the end of its line, and the lines below that
+abbrev pub held_by : RowsOfEntry → Slices → LineEnd → List ℕ → Held
+held_by e s t below = record {
+  mark = mark_in e.row s t;
+  before = (before_entry e ++ row_front e.row) ++ anchor_before s;
+  space = space_before s;
+  head = s.head;
+  white = t.white;
+  comment = t.comment;
+  break = if is_empty below then [] else t.behind;
+  lines = less_break below;
+  last = if is_empty below then t.behind else last_break below;
+  behind = behind_entry e;
+}
+
+-- what the key or dash of rows holds: the lines below its line are those of a block scalar, or the rows under it
+abbrev pub held : RowsOfEntry → Held
+held e = let s = slices e.row in held_by e s (end_in_line [] s.tail) (s.raw ++ rows_text e.under [])
+
+-- the node in a row that is alone on its line, between two texts
+abbrev pub lone : List ℕ → Row → List ℕ → Lone
+lone before r behind =
+    let s = slices r in record { before = before ++ (row_front r ++ (s.space ++ (s.anchor ++ s.apart))); head = s.head; behind = s.tail ++ behind }
+
+-- whether a row is a node that is alone on its line (8.2)
+abbrev pub is_alone : Row → Bool
+is_alone r = is_empty r.dashes && has_no_mark (line_mark r.mark)
+
+-- what stands behind a key or dash behind which no node is written: nothing, a node on the line under it, or a block collection (8.2)
+abbrev pub below : RowsOfEntry → List Row → Standing
+below e [] = beside (held e)
+below e (r ∷ rs) =
+    if is_alone r then alone (lone (before_entry e ++ print_row e.row []) r (rows_text rs (behind_entry e))) else under (held e) r.column
+
+-- what stands behind the mark of a row, by its content
+abbrev pub behind_mark : RowsOfEntry → Content → Standing
+behind_mark e (Nothing tail) = below e e.under
+behind_mark e (Inline space node tail) = if is_empty (slices e.row).head then below e e.under else beside (held e)
+behind_mark e (Block space anchor b) = block (held e) b.indent.columns
+
+-- the text from behind a dash to the end of the rows of its item
+abbrev pub dash_text : RowsOfEntry → List ℕ
+dash_text e = past_dash (drop e.line e.row.dashes) (behind_dashes e.row (rows_text e.under []))
+
+-- the collection that begins on the line of a dash (8.2.1)
+abbrev pub compact_in : RowsOfEntry → Compact
+compact_in e = record {
+  mark = record {
+    column = behind_columns e.row.column (take e.line e.row.dashes);
+    keyed = false;
+    noted = (mark_in e.row (slices e.row) (end_in_line [] (slices e.row).tail)).noted;
+  };
+  column = behind_columns e.row.column (take (suc e.line) e.row.dashes);
+  before = before_entry e ++ row_front (upto_dash e.line e.row);
+  old = less_break (dash_text e);
+  last = last_break (dash_text e);
+  behind = behind_entry e;
+}
+
+-- what stands at an item or entry, by its rows: a line that is not the last one of its row is that of a dash with a compact collection (8.2.1)
+abbrev pub entry_standing : RowsOfEntry → Standing
+entry_standing e = if e.line == length e.row.dashes then behind_mark e e.row.content else compact (compact_in e)
+
+-- a root that is a block collection, by the rows of its document
+abbrev pub block_root : PlacedPart → Row → List Row → BlockRoot
+block_root d r rs =
+    let t = behind_indent r (rows_text rs []) in
+    record {
+      column = r.column;
+      before = d.before ++ (r.gap ++ replicate r.column 32);
+      old = less_break t;
+      last = last_break t;
+      behind = d.part.end ++ d.behind;
+    }
+
+-- what stands at the root of a document, by its rows (9.1)
+abbrev pub root_standing : PlacedPart → List Row → Standing
+root_standing d [] = no_rows (record { before = d.before ++ d.part.end; behind = d.behind })
+root_standing d (r ∷ rs) = if is_alone r then alone (lone d.before r (rows_text rs (d.part.end ++ d.behind))) else root (block_root d r rs)
+
+-- what stands in document n where steps lead, outside flow collections
+abbrev pub standing_at : ℕ → List Step → Cut → Option Standing
+standing_at n [] c = option_map (λ (d : PlacedPart). root_standing d d.part.rows) (placed_document n c)
+standing_at n (s ∷ ss) c = option_map entry_standing (rows_of_entry n (s ∷ ss) c)
+
+-- ---- in flow collections
+
+-- An item or entry of a flow collection: the step to it, the collection, and its own pieces (7.4).
+pub record FlowPart : Type 0 where
+  pub step : Step
+  pub collection : CollPieces
+  pub part : EntryPieces
+
+-- the steps to a collection, and the last one, to an item or entry in it (own)
+abbrev pub last_step : List Step → Option (List Step × Step)
+last_step [] = None
+last_step (s ∷ []) = Some ([], s)
+last_step (s ∷ (t ∷ ss)) = option_map (λ (x : List Step × Step). (s ∷ x.0, x.1)) (last_step (t ∷ ss))
+
+-- the part of a flow collection to which a step leads (7.4)
+abbrev pub flow_part : Step → CollPieces → Option FlowPart
+flow_part s w = option_map (λ (y : EntryPieces). record { step = s; collection = w; part = y }) (item_at w.close s w.items w.rest)
+
+-- the same where steps lead in document n (7.4)
+abbrev pub flow_standing : ℕ → Cut → Option (List Step × Step) → Option FlowPart
+flow_standing n c None = None
+flow_standing n c (Some x) = flow_collection n x.0 c >>= flow_part x.1

@@ -1,0 +1,112 @@
+//! What stands at items and entries, by their rows.
+ghost use Rattle.std.specs.Prelude.{◌≡◌, ◌<◌, true, List, ℕ};
+ghost use Rattle.yq_text.specs.Halves.{halves_text};
+ghost use Rattle.yq_row_table.specs.Grammar.{IsMark};
+ghost use Rattle.yq_row_table.specs.Rows.{Row as RowOf, rows_text};
+ghost use Rattle.yq_row_table.specs.View.{slices, row_view};
+ghost use Rattle.yq_places.specs.Standings as spec;
+ghost use Rattle.yq_places.specs.StandingReading.{AreRowsOf, HasEntry, BeginsRows, IsEntryIn};
+ghost use Rattle.yq_places.specs.StandingViews as row_agrees;
+
+use crate::places::halves::is_text;
+use crate::places::held::{held_in, mark_of};
+use crate::places::lines_cut::{cut_lines, cut_tail};
+use crate::places::row_place::{line_start, row_stop};
+use crate::places::rows_of_entry::RowsOfEntry;
+use crate::places::standing::{Compact, Lone, Standing};
+use yq_outline::Position;
+use yq_row_table::{Row, Rows};
+use yq_row_walk::{head_place, line_column};
+use yq_text::Halves;
+
+/// Whether a row is a node that is alone on its line.
+pub fn is_alone(row: &Row<'_>) -> bool
+    ensures { (r : RowOf) (rest : List ℕ) → slices r ≡ row_view row.now → IsMark r.mark r.content rest →
+        result ≡ spec.is_alone r }
+{
+    row.dashes().is_empty() && row.colon().is_empty()
+}
+
+/// The node in row `i`, which is alone on its line.
+pub fn lone_in<'t>(rows: &Rows<'t>, text: Halves<'t>, i: usize) -> Lone<'t>
+    requires { BeginsRows (halves_text text) rows.now i }
+    ensures { (e : spec.RowsOfEntry) (end : ℕ) → AreRowsOf (halves_text text.entry) rows.now e i end →
+        spec.is_alone e.row ≡ true →
+        row_agrees.lone_view result ≡ spec.lone (spec.before_entry e) e.row
+        (rows_text e.under (spec.behind_entry e)) }
+{
+    let row = rows.row(i);
+    let head = row.head();
+    let (start, end) = head_place(rows, i);
+    let (front, behind) = text.split_at(end);
+    let (before, _) = front.split_at(start);
+    Lone {
+        before,
+        head,
+        behind,
+    }
+}
+
+/// The collection that begins on the line of a dash.
+fn compact_in<'t>(rows: &Rows<'t>, text: Halves<'t>, at: RowsOfEntry) -> Compact<'t>
+    requires entry { HasEntry (halves_text text) rows.now at }
+    requires dash { at.line < at.dashes }
+    ensures { (e : spec.RowsOfEntry) → IsEntryIn (halves_text text.entry) rows.now e at →
+        row_agrees.compact_view result ≡ spec.compact_in e }
+{
+    is_text(text);
+    let row = rows.row(at.row);
+    let position = Position {
+        row: at.row,
+        line: at.line,
+    };
+    let stop = row_stop(rows, at.end - 1);
+    let lower = cut_lines(text, line_start(rows, position) + 1, stop);
+    let tail = cut_tail(&row);
+    Compact {
+        mark: mark_of(&row, at.line, false, tail.comment),
+        column: line_column(&row, at.line + 1),
+        before: lower.before,
+        old: lower.lines,
+        last: lower.last,
+        behind: lower.behind,
+    }
+}
+
+/// What stands behind a key or dash behind which no node is written on its line.
+fn below<'t>(rows: &Rows<'t>, text: Halves<'t>, at: RowsOfEntry) -> Standing<'t>
+    requires { HasEntry (halves_text text) rows.now at }
+    ensures { (e : spec.RowsOfEntry) → IsEntryIn (halves_text text.entry) rows.now e at →
+        row_agrees.standing_view result ≡ spec.below e e.under }
+{
+    let next = at.row + 1;
+    if next == at.end {
+        return Standing::Beside(held_in(rows, text, at));
+    }
+    let row = rows.row(next);
+    if is_alone(&row) {
+        return Standing::Alone(lone_in(rows, text, next));
+    }
+    Standing::Under(held_in(rows, text, at), row.column())
+}
+
+/// What stands at an item or entry.
+pub fn entry_standing<'t>(rows: &Rows<'t>, text: Halves<'t>, at: RowsOfEntry) -> Standing<'t>
+    requires { HasEntry (halves_text text) rows.now at }
+    ensures { (e : spec.RowsOfEntry) → IsEntryIn (halves_text text.entry) rows.now e at →
+        row_agrees.standing_view result ≡ spec.entry_standing e }
+{
+    if at.line != at.dashes {
+        return Standing::Compact(compact_in(rows, text, at));
+    }
+    match rows.block(at.row) {
+        Some((_, indent)) => Standing::Block(held_in(rows, text, at), indent),
+        None => {
+            if rows.row(at.row).head().is_empty() {
+                below(rows, text, at)
+            } else {
+                Standing::Beside(held_in(rows, text, at))
+            }
+        }
+    }
+}

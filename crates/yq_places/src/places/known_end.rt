@@ -1,0 +1,162 @@
+//! The end of a collection, looked for from an item that is known.
+ghost use Rattle.std.specs.Prelude.{◌≡◌, ◌⊎◌, ◌<◌, ◌≤◌, ◌+◌, length, IfSome};
+ghost use Rattle.yq_outline.specs.Outline.{level};
+ghost use Rattle.yq_outline.specs.Extents.{IsRowsView};
+ghost use Rattle.yq_outline.specs.RowWalk as spec;
+ghost use Rattle.yq_outline.specs.RowWalk.{AreKnown, HasDocument, IsKnown, IsLine, IsPosition, OfLine, OfLines, lines_stop};
+ghost use Rattle.yq_places.specs.RowWalk.{IsKnownLine};
+
+use crate::places::known_line::KnownLine;
+use crate::places::node_place::{NodePlace, node_place};
+use yq_core::Step;
+use yq_outline::{KnownItem, KnownItems, Position, Stretch};
+use yq_row_table::Rows;
+use yq_row_walk::{counted, first_known, known_among, level_at, rows_under};
+
+/// The row from which on the end is looked for, behind a line, of lines that are deeper than a level, of which
+/// this is the first one: that of an item among them that is known, or the next one.
+#[inline(always)]
+fn search_row(
+    rows: &Rows<'_>,
+    document: Stretch,
+    known: KnownItems,
+    at: Position,
+    first: Position,
+    floor: usize,
+) -> usize
+    requires document { HasDocument rows.now document }
+    requires known { AreKnown rows.now.rows known }
+    requires at { IsLine rows.now document at }
+    requires first { (first.row ≡ at.row) ⊎ ((first.row ≡ at.row + 1) × (first.line ≡ 0)) }
+    ensures later { at.row < result }
+    ensures within { result ≤ document.end }
+    ensures value { spec.rows_end rows.now document floor result ≡
+        spec.rows_end rows.now document floor (at.row + 1) }
+{
+    match known_among(rows, document, known, first, floor) {
+        Some(known) => known.row,
+        None => at.row + 1,
+    }
+}
+
+/// What is behind the lines from one on that are deeper than a level, of which that is one.
+pub fn behind_all(
+    rows: &Rows<'_>,
+    document: Stretch,
+    known: KnownItems,
+    from: Position,
+    floor: usize,
+) -> Position
+    requires rows_view { IsRowsView rows.now }
+    requires document { HasDocument rows.now document }
+    requires known { AreKnown rows.now.rows known }
+    requires from { IsLine rows.now document from }
+    requires deeper { OfLine rows.now document from (λ l. floor < level l) }
+    ensures number { OfLines rows.now document (λ ls n. n result ≡ lines_stop (n from) floor ls) }
+    ensures position { IsPosition rows.now document result }
+    ensures line { result.line ≡ 0 }
+    ensures later { from.row < result.row }
+{
+    let begin = search_row(rows, document, known, from, from, floor);
+    Position {
+        row: rows_under(rows, begin, document.end, floor),
+        line: 0,
+    }
+}
+
+/// The line behind one of a row, of whose lines so many stand before the last one.
+#[inline(always)]
+fn line_behind(document: Stretch, at: Position, last: usize) -> Position
+    requires { at.row < document.end }
+    ensures { (result.row ≡ at.row) ⊎ ((result.row ≡ at.row + 1) × (result.line ≡ 0)) }
+{
+    let _document = document;
+    if at.line < last {
+        Position {
+            row: at.row,
+            line: at.line + 1,
+        }
+    } else {
+        Position {
+            row: at.row + 1,
+            line: 0,
+        }
+    }
+}
+
+/// The row behind those of a line of a level, in whose row so many stand before the last one, and of the
+/// lines under it.
+#[inline(always)]
+pub fn row_behind(
+    rows: &Rows<'_>,
+    document: Stretch,
+    known: KnownItems,
+    at: Position,
+    last: usize,
+    floor: usize,
+) -> usize
+    requires rows_view { IsRowsView rows.now }
+    requires document { HasDocument rows.now document }
+    requires known { AreKnown rows.now.rows known }
+    requires at { IsLine rows.now document at }
+    ensures { result ≡ spec.rows_end rows.now document floor (at.row + 1) }
+{
+    let first = line_behind(document, at, last);
+    let begin = search_row(rows, document, known, at, first, floor);
+    rows_under(rows, begin, document.end, floor)
+}
+
+/// The last row of the collection of an item that is known, before that where a document ends, as an
+/// item that is known.
+fn known_last(rows: &Rows<'_>, known: KnownItem, end: usize) -> KnownItem
+    requires known { IsKnown rows.now.rows known }
+    requires within { end ≤ length rows.now.rows }
+    requires rows_view { IsRowsView rows.now }
+    ensures { IsKnown rows.now.rows result }
+{
+    let mut last = known;
+    let mut index = known.index;
+    'rows: for row in known.row..end {
+        let level = level_at(rows, Position { row, line: 0 });
+        if level < known.level {
+            return last;
+        }
+        last = KnownItem {
+            index,
+            row,
+            ..known
+        };
+        let Some(next) = counted(index, level == known.level) else {
+            return last;
+        };
+        index = next;
+    }
+    last
+}
+
+/// The last row of the collection to which steps lead, if it is one of rows, as an item that is known.
+pub fn known_end(
+    rows: &Rows<'_>,
+    document: Stretch,
+    known: KnownItems,
+    line: Option<KnownLine<'_>>,
+    steps: &[Step],
+) -> Option<KnownItem>
+    requires rows_view { IsRowsView rows.now }
+    requires document { HasDocument rows.now document }
+    requires known { AreKnown rows.now.rows known }
+    requires line { IfSome line (IsKnownLine rows.now) }
+    ensures { IfSome result (IsKnown rows.now.rows) }
+{
+    let (NodePlace::Lines(under, floor), _) = node_place(rows, document, known, line, steps)? else {
+        return None;
+    };
+    if under.row >= document.end {
+        return None;
+    }
+    let known = match known_among(rows, document, known, under, floor) {
+        Some(known) => known,
+        None => first_known(rows, under, floor)?,
+    };
+    Some(known_last(rows, known, document.end))
+}

@@ -1,0 +1,203 @@
+-- Sums of values: the int that is written, one item, entry or term more.
+use Rattle.std.proofs.Common.{◌≡◌, ℕ, zero, suc, ◌+◌, ◌-◌, ◌<◌, ◌^◌, Bool, true, false, List, [], ◌∷◌, ◌++◌, Option, Some, None, is_some, option_map, length, map, drop, take, get_or, set, FitsSigned, refl, sym, ap, ◌∙◌, arith, cond, rules}
+use mir.Syntax.{w64}
+use Rattle.std.specs.Prelude.{ℤ, pos, negsuc}
+use Rattle.std.specs.Fmt.{decimal, signed_decimal}
+use Rattle.std.specs.Str.{bytes_eq}
+use Rattle.std.proofs.lemmas.Fmt.{decimal_is_IsNumeral}
+use Rattle.std.proofs.lemmas.Int.{to_z-of_z}
+use Rattle.std.proofs.lemmas.List.{length-map, length-take-le, map_push, take_more, take_rest}
+use mir.Val.{to_z, of_z}
+use Rattle.yq_core.specs.Values.{items, entries}
+use Rattle.yq_core.specs.Numbers as numbers
+use Rattle.yq_core.specs.Numbers.{unsigned, minus}
+use Rattle.yq_core.specs.Paths.{To, child_at, change_child, append_child, append_children}
+use Rattle.yq_core.specs.SchemaReading.{resolve}
+use Rattle.yq_core.specs.Tree as tree
+use Rattle.yq_core.specs.Tree.{Node, Children, none, child}
+use Rattle.yq_core.specs.declared.kind.Kind.TheVariants as kinds
+use Rattle.yq_core.proofs.SchemaLaws.{resolve_again}
+use Rattle.yq_documents.specs.TreeEdits.{new_label}
+use Rattle.yq_planner.specs.EntryNumbers.{entry_number, number_kept}
+use Rattle.yq_semantics.specs.Judgement.{Judgement, and_then, gives, refuses}
+use Rattle.yq_semantics.specs.Places.{Place, chained}
+use Rattle.yq_semantics.specs.Program.{Term}
+use Rattle.yq_semantics.specs.RightValues.{as_items, with_entry, with_entries, value_sum, sum, term_value, sum_from, right_value}
+
+-- ---- ints
+
+-- a number of 64 bits is written as an int
+pub int_written : (z : ℤ) → FitsSigned w64 z → resolve (signed_decimal z) ≡ kinds.Int
+int_written (pos n) h =
+    let small : n < 2 ^ 63 = h.sfits in
+    resolve_again (decimal n) kinds.Int (_, (numbers.decimal unsigned (decimal n), refl, (decimal_is_IsNumeral n (omega (arith, small))).0, refl))
+int_written (negsuc n) h =
+    let small : n < 2 ^ 63 = h.sfits in
+    resolve_again (signed_decimal (negsuc n)) kinds.Int (_, (numbers.decimal minus (decimal (suc n)), refl, (decimal_is_IsNumeral (suc n) (omega (arith, small))).0, refl))
+
+-- a number that is passed on is the same
+pub int_agrees : (z : ℤ) (t : List ℕ) → FitsSigned w64 z → t ≡ signed_decimal (to_z w64 (of_z w64 z)) → t ≡ signed_decimal z
+int_agrees z t fits e = e ∙ ap signed_decimal (to_z-of_z w64 z fits)
+
+-- ---- items and entries
+
+-- one item more
+pub item_more : (xs : List Node) (x : Node) (ds : Children) → append_children (items (xs ++ x ∷ [])) ds ≡ append_children (items xs) (child (new_label None) x ds)
+item_more [] x ds = refl
+item_more (y ∷ xs) x ds = ap (child (new_label None) y) (item_more xs x ds)
+
+-- behind items there is nothing more
+pub followed_none : (cs : Children) → append_children cs none ≡ cs
+followed_none none = refl
+followed_none (child label n cs) = ap (child label n) (followed_none cs)
+
+item_last : (xs : List Node) (x : Node) → items (xs ++ x ∷ []) ≡ append_children (items xs) (child (new_label None) x none)
+item_last xs x = sym (followed_none (items (xs ++ x ∷ []))) ∙ item_more xs x none
+
+-- a value that is no list is one item
+pub one_item : (xs : List Node) (x v m : Node) → x ≡ m → v ≡ m → as_items m ≡ child (new_label None) m none → items (xs ++ x ∷ []) ≡ append_children (items xs) (as_items v)
+one_item xs x v m a b one =
+    ap (λ (y : Node). items (xs ++ y ∷ [])) a ∙ (item_last xs m ∙ ap (append_children (items xs)) (sym one ∙ ap as_items (sym b)))
+
+-- an entry behind others
+pub entry_last : (k : List ℕ) (v : Node) (es : List (List ℕ × Node)) → append_child (new_label (Some k)) v (entries es) ≡ entries (es ++ (k, v) ∷ [])
+entry_last k v [] = refl
+entry_last k v (e ∷ es) = ap (child (new_label (Some e.0)) e.1) (entry_last k v es)
+
+mapped_none : {A B : Type 0} (f : A → B) (o : Option A) → option_map f o ≡ None → o ≡ None
+mapped_none f None h = refl
+mapped_none f (Some x) h = absurd (cc)
+
+-- no entry has a key that has no number
+pub none_there : (k : List ℕ) (es : List (List ℕ × Node)) → entry_number k es ≡ None → is_some (child_at (To k) (entries es)) ≡ false
+none_there k [] h = refl
+none_there k (e ∷ es) h = go (bytes_eq e.0 k) (none_there k es) h
+  where
+    go : (b : Bool) → (entry_number k es ≡ None → is_some (child_at (To k) (entries es)) ≡ false) → cond b (Some 0) (option_map suc (entry_number k es)) ≡ None → is_some (cond b (Some e.1) (child_at (To k) (entries es))) ≡ false
+    go true rest h = absurd (cc)
+    go false rest h = rest (mapped_none suc (entry_number k es) h)
+
+mapped_some : (o : Option ℕ) (i : ℕ) → option_map suc o ≡ Some i → (j : ℕ) × (o ≡ Some j) × (suc j ≡ i)
+mapped_some None i h = absurd (cc)
+mapped_some (Some j) i h = (j, refl, cc)
+
+-- the entry of a key's number has that key
+pub some_there : (k : List ℕ) (es : List (List ℕ × Node)) (i : ℕ) → entry_number k es ≡ Some i → is_some (child_at (To k) (entries es)) ≡ true
+some_there k [] i h = absurd (cc)
+some_there k (e ∷ es) i h = go (bytes_eq e.0 k) (some_there k es) h
+  where
+    go : (b : Bool) → ((j : ℕ) → entry_number k es ≡ Some j → is_some (child_at (To k) (entries es)) ≡ true) → cond b (Some 0) (option_map suc (entry_number k es)) ≡ Some i → is_some (cond b (Some e.1) (child_at (To k) (entries es))) ≡ true
+    go true rest h = refl
+    go false rest h = let j = mapped_some (entry_number k es) i h in rest j.0 j.1
+
+-- and it is one of them
+pub number_within : (k : List ℕ) (es : List (List ℕ × Node)) (i : ℕ) → entry_number k es ≡ Some i → i < length es
+number_within k [] i h = absurd (cc)
+number_within k (e ∷ es) i h = go (bytes_eq e.0 k) (number_within k es) h
+  where
+    go : (b : Bool) → ((j : ℕ) → entry_number k es ≡ Some j → j < length es) → cond b (Some 0) (option_map suc (entry_number k es)) ≡ Some i → i < suc (length es)
+    go true rest h = let zero : i ≡ 0 = cc in omega (arith, zero)
+    go false rest h =
+        let j = mapped_some (entry_number k es) i h in
+        let below = rest j.0 j.1 in
+        let next = j.2 in
+        omega (arith, below, next)
+
+-- its value is changed where its entry is
+changed_there : (k : List ℕ) (es : List (List ℕ × Node)) (i : ℕ) (j : List ℕ) (v : Node) (d : List ℕ × Node) → entry_number k es ≡ Some i → (get_or es i d).0 ≡ j → change_child (To k) (λ old. v) (entries es) ≡ entries (set es i (j, v))
+changed_there k [] i j v d h is = absurd (cc)
+changed_there k (e ∷ es) zero j v d h is = search (rules, mapped_some, set)
+changed_there k (e ∷ es) (suc i) j v d h is = go (bytes_eq e.0 k) (λ g. changed_there k es i j v d g is) h
+  where
+    go : (b : Bool) → (entry_number k es ≡ Some i → change_child (To k) (λ old. v) (entries es) ≡ entries (set es i (j, v))) → cond b (Some 0) (option_map suc (entry_number k es)) ≡ Some (suc i)
+        → cond b (child (new_label (Some e.0)) v (entries es)) (child (new_label (Some e.0)) e.1 (change_child (To k) (λ old. v) (entries es))) ≡ child (new_label (Some e.0)) e.1 (entries (set es i (j, v)))
+    go true rest h = absurd (cc)
+    go false rest h =
+        let n = mapped_some (entry_number k es) (suc i) h in
+        let same : n.0 ≡ i = omega (arith, n.2) in
+        ap (child (new_label (Some e.0)) e.1) (rest (n.1 ∙ ap Some same))
+
+-- a value for a key that is there
+pub with_present : (k : List ℕ) (es : List (List ℕ × Node)) (i : ℕ) (j : List ℕ) (v : Node) (d : List ℕ × Node) → entry_number k es ≡ Some i → (get_or es i d).0 ≡ j → with_entry (Some k) v (entries es) ≡ entries (set es i (j, v))
+with_present k es i j v d h is = rw (some_there k es i h) (changed_there k es i j v d h is)
+
+-- a value for a key that isn't
+pub with_absent : (k : List ℕ) (es : List (List ℕ × Node)) (v : Node) → entry_number k es ≡ None → with_entry (Some k) v (entries es) ≡ entries (es ++ (k, v) ∷ [])
+with_absent k es v h = rw (none_there k es h) (entry_last k v es)
+
+-- one more entry
+pub number_last : (k : List ℕ) (es : List (List ℕ × Node)) (e : List ℕ × Node) → entry_number k (es ++ e ∷ []) ≡ number_kept k (entry_number k es) e.0 (length es)
+number_last k [] e = search rules
+number_last k (x ∷ es) e = go (bytes_eq x.0 k) (number_last k es e)
+  where
+    cases : (b : Bool) → option_map suc (cond b (Some (length es)) None) ≡ cond b (Some (suc (length es))) None
+    cases true = refl
+    cases false = refl
+
+    later : (o : Option ℕ) → option_map suc (number_kept k o e.0 (length es)) ≡ number_kept k (option_map suc o) e.0 (suc (length es))
+    later (Some i) = refl
+    later None = cases (bytes_eq e.0 k)
+
+    go : (b : Bool) → entry_number k (es ++ e ∷ []) ≡ number_kept k (entry_number k es) e.0 (length es) →
+        cond b (Some 0) (option_map suc (entry_number k (es ++ e ∷ []))) ≡ number_kept k (cond b (Some 0) (option_map suc (entry_number k es))) e.0 (suc (length es))
+    go true h = refl
+    go false h = ap (option_map suc) h ∙ later (entry_number k es)
+
+-- an entry whose value is exchanged keeps its number
+pub number_same : (k : List ℕ) (es : List (List ℕ × Node)) (i : ℕ) (j : List ℕ) (v : Node) (d : List ℕ × Node) → i < length es → (get_or es i d).0 ≡ j → entry_number k (set es i (j, v)) ≡ entry_number k es
+number_same k [] i j v d within is = absurd (omega (arith, within))
+number_same k (e ∷ es) zero j v d within is = ap (λ (key : List ℕ). cond (bytes_eq key k) (Some 0) (option_map suc (entry_number k es))) (sym is)
+number_same k (e ∷ es) (suc i) j v d within is = ap (λ o. cond (bytes_eq e.0 k) (Some 0) (option_map suc o)) (number_same k es i j v d (omega (arith, within)) is)
+
+counted : {X Y : Type 0} (f : X → Y) (xs : List X) (i : ℕ) → i < length xs → length (map f (take i xs)) ≡ i
+counted f xs i within = length-map (take i xs) f ∙ length-take-le i xs (omega arith)
+
+-- one more entry of several
+pub numbered_more : {X : Type 0} (f : X → List ℕ × Node) (xs : List X) (i : ℕ) (x : X) (key k : List ℕ) (old new : Option ℕ) → i < length xs → x ≡ get_or xs i x → key ≡ (f x).0 →
+    old ≡ entry_number k (map f (take i xs)) → new ≡ number_kept k old key i → new ≡ entry_number k (map f (take (i + 1) xs))
+numbered_more {X} f xs i x key k old new within is named before kept =
+    let es : List (List ℕ × Node) = map f (take i xs) in
+    cc (counted f xs i within, number_last k es (f x), map_push f (take i xs) x, take_more xs i x within)
+
+-- one behind all
+pub numbered_push : {X : Type 0} (f : X → List ℕ × Node) (xs all : List X) (x : X) (key k : List ℕ) (n : ℕ) (old new : Option ℕ) → key ≡ (f x).0 → n ≡ length xs →
+    old ≡ entry_number k (map f xs) → new ≡ number_kept k old key n → all ≡ xs ++ x ∷ [] → new ≡ entry_number k (map f all)
+numbered_push {X} f xs all x key k n old new named many before kept pushed = search (rules, length-map, number_last, map_push)
+
+-- a view of one element
+pub map_get : {A B : Type 0} (f : A → B) (xs : List A) (i : ℕ) (d : A) → get_or (map f xs) i (f d) ≡ f (get_or xs i d)
+map_get f (y ∷ xs) (suc i) d = map_get f xs i d
+map_get f _ _ d = refl
+
+-- the entries of two mappings
+pub map_sum : (n m : Node) (es ds : List (List ℕ × Node)) (cs : Children) → n ≡ tree.map None (entries es) → m ≡ tree.map None (entries ds) → cs ≡ with_entries (entries es) (entries ds) → value_sum n m ≡ gives (tree.map None cs)
+map_sum n m es ds cs a b h =
+    ap (λ (x : Node). value_sum x m) a ∙ (ap (λ (x : Node). value_sum (tree.map None (entries es)) x) b ∙ ap (λ (x : Children). gives (tree.map None x)) (sym h))
+
+-- ---- terms
+
+-- the first of three steps and the second are one step before the third
+joined_steps : {A B C : Type 0} (f : A → Judgement B) (g : B → Judgement C) (j : Judgement A) → and_then (λ x. and_then g (f x)) j ≡ and_then g (and_then f j)
+joined_steps f g (gives x) = refl
+joined_steps f g (refuses why) = refl
+
+same_then : {A B : Type 0} (f g : A → Judgement B) (j : Judgement A) → ((x : A) → f x ≡ g x) → and_then f j ≡ and_then g j
+same_then f g (gives x) h = h x
+same_then f g (refuses why) h = refl
+
+-- what a term does to a value
+abbrev with_term : ℕ → Place → Term → Node → Judgement Node
+with_term doc p t v = and_then (sum v) (term_value doc p t)
+
+-- terms act in turn
+pub sum_chained : (doc : ℕ) (p : Place) (ts : List Term) (v : Node) → sum_from doc p v ts ≡ chained (with_term doc p) ts v
+sum_chained doc p [] v = refl
+sum_chained doc p (t ∷ ts) v =
+    joined_steps (sum v) (λ w. sum_from doc p w ts) (term_value doc p t)
+    ∙ same_then (λ w. sum_from doc p w ts) (chained (with_term doc p) ts) (with_term doc p t v) (λ w. sum_chained doc p ts w)
+
+-- the first term and the others
+pub right_on : {X : Type 0} (view : X → Term) (doc : ℕ) (p : Place) (xs : List X) (x : X) (v : Node) → 0 < length xs → x ≡ get_or xs 0 x → term_value doc p (view x) ≡ gives v →
+    right_value doc (map view xs) p ≡ chained (with_term doc p) (map view (take (length xs - 1) (drop 1 xs))) v
+right_on view doc p [] x v some is h = absurd (omega (arith, some))
+right_on {X} view doc p (y ∷ ys) x v some is h = cc (sum_chained doc p (map view ys) v, take_rest (y ∷ ys) 1)

@@ -1,0 +1,21 @@
+use Rattle.std.proofs.Common.{sym, ap, ◌∙◌, cond}
+use Rattle.yq_core.specs.Anchors.{names_of}
+use Rattle.yq_core.specs.Nodes.{node_of}
+use Rattle.yq_semantics.specs.Changes.{is_too_deep}
+use Rattle.yq_planner.specs.ChangeView.{change_of}
+use Rattle.yq_semantics.specs.Judgement.{gives, refuses}
+use Rattle.yq_semantics.specs.declared.refusal.Refusal.TheVariants.{AnchorInUse}
+use Rattle.yq_planner.proofs.UsedLaws.{allowed_by}
+use Rattle.yq_planner.proofs.updating.allowed.allow.Goals as goal
+
+pub returns-then-branch-2 : goal.returns-then-branch-2
+returns-then-branch-2 c = λ root x named at long.
+    allowed_by root (node_of c.args.node.now) x (change_of c.args.change.now) c.in_ok-takes_used.field-0 (sym c.in_ok-is_too_long.ensures ∙ c.if-branch.false)
+    (ap (λ n. is_too_deep n (change_of c.args.change.now)) long ∙ (sym c.is_too_deep.ensures ∙ c.if-is_too_deep.false)) (c.in_ok-takes_used.ensures (names_of root) named) at
+    ∙ ap (λ b. cond b (refuses AnchorInUse) (gives (x, change_of c.args.change.now))) c.if-branch-2.true
+
+pub returns : goal.returns
+returns c = λ root x named at long.
+    allowed_by root (node_of c.args.node.now) x (change_of c.args.change.now) c.in_ok-takes_used.field-0 (sym c.in_ok-is_too_long.ensures ∙ c.if-branch.false)
+    (ap (λ n. is_too_deep n (change_of c.args.change.now)) long ∙ (sym c.is_too_deep.ensures ∙ c.if-is_too_deep.false)) (c.in_ok-takes_used.ensures (names_of root) named) at
+    ∙ ap (λ b. cond b (refuses AnchorInUse) (gives (x, change_of c.args.change.now))) c.if-branch-2.false

@@ -1,0 +1,8 @@
+use Rattle.std.proofs.Common.{◌≡◌, drop}
+use Rattle.std.specs.List.{list_any}
+use Rattle.yq_semantics.specs.Changes.{writes_long_key}
+use Rattle.yq_planner.specs.ChangeView.{addition_of}
+use Rattle.yq_planner.proofs.updating.change_limits.some_writes_long_key.Given as goal
+
+abbrev pub invariant-each : goal.invariant-each
+invariant-each l = list_any (λ a. writes_long_key (addition_of a)) (drop l.addition-index l.additions) ≡ list_any (λ a. writes_long_key (addition_of a)) l.additions

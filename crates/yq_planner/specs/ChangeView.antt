@@ -1,0 +1,39 @@
+-- The changes that those of the code stand for.
+use Rattle.std.specs.Prelude.{List, [], ◌∷◌, map, Option, Some, None, option_map, string_bytes}
+use Rattle.std.specs.Global.{Vec}
+use Rattle.yq_core.specs.Entries.{tree_step}
+use Rattle.yq_core.specs.Values.{value_node}
+use Rattle.yq_planner.specs.declared.updating.change.Addition as addition
+use Rattle.yq_planner.specs.declared.updating.change.Change as change
+use Rattle.yq_planner.specs.declared.updating.change.Changed as changed
+use Rattle.yq_semantics.specs.Places.{Place}
+use Rattle.yq_semantics.specs.Changes.{Addition, appends, overwrites, Change, replaces, adds, removes, sets_comment, Changed}
+
+-- the addition that one of the code stands for (own)
+abbrev pub addition_of : addition.Addition → Addition
+addition_of (addition.TheVariants.Appends k v) = appends (option_map string_bytes k) (value_node v)
+addition_of (addition.TheVariants.Overwrites k v) = overwrites (string_bytes k) (value_node v)
+
+-- the change that one of the code stands for (own)
+abbrev pub change_of : change.Change → Change
+change_of (change.TheVariants.Replaces v) = replaces (value_node v)
+change_of (change.TheVariants.Adds xs) = adds (map addition_of xs.items)
+change_of change.TheVariants.Removes = removes
+change_of (change.TheVariants.SetsComment place text) = sets_comment place (string_bytes text)
+
+-- the same with its path (own)
+abbrev pub changed_of : changed.Changed → Changed
+changed_of c = (map tree_step c.path.items, change_of c.change)
+
+-- the changes of each document (own)
+abbrev pub all_changed_of : List (Vec changed.Changed) → List (List Changed)
+all_changed_of css = map (λ cs. map changed_of cs.items) css
+
+-- a change at a place (own)
+abbrev pub placed_change : Place → change.Change → List Changed
+placed_change p c = (p.path, change_of c) ∷ []
+
+-- the same, if there is one (own)
+abbrev pub placed : Place → Option change.Change → List Changed
+placed p None = []
+placed p (Some c) = placed_change p c

@@ -1,0 +1,117 @@
+//! A value that is added to a node.
+ghost use Rattle.std.specs.Prelude.{◌≡◌, IfOk, None, Some, map, false};
+ghost use Rattle.yq_core.specs.Values.{entries_of, value_node, items_of};
+ghost use Rattle.yq_core.specs.Tree.{Children, children_of, none, scalar};
+ghost use Rattle.yq_nodes.specs.Nodes.{node_of};
+ghost use Rattle.yq_semantics.specs.Changes as spec;
+ghost use Rattle.yq_planner.specs.ChangeView.{addition_of, change_of};
+ghost use Rattle.yq_planner.specs.Indexes.{IsIndex};
+ghost use Rattle.yq_semantics.specs.Judgement.{Judges};
+ghost use Rattle.yq_semantics.specs.RightValues as values;
+
+use crate::updating::change::{Addition, Change};
+use crate::updating::copied::copied;
+use crate::updating::entry_index::{EntryIndex, find, index_of};
+use crate::updating::sum::scalar_sum;
+use std::alloc::{AllocError, Global};
+use yq_core::{Kind, Value};
+use yq_nodes::{Node, NodeKind};
+use yq_semantics::{ExprError, Refusal};
+
+/// A value that is added to a scalar.
+fn to_scalar(alloc: Global, kind: Kind, text: &str, value: &Value) -> Result<Change, ExprError>
+    requires { values.is_null (value_node value.now) ≡ false }
+    ensures { Judges change_of result (spec.added (scalar None kind text.now)
+        (value_node value.now)) }
+{
+    match (kind, value) {
+        (Kind::Null, _) => Ok(Change::Replaces(copied(alloc, value)?)),
+        (_, Value::Scalar(other)) => Ok(Change::Replaces(scalar_sum(alloc, kind, text, other)?)),
+        (_, Value::List(_) | Value::Map(_)) => Err(ExprError::Refused(Refusal::KindMismatch)),
+    }
+}
+
+/// The items of a list.
+fn items(alloc: Global, values: &Vec<Value>) -> Result<Vec<Addition>, AllocError>
+    ensures { IfOk result (λ v. map addition_of v.items ≡
+        spec.additions none (items_of values.now.items)) }
+{
+    let mut additions = Vec::new(alloc);
+    'values: for value in values {
+        additions.push(Addition::Appends(None, copied(alloc, value)?))?;
+    }
+    Ok(additions)
+}
+
+/// The items that a list gets from a value.
+fn to_list(alloc: Global, value: &Value) -> Result<Vec<Addition>, AllocError>
+    ensures { IfOk result (λ v. map addition_of v.items ≡
+        spec.additions none (values.as_items (value_node value.now))) }
+{
+    if let Value::List(values) = value {
+        return items(alloc, values);
+    }
+    let mut additions = Vec::with_capacity(alloc, 1)?;
+    additions.push(Addition::Appends(None, copied(alloc, value)?))?;
+    Ok(additions)
+}
+
+/// An entry for a mapping with the entries of that index.
+fn entry(
+    alloc: Global,
+    index: &EntryIndex<'_, '_>,
+    key: &str,
+    value: &Value,
+) -> Result<Addition, AllocError>
+    ensures { (cs : Children) → IsIndex cs index.now →
+        IfOk result (λ x. addition_of x ≡ spec.addition cs (Some key.now) (value_node value.now)) }
+{
+    let owned = String::from_str(alloc, key)?;
+    let value = copied(alloc, value)?;
+    match find(index, key) {
+        Some(_) => Ok(Addition::Overwrites(owned, value)),
+        None => Ok(Addition::Appends(Some(owned), value)),
+    }
+}
+
+/// Entries for a mapping with the entries of that index.
+fn entries(
+    alloc: Global,
+    index: &EntryIndex<'_, '_>,
+    others: &Vec<(String, Value)>,
+) -> Result<Vec<Addition>, AllocError>
+    ensures { (cs : Children) → IsIndex cs index.now →
+        IfOk result (λ v. map addition_of v.items ≡
+        spec.additions cs (entries_of others.now.items)) }
+{
+    let mut additions = Vec::new(alloc);
+    'each: for other in others {
+        additions.push(entry(alloc, index, other.0.as_str(), &other.1)?)?;
+    }
+    Ok(additions)
+}
+
+/// The entries of a value for a mapping.
+fn to_map(alloc: Global, node: &Node<'_, '_>, value: &Value) -> Result<Change, ExprError>
+    ensures { Judges change_of result (spec.added_entries (children_of (node_of node.now))
+        (value_node value.now)) }
+{
+    let Value::Map(others) = value else {
+        return Err(ExprError::Refused(Refusal::KindMismatch));
+    };
+    let index = index_of(alloc, node)?;
+    Ok(Change::Adds(entries(alloc, &index, others)?))
+}
+
+/// What a value changes that is added to a node.
+pub fn added(alloc: Global, node: &Node<'_, '_>, value: &Value) -> Result<Change, ExprError>
+    requires { values.is_null (value_node value.now) ≡ false }
+    ensures { Judges change_of result (spec.added (node_of node.now) (value_node value.now)) }
+{
+    match node.kind() {
+        NodeKind::Alias => Err(ExprError::Refused(Refusal::ThroughAlias)),
+        NodeKind::Scalar(kind) => to_scalar(alloc, kind, node.text(), value),
+        NodeKind::List => Ok(Change::Adds(to_list(alloc, value)?)),
+        NodeKind::Map => to_map(alloc, node, value),
+    }
+}

@@ -1,0 +1,126 @@
+//! Operations that carry out changes: each is of one node.
+ghost use Rattle.std.specs.Prelude.{◌≡◌, ◌++◌, IfOk, OnOk, map, string_bytes};
+ghost use Rattle.yq_documents.specs.Located.{steps_of};
+ghost use Rattle.yq_planner.specs.ChangeView.{addition_of, all_changed_of, changed_of};
+ghost use Rattle.yq_semantics.specs.Operations.{operation_of, operations_of};
+ghost use Rattle.yq_semantics.specs.Plans as spec;
+
+use crate::updating::change::{Addition, Change, Changed};
+use std::alloc::{AllocError, Global};
+use yq_core::Step;
+use yq_documents::Path;
+use yq_semantics::{CommentPlace, Op, copied_steps};
+
+/// The operation of an addition at a path.
+fn add_op(alloc: Global, path: &Path, addition: Addition) -> Result<Op, AllocError>
+    ensures { IfOk result (λ op. operation_of op ≡ spec.add_op path.now.doc (steps_of path.now)
+        (addition_of addition)) }
+{
+    let doc = path.doc;
+    let mut steps = copied_steps(alloc, &path.steps)?;
+    match addition {
+        Addition::Appends(key, value) => Ok(Op::Append(Path { doc, steps }, key, value)),
+        Addition::Overwrites(key, value) => {
+            steps.push(Step::Key(key))?;
+            Ok(Op::Replace(Path { doc, steps }, value))
+        }
+    }
+}
+
+/// Puts the operations of additions at a path behind others.
+fn push_adds(
+    alloc: Global,
+    path: &Path,
+    additions: Vec<Addition>,
+    ops: &mut Vec<Op>,
+) -> Result<(), AllocError>
+    ensures { OnOk result (operations_of ops.new.items ≡
+        operations_of ops.old.items ++ map (spec.add_op path.now.doc (steps_of path.now))
+        (map addition_of additions.items)) }
+{
+    'each: for addition in additions {
+        ops.push(add_op(alloc, path, addition)?)?;
+    }
+    Ok(())
+}
+
+/// The operation that sets a comment.
+fn comment_op(path: Path, place: CommentPlace, text: String) -> Op
+    ensures { operation_of result ≡ spec.comment_op path.doc (steps_of path) place
+        (string_bytes text) }
+{
+    match place {
+        CommentPlace::Line => Op::LineComment(path, text),
+        CommentPlace::Head => Op::HeadComment(path, text),
+    }
+}
+
+/// Puts the operations of a change in document `doc` behind others.
+fn push_change(
+    alloc: Global,
+    doc: usize,
+    changed: Changed,
+    ops: &mut Vec<Op>,
+) -> Result<(), AllocError>
+    ensures { OnOk result (operations_of ops.new.items ≡
+        operations_of ops.old.items ++ spec.change_ops doc (changed_of changed)) }
+{
+    let path = Path {
+        doc,
+        steps: changed.path,
+    };
+    let op = match changed.change {
+        Change::Replaces(value) => Op::Replace(path, value),
+        Change::Adds(additions) => return push_adds(alloc, &path, additions, ops),
+        Change::Removes => Op::Remove(path),
+        Change::SetsComment(place, text) => comment_op(path, place, text),
+    };
+    Ok(ops.push(op)?)
+}
+
+/// Changes in the order in which they are made: removals last to first, since
+/// what goes shifts what stands behind it.
+#[tactic(auto, using(yq_semantics::proofs::Lists::map_reverse))]
+fn ordered(removal: bool, changes: Vec<Changed>) -> Vec<Changed>
+    ensures { map changed_of result.items ≡ spec.ordered removal (map changed_of changes.items) }
+{
+    let mut ordered = changes;
+    if removal {
+        ordered.reverse();
+    }
+    ordered
+}
+
+/// Puts the operations of changes in document `doc` behind others.
+fn push_changes(
+    alloc: Global,
+    doc: usize,
+    changes: Vec<Changed>,
+    ops: &mut Vec<Op>,
+) -> Result<(), AllocError>
+    ensures { OnOk result (operations_of ops.new.items ≡
+        operations_of ops.old.items ++ spec.ops_of doc (map changed_of changes.items)) }
+{
+    'each: for changed in changes {
+        push_change(alloc, doc, changed, ops)?;
+    }
+    Ok(())
+}
+
+/// The operations of the changes of each document, in order.
+pub fn operations(
+    alloc: Global,
+    removal: bool,
+    changes: Vec<Vec<Changed>>,
+) -> Result<Vec<Op>, AllocError>
+    ensures { IfOk result (λ v. operations_of v.items ≡ spec.all_ops removal 0
+        (all_changed_of changes.items)) }
+{
+    let mut ops = Vec::new(alloc);
+    let mut doc = 0;
+    'documents: for changed in changes {
+        push_changes(alloc, doc, ordered(removal, changed), &mut ops)?;
+        doc += 1;
+    }
+    Ok(ops)
+}

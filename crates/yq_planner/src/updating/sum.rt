@@ -1,0 +1,174 @@
+//! Sums of values (yq manual, `+`).
+ghost use Rattle.std.specs.Fmt.{signed_decimal};
+ghost use Rattle.std.specs.Prelude.{◌≡◌, ◌++◌, IfOk, None, OnOk, Some, map, option_map, string_bytes};
+ghost use Rattle.yq_core.specs.Values.{entries_of, field_of, items_of, value_node};
+ghost use Rattle.yq_core.specs.SchemaReading as numbers;
+ghost use Rattle.yq_core.specs.Tree.{scalar};
+ghost use Rattle.yq_core.specs.declared.kind.Kind.TheVariants.{Int, Text};
+ghost use Rattle.yq_core.specs.Paths.{append_children};
+ghost use Rattle.yq_planner.specs.EntryNumbers.{AreNumbered};
+ghost use Rattle.yq_semantics.specs.Judgement.{Judges};
+ghost use Rattle.yq_semantics.specs.RightValues as spec;
+
+use crate::updating::key_numbers::{KeyNumbers, keep_number, number_of, numbers_of};
+use std::alloc::{AllocError, Global};
+use yq_core::{Kind, Scalar, Value};
+use yq_scalar_reader::int_value;
+use yq_semantics::{ExprError, Refusal};
+
+/// The int of a number.
+fn int(alloc: Global, number: i64) -> Result<Value, AllocError>
+    ensures { IfOk result (λ v. value_node v ≡ scalar None Int (signed_decimal number)) }
+{
+    let text = number.to_string(alloc)?;
+    Ok(Value::Scalar(Scalar::of_kind(Kind::Int, text)))
+}
+
+/// The sum of two ints.
+fn int_sum(alloc: Global, one: &str, other: &str) -> Result<Value, ExprError>
+    ensures { Judges value_node result (spec.int_sum (numbers.int_value one.now)
+        (numbers.int_value other.now)) }
+{
+    let (Some(m), Some(n)) = (int_value(one), int_value(other)) else {
+        return Err(ExprError::Refused(Refusal::IntegerRange));
+    };
+    match m.checked_add(n) {
+        Some(total) => Ok(int(alloc, total)?),
+        None => Err(ExprError::Refused(Refusal::IntegerRange)),
+    }
+}
+
+/// One string behind another.
+fn text_sum(alloc: Global, one: &str, other: &str) -> Result<Value, AllocError>
+    ensures { IfOk result (λ v. value_node v ≡ scalar None Text (one.now ++ other.now)) }
+{
+    let mut text = String::from_str(alloc, one)?;
+    text.push_str(other)?;
+    Ok(Value::Scalar(Scalar::string(text)))
+}
+
+/// The sum of two scalars, neither of which is null.
+pub fn scalar_sum(alloc: Global, kind: Kind, text: &str, other: &Scalar) -> Result<Value, ExprError>
+    ensures { Judges value_node result (spec.scalar_sum kind text.now other.now.kind other.now.text) }
+{
+    match (kind, other.kind()) {
+        (Kind::Int, Kind::Int) => int_sum(alloc, text, other.text()),
+        (Kind::Text, Kind::Text) => Ok(text_sum(alloc, text, other.text())?),
+        (Kind::Int, Kind::Float) | (Kind::Float, Kind::Int) | (Kind::Float, Kind::Float) => {
+            Err(ExprError::Refused(Refusal::FloatArithmetic))
+        }
+        _ => Err(ExprError::Refused(Refusal::KindMismatch)),
+    }
+}
+
+/// Whether a value is null.
+pub fn is_null(value: &Value) -> bool
+    ensures { result ≡ spec.is_null (value_node value.now) }
+{
+    match value {
+        Value::Scalar(scalar) => scalar.kind() == Kind::Null,
+        Value::List(_) | Value::Map(_) => false,
+    }
+}
+
+/// Puts what a list gets from a value behind its items: the items of a list,
+/// or the value as one item.
+fn push_items(items: &mut Vec<Value>, value: Value) -> Result<(), AllocError>
+    ensures { OnOk result (items_of items.new.items ≡ append_children (items_of items.old.items)
+        (spec.as_items (value_node value))) }
+{
+    match value {
+        Value::List(others) => push_all(items, others),
+        Value::Scalar(scalar) => Ok(items.push(Value::Scalar(scalar))?),
+        Value::Map(entries) => Ok(items.push(Value::Map(entries))?),
+    }
+}
+
+/// Puts items behind others.
+fn push_all(items: &mut Vec<Value>, others: Vec<Value>) -> Result<(), AllocError>
+    ensures { OnOk result (items_of items.new.items ≡ append_children (items_of items.old.items)
+        (items_of others.items)) }
+{
+    'each: for other in others {
+        items.push(other)?;
+    }
+    Ok(())
+}
+
+/// Puts a value in the place of that of its key, or behind the entries, which
+/// have these numbers.
+fn put_entry(
+    alloc: Global,
+    entries: &mut Vec<(String, Value)>,
+    numbers: &mut KeyNumbers,
+    key: String,
+    value: Value,
+) -> Result<(), AllocError>
+    requires { AreNumbered (map field_of entries.old.items) numbers.old }
+    ensures entries { OnOk result (entries_of entries.new.items ≡
+        spec.with_entry (Some (string_bytes key)) (value_node value) (entries_of entries.old.items)) }
+    ensures numbers { OnOk result (AreNumbered (map field_of entries.new.items) numbers.new) }
+{
+    match number_of(numbers, key.as_str()) {
+        Some(number) => {
+            entries[number].1 = value;
+            Ok(())
+        }
+        None => {
+            keep_number(alloc, numbers, key.as_str(), entries.as_slice().len())?;
+            entries.push((key, value))?;
+            Ok(())
+        }
+    }
+}
+
+/// Puts entries among others, one after the other.
+fn put_entries(
+    alloc: Global,
+    entries: &mut Vec<(String, Value)>,
+    others: Vec<(String, Value)>,
+) -> Result<(), AllocError>
+    ensures { OnOk result (entries_of entries.new.items ≡
+        spec.with_entries (entries_of entries.old.items) (entries_of others.items)) }
+{
+    let mut numbers = numbers_of(alloc, entries)?;
+    'each: for (key, value) in others {
+        put_entry(alloc, entries, &mut numbers, key, value)?;
+    }
+    Ok(())
+}
+
+/// The sum of two values, neither of which is null.
+fn value_sum(alloc: Global, one: Value, other: Value) -> Result<Value, ExprError>
+    ensures { Judges value_node result (spec.value_sum (value_node one) (value_node other)) }
+{
+    match (one, other) {
+        (Value::Scalar(scalar), Value::Scalar(added)) => {
+            scalar_sum(alloc, scalar.kind(), scalar.text(), &added)
+        }
+        (Value::List(items), added) => {
+            let mut all = items;
+            push_items(&mut all, added)?;
+            Ok(Value::List(all))
+        }
+        (Value::Map(entries), Value::Map(added)) => {
+            let mut all = entries;
+            put_entries(alloc, &mut all, added)?;
+            Ok(Value::Map(all))
+        }
+        _ => Err(ExprError::Refused(Refusal::KindMismatch)),
+    }
+}
+
+/// The sum of two values.
+pub fn sum(alloc: Global, one: Value, other: Value) -> Result<Value, ExprError>
+    ensures { Judges value_node result (spec.sum (value_node one) (value_node other)) }
+{
+    if is_null(&one) {
+        return Ok(other);
+    }
+    if is_null(&other) {
+        return Ok(one);
+    }
+    value_sum(alloc, one, other)
+}

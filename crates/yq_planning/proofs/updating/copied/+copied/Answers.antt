@@ -1,6 +1,0 @@
-use Rattle.std.proofs.Common.{rules}
-use Rattle.yq_program.proofs.ValueMaps.{node_of-map}
-use Rattle.yq_planning.proofs.updating.copied.+copied.Goals as goal
-
-pub copied-returns-in_ok-copied_entries-in-Map : goal.copied-returns-in_ok-copied_entries-in-Map
-copied-returns-in_ok-copied_entries-in-Map t c = search (rules, node_of-map)

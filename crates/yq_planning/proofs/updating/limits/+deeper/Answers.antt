@@ -1,8 +1,0 @@
-use Rattle.std.proofs.Common.{rules}
-use Rattle.std.proofs.lemmas.Grind.{common_steps}
-use Rattle.yq_program.proofs.ValueMaps.{node_of-map}
-use Rattle.yq_planning.proofs.LimitLaws.{one_deeper}
-use Rattle.yq_planning.proofs.updating.limits.+deeper.Goals as goal
-
-pub is_deeper-returns-else-limit-eq0-2 : goal.is_deeper-returns-else-limit-eq0-2
-is_deeper-returns-else-limit-eq0-2 t c = search (rules, common_steps, one_deeper, node_of-map)

@@ -1,9 +1,0 @@
-use Rattle.std.proofs.Common.{◌≡◌, Bool, IfOk, sym, ap, ◌∙◌, subst}
-use Rattle.yq_nodes.specs.Values.{value_node}
-use Rattle.yq_meaning.specs.Changes.{has_long_key}
-use Rattle.yq_program.proofs.ValueMaps.{node_of-map}
-use Rattle.yq_planning.proofs.updating.limits.+long.Goals as goal
-
-pub holds_long_key-returns-in-Map : goal.holds_long_key-returns-in-Map
-holds_long_key-returns-in-Map t c =
-    subst (λ (x : Bool). IfOk c.some_has_long_key.result (λ b. b ≡ x)) (sym (ap has_long_key (ap value_node c.in-Map.is ∙ node_of-map c.in-Map.entries))) c.some_has_long_key.ensures

@@ -1,9 +1,0 @@
-use Rattle.std.proofs.Common.{rules}
-use Rattle.std.proofs.lemmas.List.{nil_from_length}
-use Rattle.yq_planning.proofs.updating.sum.put_entries.Goals as goal
-
-pub each-preserved : goal.each-preserved
-each-preserved c = search rules
-
-pub returns : goal.returns
-returns c = search (rules, nil_from_length)

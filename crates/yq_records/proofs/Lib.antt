@@ -1,2 +1,0 @@
-pub mod GapLaws
-pub mod RecordLaws

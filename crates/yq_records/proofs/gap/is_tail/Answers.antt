@@ -1,7 +1,0 @@
-use Rattle.std.proofs.Common.{rules}
-use Rattle.std.proofs.lemmas.Grind.{common_steps}
-use Rattle.std.proofs.lemmas.Slice.Eq.{bytes_eq-Decides}
-use Rattle.yq_records.proofs.gap.is_tail.Goals as goal
-
-pub returns : goal.returns
-returns c = search (rules, common_steps, bytes_eq-Decides)

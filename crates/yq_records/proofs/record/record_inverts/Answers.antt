@@ -1,5 +1,0 @@
-use Rattle.yq_records.proofs.RecordLaws.{undone_after_done, done_after_undone}
-use Rattle.yq_records.proofs.record.record_inverts.Goals as goal
-
-pub returns : goal.returns
-returns c = λ r b d. (undone_after_done r b d, done_after_undone r b d)

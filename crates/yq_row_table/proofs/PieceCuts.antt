@@ -1,0 +1,98 @@
+-- The pieces of a row, each behind the lengths of those before it.
+use Rattle.std.proofs.Common.{◌≡◌, ◌<◌, ◌≤◌, ℕ, zero, suc, ◌+◌, List, [], ◌∷◌, length, get_or, take, drop, refl, sym, ap, ◌∙◌, subst, arith}
+use Rattle.std.proofs.lemmas.List.{drop-drop}
+use Rattle.std.proofs.lemmas.Str.{IsCharBoundary-from_rest}
+use Rattle.std.specs.Str.{IsCharBoundary}
+use Rattle.yq_row_table.specs.Offsets.{AreCuts, lengths, parent_by, pieces_of}
+use Rattle.yq_row_table.specs.View.{Slices}
+use Rattle.yq_row_table.specs.declared.offsets.Offsets as declared
+
+-- so many bytes and the first of these lengths
+abbrev pub sum_of : ℕ → ℕ → List ℕ → ℕ
+sum_of k zero ls = k
+sum_of k (suc i) [] = k
+sum_of k (suc i) (n ∷ ls) = sum_of (k + n) i ls
+
+-- a text behind pieces of the first of these lengths
+abbrev pub behind : ℕ → List ℕ → List ℕ → List ℕ
+behind zero ls t = t
+behind (suc i) [] t = t
+behind (suc i) (n ∷ ls) t = behind i ls (drop n t)
+
+behind_sum : (k i : ℕ) (ls t : List ℕ) → behind i ls (drop k t) ≡ drop (sum_of k i ls) t
+behind_sum k zero ls t = refl
+behind_sum k (suc i) [] t = refl
+behind_sum k (suc i) (n ∷ ls) t = ap (behind i ls) (drop-drop n k t) ∙ behind_sum (k + n) i ls t
+
+sum_boundary : (k i : ℕ) (ls t : List ℕ) → i < length ls → IsCharBoundary t k → AreCuts (drop k t) ls → IsCharBoundary t (sum_of k i ls) × IsCharBoundary (drop (sum_of k i ls) t) (get_or ls i 0)
+sum_boundary k i [] t less at h = absurd (omega (arith, less))
+sum_boundary k zero (n ∷ ls) t less at h = (at, h.0)
+sum_boundary k (suc i) (n ∷ ls) t less at h =
+    let long : k ≤ length t = omega (arith, at.0) in
+    sum_boundary (k + n) i ls t (omega (arith, less)) (IsCharBoundary-from_rest t k n long h.0) (subst (λ (u : List ℕ). AreCuts u ls) (drop-drop n k t) h.1)
+
+-- A piece behind the gap and others, where the code finds it: it is cut between characters, and is what stands behind those.
+pub record IsPiece (o : declared.Offsets) (i : ℕ) (t : List ℕ) (at : ℕ) : Type 0 where
+  pub before : IsCharBoundary t at
+  pub len : IsCharBoundary (drop at t) (get_or (drop 1 (lengths o)) i 0)
+  pub is : take (get_or (drop 1 (lengths o)) i 0) (drop at t) ≡ take (get_or (drop 1 (lengths o)) i 0) (behind i (drop 1 (lengths o)) (drop o.gap t))
+
+pub piece_at : (o : declared.Offsets) (i : ℕ) (t : List ℕ) (at : ℕ) → i < 10 → AreCuts t (lengths o) → at ≡ sum_of o.gap i (drop 1 (lengths o)) → IsPiece o i t at
+piece_at o i t at less h is =
+    let n : ℕ = get_or (drop 1 (lengths o)) i 0 in
+    let cut = sum_boundary o.gap i (drop 1 (lengths o)) t less h.0 h.1 in
+    record {
+      before = subst (λ (m : ℕ). IsCharBoundary t m) (sym is) cut.0;
+      len = subst (λ (m : ℕ). IsCharBoundary (drop m t) n) (sym is) cut.1;
+      is = ap (λ (m : ℕ). take n (drop m t)) is ∙ ap (take n) (sym (behind_sum o.gap i (drop 1 (lengths o)) t));
+    }
+
+-- texts, each of which stands behind a piece of the one before
+abbrev pub Follow : List ℕ → List ℕ → List (List ℕ) → Type 0
+Follow t ls [] = Unit {0}
+Follow t [] (u ∷ us) = (u ≡ t) × Follow u [] us
+Follow t (n ∷ ls) (u ∷ us) = (u ≡ drop n t) × Follow u ls us
+
+-- the text that stands behind all of them
+abbrev pub last_text : List ℕ → List (List ℕ) → List ℕ
+last_text t [] = t
+last_text t (u ∷ us) = last_text u us
+
+-- the text behind the first of them
+abbrev pub text_at : ℕ → List ℕ → List (List ℕ) → List ℕ
+text_at zero t us = t
+text_at (suc k) t [] = t
+text_at (suc k) t (u ∷ us) = text_at k u us
+
+-- it is what stands behind their lengths
+behind_is : (k : ℕ) (ls t : List ℕ) (us : List (List ℕ)) → k ≤ length us → Follow t ls us → text_at k t us ≡ behind k ls t
+behind_is zero ls t us less h = refl
+behind_is (suc k) ls t [] less h = absurd (omega (arith, less))
+behind_is (suc zero) [] t (u ∷ us) less h = h.0
+behind_is (suc (suc k)) [] t (u ∷ us) less h = behind_is (suc k) [] u us (omega (arith, less)) h.1 ∙ h.0
+behind_is (suc k) (n ∷ ls) t (u ∷ us) less h = behind_is k ls u us (omega (arith, less)) h.1 ∙ ap (behind k ls) h.0
+
+-- pieces of these texts are those of a row
+pub row_cut : (o : declared.Offsets) (t : List ℕ) (s : Slices) (indent dashes key colon space anchor apart head tail raw : List ℕ)
+    → Follow t (lengths o) (indent ∷ dashes ∷ key ∷ colon ∷ space ∷ anchor ∷ apart ∷ head ∷ tail ∷ raw ∷ [])
+    → s.gap ≡ take o.gap t → s.column ≡ o.column → s.dashes ≡ take o.dashes dashes → s.key ≡ take o.key key → s.colon ≡ take o.colon colon
+    → s.space ≡ take o.space space → s.anchor ≡ take o.anchor anchor → s.apart ≡ take o.apart apart → s.head ≡ take o.head head
+    → s.tail ≡ take o.tail tail → s.raw ≡ take o.raw raw → s.parent ≡ parent_by (o.column + o.dashes) o.colon → s ≡ pieces_of t o
+unfolding pieces_of
+row_cut o t s indent dashes key colon space anchor apart head tail raw h g c d k l p a f e b w n =
+    let us = indent ∷ dashes ∷ key ∷ colon ∷ space ∷ anchor ∷ apart ∷ head ∷ tail ∷ raw ∷ [] in
+    let at = λ (k : ℕ). λ (less : k ≤ 10). behind_is k (lengths o) t us less h in
+    λ i. record {
+      gap = g i;
+      column = c i;
+      dashes = (d ∙ ap (take o.dashes) (at 2 (omega arith))) i;
+      key = (k ∙ ap (take o.key) (at 3 (omega arith))) i;
+      colon = (l ∙ ap (take o.colon) (at 4 (omega arith))) i;
+      space = (p ∙ ap (take o.space) (at 5 (omega arith))) i;
+      anchor = (a ∙ ap (take o.anchor) (at 6 (omega arith))) i;
+      apart = (f ∙ ap (take o.apart) (at 7 (omega arith))) i;
+      head = (e ∙ ap (take o.head) (at 8 (omega arith))) i;
+      tail = (b ∙ ap (take o.tail) (at 9 (omega arith))) i;
+      raw = (w ∙ ap (take o.raw) (at 10 (omega arith))) i;
+      parent = n i;
+    }

@@ -1,0 +1,16 @@
+use Rattle.std.proofs.Common.{ap, get_or, slice_get, sym, ◌∙◌, ◌++◌}
+use Rattle.yq_row_table.specs.RowStarts.{part_end}
+use Rattle.yq_row_table.specs.View.{RowsView}
+use Rattle.yq_row_table.specs.declared.ends.EndPlace.{EndPlace}
+use Rattle.std.specs.Prelude.{List}
+use Rattle.yq_row_table.proofs.EndsNear.{part_ends}
+use Rattle.yq_row_table.proofs.HalfLaws.{have_view}
+use Rattle.yq_row_table.proofs.rows.Rows.part_end.Goals as goal
+
+pub returns : goal.returns
+returns c = λ b there.
+    let h = c.self.invariant in
+    let same = sym c.self.view_is ∙ have_view c.self.inside.text c.self.inside.places h in
+    let at = ap (λ (v : RowsView). slice_get v.bounds c.args.i) (sym same) ∙ there in
+    let index = c.index.ensures ∙ ap (λ (l : List EndPlace). get_or l c.args.i c.index.result.now) h.placed.ends_are in
+    c.stop.ensures ∙ (part_ends (h.before ++ h.behind) c.args.i b c.index.result.now at index ∙ ap (part_end c.args.i b) (sym same))

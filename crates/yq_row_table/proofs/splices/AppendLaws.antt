@@ -1,0 +1,48 @@
+-- Rows behind the last one of a text without a final break, in a cut.
+use Rattle.std.proofs.Common.{◌≡◌, ℕ, suc, true, false, List, [], ◌∷◌, ◌++◌, length, refl, sym, ap, ◌∙◌, subst, Some}
+use Rattle.yq_core.specs.Characters.{pairs_returns}
+use Rattle.yq_core.specs.Alike.{Alike}
+use Rattle.yq_row_table.specs.Exchange.{allows_first, asked_behind}
+use Rattle.yq_row_table.specs.Grammar.{Limit, limit_after, AreRows, no_rows, IsCut}
+use Rattle.yq_row_table.specs.Rows.{Row, print_row, rows_text, Cut}
+use Rattle.yq_row_table.specs.Appending.{closed_by, TakesBreak, IsLastRow}
+use Rattle.yq_row_table.specs.Splices.{behind_first, nth_part, behind_part, back_rows, asked_at, behind_rows, replace_row, CutsItsText}
+use Rattle.yq_row_table.proofs.splices.PartPlaces.{row_stands, rows_after, rows_from}
+use Rattle.yq_row_table.proofs.splices.SpliceCases.{replaced}
+use Rattle.yq_row_table.proofs.splices.SpliceTexts.{row_pairs}
+use Rattle.yq_row_table.proofs.seams.TailLaws.{row_closed, limit_closed}
+
+-- nothing is behind the last row
+nothing_behind : (rs : List Row) (end rest : List ℕ) → rs ≡ [] → rest ≡ [] → behind_first rs end rest ≡ []
+nothing_behind rs end rest e f = ap (λ (x : List Row). behind_first x end rest) e ∙ f
+
+last_text : (rs : List Row) (r : Row) (end rest : List ℕ) → rs ≡ r ∷ [] → end ≡ [] → rest ≡ [] → rows_text rs (end ++ rest) ≡ print_row r []
+last_text rs r end rest a b c = ap (λ (x : List Row). rows_text x (end ++ rest)) a ∙ (ap (λ (x : List ℕ). print_row r (x ++ rest)) b ∙ ap (print_row r) c)
+
+no_bound : (limit : Limit) (rs : List Row) → rs ≡ [] → allows_first limit rs ≡ true
+no_bound limit rs e = ap (allows_first limit) e
+
+pub end_appended : (t : List ℕ) (c : Cut) (k : ℕ) (front : List Row) (r : Row) (break : List ℕ) (new : List Row) (gap : List ℕ) → IsCut t c → IsLastRow k front r c → TakesBreak r break → AreRows (limit_after r) new gap [] →
+    CutsItsText (replace_row k front (closed_by break r ∷ new) gap c)
+end_appended t c k front r break new gap h f takes n =
+    let p = nth_part k c in
+    let rest = behind_part k c in
+    let i = length front in
+    let asked = asked_at k i c in
+    let all : List Row = closed_by break r ∷ new in
+    let last : back_rows k i c ≡ r ∷ [] = rows_from k front r [] c f.row in
+    let none : back_rows k (suc i) c ≡ [] = rows_after k front r [] c f.row in
+    let nothing : behind_rows k (suc i) c ≡ [] = nothing_behind (back_rows k (suc i) c) p.end rest none f.nothing in
+    let text : rows_text (back_rows k i c) (p.end ++ rest) ≡ print_row r [] = last_text (back_rows k i c) r p.end rest last f.end f.nothing in
+    let own : AreRows asked (r ∷ []) p.end rest = row_stands t c k front r [] h f.row in
+    let row : AreRows asked (r ∷ []) [] [] = subst (AreRows asked (r ∷ []) []) f.nothing (subst (λ (x : List ℕ). AreRows asked (r ∷ []) x rest) f.end own) in
+    let pairs : pairs_returns (print_row r []) ≡ true = ap pairs_returns (sym text) ∙ row_pairs t c k i h in
+    let kept = row_closed asked r break new gap [] row.0 takes pairs n refl in
+    let follows : AreRows (limit_after (closed_by break r)) new gap [] = subst (λ (l : Limit). AreRows l new gap []) (sym (limit_closed break r)) n in
+    let alike : Alike (Some false) (print_row r []) (rows_text all (gap ++ behind_rows k (suc i) c)) = subst (λ (x : List ℕ). Alike (Some false) (print_row r []) (rows_text all (gap ++ x))) (sym nothing) kept.alike in
+    replaced t c k i (suc i) all gap h (record {
+      some = ap no_rows last;
+      rows = subst (AreRows asked all gap) (sym nothing) (kept.row, follows);
+      next = no_bound (asked_behind asked all) (back_rows k (suc i) c) none;
+      alike = subst (λ (x : List ℕ). Alike (Some false) x (rows_text all (gap ++ behind_rows k (suc i) c))) (sym text) alike;
+    })

@@ -1,0 +1,16 @@
+-- A row counted through all parts of a cut, and the part in which it stands.
+use Rattle.std.specs.Prelude.{◌≡◌, ℕ, List, [], ◌∷◌}
+use Rattle.yq_row_table.specs.Exchange.{with_content, exchange, behind_row, rows_behind}
+use Rattle.yq_row_table.specs.Rows.{Content, Row, Cut}
+use Rattle.yq_row_table.specs.Splices.{StandsBetween, first_gap, replace_row, nth_part, rest_behind}
+
+-- Row i of a cut stands between other rows of a part; what stands behind it is what stands behind them, and with another content it stands in its own
+-- place (own).
+pub record RowPlace (i : ℕ) (r : Row) (c : Cut) : Type 0 where
+  pub part : ℕ
+  pub front : List Row
+  pub back : List Row
+  pub stands : StandsBetween part front r back c
+  pub rows : rows_behind i c ≡ back
+  pub behind : behind_row i c ≡ rest_behind part back c
+  pub exchanged : (new : Content) → exchange i new c ≡ replace_row part front (with_content new r ∷ []) (first_gap back (nth_part part c).end) c

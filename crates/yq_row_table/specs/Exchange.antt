@@ -1,0 +1,83 @@
+-- What stands behind the mark of a row, exchanged for something else.
+use Rattle.std.specs.Prelude.{◌≡◌, ℕ, zero, suc, ◌+◌, ◌-◌, Bool, true, nat_lt, List, [], ◌∷◌, ◌++◌, length, drop, replicate, if◌then◌else◌}
+use Rattle.std.specs.Str.{IsUtf8, IsCharBoundary}
+use Rattle.yq_core.specs.Text.{separates}
+use Rattle.yq_row_table.specs.Grammar.{IsContent, is_entry, Limit, allows, limit_after}
+use Rattle.yq_row_table.specs.Rows.{Content, content_text, dashes_text, mark_text, Row, parent_indent, print_row, rows_text, Part, part_text, Cut, last, marked, cut_text}
+
+-- a row with another content (own)
+abbrev pub with_content : Content → Row → Row
+with_content content r = record r { content = content }
+
+-- the rows, of which row i has another content (own)
+abbrev pub with_content_at : ℕ → Content → List Row → List Row
+with_content_at i content [] = []
+with_content_at zero content (r ∷ rs) = with_content content r ∷ rs
+with_content_at (suc i) content (r ∷ rs) = r ∷ with_content_at i content rs
+
+-- a part, of which row i has another content (own)
+abbrev pub with_content_in : ℕ → Content → Part → Part
+with_content_in i content p = record p { rows = with_content_at i content p.rows }
+
+-- a cut, of which row i, counted through all parts, has another content (own)
+abbrev pub exchange : ℕ → Content → Cut → Cut
+exchange i content (last p) = last (with_content_in i content p)
+exchange i content (marked p marker c) =
+    if nat_lt i (length p.rows) then marked (with_content_in i content p) marker c else marked p marker (exchange (i - length p.rows) content c)
+
+-- the text of a row before its content (own)
+abbrev pub row_front : Row → List ℕ
+row_front r = r.gap ++ (replicate r.column 32 ++ dashes_text r.dashes (mark_text r.mark []))
+
+-- the text of rows before the content of row i (own)
+abbrev pub before_at : ℕ → List Row → List ℕ
+before_at i [] = []
+before_at zero (r ∷ rs) = row_front r
+before_at (suc i) (r ∷ rs) = print_row r (before_at i rs)
+
+-- the text of rows behind row i, before a rest (own)
+abbrev pub rows_text_behind : ℕ → List Row → List ℕ → List ℕ
+rows_text_behind i [] rest = rest
+rows_text_behind zero (r ∷ rs) rest = rows_text rs rest
+rows_text_behind (suc i) (r ∷ rs) rest = rows_text_behind i rs rest
+
+-- the text of a cut before the content of row i (own)
+abbrev pub before_content : ℕ → Cut → List ℕ
+before_content i (last p) = before_at i p.rows
+before_content i (marked p marker c) = if nat_lt i (length p.rows) then before_at i p.rows else part_text p (marker ++ before_content (i - length p.rows) c)
+
+-- the text of a cut behind row i (own)
+abbrev pub behind_row : ℕ → Cut → List ℕ
+behind_row i (last p) = rows_text_behind i p.rows (p.end ++ [])
+behind_row i (marked p marker c) = if nat_lt i (length p.rows) then rows_text_behind i p.rows (p.end ++ (marker ++ cut_text c)) else behind_row (i - length p.rows) c
+
+-- the rows of the same part behind row i (own)
+abbrev pub rows_behind : ℕ → Cut → List Row
+rows_behind i (last p) = drop (suc i) p.rows
+rows_behind i (marked p marker c) = if nat_lt i (length p.rows) then drop (suc i) p.rows else rows_behind (i - length p.rows) c
+
+-- the first of these rows, if there is one, may stand where this is asked (own)
+abbrev pub allows_first : Limit → List Row → Bool
+allows_first limit [] = true
+allows_first limit (r ∷ rs) = allows limit r.column
+
+-- what is asked behind rows of which that was asked (own)
+abbrev pub asked_behind : Limit → List Row → Limit
+asked_behind limit [] = limit
+asked_behind limit (r ∷ rs) = asked_behind (limit_after r) rs
+
+-- What is asked of a content that stands in the place of a row's, behind a dash or a key: it stands there, behind it the next row of the part may
+-- stand, and white space, a break or the end is in front of it (own).
+pub record FitsRow (new : Content) (r : Row) (rest : List ℕ) (behind : List Row) : Type 0 where
+  pub entry : is_entry r.mark ≡ true
+  pub content : IsContent (parent_indent r) new rest
+  pub apart : separates (content_text new rest) ≡ true
+  pub next : allows_first (limit_after (with_content new r)) behind ≡ true
+
+-- A text of three pieces, of which the first two are whole characters, and so is what stands behind them (own).
+pub record HasPieces (t before old behind : List ℕ) : Type 0 where
+  pub text : t ≡ before ++ (old ++ behind)
+  pub start : IsCharBoundary t (length before)
+  pub end : IsCharBoundary t (length before + length old)
+  pub before_utf8 : IsUtf8 before
+  pub old_utf8 : IsUtf8 old

@@ -1,0 +1,14 @@
+//! Bounds of keys and columns.
+ghost use Rattle.std.specs.Prelude.{◌≡◌, ◌≤◌, ◌==◌};
+ghost use Rattle.yq_row_table.specs.Rows as rows;
+
+/// How many characters a key may have, and how many its `:` may stand behind its first one.
+pub const KEY_LIMIT: usize = 1024;
+
+/// One column less, from -1 on.
+pub fn before_column(column: usize) -> i64
+    requires { column ≤ 8589934591 }
+    ensures { result ≡ rows.before_column column }
+{
+    if column == 0 { -1 } else { (column - 1) as i64 }
+}

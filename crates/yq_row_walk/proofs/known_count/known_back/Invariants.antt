@@ -1,0 +1,14 @@
+use Rattle.std.proofs.Common.{◌≤◌}
+use Rattle.yq_outline.specs.RowWalk.{IsKnown}
+use Rattle.yq_outline.proofs.KnownLaws.{moved_to}
+use Rattle.yq_row_walk.proofs.known_count.known_back.Given as goal
+
+abbrev pub decreases-rows : goal.decreases-rows
+decreases-rows l = l.at
+
+-- so many items are passed before this row
+abbrev pub invariant-rows : goal.invariant-rows
+invariant-rows l = record {
+  known : IsKnown l.rows.rows (moved_to l.known l.index l.at);
+  upto : l.at ≤ l.known.row;
+}

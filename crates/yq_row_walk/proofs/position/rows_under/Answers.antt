@@ -1,0 +1,16 @@
+use Rattle.std.proofs.Common.{sym, ◌∙◌, arith}
+use Rattle.yq_outline.proofs.WalkRows.{under_more, under_stop}
+use Rattle.yq_outline.proofs.WalkPositions.{has_row}
+use Rattle.yq_row_walk.proofs.position.rows_under.Goals as goal
+
+pub returns-then-level_at-level-clause-value : goal.returns-then-level_at-level-clause-value
+returns-then-level_at-level-clause-value c =
+    let ss = c.args.rows.now.rows in
+    let x = has_row ss c.rows.at (omega (arith, c.rows-test.true, c.requires.within)) in
+    under_stop ss c.args.level c.rows.at c.args.end x.0 x.1 c.rows-test.true (omega (arith, c.level_at.ensures x.0 x.1, c.if-level_at-level.true)) ∙ sym c.rows.invariant
+
+pub rows-preserved : goal.rows-preserved
+rows-preserved c =
+    let ss = c.args.rows.now.rows in
+    let x = has_row ss c.rows.at (omega (arith, c.rows-test.true, c.requires.within)) in
+    c.rows.invariant ∙ under_more ss c.args.level c.rows.at c.args.end x.0 x.1 c.rows-test.true (omega (arith, c.level_at.ensures x.0 x.1, c.if-level_at-level.false))

@@ -1,0 +1,33 @@
+use Rattle.std.proofs.Common.{◌≡◌, ap, sym, ◌∙◌, rules}
+use Rattle.std.specs.Prelude.{option_and_then}
+use Rattle.yq_core.specs.Entries.{tree_step}
+use Rattle.yq_core.specs.Inline.{depth_limit}
+use Rattle.yq_core.specs.Keys.{are_distinct, keys_of}
+use Rattle.yq_outline.specs.Lines.{lines_of_rows}
+use Rattle.yq_outline.specs.Ends.{part}
+use Rattle.yq_outline.specs.Outline.{children, level}
+use Rattle.yq_outline.specs.Positions.{reach_under}
+use Rattle.yq_row_table.specs.View.{slices}
+use Rattle.yq_outline.specs.RowWalk.{line_number}
+use Rattle.yq_outline.proofs.EntryKeys.{line_keys}
+use Rattle.yq_outline.proofs.WalkPositions.{located, head_here, head_none}
+use Rattle.yq_row_walk.proofs.position_reach.next_from.Goals as goal
+
+pub returns-then-has_head-clause-found : goal.returns-then-has_head-clause-found
+returns-then-has_head-clause-found c = λ h ss.
+    let n = line_number c.args.document h.stand.rows c.args.at in
+    let k = located c.args.rows.now c.args.document h.stand c.args.at c.requires.at in
+    ap (option_and_then (reach_under (lines_of_rows h.stand.rows) n (tree_step c.args.step.now) ss)) k.is ∙ head_here k.line.head _ _ (c.if-has_head.ensures h.stand k.line k.is)
+
+pub next_in-requires-clause-keys : goal.next_in-requires-clause-keys
+next_in-requires-clause-keys c = λ h.
+    let k = located c.args.rows.now c.args.document h.stand c.args.at c.requires.at in
+    let floor : c.level_at.result ≡ level k.line = c.level_at.ensures (slices k.row) k.pieces ∙ sym k.level_agrees in
+    (λ j. are_distinct (keys_of (children (part (lines_of_rows h.stand.rows) (c.next-under.ensures.number h.stand j) (floor j))))) ∙ line_keys depth_limit (lines_of_rows h.stand.rows) _ k.line h.sound k.is
+
+pub returns-clause-found : goal.returns-clause-found
+returns-clause-found c = λ h ss.
+    let n = line_number c.args.document h.stand.rows c.args.at in
+    let k = located c.args.rows.now c.args.document h.stand c.args.at c.requires.at in
+    let floor : c.level_at.result ≡ level k.line = c.level_at.ensures (slices k.row) k.pieces ∙ sym k.level_agrees in
+    search (rules, head_none, n, k, floor)

@@ -1,0 +1,15 @@
+use Rattle.std.proofs.Common.{Some, sym}
+use Rattle.std.proofs.lemmas.Option.{slice_get_within}
+use Rattle.yq_core.specs.Entries.{tree_step}
+use Rattle.yq_outline.specs.Lines.{lines_of_rows}
+use Rattle.yq_outline.proofs.PathLines.{step_line}
+use Rattle.yq_outline.specs.RowWalk.{line_number}
+use Rattle.yq_outline.proofs.WalkPositions.{located}
+use Rattle.yq_row_walk.proofs.position_reach.next_in.Goals as goal
+
+pub returns-clause-found : goal.returns-clause-found
+returns-clause-found c = λ h ss.
+    let ls = lines_of_rows h.stand.rows in
+    let k = located c.args.rows.now c.args.document h.stand c.in_ok-at.at c.in_ok-at.ensures.within in
+    let n = line_number c.args.document h.stand.rows c.in_ok-at.at in
+    step_line ls (line_number c.args.document h.stand.rows c.args.under) c.args.floor (tree_step c.args.step.now) ss (Some n) (sym (c.if-begins_with_node.ensures.test h.stand)) (c.in_ok-at.ensures.found h) (slice_get_within ls n k.line k.is)

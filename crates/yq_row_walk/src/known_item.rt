@@ -1,0 +1,150 @@
+//! Items and entries that are known, from which a walk over the rows of a collection goes on.
+ghost use Rattle.std.specs.Prelude.{◌≡◌, ◌<◌, ◌≤◌, ◌+◌, length, IfSome, IsTrue};
+ghost use Rattle.yq_outline.specs.Extents.{IsRowsView};
+ghost use Rattle.yq_outline.specs.RowWalk.{AreKnown, GoesOn, HasDocument, IsKnownIn, IsKnown, IsPosition};
+
+use crate::position::level_at;
+use yq_outline::{KnownItem, KnownItems, Position, Stretch};
+use yq_row_table::Rows;
+
+/// Whether an item is known among the lines from one on that are deeper than a level.
+#[inline(always)]
+fn is_among(known: KnownItem, under: Position, floor: usize) -> bool
+    ensures under { IsTrue result → known.under ≡ under }
+    ensures floor { IsTrue result → known.floor ≡ floor }
+{
+    known.under.row == under.row && known.under.line == under.line && known.floor == floor
+}
+
+/// An item that is known, if it is one of the lines of a document from one on that are deeper than a
+/// level.
+#[inline(always)]
+fn if_among(
+    rows: &Rows<'_>,
+    document: Stretch,
+    under: Position,
+    floor: usize,
+    known: Option<KnownItem>,
+) -> Option<KnownItem>
+    requires known { IfSome known (IsKnown rows.now.rows) }
+    ensures { IfSome result (IsKnownIn rows.now.rows under floor document.end) }
+{
+    let _rows = rows;
+    let known = known?;
+    if !is_among(known, under, floor) || known.row >= document.end {
+        return None;
+    }
+    Some(known)
+}
+
+/// The item that is known among the lines of a document from one on that are deeper than a level.
+#[inline(always)]
+pub fn known_among(
+    rows: &Rows<'_>,
+    document: Stretch,
+    known: KnownItems,
+    under: Position,
+    floor: usize,
+) -> Option<KnownItem>
+    requires known { AreKnown rows.now.rows known }
+    ensures { IfSome result (IsKnownIn rows.now.rows under floor document.end) }
+{
+    let far = if_among(rows, document, under, floor, known.far);
+    if far.is_some() {
+        return far;
+    }
+    if_among(rows, document, under, floor, known.near)
+}
+
+/// The item of an index that isn't behind a known one's, unless it begins the collection.
+pub fn item_back(rows: &Rows<'_>, known: KnownItem, index: usize) -> Option<KnownItem>
+    requires known { IsKnown rows.now.rows known }
+    requires within { known.row ≤ length rows.now.rows }
+    requires rows_view { IsRowsView rows.now }
+    ensures known { IfSome result (IsKnownIn rows.now.rows known.under known.floor (known.row + 1)) }
+    ensures index { IfSome result (λ k. k.index ≡ index) }
+{
+    let mut row = known.row;
+    let mut at = known.index;
+    'rows: while index < at && row.saturating_sub(known.under.row) > 1 {
+        row -= 1;
+        if level_at(rows, Position { row, line: 0 }) == known.level {
+            at -= 1;
+        }
+    }
+    if at != index {
+        return None;
+    }
+    Some(KnownItem {
+        index,
+        row,
+        ..known
+    })
+}
+
+/// The item before one that is known, unless it begins the collection.
+pub fn item_before(rows: &Rows<'_>, known: KnownItem) -> Option<KnownItem>
+    requires known { IsKnown rows.now.rows known }
+    requires within { known.row ≤ length rows.now.rows }
+    requires rows_view { IsRowsView rows.now }
+    ensures { IfSome result (IsKnownIn rows.now.rows known.under known.floor (known.row + 1)) }
+{
+    item_back(rows, known, known.index - 1)
+}
+
+/// The item that is known, or one before it, if the way to an item from there is no longer.
+#[inline(always)]
+fn known_for(
+    rows: &Rows<'_>,
+    document: Stretch,
+    known: KnownItems,
+    under: Position,
+    floor: usize,
+    index: usize,
+) -> Option<KnownItem>
+    requires rows_view { IsRowsView rows.now }
+    requires document { HasDocument rows.now document }
+    requires known { AreKnown rows.now.rows known }
+    ensures known { IfSome result (IsKnownIn rows.now.rows under floor document.end) }
+    ensures index { IfSome result (λ k. k.index ≤ index) }
+{
+    let known = known_among(rows, document, known, under, floor)?;
+    if known.index <= index {
+        return Some(known);
+    }
+    if known.index - index > index {
+        return None;
+    }
+    item_back(rows, known, index)
+}
+
+/// Where the walk to an item begins, among the lines from one on that are deeper than a level, and the
+/// index of the item from there on.
+#[inline(always)]
+pub fn walk_begin(
+    rows: &Rows<'_>,
+    document: Stretch,
+    known: KnownItems,
+    under: Position,
+    floor: usize,
+    index: usize,
+) -> (Position, usize)
+    requires rows_view { IsRowsView rows.now }
+    requires document { HasDocument rows.now document }
+    requires known { AreKnown rows.now.rows known }
+    requires under { IsPosition rows.now document under }
+    ensures position { IsPosition rows.now document result.0 }
+    ensures found { GoesOn rows.now document floor under index result.0 result.1 }
+{
+    let Some(known) = known_for(rows, document, known, under, floor, index) else {
+        return (under, index);
+    };
+    let at = Position {
+        row: known.row,
+        line: 0,
+    };
+    if level_at(rows, at) > known.level {
+        return (under, index);
+    }
+    (at, index - known.index)
+}

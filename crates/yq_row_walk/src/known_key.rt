@@ -1,0 +1,110 @@
+//! The entry of a key, looked for on both sides of an entry that is known.
+ghost use Rattle.std.specs.Prelude.{◌<◌, ◌≤◌, length, IfSome, Some};
+ghost use Rattle.yq_core.specs.Paths as steps;
+ghost use Rattle.yq_outline.specs.Extents.{IsRowsView};
+ghost use Rattle.yq_outline.specs.RowWalk.{AreKnown, Finds, HasDocument, HaveKeys, IsKnownIn, IsKnown, IsLine, IsPosition};
+
+use crate::known_count::counted;
+use crate::known_item::{item_before, known_among};
+use crate::position::level_at;
+use crate::position_marks::is_key;
+use yq_outline::{KnownItem, KnownItems, Position, Stretch};
+use yq_row_table::Rows;
+
+/// The item behind one that is known, before the row where a document ends.
+fn item_behind(rows: &Rows<'_>, known: KnownItem, end: usize) -> Option<KnownItem>
+    requires known { IsKnown rows.now.rows known }
+    requires within { end ≤ length rows.now.rows }
+    requires rows_view { IsRowsView rows.now }
+    ensures { IfSome result (IsKnownIn rows.now.rows known.under known.floor end) }
+{
+    let mut index = known.index;
+    'rows: for row in known.row..end {
+        let level = level_at(rows, Position { row, line: 0 });
+        if level < known.level {
+            return None;
+        }
+        let is_item = level == known.level;
+        if is_item && known.row < row {
+            return Some(KnownItem {
+                index,
+                row,
+                ..known
+            });
+        }
+        index = counted(index, is_item)?;
+    }
+    None
+}
+
+/// The line of an entry that is known among the lines of a document from one on that are deeper than a
+/// level, if its key is this one.
+fn keyed(
+    rows: &Rows<'_>,
+    document: Stretch,
+    under: Position,
+    floor: usize,
+    known: KnownItem,
+    key: &str,
+) -> Option<Position>
+    requires rows_view { IsRowsView rows.now }
+    requires document { HasDocument rows.now document }
+    requires under { IsPosition rows.now document under }
+    requires keys { HaveKeys rows.now document under floor }
+    requires known { IsKnownIn rows.now.rows under floor document.end known }
+    ensures within { IfSome result (IsLine rows.now document) }
+    ensures found { IfSome result (λ q.
+        Finds rows.now document under floor (steps.To key.now) (Some q)) }
+{
+    let at = Position {
+        row: known.row,
+        line: 0,
+    };
+    if level_at(rows, at) != known.level || !is_key(rows, document, at, key) {
+        return None;
+    }
+    Some(at)
+}
+
+/// The line of a key's entry among the lines of a document from one on that are deeper than a level,
+/// where one of them is known: it is looked for one by one on both sides, the nearest ones first.
+pub fn key_near(
+    rows: &Rows<'_>,
+    document: Stretch,
+    known: KnownItems,
+    under: Position,
+    floor: usize,
+    key: &str,
+) -> Option<Position>
+    requires rows_view { IsRowsView rows.now }
+    requires document { HasDocument rows.now document }
+    requires known { AreKnown rows.now.rows known }
+    requires under { IsPosition rows.now document under }
+    requires keys { HaveKeys rows.now document under floor }
+    ensures within { IfSome result (IsLine rows.now document) }
+    ensures found { IfSome result (λ q.
+        Finds rows.now document under floor (steps.To key.now) (Some q)) }
+{
+    let mut ahead = known_among(rows, document, known, under, floor);
+    let mut back = ahead;
+    'entries: for _ in document.first..document.end {
+        if let Some(known) = ahead {
+            let at = keyed(rows, document, under, floor, known, key);
+            if at.is_some() {
+                return at;
+            }
+            ahead = item_behind(rows, known, document.end);
+        }
+        if let Some(known) = back {
+            let at = keyed(rows, document, under, floor, known, key);
+            if at.is_some() {
+                return at;
+            }
+            back = item_before(rows, known);
+        }
+        if ahead.is_none() && back.is_none() {
+            return None;
+        }
+    }
+    None
+}

@@ -1,0 +1,172 @@
+//! Lines of a document by their rows, and how deep they are.
+ghost use Rattle.std.specs.Prelude.{◌≡◌, ◌<◌, ◌≤◌, ◌+◌, ◌-◌, ◌*◌, drop, length, nat_lt, not, slice_get, take, if◌then◌else◌, IsTrue, Some};
+ghost use Rattle.yq_outline.specs.Ends.{IsEndOf, has_no_lines, part};
+ghost use Rattle.yq_outline.specs.Outline.{level};
+ghost use Rattle.yq_row_table.specs.View.{row_view, Slices};
+ghost use Rattle.yq_outline.specs.Lines.{lines_of_rows};
+ghost use Rattle.yq_text.specs.Limit.{text_limit};
+ghost use Rattle.yq_outline.specs.Extents as extents;
+ghost use Rattle.yq_outline.specs.Extents.{IsRowsView};
+ghost use Rattle.yq_outline.specs.RowWalk as spec;
+ghost use Rattle.yq_outline.specs.RowWalk.{HasRows, IsLine, IsPosition};
+
+use crate::extent::{dash_at, lines_before_mark};
+use yq_outline::{Position, Stretch};
+use yq_row_table::{Row, Rows};
+
+/// The column of a line of a row.
+pub fn line_column(row: &Row<'_>, line: usize) -> usize
+    requires { (row_view row.now).column + length (row_view row.now).dashes ≤ text_limit }
+    ensures value { result ≡ spec.line_column line (row_view row.now) }
+    ensures within { result ≤ (row_view row.now).column + length (row_view row.now).dashes }
+{
+    row.column() + dash_at(row.dashes().as_bytes(), line)
+}
+
+/// How deep a line of a row with dashes is, by how deep the row begins: three for each column, and 3 for a
+/// dash, 2 for a key, or 1 for a node itself.
+fn level_behind(first: usize, dashes: &[u8], line: usize, has_colon: bool) -> usize
+    requires { first + 3 * length dashes.now ≤ 3 * text_limit + 3 }
+    ensures { result ≡ ((first + 3 * extents.dash_at line dashes.now) - 3) +
+        (if nat_lt (extents.dash_at line dashes.now) (length dashes.now) then 3
+        else (if has_colon then 2 else 1)) }
+{
+    let at = dash_at(dashes, line);
+    let begin = (first + 3 * at).saturating_sub(3);
+    if at < dashes.len() {
+        return begin + 3;
+    }
+    if has_colon { begin + 2 } else { begin + 1 }
+}
+
+/// How deep a line is, told by its row's dashes.
+#[inline(never)]
+fn level_within(rows: &Rows<'_>, position: Position) -> usize
+    requires within { position.row < length rows.now.rows }
+    requires rows_view { IsRowsView rows.now }
+    ensures { (x : Slices) → slice_get rows.now.rows position.row ≡ Some x →
+        result ≡ spec.line_level position.line x }
+{
+    let first = rows.level(position.row);
+    if !rows.has_dashes(position.row) {
+        return first;
+    }
+    let dashes = rows.dashes(position.row).as_bytes();
+    level_behind(first, dashes, position.line, rows.has_colon(position.row))
+}
+
+/// How deep a line is.
+#[inline(always)]
+pub fn level_at(rows: &Rows<'_>, position: Position) -> usize
+    requires within { position.row < length rows.now.rows }
+    requires rows_view { IsRowsView rows.now }
+    ensures { (x : Slices) → slice_get rows.now.rows position.row ≡ Some x →
+        result ≡ spec.line_level position.line x }
+{
+    if position.line == 0 {
+        return rows.level(position.row);
+    }
+    level_within(rows, position)
+}
+
+/// What the first line of a row begins with, as the order of marks in a column.
+#[inline(always)]
+fn first_rank(has_dashes: bool, has_colon: bool) -> usize
+    ensures { result ≡ (if has_dashes then 3 else (if has_colon then 2 else 1)) }
+{
+    if has_dashes {
+        return 3;
+    }
+    if has_colon { 2 } else { 1 }
+}
+
+/// What a line begins with, as the order of marks in a column.
+#[inline(always)]
+pub fn rank_at(rows: &Rows<'_>, position: Position) -> usize
+    requires within { position.row < length rows.now.rows }
+    requires rows_view { IsRowsView rows.now }
+    ensures { (x : Slices) → slice_get rows.now.rows position.row ≡ Some x →
+        result ≡ spec.line_rank position.line x }
+{
+    if position.line == 0 {
+        return first_rank(rows.has_dashes(position.row), rows.has_colon(position.row));
+    }
+    match level_within(rows, position) % 3 {
+        0 => 3,
+        rank => rank,
+    }
+}
+
+/// The first row from one on, before another one, that doesn't begin deeper than a level.
+pub fn rows_under(rows: &Rows<'_>, from: usize, end: usize, level: usize) -> usize
+    requires order { from ≤ end }
+    requires within { end ≤ length rows.now.rows }
+    requires rows_view { IsRowsView rows.now }
+    ensures value { result ≡ from +
+        spec.deeper_rows level (take (end - from) (drop from rows.now.rows)) }
+    ensures within { result ≤ end }
+{
+    'rows: for at in from..end {
+        if level_at(rows, Position { row: at, line: 0 }) <= level {
+            return at;
+        }
+    }
+    end
+}
+
+/// Whether a line is there, and is deeper than a level.
+#[inline(always)]
+pub fn is_deeper(rows: &Rows<'_>, document: Stretch, position: Position, floor: usize) -> bool
+    requires rows_view { IsRowsView rows.now }
+    requires document { HasRows rows.now document }
+    requires position { IsPosition rows.now document position }
+    ensures some { IsTrue result → position.row < document.end }
+    ensures test { (h : HasRows rows.now document) → result ≡
+        not (has_no_lines (part (lines_of_rows h.rows) (spec.line_number document h.rows position) floor)) }
+{
+    if position.row >= document.end {
+        return false;
+    }
+    floor < level_at(rows, position)
+}
+
+/// What is behind a line and those under it.
+pub fn behind(rows: &Rows<'_>, document: Stretch, position: Position) -> Position
+    requires rows_view { IsRowsView rows.now }
+    requires document { HasRows rows.now document }
+    requires position { IsLine rows.now document position }
+    ensures end { (h : HasRows rows.now document) →
+        IsEndOf (lines_of_rows h.rows) (spec.line_number document h.rows position)
+        (spec.line_number document h.rows result) }
+    ensures position { IsPosition rows.now document result }
+    ensures line { result.line ≡ 0 }
+    ensures later { position.row < result.row }
+{
+    let level = level_at(rows, position);
+    Position {
+        row: rows_under(rows, position.row + 1, document.end, level),
+        line: 0,
+    }
+}
+
+/// The line behind a line.
+#[inline(always)]
+pub fn next(rows: &Rows<'_>, document: Stretch, position: Position) -> Position
+    requires document { HasRows rows.now document }
+    requires position { IsLine rows.now document position }
+    ensures number { (h : HasRows rows.now document) → spec.line_number document h.rows result ≡
+        spec.line_number document h.rows position + 1 }
+    ensures position { IsPosition rows.now document result }
+{
+    if position.line < lines_before_mark(rows, position.row) {
+        Position {
+            row: position.row,
+            line: position.line + 1,
+        }
+    } else {
+        Position {
+            row: position.row + 1,
+            line: 0,
+        }
+    }
+}

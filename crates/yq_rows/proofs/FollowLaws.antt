@@ -1,0 +1,234 @@
+-- What a change touches, and what is read and exchanged for it.
+use Rattle.std.proofs.Common.{◌≡◌, ⊎_elim, ltb, ◌||◌, true, false, not, ℕ, ◌+◌, ◌-◌, ◌≤◌, List, [], ◌∷◌, ◌++◌, length, take, drop, Option, Some, refl, sym, ap, ◌∙◌, subst, arith, append_assoc, append-nil, length-append, length-drop, length-take, rules}
+use Rattle.std.proofs.lemmas.Bool.{cases_lt, le-ltb, lt-ltb, or_right}
+use Rattle.std.proofs.lemmas.List.{append_cancel_left, append_cancel_right}
+use Rattle.std.proofs.lemmas.Str.{IsUtf8-nil}
+use Rattle.std.specs.Str.{IsUtf8}
+use Rattle.yq_row_table.specs.Grammar.{IsCut, IsMarkerLine}
+use Rattle.yq_row_table.specs.Items.{Item, end_item, items_of_cut, items_text, nothing_asked, asked_of, AreRowItems}
+use Rattle.yq_row_table.specs.Kept.{kept_rows, near, ends_near, TextsIn}
+use Rattle.yq_row_table.specs.Meter.{begins_line}
+use Rattle.yq_row_table.specs.Regions.{StandIn, ended, no_items}
+use Rattle.yq_row_table.specs.Rows.{Cut}
+use Rattle.yq_row_table.specs.Touched.{TouchesOnly, in_back, in_front}
+use Rattle.yq_row_table.specs.declared.ends.EndPlace.{EndPlace}
+use Rattle.yq_row_table.specs.declared.places.Places.{Places}
+use Rattle.yq_row_table.proofs.ItemLaws.{items_joined, items_of_text, parts_are_items}
+use Rattle.yq_row_table.proofs.KeptLaws.{items_texts, near_joined}
+use Rattle.yq_row_table.proofs.RegionEnds.{region_end}
+use Rattle.yq_row_table.proofs.RegionLaws.{region}
+use Rattle.yq_row_table.proofs.ScanLaws.{one_cut}
+use Rattle.yq_rows.specs.Exchanging.{TextChange}
+use Rattle.yq_rows.specs.Following.{Follows, exchanged, read_text}
+use Rattle.yq_rows.specs.Reading.{AreEdges, IsRead, IsUnread, read_part, region_text, unread_end}
+use Rattle.yq_rows.specs.Sides.{AreAt, IsSplitAt, IsSideBefore, IsSideBehind, marked_end, not_in_back, side_of, text_length}
+use Rattle.yq_rows.specs.declared.kept.Kept.{Kept}
+use Rattle.yq_rows.specs.declared.sides.Side.{Side}
+use Rattle.yq_rows.specs.declared.touched.Touched.{Touched}
+use Rattle.yq_rows.proofs.BackLaws.{back_taken}
+use Rattle.yq_rows.proofs.BeginLaws.{back_found, joined_long}
+use Rattle.yq_rows.proofs.CountLaws.{near_count, ends_count, ends_joined}
+use Rattle.yq_rows.proofs.EdgeLaws.{Pieces, begin_edge, back_edge, end_edge, region_ends, region_is}
+use Rattle.yq_rows.proofs.ExchangeLaws.{kept_count, texts_first, texts_second}
+use Rattle.yq_rows.proofs.KeptSides.{all_in_front, back_long, cut_some, front_long, last_long, some_behind}
+use Rattle.yq_rows.proofs.ItemPlaces.{cut_long, cut_places, text_split}
+use Rattle.yq_rows.proofs.MarkedLaws.{KeepsEnd, KeepsMarker, agrees}
+use Rattle.yq_rows.proofs.MarkerLaws.{marker_stays, marker_there}
+use Rattle.yq_rows.proofs.ReadLaws.{unread_is, without, without_none}
+use Rattle.yq_rows.proofs.SideLaws.{front_taken}
+
+-- the text of three lists of items
+three : (a b c : List Item) → items_text (a ++ (b ++ c)) [] ≡ items_text a [] ++ (items_text b [] ++ items_text c [])
+three a b c = text_split a (b ++ c) ∙ ap (λ l. items_text a [] ++ l) (text_split b c)
+
+module _ (t new : List ℕ) (kept : Kept) (p : Places) (x : Touched) (h : Follows t p kept new) (split : IsSplitAt kept.front (length t) p) (before : IsSideBefore p kept.front x.front) (behind : IsSideBehind p (length t) kept.back x.old)
+    (marked_is : x.marked ≡ marked_end p.ends.items x.front x.old (length t - kept.back)) (more_is : x.more ≡ (ltb x.old.rows (length (kept_rows p)) || ltb x.old.ends (length p.ends.items))) where
+  abbrev xs : List Item
+  xs = items_of_cut h.old_cut
+
+  abbrev f : List Item
+  f = in_front kept.front xs
+
+  abbrev z : List Item
+  z = in_back kept.back xs
+
+  abbrev tch : List Item
+  tch = h.touches.touched
+
+  abbrev w : List Item
+  w = h.touches.written
+
+  long : length t ≡ text_length xs
+  long = cut_long t h.old_cut h.old_is
+
+  at_xs : AreAt p xs
+  at_xs = cut_places p h.old_cut h.placed
+
+  here : IsSplitAt kept.front (text_length xs) p
+  here = subst (λ (n : ℕ). IsSplitAt kept.front n p) long split
+
+  fits : kept.front + kept.back ≤ text_length xs
+  fits = omega (arith, h.within, long)
+
+  group : xs ≡ (f ++ tch) ++ z
+  group = h.touches.old_are ∙ sym (append_assoc f tch z)
+
+  front_is : x.front ≡ side_of f
+  front_is = before xs at_xs here (omega (arith, fits))
+
+  old_is : x.old ≡ side_of (f ++ tch)
+  old_is =
+      let b = back_found xs 0 kept.back in
+      let y : List Item = not_in_back kept.back xs in
+      let all : y ++ z ≡ (f ++ tch) ++ z = (λ i. b.is_front i ++ b.is_behind i) ∙ (sym b.split ∙ group) in
+      behind xs kept.front at_xs split h.within long ∙ ap side_of (append_cancel_right y (f ++ tch) z all)
+
+  placed : AreAt p (f ++ (tch ++ z))
+  placed = subst (AreAt p) h.touches.old_are at_xs
+
+  size : text_length xs ≡ text_length (f ++ tch) + text_length z
+  size = ap text_length group ∙ joined_long (f ++ tch) z
+
+  pieces : Pieces t (items_text f []) (items_text tch []) (items_text z []) kept.front kept.back
+  pieces = record {
+    text = h.old_is.text ∙ (sym (items_of_text h.old_cut) ∙ (ap (λ (l : List Item). items_text l []) h.touches.old_are ∙ three f tch z));
+    first = front_long kept.front xs;
+    last = back_long kept.back xs;
+    within = h.within;
+  }
+
+  begin : x.front.bytes ≡ length (items_text f [])
+  begin = ap (λ (s : Side). s.bytes) front_is
+
+  end : x.old.bytes ≡ length (items_text f []) + length (items_text tch [])
+  end = ap (λ (s : Side). s.bytes) old_is ∙ joined_long f tch
+
+  abbrev part : List ℕ
+  part = region_text t x kept new
+
+  part_is : part ≡ items_text w []
+  part_is = search (rules, region_is, pieces, begin, end, items_of_text, three)
+
+  new_size : length (exchanged kept t new) ≡ (text_length f + text_length w) + text_length z
+  new_size = cut_long (exchanged kept t new) h.new_cut h.new_is ∙ (ap text_length h.touches.new_are ∙ omega (arith, joined_long f (w ++ z), joined_long w z))
+
+  -- texts
+  front_texts : TextsIn f
+  front_texts = texts_first f (tch ++ z) placed.texts
+
+  back_texts : TextsIn z
+  back_texts = texts_second tch z (texts_second f (tch ++ z) placed.texts)
+
+  utf8 : IsUtf8 t
+  utf8 = subst IsUtf8 (items_of_text h.old_cut ∙ sym h.old_is.text) (items_texts xs [] at_xs.texts IsUtf8-nil)
+
+  edges : AreEdges t x kept
+  edges =
+      let back_utf8 = items_texts z [] back_texts IsUtf8-nil in
+      record {
+        front = h.front_edge;
+        begin = begin_edge t (items_text f []) (items_text tch []) (items_text z []) kept.front kept.back pieces x.front.bytes begin utf8 (items_texts f [] front_texts IsUtf8-nil) h.front_edge;
+        back = back_edge t (items_text f []) (items_text tch []) (items_text z []) kept.front kept.back pieces x.old.bytes end h.back_edge;
+        end = end_edge t (items_text f []) (items_text tch []) (items_text z []) kept.front kept.back pieces x.old.bytes end back_utf8;
+      }
+
+  -- whether items stand behind
+  more : x.more ≡ not (no_items z)
+  more = more_is ∙ go z (omega (arith, ap (λ (s : Side). s.rows) old_is, rows)) (omega (arith, ap (λ (s : Side). s.ends) old_is, ends))
+    where
+      rows : length (kept_rows p) ≡ length (near 0 (f ++ tch)) + length (near 0 z)
+      rows = kept_count (text_length xs) p ∙ (ap length at_xs.rows_are ∙ (ap (λ (l : List Item). length (near 0 l)) group ∙ (ap length (near_joined 0 (f ++ tch) z) ∙ (length-append (near 0 (f ++ tch)) (near (0 + text_length (f ++ tch)) z) ∙ ap (λ (n : ℕ). length (near 0 (f ++ tch)) + n) (near_count (0 + text_length (f ++ tch)) 0 z)))))
+
+      ends : length p.ends.items ≡ length (ends_near 0 0 (f ++ tch)) + length (ends_near 0 0 z)
+      ends =
+          let m : ℕ = 0 + text_length (f ++ tch) in
+          let k : ℕ = 0 + length (near 0 (f ++ tch)) in
+          ap length at_xs.ends_are ∙ (ap (λ (l : List Item). length (ends_near 0 0 l)) group ∙ (ap length (ends_joined 0 0 (f ++ tch) z) ∙ (length-append (ends_near 0 0 (f ++ tch)) (ends_near m k z) ∙ ap (λ (n : ℕ). length (ends_near 0 0 (f ++ tch)) + n) (ends_count m k 0 0 z))))
+
+      go : (l : List Item) → length (kept_rows p) ≡ x.old.rows + length (near 0 l) → length p.ends.items ≡ x.old.ends + length (ends_near 0 0 l) → (ltb x.old.rows (length (kept_rows p)) || ltb x.old.ends (length p.ends.items)) ≡ not (no_items l)
+      go l h1 h2 = search (rules, le-ltb, ⊎_elim, lt-ltb, some_behind, cases_lt, or_right)
+
+  -- the items that are read
+  some_left : (l : List Item) → items_of_cut h.new_cut ≡ f ++ l → no_items l ≡ false
+  some_left l h1 = search (rules, append-nil, all_in_front, cut_some, new_size, cut_long, long, length-append, length-take, length-drop)
+
+  stand_in : (a b : List Item) → w ++ z ≡ a ++ b → StandIn a b
+  stand_in a b is = record {
+    text = exchanged kept t new;
+    cut = h.new_cut;
+    is_cut = h.new_is;
+    front = f;
+    items = h.touches.new_are ∙ ap (λ (l : List Item). f ++ l) is;
+    some = some_left (a ++ b) (h.touches.new_are ∙ ap (λ (l : List Item). f ++ l) is);
+  }
+
+  -- the marker that is kept
+  reports : KeepsMarker tch (kept.back - text_length z) x.marked
+  reports = subst (KeepsMarker tch (kept.back - text_length z)) (sym marked_is) (agrees f tch z p.ends.items x.front x.old (length t) kept.back (record {
+    rest = ends_near (0 + text_length (f ++ tch)) (0 + length (near 0 (f ++ tch))) z;
+    ends = at_xs.ends_are ∙ (ap (ends_near 0 0) group ∙ ends_joined 0 0 (f ++ tch) z);
+    front_is = front_is;
+    old_is = old_is;
+    long = long ∙ size;
+    last = pieces.last;
+    within = omega (arith, h.within);
+  }))
+
+  module _ (e : EndPlace) (k : KeepsEnd tch (kept.back - text_length z) e) where
+    -- the text before the marker's line
+    abbrev inner : List ℕ
+    inner = items_text k.front [] ++ k.gap
+
+    touched_ends : items_text f [] ++ items_text tch [] ≡ (items_text f [] ++ inner) ++ k.marker
+    touched_ends = search (rules, text_split, append-nil, append_assoc)
+
+    line : IsMarkerLine k.marker (items_text z [])
+    line = marker_there xs (f ++ k.front) z k.gap k.marker (subst (λ (l : List Item). AreRowItems nothing_asked l []) refl (parts_are_items h.old_cut true h.old_is.parts))
+        (group ∙ (ap (λ (l : List Item). (f ++ l) ++ z) k.items ∙ ap (λ (l : List Item). l ++ z) (sym (append_assoc f k.front (end_item k.gap k.marker ∷ []))))) k.some
+
+    ends_so : (lead : List ℕ) × (items_text w [] ≡ lead ++ k.marker)
+    ends_so =
+        let y : List ℕ = items_text f [] ++ inner in
+        let low : length t - kept.back ≤ length y = omega (arith, k.within, pieces.last, long, size, joined_long f tch, ap length touched_ends, length-append y k.marker, length-append (items_text f []) (items_text tch [])) in
+        (drop x.front.bytes (take kept.front t) ++ (new ++ drop (length t - kept.back) y), sym part_is ∙ region_ends t (items_text f []) (items_text tch []) (items_text z []) kept.front kept.back pieces new y k.marker x.front.bytes x.old.bytes end touched_ends low)
+
+    stays : begins_line (items_text w []) (length (items_text w []) - e.marker) ≡ true → (front : List Item) × (gap : List ℕ) × (w ≡ ended front gap k.marker)
+    stays begins =
+        let lead = ends_so.0 in
+        let place : length (items_text w []) - e.marker ≡ length lead = omega (arith, k.long, ap length ends_so.1, length-append lead k.marker) in
+        let behind = items_joined f (w ++ z) nothing_asked [] (subst (λ (l : List Item). AreRowItems nothing_asked l []) h.touches.new_are (parts_are_items h.new_cut true h.new_is.parts)) in
+        marker_stays (asked_of nothing_asked f) w z lead k.marker behind line ends_so.1 (subst (λ (n : ℕ). begins_line (items_text w []) n ≡ true) place begins) k.some
+        (λ u i is. omega (arith, k.within, pieces.last, last_long kept.back f u z i (ap (λ (l : List Item). in_back kept.back (f ++ (l ++ z))) (sym is) ∙ (ap (in_back kept.back) (sym h.touches.new_are) ∙ h.touches.back_same))))
+
+    unread : begins_line (items_text w []) (length (items_text w []) - e.marker) ≡ true → IsUnread w e
+    unread begins =
+        let s = stays begins in
+        let texts = texts_second k.front (end_item k.gap k.marker ∷ []) (subst TextsIn k.items (texts_first tch z (texts_second f (tch ++ z) placed.texts))) in
+        record { front = s.0; gap = s.1; marker = k.marker; items = s.2; long = k.long; text = texts.1; read = region_end s.0 z s.1 k.marker (stand_in (ended s.0 s.1 k.marker) z (ap (λ (l : List Item). l ++ z) s.2)) }
+
+  read : IsRead part x
+  read = search (rules, part_is, region, stand_in, more, unread, reports, new_size, go) where
+    go : (o : Option EndPlace) → KeepsMarker tch (kept.back - text_length z) o → (d : EndPlace) → unread_end (items_text w []) o ≡ Some d → IsUnread w d
+    go o h1 d h2 = search (rules, unread_is, unread)
+
+  -- what is counted
+  once : (c d : Cut) → IsCut t c → IsCut (exchanged kept t new) d → (j : TouchesOnly kept.front kept.back c d) → read_text kept c d j ≡ read_part part x.marked
+  once c d was is j = search (rules, one_cut, append_cancel_right, append_cancel_left, reports, part_is, without_none, without)
+
+  pub changes : TextChange t new kept p x
+  unfolding read
+  changes = record {
+    before = f;
+    touched = tch;
+    read = read;
+    placed = placed;
+    front_is = front_is;
+    old_is = old_is;
+    front_rows = ap (λ (n : ℕ). take n p.front.items) (ap (λ (s : Side). s.rows) front_is) ∙ front_taken p xs kept.front at_xs here (omega (arith, fits));
+    back_rows = back_taken p xs kept.front kept.back at_xs here fits;
+    edges = edges;
+    old_items = λ c is. sym h.touches.old_are ∙ ap items_of_cut (one_cut t h.old_cut c h.old_is is);
+    items = λ d is. sym h.touches.new_are ∙ ap items_of_cut (one_cut (exchanged kept t new) h.new_cut d h.new_is is);
+    small = omega (arith, new_size, h.new_is.size, joined_long f (w ++ z), joined_long w z);
+    once = once;
+  }

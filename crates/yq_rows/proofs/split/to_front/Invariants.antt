@@ -1,0 +1,14 @@
+use Rattle.std.proofs.Common.{◌≡◌, ◌≤◌, length}
+use Rattle.std.specs.List.{All}
+use Rattle.yq_rows.specs.Sides.{LastBefore, both_sides}
+use Rattle.yq_rows.proofs.split.to_front.Given as goal
+
+abbrev pub invariant-rows : goal.invariant-rows
+invariant-rows l = record {
+  same : both_sides l.len l.front.items l.behind.items ≡ both_sides l.fn.len l.fn.front.items l.fn.behind.items;
+  last : LastBefore l.at l.front.items;
+  later : All (λ o. o.start ≤ l.len) l.behind.items;
+}
+
+abbrev pub decreases-rows : goal.decreases-rows
+decreases-rows l = length l.behind.items

@@ -1,0 +1,67 @@
+-- What a change touches and what is written in its place, and rows and ends of parts that give way to others (own; a reader of the contracts may skip it).
+use Rattle.std.specs.Prelude.{◌≡◌, ℕ, ◌+◌, ◌-◌, ◌<◌, ◌^◌, List, ◌++◌, drop, length, map, reverse, take}
+use Rattle.yq_row_table.specs.Grammar.{IsCut}
+use Rattle.yq_row_table.specs.Items.{Item, items_of_cut}
+use Rattle.yq_row_table.specs.Kept.{near, far, moved_end, ArePlaced}
+use Rattle.yq_row_table.specs.Rows.{Cut}
+use Rattle.yq_row_table.specs.Touched.{TouchesOnly}
+use Rattle.yq_row_table.specs.declared.ends.EndPlace.{EndPlace}
+use Rattle.yq_row_table.specs.declared.places.Places.{Places}
+use Rattle.yq_rows.specs.Following.{exchanged, read_text}
+use Rattle.yq_rows.specs.Reading.{ArePlacesRead, IsRead, AreEdges, read_part, region_text}
+use Rattle.yq_rows.specs.Sides.{AreAt, origin, side_of, text_length}
+use Rattle.yq_rows.specs.declared.kept.Kept.{Kept}
+use Rattle.yq_rows.specs.declared.session_reading.Come.{Come}
+use Rattle.yq_rows.specs.declared.sides.Side.{Side}
+use Rattle.yq_rows.specs.declared.touched.Touched.{Touched}
+
+-- the end of a part that stood behind one place, behind another (own)
+abbrev pub moved_from : Side → Side → EndPlace → EndPlace
+moved_from from to e = moved_end ((e.rows - from.rows) + to.rows) ((e.start - from.bytes) + to.bytes) e
+
+-- it has a place there (own)
+abbrev pub IsMovable : Side → Side → EndPlace → Type 0
+IsMovable from to e = ((e.rows - from.rows) + to.rows < 2 ^ 64) × ((e.start - from.bytes) + to.bytes < 2 ^ 32)
+
+-- Rows and ends of parts of items between others give way to those of items that were read (own).
+pub record GivesWay (p : Places) (x : Touched) (come : Come) : Type 0 where
+  pub before : List Item
+  pub touched : List Item
+  pub written : List Item
+  pub behind : List Item
+  pub placed : AreAt p (before ++ (touched ++ behind))
+  pub are_read : ArePlacesRead written come
+  pub front_is : x.front ≡ side_of before
+  pub old_is : x.old ≡ side_of (before ++ touched)
+  pub front_rows : take x.front.rows p.front.items ≡ near 0 before
+  pub back_rows : reverse (take (length (near 0 behind)) p.behind.items) ≡ far behind
+  pub small : text_length (before ++ (written ++ behind)) < 2 ^ 32
+
+-- The items that a change of a text touches, between the others, and the region that is read in their place (own).
+pub record TextChange (t new : List ℕ) (kept : Kept) (p : Places) (x : Touched) : Type 0 where
+  pub before : List Item
+  pub touched : List Item
+  pub read : IsRead (region_text t x kept new) x
+  pub placed : AreAt p (before ++ (touched ++ read.behind))
+  pub front_is : x.front ≡ side_of before
+  pub old_is : x.old ≡ side_of (before ++ touched)
+  pub front_rows : take x.front.rows p.front.items ≡ near 0 before
+  pub back_rows : reverse (take (length (near 0 read.behind)) p.behind.items) ≡ far read.behind
+  pub edges : AreEdges t x kept
+  pub old_items : (c : Cut) → IsCut t c → before ++ (touched ++ read.behind) ≡ items_of_cut c
+  pub items : (d : Cut) → IsCut (exchanged kept t new) d → before ++ (read.written ++ read.behind) ≡ items_of_cut d
+  pub small : text_length (before ++ (read.written ++ read.behind)) < 2 ^ 32
+  pub once : (c d : Cut) → IsCut t c → IsCut (exchanged kept t new) d → (h : TouchesOnly kept.front kept.back c d) →
+      read_text kept c d h ≡ read_part (region_text t x kept new) x.marked
+
+-- both keep rows and ends of parts at the same places (own)
+abbrev pub SamePlaces : Places → Places → Type 0
+SamePlaces old new = (new.front.items ≡ old.front.items) × (new.behind.items ≡ old.behind.items) × (new.ends.items ≡ old.ends.items) × (new.split ≡ old.split)
+
+-- the ends of parts in front of those that give way, those that were read, and those behind, each where it then stands (own)
+abbrev pub joined_ends : Side → Side → Side → List EndPlace → List EndPlace → List EndPlace
+joined_ends front old new ends found = take front.ends ends ++ (map (moved_from origin front) found ++ map (moved_from old new) (drop old.ends ends))
+
+-- rows and ends of parts are kept where they stand once those that were read have the place of the touched ones (own)
+abbrev pub RowsExchanged : Places → Touched → Come → Places → Type 0
+RowsExchanged p x come new = (h : GivesWay p x come) → ArePlaced new (h.before ++ h.written) h.behind

@@ -1,0 +1,91 @@
+//! Rows that go from the end of a text, behind one that stays as it was read.
+ghost use Rattle.std.specs.Prelude.{◌≡◌, ◌≤◌, ◌<◌, ◌+◌, ◌-◌, ◌^◌, IfSome, IsTrue, None, [], drop, false, length, slice_set, take};
+ghost use Rattle.std.specs.Str.{IsCharBoundary};
+ghost use Rattle.yq_text.specs.Split.{halves_joined};
+ghost use Rattle.yq_row_table.specs.Meter.{count_after, line_count};
+ghost use Rattle.yq_rows.specs.Dropping.{DropsLast};
+
+use crate::kept::Kept;
+use crate::split::begin_of;
+use crate::touched::Touched;
+use crate::{Meter, count_lines};
+use yq_row_table::{EndPlace, Places};
+use yq_text::SplitText;
+
+/// Whether more than so many rows stand before the end of a text, and neither a gap nor a marker.
+fn is_bare(end: EndPlace, rows: usize) -> bool
+    ensures rows { IsTrue result → rows < end.rows }
+    ensures gap { IsTrue result → end.gap ≡ 0 }
+    ensures marker { IsTrue result → end.marker ≡ 0 }
+{
+    rows < end.rows && end.marker() == 0 && end.stop() == end.start()
+}
+
+/// Whether a change keeps no bytes at the end of a text, and of the rows and ends in front of the split
+/// it touches the last row alone.
+fn touches_last(places: &Places, touched: Touched, kept: Kept) -> bool
+    ensures back { IsTrue result → kept.back ≡ 0 }
+    ensures more { IsTrue result → touched.more ≡ false }
+    ensures marked { IsTrue result → touched.marked ≡ None }
+    ensures ends { IsTrue result → touched.front.ends + 1 ≡ length places.now.ends.items }
+    ensures rows { IsTrue result → touched.front.rows + 1 ≡ length places.now.front.items }
+{
+    kept.back == 0
+        && !touched.more
+        && touched.marked.is_none()
+        && places.ends.len().saturating_sub(touched.front.ends) == 1
+        && places.front.len().saturating_sub(touched.front.rows) == 1
+}
+
+/// The end of a text of `len` bytes once its last rows are gone, where a change takes them away and touches
+/// nothing in front of them but a row that ends where they begin, at the split.
+pub(crate) fn end_dropped(
+    places: &Places,
+    len: usize,
+    touched: Touched,
+    kept: Kept,
+) -> Option<EndPlace>
+    requires small { len < 2 ^ 32 }
+    requires within { kept.front ≤ len }
+    ensures { IfSome result (DropsLast places.now len touched kept) }
+{
+    if !touches_last(places, touched, kept) {
+        return None;
+    }
+    let end = *places.ends.get(touched.front.ends)?;
+    let rows = places.front.len();
+    if !is_bare(end, rows) || begin_of(places.behind.as_slice(), len) != kept.front {
+        return None;
+    }
+    Some(end.moved(rows, kept.front))
+}
+
+/// The rows behind the split go, and the last end of a part gives way to another one.
+pub(crate) fn drop_rows(places: &mut Places, end: EndPlace, at: usize)
+    requires { 1 ≤ length places.old.ends.items }
+    ensures front { places.new.front.items ≡ places.old.front.items }
+    ensures behind { places.new.behind.items ≡ [] }
+    ensures ends { places.new.ends.items ≡
+        slice_set places.old.ends.items (length places.old.ends.items - 1) end }
+    ensures split { places.new.split ≡ at }
+{
+    let last = places.ends.len() - 1;
+    places.ends[last] = end;
+    places.behind.truncate(0);
+    places.split = at;
+}
+
+/// The bytes from a place on go, and the lines of those between another place and it are counted.
+pub(crate) fn drop_text(text: &mut SplitText, from: usize, at: usize, meter: &mut Meter)
+    requires begin { IsCharBoundary (take at (halves_joined text.old)) from }
+    requires end { IsCharBoundary (halves_joined text.old) at }
+    ensures text { halves_joined text.new ≡ take at (halves_joined text.old) }
+    ensures counted { meter.new ≡
+        count_after (line_count (drop from (take at (halves_joined text.old)))) meter.old }
+{
+    text.move_split(at);
+    let halves = text.halves();
+    count_lines(halves.front.split_at(from).1, meter);
+    let gone = halves.back.len();
+    text.exchange(gone, "");
+}

@@ -1,0 +1,69 @@
+//! A text and the places of its rows that follow a change.
+ghost use Rattle.std.specs.Prelude.{◌≡◌, ◌≤◌, ◌+◌, ◌-◌, OnOk, length, is_ok, if◌then◌else◌};
+ghost use Rattle.std.specs.Str.{IsCharBoundary};
+ghost use Rattle.yq_text.specs.Split.{halves_joined};
+ghost use Rattle.yq_rows.specs.Following.{ArePlacesOf, CountsWritten, Follows, exchanged};
+
+use crate::Meter;
+use crate::dropping::{drop_rows, drop_text, end_dropped};
+use crate::exchanging::exchange;
+use crate::kept::Kept;
+use crate::session_reading::{read, region};
+use crate::split::move_split;
+use crate::touched::find_touched;
+use std::alloc::{AllocError, Global};
+use yq_row_table::Places;
+use yq_text::SplitText;
+
+/// Writes what comes into a text in the place of the bytes that aren't kept; there is room for it.
+fn write(text: &mut SplitText, kept: Kept, new: &str)
+    requires within { kept.front + kept.back ≤ length (halves_joined text.old) }
+    requires front { IsCharBoundary (halves_joined text.old) kept.front }
+    requires back { IsCharBoundary (halves_joined text.old) (length (halves_joined text.old) - kept.back) }
+    requires room { length new.now ≤ text.old.room }
+    ensures { halves_joined text.new ≡ exchanged kept (halves_joined text.old) new.now }
+{
+    let gone = text.len() - kept.back - kept.front;
+    text.move_split(kept.front);
+    text.exchange(gone, new);
+}
+
+/// Writes what comes into a text in the place of the bytes that a change doesn't keep, and places of its
+/// rows come to be those of the new text. Of that no more is read than what comes in the place of the
+/// touched rows and ends of parts, without the line of a marker that stays behind them: the lines of
+/// that are counted. Other rows and bytes stay as they are, in front and behind: the time goes to the
+/// touched rows, the ends of parts, and the rows and bytes between this change and the one before.
+///
+/// # Errors
+/// Want of memory alone. Text and places are then those of the old text.
+pub fn follow(
+    alloc: Global,
+    text: &mut SplitText,
+    places: &mut Places,
+    kept: Kept,
+    new: &str,
+    meter: &mut Meter,
+) -> Result<(), AllocError>
+    requires { Follows (halves_joined text.old) places.old kept new.now }
+    ensures text { halves_joined text.new ≡
+        (if is_ok result then exchanged kept (halves_joined text.old) new.now else halves_joined text.old) }
+    ensures placed { ArePlacesOf (halves_joined text.new) places.new }
+    ensures counted { OnOk result (CountsWritten (halves_joined text.old)
+        (halves_joined text.new) kept meter.old meter.new) }
+{
+    move_split(text, places, kept.front)?;
+    let touched = find_touched(places, text.len(), kept);
+    if new.is_empty()
+        && let Some(end) = end_dropped(places, text.len(), touched, kept)
+    {
+        drop_text(text, touched.front.bytes, kept.front, meter);
+        drop_rows(places, end, kept.front);
+        return Ok(());
+    }
+    let region = region(alloc, text.halves(), touched, kept, new)?;
+    let come = read(alloc, region.as_str(), touched, meter)?;
+    text.reserve(new.len())?;
+    exchange(alloc, places, touched, &come)?;
+    write(text, kept, new);
+    Ok(())
+}

@@ -1,0 +1,136 @@
+//! What is read where rows and ends of parts are exchanged.
+ghost use Rattle.std.specs.Prelude.{◌≡◌, ◌-◌, ◌≤◌, ◌<◌, ◌^◌, IfOk, IfSome, OnOk, length, take, drop, string_bytes};
+ghost use Rattle.std.specs.Str.{IsCharBoundary};
+ghost use Rattle.yq_text.specs.Halves.{halves_text};
+ghost use Rattle.yq_row_table.specs.Meter.{count_after, line_count};
+ghost use Rattle.yq_rows.specs.Reading.{Comes};
+ghost use Rattle.yq_rows.specs.Reading as spec;
+
+use crate::kept::Kept;
+use crate::touched::Touched;
+use crate::{Meter, read_region};
+use std::alloc::{AllocError, Global};
+use yq_core::ReadError;
+use yq_row_table::{EndPlace, Places};
+use yq_text::Halves;
+
+/// Rows and ends of parts that come in the place of others.
+#[derive(Drop)]
+pub(crate) struct Come {
+    pub places: Places,
+    /// How many bytes were read.
+    pub read: usize,
+    /// How many bytes they are, with the line of a marker that wasn't read.
+    pub len: usize,
+}
+
+/// What stands between two places of a text.
+fn between<'t>(text: Halves<'t>, from: usize, to: usize) -> Halves<'t>
+    requires end { IsCharBoundary (halves_text text) to }
+    requires begin { IsCharBoundary (take to (halves_text text)) from }
+    ensures { halves_text result ≡ drop from (take to (halves_text text.entry)) }
+{
+    text.split_at(to).0.split_at(from).1
+}
+
+/// The text of the rows and ends of parts that come in the place of those that a change touches.
+pub(crate) fn region(
+    alloc: Global,
+    text: Halves<'_>,
+    touched: Touched,
+    kept: Kept,
+    new: &str,
+) -> Result<String, AllocError>
+    requires edges { spec.AreEdges (halves_text text) touched kept }
+    requires small { length (spec.region_text (halves_text text) touched kept new.now) < 2 ^ 32 }
+    ensures { IfOk result (λ s. string_bytes s ≡
+        spec.region_text (halves_text text.entry) touched kept new.now) }
+{
+    let front = between(text, touched.front.bytes, kept.front);
+    let back = between(
+        text,
+        text.len().saturating_sub(kept.back),
+        touched.old.bytes,
+    );
+    let mut region = String::with_capacity(alloc, front.len() + new.len() + back.len())?;
+    region.push_str(front.front)?;
+    region.push_str(front.back)?;
+    region.push_str(new)?;
+    region.push_str(back.front)?;
+    region.push_str(back.back)?;
+    Ok(region)
+}
+
+/// The end of a part whose marker's line stands at the end of a region and needn't be read: where it
+/// begins a line still.
+fn unread(region: &str, marked: Option<EndPlace>) -> Option<EndPlace>
+    ensures { result ≡ spec.unread_end region.now marked }
+{
+    let end = marked?;
+    let at = region.len().saturating_sub(end.marker());
+    if at == 0 || region.as_bytes()[at - 1] == b'\n' {
+        Some(end)
+    } else {
+        None
+    }
+}
+
+/// What is read of a region at whose end the line of this one's marker needn't be.
+fn read_part(region: &str, unread: Option<EndPlace>) -> &str
+    requires { IfSome unread (λ e. IsCharBoundary region.now (length region.now - e.marker)) }
+    ensures { result.now ≡ spec.without_marker region.now unread }
+{
+    match unread {
+        Some(end) => {
+            let at = region.len().saturating_sub(end.marker());
+            region.split_at(at).0
+        }
+        None => region,
+    }
+}
+
+/// The ends of parts that were read come to be those of a region: the last one is given the marker that
+/// wasn't read, or, where others stand behind the region, the empty one behind it goes.
+fn settle(ends: &mut Vec<EndPlace>, unread: Option<EndPlace>, more: bool)
+    requires { 1 ≤ length ends.old.items }
+    ensures { ends.new.items ≡ spec.settled_ends ends.old.items unread more }
+{
+    let last = ends.len() - 1;
+    match unread {
+        Some(end) => ends[last] = ends[last].marked_as(end),
+        None if more => ends.truncate(last),
+        None => {}
+    }
+}
+
+/// The rows and ends of parts of a region, which come in the place of those that are touched. The lines
+/// that are read are counted: all but that of a marker which stays.
+///
+/// # Errors
+/// Want of memory alone.
+pub(crate) fn read(
+    alloc: Global,
+    region: &str,
+    touched: Touched,
+    meter: &mut Meter,
+) -> Result<Come, AllocError>
+    requires { spec.IsRead region.now touched }
+    ensures come { IfOk result (λ x. Comes region.now touched x) }
+    ensures counted { OnOk result (meter.new ≡
+        count_after (line_count (spec.read_part region.now touched.marked)) meter.old) }
+{
+    let unread = unread(region, touched.marked);
+    let text = read_part(region, unread);
+    let mut places = match read_region(alloc, text, meter) {
+        Ok(rows) => rows.into_places(),
+        Err(ReadError::Memory) => return Err(AllocError),
+        // The region is read alone as the rows and ends of the new text that it is.
+        Err(ReadError::Fault(_)) => unreachable!(),
+    };
+    settle(&mut places.ends, unread, touched.more);
+    Ok(Come {
+        places,
+        read: text.len(),
+        len: region.len(),
+    })
+}

@@ -1,0 +1,97 @@
+//! What stands in front of what a change touches, and in front of what stands behind that.
+ghost use Rattle.std.specs.Prelude.{◌≡◌, ◌<◌, ◌≤◌, ◌^◌, length, reverse};
+ghost use Rattle.yq_rows.specs.Sides as spec;
+
+use yq_row_table::{EndPlace, Offsets, Places};
+
+/// How many rows, ends of parts and bytes stand in front of a place in a text.
+#[derive(Clone, Copy)]
+pub struct Side {
+    pub rows: usize,
+    pub ends: usize,
+    pub bytes: usize,
+}
+
+/// How many ends of parts begin in front of an offset, up to the first one that doesn't.
+fn ends_before(ends: &[EndPlace], at: usize) -> usize
+    ensures within { result ≤ length ends.now }
+    ensures count { result ≡ spec.ends_before at ends.now }
+{
+    let mut count = 0;
+    let mut rest = ends;
+    'ends: while let [end, after @ ..] = rest
+        && end.start() < at
+    {
+        count += 1;
+        rest = after;
+    }
+    count
+}
+
+/// How many rows, of those kept last first, are nearer to the end of the text than so many bytes.
+fn rows_nearer(behind: &[Offsets], back: usize) -> usize
+    ensures within { result ≤ length behind.now }
+    ensures count { result ≡ length (spec.nearer back (reverse behind.now)) }
+{
+    let mut rest = behind;
+    'rows: while let [before @ .., row] = rest
+        && row.start() >= back
+    {
+        rest = before;
+    }
+    rest.len()
+}
+
+/// What stands in front of the last row or end of a part that begins in front of an offset, at which
+/// the split is.
+pub fn side_before(places: &Places, at: usize) -> Side
+    ensures { spec.IsSideBefore places.now at result }
+{
+    let rows = places.front.len();
+    let ends = ends_before(places.ends.as_slice(), at);
+    if ends > 0 {
+        let end = places.ends[ends - 1];
+        if end.rows >= rows {
+            return Side {
+                rows,
+                ends: ends - 1,
+                bytes: end.start(),
+            };
+        }
+    }
+    if rows == 0 {
+        return Side {
+            rows: 0,
+            ends: 0,
+            bytes: 0,
+        };
+    }
+    Side {
+        rows: rows - 1,
+        ends,
+        bytes: places.front[rows - 1].start(),
+    }
+}
+
+/// What stands in front of the first row or end of a part that is nearer than `back` bytes to the end of
+/// the text, which has `len` bytes; the split is in front of it.
+pub fn side_behind(places: &Places, len: usize, back: usize) -> Side
+    requires small { len < 2 ^ 32 }
+    requires within { back ≤ len }
+    ensures { spec.IsSideBehind places.now len back result }
+{
+    let rows = rows_nearer(places.behind.as_slice(), back);
+    let ends = ends_before(places.ends.as_slice(), len - back + 1);
+    let mut bytes = len;
+    if rows > 0 {
+        bytes = len.saturating_sub(places.behind[rows - 1].start());
+    }
+    if ends < places.ends.len() {
+        bytes = bytes.min(places.ends[ends].start());
+    }
+    Side {
+        rows: places.front.len() + (places.behind.len() - rows),
+        ends,
+        bytes,
+    }
+}

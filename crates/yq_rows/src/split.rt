@@ -1,0 +1,105 @@
+//! The split of the kept rows of a text, moved to a place in it.
+ghost use Rattle.std.specs.Prelude.{◌≡◌, ◌<◌, ◌≤◌, ◌^◌, OnOk, length, reverse};
+ghost use Rattle.std.specs.List.{All};
+ghost use Rattle.yq_text.specs.Split.{halves_joined};
+ghost use Rattle.yq_rows.specs.Following.{IsPlacedIn};
+ghost use Rattle.yq_rows.specs.Sides.{IsSplitAt, LastBefore, FirstFrom, both_sides, first_byte};
+
+use std::alloc::AllocError;
+use yq_row_table::{Offsets, Places};
+use yq_text::SplitText;
+
+/// Moves rows that begin at an offset or behind it to the other side of the split.
+fn to_behind(
+    front: &mut Vec<Offsets>,
+    behind: &mut Vec<Offsets>,
+    len: usize,
+    at: usize,
+) -> Result<(), AllocError>
+    requires small { len < 2 ^ 32 }
+    requires within { All (λ o. o.start ≤ len) front.old.items }
+    requires later { All (λ o. o.start ≤ len) behind.old.items }
+    ensures same { both_sides len front.new.items behind.new.items ≡
+        both_sides len front.old.items behind.old.items }
+    ensures later { All (λ o. o.start ≤ len) behind.new.items }
+    ensures ok { OnOk result (LastBefore at front.new.items) }
+{
+    'rows: while front.len() > 0 {
+        let row = front[front.len() - 1];
+        if row.start() < at {
+            return Ok(());
+        }
+        behind.push(row.turned(len))?;
+        let _ = front.pop();
+    }
+    Ok(())
+}
+
+/// Moves rows that begin in front of an offset to the front of the split.
+fn to_front(
+    front: &mut Vec<Offsets>,
+    behind: &mut Vec<Offsets>,
+    len: usize,
+    at: usize,
+) -> Result<(), AllocError>
+    requires small { len < 2 ^ 32 }
+    requires later { All (λ o. o.start ≤ len) behind.old.items }
+    requires last { LastBefore at front.old.items }
+    ensures same { both_sides len front.new.items behind.new.items ≡
+        both_sides len front.old.items behind.old.items }
+    ensures later { All (λ o. o.start ≤ len) behind.new.items }
+    ensures last { LastBefore at front.new.items }
+    ensures ok { OnOk result (FirstFrom at len behind.new.items) }
+{
+    'rows: while behind.len() > 0 {
+        let row = behind[behind.len() - 1].turned(len);
+        if row.start() >= at {
+            return Ok(());
+        }
+        front.push(row)?;
+        let _ = behind.pop();
+    }
+    Ok(())
+}
+
+/// Moves rows so that those that begin in front of an offset of a text of so many bytes stand in front
+/// of the split, and the others behind it.
+fn move_rows(places: &mut Places, len: usize, at: usize) -> Result<(), AllocError>
+    requires small { len < 2 ^ 32 }
+    requires within { All (λ o. o.start ≤ len) places.old.front.items }
+    requires later { All (λ o. o.start ≤ len) places.old.behind.items }
+    ensures same { both_sides len places.new.front.items places.new.behind.items ≡
+        both_sides len places.old.front.items places.old.behind.items }
+    ensures later { All (λ o. o.start ≤ len) places.new.behind.items }
+    ensures ends { places.new.ends.items ≡ places.old.ends.items }
+    ensures ok { OnOk result (IsSplitAt at len places.new) }
+{
+    to_behind(&mut places.front, &mut places.behind, len, at)?;
+    to_front(&mut places.front, &mut places.behind, len, at)
+}
+
+/// Where the first of the rows behind the split begins in a text of so many bytes, or where that ends.
+pub(crate) fn begin_of(behind: &[Offsets], len: usize) -> usize
+    ensures { result ≡ first_byte len (reverse behind.now) }
+{
+    match behind {
+        [.., row] => len.saturating_sub(row.start()),
+        [] => len,
+    }
+}
+
+/// Moves the split of the rows of a text: behind it stands the first row that begins at an offset or
+/// behind it.
+///
+/// # Errors
+/// Want of memory. The split is then somewhere between.
+pub(crate) fn move_split(text: &SplitText, places: &mut Places, at: usize) -> Result<(), AllocError>
+    requires { IsPlacedIn (halves_joined text.now) places.old }
+    ensures placed { IsPlacedIn (halves_joined text.now) places.new }
+    ensures ok { OnOk result (IsSplitAt at (length (halves_joined text.now)) places.new) }
+{
+    let len = text.len();
+    let moved = move_rows(places, len, at);
+    places.split = begin_of(places.behind.as_slice(), len);
+    moved
+}

@@ -1,0 +1,74 @@
+//! The rows and ends of parts that a change touches.
+ghost use Rattle.std.specs.Prelude.{◌≡◌, ◌<◌, ◌≤◌, ◌^◌, ◌||◌, List, ℕ, length, nat_lt};
+ghost use Rattle.yq_row_table.specs.Kept.{kept_rows};
+ghost use Rattle.yq_rows.specs.Exchanging.{TextChange};
+ghost use Rattle.yq_rows.specs.Following.{Follows};
+ghost use Rattle.yq_rows.specs.Sides as spec;
+
+use crate::kept::Kept;
+use crate::{Side, side_before, side_behind};
+use yq_row_table::{EndPlace, Places};
+
+/// The rows and ends of parts that a change touches.
+#[derive(Clone, Copy)]
+pub(crate) struct Touched {
+    /// What stands in front of them.
+    pub front: Side,
+    /// What stands in front of those behind them.
+    pub old: Side,
+    /// Whether others stand behind them.
+    pub more: bool,
+    /// The last of them, where that is the end of a part and the change keeps the line of its marker.
+    pub marked: Option<EndPlace>,
+}
+
+/// Whether so many rows stand before an end of a part, and the line of its marker, if there is one, begins
+/// at an offset or behind it.
+fn keeps_marker(end: EndPlace, rows: usize, at: usize) -> bool
+    ensures { result ≡ spec.keeps_marker end rows at }
+{
+    end.rows == rows && end.marker() > 0 && at <= end.stop()
+}
+
+/// The last end of a part among those that a change touches, where no row stands behind it there and the
+/// line of its marker begins at an offset or behind it.
+fn marked_end(ends: &[EndPlace], front: Side, old: Side, at: usize) -> Option<EndPlace>
+    ensures { result ≡ spec.marked_end ends.now front old at }
+{
+    if old.ends <= front.ends {
+        return None;
+    }
+    let end = *ends.get(old.ends - 1)?;
+    if keeps_marker(end, old.rows, at) {
+        Some(end)
+    } else {
+        None
+    }
+}
+
+/// Whether rows or ends of parts stand behind others.
+fn has_more(places: &Places, old: Side) -> bool
+    ensures { result ≡ (nat_lt old.rows (length (kept_rows places.now))
+        || nat_lt old.ends (length places.now.ends.items)) }
+{
+    places.len() > old.rows || places.ends.len() > old.ends
+}
+
+/// The rows and ends of parts that a change of a text of `len` bytes touches; the split is where the
+/// first byte is that the change doesn't keep.
+pub(crate) fn find_touched(places: &Places, len: usize, kept: Kept) -> Touched
+    requires small { len < 2 ^ 32 }
+    requires within { kept.back ≤ len }
+    requires split { spec.IsSplitAt kept.front len places.now }
+    ensures { (t new : List ℕ) → len ≡ length t → (h : Follows t places.now kept new) →
+        TextChange t new kept places.now result }
+{
+    let front = side_before(places, kept.front);
+    let old = side_behind(places, len, kept.back);
+    Touched {
+        front,
+        old,
+        more: has_more(places, old),
+        marked: marked_end(places.ends.as_slice(), front, old, len - kept.back),
+    }
+}

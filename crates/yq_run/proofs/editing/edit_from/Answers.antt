@@ -1,0 +1,37 @@
+use Rattle.std.proofs.Common.{◌≡◌, ℕ, List, Err, string_bytes, sym, ap, ◌∙◌, subst}
+use Rattle.std.proofs.lemmas.Result.{err_from_is_err_and}
+use Rattle.yq_history.proofs.MoveLaws.{on_ok_map}
+use Rattle.yq_semantics.specs.View.{program_of}
+use Rattle.yq_commands.specs.Editing.{edited, program_edits}
+use Rattle.yq_commands.specs.FileEdits.{IsTextEdited}
+use Rattle.yq_commands.proofs.EditEffects.{edit_fails}
+use Rattle.yq_commands.proofs.FileEditLaws.{holds_comes}
+use Rattle.yq_run.proofs.editing.edit_from.Goals as goal
+
+pub returns : goal.returns
+returns g c =
+    let e = c.commit.ensures in
+    let a = c.in_ok-edited_to in
+    let u : List ℕ = string_bytes a.field-0.text in
+    let new : u ≡ c.as_bytes.result.now = sym c.as_bytes.ensures.value in
+    let gives : program_edits (program_of c.args.program.now) c.args.text.items ≡ edited c.as_bytes.result.now a.field-0.splices.items =
+    ap (program_edits (program_of c.args.program.now)) (sym c.as_slice.ensures.value) ∙ a.ensures.ok ∙ (λ i. edited (new i) a.field-0.splices.items) in
+    record {
+      arrives = λ keeps apart h k. e.arrives keeps apart h (program_of c.args.program.now) k gives;
+      effect = λ keeps apart. e.effect keeps apart (program_of c.args.program.now) gives;
+      edited = λ keeps apart there.
+          on_ok_map _ (e.text keeps apart there)
+          (holds_comes (program_of c.args.program.now) c.args.text.items u c.as_bytes.result.now _
+          (subst (λ (t : List ℕ). IsTextEdited (program_of c.args.program.now) t u) c.as_slice.ensures.value a.ensures.edited) (sym new));
+      kept = e.kept;
+      others = e.others;
+      no_output = e.no_output;
+      count = e.count;
+    }
+
+pub returns-in_err-edited_to-clause-effect : goal.returns-in_err-edited_to-clause-effect
+returns-in_err-edited_to-clause-effect g c =
+    let p = err_from_is_err_and c.from_residual.result c.from_residual.ensures.1 in
+    rw (← c.as_slice.ensures.value)
+    (λ keeps apart. edit_fails c.args.file.now c.args.journal.now (g.D.Store.content c.args.store.now) c.args.expr.now c.args.state.now c.as_slice.result.now
+    (program_edits (program_of c.args.program.now) c.as_slice.result.now) c.from_residual.result _ (p.1 ∙ ap Err p.2) c.in_err-edited_to.ensures.err)

@@ -1,0 +1,16 @@
+use Rattle.std.proofs.Common.{Err, ap, ◌∙◌}
+use Rattle.std.proofs.lemmas.Result.{err_from_is_err_and}
+use Rattle.yq_semantics.specs.View.{program_of}
+use Rattle.yq_commands.proofs.FileEditLaws.{parsed_free, printed_comes, unparsed_fault}
+use Rattle.yq_run.proofs.evaluating.evaluate.Goals as goal
+
+pub returns-clause-edited : goal.returns-clause-edited
+returns-clause-edited g c = λ keeps. printed_comes c.evaluate_program.result c.args.expr.now (program_of c.in_ok-program.program) _ _ c.in_ok-program.ensures.ok (c.evaluate_program.ensures.edited keeps)
+
+pub returns-in_err-program-clause-unparsed : goal.returns-in_err-program-clause-unparsed
+returns-in_err-program-clause-unparsed g c =
+    let p = err_from_is_err_and c.from_residual.result c.from_residual.ensures.1 in
+    unparsed_fault c.from_residual.result c.args.expr.now _ (p.1 ∙ ap Err p.2) c.in_err-program.ensures.err
+
+pub returns-clause-unparsed : goal.returns-clause-unparsed
+returns-clause-unparsed g c = parsed_free c.evaluate_program.result c.args.expr.now (program_of c.in_ok-program.program) c.in_ok-program.ensures.ok

@@ -1,0 +1,23 @@
+use Rattle.std.proofs.Common.{Err, ap, ◌∙◌}
+use Rattle.std.proofs.lemmas.Result.{err_from_is_err_and}
+use Rattle.yq_semantics.specs.View.{program_of}
+use Rattle.yq_commands.specs.Evaluation.{show_edit}
+use Rattle.yq_commands.proofs.FileEditLaws.{text_same}
+use Rattle.yq_commands.proofs.ShowLaws.{edit_fails, edit_shows}
+use Rattle.yq_run.proofs.evaluating.show_edit.Goals as goal
+
+pub returns-in_err-text-clause-err : goal.returns-in_err-text-clause-err
+returns-in_err-text-clause-err c = λ exit_status no_doc.
+    let p = err_from_is_err_and c.from_residual.result c.from_residual.ensures.1 in
+    edit_fails exit_status no_doc c.args.text.now (program_of c.args.program.now) c.from_residual.result _ c.requires (p.1 ∙ ap Err p.2) c.in_err-text.ensures.err
+
+pub returns-clause-ok : goal.returns-clause-ok
+returns-clause-ok c = λ exit_status no_doc.
+    let is = edit_shows exit_status no_doc c.args.text.now (program_of c.args.program.now) c.requires ∙ ap show_edit c.in_ok-text.ensures.ok in
+    let edited_to = c.in_ok-text.text-is in
+    cc
+
+pub returns-clause-edited : goal.returns-clause-edited
+returns-clause-edited c =
+    let edited_to = c.in_ok-text.text-is in
+    text_same (program_of c.args.program.now) c.args.text.now _ _ c.in_ok-text.ensures.edited (cc)

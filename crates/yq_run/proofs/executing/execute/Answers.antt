@@ -1,0 +1,167 @@
+use Rattle.std.proofs.Common.{◌≡◌, Bool, true, false, Option, OnOk, refl, sym, ap, ◌∙◌, subst, true≢false}
+use Rattle.std.proofs.lemmas.Bool.{false≢true}
+use Rattle.std.proofs.lemmas.Option.{none-some}
+use Rattle.std.specs.FinMap.{get}
+use Rattle.std.specs.String.{string_bytes}
+use Rattle.yq_journal.specs.History.{History}
+use Rattle.yq_journal.specs.declared.moves.Move.TheVariants as move
+use Rattle.yq_history.specs.Effects.{from_names, listing_effect, move_effect, printed_by, squash_effect}
+use Rattle.yq_history.specs.Listing.{listing_output}
+use Rattle.yq_history.specs.Pair.{GoodIn}
+use Rattle.yq_history.specs.Report.{Report, report_by, text}
+use Rattle.yq_history.specs.Steps.{listing_cause, move_cause, move_next, squash_cause, squash_next}
+use Rattle.yq_history.proofs.EffectLaws.{on_ok}
+use Rattle.yq_args.specs.declared.command.Command.TheVariants.{Eval}
+use Rattle.yq_commands.specs.CommandEffects.{expression_fault, fault_of}
+use Rattle.yq_commands.specs.Editing.{program_in}
+use Rattle.yq_commands.specs.Prints.{prints, reads_journal}
+use Rattle.yq_commands.proofs.ExecuteLaws.{ArrivesOn, EditsOn, ListsOn, OthersOn, ShowsOn, WorksOn, by_names, evaluate_arrives, evaluate_edits, evaluate_shows, pair_arrives, pair_others, pair_works, update_arrives, update_edits, update_works}
+use Rattle.yq_commands.proofs.OutcomeLaws.{each_error, memory_counted, memory_no_output}
+use Rattle.yq_run.proofs.executing.execute.Goals as goal
+
+pub returns-in-Undo : goal.returns-in-Undo
+returns-in-Undo g c =
+    let e = c.move_file.ensures in
+    let is = c.in-Undo.is in
+    record {
+      arrives = λ keeps. subst (ArrivesOn _ _ c.move_file.result) (sym is) (pair_arrives _ _ _ _ c.as_str-in-Undo.ensures.value c.as_str-in-Undo-2.ensures.value _ _ c.move_file.result (move_cause move.Undo) (move_next move.Undo) (e.arrives keeps));
+      effect = λ keeps. subst (WorksOn _ _ c.move_file.result) (sym is) (pair_works _ _ _ _ c.as_str-in-Undo.ensures.value c.as_str-in-Undo-2.ensures.value _ _ c.move_file.result (move_effect move.Undo) (e.effect keeps));
+      output = λ keeps. subst (ShowsOn _ c.move_file.result _) (sym is) (λ file journal on h good. on_ok c.move_file.result c.requires.empty);
+      listed = λ keeps. subst (ListsOn _ c.move_file.result _) (sym is) (λ file journal on. on_ok c.move_file.result tt);
+      edited = λ keeps. subst (EditsOn _ _ c.move_file.result _) (sym is) (on_ok c.move_file.result tt);
+      unparsed = λ f fault. absurd (none-some f (sym (ap expression_fault is) ∙ fault));
+      silent = λ hidden. c.requires.empty;
+      matched = λ reads. ap (λ (s : Report). s.is_match) c.requires.empty;
+      still = λ keeps shown. absurd (false≢true (sym (ap prints is) ∙ shown));
+      kept = e.kept;
+      others = λ keeps. subst (OthersOn _ _) (sym is) (pair_others _ _ _ _ c.as_str-in-Undo.ensures.value c.as_str-in-Undo-2.ensures.value _ _ (e.others keeps));
+      no_output = e.no_output;
+      count = e.count;
+    }
+
+pub returns-in-Redo : goal.returns-in-Redo
+returns-in-Redo g c =
+    let e = c.move_file-in-Redo.ensures in
+    let is = c.in-Redo.is in
+    record {
+      arrives = λ keeps. subst (ArrivesOn _ _ c.move_file-in-Redo.result) (sym is) (pair_arrives _ _ _ _ c.as_str-in-Redo.ensures.value c.as_str-in-Redo-2.ensures.value _ _ c.move_file-in-Redo.result (move_cause move.Redo) (move_next move.Redo) (e.arrives keeps));
+      effect = λ keeps. subst (WorksOn _ _ c.move_file-in-Redo.result) (sym is) (pair_works _ _ _ _ c.as_str-in-Redo.ensures.value c.as_str-in-Redo-2.ensures.value _ _ c.move_file-in-Redo.result (move_effect move.Redo) (e.effect keeps));
+      output = λ keeps. subst (ShowsOn _ c.move_file-in-Redo.result _) (sym is) (λ file journal on h good. on_ok c.move_file-in-Redo.result c.requires.empty);
+      listed = λ keeps. subst (ListsOn _ c.move_file-in-Redo.result _) (sym is) (λ file journal on. on_ok c.move_file-in-Redo.result tt);
+      edited = λ keeps. subst (EditsOn _ _ c.move_file-in-Redo.result _) (sym is) (on_ok c.move_file-in-Redo.result tt);
+      unparsed = λ f fault. absurd (none-some f (sym (ap expression_fault is) ∙ fault));
+      silent = λ hidden. c.requires.empty;
+      matched = λ reads. ap (λ (s : Report). s.is_match) c.requires.empty;
+      still = λ keeps shown. absurd (false≢true (sym (ap prints is) ∙ shown));
+      kept = e.kept;
+      others = λ keeps. subst (OthersOn _ _) (sym is) (pair_others _ _ _ _ c.as_str-in-Redo.ensures.value c.as_str-in-Redo-2.ensures.value _ _ (e.others keeps));
+      no_output = e.no_output;
+      count = e.count;
+    }
+
+pub returns-in-Squash : goal.returns-in-Squash
+returns-in-Squash g c =
+    let e = c.squash.ensures in
+    let is = c.in-Squash.is in
+    record {
+      arrives = λ keeps. subst (ArrivesOn _ _ c.squash.result) (sym is) (pair_arrives _ _ _ _ c.as_str-in-Squash.ensures.value c.as_str-in-Squash-2.ensures.value _ _ c.squash.result (squash_cause c.in-Squash.n) (squash_next c.in-Squash.n) (e.arrives keeps));
+      effect = λ keeps. subst (WorksOn _ _ c.squash.result) (sym is) (pair_works _ _ _ _ c.as_str-in-Squash.ensures.value c.as_str-in-Squash-2.ensures.value _ _ c.squash.result (squash_effect c.in-Squash.n) (e.effect keeps));
+      output = λ keeps. subst (ShowsOn _ c.squash.result _) (sym is) (λ file journal on h good. on_ok c.squash.result c.requires.empty);
+      listed = λ keeps. subst (ListsOn _ c.squash.result _) (sym is) (λ file journal on. on_ok c.squash.result tt);
+      edited = λ keeps. subst (EditsOn _ _ c.squash.result _) (sym is) (on_ok c.squash.result tt);
+      unparsed = λ f fault. absurd (none-some f (sym (ap expression_fault is) ∙ fault));
+      silent = λ hidden. c.requires.empty;
+      matched = λ reads. ap (λ (s : Report). s.is_match) c.requires.empty;
+      still = λ keeps shown. absurd (false≢true (sym (ap prints is) ∙ shown));
+      kept = e.kept;
+      others = λ keeps. subst (OthersOn _ _) (sym is) (pair_others _ _ _ _ c.as_str-in-Squash.ensures.value c.as_str-in-Squash-2.ensures.value _ _ (λ q apart beside. e.others keeps q beside));
+      no_output = e.no_output;
+      count = e.count;
+    }
+
+pub returns-in-History : goal.returns-in-History
+returns-in-History g c =
+    let e = c.listing.ensures in
+    let is = c.in-History.is in
+    let old = g.D.Store.content c.args.store.now in
+    let report = c.listing.new.report in
+    record {
+      arrives = λ keeps. subst (ArrivesOn _ _ c.listing.result) (sym is) (pair_arrives _ _ _ _ c.as_str-in-History.ensures.value c.as_str-in-History-2.ensures.value _ _ c.listing.result listing_cause (λ h. h) (λ apart. e.arrives keeps));
+      effect = λ keeps. subst (WorksOn _ _ c.listing.result) (sym is) (pair_works _ _ _ _ c.as_str-in-History.ensures.value c.as_str-in-History-2.ensures.value _ _ c.listing.result listing_effect (λ apart. e.effect keeps));
+      output = λ keeps. subst (ShowsOn _ c.listing.result _) (sym is)
+          (λ file journal on h good. by_names _ _ _ _ c.as_str-in-History.ensures.value c.as_str-in-History-2.ensures.value (λ x y. (h : Option History) → GoodIn old x y h → OnOk c.listing.result (report_by report ≡ text (listing_output h))) file journal on (e.output keeps) h good);
+      listed = λ keeps. subst (ListsOn _ c.listing.result _) (sym is)
+          (λ file journal on. by_names _ _ _ _ c.as_str-in-History.ensures.value c.as_str-in-History-2.ensures.value (λ x y. OnOk c.listing.result (string_bytes report.text ≡ printed_by (from_names old x y listing_effect))) file journal on (e.lines keeps));
+      edited = λ keeps. subst (EditsOn _ _ c.listing.result _) (sym is) (on_ok c.listing.result tt);
+      unparsed = λ f fault. absurd (none-some f (sym (ap expression_fault is) ∙ fault));
+      silent = λ hidden. absurd (true≢false (sym (ap prints is) ∙ hidden));
+      matched = λ reads. e.matched;
+      still = λ keeps shown. e.same keeps;
+      kept = λ keeps. each_error _ c.listing.result (λ x inside. e.same keeps);
+      others = λ keeps q apart. ap (λ m. get m q) (e.same keeps);
+      no_output = e.no_output;
+      count = e.count;
+    }
+
+pub returns-in-Help : goal.returns-in-Help
+returns-in-Help g c =
+    let is = c.in-Help.is in
+    record {
+      arrives = λ keeps. subst (ArrivesOn _ _ c.help.result) (sym is) (λ file journal apart on. absurd on);
+      effect = λ keeps. subst (WorksOn _ _ c.help.result) (sym is) (λ file journal apart on. absurd on);
+      output = λ keeps. subst (ShowsOn _ c.help.result _) (sym is) (λ file journal on. absurd on);
+      listed = λ keeps. subst (ListsOn _ c.help.result _) (sym is) (λ file journal on. absurd on);
+      edited = λ keeps. subst (EditsOn _ _ c.help.result _) (sym is) (on_ok c.help.result tt);
+      unparsed = λ f fault. absurd (none-some f (sym (ap expression_fault is) ∙ fault));
+      silent = λ hidden. absurd (true≢false (sym (ap prints is) ∙ hidden));
+      matched = λ reads. absurd (false≢true (sym (ap reads_journal is) ∙ reads));
+      still = λ keeps shown. refl;
+      kept = λ keeps. each_error _ c.help.result (λ x inside. refl);
+      others = λ keeps q apart. refl;
+      no_output = memory_no_output c.help.result c.help.ensures.memory;
+      count = memory_counted c.help.result _ c.help.ensures.memory;
+    }
+
+pub returns-in-Eval : goal.returns-in-Eval
+returns-in-Eval g c =
+    let e = c.evaluate.ensures in
+    let a = c.in-Eval in
+    let on : a.in_place ≡ false = cc (a.in_place-is, a.in_place-test) in
+    let is = a.is ∙ ap (λ (b : Bool). Eval a.expr a.file a.journal b a.exit_status a.no_doc) on in
+    record {
+      arrives = λ keeps. subst (ArrivesOn _ _ c.evaluate.result) (sym is) (λ file journal apart. evaluate_arrives _ _ c.as_str-in-Eval.ensures.value _ _ c.as_str-in-Eval-2.ensures.value a.exit_status a.no_doc _ _ c.evaluate.result (e.arrives keeps) file journal);
+      effect = λ keeps. subst (WorksOn _ _ c.evaluate.result) (sym is) (λ file journal apart on. tt);
+      output = λ keeps. subst (ShowsOn _ c.evaluate.result _) (sym is) (evaluate_shows _ _ c.as_str-in-Eval.ensures.value _ _ c.as_str-in-Eval-2.ensures.value a.exit_status a.no_doc _ c.evaluate.result _ (e.output keeps));
+      listed = λ keeps. subst (ListsOn _ c.evaluate.result _) (sym is) (λ file journal on. on_ok c.evaluate.result tt);
+      edited = λ keeps. subst (EditsOn _ _ c.evaluate.result _) (sym is) (evaluate_edits _ _ c.as_str-in-Eval.ensures.value _ _ c.as_str-in-Eval-2.ensures.value a.exit_status a.no_doc _ c.evaluate.result _ (e.edited keeps));
+      unparsed = λ f fault. e.unparsed f (ap (λ y. fault_of (program_in y)) c.as_str-in-Eval-2.ensures.value ∙ sym (ap expression_fault is) ∙ fault);
+      silent = λ hidden. absurd (true≢false (sym (ap prints is) ∙ hidden));
+      matched = λ reads. absurd (false≢true (sym (ap reads_journal is) ∙ reads));
+      still = λ keeps shown. e.same keeps;
+      kept = λ keeps. each_error _ c.evaluate.result (λ x inside. e.same keeps);
+      others = λ keeps q apart. ap (λ m. get m q) (e.same keeps);
+      no_output = e.no_output;
+      count = e.count;
+    }
+
+pub returns-in-Eval-default-default-default-true-default-default : goal.returns-in-Eval-default-default-default-true-default-default
+returns-in-Eval-default-default-default-true-default-default g c =
+    let e = c.update.ensures in
+    let a = c.in-Eval-default-default-default-true-default-default in
+    let on : a.in_place ≡ true = cc (a.in_place-is, a.in_place-test) in
+    let is = a.is ∙ ap (λ (b : Bool). Eval a.expr a.file a.journal b a.exit_status a.no_doc) on in
+    record {
+      arrives = λ keeps. subst (ArrivesOn _ _ c.update.result) (sym is) (update_arrives _ _ _ _ c.as_str.ensures.value c.as_str-in-Eval-default-default-default-true-default-default.ensures.value _ _ c.update.result _ _ c.as_str-in-Eval-default-default-default-true-default-default-2.ensures.value (e.arrives keeps));
+      effect = λ keeps. subst (WorksOn _ _ c.update.result) (sym is) (update_works _ _ _ _ c.as_str.ensures.value c.as_str-in-Eval-default-default-default-true-default-default.ensures.value _ _ c.update.result _ _ c.as_str-in-Eval-default-default-default-true-default-default-2.ensures.value (e.effect keeps));
+      output = λ keeps. subst (ShowsOn _ c.update.result _) (sym is) (λ file journal on h good. on_ok c.update.result c.requires.empty);
+      listed = λ keeps. subst (ListsOn _ c.update.result _) (sym is) (λ file journal on. on_ok c.update.result tt);
+      edited = λ keeps. subst (EditsOn _ _ c.update.result _) (sym is) (update_edits _ _ _ _ c.as_str.ensures.value c.as_str-in-Eval-default-default-default-true-default-default.ensures.value _ _ c.update.result _ _ c.as_str-in-Eval-default-default-default-true-default-default-2.ensures.value (e.edited keeps));
+      unparsed = λ f fault. e.unparsed f (ap (λ y. fault_of (program_in y)) c.as_str-in-Eval-default-default-default-true-default-default-2.ensures.value ∙ sym (ap expression_fault is) ∙ fault);
+      silent = λ hidden. c.requires.empty;
+      matched = λ reads. ap (λ (s : Report). s.is_match) c.requires.empty;
+      still = λ keeps shown. absurd (false≢true (sym (ap prints is) ∙ shown));
+      kept = e.kept;
+      others = λ keeps. subst (OthersOn _ _) (sym is) (pair_others _ _ _ _ c.as_str.ensures.value c.as_str-in-Eval-default-default-default-true-default-default.ensures.value _ _ (e.others keeps));
+      no_output = e.no_output;
+      count = e.count;
+    }

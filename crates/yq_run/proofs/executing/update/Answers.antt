@@ -1,0 +1,60 @@
+use Rattle.std.proofs.Common.{◌≡◌, ℕ, List, false, Ok, Err, IfErr, sym, ap, ◌∙◌, subst}
+use Rattle.yq_journal.specs.State.{State}
+use Rattle.std.proofs.lemmas.Result.{err_from_is_err_and}
+use Rattle.yq_semantics.specs.View.{program_of}
+use Rattle.yq_commands.specs.Editing.{program_edits}
+use Rattle.yq_commands.specs.CommandEffects.{edit_effect}
+use Rattle.yq_history.proofs.EffectLaws.{not_opened, from_opened}
+use Rattle.std.specs.FinMap.{get}
+use Rattle.yq_commands.proofs.EditEffects.{not_parsed, parsed_works}
+use Rattle.yq_commands.proofs.FileEditLaws.{file_comes, parsed_free, unparsed_fault}
+use Rattle.yq_commands.specs.CommandSteps.{update_cause, update_next}
+use Rattle.yq_history.specs.Faults.{failures_after, is_outer_fault}
+use Rattle.yq_commands.proofs.OutcomeLaws.{arrives_as, opened}
+use Rattle.yq_run.proofs.executing.update.Goals as goal
+
+pub returns : goal.returns
+returns g c =
+    let o = c.in_ok-text.ensures in
+    let e = c.edit_from.ensures in
+    record {
+      arrives = λ keeps apart h good.
+          arrives_as _ _ _ c.edit_from.result (λ q. update_cause q h) (λ q. update_next c.args.expr.now q h) h _ _ (sym c.in_ok-program.ensures.ok)
+          (opened (update_cause (Ok (program_of c.in_ok-program.program))) (update_next c.args.expr.now (Ok (program_of c.in_ok-program.program))) _ _ _ _ c.edit_from.result (c.in_ok-text.text, c.in_ok-text.state) h (o.opens keeps h good) (e.arrives keeps apart));
+      effect = λ keeps apart.
+          let does = λ (t : List ℕ) (s : State). edit_effect c.args.expr.now (program_edits (program_of c.in_ok-program.program) t) t s in
+          parsed_works _ _ (g.D.Store.content c.args.store.now) _ c.args.expr.now (program_of c.in_ok-program.program) _ _ c.edit_from.result c.in_ok-program.ensures.ok
+          (from_opened _ _ does _ _ (g.D.Store.content c.args.store.now) _ _ c.in_ok-text.text.items c.in_ok-text.state c.edit_from.result (c.in_ok-text.ensures.same keeps)
+          (c.in_ok-text.ensures.found keeps does)
+          (c.edit_from.ensures.effect keeps apart));
+      edited = λ keeps apart.
+          let same = c.in_ok-text.ensures.same keeps in
+          let held = c.in_ok-text.ensures.text keeps in
+          file_comes c.edit_from.result c.args.expr.now (program_of c.in_ok-program.program) c.in_ok-text.text.items _ _ c.in_ok-program.ensures.ok held
+          (c.edit_from.ensures.edited keeps apart (ap (λ m. get m c.args.file.now) same ∙ held));
+      unparsed = parsed_free c.edit_from.result c.args.expr.now (program_of c.in_ok-program.program) c.in_ok-program.ensures.ok;
+      kept = λ keeps. subst (λ m. IfErr c.edit_from.result (λ y. is_outer_fault y ≡ false → g.D.Store.content c.edit_from.new.store ≡ m)) (o.same keeps) (e.kept keeps);
+      others = λ keeps q apart beside. e.others keeps q apart beside ∙ ap (λ m. get m q) (o.same keeps);
+      no_output = e.no_output;
+      count = e.count ∙ ap (failures_after c.edit_from.result) o.count;
+    }
+
+pub returns-in_err-program-clause-effect : goal.returns-in_err-program-clause-effect
+returns-in_err-program-clause-effect g c = λ keeps apart.
+    let p = err_from_is_err_and c.from_residual.result c.from_residual.ensures.1 in
+    not_parsed _ _ (g.D.Store.content c.args.store.now) c.args.expr.now _ _ c.from_residual.result _ (p.1 ∙ ap Err p.2) c.in_err-program.ensures.err
+
+pub returns-in_err-text-clause-effect : goal.returns-in_err-text-clause-effect
+returns-in_err-text-clause-effect g c = λ keeps apart.
+    let p = err_from_is_err_and c.from_residual-in_err-text.result c.from_residual-in_err-text.ensures.1 in
+    let does = λ (t : List ℕ) (s : State). edit_effect c.args.expr.now (program_edits (program_of c.in_ok-program.program) t) t s in
+    parsed_works _ _ (g.D.Store.content c.args.store.now) _ c.args.expr.now (program_of c.in_ok-program.program) _ _ c.from_residual-in_err-text.result c.in_ok-program.ensures.ok
+    (not_opened _ _ does _ _ _ _ c.from_residual-in_err-text.result _ (p.1 ∙ ap Err p.2) (c.in_err-text.ensures.same keeps) (c.in_err-text.ensures.missed keeps))
+
+pub returns-in_err-program-clause-unparsed : goal.returns-in_err-program-clause-unparsed
+returns-in_err-program-clause-unparsed g c =
+    let p = err_from_is_err_and c.from_residual.result c.from_residual.ensures.1 in
+    unparsed_fault c.from_residual.result c.args.expr.now _ (p.1 ∙ ap Err p.2) c.in_err-program.ensures.err
+
+pub returns-in_err-text-clause-unparsed : goal.returns-in_err-text-clause-unparsed
+returns-in_err-text-clause-unparsed g c = parsed_free c.from_residual-in_err-text.result c.args.expr.now (program_of c.in_ok-program.program) c.in_ok-program.ensures.ok

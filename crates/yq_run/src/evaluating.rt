@@ -1,0 +1,129 @@
+//! Expressions that aren't carried out in place: what they show of a file.
+ghost use Rattle.std.specs.Prelude.{◌≡◌, ◌≢◌, Ok, ℕ, Bool, List, Option, Some, IfErr, IfOk, OnOk, IsTrue, true, false};
+ghost use Rattle.std.specs.FinMap as map;
+ghost use Rattle.std.specs.String.{string_bytes};
+ghost use Rattle.yq_semantics.specs.Program.{is_read};
+ghost use Rattle.yq_semantics.specs.View.{program_of};
+ghost use Rattle.yq_journal.specs.History.{History};
+ghost use Rattle.yq_history.specs.Causes.{IsFor};
+ghost use Rattle.yq_commands.specs.CommandEffects.{IsUnparsed, fault_of};
+ghost use Rattle.yq_commands.specs.Editing.{program_in};
+ghost use Rattle.yq_commands.specs.Evaluation.{cause_in, evaluated, of_file, report_in, shows};
+ghost use Rattle.yq_commands.specs.FileEdits.{IsTextEdited, PrintsEdited};
+ghost use Rattle.yq_history.specs.Faults.{is_failure, is_output, failures_after};
+ghost use Rattle.yq_history.specs.Pair.{Arrives, GoodIn};
+ghost use Rattle.yq_history.specs.Report.{report_by};
+
+use crate::editing::edit_text;
+use std::alloc::Global;
+use yq_commands::{parse, show_read};
+use yq_history::{Fault, Report};
+use yq_semantics::Program;
+use yq_splice::Edited;
+use yq_store::Store;
+
+/// What an update shows of a text: the edited one.
+fn show_edit(alloc: Global, program: &Program, text: &[u8]) -> Result<Report, Fault>
+    requires { is_read (program_of program.now) ≡ false }
+    ensures edited { IfOk result (λ s. IsTextEdited (program_of program.now) text.now
+        (string_bytes s.text)) }
+    ensures ok { (exit_status no_doc : Bool) →
+        IfOk result (λ s. shows exit_status no_doc (program_of program.now) text.now ≡
+        Ok (report_by s)) }
+    ensures err { (exit_status no_doc : Bool) →
+        IfErr result (λ e. e ≢ Fault.OutOfMemory →
+        IsFor (cause_in (shows exit_status no_doc (program_of program.now) text.now)) e) }
+    ensures inside { IfErr result (λ e. is_failure e ≡ false) }
+    ensures no_output { IfErr result (λ e. is_output e ≡ false) }
+{
+    let Edited { text, .. } = edit_text(alloc, program, text)?;
+    Ok(Report {
+        text,
+        is_match: true,
+    })
+}
+
+/// What a program shows of a text, which need be no UTF-8.
+fn show(
+    alloc: Global,
+    program: &Program,
+    text: &[u8],
+    exit_status: bool,
+    no_doc: bool,
+) -> Result<Report, Fault>
+    ensures edited { is_read (program_of program.now) ≡ false →
+        IfOk result (λ s. IsTextEdited (program_of program.now) text.now (string_bytes s.text)) }
+    ensures ok { IfOk result (λ s. shows exit_status no_doc (program_of program.now) text.now ≡
+        Ok (report_by s)) }
+    ensures err { IfErr result (λ e. e ≢ Fault.OutOfMemory →
+        IsFor (cause_in (shows exit_status no_doc (program_of program.now) text.now)) e) }
+    ensures inside { IfErr result (λ e. is_failure e ≡ false) }
+    ensures no_output { IfErr result (λ e. is_output e ≡ false) }
+{
+    if program.is_read() {
+        show_read(alloc, program, text, exit_status, no_doc)
+    } else {
+        show_edit(alloc, program, text)
+    }
+}
+
+/// Shows what a program makes of a file's text.
+fn evaluate_program<D: Store>(
+    alloc: Global,
+    store: &mut D,
+    file: &str,
+    program: &Program,
+    exit_status: bool,
+    no_doc: bool,
+    report: &mut Report,
+) -> Result<(), Fault>
+    ensures arrives { IsTrue D.keeps → (journal : List ℕ) → (h : Option History) →
+        GoodIn (D.content store.old) file.now journal h →
+        Arrives (D.content store.new) file.now journal
+        (cause_in (of_file (shows exit_status no_doc (program_of program.now)) h)) h h result }
+    ensures output { IsTrue D.keeps → (journal : List ℕ) → (h : Option History) →
+        GoodIn (D.content store.old) file.now journal h →
+        OnOk result (report_by report.new ≡ report_in (of_file
+        (shows exit_status no_doc (program_of program.now)) h)) }
+    ensures edited { IsTrue D.keeps → is_read (program_of program.now) ≡ false →
+        OnOk result ((text : List ℕ) × (map.get (D.content store.old) file.now ≡ Some text) ×
+        IsTextEdited (program_of program.now) text (string_bytes report.new.text)) }
+    ensures same { IsTrue D.keeps → D.content store.new ≡ D.content store.old }
+    ensures no_output { IfErr result (λ e. is_output e ≡ false) }
+    ensures count { D.failures store.new ≡ failures_after result (D.failures store.old) }
+{
+    let text = store.read(alloc, file)?;
+    *report = show(alloc, program, &text, exit_status, no_doc)?;
+    Ok(())
+}
+
+/// Shows the matches of an expression that reads in a file, or the file's text as the expression
+/// updates it.
+pub fn evaluate<D: Store>(
+    alloc: Global,
+    store: &mut D,
+    file: &str,
+    expr: &str,
+    exit_status: bool,
+    no_doc: bool,
+    report: &mut Report,
+) -> Result<(), Fault>
+    ensures arrives { IsTrue D.keeps → (journal : List ℕ) → (h : Option History) →
+        GoodIn (D.content store.old) file.now journal h →
+        Arrives (D.content store.new) file.now journal
+        (cause_in (evaluated exit_status no_doc (program_in expr.now) h)) h h result }
+    ensures output { IsTrue D.keeps → (journal : List ℕ) → (h : Option History) →
+        GoodIn (D.content store.old) file.now journal h →
+        OnOk result (report_by report.new ≡ report_in (evaluated exit_status no_doc
+        (program_in expr.now) h)) }
+    ensures edited { IsTrue D.keeps →
+        OnOk result (PrintsEdited expr.now (map.get (D.content store.old) file.now)
+        (string_bytes report.new.text)) }
+    ensures unparsed { (f : Fault) → fault_of (program_in expr.now) ≡ Some f → IsUnparsed f result }
+    ensures same { IsTrue D.keeps → D.content store.new ≡ D.content store.old }
+    ensures no_output { IfErr result (λ e. is_output e ≡ false) }
+    ensures count { D.failures store.new ≡ failures_after result (D.failures store.old) }
+{
+    let program = parse(alloc, expr)?;
+    evaluate_program(alloc, store, file, &program, exit_status, no_doc, report)
+}

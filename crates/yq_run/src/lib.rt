@@ -1,0 +1,14 @@
+//! Commands carried out over a store: edits of files, and lists of commands with an answer to each.
+#![tactic(auto)]
+
+mod editing;
+mod evaluating;
+mod executing;
+mod run;
+
+pub use executing::execute;
+pub use run::run_list;
+pub use yq_commands::{
+    Answer, MemoryOut, Out, PutError, StandardOut, asked_command, command_of, purpose_of,
+    report_usage,
+};

@@ -1,0 +1,58 @@
+//! Commands on one file, and a store with it.
+
+use std::alloc::{AllocError, Global};
+use std::test::Fail;
+use yq_args::Command;
+use yq_store::{MemoryStore, Store};
+
+/// What a command asks: an expression to be shown, with `-e`, or carried out in place, or another command.
+#[derive(Clone, Copy)]
+pub enum Asked {
+    Show(&'static str),
+    Edit(&'static str),
+    Undo,
+    Redo,
+    History,
+    Squash(u64),
+}
+
+/// The name of the file.
+pub const FILE: &str = "f";
+
+/// A command on the file and its journal.
+fn command(alloc: Global, asked: Asked) -> Result<Command, AllocError> {
+    let file = String::from_str(alloc, FILE)?;
+    let journal = String::from_str(alloc, "f.undo.json")?;
+    let (expr, in_place) = match asked {
+        Asked::Undo => return Ok(Command::Undo { file, journal }),
+        Asked::Redo => return Ok(Command::Redo { file, journal }),
+        Asked::History => return Ok(Command::History { file, journal }),
+        Asked::Squash(n) => return Ok(Command::Squash { n, file, journal }),
+        Asked::Show(expr) => (expr, false),
+        Asked::Edit(expr) => (expr, true),
+    };
+    Ok(Command::Eval {
+        expr: String::from_str(alloc, expr)?,
+        file,
+        journal,
+        in_place,
+        exit_status: !in_place,
+        no_doc: false,
+    })
+}
+
+/// The commands that ask this.
+pub fn commands(alloc: Global, all: &[Asked]) -> Result<Vec<Command>, AllocError> {
+    let mut commands = Vec::new(alloc);
+    'commands: for asked in all {
+        commands.push(command(alloc, *asked)?)?;
+    }
+    Ok(commands)
+}
+
+/// A store with the file.
+pub fn store_with_file(alloc: Global) -> Result<MemoryStore, Fail> {
+    let mut store = MemoryStore::new(alloc);
+    store.replace(FILE, b"n: 1\n")?;
+    Ok(store)
+}

@@ -1,0 +1,86 @@
+//! A list of several commands in one call: each is carried out behind those before it, with no call of the
+//! store more than it needs, also behind a refused one and behind a store and an output that failed.
+
+use crate::asked::{Asked, FILE, commands, store_with_file};
+use std::alloc::{AllocError, Global};
+use std::test::Fail;
+use yq_history::Fault;
+use yq_run::Answer::{Done, NoMatch, Refused};
+use yq_run::{Answer, MemoryOut, run_list};
+use yq_store::{Left, MemoryStore};
+
+/// The commands. The calls of the store that each makes: the file and the journal are read by a call each, but
+/// for what is shown, which reads the file alone; an edit, an undo and a redo write the journal twice and the
+/// file once, where its bytes change; a squash of two writes the journal, and one of one nothing.
+static LIST: [Asked; 16] = [
+    Asked::Show(".n"), // 1
+    Asked::Edit(".n = 1"), // 2
+    Asked::Edit(".n = 2"), // 5
+    Asked::Squash(1), // 2
+    Asked::Edit(".n.m = 3"), // 2
+    Asked::Edit(".n = 1"), // 5
+    Asked::Redo, // 2
+    Asked::Squash(2), // 3
+    Asked::History, // 2
+    Asked::Show(".m"), // 1
+    Asked::Undo, // 3
+    Asked::Redo, // 3
+    Asked::Show(".n = 4"), // 1
+    Asked::Edit(".n = 3"), // 4, the last of which fails
+    Asked::Show(".n"), // 1
+    Asked::Undo, // 5
+];
+
+/// The calls of the store that the list makes.
+const CALLS: u64 = 42;
+
+/// The first call that writes the file in the last edit.
+const FAILING: u64 = 36;
+
+const PRINTED: &str = "1\n1 done \".n = 2 | .n = 1\"\nnull\n3\n";
+
+/// The answers to the list.
+fn wanted() -> [Answer; 16] {
+    [
+        Done,
+        Done,
+        Done,
+        Done,
+        Refused(Fault::NotAMap),
+        Done,
+        Refused(Fault::NothingToRedo),
+        Done,
+        Done,
+        NoMatch,
+        Done,
+        Done,
+        Refused(Fault::OutFailed),
+        Refused(Fault::WriteFailed),
+        Done,
+        Done,
+    ]
+}
+
+/// Whether the list is answered so.
+fn is_answered(
+    alloc: Global,
+    store: &mut MemoryStore,
+    out: &mut MemoryOut,
+) -> Result<bool, AllocError> {
+    let commands = commands(alloc, &LIST)?;
+    let answers = run_list(alloc, store, out, &commands)?;
+    Ok(answers.as_slice() == wanted().as_slice())
+}
+
+#[test]
+fn go_on(rt: HostRuntime) -> Result<(), Fail> {
+    let alloc = rt.alloc();
+    let mut store = store_with_file(alloc)?;
+    let mut out = MemoryOut::new(alloc);
+    store.fail_at(FAILING, Left::NewBytes);
+    out.fail_at(4);
+    assert!(rt; is_answered(alloc, &mut store, &mut out)?);
+    assert!(rt; out.bytes() == PRINTED.as_bytes());
+    assert_eq!(rt; store.calls(), CALLS);
+    Ok(())
+}

@@ -1,6 +1,0 @@
-use Rattle.std.proofs.Common.{◌≡◌, length, map, take}
-use Rattle.yq_nodes.specs.Entries.{tree_step}
-use Rattle.yq_runs.proofs.together.are_same_steps.Given as goal
-
-abbrev pub invariant-steps : goal.invariant-steps
-invariant-steps l = (length l.some ≡ length l.others) × (map tree_step (take l.i l.some) ≡ map tree_step (take l.i l.others))

@@ -1,0 +1,53 @@
+use Rattle.std.proofs.Common.{arith, ◌≡◌, ◌+◌, drop, true, ℕ, List, ◌∙◌, sym}
+use Rattle.yq_core.specs.Plain.{ends_plain}
+use Rattle.yq_core.proofs.Across.{rest_length, across_bounds, across_some, across_upto, plain_stop, plain_colon, plain_next}
+use Rattle.yq_core.proofs.PlainRuns.{run_behind}
+use Rattle.yq_core.proofs.Upto.{upto_le_length}
+use Rattle.yq_scalar_reader.proofs.plain.plain_len.Goals as goal
+
+pub overflow_add-n-in-Some : goal.overflow_add-n-in-Some
+overflow_add-n-in-Some c = omega (arith, across_bounds c.args.flow c.args.spaces true c.split_at.result.1.now c.in-Some.k (sym c.across.ensures ∙ c.in-Some.is), c.run_len-run.ensures.within, c.split_at.ensures.back_len, c.each.invariant.within)
+
+pub split_at-requires-in-Some : goal.split_at-requires-in-Some
+split_at-requires-in-Some c = across_bounds c.args.flow c.args.spaces true c.split_at.result.1.now c.in-Some.k (sym c.across.ensures ∙ c.in-Some.is)
+
+pub each-smaller-in-Some : goal.each-smaller-in-Some
+each-smaller-in-Some c =
+    let pos = across_some c.args.flow c.args.spaces c.split_at.result.1.now c.in-Some.k (sym c.is_space.ensures ∙ c.if-is_space.true) (sym c.across.ensures ∙ c.in-Some.is) in
+    omega (arith, pos, c.split_at.ensures.back_len, c.split_at-in-Some.ensures.back_len, c.in-len1-up.len_at_least)
+
+pub each-preserved-in-Some : goal.each-preserved-in-Some
+each-preserved-in-Some c =
+    let s : List ℕ = c.split_at.result.1.now in
+    let k = c.in-Some.k in
+    let le = across_bounds c.args.flow c.args.spaces true s k (sym c.across.ensures ∙ c.in-Some.is) in
+    let on = across_upto c.args.flow c.args.spaces s k (sym c.across.ensures ∙ c.in-Some.is) in
+    let run = run_behind c.args.flow c.args.spaces c.each.rest.now s c.each.n c.run_len-run.result _ c.run_len-run.ensures.value c.split_at.ensures.back c.each.invariant.so_far in
+    let back : c.split_at-in-Some.result.1.now ≡ drop k s = c.split_at-in-Some.ensures.back in
+    record {
+      within = omega (arith, le, c.run_len-run.ensures.within, c.split_at.ensures.back_len, c.split_at-in-Some.ensures.back_len, c.each.invariant.within);
+      so_far = rw back (omega (arith, on, run));
+    }
+
+pub returns-in_default-across : goal.returns-in_default-across
+returns-in_default-across c =
+    let run = run_behind c.args.flow c.args.spaces c.each.rest.now c.split_at.result.1.now c.each.n c.run_len-run.result _ c.run_len-run.ensures.value c.split_at.ensures.back c.each.invariant.so_far in
+    omega (arith, run, plain_stop c.args.flow c.args.spaces c.split_at.result.1.now (sym c.is_space.ensures ∙ c.if-is_space.true) (sym c.across.ensures ∙ c.in_default-across.is))
+
+pub returns-then-ends_text : goal.returns-then-ends_text
+returns-then-ends_text c =
+    let run = run_behind c.args.flow c.args.spaces c.each.rest.now c.split_at.result.1.now c.each.n c.run_len-run.result _ c.run_len-run.ensures.value c.split_at.ensures.back c.each.invariant.so_far in
+    omega (arith, run, plain_colon c.args.flow c.args.spaces c.split_at.result.1.now (sym c.is_space.ensures ∙ c.if-is_space.false) (sym c.ends_text.ensures ∙ c.if-ends_text.true))
+
+pub each-preserved : goal.each-preserved
+each-preserved c =
+    let run = run_behind c.args.flow c.args.spaces c.each.rest.now c.split_at.result.1.now c.each.n c.run_len-run.result _ c.run_len-run.ensures.value c.split_at.ensures.back c.each.invariant.so_far in
+    record {
+      within = rest_length (c.each.n + c.run_len-run.result) c.split_at.result.1.now _ c.in-len1-up.len_at_least (omega (arith, c.run_len-run.ensures.within, c.split_at.ensures.back_len, c.each.invariant.within));
+      so_far = omega (arith, run, plain_next c.args.flow c.args.spaces c.split_at.result.1.now c.in-len1-up.len_at_least (sym c.is_space.ensures ∙ c.if-is_space.false) (sym c.ends_text.ensures ∙ c.if-ends_text.false));
+    }
+
+pub returns-in_default : goal.returns-in_default
+returns-in_default c =
+    let run = run_behind c.args.flow c.args.spaces c.each.rest.now c.split_at.result.1.now c.each.n c.run_len-run.result _ c.run_len-run.ensures.value c.split_at.ensures.back c.each.invariant.so_far in
+    omega (arith, run, upto_le_length (ends_plain c.args.flow c.args.spaces) c.split_at.result.1.now, c.in_default.len_below)

@@ -1,0 +1,13 @@
+use Rattle.std.proofs.Common.{sym, ap, ◌∙◌}
+use Rattle.yq_core.specs.QuotedReading.{hex}
+use Rattle.yq_core.proofs.EscapeLaws.{hex_none, hex_some, hex_within}
+use Rattle.yq_scalar_reader.proofs.quoted.hex_four.Goals as goal
+
+pub split_at-requires : goal.split_at-requires
+split_at-requires c = hex_within 2 c.args.front c.in_ok-high.high c.args.text.now (sym c.in_ok-high.ensures.value)
+
+pub returns-in_err-high : goal.returns-in_err-high
+returns-in_err-high c = c.from_residual.ensures ∙ sym (hex_none 2 c.args.front c.args.text.now (sym c.in_err-high.ensures.value))
+
+pub returns : goal.returns
+returns c = c.hex_two-2.ensures.value ∙ (ap (hex 2 c.in_ok-high.high) c.split_at.ensures.back ∙ sym (hex_some 2 c.args.front c.in_ok-high.high c.args.text.now (sym c.in_ok-high.ensures.value)))

@@ -1,0 +1,43 @@
+use Rattle.std.proofs.Common.{◌++◌, ℕ, List, [], ap, ◌∙◌, bytes_eq}
+use Rattle.yq_core.specs.ContentReading.{content_on, before_of, within}
+use Rattle.yq_scalar_reader.specs.Folded.{folded_text}
+use Rattle.yq_core.specs.Plain.{no_gap}
+use Rattle.yq_core.specs.Text.{is_space}
+use Rattle.yq_core.proofs.FoldLaws.{content_next, gap_next, space_ends}
+use Rattle.yq_core.proofs.ItemLaws.{cut_within, shorter_still}
+use Rattle.yq_scalar_reader.proofs.SameContentLaws.{same_behind, other_front}
+use Rattle.yq_scalar_reader.proofs.same_content.strip_next.Goals as goal
+
+pub fold_item-item-requires : goal.fold_item-item-requires
+fold_item-item-requires c =
+    ap is_space (ap (λ (y : List ℕ × List ℕ). y.1) c.split_space.ensures) ∙ space_ends c.args.text.now
+
+pub returns-in_err-behind-clause-same : goal.returns-in_err-behind-clause-same
+returns-in_err-behind-clause-same c =
+    let gap : List ℕ = folded_text c.fold_gap.result in
+    let tail : List ℕ = content_on c.args.quote 0 within [] c.split_space.result.1.now in
+    rw c.from_residual.ensures (ap (λ l. bytes_eq l c.args.wanted.now) (gap_next c.args.quote c.args.joined c.args.text.now _ _ gap c.split_space.ensures c.fold_gap.ensures)
+    ∙ other_front gap tail c.args.wanted.now c.in_err-behind.ensures)
+
+pub returns-in_err-left-clause-same : goal.returns-in_err-left-clause-same
+returns-in_err-left-clause-same c =
+    let gap : List ℕ = folded_text c.fold_gap.result in
+    let front : List ℕ = folded_text c.fold_item-item.result.folded in
+    let tail : List ℕ = content_on c.args.quote 0 (before_of c.fold_item-item.result.joined) [] c.fold_item-item.result.rest.now in
+    rw c.from_residual-in_err-left.ensures (ap (λ l. bytes_eq l c.args.wanted.now) (content_next c.args.quote c.args.joined c.fold_item-item.result.joined c.args.text.now _ _ _ gap front c.split_space.ensures c.fold_gap.ensures c.fold_item-item.ensures.value)
+    ∙ (same_behind gap (front ++ tail) c.args.wanted.now _ c.in_ok-behind.ensures
+    ∙ other_front front tail _ c.in_err-left.ensures))
+
+pub returns-clause-same : goal.returns-clause-same
+returns-clause-same c =
+    let gap : List ℕ = folded_text c.fold_gap.result in
+    let front : List ℕ = folded_text c.fold_item-item.result.folded in
+    let tail : List ℕ = content_on c.args.quote 0 (before_of c.fold_item-item.result.joined) [] c.fold_item-item.result.rest.now in
+    ap (λ l. bytes_eq l c.args.wanted.now) (content_next c.args.quote c.args.joined c.fold_item-item.result.joined c.args.text.now _ _ _ gap front c.split_space.ensures c.fold_gap.ensures c.fold_item-item.ensures.value)
+    ∙ (same_behind gap (front ++ tail) c.args.wanted.now _ c.in_ok-behind.ensures
+    ∙ same_behind front tail _ _ c.in_ok-left.ensures)
+
+pub returns-clause-shorter : goal.returns-clause-shorter
+returns-clause-shorter c = λ some.
+    let within = cut_within no_gap c.args.text.now _ (ap (λ (y : List ℕ × List ℕ). y.1) c.split_space.ensures) in
+    shorter_still _ _ _ within c.fold_item-item.ensures.within c.fold_item-item.ensures.shorter some

@@ -1,0 +1,28 @@
+-- What bytes of a plain or quoted scalar stand for, one part after the other (own).
+use Rattle.std.specs.Prelude.{◌≡◌, ◌≢◌, ℕ, List, ◌++◌, Bool, false, replicate, encode_utf8, Option, MatchOption}
+use Rattle.std.specs.Str.{bytes_eq}
+use denote.Bor.{Bor}
+use Rattle.yq_scalar_reader.specs.declared.folded.Folded.{Folded}
+use Rattle.yq_scalar_reader.specs.declared.folded.Folded.TheVariants as folded
+use Rattle.yq_core.specs.ContentReading.{content_behind}
+use Rattle.yq_core.specs.Text.{feed}
+
+-- the text that bytes of a scalar stand for (own)
+abbrev pub folded_text : Folded → List ℕ
+folded_text (folded.Text t) = t.now
+folded_text (folded.Char c) = encode_utf8 c
+folded_text (folded.Breaks n) = replicate n feed
+
+-- the text without what it begins with, or nothing where it doesn't begin so (own)
+abbrev pub StripsText : List ℕ → List ℕ → Option (Bor (List ℕ)) → Type 0
+StripsText p t r = MatchOption r ((rest : List ℕ) → t ≢ p ++ rest) (λ x. t ≡ p ++ x.now)
+
+-- the rest of a scalar in these quotes, perhaps behind a joined line, stands for this content (own)
+abbrev pub stands_for : ℕ → Bool → List ℕ → List ℕ → Bool
+stands_for quote joined text content = bytes_eq (content_behind quote joined text) content
+
+-- Content and text less what the text begins with: the text stands for the content exactly where one rest does for the other; nothing where it doesn't (own).
+abbrev pub StripsItem : ℕ → Bool → List ℕ → List ℕ → Option (Bor (List ℕ) × Bor (List ℕ) × Bool) → Type 0
+StripsItem quote joined text content r =
+    MatchOption r (stands_for quote joined text content ≡ false)
+    (λ x. stands_for quote joined text content ≡ stands_for quote x.2 x.1.now x.0.now)

@@ -1,0 +1,18 @@
+-- What plain, single-quoted and literal scalars hold as it is (own; a reader may skip it: only clauses inside this crate cite it).
+use Rattle.std.specs.Prelude.{ℕ, Bool, false, ◌&&◌, not, List, [], ◌∷◌}
+use Rattle.yq_scalar_reader.specs.declared.plain_text.Holder.{Holder}
+use Rattle.yq_scalar_reader.specs.declared.plain_text.Holder.TheVariants as holders
+use Rattle.yq_core.specs.PlainText.{is_plain_char}
+use Rattle.yq_core.specs.Text.{is_feed, is_white}
+use Rattle.yq_core.specs.Writable.{is_single_char, is_literal_char}
+
+-- a character that stands there as it is (own)
+abbrev pub stands_for_itself : Holder → ℕ → Bool
+stands_for_itself holders.Plain c = is_plain_char c
+stands_for_itself holders.Single c = is_single_char c
+stands_for_itself holders.Literal c = is_literal_char c
+
+-- neither white space, an LF nor the end is in front (own)
+abbrev pub begins_literally : List ℕ → Bool
+begins_literally [] = false
+begins_literally (b ∷ bs) = not (is_white b) && not (is_feed b)

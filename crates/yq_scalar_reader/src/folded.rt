@@ -1,0 +1,207 @@
+//! What white space, breaks, escapes and other bytes of plain and quoted scalars stand for (YAML 1.2.2, sections 5.7, 6.5 and 7.3).
+ghost use Rattle.std.specs.Prelude.{◌≡◌, ◌++◌, ◌<◌, ◌≤◌, [], length, true, false};
+ghost use Rattle.yq_core.specs.ContentReading as spec;
+ghost use Rattle.yq_scalar_reader.specs.Folded.{folded_text};
+ghost use Rattle.yq_core.specs.Plain.{no_gap};
+ghost use Rattle.yq_core.specs.Text.{upto, cut, is_space};
+ghost use Rattle.yq_core.specs.Quoted.{IsQuotedText};
+
+use crate::quoted::escape;
+use yq_core::text::{is_break, is_space};
+
+/// What bytes of a plain or quoted scalar stand for.
+#[derive(Clone, Copy)]
+pub enum Folded<'t> {
+    /// That text.
+    Text(&'t str),
+    /// The character of an escape.
+    Char(char),
+    /// So many LFs.
+    Breaks(usize),
+}
+
+/// A run of bytes that stand for themselves, two single quotes, or an escape.
+#[derive(Clone, Copy)]
+pub struct Item<'t> {
+    pub folded: Folded<'t>,
+    /// What follows it.
+    pub rest: &'t str,
+    /// Whether it is an escaped break.
+    pub joined: bool,
+}
+
+/// How many bytes of white space and breaks are in front.
+fn space_len(text: &[u8]) -> usize
+    ensures { result ≡ upto no_gap text.now }
+{
+    let mut n = 0;
+    let mut rest = text;
+    'each: while let [_, after @ ..] = rest {
+        if !is_space(rest) {
+            return n;
+        }
+        n += 1;
+        rest = after;
+    }
+    n
+}
+
+/// How many breaks there are among white space and breaks.
+fn breaks(text: &[u8]) -> usize
+    ensures { result ≡ spec.breaks text.now }
+{
+    let mut n = 0;
+    let mut rest = text;
+    'each: while let [first, after @ ..] = rest {
+        if *first == b'\n' {
+            n += 1;
+            rest = after;
+        } else {
+            rest = after;
+        }
+    }
+    n
+}
+
+/// What white space and breaks stand for, behind an escaped break or not.
+pub fn fold_gap<'t>(joined: bool, space: &'t str) -> Folded<'t>
+    ensures { folded_text result ≡ spec.space_text joined space.now }
+{
+    let count = breaks(space.as_bytes());
+    if joined {
+        return Folded::Breaks(count);
+    }
+    match count {
+        0 => Folded::Text(space),
+        1 => Folded::Text(" "),
+        _ => Folded::Breaks(count - 1),
+    }
+}
+
+/// The white space and breaks in front, and what follows them.
+pub fn split_space(text: &str) -> (&str, &str)
+    ensures { (result.0.now, result.1.now) ≡ cut no_gap text.now }
+{
+    text.split_at(space_len(text.as_bytes()))
+}
+
+/// Whether two quotes are in front, in single quotes.
+fn is_pair(quote: u8, text: &[u8]) -> bool
+    ensures { result ≡ spec.is_pair quote text.now }
+{
+    quote == b'\'' && matches!(text, [b'\'', b'\'', ..])
+}
+
+/// Whether a backslash is in front, in double quotes.
+fn is_slash(quote: u8, text: &[u8]) -> bool
+    ensures { result ≡ spec.is_slash quote text.now }
+{
+    quote == b'"' && matches!(text, [b'\\', ..])
+}
+
+fn ends_run(quote: u8, text: &[u8]) -> bool
+    ensures { result ≡ spec.ends_run quote text.now }
+{
+    text.is_empty() || is_space(text) || is_pair(quote, text) || is_slash(quote, text)
+}
+
+/// How many bytes in front stand for themselves.
+fn run_len(quote: u8, text: &[u8]) -> usize
+    ensures { result ≡ upto (spec.ends_run quote) text.now }
+{
+    let mut n = 0;
+    let mut rest = text;
+    'each: while let [_, after @ ..] = rest {
+        if ends_run(quote, rest) {
+            return n;
+        }
+        n += 1;
+        rest = after;
+    }
+    n
+}
+
+fn split_run(quote: u8, text: &str) -> (&str, &str)
+    ensures { (result.0.now, result.1.now) ≡ cut (spec.ends_run quote) text.now }
+{
+    text.split_at(run_len(quote, text.as_bytes()))
+}
+
+/// How long the break in front is, in bytes.
+fn break_len(text: &[u8]) -> usize
+    ensures { result ≡ spec.break_len text.now }
+{
+    match text {
+        [] => 0,
+        [first, ..] => { if *first == b'\n' { 1 } else { 2 } }
+    }
+}
+
+/// The escape in front.
+fn fold_escape<'t>(text: &'t str) -> Item<'t>
+    requires { spec.is_slash 34 text.now ≡ true }
+    ensures value { spec.content_on 34 0 spec.within [] text.now ≡
+        folded_text result.folded ++ spec.content_behind 34 result.joined result.rest.now }
+    ensures shorter { length result.rest.now < length text.now }
+{
+    let behind = text.split_at(1).1;
+    if is_break(behind.as_bytes()) {
+        let rest = behind.split_at(break_len(behind.as_bytes())).1;
+        return Item {
+            folded: Folded::Text(""),
+            rest,
+            joined: true,
+        };
+    }
+    match escape(behind.as_bytes()) {
+        None => Item {
+            folded: Folded::Text(""),
+            rest: behind,
+            joined: false,
+        },
+        Some((c, length)) => {
+            let rest = behind.split_at(length).1;
+            Item {
+                folded: Folded::Char(c),
+                rest,
+                joined: false,
+            }
+        }
+    }
+}
+
+/// The item in front, where no white space or break is.
+pub fn fold_item<'t>(quote: u8, text: &'t str) -> Item<'t>
+    requires { is_space text.now ≡ false }
+    ensures value { spec.content_on quote 0 spec.within [] text.now ≡
+        folded_text result.folded ++ spec.content_behind quote result.joined result.rest.now }
+    ensures within { length result.rest.now ≤ length text.now }
+    ensures shorter { 0 < length text.now → length result.rest.now < length text.now }
+{
+    if is_slash(quote, text.as_bytes()) {
+        return fold_escape(text);
+    }
+    if is_pair(quote, text.as_bytes()) {
+        return Item {
+            folded: Folded::Text("'"),
+            rest: text.split_at(2).1,
+            joined: false,
+        };
+    }
+    let (run, rest) = split_run(quote, text);
+    Item {
+        folded: Folded::Text(run),
+        rest,
+        joined: false,
+    }
+}
+
+/// The quote of a quoted scalar, and what stands between its quotes.
+pub fn inside(piece: &str) -> (u8, &str)
+    requires { IsQuotedText piece.now }
+    ensures { spec.quoted_text result.0 result.1.now ≡ spec.quoted_content piece.now }
+{
+    let quote = piece.as_bytes()[0];
+    let inner = piece.split_at(1).1;
+    (quote, inner.split_at(inner.len() - 1).0)
+}

@@ -1,0 +1,87 @@
+//! What plain and quoted scalars stand for (YAML 1.2.2, sections 5.7, 6.5 and 7.3).
+ghost use Rattle.std.specs.Prelude.{◌≡◌, ◌++◌, ◌<◌, ◌≤◌, ℕ, List, length, OnOk, IfOk, string_bytes};
+ghost use Rattle.yq_core.specs.ContentReading as spec;
+ghost use Rattle.yq_scalar_reader.specs.Folded.{folded_text};
+ghost use Rattle.yq_core.specs.PlainContent.{IsPlainLines};
+ghost use Rattle.yq_core.specs.Quoted.{QuotedLines, IsQuoted, IsQuotedText, quoted_lines_content};
+
+use crate::folded::{Folded, fold_gap, fold_item, inside, split_space};
+use crate::pushing::push_breaks;
+use std::alloc::{AllocError, Global};
+
+/// Adds what bytes stand for.
+fn push_folded(out: &mut String, folded: Folded<'_>) -> Result<(), AllocError>
+    ensures { OnOk result (string_bytes out.new ≡ string_bytes out.old ++ folded_text folded.entry) }
+{
+    match folded {
+        Folded::Text(text) => out.push_str(text),
+        Folded::Char(c) => out.push(c),
+        Folded::Breaks(count) => push_breaks(out, count),
+    }
+}
+
+/// Adds what white space, breaks and the item behind them stand for, and gives what follows, and
+/// whether that is a joined line.
+fn push_next<'a>(
+    out: &mut String,
+    quote: u8,
+    joined: bool,
+    text: &'a str,
+) -> Result<(&'a str, bool), AllocError>
+    ensures value { IfOk result (λ x. string_bytes out.new ++ spec.content_behind quote x.1 x.0.now
+        ≡ string_bytes out.old ++ spec.content_behind quote joined text.now) }
+    ensures shorter { IfOk result (λ x. 0 < length text.now → length x.0.now < length text.now) }
+{
+    let (space, next) = split_space(text);
+    push_folded(out, fold_gap(joined, space))?;
+    let item = fold_item(quote, next);
+    push_folded(out, item.folded)?;
+    Ok((item.rest, item.joined))
+}
+
+/// How many bytes what stands in these quotes, or in none, may stand for: in double quotes an escape of
+/// two bytes stands for three at most.
+fn content_room(quote: u8, len: usize) -> usize
+    ensures { len ≤ result }
+{
+    if quote == b'"' {
+        len.saturating_add(len / 2)
+    } else {
+        len
+    }
+}
+
+/// The content of what stands in these quotes, or in none.
+fn fold(alloc: Global, quote: u8, text: &str) -> Result<String, AllocError>
+    ensures { IfOk result (λ s. string_bytes s ≡ spec.quoted_text quote text.now) }
+{
+    let mut out = String::with_capacity(alloc, content_room(quote, text.len()))?;
+    let mut joined = false;
+    let mut rest = text;
+    'each: while !rest.is_empty() {
+        let (next, is_joined) = push_next(&mut out, quote, joined, rest)?;
+        rest = next;
+        joined = is_joined;
+    }
+    Ok(out)
+}
+
+/// What a plain scalar of that text stands for: its lines, folded.
+pub fn plain_content(alloc: Global, text: &str) -> Result<String, AllocError>
+    ensures exact { IfOk result (λ s. string_bytes s ≡ spec.plain_content text.now) }
+    ensures found { (ls : QuotedLines) → IsPlainLines ls text.now →
+        IfOk result (λ s. string_bytes s ≡ quoted_lines_content ls) }
+{
+    fold(alloc, 0, text)
+}
+
+/// What a quoted scalar, given with its quotes, stands for: its escapes and lines, folded.
+pub fn quoted_content(alloc: Global, piece: &str) -> Result<String, AllocError>
+    requires { IsQuotedText piece.now }
+    ensures exact { IfOk result (λ s. string_bytes s ≡ spec.quoted_content piece.now) }
+    ensures found { (quote : ℕ) (ls : QuotedLines) (rest : List ℕ) → IsQuoted quote ls piece.now rest →
+        IfOk result (λ s. string_bytes s ≡ quoted_lines_content ls) }
+{
+    let (quote, inner) = inside(piece);
+    fold(alloc, quote, inner)
+}

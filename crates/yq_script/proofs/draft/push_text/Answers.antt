@@ -1,5 +1,0 @@
-use Rattle.yq_script.proofs.DraftLaws.{nothing_more}
-use Rattle.yq_script.proofs.draft.push_text.Goals as goal
-
-pub returns-then-is_empty : goal.returns-then-is_empty
-returns-then-is_empty c = nothing_more _ c.args.more.now _ c.is_empty.ensures c.if-is_empty.true

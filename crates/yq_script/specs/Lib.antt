@@ -1,5 +1,0 @@
-pub mod Splice
-pub mod Script
-pub mod Segments
-pub mod Exchanging
-pub mod Changing

@@ -1,3 +1,0 @@
-pub mod PushedLaws
-pub mod AboveLaws
-pub mod RowKeptLaws

@@ -1,0 +1,10 @@
+pub mod Lists
+pub mod Literals
+pub mod ValueMaps
+pub mod PathLaws
+pub mod JudgementLaws
+pub mod GoodPlaces
+pub mod ChildPlaces
+pub mod RoomLaws
+pub mod MatchTrees
+pub mod updates

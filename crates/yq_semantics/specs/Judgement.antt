@@ -1,0 +1,25 @@
+-- What comes of a program.
+use Rattle.std.specs.Prelude.{◌≡◌, Result, Ok, Err}
+use Rattle.yq_semantics.specs.declared.expr_error.ExprError.{ExprError}
+use Rattle.yq_semantics.specs.declared.expr_error.ExprError.TheVariants as errors
+use Rattle.yq_semantics.specs.declared.refusal.Refusal.{Refusal}
+
+-- something, or a refusal (own)
+pub data Judgement (A : Type 0) : Type 0 where
+  gives : A → Judgement A
+  refuses : Refusal → Judgement A
+
+-- what comes of the second step, on what the first one gave (own)
+abbrev pub and_then : {A B : Type 0} → (A → Judgement B) → Judgement A → Judgement B
+and_then f (gives x) = f x
+and_then f (refuses why) = refuses why
+
+-- what an error says of what comes of something: the refusal; want of memory says nothing (own)
+abbrev pub MatchFails : {Y : Type 0} → ExprError → Judgement Y → Type 0
+MatchFails (errors.Refused why) outcome = outcome ≡ refuses why
+MatchFails errors.Memory outcome = Unit {0}
+
+-- what matching or planning answers, as it is seen: what comes of something, or why nothing does (own)
+abbrev pub Judges : {X Y : Type 0} → (X → Y) → Result X ExprError → Judgement Y → Type 0
+Judges view (Ok x) outcome = outcome ≡ gives (view x)
+Judges view (Err e) outcome = MatchFails e outcome

@@ -1,0 +1,23 @@
+//! Programs: the language of expressions, and how it is read.
+//!
+//! What programs mean on documents, and the operations that carry updates out; laws of plans: that the
+//! operations of an update fit, and make what it means.
+#![tactic(auto)]
+
+mod expr_error;
+mod laws;
+mod op;
+mod program;
+mod refusal;
+
+pub use expr_error::ExprError;
+pub use laws::{
+    changes_apart, places_apart, plan_fits, plan_means, plan_refused, plan_rooms, rest_follows,
+    rooms_alike, rooms_ready,
+};
+pub use op::{Op, copied_steps};
+pub use program::{
+    Assignment, Comment, CommentPlace, Comparison, Condition, Operand, Operator, Program, Stage,
+    Step, Syntax, Term, Update, is_index, is_simple,
+};
+pub use refusal::Refusal;

@@ -1,4 +1,0 @@
-pub mod Following
-pub mod Reading
-pub mod Exchanging
-pub mod Dropping

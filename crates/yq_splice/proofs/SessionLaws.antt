@@ -1,0 +1,140 @@
+-- A text with its cut, which a session keeps, and what is borrowed of it.
+use Rattle.std.proofs.Common.{◌≡◌, ℕ, ◌-◌, Bool, true, false, cond, ltb, List, [], ◌∷◌, ◌++◌, length, take, drop, Some, refl, sym, ap, ◌∙◌, subst, arith, append-nil}
+use Rattle.std.proofs.lemmas.Bool.{le-ltb}
+use Rattle.std.proofs.lemmas.List.{length-take-le, take-append-drop}
+use Rattle.std.specs.Str.{IsCharBoundary, IsUtf8, is_utf8}
+use Rattle.yq_text.specs.Halves.{halves_text}
+use Rattle.yq_text.specs.Split.{Split, halves_joined}
+use Rattle.yq_text.specs.declared.halves.Halves.{Halves}
+use Rattle.yq_core.specs.declared.fault.ReadError.{ReadError}
+use Rattle.yq_core.specs.declared.fault.ReadError.TheVariants as reading
+use Rattle.yq_core.proofs.Bools.{guard_then}
+use Rattle.yq_row_table.specs.Grammar.{IsCut}
+use Rattle.yq_row_table.specs.Items.{Item, items_of_cut, items_text}
+use Rattle.yq_row_table.specs.Kept.{IsPlaced}
+use Rattle.yq_row_table.specs.Rows.{Cut}
+use Rattle.yq_row_table.specs.Touched.{TouchesOnly, in_back, in_front, item_text}
+use Rattle.yq_row_table.specs.View.{RowsView, rows_view}
+use Rattle.yq_row_table.specs.declared.places.Places.{Places}
+use Rattle.yq_row_table.proofs.PlacedLaws.{split_boundary}
+use Rattle.yq_documents.specs.Reading.{all_documents, documents, cut_of, read_at}
+use Rattle.yq_outline.specs.RowWalk.{AreKnown}
+use Rattle.yq_lookup.specs.RowWalk.{HasCut, StayKnown}
+use Rattle.yq_outline.specs.declared.line_position.KnownItems.{KnownItems}
+use Rattle.yq_lookup.proofs.ReadLaws.{text_takes, read_takes}
+use Rattle.yq_semantics.specs.Operations.{Operation}
+use Rattle.yq_text.specs.Changing.{IsChange}
+use Rattle.yq_text.specs.Script.{new_text}
+use Rattle.yq_text.specs.declared.changed.Changed.{Changed}
+use Rattle.yq_rows.specs.Following.{ArePlacesOf}
+use Rattle.yq_edit_laws.proofs.CutLaws.{cut_read, cut_same}
+use Rattle.yq_edit_laws.specs.Carried.{carry_one, carried}
+use Rattle.yq_edit_laws.specs.Edit.{gives, by_reading, exchange_edit}
+use Rattle.yq_splice.specs.Session.{HasPlaces, KnowsItems, NotOpened}
+use Rattle.yq_edit_laws.specs.Theorems.{HasReading}
+use Rattle.yq_edit_laws.specs.Valid.{segments_by}
+use Rattle.yq_edit_laws.proofs.TextFaults.{FailsToRead, text_unread}
+use Rattle.yq_edit_laws.proofs.UpdateLaws.{no_reading}
+
+-- ---- a text with its cut
+
+documents_sound : (t : List ℕ) (c : Cut) → read_at t ≡ Some c → all_documents c ≡ true
+unfolding read_at
+documents_sound t c is = (text_takes t c (guard_then (is_utf8 t) is).1).1
+
+has_cut : (t : List ℕ) (c : Cut) (s : RowsView) → read_at t ≡ Some c → s ≡ rows_view c → HasCut t s
+has_cut t c s is shows =
+    let same : c ≡ cut_of t = sym (cut_same t c is) in
+    record { cut = subst (IsCut t) same (cut_read t c is); rows = shows ∙ ap rows_view same; sound = ap all_documents (sym same) ∙ documents_sound t c is }
+
+-- ---- opened
+
+-- a text that is read, and one that isn't
+pub has_reading : (t : List ℕ) (c : Cut) → read_at t ≡ Some c → HasReading t
+has_reading t c is = (documents c, read_takes t c is)
+
+pub not_opened : (e : ReadError) (bytes t : List ℕ) → bytes ≡ t → IsUtf8 t → FailsToRead e bytes → NotOpened e t
+not_opened reading.Memory bytes t same utf8 h = tt
+not_opened (reading.Fault fault) bytes t same utf8 h = let k = text_unread bytes t fault same utf8 h in (no_reading t k.0, k.1)
+
+-- ---- its rows
+
+-- a text whose split was moved is the same
+pub moved_same : (t : List ℕ) (n : ℕ) (s : Split) → s.front ≡ take n t → s.back ≡ drop n t → halves_joined s ≡ t
+moved_same t n s front back = (λ i. front i ++ back i) ∙ take-append-drop n t
+
+-- those of a text that is as before
+pub places_stay : (t u : List ℕ) (p q : Places) (k : KnownItems) → u ≡ t → HasPlaces t p → KnowsItems t k → ArePlacesOf u q → HasPlaces u q × KnowsItems u k
+places_stay t u p q k same h knows placed =
+    let read : read_at u ≡ Some h.cut = ap read_at same ∙ h.read in
+    (record { cut = h.cut; read = read; placed = placed h.cut (cut_read u h.cut read) }, subst (λ (x : List ℕ). KnowsItems x k) (sym same) knows)
+
+module _ (t : List ℕ) (p : Places) (h : HasPlaces t p) where
+  -- their split is in the text
+  pub split_is : IsCharBoundary t p.split
+  split_is = split_boundary t h.cut p (cut_read t h.cut h.read) h.placed
+
+  -- borrowed on the halves of the text, which is split there
+  module _ (text : Halves) (borrowed : (text.front.now ≡ take p.split t) × (text.back.now ≡ drop p.split t)) where
+    pub whole_borrowed : halves_text text ≡ t
+    whole_borrowed = (λ i. borrowed.0 i ++ borrowed.1 i) ∙ take-append-drop p.split t
+
+    own_cut : (d : Cut) → IsCut t d → IsCut (halves_text text) d
+    own_cut d = subst (λ (x : List ℕ). IsCut x d) (sym whole_borrowed)
+
+    pub split_borrowed : length text.front.now ≡ p.split
+    split_borrowed = ap length borrowed.0 ∙ length-take-le p.split t split_is.0
+
+    pub places_borrowed : (c : Cut) × IsCut (halves_text text) c × IsPlaced p (rows_view c)
+    places_borrowed = (h.cut, own_cut h.cut (cut_read t h.cut h.read), h.placed)
+
+    module _ (r : RowsView) (shows : (c : Cut) → IsCut (halves_text text) c → r ≡ rows_view c) where
+      own : r ≡ rows_view h.cut
+      own = shows h.cut (own_cut h.cut (cut_read t h.cut h.read))
+
+      pub cut_borrowed : HasCut (halves_text text) r
+      cut_borrowed = subst (λ (x : List ℕ). HasCut x r) (sym whole_borrowed) (has_cut t h.cut r h.read own)
+
+      -- items that are known
+      pub known_borrowed : (k : KnownItems) → KnowsItems t k → AreKnown r.rows k
+      known_borrowed k is = subst (λ (x : RowsView). AreKnown x.rows k) (sym (own ∙ ap rows_view (sym (cut_same t h.cut h.read)))) is
+
+      -- and given back
+      pub places_back : (q : Places) → IsPlaced q r → HasPlaces t q
+      places_back q placed = record { cut = h.cut; read = h.read; placed = subst (IsPlaced q) own placed }
+
+-- ---- items that are known
+
+-- the items in front of an offset are the first ones
+front_part : (n : ℕ) (xs : List Item) → (ys : List Item) × (xs ≡ in_front n xs ++ ys)
+front_part n [] = ([], refl)
+front_part n (i ∷ xs) = go (front_part (n - length (item_text i)) xs) (ltb (length (item_text i)) n) refl
+  where
+    go : ((ys : List Item) × (xs ≡ in_front (n - length (item_text i)) xs ++ ys)) → (b : Bool) → ltb (length (item_text i)) n ≡ b → (ys : List Item) × (i ∷ xs ≡ in_front n (i ∷ xs) ++ ys)
+    go more true e = (more.0, ap (λ (l : List Item). i ∷ l) more.1 ∙ ap (λ (b : Bool). cond b (i ∷ in_front (n - length (item_text i)) xs) [] ++ more.0) (sym e))
+    go more false e = (i ∷ xs, ap (λ (b : Bool). cond b (i ∷ in_front (n - length (item_text i)) xs) [] ++ (i ∷ xs)) (sym e))
+
+none_behind : (xs : List Item) → in_back 0 xs ≡ []
+none_behind [] = refl
+none_behind (i ∷ xs) = rw (le-ltb (length (items_text (i ∷ xs) [])) 0 (omega arith)) (none_behind xs)
+
+touches_itself : (n : ℕ) (c : Cut) → TouchesOnly n 0 c c
+touches_itself n c =
+    let xs = items_of_cut c in
+    let rest = front_part n xs in
+    let all : xs ≡ in_front n xs ++ (rest.0 ++ in_back 0 xs) =
+    rest.1 ∙ ap (λ (l : List Item). in_front n xs ++ l) (sym (append-nil rest.0) ∙ ap (λ (l : List Item). rest.0 ++ l) (sym (none_behind xs))) in
+    record { touched = rest.0; written = rest.0; old_are = all; new_are = all; front_same = refl; back_same = refl }
+
+-- items that stay known are so in the text itself
+pub known_here : (n : ℕ) (t : List ℕ) (k : KnownItems) → StayKnown n (cut_of t) k → KnowsItems t k
+known_here n t k stay = stay (cut_of t) 0 (touches_itself n (cut_of t))
+
+-- ---- an operation on it
+
+-- what it comes to, by the cut of the text and by what it changes there
+pub carried_on : (op : Operation) (t x : List ℕ) (p : Places) → HasPlaces t p → x ≡ t → carry_one op (cut_of x) ≡ carried op t
+carried_on op t x p h same = ap (λ (y : List ℕ). carry_one op (cut_of y)) same ∙ (ap (carry_one op) (cut_same t h.cut h.read) ∙ sym (ap (by_reading (carry_one op)) h.read))
+
+pub carried_by : (op : Operation) (t : List ℕ) (p : Places) (x : Changed) → HasPlaces t p → IsChange (segments_by op (cut_of t)) x → carried op t ≡ gives (new_text (segments_by op (cut_of t))) x.splices.items
+carried_by op t p x h change = sym (carried_on op t t p h refl) ∙ ap exchange_edit change.exact

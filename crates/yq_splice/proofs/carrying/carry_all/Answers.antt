@@ -1,0 +1,42 @@
+use Rattle.std.proofs.Common.{ap, sym, ◌∙◌, subst, eqb-true, List, ℕ, arith}
+use Rattle.yq_edit_laws.specs.Answers.{Edits, EditFails}
+use Rattle.yq_edit_laws.specs.Edit.{edit_behind, gives}
+use Rattle.yq_edit_laws.proofs.OperationsLaws.{last_comes, others_come, others_served, first_fails, first_fits, none_come}
+use Rattle.std.proofs.lemmas.Result.{err_from_is_err_and}
+use Rattle.yq_semantics.specs.Operations.{operations_of}
+use Rattle.yq_edit_laws.specs.Carried.{carry_all}
+use Rattle.yq_edit_laws.specs.Valid.{AreServed}
+use Rattle.yq_splice.proofs.carrying.carry_all.Goals as goal
+
+pub operations-preserved : goal.operations-preserved
+operations-preserved c = record {
+  whole = others_come c.operations.rest.now c.op-item.result c.operations.session.text c.apply.new.self.text c.operations.splices.items c.in_ok-next.next.items c.append.new.self.items
+      c.in-len1-up.len_at_least c.op-item.is c.in_ok-next.ensures.ok c.in_ok-append.ensures.items ∙ c.operations.invariant.whole;
+  serves = others_served c.operations.rest.now c.op-item.result c.operations.session.text c.apply.new.self.text c.in_ok-next.next.items c.in-len1-up.len_at_least c.op-item.is c.operations.invariant.serves c.in_ok-next.ensures.done;
+}
+
+pub returns-then-is_empty : goal.returns-then-is_empty
+returns-then-is_empty c =
+    let last = last_comes c.operations.rest.now c.op-item.result c.operations.session.text c.in-len1-up.len_at_least c.op-item.is (eqb-true _ 0 (sym c.is_empty.ensures ∙ c.if-is_empty.true)) in
+    subst (Edits c.close_by.result) (ap (edit_behind c.operations.splices.items) last ∙ c.operations.invariant.whole) c.close_by.ensures
+
+pub operations-init : goal.operations-init
+operations-init c = record {
+  whole = ap (λ (t : List ℕ). edit_behind c.args.splices.items (carry_all (operations_of c.args.ops.now) t)) c.of-session.ensures;
+  serves = subst (AreServed (operations_of c.args.ops.now)) (sym c.of-session.ensures) c.requires.serves;
+}
+
+pub apply-requires : goal.apply-requires
+apply-requires c = first_fits c.operations.rest.now c.op-item.result c.operations.session.text c.in-len1-up.len_at_least c.op-item.is c.operations.invariant.serves
+
+pub returns-in_err-next : goal.returns-in_err-next
+returns-in_err-next c =
+    let p = err_from_is_err_and c.from_residual.result c.from_residual.ensures.1 in
+    rw (p.1, p.2)
+    (subst (EditFails c.in_err-next.field-0.0) c.operations.invariant.whole
+    (first_fails c.operations.rest.now c.op-item.result c.operations.session.text c.operations.splices.items c.in_err-next.field-0.0 c.in-len1-up.len_at_least c.op-item.is c.in_err-next.ensures.err))
+
+pub returns : goal.returns
+returns c =
+    sym c.operations.invariant.whole
+    ∙ (none_come c.operations.rest.now c.operations.session.text c.operations.splices.items (omega (arith, c.in_default.len_below)) ∙ ap (λ (t : List ℕ). gives t c.operations.splices.items) (sym c.close.ensures))

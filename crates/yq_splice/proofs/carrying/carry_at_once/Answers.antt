@@ -1,0 +1,25 @@
+use Rattle.std.proofs.Common.{◌≡◌, List, ◌<◌, ◌-◌, length, take, drop, length-take, sym, ap, ◌∙◌, subst, arith}
+use Rattle.std.proofs.lemmas.Result.{err_from_is_err_and}
+use Rattle.yq_semantics.specs.Operations.{operation_of}
+use Rattle.yq_edit_laws.specs.Answers.{EditFails}
+use Rattle.yq_edit_laws.specs.Carried.{carry_one}
+use Rattle.yq_edit_laws.specs.Edit.{by_reading}
+use Rattle.yq_edit_laws.proofs.OperationsLaws.{last_comes}
+use Rattle.yq_splice.proofs.carrying.carry_at_once.Goals as goal
+
+-- a sole operation is the last one
+sole : {A : Type 0} (os : List A) → length os < 2 → length (take (length os - 1) (drop 1 os)) ≡ 0
+sole os less = omega (arith, length-take (length os - 1) (drop 1 os), less)
+
+pub returns-in_err-edited-clause-err : goal.returns-in_err-edited-clause-err
+returns-in_err-edited-clause-err c =
+    let p = err_from_is_err_and c.from_residual.result c.from_residual.ensures.1 in
+    rw (p.1, p.2)
+    (subst (EditFails c.in_err-edited.field-0.0)
+    (sym (ap (by_reading (carry_one (operation_of c.op-item.result))) c.requires.read) ∙ last_comes c.args.ops.now c.op-item.result c.args.cut.now c.in-len1.len_at_least c.op-item.is (sole c.args.ops.now c.in-len1.len_below))
+    c.in_err-edited.ensures)
+
+pub returns-in-len1-clause-ok : goal.returns-in-len1-clause-ok
+returns-in-len1-clause-ok c =
+    sym (last_comes c.args.ops.now c.op-item.result c.args.cut.now c.in-len1.len_at_least c.op-item.is (sole c.args.ops.now c.in-len1.len_below))
+    ∙ (ap (by_reading (carry_one (operation_of c.op-item.result))) c.requires.read ∙ c.in_ok-edited.ensures)

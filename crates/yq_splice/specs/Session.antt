@@ -1,0 +1,65 @@
+-- What a session is known by, and what an operation applied to it adds to its count.
+use Rattle.std.specs.Prelude.{◌≡◌, ◌≢◌, ◌⊎◌, ⊤, ℕ, ◌+◌, ◌≤◌, List, [], length, Some}
+use Rattle.yq_core.specs.declared.fault.FaultKind.TheVariants.{NotUtf8}
+use Rattle.yq_core.specs.declared.fault.ReadError.{ReadError}
+use Rattle.yq_core.specs.declared.fault.ReadError.TheVariants as reading
+use Rattle.yq_row_table.specs.Kept.{IsPlaced}
+use Rattle.yq_row_table.specs.Meter.{count_after, line_count}
+use Rattle.yq_row_table.specs.Rows.{Cut}
+use Rattle.yq_row_table.specs.Touched.{TouchesOnly}
+use Rattle.yq_row_table.specs.View.{rows_view}
+use Rattle.yq_row_table.specs.declared.places.Places.{Places}
+use Rattle.yq_documents.specs.Reading.{cut_of, read_at}
+use Rattle.yq_outline.specs.RowWalk.{AreKnown}
+use Rattle.yq_outline.specs.declared.line_position.KnownItems.{KnownItems}
+use Rattle.yq_semantics.specs.Operations.{Operation}
+use Rattle.yq_text.specs.Script.{Segment, kept_front, kept_back, new_text}
+use Rattle.yq_text.specs.Splice.{Splice}
+use Rattle.yq_rows.specs.Following.{read_text}
+use Rattle.yq_rows.specs.declared.kept.Kept.{Kept}
+use Rattle.yq_edits.specs.Edits.{op_edits}
+use Rattle.yq_edit_laws.specs.TouchedRanges.{PutAreTouched}
+use Rattle.yq_edit_laws.specs.Theorems.{HasReading}
+
+-- What a session is known by: its text, and how many lines were counted (own).
+pub record SessionState : Type 0 where
+  pub text : List ℕ
+  pub scanned : ℕ
+
+-- A text reads, and these are the places of the rows of its cut and of the ends of its parts (own).
+pub record HasPlaces (t : List ℕ) (places : Places) : Type 0 where
+  pub cut : Cut
+  pub read : read_at t ≡ Some cut
+  pub placed : IsPlaced places (rows_view cut)
+
+-- items that are kept are known among the rows of a text (own)
+abbrev pub KnowsItems : List ℕ → KnownItems → Type 0
+KnowsItems t known = AreKnown (rows_view (cut_of t)).rows known
+
+-- why no session of a text is opened: it has no reading, or memory ran out (own)
+abbrev pub NotOpened : ReadError → List ℕ → Type 0
+NotOpened (reading.Fault fault) t = (¬ HasReading t) × (fault.kind ≢ NotUtf8)
+NotOpened reading.Memory t = ⊤
+
+-- The lines were counted that are read where an operation exchanges rows and ends of parts: of those that it wrote, in the place of those that its
+-- segments touch, without the line of a marker that stays; and no others. Each of those is touched by a range of what was put (own).
+pub record IsScanned (op : Operation) (t new : List ℕ) (before after : ℕ) : Type 0 where
+  pub cut : Cut
+  pub new_cut : Cut
+  pub segments : List Segment
+  pub read : read_at t ≡ Some cut
+  pub new_read : read_at new ≡ Some new_cut
+  pub exchanged : op_edits op cut ≡ Some segments
+  pub new_is : new ≡ new_text segments
+  pub kept : Kept
+  pub front : kept.front ≡ length (kept_front segments)
+  pub back : kept.back ≡ length (kept_back segments)
+  pub touches : TouchesOnly kept.front kept.back cut new_cut
+  pub each : PutAreTouched segments kept.front kept.back cut new_cut touches
+  pub exact : after ≡ count_after (line_count (read_text kept cut new_cut touches)) before
+  pub most : after ≤ before + line_count (read_text kept cut new_cut touches)
+
+-- what an operation adds to the count of lines: where it gives splices, those that it wrote; none, where all bytes stay (own)
+abbrev pub Scans : Operation → (t new : List ℕ) → List Splice → (before after : ℕ) → Type 0
+Scans op t new cs before after =
+    ((cs ≡ []) × (new ≡ t) × (after ≡ before)) ⊎ ((cs ≢ []) × IsScanned op t new before after)

@@ -1,0 +1,160 @@
+//! Carrying out: operations done on a text, one after the other.
+ghost use Rattle.std.specs.Prelude.{◌≡◌, ◌++◌, Some, IfErr, IfOk, IfSome, string_bytes};
+ghost use Rattle.yq_semantics.specs.Operations.{operation_of, operations_of};
+ghost use Rattle.yq_documents.specs.Reading.{cut_of, read_at};
+ghost use Rattle.yq_edit_laws.specs.Answers.{Edits, EditFails};
+ghost use Rattle.yq_edit_laws.specs.Carried as spec;
+ghost use Rattle.yq_edit_laws.specs.Edit.{edit_behind, gives};
+ghost use Rattle.yq_splice.specs.Session.{HasPlaces};
+ghost use Rattle.yq_edit_laws.specs.Theorems.{IsApplied, IsFitting, OpRefused};
+ghost use Rattle.yq_edit_laws.specs.Valid.{AreServed};
+
+use crate::session::Session;
+use std::alloc::{AllocError, Global};
+use yq_batch::{carry_in_rows, carry_together};
+use yq_edit_laws::{EditError, operand_holds};
+use yq_lookup::CutText;
+use yq_operation::carry_one;
+use yq_row_table::Places;
+use yq_semantics::Op;
+use yq_text::{Edited, Splice};
+use yq_tree::{Documents, read};
+
+/// An operation carried out on a text.
+fn carry(alloc: Global, text: &str, op: &Op) -> Result<Edited, EditError>
+    ensures { Edits result (spec.carried (operation_of op.now) text.now) }
+{
+    let documents = read(alloc, text.as_bytes())?;
+    carry_one(alloc, &documents.cut(), op)
+}
+
+/// Carries out an operation on a text that has a reading and whose documents
+/// it fits: the text reads as the documents after it, and each byte that the
+/// operation doesn't name stays as it is.
+///
+/// It is refused where the new text would be larger than 16,777,216 bytes
+/// ([`Refusal::TooLarge`](yq_semantics::Refusal::TooLarge)), and for no other reason but memory.
+pub fn apply_op(alloc: Global, text: &str, op: &Op) -> Result<Edited, EditError>
+    requires { IsFitting (operation_of op.now) text.now }
+    ensures exact { Edits result (spec.carried (operation_of op.now) text.now) }
+    ensures done { IfOk result (λ e. IsApplied (operation_of op.now) text.now (string_bytes e.text)
+        e.splices.items) }
+    ensures refused { IfErr result (λ e. OpRefused e (operation_of op.now) text.now) }
+{
+    operand_holds(op);
+    carry(alloc, text, op)
+}
+
+/// Operations carried out on a text, whose rows stand there; their splices come behind others. The rows
+/// follow each operation but the last one.
+pub(crate) fn carry_all(
+    alloc: Global,
+    text: String,
+    places: Places,
+    splices: Vec<Splice>,
+    ops: &[Op],
+) -> Result<Edited, EditError>
+    requires places { HasPlaces (string_bytes text) places }
+    requires serves { AreServed (operations_of ops.now) (string_bytes text) }
+    ensures { Edits result (edit_behind splices.items (spec.carry_all (operations_of ops.now)
+        (string_bytes text))) }
+{
+    let mut session = Session::of(alloc, text, places);
+    let mut splices = splices;
+    let mut rest = ops;
+    'operations: while let [op, after @ ..] = rest {
+        if after.is_empty() {
+            return session.close_by(op, splices);
+        }
+        let mut next = session.apply(op)?;
+        splices.append(&mut next)?;
+        rest = after;
+    }
+    Ok(Edited {
+        text: session.close(),
+        splices,
+    })
+}
+
+/// An edit whose splices come behind others.
+pub(crate) fn edited_behind(splices: Vec<Splice>, edited: Edited) -> Result<Edited, AllocError>
+    ensures { IfOk result (λ e. (e.text ≡ edited.text) ×
+        (e.splices.items ≡ splices.items ++ edited.splices.items)) }
+{
+    if splices.is_empty() {
+        return Ok(edited);
+    }
+    let Edited {
+        text,
+        splices: mut last,
+    } = edited;
+    let mut splices = splices;
+    splices.append(&mut last)?;
+    Ok(Edited { text, splices })
+}
+
+/// Operations carried out on a text with its cut, where no rows follow one of them: a sole one, values put in
+/// one flow collection, or operations that each change one row; nothing, where they are others.
+fn carry_at_once<'d>(
+    alloc: Global,
+    cut: &CutText<'d, '_>,
+    ops: &'d [Op],
+) -> Result<Option<Edited>, EditError>
+    requires read { read_at cut.now ≡ Some (cut_of cut.now) }
+    requires serves { AreServed (operations_of ops.now) cut.now }
+    ensures ok { IfOk result (λ o. IfSome o (λ e. spec.carry_all (operations_of ops.now) cut.now ≡
+        gives (string_bytes e.text) e.splices.items)) }
+    ensures err { IfErr result (λ e. EditFails e (spec.carry_all (operations_of ops.now)
+        cut.now)) }
+{
+    if let [op] = ops {
+        let edited = carry_one(alloc, cut, op)?;
+        return Ok(Some(edited));
+    }
+    let together = carry_together(alloc, cut, ops)?;
+    if together.is_some() {
+        return Ok(together);
+    }
+    carry_in_rows(alloc, cut, ops)
+}
+
+/// Operations carried out one by one on a copy of a text that was read; their splices come behind others.
+fn carry_each(
+    alloc: Global,
+    text: &str,
+    documents: Documents<'_>,
+    splices: Vec<Splice>,
+    ops: &[Op],
+) -> Result<Edited, EditError>
+    requires same { documents ≡ text.now }
+    requires read { read_at text.now ≡ Some (cut_of documents) }
+    requires serves { AreServed (operations_of ops.now) text.now }
+    ensures { Edits result (edit_behind splices.items (spec.carry_all (operations_of ops.now)
+        text.now)) }
+{
+    let places = documents.into_rows().into_places();
+    let kept = String::from_str(alloc, text)?;
+    carry_all(alloc, kept, places, splices, ops)
+}
+
+/// The operations of a plan carried out on a text that was read; their splices come behind others. For a
+/// sole one the text is not copied.
+pub fn carry_plan(
+    alloc: Global,
+    text: &str,
+    documents: Documents<'_>,
+    splices: Vec<Splice>,
+    ops: &[Op],
+) -> Result<Edited, EditError>
+    requires same { documents ≡ text.now }
+    requires read { read_at text.now ≡ Some (cut_of documents) }
+    requires serves { AreServed (operations_of ops.now) text.now }
+    ensures { Edits result (edit_behind splices.items (spec.carry_all (operations_of ops.now)
+        text.now)) }
+{
+    let at_once = carry_at_once(alloc, &documents.cut(), ops)?;
+    if let Some(edited) = at_once {
+        return Ok(edited_behind(splices, edited)?);
+    }
+    carry_each(alloc, text, documents, splices, ops)
+}

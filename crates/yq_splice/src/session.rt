@@ -1,0 +1,204 @@
+//! Sessions: operations applied to one text, whose rows are kept.
+ghost use Rattle.std.specs.Prelude.{◌≡◌, IfErr, IfOk, OnErr, string_bytes};
+ghost use Rattle.yq_documents.specs.Reading.{cut_of, read_at};
+ghost use Rattle.yq_semantics.specs.Operations.{operation_of};
+ghost use Rattle.yq_row_table.specs.Meter.{count_after, line_count};
+ghost use Rattle.yq_core.specs.Answers.{Gives};
+ghost use Rattle.yq_text.specs.Changing.{IsChange};
+ghost use Rattle.yq_text.specs.Halves.{halves_text};
+ghost use Rattle.yq_places.specs.RowWalk.{StayKnown};
+ghost use Rattle.yq_edit_laws.specs.Answers.{Edits, EditFails};
+ghost use Rattle.yq_edit_laws.specs.Carried.{carried};
+ghost use Rattle.yq_edit_laws.specs.Edit.{edit_behind, gives};
+ghost use Rattle.yq_splice.specs.Session.{HasPlaces, NotOpened, Scans};
+ghost use Rattle.yq_edit_laws.specs.Theorems.{HasReading, IsApplied, IsFitting, OpRefused};
+ghost use Rattle.yq_edit_laws.specs.Valid.{segments_by};
+
+use crate::carrying::edited_behind;
+use std::alloc::Global;
+use std::marker::Model;
+use std::mem;
+use yq_core::ReadError;
+use yq_edit_laws::{EditError, operand_holds};
+use yq_lookup::CutText;
+use yq_operation::{carry_one, change_one};
+use yq_outline::KnownItems;
+use yq_row_table::Places;
+use yq_rows::{Kept, Meter, count_lines, follow};
+use yq_semantics::Op;
+use yq_text::{Changed, Edited, Halves, Splice, SplitText};
+use yq_tree::read;
+
+/// A text that reads, kept with where its rows stand, both on two sides of where it was changed last: so that
+/// operations are applied to it one after the other, each passes what stands between its place and the last
+/// one's, and of the rows only those that it touches are read again. The way to the next one's place goes on
+/// from an item on the way of the last one.
+#[derive(Drop)]
+pub struct Session {
+    alloc: Global,
+    text: SplitText,
+    places: Places,
+    known: KnownItems,
+    meter: Meter,
+}
+
+impl Model for Session {
+    ghost use Rattle.yq_text.specs.Split.{halves_joined};
+    ghost use Rattle.yq_splice.specs.Session.{SessionState, HasPlaces, KnowsItems};
+
+    ghost Value = { SessionState };
+
+    ghost view = { λ s. record { text = halves_joined s.text; scanned = s.meter } };
+
+    ghost invariant = { λ s. HasPlaces (halves_joined s.text) s.places ×
+        KnowsItems (halves_joined s.text) s.known };
+}
+
+impl Session {
+    /// Begins with a text, whose lines are counted.
+    ///
+    /// # Errors
+    /// The text has no reading, or memory ran out.
+    pub fn open(alloc: Global, text: &str) -> Result<Session, ReadError>
+        ensures exact { Gives (λ s. cut_of s.text) result (read_at text.now) }
+        ensures text { IfOk result (λ s. (s.text ≡ text.now) × HasReading text.now) }
+        ensures scanned { IfOk result (λ s. s.scanned ≡ count_after (line_count text.now) 0) }
+        ensures refused { IfErr result (λ e. NotOpened e text.now) }
+    {
+        let documents = read(alloc, text.as_bytes())?;
+        let places = documents.into_rows().into_places();
+        let mut meter = Meter::new();
+        count_lines(text, &mut meter);
+        let text = SplitText::of(String::from_str(alloc, text)?);
+        Ok(Session {
+            alloc,
+            text,
+            places,
+            known: KnownItems::none(),
+            meter,
+        })
+    }
+
+    /// Begins with a text whose rows stand there, of which no line was counted.
+    pub(crate) fn of(alloc: Global, text: String, places: Places) -> Session
+        requires { HasPlaces (string_bytes text) places }
+        ensures { result.text ≡ string_bytes text }
+    {
+        Session {
+            alloc,
+            text: SplitText::of(text),
+            places,
+            known: KnownItems::none(),
+            meter: Meter::new(),
+        }
+    }
+
+    /// What an operation changes in the text, and what is known of its way behind it, from which the
+    /// next one may go on.
+    fn change(&mut self, op: &Op) -> Result<(Changed, KnownItems), EditError>
+        ensures same { self.new ≡ self.old }
+        ensures ok { IfOk result (λ x. IsChange (segments_by (operation_of op.now)
+            (cut_of self.old.text)) x.0) }
+        ensures known { IfOk result (λ x. StayKnown x.0.front (cut_of self.old.text) x.1) }
+        ensures err { IfErr result (λ e. EditFails e (carried (operation_of op.now) self.old.text)) }
+    {
+        let places = mem::replace(&mut self.places, Places::new(self.alloc));
+        self.text.move_split(places.split);
+        let text = self.text.halves();
+        let rows = places.rows(text);
+        let cut = CutText::resumed(text, &rows, self.known);
+        let changed = change_one(self.alloc, &cut, op);
+        self.places = rows.into_places();
+        changed
+    }
+
+    /// Applies an operation that fits the documents of the text. Each byte that it doesn't name stays as
+    /// it is, and of the rows and ends of parts those that it wrote are read, and their lines are counted.
+    ///
+    /// # Errors
+    /// It is refused where the new text would be larger than 16,777,216 bytes
+    /// ([`Refusal::TooLarge`](yq_semantics::Refusal::TooLarge)), and for no other reason but memory.
+    pub fn apply(&mut self, op: &Op) -> Result<Vec<Splice>, EditError>
+        requires { IsFitting (operation_of op.now) self.old.text }
+        // What the operation comes to by itself.
+        ensures ok { IfOk result (λ cs. carried (operation_of op.now) self.old.text ≡
+            gives self.new.text cs.items) }
+        ensures err { IfErr result (λ e. EditFails e (carried (operation_of op.now) self.old.text)) }
+        ensures done { IfOk result (λ cs.
+            IsApplied (operation_of op.now) self.old.text self.new.text cs.items) }
+        ensures refused { IfErr result (λ e. OpRefused e (operation_of op.now) self.old.text) }
+        // The lines of the rows and ends of parts that it wrote are counted, and no others; none, where no
+        // splice comes.
+        ensures scanned { IfOk result (λ cs. Scans (operation_of op.now) self.old.text self.new.text
+            cs.items self.old.scanned self.new.scanned) }
+        // What is refused leaves the session as it is.
+        ensures kept { OnErr result (self.new ≡ self.old) }
+    {
+        operand_holds(op);
+        let (changed, known) = self.change(op)?;
+        let Changed {
+            front,
+            back,
+            new,
+            splices,
+        } = changed;
+        if splices.is_empty() {
+            self.known = known;
+            return Ok(splices);
+        }
+        let kept = Kept { front, back };
+        let mut meter = self.meter;
+        follow(
+            self.alloc,
+            &mut self.text,
+            &mut self.places,
+            kept,
+            &new,
+            &mut meter,
+        )?;
+        self.known = known;
+        self.meter = meter;
+        Ok(splices)
+    }
+
+    /// The text as it stands, in the two halves in which it is kept: to lend it as one `&str` would move one
+    /// of them, which an operation behind that would have to move back.
+    pub fn text(&self) -> Halves<'_>
+        ensures text { halves_text result ≡ self.now.text }
+        ensures read { HasReading self.now.text }
+    {
+        self.text.halves()
+    }
+
+    /// How many lines were counted, up to the last value of a `u64`.
+    pub fn scanned(&self) -> u64
+        ensures { result ≡ self.now.scanned }
+    {
+        self.meter.count()
+    }
+
+    /// The text, where the session ends.
+    pub fn close(self) -> String
+        ensures { string_bytes result ≡ self.text }
+    {
+        self.text.into_string()
+    }
+
+    /// Ends the session by an operation, whose splices come behind others. The rows need not follow it.
+    pub(crate) fn close_by(self, op: &Op, splices: Vec<Splice>) -> Result<Edited, EditError>
+        ensures { Edits result (edit_behind splices.items (carried (operation_of op.now) self.text)) }
+    {
+        let Session {
+            alloc,
+            mut text,
+            places,
+            known,
+            ..
+        } = self;
+        text.move_split(places.split);
+        let halves = text.halves();
+        let rows = places.rows(halves);
+        let edited = carry_one(alloc, &CutText::resumed(halves, &rows, known), op)?;
+        Ok(edited_behind(splices, edited)?)
+    }
+}

@@ -1,0 +1,97 @@
+//! A text made anew of its segments.
+ghost use Rattle.std.specs.Prelude.{◌≡◌, ◌+◌, ◌<◌, ◌^◌, ◌++◌, ◌∷◌, List, length};
+ghost use Rattle.yq_text.specs.Halves.{halves_text};
+ghost use Rattle.yq_text.specs.Exchanging.{Exchanged, exchange_of, gives, within_limit};
+ghost use Rattle.yq_text.specs.Script as script;
+ghost use Rattle.yq_text.specs.Segments.{segment_of, segments_of};
+
+use crate::draft::{Draft, push_splice};
+use crate::edited::Edited;
+use crate::exchange_error::ExchangeError;
+use crate::segment::{Segment, Segments};
+use crate::{Halves, TEXT_LIMIT};
+use std::alloc::Global;
+
+/// What stands in the new text for a segment.
+fn new_of<'s>(segment: &'s Segment<'_>) -> Halves<'s>
+    ensures { (ss : List script.Segment) →
+        script.new_text (segment_of segment.now ∷ ss) ≡ halves_text result ++ script.new_text ss }
+{
+    match segment {
+        Segment::Keep(text) => *text,
+        Segment::Put(_, new) => Halves::of(new),
+    }
+}
+
+/// How long the new text is, unless it is too large.
+pub(crate) fn new_len(segments: &[Segment<'_>]) -> Option<usize>
+    ensures { result ≡ within_limit (length (script.new_text (segments_of segments.now))) }
+{
+    let mut len = 0;
+    let mut rest = segments;
+    'segments: while let [segment, after @ ..] = rest {
+        let new = new_of(segment);
+        let left = TEXT_LIMIT - len;
+        if new.front.len() > left || new.back.len() > left - new.front.len() {
+            return None;
+        }
+        len += new.len();
+        rest = after;
+    }
+    Some(len)
+}
+
+/// The new text of segments, which is about that long, and their splices behind so many bytes.
+#[tactic(auto, using(crate::proofs::BetweenLaws::behind_nothing, crate::proofs::BetweenLaws::loop_kept))]
+pub(crate) fn build(
+    alloc: Global,
+    segments: &[Segment<'_>],
+    front: usize,
+    len: usize,
+) -> Result<Edited, ExchangeError>
+    requires { front + length (script.new_text (segments_of segments.now)) < 2 ^ 64 }
+    ensures { Exchanged result (gives (script.new_text (segments_of segments.now))
+        (script.changes_behind front (segments_of segments.now))) }
+{
+    let mut draft = Draft {
+        text: String::with_capacity(alloc, len)?,
+        splices: Vec::new(alloc),
+        at: front,
+        gone: Vec::new(alloc),
+        come: Vec::new(alloc),
+    };
+    let mut rest = segments;
+    'segments: while let [segment, after @ ..] = rest {
+        match segment {
+            Segment::Keep(kept) if kept.is_empty() => (),
+            Segment::Keep(kept) => draft.keep(alloc, *kept)?,
+            Segment::Put(gone, come) => draft.put(*gone, come)?,
+        }
+        rest = after;
+    }
+    let Draft {
+        text,
+        mut splices,
+        at,
+        gone,
+        come,
+    } = draft;
+    push_splice(&mut splices, at, gone, come)?;
+    Ok(Edited { text, splices })
+}
+
+/// The text that segments make of theirs, and its splices: exchanges that
+/// touch are one, and one that changes no byte is none. One pass counts the
+/// new text's bytes, and one moves each of them once.
+///
+/// The new text may have 16,777,216 bytes at most ([`ExchangeError::TooLarge`]).
+#[tactic(auto, unfolding(crate::specs::Script::changes))]
+pub fn exchange(alloc: Global, segments: &Segments<'_>) -> Result<Edited, ExchangeError>
+    ensures { Exchanged result (exchange_of segments.now) }
+{
+    let segments = segments.segments.as_slice();
+    match new_len(segments) {
+        Some(len) => build(alloc, segments, 0, len),
+        None => Err(ExchangeError::TooLarge),
+    }
+}

@@ -1,2 +1,0 @@
-pub mod AskedLaws
-pub mod PlacedValueLaws

@@ -1,7 +1,0 @@
-use Rattle.yq_lines.specs.RowWalk.{IsKnown}
-use Rattle.yq_lines.proofs.KnownLaws.{moved_to}
-use Rattle.yq_walk.proofs.known_count.known_further.Given as goal
-
--- so many items are passed before this row
-abbrev pub invariant-rows : goal.invariant-rows
-invariant-rows l = IsKnown l.rows.rows (moved_to l.known l.index l.at)

@@ -1,7 +1,0 @@
-use Rattle.std.proofs.Common.{rules}
-use Rattle.std.proofs.lemmas.Bool.{eq-eqb}
-use Rattle.yq_lines.proofs.WalkMarks.{item_agrees}
-use Rattle.yq_walk.proofs.position_marks.is_item_at.Goals as goal
-
-pub returns-then-index-eq0 : goal.returns-then-index-eq0
-returns-then-index-eq0 c = search (rules, item_agrees, eq-eqb)
