@@ -12,8 +12,8 @@ use Rattle.yq_core.specs.Trees.{tree_of}
 use Rattle.yq_flow_edits.specs.FlowEdits.{FlowEdit}
 use Rattle.yq_row_table.specs.Rows.{Cut, cut_text}
 use Rattle.yq_documents.specs.Reading.{read_at}
-use Rattle.yq_lookup.specs.NodesAt.{node_in}
-use Rattle.yq_lookup.specs.Standings.{FlowPart, Standing, flow_part, flow_standing, last_step, standing_at}
+use Rattle.yq_places.specs.NodesAt.{node_in}
+use Rattle.yq_places.specs.Standings.{FlowPart, Standing, flow_part, flow_standing, last_step, standing_at}
 use Rattle.yq_semantics.specs.Operations.{replace}
 use Rattle.yq_semantics.specs.declared.refusal.Refusal.TheVariants.{TooLarge}
 use Rattle.yq_text.specs.Exchanging as exchange

@@ -7,11 +7,11 @@ use Rattle.yq_core.specs.Paths.{Step}
 use Rattle.yq_row_table.specs.Rows.{Cut, cut_text}
 use Rattle.yq_row_table.specs.View.{slices}
 use Rattle.yq_documents.specs.Reading.{cut_of, read_at}
-use Rattle.yq_lookup.specs.CommentPlaces.{LineEnd, end_in_line}
-use Rattle.yq_lookup.specs.StandingViews.{IsHeldRow}
-use Rattle.yq_lookup.specs.declared.places.held_row.HeldRow.{HeldRow}
-use Rattle.yq_lookup.specs.Standings.{Held, RowsOfEntry, held, rows_of_entry}
-use Rattle.yq_lookup.proofs.HeldRowLaws.{no_root_rows}
+use Rattle.yq_places.specs.CommentPlaces.{LineEnd, end_in_line}
+use Rattle.yq_places.specs.StandingViews.{IsHeldRow}
+use Rattle.yq_places.specs.declared.places.held_row.HeldRow.{HeldRow}
+use Rattle.yq_places.specs.Standings.{Held, RowsOfEntry, held, rows_of_entry}
+use Rattle.yq_places.proofs.HeldRowLaws.{no_root_rows}
 use Rattle.yq_edits.specs.RowStays.{StandsStill}
 use Rattle.yq_edits.specs.StandingLaws.{HoldsPieces, StandsThere}
 use Rattle.yq_edits.specs.TextPieces.{IsPiece}

@@ -13,10 +13,10 @@ use Rattle.yq_core.specs.declared.path.Step as declared
 use Rattle.yq_flow_edits.specs.FlowPlaces.{edit_view}
 use Rattle.yq_row_table.specs.Rows.{Cut, cut_text}
 use Rattle.yq_documents.specs.Reading.{cut_of, read_at}
-use Rattle.yq_lookup.specs.FlowViews.{LeadsToHead, ReportsHead}
-use Rattle.yq_lookup.specs.NodesAt.{node_in}
-use Rattle.yq_lookup.specs.Standings.{last_step}
-use Rattle.yq_lookup.specs.declared.places.flow_node.FlowHead.{FlowHead}
+use Rattle.yq_places.specs.FlowViews.{LeadsToHead, ReportsHead}
+use Rattle.yq_places.specs.NodesAt.{node_in}
+use Rattle.yq_places.specs.Standings.{last_step}
+use Rattle.yq_places.specs.declared.places.flow_node.FlowHead.{FlowHead}
 use Rattle.yq_semantics.specs.Operations.{Operation, replace}
 use Rattle.yq_text.specs.Script.{splice_at}
 use Rattle.yq_text.specs.Splice.{Splice}

@@ -19,11 +19,11 @@ use Rattle.yq_flow_edits.specs.Valued.{IsValueTree}
 use Rattle.yq_flow_edits.specs.declared.flow_place.EditPlace.{EditPlace}
 use Rattle.yq_row_table.specs.Rows.{Cut, cut_text}
 use Rattle.yq_documents.specs.Reading.{documents, read_at}
-use Rattle.yq_lookup.specs.FlowNodes.{flow_collection}
-use Rattle.yq_lookup.specs.NodesAt.{node_in}
-use Rattle.yq_lookup.specs.Standings.{FlowPart, flow_standing, last_step}
-use Rattle.yq_lookup.specs.declared.places.flow_node.FlowHead.{FlowHead}
-use Rattle.yq_lookup.proofs.ReadLaws.{parts_read}
+use Rattle.yq_places.specs.FlowNodes.{flow_collection}
+use Rattle.yq_places.specs.NodesAt.{node_in}
+use Rattle.yq_places.specs.Standings.{FlowPart, flow_standing, last_step}
+use Rattle.yq_places.specs.declared.places.flow_node.FlowHead.{FlowHead}
+use Rattle.yq_places.proofs.ReadLaws.{parts_read}
 use Rattle.yq_semantics.specs.Fits.{Fits}
 use Rattle.yq_semantics.specs.Operations.{replace}
 use Rattle.yq_semantics.specs.Rooms.{room_of}

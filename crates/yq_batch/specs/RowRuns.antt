@@ -9,7 +9,7 @@ use Rattle.yq_core.specs.declared.style.Place.TheVariants.{Block as InBlock}
 use Rattle.yq_row_table.specs.Rows.{Cut, cut_text}
 use Rattle.yq_documents.specs.LinesInRows.{document_row}
 use Rattle.yq_documents.specs.Reading.{documents, read_at}
-use Rattle.yq_lookup.specs.Standings.{RowsOfEntry, rows_of_entry}
+use Rattle.yq_places.specs.Standings.{RowsOfEntry, rows_of_entry}
 use Rattle.yq_edits.specs.RowStays.{IsBehind, StandsStill}
 use Rattle.yq_semantics.specs.After.{op_document}
 use Rattle.yq_semantics.specs.Fits.{Fits}

@@ -10,10 +10,10 @@ use Rattle.yq_flow_edits.specs.FlowEdits.{content_node}
 use Rattle.yq_flow_edits.specs.Valued.{IsValueTree}
 use Rattle.yq_row_table.specs.Rows.{Cut, cut_text}
 use Rattle.yq_documents.specs.Reading.{cut_of, read_at}
-use Rattle.yq_lookup.specs.FlowViews.{LeadsToHead}
-use Rattle.yq_lookup.specs.NodesAt.{node_in}
-use Rattle.yq_lookup.specs.Standings.{FlowPart, flow_standing, last_step}
-use Rattle.yq_lookup.specs.declared.places.flow_node.FlowHead.{FlowHead}
+use Rattle.yq_places.specs.FlowViews.{LeadsToHead}
+use Rattle.yq_places.specs.NodesAt.{node_in}
+use Rattle.yq_places.specs.Standings.{FlowPart, flow_standing, last_step}
+use Rattle.yq_places.specs.declared.places.flow_node.FlowHead.{FlowHead}
 use Rattle.yq_semantics.specs.Operations.{Operation, replace}
 use Rattle.yq_semantics.specs.declared.refusal.Refusal.TheVariants.{TooLarge}
 use Rattle.yq_text.specs.Script.{splice_at}

@@ -3,9 +3,9 @@ use Rattle.std.proofs.Common.{◌≡◌, ℕ, Bool, true, false, cond, eqb, List
 use Rattle.yq_core.specs.Answers.{◌>>=◌}
 use Rattle.yq_core.specs.Paths.{Step}
 use Rattle.yq_row_table.specs.Rows.{Cut}
-use Rattle.yq_lookup.specs.CommentPlaces.{LinesAbove, above_row, lines_above}
-use Rattle.yq_lookup.specs.PlacedRows.{PlacedRow}
-use Rattle.yq_lookup.specs.Standings.{RowsOfEntry, rows_of_entry}
+use Rattle.yq_places.specs.CommentPlaces.{LinesAbove, above_row, lines_above}
+use Rattle.yq_places.specs.PlacedRows.{PlacedRow}
+use Rattle.yq_places.specs.Standings.{RowsOfEntry, rows_of_entry}
 use Rattle.yq_edits.specs.CommentEdits.{above_rows, head_comment_put, head_comment_segments}
 use Rattle.yq_edits.proofs.CommentRowLaws.{entry_row, rows_same}
 

@@ -6,8 +6,8 @@ use Rattle.yq_core.specs.Paths.{Step}
 use Rattle.yq_core.specs.Tree.{Node}
 use Rattle.yq_core.specs.declared.style.Place.TheVariants.{Block as InBlock}
 use Rattle.yq_row_table.specs.Rows.{Cut}
-use Rattle.yq_lookup.specs.NodesAt.{node_in, scalar_in}
-use Rattle.yq_lookup.specs.Standings.{MarkPieces, Standing, alone, beside, under, compact, block, root, no_rows, standing_at}
+use Rattle.yq_places.specs.NodesAt.{node_in, scalar_in}
+use Rattle.yq_places.specs.Standings.{MarkPieces, Standing, alone, beside, under, compact, block, root, no_rows, standing_at}
 use Rattle.yq_edits.specs.BlockReading.{is_filled}
 use Rattle.yq_edits.specs.BlockRows.{indent_step, item_column}
 use Rattle.yq_edits.specs.BlockText.{block_value}

@@ -5,7 +5,7 @@ use Rattle.yq_core.specs.BlockRepair.{is_short}
 use Rattle.yq_core.specs.Lines.{is_blank}
 use Rattle.yq_core.specs.Text.{joined, text_lines}
 use Rattle.yq_core.proofs.LineLaws.{joined_lines}
-use Rattle.yq_lookup.specs.RemovalPlaces.{Seam}
+use Rattle.yq_places.specs.RemovalPlaces.{Seam}
 use Rattle.yq_text.specs.Script.{Segment, keep}
 use Rattle.yq_edits.specs.Removing.{indent_put, blank_mended, comment_mended, lines_mended}
 

@@ -24,13 +24,13 @@ use Rattle.yq_outline.specs.Lines.{content_anchor, head_of}
 use Rattle.yq_documents.specs.Reading.{content_is_fit, cut_of, read_at}
 use Rattle.yq_documents.specs.RowReading.{read_head, is_block_head, is_short_plain}
 use Rattle.yq_documents.proofs.HeadLaws.{fitting, head_is, head_text}
-use Rattle.yq_lookup.specs.NodesAt.{node_in, scalar_in}
-use Rattle.yq_lookup.specs.StandingViews.{IsHeldRow}
-use Rattle.yq_lookup.specs.Standings.{RowsOfEntry, behind_entry}
-use Rattle.yq_lookup.specs.declared.places.held_row.HeldRow.{HeldRow}
-use Rattle.yq_lookup.proofs.ReadLaws.{exact_reading}
-use Rattle.yq_lookup.proofs.HeadEnds.{node_begins}
-use Rattle.yq_lookup.proofs.HeldRowLaws.{no_root_rows, not_so}
+use Rattle.yq_places.specs.NodesAt.{node_in, scalar_in}
+use Rattle.yq_places.specs.StandingViews.{IsHeldRow}
+use Rattle.yq_places.specs.Standings.{RowsOfEntry, behind_entry}
+use Rattle.yq_places.specs.declared.places.held_row.HeldRow.{HeldRow}
+use Rattle.yq_places.proofs.ReadLaws.{exact_reading}
+use Rattle.yq_places.proofs.HeadEnds.{node_begins}
+use Rattle.yq_places.proofs.HeldRowLaws.{no_root_rows, not_so}
 use Rattle.yq_edits.specs.StandingLaws.{StandsThere}
 use Rattle.yq_edits.proofs.RowStayLaws.{rows_stay_there}
 use Rattle.yq_edits.proofs.StandingMarks.{row_there}

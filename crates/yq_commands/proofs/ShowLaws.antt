@@ -7,7 +7,7 @@ use Rattle.yq_core.specs.Answers.{ReadFails}
 use Rattle.yq_core.specs.Tree.{Node}
 use Rattle.yq_core.specs.declared.fault.ReadError.{ReadError}
 use Rattle.yq_core.specs.declared.fault.ReadError.TheVariants as reading
-use Rattle.yq_lookup.specs.Answers.{IsNotUtf8}
+use Rattle.yq_places.specs.Answers.{IsNotUtf8}
 use Rattle.yq_documents.specs.Documents.{Document}
 use Rattle.yq_documents.specs.Reading.{documents, read_at}
 use Rattle.yq_semantics.specs.Copies.{matches}

@@ -12,9 +12,9 @@ use Rattle.yq_core.specs.Nodes.{key_text}
 use Rattle.yq_core.specs.Places.{Placed, placed, sequence, mapping, Parts, locate, locate_items}
 use Rattle.yq_core.specs.NodesWritten.{flow_key, flow_of, flow_text}
 use Rattle.yq_row_table.specs.Rows.{Cut, cut_text}
-use Rattle.yq_lookup.specs.FlowNodes.{flow_collection}
-use Rattle.yq_lookup.specs.FlowViews.{behind_anchor, placed_collection}
-use Rattle.yq_lookup.specs.declared.places.flow_node.FlowHead.{FlowHead}
+use Rattle.yq_places.specs.FlowNodes.{flow_collection}
+use Rattle.yq_places.specs.FlowViews.{behind_anchor, placed_collection}
+use Rattle.yq_places.specs.declared.places.flow_node.FlowHead.{FlowHead}
 use Rattle.yq_edits.specs.FlowParts.{flow_more, flow_segments, takes_key}
 use Rattle.yq_edit_laws.specs.EditPlaces.{content_takes, moved_on, placed_takes}
 use Rattle.yq_edit_laws.proofs.FlowAnswers.{CollFound, EditFound, edit_found}

@@ -15,12 +15,12 @@ use Rattle.yq_row_table.specs.Seams.{is_block, tail_behind, ends_in_block, ends_
 use Rattle.yq_row_table.specs.Splices.{first_gap, behind_first}
 use Rattle.yq_row_table.proofs.seams.SeamLaws.{rows_text-append}
 use Rattle.yq_row_table.proofs.splices.SpliceTexts.{own_gap, own_end, first_text}
-use Rattle.yq_lookup.specs.CollectionEnds.{CollectionEnd, is_broken}
+use Rattle.yq_places.specs.CollectionEnds.{CollectionEnd, is_broken}
 use Rattle.yq_documents.specs.Documents.{lead_of}
 use Rattle.yq_outline.specs.Lines.{lines_from, lines_of_rows}
 use Rattle.yq_documents.specs.Ready.{begins_no_node}
 use Rattle.yq_documents.specs.Reading.{read_at}
-use Rattle.yq_lookup.specs.RowPaths.{IsReadable}
+use Rattle.yq_places.specs.RowPaths.{IsReadable}
 use Rattle.yq_edits.specs.declared.layout.Layout.{Layout}
 use Rattle.yq_edits.specs.Alone.{sole_collection}
 use Rattle.yq_edits.specs.BlockRows.{node_rows}

@@ -15,12 +15,12 @@ use Rattle.yq_row_table.proofs.splices.PartPlaces.{part_ends}
 use Rattle.yq_outline.specs.Lines.{lines_of_rows}
 use Rattle.yq_documents.specs.Reading.{read_at}
 use Rattle.yq_documents.specs.Ready.{begins_no_node}
-use Rattle.yq_lookup.specs.PlacedRows.{PlacedPart, placed_document}
-use Rattle.yq_lookup.specs.PrintedLines.{last_break, less_break}
-use Rattle.yq_lookup.specs.Standings.{BlockRoot, is_alone}
-use Rattle.yq_lookup.proofs.CommentPieceLaws.{Ended, gap_end}
-use Rattle.yq_lookup.proofs.PrintedTexts.{less_is}
-use Rattle.yq_lookup.proofs.RemovalLines.{LineSeam, LiesIn, lies_in, seam_join}
+use Rattle.yq_places.specs.PlacedRows.{PlacedPart, placed_document}
+use Rattle.yq_places.specs.PrintedLines.{last_break, less_break}
+use Rattle.yq_places.specs.Standings.{BlockRoot, is_alone}
+use Rattle.yq_places.proofs.CommentPieceLaws.{Ended, gap_end}
+use Rattle.yq_places.proofs.PrintedTexts.{less_is}
+use Rattle.yq_places.proofs.RemovalLines.{LineSeam, LiesIn, lies_in, seam_join}
 use Rattle.yq_edits.specs.DocumentRows.{IsDocumentPart}
 use Rattle.yq_documents.specs.PartNumbers.{part_number}
 use Rattle.yq_edits.specs.PlacedParts.{StandsAt}

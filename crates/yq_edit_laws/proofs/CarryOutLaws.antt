@@ -9,11 +9,11 @@ use Rattle.yq_core.proofs.Bools.{bind_some}
 use Rattle.yq_flow_edits.proofs.RemoveTexts.{either}
 use Rattle.yq_row_table.specs.Rows.{Cut, cut_text}
 use Rattle.yq_documents.specs.Reading.{read_at}
-use Rattle.yq_lookup.specs.FlowNodes.{flow_collection}
-use Rattle.yq_lookup.specs.NodesAt.{node_in}
-use Rattle.yq_lookup.specs.RemovalPlaces.{has_others_at}
-use Rattle.yq_lookup.specs.Standings.{flow_standing, last_step, rows_of_entry, standing_at}
-use Rattle.yq_lookup.proofs.PrintedTexts.{map_some}
+use Rattle.yq_places.specs.FlowNodes.{flow_collection}
+use Rattle.yq_places.specs.NodesAt.{node_in}
+use Rattle.yq_places.specs.RemovalPlaces.{has_others_at}
+use Rattle.yq_places.specs.Standings.{flow_standing, last_step, rows_of_entry, standing_at}
+use Rattle.yq_places.proofs.PrintedTexts.{map_some}
 use Rattle.yq_semantics.specs.Operations.{replace, append, remove, line_comment, head_comment}
 use Rattle.yq_text.specs.Script.{Segment, keep}
 use Rattle.yq_edits.specs.EditLaws.{KindsCarryOut, EditsCarryOut, IsEdit}

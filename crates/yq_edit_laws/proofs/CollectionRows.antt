@@ -9,8 +9,8 @@ use Rattle.yq_outline.specs.Outline as outlines
 use Rattle.yq_outline.specs.Positions.{has_no_mark}
 use Rattle.yq_row_table.specs.Grammar.{AreRows, unlimited}
 use Rattle.yq_row_table.specs.Rows.{Row, behind_columns, dashes_text, print_row, rows_text}
-use Rattle.yq_lookup.specs.CollectionEnds.{is_broken}
-use Rattle.yq_lookup.specs.PrintedLines.{last_break}
+use Rattle.yq_places.specs.CollectionEnds.{is_broken}
+use Rattle.yq_places.specs.PrintedLines.{last_break}
 use Rattle.yq_outline.proofs.WalkLevels.{RowsAgree, RowAgrees}
 use Rattle.yq_edits.specs.Siblings.{IsEntry}
 use Rattle.yq_edits.proofs.EndedRowLaws.{row_there, rows_then}

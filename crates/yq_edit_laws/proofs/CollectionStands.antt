@@ -19,11 +19,11 @@ use Rattle.yq_row_table.specs.View.{slices}
 use Rattle.yq_documents.specs.Documents.{document_parts}
 use Rattle.yq_outline.specs.Lines.{dash_line, head_of, lines_from, lines_of_rows, mark_line, line_mark, row_lines}
 use Rattle.yq_documents.specs.Reading.{part_outline}
-use Rattle.yq_lookup.specs.CollectionEnds.{CollectionEnd, is_broken}
-use Rattle.yq_lookup.specs.Standings.{RowsOfEntry, before_entry, behind_entry, is_alone}
-use Rattle.yq_lookup.proofs.FlowViewLaws.{before_under}
-use Rattle.yq_lookup.proofs.RowPathLaws.{found_lines}
-use Rattle.yq_lookup.proofs.UnderExchange.{lines_append}
+use Rattle.yq_places.specs.CollectionEnds.{CollectionEnd, is_broken}
+use Rattle.yq_places.specs.Standings.{RowsOfEntry, before_entry, behind_entry, is_alone}
+use Rattle.yq_places.proofs.FlowViewLaws.{before_under}
+use Rattle.yq_places.proofs.RowPathLaws.{found_lines}
+use Rattle.yq_places.proofs.UnderExchange.{lines_append}
 use Rattle.yq_outline.proofs.WalkLevels.{RowsAgree, IsLineOf, RowAgrees, line_in}
 use Rattle.yq_outline.proofs.WalkRows.{rows_agree}
 use Rattle.yq_edits.specs.Changed.{put_document}

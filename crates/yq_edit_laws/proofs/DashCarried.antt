@@ -18,10 +18,10 @@ use Rattle.yq_row_table.specs.Rows.{Cut, Nothing, Row, cut_text, mark_column, ro
 use Rattle.yq_row_table.proofs.NothingLaws.{tail_apart}
 use Rattle.yq_row_table.proofs.PlaceLaws.{row_front-append}
 use Rattle.yq_documents.specs.Reading.{part_outline, read_at, root_of}
-use Rattle.yq_lookup.specs.RowPieces.{upto_dash}
-use Rattle.yq_lookup.specs.PrintedLines.{last_break, less_break}
-use Rattle.yq_lookup.specs.Standings.{Compact, RowsOfEntry, compact_in, dash_text, rows_of_entry}
-use Rattle.yq_lookup.proofs.PrintedTexts.{less_is}
+use Rattle.yq_places.specs.RowPieces.{upto_dash}
+use Rattle.yq_places.specs.PrintedLines.{last_break, less_break}
+use Rattle.yq_places.specs.Standings.{Compact, RowsOfEntry, compact_in, dash_text, rows_of_entry}
+use Rattle.yq_places.proofs.PrintedTexts.{less_is}
 use Rattle.yq_edits.specs.Appends.{inserted}
 use Rattle.yq_edits.specs.Changed.{put_document}
 use Rattle.yq_edits.specs.SoundRoots.{MayReplace}

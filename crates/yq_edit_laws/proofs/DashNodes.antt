@@ -15,12 +15,12 @@ use Rattle.yq_row_table.specs.Rows.{Cut, Row, behind_dashes, cut_text, print_row
 use Rattle.yq_row_table.proofs.PlaceLaws.{row_then}
 use Rattle.yq_documents.specs.TreeEdits.{anchor_of}
 use Rattle.yq_documents.specs.Reading.{read_at}
-use Rattle.yq_lookup.specs.RowPieces.{past_dash, upto_dash}
-use Rattle.yq_lookup.specs.PrintedLines.{last_break}
-use Rattle.yq_lookup.specs.Standings.{RowsOfEntry, before_entry, behind_entry, dash_text, rows_of_entry}
-use Rattle.yq_lookup.proofs.CommentPieceLaws.{Ended}
-use Rattle.yq_lookup.proofs.DashLaws.{front_is, row_cut}
-use Rattle.yq_lookup.proofs.RunSpans.{rows_then}
+use Rattle.yq_places.specs.RowPieces.{past_dash, upto_dash}
+use Rattle.yq_places.specs.PrintedLines.{last_break}
+use Rattle.yq_places.specs.Standings.{RowsOfEntry, before_entry, behind_entry, dash_text, rows_of_entry}
+use Rattle.yq_places.proofs.CommentPieceLaws.{Ended}
+use Rattle.yq_places.proofs.DashLaws.{front_is, row_cut}
+use Rattle.yq_places.proofs.RunSpans.{rows_then}
 use Rattle.yq_edits.specs.Siblings.{HasEntries}
 use Rattle.yq_edits.specs.StandingLaws.{StandsThere}
 use Rattle.yq_edits.specs.TextPieces.{IsPiece}

@@ -1,6 +1,6 @@
 -- What each operation exchanges carries it out, and one that fits has it: the laws of all kinds of edits together.
 use Rattle.std.proofs.Common.{refl}
-use Rattle.yq_lookup.specs.Standings.{alone, beside, under, compact, block, root, no_rows}
+use Rattle.yq_places.specs.Standings.{alone, beside, under, compact, block, root, no_rows}
 use Rattle.yq_edits.specs.EditLaws.{KindsCarryOut, EditsCarryOut, FittingHasEdit, ValuesArePut}
 use Rattle.yq_edit_laws.proofs.HeadCommentLaws.{head_comment_is_put}
 use Rattle.yq_edits.proofs.KeptLaws.{equal_scalars_stay}

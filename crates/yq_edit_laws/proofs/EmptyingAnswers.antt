@@ -4,8 +4,8 @@ use Rattle.yq_core.specs.Answers.{◌>>=◌}
 use Rattle.yq_core.specs.Paths.{Step}
 use Rattle.yq_core.specs.Tree.{Node, alias, scalar, list, map}
 use Rattle.yq_row_table.specs.Rows.{Cut}
-use Rattle.yq_lookup.specs.NodesAt.{NodeAt, node_in, node_summary}
-use Rattle.yq_lookup.specs.Standings.{last_step}
+use Rattle.yq_places.specs.NodesAt.{NodeAt, node_in, node_summary}
+use Rattle.yq_places.specs.Standings.{last_step}
 use Rattle.yq_edits.specs.Edits.{empty_collection, replace_segments}
 use Rattle.yq_edit_laws.specs.Emptying.{Emptied, SoleByEmptying, emptied_summary, emptying}
 

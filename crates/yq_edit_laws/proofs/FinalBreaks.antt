@@ -21,14 +21,14 @@ use Rattle.yq_row_table.proofs.PlaceLaws.{row_front-append}
 use Rattle.yq_row_table.proofs.RowAgain.{row_starts}
 use Rattle.yq_row_table.proofs.SliceLaws.{content_slices}
 use Rattle.yq_row_table.proofs.seams.ScalarSeams.{last_no_space}
-use Rattle.yq_lookup.specs.CollectionEnds.{is_broken}
+use Rattle.yq_places.specs.CollectionEnds.{is_broken}
 use Rattle.yq_outline.specs.Lines.{line_mark}
 use Rattle.yq_outline.specs.Positions.{has_no_mark}
-use Rattle.yq_lookup.specs.Standings.{is_alone}
-use Rattle.yq_lookup.specs.PrintedLines.{end_break, last_break, less_break}
-use Rattle.yq_lookup.proofs.ContentEndLaws.{Ends, content_ends, tail_ends}
-use Rattle.yq_lookup.proofs.LastBreakLaws.{lf_last}
-use Rattle.yq_lookup.proofs.PrintedTexts.{less_is}
+use Rattle.yq_places.specs.Standings.{is_alone}
+use Rattle.yq_places.specs.PrintedLines.{end_break, last_break, less_break}
+use Rattle.yq_places.proofs.ContentEndLaws.{Ends, content_ends, tail_ends}
+use Rattle.yq_places.proofs.LastBreakLaws.{lf_last}
+use Rattle.yq_places.proofs.PrintedTexts.{less_is}
 use Rattle.yq_edits.proofs.EndedRowLaws.{many_lf}
 use Rattle.yq_edits.proofs.LineFrontLaws.{items_close}
 use Rattle.yq_edits.proofs.BreakLaws.{last_is}

@@ -9,10 +9,10 @@ use Rattle.yq_row_table.specs.Rows.{Content, Row, behind_indent, content_text, m
 use Rattle.yq_row_table.proofs.PlaceLaws.{content_then}
 use Rattle.yq_outline.specs.Lines.{lines_of_rows, line_mark}
 use Rattle.yq_documents.specs.Ready.{begins_no_node}
-use Rattle.yq_lookup.specs.PrintedLines.{last_break}
-use Rattle.yq_lookup.specs.Standings.{is_alone}
-use Rattle.yq_lookup.proofs.CommentPieceLaws.{Ended}
-use Rattle.yq_lookup.proofs.LastBreakLaws.{lf_last}
+use Rattle.yq_places.specs.PrintedLines.{last_break}
+use Rattle.yq_places.specs.Standings.{is_alone}
+use Rattle.yq_places.proofs.CommentPieceLaws.{Ended}
+use Rattle.yq_places.proofs.LastBreakLaws.{lf_last}
 use Rattle.yq_edits.proofs.FirstBreakLaws.{IsOneBreak}
 use Rattle.yq_edits.proofs.BreakLaws.{last_is}
 use Rattle.yq_row_table.proofs.NothingLaws.{some_behind}

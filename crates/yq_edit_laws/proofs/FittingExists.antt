@@ -24,14 +24,14 @@ use Rattle.yq_documents.specs.declared.path.Part.TheVariants.{HeadComment, LineC
 use Rattle.yq_documents.specs.Documents.{Document, document_parts}
 use Rattle.yq_documents.specs.Reading.{cut_of, documents, read_at}
 use Rattle.yq_documents.specs.LinesInRows.{RowLine, line_has_room, row_line_has_room, row_line_of}
-use Rattle.yq_lookup.specs.FirstBreak.{first_break}
-use Rattle.yq_lookup.specs.FlowNodes.{flow_collection}
-use Rattle.yq_lookup.specs.NodesAt.{node_in}
-use Rattle.yq_lookup.specs.PlacedRows.{PlacedPart, placed_document}
-use Rattle.yq_lookup.specs.RemovalPlaces.{has_others_at}
-use Rattle.yq_lookup.specs.Standings.{FlowPart, RowsOfEntry, Standing, entry_rows_at, entry_standing, flow_part, flow_standing, held, last_step, rows_of_entry, standing_at}
-use Rattle.yq_lookup.proofs.PlacedRowLaws.{document_placed, part_of}
-use Rattle.yq_lookup.proofs.PrintedTexts.{map_some}
+use Rattle.yq_places.specs.FirstBreak.{first_break}
+use Rattle.yq_places.specs.FlowNodes.{flow_collection}
+use Rattle.yq_places.specs.NodesAt.{node_in}
+use Rattle.yq_places.specs.PlacedRows.{PlacedPart, placed_document}
+use Rattle.yq_places.specs.RemovalPlaces.{has_others_at}
+use Rattle.yq_places.specs.Standings.{FlowPart, RowsOfEntry, Standing, entry_rows_at, entry_standing, flow_part, flow_standing, held, last_step, rows_of_entry, standing_at}
+use Rattle.yq_places.proofs.PlacedRowLaws.{document_placed, part_of}
+use Rattle.yq_places.proofs.PrintedTexts.{map_some}
 use Rattle.yq_edits.specs.StandingLaws.{EntriesStand, RootsStand}
 use Rattle.yq_semantics.specs.Fits.{Fits}
 use Rattle.yq_semantics.specs.Operations.{replace, append, remove, line_comment, head_comment}

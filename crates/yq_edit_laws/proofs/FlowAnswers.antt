@@ -12,10 +12,10 @@ use Rattle.yq_flow_edits.specs.FlowEdits.{FlowEdit}
 use Rattle.yq_flow_edits.specs.FlowPlaces.{PlacedEdit, place_edit}
 use Rattle.yq_row_table.specs.Rows.{Cut, cut_text}
 use Rattle.yq_documents.specs.Reading.{cut_of, read_at}
-use Rattle.yq_lookup.specs.FlowNodes.{flow_collection}
-use Rattle.yq_lookup.specs.FlowViews.{IsHeadOfSteps, FlowAgrees, behind_anchor, collection_view, placed_collection}
-use Rattle.yq_lookup.specs.Standings.{FlowPart, flow_part, flow_standing, last_step}
-use Rattle.yq_lookup.specs.declared.places.flow_node.FlowHead.{FlowHead}
+use Rattle.yq_places.specs.FlowNodes.{flow_collection}
+use Rattle.yq_places.specs.FlowViews.{IsHeadOfSteps, FlowAgrees, behind_anchor, collection_view, placed_collection}
+use Rattle.yq_places.specs.Standings.{FlowPart, flow_part, flow_standing, last_step}
+use Rattle.yq_places.specs.declared.places.flow_node.FlowHead.{FlowHead}
 use Rattle.yq_text.specs.Script.{Segment, keep, put}
 use Rattle.yq_edits.specs.FlowParts.{flow_segments}
 use Rattle.yq_edit_laws.specs.EditPlaces.{LiesIn, edit_segments, moved_on}

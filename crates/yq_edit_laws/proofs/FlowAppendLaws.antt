@@ -19,7 +19,7 @@ use Rattle.yq_flow_edits.proofs.EditSpans.{ends_bound}
 use Rattle.yq_flow_edits.proofs.ValueEdits.{appended_ends, value_appended}
 use Rattle.yq_row_table.specs.Rows.{Cut, cut_text}
 use Rattle.yq_documents.specs.Documents.{Document, EachHasFitKeys, HasFitKey, HasFitKeys, document_parts}
-use Rattle.yq_lookup.specs.FlowNodes.{flow_collection}
+use Rattle.yq_places.specs.FlowNodes.{flow_collection}
 use Rattle.yq_documents.specs.Reading as reading
 use Rattle.yq_documents.specs.Reading.{documents, read_at, root_of}
 use Rattle.yq_documents.specs.TreeEdits.{new_label}

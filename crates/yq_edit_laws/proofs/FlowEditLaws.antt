@@ -15,7 +15,7 @@ use Rattle.yq_row_table.proofs.seams.SeamLaws.{rows_text-append}
 use Rattle.yq_row_table.proofs.splices.SpliceTexts.{own_gap, own_end}
 use Rattle.yq_documents.specs.Documents.{HasFitKeys, lead_of}
 use Rattle.yq_documents.specs.Reading.{read_at, root_of}
-use Rattle.yq_lookup.specs.RowPaths.{IsReadable}
+use Rattle.yq_places.specs.RowPaths.{IsReadable}
 use Rattle.yq_edits.specs.Changed.{IsChanged, put_document}
 use Rattle.yq_edits.specs.DocumentRows.{behind_document}
 use Rattle.yq_edits.specs.FlowRows.{behind_node, row_collection, with_node, FlowAt}
@@ -38,7 +38,7 @@ use Rattle.yq_edits.proofs.LocalLaws.{at_row, cut_known, row_by_size}
 use Rattle.yq_edits.proofs.DoneLaws.{document_done}
 use Rattle.yq_edits.proofs.SegmentLaws.{segments_readable}
 use Rattle.std.proofs.lemmas.Bool.{false≢true}
-use Rattle.yq_lookup.proofs.RemovalLines.{front_some}
+use Rattle.yq_places.proofs.RemovalLines.{front_some}
 
 -- the node that is edited, in its row
 abbrev pub edited_at : (c : Cut) (k : ℕ) (steps : List Step) (w : CollPieces) → FlowAt c k steps w → FlowEdit → FlowNode

@@ -14,8 +14,8 @@ use Rattle.yq_flow_edits.proofs.PlacedEdits.{append_placed, replace_placed}
 use Rattle.yq_flow_edits.proofs.RemovePlaces.{remove_placed}
 use Rattle.yq_flow_edits.proofs.RemoveTexts.{removed_text}
 use Rattle.yq_core.proofs.PathLaws.{items_hold}
-use Rattle.yq_lookup.specs.FlowViews.{IsHeadOfSteps, FlowAgrees, behind_anchor, collection_view, placed_collection}
-use Rattle.yq_lookup.specs.declared.places.flow_node.FlowHead.{FlowHead}
+use Rattle.yq_places.specs.FlowViews.{IsHeadOfSteps, FlowAgrees, behind_anchor, collection_view, placed_collection}
+use Rattle.yq_places.specs.declared.places.flow_node.FlowHead.{FlowHead}
 use Rattle.yq_edit_laws.specs.EditPlaces.{moved_on}
 use Rattle.yq_edit_laws.proofs.FlowLonger.{edit_more, entry_more, item_more, place_moved, with_more}
 use Rattle.yq_edit_laws.proofs.FlowWholeLaws.{StandsBefore, appended_stands, replaced_stands}

@@ -22,13 +22,13 @@ use Rattle.yq_outline.proofs.Plug.{allows_from}
 use Rattle.yq_row_table.specs.Exchange.{behind_row}
 use Rattle.yq_row_table.specs.Rows.{Content, Nothing, Inline, Block, Row, Part, Cut, cut_text, mark_column}
 use Rattle.yq_documents.specs.Documents.{document_parts}
-use Rattle.yq_lookup.specs.FlowNodes.{bare_line, content_flow, find_head, flow_collection, head_line, line_collection, part_collection}
+use Rattle.yq_places.specs.FlowNodes.{bare_line, content_flow, find_head, flow_collection, head_line, line_collection, part_collection}
 use Rattle.yq_outline.specs.Lines.{content_anchor, head_of, lines_of_rows, mark_line}
 use Rattle.yq_documents.specs.Reading.{part_outline, read_at, root_of}
 use Rattle.yq_documents.specs.LinesInRows.{document_row, RowLine, row_line}
-use Rattle.yq_lookup.proofs.FlowPieces.{head_tree}
-use Rattle.yq_lookup.proofs.FlowPlaceLaws.{TakesSteps, mark_row_line}
-use Rattle.yq_lookup.proofs.FoundEntries.{middle}
+use Rattle.yq_places.proofs.FlowPieces.{head_tree}
+use Rattle.yq_places.proofs.FlowPlaceLaws.{TakesSteps, mark_row_line}
+use Rattle.yq_places.proofs.FoundEntries.{middle}
 use Rattle.yq_edits.specs.LineRows.{IsRowLine}
 use Rattle.yq_edits.specs.Moved.{dash_lines}
 use Rattle.yq_edits.proofs.FlowLineLaws.{head_takes, head_whole}

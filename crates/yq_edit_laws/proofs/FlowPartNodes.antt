@@ -24,12 +24,12 @@ use Rattle.yq_documents.specs.Documents.{Document, document_parts}
 use Rattle.yq_documents.specs.Reading.{part_document, part_outline, read_at}
 use Rattle.yq_documents.specs.LinesInRows.{RowLine, document_row, row_line, row_line_of}
 use Rattle.yq_outline.specs.Lines.{content_anchor, head_of}
-use Rattle.yq_lookup.specs.FlowNodes.{content_flow, find_head}
-use Rattle.yq_lookup.specs.NodesAt.{node_in}
-use Rattle.yq_lookup.specs.PlacedRows.{PlacedPart, placed_document}
-use Rattle.yq_lookup.specs.Standings.{entry_rows_at, entry_standing, last_step, standing_at}
-use Rattle.yq_lookup.proofs.FlowPieces.{head_tree}
-use Rattle.yq_lookup.proofs.PlacedRowLaws.{document_placed, part_of}
+use Rattle.yq_places.specs.FlowNodes.{content_flow, find_head}
+use Rattle.yq_places.specs.NodesAt.{node_in}
+use Rattle.yq_places.specs.PlacedRows.{PlacedPart, placed_document}
+use Rattle.yq_places.specs.Standings.{entry_rows_at, entry_standing, last_step, standing_at}
+use Rattle.yq_places.proofs.FlowPieces.{head_tree}
+use Rattle.yq_places.proofs.PlacedRowLaws.{document_placed, part_of}
 use Rattle.yq_edits.proofs.FlowLineLaws.{head_takes, head_whole}
 use Rattle.yq_edits.proofs.PartLaws.{document_known}
 use Rattle.yq_edit_laws.proofs.EntryLines.{found_at}
@@ -87,7 +87,7 @@ record LineAt (c : Cut) (n : ℕ) (steps : List Step) (w : CollPieces) : Type 0 
   printed_line : row_line (length (lines_before line.0.place)) part.rows ≡ Some row_line_is
   flow : content_flow line.1 row_line_is.row.content (behind_row (document_row n c + row_line_is.before) c) ≡ Some w
 
-line_at : (c : Cut) (n : ℕ) (steps : List Step) (w : CollPieces) → Rattle.yq_lookup.specs.FlowNodes.flow_collection n steps c ≡ Some w → LineAt c n steps w
+line_at : (c : Cut) (n : ℕ) (steps : List Step) (w : CollPieces) → Rattle.yq_places.specs.FlowNodes.flow_collection n steps c ≡ Some w → LineAt c n steps w
 line_at c n steps w e =
     let d = bind_some (slice_get (document_parts c) n) e in
     let x = bind_some (find_head steps (part_outline d.0)) d.2 in

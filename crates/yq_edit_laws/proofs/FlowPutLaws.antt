@@ -30,8 +30,8 @@ use Rattle.yq_row_table.specs.Rows.{Cut, cut_text}
 use Rattle.yq_documents.specs.Documents.{EachHasFitKeys, HasFitKey, HasFitKeys, lead_of}
 use Rattle.yq_documents.specs.TreeEdits.{anchor_of, replaced_node}
 use Rattle.yq_documents.specs.Reading.{documents, read_at, root_of}
-use Rattle.yq_lookup.specs.FlowViews.{LeadsToHead}
-use Rattle.yq_lookup.proofs.FlowPieces.{named_is, none_anchored}
+use Rattle.yq_places.specs.FlowViews.{LeadsToHead}
+use Rattle.yq_places.proofs.FlowPieces.{named_is, none_anchored}
 use Rattle.yq_edits.specs.FlowRows.{FlowAt, behind_node}
 use Rattle.yq_edits.specs.Rooms.{is_block_root}
 use Rattle.yq_edits.specs.SoundRoots.{IsSoundRoot}
@@ -45,7 +45,7 @@ use Rattle.yq_semantics.specs.Fits.{Fits}
 use Rattle.yq_semantics.specs.Operations.{replace}
 use Rattle.yq_semantics.specs.Rooms.{room_of}
 use Rattle.yq_text.specs.Script.{new_text}
-use Rattle.yq_lookup.specs.Standings.{FlowPart, last_step}
+use Rattle.yq_places.specs.Standings.{FlowPart, last_step}
 use Rattle.yq_edits.specs.EditLaws.{CarriedOut, FlowValuesArePut, IsEdit}
 use Rattle.yq_edits.specs.FlowParts.{content_written, flow_put, flow_segments, flow_value}
 use Rattle.yq_edits.specs.Style.{style_in}

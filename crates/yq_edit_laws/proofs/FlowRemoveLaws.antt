@@ -31,8 +31,8 @@ use Rattle.yq_semantics.specs.Fits.{Fits}
 use Rattle.yq_semantics.specs.Operations.{remove}
 use Rattle.yq_semantics.specs.Rooms.{room_of}
 use Rattle.yq_text.specs.Script.{new_text}
-use Rattle.yq_lookup.specs.FlowNodes.{flow_collection}
-use Rattle.yq_lookup.specs.Standings.{last_step}
+use Rattle.yq_places.specs.FlowNodes.{flow_collection}
+use Rattle.yq_places.specs.Standings.{last_step}
 use Rattle.yq_edits.specs.EditLaws.{CarriedOut, FlowPartIsRemoved, IsEdit}
 use Rattle.yq_edits.specs.FlowParts.{flow_segments}
 use Rattle.yq_edits.proofs.DoneLaws.{nth_map}

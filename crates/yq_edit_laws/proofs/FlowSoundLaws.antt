@@ -7,7 +7,7 @@ use Rattle.yq_core.specs.Paths.{Step, changed_at, child_at, node_at, remove_chil
 use Rattle.yq_core.specs.Tree.{Node, children_of}
 use Rattle.yq_core.specs.Anchors.{Name, Anchors, Refers, IsAmong, names_of}
 use Rattle.yq_documents.specs.TreeEdits.{at_end}
-use Rattle.yq_lookup.specs.Standings.{last_step}
+use Rattle.yq_places.specs.Standings.{last_step}
 use Rattle.yq_edits.specs.Conditions.{AreSpared, anchors_in, aliases_in}
 use Rattle.yq_edits.specs.SoundRoots.{IsSoundRoot}
 use Rattle.yq_edits.proofs.AfterLaws.{end_is_change}

@@ -16,11 +16,11 @@ use Rattle.yq_core.specs.Spans.{HasSpans}
 use Rattle.yq_core.proofs.PathLaws.{path_places}
 use Rattle.yq_row_table.specs.Rows.{Cut, cut_text}
 use Rattle.yq_row_table.proofs.CharacterLaws.{all_text}
-use Rattle.yq_lookup.specs.FlowNodes.{flow_collection}
+use Rattle.yq_places.specs.FlowNodes.{flow_collection}
 use Rattle.yq_documents.specs.Reading.{part_outline, read_at}
-use Rattle.yq_lookup.specs.Standings.{FlowPart, flow_standing, last_step}
-use Rattle.yq_lookup.proofs.FlowSpanLaws.{entry_spans}
-use Rattle.yq_lookup.proofs.HeadSteps.{stem_found}
+use Rattle.yq_places.specs.Standings.{FlowPart, flow_standing, last_step}
+use Rattle.yq_places.proofs.FlowSpanLaws.{entry_spans}
+use Rattle.yq_places.proofs.HeadSteps.{stem_found}
 use Rattle.yq_edits.specs.DocumentRows.{IsDocumentPart}
 use Rattle.yq_edits.specs.FlowRows.{row_collection, FlowAt, NodeStands}
 use Rattle.yq_edits.specs.TextPieces.{IsPiece}

@@ -22,20 +22,20 @@ use Rattle.yq_row_table.proofs.Fronts.{Starts}
 use Rattle.yq_row_table.proofs.PlaceLaws.{row_then}
 use Rattle.yq_row_table.proofs.NodePieces.{before_ascii}
 use Rattle.yq_row_table.proofs.RowAgain.{row_starts}
-use Rattle.yq_lookup.specs.CommentPlaces.{LinesAbove, above_row}
-use Rattle.yq_lookup.specs.FirstBreak.{first_break}
+use Rattle.yq_places.specs.CommentPlaces.{LinesAbove, above_row}
+use Rattle.yq_places.specs.FirstBreak.{first_break}
 use Rattle.yq_documents.specs.Documents.{lead_of}
 use Rattle.yq_outline.specs.Lines as lines
 use Rattle.yq_documents.specs.Pieces.{before_run, last_run}
-use Rattle.yq_lookup.specs.PlacedRows.{PlacedRow, placed_row}
+use Rattle.yq_places.specs.PlacedRows.{PlacedRow, placed_row}
 use Rattle.yq_documents.specs.Reading.{read_at, root_of}
-use Rattle.yq_lookup.specs.RowPaths.{IsReadable}
+use Rattle.yq_places.specs.RowPaths.{IsReadable}
 use Rattle.yq_documents.specs.LinesInRows.{row_line_of}
 use Rattle.yq_documents.specs.TreeEdits.{at_end, with_head_comment}
-use Rattle.yq_lookup.specs.Standings.{RowsOfEntry, rows_of_entry}
-use Rattle.yq_lookup.proofs.CommentEndLaws.{gap_split, run_ascii}
-use Rattle.yq_lookup.proofs.PlacedRowLaws.{IsAt}
-use Rattle.yq_lookup.proofs.SeamLaws.{IsSeam, seam_boundary, seam_then, gap_seam, row_seam}
+use Rattle.yq_places.specs.Standings.{RowsOfEntry, rows_of_entry}
+use Rattle.yq_places.proofs.CommentEndLaws.{gap_split, run_ascii}
+use Rattle.yq_places.proofs.PlacedRowLaws.{IsAt}
+use Rattle.yq_places.proofs.SeamLaws.{IsSeam, seam_boundary, seam_then, gap_seam, row_seam}
 use Rattle.yq_edits.specs.Changed.{put_document}
 use Rattle.yq_edits.specs.DocumentRows.{behind_document}
 use Rattle.yq_edits.specs.Heads.{rerun, with_run}

@@ -13,8 +13,8 @@ use Rattle.yq_row_table.specs.Grammar.{IsContent, IsMark}
 use Rattle.yq_row_table.specs.Rows.{Content, Row, content_text, parent_indent, print_row, rows_text, Cut}
 use Rattle.yq_row_table.specs.View.{slices}
 use Rattle.yq_row_table.proofs.NodeExchange.{mark_apart}
-use Rattle.yq_lookup.specs.RowPieces.{anchor_before, space_before}
-use Rattle.yq_lookup.specs.Standings.{Held, RowsOfEntry, held}
+use Rattle.yq_places.specs.RowPieces.{anchor_before, space_before}
+use Rattle.yq_places.specs.Standings.{Held, RowsOfEntry, held}
 use Rattle.yq_documents.specs.Reading.{read_at}
 use Rattle.yq_edits.specs.Appends.{inserted}
 use Rattle.yq_edits.specs.Changed.{put_document}

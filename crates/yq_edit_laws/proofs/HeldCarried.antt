@@ -11,7 +11,7 @@ use Rattle.yq_outline.proofs.Finding.{FoundNode, path_node}
 use Rattle.yq_row_table.specs.Items.{rows_items}
 use Rattle.yq_row_table.specs.Rows.{Row, print_row, rows_text, Cut, cut_text}
 use Rattle.yq_documents.specs.Reading.{part_outline, read_at, root_of}
-use Rattle.yq_lookup.specs.Standings.{Held, RowsOfEntry, behind_entry, held}
+use Rattle.yq_places.specs.Standings.{Held, RowsOfEntry, behind_entry, held}
 use Rattle.yq_edits.specs.Appends.{inserted}
 use Rattle.yq_edits.specs.Changed.{put_document}
 use Rattle.yq_edits.specs.SoundRoots.{MayReplace}

@@ -16,8 +16,8 @@ use Rattle.yq_row_table.specs.View.{slices}
 use Rattle.yq_outline.specs.Lines.{tail_of}
 use Rattle.yq_documents.specs.TreeEdits.{anchor_of}
 use Rattle.yq_documents.proofs.RowLineLaws.{tail_is}
-use Rattle.yq_lookup.specs.RowPieces.{anchor_before}
-use Rattle.yq_lookup.specs.Standings.{Held, RowsOfEntry, held}
+use Rattle.yq_places.specs.RowPieces.{anchor_before}
+use Rattle.yq_places.specs.Standings.{Held, RowsOfEntry, held}
 use Rattle.yq_edits.specs.StandingLaws.{StandsThere}
 use Rattle.yq_edits.proofs.StandingMarks.{entry_there}
 use Rattle.yq_edits.specs.declared.layout.Layout.{Layout}

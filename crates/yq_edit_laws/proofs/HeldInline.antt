@@ -17,9 +17,9 @@ use Rattle.yq_row_table.specs.View.{slices}
 use Rattle.yq_row_table.proofs.PlaceLaws.{row_front-append}
 use Rattle.yq_outline.specs.Lines.{head_of}
 use Rattle.yq_documents.specs.Reading.{read_at}
-use Rattle.yq_lookup.specs.CommentPlaces.{LineEnd, end_in_line}
-use Rattle.yq_lookup.specs.PrintedLines.{last_break}
-use Rattle.yq_lookup.specs.Standings.{Held, RowsOfEntry, before_entry, held}
+use Rattle.yq_places.specs.CommentPlaces.{LineEnd, end_in_line}
+use Rattle.yq_places.specs.PrintedLines.{last_break}
+use Rattle.yq_places.specs.Standings.{Held, RowsOfEntry, before_entry, held}
 use Rattle.yq_edits.specs.Appends.{inserted}
 use Rattle.yq_edits.specs.Changed.{put_document}
 use Rattle.yq_edits.specs.StandingLaws.{StandsThere}

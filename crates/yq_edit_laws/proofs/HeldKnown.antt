@@ -12,7 +12,7 @@ use Rattle.yq_row_table.specs.Rows.{Row, Cut, cut_text}
 use Rattle.yq_row_table.specs.View.{slices}
 use Rattle.yq_outline.specs.Lines.{content_anchor}
 use Rattle.yq_documents.specs.TreeEdits.{anchor_of}
-use Rattle.yq_lookup.specs.Standings.{RowsOfEntry, held, is_alone}
+use Rattle.yq_places.specs.Standings.{RowsOfEntry, held, is_alone}
 use Rattle.yq_edits.specs.TextPieces.{IsPiece}
 use Rattle.yq_edits.specs.StandingLaws.{HoldsPieces, StandsThere, held_text}
 use Rattle.yq_edit_laws.proofs.NodeRowLaws.{rest}

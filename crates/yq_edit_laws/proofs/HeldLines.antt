@@ -11,8 +11,8 @@ use Rattle.yq_row_table.specs.Gap.{IsBreak}
 use Rattle.yq_row_table.specs.Grammar.{IsTail}
 use Rattle.yq_row_table.specs.Rows.{Content, Row, mark_column, print_row, rows_text, Cut}
 use Rattle.yq_row_table.specs.View.{slices}
-use Rattle.yq_lookup.specs.RowPieces.{anchor_before}
-use Rattle.yq_lookup.specs.Standings.{Held, RowsOfEntry, held}
+use Rattle.yq_places.specs.RowPieces.{anchor_before}
+use Rattle.yq_places.specs.Standings.{Held, RowsOfEntry, held}
 use Rattle.yq_edits.specs.StandingLaws.{StandsThere}
 use Rattle.yq_edits.specs.TextPieces.{IsPiece}
 use Rattle.yq_edits.proofs.RemovalPieceLaws.{spaces_piece}

@@ -10,10 +10,10 @@ use Rattle.yq_row_table.specs.Grammar.{IsRow, IsTail, unlimited}
 use Rattle.yq_row_table.specs.Rows.{Cut, cut_text, parent_indent, rows_text}
 use Rattle.yq_row_table.specs.View.{slices}
 use Rattle.yq_documents.specs.Reading.{read_at}
-use Rattle.yq_lookup.specs.CommentPlaces.{LineEnd, end_in_line}
-use Rattle.yq_lookup.specs.PrintedLines.{last_break}
-use Rattle.yq_lookup.specs.Standings.{Held, RowsOfEntry, behind_entry, held, rows_of_entry}
-use Rattle.yq_lookup.proofs.LineEndLaws.{line_tail}
+use Rattle.yq_places.specs.CommentPlaces.{LineEnd, end_in_line}
+use Rattle.yq_places.specs.PrintedLines.{last_break}
+use Rattle.yq_places.specs.Standings.{Held, RowsOfEntry, behind_entry, held, rows_of_entry}
+use Rattle.yq_places.proofs.LineEndLaws.{line_tail}
 use Rattle.yq_edits.specs.StandingLaws.{StandsThere}
 use Rattle.yq_edits.proofs.StandingMarks.{row_there}
 use Rattle.yq_edits.proofs.StandingRows.{rows_stand}

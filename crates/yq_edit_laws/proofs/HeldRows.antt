@@ -20,13 +20,13 @@ use Rattle.yq_row_table.proofs.CharacterLaws.{pairs_back}
 use Rattle.yq_outline.specs.Lines.{content_anchor, head_of, lines_of_rows, row_lines}
 use Rattle.yq_documents.specs.TreeEdits.{anchor_of}
 use Rattle.yq_documents.specs.Reading.{part_outline, read_at}
-use Rattle.yq_lookup.specs.CommentPlaces.{LineEnd, end_in_line, text_to_line_end}
-use Rattle.yq_lookup.specs.PrintedLines.{last_break}
-use Rattle.yq_lookup.specs.Standings.{RowsOfEntry, before_entry, behind_entry, held, rows_of_entry}
-use Rattle.yq_lookup.proofs.CommentPieceLaws.{Ended}
-use Rattle.yq_lookup.proofs.LastBreakLaws.{lf_last}
-use Rattle.yq_lookup.proofs.LineEndLaws.{line_tail}
-use Rattle.yq_lookup.proofs.RunSpans.{rows_then}
+use Rattle.yq_places.specs.CommentPlaces.{LineEnd, end_in_line, text_to_line_end}
+use Rattle.yq_places.specs.PrintedLines.{last_break}
+use Rattle.yq_places.specs.Standings.{RowsOfEntry, before_entry, behind_entry, held, rows_of_entry}
+use Rattle.yq_places.proofs.CommentPieceLaws.{Ended}
+use Rattle.yq_places.proofs.LastBreakLaws.{lf_last}
+use Rattle.yq_places.proofs.LineEndLaws.{line_tail}
+use Rattle.yq_places.proofs.RunSpans.{rows_then}
 use Rattle.yq_edits.specs.Siblings.{HasEntries}
 use Rattle.yq_edits.specs.StandingLaws.{StandsThere}
 use Rattle.yq_edits.specs.TextPieces.{IsPiece}

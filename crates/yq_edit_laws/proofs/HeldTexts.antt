@@ -12,7 +12,7 @@ use Rattle.yq_row_table.proofs.NodeExchange.{mark_apart}
 use Rattle.yq_row_table.proofs.PlaceLaws.{row_front-append}
 use Rattle.yq_outline.specs.Lines.{content_anchor}
 use Rattle.yq_documents.proofs.RowLineLaws.{tail_is}
-use Rattle.yq_lookup.specs.Standings.{RowsOfEntry, before_entry, held}
+use Rattle.yq_places.specs.Standings.{RowsOfEntry, before_entry, held}
 use Rattle.yq_edits.specs.DocumentRows.{behind_document}
 use Rattle.yq_edits.specs.StandingLaws.{StandsThere}
 use Rattle.yq_edits.proofs.CoreLaws.{put_core}

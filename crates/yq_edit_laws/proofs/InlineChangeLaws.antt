@@ -3,7 +3,7 @@ use Rattle.std.proofs.Common.{◌≡◌, List, [], ◌∷◌, ◌++◌, is_some,
 use Rattle.yq_core.specs.declared.style.Place.TheVariants.{Block as InBlock}
 use Rattle.yq_row_table.specs.Exchange.{with_content}
 use Rattle.yq_row_table.specs.Rows.{Row, parent_indent}
-use Rattle.yq_lookup.specs.Standings.{held}
+use Rattle.yq_places.specs.Standings.{held}
 use Rattle.yq_edits.proofs.StandingRows.{rows_stand}
 use Rattle.yq_edits.specs.Layouts.{layout_of}
 use Rattle.yq_edits.specs.RowChanges.{InlineValuesChangeRows}

@@ -11,7 +11,7 @@ use Rattle.yq_row_table.proofs.ItemLaws.{items_text-append}
 use Rattle.yq_row_table.proofs.KeptLaws.{items_apart}
 use Rattle.yq_row_table.proofs.NothingLaws.{some_behind}
 use Rattle.yq_row_table.proofs.seams.MarkerSeams.{marker_line_is}
-use Rattle.yq_lookup.proofs.CommentPieceLaws.{Ended}
+use Rattle.yq_places.proofs.CommentPieceLaws.{Ended}
 use Rattle.yq_edits.proofs.EndedRowLaws.{row_ended}
 use Rattle.yq_edits.proofs.ItemsLocal.{item_apart}
 use Rattle.yq_edit_laws.proofs.TouchLaws.{size_one}

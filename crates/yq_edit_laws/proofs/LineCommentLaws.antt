@@ -13,16 +13,16 @@ use Rattle.yq_row_table.specs.Grammar.{IsTail, no_rows}
 use Rattle.yq_row_table.specs.Rows.{Row, parent_indent, print_row, rows_text, Part, Cut, cut_text, part_text}
 use Rattle.yq_row_table.specs.View.{slices}
 use Rattle.yq_row_table.proofs.splices.SpliceTexts.{own_gap, own_end}
-use Rattle.yq_lookup.specs.CommentPlaces.{LineEnd, end_in_line, text_to_line_end, end_of_line}
+use Rattle.yq_places.specs.CommentPlaces.{LineEnd, end_in_line, text_to_line_end, end_of_line}
 use Rattle.yq_documents.specs.Documents.{lead_of}
 use Rattle.yq_documents.specs.LinesInRows.{row_line_of}
-use Rattle.yq_lookup.specs.PlacedRows.{PlacedPart, PlacedRow, placed_row}
+use Rattle.yq_places.specs.PlacedRows.{PlacedPart, PlacedRow, placed_row}
 use Rattle.yq_documents.specs.Reading.{read_at, root_of}
-use Rattle.yq_lookup.specs.RowPaths.{IsReadable}
+use Rattle.yq_places.specs.RowPaths.{IsReadable}
 use Rattle.yq_documents.specs.TreeEdits.{at_end, with_line_comment}
-use Rattle.yq_lookup.proofs.LineEndLaws.{line_tail, end_of_tail, tail_is_end}
-use Rattle.yq_lookup.specs.Standings.{Held, RowsOfEntry, before_entry, behind_entry, entry_rows_at, held, rows_of_entry}
-use Rattle.yq_lookup.proofs.RunSpans.{rows_then}
+use Rattle.yq_places.proofs.LineEndLaws.{line_tail, end_of_tail, tail_is_end}
+use Rattle.yq_places.specs.Standings.{Held, RowsOfEntry, before_entry, behind_entry, entry_rows_at, held, rows_of_entry}
+use Rattle.yq_places.proofs.RunSpans.{rows_then}
 use Rattle.yq_edits.specs.Appends.{inserted}
 use Rattle.yq_edits.specs.Changed.{put_document}
 use Rattle.yq_edits.specs.DocumentRows.{behind_document}

@@ -13,9 +13,9 @@ use Rattle.yq_row_table.specs.Rows.{Content, Nothing, Inline, Block, Row, print_
 use Rattle.yq_row_table.specs.Splices.{first_gap}
 use Rattle.yq_row_table.specs.View.{content_cut, slices}
 use Rattle.yq_row_table.proofs.LineEnds.{white_none, text_line, white_again, behind_comment}
-use Rattle.yq_lookup.specs.CommentPlaces.{text_to_line_end}
+use Rattle.yq_places.specs.CommentPlaces.{text_to_line_end}
 use Rattle.yq_documents.specs.Documents.{lead_of}
-use Rattle.yq_lookup.proofs.CommentEndLaws.{row_text_parts}
+use Rattle.yq_places.proofs.CommentEndLaws.{row_text_parts}
 use Rattle.yq_edits.specs.PathTails.{with_line_tail, IsLineTail, tailed}
 use Rattle.yq_edits.specs.Rooms.{row_shape}
 use Rattle.yq_semantics.specs.Meaning.{line_comment_text}

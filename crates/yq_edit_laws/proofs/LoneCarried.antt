@@ -18,14 +18,14 @@ use Rattle.yq_row_table.proofs.seams.SeamLaws.{rows_text-append}
 use Rattle.yq_documents.specs.Documents.{lead_of}
 use Rattle.yq_documents.specs.Reading.{documents, read_at, root_of}
 use Rattle.yq_documents.specs.TreeEdits.{replaced_node}
-use Rattle.yq_lookup.specs.PlacedRows.{PlacedPart, PlacedRow, placed_document}
-use Rattle.yq_lookup.specs.RowPaths.{IsReadable}
-use Rattle.yq_lookup.specs.Standings.{Lone, lone}
-use Rattle.yq_lookup.proofs.CommentEndLaws.{row_text_parts}
-use Rattle.yq_lookup.proofs.CommentPieceLaws.{gap_end}
-use Rattle.yq_lookup.proofs.LineEndLaws.{line_tail}
-use Rattle.yq_lookup.proofs.RemovalLines.{LiesIn, LineSeam, lies_in, seam_join}
-use Rattle.yq_lookup.proofs.RunSpans.{rows_then}
+use Rattle.yq_places.specs.PlacedRows.{PlacedPart, PlacedRow, placed_document}
+use Rattle.yq_places.specs.RowPaths.{IsReadable}
+use Rattle.yq_places.specs.Standings.{Lone, lone}
+use Rattle.yq_places.proofs.CommentEndLaws.{row_text_parts}
+use Rattle.yq_places.proofs.CommentPieceLaws.{gap_end}
+use Rattle.yq_places.proofs.LineEndLaws.{line_tail}
+use Rattle.yq_places.proofs.RemovalLines.{LiesIn, LineSeam, lies_in, seam_join}
+use Rattle.yq_places.proofs.RunSpans.{rows_then}
 use Rattle.yq_edits.specs.Changed.{IsChanged, put_document}
 use Rattle.yq_edits.specs.DocumentRows.{IsDocumentPart, behind_document}
 use Rattle.yq_edits.specs.InlineRows.{LeadsToLone}

@@ -31,13 +31,13 @@ use Rattle.yq_outline.specs.Lines.{lines_of_rows, mark_line, line_mark}
 use Rattle.yq_documents.specs.Reading.{part_outline, read_at, root_of}
 use Rattle.yq_documents.specs.Ready.{begins_no_node}
 use Rattle.yq_documents.specs.TreeEdits.{replaced_node}
-use Rattle.yq_lookup.specs.RowPaths.{IsReadable}
+use Rattle.yq_places.specs.RowPaths.{IsReadable}
 use Rattle.yq_documents.proofs.PartRows.{each}
-use Rattle.yq_lookup.proofs.ReadLaws.{text_takes}
-use Rattle.yq_lookup.proofs.RemovalLines.{front_some}
-use Rattle.yq_lookup.proofs.RowPathLaws.{document_fine}
-use Rattle.yq_lookup.proofs.RunSpans.{rows_then}
-use Rattle.yq_lookup.proofs.HeadSpanLaws.{may_follow}
+use Rattle.yq_places.proofs.ReadLaws.{text_takes}
+use Rattle.yq_places.proofs.RemovalLines.{front_some}
+use Rattle.yq_places.proofs.RowPathLaws.{document_fine}
+use Rattle.yq_places.proofs.RunSpans.{rows_then}
+use Rattle.yq_places.proofs.HeadSpanLaws.{may_follow}
 use Rattle.yq_edits.specs.Changed.{IsChanged, put_document}
 use Rattle.yq_edits.specs.Contents.{TakesContent, recontent}
 use Rattle.yq_edits.specs.DocumentRows.{IsDocumentPart, behind_document}

@@ -21,13 +21,13 @@ use Rattle.yq_row_table.proofs.seams.SeamLaws.{rows_text-append}
 use Rattle.yq_outline.specs.Lines.{lines_from, lines_of_rows, mark_line, line_mark, row_lines}
 use Rattle.yq_documents.specs.Reading.{part_outline, read_at}
 use Rattle.yq_documents.specs.LinesInRows.{RowLine, row_line_of}
-use Rattle.yq_lookup.specs.PlacedRows.{PlacedPart, placed_document}
-use Rattle.yq_lookup.specs.Standings.{RowsOfEntry, before_entry, behind_entry, entry_rows_at, is_alone, lone, rows_of_entry}
-use Rattle.yq_lookup.proofs.CommentPieceLaws.{Ended}
-use Rattle.yq_lookup.proofs.PrintedTexts.{map_some}
-use Rattle.yq_lookup.proofs.RemovalLines.{LineSeam}
-use Rattle.yq_lookup.proofs.RunSpans.{rows_then}
-use Rattle.yq_lookup.proofs.UnderExchange.{lines_append}
+use Rattle.yq_places.specs.PlacedRows.{PlacedPart, placed_document}
+use Rattle.yq_places.specs.Standings.{RowsOfEntry, before_entry, behind_entry, entry_rows_at, is_alone, lone, rows_of_entry}
+use Rattle.yq_places.proofs.CommentPieceLaws.{Ended}
+use Rattle.yq_places.proofs.PrintedTexts.{map_some}
+use Rattle.yq_places.proofs.RemovalLines.{LineSeam}
+use Rattle.yq_places.proofs.RunSpans.{rows_then}
+use Rattle.yq_places.proofs.UnderExchange.{lines_append}
 use Rattle.yq_edits.specs.DocumentRows.{IsDocumentPart, behind_document}
 use Rattle.yq_edits.specs.InlineRows.{LeadsBelow, IsRootRow}
 use Rattle.yq_edits.specs.PlacedParts.{StandsAt}

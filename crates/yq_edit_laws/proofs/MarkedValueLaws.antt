@@ -9,11 +9,11 @@ use Rattle.yq_row_table.specs.Rows.{Content, Nothing, Inline, Block, Row, Cut, c
 use Rattle.yq_row_table.specs.Seams.{is_block}
 use Rattle.yq_row_table.specs.View.{content_cut, slices}
 use Rattle.yq_documents.specs.Reading.{read_at}
-use Rattle.yq_lookup.specs.NodesAt.{node_in}
-use Rattle.yq_lookup.specs.PlacedRows.{PlacedPart, placed_document}
-use Rattle.yq_lookup.specs.Standings as standings
-use Rattle.yq_lookup.specs.Standings.{RowsOfEntry, Standing, before_entry, behind_entry, behind_mark, below, compact_in, entry_standing, held, is_alone, lone, rows_of_entry, root_standing}
-use Rattle.yq_lookup.proofs.PrintedTexts.{map_some}
+use Rattle.yq_places.specs.NodesAt.{node_in}
+use Rattle.yq_places.specs.PlacedRows.{PlacedPart, placed_document}
+use Rattle.yq_places.specs.Standings as standings
+use Rattle.yq_places.specs.Standings.{RowsOfEntry, Standing, before_entry, behind_entry, behind_mark, below, compact_in, entry_standing, held, is_alone, lone, rows_of_entry, root_standing}
+use Rattle.yq_places.proofs.PrintedTexts.{map_some}
 use Rattle.yq_edits.specs.StandingLaws.{StandsThere}
 use Rattle.yq_edits.proofs.StandingRows.{entry_within, rows_stand}
 use Rattle.yq_semantics.specs.Operations.{replace}

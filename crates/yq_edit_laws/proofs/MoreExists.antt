@@ -26,9 +26,9 @@ use Rattle.yq_row_table.specs.View.{anchor_cut, content_cut, slices}
 use Rattle.yq_documents.specs.Documents.{document_parts}
 use Rattle.yq_outline.specs.Lines.{head_of, lines_from, lines_of_rows, line_mark}
 use Rattle.yq_documents.specs.Reading.{part_outline, read_at, root_of}
-use Rattle.yq_lookup.specs.FlowNodes.{find_head, flow_collection}
-use Rattle.yq_lookup.specs.PlacedRows.{PlacedPart}
-use Rattle.yq_lookup.specs.Standings.{RowsOfEntry, Standing, behind_entry, behind_mark, below, beside, entry_standing, held, is_alone, root_standing, standing_at}
+use Rattle.yq_places.specs.FlowNodes.{find_head, flow_collection}
+use Rattle.yq_places.specs.PlacedRows.{PlacedPart}
+use Rattle.yq_places.specs.Standings.{RowsOfEntry, Standing, behind_entry, behind_mark, below, beside, entry_standing, held, is_alone, root_standing, standing_at}
 use Rattle.yq_edits.specs.Siblings.{HasEntries, IsCollectionAt, IsEntry, NodeLines}
 use Rattle.yq_edits.specs.StandingLaws.{StandsThere}
 use Rattle.yq_edits.proofs.NodeLineLaws.{lines_found}

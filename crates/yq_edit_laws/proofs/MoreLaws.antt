@@ -13,15 +13,15 @@ use Rattle.yq_row_table.proofs.NothingLaws.{some_behind}
 use Rattle.yq_documents.specs.Reading.{read_at}
 use Rattle.yq_semantics.specs.Operations.{append}
 use Rattle.yq_text.specs.Script.{Segment}
-use Rattle.yq_lookup.specs.CollectionEnds.{CollectionEnd, is_broken}
-use Rattle.yq_lookup.specs.CommentPlaces.{text_to_line_end}
-use Rattle.yq_lookup.specs.RowPieces.{past_dash, upto_dash}
-use Rattle.yq_lookup.specs.PlacedRows.{PlacedPart, placed_document}
-use Rattle.yq_lookup.specs.PrintedLines.{last_break}
-use Rattle.yq_lookup.specs.Standings.{BlockRoot, Compact, Held, RowsOfEntry, alone, beside, compact, root, under, before_entry, behind_entry, behind_mark, below, block_root, compact_in, dash_text, entry_standing, held, is_alone, lone, rows_of_entry, root_standing}
-use Rattle.yq_lookup.proofs.CommentEndLaws.{row_text_parts}
-use Rattle.yq_lookup.proofs.DashLaws.{line_within, row_cut}
-use Rattle.yq_lookup.proofs.PrintedTexts.{less_is, map_some}
+use Rattle.yq_places.specs.CollectionEnds.{CollectionEnd, is_broken}
+use Rattle.yq_places.specs.CommentPlaces.{text_to_line_end}
+use Rattle.yq_places.specs.RowPieces.{past_dash, upto_dash}
+use Rattle.yq_places.specs.PlacedRows.{PlacedPart, placed_document}
+use Rattle.yq_places.specs.PrintedLines.{last_break}
+use Rattle.yq_places.specs.Standings.{BlockRoot, Compact, Held, RowsOfEntry, alone, beside, compact, root, under, before_entry, behind_entry, behind_mark, below, block_root, compact_in, dash_text, entry_standing, held, is_alone, lone, rows_of_entry, root_standing}
+use Rattle.yq_places.proofs.CommentEndLaws.{row_text_parts}
+use Rattle.yq_places.proofs.DashLaws.{line_within, row_cut}
+use Rattle.yq_places.proofs.PrintedTexts.{less_is, map_some}
 use Rattle.yq_edits.specs.CollectionPlaces.{IsCollectionEnd}
 use Rattle.yq_edits.specs.DocumentRows.{IsDocumentPart, behind_document}
 use Rattle.yq_edits.specs.PlacedParts.{StandsAt}

@@ -13,8 +13,8 @@ use Rattle.yq_semantics.specs.Fits.{Fits}
 use Rattle.yq_semantics.specs.Operations.{append}
 use Rattle.yq_semantics.specs.Rooms.{room_of}
 use Rattle.yq_text.specs.Script.{Segment, kept_back, kept_front, new_text, old_text}
-use Rattle.yq_lookup.specs.CollectionEnds.{CollectionEnd}
-use Rattle.yq_lookup.specs.Standings.{Held}
+use Rattle.yq_places.specs.CollectionEnds.{CollectionEnd}
+use Rattle.yq_places.specs.Standings.{Held}
 use Rattle.yq_edits.specs.ClosedTexts.{lines_put_behind}
 use Rattle.yq_edits.specs.EditLaws.{IsEdit}
 use Rattle.yq_edits.specs.EntryEdits.{behind_held, behind_lines, entry_lines}

@@ -23,13 +23,13 @@ use Rattle.yq_documents.specs.Reading.{documents, read_at}
 use Rattle.yq_flow_edits.specs.FlowEdits.{FlowEdit, appending}
 use Rattle.yq_flow_edits.specs.Removals.{removing}
 use Rattle.yq_flow_edits.proofs.RemoveTexts.{either}
-use Rattle.yq_lookup.specs.FirstPlaces.{first_removal}
-use Rattle.yq_lookup.specs.FlowNodes.{flow_collection}
-use Rattle.yq_lookup.specs.NodesAt.{node_in, scalar_in}
-use Rattle.yq_lookup.specs.PlacedRows.{PlacedPart, placed_document}
-use Rattle.yq_lookup.specs.RemovalPlaces.{has_others_at, removal_place}
-use Rattle.yq_lookup.specs.Standings.{BlockRoot, Compact, FlowPart, Held, Lone, RowsOfEntry, Standing, alone, behind_mark, below, beside, block, compact, compact_in, entry_standing, flow_standing, held, is_alone, last_step, no_rows, rows_of_entry, root, root_standing, standing_at, under}
-use Rattle.yq_lookup.proofs.PrintedTexts.{map_some}
+use Rattle.yq_places.specs.FirstPlaces.{first_removal}
+use Rattle.yq_places.specs.FlowNodes.{flow_collection}
+use Rattle.yq_places.specs.NodesAt.{node_in, scalar_in}
+use Rattle.yq_places.specs.PlacedRows.{PlacedPart, placed_document}
+use Rattle.yq_places.specs.RemovalPlaces.{has_others_at, removal_place}
+use Rattle.yq_places.specs.Standings.{BlockRoot, Compact, FlowPart, Held, Lone, RowsOfEntry, Standing, alone, behind_mark, below, beside, block, compact, compact_in, entry_standing, flow_standing, held, is_alone, last_step, no_rows, rows_of_entry, root, root_standing, standing_at, under}
+use Rattle.yq_places.proofs.PrintedTexts.{map_some}
 use Rattle.yq_semantics.specs.Fits.{Fits}
 use Rattle.yq_semantics.specs.Operations.{replace, append, remove, line_comment, head_comment}
 use Rattle.yq_semantics.specs.Rooms.{room_of}

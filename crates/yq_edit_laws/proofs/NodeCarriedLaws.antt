@@ -6,7 +6,7 @@ use Rattle.yq_outline.specs.Places.{content_under}
 use Rattle.yq_row_table.specs.Rows.{Row, print_row, rows_text, Cut, cut_text}
 use Rattle.yq_row_table.proofs.splices.SpliceTexts.{own_end}
 use Rattle.yq_documents.specs.Reading.{read_at, root_of}
-use Rattle.yq_lookup.specs.RowPaths.{IsReadable}
+use Rattle.yq_places.specs.RowPaths.{IsReadable}
 use Rattle.yq_edits.specs.Appends.{inserted}
 use Rattle.yq_edits.specs.Changed.{put_document}
 use Rattle.yq_edits.specs.DocumentRows.{behind_document}

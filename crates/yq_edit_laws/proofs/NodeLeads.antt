@@ -8,7 +8,7 @@ use Rattle.yq_row_table.specs.View.{content_cut, slices}
 use Rattle.yq_row_table.proofs.PlaceLaws.{dashes_then, row_front-append}
 use Rattle.yq_row_table.proofs.seams.JoinLaws.{dashes_text-append}
 use Rattle.yq_row_table.proofs.SliceLaws.{content_slices}
-use Rattle.yq_lookup.specs.RowPieces.{anchor_before, space_before}
+use Rattle.yq_places.specs.RowPieces.{anchor_before, space_before}
 use Rattle.yq_row_table.specs.Items.{rows_items}
 use Rattle.yq_edits.specs.BlockPlaces.{IsUpto, at_mark, at_dash}
 use Rattle.yq_edits.specs.Local.{InFirst}

@@ -21,8 +21,8 @@ use Rattle.yq_outline.specs.Lines.{content_anchor, head_of, tail_of, lines_of_ro
 use Rattle.yq_documents.specs.TreeEdits.{anchor_of, led, replaced_node}
 use Rattle.yq_documents.specs.Ready.{begins_no_node}
 use Rattle.yq_documents.specs.Reading.{root_of}
-use Rattle.yq_lookup.specs.RowPaths.{IsReadable}
-use Rattle.yq_lookup.proofs.RunSpans.{rows_then}
+use Rattle.yq_places.specs.RowPaths.{IsReadable}
+use Rattle.yq_places.proofs.RunSpans.{rows_then}
 use Rattle.yq_edits.specs.Appends.{inserted}
 use Rattle.yq_edits.specs.Changed.{IsChanged, put_document}
 use Rattle.yq_edits.specs.DocumentRows.{behind_document}

@@ -4,7 +4,7 @@ use Rattle.std.specs.Prelude.{⊤}
 use Rattle.yq_core.specs.Text.{is_empty}
 use Rattle.yq_core.specs.Tree.{Node}
 use Rattle.yq_core.specs.declared.style.Place.TheVariants.{Block as InBlock}
-use Rattle.yq_lookup.specs.Standings.{Held}
+use Rattle.yq_places.specs.Standings.{Held}
 use Rattle.yq_text.specs.Script.{Segment, changes, keep, keep_before, merged, put, put_before, splice_at, splices_at}
 use Rattle.yq_text.specs.Splice.{Splice}
 use Rattle.yq_text.proofs.TouchLaws.{put_twice}

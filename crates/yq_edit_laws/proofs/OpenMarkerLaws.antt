@@ -10,8 +10,8 @@ use Rattle.yq_row_table.specs.Rows.{Part, part_text, Cut, last, marked, cut_text
 use Rattle.yq_row_table.proofs.PlaceLaws.{part_then}
 use Rattle.yq_documents.specs.Documents.{begins_bare, has_begin, with_part, parts_from, document_parts}
 use Rattle.yq_documents.specs.PartNumbers.{number_from, part_number}
-use Rattle.yq_lookup.specs.PlacedRows.{PlacedPart, before_part, placed_at, placed_document}
-use Rattle.yq_lookup.proofs.PlacedPartLaws.{part_stands}
+use Rattle.yq_places.specs.PlacedRows.{PlacedPart, before_part, placed_at, placed_document}
+use Rattle.yq_places.proofs.PlacedPartLaws.{part_stands}
 use Rattle.yq_edits.specs.Changed.{put_document, put_part}
 use Rattle.yq_row_table.specs.Items.{Item, end_item, rows_items, items_of_cut}
 use Rattle.yq_edits.proofs.DocumentItemLaws.{rows_before}

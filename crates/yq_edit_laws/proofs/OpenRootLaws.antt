@@ -20,12 +20,12 @@ use Rattle.yq_row_table.specs.Rows.{Row, Part, part_text, Cut, cut_text}
 use Rattle.yq_row_table.proofs.CharacterLaws.{pairs_back}
 use Rattle.yq_row_table.proofs.splices.MarkerLaws.{marker_appended}
 use Rattle.yq_row_table.proofs.GapLaws.{some_more}
-use Rattle.yq_lookup.specs.PlacedRows.{PlacedPart}
+use Rattle.yq_places.specs.PlacedRows.{PlacedPart}
 use Rattle.yq_documents.specs.Reading.{all_documents, is_document, read_at}
-use Rattle.yq_lookup.specs.Standings.{NoRows}
-use Rattle.yq_lookup.specs.RowPaths.{IsReadable}
-use Rattle.yq_lookup.proofs.ReadLaws.{text_again, text_takes}
-use Rattle.yq_lookup.proofs.RemovalLines.{LineSeam}
+use Rattle.yq_places.specs.Standings.{NoRows}
+use Rattle.yq_places.specs.RowPaths.{IsReadable}
+use Rattle.yq_places.proofs.ReadLaws.{text_again, text_takes}
+use Rattle.yq_places.proofs.RemovalLines.{LineSeam}
 use Rattle.yq_edits.specs.declared.layout.Layout.{Layout}
 use Rattle.yq_edits.specs.BlockText.{block_value}
 use Rattle.yq_edits.proofs.LaidRows.{no_gap_here}

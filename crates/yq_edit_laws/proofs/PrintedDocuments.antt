@@ -3,9 +3,9 @@ use Rattle.std.proofs.Common.{◌≡◌, ℕ, Some, refl}
 use Rattle.std.specs.List.{slice_get}
 use Rattle.yq_row_table.specs.Rows.{Part, Cut, cut_text}
 use Rattle.yq_documents.specs.Documents.{document_parts}
-use Rattle.yq_lookup.specs.PathPieces.{PrintedDocument, printed_document}
+use Rattle.yq_places.specs.PathPieces.{PrintedDocument, printed_document}
 use Rattle.yq_documents.specs.Reading.{read_at}
-use Rattle.yq_lookup.proofs.PrintedLaws.{IsPrintedDocument, document_is}
+use Rattle.yq_places.proofs.PrintedLaws.{IsPrintedDocument, document_is}
 use Rattle.yq_edits.proofs.PartLaws.{document_known}
 use Rattle.yq_edits.proofs.PlaceTextLaws.{around}
 

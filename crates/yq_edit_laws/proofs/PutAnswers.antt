@@ -20,10 +20,10 @@ use Rattle.yq_core.specs.NodesWritten.{flow_of}
 use Rattle.yq_core.proofs.PathLaws.{path_places}
 use Rattle.yq_core.proofs.TreeLaws.{node_tree}
 use Rattle.yq_row_table.specs.Rows.{Cut, cut_text}
-use Rattle.yq_lookup.specs.FlowViews.{FlowAgrees, behind_anchor, collection_view, placed_collection}
-use Rattle.yq_lookup.specs.NodesAt.{node_in}
-use Rattle.yq_lookup.specs.Standings.{FlowPart, flow_standing, last_step}
-use Rattle.yq_lookup.specs.declared.places.flow_node.FlowHead.{FlowHead}
+use Rattle.yq_places.specs.FlowViews.{FlowAgrees, behind_anchor, collection_view, placed_collection}
+use Rattle.yq_places.specs.NodesAt.{node_in}
+use Rattle.yq_places.specs.Standings.{FlowPart, flow_standing, last_step}
+use Rattle.yq_places.specs.declared.places.flow_node.FlowHead.{FlowHead}
 use Rattle.yq_edits.specs.FlowParts.{flow_value}
 use Rattle.yq_edits.specs.Replacing.{keeps_scalar}
 use Rattle.yq_edits.specs.WrittenValues.{value_text}

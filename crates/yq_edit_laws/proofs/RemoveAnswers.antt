@@ -9,9 +9,9 @@ use Rattle.yq_flow_edits.specs.FlowPlaces.{PlacedEdit, place_edit, remove_place}
 use Rattle.yq_core.specs.Places.{Placed, placed}
 use Rattle.yq_flow_edits.specs.Removals.{removing}
 use Rattle.yq_row_table.specs.Rows.{Cut, cut_text}
-use Rattle.yq_lookup.specs.FlowViews.{behind_anchor, placed_collection}
-use Rattle.yq_lookup.specs.Standings.{last_step}
-use Rattle.yq_lookup.specs.declared.places.flow_node.FlowHead.{FlowHead}
+use Rattle.yq_places.specs.FlowViews.{behind_anchor, placed_collection}
+use Rattle.yq_places.specs.Standings.{last_step}
+use Rattle.yq_places.specs.declared.places.flow_node.FlowHead.{FlowHead}
 use Rattle.yq_edits.specs.Edits.{part_removed}
 use Rattle.yq_edits.specs.FlowParts.{flow_removed, flow_segments}
 use Rattle.yq_edit_laws.specs.EditPlaces.{edit_segments, moved_on}

@@ -15,16 +15,16 @@ use Rattle.yq_outline.specs.Lines.{lines_of_rows}
 use Rattle.yq_documents.specs.Pieces.{TextPiece}
 use Rattle.yq_documents.specs.Reading.{read_at}
 use Rattle.yq_documents.specs.LinesInRows.{RowLine, row_line, row_line_of}
-use Rattle.yq_lookup.specs.FirstPlaces.{first_entry, first_out, first_removal}
-use Rattle.yq_lookup.specs.PathPieces.{BlockEntry, PrintedDocument, entry_piece, found_entry, piece_in, piece_in_entry, printed_document}
-use Rattle.yq_lookup.specs.PlacedRows.{PlacedPart}
-use Rattle.yq_lookup.specs.PrintedLines.{line_in}
-use Rattle.yq_lookup.specs.RemovalPlaces.{OwnRows, in_three, own_rows, removal_place, row_count, rows_out}
-use Rattle.yq_lookup.specs.Standings.{RowsOfEntry, rows_of_entry}
-use Rattle.yq_lookup.proofs.FoundEntries.{entry_there, middle}
-use Rattle.yq_lookup.proofs.PrintedLaws.{lines_are}
-use Rattle.yq_lookup.proofs.RowPathLaws.{found_lines}
-use Rattle.yq_lookup.proofs.DashLineLaws.{row_line_found}
+use Rattle.yq_places.specs.FirstPlaces.{first_entry, first_out, first_removal}
+use Rattle.yq_places.specs.PathPieces.{BlockEntry, PrintedDocument, entry_piece, found_entry, piece_in, piece_in_entry, printed_document}
+use Rattle.yq_places.specs.PlacedRows.{PlacedPart}
+use Rattle.yq_places.specs.PrintedLines.{line_in}
+use Rattle.yq_places.specs.RemovalPlaces.{OwnRows, in_three, own_rows, removal_place, row_count, rows_out}
+use Rattle.yq_places.specs.Standings.{RowsOfEntry, rows_of_entry}
+use Rattle.yq_places.proofs.FoundEntries.{entry_there, middle}
+use Rattle.yq_places.proofs.PrintedLaws.{lines_are}
+use Rattle.yq_places.proofs.RowPathLaws.{found_lines}
+use Rattle.yq_places.proofs.DashLineLaws.{row_line_found}
 use Rattle.yq_edits.specs.StandingLaws.{StandsThere}
 use Rattle.yq_edits.proofs.StandingRows.{rows_stand}
 use Rattle.yq_text.specs.Script.{Segment}

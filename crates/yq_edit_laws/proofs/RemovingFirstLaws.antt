@@ -5,9 +5,9 @@ use Rattle.yq_text.specs.Limit.{text_limit}
 use Rattle.yq_core.specs.Paths.{Step}
 use Rattle.std.specs.Option.{option_or}
 use Rattle.yq_row_table.specs.Rows.{Row, Cut, cut_text}
-use Rattle.yq_lookup.specs.FirstPlaces.{FirstOut, first_removal}
+use Rattle.yq_places.specs.FirstPlaces.{FirstOut, first_removal}
 use Rattle.yq_documents.specs.Reading.{read_at}
-use Rattle.yq_lookup.specs.RemovalPlaces.{Removal, has_others_at, removal_place}
+use Rattle.yq_places.specs.RemovalPlaces.{Removal, has_others_at, removal_place}
 use Rattle.yq_edits.specs.Changed.{put_document}
 use Rattle.yq_row_table.specs.Items.{row_item, rows_items}
 use Rattle.yq_edits.specs.RemovalChanges.{IsTakenOut}

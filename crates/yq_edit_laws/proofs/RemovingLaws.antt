@@ -16,7 +16,7 @@ use Rattle.yq_row_table.specs.Rows.{Row, print_row, behind_gap, Part, Cut, cut_t
 use Rattle.yq_row_table.specs.Splices.{first_gap}
 use Rattle.yq_documents.specs.Documents.{Document, document_parts, lead_of}
 use Rattle.yq_documents.specs.Reading.{documents, read_at, root_of}
-use Rattle.yq_lookup.specs.RemovalPlaces.{kept_gap, Seam, Removal, removal_place, has_several, has_others, has_others_at}
+use Rattle.yq_places.specs.RemovalPlaces.{kept_gap, Seam, Removal, removal_place, has_several, has_others, has_others_at}
 use Rattle.yq_documents.specs.TreeEdits.{at_end}
 use Rattle.yq_edits.specs.Conditions.{AreSpared}
 use Rattle.yq_edits.specs.RemovalChanges.{mended, MayTakeOut, IsTakenOut}

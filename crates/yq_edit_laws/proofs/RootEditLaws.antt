@@ -7,8 +7,8 @@ use Rattle.yq_core.specs.Tree.{Node}
 use Rattle.yq_flow_edits.specs.Valued.{IsValueTree}
 use Rattle.yq_row_table.specs.Rows.{behind_gap, behind_indent, print_row, part_text, Cut, cut_text}
 use Rattle.yq_documents.specs.Reading.{documents, read_at}
-use Rattle.yq_lookup.specs.RowPaths.{IsReadable}
-use Rattle.yq_lookup.specs.Standings.{BlockRoot, NoRows}
+use Rattle.yq_places.specs.RowPaths.{IsReadable}
+use Rattle.yq_places.specs.Standings.{BlockRoot, NoRows}
 use Rattle.yq_edits.specs.Replaces.{rooted}
 use Rattle.yq_edits.specs.TextPieces.{IsPiece}
 use Rattle.yq_edits.proofs.FirstBreakLaws.{IsOneBreak}

@@ -7,9 +7,9 @@ use Rattle.yq_flow_edits.specs.Valued.{IsValueTree}
 use Rattle.yq_core.specs.Anchors.{names_of}
 use Rattle.yq_row_table.specs.Rows.{Row, Part, Cut, cut_text}
 use Rattle.yq_documents.specs.Documents.{document_parts}
-use Rattle.yq_lookup.specs.PlacedRows.{PlacedPart}
+use Rattle.yq_places.specs.PlacedRows.{PlacedPart}
 use Rattle.yq_documents.specs.Reading.{documents, read_at, root_of}
-use Rattle.yq_lookup.specs.RowPaths.{IsReadable}
+use Rattle.yq_places.specs.RowPaths.{IsReadable}
 use Rattle.yq_edits.specs.declared.layout.Layout.{Layout}
 use Rattle.yq_edits.specs.BlockText.{block_value}
 use Rattle.yq_edits.specs.BlockValues.{HasNearKeys}

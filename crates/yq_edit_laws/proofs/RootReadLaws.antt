@@ -15,10 +15,10 @@ use Rattle.yq_row_table.specs.SpliceFits.{is_after}
 use Rattle.yq_row_table.specs.Splices.{first_gap, marker_before}
 use Rattle.yq_documents.specs.Documents.{Document, document_parts, lead_of}
 use Rattle.yq_documents.specs.TreeEdits.{anchor_of, headed, lead_by, led, replaced_node}
-use Rattle.yq_lookup.specs.PlacedRows.{PlacedPart}
+use Rattle.yq_places.specs.PlacedRows.{PlacedPart}
 use Rattle.yq_documents.specs.Reading as reading
 use Rattle.yq_documents.specs.Reading.{root_of, read_at}
-use Rattle.yq_lookup.specs.RowPaths.{IsReadable}
+use Rattle.yq_places.specs.RowPaths.{IsReadable}
 use Rattle.yq_edits.specs.declared.layout.Layout.{Layout}
 use Rattle.yq_edits.specs.BlockText.{block_value}
 use Rattle.yq_edits.specs.BlockValues.{HasNearKeys}

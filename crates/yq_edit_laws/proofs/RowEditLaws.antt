@@ -9,8 +9,8 @@ use Rattle.yq_core.specs.BlockWritten.{break_text}
 use Rattle.yq_row_table.specs.Rows.{Content, Nothing, Inline, Block, cut_text}
 use Rattle.yq_row_table.specs.Seams.{is_block}
 use Rattle.yq_row_table.specs.View.{content_cut}
-use Rattle.yq_lookup.specs.NodesAt.{node_in}
-use Rattle.yq_lookup.specs.Standings.{RowsOfEntry, behind_mark, below, beside, compact, compact_in, entry_standing, flow_standing, held, last_step, standing_at}
+use Rattle.yq_places.specs.NodesAt.{node_in}
+use Rattle.yq_places.specs.Standings.{RowsOfEntry, behind_mark, below, beside, compact, compact_in, entry_standing, flow_standing, held, last_step, standing_at}
 use Rattle.yq_text.specs.Script.{Segment, keep}
 use Rattle.yq_edits.specs.CommentEdits.{comment_put, line_comment_put}
 use Rattle.yq_edits.specs.FlowParts.{flow_put}

@@ -14,10 +14,10 @@ use Rattle.yq_row_table.specs.View.{slices}
 use Rattle.yq_row_table.proofs.LineEnds.{comment_none, text_line, white_none}
 use Rattle.yq_outline.specs.Lines.{block_anchor, content_anchor}
 use Rattle.yq_documents.specs.TreeEdits.{anchor_of}
-use Rattle.yq_lookup.specs.CommentPlaces.{LineEnd, end_in_line}
-use Rattle.yq_lookup.specs.PrintedLines.{last_break, less_break}
-use Rattle.yq_lookup.specs.RowPieces.{anchor_before, space_before}
-use Rattle.yq_lookup.specs.Standings.{RowsOfEntry, before_entry, held}
+use Rattle.yq_places.specs.CommentPlaces.{LineEnd, end_in_line}
+use Rattle.yq_places.specs.PrintedLines.{last_break, less_break}
+use Rattle.yq_places.specs.RowPieces.{anchor_before, space_before}
+use Rattle.yq_places.specs.Standings.{RowsOfEntry, before_entry, held}
 use Rattle.yq_edits.specs.StandingLaws.{StandsThere}
 use Rattle.yq_edits.specs.TextPieces.{IsPiece}
 use Rattle.yq_edits.specs.ReplaceEdits.{line_break, raw_last}

@@ -21,7 +21,7 @@ use Rattle.yq_row_table.proofs.PlaceLaws.{row_front-append}
 use Rattle.yq_row_table.proofs.seams.RowSeams.{block_no_space}
 use Rattle.yq_outline.specs.Lines.{block_anchor}
 use Rattle.yq_documents.proofs.RowLineLaws.{tail_is}
-use Rattle.yq_lookup.specs.Standings.{Held, RowsOfEntry, held}
+use Rattle.yq_places.specs.Standings.{Held, RowsOfEntry, held}
 use Rattle.yq_edits.specs.InlineRows.{IsValueNode}
 use Rattle.yq_edits.specs.StandingLaws.{StandsThere}
 use Rattle.yq_edits.proofs.CoreLaws.{recore, anchored_node, core_anchor, core_bare, core_head, core_keys}

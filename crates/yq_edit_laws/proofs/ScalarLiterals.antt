@@ -31,9 +31,9 @@ use Rattle.yq_row_table.proofs.PlaceLaws.{row_front-append}
 use Rattle.yq_row_table.proofs.seams.RowSeams.{block_no_space}
 use Rattle.yq_outline.specs.Lines.{head_of, tail_of}
 use Rattle.yq_outline.specs.Comments.{line_comment}
-use Rattle.yq_lookup.specs.NodesAt.{node_in, scalar_in}
-use Rattle.yq_lookup.specs.RowPieces.{anchor_before, space_before}
-use Rattle.yq_lookup.specs.Standings.{Held, RowsOfEntry, held}
+use Rattle.yq_places.specs.NodesAt.{node_in, scalar_in}
+use Rattle.yq_places.specs.RowPieces.{anchor_before, space_before}
+use Rattle.yq_places.specs.Standings.{Held, RowsOfEntry, held}
 use Rattle.yq_edits.specs.StandingLaws.{StandsThere}
 use Rattle.yq_edits.proofs.PathTailLaws.{anchor_other}
 use Rattle.yq_semantics.specs.Operations.{replace}

@@ -10,8 +10,8 @@ use Rattle.yq_outline.specs.Comments.{line_comment}
 use Rattle.yq_row_table.specs.Grammar.{IsTail}
 use Rattle.yq_row_table.specs.Rows.{Anchor, Block, Cut}
 use Rattle.yq_row_table.specs.View.{slices}
-use Rattle.yq_lookup.specs.Standings.{Held, RowsOfEntry, held}
-use Rattle.yq_lookup.proofs.LineEndLaws.{header_tail}
+use Rattle.yq_places.specs.Standings.{Held, RowsOfEntry, held}
+use Rattle.yq_places.proofs.LineEndLaws.{header_tail}
 use Rattle.yq_edits.specs.StandingLaws.{StandsThere}
 use Rattle.yq_edits.proofs.TextPieceLaws.{pieces_joined}
 use Rattle.yq_edits.specs.declared.layout.Layout.{Layout}

@@ -17,7 +17,7 @@ use Rattle.yq_outline.specs.Counts.{count}
 use Rattle.yq_row_table.specs.Rows.{Cut, cut_text}
 use Rattle.yq_documents.specs.Documents.{Document}
 use Rattle.yq_documents.specs.Reading.{documents, documents_of, read_at, root_of}
-use Rattle.yq_lookup.specs.RemovalPlaces.{has_others_at, has_several}
+use Rattle.yq_places.specs.RemovalPlaces.{has_others_at, has_several}
 use Rattle.yq_documents.specs.TreeEdits.{change_nth, led, replaced_node}
 use Rattle.yq_edits.proofs.AfterLaws.{end_is_change}
 use Rattle.yq_edits.proofs.PartLaws.{document_known}
@@ -30,7 +30,7 @@ use Rattle.yq_semantics.specs.Operations.{replace, remove}
 use Rattle.yq_semantics.specs.Rooms.{room_of}
 use Rattle.yq_semantics.specs.RoomsKept.{HasSome}
 use Rattle.yq_text.specs.Script.{new_text}
-use Rattle.yq_lookup.specs.NodesAt.{node_in}
+use Rattle.yq_places.specs.NodesAt.{node_in}
 use Rattle.yq_edits.specs.EditLaws.{IsEdit, SoleIsRemoved}
 use Rattle.yq_edits.specs.Edits.{empty_collection}
 use Rattle.yq_edits.specs.ReadsAfter.{ReadsAfter}

@@ -21,15 +21,15 @@ use Rattle.yq_documents.specs.Documents.{Document, document_parts}
 use Rattle.yq_outline.specs.Lines.{lines_of_rows}
 use Rattle.yq_documents.specs.Reading.{documents, part_outline, read_at, root_of}
 use Rattle.yq_documents.specs.LinesInRows.{row_line, row_line_of}
-use Rattle.yq_lookup.specs.FlowNodes.{find_head}
-use Rattle.yq_lookup.specs.NodesAt.{node_in}
-use Rattle.yq_lookup.specs.PlacedRows.{PlacedPart, placed_document}
-use Rattle.yq_lookup.specs.RemovalPlaces.{has_others_at, has_several}
-use Rattle.yq_lookup.specs.Standings.{FlowPart, RowsOfEntry, entry_rows_at, flow_part, flow_standing, last_step, rows_of_entry, root_standing}
-use Rattle.yq_lookup.proofs.FoundEntries.{middle}
-use Rattle.yq_lookup.proofs.PlacedRowLaws.{document_placed, part_of}
-use Rattle.yq_lookup.proofs.RowPathLaws.{found_lines}
-use Rattle.yq_lookup.proofs.DashLineLaws.{row_line_found}
+use Rattle.yq_places.specs.FlowNodes.{find_head}
+use Rattle.yq_places.specs.NodesAt.{node_in}
+use Rattle.yq_places.specs.PlacedRows.{PlacedPart, placed_document}
+use Rattle.yq_places.specs.RemovalPlaces.{has_others_at, has_several}
+use Rattle.yq_places.specs.Standings.{FlowPart, RowsOfEntry, entry_rows_at, flow_part, flow_standing, last_step, rows_of_entry, root_standing}
+use Rattle.yq_places.proofs.FoundEntries.{middle}
+use Rattle.yq_places.proofs.PlacedRowLaws.{document_placed, part_of}
+use Rattle.yq_places.proofs.RowPathLaws.{found_lines}
+use Rattle.yq_places.proofs.DashLineLaws.{row_line_found}
 use Rattle.yq_edits.specs.Siblings.{IsCollectionAt, IsEntryAt, NodeLines}
 use Rattle.yq_edits.specs.StandingLaws.{EntriesStand, RootsStand}
 use Rattle.yq_edits.proofs.EditedLaws.{lines_are_there}

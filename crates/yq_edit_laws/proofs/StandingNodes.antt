@@ -4,7 +4,7 @@ use Rattle.yq_core.specs.Paths.{Step}
 use Rattle.yq_outline.specs.Outline.{flatten}
 use Rattle.yq_row_table.specs.Rows.{Cut, Row}
 use Rattle.yq_outline.specs.Lines.{lines_of_rows}
-use Rattle.yq_lookup.specs.Standings.{RowsOfEntry, behind_entry}
+use Rattle.yq_places.specs.Standings.{RowsOfEntry, behind_entry}
 use Rattle.yq_edits.specs.StandingLaws.{StandsThere}
 use Rattle.yq_edits.proofs.StandingMarks.{behind_there, entry_there}
 use Rattle.yq_edits.specs.BlockPlaces.{IsUpto, at_mark}

@@ -6,8 +6,8 @@ use Rattle.yq_core.specs.Paths.{Step}
 use Rattle.yq_core.specs.Tree.{Node}
 use Rattle.yq_outline.specs.Outline.{Outline}
 use Rattle.yq_outline.specs.Places.{FoundLine, find, in_head, place_inside}
-use Rattle.yq_lookup.specs.FlowNodes.{bare_line, find_head, head_line}
-use Rattle.yq_lookup.proofs.HeadSteps.{stem_found}
+use Rattle.yq_places.specs.FlowNodes.{bare_line, find_head, head_line}
+use Rattle.yq_places.proofs.HeadSteps.{stem_found}
 use Rattle.yq_edit_laws.proofs.EntryLines.{found_at}
 
 abbrev Reached : Type 0

@@ -10,7 +10,7 @@ use Rattle.yq_core.specs.declared.ReadFault.{ReadFault}
 use Rattle.yq_core.specs.declared.fault.FaultKind.TheVariants.{NotUtf8}
 use Rattle.yq_core.specs.declared.fault.ReadError.{ReadError}
 use Rattle.yq_core.specs.declared.fault.ReadError.TheVariants as reading
-use Rattle.yq_lookup.specs.Answers.{IsNotUtf8}
+use Rattle.yq_places.specs.Answers.{IsNotUtf8}
 use Rattle.yq_documents.specs.Reading.{read_at}
 use Rattle.yq_edit_laws.specs.Answers.{EditFails, error_of_reading}
 use Rattle.yq_edit_laws.specs.Edit.{Edit, unreadable}

@@ -22,14 +22,14 @@ use Rattle.yq_row_table.proofs.GapLaws.{some_more}
 use Rattle.yq_edits.proofs.BlockEndLaws.{break_tail}
 use Rattle.yq_edits.proofs.LaidRows.{no_gap_here}
 use Rattle.yq_documents.specs.Documents.{lead_of}
-use Rattle.yq_lookup.specs.PlacedRows.{PlacedPart, before_part, placed_document}
+use Rattle.yq_places.specs.PlacedRows.{PlacedPart, before_part, placed_document}
 use Rattle.yq_documents.specs.Reading.{read_at}
 use Rattle.yq_documents.specs.Ready.{begins_no_node}
 use Rattle.yq_outline.specs.Lines.{lines_of_rows}
-use Rattle.yq_lookup.specs.Standings.{NoRows}
-use Rattle.yq_lookup.proofs.CommentPieceLaws.{gap_end}
-use Rattle.yq_lookup.proofs.PlacedPartLaws.{part_stands}
-use Rattle.yq_lookup.proofs.RemovalLines.{LineSeam, LiesIn, lies_in, seam_join}
+use Rattle.yq_places.specs.Standings.{NoRows}
+use Rattle.yq_places.proofs.CommentPieceLaws.{gap_end}
+use Rattle.yq_places.proofs.PlacedPartLaws.{part_stands}
+use Rattle.yq_places.proofs.RemovalLines.{LineSeam, LiesIn, lies_in, seam_join}
 use Rattle.yq_edits.specs.DocumentRows.{IsDocumentPart}
 use Rattle.yq_documents.specs.PartNumbers.{part_number}
 use Rattle.yq_edits.specs.PlacedParts.{StandsAt}

@@ -7,7 +7,7 @@ use Rattle.yq_core.specs.Tree.{Node}
 use Rattle.yq_core.specs.Places.{CoreNode, nothing, name, text, sequence, mapping, Placed, placed}
 use Rattle.yq_flow_edits.specs.FlowPlaces.{PlacedEdit}
 use Rattle.yq_row_table.specs.Rows.{Cut, cut_text}
-use Rattle.yq_lookup.specs.FlowNodes.{flow_collection}
+use Rattle.yq_places.specs.FlowNodes.{flow_collection}
 use Rattle.yq_text.specs.Script.{Segment, keep, put}
 use Rattle.yq_edits.specs.FlowParts.{flow_more}
 

@@ -6,8 +6,8 @@ use Rattle.yq_core.specs.Tree.{Node, list, map, none}
 use Rattle.yq_core.specs.Values.{value_node}
 use Rattle.yq_row_table.specs.Rows.{Cut}
 use Rattle.yq_documents.specs.Located.{steps_of}
-use Rattle.yq_lookup.specs.NodesAt as nodes
-use Rattle.yq_lookup.specs.NodesAt.{NodeAt, node_in}
+use Rattle.yq_places.specs.NodesAt as nodes
+use Rattle.yq_places.specs.NodesAt.{NodeAt, node_in}
 use Rattle.yq_edits.specs.Edits.{empty_collection, replace_segments, sole_removed}
 use Rattle.yq_edit_laws.specs.declared.sole.EmptyPut.{EmptyPut}
 

@@ -10,11 +10,11 @@ use Rattle.yq_flow_edits.specs.FlowPlaces.{edit_view, place_edit}
 use Rattle.yq_flow_edits.specs.declared.flow_place.EditPlace.{EditPlace}
 use Rattle.yq_row_table.specs.Rows.{Cut, cut_text}
 use Rattle.yq_documents.specs.Reading.{cut_of}
-use Rattle.yq_lookup.specs.FlowNodes.{flow_collection}
-use Rattle.yq_lookup.specs.FlowViews.{FlowAgrees}
-use Rattle.yq_lookup.specs.NodesAt.{node_in}
-use Rattle.yq_lookup.specs.Standings.{FlowPart, flow_standing, last_step}
-use Rattle.yq_lookup.specs.declared.places.flow_node.FlowHead.{FlowHead}
+use Rattle.yq_places.specs.FlowNodes.{flow_collection}
+use Rattle.yq_places.specs.FlowViews.{FlowAgrees}
+use Rattle.yq_places.specs.NodesAt.{node_in}
+use Rattle.yq_places.specs.Standings.{FlowPart, flow_standing, last_step}
+use Rattle.yq_places.specs.declared.places.flow_node.FlowHead.{FlowHead}
 use Rattle.yq_text.specs.Script.{Segment, keep}
 use Rattle.yq_edits.specs.FlowParts.{content_written, flow_put, flow_value}
 use Rattle.yq_edits.specs.Replacing.{keeps_scalar}

@@ -4,7 +4,7 @@ use Rattle.yq_core.specs.Paths.{Step}
 use Rattle.yq_core.specs.Tree.{Node}
 use Rattle.yq_row_table.specs.Rows.{Cut, cut_text}
 use Rattle.yq_documents.specs.Reading.{read_at}
-use Rattle.yq_lookup.specs.Standings.{BlockRoot, NoRows, root, no_rows, standing_at}
+use Rattle.yq_places.specs.Standings.{BlockRoot, NoRows, root, no_rows, standing_at}
 use Rattle.yq_semantics.specs.Operations.{replace}
 use Rattle.yq_edits.specs.EditLaws.{IsEdit}
 use Rattle.yq_edits.specs.Layouts.{layout_of}

@@ -10,7 +10,7 @@ use Rattle.yq_outline.proofs.Allowing as allowing
 use Rattle.yq_outline.proofs.Allowing.{Allows, IsCollection}
 use Rattle.yq_outline.proofs.Plug.{headless_entry}
 use Rattle.yq_outline.proofs.NameLaws.{each_front, each_back}
-use Rattle.yq_lookup.proofs.FlowViewLaws.{before_under}
+use Rattle.yq_places.proofs.FlowViewLaws.{before_under}
 use Rattle.yq_edits.specs.Conditions.{last_anchor, BeginsEntry, AnchorsStay, LinesAmong}
 use Rattle.yq_edits.specs.Siblings.{IsEntry, NodeLines, under_line}
 use Rattle.yq_edits.proofs.NodeLineLaws.{after_under, Under, lines_found, under_even}

@@ -15,7 +15,7 @@ use Rattle.yq_outline.specs.Places.{Context, here, below, beside, lines_before, 
 use Rattle.yq_outline.proofs.Allowing.{Allows}
 use Rattle.yq_outline.proofs.PlaceLaws.{at}
 use Rattle.yq_outline.proofs.Values.{If, rank_small}
-use Rattle.yq_lookup.proofs.RowPathLaws.{allowed_level}
+use Rattle.yq_places.proofs.RowPathLaws.{allowed_level}
 use Rattle.yq_edits.specs.Siblings.{HasEntries, NodeLines, lines_at}
 use Rattle.yq_edits.proofs.NodeLineLaws.{Under, lines_found, lines_even, under_even, after_under}
 use Rattle.yq_edits.specs.LineRows.{Begins, StandApart, RowBegins, LinesApart, lines_behind, EntriesApart, AreDeep, AreClosed, EvenClosed}

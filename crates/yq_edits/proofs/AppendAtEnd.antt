@@ -9,10 +9,10 @@ use Rattle.yq_core.specs.Tree.{Node}
 use Rattle.yq_core.specs.Text.{is_line}
 use Rattle.yq_outline.specs.Outline.{flatten}
 use Rattle.yq_row_table.specs.Rows.{print_row, Row, rows_text, Part, Cut, cut_text}
-use Rattle.yq_lookup.specs.CollectionEnds.{CollectionEnd}
+use Rattle.yq_places.specs.CollectionEnds.{CollectionEnd}
 use Rattle.yq_outline.specs.Lines.{lines_of_rows}
 use Rattle.yq_documents.specs.Reading.{read_at}
-use Rattle.yq_lookup.specs.RowPaths.{IsReadable}
+use Rattle.yq_places.specs.RowPaths.{IsReadable}
 use Rattle.yq_edits.specs.declared.layout.Layout.{Layout}
 use Rattle.yq_edits.specs.Alone.{sole_collection}
 use Rattle.yq_edits.specs.BlockRows.{node_rows}
@@ -27,7 +27,7 @@ use Rattle.yq_text.specs.Script.{Segment, new_text}
 use Rattle.yq_row_table.specs.Appending.{closed_by, is_one_break}
 use Rattle.yq_row_table.proofs.PlaceLaws.{row_then}
 use Rattle.yq_row_table.proofs.seams.SeamLaws.{rows_text-append}
-use Rattle.yq_lookup.proofs.RunSpans.{rows_then}
+use Rattle.yq_places.proofs.RunSpans.{rows_then}
 use Rattle.yq_row_table.specs.Items.{rows_items}
 use Rattle.yq_edits.specs.Local.{IsLocal, IsLocalTo}
 use Rattle.yq_edits.proofs.ItemsLocal.{first_within, last_nothing}

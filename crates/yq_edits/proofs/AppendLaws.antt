@@ -25,7 +25,7 @@ use Rattle.yq_documents.specs.Reading.{part_outline}
 use Rattle.yq_outline.proofs.Decides.{flatten-group}
 use Rattle.yq_row_table.proofs.splices.SpliceTexts.{own_gap}
 use Rattle.yq_row_table.proofs.seams.BlockFronts.{last_none}
-use Rattle.yq_lookup.proofs.UnderExchange.{lines_append}
+use Rattle.yq_places.proofs.UnderExchange.{lines_append}
 use Rattle.yq_edits.specs.Siblings.{put_lines}
 use Rattle.yq_edits.proofs.AnchorLaws.{fit_parts, fit_from}
 use Rattle.yq_edits.proofs.CollectionLaws.{appended}

@@ -18,10 +18,10 @@ use Rattle.yq_row_table.proofs.PlainEnds.{AtLine, rows_line}
 use Rattle.yq_row_table.proofs.seams.SeamLaws.{part_line}
 use Rattle.yq_row_table.proofs.splices.PartPlaces.{part_in, part_ends}
 use Rattle.yq_row_table.proofs.splices.SpliceTexts.{first_is}
-use Rattle.yq_lookup.specs.CollectionEnds.{CollectionEnd}
+use Rattle.yq_places.specs.CollectionEnds.{CollectionEnd}
 use Rattle.yq_outline.specs.Lines.{mark_line, lines_from, row_lines, lines_of_rows}
 use Rattle.yq_documents.specs.Reading.{part_outline}
-use Rattle.yq_lookup.proofs.UnderExchange.{lines_append}
+use Rattle.yq_places.proofs.UnderExchange.{lines_append}
 use Rattle.yq_edits.specs.CollectionPlaces.{BeginsAt, IsCollectionEnd}
 use Rattle.yq_edits.specs.DocumentRows.{IsDocumentPart, behind_document}
 use Rattle.yq_documents.specs.PartNumbers.{part_number}

@@ -14,10 +14,10 @@ use Rattle.yq_outline.specs.Places.{content_under}
 use Rattle.yq_row_table.specs.Grammar.{unlimited, AreRows, no_rows, Limit, allows}
 use Rattle.yq_row_table.specs.Rows.{rows_text, Part, Cut, cut_text}
 use Rattle.yq_row_table.proofs.seams.SeamLaws.{rows_text-append}
-use Rattle.yq_lookup.specs.CollectionEnds.{CollectionEnd}
+use Rattle.yq_places.specs.CollectionEnds.{CollectionEnd}
 use Rattle.yq_documents.specs.Documents.{document_parts, lead_of}
 use Rattle.yq_documents.specs.Reading.{part_outline, read_at, root_of}
-use Rattle.yq_lookup.proofs.CommentPieceLaws.{Ended}
+use Rattle.yq_places.proofs.CommentPieceLaws.{Ended}
 use Rattle.yq_edits.specs.declared.layout.Layout.{Layout}
 use Rattle.yq_edits.specs.Alone.{sole_collection}
 use Rattle.yq_edits.specs.BlockRows.{node_rows}

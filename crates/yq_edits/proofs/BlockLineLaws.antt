@@ -16,7 +16,7 @@ use Rattle.yq_outline.specs.Grammar.{IsNodeOutline, mapping, sequence, AreEntryL
 use Rattle.yq_outline.specs.Lines.{mark_line, dash_line, lines_of_rows}
 use Rattle.yq_outline.specs.Outline.{LineMark, Bare, Key, Dash, Line, rank, level, anchored, label}
 use Rattle.yq_outline.proofs.NodeLaws.{anchored_none}
-use Rattle.yq_lookup.proofs.UnderExchange.{lines_append}
+use Rattle.yq_places.proofs.UnderExchange.{lines_append}
 use Rattle.yq_edits.specs.BlockRows.{rows_on_dash, block_key, children_rows, column_below, end_of_line_before, entry_rows, indent_step, inline_of, item_column, node_rows}
 use Rattle.yq_edits.specs.BlockValues.{IsFilled, entry_level, level_at}
 use Rattle.yq_edits.specs.declared.layout.Layout.{Layout}

@@ -3,7 +3,7 @@ use Rattle.std.proofs.Common.{◌≡◌, ◌⊎◌, inl, ℕ, List, [], ◌∷�
 use Rattle.std.proofs.lemmas.Bool.{false≢true, and_parts}
 use Rattle.yq_core.specs.Text.{is_break, is_line}
 use Rattle.yq_row_table.proofs.EmptyTexts.{empty_is}
-use Rattle.yq_lookup.specs.PrintedLines.{is_last_break, less_break, last_break}
+use Rattle.yq_places.specs.PrintedLines.{is_last_break, less_break, last_break}
 
 -- a break: LF or CR LF
 abbrev pub IsLfOrCrLf : List ℕ → Type 0

@@ -32,7 +32,7 @@ comment_other (b ∷ c) old rest new p h e =
     (h.0, none_other c (old ++ rest) new more (front_clean c (old ++ rest) (pairs_back (b ∷ []) (c ++ (old ++ rest)) p) more))
   where
     more : NoneIn ends_line c (old ++ rest)
-    more = (Rattle.yq_lookup.proofs.LineEndLaws.comment_more (b ∷ c) old rest h e).1
+    more = (Rattle.yq_places.proofs.LineEndLaws.comment_more (b ∷ c) old rest h e).1
 
 -- the end of a line, with another break behind its white space and its comment
 module _ (tail more : List ℕ) (h : IsTail tail more) (pairs : pairs_returns (tail ++ more) ≡ true) (break behind : List ℕ) (ends : IsBreak break behind) where

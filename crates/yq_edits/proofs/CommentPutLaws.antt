@@ -17,7 +17,7 @@ use Rattle.yq_outline.specs.Lines.{tail_of, mark_line, lines_of_rows}
 use Rattle.yq_outline.specs.Outline.{Line, level, flatten, label}
 use Rattle.yq_outline.specs.Places.{lines_before, lines_after, FoundLine}
 use Rattle.yq_documents.specs.Reading.{part_outline}
-use Rattle.yq_lookup.specs.RowPaths.{IsReadable}
+use Rattle.yq_places.specs.RowPaths.{IsReadable}
 use Rattle.yq_outline.proofs.Decides.{flatten-group}
 use Rattle.yq_row_table.proofs.splices.SpliceTexts.{own_gap}
 use Rattle.yq_edits.specs.Changed.{put_document}
@@ -35,8 +35,8 @@ use Rattle.yq_edits.specs.LineComments.{retailed, LineCommented}
 use Rattle.yq_edits.proofs.LineLaws.{above_mark, mark_behind, dashes_count}
 use Rattle.yq_edits.proofs.PartLaws.{part_numbered, rows_put, document_known, is_put}
 use Rattle.yq_documents.specs.TreeEdits.{with_line_comment}
-use Rattle.yq_lookup.proofs.RemovalLines.{front_some}
-use Rattle.yq_lookup.proofs.UnderExchange.{lines_append}
+use Rattle.yq_places.proofs.RemovalLines.{front_some}
+use Rattle.yq_places.proofs.UnderExchange.{lines_append}
 
 -- The line of an item or entry, and the lines with another in its place.
 pub record OneLine (p : Part) (h : NodeLines) (f : FoundLine) (a : List Line) (x : Line) (z : List Line) : Type 0 where

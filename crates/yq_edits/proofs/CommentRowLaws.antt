@@ -25,19 +25,19 @@ use Rattle.yq_row_table.proofs.RowAgain.{row_starts}
 use Rattle.yq_row_table.proofs.EmptyTexts.{empty_is}
 use Rattle.yq_row_table.proofs.seams.SeamLaws.{rows_text-append}
 use Rattle.yq_row_table.proofs.splices.ContentPlaces.{rows_around}
-use Rattle.yq_lookup.specs.CommentPlaces.{end_in_line, text_to_line_end}
+use Rattle.yq_places.specs.CommentPlaces.{end_in_line, text_to_line_end}
 use Rattle.yq_outline.specs.Lines.{lines_from, lines_of_rows}
-use Rattle.yq_lookup.specs.PlacedRows.{PlacedPart, PlacedRow, placed_document, placed_row, row_of_path}
+use Rattle.yq_places.specs.PlacedRows.{PlacedPart, PlacedRow, placed_document, placed_row, row_of_path}
 use Rattle.yq_documents.specs.Reading.{read_at}
 use Rattle.yq_documents.specs.Ready.{begins_no_node}
 use Rattle.yq_documents.specs.LinesInRows.{RowLine, row_line_of, document_row}
-use Rattle.yq_lookup.specs.Standings.{RowsOfEntry, before_entry, behind_entry, entry_rows_at, rows_of_entry, under_count}
-use Rattle.yq_lookup.proofs.CommentEndLaws.{row_text_parts}
-use Rattle.yq_lookup.proofs.CommentPieceLaws.{row_place}
-use Rattle.yq_lookup.proofs.PlacedRowLaws.{IsAt, part_at}
-use Rattle.yq_lookup.proofs.PrintedTexts.{map_some}
-use Rattle.yq_lookup.proofs.ReadLaws.{text_takes}
-use Rattle.yq_lookup.proofs.RowLineSpans.{steps_row}
+use Rattle.yq_places.specs.Standings.{RowsOfEntry, before_entry, behind_entry, entry_rows_at, rows_of_entry, under_count}
+use Rattle.yq_places.proofs.CommentEndLaws.{row_text_parts}
+use Rattle.yq_places.proofs.CommentPieceLaws.{row_place}
+use Rattle.yq_places.proofs.PlacedRowLaws.{IsAt, part_at}
+use Rattle.yq_places.proofs.PrintedTexts.{map_some}
+use Rattle.yq_places.proofs.ReadLaws.{text_takes}
+use Rattle.yq_places.proofs.RowLineSpans.{steps_row}
 use Rattle.yq_edits.specs.PlacedParts.{StandsAt}
 use Rattle.yq_edits.proofs.PlacedPartLaws.{document_stands_at}
 

@@ -30,7 +30,7 @@ use Rattle.yq_documents.specs.Documents.{HaveFitKeys, HasShortRoot, lead_of}
 use Rattle.yq_outline.specs.Lines.{block_anchor, content_anchor, head_of, line_mark, mark_line, lines_of_rows}
 use Rattle.yq_documents.specs.TreeEdits.{anchor_of, replaced_node}
 use Rattle.yq_documents.specs.Reading.{part_outline, root_of}
-use Rattle.yq_lookup.specs.RowPaths.{spelled_node, IsReadable}
+use Rattle.yq_places.specs.RowPaths.{spelled_node, IsReadable}
 use Rattle.yq_edits.specs.Changed.{IsChanged, put_document}
 use Rattle.yq_edits.specs.Contents.{recontent, TakesContent, LowerContentReplaced, RootContentReplaced}
 use Rattle.yq_edits.specs.Appends.{inserted}

@@ -10,7 +10,7 @@ use Rattle.yq_row_table.specs.Rows.{Content, Nothing, Inline, Block}
 use Rattle.yq_row_table.proofs.Fronts.{node_starts}
 use Rattle.yq_row_table.proofs.EmptyTexts.{none_is}
 use Rattle.yq_documents.specs.Documents.{HasFitKeys}
-use Rattle.yq_lookup.specs.RowPaths.{space_after_anchor}
+use Rattle.yq_places.specs.RowPaths.{space_after_anchor}
 use Rattle.yq_core.proofs.AlikePieces.{none_unless}
 
 -- a node in the place of another one, behind its anchor

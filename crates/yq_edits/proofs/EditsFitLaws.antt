@@ -27,7 +27,7 @@ use Rattle.yq_semantics.specs.Fits.{Fits}
 use Rattle.yq_semantics.specs.Operations.{replace}
 use Rattle.yq_semantics.specs.Rooms.{room_of}
 use Rattle.yq_edits.specs.Operands.{KeyIsUtf8}
-use Rattle.yq_lookup.specs.NodesAt.{node_in}
+use Rattle.yq_places.specs.NodesAt.{node_in}
 use Rattle.yq_edits.proofs.DoneLaws.{nth_map}
 use Rattle.yq_semantics.proofs.PathLaws.{bytes_refl}
 

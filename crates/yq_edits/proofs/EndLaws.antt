@@ -30,11 +30,11 @@ use Rattle.yq_outline.specs.Lines as lines
 use Rattle.yq_outline.specs.Outline.{Line, flatten}
 use Rattle.yq_outline.specs.Places.{lines_before, lines_after}
 use Rattle.yq_documents.specs.Reading.{part_outline}
-use Rattle.yq_lookup.specs.RowPaths.{IsReadable}
+use Rattle.yq_places.specs.RowPaths.{IsReadable}
 use Rattle.yq_outline.proofs.Decides.{flatten-group}
 use Rattle.yq_outline.proofs.HeadLaws.{end_no_hash}
-use Rattle.yq_lookup.proofs.RemovalLines.{front_some}
-use Rattle.yq_lookup.proofs.UnderExchange.{lines_append}
+use Rattle.yq_places.proofs.RemovalLines.{front_some}
+use Rattle.yq_places.proofs.UnderExchange.{lines_append}
 use Rattle.yq_edits.specs.Changed.{put_document}
 use Rattle.yq_edits.specs.Moved.{dash_lines}
 use Rattle.yq_edits.specs.Siblings.{put_lines}

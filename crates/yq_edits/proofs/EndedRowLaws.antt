@@ -8,8 +8,8 @@ use Rattle.yq_row_table.specs.View.{content_cut}
 use Rattle.yq_row_table.proofs.PlaceLaws.{part_then, row_front-append}
 use Rattle.yq_row_table.proofs.seams.SeamLaws.{rows_text-append}
 use Rattle.yq_row_table.proofs.SliceLaws.{content_slices}
-use Rattle.yq_lookup.proofs.CommentPieceLaws.{Ended, content_end}
-use Rattle.yq_lookup.proofs.SeamLaws.{raw_end, last_ended}
+use Rattle.yq_places.proofs.CommentPieceLaws.{Ended, content_end}
+use Rattle.yq_places.proofs.SeamLaws.{raw_end, last_ended}
 
 -- the text of a content
 pub many_lf : (a b c d t : List ℕ) → IsLf t → IsLf (a ++ (b ++ (c ++ (d ++ t))))

@@ -11,9 +11,9 @@ use Rattle.yq_row_table.specs.Rows as rows
 use Rattle.yq_row_table.specs.Rows.{Content, Nothing, Inline, Block, Row, parent_indent, rows_text}
 use Rattle.yq_row_table.proofs.NothingLaws.{some_behind}
 use Rattle.yq_row_table.proofs.NodePieces.{BeginsAscii}
-use Rattle.yq_lookup.specs.PrintedLines.{is_last_break, less_break, last_break, end_break, PrintedLine, printed_from, printed_row, printed_lines, run_break}
-use Rattle.yq_lookup.proofs.CommentPieceLaws.{Ended, tail_end}
-use Rattle.yq_lookup.proofs.FinishLaws.{lf_behind}
+use Rattle.yq_places.specs.PrintedLines.{is_last_break, less_break, last_break, end_break, PrintedLine, printed_from, printed_row, printed_lines, run_break}
+use Rattle.yq_places.proofs.CommentPieceLaws.{Ended, tail_end}
+use Rattle.yq_places.proofs.FinishLaws.{lf_behind}
 
 -- LF, or CR LF (5.4)
 abbrev pub IsOneBreak : List ℕ → Type 0

@@ -15,12 +15,12 @@ use Rattle.yq_row_table.proofs.seams.SeamLaws.{rows_text-append}
 use Rattle.yq_row_table.proofs.splices.SpliceTexts.{own_gap, own_end}
 use Rattle.yq_row_table.proofs.seams.JoinLaws.{dashes_text-append}
 use Rattle.yq_documents.specs.Documents.{lead_of}
-use Rattle.yq_lookup.specs.FirstPlaces.{are_spaces, less_spaces}
+use Rattle.yq_places.specs.FirstPlaces.{are_spaces, less_spaces}
 use Rattle.yq_outline.specs.Lines.{lines_from, lines_of_rows}
 use Rattle.yq_documents.specs.Reading.{part_outline, root_of}
 use Rattle.yq_outline.proofs.RowLaws.{no_comments}
-use Rattle.yq_lookup.specs.RowPaths.{IsReadable}
-use Rattle.yq_lookup.proofs.RemovalTexts.{texts_then}
+use Rattle.yq_places.specs.RowPaths.{IsReadable}
+use Rattle.yq_places.proofs.RemovalTexts.{texts_then}
 use Rattle.yq_edits.specs.Appends.{inserted}
 use Rattle.yq_edits.specs.BlockChanges.{AreCounted}
 use Rattle.yq_edits.specs.Changed.{IsChanged, put_document}

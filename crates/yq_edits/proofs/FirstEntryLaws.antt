@@ -16,7 +16,7 @@ use Rattle.yq_outline.specs.Lines.{dash_line, lines_from, row_lines, lines_of_ro
 use Rattle.yq_documents.specs.Reading.{part_outline}
 use Rattle.yq_documents.specs.LinesInRows.{RowLine, row_line}
 use Rattle.yq_outline.proofs.RowLaws.{no_comments}
-use Rattle.yq_lookup.proofs.UnderExchange.{lines_append}
+use Rattle.yq_places.proofs.UnderExchange.{lines_append}
 use Rattle.yq_edits.specs.LineRows.{Begins, StandApart, InRows, IsRowLine, lines_before_entry, lines_behind}
 use Rattle.yq_edits.specs.Moved.{dash_lines}
 use Rattle.yq_edits.specs.Siblings.{IsEntry, HasEntries, IsEntryAt, NodeLines}

@@ -13,14 +13,14 @@ use Rattle.yq_row_table.specs.Rows.{Part, Cut, cut_text}
 use Rattle.yq_row_table.specs.Reading.{begins_gap}
 use Rattle.yq_documents.specs.declared.path.Part.TheVariants.{Entry}
 use Rattle.yq_documents.specs.Documents.{document_parts}
-use Rattle.yq_lookup.specs.FirstPlaces.{less_spaces, end_spaces, FirstOut, first_out, first_entry, first_removal}
+use Rattle.yq_places.specs.FirstPlaces.{less_spaces, end_spaces, FirstOut, first_out, first_entry, first_removal}
 use Rattle.yq_outline.specs.Lines.{lines_of_rows}
-use Rattle.yq_lookup.specs.PathPieces.{printed_document, piece_in}
+use Rattle.yq_places.specs.PathPieces.{printed_document, piece_in}
 use Rattle.yq_documents.specs.Pieces.{TextPiece}
 use Rattle.yq_documents.specs.LinesInRows.{RowLine, row_line, row_line_of}
-use Rattle.yq_lookup.proofs.FirstLaws.{spaces_parts}
-use Rattle.yq_lookup.proofs.PieceTexts.{piece_text, document_whole, piece_whole}
-use Rattle.yq_lookup.proofs.PrintedTexts.{map_some}
+use Rattle.yq_places.proofs.FirstLaws.{spaces_parts}
+use Rattle.yq_places.proofs.PieceTexts.{piece_text, document_whole, piece_whole}
+use Rattle.yq_places.proofs.PrintedTexts.{map_some}
 use Rattle.yq_edits.specs.RemovalChanges.{FirstStands}
 
 -- ---- what is taken out

@@ -22,15 +22,15 @@ use Rattle.yq_row_table.proofs.splices.SpliceTexts.{own_gap, own_end}
 use Rattle.yq_row_table.specs.Reading.{begins_gap}
 use Rattle.yq_documents.specs.declared.path.Part.TheVariants.{Entry}
 use Rattle.yq_documents.specs.Documents.{document_parts, lead_of}
-use Rattle.yq_lookup.specs.FirstPlaces.{less_spaces, end_spaces, FirstOut, first_out, first_removal}
+use Rattle.yq_places.specs.FirstPlaces.{less_spaces, end_spaces, FirstOut, first_out, first_removal}
 use Rattle.yq_outline.specs.Lines.{lines_from, lines_of_rows}
-use Rattle.yq_lookup.specs.PathPieces.{PrintedDocument, piece_in}
+use Rattle.yq_places.specs.PathPieces.{PrintedDocument, piece_in}
 use Rattle.yq_documents.specs.Reading.{part_outline, read_at, root_of}
-use Rattle.yq_lookup.specs.RowPaths.{IsReadable}
+use Rattle.yq_places.specs.RowPaths.{IsReadable}
 use Rattle.yq_documents.specs.LinesInRows.{RowLine, row_line}
 use Rattle.yq_documents.proofs.PartRows.{each}
-use Rattle.yq_lookup.proofs.ReadLaws.{text_takes}
-use Rattle.yq_lookup.proofs.RowPathLaws.{document_fine}
+use Rattle.yq_places.proofs.ReadLaws.{text_takes}
+use Rattle.yq_places.proofs.RowPathLaws.{document_fine}
 use Rattle.yq_edits.specs.Appends.{inserted}
 use Rattle.yq_edits.specs.Changed.{IsChanged, put_document}
 use Rattle.yq_edits.specs.Conditions.{AreSpared}

@@ -20,15 +20,15 @@ use Rattle.yq_row_table.proofs.seams.FrontSeams.{rows_some}
 use Rattle.yq_documents.specs.declared.path.Part.TheVariants.{Entry}
 use Rattle.yq_outline.specs.Lines.{dash_line, lines_of_rows}
 use Rattle.yq_outline.proofs.RowLaws.{lines_count as lines_count_from}
-use Rattle.yq_lookup.specs.PathPieces.{BlockEntry, found_entry, piece_in, piece_in_entry}
+use Rattle.yq_places.specs.PathPieces.{BlockEntry, found_entry, piece_in, piece_in_entry}
 use Rattle.yq_documents.specs.Pieces.{TextPiece}
-use Rattle.yq_lookup.specs.PrintedLines.{PrintedLine, line_front, print_lines, printed_from, printed_lines, printed_row, line_in, run_piece}
+use Rattle.yq_places.specs.PrintedLines.{PrintedLine, line_front, print_lines, printed_from, printed_lines, printed_row, line_in, run_piece}
 use Rattle.yq_documents.specs.LinesInRows.{RowLine, row_line}
-use Rattle.yq_lookup.proofs.FoundEntries.{lines_count}
-use Rattle.yq_lookup.proofs.PrintedLaws.{lines_are}
-use Rattle.yq_lookup.proofs.PrintedTexts.{lines_then, rows_are}
-use Rattle.yq_lookup.proofs.PrintedRowLines.{row_begin, printed_line, row_count}
-use Rattle.yq_lookup.proofs.UnderCounts.{end_is}
+use Rattle.yq_places.proofs.FoundEntries.{lines_count}
+use Rattle.yq_places.proofs.PrintedLaws.{lines_are}
+use Rattle.yq_places.proofs.PrintedTexts.{lines_then, rows_are}
+use Rattle.yq_places.proofs.PrintedRowLines.{row_begin, printed_line, row_count}
+use Rattle.yq_places.proofs.UnderCounts.{end_is}
 use Rattle.yq_edits.specs.LineRows.{lines_before_entry}
 use Rattle.yq_edits.specs.Siblings.{NodeLines}
 use Rattle.yq_edits.proofs.FirstBreakLaws.{IsOneBreak, lines_break, rows_break}

@@ -17,10 +17,10 @@ use Rattle.yq_outline.proofs.Plug.{plug-compose}
 use Rattle.yq_outline.proofs.Values.{anchored-within}
 use Rattle.yq_row_table.specs.Rows.{Part, Cut}
 use Rattle.yq_documents.specs.Documents.{lead_of}
-use Rattle.yq_lookup.specs.FlowNodes.{bare_line, head_line, find_head}
+use Rattle.yq_places.specs.FlowNodes.{bare_line, head_line, find_head}
 use Rattle.yq_outline.specs.Lines.{lines_of_rows}
 use Rattle.yq_documents.specs.Reading.{part_outline, root_of}
-use Rattle.yq_lookup.proofs.FlowPlaceLaws.{TakesSteps, Takes, takes_left}
+use Rattle.yq_places.proofs.FlowPlaceLaws.{TakesSteps, Takes, takes_left}
 use Rattle.yq_edits.specs.Changed.{IsChanged, put_document}
 use Rattle.yq_edits.specs.Conditions.{last_anchor}
 use Rattle.yq_edits.specs.Edited.{IsPut}

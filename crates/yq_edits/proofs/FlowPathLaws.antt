@@ -19,12 +19,12 @@ use Rattle.yq_row_table.specs.View.{rows_of}
 use Rattle.yq_row_table.proofs.PlaceLaws.{place, new_place}
 use Rattle.yq_row_table.proofs.splices.SpliceTexts.{own_gap, own_end}
 use Rattle.yq_documents.specs.Documents.{document_parts}
-use Rattle.yq_lookup.specs.FlowNodes.{content_flow, find_head}
+use Rattle.yq_places.specs.FlowNodes.{content_flow, find_head}
 use Rattle.yq_outline.specs.Lines.{lines_of_rows}
 use Rattle.yq_documents.specs.Reading.{part_outline}
 use Rattle.yq_documents.specs.LinesInRows.{RowLine, row_line, document_row}
-use Rattle.yq_lookup.proofs.FlowPlaceLaws.{mark_row_line}
-use Rattle.yq_lookup.proofs.FoundEntries.{middle}
+use Rattle.yq_places.proofs.FlowPlaceLaws.{mark_row_line}
+use Rattle.yq_places.proofs.FoundEntries.{middle}
 use Rattle.yq_edits.specs.Appends.{inserted}
 use Rattle.yq_edits.specs.Changed.{put_part}
 use Rattle.yq_edits.specs.DocumentRows.{behind_document}

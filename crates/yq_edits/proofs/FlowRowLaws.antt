@@ -37,8 +37,8 @@ use Rattle.yq_row_table.proofs.splices.SpliceTexts.{own_gap}
 use Rattle.yq_documents.specs.Documents.{HaveFitKeys, HasShortRoot, is_long_plain}
 use Rattle.yq_outline.specs.Lines.{mark_line, lines_of_rows}
 use Rattle.yq_documents.specs.Reading.{part_outline}
-use Rattle.yq_lookup.proofs.FlowPieces.{named_is, none_anchored, twice}
-use Rattle.yq_lookup.proofs.RemovalLines.{front_some}
+use Rattle.yq_places.proofs.FlowPieces.{named_is, none_anchored, twice}
+use Rattle.yq_places.proofs.RemovalLines.{front_some}
 use Rattle.yq_edits.specs.DocumentRows.{Known, behind_document}
 use Rattle.yq_edits.specs.FlowChanges.{with_head}
 use Rattle.yq_edits.specs.FlowRows.{InlineRow, row_collection, with_node, IsFlowAt, FlowStands, FlowEdited}

@@ -14,8 +14,8 @@ use Rattle.yq_row_table.specs.Exchange.{behind_row}
 use Rattle.yq_row_table.specs.Rows.{Cut, cut_text}
 use Rattle.yq_documents.specs.Reading.{read_at}
 use Rattle.yq_documents.specs.LinesInRows.{document_row}
-use Rattle.yq_lookup.proofs.FlowSpanLaws.{entry_spans}
-use Rattle.yq_lookup.proofs.HeadSpanLaws.{node_spans}
+use Rattle.yq_places.proofs.FlowSpanLaws.{entry_spans}
+use Rattle.yq_places.proofs.HeadSpanLaws.{node_spans}
 use Rattle.yq_edits.specs.FlowRows.{behind_node, FlowAt}
 use Rattle.yq_edits.proofs.FlowPathLaws.{row_in_cut, row_texts}
 use Rattle.yq_edits.proofs.FlowRowLaws.{flow_stands}

@@ -24,13 +24,13 @@ use Rattle.yq_documents.specs.PartNumbers.{number_from, part_number}
 use Rattle.yq_documents.specs.Reading.{part_outline}
 use Rattle.yq_documents.specs.LinesInRows.{RowLine, document_row, row_line}
 use Rattle.yq_outline.specs.Lines.{head_of, lines_of_rows}
-use Rattle.yq_lookup.specs.FlowNodes.{bare_line, content_flow, find_head, flow_collection, head_line, line_collection}
-use Rattle.yq_lookup.specs.FlowViews.{LeadsToHead}
-use Rattle.yq_lookup.specs.NodeReading.{head_line_of}
-use Rattle.yq_lookup.proofs.FlowNodeLaws.{collection_is, rows_collection}
-use Rattle.yq_lookup.proofs.FlowViewLaws.{head_found, numbered}
-use Rattle.yq_lookup.proofs.RemovalLines.{front_some}
-use Rattle.yq_lookup.proofs.WalkDocuments.{row_line_number}
+use Rattle.yq_places.specs.FlowNodes.{bare_line, content_flow, find_head, flow_collection, head_line, line_collection}
+use Rattle.yq_places.specs.FlowViews.{LeadsToHead}
+use Rattle.yq_places.specs.NodeReading.{head_line_of}
+use Rattle.yq_places.proofs.FlowNodeLaws.{collection_is, rows_collection}
+use Rattle.yq_places.proofs.FlowViewLaws.{head_found, numbered}
+use Rattle.yq_places.proofs.RemovalLines.{front_some}
+use Rattle.yq_places.proofs.WalkDocuments.{row_line_number}
 use Rattle.yq_edits.specs.Changed.{put_document, put_part}
 use Rattle.yq_edits.specs.DocumentRows.{behind_document}
 use Rattle.yq_edits.specs.FlowRows.{FlowAt, InlineRow, behind_node, with_node}
@@ -40,7 +40,7 @@ use Rattle.yq_edits.proofs.FlowKeptLaws.{one_other}
 use Rattle.yq_edits.proofs.FlowPathLaws.{InCut, row_in_cut}
 use Rattle.yq_edits.proofs.FlowRowLaws.{node_holds}
 use Rattle.yq_edits.proofs.ShapeLaws.{before_strip, find_strip, group_strip, head_strip, rows_strip, strip_found, strip_outline, strip_pair, compose_strip, shapes_lines, stripped}
-use Rattle.yq_lookup.proofs.RemovalViewLaws.{slice_seam}
+use Rattle.yq_places.proofs.RemovalViewLaws.{slice_seam}
 
 -- ---- among lines
 

@@ -42,12 +42,12 @@ use Rattle.yq_documents.specs.PartNumbers.{part_number}
 use Rattle.yq_edits.proofs.ApartLaws.{even_closed}
 use Rattle.yq_edits.proofs.AppendLaws.{block_seam}
 use Rattle.yq_edits.proofs.ColumnLaws.{apart_first, block_is_deeper, last_closed}
-use Rattle.yq_lookup.proofs.RemovalTexts.{run_parts}
+use Rattle.yq_places.proofs.RemovalTexts.{run_parts}
 use Rattle.yq_edits.proofs.PartLaws.{part_numbered, document_known, document_spliced, is_put, take_front, drop_front}
 use Rattle.yq_edits.proofs.CommentPutLaws.{one_line}
 use Rattle.yq_documents.specs.TreeEdits.{with_head_comment}
-use Rattle.yq_lookup.proofs.RemovalLines.{front_some}
-use Rattle.yq_lookup.proofs.UnderExchange.{lines_append}
+use Rattle.yq_places.proofs.RemovalLines.{front_some}
+use Rattle.yq_places.proofs.UnderExchange.{lines_append}
 
 -- a comment that begins in a column is less deep than the text of a block scalar that is deeper
 record First (n b : ℕ) (t : List ℕ) : Type 0 where

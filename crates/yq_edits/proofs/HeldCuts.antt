@@ -16,9 +16,9 @@ use Rattle.yq_row_table.specs.Rows.{Content, Nothing, Inline, Block, dashes_text
 use Rattle.yq_row_table.specs.View.{Slices, content_cut}
 use Rattle.yq_row_table.proofs.NodePieces.{BeginsAscii, before_ascii, behind_ascii}
 use Rattle.yq_row_table.proofs.seams.ScalarSeams.{ends_return}
-use Rattle.yq_lookup.specs.PrintedLines.{is_last_break, less_break, last_break}
-use Rattle.yq_lookup.specs.RowPieces.{anchor_before, space_before}
-use Rattle.yq_lookup.proofs.PrintedTexts.{less_is}
+use Rattle.yq_places.specs.PrintedLines.{is_last_break, less_break, last_break}
+use Rattle.yq_places.specs.RowPieces.{anchor_before, space_before}
+use Rattle.yq_places.proofs.PrintedTexts.{less_is}
 use Rattle.yq_edits.specs.TextPieces.{IsPiece}
 use Rattle.yq_edits.proofs.LineFrontLaws.{clean_cut, ends_more}
 use Rattle.yq_edits.proofs.TextPieceLaws.{byte_cut}

@@ -10,14 +10,14 @@ use Rattle.yq_row_table.specs.Grammar.{IsRow, IsTail, unlimited}
 use Rattle.yq_row_table.specs.Rows.{Cut, cut_text, mark_text, parent_indent, rows_text}
 use Rattle.yq_row_table.specs.View.{Slices, slices}
 use Rattle.yq_documents.specs.Reading.{read_at}
-use Rattle.yq_lookup.specs.CommentPlaces.{LineEnd, end_in_line, text_to_line_end}
-use Rattle.yq_lookup.specs.PrintedLines.{last_break, less_break}
-use Rattle.yq_lookup.specs.RowPieces.{space_before}
-use Rattle.yq_lookup.specs.Standings.{RowsOfEntry, before_entry, behind_entry, held, rows_of_entry}
-use Rattle.yq_lookup.proofs.CommentEndLaws.{row_text_parts}
-use Rattle.yq_lookup.proofs.CommentPieceLaws.{Ended}
-use Rattle.yq_lookup.proofs.LineEndLaws.{line_tail, tail_is_end}
-use Rattle.yq_lookup.proofs.RunSpans.{rows_then}
+use Rattle.yq_places.specs.CommentPlaces.{LineEnd, end_in_line, text_to_line_end}
+use Rattle.yq_places.specs.PrintedLines.{last_break, less_break}
+use Rattle.yq_places.specs.RowPieces.{space_before}
+use Rattle.yq_places.specs.Standings.{RowsOfEntry, before_entry, behind_entry, held, rows_of_entry}
+use Rattle.yq_places.proofs.CommentEndLaws.{row_text_parts}
+use Rattle.yq_places.proofs.CommentPieceLaws.{Ended}
+use Rattle.yq_places.proofs.LineEndLaws.{line_tail, tail_is_end}
+use Rattle.yq_places.proofs.RunSpans.{rows_then}
 use Rattle.yq_edits.specs.StandingLaws.{HeldSpells, HoldsPieces, StandsThere}
 use Rattle.yq_edits.specs.TextPieces.{IsPiece}
 use Rattle.yq_edits.proofs.StandingMarks.{entry_there, row_there, rows_ended_there}

@@ -19,7 +19,7 @@ use Rattle.yq_row_table.proofs.seams.SeamLaws.{rows_drop}
 use Rattle.yq_row_table.proofs.seams.TailLaws.{fits_by}
 use Rattle.yq_outline.specs.Lines.{line_mark, mark_line, row_lines, lines_of_rows}
 use Rattle.yq_documents.specs.Reading.{part_outline}
-use Rattle.yq_lookup.proofs.RowPathLaws.{StartsAt, found_starts}
+use Rattle.yq_places.proofs.RowPathLaws.{StartsAt, found_starts}
 use Rattle.yq_edits.specs.DocumentRows.{IsDocumentPart, behind_document}
 use Rattle.yq_edits.specs.InlineRows.{LeadsBelow, IsRootRow, LeadsToLone}
 use Rattle.yq_edits.specs.LineRows.{Begins}

@@ -15,7 +15,7 @@ use Rattle.yq_documents.specs.TreeEdits.{led, replaced_node}
 use Rattle.yq_edits.specs.Changed.{changed, IsChanged, put_document}
 use Rattle.yq_edits.proofs.LeadLaws.{same_lead_goes}
 use Rattle.yq_semantics.specs.Operations.{replace}
-use Rattle.yq_lookup.specs.NodesAt.{scalar_in}
+use Rattle.yq_places.specs.NodesAt.{scalar_in}
 use Rattle.yq_edits.specs.Replacing.{are_same}
 use Rattle.yq_edits.specs.EditLaws.{EqualScalarsStay}
 use Rattle.yq_edits.specs.ReadsAfter.{ReadsAfter}

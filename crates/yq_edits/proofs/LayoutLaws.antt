@@ -11,7 +11,7 @@ use Rattle.yq_outline.specs.Outline.{Line, level}
 use Rattle.yq_row_table.specs.Rows.{Part, Cut}
 use Rattle.yq_documents.specs.Documents.{document_parts}
 use Rattle.yq_outline.specs.Lines.{lines_of_rows}
-use Rattle.yq_lookup.specs.Steps.{is_kind, begins_under, first_step, steps_of_part}
+use Rattle.yq_places.specs.Steps.{is_kind, begins_under, first_step, steps_of_part}
 use Rattle.yq_edits.specs.BlockReading.{is_filled}
 use Rattle.yq_edits.specs.BlockRows.{block_key, column_below, indent_step, inline_of}
 use Rattle.yq_edits.specs.BlockText.{block_children, block_entry, block_node, block_value, inline_or, then_lines}

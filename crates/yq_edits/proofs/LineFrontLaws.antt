@@ -24,7 +24,7 @@ use Rattle.yq_row_table.proofs.RowAgain.{row_starts}
 use Rattle.yq_row_table.proofs.seams.NodeSeams.{plain_text}
 use Rattle.yq_row_table.proofs.seams.ScalarSeams.{ends_return}
 use Rattle.yq_row_table.proofs.seams.TailLaws.{content_joined}
-use Rattle.yq_lookup.proofs.CommentPieceLaws.{Ended, gap_end}
+use Rattle.yq_places.proofs.CommentPieceLaws.{Ended, gap_end}
 use Rattle.yq_edits.specs.LineFronts.{CleanCut, LineEndsClean}
 use Rattle.yq_edits.proofs.TextPieceLaws.{piece_back}
 

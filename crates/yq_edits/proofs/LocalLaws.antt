@@ -10,7 +10,7 @@ use Rattle.yq_row_table.proofs.ItemLaws.{items_of_text, items_text-append}
 use Rattle.yq_row_table.proofs.KeptLaws.{items_apart}
 use Rattle.yq_documents.specs.Documents.{document_parts}
 use Rattle.yq_documents.specs.Reading.{read_at}
-use Rattle.yq_lookup.proofs.RunSpans.{rows_then}
+use Rattle.yq_places.proofs.RunSpans.{rows_then}
 use Rattle.yq_edits.specs.Changed.{put_document}
 use Rattle.yq_edits.specs.DocumentItems.{HasItems}
 use Rattle.yq_edits.specs.DocumentRows.{behind_document}

@@ -5,7 +5,7 @@ use Rattle.yq_row_table.specs.Rows as rows
 use Rattle.yq_row_table.specs.Rows.{Content, Nothing, behind_columns}
 use Rattle.yq_outline.specs.Lines.{dash_line, lines_from, row_lines, lines_of_rows}
 use Rattle.yq_outline.specs.Outline.{Line, Dash}
-use Rattle.yq_lookup.proofs.UnderExchange.{lines_append}
+use Rattle.yq_places.proofs.UnderExchange.{lines_append}
 use Rattle.yq_edits.specs.Moved.{dash_lines, moved_up, emptied_row, DashesFirst, FirstMoved, FirstEmptied}
 
 -- the lines of dashes, and those behind them

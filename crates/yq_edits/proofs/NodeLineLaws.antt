@@ -13,7 +13,7 @@ use Rattle.yq_outline.proofs.PlaceLaws.{at, exchanged}
 use Rattle.yq_outline.proofs.Plug.{allows_from, closed}
 use Rattle.yq_outline.proofs.Values.{rank_small}
 use Rattle.yq_outline.proofs.NodeLaws.{anchored_none}
-use Rattle.yq_lookup.proofs.FlowViewLaws.{before_under}
+use Rattle.yq_places.proofs.FlowViewLaws.{before_under}
 use Rattle.yq_edits.specs.Siblings.{HasEntries, NodeLines, under_line, lines_below, lines_at, put_lines, StandsSomewhere, LinesReplaced}
 
 -- the lines behind a place in what is under a line

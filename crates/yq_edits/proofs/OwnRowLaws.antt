@@ -14,10 +14,10 @@ use Rattle.yq_outline.proofs.Decides.{flatten-group}
 use Rattle.yq_row_table.specs.Rows.{Row, Part}
 use Rattle.yq_outline.specs.Lines.{row_lines, lines_of_rows}
 use Rattle.yq_documents.specs.Reading.{part_outline}
-use Rattle.yq_lookup.specs.RemovalPlaces.{OwnRows, row_count}
+use Rattle.yq_places.specs.RemovalPlaces.{OwnRows, row_count}
 use Rattle.yq_documents.specs.LinesInRows.{RowLine, row_line}
 use Rattle.yq_outline.proofs.RowLaws.{lines_count}
-use Rattle.yq_lookup.proofs.UnderCounts.{count_under}
+use Rattle.yq_places.proofs.UnderCounts.{count_under}
 use Rattle.yq_edits.specs.EntryRows.{HasWholeRows}
 use Rattle.yq_edits.specs.LineRows.{Begins, lines_behind}
 use Rattle.yq_edits.specs.RemovalChanges.{OwnRowsStand}

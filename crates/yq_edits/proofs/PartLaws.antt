@@ -17,12 +17,12 @@ use Rattle.yq_row_table.specs.Seams.{are_seamed}
 use Rattle.yq_row_table.specs.SpliceFits.{is_after, SpliceFits}
 use Rattle.yq_documents.specs.Documents.{HaveFitKeys, HasShortRoot, begins_bare, document_parts, has_begin, parts_from}
 use Rattle.yq_documents.specs.Reading.{is_document, read_at}
-use Rattle.yq_lookup.specs.RowPaths.{IsReadable}
+use Rattle.yq_places.specs.RowPaths.{IsReadable}
 use Rattle.yq_outline.proofs.Decides.{even_from}
 use Rattle.yq_row_table.proofs.splices.SpliceCases.{open_part}
-use Rattle.yq_lookup.proofs.DocumentLaws.{document_is}
-use Rattle.yq_lookup.proofs.ReadLaws.{text_takes}
-use Rattle.yq_lookup.proofs.RowPathLaws.{document_fine}
+use Rattle.yq_places.proofs.DocumentLaws.{document_is}
+use Rattle.yq_places.proofs.ReadLaws.{text_takes}
+use Rattle.yq_places.proofs.RowPathLaws.{document_fine}
 use Rattle.yq_edits.specs.Changed.{put_part, put_document}
 use Rattle.yq_edits.specs.Edited.{IsPut}
 use Rattle.yq_edits.specs.DocumentRows.{IsDocumentPart, behind_document, PartNumbered, RowsPut, DocumentKnown, RowsFit, DocumentSpliced}

@@ -14,7 +14,7 @@ use Rattle.yq_documents.specs.Reading.{part_outline}
 use Rattle.yq_outline.specs.Ends.{found_line, line_at_steps}
 use Rattle.yq_documents.specs.LinesInRows.{RowLine, row_line}
 use Rattle.yq_outline.proofs.Values.{If}
-use Rattle.yq_lookup.proofs.FlowViewLaws.{before_under}
+use Rattle.yq_places.proofs.FlowViewLaws.{before_under}
 use Rattle.yq_edits.specs.Siblings.{IsEntry, HasEntries, NodeLines, lines_at, lines_below, under_line}
 use Rattle.yq_edits.proofs.NodeLineLaws.{Under, lines_found}
 use Rattle.yq_edits.specs.PathRows.{IsEntryLine, PathIsEntry, PathLineCommented, PathHeadCommented}
@@ -23,7 +23,7 @@ use Rattle.yq_edits.proofs.HeadLaws.{head_commented}
 use Rattle.yq_edits.proofs.LineLaws.{row_line_splits}
 use Rattle.yq_edits.proofs.PartLaws.{document_known}
 use Rattle.yq_edits.proofs.CommentPutLaws.{line_commented}
-use Rattle.yq_lookup.proofs.FoundLaws.{before_inside}
+use Rattle.yq_places.proofs.FoundLaws.{before_inside}
 
 -- the line to which steps lead; the root has none
 abbrev found_at : List Step → Outline → Option (FoundLine × List Step)

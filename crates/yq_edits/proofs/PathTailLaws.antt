@@ -24,10 +24,10 @@ use Rattle.yq_row_table.proofs.splices.PartPlaces.{part_ends}
 use Rattle.yq_documents.specs.Documents.{lead_of}
 use Rattle.yq_outline.specs.Lines.{lines_of_rows}
 use Rattle.yq_documents.specs.Reading.{part_outline}
-use Rattle.yq_lookup.specs.RowPaths.{IsReadable}
+use Rattle.yq_places.specs.RowPaths.{IsReadable}
 use Rattle.yq_documents.specs.LinesInRows.{RowLine, row_line_of}
 use Rattle.yq_documents.specs.TreeEdits.{with_line_comment}
-use Rattle.yq_lookup.proofs.HeadSpanLaws.{free_first}
+use Rattle.yq_places.proofs.HeadSpanLaws.{free_first}
 use Rattle.yq_edits.specs.Appends.{inserted}
 use Rattle.yq_edits.specs.Changed.{IsChanged, put_document}
 use Rattle.yq_edits.specs.DocumentRows.{IsDocumentPart, behind_document}

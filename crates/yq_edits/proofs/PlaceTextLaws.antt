@@ -5,10 +5,10 @@ use Rattle.yq_row_table.specs.Rows.{Part, part_text, Cut, cut_text}
 use Rattle.yq_documents.specs.Documents.{document_parts}
 use Rattle.yq_documents.specs.PartNumbers.{part_number}
 use Rattle.yq_documents.proofs.PartNumberLaws.{part_there}
-use Rattle.yq_lookup.specs.PathPieces.{printed_part, printed_document}
-use Rattle.yq_lookup.specs.PlacedRows.{before_part, placed_at}
-use Rattle.yq_lookup.specs.PrintedLines.{printed_lines}
-use Rattle.yq_lookup.proofs.PlacedPartLaws.{text_at}
+use Rattle.yq_places.specs.PathPieces.{printed_part, printed_document}
+use Rattle.yq_places.specs.PlacedRows.{before_part, placed_at}
+use Rattle.yq_places.specs.PrintedLines.{printed_lines}
+use Rattle.yq_places.proofs.PlacedPartLaws.{text_at}
 use Rattle.yq_edits.specs.Changed.{put_document}
 use Rattle.yq_edits.specs.DocumentRows.{behind_document}
 use Rattle.yq_edits.proofs.PlacedPartLaws.{put_text}

@@ -15,7 +15,7 @@ use Rattle.yq_outline.proofs.Decides.{flatten-group}
 use Rattle.yq_outline.proofs.Finding.{IsFoundIn, path_whole}
 use Rattle.yq_outline.proofs.PlaceLaws.{at, placed}
 use Rattle.yq_outline.proofs.Values.{If}
-use Rattle.yq_lookup.proofs.UnderExchange.{lines_append}
+use Rattle.yq_places.proofs.UnderExchange.{lines_append}
 use Rattle.yq_edits.specs.Placed.{SameParts, RowsInParts, LinePlaced, EntryPlaced, FoundIsEntry}
 use Rattle.yq_edits.specs.Siblings.{NodeLines, lines_at, put_lines}
 use Rattle.yq_edits.proofs.CollectionLaws.{some_at}

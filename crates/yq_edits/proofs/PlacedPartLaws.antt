@@ -3,8 +3,8 @@ use Rattle.std.proofs.Common.{◌≡◌, ℕ, zero, suc, ◌++◌, refl, ap, sub
 use Rattle.yq_row_table.specs.Rows.{Part, part_text, Cut, last, marked, cut_text}
 use Rattle.yq_row_table.specs.Splices.{behind_part}
 use Rattle.yq_documents.specs.PartNumbers.{part_number}
-use Rattle.yq_lookup.specs.PlacedRows.{PlacedPart, before_part}
-use Rattle.yq_lookup.proofs.PlacedPartLaws.{part_stands, text_behind}
+use Rattle.yq_places.specs.PlacedRows.{PlacedPart, before_part}
+use Rattle.yq_places.proofs.PlacedPartLaws.{part_stands, text_behind}
 use Rattle.yq_edits.specs.Changed.{put_part, put_document}
 use Rattle.yq_edits.specs.PlacedParts.{DocumentStandsAt}
 

@@ -24,12 +24,12 @@ use Rattle.yq_documents.specs.Documents.{lead_of}
 use Rattle.yq_outline.specs.Lines.{lines_of_rows}
 use Rattle.yq_documents.specs.Reading.{part_outline, read_at, root_of}
 use Rattle.yq_documents.specs.Ready.{begins_no_node}
-use Rattle.yq_lookup.specs.PlacedRows.{PlacedPart, placed_document}
-use Rattle.yq_lookup.specs.RemovalPlaces.{OwnRows, own_rows, kept_gap, Removal, rows_out, removal_place, has_several}
-use Rattle.yq_lookup.specs.RowPaths.{IsReadable}
-use Rattle.yq_lookup.proofs.PlacedPartLaws.{map_some}
-use Rattle.yq_lookup.proofs.ReadLaws.{text_takes}
-use Rattle.yq_lookup.proofs.RemovalTexts.{old_text}
+use Rattle.yq_places.specs.PlacedRows.{PlacedPart, placed_document}
+use Rattle.yq_places.specs.RemovalPlaces.{OwnRows, own_rows, kept_gap, Removal, rows_out, removal_place, has_several}
+use Rattle.yq_places.specs.RowPaths.{IsReadable}
+use Rattle.yq_places.proofs.PlacedPartLaws.{map_some}
+use Rattle.yq_places.proofs.ReadLaws.{text_takes}
+use Rattle.yq_places.proofs.RemovalTexts.{old_text}
 use Rattle.yq_edits.specs.Changed.{IsChanged, KeepsRows, put_document}
 use Rattle.yq_edits.specs.Conditions.{AreSpared}
 use Rattle.yq_edits.specs.DocumentRows.{IsDocumentPart, behind_document}

@@ -17,12 +17,12 @@ use Rattle.yq_row_table.specs.Grammar.{AreParts}
 use Rattle.yq_row_table.specs.Rows.{Row, rows_text, Cut, cut_text}
 use Rattle.yq_row_table.specs.Splices.{behind_first, first_gap}
 use Rattle.yq_row_table.proofs.seams.GapFronts.{gap_lines}
-use Rattle.yq_lookup.specs.PlacedRows.{PlacedPart, placed_document}
-use Rattle.yq_lookup.specs.RemovalPlaces.{Seam, kept_gap, rows_out}
-use Rattle.yq_lookup.proofs.CommentPieceLaws.{Ended, gap_end}
-use Rattle.yq_lookup.proofs.PlacedPartLaws.{part_stands}
-use Rattle.yq_lookup.proofs.RemovalLines.{LineSeam, line_seam, lies_in, are_lines}
-use Rattle.yq_lookup.proofs.RemovalTexts.{old_text}
+use Rattle.yq_places.specs.PlacedRows.{PlacedPart, placed_document}
+use Rattle.yq_places.specs.RemovalPlaces.{Seam, kept_gap, rows_out}
+use Rattle.yq_places.proofs.CommentPieceLaws.{Ended, gap_end}
+use Rattle.yq_places.proofs.PlacedPartLaws.{part_stands}
+use Rattle.yq_places.proofs.RemovalLines.{LineSeam, line_seam, lies_in, are_lines}
+use Rattle.yq_places.proofs.RemovalTexts.{old_text}
 use Rattle.yq_edits.specs.RemovalChanges.{mended}
 use Rattle.yq_edits.specs.TextPieces.{IsPiece}
 use Rattle.yq_edits.proofs.TextPieceLaws.{line_cut, piece_back, pieces_joined}

@@ -6,9 +6,9 @@ use Rattle.yq_core.specs.Text.{joined, text_lines}
 use Rattle.yq_row_table.specs.Removal.{hold_comment, seam_gap}
 use Rattle.yq_row_table.specs.Rows.{part_text}
 use Rattle.yq_row_table.proofs.seams.SeamLaws.{gap_text, rows_text-append}
-use Rattle.yq_lookup.specs.PlacedRows.{PlacedPart}
-use Rattle.yq_lookup.specs.RemovalPlaces.{OwnRows, Seam, seam_behind, rows_out}
-use Rattle.yq_lookup.proofs.RemovalTexts.{texts_then}
+use Rattle.yq_places.specs.PlacedRows.{PlacedPart}
+use Rattle.yq_places.specs.RemovalPlaces.{OwnRows, Seam, seam_behind, rows_out}
+use Rattle.yq_places.proofs.RemovalTexts.{texts_then}
 use Rattle.yq_edits.specs.RemovalChanges.{mended}
 use Rattle.yq_edits.specs.Removes.{without}
 

@@ -22,15 +22,15 @@ use Rattle.yq_row_table.proofs.splices.PartPlaces.{part_in}
 use Rattle.yq_documents.specs.Pieces.{before_run, last_run}
 use Rattle.yq_documents.specs.Documents.{HaveFitKeys, HasShortRoot, is_long_plain, lead_of}
 use Rattle.yq_core.specs.Anchors.{names_of}
-use Rattle.yq_lookup.proofs.RemovalTexts.{run_parts}
+use Rattle.yq_places.proofs.RemovalTexts.{run_parts}
 use Rattle.yq_outline.specs.Group.{level_or}
 use Rattle.yq_outline.specs.Laws.{with_lines}
 use Rattle.yq_outline.specs.Lines.{row_lines, lines_of_rows}
 use Rattle.yq_outline.specs.Outline.{Line, level, Outline, flatten, row}
 use Rattle.yq_outline.specs.Places.{lines_before, lines_after, plug, FoundLine, content_under}
 use Rattle.yq_documents.specs.Reading.{part_outline, root_of}
-use Rattle.yq_lookup.specs.RowPaths.{IsReadable}
-use Rattle.yq_lookup.proofs.UnderExchange.{lines_append}
+use Rattle.yq_places.specs.RowPaths.{IsReadable}
+use Rattle.yq_places.proofs.UnderExchange.{lines_append}
 use Rattle.yq_edits.specs.Changed.{IsChanged, put_document}
 use Rattle.yq_edits.specs.Conditions.{AreSpared, BeginsEntry}
 use Rattle.yq_edits.specs.EntryRows.{HasWholeRows}

@@ -21,10 +21,10 @@ use Rattle.yq_documents.specs.Reading.{part_document, part_outline}
 use Rattle.yq_documents.specs.TreeEdits.{change_nth}
 use Rattle.yq_documents.proofs.PartNumberLaws.{part_there}
 use Rattle.yq_outline.specs.Lines.{content_anchor, lines_of_rows}
-use Rattle.yq_lookup.specs.PlacedRows.{PlacedPart, before_part, placed_at, placed_document}
-use Rattle.yq_lookup.specs.Standings.{RowsOfEntry, entry_rows_at, rows_of_entry, under_count}
-use Rattle.yq_lookup.proofs.PlacedPartLaws.{StandsIn, map_some, part_stands}
-use Rattle.yq_lookup.proofs.RowLineSpans.{steps_row}
+use Rattle.yq_places.specs.PlacedRows.{PlacedPart, before_part, placed_at, placed_document}
+use Rattle.yq_places.specs.Standings.{RowsOfEntry, entry_rows_at, rows_of_entry, under_count}
+use Rattle.yq_places.proofs.PlacedPartLaws.{StandsIn, map_some, part_stands}
+use Rattle.yq_places.proofs.RowLineSpans.{steps_row}
 use Rattle.yq_edits.specs.Appends.{inserted}
 use Rattle.yq_edits.specs.Changed.{KeepsRows, put_document, put_part}
 use Rattle.yq_edits.specs.Rooms.{RowShape, row_shape}

@@ -5,7 +5,7 @@ use Rattle.yq_outline.specs.Outline.{Line, flatten}
 use Rattle.yq_outline.specs.Places.{lines_before, lines_after}
 use Rattle.yq_documents.specs.Reading.{part_outline}
 use Rattle.yq_outline.proofs.Decides.{flatten-group}
-use Rattle.yq_lookup.proofs.UnderExchange.{lines_append}
+use Rattle.yq_places.proofs.UnderExchange.{lines_append}
 use Rattle.yq_edits.proofs.CollectionLaws.{relabelled}
 use Rattle.yq_edits.proofs.PlacedLaws.{around, same_parts}
 use Rattle.yq_edits.specs.LineRows.{lines_behind}

@@ -4,7 +4,7 @@ use Rattle.std.proofs.lemmas.Bool.{false≢true}
 use Rattle.yq_core.specs.Answers.{◌>>=◌}
 use Rattle.yq_core.specs.Scalar.{ScalarText}
 use Rattle.yq_core.specs.Tree.{Node}
-use Rattle.yq_lookup.specs.NodesAt.{scalar_in}
+use Rattle.yq_places.specs.NodesAt.{scalar_in}
 use Rattle.yq_edits.specs.ReplaceEdits.{has_text, holds_text}
 use Rattle.yq_edits.specs.Replacing.{are_same, keeps_scalar}
 

@@ -11,8 +11,8 @@ use Rattle.yq_row_table.proofs.PlaceLaws.{row_then}
 use Rattle.yq_row_table.proofs.seams.SeamLaws.{rows_text-append}
 use Rattle.yq_outline.specs.Lines.{lines_of_rows, row_lines}
 use Rattle.yq_documents.specs.Reading.{part_outline}
-use Rattle.yq_lookup.specs.Standings.{RowsOfEntry, behind_entry}
-use Rattle.yq_lookup.proofs.CommentPieceLaws.{Ended}
+use Rattle.yq_places.specs.Standings.{RowsOfEntry, behind_entry}
+use Rattle.yq_places.proofs.CommentPieceLaws.{Ended}
 use Rattle.yq_edits.specs.DocumentRows.{behind_document}
 use Rattle.yq_edits.specs.StandingLaws.{StandsThere}
 use Rattle.yq_edits.specs.Unders.{HasUnder}

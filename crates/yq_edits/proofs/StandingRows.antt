@@ -21,15 +21,15 @@ use Rattle.yq_documents.specs.Documents.{document_parts}
 use Rattle.yq_outline.specs.Lines.{lines_of_rows, row_lines}
 use Rattle.yq_documents.specs.Reading.{read_at}
 use Rattle.yq_documents.specs.LinesInRows.{RowLine, row_line, row_line_of}
-use Rattle.yq_lookup.specs.PlacedRows.{PlacedPart, PlacedRow, placed_document, placed_row, row_of_path}
+use Rattle.yq_places.specs.PlacedRows.{PlacedPart, PlacedRow, placed_document, placed_row, row_of_path}
 use Rattle.yq_outline.specs.RowWalk.{deeper_rows, line_level}
-use Rattle.yq_lookup.proofs.DashLaws.{line_within}
+use Rattle.yq_places.proofs.DashLaws.{line_within}
 use Rattle.yq_documents.proofs.PartRows.{each}
-use Rattle.yq_lookup.proofs.PrintedTexts.{map_some}
-use Rattle.yq_lookup.proofs.ReadLaws.{text_takes}
-use Rattle.yq_lookup.proofs.RowPathLaws.{document_fine}
-use Rattle.yq_lookup.proofs.RowLineSpans.{steps_row}
-use Rattle.yq_lookup.proofs.UnderCounts.{end_is}
+use Rattle.yq_places.proofs.PrintedTexts.{map_some}
+use Rattle.yq_places.proofs.ReadLaws.{text_takes}
+use Rattle.yq_places.proofs.RowPathLaws.{document_fine}
+use Rattle.yq_places.proofs.RowLineSpans.{steps_row}
+use Rattle.yq_places.proofs.UnderCounts.{end_is}
 use Rattle.yq_outline.proofs.WalkEnds.{ends_at, lines_upto}
 use Rattle.yq_outline.proofs.WalkLevels.{RowsAgree, IsLineOf, RowAgrees, level_is, line_in}
 use Rattle.yq_outline.proofs.WalkRows.{rows_agree}
@@ -40,7 +40,7 @@ use Rattle.yq_edits.proofs.PartLaws.{document_known, part_rows}
 use Rattle.yq_edits.proofs.PathLaws.{row_line_number}
 use Rattle.yq_edits.proofs.PlacedPartLaws.{document_stands_at}
 use Rattle.yq_edits.specs.StandingLaws.{RowsStand, StandsThere}
-use Rattle.yq_lookup.specs.Standings.{RowsOfEntry, entry_rows_at, rows_of_entry, under_count}
+use Rattle.yq_places.specs.Standings.{RowsOfEntry, entry_rows_at, rows_of_entry, under_count}
 
 row_agrees_at : (rs : List Row) (i : ℕ) (r : Row) → RowsAgree rs → slice_get rs i ≡ Some r → RowAgrees r
 row_agrees_at [] i r h e = absurd (cc)

@@ -15,8 +15,8 @@ use Rattle.yq_row_table.proofs.CharacterLaws.{pairs_back}
 use Rattle.yq_row_table.proofs.LineEnds.{white_none}
 use Rattle.yq_row_table.proofs.NodePieces.{before_ascii, tail_ascii}
 use Rattle.yq_row_table.proofs.seams.ScalarSeams.{ends_return}
-use Rattle.yq_lookup.specs.CommentPlaces.{text_to_line_end}
-use Rattle.yq_lookup.specs.PlacedRows.{PlacedRow}
+use Rattle.yq_places.specs.CommentPlaces.{text_to_line_end}
+use Rattle.yq_places.specs.PlacedRows.{PlacedRow}
 use Rattle.yq_edits.specs.TextPieces.{IsPiece}
 use Rattle.yq_edits.proofs.LineFrontLaws.{ends_more, clean_cut, line_ends_clean}
 use Rattle.yq_edits.proofs.CommentPieceLaws.{nothing, byte_then}
@@ -55,6 +55,6 @@ pieces w limit row whole h =
     let split : tail ++ more ≡ line ++ behind = search (rules, append_assoc, more, line) in
     let rest : IsPiece (line ++ behind) = subst IsPiece split first.1 in
     let ends : IsTail h.line.break more = record { white = []; comment = []; line = record { break = h.line.break; spelled = refl; blank = tt; as_comment = tt; ends = h.line.ends }; apart = refl } in
-    let none : NoneIn ends_line line behind = white_none h.white h.comment behind h.line.blank (Rattle.yq_lookup.proofs.LineEndLaws.comment_more h.comment h.line.break more h.line.as_comment h.line.ends) in
+    let none : NoneIn ends_line line behind = white_none h.white h.comment behind h.line.blank (Rattle.yq_places.proofs.LineEndLaws.comment_more h.comment h.line.break more h.line.as_comment h.line.ends) in
     let second = clean_cut line behind rest (front_utf8 line behind rest (tail_ascii h.line.break more ends)) (λ f. none_clean line behind none f) in
     record { before = first.0; white = white_piece h.white h.line.blank; line = second.0; behind = second.1 }

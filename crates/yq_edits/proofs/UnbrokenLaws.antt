@@ -13,12 +13,12 @@ use Rattle.yq_row_table.specs.Splices.{first_gap}
 use Rattle.yq_row_table.proofs.PlaceLaws.{row_front-append}
 use Rattle.yq_row_table.proofs.seams.FrontSeams.{rows_some}
 use Rattle.yq_row_table.proofs.seams.SeamLaws.{rows_text-append}
-use Rattle.yq_lookup.specs.CollectionEnds.{CollectionEnd, is_broken}
+use Rattle.yq_places.specs.CollectionEnds.{CollectionEnd, is_broken}
 use Rattle.yq_documents.specs.Documents.{lead_of}
 use Rattle.yq_outline.specs.Lines.{lines_from, lines_of_rows}
-use Rattle.yq_lookup.specs.PrintedLines.{end_break}
+use Rattle.yq_places.specs.PrintedLines.{end_break}
 use Rattle.yq_documents.specs.Ready.{begins_no_node}
-use Rattle.yq_lookup.proofs.ContentEndLaws.{Ends, content_ends}
+use Rattle.yq_places.proofs.ContentEndLaws.{Ends, content_ends}
 use Rattle.yq_edits.specs.CollectionPlaces.{IsCollectionEnd}
 use Rattle.yq_edits.specs.DocumentRows.{behind_document}
 use Rattle.yq_edits.specs.Ends.{closed_with}

@@ -13,7 +13,7 @@ use Rattle.yq_outline.specs.Lines.{lines_of_rows}
 use Rattle.yq_outline.specs.Outline.{Line, Outline, flatten, children, label}
 use Rattle.yq_outline.specs.Places.{lines_before, content_under}
 use Rattle.yq_documents.specs.Reading.{part_outline}
-use Rattle.yq_lookup.specs.RowPaths.{IsReadable}
+use Rattle.yq_places.specs.RowPaths.{IsReadable}
 use Rattle.yq_edits.specs.Changed.{IsChanged, put_document}
 use Rattle.yq_edits.specs.SoundRoots.{IsNewValue, IsNewKey}
 use Rattle.yq_edits.specs.Siblings.{NodeLines, IsCollectionAt, EntryFits}

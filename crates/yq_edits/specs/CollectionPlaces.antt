@@ -4,7 +4,7 @@ use Rattle.yq_core.specs.Paths.{Step}
 use Rattle.yq_row_table.specs.Rows.{Row, rows_text, Part, part_text, Cut, cut_text}
 use Rattle.yq_outline.specs.Outline.{Outline, end, row, flatten}
 use Rattle.yq_outline.specs.Places.{lines_before}
-use Rattle.yq_lookup.specs.CollectionEnds.{CollectionEnd, is_broken}
+use Rattle.yq_places.specs.CollectionEnds.{CollectionEnd, is_broken}
 use Rattle.yq_outline.specs.Lines.{lines_of_rows}
 use Rattle.yq_documents.specs.Reading.{part_outline}
 use Rattle.yq_edits.specs.Changed.{put_document}

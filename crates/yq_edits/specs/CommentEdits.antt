@@ -5,9 +5,9 @@ use Rattle.yq_core.specs.BlockWritten.{break_text}
 use Rattle.yq_core.specs.Paths.{Step}
 use Rattle.yq_core.specs.Text.{is_empty}
 use Rattle.yq_row_table.specs.Rows.{Cut, behind_gap, cut_text, rows_text}
-use Rattle.yq_lookup.specs.CommentPlaces.{LinesAbove, gap_above}
-use Rattle.yq_lookup.specs.FirstBreak.{first_break}
-use Rattle.yq_lookup.specs.Standings.{Held, RowsOfEntry, before_entry, behind_entry, held, rows_of_entry}
+use Rattle.yq_places.specs.CommentPlaces.{LinesAbove, gap_above}
+use Rattle.yq_places.specs.FirstBreak.{first_break}
+use Rattle.yq_places.specs.Standings.{Held, RowsOfEntry, before_entry, behind_entry, held, rows_of_entry}
 use Rattle.yq_semantics.specs.Meaning.{head_comment_lines}
 use Rattle.yq_text.specs.Script.{Segment, keep, put}
 

@@ -10,7 +10,7 @@ use Rattle.yq_documents.specs.PartNumbers.{part_number}
 use Rattle.yq_outline.specs.Group.{level_or}
 use Rattle.yq_outline.specs.Outline.{IsEven}
 use Rattle.yq_documents.specs.Reading.{part_document, part_outline, read_at}
-use Rattle.yq_lookup.specs.RowPaths.{IsReadable}
+use Rattle.yq_places.specs.RowPaths.{IsReadable}
 use Rattle.yq_edits.specs.Changed.{put_document}
 
 -- Document k of a text that reads as a cut is this part.

@@ -5,7 +5,7 @@ use Rattle.yq_core.specs.Tree.{Node}
 use Rattle.yq_row_table.specs.Rows.{Part, Cut, cut_text}
 use Rattle.yq_documents.specs.Documents.{document_parts, lead_of}
 use Rattle.yq_documents.specs.Reading.{read_at, root_of}
-use Rattle.yq_lookup.specs.RowPaths.{IsReadable}
+use Rattle.yq_places.specs.RowPaths.{IsReadable}
 use Rattle.yq_edits.specs.Changed.{IsChanged, KeepsRows, put_document}
 use Rattle.yq_edits.specs.Rooms.{is_block_root, LeadGoes, EqualRoom}
 use Rattle.yq_edits.specs.TextPieces.{IsPiece}

@@ -5,10 +5,10 @@ use Rattle.yq_core.specs.Answers.{◌>>=◌}
 use Rattle.yq_core.specs.Paths.{Step}
 use Rattle.yq_core.specs.Tree.{Node, alias, scalar, list, map, none}
 use Rattle.yq_row_table.specs.Rows.{Cut, cut_text}
-use Rattle.yq_lookup.specs.FlowNodes.{flow_collection}
-use Rattle.yq_lookup.specs.NodesAt.{node_in}
-use Rattle.yq_lookup.specs.RemovalPlaces.{has_others_at}
-use Rattle.yq_lookup.specs.Standings.{flow_standing, last_step}
+use Rattle.yq_places.specs.FlowNodes.{flow_collection}
+use Rattle.yq_places.specs.NodesAt.{node_in}
+use Rattle.yq_places.specs.RemovalPlaces.{has_others_at}
+use Rattle.yq_places.specs.Standings.{flow_standing, last_step}
 use Rattle.yq_semantics.specs.Operations.{Operation, replace, append, remove, line_comment, head_comment}
 use Rattle.yq_text.specs.Script.{Segment, keep}
 use Rattle.yq_edits.specs.CommentEdits.{head_comment_at, line_comment_at}

@@ -7,9 +7,9 @@ use Rattle.yq_core.specs.Paths.{Step}
 use Rattle.yq_core.specs.Text.{is_empty}
 use Rattle.yq_core.specs.Tree.{Node}
 use Rattle.yq_row_table.specs.Rows.{Cut}
-use Rattle.yq_lookup.specs.FirstPlaces.{first_removal}
-use Rattle.yq_lookup.specs.RemovalPlaces.{removal_place}
-use Rattle.yq_lookup.specs.Standings.{Held, Standing, alone, beside, under, compact, block, root, no_rows, standing_at}
+use Rattle.yq_places.specs.FirstPlaces.{first_removal}
+use Rattle.yq_places.specs.RemovalPlaces.{removal_place}
+use Rattle.yq_places.specs.Standings.{Held, Standing, alone, beside, under, compact, block, root, no_rows, standing_at}
 use Rattle.yq_edits.specs.declared.layout.Layout.{Layout}
 use Rattle.yq_edits.specs.Alone as single
 use Rattle.yq_edits.specs.BlockText.{block_value}

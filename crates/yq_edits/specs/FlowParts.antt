@@ -10,7 +10,7 @@ use Rattle.yq_core.specs.Scalars.{scalar_style}
 use Rattle.yq_core.specs.NodesWritten.{flow_key, flow_of}
 use Rattle.yq_flow_edits.specs.FlowEdits.{FlowEdit, appending, content_node, replacing}
 use Rattle.yq_flow_edits.specs.Removals.{removing}
-use Rattle.yq_lookup.specs.Standings.{FlowPart}
+use Rattle.yq_places.specs.Standings.{FlowPart}
 use Rattle.yq_text.specs.Script.{Segment, keep, put, script_text_before}
 use Rattle.yq_edits.specs.Style.{style_in}
 

@@ -10,10 +10,10 @@ use Rattle.yq_outline.specs.Places.{lines_before, FoundLine}
 use Rattle.yq_row_table.specs.Exchange.{with_content}
 use Rattle.yq_row_table.specs.Rows.{Inline, Row, parent_indent, rows_text, Part, Cut, cut_text}
 use Rattle.yq_documents.specs.Documents.{HasFitKeys, document_parts, lead_of}
-use Rattle.yq_lookup.specs.FlowNodes.{find_head, flow_collection}
+use Rattle.yq_places.specs.FlowNodes.{find_head, flow_collection}
 use Rattle.yq_outline.specs.Lines.{lines_of_rows}
 use Rattle.yq_documents.specs.Reading.{part_outline, read_at, root_of}
-use Rattle.yq_lookup.specs.RowPaths.{IsReadable}
+use Rattle.yq_places.specs.RowPaths.{IsReadable}
 use Rattle.yq_edits.specs.Appends.{inserted}
 use Rattle.yq_edits.specs.Changed.{IsChanged, put_document}
 use Rattle.yq_edits.specs.DocumentRows.{IsDocumentPart, behind_document}

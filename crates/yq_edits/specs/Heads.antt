@@ -10,7 +10,7 @@ use Rattle.yq_documents.specs.Documents.{lead_of}
 use Rattle.yq_outline.specs.Lines.{lines_of_rows}
 use Rattle.yq_outline.specs.Places.{FoundLine}
 use Rattle.yq_documents.specs.Reading.{part_outline}
-use Rattle.yq_lookup.specs.RowPaths.{IsReadable}
+use Rattle.yq_places.specs.RowPaths.{IsReadable}
 use Rattle.yq_edits.specs.Changed.{IsChanged, put_document}
 use Rattle.yq_edits.specs.Siblings.{IsEntryAt, NodeLines}
 use Rattle.yq_edits.specs.LineRows.{lines_before_entry}

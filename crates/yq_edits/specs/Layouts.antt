@@ -3,9 +3,9 @@ use Rattle.std.specs.Prelude.{◌≡◌, ℕ, ◌&&◌, ◌||◌, not, Bool, tru
 use Rattle.std.specs.Option.{is_some}
 use Rattle.yq_core.specs.Tree.{Node, alias, scalar, list, map, Children, none, child}
 use Rattle.yq_row_table.specs.Rows.{Cut, cut_text}
-use Rattle.yq_lookup.specs.FirstBreak.{first_break}
-use Rattle.yq_lookup.specs.Steps.{document_steps}
-use Rattle.yq_lookup.specs.Standings.{Standing, alone, beside, under, compact, block, root, no_rows}
+use Rattle.yq_places.specs.FirstBreak.{first_break}
+use Rattle.yq_places.specs.Steps.{document_steps}
+use Rattle.yq_places.specs.Standings.{Standing, alone, beside, under, compact, block, root, no_rows}
 use Rattle.yq_edits.specs.BlockReading.{is_filled}
 use Rattle.yq_edits.specs.declared.layout.Layout.{Layout}
 

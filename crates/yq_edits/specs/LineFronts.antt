@@ -7,7 +7,7 @@ use Rattle.yq_row_table.specs.Grammar.{IsRow, Limit}
 use Rattle.yq_row_table.specs.Rows.{Row, print_row}
 use Rattle.yq_row_table.specs.View.{slices}
 use Rattle.yq_row_table.proofs.seams.ScalarSeams.{ends_return}
-use Rattle.yq_lookup.specs.CommentPlaces.{text_to_line_end}
+use Rattle.yq_places.specs.CommentPlaces.{text_to_line_end}
 use Rattle.yq_edits.specs.TextPieces.{IsPiece}
 
 -- A text cut in two, where no CR stands before an LF, is in pieces.

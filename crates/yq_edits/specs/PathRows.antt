@@ -8,7 +8,7 @@ use Rattle.yq_outline.specs.Lines.{lines_of_rows}
 use Rattle.yq_outline.specs.Outline.{Outline, IsEven}
 use Rattle.yq_outline.specs.Places.{FoundLine}
 use Rattle.yq_documents.specs.Reading.{part_outline}
-use Rattle.yq_lookup.specs.RowPaths.{IsReadable}
+use Rattle.yq_places.specs.RowPaths.{IsReadable}
 use Rattle.yq_outline.specs.Ends.{line_at_steps}
 use Rattle.yq_documents.specs.LinesInRows.{RowLine, row_line_of}
 use Rattle.yq_edits.specs.Changed.{IsChanged, put_document}

@@ -7,7 +7,7 @@ use Rattle.yq_row_table.specs.Exchange.{with_content}
 use Rattle.yq_row_table.specs.Grammar.{IsTail}
 use Rattle.yq_row_table.specs.Rows.{Content, Nothing, Inline, Block, Row, rows_text, Part, Cut, cut_text}
 use Rattle.yq_documents.specs.Documents.{lead_of}
-use Rattle.yq_lookup.specs.RowPaths.{IsReadable}
+use Rattle.yq_places.specs.RowPaths.{IsReadable}
 use Rattle.yq_documents.specs.LinesInRows.{RowLine, row_line_of}
 use Rattle.yq_documents.specs.TreeEdits.{with_line_comment}
 use Rattle.yq_edits.specs.Appends.{inserted}

@@ -8,9 +8,9 @@ use Rattle.yq_core.specs.Anchors.{names_of}
 use Rattle.yq_outline.specs.Places.{FoundLine}
 use Rattle.yq_row_table.specs.Rows.{Part, Cut, cut_text}
 use Rattle.yq_documents.specs.Documents.{document_parts, lead_of}
-use Rattle.yq_lookup.specs.FirstPlaces.{FirstOut, first_removal}
+use Rattle.yq_places.specs.FirstPlaces.{FirstOut, first_removal}
 use Rattle.yq_documents.specs.Reading.{part_outline, read_at, root_of}
-use Rattle.yq_lookup.specs.RemovalPlaces.{OwnRows, own_rows, Seam, Removal, removal_place, has_others}
+use Rattle.yq_places.specs.RemovalPlaces.{OwnRows, own_rows, Seam, Removal, removal_place, has_others}
 use Rattle.yq_documents.specs.TreeEdits.{at_end}
 use Rattle.yq_edits.specs.Changed.{IsChanged, KeepsRows, put_document}
 use Rattle.yq_edits.specs.Conditions.{AreSpared}

@@ -3,7 +3,7 @@ use Rattle.std.specs.Prelude.{ℕ, List, [], ◌∷◌, ◌++◌, replicate, Opt
 use Rattle.yq_core.specs.BlockRepair.{is_short, is_outdented_comment}
 use Rattle.yq_core.specs.Lines.{is_blank}
 use Rattle.yq_core.specs.Text.{cut, no_white, past_white, joined, text_lines}
-use Rattle.yq_lookup.specs.RemovalPlaces.{Seam, Removal}
+use Rattle.yq_places.specs.RemovalPlaces.{Seam, Removal}
 use Rattle.yq_text.specs.Script.{Segment, keep, put}
 
 -- the white space in front of a line gives way to so many spaces (own)

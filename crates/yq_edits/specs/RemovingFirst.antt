@@ -1,6 +1,6 @@
 -- What is exchanged where the first item or entry of a compact collection is taken out (YAML 1.2.2, 8.2.1; own).
 use Rattle.std.specs.Prelude.{List, [], ◌∷◌}
-use Rattle.yq_lookup.specs.FirstPlaces.{FirstOut}
+use Rattle.yq_places.specs.FirstPlaces.{FirstOut}
 use Rattle.yq_text.specs.Script.{Segment, keep, put}
 
 -- the segments in which what stands between the text before and the text behind goes (own)

@@ -13,8 +13,8 @@ use Rattle.yq_core.specs.Written.{double}
 use Rattle.yq_core.specs.declared.style.Place.TheVariants.{Block as InBlock}
 use Rattle.yq_core.specs.declared.style.Style.TheVariants.{Literal}
 use Rattle.yq_row_table.specs.Rows.{Cut}
-use Rattle.yq_lookup.specs.NodesAt.{node_in, scalar_in}
-use Rattle.yq_lookup.specs.Standings.{Compact, Held, Lone, BlockRoot, NoRows, Standing, alone, beside, under, compact, block, root, no_rows, standing_at}
+use Rattle.yq_places.specs.NodesAt.{node_in, scalar_in}
+use Rattle.yq_places.specs.Standings.{Compact, Held, Lone, BlockRoot, NoRows, Standing, alone, beside, under, compact, block, root, no_rows, standing_at}
 use Rattle.yq_edits.specs.declared.layout.Layout.{Layout}
 use Rattle.yq_edits.specs.BlockText.{block_value}
 use Rattle.yq_text.specs.Script.{Segment, keep, put}

@@ -15,7 +15,7 @@ use Rattle.yq_row_table.specs.Splices.{behind_first, first_gap, marker_before}
 use Rattle.yq_documents.specs.Documents.{HaveFitKeys, HasShortRoot, lead_of}
 use Rattle.yq_outline.specs.Lines.{lines_from, lines_of_rows}
 use Rattle.yq_documents.specs.Reading.{part_outline, root_of}
-use Rattle.yq_lookup.specs.RowPaths.{IsReadable}
+use Rattle.yq_places.specs.RowPaths.{IsReadable}
 use Rattle.yq_documents.specs.TreeEdits.{replaced_node}
 use Rattle.yq_edits.specs.Appends.{inserted}
 use Rattle.yq_edits.specs.BlockChanges.{AreCounted, MovesUp, RootFits, StaysEmpty}

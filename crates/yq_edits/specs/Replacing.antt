@@ -5,7 +5,7 @@ use Rattle.yq_core.specs.Answers.{◌>>=◌}
 use Rattle.yq_core.specs.Scalar.{ScalarText}
 use Rattle.yq_core.specs.Tree.{Node}
 use Rattle.yq_core.specs.declared.kind.Kind.TheVariants.{Null}
-use Rattle.yq_lookup.specs.NodesAt.{scalar_in}
+use Rattle.yq_places.specs.NodesAt.{scalar_in}
 use Rattle.yq_edits.specs.Style.{is_same, table_row}
 
 -- whether there are two scalars, and they are equal (own)

@@ -10,7 +10,7 @@ use Rattle.yq_row_table.specs.Seams.{is_block}
 use Rattle.yq_row_table.specs.View.{slices}
 use Rattle.yq_documents.specs.Documents.{document_parts}
 use Rattle.yq_documents.specs.Reading.{documents, read_at}
-use Rattle.yq_lookup.specs.Standings.{Held, RowsOfEntry, held, rows_of_entry}
+use Rattle.yq_places.specs.Standings.{Held, RowsOfEntry, held, rows_of_entry}
 use Rattle.yq_edits.specs.Appends.{inserted}
 use Rattle.yq_edits.specs.Changed.{put_document}
 use Rattle.yq_edits.specs.Rooms.{row_shape}
@@ -19,7 +19,7 @@ use Rattle.yq_semantics.specs.Fits.{Fits}
 use Rattle.yq_semantics.specs.Operations.{line_comment, replace}
 use Rattle.yq_semantics.specs.Rooms.{room_of}
 use Rattle.yq_text.specs.Script.{Segment, changes, keep, new_text, old_text, splice_at}
-use Rattle.yq_lookup.specs.NodesAt.{node_in}
+use Rattle.yq_places.specs.NodesAt.{node_in}
 use Rattle.yq_edits.specs.CommentEdits.{comment_put, comment_written}
 use Rattle.yq_edits.specs.Edits.{op_edits}
 use Rattle.yq_edits.specs.Operands.{HasOperand}

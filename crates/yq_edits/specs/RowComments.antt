@@ -13,7 +13,7 @@ use Rattle.yq_row_table.specs.Splices.{first_gap}
 use Rattle.yq_documents.specs.Documents.{ContentHasFitKeys, is_long_plain, lead_of}
 use Rattle.yq_outline.specs.Lines.{content_anchor, head_of, tail_of, lines_of_rows}
 use Rattle.yq_documents.specs.Reading.{part_outline}
-use Rattle.yq_lookup.specs.RowPaths.{IsReadable}
+use Rattle.yq_places.specs.RowPaths.{IsReadable}
 use Rattle.yq_documents.specs.TreeEdits.{with_line_comment}
 use Rattle.yq_edits.specs.Appends.{inserted}
 use Rattle.yq_edits.specs.Changed.{IsChanged, put_document}

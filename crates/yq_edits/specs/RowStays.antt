@@ -7,8 +7,8 @@ use Rattle.yq_row_table.specs.Rows.{Row, Part, Cut}
 use Rattle.yq_documents.specs.Documents.{document_parts}
 use Rattle.yq_documents.specs.LinesInRows.{RowLine, row_line_of}
 use Rattle.yq_outline.specs.Lines.{content_anchor, head_of}
-use Rattle.yq_lookup.specs.NodesAt.{node_in}
-use Rattle.yq_lookup.specs.Standings.{RowsOfEntry, rows_of_entry}
+use Rattle.yq_places.specs.NodesAt.{node_in}
+use Rattle.yq_places.specs.Standings.{RowsOfEntry, rows_of_entry}
 use Rattle.yq_edits.specs.Appends.{inserted}
 use Rattle.yq_edits.specs.Changed.{put_document}
 use Rattle.yq_edits.specs.Rooms.{row_shape}

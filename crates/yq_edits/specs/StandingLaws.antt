@@ -10,12 +10,12 @@ use Rattle.yq_row_table.specs.Rows.{Cut, Part, cut_text, part_text}
 use Rattle.yq_documents.specs.Documents.{document_parts}
 use Rattle.yq_outline.specs.Lines.{lines_of_rows}
 use Rattle.yq_documents.specs.Reading.{part_outline, read_at}
-use Rattle.yq_lookup.specs.NodesAt.{node_in}
-use Rattle.yq_lookup.specs.RemovalPlaces.{has_others_at}
+use Rattle.yq_places.specs.NodesAt.{node_in}
+use Rattle.yq_places.specs.RemovalPlaces.{has_others_at}
 use Rattle.yq_edits.specs.Changed.{put_document}
 use Rattle.yq_edits.specs.DocumentRows.{IsDocumentPart, behind_document}
 use Rattle.yq_edits.specs.TextPieces.{IsPiece}
-use Rattle.yq_lookup.specs.Standings.{RowsOfEntry, FlowPart, Held, Standing, rows_of_entry, flow_standing, held, last_step, standing_at}
+use Rattle.yq_places.specs.Standings.{RowsOfEntry, FlowPart, Held, Standing, rows_of_entry, flow_standing, held, last_step, standing_at}
 
 -- ---- there is something
 

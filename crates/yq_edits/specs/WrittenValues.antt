@@ -6,7 +6,7 @@ use Rattle.yq_core.specs.declared.style.Place.{Place}
 use Rattle.yq_core.specs.declared.style.Place.TheVariants.{Block as InBlock}
 use Rattle.yq_core.specs.Scalars.{scalar_style}
 use Rattle.yq_core.specs.NodesWritten.{flow_text}
-use Rattle.yq_lookup.specs.Standings.{MarkPieces}
+use Rattle.yq_places.specs.Standings.{MarkPieces}
 use Rattle.yq_edits.specs.declared.layout.Layout.{Layout}
 use Rattle.yq_edits.specs.BlockReading.{is_filled}
 use Rattle.yq_edits.specs.BlockRows.{indent_step, item_column}

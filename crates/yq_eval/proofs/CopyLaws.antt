@@ -5,8 +5,8 @@ use Rattle.yq_core.specs.Tree as tree
 use Rattle.yq_core.specs.Tree.{Label, Node, list, Children, child, children_of, none}
 use Rattle.yq_core.specs.Values.{entries}
 use Rattle.yq_outline.specs.Counts.{count}
-use Rattle.yq_core.specs.Nodes.{kind_of}
-use Rattle.yq_core.specs.declared.nodes.node.NodeKind.TheVariants as kinds
+use Rattle.yq_nodes.specs.Nodes.{kind_of}
+use Rattle.yq_nodes.specs.declared.nodes.node.NodeKind.TheVariants as kinds
 use Rattle.yq_semantics.specs.Copies.{and_others, keyed, copy, item_copies, entry_copies}
 use Rattle.yq_semantics.specs.Judgement.{Judgement, and_then, gives}
 use Rattle.yq_eval.specs.PlaceView.{put_behind}

@@ -4,9 +4,9 @@ use Rattle.std.specs.Prelude.{ℤ}
 use Rattle.yq_core.specs.Paths.{Nth, child_at}
 use Rattle.yq_core.specs.Tree as tree
 use Rattle.yq_core.specs.Tree.{Node, alias, scalar, list, Children, children_of}
-use Rattle.yq_core.specs.Nodes.{kind_of, node_of}
-use Rattle.yq_core.specs.declared.nodes.node.NodeKind.{NodeKind}
-use Rattle.yq_core.specs.declared.nodes.node.NodeKind.TheVariants as node_kinds
+use Rattle.yq_nodes.specs.Nodes.{kind_of, node_of}
+use Rattle.yq_nodes.specs.declared.nodes.node.NodeKind.{NodeKind}
+use Rattle.yq_nodes.specs.declared.nodes.node.NodeKind.TheVariants as node_kinds
 use Rattle.yq_eval.specs.declared.matching.place.Missing.{Missing, Further, Nothing, the_lemmas}
 use Rattle.yq_eval.specs.declared.matching.place.Place as declared
 use Rattle.yq_eval.specs.FoundView.{child_places}

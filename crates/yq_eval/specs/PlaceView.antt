@@ -4,8 +4,8 @@ use Rattle.std.specs.Prelude.{List, [], ◌∷◌, ◌++◌, map, Option, Some, 
 use Rattle.yq_core.specs.Paths as paths
 use Rattle.yq_core.specs.Paths.{To, Nth}
 use Rattle.yq_core.specs.Tree as tree
-use Rattle.yq_core.specs.declared.nodes.node.Node as nodes
-use Rattle.yq_core.specs.Nodes.{node_of}
+use Rattle.yq_nodes.specs.declared.nodes.node.Node as nodes
+use Rattle.yq_nodes.specs.Nodes.{node_of}
 use Rattle.yq_outline.specs.Outline.{null_node}
 use Rattle.yq_eval.specs.declared.matching.place.NodeStep as steps
 use Rattle.yq_eval.specs.declared.matching.place.NodePath.{NodePath, fold-NodePath}

@@ -2,8 +2,8 @@
 use Rattle.std.proofs.Common.{refl, ◌≡◌, ℕ, cond, false, List, [], ◌∷◌, length, map, get_or, None, sym, ap, ◌∙◌, arith}
 use Rattle.yq_core.specs.declared.kind.Kind.{Kind}
 use Rattle.yq_core.specs.Tree.{Node, scalar}
-use Rattle.yq_core.specs.Nodes.{kind_of, text_of}
-use Rattle.yq_core.specs.declared.nodes.node.NodeKind.TheVariants as kinds
+use Rattle.yq_nodes.specs.Nodes.{kind_of, text_of}
+use Rattle.yq_nodes.specs.declared.nodes.node.NodeKind.TheVariants as kinds
 use Rattle.yq_expr.specs.Summand.{IsSummand}
 use Rattle.yq_semantics.specs.Copies.{copy}
 use Rattle.yq_semantics.specs.Judgement.{Judgement, and_then, gives}

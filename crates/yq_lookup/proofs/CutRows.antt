@@ -8,8 +8,8 @@ use Rattle.yq_documents.specs.Reading.{cut_of}
 use Rattle.yq_outline.specs.declared.line_position.KnownItems.{KnownItems}
 use Rattle.yq_outline.specs.Extents.{IsRowsView}
 use Rattle.yq_outline.specs.RowWalk.{AreKnown}
-use Rattle.yq_lookup.specs.declared.places.known_line.KnownLine.{KnownLine}
-use Rattle.yq_lookup.specs.RowWalk.{IsKnownLine}
+use Rattle.yq_places.specs.declared.places.known_line.KnownLine.{KnownLine}
+use Rattle.yq_places.specs.RowWalk.{IsKnownLine}
 
 pub rows_are_view : (t : List ℕ) (s : RowsView) → IsCut t (cut_of t) → s ≡ rows_view (cut_of t) → IsRowsView s
 rows_are_view t s cut rows = record { cut = cut_of t; is = rows; size = omega (arith, ap length cut.text, cut.size) }

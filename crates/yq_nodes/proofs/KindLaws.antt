@@ -3,7 +3,7 @@ use Rattle.std.proofs.Common.{◌≡◌, ℕ, List, Option, Some, None, refl}
 use Rattle.yq_core.specs.Tree.{Node, alias, scalar, list, map, Children}
 use Rattle.yq_core.specs.declared.kind.Kind.{Kind}
 use Rattle.yq_core.specs.Trees.{with_anchor_name}
-use Rattle.yq_core.specs.Nodes.{kind_of, text_of}
+use Rattle.yq_nodes.specs.Nodes.{kind_of, text_of}
 use Rattle.yq_documents.specs.TreeEdits.{anchor_of}
 use Rattle.yq_outline.specs.Outline.{first_anchor, anchored}
 

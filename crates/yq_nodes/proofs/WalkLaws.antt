@@ -5,9 +5,9 @@ use Rattle.yq_core.specs.declared.path.Step as step
 use Rattle.yq_core.specs.Entries.{tree_step}
 use Rattle.yq_core.specs.Paths.{Step, child_at, node_at}
 use Rattle.yq_core.specs.Tree.{Node, children_of}
-use Rattle.yq_core.specs.declared.nodes.node.Node as declared
+use Rattle.yq_nodes.specs.declared.nodes.node.Node as declared
 use Rattle.yq_outline.specs.Labelled.{Labelled, labelled_at, labelled_from}
-use Rattle.yq_core.specs.Nodes.{node_of, labelled_of}
+use Rattle.yq_nodes.specs.Nodes.{node_of, labelled_of}
 use Rattle.yq_outline.proofs.Finding.{labelled_child, labelled_path}
 
 -- the node of one of the code that is given with its label

@@ -7,9 +7,9 @@ use Rattle.yq_outline.specs.Bodies.{borrowed}
 use Rattle.yq_outline.specs.Ends.{part}
 use Rattle.yq_outline.specs.Outline.{Outline, anchored, null_node, children}
 use Rattle.yq_documents.specs.Stretches.{document_lines, number_of}
-use Rattle.yq_core.specs.declared.nodes.under.Under.{Under}
-use Rattle.yq_core.specs.declared.nodes.body.Body as bodies
-use Rattle.yq_core.specs.declared.nodes.body.Named.{Named}
+use Rattle.yq_nodes.specs.declared.nodes.under.Under.{Under}
+use Rattle.yq_nodes.specs.declared.nodes.body.Body as bodies
+use Rattle.yq_nodes.specs.declared.nodes.body.Named.{Named}
 
 -- the lines of a document from one on that are deeper than a level, as an outline (own)
 abbrev pub body_outline : Under → Outline

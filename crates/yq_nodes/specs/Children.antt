@@ -5,13 +5,13 @@ use Rattle.yq_core.specs.Trees.{parts_tree}
 use Rattle.yq_core.specs.View.{entries_end, items_end}
 use Rattle.yq_outline.specs.Outline as outline
 use Rattle.yq_outline.specs.Places.{content_under}
-use Rattle.yq_core.specs.Bodies.{body_outline}
-use Rattle.yq_core.specs.Nodes.{node_of, label_of}
+use Rattle.yq_nodes.specs.Bodies.{body_outline}
+use Rattle.yq_nodes.specs.Nodes.{node_of, label_of}
 use Rattle.yq_documents.specs.Stretches.{IsLineIn, count_from, lines_under}
-use Rattle.yq_core.specs.declared.nodes.children.Children as declared
-use Rattle.yq_core.specs.declared.nodes.children.Rest as rests
-use Rattle.yq_core.specs.declared.nodes.node.Node.{Node}
-use Rattle.yq_core.specs.declared.nodes.under.Under.{Under}
+use Rattle.yq_nodes.specs.declared.nodes.children.Children as declared
+use Rattle.yq_nodes.specs.declared.nodes.children.Rest as rests
+use Rattle.yq_nodes.specs.declared.nodes.node.Node.{Node}
+use Rattle.yq_nodes.specs.declared.nodes.under.Under.{Under}
 
 -- items or entries that are left on lines (own)
 abbrev pub lines_rest : Under → rests.Rest

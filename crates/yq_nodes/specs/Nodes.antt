@@ -2,13 +2,13 @@
 use Rattle.std.specs.Prelude.{List, [], ℕ}
 use Rattle.yq_core.specs.Tree.{Label, Node, alias, scalar, list, map}
 use Rattle.yq_core.specs.Trees.{inner}
-use Rattle.yq_core.specs.Bodies.{named_node}
+use Rattle.yq_nodes.specs.Bodies.{named_node}
 use Rattle.yq_documents.specs.Located.{unlabelled}
-use Rattle.yq_core.specs.declared.nodes.node.Node as declared
-use Rattle.yq_core.specs.declared.nodes.node.NodeKind.{NodeKind}
-use Rattle.yq_core.specs.declared.nodes.node.NodeKind.TheVariants as kinds
-use Rattle.yq_core.specs.declared.nodes.node.Slot as slots
-use Rattle.yq_core.specs.declared.nodes.node.Written.{Written}
+use Rattle.yq_nodes.specs.declared.nodes.node.Node as declared
+use Rattle.yq_nodes.specs.declared.nodes.node.NodeKind.{NodeKind}
+use Rattle.yq_nodes.specs.declared.nodes.node.NodeKind.TheVariants as kinds
+use Rattle.yq_nodes.specs.declared.nodes.node.Slot as slots
+use Rattle.yq_nodes.specs.declared.nodes.node.Written.{Written}
 use Rattle.yq_outline.specs.Bodies.{borrowed}
 use Rattle.yq_outline.specs.Comments as comments
 use Rattle.yq_outline.specs.Labelled.{Labelled}

@@ -9,11 +9,11 @@ use Rattle.yq_text.specs.Limit.{text_limit}
 use Rattle.yq_core.specs.Paths.{Step}
 use Rattle.yq_row_table.specs.Rows.{Cut}
 use Rattle.yq_documents.specs.Reading.{read_at}
-use Rattle.yq_lookup.specs.FirstPlaces.{first_removal}
-use Rattle.yq_lookup.specs.RemovalPlaces.{Removal, has_others_at, removal_place}
-use Rattle.yq_lookup.specs.RemovalReading.{seam_view}
-use Rattle.yq_lookup.specs.Standings.{last_step}
-use Rattle.yq_lookup.specs.declared.places.removal_place.Seam.{Seam}
+use Rattle.yq_places.specs.FirstPlaces.{first_removal}
+use Rattle.yq_places.specs.RemovalPlaces.{Removal, has_others_at, removal_place}
+use Rattle.yq_places.specs.RemovalReading.{seam_view}
+use Rattle.yq_places.specs.Standings.{last_step}
+use Rattle.yq_places.specs.declared.places.removal_place.Seam.{Seam}
 use Rattle.yq_edits.proofs.RemovalChangeLaws.{removal_stands}
 use Rattle.yq_semantics.specs.Operations.{remove}
 use Rattle.yq_text.specs.Changing.{IsChange}

@@ -1,7 +1,7 @@
 -- Lines of an item or entry that go, where no other byte changes (own; a reader of the contracts may skip it).
 use Rattle.std.specs.Prelude.{◌+◌, ◌≤◌, length}
 use Rattle.yq_text.specs.Limit.{text_limit}
-use Rattle.yq_lookup.specs.RemovalPlaces.{Removal}
+use Rattle.yq_places.specs.RemovalPlaces.{Removal}
 
 -- what stands before lines that go, these, and what stands behind them are a text together (own)
 abbrev pub IsSmall : Removal → Type 0

@@ -16,21 +16,21 @@ use Rattle.yq_row_table.proofs.NodePieces.{BeginsAscii, before_ascii}
 use Rattle.yq_row_table.proofs.PlaceLaws.{row_front-append, row_in}
 use Rattle.yq_row_table.proofs.SliceLaws.{content_slices}
 use Rattle.yq_documents.specs.declared.path.Path.{Path}
-use Rattle.yq_lookup.specs.CommentPlaces.{LinesAbove, text_to_line_end, gap_above, above_row, lines_above}
-use Rattle.yq_lookup.specs.CommentViews.{GapStands}
+use Rattle.yq_places.specs.CommentPlaces.{LinesAbove, text_to_line_end, gap_above, above_row, lines_above}
+use Rattle.yq_places.specs.CommentViews.{GapStands}
 use Rattle.yq_outline.specs.Extents.{row_start}
 use Rattle.yq_documents.specs.Located.{steps_of}
 use Rattle.yq_documents.specs.Pieces.{before_run, last_run}
-use Rattle.yq_lookup.specs.PlacedRows.{PlacedRow}
+use Rattle.yq_places.specs.PlacedRows.{PlacedRow}
 use Rattle.yq_documents.specs.Reading.{cut_of}
-use Rattle.yq_lookup.specs.RowLineReading.{LineCounts, numbers}
+use Rattle.yq_places.specs.RowLineReading.{LineCounts, numbers}
 use Rattle.yq_documents.specs.LinesInRows.{row_line_at, document_row}
-use Rattle.yq_lookup.specs.RowWalk.{HasCut}
-use Rattle.yq_lookup.proofs.CommentPieceLaws.{row_place, run_begins}
-use Rattle.yq_lookup.proofs.PlacedRowLaws.{row_line_placed, no_row_line_placed}
+use Rattle.yq_places.specs.RowWalk.{HasCut}
+use Rattle.yq_places.proofs.CommentPieceLaws.{row_place, run_begins}
+use Rattle.yq_places.proofs.PlacedRowLaws.{row_line_placed, no_row_line_placed}
 use Rattle.yq_documents.proofs.RunLaws.{run_split}
-use Rattle.yq_lookup.proofs.SeamLaws.{IsSeam, seam_boundary, seam_then, gap_seam, row_seam}
-use Rattle.yq_lookup.proofs.StartLaws.{start_agrees}
+use Rattle.yq_places.proofs.SeamLaws.{IsSeam, seam_boundary, seam_then, gap_seam, row_seam}
+use Rattle.yq_places.proofs.StartLaws.{start_agrees}
 
 -- a row up to the end of the line of its mark, and behind that
 pub row_text_parts : (r : Row) (rest : List ℕ) → print_row r rest ≡ text_to_line_end r ++ ((slices r).tail ++ ((slices r).raw ++ rest))

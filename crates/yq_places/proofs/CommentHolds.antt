@@ -11,13 +11,13 @@ use Rattle.yq_outline.specs.Places.{lines_before, FoundLine, find}
 use Rattle.yq_row_table.specs.Rows.{Content, Nothing, content_text}
 use Rattle.yq_row_table.specs.View.{content_cut}
 use Rattle.yq_documents.specs.declared.path.Part.TheVariants as parts
-use Rattle.yq_lookup.specs.PathPieces.{BlockEntry, PrintedDocument, found_entry, piece_in_entry, piece_in}
+use Rattle.yq_places.specs.PathPieces.{BlockEntry, PrintedDocument, found_entry, piece_in_entry, piece_in}
 use Rattle.yq_documents.specs.Pieces.{TextPiece, HoldsPiece, tail_comment, content_comment, gap_comment}
-use Rattle.yq_lookup.specs.PrintedLines.{line_rest, print_lines, line_in}
-use Rattle.yq_lookup.proofs.CommentPieceLaws.{Ended, tail_piece, gap_piece}
-use Rattle.yq_lookup.proofs.PrintedLaws.{IsPrinted, ArePrinted}
-use Rattle.yq_lookup.proofs.FoundEntries.{entry_found}
-use Rattle.yq_lookup.proofs.PieceTexts.{tail_text, entry_text, document_text, entry_whole}
+use Rattle.yq_places.specs.PrintedLines.{line_rest, print_lines, line_in}
+use Rattle.yq_places.proofs.CommentPieceLaws.{Ended, tail_piece, gap_piece}
+use Rattle.yq_places.proofs.PrintedLaws.{IsPrinted, ArePrinted}
+use Rattle.yq_places.proofs.FoundEntries.{entry_found}
+use Rattle.yq_places.proofs.PieceTexts.{tail_text, entry_text, document_text, entry_whole}
 
 pub no_tail : (before behind : List ℕ) → tail_comment before [] behind ≡ None
 unfolding upto

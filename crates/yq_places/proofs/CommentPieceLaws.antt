@@ -23,7 +23,7 @@ use Rattle.yq_row_table.proofs.NodePieces.{BeginsAscii, before_ascii}
 use Rattle.yq_row_table.proofs.PlaceLaws.{place, row_then, part_then}
 use Rattle.yq_row_table.proofs.SliceLaws.{content_slices}
 use Rattle.yq_documents.specs.Pieces.{last_run, before_run, tail_comment, gap_comment, TextPiece, HoldsPiece}
-use Rattle.yq_lookup.specs.CommentReading.{before_row, before_tail}
+use Rattle.yq_places.specs.CommentReading.{before_row, before_tail}
 use Rattle.yq_documents.proofs.RunLaws.{run_split}
 
 -- a text in three pieces, by the two places

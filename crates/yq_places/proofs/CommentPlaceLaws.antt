@@ -9,13 +9,13 @@ use Rattle.yq_row_table.specs.Rows.{Row, behind_gap, Cut}
 use Rattle.yq_row_table.specs.View.{Slices, slices, rows_of, rows_view}
 use Rattle.yq_core.proofs.LineLaws.{joined_lines}
 use Rattle.yq_documents.specs.Pieces.{tail_comment, before_run, last_run, gap_comment, piece_span}
-use Rattle.yq_lookup.specs.CommentReading.{before_tail, line_comment_in, head_comment_in, tail_span, line_comment_span, gap_span, head_comment_span, before_row}
+use Rattle.yq_places.specs.CommentReading.{before_tail, line_comment_in, head_comment_in, tail_span, line_comment_span, gap_span, head_comment_span, before_row}
 use Rattle.yq_outline.specs.Extents.{row_start, front_length}
-use Rattle.yq_lookup.specs.RowLineReading.{numbers}
+use Rattle.yq_places.specs.RowLineReading.{numbers}
 use Rattle.yq_documents.specs.LinesInRows.{RowLine}
 use Rattle.yq_outline.proofs.LengthLaws.{head_agrees}
 use Rattle.yq_documents.proofs.RunLaws.{run_split}
-use Rattle.yq_lookup.proofs.StartLaws.{start_agrees}
+use Rattle.yq_places.proofs.StartLaws.{start_agrees}
 
 -- the comment in a tail
 pair : (a b c d : ℕ) → a ≡ b → c ≡ d → ◌≡◌ {A = ℕ × ℕ} (a, c) (b, d)

@@ -6,7 +6,7 @@ use Rattle.yq_core.specs.Text.{cut, front, ends_line, no_white, past_white, upto
 use Rattle.yq_core.proofs.LineLaws.{joined_lines, line_step}
 use Rattle.yq_outline.specs.Comments.{less_space, comment_text, are_comments, head_comment}
 use Rattle.yq_documents.specs.Pieces.{last_run, before_run, tail_comment, gap_comment}
-use Rattle.yq_lookup.specs.CommentLaws.{comment_of, comments_of}
+use Rattle.yq_places.specs.CommentLaws.{comment_of, comments_of}
 use Rattle.yq_documents.specs.Texts.{texts}
 use Rattle.yq_documents.proofs.RunLaws.{run_texts}
 

@@ -6,9 +6,9 @@ use Rattle.yq_row_table.specs.Gap.{IsBreak, IsComment, IsWhite}
 use Rattle.yq_row_table.specs.Grammar.{IsContent, IsTail}
 use Rattle.yq_row_table.specs.Rows.{Content, Nothing, Inline, Block}
 use Rattle.yq_row_table.proofs.seams.SeamLaws.{line_by_break}
-use Rattle.yq_lookup.specs.CollectionEnds.{is_broken}
-use Rattle.yq_lookup.specs.PrintedLines.{last_break, end_break}
-use Rattle.yq_lookup.proofs.LastBreakLaws.{HasNoFeed, line_last, raw_last, no_last}
+use Rattle.yq_places.specs.CollectionEnds.{is_broken}
+use Rattle.yq_places.specs.PrintedLines.{last_break, end_break}
+use Rattle.yq_places.proofs.LastBreakLaws.{HasNoFeed, line_last, raw_last, no_last}
 
 -- a text ends in a break that is a line, or has none, and nothing is behind it
 abbrev pub Ends : Bool → List ℕ → List ℕ → Type 0

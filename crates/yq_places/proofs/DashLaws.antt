@@ -6,13 +6,13 @@ use Rattle.yq_outline.specs.Ends.{line_at_steps}
 use Rattle.yq_row_table.specs.Exchange.{row_front}
 use Rattle.yq_row_table.specs.Rows.{Row, behind_dashes, dashes_text, print_row, Cut}
 use Rattle.yq_row_table.proofs.PlaceLaws.{dashes_then}
-use Rattle.yq_lookup.specs.RowPieces.{past_dash, upto_dash}
+use Rattle.yq_places.specs.RowPieces.{past_dash, upto_dash}
 use Rattle.yq_outline.specs.Lines.{lines_of_rows}
-use Rattle.yq_lookup.specs.PlacedRows.{PlacedRow, placed_document, row_of_path}
+use Rattle.yq_places.specs.PlacedRows.{PlacedRow, placed_document, row_of_path}
 use Rattle.yq_documents.specs.LinesInRows.{row_line_of}
-use Rattle.yq_lookup.proofs.EntryPlaceLaws.{row_line_is}
-use Rattle.yq_lookup.proofs.PrintedTexts.{map_some}
-use Rattle.yq_lookup.proofs.SeamLaws.{dashes_split}
+use Rattle.yq_places.proofs.EntryPlaceLaws.{row_line_is}
+use Rattle.yq_places.proofs.PrintedTexts.{map_some}
+use Rattle.yq_places.proofs.SeamLaws.{dashes_split}
 
 -- ---- a row, cut behind a dash
 

@@ -10,7 +10,7 @@ use Rattle.yq_outline.specs.Group.{group, is_fine}
 use Rattle.yq_outline.specs.Outline.{Line, value}
 use Rattle.yq_documents.specs.Reading.{part_document, is_document}
 use Rattle.yq_outline.proofs.ByRules.{rules_from, rules_give}
-use Rattle.yq_lookup.proofs.Conditions.{keys_are, are_keys, short_is, is_short}
+use Rattle.yq_places.proofs.Conditions.{keys_are, are_keys, short_is, is_short}
 use Rattle.yq_outline.proofs.NameConditions.{anchors_are, are_anchors, bound_are, are_bound_of}
 use Rattle.yq_outline.proofs.Decides.{stand-sound, stand-complete}
 use Rattle.yq_outline.proofs.KeyLaws.{unique_is, is_unique}

@@ -16,17 +16,17 @@ use Rattle.yq_outline.specs.Lines.{lines_of_rows}
 use Rattle.yq_documents.specs.Reading.{cut_of}
 use Rattle.yq_documents.specs.LinesInRows.{RowLine, document_row, row_line, row_line_of}
 use Rattle.yq_outline.specs.Extents.{lines_before_mark}
-use Rattle.yq_lookup.specs.PlacedRows.{PlacedPart, placed_document}
+use Rattle.yq_places.specs.PlacedRows.{PlacedPart, placed_document}
 use Rattle.yq_outline.specs.RowWalk.{HasRows, IsLine, deeper_rows, line_level, line_number}
-use Rattle.yq_lookup.specs.Standings.{RowsOfEntry, entry_rows_at, rows_of_entry, under_count}
-use Rattle.yq_lookup.specs.StandingReading.{IsEntryIn, StandingCounts, numbers_at, numbers_of_entry, as_numbers}
-use Rattle.yq_lookup.specs.declared.places.rows_of_entry.RowsOfEntry as declared
+use Rattle.yq_places.specs.Standings.{RowsOfEntry, entry_rows_at, rows_of_entry, under_count}
+use Rattle.yq_places.specs.StandingReading.{IsEntryIn, StandingCounts, numbers_at, numbers_of_entry, as_numbers}
+use Rattle.yq_places.specs.declared.places.rows_of_entry.RowsOfEntry as declared
 use Rattle.yq_outline.specs.declared.line_position.Position.{Position}
 use Rattle.yq_outline.specs.declared.line_position.Stretch.{Stretch}
-use Rattle.yq_lookup.proofs.EntryPlaceLaws.{row_line_is}
-use Rattle.yq_lookup.proofs.PlacedPartLaws.{map_some, part_stands, placed_is}
-use Rattle.yq_lookup.proofs.RowLineSpans.{steps_row}
-use Rattle.yq_lookup.proofs.WalkDocuments.{row_line_number}
+use Rattle.yq_places.proofs.EntryPlaceLaws.{row_line_is}
+use Rattle.yq_places.proofs.PlacedPartLaws.{map_some, part_stands, placed_is}
+use Rattle.yq_places.proofs.RowLineSpans.{steps_row}
+use Rattle.yq_places.proofs.WalkDocuments.{row_line_number}
 use Rattle.yq_outline.proofs.WalkRows.{rows_behind}
 use Rattle.yq_outline.proofs.WalkPositions.{located}
 

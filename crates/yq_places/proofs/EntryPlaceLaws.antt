@@ -19,9 +19,9 @@ use Rattle.yq_documents.specs.LinesInRows.{RowLine, behind_one, row_line, row_li
 use Rattle.yq_outline.specs.Ends.{found_line, reached}
 use Rattle.yq_outline.proofs.Values.{If}
 use Rattle.yq_outline.proofs.KnownLaws.{get_dropped, get_front}
-use Rattle.yq_lookup.specs.EntryReading.{line_entry, line_content, entry_from, content_from, entry_of, node_place_of, entry_at, content_row_place, entry_within, line_entry_of, line_content_of, flow_entry_from, flow_entry_of, line_entry_at, line_content_at, flow_entry_at}
-use Rattle.yq_lookup.specs.RowLineReading.{LineCounts, numbers}
-use Rattle.yq_lookup.proofs.FlowPlaceLaws.{flow_agrees}
+use Rattle.yq_places.specs.EntryReading.{line_entry, line_content, entry_from, content_from, entry_of, node_place_of, entry_at, content_row_place, entry_within, line_entry_of, line_content_of, flow_entry_from, flow_entry_of, line_entry_at, line_content_at, flow_entry_at}
+use Rattle.yq_places.specs.RowLineReading.{LineCounts, numbers}
+use Rattle.yq_places.proofs.FlowPlaceLaws.{flow_agrees}
 
 -- a line is one of its row, and that is one of the rows
 abbrev pub IsLineInRow : List Row → RowLine → Type 0

@@ -15,19 +15,19 @@ use Rattle.yq_row_table.specs.Rows.{Row, Cut, cut_text}
 use Rattle.yq_row_table.specs.View.{rows_of}
 use Rattle.yq_documents.specs.declared.path.Path.{Path}
 use Rattle.yq_documents.specs.Documents.{document_parts}
-use Rattle.yq_lookup.specs.EntryReading.{lines_place, line_entry, line_head, lines_content, line_content, flow_entry, entry_from, content_from, entry_of, node_place_of, entry_at, content_row_place}
+use Rattle.yq_places.specs.EntryReading.{lines_place, line_entry, line_head, lines_content, line_content, flow_entry, entry_from, content_from, entry_of, node_place_of, entry_at, content_row_place}
 use Rattle.yq_outline.specs.Lines.{row_lines, lines_of_rows}
 use Rattle.yq_documents.specs.Located.{steps_of}
 use Rattle.yq_outline.specs.Ends.{reached, lines_end}
 use Rattle.yq_documents.specs.LinesInRows.{RowLine, behind_one, row_line, document_row}
 use Rattle.yq_outline.specs.Positions.{has_no_mark}
-use Rattle.yq_lookup.proofs.EntryPlaceLaws.{row_there}
-use Rattle.yq_lookup.proofs.FinishLaws.{row_boundary, lines_order}
-use Rattle.yq_lookup.proofs.FlowSpanLaws.{AreSpans, flow_spans}
-use Rattle.yq_lookup.proofs.HeadSpanLaws.{head_span}
+use Rattle.yq_places.proofs.EntryPlaceLaws.{row_there}
+use Rattle.yq_places.proofs.FinishLaws.{row_boundary, lines_order}
+use Rattle.yq_places.proofs.FlowSpanLaws.{AreSpans, flow_spans}
+use Rattle.yq_places.proofs.HeadSpanLaws.{head_span}
 use Rattle.yq_outline.proofs.LineEnds.{end_within}
 use Rattle.yq_outline.proofs.RowLaws.{lines_count}
-use Rattle.yq_lookup.proofs.SeamLaws.{line_boundary}
+use Rattle.yq_places.proofs.SeamLaws.{line_boundary}
 use Rattle.yq_documents.proofs.PartRows.{part_begins}
 
 -- a line that has a row line is there, and lines have theirs in order

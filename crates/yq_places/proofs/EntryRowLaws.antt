@@ -15,21 +15,21 @@ use Rattle.yq_row_table.proofs.seams.SeamLaws.{rows_text-append}
 use Rattle.yq_row_table.proofs.splices.SpliceTexts.{first_text}
 use Rattle.yq_documents.specs.Reading.{cut_of}
 use Rattle.yq_documents.specs.LinesInRows.{document_row}
-use Rattle.yq_lookup.specs.CommentPlaces.{text_to_line_end}
-use Rattle.yq_lookup.specs.CommentReading.{before_row}
+use Rattle.yq_places.specs.CommentPlaces.{text_to_line_end}
+use Rattle.yq_places.specs.CommentReading.{before_row}
 use Rattle.yq_outline.specs.Extents.{IsRowsView, head_place, row_start}
-use Rattle.yq_lookup.specs.RemovalPlaces.{OwnRows, rows_out}
-use Rattle.yq_lookup.specs.Standings.{RowsOfEntry, before_entry, behind_entry}
-use Rattle.yq_lookup.specs.StandingReading.{AreRowsOf}
-use Rattle.yq_lookup.proofs.CommentEndLaws.{row_text_parts}
-use Rattle.yq_lookup.proofs.CommentPieceLaws.{Ended, content_end, row_place}
+use Rattle.yq_places.specs.RemovalPlaces.{OwnRows, rows_out}
+use Rattle.yq_places.specs.Standings.{RowsOfEntry, before_entry, behind_entry}
+use Rattle.yq_places.specs.StandingReading.{AreRowsOf}
+use Rattle.yq_places.proofs.CommentEndLaws.{row_text_parts}
+use Rattle.yq_places.proofs.CommentPieceLaws.{Ended, content_end, row_place}
 use Rattle.yq_outline.proofs.LengthLaws.{row_fits, view_small}
-use Rattle.yq_lookup.proofs.PlacedRowLaws.{IsAt, part_at}
-use Rattle.yq_lookup.proofs.RemovalLines.{LineSeam, lies_in, rows_seam, seam_join}
-use Rattle.yq_lookup.proofs.RemovalTexts.{texts_then}
-use Rattle.yq_lookup.proofs.RemovalViewLaws.{OutAgrees, line_boundary, out_agrees, slice_seam}
-use Rattle.yq_lookup.proofs.SeamLaws.{ended_after}
-use Rattle.yq_lookup.proofs.StartLaws.{front_in}
+use Rattle.yq_places.proofs.PlacedRowLaws.{IsAt, part_at}
+use Rattle.yq_places.proofs.RemovalLines.{LineSeam, lies_in, rows_seam, seam_join}
+use Rattle.yq_places.proofs.RemovalTexts.{texts_then}
+use Rattle.yq_places.proofs.RemovalViewLaws.{OutAgrees, line_boundary, out_agrees, slice_seam}
+use Rattle.yq_places.proofs.SeamLaws.{ended_after}
+use Rattle.yq_places.proofs.StartLaws.{front_in}
 
 drop_seam : (front : List Row) (r : Row) (rest : List Row) → drop (suc (length front)) (front ++ (r ∷ rest)) ≡ rest
 drop_seam [] r rest = refl

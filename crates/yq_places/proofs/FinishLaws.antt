@@ -12,14 +12,14 @@ use Rattle.yq_row_table.specs.View.{Slices, slices, rows_of}
 use Rattle.yq_row_table.proofs.ExchangeLaws.{slice_front, slice_back}
 use Rattle.yq_row_table.proofs.NodePieces.{BeginsAscii, before_ascii}
 use Rattle.yq_row_table.proofs.PlaceLaws.{row_front-append, row_in}
-use Rattle.yq_lookup.specs.CommentReading.{before_tail}
-use Rattle.yq_lookup.specs.EntryReading.{before_line, through_row}
-use Rattle.yq_lookup.specs.PrintedLines.{is_last_break, less_break}
+use Rattle.yq_places.specs.CommentReading.{before_tail}
+use Rattle.yq_places.specs.EntryReading.{before_line, through_row}
+use Rattle.yq_places.specs.PrintedLines.{is_last_break, less_break}
 use Rattle.yq_outline.proofs.LengthLaws.{part-length}
 use Rattle.yq_row_table.proofs.SliceLaws.{print-length}
-use Rattle.yq_lookup.proofs.CommentPieceLaws.{Ended, content_end, tail_place}
-use Rattle.yq_lookup.proofs.SeamLaws.{raw_end, dashes_split}
-use Rattle.yq_lookup.proofs.StartLaws.{front_in}
+use Rattle.yq_places.proofs.CommentPieceLaws.{Ended, content_end, tail_place}
+use Rattle.yq_places.proofs.SeamLaws.{raw_end, dashes_split}
+use Rattle.yq_places.proofs.StartLaws.{front_in}
 
 -- the break that ends a text, if there is one
 record IsSplit (x less : List ℕ) : Type 0 where

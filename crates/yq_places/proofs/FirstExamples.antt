@@ -7,8 +7,8 @@ use Rattle.yq_core.specs.Nodes as inline
 use Rattle.yq_core.specs.Scalars as scalars
 use Rattle.yq_outline.specs.Outline.{level}
 use Rattle.yq_row_table.specs.Rows.{Key, Inline, Row, Cut, last}
-use Rattle.yq_lookup.specs.FirstPlaces.{first_removal, less_spaces}
-use Rattle.yq_lookup.specs.PrintedLines.{less_break}
+use Rattle.yq_places.specs.FirstPlaces.{first_removal, less_spaces}
+use Rattle.yq_places.specs.PrintedLines.{less_break}
 
 abbrev break : List ℕ
 break = 10 ∷ []

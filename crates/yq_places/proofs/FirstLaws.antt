@@ -13,19 +13,19 @@ use Rattle.yq_row_table.specs.Grammar.{IsCut}
 use Rattle.yq_row_table.specs.Rows.{Cut}
 use Rattle.yq_documents.specs.declared.path.Part.TheVariants as parts
 use Rattle.yq_documents.specs.declared.path.Path.{Path}
-use Rattle.yq_lookup.specs.FirstPlaces.{are_spaces, less_spaces, end_spaces, FirstOut, first_out, first_removal}
+use Rattle.yq_places.specs.FirstPlaces.{are_spaces, less_spaces, end_spaces, FirstOut, first_out, first_removal}
 use Rattle.yq_documents.specs.Located.{steps_of}
-use Rattle.yq_lookup.specs.PathPieces.{printed_document, path_piece}
+use Rattle.yq_places.specs.PathPieces.{printed_document, path_piece}
 use Rattle.yq_documents.specs.Pieces.{TextPiece, piece_span}
 use Rattle.yq_documents.specs.Reading.{all_documents}
-use Rattle.yq_lookup.specs.RowLineReading.{LineCounts, numbers}
+use Rattle.yq_places.specs.RowLineReading.{LineCounts, numbers}
 use Rattle.yq_documents.specs.LinesInRows.{RowLine, row_line_at}
-use Rattle.yq_lookup.specs.EntryReading.{line_entry_at}
-use Rattle.yq_lookup.proofs.EntryPlaceLaws.{row_line_entry}
-use Rattle.yq_lookup.proofs.EntryPlacedLaws.{entries_placed}
-use Rattle.yq_lookup.proofs.PieceHolds.{spans_are}
-use Rattle.yq_lookup.proofs.PieceTexts.{document_whole, piece_whole}
-use Rattle.yq_lookup.proofs.PrintedTexts.{map_some}
+use Rattle.yq_places.specs.EntryReading.{line_entry_at}
+use Rattle.yq_places.proofs.EntryPlaceLaws.{row_line_entry}
+use Rattle.yq_places.proofs.EntryPlacedLaws.{entries_placed}
+use Rattle.yq_places.proofs.PieceHolds.{spans_are}
+use Rattle.yq_places.proofs.PieceTexts.{document_whole, piece_whole}
+use Rattle.yq_places.proofs.PrintedTexts.{map_some}
 
 -- ---- the spaces that end a text
 

@@ -27,21 +27,21 @@ use Rattle.yq_outline.specs.Lines.{tail_of, lines_of_rows}
 use Rattle.yq_documents.specs.Reading.{part_outline}
 use Rattle.yq_documents.specs.RowReading.{from_head}
 use Rattle.yq_documents.specs.LinesInRows.{RowLine, document_row}
-use Rattle.yq_lookup.specs.FlowNodes.{content_flow, find_head, flow_collection, line_collection, part_collection}
-use Rattle.yq_lookup.specs.FlowViews as views
-use Rattle.yq_lookup.specs.FlowViews.{FlowAgrees, IsHeadFor, placed_collection, collection_along}
-use Rattle.yq_lookup.specs.NodeReading.{NodePlace, with_steps, node_place, place_line, head_line_of}
-use Rattle.yq_lookup.specs.RowWalk.{InCut}
+use Rattle.yq_places.specs.FlowNodes.{content_flow, find_head, flow_collection, line_collection, part_collection}
+use Rattle.yq_places.specs.FlowViews as views
+use Rattle.yq_places.specs.FlowViews.{FlowAgrees, IsHeadFor, placed_collection, collection_along}
+use Rattle.yq_places.specs.NodeReading.{NodePlace, with_steps, node_place, place_line, head_line_of}
+use Rattle.yq_places.specs.RowWalk.{InCut}
 use Rattle.yq_outline.specs.RowWalk.{IsLine, line_number}
-use Rattle.yq_lookup.specs.declared.places.flow_node.FlowHead.{FlowHead}
+use Rattle.yq_places.specs.declared.places.flow_node.FlowHead.{FlowHead}
 use Rattle.yq_outline.specs.declared.line_position.Position.{Position}
 use Rattle.yq_outline.specs.declared.line_position.Stretch.{Stretch}
-use Rattle.yq_lookup.proofs.FlowViewLaws.{collection_placed, head_found, numbered}
-use Rattle.yq_lookup.proofs.HeadSteps.{HasStemAt, stem_at}
-use Rattle.yq_lookup.proofs.WalkDocuments as documents
-use Rattle.yq_lookup.proofs.WalkDocuments.{found_in_cut}
-use Rattle.yq_lookup.proofs.RowHeads.{row_alone}
-use Rattle.yq_lookup.proofs.WalkNodes.{row_is, row_in_cut, row_line_is, before_is}
+use Rattle.yq_places.proofs.FlowViewLaws.{collection_placed, head_found, numbered}
+use Rattle.yq_places.proofs.HeadSteps.{HasStemAt, stem_at}
+use Rattle.yq_places.proofs.WalkDocuments as documents
+use Rattle.yq_places.proofs.WalkDocuments.{found_in_cut}
+use Rattle.yq_places.proofs.RowHeads.{row_alone}
+use Rattle.yq_places.proofs.WalkNodes.{row_is, row_in_cut, row_line_is, before_is}
 
 -- ---- the head of a row
 

@@ -9,7 +9,7 @@ use Rattle.yq_outline.specs.Labelled.{Labelled, labelled_at, labelled_from}
 use Rattle.yq_outline.proofs.Finding.{entry_of}
 use Rattle.yq_outline.proofs.LabelPaths.{reach, HasHead, rest_head}
 use Rattle.yq_outline.proofs.PlaceLaws.{at}
-use Rattle.yq_lookup.proofs.RowPathLaws.{found_place}
+use Rattle.yq_places.proofs.RowPathLaws.{found_place}
 use Rattle.yq_core.specs.Paths.{Step, is_here, further}
 use Rattle.yq_core.specs.Tree as tree
 use Rattle.yq_core.specs.Entries.{EntryPieces, entry_pieces_at, path_inside}
@@ -22,10 +22,10 @@ use Rattle.yq_outline.specs.Lines.{head_of}
 use Rattle.yq_outline.specs.Outline as outlines
 use Rattle.yq_outline.specs.Outline.{Line, first_anchor, head_or, value}
 use Rattle.yq_outline.specs.Places.{FoundLine, find}
-use Rattle.yq_lookup.specs.PrintedLines.{line_front, print_lines}
-use Rattle.yq_lookup.specs.PathPieces.{BlockEntry, FlowEntry, flow_in, flow_under, flow_at, content_inline, line_inline, PrintedDocument}
-use Rattle.yq_lookup.proofs.PrintedLaws.{IsValid, IsWritten}
-use Rattle.yq_lookup.proofs.FoundEntries.{IsFound, some_head}
+use Rattle.yq_places.specs.PrintedLines.{line_front, print_lines}
+use Rattle.yq_places.specs.PathPieces.{BlockEntry, FlowEntry, flow_in, flow_under, flow_at, content_inline, line_inline, PrintedDocument}
+use Rattle.yq_places.proofs.PrintedLaws.{IsValid, IsWritten}
+use Rattle.yq_places.proofs.FoundEntries.{IsFound, some_head}
 
 -- a node behind another anchor
 pub none_anchored : (n : tree.Node) → n ≡ outlines.anchored None n

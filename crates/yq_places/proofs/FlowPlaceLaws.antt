@@ -10,14 +10,14 @@ use Rattle.yq_core.specs.Nodes.{FlowNode}
 use Rattle.yq_core.specs.Places.{Placed, locate}
 use Rattle.yq_row_table.specs.Exchange.{behind_row}
 use Rattle.yq_row_table.specs.Rows.{Content, Row, Cut, cut_text}
-use Rattle.yq_lookup.specs.EntryReading.{inline_node, flow_entry, entry_within}
+use Rattle.yq_places.specs.EntryReading.{inline_node, flow_entry, entry_within}
 use Rattle.yq_documents.specs.FlowReading.{alias_or_collection, core, content_core, row_flow}
 use Rattle.yq_outline.specs.Lines.{tail_of, lines_of_rows}
 use Rattle.yq_outline.specs.Outline.{LineMark, Dash, Line, Outline, end, row}
 use Rattle.yq_outline.specs.Places.{here, FoundLine, find_row, place_inside, bare_or, in_head, find}
 use Rattle.yq_documents.specs.LinesInRows.{RowLine, row_line}
 use Rattle.yq_outline.specs.Positions.{has_no_mark}
-use Rattle.yq_lookup.proofs.DashLineLaws.{row_line_found}
+use Rattle.yq_places.proofs.DashLineLaws.{row_line_found}
 use Rattle.yq_outline.proofs.Values.{If}
 
 -- a line in whose head steps may go on: a node itself, or a line that has a head

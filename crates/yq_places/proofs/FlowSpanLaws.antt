@@ -16,9 +16,9 @@ use Rattle.yq_row_table.specs.Exchange.{behind_row}
 use Rattle.yq_row_table.specs.Grammar.{IsCut}
 use Rattle.yq_row_table.specs.Rows.{Content, Nothing, Inline, Block, Row, Cut, cut_text}
 use Rattle.yq_row_table.specs.View.{rows_of}
-use Rattle.yq_lookup.specs.EntryReading.{inline_node, placed_inline}
+use Rattle.yq_places.specs.EntryReading.{inline_node, placed_inline}
 use Rattle.yq_outline.specs.Lines.{tail_of}
-use Rattle.yq_lookup.proofs.HeadSpanLaws.{node_spans}
+use Rattle.yq_places.proofs.HeadSpanLaws.{node_spans}
 
 -- an item or entry with its key
 abbrev pub EntrySpans : List ℕ → PlacedEntry → Type 0

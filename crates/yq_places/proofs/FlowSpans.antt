@@ -6,9 +6,9 @@ use Rattle.yq_core.specs.Places.{Placed, placed, locate, anchored_node}
 use Rattle.yq_core.proofs.NodesWrittenLaws.{key_append, node_then}
 use Rattle.yq_core.proofs.EditPlaces.{start_placed, end_placed}
 use Rattle.yq_documents.specs.Pieces.{piece_span, node_piece}
-use Rattle.yq_lookup.specs.PathPieces.{FlowEntry, flow_piece, flow_content}
-use Rattle.yq_lookup.proofs.PieceTexts.{item_text}
-use Rattle.yq_lookup.proofs.FlowPieces.{pieces}
+use Rattle.yq_places.specs.PathPieces.{FlowEntry, flow_piece, flow_content}
+use Rattle.yq_places.proofs.PieceTexts.{item_text}
+use Rattle.yq_places.proofs.FlowPieces.{pieces}
 
 -- pieces of items by their places
 pub item_place : (y : FlowEntry) (total : ℕ) → total ≡ length (item_text y) → entry_place (locate_entry total (pieces y)) ≡ piece_span (flow_piece y)

@@ -17,10 +17,10 @@ use Rattle.yq_outline.specs.Places.{Context, here, below, lines_before, compose,
 use Rattle.yq_outline.specs.Places as lines
 use Rattle.yq_outline.specs.Positions.{begins_with_node}
 use Rattle.yq_outline.proofs.NameLaws.{part-all}
-use Rattle.yq_lookup.specs.FlowNodes.{bare_line, head_line, find_head}
-use Rattle.yq_lookup.specs.FlowViews.{placed_collection, if_collection, collection_of, collection_along}
-use Rattle.yq_lookup.specs.NodeReading.{at_head, at_lines, line_place, line_with_steps, with_steps, place_line, head_line_of}
-use Rattle.yq_lookup.proofs.FoundLaws.{before_inside, found_in_lines}
+use Rattle.yq_places.specs.FlowNodes.{bare_line, head_line, find_head}
+use Rattle.yq_places.specs.FlowViews.{placed_collection, if_collection, collection_of, collection_along}
+use Rattle.yq_places.specs.NodeReading.{at_head, at_lines, line_place, line_with_steps, with_steps, place_line, head_line_of}
+use Rattle.yq_places.proofs.FoundLaws.{before_inside, found_in_lines}
 
 -- ---- collections in nodes with places
 

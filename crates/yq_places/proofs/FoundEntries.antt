@@ -12,11 +12,11 @@ use Rattle.yq_outline.specs.Outline.{Line, flatten, LineMark, Outline, IsWhole}
 use Rattle.yq_outline.specs.Places.{lines_before, lines_after, FoundLine, find}
 use Rattle.yq_core.specs.Tree.{Node}
 use Rattle.yq_outline.proofs.LabelPaths.{HasHead}
-use Rattle.yq_lookup.proofs.RowPathLaws.{found_lines}
-use Rattle.yq_lookup.specs.PrintedLines.{PrintedLine, print_lines, line_in}
-use Rattle.yq_lookup.specs.PathPieces.{BlockEntry, PrintedDocument, found_entry}
-use Rattle.yq_lookup.proofs.PrintedTexts.{line_split}
-use Rattle.yq_lookup.proofs.PrintedLaws.{ArePrinted, printed_split}
+use Rattle.yq_places.proofs.RowPathLaws.{found_lines}
+use Rattle.yq_places.specs.PrintedLines.{PrintedLine, print_lines, line_in}
+use Rattle.yq_places.specs.PathPieces.{BlockEntry, PrintedDocument, found_entry}
+use Rattle.yq_places.proofs.PrintedTexts.{line_split}
+use Rattle.yq_places.proofs.PrintedLaws.{ArePrinted, printed_split}
 
 -- ---- lines that were found
 

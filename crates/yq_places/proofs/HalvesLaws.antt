@@ -8,7 +8,7 @@ use Rattle.std.specs.List.{prefix_len}
 use Rattle.yq_core.specs.Text.{front, is_break, is_empty, is_feed, is_line, is_white, line_len, past_white}
 use Rattle.yq_core.proofs.Upto.{upto_unless}
 use Rattle.yq_row_table.specs.Reading.{begins_gap}
-use Rattle.yq_lookup.specs.PrintedLines.{less_break}
+use Rattle.yq_places.specs.PrintedLines.{less_break}
 
 -- the byte at a place stands in the first half, or in the second one
 pub byte_front : (a b : List ℕ) (n : ℕ) → n < length a → slice_index (a ++ b) n ≡ slice_index a n

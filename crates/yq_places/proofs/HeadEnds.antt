@@ -18,8 +18,8 @@ use Rattle.yq_outline.specs.Extents.{row_start, front_length, head_place, IsRows
 use Rattle.yq_documents.specs.RowReading.{is_block_head}
 use Rattle.yq_documents.proofs.HeadLaws.{block_marks}
 use Rattle.yq_outline.proofs.LengthLaws.{row_fits, view_small}
-use Rattle.yq_lookup.specs.EntryReading.{row_ending, head_end, head_extent, through_row, head_finish}
-use Rattle.yq_lookup.proofs.RowStarts.{head_is, row_ends}
+use Rattle.yq_places.specs.EntryReading.{row_ending, head_end, head_extent, through_row, head_finish}
+use Rattle.yq_places.proofs.RowStarts.{head_is, row_ends}
 
 -- ---- a row by its pieces
 

@@ -26,11 +26,11 @@ use Rattle.yq_documents.specs.RowReading.{from_head}
 use Rattle.yq_core.specs.Piece.{deeper}
 use Rattle.yq_core.specs.declared.style.Place.TheVariants as places
 use Rattle.yq_row_table.specs.Rows as rows
-use Rattle.yq_lookup.specs.CommentReading.{before_tail}
-use Rattle.yq_lookup.specs.EntryReading.{before_line, head_extent}
-use Rattle.yq_lookup.proofs.CommentPieceLaws.{Ended, content_end, tail_place}
-use Rattle.yq_lookup.proofs.SeamLaws.{seam_boundary, ended_seam, ended_after, raw_end, last_ended, line_boundary}
-use Rattle.yq_lookup.proofs.StartLaws.{front_in}
+use Rattle.yq_places.specs.CommentReading.{before_tail}
+use Rattle.yq_places.specs.EntryReading.{before_line, head_extent}
+use Rattle.yq_places.proofs.CommentPieceLaws.{Ended, content_end, tail_place}
+use Rattle.yq_places.proofs.SeamLaws.{seam_boundary, ended_seam, ended_after, raw_end, last_ended, line_boundary}
+use Rattle.yq_places.proofs.StartLaws.{front_in}
 
 -- where a node with its places begins, behind its anchor too, and where it ends
 abbrev core_of : Placed → ℕ

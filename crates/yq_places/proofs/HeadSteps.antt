@@ -8,9 +8,9 @@ use Rattle.yq_core.specs.Tree.{Node}
 use Rattle.yq_outline.specs.Group.{group}
 use Rattle.yq_outline.specs.Outline.{LineMark, Bare, Key, Dash, Line, Outline, end, row}
 use Rattle.yq_outline.specs.Places.{Context, here, below, beside, compose, FoundLine, bare_or, find_row, in_head, place_inside}
-use Rattle.yq_lookup.specs.FlowNodes.{bare_line, find_head, head_line}
-use Rattle.yq_lookup.specs.NodeReading.{head_line_of}
-use Rattle.yq_lookup.proofs.FlowViewLaws.{head_found, numbered}
+use Rattle.yq_places.specs.FlowNodes.{bare_line, find_head, head_line}
+use Rattle.yq_places.specs.NodeReading.{head_line_of}
+use Rattle.yq_places.proofs.FlowViewLaws.{head_found, numbered}
 
 abbrev Reached : Type 0
 Reached = FoundLine × List Step

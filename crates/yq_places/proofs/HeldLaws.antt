@@ -4,7 +4,7 @@ use Rattle.yq_text.specs.Limit.{text_limit}
 use Rattle.yq_row_table.specs.Grammar.{IsCut}
 use Rattle.yq_row_table.specs.View.{RowsView, rows_view}
 use Rattle.yq_outline.specs.Extents.{IsRowsView}
-use Rattle.yq_lookup.specs.RowWalk.{HasCut}
+use Rattle.yq_places.specs.RowWalk.{HasCut}
 use Rattle.yq_documents.specs.Reading.{all_documents, cut_of}
 
 pub cut_view : (t : List ℕ) (s : RowsView) → HasCut t s → IsRowsView s

@@ -13,15 +13,15 @@ use Rattle.yq_row_table.specs.Exchange.{row_front}
 use Rattle.yq_row_table.specs.Offsets.{row_length}
 use Rattle.yq_row_table.specs.Rows.{Content, Nothing, Inline, Block, Row, behind_columns, dashes_text, mark_column, print_row, rows_text, Cut}
 use Rattle.yq_row_table.specs.View.{Slices, slices, content_cut, last_dash, rows_of, RowsView, rows_view}
-use Rattle.yq_lookup.specs.CommentPlaces.{LineEnd, end_in_line, text_to_line_end}
+use Rattle.yq_places.specs.CommentPlaces.{LineEnd, end_in_line, text_to_line_end}
 use Rattle.yq_outline.specs.Extents.{head_place, row_start}
-use Rattle.yq_lookup.specs.LineReading.{CutsLines, LinesIn, lines_between, line_list}
-use Rattle.yq_lookup.specs.PrintedLines.{last_break}
+use Rattle.yq_places.specs.LineReading.{CutsLines, LinesIn, lines_between, line_list}
+use Rattle.yq_places.specs.PrintedLines.{last_break}
 use Rattle.yq_outline.specs.RowWalk.{line_column}
-use Rattle.yq_lookup.specs.RowPieces.{anchor_before, space_before}
-use Rattle.yq_lookup.specs.Standings.{Held, RowsOfEntry, before_entry, behind_entry, held}
-use Rattle.yq_lookup.specs.StandingReading.{AreRowsOf}
-use Rattle.yq_lookup.proofs.EntryRowLaws.{head_ends, line_boundary_at, line_cut, pieces_at, stop_boundary, stop_is, through_is}
+use Rattle.yq_places.specs.RowPieces.{anchor_before, space_before}
+use Rattle.yq_places.specs.Standings.{Held, RowsOfEntry, before_entry, behind_entry, held}
+use Rattle.yq_places.specs.StandingReading.{AreRowsOf}
+use Rattle.yq_places.proofs.EntryRowLaws.{head_ends, line_boundary_at, line_cut, pieces_at, stop_boundary, stop_is, through_is}
 use Rattle.yq_outline.proofs.WalkLevels.{last_is, to_dash}
 
 -- the column behind dashes

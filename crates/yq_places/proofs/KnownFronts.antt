@@ -15,7 +15,7 @@ use Rattle.yq_row_table.specs.declared.offsets.Offsets as declared
 use Rattle.yq_row_table.proofs.ItemLaws.{items_view_is}
 use Rattle.yq_row_table.proofs.NearLaws.{near_at}
 use Rattle.yq_outline.specs.RowWalk.{IsKnown}
-use Rattle.yq_lookup.specs.RowWalk.{StaysKnown}
+use Rattle.yq_places.specs.RowWalk.{StaysKnown}
 use Rattle.yq_outline.specs.declared.line_position.KnownItem.{KnownItem}
 use Rattle.yq_outline.proofs.KnownLaws.{one_there}
 

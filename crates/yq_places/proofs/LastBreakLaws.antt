@@ -5,7 +5,7 @@ use Rattle.yq_core.specs.Block.{AreRaw}
 use Rattle.yq_core.specs.Text.{is_empty, is_feed, is_return, is_line, joined}
 use Rattle.yq_core.specs.declared.block_lines.TextIndent.{TextIndent}
 use Rattle.yq_core.proofs.BlockPieceLaws.{IsLf, line_lf, raw_lf}
-use Rattle.yq_lookup.specs.PrintedLines.{less_break, last_break}
+use Rattle.yq_places.specs.PrintedLines.{less_break, last_break}
 
 -- no byte of a text is an LF
 abbrev pub HasNoFeed : List ℕ → Type 0

@@ -11,7 +11,7 @@ use Rattle.yq_row_table.specs.Grammar.{IsTail, IsContent}
 use Rattle.yq_row_table.specs.Rows.{Content}
 use Rattle.yq_row_table.specs.View.{content_cut}
 use Rattle.yq_row_table.proofs.LineEnds.{white_cut, white_again, white_none, text_line, behind_comment, comment_none}
-use Rattle.yq_lookup.specs.CommentPlaces.{LineEnd, end_in_line}
+use Rattle.yq_places.specs.CommentPlaces.{LineEnd, end_in_line}
 
 -- more text behind a break
 front_more : (p : ℕ → Rattle.std.proofs.Common.Bool) (c break more : List ℕ) → 0 < length break → front p (c ++ (break ++ more)) ≡ front p (c ++ break)

@@ -3,8 +3,8 @@ use Rattle.std.proofs.Common.{◌≡◌, inl, ℕ, ◌-◌, eqb, Bool, true, con
 use Rattle.std.proofs.Math.Seq.{drop-append_seam, take-append_seam}
 use Rattle.std.proofs.lemmas.Bool.{and_parts, eqb-true, ne_eqb}
 use Rattle.yq_core.specs.Text.{is_empty}
-use Rattle.yq_lookup.specs.LineReading.{CutsLines, IsLastBreak, LinesIn, line_list}
-use Rattle.yq_lookup.specs.PrintedLines.{is_last_break, last_break, less_break}
+use Rattle.yq_places.specs.LineReading.{CutsLines, IsLastBreak, LinesIn, line_list}
+use Rattle.yq_places.specs.PrintedLines.{is_last_break, last_break, less_break}
 
 -- a break that ends a text is one, or nothing
 one_break : (t : List ℕ) → is_last_break t ≡ true → IsLastBreak t

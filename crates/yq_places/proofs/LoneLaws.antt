@@ -18,18 +18,18 @@ use Rattle.yq_row_table.specs.View.{Slices, slices, content_cut, rows_of, RowsVi
 use Rattle.yq_row_table.proofs.NodePieces.{before_ascii, behind_ascii, tail_ascii}
 use Rattle.yq_outline.specs.Lines.{line_mark}
 use Rattle.yq_documents.specs.Reading.{cut_of}
-use Rattle.yq_lookup.specs.CommentPlaces.{text_to_line_end}
-use Rattle.yq_lookup.specs.RowPieces.{upto_dash}
-use Rattle.yq_lookup.specs.EntryReading.{line_begin}
+use Rattle.yq_places.specs.CommentPlaces.{text_to_line_end}
+use Rattle.yq_places.specs.RowPieces.{upto_dash}
+use Rattle.yq_places.specs.EntryReading.{line_begin}
 use Rattle.yq_outline.specs.Extents.{head_place, row_start}
-use Rattle.yq_lookup.specs.LineReading.{CutsLines, LinesIn, lines_between, line_list}
-use Rattle.yq_lookup.specs.Standings.{Lone, RowsOfEntry, before_entry, behind_entry, dash_text, is_alone, lone}
-use Rattle.yq_lookup.specs.StandingReading.{AreRowsOf}
-use Rattle.yq_lookup.proofs.CommentEndLaws.{row_text_parts}
-use Rattle.yq_lookup.proofs.DashLaws.{front_is, row_cut}
-use Rattle.yq_lookup.proofs.EntryRowLaws.{cut_in_two, first_at, head_ends, pieces_at, row_valid, stop_boundary, stop_is, text}
-use Rattle.yq_lookup.proofs.LineEndLaws.{line_tail}
-use Rattle.yq_lookup.proofs.RowStarts.{line_begins}
+use Rattle.yq_places.specs.LineReading.{CutsLines, LinesIn, lines_between, line_list}
+use Rattle.yq_places.specs.Standings.{Lone, RowsOfEntry, before_entry, behind_entry, dash_text, is_alone, lone}
+use Rattle.yq_places.specs.StandingReading.{AreRowsOf}
+use Rattle.yq_places.proofs.CommentEndLaws.{row_text_parts}
+use Rattle.yq_places.proofs.DashLaws.{front_is, row_cut}
+use Rattle.yq_places.proofs.EntryRowLaws.{cut_in_two, first_at, head_ends, pieces_at, row_valid, stop_boundary, stop_is, text}
+use Rattle.yq_places.proofs.LineEndLaws.{line_tail}
+use Rattle.yq_places.proofs.RowStarts.{line_begins}
 
 raw_none : (m : rows.RowMark) (x : Content) (rest : List ℕ) → IsMark m x rest → has_no_mark (line_mark m) ≡ true → (content_cut x).5 ≡ []
 raw_none rows.Bare (Nothing tail) rest h bare = refl

@@ -32,20 +32,20 @@ use Rattle.yq_row_table.specs.View.{RowsView}
 use Rattle.yq_documents.specs.Documents.{document_parts}
 use Rattle.yq_outline.specs.Lines.{head_of, lines_of_rows}
 use Rattle.yq_documents.specs.Reading.{all_documents, part_document}
-use Rattle.yq_lookup.specs.NodeReading.{NodePlace, at_head, at_lines, line_place, line_with_steps, node_place, place_line, summary_in_head, summary_in_line, summary_of_lines, line_or, place_node}
-use Rattle.yq_lookup.specs.NodesAt.{NodeAt, scalar, list, map as mapping, node_summary, node_in, summary_several, scalar_in, summary_scalar}
-use Rattle.yq_lookup.specs.RemovalPlaces.{has_several}
+use Rattle.yq_places.specs.NodeReading.{NodePlace, at_head, at_lines, line_place, line_with_steps, node_place, place_line, summary_in_head, summary_in_line, summary_of_lines, line_or, place_node}
+use Rattle.yq_places.specs.NodesAt.{NodeAt, scalar, list, map as mapping, node_summary, node_in, summary_several, scalar_in, summary_scalar}
+use Rattle.yq_places.specs.RemovalPlaces.{has_several}
 use Rattle.yq_outline.specs.RowWalk.{HasRows, IsLine, line_number}
-use Rattle.yq_lookup.specs.RowWalk.{InCut}
+use Rattle.yq_places.specs.RowWalk.{InCut}
 use Rattle.yq_outline.specs.declared.line_position.Position.{Position}
 use Rattle.yq_outline.specs.declared.line_position.Stretch.{Stretch}
-use Rattle.yq_lookup.proofs.FlowPlaceLaws.{TakesSteps, Takes, takes_left}
-use Rattle.yq_lookup.proofs.FlowViewLaws.{numbered}
+use Rattle.yq_places.proofs.FlowPlaceLaws.{TakesSteps, Takes, takes_left}
+use Rattle.yq_places.proofs.FlowViewLaws.{numbered}
 use Rattle.yq_documents.proofs.PartRows.{each}
-use Rattle.yq_lookup.proofs.NodePlaceLaws.{node_found}
-use Rattle.yq_lookup.proofs.RowPathLaws.{document_fine}
-use Rattle.yq_lookup.proofs.FoundLaws.{first_is, found_in_lines}
-use Rattle.yq_lookup.proofs.WalkNodes.{row_is}
+use Rattle.yq_places.proofs.NodePlaceLaws.{node_found}
+use Rattle.yq_places.proofs.RowPathLaws.{document_fine}
+use Rattle.yq_places.proofs.FoundLaws.{first_is, found_in_lines}
+use Rattle.yq_places.proofs.WalkNodes.{row_is}
 use Rattle.yq_outline.proofs.WalkPositions.{Located, located}
 
 -- an anchor tells nothing of a node

@@ -15,15 +15,15 @@ use Rattle.yq_outline.specs.Positions.{has_no_mark, begins_with_node}
 use Rattle.yq_outline.proofs.Decides.{even_from}
 use Rattle.yq_outline.proofs.Finding.{FoundNode, node-anchored, path_node}
 use Rattle.yq_outline.proofs.NameLaws.{part-all}
-use Rattle.yq_lookup.specs.NodesAt.{node_summary}
-use Rattle.yq_lookup.specs.NodeReading.{NodePlace, at_head, at_lines, line_place, line_with_steps, node_place, summary_in_head, summary_in_line, line_or, place_node, said_at}
+use Rattle.yq_places.specs.NodesAt.{node_summary}
+use Rattle.yq_places.specs.NodeReading.{NodePlace, at_head, at_lines, line_place, line_with_steps, node_place, summary_in_head, summary_in_line, line_or, place_node, said_at}
 use Rattle.yq_outline.specs.RowWalk.{lines_stop}
-use Rattle.yq_lookup.proofs.FlowPieces.{head_there}
-use Rattle.yq_lookup.proofs.FlowViewLaws.{numbered}
-use Rattle.yq_lookup.proofs.PieceSpelling.{bare_is}
-use Rattle.yq_lookup.proofs.RowPathLaws.{found_place}
-use Rattle.yq_lookup.proofs.FoundLaws.{first_is, found_in_lines}
-use Rattle.yq_lookup.proofs.WalkNodes.{all_stop, line_stop, no_steps}
+use Rattle.yq_places.proofs.FlowPieces.{head_there}
+use Rattle.yq_places.proofs.FlowViewLaws.{numbered}
+use Rattle.yq_places.proofs.PieceSpelling.{bare_is}
+use Rattle.yq_places.proofs.RowPathLaws.{found_place}
+use Rattle.yq_places.proofs.FoundLaws.{first_is, found_in_lines}
+use Rattle.yq_places.proofs.WalkNodes.{all_stop, line_stop, no_steps}
 
 -- an anchor tells nothing of what a node is
 anchored_summary : (a : Option (List ℕ)) (n : Node) → node_summary (anchored a n) ≡ node_summary n

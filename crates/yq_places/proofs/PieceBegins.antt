@@ -11,9 +11,9 @@ use Rattle.yq_documents.specs.Located.{steps_of}
 use Rattle.yq_outline.specs.Places.{FoundLine, find}
 use Rattle.yq_outline.specs.Positions.{has_no_mark}
 use Rattle.yq_documents.specs.Pieces.{TextPiece, node_piece, head_piece}
-use Rattle.yq_lookup.specs.PrintedLines.{line_front, PrintedLine, line_rest, print_line, print_lines, line_in, run_piece, lines_piece}
-use Rattle.yq_lookup.specs.PathPieces.{BlockEntry, content_piece, FlowEntry, flow_at, line_inline, flow_piece, flow_content, PrintedDocument, printed_document, found_entry, piece_in_entry, piece_in}
-use Rattle.yq_lookup.specs.PieceLaws.{ContentsBegin}
+use Rattle.yq_places.specs.PrintedLines.{line_front, PrintedLine, line_rest, print_line, print_lines, line_in, run_piece, lines_piece}
+use Rattle.yq_places.specs.PathPieces.{BlockEntry, content_piece, FlowEntry, flow_at, line_inline, flow_piece, flow_content, PrintedDocument, printed_document, found_entry, piece_in_entry, piece_in}
+use Rattle.yq_places.specs.PieceLaws.{ContentsBegin}
 
 -- a piece begins behind a text
 abbrev From : List ℕ → TextPiece → Type 0

@@ -7,11 +7,11 @@ use Rattle.yq_core.specs.declared.block_header.Chomping.TheVariants.{Clip}
 use Rattle.yq_core.specs.Text.{upto, text_lines}
 use Rattle.yq_core.specs.Nodes as inline
 use Rattle.yq_row_table.specs.Rows.{Dash, Content, Inline, Block, Row, Cut, last}
-use Rattle.yq_lookup.specs.PrintedLines.{less_break}
+use Rattle.yq_places.specs.PrintedLines.{less_break}
 use Rattle.yq_outline.specs.Outline.{level}
 use Rattle.yq_documents.specs.declared.path.Part.{Part}
 use Rattle.yq_documents.specs.declared.path.Part.TheVariants as parts
-use Rattle.yq_lookup.specs.PathPieces.{printed_document, piece_in}
+use Rattle.yq_places.specs.PathPieces.{printed_document, piece_in}
 
 -- an item's row in column 0, behind dashes
 abbrev item : List ℕ → Content → Row

@@ -27,16 +27,16 @@ use Rattle.yq_outline.proofs.Decides.{flatten-group, even_from}
 use Rattle.yq_outline.specs.Labelled.{labelled_from}
 use Rattle.yq_outline.proofs.Finding.{FoundNode, entry_of, labelled_path, path_node}
 use Rattle.yq_outline.proofs.PlaceLaws.{at}
-use Rattle.yq_lookup.proofs.ReadLaws.{cut_is, text_takes}
-use Rattle.yq_lookup.proofs.RowPathLaws.{found_place, document_fine}
-use Rattle.yq_lookup.specs.Existence.{are_none, IsNull, some_lines, flow_written, or_false, entry_written, document_written, ContentsExist, EntriesExist}
+use Rattle.yq_places.proofs.ReadLaws.{cut_is, text_takes}
+use Rattle.yq_places.proofs.RowPathLaws.{found_place, document_fine}
+use Rattle.yq_places.specs.Existence.{are_none, IsNull, some_lines, flow_written, or_false, entry_written, document_written, ContentsExist, EntriesExist}
 use Rattle.yq_documents.specs.Pieces.{node_piece, head_piece}
-use Rattle.yq_lookup.specs.PrintedLines.{line_front, PrintedLine, print_line, print_lines, line_in, run_piece, lines_piece}
-use Rattle.yq_lookup.specs.PathPieces.{BlockEntry, content_piece, FlowEntry, flow_at, line_inline, flow_piece, flow_content, PrintedDocument, printed_document, found_entry, piece_in_entry, piece_in}
-use Rattle.yq_lookup.proofs.PieceHolds.{no_part}
-use Rattle.yq_lookup.proofs.PrintedLaws.{ArePrinted, lines_are, document_is}
-use Rattle.yq_lookup.proofs.FoundEntries.{IsFound, entry_there, entry_found}
-use Rattle.yq_lookup.proofs.FlowPieces.{flow_label, line_labels, head_there, head_item_at}
+use Rattle.yq_places.specs.PrintedLines.{line_front, PrintedLine, print_line, print_lines, line_in, run_piece, lines_piece}
+use Rattle.yq_places.specs.PathPieces.{BlockEntry, content_piece, FlowEntry, flow_at, line_inline, flow_piece, flow_content, PrintedDocument, printed_document, found_entry, piece_in_entry, piece_in}
+use Rattle.yq_places.proofs.PieceHolds.{no_part}
+use Rattle.yq_places.proofs.PrintedLaws.{ArePrinted, lines_are, document_is}
+use Rattle.yq_places.proofs.FoundEntries.{IsFound, entry_there, entry_found}
+use Rattle.yq_places.proofs.FlowPieces.{flow_label, line_labels, head_there, head_item_at}
 
 node_some : (before : List ℕ) (node : FlowNode) (rest : List ℕ) → is_some (node_piece before node rest) ≡ is_some (node_head node)
 node_some before (anchored n g node) rest = node_some (before ++ 38 ∷ (n ++ g)) node rest

@@ -15,26 +15,26 @@ use Rattle.yq_documents.specs.declared.path.Part.TheVariants as parts
 use Rattle.yq_documents.specs.declared.path.Path.{Path}
 use Rattle.yq_documents.specs.Documents.{document_parts}
 use Rattle.yq_documents.specs.PartNumbers.{part_number}
-use Rattle.yq_lookup.specs.EntryReading.{content_row_place, entry_at}
+use Rattle.yq_places.specs.EntryReading.{content_row_place, entry_at}
 use Rattle.yq_outline.specs.Group.{group, is_fine}
 use Rattle.yq_documents.specs.Located.{steps_of}
 use Rattle.yq_documents.specs.Pieces.{piece_span, HoldsPiece}
 use Rattle.yq_documents.specs.Reading.{all_documents, read_at}
 use Rattle.yq_documents.specs.LinesInRows.{document_row}
 use Rattle.yq_documents.proofs.PartRows.{each}
-use Rattle.yq_lookup.proofs.EntryPlacedLaws.{entries_placed}
-use Rattle.yq_lookup.proofs.CommentHolds.{comments_hold}
-use Rattle.yq_lookup.proofs.ReadLaws.{text_takes}
-use Rattle.yq_lookup.proofs.RowPathLaws.{document_fine}
+use Rattle.yq_places.proofs.EntryPlacedLaws.{entries_placed}
+use Rattle.yq_places.proofs.CommentHolds.{comments_hold}
+use Rattle.yq_places.proofs.ReadLaws.{text_takes}
+use Rattle.yq_places.proofs.RowPathLaws.{document_fine}
 use Rattle.yq_documents.proofs.PartRows.{part_begins}
-use Rattle.yq_lookup.specs.PrintedLines.{printed_lines, line_in}
-use Rattle.yq_lookup.specs.PathPieces.{PrintedDocument, printed_part, printed_document, piece_in, path_piece}
-use Rattle.yq_lookup.specs.PlacedRows.{placed_at, placed_document}
-use Rattle.yq_lookup.specs.PieceLaws.{PiecesHold}
-use Rattle.yq_lookup.proofs.PieceTexts.{document_text, document_whole, whole_text}
-use Rattle.yq_lookup.proofs.PrintedLaws.{lines_are, document_is}
-use Rattle.yq_lookup.proofs.PrintedRowLines.{document_placed}
-use Rattle.yq_lookup.proofs.PieceSpans.{contents_span, entries_span}
+use Rattle.yq_places.specs.PrintedLines.{printed_lines, line_in}
+use Rattle.yq_places.specs.PathPieces.{PrintedDocument, printed_part, printed_document, piece_in, path_piece}
+use Rattle.yq_places.specs.PlacedRows.{placed_at, placed_document}
+use Rattle.yq_places.specs.PieceLaws.{PiecesHold}
+use Rattle.yq_places.proofs.PieceTexts.{document_text, document_whole, whole_text}
+use Rattle.yq_places.proofs.PrintedLaws.{lines_are, document_is}
+use Rattle.yq_places.proofs.PrintedRowLines.{document_placed}
+use Rattle.yq_places.proofs.PieceSpans.{contents_span, entries_span}
 
 none_map : {A B : Type 0} (f : A → B) (o : Option A) → option_map f o ≡ None → o ≡ None
 none_map f o h1 = search rules

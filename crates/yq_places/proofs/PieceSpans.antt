@@ -18,8 +18,8 @@ use Rattle.yq_row_table.specs.View.{rows_of}
 use Rattle.yq_row_table.proofs.PlaceLaws.{place, content_then}
 use Rattle.yq_documents.specs.declared.path.Part.TheVariants as parts
 use Rattle.yq_outline.proofs.KnownLaws.{get_dropped}
-use Rattle.yq_lookup.specs.EntryReading as places
-use Rattle.yq_lookup.specs.EntryReading.{lines_place, line_head, lines_content, line_content, line_entry, inline_node, placed_inline, flow_entry, entry_from, content_from}
+use Rattle.yq_places.specs.EntryReading as places
+use Rattle.yq_places.specs.EntryReading.{lines_place, line_head, lines_content, line_content, line_entry, inline_node, placed_inline, flow_entry, entry_from, content_from}
 use Rattle.yq_outline.specs.Ends.{deeper_count, lines_end, reached}
 use Rattle.yq_outline.specs.Group.{group, level_or, is_fine}
 use Rattle.yq_outline.specs.Lines.{head_of, tail_of, lines_of_rows}
@@ -29,21 +29,21 @@ use Rattle.yq_outline.specs.Places.{lines_before, lines_after, FoundLine, find}
 use Rattle.yq_documents.specs.LinesInRows.{RowLine, row_line}
 use Rattle.yq_outline.specs.Positions.{has_no_mark}
 use Rattle.yq_outline.proofs.Decides.{flatten-group, even_from}
-use Rattle.yq_lookup.proofs.EntryPlaceLaws.{by_line, row_there}
-use Rattle.yq_lookup.proofs.RowPathLaws.{found_lines, found_place}
+use Rattle.yq_places.proofs.EntryPlaceLaws.{by_line, row_there}
+use Rattle.yq_places.proofs.RowPathLaws.{found_lines, found_place}
 use Rattle.yq_documents.specs.Pieces.{piece_span, head_piece}
-use Rattle.yq_lookup.specs.PrintedLines.{line_front, PrintedLine, print_line, print_lines, printed_lines, line_in, run_piece, lines_piece}
-use Rattle.yq_lookup.specs.PathPieces.{BlockEntry, entry_piece, content_piece, FlowEntry, flow_at, content_inline, line_inline, flow_piece, flow_content, PrintedDocument, found_entry, piece_in_entry, piece_in}
-use Rattle.yq_lookup.proofs.PrintedTexts.{lines_then}
-use Rattle.yq_lookup.proofs.PieceTexts.{entry_text, item_text, entry_whole, at_whole}
-use Rattle.yq_lookup.proofs.PrintedLaws.{IsPrinted, ArePrinted, lines_are}
-use Rattle.yq_lookup.proofs.FoundEntries.{lines_count, within_some, IsFound, entry_found, line_there, entry_is}
-use Rattle.yq_lookup.proofs.FlowPieces.{pieces, at_pieces, head_there}
-use Rattle.yq_lookup.proofs.PrintedRowLines.{IsPrintedLine, IsPlaced}
-use Rattle.yq_lookup.proofs.RunSpans.{get_some, content_size, row_line_at, run_span, head_span}
-use Rattle.yq_lookup.proofs.UnderCounts.{count_stops, count_holds, end_is}
-use Rattle.yq_lookup.proofs.FlowSpans.{item_place, value_place}
-use Rattle.yq_lookup.proofs.PieceSpelling.{bare_is}
+use Rattle.yq_places.specs.PrintedLines.{line_front, PrintedLine, print_line, print_lines, printed_lines, line_in, run_piece, lines_piece}
+use Rattle.yq_places.specs.PathPieces.{BlockEntry, entry_piece, content_piece, FlowEntry, flow_at, content_inline, line_inline, flow_piece, flow_content, PrintedDocument, found_entry, piece_in_entry, piece_in}
+use Rattle.yq_places.proofs.PrintedTexts.{lines_then}
+use Rattle.yq_places.proofs.PieceTexts.{entry_text, item_text, entry_whole, at_whole}
+use Rattle.yq_places.proofs.PrintedLaws.{IsPrinted, ArePrinted, lines_are}
+use Rattle.yq_places.proofs.FoundEntries.{lines_count, within_some, IsFound, entry_found, line_there, entry_is}
+use Rattle.yq_places.proofs.FlowPieces.{pieces, at_pieces, head_there}
+use Rattle.yq_places.proofs.PrintedRowLines.{IsPrintedLine, IsPlaced}
+use Rattle.yq_places.proofs.RunSpans.{get_some, content_size, row_line_at, run_span, head_span}
+use Rattle.yq_places.proofs.UnderCounts.{count_stops, count_holds, end_is}
+use Rattle.yq_places.proofs.FlowSpans.{item_place, value_place}
+use Rattle.yq_places.proofs.PieceSpelling.{bare_is}
 
 -- lists
 pub line_more : (ls : List PrintedLine) (n : ℕ) (l : PrintedLine) → slice_get ls n ≡ Some l → print_lines (take (suc n) ls) [] ≡ print_lines (take n ls) (print_line l [])

@@ -29,17 +29,17 @@ use Rattle.yq_outline.specs.Positions.{has_no_mark}
 use Rattle.yq_documents.proofs.PartRows.{each}
 use Rattle.yq_outline.proofs.Decides.{flatten-group, even_from}
 use Rattle.yq_outline.proofs.Finding.{entry_of, labelled_path}
-use Rattle.yq_lookup.proofs.ReadLaws.{cut_is, text_takes}
-use Rattle.yq_lookup.proofs.RowPathLaws.{found_place, document_fine}
+use Rattle.yq_places.proofs.ReadLaws.{cut_is, text_takes}
+use Rattle.yq_places.proofs.RowPathLaws.{found_place, document_fine}
 use Rattle.yq_documents.specs.Pieces.{TextPiece, node_piece, head_piece}
-use Rattle.yq_lookup.specs.PrintedLines.{line_front, PrintedLine, print_line, print_lines, line_in, run_piece, lines_piece}
-use Rattle.yq_lookup.specs.PathPieces.{BlockEntry, content_piece, FlowEntry, flow_at, line_inline, flow_content, PrintedDocument, printed_document, found_entry, piece_in_entry, piece_in}
-use Rattle.yq_lookup.specs.PieceLaws.{IsInlinePiece, IsLineRun, SpellsTree, SpellsNode, IsEntryRun, IsFlowPiece, ContentsSpell, EntriesSpell, LinesStand}
-use Rattle.yq_lookup.proofs.PrintedTexts.{map_some, lines_then, lines_append}
-use Rattle.yq_lookup.proofs.PieceTexts.{document_whole}
-use Rattle.yq_lookup.proofs.PrintedLaws.{IsValid, IsWritten, IsPrinted, ArePrinted, lines_are, document_is}
-use Rattle.yq_lookup.proofs.FoundEntries.{IsIn, IsFound, entry_found}
-use Rattle.yq_lookup.proofs.FlowPieces.{none_anchored, twice, head_tree, head_item_at, head_there}
+use Rattle.yq_places.specs.PrintedLines.{line_front, PrintedLine, print_line, print_lines, line_in, run_piece, lines_piece}
+use Rattle.yq_places.specs.PathPieces.{BlockEntry, content_piece, FlowEntry, flow_at, line_inline, flow_content, PrintedDocument, printed_document, found_entry, piece_in_entry, piece_in}
+use Rattle.yq_places.specs.PieceLaws.{IsInlinePiece, IsLineRun, SpellsTree, SpellsNode, IsEntryRun, IsFlowPiece, ContentsSpell, EntriesSpell, LinesStand}
+use Rattle.yq_places.proofs.PrintedTexts.{map_some, lines_then, lines_append}
+use Rattle.yq_places.proofs.PieceTexts.{document_whole}
+use Rattle.yq_places.proofs.PrintedLaws.{IsValid, IsWritten, IsPrinted, ArePrinted, lines_are, document_is}
+use Rattle.yq_places.proofs.FoundEntries.{IsIn, IsFound, entry_found}
+use Rattle.yq_places.proofs.FlowPieces.{none_anchored, twice, head_tree, head_item_at, head_there}
 
 -- an inline node
 piece_is : (node : FlowNode) (before behind : List ℕ) (x : TextPiece) → node_anchor node ≡ None → Some (record { before = before; text = node_text node []; behind = behind }) ≡ Some x → IsValid node behind → IsInlinePiece x (tree_of node)

@@ -19,18 +19,18 @@ use Rattle.yq_row_table.proofs.SliceLaws.{content_slices}
 use Rattle.yq_documents.specs.declared.path.Part.{Part as WhichPart}
 use Rattle.yq_documents.specs.declared.path.Part.TheVariants as parts
 use Rattle.yq_documents.specs.declared.path.Path.{Path}
-use Rattle.yq_lookup.specs.PrintedLines.{PrintedLine, line_front, print_line, print_lines, line_in, run_text, run_break, run_piece, lines_piece}
+use Rattle.yq_places.specs.PrintedLines.{PrintedLine, line_front, print_line, print_lines, line_in, run_text, run_break, run_piece, lines_piece}
 use Rattle.yq_outline.specs.Group.{group}
 use Rattle.yq_documents.specs.Located.{steps_of}
 use Rattle.yq_outline.specs.Outline.{flatten}
 use Rattle.yq_outline.specs.Places.{lines_before, find}
 use Rattle.yq_documents.specs.Reading.{read_at}
-use Rattle.yq_lookup.proofs.ReadLaws.{text_takes}
+use Rattle.yq_places.proofs.ReadLaws.{text_takes}
 use Rattle.yq_documents.specs.Pieces.{TextPiece, node_piece, head_piece, tail_comment, content_comment, last_run, before_run, gap_comment}
 use Rattle.yq_documents.proofs.RunLaws.{run_split}
-use Rattle.yq_lookup.specs.PathPieces.{BlockEntry, content_piece, FlowEntry, flow_in, flow_under, flow_at, content_inline, line_inline, flow_piece, flow_content, PrintedDocument, printed_document, entry_with, found_entry, piece_in_entry, piece_in}
-use Rattle.yq_lookup.proofs.PlacedPartLaws.{part_stands}
-use Rattle.yq_lookup.proofs.PrintedTexts.{line_then, lines_then, lines_append, run_is, map_some, line_split, rows_are}
+use Rattle.yq_places.specs.PathPieces.{BlockEntry, content_piece, FlowEntry, flow_in, flow_under, flow_at, content_inline, line_inline, flow_piece, flow_content, PrintedDocument, printed_document, entry_with, found_entry, piece_in_entry, piece_in}
+use Rattle.yq_places.proofs.PlacedPartLaws.{part_stands}
+use Rattle.yq_places.proofs.PrintedTexts.{line_then, lines_then, lines_append, run_is, map_some, line_split, rows_are}
 
 -- a piece with the text before and behind it
 abbrev pub piece_text : TextPiece → List ℕ

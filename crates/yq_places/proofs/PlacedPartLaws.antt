@@ -12,8 +12,8 @@ use Rattle.yq_documents.specs.Documents.{document_parts}
 use Rattle.yq_documents.specs.PartNumbers.{part_number, rows_to}
 use Rattle.yq_documents.specs.LinesInRows.{document_row}
 use Rattle.yq_documents.proofs.PartNumberLaws.{part_there}
-use Rattle.yq_lookup.specs.CommentReading.{before_row}
-use Rattle.yq_lookup.specs.PlacedRows.{PlacedPart, before_part, placed_at, placed_document}
+use Rattle.yq_places.specs.CommentReading.{before_row}
+use Rattle.yq_places.specs.PlacedRows.{PlacedPart, before_part, placed_at, placed_document}
 
 pub map_some : {A B : Type 0} (f : A → B) (o : Option A) (y : B) → option_map f o ≡ Some y → (x : A) × (o ≡ Some x) × (f x ≡ y)
 map_some f o y h1 = search (rules, same_Some)

@@ -10,18 +10,18 @@ use Rattle.yq_row_table.specs.Splices.{nth_part, behind_part}
 use Rattle.yq_row_table.specs.View.{rows_of}
 use Rattle.yq_outline.specs.Ends.{line_at_steps}
 use Rattle.yq_documents.specs.declared.path.Path.{Path}
-use Rattle.yq_lookup.specs.CommentReading.{before_row}
+use Rattle.yq_places.specs.CommentReading.{before_row}
 use Rattle.yq_documents.specs.Documents.{document_parts}
 use Rattle.yq_outline.specs.Lines.{lines_of_rows}
 use Rattle.yq_documents.specs.Located.{steps_of}
-use Rattle.yq_lookup.specs.PlacedRows.{PlacedPart, PlacedRow, placed_at, placed_document, placed_row, row_of_path}
-use Rattle.yq_lookup.specs.RowLineReading.{LineCounts, numbers}
+use Rattle.yq_places.specs.PlacedRows.{PlacedPart, PlacedRow, placed_at, placed_document, placed_row, row_of_path}
+use Rattle.yq_places.specs.RowLineReading.{LineCounts, numbers}
 use Rattle.yq_documents.specs.LinesInRows.{RowLine, row_line_of, row_line_at, document_row}
 use Rattle.yq_documents.specs.PartNumbers.{part_number, rows_to}
 use Rattle.yq_documents.proofs.PartNumberLaws.{part_there}
-use Rattle.yq_lookup.proofs.PlacedPartLaws.{part_stands, row_before}
+use Rattle.yq_places.proofs.PlacedPartLaws.{part_stands, row_before}
 use Rattle.yq_outline.proofs.KnownLaws.{get_front}
-use Rattle.yq_lookup.proofs.RowLineSpans.{steps_row}
+use Rattle.yq_places.proofs.RowLineSpans.{steps_row}
 
 -- A row of a cut stands behind others, between these texts.
 pub record IsAt (c : Cut) (i : ℕ) (before : List ℕ) (r : Row) (behind : List ℕ) : Type 0 where

@@ -12,12 +12,12 @@ use Rattle.yq_row_table.specs.Rows.{Content, Nothing, Inline, Block, content_tex
 use Rattle.yq_documents.specs.Documents.{document_parts}
 use Rattle.yq_outline.specs.Lines.{head_of, tail_of, lines_from, lines_of_rows}
 use Rattle.yq_outline.proofs.RowLaws.{no_comments}
-use Rattle.yq_lookup.specs.PrintedLines.{line_rest, PrintedLine, print_lines, printed_from, printed_row, printed_lines, line_in}
-use Rattle.yq_lookup.specs.PathPieces.{PrintedDocument, printed_document}
-use Rattle.yq_lookup.specs.PlacedRows.{placed_document}
-use Rattle.yq_lookup.proofs.CommentPieceLaws.{Ended, content_end, gap_end}
-use Rattle.yq_lookup.proofs.PlacedPartLaws.{part_rows, part_stands}
-use Rattle.yq_lookup.proofs.PrintedTexts.{alone, from_is, map_some, lines_append, rows_are}
+use Rattle.yq_places.specs.PrintedLines.{line_rest, PrintedLine, print_lines, printed_from, printed_row, printed_lines, line_in}
+use Rattle.yq_places.specs.PathPieces.{PrintedDocument, printed_document}
+use Rattle.yq_places.specs.PlacedRows.{placed_document}
+use Rattle.yq_places.proofs.CommentPieceLaws.{Ended, content_end, gap_end}
+use Rattle.yq_places.proofs.PlacedPartLaws.{part_rows, part_stands}
+use Rattle.yq_places.proofs.PrintedTexts.{alone, from_is, map_some, lines_append, rows_are}
 
 -- an inline node is valid where it stands
 abbrev pub IsValid : FlowNode → List ℕ → Type 0

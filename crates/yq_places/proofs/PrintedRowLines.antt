@@ -11,14 +11,14 @@ use Rattle.yq_row_table.specs.Rows.{Content, Nothing, Row, dashes_text, mark_tex
 use Rattle.yq_documents.specs.Documents.{document_parts}
 use Rattle.yq_outline.specs.Lines.{line_mark, dash_line}
 use Rattle.yq_outline.specs.Outline.{level}
-use Rattle.yq_lookup.specs.CommentReading.{before_row}
+use Rattle.yq_places.specs.CommentReading.{before_row}
 use Rattle.yq_documents.specs.LinesInRows.{RowLine, behind_one, row_line, document_row}
-use Rattle.yq_lookup.specs.PlacedRows.{placed_document}
-use Rattle.yq_lookup.proofs.PlacedPartLaws.{part_stands, text_before}
+use Rattle.yq_places.specs.PlacedRows.{placed_document}
+use Rattle.yq_places.proofs.PlacedPartLaws.{part_stands, text_before}
 use Rattle.yq_outline.proofs.Values.{rank_small}
-use Rattle.yq_lookup.specs.PrintedLines.{PrintedLine, line_front, print_lines, printed_from, printed_row, printed_lines}
-use Rattle.yq_lookup.specs.PathPieces.{PrintedDocument, printed_document}
-use Rattle.yq_lookup.proofs.PrintedTexts.{map_some, lines_append, row_is}
+use Rattle.yq_places.specs.PrintedLines.{PrintedLine, line_front, print_lines, printed_from, printed_row, printed_lines}
+use Rattle.yq_places.specs.PathPieces.{PrintedDocument, printed_document}
+use Rattle.yq_places.proofs.PrintedTexts.{map_some, lines_append, row_is}
 
 -- Line n of those of a row.
 pub record IsInRow (ls : List PrintedLine) (gap spaces : List ℕ) (ns : List ℕ) (m : rows.RowMark) (c : Content) (n : ℕ) : Type 0 where

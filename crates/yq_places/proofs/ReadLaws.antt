@@ -13,7 +13,7 @@ use Rattle.yq_row_table.specs.Rows.{Cut}
 use Rattle.yq_row_table.proofs.ScanLaws.{scan_takes, scan_again}
 use Rattle.yq_documents.specs.Documents.{Document, document_parts, ReadsDocuments}
 use Rattle.yq_documents.specs.Reading.{documents, all_documents, checked, checked_at, read_at, cut_or, cut_of}
-use Rattle.yq_lookup.proofs.DocumentLaws.{documents_take, documents_again}
+use Rattle.yq_places.proofs.DocumentLaws.{documents_take, documents_again}
 
 -- a text and its cut, whose parts stand for documents
 pub text_takes : (t : List ℕ) (c : Cut) → checked_at t ≡ Some c → IsCut t c × (all_documents c ≡ true)

@@ -21,8 +21,8 @@ use Rattle.yq_outline.specs.Lines.{head_of, lines_from, row_lines, lines_of_rows
 use Rattle.yq_documents.specs.Reading.{part_document, is_document, all_documents, cut_of}
 use Rattle.yq_documents.specs.TreeEdits.{lead_by}
 use Rattle.yq_documents.specs.Ready.{begins_no_node, part_is_block, IsReady, TextIsReady}
-use Rattle.yq_lookup.proofs.DocumentLaws.{document_is, documents_again}
-use Rattle.yq_lookup.proofs.ReadLaws.{cut_is}
+use Rattle.yq_places.proofs.DocumentLaws.{document_is, documents_again}
+use Rattle.yq_places.proofs.ReadLaws.{cut_is}
 
 -- ---- what is written in rows
 

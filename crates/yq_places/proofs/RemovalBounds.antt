@@ -7,11 +7,11 @@ use Rattle.yq_row_table.specs.Removal.{block_of, last_block, next_column}
 use Rattle.yq_row_table.specs.Rows.{Row, Part, Cut, last, marked}
 use Rattle.yq_row_table.specs.Splices.{first_gap, nth_part}
 use Rattle.yq_row_table.specs.View.{rows_of, Bound, bounds_from, bounds_of, bounds_at, rows_view}
-use Rattle.yq_lookup.specs.PlacedRows.{PlacedPart, placed_document}
-use Rattle.yq_lookup.specs.RemovalReading.{gap_counts, gap_and_column}
+use Rattle.yq_places.specs.PlacedRows.{PlacedPart, placed_document}
+use Rattle.yq_places.specs.RemovalReading.{gap_counts, gap_and_column}
 use Rattle.yq_documents.specs.LinesInRows.{document_row}
 use Rattle.yq_documents.specs.PartNumbers.{part_number, rows_to}
-use Rattle.yq_lookup.proofs.PlacedPartLaws.{part_stands}
+use Rattle.yq_places.proofs.PlacedPartLaws.{part_stands}
 
 -- ---- the ends of parts before a row
 

@@ -22,11 +22,11 @@ use Rattle.yq_row_table.proofs.splices.SpliceTexts.{first_is, first_text}
 use Rattle.yq_row_table.proofs.EmptyTexts.{none_is}
 use Rattle.yq_documents.specs.PartNumbers.{part_number}
 use Rattle.yq_documents.specs.Pieces.{before_run, last_run}
-use Rattle.yq_lookup.specs.PlacedRows.{PlacedPart, placed_at, placed_document}
-use Rattle.yq_lookup.specs.RemovalPlaces.{comment_above, rows_out}
-use Rattle.yq_lookup.proofs.CommentPieceLaws.{Ended, gap_end, tail_end}
-use Rattle.yq_lookup.proofs.PlacedPartLaws.{part_stands, text_at}
-use Rattle.yq_lookup.proofs.RemovalTexts.{run_parts, texts_then}
+use Rattle.yq_places.specs.PlacedRows.{PlacedPart, placed_at, placed_document}
+use Rattle.yq_places.specs.RemovalPlaces.{comment_above, rows_out}
+use Rattle.yq_places.proofs.CommentPieceLaws.{Ended, gap_end, tail_end}
+use Rattle.yq_places.proofs.PlacedPartLaws.{part_stands, text_at}
+use Rattle.yq_places.proofs.RemovalTexts.{run_parts, texts_then}
 
 -- Between two lines of a text: nothing is in front, an LF, or nothing is behind.
 abbrev pub LineSeam : List ℕ → List ℕ → Type 0

@@ -21,15 +21,15 @@ use Rattle.yq_row_table.specs.Removal.{hold_comment}
 use Rattle.yq_row_table.specs.Rows.{RowMark, Content, Row}
 use Rattle.yq_outline.specs.Lines.{lines_from, row_lines, lines_of_rows}
 use Rattle.yq_documents.specs.Pieces.{before_run, last_run}
-use Rattle.yq_lookup.specs.RemovalPlaces.{OwnRows, row_count, in_three, own_rows}
-use Rattle.yq_lookup.specs.RemovalReading.{marks}
+use Rattle.yq_places.specs.RemovalPlaces.{OwnRows, row_count, in_three, own_rows}
+use Rattle.yq_places.specs.RemovalReading.{marks}
 use Rattle.yq_outline.specs.RowWalk.{line_number}
 use Rattle.yq_outline.specs.declared.line_position.Position.{Position}
 use Rattle.yq_outline.specs.declared.line_position.Stretch.{Stretch}
 use Rattle.yq_documents.specs.LinesInRows.{RowLine, behind_one, row_line}
-use Rattle.yq_lookup.proofs.PlacedPartLaws.{map_some}
-use Rattle.yq_lookup.proofs.RemovalTexts.{gap_parts}
-use Rattle.yq_lookup.proofs.WalkDocuments.{row_line_number}
+use Rattle.yq_places.proofs.PlacedPartLaws.{map_some}
+use Rattle.yq_places.proofs.RemovalTexts.{gap_parts}
+use Rattle.yq_places.proofs.WalkDocuments.{row_line_number}
 
 -- ---- a gap cut before its comment
 

@@ -12,8 +12,8 @@ use Rattle.yq_row_table.proofs.PlaceLaws.{row_then}
 use Rattle.yq_row_table.proofs.seams.SeamLaws.{rows_text-append}
 use Rattle.yq_row_table.proofs.splices.SpliceTexts.{first_text}
 use Rattle.yq_documents.specs.Pieces.{before_run, last_run}
-use Rattle.yq_lookup.specs.PlacedRows.{PlacedPart}
-use Rattle.yq_lookup.specs.RemovalPlaces.{OwnRows, kept_gap, comment_above, rows_out}
+use Rattle.yq_places.specs.PlacedRows.{PlacedPart}
+use Rattle.yq_places.specs.RemovalPlaces.{OwnRows, kept_gap, comment_above, rows_out}
 use Rattle.yq_documents.proofs.RunLaws.{run_split}
 
 pub texts_then : (rs : List Row) (t u : List ℕ) → rows_text rs (t ++ u) ≡ rows_text rs t ++ u

@@ -24,20 +24,20 @@ use Rattle.yq_documents.specs.Documents.{document_parts}
 use Rattle.yq_outline.specs.Extents.{IsRowsView, row_start}
 use Rattle.yq_documents.specs.Pieces.{before_run}
 use Rattle.yq_documents.specs.Reading.{cut_of}
-use Rattle.yq_lookup.specs.PlacedRows.{PlacedPart, placed_document}
-use Rattle.yq_lookup.specs.RemovalPlaces.{OwnRows, own_rows, Removal, kept_gap, rows_out, removal_place}
-use Rattle.yq_lookup.specs.RemovalReading.{RowCounts, marks, mark_counts, gap_counts, IsOwn}
+use Rattle.yq_places.specs.PlacedRows.{PlacedPart, placed_document}
+use Rattle.yq_places.specs.RemovalPlaces.{OwnRows, own_rows, Removal, kept_gap, rows_out, removal_place}
+use Rattle.yq_places.specs.RemovalReading.{RowCounts, marks, mark_counts, gap_counts, IsOwn}
 use Rattle.yq_documents.specs.LinesInRows.{document_row}
-use Rattle.yq_lookup.proofs.CommentPieceLaws.{gap_end}
+use Rattle.yq_places.proofs.CommentPieceLaws.{gap_end}
 use Rattle.yq_row_table.proofs.SliceLaws.{print-length}
-use Rattle.yq_lookup.proofs.PlacedPartLaws.{map_some, part_stands, placed_is, text_before}
-use Rattle.yq_lookup.proofs.RemovalBounds.{gap_behind, last_row}
-use Rattle.yq_lookup.proofs.RemovalLines.{LineSeam, are_lines, lies_in, line_seam}
-use Rattle.yq_lookup.proofs.RemovalPlaceLaws.{own_stands}
-use Rattle.yq_lookup.proofs.RemovalTexts.{old_text, texts_then}
+use Rattle.yq_places.proofs.PlacedPartLaws.{map_some, part_stands, placed_is, text_before}
+use Rattle.yq_places.proofs.RemovalBounds.{gap_behind, last_row}
+use Rattle.yq_places.proofs.RemovalLines.{LineSeam, are_lines, lies_in, line_seam}
+use Rattle.yq_places.proofs.RemovalPlaceLaws.{own_stands}
+use Rattle.yq_places.proofs.RemovalTexts.{old_text, texts_then}
 use Rattle.yq_documents.proofs.PartRows.{part_begins}
 use Rattle.yq_outline.proofs.KnownLaws.{get_dropped, get_front}
-use Rattle.yq_lookup.proofs.StartLaws.{start_agrees}
+use Rattle.yq_places.proofs.StartLaws.{start_agrees}
 
 -- ---- a text cut between lines
 

@@ -17,16 +17,16 @@ use Rattle.yq_row_table.specs.View.{Slices, slices, Bound, bounds_from, bounds_o
 use Rattle.yq_outline.specs.Extents.{bound_length}
 use Rattle.yq_documents.specs.PartNumbers.{part_number, document_part, rows_to}
 use Rattle.yq_documents.proofs.PartNumberLaws.{document_found, document_missing, end_agrees}
-use Rattle.yq_lookup.specs.PlacedRows.{before_part, placed_at, placed_document}
+use Rattle.yq_places.specs.PlacedRows.{before_part, placed_at, placed_document}
 use Rattle.yq_documents.specs.Reading.{cut_of}
 use Rattle.yq_row_table.specs.RowStarts.{part_end}
-use Rattle.yq_lookup.specs.RootReading.{if_rowless, rowless_place, rowless_at}
-use Rattle.yq_lookup.specs.Standings.{NoRows}
-use Rattle.yq_lookup.proofs.CommentPieceLaws.{gap_end}
+use Rattle.yq_places.specs.RootReading.{if_rowless, rowless_place, rowless_at}
+use Rattle.yq_places.specs.Standings.{NoRows}
+use Rattle.yq_places.proofs.CommentPieceLaws.{gap_end}
 use Rattle.yq_outline.proofs.LengthLaws.{part-length}
-use Rattle.yq_lookup.proofs.PlacedPartLaws.{map_some, part_stands}
-use Rattle.yq_lookup.proofs.RemovalLines.{LineSeam, lies_in, seam_join}
-use Rattle.yq_lookup.proofs.RemovalViewLaws.{line_boundary}
+use Rattle.yq_places.proofs.PlacedPartLaws.{map_some, part_stands}
+use Rattle.yq_places.proofs.RemovalLines.{LineSeam, lies_in, seam_join}
+use Rattle.yq_places.proofs.RemovalViewLaws.{line_boundary}
 
 -- ---- the sums of the code
 

@@ -11,21 +11,21 @@ use Rattle.yq_row_table.specs.Rows.{Part, Row, behind_indent, print_row, rows_te
 use Rattle.yq_row_table.specs.View.{Slices, slices, RowsView, rows_view}
 use Rattle.yq_documents.specs.Reading.{cut_of}
 use Rattle.yq_documents.specs.LinesInRows.{document_row}
-use Rattle.yq_lookup.specs.EntryReading.{before_line, line_begin}
+use Rattle.yq_places.specs.EntryReading.{before_line, line_begin}
 use Rattle.yq_outline.specs.Extents.{row_start}
-use Rattle.yq_lookup.specs.LineReading.{CutsLines, LinesIn, lines_between, line_list}
-use Rattle.yq_lookup.specs.PlacedRows.{PlacedPart, placed_document}
-use Rattle.yq_lookup.specs.RootReading.{if_rowless, rowless_at, rowless_place}
-use Rattle.yq_lookup.specs.RowWalk.{document_row_range}
-use Rattle.yq_lookup.specs.Standings.{NoRows, RowsOfEntry, alone, before_entry, behind_entry, block_root, is_alone, lone, no_rows, root, root_standing, standing_at}
-use Rattle.yq_lookup.specs.StandingReading.{IsRootOf, root_entry}
+use Rattle.yq_places.specs.LineReading.{CutsLines, LinesIn, lines_between, line_list}
+use Rattle.yq_places.specs.PlacedRows.{PlacedPart, placed_document}
+use Rattle.yq_places.specs.RootReading.{if_rowless, rowless_at, rowless_place}
+use Rattle.yq_places.specs.RowWalk.{document_row_range}
+use Rattle.yq_places.specs.Standings.{NoRows, RowsOfEntry, alone, before_entry, behind_entry, block_root, is_alone, lone, no_rows, root, root_standing, standing_at}
+use Rattle.yq_places.specs.StandingReading.{IsRootOf, root_entry}
 use Rattle.yq_outline.specs.declared.line_position.Stretch.{Stretch}
-use Rattle.yq_lookup.proofs.EntryRowLaws.{cut_in_two, first_at, pieces_at, stop_boundary, stop_is}
-use Rattle.yq_lookup.proofs.PlacedPartLaws.{placed_is}
-use Rattle.yq_lookup.proofs.PlacedRowLaws.{document_placed, part_of}
-use Rattle.yq_lookup.proofs.RowStarts.{line_begins}
-use Rattle.yq_lookup.proofs.SeamLaws.{line_boundary}
-use Rattle.yq_lookup.proofs.WalkDocuments.{Found}
+use Rattle.yq_places.proofs.EntryRowLaws.{cut_in_two, first_at, pieces_at, stop_boundary, stop_is}
+use Rattle.yq_places.proofs.PlacedPartLaws.{placed_is}
+use Rattle.yq_places.proofs.PlacedRowLaws.{document_placed, part_of}
+use Rattle.yq_places.proofs.RowStarts.{line_begins}
+use Rattle.yq_places.proofs.SeamLaws.{line_boundary}
+use Rattle.yq_places.proofs.WalkDocuments.{Found}
 use Rattle.yq_outline.proofs.WalkRows.{rows_length}
 
 -- ---- documents without rows

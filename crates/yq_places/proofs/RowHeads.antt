@@ -22,14 +22,14 @@ use Rattle.yq_documents.specs.Documents.{document_parts}
 use Rattle.yq_documents.specs.Reading.{mark_is_fit, content_is_fit, have_fit_keys, all_documents}
 use Rattle.yq_documents.specs.RowReading.{HasHead, from_head}
 use Rattle.yq_outline.specs.Extents.{head_place}
-use Rattle.yq_lookup.specs.RowWalk.{InCut}
+use Rattle.yq_places.specs.RowWalk.{InCut}
 use Rattle.yq_outline.specs.RowWalk.{IsLine}
 use Rattle.yq_outline.specs.declared.line_position.Position.{Position}
 use Rattle.yq_outline.specs.declared.line_position.Stretch.{Stretch}
 use Rattle.yq_documents.proofs.PartRows.{each}
-use Rattle.yq_lookup.proofs.HeadSpanLaws.{head_span, head_text}
-use Rattle.yq_lookup.proofs.WalkDocuments.{Found}
-use Rattle.yq_lookup.proofs.WalkNodes.{row_is as row_at, row_in_cut}
+use Rattle.yq_places.proofs.HeadSpanLaws.{head_span, head_text}
+use Rattle.yq_places.proofs.WalkDocuments.{Found}
+use Rattle.yq_places.proofs.WalkNodes.{row_is as row_at, row_in_cut}
 use Rattle.yq_outline.proofs.WalkPositions.{located}
 
 -- the pieces of a row that is shown

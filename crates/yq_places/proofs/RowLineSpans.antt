@@ -13,8 +13,8 @@ use Rattle.yq_documents.specs.Located.{steps_of}
 use Rattle.yq_documents.specs.Pieces.{TextPiece, piece_span}
 use Rattle.yq_documents.specs.Reading.{cut_of}
 use Rattle.yq_outline.specs.Ends.{line_at_steps}
-use Rattle.yq_lookup.specs.RowWalk.{HasCut}
-use Rattle.yq_lookup.specs.RowLineReading.{LineCounts, numbers}
+use Rattle.yq_places.specs.RowWalk.{HasCut}
+use Rattle.yq_places.specs.RowLineReading.{LineCounts, numbers}
 use Rattle.yq_documents.specs.LinesInRows.{RowLine, behind_one, row_line, row_line_of, row_line_at, document_row}
 use Rattle.yq_documents.proofs.PartRows.{part_begins}
 use Rattle.yq_outline.proofs.KnownLaws.{get_dropped, get_front}

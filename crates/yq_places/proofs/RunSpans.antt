@@ -13,20 +13,20 @@ use Rattle.yq_row_table.specs.Rows.{Content, Nothing, Inline, Block, dashes_text
 use Rattle.yq_row_table.specs.View.{anchor_cut, anchor_with_sign, apart_of, content_cut, rows_of}
 use Rattle.yq_row_table.proofs.PlaceLaws.{part_then}
 use Rattle.yq_outline.proofs.KnownLaws.{get_dropped}
-use Rattle.yq_lookup.specs.EntryReading.{before_line, through_row, lines_place, head_end, head_extent, line_head}
+use Rattle.yq_places.specs.EntryReading.{before_line, through_row, lines_place, head_end, head_extent, line_head}
 use Rattle.yq_outline.specs.Lines.{head_of, lines_of_rows}
 use Rattle.yq_core.specs.Trees.{node_head}
-use Rattle.yq_lookup.specs.CommentReading.{before_row}
+use Rattle.yq_places.specs.CommentReading.{before_row}
 use Rattle.yq_documents.specs.LinesInRows.{RowLine, row_line}
-use Rattle.yq_lookup.proofs.EntryPlaceLaws.{row_there}
-use Rattle.yq_lookup.proofs.DashLineLaws.{row_line_found}
-use Rattle.yq_lookup.proofs.StartLaws.{front_in}
+use Rattle.yq_places.proofs.EntryPlaceLaws.{row_there}
+use Rattle.yq_places.proofs.DashLineLaws.{row_line_found}
+use Rattle.yq_places.proofs.StartLaws.{front_in}
 use Rattle.yq_documents.specs.Pieces.{TextPiece, piece_span, node_piece, head_piece}
-use Rattle.yq_lookup.specs.PrintedLines.{line_front, less_end, PrintedLine, print_line, print_lines, printed_lines, line_in, run_text, run_piece}
-use Rattle.yq_lookup.specs.PathPieces.{PrintedDocument}
-use Rattle.yq_lookup.proofs.PrintedTexts.{lines_then, lines_append}
-use Rattle.yq_lookup.proofs.PrintedLaws.{IsValid, IsWritten, IsPrinted, lines_are}
-use Rattle.yq_lookup.proofs.PrintedRowLines.{row_begin, IsPrintedLine, printed_line, IsPlaced}
+use Rattle.yq_places.specs.PrintedLines.{line_front, less_end, PrintedLine, print_line, print_lines, printed_lines, line_in, run_text, run_piece}
+use Rattle.yq_places.specs.PathPieces.{PrintedDocument}
+use Rattle.yq_places.proofs.PrintedTexts.{lines_then, lines_append}
+use Rattle.yq_places.proofs.PrintedLaws.{IsValid, IsWritten, IsPrinted, lines_are}
+use Rattle.yq_places.proofs.PrintedRowLines.{row_begin, IsPrintedLine, printed_line, IsPlaced}
 
 -- an anchor with the white space behind it, and what is behind that
 abbrev front_of : FlowNode → List ℕ

@@ -15,9 +15,9 @@ use Rattle.yq_row_table.proofs.ExchangeLaws.{slice_front, slice_back}
 use Rattle.yq_row_table.proofs.NodePieces.{EndsAscii, ends_behind, BeginsAscii, before_ascii, behind_ascii}
 use Rattle.yq_row_table.proofs.PlaceLaws.{row_then, part_then, row_in}
 use Rattle.yq_row_table.proofs.SliceLaws.{slices_are}
-use Rattle.yq_lookup.specs.EntryReading.{before_line}
-use Rattle.yq_lookup.specs.CommentReading.{before_row}
-use Rattle.yq_lookup.proofs.CommentPieceLaws.{Ended, tail_end, content_end, gap_end, row_place}
+use Rattle.yq_places.specs.EntryReading.{before_line}
+use Rattle.yq_places.specs.CommentReading.{before_row}
+use Rattle.yq_places.proofs.CommentPieceLaws.{Ended, tail_end, content_end, gap_end, row_place}
 
 -- a text ends between characters before a rest: it is empty, or its last byte is ASCII, or nothing is behind it
 abbrev pub IsSeam : List ℕ → List ℕ → Type 0

@@ -15,13 +15,13 @@ use Rattle.yq_row_table.proofs.seams.SeamLaws.{rows_text-append}
 use Rattle.yq_outline.specs.Lines.{line_mark}
 use Rattle.yq_documents.specs.Reading.{cut_of}
 use Rattle.yq_outline.proofs.RowLaws.{colon_some}
-use Rattle.yq_lookup.specs.Standings.{RowsOfEntry, alone, before_entry, behind_entry, behind_mark, below, beside, block, compact, compact_in, entry_standing, held, is_alone, lone, rows_of_entry, standing_at, under}
-use Rattle.yq_lookup.specs.StandingReading.{AreRowsOf, IsEntryIn, numbers_at}
-use Rattle.yq_lookup.specs.StandingViews.{held_at, held_if_last}
-use Rattle.yq_lookup.specs.declared.places.rows_of_entry.RowsOfEntry as declared
-use Rattle.yq_lookup.proofs.EntryNumbers.{FoundEntry, no_entry}
-use Rattle.yq_lookup.proofs.LinesCutLaws.{none_is}
-use Rattle.yq_lookup.proofs.RemovalTexts.{texts_then}
+use Rattle.yq_places.specs.Standings.{RowsOfEntry, alone, before_entry, behind_entry, behind_mark, below, beside, block, compact, compact_in, entry_standing, held, is_alone, lone, rows_of_entry, standing_at, under}
+use Rattle.yq_places.specs.StandingReading.{AreRowsOf, IsEntryIn, numbers_at}
+use Rattle.yq_places.specs.StandingViews.{held_at, held_if_last}
+use Rattle.yq_places.specs.declared.places.rows_of_entry.RowsOfEntry as declared
+use Rattle.yq_places.proofs.EntryNumbers.{FoundEntry, no_entry}
+use Rattle.yq_places.proofs.LinesCutLaws.{none_is}
+use Rattle.yq_places.proofs.RemovalTexts.{texts_then}
 
 -- ---- a node that is alone on its line
 

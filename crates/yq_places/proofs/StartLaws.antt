@@ -8,7 +8,7 @@ use Rattle.yq_row_table.specs.Rows.{Row, rows_text, Cut, last, marked}
 use Rattle.yq_row_table.specs.View.{Slices, slices, rows_of, rows_view}
 use Rattle.yq_row_table.proofs.ExchangeLaws.{slice_front, slice_back}
 use Rattle.yq_outline.specs.Extents.{row_start, front_length, head_place}
-use Rattle.yq_lookup.specs.CommentReading.{before_row}
+use Rattle.yq_places.specs.CommentReading.{before_row}
 use Rattle.yq_outline.proofs.LengthLaws.{part-length, front-length, head_agrees}
 use Rattle.yq_row_table.proofs.SliceLaws.{print-length}
 

@@ -11,12 +11,12 @@ use Rattle.yq_row_table.specs.View.{Slices, slices, RowsView}
 use Rattle.yq_outline.specs.Lines.{dash_line, lines_from, row_lines, lines_of_rows}
 use Rattle.yq_outline.specs.Extents.{lines_before_mark}
 use Rattle.yq_outline.specs.RowWalk.{HasRows, line_level}
-use Rattle.yq_lookup.specs.StepReading.{begins_under_level}
-use Rattle.yq_lookup.specs.Steps as spec
-use Rattle.yq_lookup.specs.Steps.{IndentSteps, steps_in, steps_of_part, document_steps, is_key, is_kind, first_step}
+use Rattle.yq_places.specs.StepReading.{begins_under_level}
+use Rattle.yq_places.specs.Steps as spec
+use Rattle.yq_places.specs.Steps.{IndentSteps, steps_in, steps_of_part, document_steps, is_key, is_kind, first_step}
 use Rattle.yq_outline.specs.declared.line_position.Stretch.{Stretch}
 use Rattle.yq_outline.proofs.EndsLaws.{drop_at}
-use Rattle.yq_lookup.proofs.WalkDocuments.{Found}
+use Rattle.yq_places.proofs.WalkDocuments.{Found}
 use Rattle.yq_outline.proofs.WalkLevels.{RowAgrees, line_in, level_is}
 use Rattle.yq_outline.proofs.WalkPositions.{Located, located}
 

@@ -10,7 +10,7 @@ use Rattle.yq_outline.specs.Outline.{Line, level, Outline, end, row, flatten, Is
 use Rattle.yq_outline.specs.Places.{Context, here, below, beside, lines_before, lines_after, FoundLine, find}
 use Rattle.yq_outline.proofs.Allowing.{Allows}
 use Rattle.yq_outline.proofs.LineEnds.{end_behind}
-use Rattle.yq_lookup.proofs.RowPathLaws.{found_lines, found_place}
+use Rattle.yq_places.proofs.RowPathLaws.{found_lines, found_place}
 
 -- how many lines are deeper
 pub count_stops : (k : ℕ) (ls : List Line) (x : Line) → slice_get ls (deeper_count k ls) ≡ Some x → level x ≤ k

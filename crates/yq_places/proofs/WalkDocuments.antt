@@ -24,8 +24,8 @@ use Rattle.yq_outline.specs.RowWalk.{HasDocument, stretch_view}
 use Rattle.yq_outline.specs.declared.line_position.Stretch.{Stretch}
 use Rattle.yq_documents.specs.declared.path.Part.{Part as Place}
 use Rattle.yq_outline.specs.Comments as comments
-use Rattle.yq_lookup.specs.RowWalk.{InCut, document_row_range}
-use Rattle.yq_lookup.specs.RowLineReading.{LineCounts, numbers}
+use Rattle.yq_places.specs.RowWalk.{InCut, document_row_range}
+use Rattle.yq_places.specs.RowLineReading.{LineCounts, numbers}
 
 -- the rows of a document, by the number of its part
 pub rows_known : (c : Cut) (s : RowsView) (n k first : ℕ) (b : Bound) → s ≡ rows_view c → Some k ≡ document_part n c → first ≡ rows_to k c → slice_get s.bounds k ≡ Some b → Some (first, b.rows) ≡ document_row_range n c

@@ -6,16 +6,16 @@ use Rattle.yq_row_table.specs.Rows.{Row, Cut}
 use Rattle.yq_row_table.specs.View.{Slices, slices, rows_of, RowsView}
 use Rattle.yq_outline.specs.Lines.{lines_of_rows}
 use Rattle.yq_documents.specs.LinesInRows.{RowLine, row_line}
-use Rattle.yq_lookup.specs.EntryReading.{before_line, through_row, lines_place, line_begin}
+use Rattle.yq_places.specs.EntryReading.{before_line, through_row, lines_place, line_begin}
 use Rattle.yq_outline.specs.Extents.{row_start}
 use Rattle.yq_outline.specs.RowWalk.{HasRows, IsLine, AreLinesTo, line_number}
-use Rattle.yq_lookup.specs.RowWalk.{InCut}
+use Rattle.yq_places.specs.RowWalk.{InCut}
 use Rattle.yq_outline.specs.declared.line_position.Position.{Position}
 use Rattle.yq_outline.specs.declared.line_position.Stretch.{Stretch}
-use Rattle.yq_lookup.proofs.RowStarts.{line_begins}
-use Rattle.yq_lookup.proofs.WalkDocuments.{row_line_number}
+use Rattle.yq_places.proofs.RowStarts.{line_begins}
+use Rattle.yq_places.proofs.WalkDocuments.{row_line_number}
 use Rattle.yq_outline.proofs.WalkEnds.{lines_upto}
-use Rattle.yq_lookup.proofs.WalkNodes.{row_line_is, row_in_cut}
+use Rattle.yq_places.proofs.WalkNodes.{row_line_is, row_in_cut}
 use Rattle.yq_outline.proofs.WalkPositions.{located, position_line}
 
 -- the first of lines is one, where there are any

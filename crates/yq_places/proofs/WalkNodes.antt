@@ -15,12 +15,12 @@ use Rattle.yq_outline.proofs.NameLaws.{above}
 use Rattle.yq_row_table.specs.Rows.{Row, Cut}
 use Rattle.yq_row_table.specs.View.{rows_of, RowsView}
 use Rattle.yq_documents.specs.LinesInRows.{RowLine, row_line}
-use Rattle.yq_lookup.specs.RowWalk.{InCut}
+use Rattle.yq_places.specs.RowWalk.{InCut}
 use Rattle.yq_outline.specs.RowWalk.{IsLine, line_number, lines_stop}
 use Rattle.yq_outline.specs.declared.line_position.Position.{Position}
 use Rattle.yq_outline.specs.declared.line_position.Stretch.{Stretch}
-use Rattle.yq_lookup.proofs.EntryPlaceLaws.{row_there}
-use Rattle.yq_lookup.proofs.WalkDocuments.{row_line_number}
+use Rattle.yq_places.proofs.EntryPlaceLaws.{row_there}
+use Rattle.yq_places.proofs.WalkDocuments.{row_line_number}
 use Rattle.yq_outline.proofs.WalkPositions.{located}
 
 -- lines that are deeper than a level end where they begin exactly where there are none

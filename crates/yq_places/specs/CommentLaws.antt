@@ -11,7 +11,7 @@ use Rattle.yq_documents.specs.Reading.{read_at}
 use Rattle.yq_documents.specs.Texts.{texts}
 use Rattle.yq_documents.specs.declared.path.Part.TheVariants as parts
 use Rattle.yq_documents.specs.Pieces.{TextPiece}
-use Rattle.yq_lookup.specs.PathPieces.{path_piece}
+use Rattle.yq_places.specs.PathPieces.{path_piece}
 use Rattle.yq_documents.specs.declared.path.Part.TheVariants as parts
 
 -- the text of the comment in a piece: what follows its `#`, less one leading space

@@ -8,7 +8,7 @@ use Rattle.yq_row_table.specs.Exchange.{row_front}
 use Rattle.yq_row_table.specs.Rows.{Row, behind_gap, Cut}
 use Rattle.yq_row_table.specs.View.{slices}
 use Rattle.yq_documents.specs.Pieces.{before_run, last_run}
-use Rattle.yq_lookup.specs.PlacedRows.{PlacedRow, row_of_path}
+use Rattle.yq_places.specs.PlacedRows.{PlacedRow, row_of_path}
 
 -- The end of a line: the text before it, the white space and the comment that end the line, each of which may be nothing, and the text from its break on (6.6).
 pub record LineEnd : Type 0 where

@@ -3,7 +3,7 @@ use Rattle.std.specs.Prelude.{ℕ, ◌+◌, ◌-◌, ◌==◌, List, length, Opt
 use Rattle.yq_core.specs.Text.{cut, front, ends_line, is_empty, joined, text_lines, no_white, past_white}
 use Rattle.yq_row_table.specs.View.{Slices, slices}
 use Rattle.yq_outline.specs.Extents.{front_length}
-use Rattle.yq_lookup.specs.RowLineReading.{LineCounts}
+use Rattle.yq_places.specs.RowLineReading.{LineCounts}
 use Rattle.yq_row_table.specs.Exchange.{before_content, behind_row}
 use Rattle.yq_row_table.specs.Rows.{Row, Cut, rows_text, part_text, last, marked, behind_gap}
 use Rattle.yq_documents.specs.LinesInRows.{RowLine}

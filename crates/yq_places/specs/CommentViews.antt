@@ -2,8 +2,8 @@
 use Rattle.std.specs.Prelude.{◌≡◌, ℕ, ◌+◌, List, ◌++◌, length}
 use Rattle.std.specs.Str.{IsCharBoundary}
 use Rattle.yq_text.specs.Halves.{halves_text}
-use Rattle.yq_lookup.specs.CommentPlaces.{LinesAbove}
-use Rattle.yq_lookup.specs.declared.places.lines_above.LinesAbove as declared_above
+use Rattle.yq_places.specs.CommentPlaces.{LinesAbove}
+use Rattle.yq_places.specs.declared.places.lines_above.LinesAbove as declared_above
 
 -- the lines above a row that the code lends
 abbrev pub above_view : declared_above.LinesAbove → LinesAbove

@@ -11,7 +11,7 @@ use Rattle.yq_row_table.specs.Exchange.{behind_row}
 use Rattle.yq_row_table.specs.Rows.{Content, Nothing, Inline, Block, Row, dashes_text, Cut, cut_text}
 use Rattle.yq_row_table.specs.View.{Slices, slices}
 use Rattle.yq_documents.specs.declared.path.Path.{Path}
-use Rattle.yq_lookup.specs.CommentReading.{before_tail, before_row}
+use Rattle.yq_places.specs.CommentReading.{before_tail, before_row}
 use Rattle.yq_documents.specs.Documents.{document_parts}
 use Rattle.yq_outline.specs.Lines.{tail_of, lines_of_rows}
 use Rattle.yq_documents.specs.Located.{steps_of}
@@ -19,7 +19,7 @@ use Rattle.yq_outline.specs.Ends.{line_at_steps, reached, lines_end}
 use Rattle.yq_documents.specs.LinesInRows.{row_line, document_row}
 use Rattle.yq_outline.specs.Positions.{has_no_mark}
 use Rattle.yq_documents.specs.RowReading.{is_block_head}
-use Rattle.yq_lookup.specs.PrintedLines.{less_break}
+use Rattle.yq_places.specs.PrintedLines.{less_break}
 
 -- the text of a cut before line k of row i: before its dash, its key or the node itself (8.2.1, 8.2.2)
 abbrev pub before_line : ℕ → ℕ → Row → Cut → List ℕ

@@ -12,8 +12,8 @@ use Rattle.yq_core.specs.Trees.{node_head}
 use Rattle.yq_documents.specs.Located.{steps_of, located}
 use Rattle.yq_outline.specs.Places.{find}
 use Rattle.yq_documents.specs.Reading.{read_at}
-use Rattle.yq_lookup.specs.PrintedLines.{PrintedLine, line_in}
-use Rattle.yq_lookup.specs.PathPieces.{BlockEntry, FlowEntry, flow_at, line_inline, PrintedDocument, printed_document, found_entry, path_piece}
+use Rattle.yq_places.specs.PrintedLines.{PrintedLine, line_in}
+use Rattle.yq_places.specs.PathPieces.{BlockEntry, FlowEntry, flow_at, line_inline, PrintedDocument, printed_document, found_entry, path_piece}
 
 -- whether there are no steps, so that they end at the root
 abbrev pub are_none : List Step → Bool

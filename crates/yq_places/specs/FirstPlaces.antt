@@ -7,7 +7,7 @@ use Rattle.yq_row_table.specs.Rows.{Cut}
 use Rattle.yq_row_table.specs.Reading.{begins_gap}
 use Rattle.yq_documents.specs.declared.path.Part.TheVariants.{Entry}
 use Rattle.yq_documents.specs.Documents.{document_parts}
-use Rattle.yq_lookup.specs.PathPieces.{printed_document, piece_in}
+use Rattle.yq_places.specs.PathPieces.{printed_document, piece_in}
 use Rattle.yq_documents.specs.Pieces.{TextPiece}
 use Rattle.yq_documents.specs.LinesInRows.{RowLine, row_line_of}
 

@@ -1,8 +1,8 @@
 -- What the code tells of what is taken out with the first item or entry of a compact collection.
 use Rattle.std.specs.Prelude.{ℕ, List}
 use Rattle.yq_text.specs.Halves.{halves_text}
-use Rattle.yq_lookup.specs.declared.places.first_removal.FirstRemoval as declared
-use Rattle.yq_lookup.specs.FirstPlaces.{FirstOut}
+use Rattle.yq_places.specs.declared.places.first_removal.FirstRemoval as declared
+use Rattle.yq_places.specs.FirstPlaces.{FirstOut}
 use Rattle.yq_documents.specs.Pieces.{TextPiece}
 
 -- a piece between two texts (own)

@@ -9,9 +9,9 @@ use Rattle.yq_core.specs.View.{inline_view}
 use Rattle.yq_row_table.specs.Rows.{Part, Cut}
 use Rattle.yq_outline.specs.Lines.{lines_of_rows}
 use Rattle.yq_documents.specs.Documents.{document_parts}
-use Rattle.yq_lookup.specs.FlowNodes.{flow_collection}
-use Rattle.yq_lookup.specs.NodeReading.{head_line_of}
-use Rattle.yq_lookup.specs.declared.places.flow_node.FlowHead.{FlowHead}
+use Rattle.yq_places.specs.FlowNodes.{flow_collection}
+use Rattle.yq_places.specs.NodeReading.{head_line_of}
+use Rattle.yq_places.specs.declared.places.flow_node.FlowHead.{FlowHead}
 use Rattle.yq_core.specs.Places.{Placed, placed, CoreNode, nothing, name, text, sequence, mapping, locate}
 
 -- a collection with its places in a text so long (7.4)

@@ -7,7 +7,7 @@ use Rattle.yq_documents.specs.FlowReading.{row_flow}
 use Rattle.yq_outline.specs.Lines.{head_of}
 use Rattle.yq_documents.specs.RowReading.{from_head}
 use Rattle.yq_outline.specs.Extents.{head_place}
-use Rattle.yq_lookup.specs.declared.places.row_head.RowHead.{RowHead}
+use Rattle.yq_places.specs.declared.places.row_head.RowHead.{RowHead}
 
 -- The head of row i, with the text from there to the end of the row, in which it has its places.
 pub record IsRowHead (i : ℕ) (r : Row) (c : Cut) (x : RowHead) : Type 0 where

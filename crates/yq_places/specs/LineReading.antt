@@ -3,10 +3,10 @@ use Rattle.std.specs.Prelude.{◌≡◌, ◌⊎◌, ℕ, Bool, List, [], ◌∷�
 use Rattle.std.specs.Str.{IsCharBoundary}
 use Rattle.yq_text.specs.Halves.{halves_text}
 use Rattle.yq_core.specs.Text.{is_empty}
-use Rattle.yq_lookup.specs.CommentPlaces.{LineEnd}
-use Rattle.yq_lookup.specs.PrintedLines.{last_break, less_break}
-use Rattle.yq_lookup.specs.declared.places.lines_cut.LinesCut as declared_lines
-use Rattle.yq_lookup.specs.declared.places.lines_cut.TailCut as declared_tail
+use Rattle.yq_places.specs.CommentPlaces.{LineEnd}
+use Rattle.yq_places.specs.PrintedLines.{last_break, less_break}
+use Rattle.yq_places.specs.declared.places.lines_cut.LinesCut as declared_lines
+use Rattle.yq_places.specs.declared.places.lines_cut.TailCut as declared_tail
 
 -- LF, CR LF or nothing (5.4).
 abbrev pub IsLastBreak : List ℕ → Type 0

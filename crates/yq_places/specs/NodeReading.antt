@@ -11,9 +11,9 @@ use Rattle.yq_outline.specs.Outline.{Line, level, value}
 use Rattle.yq_outline.specs.Positions.{begins_with_node}
 use Rattle.yq_row_table.specs.Rows.{Row}
 use Rattle.yq_row_table.specs.View.{RowsView}
-use Rattle.yq_lookup.specs.NodesAt.{NodeAt, node_summary}
+use Rattle.yq_places.specs.NodesAt.{NodeAt, node_summary}
 use Rattle.yq_outline.specs.RowWalk.{IsLine, IsPosition, line_number, lines_stop}
-use Rattle.yq_lookup.specs.declared.places.node_place.NodePlace as declared
+use Rattle.yq_places.specs.declared.places.node_place.NodePlace as declared
 use Rattle.yq_outline.specs.declared.line_position.Stretch.{Stretch}
 
 -- Where a node is written: in the head of a line, or on the lines from one on that are deeper than a level (8.2).

@@ -10,7 +10,7 @@ use Rattle.yq_outline.specs.declared.line.Content.{Content}
 use Rattle.yq_outline.specs.View.{content_view}
 use Rattle.yq_row_table.specs.Rows.{Cut}
 use Rattle.yq_documents.specs.Reading.{documents}
-use Rattle.yq_lookup.specs.declared.places.node_at.NodeAt as declared
+use Rattle.yq_places.specs.declared.places.node_at.NodeAt as declared
 
 -- What is told of a node: that it is an alias, which scalar it is, or that it is a sequence or a mapping, and whether that has several
 -- items or entries (3.2.1).

@@ -13,8 +13,8 @@ use Rattle.yq_outline.specs.Outline.{flatten}
 use Rattle.yq_outline.specs.Places.{lines_before, FoundLine, find}
 use Rattle.yq_documents.specs.declared.path.Part.TheVariants as parts
 use Rattle.yq_documents.specs.Pieces.{TextPiece, node_piece, head_piece, content_comment, gap_comment}
-use Rattle.yq_lookup.specs.PlacedRows.{PlacedPart, placed_document}
-use Rattle.yq_lookup.specs.PrintedLines.{PrintedLine, line_front, line_rest, print_line, print_lines, printed_lines, line_in, run_piece, lines_piece}
+use Rattle.yq_places.specs.PlacedRows.{PlacedPart, placed_document}
+use Rattle.yq_places.specs.PrintedLines.{PrintedLine, line_front, line_rest, print_line, print_lines, printed_lines, line_in, run_piece, lines_piece}
 
 -- A line and those under it, with the text before and behind them.
 pub record BlockEntry : Type 0 where

@@ -19,8 +19,8 @@ use Rattle.yq_outline.specs.Places.{content_under}
 use Rattle.yq_documents.specs.Reading.{read_at}
 use Rattle.yq_outline.specs.Positions.{has_no_mark}
 use Rattle.yq_documents.specs.Pieces.{TextPiece, HoldsPiece}
-use Rattle.yq_lookup.specs.PrintedLines.{PrintedLine, print_lines, printed_lines, line_in, run_piece}
-use Rattle.yq_lookup.specs.PathPieces.{PrintedDocument, printed_document, path_piece}
+use Rattle.yq_places.specs.PrintedLines.{PrintedLine, print_lines, printed_lines, line_in, run_piece}
+use Rattle.yq_places.specs.PathPieces.{PrintedDocument, printed_document, path_piece}
 
 -- A piece is an inline node without an anchor, which stands for a tree (7).
 pub record IsInlinePiece (p : TextPiece) (n : tree.Node) : Type 0 where

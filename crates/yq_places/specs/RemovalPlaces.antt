@@ -12,7 +12,7 @@ use Rattle.yq_outline.specs.Counts.{count}
 use Rattle.yq_outline.specs.Ends.{line_at_steps, lines_end}
 use Rattle.yq_outline.specs.Lines.{lines_of_rows}
 use Rattle.yq_documents.specs.Pieces.{before_run, last_run}
-use Rattle.yq_lookup.specs.PlacedRows.{PlacedPart, placed_document}
+use Rattle.yq_places.specs.PlacedRows.{PlacedPart, placed_document}
 use Rattle.yq_documents.specs.Reading.{documents}
 use Rattle.yq_documents.specs.LinesInRows.{row_line}
 

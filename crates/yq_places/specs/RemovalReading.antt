@@ -8,11 +8,11 @@ use Rattle.yq_row_table.specs.Rows.{Cut}
 use Rattle.yq_row_table.specs.View.{Slices, Bound, bounds_at, RowsView, rows_view}
 use Rattle.yq_documents.specs.Documents.{document_parts}
 use Rattle.yq_documents.specs.Reading.{cut_of}
-use Rattle.yq_lookup.specs.PlacedRows.{PlacedPart, placed_document}
-use Rattle.yq_lookup.specs.RemovalPlaces.{OwnRows, own_rows, Seam, Removal}
+use Rattle.yq_places.specs.PlacedRows.{PlacedPart, placed_document}
+use Rattle.yq_places.specs.RemovalPlaces.{OwnRows, own_rows, Seam, Removal}
 use Rattle.yq_documents.specs.LinesInRows.{document_row}
-use Rattle.yq_lookup.specs.declared.places.removal_place.Removal as declared
-use Rattle.yq_lookup.specs.declared.places.removal_place.Seam as seams
+use Rattle.yq_places.specs.declared.places.removal_place.Removal as declared
+use Rattle.yq_places.specs.declared.places.removal_place.Seam as seams
 
 -- the gap of a row and its column; or where a part ends in front of it, the gap at that end and 0
 abbrev pub gap_and_column : List Bound → Option Slices → List ℕ × ℕ

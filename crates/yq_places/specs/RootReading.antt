@@ -3,8 +3,8 @@ use Rattle.std.specs.Prelude.{ℕ, ◌++◌, length, Option, Some, None, option_
 use Rattle.yq_core.specs.Answers.{◌>>=◌}
 use Rattle.yq_row_table.specs.Grammar.{no_rows}
 use Rattle.yq_row_table.specs.Rows.{Cut}
-use Rattle.yq_lookup.specs.PlacedRows.{PlacedPart, placed_document}
-use Rattle.yq_lookup.specs.Standings.{NoRows}
+use Rattle.yq_places.specs.PlacedRows.{PlacedPart, placed_document}
+use Rattle.yq_places.specs.Standings.{NoRows}
 
 -- a document in its text, if it has no rows
 abbrev pub if_rowless : PlacedPart → Option NoRows

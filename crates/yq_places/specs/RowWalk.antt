@@ -16,7 +16,7 @@ use Rattle.yq_outline.specs.declared.line_position.KnownItem.{KnownItem}
 use Rattle.yq_outline.specs.declared.line_position.KnownItems.{KnownItems}
 use Rattle.yq_outline.specs.declared.line_position.Position.{Position}
 use Rattle.yq_outline.specs.declared.line_position.Stretch.{Stretch}
-use Rattle.yq_lookup.specs.declared.places.known_line.KnownLine.{KnownLine}
+use Rattle.yq_places.specs.declared.places.known_line.KnownLine.{KnownLine}
 
 -- An item stays known in each text in which the items of its cut stay that end in front of so many bytes.
 abbrev pub StaysKnown : ℕ → Cut → KnownItem → Type 0

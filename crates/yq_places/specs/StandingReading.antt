@@ -8,9 +8,9 @@ use Rattle.yq_row_table.specs.View.{RowsView, rows_view}
 use Rattle.yq_documents.specs.Documents.{document_parts}
 use Rattle.yq_documents.specs.Reading.{cut_of}
 use Rattle.yq_documents.specs.LinesInRows.{RowLine, document_row, row_line_of}
-use Rattle.yq_lookup.specs.PlacedRows.{PlacedPart, placed_document}
-use Rattle.yq_lookup.specs.Standings.{RowsOfEntry, under_count}
-use Rattle.yq_lookup.specs.declared.places.rows_of_entry.RowsOfEntry as declared
+use Rattle.yq_places.specs.PlacedRows.{PlacedPart, placed_document}
+use Rattle.yq_places.specs.Standings.{RowsOfEntry, under_count}
+use Rattle.yq_places.specs.declared.places.rows_of_entry.RowsOfEntry as declared
 use Rattle.yq_outline.specs.declared.line_position.Stretch.{Stretch}
 
 -- how many rows stand before the first one, how many lines of that before the one of the key or dash and before that of its mark, and how

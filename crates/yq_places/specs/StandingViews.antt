@@ -11,15 +11,15 @@ use Rattle.yq_documents.specs.LinesInRows.{document_row}
 use Rattle.yq_documents.specs.RowReading.{is_block_head}
 use Rattle.yq_outline.specs.Extents.{head_place, lines_before_mark}
 use Rattle.yq_outline.specs.declared.line_position.Position.{Position}
-use Rattle.yq_lookup.specs.Standings.{MarkPieces, Held, Lone, Compact, BlockRoot, NoRows, Standing, RowsOfEntry, alone, beside, under, compact, block, root, no_rows, held, rows_of_entry}
-use Rattle.yq_lookup.specs.declared.places.held.Held as declared_held
-use Rattle.yq_lookup.specs.declared.places.held_row.HeldRow as declared_row
-use Rattle.yq_lookup.specs.declared.places.held.Mark as declared_mark
-use Rattle.yq_lookup.specs.declared.places.standing.BlockRoot as declared_root
-use Rattle.yq_lookup.specs.declared.places.standing.Compact as declared_compact
-use Rattle.yq_lookup.specs.declared.places.standing.Lone as declared_lone
-use Rattle.yq_lookup.specs.declared.places.standing.NoRows as declared_no_rows
-use Rattle.yq_lookup.specs.declared.places.standing.Standing as declared
+use Rattle.yq_places.specs.Standings.{MarkPieces, Held, Lone, Compact, BlockRoot, NoRows, Standing, RowsOfEntry, alone, beside, under, compact, block, root, no_rows, held, rows_of_entry}
+use Rattle.yq_places.specs.declared.places.held.Held as declared_held
+use Rattle.yq_places.specs.declared.places.held_row.HeldRow as declared_row
+use Rattle.yq_places.specs.declared.places.held.Mark as declared_mark
+use Rattle.yq_places.specs.declared.places.standing.BlockRoot as declared_root
+use Rattle.yq_places.specs.declared.places.standing.Compact as declared_compact
+use Rattle.yq_places.specs.declared.places.standing.Lone as declared_lone
+use Rattle.yq_places.specs.declared.places.standing.NoRows as declared_no_rows
+use Rattle.yq_places.specs.declared.places.standing.Standing as declared
 
 -- a key or dash that the code lends
 abbrev pub held_mark_view : declared_mark.Mark → MarkPieces

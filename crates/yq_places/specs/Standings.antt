@@ -11,11 +11,11 @@ use Rattle.yq_row_table.specs.Rows.{Content, Nothing, Inline, Block, Cut, Row, b
 use Rattle.yq_row_table.specs.View.{Slices, slices}
 use Rattle.yq_outline.specs.Lines.{line_mark}
 use Rattle.yq_documents.specs.LinesInRows.{RowLine, row_line_of}
-use Rattle.yq_lookup.specs.CommentPlaces.{LineEnd, end_in_line}
-use Rattle.yq_lookup.specs.FlowNodes.{flow_collection}
-use Rattle.yq_lookup.specs.PlacedRows.{PlacedPart, placed_document}
-use Rattle.yq_lookup.specs.PrintedLines.{last_break, less_break}
-use Rattle.yq_lookup.specs.RowPieces.{anchor_before, past_dash, space_before, upto_dash}
+use Rattle.yq_places.specs.CommentPlaces.{LineEnd, end_in_line}
+use Rattle.yq_places.specs.FlowNodes.{flow_collection}
+use Rattle.yq_places.specs.PlacedRows.{PlacedPart, placed_document}
+use Rattle.yq_places.specs.PrintedLines.{last_break, less_break}
+use Rattle.yq_places.specs.RowPieces.{anchor_before, past_dash, space_before, upto_dash}
 use Rattle.yq_outline.specs.RowWalk.{deeper_rows, line_level}
 
 -- ---- the rows of an item or entry

@@ -8,8 +8,8 @@ use Rattle.std.specs.Ordering.{nat_cmp}
 use Rattle.yq_core.specs.Paths.{To, child_at, key_is}
 use Rattle.yq_core.specs.Tree.{Label, Node, Children}
 use Rattle.yq_core.specs.Anchors.{Name}
-use Rattle.yq_core.specs.Nodes.{node_of}
-use Rattle.yq_core.specs.declared.nodes.node.Node as nodes
+use Rattle.yq_nodes.specs.Nodes.{node_of}
+use Rattle.yq_nodes.specs.declared.nodes.node.Node as nodes
 use Rattle.yq_semantics.specs.Changes.{refers_to}
 
 -- what a map has for a text (own)

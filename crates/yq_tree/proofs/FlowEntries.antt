@@ -18,11 +18,11 @@ use Rattle.yq_documents.specs.Documents.{document_parts}
 use Rattle.yq_documents.specs.FlowReading.{row_flow}
 use Rattle.yq_documents.specs.Reading.{all_documents, cut_of}
 use Rattle.yq_documents.specs.LinesInRows.{RowLine, document_row}
-use Rattle.yq_lookup.specs.EntryReading.{entry_within, flow_entry_of}
-use Rattle.yq_lookup.specs.RowWalk.{document_row_range}
-use Rattle.yq_lookup.proofs.EntryPlaceLaws.{flow_left}
-use Rattle.yq_lookup.proofs.WalkDocuments.{place_found}
-use Rattle.yq_lookup.proofs.WalkNodes.{before_is, row_in_cut, row_is, row_line_is}
+use Rattle.yq_places.specs.EntryReading.{entry_within, flow_entry_of}
+use Rattle.yq_places.specs.RowWalk.{document_row_range}
+use Rattle.yq_places.proofs.EntryPlaceLaws.{flow_left}
+use Rattle.yq_places.proofs.WalkDocuments.{place_found}
+use Rattle.yq_places.proofs.WalkNodes.{before_is, row_in_cut, row_is, row_line_is}
 
 pub flow_found : (t : List ℕ) (s : RowsView) (i : ℕ) (d : Stretch) (q : Position) (steps left : List Step) (flow : Option Placed) (found : Option PlacedEntry) → IsCut t (cut_of t) → s ≡ rows_view (cut_of t) →
     Some (stretch_view d) ≡ document_row_range i (cut_of t) → all_documents (cut_of t) ≡ true → IsLine s d q → ((h : HasDocument s d) → Some (line_number d h.stand.rows q, left) ≡ reached steps (lines_of_rows h.stand.rows)) →

@@ -4,8 +4,8 @@ use Rattle.std.specs.Prelude.{IfSome}
 use Rattle.yq_core.specs.Paths.{Step}
 use Rattle.yq_core.specs.Entries.{tree_step}
 use Rattle.yq_documents.specs.Reading.{cut_of}
-use Rattle.yq_lookup.specs.FlowViews.{IsHeadFor, ReportsHead}
-use Rattle.yq_lookup.specs.declared.places.flow_node.FlowHead.{FlowHead}
+use Rattle.yq_places.specs.FlowViews.{IsHeadFor, ReportsHead}
+use Rattle.yq_places.specs.declared.places.flow_node.FlowHead.{FlowHead}
 use Rattle.yq_batch.proofs.RunAnswers.{stem_is}
 use Rattle.yq_batch.proofs.together.carry_together.Goals as goal
 

@@ -1,7 +1,7 @@
 use Rattle.std.proofs.Common.{◌≡◌, length, map}
 use Rattle.yq_core.specs.Entries.{tree_step}
 use Rattle.yq_documents.specs.Reading.{cut_of}
-use Rattle.yq_lookup.specs.FlowViews.{ReportsHead}
+use Rattle.yq_places.specs.FlowViews.{ReportsHead}
 use Rattle.yq_semantics.specs.Operations.{operations_of}
 use Rattle.yq_edit_laws.specs.Carried.{carry_all}
 use Rattle.yq_edit_laws.specs.Edit.{edit_behind}

@@ -3,7 +3,7 @@ use Rattle.std.proofs.lemmas.List.{map-append}
 use Rattle.yq_core.specs.Paths.{Step}
 use Rattle.yq_core.specs.Entries.{tree_step}
 use Rattle.yq_documents.specs.Located.{steps_of}
-use Rattle.yq_lookup.specs.Standings.{last_step}
+use Rattle.yq_places.specs.Standings.{last_step}
 use Rattle.yq_batch.proofs.RunAnswers.{ends_there}
 use Rattle.yq_batch.proofs.together.steps_in_head.Goals as goal
 

@@ -3,9 +3,9 @@ use Rattle.yq_core.specs.BlockWritten.{break_text}
 use Rattle.yq_row_table.specs.Rows.{cut_text}
 use Rattle.yq_documents.specs.Located.{steps_of}
 use Rattle.yq_documents.specs.Reading.{cut_of}
-use Rattle.yq_lookup.specs.CommentPlaces.{lines_above}
-use Rattle.yq_lookup.specs.CommentViews.{above_view}
-use Rattle.yq_lookup.specs.FirstBreak.{first_break}
+use Rattle.yq_places.specs.CommentPlaces.{lines_above}
+use Rattle.yq_places.specs.CommentViews.{above_view}
+use Rattle.yq_places.specs.FirstBreak.{first_break}
 use Rattle.yq_edits.specs.CommentEdits.{head_comment_segments}
 use Rattle.yq_block_edits.proofs.AboveLaws.{head_there}
 use Rattle.yq_block_edits.proofs.head_comment.head_comment_at.Goals as goal

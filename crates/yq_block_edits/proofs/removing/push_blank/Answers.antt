@@ -1,7 +1,7 @@
 use Rattle.std.proofs.Common.{◌≡◌, ◌++◌, List, sym, ap, ◌∙◌, subst}
 use Rattle.std.specs.Prelude.{OnOk}
 use Rattle.yq_core.specs.BlockRepair.{is_short}
-use Rattle.yq_lookup.specs.RemovalReading.{seam_view}
+use Rattle.yq_places.specs.RemovalReading.{seam_view}
 use Rattle.yq_text.specs.Script.{Segment}
 use Rattle.yq_block_edits.proofs.PushedLaws.{long_blank}
 use Rattle.yq_block_edits.proofs.removing.push_blank.Goals as goal

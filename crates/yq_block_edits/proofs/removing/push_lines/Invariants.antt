@@ -1,7 +1,7 @@
 use Rattle.std.proofs.Common.{◌≡◌, ◌++◌, length}
 use Rattle.std.specs.Str.{IsUtf8}
 use Rattle.yq_core.specs.Text.{text_lines}
-use Rattle.yq_lookup.specs.RemovalReading.{seam_view}
+use Rattle.yq_places.specs.RemovalReading.{seam_view}
 use Rattle.yq_edits.specs.Removing.{lines_mended}
 use Rattle.yq_block_edits.proofs.removing.push_lines.Given as goal
 

@@ -7,8 +7,8 @@ use Rattle.yq_flow_edits.specs.FlowPlaces.{edit_view}
 use Rattle.yq_outline.specs.Bodies.{borrowed}
 use Rattle.yq_documents.specs.Located.{steps_of}
 use Rattle.yq_documents.specs.Reading.{cut_of}
-use Rattle.yq_lookup.specs.FlowNodes.{flow_collection}
-use Rattle.yq_lookup.specs.FlowViews.{FlowAgrees}
+use Rattle.yq_places.specs.FlowNodes.{flow_collection}
+use Rattle.yq_places.specs.FlowViews.{FlowAgrees}
 use Rattle.yq_edits.specs.Answers.{GivesSegments}
 use Rattle.yq_edit_laws.specs.EditPlaces.{edit_segments, moved_on}
 use Rattle.yq_edit_laws.proofs.AppendAnswers.{more_apart, more_found}

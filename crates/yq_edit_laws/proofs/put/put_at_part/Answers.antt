@@ -8,7 +8,7 @@ use Rattle.yq_core.specs.View.{inline_view}
 use Rattle.yq_core.specs.Tree.{Node}
 use Rattle.yq_documents.specs.Located.{steps_of}
 use Rattle.yq_documents.specs.Reading.{cut_of}
-use Rattle.yq_lookup.specs.Standings.{flow_part, flow_standing, last_step}
+use Rattle.yq_places.specs.Standings.{flow_part, flow_standing, last_step}
 use Rattle.yq_edits.specs.Replacing.{keeps_scalar}
 use Rattle.yq_edits.specs.WrittenValues.{value_text}
 use Rattle.yq_edit_laws.specs.PartPuts.{IsHeadOfPath}

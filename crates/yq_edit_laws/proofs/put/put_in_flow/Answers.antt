@@ -5,9 +5,9 @@ use Rattle.yq_core.specs.Values.{value_node}
 use Rattle.yq_documents.specs.Located.{steps_of}
 use Rattle.yq_documents.specs.Reading.{cut_of}
 use Rattle.yq_flow_edits.specs.FlowPlaces.{edit_view}
-use Rattle.yq_lookup.specs.FlowNodes.{flow_collection}
-use Rattle.yq_lookup.specs.FlowViews.{FlowAgrees}
-use Rattle.yq_lookup.specs.Standings.{last_step}
+use Rattle.yq_places.specs.FlowNodes.{flow_collection}
+use Rattle.yq_places.specs.FlowViews.{FlowAgrees}
+use Rattle.yq_places.specs.Standings.{last_step}
 use Rattle.yq_edits.specs.Answers.{GivesSegments}
 use Rattle.yq_edit_laws.specs.EditPlaces.{LiesIn, moved_on}
 use Rattle.yq_edit_laws.specs.PartPuts.{ArePuts, IsHeadOfPath}

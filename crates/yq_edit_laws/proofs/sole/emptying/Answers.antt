@@ -4,8 +4,8 @@ use Rattle.yq_core.specs.Entries.{tree_step}
 use Rattle.yq_core.specs.Values.{value_node}
 use Rattle.yq_documents.specs.Located.{steps_of}
 use Rattle.yq_documents.specs.Reading.{cut_of}
-use Rattle.yq_lookup.specs.NodesAt.{node_view}
-use Rattle.yq_lookup.specs.Standings.{last_step}
+use Rattle.yq_places.specs.NodesAt.{node_view}
+use Rattle.yq_places.specs.Standings.{last_step}
 use Rattle.yq_edit_laws.specs.Emptying.{Emptied, emptying}
 use Rattle.yq_edit_laws.proofs.EmptyingAnswers.{emptying_is}
 use Rattle.yq_edit_laws.proofs.sole.emptying.Goals as goal

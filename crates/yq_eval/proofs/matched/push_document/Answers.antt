@@ -1,5 +1,5 @@
 use Rattle.std.proofs.Common.{List, map, sym, subst}
-use Rattle.yq_core.specs.Nodes.{node_of}
+use Rattle.yq_nodes.specs.Nodes.{node_of}
 use Rattle.yq_eval.specs.PlaceView.{places_of}
 use Rattle.yq_eval.specs.TreeScalars.{HaveScalars}
 use Rattle.yq_semantics.specs.View.{stage_of}

@@ -1,7 +1,7 @@
 use Rattle.std.proofs.Common.{◌≡◌, Err, List, map, refl, sym, ap, ◌∙◌, subst, arith}
 use Rattle.std.proofs.lemmas.Result.{err_from_is_err_and}
-use Rattle.yq_core.specs.Children.{left_of}
-use Rattle.yq_core.specs.Nodes.{label_of, node_of}
+use Rattle.yq_nodes.specs.Children.{left_of}
+use Rattle.yq_nodes.specs.Nodes.{label_of, node_of}
 use Rattle.yq_outline.specs.Counts.{count}
 use Rattle.yq_semantics.specs.Changes.{Changed, all_allowed, at_each}
 use Rattle.yq_planner.specs.ChangeView.{changed_of}

@@ -1,8 +1,8 @@
 use Rattle.std.proofs.Common.{◌≡◌, ◌+◌, ◌-◌, map}
 use Rattle.yq_core.specs.Tree.{Node}
 use Rattle.yq_core.specs.Anchors.{names_of}
-use Rattle.yq_core.specs.Children.{left_of}
-use Rattle.yq_core.specs.Nodes.{node_of}
+use Rattle.yq_nodes.specs.Children.{left_of}
+use Rattle.yq_nodes.specs.Nodes.{node_of}
 use Rattle.yq_outline.specs.Counts.{count}
 use Rattle.yq_semantics.specs.Changes.{at_each}
 use Rattle.yq_planner.specs.ChangeView.{changed_of}

@@ -1,6 +1,6 @@
 use Rattle.std.proofs.Common.{Vec, map, ap, subst}
 use Rattle.std.specs.declared.alloc.Global.{Global}
-use Rattle.yq_core.specs.Nodes.{node_of}
+use Rattle.yq_nodes.specs.Nodes.{node_of}
 use Rattle.yq_planner.specs.ChangeView.{changed_of}
 use Rattle.yq_semantics.specs.Judgement.{Judges}
 use Rattle.yq_eval.specs.FoundView.{found_places}

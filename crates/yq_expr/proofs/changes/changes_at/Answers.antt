@@ -1,6 +1,6 @@
 use Rattle.std.proofs.Common.{ℕ, List, Vec, map, sym, ap, ◌∙◌, subst}
 use Rattle.std.specs.declared.alloc.Global.{Global}
-use Rattle.yq_core.specs.Nodes.{node_of}
+use Rattle.yq_nodes.specs.Nodes.{node_of}
 use Rattle.yq_semantics.specs.Changes.{at_each, changes_at, comment_at}
 use Rattle.yq_planner.specs.ChangeView.{changed_of}
 use Rattle.yq_semantics.specs.Judgement.{Judges}

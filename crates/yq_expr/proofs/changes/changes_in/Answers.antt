@@ -1,5 +1,5 @@
 use Rattle.std.proofs.Common.{map}
-use Rattle.yq_core.specs.Nodes.{node_of}
+use Rattle.yq_nodes.specs.Nodes.{node_of}
 use Rattle.yq_semantics.specs.View.{stage_of}
 use Rattle.yq_eval.specs.FoundView.{found_places}
 use Rattle.yq_eval.proofs.MatchLaws.{places_have}

@@ -2,7 +2,7 @@ use Rattle.std.proofs.Common.{◌≡◌, if◌then◌else◌, Err, Vec, map, sym
 use Rattle.std.proofs.lemmas.Result.{err_from_is_err_and}
 use Rattle.std.specs.declared.alloc.Global.{Global}
 use Rattle.yq_core.specs.Values.{value_node}
-use Rattle.yq_core.specs.Nodes.{node_of}
+use Rattle.yq_nodes.specs.Nodes.{node_of}
 use Rattle.yq_semantics.specs.Changes.{add_at, put_with_path}
 use Rattle.yq_planner.specs.ChangeView.{changed_of}
 use Rattle.yq_semantics.specs.Judgement.{MatchFails, Judges, gives}

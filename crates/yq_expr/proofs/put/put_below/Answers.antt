@@ -1,6 +1,6 @@
 use Rattle.std.proofs.Common.{true, false, sym, ap, ◌∙◌}
 use Rattle.yq_core.specs.Values.{value_node}
-use Rattle.yq_core.specs.Nodes.{node_of}
+use Rattle.yq_nodes.specs.Nodes.{node_of}
 use Rattle.yq_semantics.specs.Judgement.{gives}
 use Rattle.yq_semantics.specs.View.{program_step}
 use Rattle.yq_expr.proofs.ChangeLaws.{put_first}

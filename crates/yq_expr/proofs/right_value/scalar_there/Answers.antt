@@ -1,7 +1,7 @@
 use Rattle.std.proofs.Common.{rules, ◌≡◌, ℕ, List, [], ◌∷◌, false, map, None, sym, ap, ◌∙◌}
 use Rattle.yq_core.specs.Tree.{scalar}
-use Rattle.yq_core.specs.Nodes.{node_of, kind_of}
-use Rattle.yq_core.specs.declared.nodes.node.NodeKind.TheVariants as kinds
+use Rattle.yq_nodes.specs.Nodes.{node_of, kind_of}
+use Rattle.yq_nodes.specs.declared.nodes.node.NodeKind.TheVariants as kinds
 use Rattle.yq_expr.proofs.SummandLaws.{scalar_copied}
 use Rattle.yq_eval.specs.PlaceView.{place_of}
 use Rattle.yq_semantics.specs.Conditions.{value_of}

@@ -1,6 +1,6 @@
 use Rattle.std.proofs.Common.{List, ℕ, subst}
 use Rattle.yq_documents.specs.Reading.{cut_of}
-use Rattle.yq_lookup.specs.RowWalk.{StayKnown}
+use Rattle.yq_places.specs.RowWalk.{StayKnown}
 use Rattle.yq_operation.proofs.operation.change_one.Goals as goal
 
 pub returns-clause-known : goal.returns-clause-known

@@ -1,6 +1,6 @@
 use Rattle.std.proofs.Common.{IfOk, ◌≡◌, cond, sym, ◌∙◌, ap, subst}
 use Rattle.yq_core.specs.BlockWritten.{break_text}
-use Rattle.yq_lookup.specs.StandingViews.{held_view}
+use Rattle.yq_places.specs.StandingViews.{held_view}
 use Rattle.yq_edits.specs.ReplaceEdits.{held_put, literal_put}
 use Rattle.yq_edits.specs.WrittenValues.{inline}
 use Rattle.yq_core.specs.Written.{double}

@@ -2,8 +2,8 @@ use Rattle.std.proofs.Common.{ℕ, List, [], ◌∷◌, ◌++◌, map, refl, sym
 use Rattle.std.proofs.lemmas.List.{map_push}
 use Rattle.yq_core.specs.Values.{field_of, value_node}
 use Rattle.yq_core.specs.Tree.{Node}
-use Rattle.yq_core.specs.Children.{left_of}
-use Rattle.yq_core.specs.Nodes.{label_of, node_of}
+use Rattle.yq_nodes.specs.Children.{left_of}
+use Rattle.yq_nodes.specs.Nodes.{label_of, node_of}
 use Rattle.yq_semantics.specs.Copies.{item_copies, entry_copies}
 use Rattle.yq_eval.specs.PlaceView.{put_behind}
 use Rattle.yq_eval.specs.TreeScalars.{EachHasScalars}

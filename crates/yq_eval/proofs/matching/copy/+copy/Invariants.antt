@@ -2,9 +2,9 @@ use Rattle.std.proofs.Common.{◌≡◌, ◌+◌, ◌*◌, ◌≤◌, map}
 use Rattle.yq_core.specs.Values.{field_of, value_node}
 use Rattle.yq_core.specs.Keys.{depth, deepest}
 use Rattle.yq_core.specs.Tree.{children_of}
-use Rattle.yq_core.specs.Children.{left_of}
+use Rattle.yq_nodes.specs.Children.{left_of}
 use Rattle.yq_outline.specs.Counts.{count}
-use Rattle.yq_core.specs.Nodes.{node_of}
+use Rattle.yq_nodes.specs.Nodes.{node_of}
 use Rattle.yq_semantics.specs.Copies as spec
 use Rattle.yq_eval.specs.PlaceView.{put_behind}
 use Rattle.yq_eval.specs.TreeScalars.{EachHasScalars}

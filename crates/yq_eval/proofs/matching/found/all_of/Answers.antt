@@ -1,5 +1,5 @@
 use Rattle.std.proofs.Common.{rules, sym, ap, ◌∙◌, subst}
-use Rattle.yq_core.specs.Nodes.{node_of}
+use Rattle.yq_nodes.specs.Nodes.{node_of}
 use Rattle.yq_eval.specs.FoundView.{child_places, found_places}
 use Rattle.yq_eval.specs.PlaceView.{path_of, places_of}
 use Rattle.yq_semantics.specs.Judgement.{Judges, gives}

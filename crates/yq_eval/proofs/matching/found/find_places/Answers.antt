@@ -1,6 +1,6 @@
 use Rattle.std.proofs.Common.{◌≡◌, List, [], ◌∷◌, Err, map, sym, ap, ◌∙◌, subst}
 use Rattle.std.proofs.lemmas.Result.{err_from_is_err_and}
-use Rattle.yq_core.specs.Nodes.{node_of}
+use Rattle.yq_nodes.specs.Nodes.{node_of}
 use Rattle.yq_eval.specs.FoundView.{found_places}
 use Rattle.yq_eval.specs.PlaceView.{places_of}
 use Rattle.yq_eval.specs.declared.matching.place.Place as declared

@@ -1,5 +1,5 @@
 use Rattle.std.proofs.Common.{ap, ◌∙◌}
-use Rattle.yq_lookup.specs.FirstBreak.{first_break}
+use Rattle.yq_places.specs.FirstBreak.{first_break}
 use Rattle.yq_lookup.proofs.cut_text.CutText.first_break.Goals as goal
 
 pub returns : goal.returns

@@ -4,10 +4,10 @@ use Rattle.yq_row_table.specs.Grammar.{IsCut}
 use Rattle.yq_row_table.specs.View.{rows_view}
 use Rattle.yq_documents.specs.Located.{steps_of}
 use Rattle.yq_documents.specs.Reading.{cut_of}
-use Rattle.yq_lookup.specs.StandingReading.{numbers_at}
-use Rattle.yq_lookup.specs.StandingViews.{held_at}
-use Rattle.yq_lookup.proofs.EntryNumbers.{entry_found}
-use Rattle.yq_lookup.proofs.StandingViewLaws.{held_there, no_held, other_held}
+use Rattle.yq_places.specs.StandingReading.{numbers_at}
+use Rattle.yq_places.specs.StandingViews.{held_at}
+use Rattle.yq_places.proofs.EntryNumbers.{entry_found}
+use Rattle.yq_places.proofs.StandingViewLaws.{held_there, no_held, other_held}
 use Rattle.yq_lookup.proofs.cut_text.CutText.held.Goals as goal
 
 pub returns-in_err-entry : goal.returns-in_err-entry

@@ -6,11 +6,11 @@ use Rattle.yq_core.specs.Paths.{Step}
 use Rattle.yq_outline.specs.Lines.{lines_of_rows}
 use Rattle.yq_documents.specs.Reading.{cut_of}
 use Rattle.yq_outline.specs.View.{head_view}
-use Rattle.yq_lookup.specs.NodeReading.{NodePlace, place_node, place_view}
-use Rattle.yq_lookup.proofs.NodeAtLaws.{node_among, block_numbers_of, head_agrees, node_is}
-use Rattle.yq_lookup.proofs.RowHeads.{line_fit, line_within}
-use Rattle.yq_lookup.proofs.WalkDocuments.{found_document, found_in_cut, place_found}
-use Rattle.yq_lookup.proofs.WalkNodes.{row_is, row_in_cut}
+use Rattle.yq_places.specs.NodeReading.{NodePlace, place_node, place_view}
+use Rattle.yq_places.proofs.NodeAtLaws.{node_among, block_numbers_of, head_agrees, node_is}
+use Rattle.yq_places.proofs.RowHeads.{line_fit, line_within}
+use Rattle.yq_places.proofs.WalkDocuments.{found_document, found_in_cut, place_found}
+use Rattle.yq_places.proofs.WalkNodes.{row_is, row_in_cut}
 use Rattle.yq_lookup.proofs.CutRows.{rows_are_view, items_known, line_known}
 use Rattle.yq_lookup.proofs.cut_text.CutText.node_at.Goals as goal
 

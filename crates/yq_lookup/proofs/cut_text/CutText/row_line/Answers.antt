@@ -1,7 +1,7 @@
 use Rattle.std.proofs.Common.{map, ap}
 use Rattle.yq_core.specs.Entries.{tree_step}
 use Rattle.yq_documents.specs.Reading.{cut_of}
-use Rattle.yq_lookup.proofs.WalkDocuments.{found_document, row_line_found}
+use Rattle.yq_places.proofs.WalkDocuments.{found_document, row_line_found}
 use Rattle.yq_lookup.proofs.CutRows.{rows_are_view, items_known}
 use Rattle.yq_lookup.proofs.cut_text.CutText.row_line.Goals as goal
 

@@ -1,7 +1,7 @@
 use Rattle.std.proofs.Common.{Some, ap, ◌∙◌}
 use Rattle.yq_row_table.specs.View.{bound_view}
 use Rattle.yq_documents.specs.Reading.{cut_of}
-use Rattle.yq_lookup.proofs.RootPlaceLaws.{written_none, end_there, no_end}
+use Rattle.yq_places.proofs.RootPlaceLaws.{written_none, end_there, no_end}
 use Rattle.yq_lookup.proofs.cut_text.CutText.rowless_end.Goals as goal
 
 pub returns-in_err-part : goal.returns-in_err-part

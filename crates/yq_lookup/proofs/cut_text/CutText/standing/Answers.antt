@@ -4,9 +4,9 @@ use Rattle.yq_core.specs.Entries.{tree_step}
 use Rattle.yq_text.specs.Halves.{halves_text}
 use Rattle.yq_documents.specs.Located.{steps_of}
 use Rattle.yq_documents.specs.Reading.{cut_of}
-use Rattle.yq_lookup.specs.Standings.{standing_at}
-use Rattle.yq_lookup.proofs.EntryNumbers.{entry_found}
-use Rattle.yq_lookup.proofs.StandingViewLaws.{no_standing, some_steps, standing_there}
+use Rattle.yq_places.specs.Standings.{standing_at}
+use Rattle.yq_places.proofs.EntryNumbers.{entry_found}
+use Rattle.yq_places.proofs.StandingViewLaws.{no_standing, some_steps, standing_there}
 use Rattle.yq_lookup.proofs.cut_text.CutText.standing.Goals as goal
 
 pub entry_standing-requires : goal.entry_standing-requires

@@ -1,6 +1,6 @@
 use Rattle.yq_row_table.specs.View.{bound_view}
 use Rattle.yq_documents.specs.Reading.{cut_of}
-use Rattle.yq_lookup.proofs.WalkDocuments.{rows_known, no_rows_view}
+use Rattle.yq_places.proofs.WalkDocuments.{rows_known, no_rows_view}
 use Rattle.yq_lookup.proofs.cut_text.CutText.stretch.Goals as goal
 
 pub returns-in_err-part-clause-place : goal.returns-in_err-part-clause-place

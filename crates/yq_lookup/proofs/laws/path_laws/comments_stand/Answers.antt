@@ -1,4 +1,4 @@
-use Rattle.yq_lookup.proofs.CommentStandLaws.{comments_stand}
+use Rattle.yq_places.proofs.CommentStandLaws.{comments_stand}
 use Rattle.yq_lookup.proofs.laws.path_laws.comments_stand.Goals as goal
 
 pub returns : goal.returns

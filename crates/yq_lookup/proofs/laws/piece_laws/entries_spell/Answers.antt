@@ -1,4 +1,4 @@
-use Rattle.yq_lookup.proofs.PieceSpelling.{entries_spell}
+use Rattle.yq_places.proofs.PieceSpelling.{entries_spell}
 use Rattle.yq_lookup.proofs.laws.piece_laws.entries_spell.Goals as goal
 
 pub returns : goal.returns

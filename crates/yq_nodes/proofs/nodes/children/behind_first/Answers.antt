@@ -4,7 +4,7 @@ use Rattle.yq_documents.specs.Stretches.{document_lines, number_of}
 use Rattle.yq_outline.proofs.ChildLaws.{first_child}
 use Rattle.yq_documents.proofs.WalkedRows.{line_here, stands, agrees_rows}
 use Rattle.yq_documents.proofs.NodeLines.{no_children}
-use Rattle.yq_core.proofs.nodes.children.behind_first.Goals as goal
+use Rattle.yq_nodes.proofs.nodes.children.behind_first.Goals as goal
 
 pub document_rows-requires : goal.document_rows-requires
 document_rows-requires c = c.args.under.there

@@ -1,6 +1,6 @@
 use Rattle.std.proofs.Common.{arith, sym, ◌∙◌}
 use Rattle.yq_documents.proofs.FlowLaws.{entry_found, entry_past, entry_missing}
-use Rattle.yq_core.proofs.nodes.flow.entry_at.Goals as goal
+use Rattle.yq_nodes.proofs.nodes.flow.entry_at.Goals as goal
 
 pub returns-then-eq : goal.returns-then-eq
 returns-then-eq c = entry_found c.args.key.now c.args.entries.now c.each.entry-index c.entry-item.result c.entry-item.result c.as_str-then-eq.result.now _ (omega (arith, c.each-test.true)) c.entry-item.is c.as_str-then-eq.ensures.value

@@ -3,7 +3,7 @@ use Rattle.yq_core.specs.Trees.{parts_tree}
 use Rattle.yq_core.specs.View.{entries_end}
 use Rattle.yq_core.specs.Paths.{To}
 use Rattle.yq_outline.specs.Labelled.{labelled_at}
-use Rattle.yq_core.proofs.nodes.flow.entry_at.Given as goal
+use Rattle.yq_nodes.proofs.nodes.flow.entry_at.Given as goal
 
 -- what is looked for is what is looked for from here on
 abbrev pub invariant-each : goal.invariant-each

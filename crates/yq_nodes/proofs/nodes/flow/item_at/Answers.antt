@@ -1,5 +1,5 @@
 use Rattle.yq_documents.proofs.FlowLaws.{item_found, item_missing}
-use Rattle.yq_core.proofs.nodes.flow.item_at.Goals as goal
+use Rattle.yq_nodes.proofs.nodes.flow.item_at.Goals as goal
 
 pub returns-in-Some : goal.returns-in-Some
 returns-in-Some c = item_found c.args.items.now c.args.index c.in-Some.item.now _ c.in-Some.ensures.lookup.0 c.in-Some.ensures.lookup.1

@@ -1,7 +1,7 @@
 use Rattle.std.proofs.Common.{◌≤◌, arith, ◌∙◌}
 use Rattle.yq_documents.proofs.WalkedRows.{row_in}
 use Rattle.yq_documents.proofs.LineWritten.{anchor_before, anchor_last}
-use Rattle.yq_core.proofs.nodes.heads.line_anchor.Goals as goal
+use Rattle.yq_nodes.proofs.nodes.heads.line_anchor.Goals as goal
 
 pub lines_before_mark-requires : goal.lines_before_mark-requires
 lines_before_mark-requires c = row_in c.document_rows.ensures c.requires.line

@@ -1,7 +1,7 @@
 use Rattle.std.proofs.Common.{arith}
 use Rattle.yq_documents.proofs.WalkedRows.{row_in}
 use Rattle.yq_documents.proofs.LineWritten.{gap_first, gap_later}
-use Rattle.yq_core.proofs.nodes.heads.line_gap.Goals as goal
+use Rattle.yq_nodes.proofs.nodes.heads.line_gap.Goals as goal
 
 pub returns-then-at-gt0 : goal.returns-then-at-gt0
 returns-then-at-gt0 c = λ l e. gap_later c.document_rows.ensures c.requires.line l e c.if-at-gt0.true

@@ -6,7 +6,7 @@ use Rattle.yq_core.specs.Quoted.{IsQuotedText}
 use Rattle.yq_documents.specs.Decoded.{borrowed_head, decoded_or}
 use Rattle.yq_documents.proofs.WalkedRows.{line_here, located_in, of_line, row_in, row_there, stands}
 use Rattle.yq_documents.proofs.LineWritten.{head_none, head_quoted, head_some}
-use Rattle.yq_core.proofs.nodes.heads.line_head.Goals as goal
+use Rattle.yq_nodes.proofs.nodes.heads.line_head.Goals as goal
 
 pub returns-then-not-has_head : goal.returns-then-not-has_head
 returns-then-not-has_head c = λ l e. head_none l.head (of_line c.document_rows.ensures c.args.at (λ m. false ≡ is_some m.head) c.if-not-has_head.ensures l e)

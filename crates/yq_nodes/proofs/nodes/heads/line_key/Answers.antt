@@ -4,7 +4,7 @@ use Rattle.yq_outline.proofs.WalkMarks.{quoted_agrees}
 use Rattle.yq_documents.specs.Decoded.{decoded_key}
 use Rattle.yq_documents.proofs.WalkedRows.{line_here, located_in, row_in, row_there, stands}
 use Rattle.yq_documents.proofs.LineWritten.{no_key, own_key}
-use Rattle.yq_core.proofs.nodes.heads.line_key.Goals as goal
+use Rattle.yq_nodes.proofs.nodes.heads.line_key.Goals as goal
 
 pub returns-then-rank_at-ne2 : goal.returns-then-rank_at-ne2
 returns-then-rank_at-ne2 c = λ l e. no_key c.document_rows.ensures c.requires.line l e c.rank_at.result c.rank_at.ensures c.if-rank_at-ne2.true

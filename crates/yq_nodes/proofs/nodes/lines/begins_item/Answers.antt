@@ -2,7 +2,7 @@ use Rattle.std.proofs.Common.{◌≡◌}
 use Rattle.yq_outline.specs.Outline.{key_of}
 use Rattle.yq_core.specs.Paths.{is_item}
 use Rattle.yq_documents.proofs.WalkedRows.{line_here, of_line, stands}
-use Rattle.yq_core.proofs.nodes.lines.begins_item.Goals as goal
+use Rattle.yq_nodes.proofs.nodes.lines.begins_item.Goals as goal
 
 pub returns : goal.returns
 returns c = of_line c.document_rows.ensures c.args.at (λ l. c.is_item_at.result ≡ is_item (key_of l.mark)) c.is_item_at.ensures

@@ -1,7 +1,7 @@
 use Rattle.std.proofs.Common.{◌≡◌}
 use Rattle.yq_outline.specs.Positions.{has_no_mark}
 use Rattle.yq_documents.proofs.WalkedRows.{line_here, of_line, stands}
-use Rattle.yq_core.proofs.nodes.lines.begins_node.Goals as goal
+use Rattle.yq_nodes.proofs.nodes.lines.begins_node.Goals as goal
 
 pub returns : goal.returns
 returns c = of_line c.document_rows.ensures c.args.at (λ l. c.is_bare.result ≡ has_no_mark l.mark) c.is_bare.ensures

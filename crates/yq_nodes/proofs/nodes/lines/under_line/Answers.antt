@@ -4,7 +4,7 @@ use Rattle.yq_outline.specs.Ends.{part}
 use Rattle.yq_outline.specs.Outline.{level}
 use Rattle.yq_documents.specs.Stretches.{document_lines, number_of}
 use Rattle.yq_documents.proofs.WalkedRows.{line_here, located_in, own_line, row_in, stands, agrees_rows}
-use Rattle.yq_core.proofs.nodes.lines.under_line.Goals as goal
+use Rattle.yq_nodes.proofs.nodes.lines.under_line.Goals as goal
 
 pub next-requires-clause-document : goal.next-requires-clause-document
 next-requires-clause-document c = stands c.document_rows.ensures

@@ -1,6 +1,6 @@
 use Rattle.yq_outline.proofs.AliasLaws.{none_part}
 use Rattle.yq_documents.specs.Stretches.{document_lines, number_of}
-use Rattle.yq_core.proofs.nodes.node.body_refers.Goals as goal
+use Rattle.yq_nodes.proofs.nodes.node.body_refers.Goals as goal
 
 pub returns-in-Map : goal.returns-in-Map
 returns-in-Map c = λ no.

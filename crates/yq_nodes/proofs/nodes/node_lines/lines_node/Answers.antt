@@ -3,10 +3,10 @@ use Rattle.yq_outline.specs.Bodies.{borrowed}
 use Rattle.yq_outline.specs.Outline.{first_anchor, anchored, head_or, value}
 use Rattle.yq_outline.proofs.EndsLaws.{deeper_line, not_end}
 use Rattle.yq_outline.proofs.NodeLaws.{map_value, list_value, bare_value}
-use Rattle.yq_core.specs.Bodies.{body_node}
+use Rattle.yq_nodes.specs.Bodies.{body_node}
 use Rattle.yq_documents.specs.Stretches.{document_lines, number_of, lines_under}
 use Rattle.yq_documents.proofs.NodeLines.{bare_mark, dash_mark, key_mark, no_value}
-use Rattle.yq_core.proofs.nodes.node_lines.lines_node.Goals as goal
+use Rattle.yq_nodes.proofs.nodes.node_lines.lines_node.Goals as goal
 
 pub returns-then-begins_item : goal.returns-then-begins_item
 returns-then-begins_item c =

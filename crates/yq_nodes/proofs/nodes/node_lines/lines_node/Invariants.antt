@@ -1,9 +1,9 @@
 use Rattle.std.proofs.Common.{◌≡◌}
 use Rattle.yq_outline.specs.Bodies.{borrowed}
 use Rattle.yq_outline.specs.Outline.{anchored, value}
-use Rattle.yq_core.specs.Bodies.{body_outline}
-use Rattle.yq_core.specs.Children.{lines_left}
-use Rattle.yq_core.proofs.nodes.node_lines.lines_node.Given as goal
+use Rattle.yq_nodes.specs.Bodies.{body_outline}
+use Rattle.yq_nodes.specs.Children.{lines_left}
+use Rattle.yq_nodes.proofs.nodes.node_lines.lines_node.Given as goal
 
 -- what the lines stand for is what those from here on do
 abbrev pub invariant-bare : goal.invariant-bare

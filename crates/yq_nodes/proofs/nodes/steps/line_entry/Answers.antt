@@ -4,10 +4,10 @@ use Rattle.yq_outline.specs.Ends.{part}
 use Rattle.yq_outline.specs.Places.{find_row}
 use Rattle.yq_outline.specs.Positions.{line_here, position}
 use Rattle.yq_outline.proofs.ChildLaws.{child_position, child_found}
-use Rattle.yq_core.specs.Nodes.{label_of, node_of}
+use Rattle.yq_nodes.specs.Nodes.{label_of, node_of}
 use Rattle.yq_documents.specs.Stretches.{document_lines, number_of}
 use Rattle.yq_documents.proofs.WalkedRows.{document_in, line_back, position_here, agrees_document}
-use Rattle.yq_core.proofs.nodes.steps.line_entry.Goals as goal
+use Rattle.yq_nodes.proofs.nodes.steps.line_entry.Goals as goal
 
 pub document_rows-requires : goal.document_rows-requires
 document_rows-requires c = c.args.under.there

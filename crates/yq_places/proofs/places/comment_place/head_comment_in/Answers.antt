@@ -1,7 +1,7 @@
 use Rattle.std.proofs.Common.{length, ap, arith}
 use Rattle.yq_row_table.specs.View.{row_view}
 use Rattle.yq_outline.proofs.LengthLaws.{row_fits, view_small}
-use Rattle.yq_lookup.proofs.places.comment_place.head_comment_in.Goals as goal
+use Rattle.yq_places.proofs.places.comment_place.head_comment_in.Goals as goal
 
 pub gap_comment-requires : goal.gap_comment-requires
 gap_comment-requires c =

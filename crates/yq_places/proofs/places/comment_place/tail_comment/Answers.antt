@@ -1,6 +1,6 @@
 use Rattle.std.proofs.Common.{arith}
-use Rattle.yq_lookup.proofs.CommentPlaceLaws.{tail_fits}
-use Rattle.yq_lookup.proofs.places.comment_place.tail_comment.Goals as goal
+use Rattle.yq_places.proofs.CommentPlaceLaws.{tail_fits}
+use Rattle.yq_places.proofs.places.comment_place.tail_comment.Goals as goal
 
 pub overflow_add-end : goal.overflow_add-end
 overflow_add-end c =

@@ -3,10 +3,10 @@ use Rattle.std.proofs.lemmas.Option.{slice_get_within}
 use Rattle.yq_core.specs.Answers.{◌>>=◌}
 use Rattle.yq_outline.specs.Lines.{lines_of_rows}
 use Rattle.yq_outline.proofs.LineEnds.{end_agrees}
-use Rattle.yq_lookup.specs.EntryReading.{line_entry, lines_place}
+use Rattle.yq_places.specs.EntryReading.{line_entry, lines_place}
 use Rattle.yq_outline.specs.RowWalk.{line_number}
 use Rattle.yq_outline.proofs.WalkPositions.{line_position, located}
-use Rattle.yq_lookup.proofs.places.entry_place.entry_of.Goals as goal
+use Rattle.yq_places.proofs.places.entry_place.entry_of.Goals as goal
 
 pub returns-in_err-at : goal.returns-in_err-at
 returns-in_err-at c = rw c.from_residual.ensures (λ cut k. ap (λ (o : Option ℕ). o >>= line_entry c.args.document.first cut k.document.stand.rows) (c.in_err-at.ensures.found k.document))

@@ -1,6 +1,6 @@
 use Rattle.std.proofs.Common.{arith}
-use Rattle.yq_lookup.proofs.WalkLines.{lines_view}
-use Rattle.yq_lookup.proofs.places.entry_place.lines_place.Goals as goal
+use Rattle.yq_places.proofs.WalkLines.{lines_view}
+use Rattle.yq_places.proofs.places.entry_place.lines_place.Goals as goal
 
 pub line_start-requires-clause-within : goal.line_start-requires-clause-within
 line_start-requires-clause-within c = omega (arith, c.requires.some, c.requires.lines.stop.upto, c.requires.document.stand.within)

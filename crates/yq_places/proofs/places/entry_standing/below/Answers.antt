@@ -3,11 +3,11 @@ use Rattle.std.proofs.lemmas.Option.{same_Some}
 use Rattle.yq_text.specs.Halves.{halves_text}
 use Rattle.yq_row_table.specs.Rows.{rows_text}
 use Rattle.yq_row_table.specs.View.{Slices}
-use Rattle.yq_lookup.specs.Standings as spec
-use Rattle.yq_lookup.specs.Standings.{behind_entry}
-use Rattle.yq_lookup.proofs.EntryRowLaws.{pieces_at, row_valid, row_within}
-use Rattle.yq_lookup.proofs.StandingViewLaws.{alone_is, has_under, next_entry, none_below, under_is}
-use Rattle.yq_lookup.proofs.places.entry_standing.below.Goals as goal
+use Rattle.yq_places.specs.Standings as spec
+use Rattle.yq_places.specs.Standings.{behind_entry}
+use Rattle.yq_places.proofs.EntryRowLaws.{pieces_at, row_valid, row_within}
+use Rattle.yq_places.proofs.StandingViewLaws.{alone_is, has_under, next_entry, none_below, under_is}
+use Rattle.yq_places.proofs.places.entry_standing.below.Goals as goal
 
 pub returns-then-next-at : goal.returns-then-next-at
 returns-then-next-at c = λ e h. ap spec.beside (c.held_in.ensures e h) ∙ none_below (halves_text c.args.text) c.args.rows.now e c.args.at h c.if-next-at.true

@@ -3,13 +3,13 @@ use Rattle.std.proofs.lemmas.Option.{same_Some}
 use Rattle.yq_text.specs.Halves.{halves_text}
 use Rattle.yq_core.specs.Text.{is_empty}
 use Rattle.yq_row_table.specs.View.{Slices, row_view}
-use Rattle.yq_lookup.specs.CommentPlaces.{end_in_line}
-use Rattle.yq_lookup.specs.LineReading.{lines_view}
+use Rattle.yq_places.specs.CommentPlaces.{end_in_line}
+use Rattle.yq_places.specs.LineReading.{lines_view}
 use Rattle.yq_outline.specs.RowWalk.{line_column}
-use Rattle.yq_lookup.proofs.EntryRowLaws.{column_fits, last_within, pieces_at, row_within, is_view}
-use Rattle.yq_lookup.proofs.HeldTexts.{column_is}
-use Rattle.yq_lookup.proofs.LoneLaws.{dash_cut, dash_fits, dash_lines}
-use Rattle.yq_lookup.proofs.places.entry_standing.compact_in.Goals as goal
+use Rattle.yq_places.proofs.EntryRowLaws.{column_fits, last_within, pieces_at, row_within, is_view}
+use Rattle.yq_places.proofs.HeldTexts.{column_is}
+use Rattle.yq_places.proofs.LoneLaws.{dash_cut, dash_fits, dash_lines}
+use Rattle.yq_places.proofs.places.entry_standing.compact_in.Goals as goal
 
 pub row-row-requires : goal.row-row-requires
 row-row-requires c = let h = c.requires.entry in row_within (halves_text c.args.text) c.args.rows.now h.entry c.args.at.row c.args.at.end h.is.rows

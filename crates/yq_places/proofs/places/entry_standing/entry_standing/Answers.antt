@@ -5,11 +5,11 @@ use Rattle.yq_core.specs.Text.{is_empty}
 use Rattle.yq_row_table.specs.Removal.{block_of}
 use Rattle.yq_row_table.specs.View.{Slices}
 use Rattle.yq_documents.specs.Reading.{cut_of}
-use Rattle.yq_lookup.specs.Standings as spec
-use Rattle.yq_lookup.proofs.EntryRowLaws.{first_at, pieces_at, row_within}
-use Rattle.yq_lookup.proofs.LinesCutLaws.{none_is}
-use Rattle.yq_lookup.proofs.StandingViewLaws.{below_here, beside_here, block_here, no_block, some_block}
-use Rattle.yq_lookup.proofs.places.entry_standing.entry_standing.Goals as goal
+use Rattle.yq_places.specs.Standings as spec
+use Rattle.yq_places.proofs.EntryRowLaws.{first_at, pieces_at, row_within}
+use Rattle.yq_places.proofs.LinesCutLaws.{none_is}
+use Rattle.yq_places.proofs.StandingViewLaws.{below_here, beside_here, block_here, no_block, some_block}
+use Rattle.yq_places.proofs.places.entry_standing.entry_standing.Goals as goal
 
 pub block-requires : goal.block-requires
 block-requires c = let h = c.requires in row_within (halves_text c.args.text) c.args.rows.now h.entry c.args.at.row c.args.at.end h.is.rows

@@ -1,7 +1,7 @@
 use Rattle.std.proofs.Common.{sym, ◌∙◌}
 use Rattle.yq_row_table.specs.View.{row_view}
-use Rattle.yq_lookup.proofs.StandingViewLaws.{else_alone, then_alone}
-use Rattle.yq_lookup.proofs.places.entry_standing.is_alone.Goals as goal
+use Rattle.yq_places.proofs.StandingViewLaws.{else_alone, then_alone}
+use Rattle.yq_places.proofs.places.entry_standing.is_alone.Goals as goal
 
 pub returns-then-is_empty : goal.returns-then-is_empty
 returns-then-is_empty c = λ r rest is h.

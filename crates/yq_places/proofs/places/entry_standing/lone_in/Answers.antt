@@ -1,9 +1,9 @@
 use Rattle.std.proofs.Common.{refl}
 use Rattle.yq_text.specs.Halves.{halves_text}
 use Rattle.yq_row_table.specs.View.{row_view}
-use Rattle.yq_lookup.proofs.EntryRowLaws.{row_within, is_view}
-use Rattle.yq_lookup.proofs.LoneLaws.{end_boundary, lone_is, start_boundary}
-use Rattle.yq_lookup.proofs.places.entry_standing.lone_in.Goals as goal
+use Rattle.yq_places.proofs.EntryRowLaws.{row_within, is_view}
+use Rattle.yq_places.proofs.LoneLaws.{end_boundary, lone_is, start_boundary}
+use Rattle.yq_places.proofs.places.entry_standing.lone_in.Goals as goal
 
 pub row-row-requires : goal.row-row-requires
 row-row-requires c = let h = c.requires in row_within (halves_text c.args.text) c.args.rows.now h.entry c.args.i h.end h.is

@@ -1,7 +1,7 @@
 use Rattle.std.proofs.Common.{arith, length-append}
 use Rattle.yq_text.specs.Halves.{halves_text}
-use Rattle.yq_lookup.proofs.FirstBreakLaws.{feed_agrees, return_agrees}
-use Rattle.yq_lookup.proofs.places.first_break.break_of.Goals as goal
+use Rattle.yq_places.proofs.FirstBreakLaws.{feed_agrees, return_agrees}
+use Rattle.yq_places.proofs.places.first_break.break_of.Goals as goal
 
 pub returns-then-len-eq2 : goal.returns-then-len-eq2
 returns-then-len-eq2 c = return_agrees (halves_text c.args.text) (halves_text c.split_line.result.0) (halves_text c.split_line.result.1) (halves_text c.split_break.result.1) c.len.result c.split_line.ensures c.split_break.ensures.rest c.len.ensures c.if-len-eq2.true

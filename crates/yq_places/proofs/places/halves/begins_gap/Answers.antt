@@ -1,6 +1,6 @@
 use Rattle.std.proofs.Common.{arith, length-append, rules}
-use Rattle.yq_lookup.proofs.HalvesLaws.{gap_break, gap_hash}
-use Rattle.yq_lookup.proofs.places.halves.begins_gap.Goals as goal
+use Rattle.yq_places.proofs.HalvesLaws.{gap_break, gap_hash}
+use Rattle.yq_places.proofs.places.halves.begins_gap.Goals as goal
 
 pub returns-then-is_break : goal.returns-then-is_break
 returns-then-is_break c = search (rules, gap_break)

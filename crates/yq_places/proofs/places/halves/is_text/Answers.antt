@@ -1,6 +1,6 @@
 use Rattle.std.proofs.Common.{rules}
 use Rattle.std.proofs.lemmas.Str.{IsUtf8-append}
-use Rattle.yq_lookup.proofs.places.halves.is_text.Goals as goal
+use Rattle.yq_places.proofs.places.halves.is_text.Goals as goal
 
 pub returns : goal.returns
 returns c = IsUtf8-append c.args.text.front.now c.args.text.back.now (search rules) (search rules)

@@ -1,7 +1,7 @@
 use Rattle.std.proofs.Common.{length, sym, ap, ◌∙◌, arith, rules}
 use Rattle.yq_text.specs.Halves.{halves_text}
-use Rattle.yq_lookup.proofs.FirstLaws.{none_less, some_less, step_less}
-use Rattle.yq_lookup.proofs.places.halves.less_spaces_len.Goals as goal
+use Rattle.yq_places.proofs.FirstLaws.{none_less, some_less, step_less}
+use Rattle.yq_places.proofs.places.halves.less_spaces_len.Goals as goal
 
 pub spaces-preserved : goal.spaces-preserved
 spaces-preserved c = search (rules, step_less)

@@ -2,10 +2,10 @@ use Rattle.std.proofs.Common.{length, take, drop, sym, ap, ◌∙◌, subst}
 use Rattle.std.proofs.Math.Seq.{take-append_seam}
 use Rattle.std.specs.Str.{IsCharBoundary}
 use Rattle.yq_text.specs.Halves.{halves_text}
-use Rattle.yq_lookup.specs.PrintedLines.{less_break, last_break}
-use Rattle.yq_lookup.proofs.FinishLaws.{break_boundary}
-use Rattle.yq_lookup.proofs.PrintedTexts.{less_is}
-use Rattle.yq_lookup.proofs.places.halves.split_break.Goals as goal
+use Rattle.yq_places.specs.PrintedLines.{less_break, last_break}
+use Rattle.yq_places.proofs.FinishLaws.{break_boundary}
+use Rattle.yq_places.proofs.PrintedTexts.{less_is}
+use Rattle.yq_places.proofs.places.halves.split_break.Goals as goal
 
 pub split_at-requires : goal.split_at-requires
 split_at-requires c = subst (λ n. IsCharBoundary (halves_text c.args.text) n) (sym c.less_break_len.ensures.value) (break_boundary (halves_text c.args.text))

@@ -1,7 +1,7 @@
 use Rattle.std.proofs.Common.{drop, ap, ◌∙◌}
 use Rattle.yq_text.specs.Halves.{halves_text}
-use Rattle.yq_lookup.proofs.FirstLaws.{front_less, spaces_boundary}
-use Rattle.yq_lookup.proofs.places.halves.split_end_spaces.Goals as goal
+use Rattle.yq_places.proofs.FirstLaws.{front_less, spaces_boundary}
+use Rattle.yq_places.proofs.places.halves.split_end_spaces.Goals as goal
 
 pub split_at-requires : goal.split_at-requires
 split_at-requires c = spaces_boundary (halves_text c.args.text) c.less_spaces_len.result c.less_spaces_len.ensures.value

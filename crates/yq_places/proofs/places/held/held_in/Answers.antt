@@ -2,10 +2,10 @@ use Rattle.std.proofs.Common.{ℕ, refl, ap, ◌∙◌, arith}
 use Rattle.std.specs.Str.{IsUtf8}
 use Rattle.yq_text.specs.Halves.{halves_text}
 use Rattle.yq_row_table.specs.View.{row_view}
-use Rattle.yq_lookup.specs.LineReading.{LinesIn, lines_view, tail_view}
-use Rattle.yq_lookup.proofs.EntryRowLaws.{column_fits, last_within, row_within, is_view}
-use Rattle.yq_lookup.proofs.HeldTexts.{before_boundary, held_is, lower_cut, lower_is, space_fits, tail_fits}
-use Rattle.yq_lookup.proofs.places.held.held_in.Goals as goal
+use Rattle.yq_places.specs.LineReading.{LinesIn, lines_view, tail_view}
+use Rattle.yq_places.proofs.EntryRowLaws.{column_fits, last_within, row_within, is_view}
+use Rattle.yq_places.proofs.HeldTexts.{before_boundary, held_is, lower_cut, lower_is, space_fits, tail_fits}
+use Rattle.yq_places.proofs.places.held.held_in.Goals as goal
 
 pub row-row-requires : goal.row-row-requires
 row-row-requires c = let h = c.requires in row_within (halves_text c.args.text) c.args.rows.now h.entry c.args.at.row c.args.at.end h.is.rows

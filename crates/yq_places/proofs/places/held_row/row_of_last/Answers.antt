@@ -1,8 +1,8 @@
 use Rattle.std.proofs.Common.{◌+◌, refl, ◌∙◌, arith}
 use Rattle.yq_row_table.specs.View.{row_view}
 use Rattle.yq_outline.proofs.LengthLaws.{row_fits, view_small}
-use Rattle.yq_lookup.proofs.HeldRowLaws.{last_of}
-use Rattle.yq_lookup.proofs.places.held_row.row_of_last.Goals as goal
+use Rattle.yq_places.proofs.HeldRowLaws.{last_of}
+use Rattle.yq_places.proofs.places.held_row.row_of_last.Goals as goal
 
 pub front_len-requires : goal.front_len-requires
 front_len-requires c = let f = row_fits c.args.rows.now c.args.at.row (row_view c.row-row.result) c.row-row.ensures in omega (arith, f, view_small c.args.rows.now c.requires.rows_view)

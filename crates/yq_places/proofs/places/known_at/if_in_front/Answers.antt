@@ -1,6 +1,6 @@
 use Rattle.std.proofs.Common.{arith}
-use Rattle.yq_lookup.proofs.KnownFronts.{view_stays}
-use Rattle.yq_lookup.proofs.places.known_at.if_in_front.Goals as goal
+use Rattle.yq_places.proofs.KnownFronts.{view_stays}
+use Rattle.yq_places.proofs.places.known_at.if_in_front.Goals as goal
 
 pub returns-then-start-front : goal.returns-then-start-front
 returns-then-start-front c =

@@ -5,7 +5,7 @@ use Rattle.yq_outline.specs.Ends.{reached}
 use Rattle.yq_outline.specs.Positions.{reach_from}
 use Rattle.yq_outline.specs.Lines.{lines_of_rows}
 use Rattle.yq_outline.specs.RowWalk.{AreKnown, HasDocument, IsLine, line_number}
-use Rattle.yq_lookup.proofs.places.known_at.known_along.Given as goal
+use Rattle.yq_places.proofs.places.known_at.known_along.Given as goal
 
 abbrev pub decreases-steps : goal.decreases-steps
 decreases-steps l = length l.left

@@ -1,6 +1,6 @@
 use Rattle.std.proofs.Common.{inl, refl, ◌∙◌}
 use Rattle.yq_outline.proofs.WalkPositions.{located, stop_agrees}
-use Rattle.yq_lookup.proofs.places.known_end.behind_all.Goals as goal
+use Rattle.yq_places.proofs.places.known_end.behind_all.Goals as goal
 
 pub returns-clause-number : goal.returns-clause-number
 returns-clause-number c = λ h.

@@ -1,6 +1,6 @@
 use Rattle.std.proofs.Common.{refl, ◌∙◌, arith}
 use Rattle.yq_outline.proofs.KnownLaws.{count_one, known_more, moved_to, one_there}
-use Rattle.yq_lookup.proofs.places.known_end.known_last.Goals as goal
+use Rattle.yq_places.proofs.places.known_end.known_last.Goals as goal
 
 pub rows-preserved : goal.rows-preserved
 rows-preserved c =

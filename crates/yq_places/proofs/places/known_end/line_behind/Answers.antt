@@ -1,5 +1,5 @@
 use Rattle.std.proofs.Common.{inl, inr, refl}
-use Rattle.yq_lookup.proofs.places.known_end.line_behind.Goals as goal
+use Rattle.yq_places.proofs.places.known_end.line_behind.Goals as goal
 
 pub returns-then-at-last : goal.returns-then-at-last
 returns-then-at-last c = inl refl

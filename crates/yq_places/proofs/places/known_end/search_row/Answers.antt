@@ -1,5 +1,5 @@
-use Rattle.yq_lookup.proofs.KnownEndLaws.{end_from, later_from}
-use Rattle.yq_lookup.proofs.places.known_end.search_row.Goals as goal
+use Rattle.yq_places.proofs.KnownEndLaws.{end_from, later_from}
+use Rattle.yq_places.proofs.places.known_end.search_row.Goals as goal
 
 pub returns-in-Some-clause-later : goal.returns-in-Some-clause-later
 returns-in-Some-clause-later c =

@@ -1,8 +1,8 @@
 use Rattle.std.proofs.Common.{◌≡◌, IfSome, arith, map, refl, subst}
 use Rattle.yq_core.specs.Entries.{tree_step}
 use Rattle.yq_outline.specs.declared.line_position.Stretch.{Stretch}
-use Rattle.yq_lookup.specs.RowWalk.{IsKnownLine, IsLineAt}
-use Rattle.yq_lookup.proofs.places.known_line.if_along.Goals as goal
+use Rattle.yq_places.specs.RowWalk.{IsKnownLine, IsLineAt}
+use Rattle.yq_places.proofs.places.known_line.if_along.Goals as goal
 
 pub returns : goal.returns
 returns c =

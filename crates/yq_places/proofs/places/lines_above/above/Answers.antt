@@ -1,7 +1,7 @@
 use Rattle.std.proofs.Common.{◌++◌, length, length-append, ap, arith, rules}
 use Rattle.yq_text.specs.Halves.{halves_text}
-use Rattle.yq_lookup.proofs.CommentEndLaws.{above_fits, above_boundary, above_is}
-use Rattle.yq_lookup.proofs.places.lines_above.above.Goals as goal
+use Rattle.yq_places.proofs.CommentEndLaws.{above_fits, above_boundary, above_is}
+use Rattle.yq_places.proofs.places.lines_above.above.Goals as goal
 
 pub overflow_sub-end : goal.overflow_sub-end
 overflow_sub-end c = above_fits (halves_text c.args.text) c.args.start c.args.gap.now c.last_run-run.result.now c.requires.gap c.last_run-run.ensures

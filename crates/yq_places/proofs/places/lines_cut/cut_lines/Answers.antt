@@ -1,8 +1,8 @@
 use Rattle.std.proofs.Common.{sym, subst, ◌∙◌}
 use Rattle.yq_text.specs.Halves.{halves_text}
-use Rattle.yq_lookup.specs.LineReading.{IsLastBreak}
-use Rattle.yq_lookup.proofs.LinesCutLaws.{last_is, lines_are}
-use Rattle.yq_lookup.proofs.places.lines_cut.cut_lines.Goals as goal
+use Rattle.yq_places.specs.LineReading.{IsLastBreak}
+use Rattle.yq_places.proofs.LinesCutLaws.{last_is, lines_are}
+use Rattle.yq_places.proofs.places.lines_cut.cut_lines.Goals as goal
 
 pub last_break-requires : goal.last_break-requires
 last_break-requires c = subst IsLastBreak (sym c.split_break.ensures.rest) (last_is (halves_text c.cut_at.result.1))

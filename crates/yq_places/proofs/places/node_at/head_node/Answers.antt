@@ -2,8 +2,8 @@ use Rattle.std.proofs.Common.{sym, ap, eqb, map, ◌∙◌}
 use Rattle.std.proofs.lemmas.List.{length-map}
 use Rattle.yq_core.specs.Entries.{tree_step}
 use Rattle.yq_outline.specs.View.{content_view}
-use Rattle.yq_lookup.proofs.NodeAtLaws.{scalar_steps, scalar_there}
-use Rattle.yq_lookup.proofs.places.node_at.head_node.Goals as goal
+use Rattle.yq_places.proofs.NodeAtLaws.{scalar_steps, scalar_there}
+use Rattle.yq_places.proofs.places.node_at.head_node.Goals as goal
 
 pub returns-then-not-is_empty : goal.returns-then-not-is_empty
 returns-then-not-is_empty c =

@@ -1,7 +1,7 @@
 use Rattle.std.proofs.Common.{Some, ap, option_map, ◌∙◌}
-use Rattle.yq_lookup.specs.NodesAt.{node_summary}
-use Rattle.yq_lookup.proofs.NodeAtLaws.{items_agrees, entries_agrees}
-use Rattle.yq_lookup.proofs.places.node_at.inline_node.Goals as goal
+use Rattle.yq_places.specs.NodesAt.{node_summary}
+use Rattle.yq_places.proofs.NodeAtLaws.{items_agrees, entries_agrees}
+use Rattle.yq_places.proofs.places.node_at.inline_node.Goals as goal
 
 pub returns-in-List : goal.returns-in-List
 returns-in-List c = ap Some (items_agrees c.in-Some.entry.node.now c.in-List.items c.len.result c.in-List.is c.len.ensures) ∙ ap (option_map node_summary) c.in-Some.ensures.node

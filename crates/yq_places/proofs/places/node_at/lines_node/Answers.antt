@@ -1,11 +1,11 @@
 use Rattle.std.proofs.Common.{cond, not, refl, sym, ap, ◌∙◌}
 use Rattle.yq_outline.specs.Lines.{lines_of_rows}
 use Rattle.yq_outline.specs.Ends.{has_no_lines, part}
-use Rattle.yq_lookup.specs.NodesAt.{list, map as mapping}
+use Rattle.yq_places.specs.NodesAt.{list, map as mapping}
 use Rattle.yq_outline.specs.RowWalk.{line_number}
-use Rattle.yq_lookup.proofs.NodeAtLaws.{collection_view}
+use Rattle.yq_places.proofs.NodeAtLaws.{collection_view}
 use Rattle.yq_outline.proofs.WalkPositions.{located, position_line}
-use Rattle.yq_lookup.proofs.places.node_at.lines_node.Goals as goal
+use Rattle.yq_places.proofs.places.node_at.lines_node.Goals as goal
 
 pub returns-then-is_item_at : goal.returns-then-is_item_at
 returns-then-is_item_at c = λ h other.

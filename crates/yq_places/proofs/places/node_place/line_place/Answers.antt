@@ -5,10 +5,10 @@ use Rattle.yq_core.specs.Entries.{tree_step}
 use Rattle.yq_outline.specs.Outline.{level}
 use Rattle.yq_row_table.specs.View.{slices}
 use Rattle.yq_outline.specs.RowWalk.{line_number}
-use Rattle.yq_lookup.proofs.NodeAtLaws.{lines_place}
-use Rattle.yq_lookup.proofs.WalkNodes.{no_steps}
+use Rattle.yq_places.proofs.NodeAtLaws.{lines_place}
+use Rattle.yq_places.proofs.WalkNodes.{no_steps}
 use Rattle.yq_outline.proofs.WalkPositions.{located}
-use Rattle.yq_lookup.proofs.places.node_place.line_place.Goals as goal
+use Rattle.yq_places.proofs.places.node_place.line_place.Goals as goal
 
 pub returns-clause-agrees : goal.returns-clause-agrees
 returns-clause-agrees c = λ h l is.

@@ -1,7 +1,7 @@
 use Rattle.std.proofs.Common.{◌≡◌, ◌<◌, ℕ, ◌+◌, ◌-◌, arith, rules}
-use Rattle.yq_lookup.proofs.RemovalBounds.{last_row}
+use Rattle.yq_places.proofs.RemovalBounds.{last_row}
 use Rattle.yq_outline.proofs.KnownLaws.{get_dropped, get_front}
-use Rattle.yq_lookup.proofs.places.removal_place.block_before.Goals as goal
+use Rattle.yq_places.proofs.places.removal_place.block_before.Goals as goal
 
 pub returns-else-at-first : goal.returns-else-at-first
 returns-else-at-first c = λ t cut is rows_view_is p more there within.

@@ -1,7 +1,7 @@
 use Rattle.std.proofs.Common.{rules}
 use Rattle.std.proofs.lemmas.Option.{slice_get_past}
-use Rattle.yq_lookup.proofs.EntryPlaceLaws.{range_first, range_none}
-use Rattle.yq_lookup.proofs.places.removal_place.gap_before.Goals as goal
+use Rattle.yq_places.proofs.EntryPlaceLaws.{range_first, range_none}
+use Rattle.yq_places.proofs.places.removal_place.gap_before.Goals as goal
 
 pub returns-then-from-to : goal.returns-then-from-to
 returns-then-from-to c = search (rules, range_first)

@@ -3,8 +3,8 @@ use Rattle.yq_core.specs.Lines.{is_blank}
 use Rattle.yq_core.specs.Text.{text_lines}
 use Rattle.yq_core.proofs.BlockSteps.{at_cut, at_end}
 use Rattle.yq_row_table.specs.Removal.{hold_comment}
-use Rattle.yq_lookup.proofs.RemovalPlaceLaws.{held_here, held_on, none_held}
-use Rattle.yq_lookup.proofs.places.removal_place.holds_comment.Goals as goal
+use Rattle.yq_places.proofs.RemovalPlaceLaws.{held_here, held_on, none_held}
+use Rattle.yq_places.proofs.places.removal_place.holds_comment.Goals as goal
 
 pub returns-then-not-is_blank : goal.returns-then-not-is_blank
 returns-then-not-is_blank c =

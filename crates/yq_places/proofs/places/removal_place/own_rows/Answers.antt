@@ -4,11 +4,11 @@ use Rattle.yq_core.specs.Entries.{tree_step}
 use Rattle.yq_outline.specs.Lines.{lines_of_rows}
 use Rattle.yq_outline.proofs.LineEnds.{end_agrees}
 use Rattle.yq_outline.specs.RowWalk.{line_number}
-use Rattle.yq_lookup.proofs.RemovalPlaceLaws.{no_own, not_own, own_agrees}
-use Rattle.yq_lookup.proofs.WalkDocuments.{row_line_number}
+use Rattle.yq_places.proofs.RemovalPlaceLaws.{no_own, not_own, own_agrees}
+use Rattle.yq_places.proofs.WalkDocuments.{row_line_number}
 use Rattle.yq_outline.proofs.WalkRows.{rows_length}
 use Rattle.yq_outline.proofs.WalkPositions.{located}
-use Rattle.yq_lookup.proofs.places.removal_place.own_rows.Goals as goal
+use Rattle.yq_places.proofs.places.removal_place.own_rows.Goals as goal
 
 pub returns-in_err-at : goal.returns-in_err-at
 returns-in_err-at c = rw c.from_residual.ensures (λ h. no_own c.args.document.first h.stand.rows (map tree_step c.args.steps.now) (c.in_err-at.ensures.found h))

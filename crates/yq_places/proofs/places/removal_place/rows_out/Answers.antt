@@ -5,9 +5,9 @@ use Rattle.yq_row_table.specs.Removal.{block_numbers, last_block}
 use Rattle.yq_row_table.specs.View.{row_view}
 use Rattle.yq_documents.specs.Pieces.{before_run}
 use Rattle.yq_documents.specs.Reading.{cut_of}
-use Rattle.yq_lookup.specs.RemovalPlaces.{seam_behind, rows_out}
-use Rattle.yq_lookup.proofs.RemovalViewLaws.{code_agrees, out_agrees, own_view}
-use Rattle.yq_lookup.proofs.places.removal_place.rows_out.Goals as goal
+use Rattle.yq_places.specs.RemovalPlaces.{seam_behind, rows_out}
+use Rattle.yq_places.proofs.RemovalViewLaws.{code_agrees, out_agrees, own_view}
+use Rattle.yq_places.proofs.places.removal_place.rows_out.Goals as goal
 
 pub row-requires : goal.row-requires
 row-requires c = (out_agrees (halves_text c.args.text) c.args.rows.now c.requires.part c.requires.rows _ c.requires.is).at_within

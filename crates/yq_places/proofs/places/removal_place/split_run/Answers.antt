@@ -1,6 +1,6 @@
 use Rattle.std.proofs.Common.{◌∙◌}
-use Rattle.yq_lookup.proofs.RemovalPlaceLaws.{kept_is, rest_is, run_boundary, run_less}
-use Rattle.yq_lookup.proofs.places.removal_place.split_run.Goals as goal
+use Rattle.yq_places.proofs.RemovalPlaceLaws.{kept_is, rest_is, run_boundary, run_less}
+use Rattle.yq_places.proofs.places.removal_place.split_run.Goals as goal
 
 pub split_at-requires : goal.split_at-requires
 split_at-requires c = run_boundary c.args.gap.now c.last_run-run.result.now c.last_run-run.ensures c.last_run-run.utf8

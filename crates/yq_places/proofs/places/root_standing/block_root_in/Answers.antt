@@ -2,11 +2,11 @@ use Rattle.std.proofs.Common.{◌∙◌, refl, sym, ap}
 use Rattle.std.proofs.lemmas.Option.{same_Some}
 use Rattle.yq_text.specs.Halves.{halves_text}
 use Rattle.yq_row_table.specs.View.{Slices}
-use Rattle.yq_lookup.specs.LineReading.{lines_view}
-use Rattle.yq_lookup.specs.StandingReading.{root_entry}
-use Rattle.yq_lookup.proofs.EntryRowLaws.{last_within, pieces_at, row_within, is_view}
-use Rattle.yq_lookup.proofs.RootStandingLaws.{root_cut, root_lines}
-use Rattle.yq_lookup.proofs.places.root_standing.block_root_in.Goals as goal
+use Rattle.yq_places.specs.LineReading.{lines_view}
+use Rattle.yq_places.specs.StandingReading.{root_entry}
+use Rattle.yq_places.proofs.EntryRowLaws.{last_within, pieces_at, row_within, is_view}
+use Rattle.yq_places.proofs.RootStandingLaws.{root_cut, root_lines}
+use Rattle.yq_places.proofs.places.root_standing.block_root_in.Goals as goal
 
 pub row-requires : goal.row-requires
 row-requires c = let h = c.requires in row_within (halves_text c.args.text) c.args.rows.now (root_entry h.part h.row h.under) c.args.document.first c.args.document.end h.is

@@ -2,11 +2,11 @@ use Rattle.std.proofs.Common.{sym, ap, ◌∙◌}
 use Rattle.std.proofs.lemmas.Option.{same_Some}
 use Rattle.yq_text.specs.Halves.{halves_text}
 use Rattle.yq_row_table.specs.Rows.{rows_text}
-use Rattle.yq_lookup.specs.Standings as spec
-use Rattle.yq_lookup.specs.StandingReading.{root_entry}
-use Rattle.yq_lookup.proofs.EntryRowLaws.{pieces_at, row_valid, row_within}
-use Rattle.yq_lookup.proofs.RootStandingLaws.{root_alone, root_block}
-use Rattle.yq_lookup.proofs.places.root_standing.rows_standing.Goals as goal
+use Rattle.yq_places.specs.Standings as spec
+use Rattle.yq_places.specs.StandingReading.{root_entry}
+use Rattle.yq_places.proofs.EntryRowLaws.{pieces_at, row_valid, row_within}
+use Rattle.yq_places.proofs.RootStandingLaws.{root_alone, root_block}
+use Rattle.yq_places.proofs.places.root_standing.rows_standing.Goals as goal
 
 pub row-requires : goal.row-requires
 row-requires c = let h = c.requires in row_within (halves_text c.args.text) c.args.rows.now (root_entry h.part h.row h.under) c.args.document.first c.args.document.end h.is

@@ -1,7 +1,7 @@
 use Rattle.std.proofs.Common.{rules}
 use Rattle.yq_row_table.specs.View.{row_view}
 use Rattle.yq_outline.proofs.LengthLaws.{row_fits, view_small}
-use Rattle.yq_lookup.proofs.places.row_place.line_start.Goals as goal
+use Rattle.yq_places.proofs.places.row_place.line_start.Goals as goal
 
 pub overflow_add-result : goal.overflow_add-result
 overflow_add-result c = search (rules, row_fits, view_small)

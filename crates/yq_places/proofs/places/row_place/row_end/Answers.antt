@@ -1,7 +1,7 @@
 use Rattle.std.proofs.Common.{arith}
 use Rattle.yq_row_table.specs.View.{row_view}
-use Rattle.yq_lookup.proofs.HeadEnds.{head_fits, end_agrees}
-use Rattle.yq_lookup.proofs.places.row_place.row_end.Goals as goal
+use Rattle.yq_places.proofs.HeadEnds.{head_fits, end_agrees}
+use Rattle.yq_places.proofs.places.row_place.row_end.Goals as goal
 
 pub ending_len-requires : goal.ending_len-requires
 ending_len-requires c =

@@ -1,7 +1,7 @@
 use Rattle.std.proofs.Common.{map}
 use Rattle.yq_core.specs.Entries.{tree_step}
-use Rattle.yq_lookup.proofs.EntryNumbers.{entry_row_agrees, none_along}
-use Rattle.yq_lookup.proofs.places.rows_of_entry.entry_along.Goals as goal
+use Rattle.yq_places.proofs.EntryNumbers.{entry_row_agrees, none_along}
+use Rattle.yq_places.proofs.places.rows_of_entry.entry_along.Goals as goal
 
 pub returns-in_err-at : goal.returns-in_err-at
 returns-in_err-at c = rw c.from_residual.ensures (λ h. none_along c.args.document.first h.stand.rows (map tree_step c.args.steps.now) (c.in_err-at.ensures.found h))

@@ -1,7 +1,7 @@
 use Rattle.std.proofs.Common.{◌≡◌, ◌-◌, drop, sym, ap, ◌∙◌, arith}
 use Rattle.yq_outline.specs.Lines.{lines_of_rows}
-use Rattle.yq_lookup.proofs.StepLaws.{step_behind, steps_agrees, step_here, step_on}
-use Rattle.yq_lookup.proofs.places.steps.first_step.Goals as goal
+use Rattle.yq_places.proofs.StepLaws.{step_behind, steps_agrees, step_here, step_on}
+use Rattle.yq_places.proofs.places.steps.first_step.Goals as goal
 
 pub rows-init : goal.rows-init
 rows-init c = λ h.

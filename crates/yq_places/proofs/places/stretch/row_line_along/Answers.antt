@@ -1,9 +1,9 @@
 use Rattle.std.proofs.Common.{◌≡◌, ◌-◌, ◌+◌, map, length, ◌∙◌, arith}
 use Rattle.yq_row_table.specs.View.{slices}
 use Rattle.yq_core.specs.Entries.{tree_step}
-use Rattle.yq_lookup.proofs.WalkDocuments.{row_line_reached, none_reached}
+use Rattle.yq_places.proofs.WalkDocuments.{row_line_reached, none_reached}
 use Rattle.yq_outline.proofs.WalkPositions.{located}
-use Rattle.yq_lookup.proofs.places.stretch.row_line_along.Goals as goal
+use Rattle.yq_places.proofs.places.stretch.row_line_along.Goals as goal
 
 pub returns-in_err-position : goal.returns-in_err-position
 returns-in_err-position c = rw c.from_residual.ensures (λ h. none_reached h.stand.rows (map tree_step c.args.steps.now) c.args.document.first (c.in_err-position.ensures.found h))

@@ -1,6 +1,6 @@
 use Rattle.std.proofs.Common.{sym, ap, ◌∙◌, cond}
 use Rattle.yq_core.specs.Anchors.{names_of}
-use Rattle.yq_core.specs.Nodes.{node_of}
+use Rattle.yq_nodes.specs.Nodes.{node_of}
 use Rattle.yq_semantics.specs.Changes.{is_too_deep}
 use Rattle.yq_planner.specs.ChangeView.{change_of}
 use Rattle.yq_semantics.specs.Judgement.{gives, refuses}

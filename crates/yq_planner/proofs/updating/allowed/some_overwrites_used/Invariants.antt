@@ -2,7 +2,7 @@ use Rattle.std.proofs.Common.{◌≡◌, List, drop}
 use Rattle.std.specs.List.{list_any}
 use Rattle.yq_core.specs.Anchors.{Name}
 use Rattle.yq_core.specs.Tree.{children_of}
-use Rattle.yq_core.specs.Nodes.{node_of}
+use Rattle.yq_nodes.specs.Nodes.{node_of}
 use Rattle.yq_planner.specs.ChangeView.{addition_of}
 use Rattle.yq_planner.specs.Indexes.{HasAliases}
 use Rattle.yq_planner.specs.TakenNames.{overwrites_at}

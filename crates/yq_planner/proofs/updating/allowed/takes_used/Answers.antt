@@ -2,7 +2,7 @@ use Rattle.std.proofs.Common.{sym, ap, ◌∙◌, subst, IfOk, ◌≡◌}
 use Rattle.std.proofs.lemmas.List.{nil_from_length}
 use Rattle.std.specs.List.{list_any}
 use Rattle.yq_core.specs.Tree.{children_of}
-use Rattle.yq_core.specs.Nodes.{node_of}
+use Rattle.yq_nodes.specs.Nodes.{node_of}
 use Rattle.yq_planner.specs.ChangeView.{addition_of, change_of}
 use Rattle.yq_planner.specs.TakenNames.{overwrites_at, takes_at}
 use Rattle.yq_planner.specs.declared.updating.change.Change.{Change}

@@ -1,9 +1,9 @@
 use Rattle.std.proofs.Common.{is_some, sym, ap, ◌∙◌, arith}
 use Rattle.yq_core.specs.Keys.{deepest}
 use Rattle.yq_core.specs.Tree.{alias}
-use Rattle.yq_core.specs.Children.{left_of}
+use Rattle.yq_nodes.specs.Children.{left_of}
 use Rattle.yq_outline.specs.Counts.{count}
-use Rattle.yq_core.specs.Nodes.{label_of, node_of}
+use Rattle.yq_nodes.specs.Nodes.{label_of, node_of}
 use Rattle.yq_semantics.specs.Changes.{refers_to}
 use Rattle.yq_planner.specs.Indexes.{get_text}
 use Rattle.yq_planner.proofs.IndexLaws.{put_text, alias_put}

@@ -3,9 +3,9 @@ use Rattle.std.specs.List.{list_any}
 use Rattle.yq_core.specs.Keys.{depth, deepest}
 use Rattle.yq_core.specs.Tree.{children_of}
 use Rattle.yq_core.specs.Anchors.{names_in}
-use Rattle.yq_core.specs.Children.{left_of}
+use Rattle.yq_nodes.specs.Children.{left_of}
 use Rattle.yq_outline.specs.Counts.{count}
-use Rattle.yq_core.specs.Nodes.{node_of}
+use Rattle.yq_nodes.specs.Nodes.{node_of}
 use Rattle.yq_semantics.specs.Changes.{refers_to}
 use Rattle.yq_planner.specs.Indexes.{get_text}
 use Rattle.yq_planner.proofs.updating.anchors.+aliases.Given as goal

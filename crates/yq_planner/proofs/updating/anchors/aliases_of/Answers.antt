@@ -1,5 +1,5 @@
 use Rattle.yq_core.specs.Anchors.{names_of}
-use Rattle.yq_core.specs.Nodes.{node_of}
+use Rattle.yq_nodes.specs.Nodes.{node_of}
 use Rattle.yq_planner.proofs.IndexLaws.{without_aliases}
 use Rattle.yq_planner.proofs.UsedLaws.{none_refer}
 use Rattle.yq_planner.proofs.updating.anchors.aliases_of.Goals as goal

@@ -3,7 +3,7 @@ use Rattle.yq_text.specs.Split.{halves_joined}
 use Rattle.yq_documents.specs.Reading.{cut_of}
 use Rattle.yq_semantics.specs.Operations.{operation_of}
 use Rattle.yq_text.specs.Changing.{IsChange}
-use Rattle.yq_lookup.specs.RowWalk.{StayKnown}
+use Rattle.yq_places.specs.RowWalk.{StayKnown}
 use Rattle.yq_edit_laws.specs.Answers.{EditFails}
 use Rattle.yq_edit_laws.specs.Carried.{carried}
 use Rattle.yq_edit_laws.specs.Edit.{Edit}

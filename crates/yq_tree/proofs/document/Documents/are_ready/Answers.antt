@@ -1,6 +1,6 @@
 use Rattle.std.proofs.Common.{subst}
 use Rattle.yq_documents.specs.Ready.{TextIsReady}
-use Rattle.yq_lookup.proofs.ReadyLaws.{cut_ready}
+use Rattle.yq_places.proofs.ReadyLaws.{cut_ready}
 use Rattle.yq_tree.proofs.document.Documents.are_ready.Goals as goal
 
 pub returns : goal.returns

@@ -1,5 +1,5 @@
 use Rattle.std.proofs.Common.{◌∙◌}
-use Rattle.yq_lookup.proofs.HeldLaws.{cut_agrees}
+use Rattle.yq_places.proofs.HeldLaws.{cut_agrees}
 use Rattle.yq_tree.proofs.document.Documents.cut.Goals as goal
 
 pub new-requires : goal.new-requires

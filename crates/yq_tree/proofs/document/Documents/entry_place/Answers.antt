@@ -1,9 +1,9 @@
 use Rattle.std.proofs.Common.{Some, option_map, sym, ap, ◌∙◌}
 use Rattle.yq_core.specs.Entries.{entry_place}
 use Rattle.yq_documents.specs.Reading.{cut_of}
-use Rattle.yq_lookup.specs.EntryReading.{flow_entry_at, line_entry_at}
-use Rattle.yq_lookup.proofs.EntryPlaceLaws.{TextSpan, or_flow, entry_either}
-use Rattle.yq_lookup.proofs.PieceHolds.{spans_are}
+use Rattle.yq_places.specs.EntryReading.{flow_entry_at, line_entry_at}
+use Rattle.yq_places.proofs.EntryPlaceLaws.{TextSpan, or_flow, entry_either}
+use Rattle.yq_places.proofs.PieceHolds.{spans_are}
 use Rattle.yq_tree.proofs.document.Documents.entry_place.Goals as goal
 
 pub returns-in-Some : goal.returns-in-Some

@@ -9,11 +9,11 @@ use Rattle.yq_outline.specs.Lines.{lines_of_rows}
 use Rattle.yq_documents.specs.Located.{steps_of}
 use Rattle.yq_documents.specs.Decoded.{decoded_flow}
 use Rattle.yq_documents.specs.Reading.{all_documents, cut_of}
-use Rattle.yq_lookup.specs.EntryReading.{flow_entry_at, flow_entry_of}
-use Rattle.yq_lookup.specs.RowWalk.{document_row_range}
-use Rattle.yq_lookup.proofs.EntryPlaceLaws.{no_flow, no_flow_left}
+use Rattle.yq_places.specs.EntryReading.{flow_entry_at, flow_entry_of}
+use Rattle.yq_places.specs.RowWalk.{document_row_range}
+use Rattle.yq_places.proofs.EntryPlaceLaws.{no_flow, no_flow_left}
 use Rattle.yq_tree.proofs.FlowEntries.{flow_found}
-use Rattle.yq_lookup.proofs.WalkDocuments.{found_document, no_place_found, place_found}
+use Rattle.yq_places.proofs.WalkDocuments.{found_document, no_place_found, place_found}
 use Rattle.yq_tree.proofs.document.Documents.flow_entry.Goals as goal
 
 pub returns-in_err-document : goal.returns-in_err-document

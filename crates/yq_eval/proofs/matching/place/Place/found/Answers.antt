@@ -1,5 +1,5 @@
 use Rattle.std.proofs.Common.{rules, ◌≡◌, List, [], ◌∷◌, ◌++◌, sym, ap, ◌∙◌}
-use Rattle.yq_core.specs.Nodes.{node_of}
+use Rattle.yq_nodes.specs.Nodes.{node_of}
 use Rattle.yq_eval.proofs.PlaceLaws.{null_there}
 use Rattle.yq_eval.specs.PlaceView.{missing_of}
 use Rattle.yq_eval.specs.declared.matching.place.Missing.{the_lemmas}

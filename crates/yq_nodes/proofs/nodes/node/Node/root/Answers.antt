@@ -4,7 +4,7 @@ use Rattle.yq_outline.specs.Outline.{anchored, value}
 use Rattle.yq_outline.proofs.NameLaws.{all_value}
 use Rattle.yq_documents.specs.Stretches.{document_lines}
 use Rattle.yq_documents.proofs.WalkedRows.{first_is, root_is}
-use Rattle.yq_core.proofs.nodes.node.Node.root.Goals as goal
+use Rattle.yq_nodes.proofs.nodes.node.Node.root.Goals as goal
 
 pub returns-clause-node : goal.returns-clause-node
 returns-clause-node c = λ d e.
