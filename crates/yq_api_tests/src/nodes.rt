@@ -1,18 +1,18 @@
 //! A node at its path, and where it stands: calls that the program doesn't make.
 
 use std::alloc::Global;
-use yq_tree::{Documents, Part, Path, read};
+use yq_tree::{Documents, Part, Path, extent, locate, read};
 
 /// Whether the node at the root of a document has an entry with the key, the anchor and the comments that are
 /// written, and its content stands where it is written.
 fn is_as_written(documents: &Documents<'_>, path: &Path) -> bool {
-    let Some(root) = documents.locate(path) else {
+    let Some(root) = locate(documents, path) else {
         return false;
     };
     let Some(node) = root.entry("k") else {
         return false;
     };
-    let Some(content) = documents.extent(path, Part::Content) else {
+    let Some(content) = extent(documents, path, Part::Content) else {
         return false;
     };
     let mut above = node.head_comment();

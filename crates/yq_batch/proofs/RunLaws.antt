@@ -23,7 +23,7 @@ use Rattle.yq_places.specs.FlowNodes.{flow_collection}
 use Rattle.yq_places.specs.NodesAt.{node_in}
 use Rattle.yq_places.specs.Standings.{FlowPart, flow_standing, last_step}
 use Rattle.yq_places.specs.declared.places.flow_node.FlowHead.{FlowHead}
-use Rattle.yq_places.proofs.ReadLaws.{parts_read}
+use Rattle.yq_documents.proofs.ReadLaws.{parts_read}
 use Rattle.yq_semantics.specs.Fits.{Fits}
 use Rattle.yq_semantics.specs.Operations.{replace}
 use Rattle.yq_semantics.specs.Rooms.{room_of}

@@ -28,7 +28,7 @@ use Rattle.yq_places.specs.NodesAt.{node_in, scalar_in}
 use Rattle.yq_places.specs.StandingViews.{IsHeldRow}
 use Rattle.yq_places.specs.Standings.{RowsOfEntry, behind_entry}
 use Rattle.yq_places.specs.declared.places.held_row.HeldRow.{HeldRow}
-use Rattle.yq_places.proofs.ReadLaws.{exact_reading}
+use Rattle.yq_documents.proofs.ReadLaws.{exact_reading}
 use Rattle.yq_places.proofs.HeadEnds.{node_begins}
 use Rattle.yq_places.proofs.HeldRowLaws.{no_root_rows, not_so}
 use Rattle.yq_edits.specs.StandingLaws.{StandsThere}

@@ -20,7 +20,7 @@ use Rattle.yq_documents.specs.Reading.{all_documents, cut_of, cut_or, has_short_
 use Rattle.yq_documents.specs.RowReading.{row_fits}
 use Rattle.yq_documents.specs.Stretches.{document_lines, part_rows}
 use Rattle.yq_documents.specs.declared.decoded.Decoded.{Decoded}
-use Rattle.yq_documents.specs.declared.read_text.DocumentRows.{DocumentRows}
+use Rattle.yq_documents.specs.declared.documents.DocumentRows.{DocumentRows}
 use Rattle.yq_documents.proofs.PartRows.{has_part, rows_stand}
 use Rattle.yq_compose.specs.Checking.{IsCheckable, some_refer}
 use Rattle.yq_compose.specs.Decoding.{AreDecoded, IsCutInto}

@@ -15,7 +15,7 @@ use Rattle.yq_documents.specs.Documents.{begins_bare, has_begin, parts_from}
 use Rattle.yq_documents.specs.PartReading.{first_rows, some_begin}
 use Rattle.yq_documents.specs.Reading.{cut_of}
 use Rattle.yq_documents.specs.PartNumbers.{number_from, rows_to}
-use Rattle.yq_documents.specs.declared.read_text.DocumentRows.{DocumentRows}
+use Rattle.yq_documents.specs.declared.documents.DocumentRows.{DocumentRows}
 use Rattle.yq_documents.proofs.BeginLaws.{document_is}
 use Rattle.yq_compose.specs.Decoding.{IsCutInto}
 use Rattle.yq_compose.specs.Places.{AreLocated, all_document_rows, gap_before_row, gap_or, part_row, document_view, documents_view}

@@ -9,7 +9,7 @@ use Rattle.yq_outline.specs.Lines.{lines_of_rows}
 use Rattle.yq_documents.specs.Documents.{document_parts}
 use Rattle.yq_documents.specs.Holding.{IsLocated}
 use Rattle.yq_documents.specs.Reading.{cut_of, has_short_root}
-use Rattle.yq_documents.specs.declared.read_text.DocumentRows.{DocumentRows}
+use Rattle.yq_documents.specs.declared.documents.DocumentRows.{DocumentRows}
 
 -- the gap of a row, if there is one, or another gap (own)
 abbrev pub gap_or : Option Slices → List ℕ → List ℕ

@@ -17,7 +17,7 @@ use crate::document::check_document;
 use crate::parts::document_rows;
 use std::alloc::Global;
 use yq_core::ReadError;
-use yq_documents::{Decoded, DocumentRows, ReadText};
+use yq_documents::{Decoded, DocumentRows, Documents};
 use yq_outline::Stretch;
 use yq_row_table::Rows;
 
@@ -63,7 +63,7 @@ pub fn read_rows<'t>(
     alloc: Global,
     text: &'t str,
     rows: Rows<'t>,
-) -> Result<ReadText<'t>, ReadError>
+) -> Result<Documents<'t>, ReadError>
     requires { (c : Cut) × IsCut text.now c × (rows ≡ rows_view c) }
     ensures text { IfOk result (λ r. r ≡ text.now) }
     ensures documents { (c : Cut) → IsCut text.now c → Decides result (all_documents c) }
@@ -79,5 +79,5 @@ pub fn read_rows<'t>(
         Ok(()) => {}
         Err(e) => return Err(e),
     }
-    Ok(ReadText::new(text, rows, documents, decoded, refers))
+    Ok(Documents::new(text, rows, documents, decoded, refers))
 }

@@ -18,7 +18,7 @@ use Rattle.yq_documents.specs.Decoded.{IsDecoded}
 use Rattle.yq_documents.specs.Reading.{all_documents, cut_of, part_document, documents_of}
 use Rattle.yq_documents.specs.Stretches.{HasText, document_lines, part_rows, stretch_of}
 use Rattle.yq_documents.specs.declared.decoded.Decoded.{Decoded}
-use Rattle.yq_documents.specs.declared.read_text.DocumentRows.{DocumentRows}
+use Rattle.yq_documents.specs.declared.documents.DocumentRows.{DocumentRows}
 use Rattle.yq_documents.proofs.PartRows.{has_part}
 
 same_stretch : (x y : Stretch) → x.first ≡ y.first → x.end ≡ y.end → x ≡ y

@@ -15,3 +15,7 @@ pub mod RunLaws
 pub mod PartNumberLaws
 pub mod PartRows
 pub mod WalkedRows
+pub mod Conditions
+pub mod DocumentLaws
+pub mod ReadLaws
+pub mod ReadyLaws

@@ -12,7 +12,7 @@ use Rattle.yq_documents.specs.Reading.{all_documents, cut_of}
 use Rattle.yq_documents.specs.LinesInRows.{document_row}
 use Rattle.yq_documents.specs.Stretches.{document_lines}
 use Rattle.yq_documents.specs.declared.decoded.Decoded.{Decoded}
-use Rattle.yq_documents.specs.declared.read_text.DocumentRows.{DocumentRows}
+use Rattle.yq_documents.specs.declared.documents.DocumentRows.{DocumentRows}
 
 -- The rows of document n of a text, and the gap that its lead ends, stand there (own).
 pub record IsLocated (t : List ℕ) (n : ℕ) (p : Part) (d : DocumentRows) : Type 0 where

@@ -1,94 +1,156 @@
-//! Which parts of a text are documents.
-ghost use Rattle.std.specs.Prelude.{◌≡◌, ◌<◌, ◌==◌, ◌-◌, ◌||◌, ◌&&◌, not, length, IfSome, if◌then◌else◌};
-ghost use Rattle.yq_row_table.specs.Rows.{Cut};
-ghost use Rattle.yq_row_table.specs.View.{rows_view};
-ghost use Rattle.yq_documents.specs.PartNumbers as numbers;
-ghost use Rattle.yq_documents.specs.PartReading as spec;
+//! The documents of a text.
+ghost use Rattle.std.specs.Prelude.{◌≡◌, ◌<◌, ℕ, List, length, slice_get, Some, false, option_map, true};
+ghost use Rattle.std.specs.List.{list_any};
+ghost use Rattle.yq_outline.specs.Names.{is_reference, line_names};
+ghost use Rattle.yq_row_table.specs.Grammar.{IsCut};
+ghost use Rattle.yq_row_table.specs.Rows.{Row as RowOf};
+ghost use Rattle.yq_row_table.specs.View.{rows_of, rows_view};
+ghost use Rattle.yq_outline.specs.Extents.{IsRowsView};
+ghost use Rattle.yq_documents.specs.Documents.{Document};
+ghost use Rattle.yq_documents.specs.Decoded.{IsDecodedBy};
+ghost use Rattle.yq_documents.specs.Located.{document_at};
+ghost use Rattle.yq_documents.specs.Reading.{all_documents, cut_of, documents_of};
+ghost use Rattle.yq_documents.specs.Ready.{TextIsReady};
+ghost use Rattle.yq_documents.specs.Stretches.{HasText, document_lines};
+ghost use Rattle.yq_documents.specs.Texts.{texts_left};
 
-use yq_row_table::{Rows, begins_document};
+use crate::comment::Comments;
+use crate::decoded::Decoded;
+use crate::of_row::decoded_at;
+use std::marker::Model;
+use yq_outline::{Stretch, lines_shaped};
+use yq_row_table::Rows;
 
-/// Whether some marker is `---`.
-fn some_begin(rows: &Rows<'_>) -> bool
-    ensures { result ≡ spec.some_begin rows.now.bounds }
-{
-    let mut at = 0;
-    'parts: while at < rows.parts() {
-        if begins_document(rows.part(at).marker.as_bytes()) {
-            return true;
+/// The rows of a document among those of a text, and the gap that its lead ends.
+#[derive(Clone, Copy)]
+pub struct DocumentRows<'t> {
+    pub lead: &'t str,
+    pub first: usize,
+    pub end: usize,
+}
+
+/// The documents of a text, by its rows and by what these spell that the text doesn't have byte for byte.
+/// They are known by their text.
+#[derive(Drop)]
+pub struct Documents<'t> {
+    text: &'t str,
+    rows: Rows<'t>,
+    documents: Vec<DocumentRows<'t>>,
+    decoded: Vec<Decoded<'t>>,
+    /// Whether an alias may stand in it.
+    refers: bool,
+}
+
+impl<'t> Model for Documents<'t> {
+    ghost use Rattle.std.specs.Prelude.{ℕ, List};
+
+    ghost Value = { List ℕ };
+
+    ghost use Rattle.yq_documents.specs.Holding.{Holds};
+
+    ghost view = { λ d. d.text.now };
+
+    ghost invariant = { λ d. Holds d.text.now d.rows d.documents.items d.decoded.items d.refers };
+}
+
+impl<'t> Documents<'t> {
+    ghost use Rattle.yq_documents.specs.Holding.{Holds};
+
+    /// The documents of a text by what is kept of them.
+    pub fn new(
+        text: &'t str,
+        rows: Rows<'t>,
+        documents: Vec<DocumentRows<'t>>,
+        decoded: Vec<Decoded<'t>>,
+        refers: bool,
+    ) -> Documents<'t>
+        requires { Holds text.now rows documents.items decoded.items refers }
+        ensures { result ≡ text.now }
+    {
+        Documents {
+            text,
+            rows,
+            documents,
+            decoded,
+            refers,
         }
-        at += 1;
     }
-    false
-}
 
-/// Whether rows stand before the first marker.
-fn first_rows(rows: &Rows<'_>) -> bool
-    ensures { result ≡ spec.first_rows rows.now.bounds }
-{
-    if rows.parts() == 0 {
-        return false;
+    /// The text.
+    pub fn text(&self) -> &'t str
+        ensures { result.now ≡ self.now }
+    {
+        self.text
     }
-    rows.part(0).rows != 0
-}
 
-/// Whether what stands before the first marker is a document: it has rows, or no `---` is in the text.
-pub fn first_is_document(rows: &Rows<'_>) -> bool
-    ensures { result ≡ (spec.first_rows rows.now.bounds || not (spec.some_begin rows.now.bounds)) }
-{
-    first_rows(rows) || !some_begin(rows)
-}
-
-/// Whether a part is the document before which so many are left.
-fn is_sought(is_document: bool, left: usize) -> bool
-    ensures { result ≡ (is_document && (left == 0)) }
-{
-    is_document && left == 0
-}
-
-/// How many documents are left before the sought one behind a part.
-fn left_behind(is_document: bool, left: usize) -> usize
-    ensures { result ≡ (if is_document then left - 1 else left) }
-{
-    if is_document {
-        left.saturating_sub(1)
-    } else {
-        left
+    /// How many documents there are.
+    pub fn count(&self) -> usize
+        ensures { result ≡ length (documents_of self.now) }
+    {
+        self.documents.len()
     }
-}
 
-/// The number of the part that is document `i`, where `first` tells whether part 0 is a document.
-fn number_in(rows: &Rows<'_>, first: bool, i: usize) -> Option<usize>
-    ensures value { result ≡ spec.number_in first i 0 rows.now.bounds }
-    ensures within { IfSome result (λ k. k < length rows.now.bounds) }
-{
-    let mut is_document = first;
-    let mut left = i;
-    'parts: for at in 0..rows.parts() {
-        let bound = rows.part(at);
-        if is_sought(is_document, left) {
-            return Some(at);
-        }
-        left = left_behind(is_document, left);
-        is_document = begins_document(bound.marker.as_bytes());
+    /// The documents are ready for the meaning of updates: each is a tree, with no more collections
+    /// nested than may be, and has the head comment of its first item or entry as its lead, where its
+    /// root is a block collection.
+    pub fn are_ready(&self)
+        ensures { TextIsReady self.now }
+    {
+        let _rows = self.rows();
+        lines_shaped();
     }
-    None
-}
 
-/// The number of the part that is document `i`, both counted from 0.
-pub fn document_part(rows: &Rows<'_>, i: usize) -> Option<usize>
-    ensures value { (c : Cut) → rows.now ≡ rows_view c → result ≡ numbers.document_part i c }
-    ensures within { IfSome result (λ k. k < length rows.now.bounds) }
-{
-    number_in(rows, first_is_document(rows), i)
-}
-
-/// How many rows stand before part `i`.
-pub fn rows_to(rows: &Rows<'_>, i: usize) -> usize
-    requires { i < length rows.now.bounds }
-    ensures { (c : Cut) → rows.now ≡ rows_view c → result ≡ numbers.rows_to i c }
-{
-    if i == 0 {
-        return 0;
+    /// The comment before document `i`, counted from 0, line by line.
+    pub fn lead(&self, i: usize) -> Comments<'_>
+        requires { i < length (documents_of self.now) }
+        ensures { (d : Document) → document_at self.now i ≡ Some d → texts_left result ≡ d.lead }
+    {
+        Comments::of(self.documents[i].lead)
     }
-    rows.part(i - 1).rows
+
+    /// The rows of the text, and where its parts end.
+    pub fn rows(&self) -> &Rows<'t>
+        ensures cut { IsCut self.now (cut_of self.now) }
+        ensures rows { result.now ≡ rows_view (cut_of self.now) }
+        ensures sound { all_documents (cut_of self.now) ≡ true }
+        ensures rows_view { IsRowsView result.now }
+    {
+        &self.rows
+    }
+
+    /// The rows without what else is kept.
+    pub fn into_rows(self) -> Rows<'t>
+        ensures { result ≡ rows_view (cut_of self.entry) }
+    {
+        self.rows
+    }
+
+    /// The rows of the text, and which of them are those of document `i`, counted from 0.
+    pub fn document_rows(&self, i: usize) -> (&Rows<'t>, Stretch)
+        requires { i < length (documents_of self.now) }
+        ensures { HasText self.now i result.0.now result.1 }
+    {
+        let document = &self.documents[i];
+        let stretch = Stretch {
+            first: document.first,
+            end: document.end,
+        };
+        (&self.rows, stretch)
+    }
+
+    /// What is made of row `i`, counted from 0, if anything is.
+    pub fn decoded(&self, i: usize) -> Option<&Decoded<'t>>
+        ensures { (r : RowOf) → slice_get (rows_of (cut_of self.now)) i ≡ Some r →
+            IsDecodedBy (length self.now) (cut_of self.now) (option_map (λ m. m.now) result) i r }
+    {
+        decoded_at(self.decoded.as_slice(), i)
+    }
+
+    /// Whether an alias may stand in it.
+    pub fn may_refer(&self) -> bool
+        ensures { result ≡ false → (n : ℕ) →
+            list_any is_reference (line_names (document_lines n self.now)) ≡ false }
+    {
+        self.refers
+    }
 }

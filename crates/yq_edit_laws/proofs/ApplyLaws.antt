@@ -5,7 +5,7 @@ use Rattle.yq_text.specs.Limit.{text_limit}
 use Rattle.yq_row_table.specs.Rows.{Cut, cut_text}
 use Rattle.yq_documents.specs.Documents.{ReadsDocuments}
 use Rattle.yq_documents.specs.Reading.{cut_of, documents, documents_of, read_at}
-use Rattle.yq_places.proofs.ReadLaws.{parts_read, read_takes}
+use Rattle.yq_documents.proofs.ReadLaws.{parts_read, read_takes}
 use Rattle.yq_semantics.specs.After.{after_op}
 use Rattle.yq_semantics.specs.Fits.{Fits}
 use Rattle.yq_semantics.specs.Operations.{Operation}

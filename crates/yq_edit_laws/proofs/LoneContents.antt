@@ -33,7 +33,7 @@ use Rattle.yq_documents.specs.Ready.{begins_no_node}
 use Rattle.yq_documents.specs.TreeEdits.{replaced_node}
 use Rattle.yq_places.specs.RowPaths.{IsReadable}
 use Rattle.yq_documents.proofs.PartRows.{each}
-use Rattle.yq_places.proofs.ReadLaws.{text_takes}
+use Rattle.yq_documents.proofs.ReadLaws.{text_takes}
 use Rattle.yq_places.proofs.RemovalLines.{front_some}
 use Rattle.yq_places.proofs.RowPathLaws.{document_fine}
 use Rattle.yq_places.proofs.RunSpans.{rows_then}

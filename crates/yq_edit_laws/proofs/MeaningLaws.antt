@@ -3,8 +3,8 @@ use Rattle.std.proofs.Common.{◌≡◌, inl, inr, ℕ, List, [], ◌∷◌, Som
 use Rattle.yq_row_table.specs.Rows.{Cut}
 use Rattle.yq_documents.specs.Reading.{read_at, documents}
 use Rattle.yq_outline.proofs.ShapeLaws.{shaped_by_lines, shaped_is_tree}
-use Rattle.yq_places.proofs.ReadLaws.{read_takes}
-use Rattle.yq_places.proofs.ReadyLaws.{read_ready}
+use Rattle.yq_documents.proofs.ReadLaws.{read_takes}
+use Rattle.yq_documents.proofs.ReadyLaws.{read_ready}
 use Rattle.yq_semantics.proofs.RoomLaws.{rooms_are_ready}
 use Rattle.yq_semantics.proofs.updates.PlanMeans.{plan_means, plan_refused}
 use Rattle.yq_semantics.proofs.updates.RoomsLast.{plan_follows}

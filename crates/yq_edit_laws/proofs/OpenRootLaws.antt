@@ -24,7 +24,7 @@ use Rattle.yq_places.specs.PlacedRows.{PlacedPart}
 use Rattle.yq_documents.specs.Reading.{all_documents, is_document, read_at}
 use Rattle.yq_places.specs.Standings.{NoRows}
 use Rattle.yq_places.specs.RowPaths.{IsReadable}
-use Rattle.yq_places.proofs.ReadLaws.{text_again, text_takes}
+use Rattle.yq_documents.proofs.ReadLaws.{text_again, text_takes}
 use Rattle.yq_places.proofs.RemovalLines.{LineSeam}
 use Rattle.yq_edits.specs.declared.layout.Layout.{Layout}
 use Rattle.yq_edits.specs.BlockText.{block_value}

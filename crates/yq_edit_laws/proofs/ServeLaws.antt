@@ -1,7 +1,7 @@
 -- Operations that may follow one another are carried out on a text that reads.
 use Rattle.std.proofs.Common.{◌≡◌, inl, inr, ℕ, List, [], ◌∷◌, refl, subst}
 use Rattle.yq_documents.specs.Documents.{Document, ReadsDocuments}
-use Rattle.yq_places.proofs.ReadLaws.{one_reading}
+use Rattle.yq_documents.proofs.ReadLaws.{one_reading}
 use Rattle.yq_semantics.specs.After.{after_op, all_after}
 use Rattle.yq_semantics.specs.Operations.{Operation}
 use Rattle.yq_semantics.specs.Rooms.{room_of}

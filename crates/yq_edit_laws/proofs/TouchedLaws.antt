@@ -13,7 +13,7 @@ use Rattle.yq_row_table.specs.Touched.{in_back, in_front, item_text}
 use Rattle.yq_row_table.proofs.ItemLaws.{items_of_text, items_text-append, parts_are_items}
 use Rattle.yq_row_table.proofs.KeptLaws.{items_apart}
 use Rattle.yq_documents.specs.Reading.{read_at}
-use Rattle.yq_places.proofs.ReadLaws.{text_takes}
+use Rattle.yq_documents.proofs.ReadLaws.{text_takes}
 use Rattle.yq_text.specs.Script.{Segment, are_kept, kept_back, kept_front, new_text}
 use Rattle.yq_edit_laws.specs.TouchedRanges.{AreTouched, IsLocalEdit, IsTouched, LiesInOne, NearAreTouched, put_ranges}
 use Rattle.yq_edit_laws.proofs.ItemEnds.{back_stop, front_stop, items_ended}

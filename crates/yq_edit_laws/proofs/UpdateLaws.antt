@@ -8,7 +8,7 @@ use Rattle.yq_core.specs.declared.fault.ReadError.{ReadError}
 use Rattle.yq_core.specs.declared.fault.ReadError.TheVariants as reading
 use Rattle.yq_row_table.specs.Rows.{Cut}
 use Rattle.yq_documents.specs.Reading.{documents, documents_of, cut_of, read_at}
-use Rattle.yq_places.proofs.ReadLaws.{parts_read}
+use Rattle.yq_documents.proofs.ReadLaws.{parts_read}
 use Rattle.yq_semantics.specs.Judgement as judgement
 use Rattle.yq_semantics.specs.Judgement.{Judges}
 use Rattle.yq_semantics.specs.Operations.{Operation}

@@ -13,8 +13,8 @@ use Rattle.yq_outline.specs.Lines.{lines_from, lines_of_rows}
 use Rattle.yq_outline.specs.Outline.{Line, end}
 use Rattle.yq_documents.specs.Reading.{root_of, part_document, is_document, all_documents, read_at}
 use Rattle.yq_outline.proofs.ByRules.{rules_from}
-use Rattle.yq_places.proofs.DocumentLaws.{is_document_of}
-use Rattle.yq_places.proofs.ReadLaws.{text_takes, text_again}
+use Rattle.yq_documents.proofs.DocumentLaws.{is_document_of}
+use Rattle.yq_documents.proofs.ReadLaws.{text_takes, text_again}
 use Rattle.yq_core.proofs.Bools.{guard_then}
 use Rattle.yq_edits.specs.Changed.{put_part, put_document, KeepsRows, DocumentPut, changed, PartStands, DocumentChanged, first_comment, LeadIsFirst}
 use Rattle.yq_documents.specs.TreeEdits.{change_nth}

@@ -36,7 +36,7 @@ use Rattle.yq_places.proofs.CommentEndLaws.{row_text_parts}
 use Rattle.yq_places.proofs.CommentPieceLaws.{row_place}
 use Rattle.yq_places.proofs.PlacedRowLaws.{IsAt, part_at}
 use Rattle.yq_places.proofs.PrintedTexts.{map_some}
-use Rattle.yq_places.proofs.ReadLaws.{text_takes}
+use Rattle.yq_documents.proofs.ReadLaws.{text_takes}
 use Rattle.yq_places.proofs.RowLineSpans.{steps_row}
 use Rattle.yq_edits.specs.PlacedParts.{StandsAt}
 use Rattle.yq_edits.proofs.PlacedPartLaws.{document_stands_at}

@@ -12,7 +12,7 @@ use Rattle.yq_documents.specs.Reading.{documents, read_at, cut_of, root_of}
 use Rattle.yq_documents.specs.Ready.{part_is_block}
 use Rattle.yq_documents.specs.LinesInRows.{row_line_of, row_line_has_room}
 use Rattle.yq_documents.specs.TreeEdits.{change_nth, lead_by}
-use Rattle.yq_places.proofs.ReadLaws.{text_takes, cut_is}
+use Rattle.yq_documents.proofs.ReadLaws.{text_takes, cut_is}
 use Rattle.yq_edits.specs.Changed.{changed, put_document}
 use Rattle.yq_edits.proofs.AfterLaws.{nth_is, nth_same}
 use Rattle.yq_edits.proofs.ChangedLaws.{document_put}

@@ -19,11 +19,11 @@ use Rattle.yq_documents.specs.Reading.{is_document, part_outline, read_at, root_
 use Rattle.yq_outline.proofs.Allowing as allowing
 use Rattle.yq_outline.proofs.Allowing.{Allows}
 use Rattle.yq_outline.proofs.Decides.{flatten-group, even_from}
-use Rattle.yq_places.proofs.DocumentLaws.{document_is}
+use Rattle.yq_documents.proofs.DocumentLaws.{document_is}
 use Rattle.yq_outline.proofs.Finding.{IsFoundIn, FoundNode, path_node, path_whole}
 use Rattle.yq_outline.proofs.PlaceLaws.{at, exchanged}
 use Rattle.yq_outline.proofs.Plug.{allows_from}
-use Rattle.yq_places.proofs.ReadLaws.{text_takes}
+use Rattle.yq_documents.proofs.ReadLaws.{text_takes}
 use Rattle.yq_places.proofs.RowPathLaws.{document_fine}
 use Rattle.yq_outline.proofs.Values.{same_rank, same_entry}
 use Rattle.yq_outline.proofs.NameLaws.{each_front, each_back}

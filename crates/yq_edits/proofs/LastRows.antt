@@ -15,7 +15,7 @@ use Rattle.yq_row_table.proofs.RowLaws.{row_longer}
 use Rattle.yq_row_table.proofs.seams.FrontSeams.{row_some}
 use Rattle.yq_documents.specs.Reading.{read_at}
 use Rattle.yq_places.proofs.CommentPieceLaws.{Ended}
-use Rattle.yq_places.proofs.ReadLaws.{text_takes}
+use Rattle.yq_documents.proofs.ReadLaws.{text_takes}
 use Rattle.yq_edits.specs.Changed.{put_document}
 use Rattle.yq_edits.proofs.DocumentItemLaws.{rows_before, rows_spell}
 use Rattle.yq_edits.proofs.EndedRowLaws.{row_ended}

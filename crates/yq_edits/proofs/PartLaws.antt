@@ -20,8 +20,8 @@ use Rattle.yq_documents.specs.Reading.{is_document, read_at}
 use Rattle.yq_places.specs.RowPaths.{IsReadable}
 use Rattle.yq_outline.proofs.Decides.{even_from}
 use Rattle.yq_row_table.proofs.splices.SpliceCases.{open_part}
-use Rattle.yq_places.proofs.DocumentLaws.{document_is}
-use Rattle.yq_places.proofs.ReadLaws.{text_takes}
+use Rattle.yq_documents.proofs.DocumentLaws.{document_is}
+use Rattle.yq_documents.proofs.ReadLaws.{text_takes}
 use Rattle.yq_places.proofs.RowPathLaws.{document_fine}
 use Rattle.yq_edits.specs.Changed.{put_part, put_document}
 use Rattle.yq_edits.specs.Edited.{IsPut}

@@ -28,7 +28,7 @@ use Rattle.yq_places.specs.PlacedRows.{PlacedPart, placed_document}
 use Rattle.yq_places.specs.RemovalPlaces.{OwnRows, own_rows, kept_gap, Removal, rows_out, removal_place, has_several}
 use Rattle.yq_places.specs.RowPaths.{IsReadable}
 use Rattle.yq_places.proofs.PlacedPartLaws.{map_some}
-use Rattle.yq_places.proofs.ReadLaws.{text_takes}
+use Rattle.yq_documents.proofs.ReadLaws.{text_takes}
 use Rattle.yq_places.proofs.RemovalTexts.{old_text}
 use Rattle.yq_edits.specs.Changed.{IsChanged, KeepsRows, put_document}
 use Rattle.yq_edits.specs.Conditions.{AreSpared}

@@ -26,7 +26,7 @@ use Rattle.yq_outline.specs.RowWalk.{deeper_rows, line_level}
 use Rattle.yq_places.proofs.DashLaws.{line_within}
 use Rattle.yq_documents.proofs.PartRows.{each}
 use Rattle.yq_places.proofs.PrintedTexts.{map_some}
-use Rattle.yq_places.proofs.ReadLaws.{text_takes}
+use Rattle.yq_documents.proofs.ReadLaws.{text_takes}
 use Rattle.yq_places.proofs.RowPathLaws.{document_fine}
 use Rattle.yq_places.proofs.RowLineSpans.{steps_row}
 use Rattle.yq_places.proofs.UnderCounts.{end_is}

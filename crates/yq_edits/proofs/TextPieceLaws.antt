@@ -10,7 +10,7 @@ use Rattle.yq_row_table.specs.Rows.{cut_text}
 use Rattle.yq_row_table.proofs.CharacterLaws.{all_text, all_join, pairs_join, pairs_back, pairs_front, pairs_cut, EndsBlack}
 use Rattle.yq_row_table.proofs.NodePieces.{EndsAscii, BeginsAscii, behind_ascii, before_ascii}
 use Rattle.yq_documents.specs.Reading.{read_at}
-use Rattle.yq_places.proofs.ReadLaws.{text_takes}
+use Rattle.yq_documents.proofs.ReadLaws.{text_takes}
 use Rattle.yq_core.proofs.Bools.{guard_then}
 use Rattle.yq_edits.specs.TextPieces.{IsPiece, TextIsPiece, PiecesJoined, LineCut, BeginsPiece, ByteCut}
 

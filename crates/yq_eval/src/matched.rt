@@ -17,9 +17,9 @@ use crate::{Place, copy_at, find};
 use bumpalo::Bump;
 use std::alloc::Global;
 use yq_core::Value;
+use yq_documents::Documents;
 use yq_nodes::Node;
 use yq_semantics::{ExprError, Program, Stage, Syntax};
-use yq_tree::Documents;
 
 /// A match: its document, counted from 0, and a copy of the value there, which
 /// has no anchors and no comments. What is missing is null.
@@ -93,7 +93,7 @@ fn pipe_matches(
 {
     let mut matches = Vec::new(alloc);
     'documents: for doc in 0..documents.count() {
-        push_document(alloc, doc, pipe, documents.root(doc), &mut matches)?;
+        push_document(alloc, doc, pipe, Node::root(documents, doc), &mut matches)?;
     }
     Ok(matches)
 }

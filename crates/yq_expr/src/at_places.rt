@@ -20,9 +20,9 @@ use crate::steps::path_steps;
 use std::alloc::Global;
 use yq_documents::Path;
 use yq_eval::{FoundPlaces, Place};
+use yq_lookup::CutText;
 use yq_planner::{Aliases, Changed};
 use yq_semantics::ExprError;
-use yq_tree::{CutText, Documents};
 
 /// Puts what is changed at a place behind other changes.
 fn push_effect<'a, 't>(
@@ -69,7 +69,7 @@ fn at_each<'a, 't>(
         (places_of places.now)) }
 {
     let mut changes = Vec::new(alloc);
-    let mut cut = documents.cut();
+    let mut cut = CutText::of(documents);
     'places: for place in places {
         push_effect(alloc, &mut cut, doc, aliases, effect, place, &mut changes)?;
     }
@@ -94,7 +94,7 @@ fn at_children<'a, 't>(
 {
     let count = parent.node.count();
     let mut changes = Vec::with_capacity(alloc, count)?;
-    let mut cut = documents.cut();
+    let mut cut = CutText::of(documents);
     let mut children = parent.node.children();
     let mut before = 0;
     'children: while before < count {

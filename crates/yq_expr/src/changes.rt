@@ -26,7 +26,6 @@ use yq_eval::{FoundPlaces, Place, find_places};
 use yq_nodes::Node;
 use yq_planner::{Aliases, Changed, aliases_of, has_comment};
 use yq_semantics::{Assignment, ExprError, Operator, Refusal, Stage, Term, Update};
-use yq_tree::Documents;
 
 /// What an update changes at places of document `doc`, which has that root.
 fn changes_at<'a, 't>(
@@ -169,7 +168,7 @@ pub(crate) fn changes(
     documents.are_ready();
     let mut changes = Vec::new(alloc);
     'documents: for doc in 0..documents.count() {
-        changes.push(changes_in(alloc, documents, doc, documents.root(doc), update)?)?;
+        changes.push(changes_in(alloc, documents, doc, Node::root(documents, doc), update)?)?;
     }
     Ok(changes)
 }

@@ -16,9 +16,9 @@ use std::alloc::Global;
 use yq_core::Value;
 use yq_documents::{Part, Path};
 use yq_eval::{Missing, NodePath, Place};
+use yq_lookup::CutText;
 use yq_planner::{Change, added, copied, is_null};
 use yq_semantics::{CommentPlace, ExprError, Refusal, Term};
-use yq_tree::CutText;
 
 /// What an update does at each place.
 #[derive(Clone, Copy)]

@@ -13,9 +13,9 @@ ghost use Rattle.yq_semantics.specs.View.{program_of, update_of};
 
 use crate::changes::changes;
 use std::alloc::Global;
+use yq_documents::Documents;
 use yq_planner::operations;
 use yq_semantics::{ExprError, Op, Program, Refusal, Syntax, Update};
-use yq_tree::Documents;
 
 fn is_removal(update: &Update) -> bool
     ensures { result ≡ plans.is_removal (update_of update.now) }

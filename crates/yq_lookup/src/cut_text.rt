@@ -9,6 +9,7 @@ ghost use Rattle.yq_outline.specs.RowWalk.{AreKnown};
 ghost use Rattle.yq_places.specs.RowWalk.{HasCut, IsKnownLine};
 
 use std::marker::Model;
+use yq_documents::Documents;
 use yq_outline::KnownItems;
 use yq_places::{KnownLine, is_text};
 use yq_row_table::Rows;
@@ -33,6 +34,13 @@ impl<'d, 't> Model for CutText<'d, 't> {
 }
 
 impl<'d, 't> CutText<'d, 't> {
+    /// The text of documents, with its cut.
+    pub fn of(documents: &'d Documents<'t>) -> CutText<'d, 't>
+        ensures { result ≡ documents.now }
+    {
+        CutText::new(documents.text(), documents.rows())
+    }
+
     /// A text with its cut, as `Documents::into_rows` gives it.
     pub fn new(text: &'t str, rows: &'d Rows<'t>) -> CutText<'d, 't>
         requires { HasCut text.now rows.now }

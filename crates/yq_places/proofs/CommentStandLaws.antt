@@ -33,7 +33,7 @@ use Rattle.yq_places.proofs.PieceHolds.{no_part}
 use Rattle.yq_places.proofs.PrintedLaws.{ArePrinted, lines_are, document_is}
 use Rattle.yq_places.proofs.FoundEntries.{IsFound, entry_there, entry_found}
 use Rattle.yq_places.proofs.UncommentedLaws.{HasNone, Uncommented, uncommented_content, uncommented_reach}
-use Rattle.yq_places.proofs.ReadLaws.{cut_is, text_takes}
+use Rattle.yq_documents.proofs.ReadLaws.{cut_is, text_takes}
 use Rattle.yq_places.proofs.CommentTextLaws.{tail_view, gap_agrees}
 use Rattle.yq_places.proofs.RowPathLaws.{document_fine}
 

@@ -1,8 +1,6 @@
 pub mod RootPlaceLaws
 pub mod CommentPlaceLaws
 pub mod CommentStandLaws
-pub mod Conditions
-pub mod DocumentLaws
 pub mod RowStarts
 pub mod EntryPlaceLaws
 pub mod FlowPlaceLaws
@@ -12,8 +10,6 @@ pub mod EntryPlacedLaws
 pub mod HeldLaws
 pub mod UncommentedLaws
 pub mod CommentTextLaws
-pub mod ReadLaws
-pub mod ReadyLaws
 pub mod CommentPieceLaws
 pub mod CommentSpans
 pub mod CommentHolds

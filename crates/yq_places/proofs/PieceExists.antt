@@ -27,7 +27,7 @@ use Rattle.yq_outline.proofs.Decides.{flatten-group, even_from}
 use Rattle.yq_outline.specs.Labelled.{labelled_from}
 use Rattle.yq_outline.proofs.Finding.{FoundNode, entry_of, labelled_path, path_node}
 use Rattle.yq_outline.proofs.PlaceLaws.{at}
-use Rattle.yq_places.proofs.ReadLaws.{cut_is, text_takes}
+use Rattle.yq_documents.proofs.ReadLaws.{cut_is, text_takes}
 use Rattle.yq_places.proofs.RowPathLaws.{found_place, document_fine}
 use Rattle.yq_places.specs.Existence.{are_none, IsNull, some_lines, flow_written, or_false, entry_written, document_written, ContentsExist, EntriesExist}
 use Rattle.yq_documents.specs.Pieces.{node_piece, head_piece}

@@ -24,7 +24,7 @@ use Rattle.yq_documents.specs.LinesInRows.{document_row}
 use Rattle.yq_documents.proofs.PartRows.{each}
 use Rattle.yq_places.proofs.EntryPlacedLaws.{entries_placed}
 use Rattle.yq_places.proofs.CommentHolds.{comments_hold}
-use Rattle.yq_places.proofs.ReadLaws.{text_takes}
+use Rattle.yq_documents.proofs.ReadLaws.{text_takes}
 use Rattle.yq_places.proofs.RowPathLaws.{document_fine}
 use Rattle.yq_documents.proofs.PartRows.{part_begins}
 use Rattle.yq_places.specs.PrintedLines.{printed_lines, line_in}

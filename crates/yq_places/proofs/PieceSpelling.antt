@@ -29,7 +29,7 @@ use Rattle.yq_outline.specs.Positions.{has_no_mark}
 use Rattle.yq_documents.proofs.PartRows.{each}
 use Rattle.yq_outline.proofs.Decides.{flatten-group, even_from}
 use Rattle.yq_outline.proofs.Finding.{entry_of, labelled_path}
-use Rattle.yq_places.proofs.ReadLaws.{cut_is, text_takes}
+use Rattle.yq_documents.proofs.ReadLaws.{cut_is, text_takes}
 use Rattle.yq_places.proofs.RowPathLaws.{found_place, document_fine}
 use Rattle.yq_documents.specs.Pieces.{TextPiece, node_piece, head_piece}
 use Rattle.yq_places.specs.PrintedLines.{line_front, PrintedLine, print_line, print_lines, line_in, run_piece, lines_piece}

@@ -25,7 +25,7 @@ use Rattle.yq_documents.specs.Located.{steps_of}
 use Rattle.yq_outline.specs.Outline.{flatten}
 use Rattle.yq_outline.specs.Places.{lines_before, find}
 use Rattle.yq_documents.specs.Reading.{read_at}
-use Rattle.yq_places.proofs.ReadLaws.{text_takes}
+use Rattle.yq_documents.proofs.ReadLaws.{text_takes}
 use Rattle.yq_documents.specs.Pieces.{TextPiece, node_piece, head_piece, tail_comment, content_comment, last_run, before_run, gap_comment}
 use Rattle.yq_documents.proofs.RunLaws.{run_split}
 use Rattle.yq_places.specs.PathPieces.{BlockEntry, content_piece, FlowEntry, flow_in, flow_under, flow_at, content_inline, line_inline, flow_piece, flow_content, PrintedDocument, printed_document, entry_with, found_entry, piece_in_entry, piece_in}

@@ -11,13 +11,14 @@ ghost use Rattle.yq_outline.specs.Lines.{head_of};
 ghost use Rattle.yq_documents.specs.RowReading as spec;
 ghost use Rattle.yq_outline.specs.View.{head_view, head_flow};
 
+use crate::content::{content_of, plain_head};
 use crate::flow_keys::keys_fault;
 use std::alloc::{AllocError, Global};
 use std::num::NonZeroU64;
 use yq_core::{Form, Inline, Kind, Place, ReadError, ReadFault, first_is, is_quoted};
 use yq_documents::is_block_head;
 use yq_inline::read_inline;
-use yq_outline::{Content, Head, content_of, plain_head};
+use yq_outline::{Content, Head};
 use yq_row_table::Row;
 use yq_scalar::{content, read_block};
 use yq_scalar_reader::plain::holds_break;

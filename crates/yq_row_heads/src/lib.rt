@@ -1,6 +1,7 @@
 //! The heads of rows, read.
 #![tactic(auto)]
 
+mod content;
 mod flow_keys;
 mod head;
 

@@ -3,7 +3,7 @@ use Rattle.std.proofs.Common.{◌≡◌, ℕ, suc, false, ◌+◌, ◌<◌, ◌�
 use Rattle.std.proofs.Common.{IfOk, IfErr, string_bytes, refl, sym, ap, ◌∙◌, subst, take_all, arith}
 use Rattle.yq_row_table.specs.Rows.{Cut}
 use Rattle.yq_documents.specs.Reading.{documents, read_at}
-use Rattle.yq_places.proofs.ReadLaws.{read_takes}
+use Rattle.yq_documents.proofs.ReadLaws.{read_takes}
 use Rattle.yq_semantics.specs.Program.{Program, Update, read, updates, update_at, update_count, is_read}
 use Rattle.yq_text.specs.Splice.{Splice}
 use Rattle.yq_text.specs.declared.edited.Edited.{Edited}

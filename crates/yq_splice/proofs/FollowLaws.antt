@@ -18,7 +18,7 @@ use Rattle.yq_documents.specs.Reading.{documents, cut_of, read_at}
 use Rattle.yq_outline.specs.RowWalk.{AreKnown}
 use Rattle.yq_places.specs.RowWalk.{StayKnown}
 use Rattle.yq_outline.specs.declared.line_position.KnownItems.{KnownItems}
-use Rattle.yq_places.proofs.ReadLaws.{parts_read}
+use Rattle.yq_documents.proofs.ReadLaws.{parts_read}
 use Rattle.yq_semantics.specs.Fits.{Fits}
 use Rattle.yq_semantics.specs.Operations.{Operation}
 use Rattle.yq_semantics.specs.Rooms.{room_of}

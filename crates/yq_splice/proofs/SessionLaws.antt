@@ -21,7 +21,7 @@ use Rattle.yq_documents.specs.Reading.{all_documents, documents, cut_of, read_at
 use Rattle.yq_outline.specs.RowWalk.{AreKnown}
 use Rattle.yq_places.specs.RowWalk.{HasCut, StayKnown}
 use Rattle.yq_outline.specs.declared.line_position.KnownItems.{KnownItems}
-use Rattle.yq_places.proofs.ReadLaws.{text_takes, read_takes}
+use Rattle.yq_documents.proofs.ReadLaws.{text_takes, read_takes}
 use Rattle.yq_semantics.specs.Operations.{Operation}
 use Rattle.yq_text.specs.Changing.{IsChange}
 use Rattle.yq_text.specs.Script.{new_text}

@@ -12,20 +12,21 @@ ghost use Rattle.yq_edit_laws.specs.Valid.{AreServed};
 use crate::session::Session;
 use std::alloc::{AllocError, Global};
 use yq_batch::{carry_in_rows, carry_together};
+use yq_documents::Documents;
 use yq_edit_laws::{EditError, operand_holds};
 use yq_lookup::CutText;
 use yq_operation::carry_one;
 use yq_row_table::Places;
 use yq_semantics::Op;
 use yq_text::{Edited, Splice};
-use yq_tree::{Documents, read};
+use yq_tree::read;
 
 /// An operation carried out on a text.
 fn carry(alloc: Global, text: &str, op: &Op) -> Result<Edited, EditError>
     ensures { Edits result (spec.carried (operation_of op.now) text.now) }
 {
     let documents = read(alloc, text.as_bytes())?;
-    carry_one(alloc, &documents.cut(), op)
+    carry_one(alloc, &CutText::of(&documents), op)
 }
 
 /// Carries out an operation on a text that has a reading and whose documents
@@ -152,7 +153,7 @@ pub fn carry_plan(
     ensures { Edits result (edit_behind splices.items (spec.carry_all (operations_of ops.now)
         text.now)) }
 {
-    let at_once = carry_at_once(alloc, &documents.cut(), ops)?;
+    let at_once = carry_at_once(alloc, &CutText::of(&documents), ops)?;
     if let Some(edited) = at_once {
         return Ok(edited_behind(splices, edited)?);
     }

@@ -7,9 +7,9 @@ ghost use Rattle.yq_documents.specs.Pieces.{span};
 ghost use Rattle.yq_documents.specs.Reading.{cut_of};
 ghost use Rattle.yq_places.specs.EntryReading as spec;
 
-use crate::document::Documents;
 use yq_core::{Entry, Step};
-use yq_documents::{Decoded, Path, Span};
+use yq_documents::{Decoded, Documents, Path, Span};
+use yq_lookup::CutText;
 use yq_outline::Head;
 use yq_row_walk::reach;
 
@@ -52,18 +52,16 @@ fn decoded_entry<'d, 't>(decoded: Option<&'d Decoded<'t>>, steps: &[Step]) -> Op
     }
 }
 
-impl<'t> Documents<'t> {
-    /// The item or entry of a flow collection at a path, if it leads to one.
-    pub(crate) fn flow_entry(&self, path: &Path) -> Option<Entry<'_, 't>>
-        ensures { option_map entry_view result ≡ spec.flow_entry_at path.now (cut_of self.now) }
-    {
-        let cut = self.cut();
-        let _whole = cut.whole();
-        let document = cut.stretch(path.doc)?;
-        let (at, left) = reach(cut.rows(), document, cut.known(), &path.steps)?;
-        if left.is_empty() {
-            return None;
-        }
-        decoded_entry(self.read.decoded(at.row), left)
+/// The item or entry of a flow collection at a path, if it leads to one.
+pub(crate) fn flow_entry<'d, 't>(documents: &'d Documents<'t>, path: &Path) -> Option<Entry<'d, 't>>
+    ensures { option_map entry_view result ≡ spec.flow_entry_at path.now (cut_of documents.now) }
+{
+    let cut = CutText::of(documents);
+    let _whole = cut.whole();
+    let document = cut.stretch(path.doc)?;
+    let (at, left) = reach(cut.rows(), document, cut.known(), &path.steps)?;
+    if left.is_empty() {
+        return None;
     }
+    decoded_entry(documents.decoded(at.row), left)
 }

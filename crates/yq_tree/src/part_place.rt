@@ -5,55 +5,53 @@ ghost use Rattle.yq_places.specs.PathPieces.{path_piece};
 ghost use Rattle.yq_documents.specs.Reading.{cut_of};
 ghost use Rattle.yq_documents.specs.declared.path.Part.TheVariants as parts;
 
-use crate::document::Documents;
-use crate::flow_place::{content_span, entry_span};
-use yq_documents::{Part, Path, Span};
+use crate::flow_place::{content_span, entry_span, flow_entry};
+use yq_documents::{Documents, Part, Path, Span};
+use yq_lookup::CutText;
 
-impl Documents<'_> {
-    /// The place of the entry or item at a path.
-    fn entry_place(&self, path: &Path) -> Option<Span>
-        ensures { option_map span result ≡
-            option_map piece_span (path_piece path.now parts.Entry (cut_of self.now)) }
-    {
-        let _whole = self.whole();
-        if let Some(place) = self.cut().entry_place(path) {
-            return Some(place);
-        }
-        let entry = self.flow_entry(path)?;
-        Some(entry_span(&entry))
+/// The place of the entry or item at a path.
+fn entry_place(documents: &Documents<'_>, path: &Path) -> Option<Span>
+    ensures { option_map span result ≡
+        option_map piece_span (path_piece path.now parts.Entry (cut_of documents.now)) }
+{
+    let _rows = documents.rows();
+    if let Some(place) = CutText::of(documents).entry_place(path) {
+        return Some(place);
     }
+    let entry = flow_entry(documents, path)?;
+    Some(entry_span(&entry))
+}
 
-    /// The place of the content of the node at a path.
-    fn content_place(&self, path: &Path) -> Option<Span>
-        ensures { option_map span result ≡
-            option_map piece_span (path_piece path.now parts.Content (cut_of self.now)) }
-    {
-        let _whole = self.whole();
-        if let Some(place) = self.cut().content_place(path) {
-            return Some(place);
-        }
-        let entry = self.flow_entry(path)?;
-        content_span(&entry)
+/// The place of the content of the node at a path.
+fn content_place(documents: &Documents<'_>, path: &Path) -> Option<Span>
+    ensures { option_map span result ≡
+        option_map piece_span (path_piece path.now parts.Content (cut_of documents.now)) }
+{
+    let _rows = documents.rows();
+    if let Some(place) = CutText::of(documents).content_place(path) {
+        return Some(place);
     }
+    let entry = flow_entry(documents, path)?;
+    content_span(&entry)
+}
 
-    /// The place of a part of the node at a path, in bytes from the start of the text; none, where the
-    /// path leads nowhere or the node has no such part. `Content` is what stands in the head, without its
-    /// anchor: a block scalar with its lines and their breaks; or a block collection, from its first key
-    /// or dash to the end of its last line, before its break; a null of which nothing but perhaps an
-    /// anchor is written has none. `Entry` goes from the key or dash to the end of the entry's or item's
-    /// last line, before its break; a root has none. Inside a flow collection it goes from the key, or
-    /// from the item with its anchor, to the end of the node. `HeadComment` is the lines of the run of
-    /// comments above the row that the key or dash begins, with their breaks; `LineComment` goes from `#`
-    /// to the line's end, before its break.
-    pub fn extent(&self, path: &Path, part: Part) -> Option<Span>
-        ensures { option_map span result ≡
-            option_map piece_span (path_piece path.now part (cut_of self.now)) }
-    {
-        match part {
-            Part::Content => self.content_place(path),
-            Part::Entry => self.entry_place(path),
-            Part::HeadComment => self.cut().head_comment_place(path),
-            Part::LineComment => self.cut().line_comment_place(path),
-        }
+/// The place of a part of the node at a path, in bytes from the start of the text; none, where the
+/// path leads nowhere or the node has no such part. `Content` is what stands in the head, without its
+/// anchor: a block scalar with its lines and their breaks; or a block collection, from its first key
+/// or dash to the end of its last line, before its break; a null of which nothing but perhaps an
+/// anchor is written has none. `Entry` goes from the key or dash to the end of the entry's or item's
+/// last line, before its break; a root has none. Inside a flow collection it goes from the key, or
+/// from the item with its anchor, to the end of the node. `HeadComment` is the lines of the run of
+/// comments above the row that the key or dash begins, with their breaks; `LineComment` goes from `#`
+/// to the line's end, before its break.
+pub fn extent(documents: &Documents<'_>, path: &Path, part: Part) -> Option<Span>
+    ensures { option_map span result ≡
+        option_map piece_span (path_piece path.now part (cut_of documents.now)) }
+{
+    match part {
+        Part::Content => content_place(documents, path),
+        Part::Entry => entry_place(documents, path),
+        Part::HeadComment => CutText::of(documents).head_comment_place(path),
+        Part::LineComment => CutText::of(documents).line_comment_place(path),
     }
 }

@@ -10,11 +10,11 @@ ghost use Rattle.yq_documents.specs.Documents.{Document, ReadsDocuments};
 ghost use Rattle.yq_documents.specs.Reading as spec;
 ghost use Rattle.yq_documents.specs.Ready.{TextIsReady};
 
-use crate::document::Documents;
 use std::alloc::Global;
 use std::num::NonZeroU64;
 use yq_compose::read_rows;
 use yq_core::{FaultKind, ReadError, ReadFault};
+use yq_documents::Documents;
 use yq_outline::lines_shaped;
 use yq_rows::scan;
 
@@ -48,7 +48,7 @@ fn read_text(alloc: Global, text: &str) -> Result<Documents<'_>, ReadError>
         Err(e) => return Err(e),
     };
     match read_rows(alloc, text, rows) {
-        Ok(read) => Ok(Documents { read }),
+        Ok(documents) => Ok(documents),
         Err(e) => Err(e),
     }
 }

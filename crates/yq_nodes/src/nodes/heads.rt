@@ -18,7 +18,7 @@ ghost use Rattle.yq_documents.specs.Stretches.{IsLineIn, OfLineIn};
 use crate::nodes::body::Body;
 use crate::nodes::node::Written;
 use yq_core::{Kind, is_quoted, resolve};
-use yq_documents::{ReadText, anchor_name, decoded_key, head_decoded};
+use yq_documents::{Documents, anchor_name, decoded_key, head_decoded};
 use yq_outline::{Head, Position, between_quotes};
 use yq_row_walk::{has_head, lines_before_mark, rank_at};
 
@@ -60,7 +60,7 @@ fn head_body<'d, 't>(head: &'d Head<'t>) -> Option<Body<'d, 't>>
 
 /// What the head of a line spells, if it has one.
 pub(crate) fn line_head<'d, 't>(
-    text: &'d ReadText<'t>,
+    text: &'d Documents<'t>,
     document: usize,
     at: Position,
 ) -> Option<Body<'d, 't>>
@@ -79,7 +79,11 @@ pub(crate) fn line_head<'d, 't>(
 }
 
 /// The anchor in a line.
-pub(crate) fn line_anchor<'t>(text: &ReadText<'t>, document: usize, at: Position) -> Option<&'t str>
+pub(crate) fn line_anchor<'t>(
+    text: &Documents<'t>,
+    document: usize,
+    at: Position,
+) -> Option<&'t str>
     requires there { document < length (documents_of text.now) }
     requires line { IsLineIn text.now document at }
     ensures { OfLineIn text.now document at (λ l. borrowed result ≡ l.anchor) }
@@ -92,7 +96,7 @@ pub(crate) fn line_anchor<'t>(text: &ReadText<'t>, document: usize, at: Position
 }
 
 /// The key of a line's entry; an item has none.
-fn line_key<'d>(text: &'d ReadText<'_>, document: usize, at: Position) -> Option<&'d str>
+fn line_key<'d>(text: &'d Documents<'_>, document: usize, at: Position) -> Option<&'d str>
     requires there { document < length (documents_of text.now) }
     requires line { IsLineIn text.now document at }
     ensures { OfLineIn text.now document at (λ l. borrowed result ≡ key_of l.mark) }
@@ -105,7 +109,7 @@ fn line_key<'d>(text: &'d ReadText<'_>, document: usize, at: Position) -> Option
 }
 
 /// The gap before a line's row, where the line begins it.
-fn line_gap<'t>(text: &ReadText<'t>, document: usize, at: Position) -> &'t str
+fn line_gap<'t>(text: &Documents<'t>, document: usize, at: Position) -> &'t str
     requires there { document < length (documents_of text.now) }
     requires line { IsLineIn text.now document at }
     ensures { OfLineIn text.now document at (λ l. comments.head_comment result.now ≡
@@ -119,7 +123,7 @@ fn line_gap<'t>(text: &ReadText<'t>, document: usize, at: Position) -> &'t str
 }
 
 /// The tail of a line, where it ends its row's first line.
-fn line_tail<'t>(text: &ReadText<'t>, document: usize, at: Position) -> &'t str
+fn line_tail<'t>(text: &Documents<'t>, document: usize, at: Position) -> &'t str
     requires there { document < length (documents_of text.now) }
     requires line { IsLineIn text.now document at }
     ensures { OfLineIn text.now document at (λ l. comments.line_comment result.now ≡
@@ -134,7 +138,7 @@ fn line_tail<'t>(text: &ReadText<'t>, document: usize, at: Position) -> &'t str
 
 /// What is written about the entry or item of a line.
 pub(crate) fn line_written<'d, 't>(
-    text: &'d ReadText<'t>,
+    text: &'d Documents<'t>,
     document: usize,
     at: Position,
 ) -> Written<'d, 't>

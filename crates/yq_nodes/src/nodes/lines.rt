@@ -10,7 +10,7 @@ ghost use Rattle.yq_documents.specs.Reading.{documents_of};
 ghost use Rattle.yq_documents.specs.Stretches.{IsLineIn, OfLineIn, count_from, lines_under};
 
 use crate::nodes::under::Under;
-use yq_documents::ReadText;
+use yq_documents::Documents;
 use yq_outline::Position;
 use yq_row_walk::{is_bare, is_deeper, is_item_at, level_at, next};
 
@@ -25,7 +25,7 @@ pub(crate) fn has_lines(under: Under<'_, '_>) -> bool
 }
 
 /// Whether a line of a document is a node itself.
-pub(crate) fn begins_node(text: &ReadText<'_>, document: usize, at: Position) -> bool
+pub(crate) fn begins_node(text: &Documents<'_>, document: usize, at: Position) -> bool
     requires there { document < length (documents_of text.now) }
     requires line { IsLineIn text.now document at }
     ensures { OfLineIn text.now document at (λ l. result ≡ positions.has_no_mark l.mark) }
@@ -35,7 +35,7 @@ pub(crate) fn begins_node(text: &ReadText<'_>, document: usize, at: Position) ->
 }
 
 /// Whether a line of a document is no entry of a key.
-pub(crate) fn begins_item(text: &ReadText<'_>, document: usize, at: Position) -> bool
+pub(crate) fn begins_item(text: &Documents<'_>, document: usize, at: Position) -> bool
     requires there { document < length (documents_of text.now) }
     requires line { IsLineIn text.now document at }
     ensures { OfLineIn text.now document at (λ l. result ≡ is_item (key_of l.mark)) }
@@ -46,7 +46,7 @@ pub(crate) fn begins_item(text: &ReadText<'_>, document: usize, at: Position) ->
 
 /// The lines under a line of a document.
 pub(crate) fn under_line<'d, 't>(
-    text: &'d ReadText<'t>,
+    text: &'d Documents<'t>,
     document: usize,
     at: Position,
 ) -> Under<'d, 't>

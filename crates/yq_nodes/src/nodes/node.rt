@@ -22,7 +22,7 @@ use crate::nodes::heads::line_written;
 use crate::nodes::node_lines::{line_node, lines_node};
 use crate::nodes::under::Under;
 use yq_core::{Inline, Kind};
-use yq_documents::{ReadText, node_refers};
+use yq_documents::{Documents, node_refers};
 use yq_outline::Position;
 
 /// What a node is.
@@ -82,7 +82,7 @@ fn body_refers(body: &Body<'_, '_>) -> bool
 
 impl<'d, 't> Node<'d, 't> {
     /// The root of document `i` of a text, counted from 0.
-    pub fn root(text: &'d ReadText<'t>, i: usize) -> Node<'d, 't>
+    pub fn root(text: &'d Documents<'t>, i: usize) -> Node<'d, 't>
         requires { i < length (documents_of text.now) }
         ensures node { (d : Document) → document_at text.now i ≡ Some d → spec.node_of result ≡
             d.root }
@@ -106,7 +106,7 @@ impl<'d, 't> Node<'d, 't> {
     }
 
     /// The node of a line's entry or item.
-    pub(crate) fn of_line(text: &'d ReadText<'t>, document: usize, at: Position) -> Node<'d, 't>
+    pub(crate) fn of_line(text: &'d Documents<'t>, document: usize, at: Position) -> Node<'d, 't>
         requires there { document < length (documents_of text.now) }
         requires line { IsLineIn text.now document at }
         ensures node { OfLineIn text.now document at (λ l. spec.node_of result ≡

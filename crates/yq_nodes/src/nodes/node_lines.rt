@@ -12,7 +12,7 @@ use crate::nodes::flow::first_anchor;
 use crate::nodes::heads::{line_anchor, line_head};
 use crate::nodes::lines::{begins_item, begins_node, has_lines, under_line};
 use crate::nodes::under::Under;
-use yq_documents::ReadText;
+use yq_documents::Documents;
 use yq_outline::Position;
 
 /// The node that lines stand for, behind an anchor. A node on a line of its own is that line's, with
@@ -52,7 +52,7 @@ pub(crate) fn lines_node<'d, 't>(under: Under<'d, 't>, before: Option<&'t str>) 
 
 /// The node of an entry or item: that of its head, or of the lines under its line.
 pub(crate) fn line_node<'d, 't>(
-    text: &'d ReadText<'t>,
+    text: &'d Documents<'t>,
     document: usize,
     at: Position,
 ) -> Named<'d, 't>

@@ -13,16 +13,16 @@ use Rattle.yq_edit_laws.proofs.OrderLaws.{fails_behind}
 use Rattle.yq_splice.proofs.carrying.carry_plan.Goals as goal
 
 pub carry_at_once-requires-clause-read : goal.carry_at_once-requires-clause-read
-carry_at_once-requires-clause-read c = subst (λ (t : List ℕ). read_at t ≡ Some (cut_of t)) (sym c.cut.ensures) (ap read_at c.requires.same ∙ c.requires.read)
+carry_at_once-requires-clause-read c = subst (λ (t : List ℕ). read_at t ≡ Some (cut_of t)) (sym c.of.ensures) (ap read_at c.requires.same ∙ c.requires.read)
 
 pub carry_at_once-requires-clause-serves : goal.carry_at_once-requires-clause-serves
-carry_at_once-requires-clause-serves c = subst (AreServed (operations_of c.args.ops.now)) (sym c.requires.same ∙ sym c.cut.ensures) c.requires.serves
+carry_at_once-requires-clause-serves c = subst (AreServed (operations_of c.args.ops.now)) (sym c.requires.same ∙ sym c.of.ensures) c.requires.serves
 
 pub returns-in-Some : goal.returns-in-Some
 returns-in-Some c =
     let one =
     subst (λ (o : Option Edited). IfSome o (λ e. carry_all (operations_of c.args.ops.now) c.cut.result ≡ gives (string_bytes e.text) e.splices.items)) c.in-Some.is c.in_ok-at_once.ensures.ok in
-    ap (edit_behind c.args.splices.items) (ap (carry_all (operations_of c.args.ops.now)) (sym (c.cut.ensures ∙ c.requires.same)) ∙ one)
+    ap (edit_behind c.args.splices.items) (ap (carry_all (operations_of c.args.ops.now)) (sym (c.of.ensures ∙ c.requires.same)) ∙ one)
     ∙ λ i. gives (string_bytes (sym c.in_ok-edited_behind.ensures.0 i)) (sym c.in_ok-edited_behind.ensures.1 i)
 
 pub returns-in_err-at_once : goal.returns-in_err-at_once
@@ -30,4 +30,4 @@ returns-in_err-at_once c =
     let p = err_from_is_err_and c.from_residual.result c.from_residual.ensures.1 in
     rw (p.1, p.2)
     (fails_behind c.in_err-at_once.field-0.0 c.args.splices.items (carry_all (operations_of c.args.ops.now) c.args.text.now)
-    (subst (λ (t : List ℕ). EditFails c.in_err-at_once.field-0.0 (carry_all (operations_of c.args.ops.now) t)) (c.cut.ensures ∙ c.requires.same) c.in_err-at_once.ensures.err))
+    (subst (λ (t : List ℕ). EditFails c.in_err-at_once.field-0.0 (carry_all (operations_of c.args.ops.now) t)) (c.of.ensures ∙ c.requires.same) c.in_err-at_once.ensures.err))

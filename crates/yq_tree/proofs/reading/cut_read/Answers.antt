@@ -1,4 +1,4 @@
-use Rattle.yq_places.proofs.ReadLaws.{text_takes, text_again}
+use Rattle.yq_documents.proofs.ReadLaws.{text_takes, text_again}
 use Rattle.yq_tree.proofs.reading.cut_read.Goals as goal
 
 pub returns-clause-taken : goal.returns-clause-taken

@@ -1,4 +1,4 @@
-use Rattle.yq_places.proofs.ReadyLaws.{read_ready}
+use Rattle.yq_documents.proofs.ReadyLaws.{read_ready}
 use Rattle.yq_tree.proofs.reading.documents_ready.Goals as goal
 
 pub returns : goal.returns

@@ -1,0 +1,55 @@
+-- Documents, read from parts and told by them.
+use Rattle.std.proofs.Common.{◌≡◌, List, [], ◌∷◌, map, Bool, true, ◌&&◌, refl, sym, rules}
+use Rattle.std.proofs.lemmas.Bool.{and_parts, and_from, leb-true, le-leb, cond-true}
+use Rattle.std.proofs.lemmas.Option.{cond_some}
+use Rattle.std.specs.List.{list_all}
+use Rattle.yq_core.specs.Tree.{Node}
+use Rattle.yq_row_table.specs.Rows.{Part}
+use Rattle.yq_documents.specs.Documents.{Document, IsRoot, IsDocument, AreDocuments}
+use Rattle.yq_outline.specs.Group.{group, is_fine}
+use Rattle.yq_outline.specs.Outline.{Line, value}
+use Rattle.yq_documents.specs.Reading.{part_document, is_document}
+use Rattle.yq_outline.proofs.ByRules.{rules_from, rules_give}
+use Rattle.yq_documents.proofs.Conditions.{keys_are, are_keys, short_is, is_short}
+use Rattle.yq_outline.proofs.NameConditions.{anchors_are, are_anchors, bound_are, are_bound_of}
+use Rattle.yq_outline.proofs.Decides.{stand-sound, stand-complete}
+use Rattle.yq_outline.proofs.KeyLaws.{unique_is, is_unique}
+
+-- the root of lines, as a test and as a fact
+root_is : (ls : List Line) → is_fine (group ls) ≡ true → IsRoot ls (value (group ls))
+root_is [] e = refl
+root_is (l ∷ ls) e =
+    let s = stand-sound (l ∷ ls) (value (group (l ∷ ls))) (cond-true _ _ _ e) in (s.0, rules_from s.0 (l ∷ ls) (value (group (l ∷ ls))) s.1 l ls refl)
+
+is_root : (ls : List Line) (node : Node) → IsRoot ls node → (is_fine (group ls) ≡ true) × (value (group ls) ≡ node)
+is_root [] node h = (refl, sym h)
+is_root (l ∷ ls) node h = cond_some (is_fine (group (l ∷ ls))) (value (group (l ∷ ls))) node (stand-complete (l ∷ ls) node h.0 (rules_give h.0 (l ∷ ls) node h.1))
+
+-- what the tests of a document are, one behind the other
+abbrev Tests : Bool → Bool → Bool → Bool → Bool → Type 0
+Tests a b c d e = (a ≡ true) × (b ≡ true) × (c ≡ true) × (d ≡ true) × (e ≡ true)
+
+tests_are : (a b c d e : Bool) → (a && (b && (c && (d && e)))) ≡ true → Tests a b c d e
+tests_are a b c d e h = search (rules, and_parts)
+
+are_tests : (a b c d e : Bool) → Tests a b c d e → (a && (b && (c && (d && e)))) ≡ true
+are_tests a b c d e h = and_from a _ h.0 (and_from b _ h.1 (and_from c _ h.2 (and_from d e h.3 h.4)))
+
+pub document_is : (p : Part) → is_document p ≡ true → IsDocument p (part_document p)
+document_is p e = search (rules, tests_are, and_parts, root_is, keys_are, unique_is, leb-true, anchors_are, bound_are, short_is)
+
+pub is_document_of : (p : Part) (d : Document) → IsDocument p d → (is_document p ≡ true) × (part_document p ≡ d)
+is_document_of p d h = search (rules, is_root, le-leb, is_unique, are_bound_of, and_from, are_tests, are_keys, is_short, are_anchors)
+
+pub documents_take : (ps : List Part) → list_all is_document ps ≡ true → AreDocuments ps (map part_document ps)
+documents_take [] e = tt
+documents_take (p ∷ ps) e = let t = and_parts (is_document p) (list_all is_document ps) e in (document_is p t.0, documents_take ps t.1)
+
+pub documents_again : (ps : List Part) (ds : List Document) → AreDocuments ps ds → (list_all is_document ps ≡ true) × (map part_document ps ≡ ds)
+documents_again [] [] h = (refl, refl)
+documents_again [] (d ∷ ds) h = absurd h
+documents_again (p ∷ ps) [] h = absurd h
+documents_again (p ∷ ps) (d ∷ ds) h =
+    let one = is_document_of p d h.0 in
+    let more = documents_again ps ds h.1 in
+    (and_from (is_document p) (list_all is_document ps) one.0 more.0, λ i. one.1 i ∷ more.1 i)

@@ -1,5 +1,0 @@
-use Rattle.yq_documents.proofs.HoldLaws.{rows_held}
-use Rattle.yq_documents.proofs.read_text.ReadText.into_rows.Goals as goal
-
-pub returns : goal.returns
-returns c = rows_held c.self.invariant c.self.view_is

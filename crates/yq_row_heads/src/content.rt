@@ -1,0 +1,62 @@
+//! The texts that keys and scalars stand for.
+ghost use Rattle.std.specs.List.{list_any};
+ghost use Rattle.std.specs.Prelude.{◌≡◌, ◌==◌, IfOk, None, Some, if◌then◌else◌, true};
+ghost use Rattle.yq_core.specs.ContentReading as reading;
+ghost use Rattle.yq_core.specs.Quoted.{IsQuotedText};
+ghost use Rattle.yq_core.specs.Scalar.{plain_of};
+ghost use Rattle.yq_core.specs.Scalars as scalars;
+ghost use Rattle.yq_core.specs.Trees.{scalar_node};
+ghost use Rattle.yq_outline.specs.View.{content_view, head_view, head_flow};
+
+use std::alloc::{AllocError, Global};
+use yq_core::{Kind, is_quoted, resolve};
+use yq_scalar_reader::folding::{plain_content, quoted_content};
+use yq_scalar_reader::plain::holds_break;
+
+/// Whether a backslash stands in double quotes, or a quote in single ones.
+fn holds_escape(quote: u8, inner: &str) -> bool
+    ensures { result ≡ list_any (λ b. b == (if quote == 34 then 92 else 39)) inner.now }
+{
+    let sign = if quote == b'"' { b'\\' } else { b'\'' };
+    inner.as_bytes().iter().any(|b| *b == sign)
+}
+
+/// The text that a quoted scalar stands for: one on one line without escapes is borrowed.
+fn quoted_text<'t>(alloc: Global, piece: &'t str) -> Result<Content<'t>, AllocError>
+    requires { IsQuotedText piece.now }
+    ensures { IfOk result (λ c. content_view c ≡ reading.quoted_content piece.now) }
+{
+    let inner = between_quotes(piece);
+    if holds_break(inner) || holds_escape(piece.as_bytes()[0], inner) {
+        let text = quoted_content(alloc, piece)?;
+        return Ok(Content::Own(text));
+    }
+    Ok(Content::Slice(inner))
+}
+
+/// The text that a key or a scalar, as it is written, stands for: one on one line without escapes is borrowed.
+#[tactic(auto, unfolding(yq_core::specs::Scalars::scalar_content), using(yq_outline::proofs::OneLine::one_line))]
+pub(crate) fn content_of<'t>(alloc: Global, piece: &'t str) -> Result<Content<'t>, AllocError>
+    requires { scalars.is_quoted piece.now ≡ true → IsQuotedText piece.now }
+    ensures { IfOk result (λ c. content_view c ≡ scalars.scalar_content piece.now) }
+{
+    if is_quoted(piece.as_bytes()) {
+        return quoted_text(alloc, piece);
+    }
+    if holds_break(piece) {
+        let text = plain_content(alloc, piece)?;
+        return Ok(Content::Own(text));
+    }
+    Ok(Content::Slice(piece))
+}
+
+/// The head that a plain scalar on one line is.
+pub(crate) fn plain_head(text: &str) -> Head<'_>
+    ensures view { head_view result ≡ Some (scalar_node (plain_of text.now)) }
+    ensures flow { head_flow result ≡ None }
+{
+    match resolve(text) {
+        Kind::Null => Head::Scalar(Kind::Null, Content::Slice("null")),
+        kind => Head::Scalar(kind, Content::Slice(text)),
+    }
+}
