@@ -10,6 +10,7 @@ ghost use Rattle.yq_outline.specs.View.{content_view, head_view, head_flow};
 
 use std::alloc::{AllocError, Global};
 use yq_core::{Kind, is_quoted, resolve};
+use yq_outline::{Content, Head, between_quotes};
 use yq_scalar_reader::folding::{plain_content, quoted_content};
 use yq_scalar_reader::plain::holds_break;
 
