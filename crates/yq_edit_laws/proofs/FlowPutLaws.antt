@@ -12,9 +12,9 @@ use Rattle.yq_core.specs.Tree as tree
 use Rattle.yq_core.specs.declared.style.Place.TheVariants.{Flow}
 use Rattle.yq_core.specs.Collections.{CollAt, CollPieces, IsCollAt, item_in, collection_put, room_in}
 use Rattle.yq_core.specs.Entries.{EntryPieces, item_at}
-use Rattle.yq_flow_edits.specs.FlowEdits.{FlowEdit, IsFlowEdited, anchor_in, content_node, put_content, put_item, put_value, replacing, space_for, spaced_key}
+use Rattle.yq_flow_edits.specs.FlowEdits.{FlowEdit, IsFlowEdited, anchor_in, put_content, put_item, put_value, replacing, space_for, spaced_key}
 use Rattle.yq_core.specs.Nodes as inline
-use Rattle.yq_core.specs.Nodes.{Key, bare, keyed, Items, none, item, is_empty_node, node_text}
+use Rattle.yq_core.specs.Nodes.{Key, bare, keyed, Items, none, item, is_empty_node, node_text, without_anchor}
 use Rattle.yq_core.specs.Places.{locate}
 use Rattle.yq_core.specs.Scalars.{scalar_style}
 use Rattle.yq_core.specs.Trees.{inner, key_content, with_anchor_name, scalar_node}
@@ -206,7 +206,7 @@ module _ (c : Cut) (doc : ℕ) (path : List Step) (v : tree.Node) (read : read_a
           root =
               ap (λ (f : tree.Node → tree.Node). f (root_of at.part)) (step_change path a.init a.step (replaced_node v) a.last)
               ∙ ap (λ n. changed_at path (replaced_node n) (root_of at.part)) (sym (led_same (is_block_root at.part) (lead_of at.part) path v (below_root (is_block_root at.part) path a.init a.step a.last)));
-          pieces = (subst IsPiece (sym (before_is (cut_text c) there.before (e.old ++ e.behind) there.text)) parts.0, (space_there (content_node a.item.node), (written_piece (content_written a.item.node) v h, (parts.1, tt))));
+          pieces = (subst IsPiece (sym (before_is (cut_text c) there.before (e.old ++ e.behind) there.text)) parts.0, (space_there (without_anchor a.item.node), (written_piece (content_written a.item.node) v h, (parts.1, tt))));
           stays = omega (
             arith,
             (around_is x stands).longer,
@@ -232,7 +232,7 @@ module _ (c : Cut) (doc : ℕ) (path : List Step) (v : tree.Node) (read : read_a
     pub head_behind : LeadsToHead next doc stem
     head_behind = stay.head_behind c doc a.init a.coll at a.coll.gap items stem left init h
 
-    pub part_behind : (ss : List Step) (r : Step) (z : EntryPieces) → IsPartOf c doc (stem ++ ss) r z → length z.rest < length a.item.rest → length (node_text (content_node z.node) z.rest) ≤ length a.item.rest → IsPartOf next doc (stem ++ ss) r z
+    pub part_behind : (ss : List Step) (r : Step) (z : EntryPieces) → IsPartOf c doc (stem ++ ss) r z → length z.rest < length a.item.rest → length (node_text (without_anchor z.node) z.rest) ≤ length a.item.rest → IsPartOf next doc (stem ++ ss) r z
     part_behind ss r z part less begins =
         let slot : EntryPieces = record { key = bare; node = at.row.node; rest = behind_node c doc at.part at.row } in
         let own = λ (o : Option CollPieces). o >>= λ w. item_at w.close r w.items w.rest in

@@ -5,11 +5,11 @@ use Rattle.yq_core.specs.Answers.{◌>>=◌}
 use Rattle.yq_core.specs.Paths.{Step, is_here, further}
 use Rattle.yq_core.specs.Collections.{CollPieces, change_item, coll_along, coll_in, collection_put, put_coll, within_items}
 use Rattle.yq_core.specs.Entries.{EntryPieces, entry_pieces_at, path_inside, item_at}
-use Rattle.yq_core.specs.Nodes.{Key, bare, keyed, FlowNode, empty, alias, scalar, coll, anchored, Items, none, item, flow_items_text, key_text, node_text, sep_text}
+use Rattle.yq_core.specs.Nodes.{Key, bare, keyed, FlowNode, empty, alias, scalar, coll, anchored, Items, none, item, flow_items_text, key_text, node_text, sep_text, without_anchor}
 use Rattle.yq_core.specs.Trees.{inner, key_content}
 use Rattle.yq_core.proofs.NodeAgain.{key_longer, node_longer, sep_longer}
 use Rattle.yq_core.proofs.PathLaws.{then_some}
-use Rattle.yq_flow_edits.specs.FlowEdits.{content_node, put_content, put_item, spaced_key}
+use Rattle.yq_flow_edits.specs.FlowEdits.{put_content, put_item, spaced_key}
 use Rattle.yq_flow_edits.proofs.ItemPlaces.{item_rest}
 use Rattle.yq_edit_laws.proofs.FlowStandings.{coll_entry, node_entry}
 
@@ -28,7 +28,7 @@ node_in_items k s (item key n sep is) rest y e = go (is_here s (inner (key_conte
     go true again e = omega (arith, key_longer key (node_text n behind), ap (λ (z : EntryPieces). length (node_text z.node z.rest)) (same_Some _ _ e))
     go false again e = omega (arith, again e, sep_longer sep (flow_items_text k is rest), node_longer n behind, key_longer key (node_text n behind))
 
-content_within : (node : FlowNode) (rest : List ℕ) → length (node_text (content_node node) rest) ≤ length (node_text node rest)
+content_within : (node : FlowNode) (rest : List ℕ) → length (node_text (without_anchor node) rest) ≤ length (node_text node rest)
 unfolding node_text
 content_within empty rest = omega arith
 content_within (alias n) rest = omega arith
@@ -36,7 +36,7 @@ content_within (scalar p) rest = omega arith
 content_within (coll k gap is) rest = omega arith
 content_within (anchored n gap node) rest = omega (arith, length-append n (gap ++ node_text node rest), length-append gap (node_text node rest))
 
-inside_within : (s : Step) (node : FlowNode) (rest : List ℕ) (y : EntryPieces) → path_inside s node rest ≡ Some y → (length (node_text y.node y.rest) < length (node_text (content_node node) rest)) × (length rest ≤ length y.rest)
+inside_within : (s : Step) (node : FlowNode) (rest : List ℕ) (y : EntryPieces) → path_inside s node rest ≡ Some y → (length (node_text y.node y.rest) < length (node_text (without_anchor node) rest)) × (length rest ≤ length y.rest)
 unfolding node_text
 inside_within s empty rest y e = absurd (none-some _ e)
 inside_within s (alias n) rest y e = absurd (none-some _ e)
@@ -48,7 +48,7 @@ part_rest : (q : List Step) (x z : EntryPieces) → entry_pieces_at q x ≡ Some
 part_rest [] x z e = omega (arith, ap (λ (v : EntryPieces). length v.rest) (same_Some _ _ e))
 part_rest (s ∷ q) x z e = let u = then_some (path_inside s x.node x.rest) e in omega (arith, part_rest q u.0 z u.2, (inside_within s x.node x.rest u.0 u.1).1)
 
-part_within : (p : List Step) (s : Step) (x : EntryPieces) (w : CollPieces) (y : EntryPieces) → coll_along p x.node x.rest ≡ Some w → item_at w.close s w.items w.rest ≡ Some y → length (node_text y.node y.rest) < length (node_text (content_node x.node) x.rest)
+part_within : (p : List Step) (s : Step) (x : EntryPieces) (w : CollPieces) (y : EntryPieces) → coll_along p x.node x.rest ≡ Some w → item_at w.close s w.items w.rest ≡ Some y → length (node_text y.node y.rest) < length (node_text (without_anchor x.node) x.rest)
 part_within [] s x w y e at = (inside_within s x.node x.rest y (coll_entry s x.node x.rest w e ∙ at)).0
 part_within (t ∷ p) s x w y e at =
     let u = then_some (path_inside t x.node x.rest) e in
@@ -141,9 +141,9 @@ node_changed s r f q (coll k gap is) rest y z here there less own_stays = item_c
 node_changed s r f q (anchored n gap node) rest y z here there less own_stays = node_changed s r f q node rest y z here there less own_stays
 
 pub later_part : (p q : List Step) (s : Step) (m : FlowNode) (x : EntryPieces) (w : CollPieces) (y z : EntryPieces) → coll_along p x.node x.rest ≡ Some w → item_at w.close s w.items w.rest ≡ Some y → entry_pieces_at q x ≡ Some z →
-    length z.rest < length y.rest → length (node_text (content_node z.node) z.rest) ≤ length y.rest → entry_pieces_at q (record x { node = collection_put p w.gap (put_item s m w.items) x.node }) ≡ Some z
+    length z.rest < length y.rest → length (node_text (without_anchor z.node) z.rest) ≤ length y.rest → entry_pieces_at q (record x { node = collection_put p w.gap (put_item s m w.items) x.node }) ≡ Some z
 later_part p [] s m x w y z e here there less begins =
-    absurd (omega (arith, begins, node_longer y.node y.rest, part_within p s x w y e here, ap (λ (v : EntryPieces). length (node_text (content_node v.node) v.rest)) (same_Some _ _ there)))
+    absurd (omega (arith, begins, node_longer y.node y.rest, part_within p s x w y e here, ap (λ (v : EntryPieces). length (node_text (without_anchor v.node) v.rest)) (same_Some _ _ there)))
 later_part [] (r ∷ q) s m x w y z e here there less begins =
     let v = then_some (path_inside r x.node x.rest) there in
     ap (option_and_then (entry_pieces_at q)) (node_put s r m x.node x.rest w y v.0 e here v.1 (omega (arith, less, part_rest q v.0 z v.2))) ∙ v.2

@@ -9,9 +9,9 @@ use Rattle.yq_core.specs.Text.{front, is_white, is_feed, is_return, is_space, is
 use Rattle.yq_core.proofs.Bools.{at_byte}
 use Rattle.yq_core.specs.Alike.{Alike, stop, EndsItem, fresh, KeepsApart}
 use Rattle.yq_core.specs.Gaps.{IsInlineGap}
-use Rattle.yq_core.specs.Nodes.{Key, bare, keyed, Sep, last, comma, FlowNode, Items, none, item, key_text, sep_text, node_text, flow_items_text, begins_with, begins_node, is_close, IsInlineKey, IsSep, is_empty_node, is_keyed, IsFlowNode, AreFlowItems}
+use Rattle.yq_core.specs.Nodes.{Key, bare, keyed, Sep, last, comma, FlowNode, Items, none, item, key_text, sep_text, node_text, flow_items_text, begins_with, begins_node, is_close, IsInlineKey, IsSep, is_empty_node, is_keyed, IsFlowNode, AreFlowItems, without_anchor}
 use Rattle.yq_core.specs.Entries.{EntryPieces, item_at}
-use Rattle.yq_flow_edits.specs.FlowEdits.{Becomes, content_node, space_for, put_content, put_item, put_value, FitsNode, add_item, is_none, behind_last, FitsItem}
+use Rattle.yq_flow_edits.specs.FlowEdits.{Becomes, space_for, put_content, put_item, put_value, FitsNode, add_item, is_none, behind_last, FitsItem}
 use Rattle.yq_flow_edits.specs.Removals.{is_marks, ends_marked, ends_return, IsApartFrom}
 use Rattle.yq_core.specs.Trees.{inner, key_content, tree_of, items_tree}
 use Rattle.yq_core.proofs.Alikes.{no_first, no_second, no_third, alike_append}
@@ -100,7 +100,7 @@ some_items k s (item key n sep is) rest y h = refl
 
 -- the node of an item replaced
 pub put_local : (d k : ℕ) (s : Step) (m : FlowNode) (is : Items) (rest : List ℕ) (y : EntryPieces) → is_close k ≡ true → AreFlowItems d k is rest → item_at k s is rest ≡ Some y → FitsNode d m y.rest →
-    Local d k is (put_item s m is) (change_child s (put_value (tree_of m)) (items_tree is)) rest (node_text (content_node y.node) []) (space_for (content_node y.node) ++ node_text m []) y.rest
+    Local d k is (put_item s m is) (change_child s (put_value (tree_of m)) (items_tree is)) rest (node_text (without_anchor y.node) []) (space_for (without_anchor y.node) ++ node_text m []) y.rest
 unfolding flow_items_text AreFlowItems items_tree
 put_local d k s m none rest y c a h f = cc
 put_local d k s m (item key n sep is) rest y c a h f = go (is_here s (inner (key_content key))) (put_local d k (further s) m is rest y c a.4) h where
@@ -114,9 +114,9 @@ put_local d k s m (item key n sep is) rest y c a h f = go (is_here s (inner (key
   others = change_child (further s) (put_value (tree_of m)) (items_tree is)
 
   Result : Items → tree.Children → EntryPieces → Type 0
-  Result new cs z = Local d k (item key n sep is) new cs rest (node_text (content_node z.node) []) (space_for (content_node z.node) ++ node_text m []) z.rest
+  Result new cs z = Local d k (item key n sep is) new cs rest (node_text (without_anchor z.node) []) (space_for (without_anchor z.node) ++ node_text m []) z.rest
 
-  go : (b : Bool) → (item_at k (further s) is rest ≡ Some y → FitsNode d m y.rest → Local d k is (put_item (further s) m is) others rest (node_text (content_node y.node) []) (space_for (content_node y.node) ++ node_text m []) y.rest) →
+  go : (b : Bool) → (item_at k (further s) is rest ≡ Some y → FitsNode d m y.rest → Local d k is (put_item (further s) m is) others rest (node_text (without_anchor y.node) []) (space_for (without_anchor y.node) ++ node_text m []) y.rest) →
       cond b (Some here) (item_at k (further s) is rest) ≡ Some y →
       Result (cond b (item (put_content m key n).0 (put_content m key n).1 sep is) (item key n sep (put_item (further s) m is)))
       (cond b (tree.child (inner (key_content key)) (put_value (tree_of m) (tree_of n)) (items_tree is)) (tree.child (inner (key_content key)) (tree_of n) others)) y

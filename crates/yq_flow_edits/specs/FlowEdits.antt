@@ -6,7 +6,7 @@ use Rattle.yq_core.specs.Tree as tree
 use Rattle.yq_core.specs.Collections.{CollPieces, CollAt, collection_put}
 use Rattle.yq_core.specs.Entries.{EntryPieces}
 use Rattle.yq_core.specs.Inline.{IsInline}
-use Rattle.yq_core.specs.Nodes.{Key, bare, keyed, last, comma, FlowNode, empty, alias, scalar, coll, anchored, Items, none, item, key_text, sep_text, node_text, is_empty_node, takes_anchor, is_keyed, IsInlineKey, IsFlowNode}
+use Rattle.yq_core.specs.Nodes.{Key, bare, keyed, last, comma, FlowNode, empty, alias, scalar, coll, anchored, Items, none, item, key_text, sep_text, node_text, is_empty_node, takes_anchor, is_keyed, IsInlineKey, IsFlowNode, without_anchor}
 use Rattle.yq_core.specs.Trees.{inner, with_anchor_name, key_content, tree_of}
 
 -- In a text the bytes `old` give way to `new`; behind them stands `behind` (own).
@@ -35,14 +35,6 @@ pub record IsFlowEdited (x : CollAt) (e : FlowEdit) (changed : tree.Node → tre
   pub inline : IsInline x.place x.indent x.around (edited_node x e) x.rest
   pub text : Becomes (node_text x.node x.rest) (node_text (edited_node x e) x.rest) e.old (e.lead ++ e.written) e.behind
   pub tree : tree_of (edited_node x e) ≡ changed (tree_of x.node)
-
--- the node without its anchor (own)
-abbrev pub content_node : FlowNode → FlowNode
-content_node empty = empty
-content_node (alias n) = alias n
-content_node (scalar p) = scalar p
-content_node (coll k gap is) = coll k gap is
-content_node (anchored n gap node) = node
 
 -- a space, where nothing is written (own)
 abbrev pub space_for : FlowNode → List ℕ
@@ -76,8 +68,8 @@ abbrev pub replacing : Step → EntryPieces → FlowNode → CollPieces → Flow
 replacing s y m c = record {
   gap = c.gap;
   items = put_item s m c.items;
-  old = node_text (content_node y.node) [];
-  lead = space_for (content_node y.node);
+  old = node_text (without_anchor y.node) [];
+  lead = space_for (without_anchor y.node);
   written = node_text m [];
   behind = y.rest;
 }
