@@ -1,5 +1,5 @@
 -- The tree that a document stands for.
-use Rattle.std.specs.Prelude.{ℕ, List, Option}
+use Rattle.std.specs.Prelude.{ℕ, List, Option, None}
 use Rattle.yq_core.specs.declared.kind.Kind.{Kind}
 
 -- what is told of an item or entry: its key, which an item has not, and its comments (YAML 1.2.2, section 3.2.2; own)
@@ -20,6 +20,13 @@ mutual
   pub data Children : Type 0 where
     none : Children
     child : Label → Node → Children → Children
+
+-- the anchor of a node, if it has one (YAML 1.2.2, section 6.9.2)
+abbrev pub anchor_of : Node → Option (List ℕ)
+anchor_of (alias name) = None
+anchor_of (scalar anchor kind text) = anchor
+anchor_of (list anchor cs) = anchor
+anchor_of (map anchor cs) = anchor
 
 -- the items or entries of a node (own)
 abbrev pub children_of : Node → Children

@@ -1,5 +1,5 @@
 -- The content of an item or entry of a flow collection gives way to a value.
-use Rattle.std.proofs.Common.{◌≡◌, ℕ, ◌-◌, ◌<◌, ◌≤◌, Bool, true, false, List, [], ◌∷◌, ◌++◌, length, Option, Some, None, refl, sym, ap, ◌∙◌, subst, arith, ◌+◌, append-nil, length-append}
+use Rattle.std.proofs.Common.{◌≡◌, ℕ, ◌-◌, ◌<◌, ◌≤◌, Bool, true, false, List, [], ◌∷◌, ◌++◌, length, Option, Some, None, sym, ap, ◌∙◌, subst, arith, ◌+◌, append-nil, length-append}
 use Rattle.std.proofs.lemmas.Bool.{cond_both}
 use Rattle.std.proofs.lemmas.Option.{none-some}
 use Rattle.std.specs.Str.{IsCharBoundary}
@@ -9,10 +9,11 @@ use Rattle.yq_core.specs.Keys.{depth}
 use Rattle.yq_core.specs.Paths.{Step, changed_at, change_child, is_here, further, within}
 use Rattle.yq_core.specs.Scalar.{ScalarText}
 use Rattle.yq_core.specs.Tree as tree
+use Rattle.yq_core.specs.Tree.{anchor_of}
 use Rattle.yq_core.specs.declared.style.Place.TheVariants.{Flow}
 use Rattle.yq_core.specs.Collections.{CollAt, CollPieces, IsCollAt, item_in, collection_put, room_in}
 use Rattle.yq_core.specs.Entries.{EntryPieces, item_at}
-use Rattle.yq_flow_edits.specs.FlowEdits.{FlowEdit, IsFlowEdited, anchor_in, put_content, put_item, put_value, replacing, space_for, spaced_key}
+use Rattle.yq_flow_edits.specs.FlowEdits.{FlowEdit, IsFlowEdited, put_content, put_item, put_value, replacing, space_for, spaced_key}
 use Rattle.yq_core.specs.Nodes as inline
 use Rattle.yq_core.specs.Nodes.{Key, bare, keyed, Items, none, item, is_empty_node, node_text, without_anchor}
 use Rattle.yq_core.specs.Places.{locate}
@@ -28,7 +29,7 @@ use Rattle.yq_flow_edits.proofs.ValueFits.{scalar_block}
 use Rattle.yq_outline.specs.Outline.{anchored}
 use Rattle.yq_row_table.specs.Rows.{Cut, cut_text}
 use Rattle.yq_documents.specs.Documents.{EachHasFitKeys, HasFitKey, HasFitKeys, lead_of}
-use Rattle.yq_documents.specs.TreeEdits.{anchor_of, replaced_node}
+use Rattle.yq_documents.specs.TreeEdits.{replaced_node}
 use Rattle.yq_documents.specs.Reading.{documents, read_at, root_of}
 use Rattle.yq_places.specs.FlowViews.{LeadsToHead}
 use Rattle.yq_places.proofs.FlowPieces.{named_is, none_anchored}
@@ -121,14 +122,8 @@ put_fit s m (item key n sep is) h k =
 -- ---- the tree
 
 put_is : (v old : tree.Node) → put_value v old ≡ replaced_node v old
-put_is v old = ap (λ (a : Option (List ℕ)). with_anchor_name a v) (own old) ∙ go (anchor_of old)
+put_is v old = go (anchor_of old)
   where
-    own : (n : tree.Node) → anchor_in n ≡ anchor_of n
-    own (tree.alias name) = refl
-    own (tree.scalar a kind t) = refl
-    own (tree.list a cs) = refl
-    own (tree.map a cs) = refl
-
     go : (a : Option (List ℕ)) → with_anchor_name a v ≡ anchored a v
     go None = none_anchored v
     go (Some a) = named_is a v

@@ -6,7 +6,7 @@ use Rattle.std.proofs.lemmas.Option.{none-some, same_Some}
 use Rattle.std.specs.List.{list_any}
 use Rattle.yq_core.specs.Keys.{AreDistinct, with_key, keys_of, HasUniqueKeys, EachHasUniqueKeys, depth, deepest}
 use Rattle.yq_core.specs.Paths.{Step, is_here, further, append_child, changed_at, child_at, node_at, within}
-use Rattle.yq_core.specs.Tree.{Label, Node, Children, none, child, children_of}
+use Rattle.yq_core.specs.Tree.{Label, Node, Children, none, child, children_of, anchor_of}
 use Rattle.yq_core.specs.Inline.{depth_limit}
 use Rattle.yq_core.specs.Anchors.{Name, anchor_names, names_of, names_in, IsAmong}
 use Rattle.yq_outline.specs.Outline.{anchored}
@@ -18,7 +18,6 @@ use Rattle.yq_edits.specs.SoundRoots.{IsSoundRoot, IsNewKey, inner_names, Replac
 use Rattle.yq_edits.proofs.BoundLaws.{bound_changed, anchor_front}
 use Rattle.yq_edits.proofs.TreeLaws.{unique_changed, depth_changed, max_least, max_left, max_right}
 use Rattle.yq_documents.specs.TreeEdits.{replaced_node}
-use Rattle.yq_documents.specs.TreeEdits.{anchor_of}
 
 -- what holds of a whole holds of the node at a path
 child_unique : (s : Step) (cs : Children) (k : Node) → child_at s cs ≡ Some k → EachHasUniqueKeys cs → HasUniqueKeys k

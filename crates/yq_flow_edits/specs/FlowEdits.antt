@@ -1,8 +1,9 @@
 -- Edits of a flow collection: a node in the place of another one, and one more item or entry.
-use Rattle.std.specs.Prelude.{◌≡◌, ℕ, Bool, true, false, not, ◌||◌, List, [], ◌∷◌, ◌++◌, Option, Some, None, if◌then◌else◌}
+use Rattle.std.specs.Prelude.{◌≡◌, ℕ, Bool, true, false, not, ◌||◌, List, [], ◌∷◌, ◌++◌, Some, if◌then◌else◌}
 use Rattle.yq_core.specs.Paths.{Step, is_here, further}
 use Rattle.yq_core.specs.Text.{is_marker}
 use Rattle.yq_core.specs.Tree as tree
+use Rattle.yq_core.specs.Tree.{anchor_of}
 use Rattle.yq_core.specs.Collections.{CollPieces, CollAt, collection_put}
 use Rattle.yq_core.specs.Entries.{EntryPieces}
 use Rattle.yq_core.specs.Inline.{IsInline}
@@ -74,16 +75,9 @@ replacing s y m c = record {
   behind = y.rest;
 }
 
--- the anchor of a node, if it has one (YAML 1.2.2, section 6.9.2)
-abbrev pub anchor_in : tree.Node → Option (List ℕ)
-anchor_in (tree.alias n) = None
-anchor_in (tree.scalar a kind t) = a
-anchor_in (tree.list a cs) = a
-anchor_in (tree.map a cs) = a
-
 -- a node in the place of another one, whose anchor stays (own)
 abbrev pub put_value : tree.Node → tree.Node → tree.Node
-put_value v old = with_anchor_name (anchor_in old) v
+put_value v old = with_anchor_name (anchor_of old) v
 
 -- A node that may be put behind an anchor or a gap: it is something, has no anchor, and doesn't begin with a document marker (own).
 pub record FitsNode (d : ℕ) (m : FlowNode) (rest : List ℕ) : Type 0 where

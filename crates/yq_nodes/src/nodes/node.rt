@@ -5,6 +5,7 @@ ghost use Rattle.yq_core.specs.Anchors.{names_of};
 ghost use Rattle.yq_outline.specs.Names.{is_reference};
 ghost use Rattle.yq_core.specs.Trees.{inner, placed_tree};
 ghost use Rattle.yq_core.specs.View as inline;
+ghost use Rattle.yq_core.specs.Tree.{anchor_of};
 ghost use Rattle.yq_outline.specs.Bodies.{borrowed};
 ghost use Rattle.yq_outline.specs.Outline.{label};
 ghost use Rattle.yq_outline.specs.Places.{content_under};
@@ -12,7 +13,6 @@ ghost use Rattle.yq_nodes.specs.Bodies.{body_node};
 ghost use Rattle.yq_documents.specs.Documents.{Document};
 ghost use Rattle.yq_documents.specs.Located.{document_at, unlabelled};
 ghost use Rattle.yq_nodes.specs.Nodes as spec;
-ghost use Rattle.yq_documents.specs.TreeEdits.{anchor_of};
 ghost use Rattle.yq_documents.specs.Reading.{documents_of};
 ghost use Rattle.yq_documents.specs.Stretches.{IsLineIn, OfLineIn, lines_under};
 
