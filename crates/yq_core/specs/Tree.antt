@@ -1,5 +1,5 @@
 -- The tree that a document stands for.
-use Rattle.std.specs.Prelude.{ℕ, List, Option, None}
+use Rattle.std.specs.Prelude.{ℕ, List, [], Option, None}
 use Rattle.yq_core.specs.declared.kind.Kind.{Kind}
 
 -- what is told of an item or entry: its key, which an item has not, and its comments (YAML 1.2.2, section 3.2.2; own)
@@ -7,6 +7,10 @@ pub record Label : Type 0 where
   pub key : Option (List ℕ)
   pub head_comment : List (List ℕ)
   pub line_comment : Option (List ℕ)
+
+-- what is told of an item or entry without comments: its key, if it has one (own)
+abbrev pub key_label : Option (List ℕ) → Label
+key_label k = record { key = k; head_comment = []; line_comment = None }
 
 mutual
   -- a node: an alias by its name, or, each with its anchor, a scalar, a sequence or a mapping (YAML 1.2.2, section 3.2.1)

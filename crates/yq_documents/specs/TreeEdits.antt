@@ -1,5 +1,5 @@
 -- Changes of a tree and of a document that operations and the meaning of updates share (own).
-use Rattle.std.specs.Prelude.{ℕ, zero, suc, Bool, true, false, List, [], ◌∷◌, Option, None}
+use Rattle.std.specs.Prelude.{ℕ, zero, suc, Bool, true, false, List, [], ◌∷◌, Option}
 use Rattle.yq_core.specs.Paths.{Step, change_child, within}
 use Rattle.yq_core.specs.Tree.{Label, Node, Children, none, child, children_of, anchor_of}
 use Rattle.yq_outline.specs.Outline.{anchored}
@@ -20,10 +20,6 @@ abbrev pub at_end : (Step → Children → Children) → List Step → Node → 
 at_end g [] n = n
 at_end g (s ∷ []) n = within (g s) n
 at_end g (s ∷ (t ∷ path)) n = within (change_child s (at_end g (t ∷ path))) n
-
--- what is told of a new item or entry: its key alone, if it has one (own)
-abbrev pub new_label : Option (List ℕ) → Label
-new_label k = record { key = k; head_comment = []; line_comment = None }
 
 -- a label with that line comment (own)
 abbrev pub with_line_comment : Option (List ℕ) → Label → Label

@@ -9,7 +9,7 @@ use Rattle.yq_core.specs.Keys.{depth}
 use Rattle.yq_core.specs.Paths.{Step, changed_at, change_child, is_here, further, within}
 use Rattle.yq_core.specs.Scalar.{ScalarText}
 use Rattle.yq_core.specs.Tree as tree
-use Rattle.yq_core.specs.Tree.{anchor_of}
+use Rattle.yq_core.specs.Tree.{anchor_of, key_label}
 use Rattle.yq_core.specs.declared.style.Place.TheVariants.{Flow}
 use Rattle.yq_core.specs.Collections.{CollAt, CollPieces, IsCollAt, item_in, collection_put, room_in}
 use Rattle.yq_core.specs.Entries.{EntryPieces, item_at}
@@ -18,7 +18,7 @@ use Rattle.yq_core.specs.Nodes as inline
 use Rattle.yq_core.specs.Nodes.{Key, bare, keyed, Items, none, item, is_empty_node, node_text, without_anchor}
 use Rattle.yq_core.specs.Places.{locate}
 use Rattle.yq_core.specs.Scalars.{scalar_style}
-use Rattle.yq_core.specs.Trees.{inner, key_content, with_anchor_name, scalar_node}
+use Rattle.yq_core.specs.Trees.{key_content, with_anchor_name, scalar_node}
 use Rattle.yq_flow_edits.specs.Valued.{IsValueTree}
 use Rattle.yq_flow_edits.proofs.EditLaws.{around_is}
 use Rattle.yq_flow_edits.proofs.EditSpans.{EditIsSpan, replace_spans}
@@ -116,7 +116,7 @@ put_fit : (s : Step) (m : inline.FlowNode) (is : Items) → HasFitKeys m → Eac
 put_fit s m none h k = tt
 put_fit s m (item key n sep is) h k =
     let x = content_fit m key n h k.0 in
-    cond_both (is_here s (inner (key_content key))) (item (put_content m key n).0 (put_content m key n).1 sep is) (item key n sep (put_item (further s) m is)) EachHasFitKeys
+    cond_both (is_here s (key_label (key_content key))) (item (put_content m key n).0 (put_content m key n).1 sep is) (item key n sep (put_item (further s) m is)) EachHasFitKeys
     (λ _. (x.0, x.1, k.2)) (λ _. (k.0, k.1, put_fit (further s) m is h k.2))
 
 -- ---- the tree

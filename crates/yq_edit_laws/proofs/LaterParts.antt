@@ -6,7 +6,8 @@ use Rattle.yq_core.specs.Paths.{Step, is_here, further}
 use Rattle.yq_core.specs.Collections.{CollPieces, change_item, coll_along, coll_in, collection_put, put_coll, within_items}
 use Rattle.yq_core.specs.Entries.{EntryPieces, entry_pieces_at, path_inside, item_at}
 use Rattle.yq_core.specs.Nodes.{Key, bare, keyed, FlowNode, empty, alias, scalar, coll, anchored, Items, none, item, flow_items_text, key_text, node_text, sep_text, without_anchor}
-use Rattle.yq_core.specs.Trees.{inner, key_content}
+use Rattle.yq_core.specs.Trees.{key_content}
+use Rattle.yq_core.specs.Tree.{key_label}
 use Rattle.yq_core.proofs.NodeAgain.{key_longer, node_longer, sep_longer}
 use Rattle.yq_core.proofs.PathLaws.{then_some}
 use Rattle.yq_flow_edits.specs.FlowEdits.{put_content, put_item, spaced_key}
@@ -18,7 +19,7 @@ use Rattle.yq_edit_laws.proofs.FlowStandings.{coll_entry, node_entry}
 node_in_items : (k : ℕ) (s : Step) (is : Items) (rest : List ℕ) (y : EntryPieces) → item_at k s is rest ≡ Some y → length (node_text y.node y.rest) ≤ length (flow_items_text k is rest)
 unfolding flow_items_text
 node_in_items k s none rest y e = absurd (none-some _ e)
-node_in_items k s (item key n sep is) rest y e = go (is_here s (inner (key_content key))) (node_in_items k (further s) is rest y) e
+node_in_items k s (item key n sep is) rest y e = go (is_here s (key_label (key_content key))) (node_in_items k (further s) is rest y) e
   where
     behind : List ℕ
     behind = sep_text sep (flow_items_text k is rest)
@@ -71,17 +72,17 @@ put_key m key (anchored n gap node) = refl
 later_item : (k : ℕ) (s r : Step) (m : FlowNode) (is : Items) (rest : List ℕ) (y z : EntryPieces) → item_at k s is rest ≡ Some y → item_at k r is rest ≡ Some z → length z.rest < length y.rest → item_at k r (put_item s m is) rest ≡ Some z
 later_item k s r m none rest y z here there less = absurd (none-some _ here)
 later_item k s r m (item key n sep is) rest y z here there less =
-    go (is_here s (inner (key_content key))) (is_here r (inner (key_content key))) refl here there (λ here there. later_item k (further s) (further r) m is rest y z here there less)
+    go (is_here s (key_label (key_content key))) (is_here r (key_label (key_content key))) refl here there (λ here there. later_item k (further s) (further r) m is rest y z here there less)
   where
     own : Option EntryPieces
     own = Some (record { key = key; node = n; rest = sep_text sep (flow_items_text k is rest) })
 
-    go : (a b : Bool) → is_here r (inner (key_content key)) ≡ b → cond a own (item_at k (further s) is rest) ≡ Some y → cond b own (item_at k (further r) is rest) ≡ Some z →
+    go : (a b : Bool) → is_here r (key_label (key_content key)) ≡ b → cond a own (item_at k (further s) is rest) ≡ Some y → cond b own (item_at k (further r) is rest) ≡ Some z →
         (item_at k (further s) is rest ≡ Some y → item_at k (further r) is rest ≡ Some z → item_at k (further r) (put_item (further s) m is) rest ≡ Some z) →
         item_at k r (cond a (item (put_content m key n).0 (put_content m key n).1 sep is) (item key n sep (put_item (further s) m is))) rest ≡ Some z
     go true true is_r here there again = absurd (omega (arith, less, ap (λ (x : EntryPieces). length x.rest) (same_Some _ _ here), ap (λ (x : EntryPieces). length x.rest) (same_Some _ _ there)))
     go true false is_r here there again =
-        let other : is_here r (inner (key_content (put_content m key n).0)) ≡ false = ap (λ (c : Option (List ℕ)). is_here r (inner c)) (put_key m key n) ∙ is_r in
+        let other : is_here r (key_label (key_content (put_content m key n).0)) ≡ false = ap (λ (c : Option (List ℕ)). is_here r (key_label c)) (put_key m key n) ∙ is_r in
         ap (λ (b : Bool). cond b (Some (record { key = (put_content m key n).0; node = (put_content m key n).1; rest = sep_text sep (flow_items_text k is rest) })) (item_at k (further r) is rest)) other ∙ there
     go false true is_r here there again =
         absurd (omega (arith, less, node_in_items k (further s) is rest y here, node_longer y.node y.rest, sep_longer sep (flow_items_text k is rest), ap (λ (x : EntryPieces). length x.rest) (same_Some _ _ there)))
@@ -109,7 +110,7 @@ item_changed : (k : ℕ) (s r : Step) (f : FlowNode → FlowNode) (q : List Step
     length z.rest < length (node_text y.node y.rest) → (entry_pieces_at q y ≡ Some z → entry_pieces_at q (with_node (f y.node) y) ≡ Some z) → option_and_then (entry_pieces_at q) (item_at k r (change_item s f is) rest) ≡ Some z
 item_changed k s r f q none rest y z here there less own_stays = absurd (none-some _ here)
 item_changed k s r f q (item key n sep is) rest y z here there less own_stays =
-    go (is_here s (inner (key_content key))) (is_here r (inner (key_content key))) refl here there (λ here there. item_changed k (further s) (further r) f q is rest y z here there less own_stays)
+    go (is_here s (key_label (key_content key))) (is_here r (key_label (key_content key))) refl here there (λ here there. item_changed k (further s) (further r) f q is rest y z here there less own_stays)
   where
     own : FlowNode → EntryPieces
     own m = record { key = key; node = m; rest = sep_text sep (flow_items_text k is rest) }
@@ -117,7 +118,7 @@ item_changed k s r f q (item key n sep is) rest y z here there less own_stays =
     on : Option EntryPieces → Option EntryPieces
     on o = option_and_then (entry_pieces_at q) o
 
-    go : (a b : Bool) → is_here r (inner (key_content key)) ≡ b → cond a (Some (own n)) (item_at k (further s) is rest) ≡ Some y → on (cond b (Some (own n)) (item_at k (further r) is rest)) ≡ Some z →
+    go : (a b : Bool) → is_here r (key_label (key_content key)) ≡ b → cond a (Some (own n)) (item_at k (further s) is rest) ≡ Some y → on (cond b (Some (own n)) (item_at k (further r) is rest)) ≡ Some z →
         (item_at k (further s) is rest ≡ Some y → on (item_at k (further r) is rest) ≡ Some z → on (item_at k (further r) (change_item (further s) f is) rest) ≡ Some z) →
         on (item_at k r (cond a (item key (f n) sep is) (item key n sep (change_item (further s) f is))) rest) ≡ Some z
     go true true is_r here there again =

@@ -3,12 +3,12 @@ use Rattle.std.specs.Prelude.{◌≡◌, ℕ, Bool, true, false, not, ◌||◌, 
 use Rattle.yq_core.specs.Paths.{Step, is_here, further}
 use Rattle.yq_core.specs.Text.{is_marker}
 use Rattle.yq_core.specs.Tree as tree
-use Rattle.yq_core.specs.Tree.{anchor_of}
+use Rattle.yq_core.specs.Tree.{anchor_of, key_label}
 use Rattle.yq_core.specs.Collections.{CollPieces, CollAt, collection_put}
 use Rattle.yq_core.specs.Entries.{EntryPieces}
 use Rattle.yq_core.specs.Inline.{IsInline}
 use Rattle.yq_core.specs.Nodes.{Key, bare, keyed, last, comma, FlowNode, empty, alias, scalar, coll, anchored, Items, none, item, key_text, sep_text, node_text, is_empty_node, takes_anchor, is_keyed, IsInlineKey, IsFlowNode, without_anchor}
-use Rattle.yq_core.specs.Trees.{inner, with_anchor_name, key_content, tree_of}
+use Rattle.yq_core.specs.Trees.{with_anchor_name, key_content, tree_of}
 
 -- In a text the bytes `old` give way to `new`; behind them stands `behind` (own).
 pub record Becomes (t u old new behind : List ℕ) : Type 0 where
@@ -62,7 +62,7 @@ put_content m key (anchored n gap node) = (key, anchored n (gap_for node gap) m)
 abbrev pub put_item : Step → FlowNode → Items → Items
 put_item s m none = none
 put_item s m (item key n sep is) =
-    if is_here s (inner (key_content key)) then item (put_content m key n).0 (put_content m key n).1 sep is else item key n sep (put_item (further s) m is)
+    if is_here s (key_label (key_content key)) then item (put_content m key n).0 (put_content m key n).1 sep is else item key n sep (put_item (further s) m is)
 
 -- the content of the item or entry at a step gives way to a node (own)
 abbrev pub replacing : Step → EntryPieces → FlowNode → CollPieces → FlowEdit

@@ -10,8 +10,9 @@ use Rattle.yq_core.specs.Entries.{EntryPieces, path_inside, item_at, tree_step}
 use Rattle.yq_core.specs.Nodes.{Items, none, item, Key, FlowNode, empty, alias, scalar, coll, anchored, flow_items_text, sep_text, node_text, is_empty_node, IsFlowNode, without_anchor}
 use Rattle.yq_core.specs.Inline.{depth_limit}
 use Rattle.yq_core.specs.Places.{Placed, placed, nothing, name, text, sequence, mapping, anchored_node, locate}
-use Rattle.yq_core.specs.Trees.{inner, key_content}
+use Rattle.yq_core.specs.Trees.{key_content}
 use Rattle.yq_core.specs.View.{inline_view}
+use Rattle.yq_core.specs.Tree.{key_label}
 use Rattle.yq_core.proofs.NodesWrittenLaws.{items_append, node_then, sep_append}
 use Rattle.yq_row_table.specs.Exchange.{behind_row}
 use Rattle.yq_row_table.specs.Grammar.{IsContent, IsCut}
@@ -93,7 +94,7 @@ entry_more more y = record { key = y.key; node = y.node; rest = y.rest ++ more }
 item_more : (k : ℕ) (s : Step) (is : Items) (rest more : List ℕ) → item_at k s is (rest ++ more) ≡ option_map (entry_more more) (item_at k s is rest)
 unfolding as_entry
 item_more k s none rest more = refl
-item_more k s (item key n sep is) rest more = go (is_here s (inner (key_content key))) (item_more k (further s) is rest more)
+item_more k s (item key n sep is) rest more = go (is_here s (key_label (key_content key))) (item_more k (further s) is rest more)
   where
     go : (b : Bool) → item_at k (further s) is (rest ++ more) ≡ option_map (entry_more more) (item_at k (further s) is rest) →
         cond b (as_entry key n (sep_text sep (flow_items_text k is (rest ++ more)))) (item_at k (further s) is (rest ++ more)) ≡ option_map (entry_more more) (cond b (as_entry key n (sep_text sep (flow_items_text k is rest))) (item_at k (further s) is rest))

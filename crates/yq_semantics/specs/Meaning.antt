@@ -3,9 +3,9 @@ use Rattle.std.specs.Prelude.{◌≡◌, ⊤, ℕ, suc, ◌==◌, Bool, List, []
 use Rattle.yq_core.specs.Paths as paths
 use Rattle.yq_core.specs.Paths.{To, change_child, append_child, within}
 use Rattle.yq_core.specs.Shapes.{IsTree}
-use Rattle.yq_core.specs.Tree.{Node, Children, children_of}
+use Rattle.yq_core.specs.Tree.{Node, Children, children_of, key_label}
 use Rattle.yq_documents.specs.Documents.{Document}
-use Rattle.yq_documents.specs.TreeEdits.{replaced_node, new_label, led, lead_by, with_tree}
+use Rattle.yq_documents.specs.TreeEdits.{replaced_node, led, lead_by, with_tree}
 use Rattle.yq_semantics.specs.declared.program.CommentPlace.{CommentPlace}
 use Rattle.yq_semantics.specs.declared.program.CommentPlace.TheVariants as comments
 use Rattle.yq_semantics.specs.Changes as changes
@@ -17,7 +17,7 @@ use Rattle.yq_semantics.specs.Program.{Update}
 
 -- items or entries with an addition (own)
 abbrev pub add_to : Addition → Children → Children
-add_to (appends k v) cs = append_child (new_label k) v cs
+add_to (appends k v) cs = append_child (key_label k) v cs
 add_to (overwrites k v) cs = change_child (To k) (replaced_node v) cs
 
 -- a collection with additions, one after the other (own)

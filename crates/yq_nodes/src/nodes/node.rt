@@ -3,9 +3,9 @@ ghost use Rattle.std.specs.List.{list_any};
 ghost use Rattle.std.specs.Prelude.{◌≡◌, ◌<◌, false, length, Some};
 ghost use Rattle.yq_core.specs.Anchors.{names_of};
 ghost use Rattle.yq_outline.specs.Names.{is_reference};
-ghost use Rattle.yq_core.specs.Trees.{inner, placed_tree};
+ghost use Rattle.yq_core.specs.Trees.{placed_tree};
 ghost use Rattle.yq_core.specs.View as inline;
-ghost use Rattle.yq_core.specs.Tree.{anchor_of};
+ghost use Rattle.yq_core.specs.Tree.{anchor_of, key_label};
 ghost use Rattle.yq_outline.specs.Bodies.{borrowed};
 ghost use Rattle.yq_outline.specs.Outline.{label};
 ghost use Rattle.yq_outline.specs.Places.{content_under};
@@ -123,7 +123,7 @@ impl<'d, 't> Node<'d, 't> {
     #[tactic(auto, using(yq_outline::proofs::NodeLaws::anchored_none))]
     pub(crate) fn of_inline(key: Option<&'d str>, node: &'d Inline<'t>) -> Node<'d, 't>
         ensures node { spec.node_of result ≡ placed_tree (inline.inline_view node.now) }
-        ensures label { spec.label_of result ≡ inner (borrowed key.entry) }
+        ensures label { spec.label_of result ≡ key_label (borrowed key.entry) }
     {
         let named = Named {
             anchor: None,
