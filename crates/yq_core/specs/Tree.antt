@@ -12,6 +12,10 @@ pub record Label : Type 0 where
 abbrev pub key_label : Option (List ℕ) → Label
 key_label k = record { key = k; head_comment = []; line_comment = None }
 
+-- what is told of a node that has no key and no comments: an item, or a root (own)
+abbrev pub plain_label : Label
+plain_label = record { key = None; head_comment = []; line_comment = None }
+
 mutual
   -- a node: an alias by its name, or, each with its anchor, a scalar, a sequence or a mapping (YAML 1.2.2, section 3.2.1)
   pub data Node : Type 0 where

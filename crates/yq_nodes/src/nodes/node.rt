@@ -5,13 +5,13 @@ ghost use Rattle.yq_core.specs.Anchors.{names_of};
 ghost use Rattle.yq_outline.specs.Names.{is_reference};
 ghost use Rattle.yq_core.specs.Trees.{placed_tree};
 ghost use Rattle.yq_core.specs.View as inline;
-ghost use Rattle.yq_core.specs.Tree.{anchor_of, key_label};
+ghost use Rattle.yq_core.specs.Tree.{anchor_of, key_label, plain_label};
 ghost use Rattle.yq_outline.specs.Bodies.{borrowed};
 ghost use Rattle.yq_outline.specs.Outline.{label};
 ghost use Rattle.yq_outline.specs.Places.{content_under};
 ghost use Rattle.yq_nodes.specs.Bodies.{body_node};
 ghost use Rattle.yq_documents.specs.Documents.{Document};
-ghost use Rattle.yq_documents.specs.Located.{document_at, unlabelled};
+ghost use Rattle.yq_documents.specs.Located.{document_at};
 ghost use Rattle.yq_nodes.specs.Nodes as spec;
 ghost use Rattle.yq_documents.specs.Reading.{documents_of};
 ghost use Rattle.yq_documents.specs.Stretches.{IsLineIn, OfLineIn, lines_under};
@@ -86,7 +86,7 @@ impl<'d, 't> Node<'d, 't> {
         requires { i < length (documents_of text.now) }
         ensures node { (d : Document) → document_at text.now i ≡ Some d → spec.node_of result ≡
             d.root }
-        ensures label { spec.label_of result ≡ unlabelled }
+        ensures label { spec.label_of result ≡ plain_label }
     {
         let (_rows, stretch) = text.document_rows(i);
         let first = Position {
