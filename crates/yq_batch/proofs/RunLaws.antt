@@ -10,10 +10,10 @@ use Rattle.yq_core.specs.Answers.{◌>>=◌}
 use Rattle.yq_core.proofs.Bools.{bind_some}
 use Rattle.yq_core.specs.Collections.{CollPieces}
 use Rattle.yq_core.specs.Entries.{item_at}
-use Rattle.yq_core.specs.Nodes.{node_text}
+use Rattle.yq_core.specs.Nodes.{node_text, without_anchor}
 use Rattle.yq_core.proofs.NodesWrittenLaws.{node_then}
 use Rattle.yq_core.specs.Trees.{tree_of}
-use Rattle.yq_flow_edits.specs.FlowEdits.{FlowEdit, content_node}
+use Rattle.yq_flow_edits.specs.FlowEdits.{FlowEdit}
 use Rattle.yq_flow_edits.specs.FlowPlaces.{PlacedEdit}
 use Rattle.yq_flow_edits.specs.Valued.{IsValueTree}
 use Rattle.yq_flow_edits.specs.declared.flow_place.EditPlace.{EditPlace}
@@ -98,8 +98,8 @@ module _ (c : Cut) (n : ℕ) (stem path : List Step) (v : Node) (out : List ℕ)
   first : IsPartOf c n (stem ++ left) b.step b.item
   first = ap (λ (o : Option CollPieces). o >>= λ w. item_at w.close b.step w.items w.rest) (ap (λ (ss : List Step). flow_collection n ss c) (sym steps_are) ∙ b.found) ∙ b.at
 
-  content_is : length (e.old ++ e.behind) ≡ length (node_text (content_node b.item.node) b.item.rest)
-  content_is = ap length (sym (node_then (content_node b.item.node) b.item.rest))
+  content_is : length (e.old ++ e.behind) ≡ length (node_text (without_anchor b.item.node) b.item.rest)
+  content_is = ap length (sym (node_then (without_anchor b.item.node) b.item.rest))
 
   stays : IsPartOf run.cut n (stem ++ left) b.step b.item
   stays = run.stays left b.step b.item first (omega (arith, passes, finish_is, size)) (omega (arith, behind, start_is, content_is, size, run.within, length-append e.old e.behind))

@@ -5,8 +5,7 @@ use Rattle.yq_text.specs.Limit.{text_limit}
 use Rattle.yq_core.specs.Paths.{Step}
 use Rattle.yq_core.specs.Tree.{Node}
 use Rattle.yq_core.specs.Entries.{EntryPieces}
-use Rattle.yq_core.specs.Nodes.{node_text}
-use Rattle.yq_flow_edits.specs.FlowEdits.{content_node}
+use Rattle.yq_core.specs.Nodes.{node_text, without_anchor}
 use Rattle.yq_flow_edits.specs.Valued.{IsValueTree}
 use Rattle.yq_row_table.specs.Rows.{Cut, cut_text}
 use Rattle.yq_documents.specs.Reading.{cut_of, read_at}
@@ -40,7 +39,7 @@ pub record IsPutRun (c : Cut) (n : ℕ) (stem : List Step) (out : List ℕ) (don
   pub read : read_at (text_after_run (cut_text c) out done) ≡ Some cut
   pub leads : LeadsToHead cut n stem
   pub stays : (left : List Step) (s : Step) (y : EntryPieces) → IsPartOf c n (stem ++ left) s y → length y.rest < length (cut_text c) - done →
-      length (node_text (content_node y.node) y.rest) ≤ length (cut_text c) - done → IsPartOf cut n (stem ++ left) s y
+      length (node_text (without_anchor y.node) y.rest) ≤ length (cut_text c) - done → IsPartOf cut n (stem ++ left) s y
 
 -- a path ends in the collection to which steps lead on in the head to which others lead (own)
 abbrev pub EndsAt : (stem left steps : List Step) → Type 0

@@ -5,10 +5,9 @@ use Rattle.std.proofs.lemmas.List.{drop_more}
 use Rattle.std.specs.declared.alloc.Global.{Global}
 use Rattle.yq_core.specs.declared.piece.Piece.{Piece}
 use Rattle.yq_core.specs.Keys.{are_distinct, deepest, depth, keys_of}
-use Rattle.yq_core.specs.Tree.{Children, Label, Node, child}
+use Rattle.yq_core.specs.Tree.{Children, Label, Node, child, plain_label}
 use Rattle.yq_outline.specs.Sound.{are_sound, each_has_unique_keys, has_unique_keys, head_is_sound}
 use Rattle.yq_core.specs.Trees.{parts_tree, placed_tree}
-use Rattle.yq_core.specs.Values.{plain_label}
 use Rattle.yq_core.specs.View.{entries_end, items_end, inline_view}
 use Rattle.yq_core.specs.declared.inline.Inline.{Inline}
 

@@ -1,8 +1,8 @@
 //! What is asked of a document's lines, row by row.
 ghost use Rattle.std.specs.Prelude.{◌≡◌, ◌≢◌, ◌+◌, ◌++◌, ◌&&◌, [], false, is_some, map, IfErr, IfOk, OnOk, Some};
 ghost use Rattle.yq_core.specs.Answers.{IsOfText};
-ghost use Rattle.yq_core.specs.Keys.{with_key};
 ghost use Rattle.yq_core.specs.declared.fault.FaultKind.TheVariants.{NotUtf8};
+ghost use Rattle.yq_core.specs.Text.{with_first};
 ghost use Rattle.yq_outline.specs.Ends.{part, has_no_lines};
 ghost use Rattle.yq_outline.specs.Outline as outline;
 ghost use Rattle.yq_outline.specs.Sound as spec;
@@ -80,7 +80,7 @@ fn push_key<'k, 't>(
     requires line { IsLine x.rows.now x.document at.position }
     ensures { OfLine x.entry.rows.now x.entry.document at.entry.position (λ l. OnOk result
         (map (λ k. k.now) keys.new.items ≡
-        map (λ k. k.now) keys.old.items ++ with_key (outline.key_of l.mark) [])) }
+        map (λ k. k.now) keys.old.items ++ with_first (outline.key_of l.mark) [])) }
 {
     match key_at(x, at) {
         Some(key) => {

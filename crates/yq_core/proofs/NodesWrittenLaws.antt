@@ -13,9 +13,10 @@ use Rattle.yq_core.specs.PlainText.{is_plain_text}
 use Rattle.yq_core.specs.Scalar.{ScalarText}
 use Rattle.yq_core.specs.SchemaReading.{resolve}
 use Rattle.yq_core.specs.Tree as tree
+use Rattle.yq_core.specs.Tree.{plain_label}
 use Rattle.yq_core.specs.Writable.{can_write, can_write_plain, in_flow, is_string}
 use Rattle.yq_core.specs.Nodes.{Key, Sep, FlowNode, empty, alias, scalar, coll, anchored, Items, none, item, key_text, sep_text, node_text, flow_items_text, opening_bracket}
-use Rattle.yq_core.specs.Values.{value_node, items, entries, plain_label as an_item, entry}
+use Rattle.yq_core.specs.Values.{value_node, items, entries, entry}
 use Rattle.yq_core.specs.NodesWritten.{flow_of, flow_items, flow_sep, flow_key, flow_text, comma_separated, entry_text}
 
 -- the style of a scalar can write it
@@ -87,7 +88,7 @@ items_rest k (n ∷ ns) = simp (item_text, append_assoc, items_rest k ns)
 items_all : (k : ℕ) (ns : List tree.Node) → rest_text k (items ns) ≡ comma_separated true (map flow_text ns) ++ k ∷ []
 unfolding flow_items_text flow_items
 items_all k [] = refl
-items_all k (n ∷ ns) = item_text k an_item n (items ns) ∙ (ap (λ l. flow_text n ++ l) (items_rest k ns) ∙ sym (append_assoc (flow_text n) (comma_separated false (map flow_text ns)) (k ∷ [])))
+items_all k (n ∷ ns) = item_text k plain_label n (items ns) ∙ (ap (λ l. flow_text n ++ l) (items_rest k ns) ∙ sym (append_assoc (flow_text n) (comma_separated false (map flow_text ns)) (k ∷ [])))
 
 entry_is : (k : ℕ) (e : List ℕ × tree.Node) (cs : tree.Children) (r : List ℕ) → between cs ++ rest_text k cs ≡ r → rest_text k (tree.child (entry e.0) e.1 cs) ≡ entry_text e ++ r
 entry_is k e cs r h = search (rules, item_text, append_assoc)

@@ -2,12 +2,12 @@
 use Rattle.std.proofs.Common.{arith, ◌+◌, length, eqb, ◌≡◌, ℕ, zero, suc, Bool, true, false, cond, List, [], ◌∷◌, ◌++◌, Option, Some, None, option_map, option_and_then, refl, sym, ap, ◌∙◌, subst, append_assoc, rules}
 use Rattle.std.proofs.lemmas.Option.{same_Some}
 use Rattle.yq_core.specs.Paths.{Step, is_here, further, child_at, node_at}
-use Rattle.yq_core.specs.Tree.{children_of}
 use Rattle.yq_core.specs.Tree as tree
+use Rattle.yq_core.specs.Tree.{children_of, key_label}
 use Rattle.yq_core.specs.Nodes.{FlowNode, empty, alias, scalar, coll, anchored, Items, none, item, key_text, sep_text, node_text, flow_items_text, opening_bracket, IsFlowNode, AreFlowItems}
 use Rattle.yq_core.specs.Entries.{PlacedEntry, EntryPieces, StandsIn, parts_in, parts_of, flow_part_at, placed_entry_at, pieces_text, locate_entry, item_at, path_inside, entry_pieces_at}
 use Rattle.yq_core.specs.Places.{Placed, placed, sequence, mapping, holder, anchored_node, Parts, end, part, locate, locate_items}
-use Rattle.yq_core.specs.Trees.{inner, with_anchor_name, key_content, unplaced_key, placed_tree, parts_tree}
+use Rattle.yq_core.specs.Trees.{with_anchor_name, key_content, unplaced_key, placed_tree, parts_tree}
 use Rattle.yq_core.proofs.TreeLaws.{key_tree}
 use Rattle.yq_core.proofs.NodesWrittenLaws.{key_append, sep_append, node_append}
 
@@ -27,7 +27,7 @@ map_first f false x o h = h
 
 part_tree : (s : Step) (parts : Parts) → option_map entry_tree (flow_part_at s parts) ≡ child_at s (parts_tree parts)
 part_tree s end = refl
-part_tree s (part key n parts) = map_first entry_tree (is_here s (inner (unplaced_key key))) (key, n) (flow_part_at (further s) parts) (part_tree (further s) parts)
+part_tree s (part key n parts) = map_first entry_tree (is_here s (key_label (unplaced_key key))) (key, n) (flow_part_at (further s) parts) (part_tree (further s) parts)
 
 then_map : {A B C D : Type 0} (f : A → Option B) (g : C → Option D) (u : A → C) (v : B → D) → ((x : A) → option_map v (f x) ≡ g (u x)) → (o : Option A) → option_map v (option_and_then f o) ≡ option_and_then g (option_map u o)
 then_map f g u v h None = refl
@@ -45,8 +45,8 @@ unfolding locate_items
 items_place total k s none rest = refl
 items_place total k s (item key n sep is) rest =
     let here : EntryPieces = record { key = key; node = n; rest = sep_text sep (flow_items_text k is rest) } in
-    ap (λ (label : Option (List ℕ)). cond (is_here s (inner label)) (Some (locate_entry total here)) (flow_part_at (further s) (locate_items total k is rest))) (key_tree total (key_text key (node_text n (sep_text sep (flow_items_text k is rest)))) key)
-    ∙ sym (map_first (locate_entry total) (is_here s (inner (key_content key))) here (item_at k (further s) is rest) (sym (items_place total k (further s) is rest)))
+    ap (λ (label : Option (List ℕ)). cond (is_here s (key_label label)) (Some (locate_entry total here)) (flow_part_at (further s) (locate_items total k is rest))) (key_tree total (key_text key (node_text n (sep_text sep (flow_items_text k is rest)))) key)
+    ∙ sym (map_first (locate_entry total) (is_here s (key_label (key_content key))) here (item_at k (further s) is rest) (sym (items_place total k (further s) is rest)))
 
 held : (k : ℕ) (parts : Parts) → parts_in (holder k parts) ≡ parts
 held k parts = go (eqb k 125) where
@@ -83,7 +83,7 @@ behind t u p x is h = record { before = p ++ h.before; text = is ∙ (ap (λ l. 
 items_stand : (k : ℕ) (s : Step) (is : Items) (rest : List ℕ) (x : EntryPieces) → item_at k s is rest ≡ Some x → StandsIn (flow_items_text k is rest) x
 unfolding flow_items_text
 items_stand k s none rest x h = cc
-items_stand k s (item key n sep is) rest x h = go (is_here s (inner (key_content key))) (items_stand k (further s) is rest x) h where
+items_stand k s (item key n sep is) rest x h = go (is_here s (key_label (key_content key))) (items_stand k (further s) is rest x) h where
   tail : List ℕ
   tail = flow_items_text k is rest
 
@@ -127,7 +127,7 @@ path_stands (s ∷ ss) x y h =
 pub items_hold : (d k : ℕ) (s : Step) (is : Items) (rest : List ℕ) (x : EntryPieces) → AreFlowItems d k is rest → item_at k s is rest ≡ Some x → IsFlowNode true (Some 0) d x.node x.rest
 unfolding AreFlowItems
 items_hold d k s none rest x a h = cc
-items_hold d k s (item key n sep is) rest x a h = go (is_here s (inner (key_content key))) (items_hold d k (further s) is rest x a.4) h where
+items_hold d k s (item key n sep is) rest x a h = go (is_here s (key_label (key_content key))) (items_hold d k (further s) is rest x a.4) h where
   here : EntryPieces
   here = record { key = key; node = n; rest = sep_text sep (flow_items_text k is rest) }
 

@@ -1,9 +1,10 @@
 -- The tree of a node with its places is that of its pieces.
 use Rattle.std.proofs.Common.{◌≡◌, ℕ, true, false, cond, eqb, List, None, refl, ap, ◌∙◌, rules}
 use Rattle.yq_core.specs.Tree as tree
+use Rattle.yq_core.specs.Tree.{key_label}
 use Rattle.yq_core.specs.Nodes.{Key, bare, keyed, FlowNode, empty, alias, scalar, coll, anchored, Items, none, item, key_text, sep_text, node_text, flow_items_text}
 use Rattle.yq_core.specs.Places.{Placed, placed, sequence, mapping, Parts, holder, key_placed, locate, locate_items, anchored_node}
-use Rattle.yq_core.specs.Trees.{inner, tree_collection, with_name, key_content, tree_of, items_tree, unplaced_key, placed_tree, content_tree, parts_tree}
+use Rattle.yq_core.specs.Trees.{tree_collection, with_name, key_content, tree_of, items_tree, unplaced_key, placed_tree, content_tree, parts_tree}
 
 holder_tree : (k : ℕ) (parts : Parts) → content_tree (holder k parts) ≡ tree_collection k (parts_tree parts)
 holder_tree k parts = elim (eqb k 125) as (λ c. content_tree (cond c (mapping parts) (sequence parts)) ≡ cond c (tree.map None (parts_tree parts)) (tree.list None (parts_tree parts))) [ true ↦ refl | false ↦ refl ]
@@ -28,6 +29,6 @@ mutual
   pub items_are : (total k : ℕ) (is : Items) (rest : List ℕ) → parts_tree (locate_items total k is rest) ≡ items_tree is
   items_are total k none rest = refl
   items_are total k (item key n s is) rest = λ i. tree.child
-      (inner (key_tree total (key_text key (node_text n (sep_text s (flow_items_text k is rest)))) key i))
+      (key_label (key_tree total (key_text key (node_text n (sep_text s (flow_items_text k is rest)))) key i))
       (node_tree total n (sep_text s (flow_items_text k is rest)) i)
       (items_are total k is rest i)

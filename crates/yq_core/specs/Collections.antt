@@ -5,7 +5,8 @@ use Rattle.yq_core.specs.Paths.{Step, is_here, further}
 use Rattle.yq_core.specs.Entries.{EntryPieces, item_at, path_inside}
 use Rattle.yq_core.specs.Inline.{depth_limit, IsInline}
 use Rattle.yq_core.specs.Nodes.{FlowNode, empty, alias, scalar, coll, anchored, Items, none, item, flow_items_text, opening_bracket}
-use Rattle.yq_core.specs.Trees.{inner, key_content}
+use Rattle.yq_core.specs.Trees.{key_content}
+use Rattle.yq_core.specs.Tree.{key_label}
 
 -- a collection by its pieces, and the rest that follows it (YAML 1.2.2, section 7.4)
 pub record CollPieces : Type 0 where
@@ -50,7 +51,7 @@ within_items f (anchored n gap node) = anchored n gap (within_items f node)
 -- the items with the node of the one at a step changed (own)
 abbrev pub change_item : Step → (FlowNode → FlowNode) → Items → Items
 change_item s f none = none
-change_item s f (item key n sep is) = if is_here s (inner (key_content key)) then item key (f n) sep is else item key n sep (change_item (further s) f is)
+change_item s f (item key n sep is) = if is_here s (key_label (key_content key)) then item key (f n) sep is else item key n sep (change_item (further s) f is)
 
 -- the node with another gap and other items in the collection to which steps lead (own)
 abbrev pub collection_put : List Step → List ℕ → Items → FlowNode → FlowNode

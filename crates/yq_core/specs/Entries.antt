@@ -6,8 +6,9 @@ use Rattle.yq_core.specs.declared.path.Step as declared
 use Rattle.yq_core.specs.declared.path.Entry.{Entry}
 use Rattle.yq_core.specs.Nodes.{Key, FlowNode, empty, alias, scalar, coll, anchored, Items, none, item, key_text, sep_text, node_text, flow_items_text}
 use Rattle.yq_core.specs.Places.{Placed, placed, CoreNode, nothing, name, text, sequence, mapping, Parts, end, part, key_placed, locate}
-use Rattle.yq_core.specs.Trees.{inner, key_content, unplaced_key}
+use Rattle.yq_core.specs.Trees.{key_content, unplaced_key}
 use Rattle.yq_core.specs.View.{inline_view}
+use Rattle.yq_core.specs.Tree.{key_label}
 
 -- the step that one of the code stands for (own)
 abbrev pub tree_step : declared.Step → Step
@@ -37,7 +38,7 @@ parts_of (placed a s c e f) = parts_in f
 -- the item or entry to which a step leads (own)
 abbrev pub flow_part_at : Step → Parts → Option PlacedEntry
 flow_part_at s end = None
-flow_part_at s (part key n parts) = if is_here s (inner (unplaced_key key)) then Some (key, n) else flow_part_at (further s) parts
+flow_part_at s (part key n parts) = if is_here s (key_label (unplaced_key key)) then Some (key, n) else flow_part_at (further s) parts
 
 -- the item or entry to which steps lead from one (own)
 abbrev pub placed_entry_at : List Step → PlacedEntry → Option PlacedEntry
@@ -91,7 +92,7 @@ locate_entry total x = (key_placed total (pieces_text x) x.key, locate total x.n
 abbrev pub item_at : ℕ → Step → Items → List ℕ → Option EntryPieces
 item_at k s none rest = None
 item_at k s (item key n sep is) rest =
-    if is_here s (inner (key_content key)) then Some (record { key = key; node = n; rest = sep_text sep (flow_items_text k is rest) })
+    if is_here s (key_label (key_content key)) then Some (record { key = key; node = n; rest = sep_text sep (flow_items_text k is rest) })
     else item_at k (further s) is rest
 
 -- the same in a node (own)

@@ -1,8 +1,9 @@
 -- The keys of a mapping (YAML 1.2.2, section 3.2.1.3), and how deep collections are nested.
-use Rattle.std.specs.Prelude.{◌≢◌, ◌<◌, ℕ, get_or, suc, max, List, [], ◌∷◌, Option, Some, None, Bool, true, not, ◌&&◌, AllPairs, ⊤}
+use Rattle.std.specs.Prelude.{◌≢◌, ◌<◌, ℕ, get_or, suc, max, List, [], ◌∷◌, Bool, true, not, ◌&&◌, AllPairs, ⊤}
 use Rattle.std.specs.List.{list_any}
 use Rattle.std.specs.Str.{bytes_eq}
 use Rattle.yq_core.specs.Tree.{Node, alias, scalar, list, map, Children, none, child}
+use Rattle.yq_core.specs.Text.{with_first}
 
 -- no two keys have the same content (YAML 1.2.2, section 3.2.1.3)
 abbrev pub AreDistinct : List (List ℕ) → Type 0
@@ -17,15 +18,10 @@ abbrev pub are_distinct : List (List ℕ) → Bool
 are_distinct [] = true
 are_distinct (k ∷ ks) = not (list_any (bytes_eq k) ks) && are_distinct ks
 
--- a key, if there is one, before others (own)
-abbrev pub with_key : Option (List ℕ) → List (List ℕ) → List (List ℕ)
-with_key None keys = keys
-with_key (Some k) keys = k ∷ keys
-
 -- the keys of items or entries, in order (own)
 abbrev pub keys_of : Children → List (List ℕ)
 keys_of none = []
-keys_of (child label n cs) = with_key label.key (keys_of cs)
+keys_of (child label n cs) = with_first label.key (keys_of cs)
 
 abbrev mutual
   -- no mapping, at any depth, has a key twice (YAML 1.2.2, section 3.2.1.3)

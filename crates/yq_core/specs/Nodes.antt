@@ -131,6 +131,14 @@ takes_anchor (scalar p) = true
 takes_anchor (coll k g is) = true
 takes_anchor (anchored n g node) = false
 
+-- a node without the anchor before it, if there is one (YAML 1.2.2, section 6.9.2)
+abbrev pub without_anchor : FlowNode → FlowNode
+without_anchor empty = empty
+without_anchor (alias n) = alias n
+without_anchor (scalar p) = scalar p
+without_anchor (coll k g is) = coll k g is
+without_anchor (anchored n g node) = node
+
 -- with a key (own)
 abbrev pub is_keyed : Key → Bool
 is_keyed bare = false

@@ -1,5 +1,5 @@
 -- White space, breaks, lines, and where a piece of a text ends.
-use Rattle.std.specs.Prelude.{◌≡◌, ℕ, suc, Bool, true, false, ◌||◌, ◌&&◌, not, ◌==◌, List, [], ◌∷◌, ◌++◌, take, drop, if◌then◌else◌}
+use Rattle.std.specs.Prelude.{◌≡◌, ℕ, suc, Bool, true, false, ◌||◌, ◌&&◌, not, ◌==◌, List, [], ◌∷◌, ◌++◌, take, drop, Option, Some, None, if◌then◌else◌}
 
 -- white space is a space or a tab (YAML 1.2.2, section 5.5)
 abbrev pub is_white : ℕ → Bool
@@ -95,6 +95,11 @@ line_len (b ∷ bs) = if is_feed b then 1 else suc (line_len bs)
 -- the line in front with its break, and what follows it (own)
 abbrev pub cut_line : List ℕ → List ℕ × List ℕ
 cut_line t = (take (line_len t) t, drop (line_len t) t)
+
+-- a text, if there is one, before others (own)
+abbrev pub with_first : Option (List ℕ) → List (List ℕ) → List (List ℕ)
+with_first None texts = texts
+with_first (Some text) texts = text ∷ texts
 
 -- the lines with a byte put before the first one (own)
 abbrev pub put_byte : ℕ → List (List ℕ) → List (List ℕ)

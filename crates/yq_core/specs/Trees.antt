@@ -1,16 +1,12 @@
 -- The tree that an inline node stands for (YAML 1.2.2, section 3.2.1).
-use Rattle.std.specs.Prelude.{ℕ, ◌==◌, List, [], Option, Some, None, if◌then◌else◌}
+use Rattle.std.specs.Prelude.{ℕ, ◌==◌, List, Option, Some, None, if◌then◌else◌}
 use Rattle.yq_core.specs.declared.piece.Piece.{Piece}
 use Rattle.yq_core.specs.Scalar.{ScalarText, null}
-use Rattle.yq_core.specs.Tree.{Label, Children}
 use Rattle.yq_core.specs.Tree as tree
+use Rattle.yq_core.specs.Tree.{Children, key_label}
 use Rattle.yq_core.specs.Nodes.{Key, bare, keyed, FlowNode, empty, alias, scalar, coll, anchored, Items, none, item}
 use Rattle.yq_core.specs.Places.{Placed, placed, CoreNode, nothing, name, text, sequence, mapping, Parts, end, part}
 use Rattle.yq_core.specs.Scalars.{scalar_content, scalar_of}
-
--- what is told of an item or entry in a flow collection: its key, if it has one, and no comments (own)
-abbrev pub inner : Option (List ℕ) → Label
-inner k = record { key = k; head_comment = []; line_comment = None }
 
 -- a scalar without an anchor (YAML 1.2.2, section 3.2.1.1)
 abbrev pub scalar_node : ScalarText → tree.Node
@@ -49,7 +45,7 @@ unfoldable mutual
   -- the same of items or entries (YAML 1.2.2, section 7.4)
   pub items_tree : Items → Children
   items_tree none = tree.none
-  items_tree (item key n sep is) = tree.child (inner (key_content key)) (tree_of n) (items_tree is)
+  items_tree (item key n sep is) = tree.child (key_label (key_content key)) (tree_of n) (items_tree is)
 
 -- the content of a key that stands with its piece, if there is one (own)
 abbrev pub unplaced_key : Option (List ℕ × Piece) → Option (List ℕ)
@@ -72,7 +68,7 @@ abbrev mutual
   -- the same of items or entries (own)
   pub parts_tree : Parts → Children
   parts_tree end = tree.none
-  parts_tree (part key n parts) = tree.child (inner (unplaced_key key)) (placed_tree n) (parts_tree parts)
+  parts_tree (part key n parts) = tree.child (key_label (unplaced_key key)) (placed_tree n) (parts_tree parts)
 
 -- the name of the anchor before an inline node, if there is one (YAML 1.2.2, section 6.9.2)
 abbrev pub node_anchor : FlowNode → Option (List ℕ)

@@ -1,14 +1,10 @@
 -- Values: nodes without anchors and comments.
 use Rattle.std.specs.Prelude.{ℕ, List, [], ◌∷◌, map, Some, None, String, string_bytes}
 use Rattle.std.specs.declared.alloc.Global.{Global}
-use Rattle.yq_core.specs.Tree.{Label, Node, Children}
 use Rattle.yq_core.specs.Tree as tree
+use Rattle.yq_core.specs.Tree.{Label, Node, Children, plain_label}
 use Rattle.yq_core.specs.declared.value.Value.{Value, fold-Value}
 use Rattle.yq_core.specs.declared.value.Value.TheOpen.{Value-F}
-
--- what is told of an item without comments (own)
-abbrev pub plain_label : Label
-plain_label = record { key = None; head_comment = []; line_comment = None }
 
 -- what is told of an entry of that key without comments (own)
 abbrev pub entry : List ℕ → Label

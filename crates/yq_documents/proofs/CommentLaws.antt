@@ -1,9 +1,9 @@
 -- The texts of comment lines.
 use Rattle.std.proofs.Common.{◌≡◌, ℕ, true, false, eqb, List, [], ◌∷◌, drop, Some, None, refl, sym, ap, ◌∙◌}
 use Rattle.std.proofs.lemmas.Bool.{cond-true, cond-false, and_parts}
-use Rattle.yq_core.specs.Text.{cut, front, ends_line, text_lines, past_white}
+use Rattle.yq_core.specs.Text.{cut, front, ends_line, text_lines, past_white, with_first}
 use Rattle.yq_core.specs.Nodes.{begins_with}
-use Rattle.yq_outline.specs.Comments.{less_space, comment_text, are_comments, with_text, last_comments}
+use Rattle.yq_outline.specs.Comments.{less_space, comment_text, are_comments, last_comments}
 use Rattle.yq_documents.specs.Texts.{text_then, texts}
 
 pub space_there : (t r : List ℕ) → begins_with 32 t ≡ true → r ≡ drop 1 t → r ≡ less_space t
@@ -15,8 +15,8 @@ no_space [] h = refl
 no_space (b ∷ bs) h = sym (cond-false _ _ _ h)
 
 -- the texts of lines that are all comments
-with_then : (l : List ℕ) (ts : List (List ℕ)) → front (λ b. eqb b 35) (past_white l) ≡ true → text_then (comment_text l) ts ≡ with_text (comment_text l) ts
-with_then l ts h = ap (λ o. text_then o ts) is ∙ sym (ap (λ o. with_text o ts) is)
+with_then : (l : List ℕ) (ts : List (List ℕ)) → front (λ b. eqb b 35) (past_white l) ≡ true → text_then (comment_text l) ts ≡ with_first (comment_text l) ts
+with_then l ts h = ap (λ o. text_then o ts) is ∙ sym (ap (λ o. with_first o ts) is)
   where
     is : comment_text l ≡ Some (less_space (cut ends_line (drop 1 (past_white l))).0)
     is = cond-true _ _ _ h

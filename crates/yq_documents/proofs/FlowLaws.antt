@@ -6,9 +6,9 @@ use Rattle.std.specs.declared.alloc.Global.{Global}
 use Rattle.std.specs.Str.{bytes_eq}
 use Rattle.yq_core.specs.declared.piece.Piece.{Piece}
 use Rattle.yq_core.specs.Paths.{To, Nth}
-use Rattle.yq_core.specs.Tree.{Children}
+use Rattle.yq_core.specs.Tree.{Children, key_label}
 use Rattle.yq_core.specs.declared.inline.Inline.{Inline}
-use Rattle.yq_core.specs.Trees.{inner, placed_tree, parts_tree}
+use Rattle.yq_core.specs.Trees.{placed_tree, parts_tree}
 use Rattle.yq_core.specs.View.{inline_view, items_end, entries_end}
 use Rattle.yq_outline.specs.Labelled.{Labelled, labelled_at}
 
@@ -21,7 +21,7 @@ Field = String Global × Piece × Inline
 abbrev pub entries_tree : List Field → Children
 entries_tree es = parts_tree (entries_end es)
 
-item_there : (is : List Inline) (i : ℕ) (d : Inline) → i < length is → labelled_at (Nth i) (items_tree is) ≡ Some (inner None, placed_tree (inline_view (get_or is i d)))
+item_there : (is : List Inline) (i : ℕ) (d : Inline) → i < length is → labelled_at (Nth i) (items_tree is) ≡ Some (key_label None, placed_tree (inline_view (get_or is i d)))
 item_there [] i d lt = absurd (omega (arith, lt))
 item_there (x ∷ is) zero d lt = refl
 item_there (x ∷ is) (suc i) d lt = item_there is i d (omega (arith, lt))
@@ -32,17 +32,17 @@ no_item [] (suc i) h = refl
 no_item (x ∷ is) zero h = absurd (omega (arith, h))
 no_item (x ∷ is) (suc i) h = no_item is i (omega (arith, h))
 
-pub item_found : (is : List Inline) (i : ℕ) (x d : Inline) → true ≡ ltb i (length is) → x ≡ get_or is i d → Some (inner None, placed_tree (inline_view x)) ≡ labelled_at (Nth i) (items_tree is)
-item_found is i x d lt at = ap (λ (y : Inline). Some (inner None, placed_tree (inline_view y))) at ∙ sym (item_there is i d (ltb-true i (length is) (sym lt)))
+pub item_found : (is : List Inline) (i : ℕ) (x d : Inline) → true ≡ ltb i (length is) → x ≡ get_or is i d → Some (key_label None, placed_tree (inline_view x)) ≡ labelled_at (Nth i) (items_tree is)
+item_found is i x d lt at = ap (λ (y : Inline). Some (key_label None, placed_tree (inline_view y))) at ∙ sym (item_there is i d (ltb-true i (length is) (sym lt)))
 
 pub item_missing : (is : List Inline) (i : ℕ) → false ≡ ltb i (length is) → None ≡ labelled_at (Nth i) (items_tree is)
 item_missing is i ge = ⊎_elim (λ lt. absurd (false≢true (ge ∙ lt-ltb i (length is) lt))) (λ le. sym (no_item is i le)) (cases_lt i (length is))
 
 pub entry_found : (key : List ℕ) (es : List Field) (i : ℕ) (e d : Field) (s : List ℕ) (all : Option Labelled) → i < length es → e ≡ get_or es i d → s ≡ string_bytes e.0 → bytes_eq s key ≡ true →
-    labelled_at (To key) (entries_tree (drop i es)) ≡ all → Some (inner (Some s), placed_tree (inline_view e.2)) ≡ all
+    labelled_at (To key) (entries_tree (drop i es)) ≡ all → Some (key_label (Some s), placed_tree (inline_view e.2)) ≡ all
 entry_found key es i e d s all lt at text same so_far =
     let next : drop i es ≡ e ∷ drop (i + 1) es = drop_more es i d lt ∙ ap (λ (f : Field). f ∷ drop (i + 1) es) (sym at) in
-    let here : labelled_at (To key) (entries_tree (e ∷ drop (i + 1) es)) ≡ Some (inner (Some s), placed_tree (inline_view e.2)) = rw (text, rw text at same) refl in
+    let here : labelled_at (To key) (entries_tree (e ∷ drop (i + 1) es)) ≡ Some (key_label (Some s), placed_tree (inline_view e.2)) = rw (text, rw text at same) refl in
     sym here ∙ (ap (λ (l : List Field). labelled_at (To key) (entries_tree l)) (sym next) ∙ so_far)
 
 pub entry_past : (key : List ℕ) (es : List Field) (i : ℕ) (e d : Field) (s : List ℕ) (all : Option Labelled) → i < length es → e ≡ get_or es i d → s ≡ string_bytes e.0 → bytes_eq s key ≡ false →

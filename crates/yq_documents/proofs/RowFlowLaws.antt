@@ -7,7 +7,7 @@ use Rattle.yq_core.specs.Block.{style_indicator}
 use Rattle.yq_core.specs.Piece.{deeper}
 use Rattle.yq_core.specs.Text.{is_empty}
 use Rattle.yq_core.specs.Inline.{depth_limit, IsInlineAt}
-use Rattle.yq_core.specs.Nodes.{FlowNode, empty, alias, scalar, coll, anchored, node_text, flow_items_text, is_empty_node, IsFlowNode}
+use Rattle.yq_core.specs.Nodes.{FlowNode, empty, alias, scalar, coll, anchored, node_text, flow_items_text, is_empty_node, IsFlowNode, without_anchor}
 use Rattle.yq_core.specs.Places.{locate}
 use Rattle.yq_core.specs.Scalars.{is_quoted}
 use Rattle.yq_core.proofs.InlineLaws.{inline_again}
@@ -16,7 +16,7 @@ use Rattle.yq_core.proofs.NodesWrittenLaws.{node_then}
 use Rattle.yq_row_table.specs.Grammar.{IsContent}
 use Rattle.yq_row_table.specs.Rows.{Content, Nothing, Inline, Block, parent_indent}
 use Rattle.yq_row_table.specs.View.{Slices, anchor_cut, content_cut}
-use Rattle.yq_documents.specs.FlowReading.{alias_or_collection, node_flow_at, head_flow_at, core, content_core, row_flow}
+use Rattle.yq_documents.specs.FlowReading.{alias_or_collection, node_flow_at, head_flow_at, content_core, row_flow}
 use Rattle.yq_documents.specs.KeyReading.{EndsIn}
 use Rattle.yq_outline.specs.Lines.{tail_of}
 use Rattle.yq_documents.specs.RowReading.{is_short_plain, is_block_head, HasHead}
@@ -96,7 +96,7 @@ written_is whole n node rest a ends h =
     ap (head_flow_at whole n (node_text node [])) (sym (node_then node rest)) ∙ unnamed_is whole n node rest a (subst (EndsIn whole) (sym (node_then node rest)) ends) h
 
 node_is : (whole : List ℕ) (n : ℤ) (node : FlowNode) (rest : List ℕ) → EndsIn whole ((anchor_cut node).2 ++ rest) → IsFlowNode false (Some (deeper n)) depth_limit node rest →
-    head_flow_at whole n (anchor_cut node).2 ((anchor_cut node).2 ++ rest) ≡ alias_or_collection (locate (length whole) (core node) rest)
+    head_flow_at whole n (anchor_cut node).2 ((anchor_cut node).2 ++ rest) ≡ alias_or_collection (locate (length whole) (without_anchor node) rest)
 unfolding IsFlowNode
 node_is whole n empty rest ends h = by_nothing whole n rest ∙ empty_none (length whole) rest
 node_is whole n (alias name) rest ends h = written_is whole n (alias name) rest refl ends h

@@ -4,7 +4,7 @@ use Rattle.yq_core.specs.declared.style.Place.TheVariants as places
 use Rattle.yq_core.specs.Answers.{◌>>=◌}
 use Rattle.yq_core.specs.Text.{is_empty}
 use Rattle.yq_core.specs.Inline.{inline_at}
-use Rattle.yq_core.specs.Nodes.{FlowNode, empty, alias, scalar, coll, anchored}
+use Rattle.yq_core.specs.Nodes.{FlowNode, empty, without_anchor}
 use Rattle.yq_core.specs.Places.{Placed, placed, CoreNode, nothing, name, text, sequence, mapping, locate}
 use Rattle.yq_core.specs.Scalars.{is_quoted}
 use Rattle.yq_row_table.specs.Rows as rows
@@ -37,18 +37,10 @@ head_flow_at whole n head t =
     else (if is_short_plain head then None
     else node_flow_at whole n t)))
 
--- a node without the anchor before it (6.9.2)
-abbrev pub core : FlowNode → FlowNode
-core empty = empty
-core (alias n) = alias n
-core (scalar p) = scalar p
-core (coll close gap items) = coll close gap items
-core (anchored n gap node) = node
-
 -- the inline node of a row's content, without its anchor; where there is none, nothing (own)
 abbrev pub content_core : rows.Content → FlowNode
 content_core (rows.Nothing tail) = empty
-content_core (rows.Inline space node tail) = core node
+content_core (rows.Inline space node tail) = without_anchor node
 content_core (rows.Block space anchor block) = empty
 
 -- the alias or flow collection in a row's head, with its places in a text so long, before a rest (own)

@@ -1,8 +1,8 @@
 -- The documents of the code, and the nodes at paths in them.
-use Rattle.std.specs.Prelude.{List, [], ℕ, map, None, Option, option_and_then, slice_get}
+use Rattle.std.specs.Prelude.{List, ℕ, map, Option, option_and_then, slice_get}
 use Rattle.yq_core.specs.Entries.{tree_step}
 use Rattle.yq_core.specs.Paths.{Step, node_at}
-use Rattle.yq_core.specs.Tree.{Label, Node}
+use Rattle.yq_core.specs.Tree.{Node, plain_label}
 use Rattle.yq_documents.specs.declared.path.Path.{Path}
 use Rattle.yq_documents.specs.Documents.{Document}
 use Rattle.yq_outline.specs.Labelled.{Labelled, labelled_from}
@@ -16,14 +16,10 @@ steps_of p = map tree_step p.steps.items
 abbrev pub document_at : List ℕ → ℕ → Option Document
 document_at text i = slice_get (documents_of text) i
 
--- what is told of a root, which is no entry and no item (own)
-abbrev pub unlabelled : Label
-unlabelled = record { key = None; head_comment = []; line_comment = None }
-
 -- the node at a path in a text, if it leads to one (own)
 abbrev pub located : Path → List ℕ → Option Node
 located p text = option_and_then (λ d. node_at (steps_of p) d.root) (document_at text p.doc)
 
 -- the same with its label, which tells nothing at a root (own)
 abbrev pub labelled_located : Path → List ℕ → Option Labelled
-labelled_located p text = option_and_then (λ d. labelled_from (steps_of p) (unlabelled, d.root)) (document_at text p.doc)
+labelled_located p text = option_and_then (λ d. labelled_from (steps_of p) (plain_label, d.root)) (document_at text p.doc)

@@ -1,17 +1,9 @@
 -- Changes of a tree and of a document that operations and the meaning of updates share (own).
-use Rattle.std.specs.Prelude.{ℕ, zero, suc, Bool, true, false, List, [], ◌∷◌, Option, None}
+use Rattle.std.specs.Prelude.{ℕ, zero, suc, Bool, true, false, List, [], ◌∷◌, Option}
 use Rattle.yq_core.specs.Paths.{Step, change_child, within}
-use Rattle.yq_core.specs.Tree.{Label, Node, Children, none, child, children_of}
+use Rattle.yq_core.specs.Tree.{Label, Node, Children, none, child, children_of, anchor_of}
 use Rattle.yq_outline.specs.Outline.{anchored}
 use Rattle.yq_documents.specs.Documents.{Document}
-use Rattle.yq_core.specs.Tree.{alias, scalar, list, map}
-
--- the anchor of a node, if it has one (YAML 1.2.2, section 6.9.2)
-abbrev pub anchor_of : Node → Option (List ℕ)
-anchor_of (alias name) = None
-anchor_of (scalar anchor kind text) = anchor
-anchor_of (list anchor cs) = anchor
-anchor_of (map anchor cs) = anchor
 
 -- a list with the element of a number, counted from 0, changed (own)
 abbrev pub change_nth : {A : Type 0} → ℕ → (A → A) → List A → List A
@@ -28,10 +20,6 @@ abbrev pub at_end : (Step → Children → Children) → List Step → Node → 
 at_end g [] n = n
 at_end g (s ∷ []) n = within (g s) n
 at_end g (s ∷ (t ∷ path)) n = within (change_child s (at_end g (t ∷ path))) n
-
--- what is told of a new item or entry: its key alone, if it has one (own)
-abbrev pub new_label : Option (List ℕ) → Label
-new_label k = record { key = k; head_comment = []; line_comment = None }
 
 -- a label with that line comment (own)
 abbrev pub with_line_comment : Option (List ℕ) → Label → Label

@@ -3,7 +3,7 @@ use Rattle.std.proofs.Common.{◌≡◌, ℕ, suc, ◌≤◌, true, List, [], �
 use Rattle.std.proofs.lemmas.Bool.{lt-ltb}
 use Rattle.yq_core.specs.Paths.{Step}
 use Rattle.yq_core.specs.Text.{separates}
-use Rattle.yq_core.specs.Tree.{Node}
+use Rattle.yq_core.specs.Tree.{Node, anchor_of}
 use Rattle.yq_outline.specs.Comments.{line_comment}
 use Rattle.yq_outline.specs.Outline as outline
 use Rattle.yq_outline.specs.Outline.{end, IsOpen, head_or, value}
@@ -13,7 +13,6 @@ use Rattle.yq_row_table.specs.Grammar.{allows, limit_behind, IsContent}
 use Rattle.yq_row_table.specs.Rows.{Content, content_text, Row, mark_column, parent_indent, rows_text, Cut, cut_text}
 use Rattle.yq_documents.specs.Documents.{MarkIsFit, ContentHasFitKeys, HaveFitKeys}
 use Rattle.yq_outline.specs.Lines.{content_anchor, head_of, tail_of}
-use Rattle.yq_documents.specs.TreeEdits.{anchor_of}
 use Rattle.yq_edits.specs.DocumentRows.{behind_document}
 use Rattle.yq_edits.proofs.AnchorLaws.{fit_parts}
 use Rattle.yq_edits.proofs.ContentLaws.{free_alone}

@@ -4,6 +4,7 @@ use Rattle.std.proofs.lemmas.List.{append_cancel_left, length-take-le, take-appe
 use mathlib.Core.List.{tail-eq_of_cons-eq}
 use Rattle.yq_core.specs.Paths.{Step}
 use Rattle.yq_core.specs.Text.{is_empty}
+use Rattle.yq_core.specs.Tree.{anchor_of}
 use Rattle.yq_core.proofs.BlockPieceLaws.{IsLf}
 use Rattle.yq_outline.specs.Outline.{Line}
 use Rattle.yq_outline.specs.Places.{content_under}
@@ -13,7 +14,6 @@ use Rattle.yq_row_table.specs.Grammar.{AreDashes, is_entry}
 use Rattle.yq_row_table.specs.Rows as rows
 use Rattle.yq_row_table.specs.Rows.{Cut, Row, behind_dashes, cut_text, print_row, rows_text}
 use Rattle.yq_row_table.proofs.PlaceLaws.{row_then}
-use Rattle.yq_documents.specs.TreeEdits.{anchor_of}
 use Rattle.yq_documents.specs.Reading.{read_at}
 use Rattle.yq_places.specs.RowPieces.{past_dash, upto_dash}
 use Rattle.yq_places.specs.PrintedLines.{last_break}

@@ -2,7 +2,7 @@
 use Rattle.std.proofs.Common.{◌≡◌, ℕ, ◌*◌, ◌+◌, ◌<◌, ◌≤◌, List, [], ◌∷◌, ◌++◌, None, refl, sym, ap, ◌∙◌, subst, arith, append_assoc, rules}
 use Rattle.yq_core.specs.Paths.{Step}
 use Rattle.yq_core.specs.Text.{upto}
-use Rattle.yq_core.specs.Tree.{Node}
+use Rattle.yq_core.specs.Tree.{Node, anchor_of}
 use Rattle.yq_outline.specs.LineAnchors.{HaveOneAnchorEach}
 use Rattle.yq_outline.specs.Comments.{line_comment}
 use Rattle.yq_outline.specs.Outline.{level, Stands}
@@ -12,7 +12,6 @@ use Rattle.yq_row_table.specs.Exchange.{row_front}
 use Rattle.yq_row_table.specs.Rows as rows
 use Rattle.yq_row_table.specs.Rows.{Nothing, Row, mark_column, rows_text, Cut}
 use Rattle.yq_outline.specs.Lines.{lines_of_rows, tail_of}
-use Rattle.yq_documents.specs.TreeEdits.{anchor_of}
 use Rattle.yq_edits.specs.DocumentRows.{behind_document}
 use Rattle.yq_edits.proofs.LineLaws.{above_mark, mark_behind}
 use Rattle.yq_edits.proofs.UnderLaws.{dashes_of, line_with}

@@ -8,12 +8,12 @@ use Rattle.yq_core.specs.Answers.{◌>>=◌}
 use Rattle.yq_core.specs.BlockWritten.{break_text}
 use Rattle.yq_core.specs.Paths.{Step, child_at, further, is_here, node_at}
 use Rattle.yq_core.specs.Tree as tree
-use Rattle.yq_core.specs.Tree.{Node, children_of}
+use Rattle.yq_core.specs.Tree.{Node, children_of, key_label}
 use Rattle.yq_core.proofs.Bools.{bind_some}
 use Rattle.yq_core.specs.Collections.{CollPieces}
 use Rattle.yq_core.specs.Entries.{EntryPieces, item_at}
 use Rattle.yq_core.specs.Nodes.{Items, none, item, flow_items_text, sep_text}
-use Rattle.yq_core.specs.Trees.{inner, items_tree, key_content}
+use Rattle.yq_core.specs.Trees.{items_tree, key_content}
 use Rattle.yq_flow_edits.specs.FlowEdits.{FlowEdit}
 use Rattle.yq_flow_edits.specs.Removals.{before_next, edit_from_item, gap_of, last_removed, removing_from}
 use Rattle.yq_outline.specs.Counts.{count}
@@ -81,7 +81,7 @@ removing_there : (k : ℕ) (rest : List ℕ) (s : Step) (g : List ℕ) (is : Ite
 unfolding is_several
 removing_there k rest s g none y at more = absurd (none-some _ at)
 removing_there k rest s g (item key n sep none) y at more = absurd (false≢true more)
-removing_there k rest s g (item key n sep (item key2 n2 sep2 none)) y at more = go (is_here s (inner (key_content key))) (is_here (further s) (inner (key_content key2))) at
+removing_there k rest s g (item key n sep (item key2 n2 sep2 none)) y at more = go (is_here s (key_label (key_content key))) (is_here (further s) (key_label (key_content key2))) at
   where
     others : Option FlowEdit
     others = option_map (edit_from_item g key n sep) (removing_from k rest (further s) (gap_of sep) (item key2 n2 sep2 none))
@@ -91,7 +91,7 @@ removing_there k rest s g (item key n sep (item key2 n2 sep2 none)) y at more = 
     go true b at = (_, refl)
     go false true at = (_, refl)
     go false false at = absurd (none-some _ at)
-removing_there k rest s g (item key n sep (item key2 n2 sep2 (item key3 n3 sep3 is))) y at more = go (is_here s (inner (key_content key))) (λ x. removing_there k rest (further s) (gap_of sep) (item key2 n2 sep2 (item key3 n3 sep3 is)) y x refl) at
+removing_there k rest s g (item key n sep (item key2 n2 sep2 (item key3 n3 sep3 is))) y at more = go (is_here s (key_label (key_content key))) (λ x. removing_there k rest (further s) (gap_of sep) (item key2 n2 sep2 (item key3 n3 sep3 is)) y x refl) at
   where
     tail : Items
     tail = item key2 n2 sep2 (item key3 n3 sep3 is)

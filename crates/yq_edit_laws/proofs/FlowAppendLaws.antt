@@ -8,7 +8,7 @@ use Rattle.yq_text.specs.Limit.{text_limit}
 use Rattle.yq_core.specs.Keys.{depth, keys_of}
 use Rattle.yq_core.specs.Paths.{Step, append_child, node_at}
 use Rattle.yq_core.specs.Tree as tree
-use Rattle.yq_core.specs.Tree.{children_of}
+use Rattle.yq_core.specs.Tree.{children_of, key_label}
 use Rattle.yq_core.specs.Collections.{CollAt, CollPieces, IsCollAt, room_in}
 use Rattle.yq_flow_edits.specs.FlowEdits.{FlowEdit, add_item, appending, behind_appended, is_none}
 use Rattle.yq_core.specs.Nodes.{Key, FlowNode, Items, none, item, node_text}
@@ -22,7 +22,6 @@ use Rattle.yq_documents.specs.Documents.{Document, EachHasFitKeys, HasFitKey, Ha
 use Rattle.yq_places.specs.FlowNodes.{flow_collection}
 use Rattle.yq_documents.specs.Reading as reading
 use Rattle.yq_documents.specs.Reading.{documents, read_at, root_of}
-use Rattle.yq_documents.specs.TreeEdits.{new_label}
 use Rattle.yq_edits.specs.FlowRows.{FlowAt}
 use Rattle.yq_edits.specs.SoundRoots.{IsNewKey, IsNewValue, IsSoundRoot}
 use Rattle.yq_edits.specs.TextPieces.{IsPiece}
@@ -58,10 +57,10 @@ add_fit key m gap (item j n sep (item j2 n2 sep2 is)) h k f = (f.0, f.1, add_fit
 
 -- ---- the key
 
-label_is : (close : ℕ) (key : Option (List ℕ)) → KeyIsUtf8 key → takes_key close key ≡ true → IsLabel (eqb close 125) (new_label key)
+label_is : (close : ℕ) (key : Option (List ℕ)) → KeyIsUtf8 key → takes_key close key ≡ true → IsLabel (eqb close 125) (key_label key)
 label_is close key u h = go (eqb close 125) key u h
   where
-    go : (b : Bool) (key : Option (List ℕ)) → KeyIsUtf8 key → cond b (is_some key) (not (is_some key)) ≡ true → IsLabel b (new_label key)
+    go : (b : Bool) (key : Option (List ℕ)) → KeyIsUtf8 key → cond b (is_some key) (not (is_some key)) ≡ true → IsLabel b (key_label key)
     go true None u h = absurd (false≢true h)
     go true (Some k) u h = (k, refl, u)
     go false None u h = refl
@@ -107,16 +106,16 @@ module _ (c : Cut) (doc : ℕ) (steps : List Step) (key : Option (List ℕ)) (v 
       let room : depth v ≤ room_in x = omega (arith, standing.fewer c doc steps w read found, new.nested) in
       let p = standing.piece c doc steps w read found in
       let parts = edit_pieces (cut_text c) there.before e p there.text bounds.0 bounds.1 there.whole in
-      flow_carried (append doc steps key v) c steps w at e (append_child (new_label key) v) read (record {
-        edited = value_appended x (new_label key) v stands (label_is w.close key u takes) h room;
+      flow_carried (append doc steps key v) c steps w at e (append_child (key_label key) v) read (record {
+        edited = value_appended x (key_label key) v stands (label_is w.close key u takes) h room;
         keys = flow_keys (cut_text c) c doc at.part steps at.line at.rest at.row w e.gap e.items (standing.old c doc steps w read found) at.at (add_fit (flow_key key) (flow_of v) w.gap w.items (key_fits key fits.2.0) (flow_fits v fits.2.1.1));
-        sound = append_keeps steps (root_of at.part) fits.2.2.0 v (new_label key) old node new (key_new key fits.2.2.0 fits.2.2.2);
+        sound = append_keeps steps (root_of at.part) fits.2.2.0 v (key_label key) old node new (key_new key fits.2.2.0 fits.2.2.2);
         root = refl;
         pieces = (
           subst IsPiece (sym (before_is (cut_text c) there.before (e.old ++ e.behind) there.text)) parts.0,
           (
             lead_piece w,
-            (key_piece (eqb w.close 125) (new_label key) (node_text (flow_of v) []) (label_is w.close key u takes) (flow_piece v h), (parts.1, tt)),
+            (key_piece (eqb w.close 125) (key_label key) (node_text (flow_of v) []) (label_is w.close key u takes) (flow_piece v h), (parts.1, tt)),
           ),
         );
         stays = omega (arith, (around_is x stands).longer, last_rest w.close w.gap w.items w.rest);

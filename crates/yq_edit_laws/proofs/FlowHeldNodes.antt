@@ -4,11 +4,11 @@ use Rattle.std.proofs.lemmas.Option.{none-some, same_Some}
 use Rattle.std.specs.Prelude.{option_and_then}
 use Rattle.yq_core.specs.Paths.{Step, is_here, further, child_at, node_at}
 use Rattle.yq_core.specs.Tree as tree
-use Rattle.yq_core.specs.Tree.{Children, children_of}
+use Rattle.yq_core.specs.Tree.{Children, children_of, key_label}
 use Rattle.yq_core.specs.Collections.{CollPieces, coll_along, coll_in}
 use Rattle.yq_core.specs.Entries.{EntryPieces, path_inside, item_at}
 use Rattle.yq_core.specs.Nodes.{FlowNode, empty, alias, scalar, coll, anchored, Items, none, item, sep_text, flow_items_text}
-use Rattle.yq_core.specs.Trees.{tree_collection, inner, items_tree, key_content, tree_of, with_name}
+use Rattle.yq_core.specs.Trees.{tree_collection, items_tree, key_content, tree_of, with_name}
 use Rattle.yq_outline.specs.Outline as outlines
 
 -- ---- what a collection holds
@@ -86,7 +86,7 @@ unfolding items_tree
 item_child k s none rest = refl
 item_child k s (item key n sep is) rest =
     let y : EntryPieces = record { key = key; node = n; rest = sep_text sep (flow_items_text k is rest) } in
-    elim (is_here s (inner (key_content key)))
+    elim (is_here s (key_label (key_content key)))
     as (λ b. option_map entry_tree (cond b (Some y) (item_at k (further s) is rest)) ≡ cond b (Some (tree_of n)) (child_at (further s) (items_tree is)))
     [ true ↦ refl | false ↦ item_child k (further s) is rest ]
 

@@ -9,7 +9,8 @@ use Rattle.yq_flow_edits.specs.FlowEdits.{FlowEdit, appending, behind_last}
 use Rattle.yq_flow_edits.specs.FlowPlaces.{place_edit}
 use Rattle.yq_core.specs.Nodes.{Key, Sep, last, comma, FlowNode, Items, none, item, flow_items_text, key_text, node_text, sep_text}
 use Rattle.yq_flow_edits.specs.Removals.{before_next, edit_from_item, comma_left, ends_marked, gap_of, gap_to, last_gone, last_out, last_removed, next_text, removing_from, space_to}
-use Rattle.yq_core.specs.Trees.{inner, key_content}
+use Rattle.yq_core.specs.Trees.{key_content}
+use Rattle.yq_core.specs.Tree.{key_label}
 use Rattle.yq_flow_edits.proofs.RemovePlaces.{or_mapped}
 use Rattle.yq_core.proofs.NodesWrittenLaws.{items_append, sep_append}
 use Rattle.yq_edit_laws.specs.EditPlaces.{moved_on}
@@ -30,7 +31,7 @@ as_entry key n rest = Some (record { key = key; node = n; rest = rest })
 pub item_more : (k : ℕ) (s : Step) (is : Items) (rest more : List ℕ) → item_at k s is (rest ++ more) ≡ option_map (entry_more more) (item_at k s is rest)
 unfolding as_entry
 item_more k s none rest more = refl
-item_more k s (item key n sep is) rest more = go (is_here s (inner (key_content key))) (item_more k (further s) is rest more)
+item_more k s (item key n sep is) rest more = go (is_here s (key_label (key_content key))) (item_more k (further s) is rest more)
   where
     go : (b : Bool) → item_at k (further s) is (rest ++ more) ≡ option_map (entry_more more) (item_at k (further s) is rest) →
         cond b (as_entry key n (sep_text sep (flow_items_text k is (rest ++ more)))) (item_at k (further s) is (rest ++ more)) ≡ option_map (entry_more more) (cond b (as_entry key n (sep_text sep (flow_items_text k is rest))) (item_at k (further s) is rest))
@@ -86,7 +87,7 @@ out_more k s g key n sep (item key2 n2 sep2 none) rest more =
     elim (ends_marked (fresh false g) (key_text key (node_text n [])))
     as (λ v. cond v (comma_left k (rest ++ more) g key n sep key2 n2 sep2) (last_gone k (rest ++ more) g key n sep key2 n2 sep2) ≡ edit_more more (cond v (comma_left k rest g key n sep key2 n2 sep2) (last_gone k rest g key n sep key2 n2 sep2)))
     [ true ↦ comma_more k g key n sep key2 n2 sep2 rest more | false ↦ gone ] in
-    elim (is_here s (inner (key_content key2))) as (λ v. cond v (Some (new (rest ++ more))) None ≡ option_map (edit_more more) (cond v (Some (new rest)) None)) [ true ↦ ap Some one | false ↦ refl ]
+    elim (is_here s (key_label (key_content key2))) as (λ v. cond v (Some (new (rest ++ more))) None ≡ option_map (edit_more more) (cond v (Some (new rest)) None)) [ true ↦ ap Some one | false ↦ refl ]
 
 behind_more : (g : List ℕ) (key : Key) (n : FlowNode) (sep : Sep) (more : List ℕ) (o : Option FlowEdit) → option_map (edit_from_item g key n sep) (option_map (edit_more more) o) ≡ option_map (edit_more more) (option_map (edit_from_item g key n sep) o)
 behind_more g key n sep more None = refl
@@ -97,7 +98,7 @@ removing_more k s g none rest more = refl
 removing_more k s g (item key n sep is) rest more =
     let t : Step = further s in
     let again = ap (option_map (edit_from_item g key n sep)) (removing_more k t (gap_of sep) is rest more) ∙ behind_more g key n sep more (removing_from k rest t (gap_of sep) is) in
-    elim (is_here s (inner (key_content key)))
+    elim (is_here s (key_label (key_content key)))
     as (λ b. cond b (before_next k (rest ++ more) g key n sep is) (option_or (last_out k (rest ++ more) t g key n sep is) (option_map (edit_from_item g key n sep) (removing_from k (rest ++ more) t (gap_of sep) is)))
     ≡ option_map (edit_more more) (cond b (before_next k rest g key n sep is) (option_or (last_out k rest t g key n sep is) (option_map (edit_from_item g key n sep) (removing_from k rest t (gap_of sep) is)))))
     [ true ↦ next_more k g key n sep is rest more | false ↦ (λ i. option_or (out_more k t g key n sep is rest more i) (again i)) ∙ or_mapped (edit_more more) (last_out k rest t g key n sep is) (option_map (edit_from_item g key n sep) (removing_from k rest t (gap_of sep) is)) ]

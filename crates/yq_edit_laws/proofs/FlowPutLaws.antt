@@ -1,5 +1,5 @@
 -- The content of an item or entry of a flow collection gives way to a value.
-use Rattle.std.proofs.Common.{◌≡◌, ℕ, ◌-◌, ◌<◌, ◌≤◌, Bool, true, false, List, [], ◌∷◌, ◌++◌, length, Option, Some, None, refl, sym, ap, ◌∙◌, subst, arith, ◌+◌, append-nil, length-append}
+use Rattle.std.proofs.Common.{◌≡◌, ℕ, ◌-◌, ◌<◌, ◌≤◌, Bool, true, false, List, [], ◌∷◌, ◌++◌, length, Option, Some, None, sym, ap, ◌∙◌, subst, arith, ◌+◌, append-nil, length-append}
 use Rattle.std.proofs.lemmas.Bool.{cond_both}
 use Rattle.std.proofs.lemmas.Option.{none-some}
 use Rattle.std.specs.Str.{IsCharBoundary}
@@ -9,15 +9,16 @@ use Rattle.yq_core.specs.Keys.{depth}
 use Rattle.yq_core.specs.Paths.{Step, changed_at, change_child, is_here, further, within}
 use Rattle.yq_core.specs.Scalar.{ScalarText}
 use Rattle.yq_core.specs.Tree as tree
+use Rattle.yq_core.specs.Tree.{anchor_of, key_label}
 use Rattle.yq_core.specs.declared.style.Place.TheVariants.{Flow}
 use Rattle.yq_core.specs.Collections.{CollAt, CollPieces, IsCollAt, item_in, collection_put, room_in}
 use Rattle.yq_core.specs.Entries.{EntryPieces, item_at}
-use Rattle.yq_flow_edits.specs.FlowEdits.{FlowEdit, IsFlowEdited, anchor_in, content_node, put_content, put_item, put_value, replacing, space_for, spaced_key}
+use Rattle.yq_flow_edits.specs.FlowEdits.{FlowEdit, IsFlowEdited, put_content, put_item, put_value, replacing, space_for, spaced_key}
 use Rattle.yq_core.specs.Nodes as inline
-use Rattle.yq_core.specs.Nodes.{Key, bare, keyed, Items, none, item, is_empty_node, node_text}
+use Rattle.yq_core.specs.Nodes.{Key, bare, keyed, Items, none, item, is_empty_node, node_text, without_anchor}
 use Rattle.yq_core.specs.Places.{locate}
 use Rattle.yq_core.specs.Scalars.{scalar_style}
-use Rattle.yq_core.specs.Trees.{inner, key_content, with_anchor_name, scalar_node}
+use Rattle.yq_core.specs.Trees.{key_content, with_anchor_name, scalar_node}
 use Rattle.yq_flow_edits.specs.Valued.{IsValueTree}
 use Rattle.yq_flow_edits.proofs.EditLaws.{around_is}
 use Rattle.yq_flow_edits.proofs.EditSpans.{EditIsSpan, replace_spans}
@@ -28,7 +29,7 @@ use Rattle.yq_flow_edits.proofs.ValueFits.{scalar_block}
 use Rattle.yq_outline.specs.Outline.{anchored}
 use Rattle.yq_row_table.specs.Rows.{Cut, cut_text}
 use Rattle.yq_documents.specs.Documents.{EachHasFitKeys, HasFitKey, HasFitKeys, lead_of}
-use Rattle.yq_documents.specs.TreeEdits.{anchor_of, replaced_node}
+use Rattle.yq_documents.specs.TreeEdits.{replaced_node}
 use Rattle.yq_documents.specs.Reading.{documents, read_at, root_of}
 use Rattle.yq_places.specs.FlowViews.{LeadsToHead}
 use Rattle.yq_places.proofs.FlowPieces.{named_is, none_anchored}
@@ -115,20 +116,14 @@ put_fit : (s : Step) (m : inline.FlowNode) (is : Items) → HasFitKeys m → Eac
 put_fit s m none h k = tt
 put_fit s m (item key n sep is) h k =
     let x = content_fit m key n h k.0 in
-    cond_both (is_here s (inner (key_content key))) (item (put_content m key n).0 (put_content m key n).1 sep is) (item key n sep (put_item (further s) m is)) EachHasFitKeys
+    cond_both (is_here s (key_label (key_content key))) (item (put_content m key n).0 (put_content m key n).1 sep is) (item key n sep (put_item (further s) m is)) EachHasFitKeys
     (λ _. (x.0, x.1, k.2)) (λ _. (k.0, k.1, put_fit (further s) m is h k.2))
 
 -- ---- the tree
 
 put_is : (v old : tree.Node) → put_value v old ≡ replaced_node v old
-put_is v old = ap (λ (a : Option (List ℕ)). with_anchor_name a v) (own old) ∙ go (anchor_of old)
+put_is v old = go (anchor_of old)
   where
-    own : (n : tree.Node) → anchor_in n ≡ anchor_of n
-    own (tree.alias name) = refl
-    own (tree.scalar a kind t) = refl
-    own (tree.list a cs) = refl
-    own (tree.map a cs) = refl
-
     go : (a : Option (List ℕ)) → with_anchor_name a v ≡ anchored a v
     go None = none_anchored v
     go (Some a) = named_is a v
@@ -206,7 +201,7 @@ module _ (c : Cut) (doc : ℕ) (path : List Step) (v : tree.Node) (read : read_a
           root =
               ap (λ (f : tree.Node → tree.Node). f (root_of at.part)) (step_change path a.init a.step (replaced_node v) a.last)
               ∙ ap (λ n. changed_at path (replaced_node n) (root_of at.part)) (sym (led_same (is_block_root at.part) (lead_of at.part) path v (below_root (is_block_root at.part) path a.init a.step a.last)));
-          pieces = (subst IsPiece (sym (before_is (cut_text c) there.before (e.old ++ e.behind) there.text)) parts.0, (space_there (content_node a.item.node), (written_piece (content_written a.item.node) v h, (parts.1, tt))));
+          pieces = (subst IsPiece (sym (before_is (cut_text c) there.before (e.old ++ e.behind) there.text)) parts.0, (space_there (without_anchor a.item.node), (written_piece (content_written a.item.node) v h, (parts.1, tt))));
           stays = omega (
             arith,
             (around_is x stands).longer,
@@ -232,7 +227,7 @@ module _ (c : Cut) (doc : ℕ) (path : List Step) (v : tree.Node) (read : read_a
     pub head_behind : LeadsToHead next doc stem
     head_behind = stay.head_behind c doc a.init a.coll at a.coll.gap items stem left init h
 
-    pub part_behind : (ss : List Step) (r : Step) (z : EntryPieces) → IsPartOf c doc (stem ++ ss) r z → length z.rest < length a.item.rest → length (node_text (content_node z.node) z.rest) ≤ length a.item.rest → IsPartOf next doc (stem ++ ss) r z
+    pub part_behind : (ss : List Step) (r : Step) (z : EntryPieces) → IsPartOf c doc (stem ++ ss) r z → length z.rest < length a.item.rest → length (node_text (without_anchor z.node) z.rest) ≤ length a.item.rest → IsPartOf next doc (stem ++ ss) r z
     part_behind ss r z part less begins =
         let slot : EntryPieces = record { key = bare; node = at.row.node; rest = behind_node c doc at.part at.row } in
         let own = λ (o : Option CollPieces). o >>= λ w. item_at w.close r w.items w.rest in

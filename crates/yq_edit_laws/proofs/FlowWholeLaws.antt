@@ -5,8 +5,8 @@ use Rattle.yq_core.specs.Paths.{Step}
 use Rattle.yq_core.specs.Text.{front, is_feed}
 use Rattle.yq_core.specs.Collections.{CollAt, IsCollAt, item_in}
 use Rattle.yq_core.specs.Entries.{EntryPieces, pieces_text}
-use Rattle.yq_flow_edits.specs.FlowEdits.{behind_appended, behind_last, content_node}
-use Rattle.yq_core.specs.Nodes.{bare, FlowNode, empty, alias, scalar, coll, anchored, Items, none, item, key_text, node_text, flow_items_text, AreFlowItems, is_close, is_empty_node, IsFlowNode, opening_bracket}
+use Rattle.yq_flow_edits.specs.FlowEdits.{behind_appended, behind_last}
+use Rattle.yq_core.specs.Nodes.{bare, FlowNode, empty, alias, scalar, coll, anchored, Items, none, item, key_text, node_text, flow_items_text, AreFlowItems, is_close, is_empty_node, IsFlowNode, opening_bracket, without_anchor}
 use Rattle.yq_flow_edits.specs.Removals.{ends_return}
 use Rattle.yq_flow_edits.proofs.EditLaws.{Around, around_is}
 use Rattle.yq_flow_edits.proofs.ItemLaws.{item_begins, item_some}
@@ -34,7 +34,7 @@ rest_stands d k t y c h =
     }
 
 -- its content, with what stands behind it
-content_split : (n : FlowNode) (rest : List ℕ) → (p : List ℕ) × (node_text n rest ≡ p ++ node_text (content_node n) rest)
+content_split : (n : FlowNode) (rest : List ℕ) → (p : List ℕ) × (node_text n rest ≡ p ++ node_text (without_anchor n) rest)
 unfolding node_text
 content_split empty rest = ([], refl)
 content_split (alias m) rest = ([], refl)
@@ -43,14 +43,14 @@ content_split (coll k gap is) rest = ([], refl)
 content_split (anchored m gap node) rest = (38 ∷ (m ++ gap), ap (λ (l : List ℕ). 38 ∷ l) (sym (append_assoc m gap (node_text node rest))))
 
 -- before a content
-content_no_feed : (d : ℕ) (n : FlowNode) (rest : List ℕ) → IsFlowNode true (Some 0) d n rest → is_empty_node (content_node n) ≡ false → front is_feed (node_text (content_node n) [] ++ rest) ≡ false
+content_no_feed : (d : ℕ) (n : FlowNode) (rest : List ℕ) → IsFlowNode true (Some 0) d n rest → is_empty_node (without_anchor n) ≡ false → front is_feed (node_text (without_anchor n) [] ++ rest) ≡ false
 unfolding IsFlowNode
-content_no_feed d n rest h some = ap (front is_feed) (sym (node_then (content_node n) rest)) ∙ go n h some
+content_no_feed d n rest h some = ap (front is_feed) (sym (node_then (without_anchor n) rest)) ∙ go n h some
   where
     begins : (m : FlowNode) → IsFlowNode true (Some 0) d m rest → is_empty_node m ≡ false → front is_feed (node_text m rest) ≡ false
     begins m h some = node_no_feed (node_text m rest) (item_begins d 93 bare m rest refl (ap not some) h)
 
-    go : (n : FlowNode) → IsFlowNode true (Some 0) d n rest → is_empty_node (content_node n) ≡ false → front is_feed (node_text (content_node n) rest) ≡ false
+    go : (n : FlowNode) → IsFlowNode true (Some 0) d n rest → is_empty_node (without_anchor n) ≡ false → front is_feed (node_text (without_anchor n) rest) ≡ false
     go empty h some = absurd (false≢true (sym some))
     go (alias m) h some = begins (alias m) h some
     go (scalar p) h some = begins (scalar p) h some
@@ -83,18 +83,18 @@ last_stands d k a gap (item key n sep is) rest c h =
     subst (StandsBefore t) y.1 (rest_stands d k t y.0 c (further_behind d k t items (a ++ (opening_bracket k ∷ gap)) y.0 (sym (append_assoc a (opening_bracket k ∷ gap) items)) y.2))
 
 -- what stands from its content on
-content_stands : (d k : ℕ) (t : List ℕ) (y : EntryPieces) → is_close k ≡ true → Behind d k t y → StandsBefore t (node_text (content_node y.node) [] ++ y.rest)
-content_stands d k t y c h = go (is_empty_node (content_node y.node)) refl
+content_stands : (d k : ℕ) (t : List ℕ) (y : EntryPieces) → is_close k ≡ true → Behind d k t y → StandsBefore t (node_text (without_anchor y.node) [] ++ y.rest)
+content_stands d k t y c h = go (is_empty_node (without_anchor y.node)) refl
   where
     content : List ℕ
-    content = node_text (content_node y.node) [] ++ y.rest
+    content = node_text (without_anchor y.node) [] ++ y.rest
 
-    go : (b : Bool) → is_empty_node (content_node y.node) ≡ b → StandsBefore t content
-    go true e = subst (StandsBefore t) (sym (ap (λ (l : List ℕ). l ++ y.rest) (bare_written (content_node y.node) e))) (rest_stands d k t y c h)
+    go : (b : Bool) → is_empty_node (without_anchor y.node) ≡ b → StandsBefore t content
+    go true e = subst (StandsBefore t) (sym (ap (λ (l : List ℕ). l ++ y.rest) (bare_written (without_anchor y.node) e))) (rest_stands d k t y c h)
     go false e =
         let x = content_split y.node y.rest in
         let pieces : pieces_text y ≡ key_text y.key x.0 ++ content =
-        ap (key_text y.key) (x.1 ∙ ap (λ (l : List ℕ). x.0 ++ l) (node_then (content_node y.node) y.rest)) ∙ key_append y.key x.0 content in
+        ap (key_text y.key) (x.1 ∙ ap (λ (l : List ℕ). x.0 ++ l) (node_then (without_anchor y.node) y.rest)) ∙ key_append y.key x.0 content in
         record {
           before = h.before ++ key_text y.key x.0;
           text = h.text ∙ (ap (λ (l : List ℕ). h.before ++ l) pieces ∙ sym (append_assoc h.before (key_text y.key x.0) content));
@@ -120,7 +120,7 @@ module _ (x : CollAt) (text : List ℕ) (h : IsCollAt x) where
   in_text y b = further_behind around.inner_depth x.coll.close t (flow_items_text x.coll.close x.coll.items x.coll.rest) opened y split b
 
   -- the content of an item or entry
-  pub replaced_stands : (s : Step) (y : EntryPieces) → item_in s x ≡ Some y → StandsBefore t (node_text (content_node y.node) [] ++ y.rest)
+  pub replaced_stands : (s : Step) (y : EntryPieces) → item_in s x ≡ Some y → StandsBefore t (node_text (without_anchor y.node) [] ++ y.rest)
   replaced_stands s y found = content_stands around.inner_depth x.coll.close t y around.closes (in_text y (item_behind around.inner_depth x.coll.close s x.coll.items x.coll.rest y around.items found))
 
   -- what stands behind one more item or entry

@@ -5,7 +5,7 @@ use Rattle.yq_core.specs.BlockWritten.{break_text}
 use Rattle.yq_text.specs.Limit.{text_limit}
 use Rattle.yq_core.specs.Paths.{Step}
 use Rattle.yq_core.specs.Text.{is_empty}
-use Rattle.yq_core.specs.Tree.{Node}
+use Rattle.yq_core.specs.Tree.{Node, anchor_of}
 use Rattle.yq_flow_edits.specs.Valued.{IsValueTree}
 use Rattle.yq_outline.specs.Comments.{line_comment}
 use Rattle.yq_outline.specs.Places.{content_under}
@@ -14,7 +14,6 @@ use Rattle.yq_row_table.specs.Rows as rows
 use Rattle.yq_row_table.specs.Rows.{Row, mark_column, rows_text, Cut}
 use Rattle.yq_row_table.specs.View.{slices}
 use Rattle.yq_outline.specs.Lines.{tail_of}
-use Rattle.yq_documents.specs.TreeEdits.{anchor_of}
 use Rattle.yq_documents.proofs.RowLineLaws.{tail_is}
 use Rattle.yq_places.specs.RowPieces.{anchor_before}
 use Rattle.yq_places.specs.Standings.{Held, RowsOfEntry, held}

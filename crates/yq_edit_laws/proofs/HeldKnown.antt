@@ -4,6 +4,7 @@ use Rattle.yq_core.specs.BlockWritten.{break_text}
 use Rattle.yq_core.specs.Paths.{Step}
 use Rattle.yq_core.specs.Text.{is_empty}
 use Rattle.yq_core.specs.declared.block_types.Break.{Break}
+use Rattle.yq_core.specs.Tree.{anchor_of}
 use Rattle.yq_outline.specs.Comments.{line_comment}
 use Rattle.yq_outline.specs.Places.{content_under}
 use Rattle.yq_row_table.specs.Gap.{IsBreak}
@@ -11,7 +12,6 @@ use Rattle.yq_row_table.specs.Grammar.{IsTail}
 use Rattle.yq_row_table.specs.Rows.{Row, Cut, cut_text}
 use Rattle.yq_row_table.specs.View.{slices}
 use Rattle.yq_outline.specs.Lines.{content_anchor}
-use Rattle.yq_documents.specs.TreeEdits.{anchor_of}
 use Rattle.yq_places.specs.Standings.{RowsOfEntry, held, is_alone}
 use Rattle.yq_edits.specs.TextPieces.{IsPiece}
 use Rattle.yq_edits.specs.StandingLaws.{HoldsPieces, StandsThere, held_text}

@@ -5,7 +5,7 @@ use Rattle.yq_core.specs.BlockWritten.{break_text}
 use Rattle.yq_core.specs.Characters.{pairs_returns}
 use Rattle.yq_core.specs.Paths.{Step}
 use Rattle.yq_core.specs.Text.{is_break, is_empty, is_line}
-use Rattle.yq_core.specs.Tree.{Node}
+use Rattle.yq_core.specs.Tree.{Node, anchor_of}
 use Rattle.yq_core.specs.Nodes.{node_text, IsFlowNode}
 use Rattle.yq_outline.specs.Comments.{line_comment}
 use Rattle.yq_outline.specs.Outline as outline
@@ -18,7 +18,6 @@ use Rattle.yq_row_table.specs.Rows.{Content, Cut, Row, cut_text, parent_indent, 
 use Rattle.yq_row_table.specs.View.{Slices, content_cut, slices}
 use Rattle.yq_row_table.proofs.CharacterLaws.{pairs_back}
 use Rattle.yq_outline.specs.Lines.{content_anchor, head_of, lines_of_rows, row_lines}
-use Rattle.yq_documents.specs.TreeEdits.{anchor_of}
 use Rattle.yq_documents.specs.Reading.{part_outline, read_at}
 use Rattle.yq_places.specs.CommentPlaces.{LineEnd, end_in_line, text_to_line_end}
 use Rattle.yq_places.specs.PrintedLines.{last_break}

@@ -5,11 +5,12 @@ use Rattle.yq_core.specs.Answers.{◌>>=◌}
 use Rattle.yq_core.specs.Paths.{Step, is_here, further}
 use Rattle.yq_core.specs.Collections.{CollPieces, change_item, coll_along, coll_in, collection_put, put_coll, within_items}
 use Rattle.yq_core.specs.Entries.{EntryPieces, entry_pieces_at, path_inside, item_at}
-use Rattle.yq_core.specs.Nodes.{Key, bare, keyed, FlowNode, empty, alias, scalar, coll, anchored, Items, none, item, flow_items_text, key_text, node_text, sep_text}
-use Rattle.yq_core.specs.Trees.{inner, key_content}
+use Rattle.yq_core.specs.Nodes.{Key, bare, keyed, FlowNode, empty, alias, scalar, coll, anchored, Items, none, item, flow_items_text, key_text, node_text, sep_text, without_anchor}
+use Rattle.yq_core.specs.Trees.{key_content}
+use Rattle.yq_core.specs.Tree.{key_label}
 use Rattle.yq_core.proofs.NodeAgain.{key_longer, node_longer, sep_longer}
 use Rattle.yq_core.proofs.PathLaws.{then_some}
-use Rattle.yq_flow_edits.specs.FlowEdits.{content_node, put_content, put_item, spaced_key}
+use Rattle.yq_flow_edits.specs.FlowEdits.{put_content, put_item, spaced_key}
 use Rattle.yq_flow_edits.proofs.ItemPlaces.{item_rest}
 use Rattle.yq_edit_laws.proofs.FlowStandings.{coll_entry, node_entry}
 
@@ -18,7 +19,7 @@ use Rattle.yq_edit_laws.proofs.FlowStandings.{coll_entry, node_entry}
 node_in_items : (k : ℕ) (s : Step) (is : Items) (rest : List ℕ) (y : EntryPieces) → item_at k s is rest ≡ Some y → length (node_text y.node y.rest) ≤ length (flow_items_text k is rest)
 unfolding flow_items_text
 node_in_items k s none rest y e = absurd (none-some _ e)
-node_in_items k s (item key n sep is) rest y e = go (is_here s (inner (key_content key))) (node_in_items k (further s) is rest y) e
+node_in_items k s (item key n sep is) rest y e = go (is_here s (key_label (key_content key))) (node_in_items k (further s) is rest y) e
   where
     behind : List ℕ
     behind = sep_text sep (flow_items_text k is rest)
@@ -28,7 +29,7 @@ node_in_items k s (item key n sep is) rest y e = go (is_here s (inner (key_conte
     go true again e = omega (arith, key_longer key (node_text n behind), ap (λ (z : EntryPieces). length (node_text z.node z.rest)) (same_Some _ _ e))
     go false again e = omega (arith, again e, sep_longer sep (flow_items_text k is rest), node_longer n behind, key_longer key (node_text n behind))
 
-content_within : (node : FlowNode) (rest : List ℕ) → length (node_text (content_node node) rest) ≤ length (node_text node rest)
+content_within : (node : FlowNode) (rest : List ℕ) → length (node_text (without_anchor node) rest) ≤ length (node_text node rest)
 unfolding node_text
 content_within empty rest = omega arith
 content_within (alias n) rest = omega arith
@@ -36,7 +37,7 @@ content_within (scalar p) rest = omega arith
 content_within (coll k gap is) rest = omega arith
 content_within (anchored n gap node) rest = omega (arith, length-append n (gap ++ node_text node rest), length-append gap (node_text node rest))
 
-inside_within : (s : Step) (node : FlowNode) (rest : List ℕ) (y : EntryPieces) → path_inside s node rest ≡ Some y → (length (node_text y.node y.rest) < length (node_text (content_node node) rest)) × (length rest ≤ length y.rest)
+inside_within : (s : Step) (node : FlowNode) (rest : List ℕ) (y : EntryPieces) → path_inside s node rest ≡ Some y → (length (node_text y.node y.rest) < length (node_text (without_anchor node) rest)) × (length rest ≤ length y.rest)
 unfolding node_text
 inside_within s empty rest y e = absurd (none-some _ e)
 inside_within s (alias n) rest y e = absurd (none-some _ e)
@@ -48,7 +49,7 @@ part_rest : (q : List Step) (x z : EntryPieces) → entry_pieces_at q x ≡ Some
 part_rest [] x z e = omega (arith, ap (λ (v : EntryPieces). length v.rest) (same_Some _ _ e))
 part_rest (s ∷ q) x z e = let u = then_some (path_inside s x.node x.rest) e in omega (arith, part_rest q u.0 z u.2, (inside_within s x.node x.rest u.0 u.1).1)
 
-part_within : (p : List Step) (s : Step) (x : EntryPieces) (w : CollPieces) (y : EntryPieces) → coll_along p x.node x.rest ≡ Some w → item_at w.close s w.items w.rest ≡ Some y → length (node_text y.node y.rest) < length (node_text (content_node x.node) x.rest)
+part_within : (p : List Step) (s : Step) (x : EntryPieces) (w : CollPieces) (y : EntryPieces) → coll_along p x.node x.rest ≡ Some w → item_at w.close s w.items w.rest ≡ Some y → length (node_text y.node y.rest) < length (node_text (without_anchor x.node) x.rest)
 part_within [] s x w y e at = (inside_within s x.node x.rest y (coll_entry s x.node x.rest w e ∙ at)).0
 part_within (t ∷ p) s x w y e at =
     let u = then_some (path_inside t x.node x.rest) e in
@@ -71,17 +72,17 @@ put_key m key (anchored n gap node) = refl
 later_item : (k : ℕ) (s r : Step) (m : FlowNode) (is : Items) (rest : List ℕ) (y z : EntryPieces) → item_at k s is rest ≡ Some y → item_at k r is rest ≡ Some z → length z.rest < length y.rest → item_at k r (put_item s m is) rest ≡ Some z
 later_item k s r m none rest y z here there less = absurd (none-some _ here)
 later_item k s r m (item key n sep is) rest y z here there less =
-    go (is_here s (inner (key_content key))) (is_here r (inner (key_content key))) refl here there (λ here there. later_item k (further s) (further r) m is rest y z here there less)
+    go (is_here s (key_label (key_content key))) (is_here r (key_label (key_content key))) refl here there (λ here there. later_item k (further s) (further r) m is rest y z here there less)
   where
     own : Option EntryPieces
     own = Some (record { key = key; node = n; rest = sep_text sep (flow_items_text k is rest) })
 
-    go : (a b : Bool) → is_here r (inner (key_content key)) ≡ b → cond a own (item_at k (further s) is rest) ≡ Some y → cond b own (item_at k (further r) is rest) ≡ Some z →
+    go : (a b : Bool) → is_here r (key_label (key_content key)) ≡ b → cond a own (item_at k (further s) is rest) ≡ Some y → cond b own (item_at k (further r) is rest) ≡ Some z →
         (item_at k (further s) is rest ≡ Some y → item_at k (further r) is rest ≡ Some z → item_at k (further r) (put_item (further s) m is) rest ≡ Some z) →
         item_at k r (cond a (item (put_content m key n).0 (put_content m key n).1 sep is) (item key n sep (put_item (further s) m is))) rest ≡ Some z
     go true true is_r here there again = absurd (omega (arith, less, ap (λ (x : EntryPieces). length x.rest) (same_Some _ _ here), ap (λ (x : EntryPieces). length x.rest) (same_Some _ _ there)))
     go true false is_r here there again =
-        let other : is_here r (inner (key_content (put_content m key n).0)) ≡ false = ap (λ (c : Option (List ℕ)). is_here r (inner c)) (put_key m key n) ∙ is_r in
+        let other : is_here r (key_label (key_content (put_content m key n).0)) ≡ false = ap (λ (c : Option (List ℕ)). is_here r (key_label c)) (put_key m key n) ∙ is_r in
         ap (λ (b : Bool). cond b (Some (record { key = (put_content m key n).0; node = (put_content m key n).1; rest = sep_text sep (flow_items_text k is rest) })) (item_at k (further r) is rest)) other ∙ there
     go false true is_r here there again =
         absurd (omega (arith, less, node_in_items k (further s) is rest y here, node_longer y.node y.rest, sep_longer sep (flow_items_text k is rest), ap (λ (x : EntryPieces). length x.rest) (same_Some _ _ there)))
@@ -109,7 +110,7 @@ item_changed : (k : ℕ) (s r : Step) (f : FlowNode → FlowNode) (q : List Step
     length z.rest < length (node_text y.node y.rest) → (entry_pieces_at q y ≡ Some z → entry_pieces_at q (with_node (f y.node) y) ≡ Some z) → option_and_then (entry_pieces_at q) (item_at k r (change_item s f is) rest) ≡ Some z
 item_changed k s r f q none rest y z here there less own_stays = absurd (none-some _ here)
 item_changed k s r f q (item key n sep is) rest y z here there less own_stays =
-    go (is_here s (inner (key_content key))) (is_here r (inner (key_content key))) refl here there (λ here there. item_changed k (further s) (further r) f q is rest y z here there less own_stays)
+    go (is_here s (key_label (key_content key))) (is_here r (key_label (key_content key))) refl here there (λ here there. item_changed k (further s) (further r) f q is rest y z here there less own_stays)
   where
     own : FlowNode → EntryPieces
     own m = record { key = key; node = m; rest = sep_text sep (flow_items_text k is rest) }
@@ -117,7 +118,7 @@ item_changed k s r f q (item key n sep is) rest y z here there less own_stays =
     on : Option EntryPieces → Option EntryPieces
     on o = option_and_then (entry_pieces_at q) o
 
-    go : (a b : Bool) → is_here r (inner (key_content key)) ≡ b → cond a (Some (own n)) (item_at k (further s) is rest) ≡ Some y → on (cond b (Some (own n)) (item_at k (further r) is rest)) ≡ Some z →
+    go : (a b : Bool) → is_here r (key_label (key_content key)) ≡ b → cond a (Some (own n)) (item_at k (further s) is rest) ≡ Some y → on (cond b (Some (own n)) (item_at k (further r) is rest)) ≡ Some z →
         (item_at k (further s) is rest ≡ Some y → on (item_at k (further r) is rest) ≡ Some z → on (item_at k (further r) (change_item (further s) f is) rest) ≡ Some z) →
         on (item_at k r (cond a (item key (f n) sep is) (item key n sep (change_item (further s) f is))) rest) ≡ Some z
     go true true is_r here there again =
@@ -141,9 +142,9 @@ node_changed s r f q (coll k gap is) rest y z here there less own_stays = item_c
 node_changed s r f q (anchored n gap node) rest y z here there less own_stays = node_changed s r f q node rest y z here there less own_stays
 
 pub later_part : (p q : List Step) (s : Step) (m : FlowNode) (x : EntryPieces) (w : CollPieces) (y z : EntryPieces) → coll_along p x.node x.rest ≡ Some w → item_at w.close s w.items w.rest ≡ Some y → entry_pieces_at q x ≡ Some z →
-    length z.rest < length y.rest → length (node_text (content_node z.node) z.rest) ≤ length y.rest → entry_pieces_at q (record x { node = collection_put p w.gap (put_item s m w.items) x.node }) ≡ Some z
+    length z.rest < length y.rest → length (node_text (without_anchor z.node) z.rest) ≤ length y.rest → entry_pieces_at q (record x { node = collection_put p w.gap (put_item s m w.items) x.node }) ≡ Some z
 later_part p [] s m x w y z e here there less begins =
-    absurd (omega (arith, begins, node_longer y.node y.rest, part_within p s x w y e here, ap (λ (v : EntryPieces). length (node_text (content_node v.node) v.rest)) (same_Some _ _ there)))
+    absurd (omega (arith, begins, node_longer y.node y.rest, part_within p s x w y e here, ap (λ (v : EntryPieces). length (node_text (without_anchor v.node) v.rest)) (same_Some _ _ there)))
 later_part [] (r ∷ q) s m x w y z e here there less begins =
     let v = then_some (path_inside r x.node x.rest) there in
     ap (option_and_then (entry_pieces_at q)) (node_put s r m x.node x.rest w y v.0 e here v.1 (omega (arith, less, part_rest q v.0 z v.2))) ∙ v.2

@@ -2,7 +2,7 @@
 use Rattle.std.proofs.Common.{◌≡◌, ℕ, suc, ◌<◌, ◌≤◌, Bool, true, false, List, [], ◌∷◌, ◌++◌, length, Option, Some, refl, sym, ap, ◌∙◌, subst, arith, append-nil, rules}
 use Rattle.std.proofs.lemmas.Bool.{false≢true, ltb-true}
 use Rattle.yq_core.specs.Paths.{Step, changed_at}
-use Rattle.yq_core.specs.Tree.{Node}
+use Rattle.yq_core.specs.Tree.{Node, anchor_of}
 use Rattle.yq_core.specs.Alike.{Alike}
 use Rattle.yq_outline.specs.LineAnchors.{HaveOneAnchorEach}
 use Rattle.yq_outline.specs.Comments.{head_comment, line_comment}
@@ -18,7 +18,7 @@ use Rattle.yq_row_table.proofs.seams.SeamLaws.{rows_text-append}
 use Rattle.yq_row_table.proofs.splices.SpliceTexts.{own_gap, own_end, first_text, first_is}
 use Rattle.yq_documents.specs.Documents.{HaveFitKeys, lead_of}
 use Rattle.yq_outline.specs.Lines.{content_anchor, head_of, tail_of, lines_of_rows}
-use Rattle.yq_documents.specs.TreeEdits.{anchor_of, led, replaced_node}
+use Rattle.yq_documents.specs.TreeEdits.{led, replaced_node}
 use Rattle.yq_documents.specs.Ready.{begins_no_node}
 use Rattle.yq_documents.specs.Reading.{root_of}
 use Rattle.yq_places.specs.RowPaths.{IsReadable}

@@ -5,7 +5,7 @@ use Rattle.yq_core.specs.Paths.{Step}
 use Rattle.yq_core.specs.Piece.{deeper}
 use Rattle.yq_core.specs.Plain.{ends_plain}
 use Rattle.yq_core.specs.Text.{separates}
-use Rattle.yq_core.specs.Tree.{Node}
+use Rattle.yq_core.specs.Tree.{Node, anchor_of}
 use Rattle.yq_core.specs.Nodes as inline
 use Rattle.yq_outline.specs.LineAnchors.{HaveOneAnchorEach}
 use Rattle.yq_outline.specs.Comments.{line_comment}
@@ -23,7 +23,6 @@ use Rattle.yq_row_table.proofs.NodeExchange.{inline_starts, space_apart}
 use Rattle.yq_row_table.proofs.splices.PartPlaces.{part_ends}
 use Rattle.yq_documents.specs.Documents.{ContentHasFitKeys}
 use Rattle.yq_outline.specs.Lines.{content_anchor, head_of, tail_of, lines_of_rows, line_mark}
-use Rattle.yq_documents.specs.TreeEdits.{anchor_of}
 use Rattle.yq_edits.specs.DocumentRows.{behind_document}
 use Rattle.yq_documents.specs.PartNumbers.{part_number}
 use Rattle.yq_edits.specs.InlineRows.{IsValueNode}

@@ -3,9 +3,9 @@ use Rattle.std.proofs.Common.{◌≡◌, ◌&&◌, inl, inr, eqb, List, [], ◌�
 use Rattle.std.proofs.lemmas.Bool.{false≢true}
 use Rattle.yq_core.specs.BlockWritten.{break_text}
 use Rattle.yq_core.specs.Characters.{pairs_returns}
-use Rattle.yq_core.specs.Text.{front, is_empty, joined, past_white}
+use Rattle.yq_core.specs.Text.{front, is_empty, joined, past_white, with_first}
 use Rattle.yq_core.specs.declared.block_types.Break.{Break}
-use Rattle.yq_outline.specs.Comments.{comment_text, are_comments, with_text, last_comments, head_comment}
+use Rattle.yq_outline.specs.Comments.{comment_text, are_comments, last_comments, head_comment}
 use Rattle.yq_row_table.specs.Gap.{IsComment, IsGapLine, AreGapLines, IsGap}
 use Rattle.yq_row_table.proofs.CharacterLaws.{pairs_back}
 use Rattle.yq_row_table.proofs.NothingLaws.{line_end_other}
@@ -78,7 +78,7 @@ lines_broken l [] x br h open' pairs =
     let text : comment_text (l ++ break_text br) ≡ comment_text l = same_text l h.0 own two br in
     let marks : front (λ b. eqb b 35) (past_white (l ++ break_text br)) ≡ front (λ b. eqb b 35) (past_white l) = sym (text_there (l ++ break_text br)) ∙ (ap is_some text ∙ text_there l) in (
       (last_broken l h.0 own two br x, tt),
-      (λ i. cond (marks i && true) (with_text (text i) []) []),
+      (λ i. cond (marks i && true) (with_first (text i) []) []),
       ap (λ b. b && true) marks,
     )
 lines_broken l (k ∷ ls) x br h open' pairs =
@@ -97,7 +97,7 @@ lines_broken l (k ∷ ls) x br h open' pairs =
         },
         w.0,
       ),
-      (λ i. cond (all i) (with_text (comment_text l) (w.1 i)) (w.1 i)),
+      (λ i. cond (all i) (with_first (comment_text l) (w.1 i)) (w.1 i)),
       all,
     )
 

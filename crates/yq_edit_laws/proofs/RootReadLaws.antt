@@ -2,7 +2,7 @@
 use Rattle.std.proofs.Common.{Some, ◌≡◌, ℕ, ◌+◌, ◌≤◌, List, [], ◌∷◌, ◌++◌, map, replicate, None, true, false, sym, ap, ◌∙◌, subst, append-nil, rules}
 use Rattle.std.proofs.lemmas.Bool.{false≢true}
 use Rattle.yq_core.specs.Paths.{within}
-use Rattle.yq_core.specs.Tree.{Node, children_of}
+use Rattle.yq_core.specs.Tree.{Node, children_of, anchor_of}
 use Rattle.yq_core.specs.Inline.{depth_limit}
 use Rattle.yq_flow_edits.specs.Valued.{IsValueTree}
 use Rattle.yq_core.specs.Anchors.{names_of}
@@ -14,7 +14,7 @@ use Rattle.yq_row_table.specs.Rows.{Row, rows_text, Part, Cut, cut_text}
 use Rattle.yq_row_table.specs.SpliceFits.{is_after}
 use Rattle.yq_row_table.specs.Splices.{first_gap, marker_before}
 use Rattle.yq_documents.specs.Documents.{Document, document_parts, lead_of}
-use Rattle.yq_documents.specs.TreeEdits.{anchor_of, headed, lead_by, led, replaced_node}
+use Rattle.yq_documents.specs.TreeEdits.{headed, lead_by, led, replaced_node}
 use Rattle.yq_places.specs.PlacedRows.{PlacedPart}
 use Rattle.yq_documents.specs.Reading as reading
 use Rattle.yq_documents.specs.Reading.{root_of, read_at}

@@ -13,7 +13,6 @@ use Rattle.yq_row_table.specs.Rows.{Anchor, Block, anchor_text, content_text, Ro
 use Rattle.yq_row_table.specs.View.{slices}
 use Rattle.yq_row_table.proofs.LineEnds.{comment_none, text_line, white_none}
 use Rattle.yq_outline.specs.Lines.{block_anchor, content_anchor}
-use Rattle.yq_documents.specs.TreeEdits.{anchor_of}
 use Rattle.yq_places.specs.CommentPlaces.{LineEnd, end_in_line}
 use Rattle.yq_places.specs.PrintedLines.{last_break, less_break}
 use Rattle.yq_places.specs.RowPieces.{anchor_before, space_before}
@@ -25,6 +24,7 @@ use Rattle.yq_edits.proofs.BreakLaws.{IsLfOrCrLf, break_is}
 use Rattle.yq_edits.proofs.CommentPieceLaws.{break_piece}
 use Rattle.yq_edits.proofs.CommentRowLaws.{end_parts}
 use Rattle.yq_core.specs.declared.block_types.Break.TheVariants.{Lf, CrLf}
+use Rattle.yq_core.specs.Tree.{anchor_of}
 use Rattle.yq_edit_laws.proofs.HeadPuts.{apart_there, content_there}
 use Rattle.yq_edit_laws.proofs.HeldKnown.{KnowsHeld}
 use Rattle.yq_edit_laws.proofs.HeldRows.{mark_end, mark_tail}

@@ -2,7 +2,7 @@
 use Rattle.std.proofs.Common.{◌≡◌, ℕ, ◌+◌, ◌*◌, ◌<◌, ◌≤◌, true, List, [], ◌∷◌, ◌++◌, Option, Some, None, refl, subst, append-nil, rules}
 use Rattle.yq_core.specs.Text.{upto}
 use Rattle.yq_core.specs.Tree as tree
-use Rattle.yq_core.specs.Tree.{Node, Children, none, child}
+use Rattle.yq_core.specs.Tree.{Node, Children, none, child, key_label}
 use Rattle.yq_core.specs.Nodes as inline
 use Rattle.yq_flow_edits.specs.Valued.{IsValueTree}
 use Rattle.yq_outline.specs.LineAnchors.{HaveOneAnchorEach}
@@ -16,7 +16,6 @@ use Rattle.yq_row_table.specs.Rows.{Row}
 use Rattle.yq_row_table.specs.Splices.{first_gap}
 use Rattle.yq_documents.specs.Documents.{HaveFitKeys}
 use Rattle.yq_outline.specs.Lines.{lines_of_rows}
-use Rattle.yq_documents.specs.TreeEdits.{new_label}
 use Rattle.yq_edits.specs.declared.layout.Layout.{Layout}
 use Rattle.yq_edits.specs.Alone.{sole_collection}
 use Rattle.yq_edits.specs.BlockRows.{inline_of, node_rows, children_rows, entry_rows, rows_on_dash, end_of_line_before, column_below}
@@ -47,7 +46,7 @@ pub record IsEntryOf (key : Option (List ℕ)) (v : Node) (column : ℕ) (rs : L
   pub level_is : level line ≡ entry_level key column
   pub headless : IsOpen line.head under
   pub deep : (m : ℕ) × (level line < m) × IsEven m under
-  pub label_is : label line ≡ new_label key
+  pub label_is : label line ≡ key_label key
   pub node_is : content_under line under ≡ v
 
 no_more : (a : Outline) → none ≡ children a → a ≡ end
@@ -65,10 +64,10 @@ map_same cs ds e = cc
 
 -- the line of an outline with one item or entry
 abbrev IsOne : Option (List ℕ) → Node → Line → Outline → Outline → Type 0
-IsOne k v l u a = (label l ≡ new_label k) × (content_under l u ≡ v) × (a ≡ end)
+IsOne k v l u a = (label l ≡ key_label k) × (content_under l u ≡ v) × (a ≡ end)
 
-is_child : (k : Option (List ℕ)) (v : Node) (l : Line) (u a : Outline) → child (label l) (content_under l u) (children a) ≡ child (new_label k) v none → IsOne k v l u a
-is_child k v l u a e = let x = children_same (label l) (new_label k) (content_under l u) v (children a) none e in (x.0, x.1, no_more a x.2)
+is_child : (k : Option (List ℕ)) (v : Node) (l : Line) (u a : Outline) → child (label l) (content_under l u) (children a) ≡ child (key_label k) v none → IsOne k v l u a
+is_child k v l u a e = let x = children_same (label l) (key_label k) (content_under l u) v (children a) none e in (x.0, x.1, no_more a x.2)
 
 -- its mark, by its level
 is_one : (k : Option (List ℕ)) (v : Node) (column : ℕ) (l : Line) (u a : Outline) (m : LineMark) → l.mark ≡ m → 3 * l.column + rank m ≡ entry_level k column → outline_node m (child (label l) (content_under l u) (children a)) ≡ sole_collection k v → IsOne k v l u a

@@ -5,9 +5,8 @@ use Rattle.yq_core.specs.declared.block_types.Break.{Break}
 use Rattle.yq_core.specs.BlockWritten.{break_text}
 use Rattle.yq_core.specs.Text.{text_lines, upto}
 use Rattle.yq_core.specs.Tree as tree
-use Rattle.yq_core.specs.Tree.{Children}
+use Rattle.yq_core.specs.Tree.{Children, key_label}
 use Rattle.yq_core.specs.Nodes as inline
-use Rattle.yq_core.specs.Trees.{inner}
 use Rattle.yq_flow_edits.specs.Valued.{IsLabel, IsValueTree, AreValueTrees}
 use Rattle.yq_outline.specs.Comments.{head_comment, line_comment}
 use Rattle.yq_row_table.specs.Rows as rows
@@ -83,11 +82,11 @@ keyed_level false column = 3 * column + 3
 under_key : (l : Layout) (column : ℕ) (n : tree.Node) → 1 ≤ l.mapping → IsFilled n → keyed_level true column < level_at (column + indent_step l n) n
 under_key l column n h1 h2 = search rules
 
-key_label : (k : List ℕ) (column : ℕ) (c : rows.Content) → IsUtf8 k → line_comment (Rattle.yq_outline.specs.Lines.tail_of c) ≡ None → label (mark_line (head_comment []) column (rows.Key (block_key k) (58 ∷ [])) c) ≡ inner (Some k)
-key_label k column c u uncommented = λ i. record { key = Some (key_content_is k u i); head_comment = no_head i; line_comment = uncommented i }
+key_line_label : (k : List ℕ) (column : ℕ) (c : rows.Content) → IsUtf8 k → line_comment (Rattle.yq_outline.specs.Lines.tail_of c) ≡ None → label (mark_line (head_comment []) column (rows.Key (block_key k) (58 ∷ [])) c) ≡ key_label (Some k)
+key_line_label k column c u uncommented = λ i. record { key = Some (key_content_is k u i); head_comment = no_head i; line_comment = uncommented i }
 
-dash_label : (column : ℕ) (c : rows.Content) → line_comment (Rattle.yq_outline.specs.Lines.tail_of c) ≡ None → label (mark_line (head_comment []) column rows.Dash c) ≡ inner None
-dash_label column c uncommented = λ i. record { key = None; head_comment = no_head i; line_comment = uncommented i }
+dash_line_label : (column : ℕ) (c : rows.Content) → line_comment (Rattle.yq_outline.specs.Lines.tail_of c) ≡ None → label (mark_line (head_comment []) column rows.Dash c) ≡ key_label None
+dash_line_label column c uncommented = λ i. record { key = None; head_comment = no_head i; line_comment = uncommented i }
 
 entry_lines : (l : Layout) (column : ℕ) (end : List ℕ) (keyed : Bool) (own_label : tree.Label) (n : tree.Node) (node : Option inline.FlowNode) (below : List Row) (after : List Line) (cs : Children) → 1 ≤ l.mapping →
     IsLabel keyed own_label → Heads n node → line_comment end ≡ None →
@@ -96,20 +95,20 @@ entry_lines : (l : Layout) (column : ℕ) (end : List ℕ) (keyed : Bool) (own_l
 unfolding level
 entry_lines l column end true own_label n (Some node) below after cs step is h uncommented held rest =
     subst (λ (x : tree.Label). AreEntryLines (keyed_level true column) (lines_of_rows (entry_rows l column end x.key (Some node) below) ++ after) (tree.child x n cs)) (sym is.1)
-    (one_more _ _ [] after n _ cs (omega arith) (λ e. cc) (headed h.same) rest (key_label is.0 column (Inline (32 ∷ []) node end) is.2 uncommented) h.unnamed)
+    (one_more _ _ [] after n _ cs (omega arith) (λ e. cc) (headed h.same) rest (key_line_label is.0 column (Inline (32 ∷ []) node end) is.2 uncommented) h.unnamed)
 entry_lines l column end true own_label n None below after cs step is h uncommented held rest =
     let under : IsNodeOutline (level_at (column + indent_step l n) n) (lines_of_rows below) n = subst (λ (x : tree.Label). IsNodeOutline (level_at (column_below l column x.key n) n) (lines_of_rows below) n) is.1 (held h).1 in
     subst (λ (x : tree.Label). AreEntryLines (keyed_level true column) (lines_of_rows (entry_rows l column end x.key None below) ++ after) (tree.child x n cs)) (sym is.1)
-    (one_more _ _ (lines_of_rows below) after n _ cs (omega arith) (λ e. cc) (deeper_lines refl (under_key l column n step h) under) rest (key_label is.0 column (Nothing (break_text l.br)) is.2 (break_uncommented l.br)) refl)
+    (one_more _ _ (lines_of_rows below) after n _ cs (omega arith) (λ e. cc) (deeper_lines refl (under_key l column n step h) under) rest (key_line_label is.0 column (Nothing (break_text l.br)) is.2 (break_uncommented l.br)) refl)
 entry_lines l column end false own_label n (Some node) below after cs step is h uncommented held rest =
     subst (λ (x : tree.Label). AreEntryLines (keyed_level false column) (lines_of_rows (entry_rows l column end x.key (Some node) below) ++ after) (tree.child x n cs)) (sym is)
-    (one_more _ _ [] after n _ cs (omega arith) (λ e. cc) (headed h.same) rest (dash_label column (Inline (32 ∷ []) node end) uncommented) h.unnamed)
+    (one_more _ _ [] after n _ cs (omega arith) (λ e. cc) (headed h.same) rest (dash_line_label column (Inline (32 ∷ []) node end) uncommented) h.unnamed)
 entry_lines l column end false own_label n None below after cs step is h uncommented held rest =
     let at : ℕ = item_column column in
     let begun : BeginAt at below = subst (λ (x : tree.Label). BeginAt (column_below l column x.key n) below) is (held h).0 in
     let under : IsNodeOutline (level_at at n) (lines_of_rows below) n = subst (λ (x : tree.Label). IsNodeOutline (level_at (column_below l column x.key n) n) (lines_of_rows below) n) is (held h).1 in
     subst (λ (x : tree.Label). AreEntryLines (keyed_level false column) (lines_of_rows (entry_rows l column end x.key None below) ++ after) (tree.child x n cs)) (sym is)
-    (subst (λ (ls : List Line). AreEntryLines (keyed_level false column) (ls ++ after) (tree.child (inner None) n cs)) (sym (behind_lines column below begun))
+    (subst (λ (ls : List Line). AreEntryLines (keyed_level false column) (ls ++ after) (tree.child (key_label None) n cs)) (sym (behind_lines column below begun))
     (one_more _ (dash_line [] column) (lines_of_rows below) after n _ cs (omega arith) (λ e. cc) (deeper_lines refl (search rules) under) rest refl refl))
 
 -- all of them

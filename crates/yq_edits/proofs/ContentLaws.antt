@@ -6,7 +6,7 @@ use Rattle.yq_core.specs.Characters.{is_text}
 use Rattle.yq_text.specs.Limit.{text_limit}
 use Rattle.yq_core.specs.Paths.{Step, changed_at}
 use Rattle.yq_core.specs.Tree as tree
-use Rattle.yq_core.specs.Tree.{Node, Children}
+use Rattle.yq_core.specs.Tree.{Node, Children, anchor_of}
 use Rattle.yq_core.specs.Nodes as inline
 use Rattle.yq_core.specs.Nodes.{takes_anchor, IsFlowNode}
 use Rattle.yq_core.specs.Trees as trees
@@ -28,7 +28,7 @@ use Rattle.yq_row_table.specs.Splices.{asked_at, first_gap, nth_part, rest_behin
 use Rattle.yq_row_table.proofs.splices.RowReplaced.{row_exchanged}
 use Rattle.yq_documents.specs.Documents.{HaveFitKeys, HasShortRoot, lead_of}
 use Rattle.yq_outline.specs.Lines.{block_anchor, content_anchor, head_of, line_mark, mark_line, lines_of_rows}
-use Rattle.yq_documents.specs.TreeEdits.{anchor_of, replaced_node}
+use Rattle.yq_documents.specs.TreeEdits.{replaced_node}
 use Rattle.yq_documents.specs.Reading.{part_outline, root_of}
 use Rattle.yq_places.specs.RowPaths.{spelled_node, IsReadable}
 use Rattle.yq_edits.specs.Changed.{IsChanged, put_document}

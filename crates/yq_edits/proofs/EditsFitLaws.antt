@@ -6,7 +6,7 @@ use Rattle.std.proofs.lemmas.Option.{none-some, same_Some}
 use Rattle.std.specs.Prelude.{◌≢◌, All}
 use Rattle.std.specs.Str.{bytes_eq}
 use Rattle.yq_core.specs.Answers.{◌>>=◌}
-use Rattle.yq_core.specs.Keys.{HasUniqueKeys, EachHasUniqueKeys, AreDistinct, with_key, keys_of, depth}
+use Rattle.yq_core.specs.Keys.{HasUniqueKeys, EachHasUniqueKeys, AreDistinct, keys_of, depth}
 use Rattle.yq_core.specs.Paths.{Step, To, key_is, child_at, node_at}
 use Rattle.yq_core.specs.Shapes.{IsTree, AreTrees, AreEntries, IsNew}
 use Rattle.yq_core.specs.Tree as tree
@@ -14,6 +14,7 @@ use Rattle.yq_core.specs.Tree.{Node, Children}
 use Rattle.yq_core.specs.Inline.{depth_limit}
 use Rattle.yq_flow_edits.specs.Valued.{IsLabel, IsValueTree, AreValueTrees}
 use Rattle.yq_core.specs.Anchors.{Name, Anchors, Refers, names_of, names_in, IsAmong}
+use Rattle.yq_core.specs.Text.{with_first}
 use Rattle.yq_row_table.specs.Rows.{Part, Cut, cut_text}
 use Rattle.yq_documents.specs.Documents.{Document, document_parts}
 use Rattle.yq_documents.specs.Reading as reading
@@ -90,7 +91,7 @@ mutual
         each_near keyed cs h.2 (or_parts (has_long_key n) (have_long_key cs) others).1,
       )
 
-key_other : (k : List ℕ) (o : Option (List ℕ)) (ks : List (List ℕ)) → key_is k o ≡ false → (IsAmong k ks → ⊥) → IsAmong k (with_key o ks) → ⊥
+key_other : (k : List ℕ) (o : Option (List ℕ)) (ks : List (List ℕ)) → key_is k o ≡ false → (IsAmong k ks → ⊥) → IsAmong k (with_first o ks) → ⊥
 key_other k o ks h1 h2 h3 = search (rules, false≢true, bytes_refl)
 
 pub new_key : (k : List ℕ) (cs : Children) → child_at (To k) cs ≡ None → IsAmong k (keys_of cs) → ⊥

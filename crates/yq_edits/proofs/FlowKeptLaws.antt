@@ -11,7 +11,8 @@ use Rattle.yq_flow_edits.specs.FlowEdits.{FlowEdit}
 use Rattle.yq_core.specs.Nodes.{Key, FlowNode, empty, alias, scalar, coll, anchored, Sep, Items, none, item, sep_text, flow_items_text}
 use Rattle.yq_flow_edits.specs.Removals.{before_next, edit_from_item, gap_of, last_out, removing_from}
 use Rattle.yq_flow_edits.proofs.RemoveTexts.{either, option_some}
-use Rattle.yq_core.specs.Trees.{inner, key_content}
+use Rattle.yq_core.specs.Trees.{key_content}
+use Rattle.yq_core.specs.Tree.{key_label}
 use Rattle.yq_row_table.specs.Exchange.{with_content}
 use Rattle.yq_row_table.specs.Rows.{Inline, Row, Part}
 use Rattle.yq_row_table.proofs.splices.SpliceTexts.{own_gap}
@@ -30,7 +31,7 @@ use Rattle.yq_edits.proofs.ShapeLaws.{shapes_are_alike}
 fit_items : (ss : List Step) (k : ℕ) (s : Step) (os : Items) (rest : List ℕ) (w : CollPieces) (f : FlowNode → FlowNode) → option_and_then (λ (y : EntryPieces). coll_along ss y.node y.rest) (item_at k s os rest) ≡ Some w → EachHasFitKeys os →
     ((node : FlowNode) (u : List ℕ) → coll_along ss node u ≡ Some w → HasFitKeys node → HasFitKeys (f node)) → EachHasFitKeys (change_item s f os)
 fit_items ss k s none rest w f e h fits = absurd (none-some _ e)
-fit_items ss k s (item key n sep os) rest w f e h fits = go (is_here s (inner (key_content key))) (λ again. fit_items ss k (further s) os rest w f again h.2 fits) e
+fit_items ss k s (item key n sep os) rest w f e h fits = go (is_here s (key_label (key_content key))) (λ again. fit_items ss k (further s) os rest w f again h.2 fits) e
   where
     go : (b : Bool) → (option_and_then (λ (y : EntryPieces). coll_along ss y.node y.rest) (item_at k (further s) os rest) ≡ Some w → EachHasFitKeys (change_item (further s) f os)) → option_and_then (λ (y : EntryPieces). coll_along ss y.node y.rest) (cond b (Some (record { key = key; node = n; rest = sep_text sep (flow_items_text k os rest) })) (item_at k (further s) os rest)) ≡ Some w →
         EachHasFitKeys (cond b (item key (f n) sep os) (item key n sep (change_item (further s) f os)))
@@ -61,7 +62,7 @@ before_fit k rest g key n sep (item key2 n2 sep2 os) e at h = subst (λ (x : Flo
 
 left_fit : (k : ℕ) (rest : List ℕ) (s : Step) (g : List ℕ) (os : Items) (e : FlowEdit) → removing_from k rest s g os ≡ Some e → EachHasFitKeys os → EachHasFitKeys e.items
 left_fit k rest s g none e at h = absurd (none-some _ at)
-left_fit k rest s g (item key n sep os) e at h = go (is_here s (inner (key_content key))) (λ x is. left_fit k rest (further s) (gap_of sep) os x is h.2) at
+left_fit k rest s g (item key n sep os) e at h = go (is_here s (key_label (key_content key))) (λ x is. left_fit k rest (further s) (gap_of sep) os x is h.2) at
   where
     behind : ((x : FlowEdit) → removing_from k rest (further s) (gap_of sep) os ≡ Some x → EachHasFitKeys x.items) →
         (last_out k rest (further s) g key n sep os ≡ Some e) ⊎ (option_map (edit_from_item g key n sep) (removing_from k rest (further s) (gap_of sep) os) ≡ Some e) → EachHasFitKeys e.items

@@ -4,13 +4,14 @@ use Rattle.std.proofs.Common.{subst, inl, inr, arith, append-nil, not, bytes_eq}
 use Rattle.std.proofs.lemmas.Bool.{and_parts, and_from, or_parts, or_from, not-true}
 use Rattle.std.proofs.lemmas.Option.{none-some, same_Some}
 use Rattle.std.specs.List.{list_any}
-use Rattle.yq_core.specs.Keys.{AreDistinct, with_key, keys_of, HasUniqueKeys, EachHasUniqueKeys, depth, deepest}
+use Rattle.yq_core.specs.Keys.{AreDistinct, keys_of, HasUniqueKeys, EachHasUniqueKeys, depth, deepest}
 use Rattle.yq_core.specs.Paths.{Step, is_here, further, append_child, changed_at, child_at, node_at, within}
-use Rattle.yq_core.specs.Tree.{Label, Node, Children, none, child, children_of}
+use Rattle.yq_core.specs.Tree.{Label, Node, Children, none, child, children_of, anchor_of}
 use Rattle.yq_core.specs.Inline.{depth_limit}
 use Rattle.yq_core.specs.Anchors.{Name, anchor_names, names_of, names_in, IsAmong}
 use Rattle.yq_outline.specs.Outline.{anchored}
 use Rattle.yq_core.specs.Keys.{are_distinct}
+use Rattle.yq_core.specs.Text.{with_first}
 use Rattle.yq_outline.proofs.KeyLaws.{differs, distinct_is, is_distinct}
 use Rattle.yq_outline.proofs.SoundLaws.{depth-anchored}
 use Rattle.yq_edits.specs.Conditions.{aliases_in, AreSpared}
@@ -18,7 +19,6 @@ use Rattle.yq_edits.specs.SoundRoots.{IsSoundRoot, IsNewKey, inner_names, Replac
 use Rattle.yq_edits.proofs.BoundLaws.{bound_changed, anchor_front}
 use Rattle.yq_edits.proofs.TreeLaws.{unique_changed, depth_changed, max_least, max_left, max_right}
 use Rattle.yq_documents.specs.TreeEdits.{replaced_node}
-use Rattle.yq_documents.specs.TreeEdits.{anchor_of}
 
 -- what holds of a whole holds of the node at a path
 child_unique : (s : Step) (cs : Children) (k : Node) → child_at s cs ≡ Some k → EachHasUniqueKeys cs → HasUniqueKeys k
@@ -112,13 +112,13 @@ append_depth : (d : ℕ) (l : Label) (v n : Node) → depth n ≤ d → suc (dep
 append_depth d l v n h1 h2 = search (rules, deepest_more, max_least)
 
 -- keys in order, with one more at the end
-with_append : (k : Option (List ℕ)) (xs ys : List (List ℕ)) → with_key k (xs ++ ys) ≡ with_key k xs ++ ys
+with_append : (k : Option (List ℕ)) (xs ys : List (List ℕ)) → with_first k (xs ++ ys) ≡ with_first k xs ++ ys
 with_append None xs ys = refl
 with_append (Some k) xs ys = refl
 
-keys_more : (l : Label) (v : Node) (cs : Children) → keys_of (append_child l v cs) ≡ keys_of cs ++ with_key l.key []
+keys_more : (l : Label) (v : Node) (cs : Children) → keys_of (append_child l v cs) ≡ keys_of cs ++ with_first l.key []
 keys_more l v none = refl
-keys_more l v (child i n cs) = ap (with_key i.key) (keys_more l v cs) ∙ with_append i.key (keys_of cs) (with_key l.key [])
+keys_more l v (child i n cs) = ap (with_first i.key) (keys_more l v cs) ∙ with_append i.key (keys_of cs) (with_first l.key [])
 
 unlike_more : (k x : List ℕ) (ks : List (List ℕ)) → list_any (bytes_eq k) ks ≡ false → bytes_eq k x ≡ false → list_any (bytes_eq k) (ks ++ (x ∷ [])) ≡ false
 unlike_more k x [] e f = or_from (bytes_eq k x) false f refl
@@ -131,7 +131,7 @@ distinct_more (k ∷ ks) x e new =
     and_from (not (list_any (bytes_eq k) (ks ++ (x ∷ [])))) (are_distinct (ks ++ (x ∷ [])))
     (ap not (unlike_more k x ks (not-true (list_any (bytes_eq k) ks) p.0) (differs k x (λ is. new (inl (sym is)))))) (distinct_more ks x p.1 (λ m. new (inr m)))
 
-key_more : (ks : List (List ℕ)) (k : Option (List ℕ)) → AreDistinct ks → IsNewKey k ks → AreDistinct (ks ++ with_key k [])
+key_more : (ks : List (List ℕ)) (k : Option (List ℕ)) → AreDistinct ks → IsNewKey k ks → AreDistinct (ks ++ with_first k [])
 key_more ks None h new = subst AreDistinct (sym (append-nil ks)) h
 key_more ks (Some x) h new = distinct_is (ks ++ (x ∷ [])) (distinct_more ks x (is_distinct ks h) new)
 

@@ -4,11 +4,12 @@ use Rattle.std.proofs.Common.{subst, arith, append_assoc, not, bytes_eq}
 use Rattle.std.proofs.lemmas.Bool.{and_parts, and_from, or_parts, or_from, not-true}
 use Rattle.std.proofs.lemmas.Option.{none-some, same_Some}
 use Rattle.std.specs.List.{list_any}
-use Rattle.yq_core.specs.Keys.{AreDistinct, with_key, keys_of, HasUniqueKeys, EachHasUniqueKeys, depth, deepest}
+use Rattle.yq_core.specs.Keys.{AreDistinct, keys_of, HasUniqueKeys, EachHasUniqueKeys, depth, deepest}
 use Rattle.yq_core.specs.Paths.{Step, is_here, further, child_at, relabel_child, remove_child, within}
 use Rattle.yq_core.specs.Tree.{Label, Node, alias, scalar, list, map, Children, none, child, children_of}
 use Rattle.yq_core.specs.Anchors.{Name, anchor_names, names_of, names_in}
 use Rattle.yq_core.specs.Keys.{are_distinct}
+use Rattle.yq_core.specs.Text.{with_first}
 use Rattle.yq_outline.proofs.KeyLaws.{distinct_is, is_distinct}
 use Rattle.yq_edits.specs.SoundRoots.{RemoveKeeps, RelabelKeeps}
 use Rattle.yq_edits.proofs.BoundLaws.{anchor_front}
@@ -20,7 +21,7 @@ unlike_less : (k : List ℕ) (s : Step) (cs : Children) → list_any (bytes_eq k
 unlike_less k s none e = e
 unlike_less k s (child l n cs) e = go (is_here s l) l.key e (unlike_less k (further s) cs)
   where
-    go : (b : Bool) (j : Option (List ℕ)) → list_any (bytes_eq k) (with_key j (keys_of cs)) ≡ false →
+    go : (b : Bool) (j : Option (List ℕ)) → list_any (bytes_eq k) (with_first j (keys_of cs)) ≡ false →
         (list_any (bytes_eq k) (keys_of cs) ≡ false → list_any (bytes_eq k) (keys_of (remove_child (further s) cs)) ≡ false) →
         list_any (bytes_eq k) (keys_of (cond b cs (child (record l { key = j }) n (remove_child (further s) cs)))) ≡ false
     go true None e ih = e
@@ -32,7 +33,7 @@ distinct_less : (s : Step) (cs : Children) → are_distinct (keys_of cs) ≡ tru
 distinct_less s none e = e
 distinct_less s (child l n cs) e = go (is_here s l) l.key e (distinct_less (further s) cs)
   where
-    go : (b : Bool) (j : Option (List ℕ)) → are_distinct (with_key j (keys_of cs)) ≡ true → (are_distinct (keys_of cs) ≡ true → are_distinct (keys_of (remove_child (further s) cs)) ≡ true) →
+    go : (b : Bool) (j : Option (List ℕ)) → are_distinct (with_first j (keys_of cs)) ≡ true → (are_distinct (keys_of cs) ≡ true → are_distinct (keys_of (remove_child (further s) cs)) ≡ true) →
         are_distinct (keys_of (cond b cs (child (record l { key = j }) n (remove_child (further s) cs)))) ≡ true
     go true None e ih = e
     go true (Some j) e ih = (and_parts (not (list_any (bytes_eq j) (keys_of cs))) (are_distinct (keys_of cs)) e).1
@@ -131,12 +132,12 @@ labels_stay s g (child l n cs) key = go (is_here s l) (labels_stay (further s) g
     go : (b : Bool) →
         (keys_of (relabel_child (further s) g cs) ≡ keys_of cs) × (names_in (relabel_child (further s) g cs) ≡ names_in cs) × (deepest (relabel_child (further s) g cs) ≡ deepest cs) ×
         (EachHasUniqueKeys cs → EachHasUniqueKeys (relabel_child (further s) g cs)) →
-        (keys_of (cond b (child (g l) n cs) (child l n (relabel_child (further s) g cs))) ≡ with_key l.key (keys_of cs)) ×
+        (keys_of (cond b (child (g l) n cs) (child l n (relabel_child (further s) g cs))) ≡ with_first l.key (keys_of cs)) ×
         (names_in (cond b (child (g l) n cs) (child l n (relabel_child (further s) g cs))) ≡ names_of n ++ names_in cs) ×
         (deepest (cond b (child (g l) n cs) (child l n (relabel_child (further s) g cs))) ≡ max (depth n) (deepest cs)) ×
         (HasUniqueKeys n × EachHasUniqueKeys cs → EachHasUniqueKeys (cond b (child (g l) n cs) (child l n (relabel_child (further s) g cs))))
-    go true ih = (ap (λ k. with_key k (keys_of cs)) (key l), refl, refl, λ h. h)
-    go false ih = (ap (with_key l.key) ih.0, ap (λ x. names_of n ++ x) ih.1, ap (max (depth n)) ih.2, λ h. (h.0, ih.3 h.1))
+    go true ih = (ap (λ k. with_first k (keys_of cs)) (key l), refl, refl, λ h. h)
+    go false ih = (ap (with_first l.key) ih.0, ap (λ x. names_of n ++ x) ih.1, ap (max (depth n)) ih.2, λ h. (h.0, ih.3 h.1))
 
 relabel_node : (s : Step) (g : Label → Label) (n : Node) → ((l : Label) → (g l).key ≡ l.key) →
     (names_of (within (relabel_child s g) n) ≡ names_of n) × (depth (within (relabel_child s g) n) ≡ depth n) × (HasUniqueKeys n → HasUniqueKeys (within (relabel_child s g) n))

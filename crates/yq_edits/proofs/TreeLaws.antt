@@ -1,18 +1,19 @@
 -- Unique keys and depth of a tree in which a node is changed.
 use Rattle.std.proofs.Common.{◌≡◌, ℕ, ◌+◌, ◌-◌, ◌≤◌, max, [], ◌∷◌, length, Option, Some, None, option_and_then, Bool, true, false, cond, refl, sym, ap, subst, arith}
 use Rattle.std.proofs.lemmas.Option.{none-some, same_Some}
-use Rattle.yq_core.specs.Keys.{AreDistinct, with_key, keys_of, HasUniqueKeys, EachHasUniqueKeys, depth, deepest}
+use Rattle.yq_core.specs.Keys.{AreDistinct, keys_of, HasUniqueKeys, EachHasUniqueKeys, depth, deepest}
 use Rattle.yq_core.specs.Paths.{Step, is_here, further, child_at, node_at, change_child, within, changed_at}
 use Rattle.yq_core.specs.Tree.{Node, alias, scalar, list, map, Children, none, child, children_of}
+use Rattle.yq_core.specs.Text.{with_first}
 use Rattle.yq_edits.specs.Conditions.{UniqueChanged, DepthChanged}
 
 keys_stay : (s : Step) (f : Node → Node) (cs : Children) → keys_of (change_child s f cs) ≡ keys_of cs
 keys_stay s f none = refl
 keys_stay s f (child l n cs) = go (is_here s l) (keys_stay (further s) f cs)
   where
-    go : (b : Bool) → keys_of (change_child (further s) f cs) ≡ keys_of cs → keys_of (cond b (child l (f n) cs) (child l n (change_child (further s) f cs))) ≡ with_key l.key (keys_of cs)
+    go : (b : Bool) → keys_of (change_child (further s) f cs) ≡ keys_of cs → keys_of (cond b (child l (f n) cs) (child l n (change_child (further s) f cs))) ≡ with_first l.key (keys_of cs)
     go true ih = refl
-    go false ih = ap (with_key l.key) ih
+    go false ih = ap (with_first l.key) ih
 
 -- a property of each item or entry, where one is changed
 each_unique : (s : Step) (f : Node → Node) (cs : Children) (k : Node) → child_at s cs ≡ Some k → (HasUniqueKeys k → HasUniqueKeys (f k)) → EachHasUniqueKeys cs →

@@ -1,9 +1,8 @@
 -- A collection of one item or entry (YAML 1.2.2, section 3.2.1; own).
 use Rattle.std.specs.Prelude.{ℕ, List, Option, Some, None}
-use Rattle.yq_core.specs.Tree.{Node, none, child, list, map}
-use Rattle.yq_documents.specs.TreeEdits.{new_label}
+use Rattle.yq_core.specs.Tree.{Node, none, child, list, map, key_label}
 
 -- a list of one item, or a mapping of one entry (own)
 abbrev pub sole_collection : Option (List ℕ) → Node → Node
-sole_collection None v = list None (child (new_label None) v none)
-sole_collection (Some k) v = map None (child (new_label (Some k)) v none)
+sole_collection None v = list None (child (key_label None) v none)
+sole_collection (Some k) v = map None (child (key_label (Some k)) v none)

@@ -5,10 +5,10 @@ use Rattle.yq_core.specs.Tree as tree
 use Rattle.yq_core.specs.Written.{written_scalar}
 use Rattle.yq_core.specs.declared.style.Place.TheVariants.{Flow as InFlow}
 use Rattle.yq_core.specs.Collections.{CollPieces}
-use Rattle.yq_core.specs.Nodes.{FlowNode, alias, scalar, node_text}
+use Rattle.yq_core.specs.Nodes.{FlowNode, alias, scalar, node_text, without_anchor}
 use Rattle.yq_core.specs.Scalars.{scalar_style}
 use Rattle.yq_core.specs.NodesWritten.{flow_key, flow_of}
-use Rattle.yq_flow_edits.specs.FlowEdits.{FlowEdit, appending, content_node, replacing}
+use Rattle.yq_flow_edits.specs.FlowEdits.{FlowEdit, appending, replacing}
 use Rattle.yq_flow_edits.specs.Removals.{removing}
 use Rattle.yq_places.specs.Standings.{FlowPart}
 use Rattle.yq_text.specs.Script.{Segment, keep, put, script_text_before}
@@ -28,7 +28,7 @@ flow_value old (tree.map anchor cs) = flow_of (tree.map anchor cs)
 
 -- what is written of a node behind its anchor
 abbrev pub content_written : FlowNode → List ℕ
-content_written n = node_text (content_node n) []
+content_written n = node_text (without_anchor n) []
 
 -- Replace: a value in flow style in the place of the content of an item or entry, behind its anchor; where nothing is written it comes behind a space (7.4)
 abbrev pub flow_put : List ℕ → tree.Node → FlowPart → List Segment

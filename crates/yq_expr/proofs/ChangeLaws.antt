@@ -3,8 +3,7 @@ use Rattle.std.proofs.Common.{◌≡◌, ℕ, zero, suc, ◌-◌, ◌≤◌, Boo
 use Rattle.std.specs.List.{list_any}
 use Rattle.std.proofs.lemmas.List.{map_push, take_rest}
 use Rattle.yq_core.specs.Tree as tree
-use Rattle.yq_core.specs.Tree.{Node, none, child}
-use Rattle.yq_documents.specs.TreeEdits.{new_label}
+use Rattle.yq_core.specs.Tree.{Node, none, child, key_label}
 use Rattle.yq_semantics.specs.Changes.{nested, created, put_below}
 use Rattle.yq_semantics.specs.Judgement.{gives, refuses}
 use Rattle.yq_semantics.specs.declared.refusal.Refusal.TheVariants.{IndexOutOfRange}
@@ -14,7 +13,7 @@ use Rattle.yq_semantics.specs.Program.{is_index, PathStep, key}
 -- a value under one key more, inside the others
 pub nested_last : (ms : List PathStep) (m : PathStep) (v : Node) → nested (ms ++ m ∷ []) v ≡ nested ms (nested (m ∷ []) v)
 nested_last [] m v = refl
-nested_last (key k ∷ ms) m v = ap (λ (n : Node). tree.map None (child (new_label (Some k)) n none)) (nested_last ms m v)
+nested_last (key k ∷ ms) m v = ap (λ (n : Node). tree.map None (child (key_label (Some k)) n none)) (nested_last ms m v)
 nested_last (_ ∷ ms) m v = nested_last ms m v
 
 -- a list, its last element apart

@@ -9,13 +9,14 @@ use Rattle.yq_core.specs.Nodes.{Key, FlowNode, Items, none, item, key_text, node
 use Rattle.yq_core.specs.Collections.{coll_text, collection_put, room_in, CollAt, item_in, IsCollAt}
 use Rattle.yq_flow_edits.specs.FlowEdits.{Becomes, put_item, put_value, FitsNode, behind_last, FitsItem, replacing, appending, IsFlowEdited, FlowEdit, behind_appended}
 use Rattle.yq_core.specs.Entries.{EntryPieces}
-use Rattle.yq_core.specs.Trees.{inner, key_content, tree_of, items_tree}
+use Rattle.yq_core.specs.Trees.{key_content, tree_of, items_tree}
 use Rattle.yq_flow_edits.proofs.CollLaws.{Stands}
 use Rattle.yq_flow_edits.proofs.ContextLaws.{path_stands}
 use Rattle.yq_flow_edits.proofs.ItemLaws.{put_local, put_before, becomes_same, add_local, item_begins}
 use Rattle.yq_flow_edits.proofs.LocalLaws.{no_gap_before}
 use Rattle.yq_core.proofs.NodesWrittenLaws.{node_then, key_append}
 use Rattle.yq_core.specs.Tree as tree
+use Rattle.yq_core.specs.Tree.{key_label}
 
 -- what is known of the collection, and of the node with another one there
 abbrev pub Around : CollAt → Type 0
@@ -61,7 +62,7 @@ replaced x s y m h found fits =
 record Added (d k : ℕ) (key : Key) (m : FlowNode) (gap : List ℕ) (is : Items) (rest : List ℕ) (e : FlowEdit) : Type 0 where
   front : IsInlineGap e.gap (flow_items_text k e.items rest)
   are : AreFlowItems d k e.items rest
-  tree : items_tree e.items ≡ append_child (inner (key_content key)) (tree_of m) (items_tree is)
+  tree : items_tree e.items ≡ append_child (key_label (key_content key)) (tree_of m) (items_tree is)
   text : Becomes (gap ++ flow_items_text k is rest) (e.gap ++ flow_items_text k e.items rest) e.old (e.lead ++ e.written) e.behind
 
 added : (d k : ℕ) (key : Key) (m : FlowNode) (gap : List ℕ) (is : Items) (rest : List ℕ) → is_close k ≡ true → IsInlineGap gap (flow_items_text k is rest) → AreFlowItems d k is rest → FitsItem d k key m (behind_last k gap is rest) →
@@ -80,10 +81,10 @@ added d k key m gap (item j n sep is) rest c front a f =
     record { front = l.front gap front; are = l.are; tree = l.tree; text = put_before gap _ _ [] (44 ∷ (32 ∷ key_text key (node_text m []))) (behind_last k gap (item j n sep is) rest) l.text }
 
 -- an item or entry more
-pub appended : (x : CollAt) (key : Key) (m : FlowNode) → IsCollAt x → FitsItem (room_in x) x.coll.close key m (behind_appended x.coll) → IsFlowEdited x (appending key m x.coll) (changed_at x.steps (within (append_child (inner (key_content key)) (tree_of m))))
+pub appended : (x : CollAt) (key : Key) (m : FlowNode) → IsCollAt x → FitsItem (room_in x) x.coll.close key m (behind_appended x.coll) → IsFlowEdited x (appending key m x.coll) (changed_at x.steps (within (append_child (key_label (key_content key)) (tree_of m))))
 appended x key m h fits =
     let c = x.coll in
     let i = around_is x h in
     let e = appending key m c in
     let l = added i.inner_depth c.close key m c.gap c.items c.rest i.closes i.gap i.items (subst (λ (d : ℕ). FitsItem d c.close key m (behind_appended c)) (room_is x i) fits) in
-    edited x e (append_child (inner (key_content key)) (tree_of m)) i l.front l.are l.tree (opened c.close c.gap e.gap c.items e.items c.rest [] (e.lead ++ e.written) e.behind l.text)
+    edited x e (append_child (key_label (key_content key)) (tree_of m)) i l.front l.are l.tree (opened c.close c.gap e.gap c.items e.items c.rest [] (e.lead ++ e.written) e.behind l.text)

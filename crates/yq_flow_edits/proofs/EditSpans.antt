@@ -16,7 +16,8 @@ use Rattle.yq_flow_edits.specs.FlowPlaces.{PlacedEdit, first_start, marks_before
 use Rattle.yq_core.specs.Nodes.{begins_with, is_close}
 use Rattle.yq_core.specs.Places.{Placed, placed, CoreNode, Parts, end, part}
 use Rattle.yq_core.specs.Spans.{ContentHasSpans, HasKeySpan, HasSpans, PartsHaveSpans}
-use Rattle.yq_core.specs.Trees.{inner, unplaced_key}
+use Rattle.yq_core.specs.Trees.{unplaced_key}
+use Rattle.yq_core.specs.Tree.{key_label}
 use Rattle.yq_core.proofs.EndLaws.{ends_by}
 use Rattle.yq_flow_edits.proofs.RemovePlaces.{drop_end}
 use Rattle.yq_flow_edits.proofs.RemoveTexts.{either}
@@ -73,7 +74,7 @@ only_spans t from before s ps e h1 h2 h3 = search (rules, none-some, same_Some, 
 
 part_spans : (t : List ℕ) (s : Step) (ps : Parts) (e : PlacedEdit) → PartsHaveSpans t ps → remove_part t s ps ≡ Some e → EditIsSpan t e
 part_spans t s end e h is = absurd (none-some _ is)
-part_spans t s (part key n ps) e h is = go (is_here s (inner (unplaced_key key))) (λ again. part_spans t (further s) ps e h.2 again) is
+part_spans t s (part key n ps) e h is = go (is_here s (key_label (unplaced_key key))) (λ again. part_spans t (further s) ps e h.2 again) is
   where
     other : (remove_part t (further s) ps ≡ Some e → EditIsSpan t e) → (option_map (remove_end t (entry_start (key, n)) (end_of n)) (only_end (further s) ps) ≡ Some e) ⊎ (remove_part t (further s) ps ≡ Some e) → EditIsSpan t e
     other again (inl is) = only_spans t (entry_start (key, n)) (end_of n) (further s) ps e (node_ends t n h.1) h.2 is

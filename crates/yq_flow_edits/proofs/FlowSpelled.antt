@@ -5,10 +5,10 @@ use Rattle.yq_core.specs.declared.style.Place.TheVariants as places
 use Rattle.yq_core.specs.declared.style.Style.{Style}
 use Rattle.yq_core.specs.Scalar.{ScalarText, string_of}
 use Rattle.yq_core.specs.Tree as tree
+use Rattle.yq_core.specs.Tree.{key_label}
 use Rattle.yq_core.specs.Writable.{can_write}
 use Rattle.yq_core.specs.Written as scalars
 use Rattle.yq_flow_edits.specs.FlowValues.{SpellsEntry, SpellsInFlow}
-use Rattle.yq_core.specs.Trees.{inner}
 use Rattle.yq_flow_edits.specs.Valued.{IsValid, IsValueTree}
 use Rattle.yq_core.specs.NodesWritten.{scalar_text, flow_key, flow_of, flow_text, entry_text}
 use Rattle.yq_flow_edits.proofs.SpelledLaws.{written_tree, entries_fit}
@@ -21,8 +21,8 @@ entry_spells k v utf8 is = record {
   key = flow_key (Some k);
   node = flow_of v;
   written = λ rest. ap (λ l. front ++ (58 ∷ (32 ∷ l))) (node_then (flow_of v) rest) ∙ (sym (append_assoc front (58 ∷ (32 ∷ [])) (flow_text v ++ rest)) ∙ sym (append_assoc (front ++ (58 ∷ (32 ∷ []))) (flow_text v) rest));
-  stands = λ d rest deep ends. item_fits 125 d (inner (Some k)) v rest refl ends (k, refl, utf8) is deep;
-  same_key = ap (λ (l : tree.Label). l.key) (entries_fit.same (inner (Some k)) (k, refl, utf8));
+  stands = λ d rest deep ends. item_fits 125 d (key_label (Some k)) v rest refl ends (k, refl, utf8) is deep;
+  same_key = ap (λ (l : tree.Label). l.key) (entries_fit.same (key_label (Some k)) (k, refl, utf8));
   same = written_tree v is;
 } where
   front : List ℕ

@@ -9,11 +9,11 @@ use Rattle.yq_core.specs.Text.{front, is_white, is_feed, is_return, is_space, is
 use Rattle.yq_core.proofs.Bools.{at_byte}
 use Rattle.yq_core.specs.Alike.{Alike, stop, EndsItem, fresh, KeepsApart}
 use Rattle.yq_core.specs.Gaps.{IsInlineGap}
-use Rattle.yq_core.specs.Nodes.{Key, bare, keyed, Sep, last, comma, FlowNode, Items, none, item, key_text, sep_text, node_text, flow_items_text, begins_with, begins_node, is_close, IsInlineKey, IsSep, is_empty_node, is_keyed, IsFlowNode, AreFlowItems}
+use Rattle.yq_core.specs.Nodes.{Key, bare, keyed, Sep, last, comma, FlowNode, Items, none, item, key_text, sep_text, node_text, flow_items_text, begins_with, begins_node, is_close, IsInlineKey, IsSep, is_empty_node, is_keyed, IsFlowNode, AreFlowItems, without_anchor}
 use Rattle.yq_core.specs.Entries.{EntryPieces, item_at}
-use Rattle.yq_flow_edits.specs.FlowEdits.{Becomes, content_node, space_for, put_content, put_item, put_value, FitsNode, add_item, is_none, behind_last, FitsItem}
+use Rattle.yq_flow_edits.specs.FlowEdits.{Becomes, space_for, put_content, put_item, put_value, FitsNode, add_item, is_none, behind_last, FitsItem}
 use Rattle.yq_flow_edits.specs.Removals.{is_marks, ends_marked, ends_return, IsApartFrom}
-use Rattle.yq_core.specs.Trees.{inner, key_content, tree_of, items_tree}
+use Rattle.yq_core.specs.Trees.{key_content, tree_of, items_tree}
 use Rattle.yq_core.proofs.Alikes.{no_first, no_second, no_third, alike_append}
 use Rattle.yq_core.proofs.AlikePieces.{gap_alike}
 use Rattle.yq_flow_edits.proofs.ItemSwaps.{item_cut}
@@ -27,6 +27,7 @@ use Rattle.yq_core.proofs.NodeAgain.{item_front}
 use Rattle.yq_core.proofs.NodesPieceLaws.{scalar_begins, scalar_some}
 use Rattle.yq_core.proofs.NodesWrittenLaws.{node_then, key_append}
 use Rattle.yq_core.specs.Tree as tree
+use Rattle.yq_core.specs.Tree.{key_label}
 
 -- Items of a collection give way to others, with this tree: these stand before the same rest, a gap before the ones may stand before the others, and
 -- bytes of their text give way to others.
@@ -74,7 +75,7 @@ pub comma_like : (b g h t u : List ℕ) → Alike (Some true) (b ++ (44 ∷ (g +
 comma_like b g h t u = alike_append (Some true) b (44 ∷ (g ++ t)) (44 ∷ (h ++ u)) (stop refl)
 
 pub cons_local : (d k : ℕ) (key : Key) (n : FlowNode) (sep : Sep) (is new : Items) (cs : tree.Children) (rest old fresh_ behind : List ℕ) → is_close k ≡ true → is_none is ≡ false → AreFlowItems d k (item key n sep is) rest →
-    Local d k is new cs rest old fresh_ behind → Local d k (item key n sep is) (item key n sep new) (tree.child (inner (key_content key)) (tree_of n) cs) rest old fresh_ behind
+    Local d k is new cs rest old fresh_ behind → Local d k (item key n sep is) (item key n sep new) (tree.child (key_label (key_content key)) (tree_of n) cs) rest old fresh_ behind
 unfolding flow_items_text AreFlowItems items_tree
 cons_local d k key n sep none new cs rest old fresh_ behind c some a l = absurd (false≢true (sym some))
 cons_local d k key n (last b) (item key2 n2 sep2 is) new cs rest old fresh_ behind c some a l =
@@ -88,7 +89,7 @@ cons_local d k key n (comma b g) (item key2 n2 sep2 is) new cs rest old fresh_ b
     let h = sep_ends k (comma b g) u sep_is in
     let stands = item_keeps d k false key n (b ++ (44 ∷ (g ++ t))) (b ++ (44 ∷ (g ++ u))) c e h (keeps_alike (Some true) false (key_text key (node_text n [])) _ _ like) a.0 a.2 in
     record {
-      tree = ap (tree.child (inner (key_content key)) (tree_of n)) l.tree;
+      tree = ap (tree.child (key_label (key_content key)) (tree_of n)) l.tree;
       are = (stands.key_is, a.1, stands.node_is, sep_is, l.are);
       front = λ q x. gap_alike (Some true) q _ _ (key_text_alike key _ _ (node_text_alike (Some true) n (b ++ (44 ∷ (g ++ t))) (b ++ (44 ∷ (g ++ u))) like)) x;
       text = becomes_same _ _ _ _ old fresh_ behind (item_cut key n (comma b g) t) (item_cut key n (comma b g) u) (put_before (key_text key (node_text n (sep_text (comma b g) []))) t u old fresh_ behind l.text);
@@ -100,10 +101,10 @@ some_items k s (item key n sep is) rest y h = refl
 
 -- the node of an item replaced
 pub put_local : (d k : ℕ) (s : Step) (m : FlowNode) (is : Items) (rest : List ℕ) (y : EntryPieces) → is_close k ≡ true → AreFlowItems d k is rest → item_at k s is rest ≡ Some y → FitsNode d m y.rest →
-    Local d k is (put_item s m is) (change_child s (put_value (tree_of m)) (items_tree is)) rest (node_text (content_node y.node) []) (space_for (content_node y.node) ++ node_text m []) y.rest
+    Local d k is (put_item s m is) (change_child s (put_value (tree_of m)) (items_tree is)) rest (node_text (without_anchor y.node) []) (space_for (without_anchor y.node) ++ node_text m []) y.rest
 unfolding flow_items_text AreFlowItems items_tree
 put_local d k s m none rest y c a h f = cc
-put_local d k s m (item key n sep is) rest y c a h f = go (is_here s (inner (key_content key))) (put_local d k (further s) m is rest y c a.4) h where
+put_local d k s m (item key n sep is) rest y c a h f = go (is_here s (key_label (key_content key))) (put_local d k (further s) m is rest y c a.4) h where
   tail : List ℕ
   tail = flow_items_text k is rest
 
@@ -114,17 +115,17 @@ put_local d k s m (item key n sep is) rest y c a h f = go (is_here s (inner (key
   others = change_child (further s) (put_value (tree_of m)) (items_tree is)
 
   Result : Items → tree.Children → EntryPieces → Type 0
-  Result new cs z = Local d k (item key n sep is) new cs rest (node_text (content_node z.node) []) (space_for (content_node z.node) ++ node_text m []) z.rest
+  Result new cs z = Local d k (item key n sep is) new cs rest (node_text (without_anchor z.node) []) (space_for (without_anchor z.node) ++ node_text m []) z.rest
 
-  go : (b : Bool) → (item_at k (further s) is rest ≡ Some y → FitsNode d m y.rest → Local d k is (put_item (further s) m is) others rest (node_text (content_node y.node) []) (space_for (content_node y.node) ++ node_text m []) y.rest) →
+  go : (b : Bool) → (item_at k (further s) is rest ≡ Some y → FitsNode d m y.rest → Local d k is (put_item (further s) m is) others rest (node_text (without_anchor y.node) []) (space_for (without_anchor y.node) ++ node_text m []) y.rest) →
       cond b (Some here) (item_at k (further s) is rest) ≡ Some y →
       Result (cond b (item (put_content m key n).0 (put_content m key n).1 sep is) (item key n sep (put_item (further s) m is)))
-      (cond b (tree.child (inner (key_content key)) (put_value (tree_of m) (tree_of n)) (items_tree is)) (tree.child (inner (key_content key)) (tree_of n) others)) y
+      (cond b (tree.child (key_label (key_content key)) (put_value (tree_of m) (tree_of n)) (items_tree is)) (tree.child (key_label (key_content key)) (tree_of n) others)) y
   go true again e =
       let fits : FitsNode d m (sep_text sep tail) = subst (λ (z : EntryPieces). FitsNode d m z.rest) (sym (same_Some _ _ e)) f in
       let x = filled d k m key n (sep_text sep tail) c (sep_ends k sep tail a.3) fits a.0 a.1 a.2 in
-      subst (Result (item (put_content m key n).0 (put_content m key n).1 sep is) (tree.child (inner (key_content key)) (put_value (tree_of m) (tree_of n)) (items_tree is))) (same_Some _ _ e)
-      (record { tree = λ i. tree.child (inner (x.label i)) (x.tree i) (items_tree is); are = (x.key_is, x.some, x.node_is, a.3, a.4); front = x.front; text = x.text })
+      subst (Result (item (put_content m key n).0 (put_content m key n).1 sep is) (tree.child (key_label (key_content key)) (put_value (tree_of m) (tree_of n)) (items_tree is))) (same_Some _ _ e)
+      (record { tree = λ i. tree.child (key_label (x.label i)) (x.tree i) (items_tree is); are = (x.key_is, x.some, x.node_is, a.3, a.4); front = x.front; text = x.text })
   go false again e = cons_local d k key n sep is (put_item (further s) m is) others rest _ _ _ c (some_items k (further s) is rest y e) a (again e f)
 
 -- a text whose first byte is no `-` and no `.`
@@ -200,7 +201,7 @@ gap_before d k key n t u q h s x keeps gap =
 
 -- one more behind the last
 pub add_local : (d k : ℕ) (key : Key) (m : FlowNode) (gap : List ℕ) (is : Items) (rest : List ℕ) → is_close k ≡ true → is_none is ≡ false → AreFlowItems d k is rest → FitsItem d k key m (behind_last k gap is rest) →
-    Local d k is (add_item key m gap is) (append_child (inner (key_content key)) (tree_of m) (items_tree is)) rest [] (44 ∷ (32 ∷ key_text key (node_text m []))) (behind_last k gap is rest)
+    Local d k is (add_item key m gap is) (append_child (key_label (key_content key)) (tree_of m) (items_tree is)) rest [] (44 ∷ (32 ∷ key_text key (node_text m []))) (behind_last k gap is rest)
 unfolding flow_items_text AreFlowItems items_tree
 add_local d k key m gap none rest c some a f = absurd (false≢true (sym some))
 add_local d k key m gap (item j n sep none) rest c some a f =

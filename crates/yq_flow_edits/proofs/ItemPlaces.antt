@@ -7,7 +7,8 @@ use Rattle.yq_core.specs.Alike.{EndsItem}
 use Rattle.yq_core.specs.Entries.{EntryPieces, item_at, pieces_text}
 use Rattle.yq_flow_edits.specs.FlowEdits.{FitsItem, behind_last, is_none}
 use Rattle.yq_core.specs.Nodes.{Items, none, item, key_text, sep_text, node_text, flow_items_text, AreFlowItems}
-use Rattle.yq_core.specs.Trees.{inner, key_content}
+use Rattle.yq_core.specs.Trees.{key_content}
+use Rattle.yq_core.specs.Tree.{key_label}
 use Rattle.yq_core.proofs.NodeAgain.{items_longer, sep_longer}
 use Rattle.yq_core.proofs.NodeKeeps.{sep_ends}
 use Rattle.yq_flow_edits.proofs.ItemSwaps.{item_cut}
@@ -25,7 +26,7 @@ further_behind d k t u front y is h = record { before = front ++ h.before; text 
 pub item_behind : (d k : ℕ) (s : Step) (is : Items) (rest : List ℕ) (y : EntryPieces) → AreFlowItems d k is rest → item_at k s is rest ≡ Some y → Behind d k (flow_items_text k is rest) y
 unfolding flow_items_text AreFlowItems
 item_behind d k s none rest y a e = absurd (cc)
-item_behind d k s (item key n sep is) rest y a e = go (is_here s (inner (key_content key))) (λ again. item_behind d k (further s) is rest y a.4 again) e
+item_behind d k s (item key n sep is) rest y a e = go (is_here s (key_label (key_content key))) (λ again. item_behind d k (further s) is rest y a.4 again) e
   where
     tail : List ℕ
     tail = flow_items_text k is rest
@@ -55,7 +56,7 @@ last_behind d k gap (item key n sep (item key2 n2 sep2 is)) rest some a =
 
 pub item_rest : (k : ℕ) (s : Step) (is : Items) (rest : List ℕ) (y : EntryPieces) → item_at k s is rest ≡ Some y → length rest ≤ length y.rest
 item_rest k s none rest y e = absurd (none-some _ e)
-item_rest k s (item key n sep is) rest y e = go (item_rest k (further s) is rest y) (is_here s (inner (key_content key))) e
+item_rest k s (item key n sep is) rest y e = go (item_rest k (further s) is rest y) (is_here s (key_label (key_content key))) e
   where
     go : (item_at k (further s) is rest ≡ Some y → length rest ≤ length y.rest) → (b : Bool) → cond b (Some (record { key = key; node = n; rest = sep_text sep (flow_items_text k is rest) })) (item_at k (further s) is rest) ≡ Some y → length rest ≤ length y.rest
     go again true e = subst (λ (z : EntryPieces). length rest ≤ length z.rest) (same_Some _ _ e) (omega (arith, sep_longer sep (flow_items_text k is rest), items_longer k is rest))

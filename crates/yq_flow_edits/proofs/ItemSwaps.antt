@@ -6,13 +6,14 @@ use Rattle.yq_core.specs.Alike.{Alike}
 use Rattle.yq_core.specs.Nodes.{Key, bare, keyed, Sep, FlowNode, Items, none, item, key_text, sep_text, node_text, flow_items_text, begins_node, is_close, IsInlineKey, IsSep, is_empty_node, is_keyed, IsFlowNode, AreFlowItems}
 use Rattle.yq_core.specs.Entries.{EntryPieces, item_at}
 use Rattle.yq_core.specs.Collections.{change_item}
-use Rattle.yq_core.specs.Trees.{inner, key_content, tree_of, items_tree}
+use Rattle.yq_core.specs.Trees.{key_content, tree_of, items_tree}
 use Rattle.yq_core.proofs.AlikePieces.{gap_alike}
 use Rattle.yq_core.proofs.KeepLaws.{keeps_alike, some_begins}
 use Rattle.yq_core.proofs.KeyKeeps.{lead_gap, key_front, key_keeps}
 use Rattle.yq_core.proofs.NodeKeeps.{node_keeps, sep_ends, sep_alike, sep_text_alike, key_text_alike, node_text_alike}
 use Rattle.yq_core.proofs.NodesWrittenLaws.{key_append, sep_append, node_append, node_then}
 use Rattle.yq_core.specs.Tree as tree
+use Rattle.yq_core.specs.Tree.{key_label}
 
 -- an item before others that begin alike
 pub record ItemBefore (d k : ℕ) (key : Key) (n : FlowNode) (s : Sep) (u : List ℕ) : Type 0 where
@@ -53,7 +54,7 @@ some_or false b h = rw h refl
 pub items_swap : (d k : ℕ) (s : Step) (f : FlowNode → FlowNode) (is : Items) (rest : List ℕ) (y : EntryPieces) → is_close k ≡ true → AreFlowItems d k is rest → item_at k s is rest ≡ Some y → Swaps d y.node (f y.node) y.rest → Swapped d k is (change_item s f is) rest y (f y.node)
 unfolding flow_items_text AreFlowItems
 items_swap d k s f none rest y c a h w = cc
-items_swap d k s f (item key n sep is) rest y c a h w = go (is_here s (inner (key_content key))) (items_swap d k (further s) f is rest y c a.4) h where
+items_swap d k s f (item key n sep is) rest y c a h w = go (is_here s (key_label (key_content key))) (items_swap d k (further s) f is rest y c a.4) h where
   tail : List ℕ
   tail = flow_items_text k is rest
 
@@ -87,7 +88,7 @@ pub record InItems (k : ℕ) (s : Step) (is : Items) (rest : List ℕ) (y : Entr
 pub in_items : (k : ℕ) (s : Step) (is : Items) (rest : List ℕ) (y : EntryPieces) → item_at k s is rest ≡ Some y → InItems k s is rest y
 unfolding flow_items_text
 in_items k s none rest y h = cc
-in_items k s (item key n sep is) rest y h = go (is_here s (inner (key_content key))) refl (in_items k (further s) is rest y) h where
+in_items k s (item key n sep is) rest y h = go (is_here s (key_label (key_content key))) refl (in_items k (further s) is rest y) h where
   tail : List ℕ
   tail = flow_items_text k is rest
 
@@ -97,7 +98,7 @@ in_items k s (item key n sep is) rest y h = go (is_here s (inner (key_content ke
   front : List ℕ
   front = key_text key (node_text n (sep_text sep []))
 
-  go : (b : Bool) → is_here s (inner (key_content key)) ≡ b → (item_at k (further s) is rest ≡ Some y → InItems k (further s) is rest y) → cond b (Some here) (item_at k (further s) is rest) ≡ Some y → InItems k s (item key n sep is) rest y
+  go : (b : Bool) → is_here s (key_label (key_content key)) ≡ b → (item_at k (further s) is rest ≡ Some y → InItems k (further s) is rest y) → cond b (Some here) (item_at k (further s) is rest) ≡ Some y → InItems k s (item key n sep is) rest y
   go true q again e = subst (λ (z : EntryPieces). InItems k s (item key n sep is) rest z) (same_Some _ _ e) (record {
     before = key_text key [];
     was = key_append key [] (node_text n (sep_text sep tail));
@@ -115,9 +116,9 @@ in_items k s (item key n sep is) rest y h = go (is_here s (inner (key_content ke
 pub items_change : (k : ℕ) (s : Step) (f : FlowNode → FlowNode) (g : tree.Node → tree.Node) (is : Items) (rest : List ℕ) (y : EntryPieces) → item_at k s is rest ≡ Some y → tree_of (f y.node) ≡ g (tree_of y.node) → items_tree (change_item s f is) ≡ change_child s g (items_tree is)
 unfolding items_tree
 items_change k s f g none rest y h e = cc
-items_change k s f g (item key n sep is) rest y h e = go (is_here s (inner (key_content key))) (items_change k (further s) f g is rest y) h where
+items_change k s f g (item key n sep is) rest y h e = go (is_here s (key_label (key_content key))) (items_change k (further s) f g is rest y) h where
   go : (b : Bool) → (item_at k (further s) is rest ≡ Some y → tree_of (f y.node) ≡ g (tree_of y.node) → items_tree (change_item (further s) f is) ≡ change_child (further s) g (items_tree is)) →
       cond b (Some (record { key = key; node = n; rest = sep_text sep (flow_items_text k is rest) })) (item_at k (further s) is rest) ≡ Some y →
-      items_tree (cond b (item key (f n) sep is) (item key n sep (change_item (further s) f is))) ≡ cond b (tree.child (inner (key_content key)) (g (tree_of n)) (items_tree is)) (tree.child (inner (key_content key)) (tree_of n) (change_child (further s) g (items_tree is)))
-  go true again x = ap (λ (v : tree.Node). tree.child (inner (key_content key)) v (items_tree is)) (subst (λ (z : EntryPieces). tree_of (f z.node) ≡ g (tree_of z.node)) (sym (same_Some _ _ x)) e)
-  go false again x = ap (tree.child (inner (key_content key)) (tree_of n)) (again x e)
+      items_tree (cond b (item key (f n) sep is) (item key n sep (change_item (further s) f is))) ≡ cond b (tree.child (key_label (key_content key)) (g (tree_of n)) (items_tree is)) (tree.child (key_label (key_content key)) (tree_of n) (change_child (further s) g (items_tree is)))
+  go true again x = ap (λ (v : tree.Node). tree.child (key_label (key_content key)) v (items_tree is)) (subst (λ (z : EntryPieces). tree_of (f z.node) ≡ g (tree_of z.node)) (sym (same_Some _ _ x)) e)
+  go false again x = ap (tree.child (key_label (key_content key)) (tree_of n)) (again x e)

@@ -9,8 +9,8 @@ use Rattle.yq_core.specs.declared.gap.Before.{Before}
 use Rattle.yq_core.specs.declared.gap.Before.TheVariants.{Token, White, Break, Comment}
 use Rattle.yq_core.specs.Alike.{Alike, colon, any_colon, EndsItem}
 use Rattle.yq_core.specs.Gaps.{gap_place_after, at_line_start as at_break, stops, IsInlineGap}
-use Rattle.yq_core.specs.Nodes.{Key, bare, keyed, FlowNode, empty, alias, scalar, coll, anchored, key_text, node_text, begins_with, begins_content, begins_node, is_close, IsName, IsInlineKey, is_empty_node, is_keyed, IsFlowNode, takes_anchor}
-use Rattle.yq_flow_edits.specs.FlowEdits.{Becomes, content_node, space_for, put_content, anchor_in, put_value, FitsNode}
+use Rattle.yq_core.specs.Nodes.{Key, bare, keyed, FlowNode, empty, alias, scalar, coll, anchored, key_text, node_text, begins_with, begins_content, begins_node, is_close, IsName, IsInlineKey, is_empty_node, is_keyed, IsFlowNode, takes_anchor, without_anchor}
+use Rattle.yq_flow_edits.specs.FlowEdits.{Becomes, space_for, put_content, put_value, FitsNode}
 use Rattle.yq_core.specs.Trees.{tree_collection, with_name, with_anchor_name, key_content, tree_of, items_tree}
 use Rattle.yq_core.proofs.Alikes.{no_first, alike_append}
 use Rattle.yq_core.proofs.AlikePieces.{scalar_alike, gap_alike, name_by}
@@ -21,6 +21,7 @@ use Rattle.yq_core.proofs.KeyKeeps.{lead_gap, lead_none, key_front}
 use Rattle.yq_core.proofs.NodesPieceLaws.{front_not}
 use Rattle.yq_core.proofs.NodesWrittenLaws.{node_then, key_append}
 use Rattle.yq_core.specs.Tree as tree
+use Rattle.yq_core.specs.Tree.{anchor_of}
 
 -- gaps before what begins a node
 pub node_no_feed : (t : List ℕ) → begins_node true t ≡ true → front is_feed t ≡ false
@@ -74,7 +75,7 @@ pub record Filled (d k : ℕ) (m : FlowNode) (key : Key) (n : FlowNode) (rest : 
   pub some : (is_keyed key2 || not (is_empty_node n2)) ≡ true
   pub node_is : IsFlowNode true (Some 0) d n2 rest
   pub front : Front (key_text key (node_text n rest)) (key_text key2 (node_text n2 rest))
-  pub text : Becomes (key_text key (node_text n rest)) (key_text key2 (node_text n2 rest)) (node_text (content_node n) []) (space_for (content_node n) ++ node_text m []) rest
+  pub text : Becomes (key_text key (node_text n rest)) (key_text key2 (node_text n2 rest)) (node_text (without_anchor n) []) (space_for (without_anchor n) ++ node_text m []) rest
   pub tree : tree_of n2 ≡ put_value (tree_of m) (tree_of n)
   pub label : key_content key2 ≡ key_content key
 
@@ -95,11 +96,11 @@ name_again n (b ∷ g) x y s h = name_by n (b ∷ (g ++ x)) (b ∷ (g ++ y)) h.e
 name_space : (n x y : List ℕ) → IsName n x → IsName n (32 ∷ y)
 name_space n x y h = name_by n x (32 ∷ y) refl h
 
-coll_anchor : (k : ℕ) (n : List ℕ) (cs : tree.Children) → anchor_in (with_name n (tree_collection k cs)) ≡ Some n
-coll_anchor k n cs = elim (eqb k 125) as (λ c. anchor_in (with_name n (cond c (tree.map None cs) (tree.list None cs))) ≡ Some n) [ true ↦ refl | false ↦ refl ]
+coll_anchor : (k : ℕ) (n : List ℕ) (cs : tree.Children) → anchor_of (with_name n (tree_collection k cs)) ≡ Some n
+coll_anchor k n cs = elim (eqb k 125) as (λ c. anchor_of (with_name n (cond c (tree.map None cs) (tree.list None cs))) ≡ Some n) [ true ↦ refl | false ↦ refl ]
 
-coll_no_anchor : (k : ℕ) (cs : tree.Children) → anchor_in (tree_collection k cs) ≡ None
-coll_no_anchor k cs = elim (eqb k 125) as (λ c. anchor_in (cond c (tree.map None cs) (tree.list None cs)) ≡ None) [ true ↦ refl | false ↦ refl ]
+coll_no_anchor : (k : ℕ) (cs : tree.Children) → anchor_of (tree_collection k cs) ≡ None
+coll_no_anchor k cs = elim (eqb k 125) as (λ c. anchor_of (cond c (tree.map None cs) (tree.list None cs)) ≡ None) [ true ↦ refl | false ↦ refl ]
 
 -- in the place of a node that is something, without an anchor
 filled_by : (d k : ℕ) (m : FlowNode) (key : Key) (n : FlowNode) (rest : List ℕ) → is_empty_node n ≡ false → FitsNode d m rest → IsInlineKey k key (node_text n rest) → IsFlowNode true (Some 0) d n rest → IsInlineKey k key (node_text m rest) × Front (key_text key (node_text n rest)) (key_text key (node_text m rest))

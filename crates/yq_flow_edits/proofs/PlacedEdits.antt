@@ -5,9 +5,9 @@ use Rattle.std.proofs.lemmas.Option.{same_Some}
 use Rattle.yq_core.specs.Paths.{Step}
 use Rattle.yq_core.specs.Collections.{CollPieces, coll_in}
 use Rattle.yq_core.specs.Entries.{EntryPieces, place_in}
-use Rattle.yq_flow_edits.specs.FlowEdits.{content_node, space_for, replacing, is_none, appending, behind_last}
+use Rattle.yq_flow_edits.specs.FlowEdits.{space_for, replacing, is_none, appending, behind_last}
 use Rattle.yq_flow_edits.specs.FlowPlaces.{PlacedEdit, place_edit, replace_at, replace_place, last_end, append_at, append_in, append_place}
-use Rattle.yq_core.specs.Nodes.{Key, FlowNode, empty, alias, scalar, coll, anchored, Items, none, item, sep_text, node_text, flow_items_text, IsFlowNode}
+use Rattle.yq_core.specs.Nodes.{Key, FlowNode, empty, alias, scalar, coll, anchored, Items, none, item, sep_text, node_text, flow_items_text, IsFlowNode, without_anchor}
 use Rattle.yq_core.specs.Places.{Placed, placed, sequence, mapping, Parts, holder, anchored_node, locate, locate_items}
 use Rattle.yq_core.proofs.EditPlaces.{end_placed}
 use Rattle.yq_core.proofs.NodesWrittenLaws.{node_then}
@@ -23,7 +23,7 @@ coll_placed : (total : ℕ) (k : ℕ) (t rest : List ℕ) (parts : Parts) (e : �
 unfolding old_edit
 coll_placed total k t rest parts e h = search (rules, old_edit)
 
-content_edited : (flow : Bool) (spaces : Option ℕ) (d total : ℕ) (n : FlowNode) (rest : List ℕ) → IsFlowNode flow spaces d n rest → replace_place (locate total n rest) ≡ content_edit total (content_node n) rest
+content_edited : (flow : Bool) (spaces : Option ℕ) (d total : ℕ) (n : FlowNode) (rest : List ℕ) → IsFlowNode flow spaces d n rest → replace_place (locate total n rest) ≡ content_edit total (without_anchor n) rest
 unfolding locate IsFlowNode content_edit old_edit node_text
 content_edited flow spaces d total empty rest h = refl
 content_edited flow spaces d total (alias n) rest h = ap (λ l. old_edit total l rest) (node_then (alias n) rest)

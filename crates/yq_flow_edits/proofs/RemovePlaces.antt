@@ -15,7 +15,8 @@ use Rattle.yq_core.specs.declared.gap.Before.TheVariants.{Token}
 use Rattle.yq_core.specs.Nodes.{Key, Sep, last, comma, FlowNode, empty, alias, scalar, coll, anchored, Items, none, item, key_text, sep_text, node_text, flow_items_text, begins_with, opening_bracket, is_close, IsFlowNode, IsSep, AreFlowItems}
 use Rattle.yq_core.specs.Places.{Parts, Placed, placed, key_placed, holder, locate, locate_items, mapping, sequence, anchored_node}
 use Rattle.yq_core.specs.Reading.{flow_gap_len}
-use Rattle.yq_core.specs.Trees.{inner, key_content}
+use Rattle.yq_core.specs.Trees.{key_content}
+use Rattle.yq_core.specs.Tree.{key_label}
 use Rattle.yq_core.proofs.EditPlaces.{end_placed, entry_placed}
 use Rattle.yq_core.proofs.GapLaws.{gap_append}
 use Rattle.yq_core.proofs.NodeAgain.{item_front}
@@ -197,8 +198,8 @@ part_removed d k s g (item key n sep is) rest t w b c a feed text =
     ≡ option_map (place_edit total) (option_or (last_out k rest (further s) g key n sep is) (option_map (edit_from_item g key n sep) (removing_from k rest (further s) (gap_of sep) is))) =
     (λ i. option_or (last_placed d k (further s) g key n sep is rest t w b c a.4 feed text i) ((again ∙ same_place total g key n sep (removing_from k rest (further s) (gap_of sep) is)) i))
     ∙ or_mapped (place_edit total) (last_out k rest (further s) g key n sep is) (option_map (edit_from_item g key n sep) (removing_from k rest (further s) (gap_of sep) is)) in
-    (λ i. cond (is_here s (inner (key_tree total own key i))) (option_map (remove_before t (start i)) (first_start parts)) (option_or (option_map (remove_end t (start i) (end_placed total n behind i)) (only_end (further s) parts)) (remove_part t (further s) parts)))
-    ∙ elim (is_here s (inner (key_content key)))
+    (λ i. cond (is_here s (key_label (key_tree total own key i))) (option_map (remove_before t (start i)) (first_start parts)) (option_or (option_map (remove_end t (start i) (end_placed total n behind i)) (only_end (further s) parts)) (remove_part t (further s) parts)))
+    ∙ elim (is_here s (key_label (key_content key)))
     as (λ v. cond v (option_map (remove_before t (total - length own)) (first_start parts)) (option_or (option_map (remove_end t (total - length own) (total - length behind)) (only_end (further s) parts)) (remove_part t (further s) parts))
     ≡ option_map (place_edit total) (cond v (before_next k rest g key n sep is) (option_or (last_out k rest (further s) g key n sep is) (option_map (edit_from_item g key n sep) (removing_from k rest (further s) (gap_of sep) is)))))
     [ true ↦ next_placed d k g key n sep is rest t w b c a.4 feed text | false ↦ others ]

@@ -7,7 +7,8 @@ use Rattle.yq_core.specs.Paths.{Step, is_here, further}
 use Rattle.yq_core.specs.PlainText.{begins_marker}
 use Rattle.yq_core.specs.Alike.{fresh}
 use Rattle.yq_core.specs.Nodes.{Key, Sep, last, comma, FlowNode, Items, none, item, key_text, sep_text, node_text, flow_items_text}
-use Rattle.yq_core.specs.Trees.{inner, key_content}
+use Rattle.yq_core.specs.Trees.{key_content}
+use Rattle.yq_core.specs.Tree.{key_label}
 use Rattle.yq_core.proofs.NodeAgain.{items_longer}
 use Rattle.yq_core.proofs.NodesWrittenLaws.{sep_append}
 use Rattle.yq_flow_edits.specs.FlowEdits.{Becomes, FlowEdit}
@@ -125,7 +126,7 @@ last_bytes k rest g key n sep key2 n2 sep2 left old lead behind h =
 last_text : (k : ℕ) (rest : List ℕ) (s : Step) (g : List ℕ) (key : Key) (n : FlowNode) (sep : Sep) (is : Items) (e : FlowEdit) → last_out k rest s g key n sep is ≡ Some e → RemovedText k rest g (item key n sep is) e
 last_text k rest s g key n sep none e at = absurd (none-some _ at)
 last_text k rest s g key n sep (item key2 n2 sep2 (item key3 n3 sep3 is)) e at = absurd (none-some _ at)
-last_text k rest s g key n sep (item key2 n2 sep2 none) e at = go (is_here s (inner (key_content key2))) at
+last_text k rest s g key n sep (item key2 n2 sep2 none) e at = go (is_here s (key_label (key_content key2))) at
   where
     commas : (sep2 : Sep) → RemovedText k rest g (item key n sep (item key2 n2 sep2 none)) (comma_left k rest g key n sep key2 n2 sep2)
     commas (last b) = last_bytes k rest g key n sep key2 n2 (last b) (comma [] b) _ _ _ (comma_new_bytes k rest sep key2 n2 b)
@@ -156,7 +157,7 @@ behind_text k rest g key n sep is e h =
 
 pub removed_text : (k : ℕ) (rest : List ℕ) (s : Step) (g : List ℕ) (is : Items) (e : FlowEdit) → removing_from k rest s g is ≡ Some e → RemovedText k rest g is e
 removed_text k rest s g none e at = absurd (none-some _ at)
-removed_text k rest s g (item key n sep is) e at = go (is_here s (inner (key_content key))) (λ x. removed_text k rest (further s) (gap_of sep) is x) at
+removed_text k rest s g (item key n sep is) e at = go (is_here s (key_label (key_content key))) (λ x. removed_text k rest (further s) (gap_of sep) is x) at
   where
     behind : ((x : FlowEdit) → removing_from k rest (further s) (gap_of sep) is ≡ Some x → RemovedText k rest (gap_of sep) is x) →
         (last_out k rest (further s) g key n sep is ≡ Some e) ⊎ (option_map (edit_from_item g key n sep) (removing_from k rest (further s) (gap_of sep) is) ≡ Some e) → RemovedText k rest g (item key n sep is) e

@@ -10,13 +10,14 @@ use Rattle.yq_core.specs.Plain.{ends_plain, begins_plain}
 use Rattle.yq_core.specs.Scalar.{ScalarText, string_of}
 use Rattle.yq_core.specs.Text.{is_space}
 use Rattle.yq_core.specs.Tree as tree
+use Rattle.yq_core.specs.Tree.{key_label}
 use Rattle.yq_core.specs.Writable.{can_write_plain, in_flow}
 use Rattle.yq_core.specs.declared.gap.Before.TheVariants.{Token, White}
 use Rattle.yq_core.specs.Gaps.{IsInlineGap, stops}
 use Rattle.yq_core.specs.Inline.{depth_limit}
 use Rattle.yq_core.specs.Nodes.{key_text, sep_text, node_text, flow_items_text, begins_with, begins_content, is_empty_node, is_keyed, IsInlineKey, IsSep, IsFlowNode, AreFlowItems}
 use Rattle.yq_core.specs.Scalars.{is_quoted, begins_scalar, IsScalarAt}
-use Rattle.yq_core.specs.Trees.{inner, scalar_node, key_content, tree_of, items_tree}
+use Rattle.yq_core.specs.Trees.{scalar_node, key_content, tree_of, items_tree}
 use Rattle.yq_flow_edits.specs.Valued.{IsValid, IsLabel, IsValueTree, AreValueTrees, Spells}
 use Rattle.yq_core.specs.NodesWritten.{scalar_text, flow_key, flow_sep, flow_of, flow_items, flow_text}
 use Rattle.yq_core.proofs.GapLaws.{none_gap}
@@ -74,7 +75,7 @@ string_valid k u = record { kind = tt; utf8 = u }
 -- what the labels of items or entries with this closing bracket give
 pub record Fits (k : ℕ) (keyed : Bool) : Type 0 where
   pub key : (label : tree.Label) → IsLabel keyed label → (t : List ℕ) → begins_content true t ≡ true → IsInlineKey k (flow_key label.key) t × (begins_content true (key_text (flow_key label.key) t) ≡ true)
-  pub same : (label : tree.Label) → IsLabel keyed label → inner (key_content (flow_key label.key)) ≡ label
+  pub same : (label : tree.Label) → IsLabel keyed label → key_label (key_content (flow_key label.key)) ≡ label
   pub ends : (l : List ℕ) → ends_plain true (Some 0) (k ∷ l) ≡ true
   pub apart : (l : List ℕ) → is_space (k ∷ l) ≡ false
 
@@ -93,8 +94,8 @@ entry_key k u t h =
     let is : IsScalarAt true None p (58 ∷ 32 ∷ t) = w.piece true None (58 ∷ 32 ∷ t) refl in
     ((refl, is, none_gap (58 ∷ 32 ∷ t) refl, or_right (is_quoted p) true refl, inl (space_gap t h, or_right (begins_with 38 t) (begins_content true t) h)), scalar_content (p ++ 58 ∷ 32 ∷ t) (scalar_begins true None p (58 ∷ 32 ∷ t) is))
 
-entry_same : (k : List ℕ) → IsUtf8 k → inner (key_content (flow_key (Some k))) ≡ inner (Some k)
-entry_same k u = ap (λ (c : List ℕ). inner (Some c)) (flow_key_text (string_of k) (string_valid k u)).content
+entry_same : (k : List ℕ) → IsUtf8 k → key_label (key_content (flow_key (Some k))) ≡ key_label (Some k)
+entry_same k u = ap (λ (c : List ℕ). key_label (Some c)) (flow_key_text (string_of k) (string_valid k u)).content
 
 pub entries_fit : Fits 125 true
 entries_fit = record {

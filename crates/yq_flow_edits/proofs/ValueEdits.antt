@@ -12,7 +12,7 @@ use Rattle.yq_core.specs.Gaps.{IsInlineGap}
 use Rattle.yq_flow_edits.specs.FlowEdits.{put_value, behind_last, replacing, appending, IsFlowEdited, FlowEdit, behind_appended}
 use Rattle.yq_core.specs.Entries.{EntryPieces}
 use Rattle.yq_core.specs.Nodes.{FlowNode, scalar, Items, none, item, flow_items_text, AreFlowItems}
-use Rattle.yq_core.specs.Trees.{inner, scalar_node, key_content, tree_of}
+use Rattle.yq_core.specs.Trees.{scalar_node, key_content, tree_of}
 use Rattle.yq_flow_edits.specs.Valued.{IsValid, IsLabel, IsValueTree}
 use Rattle.yq_core.specs.NodesWritten.{flow_key, flow_of}
 use Rattle.yq_flow_edits.proofs.EditLaws.{appended, replaced, Around, around_is}
@@ -22,6 +22,7 @@ use Rattle.yq_flow_edits.proofs.ValueFits.{value_fits, item_fits, fit_of, scalar
 use Rattle.yq_core.specs.Collections.{room_in, CollAt, item_in, IsCollAt}
 use Rattle.yq_core.specs.declared.style.Place.TheVariants as places
 use Rattle.yq_core.specs.Tree as tree
+use Rattle.yq_core.specs.Tree.{key_label}
 use Rattle.yq_core.specs.Written as scalars
 
 -- a change at the last of more steps
@@ -69,5 +70,5 @@ pub value_appended : (x : CollAt) (label : tree.Label) (v : tree.Node) → IsCol
 value_appended x label v h is value deep =
     let i = around_is x h in
     let fits = item_fits x.coll.close (room_in x) label v (behind_appended x.coll) i.closes (appended_ends x i) is value deep in
-    let same : changed_at x.steps (within (append_child (inner (key_content (flow_key label.key))) (tree_of (flow_of v)))) ≡ changed_at x.steps (within (append_child label v)) = λ j. changed_at x.steps (within (append_child ((fit_of x.coll.close i.closes).same label is j) (written_tree v value j))) in
+    let same : changed_at x.steps (within (append_child (key_label (key_content (flow_key label.key))) (tree_of (flow_of v)))) ≡ changed_at x.steps (within (append_child label v)) = λ j. changed_at x.steps (within (append_child ((fit_of x.coll.close i.closes).same label is j) (written_tree v value j))) in
     edited_same x (appending (flow_key label.key) (flow_of v) x.coll) _ _ same (appended x (flow_key label.key) (flow_of v) h fits)

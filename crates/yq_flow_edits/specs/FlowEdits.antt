@@ -1,13 +1,14 @@
 -- Edits of a flow collection: a node in the place of another one, and one more item or entry.
-use Rattle.std.specs.Prelude.{◌≡◌, ℕ, Bool, true, false, not, ◌||◌, List, [], ◌∷◌, ◌++◌, Option, Some, None, if◌then◌else◌}
+use Rattle.std.specs.Prelude.{◌≡◌, ℕ, Bool, true, false, not, ◌||◌, List, [], ◌∷◌, ◌++◌, Some, if◌then◌else◌}
 use Rattle.yq_core.specs.Paths.{Step, is_here, further}
 use Rattle.yq_core.specs.Text.{is_marker}
 use Rattle.yq_core.specs.Tree as tree
+use Rattle.yq_core.specs.Tree.{anchor_of, key_label}
 use Rattle.yq_core.specs.Collections.{CollPieces, CollAt, collection_put}
 use Rattle.yq_core.specs.Entries.{EntryPieces}
 use Rattle.yq_core.specs.Inline.{IsInline}
-use Rattle.yq_core.specs.Nodes.{Key, bare, keyed, last, comma, FlowNode, empty, alias, scalar, coll, anchored, Items, none, item, key_text, sep_text, node_text, is_empty_node, takes_anchor, is_keyed, IsInlineKey, IsFlowNode}
-use Rattle.yq_core.specs.Trees.{inner, with_anchor_name, key_content, tree_of}
+use Rattle.yq_core.specs.Nodes.{Key, bare, keyed, last, comma, FlowNode, empty, alias, scalar, coll, anchored, Items, none, item, key_text, sep_text, node_text, is_empty_node, takes_anchor, is_keyed, IsInlineKey, IsFlowNode, without_anchor}
+use Rattle.yq_core.specs.Trees.{with_anchor_name, key_content, tree_of}
 
 -- In a text the bytes `old` give way to `new`; behind them stands `behind` (own).
 pub record Becomes (t u old new behind : List ℕ) : Type 0 where
@@ -36,14 +37,6 @@ pub record IsFlowEdited (x : CollAt) (e : FlowEdit) (changed : tree.Node → tre
   pub text : Becomes (node_text x.node x.rest) (node_text (edited_node x e) x.rest) e.old (e.lead ++ e.written) e.behind
   pub tree : tree_of (edited_node x e) ≡ changed (tree_of x.node)
 
--- the node without its anchor (own)
-abbrev pub content_node : FlowNode → FlowNode
-content_node empty = empty
-content_node (alias n) = alias n
-content_node (scalar p) = scalar p
-content_node (coll k gap is) = coll k gap is
-content_node (anchored n gap node) = node
-
 -- a space, where nothing is written (own)
 abbrev pub space_for : FlowNode → List ℕ
 space_for node = if is_empty_node node then 32 ∷ [] else []
@@ -69,29 +62,22 @@ put_content m key (anchored n gap node) = (key, anchored n (gap_for node gap) m)
 abbrev pub put_item : Step → FlowNode → Items → Items
 put_item s m none = none
 put_item s m (item key n sep is) =
-    if is_here s (inner (key_content key)) then item (put_content m key n).0 (put_content m key n).1 sep is else item key n sep (put_item (further s) m is)
+    if is_here s (key_label (key_content key)) then item (put_content m key n).0 (put_content m key n).1 sep is else item key n sep (put_item (further s) m is)
 
 -- the content of the item or entry at a step gives way to a node (own)
 abbrev pub replacing : Step → EntryPieces → FlowNode → CollPieces → FlowEdit
 replacing s y m c = record {
   gap = c.gap;
   items = put_item s m c.items;
-  old = node_text (content_node y.node) [];
-  lead = space_for (content_node y.node);
+  old = node_text (without_anchor y.node) [];
+  lead = space_for (without_anchor y.node);
   written = node_text m [];
   behind = y.rest;
 }
 
--- the anchor of a node, if it has one (YAML 1.2.2, section 6.9.2)
-abbrev pub anchor_in : tree.Node → Option (List ℕ)
-anchor_in (tree.alias n) = None
-anchor_in (tree.scalar a kind t) = a
-anchor_in (tree.list a cs) = a
-anchor_in (tree.map a cs) = a
-
 -- a node in the place of another one, whose anchor stays (own)
 abbrev pub put_value : tree.Node → tree.Node → tree.Node
-put_value v old = with_anchor_name (anchor_in old) v
+put_value v old = with_anchor_name (anchor_of old) v
 
 -- A node that may be put behind an anchor or a gap: it is something, has no anchor, and doesn't begin with a document marker (own).
 pub record FitsNode (d : ℕ) (m : FlowNode) (rest : List ℕ) : Type 0 where

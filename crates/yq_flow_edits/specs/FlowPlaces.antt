@@ -11,7 +11,8 @@ use Rattle.yq_flow_edits.specs.FlowEdits.{FlowEdit}
 use Rattle.yq_core.specs.Nodes.{begins_with}
 use Rattle.yq_core.specs.Places.{Placed, placed, CoreNode, nothing, name, text, sequence, mapping, Parts, end, part}
 use Rattle.yq_core.specs.Reading.{flow_gap_len}
-use Rattle.yq_core.specs.Trees.{inner, unplaced_key}
+use Rattle.yq_core.specs.Trees.{unplaced_key}
+use Rattle.yq_core.specs.Tree.{key_label}
 
 -- where bytes that give way begin and end, and what takes their place before that which is written (own)
 pub record PlacedEdit : Type 0 where
@@ -97,14 +98,14 @@ remove_before t s n = record { start = s; end = n; lead = space_at t s n }
 -- where the item or entry at a step ends, if it is the only one (own)
 abbrev pub only_end : Step → Parts → Option ℕ
 only_end s end = None
-only_end s (part key n end) = if is_here s (inner (unplaced_key key)) then Some (end_of n) else None
+only_end s (part key n end) = if is_here s (key_label (unplaced_key key)) then Some (end_of n) else None
 only_end s (part key n (part j m parts)) = None
 
 -- what goes with the item or entry at a step, among such parts; nothing for a sole one (own)
 abbrev pub remove_part : List ℕ → Step → Parts → Option PlacedEdit
 remove_part t s end = None
 remove_part t s (part key n parts) =
-    if is_here s (inner (unplaced_key key)) then option_map (remove_before t (entry_start (key, n))) (first_start parts)
+    if is_here s (key_label (unplaced_key key)) then option_map (remove_before t (entry_start (key, n))) (first_start parts)
     else option_or (option_map (remove_end t (entry_start (key, n)) (end_of n)) (only_end (further s) parts)) (remove_part t (further s) parts)
 
 -- what goes with the item or entry at a step of a collection in a text, and what takes its place (own)

@@ -8,7 +8,8 @@ use Rattle.yq_core.specs.Alike.{fresh}
 use Rattle.yq_core.specs.Collections.{CollPieces}
 use Rattle.yq_flow_edits.specs.FlowEdits.{FlowEdit}
 use Rattle.yq_core.specs.Nodes.{Key, FlowNode, Sep, last, comma, Items, none, item, key_text, sep_text, node_text, flow_items_text}
-use Rattle.yq_core.specs.Trees.{inner, key_content}
+use Rattle.yq_core.specs.Trees.{key_content}
+use Rattle.yq_core.specs.Tree.{key_label}
 
 -- the text is `---` or `...` (YAML 1.2.2, sections 9.1.2 and 9.1.3)
 abbrev pub is_marks : List ℕ → Bool
@@ -92,14 +93,14 @@ last_removed k rest g key n sep key2 n2 sep2 =
 -- the item that follows another one goes, if a step leads to it and it is the last one (own)
 abbrev pub last_out : ℕ → List ℕ → Step → List ℕ → Key → FlowNode → Sep → Items → Option FlowEdit
 last_out k rest s g key n sep none = None
-last_out k rest s g key n sep (item key2 n2 sep2 none) = if is_here s (inner (key_content key2)) then Some (last_removed k rest g key n sep key2 n2 sep2) else None
+last_out k rest s g key n sep (item key2 n2 sep2 none) = if is_here s (key_label (key_content key2)) then Some (last_removed k rest g key n sep key2 n2 sep2) else None
 last_out k rest s g key n sep (item key2 n2 sep2 (item key3 n3 sep3 is)) = None
 
 -- the item at a step is taken out of the items behind a gap; nothing for a sole one (own)
 abbrev pub removing_from : ℕ → List ℕ → Step → List ℕ → Items → Option FlowEdit
 removing_from k rest s g none = None
 removing_from k rest s g (item key n sep is) =
-    if is_here s (inner (key_content key)) then before_next k rest g key n sep is
+    if is_here s (key_label (key_content key)) then before_next k rest g key n sep is
     else option_or (last_out k rest (further s) g key n sep is) (option_map (edit_from_item g key n sep) (removing_from k rest (further s) (gap_of sep) is))
 
 -- the item or entry at a step of a collection is taken out, if it isn't the sole one (own)

@@ -8,11 +8,12 @@ use Rattle.yq_core.specs.Piece.{further_spaces}
 use Rattle.yq_core.specs.Plain.{ends_plain, holds_break}
 use Rattle.yq_core.specs.Scalar.{ScalarText, IsScalar}
 use Rattle.yq_core.specs.Tree as tree
+use Rattle.yq_core.specs.Tree.{key_label}
 use Rattle.yq_core.specs.Writable.{in_flow}
 use Rattle.yq_core.specs.Inline.{IsInline, depth_limit}
 use Rattle.yq_core.specs.Nodes.{FlowNode, node_text}
 use Rattle.yq_core.specs.Scalars as scalars
-use Rattle.yq_core.specs.Trees.{inner, tree_of}
+use Rattle.yq_core.specs.Trees.{tree_of}
 
 -- a scalar's kind fits its text, which is UTF-8 (YAML 1.2.2, section 10.3.2)
 pub record IsValid (s : ScalarText) : Type 0 where
@@ -21,8 +22,8 @@ pub record IsValid (s : ScalarText) : Type 0 where
 
 -- the label of an entry whose key is UTF-8, or of an item, without comments (own)
 abbrev pub IsLabel : Bool → tree.Label → Type 0
-IsLabel true label = (k : List ℕ) × (label ≡ inner (Some k)) × IsUtf8 k
-IsLabel false label = label ≡ inner None
+IsLabel true label = (k : List ℕ) × (label ≡ key_label (Some k)) × IsUtf8 k
+IsLabel false label = label ≡ key_label None
 
 abbrev mutual
   -- The tree of a value: no anchors, aliases and comments, and scalars whose kinds fit their texts (own).

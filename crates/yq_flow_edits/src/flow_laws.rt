@@ -5,6 +5,7 @@ ghost use Rattle.yq_core.specs.Keys.{depth};
 ghost use Rattle.yq_core.specs.Paths.{Step, append_child, changed_at, change_child, remove_child, within};
 ghost use Rattle.yq_core.specs.Scalar.{ScalarText};
 ghost use Rattle.yq_core.specs.Tree as tree;
+ghost use Rattle.yq_core.specs.Tree.{key_label};
 ghost use Rattle.yq_core.specs.Writable.{can_write};
 ghost use Rattle.yq_core.specs.Written as scalars;
 ghost use Rattle.yq_core.specs.declared.style.Place.TheVariants.{Flow, Block};
@@ -14,7 +15,7 @@ ghost use Rattle.yq_core.specs.Entries.{EntryPieces};
 ghost use Rattle.yq_flow_edits.specs.FlowEdits.{FitsItem, FitsNode, FlowEdit, IsFlowEdited, appending, behind_appended, put_value, replacing};
 ghost use Rattle.yq_core.specs.Nodes.{Key, FlowNode, node_text, scalar};
 ghost use Rattle.yq_flow_edits.specs.Removals.{removing};
-ghost use Rattle.yq_core.specs.Trees.{inner, key_content, scalar_node, tree_of};
+ghost use Rattle.yq_core.specs.Trees.{key_content, scalar_node, tree_of};
 ghost use Rattle.yq_flow_edits.specs.Valued.{IsLabel, IsValid, IsValueTree, Spells, SpellsScalar};
 ghost use Rattle.yq_core.specs.NodesWritten.{flow_key, flow_of, flow_text};
 ghost use Rattle.yq_flow_edits.specs.FlowValues.{SpellsInFlow};
@@ -46,7 +47,7 @@ pub fn appended_in_flow()
     ensures item { (x : CollAt) (key : Key) (m : FlowNode) → IsCollAt x →
         FitsItem (room_in x) x.coll.close key m (behind_appended x.coll) →
         IsFlowEdited x (appending key m x.coll)
-        (changed_at x.steps (within (append_child (inner (key_content key)) (tree_of m)))) }
+        (changed_at x.steps (within (append_child (key_label (key_content key)) (tree_of m)))) }
     // A value, as it is written in flow style.
     ensures value { (x : CollAt) (label : tree.Label) (v : tree.Node) → IsCollAt x →
         IsLabel (x.coll.close == 125) label → IsValueTree v → depth v ≤ room_in x →

@@ -1,9 +1,7 @@
 -- The nodes of the code, as those of trees.
 use Rattle.std.specs.Prelude.{List, [], ℕ}
-use Rattle.yq_core.specs.Tree.{Label, Node, alias, scalar, list, map}
-use Rattle.yq_core.specs.Trees.{inner}
+use Rattle.yq_core.specs.Tree.{Label, Node, alias, scalar, list, map, key_label, plain_label}
 use Rattle.yq_nodes.specs.Bodies.{named_node}
-use Rattle.yq_documents.specs.Located.{unlabelled}
 use Rattle.yq_nodes.specs.declared.nodes.node.Node as declared
 use Rattle.yq_nodes.specs.declared.nodes.node.NodeKind.{NodeKind}
 use Rattle.yq_nodes.specs.declared.nodes.node.NodeKind.TheVariants as kinds
@@ -23,9 +21,9 @@ written_label w = record { key = borrowed w.key; head_comment = comments.head_co
 
 -- what is told of what stands in such a place (own)
 abbrev pub slot_label : slots.Slot → Label
-slot_label slots.TheVariants.Root = unlabelled
+slot_label slots.TheVariants.Root = plain_label
 slot_label (slots.TheVariants.Line w) = written_label w
-slot_label (slots.TheVariants.Inline key) = inner (borrowed key)
+slot_label (slots.TheVariants.Inline key) = key_label (borrowed key)
 
 -- what is told of the entry or item of a node of the code (own)
 abbrev pub label_of : declared.Node → Label

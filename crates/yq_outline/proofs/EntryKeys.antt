@@ -3,8 +3,9 @@ use Rattle.std.proofs.Common.{◌≡◌, ◌⊎◌, inl, inr, ℕ, zero, suc, �
 use Rattle.std.proofs.lemmas.Bool.{and_parts, or_parts, not-true, ltb-true, eqb-true, le-leb, cond-false, false≢true}
 use Rattle.std.proofs.lemmas.Option.{same_Some, none-some}
 use Rattle.std.specs.List.{slice_get, list_any}
-use Rattle.yq_core.specs.Keys.{keys_of, with_key, are_distinct}
+use Rattle.yq_core.specs.Keys.{keys_of, are_distinct}
 use Rattle.yq_core.specs.Paths.{To, is_here, key_is}
+use Rattle.yq_core.specs.Text.{with_first}
 use Rattle.yq_outline.specs.Ends.{part, has_no_lines, IsEndOf}
 use Rattle.yq_outline.specs.Group.{deeper_lines, shallow, group}
 use Rattle.yq_outline.specs.Outline.{LineMark, Bare, Line, level, Outline, end, row, children, key_of, label}
@@ -101,13 +102,13 @@ nowhere : (key : List ℕ) (o : Outline) → list_any (bytes_eq key) (keys_of (c
 nowhere key end none = refl
 nowhere key (row l u a) none = go (key_of l.mark) none (nowhere key a)
   where
-    go : (k : Option (List ℕ)) → list_any (bytes_eq key) (with_key k (keys_of (children a))) ≡ false → (list_any (bytes_eq key) (keys_of (children a)) ≡ false → find_row (To key) a ≡ None) →
+    go : (k : Option (List ℕ)) → list_any (bytes_eq key) (with_first k (keys_of (children a))) ≡ false → (list_any (bytes_eq key) (keys_of (children a)) ≡ false → find_row (To key) a ≡ None) →
         cond (key_is key k) (Some (record { place = here; line = l; under = u; after = a })) (option_map (next_to l u) (find_row (To key) a)) ≡ None
     go k h1 h2 = search (rules, or_parts, bytes_eq, cond-false, differs, differ)
 
 -- The first of lines with different keys is not the entry of a key that one behind it has.
 module _ (ls : List Line) (at floor next : ℕ) (l : Line) (is : slice_get ls at ≡ Some l) (deep : true ≡ not (has_no_lines (part ls at floor))) (ends : IsEndOf ls at next) (differ' : are_distinct (keys_of (children (part ls at floor))) ≡ true) where
-  own : are_distinct (with_key (key_of l.mark) (keys_of (children (part ls next floor)))) ≡ true
+  own : are_distinct (with_first (key_of l.mark) (keys_of (children (part ls next floor)))) ≡ true
   own = subst (λ (o : Outline). are_distinct (keys_of (children o)) ≡ true) (row_parts ls at floor next l is (deeper_line ls at floor l is (not_end _ deep)) (ends.2 l is)) differ'
 
   pub keys_behind : are_distinct (keys_of (children (part ls next floor))) ≡ true
@@ -119,5 +120,5 @@ module _ (ls : List Line) (at floor next : ℕ) (l : Line) (is : slice_get ls at
       there : find_row (To key) (part ls next floor) ≡ None → ⊥
       there none = none-some w (sym (ap (position next) none) ∙ found)
 
-      go : (k : Option (List ℕ)) → are_distinct (with_key k (keys_of (children (part ls next floor)))) ≡ true → key_is key k ≡ false
+      go : (k : Option (List ℕ)) → are_distinct (with_first k (keys_of (children (part ls next floor)))) ≡ true → key_is key k ≡ false
       go k h1 = search (rules, and_parts, bytes_eq, not-true, differs, nowhere)

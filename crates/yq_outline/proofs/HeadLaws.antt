@@ -4,10 +4,10 @@ use Rattle.std.proofs.lemmas.Bool.{false≢true, cond_both, cond-true, cond-fals
 use Rattle.yq_core.specs.Block.{RawLines}
 use Rattle.yq_core.specs.BlockRepair.{AreGap, is_short, is_outdented_comment, repaired_blank, repaired_comment, repair}
 use Rattle.yq_core.specs.Lines.{is_hash, is_blank}
-use Rattle.yq_core.specs.Text.{upto, cut, is_white, ends_line, past_white}
+use Rattle.yq_core.specs.Text.{upto, cut, is_white, ends_line, past_white, with_first}
 use Rattle.yq_core.proofs.SpaceLaws.{white_drop}
 use Rattle.yq_core.proofs.BlockRepairLaws.{white_front}
-use Rattle.yq_outline.specs.Comments.{less_space, comment_text, are_comments, with_text, last_comments}
+use Rattle.yq_outline.specs.Comments.{less_space, comment_text, are_comments, last_comments}
 
 -- lines behind lines
 all_behind : (ls ms : RawLines) → are_comments ls ≡ false → are_comments (ls ++ ms) ≡ false
@@ -20,7 +20,7 @@ all_behind (l ∷ ls) ms h = ⊎_elim {0, 0, 0}
 hash_text : (l : List ℕ) → is_hash (past_white l) ≡ true → (t : List ℕ) × (comment_text l ≡ Some t)
 hash_text l h = (less_space (cut ends_line (drop 1 (past_white l))).0, cond-true _ _ _ h)
 
-some_text : (o : Option (List ℕ)) (t : List ℕ) (ts : RawLines) → o ≡ Some t → with_text o ts ≡ [] → ⊥
+some_text : (o : Option (List ℕ)) (t : List ℕ) (ts : RawLines) → o ≡ Some t → with_first o ts ≡ [] → ⊥
 some_text x t ts e h = absurd (cc)
 
 no_run : (l : List ℕ) (ls : RawLines) → last_comments (l ∷ ls) ≡ [] → are_comments (l ∷ ls) ≡ false

@@ -2,9 +2,10 @@
 use Rattle.std.proofs.Common.{◌≡◌, ◌≢◌, ℕ, zero, suc, ◌+◌, ◌*◌, List, [], ◌∷◌, ◌++◌, Option, Some, None, refl, sym, ap, ◌∙◌, subst, arith, rules}
 use Rattle.std.proofs.lemmas.Option.{same_Some}
 use Rattle.std.specs.List.{All}
-use Rattle.yq_core.specs.Keys.{with_key, keys_of, AreDistinct, HasUniqueKeys, EachHasUniqueKeys}
+use Rattle.yq_core.specs.Keys.{keys_of, AreDistinct, HasUniqueKeys, EachHasUniqueKeys}
 use Rattle.yq_core.specs.Shapes.{IsNew, AreItems, AreKeyed, AreEntries as HaveNewKeys, IsTree, AreTrees, IsShaped, AreShaped}
 use Rattle.yq_core.specs.Tree.{Node, alias, scalar, list, map, Children, none, child}
+use Rattle.yq_core.specs.Text.{with_first}
 use Rattle.yq_outline.specs.Outline.{LineMark, Bare, Key, Dash, rank, Line, level, anchored, key_of}
 use Rattle.yq_outline.specs.Grammar.{IsNodeOutline, alone, mapping, sequence, AreEntryLines, no_more, entry, IsUnder, headed, missing, deeper_lines}
 use Rattle.yq_outline.specs.ShapedLines.{HeadIsShaped, HeadsAreShaped}
@@ -76,14 +77,14 @@ new_key : (k : List ℕ) (cs : Children) → AreKeyed cs → All (λ b. k ≢ b)
 new_key k none keyed h = tt
 new_key k (child lbl n cs) keyed h =
     let j = keyed.0.0 in
-    let all : All (λ b. k ≢ b) (j ∷ keys_of cs) = subst (λ o. All (λ b. k ≢ b) (with_key o (keys_of cs))) keyed.0.1 h in
+    let all : All (λ b. k ≢ b) (j ∷ keys_of cs) = subst (λ o. All (λ b. k ≢ b) (with_first o (keys_of cs))) keyed.0.1 h in
     ((λ e. all zero [] (omega arith) (sym (same_Some _ _ (sym keyed.0.1 ∙ e)))), new_key k cs keyed.1 (λ i d within. all (suc i) d (omega arith)))
 
 new_keys : (cs : Children) → AreKeyed cs → AreDistinct (keys_of cs) → HaveNewKeys cs
 new_keys none keyed h = tt
 new_keys (child lbl n cs) keyed h =
     let k = keyed.0.0 in
-    let all : AreDistinct (k ∷ keys_of cs) = subst (λ o. AreDistinct (with_key o (keys_of cs))) keyed.0.1 h in
+    let all : AreDistinct (k ∷ keys_of cs) = subst (λ o. AreDistinct (with_first o (keys_of cs))) keyed.0.1 h in
     ((k, keyed.0.1, new_key k cs keyed.1 (λ j d within. all zero (suc j) d (omega arith) (omega arith))), new_keys cs keyed.1 (λ i j d lt within. all (suc i) (suc j) d (omega arith) (omega arith)))
 
 mutual

@@ -3,7 +3,8 @@ use Rattle.std.proofs.Common.{◌≡◌, ℕ, suc, ◌+◌, ◌<◌, ◌≤◌, 
 use Rattle.std.proofs.lemmas.Bool.{lt-ltb, eq-eqb, ne_eqb, leb-true, le-leb, cases_eq, and_parts, false_from_ne_true, false≢true}
 use Rattle.std.proofs.Math.Bool.{and-false, and-true, and_comm}
 use Rattle.yq_core.specs.Tree.{Node}
-use Rattle.yq_core.specs.Keys.{with_key, keys_of, depth, deepest, are_distinct}
+use Rattle.yq_core.specs.Keys.{keys_of, depth, deepest, are_distinct}
+use Rattle.yq_core.specs.Text.{with_first}
 use Rattle.yq_outline.specs.Outline.{LineMark, Bare, Dash, rank, Line, level, Outline, end, row, anchored, head_or, key_of, children, value}
 use Rattle.yq_outline.specs.Group.{deeper_lines, shallow, is_open, is_whole, level_or, is_even, is_fine}
 use Rattle.yq_outline.specs.Ends.{has_no_lines}
@@ -15,7 +16,7 @@ asked d n keys o = is_even n o && (leb (deepest (children o)) d && (each_has_uni
 
 -- keys with that of one more line, if it has one
 abbrev pub keys_with : List (List ℕ) → LineMark → List (List ℕ)
-keys_with keys m = keys ++ with_key (key_of m) []
+keys_with keys m = keys ++ with_first (key_of m) []
 
 -- a level at which lines are items or entries
 abbrev pub IsEntryLevel : ℕ → Type 0
@@ -72,7 +73,7 @@ even_row : (n : ℕ) (l : Line) (u a : Outline) → is_entry_line l.mark ≡ tru
     is_even n (row l u a) ≡ (is_fine u && is_even n a)
 even_row n l u a entry lev open' deep = search (rules, eq-eqb, whole_entry, lt-ltb, even_any)
 
-keys_again : (keys : List (List ℕ)) (k : Option (List ℕ)) (more : List (List ℕ)) → keys ++ with_key k more ≡ (keys ++ with_key k []) ++ more
+keys_again : (keys : List (List ℕ)) (k : Option (List ℕ)) (more : List (List ℕ)) → keys ++ with_first k more ≡ (keys ++ with_first k []) ++ more
 keys_again keys k more = search (rules, append_assoc)
 
 -- what is asked of a line and of those behind it
@@ -126,7 +127,7 @@ no_keys l (row m u a) mark e =
     let r = and_parts (is_whole m.mark m.head a) _ q.1 in
     let s = and_parts (ltb (level l) (level_or (level m + 1) u)) _ r.1 in
     let t = and_parts (is_even (level_or (level m + 1) u) u) (is_even (level l) a) s.1 in
-    ap (λ k. with_key k (keys_of (children a))) (no_key m.mark (same_rank m l (same (cases_eq (level m) (level l)) p.0) ∙ ap rank mark)) ∙ no_keys l a mark t.1
+    ap (λ k. with_first k (keys_of (children a))) (no_key m.mark (same_rank m l (same (cases_eq (level m) (level l)) p.0) ∙ ap rank mark)) ∙ no_keys l a mark t.1
   where
     same : (level m ≡ level l) ⊎ (level m ≡ level l → ⊥) → eqb (level m) (level l) ≡ true → level m ≡ level l
     same h1 h2 = search (rules, false≢true, ne_eqb)

@@ -1,6 +1,6 @@
 -- The comments that belong to a row.
 use Rattle.std.specs.Prelude.{ℕ, Bool, true, ◌&&◌, ◌==◌, List, [], ◌∷◌, drop, Option, Some, None, if◌then◌else◌}
-use Rattle.yq_core.specs.Text.{cut, front, ends_line, past_white, text_lines}
+use Rattle.yq_core.specs.Text.{cut, front, ends_line, past_white, text_lines, with_first}
 
 -- a comment's text without the one space that may begin it (own)
 abbrev pub less_space : List ℕ → List ℕ
@@ -20,15 +20,10 @@ abbrev pub are_comments : List (List ℕ) → Bool
 are_comments [] = true
 are_comments (l ∷ ls) = front (λ b. b == 35) (past_white l) && are_comments ls
 
--- a comment's text, before those of the lines behind it (own)
-abbrev pub with_text : Option (List ℕ) → List (List ℕ) → List (List ℕ)
-with_text None texts = texts
-with_text (Some text) texts = text ∷ texts
-
 -- the texts of the comment lines that end a list of lines (own)
 abbrev pub last_comments : List (List ℕ) → List (List ℕ)
 last_comments [] = []
-last_comments (l ∷ ls) = if are_comments (l ∷ ls) then with_text (comment_text l) (last_comments ls) else last_comments ls
+last_comments (l ∷ ls) = if are_comments (l ∷ ls) then with_first (comment_text l) (last_comments ls) else last_comments ls
 
 -- the head comment of a gap: the texts of the run of comment lines, of any indentation, that ends it (own)
 abbrev pub head_comment : List ℕ → List (List ℕ)

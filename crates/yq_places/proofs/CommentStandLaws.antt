@@ -5,6 +5,7 @@ use Rattle.std.specs.List.{slice_get}
 use Rattle.std.specs.Str.{is_utf8}
 use Rattle.yq_core.specs.Answers.{◌>>=◌}
 use Rattle.yq_core.specs.Paths.{Step}
+use Rattle.yq_core.specs.Tree.{plain_label}
 use Rattle.yq_core.proofs.Bools.{guard_then}
 use Rattle.yq_outline.specs.Comments as comments
 use Rattle.yq_row_table.specs.Grammar.{IsCut}
@@ -16,7 +17,7 @@ use Rattle.yq_documents.specs.Documents.{document_parts}
 use Rattle.yq_outline.specs.Group.{group, is_fine}
 use Rattle.yq_outline.specs.Labelled.{Labelled, labelled_from}
 use Rattle.yq_outline.specs.Lines.{tail_of, lines_of_rows}
-use Rattle.yq_documents.specs.Located.{steps_of, labelled_located, unlabelled}
+use Rattle.yq_documents.specs.Located.{steps_of, labelled_located}
 use Rattle.yq_outline.specs.Outline.{Line, anchored, head_or, value}
 use Rattle.yq_places.specs.PathPieces.{BlockEntry, PrintedDocument, printed_document, found_entry, piece_in_entry, piece_in}
 use Rattle.yq_documents.specs.Pieces.{TextPiece, content_comment}
@@ -55,7 +56,7 @@ entry_agrees : (s : PrintedDocument) (e : BlockEntry) (f : FoundLine) → IsFoun
 entry_agrees s e f h = search (rules, content_agrees, gap_agrees)
 
 steps_agree : (s : PrintedDocument) (y : Step) (ys : List Step) → ArePrinted s.lines s.behind → is_fine (group (map line_in s.lines)) ≡ true →
-    Agree (labelled_from (y ∷ ys) (unlabelled, value (group (map line_in s.lines)))) (piece_in parts.LineComment (y ∷ ys) s) (piece_in parts.HeadComment (y ∷ ys) s)
+    Agree (labelled_from (y ∷ ys) (plain_label, value (group (map line_in s.lines)))) (piece_in parts.LineComment (y ∷ ys) s) (piece_in parts.HeadComment (y ∷ ys) s)
 steps_agree s y ys as_printed fine =
     subst (λ o. Agree o (piece_in parts.LineComment (y ∷ ys) s) (piece_in parts.HeadComment (y ∷ ys) s)) (sym (path_entry y ys (group (map line_in s.lines)))) (go (find y ys (group (map line_in s.lines))) refl)
   where
@@ -76,7 +77,7 @@ steps_agree s y ys as_printed fine =
         subst (λ o. Agree (FoundEntry (Some x)) (o >>= piece_in_entry parts.LineComment x.1) (o >>= piece_in_entry parts.HeadComment x.1)) (sym e.1) (found x.0 x.1 e.0 is (entry_found s y ys x.1 x.0 e.0 is as_printed e.1))
 
 document_agrees : (steps : List Step) (s : PrintedDocument) → ArePrinted s.lines s.behind → is_fine (group (map line_in s.lines)) ≡ true →
-    Agree (labelled_from steps (unlabelled, value (group (map line_in s.lines)))) (piece_in parts.LineComment steps s) (piece_in parts.HeadComment steps s)
+    Agree (labelled_from steps (plain_label, value (group (map line_in s.lines)))) (piece_in parts.LineComment steps s) (piece_in parts.HeadComment steps s)
 document_agrees [] s as_printed fine = record { line = refl; above = refl }
 document_agrees (y ∷ ys) s as_printed fine = steps_agree s y ys as_printed fine
 
@@ -88,19 +89,19 @@ text_agrees t c path read o is = subst (λ l. Agree l (o >>= piece_in parts.Line
     text : IsCut t c × (all_documents c ≡ true)
     text = text_takes t c (guard_then (is_utf8 t) read).1
 
-    tree : labelled_located path t ≡ option_and_then (λ d. labelled_from (steps_of path) (unlabelled, d.root)) (option_map part_document (slice_get (document_parts c) path.doc))
+    tree : labelled_located path t ≡ option_and_then (λ d. labelled_from (steps_of path) (plain_label, d.root)) (option_map part_document (slice_get (document_parts c) path.doc))
     tree = cc (cut_is t c (text_takes t c (guard_then (is_utf8 t) read).1).0, slice_get-map part_document (document_parts c) path.doc)
 
     go : (o : Option PrintedDocument) → printed_document path.doc c ≡ o →
-        Agree (option_and_then (λ d. labelled_from (steps_of path) (unlabelled, d.root)) (option_map part_document (slice_get (document_parts c) path.doc)))
+        Agree (option_and_then (λ d. labelled_from (steps_of path) (plain_label, d.root)) (option_map part_document (slice_get (document_parts c) path.doc)))
         (o >>= piece_in parts.LineComment (steps_of path)) (o >>= piece_in parts.HeadComment (steps_of path))
-    go None is = subst (λ d. Agree (option_and_then (λ d. labelled_from (steps_of path) (unlabelled, d.root)) (option_map part_document d)) None None) (sym (no_part path.doc c is)) no_one
+    go None is = subst (λ d. Agree (option_and_then (λ d. labelled_from (steps_of path) (plain_label, d.root)) (option_map part_document d)) None None) (sym (no_part path.doc c is)) no_one
     go (Some s) is =
         let q = document_is path.doc c s text.0.parts is in
         let lines : map line_in s.lines ≡ lines_of_rows q.0.rows = ap (map line_in) q.2.lines ∙ lines_are q.0.rows in
         let fine = subst (λ ls. is_fine (group ls) ≡ true) (sym lines) (document_fine q.0 (each (document_parts c) text.1 path.doc q.0 q.1)) in
-        subst (λ d. Agree (option_and_then (λ d. labelled_from (steps_of path) (unlabelled, d.root)) (option_map part_document d)) (piece_in parts.LineComment (steps_of path) s) (piece_in parts.HeadComment (steps_of path) s)) (sym q.1)
-        (subst (λ ls. Agree (labelled_from (steps_of path) (unlabelled, value (group ls))) (piece_in parts.LineComment (steps_of path) s) (piece_in parts.HeadComment (steps_of path) s)) lines
+        subst (λ d. Agree (option_and_then (λ d. labelled_from (steps_of path) (plain_label, d.root)) (option_map part_document d)) (piece_in parts.LineComment (steps_of path) s) (piece_in parts.HeadComment (steps_of path) s)) (sym q.1)
+        (subst (λ ls. Agree (labelled_from (steps_of path) (plain_label, value (group ls))) (piece_in parts.LineComment (steps_of path) s) (piece_in parts.HeadComment (steps_of path) s)) lines
         (document_agrees (steps_of path) s q.2.as_printed fine))
 
 pub comments_stand : CommentsStand

@@ -7,11 +7,12 @@ use Rattle.yq_core.specs.Piece.{deeper}
 use Rattle.yq_core.specs.declared.style.Place.TheVariants.{Block}
 use Rattle.yq_core.specs.Collections.{CollAt, CollPieces, IsCollAt, coll_along, coll_in}
 use Rattle.yq_core.specs.Entries.{EntryPieces, path_inside, item_at, tree_step}
-use Rattle.yq_core.specs.Nodes.{Items, none, item, Key, FlowNode, empty, alias, scalar, coll, anchored, flow_items_text, sep_text, node_text, is_empty_node, IsFlowNode}
+use Rattle.yq_core.specs.Nodes.{Items, none, item, Key, FlowNode, empty, alias, scalar, coll, anchored, flow_items_text, sep_text, node_text, is_empty_node, IsFlowNode, without_anchor}
 use Rattle.yq_core.specs.Inline.{depth_limit}
 use Rattle.yq_core.specs.Places.{Placed, placed, nothing, name, text, sequence, mapping, anchored_node, locate}
-use Rattle.yq_core.specs.Trees.{inner, key_content}
+use Rattle.yq_core.specs.Trees.{key_content}
 use Rattle.yq_core.specs.View.{inline_view}
+use Rattle.yq_core.specs.Tree.{key_label}
 use Rattle.yq_core.proofs.NodesWrittenLaws.{items_append, node_then, sep_append}
 use Rattle.yq_row_table.specs.Exchange.{behind_row}
 use Rattle.yq_row_table.specs.Grammar.{IsContent, IsCut}
@@ -22,7 +23,7 @@ use Rattle.yq_row_table.proofs.PlaceLaws.{row_in}
 use Rattle.yq_outline.specs.Outline.{Line}
 use Rattle.yq_outline.specs.Places.{lines_before, FoundLine}
 use Rattle.yq_documents.specs.Documents.{document_parts}
-use Rattle.yq_documents.specs.FlowReading.{alias_or_collection, core, content_core, row_flow}
+use Rattle.yq_documents.specs.FlowReading.{alias_or_collection, content_core, row_flow}
 use Rattle.yq_outline.specs.Lines.{tail_of, lines_of_rows}
 use Rattle.yq_documents.specs.Reading.{part_outline}
 use Rattle.yq_documents.specs.RowReading.{from_head}
@@ -54,7 +55,7 @@ anchor_along : (ss : List Step) (n : List ℕ) (start : ℕ) (p : Placed) → co
 anchor_along [] n start (placed a s c e f) = refl
 anchor_along (t ∷ ss) n start (placed a s c e f) = refl
 
-core_along : (total : ℕ) (node : FlowNode) (rest : List ℕ) (ss : List Step) → collection_along ss (locate total (core node) rest) ≡ collection_along ss (locate total node rest)
+core_along : (total : ℕ) (node : FlowNode) (rest : List ℕ) (ss : List Step) → collection_along ss (locate total (without_anchor node) rest) ≡ collection_along ss (locate total node rest)
 unfolding locate
 core_along total empty rest ss = refl
 core_along total (alias n) rest ss = refl
@@ -93,7 +94,7 @@ entry_more more y = record { key = y.key; node = y.node; rest = y.rest ++ more }
 item_more : (k : ℕ) (s : Step) (is : Items) (rest more : List ℕ) → item_at k s is (rest ++ more) ≡ option_map (entry_more more) (item_at k s is rest)
 unfolding as_entry
 item_more k s none rest more = refl
-item_more k s (item key n sep is) rest more = go (is_here s (inner (key_content key))) (item_more k (further s) is rest more)
+item_more k s (item key n sep is) rest more = go (is_here s (key_label (key_content key))) (item_more k (further s) is rest more)
   where
     go : (b : Bool) → item_at k (further s) is (rest ++ more) ≡ option_map (entry_more more) (item_at k (further s) is rest) →
         cond b (as_entry key n (sep_text sep (flow_items_text k is (rest ++ more)))) (item_at k (further s) is (rest ++ more)) ≡ option_map (entry_more more) (cond b (as_entry key n (sep_text sep (flow_items_text k is rest))) (item_at k (further s) is rest))
@@ -176,7 +177,7 @@ no_flow_agrees t all e = subst (λ (o : Option CollPieces). FlowAgrees t o None)
 
 -- ---- a collection in a row alone
 
-core_coll : (ss : List Step) (node : FlowNode) (rest : List ℕ) → coll_along ss node rest ≡ coll_along ss (core node) rest
+core_coll : (ss : List Step) (node : FlowNode) (rest : List ℕ) → coll_along ss node rest ≡ coll_along ss (without_anchor node) rest
 core_coll [] empty rest = refl
 core_coll [] (alias n) rest = refl
 core_coll [] (scalar p) rest = refl
@@ -188,7 +189,7 @@ core_coll (s ∷ ss) (scalar p) rest = refl
 core_coll (s ∷ ss) (coll k g is) rest = refl
 core_coll (s ∷ ss) (anchored n g node) rest = refl
 
-core_valid : (spaces : Option ℕ) (node : FlowNode) (rest : List ℕ) → IsFlowNode false spaces depth_limit node rest → IsFlowNode false spaces depth_limit (core node) rest
+core_valid : (spaces : Option ℕ) (node : FlowNode) (rest : List ℕ) → IsFlowNode false spaces depth_limit node rest → IsFlowNode false spaces depth_limit (without_anchor node) rest
 unfolding IsFlowNode
 core_valid spaces empty rest h = h
 core_valid spaces (alias n) rest h = h
@@ -204,7 +205,7 @@ some_bare ss (scalar p) rest w e = refl
 some_bare ss (coll k g is) rest w e = refl
 some_bare ss (anchored n g node) rest w e = refl
 
-core_text : (node : FlowNode) → (anchor_cut node).2 ≡ node_text (core node) []
+core_text : (node : FlowNode) → (anchor_cut node).2 ≡ node_text (without_anchor node) []
 unfolding node_text
 core_text empty = refl
 core_text (alias n) = refl
@@ -222,11 +223,11 @@ record HasColl (t : List ℕ) (ss : List Step) (w : CollPieces) : Type 0 where
 content_coll : (n : ℤ) (x : Content) (ss : List Step) (w : CollPieces) → IsContent n x [] → content_flow ss x [] ≡ Some w → HasColl ((content_cut x).3 ++ ((content_cut x).4 ++ ((content_cut x).5 ++ []))) ss w
 content_coll n (Nothing tail) ss w h e = absurd (cc)
 content_coll n (Inline space node tail) ss w h e =
-    let found : coll_along ss (core node) (tail ++ []) ≡ Some w = sym (core_coll ss node (tail ++ [])) ∙ e in
+    let found : coll_along ss (without_anchor node) (tail ++ []) ≡ Some w = sym (core_coll ss node (tail ++ [])) ∙ e in
     record {
-      at = record { place = Block; indent = n; around = 0; node = core node; rest = tail ++ []; steps = ss; coll = w };
-      stands = record { inline = record { valid = core_valid (Some (deeper n)) node (tail ++ []) h.1.valid; something = some_bare ss (core node) (tail ++ []) w found }; found = found };
-      node_is = ap (λ (l : List ℕ). l ++ (tail ++ [])) (core_text node) ∙ sym (node_then (core node) (tail ++ []));
+      at = record { place = Block; indent = n; around = 0; node = without_anchor node; rest = tail ++ []; steps = ss; coll = w };
+      stands = record { inline = record { valid = core_valid (Some (deeper n)) node (tail ++ []) h.1.valid; something = some_bare ss (without_anchor node) (tail ++ []) w found }; found = found };
+      node_is = ap (λ (l : List ℕ). l ++ (tail ++ [])) (core_text node) ∙ sym (node_then (without_anchor node) (tail ++ []));
       coll_is = refl;
     }
 content_coll n (rows.Block space anchor block) ss w h e = absurd (cc)

@@ -12,10 +12,11 @@ use Rattle.yq_outline.proofs.PlaceLaws.{at}
 use Rattle.yq_places.proofs.RowPathLaws.{found_place}
 use Rattle.yq_core.specs.Paths.{Step, is_here, further}
 use Rattle.yq_core.specs.Tree as tree
+use Rattle.yq_core.specs.Tree.{key_label}
 use Rattle.yq_core.specs.Entries.{EntryPieces, entry_pieces_at, path_inside}
 use Rattle.yq_core.specs.Entries as entries
 use Rattle.yq_core.specs.Nodes.{bare, FlowNode, empty, alias, scalar, coll, anchored, Items, none, item, key_text, sep_text, opening_bracket, node_text, flow_items_text, IsFlowNode}
-use Rattle.yq_core.specs.Trees.{inner, key_content, tree_of, items_tree, tree_collection, with_name, node_head}
+use Rattle.yq_core.specs.Trees.{key_content, tree_of, items_tree, tree_collection, with_name, node_head}
 use Rattle.yq_core.proofs.PathLaws.{path_holds}
 use Rattle.yq_row_table.specs.Rows.{Content, Nothing, Inline, Block}
 use Rattle.yq_outline.specs.Lines.{head_of}
@@ -46,7 +47,7 @@ then_same f g u v h1 o = search rules
 
 pub in_pieces : (k : ℕ) (s : Step) (before : List ℕ) (is : Items) (behind : List ℕ) → option_map pieces (flow_in k s before is behind) ≡ entries.item_at k s is behind
 in_pieces k s before none behind = refl
-in_pieces k s before (item key n sep is) behind = go (is_here s (inner (key_content key))) (in_pieces k (further s) (before ++ key_text key (node_text n (sep_text sep []))) is behind)
+in_pieces k s before (item key n sep is) behind = go (is_here s (key_label (key_content key))) (in_pieces k (further s) (before ++ key_text key (node_text n (sep_text sep []))) is behind)
   where
     go : (b : Bool) → option_map pieces (flow_in k (further s) (before ++ key_text key (node_text n (sep_text sep []))) is behind) ≡ entries.item_at k (further s) is behind →
         option_map pieces (cond b (Some (record { before = before; key = key; node = n; behind = sep_text sep (flow_items_text k is behind) })) (flow_in k (further s) (before ++ key_text key (node_text n (sep_text sep []))) is behind)) ≡
@@ -66,15 +67,15 @@ at_pieces (s ∷ ss) x =
 
 -- the item or entry at a path in another, by its key and node
 abbrev pub flow_label : FlowEntry → Labelled
-flow_label x = (inner (key_content x.key), tree_of x.node)
+flow_label x = (key_label (key_content x.key), tree_of x.node)
 
 in_labels : (k : ℕ) (s : Step) (before : List ℕ) (is : Items) (behind : List ℕ) → labelled_at s (items_tree is) ≡ option_map flow_label (flow_in k s before is behind)
 unfolding items_tree
 in_labels k s before none behind = refl
-in_labels k s before (item key n sep is) behind = go (is_here s (inner (key_content key))) (in_labels k (further s) (before ++ key_text key (node_text n (sep_text sep []))) is behind)
+in_labels k s before (item key n sep is) behind = go (is_here s (key_label (key_content key))) (in_labels k (further s) (before ++ key_text key (node_text n (sep_text sep []))) is behind)
   where
     go : (b : Bool) → labelled_at (further s) (items_tree is) ≡ option_map flow_label (flow_in k (further s) (before ++ key_text key (node_text n (sep_text sep []))) is behind) →
-        cond b (Some (inner (key_content key), tree_of n)) (labelled_at (further s) (items_tree is)) ≡
+        cond b (Some (key_label (key_content key), tree_of n)) (labelled_at (further s) (items_tree is)) ≡
         option_map flow_label (cond b (Some (record { before = before; key = key; node = n; behind = sep_text sep (flow_items_text k is behind) })) (flow_in k (further s) (before ++ key_text key (node_text n (sep_text sep []))) is behind))
     go b h1 = search rules
 

@@ -6,12 +6,12 @@ use Rattle.std.specs.Prelude.{is_some}
 use Rattle.yq_core.specs.Paths.{Step}
 use Rattle.yq_core.specs.Tree as tree
 use Rattle.yq_core.specs.Entries.{parts_of, placed_entry_at}
-use Rattle.yq_core.specs.Nodes.{FlowNode}
+use Rattle.yq_core.specs.Nodes.{FlowNode, without_anchor}
 use Rattle.yq_core.specs.Places.{Placed, locate}
 use Rattle.yq_row_table.specs.Exchange.{behind_row}
 use Rattle.yq_row_table.specs.Rows.{Content, Row, Cut, cut_text}
 use Rattle.yq_places.specs.EntryReading.{inline_node, flow_entry, entry_within}
-use Rattle.yq_documents.specs.FlowReading.{alias_or_collection, core, content_core, row_flow}
+use Rattle.yq_documents.specs.FlowReading.{alias_or_collection, content_core, row_flow}
 use Rattle.yq_outline.specs.Lines.{tail_of, lines_of_rows}
 use Rattle.yq_outline.specs.Outline.{LineMark, Dash, Line, Outline, end, row}
 use Rattle.yq_outline.specs.Places.{here, FoundLine, find_row, place_inside, bare_or, in_head, find}
@@ -60,11 +60,11 @@ pub mark_row_line : (rs : List Row) (n : ℕ) (l : Line) → slice_get (lines_of
 mark_row_line rs n l e takes = search (rules, row_line_found, cases_lt)
 
 -- the items and entries of a node are those behind its anchor
-core_parts : (total : ℕ) (node : FlowNode) (rest : List ℕ) → parts_of (locate total (core node) rest) ≡ parts_of (locate total node rest)
+core_parts : (total : ℕ) (node : FlowNode) (rest : List ℕ) → parts_of (locate total (without_anchor node) rest) ≡ parts_of (locate total node rest)
 unfolding locate
 core_parts total node rest = search rules
 
-core_is : (x : Content) → content_core x ≡ core (inline_node x)
+core_is : (x : Content) → content_core x ≡ without_anchor (inline_node x)
 core_is x = search rules
 
 -- only aliases and flow collections have items or entries

@@ -8,7 +8,8 @@ use Rattle.yq_core.specs.Entries.{PlacedEntry, EntryPieces, parts_of, flow_part_
 use Rattle.yq_core.specs.Nodes.{Key, bare, empty, node_text, key_text}
 use Rattle.yq_core.specs.Places.{Placed, Parts, end, part, key_placed, locate}
 use Rattle.yq_core.specs.Spans.{IsSpan, HasKeySpan, HasSpans, PartsHaveSpans}
-use Rattle.yq_core.specs.Trees.{inner, unplaced_key}
+use Rattle.yq_core.specs.Trees.{unplaced_key}
+use Rattle.yq_core.specs.Tree.{key_label}
 use Rattle.yq_core.proofs.NodeAgain.{node_longer}
 use Rattle.yq_core.proofs.PathLaws.{path_places}
 use Rattle.yq_core.proofs.EditPlaces.{start_placed, end_placed}
@@ -29,7 +30,7 @@ parts_spans t p h1 = search rules
 
 part_spans : (t : List ℕ) (s : Step) (ps : Parts) (e : PlacedEntry) → PartsHaveSpans t ps → flow_part_at s ps ≡ Some e → EntrySpans t e
 part_spans t s end e h is = absurd (cc)
-part_spans t s (part key n ps) e h is = go (is_here s (inner (unplaced_key key))) (λ again. part_spans t (further s) ps e h.2 again) is
+part_spans t s (part key n ps) e h is = go (is_here s (key_label (unplaced_key key))) (λ again. part_spans t (further s) ps e h.2 again) is
   where
     go : (b : Bool) → (flow_part_at (further s) ps ≡ Some e → EntrySpans t e) → cond b (Some (key, n)) (flow_part_at (further s) ps) ≡ Some e → EntrySpans t e
     go b h1 h2 = search (rules, same_Some)

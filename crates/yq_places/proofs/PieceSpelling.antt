@@ -6,6 +6,7 @@ use Rattle.yq_core.specs.Answers.{◌>>=◌}
 use Rattle.yq_core.specs.Block.{IsBlock}
 use Rattle.yq_core.specs.Paths.{Step, node_at}
 use Rattle.yq_core.specs.Tree as tree
+use Rattle.yq_core.specs.Tree.{plain_label}
 use Rattle.yq_core.proofs.Bools.{bind_some, guard_then}
 use Rattle.yq_core.specs.Entries.{path_inside}
 use Rattle.yq_core.specs.Nodes.{FlowNode, node_text, empty, alias, scalar, coll, anchored, IsFlowNode}
@@ -19,7 +20,7 @@ use Rattle.yq_outline.specs.Group.{group, level_or, is_fine}
 use Rattle.yq_outline.specs.Lines.{head_of, lines_of_rows}
 use Rattle.yq_outline.specs.Labelled.{Labelled, labelled_from}
 use Rattle.yq_outline.proofs.LabelPaths.{FoundEntry, path_entry}
-use Rattle.yq_documents.specs.Located.{steps_of, document_at, labelled_located, located, unlabelled}
+use Rattle.yq_documents.specs.Located.{steps_of, document_at, labelled_located, located}
 use Rattle.yq_outline.specs.Outline as outlines
 use Rattle.yq_outline.specs.Outline.{LineMark, Line, level, Outline, end, row, flatten, IsEven, first_anchor, head_or, value}
 use Rattle.yq_outline.specs.Places.{FoundLine, find}
@@ -165,7 +166,7 @@ part_spells s parts.LineComment (t ∷ ts) e f x h head even is = absurd (none-s
 
 -- a document
 steps_spell : (part : WhichPart) (y : Step) (ys : List Step) (s : PrintedDocument) (x : TextPiece) → ArePrinted s.lines s.behind → is_fine (group (map line_in s.lines)) ≡ true →
-    (find y ys (group (map line_in s.lines)) >>= λ f. found_entry s f.0 >>= piece_in_entry part f.1) ≡ Some x → Spelled s part x (labelled_from (y ∷ ys) (unlabelled, value (group (map line_in s.lines))))
+    (find y ys (group (map line_in s.lines)) >>= λ f. found_entry s f.0 >>= piece_in_entry part f.1) ≡ Some x → Spelled s part x (labelled_from (y ∷ ys) (plain_label, value (group (map line_in s.lines))))
 steps_spell part y ys s x as_printed fine is =
     let f = bind_some (find y ys (group (map line_in s.lines))) is in
     let e = bind_some (found_entry s f.0.0) f.2 in
@@ -177,7 +178,7 @@ steps_spell part y ys s x as_printed fine is =
     head rest h1 = search (rules, head_there)
 
 pub document_spells : (part : WhichPart) (ss : List Step) (s : PrintedDocument) (x : TextPiece) → ArePrinted s.lines s.behind → is_fine (group (map line_in s.lines)) ≡ true → piece_in part ss s ≡ Some x →
-    Spelled s part x (labelled_from ss (unlabelled, value (group (map line_in s.lines))))
+    Spelled s part x (labelled_from ss (plain_label, value (group (map line_in s.lines))))
 document_spells parts.Content [] s x as_printed fine is =
     let whole : IsIn s s.before s.lines s.behind = record { above = []; below = []; lines = sym (append-nil s.lines); start = sym (append-nil s.before); stop = refl } in
     let even = even_from (level_or 0 (group (map line_in s.lines))) (group (map line_in s.lines)) fine in
@@ -202,7 +203,7 @@ by_part part t c p s x read there is =
 located_is : (p : Path) (t : List ℕ) → option_map (λ x. x.1) (labelled_located p t) ≡ located p t
 located_is p t = go (document_at t p.doc)
   where
-    go : (o : Option Document) → option_map (λ x. x.1) (option_and_then (λ d. labelled_from (steps_of p) (unlabelled, d.root)) o) ≡ option_and_then (λ d. node_at (steps_of p) d.root) o
+    go : (o : Option Document) → option_map (λ x. x.1) (option_and_then (λ d. labelled_from (steps_of p) (plain_label, d.root)) o) ≡ option_and_then (λ d. node_at (steps_of p) d.root) o
     go o = search (rules, labelled_path)
 
 pub contents_spell : ContentsSpell

@@ -10,7 +10,8 @@ use Rattle.yq_core.specs.Text.{cut, front, ends_line, is_empty, joined, text_lin
 use Rattle.yq_core.proofs.LineLaws.{joined_lines}
 use Rattle.yq_core.proofs.Bools.{bind_some, guard_then}
 use Rattle.yq_core.specs.Nodes.{FlowNode, empty, alias, scalar, coll, anchored, Items, none, item, key_text, sep_text, opening_bracket, node_text, flow_items_text}
-use Rattle.yq_core.specs.Trees.{inner, key_content}
+use Rattle.yq_core.specs.Trees.{key_content}
+use Rattle.yq_core.specs.Tree.{key_label}
 use Rattle.yq_core.proofs.NodesWrittenLaws.{key_append, sep_append, node_append, node_then}
 use Rattle.yq_core.proofs.PathLaws.{then_some}
 use Rattle.yq_row_table.specs.Rows.{Content, content_text, Cut, cut_text}
@@ -90,7 +91,7 @@ value_whole x p e = node_whole (x.before ++ key_text x.key []) x.node x.behind p
 items_whole : (k : ℕ) (s : Step) (before : List ℕ) (is : Items) (behind : List ℕ) (x : FlowEntry) → flow_in k s before is behind ≡ Some x → item_text x ≡ before ++ flow_items_text k is behind
 unfolding flow_items_text
 items_whole k s before none behind x e = absurd (none-some _ e)
-items_whole k s before (item key n sep is) behind x e = go (is_here s (inner (key_content key))) (λ h. items_whole k (further s) (before ++ key_text key (node_text n (sep_text sep []))) is behind x h) e
+items_whole k s before (item key n sep is) behind x e = go (is_here s (key_label (key_content key))) (λ h. items_whole k (further s) (before ++ key_text key (node_text n (sep_text sep []))) is behind x h) e
   where
     tail : List ℕ
     tail = flow_items_text k is behind

@@ -3,7 +3,8 @@ use Rattle.std.specs.Prelude.{ℕ, suc, List, [], ◌∷◌, ◌++◌, length, t
 use Rattle.yq_core.specs.Answers.{◌>>=◌}
 use Rattle.yq_core.specs.Paths.{Step, is_here, further}
 use Rattle.yq_core.specs.Nodes.{Key, bare, FlowNode, empty, alias, scalar, coll, anchored, Items, none, item, key_text, sep_text, opening_bracket, node_text, flow_items_text}
-use Rattle.yq_core.specs.Trees.{inner, key_content}
+use Rattle.yq_core.specs.Trees.{key_content}
+use Rattle.yq_core.specs.Tree.{key_label}
 use Rattle.yq_row_table.specs.Rows.{Content, Nothing, Inline, Block, Cut}
 use Rattle.yq_documents.specs.declared.path.Part.{Part}
 use Rattle.yq_documents.specs.declared.path.Path.{Path}
@@ -44,7 +45,7 @@ pub record FlowEntry : Type 0 where
 abbrev pub flow_in : ℕ → Step → List ℕ → Items → List ℕ → Option FlowEntry
 flow_in k s before none behind = None
 flow_in k s before (item key n sep is) behind =
-    if is_here s (inner (key_content key)) then Some (record { before = before; key = key; node = n; behind = sep_text sep (flow_items_text k is behind) })
+    if is_here s (key_label (key_content key)) then Some (record { before = before; key = key; node = n; behind = sep_text sep (flow_items_text k is behind) })
     else flow_in k (further s) (before ++ key_text key (node_text n (sep_text sep []))) is behind
 
 -- the same in an inline node between two texts (7.4)

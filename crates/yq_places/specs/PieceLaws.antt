@@ -4,8 +4,9 @@ use Rattle.yq_core.specs.declared.kind.Kind.TheVariants.{Text}
 use Rattle.yq_core.specs.Block.{BlockText, block_text, IsBlock}
 use Rattle.yq_core.specs.BlockContent.{block_content}
 use Rattle.yq_core.specs.Tree as tree
+use Rattle.yq_core.specs.Tree.{key_label}
 use Rattle.yq_core.specs.Nodes.{Key, key_text, FlowNode, node_text, IsFlowNode}
-use Rattle.yq_core.specs.Trees.{tree_of, inner, key_content, node_anchor}
+use Rattle.yq_core.specs.Trees.{tree_of, key_content, node_anchor}
 use Rattle.yq_row_table.specs.Rows.{Part as Rows, Cut}
 use Rattle.yq_documents.specs.declared.path.Part.{Part}
 use Rattle.yq_documents.specs.declared.path.Part.TheVariants.{Content, Entry}
@@ -83,7 +84,7 @@ pub record IsFlowPiece (p : TextPiece) (n : Labelled) : Type 0 where
   pub node : FlowNode
   pub text : p.text ≡ key_text key (node_text node [])
   pub valid : (depth : ℕ) × IsFlowNode true (Some 0) depth node p.behind
-  pub label : n.0 ≡ inner (key_content key)
+  pub label : n.0 ≡ key_label (key_content key)
   pub tree : n.1 ≡ tree_of node
 
 -- The piece of an entry or item at a path spells the node there, with its key.

@@ -14,10 +14,9 @@ use Rattle.yq_core.specs.Numbers.{unsigned, minus}
 use Rattle.yq_core.specs.Paths.{To, child_at, change_child, append_child, append_children}
 use Rattle.yq_core.specs.SchemaReading.{resolve}
 use Rattle.yq_core.specs.Tree as tree
-use Rattle.yq_core.specs.Tree.{Node, Children, none, child}
+use Rattle.yq_core.specs.Tree.{Node, Children, none, child, key_label}
 use Rattle.yq_core.specs.declared.kind.Kind.TheVariants as kinds
 use Rattle.yq_core.proofs.SchemaLaws.{resolve_again}
-use Rattle.yq_documents.specs.TreeEdits.{new_label}
 use Rattle.yq_planner.specs.EntryNumbers.{entry_number, number_kept}
 use Rattle.yq_semantics.specs.Judgement.{Judgement, and_then, gives, refuses}
 use Rattle.yq_semantics.specs.Places.{Place, chained}
@@ -42,27 +41,27 @@ int_agrees z t fits e = e ∙ ap signed_decimal (to_z-of_z w64 z fits)
 -- ---- items and entries
 
 -- one item more
-pub item_more : (xs : List Node) (x : Node) (ds : Children) → append_children (items (xs ++ x ∷ [])) ds ≡ append_children (items xs) (child (new_label None) x ds)
+pub item_more : (xs : List Node) (x : Node) (ds : Children) → append_children (items (xs ++ x ∷ [])) ds ≡ append_children (items xs) (child (key_label None) x ds)
 item_more [] x ds = refl
-item_more (y ∷ xs) x ds = ap (child (new_label None) y) (item_more xs x ds)
+item_more (y ∷ xs) x ds = ap (child (key_label None) y) (item_more xs x ds)
 
 -- behind items there is nothing more
 pub followed_none : (cs : Children) → append_children cs none ≡ cs
 followed_none none = refl
 followed_none (child label n cs) = ap (child label n) (followed_none cs)
 
-item_last : (xs : List Node) (x : Node) → items (xs ++ x ∷ []) ≡ append_children (items xs) (child (new_label None) x none)
+item_last : (xs : List Node) (x : Node) → items (xs ++ x ∷ []) ≡ append_children (items xs) (child (key_label None) x none)
 item_last xs x = sym (followed_none (items (xs ++ x ∷ []))) ∙ item_more xs x none
 
 -- a value that is no list is one item
-pub one_item : (xs : List Node) (x v m : Node) → x ≡ m → v ≡ m → as_items m ≡ child (new_label None) m none → items (xs ++ x ∷ []) ≡ append_children (items xs) (as_items v)
+pub one_item : (xs : List Node) (x v m : Node) → x ≡ m → v ≡ m → as_items m ≡ child (key_label None) m none → items (xs ++ x ∷ []) ≡ append_children (items xs) (as_items v)
 one_item xs x v m a b one =
     ap (λ (y : Node). items (xs ++ y ∷ [])) a ∙ (item_last xs m ∙ ap (append_children (items xs)) (sym one ∙ ap as_items (sym b)))
 
 -- an entry behind others
-pub entry_last : (k : List ℕ) (v : Node) (es : List (List ℕ × Node)) → append_child (new_label (Some k)) v (entries es) ≡ entries (es ++ (k, v) ∷ [])
+pub entry_last : (k : List ℕ) (v : Node) (es : List (List ℕ × Node)) → append_child (key_label (Some k)) v (entries es) ≡ entries (es ++ (k, v) ∷ [])
 entry_last k v [] = refl
-entry_last k v (e ∷ es) = ap (child (new_label (Some e.0)) e.1) (entry_last k v es)
+entry_last k v (e ∷ es) = ap (child (key_label (Some e.0)) e.1) (entry_last k v es)
 
 mapped_none : {A B : Type 0} (f : A → B) (o : Option A) → option_map f o ≡ None → o ≡ None
 mapped_none f None h = refl
@@ -110,12 +109,12 @@ changed_there k (e ∷ es) zero j v d h is = search (rules, mapped_some, set)
 changed_there k (e ∷ es) (suc i) j v d h is = go (bytes_eq e.0 k) (λ g. changed_there k es i j v d g is) h
   where
     go : (b : Bool) → (entry_number k es ≡ Some i → change_child (To k) (λ old. v) (entries es) ≡ entries (set es i (j, v))) → cond b (Some 0) (option_map suc (entry_number k es)) ≡ Some (suc i)
-        → cond b (child (new_label (Some e.0)) v (entries es)) (child (new_label (Some e.0)) e.1 (change_child (To k) (λ old. v) (entries es))) ≡ child (new_label (Some e.0)) e.1 (entries (set es i (j, v)))
+        → cond b (child (key_label (Some e.0)) v (entries es)) (child (key_label (Some e.0)) e.1 (change_child (To k) (λ old. v) (entries es))) ≡ child (key_label (Some e.0)) e.1 (entries (set es i (j, v)))
     go true rest h = absurd (cc)
     go false rest h =
         let n = mapped_some (entry_number k es) (suc i) h in
         let same : n.0 ≡ i = omega (arith, n.2) in
-        ap (child (new_label (Some e.0)) e.1) (rest (n.1 ∙ ap Some same))
+        ap (child (key_label (Some e.0)) e.1) (rest (n.1 ∙ ap Some same))
 
 -- a value for a key that is there
 pub with_present : (k : List ℕ) (es : List (List ℕ × Node)) (i : ℕ) (j : List ℕ) (v : Node) (d : List ℕ × Node) → entry_number k es ≡ Some i → (get_or es i d).0 ≡ j → with_entry (Some k) v (entries es) ≡ entries (set es i (j, v))

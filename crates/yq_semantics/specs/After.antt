@@ -1,9 +1,9 @@
 -- What operations make of documents (own).
 use Rattle.std.specs.Prelude.{ℕ, Bool, List, [], ◌∷◌}
 use Rattle.yq_core.specs.Paths.{relabel_child, remove_child, append_child, within, changed_at}
-use Rattle.yq_core.specs.Tree.{Node}
+use Rattle.yq_core.specs.Tree.{Node, key_label}
 use Rattle.yq_documents.specs.Documents.{Document}
-use Rattle.yq_documents.specs.TreeEdits.{change_nth, replaced_node, at_end, new_label, with_line_comment, with_head_comment, led, with_tree}
+use Rattle.yq_documents.specs.TreeEdits.{change_nth, replaced_node, at_end, with_line_comment, with_head_comment, led, with_tree}
 use Rattle.yq_semantics.specs.Changes.{Room}
 use Rattle.yq_semantics.specs.Meaning.{head_comment_lines, line_comment_text}
 use Rattle.yq_semantics.specs.Operations.{Operation, replace, append, remove, line_comment, head_comment}
@@ -11,7 +11,7 @@ use Rattle.yq_semantics.specs.Operations.{Operation, replace, append, remove, li
 -- what an operation makes of a root, where a document has such a lead (own)
 abbrev pub root_after : Bool → List (List ℕ) → Operation → Node → Node
 root_after block lead (replace doc path v) n = changed_at path (replaced_node (led block lead path v)) n
-root_after block lead (append doc path k v) n = changed_at path (within (append_child (new_label k) v)) n
+root_after block lead (append doc path k v) n = changed_at path (within (append_child (key_label k) v)) n
 root_after block lead (remove doc path) n = at_end remove_child path n
 root_after block lead (line_comment doc path text) n = at_end (λ s. relabel_child s (with_line_comment (line_comment_text text))) path n
 root_after block lead (head_comment doc path text) n = at_end (λ s. relabel_child s (with_head_comment (head_comment_lines text))) path n

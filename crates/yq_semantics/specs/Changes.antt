@@ -9,7 +9,7 @@ use Rattle.yq_core.specs.Paths as paths
 use Rattle.yq_core.specs.Paths.{To, child_at, node_at}
 use Rattle.yq_core.specs.Scalar.{string_of}
 use Rattle.yq_core.specs.Tree as tree
-use Rattle.yq_core.specs.Tree.{Node, alias, scalar, list, Children, none, child, children_of}
+use Rattle.yq_core.specs.Tree.{Node, alias, scalar, list, Children, none, child, children_of, key_label}
 use Rattle.yq_core.specs.Inline.{depth_limit}
 use Rattle.yq_core.specs.NodesWritten.{scalar_text}
 use Rattle.yq_row_table.specs.Grammar.{key_limit}
@@ -23,7 +23,6 @@ use Rattle.yq_semantics.specs.Program.{is_index, PathStep, key, index, each, Sta
 use Rattle.yq_semantics.specs.Pipes.{places}
 use Rattle.yq_semantics.specs.Places.{Place, root_place, for_each}
 use Rattle.yq_semantics.specs.RightValues.{is_null, as_items, sum, right_value}
-use Rattle.yq_documents.specs.TreeEdits.{new_label}
 
 -- what a collection gets: one item or entry more, or a new value for a key that it has (own)
 pub data Addition : Type 0 where
@@ -51,7 +50,7 @@ pub record Room : Type 0 where
 -- a value under missing keys, a mapping of one entry for each (own)
 abbrev pub nested : List PathStep → Node → Node
 nested [] v = v
-nested (key k ∷ ms) v = tree.map None (child (new_label (Some k)) (nested ms v) none)
+nested (key k ∷ ms) v = tree.map None (child (key_label (Some k)) (nested ms v) none)
 nested (index i ∷ ms) v = nested ms v
 nested (each ∷ ms) v = nested ms v
 

@@ -3,9 +3,10 @@ use Rattle.std.specs.Prelude.{◌≡◌, ⊤, ℕ, suc, ◌==◌, Bool, List, []
 use Rattle.yq_core.specs.Paths as paths
 use Rattle.yq_core.specs.Paths.{To, change_child, append_child, within}
 use Rattle.yq_core.specs.Shapes.{IsTree}
-use Rattle.yq_core.specs.Tree.{Node, Children, children_of}
+use Rattle.yq_core.specs.Tree.{Node, Children, children_of, key_label}
+use Rattle.yq_core.specs.Text.{put_byte}
 use Rattle.yq_documents.specs.Documents.{Document}
-use Rattle.yq_documents.specs.TreeEdits.{replaced_node, new_label, led, lead_by, with_tree}
+use Rattle.yq_documents.specs.TreeEdits.{replaced_node, led, lead_by, with_tree}
 use Rattle.yq_semantics.specs.declared.program.CommentPlace.{CommentPlace}
 use Rattle.yq_semantics.specs.declared.program.CommentPlace.TheVariants as comments
 use Rattle.yq_semantics.specs.Changes as changes
@@ -17,7 +18,7 @@ use Rattle.yq_semantics.specs.Program.{Update}
 
 -- items or entries with an addition (own)
 abbrev pub add_to : Addition → Children → Children
-add_to (appends k v) cs = append_child (new_label k) v cs
+add_to (appends k v) cs = append_child (key_label k) v cs
 add_to (overwrites k v) cs = change_child (To k) (replaced_node v) cs
 
 -- a collection with additions, one after the other (own)
@@ -25,15 +26,10 @@ abbrev pub add_all : List Addition → Node → Node
 add_all [] n = n
 add_all (x ∷ xs) n = add_all xs (within (add_to x) n)
 
--- a text, before the first of others (own)
-abbrev pub onto_first : ℕ → List (List ℕ) → List (List ℕ)
-onto_first c [] = (c ∷ []) ∷ []
-onto_first c (t ∷ ts) = (c ∷ t) ∷ ts
-
 -- the lines of a text that isn't empty, parted by LF (own)
 abbrev pub lines_parted : List ℕ → List (List ℕ)
 lines_parted [] = [] ∷ []
-lines_parted (c ∷ cs) = if c == 10 then [] ∷ lines_parted cs else onto_first c (lines_parted cs)
+lines_parted (c ∷ cs) = if c == 10 then [] ∷ lines_parted cs else put_byte c (lines_parted cs)
 
 -- the lines of a head comment with that text: none of the empty one (own)
 abbrev pub head_comment_lines : List ℕ → List (List ℕ)

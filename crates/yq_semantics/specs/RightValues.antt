@@ -6,7 +6,7 @@ use Rattle.yq_core.specs.declared.kind.Kind.TheVariants as kinds
 use Rattle.yq_core.specs.Numbers.{is_i64}
 use Rattle.yq_core.specs.Paths.{To, child_at, change_child, append_child, append_children}
 use Rattle.yq_core.specs.SchemaReading.{int_value}
-use Rattle.yq_core.specs.Tree.{Node, alias, scalar, list, map, Children, none, child}
+use Rattle.yq_core.specs.Tree.{Node, alias, scalar, list, map, Children, none, child, key_label}
 use Rattle.yq_outline.specs.Outline.{null_node}
 use Rattle.yq_semantics.specs.declared.refusal.Refusal.TheVariants.{NotOneValue, KindMismatch, IntegerRange, FloatArithmetic}
 use Rattle.yq_semantics.specs.Judgement.{Judgement, and_then, gives, refuses}
@@ -14,7 +14,6 @@ use Rattle.yq_semantics.specs.Program.{Term, literal, found}
 use Rattle.yq_semantics.specs.Copies.{copy_at}
 use Rattle.yq_semantics.specs.Pipes.{pipe_on}
 use Rattle.yq_semantics.specs.Places.{Place}
-use Rattle.yq_documents.specs.TreeEdits.{new_label}
 
 -- whether a node is null (YAML 1.2.2, section 10.2.1.1)
 abbrev pub is_null : Node → Bool
@@ -41,15 +40,15 @@ scalar_sum kind t other u = refuses KindMismatch
 
 -- what a list gets from a value: the items of a list, or the value as one item (own)
 abbrev pub as_items : Node → Children
-as_items (alias name) = child (new_label None) (alias name) none
-as_items (scalar anchor kind text) = child (new_label None) (scalar anchor kind text) none
+as_items (alias name) = child (key_label None) (alias name) none
+as_items (scalar anchor kind text) = child (key_label None) (scalar anchor kind text) none
 as_items (list anchor cs) = cs
-as_items (map anchor cs) = child (new_label None) (map anchor cs) none
+as_items (map anchor cs) = child (key_label None) (map anchor cs) none
 
 -- entries with a value for a key: a present key's value is replaced, a new key goes last (own)
 abbrev pub with_entry : Option (List ℕ) → Node → Children → Children
-with_entry None v cs = append_child (new_label None) v cs
-with_entry (Some k) v cs = if is_some (child_at (To k) cs) then change_child (To k) (λ old. v) cs else append_child (new_label (Some k)) v cs
+with_entry None v cs = append_child (key_label None) v cs
+with_entry (Some k) v cs = if is_some (child_at (To k) cs) then change_child (To k) (λ old. v) cs else append_child (key_label (Some k)) v cs
 
 -- entries with those of others, one after the other (own)
 abbrev pub with_entries : Children → Children → Children

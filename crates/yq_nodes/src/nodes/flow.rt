@@ -1,11 +1,11 @@
 //! Nodes in flow collections.
 ghost use Rattle.std.specs.Prelude.{◌≡◌, Some, None, option_map};
-ghost use Rattle.yq_core.specs.Trees.{inner, parts_tree, placed_tree};
+ghost use Rattle.yq_core.specs.Trees.{parts_tree, placed_tree};
 ghost use Rattle.yq_core.specs.View.{entries_end, items_end, inline_view};
 ghost use Rattle.yq_core.specs.Paths.{To, Nth};
+ghost use Rattle.yq_core.specs.Tree.{anchor_of, key_label};
 ghost use Rattle.yq_outline.specs.Labelled.{labelled_at};
 ghost use Rattle.yq_nodes.specs.Nodes as spec;
-ghost use Rattle.yq_documents.specs.TreeEdits.{anchor_of};
 ghost use Rattle.yq_outline.specs.Outline.{anchored};
 ghost use Rattle.yq_outline.specs.Outline as outline;
 ghost use Rattle.yq_outline.specs.Bodies.{borrowed};
@@ -68,7 +68,7 @@ pub(crate) fn inline_anchor<'t>(before: Option<&'t str>, node: &Inline<'t>) -> O
 
 /// The item of an index.
 pub(crate) fn item_at<'d, 't>(items: &'d [Inline<'t>], index: usize) -> Option<&'d Inline<'t>>
-    ensures { option_map (λ n. (inner None, placed_tree (inline_view n.now))) result ≡
+    ensures { option_map (λ n. (key_label None, placed_tree (inline_view n.now))) result ≡
         labelled_at (Nth index) (parts_tree (items_end items.now)) }
 {
     match items.get(index) {
@@ -82,8 +82,8 @@ pub(crate) fn entry_at<'d, 't>(
     entries: &'d [(String, Piece, Inline<'t>)],
     key: &str,
 ) -> Option<(&'d str, &'d Inline<'t>)>
-    ensures { option_map (λ e. (inner (Some e.0.now), placed_tree (inline_view e.1.now))) result ≡
-        labelled_at (To key.now) (parts_tree (entries_end entries.now)) }
+    ensures { option_map (λ e. (key_label (Some e.0.now), placed_tree (inline_view e.1.now)))
+        result ≡ labelled_at (To key.now) (parts_tree (entries_end entries.now)) }
 {
     'each: for entry in entries {
         if entry.0.as_str() == key {

@@ -3,16 +3,16 @@ ghost use Rattle.std.specs.List.{list_any};
 ghost use Rattle.std.specs.Prelude.{◌≡◌, ◌<◌, false, length, Some};
 ghost use Rattle.yq_core.specs.Anchors.{names_of};
 ghost use Rattle.yq_outline.specs.Names.{is_reference};
-ghost use Rattle.yq_core.specs.Trees.{inner, placed_tree};
+ghost use Rattle.yq_core.specs.Trees.{placed_tree};
 ghost use Rattle.yq_core.specs.View as inline;
+ghost use Rattle.yq_core.specs.Tree.{anchor_of, key_label, plain_label};
 ghost use Rattle.yq_outline.specs.Bodies.{borrowed};
 ghost use Rattle.yq_outline.specs.Outline.{label};
 ghost use Rattle.yq_outline.specs.Places.{content_under};
 ghost use Rattle.yq_nodes.specs.Bodies.{body_node};
 ghost use Rattle.yq_documents.specs.Documents.{Document};
-ghost use Rattle.yq_documents.specs.Located.{document_at, unlabelled};
+ghost use Rattle.yq_documents.specs.Located.{document_at};
 ghost use Rattle.yq_nodes.specs.Nodes as spec;
-ghost use Rattle.yq_documents.specs.TreeEdits.{anchor_of};
 ghost use Rattle.yq_documents.specs.Reading.{documents_of};
 ghost use Rattle.yq_documents.specs.Stretches.{IsLineIn, OfLineIn, lines_under};
 
@@ -86,7 +86,7 @@ impl<'d, 't> Node<'d, 't> {
         requires { i < length (documents_of text.now) }
         ensures node { (d : Document) → document_at text.now i ≡ Some d → spec.node_of result ≡
             d.root }
-        ensures label { spec.label_of result ≡ unlabelled }
+        ensures label { spec.label_of result ≡ plain_label }
     {
         let (_rows, stretch) = text.document_rows(i);
         let first = Position {
@@ -123,7 +123,7 @@ impl<'d, 't> Node<'d, 't> {
     #[tactic(auto, using(yq_outline::proofs::NodeLaws::anchored_none))]
     pub(crate) fn of_inline(key: Option<&'d str>, node: &'d Inline<'t>) -> Node<'d, 't>
         ensures node { spec.node_of result ≡ placed_tree (inline.inline_view node.now) }
-        ensures label { spec.label_of result ≡ inner (borrowed key.entry) }
+        ensures label { spec.label_of result ≡ key_label (borrowed key.entry) }
     {
         let named = Named {
             anchor: None,

@@ -2,7 +2,7 @@
 use Rattle.std.proofs.Common.{◌≡◌, ◌≢◌, ℕ, suc, Bool, true, false, cond, ◌||◌, List, [], ◌∷◌, ◌++◌, length, map, Option, Some, None, is_some, refl, sym, ap, subst, ◌∙◌, rules}
 use Rattle.std.specs.List.{list_any}
 use Rattle.yq_core.specs.Tree as tree
-use Rattle.yq_core.specs.Tree.{Node, list, Children, none, child}
+use Rattle.yq_core.specs.Tree.{Node, list, Children, none, child, key_label}
 use Rattle.yq_core.specs.Paths as paths
 use Rattle.yq_core.specs.Paths.{To, key_is, child_at, node_at, change_child, append_child}
 use Rattle.yq_core.specs.Anchors.{names_of}
@@ -13,7 +13,6 @@ use Rattle.yq_semantics.specs.Meaning.{add_to}
 use Rattle.yq_semantics.specs.Pipes.{places, select_on}
 use Rattle.yq_semantics.specs.Places.{Place, root_place, child_place, for_each, miss, step_there, step_on}
 use Rattle.yq_core.specs.Shapes.{IsNew, AreItems, AreEntries, IsTree, AreTrees}
-use Rattle.yq_documents.specs.TreeEdits.{new_label}
 use Rattle.yq_semantics.specs.Program.{PathStep, key, Condition, Stage}
 use Rattle.yq_semantics.proofs.JudgementLaws.{then_gives, gives_same}
 use Rattle.yq_semantics.proofs.ChildPlaces.{node_further}
@@ -85,12 +84,12 @@ pub list_fits : (root : Node) (p : List paths.Step) (a : Option (List ℕ)) (cs 
 list_fits root p a cs none items trees h = tt
 list_fits root p a cs (child label v ds) items trees h =
     subst (λ (o : Option (List ℕ)). Unrefused root p (addition none o v ∷ additions none ds) → FitAdds root p (list a cs) (addition none o v ∷ additions none ds)) (sym items.0)
-    (λ k. ((refl, (trees.0, (k0 k).0, (k0 k).1), (a, cs, refl)), list_fits root p a (append_child (new_label None) v cs) ds items.1 trees.1 (unrefused_rest root p (appends None v) (additions none ds) k))) h
+    (λ k. ((refl, (trees.0, (k0 k).0, (k0 k).1), (a, cs, refl)), list_fits root p a (append_child (key_label None) v cs) ds items.1 trees.1 (unrefused_rest root p (appends None v) (additions none ds) k))) h
   where
     k0 : Unrefused root p (appends None v ∷ additions none ds) → (has_long_key v ≡ false) × (is_deep (suc (length p)) v ≡ false)
     k0 k = ((or_parts (has_long_key v) (list_any writes_long_key (additions none ds)) k.0).0, (or_parts (is_deep (suc (length p)) v) (list_any (λ y. is_deep (suc (length p)) (value_in y)) (additions none ds)) k.1).0)
 
-other_append : (j k : List ℕ) (v : Node) (es : Children) → j ≢ k → child_at (To k) (append_child (new_label (Some j)) v es) ≡ child_at (To k) es
+other_append : (j k : List ℕ) (v : Node) (es : Children) → j ≢ k → child_at (To k) (append_child (key_label (Some j)) v es) ≡ child_at (To k) es
 other_append j k v none d = cond-false (key_is k (Some j)) (Some v) None (bytes_differ j k d)
 other_append j k v (child label n es) d = ap (λ (o : Option Node). cond (key_is k label.key) (Some n) o) (other_append j k v es d)
 

@@ -5,11 +5,10 @@ use Rattle.std.specs.Str.{chars}
 use Rattle.yq_core.specs.declared.kind.Kind.TheVariants as kinds
 use Rattle.yq_core.specs.Paths.{To}
 use Rattle.yq_core.specs.SchemaReading.{resolve, is_int, is_float}
-use Rattle.yq_core.specs.Tree.{Node, alias, scalar, list, map, Children, none, child}
+use Rattle.yq_core.specs.Tree.{Node, alias, scalar, list, map, Children, none, child, key_label}
 use Rattle.yq_core.specs.Writable.{can_write_plain}
 use Rattle.yq_core.specs.NodesWritten.{scalar_text}
 use Rattle.yq_documents.specs.Documents.{Document}
-use Rattle.yq_documents.specs.TreeEdits.{new_label}
 use Rattle.yq_semantics.specs.declared.program.CommentPlace.TheVariants as comments
 use Rattle.yq_semantics.specs.declared.program.Operator.TheVariants as operator
 use Rattle.yq_semantics.specs.declared.refusal.Refusal.TheVariants.{NotAMap, NotASequence, IndexOutOfRange, ThroughAlias, AnchorInUse, NotOneValue, KindMismatch, FloatArithmetic, NoPlaceForComment, BadCommentText, RootDelete}
@@ -20,10 +19,10 @@ use Rattle.yq_semantics.specs.Plans.{plan}
 use Rattle.yq_semantics.specs.Program.{key, index, each, Stage, path, literal, found, Update, assign, delete, comment}
 
 abbrev entry : List ℕ → Node → Children → Children
-entry k n cs = child (new_label (Some k)) n cs
+entry k n cs = child (key_label (Some k)) n cs
 
 abbrev item : Node → Children → Children
-item n cs = child (new_label None) n cs
+item n cs = child (key_label None) n cs
 
 abbrev one : Node
 one = scalar None kinds.Int (codes "1")

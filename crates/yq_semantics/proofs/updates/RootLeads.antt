@@ -3,7 +3,7 @@ use Rattle.std.proofs.Common.{◌≡◌, ◌≢◌, ℕ, ◌⊎◌, Bool, true, 
 use Rattle.std.proofs.lemmas.Bool.{cond_both}
 use mathlib.Core.List.{nil≢cons}
 use Rattle.yq_core.specs.Tree as tree
-use Rattle.yq_core.specs.Tree.{Label, Node, Children, none, child, children_of}
+use Rattle.yq_core.specs.Tree.{Label, Node, Children, none, child, children_of, key_label}
 use Rattle.yq_core.specs.Paths.{Step, To, is_here, further, change_child, relabel_child, append_child, within, changed_at}
 use Rattle.yq_documents.specs.Documents.{Document}
 use Rattle.yq_semantics.specs.declared.program.CommentPlace.TheVariants as comments
@@ -15,7 +15,7 @@ use Rattle.yq_semantics.specs.Operations.{Operation, replace, append, remove, li
 use Rattle.yq_semantics.specs.Plans.{add_op, change_ops, ops_of, ordered}
 use Rattle.yq_core.specs.PathOrder.{Before}
 use Rattle.yq_core.specs.Shapes.{IsTree}
-use Rattle.yq_documents.specs.TreeEdits.{replaced_node, at_end, with_line_comment, with_head_comment, lead_by, with_tree, new_label}
+use Rattle.yq_documents.specs.TreeEdits.{replaced_node, at_end, with_line_comment, with_head_comment, lead_by, with_tree}
 use Rattle.yq_semantics.specs.Changes as changes
 use Rattle.yq_semantics.proofs.updates.AtOnce.{one_more}
 use Rattle.yq_semantics.proofs.updates.Spares.{idle, spares_root}
@@ -71,8 +71,8 @@ end_keeps g (s ∷ (t ∷ p)) n h = within_keeps (change_child s (at_end (λ r. 
 op_keeps_some : (block : Bool) (lead : List (List ℕ)) (op : Operation) → KeepsSome op → (n : Node) → IsNone (children_of (root_after block lead op n)) → IsNone (children_of n)
 op_keeps_some block lead (replace doc [] v) l n h = absurd (nil≢cons l.2)
 op_keeps_some block lead (replace doc (s ∷ p) v) l n h = within_keeps (change_child s (changed_at p (replaced_node v))) (change_keeps s (changed_at p (replaced_node v))) n h
-op_keeps_some block lead (append doc [] k v) l n h = within_keeps (append_child (new_label k) v) (append_keeps (new_label k) v) n h
-op_keeps_some block lead (append doc (s ∷ p) k v) l n h = within_keeps (change_child s (changed_at p (within (append_child (new_label k) v)))) (change_keeps s (changed_at p (within (append_child (new_label k) v)))) n h
+op_keeps_some block lead (append doc [] k v) l n h = within_keeps (append_child (key_label k) v) (append_keeps (key_label k) v) n h
+op_keeps_some block lead (append doc (s ∷ p) k v) l n h = within_keeps (change_child s (changed_at p (within (append_child (key_label k) v)))) (change_keeps s (changed_at p (within (append_child (key_label k) v)))) n h
 op_keeps_some block lead (remove doc path) l n h = absurd l
 op_keeps_some block lead (line_comment doc path text) l n h = end_keeps (with_line_comment (line_comment_text text)) path n h
 op_keeps_some block lead (head_comment doc path text) l n h = end_keeps (with_head_comment (head_comment_lines text)) path n h

@@ -4,7 +4,7 @@ use Rattle.std.proofs.lemmas.Bool.{false≢true}
 use Rattle.std.proofs.lemmas.Option.{none-some}
 use Rattle.yq_core.specs.declared.kind.Kind.{Kind}
 use Rattle.yq_core.specs.Tree as tree
-use Rattle.yq_core.specs.Tree.{Label, Node, alias, scalar, list, Children, none, child}
+use Rattle.yq_core.specs.Tree.{Label, Node, alias, scalar, list, Children, none, child, key_label}
 use Rattle.yq_core.specs.Paths.{To, key_is, child_at, change_child, append_child, append_children}
 use Rattle.yq_semantics.specs.Judgement.{and_then, gives}
 use Rattle.yq_semantics.specs.Program.{SumHolds, PathStep, Term, literal, found}
@@ -16,7 +16,6 @@ use Rattle.yq_semantics.specs.Places.{Place}
 use Rattle.yq_semantics.specs.PlacesApart.{IsIn}
 use Rattle.yq_semantics.specs.RightValues.{is_null, scalar_sum, as_items, with_entry, with_entries, value_sum, sum, only_copy, term_value, sum_from, right_value}
 use Rattle.yq_core.specs.Shapes.{IsNew, AreItems, AreEntries, IsTree}
-use Rattle.yq_documents.specs.TreeEdits.{new_label}
 use Rattle.yq_semantics.proofs.JudgementLaws.{then_gives, gives_same}
 use Rattle.yq_semantics.proofs.GoodPlaces.{AreSound}
 use Rattle.yq_semantics.proofs.PathLaws.{bytes_refl}
@@ -44,10 +43,10 @@ pub items_items : (v : Node) → IsPure v → AreItems (as_items v)
 items_items v h1 = search rules
 
 pub items_free : (v : Node) → IsPure v → AreFree (as_items v)
-items_free (alias name) p = free_child (new_label None) (alias name) none p free_none
-items_free (scalar anchor kind text) p = free_child (new_label None) (scalar anchor kind text) none p free_none
+items_free (alias name) p = free_child (key_label None) (alias name) none p free_none
+items_free (scalar anchor kind text) p = free_child (key_label None) (scalar anchor kind text) none p free_none
 items_free (list anchor cs) p = (p.0.1, λ a m. p.1 a m)
-items_free (tree.map anchor cs) p = free_child (new_label None) (tree.map anchor cs) none p free_none
+items_free (tree.map anchor cs) p = free_child (key_label None) (tree.map anchor cs) none p free_none
 
 free_append : (label : Label) (v : Node) (cs : Children) → IsPure v → AreFree cs → AreFree (append_child label v cs)
 free_append label v none p f = free_child label v none p free_none
@@ -70,7 +69,7 @@ not_found k (child label n cs) h = go (key_is k label.key) refl (not_found k cs)
     go true is ih e = absurd (none-some _ (sym e))
     go false is ih e = ((λ same. let there : key_is k label.key ≡ true = ap (key_is k) same ∙ bytes_refl k in false≢true (sym is ∙ there)), ih e)
 
-new_append : (j k : List ℕ) (v : Node) (cs : Children) → j ≢ k → IsNew k cs → IsNew k (append_child (new_label (Some j)) v cs)
+new_append : (j k : List ℕ) (v : Node) (cs : Children) → j ≢ k → IsNew k cs → IsNew k (append_child (key_label (Some j)) v cs)
 new_append j k v none d h = ((λ e. d (let same : j ≡ k = cc in same)), tt)
 new_append j k v (child label n cs) d h = (h.0, new_append j k v cs d h.1)
 
@@ -82,7 +81,7 @@ new_change j k f (child label n cs) h = go (key_is j label.key) (new_change j k 
     go true ih = (h.0, h.1)
     go false ih = (h.0, ih)
 
-entries_append : (k : List ℕ) (v : Node) (cs : Children) → IsNew k cs → AreEntries cs → AreEntries (append_child (new_label (Some k)) v cs)
+entries_append : (k : List ℕ) (v : Node) (cs : Children) → IsNew k cs → AreEntries cs → AreEntries (append_child (key_label (Some k)) v cs)
 entries_append k v none new h = ((k, refl, tt), tt)
 entries_append k v (child label n cs) new h =
     ((h.0.0, h.0.1, new_append k h.0.0 v cs (λ e. new.0 (h.0.1 ∙ ap Some (sym e))) h.0.2), entries_append k v cs new.1 h.1)
