@@ -18,7 +18,7 @@ use Rattle.yq_edit_laws.specs.Answers.{EditFails}
 use Rattle.yq_edit_laws.specs.Carried.{carried}
 use Rattle.yq_edit_laws.specs.Edit.{gives, refuses}
 use Rattle.yq_batch.specs.RowRuns.{IsLast, IsRowRun, IsRowsRun, Passed, PutsInRow, PutsSo, PutsText, RowsGoOn, bytes_in, rows_still}
-use Rattle.yq_batch.specs.Runs.{HasPut, PutFails, now_text, run_front, text_after_run}
+use Rattle.yq_batch.specs.Runs.{HasPut, PutFails, now_text, run_front, text_with_run}
 use Rattle.yq_edit_laws.specs.Theorems.{IsFitting}
 use Rattle.yq_edit_laws.specs.declared.edit_error.EditError.{EditError}
 use Rattle.yq_edit_laws.specs.declared.edit_error.EditError.TheVariants as error
@@ -116,7 +116,7 @@ module _ (t u : List ℕ) (op : Operation) (o : Option (ℕ × ℕ)) (before : R
         let finish : ℕ = length h.before + length h.old in
         let old_there : drop start (take finish (cut_text c)) ≡ h.old = old_is c run.document run.row out before.done run.run op h.steps h.entry h.found later h.before h.old new h.behind h.text behind_done puts in
         let cs : List Splice = splice_at (length (run_front (cut_text c) before start)) (drop start (take finish (cut_text c))) new in
-        let text : text_after_run (cut_text c) (run_front (cut_text c) before start ++ new) finish ≡ now_text c after = λ i. text_after_run (cut_text c) (sym a.text i) (sym a.done i) in
+        let text : text_with_run (cut_text c) (run_front (cut_text c) before start ++ new) finish ≡ now_text c after = λ i. text_with_run (cut_text c) (sym a.text i) (sym a.done i) in
         let comes : carried op (now_text c before) ≡ gives (now_text c after) cs =
         row_put_comes c run.document run.row out before.done run.run op h.steps h.entry h.found later h.before h.old new h.behind h.text behind_done puts a.size
         ∙ (λ i. gives (text i) (splice_at (length (run_front (cut_text c) before start)) (sym old_there i) new)) in

@@ -30,7 +30,7 @@ use Rattle.yq_edit_laws.proofs.FlowAnswers.{whole_text}
 use Rattle.yq_edit_laws.specs.Answers.{EditFails}
 use Rattle.yq_edit_laws.specs.Carried.{carried}
 use Rattle.yq_edit_laws.specs.Edit.{gives, refuses}
-use Rattle.yq_batch.specs.Runs.{EndsAt, EndsInCollection, HasPut, IsPutRun, PutFails, PutsAt, Runs, RunsOn, now_text, run_front, text_after_run}
+use Rattle.yq_batch.specs.Runs.{EndsAt, EndsInCollection, HasPut, IsPutRun, PutFails, PutsAt, Runs, RunsOn, now_text, run_front, text_with_run}
 use Rattle.yq_edit_laws.specs.Theorems.{IsFitting}
 use Rattle.yq_edit_laws.specs.declared.edit_error.EditError.{EditError}
 use Rattle.yq_edit_laws.specs.declared.edit_error.EditError.TheVariants as error
@@ -61,7 +61,7 @@ begins t n stem r read leads text done =
 
 -- the text of a run in which nothing was put
 pub begins_with : (t : List ℕ) (r : Run) → read_at t ≡ Some (cut_of t) → string_bytes r.text ≡ [] → r.done ≡ 0 → now_text (cut_of t) r ≡ t
-begins_with t r read text done = (λ i. text_after_run (cut_text (cut_of t)) (text i) (done i)) ∙ text_read t (cut_of t) read
+begins_with t r read text done = (λ i. text_with_run (cut_text (cut_of t)) (text i) (done i)) ∙ text_read t (cut_of t) read
 
 -- a path ends there, if the steps above its last one are those to the head and others
 pub ends_there : (path above stem left : List Step) (s : Step) → Some (above, s) ≡ last_step path → above ≡ stem ++ left → EndsAt stem left path
@@ -157,7 +157,7 @@ module _ (t u : List ℕ) (n : ℕ) (steps : List Step) (op : Operation) (before
     put_on after has_put =
         let a : HasPut (cut_text c) start finish new before after = subst (λ (l : List ℕ). HasPut l start finish new before after) whole_is has_put in
         let cs : List Splice = splice_at (length (run_front (cut_text c) before start)) (drop start (take finish (cut_text c))) new in
-        let text : text_after_run (cut_text c) (run_front (cut_text c) before start ++ new) finish ≡ now_text c after = λ i. text_after_run (cut_text c) (sym a.text i) (sym a.done i) in
+        let text : text_with_run (cut_text c) (run_front (cut_text c) before start ++ new) finish ≡ now_text c after = λ i. text_with_run (cut_text c) (sym a.text i) (sym a.done i) in
         let comes : carried own now ≡ gives (now_text c after) cs =
         put_there c n steps h.path h.value (string_bytes before.text) before.done again run h.ends h.part h.standing x p.place h.placed behind passes (string_bytes s) is.0 is.1 a.size
         ∙ ap (λ (l : List ℕ). gives l cs) text in

@@ -24,7 +24,7 @@ use Rattle.yq_edits.specs.RowChanges.{ChangesRow, PutsOne}
 use Rattle.yq_edits.specs.WrittenValues.{value_text}
 use Rattle.yq_edit_laws.specs.Carried.{carried}
 use Rattle.yq_edit_laws.specs.Edit.{gives}
-use Rattle.yq_batch.specs.Runs.{now_text, text_after_run}
+use Rattle.yq_batch.specs.Runs.{now_text, text_with_run}
 use Rattle.yq_edit_laws.specs.Theorems.{IsApplied}
 use Rattle.yq_batch.specs.declared.in_rows.RowPut.{RowPut}
 use Rattle.yq_batch.specs.declared.run.Run.{Run}
@@ -37,7 +37,7 @@ pub record IsRowRun (c : Cut) (k n : ℕ) (out : List ℕ) (done : ℕ) : Type 0
   pub within : done ≤ length (cut_text c)
   pub edge : IsCharBoundary (cut_text c) done
   pub cut : Cut
-  pub read : read_at (text_after_run (cut_text c) out done) ≡ Some cut
+  pub read : read_at (text_with_run (cut_text c) out done) ≡ Some cut
   pub stays : (m : ℕ) (steps : List Step) (e : RowsOfEntry) → rows_of_entry m steps c ≡ Some e → IsBehind k n m (length e.front) → StandsStill e m steps cut
 
 -- the row that was changed last, by its document and how many rows stand before it, is the one in front of row n of document k (own)

@@ -3,14 +3,14 @@ use Rattle.std.specs.Prelude.{List, ℕ, ◌++◌}
 use Rattle.yq_text.specs.Splice.{Splice}
 
 -- what stands before the cursor, and what behind it (own)
-pub record GapView : Type 0 where
+pub record ByteGapView : Type 0 where
   pub before : List ℕ
   pub behind : List ℕ
 
 -- the text that was cut (own)
-abbrev pub buffer_text : GapView → List ℕ
-buffer_text c = c.before ++ c.behind
+abbrev pub buffer_bytes : ByteGapView → List ℕ
+buffer_bytes c = c.before ++ c.behind
 
 -- a splice of these parts (own)
-abbrev pub splice_of_gap : ℕ → List ℕ → List ℕ → Splice
-splice_of_gap at old new = record { at = at; old = old; new = new }
+abbrev pub splice_of_parts : ℕ → List ℕ → List ℕ → Splice
+splice_of_parts at old new = record { at = at; old = old; new = new }

@@ -85,7 +85,7 @@ fn push_base64(text: &mut String, bytes: &[u8]) -> Result<(), AllocError>
 /// Adds what is behind the base64: a move's kind and its record, and the records.
 fn push_behind(text: &mut String, kind: &str, held: &str, records: &str) -> Result<(), AllocError>
     ensures { OnOk result (string_bytes text.new ≡
-        spec.journal_text_behind (string_bytes text.old) kind.now held.now records.now) }
+        spec.journal_text_after (string_bytes text.old) kind.now held.now records.now) }
 {
     text.push_str("\",\"kind\":\"")?;
     text.push_str(kind)?;

@@ -1,7 +1,7 @@
 //! Items and entries that are taken out of block collections with their lines, where no other byte changes.
 ghost use Rattle.std.specs.Prelude.{◌≡◌, ◌<◌, ◌^◌, IfOk, IfErr, IfSome, None, length};
 ghost use Rattle.std.specs.Str.{IsUtf8};
-ghost use Rattle.yq_text.specs.Halves.{halves_text};
+ghost use Rattle.yq_text.specs.Halves.{whole};
 ghost use Rattle.yq_documents.specs.Located.{steps_of};
 ghost use Rattle.yq_documents.specs.Reading.{cut_of};
 ghost use Rattle.yq_semantics.specs.Operations.{operation_of, remove};
@@ -27,16 +27,16 @@ use yq_text::{Changed, Halves, Segments, Splice, changes};
 /// How many bytes a text has; they are characters.
 #[tactic(auto, using(crate::proofs::RowsGoneLaws::texts_joined))]
 fn text_len(text: Halves<'_>) -> usize
-    requires { length (halves_text text) < 2 ^ 64 }
-    ensures len { result ≡ length (halves_text text.entry) }
-    ensures text { IsUtf8 (halves_text text.entry) }
+    requires { length (whole text) < 2 ^ 64 }
+    ensures len { result ≡ length (whole text.entry) }
+    ensures text { IsUtf8 (whole text.entry) }
 {
     text.front.as_bytes().len() + text.back.as_bytes().len()
 }
 
 /// The bytes of a text.
 fn bytes_of(alloc: Global, text: Halves<'_>) -> Result<Vec<u8>, AllocError>
-    ensures { IfOk result (λ v. v.items ≡ halves_text text.entry) }
+    ensures { IfOk result (λ v. v.items ≡ whole text.entry) }
 {
     let mut bytes = Vec::new(alloc);
     bytes.extend_from_slice(text.front.as_bytes())?;

@@ -93,16 +93,16 @@ escape_front (b ∷ []) = None
 escape_front [] = None
 
 -- what follows that character, if it is in front (own)
-abbrev pub past_character : ℕ → List ℕ → List ℕ
-past_character c [] = []
-past_character c (b ∷ bs) = if b == c then bs else b ∷ bs
+abbrev pub after_character : ℕ → List ℕ → List ℕ
+after_character c [] = []
+after_character c (b ∷ bs) = if b == c then bs else b ∷ bs
 
 -- the token that a piece of that form is (own)
 abbrev pub token_of : Form → List ℕ → Token
-token_of form.Text p = string (string_content (past_character 34 p))
+token_of form.Text p = string (string_content (after_character 34 p))
 token_of form.Number p = number p
-token_of form.Name p = step (past_character 46 p)
-token_of form.Quoted p = step (string_content (past_character 34 (past_character 46 p)))
+token_of form.Name p = step (after_character 46 p)
+token_of form.Quoted p = step (string_content (after_character 34 (after_character 46 p)))
 token_of form.Symbol p = symbol p
 token_of form.Foreign p = foreign
 token_of form.Unread p = unread

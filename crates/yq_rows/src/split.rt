@@ -1,7 +1,7 @@
 //! The split of the kept rows of a text, moved to a place in it.
 ghost use Rattle.std.specs.Prelude.{◌≡◌, ◌<◌, ◌≤◌, ◌^◌, OnOk, length, reverse};
 ghost use Rattle.std.specs.List.{All};
-ghost use Rattle.yq_text.specs.Split.{halves_joined};
+ghost use Rattle.yq_text.specs.Split.{buffer_text};
 ghost use Rattle.yq_rows.specs.Following.{IsPlacedIn};
 ghost use Rattle.yq_rows.specs.Sides.{IsSplitAt, LastBefore, FirstFrom, both_sides, first_byte};
 
@@ -94,9 +94,9 @@ pub(crate) fn begin_of(behind: &[Offsets], len: usize) -> usize
 /// # Errors
 /// Want of memory. The split is then somewhere between.
 pub(crate) fn move_split(text: &SplitText, places: &mut Places, at: usize) -> Result<(), AllocError>
-    requires { IsPlacedIn (halves_joined text.now) places.old }
-    ensures placed { IsPlacedIn (halves_joined text.now) places.new }
-    ensures ok { OnOk result (IsSplitAt at (length (halves_joined text.now)) places.new) }
+    requires { IsPlacedIn (buffer_text text.now) places.old }
+    ensures placed { IsPlacedIn (buffer_text text.now) places.new }
+    ensures ok { OnOk result (IsSplitAt at (length (buffer_text text.now)) places.new) }
 {
     let len = text.len();
     let moved = move_rows(places, len, at);

@@ -1,7 +1,7 @@
 //! What an edit changes of its text.
 ghost use Rattle.std.specs.Prelude.{◌≡◌, ◌<◌, ◌^◌, length};
 ghost use Rattle.std.specs.Str.{IsUtf8};
-ghost use Rattle.yq_text.specs.Halves.{halves_text};
+ghost use Rattle.yq_text.specs.Halves.{whole};
 ghost use Rattle.yq_text.specs.Changing.{Changes};
 ghost use Rattle.yq_text.specs.Script as script;
 ghost use Rattle.yq_text.specs.Segments.{segments_of};
@@ -17,9 +17,9 @@ use std::alloc::Global;
 /// How many bytes a text has that is kept; they are characters.
 #[tactic(auto, using(crate::proofs::LoopLaws::texts_joined))]
 fn text_len(text: Halves<'_>) -> usize
-    requires { length (halves_text text) < 2 ^ 64 }
-    ensures len { result ≡ length (halves_text text.entry) }
-    ensures text { IsUtf8 (halves_text text.entry) }
+    requires { length (whole text) < 2 ^ 64 }
+    ensures len { result ≡ length (whole text.entry) }
+    ensures text { IsUtf8 (whole text.entry) }
 {
     text.front.as_bytes().len() + text.back.as_bytes().len()
 }

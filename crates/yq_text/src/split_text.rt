@@ -1,7 +1,7 @@
 //! A text that is kept in two halves, with room between them.
 ghost use Rattle.std.specs.Prelude.{◌≡◌, ◌+◌, ◌-◌, ◌≤◌, ◌<◌, ◌^◌, ◌++◌, [], drop, length, take, OnOk, OnErr, string_bytes};
 ghost use Rattle.std.specs.Str.{IsCharBoundary};
-ghost use Rattle.yq_text.specs.Split.{Split, halves_joined};
+ghost use Rattle.yq_text.specs.Split.{TextGapView, buffer_text};
 ghost use lib.Seq.{paste};
 
 use crate::halves::Halves;
@@ -22,9 +22,9 @@ pub struct SplitText {
 
 impl Model for SplitText {
     ghost use Rattle.std.specs.Prelude.{◌-◌, take, drop};
-    ghost use Rattle.yq_text.specs.Split.{IsKept, Split};
+    ghost use Rattle.yq_text.specs.Split.{IsKept, TextGapView};
 
-    ghost Value = { Split };
+    ghost Value = { TextGapView };
 
     ghost view = { λ t. record {
       front = take t.front t.bytes.items;
@@ -72,7 +72,7 @@ impl SplitText {
 
     /// How long the text is, in bytes.
     pub fn len(&self) -> usize
-        ensures { result ≡ length (halves_joined self.now) }
+        ensures { result ≡ length (buffer_text self.now) }
     {
         self.front + (self.bytes.len() - self.back)
     }
@@ -104,9 +104,9 @@ impl SplitText {
 
     /// Moves the split to a place in the text, in bytes.
     pub fn move_split(&mut self, at: usize)
-        requires { IsCharBoundary (halves_joined self.old) at }
-        ensures front { self.new.front ≡ take at (halves_joined self.old) }
-        ensures back { self.new.back ≡ drop at (halves_joined self.old) }
+        requires { IsCharBoundary (buffer_text self.old) at }
+        ensures front { self.new.front ≡ take at (buffer_text self.old) }
+        ensures back { self.new.back ≡ drop at (buffer_text self.old) }
         ensures room { self.new.room ≡ self.old.room }
     {
         if at < self.front {
@@ -139,7 +139,7 @@ impl SplitText {
 
     /// The text, where it is kept no longer. No memory is asked for.
     pub fn into_string(self) -> String
-        ensures { string_bytes result ≡ halves_joined self }
+        ensures { string_bytes result ≡ buffer_text self }
     {
         let mut kept = self;
         let len = kept.len();

@@ -1,6 +1,6 @@
 //! Keys and dashes of a text, with what they hold.
 ghost use Rattle.std.specs.Prelude.{◌≡◌, ◌≤◌, ◌+◌, ◌||◌, length, not};
-ghost use Rattle.yq_text.specs.Halves.{halves_text};
+ghost use Rattle.yq_text.specs.Halves.{whole};
 ghost use Rattle.yq_text.specs.Limit.{text_limit};
 ghost use Rattle.yq_core.specs.Text.{is_empty};
 ghost use Rattle.yq_row_table.specs.View.{row_view};
@@ -90,8 +90,8 @@ fn space_before<'t>(row: &Row<'t>) -> &'t str
 
 /// What the key or dash of rows holds.
 pub fn held_in<'t>(rows: &Rows<'t>, text: Halves<'t>, at: RowsOfEntry) -> Held<'t>
-    requires { HasEntry (halves_text text) rows.now at }
-    ensures { (e : spec.RowsOfEntry) → IsEntryIn (halves_text text.entry) rows.now e at →
+    requires { HasEntry (whole text) rows.now at }
+    ensures { (e : spec.RowsOfEntry) → IsEntryIn (whole text.entry) rows.now e at →
         row_agrees.held_view result ≡ spec.held e }
 {
     is_text(text);

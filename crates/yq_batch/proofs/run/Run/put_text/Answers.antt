@@ -1,6 +1,6 @@
 use Rattle.std.proofs.Common.{ℕ, ◌≤◌, List, ◌++◌, length, length-append, drop, append_assoc, refl, ap, ◌∙◌, arith}
 use Rattle.std.specs.String.{string_bytes}
-use Rattle.yq_text.specs.Halves.{halves_text}
+use Rattle.yq_text.specs.Halves.{whole}
 use Rattle.yq_text.specs.Script.{splice_at}
 use Rattle.yq_batch.specs.Runs.{run_front}
 use Rattle.yq_batch.proofs.run.Run.put_text.Goals as goal
@@ -25,7 +25,7 @@ returns-clause-ok c =
           ∙ λ i. c.args.self.now.splices.items ++ splice_at ((c.len-at.ensures ∙ (c.push_str-2.new.self.bytes.ok.0 ∙ ap length front)) i) ((c.in_ok-old.ensures ∙ c.between.ensures) i) (c.into_bytes.ensures.value i).items;
       size = omega (
         arith,
-        length-append (run_front (halves_text c.args.text) c.args.self.now c.args.start ++ string_bytes c.args.written) (drop c.args.end (halves_text c.args.text)),
+        length-append (run_front (whole c.args.text) c.args.self.now c.args.start ++ string_bytes c.args.written) (drop c.args.end (whole c.args.text)),
         ap length text,
         ap length c.split_at.ensures.back,
         c.len.ensures,

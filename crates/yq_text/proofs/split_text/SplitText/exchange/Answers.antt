@@ -1,5 +1,5 @@
 use Rattle.yq_text.proofs.RoomLaws.{is_room}
-use Rattle.yq_text.specs.Split.{Split}
+use Rattle.yq_text.specs.Split.{TextGapView}
 use Rattle.std.proofs.Common.{sym, subst, length, ◌≤◌, ◌+◌}
 use Rattle.std.specs.Str.{IsCharBoundary}
 use Rattle.yq_text.proofs.SplitLaws.{kept_written, written_back}
@@ -17,5 +17,5 @@ returns-clause-back c = rw (← c.self.view_is, c.write.ensures) (written_back _
 
 pub overflow_add-self-2 : goal.overflow_add-self-2
 overflow_add-self-2 c = (is_room c.self.inside.bytes c.args.text.now c.self.inside.front c.self.inside.back c.args.gone c.self.invariant
-    (subst (λ (s : Split). IsCharBoundary s.back c.args.gone) (sym c.self.view_is) c.requires.gone)
-    (subst (λ (s : Split). length c.args.text.now ≤ s.room + c.args.gone) (sym c.self.view_is) c.requires.room)).fits
+    (subst (λ (s : TextGapView). IsCharBoundary s.back c.args.gone) (sym c.self.view_is) c.requires.gone)
+    (subst (λ (s : TextGapView). length c.args.text.now ≤ s.room + c.args.gone) (sym c.self.view_is) c.requires.room)).fits
