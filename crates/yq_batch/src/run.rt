@@ -12,7 +12,7 @@ use yq_text::{Edited, Halves, Splice, TEXT_LIMIT};
 
 /// What values put one behind the other made of a text so far.
 #[derive(Drop)]
-pub(crate) struct Run {
+pub(crate) struct PutRun {
     /// What stands in the new text up to the end of the last one.
     pub(crate) text: String,
     /// How many bytes of the old text that takes the place of.
@@ -58,14 +58,14 @@ fn push_splice(
     Ok(())
 }
 
-impl Run {
+impl PutRun {
     /// Nothing yet.
-    pub(crate) fn new(alloc: Global) -> Run
+    pub(crate) fn new(alloc: Global) -> PutRun
         ensures text { string_bytes result.text ≡ [] }
         ensures done { result.done ≡ 0 }
         ensures splices { result.splices.items ≡ [] }
     {
-        Run {
+        PutRun {
             text: String::new(alloc),
             done: 0,
             splices: Vec::new(alloc),
@@ -73,12 +73,12 @@ impl Run {
     }
 
     /// Nothing yet, with room for a text of so many bytes and so many splices.
-    pub(crate) fn with_room(alloc: Global, size: usize, count: usize) -> Result<Run, AllocError>
+    pub(crate) fn with_room(alloc: Global, size: usize, count: usize) -> Result<PutRun, AllocError>
         ensures text { IfOk result (λ r. string_bytes r.text ≡ []) }
         ensures done { IfOk result (λ r. r.done ≡ 0) }
         ensures splices { IfOk result (λ r. r.splices.items ≡ []) }
     {
-        Ok(Run {
+        Ok(PutRun {
             text: String::with_capacity(alloc, size)?,
             done: 0,
             splices: Vec::with_capacity(alloc, count)?,
@@ -157,7 +157,7 @@ impl Run {
             spec.text_with_run (whole text.entry) (string_bytes self.text) self.done) }
         ensures splices { IfOk result (λ e. e.splices.items ≡ self.splices.items) }
     {
-        let Run {
+        let PutRun {
             text: mut new,
             done,
             splices,

@@ -6,7 +6,7 @@ use Rattle.std.proofs.Math.Seq.{drop-append_seam, take-append_seam}
 use Rattle.std.proofs.lemmas.List.{reverse-append, reverse-reverse, take-append-drop, nil_from_length}
 use Rattle.yq_text.specs.Splice.{Splice, Exchanges, change_done}
 use Rattle.yq_text.proofs.SpliceLaws.{done-from_exchanges, exchanges-from_done}
-use Rattle.yq_journal.specs.GapBuffer.{splice_of_parts}
+use Rattle.yq_journal.specs.ByteGapBuffer.{splice_of_parts}
 
 over_rest : (front rest : List ℕ) (n : ℕ) → (front ++ take n rest) ++ drop n rest ≡ front ++ rest
 over_rest front rest n = append_assoc front (take n rest) (drop n rest) ∙ ap (λ x. front ++ x) (take-append-drop n rest)

@@ -1,6 +1,6 @@
 //! A text with a gap at a cursor, where splices are done in turn.
 ghost use Rattle.std.specs.Prelude.{◌≡◌, ◌↔◌, ◌+◌, ◌<◌, ◌≤◌, [], ◌++◌, false, None, Some, IsTrue, IfOk, OnOk, length, drop, option_map, reverse, if◌then◌else◌};
-ghost use Rattle.yq_journal.specs.GapBuffer.{splice_of_parts, buffer_bytes};
+ghost use Rattle.yq_journal.specs.ByteGapBuffer.{splice_of_parts, buffer_bytes};
 ghost use Rattle.yq_text.specs.Splice.{all_done, change_done, flipped};
 ghost use Rattle.yq_journal.specs.Turned.{flipped_if};
 
@@ -12,15 +12,15 @@ use yq_text::Splice;
 /// were moved back over it, last first, and the rest, which no splice has
 /// reached yet.
 #[derive(Drop)]
-struct GapBuffer<'t> {
+struct ByteGapBuffer<'t> {
     front: Vec<u8>,
     back: Vec<u8>,
     rest: &'t [u8],
 }
 
-impl<'t> Model for GapBuffer<'t> {
+impl<'t> Model for ByteGapBuffer<'t> {
     ghost use Rattle.std.specs.Prelude.{◌++◌, reverse};
-    ghost use Rattle.yq_journal.specs.GapBuffer.{ByteGapView};
+    ghost use Rattle.yq_journal.specs.ByteGapBuffer.{ByteGapView};
 
     ghost Value = { ByteGapView };
 
@@ -51,11 +51,11 @@ fn is_tail(bytes: &[u8], at: usize, tail: &[u8]) -> bool
     &bytes[at..] == tail
 }
 
-impl<'t> GapBuffer<'t> {
-    fn new(alloc: Global, text: &'t [u8]) -> Result<GapBuffer<'t>, AllocError>
+impl<'t> ByteGapBuffer<'t> {
+    fn new(alloc: Global, text: &'t [u8]) -> Result<ByteGapBuffer<'t>, AllocError>
         ensures { IfOk result (λ g. (g.before ≡ []) × (g.behind ≡ text.entry.now)) }
     {
-        Ok(GapBuffer {
+        Ok(ByteGapBuffer {
             front: Vec::with_capacity(alloc, text.len())?,
             back: Vec::new(alloc),
             rest: text,
@@ -154,7 +154,7 @@ impl<'t> GapBuffer<'t> {
     fn into_text(self) -> Result<Vec<u8>, AllocError>
         ensures { IfOk result (λ text. text.items ≡ buffer_bytes self.entry) }
     {
-        let GapBuffer {
+        let ByteGapBuffer {
             mut front,
             mut back,
             rest,
@@ -176,7 +176,7 @@ pub(crate) fn spliced(
     ensures { IfOk result (λ o. option_map (λ v. v.items) o ≡
         all_done (flipped_if back splices.now) text.now) }
 {
-    let mut gap = GapBuffer::new(alloc, text)?;
+    let mut gap = ByteGapBuffer::new(alloc, text)?;
     let done = if back {
         gap.undo_all(splices)
     } else {

@@ -22,7 +22,7 @@ use yq_edit_laws::{EditError, remove_in_flow};
 use yq_lookup::CutText;
 use yq_places::Removal;
 use yq_semantics::Op;
-use yq_text::{Changed, Halves, Segments, Splice, changes};
+use yq_text::{ChangedMiddle, Halves, Segments, Splice, changes};
 
 /// How many bytes a text has; they are characters.
 #[tactic(auto, using(crate::proofs::RowsGoneLaws::texts_joined))]
@@ -47,7 +47,7 @@ fn bytes_of(alloc: Global, text: Halves<'_>) -> Result<Vec<u8>, AllocError>
 }
 
 /// What it changes that lines go, where nothing behind them is mended.
-fn lines_gone(alloc: Global, removal: &Removal<'_>) -> Result<Option<Changed>, AllocError>
+fn lines_gone(alloc: Global, removal: &Removal<'_>) -> Result<Option<ChangedMiddle>, AllocError>
     requires { IsSmall (removal_view removal.now) }
     ensures { IfOk result (λ o. IfSome o (IsChange (rows_removed (removal_view removal.now)))) }
 {
@@ -64,7 +64,7 @@ fn lines_gone(alloc: Global, removal: &Removal<'_>) -> Result<Option<Changed>, A
             new: Vec::new(alloc),
         },
     ]?;
-    Ok(Some(Changed {
+    Ok(Some(ChangedMiddle {
         front,
         back,
         new: String::new(alloc),
@@ -78,7 +78,7 @@ fn rows_gone(
     alloc: Global,
     cut: &CutText<'_, '_>,
     path: &Path,
-) -> Result<Option<Changed>, AllocError>
+) -> Result<Option<ChangedMiddle>, AllocError>
     requires { part_removed path.now.doc (cut_of cut.now) (last_step (steps_of path.now)) ≡ None }
     ensures { IfOk result (λ o. IfSome o (IsChange (segments_by
         (remove path.now.doc (steps_of path.now)) (cut_of cut.now)))) }
@@ -100,7 +100,7 @@ fn changed(
     cut: &CutText<'_, '_>,
     op: &Op,
     segments: &Segments<'_>,
-) -> Result<Changed, EditError>
+) -> Result<ChangedMiddle, EditError>
     requires { segments.now ≡ segments_by (operation_of op.now) (cut_of cut.now) }
     ensures ok { IfOk result (IsChange (segments_by (operation_of op.now) (cut_of cut.now))) }
     ensures err { IfErr result (λ e. EditFails e (carry_one (operation_of op.now)
@@ -111,7 +111,7 @@ fn changed(
 }
 
 /// The same of an operation of any kind.
-fn change_by(alloc: Global, cut: &CutText<'_, '_>, op: &Op) -> Result<Changed, EditError>
+fn change_by(alloc: Global, cut: &CutText<'_, '_>, op: &Op) -> Result<ChangedMiddle, EditError>
     ensures ok { IfOk result (IsChange (segments_by (operation_of op.now) (cut_of cut.now))) }
     ensures err { IfErr result (λ e. EditFails e (carry_one (operation_of op.now)
         (cut_of cut.now))) }
@@ -121,7 +121,7 @@ fn change_by(alloc: Global, cut: &CutText<'_, '_>, op: &Op) -> Result<Changed, E
 }
 
 /// What an operation changes in a text with its cut.
-pub fn change(alloc: Global, cut: &CutText<'_, '_>, op: &Op) -> Result<Changed, EditError>
+pub fn change(alloc: Global, cut: &CutText<'_, '_>, op: &Op) -> Result<ChangedMiddle, EditError>
     ensures ok { IfOk result (IsChange (segments_by (operation_of op.now) (cut_of cut.now))) }
     ensures err { IfErr result (λ e. EditFails e (carry_one (operation_of op.now)
         (cut_of cut.now))) }

@@ -14,7 +14,7 @@ use Rattle.yq_outline.specs.declared.line_position.Position.{Position}
 use Rattle.yq_places.specs.Standings.{MarkPieces, Held, Lone, Compact, BlockRoot, NoRows, Standing, RowsOfEntry, alone, beside, under, compact, block, root, no_rows, held, rows_of_entry}
 use Rattle.yq_places.specs.declared.places.held.Held as declared_held
 use Rattle.yq_places.specs.declared.places.held_row.HeldRow as declared_row
-use Rattle.yq_places.specs.declared.places.held.Mark as declared_mark
+use Rattle.yq_places.specs.declared.places.held.EntryMark as declared_mark
 use Rattle.yq_places.specs.declared.places.standing.BlockRoot as declared_root
 use Rattle.yq_places.specs.declared.places.standing.Compact as declared_compact
 use Rattle.yq_places.specs.declared.places.standing.Lone as declared_lone
@@ -22,7 +22,7 @@ use Rattle.yq_places.specs.declared.places.standing.NoRows as declared_no_rows
 use Rattle.yq_places.specs.declared.places.standing.Standing as declared
 
 -- a key or dash that the code lends
-abbrev pub held_mark_view : declared_mark.Mark → MarkPieces
+abbrev pub held_mark_view : declared_mark.EntryMark → MarkPieces
 held_mark_view m = record { column = m.column; keyed = m.keyed; noted = m.noted }
 
 -- a key or dash that the code lends, with what it holds

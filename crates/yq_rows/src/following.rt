@@ -1,7 +1,7 @@
 //! A text and the places of its rows that follow a change.
 ghost use Rattle.std.specs.Prelude.{◌≡◌, ◌≤◌, ◌+◌, ◌-◌, OnOk, length, is_ok, if◌then◌else◌};
 ghost use Rattle.std.specs.Str.{IsCharBoundary};
-ghost use Rattle.yq_text.specs.Split.{buffer_text};
+ghost use Rattle.yq_text.specs.TextGapBuffer.{buffer_text};
 ghost use Rattle.yq_rows.specs.Following.{ArePlacesOf, CountsWritten, Follows, exchanged};
 
 use crate::Meter;
@@ -13,10 +13,10 @@ use crate::split::move_split;
 use crate::touched::find_touched;
 use std::alloc::{AllocError, Global};
 use yq_row_table::Places;
-use yq_text::SplitText;
+use yq_text::TextGapBuffer;
 
 /// Writes what comes into a text in the place of the bytes that aren't kept; there is room for it.
-fn write(text: &mut SplitText, kept: Kept, new: &str)
+fn write(text: &mut TextGapBuffer, kept: Kept, new: &str)
     requires within { kept.front + kept.back ≤ length (buffer_text text.old) }
     requires front { IsCharBoundary (buffer_text text.old) kept.front }
     requires back { IsCharBoundary (buffer_text text.old) (length (buffer_text text.old) - kept.back) }
@@ -38,7 +38,7 @@ fn write(text: &mut SplitText, kept: Kept, new: &str)
 /// Want of memory alone. Text and places are then those of the old text.
 pub fn follow(
     alloc: Global,
-    text: &mut SplitText,
+    text: &mut TextGapBuffer,
     places: &mut Places,
     kept: Kept,
     new: &str,

@@ -16,7 +16,7 @@ use yq_text::Halves;
 
 /// Rows and ends of parts that come in the place of others.
 #[derive(Drop)]
-pub(crate) struct Come {
+pub(crate) struct NewRows {
     pub places: Places,
     /// How many bytes were read.
     pub read: usize,
@@ -113,7 +113,7 @@ pub(crate) fn read(
     region: &str,
     touched: Touched,
     meter: &mut Meter,
-) -> Result<Come, AllocError>
+) -> Result<NewRows, AllocError>
     requires { spec.IsRead region.now touched }
     ensures come { IfOk result (λ x. Comes region.now touched x) }
     ensures counted { OnOk result (meter.new ≡
@@ -128,7 +128,7 @@ pub(crate) fn read(
         Err(ReadError::Fault(_)) => unreachable!(),
     };
     settle(&mut places.ends, unread, touched.more);
-    Ok(Come {
+    Ok(NewRows {
         places,
         read: text.len(),
         len: region.len(),

@@ -18,6 +18,6 @@ pub use laws::{
 pub use op::{Op, copied_steps};
 pub use program::{
     Assignment, Comment, CommentPlace, Comparison, Condition, Operand, Operator, Program, Stage,
-    Step, Syntax, Term, Update, is_index, is_simple,
+    PathStep, Syntax, Term, Update, is_index, is_simple,
 };
 pub use refusal::Refusal;

@@ -4,7 +4,7 @@ use Rattle.std.proofs.lemmas.Bool.{le-ltb}
 use Rattle.std.proofs.lemmas.List.{length-take-le, take-append-drop}
 use Rattle.std.specs.Str.{IsCharBoundary, IsUtf8, is_utf8}
 use Rattle.yq_text.specs.Halves.{whole}
-use Rattle.yq_text.specs.Split.{TextGapView, buffer_text}
+use Rattle.yq_text.specs.TextGapBuffer.{TextGapView, buffer_text}
 use Rattle.yq_text.specs.declared.halves.Halves.{Halves}
 use Rattle.yq_core.specs.declared.fault.ReadError.{ReadError}
 use Rattle.yq_core.specs.declared.fault.ReadError.TheVariants as reading
@@ -25,7 +25,7 @@ use Rattle.yq_places.proofs.ReadLaws.{text_takes, read_takes}
 use Rattle.yq_semantics.specs.Operations.{Operation}
 use Rattle.yq_text.specs.Changing.{IsChange}
 use Rattle.yq_text.specs.Script.{new_text}
-use Rattle.yq_text.specs.declared.changed.Changed.{Changed}
+use Rattle.yq_text.specs.declared.changed.ChangedMiddle.{ChangedMiddle}
 use Rattle.yq_rows.specs.Following.{ArePlacesOf}
 use Rattle.yq_edit_laws.proofs.CutLaws.{cut_read, cut_same}
 use Rattle.yq_edit_laws.specs.Carried.{carry_one, carried}
@@ -136,5 +136,5 @@ known_here n t k stay = stay (cut_of t) 0 (touches_itself n (cut_of t))
 pub carried_on : (op : Operation) (t x : List ℕ) (p : Places) → HasPlaces t p → x ≡ t → carry_one op (cut_of x) ≡ carried op t
 carried_on op t x p h same = ap (λ (y : List ℕ). carry_one op (cut_of y)) same ∙ (ap (carry_one op) (cut_same t h.cut h.read) ∙ sym (ap (by_reading (carry_one op)) h.read))
 
-pub carried_by : (op : Operation) (t : List ℕ) (p : Places) (x : Changed) → HasPlaces t p → IsChange (segments_by op (cut_of t)) x → carried op t ≡ gives (new_text (segments_by op (cut_of t))) x.splices.items
+pub carried_by : (op : Operation) (t : List ℕ) (p : Places) (x : ChangedMiddle) → HasPlaces t p → IsChange (segments_by op (cut_of t)) x → carried op t ≡ gives (new_text (segments_by op (cut_of t))) x.splices.items
 carried_by op t p x h change = sym (carried_on op t t p h refl) ∙ ap exchange_edit change.exact

@@ -26,7 +26,7 @@ use yq_outline::KnownItems;
 use yq_row_table::Places;
 use yq_rows::{Kept, Meter, count_lines, follow};
 use yq_semantics::Op;
-use yq_text::{Changed, Edited, Halves, Splice, SplitText};
+use yq_text::{ChangedMiddle, Edited, Halves, Splice, TextGapBuffer};
 use yq_tree::read;
 
 /// A text that reads, kept with where its rows stand, both on two sides of where it was changed last: so that
@@ -36,14 +36,14 @@ use yq_tree::read;
 #[derive(Drop)]
 pub struct Session {
     alloc: Global,
-    text: SplitText,
+    text: TextGapBuffer,
     places: Places,
     known: KnownItems,
     meter: Meter,
 }
 
 impl Model for Session {
-    ghost use Rattle.yq_text.specs.Split.{buffer_text};
+    ghost use Rattle.yq_text.specs.TextGapBuffer.{buffer_text};
     ghost use Rattle.yq_splice.specs.Session.{SessionState, HasPlaces, KnowsItems};
 
     ghost Value = { SessionState };
@@ -69,7 +69,7 @@ impl Session {
         let places = documents.into_rows().into_places();
         let mut meter = Meter::new();
         count_lines(text, &mut meter);
-        let text = SplitText::of(String::from_str(alloc, text)?);
+        let text = TextGapBuffer::of(String::from_str(alloc, text)?);
         Ok(Session {
             alloc,
             text,
@@ -86,7 +86,7 @@ impl Session {
     {
         Session {
             alloc,
-            text: SplitText::of(text),
+            text: TextGapBuffer::of(text),
             places,
             known: KnownItems::none(),
             meter: Meter::new(),
@@ -95,7 +95,7 @@ impl Session {
 
     /// What an operation changes in the text, and what is known of its way behind it, from which the
     /// next one may go on.
-    fn change(&mut self, op: &Op) -> Result<(Changed, KnownItems), EditError>
+    fn change(&mut self, op: &Op) -> Result<(ChangedMiddle, KnownItems), EditError>
         ensures same { self.new ≡ self.old }
         ensures ok { IfOk result (λ x. IsChange (segments_by (operation_of op.now)
             (cut_of self.old.text)) x.0) }
@@ -136,7 +136,7 @@ impl Session {
     {
         operand_holds(op);
         let (changed, known) = self.change(op)?;
-        let Changed {
+        let ChangedMiddle {
             front,
             back,
             new,

@@ -7,7 +7,7 @@ ghost use Rattle.yq_text.specs.Script as script;
 ghost use Rattle.yq_text.specs.Segments.{segments_of};
 
 use crate::Halves;
-use crate::changed::Changed;
+use crate::changed::ChangedMiddle;
 use crate::edited::Edited;
 use crate::exchange_error::ExchangeError;
 use crate::exchanging::{build, new_len};
@@ -79,7 +79,7 @@ fn kept_back(segments: &[Segment<'_>]) -> usize
 /// that stay in front of all that gives way or behind it are not moved.
 ///
 /// The new text may have 16,777,216 bytes at most ([`ExchangeError::TooLarge`]).
-pub fn changes(alloc: Global, segments: &Segments<'_>) -> Result<Changed, ExchangeError>
+pub fn changes(alloc: Global, segments: &Segments<'_>) -> Result<ChangedMiddle, ExchangeError>
     requires { length (script.old_text segments.now) < 2 ^ 64 }
     ensures { Changes result segments.now }
 {
@@ -91,7 +91,7 @@ pub fn changes(alloc: Global, segments: &Segments<'_>) -> Result<Changed, Exchan
     let (front, rest) = from_first(segments);
     let len = len.saturating_sub(front).saturating_sub(back);
     let Edited { text, splices } = build(alloc, to_last(rest), front, len)?;
-    Ok(Changed {
+    Ok(ChangedMiddle {
         front,
         back,
         new: text,

@@ -1,6 +1,6 @@
 use Rattle.std.proofs.Common.{◌≡◌, ◌∙◌, ◌++◌, List, [], ℕ, eqb-true, length, refl, sym, ap, subst, ◌+◌, ◌-◌, ◌≤◌}
 use Rattle.std.proofs.lemmas.List.{nil_from_length}
-use Rattle.yq_text.specs.Split.{buffer_text}
+use Rattle.yq_text.specs.TextGapBuffer.{buffer_text}
 use Rattle.yq_row_table.specs.Grammar.{IsCut}
 use Rattle.yq_row_table.specs.Meter.{count_after, line_count}
 use Rattle.yq_rows.specs.Dropping.{DropsLast}

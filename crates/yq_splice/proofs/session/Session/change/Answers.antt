@@ -1,5 +1,5 @@
 use Rattle.std.proofs.Common.{IfOk, IfErr, List, ℕ, sym, ap, ◌∙◌, subst}
-use Rattle.yq_text.specs.Split.{buffer_text}
+use Rattle.yq_text.specs.TextGapBuffer.{buffer_text}
 use Rattle.yq_documents.specs.Reading.{cut_of}
 use Rattle.yq_semantics.specs.Operations.{operation_of}
 use Rattle.yq_text.specs.Changing.{IsChange}

@@ -1,6 +1,6 @@
 use Rattle.std.proofs.Common.{string_bytes, sym, ap, ◌∙◌, subst}
 use Rattle.std.proofs.lemmas.Result.{err_from_is_err_and}
-use Rattle.yq_text.specs.Split.{buffer_text}
+use Rattle.yq_text.specs.TextGapBuffer.{buffer_text}
 use Rattle.yq_semantics.specs.Operations.{operation_of}
 use Rattle.yq_edit_laws.specs.Answers.{EditFails}
 use Rattle.yq_edit_laws.specs.Carried.{carried}

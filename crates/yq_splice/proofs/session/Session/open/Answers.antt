@@ -2,7 +2,7 @@ use Rattle.std.proofs.Common.{rules, ap, sym, ◌∙◌, ◌≡◌, ℕ, List, S
 use Rattle.std.proofs.lemmas.Result.{err_from_is_err_and}
 use Rattle.yq_documents.specs.Reading.{cut_of, read_at}
 use Rattle.yq_splice.proofs.SessionLaws.{has_reading, not_opened}
-use Rattle.yq_text.specs.Split.{buffer_text}
+use Rattle.yq_text.specs.TextGapBuffer.{buffer_text}
 use Rattle.yq_row_table.specs.Kept.{IsPlaced}
 use Rattle.yq_row_table.specs.Meter.{count_after, line_count}
 use Rattle.yq_splice.proofs.session.Session.open.Goals as goal
