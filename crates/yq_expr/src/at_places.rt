@@ -19,7 +19,7 @@ use crate::push_change;
 use crate::steps::path_steps;
 use std::alloc::Global;
 use yq_documents::Path;
-use yq_eval::{FoundPlaces, FoundPlace};
+use yq_eval::{FoundPlace, FoundPlaces};
 use yq_planner::{Aliases, PlacedChange};
 use yq_semantics::ExprError;
 use yq_tree::{CutText, Documents};

@@ -15,7 +15,7 @@ use crate::right_value::right_value;
 use std::alloc::Global;
 use yq_core::Value;
 use yq_documents::{Part, Path};
-use yq_eval::{Missing, NodePath, FoundPlace};
+use yq_eval::{FoundPlace, Missing, NodePath};
 use yq_planner::{Change, added, copied, is_null};
 use yq_semantics::{CommentPlace, ExprError, Refusal, Term};
 use yq_tree::CutText;
@@ -36,7 +36,11 @@ pub(crate) enum Action<'a, 'v> {
 }
 
 /// A value that is added at a place.
-fn add(alloc: Global, place: &FoundPlace<'_, '_>, value: &Value) -> Result<Option<Change>, ExprError>
+fn add(
+    alloc: Global,
+    place: &FoundPlace<'_, '_>,
+    value: &Value,
+) -> Result<Option<Change>, ExprError>
     ensures { Judges (placed (place_of place.now)) result
         (spec.add_at (place_of place.now) (value_node value.now)) }
 {

@@ -13,10 +13,10 @@ ghost use Rattle.yq_semantics.specs.View.{program_step};
 use crate::steps::missing_steps;
 use std::alloc::{AllocError, Global};
 use yq_core::Value;
-use yq_eval::{Missing, FoundPlace};
+use yq_eval::{FoundPlace, Missing};
 use yq_nodes::{Node, NodeKind};
 use yq_planner::{Addition, Change};
-use yq_semantics::{ExprError, Refusal, PathStep, is_index};
+use yq_semantics::{ExprError, PathStep, Refusal, is_index};
 
 /// Whether some step is an index.
 fn has_index(steps: &[&PathStep]) -> bool
@@ -108,7 +108,11 @@ fn put_below(
 }
 
 /// What a value changes that is put at a place.
-pub fn put(alloc: Global, place: &FoundPlace<'_, '_>, value: Value) -> Result<Option<Change>, ExprError>
+pub fn put(
+    alloc: Global,
+    place: &FoundPlace<'_, '_>,
+    value: Value,
+) -> Result<Option<Change>, ExprError>
     ensures { Judges (placed (place_of place.now)) result
         (spec.put_with_path (place_of place.now) (value_node value)) }
 {

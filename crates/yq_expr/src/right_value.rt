@@ -146,7 +146,10 @@ fn scalar_literal(term: &Term) -> Option<&Scalar>
 }
 
 /// The kind and text of a scalar at a place and a literal one, if terms are these and neither is null.
-fn scalar_terms<'a>(terms: &'a [Term], place: &FoundPlace<'a, '_>) -> Option<(Kind, &'a str, &'a Scalar)>
+fn scalar_terms<'a>(
+    terms: &'a [Term],
+    place: &FoundPlace<'a, '_>,
+) -> Option<(Kind, &'a str, &'a Scalar)>
     ensures { IfSome result (λ x. (doc : ℕ) →
         spec.right_value doc (map term_of terms.now) (place_of place.now) ≡
         spec.scalar_sum x.0 x.1.now x.2.now.kind x.2.now.text) }

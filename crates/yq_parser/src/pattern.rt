@@ -4,7 +4,7 @@ ghost use Rattle.std.specs.Prelude.{◌≡◌, ◌==◌, ◌||◌, string_bytes}
 ghost use Rattle.yq_parser.specs.Outcome as spec;
 ghost use Rattle.yq_semantics.specs.View.{program_step, operand_of, condition_of, stage_of, term_of, update_of, program_of};
 
-use yq_semantics::{Condition, Operand, Stage, PathStep, Syntax, Term, Update};
+use yq_semantics::{Condition, Operand, PathStep, Stage, Syntax, Term, Update};
 
 /// Whether the text has a `*` or a `?`.
 fn is_pattern(text: &str) -> bool

@@ -96,8 +96,12 @@ impl<'t> Token<'t> {
     {
         match self.form {
             TokenForm::Symbol => self.piece == symbol,
-            TokenForm::Text | TokenForm::Number | TokenForm::Name | TokenForm::Quoted | TokenForm::Foreign | TokenForm::Unread =>
-                false,
+            TokenForm::Text
+            | TokenForm::Number
+            | TokenForm::Name
+            | TokenForm::Quoted
+            | TokenForm::Foreign
+            | TokenForm::Unread => false,
         }
     }
 
@@ -121,8 +125,12 @@ impl<'t> Token<'t> {
     {
         match self.form {
             TokenForm::Number => Some(self.piece),
-            TokenForm::Text | TokenForm::Symbol | TokenForm::Name | TokenForm::Quoted | TokenForm::Foreign | TokenForm::Unread =>
-                None,
+            TokenForm::Text
+            | TokenForm::Symbol
+            | TokenForm::Name
+            | TokenForm::Quoted
+            | TokenForm::Foreign
+            | TokenForm::Unread => None,
         }
     }
 
@@ -150,7 +158,11 @@ impl<'t> Token<'t> {
     {
         match self.form {
             TokenForm::Name | TokenForm::Quoted => true,
-            TokenForm::Number | TokenForm::Symbol | TokenForm::Text | TokenForm::Foreign | TokenForm::Unread => false,
+            TokenForm::Number
+            | TokenForm::Symbol
+            | TokenForm::Text
+            | TokenForm::Foreign
+            | TokenForm::Unread => false,
         }
     }
 
@@ -168,7 +180,11 @@ impl<'t> Token<'t> {
                 let key = unescape::content(alloc, unescape::past_quote(quoted))?;
                 Ok(Some(key))
             }
-            TokenForm::Number | TokenForm::Symbol | TokenForm::Text | TokenForm::Foreign | TokenForm::Unread => Ok(None),
+            TokenForm::Number
+            | TokenForm::Symbol
+            | TokenForm::Text
+            | TokenForm::Foreign
+            | TokenForm::Unread => Ok(None),
         }
     }
 }

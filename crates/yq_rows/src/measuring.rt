@@ -60,7 +60,9 @@ fn is_bare(node: Measured<'_>) -> bool
 fn may_follow(gap: &str, node: Measured<'_>) -> bool
     ensures { result ≡ spec.node_may_follow gap.now (node.entry.anchored, node.entry.kind) }
 {
-    (is_bare(node) || !gap.is_empty()) && !node.anchored && !matches!(node.kind, MeasuredKind::Alias)
+    (is_bare(node) || !gap.is_empty())
+        && !node.anchored
+        && !matches!(node.kind, MeasuredKind::Alias)
 }
 
 /// A node without an anchor.

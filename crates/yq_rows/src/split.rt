@@ -93,7 +93,11 @@ pub(crate) fn begin_of(behind: &[Offsets], len: usize) -> usize
 ///
 /// # Errors
 /// Want of memory. The split is then somewhere between.
-pub(crate) fn move_split(text: &TextGapBuffer, places: &mut Places, at: usize) -> Result<(), AllocError>
+pub(crate) fn move_split(
+    text: &TextGapBuffer,
+    places: &mut Places,
+    at: usize,
+) -> Result<(), AllocError>
     requires { IsPlacedIn (buffer_text text.now) places.old }
     ensures placed { IsPlacedIn (buffer_text text.now) places.new }
     ensures ok { OnOk result (IsSplitAt at (length (buffer_text text.now)) places.new) }

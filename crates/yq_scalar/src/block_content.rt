@@ -42,7 +42,12 @@ fn begins_white(text: &[u8]) -> bool
 }
 
 /// Adds what stands between a line and the one before it.
-fn push_joint(out: &mut String, before: LineBefore, white: bool, empty: usize) -> Result<(), AllocError>
+fn push_joint(
+    out: &mut String,
+    before: LineBefore,
+    white: bool,
+    empty: usize,
+) -> Result<(), AllocError>
     ensures { OnOk result (string_bytes out.new ≡ string_bytes out.old ++
         spec.joint before white empty) }
 {

@@ -15,7 +15,7 @@ use std::alloc::Global;
 use yq_core::{Kind, Scalar, is_true_word};
 use yq_nodes::{Node, NodeKind};
 use yq_scalar_reader::int_value;
-use yq_semantics::{Condition, ExprError, Operand, Refusal, PathStep};
+use yq_semantics::{Condition, ExprError, Operand, PathStep, Refusal};
 
 /// Whether two ints are the same: by their numbers, where both have one in 64
 /// bits, and else by their texts.

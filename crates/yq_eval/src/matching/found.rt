@@ -10,12 +10,12 @@ ghost use Rattle.yq_semantics.specs.Program.{each, path};
 ghost use Rattle.yq_semantics.specs.View.{stage_of, program_step};
 
 use crate::matching::pipe::find;
-use crate::matching::place::{Missing, FoundPlace};
+use crate::matching::place::{FoundPlace, Missing};
 use crate::matching::traverse::{step_each, traverse};
 use bumpalo::Bump;
 use std::alloc::Global;
 use yq_nodes::{Node, NodeKind};
-use yq_semantics::{ExprError, Stage, PathStep};
+use yq_semantics::{ExprError, PathStep, Stage};
 
 /// The places that a pipe finds.
 #[derive(Drop)]

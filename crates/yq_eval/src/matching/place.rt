@@ -93,7 +93,11 @@ impl<'a, 't> FoundPlace<'a, 't> {
     }
 
     /// The place of an item or entry one step below a path, before which so many stand.
-    pub fn nth_below(path: &'a NodePath<'a>, before: usize, child: &Node<'a, 't>) -> FoundPlace<'a, 't>
+    pub fn nth_below(
+        path: &'a NodePath<'a>,
+        before: usize,
+        child: &Node<'a, 't>,
+    ) -> FoundPlace<'a, 't>
         ensures { (p : spec.Place) → p.path ≡ path_of path.now → place_of result ≡
             spec.child_place p (
               spec.step_by before (label_of child.now).key,

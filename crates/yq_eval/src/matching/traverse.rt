@@ -9,13 +9,13 @@ ghost use Rattle.yq_semantics.specs.Places as spec;
 ghost use Rattle.yq_semantics.specs.Program.{each};
 ghost use Rattle.yq_semantics.specs.View.{program_step};
 
-use crate::matching::place::{Missing, NodePath, NodeStep, FoundPlace};
+use crate::matching::place::{FoundPlace, Missing, NodePath, NodeStep};
 use crate::matching::step::{index_step, key_step};
 use bumpalo::Bump;
 use std::alloc::{AllocError, Global};
 use yq_core::Kind;
 use yq_nodes::{Node, NodeKind};
-use yq_semantics::{ExprError, Refusal, PathStep};
+use yq_semantics::{ExprError, PathStep, Refusal};
 
 /// Puts the place from which the step is missing behind others. `[]` leads to
 /// none there.

@@ -135,12 +135,19 @@ fn is_word(name: &[u8]) -> bool
 }
 
 /// A string of that form with so many bytes before it, or a foreign token.
-fn quoted(form: TokenForm, before: usize, closed: Option<(bool, usize)>) -> Option<(TokenForm, usize)>
+fn quoted(
+    form: TokenForm,
+    before: usize,
+    closed: Option<(bool, usize)>,
+) -> Option<(TokenForm, usize)>
     requires { IfSome closed (λ x. before + x.1 < 2 ^ 64) }
     ensures { result ≡ spec.quoted form before closed }
 {
     let (foreign, len) = closed?;
-    Some((if foreign { TokenForm::Foreign } else { form }, before + len))
+    Some((
+        if foreign { TokenForm::Foreign } else { form },
+        before + len,
+    ))
 }
 
 /// The token that begins with a dot, from behind the dot.

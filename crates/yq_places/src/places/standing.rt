@@ -1,5 +1,5 @@
 //! What stands in a text where paths lead, outside flow collections.
-use crate::places::held::{Held, EntryMark};
+use crate::places::held::{EntryMark, Held};
 use yq_text::Halves;
 
 /// A node that is alone on its line: under a key or dash, or as a root.
