@@ -72,7 +72,8 @@ fn value_in_row(
     at: &HeldRow<'_>,
     value: &Value,
 ) -> Result<Option<RowPut>, AllocError>
-    requires operand { HasOperand (replace path.now.doc (steps_of path.now) (value_node value.now)) }
+    requires operand { HasOperand (replace path.now.doc (steps_of path.now)
+        (value_node value.now)) }
     requires row { IsHeldRow path.now.doc (steps_of path.now) (cut_of cut.now) at.now }
     ensures { IfOk result (λ o. IfSome o (spec.PutsInRow
         (replace path.now.doc (steps_of path.now) (value_node value.now)) (cut_of cut.now))) }

@@ -32,7 +32,8 @@ pub fn last_step(steps: &[Step]) -> Option<(&[Step], &Step)>
 
 /// The collection to which steps lead on in the head of a line.
 pub(crate) fn collection_in<'h, 't>(head: &'h FlowHead<'_, 't>) -> Option<&'h Inline<'t>>
-    ensures { option_map (λ n. behind_anchor (inline_view n.now)) result ≡ collection_view head.now }
+    ensures { option_map (λ n. behind_anchor (inline_view n.now)) result ≡
+        collection_view head.now }
 {
     collection_along(&head.node, head.left)
 }

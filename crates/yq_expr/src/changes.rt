@@ -160,7 +160,8 @@ pub(crate) fn changes(
     update: &Update,
     documents: &Documents<'_>,
 ) -> Result<Vec<Vec<PlacedChange>>, ExprError>
-    ensures { Judges (λ v. all_changed_of v.items) result (spec.update_changes (update_of update.now)
+    ensures { Judges (λ v. all_changed_of v.items) result
+        (spec.update_changes (update_of update.now)
         (room_of documents.now) (roots_of (documents_of documents.now))) }
 {
     if !has_comment(update) {

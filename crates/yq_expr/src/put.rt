@@ -77,7 +77,8 @@ fn created(
     value: Value,
 ) -> Result<Change, AllocError>
     ensures { IfOk result (λ c. change_of c ≡
-        spec.created (node_of node.now) (program_step first.now) (map (λ s. program_step s.now) others.now)
+        spec.created (node_of node.now) (program_step first.now)
+        (map (λ s. program_step s.now) others.now)
         (value_node value)) }
 {
     let below = nested(alloc, others, value)?;

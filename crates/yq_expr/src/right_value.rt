@@ -56,7 +56,8 @@ fn term_value<'a, 't>(
     place: &FoundPlace<'a, 't>,
 ) -> Result<Value, ExprError>
     requires { HasScalars (place_of place.now).node }
-    ensures { Judges value_node result (spec.term_value doc (place_of place.now) (term_of term.now)) }
+    ensures { Judges value_node result
+        (spec.term_value doc (place_of place.now) (term_of term.now)) }
 {
     match term {
         Term::Literal(value) => Ok(copied(alloc, value)?),

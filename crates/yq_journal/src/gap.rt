@@ -64,7 +64,8 @@ impl<'t> ByteGapBuffer<'t> {
 
     /// Moves the cursor on by so many bytes, where they are there.
     fn forward(&mut self, count: usize) -> Result<bool, AllocError>
-        ensures moved { IfOk result (λ there. IsTrue there → (buffer_bytes self.new ≡ buffer_bytes self.old) ×
+        ensures moved { IfOk result (λ there. IsTrue there →
+            (buffer_bytes self.new ≡ buffer_bytes self.old) ×
             (length self.new.before ≡ length self.old.before + count)) }
         ensures short { IfOk result (λ there. there ≡ false → length self.old.behind < count) }
     {
@@ -81,7 +82,8 @@ impl<'t> ByteGapBuffer<'t> {
 
     /// Moves the cursor to so many bytes from the text's start, where they are there.
     fn seek(&mut self, at: usize) -> Result<bool, AllocError>
-        ensures moved { IfOk result (λ there. IsTrue there → (buffer_bytes self.new ≡ buffer_bytes self.old) ×
+        ensures moved { IfOk result (λ there. IsTrue there →
+            (buffer_bytes self.new ≡ buffer_bytes self.old) ×
             (length self.new.before ≡ at)) }
         ensures short { IfOk result (λ there. there ≡ false → length (buffer_bytes self.old) < at) }
     {
@@ -95,9 +97,11 @@ impl<'t> ByteGapBuffer<'t> {
 
     /// Moves the cursor to so many bytes behind an offset, where they are there.
     fn reach(&mut self, at: usize, count: usize) -> Result<bool, AllocError>
-        ensures moved { IfOk result (λ there. IsTrue there → (buffer_bytes self.new ≡ buffer_bytes self.old) ×
+        ensures moved { IfOk result (λ there. IsTrue there →
+            (buffer_bytes self.new ≡ buffer_bytes self.old) ×
             (length self.new.before ≡ at + count)) }
-        ensures short { IfOk result (λ there. there ≡ false → length (buffer_bytes self.old) < at + count) }
+        ensures short { IfOk result (λ there. there ≡ false →
+            length (buffer_bytes self.old) < at + count) }
     {
         if !self.seek(at)? {
             return Ok(false);

@@ -30,7 +30,8 @@ fn value_text(alloc: Global, value: &Value) -> Result<String, AllocError>
 
 /// The text of the record of a move, of null where it has none.
 fn move_text(alloc: Global, step: &Move) -> Result<String, AllocError>
-    ensures written { IfOk result (λ s. spec.IsWrittenJson (string_bytes s) (json.move_data step.now)) }
+    ensures written { IfOk result (λ s. spec.IsWrittenJson (string_bytes s)
+        (json.move_data step.now)) }
     ensures reads_back { IfOk result (λ _. json.move_of true (json.kind_text step.now)
         (json.move_data step.now) ≡ Some step.now) }
 {

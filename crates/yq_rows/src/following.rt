@@ -19,7 +19,8 @@ use yq_text::TextGapBuffer;
 fn write(text: &mut TextGapBuffer, kept: Kept, new: &str)
     requires within { kept.front + kept.back ≤ length (buffer_text text.old) }
     requires front { IsCharBoundary (buffer_text text.old) kept.front }
-    requires back { IsCharBoundary (buffer_text text.old) (length (buffer_text text.old) - kept.back) }
+    requires back { IsCharBoundary (buffer_text text.old)
+        (length (buffer_text text.old) - kept.back) }
     requires room { length new.now ≤ text.old.room }
     ensures { buffer_text text.new ≡ exchanged kept (buffer_text text.old) new.now }
 {
@@ -46,7 +47,8 @@ pub fn follow(
 ) -> Result<(), AllocError>
     requires { Follows (buffer_text text.old) places.old kept new.now }
     ensures text { buffer_text text.new ≡
-        (if is_ok result then exchanged kept (buffer_text text.old) new.now else buffer_text text.old) }
+        (if is_ok result then exchanged kept (buffer_text text.old) new.now
+        else buffer_text text.old) }
     ensures placed { ArePlacesOf (buffer_text text.new) places.new }
     ensures counted { OnOk result (CountsWritten (buffer_text text.old)
         (buffer_text text.new) kept meter.old meter.new) }

@@ -224,7 +224,8 @@ fn indent_of(digit: Option<u8>, columns: usize, raw: &[u8]) -> TextIndent
 /// break as an LF or folded, the breaks at the end as its header asks.
 pub(crate) fn block_content(alloc: Global, text: &str, piece: &Piece) -> Result<String, AllocError>
     requires { IsBlockScalar text.now piece.now }
-    ensures exact { IfOk result (λ s. string_bytes s ≡ reading.block_piece_content text.now piece.now) }
+    ensures exact { IfOk result (λ s. string_bytes s ≡
+        reading.block_piece_content text.now piece.now) }
     ensures found { (n : ℤ) (p : IsBlockPiece n piece.now.start text.now piece.now) →
         IfOk result (λ s. string_bytes s ≡ spec.block_content p.block) }
 {

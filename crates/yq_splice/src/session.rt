@@ -186,7 +186,8 @@ impl Session {
 
     /// Ends the session by an operation, whose splices come behind others. The rows need not follow it.
     pub(crate) fn close_by(self, op: &Op, splices: Vec<Splice>) -> Result<Edited, EditError>
-        ensures { Edits result (edit_after splices.items (carried (operation_of op.now) self.text)) }
+        ensures { Edits result (edit_after splices.items
+            (carried (operation_of op.now) self.text)) }
     {
         let Session {
             alloc,

@@ -77,7 +77,8 @@ fn steps(alloc: Global, text: &str) -> Result<(Vec<PathStep>, &str), ParseError>
 /// A path: its steps, none for `.`.
 #[tactic(auto, unfolding(crate::specs::Parse::path_at))]
 pub(super) fn path(alloc: Global, text: &str) -> Result<(Vec<PathStep>, &str), ParseError>
-    ensures value { ReadsForm (λ v. map program_step v.items) result (spec.path_at (tokens text.now)) }
+    ensures value { ReadsForm (λ v. map program_step v.items) result
+        (spec.path_at (tokens text.now)) }
     ensures shorter { Shortens text.now result }
 {
     if after(text, "[").is_some() {

@@ -63,7 +63,8 @@ fn split_plain(text: &str) -> (&str, &str)
 }
 
 fn escape(b: u8) -> Option<&'static str>
-    ensures { option_map (λ s. s.now) result ≡ option_map (λ c. c ∷ []) (grammar.escaped_character b) }
+    ensures { option_map (λ s. s.now) result ≡
+        option_map (λ c. c ∷ []) (grammar.escaped_character b) }
 {
     match b {
         b'"' => Some("\""),

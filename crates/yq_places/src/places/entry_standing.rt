@@ -21,8 +21,8 @@ use yq_text::Halves;
 
 /// Whether a row is a node that is alone on its line.
 pub fn is_alone(row: &Row<'_>) -> bool
-    ensures { (r : RowOf) (rest : List ℕ) → slices r ≡ row_view row.now → IsMark r.mark r.content rest →
-        result ≡ spec.is_alone r }
+    ensures { (r : RowOf) (rest : List ℕ) → slices r ≡ row_view row.now →
+        IsMark r.mark r.content rest → result ≡ spec.is_alone r }
 {
     row.dashes().is_empty() && row.colon().is_empty()
 }

@@ -26,8 +26,9 @@ pub struct FirstRemoval<'d> {
 
 /// What is taken out with an item or entry between two texts.
 pub fn first_out<'d>(before: Halves<'d>, own: Halves<'d>, behind: Halves<'d>) -> FirstRemoval<'d>
-    ensures { first_view result ≡ spec.first_out (piece_between (whole before.entry) (whole own.entry)
-        (whole behind.entry)) }
+    ensures { first_view result ≡
+        spec.first_out (piece_between
+        (whole before.entry) (whole own.entry) (whole behind.entry)) }
 {
     let (line, next) = split_line(behind);
     if begins_gap(next) {
