@@ -18,18 +18,18 @@ use Rattle.yq_edit_laws.specs.Answers.{EditFails}
 use Rattle.yq_edit_laws.specs.Carried.{carried}
 use Rattle.yq_edit_laws.specs.Edit.{gives, refuses}
 use Rattle.yq_batch.specs.RowRuns.{IsLast, IsRowRun, IsRowsRun, Passed, PutsInRow, PutsSo, PutsText, RowsGoOn, bytes_in, rows_still}
-use Rattle.yq_batch.specs.Runs.{HasPut, PutFails, now_text, run_front, text_after_run}
+use Rattle.yq_batch.specs.Runs.{HasPut, PutFails, now_text, run_front, text_with_run}
 use Rattle.yq_edit_laws.specs.Theorems.{IsFitting}
 use Rattle.yq_edit_laws.specs.declared.edit_error.EditError.{EditError}
 use Rattle.yq_edit_laws.specs.declared.edit_error.EditError.TheVariants as error
 use Rattle.yq_batch.specs.declared.in_rows.RowPut.{RowPut}
-use Rattle.yq_batch.specs.declared.run.Run.{Run}
+use Rattle.yq_batch.specs.declared.run.PutRun.{PutRun}
 use Rattle.yq_edit_laws.proofs.ApplyLaws.{applied_by}
 use Rattle.yq_edit_laws.proofs.TextFaults.{text_utf8}
 use Rattle.yq_batch.proofs.RowRunLaws.{old_is, read_now, row_goes_on, row_put_comes, row_put_large, row_stays}
 
 -- nothing was changed yet
-pub rows_begin : (t : List ℕ) (r : Run) → read_at t ≡ Some (cut_of t) → string_bytes r.text ≡ [] → r.done ≡ 0 → IsRowsRun (cut_of t) None r
+pub rows_begin : (t : List ℕ) (r : PutRun) → read_at t ≡ Some (cut_of t) → string_bytes r.text ≡ [] → r.done ≡ 0 → IsRowsRun (cut_of t) None r
 rows_begin t r read text done =
     let same : cut_text (cut_of t) ≡ t = text_read t (cut_of t) read in
     let begin : IsRowRun (cut_of t) 0 0 [] 0 = record {
@@ -60,7 +60,7 @@ module _ (t u : List ℕ) (read : read_at t ≡ Some (cut_of t)) (all : u ≡ t)
   text_is_whole : u ≡ cut_text (cut_of t)
   text_is_whole = whole_text t u read all
 
-  pub row_edge : (o : Option (ℕ × ℕ)) (r : Run) → IsRowsRun (cut_of t) o r → IsCharBoundary u r.done
+  pub row_edge : (o : Option (ℕ × ℕ)) (r : PutRun) → IsRowsRun (cut_of t) o r → IsCharBoundary u r.done
   row_edge o r run = subst (λ (l : List ℕ). IsCharBoundary l r.done) (sym text_is_whole) run.run.edge
 
   pub row_starts : (op : Operation) (x : RowPut) → PutsInRow op (cut_of t) x → IsCharBoundary u x.start
@@ -72,7 +72,7 @@ module _ (t u : List ℕ) (read : read_at t ≡ Some (cut_of t)) (all : u ≡ t)
   pub row_order : (op : Operation) (x : RowPut) → PutsInRow op (cut_of t) x → x.start ≤ x.end
   row_order op x h = omega (arith, h.start, h.finish)
 
-module _ (t u : List ℕ) (op : Operation) (o : Option (ℕ × ℕ)) (before : Run) (x : RowPut) (read : read_at t ≡ Some (cut_of t)) (all : u ≡ t) (run : IsRowsRun (cut_of t) o before) (h : PutsInRow op (cut_of t) x) (passed : Passed o x.doc x.row) (ordered : before.done ≤ x.start) (fitting : IsFitting op (now_text (cut_of t) before)) where
+module _ (t u : List ℕ) (op : Operation) (o : Option (ℕ × ℕ)) (before : PutRun) (x : RowPut) (read : read_at t ≡ Some (cut_of t)) (all : u ≡ t) (run : IsRowsRun (cut_of t) o before) (h : PutsInRow op (cut_of t) x) (passed : Passed o x.doc x.row) (ordered : before.done ≤ x.start) (fitting : IsFitting op (now_text (cut_of t) before)) where
   abbrev c : Cut
   c = cut_of t
 
@@ -109,14 +109,14 @@ module _ (t u : List ℕ) (op : Operation) (o : Option (ℕ × ℕ)) (before : R
     behind_done : before.done ≤ length h.before
     behind_done = omega (arith, ordered, h.start)
 
-    put_at_row : (after : Run) → HasPut (cut_text c) (length h.before) (length h.before + length h.old) new before after → RowsGoOn op c before (Some (x.doc, x.row)) after
+    put_at_row : (after : PutRun) → HasPut (cut_text c) (length h.before) (length h.before + length h.old) new before after → RowsGoOn op c before (Some (x.doc, x.row)) after
     put_at_row after a =
         let out : List ℕ = string_bytes before.text in
         let start : ℕ = length h.before in
         let finish : ℕ = length h.before + length h.old in
         let old_there : drop start (take finish (cut_text c)) ≡ h.old = old_is c run.document run.row out before.done run.run op h.steps h.entry h.found later h.before h.old new h.behind h.text behind_done puts in
         let cs : List Splice = splice_at (length (run_front (cut_text c) before start)) (drop start (take finish (cut_text c))) new in
-        let text : text_after_run (cut_text c) (run_front (cut_text c) before start ++ new) finish ≡ now_text c after = λ i. text_after_run (cut_text c) (sym a.text i) (sym a.done i) in
+        let text : text_with_run (cut_text c) (run_front (cut_text c) before start ++ new) finish ≡ now_text c after = λ i. text_with_run (cut_text c) (sym a.text i) (sym a.done i) in
         let comes : carried op (now_text c before) ≡ gives (now_text c after) cs =
         row_put_comes c run.document run.row out before.done run.run op h.steps h.entry h.found later h.before h.old new h.behind h.text behind_done puts a.size
         ∙ (λ i. gives (text i) (splice_at (length (run_front (cut_text c) before start)) (sym old_there i) new)) in
@@ -136,7 +136,7 @@ module _ (t u : List ℕ) (op : Operation) (o : Option (ℕ × ℕ)) (before : R
         }
 
     -- a text comes there
-    pub row_put_on : (after : Run) → HasPut u x.start x.end new before after → RowsGoOn op c before (Some (x.doc, x.row)) after
+    pub row_put_on : (after : PutRun) → HasPut u x.start x.end new before after → RowsGoOn op c before (Some (x.doc, x.row)) after
     row_put_on after a = put_at_row after (subst (λ (l : List ℕ). HasPut l (length h.before) (length h.before + length h.old) new before after) whole_is (subst (λ (i : ℕ). HasPut u (length h.before) i new before after) h.finish (subst (λ (i : ℕ). HasPut u i x.end new before after) h.start a)))
 
     large : (e : EditError) → PutFails e (cut_text c) (length h.before) (length h.before + length h.old) new before → EditFails e (carried op (now_text c before))

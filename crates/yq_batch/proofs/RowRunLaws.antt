@@ -30,7 +30,7 @@ use Rattle.yq_edit_laws.proofs.CutLaws.{cut_read, text_read}
 use Rattle.yq_edit_laws.specs.Carried.{carried, carry_one}
 use Rattle.yq_edit_laws.specs.Edit.{by_reading, edit_of_segments, exchange_edit, gives, refuses}
 use Rattle.yq_batch.specs.RowRuns.{IsRowRun, PutsText, rows_still}
-use Rattle.yq_batch.specs.Runs.{text_after_run}
+use Rattle.yq_batch.specs.Runs.{text_with_run}
 use Rattle.yq_edit_laws.specs.Theorems.{IsFitting}
 use Rattle.yq_edit_laws.proofs.ApplyLaws.{fits}
 
@@ -50,7 +50,7 @@ module _ (c : Cut) (k n : ℕ) (out : List ℕ) (done : ℕ) (run : IsRowRun c k
   still = run.stays (op_document op) steps e at later
 
   abbrev now : List ℕ
-  now = text_after_run (cut_text c) out done
+  now = text_with_run (cut_text c) out done
 
   pub text_now : cut_text run.cut ≡ now
   text_now = text_read now run.cut run.read
@@ -118,26 +118,26 @@ module _ (c : Cut) (k n : ℕ) (out : List ℕ) (done : ℕ) (run : IsRowRun c k
         let upto : take finish t ≡ before ++ old = (λ i. take (size i) (apart i)) ∙ take-append_seam (before ++ old) behind in
         ap (drop start) upto ∙ drop-append_seam before old
 
-    new_is : new_text ss ≡ text_after_run t new_out finish
+    new_is : new_text ss ≡ text_with_run t new_out finish
     new_is = x.puts.new_is ∙ ((λ i. front_is i ++ (new ++ sym left_is i)) ∙ sym (append_assoc new_front new (drop finish t)))
 
     changes_are : changes ss ≡ splice_at (length new_front) old new
     changes_are = x.puts.changes_are ∙ ap (λ (u : List ℕ). splice_at (length u) old new) front_is
 
-    pub row_put_comes : length (text_after_run t new_out finish) ≤ text_limit → carried op now ≡ gives (text_after_run t new_out finish) (splice_at (length new_front) old new)
+    pub row_put_comes : length (text_with_run t new_out finish) ≤ text_limit → carried op now ≡ gives (text_with_run t new_out finish) (splice_at (length new_front) old new)
     row_put_comes small =
         comes ss x.edited
         ∙ ((λ i. exchange_edit (cond (leb (length (new_is i)) text_limit) (exchange.gives (new_is i) (changes_are i)) exchange.too_large))
-        ∙ ap (λ (b : Bool). exchange_edit (cond b (exchange.gives (text_after_run t new_out finish) (splice_at (length new_front) old new)) exchange.too_large)) (le-leb (length (text_after_run t new_out finish)) text_limit small))
+        ∙ ap (λ (b : Bool). exchange_edit (cond b (exchange.gives (text_with_run t new_out finish) (splice_at (length new_front) old new)) exchange.too_large)) (le-leb (length (text_with_run t new_out finish)) text_limit small))
 
-    pub row_put_large : text_limit < length (text_after_run t new_out finish) → carried op now ≡ refuses TooLarge
+    pub row_put_large : text_limit < length (text_with_run t new_out finish) → carried op now ≡ refuses TooLarge
     row_put_large large =
         comes ss x.edited
         ∙ ((λ i. exchange_edit (cond (leb (length (new_is i)) text_limit) (exchange.gives (new_is i) (changes_are i)) exchange.too_large))
-        ∙ ap (λ (b : Bool). exchange_edit (cond b (exchange.gives (text_after_run t new_out finish) (splice_at (length new_front) old new)) exchange.too_large)) (lt-leb (length (text_after_run t new_out finish)) text_limit large))
+        ∙ ap (λ (b : Bool). exchange_edit (cond b (exchange.gives (text_with_run t new_out finish) (splice_at (length new_front) old new)) exchange.too_large)) (lt-leb (length (text_with_run t new_out finish)) text_limit large))
 
     -- the run goes on behind it
-    pub row_goes_on : IsCharBoundary t finish → HasOperand op → IsFitting op now → length (text_after_run t new_out finish) ≤ text_limit → IsRowRun c (op_document op) (suc (length e.front)) new_out finish
+    pub row_goes_on : IsCharBoundary t finish → HasOperand op → IsFitting op now → length (text_with_run t new_out finish) ≤ text_limit → IsRowRun c (op_document op) (suc (length e.front)) new_out finish
     row_goes_on edge operand fitting small =
         let m : ℕ = op_document op in
         let same : fitting.read.parts ≡ run.cut = same_Some _ _ (sym (parts_read now fitting.before fitting.read).0 ∙ run.read) in

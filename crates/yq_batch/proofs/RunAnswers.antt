@@ -30,11 +30,11 @@ use Rattle.yq_edit_laws.proofs.FlowAnswers.{whole_text}
 use Rattle.yq_edit_laws.specs.Answers.{EditFails}
 use Rattle.yq_edit_laws.specs.Carried.{carried}
 use Rattle.yq_edit_laws.specs.Edit.{gives, refuses}
-use Rattle.yq_batch.specs.Runs.{EndsAt, EndsInCollection, HasPut, IsPutRun, PutFails, PutsAt, Runs, RunsOn, now_text, run_front, text_after_run}
+use Rattle.yq_batch.specs.Runs.{EndsAt, EndsInCollection, HasPut, IsPutRun, PutFails, PutsAt, Runs, RunsOn, now_text, run_front, text_with_run}
 use Rattle.yq_edit_laws.specs.Theorems.{IsFitting}
 use Rattle.yq_edit_laws.specs.declared.edit_error.EditError.{EditError}
 use Rattle.yq_edit_laws.specs.declared.edit_error.EditError.TheVariants as error
-use Rattle.yq_batch.specs.declared.run.Run.{Run}
+use Rattle.yq_batch.specs.declared.run.PutRun.{PutRun}
 use Rattle.yq_edit_laws.proofs.ApplyLaws.{applied_by}
 use Rattle.yq_batch.proofs.RunLaws.{goes_on, kept_there, large_there, put_there}
 use Rattle.yq_edit_laws.proofs.TextFaults.{text_utf8}
@@ -53,15 +53,15 @@ run_begins t n stem read leads =
     }
 
 -- the same of a run that the code begins
-pub begins : (t : List ℕ) (n : ℕ) (stem : List Step) (r : Run) → read_at t ≡ Some (cut_of t) → LeadsToHead (cut_of t) n stem →
+pub begins : (t : List ℕ) (n : ℕ) (stem : List Step) (r : PutRun) → read_at t ≡ Some (cut_of t) → LeadsToHead (cut_of t) n stem →
     string_bytes r.text ≡ [] → r.done ≡ 0 → Runs (cut_of t) n stem r
 begins t n stem r read leads text done =
     subst (λ (d : ℕ). IsPutRun (cut_of t) n stem (string_bytes r.text) d) (sym done)
     (subst (λ (l : List ℕ). IsPutRun (cut_of t) n stem l 0) (sym text) (run_begins t n stem read leads))
 
 -- the text of a run in which nothing was put
-pub begins_with : (t : List ℕ) (r : Run) → read_at t ≡ Some (cut_of t) → string_bytes r.text ≡ [] → r.done ≡ 0 → now_text (cut_of t) r ≡ t
-begins_with t r read text done = (λ i. text_after_run (cut_text (cut_of t)) (text i) (done i)) ∙ text_read t (cut_of t) read
+pub begins_with : (t : List ℕ) (r : PutRun) → read_at t ≡ Some (cut_of t) → string_bytes r.text ≡ [] → r.done ≡ 0 → now_text (cut_of t) r ≡ t
+begins_with t r read text done = (λ i. text_with_run (cut_text (cut_of t)) (text i) (done i)) ∙ text_read t (cut_of t) read
 
 -- a path ends there, if the steps above its last one are those to the head and others
 pub ends_there : (path above stem left : List Step) (s : Step) → Some (above, s) ≡ last_step path → above ≡ stem ++ left → EndsAt stem left path
@@ -103,13 +103,13 @@ module _ (t u : List ℕ) (read : read_at t ≡ Some (cut_of t)) (all : u ≡ t)
   text_is : u ≡ cut_text (cut_of t)
   text_is = whole_text t u read all
 
-  pub edge_in : (n : ℕ) (steps : List Step) (r : Run) → Runs (cut_of t) n steps r → IsCharBoundary u r.done
+  pub edge_in : (n : ℕ) (steps : List Step) (r : PutRun) → Runs (cut_of t) n steps r → IsCharBoundary u r.done
   edge_in n steps r run = subst (λ (l : List ℕ). IsCharBoundary l r.done) (sym text_is) run.edge
 
   pub lies_in : (op : Operation) (n : ℕ) (steps : List Step) (x : FlowHead) (p : PartPut) → PutsAt op t n steps x p → LiesIn u (moved_on x.before (edit_view p.place))
   lies_in op n steps x p h = subst (λ (l : List ℕ). LiesIn l (moved_on x.before (edit_view p.place))) (sym text_is) h.placed.lies
 
-module _ (t u : List ℕ) (n : ℕ) (steps : List Step) (op : Operation) (before : Run) (x : FlowHead) (p : PartPut) (read : read_at t ≡ Some (cut_of t)) (all : u ≡ t)
+module _ (t u : List ℕ) (n : ℕ) (steps : List Step) (op : Operation) (before : PutRun) (x : FlowHead) (p : PartPut) (read : read_at t ≡ Some (cut_of t)) (all : u ≡ t)
     (run : Runs (cut_of t) n steps before) (h : PutsAt op t n steps x p) (behind : before.done ≤ x.before + p.place.start) (passes : before.done < x.before + p.place.end) (fitting : IsFitting op (now_text (cut_of t) before)) where
   abbrev c : Cut
   c = cut_of t
@@ -126,7 +126,7 @@ module _ (t u : List ℕ) (n : ℕ) (steps : List Step) (op : Operation) (before
   own_fits : IsFitting own now
   own_fits = subst (λ (o : Operation). IsFitting o now) h.operation fitting
 
-  runs_so : (after : Run) → RunsOn own c n steps before after → RunsOn op c n steps before after
+  runs_so : (after : PutRun) → RunsOn own c n steps before after → RunsOn op c n steps before after
   runs_so after = subst (λ (o : Operation). RunsOn o c n steps before after) (sym h.operation)
 
   -- an equal scalar
@@ -153,11 +153,11 @@ module _ (t u : List ℕ) (n : ℕ) (steps : List Step) (op : Operation) (before
     is = subst (IsWrittenPart (node_in n h.path c) h.value h.part) some h.written
 
     -- another value
-    pub put_on : (after : Run) → HasPut u start finish new before after → RunsOn op c n steps before after
+    pub put_on : (after : PutRun) → HasPut u start finish new before after → RunsOn op c n steps before after
     put_on after has_put =
         let a : HasPut (cut_text c) start finish new before after = subst (λ (l : List ℕ). HasPut l start finish new before after) whole_is has_put in
         let cs : List Splice = splice_at (length (run_front (cut_text c) before start)) (drop start (take finish (cut_text c))) new in
-        let text : text_after_run (cut_text c) (run_front (cut_text c) before start ++ new) finish ≡ now_text c after = λ i. text_after_run (cut_text c) (sym a.text i) (sym a.done i) in
+        let text : text_with_run (cut_text c) (run_front (cut_text c) before start ++ new) finish ≡ now_text c after = λ i. text_with_run (cut_text c) (sym a.text i) (sym a.done i) in
         let comes : carried own now ≡ gives (now_text c after) cs =
         put_there c n steps h.path h.value (string_bytes before.text) before.done again run h.ends h.part h.standing x p.place h.placed behind passes (string_bytes s) is.0 is.1 a.size
         ∙ ap (λ (l : List ℕ). gives l cs) text in

@@ -39,7 +39,7 @@ use Rattle.yq_edit_laws.proofs.FlowPutLaws.{head_behind, next, part_behind, repl
 use Rattle.yq_edit_laws.proofs.FlowStandings.{EntryAt, entry_found}
 use Rattle.yq_edit_laws.specs.Carried.{carried}
 use Rattle.yq_edit_laws.specs.Edit.{edit_of_segments, gives, refuses}
-use Rattle.yq_batch.specs.Runs.{EndsInCollection, IsPutRun, text_after_run}
+use Rattle.yq_batch.specs.Runs.{EndsInCollection, IsPutRun, text_with_run}
 use Rattle.yq_edit_laws.specs.Theorems.{IsFitting}
 use Rattle.yq_edit_laws.proofs.ApplyLaws.{fits}
 use Rattle.yq_batch.proofs.PutComes.{kept_comes, made_text, new_is, put_comes, segments_come, segments_large}
@@ -55,7 +55,7 @@ module _ (c : Cut) (n : ℕ) (stem path : List Step) (v : Node) (out : List ℕ)
   t = cut_text c
 
   abbrev now : List ℕ
-  now = text_after_run t out done
+  now = text_with_run t out done
 
   abbrev start : ℕ
   start = x.before + place.start
@@ -165,7 +165,7 @@ module _ (c : Cut) (n : ℕ) (stem path : List Step) (v : Node) (out : List ℕ)
     lead_is : place.lead.now ≡ e.lead
     lead_is = ap (λ (p : PlacedEdit). p.lead) at.place_is
 
-    new_bytes_are : made_text front e ≡ text_after_run t new_out finish
+    new_bytes_are : made_text front e ≡ text_with_run t new_out finish
     new_bytes_are = λ i. (front ++ (sym lead_is i ++ sym written_is i)) ++ sym left_is i
 
     cs_is : splice_at (length front) e.old (e.lead ++ e.written) ≡ cs
@@ -174,16 +174,16 @@ module _ (c : Cut) (n : ℕ) (stem path : List Step) (v : Node) (out : List ℕ)
     comes : carried (replace n path v) now ≡ edit_of_segments (flow_segments (cut_text run.cut) e)
     comes = ap (carried (replace n path v)) (sym text) ∙ put_comes run.cut n path v read a (sym same_kept ∙ other)
 
-    pub put_there : length (text_after_run t new_out finish) ≤ text_limit → carried (replace n path v) now ≡ gives (text_after_run t new_out finish) cs
+    pub put_there : length (text_with_run t new_out finish) ≤ text_limit → carried (replace n path v) now ≡ gives (text_with_run t new_out finish) cs
     put_there small = comes ∙ (segments_come (cut_text run.cut) front e split (omega (arith, small, ap length new_bytes_are)) ∙ λ i. gives (new_bytes_are i) (cs_is i))
 
-    pub large_there : text_limit < length (text_after_run t new_out finish) → carried (replace n path v) now ≡ refuses TooLarge
+    pub large_there : text_limit < length (text_with_run t new_out finish) → carried (replace n path v) now ≡ refuses TooLarge
     large_there large = comes ∙ segments_large (cut_text run.cut) front e split (omega (arith, large, ap length new_bytes_are))
 
     -- the run goes on behind it
-    pub goes_on : IsValueTree v → IsFitting (replace n path v) now → length (text_after_run t new_out finish) ≤ text_limit → IsPutRun c n stem new_out finish
+    pub goes_on : IsValueTree v → IsFitting (replace n path v) now → length (text_with_run t new_out finish) ≤ text_limit → IsPutRun c n stem new_out finish
     goes_on value fitting small =
-        let new_bytes : new_text (flow_segments (cut_text run.cut) e) ≡ text_after_run t new_out finish = new_is (cut_text run.cut) front e split ∙ new_bytes_are in
+        let new_bytes : new_text (flow_segments (cut_text run.cut) e) ≡ text_with_run t new_out finish = new_is (cut_text run.cut) front e split ∙ new_bytes_are in
         let same : fitting.read.parts ≡ run.cut = same_Some _ _ (sym (parts_read now fitting.before fitting.read).0 ∙ run.read) in
         let fit : Fits (room_of (cut_text run.cut)) (replace n path v) (documents run.cut) = subst (λ (d : Cut). Fits (room_of (cut_text d)) (replace n path v) (documents d)) same (fits (replace n path v) now value fitting) in
         let reads = replaced_reads run.cut n path v read a value fit (omega (arith, small, ap length new_bytes)) in

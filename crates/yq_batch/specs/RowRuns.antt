@@ -24,10 +24,10 @@ use Rattle.yq_edits.specs.RowChanges.{ChangesRow, PutsOne}
 use Rattle.yq_edits.specs.WrittenValues.{value_text}
 use Rattle.yq_edit_laws.specs.Carried.{carried}
 use Rattle.yq_edit_laws.specs.Edit.{gives}
-use Rattle.yq_batch.specs.Runs.{now_text, text_after_run}
+use Rattle.yq_batch.specs.Runs.{now_text, text_with_run}
 use Rattle.yq_edit_laws.specs.Theorems.{IsApplied}
 use Rattle.yq_batch.specs.declared.in_rows.RowPut.{RowPut}
-use Rattle.yq_batch.specs.declared.run.Run.{Run}
+use Rattle.yq_batch.specs.declared.run.PutRun.{PutRun}
 
 -- ---- runs
 
@@ -37,7 +37,7 @@ pub record IsRowRun (c : Cut) (k n : ℕ) (out : List ℕ) (done : ℕ) : Type 0
   pub within : done ≤ length (cut_text c)
   pub edge : IsCharBoundary (cut_text c) done
   pub cut : Cut
-  pub read : read_at (text_after_run (cut_text c) out done) ≡ Some cut
+  pub read : read_at (text_with_run (cut_text c) out done) ≡ Some cut
   pub stays : (m : ℕ) (steps : List Step) (e : RowsOfEntry) → rows_of_entry m steps c ≡ Some e → IsBehind k n m (length e.front) → StandsStill e m steps cut
 
 -- the row that was changed last, by its document and how many rows stand before it, is the one in front of row n of document k (own)
@@ -51,7 +51,7 @@ Passed None m row = ⊤
 Passed (Some x) m row = (x.0 < m) ⊎ ((x.0 ≡ m) × (x.1 < row))
 
 -- a run of the code is one, by the row that was changed last (own)
-pub record IsRowsRun (c : Cut) (o : Option (ℕ × ℕ)) (r : Run) : Type 0 where
+pub record IsRowsRun (c : Cut) (o : Option (ℕ × ℕ)) (r : PutRun) : Type 0 where
   pub document : ℕ
   pub row : ℕ
   pub last : IsLast c o document row
@@ -119,7 +119,7 @@ pub record PutsInRow (op : Operation) (c : Cut) (x : RowPut) : Type 0 where
   pub there : PutsWhereStill op entry steps old behind (bytes_in string_bytes x.written)
 
 -- An operation is carried out on the text of a run, which goes on behind it, and behind the row that was changed last then (own).
-pub record RowsGoOn (op : Operation) (c : Cut) (before : Run) (last : Option (ℕ × ℕ)) (after : Run) : Type 0 where
+pub record RowsGoOn (op : Operation) (c : Cut) (before : PutRun) (last : Option (ℕ × ℕ)) (after : PutRun) : Type 0 where
   pub new_bytes : List Splice
   pub comes : carried op (now_text c before) ≡ gives (now_text c after) new_bytes
   pub applied : IsApplied op (now_text c before) (now_text c after) new_bytes

@@ -24,11 +24,11 @@ use Rattle.yq_edit_laws.specs.Edit.{gives}
 use Rattle.yq_edit_laws.specs.Theorems.{IsApplied}
 use Rattle.yq_edit_laws.specs.declared.edit_error.EditError.{EditError}
 use Rattle.yq_edit_laws.specs.declared.edit_error.EditError.TheVariants as error
-use Rattle.yq_batch.specs.declared.run.Run.{Run}
+use Rattle.yq_batch.specs.declared.run.PutRun.{PutRun}
 
 -- a text whose first bytes gave way to others (own)
-abbrev pub text_after_run : List ℕ → (out : List ℕ) → (done : ℕ) → List ℕ
-text_after_run t out done = out ++ drop done t
+abbrev pub text_with_run : List ℕ → (out : List ℕ) → (done : ℕ) → List ℕ
+text_with_run t out done = out ++ drop done t
 
 -- The first bytes of a cut's text gave way to others, by values put at parts of the head to which steps lead: the text reads, the steps lead to a head
 -- in it, and the parts whose contents stand in the bytes that stay are there as they were, in whichever collections (own).
@@ -36,7 +36,7 @@ pub record IsPutRun (c : Cut) (n : ℕ) (stem : List Step) (out : List ℕ) (don
   pub within : done ≤ length (cut_text c)
   pub edge : IsCharBoundary (cut_text c) done
   pub cut : Cut
-  pub read : read_at (text_after_run (cut_text c) out done) ≡ Some cut
+  pub read : read_at (text_with_run (cut_text c) out done) ≡ Some cut
   pub leads : LeadsToHead cut n stem
   pub stays : (left : List Step) (s : Step) (y : EntryPieces) → IsPartOf c n (stem ++ left) s y → length y.rest < length (cut_text c) - done →
       length (node_text (without_anchor y.node) y.rest) ≤ length (cut_text c) - done → IsPartOf cut n (stem ++ left) s y
@@ -50,11 +50,11 @@ abbrev pub EndsInCollection : (stem steps : List Step) → Type 0
 EndsInCollection stem steps = (left : List Step) × EndsAt stem left steps
 
 -- the text that a run has made so far (own)
-abbrev pub now_text : Cut → Run → List ℕ
-now_text c r = text_after_run (cut_text c) (string_bytes r.text) r.done
+abbrev pub now_text : Cut → PutRun → List ℕ
+now_text c r = text_with_run (cut_text c) (string_bytes r.text) r.done
 
 -- a run of the code is one (own)
-abbrev pub Runs : Cut → ℕ → List Step → Run → Type 0
+abbrev pub Runs : Cut → ℕ → List Step → PutRun → Type 0
 Runs c n stem r = IsPutRun c n stem (string_bytes r.text) r.done
 
 -- An operation puts a value at a part of the head to which steps lead in document n of a text, which was read (own).
@@ -70,24 +70,24 @@ pub record PutsAt (op : Operation) (t : List ℕ) (n : ℕ) (stem : List Step) (
   pub written : IsWrittenPart (node_in n path (cut_of t)) value part p.written
 
 -- what a run has written, with what stays up to a place (own)
-abbrev pub run_front : List ℕ → Run → ℕ → List ℕ
+abbrev pub run_front : List ℕ → PutRun → ℕ → List ℕ
 run_front t r start = string_bytes r.text ++ drop r.done (take start t)
 
 -- A text has come in the place of what stands between two places, and the whole is no larger than a text may be (own).
-pub record HasPut (t : List ℕ) (start end : ℕ) (new : List ℕ) (before after : Run) : Type 0 where
+pub record HasPut (t : List ℕ) (start end : ℕ) (new : List ℕ) (before after : PutRun) : Type 0 where
   pub text : string_bytes after.text ≡ run_front t before start ++ new
   pub done : after.done ≡ end
   pub splices : after.splices.items ≡ before.splices.items ++ splice_at (length (run_front t before start)) (drop start (take end t)) new
-  pub size : length (text_after_run t (run_front t before start ++ new) end) ≤ text_limit
+  pub size : length (text_with_run t (run_front t before start ++ new) end) ≤ text_limit
 
 -- why it has not: the whole would be too large, or memory ran out (own)
-abbrev pub PutFails : EditError → List ℕ → (start end : ℕ) → List ℕ → Run → Type 0
+abbrev pub PutFails : EditError → List ℕ → (start end : ℕ) → List ℕ → PutRun → Type 0
 PutFails (error.Read fault) t start end new r = ⊥
-PutFails (error.Refused why) t start end new r = (why ≡ TooLarge) × (text_limit < length (text_after_run t (run_front t r start ++ new) end))
+PutFails (error.Refused why) t start end new r = (why ≡ TooLarge) × (text_limit < length (text_with_run t (run_front t r start ++ new) end))
 PutFails error.Memory t start end new r = ⊤
 
 -- An operation is carried out on the text of a run, which goes on behind it (own).
-pub record RunsOn (op : Operation) (c : Cut) (n : ℕ) (steps : List Step) (before after : Run) : Type 0 where
+pub record RunsOn (op : Operation) (c : Cut) (n : ℕ) (steps : List Step) (before after : PutRun) : Type 0 where
   pub new_bytes : List Splice
   pub comes : carried op (now_text c before) ≡ gives (now_text c after) new_bytes
   pub applied : IsApplied op (now_text c before) (now_text c after) new_bytes

@@ -17,7 +17,7 @@ ghost use Rattle.yq_batch.specs.Runs.{now_text};
 ghost use Rattle.yq_edit_laws.specs.Theorems.{IsFitting};
 ghost use Rattle.yq_edit_laws.specs.Valid.{AreServed};
 
-use crate::run::Run;
+use crate::run::PutRun;
 use std::alloc::{AllocError, Global};
 use yq_block_edits::{comment_written, is_kept_in_row};
 use yq_core::{Place, Value};
@@ -72,7 +72,8 @@ fn value_in_row(
     at: &HeldRow<'_>,
     value: &Value,
 ) -> Result<Option<RowPut>, AllocError>
-    requires operand { HasOperand (replace path.now.doc (steps_of path.now) (value_node value.now)) }
+    requires operand { HasOperand (replace path.now.doc (steps_of path.now)
+        (value_node value.now)) }
     requires row { IsHeldRow path.now.doc (steps_of path.now) (cut_of cut.now) at.now }
     ensures { IfOk result (λ o. IfSome o (spec.PutsInRow
         (replace path.now.doc (steps_of path.now) (value_node value.now)) (cut_of cut.now))) }
@@ -172,7 +173,7 @@ fn put_one(
     cut: &mut CutText<'_, '_>,
     op: &Op,
     last: Option<(usize, usize)>,
-    run: &mut Run,
+    run: &mut PutRun,
 ) -> Result<Option<Option<(usize, usize)>>, EditError>
     requires run { spec.IsRowsRun (cut_of cut.old) last run.old }
     requires fits { IsFitting (operation_of op.now) (now_text (cut_of cut.old) run.old) }
@@ -231,7 +232,7 @@ pub fn carry_in_rows<'d>(
     }
     let text = cut.text();
     let mut way = on_the_way(cut, first);
-    let mut run = Run::with_room(alloc, text.len(), ops.len())?;
+    let mut run = PutRun::with_room(alloc, text.len(), ops.len())?;
     let mut last = None;
     let mut rest = ops;
     'operations: while let [op, after @ ..] = rest {

@@ -1,7 +1,7 @@
 //! Runs: the text and the splices that values make which are put one behind the other.
 ghost use Rattle.std.specs.Prelude.{◌≡◌, ◌≤◌, ◌<◌, ◌++◌, [], true, IfErr, IfOk, OnOk, drop, take, string_bytes};
 ghost use Rattle.std.specs.Str.{IsCharBoundary};
-ghost use Rattle.yq_text.specs.Halves.{halves_text};
+ghost use Rattle.yq_text.specs.Halves.{whole};
 ghost use Rattle.yq_text.specs.Script.{splice_at};
 ghost use Rattle.yq_batch.specs.Runs as spec;
 
@@ -12,7 +12,7 @@ use yq_text::{Edited, Halves, Splice, TEXT_LIMIT};
 
 /// What values put one behind the other made of a text so far.
 #[derive(Drop)]
-pub(crate) struct Run {
+pub(crate) struct PutRun {
     /// What stands in the new text up to the end of the last one.
     pub(crate) text: String,
     /// How many bytes of the old text that takes the place of.
@@ -23,16 +23,16 @@ pub(crate) struct Run {
 /// What stands between two places of a text.
 fn between<'t>(text: Halves<'t>, from: usize, to: usize) -> Halves<'t>
     requires order { from ≤ to }
-    requires from { IsCharBoundary (halves_text text) from }
-    requires to { IsCharBoundary (halves_text text) to }
-    ensures { halves_text result ≡ drop from (take to (halves_text text.entry)) }
+    requires from { IsCharBoundary (whole text) from }
+    requires to { IsCharBoundary (whole text) to }
+    ensures { whole result ≡ drop from (take to (whole text.entry)) }
 {
     text.split_at(to).0.split_at(from).1
 }
 
 /// The bytes of a text.
 fn bytes_of(alloc: Global, text: Halves<'_>) -> Result<Vec<u8>, AllocError>
-    ensures { IfOk result (λ v. v.items ≡ halves_text text.entry) }
+    ensures { IfOk result (λ v. v.items ≡ whole text.entry) }
 {
     let mut bytes = Vec::new(alloc);
     bytes.extend_from_slice(text.front.as_bytes())?;
@@ -58,14 +58,14 @@ fn push_splice(
     Ok(())
 }
 
-impl Run {
+impl PutRun {
     /// Nothing yet.
-    pub(crate) fn new(alloc: Global) -> Run
+    pub(crate) fn new(alloc: Global) -> PutRun
         ensures text { string_bytes result.text ≡ [] }
         ensures done { result.done ≡ 0 }
         ensures splices { result.splices.items ≡ [] }
     {
-        Run {
+        PutRun {
             text: String::new(alloc),
             done: 0,
             splices: Vec::new(alloc),
@@ -73,12 +73,12 @@ impl Run {
     }
 
     /// Nothing yet, with room for a text of so many bytes and so many splices.
-    pub(crate) fn with_room(alloc: Global, size: usize, count: usize) -> Result<Run, AllocError>
+    pub(crate) fn with_room(alloc: Global, size: usize, count: usize) -> Result<PutRun, AllocError>
         ensures text { IfOk result (λ r. string_bytes r.text ≡ []) }
         ensures done { IfOk result (λ r. r.done ≡ 0) }
         ensures splices { IfOk result (λ r. r.splices.items ≡ []) }
     {
-        Ok(Run {
+        Ok(PutRun {
             text: String::with_capacity(alloc, size)?,
             done: 0,
             splices: Vec::with_capacity(alloc, count)?,
@@ -103,12 +103,12 @@ impl Run {
     ) -> Result<(), EditError>
         requires done { self.old.done ≤ start }
         requires order { start ≤ end }
-        requires edge { IsCharBoundary (halves_text text) self.old.done }
-        requires start { IsCharBoundary (halves_text text) start }
-        requires end { IsCharBoundary (halves_text text) end }
-        ensures ok { OnOk result (spec.HasPut (halves_text text.entry) start end (string_bytes written)
+        requires edge { IsCharBoundary (whole text) self.old.done }
+        requires start { IsCharBoundary (whole text) start }
+        requires end { IsCharBoundary (whole text) end }
+        ensures ok { OnOk result (spec.HasPut (whole text.entry) start end (string_bytes written)
             self.old self.new) }
-        ensures err { IfErr result (λ e. spec.PutFails e (halves_text text.entry) start end
+        ensures err { IfErr result (λ e. spec.PutFails e (whole text.entry) start end
             (string_bytes written) self.old) }
     {
         let kept = between(text, self.done, start);
@@ -137,12 +137,12 @@ impl Run {
     ) -> Result<(), EditError>
         requires done { self.old.done ≤ start }
         requires order { start ≤ end }
-        requires edge { IsCharBoundary (halves_text text) self.old.done }
-        requires start { IsCharBoundary (halves_text text) start }
-        requires end { IsCharBoundary (halves_text text) end }
-        ensures ok { OnOk result (spec.HasPut (halves_text text.entry) start end (lead.now ++ written.now)
+        requires edge { IsCharBoundary (whole text) self.old.done }
+        requires start { IsCharBoundary (whole text) start }
+        requires end { IsCharBoundary (whole text) end }
+        ensures ok { OnOk result (spec.HasPut (whole text.entry) start end (lead.now ++ written.now)
             self.old self.new) }
-        ensures err { IfErr result (λ e. spec.PutFails e (halves_text text.entry) start end
+        ensures err { IfErr result (λ e. spec.PutFails e (whole text.entry) start end
             (lead.now ++ written.now) self.old) }
     {
         let mut new = String::from_str(alloc, lead)?;
@@ -152,12 +152,12 @@ impl Run {
 
     /// The text that it made, with all that is left of the old one, and its splices.
     pub(crate) fn end(self, text: Halves<'_>) -> Result<Edited, AllocError>
-        requires { IsCharBoundary (halves_text text) self.done }
+        requires { IsCharBoundary (whole text) self.done }
         ensures text { IfOk result (λ e. string_bytes e.text ≡
-            spec.text_after_run (halves_text text.entry) (string_bytes self.text) self.done) }
+            spec.text_with_run (whole text.entry) (string_bytes self.text) self.done) }
         ensures splices { IfOk result (λ e. e.splices.items ≡ self.splices.items) }
     {
-        let Run {
+        let PutRun {
             text: mut new,
             done,
             splices,

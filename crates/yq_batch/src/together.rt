@@ -13,7 +13,7 @@ ghost use Rattle.yq_batch.specs.Runs as spec;
 ghost use Rattle.yq_edit_laws.specs.Theorems.{IsFitting};
 ghost use Rattle.yq_edit_laws.specs.Valid.{AreServed};
 
-use crate::run::Run;
+use crate::run::PutRun;
 use std::alloc::{AllocError, Global};
 use yq_core::Step;
 use yq_documents::Path;
@@ -106,7 +106,7 @@ fn put_one<'s>(
     stem: &[Step],
     head: &mut FlowHead<'s, '_>,
     op: &'s Op,
-    run: &mut Run,
+    run: &mut PutRun,
 ) -> Result<bool, EditError>
     requires head { ReportsHead cut.now (cut_of cut.now) doc (map tree_step stem.now) head.old }
     requires run { spec.Runs (cut_of cut.now) doc (map tree_step stem.now) run.old }
@@ -150,7 +150,7 @@ fn put_each<'s>(
     ensures err { IfErr result (λ e. EditFails e (carry_all (operations_of ops.now) cut.now)) }
 {
     let text = cut.text();
-    let mut run = Run::new(alloc);
+    let mut run = PutRun::new(alloc);
     let mut rest = ops;
     'operations: while let [op, after @ ..] = rest {
         let put = put_one(alloc, cut, doc, stem, head, op, &mut run)?;

@@ -7,7 +7,7 @@ use Rattle.yq_core.specs.Text.{joined, text_lines}
 use Rattle.yq_core.proofs.LineLaws.{joined_lines}
 use Rattle.yq_places.specs.RemovalPlaces.{Seam}
 use Rattle.yq_text.specs.Script.{Segment, keep}
-use Rattle.yq_edits.specs.Removing.{indent_put, blank_mended, comment_mended, lines_mended}
+use Rattle.yq_edits.specs.Removing.{put_indent, blank_mended, comment_mended, lines_mended}
 
 -- a blank line, and then the others
 blank_on : (s : Seam) (l : List ℕ) (ls : RawLines) → is_blank l ≡ true → lines_mended s (l ∷ ls) ≡ blank_mended s l ++ lines_mended s ls
@@ -18,7 +18,7 @@ comment_last : (s : Seam) (l : List ℕ) (ls : RawLines) → is_blank l ≡ fals
 comment_last s l ls e = rw e refl
 
 -- a blank line that is emptied
-pub long_blank : (s : Seam) (l : List ℕ) → s.keeps ≡ false → is_short s.indent l ≡ false → blank_mended s l ≡ indent_put 0 l
+pub long_blank : (s : Seam) (l : List ℕ) → s.keeps ≡ false → is_short s.indent l ≡ false → blank_mended s l ≡ put_indent 0 l
 long_blank s l k e = rw (k, e) refl
 
 -- ---- the lines of a gap

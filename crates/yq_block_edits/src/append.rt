@@ -4,7 +4,7 @@ ghost use Rattle.yq_core.specs.Values.{value_node};
 ghost use Rattle.yq_outline.specs.Bodies.{borrowed};
 ghost use Rattle.yq_documents.specs.Located.{steps_of};
 ghost use Rattle.yq_documents.specs.Reading.{cut_of};
-ghost use Rattle.yq_text.specs.Halves.{halves_text};
+ghost use Rattle.yq_text.specs.Halves.{whole};
 ghost use Rattle.yq_places.specs.StandingViews.{held_view};
 ghost use Rattle.yq_edits.specs.EntryEdits as spec;
 ghost use Rattle.yq_edits.specs.Layouts as layouts;
@@ -109,8 +109,8 @@ fn behind_lines<'t>(
     behind: Halves<'t>,
 ) -> Result<Segments<'t>, AllocError>
     ensures { IfOk result (λ ss. ss ≡
-        spec.behind_lines (halves_text before.entry) (halves_text old.entry) last.now (string_bytes new)
-        (halves_text behind.entry)) }
+        spec.behind_lines (whole before.entry) (whole old.entry) last.now (string_bytes new)
+        (whole behind.entry)) }
 {
     let segments = vec![in alloc;
         Segment::Keep(before),

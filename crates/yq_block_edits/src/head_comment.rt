@@ -29,7 +29,8 @@ fn push_line(out: &mut String, column: usize, br: &str, text: &str) -> Result<()
 
 /// The lines of a head comment with a text: one for each line of that.
 fn head_lines(alloc: Global, column: usize, br: &str, text: &str) -> Result<String, AllocError>
-    ensures { IfOk result (λ s. string_bytes s ≡ spec.head_lines column br.now (head_comment_lines text.now)) }
+    ensures { IfOk result (λ s. string_bytes s ≡
+        spec.head_lines column br.now (head_comment_lines text.now)) }
 {
     let mut out = String::new(alloc);
     if text.is_empty() {

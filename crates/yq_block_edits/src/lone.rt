@@ -1,6 +1,6 @@
 //! A value in the place of a node that isn't behind a key or dash.
 ghost use Rattle.std.specs.Prelude.{◌≡◌, IfOk, string_bytes};
-ghost use Rattle.yq_text.specs.Halves.{halves_text};
+ghost use Rattle.yq_text.specs.Halves.{whole};
 ghost use Rattle.yq_core.specs.Values.{value_node};
 ghost use Rattle.yq_core.specs.BlockWritten.{break_text};
 ghost use Rattle.yq_places.specs.StandingViews.{lone_view, no_rows_view, root_view};
@@ -75,7 +75,7 @@ fn is_closed_text(text: &[u8]) -> bool
 /// The same of a text in two halves.
 #[tactic(auto, using(crate::proofs::ClosedLaws::half_agrees))]
 fn is_closed(text: Halves<'_>) -> bool
-    ensures { result ≡ closed.is_closed_text (halves_text text.entry) }
+    ensures { result ≡ closed.is_closed_text (whole text.entry) }
 {
     if text.back.is_empty() {
         return is_closed_text(text.front.as_bytes());
@@ -92,7 +92,7 @@ fn lines_behind(
     value: &Value,
 ) -> Result<String, AllocError>
     ensures { IfOk result (λ s. string_bytes s ≡
-        closed.lines_put_behind (closed.is_closed_text (halves_text before.entry))
+        closed.lines_put_behind (closed.is_closed_text (whole before.entry))
         (break_text layout.now.br) (block_value layout.now 0 (value_node value.now))) }
 {
     let mut text = String::new(alloc);

@@ -36,7 +36,7 @@ fn push_indented<'t>(
     column: usize,
     line: &'t str,
 ) -> Result<(), AllocError>
-    ensures { OnOk result (segments.new ≡ segments.old ++ spec.indent_put column line.now) }
+    ensures { OnOk result (segments.new ≡ segments.old ++ spec.put_indent column line.now) }
 {
     let (white, rest) = split_white(line);
     let indent = spaces(alloc, column)?;

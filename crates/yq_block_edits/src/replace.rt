@@ -120,8 +120,8 @@ pub fn value_put_at<'t>(
     path: &Path,
     value: &Value,
 ) -> Result<Option<Segments<'t>>, AllocError>
-    ensures { GivesSegments result (spec.value_put_at path.now.doc (steps_of path.now) (value_node value.now)
-        (cut_of cut.now)) }
+    ensures { GivesSegments result (spec.value_put_at path.now.doc (steps_of path.now)
+        (value_node value.now) (cut_of cut.now)) }
 {
     let Some(standing) = cut.standing(path) else {
         return Ok(None);

@@ -26,7 +26,7 @@ use Rattle.yq_commands.specs.FileEdits.{HasEdited}
 use Rattle.yq_commands.specs.Edits.{edit_record}
 use Rattle.yq_history.specs.Faults.{is_outer_fault, is_output}
 use Rattle.yq_commands.specs.CommandNames.{IsOn, IsNotNamed}
-use Rattle.yq_commands.specs.Lists.{answer_by, IsUnrelated, AllOnOrApart, Reply, IsAnswer, Goes, Run, ReportsEffect, HasEffect, RunsTo, Keeps, ReportsUnparsed, is_unfailed_refusal}
+use Rattle.yq_commands.specs.Lists.{answer_by, IsUnrelated, AllOnOrApart, Reply, IsAnswer, Goes, Run, ReportsEffect, HasEffect, RunsTo, Keeps, ReportsUnparsed, is_inner_refusal}
 use Rattle.yq_history.specs.Pair.{GoodIn, Arrives}
 use Rattle.yq_commands.specs.Prints.{report_of, prints, reads_journal}
 use Rattle.yq_history.specs.Report.{Report, nothing}
@@ -146,10 +146,10 @@ pub record IsDone {T : Type 0} (c e : FileMap) (cmd : Command) (r : Result T Fau
   pub unparsed : (f : Fault) → expression_fault cmd ≡ Some f → IsUnparsed f r
 
 -- a refusal from inside left the content
-kept_by : {T : Type 0} (c e : FileMap) (r : Result T Fault) (a : Answer) (s : Report) → IsAnswer r a s → s ≡ nothing → is_unfailed_refusal a ≡ true → IfErr r (λ x. is_outer_fault x ≡ false → e ≡ c) → e ≡ c
-kept_by c e (Ok v) a s (inl is) silent k same = let no : false ≡ true = sym (ap is_unfailed_refusal is ∙ no_refusal s.is_match) ∙ k in cc
+kept_by : {T : Type 0} (c e : FileMap) (r : Result T Fault) (a : Answer) (s : Report) → IsAnswer r a s → s ≡ nothing → is_inner_refusal a ≡ true → IfErr r (λ x. is_outer_fault x ≡ false → e ≡ c) → e ≡ c
+kept_by c e (Ok v) a s (inl is) silent k same = let no : false ≡ true = sym (ap is_inner_refusal is ∙ no_refusal s.is_match) ∙ k in cc
 kept_by c e (Ok v) a s (inr is) silent k same = absurd (is.1 (ap (λ (x : Report). x.printed) silent))
-kept_by c e (Err x) a s is silent k same = same (not_true (is_outer_fault x) (sym (ap is_unfailed_refusal is) ∙ k))
+kept_by c e (Err x) a s is silent k same = same (not_true (is_outer_fault x) (sym (ap is_inner_refusal is) ∙ k))
 
 -- what was accepted of an edit
 edited_by : {T : Type 0} (c e : FileMap) (cmd : Command) (r : Result T Fault) (a : Answer) (s : Report) → IsAnswer r a s → OnOk r (HasEdited cmd c e s.printed) →
@@ -182,9 +182,9 @@ module _ {T : Type 0} (c e : FileMap) (cmd : Command) (r : Result T Fault) (a : 
   -- what a command leaves
   pub left_by : RunsTo cmd (reply a s.printed) c e
   left_by = record {
-    all = λ holds. elim (prints cmd) as (λ b. prints cmd ≡ b → (b || is_unfailed_refusal (reply a s.printed).answer) ≡ true → e ≡ c) [
+    all = λ holds. elim (prints cmd) as (λ b. prints cmd ≡ b → (b || is_inner_refusal (reply a s.printed).answer) ≡ true → e ≡ c) [
       | true ↦ λ p q. k.still p
-      | false ↦ λ p q. kept_by c e r a s k.answered (k.silent p) (sym (ap is_unfailed_refusal (reply-answer a s.printed)) ∙ q) k.kept
+      | false ↦ λ p q. kept_by c e r a s k.answered (k.silent p) (sym (ap is_inner_refusal (reply-answer a s.printed)) ∙ q) k.kept
     ] refl holds;
     others = k.others;
     effect = has_effect;

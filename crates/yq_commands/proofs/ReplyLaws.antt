@@ -5,7 +5,7 @@ use Rattle.yq_commands.specs.declared.answer.Answer.{Answer}
 use Rattle.yq_commands.specs.declared.answer.Answer.TheVariants.{Done, NoMatch, Refused}
 use Rattle.yq_history.specs.declared.fault.Fault.{Fault}
 use Rattle.yq_store.specs.Count.{count_plus_one}
-use Rattle.yq_commands.specs.Lists.{answer_by, Reply, answers_in, printed_in, IsAnswer, reports_failure, reports_output, is_unfailed_refusal}
+use Rattle.yq_commands.specs.Lists.{answer_by, Reply, answers_in, printed_in, IsAnswer, reports_failure, reports_output, is_inner_refusal}
 use Rattle.yq_history.specs.Report.{Report}
 
 -- the reply of an answer: only what is carried out prints
@@ -36,7 +36,7 @@ pub no_failure : (m : Bool) → reports_failure (answer_by m) ≡ false
 no_failure true = refl
 no_failure false = refl
 
-pub no_refusal : (m : Bool) → is_unfailed_refusal (answer_by m) ≡ false
+pub no_refusal : (m : Bool) → is_inner_refusal (answer_by m) ≡ false
 no_refusal true = refl
 no_refusal false = refl
 

@@ -98,9 +98,9 @@ RunExactly file journal h (c ∷ cs) [] k = ⊥
 -- ---- what the store's names hold between two commands
 
 -- the answer is a refusal in which no call of the store failed and no memory was refused
-abbrev pub is_unfailed_refusal : Answer → Bool
-is_unfailed_refusal (Refused e) = not (is_outer_fault e)
-is_unfailed_refusal _ = false
+abbrev pub is_inner_refusal : Answer → Bool
+is_inner_refusal (Refused e) = not (is_outer_fault e)
+is_inner_refusal _ = false
 
 -- what a command's answer and the bytes that it printed tell of an effect: it came about and printed its bytes; or it was refused and printed nothing;
 -- that the output failed tells nothing, and that there is no match is never told
@@ -129,7 +129,7 @@ ReportsUnparsed f _ = ⊥
 -- A command that prints, or is refused so, leaves every name; any other leaves the names that it doesn't name; it has its effect, and steps histories.
 -- What was accepted of an expression with updates has edited the file's text; an expression that is no program is refused before all else.
 pub record RunsTo (c : Command) (r : Reply) (old new : FileMap) : Type 0 where
-  pub all : (prints c || is_unfailed_refusal r.answer) ≡ true → new ≡ old
+  pub all : (prints c || is_inner_refusal r.answer) ≡ true → new ≡ old
   pub others : (q : List ℕ) → IsNotNamed q c → get new q ≡ get old q
   pub effect : HasEffect c r old new
   pub steps : StepsHistory c r old new

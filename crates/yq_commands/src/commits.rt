@@ -59,8 +59,8 @@ pub fn commit<D: Store>(
         OnOk result (map.get (D.content store.new) file.now ≡ Some new.now) }
     ensures effect { IsTrue D.keeps → file.now ≢ journal.now → (p : spec.Program) →
         program_edits p old.items ≡ edited new.now splices.items →
-        Works (edit_effect expr.now (program_edits p old.items) old.items state.old) file.now journal.now
-        (D.content store.old) (D.content store.new) result }
+        Works (edit_effect expr.now (program_edits p old.items) old.items state.old)
+        file.now journal.now (D.content store.old) (D.content store.new) result }
     ensures kept { IsTrue D.keeps → IfErr result (λ e. is_outer_fault e ≡ false →
         D.content store.new ≡ D.content store.old) }
     ensures others { IsTrue D.keeps → OthersStay (D.content store.old)

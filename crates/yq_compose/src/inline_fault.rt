@@ -22,7 +22,8 @@ pub(crate) fn node_fault(
     node: &Inline<'_>,
     depth: usize,
 ) -> Result<(), ReadError>
-    ensures sound { Decides result (spec.head_is_sound depth (Some (placed_tree (inline_view node.now)))) }
+    ensures sound { Decides result (spec.head_is_sound depth
+        (Some (placed_tree (inline_view node.now)))) }
     ensures fault { IfErr result IsOfText }
 {
     match &node.form {

@@ -22,7 +22,8 @@ use yq_row_walk::has_head;
 
 /// The alias or flow collection that is made of a row, if one is.
 pub(crate) fn flow_decoded<'a, 't>(decoded: Option<&'a Decoded<'t>>) -> Option<&'a Inline<'t>>
-    ensures { option_map (λ n. inline_view n.now) result ≡ decoded_flow (option_map (λ m. m.now) decoded.entry) }
+    ensures { option_map (λ n. inline_view n.now) result ≡
+        decoded_flow (option_map (λ m. m.now) decoded.entry) }
 {
     match decoded {
         Some(row) => match &row.head {

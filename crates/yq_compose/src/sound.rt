@@ -48,7 +48,8 @@ fn check_bare<'a, 't>(
     requires deep { OfLines x.rows.now x.document (λ ls n.
         has_no_lines (part ls (n at.position) floor) ≡ false) }
     ensures sound { OfCheckedLine x.entry at.entry.position (λ ls n l.
-        Decides result ((is_some l.head && has_no_lines (part ls (n at.entry.position + 1) floor)) &&
+        Decides result ((is_some l.head &&
+        has_no_lines (part ls (n at.entry.position + 1) floor)) &&
         spec.head_is_sound depth l.head)) }
     ensures reached { IfOk result (IsReached x.entry.decoded.now x.entry.rows.now x.entry.document) }
     ensures behind { IfOk result (λ r. GivesStop x.entry.rows.now x.entry.document at.entry.position

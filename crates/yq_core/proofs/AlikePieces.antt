@@ -3,8 +3,8 @@ use Rattle.std.proofs.Common.{◌≡◌, ◌⊎◌, inl, inr, ℕ, Bool, true, f
 use Rattle.std.proofs.Math.Bool.{and-false}
 use Rattle.yq_core.specs.Quoted.{Char, spell_chars, IsChar, AreChars, QuotedLines, last, line, spell_end, spell_lines, AreLines, IsQuoted}
 use Rattle.yq_core.specs.Text.{NoneIn, front, unless, is_break}
-use Rattle.yq_core.specs.declared.gap.Before.{Before}
-use Rattle.yq_core.specs.declared.gap.Before.TheVariants.{Token, White, Break, Comment}
+use Rattle.yq_core.specs.declared.gap.GapPlace.{GapPlace}
+use Rattle.yq_core.specs.declared.gap.GapPlace.TheVariants.{Token, White, Break, Comment}
 use Rattle.yq_core.specs.Gaps.{goes, next_gap_place, AllGo, stops, IsInlineGap}
 use Rattle.yq_core.specs.Nodes.{in_name, IsName}
 use Rattle.yq_core.specs.Alike.{ends_lookahead, Alike, stop, colon, any_colon, byte, after}
@@ -66,20 +66,20 @@ name_by p t u h g = record { some = g.some; inside = none_unless in_name p t u g
 pub name_alike : (f : Option Bool) (p t u : List ℕ) → Alike f t u → IsName p t → IsName p u
 name_alike f p t u h g = name_by p t u (sym (alike_unless in_name f t u h) ∙ g.ends) g
 
-goes_alike : (f : Option Bool) (before : Before) (b : ℕ) (t u : List ℕ) → Alike f t u → goes before b t ≡ goes before b u
+goes_alike : (f : Option Bool) (before : GapPlace) (b : ℕ) (t u : List ℕ) → Alike f t u → goes before b t ≡ goes before b u
 goes_alike f Token b t u h = alike_space f (b ∷ t) (b ∷ u) (after h)
 goes_alike f White b t u h = ap (λ x. x || eqb b 35) (alike_space f (b ∷ t) (b ∷ u) (after h))
 goes_alike f Break b t u h = ap (λ x. x || eqb b 35) (alike_space f (b ∷ t) (b ∷ u) (after h))
 goes_alike f Comment b t u h = refl
 
-all_go_alike : (f : Option Bool) (before : Before) (p t u : List ℕ) → Alike f t u → AllGo before p t → AllGo before p u
+all_go_alike : (f : Option Bool) (before : GapPlace) (p t u : List ℕ) → Alike f t u → AllGo before p t → AllGo before p u
 all_go_alike f before [] t u h g = tt
 all_go_alike f before (b ∷ p) t u h g = (sym (goes_alike f before b (p ++ t) (p ++ u) (alike_append f p t u h)) ∙ g.0, all_go_alike f (next_gap_place before b) p t u h g.1)
 
-byte_stops : (before : Before) (b : ℕ) (t u : List ℕ) → is_break (b ∷ t) ≡ is_break (b ∷ u) → stops before (b ∷ t) ≡ stops before (b ∷ u)
+byte_stops : (before : GapPlace) (b : ℕ) (t u : List ℕ) → is_break (b ∷ t) ≡ is_break (b ∷ u) → stops before (b ∷ t) ≡ stops before (b ∷ u)
 byte_stops before b t u h1 = search rules
 
-stops_alike : (f : Option Bool) (before : Before) (t u : List ℕ) → Alike f t u → stops before t ≡ stops before u
+stops_alike : (f : Option Bool) (before : GapPlace) (t u : List ℕ) → Alike f t u → stops before t ≡ stops before u
 stops_alike _ before _ _ (stop {f} {b} {t} {u} x) = byte_stops before b t u (stop_break b t x ∙ sym (stop_break b u x))
 stops_alike _ before _ _ (colon {flow} {t} {u} x y) = byte_stops before 58 t u refl
 stops_alike _ before _ _ (any_colon {t} {u}) = byte_stops before 58 t u refl

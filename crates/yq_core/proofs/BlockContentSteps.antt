@@ -5,7 +5,7 @@ use Rattle.yq_core.proofs.LineLaws.{line_step}
 use Rattle.yq_core.specs.Block.{no_lines}
 use Rattle.yq_core.specs.BlockContent.{part_of, optional_break, literal, joint, chomped_end, is_spaced_line, folded}
 use Rattle.yq_core.specs.Text.{is_white, front, text_lines}
-use Rattle.yq_core.specs.declared.block_types.Before.{Before}
+use Rattle.yq_core.specs.declared.block_types.LineBefore.{LineBefore}
 use Rattle.yq_core.specs.declared.block_header.Chomping.{Chomping}
 use Rattle.yq_core.specs.declared.block_lines.TextIndent.{TextIndent}
 
@@ -23,17 +23,17 @@ pub literal_end : (strip : Bool) (f : TextIndent) (t out all : List ℕ) → t �
 unfolding literal text_lines
 literal_end strip f t out all h so_far = sym (append-nil out) ∙ (ap (λ x. out ++ literal strip f (text_lines x)) (sym h) ∙ so_far)
 
-pub fold_blank : (c : Chomping) (f : TextIndent) (b : Before) (k : ℕ) (t l a p out all : List ℕ) (z : Bool) → text_lines t ≡ l ∷ text_lines a → p ≡ part_of f l → z ≡ eqb (length p) 0 → z ≡ true →
+pub fold_blank : (c : Chomping) (f : TextIndent) (b : LineBefore) (k : ℕ) (t l a p out all : List ℕ) (z : Bool) → text_lines t ≡ l ∷ text_lines a → p ≡ part_of f l → z ≡ eqb (length p) 0 → z ≡ true →
     out ++ folded c f b k (text_lines t) ≡ all → out ++ folded c f b (k + 1) (text_lines a) ≡ all
 unfolding folded
 fold_blank c f b k t l a p out all z e is test yes_ so_far = search rules
 
-pub fold_text : (c : Chomping) (f : TextIndent) (b kind : Before) (k : ℕ) (t l a p out gone mid all : List ℕ) (z w : Bool) → text_lines t ≡ l ∷ text_lines a → p ≡ part_of f l → z ≡ eqb (length p) 0 → z ≡ false →
+pub fold_text : (c : Chomping) (f : TextIndent) (b kind : LineBefore) (k : ℕ) (t l a p out gone mid all : List ℕ) (z w : Bool) → text_lines t ≡ l ∷ text_lines a → p ≡ part_of f l → z ≡ eqb (length p) 0 → z ≡ false →
     w ≡ front is_white p → gone ≡ out ++ joint b w k → mid ≡ gone ++ p → kind ≡ is_spaced_line p →
     out ++ folded c f b k (text_lines t) ≡ all → mid ++ folded c f kind 0 (text_lines a) ≡ all
 unfolding folded
 fold_text c f b kind k t l a p out gone mid all z w e is test no_ white g m q so_far = search (rules, append_assoc)
 
-pub fold_end : (c : Chomping) (f : TextIndent) (b : Before) (k : ℕ) (t out end all : List ℕ) → t ≡ [] → end ≡ out ++ chomped_end c b k → out ++ folded c f b k (text_lines t) ≡ all → end ≡ all
+pub fold_end : (c : Chomping) (f : TextIndent) (b : LineBefore) (k : ℕ) (t out end all : List ℕ) → t ≡ [] → end ≡ out ++ chomped_end c b k → out ++ folded c f b k (text_lines t) ≡ all → end ≡ all
 unfolding folded text_lines
 fold_end c f b k t out end all h e so_far = e ∙ (ap (λ x. out ++ folded c f b k (text_lines x)) (sym h) ∙ so_far)

@@ -8,7 +8,7 @@ use Rattle.yq_core.proofs.HeaderLaws.{head_length}
 use Rattle.yq_core.proofs.LineLaws.{joined_lines, joined-append}
 use Rattle.yq_core.proofs.RawLaws.{raw_split}
 use Rattle.yq_core.specs.Answers.{ReadsAs}
-use Rattle.yq_core.specs.Block.{any_style, is_block_fault, keeps, IsBlockPiece}
+use Rattle.yq_core.specs.Block.{as_style, is_block_fault, keeps, IsBlockPiece}
 use Rattle.yq_core.specs.BlockReading.{raw_at, len_at, indent_at, read_style, indicators_at, values, read_header_tail, block_behind, block_at, read_block_piece, block_from}
 use Rattle.yq_core.specs.Piece.{deeper}
 use Rattle.yq_core.specs.Text.{text_lines, joined}
@@ -27,7 +27,7 @@ raw_within keep f t n h =
     search (rules, same_Some, length-append, text, x)
 
 pub piece_is : (start least : ℕ) (t u r tail raw : List ℕ) (s : BlockStyle) (d : Option ℕ) (c : Chomping) (f : TextIndent) (k : Bool) (n : ℕ) (z : Style) →
-    read_style t ≡ Some (s, u) → (d, c, r) ≡ values (indicators_at u) → read_header_tail r ≡ Some (tail, raw) → indent_at least d (text_lines raw) ≡ Some f → k ≡ keeps c → len_at k f raw ≡ Some n → z ≡ any_style s →
+    read_style t ≡ Some (s, u) → (d, c, r) ≡ values (indicators_at u) → read_header_tail r ≡ Some (tail, raw) → indent_at least d (text_lines raw) ≡ Some f → k ≡ keeps c → len_at k f raw ≡ Some n → z ≡ as_style s →
     read_block_piece start least t ≡ Some (record { style = z; start = start; head_end = start + (length t - length r); raw_start = start + (length t - length r) + length tail; end = start + (length t - length r) + length tail + n; indent = f.columns; keep = k })
 unfolding block_at block_behind
 piece_is start least t u r tail raw s d c f k n z h m g e q l y =

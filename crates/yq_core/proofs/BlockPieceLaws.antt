@@ -9,7 +9,7 @@ use Rattle.yq_core.specs.declared.block_header.BlockStyle.TheVariants as styles
 use Rattle.yq_core.proofs.DetectedLaws.{detect_back}
 use Rattle.yq_core.proofs.HeaderLaws.{tail_no_indicator, indicators_again}
 use Rattle.yq_core.proofs.RawLaws.{raw_lines}
-use Rattle.yq_core.specs.Block.{RawLines, AreRaw, IsTextIndent, style_indicator, any_style, is_tail, BlockText, block_text, IsBlock, IsBlockPiece}
+use Rattle.yq_core.specs.Block.{RawLines, AreRaw, IsTextIndent, style_indicator, as_style, is_tail, BlockText, block_text, IsBlock, IsBlockPiece}
 use Rattle.yq_core.specs.BlockContent.{block_content}
 use Rattle.yq_core.specs.BlockReading.{block_style, indent_of, block_piece_content, indicators_at, values}
 use Rattle.yq_core.specs.Piece.{deeper}
@@ -95,7 +95,7 @@ indent_same : (least : ℕ) (digit : Option ℕ) (f : TextIndent) (raw : RawLine
 unfolding indent_of
 indent_same least digit f raw h1 h2 = search (rules, detect_back)
 
-style_same : (s : BlockStyle) → block_style (any_style s) ≡ s
+style_same : (s : BlockStyle) → block_style (as_style s) ≡ s
 style_same styles.Literal = refl
 style_same styles.Folded = refl
 

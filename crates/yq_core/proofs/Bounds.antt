@@ -8,8 +8,8 @@ use Rattle.yq_core.specs.Quoted.{IsQuotedText}
 use Rattle.yq_core.specs.Text.{unless}
 use Rattle.yq_core.proofs.Boundaries.{boundary_ends, space_ascii}
 use Rattle.yq_core.proofs.Upto.{upto_unless}
-use Rattle.yq_core.specs.declared.gap.Before.{Before}
-use Rattle.yq_core.specs.declared.gap.Before.TheVariants.{Token, White, Break, Comment}
+use Rattle.yq_core.specs.declared.gap.GapPlace.{GapPlace}
+use Rattle.yq_core.specs.declared.gap.GapPlace.TheVariants.{Token, White, Break, Comment}
 use Rattle.yq_core.specs.Gaps.{goes, next_gap_place, in_comment}
 use Rattle.yq_core.specs.Nodes.{begins_with, in_name}
 use Rattle.yq_core.specs.Reading.{flow_gap_len}
@@ -21,10 +21,10 @@ data Ends (t : List ℕ) (n : ℕ) : Type 0 where
   at_end : n ≡ length t → Ends t n
   behind_ascii : (k : ℕ) → n ≡ k + 1 → k < length t → get_or t k 0 < 128 → Ends t n
 
-goes_ascii : (s : Before) (b : ℕ) (bs : List ℕ) → goes s b bs ≡ true → (in_comment s ≡ true) ⊎ (b < 128)
+goes_ascii : (s : GapPlace) (b : ℕ) (bs : List ℕ) → goes s b bs ≡ true → (in_comment s ≡ true) ⊎ (b < 128)
 goes_ascii s b bs h1 = search (rules, ⊎_elim, space_ascii, eqb-true, or_cases)
 
-after_comment : (s : Before) (b : ℕ) → in_comment s ≡ true → (b < 128) ⊎ (next_gap_place s b ≡ Comment)
+after_comment : (s : GapPlace) (b : ℕ) → in_comment s ≡ true → (b < 128) ⊎ (next_gap_place s b ≡ Comment)
 after_comment s b h = elim (eqb b 10) as (λ c. eqb b 10 ≡ c → (b < 128) ⊎ (cond c Break (cond (eqb b 35 || in_comment s) Comment White) ≡ Comment)) [
   | true ↦ (λ e. inl (omega (arith, eqb-true b 10 e)))
   | false ↦ (λ e. inr (rw h (elim (eqb b 35) as (λ c. cond (c || true) Comment White ≡ Comment) [ true ↦ refl | false ↦ refl ])))
@@ -40,13 +40,13 @@ one_more b bs n h (at_start e) = ⊎_elim {0, 0, 0} (λ low. behind_ascii 0 (ome
 one_more b bs n h (at_end e) = at_end (ap suc e)
 one_more b bs n h (behind_ascii k e lt low) = behind_ascii (suc k) (omega arith) (omega arith) low
 
-gap_ends : (s : Before) (t : List ℕ) → Ends t (flow_gap_len s t)
+gap_ends : (s : GapPlace) (t : List ℕ) → Ends t (flow_gap_len s t)
 unfolding flow_gap_len
 gap_ends s [] = at_start refl
 gap_ends s (b ∷ bs) = let again = gap_ends (next_gap_place s b) bs in
     cond_both (goes s b bs) (suc (flow_gap_len (next_gap_place s b) bs)) 0 (λ n. Ends (b ∷ bs) n)
     (λ h. one_more b bs (flow_gap_len (next_gap_place s b) bs) (λ none. ⊎_elim {0, 0, 0}
-    (λ r. ⊎_elim {0, 0, 0} (λ low. inl low) (λ is. inr (comment_end bs (subst (λ (x : Before). flow_gap_len x bs ≡ 0) is none))) (after_comment s b r))
+    (λ r. ⊎_elim {0, 0, 0} (λ low. inl low) (λ is. inr (comment_end bs (subst (λ (x : GapPlace). flow_gap_len x bs ≡ 0) is none))) (after_comment s b r))
     (λ low. inl low) (goes_ascii s b bs h)) again)
     (λ h. at_start refl)
 

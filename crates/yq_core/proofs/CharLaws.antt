@@ -8,7 +8,7 @@ use Rattle.std.specs.Str.Parse.{AllDigits, digits_value, digits_value_after}
 use Rattle.yq_core.specs.Text.{is_break}
 use Rattle.yq_core.specs.Quoted.{letters, beside, digit_counts, is_unicode, Char, escape as letter_escape, code, spell_char, char_text, bytes_of, IsChar}
 use Rattle.yq_core.specs.SchemaReading.{is_digit}
-use Rattle.yq_core.specs.QuotedReading.{hex, hex_digit, escape_in_front, coded, lettered}
+use Rattle.yq_core.specs.QuotedReading.{hex, hex_digit, leading_escape, coded, lettered}
 use Rattle.yq_core.proofs.Bools.{chosen, bind_some}
 use Rattle.yq_core.proofs.EscapeLaws.{escape_cases, none_escaped}
 
@@ -62,17 +62,17 @@ counted letter n h = elim (chosen (eqb letter 120) h) [
 
 -- what an escape is behind its backslash
 pub record IsEscape (c : ℕ) (e : List ℕ) : Type 0 where
-  pub reads : (t : List ℕ) → escape_in_front (e ++ t) ≡ Some (c, length e)
+  pub reads : (t : List ℕ) → leading_escape (e ++ t) ≡ Some (c, length e)
   pub line : (t : List ℕ) → is_break (e ++ t) ≡ false
 
 -- digits behind their letter are an escape
 pub code_escape : (letter : ℕ) (digits : List ℕ) → beside letter digit_counts ≡ Some (length digits) → AllDigits 16 digits → is_unicode (digits_value 16 digits) ≡ true → IsEscape (digits_value 16 digits) (letter ∷ digits)
-unfolding escape_in_front
+unfolding leading_escape
 code_escape letter digits h all is = search (rules, hex_again, counted)
 
 -- a letter of the table is an escape
 pub letter_is_escape : (letter c : ℕ) → beside letter letters ≡ Some c → IsEscape c (letter ∷ [])
-unfolding escape_in_front
+unfolding leading_escape
 letter_is_escape letter c h = search (rules, letter_not, letter_line)
 
 -- a character that was read behind a backslash
@@ -121,7 +121,7 @@ by_letter letter c k t h =
       text = ap bytes_of e.0;
     }
 
-pub escape_takes : (t : List ℕ) (c k : ℕ) → escape_in_front t ≡ Some (c, k) → Escaped c k t
+pub escape_takes : (t : List ℕ) (c k : ℕ) → leading_escape t ≡ Some (c, k) → Escaped c k t
 escape_takes [] c k h = absurd (none_escaped c k h)
 escape_takes (b ∷ bs) c k h = elim (escape_cases b c k bs h) [
   | inl x ↦ by_count b x.0 c k bs x.1 x.2

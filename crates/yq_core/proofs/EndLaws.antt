@@ -6,8 +6,8 @@ use Rattle.std.specs.Option.{option_or}
 use Rattle.yq_core.specs.Plain.{begins_plain, ends_plain, ends_text, is_safe, no_gap, last_line, plain_may_follow, follows, IsPlain}
 use Rattle.yq_core.specs.Text.{upto, cut, NoneIn, front, unless, is_empty, is_feed, is_space}
 use Rattle.yq_core.proofs.Bools.{at_byte}
-use Rattle.yq_core.specs.declared.gap.Before.{Before}
-use Rattle.yq_core.specs.declared.gap.Before.TheVariants.{White, Break}
+use Rattle.yq_core.specs.declared.gap.GapPlace.{GapPlace}
+use Rattle.yq_core.specs.declared.gap.GapPlace.TheVariants.{White, Break}
 use Rattle.yq_core.specs.Alike.{EndsItem, fresh, KeepsApart}
 use Rattle.yq_core.specs.Gaps.{goes, next_gap_place, in_comment, AllGo, IsInlineGap}
 use Rattle.yq_core.specs.Nodes.{in_name, begins_node, is_close}
@@ -59,13 +59,13 @@ dead t = is_empty t || (front (λ b. eqb b 35) t || ends_text true t)
 not_follow : (spaces : Option ℕ) (gap t : List ℕ) → dead t ≡ true → follows true spaces gap t ≡ false
 not_follow spaces gap t h = search (rules, false≢true)
 
-next_comment : (s : Before) (b : ℕ) (x : List ℕ) → in_comment s ≡ false → is_space (b ∷ x) ≡ true → in_comment (next_gap_place s b) ≡ false
+next_comment : (s : GapPlace) (b : ℕ) (x : List ℕ) → in_comment s ≡ false → is_space (b ∷ x) ≡ true → in_comment (next_gap_place s b) ≡ false
 next_comment s b x none h = rw (at_byte (λ y. is_space (y ∷ x)) b 35 h refl, none) (elim (is_feed b) as (λ c. in_comment (cond c Break White) ≡ false) [ true ↦ refl | false ↦ refl ])
 
-goes_hash : (s : Before) (b : ℕ) (x : List ℕ) → in_comment s ≡ false → goes s b x ≡ true → is_space (b ∷ x) ≡ false → eqb b 35 ≡ true
+goes_hash : (s : GapPlace) (b : ℕ) (x : List ℕ) → in_comment s ≡ false → goes s b x ≡ true → is_space (b ∷ x) ≡ false → eqb b 35 ≡ true
 goes_hash s b x h1 h2 h3 = search (rules, false≢true)
 
-dead_gap : (s : Before) (g : List ℕ) (c : ℕ) (r : List ℕ) → in_comment s ≡ false → AllGo s g (c ∷ r) → is_space (c ∷ r) ≡ false → ends_text true (c ∷ r) ≡ true → dead (cut no_gap (g ++ (c ∷ r))).1 ≡ true
+dead_gap : (s : GapPlace) (g : List ℕ) (c : ℕ) (r : List ℕ) → in_comment s ≡ false → AllGo s g (c ∷ r) → is_space (c ∷ r) ≡ false → ends_text true (c ∷ r) ≡ true → dead (cut no_gap (g ++ (c ∷ r))).1 ≡ true
 unfolding upto
 dead_gap s [] c r none all h e = rw h (or_right (eqb c 35) (ends_text true (c ∷ r)) e)
 dead_gap s (b ∷ g) c r none all h e = elim (cases_Bool (is_space (b ∷ (g ++ (c ∷ r))))) [

@@ -8,7 +8,7 @@ use Rattle.yq_core.specs.Answers.{◌>>=◌, more}
 use Rattle.yq_core.specs.Text.{is_feed, is_break, is_marker}
 use Rattle.yq_core.specs.Quoted.{letters, beside, digit_counts, is_unicode}
 use Rattle.yq_core.specs.SchemaReading.{is_digit}
-use Rattle.yq_core.specs.QuotedReading.{hex, hex_digit, escape_in_front, escape_len, closes, coded, lettered, length_of, quoted_len}
+use Rattle.yq_core.specs.QuotedReading.{hex, hex_digit, leading_escape, escape_len, closes, coded, lettered, length_of, quoted_len}
 use Rattle.yq_core.proofs.Bools.{chosen, bind_some, more_more, more_none}
 use Rattle.yq_core.proofs.Across.{rest_of, rest_is}
 
@@ -57,8 +57,8 @@ letter_len c k None h = absurd (let e = h in cc)
 letter_len c k (Some v) h = ap (λ p. p.1) (same_Some (v, 1) (c, k) h)
 
 -- what is read as an escape: a letter that digits follow, and these, or a letter alone
-pub escape_cases : (b c k : ℕ) (bs : List ℕ) → escape_in_front (b ∷ bs) ≡ Some (c, k) → ((n : ℕ) × (beside b digit_counts ≡ Some n) × (coded n (hex n 0 bs) ≡ Some (c, k))) ⊎ (lettered (beside b letters) ≡ Some (c, k))
-unfolding escape_in_front
+pub escape_cases : (b c k : ℕ) (bs : List ℕ) → leading_escape (b ∷ bs) ≡ Some (c, k) → ((n : ℕ) × (beside b digit_counts ≡ Some n) × (coded n (hex n 0 bs) ≡ Some (c, k))) ⊎ (lettered (beside b letters) ≡ Some (c, k))
+unfolding leading_escape
 escape_cases b c k bs h = elim (chosen (eqb b 120) h) [
   | inl x ↦ inl (2, rw x.0 refl, x.1)
   | inr x ↦ elim (chosen (eqb b 117) x.1) [
@@ -70,11 +70,11 @@ escape_cases b c k bs h = elim (chosen (eqb b 120) h) [
   ]
 ]
 
-pub none_escaped : (c k : ℕ) → escape_in_front [] ≡ Some (c, k) → ⊥
-unfolding escape_in_front
+pub none_escaped : (c k : ℕ) → leading_escape [] ≡ Some (c, k) → ⊥
+unfolding leading_escape
 none_escaped c k h = cc
 
-pub escape_within : (t : List ℕ) (c k : ℕ) → escape_in_front t ≡ Some (c, k) → k ≤ length t
+pub escape_within : (t : List ℕ) (c k : ℕ) → leading_escape t ≡ Some (c, k) → k ≤ length t
 escape_within [] c k h = absurd (none_escaped c k h)
 escape_within (b ∷ bs) c k h = elim (escape_cases b c k bs h) [
   | inl x ↦ let v = scalar_len x.0 c k (hex x.0 0 bs) x.2 in omega (arith, hex_within x.0 0 v.0 bs v.1, v.2)
@@ -96,7 +96,7 @@ behind_within q b k bs opened h = elim (chosen (is_feed b && is_marker bs) h) [
   | inr x ↦ elim (chosen (eqb q 34 && eqb b 92) x.1) [
     | inl y ↦ elim (chosen (is_break bs) y.1) [
       | inl z ↦ omega (arith, same_Some 0 k z.1)
-      | inr z ↦ let e = length_of_some (escape_in_front bs) k z.1 in escape_within bs e.0 k e.1
+      | inr z ↦ let e = length_of_some (leading_escape bs) k z.1 in escape_within bs e.0 k e.1
     ]
     | inr y ↦ elim (chosen (eqb b q) y.1) [
       | inl z ↦ omega (arith, next_quote q b bs opened z.0, same_Some 1 k z.1)
@@ -149,7 +149,7 @@ letter_some : (c k : ℕ) (o : Option ℕ) → lettered o ≡ Some (c, k) → (v
 letter_some c k None h = absurd (let e = h in cc)
 letter_some c k (Some v) h = (v, refl)
 
-pub escape_ascii : (t : List ℕ) (c k : ℕ) → escape_in_front t ≡ Some (c, k) → (j : ℕ) → j < k → get_or t j 0 < 128
+pub escape_ascii : (t : List ℕ) (c k : ℕ) → leading_escape t ≡ Some (c, k) → (j : ℕ) → j < k → get_or t j 0 < 128
 escape_ascii [] c k h j lt = absurd (none_escaped c k h)
 escape_ascii (b ∷ bs) c k h zero lt = elim (escape_cases b c k bs h) [
   | inl x ↦ letter_ascii b x.0 digit_counts refl x.1

@@ -5,16 +5,16 @@ use Rattle.std.proofs.lemmas.List.{take-append-drop}
 use Rattle.std.proofs.Math.Seq.{take-append_seam, drop-append_seam}
 use Rattle.std.proofs.lemmas.Option.{same_Some}
 use Rattle.yq_core.specs.Text.{is_marker}
-use Rattle.yq_core.specs.declared.gap.Before.{Before}
-use Rattle.yq_core.specs.declared.gap.Before.TheVariants.{Token}
+use Rattle.yq_core.specs.declared.gap.GapPlace.{GapPlace}
+use Rattle.yq_core.specs.declared.gap.GapPlace.TheVariants.{Token}
 use Rattle.yq_core.specs.Gaps.{goes, next_gap_place, gap_place_after, at_line_start, AllGo, stops, IsInlineGap}
 use Rattle.yq_core.specs.Reading.{flow_gap_len, gap_end, read_gap}
 use Rattle.yq_core.proofs.Binds.{not_then}
 
-abbrev Cut : Before → List ℕ → ℕ → Type 0
+abbrev Cut : GapPlace → List ℕ → ℕ → Type 0
 Cut s t n = AllGo s (take n t) (drop n t) × (stops (gap_place_after s (take n t)) (drop n t) ≡ true) × (gap_end s t ≡ gap_place_after s (take n t))
 
-gap_cut : (s : Before) (t : List ℕ) → Cut s t (flow_gap_len s t)
+gap_cut : (s : GapPlace) (t : List ℕ) → Cut s t (flow_gap_len s t)
 unfolding flow_gap_len gap_end
 gap_cut s [] = (tt, refl, refl)
 gap_cut s (b ∷ bs) = let again = gap_cut (next_gap_place s b) bs in
@@ -29,9 +29,9 @@ gap_takes t x h =
     let c = gap_cut Token t in
     let g = not_then (at_line_start (gap_end Token t) && is_marker (drop n t)) h in
     subst (λ (y : List ℕ × List ℕ). (t ≡ y.0 ++ y.1) × IsInlineGap y.0 y.1) (same_Some _ _ g.1)
-    (sym (take-append-drop n t), record { inside = c.0; ends = c.1; unmarked = subst (λ (s : Before). (at_line_start s && is_marker (drop n t)) ≡ false) c.2 g.0 })
+    (sym (take-append-drop n t), record { inside = c.0; ends = c.1; unmarked = subst (λ (s : GapPlace). (at_line_start s && is_marker (drop n t)) ≡ false) c.2 g.0 })
 
-pub gap_append : (s : Before) (p rest : List ℕ) → AllGo s p rest → stops (gap_place_after s p) rest ≡ true → (flow_gap_len s (p ++ rest) ≡ length p) × (gap_end s (p ++ rest) ≡ gap_place_after s p)
+pub gap_append : (s : GapPlace) (p rest : List ℕ) → AllGo s p rest → stops (gap_place_after s p) rest ≡ true → (flow_gap_len s (p ++ rest) ≡ length p) × (gap_end s (p ++ rest) ≡ gap_place_after s p)
 unfolding flow_gap_len gap_end
 gap_append s [] [] h e = (refl, refl)
 gap_append s [] (b ∷ rest) h e = let g = not-true (goes s b rest) e in (rw g refl, rw g refl)

@@ -6,7 +6,7 @@ use Rattle.std.proofs.Math.Utf8.{encode}
 use Rattle.std.specs.Str.{IsUtf8, IsCharBoundary}
 use Rattle.yq_core.specs.Text.{is_white, is_break, is_feed, is_return, is_space, front, upto, NoneIn}
 use Rattle.yq_core.specs.Quoted.{joined}
-use Rattle.yq_core.specs.QuotedReading.{escape_in_front}
+use Rattle.yq_core.specs.QuotedReading.{leading_escape}
 use Rattle.yq_core.specs.ContentReading.{BlankBefore, within, after, item_with_blanks, content_on, break_len, before_of, is_pair, is_slash, ends_run}
 use Rattle.yq_core.specs.Plain.{no_gap}
 use Rattle.yq_core.proofs.Upto.{upto_le_length, none_in_cut}
@@ -50,11 +50,11 @@ at_break : (bs : List ℕ) → is_break bs ≡ true → content_on 34 0 within [
 unfolding content_on
 at_break bs e = rw e (content_skip 34 (break_len bs) (after (joined 0)) [] bs)
 
-at_none : (bs : List ℕ) → is_break bs ≡ false → escape_in_front bs ≡ None → content_on 34 0 within [] (92 ∷ bs) ≡ content_on 34 0 within [] bs
+at_none : (bs : List ℕ) → is_break bs ≡ false → leading_escape bs ≡ None → content_on 34 0 within [] (92 ∷ bs) ≡ content_on 34 0 within [] bs
 unfolding content_on
 at_none bs e n = rw (e, n) refl
 
-at_some : (bs : List ℕ) (c k : ℕ) → is_break bs ≡ false → escape_in_front bs ≡ Some (c, k) → content_on 34 0 within [] (92 ∷ bs) ≡ encode c ++ content_on 34 0 within [] (drop k bs)
+at_some : (bs : List ℕ) (c k : ℕ) → is_break bs ≡ false → leading_escape bs ≡ Some (c, k) → content_on 34 0 within [] (92 ∷ bs) ≡ encode c ++ content_on 34 0 within [] (drop k bs)
 unfolding content_on
 at_some bs c k e n = rw (e, n) (ap (λ l. encode c ++ l) (content_skip 34 k within [] bs))
 
@@ -63,11 +63,11 @@ pub escape_break : (t : List ℕ) → front (λ b. eqb b 92) t ≡ true → is_b
 escape_break [] h e = absurd (false≢true h)
 escape_break (b ∷ bs) h e = subst (λ (x : ℕ). content_on 34 0 within [] (x ∷ bs) ≡ content_on 34 0 (after (joined 0)) [] (drop (break_len bs) bs)) (sym (eqb-true b 92 h)) (at_break bs e)
 
-pub escape_none : (t : List ℕ) → front (λ b. eqb b 92) t ≡ true → is_break (drop 1 t) ≡ false → escape_in_front (drop 1 t) ≡ None → content_on 34 0 within [] t ≡ content_on 34 0 within [] (drop 1 t)
+pub escape_none : (t : List ℕ) → front (λ b. eqb b 92) t ≡ true → is_break (drop 1 t) ≡ false → leading_escape (drop 1 t) ≡ None → content_on 34 0 within [] t ≡ content_on 34 0 within [] (drop 1 t)
 escape_none [] h e n = absurd (false≢true h)
 escape_none (b ∷ bs) h e n = subst (λ (x : ℕ). content_on 34 0 within [] (x ∷ bs) ≡ content_on 34 0 within [] bs) (sym (eqb-true b 92 h)) (at_none bs e n)
 
-pub escape_some : (t : List ℕ) (c k : ℕ) → front (λ b. eqb b 92) t ≡ true → is_break (drop 1 t) ≡ false → escape_in_front (drop 1 t) ≡ Some (c, k) → content_on 34 0 within [] t ≡ encode c ++ content_on 34 0 within [] (drop k (drop 1 t))
+pub escape_some : (t : List ℕ) (c k : ℕ) → front (λ b. eqb b 92) t ≡ true → is_break (drop 1 t) ≡ false → leading_escape (drop 1 t) ≡ Some (c, k) → content_on 34 0 within [] t ≡ encode c ++ content_on 34 0 within [] (drop k (drop 1 t))
 escape_some [] c k h e n = absurd (false≢true h)
 escape_some (b ∷ bs) c k h e n = subst (λ (x : ℕ). content_on 34 0 within [] (x ∷ bs) ≡ encode c ++ content_on 34 0 within [] (drop k bs)) (sym (eqb-true b 92 h)) (at_some bs c k e n)
 
@@ -85,7 +85,7 @@ break_low t h1 k h2 = search (rules, false≢true, break_ascii, break_within, ca
 pub boundary_break : (t : List ℕ) → is_break t ≡ true → IsUtf8 t → IsCharBoundary t (break_len t)
 boundary_break t h u = boundary_behind t (break_len t) u (break_within t h) (break_low t h)
 
-pub boundary_escape : (t : List ℕ) (c k : ℕ) → escape_in_front t ≡ Some (c, k) → IsUtf8 t → IsCharBoundary t k
+pub boundary_escape : (t : List ℕ) (c k : ℕ) → leading_escape t ≡ Some (c, k) → IsUtf8 t → IsCharBoundary t k
 boundary_escape t c k h u = boundary_behind t k u (escape_within t c k h) (escape_ascii t c k h)
 
 -- bytes that stand for themselves

@@ -3,8 +3,8 @@ use Rattle.std.proofs.Common.{◌≡◌, inl, inr, ℕ, Bool, true, false, List,
 use Rattle.std.proofs.Math.Bool.{and-false}
 use Rattle.std.proofs.lemmas.Bool.{false≢true, or_right, not-true, cond_both, cases_Bool, or_parts}
 use Rattle.yq_core.specs.Text.{front, is_feed, is_space, is_marker}
-use Rattle.yq_core.specs.declared.gap.Before.{Before}
-use Rattle.yq_core.specs.declared.gap.Before.TheVariants.{Token}
+use Rattle.yq_core.specs.declared.gap.GapPlace.{GapPlace}
+use Rattle.yq_core.specs.declared.gap.GapPlace.TheVariants.{Token}
 use Rattle.yq_core.specs.Alike.{Alike, after, fresh, KeepsApart}
 use Rattle.yq_core.specs.Gaps.{goes, next_gap_place, gap_place_after, at_line_start as at_break, AllGo, stops, IsInlineGap}
 use Rattle.yq_core.specs.Nodes.{FlowNode, empty, alias, scalar, coll, anchored, node_text, flow_items_text, opening_bracket, begins_content, begins_node, is_empty_node, takes_anchor, IsFlowNode}
@@ -23,7 +23,7 @@ keeps_alike g f (b ∷ p) t u h =
     let whole : Alike g (b ∷ (p ++ t)) (b ∷ (p ++ u)) = after (alike_append g p t u h) in
     (λ e. sym (alike_space g (b ∷ (p ++ t)) (b ∷ (p ++ u)) whole) ∙ e, λ _ e. sym (alike_marker g (b ∷ (p ++ t)) (b ∷ (p ++ u)) whole) ∙ e, keeps_alike g (is_feed b) p t u h)
 
-pub behind_fresh : (s : Before) (g : List ℕ) → at_break (gap_place_after s g) ≡ fresh (at_break s) g
+pub behind_fresh : (s : GapPlace) (g : List ℕ) → at_break (gap_place_after s g) ≡ fresh (at_break s) g
 behind_fresh s [] = refl
 behind_fresh s (b ∷ g) = search (rules, behind_fresh (next_gap_place s b) g)
 
@@ -31,14 +31,14 @@ front_append : (g x y : List ℕ) → front is_feed x ≡ front is_feed y → fr
 front_append [] x y h = h
 front_append (b ∷ g) x y h = refl
 
-goes_front : (s : Before) (b : ℕ) (x y : List ℕ) → front is_feed x ≡ front is_feed y → goes s b x ≡ goes s b y
+goes_front : (s : GapPlace) (b : ℕ) (x y : List ℕ) → front is_feed x ≡ front is_feed y → goes s b x ≡ goes s b y
 goes_front s b x y h1 = search rules
 
-pub go_front : (s : Before) (g x y : List ℕ) → front is_feed x ≡ front is_feed y → AllGo s g x → AllGo s g y
+pub go_front : (s : GapPlace) (g x y : List ℕ) → front is_feed x ≡ front is_feed y → AllGo s g x → AllGo s g y
 go_front s [] x y h a = tt
 go_front s (b ∷ g) x y h a = (sym (goes_front s b (g ++ x) (g ++ y) (front_append g x y h)) ∙ a.0, go_front (next_gap_place s b) g x y h a.1)
 
-stops_keeps : (s : Before) (b : ℕ) (x y : List ℕ) → (is_space (b ∷ x) ≡ false → is_space (b ∷ y) ≡ false) → stops s (b ∷ x) ≡ true → stops s (b ∷ y) ≡ true
+stops_keeps : (s : GapPlace) (b : ℕ) (x y : List ℕ) → (is_space (b ∷ x) ≡ false → is_space (b ∷ y) ≡ false) → stops s (b ∷ x) ≡ true → stops s (b ∷ y) ≡ true
 stops_keeps s b x y h1 h2 = search (rules, not-true, or_parts, false≢true)
 
 pub gap_keeps : (g : List ℕ) (b : ℕ) (p t u : List ℕ) → KeepsApart (fresh false g) (b ∷ p) t u → IsInlineGap g (b ∷ (p ++ t)) → IsInlineGap g (b ∷ (p ++ u))

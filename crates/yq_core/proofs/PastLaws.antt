@@ -10,7 +10,7 @@ use Rattle.yq_core.specs.Text.{unless, is_white, no_white}
 use Rattle.yq_core.proofs.Boundaries.{boundary_unless, white_ascii}
 use Rattle.yq_core.proofs.PlainLaws.{boundary_plain}
 use Rattle.yq_core.proofs.Upto.{upto-append, upto_unless}
-use Rattle.yq_core.specs.declared.gap.Before.TheVariants.{Token}
+use Rattle.yq_core.specs.declared.gap.GapPlace.TheVariants.{Token}
 use Rattle.yq_core.specs.Gaps.{IsInlineGap}
 use Rattle.yq_core.specs.Nodes.{Key, bare, keyed, Sep, last, comma, FlowNode, empty, alias, scalar, coll, anchored, Items, none, item, key_text, sep_text, node_text, flow_items_text, in_name, begins_content, begins_node, is_close, opening_bracket, IsApart, IsLead, IsName, IsInlineKey, IsSep, IsFlowNode, AreFlowItems}
 use Rattle.yq_core.specs.Scalars.{IsScalarAt}

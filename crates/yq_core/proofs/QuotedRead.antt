@@ -3,7 +3,7 @@ use Rattle.std.proofs.Common.{◌≡◌, ℕ, zero, suc, ◌+◌, ◌<◌, ◌�
 use Rattle.std.proofs.lemmas.Bool.{false≢true, or_cases, not-true, not-false, and_parts, cases_Bool, or_parts}
 use Rattle.yq_core.specs.Text.{is_break, is_feed, is_return, is_marker, front}
 use Rattle.yq_core.specs.Quoted.{itself, doubled, IsChar, Break, line_feed, return_feed, spell_break, QuotedLines, last, spell_lines, AreLines}
-use Rattle.yq_core.specs.QuotedReading.{escape_in_front, escape_len, closes, quoted_len}
+use Rattle.yq_core.specs.QuotedReading.{leading_escape, escape_len, closes, quoted_len}
 use Rattle.yq_core.proofs.Bools.{bind_some, more_some}
 use Rattle.yq_core.proofs.EscapeLaws.{length_item, length_of_some}
 use Rattle.yq_core.proofs.CharLaws.{escape_takes}
@@ -134,7 +134,7 @@ read_itself q b n bs is st none reads =
 read_escape : (n : ℕ) (bs : List ℕ) → ReadStep 34 92 bs n → is_break bs ≡ false → Reads 34 (length bs) → Read 34 (92 ∷ bs) n
 unfolding Reads
 read_escape n bs st no_break reads =
-    let x = length_of_some (escape_in_front bs) st.k (rw no_break at st.belongs) in
+    let x = length_of_some (leading_escape bs) st.k (rw no_break at st.belongs) in
     let e = escape_takes bs x.0 st.k x.1 in
     read_char 34 st.m n e.char (drop st.k bs) (92 ∷ bs) e.spelled (e.is (drop st.k bs)) (reads st.m (drop st.k bs) (shorter st.k bs) st.rest) (omega (arith, st.size, e.long))
 

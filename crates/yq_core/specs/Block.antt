@@ -75,9 +75,9 @@ style_indicator styles.Literal = 124
 style_indicator styles.Folded = 62
 
 -- the same among all styles (own)
-abbrev pub any_style : BlockStyle → Style
-any_style styles.Literal = all_styles.Literal
-any_style styles.Folded = all_styles.Folded
+abbrev pub as_style : BlockStyle → Style
+as_style styles.Literal = all_styles.Literal
+as_style styles.Folded = all_styles.Folded
 
 -- an indentation indicator is a digit from 1 to 9 (YAML 1.2.2, section 8.1.1.1)
 abbrev pub IsDigit : Option ℕ → Type 0
@@ -137,7 +137,7 @@ pub record IsBlock (least : ℕ) (b : BlockText) (rest : List ℕ) : Type 0 wher
 -- where its pieces stand, by the offset at which it begins (own)
 abbrev pub block_piece : ℕ → BlockText → Piece
 block_piece start b = record {
-  style = any_style b.style;
+  style = as_style b.style;
   start = start;
   head_end = start + 1 + length b.indicators;
   raw_start = start + 1 + length b.indicators + length b.tail;

@@ -1,7 +1,7 @@
 -- What a block scalar stands for (YAML 1.2.2, sections 8.1.1.2, 8.1.2 and 8.1.3).
 use Rattle.std.specs.Prelude.{ℕ, ◌+◌, Bool, true, false, ◌&&◌, not, ◌==◌, List, [], ◌∷◌, ◌++◌, length, take, drop, replicate, min, if◌then◌else◌}
-use Rattle.yq_core.specs.declared.block_types.Before.{Before}
-use Rattle.yq_core.specs.declared.block_types.Before.TheVariants as before
+use Rattle.yq_core.specs.declared.block_types.LineBefore.{LineBefore}
+use Rattle.yq_core.specs.declared.block_types.LineBefore.TheVariants as before
 use Rattle.yq_core.specs.declared.block_header.BlockStyle.{BlockStyle}
 use Rattle.yq_core.specs.declared.block_header.BlockStyle.TheVariants as styles
 use Rattle.yq_core.specs.declared.block_header.Chomping.{Chomping}
@@ -35,14 +35,14 @@ literal strip f (l ∷ ls) = (part_of f l ++ optional_break (not (strip && no_li
 
 -- What stands in the content before a line, behind k empty lines: between two lines that don't begin with white space the break is folded, to a
 -- space or to the LFs of the empty lines; about the others it stays (YAML 1.2.2, section 8.1.3).
-abbrev pub joint : Before → Bool → ℕ → List ℕ
+abbrev pub joint : LineBefore → Bool → ℕ → List ℕ
 joint before.Nothing white k = replicate k feed
 joint before.Spaced white k = feed ∷ replicate k feed
 joint before.Text true k = feed ∷ replicate k feed
 joint before.Text false k = if k == 0 then 32 ∷ [] else replicate k feed
 
 -- what stands behind the last text line and k empty lines (YAML 1.2.2, section 8.1.1.2)
-abbrev pub chomped_end : Chomping → Before → ℕ → List ℕ
+abbrev pub chomped_end : Chomping → LineBefore → ℕ → List ℕ
 chomped_end chompings.Strip b k = []
 chomped_end chompings.Clip before.Nothing k = []
 chomped_end chompings.Clip before.Spaced k = feed ∷ []
@@ -52,11 +52,11 @@ chomped_end chompings.Keep before.Spaced k = feed ∷ replicate k feed
 chomped_end chompings.Keep before.Text k = feed ∷ replicate k feed
 
 -- whether a line's text begins with white space (YAML 1.2.2, s-nb-spaced-text of section 8.1.3)
-abbrev pub is_spaced_line : List ℕ → Before
+abbrev pub is_spaced_line : List ℕ → LineBefore
 is_spaced_line p = if front is_white p then before.Spaced else before.Text
 
 -- Folded: the lines, behind what stood before them and k empty lines (YAML 1.2.2, section 8.1.3).
-unfoldable pub folded : Chomping → TextIndent → Before → ℕ → RawLines → List ℕ
+unfoldable pub folded : Chomping → TextIndent → LineBefore → ℕ → RawLines → List ℕ
 folded c f b k [] = chomped_end c b k
 folded c f b k (l ∷ ls) =
     if length (part_of f l) == 0 then folded c f b (k + 1) ls

@@ -2,7 +2,7 @@
 use Rattle.std.specs.Prelude.{ℕ, suc, zero, ◌-◌, Bool, true, false, ◌||◌, ◌&&◌, ◌==◌, Option, Some, None, List, [], ◌∷◌, ◌++◌, length, take, drop, replicate, if◌then◌else◌, slice_index, encode_utf8}
 use Rattle.yq_core.specs.Text.{feed, is_white, is_feed, is_break, is_space, front}
 use Rattle.yq_core.specs.Quoted.{Gap, folded, joined, one_blank_line_more, gap_text}
-use Rattle.yq_core.specs.QuotedReading.{escape_in_front}
+use Rattle.yq_core.specs.QuotedReading.{leading_escape}
 
 -- what stands before a text: white space in a line, or a gap between lines (own)
 pub data BlankBefore : Type 0 where
@@ -41,12 +41,12 @@ is_pair quote (b ∷ bs) = quote == 39 && b == 39 && front (λ c. c == 39) bs
 
 -- what b with the bytes that belong to it stands for (own)
 abbrev pub quoted_item : ℕ → ℕ → List ℕ → List ℕ
-quoted_item quote b bs = if quote == 34 && b == 92 then (if is_break bs then [] else escaped (escape_in_front bs)) else b ∷ []
+quoted_item quote b bs = if quote == 34 && b == 92 then (if is_break bs then [] else escaped (leading_escape bs)) else b ∷ []
 
 -- how many bytes these are (own)
 abbrev pub item_len : ℕ → ℕ → List ℕ → ℕ
 item_len quote b bs =
-    if quote == 34 && b == 92 then (if is_break bs then break_len bs else escaped_len (escape_in_front bs))
+    if quote == 34 && b == 92 then (if is_break bs then break_len bs else escaped_len (leading_escape bs))
     else (if is_pair quote (b ∷ bs) then 1 else 0)
 
 -- what stands behind these (own)

@@ -27,9 +27,9 @@ lettered None = None
 lettered (Some c) = Some (c, 1)
 
 -- the character that an escape stands for, and how many bytes it has, behind its backslash (own)
-unfoldable pub escape_in_front : List ℕ → Option (ℕ × ℕ)
-escape_in_front [] = None
-escape_in_front (b ∷ bs) =
+unfoldable pub leading_escape : List ℕ → Option (ℕ × ℕ)
+leading_escape [] = None
+leading_escape (b ∷ bs) =
     if b == 120 then coded 2 (hex 2 0 bs)
     else (if b == 117 then coded 4 (hex 4 0 bs)
     else (if b == 85 then coded 8 (hex 8 0 bs)
@@ -49,7 +49,7 @@ length_of (Some e) = Some e.1
 abbrev pub escape_len : ℕ → ℕ → List ℕ → Option ℕ
 escape_len quote b bs =
     if is_feed b && is_marker bs then None
-    else (if quote == 34 && b == 92 then (if is_break bs then Some 0 else length_of (escape_in_front bs))
+    else (if quote == 34 && b == 92 then (if is_break bs then Some 0 else length_of (leading_escape bs))
     else (if b == quote then Some 1 else Some 0))
 
 -- how far it is to the quote that closes, k bytes being passed over (own)

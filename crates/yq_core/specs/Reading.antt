@@ -4,19 +4,19 @@ use Rattle.yq_core.specs.Answers.{◌>>=◌}
 use Rattle.yq_core.specs.Plain.{plain_at}
 use Rattle.yq_core.specs.QuotedReading.{quoted_at}
 use Rattle.yq_core.specs.Text.{is_empty, is_marker, cut, unless, no_white}
-use Rattle.yq_core.specs.declared.gap.Before.{Before}
-use Rattle.yq_core.specs.declared.gap.Before.TheVariants.{Token}
+use Rattle.yq_core.specs.declared.gap.GapPlace.{GapPlace}
+use Rattle.yq_core.specs.declared.gap.GapPlace.TheVariants.{Token}
 use Rattle.yq_core.specs.Gaps.{goes, next_gap_place, at_line_start}
 use Rattle.yq_core.specs.Nodes.{Key, bare, keyed, Sep, last, comma, FlowNode, empty, alias, scalar, coll, anchored, Items, none, item, begins_with, in_name, begins_content, begins_node, ends_key, is_empty_node, takes_anchor, is_keyed}
 use Rattle.yq_core.specs.Scalars.{is_quoted, has_its_lines}
 
 -- how long the gap in front is (own)
-unfoldable pub flow_gap_len : Before → List ℕ → ℕ
+unfoldable pub flow_gap_len : GapPlace → List ℕ → ℕ
 flow_gap_len before [] = 0
 flow_gap_len before (b ∷ bs) = if goes before b bs then suc (flow_gap_len (next_gap_place before b) bs) else 0
 
 -- what stands behind it (own)
-unfoldable pub gap_end : Before → List ℕ → Before
+unfoldable pub gap_end : GapPlace → List ℕ → GapPlace
 gap_end before [] = before
 gap_end before (b ∷ bs) = if goes before b bs then gap_end (next_gap_place before b) bs else before
 

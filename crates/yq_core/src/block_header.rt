@@ -41,7 +41,7 @@ pub fn read_style(text: &[u8]) -> Result<(BlockStyle, &[u8]), FaultKind>
 
 /// The style among all.
 pub fn style_of(style: BlockStyle) -> Style
-    ensures { result ≡ spec.any_style style }
+    ensures { result ≡ spec.as_style style }
 {
     match style {
         BlockStyle::Literal => Style::Literal,

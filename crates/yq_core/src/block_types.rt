@@ -1,9 +1,9 @@
 //! Types of block scalars.
-ghost use Rattle.yq_core.specs.declared.block_types.Before.TheVariants.{Nothing};
+ghost use Rattle.yq_core.specs.declared.block_types.LineBefore.TheVariants.{Nothing};
 
 /// What stands before a line of folded text.
 #[derive(Clone, Copy)]
-pub enum Before {
+pub enum LineBefore {
     /// Empty lines alone.
     Nothing,
     /// A line of text.

@@ -2,13 +2,13 @@
 ghost use Rattle.std.specs.Prelude.{◌≡◌, ◌∷◌, ◌≤◌, length};
 ghost use Rattle.yq_core.specs.Gaps as spec;
 ghost use Rattle.yq_core.specs.Reading as reading;
-ghost use Rattle.yq_core.specs.declared.gap.Before.TheVariants.{Token as token};
+ghost use Rattle.yq_core.specs.declared.gap.GapPlace.TheVariants.{Token as token};
 
 use crate::text::is_space;
 
 /// What stands before the next byte.
 #[derive(Clone, Copy)]
-pub enum Before {
+pub enum GapPlace {
     /// A token.
     Token,
     /// White space.
@@ -20,35 +20,35 @@ pub enum Before {
 }
 
 /// Whether the gap goes on with the byte in front.
-fn goes(before: Before, first: u8, text: &[u8], after: &[u8]) -> bool
+fn goes(before: GapPlace, first: u8, text: &[u8], after: &[u8]) -> bool
     requires { text.now ≡ first ∷ after.now }
     ensures { result ≡ spec.goes before first after.now }
 {
     match before {
-        Before::Token => is_space(text),
-        Before::White | Before::Break => is_space(text) || first == b'#',
-        Before::Comment => true,
+        GapPlace::Token => is_space(text),
+        GapPlace::White | GapPlace::Break => is_space(text) || first == b'#',
+        GapPlace::Comment => true,
     }
 }
 
 /// What stands before the byte behind this one.
-fn next(before: Before, first: u8) -> Before
+fn next(before: GapPlace, first: u8) -> GapPlace
     ensures { result ≡ spec.next_gap_place before first }
 {
     if first == b'\n' {
-        Before::Break
-    } else if first == b'#' || matches!(before, Before::Comment) {
-        Before::Comment
+        GapPlace::Break
+    } else if first == b'#' || matches!(before, GapPlace::Comment) {
+        GapPlace::Comment
     } else {
-        Before::White
+        GapPlace::White
     }
 }
 
 /// Whether a line begins here.
-fn is_break(before: Before) -> bool
+fn is_break(before: GapPlace) -> bool
     ensures { result ≡ spec.at_line_start before }
 {
-    matches!(before, Before::Break)
+    matches!(before, GapPlace::Break)
 }
 
 /// How long the gap in front is, in bytes, and whether what follows begins a line.
@@ -59,7 +59,7 @@ pub fn gap_len(text: &[u8]) -> (usize, bool)
     ensures line { result.1 ≡ spec.at_line_start (reading.gap_end token text.now) }
 {
     let mut n = 0;
-    let mut before = Before::Token;
+    let mut before = GapPlace::Token;
     let mut rest = text;
     'bytes: while let [first, after @ ..] = rest {
         if !goes(before, *first, rest, after) {

@@ -24,7 +24,7 @@ pub mod text;
 mod tokens;
 mod value;
 
-pub use block_types::{Before, Break};
+pub use block_types::{Break, LineBefore};
 pub use characters::is_text_char;
 pub use fault::{FaultKind, ReadError, ReadFault};
 pub use gap::gap_len;

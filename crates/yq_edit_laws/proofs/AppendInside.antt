@@ -22,7 +22,7 @@ use Rattle.yq_documents.specs.Ready.{begins_no_node}
 use Rattle.yq_documents.specs.Reading.{read_at}
 use Rattle.yq_places.specs.RowPaths.{IsReadable}
 use Rattle.yq_edits.specs.declared.layout.Layout.{Layout}
-use Rattle.yq_edits.specs.Alone.{sole_collection}
+use Rattle.yq_edits.specs.Alone.{singleton}
 use Rattle.yq_edits.specs.BlockRows.{node_rows}
 use Rattle.yq_edits.specs.BlockText.{block_value}
 use Rattle.yq_edits.proofs.BlockEndLaws.{line_ends}
@@ -96,7 +96,7 @@ module _ (doc : ℕ) (steps : List Step) (key : Option (List ℕ)) (v : Node) (c
   place = e doc steps c x read at
 
   abbrev new : List Row
-  new = node_rows l x.column (break_text l.br) (sole_collection key v)
+  new = node_rows l x.column (break_text l.br) (singleton key v)
 
   abbrev lines : List ℕ
   lines = entry_lines l x.column key v
@@ -117,8 +117,8 @@ module _ (doc : ℕ) (steps : List Step) (key : Option (List ℕ)) (v : Node) (c
       ∙ (sym (append_assoc place.start (rows_text place.front []) (rows_text new (rows_text place.back (part.end ++ rest))))
       ∙ ((λ i. sym place.before_is i ++ rows_text new (sym place.behind_is i))
       ∙ ap (λ z. x.before ++ z)
-      (value_spelled (sole_collection key v) l x.column (break_text l.br) x.behind w.filled w.value
-      ∙ (sym (append_assoc (replicate x.column 32) (block_value l x.column (sole_collection key v)) (break_text l.br ++ x.behind))
+      (value_spelled (singleton key v) l x.column (break_text l.br) x.behind w.filled w.value
+      ∙ (sym (append_assoc (replicate x.column 32) (block_value l x.column (singleton key v)) (break_text l.br ++ x.behind))
       ∙ (sym (append_assoc lines (break_text l.br) x.behind) ∙ ap (λ z. (lines ++ break_text l.br) ++ z) (sym (append-nil x.behind))))))))
 
   readable : length (new_text (put_segments x (lines ++ break_text l.br))) ≤ text_limit → IsReadable (cut_text (put_document doc q c))

@@ -11,7 +11,7 @@ use Rattle.yq_core.specs.Characters.{is_text_char}
 use Rattle.yq_core.specs.Scalar.{ScalarText}
 use Rattle.yq_core.specs.Text.{ends_line, front, is_white, is_feed, is_line, joined, text_lines, upto}
 use Rattle.yq_core.specs.Writable.{can_write, is_literal_char, is_literal_text, is_string}
-use Rattle.yq_core.specs.declared.block_types.Before.{Before}
+use Rattle.yq_core.specs.declared.block_types.LineBefore.{LineBefore}
 use Rattle.yq_core.specs.declared.block_header.Chomping.{Chomping}
 use Rattle.yq_core.specs.declared.block_header.Chomping.TheVariants as chompings
 use Rattle.yq_core.specs.declared.block_lines.TextIndent.{TextIndent}
@@ -53,7 +53,7 @@ literal_feeds strip f (l ∷ ls) known raw =
     ap (λ x. list_all is_feed ((x ++ optional_break b) ++ literal strip f ls)) (part_none f l known raw.0)
     ∙ (list_all-append is_feed (optional_break b) (literal strip f ls) ∙ rw (broken_feeds b, literal_feeds strip f ls known raw.1) refl)
 
-folded_feeds : (c : Chomping) (f : TextIndent) (b : Before) (k : ℕ) (ls : RawLines) → f.known ≡ false → AreRaw f ls → list_all is_feed (folded c f b k ls) ≡ true
+folded_feeds : (c : Chomping) (f : TextIndent) (b : LineBefore) (k : ℕ) (ls : RawLines) → f.known ≡ false → AreRaw f ls → list_all is_feed (folded c f b k ls) ≡ true
 unfolding folded
 folded_feeds c f b k [] known raw = search (rules, feeds)
 folded_feeds c f b k (l ∷ ls) known raw =

@@ -5,7 +5,7 @@ use Rattle.yq_semantics.specs.declared.op.Op.{Op}
 use Rattle.yq_text.specs.Splice.{Splice}
 use Rattle.yq_edit_laws.specs.Answers.{EditFails}
 use Rattle.yq_edit_laws.specs.Carried.{carried, carry_all}
-use Rattle.yq_edit_laws.specs.Edit.{Edit, unreadable, refuses, gives, edit_behind, edit_then}
+use Rattle.yq_edit_laws.specs.Edit.{Edit, unreadable, refuses, gives, edit_after, edit_then}
 use Rattle.yq_edit_laws.specs.Theorems.{IsApplied, IsFitting}
 use Rattle.yq_edit_laws.specs.Valid.{AreServed}
 use Rattle.yq_edit_laws.specs.declared.edit_error.EditError.{EditError}
@@ -35,12 +35,12 @@ last_comes os op t some at none = sym (ap (λ (x : List Op). carry_all (operatio
 
 -- one that others follow
 pub others_come : (os : List Op) (op : Op) (t m : List ℕ) (bs cs all : List Splice) → 1 ≤ length os → op ≡ slice_index_or os 0 op → carried (operation_of op) t ≡ gives m cs → all ≡ bs ++ cs →
-    edit_behind all (carry_all (operations_of (later os)) m) ≡ edit_behind bs (carry_all (operations_of os) t)
+    edit_after all (carry_all (operations_of (later os)) m) ≡ edit_after bs (carry_all (operations_of os) t)
 others_come os op t m bs cs all some at new_bytes joined =
-    ap (λ (x : List Splice). edit_behind x (carry_all (operations_of (later os)) m)) joined
+    ap (λ (x : List Splice). edit_after x (carry_all (operations_of (later os)) m)) joined
     ∙ (behind_both bs cs (carry_all (operations_of (later os)) m)
-    ∙ (ap (λ (x : Edit). edit_behind bs (edit_then (carry_all (operations_of (later os))) x)) (sym new_bytes)
-    ∙ ap (λ (x : List Op). edit_behind bs (carry_all (operations_of x) t)) (sym (first_apart os op some at))))
+    ∙ (ap (λ (x : Edit). edit_after bs (edit_then (carry_all (operations_of (later os))) x)) (sym new_bytes)
+    ∙ ap (λ (x : List Op). edit_after bs (carry_all (operations_of x) t)) (sym (first_apart os op some at))))
 
 pub others_served : (os : List Op) (op : Op) (t m : List ℕ) (cs : List Splice) → 1 ≤ length os → op ≡ slice_index_or os 0 op → AreServed (operations_of os) t → IsApplied (operation_of op) t m cs →
     AreServed (operations_of (later os)) m
@@ -49,13 +49,13 @@ others_served os op t m cs some at h a =
     (_, others_serve s.0 (operation_of op) (operations_of (later os)) t s.1 m cs a)
 
 -- one that fails
-pub first_fails : (os : List Op) (op : Op) (t : List ℕ) (bs : List Splice) (e : EditError) → 1 ≤ length os → op ≡ slice_index_or os 0 op → EditFails e (carried (operation_of op) t) → EditFails e (edit_behind bs (carry_all (operations_of os) t))
+pub first_fails : (os : List Op) (op : Op) (t : List ℕ) (bs : List Splice) (e : EditError) → 1 ≤ length os → op ≡ slice_index_or os 0 op → EditFails e (carried (operation_of op) t) → EditFails e (edit_after bs (carry_all (operations_of os) t))
 first_fails os op t bs e some at h =
     fails_behind e bs (carry_all (operations_of os) t)
     (subst (λ (x : List Op). EditFails e (carry_all (operations_of x) t)) (sym (first_apart os op some at)) (fails_on e (carry_all (operations_of (later os))) (carried (operation_of op) t) h))
 
 -- none
-pub none_come : (os : List Op) (t : List ℕ) (bs : List Splice) → length os ≡ 0 → edit_behind bs (carry_all (operations_of os) t) ≡ gives t bs
+pub none_come : (os : List Op) (t : List ℕ) (bs : List Splice) → length os ≡ 0 → edit_after bs (carry_all (operations_of os) t) ≡ gives t bs
 none_come [] t bs e = ap (gives t) (append-nil bs)
 none_come (o ∷ os) t bs e = absurd (omega (arith, e))
 

@@ -2,7 +2,7 @@
 use Rattle.std.proofs.Common.{◌≡◌, inl, inr, ℕ, List, [], ◌∷◌, ◌++◌, refl, sym, ap, ◌∙◌, subst, append_assoc, append-nil}
 use Rattle.yq_text.specs.Splice.{Splice}
 use Rattle.yq_edit_laws.specs.Answers.{EditFails}
-use Rattle.yq_edit_laws.specs.Edit.{Edit, unreadable, refuses, gives, edit_behind, edit_then, in_order}
+use Rattle.yq_edit_laws.specs.Edit.{Edit, unreadable, refuses, gives, edit_after, edit_then, in_order}
 use Rattle.yq_edit_laws.specs.Theorems.{InOrder, Leading, StopsInOrder}
 use Rattle.yq_edit_laws.specs.declared.edit_error.EditError.{EditError}
 use Rattle.yq_edit_laws.specs.declared.edit_error.EditError.TheVariants as error
@@ -28,16 +28,16 @@ pub leads_give : {A : Type 0} (f : A → List ℕ → Edit) (R : Leading A) → 
 leads_give f R each [] t new cs h = λ i. gives (h.0 i) (sym h.1 i)
 leads_give f R each (x ∷ xs) t new cs h =
     ap (edit_then (in_order f xs)) (each x t h.0 h.1 h.3)
-    ∙ (ap (edit_behind h.1) (leads_give f R each xs h.0 new h.2 h.4) ∙ ap (gives new) (sym h.5))
+    ∙ (ap (edit_after h.1) (leads_give f R each xs h.0 new h.2 h.4) ∙ ap (gives new) (sym h.5))
 
 -- an edit that fails, also behind splices
-pub fails_behind : (e : EditError) (cs : List Splice) (r : Edit) → EditFails e r → EditFails e (edit_behind cs r)
-fails_behind (error.Read fault) cs r h = (ap (edit_behind cs) h.0, h.1)
-fails_behind (error.Refused why) cs r h = ap (edit_behind cs) h
+pub fails_behind : (e : EditError) (cs : List Splice) (r : Edit) → EditFails e r → EditFails e (edit_after cs r)
+fails_behind (error.Read fault) cs r h = (ap (edit_after cs) h.0, h.1)
+fails_behind (error.Refused why) cs r h = ap (edit_after cs) h
 fails_behind error.Memory cs r h = tt
 
 -- and without these
-pub fails_itself : (e : EditError) (cs : List Splice) (r : Edit) → EditFails e (edit_behind cs r) → EditFails e r
+pub fails_itself : (e : EditError) (cs : List Splice) (r : Edit) → EditFails e (edit_after cs r) → EditFails e r
 fails_itself (error.Read fault) cs unreadable h = h
 fails_itself (error.Read fault) cs (refuses why) h = absurd (let f = h.0 in cc)
 fails_itself (error.Read fault) cs (gives t ds) h = absurd (let f = h.0 in cc)
@@ -47,13 +47,13 @@ fails_itself (error.Refused why) cs (gives t ds) h = absurd (cc)
 fails_itself error.Memory cs r h = tt
 
 -- an edit behind no splices
-pub behind_none : (r : Edit) → edit_behind [] r ≡ r
+pub behind_none : (r : Edit) → edit_after [] r ≡ r
 behind_none unreadable = refl
 behind_none (refuses why) = refl
 behind_none (gives t cs) = refl
 
 -- an edit behind splices, behind others
-pub behind_both : (bs cs : List Splice) (r : Edit) → edit_behind (bs ++ cs) r ≡ edit_behind bs (edit_behind cs r)
+pub behind_both : (bs cs : List Splice) (r : Edit) → edit_after (bs ++ cs) r ≡ edit_after bs (edit_after cs r)
 behind_both bs cs unreadable = refl
 behind_both bs cs (refuses why) = refl
 behind_both bs cs (gives t ds) = ap (gives t) (append_assoc bs cs ds)

@@ -32,7 +32,7 @@ use Rattle.yq_semantics.specs.Rooms.{room_of}
 use Rattle.yq_text.specs.Script.{Segment, keep, put, old_text, new_text, kept_back}
 use Rattle.yq_edits.specs.Done.{IsDone}
 use Rattle.yq_edits.specs.EditLaws.{IsEdit}
-use Rattle.yq_edits.specs.Removing.{indent_put, lines_mended, gap_mended, rows_removed}
+use Rattle.yq_edits.specs.Removing.{put_indent, lines_mended, gap_mended, rows_removed}
 use Rattle.yq_edits.specs.Local.{IsLocal, IsLocalTo}
 use Rattle.yq_edit_laws.specs.TouchedRanges.{LiesInOne}
 use Rattle.yq_edits.specs.ReadsAfter.{ReadsAfter}
@@ -62,7 +62,7 @@ line_parts l = take-append-drop (upto no_white l) l
 
 -- a line, whatever becomes of it, before others
 line_old : (b k sh out : Bool) (column : ℕ) (l : List ℕ) (ls : RawLines) (ms : List Segment) → old_text ms ≡ joined ls →
-    old_text (cond b (cond k (put l [] ∷ []) (cond sh (keep l ∷ []) (indent_put 0 l)) ++ ms) (cond out (keep l ∷ []) (indent_put column l) ++ (keep (joined ls) ∷ []))) ≡ l ++ joined ls
+    old_text (cond b (cond k (put l [] ∷ []) (cond sh (keep l ∷ []) (put_indent 0 l)) ++ ms) (cond out (keep l ∷ []) (put_indent column l) ++ (keep (joined ls) ∷ []))) ≡ l ++ joined ls
 line_old true true sh out column l ls ms h = ap (λ (x : List ℕ). l ++ x) h
 line_old true false true out column l ls ms h = ap (λ (x : List ℕ). l ++ x) h
 line_old true false false out column l ls ms h =
@@ -81,7 +81,7 @@ gap_old None gap = append-nil gap
 gap_old (Some s) gap = lines_old s (text_lines gap) ∙ joined_lines gap
 
 line_new : (b k sh out : Bool) (column : ℕ) (l : List ℕ) (ls rs : RawLines) (ms : List Segment) → new_text ms ≡ joined rs →
-    new_text (cond b (cond k (put l [] ∷ []) (cond sh (keep l ∷ []) (indent_put 0 l)) ++ ms) (cond out (keep l ∷ []) (indent_put column l) ++ (keep (joined ls) ∷ [])))
+    new_text (cond b (cond k (put l [] ∷ []) (cond sh (keep l ∷ []) (put_indent 0 l)) ++ ms) (cond out (keep l ∷ []) (put_indent column l) ++ (keep (joined ls) ∷ [])))
     ≡ joined (cond b (cond k rs (cond sh l (past_white l) ∷ rs)) (cond out l (replicate column 32 ++ past_white l) ∷ ls))
 line_new true true sh out column l ls rs ms h = h
 line_new true false true out column l ls rs ms h = ap (λ (x : List ℕ). l ++ x) h

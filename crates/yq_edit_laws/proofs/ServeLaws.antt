@@ -10,7 +10,7 @@ use Rattle.yq_semantics.specs.declared.refusal.Refusal.TheVariants.{TooLarge}
 use Rattle.yq_semantics.proofs.updates.AlikeRooms.{rest_follow, rest_after}
 use Rattle.yq_text.specs.Splice.{Splice}
 use Rattle.yq_edit_laws.specs.Carried.{carried, carry_all}
-use Rattle.yq_edit_laws.specs.Edit.{Edit, unreadable, refuses, gives, edit_behind, edit_then}
+use Rattle.yq_edit_laws.specs.Edit.{Edit, unreadable, refuses, gives, edit_after, edit_then}
 use Rattle.yq_edit_laws.specs.Theorems.{IsFitting, IsApplied, IsLarge, InOrder, StopsInOrder}
 use Rattle.yq_edit_laws.specs.Valid.{Serves}
 use Rattle.yq_edit_laws.proofs.ApplyLaws.{OperationComes, operation_comes}
@@ -48,7 +48,7 @@ module _ (docs : List Document) (op : Operation) (ops : List Operation) (t : Lis
     others_come : all_after (room_of m) ops next ≡ last
     others_come = rest_after op ops (room_of t) (room_of m) docs left s.follow
 
-    comes_behind : (e : Edit) → OperationsCome last ops m e → OperationsCome last (op ∷ ops) t (edit_behind cs e)
+    comes_behind : (e : Edit) → OperationsCome last ops m e → OperationsCome last (op ∷ ops) t (edit_after cs e)
     comes_behind unreadable h = h
     comes_behind (refuses why) h = (h.0, inr (m, cs, a, h.1))
     comes_behind (gives new es) h = ((m, cs, es, a, h.0, refl), h.1)

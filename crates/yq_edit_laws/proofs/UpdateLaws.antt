@@ -23,7 +23,7 @@ use Rattle.yq_text.proofs.PlaceInList.{get_some}
 use Rattle.yq_text.specs.declared.edited.Edited.{Edited}
 use Rattle.yq_edit_laws.specs.Answers.{Edits, EditFails, of_planning, error_of_reading}
 use Rattle.yq_edit_laws.specs.Carried.{carry_all, carry_out, updated}
-use Rattle.yq_edit_laws.specs.Edit.{Edit, unreadable, refuses, gives, edit_behind, by_reading}
+use Rattle.yq_edit_laws.specs.Edit.{Edit, unreadable, refuses, gives, edit_after, by_reading}
 use Rattle.yq_edit_laws.specs.Theorems.{HasReading, IsUpdated}
 use Rattle.yq_edit_laws.specs.Valid.{HaveOperands, IsStep, UpdateFails, FailsAt}
 use Rattle.yq_edit_laws.specs.declared.edit_error.EditError.{EditError}
@@ -52,7 +52,7 @@ module _ (u : Update) (t : List ℕ) (c : Cut) (ops : List Operation) (is : read
   comes : UpdateComes u t (carry_all ops t)
   comes = plan_comes u t c is ops planned operands holds
 
-  step_so : (ds : List Splice) (x : Edit) (new : List ℕ) (all : List Splice) → updated u t ≡ x → UpdateComes u t x → edit_behind ds x ≡ gives new all → (cs : List Splice) × IsStep u t new cs × (all ≡ ds ++ cs)
+  step_so : (ds : List Splice) (x : Edit) (new : List ℕ) (all : List Splice) → updated u t ≡ x → UpdateComes u t x → edit_after ds x ≡ gives new all → (cs : List Splice) × IsStep u t new cs × (all ≡ ds ++ cs)
   step_so ds unreadable new all is_done means h = absurd (cc)
   step_so ds (refuses why) new all is_done means h = absurd (cc)
   step_so ds (gives m cs) new all is_done means h =
@@ -60,7 +60,7 @@ module _ (u : Update) (t : List ℕ) (c : Cut) (ops : List Operation) (is : read
       let splices : ds ++ cs ≡ all = cc in
       (cs, record { exact = is_done ∙ ap (λ (x : List ℕ). gives x cs) text; is = subst (λ (x : List ℕ). IsUpdated u t x cs) text means }, sym splices)
 
-  pub update_ok : (r : Result Edited EditError) (ds : List Splice) → Edits r (edit_behind ds (carry_all ops t)) →
+  pub update_ok : (r : Result Edited EditError) (ds : List Splice) → Edits r (edit_after ds (carry_all ops t)) →
       IfOk r (λ e. (cs : List Splice) × IsStep u t (string_bytes e.text) cs × (e.splices.items ≡ ds ++ cs))
   update_ok (Ok e) ds h = step_so ds (carry_all ops t) (string_bytes e.text) e.splices.items done comes h
   update_ok (Err e) ds h = tt
@@ -70,7 +70,7 @@ module _ (u : Update) (t : List ℕ) (c : Cut) (ops : List Operation) (is : read
   fails_so (error.Refused why) h = subst (UpdateComes u t) h comes
   fails_so error.Memory h = tt
 
-  pub update_err : (r : Result Edited EditError) (ds : List Splice) → Edits r (edit_behind ds (carry_all ops t)) → IfErr r (λ e. FailsAt e u t)
+  pub update_err : (r : Result Edited EditError) (ds : List Splice) → Edits r (edit_after ds (carry_all ops t)) → IfErr r (λ e. FailsAt e u t)
   update_err (Ok e) ds h = tt
   update_err (Err e) ds h = let own = fails_itself e ds (carry_all ops t) h in record { fails = subst (EditFails e) (sym done) own; why = fails_so e own }
 

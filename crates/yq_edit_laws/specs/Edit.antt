@@ -15,16 +15,16 @@ pub data Edit : Type 0 where
   gives : List ℕ → List Splice → Edit
 
 -- an edit with splices before its own (own)
-abbrev pub edit_behind : List Splice → Edit → Edit
-edit_behind cs unreadable = unreadable
-edit_behind cs (refuses why) = refuses why
-edit_behind cs (gives t ds) = gives t (cs ++ ds)
+abbrev pub edit_after : List Splice → Edit → Edit
+edit_after cs unreadable = unreadable
+edit_after cs (refuses why) = refuses why
+edit_after cs (gives t ds) = gives t (cs ++ ds)
 
 -- an edit, and then one of the text that it gives (own)
 abbrev pub edit_then : (List ℕ → Edit) → Edit → Edit
 edit_then f unreadable = unreadable
 edit_then f (refuses why) = refuses why
-edit_then f (gives t cs) = edit_behind cs (f t)
+edit_then f (gives t cs) = edit_after cs (f t)
 
 -- an edit for each thing in order, each of the text that the one before gives (own)
 abbrev pub in_order : {A : Type 0} → (A → List ℕ → Edit) → List A → List ℕ → Edit

@@ -1,6 +1,6 @@
 //! Edits of flow collections, by their places in the text.
 ghost use Rattle.std.specs.Prelude.{◌≡◌, ◌∷◌, IfOk, [], Some, drop, map, option_map, string_bytes, take};
-ghost use Rattle.yq_text.specs.Halves.{halves_text};
+ghost use Rattle.yq_text.specs.Halves.{whole};
 ghost use Rattle.yq_core.specs.Entries.{tree_step};
 ghost use Rattle.yq_core.specs.View.{inline_view};
 ghost use Rattle.yq_flow_edits.specs.FlowPlaces.{edit_view};
@@ -32,7 +32,8 @@ pub fn last_step(steps: &[Step]) -> Option<(&[Step], &Step)>
 
 /// The collection to which steps lead on in the head of a line.
 pub(crate) fn collection_in<'h, 't>(head: &'h FlowHead<'_, 't>) -> Option<&'h Inline<'t>>
-    ensures { option_map (λ n. behind_anchor (inline_view n.now)) result ≡ collection_view head.now }
+    ensures { option_map (λ n. behind_anchor (inline_view n.now)) result ≡
+        collection_view head.now }
 {
     collection_along(&head.node, head.left)
 }
@@ -55,8 +56,8 @@ pub(crate) fn edit_at<'d>(
     place: EditPlace,
     written: String,
 ) -> Result<Option<Segments<'d>>, AllocError>
-    requires lies { spec.LiesIn (halves_text text) (spec.moved_on before (edit_view place)) }
-    ensures { GivesSegments result (Some (spec.edit_segments (halves_text text.entry)
+    requires lies { spec.LiesIn (whole text) (spec.moved_on before (edit_view place)) }
+    ensures { GivesSegments result (Some (spec.edit_segments (whole text.entry)
         (spec.moved_on before (edit_view place)) (string_bytes written))) }
 {
     let (front, behind) = text.split_at(before + place.end);

@@ -45,7 +45,8 @@ fn is_scalar(kind: Kind, text: &str, value: &Value) -> bool
 
 /// Whether a value is a scalar equal to a node.
 fn is_same_node(node: &Inline<'_>, value: &Value) -> bool
-    ensures { result ≡ keeps_scalar (Some (placed_tree (inline_view node.now))) (value_node value.now) }
+    ensures { result ≡ keeps_scalar (Some (placed_tree (inline_view node.now)))
+        (value_node value.now) }
 {
     match &node.form {
         Form::Empty => is_scalar(Kind::Null, "null", value),
@@ -67,7 +68,8 @@ pub fn put_at_part(
     path: &Path,
     value: &Value,
 ) -> Result<Option<PartPut>, AllocError>
-    requires { spec.IsHeadOfPath path.now.doc (standings.last_step (steps_of path.now)) cut.now head.now }
+    requires { spec.IsHeadOfPath path.now.doc
+        (standings.last_step (steps_of path.now)) cut.now head.now }
     ensures { IfOk result (spec.ArePuts path.now.doc (steps_of path.now) (value_node value.now)
         (cut_of cut.now) head.now) }
 {

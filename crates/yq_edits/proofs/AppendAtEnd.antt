@@ -14,7 +14,7 @@ use Rattle.yq_outline.specs.Lines.{lines_of_rows}
 use Rattle.yq_documents.specs.Reading.{read_at}
 use Rattle.yq_places.specs.RowPaths.{IsReadable}
 use Rattle.yq_edits.specs.declared.layout.Layout.{Layout}
-use Rattle.yq_edits.specs.Alone.{sole_collection}
+use Rattle.yq_edits.specs.Alone.{singleton}
 use Rattle.yq_edits.specs.BlockRows.{node_rows}
 use Rattle.yq_edits.specs.BlockText.{block_value}
 use Rattle.yq_edits.proofs.TextLaws.{value_spelled}
@@ -73,7 +73,7 @@ module _ (doc : ℕ) (steps : List Step) (key : Option (List ℕ)) (v : Node) (c
   place = e doc steps c x read at
 
   abbrev new : List Row
-  new = node_rows l x.column [] (sole_collection key v)
+  new = node_rows l x.column [] (singleton key v)
 
   abbrev lines : List ℕ
   lines = entry_lines l x.column key v
@@ -87,7 +87,7 @@ module _ (doc : ℕ) (steps : List Step) (key : Option (List ℕ)) (v : Node) (c
   new_lines : rows_text new [] ≡ lines
   new_lines =
       let w = filled doc steps key v c x read at g in
-      value_spelled (sole_collection key v) l x.column [] [] w.filled w.value ∙ ap (λ z. replicate x.column 32 ++ z) (append-nil (block_value l x.column (sole_collection key v)))
+      value_spelled (singleton key v) l x.column [] [] w.filled w.value ∙ ap (λ z. replicate x.column 32 ++ z) (append-nil (block_value l x.column (singleton key v)))
 
   new_is : cut_text (put_document doc q c) ≡ new_text (put_segments x (break_text l.br ++ lines))
   new_is =

@@ -17,7 +17,7 @@ use Rattle.yq_row_table.specs.Splices.{first_gap}
 use Rattle.yq_documents.specs.Documents.{HaveFitKeys}
 use Rattle.yq_outline.specs.Lines.{lines_of_rows}
 use Rattle.yq_edits.specs.declared.layout.Layout.{Layout}
-use Rattle.yq_edits.specs.Alone.{sole_collection}
+use Rattle.yq_edits.specs.Alone.{singleton}
 use Rattle.yq_edits.specs.BlockRows.{inline_of, node_rows, children_rows, entry_rows, rows_on_dash, end_of_line_before, column_below}
 use Rattle.yq_edits.specs.BlockValues.{IsEnd, IsFilledValue, IsNear, HasNearKeys, IsWritable, level_at}
 use Rattle.yq_edits.proofs.FitLaws.{node_fit, keys_fit, anchors_fit}
@@ -27,10 +27,10 @@ use Rattle.yq_edits.proofs.RowLaws.{value_laid}
 use Rattle.yq_edits.specs.Operands.{KeyIsUtf8}
 
 -- a collection of one item or entry is a value that is written in rows
-pub alone_value : (key : Option (List ℕ)) (v : Node) → KeyIsUtf8 key → IsValueTree v → IsFilledValue (sole_collection key v)
+pub alone_value : (key : Option (List ℕ)) (v : Node) → KeyIsUtf8 key → IsValueTree v → IsFilledValue (singleton key v)
 alone_value key v h1 h2 = search rules
 
-pub alone_writable : (key : Option (List ℕ)) (v : Node) (column : ℕ) (last rest : List ℕ) → KeyIsUtf8 key → IsValueTree v → IsNear key → HasNearKeys v → IsEnd column last rest → IsWritable (sole_collection key v) column last rest
+pub alone_writable : (key : Option (List ℕ)) (v : Node) (column : ℕ) (last rest : List ℕ) → KeyIsUtf8 key → IsValueTree v → IsNear key → HasNearKeys v → IsEnd column last rest → IsWritable (singleton key v) column last rest
 alone_writable key v column last rest u h near keys e = record { rows = alone_value key v u h; near = (search (rules, near, keys)); ends = e }
 
 -- the level of its line
@@ -70,11 +70,11 @@ is_child : (k : Option (List ℕ)) (v : Node) (l : Line) (u a : Outline) → chi
 is_child k v l u a e = let x = children_same (label l) (key_label k) (content_under l u) v (children a) none e in (x.0, x.1, no_more a x.2)
 
 -- its mark, by its level
-is_one : (k : Option (List ℕ)) (v : Node) (column : ℕ) (l : Line) (u a : Outline) (m : LineMark) → l.mark ≡ m → 3 * l.column + rank m ≡ entry_level k column → outline_node m (child (label l) (content_under l u) (children a)) ≡ sole_collection k v → IsOne k v l u a
+is_one : (k : Option (List ℕ)) (v : Node) (column : ℕ) (l : Line) (u a : Outline) (m : LineMark) → l.mark ≡ m → 3 * l.column + rank m ≡ entry_level k column → outline_node m (child (label l) (content_under l u) (children a)) ≡ singleton k v → IsOne k v l u a
 is_one k v column l u a m h1 h2 h3 = search (rules, is_child, list_same, map_same)
 
 -- the outline of a collection of one item or entry
-one_row : (key : Option (List ℕ)) (v : Node) (column : ℕ) (o : Outline) (rs : List Row) → IsEven (entry_level key column) o → flatten o ≡ lines_of_rows rs → value o ≡ sole_collection key v → IsEntryOf key v column rs
+one_row : (key : Option (List ℕ)) (v : Node) (column : ℕ) (o : Outline) (rs : List Row) → IsEven (entry_level key column) o → flatten o ≡ lines_of_rows rs → value o ≡ singleton key v → IsEntryOf key v column rs
 unfolding level
 one_row key v column o rs h1 h2 h3 = search (rules, is_one, append-nil)
 
@@ -83,19 +83,19 @@ pub none_uncommented : line_comment [] ≡ None
 unfolding upto
 none_uncommented = refl
 
-pub entry_of : (key : Option (List ℕ)) (v : Node) (l : Layout) (column : ℕ) (last : List ℕ) → line_comment last ≡ None → 1 ≤ l.mapping → KeyIsUtf8 key → IsValueTree v → IsEntryOf key v column (node_rows l column last (sole_collection key v))
+pub entry_of : (key : Option (List ℕ)) (v : Node) (l : Layout) (column : ℕ) (last : List ℕ) → line_comment last ≡ None → 1 ≤ l.mapping → KeyIsUtf8 key → IsValueTree v → IsEntryOf key v column (node_rows l column last (singleton key v))
 entry_of key v l column last uncommented step u h =
     let w = alone_value key v u h in
-    let rs : List Row = node_rows l column last (sole_collection key v) in
-    let s : Stands (lines_of_rows rs) (sole_collection key v) (level_at column (sole_collection key v)) = rules_give (level_at column (sole_collection key v)) (lines_of_rows rs) (sole_collection key v) (node_stands (sole_collection key v) l column last step w.filled w.value uncommented) in
+    let rs : List Row = node_rows l column last (singleton key v) in
+    let s : Stands (lines_of_rows rs) (singleton key v) (level_at column (singleton key v)) = rules_give (level_at column (singleton key v)) (lines_of_rows rs) (singleton key v) (node_stands (singleton key v) l column last step w.filled w.value uncommented) in
     one_row key v column s.outline rs (subst (λ n. IsEven n s.outline) (search rules) s.even) s.lines_are s.node_is
 
 -- its keys and anchors
-pub entry_keys : (key : Option (List ℕ)) (v : Node) (l : Layout) (column : ℕ) (last : List ℕ) → KeyIsUtf8 key → IsValueTree v → HaveFitKeys (node_rows l column last (sole_collection key v))
-entry_keys key v l column last u h = keys_fit (node_rows l column last (sole_collection key v)) (node_fit (sole_collection key v) l column last (alone_value key v u h).value)
+pub entry_keys : (key : Option (List ℕ)) (v : Node) (l : Layout) (column : ℕ) (last : List ℕ) → KeyIsUtf8 key → IsValueTree v → HaveFitKeys (node_rows l column last (singleton key v))
+entry_keys key v l column last u h = keys_fit (node_rows l column last (singleton key v)) (node_fit (singleton key v) l column last (alone_value key v u h).value)
 
-pub entry_anchors : (key : Option (List ℕ)) (v : Node) (l : Layout) (column : ℕ) (last : List ℕ) → KeyIsUtf8 key → IsValueTree v → HaveOneAnchorEach (lines_of_rows (node_rows l column last (sole_collection key v)))
-entry_anchors key v l column last u h = anchors_fit (node_rows l column last (sole_collection key v)) (node_fit (sole_collection key v) l column last (alone_value key v u h).value)
+pub entry_anchors : (key : Option (List ℕ)) (v : Node) (l : Layout) (column : ℕ) (last : List ℕ) → KeyIsUtf8 key → IsValueTree v → HaveOneAnchorEach (lines_of_rows (node_rows l column last (singleton key v)))
+entry_anchors key v l column last u h = anchors_fit (node_rows l column last (singleton key v)) (node_fit (singleton key v) l column last (alone_value key v u h).value)
 
 -- no gap is before it
 first_bare : (rs more : List Row) → first_gap rs [] ≡ [] → (rs ≡ [] → first_gap more [] ≡ []) → first_gap (rs ++ more) [] ≡ []
@@ -125,14 +125,14 @@ mutual
       by None (Some node) rs e = refl
       by None None rs e = dash_bare column rs e
 
-pub entry_bare : (key : Option (List ℕ)) (v : Node) (l : Layout) (column : ℕ) (last : List ℕ) → first_gap (node_rows l column last (sole_collection key v)) [] ≡ []
-entry_bare key v l column last = rows_bare l column last (sole_collection key v)
+pub entry_bare : (key : Option (List ℕ)) (v : Node) (l : Layout) (column : ℕ) (last : List ℕ) → first_gap (node_rows l column last (singleton key v)) [] ≡ []
+entry_bare key v l column last = rows_bare l column last (singleton key v)
 
 -- they are rows
 pub rows_gap : (limit : Limit) (rs : List Row) (gap rest : List ℕ) → AreRows limit rs [] (gap ++ rest) → IsGap gap rest → AreRows limit rs gap rest
 rows_gap limit [] gap rest h g = g
 rows_gap limit (r ∷ rs) gap rest h g = (h.0, rows_gap (limit_after r) rs gap rest h.1 g)
 
-pub entry_rows_are : (key : Option (List ℕ)) (v : Node) (l : Layout) (column : ℕ) (last gap rest : List ℕ) (limit : Limit) → IsWritable (sole_collection key v) column last (gap ++ rest) → allows limit column ≡ true → IsGap gap rest →
-    AreRows limit (node_rows l column last (sole_collection key v)) gap rest
+pub entry_rows_are : (key : Option (List ℕ)) (v : Node) (l : Layout) (column : ℕ) (last gap rest : List ℕ) (limit : Limit) → IsWritable (singleton key v) column last (gap ++ rest) → allows limit column ≡ true → IsGap gap rest →
+    AreRows limit (node_rows l column last (singleton key v)) gap rest
 entry_rows_are key v l column last gap rest limit w allowed g = search (rules, rows_gap, laid_rows, value_laid)

@@ -19,12 +19,12 @@ use Rattle.yq_documents.specs.Documents.{document_parts, lead_of}
 use Rattle.yq_documents.specs.Reading.{part_outline, read_at, root_of}
 use Rattle.yq_places.proofs.CommentPieceLaws.{Ended}
 use Rattle.yq_edits.specs.declared.layout.Layout.{Layout}
-use Rattle.yq_edits.specs.Alone.{sole_collection}
+use Rattle.yq_edits.specs.Alone.{singleton}
 use Rattle.yq_edits.specs.BlockRows.{node_rows}
 use Rattle.yq_edits.specs.BlockText.{block_value}
 use Rattle.yq_edits.specs.BlockValues.{IsFilledValue, IsEnd}
 use Rattle.yq_edits.proofs.CharacterLaws.{value_sound}
-use Rattle.yq_edits.specs.Appends.{AreMoreRows}
+use Rattle.yq_edits.specs.Appends.{AreAppendedRows}
 use Rattle.yq_edits.specs.Changed.{IsChanged, put_document}
 use Rattle.yq_edits.specs.CollectionPlaces.{IsCollectionEnd}
 use Rattle.yq_edits.specs.DocumentRows.{IsDocumentPart, behind_document}
@@ -126,23 +126,23 @@ module _ (doc : ℕ) (steps : List Step) (key : Option (List ℕ)) (v : Node) (c
   abbrev place : IsCollectionEnd c doc (p doc steps c x read at) steps x
   place = e doc steps c x read at
 
-  pub filled : IsFilledValue (sole_collection key v)
+  pub filled : IsFilledValue (singleton key v)
   filled = alone_value key v g.key_utf8 g.value_tree
 
   pub entry_piece : IsPiece (entry_lines l x.column key v)
   entry_piece =
-      let w = value_sound (sole_collection key v) l x.column filled.value in
-      pieces_joined (replicate x.column 32) (block_value l x.column (sole_collection key v)) (spaces_piece x.column) (record { utf8 = w.0; characters = w.1 })
+      let w = value_sound (singleton key v) l x.column filled.value in
+      pieces_joined (replicate x.column 32) (block_value l x.column (singleton key v)) (spaces_piece x.column) (record { utf8 = w.0; characters = w.1 })
 
   -- the rows of the item or entry, the last of which has this end
-  pub entry : (last : List ℕ) → said last ≡ None → IsEntryOf key v x.column (node_rows l x.column last (sole_collection key v))
+  pub entry : (last : List ℕ) → said last ≡ None → IsEntryOf key v x.column (node_rows l x.column last (singleton key v))
   entry last uncommented = entry_of key v l x.column last uncommented (steps_least (slice_get (document_parts c) doc)) g.key_utf8 g.value_tree
 
   known_taker : IsTaker key place.h.lines x.column
   known_taker =
       taker key g.node place.h.anchor place.h.lines x.column g.takes (same_Some _ _ (sym g.node_is ∙ lines_are_there steps (part_outline part) place.h place.collection.place_is)) place.collection.block place.first
 
-  pub written : (last : List ℕ) (uncommented : said last ≡ None) → AreMoreRows place.h (node_rows l x.column last (sole_collection key v)) (entry last uncommented).deep.0 (entry last uncommented).line (entry last uncommented).under (length steps)
+  pub written : (last : List ℕ) (uncommented : said last ≡ None) → AreAppendedRows place.h (node_rows l x.column last (singleton key v)) (entry last uncommented).deep.0 (entry last uncommented).line (entry last uncommented).under (length steps)
   written last uncommented =
       let w = entry last uncommented in
       record {
@@ -155,7 +155,7 @@ module _ (doc : ℕ) (steps : List Step) (key : Option (List ℕ)) (v : Node) (c
         key = subst (λ (y : tree.Label). IsNewKey y.key (keys_of (children place.h.lines))) (sym w.label_is) known_taker.key_is;
       }
 
-  pub new_rows_are : (last gap rest : List ℕ) (limit : Limit) → IsEnd x.column last (gap ++ rest) → allows limit x.column ≡ true → IsGap gap rest → AreRows limit (node_rows l x.column last (sole_collection key v)) gap rest
+  pub new_rows_are : (last gap rest : List ℕ) (limit : Limit) → IsEnd x.column last (gap ++ rest) → allows limit x.column ≡ true → IsGap gap rest → AreRows limit (node_rows l x.column last (singleton key v)) gap rest
   new_rows_are last gap rest limit ends allowed h = search (rules, entry_rows_are, alone_writable, key_near, near_keys)
 
   -- a part with such rows, in which the first row stays, is what the operation asks

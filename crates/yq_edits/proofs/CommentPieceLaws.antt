@@ -21,7 +21,7 @@ use Rattle.yq_edits.proofs.TextPieceLaws.{pieces_joined, line_cut}
 use Rattle.yq_semantics.specs.Changes.{can_be_comment}
 use Rattle.yq_semantics.specs.declared.program.CommentPlace.TheVariants as comments
 use Rattle.yq_edits.proofs.RemovalPieceLaws.{spaces_piece}
-use Rattle.yq_semantics.specs.Meaning.{head_comment_lines, lines_parted}
+use Rattle.yq_semantics.specs.Meaning.{head_comment_lines, split_lines}
 use Rattle.yq_edits.specs.CommentEdits.{comment_line, head_lines}
 
 -- ---- single bytes
@@ -104,11 +104,11 @@ lines (b ∷ t) = go (lines t) (cases_Bool (is_feed b))
     go (one h) (inr e) = one (rw e refl, h)
     go (more c d h is) (inr e) = more (b ∷ c) d (rw e refl, h) (ap (λ x. b ∷ x) is)
 
-one_part : (t : List ℕ) → Each (λ b. not (is_feed b)) t → lines_parted t ≡ t ∷ []
+one_part : (t : List ℕ) → Each (λ b. not (is_feed b)) t → split_lines t ≡ t ∷ []
 one_part [] h = refl
 one_part (b ∷ t) h = search (rules, cases_Bool, false≢true, one_part t h.1)
 
-more_parts : (a b : List ℕ) → Each (λ b. not (is_feed b)) a → lines_parted (a ++ 10 ∷ b) ≡ a ∷ lines_parted b
+more_parts : (a b : List ℕ) → Each (λ b. not (is_feed b)) a → split_lines (a ++ 10 ∷ b) ≡ a ∷ split_lines b
 more_parts [] b h = refl
 more_parts (x ∷ a) b h = search (rules, cases_Bool, false≢true, more_parts a b h.1)
 
@@ -129,20 +129,20 @@ front_piece a h e =
     let u : IsUtf8 a = subst IsUtf8 (take-append_seam a (10 ∷ [])) (IsUtf8-take (a ++ 10 ∷ []) (length a) h.utf8 (before_ascii a (10 ∷ []) (let low : 10 < 128 = omega arith in low))) in
     (clean_cut a (10 ∷ []) h u (λ f. no_return_end a e)).0
 
-parts_of : (n : ℕ) (t : List ℕ) → length t ≤ n → IsPiece t → Each no_return t → AreParts (lines_parted t)
+parts_of : (n : ℕ) (t : List ℕ) → length t ≤ n → IsPiece t → Each no_return t → AreParts (split_lines t)
 parts_of zero t small h e = go (lines t)
   where
-    go : Lines t → AreParts (lines_parted t)
+    go : Lines t → AreParts (split_lines t)
     go h1 = search (rules, one_part, both, length-append)
 parts_of (suc n) t small h e = go (lines t) (λ b less k f. parts_of n b less k f)
   where
-    go : Lines t → ((b : List ℕ) → length b ≤ n → IsPiece b → Each no_return b → AreParts (lines_parted b)) → AreParts (lines_parted t)
+    go : Lines t → ((b : List ℕ) → length b ≤ n → IsPiece b → Each no_return b → AreParts (split_lines b)) → AreParts (split_lines t)
     go (one f) again = subst AreParts (sym (one_part t f)) (both t f e, h, tt)
     go (more a b f is) again =
         let whole : t ≡ (a ++ 10 ∷ []) ++ b = is ∙ sym (append_assoc a (10 ∷ []) b) in
         let k = line_cut a b (subst IsPiece whole h) in
         let x = each_cut no_return a (10 ∷ b) (subst (Each no_return) is e) in
-        subst AreParts (sym (ap lines_parted is ∙ more_parts a b f)) (both a f x.0, front_piece a k.0 x.0, again b (omega (arith, small, ap length is, length-append a (10 ∷ b))) k.1 x.1.1)
+        subst AreParts (sym (ap split_lines is ∙ more_parts a b f)) (both a f x.0, front_piece a k.0 x.0, again b (omega (arith, small, ap length is, length-append a (10 ∷ b))) k.1 x.1.1)
 
 -- ---- the parts of a text, as it is cut at each LF
 
@@ -156,12 +156,12 @@ no_breaks_by (b ∷ t) h = (go (cases_Bool (is_feed b)), no_breaks_by t (λ i le
 
 -- a line more of a head comment
 pub loop_more : (column : ℕ) (br out outs text rest line after : List ℕ) → rest ≡ line ++ 10 ∷ after → ((i : ℕ) → i < length line → get_or line i 0 ≢ 10) →
-    out ++ head_lines column br (lines_parted rest) ≡ head_lines column br (lines_parted text) → outs ≡ out ++ comment_line column br line → outs ++ head_lines column br (lines_parted after) ≡ head_lines column br (lines_parted text)
+    out ++ head_lines column br (split_lines rest) ≡ head_lines column br (split_lines text) → outs ≡ out ++ comment_line column br line → outs ++ head_lines column br (split_lines after) ≡ head_lines column br (split_lines text)
 loop_more column br out outs text rest line after is none before pushed = search (rules, append_assoc, more_parts, no_breaks_by)
 
 -- the last one
 pub loop_done : (column : ℕ) (br out outs text rest : List ℕ) → ((i : ℕ) → i < length rest → get_or rest i 0 ≢ 10) →
-    out ++ head_lines column br (lines_parted rest) ≡ head_lines column br (lines_parted text) → outs ≡ out ++ comment_line column br rest → 0 < length text → outs ≡ head_lines column br (head_comment_lines text)
+    out ++ head_lines column br (split_lines rest) ≡ head_lines column br (split_lines text) → outs ≡ out ++ comment_line column br rest → 0 < length text → outs ≡ head_lines column br (head_comment_lines text)
 loop_done column br out outs text rest none before pushed some = search (rules, append-nil, one_part, no_breaks_by)
 
 pub head_parts : (t : List ℕ) → IsUtf8 t → can_be_comment comments.Head t ≡ true → AreParts (head_comment_lines t)

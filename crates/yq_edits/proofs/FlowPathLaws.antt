@@ -12,7 +12,7 @@ use Rattle.yq_outline.specs.Outline.{Line, Outline, flatten}
 use Rattle.yq_outline.specs.Places.{lines_before, lines_after, FoundLine}
 use Rattle.yq_outline.proofs.Decides.{flatten-group}
 use Rattle.yq_outline.proofs.PlaceLaws.{placed}
-use Rattle.yq_row_table.specs.Exchange.{before_content, rows_text_behind, behind_row, exchange, with_content, with_content_at}
+use Rattle.yq_row_table.specs.Exchange.{before_content, text_after_row, behind_row, exchange, with_content, with_content_at}
 use Rattle.yq_row_table.specs.Rows.{Content, Inline, Row, content_text, rows_text, Part, Cut, last, marked, cut_text}
 use Rattle.yq_row_table.specs.Splices.{behind_part, nth_part}
 use Rattle.yq_row_table.specs.View.{rows_of}
@@ -41,7 +41,7 @@ row_there : (front : List Row) (r : Row) (back more : List Row) → slice_get ((
 row_there [] r back more = refl
 row_there (x ∷ front) r back more = row_there front r back more
 
-behind_there : (front : List Row) (r : Row) (back : List Row) (rest : List ℕ) → rows_text_behind (length front) (front ++ (r ∷ back)) rest ≡ rows_text back rest
+behind_there : (front : List Row) (r : Row) (back : List Row) (rest : List ℕ) → text_after_row (length front) (front ++ (r ∷ back)) rest ≡ rows_text back rest
 behind_there [] r back rest = refl
 behind_there (x ∷ front) r back rest = behind_there front r back rest
 
@@ -69,7 +69,7 @@ last_row i front r back end =
     let j : 0 + length front ≡ length front = omega arith in
     record {
       there = ap (slice_get (front ++ (r ∷ back))) j ∙ (ap (λ (rs : List Row). slice_get rs (length front)) (sym (Rattle.std.proofs.Common.append-nil (front ++ (r ∷ back)))) ∙ row_there front r back []);
-      behind = ap (λ n. rows_text_behind n (front ++ (r ∷ back)) (end ++ [])) j ∙ behind_there front r back (end ++ []);
+      behind = ap (λ n. text_after_row n (front ++ (r ∷ back)) (end ++ [])) j ∙ behind_there front r back (end ++ []);
       exchanged = λ x. ap (λ n. exchange n x (last (record { rows = front ++ (r ∷ back); end = end }))) j ∙ ap last (part_content front r back end x);
     }
 

@@ -14,8 +14,8 @@ use Rattle.yq_core.specs.Nodes as inline
 use Rattle.yq_core.specs.Nodes.{node_text}
 use Rattle.yq_core.specs.Values.{value_node, field_of, items, entries}
 use Rattle.yq_core.proofs.NodesWrittenLaws.{node_list, node_map, map_twice}
-use Rattle.yq_edits.specs.Alone.{sole_collection}
-use Rattle.yq_edits.specs.BlockReading.{block_front, block_item, block_list, block_map, block_pair, is_filled, break_and_indent, texts_parted}
+use Rattle.yq_edits.specs.Alone.{singleton}
+use Rattle.yq_edits.specs.BlockReading.{block_front, block_item, block_list, block_map, block_pair, is_filled, break_and_indent, separated_texts}
 use Rattle.yq_edits.specs.BlockRows.{indent_step, inline_of, item_column}
 use Rattle.yq_edits.specs.BlockText.{block_children, block_entry, block_node, block_value, inline_or, then_lines}
 use Rattle.yq_edits.specs.declared.layout.Layout.{Layout}
@@ -31,21 +31,21 @@ pair_is : (l : Layout) (below : ℕ) (k : List ℕ) (node : Option inline.FlowNo
 pair_is l below k node t = search (rules, append_assoc)
 
 -- those behind it
-then_items : (l : Layout) (column : ℕ) (vs : List tree.Node) → then_lines l column (items vs) (block_children l column (items vs)) ≡ texts_parted (break_and_indent l column) false (map (block_item l column) vs)
+then_items : (l : Layout) (column : ℕ) (vs : List tree.Node) → then_lines l column (items vs) (block_children l column (items vs)) ≡ separated_texts (break_and_indent l column) false (map (block_item l column) vs)
 unfolding block_children
 then_items l column [] = refl
 then_items l column (v ∷ vs) =
     let at : ℕ = item_column column in
     ap (λ (x : List ℕ). break_text l.br ++ (replicate column 32 ++ x)) (λ i. item_is l at (inline_of v) (block_node l at v) i ++ then_items l column vs i)
-    ∙ sym (append_assoc (break_text l.br) (replicate column 32) (block_item l column v ++ texts_parted (break_and_indent l column) false (map (block_item l column) vs)))
+    ∙ sym (append_assoc (break_text l.br) (replicate column 32) (block_item l column v ++ separated_texts (break_and_indent l column) false (map (block_item l column) vs)))
 
-then_entries : (l : Layout) (column : ℕ) (es : List (List ℕ × tree.Node)) → then_lines l column (entries es) (block_children l column (entries es)) ≡ texts_parted (break_and_indent l column) false (map (block_pair l column) es)
+then_entries : (l : Layout) (column : ℕ) (es : List (List ℕ × tree.Node)) → then_lines l column (entries es) (block_children l column (entries es)) ≡ separated_texts (break_and_indent l column) false (map (block_pair l column) es)
 unfolding block_children
 then_entries l column [] = refl
 then_entries l column (e ∷ es) =
     let at : ℕ = column + indent_step l e.1 in
     ap (λ (x : List ℕ). break_text l.br ++ (replicate column 32 ++ x)) (λ i. pair_is l at e.0 (inline_of e.1) (block_node l at e.1) i ++ then_entries l column es i)
-    ∙ sym (append_assoc (break_text l.br) (replicate column 32) (block_pair l column e ++ texts_parted (break_and_indent l column) false (map (block_pair l column) es)))
+    ∙ sym (append_assoc (break_text l.br) (replicate column 32) (block_pair l column e ++ separated_texts (break_and_indent l column) false (map (block_pair l column) es)))
 
 -- the text of a sequence, and of a mapping
 list_is : (l : Layout) (column : ℕ) (vs : List tree.Node) → block_value l column (tree.list None (items vs)) ≡ block_list l column vs
@@ -85,8 +85,8 @@ pub map_agrees : (v : Vec Entry Global) (empty : Bool) → empty ≡ eqb (vec_le
 map_agrees v empty h = search (rules, length-map, map_block, map_node)
 
 -- a collection of one item, or of one entry
-pub item_alone : (l : Layout) (column : ℕ) (v : tree.Node) → block_value l column (sole_collection None v) ≡ block_item l column v
+pub item_alone : (l : Layout) (column : ℕ) (v : tree.Node) → block_value l column (singleton None v) ≡ block_item l column v
 item_alone l column v = list_is l column (v ∷ []) ∙ append-nil (block_item l column v)
 
-pub pair_alone : (l : Layout) (column : ℕ) (k : List ℕ) (v : tree.Node) → block_value l column (sole_collection (Some k) v) ≡ block_pair l column (k, v)
+pub pair_alone : (l : Layout) (column : ℕ) (k : List ℕ) (v : tree.Node) → block_value l column (singleton (Some k) v) ≡ block_pair l column (k, v)
 pair_alone l column k v = map_is l column ((k, v) ∷ []) ∙ append-nil (block_pair l column (k, v))

@@ -3,6 +3,6 @@ use Rattle.std.specs.Prelude.{ℕ, List, Option, Some, None}
 use Rattle.yq_core.specs.Tree.{Node, none, child, list, map, key_label}
 
 -- a list of one item, or a mapping of one entry (own)
-abbrev pub sole_collection : Option (List ℕ) → Node → Node
-sole_collection None v = list None (child (key_label None) v none)
-sole_collection (Some k) v = map None (child (key_label (Some k)) v none)
+abbrev pub singleton : Option (List ℕ) → Node → Node
+singleton None v = list None (child (key_label None) v none)
+singleton (Some k) v = map None (child (key_label (Some k)) v none)

@@ -21,7 +21,7 @@ use Rattle.yq_edits.specs.DocumentRows.{IsDocumentPart, behind_document, put_row
 
 -- Rows that are written for one more item or entry of a collection at a path of this length: a line at its level and those under it, with a value and a new
 -- key.
-pub record AreMoreRows (h : NodeLines) (new : List Row) (m : ℕ) (l : Line) (u : Outline) (above : ℕ) : Type 0 where
+pub record AreAppendedRows (h : NodeLines) (new : List Row) (m : ℕ) (l : Line) (u : Outline) (above : ℕ) : Type 0 where
   pub lines : lines_of_rows new ≡ l ∷ flatten u
   pub bare : first_gap new [] ≡ []
   pub fits : EntryFits h m l u
@@ -46,6 +46,6 @@ BlockAppended =
     (t : List ℕ) (c : Cut) (k : ℕ) (p : Part) (steps : List Step) (h : NodeLines) (front back new : List Row) (m : ℕ) (l : Line) (u : Outline) →
     IsDocumentPart t c k p →
     IsCollectionAt steps (part_outline p) h → length (lines_of_rows front) ≡ length (lines_before h.place) + length (flatten h.lines) →
-    AreMoreRows h new m l u (length steps) →
+    AreAppendedRows h new m l u (length steps) →
     TakesRows p front new back (behind_document k c) → IsReadable (cut_text (put_document k (inserted front new back p) c)) →
     IsChanged c (put_document k (inserted front new back p) c) k (lead_of p) (changed_at steps (within (append_child (label l) (content_under l u))))

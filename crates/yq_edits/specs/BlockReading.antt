@@ -12,10 +12,10 @@ abbrev pub break_and_indent : Layout → ℕ → List ℕ
 break_and_indent l column = break_text l.br ++ replicate column 32
 
 -- texts with another one between them; first tells that nothing stands before them (own)
-abbrev pub texts_parted : List ℕ → Bool → List (List ℕ) → List ℕ
-texts_parted between first [] = []
-texts_parted between true (x ∷ xs) = x ++ texts_parted between false xs
-texts_parted between false (x ∷ xs) = between ++ (x ++ texts_parted between false xs)
+abbrev pub separated_texts : List ℕ → Bool → List (List ℕ) → List ℕ
+separated_texts between first [] = []
+separated_texts between true (x ∷ xs) = x ++ separated_texts between false xs
+separated_texts between false (x ∷ xs) = between ++ (x ++ separated_texts between false xs)
 
 -- an item (YAML 1.2.2, section 8.2.1)
 abbrev pub block_item : Layout → ℕ → tree.Node → List ℕ
@@ -36,9 +36,9 @@ block_pair l column e = block_front l (column + indent_step l e.1) e.0 (is_fille
 -- the items of a list, or `[]` (YAML 1.2.2, section 8.2.1; own)
 abbrev pub block_list : Layout → ℕ → List tree.Node → List ℕ
 block_list l column [] = 91 ∷ 93 ∷ []
-block_list l column (v ∷ vs) = texts_parted (break_and_indent l column) true (map (block_item l column) (v ∷ vs))
+block_list l column (v ∷ vs) = separated_texts (break_and_indent l column) true (map (block_item l column) (v ∷ vs))
 
 -- the entries of a mapping, or `{}` (YAML 1.2.2, section 8.2.2; own)
 abbrev pub block_map : Layout → ℕ → List (List ℕ × tree.Node) → List ℕ
 block_map l column [] = 123 ∷ 125 ∷ []
-block_map l column (e ∷ es) = texts_parted (break_and_indent l column) true (map (block_pair l column) (e ∷ es))
+block_map l column (e ∷ es) = separated_texts (break_and_indent l column) true (map (block_pair l column) (e ∷ es))

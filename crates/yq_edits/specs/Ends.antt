@@ -12,7 +12,7 @@ use Rattle.yq_documents.specs.Reading.{part_outline}
 use Rattle.yq_places.specs.RowPaths.{IsReadable}
 use Rattle.yq_edits.specs.Changed.{IsChanged, put_document}
 use Rattle.yq_edits.specs.Siblings.{NodeLines, IsCollectionAt}
-use Rattle.yq_edits.specs.Appends.{AreMoreRows}
+use Rattle.yq_edits.specs.Appends.{AreAppendedRows}
 use Rattle.yq_edits.specs.DocumentRows.{IsDocumentPart, behind_document, put_rows}
 
 -- a part whose last row gets a break, and rows behind it
@@ -33,6 +33,6 @@ EndAppended =
     (t : List ℕ) (c : Cut) (k : ℕ) (p : Part) (steps : List Step) (h : NodeLines) (front new : List Row) (r : Row) (break : List ℕ) (m : ℕ) (l : Line)
     (u : Outline) → IsDocumentPart t c k p →
     IsCollectionAt steps (part_outline p) h → length (lines_of_rows p.rows) ≡ length (lines_before h.place) + length (flatten h.lines) →
-    AreMoreRows h new m l u (length steps) →
+    AreAppendedRows h new m l u (length steps) →
     TakesRowsLast p front r break new (behind_document k c) → IsReadable (cut_text (put_document k (closed_with front r break new p) c)) →
     IsChanged c (put_document k (closed_with front r break new p) c) k (lead_of p) (changed_at steps (within (append_child (label l) (content_under l u))))

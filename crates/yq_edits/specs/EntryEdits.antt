@@ -23,7 +23,7 @@ use Rattle.yq_edits.specs.RemovingFirst.{first_removed}
 
 -- an item or entry on lines that begin at a column, up to its last break (8.2)
 abbrev pub entry_lines : Layout → ℕ → Option (List ℕ) → Node → List ℕ
-entry_lines l column key v = replicate column 32 ++ block_value l column (single.sole_collection key v)
+entry_lines l column key v = replicate column 32 ++ block_value l column (single.singleton key v)
 
 -- the lines of one more item or entry behind the last line of a block collection, with a break behind them, or in front where that line has none (8.2)
 abbrev pub more_lines : Layout → Option (List ℕ) → Node → ℕ → List ℕ → List ℕ

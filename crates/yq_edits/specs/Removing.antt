@@ -7,16 +7,16 @@ use Rattle.yq_places.specs.RemovalPlaces.{Seam, Removal}
 use Rattle.yq_text.specs.Script.{Segment, keep, put}
 
 -- the white space in front of a line gives way to so many spaces (own)
-abbrev pub indent_put : ℕ → List ℕ → List Segment
-indent_put column l = put (cut no_white l).0 (replicate column 32) ∷ (keep (past_white l) ∷ [])
+abbrev pub put_indent : ℕ → List ℕ → List Segment
+put_indent column l = put (cut no_white l).0 (replicate column 32) ∷ (keep (past_white l) ∷ [])
 
 -- a blank line behind a block scalar goes where the scalar keeps empty lines; else it is emptied, if it isn't short enough to be one (8.1.1.2)
 abbrev pub blank_mended : Seam → List ℕ → List Segment
-blank_mended s l = if s.keeps then put l [] ∷ [] else (if is_short s.indent l then keep l ∷ [] else indent_put 0 l)
+blank_mended s l = if s.keeps then put l [] ∷ [] else (if is_short s.indent l then keep l ∷ [] else put_indent 0 l)
 
 -- a comment line behind a block scalar gets the next row's column, if it is indented as deep as the scalar's text, or has a tab before its `#` (8.1.1.1)
 abbrev pub comment_mended : Seam → List ℕ → List Segment
-comment_mended s l = if is_outdented_comment s.indent l then keep l ∷ [] else indent_put s.column l
+comment_mended s l = if is_outdented_comment s.indent l then keep l ∷ [] else put_indent s.column l
 
 -- the lines of a gap behind a block scalar: the blank ones in front, and the first comment line (own)
 abbrev pub lines_mended : Seam → List (List ℕ) → List Segment

@@ -3,7 +3,7 @@ ghost use Rattle.std.specs.Prelude.{◌≡◌, ◌++◌, IfOk, OnOk, string_byte
 ghost use Rattle.yq_flow_edits.specs.Valued.{IsValueTree};
 ghost use Rattle.yq_core.specs.Values.{value_node};
 ghost use Rattle.yq_outline.specs.Bodies.{borrowed};
-ghost use Rattle.yq_edits.specs.Alone.{sole_collection};
+ghost use Rattle.yq_edits.specs.Alone.{singleton};
 ghost use Rattle.yq_edits.specs.BlockReading as spec;
 ghost use Rattle.yq_edits.specs.BlockText.{block_value};
 
@@ -58,7 +58,7 @@ pub fn push_entry(
     value: &Value,
 ) -> Result<(), AllocError>
     ensures { OnOk result (string_bytes out.new ≡
-        string_bytes out.old ++ block_value layout.now column (sole_collection (borrowed key.entry)
+        string_bytes out.old ++ block_value layout.now column (singleton (borrowed key.entry)
         (value_node value.now))) }
 {
     match key {

@@ -73,7 +73,8 @@ fn push_items(
     items: &Vec<Value>,
 ) -> Result<(), AllocError>
     ensures text { OnOk result (string_bytes out.new ≡
-        string_bytes out.old ++ spec.block_list layout.now column (map value_node items.now.items)) }
+        string_bytes out.old ++ spec.block_list layout.now column
+        (map value_node items.now.items)) }
     ensures valid { IfOk result (λ x. AreValueTrees false (items_of items.now.items)) }
 {
     if items.is_empty() {

@@ -13,7 +13,7 @@ use std::alloc::{AllocError, Global};
 use yq_core::{Place, Value};
 use yq_flow_edits::write_inline;
 use yq_inline::style_of;
-use yq_places::Mark;
+use yq_places::EntryMark;
 use yq_scalar::block_written::break_text;
 use yq_scalar::write_scalar;
 use yq_scalar_reader::push_spaces;
@@ -49,7 +49,7 @@ pub fn behind_space(alloc: Global, text: &str) -> Result<String, AllocError>
 }
 
 /// Whether a collection may begin on the line of a key or dash.
-pub fn takes_compact(mark: Mark) -> bool
+pub fn takes_compact(mark: EntryMark) -> bool
     ensures { result ≡ spec.takes_compact (held_mark_view mark) }
 {
     !(mark.keyed || mark.noted)
@@ -72,7 +72,7 @@ fn behind_dash(column: usize) -> Result<usize, AllocError>
 ///
 /// # Errors
 /// [`AllocError`] where it is past `usize`, for which there is no memory.
-fn column_under(layout: &Layout, mark: Mark, value: &Value) -> Result<usize, AllocError>
+fn column_under(layout: &Layout, mark: EntryMark, value: &Value) -> Result<usize, AllocError>
     ensures { IfOk result (λ n. n ≡
         spec.column_under layout.now (held_mark_view mark) (value_node value.now)) }
 {
@@ -89,7 +89,7 @@ fn column_under(layout: &Layout, mark: Mark, value: &Value) -> Result<usize, All
 pub fn compact_text(
     alloc: Global,
     layout: &Layout,
-    mark: Mark,
+    mark: EntryMark,
     value: &Value,
 ) -> Result<String, AllocError>
     ensures { IfOk result (λ s. string_bytes s ≡
@@ -107,7 +107,7 @@ fn push_lines_under(
     alloc: Global,
     out: &mut String,
     layout: &Layout,
-    mark: Mark,
+    mark: EntryMark,
     value: &Value,
 ) -> Result<(), AllocError>
     ensures { OnOk result (string_bytes out.new ≡ string_bytes out.old ++
@@ -124,7 +124,7 @@ fn push_lines_under(
 pub fn break_and_lines(
     alloc: Global,
     layout: &Layout,
-    mark: Mark,
+    mark: EntryMark,
     value: &Value,
 ) -> Result<String, AllocError>
     ensures { IfOk result (λ s. string_bytes s ≡ break_text layout.now.br ++
@@ -142,7 +142,7 @@ pub fn break_and_lines(
 pub fn lines_and_break(
     alloc: Global,
     layout: &Layout,
-    mark: Mark,
+    mark: EntryMark,
     value: &Value,
 ) -> Result<String, AllocError>
     ensures { IfOk result (λ s. string_bytes s ≡

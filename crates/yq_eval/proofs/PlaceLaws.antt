@@ -9,7 +9,7 @@ use Rattle.yq_semantics.specs.Judgement.{gives}
 use Rattle.yq_eval.specs.PlaceView.{place_of, places_of}
 use Rattle.yq_semantics.specs.Places.{Place, child_place, miss, step_by, step_from, stepped}
 use Rattle.yq_semantics.specs.Program.{PathStep}
-use Rattle.yq_eval.specs.declared.matching.place.Place as declared
+use Rattle.yq_eval.specs.declared.matching.place.FoundPlace as declared
 
 -- where a step is missing there is null
 pub null_there : (front : List PathStep) (s : PathStep) (n : Node) → node_there (front ++ s ∷ []) n ≡ null_node
@@ -22,7 +22,7 @@ missed_on [] s step p = refl
 missed_on (t ∷ ts) s step p = refl
 
 -- one more item or entry has a place
-pub children_more : (p : Place) (before : ℕ) (cs rest : Children) (label : Label) (n : Node) (items : List declared.Place) (new : declared.Place) (all : List Place) →
+pub children_more : (p : Place) (before : ℕ) (cs rest : Children) (label : Label) (n : Node) (items : List declared.FoundPlace) (new : declared.FoundPlace) (all : List Place) →
     cs ≡ child label n rest → place_of new ≡ child_place p (step_by before label.key, n) → places_of items ++ map (child_place p) (stepped before cs) ≡ all →
     places_of (items ++ new ∷ []) ++ map (child_place p) (stepped (before + 1) rest) ≡ all
 children_more p before cs rest label n items new all is place so_far =

@@ -8,7 +8,7 @@ use Rattle.yq_nodes.specs.Nodes.{kind_of, node_of}
 use Rattle.yq_nodes.specs.declared.nodes.node.NodeKind.{NodeKind}
 use Rattle.yq_nodes.specs.declared.nodes.node.NodeKind.TheVariants as node_kinds
 use Rattle.yq_eval.specs.declared.matching.place.Missing.{Missing, Further, Nothing, the_lemmas}
-use Rattle.yq_eval.specs.declared.matching.place.Place as declared
+use Rattle.yq_eval.specs.declared.matching.place.FoundPlace as declared
 use Rattle.yq_eval.specs.FoundView.{child_places}
 use Rattle.yq_eval.specs.PlaceView.{missing_of, path_of, place_of, places_of, put_behind}
 use Rattle.yq_semantics.specs.Judgement.{and_then, gives}
@@ -16,12 +16,12 @@ use Rattle.yq_semantics.specs.Matching.{step_child, item_at_index, item_number}
 use Rattle.yq_semantics.specs.Places.{Place, all_steps, child_place, for_each, miss, step_from, step_on, stepped}
 use Rattle.yq_semantics.specs.Program.{PathStep, each}
 use Rattle.yq_semantics.specs.View.{program_step}
-use Rattle.yq_semantics.specs.declared.program.Step as program
+use Rattle.yq_semantics.specs.declared.program.PathStep as program
 use Rattle.yq_eval.proofs.PlaceLaws.{missed_on}
 
 -- ---- what is missing
 
-pub one_missing : (m : Missing) (front : Bor Missing) (step : Bor program.Step) → m ≡ Further front step → missing_of m ≡ missing_of front.now ++ program_step
+pub one_missing : (m : Missing) (front : Bor Missing) (step : Bor program.PathStep) → m ≡ Further front step → missing_of m ≡ missing_of front.now ++ program_step
     step.now ∷ []
 one_missing m front step is = ap missing_of is ∙ search (rules, the_lemmas)
 
@@ -52,7 +52,7 @@ item_found i j cs n o same h at =
 -- ---- of places
 
 -- the items or values at the only place
-pub parent_gives : (ps : List declared.Place) (x : declared.Place) (k : NodeKind) → 1 ≤ length ps → length ps < 2 → x ≡ slice_index_or ps 0 x → x.missing
+pub parent_gives : (ps : List declared.FoundPlace) (x : declared.FoundPlace) (k : NodeKind) → 1 ≤ length ps → length ps < 2 → x ≡ slice_index_or ps 0 x → x.missing
     ≡ Nothing → k ≡ kind_of (node_of x.node) → (k ≡ node_kinds.List) ⊎ (k ≡ node_kinds.Map) →
     for_each (step_on each) (places_of ps) ≡ gives (child_places (path_of x.path) (node_of x.node))
 parent_gives [] x k some one at none is coll = absurd (omega (arith, some))
@@ -62,5 +62,5 @@ parent_gives (y ∷ []) x k some one at none is coll =
     let xs = map (child_place p) (stepped 0 (children_of p.node)) in
     let steps : step_on each p ≡ gives xs =
     ap (λ ms. step_from ms each p) (none_missing x.missing none) ∙ ap (and_then (λ ys. gives (map (child_place p) ys))) (steps_of_coll p.node k is coll) in
-    ap (λ (z : declared.Place). for_each (step_on each) (places_of (z ∷ []))) (sym at)
+    ap (λ (z : declared.FoundPlace). for_each (step_on each) (places_of (z ∷ []))) (sym at)
     ∙ (ap (and_then (λ first. and_then (λ others. gives (first ++ others)) (gives []))) steps ∙ ap gives (append-nil xs))

@@ -12,7 +12,7 @@ use Rattle.yq_eval.specs.declared.matching.place.NodePath.{NodePath, fold-NodePa
 use Rattle.yq_eval.specs.declared.matching.place.NodePath.TheOpen.{NodePath-F}
 use Rattle.yq_eval.specs.declared.matching.place.Missing.{Missing, fold-Missing}
 use Rattle.yq_eval.specs.declared.matching.place.Missing.TheOpen.{Missing-F}
-use Rattle.yq_eval.specs.declared.matching.place.Place as declared
+use Rattle.yq_eval.specs.declared.matching.place.FoundPlace as declared
 use Rattle.yq_semantics.specs.Judgement.{Judgement, and_then, gives}
 use Rattle.yq_semantics.specs.Matching.{ChildFound}
 use Rattle.yq_semantics.specs.Places.{Place}
@@ -43,11 +43,11 @@ abbrev pub missing_of : Missing → List PathStep
 missing_of = fold-Missing (List PathStep) missing_link
 
 -- the place that one of the code stands for (own)
-abbrev pub place_of : declared.Place → Place
+abbrev pub place_of : declared.FoundPlace → Place
 place_of p = record { path = path_of p.path; node = node_of p.node; missing = missing_of p.missing }
 
 -- the places that those of the code stand for (own)
-abbrev pub places_of : List declared.Place → List Place
+abbrev pub places_of : List declared.FoundPlace → List Place
 places_of ps = map place_of ps
 
 -- the node that one of the code stands for, or null where there is none (own)

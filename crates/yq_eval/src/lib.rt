@@ -11,4 +11,4 @@ pub use matching::copy::copy_at;
 pub use matching::found::{FoundPlaces, find_places};
 pub use matching::owned;
 pub use matching::pipe::{find, pipe_on};
-pub use matching::place::{Missing, NodePath, NodeStep, Place};
+pub use matching::place::{FoundPlace, Missing, NodePath, NodeStep};

@@ -13,7 +13,7 @@ ghost use Rattle.yq_semantics.specs.Program.{Stage as PipeStage, is_read, read};
 ghost use Rattle.yq_eval.specs.TreeScalars.{HasScalars, HaveScalars};
 ghost use Rattle.yq_semantics.specs.View.{program_of, stage_of};
 
-use crate::{Place, copy_at, find};
+use crate::{FoundPlace, copy_at, find};
 use bumpalo::Bump;
 use std::alloc::Global;
 use yq_core::Value;
@@ -33,7 +33,7 @@ pub struct Match {
 fn push_match(
     alloc: Global,
     doc: usize,
-    place: &Place<'_, '_>,
+    place: &FoundPlace<'_, '_>,
     matches: &mut Vec<Match>,
 ) -> Result<(), ExprError>
     requires { HasScalars (value_of (place_of place.now)) }
@@ -49,7 +49,7 @@ fn push_match(
 fn push_copies(
     alloc: Global,
     doc: usize,
-    places: &[Place<'_, '_>],
+    places: &[FoundPlace<'_, '_>],
     matches: &mut Vec<Match>,
 ) -> Result<(), ExprError>
     requires { HaveScalars (places_of places.now) }

@@ -18,10 +18,10 @@ use crate::effect::{Action, change_at};
 use crate::push_change;
 use crate::steps::path_steps;
 use std::alloc::Global;
-use yq_documents::Path;
-use yq_eval::{FoundPlaces, Place};
+use yq_documents::{Documents, Path};
+use yq_eval::{FoundPlace, FoundPlaces};
 use yq_lookup::CutText;
-use yq_planner::{Aliases, Changed};
+use yq_planner::{Aliases, PlacedChange};
 use yq_semantics::ExprError;
 
 /// Puts what is changed at a place behind other changes.
@@ -31,8 +31,8 @@ fn push_effect<'a, 't>(
     doc: usize,
     aliases: &Aliases<'_>,
     effect: Action<'a, '_>,
-    place: &Place<'a, 't>,
-    changes: &mut Vec<Changed>,
+    place: &FoundPlace<'a, 't>,
+    changes: &mut Vec<PlacedChange>,
 ) -> Result<(), ExprError>
     requires { HasScalars (place_of place.now).node }
     ensures same { cut.new ≡ cut.old }
@@ -59,8 +59,8 @@ fn at_each<'a, 't>(
     doc: usize,
     aliases: &Aliases<'_>,
     effect: Action<'a, '_>,
-    places: &[Place<'a, 't>],
-) -> Result<Vec<Changed>, ExprError>
+    places: &[FoundPlace<'a, 't>],
+) -> Result<Vec<PlacedChange>, ExprError>
     requires { HaveScalars (places_of places.now) }
     ensures { (root : TreeNode) → HasAliases (names_of root) aliases.now →
         AreIn root (places_of places.now) →
@@ -83,8 +83,8 @@ fn at_children<'a, 't>(
     doc: usize,
     aliases: &Aliases<'_>,
     effect: Action<'a, '_>,
-    parent: &'a Place<'a, 't>,
-) -> Result<Vec<Changed>, ExprError>
+    parent: &'a FoundPlace<'a, 't>,
+) -> Result<Vec<PlacedChange>, ExprError>
     requires { HaveScalars (child_places (path_of parent.now.path) (node_of parent.now.node)) }
     ensures { (root : TreeNode) → HasAliases (names_of root) aliases.now →
         AreIn root (child_places (path_of parent.now.path) (node_of parent.now.node)) →
@@ -101,7 +101,7 @@ fn at_children<'a, 't>(
         let Some(child) = children.next() else {
             return Ok(changes);
         };
-        let place = Place::nth_below(&parent.path, before, &child);
+        let place = FoundPlace::nth_below(&parent.path, before, &child);
         push_effect(alloc, &mut cut, doc, aliases, effect, &place, &mut changes)?;
         before += 1;
     }
@@ -116,7 +116,7 @@ pub(crate) fn at_found<'a, 't>(
     aliases: &Aliases<'_>,
     effect: Action<'a, '_>,
     places: &FoundPlaces<'a, 't>,
-) -> Result<Vec<Changed>, ExprError>
+) -> Result<Vec<PlacedChange>, ExprError>
     requires { HaveScalars (found_places places.now) }
     ensures { (root : TreeNode) → HasAliases (names_of root) aliases.now →
         AreIn root (found_places places.now) →

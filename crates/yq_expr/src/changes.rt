@@ -22,9 +22,9 @@ use crate::effect::Action;
 use crate::right_value::right_value;
 use bumpalo::Bump;
 use std::alloc::Global;
-use yq_eval::{FoundPlaces, Place, find_places};
+use yq_eval::{FoundPlace, FoundPlaces, find_places};
 use yq_nodes::Node;
-use yq_planner::{Aliases, Changed, aliases_of, has_comment};
+use yq_planner::{Aliases, PlacedChange, aliases_of, has_comment};
 use yq_semantics::{Assignment, ExprError, Operator, Refusal, Stage, Term, Update};
 
 /// What an update changes at places of document `doc`, which has that root.
@@ -35,7 +35,7 @@ fn changes_at<'a, 't>(
     root: Node<'a, 't>,
     update: &'a Update,
     places: &FoundPlaces<'a, 't>,
-) -> Result<Vec<Changed>, ExprError>
+) -> Result<Vec<PlacedChange>, ExprError>
     requires root { HasScalars (node_of root) }
     requires scalars { HaveScalars (found_places places.now) }
     requires within { AreIn (node_of root) (found_places places.now) }
@@ -70,7 +70,7 @@ fn value_each<'a, 't>(
     adds: bool,
     right: &'a [Term],
     places: &FoundPlaces<'a, 't>,
-) -> Result<Vec<Changed>, ExprError>
+) -> Result<Vec<PlacedChange>, ExprError>
     requires root { HasScalars (node_of root.now) }
     requires scalars { HaveScalars (found_places places.now) }
     requires within { AreIn (node_of root.now) (found_places places.now) }
@@ -80,7 +80,7 @@ fn value_each<'a, 't>(
         (right_sum doc (map term_of right.now) (root_place (node_of root.now)))
         (if adds then spec.add_at else spec.put_with_path) (found_places places.now)) }
 {
-    let value = right_value(alloc, doc, right, &Place::of_root(root))?;
+    let value = right_value(alloc, doc, right, &FoundPlace::of_root(root))?;
     let effect = if adds {
         Action::Add(&value)
     } else {
@@ -98,7 +98,7 @@ fn assign<'a, 't>(
     aliases: &Aliases<'_>,
     assignment: &'a Assignment,
     places: &FoundPlaces<'a, 't>,
-) -> Result<Vec<Changed>, ExprError>
+) -> Result<Vec<PlacedChange>, ExprError>
     requires root { HasScalars (node_of root.now) }
     requires scalars { HaveScalars (found_places places.now) }
     requires within { AreIn (node_of root.now) (found_places places.now) }
@@ -141,7 +141,7 @@ fn changes_in(
     doc: usize,
     root: Node<'_, '_>,
     update: &Update,
-) -> Result<Vec<Changed>, ExprError>
+) -> Result<Vec<PlacedChange>, ExprError>
     requires scalars { HasScalars (node_of root) }
     requires tree { IsTree (node_of root) }
     ensures { Judges (λ v. map changed_of v.items) result
@@ -158,8 +158,9 @@ pub(crate) fn changes(
     alloc: Global,
     update: &Update,
     documents: &Documents<'_>,
-) -> Result<Vec<Vec<Changed>>, ExprError>
-    ensures { Judges (λ v. all_changed_of v.items) result (spec.update_changes (update_of update.now)
+) -> Result<Vec<Vec<PlacedChange>>, ExprError>
+    ensures { Judges (λ v. all_changed_of v.items) result
+        (spec.update_changes (update_of update.now)
         (room_of documents.now) (roots_of (documents_of documents.now))) }
 {
     if !has_comment(update) {

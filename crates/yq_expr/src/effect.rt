@@ -15,7 +15,7 @@ use crate::right_value::right_value;
 use std::alloc::Global;
 use yq_core::Value;
 use yq_documents::{Part, Path};
-use yq_eval::{Missing, NodePath, Place};
+use yq_eval::{FoundPlace, Missing, NodePath};
 use yq_lookup::CutText;
 use yq_planner::{Change, added, copied, is_null};
 use yq_semantics::{CommentPlace, ExprError, Refusal, Term};
@@ -36,7 +36,11 @@ pub(crate) enum Action<'a, 'v> {
 }
 
 /// A value that is added at a place.
-fn add(alloc: Global, place: &Place<'_, '_>, value: &Value) -> Result<Option<Change>, ExprError>
+fn add(
+    alloc: Global,
+    place: &FoundPlace<'_, '_>,
+    value: &Value,
+) -> Result<Option<Change>, ExprError>
     ensures { Judges (placed (place_of place.now)) result
         (spec.add_at (place_of place.now) (value_node value.now)) }
 {
@@ -50,7 +54,7 @@ fn add(alloc: Global, place: &Place<'_, '_>, value: &Value) -> Result<Option<Cha
 }
 
 /// What is removed at a place: what is missing is not, and a root can't be.
-fn remove(place: &Place<'_, '_>) -> Result<Option<Change>, ExprError>
+fn remove(place: &FoundPlace<'_, '_>) -> Result<Option<Change>, ExprError>
     ensures { Judges (placed (place_of place.now)) result (spec.remove_at (place_of place.now)) }
 {
     if let Missing::Further(..) = place.missing {
@@ -89,7 +93,7 @@ fn set_comment(
     path: &Path,
     comment: CommentPlace,
     text: &str,
-    place: &Place<'_, '_>,
+    place: &FoundPlace<'_, '_>,
 ) -> Result<Option<Change>, ExprError>
     requires { steps_of path.now ≡ path_of place.now.path }
     ensures same { cut.new ≡ cut.old }
@@ -112,7 +116,7 @@ pub(crate) fn change_at<'a, 't>(
     cut: &mut CutText<'_, '_>,
     path: &Path,
     effect: Action<'a, '_>,
-    place: &Place<'a, 't>,
+    place: &FoundPlace<'a, 't>,
 ) -> Result<Option<Change>, ExprError>
     requires scalars { HasScalars (place_of place.now).node }
     requires path { steps_of path.now ≡ path_of place.now.path }

@@ -12,18 +12,18 @@ ghost use Rattle.yq_planner.specs.Indexes.{HasAliases};
 
 use std::alloc::Global;
 use yq_core::Step as TreeStep;
-use yq_eval::Place;
-use yq_planner::{Aliases, Change, Changed, allow};
+use yq_eval::FoundPlace;
+use yq_planner::{Aliases, Change, PlacedChange, allow};
 use yq_semantics::ExprError;
 
 /// Puts a change of a place's node behind others, if nothing refuses it.
 pub fn push_change(
     alloc: Global,
     aliases: &Aliases<'_>,
-    place: &Place<'_, '_>,
+    place: &FoundPlace<'_, '_>,
     path: Vec<TreeStep>,
     change: Change,
-    changes: &mut Vec<Changed>,
+    changes: &mut Vec<PlacedChange>,
 ) -> Result<(), ExprError>
     requires { map tree_step path.items ≡ path_of place.now.path }
     ensures { (root : TreeNode) → HasAliases (names_of root) aliases.now →
@@ -33,6 +33,6 @@ pub fn push_change(
         (spec.all_allowed root (placed_change (place_of place.now) change))) }
 {
     allow(alloc, aliases, &place.node, path.len(), &change)?;
-    changes.push(Changed { path, change })?;
+    changes.push(PlacedChange { path, change })?;
     Ok(())
 }

@@ -13,24 +13,24 @@ ghost use Rattle.yq_semantics.specs.View.{program_step};
 use crate::steps::missing_steps;
 use std::alloc::{AllocError, Global};
 use yq_core::Value;
-use yq_eval::{Missing, Place};
+use yq_eval::{FoundPlace, Missing};
 use yq_nodes::{Node, NodeKind};
 use yq_planner::{Addition, Change};
-use yq_semantics::{ExprError, Refusal, Step, is_index};
+use yq_semantics::{ExprError, PathStep, Refusal, is_index};
 
 /// Whether some step is an index.
-fn has_index(steps: &[&Step]) -> bool
+fn has_index(steps: &[&PathStep]) -> bool
     ensures { result ≡ list_any (λ s. is_index (program_step s.now)) steps.now }
 {
     steps.iter().any(|step| is_index(step))
 }
 
 /// A value under one key more, in the mapping of one entry.
-fn under(alloc: Global, step: &Step, value: Value) -> Result<Value, AllocError>
+fn under(alloc: Global, step: &PathStep, value: Value) -> Result<Value, AllocError>
     ensures { IfOk result (λ v. value_node v ≡ spec.nested (program_step step.now ∷ [])
         (value_node value)) }
 {
-    let Step::Key(key) = step else {
+    let PathStep::Key(key) = step else {
         return Ok(value);
     };
     let mut entries = Vec::with_capacity(alloc, 1)?;
@@ -40,7 +40,7 @@ fn under(alloc: Global, step: &Step, value: Value) -> Result<Value, AllocError>
 }
 
 /// A value under keys, a mapping of one entry for each.
-fn nested(alloc: Global, steps: &[&Step], value: Value) -> Result<Value, AllocError>
+fn nested(alloc: Global, steps: &[&PathStep], value: Value) -> Result<Value, AllocError>
     ensures { IfOk result (λ v. value_node v ≡ spec.nested (map (λ s. program_step s.now) steps.now)
         (value_node value)) }
 {
@@ -54,14 +54,14 @@ fn nested(alloc: Global, steps: &[&Step], value: Value) -> Result<Value, AllocEr
 }
 
 /// One entry more, of a step's key.
-fn appended(alloc: Global, step: &Step, value: Value) -> Result<Change, AllocError>
+fn appended(alloc: Global, step: &PathStep, value: Value) -> Result<Change, AllocError>
     ensures { IfOk result (λ c. change_of c ≡ spec.adds (spec.appends
         (spec.step_key (program_step step.now)) (value_node value) ∷ [])) }
 {
     let mut additions = Vec::with_capacity(alloc, 1)?;
     let key = match step {
-        Step::Key(key) => Some(String::from_str(alloc, key.as_str())?),
-        Step::Index(_) | Step::Each => None,
+        PathStep::Key(key) => Some(String::from_str(alloc, key.as_str())?),
+        PathStep::Index(_) | PathStep::Each => None,
     };
     additions.push(Addition::Appends(key, value))?;
     Ok(Change::Adds(additions))
@@ -72,12 +72,13 @@ fn appended(alloc: Global, step: &Step, value: Value) -> Result<Change, AllocErr
 fn created(
     alloc: Global,
     node: &Node<'_, '_>,
-    first: &Step,
-    others: &[&Step],
+    first: &PathStep,
+    others: &[&PathStep],
     value: Value,
 ) -> Result<Change, AllocError>
     ensures { IfOk result (λ c. change_of c ≡
-        spec.created (node_of node.now) (program_step first.now) (map (λ s. program_step s.now) others.now)
+        spec.created (node_of node.now) (program_step first.now)
+        (map (λ s. program_step s.now) others.now)
         (value_node value)) }
 {
     let below = nested(alloc, others, value)?;
@@ -92,7 +93,7 @@ fn created(
 fn put_below(
     alloc: Global,
     node: &Node<'_, '_>,
-    missing: &[&Step],
+    missing: &[&PathStep],
     value: Value,
 ) -> Result<Change, ExprError>
     ensures { Judges change_of result (spec.put_below (node_of node.now)
@@ -108,7 +109,11 @@ fn put_below(
 }
 
 /// What a value changes that is put at a place.
-pub fn put(alloc: Global, place: &Place<'_, '_>, value: Value) -> Result<Option<Change>, ExprError>
+pub fn put(
+    alloc: Global,
+    place: &FoundPlace<'_, '_>,
+    value: Value,
+) -> Result<Option<Change>, ExprError>
     ensures { Judges (placed (place_of place.now)) result
         (spec.put_with_path (place_of place.now) (value_node value)) }
 {

@@ -14,13 +14,13 @@ ghost use Rattle.yq_semantics.specs.View.{stage_of, term_of};
 use bumpalo::Bump;
 use std::alloc::Global;
 use yq_core::{Kind, Scalar, Value};
-use yq_eval::{Place, copy_at, pipe_on};
+use yq_eval::{FoundPlace, copy_at, pipe_on};
 use yq_nodes::NodeKind;
 use yq_planner::{copied, scalar_sum, sum};
 use yq_semantics::{ExprError, Refusal, Stage, Term};
 
 /// A copy of the value at the one place that there is.
-fn only(alloc: Global, places: &[Place<'_, '_>]) -> Result<Value, ExprError>
+fn only(alloc: Global, places: &[FoundPlace<'_, '_>]) -> Result<Value, ExprError>
     requires { HaveScalars (places_of places.now) }
     ensures { Judges value_node result (spec.only_copy (places_of places.now)) }
 {
@@ -35,7 +35,7 @@ fn found_value<'a, 't>(
     alloc: Global,
     doc: usize,
     pipe: &'a [Stage],
-    place: &Place<'a, 't>,
+    place: &FoundPlace<'a, 't>,
 ) -> Result<Value, ExprError>
     requires { HasScalars (place_of place.now).node }
     ensures { Judges value_node result (and_then spec.only_copy
@@ -53,10 +53,11 @@ fn term_value<'a, 't>(
     alloc: Global,
     doc: usize,
     term: &'a Term,
-    place: &Place<'a, 't>,
+    place: &FoundPlace<'a, 't>,
 ) -> Result<Value, ExprError>
     requires { HasScalars (place_of place.now).node }
-    ensures { Judges value_node result (spec.term_value doc (place_of place.now) (term_of term.now)) }
+    ensures { Judges value_node result
+        (spec.term_value doc (place_of place.now) (term_of term.now)) }
 {
     match term {
         Term::Literal(value) => Ok(copied(alloc, value)?),
@@ -70,7 +71,7 @@ fn with_term<'a, 't>(
     doc: usize,
     total: Value,
     term: &'a Term,
-    place: &Place<'a, 't>,
+    place: &FoundPlace<'a, 't>,
 ) -> Result<Value, ExprError>
     requires { HasScalars (place_of place.now).node }
     ensures { Judges value_node result (and_then (spec.sum (value_node total))
@@ -86,7 +87,7 @@ fn with_terms<'a, 't>(
     doc: usize,
     first: Value,
     terms: &'a [Term],
-    place: &Place<'a, 't>,
+    place: &FoundPlace<'a, 't>,
 ) -> Result<Value, ExprError>
     requires { HasScalars (place_of place.now).node }
     ensures { Judges value_node result (chained (λ t v. and_then (spec.sum v)
@@ -110,7 +111,7 @@ fn stays(pipe: &[Stage]) -> bool
 }
 
 /// The scalar at a place, but for null, if that is what a term finds.
-fn scalar_there<'a>(term: &Term, place: &Place<'a, '_>) -> Option<(Kind, &'a str)>
+fn scalar_there<'a>(term: &Term, place: &FoundPlace<'a, '_>) -> Option<(Kind, &'a str)>
     ensures { IfSome result (λ x. (doc : ℕ) → IsSummand x.0 x.1.now
         (spec.term_value doc (place_of place.now) (term_of term.now))) }
 {
@@ -146,7 +147,10 @@ fn scalar_literal(term: &Term) -> Option<&Scalar>
 }
 
 /// The kind and text of a scalar at a place and a literal one, if terms are these and neither is null.
-fn scalar_terms<'a>(terms: &'a [Term], place: &Place<'a, '_>) -> Option<(Kind, &'a str, &'a Scalar)>
+fn scalar_terms<'a>(
+    terms: &'a [Term],
+    place: &FoundPlace<'a, '_>,
+) -> Option<(Kind, &'a str, &'a Scalar)>
     ensures { IfSome result (λ x. (doc : ℕ) →
         spec.right_value doc (map term_of terms.now) (place_of place.now) ≡
         spec.scalar_sum x.0 x.1.now x.2.now.kind x.2.now.text) }
@@ -164,7 +168,7 @@ pub fn right_value<'a, 't>(
     alloc: Global,
     doc: usize,
     terms: &'a [Term],
-    place: &Place<'a, 't>,
+    place: &FoundPlace<'a, 't>,
 ) -> Result<Value, ExprError>
     requires { HasScalars (place_of place.now).node }
     ensures { Judges value_node result (spec.right_value doc (map term_of terms.now)

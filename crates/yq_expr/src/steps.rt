@@ -6,7 +6,7 @@ ghost use Rattle.yq_semantics.specs.View.{program_step};
 
 use std::alloc::{AllocError, Global};
 use yq_eval::{Missing, NodePath, owned};
-use yq_semantics::Step;
+use yq_semantics::PathStep;
 
 /// The steps of a path.
 pub fn path_steps(alloc: Global, path: NodePath<'_>) -> Result<Vec<yq_core::Step>, AllocError>
@@ -31,7 +31,7 @@ pub fn path_steps(alloc: Global, path: NodePath<'_>) -> Result<Vec<yq_core::Step
 pub(crate) fn missing_steps<'a>(
     alloc: Global,
     missing: Missing<'a>,
-) -> Result<Vec<&'a Step>, AllocError>
+) -> Result<Vec<&'a PathStep>, AllocError>
     ensures { IfOk result (λ v. map (λ s. program_step s.now) v.items ≡ missing_of missing.entry) }
 {
     let mut steps = Vec::new(alloc);

@@ -5,8 +5,8 @@ use Rattle.std.proofs.lemmas.Bool.{false≢true, or_from}
 use Rattle.yq_core.specs.Plain.{is_safe}
 use Rattle.yq_core.specs.Scalars.{is_quoted}
 use Rattle.yq_core.specs.Text.{front, is_feed, is_marker, is_empty}
-use Rattle.yq_core.specs.declared.gap.Before.{Before}
-use Rattle.yq_core.specs.declared.gap.Before.TheVariants.{Token, White, Break, Comment}
+use Rattle.yq_core.specs.declared.gap.GapPlace.{GapPlace}
+use Rattle.yq_core.specs.declared.gap.GapPlace.TheVariants.{Token, White, Break, Comment}
 use Rattle.yq_core.specs.Alike.{Alike, colon, any_colon, EndsItem}
 use Rattle.yq_core.specs.Gaps.{gap_place_after, at_line_start as at_break, stops, IsInlineGap}
 use Rattle.yq_core.specs.Nodes.{Key, bare, keyed, FlowNode, empty, alias, scalar, coll, anchored, key_text, node_text, begins_with, begins_content, begins_node, is_close, IsName, IsInlineKey, is_empty_node, is_keyed, IsFlowNode, takes_anchor, without_anchor}
@@ -28,7 +28,7 @@ pub node_no_feed : (t : List ℕ) → begins_node true t ≡ true → front is_f
 node_no_feed [] h = refl
 node_no_feed (b ∷ t) h = front_not (begins_node true) 10 (λ cs. refl) (b ∷ t) h
 
-pub node_stops : (s : Before) (x y : List ℕ) → begins_node true x ≡ true → begins_node true y ≡ true → stops s x ≡ true → stops s y ≡ true
+pub node_stops : (s : GapPlace) (x y : List ℕ) → begins_node true x ≡ true → begins_node true y ≡ true → stops s x ≡ true → stops s y ≡ true
 node_stops s [] y bx by h = absurd (false≢true bx)
 node_stops s (a ∷ x) [] bx by h = refl
 node_stops Token (a ∷ x) (b ∷ y) bx by h = rw (node_no_space b y by) refl

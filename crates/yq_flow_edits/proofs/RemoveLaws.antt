@@ -8,8 +8,8 @@ use Rattle.yq_core.specs.Characters.{pairs_returns}
 use Rattle.yq_core.specs.Paths.{Step, is_here, further, remove_child, within, changed_at}
 use Rattle.yq_core.specs.PlainText.{begins_marker}
 use Rattle.yq_core.specs.Text.{front, is_feed, is_marker}
-use Rattle.yq_core.specs.declared.gap.Before.{Before}
-use Rattle.yq_core.specs.declared.gap.Before.TheVariants.{Token, White, Break}
+use Rattle.yq_core.specs.declared.gap.GapPlace.{GapPlace}
+use Rattle.yq_core.specs.declared.gap.GapPlace.TheVariants.{Token, White, Break}
 use Rattle.yq_core.specs.Alike.{stop, fresh}
 use Rattle.yq_core.specs.Collections.{CollAt, IsCollAt}
 use Rattle.yq_core.specs.Gaps.{goes, next_gap_place, gap_place_after, at_line_start as at_break, AllGo, IsInlineGap}
@@ -33,15 +33,15 @@ use Rattle.yq_core.specs.Tree.{key_label}
 
 -- ---- a space behind a gap that ends a line
 
-go_append : (s : Before) (g : List ℕ) (b : ℕ) (x : List ℕ) → AllGo s g (b ∷ x) → goes (gap_place_after s g) b x ≡ true → AllGo s (g ++ (b ∷ [])) x
+go_append : (s : GapPlace) (g : List ℕ) (b : ℕ) (x : List ℕ) → AllGo s g (b ∷ x) → goes (gap_place_after s g) b x ≡ true → AllGo s (g ++ (b ∷ [])) x
 go_append s [] b x a h = (h, tt)
 go_append s (c ∷ g) b x a h = (subst (λ (l : List ℕ). goes s c l ≡ true) (sym (append_assoc g (b ∷ []) x)) a.0, go_append (next_gap_place s c) g b x a.1 h)
 
-behind_append : (s : Before) (g : List ℕ) (b : ℕ) → gap_place_after s (g ++ (b ∷ [])) ≡ next_gap_place (gap_place_after s g) b
+behind_append : (s : GapPlace) (g : List ℕ) (b : ℕ) → gap_place_after s (g ++ (b ∷ [])) ≡ next_gap_place (gap_place_after s g) b
 behind_append s [] b = refl
 behind_append s (c ∷ g) b = behind_append (next_gap_place s c) g b
 
-break_is : (s : Before) → at_break s ≡ true → s ≡ Break
+break_is : (s : GapPlace) → at_break s ≡ true → s ≡ Break
 break_is s h1 = search (rules, false≢true)
 
 gap_moves : (g x own u : List ℕ) → begins_node true x ≡ true → begins_node true (own ++ u) ≡ true → Unmarked u → IsInlineGap g x → IsInlineGap (gap_to g own) (own ++ u)

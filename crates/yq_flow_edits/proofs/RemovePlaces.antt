@@ -11,7 +11,7 @@ use Rattle.yq_core.specs.Alike.{fresh}
 use Rattle.yq_core.specs.Collections.{CollPieces, coll_in}
 use Rattle.yq_core.specs.Entries.{entry_start, parts_in, parts_of}
 use Rattle.yq_core.specs.Gaps.{IsInlineGap}
-use Rattle.yq_core.specs.declared.gap.Before.TheVariants.{Token}
+use Rattle.yq_core.specs.declared.gap.GapPlace.TheVariants.{Token}
 use Rattle.yq_core.specs.Nodes.{Key, Sep, last, comma, FlowNode, empty, alias, scalar, coll, anchored, Items, none, item, key_text, sep_text, node_text, flow_items_text, begins_with, opening_bracket, is_close, IsFlowNode, IsSep, AreFlowItems}
 use Rattle.yq_core.specs.Places.{Parts, Placed, placed, key_placed, holder, locate, locate_items, mapping, sequence, anchored_node}
 use Rattle.yq_core.specs.Reading.{flow_gap_len}

@@ -12,7 +12,7 @@ use Rattle.yq_core.specs.Text.{is_space}
 use Rattle.yq_core.specs.Tree as tree
 use Rattle.yq_core.specs.Tree.{key_label}
 use Rattle.yq_core.specs.Writable.{can_write_plain, in_flow}
-use Rattle.yq_core.specs.declared.gap.Before.TheVariants.{Token, White}
+use Rattle.yq_core.specs.declared.gap.GapPlace.TheVariants.{Token, White}
 use Rattle.yq_core.specs.Gaps.{IsInlineGap, stops}
 use Rattle.yq_core.specs.Inline.{depth_limit}
 use Rattle.yq_core.specs.Nodes.{key_text, sep_text, node_text, flow_items_text, begins_with, begins_content, is_empty_node, is_keyed, IsInlineKey, IsSep, IsFlowNode, AreFlowItems}

@@ -5,7 +5,7 @@ use Rattle.yq_core.specs.Paths.{Step, is_here, further}
 use Rattle.yq_core.specs.PlainText.{begins_marker}
 use Rattle.yq_core.specs.Text.{is_feed, front}
 use Rattle.yq_flow_edits.specs.declared.flow_place.EditPlace.{EditPlace}
-use Rattle.yq_core.specs.declared.gap.Before.TheVariants.{Token}
+use Rattle.yq_core.specs.declared.gap.GapPlace.TheVariants.{Token}
 use Rattle.yq_core.specs.Entries.{content_place, end_of, entry_start, parts_of}
 use Rattle.yq_flow_edits.specs.FlowEdits.{FlowEdit}
 use Rattle.yq_core.specs.Nodes.{begins_with}

@@ -31,7 +31,8 @@ pub fn replaced_in_flow()
     // To a value, as it is written in flow style.
     ensures value { (x : CollAt) (s : Step) (y : EntryPieces) (v : tree.Node) → IsCollAt x →
         item_in s x ≡ Some y → IsValueTree v → depth v ≤ room_in x →
-        IsFlowEdited x (replacing s y (flow_of v) x.coll) (changed_at (x.steps ++ (s ∷ [])) (put_value v)) }
+        IsFlowEdited x (replacing s y (flow_of v) x.coll)
+        (changed_at (x.steps ++ (s ∷ [])) (put_value v)) }
     // To a scalar, in a style that can write it there.
     ensures scalar { (x : CollAt) (s : Step) (y : EntryPieces) (v : ScalarText) (style : Style) →
         IsCollAt x → item_in s x ≡ Some y → IsValid v → scalars.IsOneLine style →

@@ -211,7 +211,8 @@ fn map_removal(
     step: &Step,
 ) -> Option<EditPlace>
     ensures { option_map spec.edit_view result ≡
-        spec.remove_part text.now (places.tree_step step.now) (views.entries_end entries.now.items) }
+        spec.remove_part text.now (places.tree_step step.now)
+        (views.entries_end entries.now.items) }
 {
     match step {
         Step::Key(key) => remove_entry(text, entries.as_slice(), key.as_str()),

@@ -139,9 +139,11 @@ pub fn write_inline(alloc: Global, value: &Value) -> Result<String, AllocError>
 #[tactic(auto, using(crate::proofs::FlowSpelled::entry_spells))]
 pub fn write_entry(alloc: Global, key: &str, value: &Value) -> Result<String, AllocError>
     // It is the text that the style defines.
-    ensures text { IfOk result (λ s. string_bytes s ≡ spec.entry_text (key.now, value_node value.now)) }
+    ensures text { IfOk result (λ s. string_bytes s ≡
+        spec.entry_text (key.now, value_node value.now)) }
     // It spells the entry.
-    ensures spells { IfOk result (λ s. SpellsEntry key.now (value_node value.now) (string_bytes s)) }
+    ensures spells { IfOk result (λ s. SpellsEntry key.now (value_node value.now)
+        (string_bytes s)) }
 {
     let mut out = String::new(alloc);
     push_key(alloc, &mut out, key)?;

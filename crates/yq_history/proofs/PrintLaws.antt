@@ -11,7 +11,7 @@ use Rattle.yq_journal.specs.Record.{Record}
 use Rattle.yq_journal.specs.State.{State}
 use Rattle.yq_store.specs.FileMap.{FileMap}
 use Rattle.yq_history.specs.Pair.{Opens}
-use Rattle.yq_history.specs.Listing.{edit_line, listing_behind, history_lines, listing_output}
+use Rattle.yq_history.specs.Listing.{edit_line, listing_after, history_lines, listing_output}
 
 -- a line by other names of its texts
 pub line_is : {E : Type 0} (r : Result (String Global) E) (n : ℕ) (state expr word text : List ℕ) →
@@ -21,7 +21,7 @@ line_is (Err e) n state expr word text p q is = tt
 
 -- the lines behind n, of one record more
 lines_more_at : (n done m : ℕ) (rs : List Record) (i : ℕ) (r : Record) → m ≡ n + i → slice_get rs i ≡ Some r →
-    listing_behind n done (map (λ (q : Record). q.expr) (take (suc i) rs)) ≡ listing_behind n done (map (λ (q : Record). q.expr) (take i rs)) ++ edit_line (m + 1) (nat_lt m done) r.expr
+    listing_after n done (map (λ (q : Record). q.expr) (take (suc i) rs)) ≡ listing_after n done (map (λ (q : Record). q.expr) (take i rs)) ++ edit_line (m + 1) (nat_lt m done) r.expr
 lines_more_at n done m [] i r is found = cc
 lines_more_at n done m (q ∷ rs) zero r is found =
     let same : q ≡ r = cc in
@@ -29,14 +29,14 @@ lines_more_at n done m (q ∷ rs) zero r is found =
     append-nil (edit_line (n + 1) (nat_lt n done) q.expr) ∙ ap₂ (λ k (x : Record). edit_line (k + 1) (nat_lt k done) x.expr) first same
 lines_more_at n done m (q ∷ rs) (suc i) r is found =
     ap (λ ls. edit_line (n + 1) (nat_lt n done) q.expr ++ ls) (lines_more_at (n + 1) done m rs i r (omega (arith, is)) found)
-    ∙ sym (append_assoc (edit_line (n + 1) (nat_lt n done) q.expr) (listing_behind (n + 1) done (map (λ (x : Record). x.expr) (take i rs))) (edit_line (m + 1) (nat_lt m done) r.expr))
+    ∙ sym (append_assoc (edit_line (n + 1) (nat_lt n done) q.expr) (listing_after (n + 1) done (map (λ (x : Record). x.expr) (take i rs))) (edit_line (m + 1) (nat_lt m done) r.expr))
 
 -- the lines of a journal's first records, of one record more
 pub lines_more : (done : ℕ) (rs : List Record) (i : ℕ) (r : Record) → slice_get rs i ≡ Some r →
-    listing_behind 0 done (map (λ (q : Record). q.expr) (take (i + 1) rs)) ≡ listing_behind 0 done (map (λ (q : Record). q.expr) (take i rs)) ++ edit_line (i + 1) (nat_lt i done) r.expr
+    listing_after 0 done (map (λ (q : Record). q.expr) (take (i + 1) rs)) ≡ listing_after 0 done (map (λ (q : Record). q.expr) (take i rs)) ++ edit_line (i + 1) (nat_lt i done) r.expr
 lines_more done rs i r found =
     let next : i + 1 ≡ suc i = omega arith in
-    ap (λ n. listing_behind 0 done (map (λ (q : Record). q.expr) (take n rs))) next ∙ lines_more_at 0 done i rs i r (omega arith) found
+    ap (λ n. listing_after 0 done (map (λ (q : Record). q.expr) (take n rs))) next ∙ lines_more_at 0 done i rs i r (omega arith) found
 
 same_exprs : (t : List ℕ) (rs : List Record) (es : List Revision) → Leads t rs es → map (λ (r : Record). r.expr) rs ≡ map (λ (e : Revision). e.expr) es
 same_exprs t [] [] l = refl
@@ -45,10 +45,10 @@ same_exprs t [] (e ∷ es) l = absurd l
 same_exprs t (r ∷ rs) [] l = absurd l
 
 -- the lines of a journal at rest are those of its history
-pub listed : (s : State) (t : List ℕ) (h : History) → AtRest s t h → listing_behind 0 s.at (map (λ (r : Record). r.expr) s.records) ≡ history_lines h
-listed s t h k = ap₂ (λ at exprs. listing_behind 0 at exprs) k.reports.cursor (same_exprs h.first s.records h.later k.reports.leads)
+pub listed : (s : State) (t : List ℕ) (h : History) → AtRest s t h → listing_after 0 s.at (map (λ (r : Record). r.expr) s.records) ≡ history_lines h
+listed s t h k = ap₂ (λ at exprs. listing_after 0 at exprs) k.reports.cursor (same_exprs h.first s.records h.later k.reports.leads)
 
 -- and so are those of a pair that was read and settled
-pub listed_output : (c : FileMap) (f j : List ℕ) (h : Option History) (v : Vec ℕ Global) (s : State) → Opens c f j h (Ok (v, s)) → listing_behind 0 s.at (map (λ (r : Record). r.expr) s.records) ≡ listing_output h
+pub listed_output : (c : FileMap) (f j : List ℕ) (h : Option History) (v : Vec ℕ Global) (s : State) → Opens c f j h (Ok (v, s)) → listing_after 0 s.at (map (λ (r : Record). r.expr) s.records) ≡ listing_output h
 listed_output c f j None v s opens = absurd opens
 listed_output c f j (Some x) v s opens = listed s v.items x opens.at_rest

@@ -15,17 +15,17 @@ abbrev pub edit_line : ℕ → Bool → List ℕ → List ℕ
 edit_line number is_done expr = decimal number ++ state_word is_done ++ quoted expr ++ 10 ∷ []
 
 -- the lines of the edits with these expressions behind the first n, of which so many are done
-abbrev pub listing_behind : ℕ → ℕ → List (List ℕ) → List ℕ
-listing_behind n done [] = []
-listing_behind n done (expr ∷ exprs) = edit_line (n + 1) (nat_lt n done) expr ++ listing_behind (n + 1) done exprs
+abbrev pub listing_after : ℕ → ℕ → List (List ℕ) → List ℕ
+listing_after n done [] = []
+listing_after n done (expr ∷ exprs) = edit_line (n + 1) (nat_lt n done) expr ++ listing_after (n + 1) done exprs
 
 -- the lines of a journal, one for each record, oldest first, numbered from 1
 abbrev pub record_lines : State → List ℕ
-record_lines s = listing_behind 0 s.at (map (λ (r : Record). r.expr) s.records)
+record_lines s = listing_after 0 s.at (map (λ (r : Record). r.expr) s.records)
 
 -- the lines of a history, one for each edit, oldest first, numbered from 1
 abbrev pub history_lines : History → List ℕ
-history_lines h = listing_behind 0 h.at (map (λ (e : Revision). e.expr) h.later)
+history_lines h = listing_after 0 h.at (map (λ (e : Revision). e.expr) h.later)
 
 -- the lines of a file's history, where it is there
 abbrev pub listing_output : Option History → List ℕ

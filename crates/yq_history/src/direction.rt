@@ -28,10 +28,11 @@ impl Direction {
 
     /// Makes the move at once, and gives the text that it leads to.
     pub fn make(self, journal: &mut Journal, text: &[u8]) -> Result<Vec<u8>, JournalError>
-        ensures ok { IfOk result (λ v. moved_text journal.old.records journal.old.at (walk_move self)
-            text.now ≡ Some v.items) }
+        ensures ok { IfOk result (λ v. moved_text journal.old.records journal.old.at
+            (walk_move self) text.now ≡ Some v.items) }
         ensures moved { OnOk result (journal.new ≡ journal_after journal.old (walk_move self)) }
-        ensures fault { IfErr result (λ e. ErrorIs e (move_fault journal.old (walk_move self) text.now)) }
+        ensures fault { IfErr result (λ e. ErrorIs e
+            (move_fault journal.old (walk_move self) text.now)) }
         ensures err { OnErr result (journal.new ≡ journal.old) }
     {
         match self {

@@ -40,7 +40,8 @@ fn move_only<D: Store>(
     ensures moved { IsTrue D.keeps → OnOk result (IsJournal (map.get (D.content store.new) journal.now)
         (journal_after state.old (walk_move dir))) }
     ensures cut { IsTrue D.keeps → OnErr result ((D.content store.new ≡ D.content store.old)
-        ⊎ IsJournal (map.get (D.content store.new) journal.now) (journal_after state.old (walk_move dir))) }
+        ⊎ IsJournal (map.get (D.content store.new) journal.now)
+        (journal_after state.old (walk_move dir))) }
     ensures outside { IfErr result (λ e. IsTrue (is_outer_fault e)) }
     ensures others { IsTrue D.keeps → (q : List ℕ) → q ≢ journal.now →
         map.get (D.content store.new) q ≡ map.get (D.content store.old) q }

@@ -111,7 +111,8 @@ pub fn read_scalar<'t>(
     whole: &str,
     text: &'t str,
 ) -> Result<(&'t str, &'t str), ReadFault>
-    ensures read { ReadsAs (λ x. (x.0.now, x.1.now)) result (spec.read_scalar flow spaces text.now) }
+    ensures read { ReadsAs (λ x. (x.0.now, x.1.now)) result
+        (spec.read_scalar flow spaces text.now) }
     ensures quoted { IfOk result (λ x. scalars.is_quoted x.0.now ≡ true → IsQuotedText x.0.now) }
     ensures shorter { IfOk result (λ x. length x.1.now ≤ length text.now) }
     ensures fault { IfErr result (λ f. f.kind ≢ NotUtf8) }

@@ -63,7 +63,8 @@ pub fn read_inline<'t>(
     // The node is what reading from left to right gives.
     ensures exact { Gives inline_view result (spec.inline_at place indent depth at text.now) }
     // What is read is an inline node that begins there, with the places of its parts.
-    ensures found { IfOk result (λ node. spec.IsInlineAt place indent depth at text.now (inline_view node)) }
+    ensures found { IfOk result (λ node. spec.IsInlineAt place indent depth at text.now
+        (inline_view node)) }
     // Where one begins it is given, unless memory runs out.
     ensures only { (p : Placed) → spec.IsInlineAt place indent depth at text.now p →
         Gives inline_view result (Some p) }

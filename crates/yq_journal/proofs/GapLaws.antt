@@ -6,7 +6,7 @@ use Rattle.std.proofs.Math.Seq.{drop-append_seam, take-append_seam}
 use Rattle.std.proofs.lemmas.List.{reverse-append, reverse-reverse, take-append-drop, nil_from_length}
 use Rattle.yq_text.specs.Splice.{Splice, Exchanges, change_done}
 use Rattle.yq_text.proofs.SpliceLaws.{done-from_exchanges, exchanges-from_done}
-use Rattle.yq_journal.specs.GapBuffer.{splice_of_gap}
+use Rattle.yq_journal.specs.ByteGapBuffer.{splice_of_parts}
 
 over_rest : (front rest : List ℕ) (n : ℕ) → (front ++ take n rest) ++ drop n rest ≡ front ++ rest
 over_rest front rest n = append_assoc front (take n rest) (drop n rest) ∙ ap (λ x. front ++ x) (take-append-drop n rest)
@@ -35,9 +35,9 @@ none_done s b never = elim (change_done s b) as (λ o. change_done s b ≡ o →
 ] refl
 
 -- a splice whose old bytes end the front is done there
-pub exchanged : (at : ℕ) (old new front behind b : List ℕ) → front ++ behind ≡ b → length front ≡ at + length old → drop at front ≡ old → Some ((take at front ++ new) ++ behind) ≡ change_done (splice_of_gap at old new) b
+pub exchanged : (at : ℕ) (old new front behind b : List ℕ) → front ++ behind ≡ b → length front ≡ at + length old → drop at front ≡ old → Some ((take at front ++ new) ++ behind) ≡ change_done (splice_of_parts at old new) b
 exchanged at old new front behind b whole long is =
-    sym (done-from_exchanges (splice_of_gap at old new) b ((take at front ++ new) ++ behind) (record {
+    sym (done-from_exchanges (splice_of_parts at old new) b ((take at front ++ new) ++ behind) (record {
       front = take at front;
       rest = behind;
       offset = grind (arith, common_steps);
@@ -46,13 +46,13 @@ exchanged at old new front behind b whole long is =
     }))
 
 -- a splice is not done where other bytes end the front
-pub not_exchanged : (at : ℕ) (old new front behind b : List ℕ) → front ++ behind ≡ b → length front ≡ at + length old → drop at front ≢ old → None ≡ change_done (splice_of_gap at old new) b
-not_exchanged at old new front behind b whole long other = sym (none_done (splice_of_gap at old new) b (λ c e.
+pub not_exchanged : (at : ℕ) (old new front behind b : List ℕ) → front ++ behind ≡ b → length front ≡ at + length old → drop at front ≢ old → None ≡ change_done (splice_of_parts at old new) b
+not_exchanged at old new front behind b whole long other = sym (none_done (splice_of_parts at old new) b (λ c e.
     let parts : (e.front ++ old) ++ e.rest ≡ front ++ behind = append_assoc e.front old e.rest ∙ sym e.before ∙ sym whole in
     let same : e.front ++ old ≡ front = append_same (e.front ++ old) front e.rest behind (length-append e.front old ∙ ap (λ n. n + length old) e.offset ∙ sym long) parts in
     other (ap (drop at) (sym same) ∙ ap (λ n. drop n (e.front ++ old)) (sym e.offset) ∙ drop-append_seam e.front old)))
 
 -- a splice is not done past a text's end
-pub not_reached : (at : ℕ) (old new b : List ℕ) → length b < at + length old → None ≡ change_done (splice_of_gap at old new) b
-not_reached at old new b short = sym (none_done (splice_of_gap at old new) b (λ c e.
+pub not_reached : (at : ℕ) (old new b : List ℕ) → length b < at + length old → None ≡ change_done (splice_of_parts at old new) b
+not_reached at old new b short = sym (none_done (splice_of_parts at old new) b (λ c e.
     absurd (omega (arith, ap length e.before, length-append e.front (old ++ e.rest), length-append old e.rest, e.offset))))

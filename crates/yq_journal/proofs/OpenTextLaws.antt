@@ -29,7 +29,7 @@ use Rattle.serde_json.proofs.Texts.{tokens_from_order, print-outline}
 use Rattle.yq_journal.specs.declared.moves.Move.{Move}
 use Rattle.yq_journal.specs.declared.moves.Move.TheVariants.{Edit}
 use Rattle.yq_journal.specs.Json.{each_of, bytes_data, journal_data, journal_in, journal_object, journal_of, journal_text, kind_text, list_data, move_data, move_of, open_from, open_move_of, pending_data, pending_of, record_data, record_of}
-use Rattle.yq_journal.specs.OpenText.{IsWrittenJson, journal_text_before, journal_text_behind}
+use Rattle.yq_journal.specs.OpenText.{IsWrittenJson, journal_text_before, journal_text_after}
 use Rattle.yq_journal.specs.Refusals.{IsSound}
 use Rattle.yq_journal.specs.State.{Pending, State}
 use Rattle.yq_journal.proofs.JsonLaws.{journal_reads}
@@ -193,7 +193,7 @@ pieces a e k h r v =
     (123 ∷ 34 ∷ (codes "from" ++ 34 ∷ 58 ∷ ((34 ∷ (e ++ 34 ∷ [])) ++ (44 ∷ 34 ∷ (codes "kind" ++ 34 ∷ 58 ∷ ((34 ∷ (k ++ 34 ∷ [])) ++ (44 ∷ 34 ∷ (codes "record" ++ 34 ∷ 58 ∷ (h ++ 125 ∷ [])))))))))
     ++ (44 ∷ 34 ∷ (codes "records" ++ 34 ∷ 58 ∷ (r ++ (44 ∷ 34 ∷ (codes "version" ++ 34 ∷ 58 ∷ (v ++ 125 ∷ [])))))))))))) ++ 10 ∷ []
 
-regroup : (a e k h r : List ℕ) → journal_text_behind (((codes "{\"at\":" ++ a) ++ codes ",\"pending\":{\"from\":\"") ++ e) k h r ≡ pieces a e k h r (50 ∷ [])
+regroup : (a e k h r : List ℕ) → journal_text_after (((codes "{\"at\":" ++ a) ++ codes ",\"pending\":{\"from\":\"") ++ e) k h r ≡ pieces a e k h r (50 ∷ [])
 regroup a e k h r = simp append_assoc
 
 kind_kept : (step : Move) → escape (kind_text step) ≡ kind_text step
@@ -202,11 +202,11 @@ kind_kept (Edit r) = refl
 kind_kept _ = refl
 
 text_of : (at : ℕ) (p : Pending) (rs : Items)
-    → journal_text_behind (journal_text_before at ++ escape (encode_of standard p.from)) (kind_text p.step) (compact_text (move_data p.step)) (compact_text (array rs))
+    → journal_text_after (journal_text_before at ++ escape (encode_of standard p.from)) (kind_text p.step) (compact_text (move_data p.step)) (compact_text (array rs))
     ≡ compact_text (journal_object at (pending_data (Some p)) rs) ++ 10 ∷ []
 unfolding escape_byte
 text_of at p rs = search (rules, regroup, decimal, ap₂, kind_kept, decimal_digit)
 
 pub whole_text : (s : State) (p : Pending) (held records text : List ℕ) → ArePieces s p held records
-    → text ≡ journal_text_behind (journal_text_before s.at ++ escape (encode_of standard p.from)) (kind_text p.step) held records → text ≡ journal_text s
+    → text ≡ journal_text_after (journal_text_before s.at ++ escape (encode_of standard p.from)) (kind_text p.step) held records → text ≡ journal_text s
 whole_text s p held records text k is = cc (k.held_is.text_is, k.records_are.text_is, text_of s.at p (list_data record_data s.records), k.is_open)

@@ -10,7 +10,7 @@ use Rattle.std.proofs.lemmas.Option.{cond_some, none-some, option_and_then_some,
 use Rattle.yq_text.specs.Splice.{Splice, swapped, change_done, all_done, flipped, length_done, lengths_done}
 use Rattle.yq_text.proofs.PlaceInList.{split_at, take_next}
 use Rattle.yq_text.proofs.SpliceLaws.{done-from_exchanges, exchanges-from_done, all_done-append, lengths_done-append}
-use Rattle.yq_journal.specs.Turned.{turned_splices}
+use Rattle.yq_journal.specs.Turned.{flipped_if}
 use Rattle.yq_journal.proofs.GapLaws.{none_done}
 use Rattle.yq_journal.specs.Record.{if_length}
 
@@ -209,7 +209,7 @@ found_there s b within is = (
 pub not_there : (s : Splice) (b : List ℕ) → take (length s.old) (drop s.at b) ≢ s.old → change_done s b ≡ None
 not_there s b other = search (rules, none_done, drop-append_seam, take-append_seam)
 
-pub length-turned : (back : Bool) (ss : List Splice) → length (turned_splices back ss) ≡ length ss
+pub length-turned : (back : Bool) (ss : List Splice) → length (flipped_if back ss) ≡ length ss
 length-turned false ss = refl
 length-turned true ss = length-flipped ss
 

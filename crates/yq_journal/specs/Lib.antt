@@ -1,5 +1,5 @@
 pub use Rattle.yq_text.specs.Splice
-pub mod GapBuffer
+pub mod ByteGapBuffer
 pub mod Record
 pub mod Refusals
 pub mod State

@@ -14,8 +14,8 @@ abbrev pub text_to_kind : List ℕ → List ℕ
 text_to_kind before = before ++ codes "\",\"kind\":\""
 
 -- the text up to there, with the base64, and what is behind it: the move's kind, its record, and the records (own)
-abbrev pub journal_text_behind : List ℕ → List ℕ → List ℕ → List ℕ → List ℕ
-journal_text_behind before kind held records =
+abbrev pub journal_text_after : List ℕ → List ℕ → List ℕ → List ℕ → List ℕ
+journal_text_after before kind held records =
     (((((text_to_kind before ++ kind) ++ codes "\",\"record\":") ++ held) ++ codes "},\"records\":") ++ records) ++ codes ",\"version\":2}\n"
 
 -- a value's text is that, its numbers are numbers of JSON, and what it is read as is that value (RFC 8259)

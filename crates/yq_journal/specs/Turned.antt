@@ -3,6 +3,6 @@ use Rattle.std.specs.Prelude.{List, Bool, true, false}
 use Rattle.yq_text.specs.Splice.{Splice, flipped}
 
 -- splices in the one direction or the other (own)
-abbrev pub turned_splices : Bool → List Splice → List Splice
-turned_splices false ss = ss
-turned_splices true ss = flipped ss
+abbrev pub flipped_if : Bool → List Splice → List Splice
+flipped_if false ss = ss
+flipped_if true ss = flipped ss

@@ -1,8 +1,8 @@
 //! A text with a gap at a cursor, where splices are done in turn.
 ghost use Rattle.std.specs.Prelude.{◌≡◌, ◌↔◌, ◌+◌, ◌<◌, ◌≤◌, [], ◌++◌, false, None, Some, IsTrue, IfOk, OnOk, length, drop, option_map, reverse, if◌then◌else◌};
-ghost use Rattle.yq_journal.specs.GapBuffer.{splice_of_gap, buffer_text};
+ghost use Rattle.yq_journal.specs.ByteGapBuffer.{splice_of_parts, buffer_bytes};
 ghost use Rattle.yq_text.specs.Splice.{all_done, change_done, flipped};
-ghost use Rattle.yq_journal.specs.Turned.{turned_splices};
+ghost use Rattle.yq_journal.specs.Turned.{flipped_if};
 
 use std::alloc::{AllocError, Global};
 use std::marker::Model;
@@ -12,17 +12,17 @@ use yq_text::Splice;
 /// were moved back over it, last first, and the rest, which no splice has
 /// reached yet.
 #[derive(Drop)]
-struct GapBuffer<'t> {
+struct ByteGapBuffer<'t> {
     front: Vec<u8>,
     back: Vec<u8>,
     rest: &'t [u8],
 }
 
-impl<'t> Model for GapBuffer<'t> {
+impl<'t> Model for ByteGapBuffer<'t> {
     ghost use Rattle.std.specs.Prelude.{◌++◌, reverse};
-    ghost use Rattle.yq_journal.specs.GapBuffer.{GapView};
+    ghost use Rattle.yq_journal.specs.ByteGapBuffer.{ByteGapView};
 
-    ghost Value = { GapView };
+    ghost Value = { ByteGapView };
 
     ghost view = { λ g. record { before = g.front.items; behind = reverse g.back.items ++ g.rest.now } };
 }
@@ -51,11 +51,11 @@ fn is_tail(bytes: &[u8], at: usize, tail: &[u8]) -> bool
     &bytes[at..] == tail
 }
 
-impl<'t> GapBuffer<'t> {
-    fn new(alloc: Global, text: &'t [u8]) -> Result<GapBuffer<'t>, AllocError>
+impl<'t> ByteGapBuffer<'t> {
+    fn new(alloc: Global, text: &'t [u8]) -> Result<ByteGapBuffer<'t>, AllocError>
         ensures { IfOk result (λ g. (g.before ≡ []) × (g.behind ≡ text.entry.now)) }
     {
-        Ok(GapBuffer {
+        Ok(ByteGapBuffer {
             front: Vec::with_capacity(alloc, text.len())?,
             back: Vec::new(alloc),
             rest: text,
@@ -64,7 +64,8 @@ impl<'t> GapBuffer<'t> {
 
     /// Moves the cursor on by so many bytes, where they are there.
     fn forward(&mut self, count: usize) -> Result<bool, AllocError>
-        ensures moved { IfOk result (λ there. IsTrue there → (buffer_text self.new ≡ buffer_text self.old) ×
+        ensures moved { IfOk result (λ there. IsTrue there →
+            (buffer_bytes self.new ≡ buffer_bytes self.old) ×
             (length self.new.before ≡ length self.old.before + count)) }
         ensures short { IfOk result (λ there. there ≡ false → length self.old.behind < count) }
     {
@@ -81,9 +82,10 @@ impl<'t> GapBuffer<'t> {
 
     /// Moves the cursor to so many bytes from the text's start, where they are there.
     fn seek(&mut self, at: usize) -> Result<bool, AllocError>
-        ensures moved { IfOk result (λ there. IsTrue there → (buffer_text self.new ≡ buffer_text self.old) ×
+        ensures moved { IfOk result (λ there. IsTrue there →
+            (buffer_bytes self.new ≡ buffer_bytes self.old) ×
             (length self.new.before ≡ at)) }
-        ensures short { IfOk result (λ there. there ≡ false → length (buffer_text self.old) < at) }
+        ensures short { IfOk result (λ there. there ≡ false → length (buffer_bytes self.old) < at) }
     {
         let here = self.front.len();
         if here <= at {
@@ -95,9 +97,11 @@ impl<'t> GapBuffer<'t> {
 
     /// Moves the cursor to so many bytes behind an offset, where they are there.
     fn reach(&mut self, at: usize, count: usize) -> Result<bool, AllocError>
-        ensures moved { IfOk result (λ there. IsTrue there → (buffer_text self.new ≡ buffer_text self.old) ×
+        ensures moved { IfOk result (λ there. IsTrue there →
+            (buffer_bytes self.new ≡ buffer_bytes self.old) ×
             (length self.new.before ≡ at + count)) }
-        ensures short { IfOk result (λ there. there ≡ false → length (buffer_text self.old) < at + count) }
+        ensures short { IfOk result (λ there. there ≡ false →
+            length (buffer_bytes self.old) < at + count) }
     {
         if !self.seek(at)? {
             return Ok(false);
@@ -107,8 +111,8 @@ impl<'t> GapBuffer<'t> {
 
     /// Puts the new bytes in the place of the old ones, where these stand at the offset.
     fn exchange(&mut self, at: usize, old: &[u8], new: &[u8]) -> Result<bool, AllocError>
-        ensures { IfOk result (λ done. (if done then Some (buffer_text self.new) else None) ≡
-            change_done (splice_of_gap at old.now new.now) (buffer_text self.old)) }
+        ensures { IfOk result (λ done. (if done then Some (buffer_bytes self.new) else None) ≡
+            change_done (splice_of_parts at old.now new.now) (buffer_bytes self.old)) }
     {
         if !self.reach(at, old.len())? {
             return Ok(false);
@@ -123,8 +127,8 @@ impl<'t> GapBuffer<'t> {
 
     /// Does splices in order, where they stand.
     fn do_all(&mut self, splices: &[Splice]) -> Result<bool, AllocError>
-        ensures { IfOk result (λ done. (if done then Some (buffer_text self.new) else None) ≡
-            all_done splices.now (buffer_text self.old)) }
+        ensures { IfOk result (λ done. (if done then Some (buffer_bytes self.new) else None) ≡
+            all_done splices.now (buffer_bytes self.old)) }
     {
         'splices: for splice in splices {
             if !self.exchange(splice.at as usize, &splice.old, &splice.new)? {
@@ -136,8 +140,8 @@ impl<'t> GapBuffer<'t> {
 
     /// Takes splices back, the last one first, where they stand.
     fn undo_all(&mut self, splices: &[Splice]) -> Result<bool, AllocError>
-        ensures { IfOk result (λ done. (if done then Some (buffer_text self.new) else None) ≡
-            all_done (flipped splices.now) (buffer_text self.old)) }
+        ensures { IfOk result (λ done. (if done then Some (buffer_bytes self.new) else None) ≡
+            all_done (flipped splices.now) (buffer_bytes self.old)) }
     {
         let mut left = splices.len();
         'splices: while left > 0 {
@@ -152,9 +156,9 @@ impl<'t> GapBuffer<'t> {
 
     /// The whole text.
     fn into_text(self) -> Result<Vec<u8>, AllocError>
-        ensures { IfOk result (λ text. text.items ≡ buffer_text self.entry) }
+        ensures { IfOk result (λ text. text.items ≡ buffer_bytes self.entry) }
     {
-        let GapBuffer {
+        let ByteGapBuffer {
             mut front,
             mut back,
             rest,
@@ -174,9 +178,9 @@ pub(crate) fn spliced(
     text: &[u8],
 ) -> Result<Option<Vec<u8>>, AllocError>
     ensures { IfOk result (λ o. option_map (λ v. v.items) o ≡
-        all_done (turned_splices back splices.now) text.now) }
+        all_done (flipped_if back splices.now) text.now) }
 {
-    let mut gap = GapBuffer::new(alloc, text)?;
+    let mut gap = ByteGapBuffer::new(alloc, text)?;
     let done = if back {
         gap.undo_all(splices)
     } else {

@@ -12,7 +12,8 @@ ghost use Rattle.yq_journal.specs.declared.moves.Move.TheVariants.{Edit, Redo, U
 /// also where it leaves the text equal.
 pub fn moves_go_on()
     ensures { (s : State) (h : History) (t u : List ℕ) (step : Move) → AtRest s t h →
-        moved_text s.records s.at step t ≡ Some u → AtRest (journal_after s step) u (after_move h step u) }
+        moved_text s.records s.at step t ≡ Some u →
+        AtRest (journal_after s step) u (after_move h step u) }
 {}
 
 /// With a move open that changes the text, the journal describes the history
@@ -30,7 +31,8 @@ pub fn open_moves_describe()
 /// refused, and is then at rest with that history.
 #[tactic(auto, using(crate::proofs::GoodLaws::settles))]
 pub fn settling_rests()
-    ensures { (s : State) (t : List ℕ) (h : History) → Describes s t h → Rests (settled_beside s t) t h }
+    ensures { (s : State) (t : List ℕ) (h : History) → Describes s t h →
+        Rests (settled_beside s t) t h }
 {}
 
 /// A move of a journal at rest is refused exactly where its history refuses

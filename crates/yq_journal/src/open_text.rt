@@ -30,7 +30,8 @@ fn value_text(alloc: Global, value: &Value) -> Result<String, AllocError>
 
 /// The text of the record of a move, of null where it has none.
 fn move_text(alloc: Global, step: &Move) -> Result<String, AllocError>
-    ensures written { IfOk result (λ s. spec.IsWrittenJson (string_bytes s) (json.move_data step.now)) }
+    ensures written { IfOk result (λ s. spec.IsWrittenJson (string_bytes s)
+        (json.move_data step.now)) }
     ensures reads_back { IfOk result (λ _. json.move_of true (json.kind_text step.now)
         (json.move_data step.now) ≡ Some step.now) }
 {
@@ -85,7 +86,7 @@ fn push_base64(text: &mut String, bytes: &[u8]) -> Result<(), AllocError>
 /// Adds what is behind the base64: a move's kind and its record, and the records.
 fn push_behind(text: &mut String, kind: &str, held: &str, records: &str) -> Result<(), AllocError>
     ensures { OnOk result (string_bytes text.new ≡
-        spec.journal_text_behind (string_bytes text.old) kind.now held.now records.now) }
+        spec.journal_text_after (string_bytes text.old) kind.now held.now records.now) }
 {
     text.push_str("\",\"kind\":\"")?;
     text.push_str(kind)?;

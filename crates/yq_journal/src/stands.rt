@@ -1,9 +1,9 @@
 //! Whether splices can be done on a text, told without memory.
 ghost use Rattle.std.specs.Prelude.{◌≡◌, ◌≢◌, ◌⊎◌, ◌+◌, ◌-◌, ◌^◌, ◌<◌, ◌≤◌, ◌↔◌, ℕ, IfSome, IsTrue, List, None, Some, drop, length, is_some, slice_get, take};
 ghost use Rattle.yq_text.specs.Splice.{Splice, all_done, flipped, lengths_done};
-ghost use Rattle.yq_journal.specs.GapBuffer.{splice_of_gap};
+ghost use Rattle.yq_journal.specs.ByteGapBuffer.{splice_of_parts};
 ghost use Rattle.yq_journal.specs.Record.{done, undone};
-ghost use Rattle.yq_journal.specs.Turned.{turned_splices};
+ghost use Rattle.yq_journal.specs.Turned.{flipped_if};
 
 use crate::Record;
 use yq_text::Splice;
@@ -12,8 +12,8 @@ use yq_text::Splice;
 /// it puts there.
 fn nth<'a>(splices: &'a [Splice], back: bool, k: usize) -> (usize, &'a [u8], &'a [u8])
     requires { k < length splices.now }
-    ensures { slice_get (turned_splices back splices.entry.now) k ≡
-        Some (splice_of_gap result.0 result.1.now result.2.now) }
+    ensures { slice_get (flipped_if back splices.entry.now) k ≡
+        Some (splice_of_parts result.0 result.1.now result.2.now) }
 {
     if back {
         let splice = &splices[splices.len() - 1 - k];
@@ -50,10 +50,10 @@ fn byte_at(bytes: &[u8], i: usize) -> Option<u8>
 /// A byte of the text that the first splices make of a text.
 fn byte_after(splices: &[Splice], back: bool, count: usize, text: &[u8], at: usize) -> Option<u8>
     requires within { count ≤ length splices.now }
-    requires lengths { lengths_done (turned_splices back splices.now) (length text.now) ≢ None }
-    requires done { (b : List ℕ) × (all_done (take count (turned_splices back splices.now)) text.now ≡
+    requires lengths { lengths_done (flipped_if back splices.now) (length text.now) ≢ None }
+    requires done { (b : List ℕ) × (all_done (take count (flipped_if back splices.now)) text.now ≡
         Some b) × (at < length b) }
-    ensures { (b : List ℕ) → all_done (take count (turned_splices back splices.now)) text.now ≡ Some b →
+    ensures { (b : List ℕ) → all_done (take count (flipped_if back splices.now)) text.now ≡ Some b →
         result ≡ slice_get b at }
 {
     let mut left = count;
@@ -79,10 +79,10 @@ fn is_there(
     old: &[u8],
 ) -> bool
     requires within { count ≤ length splices.now }
-    requires lengths { lengths_done (turned_splices back splices.now) (length text.now) ≢ None }
-    requires done { (b : List ℕ) × (all_done (take count (turned_splices back splices.now)) text.now ≡
+    requires lengths { lengths_done (flipped_if back splices.now) (length text.now) ≢ None }
+    requires done { (b : List ℕ) × (all_done (take count (flipped_if back splices.now)) text.now ≡
         Some b) × (at + length old.now ≤ length b) × (length b < 2 ^ 64) }
-    ensures { (b : List ℕ) → all_done (take count (turned_splices back splices.now)) text.now ≡ Some b →
+    ensures { (b : List ℕ) → all_done (take count (flipped_if back splices.now)) text.now ≡ Some b →
         (IsTrue result ↔ (take (length old.now) (drop at b) ≡ old.now)) }
 {
     'bytes: for j in 0..old.len() {
@@ -95,8 +95,8 @@ fn is_there(
 
 /// Whether splices can be done on a text one after the other, or taken back.
 fn stand(splices: &[Splice], back: bool, text: &[u8]) -> bool
-    requires { lengths_done (turned_splices back splices.now) (length text.now) ≢ None }
-    ensures { result ≡ is_some (all_done (turned_splices back splices.now) text.now) }
+    requires { lengths_done (flipped_if back splices.now) (length text.now) ≢ None }
+    ensures { result ≡ is_some (all_done (flipped_if back splices.now) text.now) }
 {
     'splices: for k in 0..splices.len() {
         let (at, old, _) = nth(splices, back, k);

@@ -1,7 +1,7 @@
 //! A text with its cut.
 ghost use Rattle.std.specs.Prelude.{◌≡◌, ℕ, IfSome, List, Some, true};
 ghost use Rattle.std.specs.Str.{IsUtf8};
-ghost use Rattle.yq_text.specs.Halves.{halves_text};
+ghost use Rattle.yq_text.specs.Halves.{whole};
 ghost use Rattle.yq_row_table.specs.Grammar.{IsCut};
 ghost use Rattle.yq_row_table.specs.View.{rows_view};
 ghost use Rattle.yq_documents.specs.Reading.{all_documents, cut_of, read_at};
@@ -27,9 +27,9 @@ pub struct CutText<'d, 't> {
 impl<'d, 't> Model for CutText<'d, 't> {
     ghost Value = { List ℕ };
 
-    ghost view = { λ c. halves_text c.text };
+    ghost view = { λ c. whole c.text };
 
-    ghost invariant = { λ c. HasCut (halves_text c.text) c.rows.now × AreKnown c.rows.now.rows c.known ×
+    ghost invariant = { λ c. HasCut (whole c.text) c.rows.now × AreKnown c.rows.now.rows c.known ×
         IfSome c.line (IsKnownLine c.rows.now) };
 }
 
@@ -52,9 +52,9 @@ impl<'d, 't> CutText<'d, 't> {
     /// The same of a text in two halves, where items are known, as `known_in_front` gives them, from which
     /// walks may go on.
     pub fn resumed(text: Halves<'t>, rows: &'d Rows<'t>, known: KnownItems) -> CutText<'d, 't>
-        requires cut { HasCut (halves_text text) rows.now }
+        requires cut { HasCut (whole text) rows.now }
         requires known { AreKnown rows.now.rows known }
-        ensures { result ≡ halves_text text.entry }
+        ensures { result ≡ whole text.entry }
     {
         CutText {
             text,
@@ -71,10 +71,10 @@ impl<'d, 't> CutText<'d, 't> {
         known: KnownItems,
         line: Option<KnownLine<'d>>,
     ) -> CutText<'d, 't>
-        requires cut { HasCut (halves_text text) rows.now }
+        requires cut { HasCut (whole text) rows.now }
         requires known { AreKnown rows.now.rows known }
         requires line { IfSome line (IsKnownLine rows.now) }
-        ensures { result ≡ halves_text text.entry }
+        ensures { result ≡ whole text.entry }
     {
         CutText {
             text,
@@ -86,7 +86,7 @@ impl<'d, 't> CutText<'d, 't> {
 
     /// The text.
     pub fn whole(&self) -> Halves<'t>
-        ensures text { halves_text result ≡ self.now }
+        ensures text { whole result ≡ self.now }
         ensures utf8 { IsUtf8 self.now }
         ensures cut { IsCut self.now (cut_of self.now) }
         ensures documents { all_documents (cut_of self.now) ≡ true }
@@ -97,7 +97,7 @@ impl<'d, 't> CutText<'d, 't> {
 
     /// The text, of which the documents are read.
     pub fn text(&self) -> Halves<'t>
-        ensures text { halves_text result ≡ self.now }
+        ensures text { whole result ≡ self.now }
         ensures utf8 { IsUtf8 self.now }
         ensures read { read_at self.now ≡ Some (cut_of self.now) }
     {

@@ -9,6 +9,6 @@ pub use cut_text::CutText;
 pub use laws::path_laws::comments_stand;
 pub use laws::piece_laws::{contents_spell, entries_spell, pieces_exist, pieces_hold};
 pub use yq_places::{
-    BlockRoot, Compact, FirstRemoval, FlowHead, Held, HeldRow, LinesAbove, Lone, Mark, NoRows,
+    BlockRoot, Compact, EntryMark, FirstRemoval, FlowHead, Held, HeldRow, LinesAbove, Lone, NoRows,
     NodeAt, Removal, Seam, Standing, collection_along, split_break,
 };

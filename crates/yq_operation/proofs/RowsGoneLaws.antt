@@ -19,7 +19,7 @@ use Rattle.yq_semantics.specs.Operations.{remove}
 use Rattle.yq_text.specs.Changing.{IsChange}
 use Rattle.yq_text.specs.Exchanging.{gives, within_limit}
 use Rattle.yq_text.specs.Script.{Segment, keep, put, changes_behind, new_text}
-use Rattle.yq_text.specs.declared.changed.Changed.{Changed}
+use Rattle.yq_text.specs.declared.changed.ChangedMiddle.{ChangedMiddle}
 use Rattle.yq_text.proofs.ChangeLaws.{change_is}
 use Rattle.yq_edits.specs.Edits.{or_stay, part_removed, rows_or_sole}
 use Rattle.yq_edits.specs.EntryEdits.{one_removed}
@@ -48,7 +48,7 @@ one_splice n [] some = absurd (omega (arith, some))
 one_splice n (b ∷ gone) some = refl
 
 -- the same between what stays
-between : (before gone gap behind : List ℕ) (c : Changed) → 1 ≤ length gone → (length before + length gone) + (length gap + length behind) ≤ text_limit → c.front ≡ length before → c.back ≡ length gap + length behind → IsUtf8 before → IsUtf8 gap → IsUtf8 behind →
+between : (before gone gap behind : List ℕ) (c : ChangedMiddle) → 1 ≤ length gone → (length before + length gone) + (length gap + length behind) ≤ text_limit → c.front ≡ length before → c.back ≡ length gap + length behind → IsUtf8 before → IsUtf8 gap → IsUtf8 behind →
     string_bytes c.new ≡ [] → c.splices.items ≡ record { at = c.front; old = gone; new = [] } ∷ [] → IsChange (keep before ∷ (put gone [] ∷ (keep gap ∷ (keep behind ∷ [])))) c
 between before gone gap behind c some small front back front_text gap_text back_text new splices =
     let ss : List Segment = keep before ∷ (put gone [] ∷ (keep gap ∷ (keep behind ∷ []))) in
@@ -62,7 +62,7 @@ between before gone gap behind c some small front back front_text gap_text back_
     (IsUtf8-append gap (behind ++ []) gap_text (subst IsUtf8 (sym (append-nil behind)) back_text))
     ((λ i. gives [] (one_splice c.front gone some i)) ∙ (λ i. gives (sym new i) (sym splices i)))
 
-pub lines_go : (x : Removal) (c : Changed) → x.seam ≡ None → 1 ≤ length x.gone → IsSmall x → c.front ≡ length x.before → c.back ≡ length x.gap + length x.behind → IsUtf8 x.before → IsUtf8 x.gap → IsUtf8 x.behind →
+pub lines_go : (x : Removal) (c : ChangedMiddle) → x.seam ≡ None → 1 ≤ length x.gone → IsSmall x → c.front ≡ length x.before → c.back ≡ length x.gap + length x.behind → IsUtf8 x.before → IsUtf8 x.gap → IsUtf8 x.behind →
     string_bytes c.new ≡ [] → c.splices.items ≡ record { at = c.front; old = x.gone; new = [] } ∷ [] → IsChange (rows_removed x) c
 lines_go x c seam some small front back front_text gap_text back_text new splices =
     let same : keep x.before ∷ (put x.gone [] ∷ (keep x.gap ∷ (keep x.behind ∷ []))) ≡ rows_removed x = ap (λ s. keep x.before ∷ (put x.gone [] ∷ (gap_mended s x.gap ++ (keep x.behind ∷ [])))) (sym seam) in

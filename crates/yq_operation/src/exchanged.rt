@@ -54,7 +54,8 @@ fn replaced_inside<'d>(
     value: &Value,
 ) -> Result<Option<Segments<'d>>, AllocError>
     ensures { value_put_there path.now.doc (steps_of path.now) (value_node value.now)
-        (cut_of cut.now) ≡ None → GivesSegments result (spec.replace_segments path.now.doc (steps_of path.now)
+        (cut_of cut.now) ≡ None →
+        GivesSegments result (spec.replace_segments path.now.doc (steps_of path.now)
         (value_node value.now) (cut_of cut.now)) }
 {
     let inside = put_in_flow(alloc, cut, path, value)?;
@@ -71,8 +72,8 @@ fn replaced<'d>(
     path: &Path,
     value: &Value,
 ) -> Result<Option<Segments<'d>>, AllocError>
-    ensures { GivesSegments result (spec.replace_segments path.now.doc (steps_of path.now) (value_node value.now)
-        (cut_of cut.now)) }
+    ensures { GivesSegments result (spec.replace_segments path.now.doc (steps_of path.now)
+        (value_node value.now) (cut_of cut.now)) }
 {
     let outside = value_put_at(alloc, cut, path, value)?;
     let Some(segments) = outside else {

@@ -14,14 +14,14 @@ use yq_edit_laws::{EditError, on_the_way};
 use yq_lookup::CutText;
 use yq_outline::KnownItems;
 use yq_semantics::Op;
-use yq_text::{Changed, Edited, exchange};
+use yq_text::{ChangedMiddle, Edited, exchange};
 
 /// What an operation changes in a text with its cut, and what is known behind it of its way.
 pub fn change_one<'d>(
     alloc: Global,
     cut: &CutText<'d, '_>,
     op: &'d Op,
-) -> Result<(Changed, KnownItems), EditError>
+) -> Result<(ChangedMiddle, KnownItems), EditError>
     ensures ok { IfOk result (λ x. IsChange (segments_by (operation_of op.now) (cut_of cut.now))
         x.0) }
     ensures known { IfOk result (λ x. StayKnown x.0.front (cut_of cut.now) x.1) }

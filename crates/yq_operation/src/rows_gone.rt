@@ -1,7 +1,7 @@
 //! Items and entries that are taken out of block collections with their lines, where no other byte changes.
 ghost use Rattle.std.specs.Prelude.{◌≡◌, ◌<◌, ◌^◌, IfOk, IfErr, IfSome, None, length};
 ghost use Rattle.std.specs.Str.{IsUtf8};
-ghost use Rattle.yq_text.specs.Halves.{halves_text};
+ghost use Rattle.yq_text.specs.Halves.{whole};
 ghost use Rattle.yq_documents.specs.Located.{steps_of};
 ghost use Rattle.yq_documents.specs.Reading.{cut_of};
 ghost use Rattle.yq_semantics.specs.Operations.{operation_of, remove};
@@ -22,21 +22,21 @@ use yq_edit_laws::{EditError, remove_in_flow};
 use yq_lookup::CutText;
 use yq_places::Removal;
 use yq_semantics::Op;
-use yq_text::{Changed, Halves, Segments, Splice, changes};
+use yq_text::{ChangedMiddle, Halves, Segments, Splice, changes};
 
 /// How many bytes a text has; they are characters.
 #[tactic(auto, using(crate::proofs::RowsGoneLaws::texts_joined))]
 fn text_len(text: Halves<'_>) -> usize
-    requires { length (halves_text text) < 2 ^ 64 }
-    ensures len { result ≡ length (halves_text text.entry) }
-    ensures text { IsUtf8 (halves_text text.entry) }
+    requires { length (whole text) < 2 ^ 64 }
+    ensures len { result ≡ length (whole text.entry) }
+    ensures text { IsUtf8 (whole text.entry) }
 {
     text.front.as_bytes().len() + text.back.as_bytes().len()
 }
 
 /// The bytes of a text.
 fn bytes_of(alloc: Global, text: Halves<'_>) -> Result<Vec<u8>, AllocError>
-    ensures { IfOk result (λ v. v.items ≡ halves_text text.entry) }
+    ensures { IfOk result (λ v. v.items ≡ whole text.entry) }
 {
     let mut bytes = Vec::new(alloc);
     bytes.extend_from_slice(text.front.as_bytes())?;
@@ -47,7 +47,7 @@ fn bytes_of(alloc: Global, text: Halves<'_>) -> Result<Vec<u8>, AllocError>
 }
 
 /// What it changes that lines go, where nothing behind them is mended.
-fn lines_gone(alloc: Global, removal: &Removal<'_>) -> Result<Option<Changed>, AllocError>
+fn lines_gone(alloc: Global, removal: &Removal<'_>) -> Result<Option<ChangedMiddle>, AllocError>
     requires { IsSmall (removal_view removal.now) }
     ensures { IfOk result (λ o. IfSome o (IsChange (rows_removed (removal_view removal.now)))) }
 {
@@ -64,7 +64,7 @@ fn lines_gone(alloc: Global, removal: &Removal<'_>) -> Result<Option<Changed>, A
             new: Vec::new(alloc),
         },
     ]?;
-    Ok(Some(Changed {
+    Ok(Some(ChangedMiddle {
         front,
         back,
         new: String::new(alloc),
@@ -78,7 +78,7 @@ fn rows_gone(
     alloc: Global,
     cut: &CutText<'_, '_>,
     path: &Path,
-) -> Result<Option<Changed>, AllocError>
+) -> Result<Option<ChangedMiddle>, AllocError>
     requires { part_removed path.now.doc (cut_of cut.now) (last_step (steps_of path.now)) ≡ None }
     ensures { IfOk result (λ o. IfSome o (IsChange (segments_by
         (remove path.now.doc (steps_of path.now)) (cut_of cut.now)))) }
@@ -100,7 +100,7 @@ fn changed(
     cut: &CutText<'_, '_>,
     op: &Op,
     segments: &Segments<'_>,
-) -> Result<Changed, EditError>
+) -> Result<ChangedMiddle, EditError>
     requires { segments.now ≡ segments_by (operation_of op.now) (cut_of cut.now) }
     ensures ok { IfOk result (IsChange (segments_by (operation_of op.now) (cut_of cut.now))) }
     ensures err { IfErr result (λ e. EditFails e (carry_one (operation_of op.now)
@@ -111,7 +111,7 @@ fn changed(
 }
 
 /// The same of an operation of any kind.
-fn change_by(alloc: Global, cut: &CutText<'_, '_>, op: &Op) -> Result<Changed, EditError>
+fn change_by(alloc: Global, cut: &CutText<'_, '_>, op: &Op) -> Result<ChangedMiddle, EditError>
     ensures ok { IfOk result (IsChange (segments_by (operation_of op.now) (cut_of cut.now))) }
     ensures err { IfErr result (λ e. EditFails e (carry_one (operation_of op.now)
         (cut_of cut.now))) }
@@ -121,7 +121,7 @@ fn change_by(alloc: Global, cut: &CutText<'_, '_>, op: &Op) -> Result<Changed, E
 }
 
 /// What an operation changes in a text with its cut.
-pub fn change(alloc: Global, cut: &CutText<'_, '_>, op: &Op) -> Result<Changed, EditError>
+pub fn change(alloc: Global, cut: &CutText<'_, '_>, op: &Op) -> Result<ChangedMiddle, EditError>
     ensures ok { IfOk result (IsChange (segments_by (operation_of op.now) (cut_of cut.now))) }
     ensures err { IfErr result (λ e. EditFails e (carry_one (operation_of op.now)
         (cut_of cut.now))) }

@@ -7,8 +7,8 @@ use Rattle.std.specs.List.{prefix_len}
 use Rattle.yq_core.specs.Text.{front}
 use Rattle.yq_core.proofs.Bools.{at_byte}
 use Rattle.yq_semantics.specs.Tokens.{escaped_character, begins_name}
-use Rattle.yq_parser.specs.declared.token.Form.{Form}
-use Rattle.yq_parser.specs.declared.token.Form.TheVariants as form
+use Rattle.yq_parser.specs.declared.token.TokenForm.{TokenForm}
+use Rattle.yq_parser.specs.declared.token.TokenForm.TheVariants as form
 use Rattle.yq_parser.specs.Lexing.{beyond, closing, quoted, fraction_len, number_len, dotted, marked, worded, token_measure}
 
 -- what a pattern's rest is
@@ -79,18 +79,18 @@ plain_further o n t text le quote back h =
     ∙ (sym (beyond_on o false n 1 (closing (drop 1 t))) ∙ (ap (beyond o n) (sym (plain_here t le quote back)) ∙ h)))
 
 -- no name is in front
-pub worded_mark : (t : List ℕ) (r : Option (Form × ℕ)) → 1 ≤ length t → false ≡ begins_name (get_or t 0 0) → r ≡ marked (get_or t 0 0) (behind 1 t) → r ≡ worded t
+pub worded_mark : (t : List ℕ) (r : Option (TokenForm × ℕ)) → 1 ≤ length t → false ≡ begins_name (get_or t 0 0) → r ≡ marked (get_or t 0 0) (behind 1 t) → r ≡ worded t
 worded_mark [] r le none is = absurd (omega (arith, le))
 worded_mark (b ∷ bs) r le none is = is ∙ (ap (marked b) (behind_all 1 (b ∷ bs)) ∙ rw (← none) refl)
 
 -- a quote is in front
-pub measured_quote : (t : List ℕ) (k : Option (Bool × ℕ)) (r : Option (Form × ℕ)) → 1 ≤ length t → get_or t 0 0 ≡ 34 → k ≡ closing (behind 1 t) → r ≡ quoted form.Text 1 k → r ≡ token_measure t
+pub measured_quote : (t : List ℕ) (k : Option (Bool × ℕ)) (r : Option (TokenForm × ℕ)) → 1 ≤ length t → get_or t 0 0 ≡ 34 → k ≡ closing (behind 1 t) → r ≡ quoted form.Text 1 k → r ≡ token_measure t
 unfolding token_measure
 measured_quote [] k r le quote closes is = absurd (omega (arith, le))
 measured_quote (b ∷ bs) k r le quote closes is = is ∙ (ap (quoted form.Text 1) (closes ∙ ap closing (behind_all 1 (b ∷ bs))) ∙ rw quote refl)
 
 -- a dot is in front
-pub measured_dot : (t : List ℕ) (r : Option (Form × ℕ)) → 1 ≤ length t → get_or t 0 0 ≡ 46 → r ≡ dotted (behind 1 t) → r ≡ token_measure t
+pub measured_dot : (t : List ℕ) (r : Option (TokenForm × ℕ)) → 1 ≤ length t → get_or t 0 0 ≡ 46 → r ≡ dotted (behind 1 t) → r ≡ token_measure t
 unfolding token_measure
 measured_dot [] r le dot is = absurd (omega (arith, le))
 measured_dot (b ∷ bs) r le dot is = is ∙ (ap dotted (behind_all 1 (b ∷ bs)) ∙ rw dot refl)

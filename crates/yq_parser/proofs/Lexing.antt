@@ -14,8 +14,8 @@ use Rattle.yq_core.proofs.Upto.{upto_unless}
 use Rattle.yq_core.proofs.Bools.{chosen, guard_then}
 use Rattle.yq_semantics.specs.Tokens.{Token, is_token_blank, begins_name, is_name_byte, is_keyword, is_mark_character, is_mark_before, is_foreign, escaped_character}
 use Rattle.yq_parser.specs.Lexing.{beyond, closing, escaping, quoted, fraction_len, number_len, dotted, marked, worded, token_measure, front_token, next_token, ahead, tokens_in, tokens}
-use Rattle.yq_parser.specs.declared.token.Form.{Form}
-use Rattle.yq_parser.specs.declared.token.Form.TheVariants as form
+use Rattle.yq_parser.specs.declared.token.TokenForm.{TokenForm}
+use Rattle.yq_parser.specs.declared.token.TokenForm.TheVariants as form
 
 pub blank_ascii : (b : ℕ) → is_token_blank b ≡ true → b < 128
 blank_ascii b h = grind arith
@@ -75,7 +75,7 @@ mutual
         ends_behind_two c b bs x.0.1 y.1 (closing_ends bs x.0 x.1) x.2
   ]
 
-quoted_ends : (f : Form) (m : ℕ) (r : Option (Bool × ℕ)) (y : Form × ℕ) → quoted f m r ≡ Some y → (x : Bool × ℕ) × (r ≡ Some x) × (m + x.1 ≡ y.1)
+quoted_ends : (f : TokenForm) (m : ℕ) (r : Option (Bool × ℕ)) (y : TokenForm × ℕ) → quoted f m r ≡ Some y → (x : Bool × ℕ) × (r ≡ Some x) × (m + x.1 ≡ y.1)
 quoted_ends f m None y h = cc
 quoted_ends f m (Some x) y h = (x, refl, len_is (cond x.0 form.Foreign f, m + x.1) y h)
 
@@ -96,7 +96,7 @@ digit_ascii b h = grind arith
 pub begins_is_name : (b : ℕ) → begins_name b ≡ true → is_name_byte b ≡ true
 begins_is_name b h = grind arith
 
-dotted_ends : (t : List ℕ) (y : Form × ℕ) → dotted t ≡ Some y → EndsAscii (46 ∷ t) y.1
+dotted_ends : (t : List ℕ) (y : TokenForm × ℕ) → dotted t ≡ Some y → EndsAscii (46 ∷ t) y.1
 dotted_ends [] y h = ends_here 46 [] y.1 (omega arith) (len_is (form.Symbol, 1) y h)
 dotted_ends (b ∷ bs) y h = elim (chosen (b == 46) h) [
   | inl dot ↦ ends_behind 46 (b ∷ bs) 1 y.1 (ends_here b bs 1 (omega (arith, add-one, eqb-true b 46 dot.0)) refl) (len_is (form.Foreign, 2) y dot.1)
@@ -144,7 +144,7 @@ two_end : (b : ℕ) (bs : List ℕ) → front (λ c. c == 61) bs ≡ true → En
 two_end b [] h = cc
 two_end b (c ∷ cs) h = (1, refl, omega arith, omega (arith, add-one, eqb-true c 61 h))
 
-marked_ends : (b : ℕ) (bs : List ℕ) (y : Form × ℕ) → marked b bs ≡ Some y → EndsAscii (b ∷ bs) y.1
+marked_ends : (b : ℕ) (bs : List ℕ) (y : TokenForm × ℕ) → marked b bs ≡ Some y → EndsAscii (b ∷ bs) y.1
 marked_ends b bs y h = elim (chosen (is_mark_before b && front (λ c. c == 61) bs) h) [
   | inl two ↦ let e : 2 ≡ y.1 = len_is (form.Symbol, 2) y two.1 in subst (EndsAscii (b ∷ bs)) e (two_end b bs (and_parts (is_mark_before b) _ two.0).1)
   | inr one ↦ elim (chosen (is_mark_character b) one.1) [
@@ -155,7 +155,7 @@ marked_ends b bs y h = elim (chosen (is_mark_before b && front (λ c. c == 61) b
   ]
 ]
 
-worded_ends : (b : ℕ) (bs : List ℕ) (y : Form × ℕ) → worded (b ∷ bs) ≡ Some y → EndsAscii (b ∷ bs) y.1
+worded_ends : (b : ℕ) (bs : List ℕ) (y : TokenForm × ℕ) → worded (b ∷ bs) ≡ Some y → EndsAscii (b ∷ bs) y.1
 worded_ends b bs y h = elim (chosen (begins_name b) h) [
   | inl name ↦
       let n = prefix_len is_name_byte (b ∷ bs) in
@@ -164,7 +164,7 @@ worded_ends b bs y h = elim (chosen (begins_name b) h) [
   | inr mark ↦ marked_ends b bs y mark.1
 ]
 
-pub measure_ends : (t : List ℕ) (y : Form × ℕ) → token_measure t ≡ Some y → EndsAscii t y.1
+pub measure_ends : (t : List ℕ) (y : TokenForm × ℕ) → token_measure t ≡ Some y → EndsAscii t y.1
 unfolding token_measure
 measure_ends [] y h = cc
 measure_ends (b ∷ bs) y h = elim (chosen (b == 34) h) [
@@ -183,13 +183,13 @@ measure_ends (b ∷ bs) y h = elim (chosen (b == 34) h) [
   ]
 ]
 
-pub boundary_token : (t : List ℕ) (f : Form) (n : ℕ) → token_measure t ≡ Some (f, n) → IsUtf8 t → IsCharBoundary t n
+pub boundary_token : (t : List ℕ) (f : TokenForm) (n : ℕ) → token_measure t ≡ Some (f, n) → IsUtf8 t → IsCharBoundary t n
 boundary_token t f n e u =
     let ends = measure_ends t (f, n) e in
     rw (ends.1, ← add-one) (IsCharBoundary-after_ascii t ends.0 u ends.2 ends.3)
 
 -- a token is not empty
-pub token_some : (t : List ℕ) (f : Form) (n : ℕ) → token_measure t ≡ Some (f, n) → 0 < n
+pub token_some : (t : List ℕ) (f : TokenForm) (n : ℕ) → token_measure t ≡ Some (f, n) → 0 < n
 token_some t f n e = let ends = measure_ends t (f, n) e in omega (arith, ends.1)
 
 front_shorter : (t : List ℕ) (x : Token × List ℕ) → front_token t ≡ Some x → length x.1 < length t

@@ -5,8 +5,8 @@ use Rattle.std.proofs.lemmas.Option.{same_Some}
 use Rattle.std.specs.List.{prefix_len, list_all}
 use Rattle.yq_core.specs.Text.{front, unless}
 use Rattle.yq_core.proofs.Bools.{chosen, guard_then}
-use Rattle.yq_parser.specs.declared.token.Form.{Form}
-use Rattle.yq_parser.specs.declared.token.Form.TheVariants as form
+use Rattle.yq_parser.specs.declared.token.TokenForm.{TokenForm}
+use Rattle.yq_parser.specs.declared.token.TokenForm.TheVariants as form
 use Rattle.yq_semantics.specs.Tokens.{Token, foreign, escaped_character, Character, itself, escaped, spelling, AreCharacters, interpolates, character_before, said, IsString}
 use Rattle.yq_parser.specs.Lexing.{beyond, closing, escaping, quoted, string_content, token_of}
 
@@ -126,10 +126,10 @@ string_in make x bs t h is =
     let c = closing_takes bs x h in
     string_closed make x.0 (take x.1 bs) t c.0 c.1 c.2 c.3 is
 
-pub form_if : (b : Bool) (f : Form) (p : List ℕ) → token_of (cond b form.Foreign f) p ≡ cond b foreign (token_of f p)
+pub form_if : (b : Bool) (f : TokenForm) (p : List ℕ) → token_of (cond b form.Foreign f) p ≡ cond b foreign (token_of f p)
 form_if true f p = refl
 form_if false f p = refl
 
-pub quoted_is : (f : Form) (m : ℕ) (r : Option (Bool × ℕ)) (y : Form × ℕ) → quoted f m r ≡ Some y → (x : Bool × ℕ) × (r ≡ Some x) × (◌≡◌ {A = Form × ℕ} (cond x.0 form.Foreign f, m + x.1) y)
+pub quoted_is : (f : TokenForm) (m : ℕ) (r : Option (Bool × ℕ)) (y : TokenForm × ℕ) → quoted f m r ≡ Some y → (x : Bool × ℕ) × (r ≡ Some x) × (◌≡◌ {A = TokenForm × ℕ} (cond x.0 form.Foreign f, m + x.1) y)
 quoted_is f m None y h = cc
 quoted_is f m (Some x) y h = (x, refl, same_Some _ _ h)

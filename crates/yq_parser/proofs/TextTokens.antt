@@ -6,7 +6,7 @@ use Rattle.std.proofs.Math.Seq.{take-append_seam, drop-append_seam}
 use Rattle.std.proofs.lemmas.Option.{none-some}
 use Rattle.std.specs.List.{prefix_len, list_all}
 use Rattle.yq_core.specs.Text.{unless}
-use Rattle.yq_parser.specs.declared.token.Form.{Form}
+use Rattle.yq_parser.specs.declared.token.TokenForm.{TokenForm}
 use Rattle.yq_semantics.specs.Tokens.{Token, symbol, foreign, unread, is_token_blank, IsToken, AreTokens}
 use Rattle.yq_parser.specs.Lexing.{token_measure, token_of, cut_token, front_token, next_token, ahead, tokens, AreRead}
 use Rattle.yq_parser.proofs.Lexing.{tokens_next, next_shorter}
@@ -21,7 +21,7 @@ unfolding token_measure
 blank_no_token b bs h = search (rules, or_cases, eqb-true)
 
 -- no white space is in front of a token
-pub token_front : (u : List ℕ) (y : Form × ℕ) → token_measure u ≡ Some y → (unless is_token_blank u ≡ true) × (front_token u ≡ Some (cut_token u (Some y)))
+pub token_front : (u : List ℕ) (y : TokenForm × ℕ) → token_measure u ≡ Some y → (unless is_token_blank u ≡ true) × (front_token u ≡ Some (cut_token u (Some y)))
 unfolding token_measure
 token_front u y h1 = search (rules, false_from_ne_true, none-some, blank_no_token)
 
@@ -69,7 +69,7 @@ blank_end text h =
     ap (list_all is_token_blank) whole ∙ run_passes is_token_blank text
 
 -- a token in front of the tokens of what follows it
-pub token_before : (text u : List ℕ) (y : Form × ℕ) → drop (prefix_len is_token_blank text) text ≡ u → token_measure u ≡ Some y → (ts : List Token) → AreTokens ts (drop y.1 u) → AreTokens (token_of y.0 (take y.1 u) ∷ ts) text
+pub token_before : (text u : List ℕ) (y : TokenForm × ℕ) → drop (prefix_len is_token_blank text) text ≡ u → token_measure u ≡ Some y → (ts : List Token) → AreTokens ts (drop y.1 u) → AreTokens (token_of y.0 (take y.1 u) ∷ ts) text
 token_before text u y e m ts are =
     let n = prefix_len is_token_blank text in
     let whole : text ≡ take n text ++ (take y.1 u ++ drop y.1 u) = sym (take-append-drop n text) ∙ ap (λ (r : List ℕ). take n text ++ r) (e ∙ sym (take-append-drop y.1 u)) in
@@ -86,7 +86,7 @@ take_in (suc n) text lt read = go (λ r less known. take_in n r less known) (dro
     of_next : (t : Token) (r : List ℕ) → next_token text ≡ Some (t, r) → tokens text ≡ t ∷ tokens r
     of_next t r e = tokens_next text ∙ ap (ahead tokens) e
 
-    measured : TakeBelow n → (u : List ℕ) → drop (prefix_len is_token_blank text) text ≡ u → (m : Option (Form × ℕ)) → token_measure u ≡ m → front_token u ≡ Some (cut_token u (token_measure u)) → AreTokens (tokens text) text
+    measured : TakeBelow n → (u : List ℕ) → drop (prefix_len is_token_blank text) text ≡ u → (m : Option (TokenForm × ℕ)) → token_measure u ≡ m → front_token u ≡ Some (cut_token u (token_measure u)) → AreTokens (tokens text) text
     measured later u e None k front_is =
         let here : next_token text ≡ Some (unread, []) = ap front_token e ∙ (front_is ∙ ap (λ m. Some (cut_token u m)) k) in
         let unread_in : AreRead (unread ∷ tokens []) = subst AreRead (of_next unread [] here) read in

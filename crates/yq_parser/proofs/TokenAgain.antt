@@ -7,7 +7,7 @@ use Rattle.std.specs.Char.{is_ascii_digit}
 use Rattle.std.specs.List.{prefix_len}
 use Rattle.yq_core.specs.Text.{front}
 use Rattle.yq_core.proofs.Bools.{at_byte}
-use Rattle.yq_parser.specs.declared.token.Form.TheVariants as form
+use Rattle.yq_parser.specs.declared.token.TokenForm.TheVariants as form
 use Rattle.yq_semantics.specs.Tokens.{Token, string, number, step, symbol, foreign, begins_name, is_name_byte, is_keyword, is_mark_character, is_mark_before, is_foreign, Character, spelling, AreCharacters, interpolates, said, IsString, IsBareName, begins_fraction, IsUnsigned, IsNumberToken, dot_goes_on, begins_equals, IsMarkToken, IsForeign, IsToken}
 use Rattle.yq_parser.specs.Lexing.{closing, quoted, fraction_len, number_len, read_word, marked, token_measure, string_content, token_of}
 use Rattle.yq_parser.proofs.RunLaws.{closing_again, content_again, form_if, run_len}

@@ -8,8 +8,8 @@ use Rattle.std.specs.Char.{is_ascii_digit}
 use Rattle.std.specs.List.{prefix_len}
 use Rattle.yq_core.specs.Text.{front}
 use Rattle.yq_core.proofs.Bools.{chosen, guard_then}
-use Rattle.yq_parser.specs.declared.token.Form.{Form}
-use Rattle.yq_parser.specs.declared.token.Form.TheVariants as form
+use Rattle.yq_parser.specs.declared.token.TokenForm.{TokenForm}
+use Rattle.yq_parser.specs.declared.token.TokenForm.TheVariants as form
 use Rattle.yq_semantics.specs.Tokens.{Token, string, step, symbol, foreign, begins_name, is_name_byte, is_keyword, is_mark_character, is_mark_before, is_foreign, IsBareName, AreDigits, begins_fraction, IsUnsigned, dot_goes_on, begins_equals, IsToken}
 use Rattle.yq_parser.specs.Lexing.{closing, fraction_len, number_len, dotted, marked, worded, token_measure, token_of}
 use Rattle.yq_parser.proofs.Lexing.{begins_is_name}
@@ -18,7 +18,7 @@ use Rattle.yq_parser.proofs.RunLaws.{form_if, quoted_is, run_front, run_passes, 
 -- ---- what measuring finds is a token
 
 -- the piece of that form and length, and what follows it, are a token and the rest
-abbrev pub Token_in : List ℕ → Form × ℕ → Type 0
+abbrev pub Token_in : List ℕ → TokenForm × ℕ → Type 0
 Token_in t y = IsToken (token_of y.0 (take y.1 t)) (take y.1 t) (drop y.1 t)
 
 pub text_in : (bs : List ℕ) (x : Bool × ℕ) → closing bs ≡ Some x → Token_in (34 ∷ bs) (cond x.0 form.Foreign form.Text, 1 + x.1)
@@ -70,9 +70,9 @@ front_some p (b ∷ bs) h = (b, bs, refl, h)
 
 -- what measuring gives of a piece, and what it is then
 abbrev pub Measures : Token → List ℕ → List ℕ → Type 0
-Measures t piece rest = (f : Form) × (token_measure (piece ++ rest) ≡ Some (f, length piece)) × (token_of f piece ≡ t)
+Measures t piece rest = (f : TokenForm) × (token_measure (piece ++ rest) ≡ Some (f, length piece)) × (token_of f piece ≡ t)
 
-pub dotted_in : (t : List ℕ) (y : Form × ℕ) → dotted t ≡ Some y → Token_in (46 ∷ t) y
+pub dotted_in : (t : List ℕ) (y : TokenForm × ℕ) → dotted t ≡ Some y → Token_in (46 ∷ t) y
 dotted_in [] y h = subst (Token_in (46 ∷ [])) (same_Some _ _ h) (inr (inr (inr (inr (inr (inl (inr (46, refl, refl, refl, refl), refl)))))))
 dotted_in (b ∷ bs) y h = elim (chosen (b == 46) h) [
   | inl dot ↦
@@ -96,7 +96,7 @@ dotted_in (b ∷ bs) y h = elim (chosen (b == 46) h) [
 ]
 
 -- a mark of one character is no dot here
-pub marked_in : (b : ℕ) (bs : List ℕ) (y : Form × ℕ) → (b == 46) ≡ false → (b == 45 && front is_ascii_digit bs) ≡ false → marked b bs ≡ Some y → Token_in (b ∷ bs) y
+pub marked_in : (b : ℕ) (bs : List ℕ) (y : TokenForm × ℕ) → (b == 46) ≡ false → (b == 45 && front is_ascii_digit bs) ≡ false → marked b bs ≡ Some y → Token_in (b ∷ bs) y
 marked_in b bs y no_dot no_minus h = elim (chosen (is_mark_before b && front (λ c. c == 61) bs) h) [
   | inl two ↦
       let parts = and_parts (is_mark_before b) (front (λ c. c == 61) bs) two.0 in
@@ -124,7 +124,7 @@ marked_in b bs y no_dot no_minus h = elim (chosen (is_mark_before b && front (λ
       | inr other ↦ rw other refl
     ]
 
-pub worded_in : (b : ℕ) (bs : List ℕ) (y : Form × ℕ) → (b == 46) ≡ false → (b == 45 && front is_ascii_digit bs) ≡ false → worded (b ∷ bs) ≡ Some y → Token_in (b ∷ bs) y
+pub worded_in : (b : ℕ) (bs : List ℕ) (y : TokenForm × ℕ) → (b == 46) ≡ false → (b == 45 && front is_ascii_digit bs) ≡ false → worded (b ∷ bs) ≡ Some y → Token_in (b ∷ bs) y
 worded_in b bs y no_dot no_minus h = elim (chosen (begins_name b) h) [
   | inl name ↦
       let w = take (prefix_len is_name_byte (b ∷ bs)) (b ∷ bs) in
@@ -136,7 +136,7 @@ worded_in b bs y no_dot no_minus h = elim (chosen (begins_name b) h) [
     form_word true w = refl
     form_word false w = refl
 
-pub measure_in : (t : List ℕ) (y : Form × ℕ) → token_measure t ≡ Some y → Token_in t y
+pub measure_in : (t : List ℕ) (y : TokenForm × ℕ) → token_measure t ≡ Some y → Token_in t y
 unfolding token_measure
 measure_in [] y h = cc
 measure_in (b ∷ bs) y h = elim (chosen (b == 34) h) [

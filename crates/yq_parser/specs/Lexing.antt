@@ -4,8 +4,8 @@ use Rattle.std.specs.Char.{is_ascii_digit}
 use Rattle.std.specs.List.{prefix_len}
 use Rattle.yq_core.specs.Text.{front}
 use Rattle.yq_semantics.specs.Tokens.{Token, is_symbol, string, number, step, symbol, foreign, unread, is_token_blank, begins_name, is_name_byte, is_keyword, is_mark_character, is_mark_before, is_foreign, escaped_character, character_before}
-use Rattle.yq_parser.specs.declared.token.Form.{Form}
-use Rattle.yq_parser.specs.declared.token.Form.TheVariants as form
+use Rattle.yq_parser.specs.declared.token.TokenForm.{TokenForm}
+use Rattle.yq_parser.specs.declared.token.TokenForm.TheVariants as form
 
 -- what a part of a string adds to what follows it: whether it is foreign, and its length (own)
 abbrev pub beyond : Bool → ℕ → Option (Bool × ℕ) → Option (Bool × ℕ)
@@ -26,7 +26,7 @@ unfoldable mutual
       if b == 40 then beyond true 2 (closing bs) else (if is_some (escaped_character b) then beyond false 2 (closing bs) else None)
 
 -- a string of that form, or a foreign token, that so many bytes stand before (own)
-abbrev pub quoted : Form → ℕ → Option (Bool × ℕ) → Option (Form × ℕ)
+abbrev pub quoted : TokenForm → ℕ → Option (Bool × ℕ) → Option (TokenForm × ℕ)
 quoted f n None = None
 quoted f n (Some x) = Some (if x.0 then form.Foreign else f, n + x.1)
 
@@ -40,29 +40,29 @@ abbrev pub number_len : List ℕ → ℕ
 number_len t = let n = prefix_len is_ascii_digit t in n + fraction_len (drop n t)
 
 -- the token that begins with a dot, from behind the dot (own)
-abbrev pub dotted : List ℕ → Option (Form × ℕ)
+abbrev pub dotted : List ℕ → Option (TokenForm × ℕ)
 dotted [] = Some (form.Symbol, 1)
 dotted (b ∷ bs) =
     if b == 46 then Some (form.Foreign, 2) else (if b == 34 then quoted form.Quoted 2 (closing bs)
     else (if begins_name b then Some (form.Name, 1 + prefix_len is_name_byte (b ∷ bs)) else Some (form.Symbol, 1)))
 
 -- the word or the foreign name in front (own)
-abbrev pub read_word : List ℕ → Option (Form × ℕ)
+abbrev pub read_word : List ℕ → Option (TokenForm × ℕ)
 read_word t = let n = prefix_len is_name_byte t in Some (if is_keyword (take n t) then form.Symbol else form.Foreign, n)
 
 -- the mark or the foreign character in front (own)
-abbrev pub marked : ℕ → List ℕ → Option (Form × ℕ)
+abbrev pub marked : ℕ → List ℕ → Option (TokenForm × ℕ)
 marked b bs =
     if is_mark_before b && front (λ c. c == 61) bs then Some (form.Symbol, 2)
     else (if is_mark_character b then Some (form.Symbol, 1) else (if is_foreign b then Some (form.Foreign, 1) else None))
 
 -- the word, the foreign name, the mark or the foreign character in front (own)
-abbrev pub worded : List ℕ → Option (Form × ℕ)
+abbrev pub worded : List ℕ → Option (TokenForm × ℕ)
 worded [] = None
 worded (b ∷ bs) = if begins_name b then read_word (b ∷ bs) else marked b bs
 
 -- the form and the length of the token in front (own)
-unfoldable pub token_measure : List ℕ → Option (Form × ℕ)
+unfoldable pub token_measure : List ℕ → Option (TokenForm × ℕ)
 token_measure [] = None
 token_measure (b ∷ bs) =
     if b == 34 then quoted form.Text 1 (closing bs)
@@ -93,16 +93,16 @@ escape_front (b ∷ []) = None
 escape_front [] = None
 
 -- what follows that character, if it is in front (own)
-abbrev pub past_character : ℕ → List ℕ → List ℕ
-past_character c [] = []
-past_character c (b ∷ bs) = if b == c then bs else b ∷ bs
+abbrev pub after_character : ℕ → List ℕ → List ℕ
+after_character c [] = []
+after_character c (b ∷ bs) = if b == c then bs else b ∷ bs
 
 -- the token that a piece of that form is (own)
-abbrev pub token_of : Form → List ℕ → Token
-token_of form.Text p = string (string_content (past_character 34 p))
+abbrev pub token_of : TokenForm → List ℕ → Token
+token_of form.Text p = string (string_content (after_character 34 p))
 token_of form.Number p = number p
-token_of form.Name p = step (past_character 46 p)
-token_of form.Quoted p = step (string_content (past_character 34 (past_character 46 p)))
+token_of form.Name p = step (after_character 46 p)
+token_of form.Quoted p = step (string_content (after_character 34 (after_character 46 p)))
 token_of form.Symbol p = symbol p
 token_of form.Foreign p = foreign
 token_of form.Unread p = unread
@@ -112,7 +112,7 @@ abbrev pub past_blank : List ℕ → List ℕ
 past_blank t = drop (prefix_len is_token_blank t) t
 
 -- the text cut behind the token of that form and length; where there is none, nothing follows (own)
-abbrev pub cut_token : List ℕ → Option (Form × ℕ) → Token × List ℕ
+abbrev pub cut_token : List ℕ → Option (TokenForm × ℕ) → Token × List ℕ
 cut_token t None = (unread, [])
 cut_token t (Some x) = (token_of x.0 (take x.1 t), drop x.1 t)
 

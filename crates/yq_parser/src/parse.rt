@@ -59,7 +59,8 @@ fn syntax(alloc: Global, text: &str) -> Result<Syntax, ParseError>
 
 /// A pipe, and no more.
 fn read(alloc: Global, text: &str) -> Result<Vec<Stage>, ParseError>
-    ensures { GivesForm (λ v. map stage_of v.items) result (spec.whole_form spec.pipe_at (tokens text.now)) }
+    ensures { GivesForm (λ v. map stage_of v.items) result
+        (spec.whole_form spec.pipe_at (tokens text.now)) }
 {
     let (stages, rest) = pipe::pipe(alloc, text)?;
     if is_end(rest) {

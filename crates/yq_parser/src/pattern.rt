@@ -4,7 +4,7 @@ ghost use Rattle.std.specs.Prelude.{◌≡◌, ◌==◌, ◌||◌, string_bytes}
 ghost use Rattle.yq_parser.specs.Outcome as spec;
 ghost use Rattle.yq_semantics.specs.View.{program_step, operand_of, condition_of, stage_of, term_of, update_of, program_of};
 
-use yq_semantics::{Condition, Operand, Stage, Step, Syntax, Term, Update};
+use yq_semantics::{Condition, Operand, PathStep, Stage, Syntax, Term, Update};
 
 /// Whether the text has a `*` or a `?`.
 fn is_pattern(text: &str) -> bool
@@ -13,16 +13,16 @@ fn is_pattern(text: &str) -> bool
     text.as_bytes().iter().any(|b| *b == b'*' || *b == b'?')
 }
 
-fn step_matches(step: &Step) -> bool
+fn step_matches(step: &PathStep) -> bool
     ensures { result ≡ spec.step_matches (program_step step.now) }
 {
     match step {
-        Step::Key(key) => is_pattern(key.as_str()),
-        Step::Index(_) | Step::Each => false,
+        PathStep::Key(key) => is_pattern(key.as_str()),
+        PathStep::Index(_) | PathStep::Each => false,
     }
 }
 
-fn path_matches(steps: &[Step]) -> bool
+fn path_matches(steps: &[PathStep]) -> bool
     ensures { result ≡ list_any (λ s. spec.step_matches (program_step s)) steps.now }
 {
     steps.iter().any(|step| step_matches(step))

@@ -15,7 +15,7 @@ use std::alloc::{AllocError, Global};
 
 /// What kind of token a piece of a text is.
 #[derive(Clone, Copy)]
-pub(crate) enum Form {
+pub(crate) enum TokenForm {
     /// A string in quotes.
     Text,
     Number,
@@ -34,7 +34,7 @@ pub(crate) enum Form {
 /// A token, as a piece of the text.
 #[derive(Clone, Copy)]
 pub(crate) struct Token<'t> {
-    form: Form,
+    form: TokenForm,
     piece: &'t str,
 }
 
@@ -81,7 +81,7 @@ pub(crate) fn split_token(text: &str) -> Option<(Token<'_>, &str)>
         }
         None => Some((
             Token {
-                form: Form::Unread,
+                form: TokenForm::Unread,
                 piece: text,
             },
             "",
@@ -95,9 +95,13 @@ impl<'t> Token<'t> {
         ensures { result ≡ grammar.is_symbol symbol.now (token_view self.entry) }
     {
         match self.form {
-            Form::Symbol => self.piece == symbol,
-            Form::Text | Form::Number | Form::Name | Form::Quoted | Form::Foreign | Form::Unread =>
-                false,
+            TokenForm::Symbol => self.piece == symbol,
+            TokenForm::Text
+            | TokenForm::Number
+            | TokenForm::Name
+            | TokenForm::Quoted
+            | TokenForm::Foreign
+            | TokenForm::Unread => false,
         }
     }
 
@@ -105,14 +109,14 @@ impl<'t> Token<'t> {
     pub(crate) fn is_unread(self) -> bool
         ensures { result ≡ parse.is_unread (token_view self.entry) }
     {
-        matches!(self.form, Form::Unread)
+        matches!(self.form, TokenForm::Unread)
     }
 
     /// Whether only other expressions have it.
     pub(crate) fn is_foreign(self) -> bool
         ensures { result ≡ parse.is_foreign_token (token_view self.entry) }
     {
-        matches!(self.form, Form::Foreign)
+        matches!(self.form, TokenForm::Foreign)
     }
 
     /// The number, as it is written.
@@ -120,9 +124,13 @@ impl<'t> Token<'t> {
         ensures { option_map (λ s. s.now) result ≡ spec.as_number (token_view self.entry) }
     {
         match self.form {
-            Form::Number => Some(self.piece),
-            Form::Text | Form::Symbol | Form::Name | Form::Quoted | Form::Foreign | Form::Unread =>
-                None,
+            TokenForm::Number => Some(self.piece),
+            TokenForm::Text
+            | TokenForm::Symbol
+            | TokenForm::Name
+            | TokenForm::Quoted
+            | TokenForm::Foreign
+            | TokenForm::Unread => None,
         }
     }
 
@@ -131,16 +139,16 @@ impl<'t> Token<'t> {
         ensures { IfOk result (λ k. option_map string_bytes k ≡ spec.as_string (token_view self.entry)) }
     {
         match self.form {
-            Form::Text => {
+            TokenForm::Text => {
                 let content = unescape::content(alloc, unescape::past_quote(self.piece))?;
                 Ok(Some(content))
             }
-            Form::Number
-            | Form::Symbol
-            | Form::Name
-            | Form::Quoted
-            | Form::Foreign
-            | Form::Unread => Ok(None),
+            TokenForm::Number
+            | TokenForm::Symbol
+            | TokenForm::Name
+            | TokenForm::Quoted
+            | TokenForm::Foreign
+            | TokenForm::Unread => Ok(None),
         }
     }
 
@@ -149,8 +157,12 @@ impl<'t> Token<'t> {
         ensures { result ≡ is_some (spec.as_step (token_view self.entry)) }
     {
         match self.form {
-            Form::Name | Form::Quoted => true,
-            Form::Number | Form::Symbol | Form::Text | Form::Foreign | Form::Unread => false,
+            TokenForm::Name | TokenForm::Quoted => true,
+            TokenForm::Number
+            | TokenForm::Symbol
+            | TokenForm::Text
+            | TokenForm::Foreign
+            | TokenForm::Unread => false,
         }
     }
 
@@ -159,16 +171,20 @@ impl<'t> Token<'t> {
         ensures { IfOk result (λ k. option_map string_bytes k ≡ spec.as_step (token_view self.entry)) }
     {
         match self.form {
-            Form::Name => {
+            TokenForm::Name => {
                 let key = String::from_str(alloc, unescape::past_dot(self.piece))?;
                 Ok(Some(key))
             }
-            Form::Quoted => {
+            TokenForm::Quoted => {
                 let quoted = unescape::past_dot(self.piece);
                 let key = unescape::content(alloc, unescape::past_quote(quoted))?;
                 Ok(Some(key))
             }
-            Form::Number | Form::Symbol | Form::Text | Form::Foreign | Form::Unread => Ok(None),
+            TokenForm::Number
+            | TokenForm::Symbol
+            | TokenForm::Text
+            | TokenForm::Foreign
+            | TokenForm::Unread => Ok(None),
         }
     }
 }

@@ -13,7 +13,7 @@ use Rattle.yq_core.proofs.Boundaries.{white_ascii, break_ascii}
 use Rattle.yq_core.proofs.LineLaws.{joined_lines}
 use Rattle.yq_core.proofs.Upto.{upto_ends}
 use Rattle.yq_outline.specs.Comments.{are_comments}
-use Rattle.yq_row_table.specs.Exchange.{before_content, rows_text_behind, behind_row, HasPieces}
+use Rattle.yq_row_table.specs.Exchange.{before_content, text_after_row, behind_row, HasPieces}
 use Rattle.yq_row_table.specs.Gap.{IsLineEnd, IsGap, AreGapLines}
 use Rattle.yq_row_table.specs.Grammar.{IsTail, IsContent}
 use Rattle.yq_row_table.specs.Rows.{Content, Nothing, Inline, Block, Row, print_row, rows_text, Part, part_text, Cut, last, marked, cut_text}
@@ -195,10 +195,10 @@ gap_piece before gap rest q u ended is = go (is_empty (joined (last_run (text_li
         (ends_there (before ++ joined (before_run (text_lines gap))) (joined (last_run (text_lines gap))) rest here (end_of some ended))))
 
 -- the place of a row
-row_at : (rows : List Row) (i : ℕ) (r : Row) (rest : List ℕ) → slice_get rows i ≡ Some r → rows_text rows rest ≡ rows_text (take i rows) [] ++ print_row r (rows_text_behind i rows rest)
+row_at : (rows : List Row) (i : ℕ) (r : Row) (rest : List ℕ) → slice_get rows i ≡ Some r → rows_text rows rest ≡ rows_text (take i rows) [] ++ print_row r (text_after_row i rows rest)
 row_at [] i r rest h = absurd (cc)
 row_at (x ∷ rows) zero r rest h = let is : x ≡ r = cc in ap (λ (y : Row). print_row y (rows_text rows rest)) is
-row_at (x ∷ rows) (suc i) r rest h = ap (print_row x) (row_at rows i r rest h) ∙ row_then x (rows_text (take i rows) []) (print_row r (rows_text_behind i rows rest))
+row_at (x ∷ rows) (suc i) r rest h = ap (print_row x) (row_at rows i r rest h) ∙ row_then x (rows_text (take i rows) []) (print_row r (text_after_row i rows rest))
 
 part_place : (p : Part) (marker before text rest : List ℕ) → rest ≡ before ++ text → part_text p (marker ++ rest) ≡ part_text p (marker ++ before) ++ text
 part_place p marker before text rest h = ap (λ l. part_text p (marker ++ l)) h ∙ (ap (part_text p) (sym (append_assoc marker before text)) ∙ part_then p (marker ++ before) text)

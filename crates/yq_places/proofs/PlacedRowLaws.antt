@@ -4,7 +4,7 @@ use Rattle.std.proofs.lemmas.Bool.{lt-ltb, le-ltb, cond-true, cond-false}
 use Rattle.std.proofs.lemmas.Option.{slice_get_within, none-some, same_Some}
 use Rattle.std.specs.List.{slice_get}
 use Rattle.yq_core.specs.Answers.{◌>>=◌}
-use Rattle.yq_row_table.specs.Exchange.{rows_text_behind, behind_row}
+use Rattle.yq_row_table.specs.Exchange.{text_after_row, behind_row}
 use Rattle.yq_row_table.specs.Rows.{Row, rows_text, Part, Cut, last, marked, cut_text}
 use Rattle.yq_row_table.specs.Splices.{nth_part, behind_part}
 use Rattle.yq_row_table.specs.View.{rows_of}
@@ -33,7 +33,7 @@ pub record IsAt (c : Cut) (i : ℕ) (before : List ℕ) (r : Row) (behind : List
 abbrev pub HasRowsAt : Cut → ℕ → PlacedPart → Type 0
 HasRowsAt c k s = (j : ℕ) (r : Row) → slice_get s.part.rows j ≡ Some r → IsAt c (k + j) (s.before ++ rows_text (take j s.part.rows) []) r (rows_text (drop (suc j) s.part.rows) (s.part.end ++ s.behind))
 
-rows_behind : (rows : List Row) (i : ℕ) (rest : List ℕ) → rows_text_behind i rows rest ≡ rows_text (drop (suc i) rows) rest
+rows_behind : (rows : List Row) (i : ℕ) (rest : List ℕ) → text_after_row i rows rest ≡ rows_text (drop (suc i) rows) rest
 rows_behind [] i rest = refl
 rows_behind (x ∷ rows) zero rest = refl
 rows_behind (x ∷ rows) (suc i) rest = rows_behind rows i rest
@@ -46,13 +46,13 @@ rows_at : (i : ℕ) (c : Cut) (j : ℕ) (r : Row) → slice_get (nth_part i c).r
     (slice_get (rows_of c) (rows_to i c + j) ≡ Some r) × (behind_row (rows_to i c + j) c ≡ rows_text (drop (suc j) (nth_part i c).rows) ((nth_part i c).end ++ behind_part i c))
 rows_at i (last p) j r is =
     let at : 0 + j ≡ j = omega arith in
-    (ap (slice_get p.rows) at ∙ is, ap (λ n. rows_text_behind n p.rows (p.end ++ [])) at ∙ rows_behind p.rows j (p.end ++ []))
+    (ap (slice_get p.rows) at ∙ is, ap (λ n. text_after_row n p.rows (p.end ++ [])) at ∙ rows_behind p.rows j (p.end ++ []))
 rows_at zero (marked p marker c) j r is =
     let at : 0 + j ≡ j = omega arith in
     let rest : List ℕ = p.end ++ (marker ++ cut_text c) in
     let here = lt-ltb j (length p.rows) (slice_get_within p.rows j r is) in (
       ap (slice_get (p.rows ++ rows_of c)) at ∙ get_front p.rows (rows_of c) j r is,
-      ap (λ n. behind_row n (marked p marker c)) at ∙ (cond-true (ltb j (length p.rows)) (rows_text_behind j p.rows rest) (behind_row (j - length p.rows) c) here ∙ rows_behind p.rows j rest),
+      ap (λ n. behind_row n (marked p marker c)) at ∙ (cond-true (ltb j (length p.rows)) (text_after_row j p.rows rest) (behind_row (j - length p.rows) c) here ∙ rows_behind p.rows j rest),
     )
 rows_at (suc i) (marked q marker c) j r is =
     let x = rows_at i c j r is in
@@ -63,7 +63,7 @@ rows_at (suc i) (marked q marker c) j r is =
     let past = le-ltb m (length q.rows) (omega arith) in (
       ap (slice_get (q.rows ++ rows_of c)) at ∙ (get_behind q.rows (rows_of c) n ∙ x.0),
       ap (λ k. behind_row k (marked q marker c)) at
-          ∙ (cond-false (ltb m (length q.rows)) (rows_text_behind m q.rows (q.end ++ (marker ++ cut_text c))) (behind_row (m - length q.rows) c) past ∙ (ap (λ k. behind_row k c) left ∙ x.1)),
+          ∙ (cond-false (ltb m (length q.rows)) (text_after_row m q.rows (q.end ++ (marker ++ cut_text c))) (behind_row (m - length q.rows) c) past ∙ (ap (λ k. behind_row k c) left ∙ x.1)),
     )
 
 pub part_at : (n : ℕ) (c : Cut) (s : PlacedPart) → placed_document n c ≡ Some s → HasRowsAt c (document_row n c) s

@@ -6,7 +6,7 @@ use Rattle.std.proofs.lemmas.Str.{IsCharBoundary-start}
 use Rattle.std.specs.List.{slice_get}
 use Rattle.std.specs.Str.{IsUtf8, IsCharBoundary}
 use Rattle.yq_core.proofs.BlockPieceLaws.{IsLf, append_lf, raw_lf}
-use Rattle.yq_row_table.specs.Exchange.{rows_text_behind, behind_row}
+use Rattle.yq_row_table.specs.Exchange.{text_after_row, behind_row}
 use Rattle.yq_row_table.specs.Gap.{IsGap}
 use Rattle.yq_row_table.specs.Grammar.{IsContent, Limit, unlimited, limit_after, IsRow, AreRows, IsMarkerLine, AreParts, begins_document}
 use Rattle.yq_row_table.specs.Rows.{Content, Row, behind_dashes, behind_gap, dashes_text, print_row, rows_text, parent_indent, part_text, Cut, last, marked, cut_text}
@@ -82,7 +82,7 @@ part_seam (r ∷ rs) limit end rest h =
 marker_seam : (marker rest : List ℕ) → IsMarkerLine marker rest → IsSeam marker rest
 marker_seam marker rest h = ended_seam marker rest (subst (λ (q : List ℕ). Ended q rest) (take-append-drop 3 marker) (ended_after (take 3 marker) (drop 3 marker) rest (tail_end (drop 3 marker) rest h.tail)))
 
-row_first : (rows : List Row) (i : ℕ) (r : Row) (rest : List ℕ) → slice_get rows i ≡ Some r → rows_text (drop i rows) rest ≡ print_row r (rows_text_behind i rows rest)
+row_first : (rows : List Row) (i : ℕ) (r : Row) (rest : List ℕ) → slice_get rows i ≡ Some r → rows_text (drop i rows) rest ≡ print_row r (text_after_row i rows rest)
 row_first [] i r rest h = absurd (cc)
 row_first (x ∷ rows) zero r rest h = let is : x ≡ r = cc in ap (λ (y : Row). print_row y (rows_text rows rest)) is
 row_first (x ∷ rows) (suc i) r rest h = row_first rows i r rest h

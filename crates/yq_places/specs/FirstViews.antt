@@ -1,6 +1,6 @@
 -- What the code tells of what is taken out with the first item or entry of a compact collection.
 use Rattle.std.specs.Prelude.{ℕ, List}
-use Rattle.yq_text.specs.Halves.{halves_text}
+use Rattle.yq_text.specs.Halves.{whole}
 use Rattle.yq_places.specs.declared.places.first_removal.FirstRemoval as declared
 use Rattle.yq_places.specs.FirstPlaces.{FirstOut}
 use Rattle.yq_documents.specs.Pieces.{TextPiece}
@@ -12,10 +12,10 @@ piece_between before text behind = record { before = before; text = text; behind
 -- what is taken out, as the code lends it (own)
 abbrev pub first_view : declared.FirstRemoval → FirstOut
 first_view r = record {
-  before = halves_text r.before;
-  space = halves_text r.space;
-  entry = halves_text r.entry;
-  break = halves_text r.line;
-  indent = halves_text r.indent;
-  behind = halves_text r.behind;
+  before = whole r.before;
+  space = whole r.space;
+  entry = whole r.entry;
+  break = whole r.line;
+  indent = whole r.indent;
+  behind = whole r.behind;
 }

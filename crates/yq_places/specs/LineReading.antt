@@ -1,7 +1,7 @@
 -- Reading (own; a reader may skip it): lines cut out of a text, as the code cuts them.
 use Rattle.std.specs.Prelude.{◌≡◌, ◌⊎◌, ℕ, Bool, List, [], ◌∷◌, ◌++◌, length}
 use Rattle.std.specs.Str.{IsCharBoundary}
-use Rattle.yq_text.specs.Halves.{halves_text}
+use Rattle.yq_text.specs.Halves.{whole}
 use Rattle.yq_core.specs.Text.{is_empty}
 use Rattle.yq_places.specs.CommentPlaces.{LineEnd}
 use Rattle.yq_places.specs.PrintedLines.{last_break, less_break}
@@ -41,7 +41,7 @@ line_list h = lines_between h.before h.own h.behind
 
 -- lines that the code lends
 abbrev pub lines_view : declared_lines.LinesCut → LinesIn
-lines_view x = record { before = halves_text x.before; none = x.none; lines = halves_text x.lines; last = x.last.now; behind = halves_text x.behind }
+lines_view x = record { before = whole x.before; none = x.none; lines = whole x.lines; last = x.last.now; behind = whole x.behind }
 
 -- the end of a line that the code lends
 abbrev pub tail_view : declared_tail.TailCut → LineEnd

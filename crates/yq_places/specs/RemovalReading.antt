@@ -1,6 +1,6 @@
 -- Reading (own; a reader may skip it): what is taken out with an item or entry, by the pieces of rows, as the code counts.
 use Rattle.std.specs.Prelude.{◌≡◌, ℕ, ◌+◌, false, List, [], ◌∷◌, ◌++◌, length, slice_get, Option, Some, None, option_map}
-use Rattle.yq_text.specs.Halves.{halves_text}
+use Rattle.yq_text.specs.Halves.{whole}
 use Rattle.yq_core.specs.Answers.{◌>>=◌}
 use Rattle.yq_core.specs.Paths.{Step}
 use Rattle.yq_row_table.specs.Grammar.{IsCut, no_rows}
@@ -58,4 +58,4 @@ seam_view s = record { keeps = s.keeps; indent = s.indent; column = s.column }
 
 -- what is taken out, as the code lends it
 abbrev pub removal_view : declared.Removal → Removal
-removal_view r = record { before = halves_text r.before; gone = halves_text r.gone; gap = r.gap.now; behind = halves_text r.behind; seam = option_map seam_view r.seam }
+removal_view r = record { before = whole r.before; gone = whole r.gone; gap = r.gap.now; behind = whole r.behind; seam = option_map seam_view r.seam }

@@ -1,6 +1,6 @@
 -- What the code tells of what stands at a place (own).
 use Rattle.std.specs.Prelude.{◌≡◌, ℕ, ◌+◌, ◌==◌, ◌&&◌, not, true, false, List, length, Option, Some, None, if◌then◌else◌}
-use Rattle.yq_text.specs.Halves.{halves_text}
+use Rattle.yq_text.specs.Halves.{whole}
 use Rattle.yq_core.specs.Answers.{◌>>=◌}
 use Rattle.yq_core.specs.Paths.{Step}
 use Rattle.yq_core.specs.Text.{is_empty}
@@ -14,7 +14,7 @@ use Rattle.yq_outline.specs.declared.line_position.Position.{Position}
 use Rattle.yq_places.specs.Standings.{MarkPieces, Held, Lone, Compact, BlockRoot, NoRows, Standing, RowsOfEntry, alone, beside, under, compact, block, root, no_rows, held, rows_of_entry}
 use Rattle.yq_places.specs.declared.places.held.Held as declared_held
 use Rattle.yq_places.specs.declared.places.held_row.HeldRow as declared_row
-use Rattle.yq_places.specs.declared.places.held.Mark as declared_mark
+use Rattle.yq_places.specs.declared.places.held.EntryMark as declared_mark
 use Rattle.yq_places.specs.declared.places.standing.BlockRoot as declared_root
 use Rattle.yq_places.specs.declared.places.standing.Compact as declared_compact
 use Rattle.yq_places.specs.declared.places.standing.Lone as declared_lone
@@ -22,39 +22,39 @@ use Rattle.yq_places.specs.declared.places.standing.NoRows as declared_no_rows
 use Rattle.yq_places.specs.declared.places.standing.Standing as declared
 
 -- a key or dash that the code lends
-abbrev pub held_mark_view : declared_mark.Mark → MarkPieces
+abbrev pub held_mark_view : declared_mark.EntryMark → MarkPieces
 held_mark_view m = record { column = m.column; keyed = m.keyed; noted = m.noted }
 
 -- a key or dash that the code lends, with what it holds
 abbrev pub held_view : declared_held.Held → Held
 held_view h = record {
   mark = held_mark_view h.mark;
-  before = halves_text h.before;
+  before = whole h.before;
   space = h.space.now;
   head = h.head.now;
   white = h.white.now;
   comment = h.comment.now;
   break = h.line_break.now;
-  lines = halves_text h.lines;
+  lines = whole h.lines;
   last = h.last.now;
-  behind = halves_text h.behind;
+  behind = whole h.behind;
 }
 
 -- a lone node that the code lends
 abbrev pub lone_view : declared_lone.Lone → Lone
-lone_view w = record { before = halves_text w.before; head = w.head.now; behind = halves_text w.behind }
+lone_view w = record { before = whole w.before; head = w.head.now; behind = whole w.behind }
 
 -- a collection behind a dash that the code lends
 abbrev pub compact_view : declared_compact.Compact → Compact
-compact_view p = record { mark = held_mark_view p.mark; column = p.column; before = halves_text p.before; old = halves_text p.old; last = p.last.now; behind = halves_text p.behind }
+compact_view p = record { mark = held_mark_view p.mark; column = p.column; before = whole p.before; old = whole p.old; last = p.last.now; behind = whole p.behind }
 
 -- a root that the code lends
 abbrev pub root_view : declared_root.BlockRoot → BlockRoot
-root_view w = record { column = w.column; before = halves_text w.before; old = halves_text w.old; last = w.last.now; behind = halves_text w.behind }
+root_view w = record { column = w.column; before = whole w.before; old = whole w.old; last = w.last.now; behind = whole w.behind }
 
 -- a document without rows that the code lends
 abbrev pub no_rows_view : declared_no_rows.NoRows → NoRows
-no_rows_view w = record { before = halves_text w.before; behind = halves_text w.behind }
+no_rows_view w = record { before = whole w.before; behind = whole w.behind }
 
 -- what stands at a place, as the code lends it
 abbrev pub standing_view : declared.Standing → Standing

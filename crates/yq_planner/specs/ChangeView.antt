@@ -5,7 +5,7 @@ use Rattle.yq_core.specs.Entries.{tree_step}
 use Rattle.yq_core.specs.Values.{value_node}
 use Rattle.yq_planner.specs.declared.updating.change.Addition as addition
 use Rattle.yq_planner.specs.declared.updating.change.Change as change
-use Rattle.yq_planner.specs.declared.updating.change.Changed as changed
+use Rattle.yq_planner.specs.declared.updating.change.PlacedChange as changed
 use Rattle.yq_semantics.specs.Places.{Place}
 use Rattle.yq_semantics.specs.Changes.{Addition, appends, overwrites, Change, replaces, adds, removes, sets_comment, Changed}
 
@@ -22,11 +22,11 @@ change_of change.TheVariants.Removes = removes
 change_of (change.TheVariants.SetsComment place text) = sets_comment place (string_bytes text)
 
 -- the same with its path (own)
-abbrev pub changed_of : changed.Changed → Changed
+abbrev pub changed_of : changed.PlacedChange → Changed
 changed_of c = (map tree_step c.path.items, change_of c.change)
 
 -- the changes of each document (own)
-abbrev pub all_changed_of : List (Vec changed.Changed) → List (List Changed)
+abbrev pub all_changed_of : List (Vec changed.PlacedChange) → List (List Changed)
 all_changed_of css = map (λ cs. map changed_of cs.items) css
 
 -- a change at a place (own)

@@ -46,7 +46,8 @@ pub fn is_short_plain(head: &str) -> bool
 /// The head that a node without an anchor is.
 fn node_head<'t>(alloc: Global, node: Inline<'t>) -> Result<Head<'t>, AllocError>
     ensures view { IfOk result (λ h. head_view h ≡ spec.placed_head (node_view node.entry)) }
-    ensures flow { IfOk result (λ h. head_flow h ≡ flow.alias_or_collection (node_view node.entry)) }
+    ensures flow { IfOk result (λ h. head_flow h ≡
+        flow.alias_or_collection (node_view node.entry)) }
 {
     match node.form {
         Form::Empty => Ok(Head::Nothing),

@@ -7,7 +7,7 @@ use Rattle.std.proofs.lemmas.Option.{get_or_from_slice_get, same_Some, slice_get
 use Rattle.std.specs.List.{All}
 use Rattle.std.specs.Option.{option_map}
 use Rattle.std.specs.Str.{IsCharBoundary}
-use Rattle.yq_text.specs.Halves.{halves_text}
+use Rattle.yq_text.specs.Halves.{whole}
 use Rattle.yq_text.specs.declared.halves.Halves.{Halves}
 use Rattle.yq_row_table.specs.Ends.{EndStands, bound_at, bound_in_half}
 use Rattle.yq_row_table.specs.Items.{Item, row_item, end_item, items_text}
@@ -25,13 +25,13 @@ use Rattle.yq_row_table.proofs.NearLaws.{row_near, some_row}
 use Rattle.yq_row_table.proofs.SliceLaws.{print-length}
 
 -- the places of all rows in the whole text
-placed_near : (text : Halves) (p : Places) → (h : HavePlaces text p) → placed_rows (length (halves_text text)) p ≡ near 0 (h.before ++ h.behind)
+placed_near : (text : Halves) (p : Places) → (h : HavePlaces text p) → placed_rows (length (whole text)) p ≡ near 0 (h.before ++ h.behind)
 placed_near text p h =
     let front = text.front.now in
-    let last : map (row_from_end (length (halves_text text))) (reverse p.behind.items) ≡ near (length front) h.behind =
-    ap (map (row_from_end (length (halves_text text)))) h.placed.behind_are ∙ far_near h.behind front (halves_text text) (ap (λ l. front ++ l) h.back_is) in
+    let last : map (row_from_end (length (whole text))) (reverse p.behind.items) ≡ near (length front) h.behind =
+    ap (map (row_from_end (length (whole text)))) h.placed.behind_are ∙ far_near h.behind front (whole text) (ap (λ l. front ++ l) h.back_is) in
     let place : length front ≡ 0 + length (items_text h.before []) = omega (arith, ap length h.front_is) in
-    ap (λ (l : List declared.Offsets). l ++ map (row_from_end (length (halves_text text))) (reverse p.behind.items)) h.placed.front_are
+    ap (λ (l : List declared.Offsets). l ++ map (row_from_end (length (whole text))) (reverse p.behind.items)) h.placed.front_are
     ∙ (ap (λ (l : List declared.Offsets). near 0 h.before ++ l) (last ∙ ap (λ (m : ℕ). near m h.behind) place) ∙ sym (near_joined 0 h.before h.behind))
 
 -- the row at an index, by its side
@@ -56,9 +56,9 @@ sides_out (x ∷ xs) ys zero a e more = absurd (omega (arith, more))
 sides_out (x ∷ xs) ys (suc i) a e more = sides_out xs ys i a e (omega (arith, more))
 
 -- the place of a row
-row_place : (text : Halves) (p : Places) (i : ℕ) (q : declared.Offsets) (s : Slices) → HavePlaces text p → slice_get (halves_view text p).rows i ≡ Some s → slice_get (map (λ x. x) p.front.items ++ map (row_from_end (length (halves_text text))) (reverse p.behind.items)) i ≡ Some q → q ≡ offsets_of (row_start i (halves_view text p)) s
+row_place : (text : Halves) (p : Places) (i : ℕ) (q : declared.Offsets) (s : Slices) → HavePlaces text p → slice_get (halves_view text p).rows i ≡ Some s → slice_get (map (λ x. x) p.front.items ++ map (row_from_end (length (whole text))) (reverse p.behind.items)) i ≡ Some q → q ≡ offsets_of (row_start i (halves_view text p)) s
 row_place text p i q s h there own =
-    let n = length (halves_text text) in
+    let n = length (whole text) in
     let same = have_view text p h in
     let near_is : slice_get (placed_rows n p) i ≡ Some (offsets_of (row_start i (halves_view text p)) s) =
     ap (λ (l : List declared.Offsets). slice_get l i) (placed_near text p h)
@@ -67,10 +67,10 @@ row_place text p i q s h there own =
     same_Some _ _ (sym mine ∙ near_is)
 
 place_front : (text : Halves) (p : Places) (i : ℕ) (o : declared.Offsets) (s : Slices) → HavePlaces text p → slice_get (halves_view text p).rows i ≡ Some s → slice_get (kept_rows p) i ≡ Some o → i < length p.front.items → o ≡ offsets_of (row_start i (halves_view text p)) s
-place_front text p i o s h there kept less = row_place text p i o s h there (at_front (λ x. x) (row_from_end (length (halves_text text))) p.front.items (reverse p.behind.items) i o kept less)
+place_front text p i o s h there kept less = row_place text p i o s h there (at_front (λ x. x) (row_from_end (length (whole text))) p.front.items (reverse p.behind.items) i o kept less)
 
-place_back : (text : Halves) (p : Places) (i : ℕ) (o : declared.Offsets) (s : Slices) → HavePlaces text p → slice_get (halves_view text p).rows i ≡ Some s → slice_get (kept_rows p) i ≡ Some o → length p.front.items ≤ i → row_from_end (length (halves_text text)) o ≡ offsets_of (row_start i (halves_view text p)) s
-place_back text p i o s h there kept more = row_place text p i (row_from_end (length (halves_text text)) o) s h there (at_back (λ x. x) (row_from_end (length (halves_text text))) p.front.items (reverse p.behind.items) i o kept more)
+place_back : (text : Halves) (p : Places) (i : ℕ) (o : declared.Offsets) (s : Slices) → HavePlaces text p → slice_get (halves_view text p).rows i ≡ Some s → slice_get (kept_rows p) i ≡ Some o → length p.front.items ≤ i → row_from_end (length (whole text)) o ≡ offsets_of (row_start i (halves_view text p)) s
+place_back text p i o s h there kept more = row_place text p i (row_from_end (length (whole text)) o) s h there (at_back (λ x. x) (row_from_end (length (whole text))) p.front.items (reverse p.behind.items) i o kept more)
 
 pub kept_lengths : (text : Halves) (p : Places) (i : ℕ) (o : declared.Offsets) (s : Slices) → HavePlaces text p → slice_get (halves_view text p).rows i ≡ Some s → slice_get (kept_rows p) i ≡ Some o → o ≡ offsets_of o.start s
 kept_lengths text p i o s h there kept =
@@ -82,7 +82,7 @@ kept_lengths text p i o s h there kept =
 pub start_front : (text : Halves) (p : Places) (i : ℕ) (o : declared.Offsets) → HavePlaces text p → i < length (halves_view text p).rows → slice_get (kept_rows p) i ≡ Some o → i < length p.front.items → o.start ≡ row_start i (halves_view text p)
 start_front text p i o h within kept less = let s = some_row (halves_view text p).rows i within in ap (λ (q : declared.Offsets). q.start) (place_front text p i o s.0 h s.1 kept less)
 
-pub start_back : (text : Halves) (p : Places) (i : ℕ) (o : declared.Offsets) → HavePlaces text p → i < length (halves_view text p).rows → slice_get (kept_rows p) i ≡ Some o → length p.front.items ≤ i → length (halves_text text) - o.start ≡ row_start i (halves_view text p)
+pub start_back : (text : Halves) (p : Places) (i : ℕ) (o : declared.Offsets) → HavePlaces text p → i < length (halves_view text p).rows → slice_get (kept_rows p) i ≡ Some o → length p.front.items ≤ i → length (whole text) - o.start ≡ row_start i (halves_view text p)
 start_back text p i o h within kept more = let s = some_row (halves_view text p).rows i within in ap (λ (q : declared.Offsets). q.start) (place_back text p i o s.0 h s.1 kept more)
 
 -- what stands in each half
@@ -133,8 +133,8 @@ from_front text e less = rw (lt-ltb e.start (length text.front.now) less) refl
 pub from_back : (text : Halves) (e : EndPlace) → length text.front.now ≤ e.start → bound_in_half text e ≡ bound_at (drop (e.start - length text.front.now) text.back.now) e
 from_back text e more = rw (le-ltb e.start (length text.front.now) more) refl
 
-pub halves_small : (text : Halves) (p : Places) → (h : HavePlaces text p) → length (halves_text text) < 2 ^ 32
+pub halves_small : (text : Halves) (p : Places) → (h : HavePlaces text p) → length (whole text) < 2 ^ 32
 halves_small text p h =
-    let all : halves_text text ≡ items_text (h.before ++ h.behind) [] =
+    let all : whole text ≡ items_text (h.before ++ h.behind) [] =
     ap (λ l. l ++ text.back.now) h.front_is ∙ (ap (λ l. items_text h.before [] ++ l) h.back_is ∙ (sym (items_apart h.before (items_text h.behind [])) ∙ sym (items_text-append h.before h.behind []))) in
     subst (λ (l : List ℕ). length l < 2 ^ 32) (sym all) h.placed.small

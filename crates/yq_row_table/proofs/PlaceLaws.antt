@@ -4,7 +4,7 @@ use Rattle.std.proofs.Math.Dec.{ltb}
 use Rattle.std.proofs.lemmas.Bool.{ltb-true, ltb-false, cases_Bool}
 use Rattle.std.specs.List.{slice_get}
 use Rattle.yq_core.proofs.NodesWrittenLaws.{node_append}
-use Rattle.yq_row_table.specs.Exchange.{with_content, with_content_at, exchange, row_front, before_at, rows_text_behind, before_content, behind_row, rows_behind, allows_first}
+use Rattle.yq_row_table.specs.Exchange.{with_content, with_content_at, exchange, row_front, before_at, text_after_row, before_content, behind_row, rows_behind, allows_first}
 use Rattle.yq_row_table.specs.Grammar.{IsRow, Limit, unlimited, limit_after, AreRows, begins_document, AreParts}
 use Rattle.yq_row_table.specs.Rows.{RowMark, Content, mark_text, dashes_text, content_text, Row, print_row, rows_text, Part, part_text, Cut, last, marked, cut_text}
 use Rattle.yq_row_table.specs.View.{rows_of}
@@ -39,17 +39,17 @@ pub part_then : (p : Part) (t u : List ℕ) → part_text p (t ++ u) ≡ part_te
 part_then p t u = ap (rows_text p.rows) (sym (append_assoc p.end t u)) ∙ rows_then p.rows (p.end ++ t) u
 
 -- the place of a row's content
-place_at : (rows : List Row) (i : ℕ) (r : Row) (rest : List ℕ) → slice_get rows i ≡ Some r → rows_text rows rest ≡ before_at i rows ++ content_text r.content (rows_text_behind i rows rest)
+place_at : (rows : List Row) (i : ℕ) (r : Row) (rest : List ℕ) → slice_get rows i ≡ Some r → rows_text rows rest ≡ before_at i rows ++ content_text r.content (text_after_row i rows rest)
 place_at [] i r rest h = cc
 place_at (x ∷ rows) zero r rest h = search (rules, row_front-append, row_then)
 place_at (x ∷ rows) (suc i) r rest h =
-    ap (print_row x) (place_at rows i r rest h) ∙ row_then x (before_at i rows) (content_text r.content (rows_text_behind i rows rest))
+    ap (print_row x) (place_at rows i r rest h) ∙ row_then x (before_at i rows) (content_text r.content (text_after_row i rows rest))
 
-new_place_at : (rows : List Row) (i : ℕ) (r : Row) (new : Content) (rest : List ℕ) → slice_get rows i ≡ Some r → rows_text (with_content_at i new rows) rest ≡ before_at i rows ++ content_text new (rows_text_behind i rows rest)
+new_place_at : (rows : List Row) (i : ℕ) (r : Row) (new : Content) (rest : List ℕ) → slice_get rows i ≡ Some r → rows_text (with_content_at i new rows) rest ≡ before_at i rows ++ content_text new (text_after_row i rows rest)
 new_place_at [] i r new rest h = cc
 new_place_at (x ∷ rows) zero r new rest h = row_front-append (with_content new x) (rows_text rows rest)
 new_place_at (x ∷ rows) (suc i) r new rest h =
-    ap (print_row x) (new_place_at rows i r new rest h) ∙ row_then x (before_at i rows) (content_text new (rows_text_behind i rows rest))
+    ap (print_row x) (new_place_at rows i r new rest h) ∙ row_then x (before_at i rows) (content_text new (text_after_row i rows rest))
 
 part_place : (p : Part) (marker before text rest : List ℕ) → rest ≡ before ++ text → part_text p (marker ++ rest) ≡ part_text p (marker ++ before) ++ text
 part_place p marker before text rest h = ap (λ l. part_text p (marker ++ l)) h ∙ (ap (part_text p) (sym (append_assoc marker before text)) ∙ part_then p (marker ++ before) text)
@@ -78,7 +78,7 @@ pub first_allowed : (limit : Limit) (rs : List Row) (end rest : List ℕ) → Ar
 first_allowed limit [] end rest h = refl
 first_allowed limit (r ∷ rs) end rest h = h.0.allowed
 
-row_in_at : (rows : List Row) (i : ℕ) (limit : Limit) (r : Row) (end rest : List ℕ) → AreRows limit rows end rest → slice_get rows i ≡ Some r → RowIn r (rows_text_behind i rows (end ++ rest)) (drop (suc i) rows)
+row_in_at : (rows : List Row) (i : ℕ) (limit : Limit) (r : Row) (end rest : List ℕ) → AreRows limit rows end rest → slice_get rows i ≡ Some r → RowIn r (text_after_row i rows (end ++ rest)) (drop (suc i) rows)
 row_in_at [] i limit r end rest h is = cc
 row_in_at (x ∷ rows) zero limit r end rest h is =
     let same : x ≡ r = cc in

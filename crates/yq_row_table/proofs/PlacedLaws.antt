@@ -6,7 +6,7 @@ use Rattle.std.proofs.lemmas.List.Elements.{All-head, All-map, All-tail, All-wea
 use Rattle.std.proofs.lemmas.Str.{IsCharBoundary-at_seam, IsUtf8-drop, IsUtf8-nil, IsUtf8-take}
 use Rattle.std.specs.List.{All}
 use Rattle.std.specs.Str.{IsCharBoundary, IsUtf8}
-use Rattle.yq_text.specs.Halves.{halves_text}
+use Rattle.yq_text.specs.Halves.{whole}
 use Rattle.yq_text.specs.declared.halves.Halves.{Halves}
 use Rattle.yq_row_table.specs.Ends.{EndStands, EndsStand, bound_in, bounds_in, end_at}
 use Rattle.yq_row_table.specs.Grammar.{IsCut}
@@ -154,14 +154,14 @@ placed_text t c p cut h =
     let sliced : view_of_items (items_of_cut c) ≡ view_of_items (h.before ++ h.behind) = items_view_is c ∙ h.rows_view_is in
     cut.text ∙ (sym (items_of_text c) ∙ ((same_view (items_of_cut c) (h.before ++ h.behind) 0 [] sliced).text ∙ (items_text-append h.before h.behind [] ∙ items_apart h.before (items_text h.behind []))))
 
-pub have_places : (text : Halves) (c : Cut) (p : Places) → IsCut (halves_text text) c → length text.front.now ≡ p.split → IsPlaced p (rows_view c) → HavePlaces text p
+pub have_places : (text : Halves) (c : Cut) (p : Places) → IsCut (whole text) c → length text.front.now ≡ p.split → IsPlaced p (rows_view c) → HavePlaces text p
 have_places text c p cut long h =
-    let halves = append_parts text.front.now (items_text h.before []) text.back.now (items_text h.behind []) (long ∙ h.placed.split_is) (placed_text (halves_text text) c p cut h) in
+    let halves = append_parts text.front.now (items_text h.before []) text.back.now (items_text h.behind []) (long ∙ h.placed.split_is) (placed_text (whole text) c p cut h) in
     record { before = h.before; behind = h.behind; placed = h.placed; front_is = halves.0; back_is = halves.1 }
 
-pub placed_view : (text : Halves) (c d : Cut) (p : Places) → IsCut (halves_text text) c → IsCut (halves_text text) d → length text.front.now ≡ p.split → IsPlaced p (rows_view c) → halves_view text p ≡ rows_view d
+pub placed_view : (text : Halves) (c d : Cut) (p : Places) → IsCut (whole text) c → IsCut (whole text) d → length text.front.now ≡ p.split → IsPlaced p (rows_view c) → halves_view text p ≡ rows_view d
 unfolding have_places
-placed_view text c d p cut other long h = have_view text p (have_places text c p cut long h) ∙ (sym h.rows_view_is ∙ ap rows_view (one_cut (halves_text text) c d cut other))
+placed_view text c d p cut other long h = have_view text p (have_places text c p cut long h) ∙ (sym h.rows_view_is ∙ ap rows_view (one_cut (whole text) c d cut other))
 
 -- and back
 pub places_of : (text : Halves) (p : Places) (h : HavePlaces text p) → IsPlaced p (halves_view text p)

@@ -10,7 +10,7 @@ use Rattle.yq_core.specs.Plain.{no_gap, last_line, begins_deep, follows, ends_pl
 use Rattle.yq_core.specs.Text.{cut, NoneIn, is_space, is_feed, is_return, is_break, is_line, is_empty, front, is_marker, joined}
 use Rattle.yq_core.proofs.SpaceLaws.{spaces_front, prefix_none}
 use Rattle.yq_core.proofs.Upto.{cut-append}
-use Rattle.yq_row_table.specs.Exchange.{rows_text_behind, behind_row, rows_behind, allows_first}
+use Rattle.yq_row_table.specs.Exchange.{text_after_row, behind_row, rows_behind, allows_first}
 use Rattle.yq_row_table.specs.Gap.{IsWhite, IsLineEnd, AreGapLines, IsGap}
 use Rattle.yq_row_table.specs.Grammar.{IsTail, IsRow, Limit, unlimited, limit_after, AreRows, begins_document, AreParts, IsCut}
 use Rattle.yq_row_table.specs.Rows.{Row, behind_indent, behind_gap, rows_text, Cut, last, marked, cut_text}
@@ -205,7 +205,7 @@ pub rows_line : (d : ℕ) (rs : List Row) (limit : Limit) (end rest : List ℕ) 
 rows_line d [] limit end rest h next a = gap_line d end rest h a
 rows_line d (r ∷ rs) limit end rest h next a = gap_line d r.gap (behind_gap r (rows_text rs (end ++ rest))) h.0.gap (row_at_line d limit r (rows_text rs (end ++ rest)) h.0 (ltb-true r.column d next))
 
-behind_line : (d : ℕ) (rows : List Row) (i : ℕ) (limit : Limit) (r : Row) (end rest : List ℕ) → AreRows limit rows end rest → slice_get rows i ≡ Some r → allows_first (record { column = Some d }) (drop (suc i) rows) ≡ true → AtLine d rest → AtLine d (rows_text_behind i rows (end ++ rest))
+behind_line : (d : ℕ) (rows : List Row) (i : ℕ) (limit : Limit) (r : Row) (end rest : List ℕ) → AreRows limit rows end rest → slice_get rows i ≡ Some r → allows_first (record { column = Some d }) (drop (suc i) rows) ≡ true → AtLine d rest → AtLine d (text_after_row i rows (end ++ rest))
 behind_line d [] i limit r end rest h is next a = cc
 behind_line d (x ∷ rows) zero limit r end rest h is next a = rows_line d rows (limit_after x) end rest h.1 next a
 behind_line d (x ∷ rows) (suc i) limit r end rest h is next a = behind_line d rows i (limit_after x) r end rest h.1 is next a

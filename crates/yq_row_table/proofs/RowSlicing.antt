@@ -8,7 +8,7 @@ use Rattle.yq_core.specs.Text.{cut, no_space, no_white, is_marker}
 use Rattle.yq_core.proofs.Bools.{bind_some}
 use Rattle.yq_core.specs.Nodes.{begins_node}
 use Rattle.yq_row_table.specs.Grammar.{Limit, unlimited, allows, limit_after, limit_behind, is_entry, no_rows, ends_part}
-use Rattle.yq_row_table.specs.Slicing.{Begun, begun, lent_content, filled_at, holds_plain, limit_by, SlicedRow, sliced, row_of, marked_sliced, row_sliced, rows_sliced, inline_sliced, block_sliced}
+use Rattle.yq_row_table.specs.Slicing.{Begun, begun, borrowed_content, filled_at, holds_plain, limit_by, SlicedRow, sliced, row_of, marked_sliced, row_sliced, rows_sliced, inline_sliced, block_sliced}
 use Rattle.yq_row_table.specs.Reading.{Marks, read_marks, read_content, begins_block, read_tail, fits, marked_row_at, row_at, gap_len, cut_gap, all_rows, read_cut_part}
 use Rattle.yq_row_table.specs.Rows.{Content, Nothing, Inline, Block, Row, behind_columns, parent_of, dashes_text, Part}
 use Rattle.yq_row_table.specs.View.{Slices, slices, slices_text, last_dash, key_of_mark, colon_of}
@@ -28,14 +28,14 @@ content_inline n t s u e block begins =
     rw (subst (λ (y : List ℕ × List ℕ). begins_block y.1 ≡ false) e block, subst (λ (y : List ℕ × List ℕ). begins_node false y.1 ≡ true) e begins)
     (ap (λ (y : List ℕ × List ℕ). inline_sliced n y.0 y.1) (sym e))
 
-pub content_nothing : (n : ℤ) (t s u : List ℕ) (read : Option (List ℕ × List ℕ)) → (s, u) ≡ cut no_white t → begins_block u ≡ false → begins_node false u ≡ false → read_tail t ≡ read → filled_at n t ≡ (read >>= λ x. Some (lent_content (Nothing x.0, x.1)))
+pub content_nothing : (n : ℤ) (t s u : List ℕ) (read : Option (List ℕ × List ℕ)) → (s, u) ≡ cut no_white t → begins_block u ≡ false → begins_node false u ≡ false → read_tail t ≡ read → filled_at n t ≡ (read >>= λ x. Some (borrowed_content (Nothing x.0, x.1)))
 unfolding read_content
 content_nothing n t s u read e block begins h =
     rw (subst (λ (y : List ℕ × List ℕ). begins_block y.1 ≡ false) e block, subst (λ (y : List ℕ × List ℕ). begins_node false y.1 ≡ false) e begins) (nothing (read_tail t) h)
   where
-    nothing : (o : Option (List ℕ × List ℕ)) → o ≡ read → ((o >>= λ x. Some (Nothing x.0, x.1)) >>= λ x. Some (lent_content x)) ≡ (read >>= λ x. Some (lent_content (Nothing x.0, x.1)))
-    nothing (Some x) e = ap (λ (r : Option (List ℕ × List ℕ)). r >>= λ x. Some (lent_content (Nothing x.0, x.1))) e
-    nothing None e = ap (λ (r : Option (List ℕ × List ℕ)). r >>= λ x. Some (lent_content (Nothing x.0, x.1))) e
+    nothing : (o : Option (List ℕ × List ℕ)) → o ≡ read → ((o >>= λ x. Some (Nothing x.0, x.1)) >>= λ x. Some (borrowed_content x)) ≡ (read >>= λ x. Some (borrowed_content (Nothing x.0, x.1)))
+    nothing (Some x) e = ap (λ (r : Option (List ℕ × List ℕ)). r >>= λ x. Some (borrowed_content (Nothing x.0, x.1))) e
+    nothing None e = ap (λ (r : Option (List ℕ × List ℕ)). r >>= λ x. Some (borrowed_content (Nothing x.0, x.1))) e
 
 -- what a row asks of the next one
 limit_is : (n : ℤ) (c : Content) → limit_behind n c ≡ limit_by n (holds_plain c)
@@ -45,7 +45,7 @@ limit_is n (Block space anchor block) = refl
 
 -- a row whose marks were read
 abbrev row_by : List ℕ → ℕ → Marks → Content × List ℕ → ℕ → SlicedRow
-row_by gap column m x k = let f = lent_content x in (
+row_by gap column m x k = let f = borrowed_content x in (
   record {
     gap = gap;
     column = column;
@@ -64,7 +64,7 @@ row_by gap column m x k = let f = lent_content x in (
   f.rest,
 )
 
-row_is : (gap : List ℕ) (column : ℕ) (m : Marks) (x : Content × List ℕ) → sliced (record { gap = gap; column = column; dashes = m.0; mark = m.1; content = x.0 }, x.1) ≡ row_of gap column (begun m) (lent_content x)
+row_is : (gap : List ℕ) (column : ℕ) (m : Marks) (x : Content × List ℕ) → sliced (record { gap = gap; column = column; dashes = m.0; mark = m.1; content = x.0 }, x.1) ≡ row_of gap column (begun m) (borrowed_content x)
 row_is gap column m x =
     let k = behind_columns column m.0 in
     ap (λ (l : Limit). (slices (record { gap = gap; column = column; dashes = m.0; mark = m.1; content = x.0 }), l, x.1)) (limit_is (parent_of m.1 k) x.0)
@@ -78,11 +78,11 @@ marked_slicing gap column m =
     then_row : Content × List ℕ → Option (Row × List ℕ)
     then_row x = if fits m.1 x.0 then Some (record { gap = gap; column = column; dashes = m.0; mark = m.1; content = x.0 }, x.1) else None
 
-    kept : (b : Bool) (x : Content × List ℕ) → ((if b then Some (record { gap = gap; column = column; dashes = m.0; mark = m.1; content = x.0 }, x.1) else None) >>= λ y. Some (sliced y)) ≡ (if b then Some (row_of gap column (begun m) (lent_content x)) else None)
+    kept : (b : Bool) (x : Content × List ℕ) → ((if b then Some (record { gap = gap; column = column; dashes = m.0; mark = m.1; content = x.0 }, x.1) else None) >>= λ y. Some (sliced y)) ≡ (if b then Some (row_of gap column (begun m) (borrowed_content x)) else None)
     kept true x = ap Some (row_is gap column m x)
     kept false x = refl
 
-    go : (o : Option (Content × List ℕ)) → ((o >>= then_row) >>= λ x. Some (sliced x)) ≡ ((o >>= λ x. Some (lent_content x)) >>= λ f. if is_entry m.1 || f.alone then Some (row_of gap column (begun m) f) else None)
+    go : (o : Option (Content × List ℕ)) → ((o >>= then_row) >>= λ x. Some (sliced x)) ≡ ((o >>= λ x. Some (borrowed_content x)) >>= λ f. if is_entry m.1 || f.alone then Some (row_of gap column (begun m) f) else None)
     go (Some x) = kept (fits m.1 x.0) x
     go None = refl
 

@@ -36,10 +36,10 @@ before_at zero (r ∷ rs) = row_front r
 before_at (suc i) (r ∷ rs) = print_row r (before_at i rs)
 
 -- the text of rows behind row i, before a rest (own)
-abbrev pub rows_text_behind : ℕ → List Row → List ℕ → List ℕ
-rows_text_behind i [] rest = rest
-rows_text_behind zero (r ∷ rs) rest = rows_text rs rest
-rows_text_behind (suc i) (r ∷ rs) rest = rows_text_behind i rs rest
+abbrev pub text_after_row : ℕ → List Row → List ℕ → List ℕ
+text_after_row i [] rest = rest
+text_after_row zero (r ∷ rs) rest = rows_text rs rest
+text_after_row (suc i) (r ∷ rs) rest = text_after_row i rs rest
 
 -- the text of a cut before the content of row i (own)
 abbrev pub before_content : ℕ → Cut → List ℕ
@@ -48,8 +48,8 @@ before_content i (marked p marker c) = if nat_lt i (length p.rows) then before_a
 
 -- the text of a cut behind row i (own)
 abbrev pub behind_row : ℕ → Cut → List ℕ
-behind_row i (last p) = rows_text_behind i p.rows (p.end ++ [])
-behind_row i (marked p marker c) = if nat_lt i (length p.rows) then rows_text_behind i p.rows (p.end ++ (marker ++ cut_text c)) else behind_row (i - length p.rows) c
+behind_row i (last p) = text_after_row i p.rows (p.end ++ [])
+behind_row i (marked p marker c) = if nat_lt i (length p.rows) then text_after_row i p.rows (p.end ++ (marker ++ cut_text c)) else behind_row (i - length p.rows) c
 
 -- the rows of the same part behind row i (own)
 abbrev pub rows_behind : ℕ → Cut → List Row

@@ -47,8 +47,8 @@ holds_plain (Inline space node tail) = is_plain_content node
 holds_plain (Block space anchor block) = false
 
 -- what stands behind a mark and what follows, as the code lends them (own)
-abbrev pub lent_content : Content × List ℕ → Filled
-lent_content x = let c = content_cut x.0 in record {
+abbrev pub borrowed_content : Content × List ℕ → Filled
+borrowed_content x = let c = content_cut x.0 in record {
   space = c.0;
   anchor = c.1;
   apart = c.2;
@@ -62,7 +62,7 @@ lent_content x = let c = content_cut x.0 in record {
 
 -- what stands behind a mark, as the code lends it (own)
 abbrev pub filled_at : ℤ → List ℕ → Option Filled
-filled_at n t = read_content n t >>= λ x. Some (lent_content x)
+filled_at n t = read_content n t >>= λ x. Some (borrowed_content x)
 
 -- what a row asks of the next one, below a parent of this indentation (own)
 abbrev pub limit_by : ℤ → Bool → Limit
@@ -168,11 +168,11 @@ begins_other t = front (λ b. b == 38 || b == 42 || b == 91 || b == 123) t
 
 -- an inline node behind white space, as the code lends it (own)
 abbrev pub inline_sliced : ℤ → List ℕ → List ℕ → Option Filled
-inline_sliced n space t = inline_content_at n space t >>= λ x. Some (lent_content x)
+inline_sliced n space t = inline_content_at n space t >>= λ x. Some (borrowed_content x)
 
 -- a block scalar behind white space, as the code lends it (own)
 abbrev pub block_sliced : ℤ → List ℕ → List ℕ → Option Filled
-block_sliced n space t = block_content_at n space t >>= λ x. Some (lent_content x)
+block_sliced n space t = block_content_at n space t >>= λ x. Some (borrowed_content x)
 
 -- parts behind rows and bounds (own)
 abbrev pub behind_parts : List Slices → List Bound → Cut → RowsView

@@ -1,6 +1,6 @@
 //! Where the rows of a text and the ends of its parts stand, kept without the text.
 ghost use Rattle.std.specs.Prelude.{◌≡◌, ◌<◌, ◌^◌, ℕ, [], Some, length, slice_get};
-ghost use Rattle.yq_text.specs.Halves.{halves_text};
+ghost use Rattle.yq_text.specs.Halves.{whole};
 ghost use Rattle.yq_row_table.specs.Grammar.{IsCut};
 ghost use Rattle.yq_row_table.specs.Items.{view_of_items};
 ghost use Rattle.yq_row_table.specs.Kept.{IsPlaced, kept_rows, placed_rows};
@@ -77,8 +77,8 @@ impl Places {
     /// The rows of the text in which they stand, borrowed in two halves at the split.
     pub fn rows<'t>(self, text: Halves<'t>) -> Rows<'t>
         requires split { length text.front.now ≡ self.split }
-        requires placed { (c : Cut) × IsCut (halves_text text) c × IsPlaced self (rows_view c) }
-        ensures { (c : Cut) → IsCut (halves_text text.entry) c → result ≡ rows_view c }
+        requires placed { (c : Cut) × IsCut (whole text) c × IsPlaced self (rows_view c) }
+        ensures { (c : Cut) → IsCut (whole text.entry) c → result ≡ rows_view c }
     {
         Rows { text, places: self }
     }

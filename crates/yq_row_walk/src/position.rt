@@ -122,7 +122,8 @@ pub fn is_deeper(rows: &Rows<'_>, document: Stretch, position: Position, floor: 
     requires position { IsPosition rows.now document position }
     ensures some { IsTrue result → position.row < document.end }
     ensures test { (h : HasRows rows.now document) → result ≡
-        not (has_no_lines (part (lines_of_rows h.rows) (spec.line_number document h.rows position) floor)) }
+        not (has_no_lines
+        (part (lines_of_rows h.rows) (spec.line_number document h.rows position) floor)) }
 {
     if position.row >= document.end {
         return false;

@@ -23,7 +23,8 @@ pub fn begins_with_node(rows: &Rows<'_>, document: Stretch, under: Position, flo
     requires under { IsPosition rows.now document under }
     ensures some { IsTrue result → IsLine rows.now document under }
     ensures test { (h : HasRows rows.now document) → result ≡
-        positions.begins_with_node (part (lines_of_rows h.rows) (line_number document h.rows under) floor) }
+        positions.begins_with_node
+        (part (lines_of_rows h.rows) (line_number document h.rows under) floor) }
 {
     if !is_deeper(rows, document, under, floor) {
         return false;

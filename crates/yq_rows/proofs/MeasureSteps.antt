@@ -13,8 +13,8 @@ use Rattle.yq_core.specs.Places.{Placed, placed, CoreNode, nothing, name, text, 
 use Rattle.yq_core.specs.PlacedReading.{core_between, placed_node, placed_items, placed_content, placed_coll, placed_item, placed_entry, split_key, past_sep, stands_behind, then_anchored}
 use Rattle.yq_core.specs.Reading.{read_gap, read_scalar, name_at, lead_at, read_collection, read_core, kids_of, all_items}
 use Rattle.yq_core.specs.Scalars.{scalar_style, begins_scalar}
-use Rattle.yq_rows.specs.declared.measuring.NodeKind.{NodeKind}
-use Rattle.yq_rows.specs.declared.measuring.NodeKind.TheVariants as kinds
+use Rattle.yq_rows.specs.declared.measuring.MeasuredKind.{MeasuredKind}
+use Rattle.yq_rows.specs.declared.measuring.MeasuredKind.TheVariants as kinds
 use Rattle.yq_core.proofs.Loops.{node_shorter}
 use Rattle.yq_core.proofs.Steps.{items_end, items_more, entries_more, node_plain, node_anchored, node_no_name, node_no_lead}
 
@@ -22,20 +22,20 @@ pub within : (a b c : ℕ) → a ≤ b → b ≤ c → a ≤ c
 within a b c h k = omega arith
 
 -- what was measured was read
-pub record Found (o : Option (Placed × List ℕ)) (a : Bool) (k : NodeKind) (r : List ℕ) : Type 0 where
+pub record Found (o : Option (Placed × List ℕ)) (a : Bool) (k : MeasuredKind) (r : List ℕ) : Type 0 where
   pub node : Placed
   pub read : o ≡ Some (node, r)
   pub measured_as : node_measure node ≡ (a, k)
 
-pub found : (o : Option (Placed × List ℕ)) (a : Bool) (k : NodeKind) (r : List ℕ) → measured o ≡ Some ((a, k), r) → Found o a k r
+pub found : (o : Option (Placed × List ℕ)) (a : Bool) (k : MeasuredKind) (r : List ℕ) → measured o ≡ Some ((a, k), r) → Found o a k r
 found o a k r h =
     let x = bind_some o h in
     let pair = same_Some _ _ x.2 in
-    let rest : x.0.1 ≡ r = ap (λ (y : (Bool × NodeKind) × List ℕ). y.1) pair in
+    let rest : x.0.1 ≡ r = ap (λ (y : (Bool × MeasuredKind) × List ℕ). y.1) pair in
     record {
       node = x.0.0;
       read = x.1 ∙ ap (λ (s : List ℕ). Some (x.0.0, s)) rest;
-      measured_as = ap (λ (y : (Bool × NodeKind) × List ℕ). y.0) pair;
+      measured_as = ap (λ (y : (Bool × MeasuredKind) × List ℕ). y.0) pair;
     }
 
 pub unread : (o : Option (Placed × List ℕ)) → measured o ≡ None → o ≡ None
@@ -87,7 +87,7 @@ pub named_some : (flow : Bool) (spaces : Option ℕ) (d : ℕ) (t n r : List ℕ
 unfolding read_core
 named_some flow spaces d t n r star e = rw star (rw e refl)
 
-abbrev as_collection : Option (List ℕ) → Option ((Bool × NodeKind) × List ℕ)
+abbrev as_collection : Option (List ℕ) → Option ((Bool × MeasuredKind) × List ℕ)
 as_collection o = o >>= λ r. Some ((false, kinds.Collection), r)
 
 abbrev coll_of : ℕ → List ℕ → Items × List ℕ → Option (FlowNode × List ℕ)
@@ -162,24 +162,24 @@ node_none flow spaces d t n r g s amp e f h =
     ap measured (node_anchored flow spaces 0 d t n r g s amp e f ∙ ap (λ o. o >>= then_anchored 0 t n g) (unread (placed_content flow spaces 0 d s) h))
 
 -- a node behind an anchor, by whether it may stand there
-anchored_is : (flow : Bool) (spaces : Option ℕ) (d : ℕ) (t n r g s u : List ℕ) (a : Bool) (k : NodeKind) → begins_with 38 t ≡ true → name_at (drop 1 t) ≡ Some (n, r) → lead_at flow (begins_content flow) r ≡ Some (g, s) → measured (placed_content flow spaces 0 d s) ≡ Some ((a, k), u) →
+anchored_is : (flow : Bool) (spaces : Option ℕ) (d : ℕ) (t n r g s u : List ℕ) (a : Bool) (k : MeasuredKind) → begins_with 38 t ≡ true → name_at (drop 1 t) ≡ Some (n, r) → lead_at flow (begins_content flow) r ≡ Some (g, s) → measured (placed_content flow spaces 0 d s) ≡ Some ((a, k), u) →
     measured (placed_node flow spaces 0 d t) ≡ cond (node_may_follow g (a, k)) (Some ((true, k), u)) None
 anchored_is flow spaces d t n r g s u a k amp e f h =
     let y = found (placed_content flow spaces 0 d s) a k u h in
     let may : stands_behind g y.node ≡ node_may_follow g (a, k) = follow_measure g y.node ∙ ap (node_may_follow g) y.measured_as in
-    let is : node_measure (anchored_node n (0 - length t) y.node) ≡ (true, k) = with_measure n (0 - length t) y.node ∙ ap (λ (m : Bool × NodeKind). (true, m.1)) y.measured_as in
+    let is : node_measure (anchored_node n (0 - length t) y.node) ≡ (true, k) = with_measure n (0 - length t) y.node ∙ ap (λ (m : Bool × MeasuredKind). (true, m.1)) y.measured_as in
     ap measured (node_anchored flow spaces 0 d t n r g s amp e f ∙ ap (λ o. o >>= then_anchored 0 t n g) y.read)
-    ∙ (go (stands_behind g y.node) (anchored_node n (0 - length t) y.node) u ∙ ap (λ (m : Bool × NodeKind). cond (stands_behind g y.node) (Some (m, u)) None) is ∙ ap (λ c. cond c (Some ((true, k), u)) None) may)
+    ∙ (go (stands_behind g y.node) (anchored_node n (0 - length t) y.node) u ∙ ap (λ (m : Bool × MeasuredKind). cond (stands_behind g y.node) (Some (m, u)) None) is ∙ ap (λ c. cond c (Some ((true, k), u)) None) may)
   where
     go : (c : Bool) (x : Placed) (v : List ℕ) → measured (cond c (Some (x, v)) None) ≡ cond c (Some (node_measure x, v)) None
     go true x v = refl
     go false x v = refl
 
-pub node_apart : (flow : Bool) (spaces : Option ℕ) (d : ℕ) (t n r g s u : List ℕ) (a : Bool) (k : NodeKind) → begins_with 38 t ≡ true → name_at (drop 1 t) ≡ Some (n, r) → lead_at flow (begins_content flow) r ≡ Some (g, s) → measured (placed_content flow spaces 0 d s) ≡ Some ((a, k), u) →
+pub node_apart : (flow : Bool) (spaces : Option ℕ) (d : ℕ) (t n r g s u : List ℕ) (a : Bool) (k : MeasuredKind) → begins_with 38 t ≡ true → name_at (drop 1 t) ≡ Some (n, r) → lead_at flow (begins_content flow) r ≡ Some (g, s) → measured (placed_content flow spaces 0 d s) ≡ Some ((a, k), u) →
     node_may_follow g (a, k) ≡ false → measured (placed_node flow spaces 0 d t) ≡ None
 node_apart flow spaces d t n r g s u a k amp e f h may = anchored_is flow spaces d t n r g s u a k amp e f h ∙ ap (λ c. cond c (Some ((true, k), u)) None) may
 
-pub node_some : (flow : Bool) (spaces : Option ℕ) (d : ℕ) (t n r g s u : List ℕ) (a : Bool) (k : NodeKind) → begins_with 38 t ≡ true → name_at (drop 1 t) ≡ Some (n, r) → lead_at flow (begins_content flow) r ≡ Some (g, s) → measured (placed_content flow spaces 0 d s) ≡ Some ((a, k), u) →
+pub node_some : (flow : Bool) (spaces : Option ℕ) (d : ℕ) (t n r g s u : List ℕ) (a : Bool) (k : MeasuredKind) → begins_with 38 t ≡ true → name_at (drop 1 t) ≡ Some (n, r) → lead_at flow (begins_content flow) r ≡ Some (g, s) → measured (placed_content flow spaces 0 d s) ≡ Some ((a, k), u) →
     node_may_follow g (a, k) ≡ true → measured (placed_node flow spaces 0 d t) ≡ Some ((true, k), u)
 node_some flow spaces d t n r g s u a k amp e f h may = anchored_is flow spaces d t n r g s u a k amp e f h ∙ ap (λ c. cond c (Some ((true, k), u)) None) may
 
@@ -202,7 +202,7 @@ coll_items d k t g r some h =
     subst (λ (n : ℕ). past_node (placed_coll 0 n k t) ≡ past_node (placed_items 0 (d - 1) k r)) one (coll_deeper (d - 1) k t g r h)
 
 -- items
-item_is : (d : ℕ) (t r : List ℕ) (a : Bool) (k : NodeKind) → measured (placed_node true (Some 0) 0 d t) ≡ Some ((a, k), r) → past_node (placed_item 0 d t) ≡ cond (is_no_node (a, k)) None (past_sep 93 r)
+item_is : (d : ℕ) (t r : List ℕ) (a : Bool) (k : MeasuredKind) → measured (placed_node true (Some 0) 0 d t) ≡ Some ((a, k), r) → past_node (placed_item 0 d t) ≡ cond (is_no_node (a, k)) None (past_sep 93 r)
 item_is d t r a k h =
     let y = found (placed_node true (Some 0) 0 d t) a k r h in
     let bare : bare_placed y.node ≡ is_no_node (a, k) = bare_measure y.node ∙ ap is_no_node y.measured_as in
@@ -216,13 +216,13 @@ item_is d t r a k h =
 pub item_none : (d : ℕ) (t : List ℕ) → measured (placed_node true (Some 0) 0 d t) ≡ None → past_node (placed_item 0 d t) ≡ None
 item_none d t h = rw (unread (placed_node true (Some 0) 0 d t) h) refl
 
-pub item_bare : (d : ℕ) (t r : List ℕ) (a : Bool) (k : NodeKind) → measured (placed_node true (Some 0) 0 d t) ≡ Some ((a, k), r) → is_no_node (a, k) ≡ true → past_node (placed_item 0 d t) ≡ None
+pub item_bare : (d : ℕ) (t r : List ℕ) (a : Bool) (k : MeasuredKind) → measured (placed_node true (Some 0) 0 d t) ≡ Some ((a, k), r) → is_no_node (a, k) ≡ true → past_node (placed_item 0 d t) ≡ None
 item_bare d t r a k h bare = item_is d t r a k h ∙ ap (λ c. cond c None (past_sep 93 r)) bare
 
-pub item_some : (d : ℕ) (t r : List ℕ) (a : Bool) (k : NodeKind) → measured (placed_node true (Some 0) 0 d t) ≡ Some ((a, k), r) → is_no_node (a, k) ≡ false → past_node (placed_item 0 d t) ≡ past_sep 93 r
+pub item_some : (d : ℕ) (t r : List ℕ) (a : Bool) (k : MeasuredKind) → measured (placed_node true (Some 0) 0 d t) ≡ Some ((a, k), r) → is_no_node (a, k) ≡ false → past_node (placed_item 0 d t) ≡ past_sep 93 r
 item_some d t r a k h bare = item_is d t r a k h ∙ ap (λ c. cond c None (past_sep 93 r)) bare
 
-pub item_shorter : (d : ℕ) (t r : List ℕ) (a : Bool) (k : NodeKind) → measured (placed_node true (Some 0) 0 d t) ≡ Some ((a, k), r) → is_no_node (a, k) ≡ false → length r < length t
+pub item_shorter : (d : ℕ) (t r : List ℕ) (a : Bool) (k : MeasuredKind) → measured (placed_node true (Some 0) 0 d t) ≡ Some ((a, k), r) → is_no_node (a, k) ≡ false → length r < length t
 item_shorter d t r a k h bare =
     let y = found (placed_node true (Some 0) 0 d t) a k r h in
     node_shorter 0 d t y.node r y.read (bare_measure y.node ∙ (ap is_no_node y.measured_as ∙ bare))
@@ -266,7 +266,7 @@ entry_no_key d t h = rw h refl
 pub entry_none : (d : ℕ) (t k u : List ℕ) → split_key t ≡ Some (k, u) → measured (placed_node true (Some 0) 0 d u) ≡ None → past_node (placed_entry 0 d t) ≡ None
 entry_none d t k u h e = entry_is d t k u h ∙ ap (λ o. o >>= past_sep 125) (past_measured (placed_node true (Some 0) 0 d u) ∙ ap past_node e)
 
-pub entry_some : (d : ℕ) (t k u r : List ℕ) (a : Bool) (kind : NodeKind) → split_key t ≡ Some (k, u) → measured (placed_node true (Some 0) 0 d u) ≡ Some ((a, kind), r) → past_node (placed_entry 0 d t) ≡ past_sep 125 r
+pub entry_some : (d : ℕ) (t k u r : List ℕ) (a : Bool) (kind : MeasuredKind) → split_key t ≡ Some (k, u) → measured (placed_node true (Some 0) 0 d u) ≡ Some ((a, kind), r) → past_node (placed_entry 0 d t) ≡ past_sep 125 r
 entry_some d t k u r a kind h e = entry_is d t k u h ∙ ap (λ o. o >>= past_sep 125) (past_measured (placed_node true (Some 0) 0 d u) ∙ ap past_node e)
 
 entries_are : (d : ℕ) (t : List ℕ) → begins_with 125 t ≡ false → past_node (placed_items 0 d 125 t) ≡ (past_node (placed_entry 0 d t) >>= λ r. past_node (placed_items 0 d 125 r))

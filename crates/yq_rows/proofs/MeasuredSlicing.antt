@@ -7,7 +7,7 @@ use Rattle.yq_core.specs.Inline.{depth_limit}
 use Rattle.yq_rows.specs.Measured.{kind_of_style, node_measure, measured, is_nothing}
 use Rattle.yq_core.specs.Places.{Placed, placed, nothing, name, text, sequence, mapping}
 use Rattle.yq_core.specs.PlacedReading.{placed_node}
-use Rattle.yq_rows.specs.declared.measuring.NodeKind.{NodeKind}
+use Rattle.yq_rows.specs.declared.measuring.MeasuredKind.{MeasuredKind}
 use Rattle.yq_rows.proofs.MeasureSteps.{found, unread}
 use Rattle.yq_row_table.specs.Slicing.{nothing_placed, is_plain_style, plain_placed, inline_sliced}
 use Rattle.yq_rows.specs.ReadPieces.{is_plain_kind}
@@ -42,16 +42,16 @@ plain_by_kind (placed a s c e (sequence x)) = refl
 plain_by_kind (placed a s c e (mapping x)) = refl
 
 -- What the code knows of a node that it measured in front of a text.
-pub record Known (spaces : Option ℕ) (t rest : List ℕ) (k : NodeKind) : Type 0 where
+pub record Known (spaces : Option ℕ) (t rest : List ℕ) (k : MeasuredKind) : Type 0 where
   pub node : Placed
   pub read : Read spaces t rest node
   pub nothing_is : is_nothing k ≡ nothing_placed node
   pub plain_is : is_plain_kind k ≡ plain_placed node
 
-pub known : (n : ℤ) (spaces : Option ℕ) (t rest : List ℕ) (a : Bool) (k : NodeKind) → spaces ≡ Some (deeper n) → measured (placed_node false spaces 0 depth_limit t) ≡ Some ((a, k), rest) → Known (Some (deeper n)) t rest k
+pub known : (n : ℤ) (spaces : Option ℕ) (t rest : List ℕ) (a : Bool) (k : MeasuredKind) → spaces ≡ Some (deeper n) → measured (placed_node false spaces 0 depth_limit t) ≡ Some ((a, k), rest) → Known (Some (deeper n)) t rest k
 known n spaces t rest a k e h =
     let y = found (placed_node false (Some (deeper n)) 0 depth_limit t) a k rest (subst (λ (o : Option ℕ). measured (placed_node false o 0 depth_limit t) ≡ Some ((a, k), rest)) e h) in
-    let kind : (node_measure y.node).1 ≡ k = ap (λ (m : Bool × NodeKind). m.1) y.measured_as in
+    let kind : (node_measure y.node).1 ≡ k = ap (λ (m : Bool × MeasuredKind). m.1) y.measured_as in
     record {
       node = y.node;
       read = node_read (Some (deeper n)) 0 t rest y.node y.read;

@@ -4,8 +4,8 @@ use Rattle.std.proofs.lemmas.Bool.{cases_Bool, false≢true, not-false, or_cases
 use Rattle.yq_core.specs.Plain.{IsPlain}
 use Rattle.yq_core.specs.Quoted.{QuotedLines, IsQuoted, spell_lines}
 use Rattle.yq_core.specs.Text.{is_feed, is_marker, is_white, no_white, unless, NoneIn}
-use Rattle.yq_core.specs.declared.gap.Before.{Before}
-use Rattle.yq_core.specs.declared.gap.Before.TheVariants.{Token}
+use Rattle.yq_core.specs.declared.gap.GapPlace.{GapPlace}
+use Rattle.yq_core.specs.declared.gap.GapPlace.TheVariants.{Token}
 use Rattle.yq_core.specs.Gaps.{goes, next_gap_place, gap_place_after, at_line_start, AllGo, IsInlineGap}
 use Rattle.yq_core.specs.Nodes.{FlowNode, empty, alias, scalar, coll, anchored, Items, none, item, Key, bare, keyed, Sep, last, comma, key_text, sep_text, node_text, flow_items_text, opening_bracket, is_close, in_name, begins_node, begins_content, IsApart, IsLead, IsInlineKey, IsSep, IsFlowNode, AreFlowItems}
 use Rattle.yq_core.specs.Scalars.{IsScalarAt}
@@ -46,16 +46,16 @@ pub white_no_feed : (p t : List ℕ) → NoneIn no_white p t → NoFeed p
 white_no_feed [] t h = tt
 white_no_feed (b ∷ p) t h = (white_byte b (not-false (is_white b) h.0), white_no_feed p t h.1)
 
-next_break : (s : Before) (b : ℕ) → at_line_start (next_gap_place s b) ≡ is_feed b
+next_break : (s : GapPlace) (b : ℕ) → at_line_start (next_gap_place s b) ≡ is_feed b
 next_break s b = search rules
 
-goes_no_marker : (s : Before) (b : ℕ) (t : List ℕ) → goes s b t ≡ true → at_line_start s ≡ true → is_marker (b ∷ t) ≡ false
+goes_no_marker : (s : GapPlace) (b : ℕ) (t : List ℕ) → goes s b t ≡ true → at_line_start s ≡ true → is_marker (b ∷ t) ≡ false
 goes_no_marker s b t h1 h2 = search (rules, false≢true, ⊎_elim, space_no_marker, eqb-true, no_marker_byte, or_cases)
 
-gap_ends : (s : Before) (t rest : List ℕ) → (at_line_start s && is_marker t) ≡ false → Upto false t rest → Upto (at_line_start s) t rest
+gap_ends : (s : GapPlace) (t rest : List ℕ) → (at_line_start s && is_marker t) ≡ false → Upto false t rest → Upto (at_line_start s) t rest
 gap_ends s t rest h1 h2 = search (rules, upto_line)
 
-gap_goes : (s : Before) (p t rest : List ℕ) → AllGo s p t → (at_line_start (gap_place_after s p) && is_marker t) ≡ false → Upto false t rest → Upto (at_line_start s) (p ++ t) rest
+gap_goes : (s : GapPlace) (p t rest : List ℕ) → AllGo s p t → (at_line_start (gap_place_after s p) && is_marker t) ≡ false → Upto false t rest → Upto (at_line_start s) (p ++ t) rest
 gap_goes s [] t rest h u k = gap_ends s t rest u k
 gap_goes s (b ∷ p) t rest h u k = upto_more (at_line_start s) b (p ++ t) rest (goes_no_marker s b (p ++ t) h.0) (subst (λ (x : Bool). Upto x (p ++ t) rest) (next_break s b) (gap_goes (next_gap_place s b) p t rest h.1 u k))
 

@@ -25,7 +25,7 @@ use Rattle.yq_row_table.proofs.KeptLaws.{texts_joined}
 use Rattle.yq_rows.specs.Following.{without_line}
 use Rattle.yq_rows.specs.Reading.{ArePlacesRead, IsRead, IsUnread, marked_as, read_part, settled_ends, unread_end, without_marker}
 use Rattle.yq_rows.specs.Sides.{text_length}
-use Rattle.yq_rows.specs.declared.session_reading.Come.{Come}
+use Rattle.yq_rows.specs.declared.session_reading.NewRows.{NewRows}
 use Rattle.yq_rows.specs.declared.touched.Touched.{Touched}
 use Rattle.yq_rows.proofs.CountLaws.{ends_joined}
 use Rattle.yq_rows.proofs.ExchangeLaws.{alone_are, texts_first, texts_second}
@@ -124,7 +124,7 @@ part_short region None = omega arith
 part_short region (Some e) = omega (arith, length-take (length region - e.marker) region)
 
 -- the places that come of it
-pub comes : (region text : List ℕ) (x : Touched) (u : Option EndPlace) (p : Places) (s : RowsView) (ends : List EndPlace) (come : Come) (h : IsRead region x) → (k : Parted text h.written u x.more) → IsPlaced p s → s ≡ view_of_items (region_items k.items k.back) →
+pub comes : (region text : List ℕ) (x : Touched) (u : Option EndPlace) (p : Places) (s : RowsView) (ends : List EndPlace) (come : NewRows) (h : IsRead region x) → (k : Parted text h.written u x.more) → IsPlaced p s → s ≡ view_of_items (region_items k.items k.back) →
     ends ≡ settled_ends p.ends.items u x.more → come.places.front.items ≡ p.front.items → come.places.behind.items ≡ p.behind.items → come.places.ends.items ≡ ends → come.read ≡ length text → come.len ≡ length region → text ≡ without_marker region u → ArePlacesRead h.written come
 comes region text x u p s ends come h k placed shows ends_are front behind own read long part =
     let at = places_are p s (region_items k.items k.back) placed shows in

@@ -11,7 +11,7 @@ use Rattle.yq_rows.specs.Following.{exchanged, read_text}
 use Rattle.yq_rows.specs.Reading.{ArePlacesRead, IsRead, AreEdges, read_part, region_text}
 use Rattle.yq_rows.specs.Sides.{AreAt, origin, side_of, text_length}
 use Rattle.yq_rows.specs.declared.kept.Kept.{Kept}
-use Rattle.yq_rows.specs.declared.session_reading.Come.{Come}
+use Rattle.yq_rows.specs.declared.session_reading.NewRows.{NewRows}
 use Rattle.yq_rows.specs.declared.sides.Side.{Side}
 use Rattle.yq_rows.specs.declared.touched.Touched.{Touched}
 
@@ -24,7 +24,7 @@ abbrev pub IsMovable : Side → Side → EndPlace → Type 0
 IsMovable from to e = ((e.rows - from.rows) + to.rows < 2 ^ 64) × ((e.start - from.bytes) + to.bytes < 2 ^ 32)
 
 -- Rows and ends of parts of items between others give way to those of items that were read (own).
-pub record GivesWay (p : Places) (x : Touched) (come : Come) : Type 0 where
+pub record GivesWay (p : Places) (x : Touched) (come : NewRows) : Type 0 where
   pub before : List Item
   pub touched : List Item
   pub written : List Item
@@ -63,5 +63,5 @@ abbrev pub joined_ends : Side → Side → Side → List EndPlace → List EndPl
 joined_ends front old new ends found = take front.ends ends ++ (map (moved_from origin front) found ++ map (moved_from old new) (drop old.ends ends))
 
 -- rows and ends of parts are kept where they stand once those that were read have the place of the touched ones (own)
-abbrev pub RowsExchanged : Places → Touched → Come → Places → Type 0
+abbrev pub RowsExchanged : Places → Touched → NewRows → Places → Type 0
 RowsExchanged p x come new = (h : GivesWay p x come) → ArePlaced new (h.before ++ h.written) h.behind

@@ -4,14 +4,14 @@ use Rattle.yq_core.specs.Answers.{◌>>=◌}
 use Rattle.yq_core.specs.Text.{is_empty}
 use Rattle.yq_core.specs.Places.{Placed, placed, CoreNode, nothing, name, text, sequence, mapping}
 use Rattle.yq_core.specs.PlacedReading.{placed_entry, placed_item}
-use Rattle.yq_rows.specs.declared.measuring.NodeKind.{NodeKind}
-use Rattle.yq_rows.specs.declared.measuring.NodeKind.TheVariants as kinds
+use Rattle.yq_rows.specs.declared.measuring.MeasuredKind.{MeasuredKind}
+use Rattle.yq_rows.specs.declared.measuring.MeasuredKind.TheVariants as kinds
 use Rattle.yq_rows.specs.declared.measuring.Measured.{Measured}
 use Rattle.yq_core.specs.declared.style.Style.{Style}
 use Rattle.yq_core.specs.declared.style.Style.TheVariants as styles
 
 -- the kind of a scalar of this style (own)
-abbrev pub kind_of_style : Style → NodeKind
+abbrev pub kind_of_style : Style → MeasuredKind
 kind_of_style styles.Plain = kinds.Plain
 kind_of_style styles.Single = kinds.Quoted
 kind_of_style styles.Double = kinds.Quoted
@@ -19,7 +19,7 @@ kind_of_style styles.Literal = kinds.Quoted
 kind_of_style styles.Folded = kinds.Quoted
 
 -- the kind of what a node is (own)
-abbrev pub kind_in : CoreNode → NodeKind
+abbrev pub kind_in : CoreNode → MeasuredKind
 kind_in nothing = kinds.Nothing
 kind_in (name n) = kinds.Alias
 kind_in (text s p) = kind_of_style p.style
@@ -32,15 +32,15 @@ is_anchor None = false
 is_anchor (Some a) = true
 
 -- whether a node has an anchor, and its kind (own)
-abbrev pub node_measure : Placed → Bool × NodeKind
+abbrev pub node_measure : Placed → Bool × MeasuredKind
 node_measure (placed a s c e f) = (is_anchor a, kind_in f)
 
 -- the same of the node that was read, and what follows (own)
-abbrev pub measured : Option (Placed × List ℕ) → Option ((Bool × NodeKind) × List ℕ)
+abbrev pub measured : Option (Placed × List ℕ) → Option ((Bool × MeasuredKind) × List ℕ)
 measured o = o >>= λ x. Some (node_measure x.0, x.1)
 
 -- the same of the code (own)
-abbrev pub measured_view : Measured → (Bool × NodeKind) × List ℕ
+abbrev pub measured_view : Measured → (Bool × MeasuredKind) × List ℕ
 measured_view m = ((m.anchored, m.kind), m.rest.now)
 
 -- what follows what was read (own)
@@ -48,7 +48,7 @@ abbrev pub past_node : {A : Type 0} → Option (A × List ℕ) → Option (List 
 past_node o = o >>= λ x. Some x.1
 
 -- nothing, by its kind (own)
-abbrev pub is_nothing : NodeKind → Bool
+abbrev pub is_nothing : MeasuredKind → Bool
 is_nothing kinds.Nothing = true
 is_nothing kinds.Alias = false
 is_nothing kinds.Plain = false
@@ -56,7 +56,7 @@ is_nothing kinds.Quoted = false
 is_nothing kinds.Collection = false
 
 -- an alias, by its kind (own)
-abbrev pub is_alias : NodeKind → Bool
+abbrev pub is_alias : MeasuredKind → Bool
 is_alias kinds.Nothing = false
 is_alias kinds.Alias = true
 is_alias kinds.Plain = false
@@ -64,11 +64,11 @@ is_alias kinds.Quoted = false
 is_alias kinds.Collection = false
 
 -- nothing, not even an anchor (own)
-abbrev pub is_no_node : Bool × NodeKind → Bool
+abbrev pub is_no_node : Bool × MeasuredKind → Bool
 is_no_node m = not m.0 && is_nothing m.1
 
 -- a node may stand behind an anchor and this gap (own)
-abbrev pub node_may_follow : List ℕ → Bool × NodeKind → Bool
+abbrev pub node_may_follow : List ℕ → Bool × MeasuredKind → Bool
 node_may_follow gap m = (is_no_node m || not (is_empty gap)) && (not m.0 && not (is_alias m.1))
 
 -- the byte that ends the entries of a mapping, or the items of a sequence (own)

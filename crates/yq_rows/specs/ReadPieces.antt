@@ -1,13 +1,13 @@
 -- What the readers of rows give, as pieces of rows (own; a reader may skip it).
 use Rattle.std.specs.Prelude.{◌≡◌, ℕ, Bool, true, false, List, ◌++◌, Some}
-use Rattle.yq_rows.specs.declared.measuring.NodeKind.{NodeKind}
-use Rattle.yq_rows.specs.declared.measuring.NodeKind.TheVariants as kinds
+use Rattle.yq_rows.specs.declared.measuring.MeasuredKind.{MeasuredKind}
+use Rattle.yq_rows.specs.declared.measuring.MeasuredKind.TheVariants as kinds
 use Rattle.yq_row_table.specs.Grammar.{Limit}
 use Rattle.yq_row_table.specs.Rows.{RowMark, Bare, Dash, Key}
 use Rattle.yq_row_table.specs.View.{Slices}
 use Rattle.yq_rows.specs.declared.content.Filling.{Filling}
-use Rattle.yq_rows.specs.declared.marks.Mark.{Mark as Sign}
-use Rattle.yq_rows.specs.declared.marks.Mark.TheVariants as signs
+use Rattle.yq_rows.specs.declared.marks.RowMark.{RowMark as Sign}
+use Rattle.yq_rows.specs.declared.marks.RowMark.TheVariants as signs
 use Rattle.yq_rows.specs.declared.marks.Begin.{Begin}
 use Rattle.yq_row_table.specs.Slicing.{Begun, Filled, row_of, row_sliced}
 use Rattle.yq_rows.specs.declared.limit.Limit as asked
@@ -52,7 +52,7 @@ pub record IsSliced (text gap : List ℕ) (column : ℕ) (b : Begin) (f : Fillin
   pub read : row_sliced limit gap behind ≡ Some (row_of gap column (begin_view b) (filling_view f))
 
 -- a plain scalar, by its kind (own)
-abbrev pub is_plain_kind : NodeKind → Bool
+abbrev pub is_plain_kind : MeasuredKind → Bool
 is_plain_kind kinds.Nothing = false
 is_plain_kind kinds.Alias = false
 is_plain_kind kinds.Plain = true

@@ -7,7 +7,7 @@ use Rattle.yq_row_table.specs.Meter.{begins_line}
 use Rattle.yq_row_table.specs.Regions.{IsReadAlone, ended, no_items}
 use Rattle.yq_row_table.specs.declared.ends.EndPlace.{EndPlace}
 use Rattle.yq_rows.specs.declared.kept.Kept.{Kept}
-use Rattle.yq_rows.specs.declared.session_reading.Come.{Come}
+use Rattle.yq_rows.specs.declared.session_reading.NewRows.{NewRows}
 use Rattle.yq_rows.specs.declared.touched.Touched.{Touched}
 
 -- the text of what comes in the place of what a change touches: what stays of that in front, what comes, and what stays behind (own)
@@ -66,7 +66,7 @@ pub record IsRead (region : List ℕ) (x : Touched) : Type 0 where
   pub small : length region < 2 ^ 32
 
 -- These are the places of the items whose text a region is (own).
-pub record ArePlacesRead (written : List Item) (come : Come) : Type 0 where
+pub record ArePlacesRead (written : List Item) (come : NewRows) : Type 0 where
   pub rows : placed_rows come.read come.places ≡ near 0 written
   pub ends : come.places.ends.items ≡ ends_near 0 0 written
   pub long : come.len ≡ length (items_text written [])
@@ -74,5 +74,5 @@ pub record ArePlacesRead (written : List Item) (come : Come) : Type 0 where
   pub texts : TextsIn written
 
 -- the places that were read are those (own)
-abbrev pub Comes : List ℕ → Touched → Come → Type 0
+abbrev pub Comes : List ℕ → Touched → NewRows → Type 0
 Comes region x come = (h : IsRead region x) → ArePlacesRead h.written come

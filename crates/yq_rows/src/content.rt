@@ -14,8 +14,8 @@ ghost use Rattle.yq_row_table.specs.Reading as spec;
 
 use crate::fault::{block_fault, fault};
 use crate::gap::is_hash;
-use crate::marks::Mark;
-use crate::measuring::{Measured, NodeKind, measure_node};
+use crate::marks::RowMark;
+use crate::measuring::{Measured, MeasuredKind, measure_node};
 use crate::naming::{no_content, no_further_line, no_tail};
 use crate::words::{begins_word, read_front};
 use yq_core::lines::split_line;
@@ -144,14 +144,14 @@ fn read_block_content<'t>(
 fn is_plain(node: Measured<'_>) -> bool
     ensures { result ≡ is_plain_kind node.entry.kind }
 {
-    matches!(node.kind, NodeKind::Plain)
+    matches!(node.kind, MeasuredKind::Plain)
 }
 
 /// Whether the node is nothing, perhaps behind an anchor.
 fn is_nothing(node: Measured<'_>) -> bool
     ensures { result ≡ measured.is_nothing node.entry.kind }
 {
-    matches!(node.kind, NodeKind::Nothing)
+    matches!(node.kind, MeasuredKind::Nothing)
 }
 
 /// The white space between an anchor and its node, and what follows it; before nothing stands none.
@@ -175,7 +175,7 @@ fn may_be_alone(space: &str, nothing: bool) -> bool
 /// A node that an anchor, an alias or a flow collection begins, behind white space, and its tail.
 fn read_inline_content<'t>(
     whole: &str,
-    mark: Mark<'t>,
+    mark: RowMark<'t>,
     parent: i64,
     space: &'t str,
     text: &'t str,
@@ -216,7 +216,7 @@ fn read_inline_content<'t>(
 /// no further line of it, or else its own.
 fn scalar_fault(
     whole: &str,
-    mark: Mark<'_>,
+    mark: RowMark<'_>,
     spaces: Option<usize>,
     space: &str,
     text: &str,
@@ -235,7 +235,7 @@ fn scalar_fault(
 #[inline(always)]
 fn read_scalar_content<'t>(
     whole: &str,
-    mark: Mark<'t>,
+    mark: RowMark<'t>,
     parent: i64,
     space: &'t str,
     text: &'t str,
@@ -269,7 +269,7 @@ fn read_scalar_content<'t>(
 /// What stands behind a mark, below a parent of this indentation.
 pub(crate) fn read_content<'t>(
     whole: &str,
-    mark: Mark<'t>,
+    mark: RowMark<'t>,
     parent: i64,
     text: &'t str,
 ) -> Result<Filling<'t>, ReadError>

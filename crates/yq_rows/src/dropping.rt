@@ -1,7 +1,7 @@
 //! Rows that go from the end of a text, behind one that stays as it was read.
 ghost use Rattle.std.specs.Prelude.{◌≡◌, ◌≤◌, ◌<◌, ◌+◌, ◌-◌, ◌^◌, IfSome, IsTrue, None, [], drop, false, length, slice_set, take};
 ghost use Rattle.std.specs.Str.{IsCharBoundary};
-ghost use Rattle.yq_text.specs.Split.{halves_joined};
+ghost use Rattle.yq_text.specs.TextGapBuffer.{buffer_text};
 ghost use Rattle.yq_row_table.specs.Meter.{count_after, line_count};
 ghost use Rattle.yq_rows.specs.Dropping.{DropsLast};
 
@@ -10,7 +10,7 @@ use crate::split::begin_of;
 use crate::touched::Touched;
 use crate::{Meter, count_lines};
 use yq_row_table::{EndPlace, Places};
-use yq_text::SplitText;
+use yq_text::TextGapBuffer;
 
 /// Whether more than so many rows stand before the end of a text, and neither a gap nor a marker.
 fn is_bare(end: EndPlace, rows: usize) -> bool
@@ -76,12 +76,12 @@ pub(crate) fn drop_rows(places: &mut Places, end: EndPlace, at: usize)
 }
 
 /// The bytes from a place on go, and the lines of those between another place and it are counted.
-pub(crate) fn drop_text(text: &mut SplitText, from: usize, at: usize, meter: &mut Meter)
-    requires begin { IsCharBoundary (take at (halves_joined text.old)) from }
-    requires end { IsCharBoundary (halves_joined text.old) at }
-    ensures text { halves_joined text.new ≡ take at (halves_joined text.old) }
+pub(crate) fn drop_text(text: &mut TextGapBuffer, from: usize, at: usize, meter: &mut Meter)
+    requires begin { IsCharBoundary (take at (buffer_text text.old)) from }
+    requires end { IsCharBoundary (buffer_text text.old) at }
+    ensures text { buffer_text text.new ≡ take at (buffer_text text.old) }
     ensures counted { meter.new ≡
-        count_after (line_count (drop from (take at (halves_joined text.old)))) meter.old }
+        count_after (line_count (drop from (take at (buffer_text text.old)))) meter.old }
 {
     text.move_split(at);
     let halves = text.halves();

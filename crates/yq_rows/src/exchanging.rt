@@ -7,7 +7,7 @@ ghost use Rattle.yq_rows.specs.Exchanging.{RowsExchanged, GivesWay, IsMovable, S
 ghost use Rattle.yq_rows.specs.Sides.{origin};
 
 use crate::Side;
-use crate::session_reading::Come;
+use crate::session_reading::NewRows;
 use crate::touched::Touched;
 use std::alloc::{AllocError, Global};
 use yq_row_table::{EndPlace, Offsets, Places};
@@ -112,7 +112,7 @@ pub(crate) fn exchange(
     alloc: Global,
     places: &mut Places,
     touched: Touched,
-    come: &Come,
+    come: &NewRows,
 ) -> Result<(), AllocError>
     requires { GivesWay places.old touched come.now }
     ensures ok { OnOk result (RowsExchanged places.old touched come.now places.new) }

@@ -1,7 +1,7 @@
 //! A text and the places of its rows that follow a change.
 ghost use Rattle.std.specs.Prelude.{◌≡◌, ◌≤◌, ◌+◌, ◌-◌, OnOk, length, is_ok, if◌then◌else◌};
 ghost use Rattle.std.specs.Str.{IsCharBoundary};
-ghost use Rattle.yq_text.specs.Split.{halves_joined};
+ghost use Rattle.yq_text.specs.TextGapBuffer.{buffer_text};
 ghost use Rattle.yq_rows.specs.Following.{ArePlacesOf, CountsWritten, Follows, exchanged};
 
 use crate::Meter;
@@ -13,15 +13,16 @@ use crate::split::move_split;
 use crate::touched::find_touched;
 use std::alloc::{AllocError, Global};
 use yq_row_table::Places;
-use yq_text::SplitText;
+use yq_text::TextGapBuffer;
 
 /// Writes what comes into a text in the place of the bytes that aren't kept; there is room for it.
-fn write(text: &mut SplitText, kept: Kept, new: &str)
-    requires within { kept.front + kept.back ≤ length (halves_joined text.old) }
-    requires front { IsCharBoundary (halves_joined text.old) kept.front }
-    requires back { IsCharBoundary (halves_joined text.old) (length (halves_joined text.old) - kept.back) }
+fn write(text: &mut TextGapBuffer, kept: Kept, new: &str)
+    requires within { kept.front + kept.back ≤ length (buffer_text text.old) }
+    requires front { IsCharBoundary (buffer_text text.old) kept.front }
+    requires back { IsCharBoundary (buffer_text text.old)
+        (length (buffer_text text.old) - kept.back) }
     requires room { length new.now ≤ text.old.room }
-    ensures { halves_joined text.new ≡ exchanged kept (halves_joined text.old) new.now }
+    ensures { buffer_text text.new ≡ exchanged kept (buffer_text text.old) new.now }
 {
     let gone = text.len() - kept.back - kept.front;
     text.move_split(kept.front);
@@ -38,18 +39,19 @@ fn write(text: &mut SplitText, kept: Kept, new: &str)
 /// Want of memory alone. Text and places are then those of the old text.
 pub fn follow(
     alloc: Global,
-    text: &mut SplitText,
+    text: &mut TextGapBuffer,
     places: &mut Places,
     kept: Kept,
     new: &str,
     meter: &mut Meter,
 ) -> Result<(), AllocError>
-    requires { Follows (halves_joined text.old) places.old kept new.now }
-    ensures text { halves_joined text.new ≡
-        (if is_ok result then exchanged kept (halves_joined text.old) new.now else halves_joined text.old) }
-    ensures placed { ArePlacesOf (halves_joined text.new) places.new }
-    ensures counted { OnOk result (CountsWritten (halves_joined text.old)
-        (halves_joined text.new) kept meter.old meter.new) }
+    requires { Follows (buffer_text text.old) places.old kept new.now }
+    ensures text { buffer_text text.new ≡
+        (if is_ok result then exchanged kept (buffer_text text.old) new.now
+        else buffer_text text.old) }
+    ensures placed { ArePlacesOf (buffer_text text.new) places.new }
+    ensures counted { OnOk result (CountsWritten (buffer_text text.old)
+        (buffer_text text.new) kept meter.old meter.new) }
 {
     move_split(text, places, kept.front)?;
     let touched = find_touched(places, text.len(), kept);

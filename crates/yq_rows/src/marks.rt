@@ -20,7 +20,7 @@ use yq_row_table::{KEY_LIMIT, before_column};
 
 /// What a row begins with behind the dashes before it.
 #[derive(Clone, Copy)]
-pub enum Mark<'t> {
+pub enum RowMark<'t> {
     /// Neither a dash nor a key.
     Bare,
     /// A dash.
@@ -36,39 +36,39 @@ pub struct Begin<'t> {
     pub dashes: &'t str,
     /// How many columns stand before the mark.
     pub columns: usize,
-    pub mark: Mark<'t>,
+    pub mark: RowMark<'t>,
     /// What follows the mark.
     pub rest: &'t str,
 }
 
 /// Whether the mark is a dash or a key.
-pub(crate) fn is_entry(mark: Mark<'_>) -> bool
+pub(crate) fn is_entry(mark: RowMark<'_>) -> bool
     ensures { result ≡ grammar.is_entry (mark_view mark.entry) }
 {
-    matches!(mark, Mark::Dash | Mark::Key(..))
+    matches!(mark, RowMark::Dash | RowMark::Key(..))
 }
 
 /// The key of a mark, and what stands behind it up to its `:`; nothing where it has none.
 #[inline]
-pub(crate) fn key_of<'t>(mark: Mark<'t>) -> (&'t str, &'t str)
+pub(crate) fn key_of<'t>(mark: RowMark<'t>) -> (&'t str, &'t str)
     ensures key { result.0.now ≡ view.key_of_mark (mark_view mark.entry) }
     ensures colon { result.1.now ≡ view.colon_of (mark_view mark.entry) }
 {
     match mark {
-        Mark::Bare | Mark::Dash => ("", ""),
-        Mark::Key(key, colon) => (key, colon),
+        RowMark::Bare | RowMark::Dash => ("", ""),
+        RowMark::Key(key, colon) => (key, colon),
     }
 }
 
 /// The parent indentation of what stands behind a mark in a column: that column, or, without a key
 /// or dash, one less.
-pub(crate) fn parent_of(mark: Mark<'_>, column: usize) -> i64
+pub(crate) fn parent_of(mark: RowMark<'_>, column: usize) -> i64
     requires { column ≤ 4294967295 }
     ensures { result ≡ rows.parent_of (mark_view mark.entry) column }
 {
     match mark {
-        Mark::Bare => before_column(column),
-        Mark::Dash | Mark::Key(..) => column as i64,
+        RowMark::Bare => before_column(column),
+        RowMark::Dash | RowMark::Key(..) => column as i64,
     }
 }
 
@@ -180,12 +180,12 @@ fn key_behind<'t>(spaces: &str, next: &'t str) -> Option<(&'t str, &'t str, &'t 
 }
 
 /// The mark in front that is no dash, and what follows.
-fn read_mark(text: &str) -> (Mark<'_>, &str)
+fn read_mark(text: &str) -> (RowMark<'_>, &str)
     ensures { (mark_view result.0, result.1.now) ≡ spec.mark_at text.now }
 {
     match find_key(text) {
-        Some((key, colon, rest)) => (Mark::Key(key, colon), rest),
-        None => (Mark::Bare, text),
+        Some((key, colon, rest)) => (RowMark::Key(key, colon), rest),
+        None => (RowMark::Bare, text),
     }
 }
 
@@ -204,13 +204,13 @@ pub(crate) fn read_begin(text: &str) -> Begin<'_>
                 Some((key, colon, after)) => Begin {
                     dashes: text.split_at(text.len() - next.len()).0,
                     columns: text.len() - next.len(),
-                    mark: Mark::Key(key, colon),
+                    mark: RowMark::Key(key, colon),
                     rest: after,
                 },
                 None => Begin {
                     dashes: text.split_at(text.len() - behind.len()).0,
                     columns: text.len() - rest.len(),
-                    mark: Mark::Dash,
+                    mark: RowMark::Dash,
                     rest: behind,
                 },
             };

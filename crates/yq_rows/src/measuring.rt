@@ -16,7 +16,7 @@ use yq_inline::read_gap;
 
 /// What a node is, behind its anchor.
 #[derive(Clone, Copy)]
-pub enum NodeKind {
+pub enum MeasuredKind {
     /// Nothing.
     Nothing,
     /// An alias.
@@ -34,18 +34,18 @@ pub enum NodeKind {
 pub struct Measured<'t> {
     /// Whether it has an anchor.
     pub anchored: bool,
-    pub kind: NodeKind,
+    pub kind: MeasuredKind,
     /// What follows it.
     pub rest: &'t str,
 }
 
 /// The kind of a scalar as it is written.
-fn kind_of(piece: &str) -> NodeKind
+fn kind_of(piece: &str) -> MeasuredKind
     ensures { result ≡ spec.kind_of_style (style_at piece.now) }
 {
     match piece.as_bytes() {
-        [b'\'' | b'"', ..] => NodeKind::Quoted,
-        _ => NodeKind::Plain,
+        [b'\'' | b'"', ..] => MeasuredKind::Quoted,
+        _ => MeasuredKind::Plain,
     }
 }
 
@@ -53,18 +53,20 @@ fn kind_of(piece: &str) -> NodeKind
 fn is_bare(node: Measured<'_>) -> bool
     ensures { result ≡ spec.is_no_node (node.entry.anchored, node.entry.kind) }
 {
-    !node.anchored && matches!(node.kind, NodeKind::Nothing)
+    !node.anchored && matches!(node.kind, MeasuredKind::Nothing)
 }
 
 /// Whether the node may stand behind an anchor and this gap.
 fn may_follow(gap: &str, node: Measured<'_>) -> bool
     ensures { result ≡ spec.node_may_follow gap.now (node.entry.anchored, node.entry.kind) }
 {
-    (is_bare(node) || !gap.is_empty()) && !node.anchored && !matches!(node.kind, NodeKind::Alias)
+    (is_bare(node) || !gap.is_empty())
+        && !node.anchored
+        && !matches!(node.kind, MeasuredKind::Alias)
 }
 
 /// A node without an anchor.
-fn unanchored(kind: NodeKind, rest: &str) -> Measured<'_>
+fn unanchored(kind: MeasuredKind, rest: &str) -> Measured<'_>
     ensures { measured_view result ≡ ((false, kind), rest.now) }
 {
     Measured {
@@ -122,21 +124,21 @@ fn measure_content<'t>(
 {
     if let Some(behind) = strip(b'*', text) {
         let (_, rest) = read_name(whole, behind)?;
-        return Ok(unanchored(NodeKind::Alias, rest));
+        return Ok(unanchored(MeasuredKind::Alias, rest));
     }
     if let Some(behind) = strip(b'[', text) {
         let rest = measure_collection(whole, depth, false, behind)?;
-        return Ok(unanchored(NodeKind::Collection, rest));
+        return Ok(unanchored(MeasuredKind::Collection, rest));
     }
     if let Some(behind) = strip(b'{', text) {
         let rest = measure_collection(whole, depth, true, behind)?;
-        return Ok(unanchored(NodeKind::Collection, rest));
+        return Ok(unanchored(MeasuredKind::Collection, rest));
     }
     if begins_content(flow, text.as_bytes()) {
         let (piece, rest) = read_scalar(flow, spaces, whole, text)?;
         return Ok(unanchored(kind_of(piece), rest));
     }
-    Ok(unanchored(NodeKind::Nothing, text))
+    Ok(unanchored(MeasuredKind::Nothing, text))
 }
 
 /// What follows a mapping, or else a sequence, of which the `{` or `[` stood before the text.

@@ -2,7 +2,7 @@
 ghost use Rattle.std.specs.Prelude.{◌≢◌, IfSome};
 ghost use Rattle.yq_core.specs.declared.fault.FaultKind.TheVariants.{NotUtf8};
 
-use crate::marks::{Mark, begins_entry, is_colon};
+use crate::marks::{RowMark, begins_entry, is_colon};
 use yq_core::FaultKind;
 use yq_core::text::{past_white, separates, split_spaces};
 
@@ -12,10 +12,10 @@ fn holds_tab(space: &str) -> bool {
 }
 
 /// Why nothing can be read behind a mark and this white space, below a parent of this indentation.
-pub(crate) fn no_content(mark: Mark<'_>, parent: i64, space: &str, rest: &str) -> FaultKind
+pub(crate) fn no_content(mark: RowMark<'_>, parent: i64, space: &str, rest: &str) -> FaultKind
     ensures { result ≢ NotUtf8 }
 {
-    let is_bare = matches!(mark, Mark::Bare);
+    let is_bare = matches!(mark, RowMark::Bare);
     if holds_tab(space) && (is_bare || begins_entry(rest)) {
         return FaultKind::TabIndent;
     }
@@ -30,7 +30,7 @@ pub(crate) fn no_content(mark: Mark<'_>, parent: i64, space: &str, rest: &str) -
 
 /// Why the line can't end behind a mark, white space, and a node whose content is this head.
 pub(crate) fn no_tail(
-    mark: Mark<'_>,
+    mark: RowMark<'_>,
     space: &str,
     anchor: &str,
     head: &str,
@@ -42,8 +42,8 @@ pub(crate) fn no_tail(
     if head.is_empty() && matches!(next, [b'!', ..]) {
         return FaultKind::Tag;
     }
-    let is_key = is_colon(next) && !matches!(mark, Mark::Key(..));
-    if holds_tab(space) && (is_key || matches!(mark, Mark::Bare)) {
+    let is_key = is_colon(next) && !matches!(mark, RowMark::Key(..));
+    if holds_tab(space) && (is_key || matches!(mark, RowMark::Bare)) {
         FaultKind::TabIndent
     } else if is_key && !anchor.is_empty() {
         FaultKind::AnchorOnKey
@@ -67,7 +67,7 @@ fn further_line(head: &str) -> Option<&str> {
 /// Why the last line of a head of several lines, of which a further one begins with so many spaces at
 /// least, is none: it is an entry that is indented too far.
 pub(crate) fn no_further_line(
-    mark: Mark<'_>,
+    mark: RowMark<'_>,
     spaces: Option<usize>,
     head: &str,
     rest: &str,
@@ -75,12 +75,12 @@ pub(crate) fn no_further_line(
     ensures { IfSome result (λ kind. kind ≢ NotUtf8) }
 {
     let (indent, key) = split_spaces(further_line(head)?);
-    if matches!(mark, Mark::Bare) || !is_colon(past_white(rest.as_bytes())) {
+    if matches!(mark, RowMark::Bare) || !is_colon(past_white(rest.as_bytes())) {
         return None;
     }
     Some(if matches!(key.as_bytes(), [b'\t', ..]) {
         FaultKind::TabIndent
-    } else if matches!(mark, Mark::Dash) || spaces == Some(indent.len()) {
+    } else if matches!(mark, RowMark::Dash) || spaces == Some(indent.len()) {
         FaultKind::BadIndent
     } else {
         FaultKind::BadScalar

@@ -1,7 +1,7 @@
 //! What is read where rows and ends of parts are exchanged.
 ghost use Rattle.std.specs.Prelude.{◌≡◌, ◌-◌, ◌≤◌, ◌<◌, ◌^◌, IfOk, IfSome, OnOk, length, take, drop, string_bytes};
 ghost use Rattle.std.specs.Str.{IsCharBoundary};
-ghost use Rattle.yq_text.specs.Halves.{halves_text};
+ghost use Rattle.yq_text.specs.Halves.{whole};
 ghost use Rattle.yq_row_table.specs.Meter.{count_after, line_count};
 ghost use Rattle.yq_rows.specs.Reading.{Comes};
 ghost use Rattle.yq_rows.specs.Reading as spec;
@@ -16,7 +16,7 @@ use yq_text::Halves;
 
 /// Rows and ends of parts that come in the place of others.
 #[derive(Drop)]
-pub(crate) struct Come {
+pub(crate) struct NewRows {
     pub places: Places,
     /// How many bytes were read.
     pub read: usize,
@@ -26,9 +26,9 @@ pub(crate) struct Come {
 
 /// What stands between two places of a text.
 fn between<'t>(text: Halves<'t>, from: usize, to: usize) -> Halves<'t>
-    requires end { IsCharBoundary (halves_text text) to }
-    requires begin { IsCharBoundary (take to (halves_text text)) from }
-    ensures { halves_text result ≡ drop from (take to (halves_text text.entry)) }
+    requires end { IsCharBoundary (whole text) to }
+    requires begin { IsCharBoundary (take to (whole text)) from }
+    ensures { whole result ≡ drop from (take to (whole text.entry)) }
 {
     text.split_at(to).0.split_at(from).1
 }
@@ -41,10 +41,10 @@ pub(crate) fn region(
     kept: Kept,
     new: &str,
 ) -> Result<String, AllocError>
-    requires edges { spec.AreEdges (halves_text text) touched kept }
-    requires small { length (spec.region_text (halves_text text) touched kept new.now) < 2 ^ 32 }
+    requires edges { spec.AreEdges (whole text) touched kept }
+    requires small { length (spec.region_text (whole text) touched kept new.now) < 2 ^ 32 }
     ensures { IfOk result (λ s. string_bytes s ≡
-        spec.region_text (halves_text text.entry) touched kept new.now) }
+        spec.region_text (whole text.entry) touched kept new.now) }
 {
     let front = between(text, touched.front.bytes, kept.front);
     let back = between(
@@ -113,7 +113,7 @@ pub(crate) fn read(
     region: &str,
     touched: Touched,
     meter: &mut Meter,
-) -> Result<Come, AllocError>
+) -> Result<NewRows, AllocError>
     requires { spec.IsRead region.now touched }
     ensures come { IfOk result (λ x. Comes region.now touched x) }
     ensures counted { OnOk result (meter.new ≡
@@ -128,7 +128,7 @@ pub(crate) fn read(
         Err(ReadError::Fault(_)) => unreachable!(),
     };
     settle(&mut places.ends, unread, touched.more);
-    Ok(Come {
+    Ok(NewRows {
         places,
         read: text.len(),
         len: region.len(),

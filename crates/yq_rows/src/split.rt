@@ -1,13 +1,13 @@
 //! The split of the kept rows of a text, moved to a place in it.
 ghost use Rattle.std.specs.Prelude.{◌≡◌, ◌<◌, ◌≤◌, ◌^◌, OnOk, length, reverse};
 ghost use Rattle.std.specs.List.{All};
-ghost use Rattle.yq_text.specs.Split.{halves_joined};
+ghost use Rattle.yq_text.specs.TextGapBuffer.{buffer_text};
 ghost use Rattle.yq_rows.specs.Following.{IsPlacedIn};
 ghost use Rattle.yq_rows.specs.Sides.{IsSplitAt, LastBefore, FirstFrom, both_sides, first_byte};
 
 use std::alloc::AllocError;
 use yq_row_table::{Offsets, Places};
-use yq_text::SplitText;
+use yq_text::TextGapBuffer;
 
 /// Moves rows that begin at an offset or behind it to the other side of the split.
 fn to_behind(
@@ -93,10 +93,14 @@ pub(crate) fn begin_of(behind: &[Offsets], len: usize) -> usize
 ///
 /// # Errors
 /// Want of memory. The split is then somewhere between.
-pub(crate) fn move_split(text: &SplitText, places: &mut Places, at: usize) -> Result<(), AllocError>
-    requires { IsPlacedIn (halves_joined text.now) places.old }
-    ensures placed { IsPlacedIn (halves_joined text.now) places.new }
-    ensures ok { OnOk result (IsSplitAt at (length (halves_joined text.now)) places.new) }
+pub(crate) fn move_split(
+    text: &TextGapBuffer,
+    places: &mut Places,
+    at: usize,
+) -> Result<(), AllocError>
+    requires { IsPlacedIn (buffer_text text.now) places.old }
+    ensures placed { IsPlacedIn (buffer_text text.now) places.new }
+    ensures ok { OnOk result (IsSplitAt at (length (buffer_text text.now)) places.new) }
 {
     let len = text.len();
     let moved = move_rows(places, len, at);

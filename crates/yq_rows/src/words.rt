@@ -25,7 +25,8 @@ pub(crate) fn read_front<'t>(
     whole: &str,
     text: &'t str,
 ) -> Result<(&'t str, &'t str), ReadFault>
-    ensures read { ReadsAs (λ x. (x.0.now, x.1.now)) result (inline.read_scalar false spaces text.now) }
+    ensures read { ReadsAs (λ x. (x.0.now, x.1.now)) result
+        (inline.read_scalar false spaces text.now) }
     ensures fault { IfErr result (λ f. f.kind ≢ NotUtf8) }
 {
     if begins_word(text.as_bytes()) {

@@ -27,7 +27,7 @@ quoted_kind text p h =
     ap (λ (q : Piece). kind q.style) h.1.piece
     ∙ cond_both (h.1.quote == 39) styles.Single styles.Double (λ (s : Style). kind s ≡ 1) (λ _. refl) (λ _. refl)
 
-style_kind : (s : BlockStyle) → kind (block.any_style s) ≡ 2
+style_kind : (s : BlockStyle) → kind (block.as_style s) ≡ 2
 style_kind block_styles.Literal = refl
 style_kind block_styles.Folded = refl
 

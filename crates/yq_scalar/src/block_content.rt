@@ -6,12 +6,12 @@ ghost use Rattle.yq_core.specs.Block.{IsBlockPiece, IsBlockScalar};
 ghost use Rattle.yq_core.specs.BlockContent as spec;
 ghost use Rattle.yq_core.specs.BlockReading as reading;
 ghost use Rattle.yq_core.specs.Text.{front, is_white, text_lines};
-ghost use Rattle.yq_core.specs.declared.block_types.Before.TheVariants.{Nothing};
+ghost use Rattle.yq_core.specs.declared.block_types.LineBefore.TheVariants.{Nothing};
 
 use std::alloc::{AllocError, Global};
 use yq_core::block_header::{BlockStyle, Chomping, split_indicators};
 use yq_core::block_lines::{TextIndent, detect_indent};
-use yq_core::{Before, Piece, Style, is_white, spaces_len, split_at_break, split_line};
+use yq_core::{LineBefore, Piece, Style, is_white, spaces_len, split_at_break, split_line};
 use yq_scalar_reader::push_breaks;
 
 /// The line without its indentation.
@@ -42,13 +42,18 @@ fn begins_white(text: &[u8]) -> bool
 }
 
 /// Adds what stands between a line and the one before it.
-fn push_joint(out: &mut String, before: Before, white: bool, empty: usize) -> Result<(), AllocError>
+fn push_joint(
+    out: &mut String,
+    before: LineBefore,
+    white: bool,
+    empty: usize,
+) -> Result<(), AllocError>
     ensures { OnOk result (string_bytes out.new ≡ string_bytes out.old ++
         spec.joint before white empty) }
 {
     match before {
-        Before::Nothing => push_breaks(out, empty),
-        Before::Text if !white => {
+        LineBefore::Nothing => push_breaks(out, empty),
+        LineBefore::Text if !white => {
             if empty == 0 {
                 out.push_str(" ")
             } else {
@@ -66,16 +71,16 @@ fn push_joint(out: &mut String, before: Before, white: bool, empty: usize) -> Re
 fn push_ending(
     out: &mut String,
     chomping: Chomping,
-    before: Before,
+    before: LineBefore,
     empty: usize,
 ) -> Result<(), AllocError>
     ensures { OnOk result (string_bytes out.new ≡ string_bytes out.old ++
         spec.chomped_end chomping before empty) }
 {
     match (chomping, before) {
-        (Chomping::Strip, _) | (Chomping::Clip, Before::Nothing) => Ok(()),
+        (Chomping::Strip, _) | (Chomping::Clip, LineBefore::Nothing) => Ok(()),
         (Chomping::Clip, _) => out.push_str("\n"),
-        (Chomping::Keep, Before::Nothing) => push_breaks(out, empty),
+        (Chomping::Keep, LineBefore::Nothing) => push_breaks(out, empty),
         (Chomping::Keep, _) => {
             out.push_str("\n")?;
             push_breaks(out, empty)
@@ -119,13 +124,13 @@ fn push_literal(
 }
 
 /// What a line of text is for the one behind it.
-fn kind_of(text: &[u8]) -> Before
+fn kind_of(text: &[u8]) -> LineBefore
     ensures { result ≡ spec.is_spaced_line text.now }
 {
     if begins_white(text) {
-        Before::Spaced
+        LineBefore::Spaced
     } else {
-        Before::Text
+        LineBefore::Text
     }
 }
 
@@ -139,7 +144,7 @@ fn push_folded(
     ensures { OnOk result (string_bytes out.new ≡ string_bytes out.old ++
         spec.folded chomping indent Nothing 0 (text_lines raw.now)) }
 {
-    let mut before = Before::Nothing;
+    let mut before = LineBefore::Nothing;
     let mut empty = 0usize;
     let mut rest = raw;
     'each: while !rest.is_empty() {
@@ -219,7 +224,8 @@ fn indent_of(digit: Option<u8>, columns: usize, raw: &[u8]) -> TextIndent
 /// break as an LF or folded, the breaks at the end as its header asks.
 pub(crate) fn block_content(alloc: Global, text: &str, piece: &Piece) -> Result<String, AllocError>
     requires { IsBlockScalar text.now piece.now }
-    ensures exact { IfOk result (λ s. string_bytes s ≡ reading.block_piece_content text.now piece.now) }
+    ensures exact { IfOk result (λ s. string_bytes s ≡
+        reading.block_piece_content text.now piece.now) }
     ensures found { (n : ℤ) (p : IsBlockPiece n piece.now.start text.now piece.now) →
         IfOk result (λ s. string_bytes s ≡ spec.block_content p.block) }
 {

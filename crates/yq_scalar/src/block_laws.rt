@@ -43,7 +43,8 @@ pub fn literal_spells()
 pub fn repaired()
     ensures stands { (least column : ℕ) (b : BlockText) (old gap rest : List ℕ) →
         IsBlock least b old → AreGap (text_lines gap) →
-        ((ends_with_break (text_lines gap) ≡ true) ⊎ (rest ≡ [])) → is_behind b.indent (text_lines rest) ≡ true →
+        ((ends_with_break (text_lines gap) ≡ true) ⊎ (rest ≡ [])) →
+        is_behind b.indent (text_lines rest) ≡ true →
         column < b.indent.columns →
         IsBlock least b (joined (repair (keeps b.chomping) b.indent.columns column
         (text_lines gap)) ++ rest) }

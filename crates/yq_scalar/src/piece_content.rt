@@ -22,7 +22,8 @@ pub fn content(alloc: Global, text: &str, piece: &Piece) -> Result<String, Alloc
     requires { spec.IsReadPiece text.now piece.now }
     ensures exact { IfOk result (λ s. string_bytes s ≡ spec.piece_content text.now piece.now) }
     ensures plain { (place : Place) (n : ℤ) (at : ℕ)
-        (h : IsPlainPiece place n at text.now piece.now) (ls : QuotedLines) → IsPlainLines ls h.scalar →
+        (h : IsPlainPiece place n at text.now piece.now) (ls : QuotedLines) →
+        IsPlainLines ls h.scalar →
         IfOk result (λ s. string_bytes s ≡ content_of ls) }
     ensures quoted { (at : ℕ) (h : IsQuotedPiece at text.now piece.now) →
         IfOk result (λ s. string_bytes s ≡ content_of h.ls) }

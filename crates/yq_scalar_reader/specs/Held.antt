@@ -7,10 +7,10 @@ use Rattle.yq_core.specs.Text.{is_feed, is_white}
 use Rattle.yq_core.specs.Writable.{is_single_char, is_literal_char}
 
 -- a character that stands there as it is (own)
-abbrev pub stands_for_itself : Holder → ℕ → Bool
-stands_for_itself holders.Plain c = is_plain_char c
-stands_for_itself holders.Single c = is_single_char c
-stands_for_itself holders.Literal c = is_literal_char c
+abbrev pub is_written_as_is : Holder → ℕ → Bool
+is_written_as_is holders.Plain c = is_plain_char c
+is_written_as_is holders.Single c = is_single_char c
+is_written_as_is holders.Literal c = is_literal_char c
 
 -- neither white space, an LF nor the end is in front (own)
 abbrev pub begins_literally : List ℕ → Bool

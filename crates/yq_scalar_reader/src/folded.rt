@@ -22,7 +22,7 @@ pub enum Folded<'t> {
 
 /// A run of bytes that stand for themselves, two single quotes, or an escape.
 #[derive(Clone, Copy)]
-pub struct Item<'t> {
+pub struct FoldedItem<'t> {
     pub folded: Folded<'t>,
     /// What follows it.
     pub rest: &'t str,
@@ -138,7 +138,7 @@ fn break_len(text: &[u8]) -> usize
 }
 
 /// The escape in front.
-fn fold_escape<'t>(text: &'t str) -> Item<'t>
+fn fold_escape<'t>(text: &'t str) -> FoldedItem<'t>
     requires { spec.is_slash 34 text.now ≡ true }
     ensures value { spec.content_on 34 0 spec.within [] text.now ≡
         folded_text result.folded ++ spec.content_behind 34 result.joined result.rest.now }
@@ -147,21 +147,21 @@ fn fold_escape<'t>(text: &'t str) -> Item<'t>
     let behind = text.split_at(1).1;
     if is_break(behind.as_bytes()) {
         let rest = behind.split_at(break_len(behind.as_bytes())).1;
-        return Item {
+        return FoldedItem {
             folded: Folded::Text(""),
             rest,
             joined: true,
         };
     }
     match escape(behind.as_bytes()) {
-        None => Item {
+        None => FoldedItem {
             folded: Folded::Text(""),
             rest: behind,
             joined: false,
         },
         Some((c, length)) => {
             let rest = behind.split_at(length).1;
-            Item {
+            FoldedItem {
                 folded: Folded::Char(c),
                 rest,
                 joined: false,
@@ -171,7 +171,7 @@ fn fold_escape<'t>(text: &'t str) -> Item<'t>
 }
 
 /// The item in front, where no white space or break is.
-pub fn fold_item<'t>(quote: u8, text: &'t str) -> Item<'t>
+pub fn fold_item<'t>(quote: u8, text: &'t str) -> FoldedItem<'t>
     requires { is_space text.now ≡ false }
     ensures value { spec.content_on quote 0 spec.within [] text.now ≡
         folded_text result.folded ++ spec.content_behind quote result.joined result.rest.now }
@@ -182,14 +182,14 @@ pub fn fold_item<'t>(quote: u8, text: &'t str) -> Item<'t>
         return fold_escape(text);
     }
     if is_pair(quote, text.as_bytes()) {
-        return Item {
+        return FoldedItem {
             folded: Folded::Text("'"),
             rest: text.split_at(2).1,
             joined: false,
         };
     }
     let (run, rest) = split_run(quote, text);
-    Item {
+    FoldedItem {
         folded: Folded::Text(run),
         rest,
         joined: false,

@@ -79,7 +79,8 @@ pub fn plain_content(alloc: Global, text: &str) -> Result<String, AllocError>
 pub fn quoted_content(alloc: Global, piece: &str) -> Result<String, AllocError>
     requires { IsQuotedText piece.now }
     ensures exact { IfOk result (λ s. string_bytes s ≡ spec.quoted_content piece.now) }
-    ensures found { (quote : ℕ) (ls : QuotedLines) (rest : List ℕ) → IsQuoted quote ls piece.now rest →
+    ensures found { (quote : ℕ) (ls : QuotedLines) (rest : List ℕ) →
+        IsQuoted quote ls piece.now rest →
         IfOk result (λ s. string_bytes s ≡ quoted_lines_content ls) }
 {
     let (quote, inner) = inside(piece);

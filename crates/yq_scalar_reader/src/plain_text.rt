@@ -2,7 +2,7 @@
 ghost use Rattle.std.specs.List.{list_all};
 ghost use Rattle.std.specs.Prelude.{◌≡◌};
 ghost use Rattle.std.specs.Str.{chars};
-ghost use Rattle.yq_scalar_reader.specs.Held.{stands_for_itself};
+ghost use Rattle.yq_scalar_reader.specs.Held.{is_written_as_is};
 ghost use Rattle.yq_core.specs.PlainText as spec;
 
 use crate::plain::{is_flow_indicator, is_indicator};
@@ -27,7 +27,7 @@ pub enum Holder {
 
 /// Whether the character stands there as it is.
 fn holds(holder: Holder, c: char) -> bool
-    ensures { result ≡ stands_for_itself holder c }
+    ensures { result ≡ is_written_as_is holder c }
 {
     match holder {
         Holder::Plain => is_plain_char(c),
@@ -38,7 +38,7 @@ fn holds(holder: Holder, c: char) -> bool
 
 /// Whether each character stands there as it is.
 pub fn holds_each(holder: Holder, text: &str) -> bool
-    ensures { result ≡ list_all (stands_for_itself holder) (chars text.now) }
+    ensures { result ≡ list_all (is_written_as_is holder) (chars text.now) }
 {
     text.chars().all(|c| holds(holder, c))
 }

@@ -94,9 +94,9 @@ fn coded(digits: usize, code: Option<u32>) -> Option<(char, usize)>
 }
 
 /// The character that an escape stands for, and its length, behind the backslash.
-#[tactic(auto, unfolding(yq_core::specs::QuotedReading::escape_in_front))]
+#[tactic(auto, unfolding(yq_core::specs::QuotedReading::leading_escape))]
 pub fn escape(text: &[u8]) -> Option<(char, usize)>
-    ensures { result ≡ spec.escape_in_front text.now }
+    ensures { result ≡ spec.leading_escape text.now }
 {
     let [letter, digits @ ..] = text else {
         return None;

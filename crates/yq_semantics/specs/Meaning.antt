@@ -27,14 +27,14 @@ add_all [] n = n
 add_all (x ∷ xs) n = add_all xs (within (add_to x) n)
 
 -- the lines of a text that isn't empty, parted by LF (own)
-abbrev pub lines_parted : List ℕ → List (List ℕ)
-lines_parted [] = [] ∷ []
-lines_parted (c ∷ cs) = if c == 10 then [] ∷ lines_parted cs else put_byte c (lines_parted cs)
+abbrev pub split_lines : List ℕ → List (List ℕ)
+split_lines [] = [] ∷ []
+split_lines (c ∷ cs) = if c == 10 then [] ∷ split_lines cs else put_byte c (split_lines cs)
 
 -- the lines of a head comment with that text: none of the empty one (own)
 abbrev pub head_comment_lines : List ℕ → List (List ℕ)
 head_comment_lines [] = []
-head_comment_lines (c ∷ cs) = lines_parted (c ∷ cs)
+head_comment_lines (c ∷ cs) = split_lines (c ∷ cs)
 
 -- the line comment with that text: none of the empty one (own)
 abbrev pub line_comment_text : List ℕ → Option (List ℕ)

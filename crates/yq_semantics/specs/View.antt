@@ -2,7 +2,7 @@
 use Rattle.std.specs.Prelude.{map, string_bytes}
 use Rattle.yq_semantics.specs.Program.{PathStep, key, index, each, Operand, value_at, document_index, Condition, compares, has, Stage, path, select, Term, literal, found, Update, assign, delete, comment, Program, read, updates}
 use Rattle.yq_core.specs.Values.{value_node}
-use Rattle.yq_semantics.specs.declared.program.Step as step
+use Rattle.yq_semantics.specs.declared.program.PathStep as step
 use Rattle.yq_semantics.specs.declared.program.Operand as operand
 use Rattle.yq_semantics.specs.declared.program.Condition as condition
 use Rattle.yq_semantics.specs.declared.program.Stage as stage
@@ -11,7 +11,7 @@ use Rattle.yq_semantics.specs.declared.program.Update as update
 use Rattle.yq_semantics.specs.declared.program.Syntax as syntax
 
 -- the step that one of the code stands for (own)
-abbrev pub program_step : step.Step → PathStep
+abbrev pub program_step : step.PathStep → PathStep
 program_step (step.TheVariants.Key k) = key (string_bytes k)
 program_step (step.TheVariants.Index n) = index n
 program_step step.TheVariants.Each = each

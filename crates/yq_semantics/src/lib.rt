@@ -17,7 +17,7 @@ pub use laws::{
 };
 pub use op::{Op, copied_steps};
 pub use program::{
-    Assignment, Comment, CommentPlace, Comparison, Condition, Operand, Operator, Program, Stage,
-    Step, Syntax, Term, Update, is_index, is_simple,
+    Assignment, Comment, CommentPlace, Comparison, Condition, Operand, Operator, PathStep, Program,
+    Stage, Syntax, Term, Update, is_index, is_simple,
 };
 pub use refusal::Refusal;

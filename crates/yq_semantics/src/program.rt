@@ -42,14 +42,14 @@ pub enum Syntax {
 #[derive(Drop)]
 pub enum Stage {
     /// The steps of a path: none for `.`.
-    Path(Vec<Step>),
+    Path(Vec<PathStep>),
     /// Keeps the locations for which the condition holds.
     Select(Condition),
 }
 
 /// A step of a path.
 #[derive(Debug, Drop)]
-pub enum Step {
+pub enum PathStep {
     /// To the value of a key.
     Key(String),
     /// To an item, counted from 0, or from -1 at the end.
@@ -79,7 +79,7 @@ pub struct Comparison {
 #[derive(Drop)]
 pub enum Operand {
     /// The value that these steps lead to. None of them is `Each`.
-    Path(Vec<Step>),
+    Path(Vec<PathStep>),
     /// The number of the document, from 0.
     DocumentIndex,
 }
@@ -138,20 +138,20 @@ pub enum CommentPlace {
     Head,
 }
 
-fn is_single(step: &Step) -> bool
+fn is_single(step: &PathStep) -> bool
     ensures { result ≡ spec.is_single (program_step step.now) }
 {
-    !matches!(step, Step::Each)
+    !matches!(step, PathStep::Each)
 }
 
-pub fn is_index(step: &Step) -> bool
+pub fn is_index(step: &PathStep) -> bool
     ensures { result ≡ spec.is_index (program_step step.now) }
 {
-    matches!(step, Step::Index(_))
+    matches!(step, PathStep::Index(_))
 }
 
 /// Whether each step leads to one item or value at most.
-pub fn is_simple(steps: &[Step]) -> bool
+pub fn is_simple(steps: &[PathStep]) -> bool
     ensures { result ≡ list_all (λ s. spec.is_single (program_step s)) steps.now }
 {
     steps.iter().all(|step| is_single(step))

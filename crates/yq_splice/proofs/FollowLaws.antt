@@ -25,7 +25,7 @@ use Rattle.yq_semantics.specs.Rooms.{room_of}
 use Rattle.yq_text.specs.Changing.{IsChange}
 use Rattle.yq_text.specs.Script.{Segment, keep, put, old_text, new_text, AllStay, are_kept, kept_front, kept_back}
 use Rattle.yq_text.specs.Splice.{Splice, all_done}
-use Rattle.yq_text.specs.declared.changed.Changed.{Changed}
+use Rattle.yq_text.specs.declared.changed.ChangedMiddle.{ChangedMiddle}
 use Rattle.yq_text.proofs.ChangeLaws.{cut_back, cut_front}
 use Rattle.yq_text.proofs.ScriptLaws.{changes_lead, kept_changes}
 use Rattle.yq_rows.specs.Following.{ArePlacesOf, CountsWritten, Follows, exchanged, read_text}
@@ -77,7 +77,7 @@ some_change ss change = go (are_kept ss) refl
     go false e = e
 
 -- what it changes of a text
-module _ (op : Operation) (t : List ℕ) (operand : HasOperand op) (fitting : IsFitting op t) (p : Places) (h : HasPlaces t p) (x : Changed) (change : IsChange (segments_by op (cut_of t)) x) where
+module _ (op : Operation) (t : List ℕ) (operand : HasOperand op) (fitting : IsFitting op t) (p : Places) (h : HasPlaces t p) (x : ChangedMiddle) (change : IsChange (segments_by op (cut_of t)) x) where
   abbrev own : List Segment
   own = segments_by op (cut_of t)
 

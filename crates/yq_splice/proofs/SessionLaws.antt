@@ -3,8 +3,8 @@ use Rattle.std.proofs.Common.{◌≡◌, ℕ, ◌-◌, Bool, true, false, cond, 
 use Rattle.std.proofs.lemmas.Bool.{le-ltb}
 use Rattle.std.proofs.lemmas.List.{length-take-le, take-append-drop}
 use Rattle.std.specs.Str.{IsCharBoundary, IsUtf8, is_utf8}
-use Rattle.yq_text.specs.Halves.{halves_text}
-use Rattle.yq_text.specs.Split.{Split, halves_joined}
+use Rattle.yq_text.specs.Halves.{whole}
+use Rattle.yq_text.specs.TextGapBuffer.{TextGapView, buffer_text}
 use Rattle.yq_text.specs.declared.halves.Halves.{Halves}
 use Rattle.yq_core.specs.declared.fault.ReadError.{ReadError}
 use Rattle.yq_core.specs.declared.fault.ReadError.TheVariants as reading
@@ -25,7 +25,7 @@ use Rattle.yq_documents.proofs.ReadLaws.{text_takes, read_takes}
 use Rattle.yq_semantics.specs.Operations.{Operation}
 use Rattle.yq_text.specs.Changing.{IsChange}
 use Rattle.yq_text.specs.Script.{new_text}
-use Rattle.yq_text.specs.declared.changed.Changed.{Changed}
+use Rattle.yq_text.specs.declared.changed.ChangedMiddle.{ChangedMiddle}
 use Rattle.yq_rows.specs.Following.{ArePlacesOf}
 use Rattle.yq_edit_laws.proofs.CutLaws.{cut_read, cut_same}
 use Rattle.yq_edit_laws.specs.Carried.{carry_one, carried}
@@ -60,7 +60,7 @@ not_opened (reading.Fault fault) bytes t same utf8 h = let k = text_unread bytes
 -- ---- its rows
 
 -- a text whose split was moved is the same
-pub moved_same : (t : List ℕ) (n : ℕ) (s : Split) → s.front ≡ take n t → s.back ≡ drop n t → halves_joined s ≡ t
+pub moved_same : (t : List ℕ) (n : ℕ) (s : TextGapView) → s.front ≡ take n t → s.back ≡ drop n t → buffer_text s ≡ t
 moved_same t n s front back = (λ i. front i ++ back i) ∙ take-append-drop n t
 
 -- those of a text that is as before
@@ -76,23 +76,23 @@ module _ (t : List ℕ) (p : Places) (h : HasPlaces t p) where
 
   -- borrowed on the halves of the text, which is split there
   module _ (text : Halves) (borrowed : (text.front.now ≡ take p.split t) × (text.back.now ≡ drop p.split t)) where
-    pub whole_borrowed : halves_text text ≡ t
+    pub whole_borrowed : whole text ≡ t
     whole_borrowed = (λ i. borrowed.0 i ++ borrowed.1 i) ∙ take-append-drop p.split t
 
-    own_cut : (d : Cut) → IsCut t d → IsCut (halves_text text) d
+    own_cut : (d : Cut) → IsCut t d → IsCut (whole text) d
     own_cut d = subst (λ (x : List ℕ). IsCut x d) (sym whole_borrowed)
 
     pub split_borrowed : length text.front.now ≡ p.split
     split_borrowed = ap length borrowed.0 ∙ length-take-le p.split t split_is.0
 
-    pub places_borrowed : (c : Cut) × IsCut (halves_text text) c × IsPlaced p (rows_view c)
+    pub places_borrowed : (c : Cut) × IsCut (whole text) c × IsPlaced p (rows_view c)
     places_borrowed = (h.cut, own_cut h.cut (cut_read t h.cut h.read), h.placed)
 
-    module _ (r : RowsView) (shows : (c : Cut) → IsCut (halves_text text) c → r ≡ rows_view c) where
+    module _ (r : RowsView) (shows : (c : Cut) → IsCut (whole text) c → r ≡ rows_view c) where
       own : r ≡ rows_view h.cut
       own = shows h.cut (own_cut h.cut (cut_read t h.cut h.read))
 
-      pub cut_borrowed : HasCut (halves_text text) r
+      pub cut_borrowed : HasCut (whole text) r
       cut_borrowed = subst (λ (x : List ℕ). HasCut x r) (sym whole_borrowed) (has_cut t h.cut r h.read own)
 
       -- items that are known
@@ -136,5 +136,5 @@ known_here n t k stay = stay (cut_of t) 0 (touches_itself n (cut_of t))
 pub carried_on : (op : Operation) (t x : List ℕ) (p : Places) → HasPlaces t p → x ≡ t → carry_one op (cut_of x) ≡ carried op t
 carried_on op t x p h same = ap (λ (y : List ℕ). carry_one op (cut_of y)) same ∙ (ap (carry_one op) (cut_same t h.cut h.read) ∙ sym (ap (by_reading (carry_one op)) h.read))
 
-pub carried_by : (op : Operation) (t : List ℕ) (p : Places) (x : Changed) → HasPlaces t p → IsChange (segments_by op (cut_of t)) x → carried op t ≡ gives (new_text (segments_by op (cut_of t))) x.splices.items
+pub carried_by : (op : Operation) (t : List ℕ) (p : Places) (x : ChangedMiddle) → HasPlaces t p → IsChange (segments_by op (cut_of t)) x → carried op t ≡ gives (new_text (segments_by op (cut_of t))) x.splices.items
 carried_by op t p x h change = sym (carried_on op t t p h refl) ∙ ap exchange_edit change.exact

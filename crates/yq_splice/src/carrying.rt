@@ -4,7 +4,7 @@ ghost use Rattle.yq_semantics.specs.Operations.{operation_of, operations_of};
 ghost use Rattle.yq_documents.specs.Reading.{cut_of, read_at};
 ghost use Rattle.yq_edit_laws.specs.Answers.{Edits, EditFails};
 ghost use Rattle.yq_edit_laws.specs.Carried as spec;
-ghost use Rattle.yq_edit_laws.specs.Edit.{edit_behind, gives};
+ghost use Rattle.yq_edit_laws.specs.Edit.{edit_after, gives};
 ghost use Rattle.yq_splice.specs.Session.{HasPlaces};
 ghost use Rattle.yq_edit_laws.specs.Theorems.{IsApplied, IsFitting, OpRefused};
 ghost use Rattle.yq_edit_laws.specs.Valid.{AreServed};
@@ -57,7 +57,7 @@ pub(crate) fn carry_all(
 ) -> Result<Edited, EditError>
     requires places { HasPlaces (string_bytes text) places }
     requires serves { AreServed (operations_of ops.now) (string_bytes text) }
-    ensures { Edits result (edit_behind splices.items (spec.carry_all (operations_of ops.now)
+    ensures { Edits result (edit_after splices.items (spec.carry_all (operations_of ops.now)
         (string_bytes text))) }
 {
     let mut session = Session::of(alloc, text, places);
@@ -130,7 +130,7 @@ fn carry_each(
     requires same { documents ≡ text.now }
     requires read { read_at text.now ≡ Some (cut_of documents) }
     requires serves { AreServed (operations_of ops.now) text.now }
-    ensures { Edits result (edit_behind splices.items (spec.carry_all (operations_of ops.now)
+    ensures { Edits result (edit_after splices.items (spec.carry_all (operations_of ops.now)
         text.now)) }
 {
     let places = documents.into_rows().into_places();
@@ -150,7 +150,7 @@ pub fn carry_plan(
     requires same { documents ≡ text.now }
     requires read { read_at text.now ≡ Some (cut_of documents) }
     requires serves { AreServed (operations_of ops.now) text.now }
-    ensures { Edits result (edit_behind splices.items (spec.carry_all (operations_of ops.now)
+    ensures { Edits result (edit_after splices.items (spec.carry_all (operations_of ops.now)
         text.now)) }
 {
     let at_once = carry_at_once(alloc, &CutText::of(&documents), ops)?;

@@ -5,11 +5,11 @@ ghost use Rattle.yq_semantics.specs.Operations.{operation_of};
 ghost use Rattle.yq_row_table.specs.Meter.{count_after, line_count};
 ghost use Rattle.yq_core.specs.Answers.{Gives};
 ghost use Rattle.yq_text.specs.Changing.{IsChange};
-ghost use Rattle.yq_text.specs.Halves.{halves_text};
+ghost use Rattle.yq_text.specs.Halves.{whole};
 ghost use Rattle.yq_places.specs.RowWalk.{StayKnown};
 ghost use Rattle.yq_edit_laws.specs.Answers.{Edits, EditFails};
 ghost use Rattle.yq_edit_laws.specs.Carried.{carried};
-ghost use Rattle.yq_edit_laws.specs.Edit.{edit_behind, gives};
+ghost use Rattle.yq_edit_laws.specs.Edit.{edit_after, gives};
 ghost use Rattle.yq_splice.specs.Session.{HasPlaces, NotOpened, Scans};
 ghost use Rattle.yq_edit_laws.specs.Theorems.{HasReading, IsApplied, IsFitting, OpRefused};
 ghost use Rattle.yq_edit_laws.specs.Valid.{segments_by};
@@ -26,7 +26,7 @@ use yq_outline::KnownItems;
 use yq_row_table::Places;
 use yq_rows::{Kept, Meter, count_lines, follow};
 use yq_semantics::Op;
-use yq_text::{Changed, Edited, Halves, Splice, SplitText};
+use yq_text::{ChangedMiddle, Edited, Halves, Splice, TextGapBuffer};
 use yq_tree::read;
 
 /// A text that reads, kept with where its rows stand, both on two sides of where it was changed last: so that
@@ -36,22 +36,22 @@ use yq_tree::read;
 #[derive(Drop)]
 pub struct Session {
     alloc: Global,
-    text: SplitText,
+    text: TextGapBuffer,
     places: Places,
     known: KnownItems,
     meter: Meter,
 }
 
 impl Model for Session {
-    ghost use Rattle.yq_text.specs.Split.{halves_joined};
+    ghost use Rattle.yq_text.specs.TextGapBuffer.{buffer_text};
     ghost use Rattle.yq_splice.specs.Session.{SessionState, HasPlaces, KnowsItems};
 
     ghost Value = { SessionState };
 
-    ghost view = { λ s. record { text = halves_joined s.text; scanned = s.meter } };
+    ghost view = { λ s. record { text = buffer_text s.text; scanned = s.meter } };
 
-    ghost invariant = { λ s. HasPlaces (halves_joined s.text) s.places ×
-        KnowsItems (halves_joined s.text) s.known };
+    ghost invariant = { λ s. HasPlaces (buffer_text s.text) s.places ×
+        KnowsItems (buffer_text s.text) s.known };
 }
 
 impl Session {
@@ -69,7 +69,7 @@ impl Session {
         let places = documents.into_rows().into_places();
         let mut meter = Meter::new();
         count_lines(text, &mut meter);
-        let text = SplitText::of(String::from_str(alloc, text)?);
+        let text = TextGapBuffer::of(String::from_str(alloc, text)?);
         Ok(Session {
             alloc,
             text,
@@ -86,7 +86,7 @@ impl Session {
     {
         Session {
             alloc,
-            text: SplitText::of(text),
+            text: TextGapBuffer::of(text),
             places,
             known: KnownItems::none(),
             meter: Meter::new(),
@@ -95,7 +95,7 @@ impl Session {
 
     /// What an operation changes in the text, and what is known of its way behind it, from which the
     /// next one may go on.
-    fn change(&mut self, op: &Op) -> Result<(Changed, KnownItems), EditError>
+    fn change(&mut self, op: &Op) -> Result<(ChangedMiddle, KnownItems), EditError>
         ensures same { self.new ≡ self.old }
         ensures ok { IfOk result (λ x. IsChange (segments_by (operation_of op.now)
             (cut_of self.old.text)) x.0) }
@@ -136,7 +136,7 @@ impl Session {
     {
         operand_holds(op);
         let (changed, known) = self.change(op)?;
-        let Changed {
+        let ChangedMiddle {
             front,
             back,
             new,
@@ -164,7 +164,7 @@ impl Session {
     /// The text as it stands, in the two halves in which it is kept: to lend it as one `&str` would move one
     /// of them, which an operation behind that would have to move back.
     pub fn text(&self) -> Halves<'_>
-        ensures text { halves_text result ≡ self.now.text }
+        ensures text { whole result ≡ self.now.text }
         ensures read { HasReading self.now.text }
     {
         self.text.halves()
@@ -186,7 +186,8 @@ impl Session {
 
     /// Ends the session by an operation, whose splices come behind others. The rows need not follow it.
     pub(crate) fn close_by(self, op: &Op, splices: Vec<Splice>) -> Result<Edited, EditError>
-        ensures { Edits result (edit_behind splices.items (carried (operation_of op.now) self.text)) }
+        ensures { Edits result (edit_after splices.items
+            (carried (operation_of op.now) self.text)) }
     {
         let Session {
             alloc,

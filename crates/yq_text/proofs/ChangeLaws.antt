@@ -10,7 +10,7 @@ use Rattle.yq_text.specs.Changing.{IsChange}
 use Rattle.yq_text.specs.Exchanging.{Exchange, gives, too_large, within_limit}
 use Rattle.yq_text.specs.Splice.{Splice}
 use Rattle.yq_text.specs.Script.{Segment, old_text, new_text, changes, changes_behind, are_kept, kept_front, kept_back, from_first, to_last}
-use Rattle.yq_text.specs.declared.changed.Changed.{Changed}
+use Rattle.yq_text.specs.declared.changed.ChangedMiddle.{ChangedMiddle}
 use Rattle.yq_text.proofs.BetweenLaws.{back_first, old_first, changes_first, changes_last, new_first, new_last}
 use Rattle.yq_text.proofs.KeptSegments.{behind, between}
 
@@ -43,7 +43,7 @@ module _ (ss : List Segment) where
       let at : length (old_text ss) - length (kept_back ss) ≡ length (kept_front ss ++ h.old) = omega (arith, ap length old, length-append (kept_front ss ++ h.old) (kept_back ss)) in
       search (rules, new_first, new_last, back_first, drop-append_seam, at, front, h, old)
 
-  pub change_is : (c : Changed) (n : ℕ) (held : List Segment) → within_limit (length (new_text ss)) ≡ Some n → held ≡ inner → c.front ≡ length (kept_front ss) → c.back ≡ length (kept_back ss) →
+  pub change_is : (c : ChangedMiddle) (n : ℕ) (held : List Segment) → within_limit (length (new_text ss)) ≡ Some n → held ≡ inner → c.front ≡ length (kept_front ss) → c.back ≡ length (kept_back ss) →
       IsUtf8 (kept_front ss) → IsUtf8 (kept_back ss) → gives (new_text held) (changes_behind c.front held) ≡ gives (string_bytes c.new) c.splices.items → IsChange ss c
   unfolding changes
   change_is c n held limit is front back front_text back_text so_far = search (rules, changes_last, changes_first, limit_kept, inner_text)

@@ -2,7 +2,7 @@
 use Rattle.std.proofs.Common.{◌≡◌, ℕ, ◌+◌, ◌-◌, ◌<◌, ◌≤◌, List, [], ◌∷◌, ◌++◌, length, take, drop, get_or, false, nat_eq, refl, sym, ap, ◌∙◌, arith, append-nil, length-append, length-drop, length-take-le, String, Global}
 use Rattle.std.proofs.lemmas.List.{take_rest}
 use Rattle.std.specs.String.{string_bytes}
-use Rattle.yq_text.specs.Halves.{halves_text}
+use Rattle.yq_text.specs.Halves.{whole}
 use Rattle.yq_text.specs.declared.halves.Halves.{Halves}
 use Rattle.yq_text.specs.Exchanging.{gives}
 use Rattle.yq_text.specs.Script.{Segment, keep, put, new_text, put_before, merged, splice_at, splices_at}
@@ -35,14 +35,14 @@ module _ (xs : List Held) (x : Held) (some : 1 ≤ length xs) (is : x ≡ get_or
       go [] some at = absurd (omega (arith, some))
       go (y ∷ ys) some at = (λ i. segment_of (sym at i) ∷ segments_of (sym (take_rest (y ∷ ys) 1) i))
 
-  pub keeps_first : (t : Halves) → x ≡ held.Keep t → segments_of xs ≡ keep (halves_text t) ∷ segments_of (later xs)
+  pub keeps_first : (t : Halves) → x ≡ held.Keep t → segments_of xs ≡ keep (whole t) ∷ segments_of (later xs)
   keeps_first t keeps = first_apart ∙ ap (λ y. segment_of y ∷ segments_of (later xs)) keeps
 
-  pub puts_first : (o : Halves) (w : String Global) → x ≡ held.Put o w → segments_of xs ≡ put (halves_text o) (string_bytes w) ∷ segments_of (later xs)
+  pub puts_first : (o : Halves) (w : String Global) → x ≡ held.Put o w → segments_of xs ≡ put (whole o) (string_bytes w) ∷ segments_of (later xs)
   puts_first o w puts = first_apart ∙ ap (λ y. segment_of y ∷ segments_of (later xs)) puts
 
   -- the new text with one segment more
-  pub new_longer : (new : Halves) → ((ss : List Segment) → new_text (segment_of x ∷ ss) ≡ halves_text new ++ new_text ss) →
+  pub new_longer : (new : Halves) → ((ss : List Segment) → new_text (segment_of x ∷ ss) ≡ whole new ++ new_text ss) →
       length (new_text (segments_of xs)) ≡ length new.front.now + length new.back.now + length (new_text (segments_of (later xs)))
   new_longer new more =
       let us = segments_of (later xs) in
@@ -50,13 +50,13 @@ module _ (xs : List Held) (x : Held) (some : 1 ≤ length xs) (is : x ≡ get_or
         arith,
         ap (λ ss. length (new_text ss)) first_apart,
         ap length (more us),
-        length-append (halves_text new) (new_text us),
+        length-append (whole new) (new_text us),
         length-append new.front.now new.back.now,
       )
 
 -- what is kept, where the segment is looked at twice
-pub kept_once : (x : Held) (t u : Halves) → x ≡ held.Keep t → x ≡ held.Keep u → halves_text t ≡ halves_text u
-kept_once x t u first second = let same : t ≡ u = cc in ap halves_text same
+pub kept_once : (x : Held) (t u : Halves) → x ≡ held.Keep t → x ≡ held.Keep u → whole t ≡ whole u
+kept_once x t u first second = let same : t ≡ u = cc in ap whole same
 
 -- they are fewer
 pub later_fewer : (xs : List Held) → 1 ≤ length xs → length (later xs) < length xs

@@ -5,7 +5,7 @@ use Rattle.std.proofs.Common.{subst, String, Global}
 use Rattle.std.proofs.lemmas.Str.{IsUtf8-append}
 use Rattle.std.specs.Str.{IsUtf8}
 use Rattle.std.specs.String.{string_bytes}
-use Rattle.yq_text.specs.Halves.{halves_text}
+use Rattle.yq_text.specs.Halves.{whole}
 use Rattle.yq_text.specs.declared.halves.Halves.{Halves}
 use Rattle.yq_text.specs.Script.{Segment, keep, kept_front, kept_back, to_last}
 use Rattle.yq_text.specs.Segments.{segment_of, segments_of}
@@ -32,16 +32,16 @@ module _ (xs : List Held) (x d : Held) (some : 1 ≤ length xs) (is : x ≡ get_
       ∙ map-append segment_of but_last (x ∷ [])
 
   pub last_kept_goes : (t : Halves) → x ≡ held.Keep t → to_last (segments_of but_last) ≡ to_last (segments_of xs)
-  last_kept_goes t keeps = sym (ap to_last (with_last ∙ ap (λ y. segments_of but_last ++ (segment_of y ∷ [])) keeps) ∙ last_stays (segments_of but_last) (halves_text t))
+  last_kept_goes t keeps = sym (ap to_last (with_last ∙ ap (λ y. segments_of but_last ++ (segment_of y ∷ [])) keeps) ∙ last_stays (segments_of but_last) (whole t))
 
   pub last_put_is : (o : Halves) (w : String Global) → x ≡ held.Put o w → segments_of xs ≡ to_last (segments_of xs)
   last_put_is o w puts = search (rules, with_last, to_last_put)
 
-  pub back_kept : (t : Halves) → x ≡ held.Keep t → kept_back (segments_of xs) ≡ kept_back (segments_of but_last) ++ halves_text t
-  back_kept t keeps = ap kept_back (with_last ∙ ap (λ y. segments_of but_last ++ (segment_of y ∷ [])) keeps) ∙ back_last (segments_of but_last) (halves_text t)
+  pub back_kept : (t : Halves) → x ≡ held.Keep t → kept_back (segments_of xs) ≡ kept_back (segments_of but_last) ++ whole t
+  back_kept t keeps = ap kept_back (with_last ∙ ap (λ y. segments_of but_last ++ (segment_of y ∷ [])) keeps) ∙ back_last (segments_of but_last) (whole t)
 
   pub back_put : (o : Halves) (w : String Global) → x ≡ held.Put o w → kept_back (segments_of xs) ≡ []
-  back_put o w puts = ap kept_back (with_last ∙ ap (λ y. segments_of but_last ++ (segment_of y ∷ [])) puts) ∙ back_gives (segments_of but_last) (halves_text o) (string_bytes w)
+  back_put o w puts = ap kept_back (with_last ∙ ap (λ y. segments_of but_last ++ (segment_of y ∷ [])) puts) ∙ back_gives (segments_of but_last) (whole o) (string_bytes w)
 
 -- a text behind another one
 pub texts_joined : (t u : List ℕ) → IsUtf8 t → IsUtf8 u → IsUtf8 (t ++ u)

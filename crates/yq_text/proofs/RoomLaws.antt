@@ -2,7 +2,7 @@
 use Rattle.std.proofs.Common.{◌≡◌, ℕ, ◌+◌, ◌-◌, ◌≤◌, List, ◌++◌, Fits, Vec, w64, drop, length, take, arith, length-append, length-drop, length-take, refl, vec_len}
 use Rattle.std.specs.Global.{Global}
 use Rattle.std.specs.Str.{IsCharBoundary}
-use Rattle.yq_text.specs.Split.{IsKept}
+use Rattle.yq_text.specs.TextGapBuffer.{IsKept}
 use Rattle.yq_text.proofs.SplitLaws.{reaches}
 
 -- how long a text is that is kept so

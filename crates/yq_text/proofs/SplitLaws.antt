@@ -6,7 +6,7 @@ use lib.Seq.{paste}
 use Rattle.std.proofs.lemmas.List.{places, same_lists, drop_all}
 use Rattle.std.proofs.lemmas.Slice.{overwrites}
 use Rattle.std.proofs.lemmas.Str.{IsUtf8-append, IsUtf8-take, IsUtf8-drop, IsUtf8-nil}
-use Rattle.yq_text.specs.Split.{IsKept}
+use Rattle.yq_text.specs.TextGapBuffer.{IsKept}
 
 -- a text whose split is at its end is kept
 pub all_front : (xs : List ℕ) (n : ℕ) → n ≡ length xs → IsUtf8 xs → IsKept xs n n

@@ -3,5 +3,5 @@ use Rattle.std.specs.Prelude.{ℕ, List, ◌++◌}
 use Rattle.yq_text.specs.declared.halves.Halves.{Halves}
 
 -- the text of two halves, one behind the other (own)
-abbrev pub halves_text : Halves → List ℕ
-halves_text h = h.front.now ++ h.back.now
+abbrev pub whole : Halves → List ℕ
+whole h = h.front.now ++ h.back.now

@@ -1,6 +1,6 @@
 pub mod Halves
 pub mod Limit
-pub mod Split
+pub mod TextGapBuffer
 pub mod Splice
 pub mod Script
 pub mod Segments

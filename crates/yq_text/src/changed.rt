@@ -4,7 +4,7 @@ use crate::splice::Splice;
 
 /// What an edit changes of a text whose ends stay.
 #[derive(Drop)]
-pub struct Changed {
+pub struct ChangedMiddle {
     /// How many bytes stay in front of all that gives way; all, where nothing does.
     pub front: usize,
     /// How many bytes stay behind all that gives way; all, where nothing does.

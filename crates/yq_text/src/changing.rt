@@ -1,13 +1,13 @@
 //! What an edit changes of its text.
 ghost use Rattle.std.specs.Prelude.{◌≡◌, ◌<◌, ◌^◌, length};
 ghost use Rattle.std.specs.Str.{IsUtf8};
-ghost use Rattle.yq_text.specs.Halves.{halves_text};
+ghost use Rattle.yq_text.specs.Halves.{whole};
 ghost use Rattle.yq_text.specs.Changing.{Changes};
 ghost use Rattle.yq_text.specs.Script as script;
 ghost use Rattle.yq_text.specs.Segments.{segments_of};
 
 use crate::Halves;
-use crate::changed::Changed;
+use crate::changed::ChangedMiddle;
 use crate::edited::Edited;
 use crate::exchange_error::ExchangeError;
 use crate::exchanging::{build, new_len};
@@ -17,9 +17,9 @@ use std::alloc::Global;
 /// How many bytes a text has that is kept; they are characters.
 #[tactic(auto, using(crate::proofs::LoopLaws::texts_joined))]
 fn text_len(text: Halves<'_>) -> usize
-    requires { length (halves_text text) < 2 ^ 64 }
-    ensures len { result ≡ length (halves_text text.entry) }
-    ensures text { IsUtf8 (halves_text text.entry) }
+    requires { length (whole text) < 2 ^ 64 }
+    ensures len { result ≡ length (whole text.entry) }
+    ensures text { IsUtf8 (whole text.entry) }
 {
     text.front.as_bytes().len() + text.back.as_bytes().len()
 }
@@ -79,7 +79,7 @@ fn kept_back(segments: &[Segment<'_>]) -> usize
 /// that stay in front of all that gives way or behind it are not moved.
 ///
 /// The new text may have 16,777,216 bytes at most ([`ExchangeError::TooLarge`]).
-pub fn changes(alloc: Global, segments: &Segments<'_>) -> Result<Changed, ExchangeError>
+pub fn changes(alloc: Global, segments: &Segments<'_>) -> Result<ChangedMiddle, ExchangeError>
     requires { length (script.old_text segments.now) < 2 ^ 64 }
     ensures { Changes result segments.now }
 {
@@ -91,7 +91,7 @@ pub fn changes(alloc: Global, segments: &Segments<'_>) -> Result<Changed, Exchan
     let (front, rest) = from_first(segments);
     let len = len.saturating_sub(front).saturating_sub(back);
     let Edited { text, splices } = build(alloc, to_last(rest), front, len)?;
-    Ok(Changed {
+    Ok(ChangedMiddle {
         front,
         back,
         new: text,

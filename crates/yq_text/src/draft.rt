@@ -1,6 +1,6 @@
 //! What is made of the segments of a text, one after the other.
 ghost use Rattle.std.specs.Prelude.{◌≡◌, ℕ, ◌+◌, ◌<◌, ◌^◌, ◌++◌, [], List, IfErr, OnOk, length, string_bytes};
-ghost use Rattle.yq_text.specs.Halves.{halves_text};
+ghost use Rattle.yq_text.specs.Halves.{whole};
 ghost use Rattle.yq_text.specs.Script as script;
 ghost use Rattle.yq_text.specs.declared.exchange_error.ExchangeError.TheVariants.{Memory};
 
@@ -64,7 +64,7 @@ fn push_bytes(bytes: &mut Vec<u8>, more: &[u8]) -> Result<(), AllocError>
 
 /// Adds what stays to a text.
 fn push_kept(text: &mut String, kept: Halves<'_>) -> Result<(), AllocError>
-    ensures { OnOk result (string_bytes text.new ≡ string_bytes text.old ++ halves_text kept.entry) }
+    ensures { OnOk result (string_bytes text.new ≡ string_bytes text.old ++ whole kept.entry) }
 {
     push_text(text, kept.front)?;
     push_text(text, kept.back)
@@ -72,7 +72,7 @@ fn push_kept(text: &mut String, kept: Halves<'_>) -> Result<(), AllocError>
 
 /// Adds what gives way to bytes.
 fn push_gone(bytes: &mut Vec<u8>, gone: Halves<'_>) -> Result<(), AllocError>
-    ensures { OnOk result (bytes.new.items ≡ bytes.old.items ++ halves_text gone.entry) }
+    ensures { OnOk result (bytes.new.items ≡ bytes.old.items ++ whole gone.entry) }
 {
     push_bytes(bytes, gone.front.as_bytes())?;
     push_bytes(bytes, gone.back.as_bytes())
@@ -81,14 +81,14 @@ fn push_gone(bytes: &mut Vec<u8>, gone: Halves<'_>) -> Result<(), AllocError>
 impl Draft {
     /// Adds a segment that stays, which has bytes.
     pub(crate) fn keep(&mut self, alloc: Global, kept: Halves<'_>) -> Result<(), ExchangeError>
-        requires { self.old.at + length self.old.come.items + length (halves_text kept) < 2 ^ 64 }
+        requires { self.old.at + length self.old.come.items + length (whole kept) < 2 ^ 64 }
         ensures text { OnOk result (string_bytes self.new.text ≡
-            string_bytes self.old.text ++ halves_text kept.entry) }
+            string_bytes self.old.text ++ whole kept.entry) }
         ensures splices { OnOk result (self.new.splices.items ≡
             self.old.splices.items ++ script.splice_at self.old.at self.old.gone.items
             self.old.come.items) }
         ensures at { OnOk result (self.new.at ≡
-            self.old.at + length self.old.come.items + length (halves_text kept.entry)) }
+            self.old.at + length self.old.come.items + length (whole kept.entry)) }
         ensures gone { OnOk result (self.new.gone.items ≡ []) }
         ensures come { OnOk result (self.new.come.items ≡ []) }
         ensures err { IfErr result (λ e. e ≡ Memory) }
@@ -108,7 +108,7 @@ impl Draft {
             string_bytes self.old.text ++ come.now) }
         ensures splices { OnOk result (self.new.splices.items ≡ self.old.splices.items) }
         ensures at { OnOk result (self.new.at ≡ self.old.at) }
-        ensures gone { OnOk result (self.new.gone.items ≡ self.old.gone.items ++ halves_text gone.entry) }
+        ensures gone { OnOk result (self.new.gone.items ≡ self.old.gone.items ++ whole gone.entry) }
         ensures come { OnOk result (self.new.come.items ≡ self.old.come.items ++ come.now) }
     {
         push_gone(&mut self.gone, gone)?;

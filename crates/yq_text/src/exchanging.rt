@@ -1,6 +1,6 @@
 //! A text made anew of its segments.
 ghost use Rattle.std.specs.Prelude.{◌≡◌, ◌+◌, ◌<◌, ◌^◌, ◌++◌, ◌∷◌, List, length};
-ghost use Rattle.yq_text.specs.Halves.{halves_text};
+ghost use Rattle.yq_text.specs.Halves.{whole};
 ghost use Rattle.yq_text.specs.Exchanging.{Exchanged, exchange_of, gives, within_limit};
 ghost use Rattle.yq_text.specs.Script as script;
 ghost use Rattle.yq_text.specs.Segments.{segment_of, segments_of};
@@ -15,7 +15,7 @@ use std::alloc::Global;
 /// What stands in the new text for a segment.
 fn new_of<'s>(segment: &'s Segment<'_>) -> Halves<'s>
     ensures { (ss : List script.Segment) →
-        script.new_text (segment_of segment.now ∷ ss) ≡ halves_text result ++ script.new_text ss }
+        script.new_text (segment_of segment.now ∷ ss) ≡ whole result ++ script.new_text ss }
 {
     match segment {
         Segment::Keep(text) => *text,

@@ -1,7 +1,7 @@
 //! A text in two halves.
 ghost use Rattle.std.specs.Prelude.{◌≡◌, ◌<◌, ◌^◌, ◌==◌, [], drop, length, take};
 ghost use Rattle.std.specs.Str.{IsCharBoundary};
-ghost use Rattle.yq_text.specs.Halves.{halves_text};
+ghost use Rattle.yq_text.specs.Halves.{whole};
 
 /// A text in two halves, one behind the other.
 #[derive(Clone, Copy)]
@@ -15,7 +15,7 @@ impl<'t> Halves<'t> {
     pub fn of(text: &'t str) -> Halves<'t>
         ensures front { result.front.now ≡ text.now }
         ensures back { result.back.now ≡ [] }
-        ensures whole { halves_text result ≡ text.now }
+        ensures whole { whole result ≡ text.now }
     {
         Halves {
             front: text,
@@ -25,24 +25,24 @@ impl<'t> Halves<'t> {
 
     /// How long the text is, in bytes.
     pub fn len(self) -> usize
-        requires { length (halves_text self) < 2 ^ 64 }
-        ensures { result ≡ length (halves_text self.entry) }
+        requires { length (whole self) < 2 ^ 64 }
+        ensures { result ≡ length (whole self.entry) }
     {
         self.front.len() + self.back.len()
     }
 
     /// Whether it has no bytes.
     pub fn is_empty(self) -> bool
-        ensures { result ≡ (length (halves_text self.entry) == 0) }
+        ensures { result ≡ (length (whole self.entry) == 0) }
     {
         self.front.is_empty() && self.back.is_empty()
     }
 
     /// The text cut behind so many bytes.
     pub fn split_at(self, at: usize) -> (Halves<'t>, Halves<'t>)
-        requires { IsCharBoundary (halves_text self) at }
-        ensures front { halves_text result.0 ≡ take at (halves_text self.entry) }
-        ensures back { halves_text result.1 ≡ drop at (halves_text self.entry) }
+        requires { IsCharBoundary (whole self) at }
+        ensures front { whole result.0 ≡ take at (whole self.entry) }
+        ensures back { whole result.1 ≡ drop at (whole self.entry) }
     {
         if at <= self.front.len() {
             let (before, rest) = self.front.split_at(at);

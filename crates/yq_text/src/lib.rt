@@ -15,9 +15,9 @@ mod halves;
 mod laws;
 mod segment;
 mod splice;
-mod split_text;
+mod text_gap_buffer;
 
-pub use changed::Changed;
+pub use changed::ChangedMiddle;
 pub use changing::changes;
 pub use edited::Edited;
 pub use exchange_error::ExchangeError;
@@ -26,7 +26,7 @@ pub use halves::Halves;
 pub use laws::{changes_lead, outside_stays, touching_are_one, unchanged_stay};
 pub use segment::{Segment, Segments};
 pub use splice::{Splice, splice_exchanges, splices_invert};
-pub use split_text::SplitText;
+pub use text_gap_buffer::TextGapBuffer;
 
 /// How many bytes a text has at most.
 pub const TEXT_LIMIT: usize = 16_777_216;

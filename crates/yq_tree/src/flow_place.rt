@@ -44,7 +44,8 @@ pub(crate) fn content_span(entry: &Entry<'_, '_>) -> Option<Span>
 /// The item or entry to which steps lead in what is made of a row.
 fn decoded_entry<'d, 't>(decoded: Option<&'d Decoded<'t>>, steps: &[Step]) -> Option<Entry<'d, 't>>
     ensures { option_map entry_view result ≡
-        spec.entry_within (map tree_step steps.now) (decoded_flow (option_map (λ m. m.now) decoded.entry)) }
+        spec.entry_within (map tree_step steps.now)
+        (decoded_flow (option_map (λ m. m.now) decoded.entry)) }
 {
     match &decoded?.head {
         Some(head) => head_entry(head, steps),

@@ -98,7 +98,8 @@ pub fn cut_read()
 /// Each document of bytes that read is a tree, with no more collections nested than may be, and has the
 /// head comment of its first item or entry as its lead, where its root is a block collection.
 pub fn documents_ready()
-    ensures { (bytes : List ℕ) (docs : List Document) → ReadsDocuments bytes docs → TextIsReady bytes }
+    ensures { (bytes : List ℕ) (docs : List Document) → ReadsDocuments bytes docs →
+        TextIsReady bytes }
 {
     lines_shaped();
 }

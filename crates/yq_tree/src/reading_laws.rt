@@ -8,5 +8,6 @@ ghost use Rattle.yq_row_table.specs.Rows.{Cut};
 /// that cut, by that cut.
 pub fn exact_reading()
     ensures { (bytes : List ℕ) (c : Cut) →
-        (read_at bytes ≡ Some c) ↔ ((reads : ReadsDocuments bytes (documents c)) × (reads.parts ≡ c)) }
+        (read_at bytes ≡ Some c) ↔
+        ((reads : ReadsDocuments bytes (documents c)) × (reads.parts ≡ c)) }
 {}

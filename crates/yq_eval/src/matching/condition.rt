@@ -8,14 +8,14 @@ ghost use Rattle.yq_eval.specs.PlaceView.{place_of, places_of};
 ghost use Rattle.yq_semantics.specs.Program.{value_at};
 ghost use Rattle.yq_semantics.specs.View.{condition_of, operand_of, program_step};
 
-use crate::matching::place::Place;
+use crate::matching::place::FoundPlace;
 use crate::matching::traverse::traverse;
 use bumpalo::Bump;
 use std::alloc::Global;
 use yq_core::{Kind, Scalar, is_true_word};
 use yq_nodes::{Node, NodeKind};
 use yq_scalar_reader::int_value;
-use yq_semantics::{Condition, ExprError, Operand, Refusal, Step};
+use yq_semantics::{Condition, ExprError, Operand, PathStep, Refusal};
 
 /// Whether two ints are the same: by their numbers, where both have one in 64
 /// bits, and else by their texts.
@@ -65,7 +65,7 @@ fn node_is(node: &Node<'_, '_>, scalar: &Scalar) -> Result<bool, ExprError>
 }
 
 /// Whether the value at a place is that scalar: null where a step is missing.
-fn place_is(place: &Place<'_, '_>, scalar: &Scalar) -> Result<bool, ExprError>
+fn place_is(place: &FoundPlace<'_, '_>, scalar: &Scalar) -> Result<bool, ExprError>
     ensures { Judges (λ b. b) result (spec.is_scalar scalar.now.kind scalar.now.text
         (spec.value_of (place_of place.now))) }
 {
@@ -76,7 +76,7 @@ fn place_is(place: &Place<'_, '_>, scalar: &Scalar) -> Result<bool, ExprError>
 }
 
 /// Whether the value at the first of places is that scalar.
-fn first_is(places: &[Place<'_, '_>], scalar: &Scalar) -> Result<bool, ExprError>
+fn first_is(places: &[FoundPlace<'_, '_>], scalar: &Scalar) -> Result<bool, ExprError>
     ensures { Judges (λ b. b) result (spec.first_equals scalar.now.kind scalar.now.text
         (places_of places.now)) }
 {
@@ -90,9 +90,9 @@ fn first_is(places: &[Place<'_, '_>], scalar: &Scalar) -> Result<bool, ExprError
 fn value_is<'a, 't>(
     alloc: Global,
     bump: &'a Bump,
-    steps: &'a [Step],
+    steps: &'a [PathStep],
     scalar: &Scalar,
-    place: &Place<'a, 't>,
+    place: &FoundPlace<'a, 't>,
 ) -> Result<bool, ExprError>
     ensures { Judges (λ b. b) result (spec.operand_is 0 (value_at (map program_step steps.now))
         scalar.now.kind scalar.now.text (place_of place.now)) }
@@ -108,7 +108,7 @@ fn operand_is<'a, 't>(
     doc: usize,
     operand: &'a Operand,
     scalar: &Scalar,
-    place: &Place<'a, 't>,
+    place: &FoundPlace<'a, 't>,
 ) -> Result<bool, ExprError>
     ensures { Judges (λ b. b) result (spec.operand_is doc (operand_of operand.now) scalar.now.kind
         scalar.now.text (place_of place.now)) }
@@ -134,7 +134,7 @@ fn node_has(node: &Node<'_, '_>, key: &str) -> Result<bool, ExprError>
 }
 
 /// Whether the value at a place is a mapping with that key.
-fn place_has(place: &Place<'_, '_>, key: &str) -> Result<bool, ExprError>
+fn place_has(place: &FoundPlace<'_, '_>, key: &str) -> Result<bool, ExprError>
     ensures { Judges (λ b. b) result (spec.has_key key.now (spec.value_of (place_of place.now))) }
 {
     match place.found() {
@@ -149,7 +149,7 @@ pub(crate) fn holds<'a, 't>(
     bump: &'a Bump,
     doc: usize,
     condition: &'a Condition,
-    place: Place<'a, 't>,
+    place: FoundPlace<'a, 't>,
 ) -> Result<bool, ExprError>
     ensures { Judges (λ b. b) result (spec.condition_holds doc (condition_of condition.now)
         (place_of place.entry)) }

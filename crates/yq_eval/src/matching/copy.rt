@@ -10,7 +10,7 @@ ghost use Rattle.yq_semantics.specs.Conditions.{value_of};
 ghost use Rattle.yq_eval.specs.PlaceView.{place_of};
 ghost use Rattle.yq_eval.specs.TreeScalars.{EachHasScalars, HasScalars};
 
-use crate::matching::place::Place;
+use crate::matching::place::FoundPlace;
 use std::alloc::{AllocError, Global};
 use yq_core::{Kind, Scalar, Value};
 use yq_nodes::{Node, NodeKind};
@@ -85,7 +85,7 @@ fn entry_copies(alloc: Global, node: &Node<'_, '_>) -> Result<Vec<(String, Value
 }
 
 /// A copy of the value at a place: null where a step is missing.
-pub fn copy_at(alloc: Global, place: &Place<'_, '_>) -> Result<Value, ExprError>
+pub fn copy_at(alloc: Global, place: &FoundPlace<'_, '_>) -> Result<Value, ExprError>
     requires { HasScalars (value_of (place_of place.now)) }
     ensures { Judges value_node result (spec.copy_at (place_of place.now)) }
 {

@@ -10,20 +10,20 @@ ghost use Rattle.yq_semantics.specs.Program.{each, path};
 ghost use Rattle.yq_semantics.specs.View.{stage_of, program_step};
 
 use crate::matching::pipe::find;
-use crate::matching::place::{Missing, Place};
+use crate::matching::place::{FoundPlace, Missing};
 use crate::matching::traverse::{step_each, traverse};
 use bumpalo::Bump;
 use std::alloc::Global;
 use yq_nodes::{Node, NodeKind};
-use yq_semantics::{ExprError, Stage, Step};
+use yq_semantics::{ExprError, PathStep, Stage};
 
 /// The places that a pipe finds.
 #[derive(Drop)]
 pub enum FoundPlaces<'a, 't> {
     /// These.
-    Listed(Vec<Place<'a, 't>>),
+    Listed(Vec<FoundPlace<'a, 't>>),
     /// Those of all items or values of the node at a place.
-    Children(&'a Place<'a, 't>),
+    Children(&'a FoundPlace<'a, 't>),
 }
 
 impl FoundPlaces<'_, '_> {
@@ -39,7 +39,7 @@ impl FoundPlaces<'_, '_> {
 }
 
 /// The steps before the last one of a pipe that is a path, if that one leads to all items or values.
-fn before_each(pipe: &[Stage]) -> Option<(&[Step], &Step)>
+fn before_each(pipe: &[Stage]) -> Option<(&[PathStep], &PathStep)>
     ensures { IfSome result (λ x. (program_step x.1.now ≡ each) × (map stage_of pipe.now ≡
         path (map program_step x.0.now ++ each ∷ []) ∷ [])) }
 {
@@ -50,13 +50,13 @@ fn before_each(pipe: &[Stage]) -> Option<(&[Step], &Step)>
         return None;
     };
     match last {
-        Step::Each => Some((front, last)),
-        Step::Key(_) | Step::Index(_) => None,
+        PathStep::Each => Some((front, last)),
+        PathStep::Key(_) | PathStep::Index(_) => None,
     }
 }
 
 /// The one place that there is, if its node has items or values.
-fn parent<'p, 'a, 't>(places: &'p [Place<'a, 't>]) -> Option<&'p Place<'a, 't>>
+fn parent<'p, 'a, 't>(places: &'p [FoundPlace<'a, 't>]) -> Option<&'p FoundPlace<'a, 't>>
     ensures { IfSome result (λ p. steps.for_each (steps.step_on each) (places_of places.now) ≡
         gives (child_places (path_of p.now.path) (node_of p.now.node))) }
 {
@@ -76,8 +76,8 @@ fn parent<'p, 'a, 't>(places: &'p [Place<'a, 't>]) -> Option<&'p Place<'a, 't>>
 fn all_of<'a, 't>(
     alloc: Global,
     bump: &'a Bump,
-    last: &'a Step,
-    places: &[Place<'a, 't>],
+    last: &'a PathStep,
+    places: &[FoundPlace<'a, 't>],
 ) -> Result<FoundPlaces<'a, 't>, ExprError>
     requires { program_step last.now ≡ each }
     ensures { Judges found_places result (steps.for_each (steps.step_on each)
@@ -104,7 +104,7 @@ pub fn find_places<'a, 't>(
     let Some((front, last)) = before_each(pipe) else {
         return find(alloc, bump, doc, pipe, root).map(FoundPlaces::Listed);
     };
-    let start = Place::of_root(&root).alone(alloc)?;
+    let start = FoundPlace::of_root(&root).alone(alloc)?;
     let places = traverse(alloc, bump, front, start)?;
     all_of(alloc, bump, last, &places)
 }

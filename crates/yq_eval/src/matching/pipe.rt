@@ -8,7 +8,7 @@ ghost use Rattle.yq_semantics.specs.Places.{for_each};
 ghost use Rattle.yq_semantics.specs.View.{condition_of, stage_of};
 
 use crate::matching::condition::holds;
-use crate::matching::place::Place;
+use crate::matching::place::FoundPlace;
 use crate::matching::traverse::traverse;
 use bumpalo::Bump;
 use std::alloc::Global;
@@ -20,8 +20,8 @@ fn push_kept<'a, 't>(
     alloc: Global,
     doc: usize,
     condition: &'a Condition,
-    place: &Place<'a, 't>,
-    places: &mut Vec<Place<'a, 't>>,
+    place: &FoundPlace<'a, 't>,
+    places: &mut Vec<FoundPlace<'a, 't>>,
 ) -> Result<(), ExprError>
     ensures { Judges (λ _. places_of places.new.items) result
         (put_behind (places_of places.old.items)
@@ -39,8 +39,8 @@ fn select_each<'a, 't>(
     alloc: Global,
     doc: usize,
     condition: &'a Condition,
-    places: &[Place<'a, 't>],
-) -> Result<Vec<Place<'a, 't>>, ExprError>
+    places: &[FoundPlace<'a, 't>],
+) -> Result<Vec<FoundPlace<'a, 't>>, ExprError>
     ensures { Judges (λ v. places_of v.items) result
         (for_each (spec.select_on doc (condition_of condition.now)) (places_of places.now)) }
 {
@@ -57,8 +57,8 @@ fn stage_on<'a, 't>(
     bump: &'a Bump,
     doc: usize,
     stage: &'a Stage,
-    places: Vec<Place<'a, 't>>,
-) -> Result<Vec<Place<'a, 't>>, ExprError>
+    places: Vec<FoundPlace<'a, 't>>,
+) -> Result<Vec<FoundPlace<'a, 't>>, ExprError>
     ensures { Judges (λ v. places_of v.items) result
         (spec.stage_on doc (stage_of stage.now) (places_of places.entry.items)) }
 {
@@ -74,8 +74,8 @@ pub fn pipe_on<'a, 't>(
     bump: &'a Bump,
     doc: usize,
     pipe: &'a [Stage],
-    start: Vec<Place<'a, 't>>,
-) -> Result<Vec<Place<'a, 't>>, ExprError>
+    start: Vec<FoundPlace<'a, 't>>,
+) -> Result<Vec<FoundPlace<'a, 't>>, ExprError>
     ensures { Judges (λ v. places_of v.items) result
         (spec.pipe_on doc (map stage_of pipe.now) (places_of start.entry.items)) }
 {
@@ -93,10 +93,10 @@ pub fn find<'a, 't>(
     doc: usize,
     pipe: &'a [Stage],
     root: Node<'a, 't>,
-) -> Result<Vec<Place<'a, 't>>, ExprError>
+) -> Result<Vec<FoundPlace<'a, 't>>, ExprError>
     ensures { Judges (λ v. places_of v.items) result
         (spec.places doc (map stage_of pipe.now) (node_of root.entry)) }
 {
-    let start = Place::of_root(&root).alone(alloc)?;
+    let start = FoundPlace::of_root(&root).alone(alloc)?;
     pipe_on(alloc, bump, doc, pipe, start)
 }

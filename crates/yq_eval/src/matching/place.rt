@@ -9,7 +9,7 @@ ghost use Rattle.yq_semantics.specs.View.{program_step};
 
 use std::alloc::{AllocError, Global};
 use yq_nodes::Node;
-use yq_semantics::Step;
+use yq_semantics::PathStep;
 
 /// A step to a node of a document.
 #[derive(Clone, Copy)]
@@ -33,13 +33,13 @@ pub enum NodePath<'a> {
 pub enum Missing<'a> {
     Nothing,
     /// One step further than others.
-    Further(&'a Missing<'a>, &'a Step),
+    Further(&'a Missing<'a>, &'a PathStep),
 }
 
 /// A place: the last node on the way, its path, and the steps that are missing
 /// from there.
 #[derive(Clone, Copy)]
-pub struct Place<'a, 't> {
+pub struct FoundPlace<'a, 't> {
     pub path: NodePath<'a>,
     pub node: Node<'a, 't>,
     pub missing: Missing<'a>,
@@ -47,7 +47,7 @@ pub struct Place<'a, 't> {
 
 impl<'a> Missing<'a> {
     /// One step more than these.
-    fn behind(front: &'a Missing<'a>, step: &'a Step) -> Missing<'a>
+    fn behind(front: &'a Missing<'a>, step: &'a PathStep) -> Missing<'a>
         ensures { missing_of result ≡ missing_of front.now ++ program_step step.now ∷ [] }
     {
         Missing::Further(front, step)
@@ -64,12 +64,12 @@ fn step_to<'a>(child: &Node<'a, '_>, before: usize) -> NodeStep<'a>
     }
 }
 
-impl<'a, 't> Place<'a, 't> {
+impl<'a, 't> FoundPlace<'a, 't> {
     /// The place of a root.
-    pub fn of_root(node: &Node<'a, 't>) -> Place<'a, 't>
+    pub fn of_root(node: &Node<'a, 't>) -> FoundPlace<'a, 't>
         ensures { place_of result ≡ spec.root_place (node_of node.now) }
     {
-        Place {
+        FoundPlace {
             path: NodePath::Root,
             node: *node,
             missing: Missing::Nothing,
@@ -81,11 +81,11 @@ impl<'a, 't> Place<'a, 't> {
         path: &'a NodePath<'a>,
         step: NodeStep<'a>,
         node: &Node<'a, 't>,
-    ) -> Place<'a, 't>
+    ) -> FoundPlace<'a, 't>
         ensures { (p : spec.Place) → p.path ≡ path_of path.now → place_of result ≡
             spec.child_place p (node_step_of step.entry, node_of node.now) }
     {
-        Place {
+        FoundPlace {
             path: NodePath::Below(path, step),
             node: *node,
             missing: Missing::Nothing,
@@ -93,22 +93,26 @@ impl<'a, 't> Place<'a, 't> {
     }
 
     /// The place of an item or entry one step below a path, before which so many stand.
-    pub fn nth_below(path: &'a NodePath<'a>, before: usize, child: &Node<'a, 't>) -> Place<'a, 't>
+    pub fn nth_below(
+        path: &'a NodePath<'a>,
+        before: usize,
+        child: &Node<'a, 't>,
+    ) -> FoundPlace<'a, 't>
         ensures { (p : spec.Place) → p.path ≡ path_of path.now → place_of result ≡
             spec.child_place p (
               spec.step_by before (label_of child.now).key,
               node_of child.now,
             ) }
     {
-        Place::below(path, step_to(child, before), child)
+        FoundPlace::below(path, step_to(child, before), child)
     }
 
     /// The place from which one more step is missing than these, which are missing from here.
-    pub(crate) fn further(&self, front: &'a Missing<'a>, step: &'a Step) -> Place<'a, 't>
+    pub(crate) fn further(&self, front: &'a Missing<'a>, step: &'a PathStep) -> FoundPlace<'a, 't>
         ensures { missing_of front.now ≡ missing_of self.now.missing → place_of result ≡
             spec.further_place (program_step step.now) (place_of self.now) }
     {
-        Place {
+        FoundPlace {
             path: self.path,
             node: self.node,
             missing: Missing::behind(front, step),
@@ -126,7 +130,7 @@ impl<'a, 't> Place<'a, 't> {
     }
 
     /// This place alone.
-    pub fn alone(&self, alloc: Global) -> Result<Vec<Place<'a, 't>>, AllocError>
+    pub fn alone(&self, alloc: Global) -> Result<Vec<FoundPlace<'a, 't>>, AllocError>
         ensures { IfOk result (λ v. places_of v.items ≡ place_of self.now ∷ []) }
     {
         Ok(vec![in alloc; *self]?)

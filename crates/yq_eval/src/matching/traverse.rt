@@ -9,32 +9,32 @@ ghost use Rattle.yq_semantics.specs.Places as spec;
 ghost use Rattle.yq_semantics.specs.Program.{each};
 ghost use Rattle.yq_semantics.specs.View.{program_step};
 
-use crate::matching::place::{Missing, NodePath, NodeStep, Place};
+use crate::matching::place::{FoundPlace, Missing, NodePath, NodeStep};
 use crate::matching::step::{index_step, key_step};
 use bumpalo::Bump;
 use std::alloc::{AllocError, Global};
 use yq_core::Kind;
 use yq_nodes::{Node, NodeKind};
-use yq_semantics::{ExprError, Refusal, Step};
+use yq_semantics::{ExprError, PathStep, Refusal};
 
 /// Puts the place from which the step is missing behind others. `[]` leads to
 /// none there.
 fn push_missing<'a, 't>(
     bump: &'a Bump,
-    step: &'a Step,
-    place: &Place<'a, 't>,
-    places: &mut Vec<Place<'a, 't>>,
+    step: &'a PathStep,
+    place: &FoundPlace<'a, 't>,
+    places: &mut Vec<FoundPlace<'a, 't>>,
 ) -> Result<(), AllocError>
     ensures { OnOk result (places_of places.new.items ≡ places_of places.old.items ++
         spec.miss (program_step step.now) (place_of place.now)) }
 {
     match step {
-        Step::Key(_) | Step::Index(_) => {
+        PathStep::Key(_) | PathStep::Index(_) => {
             let front: &'a Missing<'a> = bump.try_alloc(place.missing)?;
             places.push(place.further(front, step))?;
             Ok(())
         }
-        Step::Each => Ok(()),
+        PathStep::Each => Ok(()),
     }
 }
 
@@ -42,10 +42,10 @@ fn push_missing<'a, 't>(
 /// is missing.
 fn push_found<'a, 't>(
     bump: &'a Bump,
-    step: &'a Step,
-    place: &Place<'a, 't>,
+    step: &'a PathStep,
+    place: &FoundPlace<'a, 't>,
     found: &Option<(NodeStep<'a>, Node<'a, 't>)>,
-    places: &mut Vec<Place<'a, 't>>,
+    places: &mut Vec<FoundPlace<'a, 't>>,
 ) -> Result<(), AllocError>
     ensures { OnOk result (places_of places.new.items ≡
         places_of places.old.items ++ spec.found_place (program_step step.now) (place_of place.now)
@@ -55,7 +55,7 @@ fn push_found<'a, 't>(
         None => push_missing(bump, step, place, places),
         Some((to, node)) => {
             let path: &'a NodePath<'a> = bump.try_alloc(place.path)?;
-            places.push(Place::below(path, *to, node))?;
+            places.push(FoundPlace::below(path, *to, node))?;
             Ok(())
         }
     }
@@ -64,8 +64,8 @@ fn push_found<'a, 't>(
 /// Puts the places of all items or values of a place's node behind others.
 fn push_children<'a, 't>(
     bump: &'a Bump,
-    place: &Place<'a, 't>,
-    places: &mut Vec<Place<'a, 't>>,
+    place: &FoundPlace<'a, 't>,
+    places: &mut Vec<FoundPlace<'a, 't>>,
 ) -> Result<(), AllocError>
     ensures { OnOk result (places_of places.new.items ≡
         places_of places.old.items ++ map (spec.child_place (place_of place.now))
@@ -79,7 +79,7 @@ fn push_children<'a, 't>(
         let Some(child) = children.next() else {
             return Ok(());
         };
-        places.push(Place::nth_below(path, before, &child))?;
+        places.push(FoundPlace::nth_below(path, before, &child))?;
         before += 1;
     }
     Ok(())
@@ -88,8 +88,8 @@ fn push_children<'a, 't>(
 /// Puts the places of all items or values of a place's node behind others.
 fn push_all<'a, 't>(
     bump: &'a Bump,
-    place: &Place<'a, 't>,
-    places: &mut Vec<Place<'a, 't>>,
+    place: &FoundPlace<'a, 't>,
+    places: &mut Vec<FoundPlace<'a, 't>>,
 ) -> Result<(), ExprError>
     ensures { Judges (λ _. places_of places.new.items) result
         (put_behind (places_of places.old.items) (spec.step_there each (place_of place.now))) }
@@ -106,9 +106,9 @@ fn push_all<'a, 't>(
 #[tactic(auto, using(crate::proofs::PlaceLaws::missed_on))]
 fn push_step<'a, 't>(
     bump: &'a Bump,
-    step: &'a Step,
-    place: &Place<'a, 't>,
-    places: &mut Vec<Place<'a, 't>>,
+    step: &'a PathStep,
+    place: &FoundPlace<'a, 't>,
+    places: &mut Vec<FoundPlace<'a, 't>>,
 ) -> Result<(), ExprError>
     ensures { Judges (λ _. places_of places.new.items) result
         (put_behind (places_of places.old.items)
@@ -118,9 +118,9 @@ fn push_step<'a, 't>(
         return Ok(push_missing(bump, step, place, places)?);
     }
     let found = match step {
-        Step::Key(key) => key_step(&place.node, key.as_str())?,
-        Step::Index(index) => index_step(&place.node, *index)?,
-        Step::Each => return push_all(bump, place, places),
+        PathStep::Key(key) => key_step(&place.node, key.as_str())?,
+        PathStep::Index(index) => index_step(&place.node, *index)?,
+        PathStep::Each => return push_all(bump, place, places),
     };
     Ok(push_found(bump, step, place, &found, places)?)
 }
@@ -129,9 +129,9 @@ fn push_step<'a, 't>(
 pub(crate) fn step_each<'a, 't>(
     alloc: Global,
     bump: &'a Bump,
-    step: &'a Step,
-    places: &[Place<'a, 't>],
-) -> Result<Vec<Place<'a, 't>>, ExprError>
+    step: &'a PathStep,
+    places: &[FoundPlace<'a, 't>],
+) -> Result<Vec<FoundPlace<'a, 't>>, ExprError>
     ensures { Judges (λ v. places_of v.items) result
         (spec.for_each (spec.step_on (program_step step.now)) (places_of places.now)) }
 {
@@ -146,9 +146,9 @@ pub(crate) fn step_each<'a, 't>(
 pub(crate) fn traverse<'a, 't>(
     alloc: Global,
     bump: &'a Bump,
-    steps: &'a [Step],
-    start: Vec<Place<'a, 't>>,
-) -> Result<Vec<Place<'a, 't>>, ExprError>
+    steps: &'a [PathStep],
+    start: Vec<FoundPlace<'a, 't>>,
+) -> Result<Vec<FoundPlace<'a, 't>>, ExprError>
     ensures { Judges (λ v. places_of v.items) result
         (spec.traverse (map program_step steps.now) (places_of start.entry.items)) }
 {

@@ -1,6 +1,6 @@
 //! What is taken out of a text with the first item or entry of a compact collection.
 ghost use Rattle.std.specs.Prelude.{◌≡◌, option_map};
-ghost use Rattle.yq_text.specs.Halves.{halves_text};
+ghost use Rattle.yq_text.specs.Halves.{whole};
 ghost use Rattle.yq_places.specs.FirstPlaces as spec;
 ghost use Rattle.yq_places.specs.FirstViews.{first_view};
 ghost use Rattle.yq_documents.specs.Located.{steps_of};

@@ -1,6 +1,6 @@
 //! Lines above rows, where head comments stand or would stand.
 ghost use Rattle.std.specs.Prelude.{◌≡◌, option_map};
-ghost use Rattle.yq_text.specs.Halves.{halves_text};
+ghost use Rattle.yq_text.specs.Halves.{whole};
 ghost use Rattle.yq_places.specs.CommentPlaces as spec;
 ghost use Rattle.yq_places.specs.CommentViews.{above_view};
 ghost use Rattle.yq_documents.specs.Located.{steps_of};

@@ -1,6 +1,6 @@
 //! What stands at roots.
 ghost use Rattle.std.specs.Prelude.{◌≡◌, ◌<◌, [], option_map};
-ghost use Rattle.yq_text.specs.Halves.{halves_text};
+ghost use Rattle.yq_text.specs.Halves.{whole};
 ghost use Rattle.yq_documents.specs.Reading.{cut_of};
 ghost use Rattle.yq_places.specs.RootReading as reading;
 ghost use Rattle.yq_places.specs.Standings as spec;

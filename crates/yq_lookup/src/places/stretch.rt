@@ -15,7 +15,8 @@ impl<'d, 't> CutText<'d, 't> {
     /// The rows of document `doc`, counted from 0, if there is one.
     #[inline(always)]
     pub fn stretch(&self, doc: usize) -> Option<Stretch>
-        ensures place { option_map stretch_view result ≡ spec.document_row_range doc (cut_of self.now) }
+        ensures place { option_map stretch_view result ≡
+            spec.document_row_range doc (cut_of self.now) }
         ensures sound { all_documents (cut_of self.now) ≡ true }
     {
         let _whole = self.whole();

@@ -9,27 +9,27 @@ use crate::error::ParseError;
 use crate::front::{after, closed, key, number, string};
 use std::alloc::Global;
 use yq_scalar_reader::int_value;
-use yq_semantics::Step;
+use yq_semantics::PathStep;
 
 /// A step in brackets, from behind the opening one.
 #[tactic(auto, unfolding(crate::specs::Parse::bracketed_at))]
-fn bracketed(alloc: Global, text: &str) -> Result<(Step, &str), ParseError>
+fn bracketed(alloc: Global, text: &str) -> Result<(PathStep, &str), ParseError>
     ensures value { ReadsForm program_step result (spec.bracketed_at (tokens text.now)) }
     ensures shorter { Shortens text.now result }
 {
     if let Some(rest) = after(text, "]") {
-        return Ok((Step::Each, rest));
+        return Ok((PathStep::Each, rest));
     }
     if let Some((digits, rest)) = number(text) {
         let index = int_value(digits).ok_or(ParseError::Syntax)?;
-        return closed(Step::Index(index), rest, "]");
+        return closed(PathStep::Index(index), rest, "]");
     }
     let (key, rest) = string(alloc, text)?;
-    closed(Step::Key(key), rest, "]")
+    closed(PathStep::Key(key), rest, "]")
 }
 
 /// A step in brackets, if an opening one is in front.
-fn bracket(alloc: Global, text: &str) -> Result<Option<(Step, &str)>, ParseError>
+fn bracket(alloc: Global, text: &str) -> Result<Option<(PathStep, &str)>, ParseError>
     ensures value { ReadsMaybe program_step result (spec.bracket_at (tokens text.now)) }
     ensures shorter { IfOk result (λ o. IsShorter text.now o) }
 {
@@ -41,12 +41,12 @@ fn bracket(alloc: Global, text: &str) -> Result<Option<(Step, &str)>, ParseError
 
 /// A step of a path, if one is in front.
 #[tactic(auto, unfolding(crate::specs::Parse::step_at))]
-fn next_step(alloc: Global, text: &str) -> Result<Option<(Step, &str)>, ParseError>
+fn next_step(alloc: Global, text: &str) -> Result<Option<(PathStep, &str)>, ParseError>
     ensures value { ReadsMaybe program_step result (spec.step_at (tokens text.now)) }
     ensures shorter { IfOk result (λ o. IsShorter text.now o) }
 {
     if let Some((key, rest)) = key(alloc, text)? {
-        return Ok(Some((Step::Key(key), rest)));
+        return Ok(Some((PathStep::Key(key), rest)));
     }
     match after(text, ".") {
         Some(rest) => bracket(alloc, rest),
@@ -55,7 +55,7 @@ fn next_step(alloc: Global, text: &str) -> Result<Option<(Step, &str)>, ParseErr
 }
 
 /// The steps in front, all of them.
-fn steps(alloc: Global, text: &str) -> Result<(Vec<Step>, &str), ParseError>
+fn steps(alloc: Global, text: &str) -> Result<(Vec<PathStep>, &str), ParseError>
     ensures value { ReadsForm (λ v. map program_step v.items) result
         (spec.many spec.step_at (tokens text.now)) }
     ensures within { IfOk result (λ x. length x.1.now ≤ length text.now) }
@@ -76,8 +76,9 @@ fn steps(alloc: Global, text: &str) -> Result<(Vec<Step>, &str), ParseError>
 
 /// A path: its steps, none for `.`.
 #[tactic(auto, unfolding(crate::specs::Parse::path_at))]
-pub(super) fn path(alloc: Global, text: &str) -> Result<(Vec<Step>, &str), ParseError>
-    ensures value { ReadsForm (λ v. map program_step v.items) result (spec.path_at (tokens text.now)) }
+pub(super) fn path(alloc: Global, text: &str) -> Result<(Vec<PathStep>, &str), ParseError>
+    ensures value { ReadsForm (λ v. map program_step v.items) result
+        (spec.path_at (tokens text.now)) }
     ensures shorter { Shortens text.now result }
 {
     if after(text, "[").is_some() {

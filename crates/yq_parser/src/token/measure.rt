@@ -8,7 +8,7 @@ ghost use Rattle.yq_parser.specs.Lexing as spec;
 ghost use Rattle.yq_semantics.specs.Tokens as grammar;
 ghost use Rattle.yq_semantics.specs.Tokens.{is_name_byte};
 
-use super::Form;
+use super::TokenForm;
 
 fn is_escape(b: u8) -> bool
     ensures { result ≡ is_some (grammar.escaped_character b) }
@@ -135,34 +135,41 @@ fn is_word(name: &[u8]) -> bool
 }
 
 /// A string of that form with so many bytes before it, or a foreign token.
-fn quoted(form: Form, before: usize, closed: Option<(bool, usize)>) -> Option<(Form, usize)>
+fn quoted(
+    form: TokenForm,
+    before: usize,
+    closed: Option<(bool, usize)>,
+) -> Option<(TokenForm, usize)>
     requires { IfSome closed (λ x. before + x.1 < 2 ^ 64) }
     ensures { result ≡ spec.quoted form before closed }
 {
     let (foreign, len) = closed?;
-    Some((if foreign { Form::Foreign } else { form }, before + len))
+    Some((
+        if foreign { TokenForm::Foreign } else { form },
+        before + len,
+    ))
 }
 
 /// The token that begins with a dot, from behind the dot.
-fn dotted(text: &[u8]) -> Option<(Form, usize)>
+fn dotted(text: &[u8]) -> Option<(TokenForm, usize)>
     ensures { result ≡ spec.dotted text.now }
 {
     match text {
-        [b'.', ..] => Some((Form::Foreign, 2)),
-        [b'"', rest @ ..] => quoted(Form::Quoted, 2, closing(rest)),
-        [b, ..] if begins_name(*b) => Some((Form::Name, 1 + name_len(text))),
-        _ => Some((Form::Symbol, 1)),
+        [b'.', ..] => Some((TokenForm::Foreign, 2)),
+        [b'"', rest @ ..] => quoted(TokenForm::Quoted, 2, closing(rest)),
+        [b, ..] if begins_name(*b) => Some((TokenForm::Name, 1 + name_len(text))),
+        _ => Some((TokenForm::Symbol, 1)),
     }
 }
 
-fn named(text: &[u8]) -> Option<(Form, usize)>
+fn named(text: &[u8]) -> Option<(TokenForm, usize)>
     ensures { result ≡ spec.read_word text.now }
 {
     let len = name_len(text);
     let form = if is_word(text.split_at(len).0) {
-        Form::Symbol
+        TokenForm::Symbol
     } else {
-        Form::Foreign
+        TokenForm::Foreign
     };
     Some((form, len))
 }
@@ -198,22 +205,22 @@ fn is_foreign(b: u8) -> bool
 }
 
 /// The mark or the foreign character in front.
-fn marked(first: u8, rest: &[u8]) -> Option<(Form, usize)>
+fn marked(first: u8, rest: &[u8]) -> Option<(TokenForm, usize)>
     ensures { result ≡ spec.marked first rest.now }
 {
     if matches!(first, b'|' | b'+' | b'=' | b'!') && matches!(rest, [b'=', ..]) {
-        Some((Form::Symbol, 2))
+        Some((TokenForm::Symbol, 2))
     } else if is_mark(first) {
-        Some((Form::Symbol, 1))
+        Some((TokenForm::Symbol, 1))
     } else if is_foreign(first) {
-        Some((Form::Foreign, 1))
+        Some((TokenForm::Foreign, 1))
     } else {
         None
     }
 }
 
 /// The word, the foreign name, the mark or the foreign character in front.
-fn worded(text: &[u8]) -> Option<(Form, usize)>
+fn worded(text: &[u8]) -> Option<(TokenForm, usize)>
     ensures { result ≡ spec.worded text.now }
 {
     match text {
@@ -231,20 +238,20 @@ fn is_negative(first: u8, rest: &[u8]) -> bool
 
 /// The form and the length of the token in front.
 #[tactic(auto, unfolding(crate::specs::Lexing::token_measure))]
-pub(super) fn measure(text: &[u8]) -> Option<(Form, usize)>
+pub(super) fn measure(text: &[u8]) -> Option<(TokenForm, usize)>
     ensures { result ≡ spec.token_measure text.now }
 {
     let [first, rest @ ..] = text else {
         return None;
     };
     if *first == b'"' {
-        quoted(Form::Text, 1, closing(rest))
+        quoted(TokenForm::Text, 1, closing(rest))
     } else if *first == b'.' {
         dotted(rest)
     } else if is_negative(*first, rest) {
-        Some((Form::Number, 1 + number_len(rest)))
+        Some((TokenForm::Number, 1 + number_len(rest)))
     } else if first.is_ascii_digit() {
-        Some((Form::Number, number_len(text)))
+        Some((TokenForm::Number, number_len(text)))
     } else {
         worded(text)
     }

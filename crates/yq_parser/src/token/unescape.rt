@@ -20,7 +20,7 @@ pub(super) fn skip(text: &str, n: usize) -> &str
 
 /// What follows the character, if it is in front.
 pub(super) fn past_quote(text: &str) -> &str
-    ensures { result.now ≡ spec.past_character 34 text.now }
+    ensures { result.now ≡ spec.after_character 34 text.now }
 {
     match text.as_bytes() {
         [b'"', ..] => skip(text, 1),
@@ -29,7 +29,7 @@ pub(super) fn past_quote(text: &str) -> &str
 }
 
 pub(super) fn past_dot(text: &str) -> &str
-    ensures { result.now ≡ spec.past_character 46 text.now }
+    ensures { result.now ≡ spec.after_character 46 text.now }
 {
     match text.as_bytes() {
         [b'.', ..] => skip(text, 1),
@@ -63,7 +63,8 @@ fn split_plain(text: &str) -> (&str, &str)
 }
 
 fn escape(b: u8) -> Option<&'static str>
-    ensures { option_map (λ s. s.now) result ≡ option_map (λ c. c ∷ []) (grammar.escaped_character b) }
+    ensures { option_map (λ s. s.now) result ≡
+        option_map (λ c. c ∷ []) (grammar.escaped_character b) }
 {
     match b {
         b'"' => Some("\""),

@@ -1,6 +1,6 @@
 //! What stands at items and entries, by their rows.
 ghost use Rattle.std.specs.Prelude.{◌≡◌, ◌<◌, true, List, ℕ};
-ghost use Rattle.yq_text.specs.Halves.{halves_text};
+ghost use Rattle.yq_text.specs.Halves.{whole};
 ghost use Rattle.yq_row_table.specs.Grammar.{IsMark};
 ghost use Rattle.yq_row_table.specs.Rows.{Row as RowOf, rows_text};
 ghost use Rattle.yq_row_table.specs.View.{slices, row_view};
@@ -21,16 +21,16 @@ use yq_text::Halves;
 
 /// Whether a row is a node that is alone on its line.
 pub fn is_alone(row: &Row<'_>) -> bool
-    ensures { (r : RowOf) (rest : List ℕ) → slices r ≡ row_view row.now → IsMark r.mark r.content rest →
-        result ≡ spec.is_alone r }
+    ensures { (r : RowOf) (rest : List ℕ) → slices r ≡ row_view row.now →
+        IsMark r.mark r.content rest → result ≡ spec.is_alone r }
 {
     row.dashes().is_empty() && row.colon().is_empty()
 }
 
 /// The node in row `i`, which is alone on its line.
 pub fn lone_in<'t>(rows: &Rows<'t>, text: Halves<'t>, i: usize) -> Lone<'t>
-    requires { BeginsRows (halves_text text) rows.now i }
-    ensures { (e : spec.RowsOfEntry) (end : ℕ) → AreRowsOf (halves_text text.entry) rows.now e i end →
+    requires { BeginsRows (whole text) rows.now i }
+    ensures { (e : spec.RowsOfEntry) (end : ℕ) → AreRowsOf (whole text.entry) rows.now e i end →
         spec.is_alone e.row ≡ true →
         row_agrees.lone_view result ≡ spec.lone (spec.before_entry e) e.row
         (rows_text e.under (spec.behind_entry e)) }
@@ -49,9 +49,9 @@ pub fn lone_in<'t>(rows: &Rows<'t>, text: Halves<'t>, i: usize) -> Lone<'t>
 
 /// The collection that begins on the line of a dash.
 fn compact_in<'t>(rows: &Rows<'t>, text: Halves<'t>, at: RowsOfEntry) -> Compact<'t>
-    requires entry { HasEntry (halves_text text) rows.now at }
+    requires entry { HasEntry (whole text) rows.now at }
     requires dash { at.line < at.dashes }
-    ensures { (e : spec.RowsOfEntry) → IsEntryIn (halves_text text.entry) rows.now e at →
+    ensures { (e : spec.RowsOfEntry) → IsEntryIn (whole text.entry) rows.now e at →
         row_agrees.compact_view result ≡ spec.compact_in e }
 {
     is_text(text);
@@ -75,8 +75,8 @@ fn compact_in<'t>(rows: &Rows<'t>, text: Halves<'t>, at: RowsOfEntry) -> Compact
 
 /// What stands behind a key or dash behind which no node is written on its line.
 fn below<'t>(rows: &Rows<'t>, text: Halves<'t>, at: RowsOfEntry) -> Standing<'t>
-    requires { HasEntry (halves_text text) rows.now at }
-    ensures { (e : spec.RowsOfEntry) → IsEntryIn (halves_text text.entry) rows.now e at →
+    requires { HasEntry (whole text) rows.now at }
+    ensures { (e : spec.RowsOfEntry) → IsEntryIn (whole text.entry) rows.now e at →
         row_agrees.standing_view result ≡ spec.below e e.under }
 {
     let next = at.row + 1;
@@ -92,8 +92,8 @@ fn below<'t>(rows: &Rows<'t>, text: Halves<'t>, at: RowsOfEntry) -> Standing<'t>
 
 /// What stands at an item or entry.
 pub fn entry_standing<'t>(rows: &Rows<'t>, text: Halves<'t>, at: RowsOfEntry) -> Standing<'t>
-    requires { HasEntry (halves_text text) rows.now at }
-    ensures { (e : spec.RowsOfEntry) → IsEntryIn (halves_text text.entry) rows.now e at →
+    requires { HasEntry (whole text) rows.now at }
+    ensures { (e : spec.RowsOfEntry) → IsEntryIn (whole text.entry) rows.now e at →
         row_agrees.standing_view result ≡ spec.entry_standing e }
 {
     if at.line != at.dashes {

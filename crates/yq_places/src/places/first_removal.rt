@@ -1,6 +1,6 @@
 //! What is taken out of a text with the first item or entry of a compact collection.
 ghost use Rattle.std.specs.Prelude.{◌≡◌};
-ghost use Rattle.yq_text.specs.Halves.{halves_text};
+ghost use Rattle.yq_text.specs.Halves.{whole};
 ghost use Rattle.yq_places.specs.FirstPlaces as spec;
 ghost use Rattle.yq_places.specs.FirstViews.{first_view, piece_between};
 
@@ -26,8 +26,9 @@ pub struct FirstRemoval<'d> {
 
 /// What is taken out with an item or entry between two texts.
 pub fn first_out<'d>(before: Halves<'d>, own: Halves<'d>, behind: Halves<'d>) -> FirstRemoval<'d>
-    ensures { first_view result ≡ spec.first_out (piece_between (halves_text before.entry) (halves_text own.entry)
-        (halves_text behind.entry)) }
+    ensures { first_view result ≡
+        spec.first_out (piece_between
+        (whole before.entry) (whole own.entry) (whole behind.entry)) }
 {
     let (line, next) = split_line(behind);
     if begins_gap(next) {

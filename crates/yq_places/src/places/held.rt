@@ -1,6 +1,6 @@
 //! Keys and dashes of a text, with what they hold.
 ghost use Rattle.std.specs.Prelude.{◌≡◌, ◌≤◌, ◌+◌, ◌||◌, length, not};
-ghost use Rattle.yq_text.specs.Halves.{halves_text};
+ghost use Rattle.yq_text.specs.Halves.{whole};
 ghost use Rattle.yq_text.specs.Limit.{text_limit};
 ghost use Rattle.yq_core.specs.Text.{is_empty};
 ghost use Rattle.yq_row_table.specs.View.{row_view};
@@ -20,7 +20,7 @@ use yq_text::Halves;
 
 /// A key or dash of a text.
 #[derive(Clone, Copy)]
-pub struct Mark {
+pub struct EntryMark {
     /// Its column, counted from 0.
     pub column: usize,
     /// Whether it is a key.
@@ -34,7 +34,7 @@ pub struct Mark {
 #[derive(Clone, Copy)]
 pub struct Held<'t> {
     /// The key or dash.
-    pub mark: Mark,
+    pub mark: EntryMark,
     /// The text up to it, or to its anchor, with these.
     pub before: Halves<'t>,
     /// The white space behind that.
@@ -56,14 +56,14 @@ pub struct Held<'t> {
 }
 
 /// The key or dash of a line of a row that ends with a comment, or with none.
-pub fn mark_of(row: &Row<'_>, line: usize, keyed: bool, comment: &str) -> Mark
+pub fn mark_of(row: &Row<'_>, line: usize, keyed: bool, comment: &str) -> EntryMark
     requires { (row_view row.now).column + length (row_view row.now).dashes ≤ text_limit }
     ensures column { result.column ≡ line_column line (row_view row.now) }
     ensures keyed { result.keyed ≡ keyed }
     ensures noted { result.noted ≡ (not (is_empty (row_view row.now).anchor) ||
         not (is_empty comment.now)) }
 {
-    Mark {
+    EntryMark {
         column: line_column(row, line),
         keyed,
         noted: !row.anchor().is_empty() || !comment.is_empty(),
@@ -90,8 +90,8 @@ fn space_before<'t>(row: &Row<'t>) -> &'t str
 
 /// What the key or dash of rows holds.
 pub fn held_in<'t>(rows: &Rows<'t>, text: Halves<'t>, at: RowsOfEntry) -> Held<'t>
-    requires { HasEntry (halves_text text) rows.now at }
-    ensures { (e : spec.RowsOfEntry) → IsEntryIn (halves_text text.entry) rows.now e at →
+    requires { HasEntry (whole text) rows.now at }
+    ensures { (e : spec.RowsOfEntry) → IsEntryIn (whole text.entry) rows.now e at →
         row_agrees.held_view result ≡ spec.held e }
 {
     is_text(text);

@@ -1,6 +1,6 @@
 //! Lines above rows, where head comments stand or would stand.
 ghost use Rattle.std.specs.Prelude.{◌≡◌};
-ghost use Rattle.yq_text.specs.Halves.{halves_text};
+ghost use Rattle.yq_text.specs.Halves.{whole};
 ghost use Rattle.yq_places.specs.CommentPlaces as spec;
 ghost use Rattle.yq_places.specs.CommentViews.{above_view, GapStands};
 
@@ -22,8 +22,8 @@ pub struct LinesAbove<'d> {
 
 /// The lines above a row in a column, before which, from a place on, a gap stands.
 pub fn above<'d>(text: Halves<'d>, start: usize, gap: &'d str, column: usize) -> LinesAbove<'d>
-    requires gap { GapStands (halves_text text) start gap.now }
-    ensures { (h : GapStands (halves_text text.entry) start gap.now) →
+    requires gap { GapStands (whole text) start gap.now }
+    ensures { (h : GapStands (whole text.entry) start gap.now) →
         above_view result ≡ spec.gap_above h.before gap.now column h.rest }
 {
     let run = last_run(gap);

@@ -1,6 +1,6 @@
 //! Lines cut out of a text, and the ends of lines.
 ghost use Rattle.std.specs.Prelude.{[], ◌≡◌, if◌then◌else◌};
-ghost use Rattle.yq_text.specs.Halves.{halves_text};
+ghost use Rattle.yq_text.specs.Halves.{whole};
 ghost use Rattle.yq_row_table.specs.View.{row_view};
 ghost use Rattle.yq_places.specs.CommentPlaces.{end_in_line};
 ghost use Rattle.yq_places.specs.LineReading as reading;
@@ -34,8 +34,8 @@ pub struct TailCut<'t> {
 
 /// A break that ends a text, as one string.
 fn last_break<'t>(end: Halves<'_>) -> &'t str
-    requires { reading.IsLastBreak (halves_text end) }
-    ensures { result.now ≡ halves_text end.entry }
+    requires { reading.IsLastBreak (whole end) }
+    ensures { result.now ≡ whole end.entry }
 {
     match end.len() {
         0 => "",
@@ -46,8 +46,8 @@ fn last_break<'t>(end: Halves<'_>) -> &'t str
 
 /// Lines from a place on up to another one, in bytes.
 pub fn cut_lines<'t>(text: Halves<'t>, from: usize, stop: usize) -> LinesCut<'t>
-    requires { reading.CutsLines (halves_text text) from stop }
-    ensures { (h : reading.CutsLines (halves_text text.entry) from stop) →
+    requires { reading.CutsLines (whole text) from stop }
+    ensures { (h : reading.CutsLines (whole text.entry) from stop) →
         reading.lines_view result ≡ reading.line_list h }
 {
     let (before, own, behind) = cut_at(text, from, stop);

@@ -129,7 +129,8 @@ pub fn block_node<'t>(rows: &Rows<'_>, document: Stretch, place: NodePlace) -> O
     requires document { HasRows rows.now document }
     requires place { reading.IsPlace rows.now document place }
     ensures { (h : HasRows rows.now document) →
-        reading.place_line (lines_of_rows h.rows) (reading.place_view document h.rows place) ≡ None →
+        reading.place_line (lines_of_rows h.rows)
+        (reading.place_view document h.rows place) ≡ None →
         option_map spec.node_view result ≡
         reading.summary_of_lines (lines_of_rows h.rows) (reading.place_view document h.rows place) }
 {

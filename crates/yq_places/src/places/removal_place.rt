@@ -1,6 +1,6 @@
 //! What is taken out of a text with an item or entry of a block collection.
 ghost use Rattle.std.specs.Prelude.{◌≡◌, ◌<◌, ◌≤◌, ◌+◌, ◌-◌, ◌++◌, ℕ, List, Option, drop, take, length, map, option_map, IfSome, Some};
-ghost use Rattle.yq_text.specs.Halves.{halves_text};
+ghost use Rattle.yq_text.specs.Halves.{whole};
 ghost use Rattle.yq_core.specs.Entries.{tree_step};
 ghost use Rattle.yq_row_table.specs.Grammar.{IsCut};
 ghost use Rattle.yq_row_table.specs.Removal.{block_numbers, hold_comment, last_block};
@@ -155,9 +155,9 @@ fn seam_of(block: Option<(bool, usize)>, column: usize, kept: &str) -> Option<Se
 
 /// What is taken out of a text with these rows of a document.
 pub fn rows_out<'d>(rows: &Rows<'d>, text: Halves<'d>, marks: (usize, usize, usize)) -> Removal<'d>
-    requires { reading.HasOwn (halves_text text) rows.now (marks.0, marks.1, marks.2) }
+    requires { reading.HasOwn (whole text) rows.now (marks.0, marks.1, marks.2) }
     ensures { (d : PlacedPart) (x : spec.OwnRows) →
-        reading.IsOwn (halves_text text.entry) rows.now d x (marks.0, marks.1, marks.2) →
+        reading.IsOwn (whole text.entry) rows.now d x (marks.0, marks.1, marks.2) →
         reading.removal_view result ≡ spec.rows_out d x }
 {
     is_text(text);

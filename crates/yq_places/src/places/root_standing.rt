@@ -1,6 +1,6 @@
 //! What stands at roots.
 ghost use Rattle.std.specs.Prelude.{◌≡◌, ◌<◌, ◌∷◌};
-ghost use Rattle.yq_text.specs.Halves.{halves_text};
+ghost use Rattle.yq_text.specs.Halves.{whole};
 ghost use Rattle.yq_places.specs.Standings as spec;
 ghost use Rattle.yq_places.specs.StandingReading.{IsRootOf};
 ghost use Rattle.yq_places.specs.StandingViews as row_agrees;
@@ -16,8 +16,8 @@ use yq_text::Halves;
 
 /// The root of a document as a block collection: from its first key or dash to its last line.
 fn block_root_in<'t>(rows: &Rows<'t>, text: Halves<'t>, document: Stretch) -> BlockRoot<'t>
-    requires { IsRootOf (halves_text text) rows.now document }
-    ensures { (h : IsRootOf (halves_text text.entry) rows.now document) →
+    requires { IsRootOf (whole text) rows.now document }
+    ensures { (h : IsRootOf (whole text.entry) rows.now document) →
         row_agrees.root_view result ≡ spec.block_root h.part h.row h.under }
 {
     is_text(text);
@@ -39,8 +39,8 @@ fn block_root_in<'t>(rows: &Rows<'t>, text: Halves<'t>, document: Stretch) -> Bl
 
 /// What stands at the root of a document with rows.
 pub fn rows_standing<'t>(rows: &Rows<'t>, text: Halves<'t>, document: Stretch) -> Standing<'t>
-    requires { IsRootOf (halves_text text) rows.now document }
-    ensures { (h : IsRootOf (halves_text text.entry) rows.now document) →
+    requires { IsRootOf (whole text) rows.now document }
+    ensures { (h : IsRootOf (whole text.entry) rows.now document) →
         row_agrees.standing_view result ≡ spec.root_standing h.part (h.row ∷ h.under) }
 {
     if is_alone(&rows.row(document.first)) {

@@ -1,6 +1,6 @@
 //! The heads of rows, read again.
 ghost use Rattle.std.specs.Prelude.{◌≡◌, ◌<◌, IfSome, Some};
-ghost use Rattle.yq_text.specs.Halves.{halves_text};
+ghost use Rattle.yq_text.specs.Halves.{whole};
 
 use yq_outline::Head;
 use yq_text::Halves;
@@ -18,7 +18,7 @@ pub struct RowHead<'t> {
 
 /// A text of which one half is empty, as one. A row has no split inside.
 pub fn in_one(text: Halves<'_>) -> Option<&str>
-    ensures { IfSome result (λ t. t.now ≡ halves_text text.entry) }
+    ensures { IfSome result (λ t. t.now ≡ whole text.entry) }
 {
     if text.front.is_empty() {
         return Some(text.back);

@@ -1,5 +1,5 @@
 //! What stands in a text where paths lead, outside flow collections.
-use crate::places::held::{Held, Mark};
+use crate::places::held::{EntryMark, Held};
 use yq_text::Halves;
 
 /// A node that is alone on its line: under a key or dash, or as a root.
@@ -17,7 +17,7 @@ pub struct Lone<'t> {
 #[derive(Clone, Copy)]
 pub struct Compact<'t> {
     /// The dash.
-    pub mark: Mark,
+    pub mark: EntryMark,
     /// The column of the collection's items or entries, counted from 0.
     pub column: usize,
     /// The text up to the dash, with it.

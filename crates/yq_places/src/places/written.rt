@@ -1,7 +1,7 @@
 //! A text in three pieces.
 ghost use Rattle.std.specs.Prelude.{◌≡◌, ◌≤◌, ◌-◌, drop, take};
 ghost use Rattle.std.specs.Str.{IsCharBoundary};
-ghost use Rattle.yq_text.specs.Halves.{halves_text};
+ghost use Rattle.yq_text.specs.Halves.{whole};
 
 use yq_text::Halves;
 
@@ -12,11 +12,11 @@ pub fn cut_at<'t>(
     end: usize,
 ) -> (Halves<'t>, Halves<'t>, Halves<'t>)
     requires order { start ≤ end }
-    requires start { IsCharBoundary (halves_text text) start }
-    requires end { IsCharBoundary (drop start (halves_text text)) (end - start) }
-    ensures before { halves_text result.0 ≡ take start (halves_text text.entry) }
-    ensures middle { halves_text result.1 ≡ take (end - start) (drop start (halves_text text.entry)) }
-    ensures behind { halves_text result.2 ≡ drop (end - start) (drop start (halves_text text.entry)) }
+    requires start { IsCharBoundary (whole text) start }
+    requires end { IsCharBoundary (drop start (whole text)) (end - start) }
+    ensures before { whole result.0 ≡ take start (whole text.entry) }
+    ensures middle { whole result.1 ≡ take (end - start) (drop start (whole text.entry)) }
+    ensures behind { whole result.2 ≡ drop (end - start) (drop start (whole text.entry)) }
 {
     let (before, rest) = text.split_at(start);
     let (middle, behind) = rest.split_at(end - start);

@@ -27,7 +27,7 @@ pub enum Change {
 
 /// A change, and the steps from the root to its node.
 #[derive(Drop)]
-pub struct Changed {
+pub struct PlacedChange {
     pub path: Vec<Step>,
     pub change: Change,
 }

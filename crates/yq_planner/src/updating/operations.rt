@@ -5,7 +5,7 @@ ghost use Rattle.yq_planner.specs.ChangeView.{addition_of, all_changed_of, chang
 ghost use Rattle.yq_semantics.specs.Operations.{operation_of, operations_of};
 ghost use Rattle.yq_semantics.specs.Plans as spec;
 
-use crate::updating::change::{Addition, Change, Changed};
+use crate::updating::change::{Addition, Change, PlacedChange};
 use std::alloc::{AllocError, Global};
 use yq_core::Step;
 use yq_documents::Path;
@@ -59,7 +59,7 @@ fn comment_op(path: Path, place: CommentPlace, text: String) -> Op
 fn push_change(
     alloc: Global,
     doc: usize,
-    changed: Changed,
+    changed: PlacedChange,
     ops: &mut Vec<Op>,
 ) -> Result<(), AllocError>
     ensures { OnOk result (operations_of ops.new.items ≡
@@ -81,7 +81,7 @@ fn push_change(
 /// Changes in the order in which they are made: removals last to first, since
 /// what goes shifts what stands behind it.
 #[tactic(auto, using(yq_semantics::proofs::Lists::map_reverse))]
-fn ordered(removal: bool, changes: Vec<Changed>) -> Vec<Changed>
+fn ordered(removal: bool, changes: Vec<PlacedChange>) -> Vec<PlacedChange>
     ensures { map changed_of result.items ≡ spec.ordered removal (map changed_of changes.items) }
 {
     let mut ordered = changes;
@@ -95,7 +95,7 @@ fn ordered(removal: bool, changes: Vec<Changed>) -> Vec<Changed>
 fn push_changes(
     alloc: Global,
     doc: usize,
-    changes: Vec<Changed>,
+    changes: Vec<PlacedChange>,
     ops: &mut Vec<Op>,
 ) -> Result<(), AllocError>
     ensures { OnOk result (operations_of ops.new.items ≡
@@ -111,7 +111,7 @@ fn push_changes(
 pub fn operations(
     alloc: Global,
     removal: bool,
-    changes: Vec<Vec<Changed>>,
+    changes: Vec<Vec<PlacedChange>>,
 ) -> Result<Vec<Op>, AllocError>
     ensures { IfOk result (λ v. operations_of v.items ≡ spec.all_ops removal 0
         (all_changed_of changes.items)) }

@@ -49,7 +49,8 @@ fn text_sum(alloc: Global, one: &str, other: &str) -> Result<Value, AllocError>
 
 /// The sum of two scalars, neither of which is null.
 pub fn scalar_sum(alloc: Global, kind: Kind, text: &str, other: &Scalar) -> Result<Value, ExprError>
-    ensures { Judges value_node result (spec.scalar_sum kind text.now other.now.kind other.now.text) }
+    ensures { Judges value_node result
+        (spec.scalar_sum kind text.now other.now.kind other.now.text) }
 {
     match (kind, other.kind()) {
         (Kind::Int, Kind::Int) => int_sum(alloc, text, other.text()),
@@ -106,7 +107,8 @@ fn put_entry(
 ) -> Result<(), AllocError>
     requires { AreNumbered (map field_of entries.old.items) numbers.old }
     ensures entries { OnOk result (entries_of entries.new.items ≡
-        spec.with_entry (Some (string_bytes key)) (value_node value) (entries_of entries.old.items)) }
+        spec.with_entry (Some (string_bytes key)) (value_node value)
+        (entries_of entries.old.items)) }
     ensures numbers { OnOk result (AreNumbered (map field_of entries.new.items) numbers.new) }
 {
     match number_of(numbers, key.as_str()) {

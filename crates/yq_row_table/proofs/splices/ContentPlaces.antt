@@ -4,7 +4,7 @@ use Rattle.std.proofs.Math.Dec.{ltb}
 use Rattle.std.proofs.lemmas.Bool.{false≢true, ltb-true, ltb-false, cases_Bool}
 use Rattle.std.specs.List.{slice_get}
 use Rattle.yq_row_table.specs.Counted.{RowPlace}
-use Rattle.yq_row_table.specs.Exchange.{with_content, with_content_at, with_content_in, exchange, rows_text_behind, behind_row, rows_behind, allows_first, FitsRow}
+use Rattle.yq_row_table.specs.Exchange.{with_content, with_content_at, with_content_in, exchange, text_after_row, behind_row, rows_behind, allows_first, FitsRow}
 use Rattle.yq_row_table.specs.Grammar.{IsMark, may_be_alone, is_entry, IsRow, Limit, limit_after, IsCut}
 use Rattle.yq_row_table.specs.Rows.{RowMark, Content, Row, behind_gap, rows_text, Part, Cut, last, marked, cut_text}
 use Rattle.yq_row_table.specs.Splices.{first_gap, splice_part, asked_at, rest_behind, CutsItsText}
@@ -33,7 +33,7 @@ content_around [] i r new h = cc
 content_around (x ∷ rows) zero r new h = let is : x ≡ r = cc in ap (λ (y : Row). with_content new y ∷ rows) is
 content_around (x ∷ rows) (suc i) r new h = ap (λ l. x ∷ l) (content_around rows i r new h)
 
-behind_is : (rows : List Row) (i : ℕ) (rest : List ℕ) → rows_text_behind i rows rest ≡ rows_text (drop (suc i) rows) rest
+behind_is : (rows : List Row) (i : ℕ) (rest : List ℕ) → text_after_row i rows rest ≡ rows_text (drop (suc i) rows) rest
 behind_is [] i rest = refl
 behind_is (x ∷ rows) zero rest = refl
 behind_is (x ∷ rows) (suc i) rest = behind_is rows i rest

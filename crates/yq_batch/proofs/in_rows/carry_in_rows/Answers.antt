@@ -4,9 +4,9 @@ use Rattle.yq_documents.specs.Reading.{cut_of}
 use Rattle.yq_edit_laws.proofs.CutLaws.{text_small}
 use Rattle.yq_semantics.specs.Operations.{operation_of, operations_of}
 use Rattle.yq_edit_laws.specs.Carried.{carry_all, carried}
-use Rattle.yq_edit_laws.specs.Edit.{edit_behind, gives}
+use Rattle.yq_edit_laws.specs.Edit.{edit_after, gives}
 use Rattle.yq_batch.specs.RowRuns.{RowsGoOn, IsRowsRun}
-use Rattle.yq_batch.specs.Runs.{now_text, text_after_run}
+use Rattle.yq_batch.specs.Runs.{now_text, text_with_run}
 use Rattle.yq_edit_laws.specs.Valid.{AreServed}
 use Rattle.yq_edit_laws.proofs.OperationsLaws.{others_come, others_served, first_fails, first_fits, none_come}
 use Rattle.yq_edit_laws.proofs.OrderLaws.{behind_none}
@@ -15,7 +15,7 @@ use Rattle.yq_batch.proofs.RunAnswers.{begins_with}
 use Rattle.std.specs.String.{string_bytes}
 use Rattle.std.specs.Str.{IsCharBoundary}
 use Rattle.std.proofs.lemmas.Result.{err_from_is_err_and}
-use Rattle.yq_text.specs.Halves.{halves_text}
+use Rattle.yq_text.specs.Halves.{whole}
 use Rattle.yq_row_table.specs.Rows.{cut_text}
 use Rattle.yq_edit_laws.proofs.FlowAnswers.{whole_text}
 use Rattle.yq_edit_laws.specs.Answers.{EditFails}
@@ -32,7 +32,7 @@ operations-init c =
     let text : now_text (cut_of t) c.in_ok-run.run' ≡ t = begins_with t c.in_ok-run.run' c.text-text.ensures.read new.text new.done in
     record {
       same = c.on_the_way-way.ensures;
-      halves_text = (λ i. edit_behind (new.splices i) (carry_all (operations_of c.args.ops.now) (text i))) ∙ behind_none (carry_all (operations_of c.args.ops.now) t);
+      whole = (λ i. edit_after (new.splices i) (carry_all (operations_of c.args.ops.now) (text i))) ∙ behind_none (carry_all (operations_of c.args.ops.now) t);
       serves = subst (AreServed (operations_of c.args.ops.now)) (sym text) c.requires;
       runs = rows_begin t c.in_ok-run.run' c.text-text.ensures.read new.text new.done;
     }
@@ -46,7 +46,7 @@ operations-preserved c =
     let on = subst (λ (u : List ℕ). RowsGoOn (operation_of c.op-item.result) (cut_of u) c.operations.run c.in-Some.next c.put_one.new.run) same there in
     record {
       same = c.in_ok-next.ensures.same ∙ same;
-      halves_text =
+      whole =
           others_come c.operations.rest.now c.op-item.result t m c.operations.run.splices.items on.new_bytes c.put_one.new.run.splices.items c.in-len1-up.len_at_least c.op-item.is on.comes on.splices
           ∙ c.operations.invariant.whole;
       serves = others_served c.operations.rest.now c.op-item.result t m on.new_bytes c.in-len1-up.len_at_least c.op-item.is c.operations.invariant.serves on.applied;
@@ -72,12 +72,12 @@ returns-in_err-next-clause-err c =
 
 pub end-requires : goal.end-requires
 end-requires c =
-    subst (λ (l : List ℕ). IsCharBoundary l c.operations.run.done) (sym (whole_text c.args.cut.now (halves_text c.text-text.result) c.text-text.ensures.read c.text-text.ensures.text)) c.operations.invariant.runs.run.edge
+    subst (λ (l : List ℕ). IsCharBoundary l c.operations.run.done) (sym (whole_text c.args.cut.now (whole c.text-text.result) c.text-text.ensures.read c.text-text.ensures.text)) c.operations.invariant.runs.run.edge
 
 pub returns-clause-ok : goal.returns-clause-ok
 returns-clause-ok c =
     let t : List ℕ = c.args.cut.now in
-    let same : halves_text c.text-text.result ≡ cut_text (cut_of t) = whole_text t (halves_text c.text-text.result) c.text-text.ensures.read c.text-text.ensures.text in
+    let same : whole c.text-text.result ≡ cut_text (cut_of t) = whole_text t (whole c.text-text.result) c.text-text.ensures.read c.text-text.ensures.text in
     sym c.operations.invariant.whole
     ∙ (none_come c.operations.rest.now (now_text (cut_of t) c.operations.run) c.operations.run.splices.items (omega (arith, c.in_default-rest.len_below))
-    ∙ λ i. gives (sym (c.in_ok-end.ensures.text ∙ ap (λ (l : List ℕ). text_after_run l (string_bytes c.operations.run.text) c.operations.run.done) same) i) (sym c.in_ok-end.ensures.splices i))
+    ∙ λ i. gives (sym (c.in_ok-end.ensures.text ∙ ap (λ (l : List ℕ). text_with_run l (string_bytes c.operations.run.text) c.operations.run.done) same) i) (sym c.in_ok-end.ensures.splices i))

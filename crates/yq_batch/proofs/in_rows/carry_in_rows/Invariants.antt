@@ -2,7 +2,7 @@ use Rattle.std.proofs.Common.{◌≡◌, length}
 use Rattle.yq_documents.specs.Reading.{cut_of}
 use Rattle.yq_semantics.specs.Operations.{operations_of}
 use Rattle.yq_edit_laws.specs.Carried.{carry_all}
-use Rattle.yq_edit_laws.specs.Edit.{edit_behind}
+use Rattle.yq_edit_laws.specs.Edit.{edit_after}
 use Rattle.yq_batch.specs.RowRuns.{IsRowsRun}
 use Rattle.yq_batch.specs.Runs.{now_text}
 use Rattle.yq_edit_laws.specs.Valid.{AreServed}
@@ -11,7 +11,7 @@ use Rattle.yq_batch.proofs.in_rows.carry_in_rows.Given as goal
 abbrev pub invariant-operations : goal.invariant-operations
 invariant-operations l = record {
   same : l.way ≡ l.fn.cut;
-  whole : edit_behind l.run.splices.items (carry_all (operations_of l.rest) (now_text (cut_of l.fn.cut) l.run)) ≡ carry_all (operations_of l.fn.ops) l.fn.cut;
+  whole : edit_after l.run.splices.items (carry_all (operations_of l.rest) (now_text (cut_of l.fn.cut) l.run)) ≡ carry_all (operations_of l.fn.ops) l.fn.cut;
   serves : AreServed (operations_of l.rest) (now_text (cut_of l.fn.cut) l.run);
   runs : IsRowsRun (cut_of l.fn.cut) l.last l.run;
 }

@@ -1,6 +1,6 @@
 use Rattle.std.proofs.Common.{◌≡◌, ◌∙◌, ℕ, List, map, sym, ap, subst, string_bytes, arith}
 use Rattle.std.proofs.lemmas.Result.{err_from_is_err_and}
-use Rattle.yq_text.specs.Halves.{halves_text}
+use Rattle.yq_text.specs.Halves.{whole}
 use Rattle.yq_row_table.specs.Rows.{cut_text}
 use Rattle.yq_core.specs.Entries.{tree_step}
 use Rattle.yq_documents.specs.Reading.{cut_of}
@@ -8,8 +8,8 @@ use Rattle.yq_semantics.specs.Operations.{operations_of}
 use Rattle.yq_edit_laws.proofs.FlowAnswers.{whole_text}
 use Rattle.yq_edit_laws.specs.Answers.{EditFails}
 use Rattle.yq_edit_laws.specs.Carried.{carry_all}
-use Rattle.yq_edit_laws.specs.Edit.{edit_behind, gives}
-use Rattle.yq_batch.specs.Runs.{now_text, text_after_run}
+use Rattle.yq_edit_laws.specs.Edit.{edit_after, gives}
+use Rattle.yq_batch.specs.Runs.{now_text, text_with_run}
 use Rattle.yq_edit_laws.specs.Valid.{AreServed}
 use Rattle.yq_edit_laws.proofs.OperationsLaws.{first_fails, first_fits, none_come, others_come, others_served}
 use Rattle.yq_edit_laws.proofs.OrderLaws.{behind_none}
@@ -23,7 +23,7 @@ operations-init c =
     let text : now_text (cut_of t) c.new-run.result ≡ t = begins_with t c.new-run.result c.text-text.ensures.read c.new-run.ensures.text c.new-run.ensures.done in
     record {
       head = c.requires.head;
-      halves_text = (λ i. edit_behind (c.new-run.ensures.splices i) (carry_all (operations_of c.args.ops.now) (text i))) ∙ behind_none (carry_all (operations_of c.args.ops.now) t);
+      whole = (λ i. edit_after (c.new-run.ensures.splices i) (carry_all (operations_of c.args.ops.now) (text i))) ∙ behind_none (carry_all (operations_of c.args.ops.now) t);
       serves = subst (AreServed (operations_of c.args.ops.now)) (sym text) c.requires.serves;
       runs = begins t c.args.doc steps c.new-run.result c.text-text.ensures.read c.requires.head.leads c.new-run.ensures.text c.new-run.ensures.done;
     }
@@ -35,7 +35,7 @@ pub returns-in_err-put-clause-err : goal.returns-in_err-put-clause-err
 returns-in_err-put-clause-err c =
     let p = err_from_is_err_and c.from_residual.result c.from_residual.ensures.1 in
     let t : List ℕ = now_text (cut_of c.args.cut.now) c.operations.run in
-    let fails : EditFails c.in_err-put.field-0.0 (edit_behind c.operations.run.splices.items (carry_all (operations_of c.operations.rest.now) t)) =
+    let fails : EditFails c.in_err-put.field-0.0 (edit_after c.operations.run.splices.items (carry_all (operations_of c.operations.rest.now) t)) =
     first_fails c.operations.rest.now c.op-item.result t c.operations.run.splices.items c.in_err-put.field-0.0 c.in-len1-up.len_at_least c.op-item.is c.in_err-put.ensures.err in
     rw (p.1, p.2) (subst (EditFails c.in_err-put.field-0.0) c.operations.invariant.whole fails)
 
@@ -46,7 +46,7 @@ operations-preserved c =
     let on = c.in_ok-put.ensures.ok c.if-not-put.false in
     record {
       head = c.put_one.ensures.head;
-      halves_text =
+      whole =
           others_come c.operations.rest.now c.op-item.result t m c.operations.run.splices.items on.new_bytes c.put_one.new.run.splices.items c.in-len1-up.len_at_least c.op-item.is on.comes on.splices
           ∙ c.operations.invariant.whole;
       serves = others_served c.operations.rest.now c.op-item.result t m on.new_bytes c.in-len1-up.len_at_least c.op-item.is c.operations.invariant.serves on.applied;
@@ -55,12 +55,12 @@ operations-preserved c =
 
 pub end-requires : goal.end-requires
 end-requires c =
-    edge_in c.args.cut.now (halves_text c.text-text.result) c.text-text.ensures.read c.text-text.ensures.text c.args.doc (map tree_step c.args.stem.now) c.operations.run c.operations.invariant.runs
+    edge_in c.args.cut.now (whole c.text-text.result) c.text-text.ensures.read c.text-text.ensures.text c.args.doc (map tree_step c.args.stem.now) c.operations.run c.operations.invariant.runs
 
 pub returns-clause-ok : goal.returns-clause-ok
 returns-clause-ok c =
     let t : List ℕ = c.args.cut.now in
-    let same : halves_text c.text-text.result ≡ cut_text (cut_of t) = whole_text t (halves_text c.text-text.result) c.text-text.ensures.read c.text-text.ensures.text in
+    let same : whole c.text-text.result ≡ cut_text (cut_of t) = whole_text t (whole c.text-text.result) c.text-text.ensures.read c.text-text.ensures.text in
     sym c.operations.invariant.whole
     ∙ (none_come c.operations.rest.now (now_text (cut_of t) c.operations.run) c.operations.run.splices.items (omega arith)
-    ∙ λ i. gives (sym (c.in_ok-end.ensures.text ∙ ap (λ (l : List ℕ). text_after_run l (string_bytes c.operations.run.text) c.operations.run.done) same) i) (sym c.in_ok-end.ensures.splices i))
+    ∙ λ i. gives (sym (c.in_ok-end.ensures.text ∙ ap (λ (l : List ℕ). text_with_run l (string_bytes c.operations.run.text) c.operations.run.done) same) i) (sym c.in_ok-end.ensures.splices i))

@@ -1,7 +1,7 @@
 use Rattle.std.proofs.Common.{ℕ, ◌+◌, ◌++◌, List, map, Option, subst, arith}
 use Rattle.std.proofs.lemmas.Result.{err_from_is_err_and}
 use Rattle.std.specs.Prelude.{IfSome}
-use Rattle.yq_text.specs.Halves.{halves_text}
+use Rattle.yq_text.specs.Halves.{whole}
 use Rattle.yq_core.specs.Entries.{tree_step}
 use Rattle.yq_semantics.specs.Operations.{operation_of}
 use Rattle.yq_edit_laws.specs.declared.put.PartPut.{PartPut}
@@ -13,14 +13,14 @@ use Rattle.yq_batch.proofs.together.put_one.Goals as goal
 pub overflow_add-start : goal.overflow_add-start
 overflow_add-start c =
     let h = subst (λ (o : Option PartPut). IfSome o (PutsAt (operation_of c.args.op.now) c.args.cut.now c.args.doc (map tree_step c.args.stem.now) c.part_put.new.head)) c.in-Some.is c.in_ok-place.ensures.put in
-    let lies = lies_in c.args.cut.now (halves_text c.text-text.result) c.text-text.ensures.read c.text-text.ensures.text
+    let lies = lies_in c.args.cut.now (whole c.text-text.result) c.text-text.ensures.read c.text-text.ensures.text
     (operation_of c.args.op.now) c.args.doc (map tree_step c.args.stem.now) c.part_put.new.head c.in-Some.field-0 h in
     omega (arith, lies.small, lies.order, lies.end.0)
 
 pub overflow_add-end : goal.overflow_add-end
 overflow_add-end c =
     let h = subst (λ (o : Option PartPut). IfSome o (PutsAt (operation_of c.args.op.now) c.args.cut.now c.args.doc (map tree_step c.args.stem.now) c.part_put.new.head)) c.in-Some.is c.in_ok-place.ensures.put in
-    let lies = lies_in c.args.cut.now (halves_text c.text-text.result) c.text-text.ensures.read c.text-text.ensures.text
+    let lies = lies_in c.args.cut.now (whole c.text-text.result) c.text-text.ensures.read c.text-text.ensures.text
     (operation_of c.args.op.now) c.args.doc (map tree_step c.args.stem.now) c.part_put.new.head c.in-Some.field-0 h in
     omega (arith, lies.small, lies.end.0)
 
@@ -30,26 +30,26 @@ put-requires-clause-done c = (c.ends_before.ensures c.if-not-ends_before.false).
 pub put-requires-clause-order : goal.put-requires-clause-order
 put-requires-clause-order c =
     let h = subst (λ (o : Option PartPut). IfSome o (PutsAt (operation_of c.args.op.now) c.args.cut.now c.args.doc (map tree_step c.args.stem.now) c.part_put.new.head)) c.in-Some.is c.in_ok-place.ensures.put in
-    (lies_in c.args.cut.now (halves_text c.text-text.result) c.text-text.ensures.read c.text-text.ensures.text (operation_of c.args.op.now) c.args.doc (map tree_step c.args.stem.now) c.part_put.new.head c.in-Some.field-0 h).order
+    (lies_in c.args.cut.now (whole c.text-text.result) c.text-text.ensures.read c.text-text.ensures.text (operation_of c.args.op.now) c.args.doc (map tree_step c.args.stem.now) c.part_put.new.head c.in-Some.field-0 h).order
 
 pub put-requires-clause-edge : goal.put-requires-clause-edge
-put-requires-clause-edge c = edge_in c.args.cut.now (halves_text c.text-text.result) c.text-text.ensures.read c.text-text.ensures.text c.args.doc (map tree_step c.args.stem.now) c.args.run.now c.requires.run
+put-requires-clause-edge c = edge_in c.args.cut.now (whole c.text-text.result) c.text-text.ensures.read c.text-text.ensures.text c.args.doc (map tree_step c.args.stem.now) c.args.run.now c.requires.run
 
 pub put-requires-clause-start : goal.put-requires-clause-start
 put-requires-clause-start c =
     let h = subst (λ (o : Option PartPut). IfSome o (PutsAt (operation_of c.args.op.now) c.args.cut.now c.args.doc (map tree_step c.args.stem.now) c.part_put.new.head)) c.in-Some.is c.in_ok-place.ensures.put in
-    (lies_in c.args.cut.now (halves_text c.text-text.result) c.text-text.ensures.read c.text-text.ensures.text (operation_of c.args.op.now) c.args.doc (map tree_step c.args.stem.now) c.part_put.new.head c.in-Some.field-0 h).start
+    (lies_in c.args.cut.now (whole c.text-text.result) c.text-text.ensures.read c.text-text.ensures.text (operation_of c.args.op.now) c.args.doc (map tree_step c.args.stem.now) c.part_put.new.head c.in-Some.field-0 h).start
 
 pub put-requires-clause-end : goal.put-requires-clause-end
 put-requires-clause-end c =
     let h = subst (λ (o : Option PartPut). IfSome o (PutsAt (operation_of c.args.op.now) c.args.cut.now c.args.doc (map tree_step c.args.stem.now) c.part_put.new.head)) c.in-Some.is c.in_ok-place.ensures.put in
-    (lies_in c.args.cut.now (halves_text c.text-text.result) c.text-text.ensures.read c.text-text.ensures.text (operation_of c.args.op.now) c.args.doc (map tree_step c.args.stem.now) c.part_put.new.head c.in-Some.field-0 h).end
+    (lies_in c.args.cut.now (whole c.text-text.result) c.text-text.ensures.read c.text-text.ensures.text (operation_of c.args.op.now) c.args.doc (map tree_step c.args.stem.now) c.part_put.new.head c.in-Some.field-0 h).end
 
 pub returns-in_default-written-clause-ok : goal.returns-in_default-written-clause-ok
 returns-in_default-written-clause-ok c =
     let h = subst (λ (o : Option PartPut). IfSome o (PutsAt (operation_of c.args.op.now) c.args.cut.now c.args.doc (map tree_step c.args.stem.now) c.part_put.new.head)) c.in-Some.is c.in_ok-place.ensures.put in
     let behind = c.ends_before.ensures c.if-not-ends_before.false in
-    λ _. kept_on c.args.cut.now (halves_text c.text-text.result) c.args.doc (map tree_step c.args.stem.now) (operation_of c.args.op.now) c.args.run.now c.part_put.new.head c.in-Some.field-0
+    λ _. kept_on c.args.cut.now (whole c.text-text.result) c.args.doc (map tree_step c.args.stem.now) (operation_of c.args.op.now) c.args.run.now c.part_put.new.head c.in-Some.field-0
     c.text-text.ensures.read c.text-text.ensures.text c.requires.run h behind.0 behind.1 c.requires.fits c.in_default-written.is
 
 pub returns-in_err-put-clause-err : goal.returns-in_err-put-clause-err
@@ -58,9 +58,9 @@ returns-in_err-put-clause-err c =
     let p = err_from_is_err_and c.from_residual-in_err-put.result c.from_residual-in_err-put.ensures.1 in
     let start : ℕ = c.part_put.new.head.before + c.in-Some.field-0.place.start in
     let finish : ℕ = c.part_put.new.head.before + c.in-Some.field-0.place.end in
-    let fails = subst (λ (l : List ℕ). PutFails c.in_err-put.field-0.0 (halves_text c.text-text.result) start finish (c.in-Some.field-0.place.lead.now ++ l) c.args.run.now) c.deref.ensures c.in_err-put.ensures.err in
+    let fails = subst (λ (l : List ℕ). PutFails c.in_err-put.field-0.0 (whole c.text-text.result) start finish (c.in-Some.field-0.place.lead.now ++ l) c.args.run.now) c.deref.ensures c.in_err-put.ensures.err in
     let behind = c.ends_before.ensures c.if-not-ends_before.false in
-    rw (p.1, p.2) (put_fails c.args.cut.now (halves_text c.text-text.result) c.args.doc (map tree_step c.args.stem.now) (operation_of c.args.op.now) c.args.run.now c.part_put.new.head c.in-Some.field-0
+    rw (p.1, p.2) (put_fails c.args.cut.now (whole c.text-text.result) c.args.doc (map tree_step c.args.stem.now) (operation_of c.args.op.now) c.args.run.now c.part_put.new.head c.in-Some.field-0
     c.text-text.ensures.read c.text-text.ensures.text c.requires.run h behind.0 behind.1 c.requires.fits c.in-Some-written.written c.in-Some-written.is c.in_err-put.field-0.0 fails)
 
 pub returns-clause-ok : goal.returns-clause-ok
@@ -68,9 +68,9 @@ returns-clause-ok c =
     let h = subst (λ (o : Option PartPut). IfSome o (PutsAt (operation_of c.args.op.now) c.args.cut.now c.args.doc (map tree_step c.args.stem.now) c.part_put.new.head)) c.in-Some.is c.in_ok-place.ensures.put in
     let start : ℕ = c.part_put.new.head.before + c.in-Some.field-0.place.start in
     let finish : ℕ = c.part_put.new.head.before + c.in-Some.field-0.place.end in
-    let has_put = subst (λ (l : List ℕ). HasPut (halves_text c.text-text.result) start finish (c.in-Some.field-0.place.lead.now ++ l) c.args.run.now c.put.new.self) c.deref.ensures c.in_ok-put.ensures.ok in
+    let has_put = subst (λ (l : List ℕ). HasPut (whole c.text-text.result) start finish (c.in-Some.field-0.place.lead.now ++ l) c.args.run.now c.put.new.self) c.deref.ensures c.in_ok-put.ensures.ok in
     let behind = c.ends_before.ensures c.if-not-ends_before.false in
-    λ _. put_on c.args.cut.now (halves_text c.text-text.result) c.args.doc (map tree_step c.args.stem.now) (operation_of c.args.op.now) c.args.run.now c.part_put.new.head c.in-Some.field-0
+    λ _. put_on c.args.cut.now (whole c.text-text.result) c.args.doc (map tree_step c.args.stem.now) (operation_of c.args.op.now) c.args.run.now c.part_put.new.head c.in-Some.field-0
     c.text-text.ensures.read c.text-text.ensures.text c.requires.run h behind.0 behind.1 c.requires.fits c.in-Some-written.written c.in-Some-written.is c.put.new.self has_put
 
 pub returns-in_default-clause-ok : goal.returns-in_default-clause-ok

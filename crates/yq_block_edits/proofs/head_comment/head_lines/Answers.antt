@@ -2,7 +2,7 @@ use Rattle.std.proofs.Common.{ℕ, List, ◌++◌, ap, rules, string_bytes, arit
 use Rattle.std.proofs.lemmas.Str.Pattern.{split_parts}
 use Rattle.yq_core.proofs.BlockSteps.{some_left}
 use Rattle.yq_edits.proofs.CommentPieceLaws.{loop_more, loop_done}
-use Rattle.yq_semantics.specs.Meaning.{lines_parted}
+use Rattle.yq_semantics.specs.Meaning.{split_lines}
 use Rattle.yq_edits.specs.CommentEdits as spec
 use Rattle.yq_block_edits.proofs.head_comment.head_lines.Goals as goal
 
@@ -17,4 +17,4 @@ returns c =
     loop_done c.args.column c.args.br.now (string_bytes c.lines.out) (string_bytes c.push_line-2.new.out) c.args.text.now c.lines.rest.now none c.lines.invariant.1 c.in_ok-push_line-2.ensures (some_left _ _ c.is_empty.ensures c.if-is_empty.false)
 
 pub lines-init : goal.lines-init
-lines-init c = (search rules, ap (λ (x : List ℕ). x ++ spec.head_lines c.args.column c.args.br.now (lines_parted c.args.text.now)) c.new-out.ensures.bytes)
+lines-init c = (search rules, ap (λ (x : List ℕ). x ++ spec.head_lines c.args.column c.args.br.now (split_lines c.args.text.now)) c.new-out.ensures.bytes)

@@ -1,5 +1,5 @@
 use Rattle.std.proofs.Common.{◌∙◌, ℕ, List, map, Some, sym, ap, subst}
-use Rattle.yq_text.specs.Halves.{halves_text}
+use Rattle.yq_text.specs.Halves.{whole}
 use Rattle.yq_core.specs.Entries.{tree_step}
 use Rattle.yq_core.specs.Values.{value_node}
 use Rattle.yq_core.specs.View.{inline_view}
@@ -27,8 +27,8 @@ edit_at-requires c =
     let q = inline_view c.in-Some-collection_in.node.now in
     let agrees = subst (λ ss. FlowAgrees c.args.cut.now (flow_collection c.args.path.now.doc (map tree_step ss) (cut_of c.args.cut.now)) c.in_ok-found.found) c.deref.ensures.value c.in_ok-found.ensures.found in
     let f = coll_found c.args.cut.now c.args.path.now.doc (steps_of c.args.path.now) _ c.in-Some.head q c.text-text.ensures.read agrees c.in-Some.is c.in-Some-collection_in.ensures in
-    let all = whole_text c.args.cut.now (halves_text c.text-text.result) c.text-text.ensures.read c.text-text.ensures.text in
-    let w = more_found _ _ _ (borrowed c.args.key) (value_node c.args.value.now) c.in-Some.head q f (halves_text c.text-text.result) (edit_view c.in-Some-append_place.place) all (sym c.takes.ensures ∙ c.if-not-takes.false) c.in-Some-append_place.ensures in
+    let all = whole_text c.args.cut.now (whole c.text-text.result) c.text-text.ensures.read c.text-text.ensures.text in
+    let w = more_found _ _ _ (borrowed c.args.key) (value_node c.args.value.now) c.in-Some.head q f (whole c.text-text.result) (edit_view c.in-Some-append_place.place) all (sym c.takes.ensures ∙ c.if-not-takes.false) c.in-Some-append_place.ensures in
     record { lies = w.lies }
 
 pub returns : goal.returns
@@ -36,7 +36,7 @@ returns c =
     let q = inline_view c.in-Some-collection_in.node.now in
     let agrees = subst (λ ss. FlowAgrees c.args.cut.now (flow_collection c.args.path.now.doc (map tree_step ss) (cut_of c.args.cut.now)) c.in_ok-found.found) c.deref.ensures.value c.in_ok-found.ensures.found in
     let f = coll_found c.args.cut.now c.args.path.now.doc (steps_of c.args.path.now) _ c.in-Some.head q c.text-text.ensures.read agrees c.in-Some.is c.in-Some-collection_in.ensures in
-    let all = whole_text c.args.cut.now (halves_text c.text-text.result) c.text-text.ensures.read c.text-text.ensures.text in
-    let w = more_found _ _ _ (borrowed c.args.key) (value_node c.args.value.now) c.in-Some.head q f (halves_text c.text-text.result) (edit_view c.in-Some-append_place.place) all (sym c.takes.ensures ∙ c.if-not-takes.false) c.in-Some-append_place.ensures in
-    let written = ap (λ (l : List ℕ). Some (edit_segments (halves_text c.text-text.result) (moved_on c.in-Some.head.before (edit_view c.in-Some-append_place.place)) l)) (sym c.in_ok-new.ensures) in
+    let all = whole_text c.args.cut.now (whole c.text-text.result) c.text-text.ensures.read c.text-text.ensures.text in
+    let w = more_found _ _ _ (borrowed c.args.key) (value_node c.args.value.now) c.in-Some.head q f (whole c.text-text.result) (edit_view c.in-Some-append_place.place) all (sym c.takes.ensures ∙ c.if-not-takes.false) c.in-Some-append_place.ensures in
+    let written = ap (λ (l : List ℕ). Some (edit_segments (whole c.text-text.result) (moved_on c.in-Some.head.before (edit_view c.in-Some-append_place.place)) l)) (sym c.in_ok-new.ensures) in
     subst (GivesSegments c.edit_at.result) (sym (w.is ∙ written)) c.edit_at.ensures

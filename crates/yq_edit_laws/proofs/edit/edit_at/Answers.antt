@@ -1,7 +1,7 @@
 use Rattle.std.proofs.Common.{◌≡◌, ℕ, ◌+◌, [], ◌∷◌, take, drop, Some, sym, ap, ◌∙◌}
 use Rattle.std.proofs.lemmas.List.{take-take}
 use Rattle.std.specs.String.{string_bytes}
-use Rattle.yq_text.specs.Halves.{halves_text}
+use Rattle.yq_text.specs.Halves.{whole}
 use Rattle.yq_text.specs.Script.{keep, put}
 use Rattle.yq_text.specs.Segments.{segments_of}
 use Rattle.yq_edit_laws.proofs.edit.edit_at.Goals as goal
@@ -9,7 +9,7 @@ use Rattle.yq_edit_laws.proofs.edit.edit_at.Goals as goal
 pub returns : goal.returns
 returns c =
     let start : ℕ = c.args.before + c.args.place.start in
-    let kept = c.split_at-2.ensures.front ∙ (ap (take start) c.split_at.ensures.front ∙ take-take start (c.args.before + c.args.place.end) (halves_text c.args.text) c.requires.lies.order) in
+    let kept = c.split_at-2.ensures.front ∙ (ap (take start) c.split_at.ensures.front ∙ take-take start (c.args.before + c.args.place.end) (whole c.args.text) c.requires.lies.order) in
     let old = c.split_at-2.ensures.back ∙ ap (drop start) c.split_at.ensures.front in
     ap Some
     (sym

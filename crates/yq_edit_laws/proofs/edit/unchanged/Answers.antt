@@ -1,5 +1,5 @@
 use Rattle.std.proofs.Common.{ℕ, List, [], ◌∷◌, ap, ◌∙◌}
-use Rattle.yq_text.specs.Halves.{halves_text}
+use Rattle.yq_text.specs.Halves.{whole}
 use Rattle.yq_text.specs.Script.{keep}
 use Rattle.yq_text.specs.Segments.{segments_of}
 use Rattle.yq_edit_laws.proofs.FlowAnswers.{whole_text}
@@ -8,4 +8,4 @@ use Rattle.yq_edit_laws.proofs.edit.unchanged.Goals as goal
 pub returns : goal.returns
 returns c =
     c.new.ensures
-    ∙ (ap segments_of c.in_ok-whole.ensures.items ∙ ap (λ (t : List ℕ). keep t ∷ []) (whole_text c.args.cut.now (halves_text c.text.result) c.text.ensures.read c.text.ensures.text))
+    ∙ (ap segments_of c.in_ok-whole.ensures.items ∙ ap (λ (t : List ℕ). keep t ∷ []) (whole_text c.args.cut.now (whole c.text.result) c.text.ensures.read c.text.ensures.text))

@@ -1,5 +1,5 @@
 use Rattle.std.proofs.Common.{◌∙◌, ℕ, List, map, sym, ap, subst}
-use Rattle.yq_text.specs.Halves.{halves_text}
+use Rattle.yq_text.specs.Halves.{whole}
 use Rattle.yq_core.specs.Entries.{tree_step}
 use Rattle.yq_core.specs.Values.{value_node}
 use Rattle.yq_documents.specs.Located.{steps_of}
@@ -29,11 +29,11 @@ returns-in_default-put c =
 pub edit_at-requires : goal.edit_at-requires
 edit_at-requires c =
     let h = subst (ArePuts c.args.path.now.doc (steps_of c.args.path.now) (value_node c.args.value.now) (cut_of c.args.cut.now) c.in-Some-found.head) c.in-Some-put.is c.in_ok-put.ensures in
-    let all = whole_text c.args.cut.now (halves_text c.text-text.result) c.text-text.ensures.read c.text-text.ensures.text in
+    let all = whole_text c.args.cut.now (whole c.text-text.result) c.text-text.ensures.read c.text-text.ensures.text in
     record { lies = subst (λ (t : List ℕ). LiesIn t (moved_on c.in-Some-found.head.before (edit_view c.in-Some-put.field-0.place))) (sym all) h.2.lies }
 
 pub returns-in-Some-written : goal.returns-in-Some-written
 returns-in-Some-written c =
     let h = subst (ArePuts c.args.path.now.doc (steps_of c.args.path.now) (value_node c.args.value.now) (cut_of c.args.cut.now) c.in-Some-found.head) c.in-Some-put.is c.in_ok-put.ensures in
-    let all = whole_text c.args.cut.now (halves_text c.text-text.result) c.text-text.ensures.read c.text-text.ensures.text in
-    subst (GivesSegments c.edit_at.result) (sym (puts_written c.args.path.now.doc (steps_of c.args.path.now) (value_node c.args.value.now) (cut_of c.args.cut.now) c.in-Some-found.head c.in-Some-put.field-0 c.in-Some-written.written (halves_text c.text-text.result) c.in-Some-written.is all h)) c.edit_at.ensures
+    let all = whole_text c.args.cut.now (whole c.text-text.result) c.text-text.ensures.read c.text-text.ensures.text in
+    subst (GivesSegments c.edit_at.result) (sym (puts_written c.args.path.now.doc (steps_of c.args.path.now) (value_node c.args.value.now) (cut_of c.args.cut.now) c.in-Some-found.head c.in-Some-put.field-0 c.in-Some-written.written (whole c.text-text.result) c.in-Some-written.is all h)) c.edit_at.ensures

@@ -6,12 +6,12 @@ use Rattle.yq_semantics.specs.Judgement.{Judges}
 use Rattle.yq_eval.specs.FoundView.{found_places}
 use Rattle.yq_semantics.specs.Rooms.{room_of}
 use Rattle.yq_semantics.specs.View.{stage_of, term_of}
-use Rattle.yq_planner.specs.declared.updating.change.Changed.{Changed}
+use Rattle.yq_planner.specs.declared.updating.change.PlacedChange.{PlacedChange}
 use Rattle.yq_expr.proofs.AllChanges.{modified}
 use Rattle.yq_expr.proofs.changes.assign.Goals as goal
 
 pub returns-in-Modify : goal.returns-in-Modify
 returns-in-Modify c =
-    subst (Judges (λ (v : Vec Changed Global). map changed_of v.items) c.at_found.result)
+    subst (Judges (λ (v : Vec PlacedChange Global). map changed_of v.items) c.at_found.result)
     (modified c.args.doc (room_of c.args.documents.now c.args.doc) (node_of c.args.root.now) (map stage_of c.args.assignment.now.left.items) c.args.assignment.now.operator (map term_of c.args.assignment.now.right.items) (map term_of c.deref-right.result.now) (found_places c.args.places.now) c.in-Modify.is (ap (map term_of) c.deref-right.ensures.value))
     (c.at_found.ensures (node_of c.args.root.now) c.requires.aliases c.requires.within)

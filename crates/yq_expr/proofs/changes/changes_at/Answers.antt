@@ -7,7 +7,7 @@ use Rattle.yq_semantics.specs.Judgement.{Judges}
 use Rattle.yq_eval.specs.FoundView.{found_places}
 use Rattle.yq_semantics.specs.Rooms.{room_of}
 use Rattle.yq_semantics.specs.View.{update_of}
-use Rattle.yq_planner.specs.declared.updating.change.Changed.{Changed}
+use Rattle.yq_planner.specs.declared.updating.change.PlacedChange.{PlacedChange}
 use Rattle.yq_semantics.specs.declared.program.Update.{Update}
 use Rattle.yq_expr.proofs.changes.changes_at.Goals as goal
 
@@ -16,7 +16,7 @@ returns c =
     let root = node_of c.args.root in
     let room = room_of c.args.documents.now c.args.doc in
     let ps = found_places c.args.places.now in
-    subst (Judges (λ (v : Vec Changed Global). map changed_of v.items) c.at_found-in-Comment.result)
+    subst (Judges (λ (v : Vec PlacedChange Global). map changed_of v.items) c.at_found-in-Comment.result)
     (ap (λ (t : List ℕ). at_each root (comment_at room c.in-Comment.comment.place t) ps) c.as_str.ensures.value
     ∙ ap (λ (u : Update). changes_at c.args.doc room root (update_of u) ps) (sym c.in-Comment.is))
     (c.at_found-in-Comment.ensures root c.in_ok-aliases.ensures c.requires.within)

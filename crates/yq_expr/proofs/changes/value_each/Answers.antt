@@ -10,7 +10,7 @@ use Rattle.yq_eval.specs.FoundView.{found_places}
 use Rattle.yq_semantics.specs.Places.{root_place}
 use Rattle.yq_semantics.specs.RightValues.{right_value}
 use Rattle.yq_semantics.specs.View.{term_of}
-use Rattle.yq_planner.specs.declared.updating.change.Changed.{Changed}
+use Rattle.yq_planner.specs.declared.updating.change.PlacedChange.{PlacedChange}
 use Rattle.yq_expr.proofs.AllChanges.{value_there, value_fails}
 use Rattle.yq_eval.proofs.EachLaws.{failed}
 use Rattle.yq_expr.proofs.changes.value_each.Goals.{then-adds, else-adds}
@@ -33,6 +33,6 @@ returns c =
     let put = λ (at : _). value_there root (right_value c.args.doc ts (root_place root)) at (found_places c.args.places.now) (value_node c.in_ok-value.value) c.requires.some value in
     let found = c.at_found.ensures root c.requires.aliases c.requires.within in
     elim c.if-adds.branch [
-      | then-adds w ↦ rw w.if-adds.true (subst (Judges (λ (v : Vec Changed Global). map changed_of v.items) c.at_found.result) (sym (put add_at)) (rw w.effect-is at found))
-      | else-adds w ↦ rw w.if-adds.false (subst (Judges (λ (v : Vec Changed Global). map changed_of v.items) c.at_found.result) (sym (put put_with_path)) (rw w.effect-is at found))
+      | then-adds w ↦ rw w.if-adds.true (subst (Judges (λ (v : Vec PlacedChange Global). map changed_of v.items) c.at_found.result) (sym (put add_at)) (rw w.effect-is at found))
+      | else-adds w ↦ rw w.if-adds.false (subst (Judges (λ (v : Vec PlacedChange Global). map changed_of v.items) c.at_found.result) (sym (put put_with_path)) (rw w.effect-is at found))
     ]

@@ -4,7 +4,7 @@ use Rattle.yq_semantics.specs.Pipes.{pipe_on}
 use Rattle.yq_eval.specs.PlaceView.{place_of, places_of}
 use Rattle.yq_eval.specs.TreeScalars.{HaveScalars}
 use Rattle.yq_semantics.specs.View.{stage_of}
-use Rattle.yq_eval.specs.declared.matching.place.Place as declared
+use Rattle.yq_eval.specs.declared.matching.place.FoundPlace as declared
 use Rattle.yq_eval.proofs.MatchLaws.{pipe_have}
 use Rattle.yq_expr.proofs.right_value.found_value.Goals as goal
 
@@ -13,5 +13,5 @@ only-requires c =
     let started : places_of c.push.new.self.items ≡ place_of c.args.place.now ∷ [] = search rules in
     let found : pipe_on c.args.doc (map stage_of c.args.pipe.now) (place_of c.args.place.now ∷ []) ≡ gives (places_of c.in_ok-places.places.items) =
     ap (pipe_on c.args.doc (map stage_of c.args.pipe.now)) (sym started) ∙ c.in_ok-places.ensures in
-    subst (λ (ps : List declared.Place). HaveScalars (places_of ps)) (sym c.deref.ensures.value)
+    subst (λ (ps : List declared.FoundPlace). HaveScalars (places_of ps)) (sym c.deref.ensures.value)
     (pipe_have c.args.doc (map stage_of c.args.pipe.now) (place_of c.args.place.now ∷ []) (places_of c.in_ok-places.places.items) (c.requires, tt) found)

@@ -1,6 +1,6 @@
 use Rattle.std.proofs.Common.{◌≡◌, ◌∙◌, ◌++◌, List, [], ℕ, eqb-true, length, refl, sym, ap, subst, ◌+◌, ◌-◌, ◌≤◌}
 use Rattle.std.proofs.lemmas.List.{nil_from_length}
-use Rattle.yq_text.specs.Split.{halves_joined}
+use Rattle.yq_text.specs.TextGapBuffer.{buffer_text}
 use Rattle.yq_row_table.specs.Grammar.{IsCut}
 use Rattle.yq_row_table.specs.Meter.{count_after, line_count}
 use Rattle.yq_rows.specs.Dropping.{DropsLast}
@@ -13,11 +13,11 @@ use Rattle.std.specs.Str.{IsCharBoundary}
 use Rattle.yq_rows.proofs.following.follow.Goals as goal
 
 pub move_split-requires : goal.move_split-requires
-move_split-requires c = placed_before (halves_joined c.args.text.now) c.args.places.now c.args.kept c.args.new.now c.requires
+move_split-requires c = placed_before (buffer_text c.args.text.now) c.args.places.now c.args.kept c.args.new.now c.requires
 
 pub read-requires : goal.read-requires
 read-requires c =
-    let t = halves_joined c.args.text.now in
+    let t = buffer_text c.args.text.now in
     let p = c.move_split.new.places in
     let x = c.find_touched-touched.result in
     let k : TextChange t c.args.new.now c.args.kept p x = c.find_touched-touched.ensures t c.args.new.now c.len.ensures (moved_follows t c.args.places.now p c.args.kept c.args.new.now c.requires c.move_split.ensures.placed) in
@@ -27,7 +27,7 @@ read-requires c =
 
 pub exchange-requires : goal.exchange-requires
 exchange-requires c =
-    let t = halves_joined c.args.text.now in
+    let t = buffer_text c.args.text.now in
     let p = c.move_split.new.places in
     let x = c.find_touched-touched.result in
     let k : TextChange t c.args.new.now c.args.kept p x = c.find_touched-touched.ensures t c.args.new.now c.len.ensures (moved_follows t c.args.places.now p c.args.kept c.args.new.now c.requires c.move_split.ensures.placed) in
@@ -37,7 +37,7 @@ exchange-requires c =
 
 pub returns : goal.returns
 returns c =
-    let t = halves_joined c.args.text.now in
+    let t = buffer_text c.args.text.now in
     let p = c.move_split.new.places in
     let x = c.find_touched-touched.result in
     let empty : c.args.new.now ≡ [] = nil_from_length c.args.new.now (eqb-true (length c.args.new.now) 0 (sym c.is_empty.ensures ∙ c.if-is_empty.true)) in
@@ -58,7 +58,7 @@ returns c =
 
 pub returns-2 : goal.returns-2
 returns-2 c =
-    let t = halves_joined c.args.text.now in
+    let t = buffer_text c.args.text.now in
     let p = c.move_split.new.places in
     let x = c.find_touched-touched.result in
     let k : TextChange t c.args.new.now c.args.kept p x = c.find_touched-touched.ensures t c.args.new.now c.len.ensures (moved_follows t c.args.places.now p c.args.kept c.args.new.now c.requires c.move_split.ensures.placed) in
@@ -69,7 +69,7 @@ returns-2 c =
       text =
           c.write.ensures ∙ ap (λ (u : List ℕ). exchanged c.args.kept u c.args.new.now) same;
       placed =
-          new_places t (halves_joined c.reserve.new.self) (halves_joined c.write.new.text) c.args.new.now c.args.kept p c.exchange.new.places x c.in_ok-come.come
+          new_places t (buffer_text c.reserve.new.self) (buffer_text c.write.new.text) c.args.new.now c.args.kept p c.exchange.new.places x c.in_ok-come.come
           c.requires.new_cut same c.write.ensures k
           (subst (λ (u : List ℕ). Comes u x c.in_ok-come.come) part c.in_ok-come.ensures.come k.read) c.in_ok-exchange.ensures.ok c.requires.new_is;
       count_after = λ old d was is h.
@@ -90,30 +90,30 @@ write-requires c = record {
 }
 
 pub returns-in_err-move_split-clause-placed : goal.returns-in_err-move_split-clause-placed
-returns-in_err-move_split-clause-placed c = still_placed (halves_joined c.args.text.now) _ _ refl c.move_split.ensures.placed
+returns-in_err-move_split-clause-placed c = still_placed (buffer_text c.args.text.now) _ _ refl c.move_split.ensures.placed
 
 pub region-requires-clause-edges : goal.region-requires-clause-edges
 region-requires-clause-edges c =
-    let t = halves_joined c.args.text.now in
+    let t = buffer_text c.args.text.now in
     let p = c.move_split.new.places in
     let k : TextChange t c.args.new.now c.args.kept p c.find_touched-touched.result = c.find_touched-touched.ensures t c.args.new.now c.len.ensures (moved_follows t c.args.places.now p c.args.kept c.args.new.now c.requires c.move_split.ensures.placed) in
     let whole = (λ i. c.halves.ensures.front i ++ c.halves.ensures.back i) ∙ refl in
     subst (λ (u : List ℕ). AreEdges u c.find_touched-touched.result c.args.kept) (sym whole) k.edges
 
 pub returns-in_err-region-clause-placed : goal.returns-in_err-region-clause-placed
-returns-in_err-region-clause-placed c = still_placed (halves_joined c.args.text.now) _ _ refl c.move_split.ensures.placed
+returns-in_err-region-clause-placed c = still_placed (buffer_text c.args.text.now) _ _ refl c.move_split.ensures.placed
 
 pub returns-in_err-come-clause-placed : goal.returns-in_err-come-clause-placed
-returns-in_err-come-clause-placed c = still_placed (halves_joined c.args.text.now) _ _ refl c.move_split.ensures.placed
+returns-in_err-come-clause-placed c = still_placed (buffer_text c.args.text.now) _ _ refl c.move_split.ensures.placed
 
 pub returns-in_err-reserve-clause-placed : goal.returns-in_err-reserve-clause-placed
-returns-in_err-reserve-clause-placed c = still_placed (halves_joined c.args.text.now) _ _ ((λ i. c.reserve.ensures.front i ++ c.reserve.ensures.back i) ∙ refl) c.move_split.ensures.placed
+returns-in_err-reserve-clause-placed c = still_placed (buffer_text c.args.text.now) _ _ ((λ i. c.reserve.ensures.front i ++ c.reserve.ensures.back i) ∙ refl) c.move_split.ensures.placed
 
 pub returns-in_err-exchange-clause-placed : goal.returns-in_err-exchange-clause-placed
-returns-in_err-exchange-clause-placed c = same_places (halves_joined c.args.text.now) _ c.move_split.new.places _ ((λ i. c.reserve.ensures.front i ++ c.reserve.ensures.back i) ∙ refl) c.move_split.ensures.placed c.in_err-exchange.ensures.err
+returns-in_err-exchange-clause-placed c = same_places (buffer_text c.args.text.now) _ c.move_split.new.places _ ((λ i. c.reserve.ensures.front i ++ c.reserve.ensures.back i) ∙ refl) c.move_split.ensures.placed c.in_err-exchange.ensures.err
 
 pub drop_text-requires-clause-begin : goal.drop_text-requires-clause-begin
 drop_text-requires-clause-begin c =
-    let t = halves_joined c.args.text.now in
+    let t = buffer_text c.args.text.now in
     let k : TextChange t c.args.new.now c.args.kept c.move_split.new.places c.find_touched-touched.result = c.find_touched-touched.ensures t c.args.new.now c.len.ensures (moved_follows t c.args.places.now c.move_split.new.places c.args.kept c.args.new.now c.requires c.move_split.ensures.placed) in
     k.edges.begin

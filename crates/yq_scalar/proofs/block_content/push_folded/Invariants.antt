@@ -3,7 +3,7 @@ use Rattle.std.specs.Str.{IsUtf8}
 use Rattle.std.specs.String.{string_bytes}
 use Rattle.yq_core.specs.Text.{text_lines}
 use Rattle.yq_core.specs.BlockContent as spec
-use Rattle.yq_core.specs.declared.block_types.Before.TheVariants.{Nothing}
+use Rattle.yq_core.specs.declared.block_types.LineBefore.TheVariants.{Nothing}
 use Rattle.yq_scalar.proofs.block_content.push_folded.Given as goal
 
 abbrev pub decreases-each : goal.decreases-each

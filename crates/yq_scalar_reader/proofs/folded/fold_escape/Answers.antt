@@ -5,7 +5,7 @@ use Rattle.std.specs.Str.{IsUtf8, IsCharBoundary}
 use Rattle.yq_core.specs.Text.{is_break}
 use Rattle.yq_core.specs.ContentReading.{content_on, after, within, break_len}
 use Rattle.yq_core.specs.Quoted.{joined}
-use Rattle.yq_core.specs.QuotedReading.{escape_in_front}
+use Rattle.yq_core.specs.QuotedReading.{leading_escape}
 use Rattle.yq_core.proofs.ItemLaws.{boundary_slash, boundary_break, boundary_escape, escape_break, escape_none, escape_some}
 use Rattle.yq_scalar_reader.proofs.folded.fold_escape.Goals as goal
 
@@ -40,7 +40,7 @@ split_at-requires-in-Some c =
     let r : List ℕ = c.split_at.result.1.now in
     let back : r ≡ drop 1 t = c.split_at.ensures.back in
     let u : IsUtf8 r = subst IsUtf8 (sym back) (IsUtf8-drop t 1 c.utf8.text (boundary_slash t c.requires c.utf8.text)) in
-    let e : escape_in_front r ≡ Some (c.in-Some.c, c.in-Some.length) = ap escape_in_front (sym c.as_bytes-2.ensures.value) ∙ (sym c.escape.ensures ∙ c.in-Some.is) in
+    let e : leading_escape r ≡ Some (c.in-Some.c, c.in-Some.length) = ap leading_escape (sym c.as_bytes-2.ensures.value) ∙ (sym c.escape.ensures ∙ c.in-Some.is) in
     boundary_escape r c.in-Some.c c.in-Some.length e u
 
 pub returns-in-None-clause-value : goal.returns-in-None-clause-value
@@ -48,7 +48,7 @@ returns-in-None-clause-value c =
     let t : List ℕ = c.args.text.now in
     let back : c.split_at.result.1.now ≡ drop 1 t = c.split_at.ensures.back in
     let here : is_break (drop 1 t) ≡ false = ap is_break (sym back) ∙ (ap is_break (sym c.as_bytes.ensures.value) ∙ (sym c.is_break.ensures ∙ c.if-is_break.false)) in
-    let e : escape_in_front (drop 1 t) ≡ None = ap escape_in_front (sym back) ∙ (ap escape_in_front (sym c.as_bytes-2.ensures.value) ∙ (sym c.escape.ensures ∙ c.in-None.is)) in
+    let e : leading_escape (drop 1 t) ≡ None = ap leading_escape (sym back) ∙ (ap leading_escape (sym c.as_bytes-2.ensures.value) ∙ (sym c.escape.ensures ∙ c.in-None.is)) in
     escape_none t c.requires here e ∙ ap (content_on 34 0 within []) (sym back)
 
 pub returns-in-Some-clause-value : goal.returns-in-Some-clause-value
@@ -56,6 +56,6 @@ returns-in-Some-clause-value c =
     let t : List ℕ = c.args.text.now in
     let back : c.split_at.result.1.now ≡ drop 1 t = c.split_at.ensures.back in
     let here : is_break (drop 1 t) ≡ false = ap is_break (sym back) ∙ (ap is_break (sym c.as_bytes.ensures.value) ∙ (sym c.is_break.ensures ∙ c.if-is_break.false)) in
-    let e : escape_in_front (drop 1 t) ≡ Some (c.in-Some.c, c.in-Some.length) = ap escape_in_front (sym back) ∙ (ap escape_in_front (sym c.as_bytes-2.ensures.value) ∙ (sym c.escape.ensures ∙ c.in-Some.is)) in
+    let e : leading_escape (drop 1 t) ≡ Some (c.in-Some.c, c.in-Some.length) = ap leading_escape (sym back) ∙ (ap leading_escape (sym c.as_bytes-2.ensures.value) ∙ (sym c.escape.ensures ∙ c.in-Some.is)) in
     let rest : c.split_at-in-Some.result.1.now ≡ drop c.in-Some.length (drop 1 t) = c.split_at-in-Some.ensures.back ∙ ap (drop c.in-Some.length) back in
     escape_some t c.in-Some.c c.in-Some.length c.requires here e ∙ ap (λ l. encode c.in-Some.c ++ content_on 34 0 within [] l) (sym rest)

@@ -1,6 +1,6 @@
 use Rattle.std.proofs.Common.{ap, sym, ◌∙◌, subst, eqb-true, List, ℕ, arith}
 use Rattle.yq_edit_laws.specs.Answers.{Edits, EditFails}
-use Rattle.yq_edit_laws.specs.Edit.{edit_behind, gives}
+use Rattle.yq_edit_laws.specs.Edit.{edit_after, gives}
 use Rattle.yq_edit_laws.proofs.OperationsLaws.{last_comes, others_come, others_served, first_fails, first_fits, none_come}
 use Rattle.std.proofs.lemmas.Result.{err_from_is_err_and}
 use Rattle.yq_semantics.specs.Operations.{operations_of}
@@ -18,11 +18,11 @@ operations-preserved c = record {
 pub returns-then-is_empty : goal.returns-then-is_empty
 returns-then-is_empty c =
     let last = last_comes c.operations.rest.now c.op-item.result c.operations.session.text c.in-len1-up.len_at_least c.op-item.is (eqb-true _ 0 (sym c.is_empty.ensures ∙ c.if-is_empty.true)) in
-    subst (Edits c.close_by.result) (ap (edit_behind c.operations.splices.items) last ∙ c.operations.invariant.whole) c.close_by.ensures
+    subst (Edits c.close_by.result) (ap (edit_after c.operations.splices.items) last ∙ c.operations.invariant.whole) c.close_by.ensures
 
 pub operations-init : goal.operations-init
 operations-init c = record {
-  whole = ap (λ (t : List ℕ). edit_behind c.args.splices.items (carry_all (operations_of c.args.ops.now) t)) c.of-session.ensures;
+  whole = ap (λ (t : List ℕ). edit_after c.args.splices.items (carry_all (operations_of c.args.ops.now) t)) c.of-session.ensures;
   serves = subst (AreServed (operations_of c.args.ops.now)) (sym c.of-session.ensures) c.requires.serves;
 }
 

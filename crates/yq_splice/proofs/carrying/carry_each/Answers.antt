@@ -4,7 +4,7 @@ use Rattle.yq_documents.specs.Reading.{cut_of, read_at}
 use Rattle.yq_row_table.specs.Kept.{IsPlaced}
 use Rattle.yq_edit_laws.specs.Answers.{Edits}
 use Rattle.yq_edit_laws.specs.Carried.{carry_all}
-use Rattle.yq_edit_laws.specs.Edit.{edit_behind}
+use Rattle.yq_edit_laws.specs.Edit.{edit_after}
 use Rattle.yq_edit_laws.specs.Valid.{AreServed}
 use Rattle.yq_splice.proofs.carrying.carry_each.Goals as goal
 
@@ -19,4 +19,4 @@ carry_all-requires-clause-places c = record {
 }
 
 pub returns : goal.returns
-returns c = subst (λ (t : List ℕ). Edits c.carry_all.result (edit_behind c.args.splices.items (carry_all (operations_of c.args.ops.now) t))) c.in_ok-kept.ensures.ok c.carry_all.ensures
+returns c = subst (λ (t : List ℕ). Edits c.carry_all.result (edit_after c.args.splices.items (carry_all (operations_of c.args.ops.now) t))) c.in_ok-kept.ensures.ok c.carry_all.ensures

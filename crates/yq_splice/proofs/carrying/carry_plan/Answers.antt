@@ -7,7 +7,7 @@ use Rattle.yq_documents.specs.Reading.{cut_of, read_at}
 use Rattle.yq_text.specs.declared.edited.Edited.{Edited}
 use Rattle.yq_edit_laws.specs.Answers.{EditFails}
 use Rattle.yq_edit_laws.specs.Carried.{carry_all}
-use Rattle.yq_edit_laws.specs.Edit.{edit_behind, gives}
+use Rattle.yq_edit_laws.specs.Edit.{edit_after, gives}
 use Rattle.yq_edit_laws.specs.Valid.{AreServed}
 use Rattle.yq_edit_laws.proofs.OrderLaws.{fails_behind}
 use Rattle.yq_splice.proofs.carrying.carry_plan.Goals as goal
@@ -22,7 +22,7 @@ pub returns-in-Some : goal.returns-in-Some
 returns-in-Some c =
     let one =
     subst (λ (o : Option Edited). IfSome o (λ e. carry_all (operations_of c.args.ops.now) c.cut.result ≡ gives (string_bytes e.text) e.splices.items)) c.in-Some.is c.in_ok-at_once.ensures.ok in
-    ap (edit_behind c.args.splices.items) (ap (carry_all (operations_of c.args.ops.now)) (sym (c.of.ensures ∙ c.requires.same)) ∙ one)
+    ap (edit_after c.args.splices.items) (ap (carry_all (operations_of c.args.ops.now)) (sym (c.of.ensures ∙ c.requires.same)) ∙ one)
     ∙ λ i. gives (string_bytes (sym c.in_ok-edited_behind.ensures.0 i)) (sym c.in_ok-edited_behind.ensures.1 i)
 
 pub returns-in_err-at_once : goal.returns-in_err-at_once

@@ -8,7 +8,7 @@ use Rattle.yq_semantics.specs.declared.op.Op.{Op}
 use Rattle.yq_semantics.specs.View.{program_of}
 use Rattle.yq_edit_laws.specs.Answers.{Edits}
 use Rattle.yq_edit_laws.specs.Carried.{carry_all}
-use Rattle.yq_edit_laws.specs.Edit.{edit_behind}
+use Rattle.yq_edit_laws.specs.Edit.{edit_after}
 use Rattle.yq_edit_laws.specs.Valid.{AreServed, HaveOperands}
 use Rattle.yq_edit_laws.proofs.MeaningLaws.{plan_serves}
 use Rattle.yq_edit_laws.proofs.UpdateLaws.{update_not_read, update_unplanned, update_planned, update_holds, update_there, update_ok, update_err}
@@ -53,7 +53,7 @@ returns-clause-ok c =
     let text : d ≡ t = c.in_ok-documents.ensures.text ∙ c.as_bytes.ensures.value in
     let is : read_at t ≡ Some (cut_of d) = ap read_at (sym c.as_bytes.ensures.value) ∙ c.in_ok-documents.ensures.exact in
     let valid : HaveOperands ops = subst (λ (x : List Op). HaveOperands (operations_of x)) c.deref.ensures.value c.operands_hold.ensures in
-    let new_bytes : Edits c.carry_plan.result (edit_behind c.args.splices.items (carry_all ops t)) = subst (λ (x : List Op). Edits c.carry_plan.result (edit_behind c.args.splices.items (carry_all (operations_of x) t))) c.deref-2.ensures.value c.carry_plan.ensures in
+    let new_bytes : Edits c.carry_plan.result (edit_after c.args.splices.items (carry_all ops t)) = subst (λ (x : List Op). Edits c.carry_plan.result (edit_after c.args.splices.items (carry_all (operations_of x) t))) c.deref-2.ensures.value c.carry_plan.ensures in
     λ u at. update_ok u t (cut_of d) ops is (update_planned u t d ops text (c.in_ok-ops.ensures.exact u at)) (update_holds (program_of c.args.program.now) c.args.nth u c.requires.literals at) valid c.carry_plan.result c.args.splices.items new_bytes
 
 pub returns-clause-err : goal.returns-clause-err
@@ -64,5 +64,5 @@ returns-clause-err c =
     let text : d ≡ t = c.in_ok-documents.ensures.text ∙ c.as_bytes.ensures.value in
     let is : read_at t ≡ Some (cut_of d) = ap read_at (sym c.as_bytes.ensures.value) ∙ c.in_ok-documents.ensures.exact in
     let valid : HaveOperands ops = subst (λ (x : List Op). HaveOperands (operations_of x)) c.deref.ensures.value c.operands_hold.ensures in
-    let new_bytes : Edits c.carry_plan.result (edit_behind c.args.splices.items (carry_all ops t)) = subst (λ (x : List Op). Edits c.carry_plan.result (edit_behind c.args.splices.items (carry_all (operations_of x) t))) c.deref-2.ensures.value c.carry_plan.ensures in
+    let new_bytes : Edits c.carry_plan.result (edit_after c.args.splices.items (carry_all ops t)) = subst (λ (x : List Op). Edits c.carry_plan.result (edit_after c.args.splices.items (carry_all (operations_of x) t))) c.deref-2.ensures.value c.carry_plan.ensures in
     λ u at. update_err u t (cut_of d) ops is (update_planned u t d ops text (c.in_ok-ops.ensures.exact u at)) (update_holds (program_of c.args.program.now) c.args.nth u c.requires.literals at) valid c.carry_plan.result c.args.splices.items new_bytes

@@ -2,7 +2,7 @@ use Rattle.std.proofs.lemmas.Grind.{common_steps}
 use Rattle.std.proofs.Common.{◌∙◌, ap, arith, length, length-append, subst, sym, ◌-◌, take, drop}
 use Rattle.std.proofs.lemmas.Str.{IsUtf8-nil}
 use Rattle.std.specs.Str.{IsUtf8}
-use Rattle.yq_text.specs.Halves.{halves_text}
+use Rattle.yq_text.specs.Halves.{whole}
 use Rattle.yq_text.specs.Script.{from_first, kept_front, old_text}
 use Rattle.yq_text.specs.Segments.{segments_of}
 use Rattle.yq_text.proofs.FirstSegment.{keeps_first, later, none_left}
@@ -18,7 +18,7 @@ overflow_add-len c =
       c.text_len-len.ensures.len,
       c.segments.invariant.all,
       ap (λ ss. length (old_text ss)) first,
-      length-append (halves_text c.in-Keep.text) (old_text (segments_of (later c.segments.rest.now))),
+      length-append (whole c.in-Keep.text) (old_text (segments_of (later c.segments.rest.now))),
     )
 
 pub segments-preserved : goal.segments-preserved

@@ -1,7 +1,7 @@
 use Rattle.std.proofs.Common.{◌-◌, ap, arith, length, length-append, length-take-le, subst, sym, take}
 use Rattle.std.proofs.lemmas.Str.{IsUtf8-append, IsUtf8-nil}
 use Rattle.std.specs.Str.{IsUtf8}
-use Rattle.yq_text.specs.Halves.{halves_text}
+use Rattle.yq_text.specs.Halves.{whole}
 use Rattle.yq_text.specs.Script.{kept_back}
 use Rattle.yq_text.specs.Segments.{segments_of}
 use Rattle.yq_text.proofs.FirstSegment.{none_left}
@@ -15,7 +15,7 @@ text_len-len-requires c =
     omega (
       arith,
       ap length (back_kept xs c.segment-item.result _ c.in-len1-up.len_at_least c.segment-item.is c.in-Keep.text c.in-Keep.is),
-      length-append (kept_back (segments_of (take (length xs - 1) xs))) (halves_text c.in-Keep.text),
+      length-append (kept_back (segments_of (take (length xs - 1) xs))) (whole c.in-Keep.text),
       c.segments.invariant.back,
       back_within (segments_of c.args.segments.now),
       c.requires,
@@ -27,7 +27,7 @@ overflow_add-len c =
     omega (
       arith,
       ap length (back_kept xs c.segment-item.result _ c.in-len1-up.len_at_least c.segment-item.is c.in-Keep.text c.in-Keep.is),
-      length-append (kept_back (segments_of (take (length xs - 1) xs))) (halves_text c.in-Keep.text),
+      length-append (kept_back (segments_of (take (length xs - 1) xs))) (whole c.in-Keep.text),
       c.text_len-len.ensures.len,
       c.segments.invariant.back,
       back_within (segments_of c.args.segments.now),
@@ -39,8 +39,8 @@ segments-preserved c =
     let xs = c.segments.rest.now in
     let kept = back_kept xs c.segment-item.result _ c.in-len1-up.len_at_least c.segment-item.is c.in-Keep.text c.in-Keep.is in
     record {
-      back = omega (arith, ap length kept, length-append (kept_back (segments_of (take (length xs - 1) xs))) (halves_text c.in-Keep.text), c.text_len-len.ensures.len, c.segments.invariant.back);
-      text = λ h. c.segments.invariant.text (subst IsUtf8 (sym kept) (IsUtf8-append (kept_back (segments_of (take (length xs - 1) xs))) (halves_text c.in-Keep.text) h c.text_len-len.ensures.text));
+      back = omega (arith, ap length kept, length-append (kept_back (segments_of (take (length xs - 1) xs))) (whole c.in-Keep.text), c.text_len-len.ensures.len, c.segments.invariant.back);
+      text = λ h. c.segments.invariant.text (subst IsUtf8 (sym kept) (IsUtf8-append (kept_back (segments_of (take (length xs - 1) xs))) (whole c.in-Keep.text) h c.text_len-len.ensures.text));
       within = omega (arith, c.in-len1-up.len_at_least, c.segments.invariant.within, length-take-le (length xs - 1) xs (omega arith));
     }
 

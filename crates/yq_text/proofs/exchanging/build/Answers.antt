@@ -1,7 +1,7 @@
 use Rattle.std.proofs.Common.{◌≡◌, ◌+◌, ◌∷◌, ◌++◌, ◌∙◌, ap, append_assoc, arith, length, length-append, nat_eq, sym, []}
 use Rattle.std.proofs.lemmas.Bool.{eqb-true}
 use Rattle.std.specs.String.{string_bytes}
-use Rattle.yq_text.specs.Halves.{halves_text}
+use Rattle.yq_text.specs.Halves.{whole}
 use Rattle.yq_text.specs.Script.{keep, new_text, put_before, merged, splices_at}
 use Rattle.yq_text.specs.Segments.{segments_of}
 use Rattle.yq_text.proofs.FirstSegment.{build_gives, kept_found, kept_once, keeps_first, later, later_fewer, none_long, put_found, puts_first}
@@ -15,7 +15,7 @@ keep-requires c =
       c.requires,
       c.segments.invariant.place,
       ap (λ ss. length (new_text ss)) first,
-      length-append (halves_text c.in-Keep-2.kept) (new_text (segments_of (later c.segments.rest.now))),
+      length-append (whole c.in-Keep-2.kept) (new_text (segments_of (later c.segments.rest.now))),
     )
 
 pub segments-smaller-in_ok-keep-in-Keep-2 : goal.segments-smaller-in_ok-keep-in-Keep-2
@@ -27,7 +27,7 @@ segments-smaller c = later_fewer c.segments.rest.now c.in-len1-up.len_at_least
 pub segments-preserved-in-Keep : goal.segments-preserved-in-Keep
 segments-preserved-in-Keep c =
     let first = keeps_first c.segments.rest.now c.segment-item.result c.in-len1-up.len_at_least c.segment-item.is c.in-Keep.kept c.in-Keep.is in
-    let empty = none_long (halves_text c.in-Keep.kept) (eqb-true _ _ (sym c.is_empty.ensures ∙ c.if-is_empty.true)) in
+    let empty = none_long (whole c.in-Keep.kept) (eqb-true _ _ (sym c.is_empty.ensures ∙ c.if-is_empty.true)) in
     let us = segments_of (later c.segments.rest.now) in
     let goes : segments_of c.segments.rest.now ≡ keep [] ∷ us = first ∙ ap (λ t. keep t ∷ us) empty in
     let draft = c.segments.draft in
@@ -51,16 +51,16 @@ segments-preserved-in_ok-keep-in-Keep-2 c =
         arith,
         c.segments.invariant.place,
         ap (λ ss. length (new_text ss)) first,
-        length-append (halves_text c.in-Keep-2.kept) (new_text us),
+        length-append (whole c.in-Keep-2.kept) (new_text us),
         c.in_ok-keep-in-Keep-2.ensures.at,
         ap length c.in_ok-keep-in-Keep-2.ensures.come,
       );
       so_far =
           ap (λ t. t ++ new_text us) c.in_ok-keep-in-Keep-2.ensures.text
-          ∙ append_assoc (string_bytes c.segments.draft.text) (halves_text c.in-Keep-2.kept) (new_text us)
+          ∙ append_assoc (string_bytes c.segments.draft.text) (whole c.in-Keep-2.kept) (new_text us)
           ∙ ap (λ ss. string_bytes c.segments.draft.text ++ new_text ss) (sym first)
           ∙ c.segments.invariant.so_far;
-      found = kept_found _ _ _ _ _ c.segments.draft.gone.items c.segments.draft.come.items _ _ (halves_text c.in-Keep-2.kept) _ us long first
+      found = kept_found _ _ _ _ _ c.segments.draft.gone.items c.segments.draft.come.items _ _ (whole c.in-Keep-2.kept) _ us long first
           c.segments.invariant.found c.in_ok-keep-in-Keep-2.ensures.splices c.in_ok-keep-in-Keep-2.ensures.at c.in_ok-keep-in-Keep-2.ensures.gone
           c.in_ok-keep-in-Keep-2.ensures.come;
     }
@@ -85,7 +85,7 @@ segments-preserved c =
           ∙ append_assoc (string_bytes c.segments.draft.text) (string_bytes c.in-Put.come) (new_text us)
           ∙ ap (λ ss. string_bytes c.segments.draft.text ++ new_text ss) (sym first)
           ∙ c.segments.invariant.so_far;
-      found = put_found _ _ _ _ _ c.segments.draft.gone.items c.segments.draft.come.items (halves_text c.in-Put.gone) (string_bytes c.in-Put.come) _ _ _ us first
+      found = put_found _ _ _ _ _ c.segments.draft.gone.items c.segments.draft.come.items (whole c.in-Put.gone) (string_bytes c.in-Put.come) _ _ _ us first
           c.segments.invariant.found c.in_ok-put-in-Put.ensures.splices c.in_ok-put-in-Put.ensures.at c.in_ok-put-in-Put.ensures.gone come;
     }
 

@@ -4,11 +4,11 @@ use Rattle.yq_eval.specs.FoundView.{child_places, found_places}
 use Rattle.yq_eval.specs.PlaceView.{path_of, places_of}
 use Rattle.yq_semantics.specs.Judgement.{Judges, gives}
 use Rattle.yq_semantics.specs.Places.{for_each, step_on}
-use Rattle.yq_eval.specs.declared.matching.place.Place as declared
+use Rattle.yq_eval.specs.declared.matching.place.FoundPlace as declared
 use Rattle.yq_eval.proofs.matching.found.all_of.Goals as goal
 
 pub returns-in-Some : goal.returns-in-Some
-returns-in-Some c = c.in-Some.ensures ∙ ap (λ (q : declared.Place). gives (child_places (path_of q.path) (node_of q.node))) (sym c.in_ok-place.ensures)
+returns-in-Some c = c.in-Some.ensures ∙ ap (λ (q : declared.FoundPlace). gives (child_places (path_of q.path) (node_of q.node))) (sym c.in_ok-place.ensures)
 
 pub returns : goal.returns
 returns c = subst (λ s. Judges found_places c.map.result (for_each (step_on s) (places_of c.args.places.now))) c.requires (search rules)

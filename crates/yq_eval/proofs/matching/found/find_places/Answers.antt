@@ -3,7 +3,7 @@ use Rattle.std.proofs.lemmas.Result.{err_from_is_err_and}
 use Rattle.yq_nodes.specs.Nodes.{node_of}
 use Rattle.yq_eval.specs.FoundView.{found_places}
 use Rattle.yq_eval.specs.PlaceView.{places_of}
-use Rattle.yq_eval.specs.declared.matching.place.Place as declared
+use Rattle.yq_eval.specs.declared.matching.place.FoundPlace as declared
 use Rattle.yq_semantics.specs.Judgement.{MatchFails, Judges, and_then}
 use Rattle.yq_semantics.specs.Places.{Place, root_place, for_each, step_on, traverse}
 use Rattle.yq_semantics.specs.Program.{each}
@@ -30,5 +30,5 @@ returns c =
     (sym (each_last c.args.doc (map stage_of c.args.pipe.now) (map program_step c.in-Some.front.now) (node_of c.args.root) c.in-Some.ensures.1
     ∙ (ap (λ (qs : List Place). and_then (for_each (step_on each)) (traverse (map program_step c.in-Some.front.now) qs)) (sym started)
     ∙ (ap (and_then (for_each (step_on each))) c.in_ok-places.ensures
-    ∙ ap (λ (ps : List declared.Place). for_each (step_on each) (places_of ps)) (sym c.deref.ensures.value)))))
+    ∙ ap (λ (ps : List declared.FoundPlace). for_each (step_on each) (places_of ps)) (sym c.deref.ensures.value)))))
     c.all_of.ensures

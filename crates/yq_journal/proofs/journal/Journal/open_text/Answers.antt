@@ -4,7 +4,7 @@ use Rattle.base64.specs.Engines.{standard}
 use Rattle.base64.specs.GeneralPurpose.{encode_of}
 use Rattle.json.specs.Print.{escape}
 use Rattle.yq_journal.specs.Json.{journal_in, journal_text, kind_text}
-use Rattle.yq_journal.specs.OpenText.{journal_text_before, journal_text_behind}
+use Rattle.yq_journal.specs.OpenText.{journal_text_before, journal_text_after}
 use Rattle.yq_journal.specs.State.{Pending, State, state}
 use Rattle.yq_journal.proofs.OpenTextLaws.{ArePieces, reads_back, whole_text}
 use Rattle.yq_journal.proofs.journal.Journal.open_text.Goals as goal
@@ -28,10 +28,10 @@ whole c =
     let held = string_bytes c.in_ok-held.held in
     let records = string_bytes c.in_ok-records.records in
     let front = c.in_ok-push_base64.ensures.added ∙ ap₂ (λ x y. x ++ escape (encode_of standard y)) c.in_ok-text.ensures c.deref-2.ensures.value in
-    let text : string_bytes c.push_behind.new.text ≡ journal_text_behind (journal_text_before (seen c).at ++ escape (encode_of standard (move_seen c).from)) (kind_text (move_seen c).step) held records =
+    let text : string_bytes c.push_behind.new.text ≡ journal_text_after (journal_text_before (seen c).at ++ escape (encode_of standard (move_seen c).from)) (kind_text (move_seen c).step) held records =
     c.in_ok-push_behind.ensures
-    ∙ ap₂ (λ x k. journal_text_behind x k c.deref-3.result.now c.deref-4.result.now) front c.kind.ensures
-    ∙ ap₂ (λ h r. journal_text_behind (journal_text_before (seen c).at ++ escape (encode_of standard (move_seen c).from)) (kind_text (move_seen c).step) h r) c.deref-3.ensures c.deref-4.ensures in
+    ∙ ap₂ (λ x k. journal_text_after x k c.deref-3.result.now c.deref-4.result.now) front c.kind.ensures
+    ∙ ap₂ (λ h r. journal_text_after (journal_text_before (seen c).at ++ escape (encode_of standard (move_seen c).from)) (kind_text (move_seen c).step) h r) c.deref-3.ensures c.deref-4.ensures in
     ap (λ (v : Vec ℕ Global). v.items) c.into_bytes.ensures.value
     ∙ whole_text (seen c) (move_seen c) held records (string_bytes c.push_behind.new.text) (pieces c) text
 

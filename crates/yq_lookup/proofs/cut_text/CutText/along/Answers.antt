@@ -1,7 +1,7 @@
 use Rattle.yq_documents.specs.Reading.{cut_of}
 use Rattle.yq_places.proofs.WalkDocuments.{found_document}
 use Rattle.yq_lookup.proofs.CutRows.{rows_are_view, items_known}
-use Rattle.yq_text.specs.Halves.{halves_text}
+use Rattle.yq_text.specs.Halves.{whole}
 use Rattle.yq_places.proofs.HeldLaws.{cut_agrees}
 use Rattle.yq_lookup.proofs.cut_text.CutText.along.Goals as goal
 
@@ -16,7 +16,7 @@ pub known_along-requires-clause-known : goal.known_along-requires-clause-known
 known_along-requires-clause-known c = items_known c.args.self.now c.rows-rows.result.now c.known.result c.rows-rows.ensures c.known.ensures
 
 pub resumed-requires-clause-cut : goal.resumed-requires-clause-cut
-resumed-requires-clause-cut c = cut_agrees (halves_text c.whole-text.result) c.args.self.now c.rows-rows.result.now c.whole-text.ensures.text c.whole-text.ensures.cut c.rows-rows.ensures c.whole-text.ensures.documents
+resumed-requires-clause-cut c = cut_agrees (whole c.whole-text.result) c.args.self.now c.rows-rows.result.now c.whole-text.ensures.text c.whole-text.ensures.cut c.rows-rows.ensures c.whole-text.ensures.documents
 
 pub resumed-requires-2-clause-cut : goal.resumed-requires-2-clause-cut
-resumed-requires-2-clause-cut c = cut_agrees (halves_text c.whole-text.result) c.args.self.now c.rows-rows.result.now c.whole-text.ensures.text c.whole-text.ensures.cut c.rows-rows.ensures c.whole-text.ensures.documents
+resumed-requires-2-clause-cut c = cut_agrees (whole c.whole-text.result) c.args.self.now c.rows-rows.result.now c.whole-text.ensures.text c.whole-text.ensures.cut c.rows-rows.ensures c.whole-text.ensures.documents

@@ -1,5 +1,5 @@
 use Rattle.std.proofs.Common.{Some, refl, sym, ap, ◌∙◌, subst}
-use Rattle.yq_text.specs.Halves.{halves_text}
+use Rattle.yq_text.specs.Halves.{whole}
 use Rattle.yq_row_table.specs.Grammar.{IsCut}
 use Rattle.yq_row_table.specs.View.{rows_view}
 use Rattle.yq_documents.specs.Located.{steps_of}
@@ -23,7 +23,7 @@ held_in-requires c =
     let text = c.whole-text.ensures.text in
     let cut = subst (λ t. IsCut t (cut_of t)) (sym text) c.whole-text.ensures.cut in
     let rows = c.rows.ensures ∙ ap (λ t. rows_view (cut_of t)) (sym text) in
-    let f = entry_found (halves_text c.whole-text.result) c.rows.result.now c.args.path.now.doc (steps_of c.args.path.now) c.in_ok-entry.entry cut rows (c.in_ok-entry.ensures ∙ ap (λ t. numbers_at c.args.path.now.doc (steps_of c.args.path.now) (cut_of t)) (sym text)) in
+    let f = entry_found (whole c.whole-text.result) c.rows.result.now c.args.path.now.doc (steps_of c.args.path.now) c.in_ok-entry.entry cut rows (c.in_ok-entry.ensures ∙ ap (λ t. numbers_at c.args.path.now.doc (steps_of c.args.path.now) (cut_of t)) (sym text)) in
     record { entry = f.entry; is = f.is }
 
 pub returns : goal.returns
@@ -31,7 +31,7 @@ returns c =
     let text = c.whole-text.ensures.text in
     let cut = subst (λ t. IsCut t (cut_of t)) (sym text) c.whole-text.ensures.cut in
     let rows = c.rows.ensures ∙ ap (λ t. rows_view (cut_of t)) (sym text) in
-    let f = entry_found (halves_text c.whole-text.result) c.rows.result.now c.args.path.now.doc (steps_of c.args.path.now) c.in_ok-entry.entry cut rows (c.in_ok-entry.ensures ∙ ap (λ t. numbers_at c.args.path.now.doc (steps_of c.args.path.now) (cut_of t)) (sym text)) in
+    let f = entry_found (whole c.whole-text.result) c.rows.result.now c.args.path.now.doc (steps_of c.args.path.now) c.in_ok-entry.entry cut rows (c.in_ok-entry.ensures ∙ ap (λ t. numbers_at c.args.path.now.doc (steps_of c.args.path.now) (cut_of t)) (sym text)) in
     ap Some (c.held_in.ensures f.entry f.is)
-    ∙ (held_there (halves_text c.whole-text.result) c.rows.result.now c.args.path.now.doc (steps_of c.args.path.now) c.in_ok-entry.entry f c.if-entry.false
+    ∙ (held_there (whole c.whole-text.result) c.rows.result.now c.args.path.now.doc (steps_of c.args.path.now) c.in_ok-entry.entry f c.if-entry.false
     ∙ ap (λ t. held_at c.args.path.now.doc (steps_of c.args.path.now) (cut_of t)) text)

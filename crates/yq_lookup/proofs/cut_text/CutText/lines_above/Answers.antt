@@ -1,7 +1,7 @@
 use Rattle.std.proofs.Common.{option_map, sym, ap, ◌∙◌, subst}
 use Rattle.std.proofs.lemmas.Option.{same_Some}
 use Rattle.std.specs.Str.{IsUtf8}
-use Rattle.yq_text.specs.Halves.{halves_text}
+use Rattle.yq_text.specs.Halves.{whole}
 use Rattle.yq_places.specs.CommentPlaces as spec
 use Rattle.yq_places.specs.CommentViews.{above_view}
 use Rattle.yq_documents.specs.Located.{steps_of}
@@ -21,28 +21,28 @@ returns-then-row_line-ne0 c = other_lines_above c.args.path.now (cut_of c.args.s
 
 pub row_start-start-requires-clause-within : goal.row_start-start-requires-clause-within
 row_start-start-requires-clause-within c =
-    row_within (halves_text c.self.inside.text) c.self.inside.rows.now c.args.path.now (line_view c.in_ok-row_line.row_line) c.self.invariant.0
+    row_within (whole c.self.inside.text) c.self.inside.rows.now c.args.path.now (line_view c.in_ok-row_line.row_line) c.self.invariant.0
     (c.in_ok-row_line.ensures ∙ ap (λ t. option_map (numbers (document_row c.args.path.now.doc (cut_of t))) (row_line_at c.args.path.now (cut_of t))) (sym c.self.view_is))
 
 pub row-row-requires : goal.row-row-requires
 row-row-requires c =
-    row_within (halves_text c.self.inside.text) c.self.inside.rows.now c.args.path.now (line_view c.in_ok-row_line.row_line) c.self.invariant.0
+    row_within (whole c.self.inside.text) c.self.inside.rows.now c.args.path.now (line_view c.in_ok-row_line.row_line) c.self.invariant.0
     (c.in_ok-row_line.ensures ∙ ap (λ t. option_map (numbers (document_row c.args.path.now.doc (cut_of t))) (row_line_at c.args.path.now (cut_of t))) (sym c.self.view_is))
 
 pub above-requires : goal.above-requires
 above-requires c = record {
-  gap = (gap_stands (halves_text c.self.inside.text) c.self.inside.rows.now c.self.invariant.0 c.args.path.now (line_view c.in_ok-row_line.row_line)
+  gap = (gap_stands (whole c.self.inside.text) c.self.inside.rows.now c.self.invariant.0 c.args.path.now (line_view c.in_ok-row_line.row_line)
       (c.in_ok-row_line.ensures ∙ ap (λ t. option_map (numbers (document_row c.args.path.now.doc (cut_of t))) (row_line_at c.args.path.now (cut_of t))) (sym c.self.view_is))
-      c.row_start-start.result c.gap-gap.result.now (halves_text c.whole-whole.result) c.row_start-start.ensures
+      c.row_start-start.result c.gap-gap.result.now (whole c.whole-whole.result) c.row_start-start.ensures
       (λ (y : Slices) is. c.gap-gap.ensures ∙ ap (λ (s : Slices). s.gap) (same_Some _ _ (sym c.row-row.ensures ∙ is)))
       (c.whole-whole.ensures.text ∙ sym c.self.view_is) (subst IsUtf8 (sym c.self.view_is) c.whole-whole.ensures.utf8)).0;
 }
 
 pub returns : goal.returns
 returns c =
-    lines_above_is (halves_text c.self.inside.text) c.self.inside.rows.now c.self.invariant.0 c.args.path.now (line_view c.in_ok-row_line.row_line)
+    lines_above_is (whole c.self.inside.text) c.self.inside.rows.now c.self.invariant.0 c.args.path.now (line_view c.in_ok-row_line.row_line)
     (c.in_ok-row_line.ensures ∙ ap (λ t. option_map (numbers (document_row c.args.path.now.doc (cut_of t))) (row_line_at c.args.path.now (cut_of t))) (sym c.self.view_is))
-    c.row_start-start.result c.gap-gap.result.now (halves_text c.whole-whole.result) c.column-column.result _ c.row_start-start.ensures
+    c.row_start-start.result c.gap-gap.result.now (whole c.whole-whole.result) c.column-column.result _ c.row_start-start.ensures
     (λ (y : Slices) is. c.gap-gap.ensures ∙ ap (λ (s : Slices). s.gap) (same_Some _ _ (sym c.row-row.ensures ∙ is)))
     (c.whole-whole.ensures.text ∙ sym c.self.view_is) (subst IsUtf8 (sym c.self.view_is) c.whole-whole.ensures.utf8)
     (λ (y : Slices) is. c.column-column.ensures ∙ ap (λ (s : Slices). s.column) (same_Some _ _ (sym c.row-row.ensures ∙ is)))

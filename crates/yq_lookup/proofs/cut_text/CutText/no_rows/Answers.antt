@@ -1,6 +1,6 @@
 use Rattle.std.proofs.Common.{List, ℕ, take, drop, sym, ap, ◌∙◌, subst}
 use Rattle.std.specs.Str.{IsUtf8, IsCharBoundary}
-use Rattle.yq_text.specs.Halves.{halves_text}
+use Rattle.yq_text.specs.Halves.{whole}
 use Rattle.yq_documents.specs.Reading.{cut_of}
 use Rattle.yq_places.proofs.RootPlaceLaws.{unwritten_boundary, rowless_agrees}
 use Rattle.yq_places.proofs.RootStandingLaws.{no_bare}
@@ -16,5 +16,5 @@ split_at-requires c =
 
 pub returns : goal.returns
 returns c =
-    rowless_agrees c.args.self.now c.args.doc c.in_ok-end.end (halves_text c.split_at.result.0) (halves_text c.split_at.result.1) c.whole-whole.ensures.cut c.in_ok-end.ensures
+    rowless_agrees c.args.self.now c.args.doc c.in_ok-end.end (whole c.split_at.result.0) (whole c.split_at.result.1) c.whole-whole.ensures.cut c.in_ok-end.ensures
     (c.split_at.ensures.front ∙ ap (take c.in_ok-end.end) c.whole-whole.ensures.text) (c.split_at.ensures.back ∙ ap (drop c.in_ok-end.end) c.whole-whole.ensures.text)

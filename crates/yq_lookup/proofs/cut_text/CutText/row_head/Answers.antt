@@ -1,6 +1,6 @@
 use Rattle.std.proofs.Common.{◌≤◌, ℕ, List, length, drop, sym, ap, ◌∙◌, subst, arith}
 use Rattle.std.specs.Str.{IsCharBoundary}
-use Rattle.yq_text.specs.Halves.{halves_text}
+use Rattle.yq_text.specs.Halves.{whole}
 use Rattle.yq_text.specs.Limit.{text_limit}
 use Rattle.yq_row_table.specs.View.{row_view, rows_of}
 use Rattle.yq_documents.specs.Reading.{cut_of}
@@ -33,7 +33,7 @@ split_at-requires-2 c =
     let r = within_some (rows_of (cut_of t)) c.args.i c.requires.within in
     let at = ap (λ (x : ℕ × ℕ). x.0) (c.head_place-start.ensures (cut_of t) c.rows-rows.ensures r.0 r.1) in
     let pieces = slices_are (cut_of t) c.rows-rows.result.now c.args.i (row_view c.row-row.result) r.0 c.rows-rows.ensures c.row-row.ensures r.1 in
-    row_boundary t (cut_of t) c.args.i r.0 start c.whole-whole.ensures.utf8 c.whole-whole.ensures.cut r.1 at (halves_text c.split_at.result.1) (c.split_at.ensures.back ∙ ap (drop start) c.whole-whole.ensures.text)
+    row_boundary t (cut_of t) c.args.i r.0 start c.whole-whole.ensures.utf8 c.whole-whole.ensures.cut r.1 at (whole c.split_at.result.1) (c.split_at.ensures.back ∙ ap (drop start) c.whole-whole.ensures.text)
     (row_view c.row-row.result) pieces c.head.result.now c.tail.result.now c.raw.result.now c.head.ensures c.tail.ensures c.raw.ensures c.head.utf8 c.tail.utf8 c.raw.utf8
 
 pub row_head-requires-clause-row : goal.row_head-requires-clause-row
@@ -45,7 +45,7 @@ row_head-requires-clause-row c =
     let r = within_some (rows_of (cut_of t)) c.args.i c.requires.within in
     let at = ap (λ (x : ℕ × ℕ). x.0) (c.head_place-start.ensures (cut_of t) c.rows-rows.ensures r.0 r.1) in
     let pieces = slices_are (cut_of t) c.rows-rows.result.now c.args.i (row_view c.row-row.result) r.0 c.rows-rows.ensures c.row-row.ensures r.1 in
-    let own = c.in-Some.ensures ∙ (c.split_at-2.ensures.front ∙ row_taken t (cut_of t) c.args.i r.0 start u cut r.1 at (halves_text c.split_at.result.1) (c.split_at.ensures.back ∙ ap (drop start) c.whole-whole.ensures.text)
+    let own = c.in-Some.ensures ∙ (c.split_at-2.ensures.front ∙ row_taken t (cut_of t) c.args.i r.0 start u cut r.1 at (whole c.split_at.result.1) (c.split_at.ensures.back ∙ ap (drop start) c.whole-whole.ensures.text)
     (row_view c.row-row.result) pieces c.head.result.now c.tail.result.now c.raw.result.now c.head.ensures c.tail.ensures c.raw.ensures) in
     has_head t (cut_of t) c.args.i r.0 start u cut r.1 at (row_view c.row-row.result) c.in-Some.text.now pieces own (c.requires.fit r.0 r.1)
 
@@ -57,7 +57,7 @@ returns c = λ r is.
     let cut = c.whole-whole.ensures.cut in
     let at = ap (λ (x : ℕ × ℕ). x.0) (c.head_place-start.ensures (cut_of t) c.rows-rows.ensures r is) in
     let pieces = slices_are (cut_of t) c.rows-rows.result.now c.args.i (row_view c.row-row.result) r c.rows-rows.ensures c.row-row.ensures is in
-    let own = c.in-Some.ensures ∙ (c.split_at-2.ensures.front ∙ row_taken t (cut_of t) c.args.i r start u cut is at (halves_text c.split_at.result.1) (c.split_at.ensures.back ∙ ap (drop start) c.whole-whole.ensures.text)
+    let own = c.in-Some.ensures ∙ (c.split_at-2.ensures.front ∙ row_taken t (cut_of t) c.args.i r start u cut is at (whole c.split_at.result.1) (c.split_at.ensures.back ∙ ap (drop start) c.whole-whole.ensures.text)
     (row_view c.row-row.result) pieces c.head.result.now c.tail.result.now c.raw.result.now c.head.ensures c.tail.ensures c.raw.ensures) in
     let alone = has_head t (cut_of t) c.args.i r start u cut is at (row_view c.row-row.result) c.in-Some.text.now pieces own (c.requires.fit r is) in
     record { view = c.in_ok-row_head.ensures.view alone; flow = c.in_ok-row_head.ensures.flow alone; text = own; before = at }

@@ -1,7 +1,7 @@
 use Rattle.std.proofs.Common.{rules, ◌≡◌, length, Some, sym, ap, ◌∙◌}
 use Rattle.std.specs.Vec.{vec_len}
 use Rattle.yq_core.specs.Entries.{tree_step}
-use Rattle.yq_text.specs.Halves.{halves_text}
+use Rattle.yq_text.specs.Halves.{whole}
 use Rattle.yq_documents.specs.Located.{steps_of}
 use Rattle.yq_documents.specs.Reading.{cut_of}
 use Rattle.yq_places.specs.Standings.{standing_at}
@@ -26,5 +26,5 @@ returns c =
     let counted : vec_len c.args.path.now.steps ≡ length c.args.path.now.steps.items = search rules in
     let some = some_steps tree_step c.args.path.now.steps.items (sym c.is_empty.ensures ∙ c.if-is_empty.false) counted in
     ap Some (c.entry_standing.ensures f.entry f.is)
-    ∙ (standing_there (halves_text c.whole-text.result) c.rows.result.now c.args.path.now.doc (steps_of c.args.path.now) c.in_ok-entry.entry f some
+    ∙ (standing_there (whole c.whole-text.result) c.rows.result.now c.args.path.now.doc (steps_of c.args.path.now) c.in_ok-entry.entry f some
     ∙ ap (λ t. standing_at c.args.path.now.doc (steps_of c.args.path.now) (cut_of t)) c.whole-text.ensures.text)

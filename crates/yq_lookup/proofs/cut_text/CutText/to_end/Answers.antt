@@ -1,7 +1,7 @@
 use Rattle.yq_documents.specs.Reading.{cut_of}
 use Rattle.yq_places.proofs.WalkDocuments.{found_document}
 use Rattle.yq_lookup.proofs.CutRows.{rows_are_view, items_known}
-use Rattle.yq_text.specs.Halves.{halves_text}
+use Rattle.yq_text.specs.Halves.{whole}
 use Rattle.yq_places.proofs.HeldLaws.{cut_agrees}
 use Rattle.yq_lookup.proofs.cut_text.CutText.to_end.Goals as goal
 
@@ -20,10 +20,10 @@ pub known_along-at-requires-clause-known : goal.known_along-at-requires-clause-k
 known_along-at-requires-clause-known c = items_known c.args.self.now c.rows-rows.result.now c.known.result c.rows-rows.ensures c.known.ensures
 
 pub resumed-requires-clause-cut : goal.resumed-requires-clause-cut
-resumed-requires-clause-cut c = cut_agrees (halves_text c.whole-text.result) c.args.self.now c.rows-rows.result.now c.whole-text.ensures.text c.whole-text.ensures.cut c.rows-rows.ensures c.whole-text.ensures.documents
+resumed-requires-clause-cut c = cut_agrees (whole c.whole-text.result) c.args.self.now c.rows-rows.result.now c.whole-text.ensures.text c.whole-text.ensures.cut c.rows-rows.ensures c.whole-text.ensures.documents
 
 pub with_line-requires-clause-cut : goal.with_line-requires-clause-cut
-with_line-requires-clause-cut c = cut_agrees (halves_text c.whole-text.result) c.args.self.now c.rows-rows.result.now c.whole-text.ensures.text c.whole-text.ensures.cut c.rows-rows.ensures c.whole-text.ensures.documents
+with_line-requires-clause-cut c = cut_agrees (whole c.whole-text.result) c.args.self.now c.rows-rows.result.now c.whole-text.ensures.text c.whole-text.ensures.cut c.rows-rows.ensures c.whole-text.ensures.documents
 
 pub known_end-end-requires-clause-rows_view : goal.known_end-end-requires-clause-rows_view
 known_end-end-requires-clause-rows_view c = rows_are_view c.args.self.now c.rows-rows.result.now c.whole-text.ensures.cut c.rows-rows.ensures

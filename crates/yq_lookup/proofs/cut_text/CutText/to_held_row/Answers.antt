@@ -8,7 +8,7 @@ use Rattle.yq_places.specs.RowWalk.{IsLineAt}
 use Rattle.yq_places.proofs.HeldRowLaws.{held_row_is, line_in}
 use Rattle.yq_places.proofs.WalkDocuments.{found_document}
 use Rattle.yq_lookup.proofs.CutRows.{rows_are_view, items_known}
-use Rattle.yq_text.specs.Halves.{halves_text}
+use Rattle.yq_text.specs.Halves.{whole}
 use Rattle.yq_places.proofs.HeldLaws.{cut_agrees}
 use Rattle.yq_lookup.proofs.cut_text.CutText.to_held_row.Goals as goal
 
@@ -43,4 +43,4 @@ pub row_of_last-requires-clause-rows_view : goal.row_of_last-requires-clause-row
 row_of_last-requires-clause-rows_view c = rows_are_view c.args.self.now c.rows-rows.result.now c.whole-text.ensures.cut c.rows-rows.ensures
 
 pub resumed-requires-clause-cut : goal.resumed-requires-clause-cut
-resumed-requires-clause-cut c = cut_agrees (halves_text c.whole-text.result) c.args.self.now c.rows-rows.result.now c.whole-text.ensures.text c.whole-text.ensures.cut c.rows-rows.ensures c.whole-text.ensures.documents
+resumed-requires-clause-cut c = cut_agrees (whole c.whole-text.result) c.args.self.now c.rows-rows.result.now c.whole-text.ensures.text c.whole-text.ensures.cut c.rows-rows.ensures c.whole-text.ensures.documents

@@ -1,6 +1,6 @@
 use Rattle.std.proofs.Common.{◌≡◌, ◌+◌, sym, ap, ◌∙◌}
 use Rattle.std.proofs.lemmas.Option.{same_Some}
-use Rattle.yq_text.specs.Halves.{halves_text}
+use Rattle.yq_text.specs.Halves.{whole}
 use Rattle.yq_row_table.specs.Rows.{rows_text}
 use Rattle.yq_row_table.specs.View.{Slices}
 use Rattle.yq_places.specs.Standings as spec
@@ -10,21 +10,21 @@ use Rattle.yq_places.proofs.StandingViewLaws.{alone_is, has_under, next_entry, n
 use Rattle.yq_places.proofs.places.entry_standing.below.Goals as goal
 
 pub returns-then-next-at : goal.returns-then-next-at
-returns-then-next-at c = λ e h. ap spec.beside (c.held_in.ensures e h) ∙ none_below (halves_text c.args.text) c.args.rows.now e c.args.at h c.if-next-at.true
+returns-then-next-at c = λ e h. ap spec.beside (c.held_in.ensures e h) ∙ none_below (whole c.args.text) c.args.rows.now e c.args.at h c.if-next-at.true
 
 pub row-row-requires : goal.row-row-requires
 row-row-requires c =
-    let x = has_under (halves_text c.args.text) c.args.rows.now c.requires.entry c.args.at c.requires.is c.if-next-at.false in
-    row_within (halves_text c.args.text) c.args.rows.now (next_entry c.requires.entry x.first x.others) (c.args.at.row + 1) c.args.at.end x.rows
+    let x = has_under (whole c.args.text) c.args.rows.now c.requires.entry c.args.at c.requires.is c.if-next-at.false in
+    row_within (whole c.args.text) c.args.rows.now (next_entry c.requires.entry x.first x.others) (c.args.at.row + 1) c.args.at.end x.rows
 
 pub lone_in-requires : goal.lone_in-requires
 lone_in-requires c =
-    let x = has_under (halves_text c.args.text) c.args.rows.now c.requires.entry c.args.at c.requires.is c.if-next-at.false in
+    let x = has_under (whole c.args.text) c.args.rows.now c.requires.entry c.args.at c.requires.is c.if-next-at.false in
     record { entry = next_entry c.requires.entry x.first x.others; end = c.args.at.end; is = x.rows }
 
 pub returns-then-is_alone : goal.returns-then-is_alone
 returns-then-is_alone c = λ e h.
-    let t = halves_text c.args.text in
+    let t = whole c.args.text in
     let s = c.args.rows.now in
     let x = has_under t s e c.args.at h c.if-next-at.false in
     let n = next_entry e x.first x.others in
@@ -34,7 +34,7 @@ returns-then-is_alone c = λ e h.
 
 pub returns : goal.returns
 returns c = λ e h.
-    let t = halves_text c.args.text in
+    let t = whole c.args.text in
     let s = c.args.rows.now in
     let x = has_under t s e c.args.at h c.if-next-at.false in
     let n = next_entry e x.first x.others in

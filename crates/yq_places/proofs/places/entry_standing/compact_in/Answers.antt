@@ -1,6 +1,6 @@
 use Rattle.std.proofs.Common.{[], ◌≡◌, ◌∙◌, ◌+◌, ◌<◌, suc, not, ◌||◌, length, refl, sym, ap, arith}
 use Rattle.std.proofs.lemmas.Option.{same_Some}
-use Rattle.yq_text.specs.Halves.{halves_text}
+use Rattle.yq_text.specs.Halves.{whole}
 use Rattle.yq_core.specs.Text.{is_empty}
 use Rattle.yq_row_table.specs.View.{Slices, row_view}
 use Rattle.yq_places.specs.CommentPlaces.{end_in_line}
@@ -12,23 +12,23 @@ use Rattle.yq_places.proofs.LoneLaws.{dash_cut, dash_fits, dash_lines}
 use Rattle.yq_places.proofs.places.entry_standing.compact_in.Goals as goal
 
 pub row-row-requires : goal.row-row-requires
-row-row-requires c = let h = c.requires.entry in row_within (halves_text c.args.text) c.args.rows.now h.entry c.args.at.row c.args.at.end h.is.rows
+row-row-requires c = let h = c.requires.entry in row_within (whole c.args.text) c.args.rows.now h.entry c.args.at.row c.args.at.end h.is.rows
 
 pub row_stop-stop-requires-clause-within : goal.row_stop-stop-requires-clause-within
-row_stop-stop-requires-clause-within c = let h = c.requires.entry in last_within (halves_text c.args.text) c.args.rows.now h.entry c.args.at.row c.args.at.end h.is.rows
+row_stop-stop-requires-clause-within c = let h = c.requires.entry in last_within (whole c.args.text) c.args.rows.now h.entry c.args.at.row c.args.at.end h.is.rows
 
 pub line_start-requires-clause-within : goal.line_start-requires-clause-within
-line_start-requires-clause-within c = let h = c.requires.entry in row_within (halves_text c.args.text) c.args.rows.now h.entry c.args.at.row c.args.at.end h.is.rows
+line_start-requires-clause-within c = let h = c.requires.entry in row_within (whole c.args.text) c.args.rows.now h.entry c.args.at.row c.args.at.end h.is.rows
 
 pub cut_lines-lower-requires : goal.cut_lines-lower-requires
 cut_lines-lower-requires c =
     let h = c.requires.entry in
     let less : h.entry.line < length h.entry.row.dashes = omega (arith, c.requires.dash, h.is.line, h.is.dashes) in
-    dash_cut (halves_text c.args.text) c.args.rows.now h.entry c.args.at.row c.args.at.end h.is.rows c.is_text.ensures c.args.at.line h.is.line less (row_view c.row-row.result) c.row-row.ensures c.line_start.result c.row_stop-stop.result c.line_start.ensures c.row_stop-stop.ensures (halves_text c.args.text) refl
+    dash_cut (whole c.args.text) c.args.rows.now h.entry c.args.at.row c.args.at.end h.is.rows c.is_text.ensures c.args.at.line h.is.line less (row_view c.row-row.result) c.row-row.ensures c.line_start.result c.row_stop-stop.result c.line_start.ensures c.row_stop-stop.ensures (whole c.args.text) refl
 
 pub returns : goal.returns
 returns c = λ e h.
-    let t = halves_text c.args.text in
+    let t = whole c.args.text in
     let s = c.args.rows.now in
     let less : e.line < length e.row.dashes = omega (arith, c.requires.dash, h.line, h.dashes) in
     let row = same_Some _ _ (sym (pieces_at t s e c.args.at.row c.args.at.end h.rows) ∙ c.row-row.ensures) in
@@ -43,16 +43,16 @@ pub overflow_add-line_start : goal.overflow_add-line_start
 overflow_add-line_start c =
     let h = c.requires.entry in
     let less : h.entry.line < length h.entry.row.dashes = omega (arith, c.requires.dash, h.is.line, h.is.dashes) in
-    omega (arith, dash_fits (halves_text c.args.text) c.args.rows.now h.entry c.args.at.row c.args.at.end h.is.rows c.is_text.ensures c.args.at.line h.is.line less (row_view c.row-row.result) c.row-row.ensures c.line_start.result c.row_stop-stop.result c.line_start.ensures c.row_stop-stop.ensures)
+    omega (arith, dash_fits (whole c.args.text) c.args.rows.now h.entry c.args.at.row c.args.at.end h.is.rows c.is_text.ensures c.args.at.line h.is.line less (row_view c.row-row.result) c.row-row.ensures c.line_start.result c.row_stop-stop.result c.line_start.ensures c.row_stop-stop.ensures)
 
 pub mark_of-requires : goal.mark_of-requires
-mark_of-requires c = let h = c.requires.entry in column_fits (halves_text c.args.text) c.args.rows.now h.entry c.args.at.row c.args.at.end h.is.rows (row_view c.row-row.result) c.row-row.ensures
+mark_of-requires c = let h = c.requires.entry in column_fits (whole c.args.text) c.args.rows.now h.entry c.args.at.row c.args.at.end h.is.rows (row_view c.row-row.result) c.row-row.ensures
 
 pub line_column-requires : goal.line_column-requires
-line_column-requires c = let h = c.requires.entry in column_fits (halves_text c.args.text) c.args.rows.now h.entry c.args.at.row c.args.at.end h.is.rows (row_view c.row-row.result) c.row-row.ensures
+line_column-requires c = let h = c.requires.entry in column_fits (whole c.args.text) c.args.rows.now h.entry c.args.at.row c.args.at.end h.is.rows (row_view c.row-row.result) c.row-row.ensures
 
 pub row_stop-stop-requires-clause-rows_view : goal.row_stop-stop-requires-clause-rows_view
-row_stop-stop-requires-clause-rows_view c = let h = c.requires.entry in is_view (halves_text c.args.text) c.args.rows.now h.entry c.args.at.row c.args.at.end h.is.rows
+row_stop-stop-requires-clause-rows_view c = let h = c.requires.entry in is_view (whole c.args.text) c.args.rows.now h.entry c.args.at.row c.args.at.end h.is.rows
 
 pub line_start-requires-clause-rows_view : goal.line_start-requires-clause-rows_view
-line_start-requires-clause-rows_view c = let h = c.requires.entry in is_view (halves_text c.args.text) c.args.rows.now h.entry c.args.at.row c.args.at.end h.is.rows
+line_start-requires-clause-rows_view c = let h = c.requires.entry in is_view (whole c.args.text) c.args.rows.now h.entry c.args.at.row c.args.at.end h.is.rows

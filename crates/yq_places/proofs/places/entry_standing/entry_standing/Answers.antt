@@ -1,6 +1,6 @@
 use Rattle.std.proofs.Common.{ℕ, Bool, option_map, sym, ap, ◌∙◌}
 use Rattle.std.proofs.lemmas.Option.{same_Some}
-use Rattle.yq_text.specs.Halves.{halves_text}
+use Rattle.yq_text.specs.Halves.{whole}
 use Rattle.yq_core.specs.Text.{is_empty}
 use Rattle.yq_row_table.specs.Removal.{block_of}
 use Rattle.yq_row_table.specs.View.{Slices}
@@ -12,14 +12,14 @@ use Rattle.yq_places.proofs.StandingViewLaws.{below_here, beside_here, block_her
 use Rattle.yq_places.proofs.places.entry_standing.entry_standing.Goals as goal
 
 pub block-requires : goal.block-requires
-block-requires c = let h = c.requires in row_within (halves_text c.args.text) c.args.rows.now h.entry c.args.at.row c.args.at.end h.is.rows
+block-requires c = let h = c.requires in row_within (whole c.args.text) c.args.rows.now h.entry c.args.at.row c.args.at.end h.is.rows
 
 pub row-requires : goal.row-requires
-row-requires c = let h = c.requires in row_within (halves_text c.args.text) c.args.rows.now h.entry c.args.at.row c.args.at.end h.is.rows
+row-requires c = let h = c.requires in row_within (whole c.args.text) c.args.rows.now h.entry c.args.at.row c.args.at.end h.is.rows
 
 pub returns-in-Some : goal.returns-in-Some
 returns-in-Some c = λ e h.
-    let t = halves_text c.args.text in
+    let t = whole c.args.text in
     let s = c.args.rows.now in
     let agrees = sym (ap (option_map (λ (b : Bool × ℕ). (b.0, b.1))) c.in-Some.is) ∙ c.block.ensures t (cut_of t) e.row h.rows.cut h.rows.rows_view_is (first_at t s e c.args.at.row c.args.at.end h.rows).there in
     let b = some_block (block_of e.row.content) c.in-Some.indent c.in-Some.field-0-0 agrees in
@@ -27,7 +27,7 @@ returns-in-Some c = λ e h.
 
 pub returns-then-is_empty : goal.returns-then-is_empty
 returns-then-is_empty c = λ e h.
-    let t = halves_text c.args.text in
+    let t = whole c.args.text in
     let s = c.args.rows.now in
     let agrees = sym (ap (option_map (λ (b : Bool × ℕ). (b.0, b.1))) c.in-None.is) ∙ c.block.ensures t (cut_of t) e.row h.rows.cut h.rows.rows_view_is (first_at t s e c.args.at.row c.args.at.end h.rows).there in
     let row = same_Some _ _ (sym (pieces_at t s e c.args.at.row c.args.at.end h.rows) ∙ c.row.ensures) in
@@ -36,7 +36,7 @@ returns-then-is_empty c = λ e h.
 
 pub returns-else-is_empty : goal.returns-else-is_empty
 returns-else-is_empty c = λ e h.
-    let t = halves_text c.args.text in
+    let t = whole c.args.text in
     let s = c.args.rows.now in
     let agrees = sym (ap (option_map (λ (b : Bool × ℕ). (b.0, b.1))) c.in-None.is) ∙ c.block.ensures t (cut_of t) e.row h.rows.cut h.rows.rows_view_is (first_at t s e c.args.at.row c.args.at.end h.rows).there in
     let row = same_Some _ _ (sym (pieces_at t s e c.args.at.row c.args.at.end h.rows) ∙ c.row.ensures) in

@@ -1,5 +1,5 @@
 use Rattle.std.proofs.Common.{length, sym, ap, ◌∙◌, arith, rules}
-use Rattle.yq_text.specs.Halves.{halves_text}
+use Rattle.yq_text.specs.Halves.{whole}
 use Rattle.yq_places.proofs.FirstLaws.{none_less, some_less, step_less}
 use Rattle.yq_places.proofs.places.halves.less_spaces_len.Goals as goal
 
@@ -13,4 +13,4 @@ pub returns-else-byte_at-eq32-clause-within : goal.returns-else-byte_at-eq32-cla
 returns-else-byte_at-eq32-clause-within c = c.spaces.invariant.within
 
 pub returns-after-spaces-clause-value : goal.returns-after-spaces-clause-value
-returns-after-spaces-clause-value c = sym (none_less (halves_text c.args.text) c.spaces.end (omega (arith, c.spaces-test.false))) ∙ ap length c.spaces.invariant.so_far
+returns-after-spaces-clause-value c = sym (none_less (whole c.args.text) c.spaces.end (omega (arith, c.spaces-test.false))) ∙ ap length c.spaces.invariant.so_far

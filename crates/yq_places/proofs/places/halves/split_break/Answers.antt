@@ -1,21 +1,21 @@
 use Rattle.std.proofs.Common.{length, take, drop, sym, ap, ◌∙◌, subst}
 use Rattle.std.proofs.Math.Seq.{take-append_seam}
 use Rattle.std.specs.Str.{IsCharBoundary}
-use Rattle.yq_text.specs.Halves.{halves_text}
+use Rattle.yq_text.specs.Halves.{whole}
 use Rattle.yq_places.specs.PrintedLines.{less_break, last_break}
 use Rattle.yq_places.proofs.FinishLaws.{break_boundary}
 use Rattle.yq_places.proofs.PrintedTexts.{less_is}
 use Rattle.yq_places.proofs.places.halves.split_break.Goals as goal
 
 pub split_at-requires : goal.split_at-requires
-split_at-requires c = subst (λ n. IsCharBoundary (halves_text c.args.text) n) (sym c.less_break_len.ensures.value) (break_boundary (halves_text c.args.text))
+split_at-requires c = subst (λ n. IsCharBoundary (whole c.args.text) n) (sym c.less_break_len.ensures.value) (break_boundary (whole c.args.text))
 
 pub returns-clause-line : goal.returns-clause-line
 returns-clause-line c =
-    let t = halves_text c.args.text in
+    let t = whole c.args.text in
     c.split_at.ensures.front
     ∙ (ap (λ n. take n t) c.less_break_len.ensures.value
     ∙ (ap (take (length (less_break t))) (sym (less_is t)) ∙ take-append_seam (less_break t) (last_break t)))
 
 pub returns-clause-rest : goal.returns-clause-rest
-returns-clause-rest c = c.split_at.ensures.back ∙ ap (λ n. drop n (halves_text c.args.text)) c.less_break_len.ensures.value
+returns-clause-rest c = c.split_at.ensures.back ∙ ap (λ n. drop n (whole c.args.text)) c.less_break_len.ensures.value

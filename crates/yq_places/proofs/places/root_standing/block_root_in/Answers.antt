@@ -1,6 +1,6 @@
 use Rattle.std.proofs.Common.{◌∙◌, refl, sym, ap}
 use Rattle.std.proofs.lemmas.Option.{same_Some}
-use Rattle.yq_text.specs.Halves.{halves_text}
+use Rattle.yq_text.specs.Halves.{whole}
 use Rattle.yq_row_table.specs.View.{Slices}
 use Rattle.yq_places.specs.LineReading.{lines_view}
 use Rattle.yq_places.specs.StandingReading.{root_entry}
@@ -9,21 +9,21 @@ use Rattle.yq_places.proofs.RootStandingLaws.{root_cut, root_lines}
 use Rattle.yq_places.proofs.places.root_standing.block_root_in.Goals as goal
 
 pub row-requires : goal.row-requires
-row-requires c = let h = c.requires in row_within (halves_text c.args.text) c.args.rows.now (root_entry h.part h.row h.under) c.args.document.first c.args.document.end h.is
+row-requires c = let h = c.requires in row_within (whole c.args.text) c.args.rows.now (root_entry h.part h.row h.under) c.args.document.first c.args.document.end h.is
 
 pub row_stop-stop-requires-clause-within : goal.row_stop-stop-requires-clause-within
-row_stop-stop-requires-clause-within c = let h = c.requires in last_within (halves_text c.args.text) c.args.rows.now (root_entry h.part h.row h.under) c.args.document.first c.args.document.end h.is
+row_stop-stop-requires-clause-within c = let h = c.requires in last_within (whole c.args.text) c.args.rows.now (root_entry h.part h.row h.under) c.args.document.first c.args.document.end h.is
 
 pub line_start-requires-clause-within : goal.line_start-requires-clause-within
-line_start-requires-clause-within c = let h = c.requires in row_within (halves_text c.args.text) c.args.rows.now (root_entry h.part h.row h.under) c.args.document.first c.args.document.end h.is
+line_start-requires-clause-within c = let h = c.requires in row_within (whole c.args.text) c.args.rows.now (root_entry h.part h.row h.under) c.args.document.first c.args.document.end h.is
 
 pub cut_lines-lower-requires : goal.cut_lines-lower-requires
 cut_lines-lower-requires c =
-    root_cut (halves_text c.args.text) c.args.rows.now c.args.document c.requires c.is_text.ensures c.line_start.result c.row_stop-stop.result c.line_start.ensures c.row_stop-stop.ensures (halves_text c.args.text) refl
+    root_cut (whole c.args.text) c.args.rows.now c.args.document c.requires c.is_text.ensures c.line_start.result c.row_stop-stop.result c.line_start.ensures c.row_stop-stop.ensures (whole c.args.text) refl
 
 pub returns : goal.returns
 returns c = λ h.
-    let t = halves_text c.args.text in
+    let t = whole c.args.text in
     let s = c.args.rows.now in
     let e = root_entry h.part h.row h.under in
     let row = same_Some _ _ (sym (pieces_at t s e c.args.document.first c.args.document.end h.is) ∙ c.row.ensures) in
@@ -32,7 +32,7 @@ returns c = λ h.
     λ i. record { column = column i; before = (lower i).before; old = (lower i).lines; last = (lower i).last; behind = (lower i).behind }
 
 pub row_stop-stop-requires-clause-rows_view : goal.row_stop-stop-requires-clause-rows_view
-row_stop-stop-requires-clause-rows_view c = let h = c.requires in is_view (halves_text c.args.text) c.args.rows.now (root_entry h.part h.row h.under) c.args.document.first c.args.document.end h.is
+row_stop-stop-requires-clause-rows_view c = let h = c.requires in is_view (whole c.args.text) c.args.rows.now (root_entry h.part h.row h.under) c.args.document.first c.args.document.end h.is
 
 pub line_start-requires-clause-rows_view : goal.line_start-requires-clause-rows_view
-line_start-requires-clause-rows_view c = let h = c.requires in is_view (halves_text c.args.text) c.args.rows.now (root_entry h.part h.row h.under) c.args.document.first c.args.document.end h.is
+line_start-requires-clause-rows_view c = let h = c.requires in is_view (whole c.args.text) c.args.rows.now (root_entry h.part h.row h.under) c.args.document.first c.args.document.end h.is

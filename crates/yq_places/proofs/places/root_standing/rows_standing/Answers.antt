@@ -1,6 +1,6 @@
 use Rattle.std.proofs.Common.{sym, ap, ◌∙◌}
 use Rattle.std.proofs.lemmas.Option.{same_Some}
-use Rattle.yq_text.specs.Halves.{halves_text}
+use Rattle.yq_text.specs.Halves.{whole}
 use Rattle.yq_row_table.specs.Rows.{rows_text}
 use Rattle.yq_places.specs.Standings as spec
 use Rattle.yq_places.specs.StandingReading.{root_entry}
@@ -9,14 +9,14 @@ use Rattle.yq_places.proofs.RootStandingLaws.{root_alone, root_block}
 use Rattle.yq_places.proofs.places.root_standing.rows_standing.Goals as goal
 
 pub row-requires : goal.row-requires
-row-requires c = let h = c.requires in row_within (halves_text c.args.text) c.args.rows.now (root_entry h.part h.row h.under) c.args.document.first c.args.document.end h.is
+row-requires c = let h = c.requires in row_within (whole c.args.text) c.args.rows.now (root_entry h.part h.row h.under) c.args.document.first c.args.document.end h.is
 
 pub lone_in-requires : goal.lone_in-requires
 lone_in-requires c = let h = c.requires in record { entry = root_entry h.part h.row h.under; end = c.args.document.end; is = h.is }
 
 pub returns-then-is_alone : goal.returns-then-is_alone
 returns-then-is_alone c = λ h.
-    let t = halves_text c.args.text in
+    let t = whole c.args.text in
     let s = c.args.rows.now in
     let e = root_entry h.part h.row h.under in
     let row = same_Some _ _ (sym (pieces_at t s e c.args.document.first c.args.document.end h.is) ∙ c.row.ensures) in
@@ -25,7 +25,7 @@ returns-then-is_alone c = λ h.
 
 pub returns-else-is_alone : goal.returns-else-is_alone
 returns-else-is_alone c = λ h.
-    let t = halves_text c.args.text in
+    let t = whole c.args.text in
     let s = c.args.rows.now in
     let e = root_entry h.part h.row h.under in
     let row = same_Some _ _ (sym (pieces_at t s e c.args.document.first c.args.document.end h.is) ∙ c.row.ensures) in

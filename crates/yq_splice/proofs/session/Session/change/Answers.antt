@@ -1,5 +1,5 @@
 use Rattle.std.proofs.Common.{IfOk, IfErr, List, ℕ, sym, ap, ◌∙◌, subst}
-use Rattle.yq_text.specs.Split.{halves_joined}
+use Rattle.yq_text.specs.TextGapBuffer.{buffer_text}
 use Rattle.yq_documents.specs.Reading.{cut_of}
 use Rattle.yq_semantics.specs.Operations.{operation_of}
 use Rattle.yq_text.specs.Changing.{IsChange}
@@ -14,56 +14,56 @@ use Rattle.yq_splice.proofs.session.Session.change.Goals as goal
 
 pub move_split-requires : goal.move_split-requires
 move_split-requires c =
-    let h : HasPlaces (halves_joined c.self.inside.text) c.replace-places.result = subst (HasPlaces (halves_joined c.self.inside.text)) (sym c.replace-places.ensures.value) c.self.invariant.0 in
-    split_is (halves_joined c.self.inside.text) c.replace-places.result h
+    let h : HasPlaces (buffer_text c.self.inside.text) c.replace-places.result = subst (HasPlaces (buffer_text c.self.inside.text)) (sym c.replace-places.ensures.value) c.self.invariant.0 in
+    split_is (buffer_text c.self.inside.text) c.replace-places.result h
 
 pub rows-rows-requires-clause-split : goal.rows-rows-requires-clause-split
 rows-rows-requires-clause-split c =
-    let h : HasPlaces (halves_joined c.self.inside.text) c.replace-places.result = subst (HasPlaces (halves_joined c.self.inside.text)) (sym c.replace-places.ensures.value) c.self.invariant.0 in
-    split_borrowed (halves_joined c.self.inside.text) c.replace-places.result h c.halves-text.result (c.halves-text.ensures.front ∙ c.move_split.ensures.front, c.halves-text.ensures.back ∙ c.move_split.ensures.back)
+    let h : HasPlaces (buffer_text c.self.inside.text) c.replace-places.result = subst (HasPlaces (buffer_text c.self.inside.text)) (sym c.replace-places.ensures.value) c.self.invariant.0 in
+    split_borrowed (buffer_text c.self.inside.text) c.replace-places.result h c.halves-text.result (c.halves-text.ensures.front ∙ c.move_split.ensures.front, c.halves-text.ensures.back ∙ c.move_split.ensures.back)
 
 pub rows-rows-requires-clause-placed : goal.rows-rows-requires-clause-placed
 rows-rows-requires-clause-placed c =
-    let h : HasPlaces (halves_joined c.self.inside.text) c.replace-places.result = subst (HasPlaces (halves_joined c.self.inside.text)) (sym c.replace-places.ensures.value) c.self.invariant.0 in
-    places_borrowed (halves_joined c.self.inside.text) c.replace-places.result h c.halves-text.result (c.halves-text.ensures.front ∙ c.move_split.ensures.front, c.halves-text.ensures.back ∙ c.move_split.ensures.back)
+    let h : HasPlaces (buffer_text c.self.inside.text) c.replace-places.result = subst (HasPlaces (buffer_text c.self.inside.text)) (sym c.replace-places.ensures.value) c.self.invariant.0 in
+    places_borrowed (buffer_text c.self.inside.text) c.replace-places.result h c.halves-text.result (c.halves-text.ensures.front ∙ c.move_split.ensures.front, c.halves-text.ensures.back ∙ c.move_split.ensures.back)
 
 pub resumed-cut-requires-clause-cut : goal.resumed-cut-requires-clause-cut
 resumed-cut-requires-clause-cut c =
-    let h : HasPlaces (halves_joined c.self.inside.text) c.replace-places.result = subst (HasPlaces (halves_joined c.self.inside.text)) (sym c.replace-places.ensures.value) c.self.invariant.0 in
-    cut_borrowed (halves_joined c.self.inside.text) c.replace-places.result h c.halves-text.result (c.halves-text.ensures.front ∙ c.move_split.ensures.front, c.halves-text.ensures.back ∙ c.move_split.ensures.back) c.rows-rows.result c.rows-rows.ensures
+    let h : HasPlaces (buffer_text c.self.inside.text) c.replace-places.result = subst (HasPlaces (buffer_text c.self.inside.text)) (sym c.replace-places.ensures.value) c.self.invariant.0 in
+    cut_borrowed (buffer_text c.self.inside.text) c.replace-places.result h c.halves-text.result (c.halves-text.ensures.front ∙ c.move_split.ensures.front, c.halves-text.ensures.back ∙ c.move_split.ensures.back) c.rows-rows.result c.rows-rows.ensures
 
 pub resumed-cut-requires-clause-known : goal.resumed-cut-requires-clause-known
 resumed-cut-requires-clause-known c =
-    let h : HasPlaces (halves_joined c.self.inside.text) c.replace-places.result = subst (HasPlaces (halves_joined c.self.inside.text)) (sym c.replace-places.ensures.value) c.self.invariant.0 in
-    known_borrowed (halves_joined c.self.inside.text) c.replace-places.result h c.halves-text.result (c.halves-text.ensures.front ∙ c.move_split.ensures.front, c.halves-text.ensures.back ∙ c.move_split.ensures.back) c.rows-rows.result c.rows-rows.ensures c.self.inside.known c.self.invariant.1
+    let h : HasPlaces (buffer_text c.self.inside.text) c.replace-places.result = subst (HasPlaces (buffer_text c.self.inside.text)) (sym c.replace-places.ensures.value) c.self.invariant.0 in
+    known_borrowed (buffer_text c.self.inside.text) c.replace-places.result h c.halves-text.result (c.halves-text.ensures.front ∙ c.move_split.ensures.front, c.halves-text.ensures.back ∙ c.move_split.ensures.back) c.rows-rows.result c.rows-rows.ensures c.self.inside.known c.self.invariant.1
 
 pub invariant_of-self : goal.invariant_of-self
 invariant_of-self c =
-    let h : HasPlaces (halves_joined c.self.inside.text) c.replace-places.result = subst (HasPlaces (halves_joined c.self.inside.text)) (sym c.replace-places.ensures.value) c.self.invariant.0 in
-    let back = places_back (halves_joined c.self.inside.text) c.replace-places.result h c.halves-text.result (c.halves-text.ensures.front ∙ c.move_split.ensures.front, c.halves-text.ensures.back ∙ c.move_split.ensures.back) c.rows-rows.result c.rows-rows.ensures c.into_places.result c.into_places.ensures in
+    let h : HasPlaces (buffer_text c.self.inside.text) c.replace-places.result = subst (HasPlaces (buffer_text c.self.inside.text)) (sym c.replace-places.ensures.value) c.self.invariant.0 in
+    let back = places_back (buffer_text c.self.inside.text) c.replace-places.result h c.halves-text.result (c.halves-text.ensures.front ∙ c.move_split.ensures.front, c.halves-text.ensures.back ∙ c.move_split.ensures.back) c.rows-rows.result c.rows-rows.ensures c.into_places.result c.into_places.ensures in
     subst (λ (x : List ℕ). HasPlaces x c.into_places.result × KnowsItems x c.self.inside.known)
-    (sym (moved_same (halves_joined c.self.inside.text) c.replace-places.result.split c.move_split.new.self c.move_split.ensures.front c.move_split.ensures.back)) (back, c.self.invariant.1)
+    (sym (moved_same (buffer_text c.self.inside.text) c.replace-places.result.split c.move_split.new.self c.move_split.ensures.front c.move_split.ensures.back)) (back, c.self.invariant.1)
 
 pub returns-clause-ok : goal.returns-clause-ok
 returns-clause-ok c =
-    let h : HasPlaces (halves_joined c.self.inside.text) c.replace-places.result = subst (HasPlaces (halves_joined c.self.inside.text)) (sym c.replace-places.ensures.value) c.self.invariant.0 in
-    let same = c.resumed-cut.ensures ∙ (whole_borrowed (halves_joined c.self.inside.text) c.replace-places.result h c.halves-text.result (c.halves-text.ensures.front ∙ c.move_split.ensures.front, c.halves-text.ensures.back ∙ c.move_split.ensures.back) ∙ ap (λ (s : SessionState). s.text) c.self.view_is) in
+    let h : HasPlaces (buffer_text c.self.inside.text) c.replace-places.result = subst (HasPlaces (buffer_text c.self.inside.text)) (sym c.replace-places.ensures.value) c.self.invariant.0 in
+    let same = c.resumed-cut.ensures ∙ (whole_borrowed (buffer_text c.self.inside.text) c.replace-places.result h c.halves-text.result (c.halves-text.ensures.front ∙ c.move_split.ensures.front, c.halves-text.ensures.back ∙ c.move_split.ensures.back) ∙ ap (λ (s : SessionState). s.text) c.self.view_is) in
     subst (λ (t : List ℕ). IfOk c.change_one-changed.result (λ x. IsChange (segments_by (operation_of c.args.op.now) (cut_of t)) x.0)) same c.change_one-changed.ensures.ok
 
 pub returns-clause-known : goal.returns-clause-known
 returns-clause-known c =
-    let h : HasPlaces (halves_joined c.self.inside.text) c.replace-places.result = subst (HasPlaces (halves_joined c.self.inside.text)) (sym c.replace-places.ensures.value) c.self.invariant.0 in
-    let same = c.resumed-cut.ensures ∙ (whole_borrowed (halves_joined c.self.inside.text) c.replace-places.result h c.halves-text.result (c.halves-text.ensures.front ∙ c.move_split.ensures.front, c.halves-text.ensures.back ∙ c.move_split.ensures.back) ∙ ap (λ (s : SessionState). s.text) c.self.view_is) in
+    let h : HasPlaces (buffer_text c.self.inside.text) c.replace-places.result = subst (HasPlaces (buffer_text c.self.inside.text)) (sym c.replace-places.ensures.value) c.self.invariant.0 in
+    let same = c.resumed-cut.ensures ∙ (whole_borrowed (buffer_text c.self.inside.text) c.replace-places.result h c.halves-text.result (c.halves-text.ensures.front ∙ c.move_split.ensures.front, c.halves-text.ensures.back ∙ c.move_split.ensures.back) ∙ ap (λ (s : SessionState). s.text) c.self.view_is) in
     subst (λ (t : List ℕ). IfOk c.change_one-changed.result (λ x. StayKnown x.0.front (cut_of t) x.1)) same c.change_one-changed.ensures.known
 
 pub returns-clause-err : goal.returns-clause-err
 returns-clause-err c =
-    let h : HasPlaces (halves_joined c.self.inside.text) c.replace-places.result = subst (HasPlaces (halves_joined c.self.inside.text)) (sym c.replace-places.ensures.value) c.self.invariant.0 in
-    let whole = c.resumed-cut.ensures ∙ whole_borrowed (halves_joined c.self.inside.text) c.replace-places.result h c.halves-text.result (c.halves-text.ensures.front ∙ c.move_split.ensures.front, c.halves-text.ensures.back ∙ c.move_split.ensures.back) in
-    let same = carried_on (operation_of c.args.op.now) (halves_joined c.self.inside.text) c.resumed-cut.result c.replace-places.result h whole ∙ ap (λ (s : SessionState). carried (operation_of c.args.op.now) s.text) c.self.view_is in
+    let h : HasPlaces (buffer_text c.self.inside.text) c.replace-places.result = subst (HasPlaces (buffer_text c.self.inside.text)) (sym c.replace-places.ensures.value) c.self.invariant.0 in
+    let whole = c.resumed-cut.ensures ∙ whole_borrowed (buffer_text c.self.inside.text) c.replace-places.result h c.halves-text.result (c.halves-text.ensures.front ∙ c.move_split.ensures.front, c.halves-text.ensures.back ∙ c.move_split.ensures.back) in
+    let same = carried_on (operation_of c.args.op.now) (buffer_text c.self.inside.text) c.resumed-cut.result c.replace-places.result h whole ∙ ap (λ (s : SessionState). carried (operation_of c.args.op.now) s.text) c.self.view_is in
     subst (λ (x : Edit). IfErr c.change_one-changed.result (λ e. EditFails e x)) same c.change_one-changed.ensures.err
 
 pub returns-clause-same : goal.returns-clause-same
 returns-clause-same c =
-    let text = moved_same (halves_joined c.self.inside.text) c.replace-places.result.split c.move_split.new.self c.move_split.ensures.front c.move_split.ensures.back in
+    let text = moved_same (buffer_text c.self.inside.text) c.replace-places.result.split c.move_split.new.self c.move_split.ensures.front c.move_split.ensures.back in
     (λ i. record { text = text i; scanned = c.self.inside.meter }) ∙ c.self.view_is

@@ -2,7 +2,7 @@ use Rattle.std.proofs.Common.{rules, ap, sym, ◌∙◌, ◌≡◌, ℕ, List, S
 use Rattle.std.proofs.lemmas.Result.{err_from_is_err_and}
 use Rattle.yq_documents.specs.Reading.{cut_of, read_at}
 use Rattle.yq_splice.proofs.SessionLaws.{has_reading, not_opened}
-use Rattle.yq_text.specs.Split.{halves_joined}
+use Rattle.yq_text.specs.TextGapBuffer.{buffer_text}
 use Rattle.yq_row_table.specs.Kept.{IsPlaced}
 use Rattle.yq_row_table.specs.Meter.{count_after, line_count}
 use Rattle.yq_splice.proofs.session.Session.open.Goals as goal
@@ -20,7 +20,7 @@ returns-clause-text c =
 
 pub invariant_of-result : goal.invariant_of-result
 invariant_of-result c =
-    let text : halves_joined c.of-text.result ≡ c.args.text.now = (λ i. c.of-text.ensures.front i ++ c.of-text.ensures.back i) ∙ (append-nil _ ∙ c.in_ok-from_str.ensures.ok) in (
+    let text : buffer_text c.of-text.result ≡ c.args.text.now = (λ i. c.of-text.ensures.front i ++ c.of-text.ensures.back i) ∙ (append-nil _ ∙ c.in_ok-from_str.ensures.ok) in (
       record {
         cut = cut_of c.in_ok-documents.documents;
         read = ap read_at (text ∙ sym c.as_bytes.ensures.value) ∙ c.in_ok-documents.ensures.exact;
@@ -31,7 +31,7 @@ invariant_of-result c =
 
 pub returns-clause-exact : goal.returns-clause-exact
 returns-clause-exact c =
-    let text : halves_joined c.of-text.result ≡ c.args.text.now = (λ i. c.of-text.ensures.front i ++ c.of-text.ensures.back i) ∙ (append-nil _ ∙ c.in_ok-from_str.ensures.ok) in
+    let text : buffer_text c.of-text.result ≡ c.args.text.now = (λ i. c.of-text.ensures.front i ++ c.of-text.ensures.back i) ∙ (append-nil _ ∙ c.in_ok-from_str.ensures.ok) in
     let documents = c.in_ok-documents.ensures.text ∙ (c.as_bytes.ensures.value ∙ sym text) in
     ap read_at (sym c.as_bytes.ensures.value) ∙ (c.in_ok-documents.ensures.exact ∙ ap (λ (t : List ℕ). Some (cut_of t)) documents)
 

@@ -1,7 +1,0 @@
-use Rattle.std.proofs.Common.{◌≡◌, drop}
-use Rattle.yq_text.specs.Splice.{all_done}
-use Rattle.yq_journal.specs.GapBuffer.{buffer_text}
-use Rattle.yq_journal.proofs.gap.GapBuffer.do_all.Given as goal
-
-abbrev pub invariant-splices : goal.invariant-splices
-invariant-splices l = all_done (drop l.splice-index l.splices) (buffer_text l.self) ≡ all_done l.splices (buffer_text l.fn.self)
