@@ -1,6 +1,7 @@
 # make test: the whole gate: every proof from nothing, wrong bodies, tests, and the program on real files; ANEW=1: also what is kept.
-# make ready: layout, stray sources, definitions without a section, wide clauses, wrong bodies that can't be applied, versions that
-#   differ and links of pages that lead nowhere, in some seconds.
+# make ready: layout, imports, stray sources, definitions without a section, names that two files define, words that the glossary
+#   replaces, crates that aren't there, wide clauses, wrong bodies that can't be applied, versions that differ and links of pages that
+#   lead nowhere, in some 20 seconds.
 # make look: an edit printed by the program as it is before any proof, in some two minutes.
 # make demo: one edit and its undo, once all is proved.
 # make install, make uninstall: the program, its man page, pages for users and completions below PREFIX, or not.

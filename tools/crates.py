@@ -11,17 +11,26 @@ RT = os.environ.get("RT", "rt").split()
 
 
 def listed():
-    """For each crate, lowest first, the libraries that its line lists."""
+    """For each crate, in the order of the lines, the libraries that its line lists."""
     with open(os.path.join(ROOT, "crates.txt"), encoding="utf-8") as lines:
         return {name_of(line): line.partition("#")[0].partition(":")[2].split() for line in lines if name_of(line)}
 
 
 def libraries():
-    """For each crate, lowest first, the crates of the repository below it, lowest first."""
+    """For each crate, lowest first, the crates of the repository below it, lowest first, in whatever order the lines come."""
     named, below = listed(), {}
-    for name, direct in named.items():
-        known = {it for library in direct for it in [library, *below.get(library, ())] if it in named}
-        below[name] = [it for it in below if it in known]
+
+    def add(crate):
+        direct = [it for it in named[crate] if it in named]
+        for it in direct:
+            if it not in below:
+                add(it)
+        known = {it for library in direct for it in [library, *below[library]]}
+        below[crate] = [it for it in below if it in known]
+
+    for crate in named:
+        if crate not in below:
+            add(crate)
     return below
 
 

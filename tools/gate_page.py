@@ -53,7 +53,7 @@ def of_now(crate, row):
 
 
 def with_tasks(rows, tasks):
-    """The row of each crate behind a run, and the crates of which the run did something."""
+    """The row of each crate that crates.txt lists, after a run, and the crates of which the run did something."""
     now = time.strftime("%Y-%m-%d", time.gmtime())
     new = {crate: of_now(crate, rows.get(crate, Row())) for crate in libraries()}
     for (crate, kind), task in tasks.items():

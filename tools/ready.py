@@ -1,6 +1,9 @@
-"""Looks at what needs no proof: whether the sources are in the layout of `rt fmt`, symbolic links, sources that no check reads,
-definitions whose comments name no section, names that have a better word in the glossary, clauses that are too wide, wrong bodies of both tiers that can't be applied, versions that
-differ, and links of pages that lead nowhere.
+"""Looks at what needs no proof, and refuses:
+- sources that are not in the layout of `rt fmt`, or whose imports are not in the form of tools/imports.py; symbolic links; sources that no
+  check reads
+- definitions whose comments name no section, and names that two files of specs/ define
+- names that have a better word in the glossary, and names of crates that crates.txt doesn't list
+- clauses that are too wide, wrong bodies of both tiers that can't be applied, versions that differ, and links of pages that lead nowhere
 
 usage: ready.py
 
@@ -16,9 +19,10 @@ import sys
 import tempfile
 
 from clauses import too_wide
-from crates import ROOT, RT, libraries
+from crates import ROOT, RT, libraries, listed
 from edits import hindrance, names_in
 from glossary import coined
+from imports import misformed
 from version import other_versions
 
 sys.path.append(os.path.join(ROOT, "tests", "cli"))
@@ -29,11 +33,15 @@ from guides import broken_links
 PLACES = {".rt": ("src",), ".antt": ("specs", "proofs")}
 LEFT = shutil.ignore_patterns(".git", "out", "__pycache__")
 # How a definition of specs/ begins, at the left or in a mutual block.
-DEFINITION = re.compile(r"(?:(?:abbrev|unfoldable) pub|pub (?:data|record)) (\S+)")
+DEFINITION = re.compile(r"(?:(?:abbrev|unfoldable) )?pub (?:(?:data|record) )?(?!(?:use|mod) )(\S+)")
 INNER = re.compile(r"  pub (?:(?:data|record) )?(\S+)")
 # How a comment says that what stands below is own, and how it names a section.
 OWN = re.compile(r"\(own[;)]|[;,] own\)")
 SECTION = re.compile(r"\d\.\d|\(\d+[,;)]|RFC \d")
+# A crate's name, how a lemma of such a name begins, and the files that keep names of earlier days.
+CRATE = re.compile(r"\byq_[a-z0-9_]+")
+LEMMA = re.compile(r"^\s*(?:pub )?(yq_\w+) :", re.MULTILINE)
+DATED = ("CHANGELOG.md", os.path.join("docs", "GATE.md"))
 
 
 def misplaced(top):
@@ -60,34 +68,65 @@ def badly_laid(top):
                 yield f"crates/{crate}: {line}"
 
 
-def untold(path, name):
-    """The definitions of a file that have no comment, or whose comment names no section and says nothing of own."""
-    with open(path, encoding="utf-8") as file:
-        lines = file.read().split("\n")
-    own, mutual = lines[0].startswith("--") and OWN.search(lines[0]), False
+def definitions(lines):
+    """What a file of specs/ defines for others: the number of the line, and the name."""
+    mutual = False
     for number, line in enumerate(lines):
         if line[:1].strip() and not line.startswith("--"):
             mutual = line.split()[-1] == "mutual"
         found = DEFINITION.match(line) or (mutual and INNER.match(line))
-        if not found:
-            continue
+        if found:
+            yield number, found.group(1)
+
+
+def untold(lines, path):
+    """The definitions of a file that have no comment, or whose comment names no section and says nothing of own."""
+    own = lines[0].startswith("--") and OWN.search(lines[0])
+    for number, name in definitions(lines):
         first = number
         while first and lines[first - 1].lstrip().startswith("--"):
             first -= 1
         told = " ".join(lines[first:number]).replace("YAML 1.2.2", "")
         if not told:
-            yield f"{name}:{number + 1}: {found.group(1)} has no comment"
+            yield f"{path}:{number + 1}: {name} has no comment"
         elif not (own or OWN.search(told) or SECTION.search(told)):
-            yield f"{name}:{number + 1}: the comment of {found.group(1)} names no section and doesn't say own"
+            yield f"{path}:{number + 1}: the comment of {name} names no section and doesn't say own"
 
 
-def untold_definitions(top):
-    """Definitions of all crates without a comment, or without a section or own in it or in the first line of their file."""
+def faulty_definitions(top):
+    """Definitions of all crates without a comment, or without a section or own in it or in the first line of their file, and names that
+    two files define."""
+    places = {}
     for crate in libraries():
-        room = os.path.join("crates", crate, "specs")
-        for name in sorted(os.listdir(os.path.join(top, room))) if os.path.isdir(os.path.join(top, room)) else ():
-            if name.endswith(".antt"):
-                yield from untold(os.path.join(top, room, name), os.path.join(room, name))
+        for folder, _, files in os.walk(os.path.join(top, "crates", crate, "specs")):
+            for file in sorted(it for it in files if it.endswith(".antt")):
+                path = os.path.relpath(os.path.join(folder, file), top)
+                with open(os.path.join(folder, file), encoding="utf-8") as source:
+                    lines = source.read().split("\n")
+                yield from untold(lines, path)
+                for number, name in definitions(lines):
+                    places.setdefault(name, {}).setdefault(path, number + 1)
+    for name, files in places.items():
+        if len(files) > 1:
+            yield f"{name} is defined in several files: " + ", ".join(f"{path}:{number}" for path, number in files.items())
+
+
+def unknown_crates(top):
+    """Paths and files that name a crate which crates.txt doesn't list, each name once a file, where it comes first."""
+    known = listed()
+    for folder, _, files in os.walk(top):
+        for file in sorted(files):
+            path = os.path.relpath(os.path.join(folder, file), top)
+            try:
+                with open(os.path.join(folder, file), encoding="utf-8") as source:
+                    text = source.read()
+            except (OSError, UnicodeDecodeError):
+                continue
+            own = set(LEMMA.findall(text)) if file.endswith(".antt") else ()
+            for name in dict.fromkeys(CRATE.findall(path) + CRATE.findall(text) * (path not in DATED)):
+                if name not in known and name not in own:
+                    line = f":{text.partition(name)[0].count(chr(10)) + 1}" if name in text else ""
+                    yield f"{path}{line} names {name}, which crates.txt doesn't list"
 
 
 def not_applied():
@@ -114,7 +153,9 @@ def main(words):
     try:
         copy = os.path.join(room, "copy")
         shutil.copytree(ROOT, copy, symlinks=True, ignore=LEFT)
-        found = [*misplaced(copy), *badly_laid(copy), *untold_definitions(copy), *coined(copy), *too_wide(), *not_applied(), *other_versions(), *lost_links()]
+        of_copy = (misplaced, badly_laid, misformed, faulty_definitions, coined, unknown_crates)
+        found = [it for look in of_copy for it in look(copy)]
+        found += [*too_wide(), *not_applied(), *other_versions(), *lost_links()]
     finally:
         shutil.rmtree(room, ignore_errors=True)
     for it in found:
