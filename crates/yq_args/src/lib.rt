@@ -1,8 +1,5 @@
-//! The command line: what `clap` takes, and the command that it finds in the words.
-//! What can be read of the words without it stands here too: the word that names a command, and why words are
-//! no command, in lines for who wrote them.
-//!
-//! The words of the command line, read as the command that they ask for.
+//! The words of the command line, read by `clap` as the command that they ask for.
+//! Why words are no command is put in lines for who wrote them.
 #![tactic(auto)]
 
 mod asked;

@@ -1,11 +1,5 @@
-//! The segments of a text that are exchanged where a value is put in the place of a node that isn't behind a key or
-//! dash: one alone on its line, a root, or a document without rows.
-//!
-//! The segments of a text that are exchanged where a value is put: in the place of another, or at the end of a block
-//! collection.
-//!
-//! The segments of a text that an operation without a value exchanges in block collections: comments and removals, and whether
-//! a value is there already.
+//! The segments of a text that an operation exchanges outside flow collections: values that are put at a
+//! place, items and entries that are added or removed, and comments.
 #![tactic(auto)]
 
 mod append;

@@ -1,7 +1,5 @@
-//! What the program is told and what it tells: the command that its words ask for, answers, outputs and help.
-//!
-//! What commands come to, and all that they do but for the edit of a text: expressions read, matches shown, an edited text kept
-//! in its file beside the journal.
+//! What commands come to: which command words ask for, what it does to a file and its journal, and what it
+//! shows and answers.
 #![tactic(auto)]
 
 mod answer;

@@ -1,8 +1,6 @@
-//! Characters, lines, plain and quoted scalars of YAML, the core schema, and the tree that a text stands for.
-//!
-//! Block scalars of YAML: their forms and laws, their headers and lines.
-//!
-//! Inline nodes of YAML: their types and forms, where paths lead in them, and values.
+//! What texts of YAML are made of: characters and lines, plain, quoted and block scalars, the core schema,
+//! and inline nodes.
+//! The tree that a document stands for, with paths in it and values.
 #![tactic(auto)]
 
 pub mod block_header;

@@ -1,10 +1,5 @@
-//! What a text reads as when the lines of one of its documents are exchanged, added or dropped, and
-//! the rows of which that is so.
-//!
-//! Values in block style: the rows in which they are written, and their text.
-//!
-//! What operations exchange of a text, as segments that stay or give way: values put in the place
-//! of others outside flow collections, items and entries appended and removed, and comments.
+//! What operations exchange of a text, and values written in block style.
+//! Laws of what a text reads as when rows of one of its documents are exchanged, added or taken out.
 #![tactic(auto)]
 
 pub mod documents;

@@ -1,6 +1,5 @@
-//! Where pipes lead in a tree, and copies of what stands there.
-//!
-//! The matches of a read: copies of what its pipe finds in documents.
+//! Where pipes lead in the tree of a document, and the matches of a read: copies of what its pipe finds in
+//! documents.
 #![tactic(auto)]
 
 mod matched;

@@ -22,6 +22,7 @@ use crate::effect::Action;
 use crate::right_value::right_value;
 use bumpalo::Bump;
 use std::alloc::Global;
+use yq_documents::Documents;
 use yq_eval::{FoundPlace, FoundPlaces, find_places};
 use yq_nodes::Node;
 use yq_planner::{Aliases, PlacedChange, aliases_of, has_comment};

@@ -1,6 +1,4 @@
-//! Changes at places, which nothing refuses.
-//!
-//! Programs planned on documents.
+//! Updates of programs planned on documents: which operations carry one out, or why none do.
 #![tactic(auto)]
 
 mod at_places;

@@ -1,8 +1,4 @@
-//! The history of a file in a store: its journal read beside it, undone, redone, squashed and listed.
-//!
-//! A move of a file and its journal in a store, in three writes.
-//!
-//! Undo and redo of a file and its journal in a store.
+//! The history of a file in a store: the file and its journal, moved, undone, redone, squashed and listed.
 #![tactic(auto)]
 
 mod causes;

@@ -1,6 +1,4 @@
-//! Records of the edits of a text, done and undone on it, and the moves over them.
-//!
-//! A journal of edits: records of splices, a cursor and an open move.
+//! The journal of a text: records of its edits, done and undone, with a cursor and an open move.
 #![tactic(auto)]
 
 mod fault;

@@ -1,6 +1,5 @@
-//! What an operation exchanges in a text, by its kind and by what stands at its place.
-//!
-//! One operation carried out on a text with its cut.
+//! One operation carried out on a text with its cut: what it exchanges there, by its kind and by what is at
+//! its place.
 #![tactic(auto)]
 
 mod exchanged;

@@ -1,7 +1,6 @@
-//! Programs: the language of expressions, and how it is read.
-//!
-//! What programs mean on documents, and the operations that carry updates out; laws of plans: that the
-//! operations of an update fit, and make what it means.
+//! The language of expressions: programs, what they mean on documents, and the operations that carry updates
+//! out.
+//! Laws of plans: the operations of an update fit, and make what it means.
 #![tactic(auto)]
 
 mod expr_error;

@@ -1,6 +1,4 @@
-//! Operations carried out on a text, one by one or many together, and sessions over its rows.
-//!
-//! Edits of a text, as splices.
+//! Programs and operations carried out on a text, as splices, and sessions that keep a text with its rows.
 #![tactic(auto)]
 
 mod carrying;

@@ -1,8 +1,6 @@
-//! How long a text may be, and texts that are kept in two halves, so that an edit between them moves no
-//! other byte.
-//!
-//! Scripts: a text as segments that stay and segments that give way, the text
-//! that they make, and the splices that lead to it.
+//! How long a text may be, and a text in two halves, so that an edit between them moves no other byte.
+//! Edits of a text as segments that stay or are replaced, the text that they make, and the splices that lead
+//! to it.
 #![tactic(auto)]
 
 mod changed;
