@@ -1,13 +1,9 @@
 -- The first operation of a plan fits the text on which it was planned.
 use Rattle.std.proofs.Common.{◌≡◌, ℕ, ◌<◌, List, [], ◌∷◌, slice_get, Some, refl, ◌∙◌, subst, arith}
 use Rattle.std.proofs.lemmas.Option.{none-some, same_Some}
-use Rattle.yq_documents.specs.Documents.{ReadsDocuments}
-use Rattle.yq_documents.specs.Reading.{documents_of}
-use Rattle.yq_semantics.specs.Fits.{AllFit, Fits}
-use Rattle.yq_semantics.specs.Operations.{operation_of, operations_of}
-use Rattle.yq_semantics.specs.declared.op.Op.{Op}
-use Rattle.yq_semantics.specs.Rooms.{room_of}
-use Rattle.yq_semantics.specs.Program.{Program, Update, read, updates, update_at, update_count}
+use Rattle.yq_documents.{specs.Documents.ReadsDocuments, specs.Reading.documents_of}
+use Rattle.yq_semantics.{specs.Fits.{AllFit, Fits}, specs.Operations.{operation_of, operations_of}, specs.declared.op.Op.Op}
+use Rattle.yq_semantics.{specs.Rooms.room_of, specs.Program.{Program, Update, read, updates, update_at, update_count}}
 use Rattle.yq_edit_laws.specs.Theorems.{IsFitting}
 
 some_update : (p : Program) → 0 < update_count p → (u : Update) × (update_at 0 p ≡ Some u)

@@ -1,9 +1,6 @@
 //! Operations applied to a text by themselves and to a session, each growth refused first.
 ghost use Rattle.std.specs.Prelude.{◌≡◌, ◌<◌, IfOk, IsTrue, Some, slice_get};
-ghost use Rattle.yq_semantics.specs.Operations.{operation_of};
-ghost use Rattle.yq_semantics.specs.declared.op.Op.{Op};
-ghost use Rattle.yq_semantics.specs.Program.{update_count};
-ghost use Rattle.yq_semantics.specs.View.{program_of};
+ghost use Rattle.yq_semantics.{specs.Operations.operation_of, specs.declared.op.Op.Op, specs.Program.update_count, specs.View.program_of};
 ghost use Rattle.yq_edit_laws.specs.Theorems.{IsFitting};
 
 use crate::memory::hold_memory;

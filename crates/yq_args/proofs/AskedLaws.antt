@@ -1,8 +1,7 @@
 -- What a command's word asks for, by the name that it has.
-use Rattle.std.proofs.Common.{◌≡◌, ◌∙◌, ◌&&◌, not, Bool, true, false, Option, Some, None, is_some, ap, refl, sym}
-use Rattle.clap.specs.Words.{Text}
-use Rattle.std.specs.Prelude.{codes}
+use Rattle.std.{proofs.Common.{◌≡◌, ◌∙◌, ◌&&◌, not, Bool, true, false, Option, Some, None, is_some, ap, refl, sym}, specs.Prelude.codes}
 use Rattle.std.specs.Str.{bytes_eq}
+use Rattle.clap.specs.Words.{Text}
 use Rattle.yq_args.specs.Asked.{journal_name, names_fit}
 
 -- of two tests the second fails

@@ -1,30 +1,23 @@
 -- Words at which no step of clap's reading fails are words that clap takes.
-use Rattle.std.proofs.Common.{◌≡◌, ◌∙◌, ◌&&◌, ◌||◌, ◌==◌, not, subst, Result, Ok, Err, IfOk, ℕ, zero, suc, Bool, true, false, cond, List, [], ◌∷◌, length, drop, Option, Some, None, is_some, if◌then◌else◌, refl, ap, find, encode_utf8, slice_get, nat_le, nat_lt, min, ◌+◌, arith}
-use Rattle.std.proofs.lemmas.Bool.{and_from, and_parts}
-use Rattle.std.proofs.lemmas.Result.{IfOk-weaker}
-use Rattle.std.specs.List.{list_all, list_any}
-use Rattle.std.specs.Option.{option_map_or}
-use Rattle.std.specs.Str.{bytes_eq, chars}
+use Rattle.std.proofs.Common.{◌≡◌, ◌∙◌, ◌&&◌, ◌||◌, ◌==◌, not, subst, Result, Ok, Err, IfOk, ℕ, zero, suc, Bool, true, false, cond, List}
+use Rattle.std.proofs.Common.{[], ◌∷◌, length, drop, Option, Some, None, is_some, if◌then◌else◌, refl, ap, find, encode_utf8, slice_get}
+use Rattle.std.{proofs.Common.{nat_le, nat_lt, min, ◌+◌, arith}, proofs.lemmas.Bool.{and_from, and_parts}, proofs.lemmas.Result.IfOk-weaker}
+use Rattle.std.{specs.List.{list_all, list_any}, specs.Option.option_map_or, specs.Str.{bytes_eq, chars}}
 use Rattle.std.proofs.lemmas.Bool.Decides.{nat_tests}
-use Rattle.clap.specs.Lexer.{long_of, short_of}
-use Rattle.clap.specs.Facts.{explicit_source, parser_of_value, unwrap_or_range}
-use Rattle.clap.specs.Faults as fault
-use Rattle.clap.specs.Kinds.{FailsBy, Kinds, or_else, range_kinds, value_kinds}
-use Rattle.clap.specs.Matches.{count_text}
-use Rattle.clap.specs.Simple.{App, HasMatchesOf, Shape, argument_words, built, entered, is_simple, label_of, names_of, subcommand_of, subcommand_rows_of}
-use Rattle.clap.specs.Takes as pass
-use Rattle.clap.specs.Faults.{fault_of, is_simple_and_free}
-use Rattle.clap.specs.Takes.{takes}
-use Rattle.clap.specs.ValueTests.{accepts}
-use Rattle.clap.specs.Walk.{Held, Names, Row, Rule, Step, value, Text, Waiting, Walk, action_of, answers_to, arg_by_id, arg_by_index, arg_by_long, arg_by_short, attached_value, count_of, finished, has_row, is_pending, most_values, nothing_held, reacted, settled, subcommand_met, takes_several, takes_values, values_or_missing, walk, walk_from, walked, word_met}
-use Rattle.clap.specs.declared.builder.action.ArgAction.{ArgAction}
+use Rattle.clap.{specs.Lexer.{long_of, short_of}, specs.Facts.{explicit_source, parser_of_value, unwrap_or_range}}
+use Rattle.clap.{specs.Kinds.{FailsBy, Kinds, or_else, range_kinds, value_kinds}, specs.Matches.count_text}
+use Rattle.clap.specs.Simple.{App, HasMatchesOf, Shape, argument_words, built, entered, is_simple, label_of, names_of, subcommand_of}
+use Rattle.clap.{specs.Simple.subcommand_rows_of, specs.Faults.{fault_of, is_simple_and_free}, specs.Takes.takes, specs.ValueTests.accepts}
+use Rattle.clap.specs.Walk.{Held, Names, Row, Rule, Step, value, Text, Waiting, Walk, action_of, answers_to, arg_by_id, arg_by_index}
+use Rattle.clap.specs.Walk.{arg_by_long, arg_by_short, attached_value, count_of, finished, has_row, is_pending, most_values, nothing_held}
+use Rattle.clap.specs.Walk.{reacted, settled, subcommand_met, takes_several, takes_values, values_or_missing, walk, walk_from, walked}
+use Rattle.clap.{specs.Walk.word_met, specs.declared.builder.action.ArgAction.ArgAction}
 use Rattle.clap.specs.declared.builder.action.ArgAction.TheVariants.{Set, Append, SetTrue, SetFalse, Count}
-use Rattle.clap.specs.declared.error.Error.{Error}
-use Rattle.clap.specs.declared.parser.matches.ArgMatches.{ArgMatches}
-use Rattle.clap.specs.declared.error.kind.ErrorKind.{ErrorKind}
-use Rattle.clap.proofs.OnLiterals.{clap_on_literals}
-use Rattle.clap.proofs.WalkLemmas.{both}
+use Rattle.clap.{specs.declared.error.Error.Error, specs.declared.parser.matches.ArgMatches.ArgMatches}
+use Rattle.clap.{specs.declared.error.kind.ErrorKind.ErrorKind, proofs.OnLiterals.clap_on_literals, proofs.WalkLemmas.both}
 use Rattle.yq_args.specs.Line.{yq, four_commands, two_commands}
+use Rattle.clap.specs.Faults as fault
+use Rattle.clap.specs.Takes as pass
 
 -- neither of two steps fails
 neither : (a b : Kinds) → or_else a b ≡ [] → (a ≡ []) × (b ≡ [])

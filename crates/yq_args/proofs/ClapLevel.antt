@@ -1,13 +1,12 @@
 -- clap's parse of one command, where it passes: what is required has a text.
-use Rattle.std.proofs.Common.{◌≡◌, ◌∙◌, ◌&&◌, ◌||◌, true, false, List, [], ◌∷◌, ◌++◌, Option, Some, None, is_some, not, find, option_map, refl, sym, ap, fold, append-nil, append_assoc}
-use Rattle.std.specs.List.{list_all}
-use Rattle.std.specs.Option.{option_map_or}
+use Rattle.std.proofs.Common.{◌≡◌, ◌∙◌, ◌&&◌, ◌||◌, true, false, List, [], ◌∷◌, ◌++◌, Option, Some, None, is_some, not, find, option_map}
+use Rattle.std.{proofs.Common.{refl, sym, ap, fold, append-nil, append_assoc}, specs.List.list_all, specs.Option.option_map_or}
 use Rattle.clap.specs.Simple.{App, Shape, entered, label_of, names_of}
-use Rattle.clap.specs.Takes.{built_takes, default_passes, entered_passes, is_given, level_passes, settle_passes, step_passes, turn_passes, walk_passes, word_passes}
-use Rattle.clap.specs.Walk.{Names, Rule, Text, Walk, answers_to, nothing_held, rows_after, settled, stop_after, walk, walk_from, walked, walked_from, word_met}
-use Rattle.clap.proofs.WalkLemmas.{both}
-use Rattle.yq_args.proofs.ClapRows.{AreFilled, fills, defaults_filled}
-use Rattle.yq_args.proofs.ClapWalk.{settled_filled, word_filled, step_filled}
+use Rattle.clap.specs.Takes.{built_takes, default_passes, entered_passes, is_given, level_passes, settle_passes, step_passes, turn_passes}
+use Rattle.clap.specs.Takes.{walk_passes, word_passes}
+use Rattle.clap.specs.Walk.{Names, Rule, Text, Walk, answers_to, nothing_held, rows_after, settled, stop_after, walk, walk_from, walked}
+use Rattle.clap.{specs.Walk.{walked_from, word_met}, proofs.WalkLemmas.both}
+use Rattle.yq_args.{proofs.ClapRows.{AreFilled, fills, defaults_filled}, proofs.ClapWalk.{settled_filled, word_filled, step_filled}}
 
 turn_filled : (s : Shape) (names : Names) (w : Walk) (word : Text) → list_all fills s.rules ≡ true → turn_passes s names w word ≡ true → AreFilled w.held.rows → AreFilled (walked s.rules names w word).held.rows
 unfolding walked

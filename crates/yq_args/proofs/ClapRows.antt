@@ -1,19 +1,15 @@
 -- Rows of clap's matches: each has a value, where each use of an argument passes.
-use Rattle.std.proofs.Common.{if◌then◌else◌, ◌≡◌, ◌<◌, ◌+◌, ◌||◌, ◌⊎◌, inl, inr, not, ℕ, Bool, true, false, List, [], ◌∷◌, ◌++◌, length, min, nat_le, Some, is_some, slice_get, option_and_then, cond, refl, arith, leb-true, length-append, find, fold}
-use Rattle.std.proofs.lemmas.Bool.{or_cases}
-use Rattle.std.specs.Option.{option_map_or}
-use Rattle.std.specs.Str.{bytes_eq}
-use Rattle.clap.specs.Facts.{unwrap_or_range, explicit_source}
-use Rattle.clap.specs.Matches.{count_text}
-use Rattle.clap.specs.Takes.{use_passes, is_given}
+use Rattle.std.proofs.Common.{if◌then◌else◌, ◌≡◌, ◌<◌, ◌+◌, ◌||◌, ◌⊎◌, inl, inr, not, ℕ, Bool, true, false, List, [], ◌∷◌, ◌++◌, length}
+use Rattle.std.proofs.Common.{min, nat_le, Some, is_some, slice_get, option_and_then, cond, refl, arith, leb-true, length-append, find}
+use Rattle.std.{proofs.Common.fold, proofs.lemmas.Bool.or_cases, specs.Option.option_map_or, specs.Str.bytes_eq}
+use Rattle.clap.{specs.Facts.{unwrap_or_range, explicit_source}, specs.Matches.count_text, specs.Takes.{use_passes, is_given}}
 use Rattle.clap.specs.Values.{is_request}
-use Rattle.clap.specs.Walk.{Row, Rule, Text, action_of, at_row, count_of, counted, default_rows, first_of, has_row, is_empty, more_values, new_count, reading_by, used, used_as, values_or_missing, with_count, with_default, with_values, without}
+use Rattle.clap.specs.Walk.{Row, Rule, Text, action_of, at_row, count_of, counted, default_rows, first_of, has_row, is_empty, more_values}
+use Rattle.clap.specs.Walk.{new_count, reading_by, used, used_as, values_or_missing, with_count, with_default, with_values, without}
 use Rattle.clap.specs.declared.builder.action.ArgAction.{ArgAction}
 use Rattle.clap.specs.declared.builder.action.ArgAction.TheVariants.{Append, Count, Help, HelpShort, HelpLong, Version}
-use Rattle.clap.specs.declared.builder.value_parser.Reading.{Reading}
-use Rattle.clap.specs.declared.parser.matches.ValueSource.{ValueSource}
-use Rattle.clap.specs.declared.parser.matches.ValueSource.TheVariants.{CommandLine, DefaultValue}
-use Rattle.clap.proofs.WalkLemmas.{both}
+use Rattle.clap.{specs.declared.builder.value_parser.Reading.Reading, specs.declared.parser.matches.ValueSource.ValueSource}
+use Rattle.clap.{specs.declared.parser.matches.ValueSource.TheVariants.{CommandLine, DefaultValue}, proofs.WalkLemmas.both}
 
 -- each row has a value
 abbrev pub AreFilled : List Row → Type 0

@@ -1,13 +1,15 @@
 -- clap's walk over words that pass: the rows that it leaves have values.
-use Rattle.std.proofs.Common.{if◌then◌else◌, ◌≡◌, ◌∙◌, ◌&&◌, ◌||◌, ◌⊎◌, inl, inr, not, ℕ, zero, suc, Bool, true, false, cond, List, [], ◌∷◌, length, drop, Option, Some, None, is_some, refl, sym, ap₂, find, encode_utf8, slice_get}
-use Rattle.std.specs.List.{list_all}
-use Rattle.std.specs.Option.{option_map_or}
-use Rattle.std.specs.Str.{bytes_eq, chars}
-use Rattle.clap.specs.Lexer.{long_of, short_of}
-use Rattle.clap.specs.Simple.{Shape}
-use Rattle.clap.specs.Takes.{bundle_passes, bundle_step_passes, flag_word_passes, flags_pass, long_passes, option_passes, other_passes, positional_passes, react_passes, settle_passes, short_passes, use_passes, word_passes}
-use Rattle.clap.specs.Walk.{Held, Names, Outcome, done, plain, refused, Row, Rule, Step, trailing, value, Text, Waiting, option, Walk, after_flag, after_step, arg_by_id, arg_by_index, arg_by_long, arg_by_short, attached_value, bundle, bundle_met, bundle_step, flag_met, is_pending, long_met, long_or_other, option_met, option_word, plain_word, positional_held, reacted, settled, settled_rows, short_met, short_or_plain, subcommand_met, subcommand_or_other, takes_several, takes_values, to_positional, used_by_id, word_met}
-use Rattle.clap.proofs.WalkLemmas.{both}
+use Rattle.std.proofs.Common.{if◌then◌else◌, ◌≡◌, ◌∙◌, ◌&&◌, ◌||◌, ◌⊎◌, inl, inr, not, ℕ, zero, suc, Bool, true, false, cond, List, [], ◌∷◌}
+use Rattle.std.proofs.Common.{length, drop, Option, Some, None, is_some, refl, sym, ap₂, find, encode_utf8, slice_get}
+use Rattle.std.{specs.List.list_all, specs.Option.option_map_or, specs.Str.{bytes_eq, chars}}
+use Rattle.clap.{specs.Lexer.{long_of, short_of}, specs.Simple.Shape}
+use Rattle.clap.specs.Takes.{bundle_passes, bundle_step_passes, flag_word_passes, flags_pass, long_passes, option_passes, other_passes}
+use Rattle.clap.specs.Takes.{positional_passes, react_passes, settle_passes, short_passes, use_passes, word_passes}
+use Rattle.clap.specs.Walk.{Held, Names, Outcome, done, plain, refused, Row, Rule, Step, trailing, value, Text, Waiting, option, Walk}
+use Rattle.clap.specs.Walk.{after_flag, after_step, arg_by_id, arg_by_index, arg_by_long, arg_by_short, attached_value, bundle, bundle_met}
+use Rattle.clap.specs.Walk.{bundle_step, flag_met, is_pending, long_met, long_or_other, option_met, option_word, plain_word}
+use Rattle.clap.specs.Walk.{positional_held, reacted, settled, settled_rows, short_met, short_or_plain, subcommand_met, subcommand_or_other}
+use Rattle.clap.{specs.Walk.{takes_several, takes_values, to_positional, used_by_id, word_met}, proofs.WalkLemmas.both}
 use Rattle.yq_args.proofs.ClapRows.{AreFilled, fills, used_filled}
 
 -- the argument, if there is one, asks for a value

@@ -1,9 +1,7 @@
 -- Texts of decimal digits.
-use Rattle.std.proofs.Common.{◌≡◌, ◌≢◌, ◌&&◌, ◌<◌, ◌^◌, ℕ, Bool, true, false, List, length, nat_lt, if◌then◌else◌, Some, None, Result, Ok, Err, sym, ap, ◌∙◌, refl, arith, get_or}
-use Rattle.std.proofs.lemmas.Bool.{and_from, and_parts}
-use Rattle.std.specs.Result.{result_ok}
-use Rattle.std.specs.Str.{all_ascii_digits}
-use Rattle.std.specs.Str.Parse.{ParsesUnsigned, digits_value}
+use Rattle.std.proofs.Common.{◌≡◌, ◌≢◌, ◌&&◌, ◌<◌, ◌^◌, ℕ, Bool, true, false, List, length, nat_lt, if◌then◌else◌, Some, None, Result, Ok}
+use Rattle.std.{proofs.Common.{Err, sym, ap, ◌∙◌, refl, arith, get_or}, proofs.lemmas.Bool.{and_from, and_parts}, specs.Result.result_ok}
+use Rattle.std.{specs.Str.all_ascii_digits, specs.Str.Parse.{ParsesUnsigned, digits_value}}
 use Rattle.std.proofs.lemmas.Str.Parse.{IsNumeralModel, numerals_by_value, tells_all_ascii_digits, parse_plain, not_in_digits}
 use Rattle.std.proofs.lemmas.Bool.Decides.{nat_tests}
 use Rattle.yq_args.specs.Asked.{count_in}

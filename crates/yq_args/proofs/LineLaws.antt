@@ -2,13 +2,10 @@
 use Rattle.std.proofs.Common.{◌≡◌, ◌∙◌, ◌≤◌, ◌<◌, ◌-◌, ◌||◌, ℕ, List, [], ◌∷◌, false, ap, arith, drop, get_or, length, refl, take}
 use Rattle.std.proofs.lemmas.List.{take_all}
 use Rattle.clap.specs.Words.{App, AddsArg, AddsSubcommand, app_of, rule_of, with_rule, with_subcommand}
-use Rattle.clap.specs.declared.builder.arg.Arg.{Arg}
-use Rattle.clap.specs.declared.builder.command.Command.{Command}
+use Rattle.clap.{specs.declared.builder.arg.Arg.Arg, specs.declared.builder.command.Command.Command}
 use Rattle.clap.specs.declared.builder.command.Command.TheViews.{out-Command as fields_of}
-use Rattle.yq_args.specs.declared.line.Argument.{Argument}
-use Rattle.yq_args.specs.declared.line.Argument.TheVariants.{Inplace}
-use Rattle.yq_args.specs.declared.line.SubCommand.{SubCommand}
-use Rattle.yq_args.specs.declared.line.SubCommand.TheVariants.{Eval}
+use Rattle.yq_args.{specs.declared.line.Argument.Argument, specs.declared.line.Argument.TheVariants.Inplace}
+use Rattle.yq_args.{specs.declared.line.SubCommand.SubCommand, specs.declared.line.SubCommand.TheVariants.Eval}
 use Rattle.yq_args.specs.Parts.{argument_rule, command_app, with_arguments, with_commands}
 
 -- what is left of the arguments, one argument more

@@ -1,22 +1,15 @@
 -- Where clap takes the words, it finds the texts that a command needs.
-use Rattle.std.proofs.Common.{◌≡◌, ◌∙◌, ◌&&◌, ◌||◌, inl, inr, not, Bool, true, false, List, [], ◌∷◌, codes, Option, Some, None, Result, IfErr, is_some, find, option_and_then, if◌then◌else◌, refl, sym, ap, subst}
-use Rattle.std.specs.List.{list_all, list_any}
-use Rattle.std.specs.Option.{option_map_or}
-use Rattle.std.specs.Str.{bytes_eq}
-use Rattle.std.proofs.lemmas.Bool.{false≢true, or_cases}
-use Rattle.std.proofs.lemmas.Result.{IfErr-weaker}
-use Rattle.std.proofs.lemmas.Slice.Eq.{bytes_eq-Decides}
-use Rattle.clap.specs.Simple.{Shape, built, is_simple, label_of, names_of, subcommand_of}
-use Rattle.clap.specs.Takes.{is_given, takes}
+use Rattle.std.proofs.Common.{◌≡◌, ◌∙◌, ◌&&◌, ◌||◌, inl, inr, not, Bool, true, false, List, [], ◌∷◌, codes, Option, Some, None, Result}
+use Rattle.std.{proofs.Common.{IfErr, is_some, find, option_and_then, if◌then◌else◌, refl, sym, ap, subst}, specs.List.{list_all, list_any}}
+use Rattle.std.{specs.Option.option_map_or, specs.Str.bytes_eq, proofs.lemmas.Bool.{false≢true, or_cases}}
+use Rattle.std.{proofs.lemmas.Result.IfErr-weaker, proofs.lemmas.Slice.Eq.bytes_eq-Decides}
+use Rattle.clap.{specs.Simple.{Shape, built, is_simple, label_of, names_of, subcommand_of}, specs.Takes.{is_given, takes}}
 use Rattle.clap.specs.Walk.{Row, Rule, Text, answers_to, first_of, nothing_held, rows_after, walk_from, walked}
-use Rattle.clap.proofs.OnLiterals.{clap_on_literals}
-use Rattle.clap.proofs.WalkLemmas.{both}
+use Rattle.clap.{proofs.OnLiterals.clap_on_literals, proofs.WalkLemmas.both}
 use Rattle.yq_args.specs.CommandWords.{command_words, is_command_word}
 use Rattle.yq_args.specs.Asked.{checks, count_in, WordsRefused, IsNotTaken, finds, full_words, name_fits, names_fit, words_fit}
-use Rattle.yq_args.specs.Line.{yq, four_commands, two_commands}
-use Rattle.yq_args.specs.declared.command.Command.{Command}
-use Rattle.yq_args.specs.declared.words_error.WordsError.{WordsError}
-use Rattle.yq_args.proofs.ClapLevel.{Passed, stops_at, sub_found, sub_passed}
+use Rattle.yq_args.{specs.Line.{yq, four_commands, two_commands}, specs.declared.command.Command.Command}
+use Rattle.yq_args.{specs.declared.words_error.WordsError.WordsError, proofs.ClapLevel.{Passed, stops_at, sub_found, sub_passed}}
 use Rattle.yq_args.proofs.ClapRows.{fills, option_text}
 
 -- an argument that is required was given

@@ -1,18 +1,13 @@
 -- What the words of a command line ask for, by what clap finds in them (own).
-use Rattle.std.specs.Prelude.{◌≡◌, ◌≢◌, ◌⊎◌, ◌&&◌, ◌||◌, ◌^◌, ℕ, Bool, true, false, not, List, [], ◌∷◌, ◌++◌, length, codes, nat_lt, if◌then◌else◌, Option, Some, None, is_some, option_and_then}
-use Rattle.std.specs.List.{list_any}
-use Rattle.std.specs.Option.{option_map_or}
-use Rattle.std.specs.Str.{bytes_eq, all_ascii_digits}
-use Rattle.std.specs.Str.Parse.{digits_value}
-use Rattle.std.specs.String.{string_bytes}
+use Rattle.std.specs.Prelude.{◌≡◌, ◌≢◌, ◌⊎◌, ◌&&◌, ◌||◌, ◌^◌, ℕ, Bool, true, false, not, List, [], ◌∷◌, ◌++◌, length, codes, nat_lt}
+use Rattle.std.{specs.Prelude.{if◌then◌else◌, Option, Some, None, is_some, option_and_then}, specs.List.list_any}
+use Rattle.std.{specs.Option.option_map_or, specs.Str.{bytes_eq, all_ascii_digits}, specs.Str.Parse.digits_value, specs.String.string_bytes}
 use Rattle.clap.specs.Words.{IsAmong, Row, Text, fault_of, first_of, one_of, subcommand_of, takes}
 use Rattle.clap.specs.declared.error.kind.ErrorKind.TheVariants.{DisplayHelp}
 use Rattle.yq_args.specs.declared.command.Command.{Command}
 use Rattle.yq_args.specs.declared.command.Command.TheVariants.{Eval, Undo, Redo, History, Squash, Help}
 use Rattle.yq_args.specs.declared.words_error.WordsError.{WordsError}
-use Rattle.yq_args.specs.declared.words_error.WordsError.TheVariants.{OutOfMemory, Usage}
-use Rattle.yq_args.specs.CommandWords.{with_command}
-use Rattle.yq_args.specs.Line.{yq}
+use Rattle.yq_args.{specs.declared.words_error.WordsError.TheVariants.{OutOfMemory, Usage}, specs.CommandWords.with_command, specs.Line.yq}
 
 -- the words as clap reads them, behind the program's name
 abbrev pub full_words : List Text → List Text

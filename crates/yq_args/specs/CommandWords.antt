@@ -1,7 +1,5 @@
 -- The word of a command line that names its command (own).
-use Rattle.std.specs.Prelude.{ℕ, Bool, List, [], ◌∷◌, codes, if◌then◌else◌}
-use Rattle.std.specs.List.{list_any}
-use Rattle.std.specs.Str.{bytes_eq}
+use Rattle.std.{specs.Prelude.{ℕ, Bool, List, [], ◌∷◌, codes, if◌then◌else◌}, specs.List.list_any, specs.Str.bytes_eq}
 
 -- the words that name a command
 abbrev pub command_words : List (List ℕ)

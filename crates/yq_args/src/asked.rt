@@ -1,6 +1,6 @@
 //! What the words of a command ask for.
-ghost use Rattle.std.specs.Prelude.{◌≡◌, ◌≢◌, ◌⊎◌, ◌++◌, Bool, Option, List, ℕ, Ok, IfOk, IfErr, codes, false, true, map, Some, None, option_map};
-ghost use Rattle.std.specs.String.{string_bytes};
+ghost use Rattle.std.specs.Prelude.{◌≡◌, ◌≢◌, ◌⊎◌, ◌++◌, Bool, Option, List, ℕ, Ok, IfOk, IfErr, codes, false, true, map, Some, None};
+ghost use Rattle.std.{specs.Prelude.option_map, specs.String.string_bytes};
 ghost use Rattle.clap.specs.Words.{first_of, one_of, rows_of, found_of};
 ghost use Rattle.yq_args.specs.declared.command.Command.TheVariants.{Help};
 ghost use Rattle.yq_args.specs.Asked as spec;

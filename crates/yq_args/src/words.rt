@@ -1,10 +1,8 @@
 //! The words of the command line.
 ghost use Rattle.std.specs.Prelude.{◌≡◌, ◌≢◌, ◌⊎◌, ◌∷◌, IfOk, IfErr, MatchResult, [], map, true, false, Ok};
 ghost use Rattle.clap.specs.Words.{IsAmong, fault_of, subcommand_of, takes};
-ghost use Rattle.yq_args.specs.declared.command.Command.TheVariants.{Help};
-ghost use Rattle.yq_args.specs.declared.words_error.WordsError.{WordsError};
+ghost use Rattle.yq_args.{specs.declared.command.Command.TheVariants.Help, specs.declared.words_error.WordsError.WordsError, specs.Line.yq};
 ghost use Rattle.yq_args.specs.Asked as spec;
-ghost use Rattle.yq_args.specs.Line.{yq};
 
 use crate::{Command, UsageCause, WordsError, command_in, matched, split_command};
 use clap::error::ErrorKind;

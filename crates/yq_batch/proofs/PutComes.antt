@@ -1,36 +1,21 @@
 -- What it comes to that a value is put at a part of a flow collection.
-use Rattle.std.proofs.Common.{◌≡◌, ℕ, ◌+◌, ◌≤◌, ◌<◌, Bool, true, false, cond, leb, List, [], ◌∷◌, ◌++◌, length, Option, Some, None, option_map, sym, ap, ◌∙◌, append-nil, append_assoc, arith}
-use Rattle.std.proofs.lemmas.Bool.{le-leb, lt-leb}
+use Rattle.std.proofs.Common.{◌≡◌, ℕ, ◌+◌, ◌≤◌, ◌<◌, Bool, true, false, cond, leb, List, [], ◌∷◌, ◌++◌, length, Option, Some, None}
+use Rattle.std.{proofs.Common.{option_map, sym, ap, ◌∙◌, append-nil, append_assoc, arith}, proofs.lemmas.Bool.{le-leb, lt-leb}}
 use Rattle.std.specs.Option.{option_or}
-use Rattle.yq_core.specs.Answers.{◌>>=◌}
-use Rattle.yq_text.specs.Limit.{text_limit}
-use Rattle.yq_core.specs.Paths.{Step}
-use Rattle.yq_core.specs.Tree.{Node}
-use Rattle.yq_core.specs.Collections.{CollPieces}
-use Rattle.yq_core.specs.Entries.{EntryPieces}
+use Rattle.yq_core.{specs.Answers.◌>>=◌, specs.Paths.Step, specs.Tree.Node, specs.Collections.CollPieces, specs.Entries.EntryPieces}
 use Rattle.yq_core.specs.Trees.{tree_of}
+use Rattle.yq_text.{specs.Limit.text_limit, specs.Script.{Segment, changes, keep, new_text, put, splice_at}, proofs.ScriptLaws.kept_changes}
 use Rattle.yq_flow_edits.specs.FlowEdits.{FlowEdit}
 use Rattle.yq_row_table.specs.Rows.{Cut, cut_text}
 use Rattle.yq_documents.specs.Reading.{read_at}
-use Rattle.yq_places.specs.NodesAt.{node_in}
-use Rattle.yq_places.specs.Standings.{FlowPart, Standing, flow_part, flow_standing, last_step, standing_at}
-use Rattle.yq_semantics.specs.Operations.{replace}
-use Rattle.yq_semantics.specs.declared.refusal.Refusal.TheVariants.{TooLarge}
-use Rattle.yq_text.specs.Exchanging as exchange
-use Rattle.yq_text.specs.Script.{Segment, changes, keep, new_text, put, splice_at}
-use Rattle.yq_text.proofs.ScriptLaws.{kept_changes}
-use Rattle.yq_edits.specs.Edits.{op_edits, or_stay}
-use Rattle.yq_edits.specs.FlowParts.{flow_put, flow_segments}
-use Rattle.yq_edits.specs.Layouts.{layout_of}
-use Rattle.yq_edits.specs.ReplaceEdits.{has_text, value_put}
-use Rattle.yq_edits.specs.Replacing.{keeps_scalar}
-use Rattle.yq_edit_laws.specs.PartPuts.{put_edit}
-use Rattle.yq_edit_laws.proofs.CutLaws.{cut_read}
-use Rattle.yq_edit_laws.proofs.FlowEditLaws.{before_is}
-use Rattle.yq_edit_laws.proofs.FlowPartNodes.{none_there, part_node}
-use Rattle.yq_edit_laws.proofs.FlowStandings.{EntryAt}
-use Rattle.yq_edit_laws.specs.Carried.{carried, carry_one}
+use Rattle.yq_places.{specs.NodesAt.node_in, specs.Standings.{FlowPart, Standing, flow_part, flow_standing, last_step, standing_at}}
+use Rattle.yq_semantics.{specs.Operations.replace, specs.declared.refusal.Refusal.TheVariants.TooLarge}
+use Rattle.yq_edits.{specs.Edits.{op_edits, or_stay}, specs.FlowParts.{flow_put, flow_segments}, specs.Layouts.layout_of}
+use Rattle.yq_edits.{specs.ReplaceEdits.{has_text, value_put}, specs.Replacing.keeps_scalar}
+use Rattle.yq_edit_laws.{specs.PartPuts.put_edit, proofs.CutLaws.cut_read, proofs.FlowEditLaws.before_is}
+use Rattle.yq_edit_laws.{proofs.FlowPartNodes.{none_there, part_node}, proofs.FlowStandings.EntryAt, specs.Carried.{carried, carry_one}}
 use Rattle.yq_edit_laws.specs.Edit.{by_reading, exchange_edit, edit_of_segments, gives, refuses}
+use Rattle.yq_text.specs.Exchanging as exchange
 
 -- ---- the splices
 

@@ -1,35 +1,23 @@
 -- Line comments that operations put in rows, wherever their items and entries stand still.
-use Rattle.std.proofs.Common.{◌≡◌, ℕ, ◌+◌, ◌≤◌, Bool, true, false, cond, List, [], ◌∷◌, ◌++◌, length, Some, refl, sym, ap, ◌∙◌, subst, arith, append_assoc, string_bytes, length-append}
-use Rattle.std.proofs.lemmas.Str.{IsCharBoundary-at_seam}
+use Rattle.std.proofs.Common.{◌≡◌, ℕ, ◌+◌, ◌≤◌, Bool, true, false, cond, List, [], ◌∷◌, ◌++◌, length, Some, refl, sym, ap, ◌∙◌, subst}
+use Rattle.std.{proofs.Common.{arith, append_assoc, string_bytes, length-append}, proofs.lemmas.Str.IsCharBoundary-at_seam}
 use Rattle.std.specs.Str.{IsCharBoundary}
 use Rattle.yq_text.specs.Limit.{text_limit}
 use Rattle.yq_core.specs.Paths.{Step}
-use Rattle.yq_row_table.specs.Rows.{Cut, cut_text}
-use Rattle.yq_row_table.specs.View.{slices}
+use Rattle.yq_row_table.{specs.Rows.{Cut, cut_text}, specs.View.slices}
 use Rattle.yq_documents.specs.Reading.{cut_of, read_at}
-use Rattle.yq_places.specs.CommentPlaces.{LineEnd, end_in_line}
-use Rattle.yq_places.specs.StandingViews.{IsHeldRow}
-use Rattle.yq_places.specs.declared.places.held_row.HeldRow.{HeldRow}
-use Rattle.yq_places.specs.Standings.{Held, RowsOfEntry, held, rows_of_entry}
+use Rattle.yq_places.{specs.CommentPlaces.{LineEnd, end_in_line}, specs.StandingViews.IsHeldRow}
+use Rattle.yq_places.{specs.declared.places.held_row.HeldRow.HeldRow, specs.Standings.{Held, RowsOfEntry, held, rows_of_entry}}
 use Rattle.yq_places.proofs.HeldRowLaws.{no_root_rows}
-use Rattle.yq_edits.specs.RowStays.{StandsStill}
-use Rattle.yq_edits.specs.StandingLaws.{HoldsPieces, StandsThere}
-use Rattle.yq_edits.specs.TextPieces.{IsPiece}
-use Rattle.yq_edits.proofs.StandingRows.{rows_stand}
-use Rattle.yq_edits.proofs.TextPieceLaws.{piece_back, pieces_joined}
-use Rattle.yq_semantics.specs.Operations.{line_comment}
-use Rattle.yq_edits.specs.CommentEdits.{comment_put, comment_written}
-use Rattle.yq_edits.specs.Operands.{HasOperand}
-use Rattle.yq_edits.specs.RowChanges.{comment_front, comment_old, takes_white}
-use Rattle.yq_edits.proofs.HeldPieces.{held_spells}
-use Rattle.yq_edit_laws.proofs.LineCommentLaws.{line_comments_change_rows}
-use Rattle.yq_edit_laws.proofs.RowEditLaws.{row_edits}
+use Rattle.yq_edits.{specs.RowStays.StandsStill, specs.StandingLaws.{HoldsPieces, StandsThere}, specs.TextPieces.IsPiece}
+use Rattle.yq_edits.{proofs.StandingRows.rows_stand, proofs.TextPieceLaws.{piece_back, pieces_joined}}
+use Rattle.yq_edits.{specs.CommentEdits.{comment_put, comment_written}, specs.Operands.HasOperand}
+use Rattle.yq_edits.{specs.RowChanges.{comment_front, comment_old, takes_white}, proofs.HeldPieces.held_spells}
 use Rattle.yq_edits.proofs.TailPieces.{white_piece}
-use Rattle.yq_edit_laws.proofs.CutLaws.{cut_read, text_read}
-use Rattle.yq_edit_laws.proofs.HeldRows.{mark_end, mark_tail}
-use Rattle.yq_batch.specs.RowRuns.{PutsInRow, PutsSo, PutsText, bytes_in, rows_still, white_left}
-use Rattle.yq_batch.specs.declared.in_rows.RowPut.{RowPut}
-use Rattle.yq_edit_laws.proofs.EditsHold.{edit_is}
+use Rattle.yq_semantics.specs.Operations.{line_comment}
+use Rattle.yq_edit_laws.{proofs.LineCommentLaws.line_comments_change_rows, proofs.RowEditLaws.row_edits}
+use Rattle.yq_edit_laws.{proofs.CutLaws.{cut_read, text_read}, proofs.HeldRows.{mark_end, mark_tail}, proofs.EditsHold.edit_is}
+use Rattle.yq_batch.{specs.RowRuns.{PutsInRow, PutsSo, PutsText, bytes_in, rows_still, white_left}, specs.declared.in_rows.RowPut.RowPut}
 
 module _ (n : ℕ) (s : Step) (ss : List Step) (text : List ℕ) (c : Cut) (e : RowsOfEntry) (read : read_at (cut_text c) ≡ Some c) (at : rows_of_entry n (s ∷ ss) c ≡ Some e) (last : e.line ≡ length e.row.dashes) where
   abbrev lower : List ℕ

@@ -1,49 +1,24 @@
 -- Values that operations put in rows, wherever their items and entries stand still.
-use Rattle.std.proofs.Common.{◌≡◌, ℕ, ◌+◌, ◌≤◌, Bool, true, false, cond, is_some, List, [], ◌∷◌, ◌++◌, length, Option, Some, None, refl, sym, ap, ◌∙◌, subst, arith, append_assoc, string_bytes, length-append}
-use Rattle.std.proofs.lemmas.Bool.{false≢true}
-use Rattle.std.proofs.lemmas.Str.{IsCharBoundary-at_seam}
-use Rattle.std.specs.Str.{IsCharBoundary}
-use Rattle.yq_text.specs.Limit.{text_limit}
-use Rattle.yq_core.specs.Paths.{Step}
-use Rattle.yq_core.specs.Text.{is_empty}
-use Rattle.yq_core.specs.Tree.{Node}
-use Rattle.yq_core.specs.declared.style.Place.TheVariants.{Block as InBlock}
-use Rattle.yq_outline.specs.Outline.{anchored}
-use Rattle.yq_row_table.specs.Rows.{Cut, cut_text, parent_indent, rows_text}
-use Rattle.yq_row_table.specs.View.{slices}
-use Rattle.yq_outline.specs.Lines.{content_anchor, head_of}
+use Rattle.std.proofs.Common.{◌≡◌, ℕ, ◌+◌, ◌≤◌, Bool, true, false, cond, is_some, List, [], ◌∷◌, ◌++◌, length, Option, Some, None, refl}
+use Rattle.std.{proofs.Common.{sym, ap, ◌∙◌, subst, arith, append_assoc, string_bytes, length-append}, proofs.lemmas.Bool.false≢true}
+use Rattle.std.{proofs.lemmas.Str.IsCharBoundary-at_seam, specs.Str.IsCharBoundary}
+use Rattle.yq_text.{specs.Limit.text_limit, specs.Script.keep}
+use Rattle.yq_core.{specs.Paths.Step, specs.Text.is_empty, specs.Tree.Node, specs.declared.style.Place.TheVariants.Block as InBlock}
+use Rattle.yq_outline.{specs.Outline.anchored, specs.Lines.{content_anchor, head_of}}
+use Rattle.yq_row_table.{specs.Rows.{Cut, cut_text, parent_indent, rows_text}, specs.View.slices}
 use Rattle.yq_documents.specs.Reading.{cut_of, read_at}
-use Rattle.yq_places.specs.CommentPlaces.{end_in_line}
-use Rattle.yq_places.specs.StandingViews.{IsHeldRow}
-use Rattle.yq_places.specs.declared.places.held_row.HeldRow.{HeldRow}
-use Rattle.yq_places.specs.NodesAt.{node_in}
-use Rattle.yq_places.specs.PrintedLines.{less_break}
-use Rattle.yq_places.specs.Standings.{Held, RowsOfEntry, behind_entry, held, rows_of_entry}
-use Rattle.yq_places.proofs.HeldRowLaws.{no_root_rows}
-use Rattle.yq_edits.specs.RowStays.{StandsStill}
-use Rattle.yq_edits.specs.StandingLaws.{HoldsPieces, StandsThere}
-use Rattle.yq_edits.specs.TextPieces.{IsPiece}
-use Rattle.yq_edits.proofs.RowStayLaws.{rows_stay_there}
-use Rattle.yq_edits.proofs.StandingMarks.{row_there}
-use Rattle.yq_edits.proofs.StandingRows.{rows_stand}
-use Rattle.yq_edits.proofs.TextPieceLaws.{pieces_joined}
-use Rattle.yq_edits.specs.BlockReading.{is_filled}
-use Rattle.yq_semantics.specs.Operations.{replace}
-use Rattle.yq_text.specs.Script.{keep}
-use Rattle.yq_edits.specs.Edits.{op_edits}
-use Rattle.yq_edits.specs.Operands.{HasOperand}
-use Rattle.yq_edits.specs.Replacing.{keeps_scalar}
-use Rattle.yq_edits.specs.RowChanges.{HoldsInline, inline_put}
-use Rattle.yq_edits.specs.WrittenValues.{value_text}
+use Rattle.yq_places.{specs.CommentPlaces.end_in_line, specs.StandingViews.IsHeldRow, specs.declared.places.held_row.HeldRow.HeldRow}
+use Rattle.yq_places.{specs.NodesAt.node_in, specs.PrintedLines.less_break}
+use Rattle.yq_places.{specs.Standings.{Held, RowsOfEntry, behind_entry, held, rows_of_entry}, proofs.HeldRowLaws.no_root_rows}
+use Rattle.yq_edits.{specs.RowStays.StandsStill, specs.StandingLaws.{HoldsPieces, StandsThere}, specs.TextPieces.IsPiece}
+use Rattle.yq_edits.{proofs.RowStayLaws.rows_stay_there, proofs.StandingMarks.row_there, proofs.StandingRows.rows_stand}
+use Rattle.yq_edits.{proofs.TextPieceLaws.pieces_joined, specs.BlockReading.is_filled, specs.Edits.op_edits, specs.Operands.HasOperand}
+use Rattle.yq_edits.{specs.Replacing.keeps_scalar, specs.RowChanges.{HoldsInline, inline_put}, specs.WrittenValues.value_text}
 use Rattle.yq_edits.proofs.HeldPieces.{held_spells}
-use Rattle.yq_edit_laws.proofs.RowEditLaws.{row_edits}
-use Rattle.yq_edit_laws.proofs.CutLaws.{cut_read, text_read}
-use Rattle.yq_edit_laws.proofs.HeldRows.{head_there, headless_there}
-use Rattle.yq_edit_laws.proofs.InlineChangeLaws.{inline_values_change_rows}
-use Rattle.yq_edit_laws.proofs.MarkHeads.{no_raw}
-use Rattle.yq_batch.specs.RowRuns.{IsWrittenSo, PutsInRow, PutsSo, PutsText, bytes_in, rows_still}
-use Rattle.yq_batch.specs.declared.in_rows.RowPut.{RowPut}
-use Rattle.yq_edit_laws.proofs.EditsHold.{edit_is}
+use Rattle.yq_semantics.specs.Operations.{replace}
+use Rattle.yq_edit_laws.{proofs.RowEditLaws.row_edits, proofs.CutLaws.{cut_read, text_read}, proofs.HeldRows.{head_there, headless_there}}
+use Rattle.yq_edit_laws.{proofs.InlineChangeLaws.inline_values_change_rows, proofs.MarkHeads.no_raw, proofs.EditsHold.edit_is}
+use Rattle.yq_batch.{specs.RowRuns.{IsWrittenSo, PutsInRow, PutsSo, PutsText, bytes_in, rows_still}, specs.declared.in_rows.RowPut.RowPut}
 
 is_there : (o : Option Node) → is_some o ≡ true → (x : Node) × (o ≡ Some x)
 is_there None e = absurd (false≢true e)

@@ -1,32 +1,20 @@
 -- Runs of the code over rows: how they begin, and how they go on behind one more text.
-use Rattle.std.proofs.Common.{◌≡◌, inl, inr, ℕ, zero, suc, ◌+◌, ◌≤◌, List, [], ◌++◌, length, take, drop, Option, Some, None, refl, sym, ap, ◌∙◌, subst, append-nil, arith, string_bytes}
-use Rattle.std.proofs.lemmas.Str.{IsCharBoundary-start}
-use Rattle.std.specs.Str.{IsCharBoundary}
-use Rattle.std.specs.Prelude.{String}
-use Rattle.std.specs.declared.alloc.Global.{Global}
+use Rattle.std.proofs.Common.{◌≡◌, inl, inr, ℕ, zero, suc, ◌+◌, ◌≤◌, List, [], ◌++◌, length, take, drop, Option, Some, None, refl, sym, ap}
+use Rattle.std.{proofs.Common.{◌∙◌, subst, append-nil, arith, string_bytes}, proofs.lemmas.Str.IsCharBoundary-start}
+use Rattle.std.{specs.Str.IsCharBoundary, specs.Prelude.String, specs.declared.alloc.Global.Global}
 use Rattle.yq_row_table.specs.Rows.{Cut, cut_text}
-use Rattle.yq_documents.specs.Reading.{cut_of, read_at}
-use Rattle.yq_documents.specs.LinesInRows.{document_row}
+use Rattle.yq_documents.{specs.Reading.{cut_of, read_at}, specs.LinesInRows.document_row}
 use Rattle.yq_edits.specs.RowStays.{IsBehind, StandsStill}
-use Rattle.yq_semantics.specs.After.{op_document}
-use Rattle.yq_semantics.specs.Operations.{Operation}
-use Rattle.yq_text.specs.Script.{splice_at}
-use Rattle.yq_text.specs.Splice.{Splice}
-use Rattle.yq_edit_laws.proofs.CutLaws.{text_read}
-use Rattle.yq_edit_laws.proofs.FlowAnswers.{whole_text}
-use Rattle.yq_edit_laws.specs.Answers.{EditFails}
-use Rattle.yq_edit_laws.specs.Carried.{carried}
-use Rattle.yq_edit_laws.specs.Edit.{gives, refuses}
+use Rattle.yq_semantics.{specs.After.op_document, specs.Operations.Operation}
+use Rattle.yq_text.{specs.Script.splice_at, specs.Splice.Splice}
+use Rattle.yq_edit_laws.{proofs.CutLaws.text_read, proofs.FlowAnswers.whole_text, specs.Answers.EditFails, specs.Carried.carried}
+use Rattle.yq_edit_laws.{specs.Edit.{gives, refuses}, specs.Theorems.IsFitting, specs.declared.edit_error.EditError.EditError}
+use Rattle.yq_edit_laws.{proofs.ApplyLaws.applied_by, proofs.TextFaults.text_utf8}
 use Rattle.yq_batch.specs.RowRuns.{IsLast, IsRowRun, IsRowsRun, Passed, PutsInRow, PutsSo, PutsText, RowsGoOn, bytes_in, rows_still}
-use Rattle.yq_batch.specs.Runs.{HasPut, PutFails, now_text, run_front, text_with_run}
-use Rattle.yq_edit_laws.specs.Theorems.{IsFitting}
-use Rattle.yq_edit_laws.specs.declared.edit_error.EditError.{EditError}
-use Rattle.yq_edit_laws.specs.declared.edit_error.EditError.TheVariants as error
-use Rattle.yq_batch.specs.declared.in_rows.RowPut.{RowPut}
+use Rattle.yq_batch.{specs.Runs.{HasPut, PutFails, now_text, run_front, text_with_run}, specs.declared.in_rows.RowPut.RowPut}
 use Rattle.yq_batch.specs.declared.run.PutRun.{PutRun}
-use Rattle.yq_edit_laws.proofs.ApplyLaws.{applied_by}
-use Rattle.yq_edit_laws.proofs.TextFaults.{text_utf8}
 use Rattle.yq_batch.proofs.RowRunLaws.{old_is, read_now, row_goes_on, row_put_comes, row_put_large, row_stays}
+use Rattle.yq_edit_laws.specs.declared.edit_error.EditError.TheVariants as error
 
 -- nothing was changed yet
 pub rows_begin : (t : List ℕ) (r : PutRun) → read_at t ≡ Some (cut_of t) → string_bytes r.text ≡ [] → r.done ≡ 0 → IsRowsRun (cut_of t) None r

@@ -1,38 +1,23 @@
 -- One more operation that changes a row, behind those that did: it comes to what it does on the rows as they were read, but for the text in front.
-use Rattle.std.proofs.Common.{◌≡◌, inl, inr, ℕ, suc, ◌+◌, ◌≤◌, ◌<◌, Bool, cond, leb, List, [], ◌∷◌, ◌++◌, length, take, drop, Option, Some, sym, ap, ◌∙◌, subst, append_assoc, append-nil, arith, length-append}
-use Rattle.std.proofs.Math.Seq.{take-append_seam, drop-append_seam}
-use Rattle.std.proofs.lemmas.Bool.{le-leb, lt-leb}
-use Rattle.std.proofs.lemmas.List.{append_cancel_right, drop-append-le}
-use Rattle.std.proofs.lemmas.Option.{same_Some}
-use Rattle.std.specs.Str.{IsCharBoundary}
-use Rattle.yq_text.specs.Limit.{text_limit}
+use Rattle.std.proofs.Common.{◌≡◌, inl, inr, ℕ, suc, ◌+◌, ◌≤◌, ◌<◌, Bool, cond, leb, List, [], ◌∷◌, ◌++◌, length, take, drop, Option, Some}
+use Rattle.std.proofs.Common.{sym, ap, ◌∙◌, subst, append_assoc, append-nil, arith, length-append}
+use Rattle.std.{proofs.Math.Seq.{take-append_seam, drop-append_seam}, proofs.lemmas.Bool.{le-leb, lt-leb}}
+use Rattle.std.{proofs.lemmas.List.{append_cancel_right, drop-append-le}, proofs.lemmas.Option.same_Some, specs.Str.IsCharBoundary}
+use Rattle.yq_text.{specs.Limit.text_limit, specs.Script.{Segment, changes, keep, new_text, splice_at}, proofs.ScriptLaws.kept_changes}
 use Rattle.yq_core.specs.Paths.{Step}
 use Rattle.yq_row_table.specs.Rows.{Cut, cut_text}
-use Rattle.yq_documents.specs.Reading.{documents, read_at}
+use Rattle.yq_documents.{specs.Reading.{documents, read_at}, proofs.ReadLaws.parts_read}
 use Rattle.yq_places.specs.Standings.{RowsOfEntry, rows_of_entry}
-use Rattle.yq_documents.proofs.ReadLaws.{parts_read}
-use Rattle.yq_edits.specs.Appends.{inserted}
-use Rattle.yq_edits.specs.Changed.{put_document}
-use Rattle.yq_edits.specs.RowStays.{IsBehind, StandsStill, StaysFrom}
-use Rattle.yq_edits.proofs.RowStayLaws.{rows_stay_there}
-use Rattle.yq_semantics.specs.After.{op_document}
-use Rattle.yq_semantics.specs.Fits.{Fits}
-use Rattle.yq_semantics.specs.Operations.{Operation}
-use Rattle.yq_semantics.specs.Rooms.{room_of}
-use Rattle.yq_semantics.specs.declared.refusal.Refusal.TheVariants.{TooLarge}
-use Rattle.yq_text.specs.Exchanging as exchange
-use Rattle.yq_text.specs.Script.{Segment, changes, keep, new_text, splice_at}
-use Rattle.yq_text.proofs.ScriptLaws.{kept_changes}
-use Rattle.yq_edits.specs.Edits.{op_edits, or_stay}
-use Rattle.yq_edits.specs.Operands.{HasOperand}
+use Rattle.yq_edits.{specs.Appends.inserted, specs.Changed.put_document, specs.RowStays.{IsBehind, StandsStill, StaysFrom}}
+use Rattle.yq_edits.{proofs.RowStayLaws.rows_stay_there, specs.Edits.{op_edits, or_stay}, specs.Operands.HasOperand}
 use Rattle.yq_edits.specs.RowChanges.{ChangesRow}
-use Rattle.yq_edit_laws.proofs.CutLaws.{cut_read, text_read}
-use Rattle.yq_edit_laws.specs.Carried.{carried, carry_one}
-use Rattle.yq_edit_laws.specs.Edit.{by_reading, edit_of_segments, exchange_edit, gives, refuses}
-use Rattle.yq_batch.specs.RowRuns.{IsRowRun, PutsText, rows_still}
-use Rattle.yq_batch.specs.Runs.{text_with_run}
-use Rattle.yq_edit_laws.specs.Theorems.{IsFitting}
+use Rattle.yq_semantics.{specs.After.op_document, specs.Fits.Fits, specs.Operations.Operation, specs.Rooms.room_of}
+use Rattle.yq_semantics.specs.declared.refusal.Refusal.TheVariants.{TooLarge}
+use Rattle.yq_edit_laws.{proofs.CutLaws.{cut_read, text_read}, specs.Carried.{carried, carry_one}}
+use Rattle.yq_edit_laws.{specs.Edit.{by_reading, edit_of_segments, exchange_edit, gives, refuses}, specs.Theorems.IsFitting}
 use Rattle.yq_edit_laws.proofs.ApplyLaws.{fits}
+use Rattle.yq_batch.{specs.RowRuns.{IsRowRun, PutsText, rows_still}, specs.Runs.text_with_run}
+use Rattle.yq_text.specs.Exchanging as exchange
 
 -- what is behind one row behind another is behind that
 behind_both : (k n m i l j : ℕ) → IsBehind k n m i → IsBehind m (suc i) l j → IsBehind k n l j

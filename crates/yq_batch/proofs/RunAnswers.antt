@@ -1,43 +1,26 @@
 -- Runs of values that are put in the collections of one head, as the code makes them.
-use Rattle.std.proofs.Common.{◌≡◌, ℕ, ◌+◌, ◌-◌, ◌≤◌, ◌<◌, false, List, [], ◌++◌, length, length-append, map, take, drop, Option, Some, None, Result, Ok, Err, IfOk, sym, ap, ◌∙◌, subst, append-nil, arith, string_bytes}
-use Rattle.std.proofs.Math.Seq.{take-append_seam}
-use Rattle.std.proofs.lemmas.List.{length-map, take-map}
-use Rattle.std.proofs.lemmas.Str.{IsCharBoundary-start}
-use Rattle.std.specs.Prelude.{IfSome, String}
-use Rattle.std.specs.Str.{IsCharBoundary}
-use Rattle.std.specs.declared.alloc.Global.{Global}
-use Rattle.yq_core.specs.Paths.{Step}
-use Rattle.yq_core.specs.Tree.{Node}
-use Rattle.yq_core.specs.Entries.{tree_step}
-use Rattle.yq_core.specs.declared.path.Step as declared
+use Rattle.std.proofs.Common.{◌≡◌, ℕ, ◌+◌, ◌-◌, ◌≤◌, ◌<◌, false, List, [], ◌++◌, length, length-append, map, take, drop, Option, Some, None}
+use Rattle.std.proofs.Common.{Result, Ok, Err, IfOk, sym, ap, ◌∙◌, subst, append-nil, arith, string_bytes}
+use Rattle.std.{proofs.Math.Seq.take-append_seam, proofs.lemmas.List.{length-map, take-map}, proofs.lemmas.Str.IsCharBoundary-start}
+use Rattle.std.{specs.Prelude.{IfSome, String}, specs.Str.IsCharBoundary, specs.declared.alloc.Global.Global}
+use Rattle.yq_core.{specs.Paths.Step, specs.Tree.Node, specs.Entries.tree_step}
 use Rattle.yq_flow_edits.specs.FlowPlaces.{edit_view}
 use Rattle.yq_row_table.specs.Rows.{Cut, cut_text}
 use Rattle.yq_documents.specs.Reading.{cut_of, read_at}
-use Rattle.yq_places.specs.FlowViews.{LeadsToHead, ReportsHead}
-use Rattle.yq_places.specs.NodesAt.{node_in}
-use Rattle.yq_places.specs.Standings.{last_step}
+use Rattle.yq_places.{specs.FlowViews.{LeadsToHead, ReportsHead}, specs.NodesAt.node_in, specs.Standings.last_step}
 use Rattle.yq_places.specs.declared.places.flow_node.FlowHead.{FlowHead}
 use Rattle.yq_semantics.specs.Operations.{Operation, replace}
-use Rattle.yq_text.specs.Script.{splice_at}
-use Rattle.yq_text.specs.Splice.{Splice}
-use Rattle.yq_edits.specs.Operands.{HasOperand}
-use Rattle.yq_edits.specs.Replacing.{keeps_scalar}
-use Rattle.yq_edit_laws.specs.EditPlaces.{LiesIn, moved_on}
-use Rattle.yq_edit_laws.specs.PartPuts.{IsHeadOfPath, ArePuts, IsWrittenPart, put_edit}
-use Rattle.yq_edit_laws.specs.declared.put.PartPut.{PartPut}
-use Rattle.yq_edit_laws.proofs.CutLaws.{text_read}
-use Rattle.yq_edit_laws.proofs.FlowAnswers.{whole_text}
-use Rattle.yq_edit_laws.specs.Answers.{EditFails}
-use Rattle.yq_edit_laws.specs.Carried.{carried}
-use Rattle.yq_edit_laws.specs.Edit.{gives, refuses}
-use Rattle.yq_batch.specs.Runs.{EndsAt, EndsInCollection, HasPut, IsPutRun, PutFails, PutsAt, Runs, RunsOn, now_text, run_front, text_with_run}
-use Rattle.yq_edit_laws.specs.Theorems.{IsFitting}
-use Rattle.yq_edit_laws.specs.declared.edit_error.EditError.{EditError}
-use Rattle.yq_edit_laws.specs.declared.edit_error.EditError.TheVariants as error
-use Rattle.yq_batch.specs.declared.run.PutRun.{PutRun}
-use Rattle.yq_edit_laws.proofs.ApplyLaws.{applied_by}
+use Rattle.yq_text.{specs.Script.splice_at, specs.Splice.Splice}
+use Rattle.yq_edits.{specs.Operands.HasOperand, specs.Replacing.keeps_scalar}
+use Rattle.yq_edit_laws.{specs.EditPlaces.{LiesIn, moved_on}, specs.PartPuts.{IsHeadOfPath, ArePuts, IsWrittenPart, put_edit}}
+use Rattle.yq_edit_laws.{specs.declared.put.PartPut.PartPut, proofs.CutLaws.text_read, proofs.FlowAnswers.whole_text}
+use Rattle.yq_edit_laws.{specs.Answers.EditFails, specs.Carried.carried, specs.Edit.{gives, refuses}, specs.Theorems.IsFitting}
+use Rattle.yq_edit_laws.{specs.declared.edit_error.EditError.EditError, proofs.ApplyLaws.applied_by, proofs.TextFaults.text_utf8}
+use Rattle.yq_batch.specs.Runs.{EndsAt, EndsInCollection, HasPut, IsPutRun, PutFails, PutsAt, Runs, RunsOn, now_text, run_front}
+use Rattle.yq_batch.{specs.Runs.text_with_run, specs.declared.run.PutRun.PutRun}
 use Rattle.yq_batch.proofs.RunLaws.{goes_on, kept_there, large_there, put_there}
-use Rattle.yq_edit_laws.proofs.TextFaults.{text_utf8}
+use Rattle.yq_core.specs.declared.path.Step as declared
+use Rattle.yq_edit_laws.specs.declared.edit_error.EditError.TheVariants as error
 
 -- a run of nothing
 pub run_begins : (t : List ℕ) (n : ℕ) (stem : List Step) → read_at t ≡ Some (cut_of t) → LeadsToHead (cut_of t) n stem → IsPutRun (cut_of t) n stem [] 0

@@ -1,47 +1,24 @@
 -- One more value put in a head, behind those that were.
-use Rattle.std.proofs.Common.{◌≡◌, ℕ, ◌+◌, ◌-◌, ◌≤◌, ◌<◌, true, false, List, [], ◌++◌, length, take, drop, Option, Some, refl, sym, ap, ◌∙◌, subst, append_assoc, arith, length-append}
-use Rattle.std.proofs.Math.Seq.{take-append_seam, drop-append_seam}
-use Rattle.std.proofs.lemmas.List.{drop-append-le}
-use Rattle.std.proofs.lemmas.Option.{same_Some}
-use Rattle.yq_text.specs.Limit.{text_limit}
-use Rattle.yq_core.specs.Paths.{Step}
-use Rattle.yq_core.specs.Tree.{Node}
-use Rattle.yq_core.specs.Answers.{◌>>=◌}
-use Rattle.yq_core.proofs.Bools.{bind_some}
-use Rattle.yq_core.specs.Collections.{CollPieces}
-use Rattle.yq_core.specs.Entries.{item_at}
-use Rattle.yq_core.specs.Nodes.{node_text, without_anchor}
-use Rattle.yq_core.proofs.NodesWrittenLaws.{node_then}
-use Rattle.yq_core.specs.Trees.{tree_of}
-use Rattle.yq_flow_edits.specs.FlowEdits.{FlowEdit}
-use Rattle.yq_flow_edits.specs.FlowPlaces.{PlacedEdit}
-use Rattle.yq_flow_edits.specs.Valued.{IsValueTree}
+use Rattle.std.proofs.Common.{◌≡◌, ℕ, ◌+◌, ◌-◌, ◌≤◌, ◌<◌, true, false, List, [], ◌++◌, length, take, drop, Option, Some, refl, sym, ap, ◌∙◌}
+use Rattle.std.{proofs.Common.{subst, append_assoc, arith, length-append}, proofs.Math.Seq.{take-append_seam, drop-append_seam}}
+use Rattle.std.{proofs.lemmas.List.drop-append-le, proofs.lemmas.Option.same_Some}
+use Rattle.yq_text.{specs.Limit.text_limit, specs.Script.{new_text, splice_at}, specs.Splice.Splice}
+use Rattle.yq_core.{specs.Paths.Step, specs.Tree.Node, specs.Answers.◌>>=◌, proofs.Bools.bind_some, specs.Collections.CollPieces}
+use Rattle.yq_core.{specs.Entries.item_at, specs.Nodes.{node_text, without_anchor}, proofs.NodesWrittenLaws.node_then, specs.Trees.tree_of}
+use Rattle.yq_flow_edits.{specs.FlowEdits.FlowEdit, specs.FlowPlaces.PlacedEdit, specs.Valued.IsValueTree}
 use Rattle.yq_flow_edits.specs.declared.flow_place.EditPlace.{EditPlace}
 use Rattle.yq_row_table.specs.Rows.{Cut, cut_text}
-use Rattle.yq_documents.specs.Reading.{documents, read_at}
-use Rattle.yq_places.specs.FlowNodes.{flow_collection}
-use Rattle.yq_places.specs.NodesAt.{node_in}
-use Rattle.yq_places.specs.Standings.{FlowPart, flow_standing, last_step}
+use Rattle.yq_documents.{specs.Reading.{documents, read_at}, proofs.ReadLaws.parts_read}
+use Rattle.yq_places.{specs.FlowNodes.flow_collection, specs.NodesAt.node_in, specs.Standings.{FlowPart, flow_standing, last_step}}
 use Rattle.yq_places.specs.declared.places.flow_node.FlowHead.{FlowHead}
-use Rattle.yq_documents.proofs.ReadLaws.{parts_read}
-use Rattle.yq_semantics.specs.Fits.{Fits}
-use Rattle.yq_semantics.specs.Operations.{replace}
-use Rattle.yq_semantics.specs.Rooms.{room_of}
+use Rattle.yq_semantics.{specs.Fits.Fits, specs.Operations.replace, specs.Rooms.room_of}
 use Rattle.yq_semantics.specs.declared.refusal.Refusal.TheVariants.{TooLarge}
-use Rattle.yq_text.specs.Script.{new_text, splice_at}
-use Rattle.yq_text.specs.Splice.{Splice}
-use Rattle.yq_edits.specs.FlowParts.{flow_segments}
-use Rattle.yq_edits.specs.Replacing.{keeps_scalar}
-use Rattle.yq_edit_laws.specs.PartPuts.{IsPartOf, IsPlaceOf, put_edit}
-use Rattle.yq_edit_laws.proofs.CutLaws.{text_read}
-use Rattle.yq_edit_laws.proofs.FlowPartNodes.{part_node}
-use Rattle.yq_edit_laws.proofs.FlowPutLaws.{head_behind, next, part_behind, replaced_reads}
-use Rattle.yq_edit_laws.proofs.FlowStandings.{EntryAt, entry_found}
-use Rattle.yq_edit_laws.specs.Carried.{carried}
-use Rattle.yq_edit_laws.specs.Edit.{edit_of_segments, gives, refuses}
-use Rattle.yq_batch.specs.Runs.{EndsInCollection, IsPutRun, text_with_run}
-use Rattle.yq_edit_laws.specs.Theorems.{IsFitting}
+use Rattle.yq_edits.{specs.FlowParts.flow_segments, specs.Replacing.keeps_scalar}
+use Rattle.yq_edit_laws.{specs.PartPuts.{IsPartOf, IsPlaceOf, put_edit}, proofs.CutLaws.text_read, proofs.FlowPartNodes.part_node}
+use Rattle.yq_edit_laws.{proofs.FlowPutLaws.{head_behind, next, part_behind, replaced_reads}, proofs.FlowStandings.{EntryAt, entry_found}}
+use Rattle.yq_edit_laws.{specs.Carried.carried, specs.Edit.{edit_of_segments, gives, refuses}, specs.Theorems.IsFitting}
 use Rattle.yq_edit_laws.proofs.ApplyLaws.{fits}
+use Rattle.yq_batch.specs.Runs.{EndsInCollection, IsPutRun, text_with_run}
 use Rattle.yq_batch.proofs.PutComes.{kept_comes, made_text, new_is, put_comes, segments_come, segments_large}
 
 -- what a run has written, with what stays up to the next place

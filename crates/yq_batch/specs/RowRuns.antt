@@ -1,33 +1,16 @@
 -- Operations that change one row each, one behind the other, on the rows as they were read (YAML 1.2.2, 8; own).
-use Rattle.std.specs.Prelude.{◌≡◌, ⊤, ◌⊎◌, ◌&&◌, not, if◌then◌else◌, ℕ, ◌+◌, ◌<◌, ◌≤◌, List, [], ◌∷◌, ◌++◌, length, Option, Some, None, true, false, string_bytes}
-use Rattle.std.specs.Str.{IsCharBoundary}
-use Rattle.yq_text.specs.Limit.{text_limit}
-use Rattle.yq_core.specs.Paths.{Step}
-use Rattle.yq_core.specs.Text.{is_empty}
-use Rattle.yq_core.specs.Tree.{Node}
-use Rattle.yq_core.specs.declared.style.Place.TheVariants.{Block as InBlock}
+use Rattle.std.specs.Prelude.{◌≡◌, ⊤, ◌⊎◌, ◌&&◌, not, if◌then◌else◌, ℕ, ◌+◌, ◌<◌, ◌≤◌, List, [], ◌∷◌, ◌++◌, length, Option, Some, None}
+use Rattle.std.{specs.Prelude.{true, false, string_bytes}, specs.Str.IsCharBoundary}
+use Rattle.yq_text.{specs.Limit.text_limit, specs.Script.{Segment, keep, new_text, old_text}, specs.Splice.Splice}
+use Rattle.yq_core.{specs.Paths.Step, specs.Text.is_empty, specs.Tree.Node, specs.declared.style.Place.TheVariants.Block as InBlock}
 use Rattle.yq_row_table.specs.Rows.{Cut, cut_text}
-use Rattle.yq_documents.specs.LinesInRows.{document_row}
-use Rattle.yq_documents.specs.Reading.{documents, read_at}
+use Rattle.yq_documents.{specs.LinesInRows.document_row, specs.Reading.{documents, read_at}}
 use Rattle.yq_places.specs.Standings.{RowsOfEntry, rows_of_entry}
-use Rattle.yq_edits.specs.RowStays.{IsBehind, StandsStill}
-use Rattle.yq_semantics.specs.After.{op_document}
-use Rattle.yq_semantics.specs.Fits.{Fits}
-use Rattle.yq_semantics.specs.Operations.{Operation}
-use Rattle.yq_semantics.specs.Rooms.{room_of}
-use Rattle.yq_text.specs.Script.{Segment, keep, new_text, old_text}
-use Rattle.yq_text.specs.Splice.{Splice}
-use Rattle.yq_edits.specs.Edits.{op_edits}
-use Rattle.yq_edits.specs.Operands.{HasOperand}
-use Rattle.yq_edits.specs.Replacing.{keeps_scalar}
-use Rattle.yq_edits.specs.RowChanges.{ChangesRow, PutsOne}
-use Rattle.yq_edits.specs.WrittenValues.{value_text}
-use Rattle.yq_edit_laws.specs.Carried.{carried}
-use Rattle.yq_edit_laws.specs.Edit.{gives}
-use Rattle.yq_batch.specs.Runs.{now_text, text_with_run}
-use Rattle.yq_edit_laws.specs.Theorems.{IsApplied}
-use Rattle.yq_batch.specs.declared.in_rows.RowPut.{RowPut}
-use Rattle.yq_batch.specs.declared.run.PutRun.{PutRun}
+use Rattle.yq_edits.{specs.RowStays.{IsBehind, StandsStill}, specs.Edits.op_edits, specs.Operands.HasOperand, specs.Replacing.keeps_scalar}
+use Rattle.yq_edits.{specs.RowChanges.{ChangesRow, PutsOne}, specs.WrittenValues.value_text}
+use Rattle.yq_semantics.{specs.After.op_document, specs.Fits.Fits, specs.Operations.Operation, specs.Rooms.room_of}
+use Rattle.yq_edit_laws.{specs.Carried.carried, specs.Edit.gives, specs.Theorems.IsApplied}
+use Rattle.yq_batch.{specs.Runs.{now_text, text_with_run}, specs.declared.in_rows.RowPut.RowPut, specs.declared.run.PutRun.PutRun}
 
 -- ---- runs
 

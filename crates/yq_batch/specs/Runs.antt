@@ -1,30 +1,17 @@
 -- Values put one behind the other in the flow collections of one head, which was read once (YAML 1.2.2, 7.4; own).
-use Rattle.std.specs.Prelude.{◌≡◌, ⊤, ℕ, ◌-◌, ◌<◌, ◌≤◌, List, ◌++◌, drop, take, length, Some, string_bytes}
-use Rattle.std.specs.Str.{IsCharBoundary}
-use Rattle.yq_text.specs.Limit.{text_limit}
-use Rattle.yq_core.specs.Paths.{Step}
-use Rattle.yq_core.specs.Tree.{Node}
-use Rattle.yq_core.specs.Entries.{EntryPieces}
-use Rattle.yq_core.specs.Nodes.{node_text, without_anchor}
+use Rattle.std.{specs.Prelude.{◌≡◌, ⊤, ℕ, ◌-◌, ◌<◌, ◌≤◌, List, ◌++◌, drop, take, length, Some, string_bytes}, specs.Str.IsCharBoundary}
+use Rattle.yq_text.{specs.Limit.text_limit, specs.Script.splice_at, specs.Splice.Splice}
+use Rattle.yq_core.{specs.Paths.Step, specs.Tree.Node, specs.Entries.EntryPieces, specs.Nodes.{node_text, without_anchor}}
 use Rattle.yq_flow_edits.specs.Valued.{IsValueTree}
 use Rattle.yq_row_table.specs.Rows.{Cut, cut_text}
 use Rattle.yq_documents.specs.Reading.{cut_of, read_at}
-use Rattle.yq_places.specs.FlowViews.{LeadsToHead}
-use Rattle.yq_places.specs.NodesAt.{node_in}
-use Rattle.yq_places.specs.Standings.{FlowPart, flow_standing, last_step}
+use Rattle.yq_places.{specs.FlowViews.LeadsToHead, specs.NodesAt.node_in, specs.Standings.{FlowPart, flow_standing, last_step}}
 use Rattle.yq_places.specs.declared.places.flow_node.FlowHead.{FlowHead}
-use Rattle.yq_semantics.specs.Operations.{Operation, replace}
-use Rattle.yq_semantics.specs.declared.refusal.Refusal.TheVariants.{TooLarge}
-use Rattle.yq_text.specs.Script.{splice_at}
-use Rattle.yq_text.specs.Splice.{Splice}
-use Rattle.yq_edit_laws.specs.PartPuts.{IsPartOf, IsPlaceOf, IsWrittenPart}
-use Rattle.yq_edit_laws.specs.declared.put.PartPut.{PartPut}
-use Rattle.yq_edit_laws.specs.Carried.{carried}
-use Rattle.yq_edit_laws.specs.Edit.{gives}
-use Rattle.yq_edit_laws.specs.Theorems.{IsApplied}
-use Rattle.yq_edit_laws.specs.declared.edit_error.EditError.{EditError}
-use Rattle.yq_edit_laws.specs.declared.edit_error.EditError.TheVariants as error
+use Rattle.yq_semantics.{specs.Operations.{Operation, replace}, specs.declared.refusal.Refusal.TheVariants.TooLarge}
+use Rattle.yq_edit_laws.{specs.PartPuts.{IsPartOf, IsPlaceOf, IsWrittenPart}, specs.declared.put.PartPut.PartPut, specs.Carried.carried}
+use Rattle.yq_edit_laws.{specs.Edit.gives, specs.Theorems.IsApplied, specs.declared.edit_error.EditError.EditError}
 use Rattle.yq_batch.specs.declared.run.PutRun.{PutRun}
+use Rattle.yq_edit_laws.specs.declared.edit_error.EditError.TheVariants as error
 
 -- a text whose first bytes gave way to others (own)
 abbrev pub text_with_run : List ℕ → (out : List ℕ) → (done : ℕ) → List ℕ

@@ -3,19 +3,14 @@
 ghost use Rattle.std.specs.Prelude.{◌≡◌, ◌+◌, ◌≤◌, length, true, IfErr, IfOk, IfSome, string_bytes};
 ghost use Rattle.yq_text.specs.Limit.{text_limit};
 ghost use Rattle.yq_core.specs.Values.{value_node};
-ghost use Rattle.yq_documents.specs.Located.{steps_of};
-ghost use Rattle.yq_documents.specs.Reading.{cut_of};
-ghost use Rattle.yq_places.specs.NodesAt.{node_in};
-ghost use Rattle.yq_places.specs.StandingViews.{IsHeldRow};
+ghost use Rattle.yq_documents.{specs.Located.steps_of, specs.Reading.cut_of};
+ghost use Rattle.yq_places.{specs.NodesAt.node_in, specs.StandingViews.IsHeldRow};
 ghost use Rattle.yq_semantics.specs.Operations.{line_comment, operation_of, operations_of, replace};
 ghost use Rattle.yq_edits.specs.Operands.{HasOperand};
-ghost use Rattle.yq_edit_laws.specs.Answers.{EditFails};
-ghost use Rattle.yq_edit_laws.specs.Carried.{carry_all, carried};
-ghost use Rattle.yq_edit_laws.specs.Edit.{gives};
-ghost use Rattle.yq_batch.specs.RowRuns as spec;
-ghost use Rattle.yq_batch.specs.Runs.{now_text};
-ghost use Rattle.yq_edit_laws.specs.Theorems.{IsFitting};
+ghost use Rattle.yq_edit_laws.{specs.Answers.EditFails, specs.Carried.{carry_all, carried}, specs.Edit.gives, specs.Theorems.IsFitting};
 ghost use Rattle.yq_edit_laws.specs.Valid.{AreServed};
+ghost use Rattle.yq_batch.specs.Runs.{now_text};
+ghost use Rattle.yq_batch.specs.RowRuns as spec;
 
 use crate::run::PutRun;
 use std::alloc::{AllocError, Global};

@@ -1,8 +1,6 @@
 //! Runs: the text and the splices that values make which are put one behind the other.
-ghost use Rattle.std.specs.Prelude.{◌≡◌, ◌≤◌, ◌<◌, ◌++◌, [], true, IfErr, IfOk, OnOk, drop, take, string_bytes};
-ghost use Rattle.std.specs.Str.{IsCharBoundary};
-ghost use Rattle.yq_text.specs.Halves.{whole};
-ghost use Rattle.yq_text.specs.Script.{splice_at};
+ghost use Rattle.std.{specs.Prelude.{◌≡◌, ◌≤◌, ◌<◌, ◌++◌, [], true, IfErr, IfOk, OnOk, drop, take, string_bytes}, specs.Str.IsCharBoundary};
+ghost use Rattle.yq_text.{specs.Halves.whole, specs.Script.splice_at};
 ghost use Rattle.yq_batch.specs.Runs as spec;
 
 use std::alloc::{AllocError, Global};

@@ -2,16 +2,12 @@
 //! head is read once.
 ghost use Rattle.std.specs.Prelude.{◌≡◌, true, map, IfErr, IfOk, IfSome, string_bytes};
 ghost use Rattle.yq_core.specs.Entries.{tree_step};
-ghost use Rattle.yq_documents.specs.Located.{steps_of};
-ghost use Rattle.yq_documents.specs.Reading.{cut_of};
+ghost use Rattle.yq_documents.{specs.Located.steps_of, specs.Reading.cut_of};
 ghost use Rattle.yq_places.specs.FlowViews.{ReportsHead};
 ghost use Rattle.yq_semantics.specs.Operations.{operation_of, operations_of};
-ghost use Rattle.yq_edit_laws.specs.Answers.{EditFails};
-ghost use Rattle.yq_edit_laws.specs.Carried.{carry_all, carried};
-ghost use Rattle.yq_edit_laws.specs.Edit.{gives};
-ghost use Rattle.yq_batch.specs.Runs as spec;
-ghost use Rattle.yq_edit_laws.specs.Theorems.{IsFitting};
+ghost use Rattle.yq_edit_laws.{specs.Answers.EditFails, specs.Carried.{carry_all, carried}, specs.Edit.gives, specs.Theorems.IsFitting};
 ghost use Rattle.yq_edit_laws.specs.Valid.{AreServed};
+ghost use Rattle.yq_batch.specs.Runs as spec;
 
 use crate::run::PutRun;
 use std::alloc::{AllocError, Global};

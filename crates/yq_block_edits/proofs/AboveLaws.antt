@@ -1,13 +1,10 @@
 -- The lines above a row, as the code finds them, are those above the rows of an item or entry.
 use Rattle.std.proofs.Common.{◌≡◌, ℕ, Bool, true, false, cond, eqb, List, Option, Some, None, option_map, refl, sym, ap, ◌∙◌}
-use Rattle.yq_core.specs.Answers.{◌>>=◌}
-use Rattle.yq_core.specs.Paths.{Step}
+use Rattle.yq_core.{specs.Answers.◌>>=◌, specs.Paths.Step}
 use Rattle.yq_row_table.specs.Rows.{Cut}
-use Rattle.yq_places.specs.CommentPlaces.{LinesAbove, above_row, lines_above}
-use Rattle.yq_places.specs.PlacedRows.{PlacedRow}
+use Rattle.yq_places.{specs.CommentPlaces.{LinesAbove, above_row, lines_above}, specs.PlacedRows.PlacedRow}
 use Rattle.yq_places.specs.Standings.{RowsOfEntry, rows_of_entry}
-use Rattle.yq_edits.specs.CommentEdits.{above_rows, head_comment_put, head_comment_segments}
-use Rattle.yq_edits.proofs.CommentRowLaws.{entry_row, rows_same}
+use Rattle.yq_edits.{specs.CommentEdits.{above_rows, head_comment_put, head_comment_segments}, proofs.CommentRowLaws.{entry_row, rows_same}}
 
 head_same : (br text : List ℕ) (o : Option RowsOfEntry) → (o >>= head_comment_put br text) ≡ option_map (head_comment_segments br text) (option_map entry_row o >>= λ w. cond (eqb w.line 0) (Some (above_row w)) None)
 head_same br text None = refl

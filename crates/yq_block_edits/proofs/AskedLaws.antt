@@ -1,13 +1,10 @@
 -- Steps for which values of the code ask.
-use Rattle.std.proofs.Common.{◌≡◌, Bool, None, map, sym, ap, String, string_bytes}
-use Rattle.std.specs.declared.alloc.Global.{Global}
-use Rattle.std.specs.Prelude.{Vec}
-use Rattle.yq_core.specs.Tree as tree
-use Rattle.yq_core.specs.declared.value.Value.{Value}
-use Rattle.yq_core.specs.declared.value.Value.TheVariants as values
-use Rattle.yq_core.specs.Values.{entries, entries_of, field_of, value_node}
+use Rattle.std.{proofs.Common.{◌≡◌, Bool, None, map, sym, ap, String, string_bytes}, specs.declared.alloc.Global.Global, specs.Prelude.Vec}
+use Rattle.yq_core.{specs.declared.value.Value.Value, specs.Values.{entries, entries_of, field_of, value_node}}
 use Rattle.yq_core.proofs.NodesWrittenLaws.{node_map, map_twice}
 use Rattle.yq_edits.specs.Layouts.{children_ask, node_asks}
+use Rattle.yq_core.specs.Tree as tree
+use Rattle.yq_core.specs.declared.value.Value.TheVariants as values
 
 -- a mapping asks as its entries do
 map_node : (v : Vec (String Global × Value) Global) → value_node (values.Map v) ≡ tree.map None (entries (map field_of v.items))

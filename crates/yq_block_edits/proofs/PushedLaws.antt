@@ -1,9 +1,6 @@
 -- Segments added to others.
 use Rattle.std.proofs.Common.{◌≡◌, ℕ, true, false, List, [], ◌∷◌, ◌++◌, refl, sym, ap, ◌∙◌, append_assoc, append-nil}
-use Rattle.yq_core.specs.Block.{RawLines}
-use Rattle.yq_core.specs.BlockRepair.{is_short}
-use Rattle.yq_core.specs.Lines.{is_blank}
-use Rattle.yq_core.specs.Text.{joined, text_lines}
+use Rattle.yq_core.{specs.Block.RawLines, specs.BlockRepair.is_short, specs.Lines.is_blank, specs.Text.{joined, text_lines}}
 use Rattle.yq_core.proofs.LineLaws.{joined_lines}
 use Rattle.yq_places.specs.RemovalPlaces.{Seam}
 use Rattle.yq_text.specs.Script.{Segment, keep}

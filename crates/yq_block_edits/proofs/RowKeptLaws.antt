@@ -1,42 +1,20 @@
 -- Whether a value is the scalar in the row of a key or dash.
 use Rattle.std.proofs.Common.{◌≡◌, ℕ, ℤ, Bool, true, false, not, ◌&&◌, ◌||◌, eqb, List, [], ◌∷◌, ◌++◌, Option, Some, refl, sym, ap, ◌∙◌}
-use Rattle.std.proofs.lemmas.Bool.{and_parts, false≢true}
-use Rattle.std.proofs.lemmas.Option.{none-some, same_Some}
-use Rattle.std.specs.Str.{bytes_eq}
-use Rattle.yq_core.specs.Answers.{◌>>=◌}
-use Rattle.yq_core.specs.Paths.{Step}
-use Rattle.yq_core.specs.Plain.{holds_break}
-use Rattle.yq_core.specs.Scalar.{ScalarText, of_kind, plain_of}
-use Rattle.yq_core.specs.SchemaReading.{resolve}
-use Rattle.yq_core.specs.Text.{is_empty}
-use Rattle.yq_core.specs.Tree.{Node}
-use Rattle.yq_core.specs.declared.kind.Kind.{Kind}
-use Rattle.yq_core.specs.declared.kind.Kind.TheVariants as kinds
-use Rattle.yq_core.specs.Nodes.{begins_with}
-use Rattle.yq_core.specs.Scalars.{is_quoted}
-use Rattle.yq_core.specs.Trees.{scalar_node}
-use Rattle.yq_outline.specs.Outline.{anchored}
-use Rattle.yq_row_table.specs.Grammar.{IsContent}
-use Rattle.yq_row_table.specs.Rows.{Content, Nothing, Inline, Block, Cut, cut_text, parent_indent, rows_text}
-use Rattle.yq_row_table.specs.Seams.{is_block}
-use Rattle.yq_row_table.specs.View.{content_cut}
-use Rattle.yq_outline.specs.Lines.{content_anchor, head_of}
-use Rattle.yq_documents.specs.Reading.{content_is_fit, cut_of, read_at}
-use Rattle.yq_documents.specs.RowReading.{read_head, is_block_head, is_short_plain}
-use Rattle.yq_documents.proofs.HeadLaws.{fitting, head_is, head_text}
-use Rattle.yq_places.specs.NodesAt.{node_in, scalar_in}
-use Rattle.yq_places.specs.StandingViews.{IsHeldRow}
-use Rattle.yq_places.specs.Standings.{RowsOfEntry, behind_entry}
-use Rattle.yq_places.specs.declared.places.held_row.HeldRow.{HeldRow}
-use Rattle.yq_documents.proofs.ReadLaws.{exact_reading}
-use Rattle.yq_places.proofs.HeadEnds.{node_begins}
+use Rattle.std.{proofs.lemmas.Bool.{and_parts, false≢true}, proofs.lemmas.Option.{none-some, same_Some}, specs.Str.bytes_eq}
+use Rattle.yq_core.{specs.Answers.◌>>=◌, specs.Paths.Step, specs.Plain.holds_break, specs.Scalar.{ScalarText, of_kind, plain_of}}
+use Rattle.yq_core.{specs.SchemaReading.resolve, specs.Text.is_empty, specs.Tree.Node, specs.declared.kind.Kind.Kind}
+use Rattle.yq_core.{specs.Nodes.begins_with, specs.Scalars.is_quoted, specs.Trees.scalar_node}
+use Rattle.yq_outline.{specs.Outline.anchored, specs.Lines.{content_anchor, head_of}}
+use Rattle.yq_row_table.{specs.Grammar.IsContent, specs.Rows.{Content, Nothing, Inline, Block, Cut, cut_text, parent_indent, rows_text}}
+use Rattle.yq_row_table.{specs.Seams.is_block, specs.View.content_cut}
+use Rattle.yq_documents.{specs.Reading.{content_is_fit, cut_of, read_at}, specs.RowReading.{read_head, is_block_head, is_short_plain}}
+use Rattle.yq_documents.{proofs.HeadLaws.{fitting, head_is, head_text}, proofs.ReadLaws.exact_reading}
+use Rattle.yq_places.{specs.NodesAt.{node_in, scalar_in}, specs.StandingViews.IsHeldRow, specs.Standings.{RowsOfEntry, behind_entry}}
+use Rattle.yq_places.{specs.declared.places.held_row.HeldRow.HeldRow, proofs.HeadEnds.node_begins}
 use Rattle.yq_places.proofs.HeldRowLaws.{no_root_rows, not_so}
-use Rattle.yq_edits.specs.StandingLaws.{StandsThere}
-use Rattle.yq_edits.proofs.RowStayLaws.{rows_stay_there}
-use Rattle.yq_edits.proofs.StandingMarks.{row_there}
-use Rattle.yq_edits.proofs.StandingRows.{rows_stand}
-use Rattle.yq_edits.specs.Replacing.{are_same, keeps_scalar, may_spell}
-use Rattle.yq_edits.specs.Style.{is_same, table_row}
+use Rattle.yq_edits.{specs.StandingLaws.StandsThere, proofs.RowStayLaws.rows_stay_there, proofs.StandingMarks.row_there}
+use Rattle.yq_edits.{proofs.StandingRows.rows_stand, specs.Replacing.{are_same, keeps_scalar, may_spell}, specs.Style.{is_same, table_row}}
+use Rattle.yq_core.specs.declared.kind.Kind.TheVariants as kinds
 
 -- ---- a plain text that a scalar can't have
 

@@ -2,13 +2,12 @@
 ghost use Rattle.std.specs.Prelude.{◌≡◌, ◌++◌, IfOk, OnOk, string_bytes};
 ghost use Rattle.yq_core.specs.Values.{value_node};
 ghost use Rattle.yq_outline.specs.Bodies.{borrowed};
-ghost use Rattle.yq_documents.specs.Located.{steps_of};
-ghost use Rattle.yq_documents.specs.Reading.{cut_of};
+ghost use Rattle.yq_documents.{specs.Located.steps_of, specs.Reading.cut_of};
 ghost use Rattle.yq_text.specs.Halves.{whole};
 ghost use Rattle.yq_places.specs.StandingViews.{held_view};
+ghost use Rattle.yq_edits.specs.Answers.{GivesSegments};
 ghost use Rattle.yq_edits.specs.EntryEdits as spec;
 ghost use Rattle.yq_edits.specs.Layouts as layouts;
-ghost use Rattle.yq_edits.specs.Answers.{GivesSegments};
 
 use crate::layout::layout_for;
 use std::alloc::{AllocError, Global};

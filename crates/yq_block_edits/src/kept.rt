@@ -1,11 +1,9 @@
 //! Whether a value is the scalar that stands at a path: such a Replace leaves the bytes alone.
 ghost use Rattle.std.specs.Prelude.{◌≡◌, IfOk, Some, is_some, true};
 ghost use Rattle.yq_core.specs.Scalar.{plain_of};
+ghost use Rattle.yq_places.{specs.NodesAt.{node_in, scalar_in}, specs.StandingViews.IsHeldRow};
+ghost use Rattle.yq_documents.{specs.Located.steps_of, specs.Reading.cut_of};
 ghost use Rattle.yq_core.specs.Values as values;
-ghost use Rattle.yq_places.specs.NodesAt.{node_in, scalar_in};
-ghost use Rattle.yq_documents.specs.Located.{steps_of};
-ghost use Rattle.yq_documents.specs.Reading.{cut_of};
-ghost use Rattle.yq_places.specs.StandingViews.{IsHeldRow};
 ghost use Rattle.yq_edits.specs.Replacing as spec;
 ghost use Rattle.yq_edits.specs.Style as style;
 

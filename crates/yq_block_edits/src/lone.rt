@@ -1,8 +1,7 @@
 //! A value in the place of a node that isn't behind a key or dash.
 ghost use Rattle.std.specs.Prelude.{◌≡◌, IfOk, string_bytes};
 ghost use Rattle.yq_text.specs.Halves.{whole};
-ghost use Rattle.yq_core.specs.Values.{value_node};
-ghost use Rattle.yq_core.specs.BlockWritten.{break_text};
+ghost use Rattle.yq_core.{specs.Values.value_node, specs.BlockWritten.break_text};
 ghost use Rattle.yq_places.specs.StandingViews.{lone_view, no_rows_view, root_view};
 ghost use Rattle.yq_edits.specs.BlockText.{block_value};
 ghost use Rattle.yq_edits.specs.ClosedTexts as closed;

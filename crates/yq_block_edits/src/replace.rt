@@ -1,17 +1,11 @@
 //! Replace, outside flow collections: a value in the place of what stands there.
-ghost use Rattle.std.specs.List.{list_any};
-ghost use Rattle.std.specs.Prelude.{◌≡◌, IfOk, not};
-ghost use Rattle.yq_core.specs.Values.{value_node};
-ghost use Rattle.yq_core.specs.Tree.{Node as NodeOf};
-ghost use Rattle.yq_core.specs.Text.{is_feed};
-ghost use Rattle.yq_documents.specs.Located.{steps_of};
-ghost use Rattle.yq_documents.specs.Reading.{cut_of};
-ghost use Rattle.yq_places.specs.NodesAt.{node_in};
-ghost use Rattle.yq_places.specs.StandingViews.{standing_view};
-ghost use Rattle.yq_edits.specs.declared.layout.Layout.{Layout as LayoutOf};
+ghost use Rattle.std.{specs.List.list_any, specs.Prelude.{◌≡◌, IfOk, not}};
+ghost use Rattle.yq_core.{specs.Values.value_node, specs.Tree.Node as NodeOf, specs.Text.is_feed};
+ghost use Rattle.yq_documents.{specs.Located.steps_of, specs.Reading.cut_of};
+ghost use Rattle.yq_places.{specs.NodesAt.node_in, specs.StandingViews.standing_view};
+ghost use Rattle.yq_edits.{specs.declared.layout.Layout.Layout as LayoutOf, specs.Answers.GivesSegments};
 ghost use Rattle.yq_edits.specs.Layouts as layouts;
 ghost use Rattle.yq_edits.specs.ReplaceEdits as spec;
-ghost use Rattle.yq_edits.specs.Answers.{GivesSegments};
 
 mod block;
 mod held;

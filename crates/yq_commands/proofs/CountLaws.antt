@@ -1,12 +1,11 @@
 -- Counts of failures, one answer more.
-use Rattle.std.proofs.Common.{◌≡◌, inl, inr, ℕ, ◌+◌, ◌-◌, ◌^◌, ◌<◌, min, Bool, true, false, if◌then◌else◌, List, [], ◌∷◌, ◌++◌, Result, Ok, Err, MatchResult, IfErr, sym, ap, ◌∙◌, subst, refl, arith}
+use Rattle.std.proofs.Common.{◌≡◌, inl, inr, ℕ, ◌+◌, ◌-◌, ◌^◌, ◌<◌, min, Bool, true, false, if◌then◌else◌, List, [], ◌∷◌, ◌++◌, Result, Ok}
+use Rattle.std.proofs.Common.{Err, MatchResult, IfErr, sym, ap, ◌∙◌, subst, refl, arith}
 use Rattle.yq_commands.specs.declared.answer.Answer.{Answer}
-use Rattle.yq_history.specs.declared.fault.Fault.{Fault}
-use Rattle.yq_store.specs.Count.{count_plus_one}
-use Rattle.yq_history.specs.Faults.{is_output, failures_after}
 use Rattle.yq_commands.specs.Lists.{IsAnswer, reports_failure, reports_output, count_passing, failures_in, output_failures_in}
-use Rattle.yq_history.specs.Report.{Report}
 use Rattle.yq_commands.proofs.ReplyLaws.{no_failure}
+use Rattle.yq_history.{specs.declared.fault.Fault.Fault, specs.Faults.{is_output, failures_after}, specs.Report.Report}
+use Rattle.yq_store.specs.Count.{count_plus_one}
 
 -- the count of the answers that tell something, one answer more
 pub passing_more : (passes : Answer → Bool) (rs : List Answer) (a : Answer) → count_passing passes (rs ++ a ∷ []) ≡ count_passing passes rs + (if passes a then 1 else 0)

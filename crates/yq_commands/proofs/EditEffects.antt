@@ -1,23 +1,21 @@
 -- The effects of edits, from the contracts of the calls of which they are made.
-use Rattle.std.proofs.Common.{◌≡◌, ◌≢◌, ℕ, Bool, true, false, nat_le, List, [], length, Option, Some, None, Result, Ok, Err, MatchBool, if◌then◌else◌, sym, ap, ◌∙◌, subst, refl}
+use Rattle.std.proofs.Common.{◌≡◌, ◌≢◌, ℕ, Bool, true, false, nat_le, List, [], length, Option, Some, None, Result, Ok, Err, MatchBool}
+use Rattle.std.proofs.Common.{if◌then◌else◌, sym, ap, ◌∙◌, subst, refl}
 use Rattle.yq_semantics.specs.Program.{Program}
 use Rattle.yq_text.specs.Splice.{Splice}
-use Rattle.yq_journal.specs.declared.fault.JournalFault.TheVariants as journal
-use Rattle.yq_journal.specs.declared.moves.Move.TheVariants as move
-use Rattle.yq_journal.specs.Record.{Record}
-use Rattle.yq_journal.specs.Refusals.{most_records, no_way}
+use Rattle.yq_journal.{specs.Record.Record, specs.Refusals.{most_records, no_way}}
 use Rattle.yq_journal.specs.State.{State, journal_after, moved_text, with_move}
 use Rattle.yq_history.specs.declared.fault.Fault.{Fault}
-use Rattle.yq_history.specs.declared.fault.Fault.TheVariants as fault
+use Rattle.yq_history.{specs.Effects.{Effect, refuses, writes_nothing, from_pair, goes_to, move_effect, Works}, specs.Faults.is_outer_fault}
+use Rattle.yq_history.{specs.Causes.named, proofs.EffectLaws.{works_outside, works_refused, works_carried}}
+use Rattle.yq_history.proofs.MoveLaws.{IsMove, bytes_differ}
 use Rattle.yq_store.specs.FileMap.{FileMap}
 use Rattle.yq_commands.specs.CommandEffects.{edit_effect, edit_writes, update_effect}
-use Rattle.yq_history.specs.Effects.{Effect, refuses, writes_nothing, from_pair, goes_to, move_effect, Works}
 use Rattle.yq_commands.specs.Editing.{EditOutcome, unreadable, refused, edited, Refuses, program_in, program_edits}
 use Rattle.yq_commands.specs.Edits.{edit_record}
-use Rattle.yq_history.specs.Faults.{is_outer_fault}
-use Rattle.yq_history.specs.Causes.{named}
-use Rattle.yq_history.proofs.EffectLaws.{works_outside, works_refused, works_carried}
-use Rattle.yq_history.proofs.MoveLaws.{IsMove, bytes_differ}
+use Rattle.yq_journal.specs.declared.fault.JournalFault.TheVariants as journal
+use Rattle.yq_journal.specs.declared.moves.Move.TheVariants as move
+use Rattle.yq_history.specs.declared.fault.Fault.TheVariants as fault
 
 -- a fault that is told where it isn't want of memory
 inside_memory : {P : Type 0} (e : Fault) → is_outer_fault e ≡ false → (e ≢ fault.OutOfMemory → P) → P

@@ -1,25 +1,17 @@
 -- How an edit of a pair ends.
-use Rattle.std.proofs.Common.{◌≡◌, ◌≢◌, ◌⊎◌, ℕ, Bool, true, false, nat_le, List, length, Some, None, Result, Ok, OnOk, OnErr, if◌then◌else◌, sym, ap, ◌∙◌, subst, refl}
-use Rattle.std.proofs.lemmas.Bool.{eq-eqb}
-use Rattle.std.proofs.lemmas.Option.{none-some}
+use Rattle.std.proofs.Common.{◌≡◌, ◌≢◌, ◌⊎◌, ℕ, Bool, true, false, nat_le, List, length, Some, None, Result, Ok, OnOk, OnErr, if◌then◌else◌}
+use Rattle.std.{proofs.Common.{sym, ap, ◌∙◌, subst, refl}, proofs.lemmas.Bool.eq-eqb, proofs.lemmas.Option.none-some}
 use Rattle.yq_semantics.specs.Program.{Program}
 use Rattle.yq_text.specs.Splice.{Splice, all_done}
-use Rattle.yq_journal.specs.declared.fault.JournalFault.TheVariants as journal
-use Rattle.yq_journal.specs.declared.moves.Move.TheVariants.{Edit}
-use Rattle.yq_journal.specs.Good.{after_move}
-use Rattle.yq_journal.specs.History.{History, text_at, after_edit}
-use Rattle.yq_journal.specs.Record.{Record, done, if_length}
-use Rattle.yq_journal.specs.Refusals.{no_way, most_records}
-use Rattle.yq_journal.specs.State.{State}
-use Rattle.yq_history.specs.declared.fault.Fault.{Fault}
-use Rattle.yq_history.specs.declared.fault.Fault.TheVariants.{JournalFull}
-use Rattle.yq_history.specs.Causes.{IsFor, named}
-use Rattle.yq_store.specs.FileMap.{FileMap}
-use Rattle.yq_commands.specs.Editing.{edited, program_edits}
-use Rattle.yq_commands.specs.Edits.{edit_record}
+use Rattle.yq_journal.{specs.declared.moves.Move.TheVariants.Edit, specs.Good.after_move, specs.History.{History, text_at, after_edit}}
+use Rattle.yq_journal.{specs.Record.{Record, done, if_length}, specs.Refusals.{no_way, most_records}, specs.State.State}
+use Rattle.yq_history.{specs.declared.fault.Fault.Fault, specs.declared.fault.Fault.TheVariants.JournalFull, specs.Causes.{IsFor, named}}
 use Rattle.yq_history.specs.Pair.{Arrives, PairAtRest, PairStands}
-use Rattle.yq_commands.specs.CommandSteps.{edit_cause, edit_next, update_cause, update_next}
 use Rattle.yq_history.proofs.MoveLaws.{IsMove, bytes_differ, is_refused, ends, same_content, fault_outside}
+use Rattle.yq_store.specs.FileMap.{FileMap}
+use Rattle.yq_commands.{specs.Editing.{edited, program_edits}, specs.Edits.edit_record}
+use Rattle.yq_commands.specs.CommandSteps.{edit_cause, edit_next, update_cause, update_next}
+use Rattle.yq_journal.specs.declared.fault.JournalFault.TheVariants as journal
 
 -- the record of an edit leads to its text
 pub edit_done : (expr : List ℕ) (cs : List Splice) (t u : List ℕ) → all_done cs t ≡ Some u → done (edit_record expr cs (length t) (length u)) t ≡ Some u

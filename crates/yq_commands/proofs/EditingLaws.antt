@@ -1,20 +1,15 @@
 -- Texts without a reading, and why a program is refused on a text.
 use Rattle.std.proofs.Common.{◌≡◌, ◌≢◌, ℕ, List, true, false, if◌then◌else◌, None, refl, sym, ap, subst, ◌∙◌, true≢false}
 use Rattle.std.specs.Str.{is_utf8}
-use Rattle.yq_core.specs.declared.ReadFault.{ReadFault}
-use Rattle.yq_core.specs.declared.fault.FaultKind.TheVariants.{NotUtf8}
+use Rattle.yq_core.{specs.declared.ReadFault.ReadFault, specs.declared.fault.FaultKind.TheVariants.NotUtf8}
 use Rattle.yq_documents.specs.Reading.{read_at, checked_at}
 use Rattle.yq_semantics.specs.Program.{Program}
-use Rattle.yq_edit_laws.specs.Carried.{edit_of, program_done}
-use Rattle.yq_edit_laws.specs.Edit.{by_reading}
-use Rattle.yq_edit_laws.specs.Answers.{EditFails}
+use Rattle.yq_edit_laws.{specs.Carried.{edit_of, program_done}, specs.Edit.by_reading, specs.Answers.EditFails}
 use Rattle.yq_edit_laws.specs.declared.edit_error.EditError.{EditError}
-use Rattle.yq_edit_laws.specs.declared.edit_error.EditError.TheVariants as error
-use Rattle.yq_history.specs.declared.fault.Fault.{Fault}
-use Rattle.yq_history.specs.declared.fault.Fault.TheVariants.{OutOfMemory, Unreadable}
+use Rattle.yq_history.{specs.declared.fault.Fault.Fault, specs.declared.fault.Fault.TheVariants.{OutOfMemory, Unreadable}}
 use Rattle.yq_history.specs.Causes.{IsUnreadable}
-use Rattle.yq_commands.specs.Editing.{Refuses, program_edits, unreadable, edit_outcome}
-use Rattle.yq_commands.specs.CommandFaults.{of_edit, of_refusal}
+use Rattle.yq_commands.{specs.Editing.{Refuses, program_edits, unreadable, edit_outcome}, specs.CommandFaults.{of_edit, of_refusal}}
+use Rattle.yq_edit_laws.specs.declared.edit_error.EditError.TheVariants as error
 
 -- bytes that are no UTF-8
 pub not_read : (t : List ℕ) → is_utf8 t ≡ false → read_at t ≡ None

@@ -1,21 +1,13 @@
 -- What a command comes to, by the contract of the call that carries it out.
-use Rattle.std.proofs.Common.{◌≡◌, ◌≢◌, ℕ, Bool, List, Option, Result, Ok, Err, OnOk, sym, ◌∙◌, subst}
-use Rattle.std.specs.FinMap.{get}
-use Rattle.yq_journal.specs.State.{State}
-use Rattle.yq_journal.specs.History.{History}
-use Rattle.yq_history.specs.declared.fault.Fault.{Fault}
-use Rattle.yq_history.specs.Causes.{Cause}
-use Rattle.yq_history.specs.Effects.{Effect, Works, from_names}
-use Rattle.yq_history.specs.Pair.{Arrives, GoodIn, OthersStay}
-use Rattle.yq_history.specs.Report.{Report}
+use Rattle.std.{proofs.Common.{◌≡◌, ◌≢◌, ℕ, Bool, List, Option, Result, Ok, Err, OnOk, sym, ◌∙◌, subst}, specs.FinMap.get}
+use Rattle.yq_journal.{specs.State.State, specs.History.History}
+use Rattle.yq_history.{specs.declared.fault.Fault.Fault, specs.Causes.Cause, specs.Effects.{Effect, Works, from_names}}
+use Rattle.yq_history.{specs.Pair.{Arrives, GoodIn, OthersStay}, specs.Report.Report}
 use Rattle.yq_args.specs.declared.command.Command.{Command}
 use Rattle.yq_store.specs.FileMap.{FileMap}
-use Rattle.yq_commands.specs.CommandEffects.{IsListing, OfEffect, update_effect}
-use Rattle.yq_commands.specs.CommandNames.{Differs, IsNotNamed, IsOn}
-use Rattle.yq_commands.specs.CommandSteps.{cause_of, next_of, update_cause, update_next}
-use Rattle.yq_commands.specs.Editing.{program_in}
-use Rattle.yq_commands.specs.Evaluation.{cause_in, evaluated, report_in}
-use Rattle.yq_commands.specs.FileEdits.{HasEdited, IsFileEdited, PrintsEdited}
+use Rattle.yq_commands.{specs.CommandEffects.{IsListing, OfEffect, update_effect}, specs.CommandNames.{Differs, IsNotNamed, IsOn}}
+use Rattle.yq_commands.{specs.CommandSteps.{cause_of, next_of, update_cause, update_next}, specs.Editing.program_in}
+use Rattle.yq_commands.{specs.Evaluation.{cause_in, evaluated, report_in}, specs.FileEdits.{HasEdited, IsFileEdited, PrintsEdited}}
 use Rattle.yq_commands.specs.Prints.{report_of}
 
 -- ---- what is promised of a command, clause by clause

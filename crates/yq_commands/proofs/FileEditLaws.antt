@@ -3,14 +3,9 @@ use Rattle.std.proofs.Common.{◌≡◌, ◌≢◌, ℕ, List, false, Option, So
 use Rattle.std.proofs.lemmas.Option.{same_Some, none-some}
 use Rattle.yq_semantics.specs.Program.{Program, is_read, updates}
 use Rattle.yq_text.specs.declared.edited.Edited.{Edited}
-use Rattle.yq_edit_laws.specs.Answers.{Edits}
-use Rattle.yq_edit_laws.specs.Carried.{edit_of}
-use Rattle.yq_edit_laws.specs.Theorems.{IsEdited}
-use Rattle.yq_edit_laws.specs.declared.edit_error.EditError.{EditError}
-use Rattle.yq_history.specs.declared.fault.Fault.{Fault}
-use Rattle.yq_history.specs.declared.fault.Fault.TheVariants.{OutOfMemory}
-use Rattle.yq_commands.specs.CommandEffects.{IsUnparsed, fault_of}
-use Rattle.yq_commands.specs.Editing.{program_in}
+use Rattle.yq_edit_laws.{specs.Answers.Edits, specs.Carried.edit_of, specs.Theorems.IsEdited, specs.declared.edit_error.EditError.EditError}
+use Rattle.yq_history.{specs.declared.fault.Fault.Fault, specs.declared.fault.Fault.TheVariants.OutOfMemory}
+use Rattle.yq_commands.{specs.CommandEffects.{IsUnparsed, fault_of}, specs.Editing.program_in}
 use Rattle.yq_commands.specs.FileEdits.{HoldsEdited, IsFileEdited, IsTextEdited, PrintsEdited}
 
 -- ---- an expression that is no program

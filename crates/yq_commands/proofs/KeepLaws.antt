@@ -1,40 +1,29 @@
 -- What a command leaves of the store's names, and a list of them.
-use Rattle.std.proofs.Common.{◌≡◌, ◌≢◌, ◌⊎◌, inl, inr, ℕ, Bool, true, false, ◌||◌, nat_le, length, ◌==◌, if◌then◌else◌, List, [], ◌∷◌, ◌++◌, Option, Some, None, Result, Ok, Err, OnOk, MatchBool, IfErr, sym, ap, ◌∙◌, subst, refl}
-use Rattle.std.proofs.lemmas.List.Elements.{All-head, All-tail}
-use Rattle.std.specs.Str.{bytes_eq}
-use Rattle.std.specs.FinMap.{get}
-use Rattle.std.specs.String.{string_bytes}
+use Rattle.std.proofs.Common.{◌≡◌, ◌≢◌, ◌⊎◌, inl, inr, ℕ, Bool, true, false, ◌||◌, nat_le, length, ◌==◌, if◌then◌else◌, List, [], ◌∷◌, ◌++◌}
+use Rattle.std.proofs.Common.{Option, Some, None, Result, Ok, Err, OnOk, MatchBool, IfErr, sym, ap, ◌∙◌, subst, refl}
+use Rattle.std.{proofs.lemmas.List.Elements.{All-head, All-tail}, specs.Str.bytes_eq, specs.FinMap.get, specs.String.string_bytes}
 use Rattle.yq_semantics.specs.Program.{Program}
-use Rattle.yq_journal.specs.declared.moves.Move.{Move}
-use Rattle.yq_journal.specs.declared.moves.Move.TheVariants as move
-use Rattle.yq_journal.specs.Good.{Good, journal_beside}
-use Rattle.yq_journal.specs.History.{History}
+use Rattle.yq_journal.{specs.declared.moves.Move.Move, specs.Good.{Good, journal_beside}, specs.History.History}
 use Rattle.yq_journal.specs.Refusals.{most_records, no_way, squash_fault}
 use Rattle.yq_journal.specs.State.{State, journal_after, moved_text, with_move, settled_beside, squashed}
-use Rattle.yq_commands.specs.declared.answer.Answer.{Answer}
-use Rattle.yq_commands.specs.declared.answer.Answer.TheVariants.{Done, Refused}
+use Rattle.yq_commands.{specs.declared.answer.Answer.Answer, specs.declared.answer.Answer.TheVariants.{Done, Refused}}
+use Rattle.yq_commands.specs.Editing.{EditOutcome, unreadable, refused, edited, program_edits, program_in}
+use Rattle.yq_commands.specs.CommandEffects.{edit_effect, edit_writes, update_effect, OfEffect, IsListing, IsUnparsed, expression_fault}
+use Rattle.yq_commands.{specs.FileEdits.HasEdited, specs.Edits.edit_record, specs.CommandNames.{IsOn, IsNotNamed}}
+use Rattle.yq_commands.specs.Lists.{answer_by, IsUnrelated, AllOnOrApart, Reply, IsAnswer, Goes, Run, ReportsEffect, HasEffect, RunsTo}
+use Rattle.yq_commands.{specs.Lists.{Keeps, ReportsUnparsed, is_inner_refusal}, specs.Prints.{report_of, prints, reads_journal}}
+use Rattle.yq_commands.{specs.CommandSteps.{cause_of, next_of}, proofs.ReplyLaws.{reply, reply-answer, reply-printed, no_refusal}}
+use Rattle.yq_commands.proofs.ListLaws.{arrived, not_true}
 use Rattle.yq_args.specs.declared.command.Command.{Command}
 use Rattle.yq_args.specs.declared.command.Command.TheVariants.{Eval, Undo, Redo, History as Lists, Squash, Help}
-use Rattle.yq_history.specs.declared.fault.Fault.{Fault}
-use Rattle.yq_history.specs.declared.fault.Fault.TheVariants as fault
-use Rattle.yq_history.specs.Causes.{named}
+use Rattle.yq_history.{specs.declared.fault.Fault.Fault, specs.Causes.named}
+use Rattle.yq_history.specs.Effects.{Effect, refuses, writes_nothing, writes_both, from_settled, from_journal, from_pair, leads_to, goes_to}
+use Rattle.yq_history.specs.Effects.{move_effect, joins_to, squash_effect, listing_effect, printed_by, Works}
+use Rattle.yq_history.{specs.Faults.{is_outer_fault, is_output}, specs.Pair.{GoodIn, Arrives}, specs.Report.{Report, nothing}}
+use Rattle.yq_history.{proofs.EffectLaws.on_ok, proofs.PairLaws.same_pair}
 use Rattle.yq_store.specs.FileMap.{FileMap}
-use Rattle.yq_commands.specs.Editing.{EditOutcome, unreadable, refused, edited, program_edits, program_in}
-use Rattle.yq_history.specs.Effects.{Effect, refuses, writes_nothing, writes_both, from_settled, from_journal, from_pair, leads_to, goes_to, move_effect, joins_to, squash_effect, listing_effect, printed_by, Works}
-use Rattle.yq_commands.specs.CommandEffects.{edit_effect, edit_writes, update_effect, OfEffect, IsListing, IsUnparsed, expression_fault}
-use Rattle.yq_commands.specs.FileEdits.{HasEdited}
-use Rattle.yq_commands.specs.Edits.{edit_record}
-use Rattle.yq_history.specs.Faults.{is_outer_fault, is_output}
-use Rattle.yq_commands.specs.CommandNames.{IsOn, IsNotNamed}
-use Rattle.yq_commands.specs.Lists.{answer_by, IsUnrelated, AllOnOrApart, Reply, IsAnswer, Goes, Run, ReportsEffect, HasEffect, RunsTo, Keeps, ReportsUnparsed, is_inner_refusal}
-use Rattle.yq_history.specs.Pair.{GoodIn, Arrives}
-use Rattle.yq_commands.specs.Prints.{report_of, prints, reads_journal}
-use Rattle.yq_history.specs.Report.{Report, nothing}
-use Rattle.yq_commands.specs.CommandSteps.{cause_of, next_of}
-use Rattle.yq_history.proofs.EffectLaws.{on_ok}
-use Rattle.yq_history.proofs.PairLaws.{same_pair}
-use Rattle.yq_commands.proofs.ReplyLaws.{reply, reply-answer, reply-printed, no_refusal}
-use Rattle.yq_commands.proofs.ListLaws.{arrived, not_true}
+use Rattle.yq_journal.specs.declared.moves.Move.TheVariants as move
+use Rattle.yq_history.specs.declared.fault.Fault.TheVariants as fault
 
 -- ---- what effects print: of these but a listing nothing
 

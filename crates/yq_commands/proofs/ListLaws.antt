@@ -1,33 +1,25 @@
 -- Runs of commands.
-use Rattle.std.proofs.Common.{◌≡◌, ◌≢◌, ◌⊎◌, inl, inr, ℕ, ◌+◌, Bool, true, false, ◌&&◌, not, nat_le, if◌then◌else◌, List, [], ◌∷◌, Option, Some, None, Result, Ok, Err, OnOk, MatchBool, IfErr, option_map, sym, ap, ◌∙◌, subst, refl, arith}
-use Rattle.std.proofs.lemmas.Bool.{and_parts}
-use Rattle.std.proofs.lemmas.Option.{none-some}
-use Rattle.std.specs.List.{list_all}
-use Rattle.std.specs.Str.{bytes_eq}
+use Rattle.std.proofs.Common.{◌≡◌, ◌≢◌, ◌⊎◌, inl, inr, ℕ, ◌+◌, Bool, true, false, ◌&&◌, not, nat_le, if◌then◌else◌, List, [], ◌∷◌, Option}
+use Rattle.std.proofs.Common.{Some, None, Result, Ok, Err, OnOk, MatchBool, IfErr, option_map, sym, ap, ◌∙◌, subst, refl, arith}
+use Rattle.std.{proofs.lemmas.Bool.and_parts, proofs.lemmas.Option.none-some, specs.List.list_all, specs.Str.bytes_eq}
 use Rattle.std.specs.String.{string_bytes}
 use Rattle.yq_semantics.specs.Program.{Program}
-use Rattle.yq_journal.specs.declared.moves.Move.{Move}
-use Rattle.yq_journal.specs.declared.moves.Move.TheVariants as move
-use Rattle.yq_journal.specs.Good.{after_move, squash_refusal, step_fault}
-use Rattle.yq_journal.specs.History.{History, text_at, after_edit, after_squash}
-use Rattle.yq_journal.specs.Refusals.{most_records}
-use Rattle.yq_commands.specs.declared.answer.Answer.{Answer}
-use Rattle.yq_commands.specs.declared.answer.Answer.TheVariants.{Done, NoMatch, Refused}
+use Rattle.yq_journal.{specs.declared.moves.Move.Move, specs.Good.{after_move, squash_refusal, step_fault}}
+use Rattle.yq_journal.{specs.History.{History, text_at, after_edit, after_squash}, specs.Refusals.most_records}
+use Rattle.yq_commands.{specs.declared.answer.Answer.Answer, specs.declared.answer.Answer.TheVariants.{Done, NoMatch, Refused}}
+use Rattle.yq_commands.specs.Editing.{EditOutcome, unreadable, refused, edited, program_edits, program_in}
+use Rattle.yq_commands.specs.Lists.{answer_by, Reply, answers_in, IsAnswer, CommandRefused, IsCarriedOut, RunsCommand, Goes, Run, IsReply}
+use Rattle.yq_commands.specs.Lists.{GoesExactly, RunExactly, reports_failure, reports_output, count_passing, failures_in}
+use Rattle.yq_commands.{specs.Lists.{output_failures_in, is_memory, has_memory}, specs.Prints.report_of}
+use Rattle.yq_commands.{specs.CommandSteps.{cause_of, next_of, edit_cause, edit_next, update_cause, update_next}, proofs.ReplyLaws.reply}
 use Rattle.yq_args.specs.declared.command.Command.{Command}
 use Rattle.yq_args.specs.declared.command.Command.TheVariants.{Eval, Undo, Redo, History as Lists, Squash, Help}
-use Rattle.yq_history.specs.declared.fault.Fault.{Fault}
-use Rattle.yq_history.specs.declared.fault.Fault.TheVariants as fault
-use Rattle.yq_history.specs.Causes.{Cause, IsFor, named}
-use Rattle.yq_store.specs.FileMap.{FileMap}
-use Rattle.yq_commands.specs.Editing.{EditOutcome, unreadable, refused, edited, program_edits, program_in}
-use Rattle.yq_history.specs.Faults.{is_failure, is_outer_fault, is_output, of_fault}
-use Rattle.yq_commands.specs.Lists.{answer_by, Reply, answers_in, IsAnswer, CommandRefused, IsCarriedOut, RunsCommand, Goes, Run, IsReply, GoesExactly, RunExactly, reports_failure, reports_output, count_passing, failures_in, output_failures_in, is_memory, has_memory}
-use Rattle.yq_history.specs.Pair.{GoodIn, Arrives}
-use Rattle.yq_commands.specs.Prints.{report_of}
-use Rattle.yq_history.specs.Report.{Report}
-use Rattle.yq_commands.specs.CommandSteps.{cause_of, next_of, edit_cause, edit_next, update_cause, update_next}
+use Rattle.yq_history.{specs.declared.fault.Fault.Fault, specs.Causes.{Cause, IsFor, named}}
+use Rattle.yq_history.{specs.Faults.{is_failure, is_outer_fault, is_output, of_fault}, specs.Pair.{GoodIn, Arrives}, specs.Report.Report}
 use Rattle.yq_history.specs.Steps.{unless_fault, move_cause, move_next, squash_cause, squash_next}
-use Rattle.yq_commands.proofs.ReplyLaws.{reply}
+use Rattle.yq_store.specs.FileMap.{FileMap}
+use Rattle.yq_journal.specs.declared.moves.Move.TheVariants as move
+use Rattle.yq_history.specs.declared.fault.Fault.TheVariants as fault
 
 -- a command that prints leaves its history
 printing_stays : (c : Command) (h : Option History) → (report_of c h).printed ≢ [] → next_of c h ≡ h

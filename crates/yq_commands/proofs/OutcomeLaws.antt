@@ -1,16 +1,12 @@
 -- How a command ends, by how a call within it ended.
 use Rattle.std.proofs.Common.{◌≡◌, inl, inr, ℕ, false, List, Option, Some, None, Result, Ok, Err, IfErr, Vec, sym, ap, subst, refl}
 use Rattle.std.specs.declared.alloc.Global.{Global}
-use Rattle.yq_journal.specs.History.{History}
-use Rattle.yq_journal.specs.State.{State}
+use Rattle.yq_journal.{specs.History.History, specs.State.State}
 use Rattle.yq_semantics.specs.Program.{Program}
 use Rattle.yq_store.specs.FileMap.{FileMap}
-use Rattle.yq_history.specs.declared.fault.Fault.{Fault}
-use Rattle.yq_history.specs.declared.fault.Fault.TheVariants.{NotThere, OutOfMemory}
-use Rattle.yq_history.specs.Causes.{Cause, IsFor, named}
-use Rattle.yq_history.specs.Faults.{failures_after, is_outer_fault, is_output}
-use Rattle.yq_history.specs.Pair.{Arrives, GoodIn, Opens, PairAtRest}
-use Rattle.yq_history.proofs.MoveLaws.{cut, is_refused}
+use Rattle.yq_history.{specs.declared.fault.Fault.Fault, specs.declared.fault.Fault.TheVariants.{NotThere, OutOfMemory}}
+use Rattle.yq_history.{specs.Causes.{Cause, IsFor, named}, specs.Faults.{failures_after, is_outer_fault, is_output}}
+use Rattle.yq_history.{specs.Pair.{Arrives, GoodIn, Opens, PairAtRest}, proofs.MoveLaws.{cut, is_refused}}
 
 -- what is told of an error
 pub told : {T : Type 0} (P : Fault → Type 0) (r : Result T Fault) (e : Fault) → r ≡ Err e → P e → IfErr r P

@@ -1,9 +1,7 @@
 -- Matches as they are printed, one after the other.
-use Rattle.std.proofs.Common.{◌≡◌, ◌&&◌, List, [], ◌∷◌, ap, refl}
-use Rattle.std.specs.List.{list_all}
+use Rattle.std.{proofs.Common.{◌≡◌, ◌&&◌, List, [], ◌∷◌, ap, refl}, specs.List.list_all}
 use Rattle.yq_core.specs.Values.{value_node}
-use Rattle.yq_eval.specs.declared.matched.Match.{Match}
-use Rattle.yq_eval.specs.MatchView.{matches_of}
+use Rattle.yq_eval.{specs.declared.matched.Match.Match, specs.MatchView.matches_of}
 use Rattle.yq_commands.specs.Reads.{is_no_match, have_no_match}
 
 -- matches that are all none for `-e`, each by itself

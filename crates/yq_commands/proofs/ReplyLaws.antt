@@ -1,12 +1,10 @@
 -- Replies, and the bytes that the output took of them.
-use Rattle.std.proofs.Common.{◌≡◌, inl, inr, ℕ, ◌+◌, ◌-◌, ◌^◌, ◌<◌, min, Bool, true, false, if◌then◌else◌, List, [], ◌∷◌, ◌++◌, append_assoc, Result, Ok, Err, MatchResult, sym, ap, ap₂, ◌∙◌, refl, arith}
-use Rattle.std.proofs.lemmas.List.{append-nil}
-use Rattle.yq_commands.specs.declared.answer.Answer.{Answer}
-use Rattle.yq_commands.specs.declared.answer.Answer.TheVariants.{Done, NoMatch, Refused}
-use Rattle.yq_history.specs.declared.fault.Fault.{Fault}
-use Rattle.yq_store.specs.Count.{count_plus_one}
+use Rattle.std.proofs.Common.{◌≡◌, inl, inr, ℕ, ◌+◌, ◌-◌, ◌^◌, ◌<◌, min, Bool, true, false, if◌then◌else◌, List, [], ◌∷◌, ◌++◌}
+use Rattle.std.{proofs.Common.{append_assoc, Result, Ok, Err, MatchResult, sym, ap, ap₂, ◌∙◌, refl, arith}, proofs.lemmas.List.append-nil}
+use Rattle.yq_commands.{specs.declared.answer.Answer.Answer, specs.declared.answer.Answer.TheVariants.{Done, NoMatch, Refused}}
 use Rattle.yq_commands.specs.Lists.{answer_by, Reply, answers_in, printed_in, IsAnswer, reports_failure, reports_output, is_inner_refusal}
-use Rattle.yq_history.specs.Report.{Report}
+use Rattle.yq_history.{specs.declared.fault.Fault.Fault, specs.Report.Report}
+use Rattle.yq_store.specs.Count.{count_plus_one}
 
 -- the reply of an answer: only what is carried out prints
 abbrev pub reply : Answer → List ℕ → Reply

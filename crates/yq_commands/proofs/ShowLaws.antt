@@ -1,35 +1,24 @@
 -- What is shown of a file, by what is shown of its text.
-use Rattle.std.proofs.Common.{◌≡◌, ◌≢◌, inl, true, false, Bool, ℕ, List, Option, Some, None, option_map, Result, Ok, Err, IfErr, sym, ap, ◌∙◌, subst, refl, true≢false}
-use Rattle.std.proofs.lemmas.Option.{same_Some}
-use Rattle.std.specs.FinMap.{get}
-use Rattle.std.specs.Str.{is_utf8}
-use Rattle.yq_core.specs.Answers.{ReadFails}
-use Rattle.yq_core.specs.Tree.{Node}
-use Rattle.yq_core.specs.declared.fault.ReadError.{ReadError}
-use Rattle.yq_core.specs.declared.fault.ReadError.TheVariants as reading
+use Rattle.std.proofs.Common.{◌≡◌, ◌≢◌, inl, true, false, Bool, ℕ, List, Option, Some, None, option_map, Result, Ok, Err, IfErr, sym, ap}
+use Rattle.std.{proofs.Common.{◌∙◌, subst, refl, true≢false}, proofs.lemmas.Option.same_Some, specs.FinMap.get, specs.Str.is_utf8}
+use Rattle.yq_core.{specs.Answers.ReadFails, specs.Tree.Node, specs.declared.fault.ReadError.ReadError}
 use Rattle.yq_places.specs.Answers.{IsNotUtf8}
-use Rattle.yq_documents.specs.Documents.{Document}
-use Rattle.yq_documents.specs.Reading.{documents, read_at}
-use Rattle.yq_semantics.specs.Copies.{matches}
-use Rattle.yq_semantics.specs.Judgement.{Judgement, refuses}
-use Rattle.yq_semantics.specs.Judgement as judgement
-use Rattle.yq_semantics.specs.declared.expr_error.ExprError.{ExprError}
-use Rattle.yq_semantics.specs.declared.expr_error.ExprError.TheVariants as matching
+use Rattle.yq_documents.{specs.Documents.Document, specs.Reading.{documents, read_at}}
+use Rattle.yq_semantics.{specs.Copies.matches, specs.Judgement.{Judgement, refuses}, specs.declared.expr_error.ExprError.ExprError}
 use Rattle.yq_semantics.specs.Program.{Program, Stage, is_read, read, updates}
 use Rattle.yq_journal.specs.History.{History, text_at}
-use Rattle.yq_history.specs.declared.fault.Fault.{Fault}
-use Rattle.yq_history.specs.declared.fault.Fault.TheVariants.{OutOfMemory, Unreadable}
-use Rattle.yq_history.specs.Causes.{Cause, IsFor, named, no_reading, IsUnreadable}
+use Rattle.yq_history.{specs.declared.fault.Fault.Fault, specs.declared.fault.Fault.TheVariants.{OutOfMemory, Unreadable}}
+use Rattle.yq_history.{specs.Causes.{Cause, IsFor, named, no_reading, IsUnreadable}, specs.Faults.{is_outer_fault, fault_of_reading}}
+use Rattle.yq_history.{specs.Pair.{Arrives, GoodIn}, specs.Report.Report, proofs.MoveLaws.{cut, is_refused}}
+use Rattle.yq_history.proofs.PairLaws.{good_text, same_pair}
 use Rattle.yq_store.specs.FileMap.{FileMap}
 use Rattle.yq_commands.specs.Editing.{EditOutcome, unreadable, refused, edited, Refuses, program_edits}
 use Rattle.yq_commands.specs.CommandFaults.{of_refusal, of_matching}
 use Rattle.yq_commands.specs.Evaluation.{of_file, show_edit, show_found, show_read, shows, cause_in, report_in}
-use Rattle.yq_history.specs.Faults.{is_outer_fault, fault_of_reading}
-use Rattle.yq_history.specs.Pair.{Arrives, GoodIn}
-use Rattle.yq_history.specs.Report.{Report}
 use Rattle.yq_commands.proofs.EditingLaws.{unread_text}
-use Rattle.yq_history.proofs.MoveLaws.{cut, is_refused}
-use Rattle.yq_history.proofs.PairLaws.{good_text, same_pair}
+use Rattle.yq_core.specs.declared.fault.ReadError.TheVariants as reading
+use Rattle.yq_semantics.specs.Judgement as judgement
+use Rattle.yq_semantics.specs.declared.expr_error.ExprError.TheVariants as matching
 
 -- the fault of an edit tells why its text isn't shown
 pub reports_edit : (o : EditOutcome) (x : Fault) → Refuses o x → IsFor (cause_in (show_edit o)) x

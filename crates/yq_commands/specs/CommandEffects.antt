@@ -1,20 +1,15 @@
 -- What a command does to a file and its journal, by their bytes as they are, good for a history or not (own).
 use Rattle.std.specs.Prelude.{◌≡◌, ◌≢◌, ℕ, List, [], length, nat_le, if◌then◌else◌, Option, Some, None, Result, Ok, Err, MatchResult, true}
-use Rattle.std.specs.Str.{bytes_eq}
-use Rattle.std.specs.String.{string_bytes}
+use Rattle.std.{specs.Str.bytes_eq, specs.String.string_bytes}
 use Rattle.yq_semantics.specs.Program.{Program}
-use Rattle.yq_journal.specs.declared.moves.Move.TheVariants as move
-use Rattle.yq_journal.specs.Record.{Record}
-use Rattle.yq_journal.specs.Refusals.{most_records}
-use Rattle.yq_journal.specs.State.{State, journal_after, with_move}
+use Rattle.yq_journal.{specs.Record.Record, specs.Refusals.most_records, specs.State.{State, journal_after, with_move}}
 use Rattle.yq_args.specs.declared.command.Command.{Command}
 use Rattle.yq_args.specs.declared.command.Command.TheVariants.{Eval, Undo, Redo, History as Lists, Squash}
-use Rattle.yq_history.specs.declared.fault.Fault.{Fault}
-use Rattle.yq_history.specs.declared.fault.Fault.TheVariants.{JournalFull, OutOfMemory}
-use Rattle.yq_commands.specs.Editing.{EditOutcome, unreadable, refused, edited, program_in, program_edits}
-use Rattle.yq_commands.specs.Edits.{edit_record}
-use Rattle.yq_history.specs.Effects.{Effect, refuses, writes_nothing, writes_both, from_pair, move_effect, squash_effect, listing_effect, printed_by}
-use Rattle.yq_history.specs.Causes.{named, no_reading}
+use Rattle.yq_history.{specs.declared.fault.Fault.Fault, specs.declared.fault.Fault.TheVariants.{JournalFull, OutOfMemory}}
+use Rattle.yq_history.specs.Effects.{Effect, refuses, writes_nothing, writes_both, from_pair, move_effect, squash_effect, listing_effect}
+use Rattle.yq_history.{specs.Effects.printed_by, specs.Causes.{named, no_reading}}
+use Rattle.yq_commands.{specs.Editing.{EditOutcome, unreadable, refused, edited, program_in, program_edits}, specs.Edits.edit_record}
+use Rattle.yq_journal.specs.declared.moves.Move.TheVariants as move
 
 -- what the edit of a record does from one text to another
 abbrev pub edit_writes : Record → List ℕ → List ℕ → State → Effect

@@ -1,6 +1,5 @@
 -- The file and the journal that a command names (own).
-use Rattle.std.specs.Prelude.{◌≡◌, ◌≢◌, ℕ, List, true, false}
-use Rattle.std.specs.String.{string_bytes}
+use Rattle.std.{specs.Prelude.{◌≡◌, ◌≢◌, ℕ, List, true, false}, specs.String.string_bytes}
 use Rattle.yq_args.specs.declared.command.Command.{Command}
 use Rattle.yq_args.specs.declared.command.Command.TheVariants.{Eval, Undo, Redo, History as Lists, Squash, Help}
 

@@ -1,19 +1,13 @@
 -- What an expression that isn't carried out in place shows of a file (own).
 use Rattle.std.specs.Prelude.{ℕ, Bool, List, Option, Some, None, option_map, Result, Ok, Err}
 use Rattle.yq_core.specs.Tree.{Node}
-use Rattle.yq_documents.specs.Documents.{Document}
-use Rattle.yq_documents.specs.Reading.{documents, read_at}
-use Rattle.yq_semantics.specs.Copies.{matches}
-use Rattle.yq_semantics.specs.Judgement.{Judgement, gives, refuses}
-use Rattle.yq_semantics.specs.Program.{Program, Stage, read, updates}
+use Rattle.yq_documents.{specs.Documents.Document, specs.Reading.{documents, read_at}}
+use Rattle.yq_semantics.{specs.Copies.matches, specs.Judgement.{Judgement, gives, refuses}, specs.Program.{Program, Stage, read, updates}}
 use Rattle.yq_journal.specs.History.{History, text_at}
-use Rattle.yq_history.specs.declared.fault.Fault.{Fault}
-use Rattle.yq_history.specs.declared.fault.Fault.TheVariants.{NotThere}
-use Rattle.yq_history.specs.Causes.{Cause, named, no_reading}
-use Rattle.yq_commands.specs.Editing.{EditOutcome, unreadable, refused, edited, program_edits}
-use Rattle.yq_commands.specs.CommandFaults.{of_refusal}
+use Rattle.yq_history.{specs.declared.fault.Fault.Fault, specs.declared.fault.Fault.TheVariants.NotThere}
+use Rattle.yq_history.{specs.Causes.{Cause, named, no_reading}, specs.Report.{Report, text, nothing}}
+use Rattle.yq_commands.{specs.Editing.{EditOutcome, unreadable, refused, edited, program_edits}, specs.CommandFaults.of_refusal}
 use Rattle.yq_commands.specs.Reads.{report_matches}
-use Rattle.yq_history.specs.Report.{Report, text, nothing}
 
 -- of an edit the new text is shown
 abbrev pub show_edit : EditOutcome → Result Report Cause

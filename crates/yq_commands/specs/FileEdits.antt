@@ -1,15 +1,10 @@
 -- What an accepted edit makes of the text that a file holds (own).
-use Rattle.std.specs.Prelude.{◌≡◌, ◌≢◌, ℕ, List, true, false, Option, Some, Ok}
-use Rattle.std.specs.FinMap.{get}
-use Rattle.std.specs.String.{string_bytes}
+use Rattle.std.{specs.Prelude.{◌≡◌, ◌≢◌, ℕ, List, true, false, Option, Some, Ok}, specs.FinMap.get, specs.String.string_bytes}
 use Rattle.yq_semantics.specs.Program.{Program, Update, updates}
 use Rattle.yq_text.specs.Splice.{Splice}
-use Rattle.yq_edit_laws.specs.Carried.{edit_of}
-use Rattle.yq_edit_laws.specs.Edit.{gives}
-use Rattle.yq_edit_laws.specs.Theorems.{IsEdited}
+use Rattle.yq_edit_laws.{specs.Carried.edit_of, specs.Edit.gives, specs.Theorems.IsEdited}
 use Rattle.yq_store.specs.FileMap.{FileMap}
-use Rattle.yq_args.specs.declared.command.Command.{Command}
-use Rattle.yq_args.specs.declared.command.Command.TheVariants.{Eval}
+use Rattle.yq_args.{specs.declared.command.Command.Command, specs.declared.command.Command.TheVariants.Eval}
 use Rattle.yq_commands.specs.Editing.{program_in}
 
 -- A program makes one text of another: the defined one, to which each of its updates in order leads.

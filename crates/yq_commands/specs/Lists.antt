@@ -1,23 +1,15 @@
 -- Lists of commands as runs of a history (own).
-use Rattle.std.specs.Prelude.{◌≡◌, ◌≢◌, ◌⊎◌, ◌||◌, ◌+◌, ℕ, Bool, true, false, not, List, [], ◌∷◌, map, flat_map, All, if◌then◌else◌, MatchBool, MatchResult, Option, Some, None, Result, Ok, Err}
-use Rattle.std.specs.FinMap.{get}
+use Rattle.std.specs.Prelude.{◌≡◌, ◌≢◌, ◌⊎◌, ◌||◌, ◌+◌, ℕ, Bool, true, false, not, List, [], ◌∷◌, map, flat_map, All, if◌then◌else◌}
+use Rattle.std.{specs.Prelude.{MatchBool, MatchResult, Option, Some, None, Result, Ok, Err}, specs.FinMap.get}
 use Rattle.yq_journal.specs.History.{History}
-use Rattle.yq_commands.specs.declared.answer.Answer.{Answer}
-use Rattle.yq_commands.specs.declared.answer.Answer.TheVariants.{Done, NoMatch, Refused}
+use Rattle.yq_commands.{specs.declared.answer.Answer.Answer, specs.declared.answer.Answer.TheVariants.{Done, NoMatch, Refused}}
+use Rattle.yq_commands.{specs.CommandNames.{IsOn, IsNotNamed}, specs.CommandEffects.{OfEffect, expression_fault}, specs.FileEdits.HasEdited}
+use Rattle.yq_commands.{specs.Prints.{report_of, prints}, specs.CommandSteps.{cause_of, next_of}}
 use Rattle.yq_args.specs.declared.command.Command.{Command}
-use Rattle.yq_history.specs.declared.fault.Fault.{Fault}
-use Rattle.yq_history.specs.declared.fault.Fault.TheVariants.{OutFailed, OutOfMemory}
-use Rattle.yq_history.specs.Causes.{Cause, IsFor}
-use Rattle.yq_commands.specs.CommandNames.{IsOn, IsNotNamed}
+use Rattle.yq_history.{specs.declared.fault.Fault.Fault, specs.declared.fault.Fault.TheVariants.{OutFailed, OutOfMemory}}
+use Rattle.yq_history.{specs.Causes.{Cause, IsFor}, specs.Effects.{Effect, Works, printed_by}}
+use Rattle.yq_history.{specs.Faults.{is_failure, is_outer_fault, is_output}, specs.Pair.GoodIn, specs.Report.Report}
 use Rattle.yq_store.specs.FileMap.{FileMap}
-use Rattle.yq_commands.specs.CommandEffects.{OfEffect, expression_fault}
-use Rattle.yq_commands.specs.FileEdits.{HasEdited}
-use Rattle.yq_history.specs.Effects.{Effect, Works, printed_by}
-use Rattle.yq_history.specs.Faults.{is_failure, is_outer_fault, is_output}
-use Rattle.yq_history.specs.Pair.{GoodIn}
-use Rattle.yq_commands.specs.Prints.{report_of, prints}
-use Rattle.yq_history.specs.Report.{Report}
-use Rattle.yq_commands.specs.CommandSteps.{cause_of, next_of}
 
 -- the command shares no name with the file and the journal; or it isn't on them, and prints and writes no name
 abbrev pub IsUnrelated : List ℕ → List ℕ → Command → Type 0

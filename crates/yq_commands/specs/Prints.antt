@@ -1,13 +1,10 @@
 -- What a command prints (own).
-use Rattle.std.specs.Prelude.{Bool, true, false, Option}
-use Rattle.std.specs.String.{string_bytes}
+use Rattle.std.{specs.Prelude.{Bool, true, false, Option}, specs.String.string_bytes}
 use Rattle.yq_journal.specs.History.{History}
 use Rattle.yq_args.specs.declared.command.Command.{Command}
 use Rattle.yq_args.specs.declared.command.Command.TheVariants.{Eval, Undo, Redo, History as Lists, Squash, Help}
-use Rattle.yq_commands.specs.Editing.{program_in}
-use Rattle.yq_commands.specs.Evaluation.{evaluated, report_in}
-use Rattle.yq_history.specs.Listing.{listing_output}
-use Rattle.yq_history.specs.Report.{Report, text, nothing}
+use Rattle.yq_commands.{specs.Editing.program_in, specs.Evaluation.{evaluated, report_in}}
+use Rattle.yq_history.{specs.Listing.listing_output, specs.Report.{Report, text, nothing}}
 
 -- what a command shows where it is carried out; of help nothing is said
 abbrev pub report_of : Command → Option History → Report

@@ -1,10 +1,9 @@
 //! The answer to what a command came to.
-ghost use Rattle.std.specs.Prelude.{◌≡◌, ◌++◌, IsTrue, MatchResult, false, if◌then◌else◌};
-ghost use Rattle.std.specs.String.{string_bytes};
+ghost use Rattle.std.{specs.Prelude.{◌≡◌, ◌++◌, IsTrue, MatchResult, false, if◌then◌else◌}, specs.String.string_bytes};
 ghost use Rattle.yq_store.specs.Count.{count_plus_one};
 ghost use Rattle.yq_commands.specs.Lists.{IsAnswer, reports_output};
-ghost use Rattle.yq_commands.specs.Lists as spec;
 ghost use Rattle.yq_history.specs.Report.{report_by};
+ghost use Rattle.yq_commands.specs.Lists as spec;
 
 use crate::{Answer, Out};
 use yq_history::{Fault, Report};

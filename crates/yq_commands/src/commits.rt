@@ -2,15 +2,12 @@
 ghost use Rattle.std.specs.Prelude.{◌≡◌, ◌≢◌, Some, Ok, IfOk, OnOk, IfErr, IsTrue, IsNone, false, length};
 ghost use Rattle.yq_journal.specs.History.{History};
 ghost use Rattle.yq_text.specs.Splice.{Splice, all_done, lengths_done};
+ghost use Rattle.yq_commands.{specs.Editing.{edited, program_edits}, specs.Edits.edit_record, specs.CommandEffects.edit_effect};
+ghost use Rattle.yq_commands.specs.CommandSteps.{update_cause, update_next};
+ghost use Rattle.yq_history.{specs.Effects.Works, specs.Faults.{is_outer_fault, is_output, failures_after}};
+ghost use Rattle.yq_history.specs.Pair.{Arrives, OthersStay, PairAtRest};
 ghost use Rattle.std.specs.FinMap as map;
 ghost use Rattle.yq_semantics.specs.Program as spec;
-ghost use Rattle.yq_commands.specs.Editing.{edited, program_edits};
-ghost use Rattle.yq_commands.specs.Edits.{edit_record};
-ghost use Rattle.yq_commands.specs.CommandEffects.{edit_effect};
-ghost use Rattle.yq_history.specs.Effects.{Works};
-ghost use Rattle.yq_history.specs.Faults.{is_outer_fault, is_output, failures_after};
-ghost use Rattle.yq_history.specs.Pair.{Arrives, OthersStay, PairAtRest};
-ghost use Rattle.yq_commands.specs.CommandSteps.{update_cause, update_next};
 
 use std::alloc::{AllocError, Global};
 use yq_history::{Fault, carry_out};

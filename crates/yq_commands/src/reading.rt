@@ -1,11 +1,9 @@
 //! An expression as a program, and the bytes of a file as a text.
-ghost use Rattle.std.specs.Prelude.{◌≡◌, ◌≢◌, None, Ok, IfOk, IfErr, OnErr, true, false};
-ghost use Rattle.std.specs.Str.{is_utf8};
+ghost use Rattle.std.{specs.Prelude.{◌≡◌, ◌≢◌, None, Ok, IfOk, IfErr, OnErr, true, false}, specs.Str.is_utf8};
 ghost use Rattle.yq_semantics.specs.View.{program_of};
 ghost use Rattle.yq_documents.specs.Reading.{read_at};
-ghost use Rattle.yq_history.specs.Causes.{IsUnreadable};
+ghost use Rattle.yq_history.{specs.Causes.IsUnreadable, specs.Faults.{is_failure, is_output}};
 ghost use Rattle.yq_commands.specs.Editing.{program_in};
-ghost use Rattle.yq_history.specs.Faults.{is_failure, is_output};
 
 use crate::faults::parse_fault;
 use std::alloc::Global;

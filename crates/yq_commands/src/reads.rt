@@ -1,17 +1,13 @@
 //! Reads: matches, as they are printed.
-ghost use Rattle.std.specs.Prelude.{◌≡◌, ◌≢◌, ◌++◌, Ok, IfOk, IfErr, OnOk, None, true, false};
-ghost use Rattle.std.specs.List.{list_all};
+ghost use Rattle.std.{specs.Prelude.{◌≡◌, ◌≢◌, ◌++◌, Ok, IfOk, IfErr, OnOk, None, true, false}, specs.List.list_all};
 ghost use Rattle.std.specs.String.{string_bytes};
 ghost use Rattle.yq_core.specs.Values.{value_node};
 ghost use Rattle.yq_eval.specs.MatchView.{matches_of};
 ghost use Rattle.yq_edits.specs.Print.{print_text};
-ghost use Rattle.yq_semantics.specs.Program.{is_read};
-ghost use Rattle.yq_semantics.specs.View.{program_of};
-ghost use Rattle.yq_history.specs.Causes.{IsFor};
-ghost use Rattle.yq_history.specs.Faults.{is_failure, is_output};
+ghost use Rattle.yq_semantics.{specs.Program.is_read, specs.View.program_of};
+ghost use Rattle.yq_history.{specs.Causes.IsFor, specs.Faults.{is_failure, is_output}, specs.Report.report_by};
 ghost use Rattle.yq_commands.specs.Evaluation.{cause_in, shows};
 ghost use Rattle.yq_commands.specs.Reads as spec;
-ghost use Rattle.yq_history.specs.Report.{report_by};
 
 use crate::faults::match_fault;
 use crate::reading::utf8_text;

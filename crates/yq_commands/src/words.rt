@@ -2,10 +2,8 @@
 ghost use Rattle.std.specs.Prelude.{◌≡◌, ◌≢◌, IfOk, IfErr, MatchResult, map, true, Ok};
 ghost use Rattle.clap.specs.Words.{subcommand_of, takes};
 ghost use Rattle.yq_commands.specs.WordFaults.{of_words};
-ghost use Rattle.yq_args.specs.declared.command.Command.TheVariants.{Help};
-ghost use Rattle.yq_args.specs.declared.words_error.WordsError.{WordsError};
+ghost use Rattle.yq_args.{specs.declared.command.Command.TheVariants.Help, specs.declared.words_error.WordsError.WordsError, specs.Line.yq};
 ghost use Rattle.yq_args.specs.Asked as spec;
-ghost use Rattle.yq_args.specs.Line.{yq};
 
 use std::alloc::Global;
 use yq_args::{Command, WordsError, read_words};

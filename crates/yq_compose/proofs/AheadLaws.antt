@@ -1,10 +1,8 @@
 -- What is made of the rows from one on.
-use Rattle.std.proofs.Common.{◌≡◌, ℕ, zero, suc, ◌-◌, ◌<◌, ◌≤◌, true, false, ltb, List, [], ◌∷◌, drop, length, slice_index_or, take, Some, None, sym, refl, ap, ◌∙◌, subst, arith, ltb-true, ltb-false, ne_eqb}
-use Rattle.std.proofs.lemmas.Bool.{cond-false}
-use Rattle.std.proofs.lemmas.List.{take_rest}
-use Rattle.std.specs.List.Sorted.{IsPartitionPoint}
-use Rattle.yq_documents.specs.Decoded.{Rise, decoded_at}
-use Rattle.yq_documents.specs.declared.decoded.Decoded.{Decoded}
+use Rattle.std.proofs.Common.{◌≡◌, ℕ, zero, suc, ◌-◌, ◌<◌, ◌≤◌, true, false, ltb, List, [], ◌∷◌, drop, length, slice_index_or, take, Some}
+use Rattle.std.{proofs.Common.{None, sym, refl, ap, ◌∙◌, subst, arith, ltb-true, ltb-false, ne_eqb}, proofs.lemmas.Bool.cond-false}
+use Rattle.std.{proofs.lemmas.List.take_rest, specs.List.Sorted.IsPartitionPoint}
+use Rattle.yq_documents.{specs.Decoded.{Rise, decoded_at}, specs.declared.decoded.Decoded.Decoded}
 use Rattle.yq_compose.specs.Ahead.{IsAhead}
 
 pub ahead_all : (ms : List Decoded) → Rise 0 ms → IsAhead ms 0 ms

@@ -1,7 +1,6 @@
 -- What is asked of each of a list, one behind the other.
 use Rattle.std.proofs.Common.{◌≡◌, ℕ, ◌+◌, ◌≤◌, Bool, true, false, ◌&&◌, List, length, drop, Some, sym, ap, ◌∙◌}
-use Rattle.std.proofs.lemmas.List.{drop_all}
-use Rattle.std.specs.List.{list_all, slice_get}
+use Rattle.std.{proofs.lemmas.List.drop_all, specs.List.{list_all, slice_get}}
 use Rattle.yq_outline.proofs.EndsLaws.{drop_at}
 
 module _ {A : Type 0} (f : A → Bool) (xs : List A) (i : ℕ) (all : Bool) (so_far : list_all f (drop i xs) ≡ all) where

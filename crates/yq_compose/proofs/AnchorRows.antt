@@ -1,30 +1,19 @@
 -- Anchors of neighbouring lines, by the rows of these.
-use Rattle.std.proofs.Common.{◌≡◌, ℕ, ℤ, eqb, List, [], ◌∷◌, ◌++◌, Option, Some, None, Bool, true, false, cond, not, ◌&&◌, ◌||◌, refl, sym, ap, ◌∙◌, append-nil}
-use Rattle.std.proofs.lemmas.Bool.{false≢true, cond_both}
-use Rattle.std.proofs.lemmas.Option.{same_Some}
-use Rattle.std.specs.List.{slice_get}
-use Rattle.std.specs.Prelude.{is_none}
-use Rattle.yq_core.specs.declared.block_header.BlockStyle.{BlockStyle}
-use Rattle.yq_core.specs.declared.block_header.BlockStyle.TheVariants as styles
-use Rattle.yq_core.specs.Block.{style_indicator as block_mark}
-use Rattle.yq_core.specs.Piece.{deeper}
-use Rattle.yq_core.specs.Text.{is_empty}
-use Rattle.yq_core.specs.Tree as tree
-use Rattle.yq_core.specs.Inline.{depth_limit}
+use Rattle.std.proofs.Common.{◌≡◌, ℕ, ℤ, eqb, List, [], ◌∷◌, ◌++◌, Option, Some, None, Bool, true, false, cond, not, ◌&&◌, ◌||◌, refl, sym}
+use Rattle.std.{proofs.Common.{ap, ◌∙◌, append-nil}, proofs.lemmas.Bool.{false≢true, cond_both}, proofs.lemmas.Option.same_Some}
+use Rattle.std.{specs.List.slice_get, specs.Prelude.is_none}
+use Rattle.yq_core.{specs.declared.block_header.BlockStyle.BlockStyle, specs.Block.style_indicator as block_mark, specs.Piece.deeper}
+use Rattle.yq_core.{specs.Text.is_empty, specs.Inline.depth_limit}
 use Rattle.yq_core.specs.Nodes.{FlowNode, empty, alias, scalar, coll, anchored, node_text, flow_items_text, IsFlowNode, begins_with}
-use Rattle.yq_core.specs.Scalars.{IsScalarAt, begins_scalar}
-use Rattle.yq_core.specs.Trees.{tree_collection, items_tree, node_head, tree_of}
-use Rattle.yq_core.proofs.NodeAgain.{is_anchored, takes_unanchored}
-use Rattle.yq_core.proofs.NodesPieceLaws.{front_not, scalar_begins}
-use Rattle.yq_outline.specs.LinesReading.{is_free, is_no_alias, may_take}
-use Rattle.yq_outline.specs.Outline.{LineMark, Bare, Key, Dash, Line}
-use Rattle.yq_outline.specs.Positions.{has_no_mark}
-use Rattle.yq_row_table.specs.Grammar.{IsContent}
-use Rattle.yq_row_table.specs.Rows as rows
-use Rattle.yq_row_table.specs.Rows.{Content, Nothing, Inline, Block, Row}
-use Rattle.yq_row_table.specs.View.{anchor_cut, content_cut}
-use Rattle.yq_outline.specs.Lines.{content_anchor, head_of, lines_from, row_lines}
+use Rattle.yq_core.{specs.Scalars.{IsScalarAt, begins_scalar}, specs.Trees.{tree_collection, items_tree, node_head, tree_of}}
+use Rattle.yq_core.{proofs.NodeAgain.{is_anchored, takes_unanchored}, proofs.NodesPieceLaws.{front_not, scalar_begins}}
+use Rattle.yq_outline.{specs.LinesReading.{is_free, is_no_alias, may_take}, specs.Outline.{LineMark, Bare, Key, Dash, Line}}
+use Rattle.yq_outline.{specs.Positions.has_no_mark, specs.Lines.{content_anchor, head_of, lines_from, row_lines}}
+use Rattle.yq_row_table.{specs.Grammar.IsContent, specs.Rows.{Content, Nothing, Inline, Block, Row}, specs.View.{anchor_cut, content_cut}}
 use Rattle.yq_documents.specs.RowReading.{name_in}
+use Rattle.yq_core.specs.declared.block_header.BlockStyle.TheVariants as styles
+use Rattle.yq_core.specs.Tree as tree
+use Rattle.yq_row_table.specs.Rows as rows
 
 -- whether a row has an anchor
 pub anchor_some : (c : Content) → is_empty (content_cut c).1 ≡ is_none (content_anchor c)

@@ -1,17 +1,13 @@
 -- What is made of rows, one behind the other.
-use Rattle.std.proofs.Common.{◌≡◌, ◌⊎◌, inl, inr, ℕ, suc, ◌+◌, ◌<◌, ◌≤◌, eqb, Bool, true, false, ◌&&◌, cond, List, [], ◌∷◌, ◌++◌, length, drop, Option, Some, None, refl, sym, ap, ◌∙◌, subst, arith, append-nil}
-use Rattle.std.proofs.lemmas.Bool.{cases_lt, cond-false, cond-true, eq-eqb, ne_eqb}
-use Rattle.std.proofs.lemmas.Option.{same_Some, slice_get_within}
-use Rattle.std.specs.List.{list_all, slice_get}
-use Rattle.std.specs.Prelude.{IfSome}
-use Rattle.yq_row_table.specs.Rows.{Row}
-use Rattle.yq_row_table.specs.View.{rows_of}
+use Rattle.std.proofs.Common.{◌≡◌, ◌⊎◌, inl, inr, ℕ, suc, ◌+◌, ◌<◌, ◌≤◌, eqb, Bool, true, false, ◌&&◌, cond, List, [], ◌∷◌, ◌++◌, length}
+use Rattle.std.proofs.Common.{drop, Option, Some, None, refl, sym, ap, ◌∙◌, subst, arith, append-nil}
+use Rattle.std.{proofs.lemmas.Bool.{cases_lt, cond-false, cond-true, eq-eqb, ne_eqb}, proofs.lemmas.Option.{same_Some, slice_get_within}}
+use Rattle.std.{specs.List.{list_all, slice_get}, specs.Prelude.IfSome}
+use Rattle.yq_row_table.{specs.Rows.Row, specs.View.rows_of}
 use Rattle.yq_documents.specs.Decoded.{IsDecoded, IsDecodedBy, Rise, decoded_at}
-use Rattle.yq_documents.specs.Reading.{content_is_fit, cut_of, have_fit_keys, mark_is_fit}
-use Rattle.yq_documents.specs.RowReading.{row_fits}
+use Rattle.yq_documents.{specs.Reading.{content_is_fit, cut_of, have_fit_keys, mark_is_fit}, specs.RowReading.row_fits}
 use Rattle.yq_documents.specs.declared.decoded.Decoded.{Decoded}
-use Rattle.yq_compose.specs.Decoding.{AreDecoded, OfRow, list_of_option}
-use Rattle.yq_compose.proofs.AllOf.{all_done, all_step}
+use Rattle.yq_compose.{specs.Decoding.{AreDecoded, OfRow, list_of_option}, proofs.AllOf.{all_done, all_step}}
 
 -- what is made of rows from one on, before another one, is in their order
 abbrev pub RiseUpto : ℕ → ℕ → List Decoded → Type 0

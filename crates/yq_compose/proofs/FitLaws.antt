@@ -1,31 +1,21 @@
 -- What is asked of rows, by their pieces.
-use Rattle.std.proofs.Common.{◌≡◌, ℕ, ℤ, ◌-◌, ◌<◌, ◌≤◌, Bool, true, false, cond, not, ◌||◌, ◌&&◌, eqb, List, [], ◌∷◌, ◌++◌, length, Some, refl, sym, ap, ◌∙◌, arith, append-nil}
-use Rattle.std.proofs.lemmas.Bool.{false≢true, cond_both}
-use Rattle.std.proofs.lemmas.List.Folds.{list_any-append}
-use Rattle.std.proofs.lemmas.Option.{same_Some}
-use Rattle.std.specs.List.{slice_get}
-use Rattle.yq_core.specs.declared.block_header.BlockStyle.{BlockStyle}
-use Rattle.yq_core.specs.declared.block_header.BlockStyle.TheVariants as styles
-use Rattle.yq_core.specs.Block.{style_indicator}
-use Rattle.yq_core.specs.Piece.{deeper}
-use Rattle.yq_core.specs.Plain.{holds_break}
-use Rattle.yq_core.specs.Text.{is_empty, is_feed}
-use Rattle.yq_core.specs.Inline.{depth_limit}
+use Rattle.std.proofs.Common.{◌≡◌, ℕ, ℤ, ◌-◌, ◌<◌, ◌≤◌, Bool, true, false, cond, not, ◌||◌, ◌&&◌, eqb, List, [], ◌∷◌, ◌++◌, length, Some}
+use Rattle.std.{proofs.Common.{refl, sym, ap, ◌∙◌, arith, append-nil}, proofs.lemmas.Bool.{false≢true, cond_both}}
+use Rattle.std.{proofs.lemmas.List.Folds.list_any-append, proofs.lemmas.Option.same_Some, specs.List.slice_get}
+use Rattle.yq_core.{specs.declared.block_header.BlockStyle.BlockStyle, specs.Block.style_indicator, specs.Piece.deeper}
+use Rattle.yq_core.{specs.Plain.holds_break, specs.Text.{is_empty, is_feed}, specs.Inline.depth_limit}
 use Rattle.yq_core.specs.Nodes.{FlowNode, empty, alias, scalar, coll, anchored, node_text, flow_items_text, IsFlowNode}
-use Rattle.yq_core.specs.Scalars.{IsScalarAt, is_quoted, begins_scalar}
-use Rattle.yq_core.proofs.NodeAgain.{is_anchored, takes_unanchored}
+use Rattle.yq_core.{specs.Scalars.{IsScalarAt, is_quoted, begins_scalar}, proofs.NodeAgain.{is_anchored, takes_unanchored}}
 use Rattle.yq_core.proofs.NodesPieceLaws.{front_not, scalar_begins, scalar_some}
 use Rattle.yq_row_table.specs.Grammar.{Limit, AreRows, IsRow, IsMark, IsContent, AreDashes, is_plain_content}
-use Rattle.yq_row_table.specs.Rows as rows
 use Rattle.yq_row_table.specs.Rows.{Content, Nothing, Inline, Block, Row, dashes_text}
 use Rattle.yq_row_table.specs.View.{Slices, last_dash, colon_of, anchor_cut, content_cut, slices, RowsView}
-use Rattle.yq_documents.specs.Documents.{has_lines, is_long_plain}
-use Rattle.yq_documents.specs.Reading.{has_short_root}
+use Rattle.yq_documents.{specs.Documents.{has_lines, is_long_plain}, specs.Reading.has_short_root}
 use Rattle.yq_compose.specs.FitReading.{is_plain_head, is_multiline_plain}
-use Rattle.yq_outline.specs.RowWalk.{HasRows}
-use Rattle.yq_outline.specs.declared.line_position.Stretch.{Stretch}
-use Rattle.yq_outline.proofs.RowLaws.{colon_some}
+use Rattle.yq_outline.{specs.RowWalk.HasRows, specs.declared.line_position.Stretch.Stretch, proofs.RowLaws.colon_some}
 use Rattle.yq_outline.proofs.WalkRows.{row_of, rows_length}
+use Rattle.yq_core.specs.declared.block_header.BlockStyle.TheVariants as styles
+use Rattle.yq_row_table.specs.Rows as rows
 
 or_none : (x : Bool) → not (x || false) ≡ not x
 or_none true = refl

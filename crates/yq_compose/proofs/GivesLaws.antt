@@ -1,20 +1,13 @@
 -- The positions that checks give, behind lines and those under them.
 use Rattle.std.proofs.Common.{◌≡◌, ◌⊎◌, inl, inr, ℕ, suc, ◌+◌, ◌<◌, true, false, drop, sym, ap, ◌∙◌, subst, arith}
-use Rattle.std.proofs.lemmas.Bool.{false≢true}
-use Rattle.std.specs.Prelude.{is_some}
-use Rattle.yq_outline.specs.Ends.{IsEndOf, deeper_count, has_no_lines, part}
-use Rattle.yq_outline.specs.Outline.{level}
-use Rattle.yq_outline.proofs.EndsLaws.{deeper_line}
-use Rattle.yq_outline.proofs.LineEnds.{end_counted}
-use Rattle.yq_row_table.specs.View.{RowsView}
-use Rattle.yq_outline.specs.Lines.{lines_of_rows}
+use Rattle.std.{proofs.lemmas.Bool.false≢true, specs.Prelude.is_some}
+use Rattle.yq_outline.{specs.Ends.{IsEndOf, deeper_count, has_no_lines, part}, specs.Outline.level, proofs.EndsLaws.deeper_line}
+use Rattle.yq_outline.{proofs.LineEnds.end_counted, specs.Lines.lines_of_rows}
 use Rattle.yq_outline.specs.RowWalk.{HasRows, IsLine, IsPosition, OfLine, OfLines, line_number, lines_stop}
-use Rattle.yq_outline.specs.declared.line_position.Position.{Position}
-use Rattle.yq_outline.specs.declared.line_position.Stretch.{Stretch}
-use Rattle.yq_outline.proofs.StopLaws.{stop_step}
-use Rattle.yq_outline.proofs.WalkPositions.{located}
-use Rattle.yq_compose.specs.Checking.{GivesStop, GivesEnd}
-use Rattle.yq_compose.proofs.PositionOrder.{head_last, last_alone, row_later, row_order}
+use Rattle.yq_outline.{specs.declared.line_position.Position.Position, specs.declared.line_position.Stretch.Stretch}
+use Rattle.yq_outline.{proofs.StopLaws.stop_step, proofs.WalkPositions.located}
+use Rattle.yq_row_table.specs.View.{RowsView}
+use Rattle.yq_compose.{specs.Checking.{GivesStop, GivesEnd}, proofs.PositionOrder.{head_last, last_alone, row_later, row_order}}
 use Rattle.yq_compose.proofs.StopLaws.{count_none, count_one}
 
 -- where none are deeper, the position itself

@@ -1,32 +1,17 @@
 -- What a line's head spells, by what is made of its row.
-use Rattle.std.proofs.Common.{◌≡◌, ℕ, zero, suc, ◌+◌, ◌-◌, Bool, true, false, cond, List, [], ◌∷◌, take, drop, Option, Some, None, refl, sym, ap, ◌∙◌, arith}
-use Rattle.std.proofs.lemmas.Bool.{false≢true, le-leb}
-use Rattle.std.proofs.lemmas.Option.{same_Some}
-use Rattle.std.specs.List.{slice_get}
-use Rattle.std.specs.Prelude.{is_some, option_and_then, option_map}
-use Rattle.yq_core.specs.Scalar.{plain_of}
-use Rattle.yq_core.specs.Text.{is_empty}
-use Rattle.yq_core.specs.Tree.{Node}
-use Rattle.yq_core.specs.Places.{Placed}
-use Rattle.yq_core.specs.Scalars.{is_quoted}
+use Rattle.std.proofs.Common.{◌≡◌, ℕ, zero, suc, ◌+◌, ◌-◌, Bool, true, false, cond, List, [], ◌∷◌, take, drop, Option, Some, None, refl}
+use Rattle.std.{proofs.Common.{sym, ap, ◌∙◌, arith}, proofs.lemmas.Bool.{false≢true, le-leb}, proofs.lemmas.Option.same_Some}
+use Rattle.std.{specs.List.slice_get, specs.Prelude.{is_some, option_and_then, option_map}}
+use Rattle.yq_core.{specs.Scalar.plain_of, specs.Text.is_empty, specs.Tree.Node, specs.Places.Placed, specs.Scalars.is_quoted}
 use Rattle.yq_core.specs.Trees.{placed_tree, scalar_node}
-use Rattle.yq_outline.specs.declared.line.Head as heads
-use Rattle.yq_outline.specs.Outline.{Line}
-use Rattle.yq_outline.specs.Sound.{head_is_sound}
-use Rattle.yq_outline.specs.View.{head_flow, head_view}
-use Rattle.yq_row_table.specs.Rows.{Row}
-use Rattle.yq_row_table.specs.View.{RowsView, rows_of, slices}
-use Rattle.yq_outline.specs.Lines.{lines_of_rows}
-use Rattle.yq_outline.specs.RowWalk.{IsLine, line_number}
-use Rattle.yq_outline.specs.declared.line_position.Position.{Position}
-use Rattle.yq_outline.specs.declared.line_position.Stretch.{Stretch}
-use Rattle.yq_outline.proofs.KnownLaws.{get_dropped}
-use Rattle.yq_outline.proofs.WalkPositions.{located}
+use Rattle.yq_outline.{specs.Outline.Line, specs.Sound.head_is_sound, specs.View.{head_flow, head_view}, specs.Lines.lines_of_rows}
+use Rattle.yq_outline.{specs.RowWalk.{IsLine, line_number}, specs.declared.line_position.Position.Position}
+use Rattle.yq_outline.{specs.declared.line_position.Stretch.Stretch, proofs.KnownLaws.get_dropped, proofs.WalkPositions.located}
+use Rattle.yq_row_table.{specs.Rows.Row, specs.View.{RowsView, rows_of, slices}}
 use Rattle.yq_documents.specs.Decoded.{borrowed_head, borrowed_text, decoded_at, decoded_or, decoded_flow, decoded_head}
-use Rattle.yq_documents.specs.RowReading.{string_head}
-use Rattle.yq_documents.specs.declared.decoded.Decoded.{Decoded}
-use Rattle.yq_compose.specs.Checking.{IsCheckable}
-use Rattle.yq_compose.proofs.PositionOrder.{head_last}
+use Rattle.yq_documents.{specs.RowReading.string_head, specs.declared.decoded.Decoded.Decoded}
+use Rattle.yq_compose.{specs.Checking.IsCheckable, proofs.PositionOrder.head_last}
+use Rattle.yq_outline.specs.declared.line.Head as heads
 
 -- an item of a part of a list is one of the list
 get_take : {A : Type 0} (n i : ℕ) (xs : List A) (x : A) → slice_get (take n xs) i ≡ Some x → slice_get xs i ≡ Some x

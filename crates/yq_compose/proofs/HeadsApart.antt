@@ -2,17 +2,15 @@
 use Rattle.std.proofs.Common.{◌≡◌, ℕ, ℤ, suc, ◌+◌, eqb, cond, List, [], ◌∷◌, ◌++◌, Option, Some, None, Bool, true, false}
 use Rattle.std.proofs.lemmas.Bool.{false≢true}
 use Rattle.yq_core.specs.declared.kind.Kind.TheVariants.{Text}
-use Rattle.yq_core.specs.Tree as tree
 use Rattle.yq_core.specs.Nodes.{FlowNode, empty, alias, scalar, coll, anchored, takes_anchor, IsFlowNode}
-use Rattle.yq_core.specs.Trees.{tree_of, items_tree, node_anchor, node_head}
+use Rattle.yq_core.{specs.Trees.{tree_of, items_tree, node_anchor, node_head}, specs.Anchors.IsNoAlias}
 use Rattle.yq_outline.specs.Comments.{head_comment}
-use Rattle.yq_row_table.specs.Grammar.{Limit, limit_after, IsContent, AreRows}
-use Rattle.yq_row_table.specs.Rows as rows
-use Rattle.yq_row_table.specs.Rows.{Anchor, Content, Nothing, Inline, Row, parent_indent}
-use Rattle.yq_core.specs.Anchors.{IsNoAlias}
 use Rattle.yq_outline.specs.Lines.{block_anchor, content_anchor, head_of, lines_from, row_lines, lines_of_rows}
-use Rattle.yq_outline.specs.Names.{IsUnnamed, MayBeNamed, HaveHeadsApart}
-use Rattle.yq_outline.specs.Outline.{Line}
+use Rattle.yq_outline.{specs.Names.{IsUnnamed, MayBeNamed, HaveHeadsApart}, specs.Outline.Line}
+use Rattle.yq_row_table.specs.Grammar.{Limit, limit_after, IsContent, AreRows}
+use Rattle.yq_row_table.specs.Rows.{Anchor, Content, Nothing, Inline, Row, parent_indent}
+use Rattle.yq_core.specs.Tree as tree
+use Rattle.yq_row_table.specs.Rows as rows
 
 -- a head and the anchor before it
 abbrev IsApart : Option (List ℕ) → Option tree.Node → Type 0

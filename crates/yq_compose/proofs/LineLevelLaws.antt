@@ -1,14 +1,9 @@
 -- How deep a line is, by its row.
-use Rattle.std.proofs.Common.{◌≡◌, ℕ, zero, suc, List, [], ◌∷◌, map, Some, refl, sym, ap, ◌∙◌}
-use Rattle.std.proofs.lemmas.Option.{same_Some}
+use Rattle.std.{proofs.Common.{◌≡◌, ℕ, zero, suc, List, [], ◌∷◌, map, Some, refl, sym, ap, ◌∙◌}, proofs.lemmas.Option.same_Some}
 use Rattle.std.specs.List.{slice_get}
-use Rattle.yq_outline.specs.Outline.{level}
-use Rattle.yq_row_table.specs.Rows.{Row}
-use Rattle.yq_row_table.specs.View.{Slices, slices, RowsView}
-use Rattle.yq_outline.specs.RowWalk.{IsLine, OfLine, line_level}
-use Rattle.yq_outline.specs.declared.line_position.Position.{Position}
-use Rattle.yq_outline.specs.declared.line_position.Stretch.{Stretch}
-use Rattle.yq_outline.proofs.WalkPositions.{located}
+use Rattle.yq_outline.{specs.Outline.level, specs.RowWalk.{IsLine, OfLine, line_level}, specs.declared.line_position.Position.Position}
+use Rattle.yq_outline.{specs.declared.line_position.Stretch.Stretch, proofs.WalkPositions.located}
+use Rattle.yq_row_table.{specs.Rows.Row, specs.View.{Slices, slices, RowsView}}
 
 -- a row by its pieces
 pub row_there : (rs : List Row) (i : ℕ) (x : Slices) → slice_get (map slices rs) i ≡ Some x → (r : Row) × (slice_get rs i ≡ Some r) × (slices r ≡ x)

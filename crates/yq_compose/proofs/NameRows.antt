@@ -1,25 +1,16 @@
 -- The anchors and aliases of lines, row by row.
-use Rattle.std.proofs.Common.{◌≡◌, ℕ, ◌+◌, ◌≤◌, Bool, true, false, cond, List, [], ◌++◌, drop, length, Option, Some, None, refl, sym, ap, ◌∙◌, append_assoc, append-nil}
-use Rattle.std.proofs.lemmas.List.{drop_all}
-use Rattle.std.specs.List.{slice_get}
+use Rattle.std.proofs.Common.{◌≡◌, ℕ, ◌+◌, ◌≤◌, Bool, true, false, cond, List, [], ◌++◌, drop, length, Option, Some, None, refl, sym, ap}
+use Rattle.std.{proofs.Common.{◌∙◌, append_assoc, append-nil}, proofs.lemmas.List.drop_all, specs.List.slice_get}
 use Rattle.std.specs.Prelude.{option_and_then, option_map}
-use Rattle.yq_core.specs.Anchors.{Name, anchor_names}
-use Rattle.yq_core.specs.Scalar.{plain_of}
-use Rattle.yq_core.specs.Text.{is_empty}
-use Rattle.yq_core.specs.Scalars.{is_quoted}
+use Rattle.yq_core.{specs.Anchors.{Name, anchor_names}, specs.Scalar.plain_of, specs.Text.is_empty, specs.Scalars.is_quoted}
 use Rattle.yq_core.specs.Trees.{scalar_node}
-use Rattle.yq_outline.specs.declared.line.Head as heads
-use Rattle.yq_outline.specs.Names.{head_names, line_names}
-use Rattle.yq_outline.specs.Outline.{Line}
-use Rattle.yq_outline.specs.View.{head_flow, head_view}
+use Rattle.yq_outline.{specs.Names.{head_names, line_names}, specs.Outline.Line, specs.View.{head_flow, head_view}}
+use Rattle.yq_outline.{specs.Lines.{content_anchor, head_of, lines_of_rows}, proofs.WalkLevels.names_row}
 use Rattle.yq_row_table.specs.Rows.{Row}
-use Rattle.yq_outline.specs.Lines.{content_anchor, head_of, lines_of_rows}
-use Rattle.yq_documents.specs.Decoded.{borrowed_head, borrowed_text, decoded_or, decoded_flow, decoded_head}
-use Rattle.yq_documents.specs.RowReading.{string_head}
+use Rattle.yq_documents.{specs.Decoded.{borrowed_head, borrowed_text, decoded_or, decoded_flow, decoded_head}, specs.RowReading.string_head}
 use Rattle.yq_documents.specs.declared.decoded.Decoded.{Decoded}
-use Rattle.yq_compose.specs.Named.{flow_names}
-use Rattle.yq_outline.proofs.WalkLevels.{names_row}
-use Rattle.yq_compose.proofs.RowContents.{lines_at}
+use Rattle.yq_compose.{specs.Named.flow_names, proofs.RowContents.lines_at}
+use Rattle.yq_outline.specs.declared.line.Head as heads
 
 with-append : (a : Option (List ℕ)) (xs ys : List Name) → anchor_names a (xs ++ ys) ≡ anchor_names a xs ++ ys
 with-append None xs ys = refl

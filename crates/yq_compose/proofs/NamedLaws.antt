@@ -1,17 +1,13 @@
 -- The names of the code, one by one.
-use Rattle.std.proofs.Common.{◌≡◌, ℕ, ◌+◌, ◌<◌, List, ◌∷◌, length, drop, get_or, ap, ◌∙◌, [], ◌++◌, sym, append_assoc, String, Bor, Option, Some, None, option_map, refl}
-use Rattle.std.proofs.lemmas.List.{drop_more}
-use Rattle.yq_core.specs.Anchors.{Name, names_in, names_of, anchor_names}
+use Rattle.std.proofs.Common.{◌≡◌, ℕ, ◌+◌, ◌<◌, List, ◌∷◌, length, drop, get_or, ap, ◌∙◌, [], ◌++◌, sym, append_assoc, String, Bor, Option}
+use Rattle.std.{proofs.Common.{Some, None, option_map, refl}, proofs.lemmas.List.drop_more, specs.declared.alloc.Global.Global}
+use Rattle.yq_core.{specs.Anchors.{Name, names_in, names_of, anchor_names}, specs.declared.piece.Piece.Piece}
+use Rattle.yq_core.specs.View.{entries_end, items_end, inline_view, anchor_name, form_view}
+use Rattle.yq_core.{specs.Trees.{parts_tree, placed_tree, with_anchor_name}, specs.declared.inline.Inline.Inline}
+use Rattle.yq_core.{specs.declared.inline.Form.TheFolds.the_lemmas, specs.Places.name}
 use Rattle.yq_compose.specs.Named.{name_view, all_named}
 use Rattle.yq_compose.specs.declared.names.Name as declared
-use Rattle.std.specs.declared.alloc.Global.{Global}
-use Rattle.yq_core.specs.declared.piece.Piece.{Piece}
-use Rattle.yq_core.specs.View.{entries_end, items_end, inline_view, anchor_name, form_view}
-use Rattle.yq_core.specs.Trees.{parts_tree, placed_tree, with_anchor_name}
-use Rattle.yq_core.specs.declared.inline.Inline.{Inline}
 use Rattle.yq_core.specs.declared.inline.Form as forms
-use Rattle.yq_core.specs.declared.inline.Form.TheFolds.{the_lemmas}
-use Rattle.yq_core.specs.Places.{name}
 
 -- the name at a place, before those behind it
 pub named_at : (ns : List declared.Name) (i : ℕ) (d : declared.Name) (n : Name) → i < length ns → name_view (get_or ns i d) ≡ n → all_named (drop i ns) ≡ n ∷ all_named (drop (i + 1) ns)

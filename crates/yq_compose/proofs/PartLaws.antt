@@ -1,21 +1,13 @@
 -- Where the documents of a text stand among its rows is told by where its parts end.
-use Rattle.std.proofs.Common.{◌≡◌, ℕ, zero, suc, ◌+◌, ◌≤◌, Bool, true, false, ◌||◌, not, ltb, List, [], ◌∷◌, ◌++◌, length, drop, map, Option, Some, refl, sym, ap, ◌∙◌, arith, append_assoc, append-nil, length-append}
-use Rattle.std.proofs.lemmas.Bool.{cond-false, cond-true, le-ltb, lt-ltb}
-use Rattle.std.proofs.lemmas.List.{drop_all, length-map}
-use Rattle.std.proofs.lemmas.Option.{same_Some, slice_get-map}
-use Rattle.std.specs.List.{slice_get}
-use Rattle.std.specs.Prelude.{option_map}
-use Rattle.yq_outline.specs.Comments.{head_comment}
-use Rattle.yq_outline.proofs.EndsLaws.{drop_at}
-use Rattle.yq_row_table.specs.Grammar.{begins_document}
-use Rattle.yq_row_table.specs.Rows.{Row, Part, Cut, last, marked}
-use Rattle.yq_row_table.specs.Splices.{first_gap as gap_of}
+use Rattle.std.proofs.Common.{◌≡◌, ℕ, zero, suc, ◌+◌, ◌≤◌, Bool, true, false, ◌||◌, not, ltb, List, [], ◌∷◌, ◌++◌, length, drop, map}
+use Rattle.std.proofs.Common.{Option, Some, refl, sym, ap, ◌∙◌, arith, append_assoc, append-nil, length-append}
+use Rattle.std.{proofs.lemmas.Bool.{cond-false, cond-true, le-ltb, lt-ltb}, proofs.lemmas.List.{drop_all, length-map}}
+use Rattle.std.{proofs.lemmas.Option.{same_Some, slice_get-map}, specs.List.slice_get, specs.Prelude.option_map}
+use Rattle.yq_outline.{specs.Comments.head_comment, proofs.EndsLaws.drop_at}
+use Rattle.yq_row_table.{specs.Grammar.begins_document, specs.Rows.{Row, Part, Cut, last, marked}, specs.Splices.first_gap as gap_of}
 use Rattle.yq_row_table.specs.View.{Bound, Slices, slices, bounds_from, rows_of, RowsView}
-use Rattle.yq_documents.specs.Documents.{begins_bare, has_begin, parts_from}
-use Rattle.yq_documents.specs.PartReading.{first_rows, some_begin}
-use Rattle.yq_documents.specs.Reading.{cut_of}
-use Rattle.yq_documents.specs.PartNumbers.{number_from, rows_to}
-use Rattle.yq_documents.specs.declared.documents.DocumentRows.{DocumentRows}
+use Rattle.yq_documents.{specs.Documents.{begins_bare, has_begin, parts_from}, specs.PartReading.{first_rows, some_begin}}
+use Rattle.yq_documents.{specs.Reading.cut_of, specs.PartNumbers.{number_from, rows_to}, specs.declared.documents.DocumentRows.DocumentRows}
 use Rattle.yq_documents.proofs.BeginLaws.{document_is}
 use Rattle.yq_compose.specs.Decoding.{IsCutInto}
 use Rattle.yq_compose.specs.Places.{AreLocated, all_document_rows, gap_before_row, gap_or, part_row, document_view, documents_view}

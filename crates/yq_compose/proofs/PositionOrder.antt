@@ -1,20 +1,12 @@
 -- In which order lines stand by their rows.
 use Rattle.std.proofs.Common.{◌≡◌, ◌⊎◌, inl, inr, ℕ, suc, ◌+◌, ◌-◌, ◌<◌, ◌≤◌, true, length, take, Some, sym, ap, ◌∙◌, arith, refl, drop}
-use Rattle.std.proofs.lemmas.Bool.{cases_lt, false≢true}
-use Rattle.std.proofs.lemmas.Option.{same_Some, slice_get_within}
-use Rattle.std.specs.List.{slice_get}
+use Rattle.std.{proofs.lemmas.Bool.{cases_lt, false≢true}, proofs.lemmas.Option.{same_Some, slice_get_within}, specs.List.slice_get}
 use Rattle.std.specs.Prelude.{is_some}
-use Rattle.yq_outline.specs.Ends.{IsEndOf}
-use Rattle.yq_outline.specs.Outline.{Line}
-use Rattle.yq_outline.proofs.LineEnds.{end_agrees}
+use Rattle.yq_outline.{specs.Ends.IsEndOf, specs.Outline.Line, proofs.LineEnds.end_agrees, specs.Lines.lines_of_rows}
+use Rattle.yq_outline.{specs.Extents.lines_before_mark, specs.RowWalk.{HasRows, IsLine, IsPosition, deeper_rows, line_level, line_number}}
+use Rattle.yq_outline.{specs.declared.line_position.Position.Position, specs.declared.line_position.Stretch.Stretch}
+use Rattle.yq_outline.{proofs.WalkEnds.lines_upto, proofs.WalkPositions.{behind_agrees, located, position_line}}
 use Rattle.yq_row_table.specs.View.{slices, RowsView}
-use Rattle.yq_outline.specs.Lines.{lines_of_rows}
-use Rattle.yq_outline.specs.Extents.{lines_before_mark}
-use Rattle.yq_outline.specs.RowWalk.{HasRows, IsLine, IsPosition, deeper_rows, line_level, line_number}
-use Rattle.yq_outline.specs.declared.line_position.Position.{Position}
-use Rattle.yq_outline.specs.declared.line_position.Stretch.{Stretch}
-use Rattle.yq_outline.proofs.WalkEnds.{lines_upto}
-use Rattle.yq_outline.proofs.WalkPositions.{behind_agrees, located, position_line}
 
 -- a later line is of no earlier row
 pub row_order : (s : RowsView) (d : Stretch) (h : HasRows s d) (q e : Position) → IsLine s d q → IsPosition s d e → line_number d h.rows q < line_number d h.rows e → q.row ≤ e.row

@@ -1,25 +1,16 @@
 -- Lines of a document, each with how deep it is.
 use Rattle.std.proofs.Common.{◌≡◌, ℕ, ◌+◌, ◌*◌, ◌%◌, ◌≤◌, eqb, List, Option, Some, None, true, false, not, refl, sym, ap, ◌∙◌, arith}
+use Rattle.std.{proofs.lemmas.Bool.{eq-eqb, eqb-true, false≢true, le-ltb, ne_eqb, not-false}, proofs.lemmas.Option.same_Some}
+use Rattle.std.{specs.List.slice_get, specs.Prelude.is_some}
 use denote.Bor.{Bor}
-use Rattle.std.proofs.lemmas.Bool.{eq-eqb, eqb-true, false≢true, le-ltb, ne_eqb, not-false}
-use Rattle.std.proofs.lemmas.Option.{same_Some}
-use Rattle.std.specs.List.{slice_get}
-use Rattle.std.specs.Prelude.{is_some}
-use Rattle.yq_outline.specs.Outline.{LineMark, Bare, Key, Dash, Line, key_of, level, rank}
-use Rattle.yq_outline.specs.Positions.{has_no_mark}
-use Rattle.yq_core.specs.Paths.{is_item}
-use Rattle.yq_core.specs.Scalars.{scalar_content}
-use Rattle.yq_outline.specs.Lines.{lines_of_rows}
+use Rattle.yq_outline.{specs.Outline.{LineMark, Bare, Key, Dash, Line, key_of, level, rank}, specs.Positions.has_no_mark}
+use Rattle.yq_outline.{specs.Lines.lines_of_rows, specs.RowWalk.{HasRows, IsLine, IsPosition, line_level, line_number, line_rank}}
+use Rattle.yq_outline.{specs.declared.line_position.Position.Position, specs.declared.line_position.Stretch.Stretch}
+use Rattle.yq_outline.{proofs.WalkMarks.{item_agrees, key_here}, proofs.WalkPositions.{deeper_agrees, end_agrees, line_position, located}}
+use Rattle.yq_core.{specs.Paths.is_item, specs.Scalars.scalar_content}
 use Rattle.yq_row_table.specs.View.{Slices, slices, RowsView}
-use Rattle.yq_outline.specs.RowWalk.{HasRows, IsLine, IsPosition, line_level, line_number, line_rank}
-use Rattle.yq_outline.specs.declared.line_position.Position.{Position}
-use Rattle.yq_outline.specs.declared.line_position.Stretch.{Stretch}
-use Rattle.yq_outline.proofs.WalkMarks.{item_agrees, key_here}
-use Rattle.yq_outline.proofs.WalkPositions.{deeper_agrees, end_agrees, line_position, located}
 use Rattle.yq_documents.specs.declared.decoded.Decoded.{Decoded}
-use Rattle.yq_compose.specs.Ahead.{IsAhead}
-use Rattle.yq_compose.specs.Checking.{IsReached}
-use Rattle.yq_compose.proofs.LineLevelLaws.{level_agrees}
+use Rattle.yq_compose.{specs.Ahead.IsAhead, specs.Checking.IsReached, proofs.LineLevelLaws.level_agrees}
 
 -- the end, and a line
 pub reached_end : (ms : List Decoded) (s : RowsView) (d : Stretch) (q : Position) (left : Bor (List Decoded)) → IsAhead ms q.row left.now → IsPosition s d q → d.end ≤ q.row → IsReached ms s d (record { position = q; level = 0; decoded = left })

@@ -1,16 +1,11 @@
 -- What is told of the rows of a document that is checked.
-use Rattle.std.proofs.Common.{◌≡◌, ℕ, ◌<◌, ◌≤◌, List, length, Some, refl, sym, ap, ◌∙◌, arith}
-use Rattle.std.specs.List.{slice_get}
+use Rattle.std.{proofs.Common.{◌≡◌, ℕ, ◌<◌, ◌≤◌, List, length, Some, refl, sym, ap, ◌∙◌, arith}, specs.List.slice_get}
 use Rattle.yq_core.specs.Scalars.{scalar_content}
-use Rattle.yq_row_table.specs.Rows.{Row}
-use Rattle.yq_row_table.specs.View.{Slices, slices, RowsView, rows_of}
-use Rattle.yq_outline.specs.RowWalk.{HasRows, IsLine, IsPosition}
-use Rattle.yq_outline.specs.declared.line_position.Position.{Position}
+use Rattle.yq_row_table.{specs.Rows.Row, specs.View.{Slices, slices, RowsView, rows_of}}
+use Rattle.yq_outline.{specs.RowWalk.{HasRows, IsLine, IsPosition}, specs.declared.line_position.Position.Position}
 use Rattle.yq_outline.specs.declared.line_position.Stretch.{Stretch}
-use Rattle.yq_documents.specs.Decoded.{IsDecodedBy, decoded_at, decoded_key}
-use Rattle.yq_documents.specs.declared.decoded.Decoded.{Decoded}
-use Rattle.yq_compose.specs.Checking.{IsCheckable}
-use Rattle.yq_compose.proofs.LineLevelLaws.{row_there}
+use Rattle.yq_documents.{specs.Decoded.{IsDecodedBy, decoded_at, decoded_key}, specs.declared.decoded.Decoded.Decoded}
+use Rattle.yq_compose.{specs.Checking.IsCheckable, proofs.LineLevelLaws.row_there}
 
 -- the row of a line is there
 pub row_within : (t : List ℕ) (s : RowsView) (ms : List Decoded) (d : Stretch) (q : Position) → IsCheckable t s ms d → IsLine s d q → q.row < length s.rows

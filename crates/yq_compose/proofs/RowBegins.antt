@@ -1,21 +1,13 @@
 -- What a row's key begins with tells what it spells.
-use Rattle.std.proofs.Common.{◌≡◌, ℕ, true, false, List, [], ◌++◌, Some, refl, sym, ap, ◌∙◌, subst}
-use Rattle.std.specs.List.{slice_get}
-use Rattle.yq_core.specs.Scalars.{scalar_content, is_quoted}
-use Rattle.yq_outline.proofs.OneLine.{kept as stands}
-use Rattle.yq_row_table.specs.Exchange.{behind_row, rows_behind}
-use Rattle.yq_row_table.specs.Grammar.{IsMark}
-use Rattle.yq_row_table.specs.Rows as rows
-use Rattle.yq_row_table.specs.Rows.{Content, Row, content_text}
-use Rattle.yq_row_table.specs.View.{Slices, RowsView, key_of_mark, rows_of, slices}
-use Rattle.yq_row_table.proofs.KeyLines.{key_line}
+use Rattle.std.{proofs.Common.{◌≡◌, ℕ, true, false, List, [], ◌++◌, Some, refl, sym, ap, ◌∙◌, subst}, specs.List.slice_get}
+use Rattle.yq_core.{specs.Scalars.{scalar_content, is_quoted}, specs.Quoted.IsQuotedText}
+use Rattle.yq_outline.{proofs.OneLine.kept as stands, specs.declared.line_position.Stretch.Stretch, proofs.RowLaws.mark_quoted}
+use Rattle.yq_row_table.{specs.Exchange.{behind_row, rows_behind}, specs.Grammar.IsMark, specs.Rows.{Content, Row, content_text}}
+use Rattle.yq_row_table.{specs.View.{Slices, RowsView, key_of_mark, rows_of, slices}, proofs.KeyLines.key_line}
 use Rattle.yq_row_table.proofs.PlaceLaws.{RowIn, row_in}
-use Rattle.yq_core.specs.Quoted.{IsQuotedText}
-use Rattle.yq_outline.specs.declared.line_position.Stretch.{Stretch}
-use Rattle.yq_outline.proofs.RowLaws.{mark_quoted}
 use Rattle.yq_documents.specs.declared.decoded.Decoded.{Decoded}
-use Rattle.yq_compose.specs.Checking.{IsCheckable}
-use Rattle.yq_compose.proofs.LineLevelLaws.{row_there}
+use Rattle.yq_compose.{specs.Checking.IsCheckable, proofs.LineLevelLaws.row_there}
+use Rattle.yq_row_table.specs.Rows as rows
 
 -- a key without quotes has one line, and stands for itself
 pub mark_plain : (m : rows.RowMark) (c : Content) (rest : List ℕ) → IsMark m c rest → is_quoted (key_of_mark m) ≡ false → key_of_mark m ≡ scalar_content (key_of_mark m)

@@ -1,46 +1,25 @@
 -- What the rows of a text spell is told by reading their heads again.
-use Rattle.std.proofs.Common.{◌≡◌, ℕ, ℤ, zero, suc, ◌<◌, ◌≤◌, Bool, true, false, List, [], ◌∷◌, ◌++◌, length, drop, get_or, Option, Some, None, refl, sym, ap, ◌∙◌, subst, arith, append_assoc, length-append}
-use Rattle.std.proofs.Math.Seq.{drop-append_seam, get_or-append_seam}
-use Rattle.std.proofs.lemmas.Bool.{cond-false, false≢true}
-use Rattle.std.proofs.lemmas.List.{length-map}
-use Rattle.std.proofs.lemmas.Option.{cond_some, slice_get-map}
-use Rattle.std.proofs.lemmas.Str.{IsCharBoundary-start}
-use Rattle.std.specs.List.{slice_get}
-use Rattle.std.specs.Prelude.{option_map}
-use Rattle.std.specs.Str.{IsCharBoundary, IsUtf8}
-use Rattle.yq_core.specs.Answers.{ReadFails}
-use Rattle.yq_core.specs.Quoted.{IsQuotedText}
-use Rattle.yq_core.specs.Text.{is_empty}
-use Rattle.yq_core.specs.Tree as trees
-use Rattle.yq_core.specs.declared.fault.ReadError.{ReadError}
-use Rattle.yq_core.specs.declared.fault.ReadError.TheVariants as errors
+use Rattle.std.proofs.Common.{◌≡◌, ℕ, ℤ, zero, suc, ◌<◌, ◌≤◌, Bool, true, false, List, [], ◌∷◌, ◌++◌, length, drop, get_or, Option, Some}
+use Rattle.std.proofs.Common.{None, refl, sym, ap, ◌∙◌, subst, arith, append_assoc, length-append}
+use Rattle.std.{proofs.Math.Seq.{drop-append_seam, get_or-append_seam}, proofs.lemmas.Bool.{cond-false, false≢true}}
+use Rattle.std.{proofs.lemmas.List.length-map, proofs.lemmas.Option.{cond_some, slice_get-map}, proofs.lemmas.Str.IsCharBoundary-start}
+use Rattle.std.{specs.List.slice_get, specs.Prelude.option_map, specs.Str.{IsCharBoundary, IsUtf8}}
+use Rattle.yq_core.{specs.Answers.ReadFails, specs.Quoted.IsQuotedText, specs.Text.is_empty, specs.declared.fault.ReadError.ReadError}
 use Rattle.yq_core.specs.Scalars.{scalar_content, is_quoted}
-use Rattle.yq_outline.specs.declared.line.Head.{Head}
-use Rattle.yq_outline.specs.View.{head_flow, head_view}
-use Rattle.yq_row_table.specs.Exchange.{before_content, behind_row, rows_behind}
-use Rattle.yq_row_table.specs.Grammar.{IsMark}
-use Rattle.yq_row_table.specs.Rows as rows
-use Rattle.yq_row_table.specs.Rows.{Row, Cut, parent_indent}
-use Rattle.yq_row_table.specs.View.{Slices, colon_of, key_of_mark, slices, rows_of, RowsView}
-use Rattle.yq_row_table.proofs.PlaceLaws.{RowIn, place, row_in}
-use Rattle.yq_row_table.proofs.SliceLaws.{content_slices}
-use Rattle.yq_documents.specs.FlowReading.{head_flow_at, row_flow}
-use Rattle.yq_documents.specs.KeyReading.{EndsIn}
-use Rattle.yq_documents.specs.Decoded.{borrowed_head, borrowed_text}
-use Rattle.yq_documents.specs.Reading.{content_is_fit, cut_of, mark_is_fit}
-use Rattle.yq_documents.specs.RowReading.{read_head}
-use Rattle.yq_outline.specs.Lines.{head_of}
-use Rattle.yq_documents.proofs.HeadLaws.{fitting, head_is, head_text}
-use Rattle.yq_documents.proofs.RowFlowLaws.{flow_is}
-use Rattle.yq_documents.proofs.RowLineLaws.{content_quoted}
-use Rattle.yq_outline.proofs.RowLaws.{colon_some, mark_quoted}
-use Rattle.yq_outline.proofs.OneLine.{kept}
-use Rattle.yq_compose.specs.Checking.{borrows_head, borrows_text}
-use Rattle.yq_compose.specs.Deciding.{Denies}
-use Rattle.yq_compose.specs.FitReading.{key_fits}
-use Rattle.yq_compose.specs.Decoding.{IsCutInto, IsHeadDecoded, IsKeyDecoded}
-use Rattle.yq_compose.proofs.RowBegins.{mark_plain}
+use Rattle.yq_outline.{specs.declared.line.Head.Head, specs.View.{head_flow, head_view}, specs.Lines.head_of}
+use Rattle.yq_outline.{proofs.RowLaws.{colon_some, mark_quoted}, proofs.OneLine.kept}
+use Rattle.yq_row_table.{specs.Exchange.{before_content, behind_row, rows_behind}, specs.Grammar.IsMark}
+use Rattle.yq_row_table.{specs.Rows.{Row, Cut, parent_indent}, specs.View.{Slices, colon_of, key_of_mark, slices, rows_of, RowsView}}
+use Rattle.yq_row_table.{proofs.PlaceLaws.{RowIn, place, row_in}, proofs.SliceLaws.content_slices}
+use Rattle.yq_documents.{specs.FlowReading.{head_flow_at, row_flow}, specs.KeyReading.EndsIn, specs.Decoded.{borrowed_head, borrowed_text}}
+use Rattle.yq_documents.{specs.Reading.{content_is_fit, cut_of, mark_is_fit}, specs.RowReading.read_head}
+use Rattle.yq_documents.{proofs.HeadLaws.{fitting, head_is, head_text}, proofs.RowFlowLaws.flow_is, proofs.RowLineLaws.content_quoted}
+use Rattle.yq_compose.{specs.Checking.{borrows_head, borrows_text}, specs.Deciding.Denies, specs.FitReading.key_fits}
+use Rattle.yq_compose.{specs.Decoding.{IsCutInto, IsHeadDecoded, IsKeyDecoded}, proofs.RowBegins.mark_plain}
 use Rattle.yq_compose.proofs.BorrowLaws.{borrows_key, borrowed_read}
+use Rattle.yq_core.specs.Tree as trees
+use Rattle.yq_core.specs.declared.fault.ReadError.TheVariants as errors
+use Rattle.yq_row_table.specs.Rows as rows
 
 -- a key is fit that is no plain `<<`
 key_fit : (m : rows.RowMark) → key_fits (key_of_mark m) ≡ mark_is_fit m

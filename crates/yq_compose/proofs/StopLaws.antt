@@ -1,10 +1,7 @@
 -- Where lines end that are deeper than a level, line by line.
 use Rattle.std.proofs.Common.{◌≡◌, ℕ, zero, suc, ◌+◌, ◌<◌, List, [], ◌∷◌, drop, Some, true, not, refl, ap, ◌∙◌, arith}
-use Rattle.std.proofs.lemmas.Bool.{lt-ltb, cond-true, cond-false}
-use Rattle.std.specs.List.{slice_get}
-use Rattle.yq_outline.specs.Ends.{deeper_count, part, has_no_lines}
-use Rattle.yq_outline.specs.Outline.{Line, level}
-use Rattle.yq_outline.proofs.EndsLaws.{deeper_at, drop_at}
+use Rattle.std.{proofs.lemmas.Bool.{lt-ltb, cond-true, cond-false}, specs.List.slice_get}
+use Rattle.yq_outline.{specs.Ends.{deeper_count, part, has_no_lines}, specs.Outline.{Line, level}, proofs.EndsLaws.{deeper_at, drop_at}}
 
 -- one that is deeper is counted
 pub count_here : (ls : List Line) (at floor : ℕ) (l : Line) → slice_get ls at ≡ Some l → floor < level l → deeper_count floor (drop at ls) ≡ suc (deeper_count floor (drop (suc at) ls))

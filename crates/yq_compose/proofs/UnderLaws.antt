@@ -1,13 +1,10 @@
 -- What is asked of a line and of the lines under it.
 use Rattle.std.proofs.Common.{◌≡◌, ℕ, Option, Some, None, Bool, true, false, ◌&&◌, refl, sym, arith}
-use Rattle.std.proofs.lemmas.Bool.{false≢true, eq-eqb, ne_eqb, le-leb}
-use Rattle.std.specs.Prelude.{is_some}
+use Rattle.std.{proofs.lemmas.Bool.{false≢true, eq-eqb, ne_eqb, le-leb}, specs.Prelude.is_some}
 use Rattle.yq_core.specs.Tree.{Node}
-use Rattle.yq_outline.specs.Ends.{has_no_lines}
-use Rattle.yq_outline.specs.Group.{is_open}
+use Rattle.yq_outline.{specs.Ends.has_no_lines, specs.Group.is_open}
 use Rattle.yq_outline.specs.Outline.{LineMark, Bare, Key, Dash, Line, level, Outline, end, row}
-use Rattle.yq_outline.specs.Sound.{is_sound_outline, head_is_sound, are_sound_under, is_entry_line}
-use Rattle.yq_outline.specs.Positions.{has_no_mark}
+use Rattle.yq_outline.{specs.Sound.{is_sound_outline, head_is_sound, are_sound_under, is_entry_line}, specs.Positions.has_no_mark}
 
 -- a line at another level
 pub other_level : (d n : ℕ) (l : Line) (u : Outline) → (level l ≡ n → ⊥) → are_sound_under d n l u ≡ false

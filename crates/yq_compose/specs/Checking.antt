@@ -1,26 +1,15 @@
 -- Reading (own; a reader may skip it): a document of a text whose rows are cut, with what is made of these.
-use Rattle.std.specs.Prelude.{◌≡◌, ℕ, ◌<◌, nat_lt, List, length, slice_get, Some, Bool, false, ◌&&◌, ◌||◌, ◌-◌, ◌==◌, not, take, drop, if◌then◌else◌}
-use Rattle.std.specs.List.{list_any}
-use Rattle.yq_core.specs.Plain.{holds_break}
-use Rattle.yq_core.specs.Scalars.{is_quoted}
-use Rattle.yq_core.specs.Nodes.{begins_with}
-use Rattle.yq_outline.specs.Ends.{IsEndOf, has_no_lines, part}
-use Rattle.yq_row_table.specs.Grammar.{IsCut}
-use Rattle.yq_row_table.specs.Rows.{Row, Cut}
-use Rattle.yq_row_table.specs.View.{rows_of, RowsView, rows_view}
-use Rattle.yq_outline.specs.Extents.{IsRowsView}
-use Rattle.yq_outline.specs.Outline.{Line, level}
-use Rattle.yq_outline.specs.Lines.{lines_of_rows}
-use Rattle.yq_outline.specs.RowWalk.{HasRows, IsPosition, OfLine, OfLines, line_number, lines_stop}
-use Rattle.yq_outline.specs.declared.line_position.Position.{Position}
-use Rattle.yq_outline.specs.declared.line_position.Stretch.{Stretch}
+use Rattle.std.specs.Prelude.{◌≡◌, ℕ, ◌<◌, nat_lt, List, length, slice_get, Some, Bool, false, ◌&&◌, ◌||◌, ◌-◌, ◌==◌, not, take, drop}
+use Rattle.std.{specs.Prelude.if◌then◌else◌, specs.List.list_any}
+use Rattle.yq_core.{specs.Plain.holds_break, specs.Scalars.is_quoted, specs.Nodes.begins_with}
+use Rattle.yq_outline.{specs.Ends.{IsEndOf, has_no_lines, part}, specs.Extents.IsRowsView, specs.Outline.{Line, level}}
+use Rattle.yq_outline.{specs.Lines.lines_of_rows, specs.RowWalk.{HasRows, IsPosition, OfLine, OfLines, line_number, lines_stop}}
+use Rattle.yq_outline.{specs.declared.line_position.Position.Position, specs.declared.line_position.Stretch.Stretch}
 use Rattle.yq_outline.specs.Names.{is_reference}
-use Rattle.yq_documents.specs.Decoded.{IsDecoded, Rise, decoded_flow}
-use Rattle.yq_compose.specs.Named.{flow_names}
-use Rattle.yq_documents.specs.RowReading.{is_block_head}
+use Rattle.yq_row_table.{specs.Grammar.IsCut, specs.Rows.{Row, Cut}, specs.View.{rows_of, RowsView, rows_view}}
+use Rattle.yq_documents.{specs.Decoded.{IsDecoded, Rise, decoded_flow}, specs.RowReading.is_block_head}
 use Rattle.yq_documents.specs.declared.decoded.Decoded.{Decoded}
-use Rattle.yq_compose.specs.Ahead.{IsAhead}
-use Rattle.yq_compose.specs.declared.checked.Checked.{Checked}
+use Rattle.yq_compose.{specs.Named.flow_names, specs.Ahead.IsAhead, specs.declared.checked.Checked.Checked}
 use Rattle.yq_compose.specs.declared.reached.Reached.{Reached}
 
 -- a backslash in double quotes, or a quote in single ones, stands behind the first byte and before the last (own)

@@ -1,10 +1,6 @@
 -- Reading (own; a reader may skip it: the grammar is what is believed, and the clauses `found` and `only` tie the two): what is asked of rows, by their pieces.
-use Rattle.std.specs.Prelude.{Bool, ◌||◌, ◌&&◌, not, List, ℕ, codes}
-use Rattle.std.specs.Str.{bytes_eq}
-use Rattle.yq_core.specs.Plain.{holds_break}
-use Rattle.yq_core.specs.Text.{is_empty}
-use Rattle.yq_core.specs.Nodes.{begins_with}
-use Rattle.yq_core.specs.Scalars.{is_quoted}
+use Rattle.std.{specs.Prelude.{Bool, ◌||◌, ◌&&◌, not, List, ℕ, codes}, specs.Str.bytes_eq}
+use Rattle.yq_core.{specs.Plain.holds_break, specs.Text.is_empty, specs.Nodes.begins_with, specs.Scalars.is_quoted}
 use Rattle.yq_row_table.specs.View.{Slices}
 use Rattle.yq_documents.specs.RowReading.{is_block_head}
 

@@ -1,8 +1,6 @@
 -- Reading (own; a reader may skip it): the anchors and aliases of the code.
 use Rattle.std.specs.Prelude.{List, [], map, Option, Some, None}
-use Rattle.yq_core.specs.Places.{Placed}
-use Rattle.yq_core.specs.Trees.{placed_tree}
-use Rattle.yq_core.specs.Anchors.{Name, Anchors, Refers, names_of}
+use Rattle.yq_core.{specs.Places.Placed, specs.Trees.placed_tree, specs.Anchors.{Name, Anchors, Refers, names_of}}
 use Rattle.yq_compose.specs.declared.names.Name as declared
 
 -- the name that one of the code shows (own)

@@ -1,14 +1,9 @@
 -- Reading (own; a reader may skip it): where the documents of a text stand among its rows, by where its parts end.
-use Rattle.std.specs.Prelude.{◌≡◌, ℕ, List, [], ◌∷◌, ◌++◌, length, map, nat_lt, slice_get, Option, Some, None, Bool, true, false, ◌&&◌, if◌then◌else◌}
-use Rattle.std.specs.List.{list_all}
-use Rattle.yq_outline.specs.LinesReading.{lines_are_sound}
-use Rattle.yq_row_table.specs.Grammar.{begins_document}
-use Rattle.yq_row_table.specs.Rows.{Part}
-use Rattle.yq_row_table.specs.View.{Bound, Slices}
-use Rattle.yq_outline.specs.Lines.{lines_of_rows}
-use Rattle.yq_documents.specs.Documents.{document_parts}
-use Rattle.yq_documents.specs.Holding.{IsLocated}
-use Rattle.yq_documents.specs.Reading.{cut_of, has_short_root}
+use Rattle.std.specs.Prelude.{◌≡◌, ℕ, List, [], ◌∷◌, ◌++◌, length, map, nat_lt, slice_get, Option, Some, None, Bool, true, false, ◌&&◌}
+use Rattle.std.{specs.Prelude.if◌then◌else◌, specs.List.list_all}
+use Rattle.yq_outline.{specs.LinesReading.lines_are_sound, specs.Lines.lines_of_rows}
+use Rattle.yq_row_table.{specs.Grammar.begins_document, specs.Rows.Part, specs.View.{Bound, Slices}}
+use Rattle.yq_documents.{specs.Documents.document_parts, specs.Holding.IsLocated, specs.Reading.{cut_of, has_short_root}}
 use Rattle.yq_documents.specs.declared.documents.DocumentRows.{DocumentRows}
 
 -- the gap of a row, if there is one, or another gap (own)

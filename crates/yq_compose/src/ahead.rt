@@ -1,7 +1,6 @@
 //! What is made of the rows of a text from one on.
 ghost use Rattle.std.specs.Prelude.{◌≡◌, ◌≤◌, ℕ, List, option_map};
-ghost use Rattle.yq_documents.specs.Decoded.{Rise, decoded_at};
-ghost use Rattle.yq_documents.specs.declared.decoded.Decoded.{Decoded as DecodedOf};
+ghost use Rattle.yq_documents.{specs.Decoded.{Rise, decoded_at}, specs.declared.decoded.Decoded.Decoded as DecodedOf};
 ghost use Rattle.yq_compose.specs.Ahead.{IsAhead};
 
 use yq_documents::Decoded;

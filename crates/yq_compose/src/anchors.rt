@@ -1,10 +1,10 @@
 //! Anchors of neighbouring lines: no node has two, and no alias has one.
 ghost use Rattle.std.specs.Prelude.{◌≡◌, ◌&&◌, ◌||◌, is_none, not};
-ghost use Rattle.yq_core.specs.Nodes as nodes;
 ghost use Rattle.yq_core.specs.Text.{is_empty};
-ghost use Rattle.yq_outline.specs.LinesReading as spec;
 ghost use Rattle.yq_outline.specs.RowWalk.{IsLine, OfLine, OfLines};
 ghost use Rattle.yq_compose.specs.Checking.{IsChecked};
+ghost use Rattle.yq_core.specs.Nodes as nodes;
+ghost use Rattle.yq_outline.specs.LinesReading as spec;
 
 use crate::checked::Checked;
 use yq_core::first_is;

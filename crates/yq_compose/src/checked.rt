@@ -1,13 +1,10 @@
 //! A document whose rows are checked.
 ghost use Rattle.std.specs.Prelude.{◌≡◌, ◌≢◌, ◌<◌, Some, length, slice_get};
-ghost use Rattle.yq_core.specs.declared.fault.FaultKind.TheVariants.{NotUtf8};
-ghost use Rattle.yq_core.specs.Scalars.{scalar_content};
-ghost use Rattle.yq_outline.specs.Bodies.{borrowed};
-ghost use Rattle.yq_outline.specs.Outline as outline;
+ghost use Rattle.yq_core.{specs.declared.fault.FaultKind.TheVariants.NotUtf8, specs.Scalars.scalar_content};
+ghost use Rattle.yq_outline.{specs.Bodies.borrowed, specs.RowWalk.{IsLine, OfLine}};
 ghost use Rattle.yq_row_table.specs.View.{Slices};
-ghost use Rattle.yq_outline.specs.RowWalk.{IsLine, OfLine};
-ghost use Rattle.yq_compose.specs.Ahead.{IsAhead};
-ghost use Rattle.yq_compose.specs.Checking.{IsChecked};
+ghost use Rattle.yq_compose.{specs.Ahead.IsAhead, specs.Checking.IsChecked};
+ghost use Rattle.yq_outline.specs.Outline as outline;
 
 use crate::ahead::{ahead_from, decoded_here};
 use yq_core::{FaultKind, ReadFault, is_quoted};

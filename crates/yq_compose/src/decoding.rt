@@ -1,17 +1,15 @@
 //! What rows spell, made where their text doesn't lend it.
 ghost use Rattle.std.specs.List.{list_any};
-ghost use Rattle.std.specs.Prelude.{◌≡◌, ◌<◌, ◌++◌, ◌==◌, if◌then◌else◌, length, option_and_then, option_map, string_bytes, true, IfErr, IfOk, IfSome};
-ghost use Rattle.yq_core.specs.Answers.{IsOfText};
-ghost use Rattle.yq_core.specs.Quoted.{IsQuotedText};
-ghost use Rattle.yq_core.specs.Scalars.{is_quoted as is_in_quotes};
+ghost use Rattle.std.specs.Prelude.{◌≡◌, ◌<◌, ◌++◌, ◌==◌, if◌then◌else◌, length, option_and_then, option_map, string_bytes, true, IfErr};
+ghost use Rattle.std.specs.Prelude.{IfOk, IfSome};
+ghost use Rattle.yq_core.{specs.Answers.IsOfText, specs.Quoted.IsQuotedText, specs.Scalars.is_quoted as is_in_quotes};
 ghost use Rattle.yq_outline.specs.View.{head_flow, head_view};
 ghost use Rattle.yq_row_table.specs.View.{rows_of};
-ghost use Rattle.yq_documents.specs.Decoded.{IsDecodedBy};
-ghost use Rattle.yq_documents.specs.Reading.{content_is_fit, cut_of, have_fit_keys, mark_is_fit};
+ghost use Rattle.yq_documents.{specs.Decoded.IsDecodedBy, specs.Reading.{content_is_fit, cut_of, have_fit_keys, mark_is_fit}};
 ghost use Rattle.yq_documents.specs.RowReading.{row_fits};
-ghost use Rattle.yq_compose.specs.Checking as spec;
 ghost use Rattle.yq_compose.specs.Deciding.{Decides};
 ghost use Rattle.yq_compose.specs.Decoding.{AreDecoded, IsCutInto, IsHeadDecoded, IsKeyDecoded, OfRow, list_of_option};
+ghost use Rattle.yq_compose.specs.Checking as spec;
 
 use crate::fit::key_fits;
 use crate::nested::flow_decoded;

@@ -1,12 +1,10 @@
 //! A document, checked by its rows.
 ghost use Rattle.std.specs.Prelude.{◌≡◌, ◌&&◌, [], IfErr};
 ghost use Rattle.yq_core.specs.Answers.{IsOfText};
-ghost use Rattle.yq_outline.specs.LinesReading as lines;
-ghost use Rattle.yq_outline.specs.Names.{line_names};
-ghost use Rattle.yq_outline.specs.Lines.{lines_of_rows};
+ghost use Rattle.yq_outline.{specs.Names.line_names, specs.Lines.lines_of_rows};
 ghost use Rattle.yq_documents.specs.Reading.{has_short_root};
-ghost use Rattle.yq_compose.specs.Checking.{IsChecked, OfChecked, some_refer};
-ghost use Rattle.yq_compose.specs.Deciding.{Decides};
+ghost use Rattle.yq_compose.{specs.Checking.{IsChecked, OfChecked, some_refer}, specs.Deciding.Decides};
+ghost use Rattle.yq_outline.specs.LinesReading as lines;
 
 use crate::ahead::ahead_from;
 use crate::anchors::second_anchor;

@@ -2,8 +2,7 @@
 ghost use Rattle.std.specs.Prelude.{◌≡◌, ◌++◌, option_map, IfOk, OnOk};
 ghost use Rattle.yq_core.specs.View.{inline_view};
 ghost use Rattle.yq_outline.specs.Names.{line_names};
-ghost use Rattle.yq_compose.specs.Checking.{IsChecked, OfChecked};
-ghost use Rattle.yq_compose.specs.Named.{all_named, flow_names};
+ghost use Rattle.yq_compose.{specs.Checking.{IsChecked, OfChecked}, specs.Named.{all_named, flow_names}};
 
 use crate::ahead::{ahead_from, ahead_of};
 use crate::checked::Checked;

@@ -1,8 +1,8 @@
 //! What is asked of the rows of a document, row by row.
 ghost use Rattle.std.specs.Prelude.{◌≡◌};
 ghost use Rattle.yq_row_table.specs.View.{row_view};
-ghost use Rattle.yq_compose.specs.FitReading as spec;
 ghost use Rattle.yq_outline.specs.RowWalk.{HasRows};
+ghost use Rattle.yq_compose.specs.FitReading as spec;
 ghost use Rattle.yq_documents.specs.Reading as reading;
 
 use yq_core::{first_is, is_quoted};

@@ -1,11 +1,9 @@
 //! What is asked of flow collections: how deep they are nested, and the keys of each.
 ghost use Rattle.std.specs.Prelude.{◌&&◌, Some, IfErr};
-ghost use Rattle.yq_core.specs.Answers.{IsOfText};
-ghost use Rattle.yq_core.specs.Keys.{are_distinct, keys_of};
-ghost use Rattle.yq_core.specs.Trees.{parts_tree, placed_tree};
+ghost use Rattle.yq_core.{specs.Answers.IsOfText, specs.Keys.{are_distinct, keys_of}, specs.Trees.{parts_tree, placed_tree}};
 ghost use Rattle.yq_core.specs.View.{entries_end, items_end, inline_view};
-ghost use Rattle.yq_outline.specs.Sound as spec;
 ghost use Rattle.yq_compose.specs.Deciding.{Decides};
+ghost use Rattle.yq_outline.specs.Sound as spec;
 
 use crate::keys::Keys;
 use std::alloc::{AllocError, Global};

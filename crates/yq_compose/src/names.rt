@@ -1,9 +1,9 @@
 //! The anchors and aliases in flow nodes, in the order of the text.
 ghost use Rattle.std.specs.Prelude.{◌≡◌, ◌++◌, [], option_map, OnOk};
 ghost use Rattle.yq_core.specs.Trees.{parts_tree, placed_tree};
+ghost use Rattle.yq_compose.specs.Named.{all_named};
 ghost use Rattle.yq_core.specs.View as inline;
 ghost use Rattle.yq_core.specs.Anchors as spec;
-ghost use Rattle.yq_compose.specs.Named.{all_named};
 
 use std::alloc::AllocError;
 use yq_core::{Form, Inline, Piece};

@@ -1,14 +1,10 @@
 //! What is asked of a head: how deep collections are nested in it, and the keys of each.
 ghost use Rattle.std.specs.Prelude.{◌≡◌, List, option_map, IfErr, Some};
-ghost use Rattle.yq_core.specs.Answers.{IsOfText};
-ghost use Rattle.yq_core.specs.View.{inline_view};
-ghost use Rattle.yq_outline.specs.Sound as spec;
+ghost use Rattle.yq_core.{specs.Answers.IsOfText, specs.View.inline_view};
 ghost use Rattle.yq_outline.specs.RowWalk.{IsLine};
-ghost use Rattle.yq_documents.specs.Decoded.{decoded_at, decoded_flow};
-ghost use Rattle.yq_documents.specs.declared.decoded.Decoded.{Decoded as DecodedOf};
-ghost use Rattle.yq_compose.specs.Ahead.{IsAhead};
-ghost use Rattle.yq_compose.specs.Checking.{IsChecked, IsReached, OfCheckedLine};
-ghost use Rattle.yq_compose.specs.Deciding.{Decides};
+ghost use Rattle.yq_documents.{specs.Decoded.{decoded_at, decoded_flow}, specs.declared.decoded.Decoded.Decoded as DecodedOf};
+ghost use Rattle.yq_compose.{specs.Ahead.IsAhead, specs.Checking.{IsChecked, IsReached, OfCheckedLine}, specs.Deciding.Decides};
+ghost use Rattle.yq_outline.specs.Sound as spec;
 
 use crate::ahead::decoded_here;
 use crate::checked::Checked;

@@ -1,12 +1,9 @@
 //! Lines of a document that is checked, each with how deep it is.
 ghost use Rattle.std.specs.Prelude.{◌≡◌, ◌<◌, ◌+◌, not, is_some, IsTrue};
-ghost use Rattle.yq_outline.specs.Bodies.{borrowed};
-ghost use Rattle.yq_outline.specs.Ends.{has_no_lines, part};
+ghost use Rattle.yq_outline.{specs.Bodies.borrowed, specs.Ends.{has_no_lines, part}, specs.RowWalk.{IsLine, IsPosition, OfLine, OfLines}};
+ghost use Rattle.yq_compose.{specs.Ahead.IsAhead, specs.Checking.{IsChecked, IsReached}};
 ghost use Rattle.yq_outline.specs.Outline as outline;
 ghost use Rattle.yq_outline.specs.Positions as positions;
-ghost use Rattle.yq_outline.specs.RowWalk.{IsLine, IsPosition, OfLine, OfLines};
-ghost use Rattle.yq_compose.specs.Ahead.{IsAhead};
-ghost use Rattle.yq_compose.specs.Checking.{IsChecked, IsReached};
 
 use crate::ahead::ahead_of;
 use crate::checked::{Checked, row_key};

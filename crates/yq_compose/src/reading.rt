@@ -1,14 +1,9 @@
 //! A text that is cut into rows, read as documents.
 ghost use Rattle.std.specs.Prelude.{◌≡◌, IfErr, IfOk};
 ghost use Rattle.yq_core.specs.Answers.{IsOfText};
-ghost use Rattle.yq_row_table.specs.Grammar.{IsCut};
-ghost use Rattle.yq_row_table.specs.Rows.{Cut};
-ghost use Rattle.yq_row_table.specs.View.{rows_view};
-ghost use Rattle.yq_documents.specs.Documents.{document_parts};
-ghost use Rattle.yq_documents.specs.Reading.{all_documents, cut_of};
-ghost use Rattle.yq_compose.specs.Checking.{some_refer};
-ghost use Rattle.yq_compose.specs.Deciding.{Decides};
-ghost use Rattle.yq_compose.specs.Decoding.{AreDecoded, IsCutInto};
+ghost use Rattle.yq_row_table.{specs.Grammar.IsCut, specs.Rows.Cut, specs.View.rows_view};
+ghost use Rattle.yq_documents.{specs.Documents.document_parts, specs.Reading.{all_documents, cut_of}};
+ghost use Rattle.yq_compose.{specs.Checking.some_refer, specs.Deciding.Decides, specs.Decoding.{AreDecoded, IsCutInto}};
 ghost use Rattle.yq_compose.specs.Places.{AreLocated, all_sound};
 
 use crate::checked::Checked;

@@ -1,14 +1,10 @@
 //! What is asked of a document's lines, row by row.
 ghost use Rattle.std.specs.Prelude.{◌≡◌, ◌≢◌, ◌+◌, ◌++◌, ◌&&◌, [], false, is_some, map, IfErr, IfOk, OnOk, Some};
-ghost use Rattle.yq_core.specs.Answers.{IsOfText};
-ghost use Rattle.yq_core.specs.declared.fault.FaultKind.TheVariants.{NotUtf8};
-ghost use Rattle.yq_core.specs.Text.{with_first};
-ghost use Rattle.yq_outline.specs.Ends.{part, has_no_lines};
+ghost use Rattle.yq_core.{specs.Answers.IsOfText, specs.declared.fault.FaultKind.TheVariants.NotUtf8, specs.Text.with_first};
+ghost use Rattle.yq_outline.{specs.Ends.{part, has_no_lines}, specs.RowWalk.{IsLine, IsPosition, OfLine, OfLines}};
+ghost use Rattle.yq_compose.{specs.Checking.{IsChecked, IsReached, OfChecked, OfCheckedLine, GivesEnd, GivesStop}, specs.Deciding.Decides};
 ghost use Rattle.yq_outline.specs.Outline as outline;
 ghost use Rattle.yq_outline.specs.Sound as spec;
-ghost use Rattle.yq_outline.specs.RowWalk.{IsLine, IsPosition, OfLine, OfLines};
-ghost use Rattle.yq_compose.specs.Checking.{IsChecked, IsReached, OfChecked, OfCheckedLine, GivesEnd, GivesStop};
-ghost use Rattle.yq_compose.specs.Deciding.{Decides};
 
 use crate::checked::{Checked, line_key, row_fault};
 use crate::keys::Keys;

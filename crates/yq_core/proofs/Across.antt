@@ -1,14 +1,11 @@
 -- Over white space and breaks, to where a plain scalar goes on.
-use Rattle.std.proofs.Common.{◌≡◌, ℕ, suc, ◌+◌, ◌-◌, ◌<◌, ◌≤◌, Bool, true, false, cond, not, eqb, List, [], ◌∷◌, ◌++◌, length, take, drop, get_or, Option, Some, None, refl, sym, inl, inr, ◌&&◌, ap, ◌∙◌, subst, arith, length-drop, rules}
+use Rattle.std.proofs.Common.{◌≡◌, ℕ, suc, ◌+◌, ◌-◌, ◌<◌, ◌≤◌, Bool, true, false, cond, not, eqb, List, [], ◌∷◌, ◌++◌, length, take, drop}
+use Rattle.std.proofs.Common.{get_or, Option, Some, None, refl, sym, inl, inr, ◌&&◌, ap, ◌∙◌, subst, arith, length-drop, rules}
 use Rattle.std.proofs.lemmas.Bool.{false≢true, false_from_ne_true, and_parts, cases_Bool}
-use Rattle.std.proofs.lemmas.List.{take_rest, take-append-drop}
-use Rattle.std.proofs.lemmas.Option.{cond_some}
-use Rattle.std.specs.List.{prefix_len}
+use Rattle.std.{proofs.lemmas.List.{take_rest, take-append-drop}, proofs.lemmas.Option.cond_some, specs.List.prefix_len}
 use Rattle.std.specs.Option.{is_none, option_or}
-use Rattle.yq_core.specs.Answers.{more}
-use Rattle.yq_core.specs.Text.{upto, cut, is_empty, is_feed, is_white, is_break, is_space, front}
-use Rattle.yq_core.specs.Plain.{begins_deep, ends_plain, ends_text, last_line, plain_may_follow, no_gap}
-use Rattle.yq_core.specs.PlainReading.{across}
+use Rattle.yq_core.{specs.Answers.more, specs.Text.{upto, cut, is_empty, is_feed, is_white, is_break, is_space, front}}
+use Rattle.yq_core.{specs.Plain.{begins_deep, ends_plain, ends_text, last_line, plain_may_follow, no_gap}, specs.PlainReading.across}
 use Rattle.yq_core.proofs.Bools.{more_more, more_none, more_some, at_byte}
 
 -- what stands behind the first byte, as a slice's pattern gives it

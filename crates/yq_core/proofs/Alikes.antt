@@ -1,13 +1,10 @@
 -- Two texts that are the same up to a byte behind which nobody looks: the tests of what is in front.
 use Rattle.std.proofs.Common.{◌≡◌, inl, inr, ℕ, Bool, true, false, eqb, List, [], ◌∷◌, ◌++◌, Option, Some, None, refl, sym, ap, ◌∙◌, rules}
-use Rattle.std.proofs.Math.Bool.{and-false}
-use Rattle.std.proofs.lemmas.Bool.{cases_Bool, or_parts}
-use Rattle.std.specs.List.{prefix_len}
-use Rattle.yq_core.specs.Plain.{begins_plain, ends_plain, ends_text, is_flow_indicator, is_safe, no_gap, last_line, begins_deep, plain_may_follow, follows, IsPlain}
-use Rattle.yq_core.specs.QuotedReading.{is_quote}
+use Rattle.std.{proofs.Math.Bool.and-false, proofs.lemmas.Bool.{cases_Bool, or_parts}, specs.List.prefix_len}
+use Rattle.yq_core.specs.Plain.{begins_plain, ends_plain, ends_text, is_flow_indicator, is_safe, no_gap, last_line, begins_deep}
+use Rattle.yq_core.{specs.Plain.{plain_may_follow, follows, IsPlain}, specs.QuotedReading.is_quote}
 use Rattle.yq_core.specs.Text.{upto, cut, NoneIn, front, unless, is_empty, is_white, is_feed, is_break, is_space, separates, is_marker}
-use Rattle.yq_core.proofs.Bools.{at_byte}
-use Rattle.yq_core.specs.Alike.{ends_lookahead, Alike, stop, colon, any_colon, byte, after}
+use Rattle.yq_core.{proofs.Bools.at_byte, specs.Alike.{ends_lookahead, Alike, stop, colon, any_colon, byte, after}}
 use Rattle.yq_core.specs.Nodes.{begins_with, begins_content}
 
 pub alike_append : (f : Option Bool) (p t u : List ℕ) → Alike f t u → Alike f (p ++ t) (p ++ u)

@@ -1,13 +1,10 @@
 -- Steps of the loops that say what raw lines say.
-use Rattle.std.proofs.Common.{◌≡◌, ℕ, ◌+◌, Bool, true, false, not, ◌&&◌, eqb, List, [], ◌∷◌, ◌++◌, length, refl, sym, ap, ◌∙◌, append_assoc, append-nil, eqb-true, rules}
-use Rattle.std.proofs.lemmas.Bool.{false_from_ne_true}
-use Rattle.yq_core.proofs.LineLaws.{line_step}
-use Rattle.yq_core.specs.Block.{no_lines}
+use Rattle.std.proofs.Common.{◌≡◌, ℕ, ◌+◌, Bool, true, false, not, ◌&&◌, eqb, List, [], ◌∷◌, ◌++◌, length, refl, sym, ap, ◌∙◌, append_assoc}
+use Rattle.std.{proofs.Common.{append-nil, eqb-true, rules}, proofs.lemmas.Bool.false_from_ne_true}
+use Rattle.yq_core.{proofs.LineLaws.line_step, specs.Block.no_lines}
 use Rattle.yq_core.specs.BlockContent.{part_of, optional_break, literal, joint, chomped_end, is_spaced_line, folded}
-use Rattle.yq_core.specs.Text.{is_white, front, text_lines}
-use Rattle.yq_core.specs.declared.block_types.LineBefore.{LineBefore}
-use Rattle.yq_core.specs.declared.block_header.Chomping.{Chomping}
-use Rattle.yq_core.specs.declared.block_lines.TextIndent.{TextIndent}
+use Rattle.yq_core.{specs.Text.{is_white, front, text_lines}, specs.declared.block_types.LineBefore.LineBefore}
+use Rattle.yq_core.{specs.declared.block_header.Chomping.Chomping, specs.declared.block_lines.TextIndent.TextIndent}
 
 pub lines_none : (a : List ℕ) → no_lines (text_lines a) ≡ eqb (length a) 0
 unfolding text_lines

@@ -1,24 +1,14 @@
 -- Where the block scalar that is found stands.
-use Rattle.std.proofs.Common.{◌≡◌, ◌≢◌, ℕ, ◌+◌, ◌-◌, ◌≤◌, Bool, true, List, ◌++◌, length, drop, Option, Some, sym, ap, ◌∙◌, length-append, Result, Ok, Err, IfOk, ℤ, rules}
-use Rattle.std.proofs.lemmas.Bool.{false≢true}
-use Rattle.std.proofs.lemmas.Option.{same_Some}
-use Rattle.yq_core.proofs.BlockLaws.{block_takes, block_again}
-use Rattle.yq_core.proofs.Bools.{bind_some}
-use Rattle.yq_core.proofs.HeaderLaws.{head_length}
-use Rattle.yq_core.proofs.LineLaws.{joined_lines, joined-append}
-use Rattle.yq_core.proofs.RawLaws.{raw_split}
-use Rattle.yq_core.specs.Answers.{ReadsAs}
+use Rattle.std.proofs.Common.{◌≡◌, ◌≢◌, ℕ, ◌+◌, ◌-◌, ◌≤◌, Bool, true, List, ◌++◌, length, drop, Option, Some, sym, ap, ◌∙◌, length-append}
+use Rattle.std.{proofs.Common.{Result, Ok, Err, IfOk, ℤ, rules}, proofs.lemmas.Bool.false≢true, proofs.lemmas.Option.same_Some}
+use Rattle.yq_core.{proofs.BlockLaws.{block_takes, block_again}, proofs.Bools.bind_some, proofs.HeaderLaws.head_length}
+use Rattle.yq_core.{proofs.LineLaws.{joined_lines, joined-append}, proofs.RawLaws.raw_split, specs.Answers.ReadsAs}
 use Rattle.yq_core.specs.Block.{as_style, is_block_fault, keeps, IsBlockPiece}
-use Rattle.yq_core.specs.BlockReading.{raw_at, len_at, indent_at, read_style, indicators_at, values, read_header_tail, block_behind, block_at, read_block_piece, block_from}
-use Rattle.yq_core.specs.Piece.{deeper}
-use Rattle.yq_core.specs.Text.{text_lines, joined}
-use Rattle.yq_core.specs.declared.block_header.BlockStyle.{BlockStyle}
-use Rattle.yq_core.specs.declared.block_header.Chomping.{Chomping}
-use Rattle.yq_core.specs.declared.block_lines.TextIndent.{TextIndent}
-use Rattle.yq_core.specs.declared.fault.FaultKind.{FaultKind}
-use Rattle.yq_core.specs.declared.fault.FaultKind.TheVariants.{NotUtf8}
-use Rattle.yq_core.specs.declared.piece.Piece.{Piece}
-use Rattle.yq_core.specs.declared.style.Style.{Style}
+use Rattle.yq_core.specs.BlockReading.{raw_at, len_at, indent_at, read_style, indicators_at, values, read_header_tail, block_behind}
+use Rattle.yq_core.{specs.BlockReading.{block_at, read_block_piece, block_from}, specs.Piece.deeper, specs.Text.{text_lines, joined}}
+use Rattle.yq_core.{specs.declared.block_header.BlockStyle.BlockStyle, specs.declared.block_header.Chomping.Chomping}
+use Rattle.yq_core.{specs.declared.block_lines.TextIndent.TextIndent, specs.declared.fault.FaultKind.FaultKind}
+use Rattle.yq_core.{specs.declared.fault.FaultKind.TheVariants.NotUtf8, specs.declared.piece.Piece.Piece, specs.declared.style.Style.Style}
 
 pub raw_within : (keep : Bool) (f : TextIndent) (t : List ℕ) (n : ℕ) → len_at keep f t ≡ Some n → n ≤ length t
 raw_within keep f t n h =

@@ -1,11 +1,9 @@
 -- A block scalar, both ways.
-use Rattle.std.proofs.Common.{◌≡◌, ℕ, true, List, ◌∷◌, ◌++◌, Some, sym, ap, ◌∙◌, subst, rules}
-use Rattle.std.proofs.lemmas.List.{append_cancel_left}
+use Rattle.std.{proofs.Common.{◌≡◌, ℕ, true, List, ◌∷◌, ◌++◌, Some, sym, ap, ◌∙◌, subst, rules}, proofs.lemmas.List.append_cancel_left}
 use Rattle.std.proofs.lemmas.Option.{same_Some}
-use Rattle.yq_core.proofs.Bools.{bind_some}
-use Rattle.yq_core.proofs.DetectedLaws.{indent_takes, indent_again}
-use Rattle.yq_core.proofs.HeaderLaws.{style_takes, style_again, indicators_takes, tail_takes, tail_again, tail_no_indicator, indicators_again}
-use Rattle.yq_core.proofs.LineLaws.{joined_lines, lines_are, joined-append}
+use Rattle.yq_core.{proofs.Bools.bind_some, proofs.DetectedLaws.{indent_takes, indent_again}}
+use Rattle.yq_core.proofs.HeaderLaws.{style_takes, style_again, indicators_takes, tail_takes, tail_again, tail_no_indicator}
+use Rattle.yq_core.{proofs.HeaderLaws.indicators_again, proofs.LineLaws.{joined_lines, lines_are, joined-append}}
 use Rattle.yq_core.proofs.RawLaws.{raw_split, IsRaw, raw_takes, raw_again, lines_raw}
 use Rattle.yq_core.specs.Block.{ends_block, style_indicator, keeps, BlockText, block_text, IsBlock}
 use Rattle.yq_core.specs.BlockReading.{raw_at, indent_at, read_style, indicators_at, read_header_tail, block_behind, block_at}

@@ -1,23 +1,16 @@
 -- Where a piece may be cut out of its text.
-use Rattle.std.proofs.Common.{◌≡◌, ℕ, suc, ◌+◌, ◌-◌, ◌<◌, ◌≤◌, true, eqb, List, [], ◌∷◌, ◌++◌, length, take, drop, get_or, Option, refl, sym, ap, ◌∙◌, subst, inl, ◌⊎◌, ⊎_elim, arith, eqb-true, append_assoc, append-nil, length-append, length-take, length-drop, min, ℤ, rules}
-use Rattle.std.proofs.lemmas.Bool.{false≢true, and_parts, cases_Bool}
-use Rattle.std.proofs.lemmas.List.{take-append-drop, drop-drop}
-use Rattle.std.proofs.Math.Seq.{take-append_seam, drop-append_seam}
-use Rattle.std.specs.Str.{IsUtf8, IsCharBoundary}
-use Rattle.std.proofs.lemmas.Str.{IsCharBoundary-after_ascii}
+use Rattle.std.proofs.Common.{◌≡◌, ℕ, suc, ◌+◌, ◌-◌, ◌<◌, ◌≤◌, true, eqb, List, [], ◌∷◌, ◌++◌, length, take, drop, get_or, Option, refl}
+use Rattle.std.proofs.Common.{sym, ap, ◌∙◌, subst, inl, ◌⊎◌, ⊎_elim, arith, eqb-true, append_assoc, append-nil, length-append, length-take}
+use Rattle.std.{proofs.Common.{length-drop, min, ℤ, rules}, proofs.lemmas.Bool.{false≢true, and_parts, cases_Bool}}
+use Rattle.std.{proofs.lemmas.List.{take-append-drop, drop-drop}, proofs.Math.Seq.{take-append_seam, drop-append_seam}}
+use Rattle.std.{specs.Str.{IsUtf8, IsCharBoundary}, proofs.lemmas.Str.IsCharBoundary-after_ascii}
+use Rattle.yq_core.{proofs.DetectedLaws.detect_back, proofs.HeaderLaws.{tail_no_indicator, indicators_again}, proofs.RawLaws.raw_lines}
+use Rattle.yq_core.specs.Block.{RawLines, AreRaw, IsTextIndent, style_indicator, as_style, is_tail, BlockText, block_text, IsBlock}
+use Rattle.yq_core.{specs.Block.IsBlockPiece, specs.BlockContent.block_content}
+use Rattle.yq_core.{specs.BlockReading.{block_style, indent_of, block_piece_content, indicators_at, values}, specs.Piece.deeper}
+use Rattle.yq_core.{specs.Text.{text_lines, joined, is_line}, specs.declared.block_header.BlockStyle.BlockStyle}
+use Rattle.yq_core.{specs.declared.block_lines.TextIndent.TextIndent, specs.declared.piece.Piece.Piece, proofs.LineLaws.is_empty_is}
 use Rattle.yq_core.specs.declared.block_header.BlockStyle.TheVariants as styles
-use Rattle.yq_core.proofs.DetectedLaws.{detect_back}
-use Rattle.yq_core.proofs.HeaderLaws.{tail_no_indicator, indicators_again}
-use Rattle.yq_core.proofs.RawLaws.{raw_lines}
-use Rattle.yq_core.specs.Block.{RawLines, AreRaw, IsTextIndent, style_indicator, as_style, is_tail, BlockText, block_text, IsBlock, IsBlockPiece}
-use Rattle.yq_core.specs.BlockContent.{block_content}
-use Rattle.yq_core.specs.BlockReading.{block_style, indent_of, block_piece_content, indicators_at, values}
-use Rattle.yq_core.specs.Piece.{deeper}
-use Rattle.yq_core.specs.Text.{text_lines, joined, is_line}
-use Rattle.yq_core.specs.declared.block_header.BlockStyle.{BlockStyle}
-use Rattle.yq_core.specs.declared.block_lines.TextIndent.{TextIndent}
-use Rattle.yq_core.specs.declared.piece.Piece.{Piece}
-use Rattle.yq_core.proofs.LineLaws.{is_empty_is}
 
 -- a text that ends in LF
 abbrev pub IsLf : List ℕ → Type 0

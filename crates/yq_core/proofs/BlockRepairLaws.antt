@@ -1,13 +1,14 @@
 -- A repaired gap may stand behind a block scalar and keeps its comments.
-use Rattle.std.proofs.Common.{◌≡◌, ℕ, zero, suc, ◌<◌, Bool, true, false, ◌||◌, eqb, List, [], ◌∷◌, ◌++◌, drop, replicate, refl, sym, ap, ◌∙◌, ⊎_elim, eqb-true, rules}
-use Rattle.std.proofs.lemmas.Bool.{false≢true, cond_both, or_cases, false_from_ne_true, le-leb, or_right, lt-ltb, and_from, and_parts, cases_Bool}
+use Rattle.std.proofs.Common.{◌≡◌, ℕ, zero, suc, ◌<◌, Bool, true, false, ◌||◌, eqb, List, [], ◌∷◌, ◌++◌, drop, replicate, refl, sym, ap}
+use Rattle.std.proofs.Common.{◌∙◌, ⊎_elim, eqb-true, rules}
+use Rattle.std.proofs.lemmas.Bool.{false≢true, cond_both, or_cases, false_from_ne_true, le-leb, or_right, lt-ltb, and_from, and_parts}
+use Rattle.std.proofs.lemmas.Bool.{cases_Bool}
 use Rattle.yq_core.proofs.RawLaws.{next_not_empty, ends_blank}
 use Rattle.yq_core.proofs.SpaceLaws.{white_drop, spaces_blank, prefix_none, spaces_front, drop_front}
 use Rattle.yq_core.specs.Block.{RawLines, is_empty_line, is_less_indented, ends_block}
-use Rattle.yq_core.specs.BlockRepair.{AreGap, is_short, is_outdented_comment, repaired_blank, repaired_comment, repair, comment_lines, is_behind}
-use Rattle.yq_core.specs.Lines.{spaces, behind_spaces, is_hash, is_blank}
-use Rattle.yq_core.specs.Text.{ends_line, past_white, upto}
-use Rattle.yq_core.specs.declared.block_lines.TextIndent.{TextIndent}
+use Rattle.yq_core.specs.BlockRepair.{AreGap, is_short, is_outdented_comment, repaired_blank, repaired_comment, repair, comment_lines}
+use Rattle.yq_core.{specs.BlockRepair.is_behind, specs.Lines.{spaces, behind_spaces, is_hash, is_blank}}
+use Rattle.yq_core.{specs.Text.{ends_line, past_white, upto}, specs.declared.block_lines.TextIndent.TextIndent}
 
 -- what begins with no space
 no_spaces : (b : ℕ) (t : List ℕ) → eqb b 32 ≡ false → (spaces (b ∷ t) ≡ 0) × (behind_spaces (b ∷ t) ≡ b ∷ t)

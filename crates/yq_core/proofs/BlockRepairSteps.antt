@@ -1,10 +1,7 @@
 -- Steps of the loop that repairs a gap.
 use Rattle.std.proofs.Common.{◌≡◌, ℕ, Bool, true, false, cond, List, [], ◌∷◌, ◌++◌, refl, sym, ap, ◌∙◌, append_assoc, append-nil, rules}
-use Rattle.yq_core.proofs.LineLaws.{joined_lines}
-use Rattle.yq_core.specs.Block.{RawLines}
-use Rattle.yq_core.specs.BlockRepair.{repaired_blank, repaired_comment, repair}
-use Rattle.yq_core.specs.Lines.{is_blank}
-use Rattle.yq_core.specs.Text.{text_lines, joined}
+use Rattle.yq_core.{proofs.LineLaws.joined_lines, specs.Block.RawLines, specs.BlockRepair.{repaired_blank, repaired_comment, repair}}
+use Rattle.yq_core.{specs.Lines.is_blank, specs.Text.{text_lines, joined}}
 
 -- what is written for a blank line
 abbrev written_blank : Bool → ℕ → List ℕ → List ℕ

@@ -1,17 +1,13 @@
 -- A repaired gap in front of a text.
-use Rattle.std.proofs.Common.{◌≡◌, ℕ, zero, suc, ◌<◌, Bool, true, false, cond, ◌||◌, eqb, List, [], ◌∷◌, ◌++◌, replicate, ◌⊎◌, inl, inr, refl, sym, ap, ◌∙◌, ⊎_elim, append_assoc, append-nil, rules}
-use Rattle.std.proofs.lemmas.Bool.{cond_both, cases_Bool}
-use Rattle.yq_core.proofs.BlockRepairLaws.{comment_less, blank_empty, ends_less, ends_behind}
-use Rattle.yq_core.proofs.Bools.{at_byte}
-use Rattle.yq_core.proofs.LineLaws.{lines_again, joined_lines}
-use Rattle.yq_core.proofs.SpaceLaws.{white_drop}
+use Rattle.std.proofs.Common.{◌≡◌, ℕ, zero, suc, ◌<◌, Bool, true, false, cond, ◌||◌, eqb, List, [], ◌∷◌, ◌++◌, replicate, ◌⊎◌, inl, inr}
+use Rattle.std.{proofs.Common.{refl, sym, ap, ◌∙◌, ⊎_elim, append_assoc, append-nil, rules}, proofs.lemmas.Bool.{cond_both, cases_Bool}}
+use Rattle.yq_core.{proofs.BlockRepairLaws.{comment_less, blank_empty, ends_less, ends_behind}, proofs.Bools.at_byte}
+use Rattle.yq_core.{proofs.LineLaws.{lines_again, joined_lines}, proofs.SpaceLaws.white_drop}
 use Rattle.yq_core.specs.Block.{RawLines, no_lines, keeps, ends_block, BlockText, IsBlock}
 use Rattle.yq_core.specs.BlockRepair.{AreGap, is_short, is_outdented_comment, repaired_blank, repaired_comment, repair, is_behind}
-use Rattle.yq_core.specs.BlockWritten.{ends_with_break}
-use Rattle.yq_core.specs.Lines.{is_blank, is_hash}
+use Rattle.yq_core.{specs.BlockWritten.ends_with_break, specs.Lines.{is_blank, is_hash}}
 use Rattle.yq_core.specs.Text.{is_white, past_white, upto, text_lines, put_byte, joined, is_line}
-use Rattle.yq_core.specs.declared.block_lines.TextIndent.{TextIndent}
-use Rattle.yq_core.proofs.RawLaws.{ends_blank}
+use Rattle.yq_core.{specs.declared.block_lines.TextIndent.TextIndent, proofs.RawLaws.ends_blank}
 
 -- no LF is in the text
 abbrev NoFeed : List ℕ → Type 0

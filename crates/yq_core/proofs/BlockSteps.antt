@@ -1,12 +1,11 @@
 -- Steps of the loops over lines.
-use Rattle.std.proofs.Common.{◌≡◌, ℕ, zero, suc, ◌+◌, ◌<◌, ◌≤◌, Bool, true, false, cond, eqb, ltb, List, [], ◌∷◌, length, take, drop, Option, Some, None, refl, sym, ap, ◌∙◌, ⊎_elim, arith, eqb-true, length-append, length-take, length-drop, rules}
-use Rattle.std.proofs.lemmas.Bool.{false≢true, lt-ltb, false_from_ne_true, cases_Bool, le-ltb}
-use Rattle.yq_core.proofs.LineLaws.{line_step, line_len_some, line_len_within}
-use Rattle.yq_core.specs.Answers.{◌>>=◌}
+use Rattle.std.proofs.Common.{◌≡◌, ℕ, zero, suc, ◌+◌, ◌<◌, ◌≤◌, Bool, true, false, cond, eqb, ltb, List, [], ◌∷◌, length, take, drop}
+use Rattle.std.proofs.Common.{Option, Some, None, refl, sym, ap, ◌∙◌, ⊎_elim, arith, eqb-true, length-append, length-take, length-drop}
+use Rattle.std.{proofs.Common.rules, proofs.lemmas.Bool.{false≢true, lt-ltb, false_from_ne_true, cases_Bool, le-ltb}}
+use Rattle.yq_core.{proofs.LineLaws.{line_step, line_len_some, line_len_within}, specs.Answers.◌>>=◌}
 use Rattle.yq_core.specs.Block.{RawLines, is_less_indented}
 use Rattle.yq_core.specs.BlockReading.{is_empty_at, is_text_at, raw_with_line, with_empty, raw_at, raw_len, len_at, raw_length, detected_at}
-use Rattle.yq_core.specs.Lines.{spaces, is_blank}
-use Rattle.yq_core.specs.Text.{is_empty, line_len, text_lines, joined, cut_line}
+use Rattle.yq_core.{specs.Lines.{spaces, is_blank}, specs.Text.{is_empty, line_len, text_lines, joined, cut_line}}
 use Rattle.yq_core.specs.declared.block_lines.TextIndent.{TextIndent}
 
 -- the line in front of a text that is not empty

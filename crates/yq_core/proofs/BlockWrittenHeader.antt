@@ -1,12 +1,9 @@
 -- The header that is written, and the loop that writes the lines.
-use Rattle.std.proofs.Common.{◌≡◌, ℕ, suc, ◌-◌, ◌<◌, ◌≤◌, Bool, false, eqb, List, [], ◌∷◌, ◌++◌, length, take, drop, refl, sym, ap, ◌∙◌, ⊎_elim, arith, eqb-true, append_assoc, append-nil, rules}
-use Rattle.std.proofs.lemmas.Bool.{false≢true, false_from_ne_true, cases_Bool}
-use Rattle.std.specs.List.{ends_with}
-use Rattle.std.specs.Cmp.Lexicographic.{pointwise}
+use Rattle.std.proofs.Common.{◌≡◌, ℕ, suc, ◌-◌, ◌<◌, ◌≤◌, Bool, false, eqb, List, [], ◌∷◌, ◌++◌, length, take, drop, refl, sym, ap, ◌∙◌}
+use Rattle.std.proofs.Common.{⊎_elim, arith, eqb-true, append_assoc, append-nil, rules}
+use Rattle.std.{proofs.lemmas.Bool.{false≢true, false_from_ne_true, cases_Bool}, specs.List.ends_with, specs.Cmp.Lexicographic.pointwise}
 use Rattle.std.specs.Prelude.{nat_eq}
-use Rattle.yq_core.proofs.LineLaws.{line_step}
-use Rattle.yq_core.specs.Block.{RawLines}
-use Rattle.yq_core.specs.BlockContent.{text_of_line}
+use Rattle.yq_core.{proofs.LineLaws.line_step, specs.Block.RawLines, specs.BlockContent.text_of_line}
 use Rattle.yq_core.specs.BlockWritten.{indented_text, raw_written, ends_with_break, chomping_by, chomping_of, ends_in_feed}
 use Rattle.yq_core.specs.Text.{line_len, text_lines, joined, is_line}
 

@@ -1,15 +1,14 @@
 -- What is written is a block scalar and stands for the text.
-use Rattle.std.proofs.Common.{◌≡◌, ℕ, ◌≤◌, Bool, true, false, cond, not, ◌&&◌, eqb, List, [], ◌∷◌, ◌++◌, length, refl, sym, ap, ◌∙◌, subst, ⊎_elim, rules}
-use Rattle.std.proofs.lemmas.Bool.{false≢true, not-true, and_parts, or_parts}
-use Rattle.yq_core.proofs.BlockWrittenLines.{IsText, IsBreak, break_is, explicit_indent, not_end, some_text, line_regroup, indented_some, indented_raw, indented_part, NoCr, Good, text_next, lines_good}
+use Rattle.std.proofs.Common.{◌≡◌, ℕ, ◌≤◌, Bool, true, false, cond, not, ◌&&◌, eqb, List, [], ◌∷◌, ◌++◌, length, refl, sym, ap, ◌∙◌, subst}
+use Rattle.std.{proofs.Common.{⊎_elim, rules}, proofs.lemmas.Bool.{false≢true, not-true, and_parts, or_parts}}
+use Rattle.yq_core.proofs.BlockWrittenLines.{IsText, IsBreak, break_is, explicit_indent, not_end, some_text, line_regroup, indented_some}
+use Rattle.yq_core.proofs.BlockWrittenLines.{indented_raw, indented_part, NoCr, Good, text_next, lines_good}
 use Rattle.yq_core.proofs.LineLaws.{joined_lines, AreLines, lines_are}
 use Rattle.yq_core.proofs.SpaceLaws.{char_not_blank, prefix_none, spaces_front, drop_front}
 use Rattle.yq_core.specs.Block.{RawLines, is_text_line, ends_block, AreRaw, no_lines, ends_in_text, IsDetected, keeps, is_tail, IsBlock}
 use Rattle.yq_core.specs.BlockContent.{text_of_line, optional_break, literal, strips, block_content}
 use Rattle.yq_core.specs.BlockWritten.{break_text, indented_text, raw_written, ends_with_break, chomping_by, written_block}
-use Rattle.yq_core.specs.Lines.{spaces}
-use Rattle.yq_core.specs.Text.{is_white, text_lines, put_byte, joined}
-use Rattle.yq_core.specs.declared.block_types.Break.{Break}
+use Rattle.yq_core.{specs.Lines.spaces, specs.Text.{is_white, text_lines, put_byte, joined}, specs.declared.block_types.Break.Break}
 
 -- the text of the last line is not empty
 unfoldable pub ends_some : RawLines → Bool

@@ -1,8 +1,6 @@
 -- How long the raw lines are that are written.
 use Rattle.std.proofs.Common.{◌≡◌, ℕ, ◌+◌, ◌-◌, ◌≤◌, ◌^◌, List, [], ◌∷◌, ◌++◌, length, min, length-append, rules}
-use Rattle.yq_core.specs.BlockContent.{text_of_line}
-use Rattle.yq_core.specs.BlockWritten.{indented_text, raw_written}
-use Rattle.yq_core.specs.Text.{text_lines, joined}
+use Rattle.yq_core.{specs.BlockContent.text_of_line, specs.BlockWritten.{indented_text, raw_written}, specs.Text.{text_lines, joined}}
 
 -- a number, or the largest one where it is larger
 abbrev capped : ℕ → ℕ

@@ -1,17 +1,14 @@
 -- A line that is written, and what it stands for.
-use Rattle.std.proofs.Common.{◌≡◌, ℕ, suc, ◌+◌, true, false, eqb, min, List, [], ◌∷◌, ◌++◌, length, take, drop, replicate, refl, sym, ap, ◌∙◌, subst, inl, inr, ◌⊎◌, ⊎_elim, arith, eqb-true, append_assoc, rules}
+use Rattle.std.proofs.Common.{◌≡◌, ℕ, suc, ◌+◌, true, false, eqb, min, List, [], ◌∷◌, ◌++◌, length, take, drop, replicate, refl, sym, ap}
+use Rattle.std.proofs.Common.{◌∙◌, subst, inl, inr, ◌⊎◌, ⊎_elim, arith, eqb-true, append_assoc, rules}
 use Rattle.std.proofs.lemmas.Bool.{false≢true, cond_both, false_from_ne_true, leb-true, le-leb, and_from, and_parts}
 use Rattle.std.proofs.Math.Seq.{take-append_seam}
-use Rattle.yq_core.specs.declared.block_types.Break.TheVariants as breaks
-use Rattle.yq_core.proofs.SpaceLaws.{spaces_front, drop_front}
-use Rattle.yq_core.specs.Block.{RawLines, is_text_line, IsRawLine}
-use Rattle.yq_core.specs.BlockContent.{text_of_line, part_of, optional_break}
-use Rattle.yq_core.specs.BlockWritten.{break_text, indented_text}
-use Rattle.yq_core.specs.Lines.{spaces}
-use Rattle.yq_core.specs.Text.{ends_line, text_lines, put_byte, is_line, upto}
-use Rattle.yq_core.specs.declared.block_lines.TextIndent.{TextIndent}
-use Rattle.yq_core.specs.declared.block_types.Break.{Break}
+use Rattle.yq_core.{proofs.SpaceLaws.{spaces_front, drop_front}, specs.Block.{RawLines, is_text_line, IsRawLine}}
+use Rattle.yq_core.{specs.BlockContent.{text_of_line, part_of, optional_break}, specs.BlockWritten.{break_text, indented_text}}
+use Rattle.yq_core.{specs.Lines.spaces, specs.Text.{ends_line, text_lines, put_byte, is_line, upto}}
+use Rattle.yq_core.{specs.declared.block_lines.TextIndent.TextIndent, specs.declared.block_types.Break.Break}
 use Rattle.yq_core.proofs.BlockRepairText.{line_spaces}
+use Rattle.yq_core.specs.declared.block_types.Break.TheVariants as breaks
 
 -- neither LF nor CR
 abbrev pub IsText : List ℕ → Type 0

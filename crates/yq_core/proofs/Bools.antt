@@ -1,6 +1,6 @@
 -- Tests, options and the steps of readers.
-use Rattle.std.proofs.Common.{◌≡◌, ◌⊎◌, ℕ, ◌+◌, ◌<◌, Bool, true, false, cond, ◌||◌, not, eqb, Option, Some, None, refl, sym, ap, ◌∙◌, inl, inr, arith, eqb-true, rules}
-use Rattle.std.proofs.lemmas.Bool.{false≢true, false_from_ne_true}
+use Rattle.std.proofs.Common.{◌≡◌, ◌⊎◌, ℕ, ◌+◌, ◌<◌, Bool, true, false, cond, ◌||◌, not, eqb, Option, Some, None, refl, sym, ap, ◌∙◌, inl}
+use Rattle.std.{proofs.Common.{inr, arith, eqb-true, rules}, proofs.lemmas.Bool.{false≢true, false_from_ne_true}}
 use Rattle.yq_core.specs.Answers.{◌>>=◌, more}
 
 -- which way a test went

@@ -1,13 +1,11 @@
 -- Where a text may be cut.
-use Rattle.std.proofs.Common.{◌≡◌, ℕ, zero, suc, ◌+◌, ◌<◌, ◌≤◌, Bool, true, ◌&&◌, eqb, min, List, [], ◌∷◌, length, drop, get_or, refl, ⊎_elim, subst, arith, eqb-true, drop-cons}
-use Rattle.std.proofs.lemmas.Bool.{or_cases, cases_lt, and_parts}
+use Rattle.std.proofs.Common.{◌≡◌, ℕ, zero, suc, ◌+◌, ◌<◌, ◌≤◌, Bool, true, ◌&&◌, eqb, min, List, [], ◌∷◌, length, drop, get_or, refl}
+use Rattle.std.{proofs.Common.{⊎_elim, subst, arith, eqb-true, drop-cons}, proofs.lemmas.Bool.{or_cases, cases_lt, and_parts}}
 use Rattle.std.proofs.lemmas.List.Sums.{prefix_len_passes}
-use Rattle.std.proofs.lemmas.Str.{IsCharBoundary-start, IsCharBoundary-end, IsCharBoundary-after_ascii}
-use Rattle.std.specs.List.{prefix_len}
+use Rattle.std.{proofs.lemmas.Str.{IsCharBoundary-start, IsCharBoundary-end, IsCharBoundary-after_ascii}, specs.List.prefix_len}
 use Rattle.std.specs.Str.{IsUtf8, IsCharBoundary}
 use Rattle.yq_core.specs.Text.{upto, at_feed, unless, is_white, is_break, is_space, ends_line, is_return, is_feed, front, line_len}
-use Rattle.yq_core.proofs.Upto.{upto_le_length, upto_ends, upto_unless}
-use Rattle.yq_core.proofs.Breaks.{line_len-feed}
+use Rattle.yq_core.{proofs.Upto.{upto_le_length, upto_ends, upto_unless}, proofs.Breaks.line_len-feed}
 
 -- behind bytes that are all ASCII
 pub boundary_behind : (t : List ℕ) (n : ℕ) → IsUtf8 t → n ≤ length t → ((k : ℕ) → k < n → get_or t k 0 < 128) → IsCharBoundary t n

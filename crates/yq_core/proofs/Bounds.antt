@@ -1,18 +1,12 @@
 -- Where a text may be cut.
-use Rattle.std.proofs.Common.{◌≡◌, ◌⊎◌, ℕ, suc, ◌+◌, ◌<◌, true, false, cond, not, ◌||◌, eqb, List, [], ◌∷◌, length, take, get_or, refl, sym, ap, subst, inl, inr, ⊎_elim, arith, eqb-true, rules}
+use Rattle.std.proofs.Common.{◌≡◌, ◌⊎◌, ℕ, suc, ◌+◌, ◌<◌, true, false, cond, not, ◌||◌, eqb, List, [], ◌∷◌, length, take, get_or, refl, sym}
+use Rattle.std.proofs.Common.{ap, subst, inl, inr, ⊎_elim, arith, eqb-true, rules}
 use Rattle.std.proofs.lemmas.Bool.{false≢true, cond_both, or_cases, cases_lt, false_from_ne_true}
-use Rattle.std.proofs.lemmas.Str.{IsCharBoundary-start, IsCharBoundary-end, IsCharBoundary-after_ascii}
-use Rattle.std.specs.List.{prefix_len}
+use Rattle.std.{proofs.lemmas.Str.{IsCharBoundary-start, IsCharBoundary-end, IsCharBoundary-after_ascii}, specs.List.prefix_len}
 use Rattle.std.specs.Str.{IsUtf8, IsCharBoundary}
-use Rattle.yq_core.specs.Quoted.{IsQuotedText}
-use Rattle.yq_core.specs.Text.{unless}
-use Rattle.yq_core.proofs.Boundaries.{boundary_ends, space_ascii}
-use Rattle.yq_core.proofs.Upto.{upto_unless}
-use Rattle.yq_core.specs.declared.gap.GapPlace.{GapPlace}
-use Rattle.yq_core.specs.declared.gap.GapPlace.TheVariants.{Token, White, Break, Comment}
-use Rattle.yq_core.specs.Gaps.{goes, next_gap_place, in_comment}
-use Rattle.yq_core.specs.Nodes.{begins_with, in_name}
-use Rattle.yq_core.specs.Reading.{flow_gap_len}
+use Rattle.yq_core.{specs.Quoted.IsQuotedText, specs.Text.unless, proofs.Boundaries.{boundary_ends, space_ascii}, proofs.Upto.upto_unless}
+use Rattle.yq_core.{specs.declared.gap.GapPlace.GapPlace, specs.declared.gap.GapPlace.TheVariants.{Token, White, Break, Comment}}
+use Rattle.yq_core.{specs.Gaps.{goes, next_gap_place, in_comment}, specs.Nodes.{begins_with, in_name}, specs.Reading.flow_gap_len}
 use Rattle.yq_core.specs.Scalars.{is_quoted}
 
 -- a gap ends at the start, at the end, or behind an ASCII byte

@@ -1,13 +1,9 @@
 -- What a search for the next LF tells of breaks.
-use Rattle.std.proofs.Common.{◌≡◌, ℕ, suc, ◌+◌, ◌<◌, ◌≤◌, false, min, eqb, eqb-true, List, [], ◌∷◌, length, Option, Some, None, refl, sym, ap, ◌∙◌, arith, rules}
-use Rattle.std.proofs.lemmas.Bool.{false_from_ne_true}
-use Rattle.std.proofs.lemmas.List.Sums.{position_or_len_is}
-use Rattle.std.specs.List.{position_or_len}
-use Rattle.std.specs.Option.{unwrap_or}
+use Rattle.std.proofs.Common.{◌≡◌, ℕ, suc, ◌+◌, ◌<◌, ◌≤◌, false, min, eqb, eqb-true, List, [], ◌∷◌, length, Option, Some, None, refl, sym}
+use Rattle.std.{proofs.Common.{ap, ◌∙◌, arith, rules}, proofs.lemmas.Bool.false_from_ne_true, proofs.lemmas.List.Sums.position_or_len_is}
+use Rattle.std.{specs.List.position_or_len, specs.Option.unwrap_or, proofs.Math.Dec.{eqb-suc-suc, eqb-zero-suc}}
 use Rattle.memchr.specs.Find.{IsFirstByte, is_byte}
-use Rattle.yq_core.specs.Text.{upto, at_feed, line_len, is_break, is_line, is_empty, ends_line}
-use Rattle.yq_core.proofs.Upto.{upto_le_length}
-use Rattle.std.proofs.Math.Dec.{eqb-suc-suc, eqb-zero-suc}
+use Rattle.yq_core.{specs.Text.{upto, at_feed, line_len, is_break, is_line, is_empty, ends_line}, proofs.Upto.upto_le_length}
 
 feed-position : (t : List ℕ) → upto at_feed t ≡ position_or_len (is_byte 10) t
 unfolding upto

@@ -1,10 +1,7 @@
 -- Bytes and characters.
 use Rattle.std.proofs.Common.{◌≡◌, ℕ, suc, ◌<◌, ◌≤◌, Bool, true, List, [], ◌∷◌, ◌++◌, length, get_or, sym, ⊎_elim, subst, arith, append-nil}
-use Rattle.std.proofs.Math.Utf8.{encodes, encode}
-use Rattle.std.proofs.lemmas.Bool.{cases_lt, and_parts}
-use Rattle.std.proofs.lemmas.Str.{inside_one, encodes-chars}
-use Rattle.std.specs.List.{list_all}
-use Rattle.std.specs.Str.{chars, IsUtf8}
+use Rattle.std.{proofs.Math.Utf8.{encodes, encode}, proofs.lemmas.Bool.{cases_lt, and_parts}, proofs.lemmas.Str.{inside_one, encodes-chars}}
+use Rattle.std.{specs.List.list_all, specs.Str.{chars, IsUtf8}}
 
 -- each byte passes
 abbrev pub Each : (ℕ → Bool) → List ℕ → Type 0

@@ -1,15 +1,12 @@
 -- The characters of quoted scalars: what is read is what is written.
-use Rattle.std.proofs.Common.{◌≡◌, ℕ, zero, suc, ◌+◌, ◌*◌, true, false, eqb, eqb-true, List, [], ◌∷◌, ◌++◌, length, take, drop, Option, Some, None, refl, sym, ap, ◌∙◌, subst, inl, inr, ◌⊎◌, arith, rules}
-use Rattle.std.proofs.lemmas.Bool.{ltb-true, lt-ltb, cases_Bool}
-use Rattle.std.proofs.Math.Utf8.{encode}
-use Rattle.std.proofs.lemmas.Option.{cond_some}
-use Rattle.std.specs.Char.{digit_value}
-use Rattle.std.specs.Str.Parse.{AllDigits, digits_value, digits_value_after}
+use Rattle.std.proofs.Common.{◌≡◌, ℕ, zero, suc, ◌+◌, ◌*◌, true, false, eqb, eqb-true, List, [], ◌∷◌, ◌++◌, length, take, drop, Option}
+use Rattle.std.proofs.Common.{Some, None, refl, sym, ap, ◌∙◌, subst, inl, inr, ◌⊎◌, arith, rules}
+use Rattle.std.{proofs.lemmas.Bool.{ltb-true, lt-ltb, cases_Bool}, proofs.Math.Utf8.encode, proofs.lemmas.Option.cond_some}
+use Rattle.std.{specs.Char.digit_value, specs.Str.Parse.{AllDigits, digits_value, digits_value_after}}
 use Rattle.yq_core.specs.Text.{is_break}
-use Rattle.yq_core.specs.Quoted.{letters, beside, digit_counts, is_unicode, Char, escape as letter_escape, code, spell_char, char_text, bytes_of, IsChar}
-use Rattle.yq_core.specs.SchemaReading.{is_digit}
-use Rattle.yq_core.specs.QuotedReading.{hex, hex_digit, leading_escape, coded, lettered}
-use Rattle.yq_core.proofs.Bools.{chosen, bind_some}
+use Rattle.yq_core.specs.Quoted.{letters, beside, digit_counts, is_unicode, Char, escape as letter_escape, code, spell_char, char_text}
+use Rattle.yq_core.{specs.Quoted.{bytes_of, IsChar}, specs.SchemaReading.is_digit}
+use Rattle.yq_core.{specs.QuotedReading.{hex, hex_digit, leading_escape, coded, lettered}, proofs.Bools.{chosen, bind_some}}
 use Rattle.yq_core.proofs.EscapeLaws.{escape_cases, none_escaped}
 
 -- digits in front are read as the number that they write

@@ -1,15 +1,16 @@
 -- What is read as the content of a scalar is what its lines stand for.
-use Rattle.std.proofs.Common.{◌≡◌, ℕ, ◌+◌, ◌-◌, ◌<◌, Bool, true, false, cond, eqb, List, [], ◌∷◌, ◌++◌, length, take, drop, get_or, Option, Result, Ok, Err, IfOk, refl, sym, inl, inr, ◌&&◌, ap, ◌∙◌, subst, arith, eqb-true, append_assoc, append-nil, length-append, length-drop, rules}
-use Rattle.std.proofs.lemmas.Bool.{false≢true, and_parts, cases_Bool, or_parts}
-use Rattle.std.proofs.Math.Seq.{take-append_seam}
-use Rattle.std.proofs.Math.Utf8.{encode}
-use Rattle.std.proofs.lemmas.Str.{IsCharBoundary-after_ascii}
+use Rattle.std.proofs.Common.{◌≡◌, ℕ, ◌+◌, ◌-◌, ◌<◌, Bool, true, false, cond, eqb, List, [], ◌∷◌, ◌++◌, length, take, drop, get_or, Option}
+use Rattle.std.proofs.Common.{Result, Ok, Err, IfOk, refl, sym, inl, inr, ◌&&◌, ap, ◌∙◌, subst, arith, eqb-true, append_assoc, append-nil}
+use Rattle.std.{proofs.Common.{length-append, length-drop, rules}, proofs.lemmas.Bool.{false≢true, and_parts, cases_Bool, or_parts}}
+use Rattle.std.{proofs.Math.Seq.take-append_seam, proofs.Math.Utf8.encode, proofs.lemmas.Str.IsCharBoundary-after_ascii}
 use Rattle.std.specs.Str.{IsUtf8, IsCharBoundary}
 use Rattle.yq_core.specs.Text.{is_white, is_break, is_feed, is_return, front}
-use Rattle.yq_core.specs.Quoted.{Char, itself, doubled, escape as letter_escape, code, spell_char, spell_chars, char_text, chars_text, bytes_of, IsChar, AreChars, Break, line_feed, return_feed, spell_break, spell_end, QuotedLines, last, line, spell_lines, AreLines, is_plain_blank, are_blank, past_blanks, before_blanks, Gap, folded, joined, one_blank_line_more, gap_text, lines_text, quoted_lines_content, IsQuoted}
-use Rattle.yq_core.specs.ContentReading.{BlankBefore, within, after, one_break_more, item_with_blanks, content_on, quoted_text, quoted_content, is_pair}
-use Rattle.yq_core.proofs.QuotedLaws.{of_quotes}
-use Rattle.yq_core.proofs.QuotedFound.{at_seam}
+use Rattle.yq_core.specs.Quoted.{Char, itself, doubled, escape as letter_escape, code, spell_char, spell_chars, char_text, chars_text}
+use Rattle.yq_core.specs.Quoted.{bytes_of, IsChar, AreChars, Break, line_feed, return_feed, spell_break, spell_end, QuotedLines, last, line}
+use Rattle.yq_core.specs.Quoted.{spell_lines, AreLines, is_plain_blank, are_blank, past_blanks, before_blanks, Gap, folded, joined}
+use Rattle.yq_core.specs.Quoted.{one_blank_line_more, gap_text, lines_text, quoted_lines_content, IsQuoted}
+use Rattle.yq_core.specs.ContentReading.{BlankBefore, within, after, one_break_more, item_with_blanks, content_on, quoted_text}
+use Rattle.yq_core.{specs.ContentReading.{quoted_content, is_pair}, proofs.QuotedLaws.of_quotes, proofs.QuotedFound.at_seam}
 use Rattle.yq_core.proofs.CharLaws.{IsEscape, code_escape, letter_is_escape}
 
 -- what a character stands for before a text: white space is held, and anything else stands behind what is before it

@@ -1,16 +1,13 @@
 -- The indentation of a block scalar's text, both ways.
-use Rattle.std.proofs.Common.{◌≡◌, ℕ, ◌<◌, ◌≤◌, Bool, true, false, cond, not, ◌&&◌, ◌||◌, leb, ltb, List, [], ◌∷◌, ◌++◌, Option, Some, None, refl, sym, ap, ◌∙◌, subst, inl, inr, ⊎_elim, arith, append-nil, ltb-true}
+use Rattle.std.proofs.Common.{◌≡◌, ℕ, ◌<◌, ◌≤◌, Bool, true, false, cond, not, ◌&&◌, ◌||◌, leb, ltb, List, [], ◌∷◌, ◌++◌, Option, Some, None}
+use Rattle.std.proofs.Common.{refl, sym, ap, ◌∙◌, subst, inl, inr, ⊎_elim, arith, append-nil, ltb-true}
 use Rattle.std.proofs.lemmas.Bool.{false≢true, cond_both, not-true, lt-ltb, and_parts, cases_Bool, le-ltb, ltb-false}
 use Rattle.std.proofs.lemmas.Option.{same_Some}
-use Rattle.yq_core.proofs.Bools.{chosen, bind_some}
-use Rattle.yq_core.proofs.LineLaws.{AreLines}
-use Rattle.yq_core.proofs.RawLaws.{joined_none, raw_takes, raw_lines}
-use Rattle.yq_core.proofs.SpaceLaws.{spaces_blank, char_not_blank}
-use Rattle.yq_core.specs.Answers.{◌>>=◌}
+use Rattle.yq_core.{proofs.Bools.{chosen, bind_some}, proofs.LineLaws.AreLines, proofs.RawLaws.{joined_none, raw_takes, raw_lines}}
+use Rattle.yq_core.{proofs.SpaceLaws.{spaces_blank, char_not_blank}, specs.Answers.◌>>=◌}
 use Rattle.yq_core.specs.Block.{RawLines, is_empty_line, is_text_line, is_less_indented, ends_block, AreRaw, IsDetected, IsTextIndent}
 use Rattle.yq_core.specs.BlockReading.{is_empty_at, is_text_at, raw_with_line, raw_at, detected_at, indent_at}
-use Rattle.yq_core.specs.Lines.{spaces, behind_spaces, is_tab, is_blank}
-use Rattle.yq_core.specs.Text.{is_empty, ends_line, text_lines, joined, is_line}
+use Rattle.yq_core.{specs.Lines.{spaces, behind_spaces, is_tab, is_blank}, specs.Text.{is_empty, ends_line, text_lines, joined, is_line}}
 use Rattle.yq_core.specs.declared.block_lines.TextIndent.{TextIndent}
 
 pub empty_blank : (f : TextIndent) (l : List ℕ) → is_empty_line f l ≡ true → is_blank l ≡ true

@@ -1,10 +1,8 @@
 -- Digits in front of a text.
 use Rattle.std.proofs.Common.{◌≡◌, ℕ, ◌≤◌, true, false, List, [], ◌∷◌, ◌++◌, length, take, refl, ◌∙◌, arith, one-add, inl, inr, rules}
-use Rattle.std.specs.List.{prefix_len}
-use Rattle.std.specs.Str.Parse.{AllDigits, IsNumeral}
+use Rattle.std.{specs.List.prefix_len, specs.Str.Parse.{AllDigits, IsNumeral}}
 use Rattle.std.proofs.lemmas.Bool.{false≢true, cases_Bool, ltb-true, lt-ltb}
-use Rattle.yq_core.specs.Text.{is_empty, front}
-use Rattle.yq_core.specs.SchemaReading.{is_digit, past_digits, are_digits, has_base}
+use Rattle.yq_core.{specs.Text.{is_empty, front}, specs.SchemaReading.{is_digit, past_digits, are_digits, has_base}}
 
 pub has_two : (letter : ℕ) (t : List ℕ) → has_base letter t ≡ true → 2 ≤ length t
 has_two letter [] h = absurd (false≢true h)

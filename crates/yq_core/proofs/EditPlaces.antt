@@ -1,8 +1,7 @@
 -- Where nodes, items and entries begin and end.
 use Rattle.std.proofs.Common.{◌≡◌, ℕ, ◌-◌, List, length, refl, rules}
 use Rattle.yq_core.specs.Entries.{EntryPieces, start_of, end_of, entry_start, locate_entry, pieces_text}
-use Rattle.yq_core.specs.Nodes.{FlowNode, empty, alias, scalar, coll, anchored, node_text}
-use Rattle.yq_core.specs.Places.{locate}
+use Rattle.yq_core.{specs.Nodes.{FlowNode, empty, alias, scalar, coll, anchored, node_text}, specs.Places.locate}
 
 pub start_placed : (total : ℕ) (n : FlowNode) (rest : List ℕ) → start_of (locate total n rest) ≡ total - length (node_text n rest)
 unfolding locate

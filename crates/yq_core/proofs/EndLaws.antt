@@ -1,20 +1,14 @@
 -- What stands behind an item, and plain scalars before it.
-use Rattle.std.proofs.Common.{◌≡◌, ◌⊎◌, inl, inr, ⊎_elim, ℕ, Bool, true, false, not, ◌&&◌, ◌||◌, eqb, List, [], ◌∷◌, ◌++◌, Option, Some, None, refl, sym, ap, ◌∙◌, subst, cond, arith, eqb-true, rules}
-use Rattle.std.proofs.lemmas.Bool.{false≢true, or_cases, or_right, not-false, not-true, false_from_ne_true, and_from, le-leb, and_parts, cases_Bool}
-use Rattle.std.proofs.lemmas.Option.{cond_some}
-use Rattle.std.specs.Option.{option_or}
+use Rattle.std.proofs.Common.{◌≡◌, ◌⊎◌, inl, inr, ⊎_elim, ℕ, Bool, true, false, not, ◌&&◌, ◌||◌, eqb, List, [], ◌∷◌, ◌++◌, Option, Some}
+use Rattle.std.proofs.Common.{None, refl, sym, ap, ◌∙◌, subst, cond, arith, eqb-true, rules}
+use Rattle.std.proofs.lemmas.Bool.{false≢true, or_cases, or_right, not-false, not-true, false_from_ne_true, and_from, le-leb, and_parts}
+use Rattle.std.{proofs.lemmas.Bool.cases_Bool, proofs.lemmas.Option.cond_some, specs.Option.option_or}
 use Rattle.yq_core.specs.Plain.{begins_plain, ends_plain, ends_text, is_safe, no_gap, last_line, plain_may_follow, follows, IsPlain}
-use Rattle.yq_core.specs.Text.{upto, cut, NoneIn, front, unless, is_empty, is_feed, is_space}
-use Rattle.yq_core.proofs.Bools.{at_byte}
-use Rattle.yq_core.specs.declared.gap.GapPlace.{GapPlace}
-use Rattle.yq_core.specs.declared.gap.GapPlace.TheVariants.{White, Break}
-use Rattle.yq_core.specs.Alike.{EndsItem, fresh, KeepsApart}
-use Rattle.yq_core.specs.Gaps.{goes, next_gap_place, in_comment, AllGo, IsInlineGap}
-use Rattle.yq_core.specs.Nodes.{in_name, begins_node, is_close}
-use Rattle.yq_core.specs.Scalars.{IsScalarAt}
-use Rattle.yq_core.proofs.Alikes.{no_first}
-use Rattle.yq_core.proofs.AlikePieces.{quoted_any}
-use Rattle.yq_core.proofs.NodesPieceLaws.{front_not, scalar_some}
+use Rattle.yq_core.{specs.Text.{upto, cut, NoneIn, front, unless, is_empty, is_feed, is_space}, proofs.Bools.at_byte}
+use Rattle.yq_core.{specs.declared.gap.GapPlace.GapPlace, specs.declared.gap.GapPlace.TheVariants.{White, Break}}
+use Rattle.yq_core.{specs.Alike.{EndsItem, fresh, KeepsApart}, specs.Gaps.{goes, next_gap_place, in_comment, AllGo, IsInlineGap}}
+use Rattle.yq_core.{specs.Nodes.{in_name, begins_node, is_close}, specs.Scalars.IsScalarAt, proofs.Alikes.no_first}
+use Rattle.yq_core.{proofs.AlikePieces.quoted_any, proofs.NodesPieceLaws.{front_not, scalar_some}}
 
 -- a comma or a closing bracket
 pub by_close : (P : ℕ → Type 0) (k c : ℕ) → is_close k ≡ true → (eqb c 44 || eqb c k) ≡ true → P 44 → P 93 → P 125 → P c

@@ -1,16 +1,12 @@
 -- Escapes: how long they are, and that they are ASCII.
-use Rattle.std.proofs.Common.{◌≡◌, ℕ, zero, suc, ◌+◌, ◌*◌, ◌<◌, ◌≤◌, Bool, true, false, ◌&&◌, not, eqb, ltb, eqb-true, List, [], ◌∷◌, length, drop, get_or, Option, Some, None, ◌⊎◌, refl, sym, ap, ◌∙◌, inl, inr, arith, rules}
-use Rattle.std.proofs.lemmas.Bool.{false≢true, ltb-true, cases_lt, le-ltb, and_parts}
-use Rattle.std.proofs.lemmas.Option.{cond_some, same_Some}
-use Rattle.std.specs.Char.{digit_value}
-use Rattle.std.specs.List.{list_all}
-use Rattle.yq_core.specs.Answers.{◌>>=◌, more}
-use Rattle.yq_core.specs.Text.{is_feed, is_break, is_marker}
-use Rattle.yq_core.specs.Quoted.{letters, beside, digit_counts, is_unicode}
-use Rattle.yq_core.specs.SchemaReading.{is_digit}
+use Rattle.std.proofs.Common.{◌≡◌, ℕ, zero, suc, ◌+◌, ◌*◌, ◌<◌, ◌≤◌, Bool, true, false, ◌&&◌, not, eqb, ltb, eqb-true, List, [], ◌∷◌}
+use Rattle.std.proofs.Common.{length, drop, get_or, Option, Some, None, ◌⊎◌, refl, sym, ap, ◌∙◌, inl, inr, arith, rules}
+use Rattle.std.{proofs.lemmas.Bool.{false≢true, ltb-true, cases_lt, le-ltb, and_parts}, proofs.lemmas.Option.{cond_some, same_Some}}
+use Rattle.std.{specs.Char.digit_value, specs.List.list_all}
+use Rattle.yq_core.{specs.Answers.{◌>>=◌, more}, specs.Text.{is_feed, is_break, is_marker}}
+use Rattle.yq_core.{specs.Quoted.{letters, beside, digit_counts, is_unicode}, specs.SchemaReading.is_digit}
 use Rattle.yq_core.specs.QuotedReading.{hex, hex_digit, leading_escape, escape_len, closes, coded, lettered, length_of, quoted_len}
-use Rattle.yq_core.proofs.Bools.{chosen, bind_some, more_more, more_none}
-use Rattle.yq_core.proofs.Across.{rest_of, rest_is}
+use Rattle.yq_core.{proofs.Bools.{chosen, bind_some, more_more, more_none}, proofs.Across.{rest_of, rest_is}}
 
 quote_only : (b : Bool) → (true && not (b && false)) ≡ true
 quote_only true = refl

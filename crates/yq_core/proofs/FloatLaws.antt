@@ -1,11 +1,11 @@
 -- The floats of the core schema: what is read is what is written.
-use Rattle.std.proofs.Common.{◌≡◌, ℕ, Bool, true, false, eqb, ◌||◌, List, [], ◌∷◌, ◌++◌, refl, sym, ap, ◌∙◌, subst, arith, inl, inr, eqb-true, append_assoc, rules}
-use Rattle.std.specs.Str.Parse.{IsNumeral}
+use Rattle.std.proofs.Common.{◌≡◌, ℕ, Bool, true, false, eqb, ◌||◌, List, [], ◌∷◌, ◌++◌, refl, sym, ap, ◌∙◌, subst, arith, inl, inr}
+use Rattle.std.{proofs.Common.{eqb-true, append_assoc, rules}, specs.Str.Parse.IsNumeral}
 use Rattle.std.proofs.lemmas.Bool.{false≢true, cases_Bool, and_parts, or_cases, or_left, or_right, lt-ltb}
-use Rattle.yq_core.specs.Numbers.{spell_sign, Mantissa, fraction, whole, pointed, spell_mantissa, IsMantissa, Exponent, absent, lower, upper, spell_exponent, IsExponent}
-use Rattle.yq_core.specs.Schema.{infinity_words, nan_words, IsOneOf, IsFloat}
-use Rattle.yq_core.specs.SchemaReading.{past_digits, past_sign, sign_of, are_digits, is_exponent, front_digit, ends_number, is_number, is_one_of, is_float}
-use Rattle.yq_core.proofs.WordLaws.{word_takes, word_again, word_among}
+use Rattle.yq_core.specs.Numbers.{spell_sign, Mantissa, fraction, whole, pointed, spell_mantissa, IsMantissa, Exponent, absent, lower}
+use Rattle.yq_core.{specs.Numbers.{upper, spell_exponent, IsExponent}, specs.Schema.{infinity_words, nan_words, IsOneOf, IsFloat}}
+use Rattle.yq_core.specs.SchemaReading.{past_digits, past_sign, sign_of, are_digits, is_exponent, front_digit, ends_number, is_number}
+use Rattle.yq_core.{specs.SchemaReading.{is_one_of, is_float}, proofs.WordLaws.{word_takes, word_again, word_among}}
 use Rattle.yq_core.proofs.DigitLaws.{digits_in, digits_digit, digits_none, digits_cut, digits_all, past_append, digits_takes, digits_again}
 use Rattle.yq_core.proofs.NumberLaws.{not_digit, past_spelled, sign_cut}
 

@@ -1,14 +1,10 @@
 -- What white space and breaks stand for.
-use Rattle.std.proofs.Common.{◌≡◌, ℕ, zero, suc, ◌+◌, Bool, true, false, cond, not, List, [], ◌∷◌, ◌++◌, take, drop, replicate, refl, sym, inl, inr, ◌&&◌, ap, ◌∙◌, arith, append_assoc, append-nil, rules}
-use Rattle.std.proofs.Math.Bool.{or-true}
-use Rattle.std.proofs.lemmas.Bool.{false≢true, not-false, and_parts, cases_Bool, or_parts}
-use Rattle.std.proofs.lemmas.List.{take-append-drop}
-use Rattle.yq_core.specs.Text.{is_white, is_feed, is_return, is_space, front, upto, cut, NoneIn}
-use Rattle.yq_core.specs.Quoted.{folded, joined, gap_text}
-use Rattle.yq_core.specs.ContentReading.{BlankBefore, within, after, item_with_blanks, one_break_more, content_on, breaks, folded_space, space_text, before_of}
-use Rattle.yq_core.specs.Plain.{no_gap}
-use Rattle.yq_core.proofs.Bools.{at_byte}
-use Rattle.yq_core.proofs.Upto.{none_in_cut}
+use Rattle.std.proofs.Common.{◌≡◌, ℕ, zero, suc, ◌+◌, Bool, true, false, cond, not, List, [], ◌∷◌, ◌++◌, take, drop, replicate, refl, sym}
+use Rattle.std.{proofs.Common.{inl, inr, ◌&&◌, ap, ◌∙◌, arith, append_assoc, append-nil, rules}, proofs.Math.Bool.or-true}
+use Rattle.std.{proofs.lemmas.Bool.{false≢true, not-false, and_parts, cases_Bool, or_parts}, proofs.lemmas.List.take-append-drop}
+use Rattle.yq_core.{specs.Text.{is_white, is_feed, is_return, is_space, front, upto, cut, NoneIn}, specs.Quoted.{folded, joined, gap_text}}
+use Rattle.yq_core.specs.ContentReading.{BlankBefore, within, after, item_with_blanks, one_break_more, content_on, breaks, folded_space}
+use Rattle.yq_core.{specs.ContentReading.{space_text, before_of}, specs.Plain.no_gap, proofs.Bools.at_byte, proofs.Upto.none_in_cut}
 
 -- the gap behind k further breaks
 abbrev times : ℕ → BlankBefore → BlankBefore

@@ -1,15 +1,10 @@
 -- A gap, read and spelled.
 use Rattle.std.proofs.Common.{◌≡◌, ℕ, suc, true, false, ◌&&◌, List, [], ◌∷◌, ◌++◌, length, take, drop, Some, refl, sym, ap, subst, rules}
-use Rattle.std.proofs.lemmas.Bool.{cond_both, not-true}
-use Rattle.std.proofs.lemmas.List.{take-append-drop}
-use Rattle.std.proofs.Math.Seq.{take-append_seam, drop-append_seam}
-use Rattle.std.proofs.lemmas.Option.{same_Some}
-use Rattle.yq_core.specs.Text.{is_marker}
-use Rattle.yq_core.specs.declared.gap.GapPlace.{GapPlace}
-use Rattle.yq_core.specs.declared.gap.GapPlace.TheVariants.{Token}
+use Rattle.std.{proofs.lemmas.Bool.{cond_both, not-true}, proofs.lemmas.List.take-append-drop}
+use Rattle.std.{proofs.Math.Seq.{take-append_seam, drop-append_seam}, proofs.lemmas.Option.same_Some}
+use Rattle.yq_core.{specs.Text.is_marker, specs.declared.gap.GapPlace.GapPlace, specs.declared.gap.GapPlace.TheVariants.Token}
 use Rattle.yq_core.specs.Gaps.{goes, next_gap_place, gap_place_after, at_line_start, AllGo, stops, IsInlineGap}
-use Rattle.yq_core.specs.Reading.{flow_gap_len, gap_end, read_gap}
-use Rattle.yq_core.proofs.Binds.{not_then}
+use Rattle.yq_core.{specs.Reading.{flow_gap_len, gap_end, read_gap}, proofs.Binds.not_then}
 
 abbrev Cut : GapPlace → List ℕ → ℕ → Type 0
 Cut s t n = AllGo s (take n t) (drop n t) × (stops (gap_place_after s (take n t)) (drop n t) ≡ true) × (gap_end s t ≡ gap_place_after s (take n t))

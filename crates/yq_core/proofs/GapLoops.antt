@@ -1,8 +1,6 @@
 -- Steps of the loop over a gap.
 use Rattle.std.proofs.Common.{◌≡◌, ℕ, ◌+◌, ◌<◌, ◌≤◌, true, false, List, [], ◌∷◌, length, get_or, refl, arith}
-use Rattle.yq_core.proofs.Across.{rest_of, rest_is}
-use Rattle.yq_core.specs.Gaps.{goes, next_gap_place}
-use Rattle.yq_core.specs.Reading.{flow_gap_len, gap_end}
+use Rattle.yq_core.{proofs.Across.{rest_of, rest_is}, specs.Gaps.{goes, next_gap_place}, specs.Reading.{flow_gap_len, gap_end}}
 use Rattle.yq_core.specs.declared.gap.GapPlace.{GapPlace}
 
 -- where the gap doesn't go on

@@ -1,20 +1,15 @@
 -- The header of a block scalar, both ways.
-use Rattle.std.proofs.Common.{◌≡◌, ℕ, suc, ◌+◌, ◌≤◌, true, false, ◌&&◌, ◌||◌, eqb, leb, List, [], ◌∷◌, ◌++◌, length, take, Option, Some, None, refl, sym, ap, ◌∙◌, subst, ⊎_elim, arith, eqb-true, append_assoc, append-nil, length-append, rules}
+use Rattle.std.proofs.Common.{◌≡◌, ℕ, suc, ◌+◌, ◌≤◌, true, false, ◌&&◌, ◌||◌, eqb, leb, List, [], ◌∷◌, ◌++◌, length, take, Option, Some}
+use Rattle.std.proofs.Common.{None, refl, sym, ap, ◌∙◌, subst, ⊎_elim, arith, eqb-true, append_assoc, append-nil, length-append, rules}
 use Rattle.std.proofs.lemmas.Bool.{false≢true, cond_both, or_cases, false_from_ne_true, leb-true, le-leb, and_parts, cases_Bool}
-use Rattle.std.proofs.lemmas.List.{take-append-drop}
-use Rattle.std.proofs.Math.Seq.{take-append_seam, drop-append_seam}
-use Rattle.std.proofs.lemmas.Option.{same_Some}
-use Rattle.yq_core.specs.declared.block_header.BlockStyle.TheVariants as styles
-use Rattle.yq_core.specs.declared.block_header.Chomping.TheVariants as chompings
-use Rattle.yq_core.proofs.Bools.{chosen}
-use Rattle.yq_core.proofs.LineLaws.{line_cut}
-use Rattle.yq_core.proofs.SpaceLaws.{white_drop}
+use Rattle.std.{proofs.lemmas.List.take-append-drop, proofs.Math.Seq.{take-append_seam, drop-append_seam}, proofs.lemmas.Option.same_Some}
+use Rattle.yq_core.{proofs.Bools.chosen, proofs.LineLaws.line_cut, proofs.SpaceLaws.white_drop}
 use Rattle.yq_core.specs.Block.{style_indicator, IsDigit, digit_text, sign_text, IsIndicators, is_tail}
 use Rattle.yq_core.specs.BlockReading.{read_style, digit_at, sign_at, Indicators, indicators_at, values, read_header_tail}
-use Rattle.yq_core.specs.Lines.{is_hash, is_blank}
-use Rattle.yq_core.specs.Text.{is_white, front, past_white, line_len, is_line}
-use Rattle.yq_core.specs.declared.block_header.BlockStyle.{BlockStyle}
-use Rattle.yq_core.specs.declared.block_header.Chomping.{Chomping}
+use Rattle.yq_core.{specs.Lines.{is_hash, is_blank}, specs.Text.{is_white, front, past_white, line_len, is_line}}
+use Rattle.yq_core.{specs.declared.block_header.BlockStyle.BlockStyle, specs.declared.block_header.Chomping.Chomping}
+use Rattle.yq_core.specs.declared.block_header.BlockStyle.TheVariants as styles
+use Rattle.yq_core.specs.declared.block_header.Chomping.TheVariants as chompings
 
 -- the header's mark
 pub style_takes : (t : List ℕ) (x : BlockStyle × List ℕ) → read_style t ≡ Some x → t ≡ style_indicator x.0 ∷ x.1

@@ -1,15 +1,12 @@
 -- What the items of a scalar stand for, and where a text may be cut.
-use Rattle.std.proofs.Common.{◌≡◌, ℕ, zero, suc, ◌<◌, ◌≤◌, Bool, true, false, eqb, List, [], ◌∷◌, ◌++◌, length, take, drop, get_or, Some, None, refl, sym, inl, inr, ◌&&◌, ◌||◌, ap, ◌∙◌, subst, arith, eqb-true, append-nil, length-drop, rules}
-use Rattle.std.proofs.lemmas.Bool.{false≢true, or_cases, cases_lt, and_parts, cases_Bool, or_parts}
-use Rattle.std.proofs.lemmas.List.{take-append-drop}
-use Rattle.std.proofs.Math.Utf8.{encode}
-use Rattle.std.specs.Str.{IsUtf8, IsCharBoundary}
-use Rattle.yq_core.specs.Text.{is_white, is_break, is_feed, is_return, is_space, front, upto, NoneIn}
-use Rattle.yq_core.specs.Quoted.{joined}
+use Rattle.std.proofs.Common.{◌≡◌, ℕ, zero, suc, ◌<◌, ◌≤◌, Bool, true, false, eqb, List, [], ◌∷◌, ◌++◌, length, take, drop, get_or, Some}
+use Rattle.std.proofs.Common.{None, refl, sym, inl, inr, ◌&&◌, ◌||◌, ap, ◌∙◌, subst, arith, eqb-true, append-nil, length-drop, rules}
+use Rattle.std.{proofs.lemmas.Bool.{false≢true, or_cases, cases_lt, and_parts, cases_Bool, or_parts}, proofs.lemmas.List.take-append-drop}
+use Rattle.std.{proofs.Math.Utf8.encode, specs.Str.{IsUtf8, IsCharBoundary}}
+use Rattle.yq_core.{specs.Text.{is_white, is_break, is_feed, is_return, is_space, front, upto, NoneIn}, specs.Quoted.joined}
 use Rattle.yq_core.specs.QuotedReading.{leading_escape}
-use Rattle.yq_core.specs.ContentReading.{BlankBefore, within, after, item_with_blanks, content_on, break_len, before_of, is_pair, is_slash, ends_run}
-use Rattle.yq_core.specs.Plain.{no_gap}
-use Rattle.yq_core.proofs.Upto.{upto_le_length, none_in_cut}
+use Rattle.yq_core.specs.ContentReading.{BlankBefore, within, after, item_with_blanks, content_on, break_len, before_of, is_pair, is_slash}
+use Rattle.yq_core.{specs.ContentReading.ends_run, specs.Plain.no_gap, proofs.Upto.{upto_le_length, none_in_cut}}
 use Rattle.yq_core.proofs.Boundaries.{boundary_ends, space_ascii, break_ascii, boundary_behind}
 use Rattle.yq_core.proofs.EscapeLaws.{escape_ascii, escape_within}
 

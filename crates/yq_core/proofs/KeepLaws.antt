@@ -1,16 +1,12 @@
 -- Bytes that keep apart from the text behind them: gaps, and nodes that are something.
 use Rattle.std.proofs.Common.{◌≡◌, inl, inr, ℕ, Bool, true, false, List, [], ◌∷◌, ◌++◌, Some, refl, sym, ◌∙◌, subst, arith, Option, rules}
-use Rattle.std.proofs.Math.Bool.{and-false}
-use Rattle.std.proofs.lemmas.Bool.{false≢true, or_right, not-true, cond_both, cases_Bool, or_parts}
-use Rattle.yq_core.specs.Text.{front, is_feed, is_space, is_marker}
-use Rattle.yq_core.specs.declared.gap.GapPlace.{GapPlace}
-use Rattle.yq_core.specs.declared.gap.GapPlace.TheVariants.{Token}
-use Rattle.yq_core.specs.Alike.{Alike, after, fresh, KeepsApart}
+use Rattle.std.{proofs.Math.Bool.and-false, proofs.lemmas.Bool.{false≢true, or_right, not-true, cond_both, cases_Bool, or_parts}}
+use Rattle.yq_core.{specs.Text.{front, is_feed, is_space, is_marker}, specs.declared.gap.GapPlace.GapPlace}
+use Rattle.yq_core.{specs.declared.gap.GapPlace.TheVariants.Token, specs.Alike.{Alike, after, fresh, KeepsApart}}
 use Rattle.yq_core.specs.Gaps.{goes, next_gap_place, gap_place_after, at_line_start as at_break, AllGo, stops, IsInlineGap}
-use Rattle.yq_core.specs.Nodes.{FlowNode, empty, alias, scalar, coll, anchored, node_text, flow_items_text, opening_bracket, begins_content, begins_node, is_empty_node, takes_anchor, IsFlowNode}
-use Rattle.yq_core.specs.Scalars.{IsScalarAt}
-use Rattle.yq_core.proofs.Alikes.{alike_append, alike_space, alike_marker}
-use Rattle.yq_core.proofs.NodesPieceLaws.{scalar_begins, scalar_some}
+use Rattle.yq_core.specs.Nodes.{FlowNode, empty, alias, scalar, coll, anchored, node_text, flow_items_text, opening_bracket, begins_content}
+use Rattle.yq_core.{specs.Nodes.{begins_node, is_empty_node, takes_anchor, IsFlowNode}, specs.Scalars.IsScalarAt}
+use Rattle.yq_core.{proofs.Alikes.{alike_append, alike_space, alike_marker}, proofs.NodesPieceLaws.{scalar_begins, scalar_some}}
 use Rattle.yq_core.proofs.NodesWrittenLaws.{node_then}
 
 pub keeps_append : (x : List ℕ) (f : Bool) (p t u : List ℕ) → KeepsApart f (x ++ p) t u → KeepsApart (fresh f x) p t u

@@ -1,17 +1,12 @@
 -- What stands behind an anchor or a `:`, and keys, before another text.
-use Rattle.std.proofs.Common.{◌≡◌, inl, inr, ℕ, Bool, true, false, ◌||◌, eqb, List, [], ◌∷◌, ◌++◌, Some, None, refl, sym, ◌∙◌, subst, eqb-true, rules}
-use Rattle.std.proofs.lemmas.Bool.{false≢true, or_right, false_from_ne_true, cases_Bool}
-use Rattle.yq_core.specs.Plain.{begins_plain, is_safe}
-use Rattle.yq_core.specs.Text.{front, is_space, separates}
-use Rattle.yq_core.proofs.Bools.{at_byte}
-use Rattle.yq_core.specs.Alike.{Alike, colon, any_colon, EndsItem, fresh, KeepsApart}
-use Rattle.yq_core.specs.Gaps.{IsInlineGap}
-use Rattle.yq_core.specs.Nodes.{Key, bare, keyed, FlowNode, key_text, node_text, begins_with, begins_node, is_close, IsLead, IsInlineKey, is_empty_node, IsFlowNode}
-use Rattle.yq_core.specs.Scalars.{is_quoted, IsScalarAt}
-use Rattle.yq_core.proofs.Alikes.{alike_append}
+use Rattle.std.proofs.Common.{◌≡◌, inl, inr, ℕ, Bool, true, false, ◌||◌, eqb, List, [], ◌∷◌, ◌++◌, Some, None, refl, sym, ◌∙◌, subst}
+use Rattle.std.{proofs.Common.{eqb-true, rules}, proofs.lemmas.Bool.{false≢true, or_right, false_from_ne_true, cases_Bool}}
+use Rattle.yq_core.{specs.Plain.{begins_plain, is_safe}, specs.Text.{front, is_space, separates}, proofs.Bools.at_byte}
+use Rattle.yq_core.{specs.Alike.{Alike, colon, any_colon, EndsItem, fresh, KeepsApart}, specs.Gaps.IsInlineGap}
+use Rattle.yq_core.specs.Nodes.{Key, bare, keyed, FlowNode, key_text, node_text, begins_with, begins_node, is_close, IsLead, IsInlineKey}
+use Rattle.yq_core.{specs.Nodes.{is_empty_node, IsFlowNode}, specs.Scalars.{is_quoted, IsScalarAt}, proofs.Alikes.alike_append}
 use Rattle.yq_core.proofs.AlikePieces.{gap_alike, scalar_alike, quoted_any}
-use Rattle.yq_core.proofs.EndLaws.{by_close, ends_safe, ends_node, node_no_space}
-use Rattle.yq_core.proofs.NodesPieceLaws.{front_not}
+use Rattle.yq_core.{proofs.EndLaws.{by_close, ends_safe, ends_node, node_no_space}, proofs.NodesPieceLaws.front_not}
 use Rattle.yq_core.proofs.KeepLaws.{keeps_append, bare_text, some_begins, gap_node}
 
 -- what stands between an anchor or a `:` and a node

@@ -1,6 +1,6 @@
 -- The lines of a text.
-use Rattle.std.proofs.Common.{◌≡◌, ℕ, suc, ◌<◌, ◌≤◌, true, false, List, [], ◌∷◌, ◌++◌, length, take, drop, refl, sym, ap, ◌∙◌, inl, inr, ◌⊎◌, ⊎_elim, arith, append_assoc, rules}
-use Rattle.std.proofs.lemmas.Bool.{false≢true, cond_both, cases_Bool}
+use Rattle.std.proofs.Common.{◌≡◌, ℕ, suc, ◌<◌, ◌≤◌, true, false, List, [], ◌∷◌, ◌++◌, length, take, drop, refl, sym, ap, ◌∙◌, inl, inr}
+use Rattle.std.{proofs.Common.{◌⊎◌, ⊎_elim, arith, append_assoc, rules}, proofs.lemmas.Bool.{false≢true, cond_both, cases_Bool}}
 use Rattle.yq_core.specs.Text.{line_len, text_lines, put_byte, joined, is_line, is_empty, is_feed}
 
 pub line_first : (b : ℕ) (bs : List ℕ) → text_lines (b ∷ bs) ≡ take (line_len (b ∷ bs)) (b ∷ bs) ∷ text_lines (drop (line_len (b ∷ bs)) (b ∷ bs))

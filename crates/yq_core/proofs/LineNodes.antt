@@ -1,11 +1,9 @@
 -- A node outside flow collections before one text is one before a text that is alike.
-use Rattle.std.proofs.Common.{◌≡◌, inl, inr, ℕ, zero, suc, true, false, not, List, [], ◌∷◌, ◌++◌, Option, Some, refl, sym, ap, ◌∙◌, subst, rules}
-use Rattle.std.proofs.lemmas.Bool.{false≢true, not-false, or_parts}
-use Rattle.yq_core.specs.Text.{is_white, is_break}
-use Rattle.yq_core.proofs.Bools.{at_byte}
-use Rattle.yq_core.specs.Alike.{ends_lookahead, Alike, stop, colon, byte, after}
-use Rattle.yq_core.specs.Nodes.{FlowNode, empty, alias, scalar, coll, anchored, node_text, flow_items_text, begins_content, IsApart, IsLead, IsFlowNode}
-use Rattle.yq_core.proofs.Alikes.{alike_append, alike_unless, alike_first, alike_content, alike_none}
+use Rattle.std.proofs.Common.{◌≡◌, inl, inr, ℕ, zero, suc, true, false, not, List, [], ◌∷◌, ◌++◌, Option, Some, refl, sym, ap, ◌∙◌, subst}
+use Rattle.std.{proofs.Common.rules, proofs.lemmas.Bool.{false≢true, not-false, or_parts}}
+use Rattle.yq_core.{specs.Text.{is_white, is_break}, proofs.Bools.at_byte, specs.Alike.{ends_lookahead, Alike, stop, colon, byte, after}}
+use Rattle.yq_core.specs.Nodes.{FlowNode, empty, alias, scalar, coll, anchored, node_text, flow_items_text, begins_content, IsApart, IsLead}
+use Rattle.yq_core.{specs.Nodes.IsFlowNode, proofs.Alikes.{alike_append, alike_unless, alike_first, alike_content, alike_none}}
 use Rattle.yq_core.proofs.AlikePieces.{scalar_alike, name_alike, gap_alike}
 use Rattle.yq_core.proofs.NodeKeeps.{node_text_alike, items_text_alike, items_any}
 

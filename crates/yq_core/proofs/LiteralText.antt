@@ -1,29 +1,17 @@
 -- What a literal scalar holds as it is can be written so.
-use Rattle.std.proofs.Common.{◌≡◌, ℕ, Bool, true, false, not, ◌&&◌, eqb, List, [], ◌∷◌, length, refl, sym, ap, ◌∙◌, inl, inr, ◌⊎◌, ⊎_elim, arith, eqb-true, rules}
-use Rattle.std.proofs.lemmas.Bool.{false≢true, false_from_ne_true, not-true, and_parts, cases_Bool}
-use Rattle.std.specs.Str.{IsUtf8, chars}
-use Rattle.std.specs.List.{ends_with, list_all}
-use Rattle.std.specs.Prelude.{nat_eq}
-use Rattle.std.proofs.Math.Dec.{eqb-suc-zero}
+use Rattle.std.proofs.Common.{◌≡◌, ℕ, Bool, true, false, not, ◌&&◌, eqb, List, [], ◌∷◌, length, refl, sym, ap, ◌∙◌, inl, inr, ◌⊎◌, ⊎_elim}
+use Rattle.std.proofs.Common.{arith, eqb-true, rules, ◌≤◌}
+use Rattle.std.{proofs.lemmas.Bool.{false≢true, false_from_ne_true, not-true, and_parts, cases_Bool}, specs.Str.{IsUtf8, chars}}
+use Rattle.std.{specs.List.{ends_with, list_all}, specs.Prelude.nat_eq, proofs.Math.Dec.eqb-suc-zero}
 use Rattle.yq_core.proofs.BlockWrittenHeader.{some_lines, ends_next}
-use Rattle.yq_core.proofs.BlockWrittenLaws.{ends_some, CanWrite}
-use Rattle.yq_core.proofs.BlockWrittenLines.{NoCr, text_next}
-use Rattle.yq_core.proofs.Bools.{at_byte, not_byte}
-use Rattle.yq_core.proofs.Bytes.{Each, each_byte}
-use Rattle.yq_core.specs.Block.{RawLines, no_lines}
-use Rattle.yq_core.specs.BlockContent.{text_of_line}
+use Rattle.yq_core.{proofs.BlockWrittenLaws.{ends_some, CanWrite, written_is, written_content}, proofs.BlockWrittenLines.{NoCr, text_next}}
+use Rattle.yq_core.{proofs.Bools.{at_byte, not_byte}, proofs.Bytes.{Each, each_byte}}
+use Rattle.yq_core.{specs.Block.{RawLines, no_lines, is_tail, ends_block, IsBlock}, specs.BlockContent.{text_of_line, block_content}}
 use Rattle.yq_core.specs.Text.{is_white, is_empty, text_lines, put_byte}
-use Rattle.yq_core.specs.Writable.{is_literal_char, is_literal_text}
+use Rattle.yq_core.{specs.Writable.{is_literal_char, is_literal_text, can_write, is_string}, specs.declared.block_types.Break.Break}
+use Rattle.yq_core.{specs.BlockWritten.{written_block, break_text}, specs.Scalar.ScalarText}
 use Rattle.yq_core.specs.declared.style.Place.TheVariants as places
 use Rattle.yq_core.specs.declared.style.Style.TheVariants as styles
-use Rattle.yq_core.specs.declared.block_types.Break.{Break}
-use Rattle.yq_core.specs.Block.{is_tail, ends_block, IsBlock}
-use Rattle.yq_core.specs.BlockContent.{block_content}
-use Rattle.yq_core.specs.BlockWritten.{written_block, break_text}
-use Rattle.yq_core.specs.Scalar.{ScalarText}
-use Rattle.yq_core.specs.Writable.{can_write, is_string}
-use Rattle.yq_core.proofs.BlockWrittenLaws.{written_is, written_content}
-use Rattle.std.proofs.Common.{◌≤◌, ℕ}
 
 byte_some : (b : ℕ) (l : List ℕ) → eqb b 10 ≡ false → eqb b 13 ≡ false → not (eqb (length (text_of_line (b ∷ l))) 0) ≡ true
 byte_some b l e n = rw (text_next b l e n) (rw (eqb-suc-zero (length (text_of_line l))) refl)

@@ -1,19 +1,11 @@
 -- The loops over items and entries.
-use Rattle.std.proofs.Common.{◌≡◌, ℕ, ◌<◌, true, false, List, [], ◌∷◌, ◌++◌, length, Option, Some, None, refl, ap, String, string_bytes, rules}
-use Rattle.std.proofs.lemmas.Option.{same_Some}
-use Rattle.std.specs.declared.alloc.Global.{Global}
-use Rattle.yq_core.specs.declared.piece.Piece.{Piece}
-use Rattle.yq_core.specs.Answers.{◌>>=◌}
-use Rattle.yq_core.proofs.Bools.{bind_some}
-use Rattle.yq_core.specs.declared.inline.Inline.{Inline}
-use Rattle.yq_core.specs.Nodes.{begins_with, bare, is_empty_node, node_text}
-use Rattle.yq_core.specs.Places.{Placed, Parts, part, bare_placed}
-use Rattle.yq_core.specs.PlacedReading.{placed_node, placed_items, placed_item, placed_entry}
-use Rattle.yq_core.specs.Reading.{all_node}
-use Rattle.yq_core.specs.View.{inline_view, items_view, entries_view, behind_items, behind_entries}
-use Rattle.yq_core.proofs.NodeLaws.{all_takes}
-use Rattle.yq_core.proofs.NodeAgain.{item_longer}
-use Rattle.yq_core.proofs.Steps.{bare_locate, items_more, entries_more, then_entry}
+use Rattle.std.proofs.Common.{◌≡◌, ℕ, ◌<◌, true, false, List, [], ◌∷◌, ◌++◌, length, Option, Some, None, refl, ap, String, string_bytes}
+use Rattle.std.{proofs.Common.rules, proofs.lemmas.Option.same_Some, specs.declared.alloc.Global.Global}
+use Rattle.yq_core.{specs.declared.piece.Piece.Piece, specs.Answers.◌>>=◌, proofs.Bools.bind_some, specs.declared.inline.Inline.Inline}
+use Rattle.yq_core.{specs.Nodes.{begins_with, bare, is_empty_node, node_text}, specs.Places.{Placed, Parts, part, bare_placed}}
+use Rattle.yq_core.{specs.PlacedReading.{placed_node, placed_items, placed_item, placed_entry}, specs.Reading.all_node}
+use Rattle.yq_core.{specs.View.{inline_view, items_view, entries_view, behind_items, behind_entries}, proofs.NodeLaws.all_takes}
+use Rattle.yq_core.{proofs.NodeAgain.item_longer, proofs.Steps.{bare_locate, items_more, entries_more, then_entry}}
 
 -- a node that is something is longer than nothing
 pub node_shorter : (total d : ℕ) (t : List ℕ) (s : Placed) (r : List ℕ) → placed_node true (Some 0) total d t ≡ Some (s, r) → bare_placed s ≡ false → length r < length t

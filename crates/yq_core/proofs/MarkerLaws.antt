@@ -1,8 +1,6 @@
 -- Markers in front of a text.
-use Rattle.std.proofs.Common.{◌≡◌, ℕ, ◌≤◌, true, ◌&&◌, List, [], ◌∷◌, length, drop, refl, arith}
-use Rattle.std.proofs.lemmas.Bool.{false≢true}
-use Rattle.yq_core.specs.PlainText.{begins_marker}
-use Rattle.yq_core.specs.Text.{is_marker, separates}
+use Rattle.std.{proofs.Common.{◌≡◌, ℕ, ◌≤◌, true, ◌&&◌, List, [], ◌∷◌, length, drop, refl, arith}, proofs.lemmas.Bool.false≢true}
+use Rattle.yq_core.{specs.PlainText.begins_marker, specs.Text.{is_marker, separates}}
 
 pub marker_is : (t : List ℕ) → is_marker t ≡ (begins_marker t && separates (drop 3 t))
 marker_is [] = refl

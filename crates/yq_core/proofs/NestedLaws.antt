@@ -1,17 +1,13 @@
 -- The parts of an inline node lie inside it, one behind the other.
-use Rattle.std.proofs.Common.{ℕ, suc, ◌-◌, ◌≤◌, true, false, eqb, cond, List, ◌++◌, length, refl, sym, ap, subst, arith, length-append, ℤ, Result, Ok, Err, IfOk, rules}
-use Rattle.std.proofs.lemmas.List.{length-drop}
-use Rattle.yq_core.specs.declared.fault.ReadError.{ReadError}
-use Rattle.yq_core.specs.declared.style.Place.{Place}
-use Rattle.yq_core.specs.Answers.{Gives}
-use Rattle.yq_core.specs.Entries.{EntryPieces, end_of}
-use Rattle.yq_core.specs.Inline.{IsInlineAt, inline_at}
-use Rattle.yq_core.specs.Nodes.{Key, FlowNode, empty, alias, scalar, coll, anchored, Items, none, item, key_text, sep_text, node_text, flow_items_text}
+use Rattle.std.proofs.Common.{ℕ, suc, ◌-◌, ◌≤◌, true, false, eqb, cond, List, ◌++◌, length, refl, sym, ap, subst, arith, length-append, ℤ}
+use Rattle.std.{proofs.Common.{Result, Ok, Err, IfOk, rules}, proofs.lemmas.List.length-drop}
+use Rattle.yq_core.{specs.declared.fault.ReadError.ReadError, specs.declared.style.Place.Place, specs.Answers.Gives}
+use Rattle.yq_core.{specs.Entries.{EntryPieces, end_of}, specs.Inline.{IsInlineAt, inline_at}}
+use Rattle.yq_core.specs.Nodes.{Key, FlowNode, empty, alias, scalar, coll, anchored, Items, none, item, key_text, sep_text, node_text}
+use Rattle.yq_core.specs.Nodes.{flow_items_text}
 use Rattle.yq_core.specs.Places.{Placed, placed, sequence, mapping, Parts, holder, anchored_node, key_placed, locate, locate_items}
-use Rattle.yq_core.specs.Spans.{IsBefore, IsNested, LiesInside, LieInside}
-use Rattle.yq_core.proofs.EditPlaces.{entry_placed, start_placed, end_placed}
-use Rattle.yq_core.proofs.InlineLaws.{inline_takes}
-use Rattle.yq_core.proofs.NodeAgain.{sep_longer, key_longer, node_longer}
+use Rattle.yq_core.{specs.Spans.{IsBefore, IsNested, LiesInside, LieInside}, proofs.EditPlaces.{entry_placed, start_placed, end_placed}}
+use Rattle.yq_core.{proofs.InlineLaws.inline_takes, proofs.NodeAgain.{sep_longer, key_longer, node_longer}}
 
 holder_inside : (k from to : ℕ) (parts : Parts) → LieInside (suc from) to parts → LiesInside from to (holder k parts)
 holder_inside k from to parts h = elim (eqb k 125) as (λ c. LiesInside from to (cond c (mapping parts) (sequence parts))) [ true ↦ h | false ↦ h ]

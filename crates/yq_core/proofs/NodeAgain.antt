@@ -1,13 +1,12 @@
 -- A node is read again.
-use Rattle.std.proofs.Common.{◌≡◌, ℕ, zero, suc, ◌≤◌, ◌<◌, Bool, true, false, cond, not, ◌||◌, eqb, List, ◌∷◌, ◌++◌, length, Option, Some, None, refl, sym, ap, ◌∙◌, ⊎_elim, arith, length-append, eqb-true, eq-eqb, rules}
+use Rattle.std.proofs.Common.{◌≡◌, ℕ, zero, suc, ◌≤◌, ◌<◌, Bool, true, false, cond, not, ◌||◌, eqb, List, ◌∷◌, ◌++◌, length, Option, Some}
+use Rattle.std.proofs.Common.{None, refl, sym, ap, ◌∙◌, ⊎_elim, arith, length-append, eqb-true, eq-eqb, rules}
 use Rattle.std.proofs.lemmas.Bool.{false≢true, cond_both, not-true, or_cases}
-use Rattle.yq_core.specs.Text.{is_empty}
-use Rattle.yq_core.specs.Answers.{◌>>=◌}
-use Rattle.yq_core.specs.Gaps.{IsInlineGap}
-use Rattle.yq_core.specs.Scalars.{IsScalarAt, begins_scalar}
-use Rattle.yq_core.specs.Nodes.{begins_with, Key, bare, keyed, Sep, last, comma, FlowNode, empty, alias, scalar, coll, anchored, Items, none, item, key_text, sep_text, node_text, flow_items_text, begins_content, IsLead, IsName, IsInlineKey, is_keyed, is_empty_node, takes_anchor, IsFlowNode, AreFlowItems, is_close, opening_bracket}
-use Rattle.yq_core.specs.Reading.{sep_at, Kids, read_collection, read_core, read_node, one_level_less, items_at}
-use Rattle.yq_core.proofs.GapLaws.{gap_again}
+use Rattle.yq_core.{specs.Text.is_empty, specs.Answers.◌>>=◌, specs.Gaps.IsInlineGap, specs.Scalars.{IsScalarAt, begins_scalar}}
+use Rattle.yq_core.specs.Nodes.{begins_with, Key, bare, keyed, Sep, last, comma, FlowNode, empty, alias, scalar, coll, anchored, Items}
+use Rattle.yq_core.specs.Nodes.{none, item, key_text, sep_text, node_text, flow_items_text, begins_content, IsLead, IsName, IsInlineKey}
+use Rattle.yq_core.specs.Nodes.{is_keyed, is_empty_node, takes_anchor, IsFlowNode, AreFlowItems, is_close, opening_bracket}
+use Rattle.yq_core.{specs.Reading.{sep_at, Kids, read_collection, read_core, read_node, one_level_less, items_at}, proofs.GapLaws.gap_again}
 use Rattle.yq_core.proofs.NodesPieceLaws.{scalar_begins, scalar_again, name_again, lead_again, key_again, sep_again, front_not, scalar_some}
 use Rattle.yq_core.proofs.NodeTakes.{key_in}
 

@@ -1,15 +1,14 @@
 -- A node of a flow collection before what stands behind an item is one before another such text, if its bytes keep apart from that.
-use Rattle.std.proofs.Common.{◌≡◌, inl, inr, ⊎_elim, ℕ, zero, suc, eq-eqb, Bool, true, false, not, ◌||◌, eqb, List, [], ◌∷◌, ◌++◌, Option, Some, refl, sym, ◌∙◌, subst, eqb-true, append-nil, rules}
+use Rattle.std.proofs.Common.{◌≡◌, inl, inr, ⊎_elim, ℕ, zero, suc, eq-eqb, Bool, true, false, not, ◌||◌, eqb, List, [], ◌∷◌, ◌++◌, Option}
+use Rattle.std.proofs.Common.{Some, refl, sym, ◌∙◌, subst, eqb-true, append-nil, rules}
 use Rattle.std.proofs.lemmas.Bool.{or_cases, or_right, not-false, cases_Bool, or_parts}
-use Rattle.yq_core.specs.Text.{NoneIn, unless, is_empty, is_feed}
-use Rattle.yq_core.proofs.Bools.{at_byte}
+use Rattle.yq_core.{specs.Text.{NoneIn, unless, is_empty, is_feed}, proofs.Bools.at_byte}
 use Rattle.yq_core.specs.Alike.{Alike, stop, after, EndsItem, fresh, KeepsApart}
-use Rattle.yq_core.specs.Nodes.{Key, bare, keyed, Sep, last, comma, FlowNode, empty, alias, scalar, coll, anchored, Items, none, item, key_text, sep_text, node_text, flow_items_text, begins_with, in_name, begins_content, is_close, IsLead, IsName, IsSep, is_empty_node, takes_anchor, IsFlowNode, AreFlowItems}
-use Rattle.yq_core.proofs.Alikes.{alike_append, alike_first}
-use Rattle.yq_core.proofs.AlikePieces.{gap_alike, name_by}
-use Rattle.yq_core.proofs.EndLaws.{ends_name, ends_node, scalar_keeps}
-use Rattle.yq_core.proofs.NodesPieceLaws.{front_is}
-use Rattle.yq_core.proofs.NodesWrittenLaws.{node_then}
+use Rattle.yq_core.specs.Nodes.{Key, bare, keyed, Sep, last, comma, FlowNode, empty, alias, scalar, coll, anchored, Items, none, item}
+use Rattle.yq_core.specs.Nodes.{key_text, sep_text, node_text, flow_items_text, begins_with, in_name, begins_content, is_close, IsLead}
+use Rattle.yq_core.specs.Nodes.{IsName, IsSep, is_empty_node, takes_anchor, IsFlowNode, AreFlowItems}
+use Rattle.yq_core.{proofs.Alikes.{alike_append, alike_first}, proofs.AlikePieces.{gap_alike, name_by}}
+use Rattle.yq_core.{proofs.EndLaws.{ends_name, ends_node, scalar_keeps}, proofs.NodesPieceLaws.front_is, proofs.NodesWrittenLaws.node_then}
 use Rattle.yq_core.proofs.KeyKeeps.{lead_none, ends_lead, key_keeps, lead_gap, or_left_true}
 use Rattle.yq_core.proofs.KeepLaws.{keeps_alike, keeps_append, bare_text, taken_begins, some_begins, gap_node}
 

@@ -1,13 +1,11 @@
 -- How many steps are allowed makes no difference.
-use Rattle.std.proofs.Common.{◌≡◌, ℕ, zero, suc, ◌≤◌, ◌<◌, Bool, true, false, cond, not, ◌&&◌, ◌||◌, eqb, List, [], ◌∷◌, ◌++◌, length, drop, Option, Some, None, refl, sym, ap, ◌∙◌, arith, length-append, rules}
-use Rattle.std.proofs.lemmas.Option.{same_Some}
-use Rattle.yq_core.specs.Text.{is_empty}
-use Rattle.yq_core.specs.Answers.{◌>>=◌}
-use Rattle.yq_core.proofs.Bools.{guard_then}
-use Rattle.yq_core.specs.Nodes.{begins_with, Key, Sep, FlowNode, coll, anchored, Items, none, item, node_text, begins_content, is_keyed, is_empty_node, takes_anchor, IsFlowNode}
-use Rattle.yq_core.specs.Reading.{read_gap, name_at, lead_at, sep_at, Kids, read_collection, read_core, read_node, one_level_less, items_at, all_items, kids_of, all_node}
-use Rattle.yq_core.proofs.Binds.{bind_same}
-use Rattle.yq_core.proofs.GapLaws.{gap_takes}
+use Rattle.std.proofs.Common.{◌≡◌, ℕ, zero, suc, ◌≤◌, ◌<◌, Bool, true, false, cond, not, ◌&&◌, ◌||◌, eqb, List, [], ◌∷◌, ◌++◌, length, drop}
+use Rattle.std.{proofs.Common.{Option, Some, None, refl, sym, ap, ◌∙◌, arith, length-append, rules}, proofs.lemmas.Option.same_Some}
+use Rattle.yq_core.{specs.Text.is_empty, specs.Answers.◌>>=◌, proofs.Bools.guard_then}
+use Rattle.yq_core.specs.Nodes.{begins_with, Key, Sep, FlowNode, coll, anchored, Items, none, item, node_text, begins_content, is_keyed}
+use Rattle.yq_core.specs.Nodes.{is_empty_node, takes_anchor, IsFlowNode}
+use Rattle.yq_core.specs.Reading.{read_gap, name_at, lead_at, sep_at, Kids, read_collection, read_core, read_node, one_level_less, items_at}
+use Rattle.yq_core.{specs.Reading.{all_items, kids_of, all_node}, proofs.Binds.bind_same, proofs.GapLaws.gap_takes}
 use Rattle.yq_core.proofs.NodesPieceLaws.{name_takes, lead_takes, sep_takes}
 use Rattle.yq_core.proofs.NodeTakes.{node_takes, items_takes, kids_take, key_in, key_in_takes}
 use Rattle.yq_core.proofs.NodeAgain.{sep_longer, key_longer, item_longer, kids_by, node_again}

@@ -1,13 +1,13 @@
 -- What is read is a node.
-use Rattle.std.proofs.Common.{◌≡◌, ℕ, zero, suc, Bool, true, false, cond, not, ◌&&◌, ◌||◌, eqb, List, ◌∷◌, ◌++◌, drop, Option, Some, None, refl, ap, ◌∙◌, subst, inl, inr, ◌⊎◌, ⊎_elim, eqb-true, rules}
-use Rattle.std.proofs.lemmas.Bool.{false≢true, and_parts}
+use Rattle.std.proofs.Common.{◌≡◌, ℕ, zero, suc, Bool, true, false, cond, not, ◌&&◌, ◌||◌, eqb, List, ◌∷◌, ◌++◌, drop, Option, Some, None}
+use Rattle.std.{proofs.Common.{refl, ap, ◌∙◌, subst, inl, inr, ◌⊎◌, ⊎_elim, eqb-true, rules}, proofs.lemmas.Bool.{false≢true, and_parts}}
 use Rattle.std.proofs.lemmas.Option.{cond_some, same_Some}
-use Rattle.yq_core.specs.Text.{unless, is_empty}
-use Rattle.yq_core.proofs.Bools.{bind_some, chosen, guard_then}
-use Rattle.yq_core.specs.Gaps.{IsInlineGap}
-use Rattle.yq_core.specs.Nodes.{begins_with, in_name, opening_bracket, is_close, Key, bare, FlowNode, Items, key_text, sep_text, node_text, flow_items_text, begins_content, IsLead, IsName, IsInlineKey, IsSep, is_keyed, is_empty_node, takes_anchor, Deeper, IsFlowNode, AreFlowItems}
-use Rattle.yq_core.specs.Reading.{read_gap, read_scalar, name_at, lead_at, read_flow_key, sep_at, Kids, read_collection, read_core, read_node, one_level_less, items_at}
-use Rattle.yq_core.proofs.GapLaws.{gap_takes}
+use Rattle.yq_core.{specs.Text.{unless, is_empty}, proofs.Bools.{bind_some, chosen, guard_then}, specs.Gaps.IsInlineGap}
+use Rattle.yq_core.specs.Nodes.{begins_with, in_name, opening_bracket, is_close, Key, bare, FlowNode, Items, key_text, sep_text, node_text}
+use Rattle.yq_core.specs.Nodes.{flow_items_text, begins_content, IsLead, IsName, IsInlineKey, IsSep, is_keyed, is_empty_node, takes_anchor}
+use Rattle.yq_core.specs.Nodes.{Deeper, IsFlowNode, AreFlowItems}
+use Rattle.yq_core.specs.Reading.{read_gap, read_scalar, name_at, lead_at, read_flow_key, sep_at, Kids, read_collection, read_core}
+use Rattle.yq_core.{specs.Reading.{read_node, one_level_less, items_at}, proofs.GapLaws.gap_takes}
 use Rattle.yq_core.proofs.NodesPieceLaws.{scalar_takes, name_takes, lead_takes, key_takes, sep_takes, front_is, front_not}
 
 abbrev pub Nodal : Bool → Option ℕ → ℕ → List ℕ → FlowNode × List ℕ → Type 0

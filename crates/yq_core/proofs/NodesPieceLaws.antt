@@ -1,23 +1,17 @@
 -- The pieces of a node, read and spelled.
-use Rattle.std.proofs.Common.{◌≡◌, ℕ, ◌<◌, Bool, true, false, ◌&&◌, ◌||◌, eqb, List, [], ◌∷◌, ◌++◌, length, drop, Option, Some, None, refl, sym, ap, ◌∙◌, subst, inl, inr, ⊎_elim, arith, eqb-true, rules}
-use Rattle.std.proofs.Math.Bool.{and-false}
+use Rattle.std.proofs.Common.{◌≡◌, ℕ, ◌<◌, Bool, true, false, ◌&&◌, ◌||◌, eqb, List, [], ◌∷◌, ◌++◌, length, drop, Option, Some, None, refl}
+use Rattle.std.{proofs.Common.{sym, ap, ◌∙◌, subst, inl, inr, ⊎_elim, arith, eqb-true, rules}, proofs.Math.Bool.and-false}
 use Rattle.std.proofs.lemmas.Bool.{false≢true, cond_both, not-true, false_from_ne_true, and_parts}
 use Rattle.std.proofs.lemmas.Option.{cond_some, same_Some}
-use Rattle.yq_core.specs.Answers.{◌>>=◌}
-use Rattle.yq_core.specs.Plain.{begins_plain, ends_plain, ends_text}
-use Rattle.yq_core.specs.Quoted.{spell_lines}
-use Rattle.yq_core.specs.QuotedReading.{quoted_at}
-use Rattle.yq_core.specs.Text.{upto, cut, unless, is_empty, is_space, no_white}
-use Rattle.yq_core.proofs.Bools.{bind_some, chosen}
-use Rattle.yq_core.proofs.PlainLaws.{plain_takes, plain_again}
-use Rattle.yq_core.proofs.QuotedFound.{quoted_takes, quoted_again}
-use Rattle.yq_core.proofs.Upto.{upto_ends, none_in_cut, cut-append, cut_takes}
-use Rattle.yq_core.proofs.QuotedLaws.{of_quotes}
-use Rattle.yq_core.specs.Gaps.{IsInlineGap}
-use Rattle.yq_core.specs.Nodes.{Key, Sep, last, comma, key_text, sep_text, begins_with, in_name, begins_node, IsApart, IsLead, IsName, ends_key, IsInlineKey, IsSep, is_keyed}
-use Rattle.yq_core.specs.Reading.{read_gap, read_scalar, with_its_lines, name_at, apart_at, lead_at, after_colon, read_flow_key, sep_at, sep_behind}
-use Rattle.yq_core.specs.Scalars.{is_quoted, has_its_lines, IsScalarAt, begins_scalar}
-use Rattle.yq_core.proofs.Binds.{not_then}
+use Rattle.yq_core.{specs.Answers.◌>>=◌, specs.Plain.{begins_plain, ends_plain, ends_text}, specs.Quoted.spell_lines}
+use Rattle.yq_core.{specs.QuotedReading.quoted_at, specs.Text.{upto, cut, unless, is_empty, is_space, no_white}}
+use Rattle.yq_core.{proofs.Bools.{bind_some, chosen}, proofs.PlainLaws.{plain_takes, plain_again}}
+use Rattle.yq_core.{proofs.QuotedFound.{quoted_takes, quoted_again}, proofs.Upto.{upto_ends, none_in_cut, cut-append, cut_takes}}
+use Rattle.yq_core.{proofs.QuotedLaws.of_quotes, specs.Gaps.IsInlineGap}
+use Rattle.yq_core.specs.Nodes.{Key, Sep, last, comma, key_text, sep_text, begins_with, in_name, begins_node, IsApart, IsLead, IsName}
+use Rattle.yq_core.specs.Nodes.{ends_key, IsInlineKey, IsSep, is_keyed}
+use Rattle.yq_core.specs.Reading.{read_gap, read_scalar, with_its_lines, name_at, apart_at, lead_at, after_colon, read_flow_key, sep_at}
+use Rattle.yq_core.{specs.Reading.sep_behind, specs.Scalars.{is_quoted, has_its_lines, IsScalarAt, begins_scalar}, proofs.Binds.not_then}
 use Rattle.yq_core.proofs.GapLaws.{gap_takes, gap_again}
 
 -- a text that passes a test begins with no byte behind which each text fails it

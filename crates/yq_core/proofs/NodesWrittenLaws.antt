@@ -1,23 +1,17 @@
 -- What is written in flow style.
-use Rattle.std.proofs.Common.{◌≡◌, ℕ, Bool, true, false, cond, not, ◌&&◌, ◌||◌, List, [], ◌∷◌, ◌++◌, map, None, refl, sym, ap, ◌∙◌, append_assoc, rules, String, string_bytes, Result, is_ok, OnOk}
-use Rattle.std.specs.declared.alloc.Global.{Global}
-use Rattle.std.specs.Prelude.{Vec}
-use Rattle.yq_core.specs.declared.value.Value.{Value}
-use Rattle.yq_core.specs.declared.value.Value.TheVariants as values
-use Rattle.yq_core.specs.declared.value.Value.TheFolds.{the_lemmas}
-use Rattle.std.proofs.lemmas.Bool.{false≢true}
-use Rattle.yq_core.specs.declared.kind.Kind.TheVariants as kinds
-use Rattle.yq_core.specs.declared.style.Place.{Place}
-use Rattle.yq_core.specs.declared.style.Style.TheVariants as styles
-use Rattle.yq_core.specs.PlainText.{is_plain_text}
-use Rattle.yq_core.specs.Scalar.{ScalarText}
-use Rattle.yq_core.specs.SchemaReading.{resolve}
-use Rattle.yq_core.specs.Tree as tree
-use Rattle.yq_core.specs.Tree.{plain_label}
+use Rattle.std.proofs.Common.{◌≡◌, ℕ, Bool, true, false, cond, not, ◌&&◌, ◌||◌, List, [], ◌∷◌, ◌++◌, map, None, refl, sym, ap, ◌∙◌}
+use Rattle.std.{proofs.Common.{append_assoc, rules, String, string_bytes, Result, is_ok, OnOk}, specs.declared.alloc.Global.Global}
+use Rattle.std.{specs.Prelude.Vec, proofs.lemmas.Bool.false≢true}
+use Rattle.yq_core.{specs.declared.value.Value.Value, specs.declared.value.Value.TheFolds.the_lemmas, specs.declared.style.Place.Place}
+use Rattle.yq_core.{specs.PlainText.is_plain_text, specs.Scalar.ScalarText, specs.SchemaReading.resolve, specs.Tree.plain_label}
 use Rattle.yq_core.specs.Writable.{can_write, can_write_plain, in_flow, is_string}
-use Rattle.yq_core.specs.Nodes.{Key, Sep, FlowNode, empty, alias, scalar, coll, anchored, Items, none, item, key_text, sep_text, node_text, flow_items_text, opening_bracket}
-use Rattle.yq_core.specs.Values.{value_node, items, entries, entry}
+use Rattle.yq_core.specs.Nodes.{Key, Sep, FlowNode, empty, alias, scalar, coll, anchored, Items, none, item, key_text, sep_text, node_text}
+use Rattle.yq_core.{specs.Nodes.{flow_items_text, opening_bracket}, specs.Values.{value_node, items, entries, entry}}
 use Rattle.yq_core.specs.NodesWritten.{flow_of, flow_items, flow_sep, flow_key, flow_text, comma_separated, entry_text}
+use Rattle.yq_core.specs.declared.value.Value.TheVariants as values
+use Rattle.yq_core.specs.declared.kind.Kind.TheVariants as kinds
+use Rattle.yq_core.specs.declared.style.Style.TheVariants as styles
+use Rattle.yq_core.specs.Tree as tree
 
 -- the style of a scalar can write it
 double_can : (string resolved plain : Bool) → (not string || (resolved && plain)) ≡ false → string ≡ true

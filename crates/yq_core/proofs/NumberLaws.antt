@@ -1,10 +1,9 @@
 -- The ints of the core schema: what is read is what is written.
-use Rattle.std.proofs.Common.{◌≡◌, ℕ, ◌<◌, Bool, true, false, cond, eqb, ltb, List, [], ◌∷◌, ◌++◌, drop, Some, None, is_some, ℤ, pos, refl, sym, ◌∙◌, subst, inl, inr, eqb-true, rules}
-use Rattle.std.specs.Char.{digit_value}
+use Rattle.std.proofs.Common.{◌≡◌, ℕ, ◌<◌, Bool, true, false, cond, eqb, ltb, List, [], ◌∷◌, ◌++◌, drop, Some, None, is_some, ℤ, pos, refl}
+use Rattle.std.{proofs.Common.{sym, ◌∙◌, subst, inl, inr, eqb-true, rules}, specs.Char.digit_value}
 use Rattle.std.specs.Str.Parse.{IsNumeral, digits_value}
 use Rattle.std.proofs.lemmas.Bool.{false≢true, cases_Bool, and_parts, and_right, ne_eqb, lt-ltb}
-use Rattle.yq_core.specs.Numbers.{Sign, spell_sign, decimal, octal, hexadecimal, signed}
-use Rattle.yq_core.specs.Schema.{IsIntOf}
+use Rattle.yq_core.{specs.Numbers.{Sign, spell_sign, decimal, octal, hexadecimal, signed}, specs.Schema.IsIntOf}
 use Rattle.yq_core.specs.SchemaReading.{has_base, past_sign, sign_of, are_digits, based_number, decimal_number, int_number, is_int}
 use Rattle.yq_core.proofs.DigitLaws.{digits_takes, digits_again}
 

@@ -1,21 +1,15 @@
 -- What follows a piece of a text begins with a whole character.
-use Rattle.std.proofs.Common.{◌≡◌, ◌⊎◌, ℕ, zero, suc, ◌+◌, ◌<◌, Bool, true, false, eqb, List, [], ◌∷◌, ◌++◌, length, get_or, Option, Some, None, sym, ap, ◌∙◌, subst, inl, inr, ⊎_elim, append_assoc, arith, length-append, eqb-true}
-use Rattle.std.proofs.Math.Seq.{drop-append_seam, get_or-append_seam}
-use Rattle.std.proofs.lemmas.Bool.{cond_both, or_cases}
-use Rattle.std.proofs.lemmas.Str.{IsUtf8-drop, IsCharBoundary-after_ascii}
-use Rattle.std.specs.Str.{IsUtf8, IsCharBoundary}
-use Rattle.yq_core.specs.Plain.{IsPlain, ends_plain}
-use Rattle.yq_core.specs.Quoted.{spell_lines}
-use Rattle.yq_core.specs.Text.{unless, is_white, no_white}
-use Rattle.yq_core.proofs.Boundaries.{boundary_unless, white_ascii}
-use Rattle.yq_core.proofs.PlainLaws.{boundary_plain}
-use Rattle.yq_core.proofs.Upto.{upto-append, upto_unless}
-use Rattle.yq_core.specs.declared.gap.GapPlace.TheVariants.{Token}
-use Rattle.yq_core.specs.Gaps.{IsInlineGap}
-use Rattle.yq_core.specs.Nodes.{Key, bare, keyed, Sep, last, comma, FlowNode, empty, alias, scalar, coll, anchored, Items, none, item, key_text, sep_text, node_text, flow_items_text, in_name, begins_content, begins_node, is_close, opening_bracket, IsApart, IsLead, IsName, IsInlineKey, IsSep, IsFlowNode, AreFlowItems}
-use Rattle.yq_core.specs.Scalars.{IsScalarAt}
-use Rattle.yq_core.proofs.Bounds.{boundary_gap, boundary_name}
-use Rattle.yq_core.proofs.GapLaws.{gap_append}
+use Rattle.std.proofs.Common.{◌≡◌, ◌⊎◌, ℕ, zero, suc, ◌+◌, ◌<◌, Bool, true, false, eqb, List, [], ◌∷◌, ◌++◌, length, get_or, Option, Some}
+use Rattle.std.proofs.Common.{None, sym, ap, ◌∙◌, subst, inl, inr, ⊎_elim, append_assoc, arith, length-append, eqb-true}
+use Rattle.std.{proofs.Math.Seq.{drop-append_seam, get_or-append_seam}, proofs.lemmas.Bool.{cond_both, or_cases}}
+use Rattle.std.{proofs.lemmas.Str.{IsUtf8-drop, IsCharBoundary-after_ascii}, specs.Str.{IsUtf8, IsCharBoundary}}
+use Rattle.yq_core.{specs.Plain.{IsPlain, ends_plain}, specs.Quoted.spell_lines, specs.Text.{unless, is_white, no_white}}
+use Rattle.yq_core.{proofs.Boundaries.{boundary_unless, white_ascii}, proofs.PlainLaws.boundary_plain}
+use Rattle.yq_core.{proofs.Upto.{upto-append, upto_unless}, specs.declared.gap.GapPlace.TheVariants.Token, specs.Gaps.IsInlineGap}
+use Rattle.yq_core.specs.Nodes.{Key, bare, keyed, Sep, last, comma, FlowNode, empty, alias, scalar, coll, anchored, Items, none, item}
+use Rattle.yq_core.specs.Nodes.{key_text, sep_text, node_text, flow_items_text, in_name, begins_content, begins_node, is_close}
+use Rattle.yq_core.specs.Nodes.{opening_bracket, IsApart, IsLead, IsName, IsInlineKey, IsSep, IsFlowNode, AreFlowItems}
+use Rattle.yq_core.{specs.Scalars.IsScalarAt, proofs.Bounds.{boundary_gap, boundary_name}, proofs.GapLaws.gap_append}
 
 past : (p r : List ℕ) → IsUtf8 (p ++ r) → IsCharBoundary (p ++ r) (length p) → IsUtf8 r
 past p r u b = rw drop-append_seam at (IsUtf8-drop (p ++ r) (length p) u b)

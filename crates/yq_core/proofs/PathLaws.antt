@@ -1,15 +1,15 @@
 -- Where a path leads in a node, in its tree, and in its text.
-use Rattle.std.proofs.Common.{arith, ◌+◌, length, eqb, ◌≡◌, ℕ, zero, suc, Bool, true, false, cond, List, [], ◌∷◌, ◌++◌, Option, Some, None, option_map, option_and_then, refl, sym, ap, ◌∙◌, subst, append_assoc, rules}
-use Rattle.std.proofs.lemmas.Option.{same_Some}
-use Rattle.yq_core.specs.Paths.{Step, is_here, further, child_at, node_at}
-use Rattle.yq_core.specs.Tree as tree
-use Rattle.yq_core.specs.Tree.{children_of, key_label}
-use Rattle.yq_core.specs.Nodes.{FlowNode, empty, alias, scalar, coll, anchored, Items, none, item, key_text, sep_text, node_text, flow_items_text, opening_bracket, IsFlowNode, AreFlowItems}
-use Rattle.yq_core.specs.Entries.{PlacedEntry, EntryPieces, StandsIn, parts_in, parts_of, flow_part_at, placed_entry_at, pieces_text, locate_entry, item_at, path_inside, entry_pieces_at}
+use Rattle.std.proofs.Common.{arith, ◌+◌, length, eqb, ◌≡◌, ℕ, zero, suc, Bool, true, false, cond, List, [], ◌∷◌, ◌++◌, Option, Some, None}
+use Rattle.std.{proofs.Common.{option_map, option_and_then, refl, sym, ap, ◌∙◌, subst, append_assoc, rules}, proofs.lemmas.Option.same_Some}
+use Rattle.yq_core.{specs.Paths.{Step, is_here, further, child_at, node_at}, specs.Tree.{children_of, key_label}}
+use Rattle.yq_core.specs.Nodes.{FlowNode, empty, alias, scalar, coll, anchored, Items, none, item, key_text, sep_text, node_text}
+use Rattle.yq_core.specs.Nodes.{flow_items_text, opening_bracket, IsFlowNode, AreFlowItems}
+use Rattle.yq_core.specs.Entries.{PlacedEntry, EntryPieces, StandsIn, parts_in, parts_of, flow_part_at, placed_entry_at, pieces_text}
+use Rattle.yq_core.specs.Entries.{locate_entry, item_at, path_inside, entry_pieces_at}
 use Rattle.yq_core.specs.Places.{Placed, placed, sequence, mapping, holder, anchored_node, Parts, end, part, locate, locate_items}
-use Rattle.yq_core.specs.Trees.{with_anchor_name, key_content, unplaced_key, placed_tree, parts_tree}
-use Rattle.yq_core.proofs.TreeLaws.{key_tree}
+use Rattle.yq_core.{specs.Trees.{with_anchor_name, key_content, unplaced_key, placed_tree, parts_tree}, proofs.TreeLaws.key_tree}
 use Rattle.yq_core.proofs.NodesWrittenLaws.{key_append, sep_append, node_append}
+use Rattle.yq_core.specs.Tree as tree
 
 -- in the tree
 named_children : (a : Option (List ℕ)) (v : tree.Node) → children_of (with_anchor_name a v) ≡ children_of v

@@ -1,18 +1,12 @@
 -- The items and entries of the code, one after the other.
-use Rattle.std.proofs.Common.{◌≡◌, ℕ, zero, suc, ◌+◌, ◌<◌, ◌≤◌, true, false, ltb, List, [], ◌∷◌, length, drop, get_or, Option, Some, None, option_map, refl, sym, ap, ◌∙◌, inl, inr, arith, String, string_bytes}
-use Rattle.std.proofs.lemmas.Bool.{false≢true, ltb-true, lt-ltb, cases_lt}
-use Rattle.std.proofs.lemmas.List.{drop_more, drop_all}
-use Rattle.std.specs.declared.alloc.Global.{Global}
-use Rattle.std.specs.Str.{bytes_eq}
-use Rattle.yq_core.specs.declared.piece.Piece.{Piece}
-use Rattle.yq_core.specs.Paths.{Step, To, Nth, node_at}
-use Rattle.yq_core.specs.declared.inline.Inline.{Inline}
-use Rattle.yq_core.specs.declared.path.Entry.{Entry}
+use Rattle.std.proofs.Common.{◌≡◌, ℕ, zero, suc, ◌+◌, ◌<◌, ◌≤◌, true, false, ltb, List, [], ◌∷◌, length, drop, get_or, Option, Some, None}
+use Rattle.std.proofs.Common.{option_map, refl, sym, ap, ◌∙◌, inl, inr, arith, String, string_bytes}
+use Rattle.std.{proofs.lemmas.Bool.{false≢true, ltb-true, lt-ltb, cases_lt}, proofs.lemmas.List.{drop_more, drop_all}}
+use Rattle.std.{specs.declared.alloc.Global.Global, specs.Str.bytes_eq}
+use Rattle.yq_core.{specs.declared.piece.Piece.Piece, specs.Paths.{Step, To, Nth, node_at}, specs.declared.inline.Inline.Inline}
+use Rattle.yq_core.{specs.declared.path.Entry.Entry, specs.Entries.{PlacedEntry, entry_view, tree_step, flow_part_at, placed_entry_at}}
+use Rattle.yq_core.{specs.Trees.placed_tree, specs.View.{inline_view, items_end, entries_end}, proofs.PathLaws.{path_tree, entry_tree}}
 use Rattle.yq_core.specs.declared.path.Step as declared
-use Rattle.yq_core.specs.Entries.{PlacedEntry, entry_view, tree_step, flow_part_at, placed_entry_at}
-use Rattle.yq_core.specs.Trees.{placed_tree}
-use Rattle.yq_core.specs.View.{inline_view, items_end, entries_end}
-use Rattle.yq_core.proofs.PathLaws.{path_tree, entry_tree}
 
 item_part : (is : List Inline) (i : ℕ) (d : Inline) → i < length is → flow_part_at (Nth i) (items_end is) ≡ Some (None, inline_view (get_or is i d))
 item_part [] i d lt = absurd (omega (arith, lt))

@@ -1,30 +1,18 @@
 -- The scalar of a piece, and where it may be cut off the text.
-use Rattle.std.proofs.Common.{◌≡◌, ℕ, ◌+◌, ◌-◌, ◌<◌, List, [], ◌∷◌, ◌++◌, length, take, drop, get_or, inl, inr, refl, sym, ap, ◌∙◌, subst, arith, append_assoc, length-append, ℤ, rules}
-use Rattle.std.proofs.Math.Seq.{take-append_seam}
-use Rattle.std.proofs.lemmas.Str.{IsCharBoundary-after_ascii}
-use Rattle.std.specs.Str.{IsUtf8, IsCharBoundary}
-use Rattle.yq_core.proofs.BlockPieceLaws.{content_is}
+use Rattle.std.proofs.Common.{◌≡◌, ℕ, ◌+◌, ◌-◌, ◌<◌, List, [], ◌∷◌, ◌++◌, length, take, drop, get_or, inl, inr, refl, sym, ap, ◌∙◌, subst}
+use Rattle.std.{proofs.Common.{arith, append_assoc, length-append, ℤ, rules}, proofs.Math.Seq.take-append_seam}
+use Rattle.std.{proofs.lemmas.Str.IsCharBoundary-after_ascii, specs.Str.{IsUtf8, IsCharBoundary}}
+use Rattle.yq_core.{proofs.BlockPieceLaws.content_is, specs.BlockContent.block_content, specs.declared.block_header.BlockStyle.BlockStyle}
+use Rattle.yq_core.{specs.declared.piece.Piece.Piece, specs.declared.style.Place.Place}
+use Rattle.yq_core.{specs.Piece.{inline_piece, further_spaces, IsPlainPiece}, specs.Plain.ends_plain}
+use Rattle.yq_core.{specs.Quoted.{QuotedLines, spell_lines, IsQuoted, quoted_lines_content}, specs.PlainContent.IsPlainLines}
+use Rattle.yq_core.{specs.QuotedPiece.{quoted_style, IsQuotedPiece}, specs.ScalarPiece.{IsInlineScalar, piece_string, piece_content}}
+use Rattle.yq_core.{specs.Writable.in_flow, proofs.ContentLaws.quoted_content_is, proofs.PlainContentLaws.plain_content_is}
+use Rattle.yq_core.{proofs.PlainLaws.boundary_plain, proofs.QuotedLaws.of_quotes, proofs.QuotedFound.at_seam, proofs.Upto.upto-append}
 use Rattle.yq_core.specs.Block as block
-use Rattle.yq_core.specs.BlockContent.{block_content}
 use Rattle.yq_core.specs.BlockReading as blocks
-use Rattle.yq_core.specs.declared.block_header.BlockStyle.{BlockStyle}
 use Rattle.yq_core.specs.declared.block_header.BlockStyle.TheVariants as block_styles
-use Rattle.yq_core.specs.declared.piece.Piece.{Piece}
 use Rattle.yq_core.specs.declared.style.Style.TheVariants as styles
-use Rattle.yq_core.specs.declared.style.Place.{Place}
-use Rattle.yq_core.specs.Piece.{inline_piece, further_spaces, IsPlainPiece}
-use Rattle.yq_core.specs.Plain.{ends_plain}
-use Rattle.yq_core.specs.Quoted.{QuotedLines, spell_lines, IsQuoted, quoted_lines_content}
-use Rattle.yq_core.specs.PlainContent.{IsPlainLines}
-use Rattle.yq_core.specs.QuotedPiece.{quoted_style, IsQuotedPiece}
-use Rattle.yq_core.specs.ScalarPiece.{IsInlineScalar, piece_string, piece_content}
-use Rattle.yq_core.specs.Writable.{in_flow}
-use Rattle.yq_core.proofs.ContentLaws.{quoted_content_is}
-use Rattle.yq_core.proofs.PlainContentLaws.{plain_content_is}
-use Rattle.yq_core.proofs.PlainLaws.{boundary_plain}
-use Rattle.yq_core.proofs.QuotedLaws.{of_quotes}
-use Rattle.yq_core.proofs.QuotedFound.{at_seam}
-use Rattle.yq_core.proofs.Upto.{upto-append}
 
 -- the scalar of a piece
 pub record Scalar (text : List ℕ) (p : Piece) : Type 0 where

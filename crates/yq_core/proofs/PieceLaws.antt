@@ -1,14 +1,8 @@
 -- The piece of a plain scalar.
-use Rattle.std.proofs.Common.{◌≡◌, ℕ, List, drop, Some, Result, Ok, Err, sym, ap, ◌∙◌, IfOk, ℤ, rules}
-use Rattle.std.proofs.lemmas.Option.{same_Some}
-use Rattle.yq_core.specs.declared.piece.Piece.{Piece}
-use Rattle.yq_core.specs.declared.style.Place.{Place}
-use Rattle.yq_core.specs.Answers.{ReadsAs}
-use Rattle.yq_core.specs.Piece.{further_spaces, IsPlainPiece, plain_from}
-use Rattle.yq_core.specs.Plain.{plain_at}
-use Rattle.yq_core.specs.Writable.{in_flow}
-use Rattle.yq_core.proofs.Bools.{bind_some}
-use Rattle.yq_core.proofs.PlainLaws.{plain_takes, plain_again}
+use Rattle.std.{proofs.Common.{◌≡◌, ℕ, List, drop, Some, Result, Ok, Err, sym, ap, ◌∙◌, IfOk, ℤ, rules}, proofs.lemmas.Option.same_Some}
+use Rattle.yq_core.{specs.declared.piece.Piece.Piece, specs.declared.style.Place.Place, specs.Answers.ReadsAs}
+use Rattle.yq_core.{specs.Piece.{further_spaces, IsPlainPiece, plain_from}, specs.Plain.plain_at, specs.Writable.in_flow}
+use Rattle.yq_core.{proofs.Bools.bind_some, proofs.PlainLaws.{plain_takes, plain_again}}
 
 pub piece_takes : (place : Place) (n : ℤ) (at : ℕ) (text : List ℕ) (p : Piece) → plain_from place n at text ≡ Some p → IsPlainPiece place n at text p
 unfolding plain_from

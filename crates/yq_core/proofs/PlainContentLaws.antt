@@ -1,11 +1,10 @@
 -- What is read as the content of a plain scalar is what its lines stand for.
-use Rattle.std.proofs.Common.{◌≡◌, ℕ, true, false, List, [], ◌∷◌, ◌++◌, refl, sym, inl, inr, ◌&&◌, ap, ◌∙◌, subst, eqb-true, append-nil, rules}
-use Rattle.std.proofs.lemmas.Bool.{false≢true, and_parts, cases_Bool}
-use Rattle.std.proofs.Math.Bool.{and-false}
+use Rattle.std.proofs.Common.{◌≡◌, ℕ, true, false, List, [], ◌∷◌, ◌++◌, refl, sym, inl, inr, ◌&&◌, ap, ◌∙◌, subst, eqb-true, append-nil}
+use Rattle.std.{proofs.Common.rules, proofs.lemmas.Bool.{false≢true, and_parts, cases_Bool}, proofs.Math.Bool.and-false}
 use Rattle.yq_core.specs.Text.{is_break, is_feed, is_return}
-use Rattle.yq_core.specs.Quoted.{Char, itself, doubled, escape as letter_escape, code, spell_chars, Break, line_feed, return_feed, spell_break, QuotedLines, last, line, spell_lines, quoted_lines_content}
-use Rattle.yq_core.specs.PlainContent.{ArePlain, ArePlainLines, IsPlainLines}
-use Rattle.yq_core.specs.ContentReading.{plain_content}
+use Rattle.yq_core.specs.Quoted.{Char, itself, doubled, escape as letter_escape, code, spell_chars, Break, line_feed, return_feed}
+use Rattle.yq_core.specs.Quoted.{spell_break, QuotedLines, last, line, spell_lines, quoted_lines_content}
+use Rattle.yq_core.{specs.PlainContent.{ArePlain, ArePlainLines, IsPlainLines}, specs.ContentReading.plain_content}
 use Rattle.yq_core.proofs.ContentLaws.{AllMean, LinesMean, itself_means, content_is}
 
 plain_chars_mean : (cs : List Char) (t : List ℕ) → ArePlain cs t → AllMean 0 cs t

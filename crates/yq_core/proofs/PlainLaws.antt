@@ -1,13 +1,9 @@
 -- A plain scalar, read and spelled.
-use Rattle.std.proofs.Common.{◌≡◌, ℕ, ◌<◌, Bool, true, eqb, List, ◌∷◌, ◌++◌, Option, Some, refl, ⊎_elim, ◌||◌, ap, subst, arith, eqb-true, rules}
-use Rattle.std.proofs.lemmas.Bool.{or_cases, and_parts}
-use Rattle.std.proofs.lemmas.List.{take-append-drop}
-use Rattle.std.proofs.lemmas.Option.{cond_some}
-use Rattle.std.specs.Str.{IsCharBoundary}
-use Rattle.yq_core.specs.Text.{upto, cut}
-use Rattle.yq_core.specs.Plain.{ends_plain, ends_text, is_flow_indicator, begins_plain, IsPlain, plain_at}
-use Rattle.yq_core.proofs.Bools.{chosen}
-use Rattle.yq_core.proofs.Boundaries.{boundary_ends, space_ascii}
+use Rattle.std.proofs.Common.{◌≡◌, ℕ, ◌<◌, Bool, true, eqb, List, ◌∷◌, ◌++◌, Option, Some, refl, ⊎_elim, ◌||◌, ap, subst, arith, eqb-true}
+use Rattle.std.{proofs.Common.rules, proofs.lemmas.Bool.{or_cases, and_parts}, proofs.lemmas.List.take-append-drop}
+use Rattle.std.{proofs.lemmas.Option.cond_some, specs.Str.IsCharBoundary}
+use Rattle.yq_core.{specs.Text.{upto, cut}, specs.Plain.{ends_plain, ends_text, is_flow_indicator, begins_plain, IsPlain, plain_at}}
+use Rattle.yq_core.{proofs.Bools.chosen, proofs.Boundaries.{boundary_ends, space_ascii}}
 use Rattle.yq_core.proofs.Upto.{cut-append, cut_takes, none_in_cut, upto_ends}
 
 pub byte_or : (b k : ℕ) (more : Bool) → k < 128 → (more ≡ true → b < 128) → (more || eqb b k) ≡ true → b < 128

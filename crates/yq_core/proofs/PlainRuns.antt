@@ -1,11 +1,7 @@
 -- Bytes at which no plain scalar ends.
 use Rattle.std.proofs.Common.{◌≡◌, ℕ, suc, ◌+◌, Bool, true, false, Option, List, [], ◌∷◌, drop, refl, inl, inr, subst, arith, rules}
-use Rattle.std.proofs.lemmas.Bool.{and_right, cases_Bool, leb-false, ne_eqb}
-use Rattle.std.specs.List.{prefix_len}
-use Rattle.yq_core.specs.Text.{upto}
-use Rattle.yq_core.specs.Plain.{ends_plain}
-use Rattle.yq_core.specs.Runs.{run_goes_on}
-use Rattle.yq_core.specs.declared.runs.Run.TheVariants.{Plain}
+use Rattle.std.{proofs.lemmas.Bool.{and_right, cases_Bool, leb-false, ne_eqb}, specs.List.prefix_len}
+use Rattle.yq_core.{specs.Text.upto, specs.Plain.ends_plain, specs.Runs.run_goes_on, specs.declared.runs.Run.TheVariants.Plain}
 use Rattle.yq_core.proofs.Bools.{none_of}
 
 inside_goes_on : (flow : Bool) (spaces : Option ℕ) (b : ℕ) (bs : List ℕ) → run_goes_on Plain b ≡ true → ends_plain flow spaces (b ∷ bs) ≡ false

@@ -1,25 +1,15 @@
 -- What is written plain is read as the same scalar.
 use Rattle.std.proofs.Common.{◌≡◌, ℕ, Bool, true, false, eqb, List, [], ◌∷◌, ◌++◌, Option, refl, sym, ap, ◌∙◌, subst, inl, codes, rules}
-use Rattle.std.proofs.lemmas.Bool.{false≢true, false_from_ne_true, and_parts}
-use Rattle.std.proofs.lemmas.Option.{same_Some}
-use Rattle.std.specs.List.{list_all}
+use Rattle.std.{proofs.lemmas.Bool.{false≢true, false_from_ne_true, and_parts}, proofs.lemmas.Option.same_Some, specs.List.list_all}
 use Rattle.std.specs.Str.{IsUtf8, chars}
-use Rattle.yq_core.specs.declared.kind.Kind.{Kind}
-use Rattle.yq_core.specs.declared.kind.Kind.TheVariants as kinds
-use Rattle.yq_core.specs.Characters.{is_text, is_text_char, pairs_returns}
-use Rattle.yq_core.specs.Text.{is_empty, front}
+use Rattle.yq_core.{specs.declared.kind.Kind.Kind, specs.Characters.{is_text, is_text_char, pairs_returns}, specs.Text.{is_empty, front}}
 use Rattle.yq_core.specs.Plain.{is_indicator, IsPlain, ends_plain, holds_break, plain_at}
-use Rattle.yq_core.specs.PlainText.{is_plain_char, is_plain_text, begins_plainly}
-use Rattle.yq_core.specs.Scalar.{ScalarText, IsScalar, plain_of, of_kind}
-use Rattle.yq_core.specs.Schema.{Resolves}
-use Rattle.yq_core.specs.SchemaReading.{resolve}
-use Rattle.yq_core.specs.Writable.{can_write_plain, is_string}
-use Rattle.yq_core.proofs.Bools.{at_byte, none_of}
-use Rattle.yq_core.proofs.Bytes.{Each}
-use Rattle.yq_core.proofs.PlainLaws.{plain_again}
+use Rattle.yq_core.{specs.PlainText.{is_plain_char, is_plain_text, begins_plainly}, specs.Scalar.{ScalarText, IsScalar, plain_of, of_kind}}
+use Rattle.yq_core.{specs.Schema.Resolves, specs.SchemaReading.resolve, specs.Writable.{can_write_plain, is_string}}
+use Rattle.yq_core.{proofs.Bools.{at_byte, none_of}, proofs.Bytes.Each, proofs.PlainLaws.plain_again}
 use Rattle.yq_core.proofs.PlainWritten.{is_no_control, no_controls, plain_text_parts, plain_written}
-use Rattle.yq_core.proofs.SchemaLaws.{resolve_takes, resolve_again}
-use Rattle.yq_core.proofs.SchemaPlain.{null_plain, bool_plain, int_plain, float_plain}
+use Rattle.yq_core.{proofs.SchemaLaws.{resolve_takes, resolve_again}, proofs.SchemaPlain.{null_plain, bool_plain, int_plain, float_plain}}
+use Rattle.yq_core.specs.declared.kind.Kind.TheVariants as kinds
 
 -- a text begins with one plain scalar at most
 pub plain_one : (flow : Bool) (spaces : Option ℕ) (p rest q other : List ℕ) → p ++ rest ≡ q ++ other → IsPlain flow spaces p rest → IsPlain flow spaces q other → (p ≡ q) × (rest ≡ other)

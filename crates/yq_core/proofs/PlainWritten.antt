@@ -1,16 +1,12 @@
 -- What is written plain is a plain scalar.
-use Rattle.std.proofs.Common.{◌≡◌, ℕ, Bool, true, false, not, eqb, List, [], ◌∷◌, ◌++◌, Option, Some, None, refl, sym, inl, inr, ⊎_elim, ◌&&◌, ◌||◌, ap, ◌∙◌, arith, eqb-true, rules}
-use Rattle.std.proofs.lemmas.Bool.{false≢true, or_cases, not-true, and_parts, cases_Bool, or_parts}
-use Rattle.std.specs.List.{list_all}
-use Rattle.std.specs.Str.{chars, IsUtf8}
-use Rattle.std.specs.Option.{is_none}
-use Rattle.yq_core.specs.Answers.{more}
-use Rattle.yq_core.specs.Text.{NoneIn, is_empty, is_space, front}
-use Rattle.yq_core.specs.Plain.{ends_plain, ends_text, is_flow_indicator, is_safe, IsPlain}
-use Rattle.yq_core.specs.PlainReading.{across}
+use Rattle.std.proofs.Common.{◌≡◌, ℕ, Bool, true, false, not, eqb, List, [], ◌∷◌, ◌++◌, Option, Some, None, refl, sym, inl, inr, ⊎_elim}
+use Rattle.std.proofs.Common.{◌&&◌, ◌||◌, ap, ◌∙◌, arith, eqb-true, rules}
+use Rattle.std.{proofs.lemmas.Bool.{false≢true, or_cases, not-true, and_parts, cases_Bool, or_parts}, specs.List.list_all}
+use Rattle.std.{specs.Str.{chars, IsUtf8}, specs.Option.is_none}
+use Rattle.yq_core.{specs.Answers.more, specs.Text.{NoneIn, is_empty, is_space, front}}
+use Rattle.yq_core.{specs.Plain.{ends_plain, ends_text, is_flow_indicator, is_safe, IsPlain}, specs.PlainReading.across}
 use Rattle.yq_core.specs.PlainText.{is_plain_char, begins_plainly, needs_quotes, no_rest, is_plain_text, is_merge, begins_marker}
-use Rattle.yq_core.proofs.Bools.{at_byte, not_byte, none_of}
-use Rattle.yq_core.proofs.Across.{across_white, across_here, ends_space}
+use Rattle.yq_core.{proofs.Bools.{at_byte, not_byte, none_of}, proofs.Across.{across_white, across_here, ends_space}}
 use Rattle.yq_core.proofs.Bytes.{Each, each_byte}
 
 -- no control that white space and breaks are made of

@@ -1,15 +1,11 @@
 -- Quoted scalars: the two laws, and where one may be cut off.
-use Rattle.std.proofs.Common.{◌≡◌, ℕ, suc, ◌+◌, ◌<◌, true, eqb, eqb-true, List, [], ◌∷◌, ◌++◌, length, get_or, Option, Some, None, refl, sym, ap, ◌∙◌, subst, inl, inr, ◌⊎◌, arith, append_assoc, length-append, rules}
-use Rattle.std.proofs.lemmas.Bool.{or_cases}
-use Rattle.std.proofs.Math.Seq.{take-append_seam, drop-append_seam}
-use Rattle.std.proofs.lemmas.Option.{same_Some}
-use Rattle.std.proofs.lemmas.Str.{IsCharBoundary-after_ascii}
-use Rattle.std.specs.Str.{IsUtf8, IsCharBoundary}
+use Rattle.std.proofs.Common.{◌≡◌, ℕ, suc, ◌+◌, ◌<◌, true, eqb, eqb-true, List, [], ◌∷◌, ◌++◌, length, get_or, Option, Some, None, refl}
+use Rattle.std.{proofs.Common.{sym, ap, ◌∙◌, subst, inl, inr, ◌⊎◌, arith, append_assoc, length-append, rules}, proofs.lemmas.Bool.or_cases}
+use Rattle.std.{proofs.Math.Seq.{take-append_seam, drop-append_seam}, proofs.lemmas.Option.same_Some}
+use Rattle.std.{proofs.lemmas.Str.IsCharBoundary-after_ascii, specs.Str.{IsUtf8, IsCharBoundary}}
 use Rattle.yq_core.specs.Quoted.{QuotedLines, spell_lines, IsQuoted, IsQuotedText}
-use Rattle.yq_core.specs.QuotedReading.{quoted_len, scalar_len, cut_at, quoted_at, is_quote}
-use Rattle.yq_core.proofs.Bools.{guard_then, more_some}
-use Rattle.yq_core.proofs.QuotedRead.{lines_takes, lines_are_read}
-use Rattle.yq_core.proofs.QuotedLaws.{of_quotes}
+use Rattle.yq_core.{specs.QuotedReading.{quoted_len, scalar_len, cut_at, quoted_at, is_quote}, proofs.Bools.{guard_then, more_some}}
+use Rattle.yq_core.{proofs.QuotedRead.{lines_takes, lines_are_read}, proofs.QuotedLaws.of_quotes}
 
 -- a quote in front
 quote_is : (b : ℕ) → is_quote b ≡ true → (b ≡ 34) ⊎ (b ≡ 39)

@@ -1,11 +1,10 @@
 -- Quoted scalars: what is read is what is written.
-use Rattle.std.proofs.Common.{◌≡◌, ℕ, ◌+◌, Bool, true, false, ◌&&◌, eqb, eq-eqb, List, [], ◌∷◌, ◌++◌, length, Some, refl, sym, ap, ◌∙◌, subst, inl, inr, ◌⊎◌, arith, append_assoc, length-append, rules}
-use Rattle.std.proofs.lemmas.Bool.{or_parts}
-use Rattle.yq_core.specs.Answers.{more}
-use Rattle.yq_core.specs.Text.{is_marker, front}
-use Rattle.yq_core.specs.Quoted.{Char, itself, doubled, escape as letter_escape, code, spell_char, spell_chars, IsChar, AreChars, Break, line_feed, return_feed, spell_break, spell_end, QuotedLines, last, line, spell_lines, AreLines}
-use Rattle.yq_core.specs.QuotedReading.{quoted_len}
-use Rattle.yq_core.proofs.Bools.{more_more, more_none}
+use Rattle.std.proofs.Common.{◌≡◌, ℕ, ◌+◌, Bool, true, false, ◌&&◌, eqb, eq-eqb, List, [], ◌∷◌, ◌++◌, length, Some, refl, sym, ap, ◌∙◌}
+use Rattle.std.{proofs.Common.{subst, inl, inr, ◌⊎◌, arith, append_assoc, length-append, rules}, proofs.lemmas.Bool.or_parts}
+use Rattle.yq_core.{specs.Answers.more, specs.Text.{is_marker, front}}
+use Rattle.yq_core.specs.Quoted.{Char, itself, doubled, escape as letter_escape, code, spell_char, spell_chars, IsChar, AreChars, Break}
+use Rattle.yq_core.specs.Quoted.{line_feed, return_feed, spell_break, spell_end, QuotedLines, last, line, spell_lines, AreLines}
+use Rattle.yq_core.{specs.QuotedReading.quoted_len, proofs.Bools.{more_more, more_none}}
 use Rattle.yq_core.proofs.CharLaws.{IsEscape, code_escape, letter_is_escape}
 
 -- bytes that are passed over

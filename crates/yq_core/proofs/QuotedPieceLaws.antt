@@ -1,12 +1,8 @@
 -- The piece of a quoted scalar.
 use Rattle.std.proofs.Common.{◌≡◌, ℕ, List, drop, slice_index, Some, None, Result, Ok, Err, sym, ap, ◌∙◌, IfOk, rules}
 use Rattle.std.proofs.lemmas.Option.{same_Some}
-use Rattle.yq_core.specs.declared.piece.Piece.{Piece}
-use Rattle.yq_core.specs.Answers.{ReadsAs}
-use Rattle.yq_core.specs.Quoted.{QuotedLines, IsQuoted}
-use Rattle.yq_core.specs.QuotedReading.{quoted_at}
-use Rattle.yq_core.specs.QuotedPiece.{IsQuotedPiece, quoted_from}
-use Rattle.yq_core.proofs.Bools.{bind_some}
+use Rattle.yq_core.{specs.declared.piece.Piece.Piece, specs.Answers.ReadsAs, specs.Quoted.{QuotedLines, IsQuoted}}
+use Rattle.yq_core.{specs.QuotedReading.quoted_at, specs.QuotedPiece.{IsQuotedPiece, quoted_from}, proofs.Bools.bind_some}
 use Rattle.yq_core.proofs.QuotedFound.{quoted_takes, quoted_again}
 
 first_is : (quote : ℕ) (ls : QuotedLines) (piece rest : List ℕ) → IsQuoted quote ls piece rest → slice_index piece 0 ≡ quote

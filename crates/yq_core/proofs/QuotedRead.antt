@@ -1,12 +1,11 @@
 -- Quoted scalars: the lines that are read.
-use Rattle.std.proofs.Common.{◌≡◌, ℕ, zero, suc, ◌+◌, ◌<◌, ◌≤◌, Bool, true, false, ◌&&◌, not, eqb, eqb-true, List, [], ◌∷◌, ◌++◌, length, drop, Some, None, refl, sym, ap, ◌∙◌, subst, inl, inr, ◌⊎◌, arith, length-append, length-drop, rules}
+use Rattle.std.proofs.Common.{◌≡◌, ℕ, zero, suc, ◌+◌, ◌<◌, ◌≤◌, Bool, true, false, ◌&&◌, not, eqb, eqb-true, List, [], ◌∷◌, ◌++◌, length}
+use Rattle.std.proofs.Common.{drop, Some, None, refl, sym, ap, ◌∙◌, subst, inl, inr, ◌⊎◌, arith, length-append, length-drop, rules}
 use Rattle.std.proofs.lemmas.Bool.{false≢true, or_cases, not-true, not-false, and_parts, cases_Bool, or_parts}
 use Rattle.yq_core.specs.Text.{is_break, is_feed, is_return, is_marker, front}
-use Rattle.yq_core.specs.Quoted.{itself, doubled, IsChar, Break, line_feed, return_feed, spell_break, QuotedLines, last, spell_lines, AreLines}
-use Rattle.yq_core.specs.QuotedReading.{leading_escape, escape_len, closes, quoted_len}
-use Rattle.yq_core.proofs.Bools.{bind_some, more_some}
-use Rattle.yq_core.proofs.EscapeLaws.{length_item, length_of_some}
-use Rattle.yq_core.proofs.CharLaws.{escape_takes}
+use Rattle.yq_core.specs.Quoted.{itself, doubled, IsChar, Break, line_feed, return_feed, spell_break, QuotedLines, last, spell_lines}
+use Rattle.yq_core.{specs.Quoted.AreLines, specs.QuotedReading.{leading_escape, escape_len, closes, quoted_len}}
+use Rattle.yq_core.{proofs.Bools.{bind_some, more_some}, proofs.EscapeLaws.{length_item, length_of_some}, proofs.CharLaws.escape_takes}
 use Rattle.yq_core.proofs.QuotedLaws.{Read, of_quotes, read_char, read_line, lines_again, closed_here}
 
 -- one step of the reading

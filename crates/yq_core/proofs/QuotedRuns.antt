@@ -1,12 +1,9 @@
 -- Bytes between quotes at which no scalar is closed.
-use Rattle.std.proofs.Common.{◌≡◌, ℕ, suc, ◌+◌, ◌<◌, ◌≤◌, true, false, length, get_or, Option, None, Some, List, [], ◌∷◌, drop, refl, sym, ap, ◌∙◌, inl, inr, subst, arith, rules}
-use Rattle.std.proofs.lemmas.Bool.{and_right, cases_Bool, false≢true}
+use Rattle.std.proofs.Common.{◌≡◌, ℕ, suc, ◌+◌, ◌<◌, ◌≤◌, true, false, length, get_or, Option, None, Some, List, [], ◌∷◌, drop, refl, sym}
+use Rattle.std.{proofs.Common.{ap, ◌∙◌, inl, inr, subst, arith, rules}, proofs.lemmas.Bool.{and_right, cases_Bool, false≢true}}
 use Rattle.std.specs.List.{prefix_len}
-use Rattle.yq_core.specs.Answers.{more}
-use Rattle.yq_core.specs.QuotedReading.{escape_len, closes, quoted_len}
-use Rattle.yq_core.specs.Runs.{run_goes_on}
-use Rattle.yq_core.specs.declared.runs.Run.TheVariants.{Quoted}
-use Rattle.yq_core.proofs.Bools.{more_more, more_none, more_zero, none_of}
+use Rattle.yq_core.{specs.Answers.more, specs.QuotedReading.{escape_len, closes, quoted_len}, specs.Runs.run_goes_on}
+use Rattle.yq_core.{specs.declared.runs.Run.TheVariants.Quoted, proofs.Bools.{more_more, more_none, more_zero, none_of}}
 use Rattle.yq_core.proofs.Across.{rest_of, rest_is}
 
 quoted_step : (q b : ℕ) (bs : List ℕ) → run_goes_on (Quoted q) b ≡ true → quoted_len q 0 (b ∷ bs) ≡ more 1 (quoted_len q 0 bs)

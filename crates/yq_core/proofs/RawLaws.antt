@@ -1,12 +1,11 @@
 -- The raw lines of a block scalar, both ways.
-use Rattle.std.proofs.Common.{◌≡◌, ℕ, ◌<◌, Bool, true, false, not, ◌&&◌, List, [], ◌∷◌, ◌++◌, length, Some, refl, sym, ap, ◌∙◌, subst, inl, inr, ◌⊎◌, ⊎_elim, arith, append_assoc, append-nil, ltb-true, rules}
+use Rattle.std.proofs.Common.{◌≡◌, ℕ, ◌<◌, Bool, true, false, not, ◌&&◌, List, [], ◌∷◌, ◌++◌, length, Some, refl, sym, ap, ◌∙◌, subst, inl}
+use Rattle.std.proofs.Common.{inr, ◌⊎◌, ⊎_elim, arith, append_assoc, append-nil, ltb-true, rules}
 use Rattle.std.proofs.lemmas.Bool.{false≢true, false_from_ne_true, leb-true, not-true, or_right, and_from, and_parts}
 use Rattle.std.proofs.lemmas.Option.{same_Some}
-use Rattle.yq_core.proofs.Bools.{chosen, bind_some}
-use Rattle.yq_core.proofs.LineLaws.{lines_again, AreLines, line_some}
+use Rattle.yq_core.{proofs.Bools.{chosen, bind_some}, proofs.LineLaws.{lines_again, AreLines, line_some}}
 use Rattle.yq_core.specs.Block.{RawLines, is_empty_line, is_text_line, is_less_indented, ends_block, AreRaw, no_lines, ends_in_text}
-use Rattle.yq_core.specs.BlockReading.{is_empty_at, is_text_at, with_empty, raw_at}
-use Rattle.yq_core.specs.Text.{is_empty, text_lines, joined, is_line}
+use Rattle.yq_core.{specs.BlockReading.{is_empty_at, is_text_at, with_empty, raw_at}, specs.Text.{is_empty, text_lines, joined, is_line}}
 use Rattle.yq_core.specs.declared.block_lines.TextIndent.{TextIndent}
 
 -- the raw lines and what follows are the lines

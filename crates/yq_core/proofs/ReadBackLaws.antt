@@ -1,31 +1,21 @@
 -- What is written is read back.
 use Rattle.std.proofs.Common.{◌≡◌, ℕ, ◌≤◌, true, false, ◌&&◌, eqb, List, [], ◌∷◌, ◌++◌, length, refl, sym, ap, ◌∙◌, append-nil, ℤ, rules}
-use Rattle.std.proofs.Math.Bool.{and-false}
-use Rattle.std.proofs.Math.Seq.{drop-append_seam}
-use Rattle.std.proofs.lemmas.Bool.{and_parts, or_parts}
-use Rattle.std.specs.List.{list_all}
+use Rattle.std.{proofs.Math.Bool.and-false, proofs.Math.Seq.drop-append_seam, proofs.lemmas.Bool.{and_parts, or_parts}, specs.List.list_all}
 use Rattle.std.specs.Str.{IsUtf8, chars}
-use Rattle.yq_core.specs.declared.block_types.Break.{Break}
-use Rattle.yq_core.specs.declared.style.Place.{Place}
-use Rattle.yq_core.specs.declared.style.Place.TheVariants as places
-use Rattle.yq_core.specs.declared.style.Style.TheVariants as styles
+use Rattle.yq_core.{specs.declared.block_types.Break.Break, specs.declared.style.Place.Place}
 use Rattle.yq_core.specs.Block.{BlockText, IsBlock, IsBlockPiece, block_text, block_piece, ends_block, is_tail}
-use Rattle.yq_core.specs.BlockWritten.{break_text, written_block}
-use Rattle.yq_core.specs.ScalarPiece.{piece_content}
-use Rattle.yq_core.specs.Piece.{IsPlainPiece, deeper, further_spaces}
-use Rattle.yq_core.specs.Plain.{ends_plain, holds_break}
-use Rattle.yq_core.specs.PlainContent.{ArePlain, IsPlainLines}
-use Rattle.yq_core.specs.Quoted.{Char, itself, spell_chars, chars_text, last}
-use Rattle.yq_core.specs.QuotedPiece.{IsQuotedPiece}
-use Rattle.yq_core.specs.ReadBack.{string_between, put_piece, put_block, put_block_piece}
-use Rattle.yq_core.specs.Scalar.{IsScalar, ScalarText, plain_of, string_of}
-use Rattle.yq_core.specs.Text.{is_feed, is_break, front, text_lines}
-use Rattle.yq_core.specs.Writable.{can_write, in_flow, is_string, is_single_char}
-use Rattle.yq_core.specs.Written.{single, double}
+use Rattle.yq_core.{specs.BlockWritten.{break_text, written_block}, specs.ScalarPiece.piece_content}
+use Rattle.yq_core.{specs.Piece.{IsPlainPiece, deeper, further_spaces}, specs.Plain.{ends_plain, holds_break}}
+use Rattle.yq_core.{specs.PlainContent.{ArePlain, IsPlainLines}, specs.Quoted.{Char, itself, spell_chars, chars_text, last}}
+use Rattle.yq_core.{specs.QuotedPiece.IsQuotedPiece, specs.ReadBack.{string_between, put_piece, put_block, put_block_piece}}
+use Rattle.yq_core.{specs.Scalar.{IsScalar, ScalarText, plain_of, string_of}, specs.Text.{is_feed, is_break, front, text_lines}}
+use Rattle.yq_core.{specs.Writable.{can_write, in_flow, is_string, is_single_char}, specs.Written.{single, double}}
 use Rattle.yq_core.proofs.LiteralText.{literal_block, literal_content}
 use Rattle.yq_core.proofs.PieceContentLaws.{plain_piece_content, quoted_piece_content, block_piece_content}
 use Rattle.yq_core.proofs.PlainSpells.{plain_line, string_kind, writable_text, writable_same, writable_piece}
 use Rattle.yq_core.proofs.WrittenLaws.{Spells, single_spells, double_spells}
+use Rattle.yq_core.specs.declared.style.Place.TheVariants as places
+use Rattle.yq_core.specs.declared.style.Style.TheVariants as styles
 
 string_same : (s : ScalarText) → is_string s.kind ≡ true → string_of s.text ≡ s
 string_same s h = ap (λ k. record { kind = k; text = s.text }) (sym (string_kind s.kind h))

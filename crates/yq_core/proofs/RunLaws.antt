@@ -1,17 +1,12 @@
 -- Runs of bytes: what lanes tell.
-use Rattle.std.proofs.Common.{◌≡◌, ℕ, ◌+◌, ◌%◌, ◌^◌, ◌<◌, ◌≤◌, Bool, true, false, cond, ◌||◌, ◌&&◌, not, eqb, suc, List, [], ◌∷◌, map, length, drop, Fits, w8, refl, ap, ap₂, ◌∙◌, arith, one-add}
-use Rattle.std.proofs.lemmas.Bool.{agree_below, agree_below_at, eq-eqb, ne_eqb}
-use Rattle.std.proofs.Math.Dec.{eqb-suc-suc, eqb-zero-suc}
-use Rattle.std.proofs.lemmas.List.{length-map}
-use Rattle.std.proofs.lemmas.List.Folds.{prefix_len-append}
-use Rattle.std.proofs.lemmas.List.Sums.{prefix_len-le-length}
-use Rattle.std.proofs.lemmas.Simd.{chunk-drop, length-chunk, mask_l-mod}
-use Rattle.std.specs.List.{prefix_len, list_all}
+use Rattle.std.proofs.Common.{◌≡◌, ℕ, ◌+◌, ◌%◌, ◌^◌, ◌<◌, ◌≤◌, Bool, true, false, cond, ◌||◌, ◌&&◌, not, eqb, suc, List, [], ◌∷◌, map}
+use Rattle.std.proofs.Common.{length, drop, Fits, w8, refl, ap, ap₂, ◌∙◌, arith, one-add}
+use Rattle.std.{proofs.lemmas.Bool.{agree_below, agree_below_at, eq-eqb, ne_eqb}, proofs.Math.Dec.{eqb-suc-suc, eqb-zero-suc}}
+use Rattle.std.{proofs.lemmas.List.length-map, proofs.lemmas.List.Folds.prefix_len-append, proofs.lemmas.List.Sums.prefix_len-le-length}
+use Rattle.std.{proofs.lemmas.Simd.{chunk-drop, length-chunk, mask_l-mod}, specs.List.{prefix_len, list_all}}
 use lib.Bits.{bit_or}
 use lib.Lanes.{chunk, mask_l, top, Each1}
-use Rattle.yq_core.specs.Characters.{is_text_byte}
-use Rattle.yq_core.specs.Runs.{run_goes_on}
-use Rattle.yq_core.specs.declared.runs.Run.TheVariants.{Spaces, Text}
+use Rattle.yq_core.{specs.Characters.is_text_byte, specs.Runs.run_goes_on, specs.declared.runs.Run.TheVariants.{Spaces, Text}}
 
 -- the bits of lanes that were computed byte by byte
 pub lanes_mask : (f : ℕ → ℕ) (p : ℕ → Bool) (v z : List ℕ) → length v ≡ 16 → z ≡ map f v → map (top 7) (map f v) ≡ map p v → mask_l (map (top 7) z) % 2 ^ 64 ≡ mask_l (map p v)

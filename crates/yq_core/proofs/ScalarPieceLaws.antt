@@ -1,17 +1,10 @@
 -- What the readers give is given for the text.
-use Rattle.std.proofs.Common.{ℕ, List, inl, inr, sym, ap, subst, Result, Ok, Err, IfOk, ℤ}
-use Rattle.std.specs.Str.{IsCharBoundary}
-use Rattle.yq_core.proofs.BlockFound.{from_takes}
+use Rattle.std.{proofs.Common.{ℕ, List, inl, inr, sym, ap, subst, Result, Ok, Err, IfOk, ℤ}, specs.Str.IsCharBoundary}
+use Rattle.yq_core.{proofs.BlockFound.from_takes, specs.Answers.ReadsAs, specs.Block.IsBlockPiece, specs.BlockReading.block_from}
+use Rattle.yq_core.{specs.ScalarPiece.IsReadPiece, specs.Piece.plain_from, specs.QuotedPiece.quoted_from, specs.declared.piece.Piece.Piece}
+use Rattle.yq_core.specs.declared.style.Place.{Place}
 use Rattle.yq_core.proofs.PieceLaws as plain
 use Rattle.yq_core.proofs.QuotedPieceLaws as quoted
-use Rattle.yq_core.specs.Answers.{ReadsAs}
-use Rattle.yq_core.specs.Block.{IsBlockPiece}
-use Rattle.yq_core.specs.BlockReading.{block_from}
-use Rattle.yq_core.specs.ScalarPiece.{IsReadPiece}
-use Rattle.yq_core.specs.Piece.{plain_from}
-use Rattle.yq_core.specs.QuotedPiece.{quoted_from}
-use Rattle.yq_core.specs.declared.piece.Piece.{Piece}
-use Rattle.yq_core.specs.declared.style.Place.{Place}
 
 pub plain_is_piece : {E : Type 0} (place : Place) (n : ℤ) (at : ℕ) (text : List ℕ) (r : Result Piece E) → IsCharBoundary text at → ReadsAs (λ p. p) r (plain_from place n at text) → IfOk r (IsReadPiece text)
 plain_is_piece place n at text (Ok p) b h =

@@ -1,14 +1,11 @@
 -- The table of the core schema: the kind that is read is the one that the table gives.
 use Rattle.std.proofs.Common.{◌≡◌, ℕ, Bool, true, false, cond, List, Option, Some, None, is_some, refl, sym, ap, ◌∙◌}
-use Rattle.std.proofs.lemmas.Bool.{false≢true, false_from_ne_true}
-use Rattle.std.specs.List.{list_any}
-use Rattle.yq_core.specs.declared.kind.Kind.{Kind}
-use Rattle.yq_core.specs.declared.kind.Kind.TheVariants as kinds
-use Rattle.yq_core.specs.Schema.{null_words, bool_words, IsInt, Resolves}
+use Rattle.std.{proofs.lemmas.Bool.{false≢true, false_from_ne_true}, specs.List.list_any}
+use Rattle.yq_core.{specs.declared.kind.Kind.Kind, specs.Schema.{null_words, bool_words, IsInt, Resolves}}
 use Rattle.yq_core.specs.SchemaReading.{is_one_of, int_number, is_int, is_float, resolve}
-use Rattle.yq_core.proofs.WordLaws.{word_takes, word_again, word_fails}
-use Rattle.yq_core.proofs.NumberLaws.{int_takes, int_again, int_has_number}
+use Rattle.yq_core.{proofs.WordLaws.{word_takes, word_again, word_fails}, proofs.NumberLaws.{int_takes, int_again, int_has_number}}
 use Rattle.yq_core.proofs.FloatLaws.{float_takes, float_again}
+use Rattle.yq_core.specs.declared.kind.Kind.TheVariants as kinds
 
 some_of : {A : Type 0} (x : Option A) → is_some x ≡ true → (a : A) × (x ≡ Some a)
 some_of (Some a) h = (a, refl)

@@ -1,15 +1,12 @@
 -- The texts of null, bools, ints and floats may be written plain.
-use Rattle.std.proofs.Common.{◌≡◌, ℕ, ◌<◌, ◌≤◌, Bool, true, eqb, List, [], ◌∷◌, ◌++◌, refl, sym, inl, inr, ⊎_elim, ◌&&◌, ◌||◌, ap, subst, arith, append-nil, append_assoc, codes, rules}
-use Rattle.std.proofs.lemmas.Bool.{lt-ltb, and_parts}
-use Rattle.std.proofs.lemmas.List.Folds.{list_all-append}
-use Rattle.std.specs.Char.{digit_value}
-use Rattle.std.specs.List.{list_all}
+use Rattle.std.proofs.Common.{◌≡◌, ℕ, ◌<◌, ◌≤◌, Bool, true, eqb, List, [], ◌∷◌, ◌++◌, refl, sym, inl, inr, ⊎_elim, ◌&&◌, ◌||◌, ap, subst}
+use Rattle.std.{proofs.Common.{arith, append-nil, append_assoc, codes, rules}, proofs.lemmas.Bool.{lt-ltb, and_parts}}
+use Rattle.std.{proofs.lemmas.List.Folds.list_all-append, specs.Char.digit_value, specs.List.list_all}
 use Rattle.std.specs.Str.Parse.{AllDigits, IsNumeral}
-use Rattle.yq_core.specs.Numbers.{Sign, spell_sign, Integer, decimal, octal, hexadecimal, spell_integer, IsInteger, Mantissa, spell_mantissa, IsMantissa, Exponent, spell_exponent, IsExponent, Number, spell_number, IsNumber}
-use Rattle.yq_core.specs.Schema.{bool_words, infinity_words, nan_words, IsOneOf, IsInt, IsFloat}
-use Rattle.yq_core.specs.Text.{front}
-use Rattle.yq_core.specs.PlainText.{is_plain_text}
-use Rattle.yq_core.proofs.WordPlain.{is_letter, is_word, begins_unsigned, begins_signed, word_plain}
+use Rattle.yq_core.specs.Numbers.{Sign, spell_sign, Integer, decimal, octal, hexadecimal, spell_integer, IsInteger, Mantissa}
+use Rattle.yq_core.specs.Numbers.{spell_mantissa, IsMantissa, Exponent, spell_exponent, IsExponent, Number, spell_number, IsNumber}
+use Rattle.yq_core.{specs.Schema.{bool_words, infinity_words, nan_words, IsOneOf, IsInt, IsFloat}, specs.Text.front}
+use Rattle.yq_core.{specs.PlainText.is_plain_text, proofs.WordPlain.{is_letter, is_word, begins_unsigned, begins_signed, word_plain}}
 
 -- a test of words
 among : (test : List ℕ → Bool) (words : List (List ℕ)) (t : List ℕ) → list_all test words ≡ true → IsOneOf words t → test t ≡ true

@@ -1,9 +1,7 @@
 -- What stands behind the spaces in front of a line.
-use Rattle.std.proofs.Common.{◌≡◌, ℕ, zero, suc, ◌+◌, Bool, true, false, cond, not, eqb, List, [], ◌∷◌, ◌++◌, drop, replicate, refl, ap, ◌∙◌, ⊎_elim, arith, rules}
-use Rattle.std.proofs.lemmas.Bool.{cases_Bool}
-use Rattle.std.specs.List.{prefix_len}
-use Rattle.yq_core.proofs.Bools.{at_byte}
-use Rattle.yq_core.specs.Lines.{spaces, behind_spaces, is_tab, is_blank}
+use Rattle.std.proofs.Common.{◌≡◌, ℕ, zero, suc, ◌+◌, Bool, true, false, cond, not, eqb, List, [], ◌∷◌, ◌++◌, drop, replicate, refl, ap}
+use Rattle.std.{proofs.Common.{◌∙◌, ⊎_elim, arith, rules}, proofs.lemmas.Bool.cases_Bool, specs.List.prefix_len}
+use Rattle.yq_core.{proofs.Bools.at_byte, specs.Lines.{spaces, behind_spaces, is_tab, is_blank}}
 use Rattle.yq_core.specs.Text.{is_white, ends_line, past_white, upto, no_white}
 
 -- what stands behind a prefix, step by step

@@ -1,21 +1,18 @@
 -- The places of a node lie in order, at whole characters.
-use Rattle.std.proofs.Common.{◌≡◌, ℕ, zero, suc, ◌+◌, ◌-◌, ◌≤◌, Bool, true, false, cond, eqb, List, [], ◌∷◌, ◌++◌, length, take, Option, Some, None, refl, sym, ap, ◌∙◌, subst, append_assoc, arith, length-append, ℤ, Result, Ok, Err, IfOk, rules}
-use Rattle.std.proofs.lemmas.Str.{IsCharBoundary-at_seam, IsUtf8-drop}
-use Rattle.std.proofs.lemmas.List.{take-append-drop}
+use Rattle.std.proofs.Common.{◌≡◌, ℕ, zero, suc, ◌+◌, ◌-◌, ◌≤◌, Bool, true, false, cond, eqb, List, [], ◌∷◌, ◌++◌, length, take, Option}
+use Rattle.std.proofs.Common.{Some, None, refl, sym, ap, ◌∙◌, subst, append_assoc, arith, length-append, ℤ, Result, Ok, Err, IfOk, rules}
+use Rattle.std.{proofs.lemmas.Str.{IsCharBoundary-at_seam, IsUtf8-drop}, proofs.lemmas.List.take-append-drop}
 use Rattle.std.specs.Str.{IsUtf8, IsCharBoundary}
-use Rattle.yq_core.specs.declared.fault.ReadError.{ReadError}
-use Rattle.yq_core.specs.declared.style.Place.{Place}
-use Rattle.yq_core.specs.Answers.{Gives}
-use Rattle.yq_core.specs.Piece.{further_spaces}
-use Rattle.yq_core.specs.Writable.{in_flow}
-use Rattle.yq_core.specs.Inline.{depth_limit, IsInlineAt, inline_at}
-use Rattle.yq_core.specs.Nodes.{Key, bare, keyed, Sep, FlowNode, empty, alias, scalar, coll, anchored, Items, none, item, key_text, sep_text, node_text, flow_items_text, is_close, opening_bracket, begins_content, IsInlineKey, IsSep, IsFlowNode, AreFlowItems}
+use Rattle.yq_core.{specs.declared.fault.ReadError.ReadError, specs.declared.style.Place.Place, specs.Answers.Gives}
+use Rattle.yq_core.{specs.Piece.further_spaces, specs.Writable.in_flow, specs.Inline.{depth_limit, IsInlineAt, inline_at}}
+use Rattle.yq_core.specs.Nodes.{Key, bare, keyed, Sep, FlowNode, empty, alias, scalar, coll, anchored, Items, none, item, key_text}
+use Rattle.yq_core.specs.Nodes.{sep_text, node_text, flow_items_text, is_close, opening_bracket, begins_content, IsInlineKey, IsSep}
+use Rattle.yq_core.specs.Nodes.{IsFlowNode, AreFlowItems}
 use Rattle.yq_core.specs.Places.{Placed, placed, sequence, mapping, Parts, holder, key_placed, locate, locate_items, anchored_node}
-use Rattle.yq_core.specs.Spans.{IsSpan, HasKeySpan, HasSpans, ContentHasSpans, PartsHaveSpans}
-use Rattle.yq_core.proofs.InlineLaws.{inline_takes}
+use Rattle.yq_core.{specs.Spans.{IsSpan, HasKeySpan, HasSpans, ContentHasSpans, PartsHaveSpans}, proofs.InlineLaws.inline_takes}
 use Rattle.yq_core.proofs.NodeAgain.{node_longer}
-use Rattle.yq_core.proofs.PastLaws.{byte_past, gap_past, name_past, lead_past, key_past, sep_past, scalar_past, node_past, items_past, open_low}
-use Rattle.yq_core.proofs.NodesWrittenLaws.{key_append, sep_append, node_append, items_append}
+use Rattle.yq_core.proofs.PastLaws.{byte_past, gap_past, name_past, lead_past, key_past, sep_past, scalar_past, node_past, items_past}
+use Rattle.yq_core.{proofs.PastLaws.open_low, proofs.NodesWrittenLaws.{key_append, sep_append, node_append, items_append}}
 
 -- what is left of a text from a character on
 record IsLeft (t r : List ℕ) : Type 0 where

@@ -1,14 +1,12 @@
 -- What bytes tell of characters, and what a search for the next CR tells.
-use Rattle.std.proofs.Common.{◌≡◌, ◌&&◌, ℕ, zero, suc, ◌+◌, ◌<◌, ◌≤◌, ◌/◌, Bool, true, false, eqb, List, [], ◌∷◌, length, drop, get_or, Some, None, refl, sym, ap, ◌∙◌, inl, inr, arith, rules}
+use Rattle.std.proofs.Common.{◌≡◌, ◌&&◌, ℕ, zero, suc, ◌+◌, ◌<◌, ◌≤◌, ◌/◌, Bool, true, false, eqb, List, [], ◌∷◌, length, drop, get_or}
+use Rattle.std.proofs.Common.{Some, None, refl, sym, ap, ◌∙◌, inl, inr, arith, rules}
 use Rattle.std.proofs.lemmas.Bool.{lt-ltb, le-ltb, eqb-false, not-true, cases_lt, and_parts, and_from, false_from_ne_true}
-use Rattle.std.proofs.lemmas.List.Folds.{list_all-append}
-use Rattle.std.proofs.lemmas.Str.{scalars-chars, encodes-chars}
-use Rattle.std.specs.List.{list_all}
+use Rattle.std.{proofs.lemmas.List.Folds.list_all-append, proofs.lemmas.Str.{scalars-chars, encodes-chars}, specs.List.list_all}
 use Rattle.std.specs.Str.{chars, IsUtf8}
 use lib.Utf8.{scalar, scalars, encode, encodes}
 use Rattle.memchr.specs.Find.{IsFirstByte, is_byte}
-use Rattle.yq_core.specs.Text.{is_feed, front}
-use Rattle.yq_core.specs.Characters.{is_text_byte, is_text_char, pairs_returns}
+use Rattle.yq_core.{specs.Text.{is_feed, front}, specs.Characters.{is_text_byte, is_text_char, pairs_returns}}
 
 -- a byte that stands in characters of a text alone is no C1 control and begins none of U+F000 to U+FFFF
 lead_ascii : (c : ℕ) → c < 128 → is_text_byte c ≡ true → is_text_char c ≡ true

@@ -1,10 +1,12 @@
 -- The tree of a node with its places is that of its pieces.
 use Rattle.std.proofs.Common.{◌≡◌, ℕ, true, false, cond, eqb, List, None, refl, ap, ◌∙◌, rules}
-use Rattle.yq_core.specs.Tree as tree
 use Rattle.yq_core.specs.Tree.{key_label}
-use Rattle.yq_core.specs.Nodes.{Key, bare, keyed, FlowNode, empty, alias, scalar, coll, anchored, Items, none, item, key_text, sep_text, node_text, flow_items_text}
+use Rattle.yq_core.specs.Nodes.{Key, bare, keyed, FlowNode, empty, alias, scalar, coll, anchored, Items, none, item, key_text, sep_text}
+use Rattle.yq_core.specs.Nodes.{node_text, flow_items_text}
 use Rattle.yq_core.specs.Places.{Placed, placed, sequence, mapping, Parts, holder, key_placed, locate, locate_items, anchored_node}
-use Rattle.yq_core.specs.Trees.{tree_collection, with_name, key_content, tree_of, items_tree, unplaced_key, placed_tree, content_tree, parts_tree}
+use Rattle.yq_core.specs.Trees.{tree_collection, with_name, key_content, tree_of, items_tree, unplaced_key, placed_tree, content_tree}
+use Rattle.yq_core.specs.Trees.{parts_tree}
+use Rattle.yq_core.specs.Tree as tree
 
 holder_tree : (k : ℕ) (parts : Parts) → content_tree (holder k parts) ≡ tree_collection k (parts_tree parts)
 holder_tree k parts = elim (eqb k 125) as (λ c. content_tree (cond c (mapping parts) (sequence parts)) ≡ cond c (tree.map None (parts_tree parts)) (tree.list None (parts_tree parts))) [ true ↦ refl | false ↦ refl ]

@@ -1,8 +1,6 @@
 -- How far it is to a rest that passes a test.
 use Rattle.std.proofs.Common.{◌≡◌, ℕ, suc, ◌≤◌, Bool, true, List, [], ◌∷◌, ◌++◌, length, take, drop, refl, sym, ap, arith, rules}
-use Rattle.std.proofs.lemmas.Bool.{cond_both}
-use Rattle.std.proofs.lemmas.List.{take-append-drop}
-use Rattle.std.proofs.Math.Seq.{take-append_seam, drop-append_seam}
+use Rattle.std.{proofs.lemmas.Bool.cond_both, proofs.lemmas.List.take-append-drop, proofs.Math.Seq.{take-append_seam, drop-append_seam}}
 use Rattle.std.specs.List.{prefix_len}
 use Rattle.yq_core.specs.Text.{upto, cut, NoneIn, unless}
 

@@ -1,10 +1,7 @@
 -- Texts that are one of some words.
-use Rattle.std.proofs.Common.{◌≡◌, ℕ, Bool, true, false, List, [], ◌∷◌, sym, subst, inl, inr, bytes_eq}
-use Rattle.std.specs.List.{list_any}
-use Rattle.std.proofs.lemmas.Bool.{false≢true, or_cases, or_left, or_right, or_parts}
-use Rattle.std.proofs.lemmas.Slice.Eq.{bytes_eq-Decides}
-use Rattle.yq_core.specs.Schema.{IsOneOf}
-use Rattle.yq_core.specs.SchemaReading.{is_one_of}
+use Rattle.std.{proofs.Common.{◌≡◌, ℕ, Bool, true, false, List, [], ◌∷◌, sym, subst, inl, inr, bytes_eq}, specs.List.list_any}
+use Rattle.std.{proofs.lemmas.Bool.{false≢true, or_cases, or_left, or_right, or_parts}, proofs.lemmas.Slice.Eq.bytes_eq-Decides}
+use Rattle.yq_core.{specs.Schema.IsOneOf, specs.SchemaReading.is_one_of}
 
 pub word_takes : (words : List (List ℕ)) (t : List ℕ) → is_one_of words t ≡ true → IsOneOf words t
 word_takes [] t h = absurd (false≢true h)

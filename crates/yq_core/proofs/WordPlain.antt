@@ -1,13 +1,9 @@
 -- A text of digits and letters that begins as a number or a word may be written plain.
-use Rattle.std.proofs.Common.{◌≡◌, ℕ, zero, suc, ◌<◌, ◌≤◌, Bool, true, false, not, eqb, nat_lt, List, [], ◌∷◌, refl, sym, ⊎_elim, ◌&&◌, ◌||◌, subst, arith, eqb-true, rules}
-use Rattle.std.proofs.Math.Bool.{and-false}
+use Rattle.std.proofs.Common.{◌≡◌, ℕ, zero, suc, ◌<◌, ◌≤◌, Bool, true, false, not, eqb, nat_lt, List, [], ◌∷◌, refl, sym, ⊎_elim, ◌&&◌}
+use Rattle.std.{proofs.Common.{◌||◌, subst, arith, eqb-true, rules}, proofs.Math.Bool.and-false}
 use Rattle.std.proofs.lemmas.Bool.{false≢true, false_from_ne_true, cases_lt, lt-ltb, ltb-true, le-leb, or_cases, and_parts}
-use Rattle.std.proofs.lemmas.Str.{chars-IsAscii}
-use Rattle.std.specs.Char.{digit_value}
-use Rattle.std.specs.List.{list_all}
-use Rattle.std.specs.Str.{IsAscii}
-use Rattle.yq_core.specs.Text.{front}
-use Rattle.yq_core.specs.Plain.{is_flow_indicator, is_indicator}
+use Rattle.std.{proofs.lemmas.Str.chars-IsAscii, specs.Char.digit_value, specs.List.list_all, specs.Str.IsAscii}
+use Rattle.yq_core.{specs.Text.front, specs.Plain.{is_flow_indicator, is_indicator}}
 use Rattle.yq_core.specs.PlainText.{is_plain_char, begins_plainly, needs_quotes, no_rest, is_plain_text, is_merge, begins_marker}
 use Rattle.yq_core.proofs.Bools.{at_byte}
 

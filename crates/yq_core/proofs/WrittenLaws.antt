@@ -1,19 +1,17 @@
 -- What is written in quotes is a quoted scalar that stands for its string.
-use Rattle.std.proofs.Common.{◌≡◌, ℕ, ◌/◌, ◌%◌, ◌<◌, ◌≤◌, Bool, true, false, cond, ◌&&◌, ◌||◌, not, eqb, leb, ltb, List, [], ◌∷◌, ◌++◌, Option, Some, None, is_none, flat_map, refl, sym, inl, inr, ap, ◌∙◌, subst, arith, eqb-true, append_assoc, append-nil, rules}
-use Rattle.std.proofs.lemmas.Bool.{false≢true, cases_lt, cond_both, ltb-true, ltb-false, le-leb, lt-ltb, le-ltb, and_from, not_from_false, or_cases, or_right, ne_eqb, and_parts, cases_Bool}
-use Rattle.std.proofs.Math.Utf8.{encodes, encode, scalar, scalars}
-use Rattle.std.proofs.lemmas.Str.{encode_ascii, encodes-chars, scalars-chars}
-use Rattle.std.specs.Char.{digit_value}
-use Rattle.std.specs.List.{list_all}
-use Rattle.std.specs.Str.{chars, IsUtf8}
-use Rattle.std.specs.Str.Parse.{digits_value}
-use Rattle.yq_core.specs.Characters.{is_text_char}
-use Rattle.yq_core.specs.Text.{is_feed, is_return, front}
-use Rattle.yq_core.specs.Quoted.{letters, beside, is_unicode, Char, itself, doubled, escape, code, spell_char, spell_chars, char_text, chars_text, bytes_of, IsChar, AreChars, last, quoted_lines_content, IsQuoted}
+use Rattle.std.proofs.Common.{◌≡◌, ℕ, ◌/◌, ◌%◌, ◌<◌, ◌≤◌, Bool, true, false, cond, ◌&&◌, ◌||◌, not, eqb, leb, ltb, List, [], ◌∷◌, ◌++◌}
+use Rattle.std.proofs.Common.{Option, Some, None, is_none, flat_map, refl, sym, inl, inr, ap, ◌∙◌, subst, arith, eqb-true, append_assoc}
+use Rattle.std.proofs.Common.{append-nil, rules}
+use Rattle.std.proofs.lemmas.Bool.{false≢true, cases_lt, cond_both, ltb-true, ltb-false, le-leb, lt-ltb, le-ltb, and_from, not_from_false}
+use Rattle.std.{proofs.lemmas.Bool.{or_cases, or_right, ne_eqb, and_parts, cases_Bool}, proofs.Math.Utf8.{encodes, encode, scalar, scalars}}
+use Rattle.std.{proofs.lemmas.Str.{encode_ascii, encodes-chars, scalars-chars}, specs.Char.digit_value, specs.List.list_all}
+use Rattle.std.{specs.Str.{chars, IsUtf8}, specs.Str.Parse.digits_value}
+use Rattle.yq_core.{specs.Characters.is_text_char, specs.Text.{is_feed, is_return, front}}
+use Rattle.yq_core.specs.Quoted.{letters, beside, is_unicode, Char, itself, doubled, escape, code, spell_char, spell_chars, char_text}
+use Rattle.yq_core.specs.Quoted.{chars_text, bytes_of, IsChar, AreChars, last, quoted_lines_content, IsQuoted}
 use Rattle.yq_core.specs.Writable.{is_single_char}
-use Rattle.yq_core.specs.Written.{written_letters, letter_of, upper, two_digits, four_digits, code_escape, double_by, in_double, in_single, single, double}
-use Rattle.yq_core.proofs.Bools.{chosen, at_byte, not_byte}
-use Rattle.yq_core.proofs.Bytes.{Each, each_encode}
+use Rattle.yq_core.specs.Written.{written_letters, letter_of, upper, two_digits, four_digits, code_escape, double_by, in_double, in_single}
+use Rattle.yq_core.{specs.Written.{single, double}, proofs.Bools.{chosen, at_byte, not_byte}, proofs.Bytes.{Each, each_encode}}
 
 -- a character, written so in these quotes
 pub record Stands (q : ℕ) (text p : List ℕ) : Type 0 where

@@ -1,17 +1,14 @@
 -- What is written in quotes is a text, and no break is in it.
-use Rattle.std.proofs.Common.{◌≡◌, ℕ, ◌/◌, ◌%◌, ◌<◌, Bool, true, false, ◌&&◌, not, eqb, ltb, List, [], ◌∷◌, ◌++◌, Option, Some, None, is_none, flat_map, refl, inl, inr, ap, ◌∙◌, subst, arith, eqb-true, append-nil, rules}
+use Rattle.std.proofs.Common.{◌≡◌, ℕ, ◌/◌, ◌%◌, ◌<◌, Bool, true, false, ◌&&◌, not, eqb, ltb, List, [], ◌∷◌, ◌++◌, Option, Some, None}
+use Rattle.std.proofs.Common.{is_none, flat_map, refl, inl, inr, ap, ◌∙◌, subst, arith, eqb-true, append-nil, rules}
 use Rattle.std.proofs.lemmas.Bool.{false≢true, agree_below_at, ltb-true, or_cases, and_from, and_parts, cases_Bool}
 use Rattle.std.proofs.Math.Utf8.{encodes, encode, scalar, scalars, low_scalar}
-use Rattle.std.proofs.lemmas.Str.{encode_ascii, encodes-append, chars-encodes, scalars-chars}
-use Rattle.std.specs.List.{list_all}
+use Rattle.std.{proofs.lemmas.Str.{encode_ascii, encodes-append, chars-encodes, scalars-chars}, specs.List.list_all}
 use Rattle.std.specs.Str.{chars, IsUtf8}
-use Rattle.yq_core.specs.Characters.{is_text_char, is_text, pairs_returns}
-use Rattle.yq_core.specs.Text.{is_feed, is_return}
-use Rattle.yq_core.specs.Plain.{holds_break}
+use Rattle.yq_core.{specs.Characters.{is_text_char, is_text, pairs_returns}, specs.Text.{is_feed, is_return}, specs.Plain.holds_break}
 use Rattle.yq_core.specs.Writable.{is_single_char}
-use Rattle.yq_core.specs.Written.{written_letters, letter_of, upper, two_digits, four_digits, code_escape, double_by, in_double, in_single, single, double}
-use Rattle.yq_core.proofs.Bools.{chosen, at_byte, not_byte}
-use Rattle.yq_core.proofs.Bytes.{Each, Each-append, each_encode}
+use Rattle.yq_core.specs.Written.{written_letters, letter_of, upper, two_digits, four_digits, code_escape, double_by, in_double, in_single}
+use Rattle.yq_core.{specs.Written.{single, double}, proofs.Bools.{chosen, at_byte, not_byte}, proofs.Bytes.{Each, Each-append, each_encode}}
 
 -- a byte of no break
 abbrev pub no_break : ℕ → Bool

@@ -1,9 +1,7 @@
 -- Texts that begin alike: what is asked of the text behind a piece doesn't tell them apart.
 use Rattle.std.specs.Prelude.{◌≡◌, ℕ, Bool, true, false, ◌||◌, ◌==◌, List, [], ◌∷◌, ◌++◌, Option, Some, None}
-use Rattle.yq_core.specs.Plain.{is_flow_indicator, is_safe}
-use Rattle.yq_core.specs.QuotedReading.{is_quote}
-use Rattle.yq_core.specs.Text.{is_feed, is_space, is_marker, separates}
-use Rattle.yq_core.specs.Gaps.{IsInlineGap}
+use Rattle.yq_core.{specs.Plain.{is_flow_indicator, is_safe}, specs.QuotedReading.is_quote}
+use Rattle.yq_core.{specs.Text.{is_feed, is_space, is_marker, separates}, specs.Gaps.IsInlineGap}
 
 -- behind this byte nobody looks: an indicator of flow, a quote, `&` or `*` (own)
 abbrev pub ends_lookahead : ℕ → Bool

@@ -1,7 +1,6 @@
 -- What an answer says of what reading a text gives.
 use Rattle.std.specs.Prelude.{◌≡◌, ◌≢◌, ℕ, ◌+◌, Option, Some, None, Result, Ok, Err}
-use Rattle.yq_core.specs.declared.fault.FaultKind.TheVariants.{NotUtf8}
-use Rattle.yq_core.specs.declared.fault.ReadError.{ReadError}
+use Rattle.yq_core.{specs.declared.fault.FaultKind.TheVariants.NotUtf8, specs.declared.fault.ReadError.ReadError}
 use Rattle.yq_core.specs.declared.fault.ReadError.TheVariants as error
 
 infixl 10 ◌>>=◌

@@ -1,18 +1,15 @@
 -- Block scalars (YAML 1.2.2, section 8.1).
-use Rattle.std.specs.Prelude.{◌≡◌, ℕ, ◌+◌, ◌-◌, ◌≤◌, Bool, true, false, ◌||◌, ◌&&◌, not, nat_le, nat_lt, List, [], ◌∷◌, ◌++◌, length, drop, if◌then◌else◌, ◌⊎◌, Option, Some, None, ℤ}
-use Rattle.yq_core.specs.declared.block_header.BlockStyle.{BlockStyle}
-use Rattle.yq_core.specs.declared.block_header.BlockStyle.TheVariants as styles
-use Rattle.yq_core.specs.declared.block_header.Chomping.{Chomping}
-use Rattle.yq_core.specs.declared.block_header.Chomping.TheVariants as chompings
-use Rattle.yq_core.specs.declared.block_lines.TextIndent.{TextIndent}
-use Rattle.yq_core.specs.declared.fault.FaultKind.{FaultKind}
-use Rattle.yq_core.specs.declared.fault.FaultKind.TheVariants as fault
-use Rattle.yq_core.specs.declared.piece.Piece.{Piece}
-use Rattle.yq_core.specs.declared.style.Style.{Style}
-use Rattle.yq_core.specs.declared.style.Style.TheVariants as all_styles
-use Rattle.yq_core.specs.Lines.{spaces, behind_spaces, is_tab, is_hash, is_blank}
-use Rattle.yq_core.specs.Piece.{deeper}
+use Rattle.std.specs.Prelude.{◌≡◌, ℕ, ◌+◌, ◌-◌, ◌≤◌, Bool, true, false, ◌||◌, ◌&&◌, not, nat_le, nat_lt, List, [], ◌∷◌, ◌++◌, length, drop}
+use Rattle.std.specs.Prelude.{if◌then◌else◌, ◌⊎◌, Option, Some, None, ℤ}
+use Rattle.yq_core.{specs.declared.block_header.BlockStyle.BlockStyle, specs.declared.block_header.Chomping.Chomping}
+use Rattle.yq_core.{specs.declared.block_lines.TextIndent.TextIndent, specs.declared.fault.FaultKind.FaultKind}
+use Rattle.yq_core.{specs.declared.piece.Piece.Piece, specs.declared.style.Style.Style}
+use Rattle.yq_core.{specs.Lines.{spaces, behind_spaces, is_tab, is_hash, is_blank}, specs.Piece.deeper}
 use Rattle.yq_core.specs.Text.{is_white, front, past_white, ends_line, text_lines, joined, is_line}
+use Rattle.yq_core.specs.declared.block_header.BlockStyle.TheVariants as styles
+use Rattle.yq_core.specs.declared.block_header.Chomping.TheVariants as chompings
+use Rattle.yq_core.specs.declared.fault.FaultKind.TheVariants as fault
+use Rattle.yq_core.specs.declared.style.Style.TheVariants as all_styles
 
 -- lines, each with its break (own)
 abbrev pub RawLines : Type 0

@@ -1,15 +1,12 @@
 -- What a block scalar stands for (YAML 1.2.2, sections 8.1.1.2, 8.1.2 and 8.1.3).
-use Rattle.std.specs.Prelude.{ℕ, ◌+◌, Bool, true, false, ◌&&◌, not, ◌==◌, List, [], ◌∷◌, ◌++◌, length, take, drop, replicate, min, if◌then◌else◌}
-use Rattle.yq_core.specs.declared.block_types.LineBefore.{LineBefore}
+use Rattle.std.specs.Prelude.{ℕ, ◌+◌, Bool, true, false, ◌&&◌, not, ◌==◌, List, [], ◌∷◌, ◌++◌, length, take, drop, replicate, min}
+use Rattle.std.specs.Prelude.{if◌then◌else◌}
+use Rattle.yq_core.{specs.declared.block_types.LineBefore.LineBefore, specs.declared.block_header.BlockStyle.BlockStyle}
+use Rattle.yq_core.{specs.declared.block_header.Chomping.Chomping, specs.declared.block_lines.TextIndent.TextIndent}
+use Rattle.yq_core.{specs.Block.{RawLines, no_lines, BlockText}, specs.Lines.spaces, specs.Text.{feed, is_white, front, upto, ends_line}}
 use Rattle.yq_core.specs.declared.block_types.LineBefore.TheVariants as before
-use Rattle.yq_core.specs.declared.block_header.BlockStyle.{BlockStyle}
 use Rattle.yq_core.specs.declared.block_header.BlockStyle.TheVariants as styles
-use Rattle.yq_core.specs.declared.block_header.Chomping.{Chomping}
 use Rattle.yq_core.specs.declared.block_header.Chomping.TheVariants as chompings
-use Rattle.yq_core.specs.declared.block_lines.TextIndent.{TextIndent}
-use Rattle.yq_core.specs.Block.{RawLines, no_lines, BlockText}
-use Rattle.yq_core.specs.Lines.{spaces}
-use Rattle.yq_core.specs.Text.{feed, is_white, front, upto, ends_line}
 
 -- a line without its break (own)
 abbrev pub text_of_line : List ℕ → List ℕ

@@ -1,20 +1,15 @@
 -- Reading (own; a reader may skip it: the grammar is what is believed, and the clauses `found` and `only` tie the two).
-use Rattle.std.specs.Prelude.{ℕ, ◌+◌, ◌-◌, Bool, true, false, ◌||◌, ◌&&◌, not, ◌==◌, nat_le, nat_lt, List, [], ◌∷◌, ◌++◌, length, take, drop, if◌then◌else◌, Option, Some, None, ℤ}
-use Rattle.std.specs.Option.{unwrap_or}
-use Rattle.yq_core.specs.declared.block_header.BlockStyle.{BlockStyle}
-use Rattle.yq_core.specs.declared.block_header.BlockStyle.TheVariants as styles
-use Rattle.yq_core.specs.declared.block_header.Chomping.{Chomping}
-use Rattle.yq_core.specs.declared.block_header.Chomping.TheVariants as chompings
-use Rattle.yq_core.specs.declared.block_lines.TextIndent.{TextIndent}
-use Rattle.yq_core.specs.declared.piece.Piece.{Piece}
-use Rattle.yq_core.specs.declared.style.Style.{Style}
-use Rattle.yq_core.specs.declared.style.Style.TheVariants as all_styles
+use Rattle.std.specs.Prelude.{ℕ, ◌+◌, ◌-◌, Bool, true, false, ◌||◌, ◌&&◌, not, ◌==◌, nat_le, nat_lt, List, [], ◌∷◌, ◌++◌, length, take}
+use Rattle.std.{specs.Prelude.{drop, if◌then◌else◌, Option, Some, None, ℤ}, specs.Option.unwrap_or}
+use Rattle.yq_core.{specs.declared.block_header.BlockStyle.BlockStyle, specs.declared.block_header.Chomping.Chomping}
+use Rattle.yq_core.{specs.declared.block_lines.TextIndent.TextIndent, specs.declared.piece.Piece.Piece, specs.declared.style.Style.Style}
 use Rattle.yq_core.specs.Answers.{◌>>=◌}
-use Rattle.yq_core.specs.Block.{RawLines, is_empty_line, is_text_line, is_less_indented, digit_text, sign_text, keeps, is_tail, BlockText, block_piece}
-use Rattle.yq_core.specs.BlockContent.{block_lines_content}
-use Rattle.yq_core.specs.Lines.{spaces, is_blank}
-use Rattle.yq_core.specs.Piece.{deeper}
+use Rattle.yq_core.specs.Block.{RawLines, is_empty_line, is_text_line, is_less_indented, digit_text, sign_text, keeps, is_tail, BlockText}
+use Rattle.yq_core.{specs.Block.block_piece, specs.BlockContent.block_lines_content, specs.Lines.{spaces, is_blank}, specs.Piece.deeper}
 use Rattle.yq_core.specs.Text.{is_empty, is_line, line_len, text_lines, joined}
+use Rattle.yq_core.specs.declared.block_header.BlockStyle.TheVariants as styles
+use Rattle.yq_core.specs.declared.block_header.Chomping.TheVariants as chompings
+use Rattle.yq_core.specs.declared.style.Style.TheVariants as all_styles
 
 -- an empty line that is read as one: with a break, where it may belong to the scalar (own)
 abbrev pub is_empty_at : Bool → TextIndent → List ℕ → Bool

@@ -1,9 +1,7 @@
 -- A gap put behind a block scalar (own).
 use Rattle.std.specs.Prelude.{◌≡◌, ℕ, Bool, true, ◌||◌, ◌&&◌, not, nat_le, nat_lt, List, [], ◌∷◌, ◌++◌, replicate, if◌then◌else◌}
-use Rattle.yq_core.specs.declared.block_lines.TextIndent.{TextIndent}
-use Rattle.yq_core.specs.Block.{RawLines, is_less_indented}
-use Rattle.yq_core.specs.Lines.{spaces, behind_spaces, is_tab, is_hash, is_blank}
-use Rattle.yq_core.specs.Text.{ends_line, past_white}
+use Rattle.yq_core.{specs.declared.block_lines.TextIndent.TextIndent, specs.Block.{RawLines, is_less_indented}}
+use Rattle.yq_core.{specs.Lines.{spaces, behind_spaces, is_tab, is_hash, is_blank}, specs.Text.{ends_line, past_white}}
 
 -- each line is blank or a comment line (own)
 abbrev pub AreGap : RawLines → Type 0

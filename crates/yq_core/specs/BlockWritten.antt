@@ -1,14 +1,12 @@
 -- A text written as a literal block scalar (own).
 use Rattle.std.specs.Prelude.{ℕ, Bool, true, false, ◌||◌, ◌==◌, nat_eq, List, [], ◌∷◌, ◌++◌, length, replicate, if◌then◌else◌, None}
 use Rattle.std.specs.List.{ends_with}
-use Rattle.yq_core.specs.declared.block_header.BlockStyle.TheVariants as styles
-use Rattle.yq_core.specs.declared.block_header.Chomping.{Chomping}
-use Rattle.yq_core.specs.declared.block_header.Chomping.TheVariants as chompings
-use Rattle.yq_core.specs.declared.block_types.Break.{Break}
-use Rattle.yq_core.specs.declared.block_types.Break.TheVariants as breaks
-use Rattle.yq_core.specs.Block.{RawLines, no_lines, BlockText, sign_text}
-use Rattle.yq_core.specs.BlockContent.{text_of_line}
+use Rattle.yq_core.{specs.declared.block_header.Chomping.Chomping, specs.declared.block_types.Break.Break}
+use Rattle.yq_core.{specs.Block.{RawLines, no_lines, BlockText, sign_text}, specs.BlockContent.text_of_line}
 use Rattle.yq_core.specs.Text.{feed, is_empty, is_line, text_lines}
+use Rattle.yq_core.specs.declared.block_header.BlockStyle.TheVariants as styles
+use Rattle.yq_core.specs.declared.block_header.Chomping.TheVariants as chompings
+use Rattle.yq_core.specs.declared.block_types.Break.TheVariants as breaks
 
 -- the bytes of a break: LF or CR LF (YAML 1.2.2, section 5.4)
 abbrev pub break_text : Break → List ℕ

@@ -1,6 +1,5 @@
 -- The characters that a text is made of.
-use Rattle.std.specs.Prelude.{ℕ, Bool, true, ◌||◌, ◌&&◌, not, ◌==◌, nat_le, List, [], ◌∷◌, if◌then◌else◌}
-use Rattle.std.specs.List.{list_all}
+use Rattle.std.{specs.Prelude.{ℕ, Bool, true, ◌||◌, ◌&&◌, not, ◌==◌, nat_le, List, [], ◌∷◌, if◌then◌else◌}, specs.List.list_all}
 use Rattle.std.specs.Str.{chars}
 use Rattle.yq_core.specs.Text.{is_feed, is_return, front}
 

@@ -1,12 +1,9 @@
 -- A collection inside an inline node, and the node with another one in its place.
 use Rattle.std.specs.Prelude.{◌≡◌, ℕ, ◌+◌, ◌-◌, suc, List, [], ◌∷◌, ◌++◌, Option, Some, None, option_and_then, length, ℤ, if◌then◌else◌}
-use Rattle.yq_core.specs.declared.style.Place.{Place}
-use Rattle.yq_core.specs.Paths.{Step, is_here, further}
-use Rattle.yq_core.specs.Entries.{EntryPieces, item_at, path_inside}
-use Rattle.yq_core.specs.Inline.{depth_limit, IsInline}
+use Rattle.yq_core.{specs.declared.style.Place.Place, specs.Paths.{Step, is_here, further}}
+use Rattle.yq_core.{specs.Entries.{EntryPieces, item_at, path_inside}, specs.Inline.{depth_limit, IsInline}}
 use Rattle.yq_core.specs.Nodes.{FlowNode, empty, alias, scalar, coll, anchored, Items, none, item, flow_items_text, opening_bracket}
-use Rattle.yq_core.specs.Trees.{key_content}
-use Rattle.yq_core.specs.Tree.{key_label}
+use Rattle.yq_core.{specs.Trees.key_content, specs.Tree.key_label}
 
 -- a collection by its pieces, and the rest that follows it (YAML 1.2.2, section 7.4)
 pub record CollPieces : Type 0 where

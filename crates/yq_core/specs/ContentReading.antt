@@ -1,8 +1,8 @@
 -- Reading (own; a reader may skip it: the grammar is what is believed, and the clauses `found` and `only` tie the two).
-use Rattle.std.specs.Prelude.{ℕ, suc, zero, ◌-◌, Bool, true, false, ◌||◌, ◌&&◌, ◌==◌, Option, Some, None, List, [], ◌∷◌, ◌++◌, length, take, drop, replicate, if◌then◌else◌, slice_index, encode_utf8}
+use Rattle.std.specs.Prelude.{ℕ, suc, zero, ◌-◌, Bool, true, false, ◌||◌, ◌&&◌, ◌==◌, Option, Some, None, List, [], ◌∷◌, ◌++◌, length, take}
+use Rattle.std.specs.Prelude.{drop, replicate, if◌then◌else◌, slice_index, encode_utf8}
 use Rattle.yq_core.specs.Text.{feed, is_white, is_feed, is_break, is_space, front}
-use Rattle.yq_core.specs.Quoted.{Gap, folded, joined, one_blank_line_more, gap_text}
-use Rattle.yq_core.specs.QuotedReading.{leading_escape}
+use Rattle.yq_core.{specs.Quoted.{Gap, folded, joined, one_blank_line_more, gap_text}, specs.QuotedReading.leading_escape}
 
 -- what stands before a text: white space in a line, or a gap between lines (own)
 pub data BlankBefore : Type 0 where

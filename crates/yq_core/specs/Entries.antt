@@ -1,14 +1,11 @@
 -- The items and entries of an inline node to which paths lead.
 use Rattle.std.specs.Prelude.{◌≡◌, ℕ, List, [], ◌∷◌, ◌++◌, Option, Some, None, option_map, option_and_then, if◌then◌else◌, string_bytes}
-use Rattle.yq_core.specs.declared.piece.Piece.{Piece}
-use Rattle.yq_core.specs.Paths.{Step, To, Nth, is_here, further}
-use Rattle.yq_core.specs.declared.path.Step as declared
-use Rattle.yq_core.specs.declared.path.Entry.{Entry}
-use Rattle.yq_core.specs.Nodes.{Key, FlowNode, empty, alias, scalar, coll, anchored, Items, none, item, key_text, sep_text, node_text, flow_items_text}
+use Rattle.yq_core.{specs.declared.piece.Piece.Piece, specs.Paths.{Step, To, Nth, is_here, further}, specs.declared.path.Entry.Entry}
+use Rattle.yq_core.specs.Nodes.{Key, FlowNode, empty, alias, scalar, coll, anchored, Items, none, item, key_text, sep_text, node_text}
+use Rattle.yq_core.specs.Nodes.{flow_items_text}
 use Rattle.yq_core.specs.Places.{Placed, placed, CoreNode, nothing, name, text, sequence, mapping, Parts, end, part, key_placed, locate}
-use Rattle.yq_core.specs.Trees.{key_content, unplaced_key}
-use Rattle.yq_core.specs.View.{inline_view}
-use Rattle.yq_core.specs.Tree.{key_label}
+use Rattle.yq_core.{specs.Trees.{key_content, unplaced_key}, specs.View.inline_view, specs.Tree.key_label}
+use Rattle.yq_core.specs.declared.path.Step as declared
 
 -- the step that one of the code stands for (own)
 abbrev pub tree_step : declared.Step → Step

@@ -1,7 +1,6 @@
 -- What may stand between two tokens of a flow collection: white space, breaks and comments (YAML 1.2.2, sections 6.6 and 6.7).
 use Rattle.std.specs.Prelude.{◌≡◌, ℕ, Bool, true, false, ◌||◌, ◌&&◌, not, ◌==◌, List, [], ◌∷◌, ◌++◌, if◌then◌else◌}
-use Rattle.yq_core.specs.Text.{is_feed, is_space, is_marker}
-use Rattle.yq_core.specs.declared.gap.GapPlace.{GapPlace}
+use Rattle.yq_core.{specs.Text.{is_feed, is_space, is_marker}, specs.declared.gap.GapPlace.GapPlace}
 use Rattle.yq_core.specs.declared.gap.GapPlace.TheVariants.{Token, White, Break, Comment}
 
 -- Whether a gap goes on with this byte, by what stands before it: white space or a break, a `#` behind these, and each byte of a comment

@@ -1,11 +1,7 @@
 -- The inline node at an offset of a text.
 use Rattle.std.specs.Prelude.{◌≡◌, ℕ, ◌-◌, true, not, List, Option, Some, None, length, drop, ℤ, if◌then◌else◌}
-use Rattle.yq_core.specs.declared.style.Place.{Place}
-use Rattle.yq_core.specs.Answers.{◌>>=◌}
-use Rattle.yq_core.specs.Piece.{further_spaces}
-use Rattle.yq_core.specs.Writable.{in_flow}
-use Rattle.yq_core.specs.Nodes.{FlowNode, node_text, IsFlowNode, is_empty_node}
-use Rattle.yq_core.specs.Places.{Placed, locate, bare_placed}
+use Rattle.yq_core.{specs.declared.style.Place.Place, specs.Answers.◌>>=◌, specs.Piece.further_spaces, specs.Writable.in_flow}
+use Rattle.yq_core.{specs.Nodes.{FlowNode, node_text, IsFlowNode, is_empty_node}, specs.Places.{Placed, locate, bare_placed}}
 use Rattle.yq_core.specs.PlacedReading.{placed_node}
 
 -- how many collections may be nested (own)

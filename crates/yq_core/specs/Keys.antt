@@ -1,9 +1,7 @@
 -- The keys of a mapping (YAML 1.2.2, section 3.2.1.3), and how deep collections are nested.
-use Rattle.std.specs.Prelude.{◌≢◌, ◌<◌, ℕ, get_or, suc, max, List, [], ◌∷◌, Bool, true, not, ◌&&◌, AllPairs, ⊤}
-use Rattle.std.specs.List.{list_any}
+use Rattle.std.{specs.Prelude.{◌≢◌, ◌<◌, ℕ, get_or, suc, max, List, [], ◌∷◌, Bool, true, not, ◌&&◌, AllPairs, ⊤}, specs.List.list_any}
 use Rattle.std.specs.Str.{bytes_eq}
-use Rattle.yq_core.specs.Tree.{Node, alias, scalar, list, map, Children, none, child}
-use Rattle.yq_core.specs.Text.{with_first}
+use Rattle.yq_core.{specs.Tree.{Node, alias, scalar, list, map, Children, none, child}, specs.Text.with_first}
 
 -- no two keys have the same content (YAML 1.2.2, section 3.2.1.3)
 abbrev pub AreDistinct : List (List ℕ) → Type 0

@@ -1,6 +1,5 @@
 -- How a line begins, and blank lines.
-use Rattle.std.specs.Prelude.{ℕ, Bool, ◌==◌, List, drop}
-use Rattle.std.specs.List.{prefix_len}
+use Rattle.std.{specs.Prelude.{ℕ, Bool, ◌==◌, List, drop}, specs.List.prefix_len}
 use Rattle.yq_core.specs.Text.{front, past_white, ends_line}
 
 -- with how many spaces a line begins: its indentation, in columns (YAML 1.2.2, section 6.1)

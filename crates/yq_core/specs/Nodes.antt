@@ -1,9 +1,8 @@
 -- Inline nodes: which pieces stand one behind the other (YAML 1.2.2, sections 6.9.2, 7.1 and 7.4).
-use Rattle.std.specs.Prelude.{◌≡◌, ◌⊎◌, ℕ, zero, suc, Bool, true, false, ◌||◌, not, ◌==◌, List, [], ◌∷◌, ◌++◌, Option, Some, None, if◌then◌else◌}
-use Rattle.yq_core.specs.Text.{is_empty, is_white, is_feed, is_return, NoneIn, unless, no_white, separates}
-use Rattle.yq_core.specs.Plain.{is_flow_indicator}
-use Rattle.yq_core.specs.Gaps.{IsInlineGap}
-use Rattle.yq_core.specs.Scalars.{IsScalarAt, is_quoted, begins_scalar}
+use Rattle.std.specs.Prelude.{◌≡◌, ◌⊎◌, ℕ, zero, suc, Bool, true, false, ◌||◌, not, ◌==◌, List, [], ◌∷◌, ◌++◌, Option, Some, None}
+use Rattle.std.specs.Prelude.{if◌then◌else◌}
+use Rattle.yq_core.{specs.Text.{is_empty, is_white, is_feed, is_return, NoneIn, unless, no_white, separates}, specs.Plain.is_flow_indicator}
+use Rattle.yq_core.{specs.Gaps.IsInlineGap, specs.Scalars.{IsScalarAt, is_quoted, begins_scalar}}
 
 -- what stands before the node of an item: nothing, or a key with the gaps round its `:` (YAML 1.2.2, section 7.4.2)
 pub data Key : Type 0 where

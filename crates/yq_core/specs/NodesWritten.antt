@@ -1,14 +1,11 @@
 -- How nodes are written in flow style (YAML 1.2.2, section 7.4).
 use Rattle.std.specs.Prelude.{ℕ, List, [], ◌∷◌, ◌++◌, Bool, true, false, Option, Some, None, if◌then◌else◌}
-use Rattle.yq_core.specs.declared.style.Style.{Style}
-use Rattle.yq_core.specs.declared.style.Style.TheVariants as styles
-use Rattle.yq_core.specs.declared.style.Place.{Place}
-use Rattle.yq_core.specs.declared.style.Place.TheVariants as places
-use Rattle.yq_core.specs.Scalar.{ScalarText, string_of}
-use Rattle.yq_core.specs.Tree as tree
-use Rattle.yq_core.specs.Writable.{can_write}
-use Rattle.yq_core.specs.Written.{written_scalar}
+use Rattle.yq_core.{specs.declared.style.Style.Style, specs.declared.style.Place.Place, specs.Scalar.{ScalarText, string_of}}
+use Rattle.yq_core.{specs.Writable.can_write, specs.Written.written_scalar}
 use Rattle.yq_core.specs.Nodes.{Key, bare, keyed, Sep, last, comma, FlowNode, alias, scalar, coll, Items, none, item, node_text}
+use Rattle.yq_core.specs.declared.style.Style.TheVariants as styles
+use Rattle.yq_core.specs.declared.style.Place.TheVariants as places
+use Rattle.yq_core.specs.Tree as tree
 
 -- the style in which a scalar is written there: plain if this can write it, else double-quoted (own)
 abbrev pub written_style : ScalarText → Place → Style

@@ -1,13 +1,9 @@
 -- Where a scalar stands in a text.
 use Rattle.std.specs.Prelude.{◌≡◌, ℕ, suc, ◌+◌, false, Option, Some, None, List, ◌++◌, length, drop, ℤ, pos, negsuc}
-use Rattle.yq_core.specs.declared.piece.Piece.{Piece}
-use Rattle.yq_core.specs.declared.style.Style.{Style}
+use Rattle.yq_core.{specs.declared.piece.Piece.Piece, specs.declared.style.Style.Style, specs.declared.style.Place.Place}
+use Rattle.yq_core.{specs.Answers.◌>>=◌, specs.Plain.{IsPlain, plain_at}, specs.Writable.in_flow}
 use Rattle.yq_core.specs.declared.style.Style.TheVariants as styles
-use Rattle.yq_core.specs.declared.style.Place.{Place}
 use Rattle.yq_core.specs.declared.style.Place.TheVariants as places
-use Rattle.yq_core.specs.Answers.{◌>>=◌}
-use Rattle.yq_core.specs.Plain.{IsPlain, plain_at}
-use Rattle.yq_core.specs.Writable.{in_flow}
 
 -- the piece of a plain or quoted scalar, by where it begins and ends (own)
 abbrev pub inline_piece : Style → ℕ → ℕ → Piece

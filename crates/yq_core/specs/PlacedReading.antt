@@ -1,10 +1,9 @@
 -- Reading a node with its places (own; a reader may skip it: the clauses `found` and `only` tie it to the grammar).
 use Rattle.std.specs.Prelude.{ℕ, ◌-◌, List, [], length, if◌then◌else◌, Option, Some, None, Bool, true, false, not, ◌||◌, ◌&&◌}
-use Rattle.yq_core.specs.declared.piece.Piece.{Piece}
-use Rattle.yq_core.specs.Answers.{◌>>=◌}
-use Rattle.yq_core.specs.Text.{is_empty}
+use Rattle.yq_core.{specs.declared.piece.Piece.Piece, specs.Answers.◌>>=◌, specs.Text.is_empty}
 use Rattle.yq_core.specs.Nodes.{Key, bare, keyed, FlowNode, empty, alias, scalar, coll, anchored}
-use Rattle.yq_core.specs.Places.{Placed, placed, CoreNode, nothing, name, text, sequence, mapping, Parts, holder, anchored_node, placed_between, scalar_between, key_here, locate, locate_items, bare_placed}
+use Rattle.yq_core.specs.Places.{Placed, placed, CoreNode, nothing, name, text, sequence, mapping, Parts, holder, anchored_node}
+use Rattle.yq_core.specs.Places.{placed_between, scalar_between, key_here, locate, locate_items, bare_placed}
 use Rattle.yq_core.specs.Reading.{read_gap, read_scalar, read_flow_key, sep_at, read_core, all_items, kids_of, all_node}
 
 -- what a node without an anchor is, that stands between two rests (own)

@@ -1,10 +1,8 @@
 -- An inline node with the places of its parts, by how much of the text follows them.
 use Rattle.std.specs.Prelude.{ℕ, ◌+◌, ◌-◌, ◌==◌, List, length, if◌then◌else◌, Option, Some, None, Bool, true, false}
-use Rattle.yq_core.specs.declared.piece.Piece.{Piece}
-use Rattle.yq_core.specs.Piece.{inline_piece}
-use Rattle.yq_core.specs.Scalar.{ScalarText}
-use Rattle.yq_core.specs.Nodes.{Key, bare, keyed, FlowNode, empty, alias, scalar, coll, anchored, Items, none, item, key_text, sep_text, node_text, flow_items_text}
-use Rattle.yq_core.specs.Scalars.{scalar_style, scalar_content, scalar_of}
+use Rattle.yq_core.{specs.declared.piece.Piece.Piece, specs.Piece.inline_piece, specs.Scalar.ScalarText}
+use Rattle.yq_core.specs.Nodes.{Key, bare, keyed, FlowNode, empty, alias, scalar, coll, anchored, Items, none, item, key_text, sep_text}
+use Rattle.yq_core.{specs.Nodes.{node_text, flow_items_text}, specs.Scalars.{scalar_style, scalar_content, scalar_of}}
 
 mutual
   -- a node: its anchor, where it begins, where what is behind the anchor begins, where it ends, in bytes, and what it is (own)

@@ -1,7 +1,6 @@
 -- Plain scalars (YAML 1.2.2, section 7.3.3).
-use Rattle.std.specs.Prelude.{◌≡◌, ℕ, Bool, true, false, ◌||◌, ◌&&◌, not, ◌==◌, nat_le, Option, Some, None, List, [], ◌∷◌, ◌++◌, if◌then◌else◌}
-use Rattle.std.specs.List.{prefix_len, list_any}
-use Rattle.std.specs.Option.{option_or}
+use Rattle.std.specs.Prelude.{◌≡◌, ℕ, Bool, true, false, ◌||◌, ◌&&◌, not, ◌==◌, nat_le, Option, Some, None, List, [], ◌∷◌, ◌++◌}
+use Rattle.std.{specs.Prelude.if◌then◌else◌, specs.List.{prefix_len, list_any}, specs.Option.option_or}
 use Rattle.yq_core.specs.Text.{is_empty, is_feed, is_space, front, separates, is_marker, cut, NoneIn}
 
 -- an indicator of flow collections: `,`, `[`, `]`, `{` or `}` (YAML 1.2.2, section 5.3)

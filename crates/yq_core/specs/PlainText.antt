@@ -1,9 +1,6 @@
 -- What may be written plain, on one line (own).
-use Rattle.std.specs.Prelude.{ℕ, Bool, true, false, ◌||◌, ◌&&◌, not, ◌==◌, List, [], ◌∷◌}
-use Rattle.std.specs.List.{list_all}
-use Rattle.std.specs.Str.{chars}
-use Rattle.yq_core.specs.Characters.{is_text_char}
-use Rattle.yq_core.specs.Text.{is_empty, is_feed, is_return, front}
+use Rattle.std.{specs.Prelude.{ℕ, Bool, true, false, ◌||◌, ◌&&◌, not, ◌==◌, List, [], ◌∷◌}, specs.List.list_all, specs.Str.chars}
+use Rattle.yq_core.{specs.Characters.is_text_char, specs.Text.{is_empty, is_feed, is_return, front}}
 use Rattle.yq_core.specs.Plain.{is_flow_indicator, is_indicator}
 
 -- a character that is written as it is: one of a text, but no tab, CR, LF, U+0085, U+2028 or U+2029 (own)

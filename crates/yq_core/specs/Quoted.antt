@@ -1,6 +1,6 @@
 -- Quoted scalars: how they are written, and what they stand for (YAML 1.2.2, sections 5.7, 6.5, 7.3.1 and 7.3.2).
-use Rattle.std.specs.Prelude.{◌≡◌, ℕ, suc, zero, Bool, true, false, ◌==◌, ◌⊎◌, Option, Some, None, List, [], ◌∷◌, ◌++◌, length, replicate, if◌then◌else◌, nat_lt, nat_le, ◌||◌, ◌&&◌, encode_utf8}
-use Rattle.std.specs.Str.Parse.{AllDigits, digits_value}
+use Rattle.std.specs.Prelude.{◌≡◌, ℕ, suc, zero, Bool, true, false, ◌==◌, ◌⊎◌, Option, Some, None, List, [], ◌∷◌, ◌++◌, length, replicate}
+use Rattle.std.{specs.Prelude.{if◌then◌else◌, nat_lt, nat_le, ◌||◌, ◌&&◌, encode_utf8}, specs.Str.Parse.{AllDigits, digits_value}}
 use Rattle.yq_core.specs.Text.{feed, is_white, is_break, is_marker, front}
 
 -- each letter that may follow a backslash, and the character that the two stand for (5.7)

@@ -1,12 +1,8 @@
 -- Where a quoted scalar stands in a text.
 use Rattle.std.specs.Prelude.{◌≡◌, ℕ, ◌+◌, ◌==◌, Option, Some, List, ◌++◌, length, drop, slice_index, if◌then◌else◌}
-use Rattle.yq_core.specs.declared.piece.Piece.{Piece}
-use Rattle.yq_core.specs.declared.style.Style.{Style}
+use Rattle.yq_core.{specs.declared.piece.Piece.Piece, specs.declared.style.Style.Style, specs.Answers.◌>>=◌, specs.Piece.inline_piece}
+use Rattle.yq_core.{specs.Quoted.{QuotedLines, IsQuoted}, specs.QuotedReading.quoted_at}
 use Rattle.yq_core.specs.declared.style.Style.TheVariants as styles
-use Rattle.yq_core.specs.Answers.{◌>>=◌}
-use Rattle.yq_core.specs.Piece.{inline_piece}
-use Rattle.yq_core.specs.Quoted.{QuotedLines, IsQuoted}
-use Rattle.yq_core.specs.QuotedReading.{quoted_at}
 
 -- the style of a scalar in these quotes, 39 or 34 (YAML 1.2.2, sections 7.3.1 and 7.3.2)
 abbrev pub quoted_style : ℕ → Style

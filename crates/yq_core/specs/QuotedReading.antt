@@ -1,9 +1,7 @@
 -- Reading (own; a reader may skip it: the grammar is what is believed, and the clauses `found` and `only` tie the two).
-use Rattle.std.specs.Prelude.{ℕ, suc, zero, ◌+◌, ◌*◌, Bool, false, ◌||◌, ◌&&◌, not, ◌==◌, Option, Some, None, List, [], ◌∷◌, take, drop, if◌then◌else◌}
-use Rattle.std.specs.Char.{digit_value}
-use Rattle.yq_core.specs.Answers.{◌>>=◌, more}
-use Rattle.yq_core.specs.Text.{is_feed, is_break, is_marker, front}
-use Rattle.yq_core.specs.SchemaReading.{is_digit}
+use Rattle.std.specs.Prelude.{ℕ, suc, zero, ◌+◌, ◌*◌, Bool, false, ◌||◌, ◌&&◌, not, ◌==◌, Option, Some, None, List, [], ◌∷◌, take, drop}
+use Rattle.std.{specs.Prelude.if◌then◌else◌, specs.Char.digit_value}
+use Rattle.yq_core.{specs.Answers.{◌>>=◌, more}, specs.Text.{is_feed, is_break, is_marker, front}, specs.SchemaReading.is_digit}
 use Rattle.yq_core.specs.Quoted.{letters, beside, is_unicode}
 
 -- the value of a hexadecimal digit (own)

@@ -1,17 +1,10 @@
 -- What is written, put between two texts (own).
 use Rattle.std.specs.Prelude.{◌≡◌, ℕ, ℤ, ◌+◌, List, ◌++◌, length}
-use Rattle.yq_core.specs.declared.block_types.Break.{Break}
-use Rattle.yq_core.specs.declared.piece.Piece.{Piece}
-use Rattle.yq_core.specs.declared.style.Place.{Place}
-use Rattle.yq_core.specs.declared.style.Style.{Style}
-use Rattle.yq_core.specs.declared.style.Style.TheVariants.{Plain}
-use Rattle.yq_core.specs.Block.{IsBlockPiece, block_text, block_piece}
-use Rattle.yq_core.specs.BlockWritten.{break_text, written_block}
-use Rattle.yq_core.specs.ScalarPiece.{piece_content}
-use Rattle.yq_core.specs.Piece.{IsPlainPiece, inline_piece}
-use Rattle.yq_core.specs.QuotedPiece.{IsQuotedPiece}
-use Rattle.yq_core.specs.Scalar.{ScalarText, plain_of, string_of}
-use Rattle.yq_core.specs.Written.{written_scalar}
+use Rattle.yq_core.{specs.declared.block_types.Break.Break, specs.declared.piece.Piece.Piece, specs.declared.style.Place.Place}
+use Rattle.yq_core.{specs.declared.style.Style.Style, specs.declared.style.Style.TheVariants.Plain}
+use Rattle.yq_core.{specs.Block.{IsBlockPiece, block_text, block_piece}, specs.BlockWritten.{break_text, written_block}}
+use Rattle.yq_core.{specs.ScalarPiece.piece_content, specs.Piece.{IsPlainPiece, inline_piece}, specs.QuotedPiece.IsQuotedPiece}
+use Rattle.yq_core.{specs.Scalar.{ScalarText, plain_of, string_of}, specs.Written.written_scalar}
 
 -- a string that is written in a style on one line, between two texts (own)
 abbrev pub string_between : Style → List ℕ → List ℕ → List ℕ → List ℕ

@@ -1,13 +1,11 @@
 -- Reading (own; a reader may skip it: the grammar is what is believed, and the clauses `found` and `only` tie the two).
-use Rattle.std.specs.Prelude.{ℕ, zero, suc, Bool, true, false, ◌||◌, ◌&&◌, not, ◌==◌, List, [], ◌∷◌, length, take, drop, Option, Some, None, if◌then◌else◌}
-use Rattle.yq_core.specs.Answers.{◌>>=◌}
-use Rattle.yq_core.specs.Plain.{plain_at}
-use Rattle.yq_core.specs.QuotedReading.{quoted_at}
-use Rattle.yq_core.specs.Text.{is_empty, is_marker, cut, unless, no_white}
-use Rattle.yq_core.specs.declared.gap.GapPlace.{GapPlace}
-use Rattle.yq_core.specs.declared.gap.GapPlace.TheVariants.{Token}
-use Rattle.yq_core.specs.Gaps.{goes, next_gap_place, at_line_start}
-use Rattle.yq_core.specs.Nodes.{Key, bare, keyed, Sep, last, comma, FlowNode, empty, alias, scalar, coll, anchored, Items, none, item, begins_with, in_name, begins_content, begins_node, ends_key, is_empty_node, takes_anchor, is_keyed}
+use Rattle.std.specs.Prelude.{ℕ, zero, suc, Bool, true, false, ◌||◌, ◌&&◌, not, ◌==◌, List, [], ◌∷◌, length, take, drop, Option, Some, None}
+use Rattle.std.specs.Prelude.{if◌then◌else◌}
+use Rattle.yq_core.{specs.Answers.◌>>=◌, specs.Plain.plain_at, specs.QuotedReading.quoted_at}
+use Rattle.yq_core.{specs.Text.{is_empty, is_marker, cut, unless, no_white}, specs.declared.gap.GapPlace.GapPlace}
+use Rattle.yq_core.{specs.declared.gap.GapPlace.TheVariants.Token, specs.Gaps.{goes, next_gap_place, at_line_start}}
+use Rattle.yq_core.specs.Nodes.{Key, bare, keyed, Sep, last, comma, FlowNode, empty, alias, scalar, coll, anchored, Items, none, item}
+use Rattle.yq_core.specs.Nodes.{begins_with, in_name, begins_content, begins_node, ends_key, is_empty_node, takes_anchor, is_keyed}
 use Rattle.yq_core.specs.Scalars.{is_quoted, has_its_lines}
 
 -- how long the gap in front is (own)

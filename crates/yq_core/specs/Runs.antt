@@ -1,10 +1,6 @@
 -- Runs of bytes (own; a reader may skip it: only private clauses cite it).
-use Rattle.std.specs.Prelude.{ℕ, Bool, ◌||◌, not, ◌==◌, nat_le, if◌then◌else◌}
-use Rattle.std.specs.Int.{w64, trailing_zeros}
-use Rattle.yq_core.specs.Characters.{is_text_byte}
-use Rattle.yq_core.specs.Text.{is_feed}
-use Rattle.yq_core.specs.Plain.{is_flow_indicator}
-use Rattle.yq_core.specs.declared.runs.Run.{Run}
+use Rattle.std.{specs.Prelude.{ℕ, Bool, ◌||◌, not, ◌==◌, nat_le, if◌then◌else◌}, specs.Int.{w64, trailing_zeros}}
+use Rattle.yq_core.{specs.Characters.is_text_byte, specs.Text.is_feed, specs.Plain.is_flow_indicator, specs.declared.runs.Run.Run}
 use Rattle.yq_core.specs.declared.runs.Run.TheVariants.{Text, Spaces, Plain, Quoted}
 
 -- a byte at which a run stops: of a plain scalar, one at which it may end, by what follows; of a quoted one, its quote, a backslash or an LF (own)

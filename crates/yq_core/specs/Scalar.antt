@@ -1,8 +1,7 @@
 -- A scalar: a kind and a text.
 use Rattle.std.specs.Prelude.{◌≡◌, ℕ, List, codes}
-use Rattle.yq_core.specs.declared.kind.Kind.{Kind}
+use Rattle.yq_core.{specs.declared.kind.Kind.Kind, specs.SchemaReading.resolve}
 use Rattle.yq_core.specs.declared.kind.Kind.TheVariants as kinds
-use Rattle.yq_core.specs.SchemaReading.{resolve}
 
 -- a scalar's kind and its text (YAML 1.2.2, section 3.2.1)
 pub record ScalarText : Type 0 where

@@ -1,14 +1,10 @@
 -- Pieces that were given for a text, and what they stand for.
 use Rattle.std.specs.Prelude.{ℕ, ◌-◌, ◌⊎◌, List, take, drop, ℤ, IsCharBoundary}
-use Rattle.yq_core.specs.declared.piece.Piece.{Piece}
-use Rattle.yq_core.specs.declared.style.Style.{Style}
-use Rattle.yq_core.specs.declared.style.Style.TheVariants as styles
-use Rattle.yq_core.specs.declared.style.Place.{Place}
-use Rattle.yq_core.specs.Block.{IsBlockScalar}
-use Rattle.yq_core.specs.BlockReading as blocks
-use Rattle.yq_core.specs.ContentReading.{plain_content, quoted_content}
-use Rattle.yq_core.specs.Piece.{IsPlainPiece}
+use Rattle.yq_core.{specs.declared.piece.Piece.Piece, specs.declared.style.Style.Style, specs.declared.style.Place.Place}
+use Rattle.yq_core.{specs.Block.IsBlockScalar, specs.ContentReading.{plain_content, quoted_content}, specs.Piece.IsPlainPiece}
 use Rattle.yq_core.specs.QuotedPiece.{IsQuotedPiece}
+use Rattle.yq_core.specs.declared.style.Style.TheVariants as styles
+use Rattle.yq_core.specs.BlockReading as blocks
 
 -- the piece is that of a plain scalar in some place of the text, below some indentation (own)
 abbrev pub IsPlainScalar : List ℕ → Piece → Type 0

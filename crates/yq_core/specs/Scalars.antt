@@ -1,13 +1,9 @@
 -- The plain and quoted scalars of inline nodes (YAML 1.2.2, section 7.3).
 use Rattle.std.specs.Prelude.{◌≡◌, ◌⊎◌, ℕ, Bool, true, ◌||◌, not, ◌==◌, List, Option, Some, None, if◌then◌else◌}
-use Rattle.yq_core.specs.declared.style.Style.{Style}
+use Rattle.yq_core.{specs.declared.style.Style.Style, specs.ContentReading.{plain_content, quoted_content}}
+use Rattle.yq_core.{specs.Plain.{IsPlain, begins_plain, holds_break}, specs.Quoted.{QuotedLines, IsQuoted}, specs.QuotedReading.is_quote}
+use Rattle.yq_core.{specs.Scalar.{ScalarText, plain_of, string_of}, specs.Text.front}
 use Rattle.yq_core.specs.declared.style.Style.TheVariants as styles
-use Rattle.yq_core.specs.ContentReading.{plain_content, quoted_content}
-use Rattle.yq_core.specs.Plain.{IsPlain, begins_plain, holds_break}
-use Rattle.yq_core.specs.Quoted.{QuotedLines, IsQuoted}
-use Rattle.yq_core.specs.QuotedReading.{is_quote}
-use Rattle.yq_core.specs.Scalar.{ScalarText, plain_of, string_of}
-use Rattle.yq_core.specs.Text.{front}
 
 -- a quote is in front (YAML 1.2.2, sections 7.3.1 and 7.3.2)
 abbrev pub is_quoted : List ℕ → Bool

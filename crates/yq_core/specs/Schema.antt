@@ -1,8 +1,8 @@
 -- The core schema: the kind of a plain scalar by its text, row by row of its table (YAML 1.2.2, 10.3.2).
 use Rattle.std.specs.Prelude.{◌≡◌, ℕ, ◌⊎◌, List, [], ◌∷◌, ◌++◌, codes, ℤ}
 use Rattle.yq_core.specs.declared.kind.Kind.{Kind}
-use Rattle.yq_core.specs.declared.kind.Kind.TheVariants as kinds
 use Rattle.yq_core.specs.Numbers.{Sign, spell_sign, Integer, spell_integer, IsInteger, value_of_digits, Number, spell_number, IsNumber}
+use Rattle.yq_core.specs.declared.kind.Kind.TheVariants as kinds
 
 -- the words for null (10.3.2)
 abbrev pub null_words : List (List ℕ)

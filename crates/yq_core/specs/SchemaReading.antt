@@ -1,14 +1,11 @@
 -- Reading (own; a reader may skip it: the grammar is what is believed, and the clauses `found` and `only` tie the two).
-use Rattle.std.specs.Prelude.{ℕ, Bool, true, false, ◌||◌, ◌&&◌, not, ◌==◌, nat_lt, Option, Some, None, List, [], ◌∷◌, drop, if◌then◌else◌, bytes_eq, codes, ℤ, pos}
-use Rattle.std.specs.List.{list_any, prefix_len}
-use Rattle.std.specs.Char.{digit_value}
+use Rattle.std.specs.Prelude.{ℕ, Bool, true, false, ◌||◌, ◌&&◌, not, ◌==◌, nat_lt, Option, Some, None, List, [], ◌∷◌, drop, if◌then◌else◌}
+use Rattle.std.{specs.Prelude.{bytes_eq, codes, ℤ, pos}, specs.List.{list_any, prefix_len}, specs.Char.digit_value}
 use Rattle.std.specs.Str.Parse.{digits_value}
-use Rattle.yq_core.specs.declared.kind.Kind.{Kind}
-use Rattle.yq_core.specs.declared.kind.Kind.TheVariants as kinds
-use Rattle.yq_core.specs.Answers.{◌>>=◌}
-use Rattle.yq_core.specs.Text.{is_empty, front}
+use Rattle.yq_core.{specs.declared.kind.Kind.Kind, specs.Answers.◌>>=◌, specs.Text.{is_empty, front}}
 use Rattle.yq_core.specs.Numbers.{Sign, unsigned, plus, minus, signed, is_i64}
 use Rattle.yq_core.specs.Schema.{null_words, bool_words, infinity_words, nan_words}
+use Rattle.yq_core.specs.declared.kind.Kind.TheVariants as kinds
 
 -- whether the text is one of the words (own)
 abbrev pub is_one_of : List (List ℕ) → List ℕ → Bool

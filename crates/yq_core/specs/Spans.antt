@@ -1,8 +1,6 @@
 -- The places of an inline node and of its parts lie in order, each from one character of the text to another or to the end.
-use Rattle.std.specs.Prelude.{◌≡◌, ℕ, suc, ◌<◌, ◌≤◌, List, Option, Some, None, ⊤}
-use Rattle.std.specs.Str.{IsCharBoundary}
-use Rattle.yq_core.specs.declared.piece.Piece.{Piece}
-use Rattle.yq_core.specs.Entries.{start_of, end_of, entry_start}
+use Rattle.std.{specs.Prelude.{◌≡◌, ℕ, suc, ◌<◌, ◌≤◌, List, Option, Some, None, ⊤}, specs.Str.IsCharBoundary}
+use Rattle.yq_core.{specs.declared.piece.Piece.Piece, specs.Entries.{start_of, end_of, entry_start}}
 use Rattle.yq_core.specs.Places.{Placed, placed, CoreNode, nothing, name, text, sequence, mapping, Parts, end, part}
 
 -- from one character of a text to another, or to its end (own)

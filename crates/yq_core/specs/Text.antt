@@ -1,5 +1,6 @@
 -- White space, breaks, lines, and where a piece of a text ends.
-use Rattle.std.specs.Prelude.{◌≡◌, ℕ, suc, Bool, true, false, ◌||◌, ◌&&◌, not, ◌==◌, List, [], ◌∷◌, ◌++◌, take, drop, Option, Some, None, if◌then◌else◌}
+use Rattle.std.specs.Prelude.{◌≡◌, ℕ, suc, Bool, true, false, ◌||◌, ◌&&◌, not, ◌==◌, List, [], ◌∷◌, ◌++◌, take, drop, Option, Some, None}
+use Rattle.std.specs.Prelude.{if◌then◌else◌}
 
 -- white space is a space or a tab (YAML 1.2.2, section 5.5)
 abbrev pub is_white : ℕ → Bool

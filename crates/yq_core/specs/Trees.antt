@@ -1,12 +1,10 @@
 -- The tree that an inline node stands for (YAML 1.2.2, section 3.2.1).
 use Rattle.std.specs.Prelude.{ℕ, ◌==◌, List, Option, Some, None, if◌then◌else◌}
-use Rattle.yq_core.specs.declared.piece.Piece.{Piece}
-use Rattle.yq_core.specs.Scalar.{ScalarText, null}
-use Rattle.yq_core.specs.Tree as tree
-use Rattle.yq_core.specs.Tree.{Children, key_label}
+use Rattle.yq_core.{specs.declared.piece.Piece.Piece, specs.Scalar.{ScalarText, null}, specs.Tree.{Children, key_label}}
 use Rattle.yq_core.specs.Nodes.{Key, bare, keyed, FlowNode, empty, alias, scalar, coll, anchored, Items, none, item}
 use Rattle.yq_core.specs.Places.{Placed, placed, CoreNode, nothing, name, text, sequence, mapping, Parts, end, part}
 use Rattle.yq_core.specs.Scalars.{scalar_content, scalar_of}
+use Rattle.yq_core.specs.Tree as tree
 
 -- a scalar without an anchor (YAML 1.2.2, section 3.2.1.1)
 abbrev pub scalar_node : ScalarText → tree.Node

@@ -1,10 +1,8 @@
 -- Values: nodes without anchors and comments.
-use Rattle.std.specs.Prelude.{ℕ, List, [], ◌∷◌, map, Some, None, String, string_bytes}
-use Rattle.std.specs.declared.alloc.Global.{Global}
-use Rattle.yq_core.specs.Tree as tree
-use Rattle.yq_core.specs.Tree.{Label, Node, Children, plain_label}
-use Rattle.yq_core.specs.declared.value.Value.{Value, fold-Value}
+use Rattle.std.{specs.Prelude.{ℕ, List, [], ◌∷◌, map, Some, None, String, string_bytes}, specs.declared.alloc.Global.Global}
+use Rattle.yq_core.{specs.Tree.{Label, Node, Children, plain_label}, specs.declared.value.Value.{Value, fold-Value}}
 use Rattle.yq_core.specs.declared.value.Value.TheOpen.{Value-F}
+use Rattle.yq_core.specs.Tree as tree
 
 -- what is told of an entry of that key without comments (own)
 abbrev pub entry : List ℕ → Label

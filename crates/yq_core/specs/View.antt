@@ -1,12 +1,8 @@
 -- The node that an `Inline` of the code shows.
-use Rattle.std.specs.Prelude.{ℕ, List, [], ◌∷◌, map, Option, Some, None, String, string_bytes}
-use Rattle.std.specs.declared.alloc.Global.{Global}
+use Rattle.std.{specs.Prelude.{ℕ, List, [], ◌∷◌, map, Option, Some, None, String, string_bytes}, specs.declared.alloc.Global.Global}
 use denote.Bor.{Bor}
-use Rattle.yq_core.specs.declared.piece.Piece.{Piece}
-use Rattle.yq_core.specs.Answers.{◌>>=◌}
-use Rattle.yq_core.specs.declared.inline.Inline.{Inline}
-use Rattle.yq_core.specs.declared.inline.Form.{Form}
-use Rattle.yq_core.specs.declared.inline.Form.TheOpen.{Inline-F, Form-F}
+use Rattle.yq_core.{specs.declared.piece.Piece.Piece, specs.Answers.◌>>=◌, specs.declared.inline.Inline.Inline}
+use Rattle.yq_core.{specs.declared.inline.Form.Form, specs.declared.inline.Form.TheOpen.{Inline-F, Form-F}}
 use Rattle.yq_core.specs.declared.inline.Form.TheFolds.{fold-Inline, fold-Form}
 use Rattle.yq_core.specs.Places.{Placed, placed, CoreNode, nothing, name, text, sequence, mapping, Parts, end, part}
 

@@ -1,17 +1,12 @@
 -- Which styles can write a scalar, and where (own).
-use Rattle.std.specs.Prelude.{ℕ, Bool, true, false, ◌||◌, ◌&&◌, not, ◌==◌, nat_eq, List, [], ◌∷◌}
-use Rattle.std.specs.List.{list_all, ends_with}
+use Rattle.std.{specs.Prelude.{ℕ, Bool, true, false, ◌||◌, ◌&&◌, not, ◌==◌, nat_eq, List, [], ◌∷◌}, specs.List.{list_all, ends_with}}
 use Rattle.std.specs.Str.{chars}
-use Rattle.yq_core.specs.declared.kind.Kind.{Kind}
-use Rattle.yq_core.specs.declared.kind.Kind.TheVariants as kinds
-use Rattle.yq_core.specs.declared.style.Style.{Style}
-use Rattle.yq_core.specs.declared.style.Style.TheVariants as styles
-use Rattle.yq_core.specs.declared.style.Place.{Place}
-use Rattle.yq_core.specs.declared.style.Place.TheVariants as places
-use Rattle.yq_core.specs.PlainText.{is_plain_char, is_plain_text}
-use Rattle.yq_core.specs.Scalar.{ScalarText}
-use Rattle.yq_core.specs.SchemaReading.{resolve}
+use Rattle.yq_core.{specs.declared.kind.Kind.Kind, specs.declared.style.Style.Style, specs.declared.style.Place.Place}
+use Rattle.yq_core.{specs.PlainText.{is_plain_char, is_plain_text}, specs.Scalar.ScalarText, specs.SchemaReading.resolve}
 use Rattle.yq_core.specs.Text.{feed, is_empty, is_feed, is_white, front}
+use Rattle.yq_core.specs.declared.kind.Kind.TheVariants as kinds
+use Rattle.yq_core.specs.declared.style.Style.TheVariants as styles
+use Rattle.yq_core.specs.declared.style.Place.TheVariants as places
 
 -- a string, and no null, bool, int or float (YAML 1.2.2, section 10.3.2)
 abbrev pub is_string : Kind → Bool

@@ -1,10 +1,8 @@
 -- How scalars are written in quotes (own, with the escapes of YAML 1.2.2, section 5.7).
 use Rattle.std.specs.Prelude.{ℕ, ◌+◌, ◌/◌, ◌%◌, ◌==◌, nat_lt, Option, Some, None, List, [], ◌∷◌, ◌++◌, if◌then◌else◌, encode_utf8}
-use Rattle.std.specs.List.{flat_map}
-use Rattle.std.specs.Str.{chars}
-use Rattle.yq_core.specs.declared.style.Style.{Style}
+use Rattle.std.{specs.List.flat_map, specs.Str.chars}
+use Rattle.yq_core.{specs.declared.style.Style.Style, specs.Characters.is_text_char}
 use Rattle.yq_core.specs.declared.style.Style.TheVariants as styles
-use Rattle.yq_core.specs.Characters.{is_text_char}
 
 -- each character that is written as a letter behind a backslash, behind its letter (own)
 abbrev pub written_letters : List (ℕ × ℕ)

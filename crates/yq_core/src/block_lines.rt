@@ -1,9 +1,8 @@
 //! The lines of a block scalar, and what may stand behind them (YAML 1.2.2, sections 8.1.1 and 8.1.2).
 ghost use Rattle.std.specs.Prelude.{◌≡◌, true, IfErr};
-ghost use Rattle.yq_core.specs.Answers.{ReadsAs};
+ghost use Rattle.yq_core.{specs.Answers.ReadsAs, specs.Text.text_lines};
 ghost use Rattle.yq_core.specs.Block as spec;
 ghost use Rattle.yq_core.specs.BlockReading as reading;
-ghost use Rattle.yq_core.specs.Text.{text_lines};
 
 use crate::{FaultKind, behind_spaces, ends_line, is_blank, is_line, line_len, spaces_len};
 

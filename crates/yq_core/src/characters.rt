@@ -1,9 +1,7 @@
 //! The characters of a text.
-ghost use Rattle.std.specs.List.{list_all};
-ghost use Rattle.std.specs.Prelude.{◌≡◌, length};
-ghost use Rattle.std.specs.Str.{chars};
-ghost use Rattle.yq_core.specs.Characters as spec;
+ghost use Rattle.std.{specs.List.list_all, specs.Prelude.{◌≡◌, length}, specs.Str.chars};
 ghost use Rattle.yq_core.specs.Text.{front, is_feed};
+ghost use Rattle.yq_core.specs.Characters as spec;
 
 use crate::runs::{Run, run_len};
 use memchr::memchr;

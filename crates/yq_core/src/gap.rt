@@ -1,8 +1,8 @@
 //! What stands between two tokens of a flow collection.
 ghost use Rattle.std.specs.Prelude.{◌≡◌, ◌∷◌, ◌≤◌, length};
+ghost use Rattle.yq_core.specs.declared.gap.GapPlace.TheVariants.{Token as token};
 ghost use Rattle.yq_core.specs.Gaps as spec;
 ghost use Rattle.yq_core.specs.Reading as reading;
-ghost use Rattle.yq_core.specs.declared.gap.GapPlace.TheVariants.{Token as token};
 
 use crate::text::is_space;
 

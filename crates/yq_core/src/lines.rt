@@ -1,7 +1,7 @@
 //! Lines and their breaks.
 ghost use Rattle.std.specs.Prelude.{◌≡◌, ◌<◌, ◌≤◌, length};
-ghost use Rattle.yq_core.specs.Text as spec;
 ghost use Rattle.yq_core.specs.Text.{at_feed, cut, upto};
+ghost use Rattle.yq_core.specs.Text as spec;
 
 use crate::text::is_break;
 use memchr::memchr;

@@ -1,9 +1,8 @@
 //! Paths inside inline nodes, and the places to which they lead.
 ghost use Rattle.std.specs.Prelude.{◌≡◌, None, map, option_map};
+ghost use Rattle.yq_core.{specs.Trees.placed_tree, specs.View.{entries_end, items_end, inline_view}};
 ghost use Rattle.yq_core.specs.Paths as paths;
 ghost use Rattle.yq_core.specs.Entries as spec;
-ghost use Rattle.yq_core.specs.Trees.{placed_tree};
-ghost use Rattle.yq_core.specs.View.{entries_end, items_end, inline_view};
 
 use crate::Piece;
 use crate::inline::{Form, Inline};

@@ -1,9 +1,7 @@
 //! Runs of bytes, sixteen at a time.
-ghost use Rattle.std.specs.List.{prefix_len};
-ghost use Rattle.std.specs.Prelude.{◌≡◌, ◌+◌, ◌≤◌, length, map};
-ghost use Rattle.std.specs.Simd.Lanes.{chunk, mask_l};
-ghost use Rattle.yq_core.specs.Runs as spec;
+ghost use Rattle.std.{specs.List.prefix_len, specs.Prelude.{◌≡◌, ◌+◌, ◌≤◌, length, map}, specs.Simd.Lanes.{chunk, mask_l}};
 ghost use Rattle.yq_core.specs.declared.runs.Run.TheVariants.{Plain, Quoted, Spaces, Text};
+ghost use Rattle.yq_core.specs.Runs as spec;
 
 use std::simd::prelude::*;
 

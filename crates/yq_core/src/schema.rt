@@ -1,8 +1,7 @@
 //! The core schema: the kind of a plain scalar.
 ghost use Rattle.std.specs.Prelude.{◌≡◌, ◌≤◌};
-ghost use Rattle.yq_core.specs.Schema.{null_words, bool_words, infinity_words, nan_words, Resolves};
+ghost use Rattle.yq_core.{specs.Schema.{null_words, bool_words, infinity_words, nan_words, Resolves}, specs.declared.kind.Kind.Kind};
 ghost use Rattle.yq_core.specs.SchemaReading as spec;
-ghost use Rattle.yq_core.specs.declared.kind.Kind.{Kind};
 
 use crate::kind::Kind;
 

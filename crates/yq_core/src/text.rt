@@ -1,10 +1,8 @@
 //! What stands in front of a text.
-ghost use Rattle.std.specs.List.{prefix_len};
-ghost use Rattle.std.specs.Prelude.{◌≡◌, ◌==◌, ◌≤◌, length};
+ghost use Rattle.std.{specs.List.prefix_len, specs.Prelude.{◌≡◌, ◌==◌, ◌≤◌, length}};
+ghost use Rattle.yq_core.{specs.PlainText.begins_marker, specs.Text.cut};
 ghost use Rattle.yq_core.specs.Lines as lines_spec;
-ghost use Rattle.yq_core.specs.PlainText.{begins_marker};
 ghost use Rattle.yq_core.specs.Text as spec;
-ghost use Rattle.yq_core.specs.Text.{cut};
 
 use crate::runs::{Run, run_len};
 

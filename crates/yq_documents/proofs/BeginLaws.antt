@@ -1,13 +1,10 @@
 -- Which parts of a text are documents, by where its parts end.
-use Rattle.std.proofs.Common.{◌≡◌, ℕ, suc, ◌+◌, true, false, ◌||◌, not, eqb, List, [], ◌∷◌, length, drop, Some, refl, sym, ap, ◌∙◌, arith, eqb-true}
-use Rattle.std.proofs.lemmas.Bool.{false_from_ne_true}
-use Rattle.std.specs.List.{slice_get}
+use Rattle.std.proofs.Common.{◌≡◌, ℕ, suc, ◌+◌, true, false, ◌||◌, not, eqb, List, [], ◌∷◌, length, drop, Some, refl, sym, ap, ◌∙◌, arith}
+use Rattle.std.{proofs.Common.eqb-true, proofs.lemmas.Bool.false_from_ne_true, specs.List.slice_get}
 use Rattle.yq_outline.proofs.EndsLaws.{drop_at}
-use Rattle.yq_row_table.specs.Grammar.{begins_document, no_rows}
-use Rattle.yq_row_table.specs.Rows.{Row, Cut, last, marked}
+use Rattle.yq_row_table.{specs.Grammar.{begins_document, no_rows}, specs.Rows.{Row, Cut, last, marked}}
 use Rattle.yq_row_table.specs.View.{Bound, bounds_from, bounds_of, RowsView, rows_view}
-use Rattle.yq_documents.specs.Documents.{has_begin, begins_bare}
-use Rattle.yq_documents.specs.PartReading.{some_begin, first_rows}
+use Rattle.yq_documents.{specs.Documents.{has_begin, begins_bare}, specs.PartReading.{some_begin, first_rows}}
 
 -- a marker that is `---`, among others
 pub begin_here : (bs : List Bound) (i : ℕ) (b : Bound) → slice_get bs i ≡ Some b → begins_document b.marker ≡ true → some_begin (drop i bs) ≡ true

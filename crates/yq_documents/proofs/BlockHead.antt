@@ -1,11 +1,7 @@
 -- The head that a block scalar is.
 use Rattle.std.proofs.Common.{◌≡◌, ℕ, ℤ, List, drop, Option, Some, None, refl, sym, ap, ◌∙◌, subst}
-use Rattle.yq_core.specs.Answers.{◌>>=◌}
-use Rattle.yq_core.specs.Block.{BlockText, block_piece, IsBlockPiece}
-use Rattle.yq_core.specs.BlockContent.{block_content}
-use Rattle.yq_core.specs.BlockReading.{block_at, block_from}
-use Rattle.yq_core.specs.Piece.{deeper}
-use Rattle.yq_core.specs.declared.piece.Piece.{Piece}
+use Rattle.yq_core.{specs.Answers.◌>>=◌, specs.Block.{BlockText, block_piece, IsBlockPiece}, specs.BlockContent.block_content}
+use Rattle.yq_core.{specs.BlockReading.{block_at, block_from}, specs.Piece.deeper, specs.declared.piece.Piece.Piece}
 use Rattle.yq_core.proofs.BlockLaws.{block_again}
 use Rattle.yq_documents.specs.RowReading.{string_head, block_head_at}
 

@@ -1,8 +1,7 @@
 -- The texts of comment lines.
 use Rattle.std.proofs.Common.{◌≡◌, ℕ, true, false, eqb, List, [], ◌∷◌, drop, Some, None, refl, sym, ap, ◌∙◌}
 use Rattle.std.proofs.lemmas.Bool.{cond-true, cond-false, and_parts}
-use Rattle.yq_core.specs.Text.{cut, front, ends_line, text_lines, past_white, with_first}
-use Rattle.yq_core.specs.Nodes.{begins_with}
+use Rattle.yq_core.{specs.Text.{cut, front, ends_line, text_lines, past_white, with_first}, specs.Nodes.begins_with}
 use Rattle.yq_outline.specs.Comments.{less_space, comment_text, are_comments, last_comments}
 use Rattle.yq_documents.specs.Texts.{text_then, texts}
 

@@ -1,15 +1,15 @@
 -- What is asked of a document, as a test and as a fact.
 use Rattle.std.proofs.Common.{◌≡◌, ℕ, leb, List, [], ◌∷◌, length, true, not, ◌&&◌, refl, ap, bytes_eq, codes, rules}
-use Rattle.std.proofs.lemmas.Bool.{and_parts, and_from, leb-true, le-leb, not-true}
-use Rattle.std.specs.Str.{chars}
-use Rattle.yq_core.specs.Nodes as inline
+use Rattle.std.{proofs.lemmas.Bool.{and_parts, and_from, leb-true, le-leb, not-true}, specs.Str.chars}
 use Rattle.yq_core.specs.Nodes.{Items, none, item}
-use Rattle.yq_row_table.specs.Grammar.{key_limit}
-use Rattle.yq_row_table.specs.Rows as rows
-use Rattle.yq_row_table.specs.Rows.{Content, Inline, Row}
-use Rattle.yq_documents.specs.Documents.{IsFit, HasFitKey, HasFitKeys, EachHasFitKeys, ContentHasFitKeys, MarkIsFit, HaveFitKeys, HasShortRoot}
-use Rattle.yq_documents.specs.Reading.{is_fit, has_fit_key, has_fit_keys, each_has_fit_keys, content_is_fit, mark_is_fit, have_fit_keys, has_short_root}
+use Rattle.yq_row_table.{specs.Grammar.key_limit, specs.Rows.{Content, Inline, Row}}
+use Rattle.yq_documents.specs.Documents.{IsFit, HasFitKey, HasFitKeys, EachHasFitKeys, ContentHasFitKeys, MarkIsFit, HaveFitKeys}
+use Rattle.yq_documents.specs.Documents.{HasShortRoot}
+use Rattle.yq_documents.specs.Reading.{is_fit, has_fit_key, has_fit_keys, each_has_fit_keys, content_is_fit, mark_is_fit, have_fit_keys}
+use Rattle.yq_documents.specs.Reading.{has_short_root}
 use Rattle.yq_outline.proofs.KeyLaws.{differ, differs}
+use Rattle.yq_core.specs.Nodes as inline
+use Rattle.yq_row_table.specs.Rows as rows
 
 -- keys
 fit_is : (key : List ℕ) → is_fit key ≡ true → IsFit key

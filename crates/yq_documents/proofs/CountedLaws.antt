@@ -1,8 +1,6 @@
 -- How many items and entries nodes have.
 use Rattle.std.proofs.Common.{◌≡◌, List, [], ◌∷◌, length, refl, ap, suc}
-use Rattle.yq_core.specs.declared.inline.Inline.{Inline}
-use Rattle.yq_core.specs.Trees.{parts_tree}
-use Rattle.yq_core.specs.View.{items_end, entries_end}
+use Rattle.yq_core.{specs.declared.inline.Inline.Inline, specs.Trees.parts_tree, specs.View.{items_end, entries_end}}
 use Rattle.yq_outline.specs.Counts.{count}
 use Rattle.yq_documents.proofs.FlowLaws.{Field}
 

@@ -1,11 +1,8 @@
 -- What a search finds among what is made of rows.
-use Rattle.std.proofs.Common.{◌≡◌, ℕ, zero, suc, ◌<◌, ◌≤◌, true, false, ltb, List, [], ◌∷◌, length, slice_index_or, Some, None, sym, refl, ap, ◌∙◌, arith, ltb-true, ltb-false, eq-eqb, ne_eqb}
-use Rattle.std.proofs.lemmas.Bool.{cond-false, cond-true}
-use Rattle.std.proofs.lemmas.Option.{same_Some}
-use Rattle.std.specs.List.{slice_get}
-use Rattle.std.specs.List.Sorted.{IsNonDecreasingBy, IsPartitionPoint}
-use Rattle.yq_documents.specs.Decoded.{Rise, decoded_at}
-use Rattle.yq_documents.specs.declared.decoded.Decoded.{Decoded}
+use Rattle.std.proofs.Common.{◌≡◌, ℕ, zero, suc, ◌<◌, ◌≤◌, true, false, ltb, List, [], ◌∷◌, length, slice_index_or, Some, None, sym, refl}
+use Rattle.std.{proofs.Common.{ap, ◌∙◌, arith, ltb-true, ltb-false, eq-eqb, ne_eqb}, proofs.lemmas.Bool.{cond-false, cond-true}}
+use Rattle.std.{proofs.lemmas.Option.same_Some, specs.List.slice_get, specs.List.Sorted.{IsNonDecreasingBy, IsPartitionPoint}}
+use Rattle.yq_documents.{specs.Decoded.{Rise, decoded_at}, specs.declared.decoded.Decoded.Decoded}
 
 -- their rows rise
 rise_above : (n : ℕ) (ms : List Decoded) (j : ℕ) (d : Decoded) → Rise n ms → j < length ms → n ≤ (slice_index_or ms j d).row

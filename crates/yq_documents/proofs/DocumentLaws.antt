@@ -1,19 +1,13 @@
 -- Documents, read from parts and told by them.
 use Rattle.std.proofs.Common.{◌≡◌, List, [], ◌∷◌, map, Bool, true, ◌&&◌, refl, sym, rules}
-use Rattle.std.proofs.lemmas.Bool.{and_parts, and_from, leb-true, le-leb, cond-true}
-use Rattle.std.proofs.lemmas.Option.{cond_some}
-use Rattle.std.specs.List.{list_all}
+use Rattle.std.{proofs.lemmas.Bool.{and_parts, and_from, leb-true, le-leb, cond-true}, proofs.lemmas.Option.cond_some, specs.List.list_all}
 use Rattle.yq_core.specs.Tree.{Node}
 use Rattle.yq_row_table.specs.Rows.{Part}
-use Rattle.yq_documents.specs.Documents.{Document, IsRoot, IsDocument, AreDocuments}
-use Rattle.yq_outline.specs.Group.{group, is_fine}
-use Rattle.yq_outline.specs.Outline.{Line, value}
-use Rattle.yq_documents.specs.Reading.{part_document, is_document}
-use Rattle.yq_outline.proofs.ByRules.{rules_from, rules_give}
+use Rattle.yq_documents.{specs.Documents.{Document, IsRoot, IsDocument, AreDocuments}, specs.Reading.{part_document, is_document}}
 use Rattle.yq_documents.proofs.Conditions.{keys_are, are_keys, short_is, is_short}
+use Rattle.yq_outline.{specs.Group.{group, is_fine}, specs.Outline.{Line, value}, proofs.ByRules.{rules_from, rules_give}}
 use Rattle.yq_outline.proofs.NameConditions.{anchors_are, are_anchors, bound_are, are_bound_of}
-use Rattle.yq_outline.proofs.Decides.{stand-sound, stand-complete}
-use Rattle.yq_outline.proofs.KeyLaws.{unique_is, is_unique}
+use Rattle.yq_outline.{proofs.Decides.{stand-sound, stand-complete}, proofs.KeyLaws.{unique_is, is_unique}}
 
 -- the root of lines, as a test and as a fact
 root_is : (ls : List Line) → is_fine (group ls) ≡ true → IsRoot ls (value (group ls))

@@ -1,16 +1,13 @@
 -- The keys of a node by their places are its keys.
-use Rattle.std.proofs.Common.{◌≡◌, ℕ, ◌+◌, ◌-◌, true, false, cond, ◌&&◌, eqb, List, [], ◌∷◌, ◌++◌, length, take, drop, refl, sym, ap, ◌∙◌, arith, append_assoc, length-append, get_or, subst, ◌<◌}
-use Rattle.std.specs.Prelude.{String}
-use Rattle.std.specs.declared.alloc.Global.{Global}
-use Rattle.yq_core.specs.declared.piece.Piece.{Piece}
-use Rattle.yq_core.specs.declared.inline.Inline.{Inline}
-use Rattle.yq_core.specs.View.{inline_view, items_end, entries_end}
-use Rattle.std.proofs.lemmas.List.{take_at, drop_at, drop_more}
-use Rattle.yq_core.specs.Nodes.{Key, bare, keyed, Sep, last, comma, FlowNode, empty, alias, scalar, coll, anchored, Items, none, item, key_text, sep_text, node_text, flow_items_text, opening_bracket}
+use Rattle.std.proofs.Common.{◌≡◌, ℕ, ◌+◌, ◌-◌, true, false, cond, ◌&&◌, eqb, List, [], ◌∷◌, ◌++◌, length, take, drop, refl, sym, ap, ◌∙◌}
+use Rattle.std.{proofs.Common.{arith, append_assoc, length-append, get_or, subst, ◌<◌}, specs.Prelude.String}
+use Rattle.std.{specs.declared.alloc.Global.Global, proofs.lemmas.List.{take_at, drop_at, drop_more}}
+use Rattle.yq_core.{specs.declared.piece.Piece.Piece, specs.declared.inline.Inline.Inline, specs.View.{inline_view, items_end, entries_end}}
+use Rattle.yq_core.specs.Nodes.{Key, bare, keyed, Sep, last, comma, FlowNode, empty, alias, scalar, coll, anchored, Items, none, item}
+use Rattle.yq_core.specs.Nodes.{key_text, sep_text, node_text, flow_items_text, opening_bracket}
 use Rattle.yq_core.specs.Places.{Placed, placed, sequence, mapping, Parts, holder, key_placed, anchored_node, locate, locate_items}
-use Rattle.yq_core.proofs.NodesWrittenLaws.{node_then}
+use Rattle.yq_core.{proofs.NodesWrittenLaws.node_then, specs.Spans.{HasSpans, PartsHaveSpans}}
 use Rattle.yq_documents.specs.Reading.{is_fit, has_fit_key, has_fit_keys, each_has_fit_keys}
-use Rattle.yq_core.specs.Spans.{HasSpans, PartsHaveSpans}
 use Rattle.yq_documents.specs.KeyReading.{EndsIn, key_place_fits, node_fits, form_fits, parts_fit}
 
 pub past : (whole a t : List ℕ) → EndsIn whole (a ++ t) → EndsIn whole t

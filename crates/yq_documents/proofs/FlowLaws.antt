@@ -1,14 +1,10 @@
 -- The items and entries of flow collections, one after the other.
-use Rattle.std.proofs.Common.{◌≡◌, ℕ, zero, suc, ◌+◌, ◌<◌, ◌≤◌, true, false, ltb, List, [], ◌∷◌, length, drop, get_or, Option, Some, None, refl, sym, ap, ◌∙◌, ⊎_elim, arith, String, string_bytes}
-use Rattle.std.proofs.lemmas.Bool.{false≢true, ltb-true, lt-ltb, cases_lt}
-use Rattle.std.proofs.lemmas.List.{drop_more, drop_all}
-use Rattle.std.specs.declared.alloc.Global.{Global}
-use Rattle.std.specs.Str.{bytes_eq}
-use Rattle.yq_core.specs.declared.piece.Piece.{Piece}
-use Rattle.yq_core.specs.Paths.{To, Nth}
-use Rattle.yq_core.specs.Tree.{Children, key_label}
-use Rattle.yq_core.specs.declared.inline.Inline.{Inline}
-use Rattle.yq_core.specs.Trees.{placed_tree, parts_tree}
+use Rattle.std.proofs.Common.{◌≡◌, ℕ, zero, suc, ◌+◌, ◌<◌, ◌≤◌, true, false, ltb, List, [], ◌∷◌, length, drop, get_or, Option, Some, None}
+use Rattle.std.proofs.Common.{refl, sym, ap, ◌∙◌, ⊎_elim, arith, String, string_bytes}
+use Rattle.std.{proofs.lemmas.Bool.{false≢true, ltb-true, lt-ltb, cases_lt}, proofs.lemmas.List.{drop_more, drop_all}}
+use Rattle.std.{specs.declared.alloc.Global.Global, specs.Str.bytes_eq}
+use Rattle.yq_core.{specs.declared.piece.Piece.Piece, specs.Paths.{To, Nth}, specs.Tree.{Children, key_label}}
+use Rattle.yq_core.{specs.declared.inline.Inline.Inline, specs.Trees.{placed_tree, parts_tree}}
 use Rattle.yq_core.specs.View.{inline_view, items_end, entries_end}
 use Rattle.yq_outline.specs.Labelled.{Labelled, labelled_at}
 

@@ -1,39 +1,25 @@
 -- The head of a row is that of its content.
-use Rattle.std.proofs.Common.{◌≡◌, ℕ, ℤ, ◌-◌, arith, Bool, true, false, cond, not, eqb, List, [], ◌∷◌, ◌++◌, length, drop, Option, Some, None, refl, sym, ap, ◌∙◌, ⊎_elim, append-nil, length-append, subst}
-use Rattle.std.proofs.lemmas.Bool.{false≢true, cond_both, and_parts, cases_Bool}
-use Rattle.std.proofs.lemmas.List.{drop_at}
-use Rattle.std.proofs.lemmas.Str.{IsCharBoundary-at_seam}
-use Rattle.std.specs.Str.{IsUtf8, IsCharBoundary}
-use Rattle.yq_core.specs.declared.block_header.BlockStyle.{BlockStyle}
-use Rattle.yq_core.specs.declared.block_header.BlockStyle.TheVariants as styles
-use Rattle.yq_core.specs.Block.{style_indicator, BlockText, block_text, IsBlock}
-use Rattle.yq_core.specs.Answers.{◌>>=◌}
-use Rattle.yq_core.specs.declared.style.Place.TheVariants as places
-use Rattle.yq_core.specs.Piece.{deeper}
-use Rattle.yq_core.specs.Tree as trees
-use Rattle.yq_core.specs.Plain.{holds_break}
-use Rattle.yq_core.specs.Scalar.{plain_of}
-use Rattle.yq_core.specs.Text.{is_empty}
-use Rattle.yq_core.proofs.BlockLaws.{block_again}
-use Rattle.yq_core.specs.Inline.{depth_limit, IsInlineAt}
+use Rattle.std.proofs.Common.{◌≡◌, ℕ, ℤ, ◌-◌, arith, Bool, true, false, cond, not, eqb, List, [], ◌∷◌, ◌++◌, length, drop, Option, Some}
+use Rattle.std.proofs.Common.{None, refl, sym, ap, ◌∙◌, ⊎_elim, append-nil, length-append, subst}
+use Rattle.std.{proofs.lemmas.Bool.{false≢true, cond_both, and_parts, cases_Bool}, proofs.lemmas.List.drop_at}
+use Rattle.std.{proofs.lemmas.Str.IsCharBoundary-at_seam, specs.Str.{IsUtf8, IsCharBoundary}}
+use Rattle.yq_core.{specs.declared.block_header.BlockStyle.BlockStyle, specs.Block.{style_indicator, BlockText, block_text, IsBlock}}
+use Rattle.yq_core.{specs.Answers.◌>>=◌, specs.Piece.deeper, specs.Plain.holds_break, specs.Scalar.plain_of, specs.Text.is_empty}
+use Rattle.yq_core.{proofs.BlockLaws.block_again, specs.Inline.{depth_limit, IsInlineAt}}
 use Rattle.yq_core.specs.Nodes.{FlowNode, empty, alias, scalar, coll, anchored, node_text, flow_items_text, is_empty_node, IsFlowNode}
 use Rattle.yq_core.specs.Places.{placed, mapping, sequence, Parts, holder, locate, locate_items}
 use Rattle.yq_core.specs.Scalars.{IsScalarAt, is_quoted, begins_scalar, scalar_content, scalar_of}
-use Rattle.yq_core.specs.Trees.{scalar_node, placed_tree, tree_of, node_head}
-use Rattle.yq_core.proofs.NodeAgain.{is_anchored, takes_unanchored}
-use Rattle.yq_core.proofs.InlineLaws.{inline_again}
-use Rattle.yq_core.proofs.NodesPieceLaws.{front_not, scalar_begins, scalar_some}
-use Rattle.yq_core.proofs.TreeLaws.{node_tree}
-use Rattle.yq_core.proofs.NodesWrittenLaws.{node_then}
-use Rattle.yq_row_table.specs.Grammar.{IsContent}
-use Rattle.yq_row_table.specs.Rows.{Content, Nothing, Inline, Block}
-use Rattle.yq_row_table.specs.View.{anchor_cut, content_cut}
-use Rattle.yq_documents.specs.KeyReading.{EndsIn}
-use Rattle.yq_outline.specs.Lines.{head_of}
-use Rattle.yq_documents.specs.Reading.{has_fit_keys, content_is_fit}
-use Rattle.yq_documents.specs.RowReading.{placed_head, is_short_plain, is_block_head, string_head, block_head_at, fit_head, node_head_at, read_head}
-use Rattle.yq_documents.proofs.FlowKeyLaws.{keys_there}
-use Rattle.yq_outline.proofs.OneLine.{one_line}
+use Rattle.yq_core.{specs.Trees.{scalar_node, placed_tree, tree_of, node_head}, proofs.NodeAgain.{is_anchored, takes_unanchored}}
+use Rattle.yq_core.{proofs.InlineLaws.inline_again, proofs.NodesPieceLaws.{front_not, scalar_begins, scalar_some}}
+use Rattle.yq_core.{proofs.TreeLaws.node_tree, proofs.NodesWrittenLaws.node_then}
+use Rattle.yq_row_table.{specs.Grammar.IsContent, specs.Rows.{Content, Nothing, Inline, Block}, specs.View.{anchor_cut, content_cut}}
+use Rattle.yq_documents.{specs.KeyReading.EndsIn, specs.Reading.{has_fit_keys, content_is_fit}}
+use Rattle.yq_documents.specs.RowReading.{placed_head, is_short_plain, is_block_head, string_head, block_head_at, fit_head, node_head_at}
+use Rattle.yq_documents.{specs.RowReading.read_head, proofs.FlowKeyLaws.keys_there}
+use Rattle.yq_outline.{specs.Lines.head_of, proofs.OneLine.one_line}
+use Rattle.yq_core.specs.declared.block_header.BlockStyle.TheVariants as styles
+use Rattle.yq_core.specs.declared.style.Place.TheVariants as places
+use Rattle.yq_core.specs.Tree as trees
 
 -- an inline node that is read is its head
 holder_head : (s c e k : ℕ) (parts : Parts) → placed_head (placed None s c e (holder k parts)) ≡ Some (placed_tree (placed None s c e (holder k parts)))

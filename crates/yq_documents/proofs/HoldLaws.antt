@@ -1,25 +1,15 @@
 -- What is kept of a text that reads as documents tells it.
 use Rattle.std.proofs.Common.{◌≡◌, ℕ, ◌<◌, ◌≤◌, List, length, Option, Some, option_map, Bool, true, false, sym, ap, ◌∙◌, subst, arith}
-use Rattle.std.proofs.lemmas.List.{length-map}
-use Rattle.std.proofs.lemmas.Option.{same_Some, slice_get-map, slice_get_within}
+use Rattle.std.{proofs.lemmas.List.length-map, proofs.lemmas.Option.{same_Some, slice_get-map, slice_get_within}}
 use Rattle.std.specs.List.{list_any, slice_get}
-use Rattle.yq_outline.specs.Comments.{head_comment}
-use Rattle.yq_outline.specs.Names.{is_reference, line_names}
-use Rattle.yq_row_table.specs.Grammar.{IsCut}
-use Rattle.yq_row_table.specs.Rows.{Row, Part}
-use Rattle.yq_row_table.specs.View.{rows_of, RowsView, rows_view}
-use Rattle.yq_text.specs.Limit.{text_limit}
-use Rattle.yq_outline.specs.Extents.{IsRowsView}
+use Rattle.yq_outline.{specs.Comments.head_comment, specs.Names.{is_reference, line_names}, specs.Extents.IsRowsView}
 use Rattle.yq_outline.specs.declared.line_position.Stretch.{Stretch}
-use Rattle.yq_documents.specs.Documents.{Document, document_parts}
-use Rattle.yq_documents.specs.Holding.{Holds}
-use Rattle.yq_documents.specs.Located.{document_at}
-use Rattle.yq_documents.specs.Decoded.{IsDecoded}
-use Rattle.yq_documents.specs.Reading.{all_documents, cut_of, part_document, documents_of}
-use Rattle.yq_documents.specs.Stretches.{HasText, document_lines, part_rows, stretch_of}
-use Rattle.yq_documents.specs.declared.decoded.Decoded.{Decoded}
-use Rattle.yq_documents.specs.declared.documents.DocumentRows.{DocumentRows}
-use Rattle.yq_documents.proofs.PartRows.{has_part}
+use Rattle.yq_row_table.{specs.Grammar.IsCut, specs.Rows.{Row, Part}, specs.View.{rows_of, RowsView, rows_view}}
+use Rattle.yq_text.specs.Limit.{text_limit}
+use Rattle.yq_documents.{specs.Documents.{Document, document_parts}, specs.Holding.Holds, specs.Located.document_at}
+use Rattle.yq_documents.{specs.Decoded.IsDecoded, specs.Reading.{all_documents, cut_of, part_document, documents_of}}
+use Rattle.yq_documents.{specs.Stretches.{HasText, document_lines, part_rows, stretch_of}, specs.declared.decoded.Decoded.Decoded}
+use Rattle.yq_documents.{specs.declared.documents.DocumentRows.DocumentRows, proofs.PartRows.has_part}
 
 same_stretch : (x y : Stretch) → x.first ≡ y.first → x.end ≡ y.end → x ≡ y
 same_stretch x y a b = λ i. record { first = a i; end = b i }

@@ -1,30 +1,18 @@
 -- What is written in the lines of a document, by the pieces of their rows.
-use Rattle.std.proofs.Common.{◌≡◌, ◌⊎◌, inl, inr, ◌<◌, ◌≤◌, ◌-◌, ℕ, zero, suc, List, [], ◌∷◌, ◌++◌, length, Option, Some, None, true, false, refl, sym, ap, ◌∙◌, subst, arith}
-use Rattle.std.proofs.lemmas.Bool.{cases_lt, false≢true}
-use Rattle.std.proofs.lemmas.Option.{same_Some}
-use Rattle.std.specs.List.{slice_get}
-use Rattle.std.specs.Prelude.{is_some}
-use Rattle.yq_core.specs.Scalars.{scalar_content, is_quoted}
-use Rattle.yq_outline.specs.Comments as comments
-use Rattle.yq_outline.specs.Outline.{Line, key_of}
-use Rattle.yq_row_table.specs.Grammar.{AreRows, Limit, limit_after}
-use Rattle.yq_row_table.specs.Rows.{Row, parent_indent, rows_text}
-use Rattle.yq_row_table.specs.View.{RowsView, Slices, slices}
-use Rattle.yq_core.specs.Quoted.{IsQuotedText}
-use Rattle.yq_core.specs.Text.{upto}
-use Rattle.yq_core.specs.Tree.{Node}
-use Rattle.yq_outline.specs.Extents.{lines_before_mark}
-use Rattle.yq_outline.specs.Lines.{head_of}
-use Rattle.yq_outline.specs.RowWalk.{line_rank}
-use Rattle.yq_outline.specs.declared.line_position.Position.{Position}
-use Rattle.yq_outline.specs.declared.line_position.Stretch.{Stretch}
-use Rattle.yq_outline.proofs.RowLaws.{IsBeside, beside_in, no_comments}
-use Rattle.yq_outline.proofs.WalkMarks.{key_here, key_none}
+use Rattle.std.proofs.Common.{◌≡◌, ◌⊎◌, inl, inr, ◌<◌, ◌≤◌, ◌-◌, ℕ, zero, suc, List, [], ◌∷◌, ◌++◌, length, Option, Some, None, true, false}
+use Rattle.std.{proofs.Common.{refl, sym, ap, ◌∙◌, subst, arith}, proofs.lemmas.Bool.{cases_lt, false≢true}, proofs.lemmas.Option.same_Some}
+use Rattle.std.{specs.List.slice_get, specs.Prelude.is_some}
+use Rattle.yq_core.{specs.Scalars.{scalar_content, is_quoted}, specs.Quoted.IsQuotedText, specs.Text.upto, specs.Tree.Node}
+use Rattle.yq_outline.{specs.Outline.{Line, key_of}, specs.Extents.lines_before_mark, specs.Lines.head_of, specs.RowWalk.line_rank}
+use Rattle.yq_outline.{specs.declared.line_position.Position.Position, specs.declared.line_position.Stretch.Stretch}
+use Rattle.yq_outline.{proofs.RowLaws.{IsBeside, beside_in, no_comments}, proofs.WalkMarks.{key_here, key_none}}
 use Rattle.yq_outline.proofs.WalkPositions.{Located}
-use Rattle.yq_documents.specs.RowReading.{name_in}
-use Rattle.yq_documents.specs.Stretches.{HasText, IsLineIn, document_lines, number_of}
+use Rattle.yq_row_table.{specs.Grammar.{AreRows, Limit, limit_after}, specs.Rows.{Row, parent_indent, rows_text}}
+use Rattle.yq_row_table.specs.View.{RowsView, Slices, slices}
+use Rattle.yq_documents.{specs.RowReading.name_in, specs.Stretches.{HasText, IsLineIn, document_lines, number_of}}
 use Rattle.yq_documents.proofs.WalkedRows.{line_here, located_in, own_line, stands}
 use Rattle.yq_documents.proofs.RowLineLaws.{anchor_is, content_quoted, tail_is}
+use Rattle.yq_outline.specs.Comments as comments
 
 -- of no text there is no comment
 no_line_comment : comments.line_comment [] ≡ None

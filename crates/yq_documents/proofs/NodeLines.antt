@@ -1,8 +1,6 @@
 -- What lines of documents begin with, and the nodes that they stand for.
-use Rattle.std.proofs.Common.{◌≡◌, ℕ, List, true, false, not, refl, sym}
-use Rattle.std.proofs.lemmas.Bool.{false≢true}
-use Rattle.yq_core.specs.Paths.{is_item}
-use Rattle.yq_core.specs.Tree.{none}
+use Rattle.std.{proofs.Common.{◌≡◌, ℕ, List, true, false, not, refl, sym}, proofs.lemmas.Bool.false≢true}
+use Rattle.yq_core.{specs.Paths.is_item, specs.Tree.none}
 use Rattle.yq_outline.specs.Ends.{has_no_lines}
 use Rattle.yq_outline.specs.Outline.{LineMark, Bare, Key, Dash, Outline, end, row, children, key_of, null_node, value}
 use Rattle.yq_outline.specs.Positions.{has_no_mark}

@@ -1,17 +1,13 @@
 -- Documents by the numbers of their parts, and where parts stand.
-use Rattle.std.proofs.Common.{◌≡◌, ℕ, zero, suc, ◌+◌, ◌-◌, ◌<◌, ◌≤◌, eqb, List, [], ◌∷◌, ◌++◌, length, drop, Option, Some, None, option_map, Bool, true, false, cond, ◌&&◌, ◌||◌, not, refl, sym, ap, ◌∙◌, arith, append-nil, length-append}
-use Rattle.std.proofs.Math.Seq.{drop-append-add}
-use Rattle.std.proofs.lemmas.Bool.{eq-eqb, eqb-true, false≢true}
-use Rattle.std.proofs.lemmas.Option.{same_Some}
+use Rattle.std.proofs.Common.{◌≡◌, ℕ, zero, suc, ◌+◌, ◌-◌, ◌<◌, ◌≤◌, eqb, List, [], ◌∷◌, ◌++◌, length, drop, Option, Some, None, option_map}
+use Rattle.std.proofs.Common.{Bool, true, false, cond, ◌&&◌, ◌||◌, not, refl, sym, ap, ◌∙◌, arith, append-nil, length-append}
+use Rattle.std.{proofs.Math.Seq.drop-append-add, proofs.lemmas.Bool.{eq-eqb, eqb-true, false≢true}, proofs.lemmas.Option.same_Some}
 use Rattle.std.specs.List.{slice_get}
-use Rattle.yq_row_table.specs.Grammar.{begins_document}
-use Rattle.yq_row_table.specs.Rows.{Row, Part, Cut, last, marked}
-use Rattle.yq_row_table.specs.Splices.{nth_part}
+use Rattle.yq_row_table.{specs.Grammar.begins_document, specs.Rows.{Row, Part, Cut, last, marked}, specs.Splices.nth_part}
 use Rattle.yq_row_table.specs.View.{Bound, bounds_from, rows_of, RowsView, rows_view}
 use Rattle.yq_documents.specs.Documents.{parts_from, document_parts, begins_bare, has_begin}
 use Rattle.yq_documents.specs.PartNumbers.{number_from, part_number, document_part, rows_to}
-use Rattle.yq_documents.specs.PartReading.{some_begin, first_rows, number_in}
-use Rattle.yq_documents.proofs.BeginLaws.{document_is}
+use Rattle.yq_documents.{specs.PartReading.{some_begin, first_rows, number_in}, proofs.BeginLaws.document_is}
 
 -- a document is the part of its number
 number_is : (is : Bool) (k : ℕ) (c : Cut) (p : Part) → slice_get (parts_from is c) k ≡ Some p → nth_part (number_from is k c) c ≡ p

@@ -1,25 +1,14 @@
 -- The rows of a document among those of a text.
-use Rattle.std.proofs.Common.{◌≡◌, ℕ, zero, suc, ◌+◌, ◌-◌, ◌<◌, ◌≤◌, List, [], ◌∷◌, ◌++◌, length, map, take, drop, Some, true, refl, sym, ap, ◌∙◌, subst, arith, length-append}
-use Rattle.std.proofs.lemmas.Bool.{and_parts}
-use Rattle.std.proofs.lemmas.List.{drop-map, length-map, length-drop, take_at, map-append}
-use Rattle.std.specs.List.{list_all, slice_get}
-use Rattle.yq_core.specs.Inline.{depth_limit}
-use Rattle.yq_outline.specs.Group.{group}
-use Rattle.yq_outline.specs.LinesReading.{have_one_anchor_each, are_bound}
-use Rattle.yq_outline.specs.Sound.{is_sound_outline}
-use Rattle.yq_row_table.specs.Grammar.{IsCut, unlimited, AreRows}
-use Rattle.yq_row_table.specs.Rows.{Row, Part, Cut}
-use Rattle.yq_row_table.specs.Splices.{nth_part, behind_part}
-use Rattle.yq_row_table.specs.View.{slices, rows_of, RowsView, rows_view}
-use Rattle.yq_row_table.proofs.splices.PartPlaces.{part_in}
-use Rattle.yq_core.specs.Anchors.{names_of}
-use Rattle.yq_outline.specs.Lines.{lines_of_rows}
-use Rattle.yq_outline.specs.RowWalk.{HasDocument, HasRows}
-use Rattle.yq_outline.specs.declared.line_position.Stretch.{Stretch}
-use Rattle.yq_documents.specs.Documents.{document_parts}
-use Rattle.yq_documents.specs.Reading.{all_documents, is_document, have_fit_keys, has_short_root, root_of}
-use Rattle.yq_documents.specs.PartNumbers.{part_number}
-use Rattle.yq_documents.specs.LinesInRows.{document_row}
+use Rattle.std.proofs.Common.{◌≡◌, ℕ, zero, suc, ◌+◌, ◌-◌, ◌<◌, ◌≤◌, List, [], ◌∷◌, ◌++◌, length, map, take, drop, Some, true, refl, sym}
+use Rattle.std.{proofs.Common.{ap, ◌∙◌, subst, arith, length-append}, proofs.lemmas.Bool.and_parts}
+use Rattle.std.{proofs.lemmas.List.{drop-map, length-map, length-drop, take_at, map-append}, specs.List.{list_all, slice_get}}
+use Rattle.yq_core.{specs.Inline.depth_limit, specs.Anchors.names_of}
+use Rattle.yq_outline.{specs.Group.group, specs.LinesReading.{have_one_anchor_each, are_bound}, specs.Sound.is_sound_outline}
+use Rattle.yq_outline.{specs.Lines.lines_of_rows, specs.RowWalk.{HasDocument, HasRows}, specs.declared.line_position.Stretch.Stretch}
+use Rattle.yq_row_table.{specs.Grammar.{IsCut, unlimited, AreRows}, specs.Rows.{Row, Part, Cut}, specs.Splices.{nth_part, behind_part}}
+use Rattle.yq_row_table.{specs.View.{slices, rows_of, RowsView, rows_view}, proofs.splices.PartPlaces.part_in}
+use Rattle.yq_documents.{specs.Documents.document_parts, specs.Reading.{all_documents, is_document, have_fit_keys, has_short_root, root_of}}
+use Rattle.yq_documents.{specs.PartNumbers.part_number, specs.LinesInRows.document_row}
 use Rattle.yq_documents.proofs.PartNumberLaws.{part_there, rows_there, rows_within}
 
 -- a document's rows stand among those of a cut, behind so many others

@@ -1,28 +1,21 @@
 -- Documents that are read are ready for the meaning of updates.
-use Rattle.std.proofs.Common.{◌≡◌, ℕ, ℤ, zero, suc, ◌+◌, eqb, Bool, true, false, cond, List, [], ◌∷◌, ◌++◌, map, Option, Some, None, refl, sym, ap, ◌∙◌, subst, rules}
-use Rattle.std.specs.List.{list_all, slice_get}
-use Rattle.std.proofs.lemmas.Bool.{and_parts, false≢true}
+use Rattle.std.proofs.Common.{◌≡◌, ℕ, ℤ, zero, suc, ◌+◌, eqb, Bool, true, false, cond, List, [], ◌∷◌, ◌++◌, map, Option, Some, None, refl}
+use Rattle.std.{proofs.Common.{sym, ap, ◌∙◌, subst, rules}, specs.List.{list_all, slice_get}, proofs.lemmas.Bool.{and_parts, false≢true}}
 use Rattle.std.proofs.lemmas.Option.{none-some}
-use Rattle.yq_core.specs.Shapes.{IsShaped, AreShaped, AreItems, AreKeyed}
-use Rattle.yq_core.specs.Tree as tree
-use Rattle.yq_core.specs.Tree.{Node, Children, children_of}
-use Rattle.yq_core.specs.Nodes as inline
-use Rattle.yq_core.specs.Nodes.{Items, IsFlowNode}
-use Rattle.yq_core.specs.Trees.{tree_of, items_tree, with_name, node_head}
-use Rattle.yq_outline.specs.Grammar as lines
-use Rattle.yq_outline.specs.Outline.{LineMark, Bare, Line}
-use Rattle.yq_outline.specs.ShapedLines.{HeadIsShaped, HeadsAreShaped, ShapedByLines, ShapedIsTree}
-use Rattle.yq_outline.specs.Sound.{is_entry_line}
+use Rattle.yq_core.{specs.Shapes.{IsShaped, AreShaped, AreItems, AreKeyed}, specs.Tree.{Node, Children, children_of}}
+use Rattle.yq_core.{specs.Nodes.{Items, IsFlowNode}, specs.Trees.{tree_of, items_tree, with_name, node_head}}
+use Rattle.yq_outline.{specs.Outline.{LineMark, Bare, Line}, specs.ShapedLines.{HeadIsShaped, HeadsAreShaped, ShapedByLines, ShapedIsTree}}
+use Rattle.yq_outline.{specs.Sound.is_entry_line, specs.Lines.{head_of, lines_from, row_lines, lines_of_rows}}
 use Rattle.yq_row_table.specs.Grammar.{Limit, limit_after, IsContent, AreRows, AreParts, IsCut, begins_document}
-use Rattle.yq_row_table.specs.Rows as rows
 use Rattle.yq_row_table.specs.Rows.{Content, Row, Part, Cut, last, marked, parent_indent}
 use Rattle.yq_documents.specs.Documents.{Document, IsRoot, IsDocument, ReadsDocuments, with_part, parts_from, document_parts, lead_of}
-use Rattle.yq_outline.specs.Lines.{head_of, lines_from, row_lines, lines_of_rows}
-use Rattle.yq_documents.specs.Reading.{part_document, is_document, all_documents, cut_of}
-use Rattle.yq_documents.specs.TreeEdits.{lead_by}
+use Rattle.yq_documents.{specs.Reading.{part_document, is_document, all_documents, cut_of}, specs.TreeEdits.lead_by}
 use Rattle.yq_documents.specs.Ready.{begins_no_node, part_is_block, IsReady, TextIsReady}
-use Rattle.yq_documents.proofs.DocumentLaws.{document_is, documents_again}
-use Rattle.yq_documents.proofs.ReadLaws.{cut_is}
+use Rattle.yq_documents.{proofs.DocumentLaws.{document_is, documents_again}, proofs.ReadLaws.cut_is}
+use Rattle.yq_core.specs.Tree as tree
+use Rattle.yq_core.specs.Nodes as inline
+use Rattle.yq_outline.specs.Grammar as lines
+use Rattle.yq_row_table.specs.Rows as rows
 
 -- ---- what is written in rows
 

@@ -1,26 +1,18 @@
 -- The alias or flow collection in a row's head stands where its pieces say.
-use Rattle.std.proofs.Common.{◌≡◌, ℕ, ℤ, ◌-◌, true, false, not, List, [], ◌∷◌, ◌++◌, length, Some, None, refl, sym, ap, ◌∙◌, ⊎_elim, append-nil, subst}
-use Rattle.std.proofs.lemmas.Bool.{false≢true, cases_Bool}
-use Rattle.yq_core.specs.Answers.{◌>>=◌}
-use Rattle.yq_core.specs.declared.style.Place.TheVariants as places
-use Rattle.yq_core.specs.Block.{style_indicator}
-use Rattle.yq_core.specs.Piece.{deeper}
-use Rattle.yq_core.specs.Text.{is_empty}
+use Rattle.std.proofs.Common.{◌≡◌, ℕ, ℤ, ◌-◌, true, false, not, List, [], ◌∷◌, ◌++◌, length, Some, None, refl, sym, ap, ◌∙◌, ⊎_elim}
+use Rattle.std.{proofs.Common.{append-nil, subst}, proofs.lemmas.Bool.{false≢true, cases_Bool}}
+use Rattle.yq_core.{specs.Answers.◌>>=◌, specs.Block.style_indicator, specs.Piece.deeper, specs.Text.is_empty}
 use Rattle.yq_core.specs.Inline.{depth_limit, IsInlineAt}
-use Rattle.yq_core.specs.Nodes.{FlowNode, empty, alias, scalar, coll, anchored, node_text, flow_items_text, is_empty_node, IsFlowNode, without_anchor}
-use Rattle.yq_core.specs.Places.{locate}
-use Rattle.yq_core.specs.Scalars.{is_quoted}
-use Rattle.yq_core.proofs.InlineLaws.{inline_again}
-use Rattle.yq_core.proofs.NodeAgain.{is_anchored, takes_unanchored}
-use Rattle.yq_core.proofs.NodesWrittenLaws.{node_then}
-use Rattle.yq_row_table.specs.Grammar.{IsContent}
-use Rattle.yq_row_table.specs.Rows.{Content, Nothing, Inline, Block, parent_indent}
+use Rattle.yq_core.specs.Nodes.{FlowNode, empty, alias, scalar, coll, anchored, node_text, flow_items_text, is_empty_node, IsFlowNode}
+use Rattle.yq_core.{specs.Nodes.without_anchor, specs.Places.locate, specs.Scalars.is_quoted, proofs.InlineLaws.inline_again}
+use Rattle.yq_core.{proofs.NodeAgain.{is_anchored, takes_unanchored}, proofs.NodesWrittenLaws.node_then}
+use Rattle.yq_row_table.{specs.Grammar.IsContent, specs.Rows.{Content, Nothing, Inline, Block, parent_indent}}
 use Rattle.yq_row_table.specs.View.{Slices, anchor_cut, content_cut}
 use Rattle.yq_documents.specs.FlowReading.{alias_or_collection, node_flow_at, head_flow_at, content_core, row_flow}
-use Rattle.yq_documents.specs.KeyReading.{EndsIn}
-use Rattle.yq_outline.specs.Lines.{tail_of}
-use Rattle.yq_documents.specs.RowReading.{is_short_plain, is_block_head, HasHead}
+use Rattle.yq_documents.{specs.KeyReading.EndsIn, specs.RowReading.{is_short_plain, is_block_head, HasHead}}
 use Rattle.yq_documents.proofs.HeadLaws.{ends_drop, head_text, opens, block_marks, scalar_some_is}
+use Rattle.yq_outline.specs.Lines.{tail_of}
+use Rattle.yq_core.specs.declared.style.Place.TheVariants as places
 
 -- an inline node that is read
 node_again : (whole : List ℕ) (n : ℤ) (node : FlowNode) (rest : List ℕ) → is_empty_node node ≡ false → EndsIn whole (node_text node rest) → IsFlowNode false (Some (deeper n)) depth_limit node rest → node_flow_at whole n (node_text node rest) ≡ alias_or_collection (locate (length whole) node rest)

@@ -1,23 +1,15 @@
 -- What a row's anchor, head and tail are by its pieces, and its head again.
 use Rattle.std.proofs.Common.{◌≡◌, ℕ, ℤ, true, false, List, [], ◌∷◌, ◌++◌, Some, None, refl, sym, ap, ◌∙◌, subst, append-nil}
 use Rattle.std.proofs.lemmas.Bool.{false≢true}
-use Rattle.yq_core.specs.declared.block_header.BlockStyle.{BlockStyle}
-use Rattle.yq_core.specs.declared.block_header.BlockStyle.TheVariants as styles
-use Rattle.yq_core.specs.Block.{style_indicator as block_mark}
-use Rattle.yq_core.specs.Piece.{deeper}
-use Rattle.yq_core.specs.Quoted.{IsQuotedText}
-use Rattle.yq_core.specs.Inline.{depth_limit}
+use Rattle.yq_core.{specs.declared.block_header.BlockStyle.BlockStyle, specs.Block.style_indicator as block_mark, specs.Piece.deeper}
+use Rattle.yq_core.{specs.Quoted.IsQuotedText, specs.Inline.depth_limit}
 use Rattle.yq_core.specs.Nodes.{FlowNode, empty, alias, scalar, coll, anchored, node_text, flow_items_text, IsFlowNode}
-use Rattle.yq_core.proofs.NodeAgain.{is_anchored, takes_unanchored}
-use Rattle.yq_core.specs.Scalars.{is_quoted}
-use Rattle.yq_row_table.specs.Grammar.{IsContent}
-use Rattle.yq_row_table.specs.Rows.{Content, Nothing, Inline, Block, parent_indent}
+use Rattle.yq_core.{proofs.NodeAgain.{is_anchored, takes_unanchored}, specs.Scalars.is_quoted}
+use Rattle.yq_row_table.{specs.Grammar.IsContent, specs.Rows.{Content, Nothing, Inline, Block, parent_indent}}
 use Rattle.yq_row_table.specs.View.{Slices, anchor_cut, content_cut}
-use Rattle.yq_outline.specs.Lines.{content_anchor, head_of, tail_of}
-use Rattle.yq_documents.specs.KeyReading.{EndsIn}
-use Rattle.yq_documents.specs.RowReading.{name_in, read_head, HasHead}
-use Rattle.yq_outline.proofs.RowLaws.{scalar_quoted}
-use Rattle.yq_documents.proofs.HeadLaws.{fitting, head_is, opens}
+use Rattle.yq_outline.{specs.Lines.{content_anchor, head_of, tail_of}, proofs.RowLaws.scalar_quoted}
+use Rattle.yq_documents.{specs.KeyReading.EndsIn, specs.RowReading.{name_in, read_head, HasHead}, proofs.HeadLaws.{fitting, head_is, opens}}
+use Rattle.yq_core.specs.declared.block_header.BlockStyle.TheVariants as styles
 
 -- the pieces of a row tell its anchor and its tail
 pub anchor_is : (c : Content) → name_in (content_cut c).1 ≡ content_anchor c

@@ -3,9 +3,7 @@ use Rattle.std.proofs.Common.{◌≡◌, ℕ, Bool, true, false, cond, eqb, ◌&
 use Rattle.std.proofs.lemmas.Bool.{cond-true, cond-false}
 use Rattle.yq_core.specs.Text.{front, joined, text_lines, past_white}
 use Rattle.yq_outline.specs.Comments.{are_comments, last_comments}
-use Rattle.yq_documents.specs.Pieces.{before_run, last_run}
-use Rattle.yq_documents.specs.Texts.{texts}
-use Rattle.yq_documents.proofs.CommentLaws.{all_texts}
+use Rattle.yq_documents.{specs.Pieces.{before_run, last_run}, specs.Texts.texts, proofs.CommentLaws.all_texts}
 
 -- some lines, if all lines behind them are comments, else the run that ends those
 abbrev pub run_or : List (List ℕ) → List (List ℕ) → List (List ℕ)

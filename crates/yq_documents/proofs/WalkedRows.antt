@@ -1,20 +1,12 @@
 -- What walks over the rows of a text tell of the lines of a document.
 use Rattle.std.proofs.Common.{◌≡◌, ℕ, ◌+◌, ◌-◌, ◌<◌, List, length, Option, Some, None, option_map, sym, ap, ◌∙◌, subst, arith}
-use Rattle.std.proofs.lemmas.List.{length-map}
-use Rattle.std.proofs.lemmas.Option.{same_Some, slice_get-map}
-use Rattle.std.specs.List.{slice_get}
-use Rattle.yq_outline.specs.Group.{group}
-use Rattle.yq_outline.specs.Outline.{Line, value}
-use Rattle.yq_row_table.specs.Rows.{Row, Part, Cut}
-use Rattle.yq_row_table.specs.View.{rows_of, RowsView}
-use Rattle.yq_outline.specs.Lines.{lines_of_rows}
+use Rattle.std.{proofs.lemmas.List.length-map, proofs.lemmas.Option.{same_Some, slice_get-map}, specs.List.slice_get}
+use Rattle.yq_outline.{specs.Group.group, specs.Outline.{Line, value}, specs.Lines.lines_of_rows}
 use Rattle.yq_outline.specs.RowWalk.{HasDocument, HasRows, IsLine, IsPosition, OfLine, line_number}
-use Rattle.yq_outline.specs.declared.line_position.Position.{Position}
-use Rattle.yq_outline.specs.declared.line_position.Stretch.{Stretch}
-use Rattle.yq_outline.proofs.KnownLaws.{get_dropped, get_front}
-use Rattle.yq_outline.proofs.WalkPositions.{Located, first_number, located}
-use Rattle.yq_documents.specs.Documents.{Document, document_parts}
-use Rattle.yq_documents.specs.Reading.{cut_of, part_document, documents_of}
+use Rattle.yq_outline.{specs.declared.line_position.Position.Position, specs.declared.line_position.Stretch.Stretch}
+use Rattle.yq_outline.{proofs.KnownLaws.{get_dropped, get_front}, proofs.WalkPositions.{Located, first_number, located}}
+use Rattle.yq_row_table.{specs.Rows.{Row, Part, Cut}, specs.View.{rows_of, RowsView}}
+use Rattle.yq_documents.{specs.Documents.{Document, document_parts}, specs.Reading.{cut_of, part_document, documents_of}}
 use Rattle.yq_documents.specs.LinesInRows.{document_row}
 use Rattle.yq_documents.specs.Stretches.{HasText, IsLineIn, IsPositionIn, OfLineIn, document_lines, rows_of_document, number_of, part_rows}
 use Rattle.yq_documents.proofs.PartRows.{document_has, has_part, part_begins}

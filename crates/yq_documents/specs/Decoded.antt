@@ -1,19 +1,11 @@
 -- Reading (own; a reader may skip it): what rows spell, as it is borrowed, or made where the text doesn't lend it.
-use Rattle.std.specs.Prelude.{◌≡◌, ℕ, suc, ◌-◌, ◌≤◌, ◌==◌, List, [], ◌∷◌, drop, length, take, Option, Some, None, option_and_then, option_map, string_bytes, if◌then◌else◌, ⊤}
-use Rattle.yq_core.specs.Scalar.{plain_of}
-use Rattle.yq_core.specs.Text.{is_empty}
-use Rattle.yq_core.specs.Tree.{Node}
-use Rattle.yq_core.specs.Places.{Placed}
-use Rattle.yq_core.specs.Scalars.{is_quoted, scalar_content}
-use Rattle.yq_core.specs.Trees.{scalar_node}
-use Rattle.yq_outline.specs.View.{head_flow, head_view}
-use Rattle.yq_row_table.specs.Exchange.{behind_row}
-use Rattle.yq_row_table.specs.Rows.{Row, Cut}
-use Rattle.yq_row_table.specs.View.{slices}
-use Rattle.yq_outline.specs.Lines.{head_of}
-use Rattle.yq_documents.specs.FlowReading.{row_flow}
-use Rattle.yq_documents.specs.RowReading.{string_head}
-use Rattle.yq_documents.specs.declared.decoded.Decoded.{Decoded}
+use Rattle.std.specs.Prelude.{◌≡◌, ℕ, suc, ◌-◌, ◌≤◌, ◌==◌, List, [], ◌∷◌, drop, length, take, Option, Some, None, option_and_then}
+use Rattle.std.specs.Prelude.{option_map, string_bytes, if◌then◌else◌, ⊤}
+use Rattle.yq_core.{specs.Scalar.plain_of, specs.Text.is_empty, specs.Tree.Node, specs.Places.Placed}
+use Rattle.yq_core.{specs.Scalars.{is_quoted, scalar_content}, specs.Trees.scalar_node}
+use Rattle.yq_outline.{specs.View.{head_flow, head_view}, specs.Lines.head_of}
+use Rattle.yq_row_table.{specs.Exchange.behind_row, specs.Rows.{Row, Cut}, specs.View.slices}
+use Rattle.yq_documents.{specs.FlowReading.row_flow, specs.RowReading.string_head, specs.declared.decoded.Decoded.Decoded}
 
 -- what is made of row i, if anything is (own)
 abbrev pub decoded_at : ℕ → List Decoded → Option Decoded

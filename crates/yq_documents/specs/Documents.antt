@@ -1,22 +1,14 @@
 -- Documents, and what a text reads as (YAML 1.2.2, 9.1 and 9.2).
 use Rattle.std.specs.Prelude.{◌≡◌, ◌≢◌, ℕ, ◌≤◌, List, [], ◌∷◌, Bool, true, false, ◌||◌, ◌&&◌, not, codes, length, ⊤}
 use Rattle.std.specs.Str.{is_utf8, chars}
-use Rattle.yq_core.specs.Plain.{holds_break}
-use Rattle.yq_core.specs.Tree.{Node}
-use Rattle.yq_core.specs.Keys.{HasUniqueKeys, depth}
-use Rattle.yq_core.specs.Nodes as inline
-use Rattle.yq_core.specs.Nodes.{Items, none, item}
-use Rattle.yq_core.specs.Inline.{depth_limit}
-use Rattle.yq_outline.specs.Comments.{head_comment}
+use Rattle.yq_core.{specs.Plain.holds_break, specs.Tree.Node, specs.Keys.{HasUniqueKeys, depth}, specs.Nodes.{Items, none, item}}
+use Rattle.yq_core.{specs.Inline.depth_limit, specs.Anchors.{names_of, AreBound}}
+use Rattle.yq_outline.{specs.Comments.head_comment, specs.LineAnchors.HaveOneAnchorEach, specs.Grammar.IsNodeOutline}
+use Rattle.yq_outline.{specs.Lines.lines_of_rows, specs.Outline.{Line, null_node}}
 use Rattle.yq_row_table.specs.Grammar.{IsCut, is_plain_content, no_rows, begins_document, key_limit}
+use Rattle.yq_row_table.{specs.Rows.{Content, Nothing, Inline, Block, Row, Part, Cut, last, marked}, specs.Splices.first_gap}
+use Rattle.yq_core.specs.Nodes as inline
 use Rattle.yq_row_table.specs.Rows as rows
-use Rattle.yq_row_table.specs.Rows.{Content, Nothing, Inline, Block, Row, Part, Cut, last, marked}
-use Rattle.yq_row_table.specs.Splices.{first_gap}
-use Rattle.yq_core.specs.Anchors.{names_of, AreBound}
-use Rattle.yq_outline.specs.LineAnchors.{HaveOneAnchorEach}
-use Rattle.yq_outline.specs.Grammar.{IsNodeOutline}
-use Rattle.yq_outline.specs.Lines.{lines_of_rows}
-use Rattle.yq_outline.specs.Outline.{Line, null_node}
 
 -- A document: the comment before it and its root node (9.1; own).
 pub record Document : Type 0 where

@@ -1,16 +1,12 @@
 -- Reading (own; a reader may skip it: the grammar is what is believed, and the clauses `found` and `only` tie the two): aliases and flow collections in heads, with their places.
 use Rattle.std.specs.Prelude.{ℕ, ◌-◌, List, ◌++◌, length, Option, Some, None, if◌then◌else◌, ℤ}
-use Rattle.yq_core.specs.declared.style.Place.TheVariants as places
-use Rattle.yq_core.specs.Answers.{◌>>=◌}
-use Rattle.yq_core.specs.Text.{is_empty}
-use Rattle.yq_core.specs.Inline.{inline_at}
-use Rattle.yq_core.specs.Nodes.{FlowNode, empty, without_anchor}
-use Rattle.yq_core.specs.Places.{Placed, placed, CoreNode, nothing, name, text, sequence, mapping, locate}
-use Rattle.yq_core.specs.Scalars.{is_quoted}
-use Rattle.yq_row_table.specs.Rows as rows
+use Rattle.yq_core.{specs.Answers.◌>>=◌, specs.Text.is_empty, specs.Inline.inline_at, specs.Nodes.{FlowNode, empty, without_anchor}}
+use Rattle.yq_core.{specs.Places.{Placed, placed, CoreNode, nothing, name, text, sequence, mapping, locate}, specs.Scalars.is_quoted}
 use Rattle.yq_row_table.specs.Rows.{Row}
 use Rattle.yq_outline.specs.Lines.{tail_of}
 use Rattle.yq_documents.specs.RowReading.{is_block_head, is_short_plain}
+use Rattle.yq_core.specs.declared.style.Place.TheVariants as places
+use Rattle.yq_row_table.specs.Rows as rows
 
 -- a node by its content, if it is an alias or a flow collection (own)
 abbrev pub kept_by : Placed → CoreNode → Option Placed

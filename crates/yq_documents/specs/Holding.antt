@@ -1,17 +1,9 @@
 -- Reading (own; a reader may skip it): what is kept of a text that reads as documents.
-use Rattle.std.specs.Prelude.{◌≡◌, ℕ, ◌+◌, List, length, slice_get, Some, Bool, true, false}
-use Rattle.std.specs.List.{list_any}
-use Rattle.yq_outline.specs.Comments.{head_comment}
-use Rattle.yq_outline.specs.Names.{is_reference, line_names}
-use Rattle.yq_row_table.specs.Grammar.{IsCut}
-use Rattle.yq_row_table.specs.Rows.{Row, Part}
-use Rattle.yq_row_table.specs.View.{rows_of, RowsView, rows_view}
-use Rattle.yq_documents.specs.Documents.{document_parts, lead_of}
-use Rattle.yq_documents.specs.Decoded.{IsDecoded, Rise}
-use Rattle.yq_documents.specs.Reading.{all_documents, cut_of}
-use Rattle.yq_documents.specs.LinesInRows.{document_row}
-use Rattle.yq_documents.specs.Stretches.{document_lines}
-use Rattle.yq_documents.specs.declared.decoded.Decoded.{Decoded}
+use Rattle.std.{specs.Prelude.{◌≡◌, ℕ, ◌+◌, List, length, slice_get, Some, Bool, true, false}, specs.List.list_any}
+use Rattle.yq_outline.{specs.Comments.head_comment, specs.Names.{is_reference, line_names}}
+use Rattle.yq_row_table.{specs.Grammar.IsCut, specs.Rows.{Row, Part}, specs.View.{rows_of, RowsView, rows_view}}
+use Rattle.yq_documents.{specs.Documents.{document_parts, lead_of}, specs.Decoded.{IsDecoded, Rise}, specs.Reading.{all_documents, cut_of}}
+use Rattle.yq_documents.{specs.LinesInRows.document_row, specs.Stretches.document_lines, specs.declared.decoded.Decoded.Decoded}
 use Rattle.yq_documents.specs.declared.documents.DocumentRows.{DocumentRows}
 
 -- The rows of document n of a text, and the gap that its lead ends, stand there (own).

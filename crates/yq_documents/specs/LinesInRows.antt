@@ -1,17 +1,12 @@
 -- Which line of which row a line is, and where a text has room for comments (own).
-use Rattle.std.specs.Prelude.{ℕ, suc, ◌-◌, nat_lt, ◌==◌, Bool, false, List, [], ◌∷◌, length, slice_get, Option, Some, None, option_map, if◌then◌else◌}
-use Rattle.yq_core.specs.Answers.{◌>>=◌}
-use Rattle.yq_core.specs.Paths.{Step}
+use Rattle.std.specs.Prelude.{ℕ, suc, ◌-◌, nat_lt, ◌==◌, Bool, false, List, [], ◌∷◌, length, slice_get, Option, Some, None, option_map}
+use Rattle.std.specs.Prelude.{if◌then◌else◌}
+use Rattle.yq_core.{specs.Answers.◌>>=◌, specs.Paths.Step}
 use Rattle.yq_row_table.specs.Rows.{Row, Cut}
-use Rattle.yq_documents.specs.declared.path.Part.{Part}
-use Rattle.yq_documents.specs.declared.path.Part.TheVariants.{Content, Entry, HeadComment, LineComment}
-use Rattle.yq_documents.specs.declared.path.Path.{Path}
-use Rattle.yq_documents.specs.Documents.{document_parts}
-use Rattle.yq_documents.specs.PartNumbers.{part_number, rows_to}
-use Rattle.yq_outline.specs.Lines.{lines_of_rows}
-use Rattle.yq_documents.specs.Located.{steps_of}
-use Rattle.yq_documents.specs.Reading.{cut_of}
-use Rattle.yq_outline.specs.Ends.{line_at_steps}
+use Rattle.yq_documents.{specs.declared.path.Part.Part, specs.declared.path.Part.TheVariants.{Content, Entry, HeadComment, LineComment}}
+use Rattle.yq_documents.{specs.declared.path.Path.Path, specs.Documents.document_parts, specs.PartNumbers.{part_number, rows_to}}
+use Rattle.yq_documents.{specs.Located.steps_of, specs.Reading.cut_of}
+use Rattle.yq_outline.{specs.Lines.lines_of_rows, specs.Ends.line_at_steps}
 
 -- A line of a row: how many rows stand before that row, the row, and how many of its lines stand before this one (own).
 pub record RowLine : Type 0 where

@@ -1,12 +1,8 @@
 -- The documents of the code, and the nodes at paths in them.
 use Rattle.std.specs.Prelude.{List, ℕ, map, Option, option_and_then, slice_get}
-use Rattle.yq_core.specs.Entries.{tree_step}
-use Rattle.yq_core.specs.Paths.{Step, node_at}
-use Rattle.yq_core.specs.Tree.{Node, plain_label}
-use Rattle.yq_documents.specs.declared.path.Path.{Path}
-use Rattle.yq_documents.specs.Documents.{Document}
+use Rattle.yq_core.{specs.Entries.tree_step, specs.Paths.{Step, node_at}, specs.Tree.{Node, plain_label}}
+use Rattle.yq_documents.{specs.declared.path.Path.Path, specs.Documents.Document, specs.Reading.documents_of}
 use Rattle.yq_outline.specs.Labelled.{Labelled, labelled_from}
-use Rattle.yq_documents.specs.Reading.{documents_of}
 
 -- the steps of a path (own)
 abbrev pub steps_of : Path → List Step

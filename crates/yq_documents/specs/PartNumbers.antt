@@ -1,7 +1,6 @@
 -- Documents by the numbers of their parts, both counted from 0 (YAML 1.2.2, 9.1 and 9.2; own).
 use Rattle.std.specs.Prelude.{ℕ, zero, suc, ◌+◌, Bool, true, false, ◌||◌, not, length, slice_get, Option, option_map}
-use Rattle.yq_row_table.specs.Grammar.{begins_document}
-use Rattle.yq_row_table.specs.Rows.{Cut, last, marked}
+use Rattle.yq_row_table.{specs.Grammar.begins_document, specs.Rows.{Cut, last, marked}}
 use Rattle.yq_documents.specs.Documents.{document_parts, begins_bare, has_begin}
 
 -- the number of document k among the parts, by whether the first part is a document (9.2)

@@ -1,9 +1,7 @@
 -- Reading (own; a reader may skip it: the grammar is what is believed, and the clauses `found` and `only` tie the two): the lines of the rows of a part.
 use Rattle.std.specs.Prelude.{ℕ, zero, suc, ◌+◌, ◌==◌, Bool, true, false, ◌||◌, not, List, [], ◌∷◌, ◌&&◌, Option, Some, None}
 use Rattle.std.specs.List.{list_all}
-use Rattle.yq_row_table.specs.Grammar.{begins_document}
-use Rattle.yq_row_table.specs.Rows.{Part}
-use Rattle.yq_row_table.specs.View.{Bound}
+use Rattle.yq_row_table.{specs.Grammar.begins_document, specs.Rows.Part, specs.View.Bound}
 use Rattle.yq_documents.specs.Reading.{have_fit_keys, has_short_root}
 
 -- the rows of a part are fit: their keys are, and the root is no plain scalar of several lines (own)

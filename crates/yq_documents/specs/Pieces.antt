@@ -1,11 +1,8 @@
 -- Pieces of a text: inline nodes, what is written behind a mark, and comments (YAML 1.2.2, 6.6, 7 and 8.1; own).
 use Rattle.std.specs.Prelude.{ℕ, ◌+◌, List, [], ◌∷◌, ◌++◌, length, Option, Some, None, if◌then◌else◌, ◌==◌}
-use Rattle.yq_core.specs.Block.{block_text}
-use Rattle.yq_core.specs.Text.{is_empty, cut, front, ends_line, joined, text_lines, no_white, past_white}
+use Rattle.yq_core.{specs.Block.block_text, specs.Text.{is_empty, cut, front, ends_line, joined, text_lines, no_white, past_white}}
 use Rattle.yq_core.specs.Nodes.{FlowNode, empty, alias, scalar, coll, anchored, node_text}
-use Rattle.yq_row_table.specs.Exchange.{HasPieces}
-use Rattle.yq_row_table.specs.Rows.{Content, Nothing, Inline, Block, anchor_text}
-use Rattle.yq_row_table.specs.View.{content_cut}
+use Rattle.yq_row_table.{specs.Exchange.HasPieces, specs.Rows.{Content, Nothing, Inline, Block, anchor_text}, specs.View.content_cut}
 use Rattle.yq_documents.specs.declared.path.Span.{Span}
 use Rattle.yq_outline.specs.Comments.{are_comments}
 

@@ -1,23 +1,13 @@
 -- Reading (own; a reader may skip it: the grammar is what is believed, and the clauses `found` and `only` tie the two): bytes read as documents.
 use Rattle.std.specs.Prelude.{ℕ, nat_le, List, [], ◌∷◌, length, map, Bool, true, not, ◌&&◌, codes, Option, Some, None, if◌then◌else◌}
-use Rattle.std.specs.List.{list_all}
-use Rattle.std.specs.Str.{bytes_eq, chars, is_utf8}
-use Rattle.yq_core.specs.Answers.{◌>>=◌}
-use Rattle.yq_core.specs.Tree.{Node}
-use Rattle.yq_core.specs.Nodes as inline
-use Rattle.yq_core.specs.Nodes.{Items, none, item}
-use Rattle.yq_core.specs.Inline.{depth_limit}
-use Rattle.yq_row_table.specs.Grammar.{key_limit}
-use Rattle.yq_row_table.specs.Reading.{scan_at}
-use Rattle.yq_row_table.specs.Rows as rows
-use Rattle.yq_row_table.specs.Rows.{Content, Nothing, Inline, Block, Row, Part, Cut, last}
-use Rattle.yq_core.specs.Anchors.{names_of}
+use Rattle.std.{specs.List.list_all, specs.Str.{bytes_eq, chars, is_utf8}}
+use Rattle.yq_core.{specs.Answers.◌>>=◌, specs.Tree.Node, specs.Nodes.{Items, none, item}, specs.Inline.depth_limit, specs.Anchors.names_of}
+use Rattle.yq_row_table.{specs.Grammar.key_limit, specs.Reading.scan_at, specs.Rows.{Content, Nothing, Inline, Block, Row, Part, Cut, last}}
 use Rattle.yq_documents.specs.Documents.{Document, document_parts, lead_of, is_long_plain}
-use Rattle.yq_outline.specs.Group.{group}
-use Rattle.yq_outline.specs.Lines.{lines_of_rows}
-use Rattle.yq_outline.specs.LinesReading.{have_one_anchor_each, are_bound}
-use Rattle.yq_outline.specs.Outline.{Outline, value}
-use Rattle.yq_outline.specs.Sound.{is_sound_outline}
+use Rattle.yq_outline.{specs.Group.group, specs.Lines.lines_of_rows, specs.LinesReading.{have_one_anchor_each, are_bound}}
+use Rattle.yq_outline.{specs.Outline.{Outline, value}, specs.Sound.is_sound_outline}
+use Rattle.yq_core.specs.Nodes as inline
+use Rattle.yq_row_table.specs.Rows as rows
 
 -- the outline of a part
 abbrev pub part_outline : Part → Outline

@@ -1,16 +1,9 @@
 -- What a reading promises of its documents, so that updates have a meaning on them (own).
 use Rattle.std.specs.Prelude.{◌≡◌, ℕ, ◌≤◌, List, [], ◌∷◌, Option, Some, None, slice_get, Bool, true}
-use Rattle.yq_core.specs.Keys.{depth}
-use Rattle.yq_core.specs.Shapes.{IsTree}
-use Rattle.yq_core.specs.Tree.{children_of}
-use Rattle.yq_core.specs.Inline.{depth_limit}
-use Rattle.yq_outline.specs.Outline.{Line}
-use Rattle.yq_outline.specs.Sound.{is_entry_line}
+use Rattle.yq_core.{specs.Keys.depth, specs.Shapes.IsTree, specs.Tree.children_of, specs.Inline.depth_limit}
+use Rattle.yq_outline.{specs.Outline.Line, specs.Sound.is_entry_line, specs.Lines.lines_of_rows}
 use Rattle.yq_row_table.specs.Rows.{Part}
-use Rattle.yq_documents.specs.Documents.{Document, document_parts}
-use Rattle.yq_outline.specs.Lines.{lines_of_rows}
-use Rattle.yq_documents.specs.Located.{document_at}
-use Rattle.yq_documents.specs.Reading.{cut_of}
+use Rattle.yq_documents.{specs.Documents.{Document, document_parts}, specs.Located.document_at, specs.Reading.cut_of}
 use Rattle.yq_documents.specs.TreeEdits.{lead_by}
 
 -- whether lines begin with a key or dash, or there are none, so that the root is no inline node (own)

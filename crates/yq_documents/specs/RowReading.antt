@@ -1,25 +1,15 @@
 -- Reading (own; a reader may skip it: the grammar is what is believed, and the clauses `found` and `only` tie the two): the lines of a row by its pieces.
-use Rattle.std.specs.Prelude.{◌≡◌, ℕ, ◌-◌, ◌==◌, Bool, true, ◌||◌, ◌&&◌, not, List, ◌++◌, length, drop, Option, Some, None, if◌then◌else◌, ℤ}
-use Rattle.yq_core.specs.declared.kind.Kind.TheVariants.{Text}
-use Rattle.yq_core.specs.declared.style.Place.TheVariants as places
-use Rattle.yq_core.specs.Answers.{◌>>=◌}
-use Rattle.yq_core.specs.BlockContent.{block_content}
-use Rattle.yq_core.specs.BlockReading.{block_at}
-use Rattle.yq_core.specs.Piece.{deeper}
-use Rattle.yq_core.specs.Plain.{holds_break}
-use Rattle.yq_core.specs.Scalar.{plain_of}
-use Rattle.yq_core.specs.Text.{front, is_empty}
-use Rattle.yq_core.specs.Tree as tree
-use Rattle.yq_core.specs.Inline.{inline_at}
-use Rattle.yq_core.specs.Nodes.{begins_with}
+use Rattle.std.specs.Prelude.{◌≡◌, ℕ, ◌-◌, ◌==◌, Bool, true, ◌||◌, ◌&&◌, not, List, ◌++◌, length, drop, Option, Some, None, if◌then◌else◌}
+use Rattle.std.specs.Prelude.{ℤ}
+use Rattle.yq_core.{specs.declared.kind.Kind.TheVariants.Text, specs.Answers.◌>>=◌, specs.BlockContent.block_content}
+use Rattle.yq_core.{specs.BlockReading.block_at, specs.Piece.deeper, specs.Plain.holds_break, specs.Scalar.plain_of}
+use Rattle.yq_core.{specs.Text.{front, is_empty}, specs.Inline.inline_at, specs.Nodes.begins_with}
 use Rattle.yq_core.specs.Places.{Placed, placed, CoreNode, nothing, name, text, sequence, mapping}
-use Rattle.yq_core.specs.Scalars.{is_quoted, scalar_content}
-use Rattle.yq_core.specs.Trees.{scalar_node, placed_tree}
-use Rattle.yq_row_table.specs.Grammar.{Limit, IsRow}
-use Rattle.yq_row_table.specs.Rows.{Row}
-use Rattle.yq_row_table.specs.View.{Slices, slices}
-use Rattle.yq_documents.specs.KeyReading.{node_fits}
-use Rattle.yq_documents.specs.Reading.{mark_is_fit, content_is_fit}
+use Rattle.yq_core.{specs.Scalars.{is_quoted, scalar_content}, specs.Trees.{scalar_node, placed_tree}}
+use Rattle.yq_row_table.{specs.Grammar.{Limit, IsRow}, specs.Rows.Row, specs.View.{Slices, slices}}
+use Rattle.yq_documents.{specs.KeyReading.node_fits, specs.Reading.{mark_is_fit, content_is_fit}}
+use Rattle.yq_core.specs.declared.style.Place.TheVariants as places
+use Rattle.yq_core.specs.Tree as tree
 
 -- what a placed node is as a head, by its content (own)
 abbrev pub form_head : Placed → CoreNode → Option tree.Node

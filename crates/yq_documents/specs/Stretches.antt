@@ -1,17 +1,10 @@
 -- Reading (own; a reader may skip it): the rows of documents among those of a text, and their lines by number.
 use Rattle.std.specs.Prelude.{◌≡◌, ◌<◌, ℕ, ◌+◌, ◌-◌, List, [], length, slice_get, true, Option, Some, None}
-use Rattle.yq_outline.specs.Ends.{part}
-use Rattle.yq_outline.specs.Outline.{Line, Outline, level}
-use Rattle.yq_row_table.specs.Grammar.{IsCut}
-use Rattle.yq_row_table.specs.Rows.{Row, Part}
-use Rattle.yq_row_table.specs.View.{RowsView, rows_view}
-use Rattle.yq_outline.specs.Extents.{IsRowsView}
-use Rattle.yq_outline.specs.Lines.{lines_of_rows}
-use Rattle.yq_outline.specs.RowWalk.{IsLine, IsPosition, line_number}
-use Rattle.yq_outline.specs.declared.line_position.Position.{Position}
+use Rattle.yq_outline.{specs.Ends.part, specs.Outline.{Line, Outline, level}, specs.Extents.IsRowsView, specs.Lines.lines_of_rows}
+use Rattle.yq_outline.{specs.RowWalk.{IsLine, IsPosition, line_number}, specs.declared.line_position.Position.Position}
 use Rattle.yq_outline.specs.declared.line_position.Stretch.{Stretch}
-use Rattle.yq_documents.specs.Documents.{document_parts}
-use Rattle.yq_documents.specs.Reading.{all_documents, cut_of, documents_of}
+use Rattle.yq_row_table.{specs.Grammar.IsCut, specs.Rows.{Row, Part}, specs.View.{RowsView, rows_view}}
+use Rattle.yq_documents.{specs.Documents.document_parts, specs.Reading.{all_documents, cut_of, documents_of}}
 use Rattle.yq_documents.specs.LinesInRows.{document_row}
 
 -- the rows of a part; where there is no part there are none (own)

@@ -1,7 +1,6 @@
 -- Changes of a tree and of a document that operations and the meaning of updates share (own).
 use Rattle.std.specs.Prelude.{ℕ, zero, suc, Bool, true, false, List, [], ◌∷◌, Option}
-use Rattle.yq_core.specs.Paths.{Step, change_child, within}
-use Rattle.yq_core.specs.Tree.{Label, Node, Children, none, child, children_of, anchor_of}
+use Rattle.yq_core.{specs.Paths.{Step, change_child, within}, specs.Tree.{Label, Node, Children, none, child, children_of, anchor_of}}
 use Rattle.yq_outline.specs.Outline.{anchored}
 use Rattle.yq_documents.specs.Documents.{Document}
 

@@ -1,7 +1,6 @@
 //! What rows spell, as it is written.
 ghost use Rattle.std.specs.Prelude.{◌≡◌, ◌<◌, None, Some, option_map, true};
-ghost use Rattle.yq_core.specs.Scalars.{is_quoted};
-ghost use Rattle.yq_core.specs.Quoted.{IsQuotedText};
+ghost use Rattle.yq_core.{specs.Scalars.is_quoted, specs.Quoted.IsQuotedText};
 ghost use Rattle.yq_documents.specs.Decoded as spec;
 
 use crate::decoded::Decoded;

@@ -1,10 +1,9 @@
 //! Comments, each by its text.
-ghost use Rattle.std.specs.Iterator.{at_most};
-ghost use Rattle.std.specs.Prelude.{◌≡◌, ◌==◌, [], length, option_map};
-ghost use Rattle.yq_outline.specs.Comments as spec;
+ghost use Rattle.std.{specs.Iterator.at_most, specs.Prelude.{◌≡◌, ◌==◌, [], length, option_map}};
 ghost use Rattle.yq_core.specs.Text.{front, text_lines, past_white};
-ghost use Rattle.yq_documents.specs.Pieces as pieces;
 ghost use Rattle.yq_documents.specs.Texts.{texts_left, YieldsText};
+ghost use Rattle.yq_outline.specs.Comments as spec;
+ghost use Rattle.yq_documents.specs.Pieces as pieces;
 
 use yq_core::lines::{split_at_break, split_line};
 use yq_core::strip;

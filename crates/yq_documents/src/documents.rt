@@ -1,18 +1,10 @@
 //! The documents of a text.
-ghost use Rattle.std.specs.Prelude.{◌≡◌, ◌<◌, ℕ, List, length, slice_get, Some, false, option_map, true};
-ghost use Rattle.std.specs.List.{list_any};
-ghost use Rattle.yq_outline.specs.Names.{is_reference, line_names};
-ghost use Rattle.yq_row_table.specs.Grammar.{IsCut};
-ghost use Rattle.yq_row_table.specs.Rows.{Row as RowOf};
-ghost use Rattle.yq_row_table.specs.View.{rows_of, rows_view};
-ghost use Rattle.yq_outline.specs.Extents.{IsRowsView};
-ghost use Rattle.yq_documents.specs.Documents.{Document};
-ghost use Rattle.yq_documents.specs.Decoded.{IsDecodedBy};
-ghost use Rattle.yq_documents.specs.Located.{document_at};
-ghost use Rattle.yq_documents.specs.Reading.{all_documents, cut_of, documents_of};
-ghost use Rattle.yq_documents.specs.Ready.{TextIsReady};
-ghost use Rattle.yq_documents.specs.Stretches.{HasText, document_lines};
-ghost use Rattle.yq_documents.specs.Texts.{texts_left};
+ghost use Rattle.std.{specs.Prelude.{◌≡◌, ◌<◌, ℕ, List, length, slice_get, Some, false, option_map, true}, specs.List.list_any};
+ghost use Rattle.yq_outline.{specs.Names.{is_reference, line_names}, specs.Extents.IsRowsView};
+ghost use Rattle.yq_row_table.{specs.Grammar.IsCut, specs.Rows.Row as RowOf, specs.View.{rows_of, rows_view}};
+ghost use Rattle.yq_documents.{specs.Documents.Document, specs.Decoded.IsDecodedBy, specs.Located.document_at};
+ghost use Rattle.yq_documents.{specs.Reading.{all_documents, cut_of, documents_of}, specs.Ready.TextIsReady};
+ghost use Rattle.yq_documents.{specs.Stretches.{HasText, document_lines}, specs.Texts.texts_left};
 
 use crate::comment::Comments;
 use crate::decoded::Decoded;

@@ -1,7 +1,6 @@
 //! Which parts of a text are documents.
 ghost use Rattle.std.specs.Prelude.{◌≡◌, ◌<◌, ◌==◌, ◌-◌, ◌||◌, ◌&&◌, not, length, IfSome, if◌then◌else◌};
-ghost use Rattle.yq_row_table.specs.Rows.{Cut};
-ghost use Rattle.yq_row_table.specs.View.{rows_view};
+ghost use Rattle.yq_row_table.{specs.Rows.Cut, specs.View.rows_view};
 ghost use Rattle.yq_documents.specs.PartNumbers as numbers;
 ghost use Rattle.yq_documents.specs.PartReading as spec;
 

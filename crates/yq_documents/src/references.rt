@@ -1,8 +1,6 @@
 //! Aliases in inline nodes.
-ghost use Rattle.std.specs.Prelude.{◌≡◌};
-ghost use Rattle.yq_core.specs.Trees.{parts_tree, placed_tree};
-ghost use Rattle.yq_core.specs.View.{entries_end, items_end, inline_view};
-ghost use Rattle.std.specs.List.{list_any};
+ghost use Rattle.std.{specs.Prelude.◌≡◌, specs.List.list_any};
+ghost use Rattle.yq_core.{specs.Trees.{parts_tree, placed_tree}, specs.View.{entries_end, items_end, inline_view}};
 ghost use Rattle.yq_core.specs.Anchors.{names_in, names_of};
 ghost use Rattle.yq_outline.specs.Names.{is_reference};
 

@@ -1,25 +1,16 @@
 -- What putting an item or entry into a flow collection comes to, by what the code finds.
 use Rattle.std.proofs.Common.{◌≡◌, ℕ, Bool, true, false, not, cond, eqb, List, length, Option, Some, None, sym, ap, ◌∙◌, subst, refl}
-use Rattle.std.proofs.lemmas.Option.{same_Some}
-use Rattle.std.specs.Prelude.{is_some}
-use Rattle.yq_core.specs.Answers.{◌>>=◌}
-use Rattle.yq_core.specs.Paths.{Step}
-use Rattle.yq_core.specs.Tree.{Node}
-use Rattle.yq_core.specs.Collections.{CollPieces}
-use Rattle.yq_flow_edits.specs.FlowEdits.{FlowEdit, appending}
-use Rattle.yq_flow_edits.specs.FlowPlaces.{PlacedEdit, append_place, place_edit}
-use Rattle.yq_core.specs.Nodes.{key_text}
+use Rattle.std.{proofs.lemmas.Option.same_Some, specs.Prelude.is_some}
+use Rattle.yq_core.{specs.Answers.◌>>=◌, specs.Paths.Step, specs.Tree.Node, specs.Collections.CollPieces, specs.Nodes.key_text}
 use Rattle.yq_core.specs.Places.{Placed, placed, sequence, mapping, Parts, locate, locate_items}
 use Rattle.yq_core.specs.NodesWritten.{flow_key, flow_of, flow_text}
+use Rattle.yq_flow_edits.{specs.FlowEdits.{FlowEdit, appending}, specs.FlowPlaces.{PlacedEdit, append_place, place_edit}}
 use Rattle.yq_row_table.specs.Rows.{Cut, cut_text}
-use Rattle.yq_places.specs.FlowNodes.{flow_collection}
-use Rattle.yq_places.specs.FlowViews.{behind_anchor, placed_collection}
+use Rattle.yq_places.{specs.FlowNodes.flow_collection, specs.FlowViews.{behind_anchor, placed_collection}}
 use Rattle.yq_places.specs.declared.places.flow_node.FlowHead.{FlowHead}
 use Rattle.yq_edits.specs.FlowParts.{flow_more, flow_segments, takes_key}
-use Rattle.yq_edit_laws.specs.EditPlaces.{content_takes, moved_on, placed_takes}
-use Rattle.yq_edit_laws.proofs.FlowAnswers.{CollFound, EditFound, edit_found}
-use Rattle.yq_edit_laws.proofs.FlowAppendLaws.{bounds, there}
-use Rattle.yq_edit_laws.proofs.FlowHeads.{append_found, appended_within, whole_is}
+use Rattle.yq_edit_laws.{specs.EditPlaces.{content_takes, moved_on, placed_takes}, proofs.FlowAnswers.{CollFound, EditFound, edit_found}}
+use Rattle.yq_edit_laws.{proofs.FlowAppendLaws.{bounds, there}, proofs.FlowHeads.{append_found, appended_within, whole_is}}
 use Rattle.yq_edit_laws.proofs.FlowLonger.{appending_more}
 
 -- whether the collection takes it

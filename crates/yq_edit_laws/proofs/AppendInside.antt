@@ -1,53 +1,28 @@
 -- One item or entry more behind a line that has a break.
-use Rattle.std.proofs.Common.{◌≡◌, ℕ, suc, ◌≤◌, true, false, List, [], ◌∷◌, ◌++◌, length, Option, Some, refl, sym, ap, ◌∙◌, subst, append_assoc, append-nil, replicate}
-use Rattle.std.proofs.lemmas.Bool.{false≢true}
-use Rattle.yq_core.specs.BlockWritten.{break_text}
-use Rattle.yq_text.specs.Limit.{text_limit}
-use Rattle.yq_core.specs.Paths.{Step}
-use Rattle.yq_core.specs.Tree.{Node}
-use Rattle.yq_core.specs.Text.{is_line}
-use Rattle.yq_outline.specs.Comments as comments
-use Rattle.yq_row_table.specs.Exchange.{asked_behind}
-use Rattle.yq_row_table.specs.Grammar.{unlimited, no_rows}
-use Rattle.yq_row_table.proofs.PlainEnds.{AtLine}
+use Rattle.std.proofs.Common.{◌≡◌, ℕ, suc, ◌≤◌, true, false, List, [], ◌∷◌, ◌++◌, length, Option, Some, refl, sym, ap, ◌∙◌, subst}
+use Rattle.std.{proofs.Common.{append_assoc, append-nil, replicate}, proofs.lemmas.Bool.false≢true}
+use Rattle.yq_core.{specs.BlockWritten.break_text, specs.Paths.Step, specs.Tree.Node, specs.Text.is_line}
+use Rattle.yq_text.{specs.Limit.text_limit, specs.Script.{Segment, new_text}}
+use Rattle.yq_row_table.{specs.Exchange.asked_behind, specs.Grammar.{unlimited, no_rows}, proofs.PlainEnds.AtLine}
 use Rattle.yq_row_table.specs.Rows.{Content, Nothing, Inline, Block, Row, rows_text, Part, Cut, cut_text}
-use Rattle.yq_row_table.specs.Seams.{is_block, tail_behind, ends_in_block, ends_in_line}
-use Rattle.yq_row_table.specs.Splices.{first_gap, behind_first}
-use Rattle.yq_row_table.proofs.seams.SeamLaws.{rows_text-append}
-use Rattle.yq_row_table.proofs.splices.SpliceTexts.{own_gap, own_end, first_text}
-use Rattle.yq_places.specs.CollectionEnds.{CollectionEnd, is_broken}
-use Rattle.yq_documents.specs.Documents.{lead_of}
-use Rattle.yq_outline.specs.Lines.{lines_from, lines_of_rows}
-use Rattle.yq_documents.specs.Ready.{begins_no_node}
-use Rattle.yq_documents.specs.Reading.{read_at}
-use Rattle.yq_places.specs.RowPaths.{IsReadable}
-use Rattle.yq_edits.specs.declared.layout.Layout.{Layout}
-use Rattle.yq_edits.specs.Alone.{singleton}
-use Rattle.yq_edits.specs.BlockRows.{node_rows}
-use Rattle.yq_edits.specs.BlockText.{block_value}
-use Rattle.yq_edits.proofs.BlockEndLaws.{line_ends}
-use Rattle.yq_edits.proofs.TextLaws.{value_spelled}
-use Rattle.yq_edits.specs.Appends.{TakesRows, inserted}
-use Rattle.yq_edits.specs.Changed.{put_document}
-use Rattle.yq_edits.specs.CollectionPlaces.{IsCollectionEnd}
-use Rattle.yq_edits.specs.DocumentRows.{behind_document}
-use Rattle.yq_edits.specs.Rooms.{is_block_root}
-use Rattle.yq_edits.proofs.AppendLaws.{block_appended}
-use Rattle.yq_edits.proofs.EndedRowLaws.{rows_then}
-use Rattle.yq_edits.proofs.TextPieceLaws.{pieces_joined}
-use Rattle.yq_edits.proofs.BlockLineLaws.{break_uncommented}
-use Rattle.yq_semantics.specs.Operations.{append}
-use Rattle.yq_text.specs.Script.{Segment, new_text}
+use Rattle.yq_row_table.{specs.Seams.{is_block, tail_behind, ends_in_block, ends_in_line}, specs.Splices.{first_gap, behind_first}}
+use Rattle.yq_row_table.{proofs.seams.SeamLaws.rows_text-append, proofs.splices.SpliceTexts.{own_gap, own_end, first_text}}
 use Rattle.yq_row_table.specs.Items.{rows_items}
-use Rattle.yq_edits.specs.Local.{IsLocal, IsLocalTo}
-use Rattle.yq_edits.proofs.ItemsLocal.{first_nothing, last_nothing}
-use Rattle.yq_edits.proofs.LocalLaws.{cut_known, rows_local}
-use Rattle.yq_edits.specs.Layouts.{layout_of}
-use Rattle.yq_edits.specs.EntryEdits.{entry_lines}
-use Rattle.yq_edits.specs.ReadsAfter.{ReadsAfter}
-use Rattle.yq_edits.proofs.CommentPieceLaws.{break_piece}
+use Rattle.yq_places.{specs.CollectionEnds.{CollectionEnd, is_broken}, specs.RowPaths.IsReadable}
+use Rattle.yq_documents.{specs.Documents.lead_of, specs.Ready.begins_no_node, specs.Reading.read_at}
+use Rattle.yq_outline.specs.Lines.{lines_from, lines_of_rows}
+use Rattle.yq_edits.{specs.declared.layout.Layout.Layout, specs.Alone.singleton, specs.BlockRows.node_rows, specs.BlockText.block_value}
+use Rattle.yq_edits.{proofs.BlockEndLaws.line_ends, proofs.TextLaws.value_spelled, specs.Appends.{TakesRows, inserted}}
+use Rattle.yq_edits.{specs.Changed.put_document, specs.CollectionPlaces.IsCollectionEnd, specs.DocumentRows.behind_document}
+use Rattle.yq_edits.{specs.Rooms.is_block_root, proofs.AppendLaws.block_appended, proofs.EndedRowLaws.rows_then}
+use Rattle.yq_edits.{proofs.TextPieceLaws.pieces_joined, proofs.BlockLineLaws.break_uncommented, specs.Local.{IsLocal, IsLocalTo}}
+use Rattle.yq_edits.{proofs.ItemsLocal.{first_nothing, last_nothing}, proofs.LocalLaws.{cut_known, rows_local}, specs.Layouts.layout_of}
+use Rattle.yq_edits.{specs.EntryEdits.entry_lines, specs.ReadsAfter.ReadsAfter, proofs.CommentPieceLaws.break_piece}
 use Rattle.yq_edits.proofs.SegmentLaws.{segments_readable}
-use Rattle.yq_edits.proofs.AppendPlaces.{IsAppendPlace, put_segments, old_is, p, there, e, allows_there, kept_pieces, IsAsked, entry, written, new_rows_are, entry_piece, filled, finished}
+use Rattle.yq_edits.proofs.AppendPlaces.{IsAppendPlace, put_segments, old_is, p, there, e, allows_there, kept_pieces, IsAsked, entry}
+use Rattle.yq_edits.proofs.AppendPlaces.{written, new_rows_are, entry_piece, filled, finished}
+use Rattle.yq_semantics.specs.Operations.{append}
+use Rattle.yq_outline.specs.Comments as comments
 
 last_closed : (others : List Row) (r : Row) → is_broken r.content ≡ true → ends_in_block (others ++ (r ∷ [])) ≡ false → ends_in_line (others ++ (r ∷ [])) ≡ true
 last_closed [] r e inside = last r.content e inside

@@ -1,34 +1,21 @@
 -- An operation that fits is carried out by what it exchanges.
-use Rattle.std.proofs.Common.{◌≡◌, ℕ, ◌<◌, ◌≤◌, ◌^◌, Bool, true, false, cond, leb, List, length, Option, Some, None, Result, Ok, Err, IfOk, IfErr, string_bytes, refl, sym, ap, ◌∙◌, subst, arith, append-nil}
-use Rattle.std.proofs.lemmas.Bool.{leb-true, leb-false}
-use Rattle.yq_text.specs.Limit.{text_limit}
-use Rattle.yq_row_table.specs.Rows.{Cut, cut_text}
-use Rattle.yq_documents.specs.Documents.{ReadsDocuments}
-use Rattle.yq_documents.specs.Reading.{cut_of, documents, documents_of, read_at}
-use Rattle.yq_documents.proofs.ReadLaws.{parts_read, read_takes}
-use Rattle.yq_semantics.specs.After.{after_op}
-use Rattle.yq_semantics.specs.Fits.{Fits}
-use Rattle.yq_semantics.specs.Operations.{Operation}
-use Rattle.yq_semantics.specs.Rooms.{room_of}
-use Rattle.yq_semantics.specs.RoomsKept.{LeavesRooms}
-use Rattle.yq_semantics.specs.declared.refusal.Refusal.TheVariants.{TooLarge}
-use Rattle.yq_text.specs.Splice.{Splice}
-use Rattle.yq_text.specs.Script.{Segment, new_text, old_text, changes}
+use Rattle.std.proofs.Common.{◌≡◌, ℕ, ◌<◌, ◌≤◌, ◌^◌, Bool, true, false, cond, leb, List, length, Option, Some, None, Result, Ok, Err, IfOk}
+use Rattle.std.{proofs.Common.{IfErr, string_bytes, refl, sym, ap, ◌∙◌, subst, arith, append-nil}, proofs.lemmas.Bool.{leb-true, leb-false}}
+use Rattle.yq_text.{specs.Limit.text_limit, specs.Splice.Splice, specs.Script.{Segment, new_text, old_text, changes}}
 use Rattle.yq_text.specs.declared.edited.Edited.{Edited}
-use Rattle.yq_text.specs.Exchanging as exchange
-use Rattle.yq_edits.specs.Operands.{HasOperand}
-use Rattle.yq_edits.specs.EditLaws.{IsEdit}
-use Rattle.yq_edits.specs.Edits.{op_edits, or_stay}
-use Rattle.yq_edits.specs.ReadsAfter.{ReadsAfter}
-use Rattle.yq_edit_laws.proofs.CutLaws.{cut_read, cut_same, text_read}
-use Rattle.yq_edit_laws.specs.Answers.{Edits, EditFails}
+use Rattle.yq_row_table.specs.Rows.{Cut, cut_text}
+use Rattle.yq_documents.{specs.Documents.ReadsDocuments, specs.Reading.{cut_of, documents, documents_of, read_at}}
+use Rattle.yq_documents.proofs.ReadLaws.{parts_read, read_takes}
+use Rattle.yq_semantics.{specs.After.after_op, specs.Fits.Fits, specs.Operations.Operation, specs.Rooms.room_of}
+use Rattle.yq_semantics.{specs.RoomsKept.LeavesRooms, specs.declared.refusal.Refusal.TheVariants.TooLarge}
+use Rattle.yq_edits.{specs.Operands.HasOperand, specs.EditLaws.IsEdit, specs.Edits.{op_edits, or_stay}, specs.ReadsAfter.ReadsAfter}
+use Rattle.yq_edit_laws.{proofs.CutLaws.{cut_read, cut_same, text_read}, specs.Answers.{Edits, EditFails}}
 use Rattle.yq_edit_laws.specs.Carried.{carry_one, carried}
 use Rattle.yq_edit_laws.specs.Edit.{Edit, unreadable, refuses, gives, by_reading, edit_of_segments, exchange_edit}
-use Rattle.yq_edit_laws.specs.Theorems.{IsFitting, IsApplied, IsLarge, OpRefused}
-use Rattle.yq_edit_laws.specs.Valid.{segments_by}
-use Rattle.yq_edit_laws.specs.declared.edit_error.EditError.{EditError}
+use Rattle.yq_edit_laws.{specs.Theorems.{IsFitting, IsApplied, IsLarge, OpRefused}, specs.Valid.segments_by}
+use Rattle.yq_edit_laws.{specs.declared.edit_error.EditError.EditError, proofs.EditsHold.{edit_is, edit_there}}
+use Rattle.yq_text.specs.Exchanging as exchange
 use Rattle.yq_edit_laws.specs.declared.edit_error.EditError.TheVariants as error
-use Rattle.yq_edit_laws.proofs.EditsHold.{edit_is, edit_there}
 
 -- what an operation that fits comes to: it is carried out, or its text is too large
 abbrev pub OperationComes : Operation → List ℕ → Edit → Type 0

@@ -1,18 +1,12 @@
 -- A collection that begins on the line of a dash.
 use Rattle.std.proofs.Common.{◌≡◌, ℕ, List, [], ◌∷◌, ◌++◌, replicate, refl, sym, ap, ◌∙◌, append_assoc, rules}
 use Rattle.std.proofs.lemmas.List.{append_cancel_left}
-use Rattle.yq_row_table.specs.Exchange.{row_front}
-use Rattle.yq_row_table.specs.Joined.{compact_row}
-use Rattle.yq_row_table.specs.Rows as rows
-use Rattle.yq_row_table.specs.Rows.{Row, behind_indent, dashes_text, mark_text, rows_text}
-use Rattle.yq_row_table.proofs.seams.JoinLaws.{dashes_text-append}
-use Rattle.yq_row_table.proofs.PlaceLaws.{dashes_then}
+use Rattle.yq_row_table.{specs.Exchange.row_front, specs.Joined.compact_row}
+use Rattle.yq_row_table.{specs.Rows.{Row, behind_indent, dashes_text, mark_text, rows_text}, proofs.seams.JoinLaws.dashes_text-append}
+use Rattle.yq_row_table.{proofs.PlaceLaws.dashes_then, specs.Items.rows_items}
 use Rattle.yq_documents.specs.Documents.{HaveFitKeys}
-use Rattle.yq_row_table.specs.Items.{rows_items}
-use Rattle.yq_edits.specs.Local.{InFirst}
-use Rattle.yq_edits.proofs.ItemsLocal.{first_within}
-use Rattle.yq_edits.specs.BlockPlaces.{compact_rows}
-use Rattle.yq_edits.proofs.BlockLineLaws.{BeginAt}
+use Rattle.yq_edits.{specs.Local.InFirst, proofs.ItemsLocal.first_within, specs.BlockPlaces.compact_rows, proofs.BlockLineLaws.BeginAt}
+use Rattle.yq_row_table.specs.Rows as rows
 
 -- the first of the rows behind a dash
 abbrev pub first_row : Row → List Row → Row

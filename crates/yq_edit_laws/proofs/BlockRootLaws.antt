@@ -1,45 +1,24 @@
 -- Where the block collection stands that is the root of a document.
-use Rattle.std.proofs.Common.{◌≡◌, ◌⊎◌, inl, inr, ℕ, List, [], ◌∷◌, ◌++◌, replicate, Some, None, true, false, refl, sym, ap, ◌∙◌, subst, append_assoc, append-nil}
-use Rattle.std.proofs.lemmas.Bool.{false≢true}
-use Rattle.yq_core.specs.declared.block_types.Break.TheVariants as breaks
-use Rattle.yq_core.specs.Text.{separates}
-use Rattle.yq_core.proofs.BlockPieceLaws.{IsLf, append_lf}
-use Rattle.yq_outline.specs.Comments.{head_comment, line_comment}
-use Rattle.yq_row_table.specs.Gap.{IsGap}
-use Rattle.yq_row_table.specs.Grammar.{IsCut, IsTail, unlimited, AreRows, no_rows, ends_part}
-use Rattle.yq_row_table.specs.Rows.{Row, behind_gap, behind_indent, rows_text, Cut, cut_text}
-use Rattle.yq_row_table.specs.Splices.{first_gap}
-use Rattle.yq_row_table.proofs.NothingLaws.{gap_other}
-use Rattle.yq_row_table.proofs.seams.FrontSeams.{behind_row_some}
-use Rattle.yq_row_table.proofs.splices.PartPlaces.{part_ends}
-use Rattle.yq_outline.specs.Lines.{lines_of_rows}
-use Rattle.yq_documents.specs.Reading.{read_at}
-use Rattle.yq_documents.specs.Ready.{begins_no_node}
-use Rattle.yq_places.specs.PlacedRows.{PlacedPart, placed_document}
-use Rattle.yq_places.specs.PrintedLines.{last_break, less_break}
-use Rattle.yq_places.specs.Standings.{BlockRoot, is_alone}
-use Rattle.yq_places.proofs.CommentPieceLaws.{Ended, gap_end}
-use Rattle.yq_places.proofs.PrintedTexts.{less_is}
+use Rattle.std.proofs.Common.{◌≡◌, ◌⊎◌, inl, inr, ℕ, List, [], ◌∷◌, ◌++◌, replicate, Some, None, true, false, refl, sym, ap, ◌∙◌, subst}
+use Rattle.std.{proofs.Common.{append_assoc, append-nil}, proofs.lemmas.Bool.false≢true}
+use Rattle.yq_core.{specs.Text.separates, proofs.BlockPieceLaws.{IsLf, append_lf}}
+use Rattle.yq_outline.{specs.Comments.{head_comment, line_comment}, specs.Lines.lines_of_rows}
+use Rattle.yq_row_table.{specs.Gap.IsGap, specs.Grammar.{IsCut, IsTail, unlimited, AreRows, no_rows, ends_part}}
+use Rattle.yq_row_table.{specs.Rows.{Row, behind_gap, behind_indent, rows_text, Cut, cut_text}, specs.Splices.first_gap}
+use Rattle.yq_row_table.{proofs.NothingLaws.gap_other, proofs.seams.FrontSeams.behind_row_some, proofs.splices.PartPlaces.part_ends}
+use Rattle.yq_documents.{specs.Reading.read_at, specs.Ready.begins_no_node, specs.PartNumbers.part_number}
+use Rattle.yq_places.{specs.PlacedRows.{PlacedPart, placed_document}, specs.PrintedLines.{last_break, less_break}}
+use Rattle.yq_places.{specs.Standings.{BlockRoot, is_alone}, proofs.CommentPieceLaws.{Ended, gap_end}, proofs.PrintedTexts.less_is}
 use Rattle.yq_places.proofs.RemovalLines.{LineSeam, LiesIn, lies_in, seam_join}
-use Rattle.yq_edits.specs.DocumentRows.{IsDocumentPart}
-use Rattle.yq_documents.specs.PartNumbers.{part_number}
-use Rattle.yq_edits.specs.PlacedParts.{StandsAt}
-use Rattle.yq_edits.specs.TextPieces.{IsPiece}
-use Rattle.yq_edits.proofs.AppendPlaceLaws.{rows_behind}
-use Rattle.yq_edits.proofs.EndedRowLaws.{rows_ended, rows_then}
-use Rattle.yq_edits.proofs.FirstBreakLaws.{IsOneBreak, break_tail, break_apart, break_bare}
-use Rattle.yq_edits.proofs.PartLaws.{document_known}
-use Rattle.yq_edits.proofs.PlacedPartLaws.{document_stands_at}
-use Rattle.yq_edits.proofs.TextPieceLaws.{pieces_joined, text_is_piece}
-use Rattle.yq_edits.proofs.RemovalPieceLaws.{spaces_piece, seam_pieces}
-use Rattle.yq_edits.proofs.AppendAtEnd.{nothing_tail}
-use Rattle.yq_edits.proofs.AppendEntryLaws.{none_uncommented}
-use Rattle.yq_edits.proofs.CommentPieceLaws.{nothing, break_piece}
-use Rattle.yq_edits.proofs.LastRows.{lf_end}
-use Rattle.yq_edit_laws.proofs.RootReadLaws.{TakesValue}
-use Rattle.yq_edit_laws.proofs.RootRows.{HasRoom}
-use Rattle.yq_edit_laws.proofs.StandingRoots.{HasRoot}
+use Rattle.yq_edits.{specs.DocumentRows.IsDocumentPart, specs.PlacedParts.StandsAt, specs.TextPieces.IsPiece}
+use Rattle.yq_edits.{proofs.AppendPlaceLaws.rows_behind, proofs.EndedRowLaws.{rows_ended, rows_then}}
+use Rattle.yq_edits.{proofs.FirstBreakLaws.{IsOneBreak, break_tail, break_apart, break_bare}, proofs.PartLaws.document_known}
+use Rattle.yq_edits.{proofs.PlacedPartLaws.document_stands_at, proofs.TextPieceLaws.{pieces_joined, text_is_piece}}
+use Rattle.yq_edits.{proofs.RemovalPieceLaws.{spaces_piece, seam_pieces}, proofs.AppendAtEnd.nothing_tail}
+use Rattle.yq_edits.{proofs.AppendEntryLaws.none_uncommented, proofs.CommentPieceLaws.{nothing, break_piece}, proofs.LastRows.lf_end}
+use Rattle.yq_edit_laws.{proofs.RootReadLaws.TakesValue, proofs.RootRows.HasRoom, proofs.StandingRoots.HasRoot}
 use Rattle.yq_edit_laws.proofs.FirstRows.{ends_with, row_entry, row_some, some_length}
+use Rattle.yq_core.specs.declared.block_types.Break.TheVariants as breaks
 
 -- ---- the rows of the root
 

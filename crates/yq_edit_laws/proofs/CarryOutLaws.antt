@@ -1,28 +1,18 @@
 -- What each operation exchanges carries it out, by the laws of each kind of edit.
 use Rattle.std.proofs.Common.{◌≡◌, ◌⊎◌, inl, inr, ℕ, Bool, true, false, cond, List, [], ◌∷◌, Option, Some, None, option_map, refl, subst}
-use Rattle.std.proofs.lemmas.Option.{none-some, same_Some}
-use Rattle.std.specs.Option.{option_or}
-use Rattle.yq_core.specs.Answers.{◌>>=◌}
-use Rattle.yq_core.specs.Paths.{Step}
-use Rattle.yq_core.specs.Tree.{Node}
-use Rattle.yq_core.proofs.Bools.{bind_some}
+use Rattle.std.{proofs.lemmas.Option.{none-some, same_Some}, specs.Option.option_or}
+use Rattle.yq_core.{specs.Answers.◌>>=◌, specs.Paths.Step, specs.Tree.Node, proofs.Bools.bind_some}
 use Rattle.yq_flow_edits.proofs.RemoveTexts.{either}
 use Rattle.yq_row_table.specs.Rows.{Cut, cut_text}
 use Rattle.yq_documents.specs.Reading.{read_at}
-use Rattle.yq_places.specs.FlowNodes.{flow_collection}
-use Rattle.yq_places.specs.NodesAt.{node_in}
-use Rattle.yq_places.specs.RemovalPlaces.{has_others_at}
-use Rattle.yq_places.specs.Standings.{flow_standing, last_step, rows_of_entry, standing_at}
-use Rattle.yq_places.proofs.PrintedTexts.{map_some}
+use Rattle.yq_places.{specs.FlowNodes.flow_collection, specs.NodesAt.node_in, specs.RemovalPlaces.has_others_at}
+use Rattle.yq_places.{specs.Standings.{flow_standing, last_step, rows_of_entry, standing_at}, proofs.PrintedTexts.map_some}
 use Rattle.yq_semantics.specs.Operations.{replace, append, remove, line_comment, head_comment}
 use Rattle.yq_text.specs.Script.{Segment, keep}
 use Rattle.yq_edits.specs.EditLaws.{KindsCarryOut, EditsCarryOut, IsEdit}
 use Rattle.yq_edits.specs.Edits.{empty_collection, part_removed, replace_segments, rows_or_sole, sole_removed}
-use Rattle.yq_edits.specs.EntryEdits.{block_more, one_removed}
-use Rattle.yq_edits.specs.FlowParts.{flow_more, flow_put}
-use Rattle.yq_edits.specs.Layouts.{layout_of}
-use Rattle.yq_edits.specs.ReplaceEdits.{has_text, value_put}
-use Rattle.yq_edits.specs.Replacing.{keeps_scalar}
+use Rattle.yq_edits.{specs.EntryEdits.{block_more, one_removed}, specs.FlowParts.{flow_more, flow_put}, specs.Layouts.layout_of}
+use Rattle.yq_edits.{specs.ReplaceEdits.{has_text, value_put}, specs.Replacing.keeps_scalar}
 
 module _ (laws : KindsCarryOut) where
   replaced_is : (n : ℕ) (steps : List Step) (v : Node) (c : Cut) (ss : List Segment) → read_at (cut_text c) ≡ Some c → replace_segments n steps v c ≡ Some ss → IsEdit (replace n steps v) c ss

@@ -1,13 +1,9 @@
 -- A collection at a path stands in the head of a line, in flow, or it has lines of its own, in block.
 use Rattle.std.proofs.Common.{◌≡◌, ◌⊎◌, inl, inr, cond, List, [], ◌∷◌, Option, Some, None, option_map, refl, sym, ap, ◌∙◌, subst}
-use Rattle.std.proofs.lemmas.Option.{none-some, same_Some}
-use Rattle.std.specs.Prelude.{option_and_then}
-use Rattle.yq_core.specs.Answers.{◌>>=◌}
-use Rattle.yq_core.specs.Paths.{Step, node_at}
-use Rattle.yq_core.specs.Tree.{Node}
+use Rattle.std.{proofs.lemmas.Option.{none-some, same_Some}, specs.Prelude.option_and_then}
+use Rattle.yq_core.{specs.Answers.◌>>=◌, specs.Paths.{Step, node_at}, specs.Tree.Node}
 use Rattle.yq_outline.specs.Outline.{LineMark, Bare, Key, Dash, Outline, end, row, anchored, head_or, value}
-use Rattle.yq_outline.specs.Places.{here, FoundLine, find, in_head, place_inside, content_under}
-use Rattle.yq_outline.specs.Positions.{has_no_mark}
+use Rattle.yq_outline.{specs.Places.{here, FoundLine, find, in_head, place_inside, content_under}, specs.Positions.has_no_mark}
 use Rattle.yq_outline.proofs.Finding.{path_node}
 use Rattle.yq_places.specs.FlowNodes.{bare_line, find_head, head_line}
 use Rattle.yq_edits.specs.Siblings.{HasEntries, IsCollectionAt, IsEntry, NodeLines, lines_below, under_line}

@@ -1,21 +1,15 @@
 -- Rows that end in one, lists of lines, and what a text of rows ends in.
-use Rattle.std.proofs.Common.{◌≡◌, ℕ, zero, suc, ◌+◌, false, not, List, [], ◌∷◌, ◌++◌, length, replicate, Some, refl, sym, ap, ◌∙◌, subst, arith, append_assoc, length-append}
-use Rattle.std.proofs.lemmas.Bool.{false≢true}
-use Rattle.std.proofs.lemmas.List.{length-replicate}
+use Rattle.std.proofs.Common.{◌≡◌, ℕ, zero, suc, ◌+◌, false, not, List, [], ◌∷◌, ◌++◌, length, replicate, Some, refl, sym, ap, ◌∙◌, subst}
+use Rattle.std.{proofs.Common.{arith, append_assoc, length-append}, proofs.lemmas.Bool.false≢true, proofs.lemmas.List.length-replicate}
 use Rattle.std.specs.List.{slice_get}
 use Rattle.yq_core.specs.Text.{is_empty}
-use Rattle.yq_outline.specs.Outline.{Line}
-use Rattle.yq_outline.specs.Outline as outlines
-use Rattle.yq_outline.specs.Positions.{has_no_mark}
-use Rattle.yq_row_table.specs.Grammar.{AreRows, unlimited}
-use Rattle.yq_row_table.specs.Rows.{Row, behind_columns, dashes_text, print_row, rows_text}
-use Rattle.yq_places.specs.CollectionEnds.{is_broken}
-use Rattle.yq_places.specs.PrintedLines.{last_break}
-use Rattle.yq_outline.proofs.WalkLevels.{RowsAgree, RowAgrees}
-use Rattle.yq_edits.specs.Siblings.{IsEntry}
-use Rattle.yq_edits.proofs.EndedRowLaws.{row_there, rows_then}
+use Rattle.yq_outline.{specs.Outline.Line, specs.Positions.has_no_mark, proofs.WalkLevels.{RowsAgree, RowAgrees}}
+use Rattle.yq_row_table.{specs.Grammar.{AreRows, unlimited}, specs.Rows.{Row, behind_columns, dashes_text, print_row, rows_text}}
 use Rattle.yq_row_table.proofs.seams.SeamLaws.{rows_text-append}
+use Rattle.yq_places.{specs.CollectionEnds.is_broken, specs.PrintedLines.last_break}
+use Rattle.yq_edits.{specs.Siblings.IsEntry, proofs.EndedRowLaws.{row_there, rows_then}}
 use Rattle.yq_edit_laws.proofs.FinalBreaks.{broken_is}
+use Rattle.yq_outline.specs.Outline as outlines
 
 pub get_behind : (a b : List Line) (j : ℕ) → slice_get (a ++ b) (length a + j) ≡ slice_get b j
 get_behind [] b j = let same : 0 + j ≡ j = omega arith in ap (slice_get b) same

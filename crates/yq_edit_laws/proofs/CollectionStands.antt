@@ -1,42 +1,23 @@
 -- A block collection that stands at a place, by its rows, and where it ends.
-use Rattle.std.proofs.Common.{inl, inr, ◌⊎◌, ◌≡◌, ℕ, suc, ◌+◌, ◌<◌, ◌≤◌, Bool, true, false, ◌&&◌, List, [], ◌∷◌, ◌++◌, length, take, Option, Some, None, option_and_then, refl, sym, ap, ◌∙◌, subst, arith, append_assoc, append-nil, length-append}
-use Rattle.std.proofs.lemmas.Bool.{cases_lt, false≢true}
-use Rattle.std.proofs.lemmas.Option.{same_Some}
-use Rattle.std.specs.List.{slice_get}
-use Rattle.std.specs.Option.{is_none}
-use Rattle.yq_core.specs.Paths.{Step}
-use Rattle.yq_core.specs.Text.{is_empty}
-use Rattle.yq_core.specs.Tree.{Node}
-use Rattle.yq_outline.specs.Comments.{head_comment}
-use Rattle.yq_outline.specs.Outline.{Line, Outline, end, row, flatten}
-use Rattle.yq_outline.specs.Places.{FoundLine, here, lines_after, lines_before}
-use Rattle.yq_outline.specs.Positions.{has_no_mark}
-use Rattle.yq_outline.proofs.Decides.{flatten-group}
-use Rattle.yq_row_table.specs.Grammar.{AreDashes, AreRows, IsRow, Limit, is_entry, unlimited}
-use Rattle.yq_row_table.specs.Rows as rows
-use Rattle.yq_row_table.specs.Rows.{Row, Part, Cut, behind_columns, cut_text, part_text, print_row, rows_text}
-use Rattle.yq_row_table.specs.View.{slices}
-use Rattle.yq_documents.specs.Documents.{document_parts}
+use Rattle.std.proofs.Common.{inl, inr, ◌⊎◌, ◌≡◌, ℕ, suc, ◌+◌, ◌<◌, ◌≤◌, Bool, true, false, ◌&&◌, List, [], ◌∷◌, ◌++◌, length, take, Option}
+use Rattle.std.proofs.Common.{Some, None, option_and_then, refl, sym, ap, ◌∙◌, subst, arith, append_assoc, append-nil, length-append}
+use Rattle.std.{proofs.lemmas.Bool.{cases_lt, false≢true}, proofs.lemmas.Option.same_Some, specs.List.slice_get, specs.Option.is_none}
+use Rattle.yq_core.{specs.Paths.Step, specs.Text.is_empty, specs.Tree.Node}
+use Rattle.yq_outline.{specs.Comments.head_comment, specs.Outline.{Line, Outline, end, row, flatten}}
+use Rattle.yq_outline.{specs.Places.{FoundLine, here, lines_after, lines_before}, specs.Positions.has_no_mark, proofs.Decides.flatten-group}
 use Rattle.yq_outline.specs.Lines.{dash_line, head_of, lines_from, lines_of_rows, mark_line, line_mark, row_lines}
-use Rattle.yq_documents.specs.Reading.{part_outline}
-use Rattle.yq_places.specs.CollectionEnds.{CollectionEnd, is_broken}
-use Rattle.yq_places.specs.Standings.{RowsOfEntry, before_entry, behind_entry, is_alone}
-use Rattle.yq_places.proofs.FlowViewLaws.{before_under}
-use Rattle.yq_places.proofs.RowPathLaws.{found_lines}
-use Rattle.yq_places.proofs.UnderExchange.{lines_append}
-use Rattle.yq_outline.proofs.WalkLevels.{RowsAgree, IsLineOf, RowAgrees, line_in}
-use Rattle.yq_outline.proofs.WalkRows.{rows_agree}
-use Rattle.yq_edits.specs.Changed.{put_document}
-use Rattle.yq_edits.specs.CollectionPlaces.{BeginsAt, IsCollectionEnd}
-use Rattle.yq_edits.specs.DocumentRows.{behind_document}
-use Rattle.yq_edits.specs.Siblings.{HasEntries, IsEntry, lines_below, under_line}
-use Rattle.yq_edits.specs.StandingLaws.{StandsThere}
-use Rattle.yq_edits.proofs.EndedRowLaws.{row_there}
-use Rattle.yq_edits.proofs.LineLaws.{row_count}
-use Rattle.yq_edits.proofs.PartLaws.{document_known, part_rows}
+use Rattle.yq_outline.{proofs.WalkLevels.{RowsAgree, IsLineOf, RowAgrees, line_in}, proofs.WalkRows.rows_agree}
+use Rattle.yq_row_table.specs.Grammar.{AreDashes, AreRows, IsRow, Limit, is_entry, unlimited}
+use Rattle.yq_row_table.{specs.Rows.{Row, Part, Cut, behind_columns, cut_text, part_text, print_row, rows_text}, specs.View.slices}
+use Rattle.yq_documents.{specs.Documents.document_parts, specs.Reading.part_outline}
+use Rattle.yq_places.{specs.CollectionEnds.{CollectionEnd, is_broken}, specs.Standings.{RowsOfEntry, before_entry, behind_entry, is_alone}}
+use Rattle.yq_places.{proofs.FlowViewLaws.before_under, proofs.RowPathLaws.found_lines, proofs.UnderExchange.lines_append}
+use Rattle.yq_edits.{specs.Changed.put_document, specs.CollectionPlaces.{BeginsAt, IsCollectionEnd}, specs.DocumentRows.behind_document}
+use Rattle.yq_edits.{specs.Siblings.{HasEntries, IsEntry, lines_below, under_line}, specs.StandingLaws.StandsThere}
+use Rattle.yq_edits.{proofs.EndedRowLaws.row_there, proofs.LineLaws.row_count, proofs.PartLaws.{document_known, part_rows}}
+use Rattle.yq_edits.{proofs.CommentRowLaws.rows_front, proofs.SamePlaceLaws.put_own}
 use Rattle.yq_edit_laws.proofs.CollectionRows.{get_behind, get_front, behind_front, row_agrees_in, columns_are, no_bare}
-use Rattle.yq_edits.proofs.CommentRowLaws.{rows_front}
-use Rattle.yq_edits.proofs.SamePlaceLaws.{put_own}
+use Rattle.yq_row_table.specs.Rows as rows
 
 -- ---- under a line
 

@@ -1,29 +1,17 @@
 -- Another content behind a key or dash stands for a value in the place of what an item or entry holds.
 use Rattle.std.proofs.Common.{◌≡◌, ℕ, suc, ◌≤◌, true, List, [], ◌∷◌, ◌++◌, Some, refl, sym, ap, subst, arith, rules}
 use Rattle.std.proofs.lemmas.Bool.{lt-ltb}
-use Rattle.yq_core.specs.Paths.{Step}
-use Rattle.yq_core.specs.Text.{separates}
-use Rattle.yq_core.specs.Tree.{Node, anchor_of}
-use Rattle.yq_outline.specs.Comments.{line_comment}
-use Rattle.yq_outline.specs.Outline as outline
-use Rattle.yq_outline.specs.Outline.{end, IsOpen, head_or, value}
-use Rattle.yq_outline.specs.Places.{content_under}
-use Rattle.yq_row_table.specs.Exchange.{with_content}
-use Rattle.yq_row_table.specs.Grammar.{allows, limit_behind, IsContent}
+use Rattle.yq_core.{specs.Paths.Step, specs.Text.separates, specs.Tree.{Node, anchor_of}}
+use Rattle.yq_outline.{specs.Comments.line_comment, specs.Outline.{end, IsOpen, head_or, value}, specs.Places.content_under}
+use Rattle.yq_outline.specs.Lines.{content_anchor, head_of, tail_of}
+use Rattle.yq_row_table.{specs.Exchange.with_content, specs.Grammar.{allows, limit_behind, IsContent}}
 use Rattle.yq_row_table.specs.Rows.{Content, content_text, Row, mark_column, parent_indent, rows_text, Cut, cut_text}
 use Rattle.yq_documents.specs.Documents.{MarkIsFit, ContentHasFitKeys, HaveFitKeys}
-use Rattle.yq_outline.specs.Lines.{content_anchor, head_of, tail_of}
-use Rattle.yq_edits.specs.DocumentRows.{behind_document}
-use Rattle.yq_edits.proofs.AnchorLaws.{fit_parts}
-use Rattle.yq_edits.proofs.ContentLaws.{free_alone}
-use Rattle.yq_edits.proofs.InlineReplaceLaws.{deeper_entry}
-use Rattle.yq_edits.proofs.PartLaws.{document_known}
-use Rattle.yq_edits.proofs.UnderLaws.{line_with, gone_lines}
-use Rattle.yq_edits.specs.BlockPlaces.{IsUpto, at_mark, at_dash, Replaces}
-use Rattle.yq_edits.proofs.LaidRows.{no_gap_here}
-use Rattle.yq_edits.proofs.PlaceLaws.{upto_row}
-use Rattle.yq_edit_laws.proofs.NodeRowLaws.{NodeRows, entry, limit, rest, rows_there}
-use Rattle.yq_edit_laws.proofs.NodeTaken.{TakesNode}
+use Rattle.yq_edits.{specs.DocumentRows.behind_document, proofs.AnchorLaws.fit_parts, proofs.ContentLaws.free_alone}
+use Rattle.yq_edits.{proofs.InlineReplaceLaws.deeper_entry, proofs.PartLaws.document_known, proofs.UnderLaws.{line_with, gone_lines}}
+use Rattle.yq_edits.{specs.BlockPlaces.{IsUpto, at_mark, at_dash, Replaces}, proofs.LaidRows.no_gap_here, proofs.PlaceLaws.upto_row}
+use Rattle.yq_edit_laws.{proofs.NodeRowLaws.{NodeRows, entry, limit, rest, rows_there}, proofs.NodeTaken.TakesNode}
+use Rattle.yq_outline.specs.Outline as outline
 
 upto_fit : {s r : Row} → IsUpto s r → MarkIsFit r.mark → MarkIsFit s.mark
 upto_fit (at_mark {r} e) h = h

@@ -1,11 +1,8 @@
 -- A text that reads is that of its cut.
-use Rattle.std.proofs.Common.{◌≡◌, ◌<◌, ◌^◌, ℕ, List, [], ◌∷◌, length, Some, arith, sym, ap, ◌∙◌}
-use Rattle.std.specs.Str.{is_utf8}
+use Rattle.std.{proofs.Common.{◌≡◌, ◌<◌, ◌^◌, ℕ, List, [], ◌∷◌, length, Some, arith, sym, ap, ◌∙◌}, specs.Str.is_utf8}
 use Rattle.yq_core.proofs.Bools.{guard_then}
-use Rattle.yq_row_table.specs.Grammar.{IsCut}
-use Rattle.yq_row_table.specs.Rows.{Cut, cut_text}
-use Rattle.yq_documents.specs.Reading.{read_at, cut_of}
-use Rattle.yq_documents.proofs.ReadLaws.{text_takes, cut_is}
+use Rattle.yq_row_table.{specs.Grammar.IsCut, specs.Rows.{Cut, cut_text}}
+use Rattle.yq_documents.{specs.Reading.{read_at, cut_of}, proofs.ReadLaws.{text_takes, cut_is}}
 use Rattle.yq_text.specs.Script.{keep}
 
 -- what is read is cut so

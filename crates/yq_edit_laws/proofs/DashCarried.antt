@@ -1,67 +1,33 @@
 -- A value behind a dash, in the place of the compact collection that begins there.
-use Rattle.std.proofs.Common.{◌≡◌, inl, ℕ, ◌<◌, ◌≤◌, Bool, true, false, cond, List, [], ◌∷◌, ◌++◌, length, replicate, None, Some, refl, sym, ap, ◌∙◌, subst, append_assoc, append-nil}
-use Rattle.std.proofs.lemmas.Option.{same_Some}
-use Rattle.yq_core.specs.BlockWritten.{break_text}
-use Rattle.yq_text.specs.Limit.{text_limit}
-use Rattle.yq_core.specs.Paths.{Step}
-use Rattle.yq_core.specs.Tree.{Node}
-use Rattle.yq_core.specs.declared.style.Place.TheVariants.{Block as InBlock}
+use Rattle.std.proofs.Common.{◌≡◌, inl, ℕ, ◌<◌, ◌≤◌, Bool, true, false, cond, List, [], ◌∷◌, ◌++◌, length, replicate, None, Some, refl, sym}
+use Rattle.std.{proofs.Common.{ap, ◌∙◌, subst, append_assoc, append-nil}, proofs.lemmas.Option.same_Some}
+use Rattle.yq_core.{specs.BlockWritten.break_text, specs.Paths.Step, specs.Tree.Node}
+use Rattle.yq_core.{specs.declared.style.Place.TheVariants.Block as InBlock, proofs.NodesWrittenLaws.node_then}
+use Rattle.yq_text.{specs.Limit.text_limit, specs.Script.{Segment, keep, new_text, old_text, put}}
 use Rattle.yq_flow_edits.specs.Valued.{IsValueTree}
-use Rattle.yq_core.proofs.NodesWrittenLaws.{node_then}
-use Rattle.yq_outline.specs.Comments.{line_comment}
-use Rattle.yq_outline.specs.Places.{content_under}
-use Rattle.yq_outline.proofs.Finding.{FoundNode, path_node}
-use Rattle.yq_row_table.specs.Exchange.{row_front, with_content}
-use Rattle.yq_row_table.specs.Grammar.{IsTail}
-use Rattle.yq_row_table.specs.Items.{rows_items}
-use Rattle.yq_row_table.specs.Rows.{Cut, Nothing, Row, cut_text, mark_column, rows_text}
-use Rattle.yq_row_table.proofs.NothingLaws.{tail_apart}
+use Rattle.yq_outline.{specs.Comments.line_comment, specs.Places.content_under, proofs.Finding.{FoundNode, path_node}}
+use Rattle.yq_row_table.{specs.Exchange.{row_front, with_content}, specs.Grammar.IsTail, specs.Items.rows_items}
+use Rattle.yq_row_table.{specs.Rows.{Cut, Nothing, Row, cut_text, mark_column, rows_text}, proofs.NothingLaws.tail_apart}
 use Rattle.yq_row_table.proofs.PlaceLaws.{row_front-append}
 use Rattle.yq_documents.specs.Reading.{part_outline, read_at, root_of}
-use Rattle.yq_places.specs.RowPieces.{upto_dash}
-use Rattle.yq_places.specs.PrintedLines.{last_break, less_break}
-use Rattle.yq_places.specs.Standings.{Compact, RowsOfEntry, compact_in, dash_text, rows_of_entry}
-use Rattle.yq_places.proofs.PrintedTexts.{less_is}
-use Rattle.yq_edits.specs.Appends.{inserted}
-use Rattle.yq_edits.specs.Changed.{put_document}
-use Rattle.yq_edits.specs.SoundRoots.{MayReplace}
-use Rattle.yq_edits.specs.StandingLaws.{StandsThere}
-use Rattle.yq_edits.specs.TextPieces.{IsPiece}
-use Rattle.yq_edits.specs.Unders.{spaced_content}
-use Rattle.yq_edits.proofs.TextPieceLaws.{pieces_joined}
-use Rattle.yq_edits.specs.declared.layout.Layout.{Layout}
-use Rattle.yq_edits.specs.BlockReading.{is_filled}
-use Rattle.yq_edits.specs.BlockRows.{item_column, node_rows}
-use Rattle.yq_edits.specs.BlockText.{block_value}
-use Rattle.yq_edits.specs.BlockValues.{IsFilledValue}
-use Rattle.yq_edits.proofs.TextLaws.{value_spelled}
-use Rattle.yq_semantics.specs.Operations.{Operation, replace}
-use Rattle.yq_text.specs.Script.{Segment, keep, new_text, old_text, put}
-use Rattle.yq_edits.specs.Done.{ArePieces}
-use Rattle.yq_edits.specs.EditLaws.{CarriedOut}
-use Rattle.yq_edits.specs.Layouts.{layout_of}
-use Rattle.yq_edits.specs.Local.{InFirst}
-use Rattle.yq_edits.specs.ReplaceEdits.{compact_put}
+use Rattle.yq_places.{specs.RowPieces.upto_dash, specs.PrintedLines.{last_break, less_break}}
+use Rattle.yq_places.{specs.Standings.{Compact, RowsOfEntry, compact_in, dash_text, rows_of_entry}, proofs.PrintedTexts.less_is}
+use Rattle.yq_edits.{specs.Appends.inserted, specs.Changed.put_document, specs.SoundRoots.MayReplace, specs.StandingLaws.StandsThere}
+use Rattle.yq_edits.{specs.TextPieces.IsPiece, specs.Unders.spaced_content, proofs.TextPieceLaws.pieces_joined}
+use Rattle.yq_edits.{specs.declared.layout.Layout.Layout, specs.BlockReading.is_filled, specs.BlockRows.{item_column, node_rows}}
+use Rattle.yq_edits.{specs.BlockText.block_value, specs.BlockValues.IsFilledValue, proofs.TextLaws.value_spelled, specs.Done.ArePieces}
+use Rattle.yq_edits.{specs.EditLaws.CarriedOut, specs.Layouts.layout_of, specs.Local.InFirst, specs.ReplaceEdits.compact_put}
 use Rattle.yq_edits.specs.WrittenValues.{Written, compact_text, inline, lines, lines_in, takes_compact, value_text, written_at}
-use Rattle.yq_edits.proofs.BreakLaws.{last_is}
-use Rattle.yq_edits.proofs.BrokenTails.{uncommented_tail}
-use Rattle.yq_edits.proofs.CommentPieceLaws.{break_piece, byte_then}
-use Rattle.yq_edits.proofs.CommentReadLaws.{break_is}
-use Rattle.yq_edits.proofs.EditsFitLaws.{FitsReplace}
-use Rattle.yq_edits.proofs.HeldCuts.{break_is_piece}
-use Rattle.yq_edits.proofs.LayoutLaws.{mapping_least}
-use Rattle.yq_edits.proofs.OneLines.{break_line}
-use Rattle.yq_edits.proofs.SegmentLaws.{segments_readable}
+use Rattle.yq_edits.{proofs.BreakLaws.last_is, proofs.BrokenTails.uncommented_tail, proofs.CommentPieceLaws.{break_piece, byte_then}}
+use Rattle.yq_edits.{proofs.CommentReadLaws.break_is, proofs.EditsFitLaws.FitsReplace, proofs.HeldCuts.break_is_piece}
+use Rattle.yq_edits.{proofs.LayoutLaws.mapping_least, proofs.OneLines.break_line, proofs.SegmentLaws.segments_readable}
 use Rattle.yq_edits.proofs.ValueTexts.{IsWrittenFor, value_for}
+use Rattle.yq_semantics.specs.Operations.{Operation, replace}
 use Rattle.yq_edit_laws.proofs.DashNodes.{dash_behind, dash_last_ends, dash_node, dash_pieces, dash_spelled, dash_unnamed, upto}
 use Rattle.yq_edit_laws.proofs.DashValueLaws.{behind_first, behind_rows, behind_spelled, takes_behind}
-use Rattle.yq_edit_laws.proofs.HeldLines.{block_piece, break_tail, lines_piece}
-use Rattle.yq_edit_laws.proofs.MarkKinds.{filled_is}
-use Rattle.yq_edit_laws.proofs.NodeCarriedLaws.{KeepsNode, node_carried}
-use Rattle.yq_edit_laws.proofs.NodeLeads.{content_first, upto_long}
-use Rattle.yq_edit_laws.proofs.NodeRowLaws.{NodeRows, rest}
-use Rattle.yq_edit_laws.proofs.RowLines.{no_comment}
-use Rattle.yq_edit_laws.proofs.NodeTaken.{TakesNode, q_text}
+use Rattle.yq_edit_laws.{proofs.HeldLines.{block_piece, break_tail, lines_piece}, proofs.MarkKinds.filled_is}
+use Rattle.yq_edit_laws.{proofs.NodeCarriedLaws.{KeepsNode, node_carried}, proofs.NodeLeads.{content_first, upto_long}}
+use Rattle.yq_edit_laws.{proofs.NodeRowLaws.{NodeRows, rest}, proofs.RowLines.no_comment, proofs.NodeTaken.{TakesNode, q_text}}
 use Rattle.yq_edit_laws.proofs.NodeValueLaws.{IsHolding, end_is, rows_beside, rows_under, takes_beside, takes_under}
 
 module _ (n : ℕ) (s : Step) (ss : List Step) (c : Cut) (e : RowsOfEntry) (there : StandsThere n s ss c e) (less : e.line < length e.row.dashes) (read : read_at (cut_text c) ≡ Some c) (at : rows_of_entry n (s ∷ ss) c ≡ Some e) where

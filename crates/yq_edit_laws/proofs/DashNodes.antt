@@ -1,40 +1,23 @@
 -- The rows of an item with a compact collection, up to its dash, and the text round them.
-use Rattle.std.proofs.Common.{◌≡◌, inl, inr, ℕ, zero, suc, ◌<◌, ◌≤◌, true, false, List, [], ◌∷◌, ◌++◌, length, take, drop, replicate, Some, None, refl, sym, ap, ◌∙◌, subst, arith, append_assoc}
+use Rattle.std.proofs.Common.{◌≡◌, inl, inr, ℕ, zero, suc, ◌<◌, ◌≤◌, true, false, List, [], ◌∷◌, ◌++◌, length, take, drop, replicate, Some}
+use Rattle.std.proofs.Common.{None, refl, sym, ap, ◌∙◌, subst, arith, append_assoc}
 use Rattle.std.proofs.lemmas.List.{append_cancel_left, length-take-le, take-append-drop}
 use mathlib.Core.List.{tail-eq_of_cons-eq}
-use Rattle.yq_core.specs.Paths.{Step}
-use Rattle.yq_core.specs.Text.{is_empty}
-use Rattle.yq_core.specs.Tree.{anchor_of}
-use Rattle.yq_core.proofs.BlockPieceLaws.{IsLf}
-use Rattle.yq_outline.specs.Outline.{Line}
-use Rattle.yq_outline.specs.Places.{content_under}
-use Rattle.yq_row_table.specs.Exchange.{row_front}
-use Rattle.yq_row_table.specs.Gap.{IsBreak}
-use Rattle.yq_row_table.specs.Grammar.{AreDashes, is_entry}
-use Rattle.yq_row_table.specs.Rows as rows
-use Rattle.yq_row_table.specs.Rows.{Cut, Row, behind_dashes, cut_text, print_row, rows_text}
-use Rattle.yq_row_table.proofs.PlaceLaws.{row_then}
+use Rattle.yq_core.{specs.Paths.Step, specs.Text.is_empty, specs.Tree.anchor_of, proofs.BlockPieceLaws.IsLf}
+use Rattle.yq_outline.{specs.Outline.Line, specs.Places.content_under}
+use Rattle.yq_row_table.{specs.Exchange.row_front, specs.Gap.IsBreak, specs.Grammar.{AreDashes, is_entry}}
+use Rattle.yq_row_table.{specs.Rows.{Cut, Row, behind_dashes, cut_text, print_row, rows_text}, proofs.PlaceLaws.row_then}
 use Rattle.yq_documents.specs.Reading.{read_at}
-use Rattle.yq_places.specs.RowPieces.{past_dash, upto_dash}
-use Rattle.yq_places.specs.PrintedLines.{last_break}
-use Rattle.yq_places.specs.Standings.{RowsOfEntry, before_entry, behind_entry, dash_text, rows_of_entry}
-use Rattle.yq_places.proofs.CommentPieceLaws.{Ended}
-use Rattle.yq_places.proofs.DashLaws.{front_is, row_cut}
-use Rattle.yq_places.proofs.RunSpans.{rows_then}
-use Rattle.yq_edits.specs.Siblings.{HasEntries}
-use Rattle.yq_edits.specs.StandingLaws.{StandsThere}
-use Rattle.yq_edits.specs.TextPieces.{IsPiece}
-use Rattle.yq_edits.proofs.StandingMarks.{behind_there, row_there, rows_ended_there}
-use Rattle.yq_edits.proofs.TextPieceLaws.{line_cut, text_is_piece}
-use Rattle.yq_edits.specs.BlockPlaces.{IsUpto, at_dash}
-use Rattle.yq_edits.proofs.CommentPieceLaws.{nothing}
-use Rattle.yq_edits.proofs.HeldCuts.{last_cut}
-use Rattle.yq_edits.proofs.HeldLaws.{cut_spelled}
-use Rattle.yq_edits.proofs.HeldPieces.{suffix_lf}
-use Rattle.yq_edit_laws.proofs.HeldRows.{last_ends, value_unnamed}
-use Rattle.yq_edit_laws.proofs.NodeRowLaws.{NodeRows, line_is, parts, rest}
-use Rattle.yq_edit_laws.proofs.RowLines.{entries_under}
-use Rattle.yq_edit_laws.proofs.StandingNodes.{node_upto}
+use Rattle.yq_places.{specs.RowPieces.{past_dash, upto_dash}, specs.PrintedLines.last_break}
+use Rattle.yq_places.{specs.Standings.{RowsOfEntry, before_entry, behind_entry, dash_text, rows_of_entry}, proofs.CommentPieceLaws.Ended}
+use Rattle.yq_places.{proofs.DashLaws.{front_is, row_cut}, proofs.RunSpans.rows_then}
+use Rattle.yq_edits.{specs.Siblings.HasEntries, specs.StandingLaws.StandsThere, specs.TextPieces.IsPiece}
+use Rattle.yq_edits.{proofs.StandingMarks.{behind_there, row_there, rows_ended_there}, proofs.TextPieceLaws.{line_cut, text_is_piece}}
+use Rattle.yq_edits.{specs.BlockPlaces.{IsUpto, at_dash}, proofs.CommentPieceLaws.nothing, proofs.HeldCuts.last_cut}
+use Rattle.yq_edits.{proofs.HeldLaws.cut_spelled, proofs.HeldPieces.suffix_lf}
+use Rattle.yq_edit_laws.{proofs.HeldRows.{last_ends, value_unnamed}, proofs.NodeRowLaws.{NodeRows, line_is, parts, rest}}
+use Rattle.yq_edit_laws.{proofs.RowLines.entries_under, proofs.StandingNodes.node_upto}
+use Rattle.yq_row_table.specs.Rows as rows
 
 -- dashes from one on
 dashes_from : (k : ℕ) (ns : List ℕ) → k < length ns → (n : ℕ) × (ms : List ℕ) × (drop k ns ≡ n ∷ ms)

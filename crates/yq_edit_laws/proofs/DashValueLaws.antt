@@ -1,36 +1,19 @@
 -- A value in rows on the line of an item's dash.
 use Rattle.std.proofs.Common.{◌≡◌, ℕ, ◌*◌, ◌+◌, ◌<◌, ◌≤◌, List, [], ◌∷◌, ◌++◌, None, refl, sym, ap, ◌∙◌, subst, arith, append_assoc, rules}
-use Rattle.yq_core.specs.Paths.{Step}
-use Rattle.yq_core.specs.Text.{upto}
-use Rattle.yq_core.specs.Tree.{Node, anchor_of}
-use Rattle.yq_outline.specs.LineAnchors.{HaveOneAnchorEach}
-use Rattle.yq_outline.specs.Comments.{line_comment}
-use Rattle.yq_outline.specs.Outline.{level, Stands}
-use Rattle.yq_outline.specs.Places.{content_under}
-use Rattle.yq_outline.proofs.ByRules.{rules_give}
-use Rattle.yq_row_table.specs.Exchange.{row_front}
-use Rattle.yq_row_table.specs.Rows as rows
-use Rattle.yq_row_table.specs.Rows.{Nothing, Row, mark_column, rows_text, Cut}
-use Rattle.yq_outline.specs.Lines.{lines_of_rows, tail_of}
-use Rattle.yq_edits.specs.DocumentRows.{behind_document}
-use Rattle.yq_edits.proofs.LineLaws.{above_mark, mark_behind}
-use Rattle.yq_edits.proofs.UnderLaws.{dashes_of, line_with}
-use Rattle.yq_edits.specs.declared.layout.Layout.{Layout}
-use Rattle.yq_edits.specs.BlockPlaces.{compact_rows, Replaces}
-use Rattle.yq_edits.specs.BlockRows.{item_column, node_rows}
-use Rattle.yq_edits.specs.BlockText.{block_value}
+use Rattle.yq_core.{specs.Paths.Step, specs.Text.upto, specs.Tree.{Node, anchor_of}}
+use Rattle.yq_outline.{specs.LineAnchors.HaveOneAnchorEach, specs.Comments.line_comment, specs.Outline.{level, Stands}}
+use Rattle.yq_outline.{specs.Places.content_under, proofs.ByRules.rules_give, specs.Lines.{lines_of_rows, tail_of}}
+use Rattle.yq_row_table.{specs.Exchange.row_front, specs.Rows.{Nothing, Row, mark_column, rows_text, Cut}, specs.Items.rows_items}
+use Rattle.yq_edits.{specs.DocumentRows.behind_document, proofs.LineLaws.{above_mark, mark_behind}, proofs.UnderLaws.{dashes_of, line_with}}
+use Rattle.yq_edits.{specs.declared.layout.Layout.Layout, specs.BlockPlaces.{compact_rows, Replaces}}
+use Rattle.yq_edits.{specs.BlockRows.{item_column, node_rows}, specs.BlockText.block_value}
 use Rattle.yq_edits.specs.BlockValues.{HasNearKeys, IsFilledValue, IsEnd, entry_level, level_at}
 use Rattle.yq_edits.proofs.FitLaws.{anchors_fit, keys_fit, node_fit}
-use Rattle.yq_edits.proofs.BlockLineLaws.{BeginAt, lines_deeper, node_begun, node_stands}
-use Rattle.yq_edits.proofs.PlaceLaws.{behind_laid, compact_lines}
-use Rattle.yq_edits.proofs.RowLaws.{deeper_laid}
-use Rattle.yq_edits.proofs.TextLaws.{value_spelled}
-use Rattle.yq_row_table.specs.Items.{rows_items}
-use Rattle.yq_edits.specs.Local.{InFirst}
+use Rattle.yq_edits.{proofs.BlockLineLaws.{BeginAt, lines_deeper, node_begun, node_stands}, proofs.PlaceLaws.{behind_laid, compact_lines}}
+use Rattle.yq_edits.{proofs.RowLaws.deeper_laid, proofs.TextLaws.value_spelled, specs.Local.InFirst}
 use Rattle.yq_edit_laws.proofs.BehindDashLaws.{behind_lead, behind_text, first_row, gap_same, keys_same, more_rows, rows_are}
-use Rattle.yq_edit_laws.proofs.ContentRows.{upto_gap}
-use Rattle.yq_edit_laws.proofs.NodeRowLaws.{NodeRows, limit, rest, rows_there}
-use Rattle.yq_edit_laws.proofs.NodeTaken.{TakesNode}
+use Rattle.yq_edit_laws.{proofs.ContentRows.upto_gap, proofs.NodeRowLaws.{NodeRows, limit, rest, rows_there}, proofs.NodeTaken.TakesNode}
+use Rattle.yq_row_table.specs.Rows as rows
 
 no_comment : line_comment [] ≡ None
 unfolding upto

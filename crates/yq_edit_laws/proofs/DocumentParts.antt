@@ -1,10 +1,8 @@
 -- The documents of a cut are those of its parts.
-use Rattle.std.proofs.Common.{◌≡◌, ℕ, zero, suc, List, [], ◌∷◌, map, Some, refl, sym, ap}
-use Rattle.std.proofs.lemmas.Option.{none-some, same_Some}
+use Rattle.std.{proofs.Common.{◌≡◌, ℕ, zero, suc, List, [], ◌∷◌, map, Some, refl, sym, ap}, proofs.lemmas.Option.{none-some, same_Some}}
 use Rattle.std.specs.List.{slice_get}
 use Rattle.yq_row_table.specs.Rows.{Part, Cut}
-use Rattle.yq_documents.specs.Documents.{Document, document_parts}
-use Rattle.yq_documents.specs.Reading.{part_document, documents, root_of}
+use Rattle.yq_documents.{specs.Documents.{Document, document_parts}, specs.Reading.{part_document, documents, root_of}}
 
 -- A document of a cut is that of a part.
 pub record PartOf (c : Cut) (n : ℕ) (d : Document) : Type 0 where

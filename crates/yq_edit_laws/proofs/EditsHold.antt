@@ -1,22 +1,13 @@
 -- What each operation exchanges carries it out, and one that fits has it: the laws of all kinds of edits together.
 use Rattle.std.proofs.Common.{refl}
 use Rattle.yq_places.specs.Standings.{alone, beside, under, compact, block, root, no_rows}
-use Rattle.yq_edits.specs.EditLaws.{KindsCarryOut, EditsCarryOut, FittingHasEdit, ValuesArePut}
-use Rattle.yq_edit_laws.proofs.HeadCommentLaws.{head_comment_is_put}
-use Rattle.yq_edits.proofs.KeptLaws.{equal_scalars_stay}
-use Rattle.yq_edit_laws.proofs.LineCommentLaws.{line_comment_is_put}
-use Rattle.yq_edit_laws.proofs.MoreLaws.{more_is_put}
-use Rattle.yq_edit_laws.proofs.RemovingFirstLaws.{one_is_removed}
-use Rattle.yq_edit_laws.proofs.FlowAppendLaws.{flow_more_put}
-use Rattle.yq_edit_laws.proofs.FlowPutLaws.{flow_values_put}
-use Rattle.yq_edit_laws.proofs.FlowRemoveLaws.{flow_part_removed}
-use Rattle.yq_edit_laws.proofs.MoreExists.{takers_have_edit}
-use Rattle.yq_edit_laws.proofs.SoleLaws.{sole_removed}
-use Rattle.yq_edit_laws.proofs.StandingExists.{entries_stand, roots_stand}
-use Rattle.yq_edit_laws.proofs.RootEditLaws.{first_nodes_are_put, roots_are_put}
-use Rattle.yq_edit_laws.proofs.MarkedValueLaws.{marked_values}
-use Rattle.yq_edit_laws.proofs.FittingExists.{fitting_has_edit}
-use Rattle.yq_edit_laws.proofs.CarryOutLaws.{edits_carry_out}
+use Rattle.yq_edits.{specs.EditLaws.{KindsCarryOut, EditsCarryOut, FittingHasEdit, ValuesArePut}, proofs.KeptLaws.equal_scalars_stay}
+use Rattle.yq_edit_laws.{proofs.HeadCommentLaws.head_comment_is_put, proofs.LineCommentLaws.line_comment_is_put}
+use Rattle.yq_edit_laws.{proofs.MoreLaws.more_is_put, proofs.RemovingFirstLaws.one_is_removed, proofs.FlowAppendLaws.flow_more_put}
+use Rattle.yq_edit_laws.{proofs.FlowPutLaws.flow_values_put, proofs.FlowRemoveLaws.flow_part_removed, proofs.MoreExists.takers_have_edit}
+use Rattle.yq_edit_laws.{proofs.SoleLaws.sole_removed, proofs.StandingExists.{entries_stand, roots_stand}}
+use Rattle.yq_edit_laws.{proofs.RootEditLaws.{first_nodes_are_put, roots_are_put}, proofs.MarkedValueLaws.marked_values}
+use Rattle.yq_edit_laws.{proofs.FittingExists.fitting_has_edit, proofs.CarryOutLaws.edits_carry_out}
 
 -- a value is put, whatever stands at its place
 values_are_put : ValuesArePut

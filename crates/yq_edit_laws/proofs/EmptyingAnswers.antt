@@ -1,11 +1,8 @@
 -- A sole item or entry is removed by Replace of its collection with an empty one.
 use Rattle.std.proofs.Common.{◌≡◌, ℕ, List, Option, Some, None, option_map, refl, sym, ap, ◌∙◌}
-use Rattle.yq_core.specs.Answers.{◌>>=◌}
-use Rattle.yq_core.specs.Paths.{Step}
-use Rattle.yq_core.specs.Tree.{Node, alias, scalar, list, map}
+use Rattle.yq_core.{specs.Answers.◌>>=◌, specs.Paths.Step, specs.Tree.{Node, alias, scalar, list, map}}
 use Rattle.yq_row_table.specs.Rows.{Cut}
-use Rattle.yq_places.specs.NodesAt.{NodeAt, node_in, node_summary}
-use Rattle.yq_places.specs.Standings.{last_step}
+use Rattle.yq_places.{specs.NodesAt.{NodeAt, node_in, node_summary}, specs.Standings.last_step}
 use Rattle.yq_edits.specs.Edits.{empty_collection, replace_segments}
 use Rattle.yq_edit_laws.specs.Emptying.{Emptied, SoleByEmptying, emptied_summary, emptying}
 

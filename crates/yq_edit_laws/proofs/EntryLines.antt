@@ -1,13 +1,10 @@
 -- An item or entry of the block collection at a path has a line.
 use Rattle.std.proofs.Common.{◌≡◌, List, [], ◌∷◌, ◌++◌, Option, Some, None, option_map, refl, sym, ap, ◌∙◌, subst}
-use Rattle.std.proofs.lemmas.Option.{none-some, same_Some}
-use Rattle.std.specs.Prelude.{option_and_then}
-use Rattle.yq_core.specs.Paths.{Step}
-use Rattle.yq_core.specs.Tree.{Node}
+use Rattle.std.{proofs.lemmas.Option.{none-some, same_Some}, specs.Prelude.option_and_then}
+use Rattle.yq_core.{specs.Paths.Step, specs.Tree.Node}
 use Rattle.yq_outline.specs.Outline.{LineMark, Bare, Key, Dash, Outline, end, row}
 use Rattle.yq_outline.specs.Places.{here, FoundLine, bare_or, find, find_row, in_head, place_inside}
-use Rattle.yq_edits.specs.Siblings.{HasEntries, IsEntry, IsEntryAt, NodeLines}
-use Rattle.yq_edits.proofs.NodeLineLaws.{lines_found}
+use Rattle.yq_edits.{specs.Siblings.{HasEntries, IsEntry, IsEntryAt, NodeLines}, proofs.NodeLineLaws.lines_found}
 
 abbrev Reached : Type 0
 Reached = FoundLine × List Step

@@ -1,37 +1,23 @@
 -- Whether a text of rows ends in a break: by what stands behind the mark of the last one.
-use Rattle.std.proofs.Common.{inl, inr, ⊎_elim, ◌⊎◌, ◌≡◌, ℕ, zero, suc, ℤ, Bool, true, false, cond, ◌&&◌, not, List, [], ◌∷◌, ◌++◌, replicate, Option, refl, sym, ap, ◌∙◌, subst, append_assoc, append-nil}
+use Rattle.std.proofs.Common.{inl, inr, ⊎_elim, ◌⊎◌, ◌≡◌, ℕ, zero, suc, ℤ, Bool, true, false, cond, ◌&&◌, not, List, [], ◌∷◌, ◌++◌}
+use Rattle.std.proofs.Common.{replicate, Option, refl, sym, ap, ◌∙◌, subst, append_assoc, append-nil}
 use Rattle.std.proofs.lemmas.Bool.{false≢true, false_from_ne_true, or_parts, and_parts, eqb-true}
-use Rattle.yq_core.specs.Plain.{IsPlain, ends_plain}
-use Rattle.yq_core.specs.Quoted.{spell_lines}
+use Rattle.yq_core.{specs.Plain.{IsPlain, ends_plain}, specs.Quoted.spell_lines}
 use Rattle.yq_core.specs.Text.{front, joined, is_break, is_white, is_feed, is_return, is_line, is_empty, no_white, unless, NoneIn}
-use Rattle.yq_core.proofs.Bools.{at_byte}
-use Rattle.yq_core.proofs.BlockPieceLaws.{IsLf, append_lf, line_lf, raw_lf}
-use Rattle.yq_core.specs.Nodes as nodes
-use Rattle.yq_core.specs.Nodes.{FlowNode, empty, alias, scalar, coll, anchored, in_name, is_close, flow_items_text, node_text, opening_bracket, IsFlowNode}
-use Rattle.yq_core.specs.Scalars.{IsInQuotes}
-use Rattle.yq_core.proofs.NodesWrittenLaws.{node_append}
-use Rattle.yq_row_table.specs.Exchange.{row_front}
-use Rattle.yq_row_table.specs.Gap.{IsWhite}
-use Rattle.yq_row_table.specs.Grammar.{IsContent, IsKey, IsMark, IsRow, Limit, is_entry}
-use Rattle.yq_row_table.specs.Rows as rows
-use Rattle.yq_row_table.specs.Rows.{Content, Nothing, Inline, Block, Row, behind_indent, content_text, dashes_text, mark_text, parent_indent, print_row}
-use Rattle.yq_row_table.specs.View.{content_cut}
-use Rattle.yq_row_table.proofs.NothingLaws.{some_behind}
-use Rattle.yq_row_table.proofs.PlaceLaws.{row_front-append}
-use Rattle.yq_row_table.proofs.RowAgain.{row_starts}
-use Rattle.yq_row_table.proofs.SliceLaws.{content_slices}
+use Rattle.yq_core.{proofs.Bools.at_byte, proofs.BlockPieceLaws.{IsLf, append_lf, line_lf, raw_lf}}
+use Rattle.yq_core.specs.Nodes.{FlowNode, empty, alias, scalar, coll, anchored, in_name, is_close, flow_items_text, node_text}
+use Rattle.yq_core.{specs.Nodes.{opening_bracket, IsFlowNode}, specs.Scalars.IsInQuotes, proofs.NodesWrittenLaws.node_append}
+use Rattle.yq_row_table.{specs.Exchange.row_front, specs.Gap.IsWhite, specs.Grammar.{IsContent, IsKey, IsMark, IsRow, Limit, is_entry}}
+use Rattle.yq_row_table.specs.Rows.{Content, Nothing, Inline, Block, Row, behind_indent, content_text, dashes_text, mark_text}
+use Rattle.yq_row_table.{specs.Rows.{parent_indent, print_row}, specs.View.content_cut, proofs.NothingLaws.some_behind}
+use Rattle.yq_row_table.{proofs.PlaceLaws.row_front-append, proofs.RowAgain.row_starts, proofs.SliceLaws.content_slices}
 use Rattle.yq_row_table.proofs.seams.ScalarSeams.{last_no_space}
-use Rattle.yq_places.specs.CollectionEnds.{is_broken}
-use Rattle.yq_outline.specs.Lines.{line_mark}
-use Rattle.yq_outline.specs.Positions.{has_no_mark}
-use Rattle.yq_places.specs.Standings.{is_alone}
-use Rattle.yq_places.specs.PrintedLines.{end_break, last_break, less_break}
-use Rattle.yq_places.proofs.ContentEndLaws.{Ends, content_ends, tail_ends}
-use Rattle.yq_places.proofs.LastBreakLaws.{lf_last}
-use Rattle.yq_places.proofs.PrintedTexts.{less_is}
-use Rattle.yq_edits.proofs.EndedRowLaws.{many_lf}
-use Rattle.yq_edits.proofs.LineFrontLaws.{items_close}
-use Rattle.yq_edits.proofs.BreakLaws.{last_is}
+use Rattle.yq_places.{specs.CollectionEnds.is_broken, specs.Standings.is_alone, specs.PrintedLines.{end_break, last_break, less_break}}
+use Rattle.yq_places.{proofs.ContentEndLaws.{Ends, content_ends, tail_ends}, proofs.LastBreakLaws.lf_last, proofs.PrintedTexts.less_is}
+use Rattle.yq_outline.{specs.Lines.line_mark, specs.Positions.has_no_mark}
+use Rattle.yq_edits.{proofs.EndedRowLaws.many_lf, proofs.LineFrontLaws.items_close, proofs.BreakLaws.last_is}
+use Rattle.yq_core.specs.Nodes as nodes
+use Rattle.yq_row_table.specs.Rows as rows
 
 -- an LF ends a text
 abbrev pub ends_feed : List ℕ → Bool

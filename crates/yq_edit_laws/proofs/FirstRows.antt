@@ -2,21 +2,13 @@
 use Rattle.std.proofs.Common.{◌≡◌, ◌⊎◌, inl, inr, ℕ, ◌<◌, List, [], ◌∷◌, length, true, false, refl, sym, append_assoc, arith, rules}
 use Rattle.std.proofs.lemmas.Bool.{false≢true}
 use Rattle.yq_core.specs.Text.{is_empty, is_line}
-use Rattle.yq_outline.specs.Positions.{has_no_mark}
-use Rattle.yq_row_table.specs.Grammar.{IsMark}
-use Rattle.yq_row_table.specs.Rows as rows
-use Rattle.yq_row_table.specs.Rows.{Content, Row, behind_indent, content_text, mark_text}
-use Rattle.yq_row_table.proofs.PlaceLaws.{content_then}
-use Rattle.yq_outline.specs.Lines.{lines_of_rows, line_mark}
+use Rattle.yq_outline.{specs.Positions.has_no_mark, specs.Lines.{lines_of_rows, line_mark}}
+use Rattle.yq_row_table.{specs.Grammar.IsMark, specs.Rows.{Content, Row, behind_indent, content_text, mark_text}}
+use Rattle.yq_row_table.{proofs.PlaceLaws.content_then, proofs.NothingLaws.some_behind, proofs.GapLaws.some_more}
 use Rattle.yq_documents.specs.Ready.{begins_no_node}
-use Rattle.yq_places.specs.PrintedLines.{last_break}
-use Rattle.yq_places.specs.Standings.{is_alone}
-use Rattle.yq_places.proofs.CommentPieceLaws.{Ended}
-use Rattle.yq_places.proofs.LastBreakLaws.{lf_last}
-use Rattle.yq_edits.proofs.FirstBreakLaws.{IsOneBreak}
-use Rattle.yq_edits.proofs.BreakLaws.{last_is}
-use Rattle.yq_row_table.proofs.NothingLaws.{some_behind}
-use Rattle.yq_row_table.proofs.GapLaws.{some_more}
+use Rattle.yq_places.{specs.PrintedLines.last_break, specs.Standings.is_alone, proofs.CommentPieceLaws.Ended, proofs.LastBreakLaws.lf_last}
+use Rattle.yq_edits.{proofs.FirstBreakLaws.IsOneBreak, proofs.BreakLaws.last_is}
+use Rattle.yq_row_table.specs.Rows as rows
 
 no_line : is_line [] ≡ false
 unfolding is_line

@@ -1,55 +1,34 @@
 -- An operation that fits has its edit: where a node is, something stands.
-use Rattle.std.proofs.Common.{◌≡◌, ◌⊎◌, inl, inr, ltb, ℕ, Bool, true, false, cond, List, [], ◌∷◌, Option, Some, None, option_map, refl, sym, ap, ◌∙◌, subst}
-use Rattle.std.proofs.lemmas.Bool.{cond-true, false≢true}
-use Rattle.std.proofs.lemmas.Option.{none-some}
-use Rattle.std.specs.List.{slice_get}
-use Rattle.std.specs.Option.{option_or}
-use Rattle.yq_core.specs.Answers.{◌>>=◌}
-use Rattle.yq_core.specs.BlockWritten.{break_text}
-use Rattle.yq_core.specs.Paths.{Step, child_at, further, is_here, node_at}
-use Rattle.yq_core.specs.Tree as tree
-use Rattle.yq_core.specs.Tree.{Node, children_of, key_label}
-use Rattle.yq_core.proofs.Bools.{bind_some}
-use Rattle.yq_core.specs.Collections.{CollPieces}
-use Rattle.yq_core.specs.Entries.{EntryPieces, item_at}
-use Rattle.yq_core.specs.Nodes.{Items, none, item, flow_items_text, sep_text}
+use Rattle.std.proofs.Common.{◌≡◌, ◌⊎◌, inl, inr, ltb, ℕ, Bool, true, false, cond, List, [], ◌∷◌, Option, Some, None, option_map, refl, sym}
+use Rattle.std.{proofs.Common.{ap, ◌∙◌, subst}, proofs.lemmas.Bool.{cond-true, false≢true}, proofs.lemmas.Option.none-some}
+use Rattle.std.{specs.List.slice_get, specs.Option.option_or}
+use Rattle.yq_core.{specs.Answers.◌>>=◌, specs.BlockWritten.break_text, specs.Paths.{Step, child_at, further, is_here, node_at}}
+use Rattle.yq_core.{specs.Tree.{Node, children_of, key_label}, proofs.Bools.bind_some, specs.Collections.CollPieces}
+use Rattle.yq_core.{specs.Entries.{EntryPieces, item_at}, specs.Nodes.{Items, none, item, flow_items_text, sep_text}}
 use Rattle.yq_core.specs.Trees.{items_tree, key_content}
-use Rattle.yq_flow_edits.specs.FlowEdits.{FlowEdit}
-use Rattle.yq_flow_edits.specs.Removals.{before_next, edit_from_item, gap_of, last_removed, removing_from}
+use Rattle.yq_flow_edits.{specs.FlowEdits.FlowEdit, specs.Removals.{before_next, edit_from_item, gap_of, last_removed, removing_from}}
 use Rattle.yq_outline.specs.Counts.{count}
-use Rattle.yq_row_table.specs.Rows as rows
 use Rattle.yq_row_table.specs.Rows.{Cut, cut_text}
-use Rattle.yq_documents.specs.declared.path.Part.{Part}
-use Rattle.yq_documents.specs.declared.path.Part.TheVariants.{HeadComment, LineComment}
-use Rattle.yq_documents.specs.Documents.{Document, document_parts}
-use Rattle.yq_documents.specs.Reading.{cut_of, documents, read_at}
+use Rattle.yq_documents.{specs.declared.path.Part.Part, specs.declared.path.Part.TheVariants.{HeadComment, LineComment}}
+use Rattle.yq_documents.{specs.Documents.{Document, document_parts}, specs.Reading.{cut_of, documents, read_at}}
 use Rattle.yq_documents.specs.LinesInRows.{RowLine, line_has_room, row_line_has_room, row_line_of}
-use Rattle.yq_places.specs.FirstBreak.{first_break}
-use Rattle.yq_places.specs.FlowNodes.{flow_collection}
-use Rattle.yq_places.specs.NodesAt.{node_in}
-use Rattle.yq_places.specs.PlacedRows.{PlacedPart, placed_document}
-use Rattle.yq_places.specs.RemovalPlaces.{has_others_at}
-use Rattle.yq_places.specs.Standings.{FlowPart, RowsOfEntry, Standing, entry_rows_at, entry_standing, flow_part, flow_standing, held, last_step, rows_of_entry, standing_at}
-use Rattle.yq_places.proofs.PlacedRowLaws.{document_placed, part_of}
+use Rattle.yq_places.{specs.FirstBreak.first_break, specs.FlowNodes.flow_collection, specs.NodesAt.node_in}
+use Rattle.yq_places.{specs.PlacedRows.{PlacedPart, placed_document}, specs.RemovalPlaces.has_others_at}
+use Rattle.yq_places.specs.Standings.{FlowPart, RowsOfEntry, Standing, entry_rows_at, entry_standing, flow_part, flow_standing, held}
+use Rattle.yq_places.{specs.Standings.{last_step, rows_of_entry, standing_at}, proofs.PlacedRowLaws.{document_placed, part_of}}
 use Rattle.yq_places.proofs.PrintedTexts.{map_some}
 use Rattle.yq_edits.specs.StandingLaws.{EntriesStand, RootsStand}
-use Rattle.yq_semantics.specs.Fits.{Fits}
-use Rattle.yq_semantics.specs.Operations.{replace, append, remove, line_comment, head_comment}
-use Rattle.yq_semantics.specs.Rooms.{room_of}
-use Rattle.yq_text.specs.Script.{Segment, keep}
 use Rattle.yq_edits.specs.CommentEdits.{above_rows, comment_put, head_comment_put, head_comment_segments, line_comment_put}
 use Rattle.yq_edits.specs.EditLaws.{FittingHasEdit, AppendHasEdit}
 use Rattle.yq_edits.specs.Edits.{op_edits, empty_collection, part_removed, removed, replace_segments, rows_or_sole, sole_removed}
-use Rattle.yq_edits.specs.EntryEdits.{one_removed}
-use Rattle.yq_edits.specs.FlowParts.{flow_put, flow_removed, flow_segments}
-use Rattle.yq_edits.specs.Layouts.{layout_of}
-use Rattle.yq_edits.specs.ReplaceEdits.{has_text, value_put}
-use Rattle.yq_edits.specs.Replacing.{keeps_scalar}
-use Rattle.yq_edits.proofs.DoneLaws.{read_cut}
+use Rattle.yq_edits.{specs.EntryEdits.one_removed, specs.FlowParts.{flow_put, flow_removed, flow_segments}, specs.Layouts.layout_of}
+use Rattle.yq_edits.{specs.ReplaceEdits.{has_text, value_put}, specs.Replacing.keeps_scalar, proofs.DoneLaws.read_cut}
+use Rattle.yq_semantics.{specs.Fits.Fits, specs.Operations.{replace, append, remove, line_comment, head_comment}, specs.Rooms.room_of}
+use Rattle.yq_text.specs.Script.{Segment, keep}
+use Rattle.yq_edit_laws.{proofs.FlowSoundLaws.{above_is, last_is}, proofs.StandingExists.last_there, proofs.RemoveExists.one_there}
+use Rattle.yq_core.specs.Tree as tree
+use Rattle.yq_row_table.specs.Rows as rows
 use Rattle.yq_edit_laws.proofs.DocumentParts as parts
-use Rattle.yq_edit_laws.proofs.FlowSoundLaws.{above_is, last_is}
-use Rattle.yq_edit_laws.proofs.StandingExists.{last_there}
-use Rattle.yq_edit_laws.proofs.RemoveExists.{one_there}
 
 -- there is an edit
 abbrev IsThere : Option (List Segment) → Type 0

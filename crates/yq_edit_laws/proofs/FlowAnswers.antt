@@ -1,27 +1,19 @@
 -- What the code finds of flow collections, and where the edits of these stand in a text.
-use Rattle.std.proofs.Common.{◌≡◌, ℕ, ◌-◌, ◌≤◌, List, [], ◌∷◌, ◌++◌, length, map, take, drop, slice_index_or, Option, Some, option_map, refl, sym, ap, ◌∙◌, subst, arith, append_assoc, length-append}
-use Rattle.std.proofs.Math.Seq.{take-append_seam, drop-append_seam}
-use Rattle.std.specs.Str.{IsCharBoundary}
-use Rattle.yq_core.specs.Answers.{◌>>=◌}
-use Rattle.yq_core.specs.Paths.{Step}
-use Rattle.yq_core.specs.Collections.{CollPieces}
-use Rattle.yq_core.specs.Entries.{EntryPieces, item_at}
-use Rattle.yq_core.specs.Nodes.{node_text}
-use Rattle.yq_core.specs.Places.{Placed}
-use Rattle.yq_flow_edits.specs.FlowEdits.{FlowEdit}
-use Rattle.yq_flow_edits.specs.FlowPlaces.{PlacedEdit, place_edit}
+use Rattle.std.proofs.Common.{◌≡◌, ℕ, ◌-◌, ◌≤◌, List, [], ◌∷◌, ◌++◌, length, map, take, drop, slice_index_or, Option, Some, option_map}
+use Rattle.std.proofs.Common.{refl, sym, ap, ◌∙◌, subst, arith, append_assoc, length-append}
+use Rattle.std.{proofs.Math.Seq.{take-append_seam, drop-append_seam}, specs.Str.IsCharBoundary}
+use Rattle.yq_core.{specs.Answers.◌>>=◌, specs.Paths.Step, specs.Collections.CollPieces, specs.Entries.{EntryPieces, item_at}}
+use Rattle.yq_core.{specs.Nodes.node_text, specs.Places.Placed}
+use Rattle.yq_flow_edits.{specs.FlowEdits.FlowEdit, specs.FlowPlaces.{PlacedEdit, place_edit}}
 use Rattle.yq_row_table.specs.Rows.{Cut, cut_text}
 use Rattle.yq_documents.specs.Reading.{cut_of, read_at}
 use Rattle.yq_places.specs.FlowNodes.{flow_collection}
 use Rattle.yq_places.specs.FlowViews.{IsHeadOfSteps, FlowAgrees, behind_anchor, collection_view, placed_collection}
-use Rattle.yq_places.specs.Standings.{FlowPart, flow_part, flow_standing, last_step}
-use Rattle.yq_places.specs.declared.places.flow_node.FlowHead.{FlowHead}
+use Rattle.yq_places.{specs.Standings.{FlowPart, flow_part, flow_standing, last_step}, specs.declared.places.flow_node.FlowHead.FlowHead}
 use Rattle.yq_text.specs.Script.{Segment, keep, put}
 use Rattle.yq_edits.specs.FlowParts.{flow_segments}
-use Rattle.yq_edit_laws.specs.EditPlaces.{LiesIn, edit_segments, moved_on}
-use Rattle.yq_edit_laws.proofs.CutLaws.{text_read, text_small}
-use Rattle.yq_edit_laws.proofs.FlowHeads.{in_text, item_whole, agrees_there}
-use Rattle.yq_edit_laws.proofs.FlowLonger.{edit_more, entry_more}
+use Rattle.yq_edit_laws.{specs.EditPlaces.{LiesIn, edit_segments, moved_on}, proofs.CutLaws.{text_read, text_small}}
+use Rattle.yq_edit_laws.{proofs.FlowHeads.{in_text, item_whole, agrees_there}, proofs.FlowLonger.{edit_more, entry_more}}
 use Rattle.yq_edit_laws.proofs.FlowStandings.{EntryAt}
 
 -- ---- the last step

@@ -1,49 +1,29 @@
 -- One item or entry more in a flow collection.
-use Rattle.std.proofs.Common.{◌≡◌, ℕ, suc, ◌+◌, ◌-◌, ◌≤◌, Bool, true, false, not, eqb, cond, List, [], ◌∷◌, ◌++◌, length, Option, Some, None, refl, sym, ap, ◌∙◌, subst, arith}
-use Rattle.std.proofs.lemmas.Bool.{cond_both, false≢true}
-use Rattle.std.proofs.lemmas.Option.{none-some, same_Some}
-use Rattle.std.specs.Prelude.{is_some}
-use Rattle.std.specs.Str.{IsCharBoundary}
-use Rattle.yq_text.specs.Limit.{text_limit}
-use Rattle.yq_core.specs.Keys.{depth, keys_of}
-use Rattle.yq_core.specs.Paths.{Step, append_child, node_at}
-use Rattle.yq_core.specs.Tree as tree
-use Rattle.yq_core.specs.Tree.{children_of, key_label}
-use Rattle.yq_core.specs.Collections.{CollAt, CollPieces, IsCollAt, room_in}
-use Rattle.yq_flow_edits.specs.FlowEdits.{FlowEdit, add_item, appending, behind_appended, is_none}
-use Rattle.yq_core.specs.Nodes.{Key, FlowNode, Items, none, item, node_text}
-use Rattle.yq_flow_edits.specs.Valued.{IsLabel, IsValueTree}
+use Rattle.std.proofs.Common.{◌≡◌, ℕ, suc, ◌+◌, ◌-◌, ◌≤◌, Bool, true, false, not, eqb, cond, List, [], ◌∷◌, ◌++◌, length, Option, Some}
+use Rattle.std.{proofs.Common.{None, refl, sym, ap, ◌∙◌, subst, arith}, proofs.lemmas.Bool.{cond_both, false≢true}}
+use Rattle.std.{proofs.lemmas.Option.{none-some, same_Some}, specs.Prelude.is_some, specs.Str.IsCharBoundary}
+use Rattle.yq_text.{specs.Limit.text_limit, specs.Script.new_text}
+use Rattle.yq_core.{specs.Keys.{depth, keys_of}, specs.Paths.{Step, append_child, node_at}, specs.Tree.{children_of, key_label}}
+use Rattle.yq_core.{specs.Collections.{CollAt, CollPieces, IsCollAt, room_in}, specs.Nodes.{Key, FlowNode, Items, none, item, node_text}}
 use Rattle.yq_core.specs.NodesWritten.{flow_key, flow_of}
-use Rattle.yq_flow_edits.proofs.EditLaws.{around_is}
-use Rattle.yq_flow_edits.proofs.EditSpans.{ends_bound}
-use Rattle.yq_flow_edits.proofs.ValueEdits.{appended_ends, value_appended}
+use Rattle.yq_flow_edits.{specs.FlowEdits.{FlowEdit, add_item, appending, behind_appended, is_none}, specs.Valued.{IsLabel, IsValueTree}}
+use Rattle.yq_flow_edits.{proofs.EditLaws.around_is, proofs.EditSpans.ends_bound, proofs.ValueEdits.{appended_ends, value_appended}}
+use Rattle.yq_flow_edits.proofs.ItemPlaces.{last_rest}
 use Rattle.yq_row_table.specs.Rows.{Cut, cut_text}
 use Rattle.yq_documents.specs.Documents.{Document, EachHasFitKeys, HasFitKey, HasFitKeys, document_parts}
-use Rattle.yq_places.specs.FlowNodes.{flow_collection}
-use Rattle.yq_documents.specs.Reading as reading
 use Rattle.yq_documents.specs.Reading.{documents, read_at, root_of}
-use Rattle.yq_edits.specs.FlowRows.{FlowAt}
-use Rattle.yq_edits.specs.SoundRoots.{IsNewKey, IsNewValue, IsSoundRoot}
-use Rattle.yq_edits.specs.TextPieces.{IsPiece}
-use Rattle.yq_edits.proofs.FlowKeptLaws.{flow_keys}
-use Rattle.yq_edits.proofs.PartLaws.{document_known}
-use Rattle.yq_edits.proofs.SoundRootLaws.{append_keeps}
-use Rattle.yq_semantics.specs.Fits.{Fits, Takes}
-use Rattle.yq_semantics.specs.Operations.{append}
-use Rattle.yq_semantics.specs.Rooms.{room_of}
-use Rattle.yq_text.specs.Script.{new_text}
-use Rattle.yq_edits.specs.EditLaws.{CarriedOut, FlowMoreIsPut, IsEdit}
-use Rattle.yq_edits.specs.FlowParts.{flow_segments, takes_key}
-use Rattle.yq_edits.specs.Operands.{KeyIsUtf8}
-use Rattle.yq_flow_edits.proofs.ItemPlaces.{last_rest}
-use Rattle.yq_edits.proofs.DoneLaws.{nth_map}
-use Rattle.yq_edits.proofs.EditsFitLaws.{new_key, new_value, tree_unique}
-use Rattle.yq_edit_laws.proofs.FlowPieceLaws.{edit_pieces, nothing_piece}
-use Rattle.yq_edit_laws.proofs.FlowStandings as standing
-use Rattle.yq_edit_laws.proofs.FlowEditLaws.{before_is, flow_carried, segments_old}
+use Rattle.yq_places.specs.FlowNodes.{flow_collection}
+use Rattle.yq_edits.{specs.FlowRows.FlowAt, specs.SoundRoots.{IsNewKey, IsNewValue, IsSoundRoot}, specs.TextPieces.IsPiece}
+use Rattle.yq_edits.{proofs.FlowKeptLaws.flow_keys, proofs.PartLaws.document_known, proofs.SoundRootLaws.append_keeps}
+use Rattle.yq_edits.{specs.EditLaws.{CarriedOut, FlowMoreIsPut, IsEdit}, specs.FlowParts.{flow_segments, takes_key}}
+use Rattle.yq_edits.{specs.Operands.KeyIsUtf8, proofs.DoneLaws.nth_map, proofs.EditsFitLaws.{new_key, new_value, tree_unique}}
+use Rattle.yq_edits.{proofs.FlowWritten.{flow_fits, key_fits}, proofs.ValueNodes.{comma_piece, flow_piece, key_piece}}
+use Rattle.yq_semantics.{specs.Fits.{Fits, Takes}, specs.Operations.append, specs.Rooms.room_of}
+use Rattle.yq_edit_laws.{proofs.FlowPieceLaws.{edit_pieces, nothing_piece}, proofs.FlowEditLaws.{before_is, flow_carried, segments_old}}
 use Rattle.yq_edit_laws.proofs.FlowWholeLaws.{StandsBefore, appended_stands}
-use Rattle.yq_edits.proofs.FlowWritten.{flow_fits, key_fits}
-use Rattle.yq_edits.proofs.ValueNodes.{comma_piece, flow_piece, key_piece}
+use Rattle.yq_core.specs.Tree as tree
+use Rattle.yq_documents.specs.Reading as reading
+use Rattle.yq_edit_laws.proofs.FlowStandings as standing
 
 -- ---- the edit
 

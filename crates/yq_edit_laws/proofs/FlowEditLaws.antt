@@ -1,44 +1,22 @@
 -- An edit of a flow collection carries out an operation, where it makes of the document what that does.
-use Rattle.std.proofs.Common.{inl, ◌+◌, [], ◌∷◌, refl, ◌≡◌, ℕ, ◌-◌, ◌≤◌, List, ◌++◌, length, take, Some, sym, ap, ◌∙◌, subst, arith, append_assoc, append-nil, length-append}
-use Rattle.std.proofs.Math.Seq.{take-append_seam}
-use Rattle.yq_text.specs.Limit.{text_limit}
-use Rattle.yq_core.specs.Paths.{Step, changed_at, within}
-use Rattle.yq_core.specs.Tree.{Children}
-use Rattle.yq_core.specs.Collections.{CollPieces}
+use Rattle.std.proofs.Common.{inl, ◌+◌, [], ◌∷◌, refl, ◌≡◌, ℕ, ◌-◌, ◌≤◌, List, ◌++◌, length, take, Some, sym, ap, ◌∙◌, subst, arith}
+use Rattle.std.{proofs.Common.{append_assoc, append-nil, length-append}, proofs.Math.Seq.take-append_seam, proofs.lemmas.Bool.false≢true}
+use Rattle.yq_text.{specs.Limit.text_limit, specs.Script.{old_text, new_text, script_text_before, kept_front, kept_back}}
+use Rattle.yq_core.{specs.Paths.{Step, changed_at, within}, specs.Tree.Children, specs.Collections.CollPieces}
+use Rattle.yq_core.specs.Nodes.{FlowNode, node_text}
 use Rattle.yq_flow_edits.specs.FlowEdits.{FlowEdit, IsFlowEdited, edited_node}
-use Rattle.yq_core.specs.Nodes.{FlowNode}
-use Rattle.yq_core.specs.Nodes.{node_text}
 use Rattle.yq_row_table.specs.Exchange.{row_front, with_content}
-use Rattle.yq_row_table.specs.Rows.{Inline, content_text, print_row, rows_text, Part, Cut, cut_text}
-use Rattle.yq_row_table.proofs.PlaceLaws.{row_front-append}
-use Rattle.yq_row_table.proofs.seams.SeamLaws.{rows_text-append}
-use Rattle.yq_row_table.proofs.splices.SpliceTexts.{own_gap, own_end}
-use Rattle.yq_documents.specs.Documents.{HasFitKeys, lead_of}
-use Rattle.yq_documents.specs.Reading.{read_at, root_of}
-use Rattle.yq_places.specs.RowPaths.{IsReadable}
-use Rattle.yq_edits.specs.Changed.{IsChanged, put_document}
-use Rattle.yq_edits.specs.DocumentRows.{behind_document}
-use Rattle.yq_edits.specs.FlowRows.{behind_node, row_collection, with_node, FlowAt}
-use Rattle.yq_edits.proofs.PlaceTextLaws.{IsAround, around}
-use Rattle.yq_edits.specs.Rooms.{is_block_root}
-use Rattle.yq_edits.specs.SoundRoots.{IsSoundRoot}
-use Rattle.yq_edits.proofs.FlowKeptLaws.{flow_rooms}
-use Rattle.yq_edits.proofs.FlowPathLaws.{row_texts}
-use Rattle.yq_edits.proofs.FlowRowLaws.{flow_edited}
-use Rattle.yq_edits.proofs.LeadLaws.{same_lead_goes}
-use Rattle.yq_semantics.specs.After.{op_document, root_after}
-use Rattle.yq_semantics.specs.Operations.{Operation}
-use Rattle.yq_text.specs.Script.{old_text, new_text, script_text_before, kept_front, kept_back}
-use Rattle.yq_edits.specs.Done.{ArePieces}
-use Rattle.yq_edits.specs.EditLaws.{CarriedOut}
-use Rattle.yq_edits.specs.FlowParts.{flow_segments}
-use Rattle.yq_edits.specs.Local.{IsLocal}
-use Rattle.yq_edits.specs.ReadsAfter.{ReadsAfter}
-use Rattle.yq_edits.proofs.LocalLaws.{at_row, cut_known, row_by_size}
-use Rattle.yq_edits.proofs.DoneLaws.{document_done}
-use Rattle.yq_edits.proofs.SegmentLaws.{segments_readable}
-use Rattle.std.proofs.lemmas.Bool.{false≢true}
-use Rattle.yq_places.proofs.RemovalLines.{front_some}
+use Rattle.yq_row_table.{specs.Rows.{Inline, content_text, print_row, rows_text, Part, Cut, cut_text}, proofs.PlaceLaws.row_front-append}
+use Rattle.yq_row_table.{proofs.seams.SeamLaws.rows_text-append, proofs.splices.SpliceTexts.{own_gap, own_end}}
+use Rattle.yq_documents.{specs.Documents.{HasFitKeys, lead_of}, specs.Reading.{read_at, root_of}}
+use Rattle.yq_places.{specs.RowPaths.IsReadable, proofs.RemovalLines.front_some}
+use Rattle.yq_edits.{specs.Changed.{IsChanged, put_document}, specs.DocumentRows.behind_document}
+use Rattle.yq_edits.{specs.FlowRows.{behind_node, row_collection, with_node, FlowAt}, proofs.PlaceTextLaws.{IsAround, around}}
+use Rattle.yq_edits.{specs.Rooms.is_block_root, specs.SoundRoots.IsSoundRoot, proofs.FlowKeptLaws.flow_rooms, proofs.FlowPathLaws.row_texts}
+use Rattle.yq_edits.{proofs.FlowRowLaws.flow_edited, proofs.LeadLaws.same_lead_goes, specs.Done.ArePieces, specs.EditLaws.CarriedOut}
+use Rattle.yq_edits.{specs.FlowParts.flow_segments, specs.Local.IsLocal, specs.ReadsAfter.ReadsAfter}
+use Rattle.yq_edits.{proofs.LocalLaws.{at_row, cut_known, row_by_size}, proofs.DoneLaws.document_done, proofs.SegmentLaws.segments_readable}
+use Rattle.yq_semantics.{specs.After.{op_document, root_after}, specs.Operations.Operation}
 
 -- the node that is edited, in its row
 abbrev pub edited_at : (c : Cut) (k : ℕ) (steps : List Step) (w : CollPieces) → FlowAt c k steps w → FlowEdit → FlowNode

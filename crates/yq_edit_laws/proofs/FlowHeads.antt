@@ -1,23 +1,16 @@
 -- What the code finds in the head of a row, and what of that the text has.
-use Rattle.std.proofs.Common.{◌≡◌, ℕ, ◌+◌, ◌≤◌, true, List, [], ◌++◌, length, Option, Some, None, option_map, refl, sym, ap, ◌∙◌, subst, arith, length-append}
-use Rattle.std.proofs.lemmas.Option.{none-some, same_Some}
-use Rattle.yq_core.specs.Paths.{Step}
-use Rattle.yq_core.specs.Collections.{CollAt, CollPieces, IsCollAt}
-use Rattle.yq_core.specs.Entries.{EntryPieces, item_at}
-use Rattle.yq_core.specs.Nodes.{Key, FlowNode, coll, node_text, flow_items_text, IsFlowNode}
-use Rattle.yq_core.specs.Places.{Placed, locate}
-use Rattle.yq_flow_edits.specs.FlowEdits.{FlowEdit, appending, replacing}
-use Rattle.yq_flow_edits.specs.FlowPlaces.{append_place, place_edit, remove_place, replace_place}
-use Rattle.yq_flow_edits.specs.Removals.{removing}
-use Rattle.yq_flow_edits.proofs.EditLaws.{Around, around_is}
-use Rattle.yq_flow_edits.proofs.PlacedEdits.{append_placed, replace_placed}
-use Rattle.yq_flow_edits.proofs.RemovePlaces.{remove_placed}
-use Rattle.yq_flow_edits.proofs.RemoveTexts.{removed_text}
+use Rattle.std.proofs.Common.{◌≡◌, ℕ, ◌+◌, ◌≤◌, true, List, [], ◌++◌, length, Option, Some, None, option_map, refl, sym, ap, ◌∙◌, subst}
+use Rattle.std.{proofs.Common.{arith, length-append}, proofs.lemmas.Option.{none-some, same_Some}}
+use Rattle.yq_core.{specs.Paths.Step, specs.Collections.{CollAt, CollPieces, IsCollAt}, specs.Entries.{EntryPieces, item_at}}
+use Rattle.yq_core.{specs.Nodes.{Key, FlowNode, coll, node_text, flow_items_text, IsFlowNode}, specs.Places.{Placed, locate}}
 use Rattle.yq_core.proofs.PathLaws.{items_hold}
+use Rattle.yq_flow_edits.specs.FlowEdits.{FlowEdit, appending, replacing}
+use Rattle.yq_flow_edits.{specs.FlowPlaces.{append_place, place_edit, remove_place, replace_place}, specs.Removals.removing}
+use Rattle.yq_flow_edits.{proofs.EditLaws.{Around, around_is}, proofs.PlacedEdits.{append_placed, replace_placed}}
+use Rattle.yq_flow_edits.{proofs.RemovePlaces.remove_placed, proofs.RemoveTexts.removed_text}
 use Rattle.yq_places.specs.FlowViews.{IsHeadOfSteps, FlowAgrees, behind_anchor, collection_view, placed_collection}
 use Rattle.yq_places.specs.declared.places.flow_node.FlowHead.{FlowHead}
-use Rattle.yq_edit_laws.specs.EditPlaces.{moved_on}
-use Rattle.yq_edit_laws.proofs.FlowLonger.{edit_more, entry_more, item_more, place_moved, with_more}
+use Rattle.yq_edit_laws.{specs.EditPlaces.moved_on, proofs.FlowLonger.{edit_more, entry_more, item_more, place_moved, with_more}}
 use Rattle.yq_edit_laws.proofs.FlowWholeLaws.{StandsBefore, appended_stands, replaced_stands}
 
 -- ---- lengths

@@ -1,42 +1,25 @@
 -- The line in whose head a path goes on holds the collection to which the path leads, in an inline node of its row.
-use Rattle.std.proofs.Common.{◌≡◌, inl, inr, ℕ, ◌+◌, true, cond, List, [], ◌∷◌, ◌++◌, length, Option, Some, None, option_map, refl, sym, ap, ◌∙◌, subst, length-append}
-use Rattle.std.proofs.lemmas.Bool.{false≢true}
-use Rattle.std.proofs.lemmas.Option.{none-some, same_Some}
+use Rattle.std.proofs.Common.{◌≡◌, inl, inr, ℕ, ◌+◌, true, cond, List, [], ◌∷◌, ◌++◌, length, Option, Some, None, option_map, refl, sym, ap}
+use Rattle.std.{proofs.Common.{◌∙◌, subst, length-append}, proofs.lemmas.Bool.false≢true, proofs.lemmas.Option.{none-some, same_Some}}
+use Rattle.std.{specs.List.slice_get, specs.Prelude.{is_some, option_and_then}}
 use mathlib.Core.List.{head-eq_of_cons-eq}
-use Rattle.std.specs.List.{slice_get}
-use Rattle.std.specs.Prelude.{is_some, option_and_then}
-use Rattle.yq_core.specs.Answers.{◌>>=◌}
-use Rattle.yq_core.specs.Paths.{Step, node_at}
-use Rattle.yq_core.specs.Tree as tree
-use Rattle.yq_core.specs.Collections.{CollPieces}
-use Rattle.yq_core.specs.Trees.{tree_of}
-use Rattle.yq_outline.specs.Comments.{head_comment}
-use Rattle.yq_outline.specs.Group.{level_or}
-use Rattle.yq_outline.specs.Outline.{LineMark, Bare, Key, Dash, Line, level, Outline, end, row, flatten, IsEven, IsWhole, anchored, outline_node, head_or, children, value}
+use Rattle.yq_core.{specs.Answers.◌>>=◌, specs.Paths.{Step, node_at}, specs.Collections.CollPieces, specs.Trees.tree_of}
+use Rattle.yq_outline.{specs.Comments.head_comment, specs.Group.level_or}
+use Rattle.yq_outline.specs.Outline.{LineMark, Bare, Key, Dash, Line, level, Outline, end, row, flatten, IsEven, IsWhole, anchored}
+use Rattle.yq_outline.specs.Outline.{outline_node, head_or, children, value}
 use Rattle.yq_outline.specs.Places.{here, lines_before, lines_after, FoundLine, find, in_head, place_inside, content_under}
-use Rattle.yq_outline.specs.Positions.{has_no_mark}
-use Rattle.yq_outline.proofs.Decides.{flatten-group}
-use Rattle.yq_outline.proofs.Finding.{path_node}
-use Rattle.yq_outline.proofs.PlaceLaws.{placed}
-use Rattle.yq_outline.proofs.Plug.{allows_from}
-use Rattle.yq_row_table.specs.Exchange.{behind_row}
-use Rattle.yq_row_table.specs.Rows.{Content, Nothing, Inline, Block, Row, Part, Cut, cut_text, mark_column}
-use Rattle.yq_documents.specs.Documents.{document_parts}
-use Rattle.yq_places.specs.FlowNodes.{bare_line, content_flow, find_head, flow_collection, head_line, line_collection, part_collection}
-use Rattle.yq_outline.specs.Lines.{content_anchor, head_of, lines_of_rows, mark_line}
-use Rattle.yq_documents.specs.Reading.{part_outline, read_at, root_of}
+use Rattle.yq_outline.{specs.Positions.has_no_mark, proofs.Decides.flatten-group, proofs.Finding.path_node, proofs.PlaceLaws.placed}
+use Rattle.yq_outline.{proofs.Plug.allows_from, specs.Lines.{content_anchor, head_of, lines_of_rows, mark_line}}
+use Rattle.yq_row_table.{specs.Exchange.behind_row, specs.Rows.{Content, Nothing, Inline, Block, Row, Part, Cut, cut_text, mark_column}}
+use Rattle.yq_documents.{specs.Documents.document_parts, specs.Reading.{part_outline, read_at, root_of}}
 use Rattle.yq_documents.specs.LinesInRows.{document_row, RowLine, row_line}
-use Rattle.yq_places.proofs.FlowPieces.{head_tree}
-use Rattle.yq_places.proofs.FlowPlaceLaws.{TakesSteps, mark_row_line}
-use Rattle.yq_places.proofs.FoundEntries.{middle}
-use Rattle.yq_edits.specs.LineRows.{IsRowLine}
-use Rattle.yq_edits.specs.Moved.{dash_lines}
-use Rattle.yq_edits.proofs.FlowLineLaws.{head_takes, head_whole}
-use Rattle.yq_edits.proofs.LineLaws.{above_mark, dashes_count, row_line_splits}
-use Rattle.yq_edits.proofs.PartLaws.{document_known}
-use Rattle.yq_edits.proofs.PlacedLaws.{same_parts}
-use Rattle.yq_edits.proofs.CommentPutLaws.{last_lines}
+use Rattle.yq_places.specs.FlowNodes.{bare_line, content_flow, find_head, flow_collection, head_line, line_collection, part_collection}
+use Rattle.yq_places.{proofs.FlowPieces.head_tree, proofs.FlowPlaceLaws.{TakesSteps, mark_row_line}, proofs.FoundEntries.middle}
+use Rattle.yq_edits.{specs.LineRows.IsRowLine, specs.Moved.dash_lines, proofs.FlowLineLaws.{head_takes, head_whole}}
+use Rattle.yq_edits.{proofs.LineLaws.{above_mark, dashes_count, row_line_splits}, proofs.PartLaws.document_known}
+use Rattle.yq_edits.{proofs.PlacedLaws.same_parts, proofs.CommentPutLaws.last_lines}
 use Rattle.yq_edit_laws.proofs.FlowHeldNodes.{FlowContent, HeldAt, coll_held, coll_there, held, held_anchored, same_held}
+use Rattle.yq_core.specs.Tree as tree
 
 abbrev Reached : Type 0
 Reached = FoundLine × List Step

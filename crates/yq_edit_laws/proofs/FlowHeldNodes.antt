@@ -1,14 +1,11 @@
 -- Steps lead to a flow collection in an inline node where they lead to a collection in its tree.
 use Rattle.std.proofs.Common.{◌≡◌, ℕ, Bool, true, false, cond, eqb, List, [], ◌∷◌, Option, Some, None, option_map, refl, sym, ap, ◌∙◌}
-use Rattle.std.proofs.lemmas.Option.{none-some, same_Some}
-use Rattle.std.specs.Prelude.{option_and_then}
-use Rattle.yq_core.specs.Paths.{Step, is_here, further, child_at, node_at}
-use Rattle.yq_core.specs.Tree as tree
-use Rattle.yq_core.specs.Tree.{Children, children_of, key_label}
-use Rattle.yq_core.specs.Collections.{CollPieces, coll_along, coll_in}
-use Rattle.yq_core.specs.Entries.{EntryPieces, path_inside, item_at}
+use Rattle.std.{proofs.lemmas.Option.{none-some, same_Some}, specs.Prelude.option_and_then}
+use Rattle.yq_core.{specs.Paths.{Step, is_here, further, child_at, node_at}, specs.Tree.{Children, children_of, key_label}}
+use Rattle.yq_core.{specs.Collections.{CollPieces, coll_along, coll_in}, specs.Entries.{EntryPieces, path_inside, item_at}}
 use Rattle.yq_core.specs.Nodes.{FlowNode, empty, alias, scalar, coll, anchored, Items, none, item, sep_text, flow_items_text}
 use Rattle.yq_core.specs.Trees.{tree_collection, items_tree, key_content, tree_of, with_name}
+use Rattle.yq_core.specs.Tree as tree
 use Rattle.yq_outline.specs.Outline as outlines
 
 -- ---- what a collection holds

@@ -1,18 +1,13 @@
 -- Edits of a flow collection in a part of a text, as edits of the text.
-use Rattle.std.proofs.Common.{◌≡◌, ℕ, ◌+◌, ◌-◌, ◌≤◌, Bool, true, false, cond, List, [], ◌∷◌, ◌++◌, length, Option, Some, None, option_map, refl, sym, ap, ◌∙◌, arith, append_assoc, length-append}
-use Rattle.std.specs.Option.{option_or}
-use Rattle.yq_core.specs.Paths.{Step, is_here, further}
-use Rattle.yq_core.specs.Alike.{fresh}
-use Rattle.yq_core.specs.Collections.{CollPieces}
+use Rattle.std.proofs.Common.{◌≡◌, ℕ, ◌+◌, ◌-◌, ◌≤◌, Bool, true, false, cond, List, [], ◌∷◌, ◌++◌, length, Option, Some, None, option_map}
+use Rattle.std.{proofs.Common.{refl, sym, ap, ◌∙◌, arith, append_assoc, length-append}, specs.Option.option_or}
+use Rattle.yq_core.{specs.Paths.{Step, is_here, further}, specs.Alike.fresh, specs.Collections.CollPieces}
 use Rattle.yq_core.specs.Entries.{EntryPieces, item_at}
-use Rattle.yq_flow_edits.specs.FlowEdits.{FlowEdit, appending, behind_last}
-use Rattle.yq_flow_edits.specs.FlowPlaces.{place_edit}
 use Rattle.yq_core.specs.Nodes.{Key, Sep, last, comma, FlowNode, Items, none, item, flow_items_text, key_text, node_text, sep_text}
-use Rattle.yq_flow_edits.specs.Removals.{before_next, edit_from_item, comma_left, ends_marked, gap_of, gap_to, last_gone, last_out, last_removed, next_text, removing_from, space_to}
-use Rattle.yq_core.specs.Trees.{key_content}
-use Rattle.yq_core.specs.Tree.{key_label}
-use Rattle.yq_flow_edits.proofs.RemovePlaces.{or_mapped}
-use Rattle.yq_core.proofs.NodesWrittenLaws.{items_append, sep_append}
+use Rattle.yq_core.{specs.Trees.key_content, specs.Tree.key_label, proofs.NodesWrittenLaws.{items_append, sep_append}}
+use Rattle.yq_flow_edits.{specs.FlowEdits.{FlowEdit, appending, behind_last}, specs.FlowPlaces.place_edit}
+use Rattle.yq_flow_edits.specs.Removals.{before_next, edit_from_item, comma_left, ends_marked, gap_of, gap_to, last_gone, last_out}
+use Rattle.yq_flow_edits.{specs.Removals.{last_removed, next_text, removing_from, space_to}, proofs.RemovePlaces.or_mapped}
 use Rattle.yq_edit_laws.specs.EditPlaces.{moved_on}
 
 -- ---- more text behind a collection

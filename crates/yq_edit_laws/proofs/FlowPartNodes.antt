@@ -1,43 +1,23 @@
 -- What stands at a path that leads to an item or entry of a flow collection: its node, and nothing outside flow collections.
 use Rattle.std.proofs.Common.{◌≡◌, ℕ, ◌+◌, List, [], ◌∷◌, ◌++◌, length, Option, Some, None, option_map, refl, sym, ap, ◌∙◌, subst}
-use Rattle.std.proofs.lemmas.Option.{none-some, same_Some, slice_get-map}
-use Rattle.std.specs.List.{slice_get}
-use Rattle.std.specs.Prelude.{option_and_then}
-use Rattle.yq_core.specs.Answers.{◌>>=◌}
-use Rattle.yq_core.specs.Paths.{Step, child_at, node_at}
-use Rattle.yq_core.specs.Tree as tree
-use Rattle.yq_core.specs.Tree.{children_of}
-use Rattle.yq_core.proofs.Bools.{bind_some}
-use Rattle.yq_core.specs.Collections.{CollPieces, coll_along}
-use Rattle.yq_core.specs.Entries.{EntryPieces, path_inside, item_at}
-use Rattle.yq_core.specs.Nodes.{FlowNode}
+use Rattle.std.{proofs.lemmas.Option.{none-some, same_Some, slice_get-map}, specs.List.slice_get, specs.Prelude.option_and_then}
+use Rattle.yq_core.{specs.Answers.◌>>=◌, specs.Paths.{Step, child_at, node_at}, specs.Tree.children_of, proofs.Bools.bind_some}
+use Rattle.yq_core.{specs.Collections.{CollPieces, coll_along}, specs.Entries.{EntryPieces, path_inside, item_at}, specs.Nodes.FlowNode}
 use Rattle.yq_core.specs.Trees.{tree_of}
-use Rattle.yq_outline.specs.Ends.{found_line}
-use Rattle.yq_outline.specs.Group.{level_or}
-use Rattle.yq_outline.specs.Outline.{Outline, IsEven, level, row, anchored, head_or, value}
-use Rattle.yq_outline.specs.Places.{FoundLine, content_under, lines_before}
-use Rattle.yq_outline.proofs.Finding.{FoundNode, node-anchored, path_node}
-use Rattle.yq_outline.proofs.Plug.{allows_from}
-use Rattle.yq_row_table.specs.Exchange.{behind_row}
-use Rattle.yq_row_table.specs.Rows.{Content, Nothing, Inline, Block, Part, Cut, cut_text}
-use Rattle.yq_documents.specs.Documents.{Document, document_parts}
-use Rattle.yq_documents.specs.Reading.{part_document, part_outline, read_at}
+use Rattle.yq_outline.{specs.Ends.found_line, specs.Group.level_or, specs.Outline.{Outline, IsEven, level, row, anchored, head_or, value}}
+use Rattle.yq_outline.{specs.Places.{FoundLine, content_under, lines_before}, proofs.Finding.{FoundNode, node-anchored, path_node}}
+use Rattle.yq_outline.{proofs.Plug.allows_from, specs.Lines.{content_anchor, head_of}}
+use Rattle.yq_row_table.{specs.Exchange.behind_row, specs.Rows.{Content, Nothing, Inline, Block, Part, Cut, cut_text}}
+use Rattle.yq_documents.{specs.Documents.{Document, document_parts}, specs.Reading.{part_document, part_outline, read_at}}
 use Rattle.yq_documents.specs.LinesInRows.{RowLine, document_row, row_line, row_line_of}
-use Rattle.yq_outline.specs.Lines.{content_anchor, head_of}
-use Rattle.yq_places.specs.FlowNodes.{content_flow, find_head}
-use Rattle.yq_places.specs.NodesAt.{node_in}
-use Rattle.yq_places.specs.PlacedRows.{PlacedPart, placed_document}
-use Rattle.yq_places.specs.Standings.{entry_rows_at, entry_standing, last_step, standing_at}
-use Rattle.yq_places.proofs.FlowPieces.{head_tree}
+use Rattle.yq_places.{specs.FlowNodes.{content_flow, find_head}, specs.NodesAt.node_in, specs.PlacedRows.{PlacedPart, placed_document}}
+use Rattle.yq_places.{specs.Standings.{entry_rows_at, entry_standing, last_step, standing_at}, proofs.FlowPieces.head_tree}
 use Rattle.yq_places.proofs.PlacedRowLaws.{document_placed, part_of}
-use Rattle.yq_edits.proofs.FlowLineLaws.{head_takes, head_whole}
-use Rattle.yq_edits.proofs.PartLaws.{document_known}
-use Rattle.yq_edit_laws.proofs.EntryLines.{found_at}
-use Rattle.yq_edit_laws.proofs.FlowHeldLines.{head_row, head_there}
-use Rattle.yq_edit_laws.proofs.FlowHeldNodes.{entry_tree, inside_child, kids_held}
-use Rattle.yq_edit_laws.proofs.FlowSoundLaws.{last_is}
-use Rattle.yq_edit_laws.proofs.FlowStandings.{EntryAt, coll_entry}
-use Rattle.yq_edit_laws.proofs.StepsOn.{head_on}
+use Rattle.yq_edits.{proofs.FlowLineLaws.{head_takes, head_whole}, proofs.PartLaws.document_known}
+use Rattle.yq_edit_laws.{proofs.EntryLines.found_at, proofs.FlowHeldLines.{head_row, head_there}}
+use Rattle.yq_edit_laws.{proofs.FlowHeldNodes.{entry_tree, inside_child, kids_held}, proofs.FlowSoundLaws.last_is}
+use Rattle.yq_edit_laws.{proofs.FlowStandings.{EntryAt, coll_entry}, proofs.StepsOn.head_on}
+use Rattle.yq_core.specs.Tree as tree
 
 -- ---- in an inline node
 

@@ -1,70 +1,38 @@
 -- The content of an item or entry of a flow collection gives way to a value.
-use Rattle.std.proofs.Common.{◌≡◌, ℕ, ◌-◌, ◌<◌, ◌≤◌, Bool, true, false, List, [], ◌∷◌, ◌++◌, length, Option, Some, None, sym, ap, ◌∙◌, subst, arith, ◌+◌, append-nil, length-append}
-use Rattle.std.proofs.lemmas.Bool.{cond_both}
-use Rattle.std.proofs.lemmas.Option.{none-some}
+use Rattle.std.proofs.Common.{◌≡◌, ℕ, ◌-◌, ◌<◌, ◌≤◌, Bool, true, false, List, [], ◌∷◌, ◌++◌, length, Option, Some, None, sym, ap, ◌∙◌}
+use Rattle.std.{proofs.Common.{subst, arith, ◌+◌, append-nil, length-append}, proofs.lemmas.Bool.cond_both, proofs.lemmas.Option.none-some}
 use Rattle.std.specs.Str.{IsCharBoundary}
-use Rattle.yq_core.specs.Answers.{◌>>=◌}
-use Rattle.yq_text.specs.Limit.{text_limit}
-use Rattle.yq_core.specs.Keys.{depth}
-use Rattle.yq_core.specs.Paths.{Step, changed_at, change_child, is_here, further, within}
-use Rattle.yq_core.specs.Scalar.{ScalarText}
-use Rattle.yq_core.specs.Tree as tree
-use Rattle.yq_core.specs.Tree.{anchor_of, key_label}
-use Rattle.yq_core.specs.declared.style.Place.TheVariants.{Flow}
+use Rattle.yq_core.{specs.Answers.◌>>=◌, specs.Keys.depth, specs.Paths.{Step, changed_at, change_child, is_here, further, within}}
+use Rattle.yq_core.{specs.Scalar.ScalarText, specs.Tree.{anchor_of, key_label}, specs.declared.style.Place.TheVariants.Flow}
 use Rattle.yq_core.specs.Collections.{CollAt, CollPieces, IsCollAt, item_in, collection_put, room_in}
 use Rattle.yq_core.specs.Entries.{EntryPieces, item_at}
+use Rattle.yq_core.{specs.Nodes.{Key, bare, keyed, Items, none, item, is_empty_node, node_text, without_anchor}, specs.Places.locate}
+use Rattle.yq_core.{specs.Scalars.scalar_style, specs.Trees.{key_content, with_anchor_name, scalar_node}, proofs.PathLaws.items_hold}
+use Rattle.yq_text.{specs.Limit.text_limit, specs.Script.new_text}
 use Rattle.yq_flow_edits.specs.FlowEdits.{FlowEdit, IsFlowEdited, put_content, put_item, put_value, replacing, space_for, spaced_key}
-use Rattle.yq_core.specs.Nodes as inline
-use Rattle.yq_core.specs.Nodes.{Key, bare, keyed, Items, none, item, is_empty_node, node_text, without_anchor}
-use Rattle.yq_core.specs.Places.{locate}
-use Rattle.yq_core.specs.Scalars.{scalar_style}
-use Rattle.yq_core.specs.Trees.{key_content, with_anchor_name, scalar_node}
-use Rattle.yq_flow_edits.specs.Valued.{IsValueTree}
-use Rattle.yq_flow_edits.proofs.EditLaws.{around_is}
-use Rattle.yq_flow_edits.proofs.EditSpans.{EditIsSpan, replace_spans}
-use Rattle.yq_core.proofs.PathLaws.{items_hold}
-use Rattle.yq_flow_edits.proofs.PlacedEdits.{replace_placed}
-use Rattle.yq_flow_edits.proofs.ValueEdits.{change_last, scalar_replaced, value_replaced}
-use Rattle.yq_flow_edits.proofs.ValueFits.{scalar_block}
+use Rattle.yq_flow_edits.{specs.Valued.IsValueTree, proofs.EditLaws.around_is, proofs.EditSpans.{EditIsSpan, replace_spans}}
+use Rattle.yq_flow_edits.{proofs.PlacedEdits.replace_placed, proofs.ValueEdits.{change_last, scalar_replaced, value_replaced}}
+use Rattle.yq_flow_edits.{proofs.ValueFits.scalar_block, proofs.ItemPlaces.item_rest}
 use Rattle.yq_outline.specs.Outline.{anchored}
 use Rattle.yq_row_table.specs.Rows.{Cut, cut_text}
-use Rattle.yq_documents.specs.Documents.{EachHasFitKeys, HasFitKey, HasFitKeys, lead_of}
-use Rattle.yq_documents.specs.TreeEdits.{replaced_node}
+use Rattle.yq_documents.{specs.Documents.{EachHasFitKeys, HasFitKey, HasFitKeys, lead_of}, specs.TreeEdits.replaced_node}
 use Rattle.yq_documents.specs.Reading.{documents, read_at, root_of}
-use Rattle.yq_places.specs.FlowViews.{LeadsToHead}
-use Rattle.yq_places.proofs.FlowPieces.{named_is, none_anchored}
-use Rattle.yq_edits.specs.FlowRows.{FlowAt, behind_node}
-use Rattle.yq_edits.specs.Rooms.{is_block_root}
-use Rattle.yq_edits.specs.SoundRoots.{IsSoundRoot}
-use Rattle.yq_edits.specs.TextPieces.{IsPiece}
-use Rattle.yq_edits.proofs.FlowKeptLaws.{flow_keys}
-use Rattle.yq_edits.proofs.FlowStayLaws as stay
-use Rattle.yq_edits.proofs.PartLaws.{document_known}
-use Rattle.yq_edits.proofs.SoundRootLaws.{replace_keeps}
-use Rattle.yq_semantics.specs.Changes.{has_long_key}
-use Rattle.yq_semantics.specs.Fits.{Fits}
-use Rattle.yq_semantics.specs.Operations.{replace}
-use Rattle.yq_semantics.specs.Rooms.{room_of}
-use Rattle.yq_text.specs.Script.{new_text}
-use Rattle.yq_places.specs.Standings.{FlowPart, last_step}
-use Rattle.yq_edits.specs.EditLaws.{CarriedOut, FlowValuesArePut, IsEdit}
-use Rattle.yq_edits.specs.FlowParts.{content_written, flow_put, flow_segments, flow_value}
-use Rattle.yq_edits.specs.Style.{style_in}
-use Rattle.yq_edit_laws.specs.PartPuts.{IsPartOf}
-use Rattle.yq_flow_edits.proofs.ItemPlaces.{item_rest}
-use Rattle.yq_edits.proofs.EditsFitLaws.{FitsReplace, fits_replace}
-use Rattle.yq_edit_laws.proofs.FlowPieceLaws.{edit_pieces, nothing_piece, one_space}
-use Rattle.yq_edit_laws.proofs.FlowSoundLaws.{last_is}
-use Rattle.yq_edit_laws.proofs.FlowStandings as standing
-use Rattle.yq_edit_laws.proofs.FlowStandings.{EntryAt, entry_found, entry_placed}
+use Rattle.yq_places.{specs.FlowViews.LeadsToHead, proofs.FlowPieces.{named_is, none_anchored}, specs.Standings.{FlowPart, last_step}}
+use Rattle.yq_edits.{specs.FlowRows.{FlowAt, behind_node}, specs.Rooms.is_block_root, specs.SoundRoots.IsSoundRoot}
+use Rattle.yq_edits.{specs.TextPieces.IsPiece, proofs.FlowKeptLaws.flow_keys, proofs.PartLaws.document_known}
+use Rattle.yq_edits.{proofs.SoundRootLaws.replace_keeps, specs.EditLaws.{CarriedOut, FlowValuesArePut, IsEdit}}
+use Rattle.yq_edits.{specs.FlowParts.{content_written, flow_put, flow_segments, flow_value}, specs.Style.style_in}
+use Rattle.yq_edits.{proofs.EditsFitLaws.{FitsReplace, fits_replace}, proofs.FlowWritten.flow_fits, proofs.KeptLaws.led_same}
+use Rattle.yq_edits.{proofs.ValueTexts.style_line, proofs.StyleLaws.{style_inline, style_writes}, proofs.ValueNodes.{flow_piece, scalar_is}}
+use Rattle.yq_semantics.{specs.Changes.has_long_key, specs.Fits.Fits, specs.Operations.replace, specs.Rooms.room_of}
+use Rattle.yq_edit_laws.{specs.PartPuts.IsPartOf, proofs.FlowPieceLaws.{edit_pieces, nothing_piece, one_space}}
+use Rattle.yq_edit_laws.{proofs.FlowSoundLaws.last_is, proofs.FlowStandings.{EntryAt, entry_found, entry_placed}}
 use Rattle.yq_edit_laws.proofs.FlowEditLaws.{FlowCarried, before_is, flow_carried, made_cut, made_reads, segments_old}
-use Rattle.yq_edit_laws.proofs.FlowWholeLaws.{StandsBefore, replaced_stands}
-use Rattle.yq_edit_laws.proofs.LaterParts.{later_part, parts_along}
-use Rattle.yq_edits.proofs.FlowWritten.{flow_fits}
-use Rattle.yq_edits.proofs.KeptLaws.{led_same}
-use Rattle.yq_edits.proofs.ValueTexts.{style_line}
-use Rattle.yq_edits.proofs.StyleLaws.{style_inline, style_writes}
-use Rattle.yq_edits.proofs.ValueNodes.{flow_piece, scalar_is}
+use Rattle.yq_edit_laws.{proofs.FlowWholeLaws.{StandsBefore, replaced_stands}, proofs.LaterParts.{later_part, parts_along}}
+use Rattle.yq_core.specs.Tree as tree
+use Rattle.yq_core.specs.Nodes as inline
+use Rattle.yq_edits.proofs.FlowStayLaws as stay
+use Rattle.yq_edit_laws.proofs.FlowStandings as standing
 
 -- ---- what is written of a value
 

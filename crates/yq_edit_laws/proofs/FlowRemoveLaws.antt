@@ -1,45 +1,24 @@
 -- An item or entry taken out of a flow collection.
 use Rattle.std.proofs.Common.{arith, ◌≡◌, true, ℕ, ◌-◌, ◌≤◌, List, ◌++◌, length, Some, option_map, sym, ap, ◌∙◌, subst}
-use Rattle.std.proofs.lemmas.Option.{same_Some}
-use Rattle.std.specs.Str.{IsCharBoundary}
-use Rattle.yq_core.specs.Characters.{pairs_returns}
-use Rattle.yq_text.specs.Limit.{text_limit}
-use Rattle.yq_core.specs.Paths.{Step, changed_at, remove_child, within}
-use Rattle.yq_core.specs.Collections.{CollAt, CollPieces, IsCollAt}
-use Rattle.yq_flow_edits.specs.FlowEdits.{FlowEdit, IsFlowEdited}
-use Rattle.yq_flow_edits.specs.FlowPlaces.{place_edit}
-use Rattle.yq_core.specs.Nodes.{node_text}
-use Rattle.yq_core.specs.Places.{locate}
-use Rattle.yq_flow_edits.specs.Removals.{removing}
-use Rattle.yq_flow_edits.proofs.EditLaws.{around_is}
-use Rattle.yq_flow_edits.proofs.EditSpans.{remove_spans}
-use Rattle.yq_flow_edits.proofs.RemoveLaws.{removed, removed_whole}
-use Rattle.yq_flow_edits.proofs.RemovePlaces.{remove_placed}
-use Rattle.yq_flow_edits.proofs.RemoveTexts.{RemovedText, option_some, removed_text}
+use Rattle.std.{proofs.lemmas.Option.same_Some, specs.Str.IsCharBoundary}
+use Rattle.yq_core.{specs.Characters.pairs_returns, specs.Paths.{Step, changed_at, remove_child, within}}
+use Rattle.yq_core.{specs.Collections.{CollAt, CollPieces, IsCollAt}, specs.Nodes.node_text, specs.Places.locate}
+use Rattle.yq_text.{specs.Limit.text_limit, specs.Script.new_text}
+use Rattle.yq_flow_edits.{specs.FlowEdits.{FlowEdit, IsFlowEdited}, specs.FlowPlaces.place_edit, specs.Removals.removing}
+use Rattle.yq_flow_edits.{proofs.EditLaws.around_is, proofs.EditSpans.remove_spans, proofs.RemoveLaws.{removed, removed_whole}}
+use Rattle.yq_flow_edits.{proofs.RemovePlaces.remove_placed, proofs.RemoveTexts.{RemovedText, option_some, removed_text}}
 use Rattle.yq_flow_edits.proofs.ReturnLaws.{pairs_behind}
 use Rattle.yq_row_table.specs.Rows.{Cut, cut_text}
-use Rattle.yq_documents.specs.Documents.{Document, document_parts}
-use Rattle.yq_documents.specs.Reading as reading
-use Rattle.yq_documents.specs.Reading.{documents, read_at, root_of}
-use Rattle.yq_edits.specs.Changed.{put_document}
-use Rattle.yq_edits.specs.FlowRows.{behind_node, with_node, FlowAt, NodeStands}
-use Rattle.yq_edits.specs.SoundRoots.{IsSoundRoot}
-use Rattle.yq_edits.specs.TextPieces.{IsPiece}
-use Rattle.yq_edits.proofs.FlowKeptLaws.{flow_keys, left_keys}
-use Rattle.yq_edits.proofs.PartLaws.{document_known}
-use Rattle.yq_semantics.specs.Fits.{Fits}
-use Rattle.yq_semantics.specs.Operations.{remove}
-use Rattle.yq_semantics.specs.Rooms.{room_of}
-use Rattle.yq_text.specs.Script.{new_text}
-use Rattle.yq_places.specs.FlowNodes.{flow_collection}
-use Rattle.yq_places.specs.Standings.{last_step}
-use Rattle.yq_edits.specs.EditLaws.{CarriedOut, FlowPartIsRemoved, IsEdit}
-use Rattle.yq_edits.specs.FlowParts.{flow_segments}
-use Rattle.yq_edits.proofs.DoneLaws.{nth_map}
-use Rattle.yq_edit_laws.proofs.FlowPieceLaws.{edit_pieces, lead_piece, nothing_piece}
-use Rattle.yq_edit_laws.proofs.FlowStandings as standing
-use Rattle.yq_edit_laws.proofs.FlowSoundLaws.{remove_root, remove_sound}
+use Rattle.yq_documents.{specs.Documents.{Document, document_parts}, specs.Reading.{documents, read_at, root_of}}
+use Rattle.yq_edits.{specs.Changed.put_document, specs.FlowRows.{behind_node, with_node, FlowAt, NodeStands}, specs.SoundRoots.IsSoundRoot}
+use Rattle.yq_edits.{specs.TextPieces.IsPiece, proofs.FlowKeptLaws.{flow_keys, left_keys}, proofs.PartLaws.document_known}
+use Rattle.yq_edits.{specs.EditLaws.{CarriedOut, FlowPartIsRemoved, IsEdit}, specs.FlowParts.flow_segments, proofs.DoneLaws.nth_map}
+use Rattle.yq_semantics.{specs.Fits.Fits, specs.Operations.remove, specs.Rooms.room_of}
+use Rattle.yq_places.{specs.FlowNodes.flow_collection, specs.Standings.last_step}
+use Rattle.yq_edit_laws.{proofs.FlowPieceLaws.{edit_pieces, lead_piece, nothing_piece}, proofs.FlowSoundLaws.{remove_root, remove_sound}}
 use Rattle.yq_edit_laws.proofs.FlowEditLaws.{edited_at, before_is, FlowTexts, flow_carried, flow_texts, segments_old}
+use Rattle.yq_documents.specs.Reading as reading
+use Rattle.yq_edit_laws.proofs.FlowStandings as standing
 
 module _ (c : Cut) (doc : ℕ) (path init : List Step) (s : Step) (w : CollPieces) (e : FlowEdit) (read : read_at (cut_text c) ≡ Some c) (last : last_step path ≡ Some (init, s)) (found : flow_collection doc init c ≡ Some w) (gone : removing s w ≡ Some e) where
   abbrev at : FlowAt c doc init w

@@ -1,19 +1,13 @@
 -- The paths of operations in flow collections, and the roots that they leave.
-use Rattle.std.proofs.Common.{◌≡◌, inl, inr, ℕ, false, List, [], ◌∷◌, ◌++◌, Option, Some, None, option_map, option_and_then, refl, sym, ap, ◌∙◌, subst}
-use Rattle.std.proofs.lemmas.Bool.{or_parts}
-use Rattle.std.proofs.lemmas.Option.{none-some, same_Some}
-use Rattle.std.specs.List.{list_any}
-use Rattle.yq_core.specs.Paths.{Step, changed_at, child_at, node_at, remove_child, within}
-use Rattle.yq_core.specs.Tree.{Node, children_of}
+use Rattle.std.proofs.Common.{◌≡◌, inl, inr, ℕ, false, List, [], ◌∷◌, ◌++◌, Option, Some, None, option_map, option_and_then, refl, sym, ap}
+use Rattle.std.{proofs.Common.{◌∙◌, subst}, proofs.lemmas.Bool.or_parts, proofs.lemmas.Option.{none-some, same_Some}, specs.List.list_any}
+use Rattle.yq_core.{specs.Paths.{Step, changed_at, child_at, node_at, remove_child, within}, specs.Tree.{Node, children_of}}
 use Rattle.yq_core.specs.Anchors.{Name, Anchors, Refers, IsAmong, names_of}
 use Rattle.yq_documents.specs.TreeEdits.{at_end}
 use Rattle.yq_places.specs.Standings.{last_step}
-use Rattle.yq_edits.specs.Conditions.{AreSpared, anchors_in, aliases_in}
-use Rattle.yq_edits.specs.SoundRoots.{IsSoundRoot}
-use Rattle.yq_edits.proofs.AfterLaws.{end_is_change}
-use Rattle.yq_edits.proofs.SoundRootLess.{remove_keeps}
+use Rattle.yq_edits.{specs.Conditions.{AreSpared, anchors_in, aliases_in}, specs.SoundRoots.IsSoundRoot, proofs.AfterLaws.end_is_change}
+use Rattle.yq_edits.{proofs.SoundRootLess.remove_keeps, proofs.EditsFitLaws.none_refers}
 use Rattle.yq_semantics.specs.Changes.{refers_to, is_used, is_used_in}
-use Rattle.yq_edits.proofs.EditsFitLaws.{none_refers}
 
 -- ---- the last step of a path
 

@@ -1,33 +1,19 @@
 -- The flow collection at a path, in its row and in the text, and an item or entry of it.
-use Rattle.std.proofs.Common.{◌≡◌, ℕ, ◌≤◌, true, List, [], ◌∷◌, ◌++◌, length, Option, Some, None, option_map, refl, sym, ap, ◌∙◌, subst, arith, length-append}
-use Rattle.std.proofs.lemmas.Bool.{and_parts}
-use Rattle.std.proofs.lemmas.Option.{none-some, same_Some}
+use Rattle.std.proofs.Common.{◌≡◌, ℕ, ◌≤◌, true, List, [], ◌∷◌, ◌++◌, length, Option, Some, None, option_map, refl, sym, ap, ◌∙◌, subst}
+use Rattle.std.{proofs.Common.{arith, length-append}, proofs.lemmas.Bool.and_parts, proofs.lemmas.Option.{none-some, same_Some}}
 use Rattle.std.specs.Prelude.{option_and_then}
-use Rattle.yq_core.specs.Answers.{◌>>=◌}
-use Rattle.yq_core.specs.Characters.{pairs_returns}
-use Rattle.yq_core.specs.Paths.{Step}
-use Rattle.yq_core.proofs.Bools.{bind_some}
+use Rattle.yq_core.{specs.Answers.◌>>=◌, specs.Characters.pairs_returns, specs.Paths.Step, proofs.Bools.bind_some}
 use Rattle.yq_core.specs.Collections.{CollAt, CollPieces, IsCollAt, coll_in}
 use Rattle.yq_core.specs.Entries.{EntryPieces, entry_pieces_at, path_inside, item_at, locate_entry, placed_entry_at}
-use Rattle.yq_core.specs.Nodes as inline
-use Rattle.yq_core.specs.Nodes.{bare, node_text}
-use Rattle.yq_core.specs.Places.{locate}
-use Rattle.yq_core.specs.Spans.{HasSpans}
-use Rattle.yq_core.proofs.PathLaws.{path_places}
-use Rattle.yq_row_table.specs.Rows.{Cut, cut_text}
-use Rattle.yq_row_table.proofs.CharacterLaws.{all_text}
-use Rattle.yq_places.specs.FlowNodes.{flow_collection}
+use Rattle.yq_core.{specs.Nodes.{bare, node_text}, specs.Places.locate, specs.Spans.HasSpans, proofs.PathLaws.path_places}
+use Rattle.yq_row_table.{specs.Rows.{Cut, cut_text}, proofs.CharacterLaws.all_text}
+use Rattle.yq_places.{specs.FlowNodes.flow_collection, specs.Standings.{FlowPart, flow_standing, last_step}}
+use Rattle.yq_places.{proofs.FlowSpanLaws.entry_spans, proofs.HeadSteps.stem_found}
 use Rattle.yq_documents.specs.Reading.{part_outline, read_at}
-use Rattle.yq_places.specs.Standings.{FlowPart, flow_standing, last_step}
-use Rattle.yq_places.proofs.FlowSpanLaws.{entry_spans}
-use Rattle.yq_places.proofs.HeadSteps.{stem_found}
-use Rattle.yq_edits.specs.DocumentRows.{IsDocumentPart}
-use Rattle.yq_edits.specs.FlowRows.{row_collection, FlowAt, NodeStands}
-use Rattle.yq_edits.specs.TextPieces.{IsPiece}
-use Rattle.yq_edits.proofs.FlowPathLaws.{flow_found, row_texts}
-use Rattle.yq_edits.proofs.FlowRowLaws.{flow_stands}
-use Rattle.yq_edits.proofs.FlowStandLaws.{CollStands, coll_stands}
-use Rattle.yq_edits.proofs.TextPieceLaws.{text_is_piece}
+use Rattle.yq_edits.{specs.DocumentRows.IsDocumentPart, specs.FlowRows.{row_collection, FlowAt, NodeStands}, specs.TextPieces.IsPiece}
+use Rattle.yq_edits.{proofs.FlowPathLaws.{flow_found, row_texts}, proofs.FlowRowLaws.flow_stands}
+use Rattle.yq_edits.{proofs.FlowStandLaws.{CollStands, coll_stands}, proofs.TextPieceLaws.text_is_piece}
+use Rattle.yq_core.specs.Nodes as inline
 
 -- ---- the collection
 

@@ -1,19 +1,14 @@
 -- Where something is written in a flow collection, no CR stands before an LF.
-use Rattle.std.proofs.Common.{◌≡◌, ℕ, Bool, true, false, not, ◌&&◌, cond, eqb, List, [], ◌∷◌, ◌++◌, Some, refl, sym, ap, ◌∙◌, subst, append_assoc}
-use Rattle.std.proofs.lemmas.Bool.{false≢true}
-use Rattle.yq_core.specs.Paths.{Step}
-use Rattle.yq_core.specs.Text.{front, is_feed}
-use Rattle.yq_core.specs.Collections.{CollAt, IsCollAt, item_in}
+use Rattle.std.proofs.Common.{◌≡◌, ℕ, Bool, true, false, not, ◌&&◌, cond, eqb, List, [], ◌∷◌, ◌++◌, Some, refl, sym, ap, ◌∙◌, subst}
+use Rattle.std.{proofs.Common.append_assoc, proofs.lemmas.Bool.false≢true}
+use Rattle.yq_core.{specs.Paths.Step, specs.Text.{front, is_feed}, specs.Collections.{CollAt, IsCollAt, item_in}}
 use Rattle.yq_core.specs.Entries.{EntryPieces, pieces_text}
-use Rattle.yq_flow_edits.specs.FlowEdits.{behind_appended, behind_last}
-use Rattle.yq_core.specs.Nodes.{bare, FlowNode, empty, alias, scalar, coll, anchored, Items, none, item, key_text, node_text, flow_items_text, AreFlowItems, is_close, is_empty_node, IsFlowNode, opening_bracket, without_anchor}
-use Rattle.yq_flow_edits.specs.Removals.{ends_return}
-use Rattle.yq_flow_edits.proofs.EditLaws.{Around, around_is}
-use Rattle.yq_flow_edits.proofs.ItemLaws.{item_begins, item_some}
-use Rattle.yq_flow_edits.proofs.ItemPlaces.{Behind, further_behind, item_behind, last_behind}
-use Rattle.yq_flow_edits.proofs.LocalLaws.{node_no_feed}
-use Rattle.yq_flow_edits.proofs.ReturnLaws.{Whole, item_return, return_some, whole_by, whole_front}
+use Rattle.yq_core.specs.Nodes.{bare, FlowNode, empty, alias, scalar, coll, anchored, Items, none, item, key_text, node_text}
+use Rattle.yq_core.specs.Nodes.{flow_items_text, AreFlowItems, is_close, is_empty_node, IsFlowNode, opening_bracket, without_anchor}
 use Rattle.yq_core.proofs.NodesWrittenLaws.{key_append, node_then}
+use Rattle.yq_flow_edits.{specs.FlowEdits.{behind_appended, behind_last}, specs.Removals.ends_return, proofs.EditLaws.{Around, around_is}}
+use Rattle.yq_flow_edits.{proofs.ItemLaws.{item_begins, item_some}, proofs.ItemPlaces.{Behind, further_behind, item_behind, last_behind}}
+use Rattle.yq_flow_edits.{proofs.LocalLaws.node_no_feed, proofs.ReturnLaws.{Whole, item_return, return_some, whole_by, whole_front}}
 
 -- Behind a text stands another one, and no CR before an LF.
 pub record StandsBefore (t behind : List ℕ) : Type 0 where

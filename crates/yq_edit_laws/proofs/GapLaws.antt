@@ -1,23 +1,17 @@
 -- Rows of a document taken out, and the gap behind them exchanged: the item that begins with that goes with them.
 use Rattle.std.proofs.Common.{◌≡◌, ℕ, ◌+◌, ◌≤◌, List, [], ◌∷◌, ◌++◌, length, refl, sym, ap, ◌∙◌, append_assoc, arith}
-use Rattle.std.proofs.lemmas.List.{length-append}
-use Rattle.yq_row_table.specs.Items.{Item, end_item, rows_items, items_text}
-use Rattle.yq_row_table.specs.ItemSplices.{first_item}
+use Rattle.std.{proofs.lemmas.List.length-append, specs.List.slice_get}
+use Rattle.yq_row_table.{specs.Items.{Item, end_item, rows_items, items_text}, specs.ItemSplices.first_item}
 use Rattle.yq_row_table.specs.Rows.{Row, print_row, behind_gap, rows_text, Part, part_text, Cut, cut_text}
-use Rattle.yq_row_table.specs.Splices.{with_row_gap, first_gap, with_first_gap, end_gap, behind_first}
-use Rattle.yq_row_table.specs.Touched.{item_text}
-use Rattle.yq_row_table.proofs.KeptLaws.{items_apart}
-use Rattle.yq_row_table.proofs.PlaceLaws.{row_then}
-use Rattle.yq_edits.specs.Changed.{put_document}
-use Rattle.yq_edits.specs.DocumentRows.{behind_document, put_rows}
-use Rattle.yq_edits.proofs.DocumentItemLaws.{rows_before, rows_spell}
-use Rattle.yq_text.specs.Script.{Segment, old_text, new_text, are_kept, kept_front, kept_back}
-use Rattle.yq_documents.specs.Documents.{document_parts}
-use Rattle.std.specs.List.{slice_get}
-use Rattle.yq_edits.specs.Local.{IsLocal}
-use Rattle.yq_edit_laws.specs.TouchedRanges.{LiesInOne}
+use Rattle.yq_row_table.{specs.Splices.{with_row_gap, first_gap, with_first_gap, end_gap, behind_first}, specs.Touched.item_text}
+use Rattle.yq_row_table.{proofs.KeptLaws.items_apart, proofs.PlaceLaws.row_then}
+use Rattle.yq_edits.{specs.Changed.put_document, specs.DocumentRows.{behind_document, put_rows}}
+use Rattle.yq_edits.{proofs.DocumentItemLaws.{rows_before, rows_spell}, specs.Local.IsLocal}
 use Rattle.yq_edits.proofs.ItemsLocal.{rows_last, ItemsGiveWay, come_inside, items_local, one_first, one_last, first_within, last_within}
 use Rattle.yq_edits.proofs.LocalLaws.{h, front_items, around, front_text}
+use Rattle.yq_text.specs.Script.{Segment, old_text, new_text, are_kept, kept_front, kept_back}
+use Rattle.yq_documents.specs.Documents.{document_parts}
+use Rattle.yq_edit_laws.specs.TouchedRanges.{LiesInOne}
 
 -- the items behind the first one of rows and of the end behind them
 abbrev later_items : List Row → (end marker : List ℕ) → List Item → List Item

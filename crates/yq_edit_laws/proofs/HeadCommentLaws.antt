@@ -1,71 +1,37 @@
 -- A head comment set: the text reads as the documents after that.
-use Rattle.std.proofs.Common.{◌≡◌, ◌⊎◌, inl, inr, ℕ, zero, suc, ◌≤◌, Bool, true, false, cond, eqb, List, [], ◌∷◌, ◌++◌, length, map, take, drop, replicate, Some, refl, sym, ap, ◌∙◌, subst, append_assoc, append-nil}
-use Rattle.std.proofs.Math.Seq.{take-append_seam}
-use Rattle.std.proofs.lemmas.Bool.{false≢true, eqb-true, and_parts, cases_Bool}
-use Rattle.std.proofs.lemmas.List.{map-append}
-use Rattle.std.proofs.lemmas.Option.{same_Some}
-use Rattle.std.proofs.lemmas.Str.{IsUtf8-take}
-use Rattle.std.specs.Str.{IsUtf8}
-use Rattle.yq_core.specs.BlockWritten.{break_text}
-use Rattle.yq_text.specs.Limit.{text_limit}
-use Rattle.yq_core.specs.Paths.{Step, changed_at, relabel_child, within}
-use Rattle.yq_core.specs.Text.{front, is_feed, past_white, joined, text_lines}
-use Rattle.yq_core.specs.Text as text
-use Rattle.yq_core.specs.declared.block_types.Break.{Break}
+use Rattle.std.proofs.Common.{◌≡◌, ◌⊎◌, inl, inr, ℕ, zero, suc, ◌≤◌, Bool, true, false, cond, eqb, List, [], ◌∷◌, ◌++◌, length, map, take}
+use Rattle.std.proofs.Common.{drop, replicate, Some, refl, sym, ap, ◌∙◌, subst, append_assoc, append-nil}
+use Rattle.std.{proofs.Math.Seq.take-append_seam, proofs.lemmas.Bool.{false≢true, eqb-true, and_parts, cases_Bool}}
+use Rattle.std.{proofs.lemmas.List.map-append, proofs.lemmas.Option.same_Some, proofs.lemmas.Str.IsUtf8-take, specs.Str.IsUtf8}
+use Rattle.yq_core.{specs.BlockWritten.break_text, specs.Paths.{Step, changed_at, relabel_child, within}}
+use Rattle.yq_core.{specs.Text.{front, is_feed, past_white, joined, text_lines}, specs.declared.block_types.Break.Break}
 use Rattle.yq_core.proofs.Bools.{guard_then}
-use Rattle.yq_outline.specs.Comments.{are_comments}
-use Rattle.yq_outline.specs.Group.{group}
+use Rattle.yq_text.{specs.Limit.text_limit, specs.Script.{Segment, old_text, new_text}}
+use Rattle.yq_outline.{specs.Comments.are_comments, specs.Group.group}
 use Rattle.yq_row_table.specs.Grammar.{IsCut}
 use Rattle.yq_row_table.specs.Rows.{Row, behind_gap, behind_indent, print_row, rows_text, Part, part_text, Cut, cut_text}
-use Rattle.yq_row_table.specs.Splices.{with_row_gap}
-use Rattle.yq_row_table.proofs.Fronts.{Starts}
-use Rattle.yq_row_table.proofs.PlaceLaws.{row_then}
-use Rattle.yq_row_table.proofs.NodePieces.{before_ascii}
-use Rattle.yq_row_table.proofs.RowAgain.{row_starts}
-use Rattle.yq_places.specs.CommentPlaces.{LinesAbove, above_row}
-use Rattle.yq_places.specs.FirstBreak.{first_break}
-use Rattle.yq_documents.specs.Documents.{lead_of}
-use Rattle.yq_outline.specs.Lines as lines
-use Rattle.yq_documents.specs.Pieces.{before_run, last_run}
-use Rattle.yq_places.specs.PlacedRows.{PlacedRow, placed_row}
-use Rattle.yq_documents.specs.Reading.{read_at, root_of}
-use Rattle.yq_places.specs.RowPaths.{IsReadable}
-use Rattle.yq_documents.specs.LinesInRows.{row_line_of}
-use Rattle.yq_documents.specs.TreeEdits.{at_end, with_head_comment}
-use Rattle.yq_places.specs.Standings.{RowsOfEntry, rows_of_entry}
-use Rattle.yq_places.proofs.CommentEndLaws.{gap_split, run_ascii}
-use Rattle.yq_places.proofs.PlacedRowLaws.{IsAt}
-use Rattle.yq_places.proofs.SeamLaws.{IsSeam, seam_boundary, seam_then, gap_seam, row_seam}
-use Rattle.yq_edits.specs.Changed.{put_document}
-use Rattle.yq_edits.specs.DocumentRows.{behind_document}
-use Rattle.yq_edits.specs.Heads.{rerun, with_run}
-use Rattle.yq_edits.specs.Rooms.{is_block_root, row_shape}
-use Rattle.yq_edits.specs.Siblings.{HasEntries}
-use Rattle.yq_edits.specs.TextPieces.{IsPiece}
-use Rattle.yq_edits.proofs.AfterLaws.{end_is_change}
-use Rattle.yq_edits.proofs.LeadLaws.{block_entries, block_lead_goes}
-use Rattle.yq_edits.proofs.LineFrontLaws.{clean_cut}
-use Rattle.yq_edits.proofs.PathLaws.{path_head_commented}
-use Rattle.yq_edits.proofs.ReplaceLaws.{rows_before_some}
-use Rattle.yq_edits.proofs.ShapeLaws.{shapes_are_alike}
-use Rattle.yq_edits.proofs.TextPieceLaws.{text_is_piece}
-use Rattle.yq_semantics.specs.Changes.{can_be_comment}
-use Rattle.yq_semantics.specs.Meaning.{head_comment_lines}
-use Rattle.yq_semantics.specs.Operations.{head_comment}
-use Rattle.yq_semantics.specs.declared.program.CommentPlace.TheVariants as comments
-use Rattle.yq_row_table.proofs.NodeExchange.{starts_no_feed}
-use Rattle.yq_row_table.proofs.splices.ContentPlaces.{count_front}
-use Rattle.yq_text.specs.Script.{Segment, old_text, new_text}
-use Rattle.yq_edits.specs.CommentEdits.{above_rows, head_lines, head_comment_segments}
-use Rattle.yq_edits.specs.EditLaws.{HeadCommentIsPut, IsEdit}
-use Rattle.yq_edits.specs.Local.{IsLocal, IsLocalTo}
-use Rattle.yq_edits.proofs.LocalLaws.{cut_known, row_local}
-use Rattle.yq_edits.specs.ReadsAfter.{ReadsAfter}
-use Rattle.yq_edits.proofs.CommentPieceLaws.{AreParts, head_parts, lines_piece}
+use Rattle.yq_row_table.{specs.Splices.with_row_gap, proofs.Fronts.Starts, proofs.PlaceLaws.row_then, proofs.NodePieces.before_ascii}
+use Rattle.yq_row_table.{proofs.RowAgain.row_starts, proofs.NodeExchange.starts_no_feed, proofs.splices.ContentPlaces.count_front}
+use Rattle.yq_places.{specs.CommentPlaces.{LinesAbove, above_row}, specs.FirstBreak.first_break, specs.PlacedRows.{PlacedRow, placed_row}}
+use Rattle.yq_places.{specs.RowPaths.IsReadable, specs.Standings.{RowsOfEntry, rows_of_entry}, proofs.CommentEndLaws.{gap_split, run_ascii}}
+use Rattle.yq_places.{proofs.PlacedRowLaws.IsAt, proofs.SeamLaws.{IsSeam, seam_boundary, seam_then, gap_seam, row_seam}}
+use Rattle.yq_documents.{specs.Documents.lead_of, specs.Pieces.{before_run, last_run}, specs.Reading.{read_at, root_of}}
+use Rattle.yq_documents.{specs.LinesInRows.row_line_of, specs.TreeEdits.{at_end, with_head_comment}}
+use Rattle.yq_edits.{specs.Changed.put_document, specs.DocumentRows.behind_document, specs.Heads.{rerun, with_run}}
+use Rattle.yq_edits.{specs.Rooms.{is_block_root, row_shape}, specs.Siblings.HasEntries, specs.TextPieces.IsPiece}
+use Rattle.yq_edits.{proofs.AfterLaws.end_is_change, proofs.LeadLaws.{block_entries, block_lead_goes}, proofs.LineFrontLaws.clean_cut}
+use Rattle.yq_edits.{proofs.PathLaws.path_head_commented, proofs.ReplaceLaws.rows_before_some, proofs.ShapeLaws.shapes_are_alike}
+use Rattle.yq_edits.{proofs.TextPieceLaws.text_is_piece, specs.CommentEdits.{above_rows, head_lines, head_comment_segments}}
+use Rattle.yq_edits.{specs.EditLaws.{HeadCommentIsPut, IsEdit}, specs.Local.{IsLocal, IsLocalTo}, proofs.LocalLaws.{cut_known, row_local}}
+use Rattle.yq_edits.{specs.ReadsAfter.ReadsAfter, proofs.CommentPieceLaws.{AreParts, head_parts, lines_piece}}
 use Rattle.yq_edits.proofs.CommentReadLaws.{lines_agree, lines_gap, lines_stand}
-use Rattle.yq_edits.proofs.CommentRowLaws.{entry_is_row, entry_row, rows_front, IsRowFound, row_found, found_text, found_row, cut_is, some_steps, row_line_is_block, lines_some}
-use Rattle.yq_edits.proofs.DoneLaws.{document_done}
+use Rattle.yq_edits.proofs.CommentRowLaws.{entry_is_row, entry_row, rows_front, IsRowFound, row_found, found_text, found_row, cut_is}
+use Rattle.yq_edits.{proofs.CommentRowLaws.{some_steps, row_line_is_block, lines_some}, proofs.DoneLaws.document_done}
 use Rattle.yq_edits.proofs.SegmentLaws.{segments_readable}
+use Rattle.yq_semantics.{specs.Changes.can_be_comment, specs.Meaning.head_comment_lines, specs.Operations.head_comment}
+use Rattle.yq_core.specs.Text as text
+use Rattle.yq_outline.specs.Lines as lines
+use Rattle.yq_semantics.specs.declared.program.CommentPlace.TheVariants as comments
 
 -- ---- the place
 

@@ -1,38 +1,20 @@
 -- A value on one line takes the place of what is written on the line of a key or dash, with another content of the row.
-use Rattle.std.proofs.Common.{◌≡◌, ℕ, ◌≤◌, false, true, List, [], ◌∷◌, ◌++◌, length, Some, refl, sym, ap, ◌∙◌, subst, append_assoc, append-nil, rules}
-use Rattle.yq_core.specs.BlockWritten.{break_text}
-use Rattle.yq_text.specs.Limit.{text_limit}
-use Rattle.yq_core.specs.Paths.{Step}
-use Rattle.yq_core.specs.Text.{is_empty, separates}
-use Rattle.yq_core.specs.Tree.{Node}
-use Rattle.yq_core.specs.declared.block_types.Break.{Break}
-use Rattle.yq_core.specs.Nodes.{node_text}
-use Rattle.yq_core.proofs.NodesWrittenLaws.{node_then}
-use Rattle.yq_row_table.specs.Exchange.{row_front, with_content}
-use Rattle.yq_row_table.specs.Grammar.{IsContent, IsMark}
-use Rattle.yq_row_table.specs.Rows.{Content, Row, content_text, parent_indent, print_row, rows_text, Cut}
-use Rattle.yq_row_table.specs.View.{slices}
+use Rattle.std.proofs.Common.{◌≡◌, ℕ, ◌≤◌, false, true, List, [], ◌∷◌, ◌++◌, length, Some, refl, sym, ap, ◌∙◌, subst, append_assoc}
+use Rattle.std.proofs.Common.{append-nil, rules}
+use Rattle.yq_core.{specs.BlockWritten.break_text, specs.Paths.Step, specs.Text.{is_empty, separates}, specs.Tree.Node}
+use Rattle.yq_core.{specs.declared.block_types.Break.Break, specs.Nodes.node_text, proofs.NodesWrittenLaws.node_then}
+use Rattle.yq_text.{specs.Limit.text_limit, specs.Script.{Segment, new_text}}
+use Rattle.yq_row_table.{specs.Exchange.{row_front, with_content}, specs.Grammar.{IsContent, IsMark}}
+use Rattle.yq_row_table.{specs.Rows.{Content, Row, content_text, parent_indent, print_row, rows_text, Cut}, specs.View.slices}
 use Rattle.yq_row_table.proofs.NodeExchange.{mark_apart}
-use Rattle.yq_places.specs.RowPieces.{anchor_before, space_before}
-use Rattle.yq_places.specs.Standings.{Held, RowsOfEntry, held}
+use Rattle.yq_places.{specs.RowPieces.{anchor_before, space_before}, specs.Standings.{Held, RowsOfEntry, held}}
 use Rattle.yq_documents.specs.Reading.{read_at}
-use Rattle.yq_edits.specs.Appends.{inserted}
-use Rattle.yq_edits.specs.Changed.{put_document}
-use Rattle.yq_edits.specs.DocumentRows.{behind_document}
-use Rattle.yq_edits.specs.StandingLaws.{StandsThere}
+use Rattle.yq_edits.{specs.Appends.inserted, specs.Changed.put_document, specs.DocumentRows.behind_document, specs.StandingLaws.StandsThere}
+use Rattle.yq_edits.{specs.EditLaws.CarriedOut, specs.ReplaceEdits.{spaced_text, held_put}, specs.WrittenValues.inline}
+use Rattle.yq_edits.{proofs.EditsFitLaws.FitsReplace, proofs.ValueTexts.IsWrittenFor, proofs.StandingMarks.entry_there}
 use Rattle.yq_semantics.specs.Operations.{replace}
-use Rattle.yq_text.specs.Script.{Segment, new_text}
-use Rattle.yq_edits.specs.EditLaws.{CarriedOut}
-use Rattle.yq_edits.specs.ReplaceEdits.{spaced_text, held_put}
-use Rattle.yq_edits.specs.WrittenValues.{inline}
-use Rattle.yq_edits.proofs.EditsFitLaws.{FitsReplace}
-use Rattle.yq_edits.proofs.ValueTexts.{IsWrittenFor}
-use Rattle.yq_edits.proofs.StandingMarks.{entry_there}
-use Rattle.yq_edit_laws.proofs.ContentRows.{IsContentFor, takes_content}
-use Rattle.yq_edit_laws.proofs.HeldCarried.{Spells, held_carried, held_made}
-use Rattle.yq_edit_laws.proofs.HeldKnown.{KnowsHeld}
-use Rattle.yq_edit_laws.proofs.NodeLeads.{first_lead, own_space_lead}
-use Rattle.yq_edit_laws.proofs.NodeRowLaws.{rest, rows_there}
+use Rattle.yq_edit_laws.{proofs.ContentRows.{IsContentFor, takes_content}, proofs.HeldCarried.{Spells, held_carried, held_made}}
+use Rattle.yq_edit_laws.{proofs.HeldKnown.KnowsHeld, proofs.NodeLeads.{first_lead, own_space_lead}, proofs.NodeRowLaws.{rest, rows_there}}
 use Rattle.yq_edit_laws.proofs.StandingNodes.{behind_is, mark_node}
 
 -- ---- the row of a head

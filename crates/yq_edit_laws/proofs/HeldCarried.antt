@@ -1,39 +1,21 @@
 -- What is put in the place of what a key or dash holds carries out a replacement, where rows for the value spell it.
-use Rattle.std.proofs.Common.{◌≡◌, ℕ, ◌≤◌, true, false, List, [], ◌∷◌, ◌++◌, length, Some, refl, sym, ap, ◌∙◌, subst, append_assoc, append-nil, rules}
-use Rattle.std.proofs.lemmas.Option.{same_Some}
-use Rattle.yq_core.specs.BlockWritten.{break_text}
-use Rattle.yq_text.specs.Limit.{text_limit}
-use Rattle.yq_core.specs.Paths.{Step}
-use Rattle.yq_core.specs.Tree.{Node}
-use Rattle.yq_core.specs.declared.block_types.Break.{Break}
-use Rattle.yq_outline.specs.Places.{content_under}
-use Rattle.yq_outline.proofs.Finding.{FoundNode, path_node}
-use Rattle.yq_row_table.specs.Items.{rows_items}
-use Rattle.yq_row_table.specs.Rows.{Row, print_row, rows_text, Cut, cut_text}
+use Rattle.std.proofs.Common.{◌≡◌, ℕ, ◌≤◌, true, false, List, [], ◌∷◌, ◌++◌, length, Some, refl, sym, ap, ◌∙◌, subst, append_assoc}
+use Rattle.std.{proofs.Common.{append-nil, rules}, proofs.lemmas.Option.same_Some}
+use Rattle.yq_core.{specs.BlockWritten.break_text, specs.Paths.Step, specs.Tree.Node, specs.declared.block_types.Break.Break}
+use Rattle.yq_text.{specs.Limit.text_limit, specs.Script.{Segment, old_text, new_text, are_kept, kept_front, kept_back}}
+use Rattle.yq_outline.{specs.Places.content_under, proofs.Finding.{FoundNode, path_node}}
+use Rattle.yq_row_table.{specs.Items.rows_items, specs.Rows.{Row, print_row, rows_text, Cut, cut_text}}
 use Rattle.yq_documents.specs.Reading.{part_outline, read_at, root_of}
 use Rattle.yq_places.specs.Standings.{Held, RowsOfEntry, behind_entry, held}
-use Rattle.yq_edits.specs.Appends.{inserted}
-use Rattle.yq_edits.specs.Changed.{put_document}
-use Rattle.yq_edits.specs.SoundRoots.{MayReplace}
-use Rattle.yq_edits.specs.StandingLaws.{StandsThere, held_text}
-use Rattle.yq_edits.specs.TextPieces.{IsPiece}
-use Rattle.yq_semantics.specs.Operations.{replace}
-use Rattle.yq_text.specs.Script.{Segment, old_text, new_text, are_kept, kept_front, kept_back}
-use Rattle.yq_edits.specs.Done.{ArePieces}
-use Rattle.yq_edits.specs.EditLaws.{CarriedOut}
-use Rattle.yq_edits.specs.Local.{InFirst}
-use Rattle.yq_edits.specs.ReplaceEdits.{spaced_text, held_put}
-use Rattle.yq_edits.specs.WrittenValues.{Written, inline, compact_text, lines}
-use Rattle.yq_edits.proofs.CommentPieceLaws.{nothing, byte_then, break_piece}
-use Rattle.yq_edits.proofs.EditsFitLaws.{FitsReplace}
-use Rattle.yq_edits.proofs.OneLines.{break_line, is_one_line}
-use Rattle.yq_edits.proofs.SegmentLaws.{segments_readable}
+use Rattle.yq_edits.{specs.Appends.inserted, specs.Changed.put_document, specs.SoundRoots.MayReplace}
+use Rattle.yq_edits.{specs.StandingLaws.{StandsThere, held_text}, specs.TextPieces.IsPiece, specs.Done.ArePieces, specs.EditLaws.CarriedOut}
+use Rattle.yq_edits.{specs.Local.InFirst, specs.ReplaceEdits.{spaced_text, held_put}}
+use Rattle.yq_edits.{specs.WrittenValues.{Written, inline, compact_text, lines}, proofs.CommentPieceLaws.{nothing, byte_then, break_piece}}
+use Rattle.yq_edits.{proofs.EditsFitLaws.FitsReplace, proofs.OneLines.{break_line, is_one_line}, proofs.SegmentLaws.segments_readable}
 use Rattle.yq_edits.proofs.TextPieceLaws.{pieces_joined}
-use Rattle.yq_edit_laws.proofs.HeldKnown.{KnowsHeld}
-use Rattle.yq_edit_laws.proofs.NodeCarriedLaws.{KeepsNode, node_carried, node_made}
-use Rattle.yq_edit_laws.proofs.NodeRowLaws.{rest}
-use Rattle.yq_edit_laws.proofs.NodeTaken.{TakesNode, q_text}
-use Rattle.yq_edit_laws.proofs.StandingNodes.{behind_is, mark_node}
+use Rattle.yq_semantics.specs.Operations.{replace}
+use Rattle.yq_edit_laws.{proofs.HeldKnown.KnowsHeld, proofs.NodeCarriedLaws.{KeepsNode, node_carried, node_made}, proofs.NodeRowLaws.rest}
+use Rattle.yq_edit_laws.{proofs.NodeTaken.{TakesNode, q_text}, proofs.StandingNodes.{behind_is, mark_node}}
 
 -- ---- the segments
 

@@ -1,47 +1,25 @@
 -- A collection on the line of a dash, in the place of what this holds.
-use Rattle.std.proofs.Common.{◌≡◌, ℕ, ◌≤◌, not, ◌||◌, true, false, cond, List, [], ◌∷◌, ◌++◌, length, None, refl, sym, ap, ◌∙◌, append_assoc, append-nil}
-use Rattle.std.proofs.lemmas.Bool.{not-false, not-true, or_parts}
-use Rattle.yq_core.specs.BlockWritten.{break_text}
-use Rattle.yq_text.specs.Limit.{text_limit}
-use Rattle.yq_core.specs.Paths.{Step}
-use Rattle.yq_core.specs.Text.{is_empty}
-use Rattle.yq_core.specs.Tree.{Node, anchor_of}
+use Rattle.std.proofs.Common.{◌≡◌, ℕ, ◌≤◌, not, ◌||◌, true, false, cond, List, [], ◌∷◌, ◌++◌, length, None, refl, sym, ap, ◌∙◌}
+use Rattle.std.{proofs.Common.{append_assoc, append-nil}, proofs.lemmas.Bool.{not-false, not-true, or_parts}}
+use Rattle.yq_core.{specs.BlockWritten.break_text, specs.Paths.Step, specs.Text.is_empty, specs.Tree.{Node, anchor_of}}
+use Rattle.yq_text.{specs.Limit.text_limit, specs.Script.{Segment, new_text}}
 use Rattle.yq_flow_edits.specs.Valued.{IsValueTree}
-use Rattle.yq_outline.specs.Comments.{line_comment}
-use Rattle.yq_outline.specs.Places.{content_under}
-use Rattle.yq_row_table.specs.Exchange.{row_front}
-use Rattle.yq_row_table.specs.Rows as rows
-use Rattle.yq_row_table.specs.Rows.{Row, mark_column, rows_text, Cut}
-use Rattle.yq_row_table.specs.View.{slices}
-use Rattle.yq_outline.specs.Lines.{tail_of}
+use Rattle.yq_outline.{specs.Comments.line_comment, specs.Places.content_under, specs.Lines.tail_of}
+use Rattle.yq_row_table.{specs.Exchange.row_front, specs.Rows.{Row, mark_column, rows_text, Cut}, specs.View.slices}
 use Rattle.yq_documents.proofs.RowLineLaws.{tail_is}
-use Rattle.yq_places.specs.RowPieces.{anchor_before}
-use Rattle.yq_places.specs.Standings.{Held, RowsOfEntry, held}
-use Rattle.yq_edits.specs.StandingLaws.{StandsThere}
-use Rattle.yq_edits.proofs.StandingMarks.{entry_there}
-use Rattle.yq_edits.specs.declared.layout.Layout.{Layout}
-use Rattle.yq_edits.specs.BlockReading.{is_filled}
-use Rattle.yq_edits.specs.BlockRows.{item_column}
-use Rattle.yq_edits.specs.BlockText.{block_value}
-use Rattle.yq_edits.specs.BlockValues.{IsEnd, IsFilledValue}
-use Rattle.yq_semantics.specs.Operations.{replace}
-use Rattle.yq_text.specs.Script.{Segment, new_text}
-use Rattle.yq_edits.specs.EditLaws.{CarriedOut}
-use Rattle.yq_edits.specs.Layouts.{layout_of}
-use Rattle.yq_edits.specs.ReplaceEdits.{held_put}
-use Rattle.yq_edits.specs.WrittenValues.{compact_text, takes_compact}
-use Rattle.yq_edits.proofs.EditsFitLaws.{FitsReplace}
+use Rattle.yq_places.{specs.RowPieces.anchor_before, specs.Standings.{Held, RowsOfEntry, held}}
+use Rattle.yq_edits.{specs.StandingLaws.StandsThere, proofs.StandingMarks.entry_there, specs.declared.layout.Layout.Layout}
+use Rattle.yq_edits.{specs.BlockReading.is_filled, specs.BlockRows.item_column, specs.BlockText.block_value}
+use Rattle.yq_edits.{specs.BlockValues.{IsEnd, IsFilledValue}, specs.EditLaws.CarriedOut, specs.Layouts.layout_of}
+use Rattle.yq_edits.{specs.ReplaceEdits.held_put, specs.WrittenValues.{compact_text, takes_compact}, proofs.EditsFitLaws.FitsReplace}
 use Rattle.yq_edits.proofs.LayoutLaws.{mapping_least}
+use Rattle.yq_semantics.specs.Operations.{replace}
 use Rattle.yq_edit_laws.proofs.DashValueLaws.{behind_first, behind_rows, behind_spelled, takes_behind}
-use Rattle.yq_edit_laws.proofs.HeldCarried.{Spells, held_carried}
-use Rattle.yq_edit_laws.proofs.HeldKnown.{KnowsHeld}
-use Rattle.yq_edit_laws.proofs.HeldLines.{block_piece}
-use Rattle.yq_edit_laws.proofs.MarkContentLaws.{unnamed}
-use Rattle.yq_edit_laws.proofs.MarkKinds.{dash_is, filled_is}
-use Rattle.yq_edit_laws.proofs.NodeLeads.{upto_long}
-use Rattle.yq_edit_laws.proofs.NodeRowLaws.{NodeRows, rest, rows_there}
-use Rattle.yq_edit_laws.proofs.NodeValueLaws.{end_is}
+use Rattle.yq_edit_laws.{proofs.HeldCarried.{Spells, held_carried}, proofs.HeldKnown.KnowsHeld, proofs.HeldLines.block_piece}
+use Rattle.yq_edit_laws.{proofs.MarkContentLaws.unnamed, proofs.MarkKinds.{dash_is, filled_is}, proofs.NodeLeads.upto_long}
+use Rattle.yq_edit_laws.{proofs.NodeRowLaws.{NodeRows, rest, rows_there}, proofs.NodeValueLaws.end_is}
 use Rattle.yq_edit_laws.proofs.StandingNodes.{behind_is, mark_node}
+use Rattle.yq_row_table.specs.Rows as rows
 
 module _ (n : ℕ) (s : Step) (ss : List Step) (c : Cut) (e : RowsOfEntry) (there : StandsThere n s ss c e) (last : e.line ≡ length e.row.dashes) (k : KnowsHeld n s ss c e there last)
     (v : Node) (tree : IsValueTree v) (f : FitsReplace n (s ∷ ss) v c there.part) (full : is_filled v ≡ true) (free : takes_compact (held e).mark ≡ true) where

@@ -1,33 +1,20 @@
 -- A value put in the place of what a key or dash holds is an edit.
-use Rattle.std.proofs.Common.{◌≡◌, ℕ, ◌≤◌, true, false, List, [], ◌∷◌, length, sym, ◌∙◌}
-use Rattle.std.proofs.lemmas.Bool.{cond_both}
-use Rattle.yq_core.specs.BlockWritten.{break_text}
-use Rattle.yq_text.specs.Limit.{text_limit}
-use Rattle.yq_core.specs.Paths.{Step}
-use Rattle.yq_core.specs.Tree.{Node}
+use Rattle.std.{proofs.Common.{◌≡◌, ℕ, ◌≤◌, true, false, List, [], ◌∷◌, length, sym, ◌∙◌}, proofs.lemmas.Bool.cond_both}
+use Rattle.yq_core.{specs.BlockWritten.break_text, specs.Paths.Step, specs.Tree.Node}
 use Rattle.yq_core.specs.declared.style.Place.TheVariants.{Block as InBlock}
+use Rattle.yq_text.{specs.Limit.text_limit, specs.Script.{Segment, new_text}}
 use Rattle.yq_flow_edits.specs.Valued.{IsValueTree}
-use Rattle.yq_row_table.specs.Rows.{Cut}
-use Rattle.yq_row_table.specs.Seams.{is_block}
+use Rattle.yq_row_table.{specs.Rows.Cut, specs.Seams.is_block}
 use Rattle.yq_places.specs.Standings.{Held, RowsOfEntry, held}
-use Rattle.yq_edits.specs.StandingLaws.{StandsThere}
-use Rattle.yq_edits.specs.declared.layout.Layout.{Layout}
-use Rattle.yq_edits.specs.BlockReading.{is_filled}
-use Rattle.yq_edits.specs.BlockRows.{item_column}
-use Rattle.yq_edits.specs.BlockText.{block_value}
-use Rattle.yq_semantics.specs.Operations.{Operation, replace}
-use Rattle.yq_text.specs.Script.{Segment, new_text}
-use Rattle.yq_edits.specs.EditLaws.{CarriedOut, IsEdit}
-use Rattle.yq_edits.specs.Layouts.{layout_of}
+use Rattle.yq_edits.{specs.StandingLaws.StandsThere, specs.declared.layout.Layout.Layout, specs.BlockReading.is_filled}
+use Rattle.yq_edits.{specs.BlockRows.item_column, specs.BlockText.block_value, specs.EditLaws.{CarriedOut, IsEdit}, specs.Layouts.layout_of}
 use Rattle.yq_edits.specs.ReplaceEdits.{held_put}
-use Rattle.yq_edits.specs.WrittenValues.{Written, inline, compact_text, lines, collection_at, column_under, lines_in, takes_compact, value_text, written_at, written_under}
-use Rattle.yq_edits.proofs.EditsFitLaws.{FitsReplace, fits_replace}
+use Rattle.yq_edits.specs.WrittenValues.{Written, inline, compact_text, lines, collection_at, column_under, lines_in, takes_compact}
+use Rattle.yq_edits.{specs.WrittenValues.{value_text, written_at, written_under}, proofs.EditsFitLaws.{FitsReplace, fits_replace}}
 use Rattle.yq_edits.proofs.ValueTexts.{value_for}
-use Rattle.yq_edit_laws.proofs.HeldCarried.{held_old}
-use Rattle.yq_edit_laws.proofs.HeldCompact.{held_compact}
-use Rattle.yq_edit_laws.proofs.HeldInline.{held_inline}
-use Rattle.yq_edit_laws.proofs.HeldKnown.{KnowsHeld}
-use Rattle.yq_edit_laws.proofs.HeldLines.{held_lines}
+use Rattle.yq_semantics.specs.Operations.{Operation, replace}
+use Rattle.yq_edit_laws.{proofs.HeldCarried.held_old, proofs.HeldCompact.held_compact, proofs.HeldInline.held_inline}
+use Rattle.yq_edit_laws.{proofs.HeldKnown.KnowsHeld, proofs.HeldLines.held_lines}
 
 module _ (n : ℕ) (s : Step) (ss : List Step) (c : Cut) (e : RowsOfEntry) (there : StandsThere n s ss c e) (last : e.line ≡ length e.row.dashes) (k : KnowsHeld n s ss c e there last) (v : Node) (block : is_block e.row.content ≡ false) where
   abbrev w : Held

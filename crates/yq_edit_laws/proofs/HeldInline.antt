@@ -1,46 +1,24 @@
 -- A value on the line of a key or dash, in the place of what this holds.
 use Rattle.std.proofs.Common.{◌≡◌, ⊎_elim, ℕ, ◌≤◌, true, false, cond, List, [], ◌∷◌, ◌++◌, length, Some, refl, sym, ap, ◌∙◌}
 use Rattle.std.proofs.lemmas.Bool.{cases_Bool}
-use Rattle.yq_core.specs.BlockWritten.{break_text}
-use Rattle.yq_text.specs.Limit.{text_limit}
-use Rattle.yq_core.specs.Paths.{Step}
-use Rattle.yq_core.specs.Text.{is_empty}
-use Rattle.yq_core.specs.Tree.{Node}
-use Rattle.yq_core.specs.declared.block_types.Break.{Break}
-use Rattle.yq_core.proofs.LineLaws.{is_empty_is}
-use Rattle.yq_core.specs.Nodes.{node_text}
-use Rattle.yq_row_table.specs.Exchange.{row_front, with_content}
-use Rattle.yq_row_table.specs.Grammar.{IsContent}
-use Rattle.yq_row_table.specs.Rows.{Content, Part, content_text, parent_indent, rows_text, Cut}
-use Rattle.yq_row_table.specs.Seams.{is_block}
-use Rattle.yq_row_table.specs.View.{slices}
+use Rattle.yq_core.{specs.BlockWritten.break_text, specs.Paths.Step, specs.Text.is_empty, specs.Tree.Node}
+use Rattle.yq_core.{specs.declared.block_types.Break.Break, proofs.LineLaws.is_empty_is, specs.Nodes.node_text}
+use Rattle.yq_text.{specs.Limit.text_limit, specs.Script.{Segment, new_text}}
+use Rattle.yq_row_table.{specs.Exchange.{row_front, with_content}, specs.Grammar.IsContent}
+use Rattle.yq_row_table.{specs.Rows.{Content, Part, content_text, parent_indent, rows_text, Cut}, specs.Seams.is_block, specs.View.slices}
 use Rattle.yq_row_table.proofs.PlaceLaws.{row_front-append}
 use Rattle.yq_outline.specs.Lines.{head_of}
 use Rattle.yq_documents.specs.Reading.{read_at}
-use Rattle.yq_places.specs.CommentPlaces.{LineEnd, end_in_line}
-use Rattle.yq_places.specs.PrintedLines.{last_break}
+use Rattle.yq_places.{specs.CommentPlaces.{LineEnd, end_in_line}, specs.PrintedLines.last_break}
 use Rattle.yq_places.specs.Standings.{Held, RowsOfEntry, before_entry, held}
-use Rattle.yq_edits.specs.Appends.{inserted}
-use Rattle.yq_edits.specs.Changed.{put_document}
-use Rattle.yq_edits.specs.StandingLaws.{StandsThere}
-use Rattle.yq_edits.proofs.CoreLaws.{put_core}
+use Rattle.yq_edits.{specs.Appends.inserted, specs.Changed.put_document, specs.StandingLaws.StandsThere, proofs.CoreLaws.put_core}
+use Rattle.yq_edits.{specs.EditLaws.CarriedOut, specs.ReplaceEdits.{spaced_text, held_put}, specs.WrittenValues.inline}
+use Rattle.yq_edits.{proofs.CommentRowLaws.end_parts, proofs.EditsFitLaws.FitsReplace, proofs.ValueTexts.IsWrittenFor}
 use Rattle.yq_semantics.specs.Operations.{replace}
-use Rattle.yq_text.specs.Script.{Segment, new_text}
-use Rattle.yq_edits.specs.EditLaws.{CarriedOut}
-use Rattle.yq_edits.specs.ReplaceEdits.{spaced_text, held_put}
-use Rattle.yq_edits.specs.WrittenValues.{inline}
-use Rattle.yq_edits.proofs.CommentRowLaws.{end_parts}
-use Rattle.yq_edits.proofs.EditsFitLaws.{FitsReplace}
-use Rattle.yq_edits.proofs.ValueTexts.{IsWrittenFor}
-use Rattle.yq_edit_laws.proofs.ContentRows.{IsContentFor}
-use Rattle.yq_edit_laws.proofs.HeadPuts.{apart_there, content_there, head_carried, head_made}
-use Rattle.yq_edit_laws.proofs.HeldKnown.{KnowsHeld}
-use Rattle.yq_edit_laws.proofs.HeldTexts.{holding, regroup, text_beside}
-use Rattle.yq_edit_laws.proofs.MarkContentLaws.{anchor_left}
-use Rattle.yq_edit_laws.proofs.MarkHeads.{core_text, no_raw, none_written}
-use Rattle.yq_edit_laws.proofs.NodeRowLaws.{NodeRows, rest, rows_there}
-use Rattle.yq_edit_laws.proofs.NodeValueLaws.{IsHolding, content_beside, content_for}
-use Rattle.yq_edit_laws.proofs.StandingNodes.{mark_node}
+use Rattle.yq_edit_laws.{proofs.ContentRows.IsContentFor, proofs.HeadPuts.{apart_there, content_there, head_carried, head_made}}
+use Rattle.yq_edit_laws.{proofs.HeldKnown.KnowsHeld, proofs.HeldTexts.{holding, regroup, text_beside}, proofs.MarkContentLaws.anchor_left}
+use Rattle.yq_edit_laws.{proofs.MarkHeads.{core_text, no_raw, none_written}, proofs.NodeRowLaws.{NodeRows, rest, rows_there}}
+use Rattle.yq_edit_laws.{proofs.NodeValueLaws.{IsHolding, content_beside, content_for}, proofs.StandingNodes.mark_node}
 
 -- Segments make a text in whose cut the row of an item or entry has another content, with a head.
 pub record RowMade (n : ℕ) (c : Cut) (e : RowsOfEntry) (p : Part) (us : List Segment) (v : Node) : Type 0 where

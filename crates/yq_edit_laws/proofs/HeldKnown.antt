@@ -1,22 +1,12 @@
 -- What laws of values behind a key or dash ask of its rows.
 use Rattle.std.proofs.Common.{◌≡◌, ℕ, Bool, true, false, List, [], ◌∷◌, ◌++◌, length, None}
-use Rattle.yq_core.specs.BlockWritten.{break_text}
-use Rattle.yq_core.specs.Paths.{Step}
-use Rattle.yq_core.specs.Text.{is_empty}
-use Rattle.yq_core.specs.declared.block_types.Break.{Break}
+use Rattle.yq_core.{specs.BlockWritten.break_text, specs.Paths.Step, specs.Text.is_empty, specs.declared.block_types.Break.Break}
 use Rattle.yq_core.specs.Tree.{anchor_of}
-use Rattle.yq_outline.specs.Comments.{line_comment}
-use Rattle.yq_outline.specs.Places.{content_under}
-use Rattle.yq_row_table.specs.Gap.{IsBreak}
-use Rattle.yq_row_table.specs.Grammar.{IsTail}
-use Rattle.yq_row_table.specs.Rows.{Row, Cut, cut_text}
-use Rattle.yq_row_table.specs.View.{slices}
-use Rattle.yq_outline.specs.Lines.{content_anchor}
+use Rattle.yq_outline.{specs.Comments.line_comment, specs.Places.content_under, specs.Lines.content_anchor}
+use Rattle.yq_row_table.{specs.Gap.IsBreak, specs.Grammar.IsTail, specs.Rows.{Row, Cut, cut_text}, specs.View.slices}
 use Rattle.yq_places.specs.Standings.{RowsOfEntry, held, is_alone}
-use Rattle.yq_edits.specs.TextPieces.{IsPiece}
-use Rattle.yq_edits.specs.StandingLaws.{HoldsPieces, StandsThere, held_text}
-use Rattle.yq_edit_laws.proofs.NodeRowLaws.{rest}
-use Rattle.yq_edit_laws.proofs.StandingNodes.{mark_node}
+use Rattle.yq_edits.{specs.TextPieces.IsPiece, specs.StandingLaws.{HoldsPieces, StandsThere, held_text}}
+use Rattle.yq_edit_laws.{proofs.NodeRowLaws.rest, proofs.StandingNodes.mark_node}
 
 -- whether the first of rows is a node alone on its line
 abbrev pub first_alone : List Row → Bool

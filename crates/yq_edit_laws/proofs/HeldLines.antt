@@ -1,46 +1,23 @@
 -- A collection on lines under a key or dash, in the place of what this holds.
 use Rattle.std.proofs.Common.{◌≡◌, ℕ, ◌≤◌, true, List, [], ◌∷◌, ◌++◌, length, replicate, None, refl, sym, ap, ◌∙◌, append_assoc, append-nil}
-use Rattle.yq_core.specs.BlockWritten.{break_text}
-use Rattle.yq_text.specs.Limit.{text_limit}
-use Rattle.yq_core.specs.Paths.{Step}
-use Rattle.yq_core.specs.Tree.{Node}
+use Rattle.yq_core.{specs.BlockWritten.break_text, specs.Paths.Step, specs.Tree.Node}
+use Rattle.yq_text.{specs.Limit.text_limit, specs.Script.{Segment, kept_front, new_text}}
 use Rattle.yq_flow_edits.specs.Valued.{IsValueTree}
 use Rattle.yq_outline.specs.Comments.{line_comment}
-use Rattle.yq_row_table.specs.Exchange.{row_front, with_content}
-use Rattle.yq_row_table.specs.Gap.{IsBreak}
-use Rattle.yq_row_table.specs.Grammar.{IsTail}
-use Rattle.yq_row_table.specs.Rows.{Content, Row, mark_column, print_row, rows_text, Cut}
-use Rattle.yq_row_table.specs.View.{slices}
-use Rattle.yq_places.specs.RowPieces.{anchor_before}
-use Rattle.yq_places.specs.Standings.{Held, RowsOfEntry, held}
-use Rattle.yq_edits.specs.StandingLaws.{StandsThere}
-use Rattle.yq_edits.specs.TextPieces.{IsPiece}
-use Rattle.yq_edits.proofs.RemovalPieceLaws.{spaces_piece}
-use Rattle.yq_edits.proofs.TextPieceLaws.{pieces_joined}
-use Rattle.yq_edits.proofs.StandingMarks.{entry_there}
-use Rattle.yq_edits.specs.declared.layout.Layout.{Layout}
-use Rattle.yq_edits.specs.BlockReading.{is_filled}
-use Rattle.yq_edits.specs.BlockRows.{column_below, node_rows}
-use Rattle.yq_edits.specs.BlockText.{block_value}
-use Rattle.yq_edits.specs.BlockValues.{IsEnd, IsFilledValue}
-use Rattle.yq_edits.proofs.CharacterLaws.{value_sound}
-use Rattle.yq_edits.proofs.TextLaws.{value_spelled}
+use Rattle.yq_row_table.{specs.Exchange.{row_front, with_content}, specs.Gap.IsBreak, specs.Grammar.IsTail}
+use Rattle.yq_row_table.{specs.Rows.{Content, Row, mark_column, print_row, rows_text, Cut}, specs.View.slices}
+use Rattle.yq_places.{specs.RowPieces.anchor_before, specs.Standings.{Held, RowsOfEntry, held}}
+use Rattle.yq_edits.{specs.StandingLaws.StandsThere, specs.TextPieces.IsPiece, proofs.RemovalPieceLaws.spaces_piece}
+use Rattle.yq_edits.{proofs.TextPieceLaws.pieces_joined, proofs.StandingMarks.entry_there, specs.declared.layout.Layout.Layout}
+use Rattle.yq_edits.{specs.BlockReading.is_filled, specs.BlockRows.{column_below, node_rows}, specs.BlockText.block_value}
+use Rattle.yq_edits.{specs.BlockValues.{IsEnd, IsFilledValue}, proofs.CharacterLaws.value_sound, proofs.TextLaws.value_spelled}
+use Rattle.yq_edits.{specs.EditLaws.CarriedOut, specs.Layouts.layout_of, specs.ReplaceEdits.held_put}
+use Rattle.yq_edits.{specs.WrittenValues.{column_under, lines, lines_in}, proofs.BrokenTails.uncommented_tail}
+use Rattle.yq_edits.{proofs.EditsFitLaws.FitsReplace, proofs.LayoutLaws.mapping_least}
 use Rattle.yq_semantics.specs.Operations.{replace}
-use Rattle.yq_text.specs.Script.{Segment, kept_front, new_text}
-use Rattle.yq_edits.specs.EditLaws.{CarriedOut}
-use Rattle.yq_edits.specs.Layouts.{layout_of}
-use Rattle.yq_edits.specs.ReplaceEdits.{held_put}
-use Rattle.yq_edits.specs.WrittenValues.{column_under, lines, lines_in}
-use Rattle.yq_edits.proofs.BrokenTails.{uncommented_tail}
-use Rattle.yq_edits.proofs.EditsFitLaws.{FitsReplace}
-use Rattle.yq_edits.proofs.LayoutLaws.{mapping_least}
-use Rattle.yq_edit_laws.proofs.HeldCarried.{Spells, held_carried}
-use Rattle.yq_edit_laws.proofs.HeldKnown.{KnowsHeld}
-use Rattle.yq_edit_laws.proofs.HeldTexts.{holding, text_left}
-use Rattle.yq_edit_laws.proofs.MarkContentLaws.{anchor_left}
-use Rattle.yq_edit_laws.proofs.MarkKinds.{column_is, filled_is}
-use Rattle.yq_edit_laws.proofs.NodeLeads.{first_lead, own_lead}
-use Rattle.yq_edit_laws.proofs.NodeRowLaws.{NodeRows, rest, rows_there}
+use Rattle.yq_edit_laws.{proofs.HeldCarried.{Spells, held_carried}, proofs.HeldKnown.KnowsHeld, proofs.HeldTexts.{holding, text_left}}
+use Rattle.yq_edit_laws.{proofs.MarkContentLaws.anchor_left, proofs.MarkKinds.{column_is, filled_is}}
+use Rattle.yq_edit_laws.{proofs.NodeLeads.{first_lead, own_lead}, proofs.NodeRowLaws.{NodeRows, rest, rows_there}}
 use Rattle.yq_edit_laws.proofs.NodeValueLaws.{IsHolding, end_is, mark_key, rows_under, takes_under}
 use Rattle.yq_edit_laws.proofs.StandingNodes.{behind_is, mark_node}
 

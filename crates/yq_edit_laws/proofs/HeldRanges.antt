@@ -1,26 +1,15 @@
 -- What is kept behind the head of a key or dash is a part of its line.
-use Rattle.std.proofs.Common.{◌≡◌, ◌⊎◌, inl, inr, ℕ, Bool, true, false, cond, ◌&&◌, List, [], ◌∷◌, ◌++◌, Some, refl, sym, ap, ◌∙◌, subst, append_assoc, append-nil}
-use Rattle.std.proofs.lemmas.Bool.{or_parts}
-use Rattle.yq_core.specs.Paths.{Step}
-use Rattle.yq_core.specs.Text.{NoneIn, ends_line, front, is_empty, is_feed, is_return, is_white}
-use Rattle.yq_core.proofs.Bools.{at_byte}
-use Rattle.yq_row_table.specs.Exchange.{asked_behind}
-use Rattle.yq_row_table.specs.Gap.{IsComment, IsWhite}
-use Rattle.yq_row_table.specs.Grammar.{IsRow, IsTail, unlimited}
-use Rattle.yq_row_table.specs.Rows.{Cut, cut_text, parent_indent, rows_text}
-use Rattle.yq_row_table.specs.View.{slices}
+use Rattle.std.proofs.Common.{◌≡◌, ◌⊎◌, inl, inr, ℕ, Bool, true, false, cond, ◌&&◌, List, [], ◌∷◌, ◌++◌, Some, refl, sym, ap, ◌∙◌, subst}
+use Rattle.std.{proofs.Common.{append_assoc, append-nil}, proofs.lemmas.Bool.or_parts}
+use Rattle.yq_core.{specs.Paths.Step, specs.Text.{NoneIn, ends_line, front, is_empty, is_feed, is_return, is_white}, proofs.Bools.at_byte}
+use Rattle.yq_row_table.{specs.Exchange.asked_behind, specs.Gap.{IsComment, IsWhite}, specs.Grammar.{IsRow, IsTail, unlimited}}
+use Rattle.yq_row_table.{specs.Rows.{Cut, cut_text, parent_indent, rows_text}, specs.View.slices}
 use Rattle.yq_documents.specs.Reading.{read_at}
-use Rattle.yq_places.specs.CommentPlaces.{LineEnd, end_in_line}
-use Rattle.yq_places.specs.PrintedLines.{last_break}
-use Rattle.yq_places.specs.Standings.{Held, RowsOfEntry, behind_entry, held, rows_of_entry}
-use Rattle.yq_places.proofs.LineEndLaws.{line_tail}
-use Rattle.yq_edits.specs.StandingLaws.{StandsThere}
-use Rattle.yq_edits.proofs.StandingMarks.{row_there}
-use Rattle.yq_edits.proofs.StandingRows.{rows_stand}
-use Rattle.yq_edits.specs.ReplaceEdits.{line_break}
+use Rattle.yq_places.{specs.CommentPlaces.{LineEnd, end_in_line}, specs.PrintedLines.last_break}
+use Rattle.yq_places.{specs.Standings.{Held, RowsOfEntry, behind_entry, held, rows_of_entry}, proofs.LineEndLaws.line_tail}
+use Rattle.yq_edits.{specs.StandingLaws.StandsThere, proofs.StandingMarks.row_there, proofs.StandingRows.rows_stand}
+use Rattle.yq_edits.{specs.ReplaceEdits.line_break, proofs.BreakLaws.{IsLfOrCrLf, last_is}, proofs.HeldPieces.{break_cases, end_agrees}}
 use Rattle.yq_edit_laws.specs.TouchedRanges.{is_one_line}
-use Rattle.yq_edits.proofs.BreakLaws.{IsLfOrCrLf, last_is}
-use Rattle.yq_edits.proofs.HeldPieces.{break_cases, end_agrees}
 
 -- ---- a part of a line
 

@@ -1,50 +1,25 @@
 -- What is known of what the key or dash of rows holds.
-use Rattle.std.proofs.Common.{◌≡◌, inl, inr, ℕ, ℤ, true, false, cond, ◌&&◌, List, [], ◌∷◌, ◌++◌, length, Option, Some, None, is_some, refl, sym, ap, ◌∙◌, subst, arith, append_assoc, length-append, rules}
-use Rattle.std.proofs.lemmas.Bool.{false≢true, and_parts}
-use Rattle.yq_core.specs.BlockWritten.{break_text}
-use Rattle.yq_core.specs.Characters.{pairs_returns}
-use Rattle.yq_core.specs.Paths.{Step}
-use Rattle.yq_core.specs.Text.{is_break, is_empty, is_line}
-use Rattle.yq_core.specs.Tree.{Node, anchor_of}
-use Rattle.yq_core.specs.Nodes.{node_text, IsFlowNode}
-use Rattle.yq_outline.specs.Comments.{line_comment}
-use Rattle.yq_outline.specs.Outline as outline
-use Rattle.yq_outline.specs.Outline.{IsOpen, Line, Outline, anchored, flatten, head_or, value}
-use Rattle.yq_outline.specs.Places.{content_under}
-use Rattle.yq_row_table.specs.Exchange.{asked_behind}
-use Rattle.yq_row_table.specs.Gap.{IsBreak}
-use Rattle.yq_row_table.specs.Grammar.{IsContent, IsRow, IsTail, unlimited}
-use Rattle.yq_row_table.specs.Rows.{Content, Cut, Row, cut_text, parent_indent, rows_text}
-use Rattle.yq_row_table.specs.View.{Slices, content_cut, slices}
+use Rattle.std.proofs.Common.{◌≡◌, inl, inr, ℕ, ℤ, true, false, cond, ◌&&◌, List, [], ◌∷◌, ◌++◌, length, Option, Some, None, is_some, refl}
+use Rattle.std.{proofs.Common.{sym, ap, ◌∙◌, subst, arith, append_assoc, length-append, rules}, proofs.lemmas.Bool.{false≢true, and_parts}}
+use Rattle.yq_core.{specs.BlockWritten.break_text, specs.Characters.pairs_returns, specs.Paths.Step}
+use Rattle.yq_core.{specs.Text.{is_break, is_empty, is_line}, specs.Tree.{Node, anchor_of}, specs.Nodes.{node_text, IsFlowNode}}
+use Rattle.yq_outline.{specs.Comments.line_comment, specs.Outline.{IsOpen, Line, Outline, anchored, flatten, head_or, value}}
+use Rattle.yq_outline.{specs.Places.content_under, specs.Lines.{content_anchor, head_of, lines_of_rows, row_lines}}
+use Rattle.yq_row_table.{specs.Exchange.asked_behind, specs.Gap.IsBreak, specs.Grammar.{IsContent, IsRow, IsTail, unlimited}}
+use Rattle.yq_row_table.{specs.Rows.{Content, Cut, Row, cut_text, parent_indent, rows_text}, specs.View.{Slices, content_cut, slices}}
 use Rattle.yq_row_table.proofs.CharacterLaws.{pairs_back}
-use Rattle.yq_outline.specs.Lines.{content_anchor, head_of, lines_of_rows, row_lines}
 use Rattle.yq_documents.specs.Reading.{part_outline, read_at}
-use Rattle.yq_places.specs.CommentPlaces.{LineEnd, end_in_line, text_to_line_end}
-use Rattle.yq_places.specs.PrintedLines.{last_break}
-use Rattle.yq_places.specs.Standings.{RowsOfEntry, before_entry, behind_entry, held, rows_of_entry}
-use Rattle.yq_places.proofs.CommentPieceLaws.{Ended}
-use Rattle.yq_places.proofs.LastBreakLaws.{lf_last}
-use Rattle.yq_places.proofs.LineEndLaws.{line_tail}
-use Rattle.yq_places.proofs.RunSpans.{rows_then}
-use Rattle.yq_edits.specs.Siblings.{HasEntries}
-use Rattle.yq_edits.specs.StandingLaws.{StandsThere}
-use Rattle.yq_edits.specs.TextPieces.{IsPiece}
-use Rattle.yq_edits.proofs.ContentLaws.{content_named}
-use Rattle.yq_edits.proofs.LineLaws.{row_count}
-use Rattle.yq_edits.proofs.NodeLineLaws.{under_even}
-use Rattle.yq_edits.proofs.StandingMarks.{even_there, row_there, under_it}
-use Rattle.yq_edits.proofs.TextPieceLaws.{piece_back, text_is_piece}
-use Rattle.yq_edits.proofs.UnderLaws.{line_is, under_is}
-use Rattle.yq_edits.proofs.BreakLaws.{IsLfOrCrLf, last_is}
-use Rattle.yq_edits.proofs.BrokenTails.{other_comment, other_tail, uncommented_tail}
-use Rattle.yq_edits.proofs.CommentReadLaws.{break_is}
-use Rattle.yq_edits.proofs.CommentRowLaws.{entry_row, line_whole}
-use Rattle.yq_edits.proofs.HeldLaws.{cut_spelled}
-use Rattle.yq_edits.proofs.HeldPieces.{below_ended, end_agrees, held_spells}
-use Rattle.yq_edits.proofs.TailPieces.{white_piece}
-use Rattle.yq_edit_laws.proofs.HeldKnown.{KnowsHeld, first_alone}
-use Rattle.yq_edit_laws.proofs.NodeRowLaws.{rest}
-use Rattle.yq_edit_laws.proofs.StandingNodes.{behind_is, mark_node}
+use Rattle.yq_places.{specs.CommentPlaces.{LineEnd, end_in_line, text_to_line_end}, specs.PrintedLines.last_break}
+use Rattle.yq_places.{specs.Standings.{RowsOfEntry, before_entry, behind_entry, held, rows_of_entry}, proofs.CommentPieceLaws.Ended}
+use Rattle.yq_places.{proofs.LastBreakLaws.lf_last, proofs.LineEndLaws.line_tail, proofs.RunSpans.rows_then}
+use Rattle.yq_edits.{specs.Siblings.HasEntries, specs.StandingLaws.StandsThere, specs.TextPieces.IsPiece, proofs.ContentLaws.content_named}
+use Rattle.yq_edits.{proofs.LineLaws.row_count, proofs.NodeLineLaws.under_even, proofs.StandingMarks.{even_there, row_there, under_it}}
+use Rattle.yq_edits.{proofs.TextPieceLaws.{piece_back, text_is_piece}, proofs.UnderLaws.{line_is, under_is}}
+use Rattle.yq_edits.{proofs.BreakLaws.{IsLfOrCrLf, last_is}, proofs.BrokenTails.{other_comment, other_tail, uncommented_tail}}
+use Rattle.yq_edits.{proofs.CommentReadLaws.break_is, proofs.CommentRowLaws.{entry_row, line_whole}, proofs.HeldLaws.cut_spelled}
+use Rattle.yq_edits.{proofs.HeldPieces.{below_ended, end_agrees, held_spells}, proofs.TailPieces.white_piece}
+use Rattle.yq_edit_laws.{proofs.HeldKnown.{KnowsHeld, first_alone}, proofs.NodeRowLaws.rest, proofs.StandingNodes.{behind_is, mark_node}}
+use Rattle.yq_outline.specs.Outline as outline
 
 -- ---- ends of lines
 

@@ -1,27 +1,19 @@
 -- What is left on the line of the key or dash of rows in front of what is written for a value, and the text of that.
 use Rattle.std.proofs.Common.{◌≡◌, ℕ, List, [], ◌∷◌, ◌++◌, length, refl, sym, ap, ◌∙◌, append_assoc}
-use Rattle.yq_core.specs.Paths.{Step}
-use Rattle.yq_core.specs.Nodes as inline
-use Rattle.yq_core.specs.Nodes.{node_text}
-use Rattle.yq_outline.specs.Comments.{line_comment}
-use Rattle.yq_row_table.specs.Exchange.{row_front, with_content}
-use Rattle.yq_row_table.specs.Grammar.{IsRow, IsTail}
-use Rattle.yq_row_table.specs.Rows.{Row, content_text, parent_indent, rows_text, Cut}
-use Rattle.yq_row_table.specs.View.{content_cut, slices}
-use Rattle.yq_row_table.proofs.NodeExchange.{mark_apart}
-use Rattle.yq_row_table.proofs.PlaceLaws.{row_front-append}
-use Rattle.yq_outline.specs.Lines.{content_anchor}
+use Rattle.yq_core.{specs.Paths.Step, specs.Nodes.node_text}
+use Rattle.yq_outline.{specs.Comments.line_comment, specs.Lines.content_anchor}
+use Rattle.yq_row_table.{specs.Exchange.{row_front, with_content}, specs.Grammar.{IsRow, IsTail}}
+use Rattle.yq_row_table.{specs.Rows.{Row, content_text, parent_indent, rows_text, Cut}, specs.View.{content_cut, slices}}
+use Rattle.yq_row_table.{proofs.NodeExchange.mark_apart, proofs.PlaceLaws.row_front-append}
 use Rattle.yq_documents.proofs.RowLineLaws.{tail_is}
 use Rattle.yq_places.specs.Standings.{RowsOfEntry, before_entry, held}
-use Rattle.yq_edits.specs.DocumentRows.{behind_document}
-use Rattle.yq_edits.specs.StandingLaws.{StandsThere}
-use Rattle.yq_edits.proofs.CoreLaws.{put_core}
+use Rattle.yq_edits.{specs.DocumentRows.behind_document, specs.StandingLaws.StandsThere, proofs.CoreLaws.put_core}
 use Rattle.yq_edits.proofs.StandingMarks.{entry_there}
 use Rattle.yq_edit_laws.proofs.HeldKnown.{KnowsHeld}
-use Rattle.yq_edit_laws.proofs.MarkContentLaws.{anchor_left, content_named, left_anchor, left_apart, left_content, left_core_text, left_nothing, left_tail, left_text}
-use Rattle.yq_edit_laws.proofs.NodeRowLaws.{limit, rows_there}
-use Rattle.yq_edit_laws.proofs.NodeValueLaws.{IsHolding}
-use Rattle.yq_edit_laws.proofs.StandingNodes.{mark_node}
+use Rattle.yq_edit_laws.proofs.MarkContentLaws.{anchor_left, content_named, left_anchor, left_apart, left_content, left_core_text}
+use Rattle.yq_edit_laws.{proofs.MarkContentLaws.{left_nothing, left_tail, left_text}, proofs.NodeRowLaws.{limit, rows_there}}
+use Rattle.yq_edit_laws.{proofs.NodeValueLaws.IsHolding, proofs.StandingNodes.mark_node}
+use Rattle.yq_core.specs.Nodes as inline
 
 pub regroup : (a b d r : List ℕ) → a ++ (b ++ (d ++ r)) ≡ ((a ++ b) ++ d) ++ r
 regroup a b d r = simp append_assoc refl

@@ -1,21 +1,12 @@
 -- A value on one line in the place of an inline node changes its row alone, and leaves its shape.
 use Rattle.std.proofs.Common.{◌≡◌, List, [], ◌∷◌, ◌++◌, is_some, sym, ap, ◌∙◌, refl}
 use Rattle.yq_core.specs.declared.style.Place.TheVariants.{Block as InBlock}
-use Rattle.yq_row_table.specs.Exchange.{with_content}
-use Rattle.yq_row_table.specs.Rows.{Row, parent_indent}
+use Rattle.yq_row_table.{specs.Exchange.with_content, specs.Rows.{Row, parent_indent}}
 use Rattle.yq_places.specs.Standings.{held}
-use Rattle.yq_edits.proofs.StandingRows.{rows_stand}
-use Rattle.yq_edits.specs.Layouts.{layout_of}
-use Rattle.yq_edits.specs.RowChanges.{InlineValuesChangeRows}
-use Rattle.yq_edits.specs.WrittenValues.{value_text}
-use Rattle.yq_edits.proofs.EditsFitLaws.{fits_replace}
-use Rattle.yq_edits.proofs.ValueTexts.{value_for}
-use Rattle.yq_edit_laws.proofs.HeadPuts.{content_there}
-use Rattle.yq_edit_laws.proofs.HeldInline.{RowMade, node_made}
-use Rattle.yq_edit_laws.proofs.HeldKnown.{KnowsHeld, first_alone}
-use Rattle.yq_edit_laws.proofs.HeldRows.{head_there, headless_there, held_known}
-use Rattle.yq_edit_laws.proofs.NodeRowLaws.{rest}
-use Rattle.yq_edit_laws.proofs.StandingNodes.{mark_node}
+use Rattle.yq_edits.{proofs.StandingRows.rows_stand, specs.Layouts.layout_of, specs.RowChanges.InlineValuesChangeRows}
+use Rattle.yq_edits.{specs.WrittenValues.value_text, proofs.EditsFitLaws.fits_replace, proofs.ValueTexts.value_for}
+use Rattle.yq_edit_laws.{proofs.HeadPuts.content_there, proofs.HeldInline.{RowMade, node_made}, proofs.HeldKnown.{KnowsHeld, first_alone}}
+use Rattle.yq_edit_laws.{proofs.HeldRows.{head_there, headless_there, held_known}, proofs.NodeRowLaws.rest, proofs.StandingNodes.mark_node}
 
 pub inline_values_change_rows : InlineValuesChangeRows
 inline_values_change_rows n s ss v c e read at inline plain operand fits size =

@@ -1,19 +1,14 @@
 -- Items of a cut end in an LF, where something is behind them; and which of them lie at the bytes that a change keeps.
-use Rattle.std.proofs.Common.{◌≡◌, ◌⊎◌, inl, inr, ℕ, ◌+◌, ◌-◌, ◌≤◌, Bool, true, false, cond, ltb, List, [], ◌∷◌, ◌++◌, length, refl, sym, ap, ◌∙◌, subst, arith, append-nil}
-use mathlib.Core.List.{head-eq_of_cons-eq, tail-eq_of_cons-eq}
-use Rattle.std.proofs.lemmas.Bool.{false≢true, ltb-false}
+use Rattle.std.proofs.Common.{◌≡◌, ◌⊎◌, inl, inr, ℕ, ◌+◌, ◌-◌, ◌≤◌, Bool, true, false, cond, ltb, List, [], ◌∷◌, ◌++◌, length, refl, sym}
+use Rattle.std.{proofs.Common.{ap, ◌∙◌, subst, arith, append-nil}, proofs.lemmas.Bool.{false≢true, ltb-false}}
 use Rattle.std.proofs.lemmas.List.{length-append}
-use Rattle.yq_core.specs.Text.{is_empty}
-use Rattle.yq_core.proofs.BlockPieceLaws.{IsLf, append_lf, line_lf}
+use mathlib.Core.List.{head-eq_of_cons-eq, tail-eq_of_cons-eq}
+use Rattle.yq_core.{specs.Text.is_empty, proofs.BlockPieceLaws.{IsLf, append_lf, line_lf}}
 use Rattle.yq_row_table.specs.Items.{Item, row_item, end_item, items_text, Asked, asked_by, IsPartEnd, IsItem, AreRowItems}
-use Rattle.yq_row_table.specs.Touched.{item_text, in_back, in_front}
-use Rattle.yq_row_table.proofs.ItemLaws.{items_text-append}
-use Rattle.yq_row_table.proofs.KeptLaws.{items_apart}
-use Rattle.yq_row_table.proofs.NothingLaws.{some_behind}
-use Rattle.yq_row_table.proofs.seams.MarkerSeams.{marker_line_is}
+use Rattle.yq_row_table.{specs.Touched.{item_text, in_back, in_front}, proofs.ItemLaws.items_text-append, proofs.KeptLaws.items_apart}
+use Rattle.yq_row_table.{proofs.NothingLaws.some_behind, proofs.seams.MarkerSeams.marker_line_is}
 use Rattle.yq_places.proofs.CommentPieceLaws.{Ended}
-use Rattle.yq_edits.proofs.EndedRowLaws.{row_ended}
-use Rattle.yq_edits.proofs.ItemsLocal.{item_apart}
+use Rattle.yq_edits.{proofs.EndedRowLaws.row_ended, proofs.ItemsLocal.item_apart}
 use Rattle.yq_edit_laws.proofs.TouchLaws.{size_one}
 
 -- ---- what ends them

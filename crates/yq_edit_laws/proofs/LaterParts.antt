@@ -1,17 +1,13 @@
 -- A part of a node that stands behind one whose content gave way to another stays as it is, in whichever collections the two are.
-use Rattle.std.proofs.Common.{◌≡◌, ℕ, ◌<◌, ◌≤◌, Bool, true, false, cond, List, [], ◌∷◌, ◌++◌, length, Option, Some, None, option_and_then, refl, sym, ap, ◌∙◌, arith, length-append}
-use Rattle.std.proofs.lemmas.Option.{none-some, same_Some}
-use Rattle.yq_core.specs.Answers.{◌>>=◌}
-use Rattle.yq_core.specs.Paths.{Step, is_here, further}
+use Rattle.std.proofs.Common.{◌≡◌, ℕ, ◌<◌, ◌≤◌, Bool, true, false, cond, List, [], ◌∷◌, ◌++◌, length, Option, Some, None, option_and_then}
+use Rattle.std.{proofs.Common.{refl, sym, ap, ◌∙◌, arith, length-append}, proofs.lemmas.Option.{none-some, same_Some}}
+use Rattle.yq_core.{specs.Answers.◌>>=◌, specs.Paths.{Step, is_here, further}}
 use Rattle.yq_core.specs.Collections.{CollPieces, change_item, coll_along, coll_in, collection_put, put_coll, within_items}
 use Rattle.yq_core.specs.Entries.{EntryPieces, entry_pieces_at, path_inside, item_at}
-use Rattle.yq_core.specs.Nodes.{Key, bare, keyed, FlowNode, empty, alias, scalar, coll, anchored, Items, none, item, flow_items_text, key_text, node_text, sep_text, without_anchor}
-use Rattle.yq_core.specs.Trees.{key_content}
-use Rattle.yq_core.specs.Tree.{key_label}
-use Rattle.yq_core.proofs.NodeAgain.{key_longer, node_longer, sep_longer}
-use Rattle.yq_core.proofs.PathLaws.{then_some}
-use Rattle.yq_flow_edits.specs.FlowEdits.{put_content, put_item, spaced_key}
-use Rattle.yq_flow_edits.proofs.ItemPlaces.{item_rest}
+use Rattle.yq_core.specs.Nodes.{Key, bare, keyed, FlowNode, empty, alias, scalar, coll, anchored, Items, none, item, flow_items_text}
+use Rattle.yq_core.{specs.Nodes.{key_text, node_text, sep_text, without_anchor}, specs.Trees.key_content, specs.Tree.key_label}
+use Rattle.yq_core.{proofs.NodeAgain.{key_longer, node_longer, sep_longer}, proofs.PathLaws.then_some}
+use Rattle.yq_flow_edits.{specs.FlowEdits.{put_content, put_item, spaced_key}, proofs.ItemPlaces.item_rest}
 use Rattle.yq_edit_laws.proofs.FlowStandings.{coll_entry, node_entry}
 
 -- ---- where parts stand

@@ -1,58 +1,35 @@
 -- A line comment set: the text reads as the documents after that.
-use Rattle.std.proofs.Common.{◌≡◌, inl, inr, ⊎_elim, ℕ, ◌≤◌, Bool, true, false, ◌&&◌, not, cond, eqb, List, [], ◌∷◌, ◌++◌, length, take, drop, Option, Some, option_map, refl, sym, ap, ◌∙◌, subst, append_assoc, append-nil}
-use Rattle.std.proofs.lemmas.Bool.{false≢true, eqb-true}
-use Rattle.std.proofs.lemmas.Option.{same_Some}
-use Rattle.std.specs.Str.{IsUtf8}
-use Rattle.yq_core.specs.Answers.{◌>>=◌}
-use Rattle.yq_text.specs.Limit.{text_limit}
-use Rattle.yq_core.specs.Paths.{Step, changed_at, relabel_child, within}
-use Rattle.yq_core.specs.Text.{is_empty}
+use Rattle.std.proofs.Common.{◌≡◌, inl, inr, ⊎_elim, ℕ, ◌≤◌, Bool, true, false, ◌&&◌, not, cond, eqb, List, [], ◌∷◌, ◌++◌, length, take}
+use Rattle.std.proofs.Common.{drop, Option, Some, option_map, refl, sym, ap, ◌∙◌, subst, append_assoc, append-nil}
+use Rattle.std.{proofs.lemmas.Bool.{false≢true, eqb-true}, proofs.lemmas.Option.same_Some, specs.Str.IsUtf8}
+use Rattle.yq_core.{specs.Answers.◌>>=◌, specs.Paths.{Step, changed_at, relabel_child, within}, specs.Text.is_empty}
 use Rattle.yq_core.proofs.Bools.{guard_then}
-use Rattle.yq_row_table.specs.Gap.{IsBreak}
-use Rattle.yq_row_table.specs.Grammar.{IsTail, no_rows}
-use Rattle.yq_row_table.specs.Rows.{Row, parent_indent, print_row, rows_text, Part, Cut, cut_text, part_text}
-use Rattle.yq_row_table.specs.View.{slices}
-use Rattle.yq_row_table.proofs.splices.SpliceTexts.{own_gap, own_end}
+use Rattle.yq_text.{specs.Limit.text_limit, specs.Script.{Segment, keep, put, old_text, new_text, are_kept, kept_front, kept_back}}
+use Rattle.yq_row_table.{specs.Gap.IsBreak, specs.Grammar.{IsTail, no_rows}}
+use Rattle.yq_row_table.{specs.Rows.{Row, parent_indent, print_row, rows_text, Part, Cut, cut_text, part_text}, specs.View.slices}
+use Rattle.yq_row_table.{proofs.splices.SpliceTexts.{own_gap, own_end}, proofs.splices.ContentPlaces.count_front}
 use Rattle.yq_places.specs.CommentPlaces.{LineEnd, end_in_line, text_to_line_end, end_of_line}
-use Rattle.yq_documents.specs.Documents.{lead_of}
-use Rattle.yq_documents.specs.LinesInRows.{row_line_of}
-use Rattle.yq_places.specs.PlacedRows.{PlacedPart, PlacedRow, placed_row}
-use Rattle.yq_documents.specs.Reading.{read_at, root_of}
-use Rattle.yq_places.specs.RowPaths.{IsReadable}
-use Rattle.yq_documents.specs.TreeEdits.{at_end, with_line_comment}
+use Rattle.yq_places.{specs.PlacedRows.{PlacedPart, PlacedRow, placed_row}, specs.RowPaths.IsReadable}
 use Rattle.yq_places.proofs.LineEndLaws.{line_tail, end_of_tail, tail_is_end}
 use Rattle.yq_places.specs.Standings.{Held, RowsOfEntry, before_entry, behind_entry, entry_rows_at, held, rows_of_entry}
 use Rattle.yq_places.proofs.RunSpans.{rows_then}
-use Rattle.yq_edits.specs.Appends.{inserted}
-use Rattle.yq_edits.specs.Changed.{put_document}
-use Rattle.yq_edits.specs.DocumentRows.{behind_document}
-use Rattle.yq_edits.specs.PathTails.{IsLineTail, tailed}
-use Rattle.yq_edits.specs.TextPieces.{IsPiece}
-use Rattle.yq_edits.proofs.AfterLaws.{end_is_change}
-use Rattle.yq_edits.proofs.LeadLaws.{same_lead_goes}
-use Rattle.yq_edits.proofs.PathTailLaws.{path_tail_put}
-use Rattle.yq_edits.proofs.ReplaceLaws.{rows_before_some}
-use Rattle.yq_edits.proofs.ShapeLaws.{shapes_are_alike}
-use Rattle.yq_edits.proofs.TextPieceLaws.{text_is_piece}
-use Rattle.yq_semantics.specs.Changes.{can_be_comment}
-use Rattle.yq_semantics.specs.Meaning.{line_comment_text}
-use Rattle.yq_semantics.specs.Operations.{line_comment}
-use Rattle.yq_semantics.specs.declared.program.CommentPlace.TheVariants as comments
-use Rattle.yq_row_table.proofs.splices.ContentPlaces.{count_front}
-use Rattle.yq_text.specs.Script.{Segment, keep, put, old_text, new_text, are_kept, kept_front, kept_back}
-use Rattle.yq_edits.specs.CommentEdits.{comment_put, comment_written}
-use Rattle.yq_edits.specs.EditLaws.{CarriedOut, IsEdit, LineCommentIsPut}
-use Rattle.yq_edits.specs.Local.{IsLocal}
-use Rattle.yq_edits.specs.ReadsAfter.{ReadsAfter}
-use Rattle.yq_edits.specs.RowChanges.{ChangesRow, LineCommentsChangeRows}
+use Rattle.yq_documents.{specs.Documents.lead_of, specs.LinesInRows.row_line_of, specs.Reading.{read_at, root_of}}
+use Rattle.yq_documents.specs.TreeEdits.{at_end, with_line_comment}
+use Rattle.yq_edits.{specs.Appends.inserted, specs.Changed.put_document, specs.DocumentRows.behind_document}
+use Rattle.yq_edits.{specs.PathTails.{IsLineTail, tailed}, specs.TextPieces.IsPiece, proofs.AfterLaws.end_is_change}
+use Rattle.yq_edits.{proofs.LeadLaws.same_lead_goes, proofs.PathTailLaws.path_tail_put, proofs.ReplaceLaws.rows_before_some}
+use Rattle.yq_edits.{proofs.ShapeLaws.shapes_are_alike, proofs.TextPieceLaws.text_is_piece}
+use Rattle.yq_edits.{specs.CommentEdits.{comment_put, comment_written}, specs.EditLaws.{CarriedOut, IsEdit, LineCommentIsPut}}
+use Rattle.yq_edits.{specs.Local.IsLocal, specs.ReadsAfter.ReadsAfter, specs.RowChanges.{ChangesRow, LineCommentsChangeRows}}
 use Rattle.yq_edits.proofs.CommentPieceLaws.{nothing, byte_then, line_text_is}
-use Rattle.yq_edits.proofs.CommentRowLaws.{entry_is_row, entry_row, rows_front, IsRowFound, row_found, found_text, found_row, cut_is, HasRow, line_whole, end_parts, some_steps}
-use Rattle.yq_edits.proofs.DoneLaws.{document_done}
-use Rattle.yq_edits.proofs.HeldLaws.{below_is, front_is}
-use Rattle.yq_edit_laws.proofs.LineTails.{written, new_white, new_comment, tail_then, blank, new_comment_is, line_tail_is, row_then_text, lead_same, shape_same, shapes_same}
-use Rattle.yq_edits.proofs.LocalLaws.{cut_known, row_local}
-use Rattle.yq_edits.proofs.SegmentLaws.{segments_readable}
+use Rattle.yq_edits.proofs.CommentRowLaws.{entry_is_row, entry_row, rows_front, IsRowFound, row_found, found_text, found_row, cut_is}
+use Rattle.yq_edits.{proofs.CommentRowLaws.{HasRow, line_whole, end_parts, some_steps}, proofs.DoneLaws.document_done}
+use Rattle.yq_edits.{proofs.HeldLaws.{below_is, front_is}, proofs.LocalLaws.{cut_known, row_local}, proofs.SegmentLaws.segments_readable}
 use Rattle.yq_edits.proofs.TailPieces.{white_piece, pieces}
+use Rattle.yq_semantics.{specs.Changes.can_be_comment, specs.Meaning.line_comment_text, specs.Operations.line_comment}
+use Rattle.yq_edit_laws.proofs.LineTails.{written, new_white, new_comment, tail_then, blank, new_comment_is, line_tail_is, row_then_text}
+use Rattle.yq_edit_laws.proofs.LineTails.{lead_same, shape_same, shapes_same}
+use Rattle.yq_semantics.specs.declared.program.CommentPlace.TheVariants as comments
 
 -- ---- the place
 

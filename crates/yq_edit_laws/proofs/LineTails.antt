@@ -1,25 +1,18 @@
 -- The end of a line with another comment, and rows and parts with such a line.
-use Rattle.std.proofs.Common.{◌≡◌, ◌⊎◌, inl, inr, ⊎_elim, ℕ, Bool, true, false, ◌&&◌, ◌||◌, not, cond, eqb, List, [], ◌∷◌, ◌++◌, map, drop, Some, None, refl, sym, ap, ◌∙◌, subst, append_assoc, append-nil}
-use Rattle.std.proofs.lemmas.Bool.{false≢true, eqb-true, and_parts, cases_Bool, not-true}
-use Rattle.std.proofs.lemmas.List.{map-append}
-use Rattle.yq_core.specs.Block.{is_tail}
-use Rattle.yq_core.specs.Lines.{is_blank, is_hash}
+use Rattle.std.proofs.Common.{◌≡◌, ◌⊎◌, inl, inr, ⊎_elim, ℕ, Bool, true, false, ◌&&◌, ◌||◌, not, cond, eqb, List, [], ◌∷◌, ◌++◌, map, drop}
+use Rattle.std.proofs.Common.{Some, None, refl, sym, ap, ◌∙◌, subst, append_assoc, append-nil}
+use Rattle.std.{proofs.lemmas.Bool.{false≢true, eqb-true, and_parts, cases_Bool, not-true}, proofs.lemmas.List.map-append}
+use Rattle.yq_core.{specs.Block.is_tail, specs.Lines.{is_blank, is_hash}}
 use Rattle.yq_core.specs.Text.{front, is_white, is_line, is_empty, ends_line, no_white, past_white}
 use Rattle.yq_outline.specs.Comments.{line_comment as comment_in, head_comment as head_in}
-use Rattle.yq_row_table.specs.Exchange.{with_content}
-use Rattle.yq_row_table.specs.Gap.{IsWhite, IsBreak, IsComment}
-use Rattle.yq_row_table.specs.Grammar.{IsTail, IsContent}
-use Rattle.yq_row_table.specs.Rows.{Content, Nothing, Inline, Block, Row, print_row, Part}
-use Rattle.yq_row_table.specs.Splices.{first_gap}
-use Rattle.yq_row_table.specs.View.{content_cut, slices}
-use Rattle.yq_row_table.proofs.LineEnds.{white_none, text_line, white_again, behind_comment}
-use Rattle.yq_places.specs.CommentPlaces.{text_to_line_end}
+use Rattle.yq_row_table.{specs.Exchange.with_content, specs.Gap.{IsWhite, IsBreak, IsComment}, specs.Grammar.{IsTail, IsContent}}
+use Rattle.yq_row_table.{specs.Rows.{Content, Nothing, Inline, Block, Row, print_row, Part}, specs.Splices.first_gap}
+use Rattle.yq_row_table.{specs.View.{content_cut, slices}, proofs.LineEnds.{white_none, text_line, white_again, behind_comment}}
+use Rattle.yq_places.{specs.CommentPlaces.text_to_line_end, proofs.CommentEndLaws.row_text_parts}
 use Rattle.yq_documents.specs.Documents.{lead_of}
-use Rattle.yq_places.proofs.CommentEndLaws.{row_text_parts}
-use Rattle.yq_edits.specs.PathTails.{with_line_tail, IsLineTail, tailed}
-use Rattle.yq_edits.specs.Rooms.{row_shape}
-use Rattle.yq_semantics.specs.Meaning.{line_comment_text}
+use Rattle.yq_edits.{specs.PathTails.{with_line_tail, IsLineTail, tailed}, specs.Rooms.row_shape}
 use Rattle.yq_edits.proofs.CommentReadLaws.{no_breaks_none, comment_behind, comment_is}
+use Rattle.yq_semantics.specs.Meaning.{line_comment_text}
 
 -- ---- what stands there then
 

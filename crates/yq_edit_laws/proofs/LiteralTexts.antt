@@ -1,31 +1,22 @@
 -- What literal block scalars hold and how they are written: line breaks alone without a known indentation, pieces of a text.
-use Rattle.std.proofs.Common.{◌≡◌, ◌⊎◌, inl, inr, ℕ, zero, suc, ◌+◌, ◌≤◌, cond, eqb, not, ◌&&◌, List, [], ◌∷◌, ◌++◌, length, replicate, Option, Some, None, Bool, true, false, refl, sym, ap, ◌∙◌, subst, arith, append-nil, eqb-true, rules}
-use Rattle.std.proofs.lemmas.Bool.{false≢true, and_parts, cases_Bool}
-use Rattle.std.proofs.lemmas.List.Folds.{list_all-append}
-use Rattle.std.specs.List.{list_all, list_any}
-use Rattle.std.specs.Str.{IsUtf8, chars}
+use Rattle.std.proofs.Common.{◌≡◌, ◌⊎◌, inl, inr, ℕ, zero, suc, ◌+◌, ◌≤◌, cond, eqb, not, ◌&&◌, List, [], ◌∷◌, ◌++◌, length, replicate}
+use Rattle.std.proofs.Common.{Option, Some, None, Bool, true, false, refl, sym, ap, ◌∙◌, subst, arith, append-nil, eqb-true, rules}
+use Rattle.std.{proofs.lemmas.Bool.{false≢true, and_parts, cases_Bool}, proofs.lemmas.List.Folds.list_all-append}
+use Rattle.std.{specs.List.{list_all, list_any}, specs.Str.{IsUtf8, chars}}
 use Rattle.yq_core.specs.Block.{BlockText, no_lines, RawLines, AreRaw, IsDetected, IsDigit, IsRawLine, IsTextIndent, ends_block}
 use Rattle.yq_core.specs.BlockContent.{block_content, optional_break, folded, is_spaced_line, joint, literal, text_of_line, part_of}
-use Rattle.yq_core.specs.BlockWritten.{break_text, header_text, indented_text, raw_written, written_line}
-use Rattle.yq_core.specs.Characters.{is_text_char}
-use Rattle.yq_core.specs.Scalar.{ScalarText}
-use Rattle.yq_core.specs.Text.{ends_line, front, is_white, is_feed, is_line, joined, text_lines, upto}
+use Rattle.yq_core.{specs.BlockWritten.{break_text, header_text, indented_text, raw_written, written_line}, specs.Characters.is_text_char}
+use Rattle.yq_core.{specs.Scalar.ScalarText, specs.Text.{ends_line, front, is_white, is_feed, is_line, joined, text_lines, upto}}
 use Rattle.yq_core.specs.Writable.{can_write, is_literal_char, is_literal_text, is_string}
-use Rattle.yq_core.specs.declared.block_types.LineBefore.{LineBefore}
-use Rattle.yq_core.specs.declared.block_header.Chomping.{Chomping}
+use Rattle.yq_core.{specs.declared.block_types.LineBefore.LineBefore, specs.declared.block_header.Chomping.Chomping}
+use Rattle.yq_core.{specs.declared.block_lines.TextIndent.TextIndent, specs.declared.block_types.Break.Break}
+use Rattle.yq_core.{proofs.BlockWrittenLines.{Good, IsText, NoCr, indented_some, lines_good}, proofs.Bytes.Each}
+use Rattle.yq_core.{proofs.LineLaws.{AreLines, joined_lines, lines_are}, proofs.LiteralText.literal_can}
+use Rattle.yq_edits.{specs.TextPieces.IsPiece, proofs.TextPieceLaws.{line_cut, pieces_joined}, proofs.RemovalPieceLaws.spaces_piece}
+use Rattle.yq_edits.proofs.CommentPieceLaws.{break_piece, byte_then, front_piece, no_return, nothing, text_piece}
 use Rattle.yq_core.specs.declared.block_header.Chomping.TheVariants as chompings
-use Rattle.yq_core.specs.declared.block_lines.TextIndent.{TextIndent}
-use Rattle.yq_core.specs.declared.block_types.Break.{Break}
 use Rattle.yq_core.specs.declared.style.Place.TheVariants as places
 use Rattle.yq_core.specs.declared.style.Style.TheVariants as styles
-use Rattle.yq_core.proofs.BlockWrittenLines.{Good, IsText, NoCr, indented_some, lines_good}
-use Rattle.yq_core.proofs.Bytes.{Each}
-use Rattle.yq_core.proofs.LineLaws.{AreLines, joined_lines, lines_are}
-use Rattle.yq_core.proofs.LiteralText.{literal_can}
-use Rattle.yq_edits.specs.TextPieces.{IsPiece}
-use Rattle.yq_edits.proofs.TextPieceLaws.{line_cut, pieces_joined}
-use Rattle.yq_edits.proofs.RemovalPieceLaws.{spaces_piece}
-use Rattle.yq_edits.proofs.CommentPieceLaws.{break_piece, byte_then, front_piece, no_return, nothing, text_piece}
 
 -- ---- without a known indentation a block scalar holds line breaks alone
 

@@ -1,63 +1,31 @@
 -- A value in the place of a node alone on its line.
-use Rattle.std.proofs.Common.{◌≡◌, ◌⊎◌, inl, inr, ℕ, ◌≤◌, cond, List, [], ◌∷◌, ◌++◌, length, replicate, Some, refl, sym, ap, ◌∙◌, subst, append_assoc, append-nil, rules}
-use Rattle.std.proofs.lemmas.Bool.{false≢true}
-use Rattle.yq_text.specs.Limit.{text_limit}
-use Rattle.yq_core.specs.Paths.{Step, changed_at}
-use Rattle.yq_core.specs.Tree.{Node}
-use Rattle.yq_core.specs.declared.style.Place.TheVariants.{Block as InBlock}
-use Rattle.yq_core.specs.Nodes.{node_text}
-use Rattle.yq_core.proofs.NodesWrittenLaws.{node_then}
+use Rattle.std.proofs.Common.{◌≡◌, ◌⊎◌, inl, inr, ℕ, ◌≤◌, cond, List, [], ◌∷◌, ◌++◌, length, replicate, Some, refl, sym, ap, ◌∙◌, subst}
+use Rattle.std.{proofs.Common.{append_assoc, append-nil, rules}, proofs.lemmas.Bool.false≢true}
+use Rattle.yq_text.{specs.Limit.text_limit, specs.Script.{Segment, new_text, old_text}}
+use Rattle.yq_core.{specs.Paths.{Step, changed_at}, specs.Tree.Node, specs.declared.style.Place.TheVariants.Block as InBlock}
+use Rattle.yq_core.{specs.Nodes.node_text, proofs.NodesWrittenLaws.node_then}
 use Rattle.yq_flow_edits.specs.Valued.{IsValueTree}
-use Rattle.yq_row_table.specs.Exchange.{asked_behind, row_front, with_content}
-use Rattle.yq_row_table.specs.Grammar.{IsMark, IsRow, IsTail, unlimited}
+use Rattle.yq_row_table.{specs.Exchange.{asked_behind, row_front, with_content}, specs.Grammar.{IsMark, IsRow, IsTail, unlimited}}
 use Rattle.yq_row_table.specs.Rows.{Bare, Row, behind_gap, parent_indent, print_row, rows_text, Cut, cut_text, Part, part_text}
-use Rattle.yq_row_table.specs.View.{slices}
-use Rattle.yq_row_table.proofs.CharacterLaws.{ends_after}
-use Rattle.yq_row_table.proofs.NodePieces.{ends_behind}
+use Rattle.yq_row_table.{specs.View.slices, proofs.CharacterLaws.ends_after, proofs.NodePieces.ends_behind}
 use Rattle.yq_row_table.proofs.seams.SeamLaws.{rows_text-append}
-use Rattle.yq_documents.specs.Documents.{lead_of}
-use Rattle.yq_documents.specs.Reading.{documents, read_at, root_of}
-use Rattle.yq_documents.specs.TreeEdits.{replaced_node}
-use Rattle.yq_places.specs.PlacedRows.{PlacedPart, PlacedRow, placed_document}
-use Rattle.yq_places.specs.RowPaths.{IsReadable}
-use Rattle.yq_places.specs.Standings.{Lone, lone}
-use Rattle.yq_places.proofs.CommentEndLaws.{row_text_parts}
-use Rattle.yq_places.proofs.CommentPieceLaws.{gap_end}
-use Rattle.yq_places.proofs.LineEndLaws.{line_tail}
-use Rattle.yq_places.proofs.RemovalLines.{LiesIn, LineSeam, lies_in, seam_join}
-use Rattle.yq_places.proofs.RunSpans.{rows_then}
-use Rattle.yq_edits.specs.Changed.{IsChanged, put_document}
-use Rattle.yq_edits.specs.DocumentRows.{IsDocumentPart, behind_document}
-use Rattle.yq_edits.specs.InlineRows.{LeadsToLone}
-use Rattle.yq_edits.specs.PlacedParts.{StandsAt}
-use Rattle.yq_edits.specs.Rooms.{is_block_root}
-use Rattle.yq_edits.specs.TextPieces.{IsPiece}
-use Rattle.yq_edits.proofs.CoreLaws.{put_core}
-use Rattle.yq_edits.proofs.InlineReplaceLaws.{own_rows}
-use Rattle.yq_edits.proofs.LeadLaws.{same_lead_goes}
-use Rattle.yq_edits.proofs.PartLaws.{document_known}
-use Rattle.yq_edits.proofs.PlacedPartLaws.{document_stands_at}
-use Rattle.yq_edits.proofs.RemovalPieceLaws.{seam_pieces, spaces_piece}
-use Rattle.yq_edits.proofs.TextPieceLaws.{cut_behind, pieces_joined, text_is_piece}
-use Rattle.yq_semantics.specs.Fits.{Fits}
-use Rattle.yq_semantics.specs.Operations.{Operation, replace}
-use Rattle.yq_semantics.specs.Rooms.{room_of}
-use Rattle.yq_text.specs.Script.{Segment, new_text, old_text}
-use Rattle.yq_edits.specs.EditLaws.{CarriedOut, IsEdit}
-use Rattle.yq_edits.specs.Local.{IsLocal}
-use Rattle.yq_edits.specs.ReplaceEdits.{spaced_text, lone_put}
-use Rattle.yq_edits.specs.ReadsAfter.{ReadsAfter}
-use Rattle.yq_edits.specs.WrittenValues.{value_text}
-use Rattle.yq_edits.proofs.DoneLaws.{document_done}
-use Rattle.yq_edits.proofs.EditsFitLaws.{FitsReplace, fits_replace}
-use Rattle.yq_edits.proofs.KeptLaws.{led_same}
-use Rattle.yq_edits.proofs.TailPieces.{HasTailPieces, pieces}
-use Rattle.yq_edits.proofs.LocalLaws.{cut_known, row_local}
-use Rattle.yq_edits.proofs.SegmentLaws.{segments_readable}
+use Rattle.yq_documents.{specs.Documents.lead_of, specs.Reading.{documents, read_at, root_of}, specs.TreeEdits.replaced_node}
+use Rattle.yq_places.{specs.PlacedRows.{PlacedPart, PlacedRow, placed_document}, specs.RowPaths.IsReadable, specs.Standings.{Lone, lone}}
+use Rattle.yq_places.{proofs.CommentEndLaws.row_text_parts, proofs.CommentPieceLaws.gap_end, proofs.LineEndLaws.line_tail}
+use Rattle.yq_places.{proofs.RemovalLines.{LiesIn, LineSeam, lies_in, seam_join}, proofs.RunSpans.rows_then}
+use Rattle.yq_edits.{specs.Changed.{IsChanged, put_document}, specs.DocumentRows.{IsDocumentPart, behind_document}}
+use Rattle.yq_edits.{specs.InlineRows.LeadsToLone, specs.PlacedParts.StandsAt, specs.Rooms.is_block_root, specs.TextPieces.IsPiece}
+use Rattle.yq_edits.{proofs.CoreLaws.put_core, proofs.InlineReplaceLaws.own_rows, proofs.LeadLaws.same_lead_goes}
+use Rattle.yq_edits.{proofs.PartLaws.document_known, proofs.PlacedPartLaws.document_stands_at}
+use Rattle.yq_edits.{proofs.RemovalPieceLaws.{seam_pieces, spaces_piece}, proofs.TextPieceLaws.{cut_behind, pieces_joined, text_is_piece}}
+use Rattle.yq_edits.{specs.EditLaws.{CarriedOut, IsEdit}, specs.Local.IsLocal, specs.ReplaceEdits.{spaced_text, lone_put}}
+use Rattle.yq_edits.{specs.ReadsAfter.ReadsAfter, specs.WrittenValues.value_text, proofs.DoneLaws.document_done}
+use Rattle.yq_edits.{proofs.EditsFitLaws.{FitsReplace, fits_replace}, proofs.KeptLaws.led_same, proofs.TailPieces.{HasTailPieces, pieces}}
+use Rattle.yq_edits.{proofs.LocalLaws.{cut_known, row_local}, proofs.SegmentLaws.segments_readable}
 use Rattle.yq_edits.proofs.ValueTexts.{IsWrittenFor, value_for}
+use Rattle.yq_semantics.{specs.Fits.Fits, specs.Operations.{Operation, replace}, specs.Rooms.room_of}
+use Rattle.yq_edit_laws.{proofs.LoneHeads.{EndsLow, IsLoneHead, before_head, lone_head}, proofs.MarkHeads.no_raw}
 use Rattle.yq_edit_laws.proofs.LoneContents as contents
-use Rattle.yq_edit_laws.proofs.LoneHeads.{EndsLow, IsLoneHead, before_head, lone_head}
-use Rattle.yq_edit_laws.proofs.MarkHeads.{no_raw}
 
 -- A row that is alone on its line, among the rows of a document, to whose content steps lead; the rows before it end in an LF.
 module _ (n : ℕ) (steps : List Step) (v : Node) (c : Cut) (read : read_at (cut_text c) ≡ Some c) (d : PlacedPart) (placed : placed_document n c ≡ Some d) (front : List Row) (r : Row) (back : List Row) (rows_are : d.part.rows ≡ front ++ (r ∷ back))

@@ -1,61 +1,34 @@
 -- The document in which the node of a value is put in a row that is alone on its line.
 use Rattle.std.proofs.Common.{refl, ◌≡◌, ℕ, eqb, List, [], ◌∷◌, ◌++◌, length, Some, true, false, sym, ap, ◌∙◌, subst, append_assoc, rules}
-use Rattle.std.proofs.lemmas.Bool.{and_right, false≢true}
-use Rattle.std.proofs.lemmas.Option.{same_Some}
-use Rattle.std.specs.Str.{is_utf8}
-use Rattle.yq_core.specs.Paths.{Step, changed_at, node_at}
-use Rattle.yq_core.specs.Piece.{deeper}
-use Rattle.yq_core.specs.Text.{is_marker}
-use Rattle.yq_core.specs.Tree.{Node}
-use Rattle.yq_core.proofs.Bools.{guard_then}
-use Rattle.yq_core.specs.Nodes as inline
-use Rattle.yq_core.specs.Nodes.{node_text}
-use Rattle.yq_outline.specs.Comments.{head_comment}
-use Rattle.yq_outline.specs.Group.{group, is_fine}
-use Rattle.yq_outline.specs.Outline.{Line}
-use Rattle.yq_outline.specs.Places.{FoundLine, content_under}
-use Rattle.yq_outline.specs.Sound.{is_entry_line}
-use Rattle.yq_outline.proofs.Finding.{FoundNode, path_node}
+use Rattle.std.{proofs.lemmas.Bool.{and_right, false≢true}, proofs.lemmas.Option.same_Some, specs.Str.is_utf8}
+use Rattle.yq_core.{specs.Paths.{Step, changed_at, node_at}, specs.Piece.deeper, specs.Text.is_marker, specs.Tree.Node}
+use Rattle.yq_core.{proofs.Bools.guard_then, specs.Nodes.node_text}
+use Rattle.yq_outline.{specs.Comments.head_comment, specs.Group.{group, is_fine}, specs.Outline.Line}
+use Rattle.yq_outline.{specs.Places.{FoundLine, content_under}, specs.Sound.is_entry_line, proofs.Finding.{FoundNode, path_node}}
+use Rattle.yq_outline.specs.Lines.{lines_of_rows, mark_line, line_mark}
 use Rattle.yq_row_table.specs.Exchange.{allows_first, asked_behind, row_front, with_content}
 use Rattle.yq_row_table.specs.Grammar.{Limit, unlimited, AreRows, IsContent, IsMark, IsRow, limit_after, may_be_alone, no_rows}
-use Rattle.yq_row_table.specs.Rows.{Bare, Content, Row, behind_gap, content_text, dashes_text, mark_column, mark_text, parent_indent, print_row, rows_text, Part, part_text, Cut, cut_text}
-use Rattle.yq_row_table.specs.View.{content_cut}
-use Rattle.yq_row_table.proofs.NothingLaws.{gap_other}
-use Rattle.yq_row_table.proofs.PlaceLaws.{row_front-append}
-use Rattle.yq_row_table.proofs.seams.FrontSeams.{behind_row_some}
-use Rattle.yq_row_table.proofs.seams.SeamLaws.{rows_text-append}
-use Rattle.yq_row_table.proofs.splices.PartPlaces.{part_ends}
+use Rattle.yq_row_table.specs.Rows.{Bare, Content, Row, behind_gap, content_text, dashes_text, mark_column, mark_text, parent_indent}
+use Rattle.yq_row_table.{specs.Rows.{print_row, rows_text, Part, part_text, Cut, cut_text}, specs.View.content_cut}
+use Rattle.yq_row_table.{proofs.NothingLaws.gap_other, proofs.PlaceLaws.row_front-append, proofs.seams.FrontSeams.behind_row_some}
+use Rattle.yq_row_table.{proofs.seams.SeamLaws.rows_text-append, proofs.splices.PartPlaces.part_ends}
 use Rattle.yq_row_table.proofs.splices.SpliceTexts.{own_gap, own_end}
-use Rattle.yq_documents.specs.Documents.{document_parts, lead_of}
-use Rattle.yq_outline.specs.Lines.{lines_of_rows, mark_line, line_mark}
-use Rattle.yq_documents.specs.Reading.{part_outline, read_at, root_of}
-use Rattle.yq_documents.specs.Ready.{begins_no_node}
-use Rattle.yq_documents.specs.TreeEdits.{replaced_node}
-use Rattle.yq_places.specs.RowPaths.{IsReadable}
-use Rattle.yq_documents.proofs.PartRows.{each}
-use Rattle.yq_documents.proofs.ReadLaws.{text_takes}
-use Rattle.yq_places.proofs.RemovalLines.{front_some}
-use Rattle.yq_places.proofs.RowPathLaws.{document_fine}
-use Rattle.yq_places.proofs.RunSpans.{rows_then}
-use Rattle.yq_places.proofs.HeadSpanLaws.{may_follow}
-use Rattle.yq_edits.specs.Changed.{IsChanged, put_document}
-use Rattle.yq_edits.specs.Contents.{TakesContent, recontent}
-use Rattle.yq_edits.specs.DocumentRows.{IsDocumentPart, behind_document}
+use Rattle.yq_documents.{specs.Documents.{document_parts, lead_of}, specs.Reading.{part_outline, read_at, root_of}}
+use Rattle.yq_documents.{specs.Ready.begins_no_node, specs.TreeEdits.replaced_node, proofs.PartRows.each, proofs.ReadLaws.text_takes}
 use Rattle.yq_documents.specs.PartNumbers.{part_number}
-use Rattle.yq_edits.specs.InlineRows.{IsValueNode, LeadsToLone}
-use Rattle.yq_edits.specs.Moved.{dash_lines}
-use Rattle.yq_edits.specs.Rooms.{is_block_root}
-use Rattle.yq_edits.specs.SoundRoots.{MayReplace}
-use Rattle.yq_edits.proofs.ContentLaws.{lower_content_replaced, root_content_replaced}
-use Rattle.yq_edits.proofs.CoreLaws.{put_core, recore}
-use Rattle.yq_edits.proofs.InlineReplaceLaws.{next_stands, own_rows, tail_ends_plain}
-use Rattle.yq_edits.proofs.LineLaws.{above_mark}
-use Rattle.yq_edits.proofs.MarkFirst.{no_node_first}
-use Rattle.yq_edits.proofs.PartLaws.{document_known}
-use Rattle.yq_edits.proofs.CommentPutLaws.{last_lines}
+use Rattle.yq_places.{specs.RowPaths.IsReadable, proofs.RemovalLines.front_some, proofs.RowPathLaws.document_fine}
+use Rattle.yq_places.{proofs.RunSpans.rows_then, proofs.HeadSpanLaws.may_follow}
+use Rattle.yq_edits.{specs.Changed.{IsChanged, put_document}, specs.Contents.{TakesContent, recontent}}
+use Rattle.yq_edits.{specs.DocumentRows.{IsDocumentPart, behind_document}, specs.InlineRows.{IsValueNode, LeadsToLone}}
+use Rattle.yq_edits.{specs.Moved.dash_lines, specs.Rooms.is_block_root, specs.SoundRoots.MayReplace}
+use Rattle.yq_edits.{proofs.ContentLaws.{lower_content_replaced, root_content_replaced}, proofs.CoreLaws.{put_core, recore}}
+use Rattle.yq_edits.{proofs.InlineReplaceLaws.{next_stands, own_rows, tail_ends_plain}, proofs.LineLaws.above_mark}
+use Rattle.yq_edits.{proofs.MarkFirst.no_node_first, proofs.PartLaws.document_known, proofs.CommentPutLaws.last_lines}
 use Rattle.yq_edits.proofs.RowCommentLaws.{lead_content}
-use Rattle.yq_edits.proofs.ValueContentLaws.{content_alone, content_head, content_is, content_keys, content_named, content_short, content_tail, content_unmarked}
+use Rattle.yq_edits.proofs.ValueContentLaws.{content_alone, content_head, content_is, content_keys, content_named, content_short}
+use Rattle.yq_edits.proofs.ValueContentLaws.{content_tail, content_unmarked}
 use Rattle.yq_edit_laws.proofs.LoneHeads.{IsLoneHead, before_head, lone_head}
+use Rattle.yq_core.specs.Nodes as inline
 
 module _ (c : Cut) (n : ℕ) (p : Part) (old : IsDocumentPart (cut_text c) c n p) (front : List Row) (r : Row) (back : List Row) (rows_are : p.rows ≡ front ++ (r ∷ back)) (mark : r.mark ≡ Bare) (no_dashes : r.dashes ≡ [])
     (steps : List Step) (leads : LeadsToLone p steps front r) (v : Node) (node : inline.FlowNode) (is : IsValueNode v node) where

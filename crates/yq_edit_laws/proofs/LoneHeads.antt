@@ -1,19 +1,11 @@
 -- What is written in a row that is alone on its line.
-use Rattle.std.proofs.Common.{◌≡◌, ◌⊎◌, ℕ, ℤ, ◌<◌, eqb, ◌||◌, Bool, true, false, not, List, [], ◌∷◌, ◌++◌, refl, sym, ap, ◌∙◌, subst, arith, append_assoc, append-nil, eqb-true, rules}
-use Rattle.std.proofs.lemmas.Bool.{false≢true, not-true}
-use Rattle.yq_core.specs.Text.{is_empty, is_return, is_white}
+use Rattle.std.proofs.Common.{◌≡◌, ◌⊎◌, ℕ, ℤ, ◌<◌, eqb, ◌||◌, Bool, true, false, not, List, [], ◌∷◌, ◌++◌, refl, sym, ap, ◌∙◌, subst, arith}
+use Rattle.std.{proofs.Common.{append_assoc, append-nil, eqb-true, rules}, proofs.lemmas.Bool.{false≢true, not-true}}
+use Rattle.yq_core.{specs.Text.{is_empty, is_return, is_white}, specs.Nodes.{node_text, IsFlowNode}, proofs.NodesPieceLaws.scalar_some}
+use Rattle.yq_row_table.{specs.Gap.IsWhite, specs.Grammar.{IsContent, may_be_alone}, specs.Rows.{Content, Inline, content_text}}
+use Rattle.yq_row_table.{specs.Seams.is_block, specs.View.content_cut, proofs.CharacterLaws.EndsBlack, proofs.NodePieces.EndsAscii}
+use Rattle.yq_edits.{proofs.CoreLaws.put_core, proofs.HeldCuts.space_white}
 use Rattle.yq_core.specs.Nodes as inline
-use Rattle.yq_core.specs.Nodes.{node_text, IsFlowNode}
-use Rattle.yq_core.proofs.NodesPieceLaws.{scalar_some}
-use Rattle.yq_row_table.specs.Gap.{IsWhite}
-use Rattle.yq_row_table.specs.Grammar.{IsContent, may_be_alone}
-use Rattle.yq_row_table.specs.Rows.{Content, Inline, content_text}
-use Rattle.yq_row_table.specs.Seams.{is_block}
-use Rattle.yq_row_table.specs.View.{content_cut}
-use Rattle.yq_row_table.proofs.CharacterLaws.{EndsBlack}
-use Rattle.yq_row_table.proofs.NodePieces.{EndsAscii}
-use Rattle.yq_edits.proofs.CoreLaws.{put_core}
-use Rattle.yq_edits.proofs.HeldCuts.{space_white}
 
 -- ---- white space
 

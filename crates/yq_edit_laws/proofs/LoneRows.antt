@@ -1,51 +1,29 @@
 -- Rows that are alone on their lines: under a key or dash, and as roots.
-use Rattle.std.proofs.Common.{option_map, append-nil, ◌≡◌, inl, inr, ℕ, true, List, [], ◌∷◌, ◌++◌, length, Option, Some, None, refl, sym, ap, ◌∙◌, subst, arith, append_assoc, length-append, rules}
-use Rattle.std.proofs.lemmas.Bool.{and_parts, false≢true}
+use Rattle.std.proofs.Common.{option_map, append-nil, ◌≡◌, inl, inr, ℕ, true, List, [], ◌∷◌, ◌++◌, length, Option, Some, None, refl, sym}
+use Rattle.std.{proofs.Common.{ap, ◌∙◌, subst, arith, append_assoc, length-append, rules}, proofs.lemmas.Bool.{and_parts, false≢true}}
 use Rattle.std.proofs.lemmas.Option.{same_Some}
-use Rattle.yq_core.specs.Answers.{◌>>=◌}
-use Rattle.yq_core.specs.Paths.{Step}
-use Rattle.yq_core.specs.Text.{is_empty}
-use Rattle.yq_core.specs.Tree.{Node}
-use Rattle.yq_core.proofs.Bools.{bind_some}
-use Rattle.yq_outline.specs.Comments.{head_comment}
-use Rattle.yq_outline.specs.Group.{level_or}
-use Rattle.yq_outline.specs.Outline as outline
-use Rattle.yq_outline.specs.Outline.{Line, Outline, end, row, flatten, IsEven, IsOpen, IsWhole}
-use Rattle.yq_outline.specs.Places.{find}
-use Rattle.yq_outline.specs.Positions.{has_no_mark}
-use Rattle.yq_outline.proofs.Decides.{flatten-group}
-use Rattle.yq_row_table.specs.Grammar.{AreRows, unlimited}
-use Rattle.yq_row_table.specs.Rows as rows
-use Rattle.yq_row_table.specs.Rows.{Row, rows_text, print_row, Part, Cut, cut_text}
+use Rattle.yq_core.{specs.Answers.◌>>=◌, specs.Paths.Step, specs.Text.is_empty, specs.Tree.Node, proofs.Bools.bind_some}
+use Rattle.yq_core.proofs.LineLaws.{is_empty_is}
+use Rattle.yq_outline.{specs.Comments.head_comment, specs.Group.level_or}
+use Rattle.yq_outline.{specs.Outline.{Line, Outline, end, row, flatten, IsEven, IsOpen, IsWhole}, specs.Places.find}
+use Rattle.yq_outline.{specs.Positions.has_no_mark, proofs.Decides.flatten-group}
+use Rattle.yq_outline.{specs.Lines.{lines_from, lines_of_rows, mark_line, line_mark, row_lines}, proofs.Plug.headless}
+use Rattle.yq_row_table.{specs.Grammar.{AreRows, unlimited}, specs.Rows.{Row, rows_text, print_row, Part, Cut, cut_text}}
 use Rattle.yq_row_table.proofs.seams.SeamLaws.{rows_text-append}
-use Rattle.yq_outline.specs.Lines.{lines_from, lines_of_rows, mark_line, line_mark, row_lines}
-use Rattle.yq_documents.specs.Reading.{part_outline, read_at}
-use Rattle.yq_documents.specs.LinesInRows.{RowLine, row_line_of}
+use Rattle.yq_documents.{specs.Reading.{part_outline, read_at}, specs.LinesInRows.{RowLine, row_line_of}}
 use Rattle.yq_places.specs.PlacedRows.{PlacedPart, placed_document}
 use Rattle.yq_places.specs.Standings.{RowsOfEntry, before_entry, behind_entry, entry_rows_at, is_alone, lone, rows_of_entry}
-use Rattle.yq_places.proofs.CommentPieceLaws.{Ended}
-use Rattle.yq_places.proofs.PrintedTexts.{map_some}
-use Rattle.yq_places.proofs.RemovalLines.{LineSeam}
-use Rattle.yq_places.proofs.RunSpans.{rows_then}
+use Rattle.yq_places.{proofs.CommentPieceLaws.Ended, proofs.PrintedTexts.map_some, proofs.RemovalLines.LineSeam, proofs.RunSpans.rows_then}
 use Rattle.yq_places.proofs.UnderExchange.{lines_append}
-use Rattle.yq_edits.specs.DocumentRows.{IsDocumentPart, behind_document}
-use Rattle.yq_edits.specs.InlineRows.{LeadsBelow, IsRootRow}
-use Rattle.yq_edits.specs.PlacedParts.{StandsAt}
-use Rattle.yq_edits.specs.StandingLaws.{StandsThere}
-use Rattle.yq_edits.proofs.EndedRowLaws.{rows_ended}
-use Rattle.yq_edits.proofs.LineLaws.{row_count}
-use Rattle.yq_edits.proofs.NodeLineLaws.{under_even}
-use Rattle.yq_edits.proofs.PartLaws.{document_known, part_rows}
-use Rattle.yq_edits.proofs.PlacedPartLaws.{document_stands_at}
-use Rattle.yq_edits.proofs.StandingRows.{rows_stand}
-use Rattle.yq_edits.proofs.UnderLaws.{under_is}
-use Rattle.yq_semantics.specs.Operations.{replace}
-use Rattle.yq_edits.specs.EditLaws.{IsEdit}
-use Rattle.yq_edits.specs.ReplaceEdits.{lone_put}
+use Rattle.yq_edits.{specs.DocumentRows.{IsDocumentPart, behind_document}, specs.InlineRows.{LeadsBelow, IsRootRow}}
+use Rattle.yq_edits.{specs.PlacedParts.StandsAt, specs.StandingLaws.StandsThere, proofs.EndedRowLaws.rows_ended, proofs.LineLaws.row_count}
+use Rattle.yq_edits.{proofs.NodeLineLaws.under_even, proofs.PartLaws.{document_known, part_rows}, proofs.PlacedPartLaws.document_stands_at}
+use Rattle.yq_edits.{proofs.StandingRows.rows_stand, proofs.UnderLaws.under_is, specs.EditLaws.IsEdit, specs.ReplaceEdits.lone_put}
 use Rattle.yq_edits.proofs.StandingMarks.{under_it}
+use Rattle.yq_semantics.specs.Operations.{replace}
 use Rattle.yq_edit_laws.proofs.LoneCarried.{lone_carried}
-use Rattle.yq_core.proofs.LineLaws.{is_empty_is}
-use Rattle.yq_outline.proofs.Plug.{headless}
+use Rattle.yq_outline.specs.Outline as outline
+use Rattle.yq_row_table.specs.Rows as rows
 
 -- ---- a row alone
 

@@ -1,23 +1,14 @@
 -- What is left behind a key or dash where nothing but the anchor stays.
-use Rattle.std.proofs.Common.{◌≡◌, ℕ, ℤ, true, false, cond, List, [], ◌∷◌, ◌++◌, Option, Some, None, refl, sym, ap, ◌∙◌, append_assoc, append-nil, rules}
-use Rattle.std.proofs.lemmas.Bool.{false≢true, or_parts}
-use Rattle.yq_core.specs.Text.{is_empty, separates}
+use Rattle.std.proofs.Common.{◌≡◌, ℕ, ℤ, true, false, cond, List, [], ◌∷◌, ◌++◌, Option, Some, None, refl, sym, ap, ◌∙◌, append_assoc}
+use Rattle.std.{proofs.Common.{append-nil, rules}, proofs.lemmas.Bool.{false≢true, or_parts}}
+use Rattle.yq_core.{specs.Text.{is_empty, separates}, specs.Nodes.{begins_content, begins_with, node_text, IsName, IsFlowNode}}
+use Rattle.yq_outline.{specs.LineAnchors.IsFree, specs.Outline.Line, specs.Lines.{content_anchor, lines_from, lines_of_rows, tail_of}}
+use Rattle.yq_row_table.{specs.Alone.holds_nothing, specs.Gap.IsWhite, specs.Grammar.{IsContent, IsTail, is_entry}}
+use Rattle.yq_row_table.{specs.Rows.{Content, Nothing, Inline, Row, content_text}, specs.View.content_cut, proofs.NodeExchange.space_apart}
+use Rattle.yq_row_table.{proofs.NothingLaws.{tail_apart, tail_lead, tail_no_node}, proofs.seams.ScalarSeams.name_seam}
+use Rattle.yq_edits.{proofs.CoreLaws.put_core, proofs.LaidRows.AreLaid}
 use Rattle.yq_core.specs.Nodes as inline
-use Rattle.yq_core.specs.Nodes.{begins_content, begins_with, node_text, IsName, IsFlowNode}
-use Rattle.yq_outline.specs.LineAnchors.{IsFree}
-use Rattle.yq_outline.specs.Outline.{Line}
-use Rattle.yq_row_table.specs.Alone.{holds_nothing}
-use Rattle.yq_row_table.specs.Gap.{IsWhite}
-use Rattle.yq_row_table.specs.Grammar.{IsContent, IsTail, is_entry}
 use Rattle.yq_row_table.specs.Rows as rows
-use Rattle.yq_row_table.specs.Rows.{Content, Nothing, Inline, Row, content_text}
-use Rattle.yq_row_table.specs.View.{content_cut}
-use Rattle.yq_row_table.proofs.NodeExchange.{space_apart}
-use Rattle.yq_row_table.proofs.NothingLaws.{tail_apart, tail_lead, tail_no_node}
-use Rattle.yq_row_table.proofs.seams.ScalarSeams.{name_seam}
-use Rattle.yq_outline.specs.Lines.{content_anchor, lines_from, lines_of_rows, tail_of}
-use Rattle.yq_edits.proofs.CoreLaws.{put_core}
-use Rattle.yq_edits.proofs.LaidRows.{AreLaid}
 
 -- ---- an anchor
 

@@ -1,15 +1,10 @@
 -- What is written behind a key or dash and its anchor, or nothing: the text of another node there.
 use Rattle.std.proofs.Common.{◌≡◌, ℕ, ℤ, true, false, cond, List, [], ◌∷◌, ◌++◌, refl, append_assoc, append-nil, rules}
 use Rattle.std.proofs.lemmas.Bool.{false≢true}
-use Rattle.yq_core.specs.Text.{is_empty}
-use Rattle.yq_core.specs.Nodes as inline
-use Rattle.yq_core.specs.Nodes.{node_text, IsFlowNode}
-use Rattle.yq_core.proofs.NodesPieceLaws.{scalar_some}
-use Rattle.yq_row_table.specs.Grammar.{IsContent}
-use Rattle.yq_row_table.specs.Rows.{Content, content_text}
-use Rattle.yq_row_table.specs.Seams.{is_block}
-use Rattle.yq_row_table.specs.View.{content_cut}
+use Rattle.yq_core.{specs.Text.is_empty, specs.Nodes.{node_text, IsFlowNode}, proofs.NodesPieceLaws.scalar_some}
+use Rattle.yq_row_table.{specs.Grammar.IsContent, specs.Rows.{Content, content_text}, specs.Seams.is_block, specs.View.content_cut}
 use Rattle.yq_edits.proofs.CoreLaws.{put_core, empty_gap}
+use Rattle.yq_core.specs.Nodes as inline
 
 -- what is no block scalar has no raw lines
 pub no_raw : (x : Content) → is_block x ≡ false → (content_cut x).5 ≡ []

@@ -1,17 +1,11 @@
 -- Keys and dashes, and collections with items or entries.
-use Rattle.std.proofs.Common.{◌≡◌, ℕ, ◌+◌, not, true, false, cond, List, [], ◌∷◌, ◌++◌, refl, rules}
-use Rattle.std.proofs.lemmas.Bool.{false≢true}
-use Rattle.yq_core.specs.Text.{is_empty}
-use Rattle.yq_core.specs.Tree.{Node}
-use Rattle.yq_row_table.specs.Grammar.{IsMark, is_entry}
-use Rattle.yq_row_table.specs.Rows as rows
-use Rattle.yq_row_table.specs.Rows.{Content}
-use Rattle.yq_row_table.specs.View.{colon_of}
-use Rattle.yq_edits.specs.declared.layout.Layout.{Layout}
-use Rattle.yq_edits.specs.BlockReading.{is_filled}
-use Rattle.yq_edits.specs.BlockRows.{column_below, indent_step, item_column}
-use Rattle.yq_edits.specs.BlockValues.{IsFilled}
+use Rattle.std.{proofs.Common.{◌≡◌, ℕ, ◌+◌, not, true, false, cond, List, [], ◌∷◌, ◌++◌, refl, rules}, proofs.lemmas.Bool.false≢true}
+use Rattle.yq_core.{specs.Text.is_empty, specs.Tree.Node}
+use Rattle.yq_row_table.{specs.Grammar.{IsMark, is_entry}, specs.Rows.Content, specs.View.colon_of}
+use Rattle.yq_edits.{specs.declared.layout.Layout.Layout, specs.BlockReading.is_filled}
+use Rattle.yq_edits.{specs.BlockRows.{column_below, indent_step, item_column}, specs.BlockValues.IsFilled}
 use Rattle.yq_edit_laws.proofs.NodeValueLaws.{mark_key}
+use Rattle.yq_row_table.specs.Rows as rows
 
 -- a collection with items or entries
 pub filled_is : (v : Node) → is_filled v ≡ true → IsFilled v

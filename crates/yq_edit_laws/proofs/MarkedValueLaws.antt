@@ -1,34 +1,22 @@
 -- A value put at an item or entry, or in the place of a node alone on its line, is an edit, by what stands there.
-use Rattle.std.proofs.Common.{arith, ltb, ⊎_elim, ◌<◌, ◌≤◌, ◌≡◌, ℕ, true, false, eqb, List, [], ◌∷◌, ◌++◌, length, Some, refl, ap, ◌∙◌, subst, eqb-true}
-use Rattle.std.proofs.lemmas.Bool.{cases_Bool, cond_both, eqb-false, false≢true, ltb-false, ltb-true}
-use Rattle.yq_core.specs.BlockWritten.{break_text}
-use Rattle.yq_core.specs.Paths.{Step}
-use Rattle.yq_core.specs.Text.{is_empty}
-use Rattle.yq_core.specs.Tree.{Node}
-use Rattle.yq_row_table.specs.Rows.{Content, Nothing, Inline, Block, Row, Cut, cut_text, print_row, rows_text}
-use Rattle.yq_row_table.specs.Seams.{is_block}
+use Rattle.std.proofs.Common.{arith, ltb, ⊎_elim, ◌<◌, ◌≤◌, ◌≡◌, ℕ, true, false, eqb, List, [], ◌∷◌, ◌++◌, length, Some, refl, ap, ◌∙◌}
+use Rattle.std.{proofs.Common.{subst, eqb-true}, proofs.lemmas.Bool.{cases_Bool, cond_both, eqb-false, false≢true, ltb-false, ltb-true}}
+use Rattle.yq_core.{specs.BlockWritten.break_text, specs.Paths.Step, specs.Text.is_empty, specs.Tree.Node}
+use Rattle.yq_row_table.{specs.Rows.{Content, Nothing, Inline, Block, Row, Cut, cut_text, print_row, rows_text}, specs.Seams.is_block}
 use Rattle.yq_row_table.specs.View.{content_cut, slices}
 use Rattle.yq_documents.specs.Reading.{read_at}
-use Rattle.yq_places.specs.NodesAt.{node_in}
-use Rattle.yq_places.specs.PlacedRows.{PlacedPart, placed_document}
-use Rattle.yq_places.specs.Standings as standings
-use Rattle.yq_places.specs.Standings.{RowsOfEntry, Standing, before_entry, behind_entry, behind_mark, below, compact_in, entry_standing, held, is_alone, lone, rows_of_entry, root_standing}
-use Rattle.yq_places.proofs.PrintedTexts.{map_some}
-use Rattle.yq_edits.specs.StandingLaws.{StandsThere}
-use Rattle.yq_edits.proofs.StandingRows.{entry_within, rows_stand}
-use Rattle.yq_semantics.specs.Operations.{replace}
-use Rattle.yq_edits.specs.EditLaws.{IsEdit}
-use Rattle.yq_edits.specs.Layouts.{layout_of}
-use Rattle.yq_edits.specs.ReplaceEdits.{has_text, value_put}
-use Rattle.yq_edits.specs.WrittenValues.{written_at}
+use Rattle.yq_places.{specs.NodesAt.node_in, specs.PlacedRows.{PlacedPart, placed_document}}
+use Rattle.yq_places.specs.Standings.{RowsOfEntry, Standing, before_entry, behind_entry, behind_mark, below, compact_in, entry_standing}
+use Rattle.yq_places.{specs.Standings.{held, is_alone, lone, rows_of_entry, root_standing}, proofs.PrintedTexts.map_some}
+use Rattle.yq_edits.{specs.StandingLaws.StandsThere, proofs.StandingRows.{entry_within, rows_stand}, specs.EditLaws.IsEdit}
+use Rattle.yq_edits.{specs.Layouts.layout_of, specs.ReplaceEdits.{has_text, value_put}, specs.WrittenValues.written_at}
 use Rattle.yq_edits.proofs.EditsFitLaws.{fits_replace}
-use Rattle.yq_edit_laws.specs.MarkedValues.{MarkedValuesArePut, is_marked}
-use Rattle.yq_edit_laws.proofs.DashCarried.{dash_carried, dash_old}
-use Rattle.yq_edit_laws.proofs.HeldEdits.{at_edit, below_edit}
-use Rattle.yq_edit_laws.proofs.HeldKnown.{KnowsHeld, first_alone}
-use Rattle.yq_edit_laws.proofs.HeldRows.{headless_there, held_known}
-use Rattle.yq_edit_laws.proofs.LoneRows.{lone_edit, lone_root_edit}
+use Rattle.yq_semantics.specs.Operations.{replace}
+use Rattle.yq_edit_laws.{specs.MarkedValues.{MarkedValuesArePut, is_marked}, proofs.DashCarried.{dash_carried, dash_old}}
+use Rattle.yq_edit_laws.{proofs.HeldEdits.{at_edit, below_edit}, proofs.HeldKnown.{KnowsHeld, first_alone}}
+use Rattle.yq_edit_laws.{proofs.HeldRows.{headless_there, held_known}, proofs.LoneRows.{lone_edit, lone_root_edit}}
 use Rattle.yq_edit_laws.proofs.ScalarPuts.{scalar_edit}
+use Rattle.yq_places.specs.Standings as standings
 
 -- of two numbers that differ the one that isn't more is less
 less : (a b : ℕ) → eqb a b ≡ false → a ≤ b → a < b

@@ -1,27 +1,15 @@
 -- What an update comes to on a text that reads, once its operations are planned.
 use Rattle.std.proofs.Common.{◌≡◌, inl, inr, ℕ, List, [], ◌∷◌, Some, ap, subst}
 use Rattle.yq_row_table.specs.Rows.{Cut}
-use Rattle.yq_documents.specs.Reading.{read_at, documents}
+use Rattle.yq_documents.{specs.Reading.{read_at, documents}, proofs.ReadLaws.read_takes, proofs.ReadyLaws.read_ready}
 use Rattle.yq_outline.proofs.ShapeLaws.{shaped_by_lines, shaped_is_tree}
-use Rattle.yq_documents.proofs.ReadLaws.{read_takes}
-use Rattle.yq_documents.proofs.ReadyLaws.{read_ready}
-use Rattle.yq_semantics.proofs.RoomLaws.{rooms_are_ready}
-use Rattle.yq_semantics.proofs.updates.PlanMeans.{plan_means, plan_refused}
-use Rattle.yq_semantics.proofs.updates.RoomsLast.{plan_follows}
-use Rattle.yq_semantics.specs.After.{all_after}
-use Rattle.yq_semantics.specs.Judgement as judgement
-use Rattle.yq_semantics.specs.Meaning.{AreReady}
-use Rattle.yq_semantics.specs.Operations.{Operation}
-use Rattle.yq_semantics.specs.declared.refusal.Refusal.{Refusal}
-use Rattle.yq_semantics.specs.Plans.{plan}
-use Rattle.yq_semantics.specs.Program.{Update, UpdatesHold}
-use Rattle.yq_semantics.specs.Rooms.{room_of}
-use Rattle.yq_edit_laws.proofs.CutLaws.{cut_same}
-use Rattle.yq_edit_laws.specs.Carried.{carry_all}
-use Rattle.yq_edit_laws.specs.Edit.{Edit, unreadable, refuses, gives}
-use Rattle.yq_edit_laws.specs.Theorems.{IsUpdated, UpdateRefused}
-use Rattle.yq_edit_laws.specs.Valid.{HaveOperands, Serves}
+use Rattle.yq_semantics.{proofs.RoomLaws.rooms_are_ready, proofs.updates.PlanMeans.{plan_means, plan_refused}}
+use Rattle.yq_semantics.{proofs.updates.RoomsLast.plan_follows, specs.After.all_after, specs.Meaning.AreReady, specs.Operations.Operation}
+use Rattle.yq_semantics.{specs.declared.refusal.Refusal.Refusal, specs.Plans.plan, specs.Program.{Update, UpdatesHold}, specs.Rooms.room_of}
+use Rattle.yq_edit_laws.{proofs.CutLaws.cut_same, specs.Carried.carry_all, specs.Edit.{Edit, unreadable, refuses, gives}}
+use Rattle.yq_edit_laws.{specs.Theorems.{IsUpdated, UpdateRefused}, specs.Valid.{HaveOperands, Serves}}
 use Rattle.yq_edit_laws.proofs.ServeLaws.{OperationsCome, all_come}
+use Rattle.yq_semantics.specs.Judgement as judgement
 
 -- the documents of a text that reads are ready for updates
 ready : (t : List ℕ) (c : Cut) → read_at t ≡ Some c → AreReady (room_of t) 0 (documents c)

@@ -1,53 +1,32 @@
 -- One more item or entry that fits has a place in a flow collection, or at the end of a block collection.
-use Rattle.std.proofs.Common.{◌≡◌, ◌⊎◌, inl, inr, ℕ, Bool, true, false, not, cond, eqb, eqb-true, List, [], ◌∷◌, ◌++◌, length, Option, Some, None, option_map, refl, sym, ap, ◌∙◌, subst}
-use Rattle.std.proofs.lemmas.Bool.{cond-false, cond-true, false≢true}
-use Rattle.std.proofs.lemmas.Option.{none-some, same_Some}
+use Rattle.std.proofs.Common.{◌≡◌, ◌⊎◌, inl, inr, ℕ, Bool, true, false, not, cond, eqb, eqb-true, List, [], ◌∷◌, ◌++◌, length, Option, Some}
+use Rattle.std.{proofs.Common.{None, option_map, refl, sym, ap, ◌∙◌, subst}, proofs.lemmas.Bool.{cond-false, cond-true, false≢true}}
+use Rattle.std.{proofs.lemmas.Option.{none-some, same_Some}, specs.List.slice_get, specs.Option.option_or, specs.Prelude.{is_some, ◌&&◌}}
 use mathlib.Core.List.{head-eq_of_cons-eq}
-use Rattle.std.specs.List.{slice_get}
-use Rattle.std.specs.Option.{option_or}
-use Rattle.std.specs.Prelude.{is_some, ◌&&◌}
-use Rattle.yq_core.specs.Answers.{◌>>=◌}
-use Rattle.yq_core.specs.Paths.{Step, node_at}
-use Rattle.yq_core.specs.Text.{is_empty}
-use Rattle.yq_core.specs.Tree as tree
-use Rattle.yq_core.specs.Collections.{CollPieces}
+use Rattle.yq_core.{specs.Answers.◌>>=◌, specs.Paths.{Step, node_at}, specs.Text.is_empty, specs.Collections.CollPieces}
 use Rattle.yq_core.specs.Nodes.{IsFlowNode, FlowNode, empty, alias, scalar, coll, anchored, node_text, takes_anchor}
 use Rattle.yq_core.specs.Trees.{node_head}
-use Rattle.yq_outline.specs.Comments.{head_comment}
-use Rattle.yq_outline.specs.Outline as outlines
-use Rattle.yq_outline.specs.Outline.{Line, Outline, flatten}
-use Rattle.yq_outline.specs.Places.{FoundLine, find}
-use Rattle.yq_outline.specs.Positions.{has_no_mark}
-use Rattle.yq_outline.proofs.Decides.{flatten-group}
-use Rattle.yq_row_table.specs.Exchange.{asked_behind}
-use Rattle.yq_row_table.specs.Grammar.{IsContent, IsRow, Limit, unlimited}
+use Rattle.yq_outline.{specs.Comments.head_comment, specs.Outline.{Line, Outline, flatten}, specs.Places.{FoundLine, find}}
+use Rattle.yq_outline.{specs.Positions.has_no_mark, proofs.Decides.flatten-group}
+use Rattle.yq_outline.specs.Lines.{head_of, lines_from, lines_of_rows, line_mark}
+use Rattle.yq_row_table.{specs.Exchange.asked_behind, specs.Grammar.{IsContent, IsRow, Limit, unlimited}}
 use Rattle.yq_row_table.specs.Rows.{Content, Nothing, Inline, Block, Cut, Part, Row, cut_text, parent_indent, rows_text}
 use Rattle.yq_row_table.specs.View.{anchor_cut, content_cut, slices}
-use Rattle.yq_documents.specs.Documents.{document_parts}
-use Rattle.yq_outline.specs.Lines.{head_of, lines_from, lines_of_rows, line_mark}
-use Rattle.yq_documents.specs.Reading.{part_outline, read_at, root_of}
-use Rattle.yq_places.specs.FlowNodes.{find_head, flow_collection}
-use Rattle.yq_places.specs.PlacedRows.{PlacedPart}
-use Rattle.yq_places.specs.Standings.{RowsOfEntry, Standing, behind_entry, behind_mark, below, beside, entry_standing, held, is_alone, root_standing, standing_at}
-use Rattle.yq_edits.specs.Siblings.{HasEntries, IsCollectionAt, IsEntry, NodeLines}
-use Rattle.yq_edits.specs.StandingLaws.{StandsThere}
-use Rattle.yq_edits.proofs.NodeLineLaws.{lines_found}
-use Rattle.yq_edits.proofs.StandingMarks.{even_there, row_there, under_it}
-use Rattle.yq_edits.proofs.StandingRows.{rows_stand}
-use Rattle.yq_edits.proofs.UnderLaws.{line_is, under_is}
+use Rattle.yq_documents.{specs.Documents.document_parts, specs.Reading.{part_outline, read_at, root_of}}
+use Rattle.yq_places.{specs.FlowNodes.{find_head, flow_collection}, specs.PlacedRows.PlacedPart}
+use Rattle.yq_places.specs.Standings.{RowsOfEntry, Standing, behind_entry, behind_mark, below, beside, entry_standing, held, is_alone}
+use Rattle.yq_places.specs.Standings.{root_standing, standing_at}
+use Rattle.yq_edits.{specs.Siblings.{HasEntries, IsCollectionAt, IsEntry, NodeLines}, specs.StandingLaws.StandsThere}
+use Rattle.yq_edits.{proofs.NodeLineLaws.lines_found, proofs.StandingMarks.{even_there, row_there, under_it}}
+use Rattle.yq_edits.{proofs.StandingRows.rows_stand, proofs.UnderLaws.{line_is, under_is}, specs.declared.layout.Layout.Layout}
+use Rattle.yq_edits.{specs.EditLaws.AppendHasEdit, specs.EntryEdits.block_more, specs.Edits.appended}
+use Rattle.yq_edits.{specs.FlowParts.{flow_more, takes_key}, specs.Layouts.layout_of}
 use Rattle.yq_semantics.specs.Fits.{Takes}
-use Rattle.yq_edits.specs.declared.layout.Layout.{Layout}
 use Rattle.yq_text.specs.Script.{Segment}
-use Rattle.yq_edits.specs.EditLaws.{AppendHasEdit}
-use Rattle.yq_edits.specs.EntryEdits.{block_more}
-use Rattle.yq_edits.specs.Edits.{appended}
-use Rattle.yq_edits.specs.FlowParts.{flow_more, takes_key}
-use Rattle.yq_edits.specs.Layouts.{layout_of}
-use Rattle.yq_edit_laws.proofs.CollectionCases.{collection_cases}
-use Rattle.yq_edit_laws.proofs.DocumentParts.{part_of}
-use Rattle.yq_edit_laws.proofs.FlowHeldLines.{flow_there}
-use Rattle.yq_edit_laws.proofs.FlowHeldNodes.{FlowContent as Holds, held as held_in}
-use Rattle.yq_edit_laws.proofs.StandingExists.{placed_there, rows_there}
+use Rattle.yq_edit_laws.{proofs.CollectionCases.collection_cases, proofs.DocumentParts.part_of, proofs.FlowHeldLines.flow_there}
+use Rattle.yq_edit_laws.{proofs.FlowHeldNodes.{FlowContent as Holds, held as held_in}, proofs.StandingExists.{placed_there, rows_there}}
+use Rattle.yq_core.specs.Tree as tree
+use Rattle.yq_outline.specs.Outline as outlines
 
 -- ---- lines of items or entries
 

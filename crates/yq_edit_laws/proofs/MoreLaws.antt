@@ -1,44 +1,29 @@
 -- One item or entry more at the end of a block collection: what is put there reads as the documents after the operation.
-use Rattle.std.proofs.Common.{inl, inr, ◌⊎◌, ◌≡◌, ℕ, zero, suc, ◌<◌, ◌≤◌, Bool, true, false, cond, eqb, not, List, [], ◌∷◌, ◌++◌, length, drop, replicate, Option, Some, refl, sym, ap, ◌∙◌, subst, arith, append_assoc, append-nil}
-use Rattle.std.proofs.lemmas.Bool.{cases_lt, cond-false, eqb-true, eqb-false}
-use Rattle.std.proofs.lemmas.Option.{none-some, same_Some}
-use Rattle.yq_core.specs.Paths.{Step}
-use Rattle.yq_core.specs.Text.{is_empty}
-use Rattle.yq_core.specs.Tree.{Node}
-use Rattle.yq_row_table.specs.Exchange.{row_front}
-use Rattle.yq_row_table.specs.Grammar.{AreDashes, AreRows, IsRow, Limit, unlimited}
-use Rattle.yq_row_table.specs.Rows.{Content, Nothing, Inline, Block, Cut, Row, behind_dashes, behind_indent, cut_text, dashes_text, part_text, print_row, rows_text}
-use Rattle.yq_row_table.specs.View.{content_cut, slices}
-use Rattle.yq_row_table.proofs.NothingLaws.{some_behind}
+use Rattle.std.proofs.Common.{inl, inr, ◌⊎◌, ◌≡◌, ℕ, zero, suc, ◌<◌, ◌≤◌, Bool, true, false, cond, eqb, not, List, [], ◌∷◌, ◌++◌, length}
+use Rattle.std.proofs.Common.{drop, replicate, Option, Some, refl, sym, ap, ◌∙◌, subst, arith, append_assoc, append-nil}
+use Rattle.std.{proofs.lemmas.Bool.{cases_lt, cond-false, eqb-true, eqb-false}, proofs.lemmas.Option.{none-some, same_Some}}
+use Rattle.yq_core.{specs.Paths.Step, specs.Text.is_empty, specs.Tree.Node}
+use Rattle.yq_row_table.{specs.Exchange.row_front, specs.Grammar.{AreDashes, AreRows, IsRow, Limit, unlimited}}
+use Rattle.yq_row_table.specs.Rows.{Content, Nothing, Inline, Block, Cut, Row, behind_dashes, behind_indent, cut_text, dashes_text}
+use Rattle.yq_row_table.{specs.Rows.{part_text, print_row, rows_text}, specs.View.{content_cut, slices}, proofs.NothingLaws.some_behind}
 use Rattle.yq_documents.specs.Reading.{read_at}
 use Rattle.yq_semantics.specs.Operations.{append}
 use Rattle.yq_text.specs.Script.{Segment}
-use Rattle.yq_places.specs.CollectionEnds.{CollectionEnd, is_broken}
-use Rattle.yq_places.specs.CommentPlaces.{text_to_line_end}
-use Rattle.yq_places.specs.RowPieces.{past_dash, upto_dash}
-use Rattle.yq_places.specs.PlacedRows.{PlacedPart, placed_document}
-use Rattle.yq_places.specs.PrintedLines.{last_break}
-use Rattle.yq_places.specs.Standings.{BlockRoot, Compact, Held, RowsOfEntry, alone, beside, compact, root, under, before_entry, behind_entry, behind_mark, below, block_root, compact_in, dash_text, entry_standing, held, is_alone, lone, rows_of_entry, root_standing}
-use Rattle.yq_places.proofs.CommentEndLaws.{row_text_parts}
-use Rattle.yq_places.proofs.DashLaws.{line_within, row_cut}
-use Rattle.yq_places.proofs.PrintedTexts.{less_is, map_some}
-use Rattle.yq_edits.specs.CollectionPlaces.{IsCollectionEnd}
-use Rattle.yq_edits.specs.DocumentRows.{IsDocumentPart, behind_document}
-use Rattle.yq_edits.specs.PlacedParts.{StandsAt}
-use Rattle.yq_edits.specs.StandingLaws.{StandsThere}
-use Rattle.yq_edits.proofs.EndedRowLaws.{row_there}
-use Rattle.yq_edits.proofs.PartLaws.{document_known, part_rows}
-use Rattle.yq_edits.proofs.PlacedPartLaws.{document_stands_at}
-use Rattle.yq_edits.proofs.StandingRows.{rows_stand}
-use Rattle.yq_edits.specs.EditLaws.{IsEdit, MoreIsPut}
-use Rattle.yq_edits.specs.EntryEdits.{behind_held, behind_lines, more_lines, block_more}
-use Rattle.yq_edits.specs.Layouts.{layout_of}
-use Rattle.yq_edits.proofs.AppendPlaces.{IsAppendPlace}
+use Rattle.yq_places.{specs.CollectionEnds.{CollectionEnd, is_broken}, specs.CommentPlaces.text_to_line_end}
+use Rattle.yq_places.{specs.RowPieces.{past_dash, upto_dash}, specs.PlacedRows.{PlacedPart, placed_document}, specs.PrintedLines.last_break}
+use Rattle.yq_places.specs.Standings.{BlockRoot, Compact, Held, RowsOfEntry, alone, beside, compact, root, under, before_entry}
+use Rattle.yq_places.specs.Standings.{behind_entry, behind_mark, below, block_root, compact_in, dash_text, entry_standing, held, is_alone}
+use Rattle.yq_places.{specs.Standings.{lone, rows_of_entry, root_standing}, proofs.CommentEndLaws.row_text_parts}
+use Rattle.yq_places.{proofs.DashLaws.{line_within, row_cut}, proofs.PrintedTexts.{less_is, map_some}}
+use Rattle.yq_edits.{specs.CollectionPlaces.IsCollectionEnd, specs.DocumentRows.{IsDocumentPart, behind_document}}
+use Rattle.yq_edits.{specs.PlacedParts.StandsAt, specs.StandingLaws.StandsThere, proofs.EndedRowLaws.row_there}
+use Rattle.yq_edits.{proofs.PartLaws.{document_known, part_rows}, proofs.PlacedPartLaws.document_stands_at, proofs.StandingRows.rows_stand}
+use Rattle.yq_edits.{specs.EditLaws.{IsEdit, MoreIsPut}, specs.EntryEdits.{behind_held, behind_lines, more_lines, block_more}}
+use Rattle.yq_edits.{specs.Layouts.layout_of, proofs.AppendPlaces.IsAppendPlace}
+use Rattle.yq_edits.{proofs.CommentRowLaws.{entry_is_row, entry_row, rows_front}, proofs.HeldLaws.held_spelled}
 use Rattle.yq_edit_laws.proofs.CollectionRows.{EndIn, behind_front, text_broken}
-use Rattle.yq_edit_laws.proofs.CollectionStands.{are, begins_behind, begins_under, end_at, ends_there, headless_dash, headless_mark, root_ends}
-use Rattle.yq_edits.proofs.CommentRowLaws.{entry_is_row, entry_row, rows_front}
-use Rattle.yq_edit_laws.proofs.FinalBreaks.{entry_some, mark_some}
-use Rattle.yq_edits.proofs.HeldLaws.{held_spelled}
+use Rattle.yq_edit_laws.proofs.CollectionStands.{are, begins_behind, begins_under, end_at, ends_there, headless_dash, headless_mark}
+use Rattle.yq_edit_laws.{proofs.CollectionStands.root_ends, proofs.FinalBreaks.{entry_some, mark_some}}
 use Rattle.yq_edit_laws.proofs.MorePuts.{IsPutAt, edit_at, held_put_at, lines_put_at}
 
 module _ (n : ℕ) (s : Step) (ss : List Step) (key : Option (List ℕ)) (v : Node) (c : Cut) (e : RowsOfEntry) (read : read_at (cut_text c) ≡ Some c) (is_there : rows_of_entry n (s ∷ ss) c ≡ Some e) where

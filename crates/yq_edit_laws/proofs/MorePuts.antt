@@ -1,32 +1,18 @@
 -- One item or entry more at the end of a block collection: the segments that put it there, and what they come to.
-use Rattle.std.proofs.Common.{inl, ◌≡◌, ℕ, ◌≤◌, Bool, true, false, List, [], ◌++◌, length, Option, Some, refl, sym, ap, ◌∙◌, subst, append_assoc, append-nil}
-use Rattle.std.proofs.lemmas.Option.{same_Some}
-use Rattle.yq_core.specs.BlockWritten.{break_text}
-use Rattle.yq_text.specs.Limit.{text_limit}
-use Rattle.yq_core.specs.Paths.{Step, node_at}
-use Rattle.yq_core.specs.Tree.{Node}
+use Rattle.std.proofs.Common.{inl, ◌≡◌, ℕ, ◌≤◌, Bool, true, false, List, [], ◌++◌, length, Option, Some, refl, sym, ap, ◌∙◌, subst}
+use Rattle.std.{proofs.Common.{append_assoc, append-nil}, proofs.lemmas.Option.same_Some}
+use Rattle.yq_core.{specs.BlockWritten.break_text, specs.Paths.{Step, node_at}, specs.Tree.Node}
+use Rattle.yq_text.{specs.Limit.text_limit, specs.Script.{Segment, kept_back, kept_front, new_text, old_text}}
 use Rattle.yq_row_table.specs.Rows.{Cut, cut_text}
-use Rattle.yq_documents.specs.Documents.{Document, document_parts}
-use Rattle.yq_documents.specs.Reading as reading
-use Rattle.yq_documents.specs.Reading.{documents, read_at}
-use Rattle.yq_semantics.specs.Fits.{Fits}
-use Rattle.yq_semantics.specs.Operations.{append}
-use Rattle.yq_semantics.specs.Rooms.{room_of}
-use Rattle.yq_text.specs.Script.{Segment, kept_back, kept_front, new_text, old_text}
-use Rattle.yq_places.specs.CollectionEnds.{CollectionEnd}
-use Rattle.yq_places.specs.Standings.{Held}
-use Rattle.yq_edits.specs.ClosedTexts.{lines_put_behind}
-use Rattle.yq_edits.specs.EditLaws.{IsEdit}
-use Rattle.yq_edits.specs.EntryEdits.{behind_held, behind_lines, entry_lines}
-use Rattle.yq_edits.specs.Layouts.{layout_of}
-use Rattle.yq_edits.specs.Local.{IsLocalTo}
-use Rattle.yq_edits.specs.Operands.{HasOperand}
-use Rattle.yq_edits.specs.ReadsAfter.{ReadsAfter}
-use Rattle.yq_edits.proofs.AppendAtEnd.{end_both}
+use Rattle.yq_documents.{specs.Documents.{Document, document_parts}, specs.Reading.{documents, read_at}}
+use Rattle.yq_semantics.{specs.Fits.Fits, specs.Operations.append, specs.Rooms.room_of}
+use Rattle.yq_places.{specs.CollectionEnds.CollectionEnd, specs.Standings.Held}
+use Rattle.yq_edits.{specs.ClosedTexts.lines_put_behind, specs.EditLaws.IsEdit, specs.EntryEdits.{behind_held, behind_lines, entry_lines}}
+use Rattle.yq_edits.{specs.Layouts.layout_of, specs.Local.IsLocalTo, specs.Operands.HasOperand, specs.ReadsAfter.ReadsAfter}
+use Rattle.yq_edits.{proofs.AppendAtEnd.end_both, proofs.AppendPlaces.{IsAppendPlace, IsAsked, old_is, p, put_segments}}
+use Rattle.yq_edits.{proofs.DoneLaws.nth_map, proofs.EditsFitLaws.tree_unique}
 use Rattle.yq_edit_laws.proofs.AppendInside.{inside_both}
-use Rattle.yq_edits.proofs.AppendPlaces.{IsAppendPlace, IsAsked, old_is, p, put_segments}
-use Rattle.yq_edits.proofs.DoneLaws.{nth_map}
-use Rattle.yq_edits.proofs.EditsFitLaws.{tree_unique}
+use Rattle.yq_documents.specs.Reading as reading
 
 -- ---- at the end of a collection
 

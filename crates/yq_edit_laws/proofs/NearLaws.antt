@@ -1,53 +1,31 @@
 -- What each operation puts is near.
-use Rattle.std.proofs.Common.{◌≡◌, ◌⊎◌, inl, inr, ℕ, ◌≤◌, Bool, true, false, cond, ◌&&◌, not, eqb, List, [], ◌∷◌, length, Option, Some, None, option_map, refl, sym, subst}
-use Rattle.std.specs.Prelude.{⊤}
-use Rattle.std.proofs.lemmas.Option.{none-some, same_Some}
+use Rattle.std.proofs.Common.{◌≡◌, ◌⊎◌, inl, inr, ℕ, ◌≤◌, Bool, true, false, cond, ◌&&◌, not, eqb, List, [], ◌∷◌, length, Option, Some}
+use Rattle.std.{proofs.Common.{None, option_map, refl, sym, subst}, specs.Prelude.⊤, proofs.lemmas.Option.{none-some, same_Some}}
 use Rattle.std.specs.Option.{option_or}
-use Rattle.yq_core.specs.Answers.{◌>>=◌}
-use Rattle.yq_core.specs.BlockWritten.{break_text}
-use Rattle.yq_text.specs.Limit.{text_limit}
-use Rattle.yq_core.specs.Paths.{Step}
-use Rattle.yq_core.specs.Scalar.{ScalarText}
-use Rattle.yq_core.specs.Text.{is_empty}
-use Rattle.yq_core.specs.Tree.{Node}
-use Rattle.yq_core.specs.Writable.{can_write, is_string}
-use Rattle.yq_core.specs.Written.{double}
-use Rattle.yq_core.specs.declared.style.Place.TheVariants.{Block as InBlock}
-use Rattle.yq_core.specs.declared.style.Style.TheVariants.{Literal}
-use Rattle.yq_core.proofs.Bools.{bind_some}
-use Rattle.yq_core.specs.Collections.{CollPieces}
-use Rattle.yq_core.specs.NodesWritten.{flow_key, flow_of}
-use Rattle.yq_row_table.specs.Rows.{Content, Nothing, Inline, Block, Cut, Row, cut_text}
-use Rattle.yq_row_table.specs.View.{slices}
+use Rattle.yq_core.{specs.Answers.◌>>=◌, specs.BlockWritten.break_text, specs.Paths.Step, specs.Scalar.ScalarText, specs.Text.is_empty}
+use Rattle.yq_core.{specs.Tree.Node, specs.Writable.{can_write, is_string}, specs.Written.double}
+use Rattle.yq_core.{specs.declared.style.Place.TheVariants.Block as InBlock, specs.declared.style.Style.TheVariants.Literal}
+use Rattle.yq_core.{proofs.Bools.bind_some, specs.Collections.CollPieces, specs.NodesWritten.{flow_key, flow_of}}
+use Rattle.yq_text.{specs.Limit.text_limit, specs.Script.{Segment, from_first, keep, new_text, put}}
+use Rattle.yq_row_table.{specs.Rows.{Content, Nothing, Inline, Block, Cut, Row, cut_text}, specs.View.slices}
 use Rattle.yq_documents.specs.Reading.{documents, read_at}
-use Rattle.yq_flow_edits.specs.FlowEdits.{FlowEdit, appending}
-use Rattle.yq_flow_edits.specs.Removals.{removing}
-use Rattle.yq_flow_edits.proofs.RemoveTexts.{either}
-use Rattle.yq_places.specs.FirstPlaces.{first_removal}
-use Rattle.yq_places.specs.FlowNodes.{flow_collection}
-use Rattle.yq_places.specs.NodesAt.{node_in, scalar_in}
-use Rattle.yq_places.specs.PlacedRows.{PlacedPart, placed_document}
-use Rattle.yq_places.specs.RemovalPlaces.{has_others_at, removal_place}
-use Rattle.yq_places.specs.Standings.{BlockRoot, Compact, FlowPart, Held, Lone, RowsOfEntry, Standing, alone, behind_mark, below, beside, block, compact, compact_in, entry_standing, flow_standing, held, is_alone, last_step, no_rows, rows_of_entry, root, root_standing, standing_at, under}
-use Rattle.yq_places.proofs.PrintedTexts.{map_some}
-use Rattle.yq_semantics.specs.Fits.{Fits}
-use Rattle.yq_semantics.specs.Operations.{replace, append, remove, line_comment, head_comment}
-use Rattle.yq_semantics.specs.Rooms.{room_of}
-use Rattle.yq_text.specs.Script.{Segment, from_first, keep, new_text, put}
+use Rattle.yq_flow_edits.{specs.FlowEdits.{FlowEdit, appending}, specs.Removals.removing, proofs.RemoveTexts.either}
+use Rattle.yq_places.{specs.FirstPlaces.first_removal, specs.FlowNodes.flow_collection, specs.NodesAt.{node_in, scalar_in}}
+use Rattle.yq_places.{specs.PlacedRows.{PlacedPart, placed_document}, specs.RemovalPlaces.{has_others_at, removal_place}}
+use Rattle.yq_places.specs.Standings.{BlockRoot, Compact, FlowPart, Held, Lone, RowsOfEntry, Standing, alone, behind_mark, below, beside}
+use Rattle.yq_places.specs.Standings.{block, compact, compact_in, entry_standing, flow_standing, held, is_alone, last_step, no_rows}
+use Rattle.yq_places.{specs.Standings.{rows_of_entry, root, root_standing, standing_at, under}, proofs.PrintedTexts.map_some}
+use Rattle.yq_semantics.{specs.Fits.Fits, specs.Operations.{replace, append, remove, line_comment, head_comment}, specs.Rooms.room_of}
 use Rattle.yq_edits.specs.declared.layout.Layout.{Layout}
 use Rattle.yq_edits.specs.CommentEdits.{above_rows, comment_put, comment_written, head_comment_put, head_comment_segments, line_comment_put}
 use Rattle.yq_edits.specs.Edits.{empty_collection, part_removed, replace_segments, rows_or_sole, sole_removed}
 use Rattle.yq_edits.specs.EntryEdits.{block_more, one_removed}
-use Rattle.yq_edits.specs.FlowParts.{flow_more, flow_put, flow_removed, flow_segments, takes_key}
-use Rattle.yq_edits.specs.Layouts.{layout_of}
-use Rattle.yq_edits.specs.Removing.{rows_removed}
-use Rattle.yq_edits.specs.RemovingFirst.{first_removed}
+use Rattle.yq_edits.{specs.FlowParts.{flow_more, flow_put, flow_removed, flow_segments, takes_key}, specs.Layouts.layout_of}
+use Rattle.yq_edits.{specs.Removing.rows_removed, specs.RemovingFirst.first_removed}
 use Rattle.yq_edits.specs.ReplaceEdits.{block_put, compact_put, has_text, held_put, literal_put, block_scalar_put, string_put, value_put}
-use Rattle.yq_edits.specs.Replacing.{keeps_scalar}
+use Rattle.yq_edits.{specs.Replacing.keeps_scalar, specs.WrittenValues.{Written, compact_text, inline, lines, written_at, written_under}}
 use Rattle.yq_edit_laws.specs.TouchedRanges.{AreInLines, EditsAreNear, IsLocalEdit}
-use Rattle.yq_edits.specs.WrittenValues.{Written, compact_text, inline, lines, written_at, written_under}
-use Rattle.yq_edit_laws.proofs.HeldRanges.{IsInLine, held_in_line, nothing_line}
-use Rattle.yq_edit_laws.proofs.RemovingLaws.{rows_near}
+use Rattle.yq_edit_laws.{proofs.HeldRanges.{IsInLine, held_in_line, nothing_line}, proofs.RemovingLaws.rows_near}
 
 -- between two that are exchanged no more than a part of a line is kept
 abbrev InLines : List Segment → Type 0

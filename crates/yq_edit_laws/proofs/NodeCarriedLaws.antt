@@ -1,27 +1,16 @@
 -- Segments that put rows for a value in the place of those of an item or entry carry out its replacement.
 use Rattle.std.proofs.Common.{inl, ◌≡◌, ℕ, ◌≤◌, true, false, List, [], ◌∷◌, ◌++◌, length, Some, sym, ap, ◌∙◌, subst}
-use Rattle.yq_core.specs.Paths.{Step}
-use Rattle.yq_core.specs.Tree.{Node}
+use Rattle.yq_core.{specs.Paths.Step, specs.Tree.Node}
 use Rattle.yq_outline.specs.Places.{content_under}
-use Rattle.yq_row_table.specs.Rows.{Row, print_row, rows_text, Cut, cut_text}
-use Rattle.yq_row_table.proofs.splices.SpliceTexts.{own_end}
+use Rattle.yq_row_table.{specs.Rows.{Row, print_row, rows_text, Cut, cut_text}, proofs.splices.SpliceTexts.own_end, specs.Items.rows_items}
 use Rattle.yq_documents.specs.Reading.{read_at, root_of}
 use Rattle.yq_places.specs.RowPaths.{IsReadable}
-use Rattle.yq_edits.specs.Appends.{inserted}
-use Rattle.yq_edits.specs.Changed.{put_document}
-use Rattle.yq_edits.specs.DocumentRows.{behind_document}
-use Rattle.yq_row_table.specs.Items.{rows_items}
-use Rattle.yq_edits.specs.SoundRoots.{MayReplace}
+use Rattle.yq_edits.{specs.Appends.inserted, specs.Changed.put_document, specs.DocumentRows.behind_document, specs.SoundRoots.MayReplace}
+use Rattle.yq_edits.{specs.Local.InFirst, specs.ReadsAfter.ReadsAfter, specs.EditLaws.CarriedOut, proofs.LastRows.lines_local}
+use Rattle.yq_edits.{proofs.OneLines.is_one_line, proofs.LocalLaws.{RowsGiveWay, cut_known}}
 use Rattle.yq_semantics.specs.Operations.{replace}
 use Rattle.yq_text.specs.Script.{Segment, old_text, new_text, are_kept, kept_front, kept_back}
-use Rattle.yq_edits.specs.Local.{InFirst}
-use Rattle.yq_edits.specs.ReadsAfter.{ReadsAfter}
-use Rattle.yq_edits.specs.EditLaws.{CarriedOut}
-use Rattle.yq_edits.proofs.LastRows.{lines_local}
-use Rattle.yq_edits.proofs.OneLines.{is_one_line}
-use Rattle.yq_edits.proofs.LocalLaws.{RowsGiveWay, cut_known}
-use Rattle.yq_edit_laws.proofs.NodeRowLaws.{NodeRows}
-use Rattle.yq_edit_laws.proofs.NodeTaken.{TakesNode, q_rows, node_changed, node_reads}
+use Rattle.yq_edit_laws.{proofs.NodeRowLaws.NodeRows, proofs.NodeTaken.{TakesNode, q_rows, node_changed, node_reads}}
 
 -- Segments of the text keep it up to bytes of the first one of these rows, and from the end of the line that ends them on.
 pub record KeepsNode (doc : ℕ) (s : Step) (ss : List Step) (c : Cut) (h : NodeRows doc s ss c) (us : List Segment) : Type 0 where

@@ -1,18 +1,13 @@
 -- The text of a row up to where something is written behind its key or dash.
-use Rattle.std.proofs.Common.{◌≡◌, ℕ, ◌+◌, ◌≤◌, Bool, true, false, cond, List, [], ◌∷◌, ◌++◌, length, replicate, sym, ap, ◌∙◌, append_assoc, arith}
-use Rattle.std.proofs.lemmas.List.{length-append}
+use Rattle.std.proofs.Common.{◌≡◌, ℕ, ◌+◌, ◌≤◌, Bool, true, false, cond, List, [], ◌∷◌, ◌++◌, length, replicate, sym, ap, ◌∙◌, append_assoc}
+use Rattle.std.{proofs.Common.arith, proofs.lemmas.List.length-append}
 use Rattle.yq_core.specs.Text.{is_empty}
 use Rattle.yq_row_table.specs.Exchange.{row_front, with_content}
 use Rattle.yq_row_table.specs.Rows.{Content, content_text, Row, behind_dashes, behind_gap, behind_indent, dashes_text, print_row}
-use Rattle.yq_row_table.specs.View.{content_cut, slices}
-use Rattle.yq_row_table.proofs.PlaceLaws.{dashes_then, row_front-append}
-use Rattle.yq_row_table.proofs.seams.JoinLaws.{dashes_text-append}
-use Rattle.yq_row_table.proofs.SliceLaws.{content_slices}
+use Rattle.yq_row_table.{specs.View.{content_cut, slices}, proofs.PlaceLaws.{dashes_then, row_front-append}}
+use Rattle.yq_row_table.{proofs.seams.JoinLaws.dashes_text-append, proofs.SliceLaws.content_slices, specs.Items.rows_items}
 use Rattle.yq_places.specs.RowPieces.{anchor_before, space_before}
-use Rattle.yq_row_table.specs.Items.{rows_items}
-use Rattle.yq_edits.specs.BlockPlaces.{IsUpto, at_mark, at_dash}
-use Rattle.yq_edits.specs.Local.{InFirst}
-use Rattle.yq_edits.proofs.ItemsLocal.{first_within}
+use Rattle.yq_edits.{specs.BlockPlaces.{IsUpto, at_mark, at_dash}, specs.Local.InFirst, proofs.ItemsLocal.first_within}
 
 -- it lies in the row
 pub own_lead : (r : Row) → length (row_front r ++ anchor_before (slices r)) ≤ length (print_row r [])

@@ -1,36 +1,22 @@
 -- The rows of an item or entry in the text of a cut, and their lines.
-use Rattle.std.proofs.Common.{◌≡◌, ℕ, suc, ◌+◌, ◌≤◌, true, List, [], ◌∷◌, ◌++◌, length, Some, sym, ap, ◌∙◌, subst, arith, length-append, rules}
+use Rattle.std.proofs.Common.{◌≡◌, ℕ, suc, ◌+◌, ◌≤◌, true, List, [], ◌∷◌, ◌++◌, length, Some, sym, ap, ◌∙◌, subst, arith, length-append}
+use Rattle.std.{proofs.Common.rules, specs.Str.is_utf8}
 use mathlib.Core.List.{head-eq_of_cons-eq}
-use Rattle.std.specs.Str.{is_utf8}
-use Rattle.yq_core.specs.Paths.{Step}
-use Rattle.yq_core.proofs.Bools.{guard_then}
-use Rattle.yq_outline.specs.Comments.{head_comment}
-use Rattle.yq_outline.specs.Group.{group, is_fine, level_or}
-use Rattle.yq_outline.specs.Outline as outline
-use Rattle.yq_outline.specs.Outline.{Line, level, flatten, IsEven}
-use Rattle.yq_outline.specs.Places.{lines_before, lines_after, FoundLine, find}
-use Rattle.yq_outline.proofs.Decides.{flatten-group}
-use Rattle.yq_row_table.specs.Exchange.{allows_first, asked_behind}
-use Rattle.yq_row_table.specs.Grammar.{Limit, unlimited, limit_after, AreRows, is_entry}
-use Rattle.yq_row_table.specs.Rows.{Row, mark_column, rows_text, Part, part_text, Cut, cut_text}
-use Rattle.yq_documents.specs.Documents.{document_parts}
+use Rattle.yq_core.{specs.Paths.Step, proofs.Bools.guard_then}
+use Rattle.yq_outline.{specs.Comments.head_comment, specs.Group.{group, is_fine, level_or}, specs.Outline.{Line, level, flatten, IsEven}}
+use Rattle.yq_outline.{specs.Places.{lines_before, lines_after, FoundLine, find}, proofs.Decides.flatten-group}
 use Rattle.yq_outline.specs.Lines.{line_mark, lines_of_rows}
-use Rattle.yq_documents.specs.Reading.{part_outline, read_at}
-use Rattle.yq_documents.proofs.PartRows.{each}
+use Rattle.yq_row_table.{specs.Exchange.{allows_first, asked_behind}, specs.Grammar.{Limit, unlimited, limit_after, AreRows, is_entry}}
+use Rattle.yq_row_table.specs.Rows.{Row, mark_column, rows_text, Part, part_text, Cut, cut_text}
+use Rattle.yq_documents.{specs.Documents.document_parts, specs.Reading.{part_outline, read_at}, proofs.PartRows.each}
 use Rattle.yq_documents.proofs.ReadLaws.{text_takes}
 use Rattle.yq_places.proofs.RowPathLaws.{StartsAt, document_fine, found_starts}
-use Rattle.yq_edits.specs.Changed.{put_document}
-use Rattle.yq_edits.specs.DocumentRows.{IsDocumentPart, behind_document}
-use Rattle.yq_edits.specs.LineRows.{Begins}
-use Rattle.yq_edits.proofs.AppendLaws.{around}
-use Rattle.yq_edits.proofs.InlineReplaceLaws.{next_by, own_rows}
-use Rattle.yq_edits.proofs.LineLaws.{dashes_count}
-use Rattle.yq_edits.proofs.PartLaws.{document_known}
-use Rattle.yq_edits.proofs.PlacedLaws.{found_is_entry, rows_in_parts, same_parts, whole_line}
-use Rattle.yq_edits.proofs.UnderLaws.{line_with, dashes_of}
-use Rattle.yq_edits.proofs.FirstReplaceLaws.{rows_after}
-use Rattle.yq_edits.specs.BlockPlaces.{IsUpto}
+use Rattle.yq_edits.{specs.Changed.put_document, specs.DocumentRows.{IsDocumentPart, behind_document}, specs.LineRows.Begins}
+use Rattle.yq_edits.{proofs.AppendLaws.around, proofs.InlineReplaceLaws.{next_by, own_rows}, proofs.LineLaws.dashes_count}
+use Rattle.yq_edits.{proofs.PartLaws.document_known, proofs.PlacedLaws.{found_is_entry, rows_in_parts, same_parts, whole_line}}
+use Rattle.yq_edits.{proofs.UnderLaws.{line_with, dashes_of}, proofs.FirstReplaceLaws.rows_after, specs.BlockPlaces.IsUpto}
 use Rattle.yq_edit_laws.proofs.RowLines.{lines_upto}
+use Rattle.yq_outline.specs.Outline as outline
 
 -- The rows of an item or entry in the text of a cut: the row of its key or dash, and those under it, between others in front and others behind; and that row up to its key or dash.
 pub record NodeRows (doc : ℕ) (s : Step) (ss : List Step) (c : Cut) : Type 0 where

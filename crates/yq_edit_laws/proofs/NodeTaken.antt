@@ -1,49 +1,27 @@
 -- The rows of an item or entry give way to rows that are written for a value: the document with that value there.
-use Rattle.std.proofs.Common.{◌≡◌, ℕ, suc, ◌<◌, ◌≤◌, Bool, true, false, List, [], ◌∷◌, ◌++◌, length, Option, Some, refl, sym, ap, ◌∙◌, subst, arith, append-nil, rules}
-use Rattle.std.proofs.lemmas.Bool.{false≢true, ltb-true}
-use Rattle.yq_core.specs.Paths.{Step, changed_at}
-use Rattle.yq_core.specs.Tree.{Node, anchor_of}
-use Rattle.yq_core.specs.Alike.{Alike}
-use Rattle.yq_outline.specs.LineAnchors.{HaveOneAnchorEach}
-use Rattle.yq_outline.specs.Comments.{head_comment, line_comment}
-use Rattle.yq_outline.specs.Outline as outline
+use Rattle.std.proofs.Common.{◌≡◌, ℕ, suc, ◌<◌, ◌≤◌, Bool, true, false, List, [], ◌∷◌, ◌++◌, length, Option, Some, refl, sym, ap, ◌∙◌}
+use Rattle.std.{proofs.Common.{subst, arith, append-nil, rules}, proofs.lemmas.Bool.{false≢true, ltb-true}}
+use Rattle.yq_core.{specs.Paths.{Step, changed_at}, specs.Tree.{Node, anchor_of}, specs.Alike.Alike}
+use Rattle.yq_outline.{specs.LineAnchors.HaveOneAnchorEach, specs.Comments.{head_comment, line_comment}}
 use Rattle.yq_outline.specs.Outline.{Line, level, Outline, flatten, IsEven, IsOpen, anchored, head_or, label, value}
-use Rattle.yq_outline.specs.Places.{content_under}
-use Rattle.yq_row_table.specs.Exchange.{allows_first, asked_behind}
-use Rattle.yq_row_table.specs.Gap.{IsGap}
-use Rattle.yq_row_table.specs.Grammar.{Limit, allows, AreRows, no_rows}
+use Rattle.yq_outline.{specs.Places.content_under, specs.Lines.{content_anchor, head_of, tail_of, lines_of_rows}}
+use Rattle.yq_row_table.{specs.Exchange.{allows_first, asked_behind}, specs.Gap.IsGap, specs.Grammar.{Limit, allows, AreRows, no_rows}}
 use Rattle.yq_row_table.specs.Rows.{Content, Row, mark_column, print_row, rows_text, Part, Cut, cut_text}
-use Rattle.yq_row_table.specs.Splices.{behind_first, first_gap}
-use Rattle.yq_row_table.proofs.seams.SeamLaws.{rows_text-append}
+use Rattle.yq_row_table.{specs.Splices.{behind_first, first_gap}, proofs.seams.SeamLaws.rows_text-append}
 use Rattle.yq_row_table.proofs.splices.SpliceTexts.{own_gap, own_end, first_text, first_is}
-use Rattle.yq_documents.specs.Documents.{HaveFitKeys, lead_of}
-use Rattle.yq_outline.specs.Lines.{content_anchor, head_of, tail_of, lines_of_rows}
-use Rattle.yq_documents.specs.TreeEdits.{led, replaced_node}
-use Rattle.yq_documents.specs.Ready.{begins_no_node}
+use Rattle.yq_documents.{specs.Documents.{HaveFitKeys, lead_of}, specs.TreeEdits.{led, replaced_node}, specs.Ready.begins_no_node}
 use Rattle.yq_documents.specs.Reading.{root_of}
-use Rattle.yq_places.specs.RowPaths.{IsReadable}
-use Rattle.yq_places.proofs.RunSpans.{rows_then}
-use Rattle.yq_edits.specs.Appends.{inserted}
-use Rattle.yq_edits.specs.Changed.{IsChanged, put_document}
-use Rattle.yq_edits.specs.DocumentRows.{behind_document}
-use Rattle.yq_edits.specs.Edited.{LineFits}
-use Rattle.yq_edits.specs.Replaces.{RowsReplace, TakesLines}
-use Rattle.yq_edits.specs.Rooms.{is_block_root}
-use Rattle.yq_edits.specs.SoundRoots.{MayReplace}
-use Rattle.yq_edits.proofs.AppendLaws.{around}
-use Rattle.yq_edits.proofs.LeadLaws.{same_lead_goes}
-use Rattle.yq_edits.proofs.PlacedLaws.{rows_in_parts}
-use Rattle.yq_edits.proofs.ReplaceLaws.{node_rows_replaced, rows_before_some}
-use Rattle.yq_edits.proofs.UnderLaws.{line_with, dashes_of}
-use Rattle.yq_edits.proofs.UnbrokenLaws.{gap_same}
-use Rattle.yq_edits.proofs.MarkFirst.{no_node_first}
-use Rattle.yq_edits.specs.BlockPlaces.{Replaces}
-use Rattle.yq_edits.proofs.LaidRows.{rows_append}
+use Rattle.yq_places.{specs.RowPaths.IsReadable, proofs.RunSpans.rows_then}
+use Rattle.yq_edits.{specs.Appends.inserted, specs.Changed.{IsChanged, put_document}, specs.DocumentRows.behind_document}
+use Rattle.yq_edits.{specs.Edited.LineFits, specs.Replaces.{RowsReplace, TakesLines}, specs.Rooms.is_block_root}
+use Rattle.yq_edits.{specs.SoundRoots.MayReplace, proofs.AppendLaws.around, proofs.LeadLaws.same_lead_goes, proofs.PlacedLaws.rows_in_parts}
+use Rattle.yq_edits.{proofs.ReplaceLaws.{node_rows_replaced, rows_before_some}, proofs.UnderLaws.{line_with, dashes_of}}
+use Rattle.yq_edits.{proofs.UnbrokenLaws.gap_same, proofs.MarkFirst.no_node_first, specs.BlockPlaces.Replaces, proofs.LaidRows.rows_append}
+use Rattle.yq_edits.{specs.ReadsAfter.ReadsAfter, proofs.DoneLaws.document_done}
 use Rattle.yq_semantics.specs.Operations.{replace}
-use Rattle.yq_edits.specs.ReadsAfter.{ReadsAfter}
-use Rattle.yq_edits.proofs.DoneLaws.{document_done}
 use Rattle.yq_edit_laws.proofs.NodeRowLaws.{NodeRows, back_there, before_are, known_lines, limit, line_is, near, old_lines, rest, size_is}
 use Rattle.yq_edit_laws.proofs.RowLines.{lines_upto}
+use Rattle.yq_outline.specs.Outline as outline
 
 follow_first : (limit : Limit) (column : ℕ) (bs : List Row) → ((k : ℕ) → k ≤ column → allows limit k ≡ true) → allows_first (record { column = Some (suc column) }) bs ≡ true → allows_first limit bs ≡ true
 follow_first limit column [] f h = refl

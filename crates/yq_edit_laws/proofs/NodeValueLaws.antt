@@ -1,49 +1,27 @@
 -- The rows that are written for a value in the place of those of an item or entry: behind its key or dash, or under it.
-use Rattle.std.proofs.Common.{◌≡◌, ℕ, suc, ◌+◌, ◌*◌, ◌<◌, ◌≤◌, true, false, List, [], ◌∷◌, ◌++◌, Option, Some, None, refl, sym, ap, ◌∙◌, subst, rules}
-use Rattle.std.proofs.lemmas.Bool.{false≢true}
-use Rattle.yq_core.specs.Paths.{Step}
-use Rattle.yq_core.specs.Piece.{deeper}
-use Rattle.yq_core.specs.Plain.{ends_plain}
-use Rattle.yq_core.specs.Text.{separates}
-use Rattle.yq_core.specs.Tree.{Node, anchor_of}
-use Rattle.yq_core.specs.Nodes as inline
-use Rattle.yq_outline.specs.LineAnchors.{HaveOneAnchorEach}
-use Rattle.yq_outline.specs.Comments.{line_comment}
-use Rattle.yq_outline.specs.Outline as outline
-use Rattle.yq_outline.specs.Outline.{end, IsOpen, level, head_or, Stands, value}
-use Rattle.yq_outline.specs.Places.{content_under}
-use Rattle.yq_outline.proofs.ByRules.{rules_give}
-use Rattle.yq_row_table.specs.Alone.{holds_nothing}
-use Rattle.yq_row_table.specs.Exchange.{with_content}
-use Rattle.yq_row_table.specs.Grammar.{IsContent, IsTail, is_entry}
-use Rattle.yq_row_table.specs.Rows as rows
-use Rattle.yq_row_table.specs.Rows.{Content, content_text, Row, mark_column, parent_indent, rows_text, Cut, cut_text}
-use Rattle.yq_row_table.specs.Seams.{is_block}
-use Rattle.yq_row_table.proofs.NodeExchange.{inline_starts, space_apart}
-use Rattle.yq_row_table.proofs.splices.PartPlaces.{part_ends}
-use Rattle.yq_documents.specs.Documents.{ContentHasFitKeys}
+use Rattle.std.proofs.Common.{◌≡◌, ℕ, suc, ◌+◌, ◌*◌, ◌<◌, ◌≤◌, true, false, List, [], ◌∷◌, ◌++◌, Option, Some, None, refl, sym, ap, ◌∙◌}
+use Rattle.std.{proofs.Common.{subst, rules}, proofs.lemmas.Bool.false≢true}
+use Rattle.yq_core.{specs.Paths.Step, specs.Piece.deeper, specs.Plain.ends_plain, specs.Text.separates, specs.Tree.{Node, anchor_of}}
+use Rattle.yq_outline.{specs.LineAnchors.HaveOneAnchorEach, specs.Comments.line_comment}
+use Rattle.yq_outline.{specs.Outline.{end, IsOpen, level, head_or, Stands, value}, specs.Places.content_under, proofs.ByRules.rules_give}
 use Rattle.yq_outline.specs.Lines.{content_anchor, head_of, tail_of, lines_of_rows, line_mark}
-use Rattle.yq_edits.specs.DocumentRows.{behind_document}
-use Rattle.yq_documents.specs.PartNumbers.{part_number}
-use Rattle.yq_edits.specs.InlineRows.{IsValueNode}
-use Rattle.yq_edits.proofs.CoreLaws.{put_core, recore}
-use Rattle.yq_edits.proofs.InlineReplaceLaws.{deeper_entry, tail_ends_plain}
-use Rattle.yq_edits.proofs.PartLaws.{document_known}
+use Rattle.yq_row_table.{specs.Alone.holds_nothing, specs.Exchange.with_content, specs.Grammar.{IsContent, IsTail, is_entry}}
+use Rattle.yq_row_table.specs.Rows.{Content, content_text, Row, mark_column, parent_indent, rows_text, Cut, cut_text}
+use Rattle.yq_row_table.{specs.Seams.is_block, proofs.NodeExchange.{inline_starts, space_apart}, proofs.splices.PartPlaces.part_ends}
+use Rattle.yq_documents.{specs.Documents.ContentHasFitKeys, specs.PartNumbers.part_number}
+use Rattle.yq_edits.{specs.DocumentRows.behind_document, specs.InlineRows.IsValueNode, proofs.CoreLaws.{put_core, recore}}
+use Rattle.yq_edits.{proofs.InlineReplaceLaws.{deeper_entry, tail_ends_plain}, proofs.PartLaws.document_known}
 use Rattle.yq_edits.proofs.UnderLaws.{line_with, gone_lines}
 use Rattle.yq_edits.proofs.ValueContentLaws.{content_is, content_head, content_named, content_tail, content_keys}
-use Rattle.yq_edits.specs.declared.layout.Layout.{Layout}
-use Rattle.yq_edits.specs.BlockPlaces.{IsAbove}
-use Rattle.yq_edits.specs.BlockRows.{column_below, node_rows}
+use Rattle.yq_edits.{specs.declared.layout.Layout.Layout, specs.BlockPlaces.IsAbove, specs.BlockRows.{column_below, node_rows}}
 use Rattle.yq_edits.specs.BlockValues.{HasNearKeys, IsFilledValue, IsEnd, entry_level, level_at}
-use Rattle.yq_edits.proofs.FitLaws.{anchors_fit, keys_fit, node_fit}
-use Rattle.yq_edits.proofs.LaidRows.{AreLaid}
-use Rattle.yq_edits.proofs.BlockLineLaws.{lines_deeper, node_stands}
-use Rattle.yq_edits.proofs.PlaceLaws.{under_laid}
-use Rattle.yq_edits.proofs.RowLaws.{deeper_laid}
-use Rattle.yq_edit_laws.proofs.ContentRows.{IsContentFor, mark_fit, takes_content, upto_gap}
-use Rattle.yq_edit_laws.proofs.MarkContentLaws.{laid_free}
-use Rattle.yq_edit_laws.proofs.NodeRowLaws.{NodeRows, back_there, entry, limit, near, rest, rows_there}
-use Rattle.yq_edit_laws.proofs.NodeTaken.{TakesNode}
+use Rattle.yq_edits.{proofs.FitLaws.{anchors_fit, keys_fit, node_fit}, proofs.LaidRows.AreLaid}
+use Rattle.yq_edits.{proofs.BlockLineLaws.{lines_deeper, node_stands}, proofs.PlaceLaws.under_laid, proofs.RowLaws.deeper_laid}
+use Rattle.yq_edit_laws.{proofs.ContentRows.{IsContentFor, mark_fit, takes_content, upto_gap}, proofs.MarkContentLaws.laid_free}
+use Rattle.yq_edit_laws.{proofs.NodeRowLaws.{NodeRows, back_there, entry, limit, near, rest, rows_there}, proofs.NodeTaken.TakesNode}
+use Rattle.yq_core.specs.Nodes as inline
+use Rattle.yq_outline.specs.Outline as outline
+use Rattle.yq_row_table.specs.Rows as rows
 
 -- ---- marks
 

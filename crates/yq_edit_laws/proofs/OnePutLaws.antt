@@ -1,17 +1,12 @@
 -- Segments that put one text in the place of another: a value on one line, or a line comment.
-use Rattle.std.proofs.Common.{◌≡◌, ℕ, ◌+◌, Bool, true, false, cond, List, [], ◌∷◌, ◌++◌, length, refl, sym, ap, ◌∙◌, arith, append-nil, append_assoc, length-append}
-use Rattle.std.specs.Prelude.{⊤}
-use Rattle.yq_core.specs.Text.{is_empty}
-use Rattle.yq_core.specs.Tree.{Node}
-use Rattle.yq_core.specs.declared.style.Place.TheVariants.{Block as InBlock}
+use Rattle.std.proofs.Common.{◌≡◌, ℕ, ◌+◌, Bool, true, false, cond, List, [], ◌∷◌, ◌++◌, length, refl, sym, ap, ◌∙◌, arith, append-nil}
+use Rattle.std.{proofs.Common.{append_assoc, length-append}, specs.Prelude.⊤}
+use Rattle.yq_core.{specs.Text.is_empty, specs.Tree.Node, specs.declared.style.Place.TheVariants.Block as InBlock}
 use Rattle.yq_places.specs.Standings.{Held}
-use Rattle.yq_text.specs.Script.{Segment, changes, keep, keep_before, merged, put, put_before, splice_at, splices_at}
-use Rattle.yq_text.specs.Splice.{Splice}
+use Rattle.yq_text.{specs.Script.{Segment, changes, keep, keep_before, merged, put, put_before, splice_at, splices_at}, specs.Splice.Splice}
 use Rattle.yq_text.proofs.TouchLaws.{put_twice}
-use Rattle.yq_edits.specs.CommentEdits.{comment_written}
-use Rattle.yq_edits.specs.ReplaceEdits.{spaced_text}
-use Rattle.yq_edits.specs.RowChanges.{CommentPutsOne, InlinePutsOne, PutsOne, inline_put, takes_white}
-use Rattle.yq_edits.specs.WrittenValues.{value_text}
+use Rattle.yq_edits.{specs.CommentEdits.comment_written, specs.ReplaceEdits.spaced_text}
+use Rattle.yq_edits.{specs.RowChanges.{CommentPutsOne, InlinePutsOne, PutsOne, inline_put, takes_white}, specs.WrittenValues.value_text}
 
 -- ---- segments that exchange no bytes
 

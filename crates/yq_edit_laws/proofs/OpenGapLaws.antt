@@ -1,21 +1,13 @@
 -- A gap without a final break, with one behind it: it is a gap before any text, and ends in the same comment.
-use Rattle.std.proofs.Common.{◌≡◌, ◌&&◌, inl, inr, eqb, List, [], ◌∷◌, ◌++◌, ℕ, is_some, true, false, cond, refl, sym, ap, ◌∙◌, subst, append_assoc, append-nil, ⊎_elim, rules}
-use Rattle.std.proofs.lemmas.Bool.{false≢true}
-use Rattle.yq_core.specs.BlockWritten.{break_text}
-use Rattle.yq_core.specs.Characters.{pairs_returns}
-use Rattle.yq_core.specs.Text.{front, is_empty, joined, past_white, with_first}
-use Rattle.yq_core.specs.declared.block_types.Break.{Break}
+use Rattle.std.proofs.Common.{◌≡◌, ◌&&◌, inl, inr, eqb, List, [], ◌∷◌, ◌++◌, ℕ, is_some, true, false, cond, refl, sym, ap, ◌∙◌, subst}
+use Rattle.std.{proofs.Common.{append_assoc, append-nil, ⊎_elim, rules}, proofs.lemmas.Bool.false≢true}
+use Rattle.yq_core.{specs.BlockWritten.break_text, specs.Characters.pairs_returns}
+use Rattle.yq_core.{specs.Text.{front, is_empty, joined, past_white, with_first}, specs.declared.block_types.Break.Break}
 use Rattle.yq_outline.specs.Comments.{comment_text, are_comments, last_comments, head_comment}
-use Rattle.yq_row_table.specs.Gap.{IsComment, IsGapLine, AreGapLines, IsGap}
-use Rattle.yq_row_table.proofs.CharacterLaws.{pairs_back}
-use Rattle.yq_row_table.proofs.NothingLaws.{line_end_other}
-use Rattle.yq_row_table.proofs.seams.GapFronts.{gap_lines}
-use Rattle.yq_row_table.proofs.GapLaws.{some_more}
-use Rattle.yq_edits.proofs.EndLaws.{comment_is}
-use Rattle.yq_edits.specs.ClosedTexts.{is_closed_text}
-use Rattle.yq_edits.proofs.BreakLaws.{break_is as break_kind}
-use Rattle.yq_edits.proofs.BrokenTails.{comment_other}
-use Rattle.yq_edits.proofs.CommentReadLaws.{break_is}
+use Rattle.yq_row_table.{specs.Gap.{IsComment, IsGapLine, AreGapLines, IsGap}, proofs.CharacterLaws.pairs_back}
+use Rattle.yq_row_table.{proofs.NothingLaws.line_end_other, proofs.seams.GapFronts.gap_lines, proofs.GapLaws.some_more}
+use Rattle.yq_edits.{proofs.EndLaws.comment_is, specs.ClosedTexts.is_closed_text, proofs.BreakLaws.break_is as break_kind}
+use Rattle.yq_edits.{proofs.BrokenTails.comment_other, proofs.CommentReadLaws.break_is}
 use Rattle.yq_edit_laws.proofs.ClosedTexts.{closed_behind, closed_end}
 
 -- lines, of which the last one gets a break

@@ -1,20 +1,15 @@
 -- A document without rows behind a last marker that has no break: the cut in which the marker gets one has the same documents.
-use Rattle.std.proofs.Common.{◌≡◌, ℕ, zero, suc, ◌≤◌, ◌||◌, not, Bool, true, false, List, [], ◌∷◌, ◌++◌, length, Some, option_map, refl, sym, ap, ◌∙◌, subst, arith, append_assoc, append-nil, rules}
-use Rattle.std.proofs.lemmas.Bool.{false≢true}
+use Rattle.std.proofs.Common.{◌≡◌, ℕ, zero, suc, ◌≤◌, ◌||◌, not, Bool, true, false, List, [], ◌∷◌, ◌++◌, length, Some, option_map, refl}
+use Rattle.std.{proofs.Common.{sym, ap, ◌∙◌, subst, arith, append_assoc, append-nil, rules}, proofs.lemmas.Bool.false≢true}
 use Rattle.std.specs.List.{slice_get}
 use Rattle.yq_core.specs.Text.{is_empty}
-use Rattle.yq_row_table.specs.Appending.{last_marker, with_last_part}
-use Rattle.yq_row_table.specs.Grammar.{IsPart, AreParts, begins_document}
-use Rattle.yq_row_table.specs.Splices.{behind_part, nth_part}
-use Rattle.yq_row_table.specs.Rows.{Part, part_text, Cut, last, marked, cut_text}
-use Rattle.yq_row_table.proofs.PlaceLaws.{part_then}
+use Rattle.yq_row_table.{specs.Appending.{last_marker, with_last_part}, specs.Grammar.{IsPart, AreParts, begins_document}}
+use Rattle.yq_row_table.{specs.Splices.{behind_part, nth_part}, specs.Rows.{Part, part_text, Cut, last, marked, cut_text}}
+use Rattle.yq_row_table.{proofs.PlaceLaws.part_then, specs.Items.{Item, end_item, rows_items, items_of_cut}}
 use Rattle.yq_documents.specs.Documents.{begins_bare, has_begin, with_part, parts_from, document_parts}
 use Rattle.yq_documents.specs.PartNumbers.{number_from, part_number}
-use Rattle.yq_places.specs.PlacedRows.{PlacedPart, before_part, placed_at, placed_document}
-use Rattle.yq_places.proofs.PlacedPartLaws.{part_stands}
-use Rattle.yq_edits.specs.Changed.{put_document, put_part}
-use Rattle.yq_row_table.specs.Items.{Item, end_item, rows_items, items_of_cut}
-use Rattle.yq_edits.proofs.DocumentItemLaws.{rows_before}
+use Rattle.yq_places.{specs.PlacedRows.{PlacedPart, before_part, placed_at, placed_document}, proofs.PlacedPartLaws.part_stands}
+use Rattle.yq_edits.{specs.Changed.{put_document, put_part}, proofs.DocumentItemLaws.rows_before}
 
 -- a document behind a text with a break more, at the end of a text
 abbrev pub broken_before : List ℕ → PlacedPart → PlacedPart

@@ -1,67 +1,36 @@
 -- Where the root of a document comes that has no rows, behind a text that doesn't end in a break: on a line of its own, behind a break that comes first.
-use Rattle.std.proofs.Common.{◌≡◌, ◌⊎◌, inl, inr, ℕ, ◌≤◌, List, [], ◌∷◌, ◌++◌, length, Some, true, false, refl, sym, ap, ◌∙◌, subst, arith, append_assoc, append-nil, length-append, rules}
-use Rattle.std.proofs.lemmas.Bool.{false≢true, cond-true, false_from_ne_true, and_parts}
-use Rattle.std.proofs.lemmas.Str.{is_utf8-from_IsUtf8}
-use Rattle.std.specs.List.{list_all}
-use Rattle.std.specs.Str.{chars, is_utf8}
-use Rattle.yq_core.specs.BlockWritten.{break_text}
-use Rattle.yq_core.specs.Characters.{is_text, is_text_char, pairs_returns}
-use Rattle.yq_text.specs.Limit.{text_limit}
-use Rattle.yq_core.specs.Text.{is_empty, is_line}
-use Rattle.yq_core.specs.Tree.{Node}
-use Rattle.yq_core.specs.declared.block_types.Break.{Break}
-use Rattle.yq_core.proofs.Bools.{guard_then}
+use Rattle.std.proofs.Common.{◌≡◌, ◌⊎◌, inl, inr, ℕ, ◌≤◌, List, [], ◌∷◌, ◌++◌, length, Some, true, false, refl, sym, ap, ◌∙◌, subst, arith}
+use Rattle.std.proofs.Common.{append_assoc, append-nil, length-append, rules}
+use Rattle.std.{proofs.lemmas.Bool.{false≢true, cond-true, false_from_ne_true, and_parts}, proofs.lemmas.Str.is_utf8-from_IsUtf8}
+use Rattle.std.{specs.List.list_all, specs.Str.{chars, is_utf8}}
+use Rattle.yq_core.{specs.BlockWritten.break_text, specs.Characters.{is_text, is_text_char, pairs_returns}, specs.Text.{is_empty, is_line}}
+use Rattle.yq_core.{specs.Tree.Node, specs.declared.block_types.Break.Break, proofs.Bools.guard_then}
+use Rattle.yq_text.{specs.Limit.text_limit, specs.Script.{Segment, new_text, kept_front, kept_back}}
 use Rattle.yq_flow_edits.specs.Valued.{IsValueTree}
 use Rattle.yq_outline.specs.Comments.{head_comment}
-use Rattle.yq_row_table.specs.Appending.{last_marker, with_last_part, PartFits}
-use Rattle.yq_row_table.specs.Gap.{IsGap}
-use Rattle.yq_row_table.specs.Grammar.{IsCut}
-use Rattle.yq_row_table.specs.Rows.{Row, Part, part_text, Cut, cut_text}
-use Rattle.yq_row_table.proofs.CharacterLaws.{pairs_back}
-use Rattle.yq_row_table.proofs.splices.MarkerLaws.{marker_appended}
-use Rattle.yq_row_table.proofs.GapLaws.{some_more}
-use Rattle.yq_places.specs.PlacedRows.{PlacedPart}
-use Rattle.yq_documents.specs.Reading.{all_documents, is_document, read_at}
-use Rattle.yq_places.specs.Standings.{NoRows}
-use Rattle.yq_places.specs.RowPaths.{IsReadable}
-use Rattle.yq_documents.proofs.ReadLaws.{text_again, text_takes}
-use Rattle.yq_places.proofs.RemovalLines.{LineSeam}
-use Rattle.yq_edits.specs.declared.layout.Layout.{Layout}
-use Rattle.yq_edits.specs.BlockText.{block_value}
-use Rattle.yq_edits.proofs.LaidRows.{no_gap_here}
-use Rattle.yq_edits.specs.PlacedParts.{StandsAt}
-use Rattle.yq_edits.specs.TextPieces.{IsPiece}
-use Rattle.yq_edits.proofs.PlacedPartLaws.{document_stands_at}
-use Rattle.yq_edits.proofs.TextPieceLaws.{pieces_joined}
-use Rattle.yq_semantics.specs.Operations.{replace}
-use Rattle.yq_edits.specs.ClosedTexts.{is_closed_text}
-use Rattle.yq_edits.specs.Changed.{put_document}
+use Rattle.yq_row_table.{specs.Appending.{last_marker, with_last_part, PartFits}, specs.Gap.IsGap, specs.Grammar.IsCut}
+use Rattle.yq_row_table.{specs.Rows.{Row, Part, part_text, Cut, cut_text}, proofs.CharacterLaws.pairs_back}
+use Rattle.yq_row_table.{proofs.splices.MarkerLaws.marker_appended, proofs.GapLaws.some_more}
 use Rattle.yq_row_table.specs.Items.{Item, end_item, rows_items, items_of_cut, items_text}
-use Rattle.yq_edits.specs.Replaces.{rooted}
 use Rattle.yq_row_table.proofs.ItemLaws.{items_of_text, items_text-append}
-use Rattle.yq_text.specs.Script.{Segment, new_text, kept_front, kept_back}
-use Rattle.yq_edits.specs.Local.{IsLocal}
-use Rattle.yq_edits.specs.ReadsAfter.{ReadsAfter}
-use Rattle.yq_edits.specs.EditLaws.{CarriedOut}
-use Rattle.yq_edits.proofs.ItemsLocal.{last_nothing}
-use Rattle.yq_edits.proofs.LocalLaws.{cut_known}
-use Rattle.yq_edits.proofs.AppendAtEnd.{nothing_tail}
-use Rattle.yq_edits.proofs.AppendEntryLaws.{none_uncommented}
-use Rattle.yq_edit_laws.proofs.FirstRows.{empty_cases}
-use Rattle.yq_edits.proofs.BreakLaws.{break_is as break_kind}
-use Rattle.yq_edit_laws.proofs.ClosedTexts.{closed_behind, closed_end, closed_line, open_some}
-use Rattle.yq_edits.proofs.CommentPieceLaws.{break_piece}
+use Rattle.yq_places.{specs.PlacedRows.PlacedPart, specs.Standings.NoRows, specs.RowPaths.IsReadable, proofs.RemovalLines.LineSeam}
+use Rattle.yq_documents.{specs.Reading.{all_documents, is_document, read_at}, proofs.ReadLaws.{text_again, text_takes}}
+use Rattle.yq_edits.{specs.declared.layout.Layout.Layout, specs.BlockText.block_value, proofs.LaidRows.no_gap_here}
+use Rattle.yq_edits.{specs.PlacedParts.StandsAt, specs.TextPieces.IsPiece, proofs.PlacedPartLaws.document_stands_at}
+use Rattle.yq_edits.{proofs.TextPieceLaws.pieces_joined, specs.ClosedTexts.is_closed_text, specs.Changed.put_document}
+use Rattle.yq_edits.{specs.Replaces.rooted, specs.Local.IsLocal, specs.ReadsAfter.ReadsAfter, specs.EditLaws.CarriedOut}
+use Rattle.yq_edits.{proofs.ItemsLocal.last_nothing, proofs.LocalLaws.cut_known, proofs.AppendAtEnd.nothing_tail}
+use Rattle.yq_edits.{proofs.AppendEntryLaws.none_uncommented, proofs.BreakLaws.break_is as break_kind, proofs.CommentPieceLaws.break_piece}
 use Rattle.yq_edits.proofs.CommentReadLaws.{break_is}
-use Rattle.yq_edit_laws.proofs.OpenGapLaws.{open_gap}
-use Rattle.yq_edit_laws.proofs.OpenMarkerLaws.{broken_before, IsBehindMarker, behind_marker}
-use Rattle.yq_edit_laws.proofs.RootFits.{FitsPart, value_carried}
-use Rattle.yq_edit_laws.proofs.RootLocalLaws.{gap_moves}
-use Rattle.yq_edit_laws.proofs.RootReadLaws.{TakesValue, are, text_is, root_read, root_reads}
-use Rattle.yq_edit_laws.proofs.RootRows.{root_rows, HasRoom}
-use Rattle.yq_edit_laws.proofs.SameDocuments.{same_reads}
-use Rattle.yq_edit_laws.proofs.StandingRoots.{IsUnwrittenRoot}
+use Rattle.yq_semantics.specs.Operations.{replace}
+use Rattle.yq_edit_laws.{proofs.FirstRows.empty_cases, proofs.ClosedTexts.{closed_behind, closed_end, closed_line, open_some}}
+use Rattle.yq_edit_laws.{proofs.OpenGapLaws.open_gap, proofs.OpenMarkerLaws.{broken_before, IsBehindMarker, behind_marker}}
+use Rattle.yq_edit_laws.{proofs.RootFits.{FitsPart, value_carried}, proofs.RootLocalLaws.gap_moves}
+use Rattle.yq_edit_laws.{proofs.RootReadLaws.{TakesValue, are, text_is, root_read, root_reads}, proofs.RootRows.{root_rows, HasRoom}}
+use Rattle.yq_edit_laws.{proofs.SameDocuments.same_reads, proofs.StandingRoots.IsUnwrittenRoot}
+use Rattle.yq_edit_laws.proofs.UnwrittenRootLaws.{long_some, stands, there, cut, gap_is, part_is, seam, pieces, no_rows_there, lead_is}
+use Rattle.yq_edit_laws.proofs.UnwrittenRootLaws.{starts_at, takes_unwritten}
 use Rattle.yq_edit_laws.proofs.UnwrittenRootLaws as unwritten_root
-use Rattle.yq_edit_laws.proofs.UnwrittenRootLaws.{long_some, stands, there, cut, gap_is, part_is, seam, pieces, no_rows_there, lead_is, starts_at, takes_unwritten}
 
 -- rows come behind a gap, at the end of a text
 room_at_end : (gap : List ℕ) → ((x : List ℕ) → is_empty x ≡ false → IsGap gap x) → HasRoom gap [] [] []

@@ -1,16 +1,12 @@
 -- Operations of a plan, the first of them apart.
-use Rattle.std.proofs.Common.{◌≡◌, ℕ, ◌-◌, ◌≤◌, List, [], ◌∷◌, ◌++◌, length, take, drop, slice_index_or, refl, sym, ap, ◌∙◌, subst, take_all, append-nil, arith}
-use Rattle.yq_semantics.specs.Operations.{operation_of, operations_of}
-use Rattle.yq_semantics.specs.declared.op.Op.{Op}
+use Rattle.std.proofs.Common.{◌≡◌, ℕ, ◌-◌, ◌≤◌, List, [], ◌∷◌, ◌++◌, length, take, drop, slice_index_or, refl, sym, ap, ◌∙◌, subst}
+use Rattle.std.proofs.Common.{take_all, append-nil, arith}
+use Rattle.yq_semantics.{specs.Operations.{operation_of, operations_of}, specs.declared.op.Op.Op}
 use Rattle.yq_text.specs.Splice.{Splice}
-use Rattle.yq_edit_laws.specs.Answers.{EditFails}
-use Rattle.yq_edit_laws.specs.Carried.{carried, carry_all}
-use Rattle.yq_edit_laws.specs.Edit.{Edit, unreadable, refuses, gives, edit_after, edit_then}
-use Rattle.yq_edit_laws.specs.Theorems.{IsApplied, IsFitting}
-use Rattle.yq_edit_laws.specs.Valid.{AreServed}
-use Rattle.yq_edit_laws.specs.declared.edit_error.EditError.{EditError}
-use Rattle.yq_edit_laws.proofs.OrderLaws.{behind_both, fails_behind, fails_on}
-use Rattle.yq_edit_laws.proofs.ServeLaws.{fits, others_serve}
+use Rattle.yq_edit_laws.{specs.Answers.EditFails, specs.Carried.{carried, carry_all}}
+use Rattle.yq_edit_laws.{specs.Edit.{Edit, unreadable, refuses, gives, edit_after, edit_then}, specs.Theorems.{IsApplied, IsFitting}}
+use Rattle.yq_edit_laws.{specs.Valid.AreServed, specs.declared.edit_error.EditError.EditError}
+use Rattle.yq_edit_laws.{proofs.OrderLaws.{behind_both, fails_behind, fails_on}, proofs.ServeLaws.{fits, others_serve}}
 
 -- an edit, and then nothing more
 then_nothing : (e : Edit) → edit_then (carry_all []) e ≡ e

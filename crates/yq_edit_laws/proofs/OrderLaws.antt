@@ -1,10 +1,8 @@
 -- Edits one after the other lead from text to text.
 use Rattle.std.proofs.Common.{◌≡◌, inl, inr, ℕ, List, [], ◌∷◌, ◌++◌, refl, sym, ap, ◌∙◌, subst, append_assoc, append-nil}
 use Rattle.yq_text.specs.Splice.{Splice}
-use Rattle.yq_edit_laws.specs.Answers.{EditFails}
-use Rattle.yq_edit_laws.specs.Edit.{Edit, unreadable, refuses, gives, edit_after, edit_then, in_order}
-use Rattle.yq_edit_laws.specs.Theorems.{InOrder, Leading, StopsInOrder}
-use Rattle.yq_edit_laws.specs.declared.edit_error.EditError.{EditError}
+use Rattle.yq_edit_laws.{specs.Answers.EditFails, specs.Edit.{Edit, unreadable, refuses, gives, edit_after, edit_then, in_order}}
+use Rattle.yq_edit_laws.{specs.Theorems.{InOrder, Leading, StopsInOrder}, specs.declared.edit_error.EditError.EditError}
 use Rattle.yq_edit_laws.specs.declared.edit_error.EditError.TheVariants as error
 
 -- what is known of each step, said otherwise

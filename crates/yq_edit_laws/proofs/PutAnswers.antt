@@ -1,42 +1,27 @@
 -- What putting a value into a flow collection comes to, by what the code finds.
-use Rattle.std.proofs.Common.{◌≡◌, ℕ, ◌-◌, List, [], ◌∷◌, ◌++◌, length, take, drop, Option, Some, None, option_map, refl, sym, ap, ◌∙◌, subst, arith, append_assoc, append-nil, length-append}
-use Rattle.std.proofs.Math.Seq.{take-append_seam, drop-append_seam}
-use Rattle.std.proofs.lemmas.Option.{none-some, same_Some}
-use Rattle.std.specs.Prelude.{option_and_then, String, string_bytes}
+use Rattle.std.proofs.Common.{◌≡◌, ℕ, ◌-◌, List, [], ◌∷◌, ◌++◌, length, take, drop, Option, Some, None, option_map, refl, sym, ap, ◌∙◌}
+use Rattle.std.{proofs.Common.{subst, arith, append_assoc, append-nil, length-append}, proofs.Math.Seq.{take-append_seam, drop-append_seam}}
+use Rattle.std.{proofs.lemmas.Option.{none-some, same_Some}, specs.Prelude.{option_and_then, String, string_bytes}}
 use Rattle.std.specs.declared.alloc.Global.{Global}
-use Rattle.yq_core.specs.Paths.{Step}
-use Rattle.yq_core.specs.Tree as tree
-use Rattle.yq_core.specs.declared.style.Place.TheVariants.{Flow as InFlow}
-use Rattle.yq_core.specs.Collections.{CollPieces}
+use Rattle.yq_core.{specs.Paths.Step, specs.declared.style.Place.TheVariants.Flow as InFlow, specs.Collections.CollPieces}
 use Rattle.yq_core.specs.Entries.{EntryPieces, PlacedEntry, entry_pieces_at, item_at, locate_entry, flow_part_at, parts_of, placed_entry_at}
-use Rattle.yq_flow_edits.specs.FlowEdits.{FlowEdit, replacing}
-use Rattle.yq_flow_edits.specs.FlowPlaces.{edit_view, place_edit, replace_place}
+use Rattle.yq_core.{specs.Nodes.{bare, coll, node_text}, specs.Places.{Placed, placed, locate}, specs.Trees.placed_tree}
+use Rattle.yq_core.{specs.NodesWritten.flow_of, proofs.PathLaws.path_places, proofs.TreeLaws.node_tree}
+use Rattle.yq_flow_edits.{specs.FlowEdits.{FlowEdit, replacing}, specs.FlowPlaces.{edit_view, place_edit, replace_place}}
 use Rattle.yq_flow_edits.specs.declared.flow_place.EditPlace.{EditPlace}
-use Rattle.yq_core.specs.Nodes as inline
-use Rattle.yq_core.specs.Nodes.{bare, coll, node_text}
-use Rattle.yq_core.specs.Places.{Placed, placed, locate}
-use Rattle.yq_core.specs.Trees.{placed_tree}
-use Rattle.yq_core.specs.NodesWritten.{flow_of}
-use Rattle.yq_core.proofs.PathLaws.{path_places}
-use Rattle.yq_core.proofs.TreeLaws.{node_tree}
 use Rattle.yq_row_table.specs.Rows.{Cut, cut_text}
-use Rattle.yq_places.specs.FlowViews.{FlowAgrees, behind_anchor, collection_view, placed_collection}
-use Rattle.yq_places.specs.NodesAt.{node_in}
-use Rattle.yq_places.specs.Standings.{FlowPart, flow_standing, last_step}
-use Rattle.yq_places.specs.declared.places.flow_node.FlowHead.{FlowHead}
-use Rattle.yq_edits.specs.FlowParts.{flow_value}
-use Rattle.yq_edits.specs.Replacing.{keeps_scalar}
-use Rattle.yq_edits.specs.WrittenValues.{value_text}
+use Rattle.yq_places.{specs.FlowViews.{FlowAgrees, behind_anchor, collection_view, placed_collection}, specs.NodesAt.node_in}
+use Rattle.yq_places.{specs.Standings.{FlowPart, flow_standing, last_step}, specs.declared.places.flow_node.FlowHead.FlowHead}
+use Rattle.yq_edits.{specs.FlowParts.flow_value, specs.Replacing.keeps_scalar, specs.WrittenValues.value_text}
 use Rattle.yq_edit_laws.specs.EditPlaces.{edit_segments, moved_on}
 use Rattle.yq_edit_laws.specs.PartPuts.{ArePuts, IsPlaceOf, IsWrittenPart, part_put, part_replaced, put_edit}
 use Rattle.yq_edit_laws.specs.declared.put.PartPut.{PartPut}
 use Rattle.yq_edit_laws.proofs.FlowAnswers.{CollFound, edit_lies, edit_moved, entry_found, part_in, segments_at, standing_is}
-use Rattle.yq_edit_laws.proofs.FlowHeads.{replace_found, replaced_within, whole_is}
-use Rattle.yq_edit_laws.proofs.FlowLonger.{edit_more, entry_more}
-use Rattle.yq_edit_laws.proofs.FlowPartNodes.{part_node}
-use Rattle.yq_edit_laws.proofs.FlowPutLaws.{bounds, e, m, there}
-use Rattle.yq_edit_laws.proofs.FlowStandings.{EntryAt}
+use Rattle.yq_edit_laws.{proofs.FlowHeads.{replace_found, replaced_within, whole_is}, proofs.FlowLonger.{edit_more, entry_more}}
+use Rattle.yq_edit_laws.{proofs.FlowPartNodes.part_node, proofs.FlowPutLaws.{bounds, e, m, there}, proofs.FlowStandings.EntryAt}
 use Rattle.yq_edit_laws.proofs.FlowWholeLaws.{StandsBefore, replaced_stands}
+use Rattle.yq_core.specs.Tree as tree
+use Rattle.yq_core.specs.Nodes as inline
 
 -- the parts of a node without its anchor
 core_parts : (q : Placed) → parts_of (behind_anchor q) ≡ parts_of q

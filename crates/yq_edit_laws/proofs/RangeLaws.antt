@@ -1,15 +1,13 @@
 -- The ranges of what segments put touch what stands between two offsets of the text that they make.
-use Rattle.std.proofs.Common.{◌≡◌, ◌⊎◌, inl, inr, ℕ, ◌+◌, ◌<◌, ◌≤◌, Bool, true, false, cond, List, [], ◌∷◌, ◌++◌, length, refl, sym, ap, ◌∙◌, subst, append_assoc, arith}
-use Rattle.std.proofs.lemmas.Bool.{cases_lt, false≢true}
+use Rattle.std.proofs.Common.{◌≡◌, ◌⊎◌, inl, inr, ℕ, ◌+◌, ◌<◌, ◌≤◌, Bool, true, false, cond, List, [], ◌∷◌, ◌++◌, length, refl, sym, ap}
+use Rattle.std.{proofs.Common.{◌∙◌, subst, append_assoc, arith}, proofs.lemmas.Bool.{cases_lt, false≢true}}
 use Rattle.std.proofs.lemmas.List.{append_cancel_left, length-append}
-use Rattle.yq_core.specs.Text.{is_empty, is_feed}
-use Rattle.yq_core.proofs.BlockPieceLaws.{IsLf}
+use Rattle.yq_core.{specs.Text.{is_empty, is_feed}, proofs.BlockPieceLaws.IsLf}
 use Rattle.yq_row_table.proofs.NothingLaws.{some_behind}
 use Rattle.yq_text.specs.Script.{Segment, keep, put, are_kept, extents, from_first, kept_back, kept_front, new_text, swapped_segments}
 use Rattle.yq_text.proofs.KeptSegments.{new_kept, one_kept}
 use Rattle.yq_edit_laws.specs.TouchedRanges.{AreInLines, IsTouched, is_one_line}
-use Rattle.yq_edits.proofs.HeldPieces.{suffix_lf}
-use Rattle.yq_edits.proofs.LocalLaws.{longer_front}
+use Rattle.yq_edits.{proofs.HeldPieces.suffix_lf, proofs.LocalLaws.longer_front}
 
 -- ---- an LF in a part of a line
 

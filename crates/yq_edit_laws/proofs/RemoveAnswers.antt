@@ -1,23 +1,14 @@
 -- What removing from a flow collection comes to, by what the code finds.
 use Rattle.std.proofs.Common.{◌≡◌, ℕ, List, [], length, Option, Some, None, option_map, sym, ap, ◌∙◌, subst, refl}
 use Rattle.std.proofs.lemmas.Option.{none-some, same_Some}
-use Rattle.yq_core.specs.Answers.{◌>>=◌}
-use Rattle.yq_core.specs.Paths.{Step}
-use Rattle.yq_core.specs.Collections.{CollPieces}
-use Rattle.yq_flow_edits.specs.FlowEdits.{FlowEdit}
-use Rattle.yq_flow_edits.specs.FlowPlaces.{PlacedEdit, place_edit, remove_place}
-use Rattle.yq_core.specs.Places.{Placed, placed}
-use Rattle.yq_flow_edits.specs.Removals.{removing}
+use Rattle.yq_core.{specs.Answers.◌>>=◌, specs.Paths.Step, specs.Collections.CollPieces, specs.Places.{Placed, placed}}
+use Rattle.yq_flow_edits.{specs.FlowEdits.FlowEdit, specs.FlowPlaces.{PlacedEdit, place_edit, remove_place}, specs.Removals.removing}
 use Rattle.yq_row_table.specs.Rows.{Cut, cut_text}
-use Rattle.yq_places.specs.FlowViews.{behind_anchor, placed_collection}
-use Rattle.yq_places.specs.Standings.{last_step}
+use Rattle.yq_places.{specs.FlowViews.{behind_anchor, placed_collection}, specs.Standings.last_step}
 use Rattle.yq_places.specs.declared.places.flow_node.FlowHead.{FlowHead}
-use Rattle.yq_edits.specs.Edits.{part_removed}
-use Rattle.yq_edits.specs.FlowParts.{flow_removed, flow_segments}
-use Rattle.yq_edit_laws.specs.EditPlaces.{edit_segments, moved_on}
-use Rattle.yq_edit_laws.proofs.FlowAnswers.{CollFound, EditFound, edit_found}
-use Rattle.yq_edit_laws.proofs.FlowHeads.{remove_found, removed_within, whole_is}
-use Rattle.yq_edit_laws.proofs.FlowLonger.{edit_more, removing_more}
+use Rattle.yq_edits.{specs.Edits.part_removed, specs.FlowParts.{flow_removed, flow_segments}}
+use Rattle.yq_edit_laws.{specs.EditPlaces.{edit_segments, moved_on}, proofs.FlowAnswers.{CollFound, EditFound, edit_found}}
+use Rattle.yq_edit_laws.{proofs.FlowHeads.{remove_found, removed_within, whole_is}, proofs.FlowLonger.{edit_more, removing_more}}
 use Rattle.yq_edit_laws.proofs.FlowRemoveLaws.{bounds, bytes, texts}
 
 core_place : (t : List ℕ) (s : Step) (p : Placed) → remove_place t s (behind_anchor p) ≡ remove_place t s p

@@ -1,38 +1,23 @@
 -- An item or entry that stands in rows can be taken out.
-use Rattle.std.proofs.Common.{◌≡◌, ◌-◌, Bool, true, false, cond, eqb, ℕ, List, [], ◌∷◌, ◌++◌, length, drop, map, Option, Some, None, option_map, option_and_then, refl, ap, ◌∙◌}
-use Rattle.std.proofs.lemmas.Bool.{cond-true, cond-false}
-use Rattle.std.specs.List.{slice_get}
-use Rattle.std.specs.Option.{option_or}
-use Rattle.yq_core.specs.Answers.{◌>>=◌}
-use Rattle.yq_core.specs.Paths.{Step}
-use Rattle.yq_outline.specs.Ends.{found_line, line_at_steps, lines_end}
-use Rattle.yq_outline.specs.Group.{group}
-use Rattle.yq_outline.specs.Outline.{Line, flatten}
-use Rattle.yq_outline.specs.Places.{FoundLine, find, lines_after, lines_before}
+use Rattle.std.proofs.Common.{◌≡◌, ◌-◌, Bool, true, false, cond, eqb, ℕ, List, [], ◌∷◌, ◌++◌, length, drop, map, Option, Some, None}
+use Rattle.std.{proofs.Common.{option_map, option_and_then, refl, ap, ◌∙◌}, proofs.lemmas.Bool.{cond-true, cond-false}}
+use Rattle.std.{specs.List.slice_get, specs.Option.option_or}
+use Rattle.yq_core.{specs.Answers.◌>>=◌, specs.Paths.Step}
+use Rattle.yq_outline.{specs.Ends.{found_line, line_at_steps, lines_end}, specs.Group.group, specs.Outline.{Line, flatten}}
+use Rattle.yq_outline.{specs.Places.{FoundLine, find, lines_after, lines_before}, specs.Lines.lines_of_rows}
 use Rattle.yq_row_table.specs.Rows.{Part, Cut, cut_text}
-use Rattle.yq_documents.specs.declared.path.Part.TheVariants.{Entry}
-use Rattle.yq_outline.specs.Lines.{lines_of_rows}
-use Rattle.yq_documents.specs.Pieces.{TextPiece}
-use Rattle.yq_documents.specs.Reading.{read_at}
+use Rattle.yq_documents.{specs.declared.path.Part.TheVariants.Entry, specs.Pieces.TextPiece, specs.Reading.read_at}
 use Rattle.yq_documents.specs.LinesInRows.{RowLine, row_line, row_line_of}
 use Rattle.yq_places.specs.FirstPlaces.{first_entry, first_out, first_removal}
 use Rattle.yq_places.specs.PathPieces.{BlockEntry, PrintedDocument, entry_piece, found_entry, piece_in, piece_in_entry, printed_document}
-use Rattle.yq_places.specs.PlacedRows.{PlacedPart}
-use Rattle.yq_places.specs.PrintedLines.{line_in}
+use Rattle.yq_places.{specs.PlacedRows.PlacedPart, specs.PrintedLines.line_in}
 use Rattle.yq_places.specs.RemovalPlaces.{OwnRows, in_three, own_rows, removal_place, row_count, rows_out}
-use Rattle.yq_places.specs.Standings.{RowsOfEntry, rows_of_entry}
-use Rattle.yq_places.proofs.FoundEntries.{entry_there, middle}
-use Rattle.yq_places.proofs.PrintedLaws.{lines_are}
-use Rattle.yq_places.proofs.RowPathLaws.{found_lines}
-use Rattle.yq_places.proofs.DashLineLaws.{row_line_found}
-use Rattle.yq_edits.specs.StandingLaws.{StandsThere}
-use Rattle.yq_edits.proofs.StandingRows.{rows_stand}
+use Rattle.yq_places.{specs.Standings.{RowsOfEntry, rows_of_entry}, proofs.FoundEntries.{entry_there, middle}, proofs.PrintedLaws.lines_are}
+use Rattle.yq_places.{proofs.RowPathLaws.found_lines, proofs.DashLineLaws.row_line_found}
+use Rattle.yq_edits.{specs.StandingLaws.StandsThere, proofs.StandingRows.rows_stand, specs.EntryEdits.one_removed}
+use Rattle.yq_edits.{specs.Removing.rows_removed, specs.RemovingFirst.first_removed}
 use Rattle.yq_text.specs.Script.{Segment}
-use Rattle.yq_edits.specs.EntryEdits.{one_removed}
-use Rattle.yq_edits.specs.Removing.{rows_removed}
-use Rattle.yq_edits.specs.RemovingFirst.{first_removed}
-use Rattle.yq_edit_laws.proofs.PrintedDocuments.{printed_at}
-use Rattle.yq_edit_laws.proofs.StandingExists.{placed_there}
+use Rattle.yq_edit_laws.{proofs.PrintedDocuments.printed_at, proofs.StandingExists.placed_there}
 
 module _ (n : ℕ) (s : Step) (ss : List Step) (c : Cut) (e : RowsOfEntry) (read : read_at (cut_text c) ≡ Some c) (x : StandsThere n s ss c e) where
   abbrev p : Part

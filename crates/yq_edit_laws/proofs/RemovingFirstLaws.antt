@@ -1,31 +1,18 @@
 -- The first of several items or entries of a compact collection taken out of a text, by its segments.
-use Rattle.std.proofs.Common.{◌≡◌, ◌⊎◌, inl, inr, refl, ◌∷◌, [], ℕ, ◌≤◌, true, List, ◌++◌, length, Option, Some, None, option_map, sym, ap, ◌∙◌, subst, append-nil}
-use Rattle.std.proofs.lemmas.Option.{none-some, same_Some}
-use Rattle.yq_text.specs.Limit.{text_limit}
+use Rattle.std.proofs.Common.{◌≡◌, ◌⊎◌, inl, inr, refl, ◌∷◌, [], ℕ, ◌≤◌, true, List, ◌++◌, length, Option, Some, None, option_map, sym, ap}
+use Rattle.std.{proofs.Common.{◌∙◌, subst, append-nil}, proofs.lemmas.Option.{none-some, same_Some}, specs.Option.option_or}
+use Rattle.yq_text.{specs.Limit.text_limit, specs.Script.{Segment, old_text, new_text}}
 use Rattle.yq_core.specs.Paths.{Step}
-use Rattle.std.specs.Option.{option_or}
-use Rattle.yq_row_table.specs.Rows.{Row, Cut, cut_text}
-use Rattle.yq_places.specs.FirstPlaces.{FirstOut, first_removal}
+use Rattle.yq_row_table.{specs.Rows.{Row, Cut, cut_text}, specs.Items.{row_item, rows_items}}
+use Rattle.yq_places.{specs.FirstPlaces.{FirstOut, first_removal}, specs.RemovalPlaces.{Removal, has_others_at, removal_place}}
 use Rattle.yq_documents.specs.Reading.{read_at}
-use Rattle.yq_places.specs.RemovalPlaces.{Removal, has_others_at, removal_place}
-use Rattle.yq_edits.specs.Changed.{put_document}
-use Rattle.yq_row_table.specs.Items.{row_item, rows_items}
-use Rattle.yq_edits.specs.RemovalChanges.{IsTakenOut}
-use Rattle.yq_edits.proofs.DocumentItemLaws.{rows_joined}
-use Rattle.yq_edits.proofs.FirstBreakLaws.{IsOneBreak}
-use Rattle.yq_edits.proofs.FirstOutLaws.{first_stands}
-use Rattle.yq_edits.proofs.FirstRemovalLaws.{IsRowLeft, EndLastRow, first_gone}
-use Rattle.yq_semantics.specs.Operations.{remove}
-use Rattle.yq_text.specs.Script.{Segment, old_text, new_text}
-use Rattle.yq_edits.specs.EditLaws.{IsEdit, OneIsRemoved}
-use Rattle.yq_edits.specs.Removing.{rows_removed}
-use Rattle.yq_edits.specs.RemovingFirst.{first_removed}
-use Rattle.yq_edits.specs.Local.{InLast, IsLocalTo}
-use Rattle.yq_edits.specs.ReadsAfter.{ReadsAfter}
-use Rattle.yq_edits.proofs.LastRows.{gone_last}
-use Rattle.yq_edits.proofs.OneLines.{is_one_line}
-use Rattle.yq_edits.proofs.ItemsLocal.{rows_last}
+use Rattle.yq_edits.{specs.Changed.put_document, specs.RemovalChanges.IsTakenOut, proofs.DocumentItemLaws.rows_joined}
+use Rattle.yq_edits.{proofs.FirstBreakLaws.IsOneBreak, proofs.FirstOutLaws.first_stands}
+use Rattle.yq_edits.{proofs.FirstRemovalLaws.{IsRowLeft, EndLastRow, first_gone}, specs.EditLaws.{IsEdit, OneIsRemoved}}
+use Rattle.yq_edits.{specs.Removing.rows_removed, specs.RemovingFirst.first_removed, specs.Local.{InLast, IsLocalTo}}
+use Rattle.yq_edits.{specs.ReadsAfter.ReadsAfter, proofs.LastRows.gone_last, proofs.OneLines.is_one_line, proofs.ItemsLocal.rows_last}
 use Rattle.yq_edits.proofs.LocalLaws.{cut_known, RowsGiveWay, one_local}
+use Rattle.yq_semantics.specs.Operations.{remove}
 use Rattle.yq_edit_laws.proofs.RemovingLaws.{may_take, rows_out, taken_reads}
 
 removed_old : (x : FirstOut) → old_text (first_removed x) ≡ x.before ++ (x.space ++ (x.entry ++ (x.break ++ (x.indent ++ x.behind))))

@@ -1,47 +1,25 @@
 -- One of several items or entries taken out of a text, by its segments.
-use Rattle.std.proofs.Common.{inl, arith, ◌≡◌, ℕ, ◌-◌, ◌≤◌, Bool, true, false, cond, List, [], ◌∷◌, ◌++◌, length, take, replicate, Option, Some, None, refl, sym, ap, ◌∙◌, subst, append_assoc, append-nil}
-use Rattle.std.proofs.lemmas.List.{take-append-drop, length-append}
-use Rattle.std.proofs.lemmas.Option.{same_Some}
-use Rattle.yq_core.specs.Answers.{◌>>=◌}
-use Rattle.yq_core.specs.Block.{RawLines}
-use Rattle.yq_core.specs.BlockRepair.{is_short, is_outdented_comment, repair}
-use Rattle.yq_text.specs.Limit.{text_limit}
-use Rattle.yq_core.specs.Lines.{is_blank}
-use Rattle.yq_core.specs.Paths.{Step, node_at, remove_child}
-use Rattle.yq_core.specs.Text.{cut, no_white, past_white, upto, joined, text_lines}
-use Rattle.yq_core.specs.Tree.{Node}
-use Rattle.yq_core.proofs.LineLaws.{joined_lines}
+use Rattle.std.proofs.Common.{inl, arith, ◌≡◌, ℕ, ◌-◌, ◌≤◌, Bool, true, false, cond, List, [], ◌∷◌, ◌++◌, length, take, replicate, Option}
+use Rattle.std.proofs.Common.{Some, None, refl, sym, ap, ◌∙◌, subst, append_assoc, append-nil}
+use Rattle.std.{proofs.lemmas.List.{take-append-drop, length-append}, proofs.lemmas.Option.same_Some}
+use Rattle.yq_core.{specs.Answers.◌>>=◌, specs.Block.RawLines, specs.BlockRepair.{is_short, is_outdented_comment, repair}}
+use Rattle.yq_core.{specs.Lines.is_blank, specs.Paths.{Step, node_at, remove_child}}
+use Rattle.yq_core.{specs.Text.{cut, no_white, past_white, upto, joined, text_lines}, specs.Tree.Node, proofs.LineLaws.joined_lines}
 use Rattle.yq_core.specs.Anchors.{names_of}
-use Rattle.yq_row_table.specs.Rows.{Row, print_row, behind_gap, Part, Cut, cut_text}
-use Rattle.yq_row_table.specs.Splices.{first_gap}
-use Rattle.yq_documents.specs.Documents.{Document, document_parts, lead_of}
-use Rattle.yq_documents.specs.Reading.{documents, read_at, root_of}
-use Rattle.yq_places.specs.RemovalPlaces.{kept_gap, Seam, Removal, removal_place, has_several, has_others, has_others_at}
-use Rattle.yq_documents.specs.TreeEdits.{at_end}
-use Rattle.yq_edits.specs.Conditions.{AreSpared}
-use Rattle.yq_edits.specs.RemovalChanges.{mended, MayTakeOut, IsTakenOut}
-use Rattle.yq_edits.proofs.LeadLaws.{block_lead_goes}
-use Rattle.yq_edits.proofs.RemovalChangeLaws.{AreRowsTaken, removal_stands, entry_taken}
-use Rattle.yq_edits.specs.Changed.{put_document}
-use Rattle.yq_edits.specs.Removes.{left_gap, without}
-use Rattle.yq_documents.specs.Pieces.{before_run, last_run}
-use Rattle.yq_documents.proofs.RunLaws.{run_split}
-use Rattle.yq_semantics.specs.Fits.{Fits}
-use Rattle.yq_semantics.specs.Operations.{remove}
-use Rattle.yq_semantics.specs.Rooms.{room_of}
-use Rattle.yq_text.specs.Script.{Segment, keep, put, old_text, new_text, kept_back}
-use Rattle.yq_edits.specs.Done.{IsDone}
-use Rattle.yq_edits.specs.EditLaws.{IsEdit}
-use Rattle.yq_edits.specs.Removing.{put_indent, lines_mended, gap_mended, rows_removed}
-use Rattle.yq_edits.specs.Local.{IsLocal, IsLocalTo}
-use Rattle.yq_edit_laws.specs.TouchedRanges.{LiesInOne}
-use Rattle.yq_edits.specs.ReadsAfter.{ReadsAfter}
+use Rattle.yq_text.{specs.Limit.text_limit, specs.Script.{Segment, keep, put, old_text, new_text, kept_back}}
 use Rattle.yq_text.proofs.KeptSegments.{IsBehind, behind, back_last}
-use Rattle.yq_edit_laws.proofs.GapLaws.{RowsGoOut, out_in_one, out_local}
-use Rattle.yq_edits.proofs.ItemsLocal.{last_within}
-use Rattle.yq_edits.proofs.LocalLaws.{at_row, cut_known}
-use Rattle.yq_edits.proofs.DoneLaws.{document_done, part_of}
-use Rattle.yq_edits.proofs.EditsFitLaws.{not_used}
+use Rattle.yq_row_table.{specs.Rows.{Row, print_row, behind_gap, Part, Cut, cut_text}, specs.Splices.first_gap}
+use Rattle.yq_documents.{specs.Documents.{Document, document_parts, lead_of}, specs.Reading.{documents, read_at, root_of}}
+use Rattle.yq_documents.{specs.TreeEdits.at_end, specs.Pieces.{before_run, last_run}, proofs.RunLaws.run_split}
+use Rattle.yq_places.specs.RemovalPlaces.{kept_gap, Seam, Removal, removal_place, has_several, has_others, has_others_at}
+use Rattle.yq_edits.{specs.Conditions.AreSpared, specs.RemovalChanges.{mended, MayTakeOut, IsTakenOut}, proofs.LeadLaws.block_lead_goes}
+use Rattle.yq_edits.{proofs.RemovalChangeLaws.{AreRowsTaken, removal_stands, entry_taken}, specs.Changed.put_document}
+use Rattle.yq_edits.{specs.Removes.{left_gap, without}, specs.Done.IsDone, specs.EditLaws.IsEdit}
+use Rattle.yq_edits.{specs.Removing.{put_indent, lines_mended, gap_mended, rows_removed}, specs.Local.{IsLocal, IsLocalTo}}
+use Rattle.yq_edits.{specs.ReadsAfter.ReadsAfter, proofs.ItemsLocal.last_within, proofs.LocalLaws.{at_row, cut_known}}
+use Rattle.yq_edits.{proofs.DoneLaws.{document_done, part_of}, proofs.EditsFitLaws.not_used}
+use Rattle.yq_semantics.{specs.Fits.Fits, specs.Operations.remove, specs.Rooms.room_of}
+use Rattle.yq_edit_laws.{specs.TouchedRanges.LiesInOne, proofs.GapLaws.{RowsGoOut, out_in_one, out_local}}
 
 -- ---- segments one behind the other
 

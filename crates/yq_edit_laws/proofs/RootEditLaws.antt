@@ -1,41 +1,22 @@
 -- A value put in the place of a root that is a block collection, or where none is written, carries out its operation.
-use Rattle.std.proofs.Common.{arith, length-append, ◌≡◌, ◌⊎◌, inl, inr, ℕ, ◌≤◌, Bool, true, false, List, [], ◌∷◌, ◌++◌, length, replicate, Some, refl, sym, ap, ◌∙◌, subst, append_assoc, append-nil, rules}
-use Rattle.yq_core.specs.BlockWritten.{break_text}
-use Rattle.yq_text.specs.Limit.{text_limit}
-use Rattle.yq_core.specs.Paths.{Step}
-use Rattle.yq_core.specs.Tree.{Node}
+use Rattle.std.proofs.Common.{arith, length-append, ◌≡◌, ◌⊎◌, inl, inr, ℕ, ◌≤◌, Bool, true, false, List, [], ◌∷◌, ◌++◌, length, replicate}
+use Rattle.std.proofs.Common.{Some, refl, sym, ap, ◌∙◌, subst, append_assoc, append-nil, rules}
+use Rattle.yq_core.{specs.BlockWritten.break_text, specs.Paths.Step, specs.Tree.Node}
+use Rattle.yq_text.{specs.Limit.text_limit, specs.Script.{old_text, new_text}}
 use Rattle.yq_flow_edits.specs.Valued.{IsValueTree}
 use Rattle.yq_row_table.specs.Rows.{behind_gap, behind_indent, print_row, part_text, Cut, cut_text}
 use Rattle.yq_documents.specs.Reading.{documents, read_at}
-use Rattle.yq_places.specs.RowPaths.{IsReadable}
-use Rattle.yq_places.specs.Standings.{BlockRoot, NoRows}
-use Rattle.yq_edits.specs.Replaces.{rooted}
-use Rattle.yq_edits.specs.TextPieces.{IsPiece}
-use Rattle.yq_edits.proofs.FirstBreakLaws.{IsOneBreak}
-use Rattle.yq_edits.proofs.TextPieceLaws.{pieces_joined}
-use Rattle.yq_edits.specs.declared.layout.Layout.{Layout}
-use Rattle.yq_edits.specs.BlockText.{block_value}
-use Rattle.yq_edits.proofs.CharacterLaws.{value_sound}
-use Rattle.yq_semantics.specs.Fits.{Fits}
-use Rattle.yq_semantics.specs.Operations.{replace}
-use Rattle.yq_semantics.specs.Rooms.{room_of}
-use Rattle.yq_text.specs.Script.{old_text, new_text}
-use Rattle.yq_edits.specs.ClosedTexts.{is_closed_text, lines_put_behind}
-use Rattle.yq_edits.specs.EditLaws.{CarriedOut, IsEdit}
-use Rattle.yq_edits.specs.Layouts.{layout_of}
-use Rattle.yq_edits.specs.ReplaceEdits.{no_rows_put, root_put}
-use Rattle.yq_edits.proofs.CommentPieceLaws.{break_piece}
-use Rattle.yq_edits.proofs.LastRows.{lines_local}
-use Rattle.yq_edits.proofs.LayoutLaws.{mapping_least}
-use Rattle.yq_edits.proofs.OneLines.{is_one_line}
-use Rattle.yq_edits.proofs.SegmentLaws.{segments_readable}
+use Rattle.yq_places.{specs.RowPaths.IsReadable, specs.Standings.{BlockRoot, NoRows}}
+use Rattle.yq_edits.{specs.Replaces.rooted, specs.TextPieces.IsPiece, proofs.FirstBreakLaws.IsOneBreak, proofs.TextPieceLaws.pieces_joined}
+use Rattle.yq_edits.{specs.declared.layout.Layout.Layout, specs.BlockText.block_value, proofs.CharacterLaws.value_sound}
+use Rattle.yq_edits.{specs.ClosedTexts.{is_closed_text, lines_put_behind}, specs.EditLaws.{CarriedOut, IsEdit}, specs.Layouts.layout_of}
+use Rattle.yq_edits.{specs.ReplaceEdits.{no_rows_put, root_put}, proofs.CommentPieceLaws.break_piece, proofs.LastRows.lines_local}
+use Rattle.yq_edits.{proofs.LayoutLaws.mapping_least, proofs.OneLines.is_one_line, proofs.SegmentLaws.segments_readable}
+use Rattle.yq_semantics.{specs.Fits.Fits, specs.Operations.replace, specs.Rooms.room_of}
 use Rattle.yq_edit_laws.specs.RootEdits.{NoRowsArePut, RootsArePut}
 use Rattle.yq_edit_laws.proofs.BlockRootLaws.{IsBlockRoot, block_root_at, takes_value, before_piece, last_piece, behind_piece}
-use Rattle.yq_edit_laws.proofs.OpenRootLaws.{open_carried}
-use Rattle.yq_edit_laws.proofs.RootFits.{FitsPart, LocalRoot, fits_part, value_carried}
-use Rattle.yq_edit_laws.proofs.RootLocalLaws.{gap_moves, root_first}
-use Rattle.yq_edit_laws.proofs.RootReadLaws.{are}
-use Rattle.yq_edit_laws.proofs.RootRows.{root_rows}
+use Rattle.yq_edit_laws.{proofs.OpenRootLaws.open_carried, proofs.RootFits.{FitsPart, LocalRoot, fits_part, value_carried}}
+use Rattle.yq_edit_laws.{proofs.RootLocalLaws.{gap_moves, root_first}, proofs.RootReadLaws.are, proofs.RootRows.root_rows}
 use Rattle.yq_edit_laws.proofs.StandingRoots.{IsUnwrittenRoot, has_root, has_no_rows}
 use Rattle.yq_edit_laws.proofs.UnwrittenRootLaws.{stands, whole, pieces, takes_unwritten}
 

@@ -1,33 +1,18 @@
 -- A value that fits as the root of a document: what that says of it, and the text in which it comes there.
-use Rattle.std.proofs.Common.{inl, ◌≡◌, ℕ, ◌≤◌, List, [], ◌++◌, replicate, Some, sym, ◌∙◌, subst}
-use Rattle.std.proofs.lemmas.Option.{same_Some}
+use Rattle.std.{proofs.Common.{inl, ◌≡◌, ℕ, ◌≤◌, List, [], ◌++◌, replicate, Some, sym, ◌∙◌, subst}, proofs.lemmas.Option.same_Some}
 use Rattle.std.specs.List.{slice_get}
-use Rattle.yq_core.specs.Tree.{Node}
+use Rattle.yq_core.{specs.Tree.Node, specs.Anchors.names_of}
 use Rattle.yq_flow_edits.specs.Valued.{IsValueTree}
-use Rattle.yq_core.specs.Anchors.{names_of}
 use Rattle.yq_row_table.specs.Rows.{Row, Part, Cut, cut_text}
-use Rattle.yq_documents.specs.Documents.{document_parts}
-use Rattle.yq_places.specs.PlacedRows.{PlacedPart}
-use Rattle.yq_documents.specs.Reading.{documents, read_at, root_of}
-use Rattle.yq_places.specs.RowPaths.{IsReadable}
-use Rattle.yq_edits.specs.declared.layout.Layout.{Layout}
-use Rattle.yq_edits.specs.BlockText.{block_value}
-use Rattle.yq_edits.specs.BlockValues.{HasNearKeys}
-use Rattle.yq_edits.specs.Changed.{put_document}
-use Rattle.yq_edits.specs.Conditions.{AreSpared}
-use Rattle.yq_edits.specs.Replaces.{rooted}
-use Rattle.yq_edits.specs.SoundRoots.{inner_names, IsNewValue}
-use Rattle.yq_semantics.specs.Fits.{Fits}
-use Rattle.yq_semantics.specs.Operations.{replace}
-use Rattle.yq_semantics.specs.Rooms.{room_of}
+use Rattle.yq_documents.{specs.Documents.document_parts, specs.Reading.{documents, read_at, root_of}}
+use Rattle.yq_places.{specs.PlacedRows.PlacedPart, specs.RowPaths.IsReadable}
+use Rattle.yq_edits.{specs.declared.layout.Layout.Layout, specs.BlockText.block_value, specs.BlockValues.HasNearKeys}
+use Rattle.yq_edits.{specs.Changed.put_document, specs.Conditions.AreSpared, specs.Replaces.rooted}
+use Rattle.yq_edits.{specs.SoundRoots.{inner_names, IsNewValue}, specs.Local.IsLocal, specs.ReadsAfter.ReadsAfter}
+use Rattle.yq_edits.{specs.EditLaws.CarriedOut, proofs.LocalLaws.cut_known, proofs.EditsFitLaws.fits_replace}
+use Rattle.yq_semantics.{specs.Fits.Fits, specs.Operations.replace, specs.Rooms.room_of}
 use Rattle.yq_text.specs.Script.{Segment, new_text}
-use Rattle.yq_edits.specs.Local.{IsLocal}
-use Rattle.yq_edits.specs.ReadsAfter.{ReadsAfter}
-use Rattle.yq_edits.specs.EditLaws.{CarriedOut}
-use Rattle.yq_edits.proofs.LocalLaws.{cut_known}
-use Rattle.yq_edit_laws.proofs.RootRows.{root_rows}
-use Rattle.yq_edits.proofs.EditsFitLaws.{fits_replace}
-use Rattle.yq_edit_laws.proofs.RootReadLaws.{TakesValue, text_is, root_read, root_reads}
+use Rattle.yq_edit_laws.{proofs.RootRows.root_rows, proofs.RootReadLaws.{TakesValue, text_is, root_read, root_reads}}
 
 -- A value may stand in the place of the root of a part.
 pub record FitsPart (v : Node) (p : Part) : Type 0 where

@@ -1,27 +1,17 @@
 -- Rows of a root come in the place of others, or behind the gap of a document that has none: which items they exchange.
 use Rattle.std.proofs.Common.{◌≡◌, ℕ, false, List, [], ◌∷◌, ◌++◌, length, replicate, sym, ap, ◌∙◌, append-nil, arith, rules, Some}
-use Rattle.std.proofs.lemmas.Bool.{false≢true}
-use Rattle.std.proofs.lemmas.List.{length-append}
+use Rattle.std.{proofs.lemmas.Bool.false≢true, proofs.lemmas.List.length-append, specs.List.slice_get}
 use Rattle.yq_core.specs.Tree.{Node}
 use Rattle.yq_flow_edits.specs.Valued.{IsValueTree}
-use Rattle.yq_row_table.specs.Grammar.{no_rows}
-use Rattle.yq_row_table.specs.Rows.{Row, behind_gap, behind_indent, Part, part_text, Cut, cut_text}
-use Rattle.yq_row_table.specs.Splices.{first_gap}
+use Rattle.yq_row_table.{specs.Grammar.no_rows, specs.Rows.{Row, behind_gap, behind_indent, Part, part_text, Cut, cut_text}}
+use Rattle.yq_row_table.{specs.Splices.first_gap, specs.Items.{end_item, rows_items, Item}}
 use Rattle.yq_documents.specs.Documents.{document_parts}
-use Rattle.yq_edits.specs.Changed.{put_document}
-use Rattle.yq_edits.specs.DocumentRows.{behind_document}
-use Rattle.yq_row_table.specs.Items.{end_item, rows_items, Item}
-use Rattle.yq_edits.specs.Replaces.{rooted}
-use Rattle.yq_edits.specs.declared.layout.Layout.{Layout}
-use Rattle.yq_edits.proofs.BlockLineLaws.{node_begun}
+use Rattle.yq_edits.{specs.Changed.put_document, specs.DocumentRows.behind_document, specs.Replaces.rooted}
+use Rattle.yq_edits.{specs.declared.layout.Layout.Layout, proofs.BlockLineLaws.node_begun, specs.Local.{InFirst, IsLocal}}
+use Rattle.yq_edits.{proofs.ItemsLocal.rows_last, proofs.LocalLaws.{above_is, h}, proofs.DocumentItemLaws.rows_before}
 use Rattle.yq_text.specs.Script.{Segment, kept_front, kept_back}
-use Rattle.yq_edits.specs.Local.{InFirst, IsLocal}
-use Rattle.yq_edits.proofs.ItemsLocal.{rows_last}
-use Rattle.yq_edits.proofs.LocalLaws.{above_is, h}
 use Rattle.yq_edit_laws.proofs.RootRows.{lone_row, root_rows}
-use Rattle.yq_edits.proofs.DocumentItemLaws.{rows_before}
 use Rattle.yq_core.specs.Nodes as inline
-use Rattle.std.specs.List.{slice_get}
 
 -- ---- the first row
 

@@ -1,44 +1,23 @@
 -- A value as the root of a document in which that is a block collection, or isn't written: what the text then reads as.
-use Rattle.std.proofs.Common.{Some, ◌≡◌, ℕ, ◌+◌, ◌≤◌, List, [], ◌∷◌, ◌++◌, map, replicate, None, true, false, sym, ap, ◌∙◌, subst, append-nil, rules}
-use Rattle.std.proofs.lemmas.Bool.{false≢true}
-use Rattle.yq_core.specs.Paths.{within}
-use Rattle.yq_core.specs.Tree.{Node, children_of, anchor_of}
-use Rattle.yq_core.specs.Inline.{depth_limit}
+use Rattle.std.proofs.Common.{Some, ◌≡◌, ℕ, ◌+◌, ◌≤◌, List, [], ◌∷◌, ◌++◌, map, replicate, None, true, false, sym, ap, ◌∙◌, subst}
+use Rattle.std.{proofs.Common.{append-nil, rules}, proofs.lemmas.Bool.false≢true}
+use Rattle.yq_core.{specs.Paths.within, specs.Tree.{Node, children_of, anchor_of}, specs.Inline.depth_limit, specs.Anchors.names_of}
 use Rattle.yq_flow_edits.specs.Valued.{IsValueTree}
-use Rattle.yq_core.specs.Anchors.{names_of}
-use Rattle.yq_outline.specs.Comments.{head_comment}
-use Rattle.yq_outline.specs.Outline.{anchored}
-use Rattle.yq_outline.proofs.NodeLaws.{anchored_none}
-use Rattle.yq_row_table.specs.Grammar.{unlimited, AreRows, no_rows}
-use Rattle.yq_row_table.specs.Rows.{Row, rows_text, Part, Cut, cut_text}
-use Rattle.yq_row_table.specs.SpliceFits.{is_after}
-use Rattle.yq_row_table.specs.Splices.{first_gap, marker_before}
-use Rattle.yq_documents.specs.Documents.{Document, document_parts, lead_of}
-use Rattle.yq_documents.specs.TreeEdits.{headed, lead_by, led, replaced_node}
-use Rattle.yq_places.specs.PlacedRows.{PlacedPart}
-use Rattle.yq_documents.specs.Reading as reading
-use Rattle.yq_documents.specs.Reading.{root_of, read_at}
-use Rattle.yq_places.specs.RowPaths.{IsReadable}
-use Rattle.yq_edits.specs.declared.layout.Layout.{Layout}
-use Rattle.yq_edits.specs.BlockText.{block_value}
-use Rattle.yq_edits.specs.BlockValues.{HasNearKeys}
-use Rattle.yq_edits.specs.Changed.{changed as part_changed, IsChanged, KeepsRows, put_document}
-use Rattle.yq_edits.specs.Conditions.{AreSpared}
-use Rattle.yq_edits.specs.DocumentRows.{IsDocumentPart, behind_document}
-use Rattle.yq_documents.specs.PartNumbers.{part_number}
-use Rattle.yq_edits.specs.PlacedParts.{StandsAt}
-use Rattle.yq_edits.specs.Replaces.{TakesRoot, rooted}
-use Rattle.yq_edits.specs.Rooms.{is_block_root, LeadGoes}
-use Rattle.yq_edits.specs.SoundRoots.{inner_names, IsNewValue}
-use Rattle.yq_edits.proofs.AfterLaws.{nth_is}
-use Rattle.yq_edits.proofs.ChangedLaws.{document_put}
-use Rattle.yq_edits.proofs.EditedLaws.{led_same}
-use Rattle.yq_edits.proofs.RootLaws.{root_rows_replaced}
+use Rattle.yq_outline.{specs.Comments.head_comment, specs.Outline.anchored, proofs.NodeLaws.anchored_none}
+use Rattle.yq_row_table.{specs.Grammar.{unlimited, AreRows, no_rows}, specs.Rows.{Row, rows_text, Part, Cut, cut_text}}
+use Rattle.yq_row_table.{specs.SpliceFits.is_after, specs.Splices.{first_gap, marker_before}}
+use Rattle.yq_documents.{specs.Documents.{Document, document_parts, lead_of}, specs.TreeEdits.{headed, lead_by, led, replaced_node}}
+use Rattle.yq_documents.{specs.Reading.{root_of, read_at}, specs.PartNumbers.part_number}
+use Rattle.yq_places.{specs.PlacedRows.PlacedPart, specs.RowPaths.IsReadable}
+use Rattle.yq_edits.{specs.declared.layout.Layout.Layout, specs.BlockText.block_value, specs.BlockValues.HasNearKeys}
+use Rattle.yq_edits.{specs.Changed.{changed as part_changed, IsChanged, KeepsRows, put_document}, specs.Conditions.AreSpared}
+use Rattle.yq_edits.{specs.DocumentRows.{IsDocumentPart, behind_document}, specs.PlacedParts.StandsAt, specs.Replaces.{TakesRoot, rooted}}
+use Rattle.yq_edits.{specs.Rooms.{is_block_root, LeadGoes}, specs.SoundRoots.{inner_names, IsNewValue}, proofs.AfterLaws.nth_is}
+use Rattle.yq_edits.{proofs.ChangedLaws.document_put, proofs.EditedLaws.led_same, proofs.RootLaws.root_rows_replaced}
+use Rattle.yq_edits.{specs.ReadsAfter.ReadsAfter, proofs.DoneLaws.document_done}
 use Rattle.yq_semantics.specs.Operations.{replace}
-use Rattle.yq_edits.specs.ReadsAfter.{ReadsAfter}
-use Rattle.yq_edits.proofs.DoneLaws.{document_done}
-use Rattle.yq_edit_laws.proofs.RootRows.{root_rows, HasRoom, AreRootRows}
-use Rattle.yq_edit_laws.proofs.RootValues.{value_root_rows}
+use Rattle.yq_edit_laws.{proofs.RootRows.{root_rows, HasRoom, AreRootRows}, proofs.RootValues.value_root_rows}
+use Rattle.yq_documents.specs.Reading as reading
 
 block_unnamed : (p : Part) → is_block_root p ≡ true → anchor_of (root_of p) ≡ None
 block_unnamed p h = search (rules, false≢true)

@@ -1,50 +1,27 @@
 -- The rows in which a value is written as a root.
-use Rattle.std.proofs.Common.{◌≡◌, ℕ, zero, suc, eqb, ◌&&◌, ◌+◌, ◌*◌, ◌<◌, ◌≤◌, Bool, true, false, List, [], ◌∷◌, ◌++◌, replicate, Option, Some, None, refl, sym, ap, ◌∙◌, subst, arith, rules}
-use Rattle.std.proofs.Math.Bool.{and-false}
+use Rattle.std.proofs.Common.{◌≡◌, ℕ, zero, suc, eqb, ◌&&◌, ◌+◌, ◌*◌, ◌<◌, ◌≤◌, Bool, true, false, List, [], ◌∷◌, ◌++◌, replicate, Option}
+use Rattle.std.{proofs.Common.{Some, None, refl, sym, ap, ◌∙◌, subst, arith, rules}, proofs.Math.Bool.and-false}
 use Rattle.std.proofs.lemmas.Bool.{false≢true}
-use Rattle.yq_core.specs.Paths.{within}
-use Rattle.yq_core.specs.Piece.{deeper}
-use Rattle.yq_core.specs.Plain.{ends_plain, holds_break}
-use Rattle.yq_core.specs.Text.{is_empty, separates}
-use Rattle.yq_core.specs.Tree as tree
-use Rattle.yq_core.specs.Tree.{Node}
-use Rattle.yq_core.specs.Nodes as inline
-use Rattle.yq_core.specs.Nodes.{node_text}
+use Rattle.yq_core.{specs.Paths.within, specs.Piece.deeper, specs.Plain.{ends_plain, holds_break}, specs.Text.{is_empty, separates}}
+use Rattle.yq_core.{specs.Tree.Node, specs.Nodes.node_text, proofs.NodesWrittenLaws.node_then}
 use Rattle.yq_flow_edits.specs.Valued.{IsValueTree}
-use Rattle.yq_core.proofs.NodesWrittenLaws.{node_then}
-use Rattle.yq_outline.specs.LineAnchors.{HaveOneAnchorEach}
-use Rattle.yq_outline.specs.Comments.{head_comment, line_comment}
-use Rattle.yq_outline.specs.Outline as outline
+use Rattle.yq_outline.{specs.LineAnchors.HaveOneAnchorEach, specs.Comments.{head_comment, line_comment}}
 use Rattle.yq_outline.specs.Outline.{Line, level, rank, LineMark, Outline, end, row, flatten, IsEven, Stands, value}
-use Rattle.yq_outline.proofs.ByRules.{rules_give}
-use Rattle.yq_outline.proofs.NodeLaws.{anchored_none}
-use Rattle.yq_row_table.specs.Gap.{IsGap}
-use Rattle.yq_row_table.specs.Grammar.{is_entry, is_plain_content, IsTail, IsRow, unlimited, AreRows, no_rows, ends_part}
+use Rattle.yq_outline.{proofs.ByRules.rules_give, proofs.NodeLaws.anchored_none, specs.Lines.{mark_line, lines_from, lines_of_rows}}
+use Rattle.yq_row_table.{specs.Gap.IsGap, specs.Grammar.{is_entry, is_plain_content, IsTail, IsRow, unlimited, AreRows, no_rows, ends_part}}
+use Rattle.yq_row_table.{specs.Rows.{Bare, Inline, Row, behind_gap, rows_text}, specs.Splices.{with_first_gap, with_row_gap, first_gap}}
+use Rattle.yq_row_table.{proofs.PlainEnds.{tail_ends, gap_line}, proofs.seams.FrontSeams.behind_row_some, proofs.seams.SeamLaws.part_line}
+use Rattle.yq_documents.{specs.Documents.{HaveFitKeys, HasShortRoot, is_long_plain}, specs.TreeEdits.headed}
+use Rattle.yq_edits.{specs.declared.layout.Layout.Layout, specs.BlockRows.{inline_of, node_rows}, specs.BlockText.block_node}
+use Rattle.yq_edits.{specs.BlockValues.{HasNearKeys, IsFilled, level_at}, proofs.FitLaws.{RowsAreFit, anchors_fit, keys_fit, node_fit}}
+use Rattle.yq_edits.{proofs.LaidRows.{AreLaid, laid_rows, no_gap_here}, proofs.BlockLineLaws.node_stands, proofs.RowLaws.value_laid}
+use Rattle.yq_edits.{proofs.TextLaws.node_spelled, specs.Edited.with_lead, specs.InlineRows.IsValueNode, specs.Siblings.HasEntries}
+use Rattle.yq_edits.{proofs.ContentLaws.{free_alone, alone_even, alone_value}, proofs.EditedLaws.lead_is_above}
+use Rattle.yq_edits.{proofs.NodeLineLaws.low_level, proofs.AppendEntryLaws.rows_gap}
+use Rattle.yq_core.specs.Tree as tree
+use Rattle.yq_core.specs.Nodes as inline
+use Rattle.yq_outline.specs.Outline as outline
 use Rattle.yq_row_table.specs.Rows as rows
-use Rattle.yq_row_table.specs.Rows.{Bare, Inline, Row, behind_gap, rows_text}
-use Rattle.yq_row_table.specs.Splices.{with_first_gap, with_row_gap, first_gap}
-use Rattle.yq_row_table.proofs.PlainEnds.{tail_ends, gap_line}
-use Rattle.yq_row_table.proofs.seams.FrontSeams.{behind_row_some}
-use Rattle.yq_row_table.proofs.seams.SeamLaws.{part_line}
-use Rattle.yq_documents.specs.Documents.{HaveFitKeys, HasShortRoot, is_long_plain}
-use Rattle.yq_outline.specs.Lines.{mark_line, lines_from, lines_of_rows}
-use Rattle.yq_documents.specs.TreeEdits.{headed}
-use Rattle.yq_edits.specs.declared.layout.Layout.{Layout}
-use Rattle.yq_edits.specs.BlockRows.{inline_of, node_rows}
-use Rattle.yq_edits.specs.BlockText.{block_node}
-use Rattle.yq_edits.specs.BlockValues.{HasNearKeys, IsFilled, level_at}
-use Rattle.yq_edits.proofs.FitLaws.{RowsAreFit, anchors_fit, keys_fit, node_fit}
-use Rattle.yq_edits.proofs.LaidRows.{AreLaid, laid_rows, no_gap_here}
-use Rattle.yq_edits.proofs.BlockLineLaws.{node_stands}
-use Rattle.yq_edits.proofs.RowLaws.{value_laid}
-use Rattle.yq_edits.proofs.TextLaws.{node_spelled}
-use Rattle.yq_edits.specs.Edited.{with_lead}
-use Rattle.yq_edits.specs.InlineRows.{IsValueNode}
-use Rattle.yq_edits.specs.Siblings.{HasEntries}
-use Rattle.yq_edits.proofs.ContentLaws.{free_alone, alone_even, alone_value}
-use Rattle.yq_edits.proofs.EditedLaws.{lead_is_above}
-use Rattle.yq_edits.proofs.NodeLineLaws.{low_level}
-use Rattle.yq_edits.proofs.AppendEntryLaws.{rows_gap}
 
 -- a row with an inline node alone
 abbrev pub lone_row : (gap : List ℕ) → ℕ → inline.FlowNode → (end : List ℕ) → Row

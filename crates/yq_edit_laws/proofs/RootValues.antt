@@ -1,22 +1,15 @@
 -- The rows of any value as a root.
 use Rattle.std.proofs.Common.{◌≡◌, ℕ, ◌≤◌, Bool, true, false, cond, List, [], ◌++◌, replicate, Option, refl, arith}
+use Rattle.yq_core.{specs.declared.kind.Kind.Kind, specs.Tree.Node, specs.Writable.can_write, specs.Written.written_scalar}
+use Rattle.yq_core.{specs.NodesWritten.{scalar_text, flow_of, flow_items}, proofs.NodesWrittenLaws.double_when}
+use Rattle.yq_flow_edits.specs.Valued.{IsValueTree}
+use Rattle.yq_edits.{specs.declared.layout.Layout.Layout, specs.BlockText.block_value, specs.BlockValues.HasNearKeys}
+use Rattle.yq_edits.{specs.InlineRows.IsValueNode, proofs.ValueNodes.{scalar_is, list_is, map_is}}
+use Rattle.yq_edit_laws.proofs.RootRows.{root_rows, HasRoom, AreRootRows, block_root_rows, lone_root_rows}
 use Rattle.yq_core.specs.declared.style.Place.TheVariants as places
 use Rattle.yq_core.specs.declared.style.Style.TheVariants as styles
-use Rattle.yq_core.specs.declared.kind.Kind.{Kind}
 use Rattle.yq_core.specs.Tree as tree
-use Rattle.yq_core.specs.Tree.{Node}
-use Rattle.yq_core.specs.Writable.{can_write}
-use Rattle.yq_core.specs.Written.{written_scalar}
 use Rattle.yq_core.specs.Nodes as inline
-use Rattle.yq_flow_edits.specs.Valued.{IsValueTree}
-use Rattle.yq_core.specs.NodesWritten.{scalar_text, flow_of, flow_items}
-use Rattle.yq_core.proofs.NodesWrittenLaws.{double_when}
-use Rattle.yq_edits.specs.declared.layout.Layout.{Layout}
-use Rattle.yq_edits.specs.BlockText.{block_value}
-use Rattle.yq_edits.specs.BlockValues.{HasNearKeys}
-use Rattle.yq_edits.specs.InlineRows.{IsValueNode}
-use Rattle.yq_edit_laws.proofs.RootRows.{root_rows, HasRoom, AreRootRows, block_root_rows, lone_root_rows}
-use Rattle.yq_edits.proofs.ValueNodes.{scalar_is, list_is, map_is}
 
 -- a scalar, plain if it can be
 scalar_node : (a : Option (List ℕ)) (kind : Kind) (t : List ℕ) → IsValueTree (tree.scalar a kind t) → IsValueNode (tree.scalar a kind t) (inline.scalar (scalar_text (record { kind = kind; text = t }) places.Block))

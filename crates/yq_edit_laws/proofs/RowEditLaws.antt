@@ -1,22 +1,15 @@
 -- What operations exchange that change one row.
 use Rattle.std.proofs.Common.{◌≡◌, Bool, true, cond, eqb, eq-eqb, List, [], ◌∷◌, length, Option, Some, None, option_map, refl, sym, ap, ◌∙◌}
-use Rattle.std.proofs.lemmas.Bool.{false≢true}
-use Rattle.std.specs.Option.{option_or}
-use Rattle.yq_core.specs.Answers.{◌>>=◌}
-use Rattle.yq_core.specs.Text.{is_empty}
-use Rattle.yq_core.specs.declared.style.Place.TheVariants.{Block as InBlock}
+use Rattle.std.{proofs.lemmas.Bool.false≢true, specs.Option.option_or}
+use Rattle.yq_core.{specs.Answers.◌>>=◌, specs.Text.is_empty, specs.declared.style.Place.TheVariants.Block as InBlock}
 use Rattle.yq_core.specs.BlockWritten.{break_text}
-use Rattle.yq_row_table.specs.Rows.{Content, Nothing, Inline, Block, cut_text}
-use Rattle.yq_row_table.specs.Seams.{is_block}
-use Rattle.yq_row_table.specs.View.{content_cut}
+use Rattle.yq_row_table.{specs.Rows.{Content, Nothing, Inline, Block, cut_text}, specs.Seams.is_block, specs.View.content_cut}
 use Rattle.yq_places.specs.NodesAt.{node_in}
-use Rattle.yq_places.specs.Standings.{RowsOfEntry, behind_mark, below, beside, compact, compact_in, entry_standing, flow_standing, held, last_step, standing_at}
+use Rattle.yq_places.specs.Standings.{RowsOfEntry, behind_mark, below, beside, compact, compact_in, entry_standing, flow_standing, held}
+use Rattle.yq_places.specs.Standings.{last_step, standing_at}
 use Rattle.yq_text.specs.Script.{Segment, keep}
-use Rattle.yq_edits.specs.CommentEdits.{comment_put, line_comment_put}
-use Rattle.yq_edits.specs.FlowParts.{flow_put}
-use Rattle.yq_edits.specs.Layouts.{layout_of}
-use Rattle.yq_edits.specs.ReplaceEdits.{has_text, held_put, value_put, value_put_at}
-use Rattle.yq_edits.specs.Replacing.{keeps_scalar}
+use Rattle.yq_edits.{specs.CommentEdits.{comment_put, line_comment_put}, specs.FlowParts.flow_put, specs.Layouts.layout_of}
+use Rattle.yq_edits.{specs.ReplaceEdits.{has_text, held_put, value_put, value_put_at}, specs.Replacing.keeps_scalar}
 use Rattle.yq_edits.specs.RowChanges.{CommentEdits, HoldsInline, InlineEdits, RowEdits, inline_put}
 use Rattle.yq_edits.specs.WrittenValues.{collection_at, inline, value_text}
 use Rattle.yq_edit_laws.proofs.OnePutLaws.{comment_puts, inline_puts}

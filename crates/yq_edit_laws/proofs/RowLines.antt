@@ -1,20 +1,15 @@
 -- The lines of a row up to a key or dash, and those behind it.
-use Rattle.std.proofs.Common.{◌≡◌, ℕ, suc, ◌+◌, ◌<◌, true, List, [], ◌∷◌, ◌++◌, length, None, refl, sym, ap, ◌∙◌, subst, arith, append_assoc}
-use Rattle.std.proofs.lemmas.Bool.{false≢true}
+use Rattle.std.proofs.Common.{◌≡◌, ℕ, suc, ◌+◌, ◌<◌, true, List, [], ◌∷◌, ◌++◌, length, None, refl, sym, ap, ◌∙◌, subst, arith}
+use Rattle.std.{proofs.Common.append_assoc, proofs.lemmas.Bool.false≢true}
 use mathlib.Core.List.{head-eq_of_cons-eq}
 use Rattle.yq_core.specs.Text.{upto}
-use Rattle.yq_outline.specs.Comments.{head_comment, line_comment}
-use Rattle.yq_outline.specs.Outline as outline
-use Rattle.yq_outline.specs.Outline.{Line, Outline, flatten}
-use Rattle.yq_row_table.specs.Grammar.{is_entry}
-use Rattle.yq_row_table.specs.Rows as rows
-use Rattle.yq_row_table.specs.Rows.{Content, Nothing, Row, behind_columns}
+use Rattle.yq_outline.{specs.Comments.{head_comment, line_comment}, specs.Outline.{Line, Outline, flatten}}
 use Rattle.yq_outline.specs.Lines.{dash_line, lines_from, mark_line, lines_of_rows}
-use Rattle.yq_edits.specs.Moved.{dash_lines}
-use Rattle.yq_edits.specs.Siblings.{HasEntries, IsEntry}
-use Rattle.yq_edits.proofs.LineLaws.{above_mark}
-use Rattle.yq_edits.proofs.UnderLaws.{line_with, dashes_of, gone_lines}
-use Rattle.yq_edits.specs.BlockPlaces.{IsUpto, at_mark, at_dash}
+use Rattle.yq_row_table.{specs.Grammar.is_entry, specs.Rows.{Content, Nothing, Row, behind_columns}}
+use Rattle.yq_edits.{specs.Moved.dash_lines, specs.Siblings.{HasEntries, IsEntry}, proofs.LineLaws.above_mark}
+use Rattle.yq_edits.{proofs.UnderLaws.{line_with, dashes_of, gone_lines}, specs.BlockPlaces.{IsUpto, at_mark, at_dash}}
+use Rattle.yq_outline.specs.Outline as outline
+use Rattle.yq_row_table.specs.Rows as rows
 
 pub no_comment : line_comment [] ≡ None
 unfolding upto

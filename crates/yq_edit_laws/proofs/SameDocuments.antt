@@ -1,20 +1,13 @@
 -- Two texts with the same parts that are documents: what an operation makes of the one it makes of the other.
-use Rattle.std.proofs.Common.{◌≡◌, ℕ, List, map, sym, ap, ◌∙◌, subst, Some}
-use Rattle.std.specs.List.{slice_get}
+use Rattle.std.{proofs.Common.{◌≡◌, ℕ, List, map, sym, ap, ◌∙◌, subst, Some}, specs.List.slice_get}
 use Rattle.yq_core.specs.Answers.{◌>>=◌}
 use Rattle.yq_row_table.specs.Rows.{Part, Cut, cut_text}
-use Rattle.yq_documents.specs.Documents.{document_parts}
-use Rattle.yq_documents.specs.Reading as reading
-use Rattle.yq_documents.specs.Reading.{documents_of, read_at}
-use Rattle.yq_documents.specs.Ready.{part_is_block}
+use Rattle.yq_documents.{specs.Documents.document_parts, specs.Reading.{documents_of, read_at}, specs.Ready.part_is_block}
 use Rattle.yq_documents.specs.LinesInRows.{row_line_of, row_line_has_room}
-use Rattle.yq_semantics.specs.After.{after_op}
-use Rattle.yq_semantics.specs.Changes.{Room}
-use Rattle.yq_semantics.specs.Operations.{Operation}
-use Rattle.yq_semantics.specs.Rooms.{comment_part, room_of}
+use Rattle.yq_semantics.{specs.After.after_op, specs.Changes.Room, specs.Operations.Operation, specs.Rooms.{comment_part, room_of}}
 use Rattle.yq_semantics.specs.RoomsKept.{LeavesRooms}
-use Rattle.yq_edits.specs.ReadsAfter.{ReadsAfter}
-use Rattle.yq_edits.proofs.DoneLaws.{read_cut}
+use Rattle.yq_edits.{specs.ReadsAfter.ReadsAfter, proofs.DoneLaws.read_cut}
+use Rattle.yq_documents.specs.Reading as reading
 
 -- what documents have room for, by their parts
 abbrev rooms : List Part → ℕ → Room

@@ -1,35 +1,19 @@
 -- What a key or dash holds that has a block scalar: its header's line, and the lines below.
-use Rattle.std.proofs.Common.{◌≡◌, inl, inr, ℕ, cond, List, [], ◌++◌, length, Option, None, Some, true, false, ◌&&◌, ◌||◌, refl, sym, ap, ◌∙◌, subst, append_assoc, append-nil, rules}
-use Rattle.std.proofs.lemmas.Bool.{false≢true, and_parts}
-use Rattle.yq_core.specs.Block.{BlockText, block_text}
-use Rattle.yq_core.specs.Lines.{is_blank, is_hash}
-use Rattle.yq_core.specs.Paths.{Step}
+use Rattle.std.proofs.Common.{◌≡◌, inl, inr, ℕ, cond, List, [], ◌++◌, length, Option, None, Some, true, false, ◌&&◌, ◌||◌, refl, sym, ap}
+use Rattle.std.{proofs.Common.{◌∙◌, subst, append_assoc, append-nil, rules}, proofs.lemmas.Bool.{false≢true, and_parts}}
+use Rattle.yq_core.{specs.Block.{BlockText, block_text}, specs.Lines.{is_blank, is_hash}, specs.Paths.Step}
 use Rattle.yq_core.specs.Text.{front, is_empty, is_line, is_white, past_white, separates}
-use Rattle.yq_outline.specs.Places.{content_under}
-use Rattle.yq_row_table.specs.Exchange.{row_front, with_content}
-use Rattle.yq_row_table.specs.Gap.{IsBreak}
-use Rattle.yq_row_table.specs.Grammar.{IsContent, IsTail}
+use Rattle.yq_core.{specs.declared.block_types.Break.TheVariants.{Lf, CrLf}, specs.Tree.anchor_of}
+use Rattle.yq_outline.{specs.Places.content_under, specs.Lines.{block_anchor, content_anchor}}
+use Rattle.yq_row_table.{specs.Exchange.{row_front, with_content}, specs.Gap.IsBreak, specs.Grammar.{IsContent, IsTail}}
 use Rattle.yq_row_table.specs.Rows.{Anchor, Block, anchor_text, content_text, Row, parent_indent, rows_text, Cut, cut_text}
-use Rattle.yq_row_table.specs.View.{slices}
-use Rattle.yq_row_table.proofs.LineEnds.{comment_none, text_line, white_none}
-use Rattle.yq_outline.specs.Lines.{block_anchor, content_anchor}
-use Rattle.yq_places.specs.CommentPlaces.{LineEnd, end_in_line}
-use Rattle.yq_places.specs.PrintedLines.{last_break, less_break}
-use Rattle.yq_places.specs.RowPieces.{anchor_before, space_before}
-use Rattle.yq_places.specs.Standings.{RowsOfEntry, before_entry, held}
-use Rattle.yq_edits.specs.StandingLaws.{StandsThere}
-use Rattle.yq_edits.specs.TextPieces.{IsPiece}
-use Rattle.yq_edits.specs.ReplaceEdits.{line_break, raw_last}
-use Rattle.yq_edits.proofs.BreakLaws.{IsLfOrCrLf, break_is}
-use Rattle.yq_edits.proofs.CommentPieceLaws.{break_piece}
-use Rattle.yq_edits.proofs.CommentRowLaws.{end_parts}
-use Rattle.yq_core.specs.declared.block_types.Break.TheVariants.{Lf, CrLf}
-use Rattle.yq_core.specs.Tree.{anchor_of}
-use Rattle.yq_edit_laws.proofs.HeadPuts.{apart_there, content_there}
-use Rattle.yq_edit_laws.proofs.HeldKnown.{KnowsHeld}
-use Rattle.yq_edit_laws.proofs.HeldRows.{mark_end, mark_tail}
-use Rattle.yq_edit_laws.proofs.NodeRowLaws.{rest}
-use Rattle.yq_edit_laws.proofs.StandingNodes.{mark_node}
+use Rattle.yq_row_table.{specs.View.slices, proofs.LineEnds.{comment_none, text_line, white_none}}
+use Rattle.yq_places.{specs.CommentPlaces.{LineEnd, end_in_line}, specs.PrintedLines.{last_break, less_break}}
+use Rattle.yq_places.{specs.RowPieces.{anchor_before, space_before}, specs.Standings.{RowsOfEntry, before_entry, held}}
+use Rattle.yq_edits.{specs.StandingLaws.StandsThere, specs.TextPieces.IsPiece, specs.ReplaceEdits.{line_break, raw_last}}
+use Rattle.yq_edits.{proofs.BreakLaws.{IsLfOrCrLf, break_is}, proofs.CommentPieceLaws.break_piece, proofs.CommentRowLaws.end_parts}
+use Rattle.yq_edit_laws.{proofs.HeadPuts.{apart_there, content_there}, proofs.HeldKnown.KnowsHeld, proofs.HeldRows.{mark_end, mark_tail}}
+use Rattle.yq_edit_laws.{proofs.NodeRowLaws.rest, proofs.StandingNodes.mark_node}
 
 -- ---- the break of a header's line
 

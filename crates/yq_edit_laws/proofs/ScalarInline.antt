@@ -1,49 +1,28 @@
 -- A block scalar gives way to a value on one line.
-use Rattle.std.proofs.Common.{◌≡◌, cond, inl, ℕ, ◌≤◌, not, List, [], ◌∷◌, ◌++◌, length, Option, Some, None, false, true, refl, sym, ap, ◌∙◌, subst}
-use Rattle.yq_core.specs.Block.{BlockText, block_text}
-use Rattle.yq_core.specs.BlockWritten.{break_text}
-use Rattle.yq_text.specs.Limit.{text_limit}
-use Rattle.yq_core.specs.Paths.{Step}
-use Rattle.yq_core.specs.Piece.{deeper}
-use Rattle.yq_core.specs.Plain.{ends_plain}
-use Rattle.yq_core.specs.Tree.{Node}
-use Rattle.yq_core.specs.declared.block_types.Break.{Break}
-use Rattle.yq_core.specs.Nodes as inline
-use Rattle.yq_core.specs.Nodes.{node_text, IsFlowNode}
+use Rattle.std.proofs.Common.{◌≡◌, cond, inl, ℕ, ◌≤◌, not, List, [], ◌∷◌, ◌++◌, length, Option, Some, None, false, true, refl, sym, ap, ◌∙◌}
+use Rattle.std.proofs.Common.{subst}
+use Rattle.yq_core.{specs.Block.{BlockText, block_text}, specs.BlockWritten.break_text, specs.Paths.Step, specs.Piece.deeper}
+use Rattle.yq_core.{specs.Plain.ends_plain, specs.Tree.Node, specs.declared.block_types.Break.Break, specs.Nodes.{node_text, IsFlowNode}}
 use Rattle.yq_core.specs.Trees.{node_anchor}
-use Rattle.yq_outline.specs.Comments.{line_comment}
-use Rattle.yq_row_table.specs.Exchange.{row_front, with_content}
-use Rattle.yq_row_table.specs.Grammar.{IsAnchor}
+use Rattle.yq_text.{specs.Limit.text_limit, specs.Script.new_text}
+use Rattle.yq_outline.{specs.Comments.line_comment, specs.Lines.block_anchor}
+use Rattle.yq_row_table.{specs.Exchange.{row_front, with_content}, specs.Grammar.IsAnchor}
 use Rattle.yq_row_table.specs.Rows.{Anchor, Content, Inline, Block, anchor_text, content_text, mark_column, parent_indent, rows_text, Cut}
-use Rattle.yq_row_table.proofs.LineEnds.{none_in_white}
-use Rattle.yq_row_table.proofs.NodeExchange.{space_apart}
-use Rattle.yq_row_table.proofs.PlaceLaws.{row_front-append}
+use Rattle.yq_row_table.{proofs.LineEnds.none_in_white, proofs.NodeExchange.space_apart, proofs.PlaceLaws.row_front-append}
 use Rattle.yq_row_table.proofs.seams.RowSeams.{block_no_space}
-use Rattle.yq_outline.specs.Lines.{block_anchor}
 use Rattle.yq_documents.proofs.RowLineLaws.{tail_is}
 use Rattle.yq_places.specs.Standings.{Held, RowsOfEntry, held}
-use Rattle.yq_edits.specs.InlineRows.{IsValueNode}
-use Rattle.yq_edits.specs.StandingLaws.{StandsThere}
+use Rattle.yq_edits.{specs.InlineRows.IsValueNode, specs.StandingLaws.StandsThere}
 use Rattle.yq_edits.proofs.CoreLaws.{recore, anchored_node, core_anchor, core_bare, core_head, core_keys}
-use Rattle.yq_edits.proofs.InlineReplaceLaws.{deeper_entry}
-use Rattle.yq_edits.proofs.PathTailLaws.{anchor_other}
-use Rattle.yq_edits.proofs.ValueContentLaws.{more_some}
+use Rattle.yq_edits.{proofs.InlineReplaceLaws.deeper_entry, proofs.PathTailLaws.anchor_other, proofs.ValueContentLaws.more_some}
+use Rattle.yq_edits.{specs.EditLaws.CarriedOut, specs.ReplaceEdits.{spaced_text, held_put}, proofs.EditsFitLaws.FitsReplace}
+use Rattle.yq_edits.{proofs.ValueTexts.IsWrittenFor, proofs.StandingMarks.entry_there}
 use Rattle.yq_semantics.specs.Operations.{replace}
-use Rattle.yq_text.specs.Script.{new_text}
-use Rattle.yq_edits.specs.EditLaws.{CarriedOut}
-use Rattle.yq_edits.specs.ReplaceEdits.{spaced_text, held_put}
+use Rattle.yq_edit_laws.{proofs.ContentRows.IsContentFor, proofs.HeadPuts.head_carried, proofs.HeldKnown.KnowsHeld}
+use Rattle.yq_edit_laws.{proofs.HeldTexts.regroup, proofs.NodeRowLaws.{NodeRows, rest}, proofs.NodeValueLaws.end_is}
+use Rattle.yq_edit_laws.{proofs.ScalarHeld.{anchor_is, apart_is, front_text, headed, valid}, proofs.StandingNodes.mark_node}
+use Rattle.yq_core.specs.Nodes as inline
 use Rattle.yq_edits.specs.WrittenValues as written
-use Rattle.yq_edits.proofs.EditsFitLaws.{FitsReplace}
-use Rattle.yq_edits.proofs.ValueTexts.{IsWrittenFor}
-use Rattle.yq_edits.proofs.StandingMarks.{entry_there}
-use Rattle.yq_edit_laws.proofs.ContentRows.{IsContentFor}
-use Rattle.yq_edit_laws.proofs.HeadPuts.{head_carried}
-use Rattle.yq_edit_laws.proofs.HeldKnown.{KnowsHeld}
-use Rattle.yq_edit_laws.proofs.HeldTexts.{regroup}
-use Rattle.yq_edit_laws.proofs.NodeRowLaws.{NodeRows, rest}
-use Rattle.yq_edit_laws.proofs.NodeValueLaws.{end_is}
-use Rattle.yq_edit_laws.proofs.ScalarHeld.{anchor_is, apart_is, front_text, headed, valid}
-use Rattle.yq_edit_laws.proofs.StandingNodes.{mark_node}
 
 -- ---- an inline node behind the anchor of a block scalar
 

@@ -1,56 +1,34 @@
 -- A string takes the place of a block scalar as a literal one: header and lines give way.
-use Rattle.std.proofs.Common.{◌≡◌, ℕ, ◌≤◌, List, [], ◌∷◌, ◌++◌, length, Option, Some, None, true, false, refl, sym, ap, ◌∙◌, subst, append_assoc, append-nil, rules}
-use Rattle.std.proofs.lemmas.Bool.{and_parts}
-use Rattle.std.specs.Str.{IsUtf8}
-use Rattle.yq_core.specs.Block.{BlockText, IsBlock, block_text, ends_block, keeps}
-use Rattle.yq_core.specs.BlockContent.{block_content}
-use Rattle.yq_core.specs.BlockWritten as literal
-use Rattle.yq_core.specs.BlockWritten.{break_text, chomping_of, header_text, written_block}
-use Rattle.yq_text.specs.Limit.{text_limit}
-use Rattle.yq_core.specs.Paths.{Step}
-use Rattle.yq_core.specs.Piece.{deeper}
-use Rattle.yq_core.specs.Scalar.{ScalarText}
-use Rattle.yq_core.specs.Text.{joined, text_lines}
-use Rattle.yq_core.specs.Tree as tree
-use Rattle.yq_core.specs.Tree.{Node}
-use Rattle.yq_core.specs.Writable.{can_write}
-use Rattle.yq_core.specs.declared.block_types.Break.{Break}
-use Rattle.yq_core.specs.declared.kind.Kind.{Kind}
-use Rattle.yq_core.specs.declared.kind.Kind.TheVariants as kinds
-use Rattle.yq_core.specs.declared.style.Place.TheVariants as places
-use Rattle.yq_core.specs.declared.style.Style.TheVariants as styles
-use Rattle.yq_core.proofs.LiteralText.{literal_block, literal_content}
-use Rattle.yq_core.proofs.PlainSpells.{string_kind}
+use Rattle.std.proofs.Common.{◌≡◌, ℕ, ◌≤◌, List, [], ◌∷◌, ◌++◌, length, Option, Some, None, true, false, refl, sym, ap, ◌∙◌, subst}
+use Rattle.std.{proofs.Common.{append_assoc, append-nil, rules}, proofs.lemmas.Bool.and_parts, specs.Str.IsUtf8}
+use Rattle.yq_core.{specs.Block.{BlockText, IsBlock, block_text, ends_block, keeps}, specs.BlockContent.block_content}
+use Rattle.yq_core.{specs.BlockWritten.{break_text, chomping_of, header_text, written_block}, specs.Paths.Step, specs.Piece.deeper}
+use Rattle.yq_core.{specs.Scalar.ScalarText, specs.Text.{joined, text_lines}, specs.Tree.Node, specs.Writable.can_write}
+use Rattle.yq_core.{specs.declared.block_types.Break.Break, specs.declared.kind.Kind.Kind}
+use Rattle.yq_core.{proofs.LiteralText.{literal_block, literal_content}, proofs.PlainSpells.string_kind}
+use Rattle.yq_text.{specs.Limit.text_limit, specs.Script.{Segment, new_text}}
 use Rattle.yq_flow_edits.specs.Valued.{IsValueTree}
-use Rattle.yq_outline.specs.Outline.{Line, anchored, head_or, value}
+use Rattle.yq_outline.{specs.Outline.{Line, anchored, head_or, value}, specs.Lines.{head_of, tail_of}, specs.Comments.line_comment}
 use Rattle.yq_row_table.specs.Exchange.{row_front, with_content}
-use Rattle.yq_row_table.specs.Rows.{Anchor, Content, Block, anchor_text, Row, parent_indent, print_row, rows_text, Cut}
-use Rattle.yq_row_table.specs.View.{slices}
-use Rattle.yq_row_table.proofs.NodeExchange.{space_apart}
-use Rattle.yq_row_table.proofs.PlaceLaws.{row_front-append}
-use Rattle.yq_row_table.proofs.seams.RowSeams.{block_no_space}
-use Rattle.yq_outline.specs.Lines.{head_of, tail_of}
-use Rattle.yq_outline.specs.Comments.{line_comment}
-use Rattle.yq_places.specs.NodesAt.{node_in, scalar_in}
-use Rattle.yq_places.specs.RowPieces.{anchor_before, space_before}
+use Rattle.yq_row_table.{specs.Rows.{Anchor, Content, Block, anchor_text, Row, parent_indent, print_row, rows_text, Cut}, specs.View.slices}
+use Rattle.yq_row_table.{proofs.NodeExchange.space_apart, proofs.PlaceLaws.row_front-append, proofs.seams.RowSeams.block_no_space}
+use Rattle.yq_places.{specs.NodesAt.{node_in, scalar_in}, specs.RowPieces.{anchor_before, space_before}}
 use Rattle.yq_places.specs.Standings.{Held, RowsOfEntry, held}
-use Rattle.yq_edits.specs.StandingLaws.{StandsThere}
-use Rattle.yq_edits.proofs.PathTailLaws.{anchor_other}
-use Rattle.yq_semantics.specs.Operations.{replace}
-use Rattle.yq_text.specs.Script.{Segment, new_text}
-use Rattle.yq_edits.specs.EditLaws.{CarriedOut}
-use Rattle.yq_edits.specs.ReplaceEdits.{has_text, holds_text, literal_put}
-use Rattle.yq_edits.proofs.CommentPieceLaws.{nothing}
+use Rattle.yq_edits.{specs.StandingLaws.StandsThere, proofs.PathTailLaws.anchor_other, specs.EditLaws.CarriedOut}
+use Rattle.yq_edits.{specs.ReplaceEdits.{has_text, holds_text, literal_put}, proofs.CommentPieceLaws.nothing}
 use Rattle.yq_edits.proofs.EditsFitLaws.{FitsReplace}
-use Rattle.yq_edit_laws.proofs.ContentRows.{IsContentFor, takes_content}
-use Rattle.yq_edit_laws.proofs.HeldCarried.{Spells, node_is, put_carried}
-use Rattle.yq_edit_laws.proofs.HeldKnown.{KnowsHeld}
-use Rattle.yq_edit_laws.proofs.HeldTexts.{regroup}
-use Rattle.yq_edit_laws.proofs.LiteralTexts.{header_piece, indent_least, known_text, loose, raw_piece}
-use Rattle.yq_edit_laws.proofs.NodeLeads.{own_space_lead}
+use Rattle.yq_semantics.specs.Operations.{replace}
+use Rattle.yq_edit_laws.{proofs.ContentRows.{IsContentFor, takes_content}, proofs.HeldCarried.{Spells, node_is, put_carried}}
+use Rattle.yq_edit_laws.{proofs.HeldKnown.KnowsHeld, proofs.HeldTexts.regroup}
+use Rattle.yq_edit_laws.{proofs.LiteralTexts.{header_piece, indent_least, known_text, loose, raw_piece}, proofs.NodeLeads.own_space_lead}
 use Rattle.yq_edit_laws.proofs.NodeRowLaws.{NodeRows, line_is, rest}
 use Rattle.yq_edit_laws.proofs.ScalarHeld.{anchor_is, apart_is, front_text, header_line, line_piece, raw_old, row_is, valid}
 use Rattle.yq_edit_laws.proofs.StandingNodes.{behind_is, mark_node}
+use Rattle.yq_core.specs.BlockWritten as literal
+use Rattle.yq_core.specs.Tree as tree
+use Rattle.yq_core.specs.declared.kind.Kind.TheVariants as kinds
+use Rattle.yq_core.specs.declared.style.Place.TheVariants as places
+use Rattle.yq_core.specs.declared.style.Style.TheVariants as styles
 
 -- a scalar that a literal block scalar can write is a string without an anchor
 string_is : (a : Option (List ℕ)) (kind : Kind) (t : List ℕ) → IsValueTree (tree.scalar a kind t) → can_write (record { kind = kind; text = t }) styles.Literal places.Block ≡ true → tree.scalar a kind t ≡ tree.scalar None kinds.Text t

@@ -1,43 +1,26 @@
 -- What is put in the place of a block scalar carries out the replacement.
 use Rattle.std.proofs.Common.{◌≡◌, ℕ, ◌≤◌, ◌&&◌, cond, List, [], ◌∷◌, length, Option, Some, None, Bool, true, false, refl, sym, ◌∙◌}
 use Rattle.std.proofs.lemmas.Bool.{cond_both}
-use Rattle.yq_core.specs.Block.{BlockText}
-use Rattle.yq_core.specs.BlockWritten.{break_text}
-use Rattle.yq_text.specs.Limit.{text_limit}
-use Rattle.yq_core.specs.Paths.{Step}
-use Rattle.yq_core.specs.Scalar.{ScalarText}
-use Rattle.yq_core.specs.Tree as tree
-use Rattle.yq_core.specs.Tree.{Node}
-use Rattle.yq_core.specs.Writable.{can_write, is_string}
-use Rattle.yq_core.specs.Written.{double}
-use Rattle.yq_core.specs.declared.kind.Kind.{Kind}
-use Rattle.yq_core.specs.declared.style.Place.TheVariants as places
-use Rattle.yq_core.specs.declared.style.Style.TheVariants as styles
+use Rattle.yq_core.{specs.Block.BlockText, specs.BlockWritten.break_text, specs.Paths.Step, specs.Scalar.ScalarText, specs.Tree.Node}
+use Rattle.yq_core.{specs.Writable.{can_write, is_string}, specs.Written.double, specs.declared.kind.Kind.Kind}
+use Rattle.yq_text.{specs.Limit.text_limit, specs.Script.{Segment, new_text, old_text}}
 use Rattle.yq_flow_edits.specs.Valued.{IsValueTree}
 use Rattle.yq_row_table.specs.Rows.{Anchor, Block, Cut, cut_text}
-use Rattle.yq_places.specs.NodesAt.{node_in, scalar_in}
-use Rattle.yq_places.specs.Standings as standings
-use Rattle.yq_places.specs.Standings.{Held, RowsOfEntry, held}
-use Rattle.yq_edits.specs.StandingLaws.{StandsThere}
-use Rattle.yq_edits.specs.declared.layout.Layout.{Layout}
-use Rattle.yq_edits.specs.BlockReading.{is_filled}
-use Rattle.yq_edits.specs.BlockRows.{item_column}
-use Rattle.yq_edits.specs.BlockText.{block_value}
-use Rattle.yq_semantics.specs.Operations.{replace}
-use Rattle.yq_text.specs.Script.{Segment, new_text, old_text}
-use Rattle.yq_edits.specs.EditLaws.{CarriedOut, IsEdit}
-use Rattle.yq_edits.specs.Layouts.{layout_of}
+use Rattle.yq_places.{specs.NodesAt.{node_in, scalar_in}, specs.Standings.{Held, RowsOfEntry, held}}
+use Rattle.yq_edits.{specs.StandingLaws.StandsThere, specs.declared.layout.Layout.Layout, specs.BlockReading.is_filled}
+use Rattle.yq_edits.{specs.BlockRows.item_column, specs.BlockText.block_value, specs.EditLaws.{CarriedOut, IsEdit}, specs.Layouts.layout_of}
 use Rattle.yq_edits.specs.ReplaceEdits.{block_put, has_text, held_put, literal_put, block_scalar_put, string_put, value_put}
-use Rattle.yq_edits.specs.WrittenValues.{Written, inline, compact_text, lines, collection_at, column_under, lines_in, takes_compact, value_text, written_at}
-use Rattle.yq_edits.proofs.EditsFitLaws.{FitsReplace, fits_replace}
+use Rattle.yq_edits.specs.WrittenValues.{Written, inline, compact_text, lines, collection_at, column_under, lines_in, takes_compact}
+use Rattle.yq_edits.{specs.WrittenValues.{value_text, written_at}, proofs.EditsFitLaws.{FitsReplace, fits_replace}}
 use Rattle.yq_edits.proofs.ValueTexts.{scalar_for, value_for}
-use Rattle.yq_edit_laws.proofs.HeldCarried.{held_old}
-use Rattle.yq_edit_laws.proofs.HeldCompact.{held_compact}
-use Rattle.yq_edit_laws.proofs.HeldKnown.{KnowsHeld}
-use Rattle.yq_edit_laws.proofs.ScalarHeld.{raw_old}
-use Rattle.yq_edit_laws.proofs.ScalarInline.{scalar_inline}
-use Rattle.yq_edit_laws.proofs.ScalarLiterals.{raw_literal}
+use Rattle.yq_semantics.specs.Operations.{replace}
+use Rattle.yq_edit_laws.{proofs.HeldCarried.held_old, proofs.HeldCompact.held_compact, proofs.HeldKnown.KnowsHeld}
+use Rattle.yq_edit_laws.{proofs.ScalarHeld.raw_old, proofs.ScalarInline.scalar_inline, proofs.ScalarLiterals.raw_literal}
 use Rattle.yq_edit_laws.proofs.ScalarRows.{raw_rows}
+use Rattle.yq_core.specs.Tree as tree
+use Rattle.yq_core.specs.declared.style.Place.TheVariants as places
+use Rattle.yq_core.specs.declared.style.Style.TheVariants as styles
+use Rattle.yq_places.specs.Standings as standings
 
 module _ (n : ℕ) (s : Step) (ss : List Step) (c : Cut) (e : RowsOfEntry) (there : StandsThere n s ss c e) (last : e.line ≡ length e.row.dashes) (k : KnowsHeld n s ss c e there last)
     (space : List ℕ) (anchor : Option Anchor) (block : BlockText) (content_is : e.row.content ≡ Block space anchor block) where

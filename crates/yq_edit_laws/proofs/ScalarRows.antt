@@ -1,33 +1,17 @@
 -- The lines of a block scalar give way to those of a collection, and its header goes.
 use Rattle.std.proofs.Common.{◌≡◌, inl, ℕ, ◌≤◌, List, [], ◌∷◌, ◌++◌, length, Option, true, refl, sym, ap, ◌∙◌, append_assoc, append-nil}
-use Rattle.yq_core.specs.Block.{BlockText}
-use Rattle.yq_core.specs.BlockWritten.{break_text}
-use Rattle.yq_text.specs.Limit.{text_limit}
-use Rattle.yq_core.specs.Paths.{Step}
-use Rattle.yq_core.specs.Tree.{Node}
+use Rattle.yq_core.{specs.Block.BlockText, specs.BlockWritten.break_text, specs.Paths.Step, specs.Tree.Node}
+use Rattle.yq_text.{specs.Limit.text_limit, specs.Script.{Segment, put, new_text}}
 use Rattle.yq_flow_edits.specs.Valued.{IsValueTree}
 use Rattle.yq_outline.specs.Comments.{line_comment}
-use Rattle.yq_row_table.specs.Grammar.{IsTail}
-use Rattle.yq_row_table.specs.Rows.{Anchor, Block, Cut}
-use Rattle.yq_row_table.specs.View.{slices}
-use Rattle.yq_places.specs.Standings.{Held, RowsOfEntry, held}
-use Rattle.yq_places.proofs.LineEndLaws.{header_tail}
-use Rattle.yq_edits.specs.StandingLaws.{StandsThere}
-use Rattle.yq_edits.proofs.TextPieceLaws.{pieces_joined}
-use Rattle.yq_edits.specs.declared.layout.Layout.{Layout}
-use Rattle.yq_edits.specs.BlockReading.{is_filled}
+use Rattle.yq_row_table.{specs.Grammar.IsTail, specs.Rows.{Anchor, Block, Cut}, specs.View.slices}
+use Rattle.yq_places.{specs.Standings.{Held, RowsOfEntry, held}, proofs.LineEndLaws.header_tail}
+use Rattle.yq_edits.{specs.StandingLaws.StandsThere, proofs.TextPieceLaws.pieces_joined, specs.declared.layout.Layout.Layout}
+use Rattle.yq_edits.{specs.BlockReading.is_filled, specs.EditLaws.CarriedOut, specs.Layouts.layout_of, specs.ReplaceEdits.raw_put}
+use Rattle.yq_edits.{specs.WrittenValues.{column_under, lines_in}, proofs.CommentPieceLaws.{nothing, break_piece}}
+use Rattle.yq_edits.{proofs.CommentReadLaws.break_is, proofs.EditsFitLaws.FitsReplace}
 use Rattle.yq_semantics.specs.Operations.{replace}
-use Rattle.yq_text.specs.Script.{Segment, put, new_text}
-use Rattle.yq_edits.specs.EditLaws.{CarriedOut}
-use Rattle.yq_edits.specs.Layouts.{layout_of}
-use Rattle.yq_edits.specs.ReplaceEdits.{raw_put}
-use Rattle.yq_edits.specs.WrittenValues.{column_under, lines_in}
-use Rattle.yq_edits.proofs.CommentPieceLaws.{nothing, break_piece}
-use Rattle.yq_edits.proofs.CommentReadLaws.{break_is}
-use Rattle.yq_edits.proofs.EditsFitLaws.{FitsReplace}
-use Rattle.yq_edit_laws.proofs.HeldCarried.{put_carried}
-use Rattle.yq_edit_laws.proofs.HeldKnown.{KnowsHeld}
-use Rattle.yq_edit_laws.proofs.HeldLines.{lines_piece, rows_put, rows_spell}
+use Rattle.yq_edit_laws.{proofs.HeldCarried.put_carried, proofs.HeldKnown.KnowsHeld, proofs.HeldLines.{lines_piece, rows_put, rows_spell}}
 use Rattle.yq_edit_laws.proofs.ScalarHeld.{header_line, line_piece, raw_old, tail_is, valid}
 
 module _ (n : ℕ) (s : Step) (ss : List Step) (c : Cut) (e : RowsOfEntry) (there : StandsThere n s ss c e) (last : e.line ≡ length e.row.dashes) (k : KnowsHeld n s ss c e there last)

@@ -1,18 +1,11 @@
 -- Operations that may follow one another are carried out on a text that reads.
 use Rattle.std.proofs.Common.{◌≡◌, inl, inr, ℕ, List, [], ◌∷◌, refl, subst}
-use Rattle.yq_documents.specs.Documents.{Document, ReadsDocuments}
-use Rattle.yq_documents.proofs.ReadLaws.{one_reading}
-use Rattle.yq_semantics.specs.After.{after_op, all_after}
-use Rattle.yq_semantics.specs.Operations.{Operation}
-use Rattle.yq_semantics.specs.Rooms.{room_of}
-use Rattle.yq_semantics.specs.RoomsKept.{LeavesRooms}
-use Rattle.yq_semantics.specs.declared.refusal.Refusal.TheVariants.{TooLarge}
-use Rattle.yq_semantics.proofs.updates.AlikeRooms.{rest_follow, rest_after}
+use Rattle.yq_documents.{specs.Documents.{Document, ReadsDocuments}, proofs.ReadLaws.one_reading}
+use Rattle.yq_semantics.{specs.After.{after_op, all_after}, specs.Operations.Operation, specs.Rooms.room_of, specs.RoomsKept.LeavesRooms}
+use Rattle.yq_semantics.{specs.declared.refusal.Refusal.TheVariants.TooLarge, proofs.updates.AlikeRooms.{rest_follow, rest_after}}
 use Rattle.yq_text.specs.Splice.{Splice}
-use Rattle.yq_edit_laws.specs.Carried.{carried, carry_all}
-use Rattle.yq_edit_laws.specs.Edit.{Edit, unreadable, refuses, gives, edit_after, edit_then}
-use Rattle.yq_edit_laws.specs.Theorems.{IsFitting, IsApplied, IsLarge, InOrder, StopsInOrder}
-use Rattle.yq_edit_laws.specs.Valid.{Serves}
+use Rattle.yq_edit_laws.{specs.Carried.{carried, carry_all}, specs.Edit.{Edit, unreadable, refuses, gives, edit_after, edit_then}}
+use Rattle.yq_edit_laws.{specs.Theorems.{IsFitting, IsApplied, IsLarge, InOrder, StopsInOrder}, specs.Valid.Serves}
 use Rattle.yq_edit_laws.proofs.ApplyLaws.{OperationComes, operation_comes}
 
 -- what operations come to on a text: one that reads so, in their order; or one of them makes too large a text

@@ -1,42 +1,25 @@
 -- A sole item or entry taken out: an empty collection in the place of its own is what is left of that.
-use Rattle.std.proofs.Common.{◌≡◌, ℕ, zero, suc, ◌+◌, ◌≤◌, cond, ltb, Bool, true, false, List, [], ◌∷◌, ◌++◌, length, Option, Some, None, option_and_then, refl, sym, ap, ◌∙◌, subst, arith, append-nil}
-use Rattle.std.proofs.lemmas.Bool.{le-ltb, ltb-false}
-use Rattle.std.proofs.lemmas.Option.{none-some, same_Some}
-use Rattle.std.specs.List.{list_any, slice_get}
-use Rattle.yq_core.specs.Answers.{◌>>=◌}
-use Rattle.yq_core.specs.Keys.{depth}
+use Rattle.std.proofs.Common.{◌≡◌, ℕ, zero, suc, ◌+◌, ◌≤◌, cond, ltb, Bool, true, false, List, [], ◌∷◌, ◌++◌, length, Option, Some, None}
+use Rattle.std.{proofs.Common.{option_and_then, refl, sym, ap, ◌∙◌, subst, arith, append-nil}, proofs.lemmas.Bool.{le-ltb, ltb-false}}
+use Rattle.std.{proofs.lemmas.Option.{none-some, same_Some}, specs.List.{list_any, slice_get}}
+use Rattle.yq_core.{specs.Answers.◌>>=◌, specs.Keys.depth}
 use Rattle.yq_core.specs.Paths.{Step, changed_at, change_child, child_at, further, is_here, node_at, remove_child, within}
-use Rattle.yq_core.specs.Shapes.{IsTree}
-use Rattle.yq_core.specs.Tree as tree
-use Rattle.yq_core.specs.Tree.{Label, Node, Children, none, child, children_of}
-use Rattle.yq_core.proofs.Bools.{bind_some}
-use Rattle.yq_core.specs.Inline.{depth_limit}
+use Rattle.yq_core.{specs.Shapes.IsTree, specs.Tree.{Label, Node, Children, none, child, children_of}, proofs.Bools.bind_some}
+use Rattle.yq_core.{specs.Inline.depth_limit, specs.Anchors.{Name, names_in, names_of}}
 use Rattle.yq_flow_edits.specs.Valued.{IsValueTree}
-use Rattle.yq_core.specs.Anchors.{Name, names_in, names_of}
 use Rattle.yq_outline.specs.Counts.{count}
 use Rattle.yq_row_table.specs.Rows.{Cut, cut_text}
-use Rattle.yq_documents.specs.Documents.{Document}
-use Rattle.yq_documents.specs.Reading.{documents, documents_of, read_at, root_of}
-use Rattle.yq_places.specs.RemovalPlaces.{has_others_at, has_several}
+use Rattle.yq_documents.{specs.Documents.Document, specs.Reading.{documents, documents_of, read_at, root_of}}
 use Rattle.yq_documents.specs.TreeEdits.{change_nth, led, replaced_node}
-use Rattle.yq_edits.proofs.AfterLaws.{end_is_change}
-use Rattle.yq_edits.proofs.PartLaws.{document_known}
-use Rattle.yq_edits.proofs.SoundRootLaws.{depth_at}
-use Rattle.yq_edits.proofs.RemovalChangeLaws.{take_init}
-use Rattle.yq_semantics.specs.After.{done_to, root_after}
-use Rattle.yq_semantics.specs.Changes.{has_long_key, is_deep, is_used, is_used_in}
-use Rattle.yq_semantics.specs.Fits.{Fits, IsBelow}
-use Rattle.yq_semantics.specs.Operations.{replace, remove}
-use Rattle.yq_semantics.specs.Rooms.{room_of}
-use Rattle.yq_semantics.specs.RoomsKept.{HasSome}
+use Rattle.yq_places.{specs.RemovalPlaces.{has_others_at, has_several}, specs.NodesAt.node_in}
+use Rattle.yq_edits.{proofs.AfterLaws.end_is_change, proofs.PartLaws.document_known, proofs.SoundRootLaws.depth_at}
+use Rattle.yq_edits.{proofs.RemovalChangeLaws.take_init, specs.EditLaws.{IsEdit, SoleIsRemoved}, specs.Edits.empty_collection}
+use Rattle.yq_edits.{specs.ReadsAfter.ReadsAfter, proofs.DoneLaws.read_cut}
+use Rattle.yq_semantics.{specs.After.{done_to, root_after}, specs.Changes.{has_long_key, is_deep, is_used, is_used_in}}
+use Rattle.yq_semantics.{specs.Fits.{Fits, IsBelow}, specs.Operations.{replace, remove}, specs.Rooms.room_of, specs.RoomsKept.HasSome}
 use Rattle.yq_text.specs.Script.{new_text}
-use Rattle.yq_places.specs.NodesAt.{node_in}
-use Rattle.yq_edits.specs.EditLaws.{IsEdit, SoleIsRemoved}
-use Rattle.yq_edits.specs.Edits.{empty_collection}
-use Rattle.yq_edits.specs.ReadsAfter.{ReadsAfter}
-use Rattle.yq_edits.proofs.DoneLaws.{read_cut}
-use Rattle.yq_edit_laws.proofs.FlowSoundLaws.{above_is, last_is}
-use Rattle.yq_edit_laws.proofs.DocumentParts.{part_of}
+use Rattle.yq_edit_laws.{proofs.FlowSoundLaws.{above_is, last_is}, proofs.DocumentParts.part_of}
+use Rattle.yq_core.specs.Tree as tree
 
 -- ---- an empty collection in the place of another
 

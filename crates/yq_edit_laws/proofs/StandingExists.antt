@@ -1,46 +1,26 @@
 -- Where a node is, something stands.
-use Rattle.std.proofs.Common.{◌≡◌, ◌⊎◌, inl, inr, ltb, ℕ, true, false, List, [], ◌∷◌, ◌++◌, length, Option, Some, None, option_map, option_and_then, refl, sym, ap, ◌∙◌}
-use Rattle.std.proofs.lemmas.Option.{none-some, same_Some}
-use Rattle.std.specs.List.{slice_get}
-use Rattle.yq_core.specs.Answers.{◌>>=◌}
-use Rattle.yq_core.specs.Paths.{Step, child_at, node_at}
-use Rattle.yq_core.specs.Tree as tree
-use Rattle.yq_core.specs.Tree.{Node, children_of}
-use Rattle.yq_core.proofs.Bools.{bind_some}
-use Rattle.yq_core.specs.Collections.{CollPieces}
-use Rattle.yq_core.specs.Entries.{EntryPieces, item_at}
-use Rattle.yq_core.specs.Trees.{items_tree}
-use Rattle.yq_outline.specs.Counts.{count}
-use Rattle.yq_outline.specs.Ends.{found_line, line_at_steps}
-use Rattle.yq_outline.specs.Outline.{Line, anchored, children, flatten, value}
+use Rattle.std.proofs.Common.{◌≡◌, ◌⊎◌, inl, inr, ltb, ℕ, true, false, List, [], ◌∷◌, ◌++◌, length, Option, Some, None, option_map}
+use Rattle.std.{proofs.Common.{option_and_then, refl, sym, ap, ◌∙◌}, proofs.lemmas.Option.{none-some, same_Some}, specs.List.slice_get}
+use Rattle.yq_core.{specs.Answers.◌>>=◌, specs.Paths.{Step, child_at, node_at}, specs.Tree.{Node, children_of}, proofs.Bools.bind_some}
+use Rattle.yq_core.{specs.Collections.CollPieces, specs.Entries.{EntryPieces, item_at}, specs.Trees.items_tree}
+use Rattle.yq_outline.{specs.Counts.count, specs.Ends.{found_line, line_at_steps}, specs.Outline.{Line, anchored, children, flatten, value}}
 use Rattle.yq_outline.specs.Places.{FoundLine, content_under, find, find_row, lines_after, lines_before}
-use Rattle.yq_outline.proofs.ChildLaws.{anchored_children}
-use Rattle.yq_outline.proofs.Finding.{row_child}
+use Rattle.yq_outline.{proofs.ChildLaws.anchored_children, proofs.Finding.row_child, specs.Lines.lines_of_rows}
 use Rattle.yq_row_table.specs.Rows.{Part, Cut, cut_text}
-use Rattle.yq_documents.specs.Documents.{Document, document_parts}
-use Rattle.yq_outline.specs.Lines.{lines_of_rows}
-use Rattle.yq_documents.specs.Reading.{documents, part_outline, read_at, root_of}
+use Rattle.yq_documents.{specs.Documents.{Document, document_parts}, specs.Reading.{documents, part_outline, read_at, root_of}}
 use Rattle.yq_documents.specs.LinesInRows.{row_line, row_line_of}
-use Rattle.yq_places.specs.FlowNodes.{find_head}
-use Rattle.yq_places.specs.NodesAt.{node_in}
-use Rattle.yq_places.specs.PlacedRows.{PlacedPart, placed_document}
+use Rattle.yq_places.{specs.FlowNodes.find_head, specs.NodesAt.node_in, specs.PlacedRows.{PlacedPart, placed_document}}
 use Rattle.yq_places.specs.RemovalPlaces.{has_others_at, has_several}
-use Rattle.yq_places.specs.Standings.{FlowPart, RowsOfEntry, entry_rows_at, flow_part, flow_standing, last_step, rows_of_entry, root_standing}
-use Rattle.yq_places.proofs.FoundEntries.{middle}
-use Rattle.yq_places.proofs.PlacedRowLaws.{document_placed, part_of}
-use Rattle.yq_places.proofs.RowPathLaws.{found_lines}
-use Rattle.yq_places.proofs.DashLineLaws.{row_line_found}
-use Rattle.yq_edits.specs.Siblings.{IsCollectionAt, IsEntryAt, NodeLines}
-use Rattle.yq_edits.specs.StandingLaws.{EntriesStand, RootsStand}
-use Rattle.yq_edits.proofs.EditedLaws.{lines_are_there}
-use Rattle.yq_edits.proofs.RemovalChangeLaws.{children-value, take_init}
-use Rattle.yq_edit_laws.proofs.CollectionCases.{collection_cases}
-use Rattle.yq_edit_laws.proofs.DocumentParts as parts
-use Rattle.yq_edit_laws.proofs.DocumentParts.{PartOf}
-use Rattle.yq_edit_laws.proofs.EntryLines.{entry_line, found_at}
-use Rattle.yq_edit_laws.proofs.FlowHeldLines.{flow_there}
-use Rattle.yq_edit_laws.proofs.FlowHeldNodes.{FlowContent, entry_tree, held, item_child}
+use Rattle.yq_places.specs.Standings.{FlowPart, RowsOfEntry, entry_rows_at, flow_part, flow_standing, last_step, rows_of_entry}
+use Rattle.yq_places.{specs.Standings.root_standing, proofs.FoundEntries.middle, proofs.PlacedRowLaws.{document_placed, part_of}}
+use Rattle.yq_places.{proofs.RowPathLaws.found_lines, proofs.DashLineLaws.row_line_found}
+use Rattle.yq_edits.{specs.Siblings.{IsCollectionAt, IsEntryAt, NodeLines}, specs.StandingLaws.{EntriesStand, RootsStand}}
+use Rattle.yq_edits.{proofs.EditedLaws.lines_are_there, proofs.RemovalChangeLaws.{children-value, take_init}}
+use Rattle.yq_edit_laws.{proofs.CollectionCases.collection_cases, proofs.DocumentParts.PartOf, proofs.EntryLines.{entry_line, found_at}}
+use Rattle.yq_edit_laws.{proofs.FlowHeldLines.flow_there, proofs.FlowHeldNodes.{FlowContent, entry_tree, held, item_child}}
 use Rattle.yq_edit_laws.proofs.FlowSoundLaws.{above_is, last_is}
+use Rattle.yq_core.specs.Tree as tree
+use Rattle.yq_edit_laws.proofs.DocumentParts as parts
 
 -- ---- roots
 

@@ -1,13 +1,10 @@
 -- The rows of an item or entry, and the last line of its row.
 use Rattle.std.proofs.Common.{◌≡◌, ℕ, suc, ◌+◌, List, length, sym, ap, ◌∙◌}
 use Rattle.yq_core.specs.Paths.{Step}
-use Rattle.yq_outline.specs.Outline.{flatten}
+use Rattle.yq_outline.{specs.Outline.flatten, specs.Lines.lines_of_rows}
 use Rattle.yq_row_table.specs.Rows.{Cut, Row}
-use Rattle.yq_outline.specs.Lines.{lines_of_rows}
 use Rattle.yq_places.specs.Standings.{RowsOfEntry, behind_entry}
-use Rattle.yq_edits.specs.StandingLaws.{StandsThere}
-use Rattle.yq_edits.proofs.StandingMarks.{behind_there, entry_there}
-use Rattle.yq_edits.specs.BlockPlaces.{IsUpto, at_mark}
+use Rattle.yq_edits.{specs.StandingLaws.StandsThere, proofs.StandingMarks.{behind_there, entry_there}, specs.BlockPlaces.{IsUpto, at_mark}}
 use Rattle.yq_edit_laws.proofs.NodeRowLaws.{NodeRows, rest}
 
 module _ (n : ℕ) (s : Step) (ss : List Step) (c : Cut) (e : RowsOfEntry) (there : StandsThere n s ss c e) where

@@ -4,7 +4,8 @@ use Rattle.std.proofs.lemmas.Bool.{cond_both, false≢true}
 use Rattle.yq_core.specs.Paths.{Step}
 use Rattle.yq_row_table.specs.Rows.{Row, rows_text, Cut}
 use Rattle.yq_places.specs.PlacedRows.{PlacedPart, placed_document}
-use Rattle.yq_places.specs.Standings.{BlockRoot, NoRows, RowsOfEntry, Standing, alone, beside, under, compact, block, root, no_rows, block_root, entry_standing, is_alone, lone, rows_of_entry, root_standing, standing_at}
+use Rattle.yq_places.specs.Standings.{BlockRoot, NoRows, RowsOfEntry, Standing, alone, beside, under, compact, block, root, no_rows}
+use Rattle.yq_places.specs.Standings.{block_root, entry_standing, is_alone, lone, rows_of_entry, root_standing, standing_at}
 use Rattle.yq_places.proofs.PlacedPartLaws.{map_some}
 
 -- whether what stands somewhere is a root that is a block collection, or no rows

@@ -1,13 +1,9 @@
 -- One step more on a path to the line in whose head a node stands goes on in that head.
-use Rattle.std.proofs.Common.{◌≡◌, ◌<◌, List, [], ◌∷◌, ◌++◌, length, Option, Some, None, option_map, ap, ◌∙◌, append_assoc, arith, length-append}
-use Rattle.std.proofs.lemmas.Option.{none-some, same_Some}
-use Rattle.yq_core.specs.Answers.{◌>>=◌}
-use Rattle.yq_core.specs.Paths.{Step}
-use Rattle.yq_core.specs.Tree.{Node}
-use Rattle.yq_outline.specs.Outline.{Outline}
-use Rattle.yq_outline.specs.Places.{FoundLine, find, in_head, place_inside}
-use Rattle.yq_places.specs.FlowNodes.{bare_line, find_head, head_line}
-use Rattle.yq_places.proofs.HeadSteps.{stem_found}
+use Rattle.std.proofs.Common.{◌≡◌, ◌<◌, List, [], ◌∷◌, ◌++◌, length, Option, Some, None, option_map, ap, ◌∙◌, append_assoc, arith}
+use Rattle.std.{proofs.Common.length-append, proofs.lemmas.Option.{none-some, same_Some}}
+use Rattle.yq_core.{specs.Answers.◌>>=◌, specs.Paths.Step, specs.Tree.Node}
+use Rattle.yq_outline.{specs.Outline.Outline, specs.Places.{FoundLine, find, in_head, place_inside}}
+use Rattle.yq_places.{specs.FlowNodes.{bare_line, find_head, head_line}, proofs.HeadSteps.stem_found}
 use Rattle.yq_edit_laws.proofs.EntryLines.{found_at}
 
 abbrev Reached : Type 0

@@ -1,14 +1,10 @@
 -- The items that segments touch are those that they exchange.
-use Rattle.std.proofs.Common.{◌≡◌, ℕ, ◌+◌, ◌-◌, ◌≤◌, ltb, cond, Bool, true, false, List, [], ◌∷◌, ◌++◌, length, refl, sym, ap, ◌∙◌, subst, append_assoc, arith}
-use Rattle.std.proofs.lemmas.Bool.{le-ltb}
-use Rattle.std.proofs.lemmas.List.{length-append}
-use Rattle.yq_row_table.specs.Items.{Item, items_of_cut, items_text}
-use Rattle.yq_row_table.proofs.ItemLaws.{items_text-append}
-use Rattle.yq_row_table.proofs.KeptLaws.{items_apart}
-use Rattle.yq_text.specs.Script.{kept_front, kept_back}
+use Rattle.std.proofs.Common.{◌≡◌, ℕ, ◌+◌, ◌-◌, ◌≤◌, ltb, cond, Bool, true, false, List, [], ◌∷◌, ◌++◌, length, refl, sym, ap, ◌∙◌, subst}
+use Rattle.std.{proofs.Common.{append_assoc, arith}, proofs.lemmas.Bool.le-ltb, proofs.lemmas.List.length-append}
+use Rattle.yq_row_table.{specs.Items.{Item, items_of_cut, items_text}, proofs.ItemLaws.items_text-append, proofs.KeptLaws.items_apart}
 use Rattle.yq_row_table.specs.Touched.{item_text, in_front, in_back}
-use Rattle.yq_edits.specs.Local.{InFirst, InLast, LocalTouches}
-use Rattle.yq_edits.proofs.ItemsLocal.{first_nothing, item_apart}
+use Rattle.yq_text.specs.Script.{kept_front, kept_back}
+use Rattle.yq_edits.{specs.Local.{InFirst, InLast, LocalTouches}, proofs.ItemsLocal.{first_nothing, item_apart}}
 
 -- ---- lengths
 

@@ -1,23 +1,15 @@
 -- Each item that segments write is touched by what they put, where that is near.
-use Rattle.std.proofs.Common.{◌≡◌, ◌⊎◌, inl, inr, ℕ, ◌+◌, ◌≤◌, true, false, List, [], ◌∷◌, ◌++◌, length, Some, sym, ap, ◌∙◌, subst, append_assoc, arith}
+use Rattle.std.proofs.Common.{◌≡◌, ◌⊎◌, inl, inr, ℕ, ◌+◌, ◌≤◌, true, false, List, [], ◌∷◌, ◌++◌, length, Some, sym, ap, ◌∙◌, subst}
+use Rattle.std.{proofs.Common.{append_assoc, arith}, proofs.lemmas.List.length-append, specs.Str.is_utf8}
 use mathlib.Core.List.{head-eq_of_cons-eq, tail-eq_of_cons-eq}
-use Rattle.std.proofs.lemmas.List.{length-append}
-use Rattle.std.specs.Str.{is_utf8}
-use Rattle.yq_core.specs.Text.{is_empty}
-use Rattle.yq_core.proofs.BlockPieceLaws.{IsLf}
-use Rattle.yq_core.proofs.Bools.{guard_then}
-use Rattle.yq_row_table.specs.Grammar.{IsCut}
-use Rattle.yq_row_table.specs.Items.{Item, AreRowItems, items_of_cut, items_text, nothing_asked}
-use Rattle.yq_row_table.specs.Rows.{Cut}
-use Rattle.yq_row_table.specs.Touched.{in_back, in_front, item_text}
-use Rattle.yq_row_table.proofs.ItemLaws.{items_of_text, items_text-append, parts_are_items}
+use Rattle.yq_core.{specs.Text.is_empty, proofs.BlockPieceLaws.IsLf, proofs.Bools.guard_then}
+use Rattle.yq_row_table.{specs.Grammar.IsCut, specs.Items.{Item, AreRowItems, items_of_cut, items_text, nothing_asked}, specs.Rows.Cut}
+use Rattle.yq_row_table.{specs.Touched.{in_back, in_front, item_text}, proofs.ItemLaws.{items_of_text, items_text-append, parts_are_items}}
 use Rattle.yq_row_table.proofs.KeptLaws.{items_apart}
-use Rattle.yq_documents.specs.Reading.{read_at}
-use Rattle.yq_documents.proofs.ReadLaws.{text_takes}
+use Rattle.yq_documents.{specs.Reading.read_at, proofs.ReadLaws.text_takes}
 use Rattle.yq_text.specs.Script.{Segment, are_kept, kept_back, kept_front, new_text}
 use Rattle.yq_edit_laws.specs.TouchedRanges.{AreTouched, IsLocalEdit, IsTouched, LiesInOne, NearAreTouched, put_ranges}
-use Rattle.yq_edit_laws.proofs.ItemEnds.{back_stop, front_stop, items_ended}
-use Rattle.yq_edit_laws.proofs.RangeLaws.{at_first, at_last, from_front}
+use Rattle.yq_edit_laws.{proofs.ItemEnds.{back_stop, front_stop, items_ended}, proofs.RangeLaws.{at_first, at_last, from_front}}
 use Rattle.yq_edit_laws.proofs.TouchLaws.{size_joined, size_one}
 
 text_cut : (t : List ℕ) (c : Cut) → read_at t ≡ Some c → IsCut t c

@@ -1,51 +1,28 @@
 -- Where the root of a document comes that has no rows: in general, and behind a text that ends in a break.
-use Rattle.std.proofs.Common.{◌≡◌, ◌⊎◌, inl, inr, ℕ, zero, suc, ◌≤◌, List, [], ◌∷◌, ◌++◌, length, Some, Bool, true, false, refl, sym, ap, ◌∙◌, subst, arith, append_assoc, append-nil, ⊎_elim, length-append, rules}
-use Rattle.std.proofs.lemmas.List.{nil_from_length}
-use Rattle.std.proofs.lemmas.Bool.{false≢true, or_right, and_parts, or_parts}
-use Rattle.yq_core.specs.BlockWritten.{break_text}
-use Rattle.yq_core.specs.Text.{is_empty, is_feed, is_break, is_line, ends_line, separates, NoneIn, joined}
+use Rattle.std.proofs.Common.{◌≡◌, ◌⊎◌, inl, inr, ℕ, zero, suc, ◌≤◌, List, [], ◌∷◌, ◌++◌, length, Some, Bool, true, false, refl, sym, ap}
+use Rattle.std.proofs.Common.{◌∙◌, subst, arith, append_assoc, append-nil, ⊎_elim, length-append, rules}
+use Rattle.std.{proofs.lemmas.List.nil_from_length, proofs.lemmas.Bool.{false≢true, or_right, and_parts, or_parts}}
+use Rattle.yq_core.{specs.BlockWritten.break_text, specs.Text.{is_empty, is_feed, is_break, is_line, ends_line, separates, NoneIn, joined}}
 use Rattle.yq_core.specs.declared.block_types.Break.{Break}
-use Rattle.yq_core.specs.declared.block_types.Break.TheVariants as breaks
-use Rattle.yq_outline.specs.Comments.{head_comment}
+use Rattle.yq_outline.{specs.Comments.head_comment, specs.Lines.lines_of_rows}
 use Rattle.yq_row_table.specs.Gap.{IsLineEnd, IsGapLine, AreGapLines, IsGap}
 use Rattle.yq_row_table.specs.Grammar.{IsCut, IsMarkerLine, IsTail, unlimited, AreRows, AreParts, begins_document, ends_part}
-use Rattle.yq_row_table.specs.Rows.{rows_text, part_text, Cut, last, marked, cut_text}
-use Rattle.yq_row_table.specs.SpliceFits.{is_after}
-use Rattle.yq_row_table.specs.Splices.{behind_part, first_gap, marker_before, nth_part}
-use Rattle.yq_row_table.proofs.LineEnds.{white_none, comment_none}
-use Rattle.yq_row_table.proofs.seams.SeamLaws.{line_by_break}
-use Rattle.yq_row_table.proofs.NothingLaws.{gap_other, line_end_other}
-use Rattle.yq_row_table.proofs.PlaceLaws.{part_then}
-use Rattle.yq_row_table.proofs.seams.MarkerSeams.{marker_byte, three_lines, after_some}
-use Rattle.yq_row_table.proofs.splices.PartPlaces.{part_ends}
+use Rattle.yq_row_table.{specs.Rows.{rows_text, part_text, Cut, last, marked, cut_text}, specs.SpliceFits.is_after}
+use Rattle.yq_row_table.{specs.Splices.{behind_part, first_gap, marker_before, nth_part}, proofs.LineEnds.{white_none, comment_none}}
+use Rattle.yq_row_table.{proofs.seams.SeamLaws.line_by_break, proofs.NothingLaws.{gap_other, line_end_other}, proofs.PlaceLaws.part_then}
+use Rattle.yq_row_table.{proofs.seams.MarkerSeams.{marker_byte, three_lines, after_some}, proofs.splices.PartPlaces.part_ends}
 use Rattle.yq_row_table.proofs.GapLaws.{some_more}
-use Rattle.yq_edits.proofs.BlockEndLaws.{break_tail}
-use Rattle.yq_edits.proofs.LaidRows.{no_gap_here}
-use Rattle.yq_documents.specs.Documents.{lead_of}
-use Rattle.yq_places.specs.PlacedRows.{PlacedPart, before_part, placed_document}
-use Rattle.yq_documents.specs.Reading.{read_at}
-use Rattle.yq_documents.specs.Ready.{begins_no_node}
-use Rattle.yq_outline.specs.Lines.{lines_of_rows}
-use Rattle.yq_places.specs.Standings.{NoRows}
-use Rattle.yq_places.proofs.CommentPieceLaws.{gap_end}
-use Rattle.yq_places.proofs.PlacedPartLaws.{part_stands}
-use Rattle.yq_places.proofs.RemovalLines.{LineSeam, LiesIn, lies_in, seam_join}
-use Rattle.yq_edits.specs.DocumentRows.{IsDocumentPart}
-use Rattle.yq_documents.specs.PartNumbers.{part_number}
-use Rattle.yq_edits.specs.PlacedParts.{StandsAt}
-use Rattle.yq_edits.specs.Rooms.{is_block_root}
-use Rattle.yq_edits.specs.TextPieces.{IsPiece}
-use Rattle.yq_edits.proofs.PartLaws.{document_known, part_numbered}
-use Rattle.yq_edits.proofs.PlacedPartLaws.{document_stands_at}
-use Rattle.yq_edits.proofs.TextPieceLaws.{text_is_piece}
-use Rattle.yq_edits.proofs.RemovalPieceLaws.{seam_pieces}
-use Rattle.yq_edits.proofs.BlockLineLaws.{break_uncommented}
+use Rattle.yq_edits.{proofs.BlockEndLaws.break_tail, proofs.LaidRows.no_gap_here, specs.DocumentRows.IsDocumentPart}
+use Rattle.yq_edits.{specs.PlacedParts.StandsAt, specs.Rooms.is_block_root, specs.TextPieces.IsPiece}
+use Rattle.yq_edits.{proofs.PartLaws.{document_known, part_numbered}, proofs.PlacedPartLaws.document_stands_at}
+use Rattle.yq_edits.{proofs.TextPieceLaws.text_is_piece, proofs.RemovalPieceLaws.seam_pieces, proofs.BlockLineLaws.break_uncommented}
 use Rattle.yq_edits.specs.ClosedTexts.{is_closed_text}
-use Rattle.yq_edit_laws.proofs.FirstRows.{empty_cases}
-use Rattle.yq_edit_laws.proofs.ClosedTexts.{closed_behind}
-use Rattle.yq_edit_laws.proofs.RootReadLaws.{TakesValue}
-use Rattle.yq_edit_laws.proofs.RootRows.{HasRoom}
-use Rattle.yq_edit_laws.proofs.StandingRoots.{IsUnwrittenRoot}
+use Rattle.yq_documents.{specs.Documents.lead_of, specs.Reading.read_at, specs.Ready.begins_no_node, specs.PartNumbers.part_number}
+use Rattle.yq_places.{specs.PlacedRows.{PlacedPart, before_part, placed_document}, specs.Standings.NoRows, proofs.CommentPieceLaws.gap_end}
+use Rattle.yq_places.{proofs.PlacedPartLaws.part_stands, proofs.RemovalLines.{LineSeam, LiesIn, lies_in, seam_join}}
+use Rattle.yq_edit_laws.{proofs.FirstRows.empty_cases, proofs.ClosedTexts.closed_behind, proofs.RootReadLaws.TakesValue}
+use Rattle.yq_edit_laws.{proofs.RootRows.HasRoom, proofs.StandingRoots.IsUnwrittenRoot}
+use Rattle.yq_core.specs.declared.block_types.Break.TheVariants as breaks
 
 -- ---- texts that end in a break
 

@@ -1,36 +1,24 @@
 -- An update that is planned on the documents of a text and carried out.
-use Rattle.std.proofs.Common.{◌≡◌, ◌≢◌, ℕ, zero, suc, ◌<◌, List, [], ◌∷◌, ◌++◌, slice_get, Some, None, Result, Ok, Err, IfOk, IfErr, string_bytes, sym, ap, ◌∙◌, subst, arith}
-use Rattle.std.proofs.lemmas.Option.{none-some, same_Some}
-use Rattle.std.specs.Str.{IsUtf8}
-use Rattle.yq_core.specs.declared.ReadFault.{ReadFault}
-use Rattle.yq_core.specs.declared.fault.FaultKind.TheVariants.{NotUtf8}
+use Rattle.std.proofs.Common.{◌≡◌, ◌≢◌, ℕ, zero, suc, ◌<◌, List, [], ◌∷◌, ◌++◌, slice_get, Some, None, Result, Ok, Err, IfOk, IfErr}
+use Rattle.std.{proofs.Common.{string_bytes, sym, ap, ◌∙◌, subst, arith}, proofs.lemmas.Option.{none-some, same_Some}, specs.Str.IsUtf8}
+use Rattle.yq_core.{specs.declared.ReadFault.ReadFault, specs.declared.fault.FaultKind.TheVariants.NotUtf8}
 use Rattle.yq_core.specs.declared.fault.ReadError.{ReadError}
-use Rattle.yq_core.specs.declared.fault.ReadError.TheVariants as reading
 use Rattle.yq_row_table.specs.Rows.{Cut}
-use Rattle.yq_documents.specs.Reading.{documents, documents_of, cut_of, read_at}
-use Rattle.yq_documents.proofs.ReadLaws.{parts_read}
-use Rattle.yq_semantics.specs.Judgement as judgement
-use Rattle.yq_semantics.specs.Judgement.{Judges}
-use Rattle.yq_semantics.specs.Operations.{Operation}
-use Rattle.yq_semantics.specs.Plans.{plan}
-use Rattle.yq_semantics.specs.Program.{Program, Update, assign, delete, comment, read, updates, update_at, update_count, UpdatesHold, LiteralsHold}
-use Rattle.yq_semantics.specs.Rooms.{room_of}
-use Rattle.yq_semantics.specs.declared.refusal.Refusal.{Refusal}
+use Rattle.yq_documents.{specs.Reading.{documents, documents_of, cut_of, read_at}, proofs.ReadLaws.parts_read}
+use Rattle.yq_semantics.{specs.Judgement.Judges, specs.Operations.Operation, specs.Plans.plan}
+use Rattle.yq_semantics.specs.Program.{Program, Update, assign, delete, comment, read, updates, update_at, update_count, UpdatesHold}
+use Rattle.yq_semantics.{specs.Program.LiteralsHold, specs.Rooms.room_of, specs.declared.refusal.Refusal.Refusal}
 use Rattle.yq_semantics.specs.declared.expr_error.ExprError.{ExprError}
-use Rattle.yq_semantics.specs.declared.expr_error.ExprError.TheVariants as planning
-use Rattle.yq_text.specs.Splice.{Splice}
-use Rattle.yq_text.proofs.PlaceInList.{get_some}
-use Rattle.yq_text.specs.declared.edited.Edited.{Edited}
-use Rattle.yq_edit_laws.specs.Answers.{Edits, EditFails, of_planning, error_of_reading}
-use Rattle.yq_edit_laws.specs.Carried.{carry_all, carry_out, updated}
-use Rattle.yq_edit_laws.specs.Edit.{Edit, unreadable, refuses, gives, edit_after, by_reading}
-use Rattle.yq_edit_laws.specs.Theorems.{HasReading, IsUpdated}
-use Rattle.yq_edit_laws.specs.Valid.{HaveOperands, IsStep, UpdateFails, FailsAt}
-use Rattle.yq_edit_laws.specs.declared.edit_error.EditError.{EditError}
-use Rattle.yq_edit_laws.specs.declared.edit_error.EditError.TheVariants as error
-use Rattle.yq_edit_laws.proofs.MeaningLaws.{UpdateComes, plan_comes, plan_stops}
-use Rattle.yq_edit_laws.proofs.OrderLaws.{fails_itself}
+use Rattle.yq_text.{specs.Splice.Splice, proofs.PlaceInList.get_some, specs.declared.edited.Edited.Edited}
+use Rattle.yq_edit_laws.{specs.Answers.{Edits, EditFails, of_planning, error_of_reading}, specs.Carried.{carry_all, carry_out, updated}}
+use Rattle.yq_edit_laws.{specs.Edit.{Edit, unreadable, refuses, gives, edit_after, by_reading}, specs.Theorems.{HasReading, IsUpdated}}
+use Rattle.yq_edit_laws.{specs.Valid.{HaveOperands, IsStep, UpdateFails, FailsAt}, specs.declared.edit_error.EditError.EditError}
+use Rattle.yq_edit_laws.{proofs.MeaningLaws.{UpdateComes, plan_comes, plan_stops}, proofs.OrderLaws.fails_itself}
 use Rattle.yq_edit_laws.proofs.TextFaults.{FailsToRead, text_unread}
+use Rattle.yq_core.specs.declared.fault.ReadError.TheVariants as reading
+use Rattle.yq_semantics.specs.Judgement as judgement
+use Rattle.yq_semantics.specs.declared.expr_error.ExprError.TheVariants as planning
+use Rattle.yq_edit_laws.specs.declared.edit_error.EditError.TheVariants as error
 
 -- a text that isn't read has no reading
 pub no_reading : (t : List ℕ) → read_at t ≡ None → ¬ HasReading t

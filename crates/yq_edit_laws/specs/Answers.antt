@@ -1,17 +1,13 @@
 -- What an answer to an edit says.
 use Rattle.std.specs.Prelude.{◌≡◌, ◌≢◌, Result, Ok, Err, string_bytes}
-use Rattle.yq_core.specs.declared.fault.FaultKind.TheVariants.{NotUtf8}
-use Rattle.yq_core.specs.declared.fault.ReadError.{ReadError}
+use Rattle.yq_core.{specs.declared.fault.FaultKind.TheVariants.NotUtf8, specs.declared.fault.ReadError.ReadError}
+use Rattle.yq_semantics.{specs.declared.expr_error.ExprError.ExprError, specs.declared.refusal.Refusal.TheVariants.TooLarge}
+use Rattle.yq_text.{specs.declared.edited.Edited.Edited, specs.declared.exchange_error.ExchangeError.ExchangeError}
+use Rattle.yq_edit_laws.{specs.Edit.{Edit, unreadable, refuses, gives}, specs.declared.edit_error.EditError.EditError}
 use Rattle.yq_core.specs.declared.fault.ReadError.TheVariants as reading
-use Rattle.yq_semantics.specs.declared.expr_error.ExprError.{ExprError}
 use Rattle.yq_semantics.specs.declared.expr_error.ExprError.TheVariants as planning
-use Rattle.yq_text.specs.declared.edited.Edited.{Edited}
-use Rattle.yq_text.specs.declared.exchange_error.ExchangeError.{ExchangeError}
 use Rattle.yq_text.specs.declared.exchange_error.ExchangeError.TheVariants as exchanging
-use Rattle.yq_edit_laws.specs.Edit.{Edit, unreadable, refuses, gives}
-use Rattle.yq_edit_laws.specs.declared.edit_error.EditError.{EditError}
 use Rattle.yq_edit_laws.specs.declared.edit_error.EditError.TheVariants as error
-use Rattle.yq_semantics.specs.declared.refusal.Refusal.TheVariants.{TooLarge}
 
 -- the error of an edit whose text is not read (own)
 abbrev pub error_of_reading : ReadError → EditError

@@ -2,15 +2,12 @@
 use Rattle.std.specs.Prelude.{ℕ, List}
 use Rattle.yq_row_table.specs.Rows.{Cut}
 use Rattle.yq_documents.specs.Reading.{documents, read_at}
-use Rattle.yq_semantics.specs.Judgement.{Judgement}
-use Rattle.yq_semantics.specs.Judgement as judgement
-use Rattle.yq_semantics.specs.Operations.{Operation}
-use Rattle.yq_semantics.specs.Plans.{plan}
-use Rattle.yq_semantics.specs.Program.{Program, Update, read, updates}
-use Rattle.yq_semantics.specs.Rooms.{room_of}
+use Rattle.yq_semantics.{specs.Judgement.Judgement, specs.Operations.Operation, specs.Plans.plan}
+use Rattle.yq_semantics.{specs.Program.{Program, Update, read, updates}, specs.Rooms.room_of}
 use Rattle.yq_semantics.specs.declared.refusal.Refusal.TheVariants.{NotAnUpdate}
 use Rattle.yq_edits.specs.Edits.{op_edits, or_stay}
 use Rattle.yq_edit_laws.specs.Edit.{Edit, refuses, in_order, by_reading, edit_of_segments}
+use Rattle.yq_semantics.specs.Judgement as judgement
 
 -- an operation carried out on the text of a cut (own)
 abbrev pub carry_one : Operation → Cut → Edit

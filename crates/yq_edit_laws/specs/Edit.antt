@@ -1,11 +1,8 @@
 -- What an edit of a text comes to.
 use Rattle.std.specs.Prelude.{ℕ, List, [], ◌∷◌, ◌++◌, Option, Some, None}
 use Rattle.yq_row_table.specs.Rows.{Cut}
-use Rattle.yq_semantics.specs.declared.refusal.Refusal.{Refusal}
-use Rattle.yq_semantics.specs.declared.refusal.Refusal.TheVariants.{TooLarge}
-use Rattle.yq_text.specs.Splice.{Splice}
-use Rattle.yq_text.specs.Script.{Segment}
-use Rattle.yq_text.specs.Exchanging.{Exchange, exchange_of}
+use Rattle.yq_semantics.{specs.declared.refusal.Refusal.Refusal, specs.declared.refusal.Refusal.TheVariants.TooLarge}
+use Rattle.yq_text.{specs.Splice.Splice, specs.Script.Segment, specs.Exchanging.{Exchange, exchange_of}}
 use Rattle.yq_text.specs.Exchanging as exchange
 
 -- What an edit comes to: the text has no reading, it is refused, or it gives a new text by these changes (own).

@@ -1,9 +1,7 @@
 -- Where flow collections of a text are edited, by places in bytes (YAML 1.2.2, 7.4; own).
 use Rattle.std.specs.Prelude.{ℕ, ◌+◌, ◌≤◌, ◌<◌, ◌^◌, List, [], ◌∷◌, drop, length, take, Option, is_some, Bool, false, not}
 use Rattle.std.specs.Str.{IsCharBoundary}
-use Rattle.yq_core.specs.Answers.{◌>>=◌}
-use Rattle.yq_core.specs.Paths.{Step}
-use Rattle.yq_core.specs.Tree.{Node}
+use Rattle.yq_core.{specs.Answers.◌>>=◌, specs.Paths.Step, specs.Tree.Node}
 use Rattle.yq_core.specs.Places.{CoreNode, nothing, name, text, sequence, mapping, Placed, placed}
 use Rattle.yq_flow_edits.specs.FlowPlaces.{PlacedEdit}
 use Rattle.yq_row_table.specs.Rows.{Cut, cut_text}

@@ -1,16 +1,11 @@
 -- Replace at an item or entry, or of a node alone on its line: what is owed of what is put there (own).
 use Rattle.std.specs.Prelude.{◌≡◌, ℕ, List, Some, Bool, true, false}
-use Rattle.yq_core.specs.Paths.{Step}
-use Rattle.yq_core.specs.Tree.{Node}
+use Rattle.yq_core.{specs.Paths.Step, specs.Tree.Node}
 use Rattle.yq_row_table.specs.Rows.{Cut, cut_text}
 use Rattle.yq_documents.specs.Reading.{read_at}
-use Rattle.yq_places.specs.NodesAt.{node_in}
-use Rattle.yq_places.specs.Standings.{Standing, alone, beside, under, compact, block, root, no_rows, standing_at}
+use Rattle.yq_places.{specs.NodesAt.node_in, specs.Standings.{Standing, alone, beside, under, compact, block, root, no_rows, standing_at}}
 use Rattle.yq_semantics.specs.Operations.{replace}
-use Rattle.yq_edits.specs.EditLaws.{IsEdit}
-use Rattle.yq_edits.specs.Layouts.{layout_of}
-use Rattle.yq_edits.specs.ReplaceEdits.{has_text, value_put}
-use Rattle.yq_edits.specs.Replacing.{keeps_scalar}
+use Rattle.yq_edits.{specs.EditLaws.IsEdit, specs.Layouts.layout_of, specs.ReplaceEdits.{has_text, value_put}, specs.Replacing.keeps_scalar}
 
 -- whether something stands at an item or entry, or is a node alone on its line
 abbrev pub is_marked : Standing → Bool

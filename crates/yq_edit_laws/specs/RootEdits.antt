@@ -1,14 +1,11 @@
 -- What is owed of the segments that a value exchanges as the root of a document (own).
 use Rattle.std.specs.Prelude.{◌≡◌, ℕ, List, Some}
-use Rattle.yq_core.specs.Paths.{Step}
-use Rattle.yq_core.specs.Tree.{Node}
+use Rattle.yq_core.{specs.Paths.Step, specs.Tree.Node}
 use Rattle.yq_row_table.specs.Rows.{Cut, cut_text}
 use Rattle.yq_documents.specs.Reading.{read_at}
 use Rattle.yq_places.specs.Standings.{BlockRoot, NoRows, root, no_rows, standing_at}
 use Rattle.yq_semantics.specs.Operations.{replace}
-use Rattle.yq_edits.specs.EditLaws.{IsEdit}
-use Rattle.yq_edits.specs.Layouts.{layout_of}
-use Rattle.yq_edits.specs.ReplaceEdits.{no_rows_put, root_put}
+use Rattle.yq_edits.{specs.EditLaws.IsEdit, specs.Layouts.layout_of, specs.ReplaceEdits.{no_rows_put, root_put}}
 
 -- Replace: a value put in the place of a root that is a block collection.
 abbrev pub RootsArePut : Type 0

@@ -1,20 +1,12 @@
 -- What an accepted edit promises, and why an edit is refused.
 use Rattle.std.specs.Prelude.{◌≡◌, ⊤, ◌⊎◌, ℕ, ◌<◌, List, [], ◌∷◌, ◌++◌, Some, length}
-use Rattle.yq_text.specs.Limit.{text_limit}
-use Rattle.yq_documents.specs.Documents.{Document, ReadsDocuments}
-use Rattle.yq_semantics.specs.After.{after_op}
-use Rattle.yq_semantics.specs.Fits.{Fits}
-use Rattle.yq_semantics.specs.Judgement.{gives, refuses}
-use Rattle.yq_semantics.specs.Meaning.{meaning}
-use Rattle.yq_semantics.specs.Operations.{Operation}
-use Rattle.yq_semantics.specs.Rooms.{room_of}
-use Rattle.yq_semantics.specs.RoomsKept.{LeavesRooms}
-use Rattle.yq_semantics.specs.declared.refusal.Refusal.{Refusal}
-use Rattle.yq_semantics.specs.declared.refusal.Refusal.TheVariants.{NotAnUpdate, TooLarge}
-use Rattle.yq_semantics.specs.Plans.{plan}
-use Rattle.yq_semantics.specs.Program.{Program, Update, read, updates}
-use Rattle.yq_text.specs.Splice.{Splice, all_done, lengths_done}
+use Rattle.yq_text.{specs.Limit.text_limit, specs.Splice.{Splice, all_done, lengths_done}}
 use Rattle.yq_text.specs.Script.{Segment, old_text, new_text, changes}
+use Rattle.yq_documents.specs.Documents.{Document, ReadsDocuments}
+use Rattle.yq_semantics.{specs.After.after_op, specs.Fits.Fits, specs.Judgement.{gives, refuses}, specs.Meaning.meaning}
+use Rattle.yq_semantics.{specs.Operations.Operation, specs.Rooms.room_of, specs.RoomsKept.LeavesRooms}
+use Rattle.yq_semantics.{specs.declared.refusal.Refusal.Refusal, specs.declared.refusal.Refusal.TheVariants.{NotAnUpdate, TooLarge}}
+use Rattle.yq_semantics.{specs.Plans.plan, specs.Program.{Program, Update, read, updates}}
 use Rattle.yq_edits.specs.Edits.{op_edits}
 use Rattle.yq_edit_laws.specs.declared.edit_error.EditError.{EditError}
 use Rattle.yq_edit_laws.specs.declared.edit_error.EditError.TheVariants as error

@@ -1,17 +1,14 @@
 -- Whether each row and end of a part that an operation writes is touched by a range of what it exchanges (own).
 use Rattle.std.specs.Prelude.{◌≡◌, ◌⊎◌, ⊤, ℕ, ◌+◌, ◌≤◌, Bool, true, false, List, [], ◌∷◌, ◌++◌, length, Some, if◌then◌else◌}
 use Rattle.yq_text.specs.Limit.{text_limit}
+use Rattle.yq_text.specs.Script.{Extent, Segment, are_kept, extents, from_first, keep, kept_back, kept_front, new_text, put}
+use Rattle.yq_text.specs.Script.{swapped_segments}
 use Rattle.yq_core.specs.Text.{is_empty, is_feed}
-use Rattle.yq_row_table.specs.Items.{Item, items_of_cut, items_text}
-use Rattle.yq_row_table.specs.Rows.{Cut, cut_text}
+use Rattle.yq_row_table.{specs.Items.{Item, items_of_cut, items_text}, specs.Rows.{Cut, cut_text}}
 use Rattle.yq_row_table.specs.Touched.{TouchesOnly, in_front, item_text}
 use Rattle.yq_documents.specs.Reading.{documents, read_at}
-use Rattle.yq_semantics.specs.Fits.{Fits}
-use Rattle.yq_semantics.specs.Operations.{Operation}
-use Rattle.yq_semantics.specs.Rooms.{room_of}
-use Rattle.yq_text.specs.Script.{Extent, Segment, are_kept, extents, from_first, keep, kept_back, kept_front, new_text, put, swapped_segments}
-use Rattle.yq_edits.specs.Edits.{op_edits}
-use Rattle.yq_edits.specs.Operands.{HasOperand}
+use Rattle.yq_semantics.{specs.Fits.Fits, specs.Operations.Operation, specs.Rooms.room_of}
+use Rattle.yq_edits.{specs.Edits.op_edits, specs.Operands.HasOperand}
 
 -- ---- touched items
 

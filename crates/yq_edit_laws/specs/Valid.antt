@@ -2,20 +2,12 @@
 use Rattle.std.specs.Prelude.{◌≡◌, ℕ, List, [], ◌∷◌, ⊤}
 use Rattle.yq_row_table.specs.Rows.{Cut}
 use Rattle.yq_documents.specs.Documents.{Document, ReadsDocuments}
-use Rattle.yq_semantics.specs.Operations.{Operation}
-use Rattle.yq_semantics.specs.Rooms.{room_of}
-use Rattle.yq_semantics.specs.RoomsKept.{MayFollow}
-use Rattle.yq_semantics.specs.Program.{Update, updates}
-use Rattle.yq_text.specs.Splice.{Splice}
-use Rattle.yq_text.specs.Script.{Segment}
-use Rattle.yq_edits.specs.Edits.{op_edits, or_stay}
-use Rattle.yq_edits.specs.Operands.{HasOperand}
-use Rattle.yq_edit_laws.specs.Answers.{EditFails}
-use Rattle.yq_edit_laws.specs.Carried.{updated}
-use Rattle.yq_edit_laws.specs.Edit.{in_order}
+use Rattle.yq_semantics.{specs.Operations.Operation, specs.Rooms.room_of, specs.RoomsKept.MayFollow, specs.Program.{Update, updates}}
+use Rattle.yq_text.{specs.Splice.Splice, specs.Script.Segment}
+use Rattle.yq_edits.{specs.Edits.{op_edits, or_stay}, specs.Operands.HasOperand}
+use Rattle.yq_edit_laws.{specs.Answers.EditFails, specs.Carried.updated, specs.Edit.in_order}
+use Rattle.yq_edit_laws.{specs.Theorems.{IsUpdated, UpdateRefused, HasReading, EditRefused}, specs.declared.edit_error.EditError.EditError}
 use Rattle.yq_edit_laws.specs.Edit as edit
-use Rattle.yq_edit_laws.specs.Theorems.{IsUpdated, UpdateRefused, HasReading, EditRefused}
-use Rattle.yq_edit_laws.specs.declared.edit_error.EditError.{EditError}
 use Rattle.yq_edit_laws.specs.declared.edit_error.EditError.TheVariants as error
 
 -- the operands of operations are valid, since the code holds no others (own)

@@ -1,15 +1,13 @@
 //! Edits of flow collections, by their places in the text.
 ghost use Rattle.std.specs.Prelude.{◌≡◌, ◌∷◌, IfOk, [], Some, drop, map, option_map, string_bytes, take};
-ghost use Rattle.yq_text.specs.Halves.{whole};
-ghost use Rattle.yq_core.specs.Entries.{tree_step};
-ghost use Rattle.yq_core.specs.View.{inline_view};
+ghost use Rattle.yq_text.{specs.Halves.whole, specs.Script.keep};
+ghost use Rattle.yq_core.{specs.Entries.tree_step, specs.View.inline_view};
 ghost use Rattle.yq_flow_edits.specs.FlowPlaces.{edit_view};
 ghost use Rattle.yq_row_table.specs.Rows.{cut_text};
 ghost use Rattle.yq_documents.specs.Reading.{cut_of};
 ghost use Rattle.yq_places.specs.FlowViews.{behind_anchor, collection_view};
-ghost use Rattle.yq_places.specs.Standings as standings;
-ghost use Rattle.yq_text.specs.Script.{keep};
 ghost use Rattle.yq_edits.specs.Answers.{GivesSegments};
+ghost use Rattle.yq_places.specs.Standings as standings;
 ghost use Rattle.yq_edit_laws.specs.EditPlaces as spec;
 
 use std::alloc::{AllocError, Global};

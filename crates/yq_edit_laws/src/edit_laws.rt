@@ -1,9 +1,7 @@
 //! Laws on what operations exchange.
-ghost use Rattle.yq_edits.specs.StandingLaws.{HeldSpells};
-ghost use Rattle.yq_edits.specs.EditLaws as laws;
-ghost use Rattle.yq_edits.specs.Local.{LocalTouches};
-ghost use Rattle.yq_edits.specs.RowChanges.{LineCommentsChangeRows, RowEdits};
+ghost use Rattle.yq_edits.{specs.StandingLaws.HeldSpells, specs.Local.LocalTouches, specs.RowChanges.{LineCommentsChangeRows, RowEdits}};
 ghost use Rattle.yq_edit_laws.specs.TouchedRanges.{EditsAreNear, NearAreTouched};
+ghost use Rattle.yq_edits.specs.EditLaws as laws;
 
 /// An equal scalar leaves all bytes.
 pub fn equal_scalars_stay()

@@ -1,8 +1,7 @@
 //! Laws on edits of flow collections, and on what stands where a node is.
 ghost use Rattle.yq_edits.specs.StandingLaws.{EntriesStand, RootsStand};
+ghost use Rattle.yq_edits.specs.EditLaws.{FlowMoreIsPut, FlowPartIsRemoved, FlowValuesArePut, SoleIsRemoved, AppendHasEdit};
 ghost use Rattle.yq_edit_laws.specs.Emptying.{SoleByEmptying};
-ghost use Rattle.yq_edits.specs.EditLaws.{FlowMoreIsPut, FlowPartIsRemoved, FlowValuesArePut};
-ghost use Rattle.yq_edits.specs.EditLaws.{SoleIsRemoved, AppendHasEdit};
 
 /// What is exchanged in a flow collection carries out the operation.
 pub fn flow_edits_carry_out()

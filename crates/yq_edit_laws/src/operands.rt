@@ -1,7 +1,6 @@
 //! Operands of operations: that the values, keys and texts that the code holds
 //! are valid.
-ghost use Rattle.std.specs.Prelude.{option_map, string_bytes, true, false};
-ghost use Rattle.std.specs.Str.{IsUtf8};
+ghost use Rattle.std.{specs.Prelude.{option_map, string_bytes, true, false}, specs.Str.IsUtf8};
 ghost use Rattle.yq_flow_edits.specs.Valued.{AreValueTrees, IsValid, IsValueTree};
 ghost use Rattle.yq_core.specs.Values.{entries_of, items_of, value_node};
 ghost use Rattle.yq_semantics.specs.Operations.{operation_of, operations_of};

@@ -1,14 +1,10 @@
 //! Values put in flow collections.
 ghost use Rattle.std.specs.Prelude.{◌≡◌, IfOk, Some};
-ghost use Rattle.yq_core.specs.Trees.{placed_tree};
-ghost use Rattle.yq_core.specs.Values.{value_node};
-ghost use Rattle.yq_core.specs.View.{inline_view};
-ghost use Rattle.yq_documents.specs.Located.{steps_of};
-ghost use Rattle.yq_documents.specs.Reading.{cut_of};
+ghost use Rattle.yq_core.{specs.Trees.placed_tree, specs.Values.value_node, specs.View.inline_view};
+ghost use Rattle.yq_documents.{specs.Located.steps_of, specs.Reading.cut_of};
 ghost use Rattle.yq_places.specs.NodesAt.{scalar_in};
+ghost use Rattle.yq_edits.{specs.Answers.GivesSegments, specs.Replacing.{are_same, keeps_scalar}};
 ghost use Rattle.yq_places.specs.Standings as standings;
-ghost use Rattle.yq_edits.specs.Answers.{GivesSegments};
-ghost use Rattle.yq_edits.specs.Replacing.{are_same, keeps_scalar};
 ghost use Rattle.yq_edit_laws.specs.PartPuts as spec;
 
 use crate::edit::{bytes_at, collection_in, edit_at, last_step, unchanged};

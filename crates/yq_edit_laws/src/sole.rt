@@ -1,9 +1,8 @@
 //! The empty collection that is put in the place of one whose sole item or entry is removed.
 ghost use Rattle.std.specs.Prelude.{◌≡◌, IfOk, option_map};
-ghost use Rattle.yq_core.specs.Values as values;
-ghost use Rattle.yq_documents.specs.Located.{steps_of};
-ghost use Rattle.yq_documents.specs.Reading.{cut_of};
+ghost use Rattle.yq_documents.{specs.Located.steps_of, specs.Reading.cut_of};
 ghost use Rattle.yq_places.specs.NodesAt.{node_view};
+ghost use Rattle.yq_core.specs.Values as values;
 ghost use Rattle.yq_places.specs.Standings as standings;
 ghost use Rattle.yq_edit_laws.specs.Emptying as spec;
 

@@ -1,16 +1,11 @@
 -- A changed text, told as a tree with the lead that goes with it.
 use Rattle.std.proofs.Common.{◌≡◌, ℕ, zero, suc, List, [], ◌∷◌, map, Bool, true, false, Some, refl, sym, ap, ◌∙◌}
-use Rattle.std.proofs.lemmas.Option.{same_Some}
+use Rattle.std.{proofs.lemmas.Option.same_Some, specs.List.slice_get}
 use mathlib.Core.List.{head-eq_of_cons-eq, tail-eq_of_cons-eq}
-use Rattle.std.specs.List.{slice_get}
-use Rattle.yq_core.specs.Paths.{change_child, within}
-use Rattle.yq_core.specs.Tree.{Node, Children, none, child}
+use Rattle.yq_core.{specs.Paths.{change_child, within}, specs.Tree.{Node, Children, none, child}}
 use Rattle.yq_row_table.specs.Rows.{Part}
-use Rattle.yq_documents.specs.Documents.{Document}
-use Rattle.yq_documents.specs.Reading.{part_document}
-use Rattle.yq_edits.specs.After.{EndIsChange}
-use Rattle.yq_edits.specs.Edited.{first_above}
-use Rattle.yq_documents.specs.TreeEdits.{change_nth, lead_by}
+use Rattle.yq_documents.{specs.Documents.Document, specs.Reading.part_document, specs.TreeEdits.{change_nth, lead_by}}
+use Rattle.yq_edits.{specs.After.EndIsChange, specs.Edited.first_above}
 
 pub end_is_change : EndIsChange
 end_is_change g [] s n = refl

@@ -2,19 +2,14 @@
 use Rattle.std.proofs.Common.{◌≡◌, ℕ, List, [], ◌∷◌, ◌++◌, Option, Some, None, refl, sym, ap, ◌∙◌, subst, rules}
 use Rattle.std.proofs.lemmas.Option.{same_Some}
 use Rattle.yq_row_table.specs.Rows.{Row}
-use Rattle.yq_outline.specs.LineAnchors.{IsFree, HaveOneAnchorEach}
-use Rattle.yq_documents.specs.Documents.{HaveFitKeys}
-use Rattle.yq_outline.specs.Outline.{Line, level, Outline, end, row, flatten}
+use Rattle.yq_outline.{specs.LineAnchors.{IsFree, HaveOneAnchorEach}, specs.Outline.{Line, level, Outline, end, row, flatten}}
 use Rattle.yq_outline.specs.Places.{Context, here, below, beside, lines_before, lines_after, FoundLine}
-use Rattle.yq_outline.proofs.Allowing as allowing
-use Rattle.yq_outline.proofs.Allowing.{Allows, IsCollection}
-use Rattle.yq_outline.proofs.Plug.{headless_entry}
-use Rattle.yq_outline.proofs.NameLaws.{each_front, each_back}
+use Rattle.yq_outline.{proofs.Allowing.{Allows, IsCollection}, proofs.Plug.headless_entry, proofs.NameLaws.{each_front, each_back}}
+use Rattle.yq_documents.specs.Documents.{HaveFitKeys}
 use Rattle.yq_places.proofs.FlowViewLaws.{before_under}
-use Rattle.yq_edits.specs.Conditions.{last_anchor, BeginsEntry, AnchorsStay, LinesAmong}
-use Rattle.yq_edits.specs.Siblings.{IsEntry, NodeLines, under_line}
-use Rattle.yq_edits.proofs.NodeLineLaws.{after_under, Under, lines_found, under_even}
-use Rattle.yq_edits.proofs.SiblingLaws.{next, entry_out}
+use Rattle.yq_edits.{specs.Conditions.{last_anchor, BeginsEntry, AnchorsStay, LinesAmong}, specs.Siblings.{IsEntry, NodeLines, under_line}}
+use Rattle.yq_edits.{proofs.NodeLineLaws.{after_under, Under, lines_found, under_even}, proofs.SiblingLaws.{next, entry_out}}
+use Rattle.yq_outline.proofs.Allowing as allowing
 
 -- an anchor before lines, where more follow
 free_longer : (a : Option (List ℕ)) (xs ys : List Line) → IsFree a xs → BeginsEntry ys → IsFree a (xs ++ ys)

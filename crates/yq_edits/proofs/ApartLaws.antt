@@ -1,24 +1,19 @@
 -- Where lines begin and end among rows, by their levels.
-use Rattle.std.proofs.Common.{◌≡◌, ◌⊎◌, inl, inr, ⊎_elim, ℕ, suc, ◌+◌, ◌*◌, ◌≤◌, List, [], ◌∷◌, ◌++◌, Option, Some, None, option_map, is_some, Bool, true, false, cond, refl, sym, ap, ◌∙◌, subst, arith}
-use Rattle.std.proofs.lemmas.Bool.{false≢true}
+use Rattle.std.proofs.Common.{◌≡◌, ◌⊎◌, inl, inr, ⊎_elim, ℕ, suc, ◌+◌, ◌*◌, ◌≤◌, List, [], ◌∷◌, ◌++◌, Option, Some, None, option_map}
+use Rattle.std.{proofs.Common.{is_some, Bool, true, false, cond, refl, sym, ap, ◌∙◌, subst, arith}, proofs.lemmas.Bool.false≢true}
 use Rattle.std.proofs.lemmas.Option.{same_Some}
 use mathlib.Core.List.{head-eq_of_cons-eq, tail-eq_of_cons-eq}
-use Rattle.yq_core.specs.Paths.{Step, is_here, further}
-use Rattle.yq_core.specs.Tree.{Node}
-use Rattle.yq_outline.specs.Comments.{head_comment}
-use Rattle.yq_row_table.specs.Rows as rows
-use Rattle.yq_row_table.specs.Rows.{Content, Row}
-use Rattle.yq_outline.specs.Group.{level_or}
-use Rattle.yq_outline.specs.Lines.{mark_line, lines_from, row_lines, lines_of_rows}
+use Rattle.yq_core.{specs.Paths.{Step, is_here, further}, specs.Tree.Node}
+use Rattle.yq_outline.{specs.Comments.head_comment, specs.Group.level_or, specs.Lines.{mark_line, lines_from, row_lines, lines_of_rows}}
 use Rattle.yq_outline.specs.Outline.{Line, level, Outline, flatten, IsOpen, IsEven, label, end, row}
 use Rattle.yq_outline.specs.Places.{Context, here, below, beside, lines_before, lines_after, FoundLine, next_to, find_row}
-use Rattle.yq_outline.proofs.Allowing.{Allows}
-use Rattle.yq_outline.proofs.PlaceLaws.{at}
-use Rattle.yq_outline.proofs.Values.{If, rank_small}
+use Rattle.yq_outline.{proofs.Allowing.Allows, proofs.PlaceLaws.at, proofs.Values.{If, rank_small}}
+use Rattle.yq_row_table.specs.Rows.{Content, Row}
 use Rattle.yq_places.proofs.RowPathLaws.{allowed_level}
 use Rattle.yq_edits.specs.Siblings.{HasEntries, NodeLines, lines_at}
 use Rattle.yq_edits.proofs.NodeLineLaws.{Under, lines_found, lines_even, under_even, after_under}
 use Rattle.yq_edits.specs.LineRows.{Begins, StandApart, RowBegins, LinesApart, lines_behind, EntriesApart, AreDeep, AreClosed, EvenClosed}
+use Rattle.yq_row_table.specs.Rows as rows
 
 pub deep_both : (n : ℕ) (xs ys : List Line) → AreDeep n xs → AreDeep n ys → AreDeep n (xs ++ ys)
 deep_both n [] ys a b = b

@@ -1,51 +1,28 @@
 -- One item or entry more at the end of a text that has no final break: the break comes first.
-use Rattle.std.proofs.Common.{arith, inr, ◌≡◌, ℕ, ◌+◌, ◌≤◌, true, false, List, [], ◌∷◌, ◌++◌, length, Option, Some, refl, sym, ap, ◌∙◌, subst, append_assoc, append-nil, replicate}
-use Rattle.yq_core.specs.declared.block_types.Break.{Break}
-use Rattle.yq_core.specs.declared.block_types.Break.TheVariants as breaks
-use Rattle.yq_core.specs.BlockWritten.{break_text}
-use Rattle.yq_text.specs.Limit.{text_limit}
-use Rattle.yq_core.specs.Paths.{Step}
-use Rattle.yq_core.specs.Tree.{Node}
+use Rattle.std.proofs.Common.{arith, inr, ◌≡◌, ℕ, ◌+◌, ◌≤◌, true, false, List, [], ◌∷◌, ◌++◌, length, Option, Some, refl, sym, ap, ◌∙◌}
+use Rattle.std.proofs.Common.{subst, append_assoc, append-nil, replicate}
+use Rattle.yq_core.{specs.declared.block_types.Break.Break, specs.BlockWritten.break_text, specs.Paths.Step, specs.Tree.Node}
 use Rattle.yq_core.specs.Text.{is_line}
-use Rattle.yq_outline.specs.Outline.{flatten}
-use Rattle.yq_row_table.specs.Rows.{print_row, Row, rows_text, Part, Cut, cut_text}
-use Rattle.yq_places.specs.CollectionEnds.{CollectionEnd}
-use Rattle.yq_outline.specs.Lines.{lines_of_rows}
-use Rattle.yq_documents.specs.Reading.{read_at}
-use Rattle.yq_places.specs.RowPaths.{IsReadable}
-use Rattle.yq_edits.specs.declared.layout.Layout.{Layout}
-use Rattle.yq_edits.specs.Alone.{singleton}
-use Rattle.yq_edits.specs.BlockRows.{node_rows}
-use Rattle.yq_edits.specs.BlockText.{block_value}
-use Rattle.yq_edits.proofs.TextLaws.{value_spelled}
-use Rattle.yq_edits.specs.Changed.{put_document}
-use Rattle.yq_edits.specs.CollectionPlaces.{IsCollectionEnd}
-use Rattle.yq_edits.specs.DocumentRows.{behind_document}
-use Rattle.yq_edits.proofs.TextPieceLaws.{pieces_joined}
-use Rattle.yq_semantics.specs.Operations.{append}
-use Rattle.yq_text.specs.Script.{Segment, new_text}
-use Rattle.yq_row_table.specs.Appending.{closed_by, is_one_break}
-use Rattle.yq_row_table.proofs.PlaceLaws.{row_then}
-use Rattle.yq_row_table.proofs.seams.SeamLaws.{rows_text-append}
-use Rattle.yq_places.proofs.RunSpans.{rows_then}
-use Rattle.yq_row_table.specs.Items.{rows_items}
-use Rattle.yq_edits.specs.Local.{IsLocal, IsLocalTo}
-use Rattle.yq_edits.proofs.ItemsLocal.{first_within, last_nothing}
-use Rattle.yq_edits.proofs.LocalLaws.{cut_known, rows_local}
-use Rattle.yq_edits.specs.Layouts.{layout_of}
-use Rattle.yq_edits.specs.EntryEdits.{entry_lines}
-use Rattle.yq_edits.specs.ReadsAfter.{ReadsAfter}
-use Rattle.yq_edits.proofs.CommentPieceLaws.{break_piece}
-use Rattle.yq_edits.proofs.SegmentLaws.{segments_readable}
+use Rattle.yq_text.{specs.Limit.text_limit, specs.Script.{Segment, new_text}}
+use Rattle.yq_outline.{specs.Outline.flatten, specs.Lines.lines_of_rows, specs.Places.lines_before}
+use Rattle.yq_row_table.{specs.Rows.{print_row, Row, rows_text, Part, Cut, cut_text}, specs.Appending.{closed_by, is_one_break}}
+use Rattle.yq_row_table.{proofs.PlaceLaws.row_then, proofs.seams.SeamLaws.rows_text-append, specs.Items.rows_items}
 use Rattle.yq_row_table.specs.Grammar.{IsTail, limit_after}
-use Rattle.yq_edits.specs.BlockValues.{IsEnd}
-use Rattle.yq_edits.specs.Ends.{TakesRowsLast, closed_with}
+use Rattle.yq_places.{specs.CollectionEnds.CollectionEnd, specs.RowPaths.IsReadable, proofs.RunSpans.rows_then}
+use Rattle.yq_documents.specs.Reading.{read_at}
+use Rattle.yq_edits.{specs.declared.layout.Layout.Layout, specs.Alone.singleton, specs.BlockRows.node_rows, specs.BlockText.block_value}
+use Rattle.yq_edits.{proofs.TextLaws.value_spelled, specs.Changed.put_document, specs.CollectionPlaces.IsCollectionEnd}
+use Rattle.yq_edits.{specs.DocumentRows.behind_document, proofs.TextPieceLaws.pieces_joined, specs.Local.{IsLocal, IsLocalTo}}
+use Rattle.yq_edits.{proofs.ItemsLocal.{first_within, last_nothing}, proofs.LocalLaws.{cut_known, rows_local}, specs.Layouts.layout_of}
+use Rattle.yq_edits.{specs.EntryEdits.entry_lines, specs.ReadsAfter.ReadsAfter, proofs.CommentPieceLaws.break_piece}
+use Rattle.yq_edits.{proofs.SegmentLaws.segments_readable, specs.BlockValues.IsEnd, specs.Ends.{TakesRowsLast, closed_with}}
 use Rattle.yq_edits.proofs.EndLaws.{end_of_text_appended}
 use Rattle.yq_edits.proofs.UnbrokenLaws.{EndsText, ends_text, closed_row, closed_text, closed_root, closed_lead, some_closed}
 use Rattle.yq_edits.proofs.AppendEntryLaws.{none_uncommented}
-use Rattle.yq_edits.proofs.AppendPlaces.{IsAppendPlace, put_segments, old_is, p, there, e, allows_there, kept_pieces, IsAsked, entry, written, new_rows_are, entry_piece, filled, finished}
-use Rattle.yq_edits.proofs.LaidRows.{no_gap_here}
-use Rattle.yq_outline.specs.Places.{lines_before}
+use Rattle.yq_edits.proofs.AppendPlaces.{IsAppendPlace, put_segments, old_is, p, there, e, allows_there, kept_pieces, IsAsked, entry}
+use Rattle.yq_edits.{proofs.AppendPlaces.{written, new_rows_are, entry_piece, filled, finished}, proofs.LaidRows.no_gap_here}
+use Rattle.yq_semantics.specs.Operations.{append}
+use Rattle.yq_core.specs.declared.block_types.Break.TheVariants as breaks
 
 one_break : (br : Break) → is_one_break (break_text br) ≡ true
 unfolding is_line

@@ -1,30 +1,19 @@
 -- The rows of one item or entry that is written.
 use Rattle.std.proofs.Common.{◌≡◌, ℕ, ◌+◌, ◌*◌, ◌<◌, ◌≤◌, true, List, [], ◌∷◌, ◌++◌, Option, Some, None, refl, subst, append-nil, rules}
-use Rattle.yq_core.specs.Text.{upto}
-use Rattle.yq_core.specs.Tree as tree
-use Rattle.yq_core.specs.Tree.{Node, Children, none, child, key_label}
-use Rattle.yq_core.specs.Nodes as inline
+use Rattle.yq_core.{specs.Text.upto, specs.Tree.{Node, Children, none, child, key_label}}
 use Rattle.yq_flow_edits.specs.Valued.{IsValueTree}
-use Rattle.yq_outline.specs.LineAnchors.{HaveOneAnchorEach}
-use Rattle.yq_outline.specs.Comments.{line_comment}
-use Rattle.yq_outline.specs.Outline.{LineMark, Line, level, rank, Outline, end, row, flatten, IsOpen, IsEven, label, outline_node, children, value, Stands}
-use Rattle.yq_outline.specs.Places.{content_under}
-use Rattle.yq_outline.proofs.ByRules.{rules_give}
-use Rattle.yq_row_table.specs.Gap.{IsGap}
-use Rattle.yq_row_table.specs.Grammar.{Limit, limit_after, allows, AreRows}
-use Rattle.yq_row_table.specs.Rows.{Row}
-use Rattle.yq_row_table.specs.Splices.{first_gap}
+use Rattle.yq_outline.{specs.LineAnchors.HaveOneAnchorEach, specs.Comments.line_comment}
+use Rattle.yq_outline.specs.Outline.{LineMark, Line, level, rank, Outline, end, row, flatten, IsOpen, IsEven, label, outline_node, children}
+use Rattle.yq_outline.{specs.Outline.{value, Stands}, specs.Places.content_under, proofs.ByRules.rules_give, specs.Lines.lines_of_rows}
+use Rattle.yq_row_table.{specs.Gap.IsGap, specs.Grammar.{Limit, limit_after, allows, AreRows}, specs.Rows.Row, specs.Splices.first_gap}
 use Rattle.yq_documents.specs.Documents.{HaveFitKeys}
-use Rattle.yq_outline.specs.Lines.{lines_of_rows}
-use Rattle.yq_edits.specs.declared.layout.Layout.{Layout}
-use Rattle.yq_edits.specs.Alone.{singleton}
+use Rattle.yq_edits.{specs.declared.layout.Layout.Layout, specs.Alone.singleton}
 use Rattle.yq_edits.specs.BlockRows.{inline_of, node_rows, children_rows, entry_rows, rows_on_dash, end_of_line_before, column_below}
 use Rattle.yq_edits.specs.BlockValues.{IsEnd, IsFilledValue, IsNear, HasNearKeys, IsWritable, level_at}
-use Rattle.yq_edits.proofs.FitLaws.{node_fit, keys_fit, anchors_fit}
-use Rattle.yq_edits.proofs.LaidRows.{laid_rows}
-use Rattle.yq_edits.proofs.BlockLineLaws.{node_stands}
-use Rattle.yq_edits.proofs.RowLaws.{value_laid}
-use Rattle.yq_edits.specs.Operands.{KeyIsUtf8}
+use Rattle.yq_edits.{proofs.FitLaws.{node_fit, keys_fit, anchors_fit}, proofs.LaidRows.laid_rows, proofs.BlockLineLaws.node_stands}
+use Rattle.yq_edits.{proofs.RowLaws.value_laid, specs.Operands.KeyIsUtf8}
+use Rattle.yq_core.specs.Tree as tree
+use Rattle.yq_core.specs.Nodes as inline
 
 -- a collection of one item or entry is a value that is written in rows
 pub alone_value : (key : Option (List ℕ)) (v : Node) → KeyIsUtf8 key → IsValueTree v → IsFilledValue (singleton key v)

@@ -1,44 +1,25 @@
 -- One item or entry more in a block collection that has some.
-use Rattle.std.proofs.Common.{◌≡◌, ℕ, ◌<◌, List, [], ◌∷◌, ◌++◌, Option, Some, None, true, false, refl, sym, ap, ◌∙◌, subst, arith, append_assoc, length-append, rules}
-use Rattle.std.proofs.lemmas.Bool.{false≢true}
+use Rattle.std.proofs.Common.{◌≡◌, ℕ, ◌<◌, List, [], ◌∷◌, ◌++◌, Option, Some, None, true, false, refl, sym, ap, ◌∙◌, subst, arith}
+use Rattle.std.{proofs.Common.{append_assoc, length-append, rules}, proofs.lemmas.Bool.false≢true}
 use mathlib.Core.List.{head-eq_of_cons-eq}
-use Rattle.yq_core.specs.Block.{BlockText, ends_block, keeps}
-use Rattle.yq_core.specs.Text.{text_lines}
-use Rattle.yq_core.proofs.BlockRepairLaws.{ends_behind}
-use Rattle.yq_row_table.specs.Exchange.{asked_behind}
-use Rattle.yq_row_table.specs.Grammar.{Limit, unlimited, AreRows, no_rows}
-use Rattle.yq_row_table.specs.Rows as rows
-use Rattle.yq_row_table.specs.Rows.{Content, Row, rows_text, Part}
-use Rattle.yq_row_table.specs.Seams.{are_seamed, ends_in_block, ends_in_line}
-use Rattle.yq_row_table.specs.Splices.{behind_first, first_gap}
-use Rattle.yq_row_table.specs.Removal.{last_block}
-use Rattle.yq_row_table.proofs.seams.LessLaws.{starts_less}
-use Rattle.yq_row_table.proofs.RowAgain.{row_starts}
-use Rattle.yq_row_table.proofs.splices.PartPlaces.{part_in}
-use Rattle.yq_row_table.proofs.seams.FrontSeams.{seams_any, seams_line}
-use Rattle.yq_documents.specs.Documents.{HaveFitKeys, HasShortRoot}
-use Rattle.yq_outline.specs.Group.{level_or}
-use Rattle.yq_outline.specs.Lines.{lines_from, lines_of_rows}
-use Rattle.yq_outline.specs.Outline.{Line, Outline, flatten}
-use Rattle.yq_outline.specs.Places.{lines_before, lines_after}
-use Rattle.yq_documents.specs.Reading.{part_outline}
-use Rattle.yq_outline.proofs.Decides.{flatten-group}
-use Rattle.yq_row_table.proofs.splices.SpliceTexts.{own_gap}
-use Rattle.yq_row_table.proofs.seams.BlockFronts.{last_none}
+use Rattle.yq_core.{specs.Block.{BlockText, ends_block, keeps}, specs.Text.text_lines, proofs.BlockRepairLaws.ends_behind}
+use Rattle.yq_row_table.{specs.Exchange.asked_behind, specs.Grammar.{Limit, unlimited, AreRows, no_rows}}
+use Rattle.yq_row_table.{specs.Rows.{Content, Row, rows_text, Part}, specs.Seams.{are_seamed, ends_in_block, ends_in_line}}
+use Rattle.yq_row_table.{specs.Splices.{behind_first, first_gap}, specs.Removal.last_block, proofs.seams.LessLaws.starts_less}
+use Rattle.yq_row_table.{proofs.RowAgain.row_starts, proofs.splices.PartPlaces.part_in, proofs.seams.FrontSeams.{seams_any, seams_line}}
+use Rattle.yq_row_table.{proofs.splices.SpliceTexts.own_gap, proofs.seams.BlockFronts.last_none}
+use Rattle.yq_documents.{specs.Documents.{HaveFitKeys, HasShortRoot}, specs.Reading.part_outline, specs.PartNumbers.part_number}
+use Rattle.yq_outline.{specs.Group.level_or, specs.Lines.{lines_from, lines_of_rows}, specs.Outline.{Line, Outline, flatten}}
+use Rattle.yq_outline.{specs.Places.{lines_before, lines_after}, proofs.Decides.flatten-group}
 use Rattle.yq_places.proofs.UnderExchange.{lines_append}
-use Rattle.yq_edits.specs.Siblings.{put_lines}
-use Rattle.yq_edits.proofs.AnchorLaws.{fit_parts, fit_from}
-use Rattle.yq_edits.proofs.CollectionLaws.{appended}
-use Rattle.yq_edits.proofs.NodeLineLaws.{lines_even}
-use Rattle.yq_edits.proofs.BlockChangeLaws.{entry_appended}
-use Rattle.yq_edits.proofs.PlacedLaws.{same_parts}
-use Rattle.yq_edits.specs.Appends.{inserted, BlockAppended}
-use Rattle.yq_edits.specs.LineRows.{Begins, StandApart, AreDeep}
+use Rattle.yq_edits.{specs.Siblings.put_lines, proofs.AnchorLaws.{fit_parts, fit_from}, proofs.CollectionLaws.appended}
+use Rattle.yq_edits.{proofs.NodeLineLaws.lines_even, proofs.BlockChangeLaws.entry_appended, proofs.PlacedLaws.same_parts}
+use Rattle.yq_edits.{specs.Appends.{inserted, BlockAppended}, specs.LineRows.{Begins, StandApart, AreDeep}}
 use Rattle.yq_edits.specs.DocumentRows.{behind_document, RowsFit}
-use Rattle.yq_documents.specs.PartNumbers.{part_number}
 use Rattle.yq_edits.proofs.ApartLaws.{apart_skip, apart_deep, deep_less, even_deep, lines_apart, block_some}
 use Rattle.yq_edits.proofs.ColumnLaws.{block_is_deeper, next_allowed}
 use Rattle.yq_edits.proofs.PartLaws.{part_numbered, document_known, document_spliced, is_put, short_stays}
+use Rattle.yq_row_table.specs.Rows as rows
 
 pub block_seam : (front : List Row) (b : BlockText) (u : List ℕ) → last_block front ≡ Some b → ends_block (keeps b.chomping) b.indent (text_lines u) ≡ true → are_seamed front u ≡ true
 block_seam [] b u e h = refl

@@ -1,39 +1,24 @@
 -- What may stand at the end of a block collection.
-use Rattle.std.proofs.Common.{◌≡◌, ℕ, suc, ◌+◌, ◌*◌, ◌<◌, ◌≤◌, List, [], ◌∷◌, ◌++◌, Option, Some, None, true, refl, sym, ap, ◌∙◌, subst, arith, append_assoc, append-nil, length-append, rules}
-use Rattle.std.proofs.lemmas.Bool.{lt-ltb}
+use Rattle.std.proofs.Common.{◌≡◌, ℕ, suc, ◌+◌, ◌*◌, ◌<◌, ◌≤◌, List, [], ◌∷◌, ◌++◌, Option, Some, None, true, refl, sym, ap, ◌∙◌, subst}
+use Rattle.std.{proofs.Common.{arith, append_assoc, append-nil, length-append, rules}, proofs.lemmas.Bool.lt-ltb}
 use Rattle.std.proofs.lemmas.Option.{same_Some}
-use Rattle.yq_outline.specs.Comments.{head_comment}
-use Rattle.yq_outline.specs.Group.{level_or}
-use Rattle.yq_outline.specs.Outline.{Bare, Line, level, Outline, end, flatten}
-use Rattle.yq_core.specs.Paths.{Step}
-use Rattle.yq_outline.specs.Places.{lines_before, lines_after}
-use Rattle.yq_outline.proofs.Decides.{flatten-group}
-use Rattle.yq_row_table.specs.Exchange.{allows_first, asked_behind}
-use Rattle.yq_row_table.specs.Gap.{IsGap}
-use Rattle.yq_row_table.specs.Grammar.{Limit, unlimited, allows, limit_after, AreRows}
-use Rattle.yq_row_table.specs.Rows as rows
-use Rattle.yq_row_table.specs.Rows.{Content, Row, mark_column, Part, Cut}
-use Rattle.yq_row_table.specs.Splices.{first_gap, behind_first}
-use Rattle.yq_row_table.proofs.PlainEnds.{AtLine, rows_line}
-use Rattle.yq_row_table.proofs.seams.SeamLaws.{part_line}
-use Rattle.yq_row_table.proofs.splices.PartPlaces.{part_in, part_ends}
-use Rattle.yq_row_table.proofs.splices.SpliceTexts.{first_is}
-use Rattle.yq_places.specs.CollectionEnds.{CollectionEnd}
+use Rattle.yq_outline.{specs.Comments.head_comment, specs.Group.level_or, specs.Outline.{Bare, Line, level, Outline, end, flatten}}
+use Rattle.yq_outline.{specs.Places.{lines_before, lines_after}, proofs.Decides.flatten-group}
 use Rattle.yq_outline.specs.Lines.{mark_line, lines_from, row_lines, lines_of_rows}
-use Rattle.yq_documents.specs.Reading.{part_outline}
-use Rattle.yq_places.proofs.UnderExchange.{lines_append}
-use Rattle.yq_edits.specs.CollectionPlaces.{BeginsAt, IsCollectionEnd}
-use Rattle.yq_edits.specs.DocumentRows.{IsDocumentPart, behind_document}
-use Rattle.yq_documents.specs.PartNumbers.{part_number}
-use Rattle.yq_edits.specs.LineRows.{Begins, AreDeep}
-use Rattle.yq_edits.specs.Moved.{dash_lines}
-use Rattle.yq_edits.specs.Siblings.{HasEntries}
+use Rattle.yq_core.specs.Paths.{Step}
+use Rattle.yq_row_table.{specs.Exchange.{allows_first, asked_behind}, specs.Gap.IsGap}
+use Rattle.yq_row_table.{specs.Grammar.{Limit, unlimited, allows, limit_after, AreRows}, specs.Rows.{Content, Row, mark_column, Part, Cut}}
+use Rattle.yq_row_table.{specs.Splices.{first_gap, behind_first}, proofs.PlainEnds.{AtLine, rows_line}, proofs.seams.SeamLaws.part_line}
+use Rattle.yq_row_table.{proofs.splices.PartPlaces.{part_in, part_ends}, proofs.splices.SpliceTexts.first_is}
+use Rattle.yq_places.{specs.CollectionEnds.CollectionEnd, proofs.UnderExchange.lines_append}
+use Rattle.yq_documents.{specs.Reading.part_outline, specs.PartNumbers.part_number}
+use Rattle.yq_edits.{specs.CollectionPlaces.{BeginsAt, IsCollectionEnd}, specs.DocumentRows.{IsDocumentPart, behind_document}}
+use Rattle.yq_edits.{specs.LineRows.{Begins, AreDeep}, specs.Moved.dash_lines, specs.Siblings.HasEntries}
 use Rattle.yq_edits.proofs.ApartLaws.{even_deep, lines_apart, block_some}
 use Rattle.yq_edits.proofs.ColumnLaws.{allowed_content, below_entry, below_node, high_level, next_low}
-use Rattle.yq_edits.proofs.LineLaws.{above_mark, mark_behind}
-use Rattle.yq_edits.proofs.NodeLineLaws.{lines_even}
-use Rattle.yq_edits.proofs.PartLaws.{document_known, part_numbered}
-use Rattle.yq_edits.proofs.PlacedLaws.{same_parts, whole_lines}
+use Rattle.yq_edits.{proofs.LineLaws.{above_mark, mark_behind}, proofs.NodeLineLaws.lines_even}
+use Rattle.yq_edits.{proofs.PartLaws.{document_known, part_numbered}, proofs.PlacedLaws.{same_parts, whole_lines}}
+use Rattle.yq_row_table.specs.Rows as rows
 
 -- ---- a row whose last line is deep
 

@@ -1,58 +1,30 @@
 -- The place of one more item or entry in a text, and its rows there.
-use Rattle.std.proofs.Common.{inl, inr, ◌≡◌, ℕ, suc, true, false, List, [], ◌∷◌, ◌++◌, length, Option, Some, None, sym, ap, ◌∙◌, subst, append_assoc, append-nil, replicate, rules}
-use Rattle.std.proofs.lemmas.Bool.{false≢true}
-use Rattle.std.proofs.lemmas.Option.{same_Some}
+use Rattle.std.proofs.Common.{inl, inr, ◌≡◌, ℕ, suc, true, false, List, [], ◌∷◌, ◌++◌, length, Option, Some, None, sym, ap, ◌∙◌, subst}
+use Rattle.std.{proofs.Common.{append_assoc, append-nil, replicate, rules}, proofs.lemmas.Bool.false≢true, proofs.lemmas.Option.same_Some}
 use Rattle.std.specs.List.{slice_get}
-use Rattle.yq_core.specs.Keys.{HasUniqueKeys, keys_of}
-use Rattle.yq_core.specs.Paths.{Step, append_child, changed_at, node_at, within}
-use Rattle.yq_core.specs.Tree as tree
-use Rattle.yq_core.specs.Tree.{Node}
+use Rattle.yq_core.{specs.Keys.{HasUniqueKeys, keys_of}, specs.Paths.{Step, append_child, changed_at, node_at, within}, specs.Tree.Node}
 use Rattle.yq_flow_edits.specs.Valued.{IsValueTree}
-use Rattle.yq_outline.specs.LineAnchors.{HaveOneAnchorEach}
-use Rattle.yq_outline.specs.Outline.{children, label}
-use Rattle.yq_outline.specs.Places.{content_under}
-use Rattle.yq_row_table.specs.Grammar.{unlimited, AreRows, no_rows, Limit, allows}
-use Rattle.yq_row_table.specs.Rows.{rows_text, Part, Cut, cut_text}
-use Rattle.yq_row_table.proofs.seams.SeamLaws.{rows_text-append}
-use Rattle.yq_places.specs.CollectionEnds.{CollectionEnd}
-use Rattle.yq_documents.specs.Documents.{document_parts, lead_of}
-use Rattle.yq_documents.specs.Reading.{part_outline, read_at, root_of}
-use Rattle.yq_places.proofs.CommentPieceLaws.{Ended}
-use Rattle.yq_edits.specs.declared.layout.Layout.{Layout}
-use Rattle.yq_edits.specs.Alone.{singleton}
-use Rattle.yq_edits.specs.BlockRows.{node_rows}
-use Rattle.yq_edits.specs.BlockText.{block_value}
-use Rattle.yq_edits.specs.BlockValues.{IsFilledValue, IsEnd}
-use Rattle.yq_edits.proofs.CharacterLaws.{value_sound}
-use Rattle.yq_edits.specs.Appends.{AreAppendedRows}
-use Rattle.yq_edits.specs.Changed.{IsChanged, put_document}
-use Rattle.yq_edits.specs.CollectionPlaces.{IsCollectionEnd}
-use Rattle.yq_edits.specs.DocumentRows.{IsDocumentPart, behind_document}
-use Rattle.yq_edits.specs.Rooms.{is_block_root}
-use Rattle.yq_edits.specs.SoundRoots.{IsNewKey, IsNewValue}
-use Rattle.yq_edits.specs.TextPieces.{IsPiece}
-use Rattle.yq_edits.proofs.AppendPlaceLaws.{EndAllows, end_allows}
-use Rattle.yq_edits.proofs.EditedLaws.{lines_are_there}
-use Rattle.yq_edits.proofs.EndedRowLaws.{rows_ended, rows_then}
-use Rattle.yq_edits.proofs.LeadLaws.{same_lead_goes}
-use Rattle.yq_edits.proofs.TextPieceLaws.{text_is_piece, pieces_joined, line_cut}
-use Rattle.yq_semantics.specs.Changes.{is_overlong_key, has_long_key, is_deep}
-use Rattle.yq_semantics.specs.Fits.{Takes}
-use Rattle.yq_semantics.specs.Operations.{append}
-use Rattle.yq_edits.specs.Layouts.{layout_of}
-use Rattle.yq_text.specs.Script.{Segment, keep, put}
-use Rattle.yq_edits.specs.EntryEdits.{entry_lines}
-use Rattle.yq_edits.specs.Operands.{KeyIsUtf8}
-use Rattle.yq_edits.specs.ReadsAfter.{ReadsAfter}
-use Rattle.yq_edits.proofs.AppendEntryLaws.{alone_value, alone_writable, IsEntryOf, entry_of, entry_keys, entry_anchors, entry_bare, entry_rows_are}
-use Rattle.yq_edits.proofs.DoneLaws.{document_done}
-use Rattle.yq_edits.proofs.EditsFitLaws.{new_value, key_near, near_keys}
-use Rattle.yq_edits.proofs.CommentPieceLaws.{nothing}
+use Rattle.yq_outline.{specs.LineAnchors.HaveOneAnchorEach, specs.Outline.{children, label}, specs.Places.content_under}
 use Rattle.yq_outline.specs.Comments.{line_comment as said}
-use Rattle.yq_row_table.specs.Gap.{IsGap}
-use Rattle.yq_edits.proofs.RemovalPieceLaws.{spaces_piece}
-use Rattle.yq_edits.proofs.AppendTakers.{IsTaker, taker}
-use Rattle.yq_edits.proofs.LayoutLaws.{steps_least}
+use Rattle.yq_row_table.{specs.Grammar.{unlimited, AreRows, no_rows, Limit, allows}, specs.Rows.{rows_text, Part, Cut, cut_text}}
+use Rattle.yq_row_table.{proofs.seams.SeamLaws.rows_text-append, specs.Gap.IsGap}
+use Rattle.yq_places.{specs.CollectionEnds.CollectionEnd, proofs.CommentPieceLaws.Ended}
+use Rattle.yq_documents.{specs.Documents.{document_parts, lead_of}, specs.Reading.{part_outline, read_at, root_of}}
+use Rattle.yq_edits.{specs.declared.layout.Layout.Layout, specs.Alone.singleton, specs.BlockRows.node_rows, specs.BlockText.block_value}
+use Rattle.yq_edits.{specs.BlockValues.{IsFilledValue, IsEnd}, proofs.CharacterLaws.value_sound, specs.Appends.AreAppendedRows}
+use Rattle.yq_edits.{specs.Changed.{IsChanged, put_document}, specs.CollectionPlaces.IsCollectionEnd}
+use Rattle.yq_edits.{specs.DocumentRows.{IsDocumentPart, behind_document}, specs.Rooms.is_block_root}
+use Rattle.yq_edits.{specs.SoundRoots.{IsNewKey, IsNewValue}, specs.TextPieces.IsPiece, proofs.AppendPlaceLaws.{EndAllows, end_allows}}
+use Rattle.yq_edits.{proofs.EditedLaws.lines_are_there, proofs.EndedRowLaws.{rows_ended, rows_then}, proofs.LeadLaws.same_lead_goes}
+use Rattle.yq_edits.{proofs.TextPieceLaws.{text_is_piece, pieces_joined, line_cut}, specs.Layouts.layout_of, specs.EntryEdits.entry_lines}
+use Rattle.yq_edits.{specs.Operands.KeyIsUtf8, specs.ReadsAfter.ReadsAfter}
+use Rattle.yq_edits.proofs.AppendEntryLaws.{alone_value, alone_writable, IsEntryOf, entry_of, entry_keys, entry_anchors, entry_bare}
+use Rattle.yq_edits.{proofs.AppendEntryLaws.entry_rows_are, proofs.DoneLaws.document_done}
+use Rattle.yq_edits.{proofs.EditsFitLaws.{new_value, key_near, near_keys}, proofs.CommentPieceLaws.nothing}
+use Rattle.yq_edits.{proofs.RemovalPieceLaws.spaces_piece, proofs.AppendTakers.{IsTaker, taker}, proofs.LayoutLaws.steps_least}
+use Rattle.yq_semantics.{specs.Changes.{is_overlong_key, has_long_key, is_deep}, specs.Fits.Takes, specs.Operations.append}
+use Rattle.yq_text.specs.Script.{Segment, keep, put}
+use Rattle.yq_core.specs.Tree as tree
 
 -- The place of one more item or entry: the end of the block collection to which steps lead in document doc.
 pub record IsAppendPlace (doc : ℕ) (steps : List Step) (c : Cut) (x : CollectionEnd) : Type 0 where

@@ -1,16 +1,12 @@
 -- Which collection takes one more item or entry.
 use Rattle.std.proofs.Common.{◌≡◌, ℕ, List, Option, refl, rules}
-use Rattle.yq_core.specs.Keys.{keys_of}
-use Rattle.yq_core.specs.Tree as tree
-use Rattle.yq_core.specs.Tree.{Node, Children}
+use Rattle.yq_core.{specs.Keys.keys_of, specs.Tree.{Node, Children}}
 use Rattle.yq_outline.specs.Group.{level_or}
 use Rattle.yq_outline.specs.Outline.{LineMark, Line, level, Outline, end, row, anchored, children, outline_node, value}
-use Rattle.yq_edits.specs.CollectionPlaces.{BeginsAt}
-use Rattle.yq_edits.specs.Siblings.{IsEntry, HasEntries}
-use Rattle.yq_edits.specs.SoundRoots.{IsNewKey}
+use Rattle.yq_edits.{specs.CollectionPlaces.BeginsAt, specs.Siblings.{IsEntry, HasEntries}, specs.SoundRoots.IsNewKey}
+use Rattle.yq_edits.{proofs.AppendEntryLaws.entry_level, proofs.EditsFitLaws.new_key}
 use Rattle.yq_semantics.specs.Fits.{Takes}
-use Rattle.yq_edits.proofs.AppendEntryLaws.{entry_level}
-use Rattle.yq_edits.proofs.EditsFitLaws.{new_key}
+use Rattle.yq_core.specs.Tree as tree
 
 -- ---- the collection that gets more
 

@@ -1,33 +1,21 @@
 -- The operations on block nodes, by the lines that they exchange, add or drop.
-use Rattle.std.proofs.Common.{◌≡◌, ℕ, ◌+◌, List, [], ◌∷◌, ◌++◌, length, Option, Some, refl, sym, ap, ◌∙◌, subst, arith, append-nil, length-append, rules}
-use Rattle.yq_core.specs.Keys.{keys_of}
-use Rattle.yq_core.specs.Paths.{child_at, node_at}
-use Rattle.yq_core.specs.Tree.{Node, children_of}
-use Rattle.yq_outline.specs.Group.{level_or}
-use Rattle.yq_outline.specs.Lines.{lines_from, lines_of_rows}
-use Rattle.yq_outline.specs.Outline.{Line, Outline, flatten, anchored, label, children, value}
-use Rattle.yq_outline.specs.Places.{lines_before, content_under}
-use Rattle.yq_documents.specs.Reading.{part_outline, root_of}
-use Rattle.yq_outline.specs.Comments.{head_comment}
+use Rattle.std.proofs.Common.{◌≡◌, ℕ, ◌+◌, List, [], ◌∷◌, ◌++◌, length, Option, Some, refl, sym, ap, ◌∙◌, subst, arith, append-nil}
+use Rattle.std.proofs.Common.{length-append, rules}
+use Rattle.yq_core.{specs.Keys.keys_of, specs.Paths.{child_at, node_at}, specs.Tree.{Node, children_of}}
+use Rattle.yq_outline.{specs.Group.level_or, specs.Lines.{lines_from, lines_of_rows}}
+use Rattle.yq_outline.{specs.Outline.{Line, Outline, flatten, anchored, label, children, value}, specs.Places.{lines_before, content_under}}
+use Rattle.yq_outline.{specs.Comments.head_comment, proofs.Finding.{FoundNode, path_node, row_child}, proofs.Plug.entry_whole}
+use Rattle.yq_outline.{proofs.Values.{same_rank, same_entry}, proofs.NodeLaws.anchored_none}
+use Rattle.yq_documents.{specs.Reading.{part_outline, root_of}, specs.TreeEdits.replaced_node}
 use Rattle.yq_row_table.specs.Rows.{Row, behind_columns}
-use Rattle.yq_outline.proofs.Finding.{FoundNode, path_node, row_child}
-use Rattle.yq_outline.proofs.Plug.{entry_whole}
-use Rattle.yq_outline.proofs.Values.{same_rank, same_entry}
 use Rattle.yq_edits.specs.Conditions.{last_anchor}
-use Rattle.yq_edits.specs.BlockChanges.{NodeReplaced, RootReplaced, EntryAppended, EntryRemoved, EntryRelabelled, FirstRemoved, FirstDropped}
-use Rattle.yq_edits.specs.Moved.{dash_lines}
-use Rattle.yq_edits.specs.SoundRoots.{IsNewKey}
-use Rattle.yq_edits.specs.Siblings.{HasEntries}
-use Rattle.yq_edits.proofs.EditedLaws.{old_is_sound, old_is_even, lines_are_there, line_exchanged, lines_exchanged, lines_appended, lines_removed, line_relabelled}
-use Rattle.yq_edits.proofs.AnchorLaws.{any_free}
-use Rattle.yq_edits.proofs.MovedLaws.{first_moved, first_emptied}
-use Rattle.yq_edits.proofs.PlacedLaws.{entry_placed, found_is_entry}
-use Rattle.yq_edits.proofs.SiblingLaws.{entry_in, entry_out}
-use Rattle.yq_edits.proofs.SoundRootLaws.{replace_keeps, append_keeps}
-use Rattle.yq_edits.proofs.SoundRootLess.{remove_keeps, relabel_keeps}
-use Rattle.yq_documents.specs.TreeEdits.{replaced_node}
-use Rattle.yq_outline.proofs.NodeLaws.{anchored_none}
-use Rattle.yq_edits.proofs.LineLaws.{dashes_count}
+use Rattle.yq_edits.specs.BlockChanges.{NodeReplaced, RootReplaced, EntryAppended, EntryRemoved, EntryRelabelled, FirstRemoved}
+use Rattle.yq_edits.{specs.BlockChanges.FirstDropped, specs.Moved.dash_lines, specs.SoundRoots.IsNewKey, specs.Siblings.HasEntries}
+use Rattle.yq_edits.proofs.EditedLaws.{old_is_sound, old_is_even, lines_are_there, line_exchanged, lines_exchanged, lines_appended}
+use Rattle.yq_edits.{proofs.EditedLaws.{lines_removed, line_relabelled}, proofs.AnchorLaws.any_free}
+use Rattle.yq_edits.{proofs.MovedLaws.{first_moved, first_emptied}, proofs.PlacedLaws.{entry_placed, found_is_entry}}
+use Rattle.yq_edits.{proofs.SiblingLaws.{entry_in, entry_out}, proofs.SoundRootLaws.{replace_keeps, append_keeps}}
+use Rattle.yq_edits.{proofs.SoundRootLess.{remove_keeps, relabel_keeps}, proofs.LineLaws.dashes_count}
 
 pub node_replaced : NodeReplaced
 node_replaced t c k p q s ss f v m l u put found fits each lines may =

@@ -1,16 +1,14 @@
 -- What stands behind rows that are written one behind the other.
-use Rattle.std.proofs.Common.{◌≡◌, ℕ, suc, ◌≤◌, Bool, true, false, not, ◌&&◌, ◌||◌, eqb, List, ◌++◌, Option, Some, None, refl, sym, ◌∙◌, inl, inr, arith, []}
+use Rattle.std.proofs.Common.{◌≡◌, ℕ, suc, ◌≤◌, Bool, true, false, not, ◌&&◌, ◌||◌, eqb, List, ◌++◌, Option, Some, None, refl, sym, ◌∙◌}
+use Rattle.std.proofs.Common.{inl, inr, arith, []}
 use Rattle.std.proofs.lemmas.Bool.{false≢true, not-true, false_from_ne_true, le-leb, leb-true, and_parts, cases_Bool}
 use Rattle.std.specs.Prelude.{nat_le}
-use Rattle.yq_core.specs.declared.block_types.Break.{Break}
-use Rattle.yq_core.specs.declared.block_types.Break.TheVariants as breaks
-use Rattle.yq_core.specs.BlockWritten.{break_text}
-use Rattle.yq_core.specs.Lines.{spaces}
+use Rattle.yq_core.{specs.declared.block_types.Break.Break, specs.BlockWritten.break_text, specs.Lines.spaces}
 use Rattle.yq_core.specs.Plain.{no_gap, last_line, plain_may_follow, follows, ends_plain, ends_text}
 use Rattle.yq_core.specs.Text.{cut, is_space, is_empty, is_line, front, is_marker}
-use Rattle.yq_row_table.specs.Grammar.{IsTail}
-use Rattle.yq_row_table.proofs.PlainEnds.{AtLine, tail_ends}
+use Rattle.yq_row_table.{specs.Grammar.IsTail, proofs.PlainEnds.{AtLine, tail_ends}}
 use Rattle.yq_edits.specs.BlockValues.{IsEnd}
+use Rattle.yq_core.specs.declared.block_types.Break.TheVariants as breaks
 
 -- a break
 pub break_tail : (br : Break) (rest : List ℕ) → IsTail (break_text br) rest

@@ -1,25 +1,21 @@
 -- The lines of what is written in block style are those of its value.
-use Rattle.std.proofs.Common.{◌≡◌, ℕ, ◌+◌, ◌*◌, ◌<◌, ◌≤◌, Bool, true, false, List, [], ◌∷◌, ◌++◌, Option, Some, None, refl, sym, ap, ◌∙◌, subst, arith, rules}
-use Rattle.std.specs.Str.{IsUtf8}
-use Rattle.yq_core.specs.declared.block_types.Break.{Break}
-use Rattle.yq_core.specs.BlockWritten.{break_text}
-use Rattle.yq_core.specs.Text.{text_lines, upto}
-use Rattle.yq_core.specs.Tree as tree
+use Rattle.std.proofs.Common.{◌≡◌, ℕ, ◌+◌, ◌*◌, ◌<◌, ◌≤◌, Bool, true, false, List, [], ◌∷◌, ◌++◌, Option, Some, None, refl, sym, ap, ◌∙◌}
+use Rattle.std.{proofs.Common.{subst, arith, rules}, specs.Str.IsUtf8}
+use Rattle.yq_core.{specs.declared.block_types.Break.Break, specs.BlockWritten.break_text, specs.Text.{text_lines, upto}}
 use Rattle.yq_core.specs.Tree.{Children, key_label}
-use Rattle.yq_core.specs.Nodes as inline
 use Rattle.yq_flow_edits.specs.Valued.{IsLabel, IsValueTree, AreValueTrees}
 use Rattle.yq_outline.specs.Comments.{head_comment, line_comment}
-use Rattle.yq_row_table.specs.Rows as rows
-use Rattle.yq_row_table.specs.Rows.{Nothing, Inline, Row}
 use Rattle.yq_outline.specs.Grammar.{IsNodeOutline, mapping, sequence, AreEntryLines, no_more, entry, IsUnder, headed, deeper_lines}
 use Rattle.yq_outline.specs.Lines.{mark_line, dash_line, lines_of_rows}
-use Rattle.yq_outline.specs.Outline.{LineMark, Bare, Key, Dash, Line, rank, level, anchored, label}
-use Rattle.yq_outline.proofs.NodeLaws.{anchored_none}
+use Rattle.yq_outline.{specs.Outline.{LineMark, Bare, Key, Dash, Line, rank, level, anchored, label}, proofs.NodeLaws.anchored_none}
+use Rattle.yq_row_table.specs.Rows.{Nothing, Inline, Row}
 use Rattle.yq_places.proofs.UnderExchange.{lines_append}
-use Rattle.yq_edits.specs.BlockRows.{rows_on_dash, block_key, children_rows, column_below, end_of_line_before, entry_rows, indent_step, inline_of, item_column, node_rows}
-use Rattle.yq_edits.specs.BlockValues.{IsFilled, entry_level, level_at}
-use Rattle.yq_edits.specs.declared.layout.Layout.{Layout}
-use Rattle.yq_edits.proofs.ScalarLaws.{Heads, heads, key_content_is}
+use Rattle.yq_edits.specs.BlockRows.{rows_on_dash, block_key, children_rows, column_below, end_of_line_before, entry_rows, indent_step}
+use Rattle.yq_edits.{specs.BlockRows.{inline_of, item_column, node_rows}, specs.BlockValues.{IsFilled, entry_level, level_at}}
+use Rattle.yq_edits.{specs.declared.layout.Layout.Layout, proofs.ScalarLaws.{Heads, heads, key_content_is}}
+use Rattle.yq_core.specs.Tree as tree
+use Rattle.yq_core.specs.Nodes as inline
+use Rattle.yq_row_table.specs.Rows as rows
 
 -- no comments
 pub no_head : head_comment [] ≡ []

@@ -1,6 +1,6 @@
 -- Anchors and aliases of a document in which a node is changed.
-use Rattle.std.proofs.Common.{◌≡◌, ◌⊎◌, ℕ, List, [], ◌∷◌, ◌++◌, Option, Some, None, option_and_then, Bool, true, false, cond, refl, sym, ap, ◌∙◌, subst, inl, inr, ⊎_elim, append_assoc, append-nil, rules}
-use Rattle.std.proofs.lemmas.Option.{none-some, same_Some}
+use Rattle.std.proofs.Common.{◌≡◌, ◌⊎◌, ℕ, List, [], ◌∷◌, ◌++◌, Option, Some, None, option_and_then, Bool, true, false, cond, refl, sym, ap}
+use Rattle.std.{proofs.Common.{◌∙◌, subst, inl, inr, ⊎_elim, append_assoc, append-nil, rules}, proofs.lemmas.Option.{none-some, same_Some}}
 use mathlib.Core.List.{cons≢nil}
 use Rattle.yq_core.specs.Paths.{Step, is_here, further, child_at, node_at, change_child, within, changed_at}
 use Rattle.yq_core.specs.Tree.{Node, alias, scalar, list, map, Children, none, child, children_of}

@@ -1,12 +1,9 @@
 -- The end of a line with another break.
 use Rattle.std.proofs.Common.{◌≡◌, ◌⊎◌, ℕ, true, false, ◌&&◌, List, [], ◌∷◌, ◌++◌, refl, sym, ap, ◌∙◌, append_assoc, rules}
 use Rattle.std.proofs.lemmas.Bool.{false≢true, and_parts, cases_Bool, or_parts}
-use Rattle.yq_core.specs.Characters.{pairs_returns}
-use Rattle.yq_core.specs.Text.{front, is_feed, is_return, is_empty, ends_line, NoneIn}
+use Rattle.yq_core.{specs.Characters.pairs_returns, specs.Text.{front, is_feed, is_return, is_empty, ends_line, NoneIn}}
 use Rattle.yq_outline.specs.Comments.{line_comment}
-use Rattle.yq_row_table.specs.Gap.{IsBreak, IsComment}
-use Rattle.yq_row_table.specs.Grammar.{IsTail}
-use Rattle.yq_row_table.proofs.CharacterLaws.{pairs_back}
+use Rattle.yq_row_table.{specs.Gap.{IsBreak, IsComment}, specs.Grammar.IsTail, proofs.CharacterLaws.pairs_back}
 use Rattle.yq_row_table.proofs.seams.ScalarSeams.{ends_return}
 use Rattle.yq_edits.proofs.EndLaws.{after_hash, comment_is}
 

@@ -1,23 +1,15 @@
 -- Texts in which one document has another part.
 use Rattle.std.proofs.Common.{◌≡◌, ℕ, zero, suc, List, [], ◌∷◌, ◌++◌, map, Bool, true, false, not, ◌||◌, Some, refl, sym, ap, ◌∙◌, rules}
-use Rattle.std.proofs.lemmas.Bool.{and_parts, and_from, cond-true}
-use Rattle.std.proofs.lemmas.Option.{same_Some}
-use Rattle.std.specs.List.{slice_get, list_all}
-use Rattle.yq_outline.specs.Comments.{head_comment}
-use Rattle.yq_row_table.specs.Grammar.{begins_document}
-use Rattle.yq_row_table.specs.Rows.{Row, Part, Cut, last, marked, cut_text}
-use Rattle.yq_documents.specs.Documents.{Document, parts_from, has_begin, begins_bare, document_parts, lead_of}
-use Rattle.yq_documents.specs.PartNumbers.{number_from}
-use Rattle.yq_row_table.specs.Splices.{first_gap}
-use Rattle.yq_outline.specs.Lines.{lines_from, lines_of_rows}
-use Rattle.yq_outline.specs.Outline.{Line, end}
-use Rattle.yq_documents.specs.Reading.{root_of, part_document, is_document, all_documents, read_at}
+use Rattle.std.{proofs.lemmas.Bool.{and_parts, and_from, cond-true}, proofs.lemmas.Option.same_Some, specs.List.{slice_get, list_all}}
+use Rattle.yq_outline.{specs.Comments.head_comment, specs.Lines.{lines_from, lines_of_rows}, specs.Outline.{Line, end}}
 use Rattle.yq_outline.proofs.ByRules.{rules_from}
-use Rattle.yq_documents.proofs.DocumentLaws.{is_document_of}
-use Rattle.yq_documents.proofs.ReadLaws.{text_takes, text_again}
+use Rattle.yq_row_table.{specs.Grammar.begins_document, specs.Rows.{Row, Part, Cut, last, marked, cut_text}, specs.Splices.first_gap}
+use Rattle.yq_documents.specs.Documents.{Document, parts_from, has_begin, begins_bare, document_parts, lead_of}
+use Rattle.yq_documents.{specs.PartNumbers.number_from, specs.Reading.{root_of, part_document, is_document, all_documents, read_at}}
+use Rattle.yq_documents.{proofs.DocumentLaws.is_document_of, proofs.ReadLaws.{text_takes, text_again}, specs.TreeEdits.change_nth}
 use Rattle.yq_core.proofs.Bools.{guard_then}
-use Rattle.yq_edits.specs.Changed.{put_part, put_document, KeepsRows, DocumentPut, changed, PartStands, DocumentChanged, first_comment, LeadIsFirst}
-use Rattle.yq_documents.specs.TreeEdits.{change_nth}
+use Rattle.yq_edits.specs.Changed.{put_part, put_document, KeepsRows, DocumentPut, changed, PartStands, DocumentChanged, first_comment}
+use Rattle.yq_edits.specs.Changed.{LeadIsFirst}
 
 -- parts
 from_put : (is : Bool) (k : ℕ) (p q : Part) (c : Cut) → slice_get (parts_from is c) k ≡ Some p → parts_from is (put_part (number_from is k c) q c) ≡ change_nth k (λ x. q) (parts_from is c)

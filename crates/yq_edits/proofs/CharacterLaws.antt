@@ -1,26 +1,18 @@
 -- What is written in block style is made of the characters of a text.
-use Rattle.std.proofs.Common.{◌≡◌, ℕ, zero, suc, Bool, true, false, List, [], ◌∷◌, ◌++◌, Option, Some, None, refl, sym, subst, append-nil, replicate, rules}
-use Rattle.std.proofs.lemmas.Bool.{and_from, and_parts}
-use Rattle.std.proofs.lemmas.List.Folds.{list_all-append}
-use Rattle.std.proofs.lemmas.Str.{chars-append, IsUtf8-append, IsUtf8-nil}
-use Rattle.std.specs.List.{list_all}
-use Rattle.std.specs.Str.{chars, IsUtf8}
+use Rattle.std.proofs.Common.{◌≡◌, ℕ, zero, suc, Bool, true, false, List, [], ◌∷◌, ◌++◌, Option, Some, None, refl, sym, subst, append-nil}
+use Rattle.std.{proofs.Common.{replicate, rules}, proofs.lemmas.Bool.{and_from, and_parts}, proofs.lemmas.List.Folds.list_all-append}
+use Rattle.std.{proofs.lemmas.Str.{chars-append, IsUtf8-append, IsUtf8-nil}, specs.List.list_all, specs.Str.{chars, IsUtf8}}
 use lib.Utf8.{encode}
-use Rattle.yq_core.specs.declared.block_types.Break.{Break}
-use Rattle.yq_core.specs.declared.block_types.Break.TheVariants as breaks
-use Rattle.yq_core.specs.BlockWritten.{break_text}
-use Rattle.yq_core.specs.Characters.{is_text, is_text_char, pairs_returns}
-use Rattle.yq_core.specs.Tree as tree
-use Rattle.yq_core.specs.Tree.{Children}
-use Rattle.yq_core.specs.Nodes as inline
-use Rattle.yq_core.specs.Nodes.{node_text}
+use Rattle.yq_core.{specs.declared.block_types.Break.Break, specs.BlockWritten.break_text}
+use Rattle.yq_core.{specs.Characters.{is_text, is_text_char, pairs_returns}, specs.Tree.Children, specs.Nodes.node_text}
 use Rattle.yq_flow_edits.specs.Valued.{IsLabel, IsValueTree, AreValueTrees}
 use Rattle.yq_row_table.proofs.CharacterLaws.{pairs_join}
 use Rattle.yq_edits.specs.BlockRows.{block_key, column_below, inline_of}
-use Rattle.yq_edits.specs.BlockText.{block_children, block_entry, block_node, then_lines}
-use Rattle.yq_edits.specs.declared.layout.Layout.{Layout}
-use Rattle.yq_edits.proofs.ScalarLaws.{key_spelled, scalar_spelled}
-use Rattle.yq_edits.specs.BlockText.{block_value, inline_or}
+use Rattle.yq_edits.specs.BlockText.{block_children, block_entry, block_node, then_lines, block_value, inline_or}
+use Rattle.yq_edits.{specs.declared.layout.Layout.Layout, proofs.ScalarLaws.{key_spelled, scalar_spelled}}
+use Rattle.yq_core.specs.declared.block_types.Break.TheVariants as breaks
+use Rattle.yq_core.specs.Tree as tree
+use Rattle.yq_core.specs.Nodes as inline
 
 -- whole characters of a text
 abbrev pub IsUtf8Text : List ℕ → Type 0

@@ -1,18 +1,17 @@
 -- Items or entries of the collection at a path, added, taken out and relabelled.
-use Rattle.std.proofs.Common.{◌≡◌, ℕ, ◌<◌, List, [], ◌∷◌, ◌++◌, Option, Some, None, option_map, Bool, true, false, cond, refl, sym, ap, ◌∙◌, subst, append_assoc, append-nil, rules}
+use Rattle.std.proofs.Common.{◌≡◌, ℕ, ◌<◌, List, [], ◌∷◌, ◌++◌, Option, Some, None, option_map, Bool, true, false, cond, refl, sym, ap, ◌∙◌}
+use Rattle.std.proofs.Common.{subst, append_assoc, append-nil, rules}
 use Rattle.yq_core.specs.Paths.{Step, is_here, further, append_child, changed_at, relabel_child, remove_child, within, append_children}
 use Rattle.yq_core.specs.Tree.{Label, child}
-use Rattle.yq_outline.specs.Group.{level_or}
-use Rattle.yq_outline.specs.Laws.{with_lines}
+use Rattle.yq_outline.{specs.Group.level_or, specs.Laws.with_lines}
 use Rattle.yq_outline.specs.Outline.{Line, level, Outline, end, row, flatten, IsOpen, IsEven, anchored, head_or, label, children, value}
-use Rattle.yq_outline.specs.Places.{here, plug, FoundLine, next_to, find_row, content_under}
-use Rattle.yq_outline.proofs.Allowing as allowing
-use Rattle.yq_outline.proofs.PlaceLaws.{at}
-use Rattle.yq_outline.proofs.Plug.{entry_whole}
+use Rattle.yq_outline.{specs.Places.{here, plug, FoundLine, next_to, find_row, content_under}, proofs.PlaceLaws.at, proofs.Plug.entry_whole}
 use Rattle.yq_outline.proofs.Values.{If, same_rank, same_entry, anchored-within}
-use Rattle.yq_edits.specs.Siblings.{append_outline, HasEntries, put_lines, StandsSomewhere, CollectionReplaced, Appended, Removed, Relabelled, NodeLines, IsCollectionAt, IsEntryAt}
-use Rattle.yq_edits.proofs.SiblingLaws.{entries, even_append, entry_in, entry_out, flatten-append, children-append, even_right, even_replaced, block_value}
-use Rattle.yq_edits.proofs.NodeLineLaws.{lines_even, lines_replaced}
+use Rattle.yq_edits.specs.Siblings.{append_outline, HasEntries, put_lines, StandsSomewhere, CollectionReplaced, Appended, Removed}
+use Rattle.yq_edits.specs.Siblings.{Relabelled, NodeLines, IsCollectionAt, IsEntryAt}
+use Rattle.yq_edits.proofs.SiblingLaws.{entries, even_append, entry_in, entry_out, flatten-append, children-append, even_right}
+use Rattle.yq_edits.{proofs.SiblingLaws.{even_replaced, block_value}, proofs.NodeLineLaws.{lines_even, lines_replaced}}
+use Rattle.yq_outline.proofs.Allowing as allowing
 
 pub collection_replaced : CollectionReplaced
 collection_replaced n o u steps h g even there block new kids =

@@ -1,24 +1,19 @@
 -- Where rows may stand, by the levels of lines.
-use Rattle.std.proofs.Common.{◌≡◌, ℕ, zero, suc, ◌+◌, ◌*◌, ◌-◌, ◌<◌, ◌≤◌, ℤ, pos, List, [], ◌∷◌, ◌++◌, Option, Some, None, is_some, true, refl, sym, ap, rules, ◌∙◌, subst, arith, ⊎_elim, append_assoc}
-use Rattle.std.proofs.lemmas.Bool.{false≢true, lt-ltb, ltb-true}
-use Rattle.std.proofs.lemmas.Option.{none-some, same_Some}
+use Rattle.std.proofs.Common.{◌≡◌, ℕ, zero, suc, ◌+◌, ◌*◌, ◌-◌, ◌<◌, ◌≤◌, ℤ, pos, List, [], ◌∷◌, ◌++◌, Option, Some, None, is_some, true}
+use Rattle.std.proofs.Common.{refl, sym, ap, rules, ◌∙◌, subst, arith, ⊎_elim, append_assoc}
+use Rattle.std.{proofs.lemmas.Bool.{false≢true, lt-ltb, ltb-true}, proofs.lemmas.Option.{none-some, same_Some}}
 use mathlib.Core.List.{head-eq_of_cons-eq}
-use Rattle.yq_core.specs.Block.{BlockText, RawLines, IsDigit, IsTextIndent}
-use Rattle.yq_core.specs.declared.block_lines.TextIndent.{TextIndent}
+use Rattle.yq_core.{specs.Block.{BlockText, RawLines, IsDigit, IsTextIndent}, specs.declared.block_lines.TextIndent.TextIndent}
 use Rattle.yq_core.specs.Piece.{deeper}
-use Rattle.yq_outline.specs.Comments.{head_comment}
+use Rattle.yq_outline.{specs.Comments.head_comment, specs.Lines.{mark_line, lines_from, row_lines, lines_of_rows, head_of}}
+use Rattle.yq_outline.{specs.Outline.{Line, level}, proofs.Values.rank_small}
 use Rattle.yq_row_table.specs.Grammar.{Limit, allows, limit_after, limit_behind, AreDashes, IsRow}
-use Rattle.yq_row_table.specs.Rows as rows
 use Rattle.yq_row_table.specs.Rows.{Content, Row, behind_columns, before_column, mark_column, parent_of, parent_indent, rows_text}
 use Rattle.yq_row_table.specs.Removal.{block_of, last_block, next_column, StandsLess}
-use Rattle.yq_outline.specs.Lines.{mark_line, lines_from, row_lines, lines_of_rows, head_of}
-use Rattle.yq_outline.specs.Outline.{Line, level}
-use Rattle.yq_outline.proofs.Values.{rank_small}
-use Rattle.yq_edits.specs.Moved.{dash_lines}
-use Rattle.yq_edits.specs.Columns.{NextAllowed, NextStays, BlockIsDeeper, ClosedStandsLess}
-use Rattle.yq_edits.specs.LineRows.{Begins, StandApart, AreDeep, AreClosed}
-use Rattle.yq_edits.proofs.ApartLaws.{apart_skip, closed_back, first_level}
+use Rattle.yq_edits.{specs.Moved.dash_lines, specs.Columns.{NextAllowed, NextStays, BlockIsDeeper, ClosedStandsLess}}
+use Rattle.yq_edits.{specs.LineRows.{Begins, StandApart, AreDeep, AreClosed}, proofs.ApartLaws.{apart_skip, closed_back, first_level}}
 use Rattle.yq_edits.proofs.LineLaws.{above_mark, mark_behind}
+use Rattle.yq_row_table.specs.Rows as rows
 
 -- columns and levels
 pub behind_more : (column : ℕ) (ns : List ℕ) → column ≤ behind_columns column ns

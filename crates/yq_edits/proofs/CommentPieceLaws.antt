@@ -1,28 +1,17 @@
 -- What is written for comments is made of pieces of texts.
-use Rattle.std.proofs.Common.{◌≡◌, ◌≢◌, get_or, ◌⊎◌, inl, inr, ℕ, zero, suc, ◌+◌, ◌<◌, ◌≤◌, Bool, true, false, ◌&&◌, not, cond, List, [], ◌∷◌, ◌++◌, length, replicate, refl, sym, ap, ◌∙◌, subst, arith, append-nil, append_assoc, length-append, rules}
-use Rattle.std.proofs.lemmas.Bool.{false≢true, ltb-true, and_parts, cases_Bool}
-use Rattle.std.proofs.lemmas.Str.{encode_ascii, IsUtf8-nil, IsUtf8-take}
-use Rattle.std.proofs.Math.Seq.{take-append_seam}
-use Rattle.std.proofs.Math.Utf8.{encodes, encode, scalars, low_scalar}
-use Rattle.std.specs.List.{list_all}
-use Rattle.std.specs.Str.{chars, IsUtf8}
-use Rattle.yq_core.specs.BlockWritten.{break_text}
-use Rattle.yq_core.specs.Characters.{is_text, is_text_char, pairs_returns}
-use Rattle.yq_core.specs.Text.{is_feed, is_return, is_empty}
-use Rattle.yq_core.specs.declared.block_types.Break.{Break}
-use Rattle.yq_core.proofs.Bools.{not_byte}
-use Rattle.yq_core.proofs.Bytes.{Each, each_byte}
-use Rattle.yq_core.proofs.WrittenText.{no_break, is_line_ascii, IsLine, line_is_text}
-use Rattle.yq_row_table.proofs.NodePieces.{before_ascii}
-use Rattle.yq_row_table.proofs.seams.ScalarSeams.{ends_return}
-use Rattle.yq_edits.specs.TextPieces.{IsPiece}
-use Rattle.yq_edits.proofs.LineFrontLaws.{clean_byte, clean_cut}
-use Rattle.yq_edits.proofs.TextPieceLaws.{pieces_joined, line_cut}
-use Rattle.yq_semantics.specs.Changes.{can_be_comment}
+use Rattle.std.proofs.Common.{◌≡◌, ◌≢◌, get_or, ◌⊎◌, inl, inr, ℕ, zero, suc, ◌+◌, ◌<◌, ◌≤◌, Bool, true, false, ◌&&◌, not, cond, List, []}
+use Rattle.std.proofs.Common.{◌∷◌, ◌++◌, length, replicate, refl, sym, ap, ◌∙◌, subst, arith, append-nil, append_assoc, length-append}
+use Rattle.std.{proofs.Common.rules, proofs.lemmas.Bool.{false≢true, ltb-true, and_parts, cases_Bool}}
+use Rattle.std.{proofs.lemmas.Str.{encode_ascii, IsUtf8-nil, IsUtf8-take}, proofs.Math.Seq.take-append_seam}
+use Rattle.std.{proofs.Math.Utf8.{encodes, encode, scalars, low_scalar}, specs.List.list_all, specs.Str.{chars, IsUtf8}}
+use Rattle.yq_core.{specs.BlockWritten.break_text, specs.Characters.{is_text, is_text_char, pairs_returns}}
+use Rattle.yq_core.{specs.Text.{is_feed, is_return, is_empty}, specs.declared.block_types.Break.Break, proofs.Bools.not_byte}
+use Rattle.yq_core.{proofs.Bytes.{Each, each_byte}, proofs.WrittenText.{no_break, is_line_ascii, IsLine, line_is_text}}
+use Rattle.yq_row_table.{proofs.NodePieces.before_ascii, proofs.seams.ScalarSeams.ends_return}
+use Rattle.yq_edits.{specs.TextPieces.IsPiece, proofs.LineFrontLaws.{clean_byte, clean_cut}, proofs.TextPieceLaws.{pieces_joined, line_cut}}
+use Rattle.yq_edits.{proofs.RemovalPieceLaws.spaces_piece, specs.CommentEdits.{comment_line, head_lines}}
+use Rattle.yq_semantics.{specs.Changes.can_be_comment, specs.Meaning.{head_comment_lines, split_lines}}
 use Rattle.yq_semantics.specs.declared.program.CommentPlace.TheVariants as comments
-use Rattle.yq_edits.proofs.RemovalPieceLaws.{spaces_piece}
-use Rattle.yq_semantics.specs.Meaning.{head_comment_lines, split_lines}
-use Rattle.yq_edits.specs.CommentEdits.{comment_line, head_lines}
 
 -- ---- single bytes
 

@@ -1,42 +1,24 @@
 -- Comments of items and entries, put and taken away.
-use Rattle.std.proofs.Common.{◌≡◌, ℕ, ◌+◌, ◌≤◌, List, [], ◌∷◌, ◌++◌, length, Option, refl, sym, ap, ◌∙◌, subst, append_assoc, length-append, arith, rules}
-use Rattle.std.proofs.lemmas.Bool.{false≢true}
+use Rattle.std.proofs.Common.{◌≡◌, ℕ, ◌+◌, ◌≤◌, List, [], ◌∷◌, ◌++◌, length, Option, refl, sym, ap, ◌∙◌, subst, append_assoc, length-append}
+use Rattle.std.{proofs.Common.{arith, rules}, proofs.lemmas.Bool.false≢true}
 use mathlib.Core.List.{head-eq_of_cons-eq}
 use Rattle.yq_core.specs.Characters.{is_text}
 use Rattle.yq_text.specs.Limit.{text_limit}
-use Rattle.yq_outline.specs.Comments.{head_comment, line_comment}
-use Rattle.yq_row_table.specs.Grammar.{IsCut}
-use Rattle.yq_row_table.specs.Rows.{Content, Row, mark_column, parent_indent, rows_text, Part, Cut, cut_text}
-use Rattle.yq_row_table.specs.Seams.{TailFits, retail, with_tail}
-use Rattle.yq_row_table.specs.Splices.{first_gap, nth_part, splice}
-use Rattle.yq_row_table.proofs.splices.RowReplaced.{tail_replaced}
-use Rattle.yq_documents.specs.Documents.{HaveFitKeys, HasShortRoot, lead_of}
-use Rattle.yq_outline.specs.Group.{level_or}
-use Rattle.yq_outline.specs.Laws.{with_lines}
-use Rattle.yq_outline.specs.Lines.{tail_of, mark_line, lines_of_rows}
-use Rattle.yq_outline.specs.Outline.{Line, level, flatten, label}
-use Rattle.yq_outline.specs.Places.{lines_before, lines_after, FoundLine}
-use Rattle.yq_documents.specs.Reading.{part_outline}
-use Rattle.yq_places.specs.RowPaths.{IsReadable}
-use Rattle.yq_outline.proofs.Decides.{flatten-group}
-use Rattle.yq_row_table.proofs.splices.SpliceTexts.{own_gap}
-use Rattle.yq_edits.specs.Changed.{put_document}
-use Rattle.yq_edits.specs.Moved.{dash_lines}
-use Rattle.yq_edits.specs.Siblings.{IsEntryAt, NodeLines, put_lines}
-use Rattle.yq_edits.proofs.AnchorLaws.{fit_parts, fit_from}
-use Rattle.yq_edits.proofs.CollectionLaws.{relabelled}
-use Rattle.yq_edits.proofs.EditedLaws.{led_as}
-use Rattle.yq_edits.proofs.BlockChangeLaws.{entry_relabelled}
-use Rattle.yq_edits.proofs.PlacedLaws.{around, same_parts}
-use Rattle.yq_edits.specs.LineRows.{lines_before_entry}
-use Rattle.yq_edits.specs.DocumentRows.{IsDocumentPart, Known, behind_document}
-use Rattle.yq_documents.specs.PartNumbers.{part_number}
-use Rattle.yq_edits.specs.LineComments.{retailed, LineCommented}
+use Rattle.yq_outline.{specs.Comments.{head_comment, line_comment}, specs.Group.level_or, specs.Laws.with_lines}
+use Rattle.yq_outline.{specs.Lines.{tail_of, mark_line, lines_of_rows}, specs.Outline.{Line, level, flatten, label}}
+use Rattle.yq_outline.{specs.Places.{lines_before, lines_after, FoundLine}, proofs.Decides.flatten-group}
+use Rattle.yq_row_table.{specs.Grammar.IsCut, specs.Rows.{Content, Row, mark_column, parent_indent, rows_text, Part, Cut, cut_text}}
+use Rattle.yq_row_table.{specs.Seams.{TailFits, retail, with_tail}, specs.Splices.{first_gap, nth_part, splice}}
+use Rattle.yq_row_table.{proofs.splices.RowReplaced.tail_replaced, proofs.splices.SpliceTexts.own_gap}
+use Rattle.yq_documents.{specs.Documents.{HaveFitKeys, HasShortRoot, lead_of}, specs.Reading.part_outline, specs.PartNumbers.part_number}
+use Rattle.yq_documents.specs.TreeEdits.{with_line_comment}
+use Rattle.yq_places.{specs.RowPaths.IsReadable, proofs.RemovalLines.front_some, proofs.UnderExchange.lines_append}
+use Rattle.yq_edits.{specs.Changed.put_document, specs.Moved.dash_lines, specs.Siblings.{IsEntryAt, NodeLines, put_lines}}
+use Rattle.yq_edits.{proofs.AnchorLaws.{fit_parts, fit_from}, proofs.CollectionLaws.relabelled, proofs.EditedLaws.led_as}
+use Rattle.yq_edits.{proofs.BlockChangeLaws.entry_relabelled, proofs.PlacedLaws.{around, same_parts}, specs.LineRows.lines_before_entry}
+use Rattle.yq_edits.{specs.DocumentRows.{IsDocumentPart, Known, behind_document}, specs.LineComments.{retailed, LineCommented}}
 use Rattle.yq_edits.proofs.LineLaws.{above_mark, mark_behind, dashes_count}
 use Rattle.yq_edits.proofs.PartLaws.{part_numbered, rows_put, document_known, is_put}
-use Rattle.yq_documents.specs.TreeEdits.{with_line_comment}
-use Rattle.yq_places.proofs.RemovalLines.{front_some}
-use Rattle.yq_places.proofs.UnderExchange.{lines_append}
 
 -- The line of an item or entry, and the lines with another in its place.
 pub record OneLine (p : Part) (h : NodeLines) (f : FoundLine) (a : List Line) (x : Line) (z : List Line) : Type 0 where

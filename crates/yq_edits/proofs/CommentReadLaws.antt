@@ -1,20 +1,15 @@
 -- What is written for comments reads as their texts.
-use Rattle.std.proofs.Common.{◌≡◌, ◌⊎◌, inl, inr, ℕ, true, ◌&&◌, cond, eqb, List, [], ◌∷◌, ◌++◌, replicate, drop, Option, Some, None, refl, sym, ap, ◌∙◌, append-nil, append_assoc, rules}
-use Rattle.std.proofs.lemmas.Bool.{and_parts, not-true}
+use Rattle.std.proofs.Common.{◌≡◌, ◌⊎◌, inl, inr, ℕ, true, ◌&&◌, cond, eqb, List, [], ◌∷◌, ◌++◌, replicate, drop, Option, Some, None, refl}
+use Rattle.std.{proofs.Common.{sym, ap, ◌∙◌, append-nil, append_assoc, rules}, proofs.lemmas.Bool.{and_parts, not-true}}
 use Rattle.yq_core.specs.BlockWritten.{break_text}
-use Rattle.yq_core.specs.Text as text
 use Rattle.yq_core.specs.Text.{front, is_empty, is_break, is_line, ends_line, past_white, joined, text_lines, NoneIn}
-use Rattle.yq_core.specs.declared.block_types.Break.{Break}
-use Rattle.yq_core.proofs.Bytes.{Each}
-use Rattle.yq_core.proofs.LineLaws.{lines_again}
-use Rattle.yq_core.proofs.Upto.{cut-append}
+use Rattle.yq_core.{specs.declared.block_types.Break.Break, proofs.Bytes.Each, proofs.LineLaws.lines_again, proofs.Upto.cut-append}
 use Rattle.yq_core.proofs.WrittenText.{no_break}
 use Rattle.yq_outline.specs.Comments.{less_space, comment_text, are_comments, last_comments, head_comment as head_texts}
-use Rattle.yq_row_table.specs.Gap.{IsWhite, IsGap, IsGapLine, AreGapLines}
-use Rattle.yq_row_table.proofs.LineEnds.{text_line, white_again, white_none}
+use Rattle.yq_row_table.{specs.Gap.{IsWhite, IsGap, IsGapLine, AreGapLines}, proofs.LineEnds.{text_line, white_again, white_none}}
 use Rattle.yq_row_table.proofs.RowAgain.{white_spaces}
-use Rattle.yq_edits.specs.CommentEdits.{comment_line, head_lines}
-use Rattle.yq_edits.proofs.CommentPieceLaws.{AreParts}
+use Rattle.yq_edits.{specs.CommentEdits.{comment_line, head_lines}, proofs.CommentPieceLaws.AreParts}
+use Rattle.yq_core.specs.Text as text
 
 -- a text without breaks, before more
 pub no_breaks_none : (t rest : List ℕ) → Each no_break t → NoneIn ends_line t rest

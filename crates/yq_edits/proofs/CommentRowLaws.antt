@@ -1,45 +1,27 @@
 -- The row of the line to which steps lead, in its document and in the text.
-use Rattle.std.proofs.Common.{◌≡◌, ◌⊎◌, ⊎_elim, ℕ, suc, ◌+◌, true, false, List, [], ◌∷◌, ◌++◌, take, drop, replicate, Option, Some, None, option_and_then, option_map, refl, sym, ap, ◌∙◌, subst, append_assoc, rules}
-use Rattle.std.proofs.lemmas.List.{take-append-drop}
-use Rattle.std.proofs.lemmas.Bool.{false≢true, or_cases, cases_Bool}
-use Rattle.std.proofs.lemmas.Option.{none-some}
+use Rattle.std.proofs.Common.{◌≡◌, ◌⊎◌, ⊎_elim, ℕ, suc, ◌+◌, true, false, List, [], ◌∷◌, ◌++◌, take, drop, replicate, Option, Some, None}
+use Rattle.std.proofs.Common.{option_and_then, option_map, refl, sym, ap, ◌∙◌, subst, append_assoc, rules}
+use Rattle.std.{proofs.lemmas.List.take-append-drop, proofs.lemmas.Bool.{false≢true, or_cases, cases_Bool}, proofs.lemmas.Option.none-some}
 use Rattle.std.specs.List.{slice_get}
-use Rattle.yq_core.specs.Answers.{◌>>=◌}
-use Rattle.yq_core.specs.Paths.{Step}
-use Rattle.yq_core.specs.Text.{is_empty, ends_line, no_white, past_white}
-use Rattle.yq_core.specs.Text as text
-use Rattle.yq_core.proofs.Bools.{bind_some, guard_then}
-use Rattle.yq_core.proofs.Upto.{cut_takes}
-use Rattle.yq_outline.specs.Ends.{found_line, line_at_steps}
-use Rattle.yq_outline.specs.Places.{FoundLine, bare_or}
-use Rattle.yq_outline.specs.Outline.{LineMark, Bare, Line}
-use Rattle.yq_row_table.specs.Exchange.{row_front}
-use Rattle.yq_row_table.specs.Grammar.{IsCut, IsTail, IsRow, Limit}
-use Rattle.yq_row_table.specs.Rows as rows
-use Rattle.yq_row_table.specs.Rows.{Row, behind_indent, dashes_text, mark_text, print_row, rows_text, Cut, cut_text}
-use Rattle.yq_row_table.specs.View.{slices}
-use Rattle.yq_row_table.proofs.Fronts.{Starts}
-use Rattle.yq_row_table.proofs.LineEnds.{line_end_behind}
-use Rattle.yq_row_table.proofs.PlaceLaws.{row_then, row_in}
-use Rattle.yq_row_table.proofs.RowAgain.{row_starts}
-use Rattle.yq_row_table.proofs.EmptyTexts.{empty_is}
-use Rattle.yq_row_table.proofs.seams.SeamLaws.{rows_text-append}
+use Rattle.yq_core.{specs.Answers.◌>>=◌, specs.Paths.Step, specs.Text.{is_empty, ends_line, no_white, past_white}}
+use Rattle.yq_core.{proofs.Bools.{bind_some, guard_then}, proofs.Upto.cut_takes}
+use Rattle.yq_outline.{specs.Ends.{found_line, line_at_steps}, specs.Places.{FoundLine, bare_or}, specs.Outline.{LineMark, Bare, Line}}
+use Rattle.yq_outline.specs.Lines.{lines_from, lines_of_rows}
+use Rattle.yq_row_table.{specs.Exchange.row_front, specs.Grammar.{IsCut, IsTail, IsRow, Limit}}
+use Rattle.yq_row_table.{specs.Rows.{Row, behind_indent, dashes_text, mark_text, print_row, rows_text, Cut, cut_text}, specs.View.slices}
+use Rattle.yq_row_table.{proofs.Fronts.Starts, proofs.LineEnds.line_end_behind, proofs.PlaceLaws.{row_then, row_in}}
+use Rattle.yq_row_table.{proofs.RowAgain.row_starts, proofs.EmptyTexts.empty_is, proofs.seams.SeamLaws.rows_text-append}
 use Rattle.yq_row_table.proofs.splices.ContentPlaces.{rows_around}
 use Rattle.yq_places.specs.CommentPlaces.{end_in_line, text_to_line_end}
-use Rattle.yq_outline.specs.Lines.{lines_from, lines_of_rows}
 use Rattle.yq_places.specs.PlacedRows.{PlacedPart, PlacedRow, placed_document, placed_row, row_of_path}
-use Rattle.yq_documents.specs.Reading.{read_at}
-use Rattle.yq_documents.specs.Ready.{begins_no_node}
-use Rattle.yq_documents.specs.LinesInRows.{RowLine, row_line_of, document_row}
 use Rattle.yq_places.specs.Standings.{RowsOfEntry, before_entry, behind_entry, entry_rows_at, rows_of_entry, under_count}
-use Rattle.yq_places.proofs.CommentEndLaws.{row_text_parts}
-use Rattle.yq_places.proofs.CommentPieceLaws.{row_place}
-use Rattle.yq_places.proofs.PlacedRowLaws.{IsAt, part_at}
-use Rattle.yq_places.proofs.PrintedTexts.{map_some}
+use Rattle.yq_places.{proofs.CommentEndLaws.row_text_parts, proofs.CommentPieceLaws.row_place, proofs.PlacedRowLaws.{IsAt, part_at}}
+use Rattle.yq_places.{proofs.PrintedTexts.map_some, proofs.RowLineSpans.steps_row}
+use Rattle.yq_documents.{specs.Reading.read_at, specs.Ready.begins_no_node, specs.LinesInRows.{RowLine, row_line_of, document_row}}
 use Rattle.yq_documents.proofs.ReadLaws.{text_takes}
-use Rattle.yq_places.proofs.RowLineSpans.{steps_row}
-use Rattle.yq_edits.specs.PlacedParts.{StandsAt}
-use Rattle.yq_edits.proofs.PlacedPartLaws.{document_stands_at}
+use Rattle.yq_edits.{specs.PlacedParts.StandsAt, proofs.PlacedPartLaws.document_stands_at}
+use Rattle.yq_core.specs.Text as text
+use Rattle.yq_row_table.specs.Rows as rows
 
 pub rows_front : (front rs : List Row) (rest : List ℕ) → rows_text (front ++ rs) rest ≡ rows_text front [] ++ rows_text rs rest
 rows_front [] rs rest = refl

@@ -1,59 +1,39 @@
 -- What is written behind the mark of one row gives way to a value.
-use Rattle.std.proofs.Common.{◌≡◌, ◌⊎◌, inl, inr, ℕ, ℤ, suc, ◌+◌, ◌≤◌, ◌++◌, eqb, Bool, true, List, [], ◌∷◌, length, take, Option, Some, None, refl, sym, ap, ◌∙◌, subst, arith, length-append, append_assoc, append-nil, rules}
+use Rattle.std.proofs.Common.{◌≡◌, ◌⊎◌, inl, inr, ℕ, ℤ, suc, ◌+◌, ◌≤◌, ◌++◌, eqb, Bool, true, List, [], ◌∷◌, length, take, Option, Some}
+use Rattle.std.proofs.Common.{None, refl, sym, ap, ◌∙◌, subst, arith, length-append, append_assoc, append-nil, rules}
 use Rattle.std.proofs.lemmas.Bool.{cond_both, false≢true}
 use mathlib.Core.List.{head-eq_of_cons-eq, tail-eq_of_cons-eq}
-use Rattle.yq_core.specs.Characters.{is_text}
-use Rattle.yq_text.specs.Limit.{text_limit}
-use Rattle.yq_core.specs.Paths.{Step, changed_at}
-use Rattle.yq_core.specs.Tree as tree
-use Rattle.yq_core.specs.Tree.{Node, Children, anchor_of}
-use Rattle.yq_core.specs.Nodes as inline
-use Rattle.yq_core.specs.Nodes.{takes_anchor, IsFlowNode}
-use Rattle.yq_core.specs.Trees as trees
-use Rattle.yq_core.specs.Trees.{tree_of, node_anchor, node_head}
+use Rattle.yq_core.{specs.Characters.is_text, specs.Paths.{Step, changed_at}, specs.Tree.{Node, Children, anchor_of}}
+use Rattle.yq_core.{specs.Nodes.{takes_anchor, IsFlowNode}, specs.Trees.{tree_of, node_anchor, node_head}}
 use Rattle.yq_core.specs.Anchors.{IsNoAlias, names_of}
-use Rattle.yq_outline.specs.LineAnchors.{IsFree, MayTake, HaveOneAnchorEach}
-use Rattle.yq_outline.specs.Comments.{head_comment}
-use Rattle.yq_outline.specs.Group.{group, level_or}
+use Rattle.yq_text.specs.Limit.{text_limit}
+use Rattle.yq_outline.{specs.LineAnchors.{IsFree, MayTake, HaveOneAnchorEach}, specs.Comments.head_comment, specs.Group.{group, level_or}}
 use Rattle.yq_outline.specs.Laws.{with_lines}
-use Rattle.yq_outline.specs.Outline as outline
-use Rattle.yq_outline.specs.Outline.{LineMark, Line, level, Outline, end, row, flatten, IsOpen, IsWhole, IsEven, first_anchor, anchored, head_or, null_node, value}
-use Rattle.yq_outline.specs.Places.{lines_before, lines_after, FoundLine, find, content_under}
-use Rattle.yq_row_table.specs.Exchange.{asked_behind, with_content}
-use Rattle.yq_row_table.specs.Grammar.{unlimited, IsContent, IsCut, no_rows}
-use Rattle.yq_row_table.specs.Rows as rows
-use Rattle.yq_row_table.specs.Rows.{Content, Row, mark_column, parent_indent, rows_text, Part, Cut, cut_text}
-use Rattle.yq_row_table.specs.SpliceFits.{StandsFor}
-use Rattle.yq_row_table.specs.Splices.{asked_at, first_gap, nth_part, rest_behind, splice}
-use Rattle.yq_row_table.proofs.splices.RowReplaced.{row_exchanged}
-use Rattle.yq_documents.specs.Documents.{HaveFitKeys, HasShortRoot, lead_of}
+use Rattle.yq_outline.specs.Outline.{LineMark, Line, level, Outline, end, row, flatten, IsOpen, IsWhole, IsEven, first_anchor, anchored}
+use Rattle.yq_outline.{specs.Outline.{head_or, null_node, value}, specs.Places.{lines_before, lines_after, FoundLine, find, content_under}}
 use Rattle.yq_outline.specs.Lines.{block_anchor, content_anchor, head_of, line_mark, mark_line, lines_of_rows}
-use Rattle.yq_documents.specs.TreeEdits.{replaced_node}
-use Rattle.yq_documents.specs.Reading.{part_outline, root_of}
+use Rattle.yq_outline.{proofs.Decides.flatten-group, proofs.NodeLaws.anchored_twice, proofs.NameLaws.each_back}
+use Rattle.yq_row_table.{specs.Exchange.{asked_behind, with_content}, specs.Grammar.{unlimited, IsContent, IsCut, no_rows}}
+use Rattle.yq_row_table.{specs.Rows.{Content, Row, mark_column, parent_indent, rows_text, Part, Cut, cut_text}, specs.SpliceFits.StandsFor}
+use Rattle.yq_row_table.{specs.Splices.{asked_at, first_gap, nth_part, rest_behind, splice}, proofs.splices.RowReplaced.row_exchanged}
+use Rattle.yq_row_table.proofs.splices.SpliceTexts.{own_gap}
+use Rattle.yq_documents.{specs.Documents.{HaveFitKeys, HasShortRoot, lead_of}, specs.TreeEdits.replaced_node}
+use Rattle.yq_documents.{specs.Reading.{part_outline, root_of}, specs.PartNumbers.part_number}
 use Rattle.yq_places.specs.RowPaths.{spelled_node, IsReadable}
 use Rattle.yq_edits.specs.Changed.{IsChanged, put_document}
-use Rattle.yq_edits.specs.Contents.{recontent, TakesContent, LowerContentReplaced, RootContentReplaced}
-use Rattle.yq_edits.specs.Appends.{inserted}
-use Rattle.yq_edits.specs.DocumentRows.{IsDocumentPart, behind_document}
-use Rattle.yq_documents.specs.PartNumbers.{part_number}
-use Rattle.yq_edits.specs.Edited.{IsPut}
-use Rattle.yq_edits.specs.Moved.{dash_lines}
-use Rattle.yq_edits.specs.SoundRoots.{MayReplace}
-use Rattle.yq_edits.proofs.AnchorLaws.{fit_parts, fit_from}
-use Rattle.yq_edits.proofs.BlockChangeLaws.{node_replaced, root_replaced}
-use Rattle.yq_edits.proofs.EditedLaws.{led_as}
-use Rattle.yq_edits.proofs.FirstRowLaws.{short_first}
-use Rattle.yq_edits.proofs.LineLaws.{above_mark, dashes_count}
-use Rattle.yq_edits.proofs.NodeLineLaws.{low_level, under_even}
+use Rattle.yq_edits.{specs.Contents.{recontent, TakesContent, LowerContentReplaced, RootContentReplaced}, specs.Appends.inserted}
+use Rattle.yq_edits.{specs.DocumentRows.{IsDocumentPart, behind_document}, specs.Edited.IsPut, specs.Moved.dash_lines}
+use Rattle.yq_edits.{specs.SoundRoots.MayReplace, proofs.AnchorLaws.{fit_parts, fit_from}}
+use Rattle.yq_edits.{proofs.BlockChangeLaws.{node_replaced, root_replaced}, proofs.EditedLaws.led_as, proofs.FirstRowLaws.short_first}
+use Rattle.yq_edits.{proofs.LineLaws.{above_mark, dashes_count}, proofs.NodeLineLaws.{low_level, under_even}}
 use Rattle.yq_edits.proofs.PartLaws.{document_known, is_put, part_numbered, part_rows, rows_put, take_front}
-use Rattle.yq_edits.proofs.PlacedLaws.{same_parts, whole_line}
-use Rattle.yq_edits.proofs.CommentPutLaws.{last_lines}
-use Rattle.yq_edits.proofs.ReplaceLaws.{rows_before_some}
+use Rattle.yq_edits.{proofs.PlacedLaws.{same_parts, whole_line}, proofs.CommentPutLaws.last_lines, proofs.ReplaceLaws.rows_before_some}
 use Rattle.yq_edits.proofs.RowCommentLaws.{rows_behind, lead_content}
-use Rattle.yq_outline.proofs.Decides.{flatten-group}
-use Rattle.yq_outline.proofs.NodeLaws.{anchored_twice}
-use Rattle.yq_outline.proofs.NameLaws.{each_back}
-use Rattle.yq_row_table.proofs.splices.SpliceTexts.{own_gap}
+use Rattle.yq_core.specs.Tree as tree
+use Rattle.yq_core.specs.Nodes as inline
+use Rattle.yq_core.specs.Trees as trees
+use Rattle.yq_outline.specs.Outline as outline
+use Rattle.yq_row_table.specs.Rows as rows
 
 -- ---- what a row spells, and its anchor
 

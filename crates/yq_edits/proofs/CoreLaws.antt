@@ -2,16 +2,13 @@
 use Rattle.std.proofs.Common.{◌≡◌, inl, inr, ℕ, ◌||◌, not, List, [], ◌∷◌, ◌++◌, Option, None, Bool, true, false, refl, sym, ap, ◌∙◌, rules}
 use Rattle.std.proofs.lemmas.Bool.{cond_both, false≢true, or_right}
 use Rattle.yq_core.specs.Text.{is_empty, no_white, unless}
-use Rattle.yq_core.specs.Nodes.{FlowNode, empty, alias, scalar, coll, anchored, node_text, flow_items_text, opening_bracket, begins_with, in_name, begins_content, takes_anchor, is_empty_node, IsName, IsLead, IsFlowNode}
-use Rattle.yq_core.specs.Trees.{node_anchor, node_head}
-use Rattle.yq_core.proofs.NodesPieceLaws.{scalar_begins}
-use Rattle.yq_row_table.specs.Grammar.{is_more}
-use Rattle.yq_row_table.specs.Rows.{Content, Nothing, Inline, Block}
-use Rattle.yq_row_table.proofs.Fronts.{node_starts}
+use Rattle.yq_core.specs.Nodes.{FlowNode, empty, alias, scalar, coll, anchored, node_text, flow_items_text, opening_bracket, begins_with}
+use Rattle.yq_core.specs.Nodes.{in_name, begins_content, takes_anchor, is_empty_node, IsName, IsLead, IsFlowNode}
+use Rattle.yq_core.{specs.Trees.{node_anchor, node_head}, proofs.NodesPieceLaws.scalar_begins, proofs.AlikePieces.none_unless}
+use Rattle.yq_row_table.{specs.Grammar.is_more, specs.Rows.{Content, Nothing, Inline, Block}, proofs.Fronts.node_starts}
 use Rattle.yq_row_table.proofs.EmptyTexts.{none_is}
 use Rattle.yq_documents.specs.Documents.{HasFitKeys}
 use Rattle.yq_places.specs.RowPaths.{space_after_anchor}
-use Rattle.yq_core.proofs.AlikePieces.{none_unless}
 
 -- a node in the place of another one, behind its anchor
 abbrev pub recore : FlowNode → FlowNode → FlowNode

@@ -1,13 +1,10 @@
 -- The items of a cut in which a document is exchanged.
 use Rattle.std.proofs.Common.{◌≡◌, ℕ, zero, suc, List, [], ◌∷◌, ◌++◌, refl, sym, ap, ◌∙◌}
 use Rattle.yq_row_table.specs.Items.{Item, row_item, end_item, rows_items, items_of_cut, items_text}
-use Rattle.yq_row_table.specs.Rows.{Row, rows_text, Part, Cut, last, marked}
-use Rattle.yq_row_table.specs.Splices.{behind_part, nth_part}
+use Rattle.yq_row_table.{specs.Rows.{Row, rows_text, Part, Cut, last, marked}, specs.Splices.{behind_part, nth_part}}
 use Rattle.yq_row_table.proofs.ItemLaws.{items_of_text}
-use Rattle.yq_edits.specs.Changed.{put_part}
-use Rattle.yq_documents.specs.PartNumbers.{part_number}
-use Rattle.yq_documents.proofs.PartNumberLaws.{part_there}
-use Rattle.yq_edits.specs.DocumentItems.{DocumentHasItems}
+use Rattle.yq_edits.{specs.Changed.put_part, specs.DocumentItems.DocumentHasItems}
+use Rattle.yq_documents.{specs.PartNumbers.part_number, proofs.PartNumberLaws.part_there}
 
 -- ---- rows as items
 

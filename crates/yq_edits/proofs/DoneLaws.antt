@@ -1,28 +1,16 @@
 -- One document of a text in the place of another, as an operation makes it: the text reads as the documents after that, and leaves the room that it has to.
 use Rattle.std.proofs.Common.{◌≡◌, ℕ, zero, suc, List, [], ◌∷◌, map, Option, Some, refl, sym, ap, ◌∙◌, subst, rules}
-use Rattle.std.proofs.lemmas.Option.{same_Some}
-use Rattle.std.specs.List.{slice_get}
-use Rattle.yq_core.specs.Tree.{Node, children_of}
-use Rattle.yq_core.specs.Answers.{◌>>=◌}
-use Rattle.yq_core.proofs.Bools.{guard_then}
+use Rattle.std.{proofs.lemmas.Option.same_Some, specs.List.slice_get}
+use Rattle.yq_core.{specs.Tree.{Node, children_of}, specs.Answers.◌>>=◌, proofs.Bools.guard_then}
 use Rattle.yq_row_table.specs.Rows.{Part, Cut, cut_text}
-use Rattle.yq_documents.specs.Documents.{Document, document_parts, lead_of}
+use Rattle.yq_documents.{specs.Documents.{Document, document_parts, lead_of}, specs.Reading.{documents, read_at, cut_of, root_of}}
+use Rattle.yq_documents.{specs.Ready.part_is_block, specs.LinesInRows.{row_line_of, row_line_has_room}}
+use Rattle.yq_documents.{specs.TreeEdits.{change_nth, lead_by}, proofs.ReadLaws.{text_takes, cut_is}}
+use Rattle.yq_edits.{specs.Changed.{changed, put_document}, proofs.AfterLaws.{nth_is, nth_same}, proofs.ChangedLaws.document_put}
+use Rattle.yq_edits.{specs.Rooms.is_block_root, specs.Done.{IsDone, DocumentDone}, specs.ReadsAfter.RoomStays}
+use Rattle.yq_semantics.{specs.After.{op_document, root_after, done_to, after_op}, specs.Operations.Operation}
+use Rattle.yq_semantics.{specs.Rooms.{comment_part, room_of}, specs.RoomsKept.KeepsBlock}
 use Rattle.yq_documents.specs.Reading as reading
-use Rattle.yq_documents.specs.Reading.{documents, read_at, cut_of, root_of}
-use Rattle.yq_documents.specs.Ready.{part_is_block}
-use Rattle.yq_documents.specs.LinesInRows.{row_line_of, row_line_has_room}
-use Rattle.yq_documents.specs.TreeEdits.{change_nth, lead_by}
-use Rattle.yq_documents.proofs.ReadLaws.{text_takes, cut_is}
-use Rattle.yq_edits.specs.Changed.{changed, put_document}
-use Rattle.yq_edits.proofs.AfterLaws.{nth_is, nth_same}
-use Rattle.yq_edits.proofs.ChangedLaws.{document_put}
-use Rattle.yq_semantics.specs.After.{op_document, root_after, done_to, after_op}
-use Rattle.yq_semantics.specs.Operations.{Operation}
-use Rattle.yq_semantics.specs.Rooms.{comment_part, room_of}
-use Rattle.yq_semantics.specs.RoomsKept.{KeepsBlock}
-use Rattle.yq_edits.specs.Rooms.{is_block_root}
-use Rattle.yq_edits.specs.Done.{IsDone, DocumentDone}
-use Rattle.yq_edits.specs.ReadsAfter.{RoomStays}
 
 -- the cut of a text that reads
 pub read_cut : (t : List ℕ) (c : Cut) → read_at t ≡ Some c → cut_of t ≡ c

@@ -3,44 +3,30 @@ use Rattle.std.proofs.Common.{◌≡◌, ℕ, List, [], ◌∷◌, ◌++◌, Opt
 use Rattle.std.proofs.lemmas.Option.{same_Some}
 use Rattle.yq_core.specs.Keys.{HasUniqueKeys, depth}
 use Rattle.yq_core.specs.Paths.{Step, append_child, changed_at, node_at, relabel_child, remove_child, within}
-use Rattle.yq_core.specs.Tree.{Label, Node, Children, child, children_of}
-use Rattle.yq_core.proofs.Bools.{guard_then}
-use Rattle.yq_outline.specs.Comments.{head_comment}
+use Rattle.yq_core.{specs.Tree.{Label, Node, Children, child, children_of}, proofs.Bools.guard_then, specs.Anchors.names_of}
+use Rattle.yq_outline.{specs.Comments.head_comment, specs.LineAnchors.{IsFree, HaveOneAnchorEach}, specs.Group.level_or}
+use Rattle.yq_outline.{specs.Laws.with_lines, specs.Lines.lines_of_rows}
+use Rattle.yq_outline.specs.Outline.{LineMark, Bare, Key, Dash, Line, level, Outline, end, row, flatten, IsWhole, IsEven, anchored, head_or}
+use Rattle.yq_outline.specs.Outline.{label, outline_node, children, value}
+use Rattle.yq_outline.{specs.Places.{lines_before, lines_after, plug, FoundLine, find, content_under}, proofs.Allowing.Allows}
+use Rattle.yq_outline.{proofs.Decides.{flatten-group, even_from}, proofs.Finding.{IsFoundIn, FoundNode, path_node, path_whole}}
+use Rattle.yq_outline.{proofs.PlaceLaws.{at, exchanged}, proofs.Plug.allows_from, proofs.Values.{same_rank, same_entry}}
+use Rattle.yq_outline.{proofs.NameLaws.{each_front, each_back}, proofs.NodeLaws.anchored_none}
 use Rattle.yq_row_table.specs.Rows.{Part, Cut}
-use Rattle.yq_core.specs.Anchors.{names_of}
-use Rattle.yq_outline.specs.LineAnchors.{IsFree, HaveOneAnchorEach}
-use Rattle.yq_documents.specs.Documents.{document_parts, lead_of}
-use Rattle.yq_outline.specs.Group.{level_or}
-use Rattle.yq_outline.specs.Laws.{with_lines}
-use Rattle.yq_outline.specs.Lines.{lines_of_rows}
-use Rattle.yq_outline.specs.Outline.{LineMark, Bare, Key, Dash, Line, level, Outline, end, row, flatten, IsWhole, IsEven, anchored, head_or, label, outline_node, children, value}
-use Rattle.yq_outline.specs.Places.{lines_before, lines_after, plug, FoundLine, find, content_under}
-use Rattle.yq_documents.specs.Reading.{is_document, part_outline, read_at, root_of}
-use Rattle.yq_outline.proofs.Allowing as allowing
-use Rattle.yq_outline.proofs.Allowing.{Allows}
-use Rattle.yq_outline.proofs.Decides.{flatten-group, even_from}
-use Rattle.yq_documents.proofs.DocumentLaws.{document_is}
-use Rattle.yq_outline.proofs.Finding.{IsFoundIn, FoundNode, path_node, path_whole}
-use Rattle.yq_outline.proofs.PlaceLaws.{at, exchanged}
-use Rattle.yq_outline.proofs.Plug.{allows_from}
-use Rattle.yq_documents.proofs.ReadLaws.{text_takes}
+use Rattle.yq_documents.{specs.Documents.{document_parts, lead_of}, specs.Reading.{is_document, part_outline, read_at, root_of}}
+use Rattle.yq_documents.{proofs.DocumentLaws.document_is, proofs.ReadLaws.text_takes, specs.TreeEdits.headed}
 use Rattle.yq_places.proofs.RowPathLaws.{document_fine}
-use Rattle.yq_outline.proofs.Values.{same_rank, same_entry}
-use Rattle.yq_outline.proofs.NameLaws.{each_front, each_back}
-use Rattle.yq_outline.proofs.NodeLaws.{anchored_none}
-use Rattle.yq_edits.specs.Changed.{IsChanged, put_document, first_comment}
-use Rattle.yq_edits.specs.Conditions.{last_anchor, BeginsEntry}
-use Rattle.yq_edits.specs.Edited.{IsPut, OldIsEven, OldIsSound, LinesAreThere, LineExchanged, LinesExchanged, LinesAppended, LinesRemoved, LineRelabelled, LeadIsAbove, first_above, RootHasLead}
-use Rattle.yq_edits.specs.SoundRoots.{IsSoundRoot}
+use Rattle.yq_edits.{specs.Changed.{IsChanged, put_document, first_comment}, specs.Conditions.{last_anchor, BeginsEntry}}
+use Rattle.yq_edits.specs.Edited.{IsPut, OldIsEven, OldIsSound, LinesAreThere, LineExchanged, LinesExchanged, LinesAppended, LinesRemoved}
+use Rattle.yq_edits.{specs.Edited.{LineRelabelled, LeadIsAbove, first_above, RootHasLead}, specs.SoundRoots.IsSoundRoot}
 use Rattle.yq_edits.specs.Siblings.{append_outline, IsEntry, HasEntries, NodeLines, put_lines, StandsSomewhere}
 use Rattle.yq_edits.proofs.AnchorLaws.{any_free, anchors_stay, after_anew, both_anew, collection_anew, lines_among}
 use Rattle.yq_edits.proofs.ChangedLaws.{document_changed, lead_is_first}
 use Rattle.yq_edits.proofs.CollectionLaws.{Splits, some_at, level_mark, appended, removed, relabelled}
 use Rattle.yq_edits.proofs.NodeLineLaws.{Under, lines_found, lines_even, lines_replaced}
-use Rattle.yq_edits.proofs.SiblingLaws.{entry_out, entries, even_right, next, rest_entries}
-use Rattle.yq_documents.specs.TreeEdits.{headed}
-use Rattle.yq_edits.proofs.PartLaws.{all_at}
+use Rattle.yq_edits.{proofs.SiblingLaws.{entry_out, entries, even_right, next, rest_entries}, proofs.PartLaws.all_at}
 use Rattle.yq_edits.proofs.PlacedLaws.{around}
+use Rattle.yq_outline.proofs.Allowing as allowing
 
 -- What is known of a part that is a document.
 pub record Known (p : Part) : Type 0 where

@@ -1,36 +1,22 @@
 -- What an operation that fits says of its value, its key, the anchors that go, and the node that gives way.
-use Rattle.std.proofs.Common.{inl, inr, ◌≡◌, ℕ, ◌+◌, ◌≤◌, Bool, true, false, ◌||◌, List, [], ◌∷◌, ◌++◌, length, Option, Some, None, refl, sym, ap, ◌∙◌, subst, arith, rules}
-use Rattle.std.proofs.lemmas.Bool.{false≢true, ltb-false, or_parts}
-use Rattle.std.specs.List.{list_any, slice_get}
-use Rattle.std.proofs.lemmas.Option.{none-some, same_Some}
-use Rattle.std.specs.Prelude.{◌≢◌, All}
-use Rattle.std.specs.Str.{bytes_eq}
-use Rattle.yq_core.specs.Answers.{◌>>=◌}
-use Rattle.yq_core.specs.Keys.{HasUniqueKeys, EachHasUniqueKeys, AreDistinct, keys_of, depth}
-use Rattle.yq_core.specs.Paths.{Step, To, key_is, child_at, node_at}
-use Rattle.yq_core.specs.Shapes.{IsTree, AreTrees, AreEntries, IsNew}
-use Rattle.yq_core.specs.Tree as tree
-use Rattle.yq_core.specs.Tree.{Node, Children}
-use Rattle.yq_core.specs.Inline.{depth_limit}
+use Rattle.std.proofs.Common.{inl, inr, ◌≡◌, ℕ, ◌+◌, ◌≤◌, Bool, true, false, ◌||◌, List, [], ◌∷◌, ◌++◌, length, Option, Some, None, refl}
+use Rattle.std.{proofs.Common.{sym, ap, ◌∙◌, subst, arith, rules}, proofs.lemmas.Bool.{false≢true, ltb-false, or_parts}}
+use Rattle.std.{specs.List.{list_any, slice_get}, proofs.lemmas.Option.{none-some, same_Some}, specs.Prelude.{◌≢◌, All}, specs.Str.bytes_eq}
+use Rattle.yq_core.{specs.Answers.◌>>=◌, specs.Keys.{HasUniqueKeys, EachHasUniqueKeys, AreDistinct, keys_of, depth}}
+use Rattle.yq_core.{specs.Paths.{Step, To, key_is, child_at, node_at}, specs.Shapes.{IsTree, AreTrees, AreEntries, IsNew}}
+use Rattle.yq_core.{specs.Tree.{Node, Children}, specs.Inline.depth_limit}
+use Rattle.yq_core.{specs.Anchors.{Name, Anchors, Refers, names_of, names_in, IsAmong}, specs.Text.with_first}
 use Rattle.yq_flow_edits.specs.Valued.{IsLabel, IsValueTree, AreValueTrees}
-use Rattle.yq_core.specs.Anchors.{Name, Anchors, Refers, names_of, names_in, IsAmong}
-use Rattle.yq_core.specs.Text.{with_first}
 use Rattle.yq_row_table.specs.Rows.{Part, Cut, cut_text}
-use Rattle.yq_documents.specs.Documents.{Document, document_parts}
-use Rattle.yq_documents.specs.Reading as reading
-use Rattle.yq_documents.specs.Reading.{documents, root_of}
-use Rattle.yq_edits.specs.BlockValues.{IsNear, HasNearKeys, EachHasNearKeys}
-use Rattle.yq_edits.proofs.KeyLaws.{near_key}
-use Rattle.yq_edits.specs.Conditions.{aliases_in, AreSpared}
-use Rattle.yq_edits.specs.SoundRoots.{IsNewValue, MayReplace}
-use Rattle.yq_semantics.specs.Changes.{is_overlong_key, has_long_key, have_long_key, is_deep, is_used, refers_to, is_used_inside}
-use Rattle.yq_semantics.specs.Fits.{Fits}
-use Rattle.yq_semantics.specs.Operations.{replace}
-use Rattle.yq_semantics.specs.Rooms.{room_of}
-use Rattle.yq_edits.specs.Operands.{KeyIsUtf8}
-use Rattle.yq_places.specs.NodesAt.{node_in}
+use Rattle.yq_documents.{specs.Documents.{Document, document_parts}, specs.Reading.{documents, root_of}}
+use Rattle.yq_edits.{specs.BlockValues.{IsNear, HasNearKeys, EachHasNearKeys}, proofs.KeyLaws.near_key}
+use Rattle.yq_edits.{specs.Conditions.{aliases_in, AreSpared}, specs.SoundRoots.{IsNewValue, MayReplace}, specs.Operands.KeyIsUtf8}
 use Rattle.yq_edits.proofs.DoneLaws.{nth_map}
-use Rattle.yq_semantics.proofs.PathLaws.{bytes_refl}
+use Rattle.yq_semantics.specs.Changes.{is_overlong_key, has_long_key, have_long_key, is_deep, is_used, refers_to, is_used_inside}
+use Rattle.yq_semantics.{specs.Fits.Fits, specs.Operations.replace, specs.Rooms.room_of, proofs.PathLaws.bytes_refl}
+use Rattle.yq_places.specs.NodesAt.{node_in}
+use Rattle.yq_core.specs.Tree as tree
+use Rattle.yq_documents.specs.Reading as reading
 
 -- ---- values
 

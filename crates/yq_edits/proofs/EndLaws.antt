@@ -1,54 +1,31 @@
 -- One item or entry more at the end of a text without a final break.
-use Rattle.std.proofs.Common.{◌≡◌, inl, inr, ℕ, suc, ◌+◌, ◌≤◌, List, [], ◌∷◌, ◌++◌, length, drop, eqb, ◌&&◌, Option, Some, None, true, false, cond, refl, sym, ap, ◌∙◌, subst, rules, arith, ⊎_elim, append_assoc, append-nil, length-append}
+use Rattle.std.proofs.Common.{◌≡◌, inl, inr, ℕ, suc, ◌+◌, ◌≤◌, List, [], ◌∷◌, ◌++◌, length, drop, eqb, ◌&&◌, Option, Some, None, true}
+use Rattle.std.proofs.Common.{false, cond, refl, sym, ap, ◌∙◌, subst, rules, arith, ⊎_elim, append_assoc, append-nil, length-append}
 use Rattle.std.proofs.lemmas.Bool.{false≢true, cond-true, cond-false, and_parts}
-use Rattle.yq_core.specs.Characters.{is_text, pairs_returns}
+use Rattle.yq_core.{specs.Characters.{is_text, pairs_returns}, specs.Lines.is_hash}
+use Rattle.yq_core.{specs.Text.{cut, ends_line, is_break, is_line, no_white, past_white}, proofs.Upto.cut-append}
 use Rattle.yq_text.specs.Limit.{text_limit}
-use Rattle.yq_core.specs.Lines.{is_hash}
-use Rattle.yq_core.specs.Text.{cut, ends_line, is_break, is_line, no_white, past_white}
-use Rattle.yq_core.proofs.Upto.{cut-append}
-use Rattle.yq_outline.specs.Comments.{comment_text, head_comment, less_space, line_comment}
-use Rattle.yq_row_table.specs.Exchange.{row_front}
-use Rattle.yq_row_table.specs.Gap.{IsBreak, IsComment, IsWhite}
+use Rattle.yq_outline.{specs.Comments.{comment_text, head_comment, less_space, line_comment}, specs.Group.level_or}
+use Rattle.yq_outline.{specs.Lines.{mark_line, lines_of_rows}, specs.Outline.{Line, flatten}, specs.Places.{lines_before, lines_after}}
+use Rattle.yq_outline.{proofs.Decides.flatten-group, proofs.HeadLaws.end_no_hash}
+use Rattle.yq_row_table.{specs.Exchange.row_front, specs.Gap.{IsBreak, IsComment, IsWhite}}
 use Rattle.yq_row_table.specs.Grammar.{Limit, IsTail, unlimited, AreRows, IsCut, no_rows}
 use Rattle.yq_row_table.specs.Rows.{Content, Row, content_text, mark_column, parent_indent, print_row, rows_text, Part, Cut, cut_text}
-use Rattle.yq_row_table.specs.Splices.{before_rows, behind_part, nth_part, splice}
-use Rattle.yq_row_table.specs.Appending.{closed_by}
-use Rattle.yq_row_table.specs.Seams.{is_block, tail_behind, with_tail}
-use Rattle.yq_row_table.proofs.splices.AppendLaws.{end_appended}
-use Rattle.yq_row_table.proofs.splices.SpliceTexts.{front_text}
-use Rattle.yq_row_table.proofs.CharacterLaws.{pairs_back}
-use Rattle.yq_row_table.proofs.LineEnds.{behind_comment, white_again}
-use Rattle.yq_row_table.proofs.PlaceLaws.{row_front-append}
-use Rattle.yq_row_table.proofs.seams.ScalarSeams.{ends_return}
-use Rattle.yq_row_table.proofs.seams.SeamLaws.{line_by_break, rows_drop}
-use Rattle.yq_row_table.proofs.splices.PartPlaces.{part_in}
-use Rattle.yq_row_table.proofs.seams.TailLaws.{comment_closed, no_end_return, content_tail, tail_pairs}
-use Rattle.yq_documents.specs.Documents.{HaveFitKeys, HasShortRoot}
-use Rattle.yq_outline.specs.Group.{level_or}
-use Rattle.yq_outline.specs.Lines.{mark_line, lines_of_rows}
-use Rattle.yq_outline.specs.Lines as lines
-use Rattle.yq_outline.specs.Outline.{Line, flatten}
-use Rattle.yq_outline.specs.Places.{lines_before, lines_after}
-use Rattle.yq_documents.specs.Reading.{part_outline}
-use Rattle.yq_places.specs.RowPaths.{IsReadable}
-use Rattle.yq_outline.proofs.Decides.{flatten-group}
-use Rattle.yq_outline.proofs.HeadLaws.{end_no_hash}
-use Rattle.yq_places.proofs.RemovalLines.{front_some}
-use Rattle.yq_places.proofs.UnderExchange.{lines_append}
-use Rattle.yq_edits.specs.Changed.{put_document}
-use Rattle.yq_edits.specs.Moved.{dash_lines}
-use Rattle.yq_edits.specs.Siblings.{put_lines}
-use Rattle.yq_edits.proofs.AnchorLaws.{fit_parts, fit_from}
-use Rattle.yq_edits.proofs.CollectionLaws.{appended}
-use Rattle.yq_edits.proofs.BlockChangeLaws.{entry_appended}
-use Rattle.yq_edits.proofs.PlacedLaws.{same_parts}
-use Rattle.yq_edits.specs.Ends.{TakesRowsLast, closed_with, EndAppended}
-use Rattle.yq_edits.specs.DocumentRows.{IsDocumentPart, behind_document}
-use Rattle.yq_documents.specs.PartNumbers.{part_number}
-use Rattle.yq_edits.proofs.AppendLaws.{around}
-use Rattle.yq_edits.proofs.LineLaws.{above_mark}
+use Rattle.yq_row_table.{specs.Splices.{before_rows, behind_part, nth_part, splice}, specs.Appending.closed_by}
+use Rattle.yq_row_table.{specs.Seams.{is_block, tail_behind, with_tail}, proofs.splices.AppendLaws.end_appended}
+use Rattle.yq_row_table.{proofs.splices.SpliceTexts.front_text, proofs.CharacterLaws.pairs_back}
+use Rattle.yq_row_table.{proofs.LineEnds.{behind_comment, white_again}, proofs.PlaceLaws.row_front-append}
+use Rattle.yq_row_table.{proofs.seams.ScalarSeams.ends_return, proofs.seams.SeamLaws.{line_by_break, rows_drop}}
+use Rattle.yq_row_table.{proofs.splices.PartPlaces.part_in, proofs.seams.TailLaws.{comment_closed, no_end_return, content_tail, tail_pairs}}
+use Rattle.yq_documents.{specs.Documents.{HaveFitKeys, HasShortRoot}, specs.Reading.part_outline, specs.PartNumbers.part_number}
+use Rattle.yq_places.{specs.RowPaths.IsReadable, proofs.RemovalLines.front_some, proofs.UnderExchange.lines_append}
+use Rattle.yq_edits.{specs.Changed.put_document, specs.Moved.dash_lines, specs.Siblings.put_lines, proofs.AnchorLaws.{fit_parts, fit_from}}
+use Rattle.yq_edits.{proofs.CollectionLaws.appended, proofs.BlockChangeLaws.entry_appended, proofs.PlacedLaws.same_parts}
+use Rattle.yq_edits.{specs.Ends.{TakesRowsLast, closed_with, EndAppended}, specs.DocumentRows.{IsDocumentPart, behind_document}}
+use Rattle.yq_edits.{proofs.AppendLaws.around, proofs.LineLaws.above_mark}
 use Rattle.yq_edits.proofs.PartLaws.{part_numbered, rows_put, document_known, is_put, drop_front}
 use Rattle.yq_edits.proofs.CommentPutLaws.{fit_retail, short_retail, last_lines}
+use Rattle.yq_outline.specs.Lines as lines
 
 -- the comment of a line's end
 abbrev pub after_hash : List ℕ → Option (List ℕ)

@@ -1,15 +1,11 @@
 -- Rows end in an LF, or nothing is behind them.
 use Rattle.std.proofs.Common.{inl, inr, ◌≡◌, ℕ, ℤ, List, [], ◌∷◌, ◌++◌, sym, ◌∙◌, subst}
 use Rattle.yq_core.proofs.BlockPieceLaws.{IsLf, append_lf}
-use Rattle.yq_row_table.specs.Exchange.{row_front}
-use Rattle.yq_row_table.specs.Grammar.{Limit, limit_after, IsContent, IsRow, AreRows}
-use Rattle.yq_row_table.specs.Rows.{Content, content_text, Row, print_row, rows_text}
-use Rattle.yq_row_table.specs.View.{content_cut}
-use Rattle.yq_row_table.proofs.PlaceLaws.{part_then, row_front-append}
-use Rattle.yq_row_table.proofs.seams.SeamLaws.{rows_text-append}
+use Rattle.yq_row_table.{specs.Exchange.row_front, specs.Grammar.{Limit, limit_after, IsContent, IsRow, AreRows}}
+use Rattle.yq_row_table.{specs.Rows.{Content, content_text, Row, print_row, rows_text}, specs.View.content_cut}
+use Rattle.yq_row_table.{proofs.PlaceLaws.{part_then, row_front-append}, proofs.seams.SeamLaws.rows_text-append}
 use Rattle.yq_row_table.proofs.SliceLaws.{content_slices}
-use Rattle.yq_places.proofs.CommentPieceLaws.{Ended, content_end}
-use Rattle.yq_places.proofs.SeamLaws.{raw_end, last_ended}
+use Rattle.yq_places.{proofs.CommentPieceLaws.{Ended, content_end}, proofs.SeamLaws.{raw_end, last_ended}}
 
 -- the text of a content
 pub many_lf : (a b c d t : List ℕ) → IsLf t → IsLf (a ++ (b ++ (c ++ (d ++ t))))

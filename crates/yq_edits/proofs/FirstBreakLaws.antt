@@ -1,19 +1,14 @@
 -- The break behind the lines of an item or entry.
-use Rattle.std.proofs.Common.{◌≡◌, ◌⊎◌, inl, inr, ℕ, ℤ, ◌<◌, Bool, true, false, cond, List, [], ◌∷◌, ◌++◌, length, drop, None, refl, sym, ap, ◌∙◌, subst, arith, append-nil, rules}
-use Rattle.std.proofs.lemmas.Bool.{false≢true, eqb-true, and_parts}
-use Rattle.yq_core.specs.Text.{cut_line, is_empty, separates}
-use Rattle.yq_core.proofs.BlockPieceLaws.{IsLf, line_lf, raw_lf}
-use Rattle.yq_core.specs.Text.{is_line}
-use Rattle.yq_core.specs.Text.{joined}
+use Rattle.std.proofs.Common.{◌≡◌, ◌⊎◌, inl, inr, ℕ, ℤ, ◌<◌, Bool, true, false, cond, List, [], ◌∷◌, ◌++◌, length, drop, None, refl, sym}
+use Rattle.std.{proofs.Common.{ap, ◌∙◌, subst, arith, append-nil, rules}, proofs.lemmas.Bool.{false≢true, eqb-true, and_parts}}
+use Rattle.yq_core.{specs.Text.{cut_line, is_empty, separates, is_line, joined}, proofs.BlockPieceLaws.{IsLf, line_lf, raw_lf}}
 use Rattle.yq_outline.specs.Comments.{line_comment}
 use Rattle.yq_row_table.specs.Grammar.{IsContent, IsTail, AreRows, Limit, limit_after}
-use Rattle.yq_row_table.specs.Rows as rows
-use Rattle.yq_row_table.specs.Rows.{Content, Nothing, Inline, Block, Row, parent_indent, rows_text}
-use Rattle.yq_row_table.proofs.NothingLaws.{some_behind}
+use Rattle.yq_row_table.{specs.Rows.{Content, Nothing, Inline, Block, Row, parent_indent, rows_text}, proofs.NothingLaws.some_behind}
 use Rattle.yq_row_table.proofs.NodePieces.{BeginsAscii}
-use Rattle.yq_places.specs.PrintedLines.{is_last_break, less_break, last_break, end_break, PrintedLine, printed_from, printed_row, printed_lines, run_break}
-use Rattle.yq_places.proofs.CommentPieceLaws.{Ended, tail_end}
-use Rattle.yq_places.proofs.FinishLaws.{lf_behind}
+use Rattle.yq_places.specs.PrintedLines.{is_last_break, less_break, last_break, end_break, PrintedLine, printed_from, printed_row}
+use Rattle.yq_places.{specs.PrintedLines.{printed_lines, run_break}, proofs.CommentPieceLaws.{Ended, tail_end}, proofs.FinishLaws.lf_behind}
+use Rattle.yq_row_table.specs.Rows as rows
 
 -- LF, or CR LF (5.4)
 abbrev pub IsOneBreak : List ℕ → Type 0

@@ -1,37 +1,22 @@
 -- The text without the first item or entry of a compact collection, and what it reads as.
-use Rattle.std.proofs.Common.{◌≡◌, ℕ, zero, suc, ◌+◌, ◌&&◌, eqb, Bool, true, false, cond, List, [], ◌∷◌, ◌++◌, length, replicate, take, drop, refl, sym, ap, ◌∙◌, arith, append_assoc, append-nil, rules}
-use Rattle.yq_core.specs.Paths.{Step, changed_at, remove_child, within}
-use Rattle.yq_core.specs.Text.{cut, no_space}
-use Rattle.yq_core.specs.Anchors.{names_of}
-use Rattle.yq_outline.specs.Comments.{head_comment}
-use Rattle.yq_outline.specs.Places.{plug, FoundLine, content_under}
-use Rattle.yq_row_table.specs.Grammar.{IsRow, Limit, unlimited, AreRows}
-use Rattle.yq_row_table.specs.Reading.{cut_gap, begins_gap}
-use Rattle.yq_row_table.specs.Rows.{Row, behind_columns, behind_dashes, behind_gap, behind_indent, dashes_text, print_row, rows_text, Part, part_text, Cut, cut_text}
-use Rattle.yq_row_table.proofs.GapLaws.{gap_again, gap_stop}
-use Rattle.yq_row_table.proofs.MarkLaws.{spaces_again}
-use Rattle.yq_row_table.proofs.RowAgain.{row_no_gap, row_starts}
-use Rattle.yq_row_table.proofs.seams.SeamLaws.{rows_text-append}
-use Rattle.yq_row_table.proofs.splices.SpliceTexts.{own_gap, own_end}
-use Rattle.yq_row_table.proofs.seams.JoinLaws.{dashes_text-append}
-use Rattle.yq_documents.specs.Documents.{lead_of}
-use Rattle.yq_places.specs.FirstPlaces.{are_spaces, less_spaces}
-use Rattle.yq_outline.specs.Lines.{lines_from, lines_of_rows}
-use Rattle.yq_documents.specs.Reading.{part_outline, root_of}
+use Rattle.std.proofs.Common.{◌≡◌, ℕ, zero, suc, ◌+◌, ◌&&◌, eqb, Bool, true, false, cond, List, [], ◌∷◌, ◌++◌, length, replicate, take}
+use Rattle.std.proofs.Common.{drop, refl, sym, ap, ◌∙◌, arith, append_assoc, append-nil, rules}
+use Rattle.yq_core.{specs.Paths.{Step, changed_at, remove_child, within}, specs.Text.{cut, no_space}, specs.Anchors.names_of}
+use Rattle.yq_outline.{specs.Comments.head_comment, specs.Places.{plug, FoundLine, content_under}, specs.Lines.{lines_from, lines_of_rows}}
 use Rattle.yq_outline.proofs.RowLaws.{no_comments}
-use Rattle.yq_places.specs.RowPaths.{IsReadable}
-use Rattle.yq_places.proofs.RemovalTexts.{texts_then}
-use Rattle.yq_edits.specs.Appends.{inserted}
-use Rattle.yq_edits.specs.BlockChanges.{AreCounted}
-use Rattle.yq_edits.specs.Changed.{IsChanged, put_document}
-use Rattle.yq_edits.specs.Conditions.{AreSpared}
-use Rattle.yq_edits.specs.DocumentRows.{IsDocumentPart, behind_document}
-use Rattle.yq_edits.specs.Moved.{emptied_row, moved_up}
+use Rattle.yq_row_table.{specs.Grammar.{IsRow, Limit, unlimited, AreRows}, specs.Reading.{cut_gap, begins_gap}}
+use Rattle.yq_row_table.specs.Rows.{Row, behind_columns, behind_dashes, behind_gap, behind_indent, dashes_text, print_row, rows_text, Part}
+use Rattle.yq_row_table.{specs.Rows.{part_text, Cut, cut_text}, proofs.GapLaws.{gap_again, gap_stop}, proofs.MarkLaws.spaces_again}
+use Rattle.yq_row_table.{proofs.RowAgain.{row_no_gap, row_starts}, proofs.seams.SeamLaws.rows_text-append}
+use Rattle.yq_row_table.{proofs.splices.SpliceTexts.{own_gap, own_end}, proofs.seams.JoinLaws.dashes_text-append}
+use Rattle.yq_documents.{specs.Documents.lead_of, specs.Reading.{part_outline, root_of}}
+use Rattle.yq_places.{specs.FirstPlaces.{are_spaces, less_spaces}, specs.RowPaths.IsReadable, proofs.RemovalTexts.texts_then}
+use Rattle.yq_edits.{specs.Appends.inserted, specs.BlockChanges.AreCounted, specs.Changed.{IsChanged, put_document}}
+use Rattle.yq_edits.{specs.Conditions.AreSpared, specs.DocumentRows.{IsDocumentPart, behind_document}, specs.Moved.{emptied_row, moved_up}}
 use Rattle.yq_edits.specs.Siblings.{HasEntries, IsEntryAt, NodeLines}
 use Rattle.yq_edits.proofs.FirstBreakLaws.{IsOneBreak, break_apart, break_bare, break_tail}
 use Rattle.yq_edits.proofs.FirstReplaceLaws.{MovedFits, dropped_replaces, moved_replaces}
-use Rattle.yq_edits.proofs.FirstRowLaws.{first_row_dropped, first_row_moved}
-use Rattle.yq_edits.proofs.PartLaws.{document_known, part_rows}
+use Rattle.yq_edits.{proofs.FirstRowLaws.{first_row_dropped, first_row_moved}, proofs.PartLaws.{document_known, part_rows}}
 
 -- ---- the text of rows of which one is new
 

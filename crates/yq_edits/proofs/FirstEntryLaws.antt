@@ -1,32 +1,21 @@
 -- The rows of the first item or entry of a compact collection, by its lines.
-use Rattle.std.proofs.Common.{◌≡◌, ℕ, suc, ◌+◌, ◌<◌, ◌≤◌, true, List, [], ◌∷◌, ◌++◌, length, take, drop, Some, refl, sym, ap, ◌∙◌, subst, arith, append_assoc, length-append, rules}
-use Rattle.std.proofs.lemmas.List.{take-append-drop, length-take-le}
+use Rattle.std.proofs.Common.{◌≡◌, ℕ, suc, ◌+◌, ◌<◌, ◌≤◌, true, List, [], ◌∷◌, ◌++◌, length, take, drop, Some, refl, sym, ap, ◌∙◌, subst}
+use Rattle.std.{proofs.Common.{arith, append_assoc, length-append, rules}, proofs.lemmas.List.{take-append-drop, length-take-le}}
 use mathlib.Core.List.{head-eq_of_cons-eq, tail-eq_of_cons-eq}
 use Rattle.yq_core.specs.Paths.{Step}
-use Rattle.yq_outline.specs.Comments.{head_comment}
-use Rattle.yq_outline.specs.Group.{level_or}
-use Rattle.yq_outline.specs.Outline.{Line, level, Outline, end, row, flatten, IsEven}
+use Rattle.yq_outline.{specs.Comments.head_comment, specs.Group.level_or, specs.Outline.{Line, level, Outline, end, row, flatten, IsEven}}
 use Rattle.yq_outline.specs.Places.{Context, here, below, beside, plug, lines_before, lines_after, FoundLine, find_row}
-use Rattle.yq_outline.proofs.PlaceLaws.{at}
-use Rattle.yq_outline.proofs.Values.{rank_small}
-use Rattle.yq_row_table.specs.Grammar.{AreDashes, is_entry}
-use Rattle.yq_row_table.specs.Rows as rows
-use Rattle.yq_row_table.specs.Rows.{Content, Row, behind_columns, Part}
-use Rattle.yq_outline.specs.Lines.{dash_line, lines_from, row_lines, lines_of_rows}
-use Rattle.yq_documents.specs.Reading.{part_outline}
-use Rattle.yq_documents.specs.LinesInRows.{RowLine, row_line}
+use Rattle.yq_outline.{proofs.PlaceLaws.at, proofs.Values.rank_small, specs.Lines.{dash_line, lines_from, row_lines, lines_of_rows}}
 use Rattle.yq_outline.proofs.RowLaws.{no_comments}
+use Rattle.yq_row_table.{specs.Grammar.{AreDashes, is_entry}, specs.Rows.{Content, Row, behind_columns, Part}}
+use Rattle.yq_documents.{specs.Reading.part_outline, specs.LinesInRows.{RowLine, row_line}}
 use Rattle.yq_places.proofs.UnderExchange.{lines_append}
-use Rattle.yq_edits.specs.LineRows.{Begins, StandApart, InRows, IsRowLine, lines_before_entry, lines_behind}
-use Rattle.yq_edits.specs.Moved.{dash_lines}
+use Rattle.yq_edits.{specs.LineRows.{Begins, StandApart, InRows, IsRowLine, lines_before_entry, lines_behind}, specs.Moved.dash_lines}
 use Rattle.yq_edits.specs.Siblings.{IsEntry, HasEntries, IsEntryAt, NodeLines}
-use Rattle.yq_edits.proofs.ApartLaws.{Stood, row_stood, entries_apart, first_level, row_begins}
-use Rattle.yq_edits.proofs.ColumnLaws.{apart_later}
-use Rattle.yq_edits.proofs.LineLaws.{dashes_count, row_line_splits}
-use Rattle.yq_edits.proofs.NodeLineLaws.{lines_even}
-use Rattle.yq_edits.proofs.OwnRowLaws.{lines_are}
-use Rattle.yq_edits.proofs.PlacedLaws.{same_parts}
-use Rattle.yq_edits.proofs.AppendLaws.{first_column}
+use Rattle.yq_edits.{proofs.ApartLaws.{Stood, row_stood, entries_apart, first_level, row_begins}, proofs.ColumnLaws.apart_later}
+use Rattle.yq_edits.{proofs.LineLaws.{dashes_count, row_line_splits}, proofs.NodeLineLaws.lines_even, proofs.OwnRowLaws.lines_are}
+use Rattle.yq_edits.{proofs.PlacedLaws.same_parts, proofs.AppendLaws.first_column}
+use Rattle.yq_row_table.specs.Rows as rows
 
 -- ---- the lines of dashes
 

@@ -1,16 +1,10 @@
 -- First lines of rows, and the last one of dashes.
 use Rattle.std.proofs.Common.{◌≡◌, inl, inr, ℕ, ◌<◌, List, [], ◌∷◌, ◌++◌, length, refl, sym, ap, subst, arith}
-use Rattle.std.proofs.lemmas.Str.{IsUtf8-from_ascii}
-use Rattle.std.proofs.lemmas.Str.Ascii.{IsAscii-nil, IsAscii-cons}
-use Rattle.std.specs.Str.{IsUtf8}
-use Rattle.yq_outline.specs.Group.{group}
-use Rattle.yq_outline.specs.Outline.{Line}
-use Rattle.yq_row_table.specs.Rows as rows
+use Rattle.std.{proofs.lemmas.Str.IsUtf8-from_ascii, proofs.lemmas.Str.Ascii.{IsAscii-nil, IsAscii-cons}, specs.Str.IsUtf8}
+use Rattle.yq_outline.{specs.Group.group, specs.Outline.Line, specs.Lines.{lines_from, lines_of_rows}}
 use Rattle.yq_row_table.specs.Rows.{Content, Row}
-use Rattle.yq_outline.specs.Lines.{lines_from, lines_of_rows}
-use Rattle.yq_edits.specs.Siblings.{HasEntries}
-use Rattle.yq_edits.proofs.FirstBreakLaws.{IsOneBreak}
-use Rattle.yq_edits.proofs.RemovalChangeLaws.{FirstEntry}
+use Rattle.yq_edits.{specs.Siblings.HasEntries, proofs.FirstBreakLaws.IsOneBreak, proofs.RemovalChangeLaws.FirstEntry}
+use Rattle.yq_row_table.specs.Rows as rows
 
 pub entries_first : (ls : List Line) → HasEntries (group ls) → FirstEntry ls
 entries_first [] h = h

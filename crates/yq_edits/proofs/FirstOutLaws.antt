@@ -1,26 +1,15 @@
 -- What is taken out with the first item or entry of a compact collection stands in the text.
-use Rattle.std.proofs.Common.{◌≡◌, ℕ, zero, suc, ◌<◌, eqb, Bool, true, false, cond, List, [], ◌++◌, Some, refl, sym, ap, ◌∙◌, arith, append_assoc}
-use Rattle.std.proofs.lemmas.Bool.{eqb-false}
-use Rattle.std.proofs.lemmas.List.{take-append-drop}
-use Rattle.std.specs.List.{slice_get}
-use Rattle.yq_core.specs.Answers.{◌>>=◌}
-use Rattle.yq_core.specs.Paths.{Step}
-use Rattle.yq_core.specs.Text.{cut, cut_line, no_space, upto, line_len}
-use Rattle.yq_core.proofs.Bools.{bind_some}
+use Rattle.std.proofs.Common.{◌≡◌, ℕ, zero, suc, ◌<◌, eqb, Bool, true, false, cond, List, [], ◌++◌, Some, refl, sym, ap, ◌∙◌, arith}
+use Rattle.std.{proofs.Common.append_assoc, proofs.lemmas.Bool.eqb-false, proofs.lemmas.List.take-append-drop, specs.List.slice_get}
+use Rattle.yq_core.{specs.Answers.◌>>=◌, specs.Paths.Step, specs.Text.{cut, cut_line, no_space, upto, line_len}, proofs.Bools.bind_some}
 use Rattle.yq_core.proofs.Binds.{not_then}
-use Rattle.yq_outline.specs.Ends.{line_at_steps}
-use Rattle.yq_row_table.specs.Rows.{Part, Cut, cut_text}
-use Rattle.yq_row_table.specs.Reading.{begins_gap}
-use Rattle.yq_documents.specs.declared.path.Part.TheVariants.{Entry}
-use Rattle.yq_documents.specs.Documents.{document_parts}
-use Rattle.yq_places.specs.FirstPlaces.{less_spaces, end_spaces, FirstOut, first_out, first_entry, first_removal}
-use Rattle.yq_outline.specs.Lines.{lines_of_rows}
-use Rattle.yq_places.specs.PathPieces.{printed_document, piece_in}
-use Rattle.yq_documents.specs.Pieces.{TextPiece}
+use Rattle.yq_outline.{specs.Ends.line_at_steps, specs.Lines.lines_of_rows}
+use Rattle.yq_row_table.{specs.Rows.{Part, Cut, cut_text}, specs.Reading.begins_gap}
+use Rattle.yq_documents.{specs.declared.path.Part.TheVariants.Entry, specs.Documents.document_parts, specs.Pieces.TextPiece}
 use Rattle.yq_documents.specs.LinesInRows.{RowLine, row_line, row_line_of}
-use Rattle.yq_places.proofs.FirstLaws.{spaces_parts}
-use Rattle.yq_places.proofs.PieceTexts.{piece_text, document_whole, piece_whole}
-use Rattle.yq_places.proofs.PrintedTexts.{map_some}
+use Rattle.yq_places.specs.FirstPlaces.{less_spaces, end_spaces, FirstOut, first_out, first_entry, first_removal}
+use Rattle.yq_places.{specs.PathPieces.{printed_document, piece_in}, proofs.FirstLaws.spaces_parts}
+use Rattle.yq_places.{proofs.PieceTexts.{piece_text, document_whole, piece_whole}, proofs.PrintedTexts.map_some}
 use Rattle.yq_edits.specs.RemovalChanges.{FirstStands}
 
 -- ---- what is taken out

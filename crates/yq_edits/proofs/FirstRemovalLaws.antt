@@ -1,60 +1,35 @@
 -- The first item or entry of a compact collection taken out of a text.
-use Rattle.std.proofs.Common.{◌≡◌, ◌⊎◌, inl, inr, ℕ, ◌+◌, ◌<◌, ◌≤◌, Bool, true, false, cond, List, [], ◌∷◌, ◌++◌, length, replicate, take, drop, Option, Some, None, refl, sym, ap, ◌∙◌, subst, arith, append_assoc}
-use Rattle.std.proofs.Math.Seq.{take-append_seam}
-use Rattle.std.proofs.lemmas.List.{take-append-drop, length-append, length-take-le}
-use Rattle.std.proofs.lemmas.Str.{IsUtf8-take, is_utf8-from_IsUtf8}
+use Rattle.std.proofs.Common.{◌≡◌, ◌⊎◌, inl, inr, ℕ, ◌+◌, ◌<◌, ◌≤◌, Bool, true, false, cond, List, [], ◌∷◌, ◌++◌, length, replicate, take}
+use Rattle.std.{proofs.Common.{drop, Option, Some, None, refl, sym, ap, ◌∙◌, subst, arith, append_assoc}, proofs.Math.Seq.take-append_seam}
+use Rattle.std.{proofs.lemmas.List.{take-append-drop, length-append, length-take-le}, proofs.lemmas.Str.{IsUtf8-take, is_utf8-from_IsUtf8}}
 use Rattle.std.specs.Str.{IsUtf8}
-use Rattle.yq_core.specs.Answers.{◌>>=◌}
+use Rattle.yq_core.{specs.Answers.◌>>=◌, specs.Paths.{Step, changed_at, remove_child, within}, specs.Text.{cut, cut_line, no_space}}
+use Rattle.yq_core.{proofs.Bools.guard_then, specs.Anchors.names_of}
 use Rattle.yq_text.specs.Limit.{text_limit}
-use Rattle.yq_core.specs.Paths.{Step, changed_at, remove_child, within}
-use Rattle.yq_core.specs.Text.{cut, cut_line, no_space}
-use Rattle.yq_core.proofs.Bools.{guard_then}
-use Rattle.yq_core.specs.Anchors.{names_of}
-use Rattle.yq_outline.specs.Ends.{line_at_steps}
-use Rattle.yq_outline.specs.Group.{group, level_or, is_fine}
-use Rattle.yq_outline.specs.Places.{plug, content_under}
-use Rattle.yq_row_table.specs.Exchange.{asked_behind}
-use Rattle.yq_row_table.specs.Grammar.{unlimited, AreRows, limit_after}
-use Rattle.yq_row_table.specs.Rows.{Row, behind_columns, dashes_text, behind_dashes, behind_indent, behind_gap, print_row, rows_text, Part, part_text, Cut, cut_text}
-use Rattle.yq_row_table.proofs.NodePieces.{BeginsAscii, before_ascii}
-use Rattle.yq_row_table.proofs.PlaceLaws.{row_then}
-use Rattle.yq_row_table.proofs.splices.SpliceTexts.{own_gap, own_end}
-use Rattle.yq_row_table.specs.Reading.{begins_gap}
-use Rattle.yq_documents.specs.declared.path.Part.TheVariants.{Entry}
-use Rattle.yq_documents.specs.Documents.{document_parts, lead_of}
-use Rattle.yq_places.specs.FirstPlaces.{less_spaces, end_spaces, FirstOut, first_out, first_removal}
+use Rattle.yq_outline.{specs.Ends.line_at_steps, specs.Group.{group, level_or, is_fine}, specs.Places.{plug, content_under}}
 use Rattle.yq_outline.specs.Lines.{lines_from, lines_of_rows}
-use Rattle.yq_places.specs.PathPieces.{PrintedDocument, piece_in}
-use Rattle.yq_documents.specs.Reading.{part_outline, read_at, root_of}
-use Rattle.yq_places.specs.RowPaths.{IsReadable}
-use Rattle.yq_documents.specs.LinesInRows.{RowLine, row_line}
-use Rattle.yq_documents.proofs.PartRows.{each}
+use Rattle.yq_row_table.{specs.Exchange.asked_behind, specs.Grammar.{unlimited, AreRows, limit_after}}
+use Rattle.yq_row_table.specs.Rows.{Row, behind_columns, dashes_text, behind_dashes, behind_indent, behind_gap, print_row, rows_text, Part}
+use Rattle.yq_row_table.{specs.Rows.{part_text, Cut, cut_text}, proofs.NodePieces.{BeginsAscii, before_ascii}, proofs.PlaceLaws.row_then}
+use Rattle.yq_row_table.{proofs.splices.SpliceTexts.{own_gap, own_end}, specs.Reading.begins_gap}
+use Rattle.yq_documents.{specs.declared.path.Part.TheVariants.Entry, specs.Documents.{document_parts, lead_of}}
+use Rattle.yq_documents.{specs.Reading.{part_outline, read_at, root_of}, specs.LinesInRows.{RowLine, row_line}, proofs.PartRows.each}
 use Rattle.yq_documents.proofs.ReadLaws.{text_takes}
-use Rattle.yq_places.proofs.RowPathLaws.{document_fine}
-use Rattle.yq_edits.specs.Appends.{inserted}
-use Rattle.yq_edits.specs.Changed.{IsChanged, put_document}
-use Rattle.yq_edits.specs.Conditions.{AreSpared}
-use Rattle.yq_edits.specs.DocumentRows.{IsDocumentPart, Known, behind_document}
-use Rattle.yq_edits.specs.Moved.{emptied_row, moved_up}
-use Rattle.yq_edits.specs.PathRows.{IsEntryLine}
-use Rattle.yq_edits.specs.RemovalChanges.{IsTakenOut, MayTakeOut}
-use Rattle.yq_edits.specs.Siblings.{HasEntries}
-use Rattle.yq_edits.specs.TextPieces.{IsPiece}
-use Rattle.yq_edits.proofs.AfterLaws.{end_is_change}
-use Rattle.yq_edits.proofs.FirstBreakLaws.{IsOneBreak, break_ascii, break_cut}
-use Rattle.yq_edits.proofs.FirstChangeLaws.{dash_front, dash_less, dashes_front, dropped_changed, dropped_text, front_text, inserted_text, moved_changed, moved_text, NoGap, no_gap, row_from}
+use Rattle.yq_places.specs.FirstPlaces.{less_spaces, end_spaces, FirstOut, first_out, first_removal}
+use Rattle.yq_places.{specs.PathPieces.{PrintedDocument, piece_in}, specs.RowPaths.IsReadable, proofs.RowPathLaws.document_fine}
+use Rattle.yq_edits.{specs.Appends.inserted, specs.Changed.{IsChanged, put_document}, specs.Conditions.AreSpared}
+use Rattle.yq_edits.{specs.DocumentRows.{IsDocumentPart, Known, behind_document}, specs.Moved.{emptied_row, moved_up}}
+use Rattle.yq_edits.{specs.PathRows.IsEntryLine, specs.RemovalChanges.{IsTakenOut, MayTakeOut}, specs.Siblings.HasEntries}
+use Rattle.yq_edits.{specs.TextPieces.IsPiece, proofs.AfterLaws.end_is_change, proofs.FirstBreakLaws.{IsOneBreak, break_ascii, break_cut}}
+use Rattle.yq_edits.proofs.FirstChangeLaws.{dash_front, dash_less, dashes_front, dropped_changed, dropped_text, front_text, inserted_text}
+use Rattle.yq_edits.proofs.FirstChangeLaws.{moved_changed, moved_text, NoGap, no_gap, row_from}
 use Rattle.yq_edits.proofs.FirstEntryLaws.{FirstRows, first_rows}
 use Rattle.yq_edits.proofs.FirstLineLaws.{ascii_break, dash_first, dashes_first, entries_first, first_stays, last_dash}
-use Rattle.yq_edits.proofs.FirstOutLaws.{IsFirstOut, out_is, piece_stands}
-use Rattle.yq_edits.proofs.FirstReplaceLaws.{rows_after}
-use Rattle.yq_edits.proofs.FirstTextLaws.{FirstText, first_text}
-use Rattle.yq_edits.proofs.OwnRowLaws.{lines_counted}
-use Rattle.yq_edits.proofs.PartLaws.{document_known, part_rows}
-use Rattle.yq_edits.proofs.PathLaws.{path_is_entry}
-use Rattle.yq_edits.proofs.PlaceTextLaws.{IsAround, around}
+use Rattle.yq_edits.{proofs.FirstOutLaws.{IsFirstOut, out_is, piece_stands}, proofs.FirstReplaceLaws.rows_after}
+use Rattle.yq_edits.{proofs.FirstTextLaws.{FirstText, first_text}, proofs.OwnRowLaws.lines_counted}
+use Rattle.yq_edits.{proofs.PartLaws.{document_known, part_rows}, proofs.PathLaws.path_is_entry, proofs.PlaceTextLaws.{IsAround, around}}
 use Rattle.yq_edits.proofs.RemovalChangeLaws.{snoc, may_go, FirstEntry, first_group, group_begins, keeps, root_entries}
-use Rattle.yq_edits.proofs.RemovalPieceLaws.{spaces_piece}
-use Rattle.yq_edits.proofs.TextPieceLaws.{cut_behind, piece_back, pieces_joined, text_is_piece}
+use Rattle.yq_edits.{proofs.RemovalPieceLaws.spaces_piece, proofs.TextPieceLaws.{cut_behind, piece_back, pieces_joined, text_is_piece}}
 
 -- bytes that end the last one of rows (own)
 abbrev pub EndLastRow : List ℕ → List Row → Type 0

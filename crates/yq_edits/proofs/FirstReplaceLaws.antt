@@ -1,20 +1,17 @@
 -- Rows that take the place of a compact collection's first item or entry.
-use Rattle.std.proofs.Common.{◌≡◌, ℕ, ◌+◌, ◌<◌, true, false, List, [], ◌∷◌, ◌++◌, length, Some, refl, sym, ap, ◌∙◌, subst, arith, append_assoc}
-use Rattle.yq_core.specs.Text.{separates}
-use Rattle.yq_core.specs.Alike.{Alike, byte}
+use Rattle.std.proofs.Common.{◌≡◌, ℕ, ◌+◌, ◌<◌, true, false, List, [], ◌∷◌, ◌++◌, length, Some, refl, sym, ap, ◌∙◌, subst, arith}
+use Rattle.std.proofs.Common.{append_assoc}
+use Rattle.yq_core.{specs.Text.separates, specs.Alike.{Alike, byte}}
 use Rattle.yq_row_table.specs.Exchange.{allows_first, asked_behind}
 use Rattle.yq_row_table.specs.Grammar.{IsContent, IsTail, AreDashes, is_entry, IsRow, Limit, unlimited, limit_after, limit_behind, AreRows}
 use Rattle.yq_row_table.specs.Joined.{dashed_row}
-use Rattle.yq_row_table.specs.Rows as rows
-use Rattle.yq_row_table.specs.Rows.{Nothing, Row, behind_columns, behind_dashes, behind_indent, dashes_text, parent_indent, parent_of, print_row, rows_text, Part}
-use Rattle.yq_row_table.specs.Seams.{TakesPlace}
-use Rattle.yq_row_table.specs.Splices.{behind_first, first_gap}
+use Rattle.yq_row_table.specs.Rows.{Nothing, Row, behind_columns, behind_dashes, behind_indent, dashes_text, parent_indent, parent_of}
+use Rattle.yq_row_table.{specs.Rows.{print_row, rows_text, Part}, specs.Seams.TakesPlace, specs.Splices.{behind_first, first_gap}}
 use Rattle.yq_row_table.proofs.RowPlaces.{takes_place}
 use Rattle.yq_row_table.proofs.seams.JoinLaws.{row_dashed, space_apart, dashes_text-append, behind_columns-append}
-use Rattle.yq_row_table.proofs.splices.SpliceTexts.{first_is, first_text}
-use Rattle.yq_row_table.proofs.PlaceLaws.{first_allowed}
-use Rattle.yq_edits.specs.Moved.{emptied_row, moved_up}
-use Rattle.yq_edits.specs.Replaces.{RowsReplace}
+use Rattle.yq_row_table.{proofs.splices.SpliceTexts.{first_is, first_text}, proofs.PlaceLaws.first_allowed}
+use Rattle.yq_edits.{specs.Moved.{emptied_row, moved_up}, specs.Replaces.RowsReplace}
+use Rattle.yq_row_table.specs.Rows as rows
 
 -- ---- rows among others
 

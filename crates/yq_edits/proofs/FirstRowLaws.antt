@@ -1,18 +1,12 @@
 -- The first item or entry of a compact collection taken out, by its rows.
 use Rattle.std.proofs.Common.{◌≡◌, ℕ, List, [], ◌∷◌, ◌++◌, false, refl, sym, ap, ◌∙◌, subst, append_assoc, rules}
 use Rattle.std.proofs.lemmas.Bool.{false≢true}
-use Rattle.yq_row_table.specs.Grammar.{AreDashes, no_rows}
-use Rattle.yq_row_table.specs.Rows.{Row, Part}
-use Rattle.yq_row_table.specs.Splices.{first_gap}
+use Rattle.yq_row_table.{specs.Grammar.{AreDashes, no_rows}, specs.Rows.{Row, Part}, specs.Splices.first_gap}
 use Rattle.yq_row_table.proofs.splices.SpliceTexts.{own_gap}
 use Rattle.yq_documents.specs.Documents.{HaveFitKeys, HasShortRoot, is_long_plain}
-use Rattle.yq_edits.specs.Appends.{inserted}
-use Rattle.yq_edits.specs.Moved.{emptied_row, moved_up}
-use Rattle.yq_edits.specs.Replaces.{FirstRowDropped, FirstRowMoved}
-use Rattle.yq_edits.proofs.AnchorLaws.{fit_parts, fit_from}
-use Rattle.yq_edits.proofs.BlockChangeLaws.{first_dropped, first_removed}
-use Rattle.yq_edits.proofs.PartLaws.{document_known, is_put}
-use Rattle.yq_edits.proofs.ReplaceLaws.{document_replaced, rows_before_some}
+use Rattle.yq_edits.{specs.Appends.inserted, specs.Moved.{emptied_row, moved_up}, specs.Replaces.{FirstRowDropped, FirstRowMoved}}
+use Rattle.yq_edits.{proofs.AnchorLaws.{fit_parts, fit_from}, proofs.BlockChangeLaws.{first_dropped, first_removed}}
+use Rattle.yq_edits.{proofs.PartLaws.{document_known, is_put}, proofs.ReplaceLaws.{document_replaced, rows_before_some}}
 
 -- a row with dashes is an entry's, so no plain scalar alone
 dashed_short : (r : Row) (n : ℕ) (ns : List ℕ) → r.dashes ≡ n ∷ ns → AreDashes r.dashes r.mark → is_long_plain r.mark r.content ≡ false

@@ -1,40 +1,23 @@
 -- The text around the first item or entry of a compact collection.
-use Rattle.std.proofs.Common.{◌≡◌, ℕ, suc, ◌+◌, ◌-◌, ◌<◌, List, [], ◌∷◌, ◌++◌, length, take, drop, map, Option, Some, option_and_then, replicate, true, refl, sym, ap, ◌∙◌, subst, arith, append_assoc, length-append, rules}
-use Rattle.std.proofs.Math.Seq.{take-append_seam, drop-append_seam}
-use Rattle.std.proofs.lemmas.List.{take-append-drop, length-take-le}
-use Rattle.std.proofs.lemmas.Option.{none-some, same_Some}
-use Rattle.std.specs.List.{slice_get}
-use Rattle.yq_core.specs.Answers.{◌>>=◌}
-use Rattle.yq_core.specs.Paths.{Step}
-use Rattle.yq_core.proofs.Bools.{bind_some}
-use Rattle.yq_outline.specs.Comments.{head_comment}
-use Rattle.yq_outline.specs.Ends.{found_line, line_at_steps, lines_end}
-use Rattle.yq_outline.specs.Group.{group, is_fine}
-use Rattle.yq_outline.specs.Outline.{flatten}
-use Rattle.yq_outline.specs.Places.{lines_before, FoundLine, find}
-use Rattle.yq_row_table.specs.Grammar.{unlimited, AreRows, limit_after}
-use Rattle.yq_row_table.specs.Exchange.{asked_behind}
-use Rattle.yq_row_table.specs.Rows as rows
-use Rattle.yq_row_table.specs.Rows.{Content, Nothing, Row, behind_columns, rows_text, Part}
-use Rattle.yq_row_table.proofs.seams.FrontSeams.{rows_some}
-use Rattle.yq_documents.specs.declared.path.Part.TheVariants.{Entry}
-use Rattle.yq_outline.specs.Lines.{dash_line, lines_of_rows}
+use Rattle.std.proofs.Common.{◌≡◌, ℕ, suc, ◌+◌, ◌-◌, ◌<◌, List, [], ◌∷◌, ◌++◌, length, take, drop, map, Option, Some, option_and_then}
+use Rattle.std.proofs.Common.{replicate, true, refl, sym, ap, ◌∙◌, subst, arith, append_assoc, length-append, rules}
+use Rattle.std.{proofs.Math.Seq.{take-append_seam, drop-append_seam}, proofs.lemmas.List.{take-append-drop, length-take-le}}
+use Rattle.std.{proofs.lemmas.Option.{none-some, same_Some}, specs.List.slice_get}
+use Rattle.yq_core.{specs.Answers.◌>>=◌, specs.Paths.Step, proofs.Bools.bind_some}
+use Rattle.yq_outline.{specs.Comments.head_comment, specs.Ends.{found_line, line_at_steps, lines_end}, specs.Group.{group, is_fine}}
+use Rattle.yq_outline.{specs.Outline.flatten, specs.Places.{lines_before, FoundLine, find}, specs.Lines.{dash_line, lines_of_rows}}
 use Rattle.yq_outline.proofs.RowLaws.{lines_count as lines_count_from}
+use Rattle.yq_row_table.{specs.Grammar.{unlimited, AreRows, limit_after}, specs.Exchange.asked_behind}
+use Rattle.yq_row_table.{specs.Rows.{Content, Nothing, Row, behind_columns, rows_text, Part}, proofs.seams.FrontSeams.rows_some}
+use Rattle.yq_documents.{specs.declared.path.Part.TheVariants.Entry, specs.Pieces.TextPiece, specs.LinesInRows.{RowLine, row_line}}
 use Rattle.yq_places.specs.PathPieces.{BlockEntry, found_entry, piece_in, piece_in_entry}
-use Rattle.yq_documents.specs.Pieces.{TextPiece}
 use Rattle.yq_places.specs.PrintedLines.{PrintedLine, line_front, print_lines, printed_from, printed_lines, printed_row, line_in, run_piece}
-use Rattle.yq_documents.specs.LinesInRows.{RowLine, row_line}
-use Rattle.yq_places.proofs.FoundEntries.{lines_count}
-use Rattle.yq_places.proofs.PrintedLaws.{lines_are}
-use Rattle.yq_places.proofs.PrintedTexts.{lines_then, rows_are}
-use Rattle.yq_places.proofs.PrintedRowLines.{row_begin, printed_line, row_count}
-use Rattle.yq_places.proofs.UnderCounts.{end_is}
-use Rattle.yq_edits.specs.LineRows.{lines_before_entry}
-use Rattle.yq_edits.specs.Siblings.{NodeLines}
-use Rattle.yq_edits.proofs.FirstBreakLaws.{IsOneBreak, lines_break, rows_break}
-use Rattle.yq_edits.proofs.FirstEntryLaws.{FirstRows}
-use Rattle.yq_edits.proofs.FirstReplaceLaws.{rows_after}
-use Rattle.yq_edits.proofs.PartLaws.{take_front}
+use Rattle.yq_places.{proofs.FoundEntries.lines_count, proofs.PrintedLaws.lines_are, proofs.PrintedTexts.{lines_then, rows_are}}
+use Rattle.yq_places.{proofs.PrintedRowLines.{row_begin, printed_line, row_count}, proofs.UnderCounts.end_is}
+use Rattle.yq_edits.{specs.LineRows.lines_before_entry, specs.Siblings.NodeLines}
+use Rattle.yq_edits.{proofs.FirstBreakLaws.{IsOneBreak, lines_break, rows_break}, proofs.FirstEntryLaws.FirstRows}
+use Rattle.yq_edits.{proofs.FirstReplaceLaws.rows_after, proofs.PartLaws.take_front}
+use Rattle.yq_row_table.specs.Rows as rows
 
 -- ---- lines of rows
 

@@ -1,20 +1,15 @@
 -- What is written in block style has no anchors, and no keys that would merge mappings.
 use Rattle.std.proofs.Common.{◌≡◌, ℕ, Bool, true, false, List, [], ◌∷◌, ◌++◌, Option, None, refl, sym, subst, rules}
-use Rattle.yq_core.specs.Tree as tree
-use Rattle.yq_core.specs.Tree.{Children}
-use Rattle.yq_core.specs.Nodes as inline
+use Rattle.yq_core.{specs.Tree.Children, specs.Anchors.{names_of, names_in, AreBound}}
 use Rattle.yq_flow_edits.specs.Valued.{IsValueTree, AreValueTrees}
-use Rattle.yq_row_table.specs.Rows as rows
 use Rattle.yq_row_table.specs.Rows.{Row}
-use Rattle.yq_core.specs.Anchors.{names_of, names_in, AreBound}
-use Rattle.yq_outline.specs.LineAnchors.{HaveOneAnchorEach}
+use Rattle.yq_outline.{specs.LineAnchors.HaveOneAnchorEach, specs.Lines.{content_anchor, lines_from, lines_of_rows}, specs.Outline.Line}
 use Rattle.yq_documents.specs.Documents.{MarkIsFit, ContentHasFitKeys, HaveFitKeys}
-use Rattle.yq_outline.specs.Lines.{content_anchor, lines_from, lines_of_rows}
-use Rattle.yq_outline.specs.Outline.{Line}
 use Rattle.yq_edits.specs.BlockRows.{children_rows, column_below, end_of_line_before, entry_rows, inline_of, node_rows}
-use Rattle.yq_edits.specs.declared.layout.Layout.{Layout}
-use Rattle.yq_edits.proofs.KeyLaws.{key_apart}
-use Rattle.yq_edits.proofs.ScalarLaws.{Heads, heads}
+use Rattle.yq_edits.{specs.declared.layout.Layout.Layout, proofs.KeyLaws.key_apart, proofs.ScalarLaws.{Heads, heads}}
+use Rattle.yq_core.specs.Tree as tree
+use Rattle.yq_core.specs.Nodes as inline
+use Rattle.yq_row_table.specs.Rows as rows
 
 -- rows without anchors, whose keys are fit
 abbrev RowIsFit : Row → Type 0

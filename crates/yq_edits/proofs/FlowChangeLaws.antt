@@ -1,28 +1,16 @@
 -- The operations inside flow collections, by the head of one line.
 use Rattle.std.proofs.Common.{◌≡◌, ℕ, ◌+◌, List, [], ◌∷◌, ◌++◌, Option, Some, None, refl, sym, ap, ◌∙◌, subst, arith, rules}
 use Rattle.std.proofs.lemmas.Option.{none-some}
-use Rattle.yq_core.specs.Paths.{Step, changed_at}
-use Rattle.yq_core.specs.Tree.{Node}
+use Rattle.yq_core.{specs.Paths.{Step, changed_at}, specs.Tree.Node, specs.Anchors.IsNoAlias}
 use Rattle.yq_row_table.specs.Rows.{Part, Cut}
-use Rattle.yq_core.specs.Anchors.{IsNoAlias}
-use Rattle.yq_outline.specs.LineAnchors.{IsFree, HaveOneAnchorEach}
-use Rattle.yq_documents.specs.Documents.{lead_of}
-use Rattle.yq_outline.specs.Group.{level_or}
-use Rattle.yq_outline.specs.Laws.{with_lines}
+use Rattle.yq_outline.{specs.LineAnchors.{IsFree, HaveOneAnchorEach}, specs.Group.level_or, specs.Laws.with_lines}
 use Rattle.yq_outline.specs.Lines.{lines_of_rows}
 use Rattle.yq_outline.specs.Outline.{Line, level, Outline, end, row, flatten, IsOpen, IsEven, anchored, head_or, value}
-use Rattle.yq_outline.specs.Places.{lines_before, plug, FoundLine, find, content_under}
-use Rattle.yq_documents.specs.Reading.{part_outline, root_of}
-use Rattle.yq_outline.proofs.Finding.{IsFoundIn, path_whole}
-use Rattle.yq_outline.proofs.PlaceLaws.{at}
-use Rattle.yq_outline.proofs.Plug.{allows_from}
-use Rattle.yq_edits.specs.Changed.{IsChanged, put_document}
-use Rattle.yq_edits.specs.Conditions.{last_anchor}
-use Rattle.yq_edits.specs.Edited.{IsPut}
-use Rattle.yq_edits.specs.FlowChanges.{with_head}
-use Rattle.yq_edits.specs.SoundRoots.{IsSoundRoot}
-use Rattle.yq_edits.proofs.EditedLaws.{known, line_exchanged}
-use Rattle.yq_edits.proofs.PlacedLaws.{whole_line}
+use Rattle.yq_outline.{specs.Places.{lines_before, plug, FoundLine, find, content_under}, proofs.Finding.{IsFoundIn, path_whole}}
+use Rattle.yq_outline.{proofs.PlaceLaws.at, proofs.Plug.allows_from}
+use Rattle.yq_documents.{specs.Documents.lead_of, specs.Reading.{part_outline, root_of}}
+use Rattle.yq_edits.{specs.Changed.{IsChanged, put_document}, specs.Conditions.last_anchor, specs.Edited.IsPut, specs.FlowChanges.with_head}
+use Rattle.yq_edits.{specs.SoundRoots.IsSoundRoot, proofs.EditedLaws.{known, line_exchanged}, proofs.PlacedLaws.whole_line}
 
 -- a head that is an alias only where the old one is
 abbrev pub NoNewAlias : Node → Node → Type 0

@@ -1,29 +1,18 @@
 -- What stays of a document in which a flow collection has other items or entries.
-use Rattle.std.proofs.Common.{◌≡◌, ◌⊎◌, inl, inr, ℕ, Bool, true, false, cond, List, [], ◌∷◌, ◌++◌, map, Some, option_and_then, option_map, sym, ap, ◌∙◌, subst, rules}
-use Rattle.std.specs.Option.{option_or}
-use Rattle.std.proofs.lemmas.Bool.{cond_both}
-use Rattle.std.proofs.lemmas.Option.{none-some, same_Some}
-use Rattle.std.specs.Prelude.{is_some}
-use Rattle.yq_core.specs.Paths.{Step, is_here, further}
-use Rattle.yq_core.specs.Collections.{CollPieces, coll_along, collection_put, change_item}
+use Rattle.std.proofs.Common.{◌≡◌, ◌⊎◌, inl, inr, ℕ, Bool, true, false, cond, List, [], ◌∷◌, ◌++◌, map, Some, option_and_then, option_map}
+use Rattle.std.{proofs.Common.{sym, ap, ◌∙◌, subst, rules}, specs.Option.option_or, proofs.lemmas.Bool.cond_both}
+use Rattle.std.{proofs.lemmas.Option.{none-some, same_Some}, specs.Prelude.is_some}
+use Rattle.yq_core.{specs.Paths.{Step, is_here, further}, specs.Collections.{CollPieces, coll_along, collection_put, change_item}}
 use Rattle.yq_core.specs.Entries.{EntryPieces, item_at}
-use Rattle.yq_flow_edits.specs.FlowEdits.{FlowEdit}
 use Rattle.yq_core.specs.Nodes.{Key, FlowNode, empty, alias, scalar, coll, anchored, Sep, Items, none, item, sep_text, flow_items_text}
-use Rattle.yq_flow_edits.specs.Removals.{before_next, edit_from_item, gap_of, last_out, removing_from}
+use Rattle.yq_core.{specs.Trees.key_content, specs.Tree.key_label}
+use Rattle.yq_flow_edits.{specs.FlowEdits.FlowEdit, specs.Removals.{before_next, edit_from_item, gap_of, last_out, removing_from}}
 use Rattle.yq_flow_edits.proofs.RemoveTexts.{either, option_some}
-use Rattle.yq_core.specs.Trees.{key_content}
-use Rattle.yq_core.specs.Tree.{key_label}
-use Rattle.yq_row_table.specs.Exchange.{with_content}
-use Rattle.yq_row_table.specs.Rows.{Inline, Row, Part}
-use Rattle.yq_row_table.proofs.splices.SpliceTexts.{own_gap}
+use Rattle.yq_row_table.{specs.Exchange.with_content, specs.Rows.{Inline, Row, Part}, proofs.splices.SpliceTexts.own_gap}
 use Rattle.yq_documents.specs.Documents.{ContentHasFitKeys, EachHasFitKeys, HasFitKeys, HaveFitKeys}
 use Rattle.yq_outline.specs.Lines.{head_of}
-use Rattle.yq_edits.specs.FlowKept.{with_items, FlowRooms, FlowKeys, LeftKeys}
-use Rattle.yq_edits.specs.Rooms.{row_shape}
-use Rattle.yq_edits.proofs.AnchorLaws.{fit_parts}
-use Rattle.yq_edits.proofs.FlowRowLaws.{node_holds}
-use Rattle.yq_edits.proofs.PartLaws.{document_known}
-use Rattle.yq_edits.proofs.RowCommentLaws.{lead_content}
+use Rattle.yq_edits.{specs.FlowKept.{with_items, FlowRooms, FlowKeys, LeftKeys}, specs.Rooms.row_shape, proofs.AnchorLaws.fit_parts}
+use Rattle.yq_edits.{proofs.FlowRowLaws.node_holds, proofs.PartLaws.document_known, proofs.RowCommentLaws.lead_content}
 use Rattle.yq_edits.proofs.ShapeLaws.{shapes_are_alike}
 
 -- ---- keys

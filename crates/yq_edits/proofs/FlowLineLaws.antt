@@ -1,37 +1,21 @@
 -- The line in whose head a node at a path stands, and a document in which that line has another head.
-use Rattle.std.proofs.Common.{◌≡◌, ◌⊎◌, inl, inr, ℕ, suc, ◌+◌, ◌<◌, List, [], ◌∷◌, ◌++◌, Option, Some, None, option_map, option_and_then, refl, sym, ap, ◌∙◌, subst, arith, rules}
-use Rattle.std.proofs.lemmas.Option.{none-some, same_Some}
-use Rattle.std.specs.Prelude.{is_some}
-use Rattle.yq_core.specs.Answers.{◌>>=◌}
-use Rattle.yq_core.specs.Paths.{Step, changed_at, within}
-use Rattle.yq_core.specs.Tree.{Node, Children, none, child}
-use Rattle.yq_outline.specs.LineAnchors.{IsFree, HaveOneAnchorEach}
-use Rattle.yq_outline.specs.Group.{level_or}
-use Rattle.yq_outline.specs.Laws.{with_lines}
-use Rattle.yq_outline.specs.Outline.{LineMark, Bare, Key, Dash, Line, level, Outline, end, row, flatten, IsEven, anchored, label, outline_node, value}
-use Rattle.yq_outline.specs.Places.{here, below, compose, lines_before, lines_after, plug, FoundLine, find, in_head, place_inside, content_under}
-use Rattle.yq_outline.specs.Positions.{has_no_mark}
-use Rattle.yq_outline.proofs.Finding.{IsFoundIn, path_whole}
-use Rattle.yq_outline.proofs.PlaceLaws.{at, placed}
-use Rattle.yq_outline.proofs.Plug.{plug-compose}
-use Rattle.yq_outline.proofs.Values.{anchored-within}
+use Rattle.std.proofs.Common.{◌≡◌, ◌⊎◌, inl, inr, ℕ, suc, ◌+◌, ◌<◌, List, [], ◌∷◌, ◌++◌, Option, Some, None, option_map, option_and_then}
+use Rattle.std.{proofs.Common.{refl, sym, ap, ◌∙◌, subst, arith, rules}, proofs.lemmas.Option.{none-some, same_Some}, specs.Prelude.is_some}
+use Rattle.yq_core.{specs.Answers.◌>>=◌, specs.Paths.{Step, changed_at, within}, specs.Tree.{Node, Children, none, child}}
+use Rattle.yq_outline.{specs.LineAnchors.{IsFree, HaveOneAnchorEach}, specs.Group.level_or, specs.Laws.with_lines}
+use Rattle.yq_outline.specs.Outline.{LineMark, Bare, Key, Dash, Line, level, Outline, end, row, flatten, IsEven, anchored, label}
+use Rattle.yq_outline.specs.Outline.{outline_node, value}
+use Rattle.yq_outline.specs.Places.{here, below, compose, lines_before, lines_after, plug, FoundLine, find, in_head, place_inside}
+use Rattle.yq_outline.{specs.Places.content_under, specs.Positions.has_no_mark, proofs.Finding.{IsFoundIn, path_whole}}
+use Rattle.yq_outline.{proofs.PlaceLaws.{at, placed}, proofs.Plug.plug-compose, proofs.Values.anchored-within, specs.Lines.lines_of_rows}
 use Rattle.yq_row_table.specs.Rows.{Part, Cut}
-use Rattle.yq_documents.specs.Documents.{lead_of}
-use Rattle.yq_places.specs.FlowNodes.{bare_line, head_line, find_head}
-use Rattle.yq_outline.specs.Lines.{lines_of_rows}
-use Rattle.yq_documents.specs.Reading.{part_outline, root_of}
-use Rattle.yq_places.proofs.FlowPlaceLaws.{TakesSteps, Takes, takes_left}
-use Rattle.yq_edits.specs.Changed.{IsChanged, put_document}
-use Rattle.yq_edits.specs.Conditions.{last_anchor}
-use Rattle.yq_edits.specs.Edited.{IsPut}
-use Rattle.yq_edits.specs.FlowChanges.{with_head}
-use Rattle.yq_edits.specs.Siblings.{NodeLines, under_line, lines_below, lines_at, put_lines}
-use Rattle.yq_edits.specs.SoundRoots.{IsSoundRoot}
-use Rattle.yq_edits.proofs.AnchorLaws.{lines_among}
-use Rattle.yq_edits.proofs.EditedLaws.{known, lines_exchanged, lead_from, led_as}
+use Rattle.yq_documents.{specs.Documents.lead_of, specs.Reading.{part_outline, root_of}}
+use Rattle.yq_places.{specs.FlowNodes.{bare_line, head_line, find_head}, proofs.FlowPlaceLaws.{TakesSteps, Takes, takes_left}}
+use Rattle.yq_edits.{specs.Changed.{IsChanged, put_document}, specs.Conditions.last_anchor, specs.Edited.IsPut, specs.FlowChanges.with_head}
+use Rattle.yq_edits.{specs.Siblings.{NodeLines, under_line, lines_below, lines_at, put_lines}, specs.SoundRoots.IsSoundRoot}
+use Rattle.yq_edits.{proofs.AnchorLaws.lines_among, proofs.EditedLaws.{known, lines_exchanged, lead_from, led_as}}
 use Rattle.yq_edits.proofs.FlowChangeLaws.{NoNewAlias, changed_head, free_before, other_head, none_under}
-use Rattle.yq_edits.proofs.NodeLineLaws.{low_level, under_even}
-use Rattle.yq_edits.proofs.ContentLaws.{free_alone}
+use Rattle.yq_edits.{proofs.NodeLineLaws.{low_level, under_even}, proofs.ContentLaws.free_alone}
 
 -- The line is that of an item or entry, or steps go on in its head.
 record InEntry (steps : List Step) (o : Outline) (f : FoundLine) (rest : List Step) : Type 0 where

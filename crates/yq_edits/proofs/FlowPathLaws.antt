@@ -1,39 +1,20 @@
 -- From paths to the rows in which flow collections stand, and the text outside them.
-use Rattle.std.proofs.Common.{◌≡◌, ℕ, zero, suc, ◌+◌, ◌-◌, List, [], ◌∷◌, ◌++◌, length, Some, refl, sym, ap, ◌∙◌, subst, arith, append_assoc, length-append, rules}
-use Rattle.std.proofs.lemmas.Bool.{lt-ltb, le-ltb, cond-true, cond-false}
-use Rattle.std.proofs.lemmas.Option.{none-some, same_Some}
-use Rattle.std.specs.List.{slice_get}
-use Rattle.yq_core.specs.Paths.{Step}
-use Rattle.yq_core.proofs.Bools.{bind_some}
-use Rattle.yq_core.specs.Collections.{CollPieces, coll_along}
-use Rattle.yq_core.specs.Nodes.{FlowNode, node_text}
-use Rattle.yq_outline.specs.Group.{level_or}
-use Rattle.yq_outline.specs.Outline.{Line, Outline, flatten}
-use Rattle.yq_outline.specs.Places.{lines_before, lines_after, FoundLine}
-use Rattle.yq_outline.proofs.Decides.{flatten-group}
-use Rattle.yq_outline.proofs.PlaceLaws.{placed}
+use Rattle.std.proofs.Common.{◌≡◌, ℕ, zero, suc, ◌+◌, ◌-◌, List, [], ◌∷◌, ◌++◌, length, Some, refl, sym, ap, ◌∙◌, subst, arith}
+use Rattle.std.{proofs.Common.{append_assoc, length-append, rules}, proofs.lemmas.Bool.{lt-ltb, le-ltb, cond-true, cond-false}}
+use Rattle.std.{proofs.lemmas.Option.{none-some, same_Some}, specs.List.slice_get}
+use Rattle.yq_core.{specs.Paths.Step, proofs.Bools.bind_some, specs.Collections.{CollPieces, coll_along}, specs.Nodes.{FlowNode, node_text}}
+use Rattle.yq_outline.{specs.Group.level_or, specs.Outline.{Line, Outline, flatten}, specs.Places.{lines_before, lines_after, FoundLine}}
+use Rattle.yq_outline.{proofs.Decides.flatten-group, proofs.PlaceLaws.placed, specs.Lines.lines_of_rows}
 use Rattle.yq_row_table.specs.Exchange.{before_content, text_after_row, behind_row, exchange, with_content, with_content_at}
 use Rattle.yq_row_table.specs.Rows.{Content, Inline, Row, content_text, rows_text, Part, Cut, last, marked, cut_text}
-use Rattle.yq_row_table.specs.Splices.{behind_part, nth_part}
-use Rattle.yq_row_table.specs.View.{rows_of}
-use Rattle.yq_row_table.proofs.PlaceLaws.{place, new_place}
+use Rattle.yq_row_table.{specs.Splices.{behind_part, nth_part}, specs.View.rows_of, proofs.PlaceLaws.{place, new_place}}
 use Rattle.yq_row_table.proofs.splices.SpliceTexts.{own_gap, own_end}
-use Rattle.yq_documents.specs.Documents.{document_parts}
-use Rattle.yq_places.specs.FlowNodes.{content_flow, find_head}
-use Rattle.yq_outline.specs.Lines.{lines_of_rows}
-use Rattle.yq_documents.specs.Reading.{part_outline}
-use Rattle.yq_documents.specs.LinesInRows.{RowLine, row_line, document_row}
-use Rattle.yq_places.proofs.FlowPlaceLaws.{mark_row_line}
-use Rattle.yq_places.proofs.FoundEntries.{middle}
-use Rattle.yq_edits.specs.Appends.{inserted}
-use Rattle.yq_edits.specs.Changed.{put_part}
-use Rattle.yq_edits.specs.DocumentRows.{behind_document}
-use Rattle.yq_documents.specs.PartNumbers.{part_number, rows_to}
-use Rattle.yq_documents.proofs.PartNumberLaws.{part_there}
-use Rattle.yq_edits.specs.FlowRows.{InlineRow, FlowFound, RowTexts}
-use Rattle.yq_edits.proofs.FlowLineLaws.{head_takes, head_whole}
-use Rattle.yq_edits.proofs.LineLaws.{row_line_splits}
-use Rattle.yq_edits.proofs.PartLaws.{document_known}
+use Rattle.yq_documents.{specs.Documents.document_parts, specs.Reading.part_outline, specs.LinesInRows.{RowLine, row_line, document_row}}
+use Rattle.yq_documents.{specs.PartNumbers.{part_number, rows_to}, proofs.PartNumberLaws.part_there}
+use Rattle.yq_places.{specs.FlowNodes.{content_flow, find_head}, proofs.FlowPlaceLaws.mark_row_line, proofs.FoundEntries.middle}
+use Rattle.yq_edits.{specs.Appends.inserted, specs.Changed.put_part, specs.DocumentRows.behind_document}
+use Rattle.yq_edits.{specs.FlowRows.{InlineRow, FlowFound, RowTexts}, proofs.FlowLineLaws.{head_takes, head_whole}}
+use Rattle.yq_edits.{proofs.LineLaws.row_line_splits, proofs.PartLaws.document_known}
 
 -- ---- a row among rows
 

@@ -1,59 +1,35 @@
 -- A flow collection whose items or entries are changed, by the row in which it stands.
-use Rattle.std.proofs.Common.{◌≡◌, ℕ, ◌+◌, Bool, true, false, cond, eqb, List, [], ◌∷◌, ◌++◌, length, Option, Some, None, refl, sym, ap, ◌∙◌, subst, length-append, ℤ, rules}
-use Rattle.std.proofs.lemmas.Bool.{and_parts, cond_both}
+use Rattle.std.proofs.Common.{◌≡◌, ℕ, ◌+◌, Bool, true, false, cond, eqb, List, [], ◌∷◌, ◌++◌, length, Option, Some, None, refl, sym, ap}
+use Rattle.std.{proofs.Common.{◌∙◌, subst, length-append, ℤ, rules}, proofs.lemmas.Bool.{and_parts, cond_both}}
 use Rattle.std.proofs.lemmas.Option.{none-some, same_Some}
 use mathlib.Core.List.{head-eq_of_cons-eq}
-use Rattle.yq_core.specs.Paths.{Step, changed_at, within}
-use Rattle.yq_core.specs.Tree as tree
-use Rattle.yq_core.specs.Alike.{Alike, stop, after}
-use Rattle.yq_core.specs.Collections.{CollPieces, coll_along, collection_put}
-use Rattle.yq_flow_edits.specs.FlowEdits.{edited_node}
-use Rattle.yq_core.specs.Inline.{IsInline}
+use Rattle.yq_core.{specs.Paths.{Step, changed_at, within}, specs.Alike.{Alike, stop, after}}
+use Rattle.yq_core.{specs.Collections.{CollPieces, coll_along, collection_put}, specs.Inline.IsInline}
 use Rattle.yq_core.specs.Nodes.{FlowNode, empty, alias, scalar, coll, anchored, Items, node_text}
 use Rattle.yq_core.specs.Trees.{tree_collection, items_tree, node_anchor, node_head, tree_of}
-use Rattle.yq_core.proofs.Alikes.{alike_append, alike_separates}
-use Rattle.yq_flow_edits.proofs.CollLaws.{open_stop}
-use Rattle.yq_core.specs.Anchors.{IsNoAlias}
-use Rattle.yq_outline.specs.Comments.{head_comment}
-use Rattle.yq_outline.specs.Group.{level_or}
-use Rattle.yq_outline.specs.Laws.{with_lines}
-use Rattle.yq_outline.specs.Outline as outlines
-use Rattle.yq_outline.specs.Outline.{Line, Outline, end, flatten}
-use Rattle.yq_outline.specs.Places.{lines_before, lines_after, FoundLine}
-use Rattle.yq_outline.proofs.Decides.{flatten-group}
-use Rattle.yq_outline.proofs.PlaceLaws.{placed}
-use Rattle.yq_outline.proofs.Plug.{allows_from}
+use Rattle.yq_core.{proofs.Alikes.{alike_append, alike_separates}, specs.Anchors.IsNoAlias}
+use Rattle.yq_flow_edits.{specs.FlowEdits.edited_node, proofs.CollLaws.open_stop}
+use Rattle.yq_outline.{specs.Comments.head_comment, specs.Group.level_or, specs.Laws.with_lines}
+use Rattle.yq_outline.{specs.Outline.{Line, Outline, end, flatten}, specs.Places.{lines_before, lines_after, FoundLine}}
+use Rattle.yq_outline.{proofs.Decides.flatten-group, proofs.PlaceLaws.placed, proofs.Plug.allows_from}
+use Rattle.yq_outline.specs.Lines.{mark_line, lines_of_rows}
 use Rattle.yq_row_table.specs.Exchange.{allows_first, asked_behind, with_content}
 use Rattle.yq_row_table.specs.Grammar.{IsContent, IsMark, IsRow, Limit, AreRows, unlimited, is_more, is_plain_content, no_rows}
-use Rattle.yq_row_table.specs.Rows as rows
 use Rattle.yq_row_table.specs.Rows.{Content, Inline, Row, content_text, mark_column, mark_text, parent_indent, rows_text, Part, Cut}
-use Rattle.yq_row_table.specs.Seams.{TakesPlace}
-use Rattle.yq_row_table.specs.Splices.{first_gap}
-use Rattle.yq_row_table.proofs.AlikeRows.{dashes_text_alike}
-use Rattle.yq_row_table.proofs.ExchangeLaws.{mark_kept}
-use Rattle.yq_row_table.proofs.RowPlaces.{takes_place}
-use Rattle.yq_row_table.proofs.seams.SeamLaws.{rows_drop}
-use Rattle.yq_row_table.proofs.splices.SpliceTexts.{own_gap}
-use Rattle.yq_documents.specs.Documents.{HaveFitKeys, HasShortRoot, is_long_plain}
-use Rattle.yq_outline.specs.Lines.{mark_line, lines_of_rows}
-use Rattle.yq_documents.specs.Reading.{part_outline}
-use Rattle.yq_places.proofs.FlowPieces.{named_is, none_anchored, twice}
-use Rattle.yq_places.proofs.RemovalLines.{front_some}
-use Rattle.yq_edits.specs.DocumentRows.{Known, behind_document}
-use Rattle.yq_edits.specs.FlowChanges.{with_head}
-use Rattle.yq_edits.specs.FlowRows.{InlineRow, row_collection, with_node, IsFlowAt, FlowStands, FlowEdited}
-use Rattle.yq_edits.specs.Moved.{dash_lines}
-use Rattle.yq_edits.specs.RowComments.{TakesRow}
-use Rattle.yq_edits.proofs.AnchorLaws.{fit_parts, fit_from}
-use Rattle.yq_edits.proofs.FirstRowLaws.{short_first}
-use Rattle.yq_edits.proofs.FlowChangeLaws.{none_under}
-use Rattle.yq_edits.proofs.FlowLineLaws.{head_whole, flow_line_changed}
+use Rattle.yq_row_table.{specs.Seams.TakesPlace, specs.Splices.first_gap, proofs.AlikeRows.dashes_text_alike, proofs.ExchangeLaws.mark_kept}
+use Rattle.yq_row_table.{proofs.RowPlaces.takes_place, proofs.seams.SeamLaws.rows_drop, proofs.splices.SpliceTexts.own_gap}
+use Rattle.yq_documents.{specs.Documents.{HaveFitKeys, HasShortRoot, is_long_plain}, specs.Reading.part_outline}
+use Rattle.yq_places.{proofs.FlowPieces.{named_is, none_anchored, twice}, proofs.RemovalLines.front_some}
+use Rattle.yq_edits.{specs.DocumentRows.{Known, behind_document}, specs.FlowChanges.with_head}
+use Rattle.yq_edits.{specs.FlowRows.{InlineRow, row_collection, with_node, IsFlowAt, FlowStands, FlowEdited}, specs.Moved.dash_lines}
+use Rattle.yq_edits.{specs.RowComments.TakesRow, proofs.AnchorLaws.{fit_parts, fit_from}, proofs.FirstRowLaws.short_first}
+use Rattle.yq_edits.{proofs.FlowChangeLaws.none_under, proofs.FlowLineLaws.{head_whole, flow_line_changed}}
 use Rattle.yq_edits.proofs.LineLaws.{above_mark, dashes_count}
-use Rattle.yq_edits.proofs.PartLaws.{document_known, drop_front, take_front, is_put, part_rows}
-use Rattle.yq_edits.proofs.PlacedLaws.{same_parts}
-use Rattle.yq_edits.proofs.CommentPutLaws.{last_lines}
-use Rattle.yq_edits.proofs.ReplaceLaws.{document_replaced}
-use Rattle.yq_edits.proofs.RowCommentLaws.{row_replaces}
+use Rattle.yq_edits.{proofs.PartLaws.{document_known, drop_front, take_front, is_put, part_rows}, proofs.PlacedLaws.same_parts}
+use Rattle.yq_edits.{proofs.CommentPutLaws.last_lines, proofs.ReplaceLaws.document_replaced, proofs.RowCommentLaws.row_replaces}
+use Rattle.yq_core.specs.Tree as tree
+use Rattle.yq_outline.specs.Outline as outlines
+use Rattle.yq_row_table.specs.Rows as rows
 
 -- What is known of a node in which a collection stands, and of one with other items or entries there.
 pub record HoldsColl (node m : FlowNode) (rest : List ℕ) : Type 0 where

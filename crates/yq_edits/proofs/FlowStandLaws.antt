@@ -1,26 +1,15 @@
 -- The flow collection at a path as a node of the text, with its places.
-use Rattle.std.proofs.Common.{◌≡◌, ℕ, ◌+◌, Bool, true, List, [], ◌∷◌, ◌++◌, length, Option, Some, option_map, refl, sym, ap, ◌∙◌, subst, append_assoc}
-use Rattle.std.proofs.lemmas.Option.{same_Some}
-use Rattle.std.specs.Str.{IsUtf8}
-use Rattle.yq_core.specs.Paths.{Step}
-use Rattle.yq_core.specs.Collections.{CollPieces, coll_along, coll_in}
+use Rattle.std.proofs.Common.{◌≡◌, ℕ, ◌+◌, Bool, true, List, [], ◌∷◌, ◌++◌, length, Option, Some, option_map, refl, sym, ap, ◌∙◌, subst}
+use Rattle.std.{proofs.Common.append_assoc, proofs.lemmas.Option.same_Some, specs.Str.IsUtf8}
+use Rattle.yq_core.{specs.Paths.Step, specs.Collections.{CollPieces, coll_along, coll_in}}
 use Rattle.yq_core.specs.Entries.{EntryPieces, entry_pieces_at, path_inside, locate_entry, placed_entry_at}
-use Rattle.yq_core.specs.Nodes.{bare, FlowNode, key_text, node_text, IsFlowNode}
-use Rattle.yq_core.specs.Places.{locate}
-use Rattle.yq_core.specs.Spans.{HasSpans}
-use Rattle.yq_core.proofs.PathLaws.{path_holds, path_places, path_stands, then_some}
-use Rattle.yq_core.proofs.NodesWrittenLaws.{key_append}
-use Rattle.yq_row_table.specs.Exchange.{behind_row}
-use Rattle.yq_row_table.specs.Rows.{Cut, cut_text}
-use Rattle.yq_documents.specs.Reading.{read_at}
-use Rattle.yq_documents.specs.LinesInRows.{document_row}
-use Rattle.yq_places.proofs.FlowSpanLaws.{entry_spans}
-use Rattle.yq_places.proofs.HeadSpanLaws.{node_spans}
-use Rattle.yq_edits.specs.FlowRows.{behind_node, FlowAt}
-use Rattle.yq_edits.proofs.FlowPathLaws.{row_in_cut, row_texts}
-use Rattle.yq_edits.proofs.FlowRowLaws.{flow_stands}
-use Rattle.yq_edits.proofs.PartLaws.{document_known}
-use Rattle.yq_edits.proofs.TextPieceLaws.{text_is_piece}
+use Rattle.yq_core.{specs.Nodes.{bare, FlowNode, key_text, node_text, IsFlowNode}, specs.Places.locate, specs.Spans.HasSpans}
+use Rattle.yq_core.{proofs.PathLaws.{path_holds, path_places, path_stands, then_some}, proofs.NodesWrittenLaws.key_append}
+use Rattle.yq_row_table.{specs.Exchange.behind_row, specs.Rows.{Cut, cut_text}}
+use Rattle.yq_documents.{specs.Reading.read_at, specs.LinesInRows.document_row}
+use Rattle.yq_places.{proofs.FlowSpanLaws.entry_spans, proofs.HeadSpanLaws.node_spans}
+use Rattle.yq_edits.{specs.FlowRows.{behind_node, FlowAt}, proofs.FlowPathLaws.{row_in_cut, row_texts}, proofs.FlowRowLaws.flow_stands}
+use Rattle.yq_edits.{proofs.PartLaws.document_known, proofs.TextPieceLaws.text_is_piece}
 
 -- a collection is that of the item or entry to which the steps lead
 coll_entry : (ss : List Step) (x : EntryPieces) (w : CollPieces) → coll_along ss x.node x.rest ≡ Some w → (y : EntryPieces) × (entry_pieces_at ss x ≡ Some y) × (coll_in y.node y.rest ≡ Some w)

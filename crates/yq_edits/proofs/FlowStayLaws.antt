@@ -1,46 +1,28 @@
 -- With other items or entries in a flow collection, the steps that lead to its head lead there still, with what they led to in it.
-use Rattle.std.proofs.Common.{◌≡◌, ℕ, zero, suc, ◌+◌, Bool, true, false, not, ◌||◌, cond, List, [], ◌∷◌, ◌++◌, length, take, map, Option, Some, None, option_map, refl, sym, ap, ◌∙◌, arith}
-use Rattle.std.proofs.Math.Seq.{take-append_seam}
-use Rattle.std.proofs.lemmas.Bool.{false≢true}
-use Rattle.std.proofs.lemmas.List.{length-map}
-use Rattle.std.proofs.lemmas.Option.{same_Some}
-use Rattle.std.specs.List.{slice_get}
+use Rattle.std.proofs.Common.{◌≡◌, ℕ, zero, suc, ◌+◌, Bool, true, false, not, ◌||◌, cond, List, [], ◌∷◌, ◌++◌, length, take, map, Option}
+use Rattle.std.{proofs.Common.{Some, None, option_map, refl, sym, ap, ◌∙◌, arith}, proofs.Math.Seq.take-append_seam}
+use Rattle.std.{proofs.lemmas.Bool.false≢true, proofs.lemmas.List.length-map, proofs.lemmas.Option.same_Some, specs.List.slice_get}
 use Rattle.std.specs.Option.{is_some}
-use Rattle.yq_core.specs.Answers.{◌>>=◌}
-use Rattle.yq_core.specs.Paths.{Step}
-use Rattle.yq_core.specs.Collections.{CollPieces, coll_along, collection_put}
+use Rattle.yq_core.{specs.Answers.◌>>=◌, specs.Paths.Step, specs.Collections.{CollPieces, coll_along, collection_put}}
 use Rattle.yq_core.specs.Nodes.{FlowNode, Items}
-use Rattle.yq_outline.specs.Group.{group}
-use Rattle.yq_outline.specs.Outline.{Outline, end, row, null_node}
-use Rattle.yq_outline.specs.Places.{here, below, FoundLine, find, in_head, place_inside, lines_before}
-use Rattle.yq_outline.specs.Positions.{has_no_mark}
-use Rattle.yq_row_table.specs.Exchange.{behind_row, with_content}
-use Rattle.yq_row_table.specs.Grammar.{begins_document, no_rows}
-use Rattle.yq_row_table.specs.Rows.{Content, Inline, Row, Part, Cut, last, marked, rows_text}
-use Rattle.yq_row_table.specs.Splices.{behind_part}
-use Rattle.yq_row_table.proofs.splices.SpliceTexts.{own_gap, own_end}
-use Rattle.yq_documents.specs.Documents.{begins_bare, document_parts, has_begin}
-use Rattle.yq_documents.specs.PartNumbers.{number_from, part_number}
-use Rattle.yq_documents.specs.Reading.{part_outline}
-use Rattle.yq_documents.specs.LinesInRows.{RowLine, document_row, row_line}
+use Rattle.yq_outline.{specs.Group.group, specs.Outline.{Outline, end, row, null_node}}
+use Rattle.yq_outline.{specs.Places.{here, below, FoundLine, find, in_head, place_inside, lines_before}, specs.Positions.has_no_mark}
 use Rattle.yq_outline.specs.Lines.{head_of, lines_of_rows}
+use Rattle.yq_row_table.{specs.Exchange.{behind_row, with_content}, specs.Grammar.{begins_document, no_rows}}
+use Rattle.yq_row_table.{specs.Rows.{Content, Inline, Row, Part, Cut, last, marked, rows_text}, specs.Splices.behind_part}
+use Rattle.yq_row_table.proofs.splices.SpliceTexts.{own_gap, own_end}
+use Rattle.yq_documents.{specs.Documents.{begins_bare, document_parts, has_begin}, specs.PartNumbers.{number_from, part_number}}
+use Rattle.yq_documents.{specs.Reading.part_outline, specs.LinesInRows.{RowLine, document_row, row_line}}
 use Rattle.yq_places.specs.FlowNodes.{bare_line, content_flow, find_head, flow_collection, head_line, line_collection}
-use Rattle.yq_places.specs.FlowViews.{LeadsToHead}
-use Rattle.yq_places.specs.NodeReading.{head_line_of}
-use Rattle.yq_places.proofs.FlowNodeLaws.{collection_is, rows_collection}
-use Rattle.yq_places.proofs.FlowViewLaws.{head_found, numbered}
-use Rattle.yq_places.proofs.RemovalLines.{front_some}
-use Rattle.yq_places.proofs.WalkDocuments.{row_line_number}
-use Rattle.yq_edits.specs.Changed.{put_document, put_part}
-use Rattle.yq_edits.specs.DocumentRows.{behind_document}
-use Rattle.yq_edits.specs.FlowRows.{FlowAt, InlineRow, behind_node, with_node}
-use Rattle.yq_edits.specs.Rooms.{row_shape}
-use Rattle.yq_edits.proofs.ChangedLaws.{document_put, first_stays, nth_changed}
-use Rattle.yq_edits.proofs.FlowKeptLaws.{one_other}
-use Rattle.yq_edits.proofs.FlowPathLaws.{InCut, row_in_cut}
-use Rattle.yq_edits.proofs.FlowRowLaws.{node_holds}
-use Rattle.yq_edits.proofs.ShapeLaws.{before_strip, find_strip, group_strip, head_strip, rows_strip, strip_found, strip_outline, strip_pair, compose_strip, shapes_lines, stripped}
+use Rattle.yq_places.{specs.FlowViews.LeadsToHead, specs.NodeReading.head_line_of, proofs.FlowNodeLaws.{collection_is, rows_collection}}
+use Rattle.yq_places.{proofs.FlowViewLaws.{head_found, numbered}, proofs.RemovalLines.front_some, proofs.WalkDocuments.row_line_number}
 use Rattle.yq_places.proofs.RemovalViewLaws.{slice_seam}
+use Rattle.yq_edits.{specs.Changed.{put_document, put_part}, specs.DocumentRows.behind_document}
+use Rattle.yq_edits.{specs.FlowRows.{FlowAt, InlineRow, behind_node, with_node}, specs.Rooms.row_shape}
+use Rattle.yq_edits.{proofs.ChangedLaws.{document_put, first_stays, nth_changed}, proofs.FlowKeptLaws.one_other}
+use Rattle.yq_edits.{proofs.FlowPathLaws.{InCut, row_in_cut}, proofs.FlowRowLaws.node_holds}
+use Rattle.yq_edits.proofs.ShapeLaws.{before_strip, find_strip, group_strip, head_strip, rows_strip, strip_found, strip_outline, strip_pair}
+use Rattle.yq_edits.proofs.ShapeLaws.{compose_strip, shapes_lines, stripped}
 
 -- ---- among lines
 

@@ -1,19 +1,13 @@
 -- What is written of a value in flow style is the inline node of that value, and a piece of a text.
 use Rattle.std.proofs.Common.{◌≡◌, ◌≢◌, ℕ, ◌||◌, List, [], ◌∷◌, Option, Bool, true, false, cond, subst, rules}
-use Rattle.std.proofs.lemmas.Bool.{false≢true, ltb-false, or_parts}
-use Rattle.std.specs.Prelude.{codes}
-use Rattle.std.specs.Str.{chars}
-use Rattle.yq_core.specs.PlainText.{is_plain_text}
-use Rattle.yq_core.specs.Scalar.{string_of}
-use Rattle.yq_core.specs.Tree as tree
-use Rattle.yq_core.specs.Tree.{Children}
-use Rattle.yq_core.specs.Writable.{can_write_plain}
-use Rattle.yq_core.specs.Written.{written_scalar}
-use Rattle.yq_core.specs.declared.style.Style.TheVariants as styles
-use Rattle.yq_core.proofs.PlainSpells.{writable_text}
+use Rattle.std.{proofs.lemmas.Bool.{false≢true, ltb-false, or_parts}, specs.Prelude.codes, specs.Str.chars}
+use Rattle.yq_core.{specs.PlainText.is_plain_text, specs.Scalar.string_of, specs.Tree.Children, specs.Writable.can_write_plain}
+use Rattle.yq_core.{specs.Written.written_scalar, proofs.PlainSpells.writable_text}
 use Rattle.yq_core.specs.NodesWritten.{scalar_text, flow_key, flow_of, flow_items}
 use Rattle.yq_documents.specs.Documents.{HasFitKey, HasFitKeys, EachHasFitKeys}
 use Rattle.yq_semantics.specs.Changes.{is_overlong_key, has_long_key, have_long_key}
+use Rattle.yq_core.specs.Tree as tree
+use Rattle.yq_core.specs.declared.style.Style.TheVariants as styles
 
 -- a key doesn't merge
 plain_apart : (k : List ℕ) → is_plain_text true k ≡ true → k ≡ 60 ∷ 60 ∷ [] → ⊥

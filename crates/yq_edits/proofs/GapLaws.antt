@@ -1,21 +1,13 @@
 -- The head comment of the gap that stays where rows are taken out.
-use Rattle.std.proofs.Common.{◌≡◌, ℕ, Bool, true, false, ◌&&◌, List, [], ◌∷◌, ◌++◌, Option, Some, None, refl, sym, ap, ◌∙◌, subst, ⊎_elim, replicate}
-use Rattle.std.proofs.lemmas.Bool.{false≢true, cond_both, cond-true, cond-false, and_parts, cases_Bool}
-use Rattle.yq_core.specs.Block.{BlockText, RawLines, keeps}
-use Rattle.yq_core.specs.BlockRepair.{AreGap, is_short, is_outdented_comment, repair}
-use Rattle.yq_core.specs.Lines.{is_hash, is_blank}
-use Rattle.yq_core.specs.Text.{is_break, is_empty, is_line, joined, text_lines, past_white}
-use Rattle.yq_core.proofs.LineLaws.{lines_again}
-use Rattle.yq_core.proofs.BlockRepairText.{line_past, line_spaces}
-use Rattle.yq_outline.specs.Comments.{are_comments, head_comment, last_comments}
-use Rattle.yq_row_table.specs.Gap.{IsGapLine, AreGapLines, IsGap}
-use Rattle.yq_row_table.specs.Removal.{hold_comment, seam_gap}
-use Rattle.yq_row_table.proofs.seams.GapSeams.{gap_kinds, gap_lines_of}
-use Rattle.yq_outline.proofs.HeadLaws.{comments_behind, head_repaired}
-use Rattle.yq_row_table.proofs.seams.GapFronts.{lines_joined_of}
-use Rattle.yq_row_table.proofs.NothingLaws.{some_behind}
-use Rattle.yq_row_table.proofs.seams.SeamLaws.{line_by_break}
-use Rattle.yq_row_table.proofs.EmptyTexts.{none_is}
+use Rattle.std.proofs.Common.{◌≡◌, ℕ, Bool, true, false, ◌&&◌, List, [], ◌∷◌, ◌++◌, Option, Some, None, refl, sym, ap, ◌∙◌, subst, ⊎_elim}
+use Rattle.std.{proofs.Common.replicate, proofs.lemmas.Bool.{false≢true, cond_both, cond-true, cond-false, and_parts, cases_Bool}}
+use Rattle.yq_core.{specs.Block.{BlockText, RawLines, keeps}, specs.BlockRepair.{AreGap, is_short, is_outdented_comment, repair}}
+use Rattle.yq_core.{specs.Lines.{is_hash, is_blank}, specs.Text.{is_break, is_empty, is_line, joined, text_lines, past_white}}
+use Rattle.yq_core.{proofs.LineLaws.lines_again, proofs.BlockRepairText.{line_past, line_spaces}}
+use Rattle.yq_outline.{specs.Comments.{are_comments, head_comment, last_comments}, proofs.HeadLaws.{comments_behind, head_repaired}}
+use Rattle.yq_row_table.{specs.Gap.{IsGapLine, AreGapLines, IsGap}, specs.Removal.{hold_comment, seam_gap}}
+use Rattle.yq_row_table.{proofs.seams.GapSeams.{gap_kinds, gap_lines_of}, proofs.seams.GapFronts.lines_joined_of}
+use Rattle.yq_row_table.{proofs.NothingLaws.some_behind, proofs.seams.SeamLaws.line_by_break, proofs.EmptyTexts.none_is}
 use Rattle.yq_documents.specs.Pieces.{before_run}
 
 -- the head comment of a gap, in front of which lines stand that end in no comment

@@ -1,53 +1,29 @@
 -- Head comments of items and entries, put and taken away.
-use Rattle.std.proofs.Common.{◌≡◌, ℕ, zero, suc, ◌+◌, ◌<◌, List, [], ◌∷◌, ◌++◌, length, take, Option, Some, None, true, false, refl, sym, ap, ◌∙◌, subst, arith, rules, ⊎_elim, append_assoc, replicate}
+use Rattle.std.proofs.Common.{◌≡◌, ℕ, zero, suc, ◌+◌, ◌<◌, List, [], ◌∷◌, ◌++◌, length, take, Option, Some, None, true, false, refl, sym}
+use Rattle.std.proofs.Common.{ap, ◌∙◌, subst, arith, rules, ⊎_elim, append_assoc, replicate}
 use Rattle.std.proofs.lemmas.Bool.{lt-ltb, and_from, cases_Bool}
-use Rattle.yq_core.specs.Block.{BlockText, RawLines, ends_block, keeps}
-use Rattle.yq_core.specs.BlockRepair.{is_behind}
-use Rattle.yq_core.specs.declared.block_lines.TextIndent.{TextIndent}
-use Rattle.yq_core.specs.Text.{is_empty, joined, put_byte, text_lines}
-use Rattle.yq_core.proofs.BlockRepairLaws.{ends_behind}
-use Rattle.yq_core.proofs.SpaceLaws.{prefix_none, spaces_front, drop_front as spaces_drop}
-use Rattle.yq_outline.specs.Comments.{head_comment, last_comments}
-use Rattle.yq_row_table.specs.Exchange.{asked_behind}
-use Rattle.yq_row_table.specs.Gap.{AreGapLines, IsGap}
-use Rattle.yq_row_table.specs.Grammar.{Limit, unlimited, AreRows, no_rows}
-use Rattle.yq_row_table.specs.Rows.{Row, behind_gap, behind_indent, rows_text, Part}
-use Rattle.yq_row_table.specs.Seams.{are_seamed}
-use Rattle.yq_row_table.specs.Removal.{hold_comment, last_block}
-use Rattle.yq_row_table.proofs.AlikeBlocks.{put_first}
-use Rattle.yq_row_table.proofs.seams.GapSeams.{gap_lines_of, lines_before}
-use Rattle.yq_row_table.proofs.seams.GapFronts.{ends_blank, ends_comment, gap_joined}
-use Rattle.yq_edits.proofs.GapLaws.{head_joined, none_before}
-use Rattle.yq_row_table.proofs.seams.LessLaws.{starts_less}
-use Rattle.yq_row_table.proofs.NothingLaws.{some_behind}
-use Rattle.yq_row_table.proofs.seams.BlockFronts.{gap_front, last_none}
-use Rattle.yq_row_table.proofs.RowAgain.{row_starts}
-use Rattle.yq_row_table.proofs.seams.SeamLaws.{rows_drop}
-use Rattle.yq_row_table.proofs.seams.FrontSeams.{behind_row_some, seams_any, seams_were}
-use Rattle.yq_row_table.proofs.splices.PartPlaces.{part_in}
-use Rattle.yq_documents.specs.Pieces.{before_run, last_run}
-use Rattle.yq_documents.specs.Documents.{HaveFitKeys, HasShortRoot}
-use Rattle.yq_outline.specs.Group.{level_or}
-use Rattle.yq_outline.specs.Laws.{with_lines}
-use Rattle.yq_outline.specs.Lines.{mark_line, dash_line, lines_from, lines_of_rows}
-use Rattle.yq_outline.specs.Outline.{Line, level, flatten, label}
-use Rattle.yq_documents.specs.Reading.{part_outline}
+use Rattle.yq_core.{specs.Block.{BlockText, RawLines, ends_block, keeps}, specs.BlockRepair.is_behind}
+use Rattle.yq_core.{specs.declared.block_lines.TextIndent.TextIndent, specs.Text.{is_empty, joined, put_byte, text_lines}}
+use Rattle.yq_core.{proofs.BlockRepairLaws.ends_behind, proofs.SpaceLaws.{prefix_none, spaces_front, drop_front as spaces_drop}}
+use Rattle.yq_outline.{specs.Comments.{head_comment, last_comments}, specs.Group.level_or, specs.Laws.with_lines}
+use Rattle.yq_outline.{specs.Lines.{mark_line, dash_line, lines_from, lines_of_rows}, specs.Outline.{Line, level, flatten, label}}
 use Rattle.yq_outline.proofs.Decides.{flatten-group}
-use Rattle.yq_edits.specs.Siblings.{put_lines}
-use Rattle.yq_edits.proofs.BlockChangeLaws.{entry_relabelled}
-use Rattle.yq_edits.specs.Heads.{IsHeadCommentRun, with_run, rerun, HeadCommented}
-use Rattle.yq_edits.specs.LineRows.{StandApart, AreClosed}
-use Rattle.yq_edits.specs.DocumentRows.{behind_document, RowsFit}
-use Rattle.yq_documents.specs.PartNumbers.{part_number}
-use Rattle.yq_edits.proofs.ApartLaws.{even_closed}
-use Rattle.yq_edits.proofs.AppendLaws.{block_seam}
+use Rattle.yq_row_table.{specs.Exchange.asked_behind, specs.Gap.{AreGapLines, IsGap}, specs.Grammar.{Limit, unlimited, AreRows, no_rows}}
+use Rattle.yq_row_table.{specs.Rows.{Row, behind_gap, behind_indent, rows_text, Part}, specs.Seams.are_seamed}
+use Rattle.yq_row_table.{specs.Removal.{hold_comment, last_block}, proofs.AlikeBlocks.put_first}
+use Rattle.yq_row_table.{proofs.seams.GapSeams.{gap_lines_of, lines_before}, proofs.seams.GapFronts.{ends_blank, ends_comment, gap_joined}}
+use Rattle.yq_row_table.{proofs.seams.LessLaws.starts_less, proofs.NothingLaws.some_behind, proofs.seams.BlockFronts.{gap_front, last_none}}
+use Rattle.yq_row_table.{proofs.RowAgain.row_starts, proofs.seams.SeamLaws.rows_drop}
+use Rattle.yq_row_table.{proofs.seams.FrontSeams.{behind_row_some, seams_any, seams_were}, proofs.splices.PartPlaces.part_in}
+use Rattle.yq_edits.{proofs.GapLaws.{head_joined, none_before}, specs.Siblings.put_lines, proofs.BlockChangeLaws.entry_relabelled}
+use Rattle.yq_edits.{specs.Heads.{IsHeadCommentRun, with_run, rerun, HeadCommented}, specs.LineRows.{StandApart, AreClosed}}
+use Rattle.yq_edits.{specs.DocumentRows.{behind_document, RowsFit}, proofs.ApartLaws.even_closed, proofs.AppendLaws.block_seam}
 use Rattle.yq_edits.proofs.ColumnLaws.{apart_first, block_is_deeper, last_closed}
-use Rattle.yq_places.proofs.RemovalTexts.{run_parts}
 use Rattle.yq_edits.proofs.PartLaws.{part_numbered, document_known, document_spliced, is_put, take_front, drop_front}
 use Rattle.yq_edits.proofs.CommentPutLaws.{one_line}
-use Rattle.yq_documents.specs.TreeEdits.{with_head_comment}
-use Rattle.yq_places.proofs.RemovalLines.{front_some}
-use Rattle.yq_places.proofs.UnderExchange.{lines_append}
+use Rattle.yq_documents.{specs.Pieces.{before_run, last_run}, specs.Documents.{HaveFitKeys, HasShortRoot}, specs.Reading.part_outline}
+use Rattle.yq_documents.{specs.PartNumbers.part_number, specs.TreeEdits.with_head_comment}
+use Rattle.yq_places.{proofs.RemovalTexts.run_parts, proofs.RemovalLines.front_some, proofs.UnderExchange.lines_append}
 
 -- a comment that begins in a column is less deep than the text of a block scalar that is deeper
 record First (n b : ℕ) (t : List ℕ) : Type 0 where

@@ -1,30 +1,20 @@
 -- Where what a key or dash holds is cut into pieces.
-use Rattle.std.proofs.Common.{inl, inr, ◌≡◌, ◌⊎◌, ℕ, ℤ, ◌<◌, ⊎_elim, Bool, true, false, cond, eqb, ◌&&◌, List, [], ◌∷◌, ◌++◌, drop, length, replicate, Some, None, refl, sym, ap, ◌∙◌, subst, arith, append_assoc, append-nil}
-use Rattle.std.proofs.lemmas.Bool.{cases_lt, eqb-true, false≢true, false_from_ne_true, not-false}
-use Rattle.std.proofs.Math.Seq.{take-append_seam}
-use Rattle.std.proofs.lemmas.Str.{IsUtf8-take}
-use Rattle.std.specs.Str.{IsUtf8}
-use Rattle.yq_core.specs.Text.{front, is_empty, is_feed, is_return, is_white, no_white, unless, NoneIn}
-use Rattle.yq_core.proofs.Bools.{at_byte}
-use Rattle.yq_core.specs.Nodes as inline
-use Rattle.yq_core.specs.Nodes.{in_name, node_text, IsLead, IsName, IsFlowNode}
-use Rattle.yq_core.proofs.NodesWrittenLaws.{node_then}
-use Rattle.yq_row_table.specs.Gap.{IsWhite}
-use Rattle.yq_row_table.specs.Grammar.{IsContent, IsMark, is_entry}
-use Rattle.yq_row_table.specs.Rows as rows
-use Rattle.yq_row_table.specs.Rows.{Content, Nothing, Inline, Block, dashes_text, mark_text}
-use Rattle.yq_row_table.specs.View.{Slices, content_cut}
-use Rattle.yq_row_table.proofs.NodePieces.{BeginsAscii, before_ascii, behind_ascii}
-use Rattle.yq_row_table.proofs.seams.ScalarSeams.{ends_return}
-use Rattle.yq_places.specs.PrintedLines.{is_last_break, less_break, last_break}
-use Rattle.yq_places.specs.RowPieces.{anchor_before, space_before}
-use Rattle.yq_places.proofs.PrintedTexts.{less_is}
-use Rattle.yq_edits.specs.TextPieces.{IsPiece}
-use Rattle.yq_edits.proofs.LineFrontLaws.{clean_cut, ends_more}
-use Rattle.yq_edits.proofs.TextPieceLaws.{byte_cut}
+use Rattle.std.proofs.Common.{inl, inr, ◌≡◌, ◌⊎◌, ℕ, ℤ, ◌<◌, ⊎_elim, Bool, true, false, cond, eqb, ◌&&◌, List, [], ◌∷◌, ◌++◌, drop, length}
+use Rattle.std.proofs.Common.{replicate, Some, None, refl, sym, ap, ◌∙◌, subst, arith, append_assoc, append-nil}
+use Rattle.std.{proofs.lemmas.Bool.{cases_lt, eqb-true, false≢true, false_from_ne_true, not-false}, proofs.Math.Seq.take-append_seam}
+use Rattle.std.{proofs.lemmas.Str.IsUtf8-take, specs.Str.IsUtf8}
+use Rattle.yq_core.{specs.Text.{front, is_empty, is_feed, is_return, is_white, no_white, unless, NoneIn}, proofs.Bools.at_byte}
+use Rattle.yq_core.{specs.Nodes.{in_name, node_text, IsLead, IsName, IsFlowNode}, proofs.NodesWrittenLaws.node_then}
 use Rattle.yq_core.specs.declared.block_types.Break.TheVariants.{Lf, CrLf}
-use Rattle.yq_edits.proofs.BreakLaws.{IsLfOrCrLf, last_is}
-use Rattle.yq_edits.proofs.CommentPieceLaws.{nothing, break_piece}
+use Rattle.yq_row_table.{specs.Gap.IsWhite, specs.Grammar.{IsContent, IsMark, is_entry}}
+use Rattle.yq_row_table.{specs.Rows.{Content, Nothing, Inline, Block, dashes_text, mark_text}, specs.View.{Slices, content_cut}}
+use Rattle.yq_row_table.{proofs.NodePieces.{BeginsAscii, before_ascii, behind_ascii}, proofs.seams.ScalarSeams.ends_return}
+use Rattle.yq_places.{specs.PrintedLines.{is_last_break, less_break, last_break}, specs.RowPieces.{anchor_before, space_before}}
+use Rattle.yq_places.proofs.PrintedTexts.{less_is}
+use Rattle.yq_edits.{specs.TextPieces.IsPiece, proofs.LineFrontLaws.{clean_cut, ends_more}, proofs.TextPieceLaws.byte_cut}
+use Rattle.yq_edits.{proofs.BreakLaws.{IsLfOrCrLf, last_is}, proofs.CommentPieceLaws.{nothing, break_piece}}
+use Rattle.yq_core.specs.Nodes as inline
+use Rattle.yq_row_table.specs.Rows as rows
 
 -- ---- white space before a head
 

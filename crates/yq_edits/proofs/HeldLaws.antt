@@ -1,20 +1,14 @@
 -- What a key or dash holds spells the text of its rows.
 use Rattle.std.proofs.Common.{◌≡◌, ℕ, true, cond, List, [], ◌∷◌, ◌++◌, Some, refl, sym, ap, ◌∙◌, append_assoc, append-nil, rules}
 use Rattle.std.proofs.lemmas.Bool.{false≢true}
-use Rattle.yq_core.specs.Paths.{Step}
-use Rattle.yq_core.specs.Text.{is_empty}
-use Rattle.yq_row_table.specs.Exchange.{row_front}
-use Rattle.yq_row_table.specs.Rows.{Row, Cut, cut_text, print_row, rows_text}
-use Rattle.yq_row_table.specs.View.{Slices, slices}
-use Rattle.yq_places.specs.CommentPlaces.{LineEnd, end_in_line, text_to_line_end}
-use Rattle.yq_places.specs.PrintedLines.{last_break, less_break}
-use Rattle.yq_places.specs.RowPieces.{anchor_before, space_before}
-use Rattle.yq_places.proofs.PrintedTexts.{less_is}
-use Rattle.yq_places.proofs.RunSpans.{rows_then}
+use Rattle.yq_core.{specs.Paths.Step, specs.Text.is_empty}
+use Rattle.yq_row_table.{specs.Exchange.row_front, specs.Rows.{Row, Cut, cut_text, print_row, rows_text}, specs.View.{Slices, slices}}
+use Rattle.yq_row_table.proofs.EmptyTexts.{empty_is}
+use Rattle.yq_places.{specs.CommentPlaces.{LineEnd, end_in_line, text_to_line_end}, specs.PrintedLines.{last_break, less_break}}
+use Rattle.yq_places.{specs.RowPieces.{anchor_before, space_before}, proofs.PrintedTexts.less_is, proofs.RunSpans.rows_then}
+use Rattle.yq_places.specs.Standings.{RowsOfEntry, before_entry, behind_entry, rows_of_entry, held}
 use Rattle.yq_edits.proofs.CommentRowLaws.{end_parts, entry_is_row, entry_row, found_text, line_whole, row_found}
 use Rattle.yq_edits.specs.StandingLaws.{held_text}
-use Rattle.yq_places.specs.Standings.{RowsOfEntry, before_entry, behind_entry, rows_of_entry, held}
-use Rattle.yq_row_table.proofs.EmptyTexts.{empty_is}
 
 -- ---- the pieces of a row
 

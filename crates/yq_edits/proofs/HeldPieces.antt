@@ -1,32 +1,20 @@
 -- What a key or dash holds is in pieces of the text.
-use Rattle.std.proofs.Common.{inl, inr, ◌≡◌, ◌⊎◌, ℕ, false, cond, List, [], ◌∷◌, ◌++◌, length, replicate, Some, refl, sym, ap, ◌∙◌, subst, append_assoc, append-nil}
-use Rattle.std.proofs.lemmas.Bool.{false≢true}
-use Rattle.yq_core.specs.Paths.{Step}
-use Rattle.yq_core.specs.Text.{is_empty}
-use Rattle.yq_core.proofs.BlockPieceLaws.{IsLf}
-use Rattle.yq_row_table.specs.Exchange.{asked_behind, row_front}
-use Rattle.yq_row_table.specs.Gap.{IsBreak}
-use Rattle.yq_row_table.specs.Grammar.{IsRow, IsTail, unlimited}
-use Rattle.yq_row_table.specs.Rows.{Cut, cut_text, mark_text, parent_indent, rows_text}
-use Rattle.yq_row_table.specs.View.{Slices, slices}
+use Rattle.std.proofs.Common.{inl, inr, ◌≡◌, ◌⊎◌, ℕ, false, cond, List, [], ◌∷◌, ◌++◌, length, replicate, Some, refl, sym, ap, ◌∙◌, subst}
+use Rattle.std.{proofs.Common.{append_assoc, append-nil}, proofs.lemmas.Bool.false≢true}
+use Rattle.yq_core.{specs.Paths.Step, specs.Text.is_empty, proofs.BlockPieceLaws.IsLf}
+use Rattle.yq_row_table.{specs.Exchange.{asked_behind, row_front}, specs.Gap.IsBreak, specs.Grammar.{IsRow, IsTail, unlimited}}
+use Rattle.yq_row_table.{specs.Rows.{Cut, cut_text, mark_text, parent_indent, rows_text}, specs.View.{Slices, slices}}
 use Rattle.yq_documents.specs.Reading.{read_at}
-use Rattle.yq_places.specs.CommentPlaces.{LineEnd, end_in_line, text_to_line_end}
-use Rattle.yq_places.specs.PrintedLines.{last_break, less_break}
-use Rattle.yq_places.specs.RowPieces.{space_before}
-use Rattle.yq_places.specs.Standings.{RowsOfEntry, before_entry, behind_entry, held, rows_of_entry}
-use Rattle.yq_places.proofs.CommentEndLaws.{row_text_parts}
-use Rattle.yq_places.proofs.CommentPieceLaws.{Ended}
-use Rattle.yq_places.proofs.LineEndLaws.{line_tail, tail_is_end}
+use Rattle.yq_places.{specs.CommentPlaces.{LineEnd, end_in_line, text_to_line_end}, specs.PrintedLines.{last_break, less_break}}
+use Rattle.yq_places.{specs.RowPieces.space_before, specs.Standings.{RowsOfEntry, before_entry, behind_entry, held, rows_of_entry}}
+use Rattle.yq_places.{proofs.CommentEndLaws.row_text_parts, proofs.CommentPieceLaws.Ended, proofs.LineEndLaws.{line_tail, tail_is_end}}
 use Rattle.yq_places.proofs.RunSpans.{rows_then}
-use Rattle.yq_edits.specs.StandingLaws.{HeldSpells, HoldsPieces, StandsThere}
-use Rattle.yq_edits.specs.TextPieces.{IsPiece}
-use Rattle.yq_edits.proofs.StandingMarks.{entry_there, row_there, rows_ended_there}
-use Rattle.yq_edits.proofs.StandingRows.{rows_stand}
-use Rattle.yq_edits.proofs.TextPieceLaws.{line_cut, piece_back, text_is_piece}
-use Rattle.yq_edits.proofs.BreakLaws.{IsLfOrCrLf, break_is, last_is}
+use Rattle.yq_edits.{specs.StandingLaws.{HeldSpells, HoldsPieces, StandsThere}, specs.TextPieces.IsPiece}
+use Rattle.yq_edits.{proofs.StandingMarks.{entry_there, row_there, rows_ended_there}, proofs.StandingRows.rows_stand}
+use Rattle.yq_edits.{proofs.TextPieceLaws.{line_cut, piece_back, text_is_piece}, proofs.BreakLaws.{IsLfOrCrLf, break_is, last_is}}
 use Rattle.yq_edits.proofs.CommentRowLaws.{entry_row}
-use Rattle.yq_edits.proofs.HeldCuts.{EndsIn, anchor_cut, anchor_ends, break_is_piece, dashes_end, ends_behind, last_of, less_piece, low_last, mark_ends, space_white}
-use Rattle.yq_edits.proofs.HeldLaws.{cut_spelled, front_is, held_there}
+use Rattle.yq_edits.proofs.HeldCuts.{EndsIn, anchor_cut, anchor_ends, break_is_piece, dashes_end, ends_behind, last_of, less_piece}
+use Rattle.yq_edits.{proofs.HeldCuts.{low_last, mark_ends, space_white}, proofs.HeldLaws.{cut_spelled, front_is, held_there}}
 use Rattle.yq_edits.proofs.TailPieces.{HasTailPieces, pieces, white_piece}
 
 -- the end of a line, as it is cut without what is behind

@@ -1,35 +1,22 @@
 -- What stands behind a row that is alone on its line.
-use Rattle.std.proofs.Common.{◌≡◌, ℕ, ℤ, zero, suc, ◌+◌, ◌*◌, ◌<◌, List, [], ◌∷◌, ◌++◌, length, take, Some, true, false, refl, sym, ap, ◌∙◌, subst, arith, append_assoc, length-append, rules}
-use Rattle.std.proofs.lemmas.Bool.{false≢true, lt-ltb}
-use Rattle.yq_core.specs.Paths.{Step}
-use Rattle.yq_core.specs.Piece.{deeper}
-use Rattle.yq_core.specs.Plain.{ends_plain}
-use Rattle.yq_outline.specs.Group.{group, level_or, is_fine}
-use Rattle.yq_outline.specs.Outline.{Line, level, rank, Outline, end, row, flatten, IsEven}
-use Rattle.yq_outline.specs.Places.{lines_before, lines_after, FoundLine}
-use Rattle.yq_outline.specs.Comments.{head_comment}
-use Rattle.yq_outline.proofs.Decides.{flatten-group}
-use Rattle.yq_row_table.specs.Exchange.{allows_first, asked_behind}
-use Rattle.yq_core.specs.Nodes.{scalar}
-use Rattle.yq_row_table.specs.Grammar.{Limit, unlimited, AreRows, IsTail, is_entry, ends_part}
-use Rattle.yq_row_table.specs.Rows as rows
-use Rattle.yq_row_table.specs.Rows.{Inline, Row, mark_column, parent_of, parent_indent, rows_text, Part, Cut}
-use Rattle.yq_row_table.proofs.ExchangeLaws.{relimit}
-use Rattle.yq_row_table.proofs.seams.SeamLaws.{rows_drop}
-use Rattle.yq_row_table.proofs.seams.TailLaws.{fits_by}
+use Rattle.std.proofs.Common.{◌≡◌, ℕ, ℤ, zero, suc, ◌+◌, ◌*◌, ◌<◌, List, [], ◌∷◌, ◌++◌, length, take, Some, true, false, refl, sym, ap, ◌∙◌}
+use Rattle.std.{proofs.Common.{subst, arith, append_assoc, length-append, rules}, proofs.lemmas.Bool.{false≢true, lt-ltb}}
+use Rattle.yq_core.{specs.Paths.Step, specs.Piece.deeper, specs.Plain.ends_plain, specs.Nodes.scalar}
+use Rattle.yq_outline.{specs.Group.{group, level_or, is_fine}, specs.Outline.{Line, level, rank, Outline, end, row, flatten, IsEven}}
+use Rattle.yq_outline.{specs.Places.{lines_before, lines_after, FoundLine}, specs.Comments.head_comment, proofs.Decides.flatten-group}
 use Rattle.yq_outline.specs.Lines.{line_mark, mark_line, row_lines, lines_of_rows}
+use Rattle.yq_row_table.specs.Exchange.{allows_first, asked_behind}
+use Rattle.yq_row_table.specs.Grammar.{Limit, unlimited, AreRows, IsTail, is_entry, ends_part}
+use Rattle.yq_row_table.{specs.Rows.{Inline, Row, mark_column, parent_of, parent_indent, rows_text, Part, Cut}, proofs.ExchangeLaws.relimit}
+use Rattle.yq_row_table.{proofs.seams.SeamLaws.rows_drop, proofs.seams.TailLaws.fits_by}
 use Rattle.yq_documents.specs.Reading.{part_outline}
 use Rattle.yq_places.proofs.RowPathLaws.{StartsAt, found_starts}
-use Rattle.yq_edits.specs.DocumentRows.{IsDocumentPart, behind_document}
-use Rattle.yq_edits.specs.InlineRows.{LeadsBelow, IsRootRow, LeadsToLone}
-use Rattle.yq_edits.specs.LineRows.{Begins}
-use Rattle.yq_edits.specs.Moved.{dash_lines}
-use Rattle.yq_edits.proofs.ColumnLaws.{next_low}
-use Rattle.yq_edits.proofs.LineLaws.{above_mark, dashes_count, row_count}
-use Rattle.yq_edits.proofs.NodeLineLaws.{under_even}
-use Rattle.yq_edits.proofs.PartLaws.{document_known, part_rows, take_front, drop_front}
-use Rattle.yq_edits.proofs.PlacedLaws.{same_parts, whole_line}
+use Rattle.yq_edits.{specs.DocumentRows.{IsDocumentPart, behind_document}, specs.InlineRows.{LeadsBelow, IsRootRow, LeadsToLone}}
+use Rattle.yq_edits.{specs.LineRows.Begins, specs.Moved.dash_lines, proofs.ColumnLaws.next_low}
+use Rattle.yq_edits.{proofs.LineLaws.{above_mark, dashes_count, row_count}, proofs.NodeLineLaws.under_even}
+use Rattle.yq_edits.{proofs.PartLaws.{document_known, part_rows, take_front, drop_front}, proofs.PlacedLaws.{same_parts, whole_line}}
 use Rattle.yq_edits.proofs.CommentPutLaws.{last_lines}
+use Rattle.yq_row_table.specs.Rows as rows
 
 -- the rows from one on
 pub own_rows : (t : List ℕ) (c : Cut) (k : ℕ) (p : Part) (front : List Row) (r : Row) (back : List Row) → IsDocumentPart t c k p → p.rows ≡ front ++ (r ∷ back) →

@@ -1,16 +1,11 @@
 -- Items of a cut, exchanged for others: the bytes of those that are kept in part.
 use Rattle.std.proofs.Common.{◌≡◌, ℕ, ◌≤◌, List, [], ◌∷◌, ◌++◌, length, false, refl, sym, ap, ◌∙◌, subst, append_assoc, arith, rules}
 use Rattle.std.proofs.lemmas.List.{append_cancel_left, append_cancel_right, length-append}
-use Rattle.yq_row_table.specs.Items.{Item, row_item, end_item, rows_items, items_of_cut, items_text}
-use Rattle.yq_row_table.specs.Rows.{Row, Cut, cut_text}
-use Rattle.yq_row_table.specs.Touched.{item_text}
-use Rattle.yq_row_table.proofs.ItemLaws.{items_of_text, items_text-append}
-use Rattle.yq_row_table.proofs.KeptLaws.{items_apart}
+use Rattle.yq_row_table.{specs.Items.{Item, row_item, end_item, rows_items, items_of_cut, items_text}, specs.Rows.{Row, Cut, cut_text}}
+use Rattle.yq_row_table.{specs.Touched.item_text, proofs.ItemLaws.{items_of_text, items_text-append}, proofs.KeptLaws.items_apart}
 use Rattle.yq_row_table.proofs.PlaceLaws.{row_then}
-use Rattle.yq_edits.proofs.DocumentItemLaws.{rows_before}
-use Rattle.yq_text.specs.Script.{Segment, old_text, new_text, are_kept, kept_front, kept_back}
-use Rattle.yq_edits.specs.Local.{InFirst, InLast, IsLocal}
-use Rattle.yq_text.proofs.KeptSegments.{IsBetween, between}
+use Rattle.yq_edits.{proofs.DocumentItemLaws.rows_before, specs.Local.{InFirst, InLast, IsLocal}}
+use Rattle.yq_text.{specs.Script.{Segment, old_text, new_text, are_kept, kept_front, kept_back}, proofs.KeptSegments.{IsBetween, between}}
 
 -- ---- bytes in items
 

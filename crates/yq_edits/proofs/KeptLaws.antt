@@ -1,27 +1,18 @@
 -- A scalar that is put in its own place changes nothing.
 use Rattle.std.proofs.Common.{◌≡◌, ℕ, List, [], ◌∷◌, Option, Some, None, Bool, true, false, refl, sym, ap, ◌∙◌, subst, append-nil, rules}
-use Rattle.std.proofs.lemmas.Bool.{false≢true}
-use Rattle.std.specs.List.{slice_get}
-use Rattle.yq_core.specs.Paths.{Step, changed_at, node_at}
-use Rattle.yq_core.specs.Scalar.{ScalarText}
-use Rattle.yq_core.specs.Tree as tree
-use Rattle.yq_core.specs.Tree.{Node}
+use Rattle.std.{proofs.lemmas.Bool.false≢true, specs.List.slice_get}
+use Rattle.yq_core.{specs.Paths.{Step, changed_at, node_at}, specs.Scalar.ScalarText, specs.Tree.Node}
 use Rattle.yq_flow_edits.specs.Valued.{IsValueTree}
 use Rattle.yq_row_table.specs.Rows.{Part, Cut, cut_text}
-use Rattle.yq_documents.specs.Documents.{document_parts, lead_of}
-use Rattle.yq_documents.specs.Reading as reading
-use Rattle.yq_documents.specs.Reading.{documents, read_at, root_of}
+use Rattle.yq_documents.{specs.Documents.{document_parts, lead_of}, specs.Reading.{documents, read_at, root_of}}
 use Rattle.yq_documents.specs.TreeEdits.{led, replaced_node}
-use Rattle.yq_edits.specs.Changed.{changed, IsChanged, put_document}
-use Rattle.yq_edits.proofs.LeadLaws.{same_lead_goes}
+use Rattle.yq_edits.{specs.Changed.{changed, IsChanged, put_document}, proofs.LeadLaws.same_lead_goes, specs.Replacing.are_same}
+use Rattle.yq_edits.{specs.EditLaws.EqualScalarsStay, specs.ReadsAfter.ReadsAfter, proofs.DoneLaws.{nth_map, document_done, part_of}}
+use Rattle.yq_edits.{proofs.SameLaws.same_is, proofs.SamePlaceLaws.{put_own, nth_own, change_own}}
 use Rattle.yq_semantics.specs.Operations.{replace}
 use Rattle.yq_places.specs.NodesAt.{scalar_in}
-use Rattle.yq_edits.specs.Replacing.{are_same}
-use Rattle.yq_edits.specs.EditLaws.{EqualScalarsStay}
-use Rattle.yq_edits.specs.ReadsAfter.{ReadsAfter}
-use Rattle.yq_edits.proofs.DoneLaws.{nth_map, document_done, part_of}
-use Rattle.yq_edits.proofs.SameLaws.{same_is}
-use Rattle.yq_edits.proofs.SamePlaceLaws.{put_own, nth_own, change_own}
+use Rattle.yq_core.specs.Tree as tree
+use Rattle.yq_documents.specs.Reading as reading
 
 pub led_same : (block : Bool) (lead : List (List ℕ)) (steps : List Step) (v : Node) → (steps ≡ [] → block ≡ false) → led block lead steps v ≡ v
 led_same block lead steps v h1 = search (rules, false≢true)

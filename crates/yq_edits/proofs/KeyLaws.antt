@@ -1,28 +1,18 @@
 -- A key as it is written in block style: no marker, no merge key, and no longer than in a flow collection.
-use Rattle.std.proofs.Common.{◌≡◌, ℕ, ◌+◌, ◌<◌, ◌≤◌, Bool, true, false, cond, not, eqb, ltb, List, [], ◌∷◌, ◌++◌, length, Option, Some, None, flat_map, refl, sym, ap, ◌∙◌, inl, inr, subst, arith, append-nil, length-append, rules}
-use Rattle.std.proofs.Math.Utf8.{encodes, encode, scalar, scalars}
-use Rattle.std.proofs.lemmas.Bool.{false≢true, ltb-true, not-true, and_parts}
-use Rattle.std.proofs.lemmas.Str.{encode_ascii, scalars-chars, chars-encodes, encodes-append}
-use Rattle.std.specs.List.{list_all}
-use Rattle.std.specs.Str.{chars, IsUtf8}
+use Rattle.std.proofs.Common.{◌≡◌, ℕ, ◌+◌, ◌<◌, ◌≤◌, Bool, true, false, cond, not, eqb, ltb, List, [], ◌∷◌, ◌++◌, length, Option, Some}
+use Rattle.std.proofs.Common.{None, flat_map, refl, sym, ap, ◌∙◌, inl, inr, subst, arith, append-nil, length-append, rules, codes}
+use Rattle.std.{proofs.Math.Utf8.{encodes, encode, scalar, scalars}, proofs.lemmas.Bool.{false≢true, ltb-true, not-true, and_parts}}
+use Rattle.std.{proofs.lemmas.Str.{encode_ascii, scalars-chars, chars-encodes, encodes-append}, specs.List.list_all}
+use Rattle.std.{specs.Str.{chars, IsUtf8}, specs.Prelude.◌≢◌}
+use Rattle.yq_core.{specs.Characters.is_text_char, specs.PlainText.{is_plain_char, is_plain_text, begins_marker}, specs.Scalar.string_of}
+use Rattle.yq_core.{specs.Written.{written_letters, letter_of, double_by, in_double, written_scalar, double}, proofs.Bools.chosen}
+use Rattle.yq_core.{proofs.PlainSpells.writable_text, proofs.PlainWritten.plain_text_parts, specs.NodesWritten.scalar_text}
+use Rattle.yq_core.{proofs.Alikes.{no_first, no_second, no_third}, proofs.WrittenText.scalars_append, specs.Text.{front, is_marker}}
+use Rattle.yq_core.specs.Writable.{can_write}
+use Rattle.yq_flow_edits.proofs.SpelledScalars.{plain_anywhere}
+use Rattle.yq_edits.specs.BlockRows.{block_key}
 use Rattle.yq_core.specs.declared.style.Place.TheVariants as places
 use Rattle.yq_core.specs.declared.style.Style.TheVariants as styles
-use Rattle.yq_core.specs.Characters.{is_text_char}
-use Rattle.yq_core.specs.PlainText.{is_plain_char, is_plain_text, begins_marker}
-use Rattle.yq_core.specs.Scalar.{string_of}
-use Rattle.yq_core.specs.Written.{written_letters, letter_of, double_by, in_double, written_scalar, double}
-use Rattle.yq_core.proofs.Bools.{chosen}
-use Rattle.yq_core.proofs.PlainSpells.{writable_text}
-use Rattle.yq_core.proofs.PlainWritten.{plain_text_parts}
-use Rattle.yq_core.specs.NodesWritten.{scalar_text}
-use Rattle.yq_flow_edits.proofs.SpelledScalars.{plain_anywhere}
-use Rattle.yq_core.proofs.Alikes.{no_first, no_second, no_third}
-use Rattle.yq_core.proofs.WrittenText.{scalars_append}
-use Rattle.std.specs.Prelude.{◌≢◌}
-use Rattle.std.proofs.Common.{codes}
-use Rattle.yq_core.specs.Text.{front, is_marker}
-use Rattle.yq_core.specs.Writable.{can_write}
-use Rattle.yq_edits.specs.BlockRows.{block_key}
 
 -- a key begins with no marker
 plain_unmarked : (k t : List ℕ) → begins_marker k ≡ false → is_marker (k ++ (58 ∷ t)) ≡ false

@@ -1,13 +1,8 @@
 -- Rows that are written one behind the other.
-use Rattle.std.proofs.Common.{◌≡◌, ℕ, suc, ◌≤◌, true, List, [], ◌∷◌, ◌++◌, refl, sym, subst, arith, rules}
-use Rattle.std.proofs.Math.Bool.{and-false}
-use Rattle.yq_row_table.specs.Exchange.{asked_behind}
-use Rattle.yq_row_table.specs.Gap.{IsGap}
-use Rattle.yq_row_table.specs.Grammar.{is_entry, IsRow, Limit, allows, limit_after, AreRows}
-use Rattle.yq_row_table.specs.Rows.{Row, rows_text}
+use Rattle.std.{proofs.Common.{◌≡◌, ℕ, suc, ◌≤◌, true, List, [], ◌∷◌, ◌++◌, refl, sym, subst, arith, rules}, proofs.Math.Bool.and-false}
+use Rattle.yq_row_table.{specs.Exchange.asked_behind, specs.Gap.IsGap, specs.Grammar.{is_entry, IsRow, Limit, allows, limit_after, AreRows}}
+use Rattle.yq_row_table.{specs.Rows.{Row, rows_text}, proofs.PlainEnds.{AtLine, row_at_line}, proofs.seams.SeamLaws.rows_text-append}
 use Rattle.yq_core.proofs.Alikes.{sep_first}
-use Rattle.yq_row_table.proofs.PlainEnds.{AtLine, row_at_line}
-use Rattle.yq_row_table.proofs.seams.SeamLaws.{rows_text-append}
 use Rattle.yq_edits.specs.BlockRows.{item_column, rows_on_dash}
 
 -- Rows begin at a column, before a rest, behind any row that allows it; what stands behind them may begin at any column up to that.

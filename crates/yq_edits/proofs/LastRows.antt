@@ -1,29 +1,20 @@
 -- Bytes of one line that end rows lie in the last of them.
-use Rattle.std.proofs.Common.{◌≡◌, append_assoc, Some, ℕ, ◌<◌, ◌≤◌, Bool, true, false, leb, List, [], ◌∷◌, ◌++◌, length, refl, sym, ap, ◌∙◌, subst, arith, rules}
+use Rattle.std.proofs.Common.{◌≡◌, append_assoc, Some, ℕ, ◌<◌, ◌≤◌, Bool, true, false, leb, List, [], ◌∷◌, ◌++◌, length, refl, sym, ap, ◌∙◌}
+use Rattle.std.{proofs.Common.{subst, arith, rules}, proofs.lemmas.Bool.{false≢true, leb-true, leb-false}, proofs.lemmas.List.length-append}
 use mathlib.Core.List.{tail-eq_of_cons-eq}
-use Rattle.std.proofs.lemmas.Bool.{false≢true, leb-true, leb-false}
-use Rattle.std.proofs.lemmas.List.{length-append}
-use Rattle.yq_core.proofs.BlockPieceLaws.{IsLf}
-use Rattle.yq_core.proofs.Bools.{guard_then}
+use Rattle.yq_core.{proofs.BlockPieceLaws.IsLf, proofs.Bools.guard_then}
 use Rattle.yq_row_table.specs.Grammar.{Limit, limit_after, IsRow}
-use Rattle.yq_row_table.specs.Items.{Item, row_item, rows_items, items_of_cut, items_text, Asked, nothing_asked, asked_by, asked_of, AreRowItems}
-use Rattle.yq_row_table.specs.Rows.{Row, print_row, behind_gap, rows_text, Part, Cut, cut_text}
-use Rattle.yq_row_table.specs.Splices.{with_row_gap}
-use Rattle.yq_row_table.proofs.ItemLaws.{items_joined, parts_are_items}
-use Rattle.yq_row_table.proofs.PlaceLaws.{row_then}
-use Rattle.yq_row_table.proofs.RowLaws.{row_longer}
-use Rattle.yq_row_table.proofs.seams.FrontSeams.{row_some}
-use Rattle.yq_documents.specs.Reading.{read_at}
+use Rattle.yq_row_table.specs.Items.{Item, row_item, rows_items, items_of_cut, items_text, Asked, nothing_asked, asked_by, asked_of}
+use Rattle.yq_row_table.{specs.Items.AreRowItems, specs.Rows.{Row, print_row, behind_gap, rows_text, Part, Cut, cut_text}}
+use Rattle.yq_row_table.{specs.Splices.with_row_gap, proofs.ItemLaws.{items_joined, parts_are_items}, proofs.PlaceLaws.row_then}
+use Rattle.yq_row_table.{proofs.RowLaws.row_longer, proofs.seams.FrontSeams.row_some}
+use Rattle.yq_documents.{specs.Reading.read_at, proofs.ReadLaws.text_takes}
 use Rattle.yq_places.proofs.CommentPieceLaws.{Ended}
-use Rattle.yq_documents.proofs.ReadLaws.{text_takes}
-use Rattle.yq_edits.specs.Changed.{put_document}
-use Rattle.yq_edits.proofs.DocumentItemLaws.{rows_before, rows_spell}
-use Rattle.yq_edits.proofs.EndedRowLaws.{row_ended}
-use Rattle.yq_text.specs.Script.{Segment}
-use Rattle.yq_edits.specs.Local.{InFirst, InLast, IsLocal}
-use Rattle.yq_edits.proofs.OneLines.{is_one_line, left_none, behind_feed}
+use Rattle.yq_edits.{specs.Changed.put_document, proofs.DocumentItemLaws.{rows_before, rows_spell}, proofs.EndedRowLaws.row_ended}
+use Rattle.yq_edits.{specs.Local.{InFirst, InLast, IsLocal}, proofs.OneLines.{is_one_line, left_none, behind_feed}}
 use Rattle.yq_edits.proofs.ItemsLocal.{last_within, IsInside}
 use Rattle.yq_edits.proofs.LocalLaws.{longer_end, RowsGiveWay, rows_way, gone_text, come_text, rows_local}
+use Rattle.yq_text.specs.Script.{Segment}
 
 pub lf_end : (t u : List ℕ) → IsLf (t ++ u) → 0 < length u → IsLf u
 lf_end [] u h some = h

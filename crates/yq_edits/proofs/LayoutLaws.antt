@@ -1,24 +1,17 @@
 -- The steps of a document's layout.
-use Rattle.std.proofs.Common.{◌≡◌, ℕ, ◌+◌, ◌-◌, ◌≤◌, ◌&&◌, ◌||◌, not, Bool, true, false, List, [], ◌∷◌, ◌++◌, replicate, Option, Some, None, refl, ap, ◌∙◌, arith, rules}
-use Rattle.std.proofs.lemmas.Bool.{false≢true, ltb-true, and_parts, or_left, or_right}
-use Rattle.std.specs.List.{slice_get}
-use Rattle.std.specs.Option.{is_none, is_some}
-use Rattle.yq_core.specs.BlockWritten.{break_text}
-use Rattle.yq_core.specs.Text.{is_empty}
-use Rattle.yq_core.specs.Tree.{Node, alias, scalar, list, map, Children, none, child}
-use Rattle.yq_core.specs.Nodes as inline
-use Rattle.yq_outline.specs.Outline.{Line, level}
+use Rattle.std.proofs.Common.{◌≡◌, ℕ, ◌+◌, ◌-◌, ◌≤◌, ◌&&◌, ◌||◌, not, Bool, true, false, List, [], ◌∷◌, ◌++◌, replicate, Option, Some, None}
+use Rattle.std.{proofs.Common.{refl, ap, ◌∙◌, arith, rules}, proofs.lemmas.Bool.{false≢true, ltb-true, and_parts, or_left, or_right}}
+use Rattle.std.{specs.List.slice_get, specs.Option.{is_none, is_some}}
+use Rattle.yq_core.{specs.BlockWritten.break_text, specs.Text.is_empty, specs.Tree.{Node, alias, scalar, list, map, Children, none, child}}
+use Rattle.yq_outline.{specs.Outline.{Line, level}, specs.Lines.lines_of_rows}
 use Rattle.yq_row_table.specs.Rows.{Part, Cut}
 use Rattle.yq_documents.specs.Documents.{document_parts}
-use Rattle.yq_outline.specs.Lines.{lines_of_rows}
 use Rattle.yq_places.specs.Steps.{is_kind, begins_under, first_step, steps_of_part}
-use Rattle.yq_edits.specs.BlockReading.{is_filled}
-use Rattle.yq_edits.specs.BlockRows.{block_key, column_below, indent_step, inline_of}
+use Rattle.yq_edits.{specs.BlockReading.is_filled, specs.BlockRows.{block_key, column_below, indent_step, inline_of}}
 use Rattle.yq_edits.specs.BlockText.{block_children, block_entry, block_node, block_value, inline_or, then_lines}
-use Rattle.yq_edits.specs.declared.layout.Layout.{Layout}
-use Rattle.yq_edits.specs.ClosedTexts.{lines_put_behind}
-use Rattle.yq_edits.specs.EntryEdits.{entry_lines, more_lines}
+use Rattle.yq_edits.{specs.declared.layout.Layout.Layout, specs.ClosedTexts.lines_put_behind, specs.EntryEdits.{entry_lines, more_lines}}
 use Rattle.yq_edits.specs.Layouts.{LooksLike, children_ask, node_asks, is_filled_as, layout_of, columns_deeper}
+use Rattle.yq_core.specs.Nodes as inline
 
 -- a key that stands deeper than another one is in a later column
 key_step : (l m : Line) → begins_under (is_kind false) l m ≡ true → 1 ≤ m.column - l.column

@@ -2,16 +2,9 @@
 use Rattle.std.proofs.Common.{inl, inr, ◌⊎◌, ◌≡◌, List, [], ◌∷◌, Bool, true, false, refl, sym, ap, ◌∙◌, rules}
 use Rattle.std.proofs.lemmas.Bool.{false≢true}
 use Rattle.yq_core.specs.Tree.{children_of}
-use Rattle.yq_outline.specs.Group.{group}
-use Rattle.yq_outline.specs.Outline.{Line, value}
-use Rattle.yq_documents.specs.Documents.{lead_of}
-use Rattle.yq_outline.specs.Lines.{lines_of_rows}
-use Rattle.yq_documents.specs.Reading.{root_of}
-use Rattle.yq_documents.specs.Ready.{begins_no_node}
-use Rattle.yq_documents.specs.TreeEdits.{lead_by}
-use Rattle.yq_edits.specs.Siblings.{HasEntries}
-use Rattle.yq_edits.proofs.AfterLaws.{by_first, none_kept}
-use Rattle.yq_edits.proofs.EditedLaws.{root_has_lead}
+use Rattle.yq_outline.{specs.Group.group, specs.Outline.{Line, value}, specs.Lines.lines_of_rows}
+use Rattle.yq_documents.{specs.Documents.lead_of, specs.Reading.root_of, specs.Ready.begins_no_node, specs.TreeEdits.lead_by}
+use Rattle.yq_edits.{specs.Siblings.HasEntries, proofs.AfterLaws.{by_first, none_kept}, proofs.EditedLaws.root_has_lead}
 use Rattle.yq_edits.specs.Rooms.{is_block_root, LeadGoes, SameLeadGoes, BlockLeadGoes, KeptLeadGoes}
 
 pub block_lead_goes : BlockLeadGoes

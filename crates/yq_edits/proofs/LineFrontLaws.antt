@@ -1,32 +1,24 @@
 -- A text cut before the end of a line: no CR stands before the break.
-use Rattle.std.proofs.Common.{inl, inr, ◌⊎◌, ◌≡◌, ℕ, zero, suc, ◌+◌, ℤ, true, false, List, [], ◌∷◌, ◌++◌, replicate, refl, sym, ap, ◌∙◌, append_assoc, append-nil, ⊎_elim, rules}
+use Rattle.std.proofs.Common.{inl, inr, ◌⊎◌, ◌≡◌, ℕ, zero, suc, ◌+◌, ℤ, true, false, List, [], ◌∷◌, ◌++◌, replicate, refl, sym, ap, ◌∙◌}
+use Rattle.std.proofs.Common.{append_assoc, append-nil, ⊎_elim, rules}
 use Rattle.std.proofs.lemmas.Bool.{false≢true, or_right, and_from, and_parts, cases_Bool}
-use Rattle.yq_core.specs.Block.{IsIndicators}
-use Rattle.yq_core.specs.Characters.{pairs_returns}
+use Rattle.yq_core.{specs.Block.IsIndicators, specs.Characters.pairs_returns}
 use Rattle.yq_core.specs.Text.{front, is_white, is_feed, is_return, is_empty, no_white, unless, NoneIn}
-use Rattle.yq_core.specs.declared.block_header.BlockStyle.{BlockStyle}
-use Rattle.yq_core.specs.declared.block_header.BlockStyle.TheVariants as styles
-use Rattle.yq_core.specs.declared.block_header.Chomping.{Chomping}
-use Rattle.yq_core.proofs.Bools.{at_byte}
-use Rattle.yq_core.specs.Nodes as nodes
-use Rattle.yq_core.specs.Nodes.{FlowNode, empty, alias, scalar, coll, anchored, Items, none, item, in_name, is_close, opening_bracket, key_text, sep_text, node_text, flow_items_text, IsFlowNode}
+use Rattle.yq_core.{specs.declared.block_header.BlockStyle.BlockStyle, specs.declared.block_header.Chomping.Chomping, proofs.Bools.at_byte}
+use Rattle.yq_core.specs.Nodes.{FlowNode, empty, alias, scalar, coll, anchored, Items, none, item, in_name, is_close, opening_bracket}
+use Rattle.yq_core.specs.Nodes.{key_text, sep_text, node_text, flow_items_text, IsFlowNode}
 use Rattle.yq_core.proofs.NodesWrittenLaws.{key_append, sep_append, node_append}
-use Rattle.yq_row_table.specs.Gap.{IsWhite, IsGap}
-use Rattle.yq_row_table.specs.Grammar.{IsContent, IsMark}
-use Rattle.yq_row_table.specs.Exchange.{row_front}
-use Rattle.yq_row_table.specs.Rows as rows
-use Rattle.yq_row_table.specs.Rows.{Content, Nothing, Inline, Block, behind_gap, behind_indent, content_text, dashes_text, mark_text, parent_indent}
-use Rattle.yq_row_table.specs.View.{anchor_cut, anchor_with_sign, apart_of, content_cut}
-use Rattle.yq_row_table.proofs.CharacterLaws.{all_text, all_join, pairs_back}
-use Rattle.yq_row_table.proofs.NothingLaws.{some_behind}
-use Rattle.yq_row_table.proofs.PlaceLaws.{row_front-append}
-use Rattle.yq_row_table.proofs.RowAgain.{row_starts}
-use Rattle.yq_row_table.proofs.seams.NodeSeams.{plain_text}
-use Rattle.yq_row_table.proofs.seams.ScalarSeams.{ends_return}
-use Rattle.yq_row_table.proofs.seams.TailLaws.{content_joined}
+use Rattle.yq_row_table.{specs.Gap.{IsWhite, IsGap}, specs.Grammar.{IsContent, IsMark}, specs.Exchange.row_front}
+use Rattle.yq_row_table.specs.Rows.{Content, Nothing, Inline, Block, behind_gap, behind_indent, content_text, dashes_text, mark_text}
+use Rattle.yq_row_table.{specs.Rows.parent_indent, specs.View.{anchor_cut, anchor_with_sign, apart_of, content_cut}}
+use Rattle.yq_row_table.{proofs.CharacterLaws.{all_text, all_join, pairs_back}, proofs.NothingLaws.some_behind}
+use Rattle.yq_row_table.{proofs.PlaceLaws.row_front-append, proofs.RowAgain.row_starts, proofs.seams.NodeSeams.plain_text}
+use Rattle.yq_row_table.{proofs.seams.ScalarSeams.ends_return, proofs.seams.TailLaws.content_joined}
 use Rattle.yq_places.proofs.CommentPieceLaws.{Ended, gap_end}
-use Rattle.yq_edits.specs.LineFronts.{CleanCut, LineEndsClean}
-use Rattle.yq_edits.proofs.TextPieceLaws.{piece_back}
+use Rattle.yq_edits.{specs.LineFronts.{CleanCut, LineEndsClean}, proofs.TextPieceLaws.piece_back}
+use Rattle.yq_core.specs.declared.block_header.BlockStyle.TheVariants as styles
+use Rattle.yq_core.specs.Nodes as nodes
+use Rattle.yq_row_table.specs.Rows as rows
 
 -- ---- texts that end in no CR
 

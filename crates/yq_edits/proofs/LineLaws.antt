@@ -1,16 +1,12 @@
 -- The rows in which lines begin and end.
-use Rattle.std.proofs.Common.{◌≡◌, ℕ, suc, ◌+◌, ◌-◌, ltb, List, [], ◌∷◌, ◌++◌, length, Option, Some, None, option_map, Bool, true, false, cond, refl, ap, arith, length-append}
-use Rattle.std.proofs.lemmas.Bool.{ltb-true, ltb-false}
-use Rattle.yq_outline.specs.Comments.{head_comment}
-use Rattle.yq_row_table.specs.Rows as rows
+use Rattle.std.proofs.Common.{◌≡◌, ℕ, suc, ◌+◌, ◌-◌, ltb, List, [], ◌∷◌, ◌++◌, length, Option, Some, None, option_map, Bool, true, false}
+use Rattle.std.{proofs.Common.{cond, refl, ap, arith, length-append}, proofs.lemmas.Bool.{ltb-true, ltb-false}}
+use Rattle.yq_outline.{specs.Comments.head_comment, specs.Lines.{mark_line, dash_line, lines_from, row_lines, lines_of_rows}}
+use Rattle.yq_outline.{specs.Outline.Line, proofs.PlaceLaws.at, proofs.Values.If}
 use Rattle.yq_row_table.specs.Rows.{Content, Row, behind_columns}
-use Rattle.yq_outline.specs.Lines.{mark_line, dash_line, lines_from, row_lines, lines_of_rows}
-use Rattle.yq_outline.specs.Outline.{Line}
 use Rattle.yq_documents.specs.LinesInRows.{RowLine, row_line, behind_one}
-use Rattle.yq_outline.proofs.PlaceLaws.{at}
-use Rattle.yq_outline.proofs.Values.{If}
-use Rattle.yq_edits.specs.Moved.{dash_lines}
-use Rattle.yq_edits.specs.LineRows.{IsRowLine, RowLineSplits}
+use Rattle.yq_edits.{specs.Moved.dash_lines, specs.LineRows.{IsRowLine, RowLineSplits}}
+use Rattle.yq_row_table.specs.Rows as rows
 
 -- the comments above the line of a mark behind dashes
 abbrev pub above_mark : List (List ℕ) → List ℕ → List (List ℕ)

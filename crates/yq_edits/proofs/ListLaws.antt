@@ -1,24 +1,18 @@
 -- Items and entries that are written one behind the other.
-use Rattle.std.proofs.Common.{◌≡◌, ℕ, ◌+◌, Bool, true, false, not, eqb, List, [], ◌∷◌, ◌++◌, length, map, Option, Some, None, refl, sym, ap, ◌∙◌, append_assoc, append-nil, replicate, String, string_bytes, arith, rules}
-use Rattle.std.proofs.lemmas.Bool.{ne_eqb}
-use Rattle.std.proofs.lemmas.List.{length-map}
-use Rattle.std.specs.declared.alloc.Global.{Global}
-use Rattle.std.specs.Option.{is_none}
-use Rattle.std.specs.Prelude.{Vec, nat_eq}
+use Rattle.std.proofs.Common.{◌≡◌, ℕ, ◌+◌, Bool, true, false, not, eqb, List, [], ◌∷◌, ◌++◌, length, map, Option, Some, None, refl, sym, ap}
+use Rattle.std.{proofs.Common.{◌∙◌, append_assoc, append-nil, replicate, String, string_bytes, arith, rules}, proofs.lemmas.Bool.ne_eqb}
+use Rattle.std.{proofs.lemmas.List.length-map, specs.declared.alloc.Global.Global, specs.Option.is_none, specs.Prelude.{Vec, nat_eq}}
 use Rattle.std.specs.Vec.{vec_len}
-use Rattle.yq_core.specs.BlockWritten.{break_text}
-use Rattle.yq_core.specs.Tree as tree
-use Rattle.yq_core.specs.declared.value.Value.{Value}
-use Rattle.yq_core.specs.declared.value.Value.TheVariants as values
-use Rattle.yq_core.specs.Nodes as inline
-use Rattle.yq_core.specs.Nodes.{node_text}
-use Rattle.yq_core.specs.Values.{value_node, field_of, items, entries}
-use Rattle.yq_core.proofs.NodesWrittenLaws.{node_list, node_map, map_twice}
+use Rattle.yq_core.{specs.BlockWritten.break_text, specs.declared.value.Value.Value, specs.Nodes.node_text}
+use Rattle.yq_core.{specs.Values.{value_node, field_of, items, entries}, proofs.NodesWrittenLaws.{node_list, node_map, map_twice}}
 use Rattle.yq_edits.specs.Alone.{singleton}
-use Rattle.yq_edits.specs.BlockReading.{block_front, block_item, block_list, block_map, block_pair, is_filled, break_and_indent, separated_texts}
-use Rattle.yq_edits.specs.BlockRows.{indent_step, inline_of, item_column}
+use Rattle.yq_edits.specs.BlockReading.{block_front, block_item, block_list, block_map, block_pair, is_filled, break_and_indent}
+use Rattle.yq_edits.{specs.BlockReading.separated_texts, specs.BlockRows.{indent_step, inline_of, item_column}}
 use Rattle.yq_edits.specs.BlockText.{block_children, block_entry, block_node, block_value, inline_or, then_lines}
 use Rattle.yq_edits.specs.declared.layout.Layout.{Layout}
+use Rattle.yq_core.specs.Tree as tree
+use Rattle.yq_core.specs.declared.value.Value.TheVariants as values
+use Rattle.yq_core.specs.Nodes as inline
 
 abbrev Entry : Type 0
 Entry = String Global × Value

@@ -1,24 +1,17 @@
 -- Items of a cut, and rows of a document, exchanged for others.
 use Rattle.std.proofs.Common.{◌≡◌, ℕ, ◌≤◌, List, [], ◌∷◌, ◌++◌, length, Some, false, refl, sym, ap, ◌∙◌, subst, append_assoc, arith, rules}
+use Rattle.std.{proofs.lemmas.List.{append_cancel_right, length-append}, proofs.lemmas.Option.same_Some, specs.List.slice_get}
 use mathlib.Core.List.{head-eq_of_cons-eq, tail-eq_of_cons-eq}
-use Rattle.std.proofs.lemmas.List.{append_cancel_right, length-append}
-use Rattle.std.proofs.lemmas.Option.{same_Some}
-use Rattle.std.specs.List.{slice_get}
 use Rattle.yq_row_table.specs.Items.{Item, row_item, end_item, rows_items, items_text}
-use Rattle.yq_row_table.specs.Rows.{Row, rows_text, Part, part_text, Cut, cut_text}
-use Rattle.yq_row_table.proofs.ItemLaws.{items_of_text, items_text-append}
+use Rattle.yq_row_table.{specs.Rows.{Row, rows_text, Part, part_text, Cut, cut_text}, proofs.ItemLaws.{items_of_text, items_text-append}}
 use Rattle.yq_row_table.proofs.KeptLaws.{items_apart}
-use Rattle.yq_documents.specs.Documents.{document_parts}
-use Rattle.yq_documents.specs.Reading.{read_at}
+use Rattle.yq_documents.{specs.Documents.document_parts, specs.Reading.read_at}
 use Rattle.yq_places.proofs.RunSpans.{rows_then}
-use Rattle.yq_edits.specs.Changed.{put_document}
-use Rattle.yq_edits.specs.DocumentItems.{HasItems}
-use Rattle.yq_edits.specs.DocumentRows.{behind_document}
+use Rattle.yq_edits.{specs.Changed.put_document, specs.DocumentItems.HasItems, specs.DocumentRows.behind_document}
 use Rattle.yq_edits.proofs.DocumentItemLaws.{rows_before, rows_joined, rows_spell, document_has_items}
-use Rattle.yq_text.specs.Script.{Segment, old_text, new_text, are_kept, kept_front, kept_back}
 use Rattle.yq_edits.specs.Local.{InFirst, InLast, IsLocal, IsLocalTo}
-use Rattle.yq_text.proofs.KeptSegments.{IsBetween, between}
 use Rattle.yq_edits.proofs.ItemsLocal.{IsInside, ItemsGiveWay, gone_inside, come_inside, items_local, one_first, one_last}
+use Rattle.yq_text.{specs.Script.{Segment, old_text, new_text, are_kept, kept_front, kept_back}, proofs.KeptSegments.{IsBetween, between}}
 
 -- the new text has one cut
 pub cut_known : (ss : List Segment) (c d : Cut) → read_at (cut_text d) ≡ Some d → cut_text d ≡ new_text ss → IsLocal ss c d → IsLocalTo ss c

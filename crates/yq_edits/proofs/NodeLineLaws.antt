@@ -1,18 +1,12 @@
 -- The lines of a node at a path, exchanged.
-use Rattle.std.proofs.Common.{◌≡◌, ℕ, ◌<◌, ◌≤◌, List, [], ◌∷◌, ◌++◌, Option, Some, None, refl, sym, ap, ◌∙◌, subst, arith, append_assoc, append-nil, rules}
-use Rattle.std.proofs.lemmas.Option.{none-some, same_Some}
-use Rattle.yq_core.specs.Paths.{Step, changed_at}
-use Rattle.yq_core.specs.Tree.{Node}
-use Rattle.yq_outline.specs.Group.{level_or}
-use Rattle.yq_outline.specs.Laws.{with_lines}
+use Rattle.std.proofs.Common.{◌≡◌, ℕ, ◌<◌, ◌≤◌, List, [], ◌∷◌, ◌++◌, Option, Some, None, refl, sym, ap, ◌∙◌, subst, arith, append_assoc}
+use Rattle.std.{proofs.Common.{append-nil, rules}, proofs.lemmas.Option.{none-some, same_Some}}
+use Rattle.yq_core.{specs.Paths.{Step, changed_at}, specs.Tree.Node}
+use Rattle.yq_outline.{specs.Group.level_or, specs.Laws.with_lines}
 use Rattle.yq_outline.specs.Outline.{Line, level, Outline, end, row, flatten, IsEven, anchored, value, Stands}
 use Rattle.yq_outline.specs.Places.{Context, here, below, beside, plug, lines_after, compose, FoundLine, find, content_under}
-use Rattle.yq_outline.proofs.Allowing.{Allows}
-use Rattle.yq_outline.proofs.Finding.{IsFoundIn, path_whole}
-use Rattle.yq_outline.proofs.PlaceLaws.{at, exchanged}
-use Rattle.yq_outline.proofs.Plug.{allows_from, closed}
-use Rattle.yq_outline.proofs.Values.{rank_small}
-use Rattle.yq_outline.proofs.NodeLaws.{anchored_none}
+use Rattle.yq_outline.{proofs.Allowing.Allows, proofs.Finding.{IsFoundIn, path_whole}, proofs.PlaceLaws.{at, exchanged}}
+use Rattle.yq_outline.{proofs.Plug.{allows_from, closed}, proofs.Values.rank_small, proofs.NodeLaws.anchored_none}
 use Rattle.yq_places.proofs.FlowViewLaws.{before_under}
 use Rattle.yq_edits.specs.Siblings.{HasEntries, NodeLines, under_line, lines_below, lines_at, put_lines, StandsSomewhere, LinesReplaced}
 

@@ -1,10 +1,8 @@
 -- Texts of one line: no line feed stands in them, but perhaps as the last byte.
 use Rattle.std.proofs.Common.{◌≡◌, ℕ, Bool, true, false, cond, List, [], ◌∷◌, ◌++◌, refl, sym, ap, ◌∙◌, rules}
-use mathlib.Core.List.{head-eq_of_cons-eq, tail-eq_of_cons-eq}
 use Rattle.std.proofs.lemmas.Bool.{false≢true, and_parts}
-use Rattle.yq_core.specs.Text.{is_empty, is_feed, is_line}
-use Rattle.yq_core.proofs.BlockPieceLaws.{IsLf}
-use Rattle.yq_core.proofs.LineLaws.{is_empty_is}
+use mathlib.Core.List.{head-eq_of_cons-eq, tail-eq_of_cons-eq}
+use Rattle.yq_core.{specs.Text.{is_empty, is_feed, is_line}, proofs.BlockPieceLaws.IsLf, proofs.LineLaws.is_empty_is}
 use Rattle.yq_row_table.specs.Gap.{IsBreak}
 
 -- whether no line feed stands in a text, but perhaps as its last byte

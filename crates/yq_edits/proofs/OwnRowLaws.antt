@@ -1,35 +1,19 @@
 -- The rows of an item or entry, by its lines.
-use Rattle.std.proofs.Common.{◌≡◌, ℕ, suc, ◌+◌, ◌-◌, eqb, ltb, List, [], ◌∷◌, ◌++◌, length, drop, Some, refl, sym, ap, ◌∙◌, subst, arith, length-append, rules}
-use Rattle.std.proofs.Math.Seq.{take-append_seam, drop-append_seam}
-use Rattle.std.proofs.lemmas.Bool.{eqb-true, le-ltb, cond-false}
-use Rattle.std.proofs.lemmas.Option.{cond_some}
-use Rattle.yq_core.specs.Paths.{Step}
-use Rattle.yq_core.proofs.Bools.{bind_some}
-use Rattle.yq_outline.specs.Comments as comments
-use Rattle.yq_outline.specs.Ends.{deeper_count, line_at_steps, lines_end}
-use Rattle.yq_outline.specs.Group.{level_or}
-use Rattle.yq_outline.specs.Outline.{Line, level, flatten, IsEven, row}
-use Rattle.yq_outline.specs.Places.{lines_before, lines_after, FoundLine}
-use Rattle.yq_outline.proofs.Decides.{flatten-group}
+use Rattle.std.proofs.Common.{◌≡◌, ℕ, suc, ◌+◌, ◌-◌, eqb, ltb, List, [], ◌∷◌, ◌++◌, length, drop, Some, refl, sym, ap, ◌∙◌, subst, arith}
+use Rattle.std.{proofs.Common.{length-append, rules}, proofs.Math.Seq.{take-append_seam, drop-append_seam}}
+use Rattle.std.{proofs.lemmas.Bool.{eqb-true, le-ltb, cond-false}, proofs.lemmas.Option.cond_some}
+use Rattle.yq_core.{specs.Paths.Step, proofs.Bools.bind_some}
+use Rattle.yq_outline.{specs.Ends.{deeper_count, line_at_steps, lines_end}, specs.Group.level_or}
+use Rattle.yq_outline.{specs.Outline.{Line, level, flatten, IsEven, row}, specs.Places.{lines_before, lines_after, FoundLine}}
+use Rattle.yq_outline.{proofs.Decides.flatten-group, specs.Lines.{row_lines, lines_of_rows}, proofs.RowLaws.lines_count}
 use Rattle.yq_row_table.specs.Rows.{Row, Part}
-use Rattle.yq_outline.specs.Lines.{row_lines, lines_of_rows}
-use Rattle.yq_documents.specs.Reading.{part_outline}
-use Rattle.yq_places.specs.RemovalPlaces.{OwnRows, row_count}
-use Rattle.yq_documents.specs.LinesInRows.{RowLine, row_line}
-use Rattle.yq_outline.proofs.RowLaws.{lines_count}
-use Rattle.yq_places.proofs.UnderCounts.{count_under}
-use Rattle.yq_edits.specs.EntryRows.{HasWholeRows}
-use Rattle.yq_edits.specs.LineRows.{Begins, lines_behind}
-use Rattle.yq_edits.specs.RemovalChanges.{OwnRowsStand}
-use Rattle.yq_edits.specs.Siblings.{IsEntryAt, NodeLines, append_outline}
-use Rattle.yq_edits.proofs.ApartLaws.{entries_apart}
-use Rattle.yq_edits.proofs.CollectionLaws.{relabelled, some_at}
-use Rattle.yq_edits.proofs.NodeLineLaws.{lines_even}
-use Rattle.yq_edits.proofs.PartLaws.{document_known}
-use Rattle.yq_edits.proofs.PathLaws.{path_is_entry}
-use Rattle.yq_edits.proofs.PlacedLaws.{around}
-use Rattle.yq_edits.proofs.RowsLaws.{entry_rows}
-use Rattle.yq_edits.proofs.SiblingLaws.{even_right}
+use Rattle.yq_documents.{specs.Reading.part_outline, specs.LinesInRows.{RowLine, row_line}}
+use Rattle.yq_places.{specs.RemovalPlaces.{OwnRows, row_count}, proofs.UnderCounts.count_under}
+use Rattle.yq_edits.{specs.EntryRows.HasWholeRows, specs.LineRows.{Begins, lines_behind}, specs.RemovalChanges.OwnRowsStand}
+use Rattle.yq_edits.{specs.Siblings.{IsEntryAt, NodeLines, append_outline}, proofs.ApartLaws.entries_apart}
+use Rattle.yq_edits.{proofs.CollectionLaws.{relabelled, some_at}, proofs.NodeLineLaws.lines_even, proofs.PartLaws.document_known}
+use Rattle.yq_edits.{proofs.PathLaws.path_is_entry, proofs.PlacedLaws.around, proofs.RowsLaws.entry_rows, proofs.SiblingLaws.even_right}
+use Rattle.yq_outline.specs.Comments as comments
 
 -- rows that have so many lines
 row_more : (n : ℕ) (r : Row) (rs : List Row) → row_count (suc (length r.dashes) + n) (r ∷ rs) ≡ suc (row_count n rs)

@@ -1,33 +1,22 @@
 -- Rows of one document exchanged in a cut.
-use Rattle.std.proofs.Common.{◌≡◌, ℕ, zero, suc, ◌+◌, ◌≤◌, List, [], ◌∷◌, ◌++◌, length, take, drop, Bool, true, false, not, ◌||◌, Some, refl, sym, ap, ◌∙◌, subst, arith}
-use Rattle.std.proofs.lemmas.Bool.{and_parts, false≢true, or_right}
-use Rattle.std.proofs.Math.Seq.{take-append_seam, drop-append_seam}
-use Rattle.std.proofs.lemmas.Option.{same_Some}
-use Rattle.std.specs.List.{slice_get, list_all}
-use Rattle.yq_core.proofs.Bools.{guard_then}
-use Rattle.yq_row_table.specs.Grammar.{unlimited, AreRows, IsCut, no_rows, begins_document}
-use Rattle.yq_row_table.specs.Exchange.{allows_first, asked_behind}
-use Rattle.yq_row_table.proofs.splices.PartPlaces.{part_in, part_after}
-use Rattle.yq_row_table.proofs.splices.SpliceLaws.{spliced}
-use Rattle.yq_core.specs.Characters.{is_text}
-use Rattle.yq_text.specs.Limit.{text_limit}
+use Rattle.std.proofs.Common.{◌≡◌, ℕ, zero, suc, ◌+◌, ◌≤◌, List, [], ◌∷◌, ◌++◌, length, take, drop, Bool, true, false, not, ◌||◌, Some}
+use Rattle.std.{proofs.Common.{refl, sym, ap, ◌∙◌, subst, arith}, proofs.lemmas.Bool.{and_parts, false≢true, or_right}}
+use Rattle.std.{proofs.Math.Seq.{take-append_seam, drop-append_seam}, proofs.lemmas.Option.same_Some, specs.List.{slice_get, list_all}}
+use Rattle.yq_core.{proofs.Bools.guard_then, specs.Characters.is_text}
+use Rattle.yq_row_table.{specs.Grammar.{unlimited, AreRows, IsCut, no_rows, begins_document}, specs.Exchange.{allows_first, asked_behind}}
+use Rattle.yq_row_table.{proofs.splices.PartPlaces.{part_in, part_after}, proofs.splices.SpliceLaws.spliced}
 use Rattle.yq_row_table.specs.Rows.{Row, rows_text, Part, Cut, last, marked, cut_text}
-use Rattle.yq_row_table.specs.Splices.{with_first_gap, end_gap, behind_first, splice_part, splice, nth_part, behind_part, is_started, marker_before}
-use Rattle.yq_row_table.specs.Seams.{are_seamed}
-use Rattle.yq_row_table.specs.SpliceFits.{is_after, SpliceFits}
-use Rattle.yq_documents.specs.Documents.{HaveFitKeys, HasShortRoot, begins_bare, document_parts, has_begin, parts_from}
-use Rattle.yq_documents.specs.Reading.{is_document, read_at}
-use Rattle.yq_places.specs.RowPaths.{IsReadable}
-use Rattle.yq_outline.proofs.Decides.{even_from}
+use Rattle.yq_row_table.specs.Splices.{with_first_gap, end_gap, behind_first, splice_part, splice, nth_part, behind_part, is_started}
+use Rattle.yq_row_table.{specs.Splices.marker_before, specs.Seams.are_seamed, specs.SpliceFits.{is_after, SpliceFits}}
 use Rattle.yq_row_table.proofs.splices.SpliceCases.{open_part}
-use Rattle.yq_documents.proofs.DocumentLaws.{document_is}
-use Rattle.yq_documents.proofs.ReadLaws.{text_takes}
-use Rattle.yq_places.proofs.RowPathLaws.{document_fine}
-use Rattle.yq_edits.specs.Changed.{put_part, put_document}
-use Rattle.yq_edits.specs.Edited.{IsPut}
+use Rattle.yq_text.specs.Limit.{text_limit}
+use Rattle.yq_documents.specs.Documents.{HaveFitKeys, HasShortRoot, begins_bare, document_parts, has_begin, parts_from}
+use Rattle.yq_documents.{specs.Reading.{is_document, read_at}, proofs.DocumentLaws.document_is, proofs.ReadLaws.text_takes}
+use Rattle.yq_documents.{specs.PartNumbers.{number_from, part_number}, proofs.PartNumberLaws.part_there}
+use Rattle.yq_places.{specs.RowPaths.IsReadable, proofs.RowPathLaws.document_fine}
+use Rattle.yq_outline.proofs.Decides.{even_from}
+use Rattle.yq_edits.{specs.Changed.{put_part, put_document}, specs.Edited.IsPut}
 use Rattle.yq_edits.specs.DocumentRows.{IsDocumentPart, behind_document, PartNumbered, RowsPut, DocumentKnown, RowsFit, DocumentSpliced}
-use Rattle.yq_documents.specs.PartNumbers.{number_from, part_number}
-use Rattle.yq_documents.proofs.PartNumberLaws.{part_there}
 
 splice_put : (m i j : ℕ) (new : List Row) (gap : List ℕ) (c : Cut) → splice m i j new gap c ≡ put_part m (splice_part i j new gap (nth_part m c)) c
 splice_put m i j new gap (last p) = refl

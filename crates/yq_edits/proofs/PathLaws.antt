@@ -1,29 +1,20 @@
 -- The row to which a path leads.
-use Rattle.std.proofs.Common.{◌≡◌, ℕ, suc, ◌+◌, List, [], ◌∷◌, ◌++◌, length, Option, Some, None, option_map, option_and_then, refl, sym, ap, ◌∙◌, subst, arith, length-append, rules}
-use Rattle.std.proofs.lemmas.Option.{none-some, same_Some}
+use Rattle.std.proofs.Common.{◌≡◌, ℕ, suc, ◌+◌, List, [], ◌∷◌, ◌++◌, length, Option, Some, None, option_map, option_and_then, refl, sym, ap}
+use Rattle.std.{proofs.Common.{◌∙◌, subst, arith, length-append, rules}, proofs.lemmas.Option.{none-some, same_Some}}
 use mathlib.Core.List.{cons≢nil, head-eq_of_cons-eq, tail-eq_of_cons-eq}
-use Rattle.yq_core.specs.Answers.{◌>>=◌}
-use Rattle.yq_core.specs.Paths.{Step}
-use Rattle.yq_core.specs.Tree.{Node}
+use Rattle.yq_core.{specs.Answers.◌>>=◌, specs.Paths.Step, specs.Tree.Node}
 use Rattle.yq_row_table.specs.Rows.{Row}
-use Rattle.yq_outline.specs.Group.{level_or}
-use Rattle.yq_outline.specs.Lines.{lines_of_rows}
+use Rattle.yq_outline.{specs.Group.level_or, specs.Lines.lines_of_rows}
 use Rattle.yq_outline.specs.Outline.{LineMark, Bare, Key, Dash, Outline, IsEven, end, row}
 use Rattle.yq_outline.specs.Places.{here, lines_before, FoundLine, find_row, place_inside, bare_or, in_head, find}
-use Rattle.yq_documents.specs.Reading.{part_outline}
-use Rattle.yq_outline.specs.Ends.{found_line, line_at_steps}
-use Rattle.yq_documents.specs.LinesInRows.{RowLine, row_line}
-use Rattle.yq_outline.proofs.Values.{If}
-use Rattle.yq_places.proofs.FlowViewLaws.{before_under}
+use Rattle.yq_outline.{specs.Ends.{found_line, line_at_steps}, proofs.Values.If}
+use Rattle.yq_documents.{specs.Reading.part_outline, specs.LinesInRows.{RowLine, row_line}}
+use Rattle.yq_places.{proofs.FlowViewLaws.before_under, proofs.FoundLaws.before_inside}
 use Rattle.yq_edits.specs.Siblings.{IsEntry, HasEntries, NodeLines, lines_at, lines_below, under_line}
 use Rattle.yq_edits.proofs.NodeLineLaws.{Under, lines_found}
-use Rattle.yq_edits.specs.PathRows.{IsEntryLine, PathIsEntry, PathLineCommented, PathHeadCommented}
-use Rattle.yq_edits.proofs.ApartLaws.{Stood, row_stood}
-use Rattle.yq_edits.proofs.HeadLaws.{head_commented}
-use Rattle.yq_edits.proofs.LineLaws.{row_line_splits}
-use Rattle.yq_edits.proofs.PartLaws.{document_known}
+use Rattle.yq_edits.{specs.PathRows.{IsEntryLine, PathIsEntry, PathLineCommented, PathHeadCommented}, proofs.ApartLaws.{Stood, row_stood}}
+use Rattle.yq_edits.{proofs.HeadLaws.head_commented, proofs.LineLaws.row_line_splits, proofs.PartLaws.document_known}
 use Rattle.yq_edits.proofs.CommentPutLaws.{line_commented}
-use Rattle.yq_places.proofs.FoundLaws.{before_inside}
 
 -- the line to which steps lead; the root has none
 abbrev found_at : List Step → Outline → Option (FoundLine × List Step)

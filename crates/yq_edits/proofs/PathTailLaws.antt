@@ -1,42 +1,25 @@
 -- The line comment of an item or entry at a path.
-use Rattle.std.proofs.Common.{◌≡◌, ℕ, ◌+◌, true, false, List, [], ◌∷◌, ◌++◌, length, take, Option, Some, None, refl, sym, ap, ◌∙◌, subst, rules}
-use Rattle.std.proofs.Math.Seq.{take-append_seam}
-use Rattle.std.proofs.lemmas.Bool.{false≢true}
-use Rattle.yq_core.specs.Block.{BlockText, block_text, style_indicator}
-use Rattle.yq_core.specs.Text.{separates}
-use Rattle.yq_core.specs.Paths.{Step, changed_at, relabel_child, within}
-use Rattle.yq_core.specs.declared.block_header.BlockStyle.{BlockStyle}
-use Rattle.yq_core.specs.declared.block_header.BlockStyle.TheVariants as styles
+use Rattle.std.proofs.Common.{◌≡◌, ℕ, ◌+◌, true, false, List, [], ◌∷◌, ◌++◌, length, take, Option, Some, None, refl, sym, ap, ◌∙◌, subst}
+use Rattle.std.{proofs.Common.rules, proofs.Math.Seq.take-append_seam, proofs.lemmas.Bool.false≢true}
+use Rattle.yq_core.{specs.Block.{BlockText, block_text, style_indicator}, specs.Text.separates}
+use Rattle.yq_core.{specs.Paths.{Step, changed_at, relabel_child, within}, specs.declared.block_header.BlockStyle.BlockStyle}
 use Rattle.yq_core.proofs.AlikePieces.{name_by}
-use Rattle.yq_outline.specs.Comments.{line_comment}
-use Rattle.yq_outline.specs.Ends.{line_at_steps}
-use Rattle.yq_outline.specs.Group.{level_or}
-use Rattle.yq_row_table.specs.Exchange.{asked_behind, with_content}
-use Rattle.yq_row_table.specs.Gap.{IsWhite}
+use Rattle.yq_outline.{specs.Comments.line_comment, specs.Ends.line_at_steps, specs.Group.level_or, specs.Lines.lines_of_rows}
+use Rattle.yq_row_table.{specs.Exchange.{asked_behind, with_content}, specs.Gap.IsWhite}
 use Rattle.yq_row_table.specs.Grammar.{unlimited, AreRows, IsAnchor, IsMark, IsRow, is_entry, ends_part}
-use Rattle.yq_row_table.specs.Rows as rows
-use Rattle.yq_row_table.specs.Rows.{Content, Nothing, Inline, Block, Row, anchor_text, content_text, parent_indent, rows_text, Part, Cut, cut_text}
-use Rattle.yq_row_table.specs.Seams.{is_block, retail, with_tail}
-use Rattle.yq_row_table.proofs.ExchangeLaws.{one_row}
-use Rattle.yq_row_table.proofs.seams.SeamLaws.{rows_drop}
-use Rattle.yq_row_table.proofs.seams.TailLaws.{fits_by}
-use Rattle.yq_row_table.proofs.splices.PartPlaces.{part_ends}
-use Rattle.yq_documents.specs.Documents.{lead_of}
-use Rattle.yq_outline.specs.Lines.{lines_of_rows}
-use Rattle.yq_documents.specs.Reading.{part_outline}
-use Rattle.yq_places.specs.RowPaths.{IsReadable}
-use Rattle.yq_documents.specs.LinesInRows.{RowLine, row_line_of}
-use Rattle.yq_documents.specs.TreeEdits.{with_line_comment}
-use Rattle.yq_places.proofs.HeadSpanLaws.{free_first}
-use Rattle.yq_edits.specs.Appends.{inserted}
-use Rattle.yq_edits.specs.Changed.{IsChanged, put_document}
-use Rattle.yq_edits.specs.DocumentRows.{IsDocumentPart, behind_document}
-use Rattle.yq_documents.specs.PartNumbers.{part_number}
-use Rattle.yq_edits.specs.PathTails.{with_line_tail, IsLineTail, tailed, PathTailPut}
-use Rattle.yq_edits.specs.RowComments.{TakesRow, with_header_tail}
+use Rattle.yq_row_table.specs.Rows.{Content, Nothing, Inline, Block, Row, anchor_text, content_text, parent_indent, rows_text, Part, Cut}
+use Rattle.yq_row_table.{specs.Rows.cut_text, specs.Seams.{is_block, retail, with_tail}, proofs.ExchangeLaws.one_row}
+use Rattle.yq_row_table.{proofs.seams.SeamLaws.rows_drop, proofs.seams.TailLaws.fits_by, proofs.splices.PartPlaces.part_ends}
+use Rattle.yq_documents.{specs.Documents.lead_of, specs.Reading.part_outline, specs.LinesInRows.{RowLine, row_line_of}}
+use Rattle.yq_documents.{specs.TreeEdits.with_line_comment, specs.PartNumbers.part_number}
+use Rattle.yq_places.{specs.RowPaths.IsReadable, proofs.HeadSpanLaws.free_first}
+use Rattle.yq_edits.{specs.Appends.inserted, specs.Changed.{IsChanged, put_document}, specs.DocumentRows.{IsDocumentPart, behind_document}}
+use Rattle.yq_edits.{specs.PathTails.{with_line_tail, IsLineTail, tailed, PathTailPut}, specs.RowComments.{TakesRow, with_header_tail}}
 use Rattle.yq_edits.proofs.PartLaws.{document_known, drop_front, part_rows}
 use Rattle.yq_edits.proofs.PathLaws.{path_is_entry, path_line_commented, row_line_found, row_line_number}
 use Rattle.yq_edits.proofs.RowCommentLaws.{block_commented}
+use Rattle.yq_core.specs.declared.block_header.BlockStyle.TheVariants as styles
+use Rattle.yq_row_table.specs.Rows as rows
 
 -- a row of a document
 row_stands : (t : List ℕ) (c : Cut) (k : ℕ) (p : Part) (front back : List Row) (r : Row) → IsDocumentPart t c k p → p.rows ≡ front ++ (r ∷ back) → AreRows (asked_behind unlimited front) (r ∷ back) p.end (behind_document k c)

@@ -1,27 +1,21 @@
 -- Rows that are written behind a key or dash of a text.
-use Rattle.std.proofs.Common.{◌≡◌, ℤ, ℕ, suc, ◌+◌, true, false, not, ◌&&◌, eqb, List, [], ◌∷◌, ◌++◌, None, refl, sym, ap, ◌∙◌, subst, arith, append_assoc, replicate, Some, rules}
-use Rattle.std.proofs.lemmas.Bool.{false≢true}
-use Rattle.yq_core.specs.Text.{separates, upto}
-use Rattle.yq_core.specs.Alike.{Alike, byte}
-use Rattle.yq_outline.specs.Comments.{head_comment, line_comment}
-use Rattle.yq_row_table.specs.Exchange.{asked_behind, with_content}
-use Rattle.yq_core.specs.Nodes as inline
-use Rattle.yq_row_table.specs.Alone.{holds_nothing}
-use Rattle.yq_row_table.specs.Grammar.{IsContent, IsMark, is_entry, is_more, is_plain_content, AreDashes, Limit, unlimited, limit_after, limit_behind, IsRow, AreRows}
-use Rattle.yq_row_table.specs.Rows.{RowMark, Dash, Content, Nothing, dashes_text, mark_text, content_text, behind_dashes, behind_indent, behind_gap, Row, behind_columns, mark_column, parent_of, parent_indent, print_row, rows_text}
-use Rattle.yq_row_table.proofs.AlikeRows.{row_gap_alike, dashes_text_alike}
-use Rattle.yq_core.proofs.Alikes.{alike_append, alike_marker}
-use Rattle.yq_row_table.proofs.ExchangeLaws.{one_row, relimit, chain}
-use Rattle.yq_row_table.proofs.NodeExchange.{mark_apart}
-use Rattle.yq_outline.specs.Lines.{dash_line, lines_from, row_lines, lines_of_rows}
-use Rattle.yq_outline.specs.Outline as outline
-use Rattle.yq_row_table.specs.Joined.{dashed_row, compact_row}
+use Rattle.std.proofs.Common.{◌≡◌, ℤ, ℕ, suc, ◌+◌, true, false, not, ◌&&◌, eqb, List, [], ◌∷◌, ◌++◌, None, refl, sym, ap, ◌∙◌, subst, arith}
+use Rattle.std.{proofs.Common.{append_assoc, replicate, Some, rules}, proofs.lemmas.Bool.false≢true}
+use Rattle.yq_core.{specs.Text.{separates, upto}, specs.Alike.{Alike, byte}, proofs.Alikes.{alike_append, alike_marker}}
+use Rattle.yq_outline.{specs.Comments.{head_comment, line_comment}, specs.Lines.{dash_line, lines_from, row_lines, lines_of_rows}}
+use Rattle.yq_row_table.{specs.Exchange.{asked_behind, with_content}, specs.Alone.holds_nothing}
+use Rattle.yq_row_table.specs.Grammar.{IsContent, IsMark, is_entry, is_more, is_plain_content, AreDashes, Limit, unlimited, limit_after}
+use Rattle.yq_row_table.specs.Grammar.{limit_behind, IsRow, AreRows}
+use Rattle.yq_row_table.specs.Rows.{RowMark, Dash, Content, Nothing, dashes_text, mark_text, content_text, behind_dashes, behind_indent}
+use Rattle.yq_row_table.specs.Rows.{behind_gap, Row, behind_columns, mark_column, parent_of, parent_indent, print_row, rows_text}
+use Rattle.yq_row_table.{proofs.AlikeRows.{row_gap_alike, dashes_text_alike}, proofs.ExchangeLaws.{one_row, relimit, chain}}
+use Rattle.yq_row_table.{proofs.NodeExchange.mark_apart, specs.Joined.{dashed_row, compact_row}}
 use Rattle.yq_row_table.proofs.seams.JoinLaws.{space_apart, dashes_text-append, behind_columns-append}
 use Rattle.yq_row_table.proofs.seams.SeamLaws.{rows_text-append}
-use Rattle.yq_edits.specs.BlockPlaces.{compact_rows, IsUpto, at_mark, at_dash, IsAbove, Replaces, BeginsUpto}
-use Rattle.yq_edits.specs.BlockRows.{item_column}
-use Rattle.yq_edits.proofs.LaidRows.{AreLaid, IsLaid, rows_append}
-use Rattle.yq_edits.proofs.BlockLineLaws.{BeginAt, no_head}
+use Rattle.yq_edits.{specs.BlockPlaces.{compact_rows, IsUpto, at_mark, at_dash, IsAbove, Replaces, BeginsUpto}, specs.BlockRows.item_column}
+use Rattle.yq_edits.{proofs.LaidRows.{AreLaid, IsLaid, rows_append}, proofs.BlockLineLaws.{BeginAt, no_head}}
+use Rattle.yq_core.specs.Nodes as inline
+use Rattle.yq_outline.specs.Outline as outline
 
 -- dashes in front of dashes
 are_dashes : (ns ms : List ℕ) (old new : RowMark) → is_entry new ≡ true → AreDashes ns old → AreDashes (1 ∷ ms) new → AreDashes (ns ++ 1 ∷ ms) new

@@ -1,17 +1,10 @@
 -- The text around a document, and the lines that are printed there.
-use Rattle.std.proofs.Common.{◌≡◌, ℕ, List, ◌++◌, Some, option_map, ap, ◌∙◌}
-use Rattle.std.specs.List.{slice_get}
+use Rattle.std.{proofs.Common.{◌≡◌, ℕ, List, ◌++◌, Some, option_map, ap, ◌∙◌}, specs.List.slice_get}
 use Rattle.yq_row_table.specs.Rows.{Part, part_text, Cut, cut_text}
-use Rattle.yq_documents.specs.Documents.{document_parts}
-use Rattle.yq_documents.specs.PartNumbers.{part_number}
-use Rattle.yq_documents.proofs.PartNumberLaws.{part_there}
-use Rattle.yq_places.specs.PathPieces.{printed_part, printed_document}
-use Rattle.yq_places.specs.PlacedRows.{before_part, placed_at}
-use Rattle.yq_places.specs.PrintedLines.{printed_lines}
-use Rattle.yq_places.proofs.PlacedPartLaws.{text_at}
-use Rattle.yq_edits.specs.Changed.{put_document}
-use Rattle.yq_edits.specs.DocumentRows.{behind_document}
-use Rattle.yq_edits.proofs.PlacedPartLaws.{put_text}
+use Rattle.yq_documents.{specs.Documents.document_parts, specs.PartNumbers.part_number, proofs.PartNumberLaws.part_there}
+use Rattle.yq_places.{specs.PathPieces.{printed_part, printed_document}, specs.PlacedRows.{before_part, placed_at}}
+use Rattle.yq_places.{specs.PrintedLines.printed_lines, proofs.PlacedPartLaws.text_at}
+use Rattle.yq_edits.{specs.Changed.put_document, specs.DocumentRows.behind_document, proofs.PlacedPartLaws.put_text}
 
 -- The text before document k, whose lines are printed between it and what is behind them, and which stays where the document has another part.
 pub record IsAround (k : ℕ) (c : Cut) (p : Part) : Type 0 where

@@ -1,26 +1,19 @@
 -- Where the lines of a node, an entry or an item stand among the lines of rows.
-use Rattle.std.proofs.Common.{◌≡◌, ℕ, List, [], ◌∷◌, ◌++◌, length, Option, Some, None, option_map, option_and_then, Bool, true, false, cond, refl, sym, ap, ◌∙◌, subst, arith, append_assoc, append-nil, length-append}
-use Rattle.std.proofs.lemmas.Option.{same_Some}
+use Rattle.std.proofs.Common.{◌≡◌, ℕ, List, [], ◌∷◌, ◌++◌, length, Option, Some, None, option_map, option_and_then, Bool, true, false, cond}
+use Rattle.std.{proofs.Common.{refl, sym, ap, ◌∙◌, subst, arith, append_assoc, append-nil, length-append}, proofs.lemmas.Option.same_Some}
 use mathlib.Core.List.{head-eq_of_cons-eq, tail-eq_of_cons-eq}
-use Rattle.yq_core.specs.Paths.{Step, is_here, further}
-use Rattle.yq_core.specs.Tree.{Node}
-use Rattle.yq_outline.specs.Laws.{with_lines}
-use Rattle.yq_outline.specs.Lines.{lines_of_rows}
+use Rattle.yq_core.{specs.Paths.{Step, is_here, further}, specs.Tree.Node}
+use Rattle.yq_outline.{specs.Laws.with_lines, specs.Lines.lines_of_rows}
 use Rattle.yq_outline.specs.Outline.{LineMark, Bare, Key, Dash, Line, Outline, end, row, flatten, IsEven, label}
 use Rattle.yq_outline.specs.Places.{here, lines_before, lines_after, FoundLine, next_to, find_row, place_inside, bare_or, in_head, find}
+use Rattle.yq_outline.{proofs.Allowing.IsCollection, proofs.Decides.flatten-group, proofs.Finding.{IsFoundIn, path_whole}}
+use Rattle.yq_outline.{proofs.PlaceLaws.{at, placed}, proofs.Values.If}
 use Rattle.yq_documents.specs.Reading.{part_outline}
-use Rattle.yq_outline.proofs.Allowing as allowing
-use Rattle.yq_outline.proofs.Allowing.{IsCollection}
-use Rattle.yq_outline.proofs.Decides.{flatten-group}
-use Rattle.yq_outline.proofs.Finding.{IsFoundIn, path_whole}
-use Rattle.yq_outline.proofs.PlaceLaws.{at, placed}
-use Rattle.yq_outline.proofs.Values.{If}
 use Rattle.yq_places.proofs.UnderExchange.{lines_append}
 use Rattle.yq_edits.specs.Placed.{SameParts, RowsInParts, LinePlaced, EntryPlaced, FoundIsEntry}
-use Rattle.yq_edits.specs.Siblings.{NodeLines, lines_at, put_lines}
-use Rattle.yq_edits.proofs.CollectionLaws.{some_at}
-use Rattle.yq_edits.proofs.NodeLineLaws.{Under, lines_found, put_under}
-use Rattle.yq_edits.proofs.SiblingLaws.{flatten-append, next, entry_out}
+use Rattle.yq_edits.{specs.Siblings.{NodeLines, lines_at, put_lines}, proofs.CollectionLaws.some_at}
+use Rattle.yq_edits.{proofs.NodeLineLaws.{Under, lines_found, put_under}, proofs.SiblingLaws.{flatten-append, next, entry_out}}
+use Rattle.yq_outline.proofs.Allowing as allowing
 
 -- parts of lines
 same_front : (a b z w : List Line) → a ++ z ≡ b ++ w → length a ≡ length b → (a ≡ b) × (z ≡ w)

@@ -1,12 +1,9 @@
 -- Where a document that has other rows stands in its text.
 use Rattle.std.proofs.Common.{◌≡◌, ℕ, zero, suc, ◌++◌, refl, ap, subst}
-use Rattle.yq_row_table.specs.Rows.{Part, part_text, Cut, last, marked, cut_text}
-use Rattle.yq_row_table.specs.Splices.{behind_part}
+use Rattle.yq_row_table.{specs.Rows.{Part, part_text, Cut, last, marked, cut_text}, specs.Splices.behind_part}
 use Rattle.yq_documents.specs.PartNumbers.{part_number}
-use Rattle.yq_places.specs.PlacedRows.{PlacedPart, before_part}
-use Rattle.yq_places.proofs.PlacedPartLaws.{part_stands, text_behind}
-use Rattle.yq_edits.specs.Changed.{put_part, put_document}
-use Rattle.yq_edits.specs.PlacedParts.{DocumentStandsAt}
+use Rattle.yq_places.{specs.PlacedRows.{PlacedPart, before_part}, proofs.PlacedPartLaws.{part_stands, text_behind}}
+use Rattle.yq_edits.{specs.Changed.{put_part, put_document}, specs.PlacedParts.DocumentStandsAt}
 
 pub put_text : (i : ℕ) (q : Part) (c : Cut) → cut_text (put_part i q c) ≡ before_part i c ++ part_text q (behind_part i c)
 put_text i q (last p) = refl

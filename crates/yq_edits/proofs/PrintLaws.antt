@@ -1,12 +1,9 @@
 -- What is printed is read.
 use Rattle.std.proofs.Common.{◌≡◌, List, ℕ, [], ◌∷◌, ◌++◌, refl, sym, ◌∙◌, subst, arith}
-use Rattle.yq_core.specs.Tree as tree
 use Rattle.yq_flow_edits.specs.Valued.{IsValueTree}
-use Rattle.yq_edits.specs.BlockLaws.{ReadsAlone}
-use Rattle.yq_edits.specs.BlockText.{block_value}
-use Rattle.yq_edits.specs.BlockValues.{IsCollection}
-use Rattle.yq_edits.proofs.ReadLaws.{value_read}
+use Rattle.yq_edits.{specs.BlockLaws.ReadsAlone, specs.BlockText.block_value, specs.BlockValues.IsCollection, proofs.ReadLaws.value_read}
 use Rattle.yq_edits.specs.Print.{print_layout, print_text}
+use Rattle.yq_core.specs.Tree as tree
 
 collection_text : (v : tree.Node) → IsCollection v → print_text v ≡ block_value print_layout 0 v ++ 10 ∷ []
 unfolding print_text

@@ -1,39 +1,26 @@
 -- A collection that is written alone is read as one document.
 use Rattle.std.proofs.Common.{◌≡◌, ℕ, ◌≤◌, true, false, List, [], ◌∷◌, ◌++◌, length, refl, subst, append-nil, rules, sym, ap, ◌∙◌, not}
-use Rattle.std.proofs.lemmas.Bool.{or_right}
-use Rattle.std.proofs.lemmas.Str.{is_utf8-from_IsUtf8}
+use Rattle.std.{proofs.lemmas.Bool.or_right, proofs.lemmas.Str.is_utf8-from_IsUtf8}
 use Rattle.yq_text.specs.Limit.{text_limit}
-use Rattle.yq_core.specs.Text.{is_marker}
-use Rattle.yq_core.specs.Tree as tree
-use Rattle.yq_core.specs.Nodes as inline
-use Rattle.yq_core.specs.Nodes.{node_text}
-use Rattle.yq_flow_edits.specs.Valued.{IsValueTree}
-use Rattle.yq_core.proofs.NodesWrittenLaws.{node_then}
-use Rattle.yq_row_table.specs.Grammar.{is_entry, is_plain_content, unlimited, AreRows, no_rows}
-use Rattle.yq_row_table.specs.Rows as rows
-use Rattle.yq_row_table.specs.Rows.{Bare, Inline, Row, rows_text, last}
-use Rattle.yq_row_table.specs.Splices.{first_gap}
-use Rattle.yq_documents.specs.Documents.{IsRoot, HasShortRoot, is_long_plain, ReadsDocuments, document_parts, AreDocuments}
-use Rattle.yq_outline.specs.Grammar.{IsNodeOutline, alone, mapping}
-use Rattle.yq_outline.specs.Lines.{lines_of_rows}
-use Rattle.yq_outline.specs.Outline.{Line}
-use Rattle.yq_core.specs.BlockWritten.{break_text}
-use Rattle.yq_row_table.proofs.PlainEnds.{end_line}
+use Rattle.yq_core.{specs.Text.is_marker, specs.Nodes.node_text, proofs.NodesWrittenLaws.node_then, specs.BlockWritten.break_text}
 use Rattle.yq_core.proofs.Alikes.{no_first}
-use Rattle.yq_edits.specs.BlockLaws.{ReadsAlone, IsHead}
-use Rattle.yq_edits.specs.BlockRows.{node_rows}
-use Rattle.yq_edits.specs.BlockText.{block_node, block_value}
-use Rattle.yq_edits.specs.BlockValues.{HasNearKeys, IsCollection, IsFilled, MayBeRoot}
-use Rattle.yq_edits.specs.declared.layout.Layout.{Layout}
+use Rattle.yq_flow_edits.specs.Valued.{IsValueTree}
+use Rattle.yq_row_table.specs.Grammar.{is_entry, is_plain_content, unlimited, AreRows, no_rows}
+use Rattle.yq_row_table.{specs.Rows.{Bare, Inline, Row, rows_text, last}, specs.Splices.first_gap, proofs.PlainEnds.end_line}
+use Rattle.yq_documents.specs.Documents.{IsRoot, HasShortRoot, is_long_plain, ReadsDocuments, document_parts, AreDocuments}
+use Rattle.yq_outline.{specs.Grammar.{IsNodeOutline, alone, mapping}, specs.Lines.lines_of_rows, specs.Outline.Line}
+use Rattle.yq_outline.specs.Comments.{head_comment}
+use Rattle.yq_edits.{specs.BlockLaws.{ReadsAlone, IsHead}, specs.BlockRows.node_rows, specs.BlockText.{block_node, block_value}}
+use Rattle.yq_edits.{specs.BlockValues.{HasNearKeys, IsCollection, IsFilled, MayBeRoot}, specs.declared.layout.Layout.Layout}
 use Rattle.yq_edits.proofs.CharacterLaws.{IsUtf8Text, break_sound, value_sound, sound_join}
 use Rattle.yq_edits.proofs.BlockEndLaws.{break_ends, break_tail, line_ends}
 use Rattle.yq_edits.proofs.FitLaws.{RowsAreFit, all_bound, anchors_fit, keys_fit, node_fit}
 use Rattle.yq_edits.proofs.LaidRows.{AreLaid, laid_rows, no_gap_here}
-use Rattle.yq_edits.proofs.BlockLineLaws.{break_uncommented, unanchored, no_head, node_stands}
-use Rattle.yq_edits.proofs.RowLaws.{node_laid}
-use Rattle.yq_edits.proofs.ScalarLaws.{heads}
-use Rattle.yq_edits.proofs.TextLaws.{node_spelled}
-use Rattle.yq_outline.specs.Comments.{head_comment}
+use Rattle.yq_edits.{proofs.BlockLineLaws.{break_uncommented, unanchored, no_head, node_stands}, proofs.RowLaws.node_laid}
+use Rattle.yq_edits.{proofs.ScalarLaws.heads, proofs.TextLaws.node_spelled}
+use Rattle.yq_core.specs.Tree as tree
+use Rattle.yq_core.specs.Nodes as inline
+use Rattle.yq_row_table.specs.Rows as rows
 
 -- What is asked of rows that are all of a text, and stand for a node.
 record IsAllOf (v : tree.Node) (text : List ℕ) (rs : List Row) : Type 0 where

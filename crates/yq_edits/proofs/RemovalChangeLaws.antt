@@ -1,53 +1,32 @@
 -- An item or entry taken out of a text.
-use Rattle.std.proofs.Common.{◌≡◌, ℕ, ◌-◌, ◌<◌, ◌≤◌, Bool, true, false, cond, List, [], ◌∷◌, ◌++◌, length, take, Option, Some, None, option_map, option_and_then, refl, sym, ap, ◌∙◌, subst, arith, length-append, rules}
-use Rattle.std.proofs.Math.Seq.{take-append_seam}
-use Rattle.std.proofs.lemmas.Bool.{false≢true, ltb-true}
-use Rattle.std.proofs.lemmas.Option.{none-some, same_Some}
+use Rattle.std.proofs.Common.{◌≡◌, ℕ, ◌-◌, ◌<◌, ◌≤◌, Bool, true, false, cond, List, [], ◌∷◌, ◌++◌, length, take, Option, Some, None}
+use Rattle.std.proofs.Common.{option_map, option_and_then, refl, sym, ap, ◌∙◌, subst, arith, length-append, rules}
+use Rattle.std.{proofs.Math.Seq.take-append_seam, proofs.lemmas.Bool.{false≢true, ltb-true}, proofs.lemmas.Option.{none-some, same_Some}}
 use Rattle.std.proofs.lemmas.Str.{is_utf8-from_IsUtf8}
 use Rattle.yq_text.specs.Limit.{text_limit}
-use Rattle.yq_core.specs.Paths.{Step, is_here, further, child_at, node_at, remove_child}
-use Rattle.yq_core.specs.Tree.{Node, Children, children_of}
-use Rattle.yq_core.proofs.Bools.{bind_some, guard_then}
-use Rattle.yq_core.specs.Anchors.{names_of}
-use Rattle.yq_outline.specs.Counts.{count}
-use Rattle.yq_outline.specs.Group.{group, level_or}
-use Rattle.yq_outline.specs.Laws.{with_lines}
+use Rattle.yq_core.{specs.Paths.{Step, is_here, further, child_at, node_at, remove_child}, specs.Tree.{Node, Children, children_of}}
+use Rattle.yq_core.{proofs.Bools.{bind_some, guard_then}, specs.Anchors.names_of}
+use Rattle.yq_outline.{specs.Counts.count, specs.Group.{group, level_or}, specs.Laws.with_lines}
 use Rattle.yq_outline.specs.Outline.{Line, level, Outline, end, row, flatten, IsEven, head_or, label, children, value}
-use Rattle.yq_outline.specs.Places.{Context, here, below, beside, plug, lines_before, lines_after, FoundLine, next_to, find_row, find, content_under}
-use Rattle.yq_outline.proofs.Finding.{IsFoundIn, children-collection, path_node, path_whole, row_child}
-use Rattle.yq_outline.proofs.PlaceLaws.{at}
-use Rattle.yq_outline.proofs.ChildLaws.{anchored_children}
-use Rattle.yq_row_table.specs.Grammar.{no_rows}
-use Rattle.yq_row_table.specs.Rows.{Row, rows_text, Part, part_text, Cut, cut_text}
+use Rattle.yq_outline.specs.Places.{Context, here, below, beside, plug, lines_before, lines_after, FoundLine, next_to, find_row, find}
+use Rattle.yq_outline.{specs.Places.content_under, proofs.Finding.{IsFoundIn, children-collection, path_node, path_whole, row_child}}
+use Rattle.yq_outline.{proofs.PlaceLaws.at, proofs.ChildLaws.anchored_children, specs.Lines.lines_of_rows}
+use Rattle.yq_row_table.{specs.Grammar.no_rows, specs.Rows.{Row, rows_text, Part, part_text, Cut, cut_text}}
 use Rattle.yq_row_table.specs.Splices.{first_gap, behind_first}
-use Rattle.yq_documents.specs.Documents.{lead_of}
-use Rattle.yq_outline.specs.Lines.{lines_of_rows}
-use Rattle.yq_documents.specs.Reading.{part_outline, read_at, root_of}
-use Rattle.yq_documents.specs.Ready.{begins_no_node}
+use Rattle.yq_documents.{specs.Documents.lead_of, specs.Reading.{part_outline, read_at, root_of}, specs.Ready.begins_no_node}
+use Rattle.yq_documents.proofs.ReadLaws.{text_takes}
 use Rattle.yq_places.specs.PlacedRows.{PlacedPart, placed_document}
 use Rattle.yq_places.specs.RemovalPlaces.{OwnRows, own_rows, kept_gap, Removal, rows_out, removal_place, has_several}
-use Rattle.yq_places.specs.RowPaths.{IsReadable}
-use Rattle.yq_places.proofs.PlacedPartLaws.{map_some}
-use Rattle.yq_documents.proofs.ReadLaws.{text_takes}
-use Rattle.yq_places.proofs.RemovalTexts.{old_text}
-use Rattle.yq_edits.specs.Changed.{IsChanged, KeepsRows, put_document}
-use Rattle.yq_edits.specs.Conditions.{AreSpared}
+use Rattle.yq_places.{specs.RowPaths.IsReadable, proofs.PlacedPartLaws.map_some, proofs.RemovalTexts.old_text}
+use Rattle.yq_edits.{specs.Changed.{IsChanged, KeepsRows, put_document}, specs.Conditions.AreSpared}
 use Rattle.yq_edits.specs.DocumentRows.{IsDocumentPart, behind_document}
-use Rattle.yq_edits.specs.RemovalChanges.{mended, HasOwnRows, RemovalStands, IsTakenOut, MayTakeOut}
-use Rattle.yq_edits.specs.Removes.{without}
-use Rattle.yq_edits.specs.Siblings.{IsEntry, HasEntries, IsEntryAt, NodeLines, lines_at, put_lines}
-use Rattle.yq_edits.specs.TextPieces.{IsPiece}
-use Rattle.yq_edits.proofs.AfterLaws.{end_is_change}
-use Rattle.yq_edits.proofs.CollectionLaws.{some_at}
-use Rattle.yq_edits.proofs.NodeLineLaws.{Under, lines_found, lines_even, put_under}
-use Rattle.yq_edits.proofs.OwnRowLaws.{own_rows_stand}
-use Rattle.yq_edits.proofs.PartLaws.{document_known}
-use Rattle.yq_edits.proofs.PlacedPartLaws.{document_stands_at}
-use Rattle.yq_edits.proofs.RemovalPieceLaws.{pieces_left, mended_piece}
-use Rattle.yq_edits.proofs.RemovalTextLaws.{new_text}
-use Rattle.yq_edits.proofs.RemoveLaws.{block_gone}
-use Rattle.yq_edits.proofs.SiblingLaws.{entry_in, entry_out, flatten-append, next}
-use Rattle.yq_edits.proofs.TextPieceLaws.{pieces_joined, text_is_piece}
+use Rattle.yq_edits.{specs.RemovalChanges.{mended, HasOwnRows, RemovalStands, IsTakenOut, MayTakeOut}, specs.Removes.without}
+use Rattle.yq_edits.{specs.Siblings.{IsEntry, HasEntries, IsEntryAt, NodeLines, lines_at, put_lines}, specs.TextPieces.IsPiece}
+use Rattle.yq_edits.{proofs.AfterLaws.end_is_change, proofs.CollectionLaws.some_at}
+use Rattle.yq_edits.{proofs.NodeLineLaws.{Under, lines_found, lines_even, put_under}, proofs.OwnRowLaws.own_rows_stand}
+use Rattle.yq_edits.{proofs.PartLaws.document_known, proofs.PlacedPartLaws.document_stands_at}
+use Rattle.yq_edits.{proofs.RemovalPieceLaws.{pieces_left, mended_piece}, proofs.RemovalTextLaws.new_text, proofs.RemoveLaws.block_gone}
+use Rattle.yq_edits.{proofs.SiblingLaws.{entry_in, entry_out, flatten-append, next}, proofs.TextPieceLaws.{pieces_joined, text_is_piece}}
 use Rattle.yq_edits.proofs.ReplaceLaws.{found_entries}
 
 -- ---- the last step of a path

@@ -1,31 +1,17 @@
 -- The text with rows taken out is joined of pieces of the old one.
-use Rattle.std.proofs.Common.{◌≡◌, ◌⊎◌, inl, inr, ℕ, zero, suc, ◌<◌, Bool, true, ◌&&◌, cond, List, [], ◌∷◌, ◌++◌, replicate, Option, Some, None, refl, sym, ap, ◌∙◌, subst, append-nil, arith, rules}
-use Rattle.std.proofs.lemmas.Bool.{cond_both, cases_Bool}
-use Rattle.std.proofs.lemmas.Str.{IsUtf8-from_ascii, IsUtf8-nil, chars-IsAscii}
-use Rattle.std.proofs.lemmas.Str.Ascii.{IsAscii-nil, IsAscii-cons}
-use Rattle.std.specs.List.{list_all}
-use Rattle.std.specs.Str.{chars, IsAscii}
-use Rattle.yq_core.specs.Block.{RawLines}
-use Rattle.yq_core.specs.BlockRepair.{is_short, is_outdented_comment, repaired_blank, repaired_comment, repair}
-use Rattle.yq_core.specs.Characters.{is_text, is_text_char, pairs_returns}
-use Rattle.yq_core.specs.Lines.{is_blank}
-use Rattle.yq_core.specs.Text.{is_white, joined, text_lines, past_white}
-use Rattle.yq_core.proofs.Boundaries.{white_ascii}
-use Rattle.yq_core.proofs.SpaceLaws.{white_drop}
-use Rattle.yq_row_table.specs.Gap.{IsGap, IsGapLine, AreGapLines}
-use Rattle.yq_row_table.specs.Grammar.{AreParts}
-use Rattle.yq_row_table.specs.Rows.{Row, rows_text, Cut, cut_text}
-use Rattle.yq_row_table.specs.Splices.{behind_first, first_gap}
-use Rattle.yq_row_table.proofs.seams.GapFronts.{gap_lines}
-use Rattle.yq_places.specs.PlacedRows.{PlacedPart, placed_document}
-use Rattle.yq_places.specs.RemovalPlaces.{Seam, kept_gap, rows_out}
-use Rattle.yq_places.proofs.CommentPieceLaws.{Ended, gap_end}
-use Rattle.yq_places.proofs.PlacedPartLaws.{part_stands}
-use Rattle.yq_places.proofs.RemovalLines.{LineSeam, line_seam, lies_in, are_lines}
-use Rattle.yq_places.proofs.RemovalTexts.{old_text}
-use Rattle.yq_edits.specs.RemovalChanges.{mended}
-use Rattle.yq_edits.specs.TextPieces.{IsPiece}
-use Rattle.yq_edits.proofs.TextPieceLaws.{line_cut, piece_back, pieces_joined}
+use Rattle.std.proofs.Common.{◌≡◌, ◌⊎◌, inl, inr, ℕ, zero, suc, ◌<◌, Bool, true, ◌&&◌, cond, List, [], ◌∷◌, ◌++◌, replicate, Option, Some}
+use Rattle.std.{proofs.Common.{None, refl, sym, ap, ◌∙◌, subst, append-nil, arith, rules}, proofs.lemmas.Bool.{cond_both, cases_Bool}}
+use Rattle.std.{proofs.lemmas.Str.{IsUtf8-from_ascii, IsUtf8-nil, chars-IsAscii}, proofs.lemmas.Str.Ascii.{IsAscii-nil, IsAscii-cons}}
+use Rattle.std.{specs.List.list_all, specs.Str.{chars, IsAscii}}
+use Rattle.yq_core.{specs.Block.RawLines, specs.BlockRepair.{is_short, is_outdented_comment, repaired_blank, repaired_comment, repair}}
+use Rattle.yq_core.{specs.Characters.{is_text, is_text_char, pairs_returns}, specs.Lines.is_blank}
+use Rattle.yq_core.{specs.Text.{is_white, joined, text_lines, past_white}, proofs.Boundaries.white_ascii, proofs.SpaceLaws.white_drop}
+use Rattle.yq_row_table.{specs.Gap.{IsGap, IsGapLine, AreGapLines}, specs.Grammar.AreParts, specs.Rows.{Row, rows_text, Cut, cut_text}}
+use Rattle.yq_row_table.{specs.Splices.{behind_first, first_gap}, proofs.seams.GapFronts.gap_lines}
+use Rattle.yq_places.{specs.PlacedRows.{PlacedPart, placed_document}, specs.RemovalPlaces.{Seam, kept_gap, rows_out}}
+use Rattle.yq_places.{proofs.CommentPieceLaws.{Ended, gap_end}, proofs.PlacedPartLaws.part_stands}
+use Rattle.yq_places.{proofs.RemovalLines.{LineSeam, line_seam, lies_in, are_lines}, proofs.RemovalTexts.old_text}
+use Rattle.yq_edits.{specs.RemovalChanges.mended, specs.TextPieces.IsPiece, proofs.TextPieceLaws.{line_cut, piece_back, pieces_joined}}
 
 nothing_text : is_text [] ≡ true
 unfolding chars pairs_returns

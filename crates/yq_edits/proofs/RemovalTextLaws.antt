@@ -1,16 +1,10 @@
 -- The text of a document, of which rows are taken out.
 use Rattle.std.proofs.Common.{◌≡◌, Bool, true, false, cond, ℕ, List, ◌++◌, Option, Some, None, refl, append_assoc}
-use Rattle.yq_core.specs.Block.{BlockText, keeps}
-use Rattle.yq_core.specs.BlockRepair.{repair}
-use Rattle.yq_core.specs.Text.{joined, text_lines}
-use Rattle.yq_row_table.specs.Removal.{hold_comment, seam_gap}
-use Rattle.yq_row_table.specs.Rows.{part_text}
-use Rattle.yq_row_table.proofs.seams.SeamLaws.{gap_text, rows_text-append}
-use Rattle.yq_places.specs.PlacedRows.{PlacedPart}
-use Rattle.yq_places.specs.RemovalPlaces.{OwnRows, Seam, seam_behind, rows_out}
+use Rattle.yq_core.{specs.Block.{BlockText, keeps}, specs.BlockRepair.repair, specs.Text.{joined, text_lines}}
+use Rattle.yq_row_table.{specs.Removal.{hold_comment, seam_gap}, specs.Rows.part_text, proofs.seams.SeamLaws.{gap_text, rows_text-append}}
+use Rattle.yq_places.{specs.PlacedRows.PlacedPart, specs.RemovalPlaces.{OwnRows, Seam, seam_behind, rows_out}}
 use Rattle.yq_places.proofs.RemovalTexts.{texts_then}
-use Rattle.yq_edits.specs.RemovalChanges.{mended}
-use Rattle.yq_edits.specs.Removes.{without}
+use Rattle.yq_edits.{specs.RemovalChanges.mended, specs.Removes.without}
 
 -- the gap that is left
 mended_if : (b : Bool) (x : Seam) (kept gap : List ℕ) → cond b (kept ++ gap) (kept ++ joined (repair x.keeps x.indent x.column (text_lines gap))) ≡ kept ++ mended (cond b None (Some x)) gap

@@ -1,55 +1,34 @@
 -- One of several items or entries of a block collection taken out.
-use Rattle.std.proofs.Common.{◌≡◌, ℕ, ◌+◌, ◌≤◌, List, [], ◌∷◌, ◌++◌, length, take, drop, true, false, refl, sym, ap, ◌∙◌, subst, length-append, rules}
-use Rattle.std.proofs.lemmas.Bool.{false≢true}
-use Rattle.yq_core.specs.Characters.{is_text}
+use Rattle.std.proofs.Common.{◌≡◌, ℕ, ◌+◌, ◌≤◌, List, [], ◌∷◌, ◌++◌, length, take, drop, true, false, refl, sym, ap, ◌∙◌, subst}
+use Rattle.std.{proofs.Common.{length-append, rules}, proofs.lemmas.Bool.false≢true}
+use Rattle.yq_core.{specs.Characters.is_text, specs.Paths.{Step, changed_at, remove_child, within}}
+use Rattle.yq_core.{specs.Text.{is_empty, joined, text_lines}, specs.Anchors.names_of}
 use Rattle.yq_text.specs.Limit.{text_limit}
-use Rattle.yq_core.specs.Paths.{Step, changed_at, remove_child, within}
-use Rattle.yq_core.specs.Text.{is_empty, joined, text_lines}
-use Rattle.yq_outline.specs.Comments.{head_comment}
-use Rattle.yq_row_table.specs.Exchange.{allows_first, asked_behind}
-use Rattle.yq_row_table.specs.Gap.{AreGapLines}
-use Rattle.yq_row_table.specs.Grammar.{Limit, unlimited, AreDashes, AreRows, IsCut, no_rows}
-use Rattle.yq_row_table.specs.Rows as rows
-use Rattle.yq_row_table.specs.Rows.{Row, Part, Cut, cut_text}
-use Rattle.yq_row_table.specs.Splices.{behind_first, first_gap, with_first_gap, nth_part, splice}
-use Rattle.yq_row_table.specs.Removal.{RepairFits, last_block, next_column, removed_gap, seam_gap, StandsLess, without_rows}
-use Rattle.yq_row_table.proofs.splices.SpliceTexts.{first_is}
-use Rattle.yq_row_table.proofs.seams.BlockFronts.{gap_front}
-use Rattle.yq_row_table.proofs.splices.RemoveLaws.{removed_repaired, behind_some}
-use Rattle.yq_row_table.proofs.NothingLaws.{some_behind}
-use Rattle.yq_row_table.proofs.seams.SeamLaws.{rows_drop}
-use Rattle.yq_row_table.proofs.splices.PartPlaces.{part_in}
-use Rattle.yq_documents.specs.Pieces.{before_run, last_run}
-use Rattle.yq_documents.specs.Documents.{HaveFitKeys, HasShortRoot, is_long_plain, lead_of}
-use Rattle.yq_core.specs.Anchors.{names_of}
-use Rattle.yq_places.proofs.RemovalTexts.{run_parts}
-use Rattle.yq_outline.specs.Group.{level_or}
-use Rattle.yq_outline.specs.Laws.{with_lines}
-use Rattle.yq_outline.specs.Lines.{row_lines, lines_of_rows}
+use Rattle.yq_outline.{specs.Comments.head_comment, specs.Group.level_or, specs.Laws.with_lines, specs.Lines.{row_lines, lines_of_rows}}
 use Rattle.yq_outline.specs.Outline.{Line, level, Outline, flatten, row}
 use Rattle.yq_outline.specs.Places.{lines_before, lines_after, plug, FoundLine, content_under}
-use Rattle.yq_documents.specs.Reading.{part_outline, root_of}
-use Rattle.yq_places.specs.RowPaths.{IsReadable}
-use Rattle.yq_places.proofs.UnderExchange.{lines_append}
-use Rattle.yq_edits.specs.Changed.{IsChanged, put_document}
-use Rattle.yq_edits.specs.Conditions.{AreSpared, BeginsEntry}
-use Rattle.yq_edits.specs.EntryRows.{HasWholeRows}
+use Rattle.yq_row_table.{specs.Exchange.{allows_first, asked_behind}, specs.Gap.AreGapLines}
+use Rattle.yq_row_table.{specs.Grammar.{Limit, unlimited, AreDashes, AreRows, IsCut, no_rows}, specs.Rows.{Row, Part, Cut, cut_text}}
+use Rattle.yq_row_table.specs.Splices.{behind_first, first_gap, with_first_gap, nth_part, splice}
+use Rattle.yq_row_table.specs.Removal.{RepairFits, last_block, next_column, removed_gap, seam_gap, StandsLess, without_rows}
+use Rattle.yq_row_table.{proofs.splices.SpliceTexts.first_is, proofs.seams.BlockFronts.gap_front}
+use Rattle.yq_row_table.{proofs.splices.RemoveLaws.{removed_repaired, behind_some}, proofs.NothingLaws.some_behind}
+use Rattle.yq_row_table.{proofs.seams.SeamLaws.rows_drop, proofs.splices.PartPlaces.part_in}
+use Rattle.yq_documents.{specs.Pieces.{before_run, last_run}, specs.Documents.{HaveFitKeys, HasShortRoot, is_long_plain, lead_of}}
+use Rattle.yq_documents.{specs.Reading.{part_outline, root_of}, specs.PartNumbers.part_number}
+use Rattle.yq_places.{proofs.RemovalTexts.run_parts, specs.RowPaths.IsReadable, proofs.UnderExchange.lines_append}
+use Rattle.yq_edits.{specs.Changed.{IsChanged, put_document}, specs.Conditions.{AreSpared, BeginsEntry}, specs.EntryRows.HasWholeRows}
 use Rattle.yq_edits.specs.Siblings.{IsEntryAt, HasEntries, NodeLines, put_lines}
 use Rattle.yq_edits.proofs.AnchorLaws.{both_anew, collection_anew, fit_parts, fit_from, lines_among}
-use Rattle.yq_edits.proofs.CollectionLaws.{Splits, some_at}
-use Rattle.yq_edits.proofs.NodeLineLaws.{lines_even}
-use Rattle.yq_edits.proofs.BlockChangeLaws.{entry_removed}
+use Rattle.yq_edits.{proofs.CollectionLaws.{Splits, some_at}, proofs.NodeLineLaws.lines_even, proofs.BlockChangeLaws.entry_removed}
 use Rattle.yq_edits.proofs.PlacedLaws.{around, entry_placed, same_parts}
 use Rattle.yq_edits.proofs.SiblingLaws.{entries, even_right, flatten-append, next, rest_entries}
-use Rattle.yq_edits.specs.LineRows.{lines_behind, Begins, AreClosed}
-use Rattle.yq_edits.specs.DocumentRows.{IsDocumentPart, behind_document}
-use Rattle.yq_documents.specs.PartNumbers.{part_number}
-use Rattle.yq_edits.specs.Removes.{left_gap, without}
-use Rattle.yq_edits.proofs.ApartLaws.{entries_apart, even_closed, block_some}
-use Rattle.yq_edits.proofs.AppendLaws.{rows_behind_some, rows_with}
-use Rattle.yq_edits.proofs.ColumnLaws.{closed_stands_less, next_stays}
+use Rattle.yq_edits.{specs.LineRows.{lines_behind, Begins, AreClosed}, specs.DocumentRows.{IsDocumentPart, behind_document}}
+use Rattle.yq_edits.{specs.Removes.{left_gap, without}, proofs.ApartLaws.{entries_apart, even_closed, block_some}}
+use Rattle.yq_edits.{proofs.AppendLaws.{rows_behind_some, rows_with}, proofs.ColumnLaws.{closed_stands_less, next_stays}}
 use Rattle.yq_edits.proofs.GapLaws.{head_left, none_before}
 use Rattle.yq_edits.proofs.PartLaws.{part_numbered, rows_put, document_known, is_put, take_front, drop_front, drop_gone}
+use Rattle.yq_row_table.specs.Rows as rows
 
 -- rows with another gap before them
 gap_lines : (gap : List ℕ) (back : List Row) (last : List ℕ) → (no_rows back ≡ false → head_comment gap ≡ head_comment (first_gap back last)) → lines_of_rows (with_first_gap gap back) ≡ lines_of_rows back

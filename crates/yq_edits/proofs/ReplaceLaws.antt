@@ -1,35 +1,20 @@
 -- Rows of a document in the place of others, and a node below the root replaced by them.
 use Rattle.std.proofs.Common.{◌≡◌, ℕ, List, [], ◌∷◌, ◌++◌, Some, false, refl, sym, ap, ◌∙◌, subst, length-append, rules}
-use Rattle.std.proofs.lemmas.Bool.{false≢true}
-use Rattle.std.proofs.lemmas.Option.{same_Some}
+use Rattle.std.{proofs.lemmas.Bool.false≢true, proofs.lemmas.Option.same_Some}
 use mathlib.Core.List.{cons≢nil}
 use Rattle.yq_core.specs.Paths.{Step}
-use Rattle.yq_outline.specs.Group.{level_or}
-use Rattle.yq_outline.specs.Laws.{with_lines}
-use Rattle.yq_outline.specs.Outline.{Line, Outline, end, row, flatten}
-use Rattle.yq_outline.specs.Places.{FoundLine, find}
-use Rattle.yq_outline.proofs.Decides.{flatten-group}
-use Rattle.yq_outline.proofs.Values.{same_rank, same_entry}
-use Rattle.yq_row_table.specs.Exchange.{asked_behind}
-use Rattle.yq_row_table.specs.Grammar.{unlimited, AreRows, no_rows}
-use Rattle.yq_row_table.specs.Rows.{Row, rows_text, Part}
-use Rattle.yq_row_table.specs.Splices.{behind_first, first_gap}
-use Rattle.yq_row_table.proofs.seams.FrontSeams.{seams_alike, seams_were}
-use Rattle.yq_row_table.proofs.splices.SpliceTexts.{own_gap}
-use Rattle.yq_documents.specs.Documents.{HaveFitKeys, HasShortRoot}
+use Rattle.yq_outline.{specs.Group.level_or, specs.Laws.with_lines, specs.Outline.{Line, Outline, end, row, flatten}}
+use Rattle.yq_outline.{specs.Places.{FoundLine, find}, proofs.Decides.flatten-group, proofs.Values.{same_rank, same_entry}}
 use Rattle.yq_outline.specs.Lines.{lines_of_rows}
-use Rattle.yq_documents.specs.Reading.{part_outline}
-use Rattle.yq_edits.specs.Appends.{inserted}
-use Rattle.yq_edits.specs.Conditions.{BeginsEntry}
-use Rattle.yq_edits.specs.DocumentRows.{RowsFit, behind_document}
-use Rattle.yq_edits.specs.Replaces.{DocumentReplaced, NodeRowsReplaced}
-use Rattle.yq_edits.specs.Siblings.{IsEntry, HasEntries}
-use Rattle.yq_edits.proofs.AnchorLaws.{fit_parts, fit_from}
-use Rattle.yq_edits.proofs.AppendLaws.{around, rows_behind_some, rows_with}
-use Rattle.yq_edits.proofs.BlockChangeLaws.{node_replaced}
-use Rattle.yq_edits.proofs.PartLaws.{document_known, document_spliced, is_put, part_rows}
-use Rattle.yq_edits.proofs.PlacedLaws.{found_is_entry, line_placed, rows_in_parts}
-use Rattle.yq_edits.proofs.RemoveLaws.{entry_short}
+use Rattle.yq_row_table.{specs.Exchange.asked_behind, specs.Grammar.{unlimited, AreRows, no_rows}, specs.Rows.{Row, rows_text, Part}}
+use Rattle.yq_row_table.{specs.Splices.{behind_first, first_gap}, proofs.seams.FrontSeams.{seams_alike, seams_were}}
+use Rattle.yq_row_table.proofs.splices.SpliceTexts.{own_gap}
+use Rattle.yq_documents.{specs.Documents.{HaveFitKeys, HasShortRoot}, specs.Reading.part_outline}
+use Rattle.yq_edits.{specs.Appends.inserted, specs.Conditions.BeginsEntry, specs.DocumentRows.{RowsFit, behind_document}}
+use Rattle.yq_edits.{specs.Replaces.{DocumentReplaced, NodeRowsReplaced}, specs.Siblings.{IsEntry, HasEntries}}
+use Rattle.yq_edits.{proofs.AnchorLaws.{fit_parts, fit_from}, proofs.AppendLaws.{around, rows_behind_some, rows_with}}
+use Rattle.yq_edits.{proofs.BlockChangeLaws.node_replaced, proofs.PartLaws.{document_known, document_spliced, is_put, part_rows}}
+use Rattle.yq_edits.{proofs.PlacedLaws.{found_is_entry, line_placed, rows_in_parts}, proofs.RemoveLaws.entry_short}
 use Rattle.yq_edits.proofs.SiblingLaws.{entry_in, entry_out}
 
 pub rows_before_some : (a b : List Row) → no_rows b ≡ false → no_rows (a ++ b) ≡ false

@@ -3,17 +3,12 @@ use Rattle.std.proofs.Common.{◌≡◌, ℕ, ◌+◌, ◌≤◌, List, [], ◌+
 use Rattle.std.proofs.lemmas.Bool.{cases_Bool}
 use Rattle.yq_core.specs.Characters.{is_text}
 use Rattle.yq_text.specs.Limit.{text_limit}
-use Rattle.yq_row_table.specs.Grammar.{IsCut, no_rows}
-use Rattle.yq_row_table.specs.Rows.{Row, rows_text, Part, Cut, cut_text}
-use Rattle.yq_row_table.specs.SpliceFits.{SpliceFits, is_after}
-use Rattle.yq_row_table.specs.Splices.{behind_part, is_started, marker_before, nth_part}
-use Rattle.yq_row_table.proofs.splices.PartPlaces.{part_after}
-use Rattle.yq_row_table.proofs.splices.SpliceLaws.{spliced}
-use Rattle.yq_documents.specs.Documents.{HaveFitKeys, HasShortRoot}
+use Rattle.yq_row_table.{specs.Grammar.{IsCut, no_rows}, specs.Rows.{Row, rows_text, Part, Cut, cut_text}}
+use Rattle.yq_row_table.{specs.SpliceFits.{SpliceFits, is_after}, specs.Splices.{behind_part, is_started, marker_before, nth_part}}
+use Rattle.yq_row_table.{proofs.splices.PartPlaces.part_after, proofs.splices.SpliceLaws.spliced}
+use Rattle.yq_documents.{specs.Documents.{HaveFitKeys, HasShortRoot}, specs.PartNumbers.part_number}
 use Rattle.yq_outline.specs.Lines.{lines_of_rows}
-use Rattle.yq_edits.specs.DocumentRows.{RowsFit}
-use Rattle.yq_documents.specs.PartNumbers.{part_number}
-use Rattle.yq_edits.specs.Replaces.{DocumentRooted, RootRowsReplaced, rooted}
+use Rattle.yq_edits.{specs.DocumentRows.RowsFit, specs.Replaces.{DocumentRooted, RootRowsReplaced, rooted}}
 use Rattle.yq_edits.proofs.BlockChangeLaws.{root_replaced}
 use Rattle.yq_edits.proofs.PartLaws.{document_known, document_started, fits, is_put, part_numbered, rows_put}
 

@@ -1,33 +1,18 @@
 -- One row in the place of another one, and line comments that stand in a row's content.
 use Rattle.std.proofs.Common.{◌≡◌, ℕ, ◌+◌, List, [], ◌∷◌, ◌++◌, length, Some, false, refl, sym, ap, ◌∙◌, subst, length-append, rules}
-use Rattle.yq_outline.specs.Comments.{head_comment, line_comment}
-use Rattle.yq_outline.specs.Laws.{with_lines}
-use Rattle.yq_outline.specs.Outline.{Line, level, flatten, label}
-use Rattle.yq_core.specs.Alike.{Alike}
-use Rattle.yq_row_table.specs.Exchange.{asked_behind, with_content}
-use Rattle.yq_row_table.specs.Gap.{IsGap}
-use Rattle.yq_row_table.specs.Grammar.{unlimited, AreRows, IsRow, no_rows}
-use Rattle.yq_row_table.specs.Rows.{Content, Row, mark_column, print_row, rows_text, Part}
-use Rattle.yq_row_table.specs.Splices.{behind_first, first_gap}
-use Rattle.yq_row_table.proofs.seams.SeamLaws.{rows_drop}
-use Rattle.yq_row_table.proofs.splices.SpliceTexts.{first_is, first_text, own_gap}
-use Rattle.yq_documents.specs.Documents.{HaveFitKeys, HasShortRoot, lead_of}
+use Rattle.yq_outline.{specs.Comments.{head_comment, line_comment}, specs.Laws.with_lines, specs.Outline.{Line, level, flatten, label}}
 use Rattle.yq_outline.specs.Lines.{mark_line, tail_of, lines_of_rows}
-use Rattle.yq_documents.specs.TreeEdits.{with_line_comment}
-use Rattle.yq_edits.specs.Appends.{inserted}
-use Rattle.yq_edits.specs.Changed.{put_document}
-use Rattle.yq_edits.specs.DocumentRows.{behind_document}
-use Rattle.yq_edits.specs.LineRows.{lines_before_entry}
-use Rattle.yq_edits.specs.Moved.{dash_lines}
-use Rattle.yq_edits.specs.RowComments.{RowReplaces, ContentCommented, BlockCommented, with_header_tail}
-use Rattle.yq_edits.specs.Siblings.{put_lines}
-use Rattle.yq_edits.proofs.AnchorLaws.{fit_parts, fit_from}
-use Rattle.yq_edits.proofs.BlockChangeLaws.{entry_relabelled}
-use Rattle.yq_edits.proofs.EditedLaws.{led_as}
-use Rattle.yq_edits.proofs.FirstRowLaws.{short_first}
-use Rattle.yq_edits.proofs.LineLaws.{above_mark, dashes_count}
-use Rattle.yq_edits.proofs.PartLaws.{document_known, drop_front, is_put, part_rows}
-use Rattle.yq_edits.proofs.CommentPutLaws.{last_lines, one_line}
+use Rattle.yq_core.specs.Alike.{Alike}
+use Rattle.yq_row_table.{specs.Exchange.{asked_behind, with_content}, specs.Gap.IsGap, specs.Grammar.{unlimited, AreRows, IsRow, no_rows}}
+use Rattle.yq_row_table.{specs.Rows.{Content, Row, mark_column, print_row, rows_text, Part}, specs.Splices.{behind_first, first_gap}}
+use Rattle.yq_row_table.{proofs.seams.SeamLaws.rows_drop, proofs.splices.SpliceTexts.{first_is, first_text, own_gap}}
+use Rattle.yq_documents.{specs.Documents.{HaveFitKeys, HasShortRoot, lead_of}, specs.TreeEdits.with_line_comment}
+use Rattle.yq_edits.{specs.Appends.inserted, specs.Changed.put_document, specs.DocumentRows.behind_document}
+use Rattle.yq_edits.{specs.LineRows.lines_before_entry, specs.Moved.dash_lines}
+use Rattle.yq_edits.{specs.RowComments.{RowReplaces, ContentCommented, BlockCommented, with_header_tail}, specs.Siblings.put_lines}
+use Rattle.yq_edits.{proofs.AnchorLaws.{fit_parts, fit_from}, proofs.BlockChangeLaws.entry_relabelled, proofs.EditedLaws.led_as}
+use Rattle.yq_edits.{proofs.FirstRowLaws.short_first, proofs.LineLaws.{above_mark, dashes_count}}
+use Rattle.yq_edits.{proofs.PartLaws.{document_known, drop_front, is_put, part_rows}, proofs.CommentPutLaws.{last_lines, one_line}}
 use Rattle.yq_edits.proofs.ReplaceLaws.{document_replaced, rows_before_some}
 
 -- rows behind rows

@@ -1,27 +1,18 @@
 -- What is written in block style is rows.
-use Rattle.std.proofs.Common.{◌≡◌, ℕ, ◌+◌, ◌≤◌, pos, Bool, true, false, List, [], ◌∷◌, ◌++◌, Option, Some, refl, arith, append-nil, rules, suc, cond, None, ap, subst}
-use Rattle.std.proofs.Math.Bool.{and-false}
-use Rattle.std.proofs.lemmas.Bool.{lt-ltb}
-use Rattle.std.specs.Str.{IsUtf8}
-use Rattle.yq_core.specs.declared.block_types.Break.{Break}
-use Rattle.yq_core.specs.BlockWritten.{break_text}
-use Rattle.yq_core.specs.Text.{is_marker, separates}
-use Rattle.yq_core.specs.Tree as tree
-use Rattle.yq_core.specs.Tree.{Children}
-use Rattle.yq_core.specs.Nodes as inline
-use Rattle.yq_core.specs.Nodes.{node_text}
+use Rattle.std.proofs.Common.{◌≡◌, ℕ, ◌+◌, ◌≤◌, pos, Bool, true, false, List, [], ◌∷◌, ◌++◌, Option, Some, refl, arith, append-nil, rules}
+use Rattle.std.{proofs.Common.{suc, cond, None, ap, subst}, proofs.Math.Bool.and-false, proofs.lemmas.Bool.lt-ltb, specs.Str.IsUtf8}
+use Rattle.yq_core.{specs.declared.block_types.Break.Break, specs.BlockWritten.break_text, specs.Text.{is_marker, separates}}
+use Rattle.yq_core.{specs.Tree.Children, specs.Nodes.node_text, proofs.Alikes.sep_first}
 use Rattle.yq_flow_edits.specs.Valued.{IsLabel, IsValueTree, AreValueTrees}
 use Rattle.yq_row_table.specs.Grammar.{allows, limit_behind, Limit, is_entry, IsMark, IsContent, IsRow, is_plain_content, unlimited}
 use Rattle.yq_row_table.specs.Rows.{Nothing, Inline, Row, rows_text, RowMark, Dash, Key, Content, content_text, mark_text, parent_of}
-use Rattle.yq_core.proofs.Alikes.{sep_first}
-use Rattle.yq_edits.specs.BlockRows.{block_key, children_rows, column_below, end_of_line_before, entry_rows, inline_of, key_row, node_rows, indent_step}
-use Rattle.yq_edits.specs.BlockValues.{EachHasNearKeys, HasNearKeys, IsEnd, IsFilled, IsNear, IsWritable}
-use Rattle.yq_edits.specs.declared.layout.Layout.{Layout}
-use Rattle.yq_edits.proofs.BlockEndLaws.{break_tail, deeper_end, line_ends}
-use Rattle.yq_edits.proofs.KeyLaws.{key_unmarked}
-use Rattle.yq_edits.proofs.LaidRows.{AreLaid, laid_append, laid_behind, laid_line, no_gap_here}
-use Rattle.yq_edits.proofs.ScalarLaws.{Heads, heads, key_is}
-use Rattle.yq_edits.specs.BlockLaws.{IsHead}
+use Rattle.yq_edits.specs.BlockRows.{block_key, children_rows, column_below, end_of_line_before, entry_rows, inline_of, key_row, node_rows}
+use Rattle.yq_edits.{specs.BlockRows.indent_step, specs.BlockValues.{EachHasNearKeys, HasNearKeys, IsEnd, IsFilled, IsNear, IsWritable}}
+use Rattle.yq_edits.{specs.declared.layout.Layout.Layout, proofs.BlockEndLaws.{break_tail, deeper_end, line_ends}}
+use Rattle.yq_edits.{proofs.KeyLaws.key_unmarked, proofs.LaidRows.{AreLaid, laid_append, laid_behind, laid_line, no_gap_here}}
+use Rattle.yq_edits.{proofs.ScalarLaws.{Heads, heads, key_is}, specs.BlockLaws.IsHead}
+use Rattle.yq_core.specs.Tree as tree
+use Rattle.yq_core.specs.Nodes as inline
 
 -- a row that begins at a column with a mark
 abbrev front_row : ℕ → RowMark → Content → Row

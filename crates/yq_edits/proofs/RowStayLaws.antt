@@ -1,39 +1,23 @@
 -- Behind rows that gave way to others of the same shapes, paths lead to the rows to which they led.
-use Rattle.std.proofs.Common.{◌≡◌, inl, inr, ℕ, zero, suc, ◌+◌, ◌-◌, ◌≤◌, ◌<◌, nat_lt, Bool, true, false, not, ◌||◌, cond, List, [], ◌∷◌, ◌++◌, drop, length, take, map, Option, Some, None, option_map, refl, sym, ap, ◌∙◌, subst, arith, rules}
+use Rattle.std.proofs.Common.{◌≡◌, inl, inr, ℕ, zero, suc, ◌+◌, ◌-◌, ◌≤◌, ◌<◌, nat_lt, Bool, true, false, not, ◌||◌, cond, List, [], ◌∷◌}
+use Rattle.std.proofs.Common.{◌++◌, drop, length, take, map, Option, Some, None, option_map, refl, sym, ap, ◌∙◌, subst, arith, rules}
 use Rattle.std.proofs.lemmas.List.{drop-drop, length-map, length-take-le}
-use Rattle.std.proofs.lemmas.Option.{none-some, same_Some, slice_get-map, slice_get_within}
-use Rattle.std.specs.List.{slice_get}
-use Rattle.yq_core.specs.Answers.{◌>>=◌}
-use Rattle.yq_core.specs.Paths.{Step, node_at}
-use Rattle.yq_core.proofs.Bools.{bind_some}
-use Rattle.yq_outline.specs.Ends.{line_at_steps}
-use Rattle.yq_outline.specs.Outline.{anchored, head_or, value}
-use Rattle.yq_outline.specs.Places.{content_under}
-use Rattle.yq_outline.proofs.Finding.{FoundNode, path_node}
-use Rattle.yq_row_table.specs.Grammar.{begins_document, no_rows}
-use Rattle.yq_row_table.specs.Rows.{Row, Part, Cut, last, marked, part_text}
-use Rattle.yq_row_table.specs.Splices.{behind_part, nth_part}
-use Rattle.yq_row_table.proofs.splices.SpliceTexts.{own_gap, own_end}
+use Rattle.std.{proofs.lemmas.Option.{none-some, same_Some, slice_get-map, slice_get_within}, specs.List.slice_get}
+use Rattle.yq_core.{specs.Answers.◌>>=◌, specs.Paths.{Step, node_at}, proofs.Bools.bind_some}
+use Rattle.yq_outline.{specs.Ends.line_at_steps, specs.Outline.{anchored, head_or, value}, specs.Places.content_under}
+use Rattle.yq_outline.{proofs.Finding.{FoundNode, path_node}, specs.Lines.{content_anchor, lines_of_rows}}
+use Rattle.yq_row_table.{specs.Grammar.{begins_document, no_rows}, specs.Rows.{Row, Part, Cut, last, marked, part_text}}
+use Rattle.yq_row_table.{specs.Splices.{behind_part, nth_part}, proofs.splices.SpliceTexts.{own_gap, own_end}}
 use Rattle.yq_documents.specs.Documents.{Document, begins_bare, document_parts, has_begin}
-use Rattle.yq_documents.specs.LinesInRows.{RowLine, behind_one, row_line, row_line_of}
-use Rattle.yq_documents.specs.PartNumbers.{number_from, part_number}
-use Rattle.yq_documents.specs.Reading.{part_document, part_outline}
-use Rattle.yq_documents.specs.TreeEdits.{change_nth}
-use Rattle.yq_documents.proofs.PartNumberLaws.{part_there}
-use Rattle.yq_outline.specs.Lines.{content_anchor, lines_of_rows}
+use Rattle.yq_documents.{specs.LinesInRows.{RowLine, behind_one, row_line, row_line_of}, specs.PartNumbers.{number_from, part_number}}
+use Rattle.yq_documents.{specs.Reading.{part_document, part_outline}, specs.TreeEdits.change_nth, proofs.PartNumberLaws.part_there}
 use Rattle.yq_places.specs.PlacedRows.{PlacedPart, before_part, placed_at, placed_document}
 use Rattle.yq_places.specs.Standings.{RowsOfEntry, entry_rows_at, rows_of_entry, under_count}
-use Rattle.yq_places.proofs.PlacedPartLaws.{StandsIn, map_some, part_stands}
-use Rattle.yq_places.proofs.RowLineSpans.{steps_row}
-use Rattle.yq_edits.specs.Appends.{inserted}
-use Rattle.yq_edits.specs.Changed.{KeepsRows, put_document, put_part}
-use Rattle.yq_edits.specs.Rooms.{RowShape, row_shape}
+use Rattle.yq_places.{proofs.PlacedPartLaws.{StandsIn, map_some, part_stands}, proofs.RowLineSpans.steps_row}
+use Rattle.yq_edits.{specs.Appends.inserted, specs.Changed.{KeepsRows, put_document, put_part}, specs.Rooms.{RowShape, row_shape}}
 use Rattle.yq_edits.specs.RowStays.{EntriesStay, ExchangesStay, HeadNodes, RowLinesStay, RowsBehindStay, StandsStill, StaysFrom}
-use Rattle.yq_edits.proofs.ChangedLaws.{document_put, first_stays, nth_changed}
-use Rattle.yq_edits.proofs.FlowKeptLaws.{one_other}
-use Rattle.yq_edits.proofs.ShapeLaws.{line_by_shape}
-use Rattle.yq_edits.proofs.StandingMarks.{even_there, under_it}
-use Rattle.yq_edits.proofs.UnderLaws.{line_is, line_with}
+use Rattle.yq_edits.{proofs.ChangedLaws.{document_put, first_stays, nth_changed}, proofs.FlowKeptLaws.one_other}
+use Rattle.yq_edits.{proofs.ShapeLaws.line_by_shape, proofs.StandingMarks.{even_there, under_it}, proofs.UnderLaws.{line_is, line_with}}
 
 -- ---- rows of the same shapes
 

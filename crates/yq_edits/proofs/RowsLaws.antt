@@ -1,17 +1,11 @@
 -- The rows of a collection's items or entries, and of one of them.
 use Rattle.std.proofs.Common.{◌≡◌, List, [], ◌∷◌, ◌++◌, length, refl, sym, ap, ◌∙◌, arith, length-append}
-use Rattle.yq_outline.specs.Lines.{lines_of_rows}
-use Rattle.yq_outline.specs.Outline.{Line, flatten}
-use Rattle.yq_outline.specs.Places.{lines_before, lines_after}
-use Rattle.yq_documents.specs.Reading.{part_outline}
+use Rattle.yq_outline.{specs.Lines.lines_of_rows, specs.Outline.{Line, flatten}, specs.Places.{lines_before, lines_after}}
 use Rattle.yq_outline.proofs.Decides.{flatten-group}
+use Rattle.yq_documents.specs.Reading.{part_outline}
 use Rattle.yq_places.proofs.UnderExchange.{lines_append}
-use Rattle.yq_edits.proofs.CollectionLaws.{relabelled}
-use Rattle.yq_edits.proofs.PlacedLaws.{around, same_parts}
-use Rattle.yq_edits.specs.LineRows.{lines_behind}
-use Rattle.yq_edits.specs.EntryRows.{EntryRows}
-use Rattle.yq_edits.proofs.ApartLaws.{entries_apart, row_begins}
-use Rattle.yq_edits.proofs.ColumnLaws.{apart_later}
+use Rattle.yq_edits.{proofs.CollectionLaws.relabelled, proofs.PlacedLaws.{around, same_parts}, specs.LineRows.lines_behind}
+use Rattle.yq_edits.{specs.EntryRows.EntryRows, proofs.ApartLaws.{entries_apart, row_begins}, proofs.ColumnLaws.apart_later}
 use Rattle.yq_edits.proofs.LineLaws.{row_line_splits}
 
 pub entry_rows : EntryRows

@@ -1,11 +1,8 @@
 -- Scalars that are tested to be equal are.
-use Rattle.std.proofs.Common.{◌≡◌, true, refl, eqb-true, rules}
-use Rattle.std.proofs.lemmas.Bool.{and_parts}
-use Rattle.std.proofs.lemmas.Slice.Eq.{bytes_eq-Decides}
-use Rattle.yq_core.specs.Scalar.{ScalarText}
-use Rattle.yq_core.specs.declared.kind.Kind.{Kind}
-use Rattle.yq_core.specs.declared.kind.Kind.TheVariants as kinds
+use Rattle.std.{proofs.Common.{◌≡◌, true, refl, eqb-true, rules}, proofs.lemmas.Bool.and_parts, proofs.lemmas.Slice.Eq.bytes_eq-Decides}
+use Rattle.yq_core.{specs.Scalar.ScalarText, specs.declared.kind.Kind.Kind}
 use Rattle.yq_edits.specs.Style.{table_row, is_same}
+use Rattle.yq_core.specs.declared.kind.Kind.TheVariants as kinds
 
 same_kind : (a b : Kind) → table_row a ≡ table_row b → a ≡ b
 same_kind kinds.Null kinds.Null h = refl

@@ -1,15 +1,10 @@
 -- A document of which one node is exchanged for itself is the same.
 use Rattle.std.proofs.Common.{◌≡◌, ℕ, zero, suc, List, [], ◌∷◌, Option, Some, refl, sym, ap, ◌∙◌, subst, rules}
-use Rattle.std.proofs.lemmas.Option.{same_Some}
-use Rattle.std.specs.List.{slice_get}
-use Rattle.std.specs.Prelude.{option_and_then}
+use Rattle.std.{proofs.lemmas.Option.same_Some, specs.List.slice_get, specs.Prelude.option_and_then}
 use Rattle.yq_core.specs.Paths.{Step, further, child_at, change_child, changed_at, node_at}
 use Rattle.yq_core.specs.Tree.{Node, alias, scalar, list, map, Children, none, child}
-use Rattle.yq_row_table.specs.Rows.{Part, Cut, last, marked}
-use Rattle.yq_row_table.specs.Splices.{nth_part}
-use Rattle.yq_documents.specs.Documents.{document_parts}
-use Rattle.yq_documents.specs.PartNumbers.{part_number}
-use Rattle.yq_documents.proofs.PartNumberLaws.{part_there}
+use Rattle.yq_row_table.{specs.Rows.{Part, Cut, last, marked}, specs.Splices.nth_part}
+use Rattle.yq_documents.{specs.Documents.document_parts, specs.PartNumbers.part_number, proofs.PartNumberLaws.part_there}
 use Rattle.yq_documents.specs.TreeEdits.{change_nth}
 use Rattle.yq_edits.specs.Changed.{put_part, put_document}
 

@@ -1,12 +1,9 @@
 -- What is asked of the scalar at a place, by what the code finds.
 use Rattle.std.proofs.Common.{◌≡◌, Bool, false, Option, Some, None, is_some, option_and_then, refl, sym, ap, ◌∙◌}
 use Rattle.std.proofs.lemmas.Bool.{false≢true}
-use Rattle.yq_core.specs.Answers.{◌>>=◌}
-use Rattle.yq_core.specs.Scalar.{ScalarText}
-use Rattle.yq_core.specs.Tree.{Node}
+use Rattle.yq_core.{specs.Answers.◌>>=◌, specs.Scalar.ScalarText, specs.Tree.Node}
 use Rattle.yq_places.specs.NodesAt.{scalar_in}
-use Rattle.yq_edits.specs.ReplaceEdits.{has_text, holds_text}
-use Rattle.yq_edits.specs.Replacing.{are_same, keeps_scalar}
+use Rattle.yq_edits.{specs.ReplaceEdits.{has_text, holds_text}, specs.Replacing.{are_same, keeps_scalar}}
 
 -- whether it has a text
 pub no_text : (o : Option Node) → None ≡ option_and_then scalar_in o → false ≡ has_text o

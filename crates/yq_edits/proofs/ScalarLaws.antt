@@ -1,29 +1,17 @@
 -- Scalars, keys and empty collections as they are written in block style.
 use Rattle.std.proofs.Common.{◌≡◌, ℕ, Bool, true, false, cond, List, [], ◌∷◌, length, Option, Some, None, refl, ap, arith, rules}
-use Rattle.std.proofs.lemmas.Bool.{false≢true}
-use Rattle.std.specs.Str.{chars, IsUtf8}
-use Rattle.yq_core.specs.declared.kind.Kind.{Kind}
+use Rattle.std.{proofs.lemmas.Bool.false≢true, specs.Str.{chars, IsUtf8}}
+use Rattle.yq_core.{specs.declared.kind.Kind.Kind, specs.Piece.deeper, specs.Scalar.{ScalarText, string_of, of_kind}, specs.Text.separates}
+use Rattle.yq_core.{specs.Writable.can_write, specs.Written.written_scalar, specs.Nodes.IsFlowNode}
+use Rattle.yq_core.{specs.Scalars.{scalar_content, scalar_of}, specs.Trees.{tree_of, scalar_node}, specs.NodesWritten.scalar_text}
+use Rattle.yq_core.{proofs.GapLaws.none_gap, proofs.NodesWrittenLaws.double_when}
+use Rattle.yq_flow_edits.{specs.Valued.{IsValid, IsValueTree, SpellsScalar}, proofs.StyledScalars.styled_spells}
+use Rattle.yq_row_table.specs.Grammar.{IsKey}
+use Rattle.yq_edits.{specs.BlockRows.{block_key, inline_of}, specs.BlockValues.{IsFilled, IsNear}, specs.BlockLaws.IsHead}
 use Rattle.yq_core.specs.declared.style.Place.TheVariants as places
 use Rattle.yq_core.specs.declared.style.Style.TheVariants as styles
-use Rattle.yq_core.specs.Piece.{deeper}
-use Rattle.yq_core.specs.Scalar.{ScalarText, string_of, of_kind}
-use Rattle.yq_core.specs.Text.{separates}
 use Rattle.yq_core.specs.Tree as tree
-use Rattle.yq_core.specs.Writable.{can_write}
-use Rattle.yq_core.specs.Written.{written_scalar}
 use Rattle.yq_core.specs.Nodes as inline
-use Rattle.yq_core.specs.Nodes.{IsFlowNode}
-use Rattle.yq_core.specs.Scalars.{scalar_content, scalar_of}
-use Rattle.yq_core.specs.Trees.{tree_of, scalar_node}
-use Rattle.yq_flow_edits.specs.Valued.{IsValid, IsValueTree, SpellsScalar}
-use Rattle.yq_core.specs.NodesWritten.{scalar_text}
-use Rattle.yq_core.proofs.GapLaws.{none_gap}
-use Rattle.yq_flow_edits.proofs.StyledScalars.{styled_spells}
-use Rattle.yq_core.proofs.NodesWrittenLaws.{double_when}
-use Rattle.yq_row_table.specs.Grammar.{IsKey}
-use Rattle.yq_edits.specs.BlockRows.{block_key, inline_of}
-use Rattle.yq_edits.specs.BlockValues.{IsFilled, IsNear}
-use Rattle.yq_edits.specs.BlockLaws.{IsHead}
 
 -- a scalar
 styled : (s : ScalarText) → IsValid s → (plain : Bool) → can_write s styles.Plain places.Block ≡ plain → SpellsScalar s (written_scalar (cond plain styles.Plain styles.Double) s.text)

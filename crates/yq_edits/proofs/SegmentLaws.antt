@@ -1,12 +1,8 @@
 -- What segments make of a text is made of pieces.
-use Rattle.std.proofs.Common.{◌≡◌, List, [], ◌∷◌, true, refl}
-use Rattle.std.proofs.lemmas.Str.{IsUtf8-nil, is_utf8-from_IsUtf8}
-use Rattle.std.specs.Str.{chars}
+use Rattle.std.{proofs.Common.{◌≡◌, List, [], ◌∷◌, true, refl}, proofs.lemmas.Str.{IsUtf8-nil, is_utf8-from_IsUtf8}, specs.Str.chars}
 use Rattle.yq_core.specs.Characters.{is_text, pairs_returns}
-use Rattle.yq_edits.specs.TextPieces.{IsPiece}
-use Rattle.yq_edits.proofs.TextPieceLaws.{pieces_joined}
+use Rattle.yq_edits.{specs.TextPieces.IsPiece, proofs.TextPieceLaws.pieces_joined, specs.Done.{ArePieces, SegmentsReadable}}
 use Rattle.yq_text.specs.Script.{Segment, keep, put, new_text}
-use Rattle.yq_edits.specs.Done.{ArePieces, SegmentsReadable}
 
 nothing_text : is_text [] ≡ true
 unfolding chars pairs_returns

@@ -1,22 +1,18 @@
 -- Rows of the same shapes: where paths lead among their lines, and what these have room for.
-use Rattle.std.proofs.Common.{◌≡◌, ℕ, suc, ◌+◌, ◌-◌, nat_lt, eqb, Bool, true, false, cond, List, [], ◌∷◌, ◌++◌, length, map, Option, Some, None, option_map, option_and_then, refl, sym, ap, ◌∙◌, rules}
-use Rattle.std.proofs.lemmas.List.{map-append, length-map}
+use Rattle.std.proofs.Common.{◌≡◌, ℕ, suc, ◌+◌, ◌-◌, nat_lt, eqb, Bool, true, false, cond, List, [], ◌∷◌, ◌++◌, length, map, Option, Some}
+use Rattle.std.{proofs.Common.{None, option_map, option_and_then, refl, sym, ap, ◌∙◌, rules}, proofs.lemmas.List.{map-append, length-map}}
 use Rattle.std.specs.Option.{is_some}
-use Rattle.yq_core.specs.Answers.{◌>>=◌}
-use Rattle.yq_core.specs.Paths.{Step, is_here, further}
-use Rattle.yq_core.specs.Tree.{Node}
-use Rattle.yq_outline.specs.Comments.{head_comment}
-use Rattle.yq_outline.specs.Ends.{found_line, line_at_steps}
+use Rattle.yq_core.{specs.Answers.◌>>=◌, specs.Paths.{Step, is_here, further}, specs.Tree.Node}
+use Rattle.yq_outline.{specs.Comments.head_comment, specs.Ends.{found_line, line_at_steps}}
 use Rattle.yq_outline.specs.Group.{deeper_lines, shallow, lead, group}
 use Rattle.yq_outline.specs.Outline.{LineMark, Dash, Line, level, Outline, end, row, flatten, label, null_node}
-use Rattle.yq_outline.specs.Places.{Context, here, below, beside, lines_before, compose, FoundLine, next_to, find_row, place_inside, bare_or, in_head, find}
-use Rattle.yq_row_table.specs.Rows as rows
+use Rattle.yq_outline.specs.Places.{Context, here, below, beside, lines_before, compose, FoundLine, next_to, find_row, place_inside}
+use Rattle.yq_outline.{specs.Places.{bare_or, in_head, find}, specs.Lines.{head_of, line_mark, lines_from, row_lines, lines_of_rows}}
 use Rattle.yq_row_table.specs.Rows.{Row, Content, Part}
-use Rattle.yq_documents.specs.declared.path.Part as places
-use Rattle.yq_outline.specs.Lines.{head_of, line_mark, lines_from, row_lines, lines_of_rows}
-use Rattle.yq_documents.specs.Ready.{begins_no_node}
-use Rattle.yq_documents.specs.LinesInRows.{RowLine, behind_one, row_line, row_line_has_room}
+use Rattle.yq_documents.{specs.Ready.begins_no_node, specs.LinesInRows.{RowLine, behind_one, row_line, row_line_has_room}}
 use Rattle.yq_edits.specs.Rooms.{RowShape, row_shape, EqualRoom, ShapesAgree}
+use Rattle.yq_row_table.specs.Rows as rows
+use Rattle.yq_documents.specs.declared.path.Part as places
 
 -- ---- lines without what is told behind their marks but that there is a head
 

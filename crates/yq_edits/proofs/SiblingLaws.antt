@@ -1,13 +1,11 @@
 -- Outlines one behind the other: their lines, evenness, and items or entries.
 use Rattle.std.proofs.Common.{◌≡◌, ℕ, ◌∷◌, ◌++◌, Option, refl, sym, ap, ◌∙◌, append_assoc, rules}
-use Rattle.yq_core.specs.Paths.{within, append_children}
-use Rattle.yq_core.specs.Tree.{Children, child}
+use Rattle.yq_core.{specs.Paths.{within, append_children}, specs.Tree.{Children, child}}
 use Rattle.yq_outline.specs.Outline.{LineMark, Line, level, Outline, end, row, flatten, IsWhole, IsEven, label, children, value}
-use Rattle.yq_outline.specs.Places.{content_under}
-use Rattle.yq_outline.proofs.Allowing as allowing
-use Rattle.yq_outline.proofs.Allowing.{IsCollection}
+use Rattle.yq_outline.{specs.Places.content_under, proofs.Allowing.IsCollection}
 use Rattle.yq_outline.proofs.Values.{same_rank, same_collection, same_entry, within-shaped}
 use Rattle.yq_edits.specs.Siblings.{append_outline, IsEntry, HasEntries}
+use Rattle.yq_outline.proofs.Allowing as allowing
 
 -- marks of items and entries
 pub entry_in : (m : LineMark) → IsEntry m → allowing.IsEntry m

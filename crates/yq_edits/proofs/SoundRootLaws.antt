@@ -1,19 +1,13 @@
 -- What a value put in, or one more, leaves of what is asked of a document's root.
-use Rattle.std.proofs.Common.{◌≡◌, ℕ, suc, ◌+◌, ◌-◌, ◌≤◌, max, List, [], ◌∷◌, ◌++◌, length, Option, Some, None, option_and_then, Bool, true, false, cond, refl, sym, ap, ◌∙◌, rules}
-use Rattle.std.proofs.Common.{subst, inl, inr, arith, append-nil, not, bytes_eq}
-use Rattle.std.proofs.lemmas.Bool.{and_parts, and_from, or_parts, or_from, not-true}
-use Rattle.std.proofs.lemmas.Option.{none-some, same_Some}
+use Rattle.std.proofs.Common.{◌≡◌, ℕ, suc, ◌+◌, ◌-◌, ◌≤◌, max, List, [], ◌∷◌, ◌++◌, length, Option, Some, None, option_and_then, Bool, true}
+use Rattle.std.proofs.Common.{false, cond, refl, sym, ap, ◌∙◌, rules, subst, inl, inr, arith, append-nil, not, bytes_eq}
+use Rattle.std.{proofs.lemmas.Bool.{and_parts, and_from, or_parts, or_from, not-true}, proofs.lemmas.Option.{none-some, same_Some}}
 use Rattle.std.specs.List.{list_any}
-use Rattle.yq_core.specs.Keys.{AreDistinct, keys_of, HasUniqueKeys, EachHasUniqueKeys, depth, deepest}
+use Rattle.yq_core.specs.Keys.{AreDistinct, keys_of, HasUniqueKeys, EachHasUniqueKeys, depth, deepest, are_distinct}
 use Rattle.yq_core.specs.Paths.{Step, is_here, further, append_child, changed_at, child_at, node_at, within}
-use Rattle.yq_core.specs.Tree.{Label, Node, Children, none, child, children_of, anchor_of}
-use Rattle.yq_core.specs.Inline.{depth_limit}
-use Rattle.yq_core.specs.Anchors.{Name, anchor_names, names_of, names_in, IsAmong}
-use Rattle.yq_outline.specs.Outline.{anchored}
-use Rattle.yq_core.specs.Keys.{are_distinct}
-use Rattle.yq_core.specs.Text.{with_first}
-use Rattle.yq_outline.proofs.KeyLaws.{differs, distinct_is, is_distinct}
-use Rattle.yq_outline.proofs.SoundLaws.{depth-anchored}
+use Rattle.yq_core.{specs.Tree.{Label, Node, Children, none, child, children_of, anchor_of}, specs.Inline.depth_limit}
+use Rattle.yq_core.{specs.Anchors.{Name, anchor_names, names_of, names_in, IsAmong}, specs.Text.with_first}
+use Rattle.yq_outline.{specs.Outline.anchored, proofs.KeyLaws.{differs, distinct_is, is_distinct}, proofs.SoundLaws.depth-anchored}
 use Rattle.yq_edits.specs.Conditions.{aliases_in, AreSpared}
 use Rattle.yq_edits.specs.SoundRoots.{IsSoundRoot, IsNewKey, inner_names, ReplaceKeeps, AppendKeeps}
 use Rattle.yq_edits.proofs.BoundLaws.{bound_changed, anchor_front}

@@ -1,20 +1,15 @@
 -- What one less, or another label, leaves of what is asked of a document's root.
 use Rattle.std.proofs.Common.{◌≡◌, ℕ, suc, ◌≤◌, max, List, [], ◌++◌, Option, Some, None, Bool, true, false, cond, refl, sym, ap, ◌∙◌, rules}
 use Rattle.std.proofs.Common.{subst, arith, append_assoc, not, bytes_eq}
-use Rattle.std.proofs.lemmas.Bool.{and_parts, and_from, or_parts, or_from, not-true}
-use Rattle.std.proofs.lemmas.Option.{none-some, same_Some}
+use Rattle.std.{proofs.lemmas.Bool.{and_parts, and_from, or_parts, or_from, not-true}, proofs.lemmas.Option.{none-some, same_Some}}
 use Rattle.std.specs.List.{list_any}
-use Rattle.yq_core.specs.Keys.{AreDistinct, keys_of, HasUniqueKeys, EachHasUniqueKeys, depth, deepest}
+use Rattle.yq_core.specs.Keys.{AreDistinct, keys_of, HasUniqueKeys, EachHasUniqueKeys, depth, deepest, are_distinct}
 use Rattle.yq_core.specs.Paths.{Step, is_here, further, child_at, relabel_child, remove_child, within}
 use Rattle.yq_core.specs.Tree.{Label, Node, alias, scalar, list, map, Children, none, child, children_of}
-use Rattle.yq_core.specs.Anchors.{Name, anchor_names, names_of, names_in}
-use Rattle.yq_core.specs.Keys.{are_distinct}
-use Rattle.yq_core.specs.Text.{with_first}
+use Rattle.yq_core.{specs.Anchors.{Name, anchor_names, names_of, names_in}, specs.Text.with_first}
 use Rattle.yq_outline.proofs.KeyLaws.{distinct_is, is_distinct}
-use Rattle.yq_edits.specs.SoundRoots.{RemoveKeeps, RelabelKeeps}
-use Rattle.yq_edits.proofs.BoundLaws.{anchor_front}
-use Rattle.yq_edits.proofs.TreeLaws.{max_least, max_left, max_right}
-use Rattle.yq_edits.proofs.SoundRootLaws.{unique_at, depth_at, sound, same_names}
+use Rattle.yq_edits.{specs.SoundRoots.{RemoveKeeps, RelabelKeeps}, proofs.BoundLaws.anchor_front}
+use Rattle.yq_edits.{proofs.TreeLaws.{max_least, max_left, max_right}, proofs.SoundRootLaws.{unique_at, depth_at, sound, same_names}}
 
 -- one less
 unlike_less : (k : List ℕ) (s : Step) (cs : Children) → list_any (bytes_eq k) (keys_of cs) ≡ false → list_any (bytes_eq k) (keys_of (remove_child s cs)) ≡ false

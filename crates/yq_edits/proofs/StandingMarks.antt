@@ -1,26 +1,15 @@
 -- The rows of an item or entry among those of its document, and its key or dash.
 use Rattle.std.proofs.Common.{inl, inr, ◌≡◌, ℕ, true, List, [], ◌∷◌, ◌++◌, length, sym, ap, ◌∙◌, subst, arith, length-append}
-use Rattle.yq_core.specs.Paths.{Step}
-use Rattle.yq_core.proofs.BlockPieceLaws.{IsLf, append_lf}
-use Rattle.yq_outline.specs.Group.{level_or}
-use Rattle.yq_outline.specs.Outline.{IsEven}
-use Rattle.yq_row_table.specs.Exchange.{asked_behind}
-use Rattle.yq_row_table.specs.Grammar.{AreRows, IsRow, Limit, is_entry, limit_after, unlimited}
-use Rattle.yq_row_table.specs.Rows.{Cut, Row, cut_text, print_row, rows_text}
-use Rattle.yq_row_table.proofs.PlaceLaws.{row_then}
+use Rattle.yq_core.{specs.Paths.Step, proofs.BlockPieceLaws.{IsLf, append_lf}}
+use Rattle.yq_outline.{specs.Group.level_or, specs.Outline.IsEven, specs.Lines.{lines_of_rows, row_lines}}
+use Rattle.yq_row_table.{specs.Exchange.asked_behind, specs.Grammar.{AreRows, IsRow, Limit, is_entry, limit_after, unlimited}}
+use Rattle.yq_row_table.{specs.Rows.{Cut, Row, cut_text, print_row, rows_text}, proofs.PlaceLaws.row_then}
 use Rattle.yq_row_table.proofs.seams.SeamLaws.{rows_text-append}
-use Rattle.yq_outline.specs.Lines.{lines_of_rows, row_lines}
 use Rattle.yq_documents.specs.Reading.{part_outline}
-use Rattle.yq_places.specs.Standings.{RowsOfEntry, behind_entry}
-use Rattle.yq_places.proofs.CommentPieceLaws.{Ended}
-use Rattle.yq_edits.specs.DocumentRows.{behind_document}
-use Rattle.yq_edits.specs.StandingLaws.{StandsThere}
-use Rattle.yq_edits.specs.Unders.{HasUnder}
-use Rattle.yq_edits.proofs.EndedRowLaws.{rows_ended}
-use Rattle.yq_edits.proofs.FirstReplaceLaws.{rows_after}
-use Rattle.yq_edits.proofs.LineLaws.{row_count}
-use Rattle.yq_edits.proofs.PartLaws.{document_known, part_rows}
-use Rattle.yq_edits.proofs.UnderLaws.{is_mark}
+use Rattle.yq_places.{specs.Standings.{RowsOfEntry, behind_entry}, proofs.CommentPieceLaws.Ended}
+use Rattle.yq_edits.{specs.DocumentRows.behind_document, specs.StandingLaws.StandsThere, specs.Unders.HasUnder}
+use Rattle.yq_edits.{proofs.EndedRowLaws.rows_ended, proofs.FirstReplaceLaws.rows_after, proofs.LineLaws.row_count}
+use Rattle.yq_edits.{proofs.PartLaws.{document_known, part_rows}, proofs.UnderLaws.is_mark}
 
 -- a row and those under it end in an LF, or nothing is behind them
 under_ended : (limit : Limit) (r : Row) (under back : List Row) (gap rest : List ℕ) → AreRows limit (r ∷ (under ++ back)) gap rest → Ended (rows_text (r ∷ under) []) (rows_text back (gap ++ rest))

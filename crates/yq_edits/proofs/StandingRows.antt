@@ -1,46 +1,23 @@
 -- The rows of an item or entry that are found are those of the line to which steps lead, with the lines under it.
-use Rattle.std.proofs.Common.{◌≡◌, ◌≤◌, true, ℕ, zero, suc, ◌+◌, List, [], ◌∷◌, ◌++◌, take, drop, length, map, Option, Some, option_map, refl, sym, ap, ◌∙◌, subst, arith, length-append, rules}
-use Rattle.std.proofs.lemmas.List.{take-append-drop}
-use Rattle.std.proofs.lemmas.Option.{none-some, same_Some}
-use Rattle.std.specs.List.{slice_get}
-use Rattle.std.specs.Str.{is_utf8}
-use Rattle.yq_core.specs.Answers.{◌>>=◌}
-use Rattle.yq_core.specs.Paths.{Step}
-use Rattle.yq_core.proofs.Bools.{bind_some, guard_then}
-use Rattle.yq_outline.specs.Comments.{head_comment}
-use Rattle.yq_outline.specs.Ends.{IsEndOf, lines_end, line_at_steps}
-use Rattle.yq_outline.specs.Group.{group, is_fine}
-use Rattle.yq_outline.specs.Outline.{Line, flatten, level}
-use Rattle.yq_outline.specs.Places.{FoundLine, find, lines_before}
-use Rattle.yq_outline.proofs.LineEnds.{end_agrees}
-use Rattle.yq_row_table.specs.Rows.{Row, Cut, cut_text, part_text}
-use Rattle.yq_row_table.specs.View.{slices}
-use Rattle.yq_row_table.specs.Grammar.{unlimited}
-use Rattle.yq_row_table.proofs.splices.ContentPlaces.{count_front, rows_around}
-use Rattle.yq_documents.specs.Documents.{document_parts}
-use Rattle.yq_outline.specs.Lines.{lines_of_rows, row_lines}
-use Rattle.yq_documents.specs.Reading.{read_at}
-use Rattle.yq_documents.specs.LinesInRows.{RowLine, row_line, row_line_of}
-use Rattle.yq_places.specs.PlacedRows.{PlacedPart, PlacedRow, placed_document, placed_row, row_of_path}
-use Rattle.yq_outline.specs.RowWalk.{deeper_rows, line_level}
-use Rattle.yq_places.proofs.DashLaws.{line_within}
-use Rattle.yq_documents.proofs.PartRows.{each}
-use Rattle.yq_places.proofs.PrintedTexts.{map_some}
-use Rattle.yq_documents.proofs.ReadLaws.{text_takes}
-use Rattle.yq_places.proofs.RowPathLaws.{document_fine}
-use Rattle.yq_places.proofs.RowLineSpans.{steps_row}
-use Rattle.yq_places.proofs.UnderCounts.{end_is}
-use Rattle.yq_outline.proofs.WalkEnds.{ends_at, lines_upto}
-use Rattle.yq_outline.proofs.WalkLevels.{RowsAgree, IsLineOf, RowAgrees, level_is, line_in}
+use Rattle.std.proofs.Common.{◌≡◌, ◌≤◌, true, ℕ, zero, suc, ◌+◌, List, [], ◌∷◌, ◌++◌, take, drop, length, map, Option, Some, option_map}
+use Rattle.std.{proofs.Common.{refl, sym, ap, ◌∙◌, subst, arith, length-append, rules}, proofs.lemmas.List.take-append-drop}
+use Rattle.std.{proofs.lemmas.Option.{none-some, same_Some}, specs.List.slice_get, specs.Str.is_utf8}
+use Rattle.yq_core.{specs.Answers.◌>>=◌, specs.Paths.Step, proofs.Bools.{bind_some, guard_then}}
+use Rattle.yq_outline.{specs.Comments.head_comment, specs.Ends.{IsEndOf, lines_end, line_at_steps}, specs.Group.{group, is_fine}}
+use Rattle.yq_outline.{specs.Outline.{Line, flatten, level}, specs.Places.{FoundLine, find, lines_before}, proofs.LineEnds.end_agrees}
+use Rattle.yq_outline.{specs.Lines.{lines_of_rows, row_lines}, specs.RowWalk.{deeper_rows, line_level}}
+use Rattle.yq_outline.{proofs.WalkEnds.{ends_at, lines_upto}, proofs.WalkLevels.{RowsAgree, IsLineOf, RowAgrees, level_is, line_in}}
 use Rattle.yq_outline.proofs.WalkRows.{rows_agree}
-use Rattle.yq_edits.specs.DocumentRows.{IsDocumentPart, behind_document}
-use Rattle.yq_edits.specs.PlacedParts.{StandsAt}
-use Rattle.yq_edits.proofs.LineLaws.{row_count}
-use Rattle.yq_edits.proofs.PartLaws.{document_known, part_rows}
-use Rattle.yq_edits.proofs.PathLaws.{row_line_number}
-use Rattle.yq_edits.proofs.PlacedPartLaws.{document_stands_at}
+use Rattle.yq_row_table.{specs.Rows.{Row, Cut, cut_text, part_text}, specs.View.slices, specs.Grammar.unlimited}
+use Rattle.yq_row_table.proofs.splices.ContentPlaces.{count_front, rows_around}
+use Rattle.yq_documents.{specs.Documents.document_parts, specs.Reading.read_at, specs.LinesInRows.{RowLine, row_line, row_line_of}}
+use Rattle.yq_documents.{proofs.PartRows.each, proofs.ReadLaws.text_takes}
+use Rattle.yq_places.{specs.PlacedRows.{PlacedPart, PlacedRow, placed_document, placed_row, row_of_path}, proofs.DashLaws.line_within}
+use Rattle.yq_places.{proofs.PrintedTexts.map_some, proofs.RowPathLaws.document_fine, proofs.RowLineSpans.steps_row}
+use Rattle.yq_places.{proofs.UnderCounts.end_is, specs.Standings.{RowsOfEntry, entry_rows_at, rows_of_entry, under_count}}
+use Rattle.yq_edits.{specs.DocumentRows.{IsDocumentPart, behind_document}, specs.PlacedParts.StandsAt, proofs.LineLaws.row_count}
+use Rattle.yq_edits.{proofs.PartLaws.{document_known, part_rows}, proofs.PathLaws.row_line_number, proofs.PlacedPartLaws.document_stands_at}
 use Rattle.yq_edits.specs.StandingLaws.{RowsStand, StandsThere}
-use Rattle.yq_places.specs.Standings.{RowsOfEntry, entry_rows_at, rows_of_entry, under_count}
 
 row_agrees_at : (rs : List Row) (i : ℕ) (r : Row) → RowsAgree rs → slice_get rs i ≡ Some r → RowAgrees r
 row_agrees_at [] i r h e = absurd (cc)

@@ -1,10 +1,7 @@
 -- The style of a scalar in the place of another one can write it.
 use Rattle.std.proofs.Common.{◌≡◌, true, false, rules}
-use Rattle.yq_core.specs.Scalar.{ScalarText}
-use Rattle.yq_core.specs.Writable.{can_write_plain, can_write}
-use Rattle.yq_core.specs.Written.{IsOneLine}
-use Rattle.yq_core.specs.declared.style.Place.{Place}
-use Rattle.yq_core.specs.declared.style.Style.{Style}
+use Rattle.yq_core.{specs.Scalar.ScalarText, specs.Writable.{can_write_plain, can_write}, specs.Written.IsOneLine}
+use Rattle.yq_core.{specs.declared.style.Place.Place, specs.declared.style.Style.Style}
 use Rattle.yq_core.specs.declared.style.Style.TheVariants.{Plain, Double}
 use Rattle.yq_edits.specs.Style.{style_in}
 

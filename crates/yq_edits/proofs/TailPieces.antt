@@ -1,26 +1,14 @@
 -- The text at the end of a line, in pieces that can be read.
 use Rattle.std.proofs.Common.{◌≡◌, ⊎_elim, ℕ, true, false, eqb, List, [], ◌∷◌, ◌++◌, length, refl, ap, ◌∙◌, subst, append_assoc, rules}
-use Rattle.std.proofs.Math.Seq.{take-append_seam}
-use Rattle.std.proofs.lemmas.Bool.{false≢true, or_cases, eqb-true, and_parts, cases_Bool}
-use Rattle.std.proofs.lemmas.Str.{IsUtf8-take}
-use Rattle.std.specs.Str.{IsUtf8}
-use Rattle.yq_core.specs.Characters.{pairs_returns}
-use Rattle.yq_core.specs.Text.{front, is_feed, ends_line, NoneIn}
-use Rattle.yq_core.proofs.WrittenText.{is_line_ascii}
-use Rattle.yq_row_table.specs.Gap.{IsWhite}
-use Rattle.yq_row_table.specs.Grammar.{IsTail, IsRow, Limit}
-use Rattle.yq_row_table.specs.Rows.{print_row}
-use Rattle.yq_row_table.specs.View.{slices}
-use Rattle.yq_row_table.proofs.CharacterLaws.{pairs_back}
-use Rattle.yq_row_table.proofs.LineEnds.{white_none}
-use Rattle.yq_row_table.proofs.NodePieces.{before_ascii, tail_ascii}
+use Rattle.std.{proofs.Math.Seq.take-append_seam, proofs.lemmas.Bool.{false≢true, or_cases, eqb-true, and_parts, cases_Bool}}
+use Rattle.std.{proofs.lemmas.Str.IsUtf8-take, specs.Str.IsUtf8}
+use Rattle.yq_core.{specs.Characters.pairs_returns, specs.Text.{front, is_feed, ends_line, NoneIn}, proofs.WrittenText.is_line_ascii}
+use Rattle.yq_row_table.{specs.Gap.IsWhite, specs.Grammar.{IsTail, IsRow, Limit}, specs.Rows.print_row, specs.View.slices}
+use Rattle.yq_row_table.{proofs.CharacterLaws.pairs_back, proofs.LineEnds.white_none, proofs.NodePieces.{before_ascii, tail_ascii}}
 use Rattle.yq_row_table.proofs.seams.ScalarSeams.{ends_return}
-use Rattle.yq_places.specs.CommentPlaces.{text_to_line_end}
-use Rattle.yq_places.specs.PlacedRows.{PlacedRow}
-use Rattle.yq_edits.specs.TextPieces.{IsPiece}
-use Rattle.yq_edits.proofs.LineFrontLaws.{ends_more, clean_cut, line_ends_clean}
-use Rattle.yq_edits.proofs.CommentPieceLaws.{nothing, byte_then}
-use Rattle.yq_edits.proofs.CommentRowLaws.{line_whole, line_some}
+use Rattle.yq_places.{specs.CommentPlaces.text_to_line_end, specs.PlacedRows.PlacedRow}
+use Rattle.yq_edits.{specs.TextPieces.IsPiece, proofs.LineFrontLaws.{ends_more, clean_cut, line_ends_clean}}
+use Rattle.yq_edits.{proofs.CommentPieceLaws.{nothing, byte_then}, proofs.CommentRowLaws.{line_whole, line_some}}
 
 none_clean : (c rest : List ℕ) → NoneIn ends_line c rest → front is_feed rest ≡ true → ends_return c ≡ false
 none_clean [] rest h f = refl

@@ -1,20 +1,14 @@
 -- The text of rows in block style.
 use Rattle.std.proofs.Common.{◌≡◌, ℕ, Bool, true, false, List, ◌++◌, Option, refl, ap, ◌∙◌, append_assoc, append-nil, replicate, rules}
 use Rattle.std.proofs.lemmas.List.{append_cancel_left}
-use Rattle.yq_core.specs.Tree as tree
-use Rattle.yq_core.specs.Tree.{Children}
-use Rattle.yq_core.specs.Nodes as inline
+use Rattle.yq_core.{specs.Tree.Children, proofs.NodesWrittenLaws.node_then}
 use Rattle.yq_flow_edits.specs.Valued.{IsValueTree, AreValueTrees}
-use Rattle.yq_core.proofs.NodesWrittenLaws.{node_then}
-use Rattle.yq_row_table.specs.Rows.{Row, rows_text}
-use Rattle.yq_row_table.proofs.seams.SeamLaws.{rows_text-append}
+use Rattle.yq_row_table.{specs.Rows.{Row, rows_text}, proofs.seams.SeamLaws.rows_text-append}
 use Rattle.yq_edits.specs.BlockRows.{children_rows, column_below, end_of_line_before, entry_rows, inline_of, node_rows}
-use Rattle.yq_edits.specs.BlockText.{block_children, block_entry, block_node, then_lines}
-use Rattle.yq_edits.specs.BlockValues.{IsFilled}
-use Rattle.yq_edits.specs.declared.layout.Layout.{Layout}
-use Rattle.yq_edits.proofs.BlockLineLaws.{BeginAt, node_begun}
-use Rattle.yq_edits.proofs.ScalarLaws.{Heads, heads}
-use Rattle.yq_edits.specs.BlockText.{block_value}
+use Rattle.yq_edits.{specs.BlockText.{block_children, block_entry, block_node, then_lines, block_value}, specs.BlockValues.IsFilled}
+use Rattle.yq_edits.{specs.declared.layout.Layout.Layout, proofs.BlockLineLaws.{BeginAt, node_begun}, proofs.ScalarLaws.{Heads, heads}}
+use Rattle.yq_core.specs.Tree as tree
+use Rattle.yq_core.specs.Nodes as inline
 
 -- spaces and a text, before an end
 abbrev indented : ℕ → List ℕ → List ℕ → List ℕ

@@ -2,16 +2,12 @@
 use Rattle.std.proofs.Common.{arith, ◌≡◌, ℕ, false, List, [], ◌∷◌, ◌++◌, length, refl, sym, ◌∙◌, subst, append_assoc, length-append, rules}
 use Rattle.std.proofs.Math.Seq.{take-append_seam, drop-append_seam}
 use Rattle.std.proofs.lemmas.Str.{IsCharBoundary-from_take, IsUtf8-append, IsUtf8-drop, IsUtf8-from_is_utf8, IsUtf8-take}
-use Rattle.std.proofs.lemmas.Bool.{and_from, and_parts}
-use Rattle.std.specs.Str.{IsUtf8, IsCharBoundary}
-use Rattle.yq_core.specs.Characters.{pairs_returns}
-use Rattle.yq_core.specs.Text.{front, is_feed}
+use Rattle.std.{proofs.lemmas.Bool.{and_from, and_parts}, specs.Str.{IsUtf8, IsCharBoundary}}
+use Rattle.yq_core.{specs.Characters.pairs_returns, specs.Text.{front, is_feed}, proofs.Bools.guard_then}
 use Rattle.yq_row_table.specs.Rows.{cut_text}
 use Rattle.yq_row_table.proofs.CharacterLaws.{all_text, all_join, pairs_join, pairs_back, pairs_front, pairs_cut, EndsBlack}
 use Rattle.yq_row_table.proofs.NodePieces.{EndsAscii, BeginsAscii, behind_ascii, before_ascii}
-use Rattle.yq_documents.specs.Reading.{read_at}
-use Rattle.yq_documents.proofs.ReadLaws.{text_takes}
-use Rattle.yq_core.proofs.Bools.{guard_then}
+use Rattle.yq_documents.{specs.Reading.read_at, proofs.ReadLaws.text_takes}
 use Rattle.yq_edits.specs.TextPieces.{IsPiece, TextIsPiece, PiecesJoined, LineCut, BeginsPiece, ByteCut}
 
 pub pieces_joined : PiecesJoined

@@ -1,10 +1,9 @@
 -- Unique keys and depth of a tree in which a node is changed.
-use Rattle.std.proofs.Common.{◌≡◌, ℕ, ◌+◌, ◌-◌, ◌≤◌, max, [], ◌∷◌, length, Option, Some, None, option_and_then, Bool, true, false, cond, refl, sym, ap, subst, arith}
-use Rattle.std.proofs.lemmas.Option.{none-some, same_Some}
+use Rattle.std.proofs.Common.{◌≡◌, ℕ, ◌+◌, ◌-◌, ◌≤◌, max, [], ◌∷◌, length, Option, Some, None, option_and_then, Bool, true, false, cond}
+use Rattle.std.{proofs.Common.{refl, sym, ap, subst, arith}, proofs.lemmas.Option.{none-some, same_Some}}
 use Rattle.yq_core.specs.Keys.{AreDistinct, keys_of, HasUniqueKeys, EachHasUniqueKeys, depth, deepest}
 use Rattle.yq_core.specs.Paths.{Step, is_here, further, child_at, node_at, change_child, within, changed_at}
-use Rattle.yq_core.specs.Tree.{Node, alias, scalar, list, map, Children, none, child, children_of}
-use Rattle.yq_core.specs.Text.{with_first}
+use Rattle.yq_core.{specs.Tree.{Node, alias, scalar, list, map, Children, none, child, children_of}, specs.Text.with_first}
 use Rattle.yq_edits.specs.Conditions.{UniqueChanged, DepthChanged}
 
 keys_stay : (s : Step) (f : Node → Node) (cs : Children) → keys_of (change_child s f cs) ≡ keys_of cs

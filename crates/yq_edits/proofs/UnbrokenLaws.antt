@@ -1,29 +1,18 @@
 -- A block collection whose last line has no break ends its text: the line gets a break, and rows come behind it.
-use Rattle.std.proofs.Common.{◌≡◌, inl, inr, ℕ, true, false, List, [], ◌∷◌, ◌++◌, refl, sym, ap, ◌∙◌, subst, append_assoc, append-nil, rules}
-use Rattle.std.proofs.lemmas.Bool.{false≢true}
-use Rattle.yq_core.specs.Paths.{Step}
-use Rattle.yq_core.specs.Text.{is_empty, is_line}
-use Rattle.yq_outline.specs.Comments.{head_comment}
-use Rattle.yq_row_table.specs.Appending.{closed_by}
-use Rattle.yq_row_table.specs.Exchange.{asked_behind, row_front}
+use Rattle.std.proofs.Common.{◌≡◌, inl, inr, ℕ, true, false, List, [], ◌∷◌, ◌++◌, refl, sym, ap, ◌∙◌, subst, append_assoc, append-nil}
+use Rattle.std.{proofs.Common.rules, proofs.lemmas.Bool.false≢true}
+use Rattle.yq_core.{specs.Paths.Step, specs.Text.{is_empty, is_line}}
+use Rattle.yq_outline.{specs.Comments.head_comment, specs.Lines.{lines_from, lines_of_rows}}
+use Rattle.yq_row_table.{specs.Appending.closed_by, specs.Exchange.{asked_behind, row_front}}
 use Rattle.yq_row_table.specs.Grammar.{Limit, unlimited, limit_after, allows, AreRows, no_rows}
 use Rattle.yq_row_table.specs.Rows.{Content, content_text, Row, parent_indent, print_row, rows_text, Part, part_text, Cut}
-use Rattle.yq_row_table.specs.Seams.{is_block, tail_behind, with_tail}
-use Rattle.yq_row_table.specs.Splices.{first_gap}
-use Rattle.yq_row_table.proofs.PlaceLaws.{row_front-append}
-use Rattle.yq_row_table.proofs.seams.FrontSeams.{rows_some}
-use Rattle.yq_row_table.proofs.seams.SeamLaws.{rows_text-append}
-use Rattle.yq_places.specs.CollectionEnds.{CollectionEnd, is_broken}
-use Rattle.yq_documents.specs.Documents.{lead_of}
-use Rattle.yq_outline.specs.Lines.{lines_from, lines_of_rows}
-use Rattle.yq_places.specs.PrintedLines.{end_break}
-use Rattle.yq_documents.specs.Ready.{begins_no_node}
+use Rattle.yq_row_table.{specs.Seams.{is_block, tail_behind, with_tail}, specs.Splices.first_gap, proofs.PlaceLaws.row_front-append}
+use Rattle.yq_row_table.{proofs.seams.FrontSeams.rows_some, proofs.seams.SeamLaws.rows_text-append}
+use Rattle.yq_places.{specs.CollectionEnds.{CollectionEnd, is_broken}, specs.PrintedLines.end_break}
 use Rattle.yq_places.proofs.ContentEndLaws.{Ends, content_ends}
-use Rattle.yq_edits.specs.CollectionPlaces.{IsCollectionEnd}
-use Rattle.yq_edits.specs.DocumentRows.{behind_document}
-use Rattle.yq_edits.specs.Ends.{closed_with}
-use Rattle.yq_edits.specs.Rooms.{is_block_root}
-use Rattle.yq_edits.proofs.AppendPlaceLaws.{EndAllows, last_limit, rows_behind}
+use Rattle.yq_documents.{specs.Documents.lead_of, specs.Ready.begins_no_node}
+use Rattle.yq_edits.{specs.CollectionPlaces.IsCollectionEnd, specs.DocumentRows.behind_document, specs.Ends.closed_with}
+use Rattle.yq_edits.{specs.Rooms.is_block_root, proofs.AppendPlaceLaws.{EndAllows, last_limit, rows_behind}}
 use Rattle.yq_edits.proofs.EndedRowLaws.{row_there, rows_then}
 
 -- ---- nothing is behind

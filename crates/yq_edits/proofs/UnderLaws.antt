@@ -2,18 +2,11 @@
 use Rattle.std.proofs.Common.{◌≡◌, ℕ, suc, ◌+◌, List, [], ◌∷◌, ◌++◌, length, true, sym, ap, ◌∙◌, append_assoc, length-append, rules}
 use mathlib.Core.List.{head-eq_of_cons-eq, tail-eq_of_cons-eq}
 use Rattle.yq_core.specs.Paths.{Step}
-use Rattle.yq_outline.specs.Comments.{head_comment}
-use Rattle.yq_outline.specs.Group.{level_or}
-use Rattle.yq_outline.specs.Outline.{Line, flatten, IsEven}
-use Rattle.yq_outline.specs.Places.{lines_before, lines_after}
-use Rattle.yq_outline.proofs.Decides.{flatten-group}
-use Rattle.yq_row_table.specs.Grammar.{is_entry}
-use Rattle.yq_row_table.specs.Rows.{Content, Row, mark_column, Part}
-use Rattle.yq_outline.specs.Lines.{mark_line, lines_of_rows}
+use Rattle.yq_outline.{specs.Comments.head_comment, specs.Group.level_or, specs.Outline.{Line, flatten, IsEven}}
+use Rattle.yq_outline.{specs.Places.{lines_before, lines_after}, proofs.Decides.flatten-group, specs.Lines.{mark_line, lines_of_rows}}
+use Rattle.yq_row_table.{specs.Grammar.is_entry, specs.Rows.{Content, Row, mark_column, Part}}
 use Rattle.yq_documents.specs.Reading.{part_outline}
-use Rattle.yq_edits.specs.Moved.{dash_lines}
-use Rattle.yq_edits.specs.Unders.{HasUnder}
-use Rattle.yq_edits.proofs.AppendLaws.{around}
+use Rattle.yq_edits.{specs.Moved.dash_lines, specs.Unders.HasUnder, proofs.AppendLaws.around}
 use Rattle.yq_edits.proofs.LineLaws.{above_mark, dashes_count, mark_behind}
 use Rattle.yq_edits.proofs.PlacedLaws.{found_is_entry, rows_in_parts, same_parts, whole_line}
 

@@ -1,25 +1,19 @@
 -- The content of a row with the inline node of a value in the place of its own.
-use Rattle.std.proofs.Common.{◌≡◌, inl, inr, ℕ, ℤ, ◌&&◌, ◌||◌, not, List, [], ◌∷◌, ◌++◌, Option, Some, Bool, true, false, refl, ap, ◌∙◌, rules}
-use Rattle.std.proofs.lemmas.Bool.{false≢true, and_parts, and_from, eqb-true}
-use Rattle.std.proofs.lemmas.List.Folds.{list_any-append}
-use Rattle.yq_core.specs.Piece.{deeper}
-use Rattle.yq_core.specs.Plain.{ends_plain, holds_break}
-use Rattle.yq_core.specs.Text.{is_feed, is_marker, is_white, no_white, separates, unless, NoneIn}
-use Rattle.yq_core.specs.Tree.{Node}
-use Rattle.yq_core.specs.Nodes as inline
+use Rattle.std.proofs.Common.{◌≡◌, inl, inr, ℕ, ℤ, ◌&&◌, ◌||◌, not, List, [], ◌∷◌, ◌++◌, Option, Some, Bool, true, false, refl, ap, ◌∙◌}
+use Rattle.std.{proofs.Common.rules, proofs.lemmas.Bool.{false≢true, and_parts, and_from, eqb-true}}
+use Rattle.std.{proofs.lemmas.List.Folds.list_any-append, specs.List.list_any}
+use Rattle.yq_core.{specs.Piece.deeper, specs.Plain.{ends_plain, holds_break}}
+use Rattle.yq_core.{specs.Text.{is_feed, is_marker, is_white, no_white, separates, unless, NoneIn}, specs.Tree.Node}
 use Rattle.yq_core.specs.Nodes.{empty, alias, scalar, coll, anchored, node_text, begins_content, in_name, is_empty_node, IsLead, IsFlowNode}
-use Rattle.yq_row_table.proofs.NothingLaws.{tail_apart}
-use Rattle.std.specs.List.{list_any}
 use Rattle.yq_core.proofs.Alikes.{no_first}
-use Rattle.yq_outline.specs.Comments.{line_comment}
-use Rattle.yq_row_table.specs.Grammar.{IsContent, IsTail, is_more, is_plain_content, may_be_alone}
-use Rattle.yq_row_table.specs.Rows as rows
-use Rattle.yq_row_table.specs.Rows.{Content, content_text}
+use Rattle.yq_row_table.{proofs.NothingLaws.tail_apart, specs.Grammar.{IsContent, IsTail, is_more, is_plain_content, may_be_alone}}
+use Rattle.yq_row_table.{specs.Rows.{Content, content_text}, specs.Seams.is_block}
+use Rattle.yq_outline.{specs.Comments.line_comment, specs.Lines.{content_anchor, head_of, tail_of}}
 use Rattle.yq_documents.specs.Documents.{ContentHasFitKeys, is_long_plain}
-use Rattle.yq_row_table.specs.Seams.{is_block}
-use Rattle.yq_outline.specs.Lines.{content_anchor, head_of, tail_of}
 use Rattle.yq_edits.specs.InlineRows.{IsValueNode}
 use Rattle.yq_edits.proofs.CoreLaws.{recore, put_core, core_head, core_anchor, core_keys, core_bare, core_more, core_node}
+use Rattle.yq_core.specs.Nodes as inline
+use Rattle.yq_row_table.specs.Rows as rows
 
 pub more_some : (node : inline.FlowNode) → is_more node ≡ true → is_empty_node node ≡ false
 more_some node h1 = search (rules, false≢true)

@@ -1,41 +1,25 @@
 -- The inline nodes of values: scalars in a style of one line, and collections in flow style.
-use Rattle.std.proofs.Common.{◌≡◌, ℕ, ◌≤◌, eqb, not, cond, List, [], ◌∷◌, ◌++◌, Option, Some, Bool, true, false, refl, sym, ap, ◌∙◌, subst, append-nil, rules}
-use Rattle.std.proofs.lemmas.Bool.{false≢true, not-true, and_parts}
-use Rattle.std.proofs.lemmas.Str.{IsUtf8-nil}
+use Rattle.std.proofs.Common.{◌≡◌, ℕ, ◌≤◌, eqb, not, cond, List, [], ◌∷◌, ◌++◌, Option, Some, Bool, true, false, refl, sym, ap, ◌∙◌, subst}
+use Rattle.std.{proofs.Common.{append-nil, rules}, proofs.lemmas.Bool.{false≢true, not-true, and_parts}, proofs.lemmas.Str.IsUtf8-nil}
 use Rattle.std.specs.Str.{chars, IsUtf8}
 use lib.Utf8.{encode}
-use Rattle.yq_core.specs.Characters.{pairs_returns}
-use Rattle.yq_core.specs.Keys.{depth}
-use Rattle.yq_core.specs.Piece.{deeper}
-use Rattle.yq_core.specs.PlainText.{begins_marker}
-use Rattle.yq_core.specs.Plain.{holds_break}
-use Rattle.yq_core.specs.Scalar.{ScalarText, string_of}
-use Rattle.yq_core.specs.Text.{is_marker, separates}
-use Rattle.yq_core.specs.Tree as tree
-use Rattle.yq_core.specs.Tree.{Children}
-use Rattle.yq_core.specs.Writable.{can_write, can_write_plain}
-use Rattle.yq_core.specs.Written.{written_scalar, double, IsOneLine}
-use Rattle.yq_core.specs.declared.kind.Kind.{Kind}
-use Rattle.yq_core.specs.declared.style.Place.TheVariants as places
-use Rattle.yq_core.specs.declared.style.Style.{Style}
-use Rattle.yq_core.specs.declared.style.Style.TheVariants as styles
-use Rattle.yq_core.proofs.PlainSpells.{plain_is_text, writable_text}
-use Rattle.yq_core.proofs.WrittenText.{double_is_line, line_is_text}
-use Rattle.yq_core.specs.Inline.{depth_limit}
-use Rattle.yq_core.specs.Nodes as inline
-use Rattle.yq_core.specs.Nodes.{key_text, sep_text, node_text, flow_items_text, IsFlowNode}
-use Rattle.yq_core.specs.Trees.{scalar_node, tree_of}
-use Rattle.yq_flow_edits.specs.Valued.{IsValid, IsLabel, IsValueTree, AreValueTrees, SpellsScalar}
+use Rattle.yq_core.{specs.Characters.pairs_returns, specs.Keys.depth, specs.Piece.deeper, specs.PlainText.begins_marker}
+use Rattle.yq_core.{specs.Plain.holds_break, specs.Scalar.{ScalarText, string_of}, specs.Text.{is_marker, separates}, specs.Tree.Children}
+use Rattle.yq_core.{specs.Writable.{can_write, can_write_plain}, specs.Written.{written_scalar, double, IsOneLine}}
+use Rattle.yq_core.{specs.declared.kind.Kind.Kind, specs.declared.style.Style.Style, proofs.PlainSpells.{plain_is_text, writable_text}}
+use Rattle.yq_core.{proofs.WrittenText.{double_is_line, line_is_text}, specs.Inline.depth_limit}
+use Rattle.yq_core.{specs.Nodes.{key_text, sep_text, node_text, flow_items_text, IsFlowNode}, specs.Trees.{scalar_node, tree_of}}
 use Rattle.yq_core.specs.NodesWritten.{scalar_text, flow_key, flow_sep, flow_of, flow_items, flow_text}
-use Rattle.yq_core.proofs.Alikes.{no_first, no_second, no_third}
-use Rattle.yq_core.proofs.NodesPieceLaws.{front_not}
-use Rattle.yq_flow_edits.proofs.SpelledLaws.{written_node, written_tree}
-use Rattle.yq_flow_edits.proofs.StyledScalars.{styled_spells}
-use Rattle.yq_edits.specs.InlineRows.{IsValueNode}
-use Rattle.yq_edits.specs.TextPieces.{IsPiece}
-use Rattle.yq_edits.proofs.TextPieceLaws.{pieces_joined}
-use Rattle.yq_semantics.specs.Changes.{has_long_key}
+use Rattle.yq_core.{proofs.Alikes.{no_first, no_second, no_third}, proofs.NodesPieceLaws.front_not}
+use Rattle.yq_flow_edits.specs.Valued.{IsValid, IsLabel, IsValueTree, AreValueTrees, SpellsScalar}
+use Rattle.yq_flow_edits.{proofs.SpelledLaws.{written_node, written_tree}, proofs.StyledScalars.styled_spells}
+use Rattle.yq_edits.{specs.InlineRows.IsValueNode, specs.TextPieces.IsPiece, proofs.TextPieceLaws.pieces_joined}
 use Rattle.yq_edits.proofs.FlowWritten.{flow_fits}
+use Rattle.yq_semantics.specs.Changes.{has_long_key}
+use Rattle.yq_core.specs.Tree as tree
+use Rattle.yq_core.specs.declared.style.Place.TheVariants as places
+use Rattle.yq_core.specs.declared.style.Style.TheVariants as styles
+use Rattle.yq_core.specs.Nodes as inline
 
 -- ---- scalars
 

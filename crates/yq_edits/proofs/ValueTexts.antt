@@ -1,26 +1,15 @@
 -- The text of a value that is written on one line is that of its inline node.
 use Rattle.std.proofs.Common.{◌≡◌, ℕ, ◌≤◌, true, false, List, [], Option, refl, append-nil, rules}
-use Rattle.yq_core.specs.Keys.{depth}
-use Rattle.yq_core.specs.Scalar.{ScalarText}
-use Rattle.yq_core.specs.Tree as tree
-use Rattle.yq_core.specs.Tree.{Node}
-use Rattle.yq_core.specs.Writable.{can_write}
-use Rattle.yq_core.specs.Written.{written_scalar, IsOneLine}
-use Rattle.yq_core.specs.declared.style.Place.TheVariants.{Block}
-use Rattle.yq_core.specs.declared.style.Style.{Style}
-use Rattle.yq_core.specs.Inline.{depth_limit}
-use Rattle.yq_core.specs.Nodes as inline
-use Rattle.yq_core.specs.Nodes.{node_text}
-use Rattle.yq_core.specs.Scalars.{scalar_style}
+use Rattle.yq_core.{specs.Keys.depth, specs.Scalar.ScalarText, specs.Tree.Node, specs.Writable.can_write}
+use Rattle.yq_core.{specs.Written.{written_scalar, IsOneLine}, specs.declared.style.Place.TheVariants.Block}
+use Rattle.yq_core.{specs.declared.style.Style.Style, specs.Inline.depth_limit, specs.Nodes.node_text, specs.Scalars.scalar_style}
 use Rattle.yq_core.specs.NodesWritten.{flow_of}
 use Rattle.yq_flow_edits.specs.Valued.{IsValueTree}
-use Rattle.yq_edits.specs.InlineRows.{IsValueNode}
-use Rattle.yq_edits.specs.TextPieces.{IsPiece}
+use Rattle.yq_edits.{specs.InlineRows.IsValueNode, specs.TextPieces.IsPiece, specs.Style.style_in, specs.WrittenValues.value_text}
+use Rattle.yq_edits.{proofs.StyleLaws.{style_writes, style_inline}, proofs.ValueNodes.{scalar_is, list_is, map_is, flow_piece}}
 use Rattle.yq_semantics.specs.Changes.{has_long_key}
-use Rattle.yq_edits.specs.Style.{style_in}
-use Rattle.yq_edits.specs.WrittenValues.{value_text}
-use Rattle.yq_edits.proofs.StyleLaws.{style_writes, style_inline}
-use Rattle.yq_edits.proofs.ValueNodes.{scalar_is, list_is, map_is, flow_piece}
+use Rattle.yq_core.specs.Tree as tree
+use Rattle.yq_core.specs.Nodes as inline
 
 -- A text that is written inline for a value, by its node.
 pub record IsWrittenFor (v : Node) (t : List ℕ) : Type 0 where

@@ -1,7 +1,6 @@
 -- A changed text, told as a tree with the lead that goes with it (own).
 use Rattle.std.specs.Prelude.{◌≡◌, List, [], ◌∷◌, ◌++◌}
-use Rattle.yq_core.specs.Paths.{Step, changed_at, within}
-use Rattle.yq_core.specs.Tree.{Node, Children}
+use Rattle.yq_core.{specs.Paths.{Step, changed_at, within}, specs.Tree.{Node, Children}}
 use Rattle.yq_documents.specs.TreeEdits.{at_end}
 
 -- A change of the items or entries at the end of a path is a change of the node that holds them.

@@ -1,23 +1,14 @@
 -- One item or entry more in a block collection that has some (own).
 use Rattle.std.specs.Prelude.{◌≡◌, ℕ, suc, ◌+◌, List, [], ◌∷◌, ◌++◌, length, true, false}
-use Rattle.yq_core.specs.Keys.{keys_of}
-use Rattle.yq_core.specs.Paths.{Step, append_child, changed_at, within}
-use Rattle.yq_row_table.specs.Exchange.{asked_behind}
-use Rattle.yq_row_table.specs.Grammar.{unlimited, AreRows, no_rows}
-use Rattle.yq_row_table.specs.Rows.{Row, Part, Cut, cut_text}
-use Rattle.yq_row_table.specs.Splices.{behind_first, first_gap}
-use Rattle.yq_row_table.specs.Seams.{ends_in_block, ends_in_line}
-use Rattle.yq_outline.specs.LineAnchors.{HaveOneAnchorEach}
-use Rattle.yq_documents.specs.Documents.{HaveFitKeys, lead_of}
-use Rattle.yq_outline.specs.Lines.{lines_of_rows}
-use Rattle.yq_outline.specs.Outline.{Line, Outline, flatten, children, label}
-use Rattle.yq_outline.specs.Places.{lines_before, content_under}
-use Rattle.yq_documents.specs.Reading.{part_outline}
+use Rattle.yq_core.{specs.Keys.keys_of, specs.Paths.{Step, append_child, changed_at, within}}
+use Rattle.yq_row_table.{specs.Exchange.asked_behind, specs.Grammar.{unlimited, AreRows, no_rows}, specs.Rows.{Row, Part, Cut, cut_text}}
+use Rattle.yq_row_table.{specs.Splices.{behind_first, first_gap}, specs.Seams.{ends_in_block, ends_in_line}}
+use Rattle.yq_outline.{specs.LineAnchors.HaveOneAnchorEach, specs.Lines.lines_of_rows}
+use Rattle.yq_outline.{specs.Outline.{Line, Outline, flatten, children, label}, specs.Places.{lines_before, content_under}}
+use Rattle.yq_documents.{specs.Documents.{HaveFitKeys, lead_of}, specs.Reading.part_outline}
 use Rattle.yq_places.specs.RowPaths.{IsReadable}
-use Rattle.yq_edits.specs.Changed.{IsChanged, put_document}
-use Rattle.yq_edits.specs.SoundRoots.{IsNewValue, IsNewKey}
-use Rattle.yq_edits.specs.Siblings.{NodeLines, IsCollectionAt, EntryFits}
-use Rattle.yq_edits.specs.DocumentRows.{IsDocumentPart, behind_document, put_rows}
+use Rattle.yq_edits.{specs.Changed.{IsChanged, put_document}, specs.SoundRoots.{IsNewValue, IsNewKey}}
+use Rattle.yq_edits.{specs.Siblings.{NodeLines, IsCollectionAt, EntryFits}, specs.DocumentRows.{IsDocumentPart, behind_document, put_rows}}
 
 -- Rows that are written for one more item or entry of a collection at a path of this length: a line at its level and those under it, with a value and a new
 -- key.

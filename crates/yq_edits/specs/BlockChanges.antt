@@ -1,25 +1,15 @@
 -- The operations on block nodes, by the lines that they exchange, add or drop (own).
 use Rattle.std.specs.Prelude.{◌≡◌, ℕ, suc, ◌+◌, ◌<◌, List, [], ◌∷◌, ◌++◌, length, Some, None}
-use Rattle.yq_core.specs.Keys.{keys_of}
-use Rattle.yq_core.specs.Paths.{Step, append_child, changed_at, relabel_child, remove_child, within}
-use Rattle.yq_core.specs.Tree.{Label, Node}
-use Rattle.yq_outline.specs.Comments.{head_comment, line_comment}
-use Rattle.yq_row_table.specs.Rows.{Row, behind_columns, Part, Cut}
-use Rattle.yq_core.specs.Anchors.{names_of}
-use Rattle.yq_outline.specs.LineAnchors.{HaveOneAnchorEach}
-use Rattle.yq_documents.specs.Documents.{lead_of}
-use Rattle.yq_outline.specs.Laws.{with_lines}
-use Rattle.yq_outline.specs.Lines.{lines_from, lines_of_rows}
-use Rattle.yq_outline.specs.Outline.{Line, Outline, flatten, IsEven, label, children, value}
+use Rattle.yq_core.{specs.Keys.keys_of, specs.Paths.{Step, append_child, changed_at, relabel_child, remove_child, within}}
+use Rattle.yq_core.{specs.Tree.{Label, Node}, specs.Anchors.names_of}
+use Rattle.yq_outline.{specs.Comments.{head_comment, line_comment}, specs.LineAnchors.HaveOneAnchorEach, specs.Laws.with_lines}
+use Rattle.yq_outline.{specs.Lines.{lines_from, lines_of_rows}, specs.Outline.{Line, Outline, flatten, IsEven, label, children, value}}
 use Rattle.yq_outline.specs.Places.{lines_before, plug, FoundLine, find, content_under}
-use Rattle.yq_documents.specs.Reading.{part_outline, root_of}
-use Rattle.yq_edits.specs.Changed.{IsChanged, put_document}
-use Rattle.yq_edits.specs.Conditions.{AreSpared}
-use Rattle.yq_edits.specs.Edited.{IsPut, LineFits}
-use Rattle.yq_edits.specs.Moved.{moved_up, emptied_row}
-use Rattle.yq_edits.specs.SoundRoots.{IsNewKey, IsNewValue, MayReplace}
+use Rattle.yq_row_table.specs.Rows.{Row, behind_columns, Part, Cut}
+use Rattle.yq_documents.{specs.Documents.lead_of, specs.Reading.{part_outline, root_of}, specs.TreeEdits.replaced_node}
+use Rattle.yq_edits.{specs.Changed.{IsChanged, put_document}, specs.Conditions.AreSpared, specs.Edited.{IsPut, LineFits}}
+use Rattle.yq_edits.{specs.Moved.{moved_up, emptied_row}, specs.SoundRoots.{IsNewKey, IsNewValue, MayReplace}}
 use Rattle.yq_edits.specs.Siblings.{HasEntries, NodeLines, put_lines, IsCollectionAt, IsEntryAt, EntryFits, IsRelabelled}
-use Rattle.yq_documents.specs.TreeEdits.{replaced_node}
 
 -- An outline may be that of a root, which it stands for.
 pub record RootFits (m : ℕ) (u : Outline) (root : Node) : Type 0 where

@@ -1,31 +1,18 @@
 -- What is promised of the nodes and rows in which values are written in block style (own).
 use Rattle.std.specs.Prelude.{◌≡◌, ℕ, ◌<◌, ◌≤◌, ℤ, Option, Some, List, [], ◌∷◌, ◌++◌, replicate, None, true, false, length}
 use Rattle.std.specs.Str.{IsUtf8, chars}
-use Rattle.yq_core.specs.declared.style.Place.TheVariants.{Block, FlowKey}
-use Rattle.yq_core.specs.BlockWritten.{break_text}
-use Rattle.yq_core.specs.Characters.{is_text}
+use Rattle.yq_core.{specs.declared.style.Place.TheVariants.{Block, FlowKey}, specs.BlockWritten.break_text, specs.Characters.is_text}
+use Rattle.yq_core.{specs.Piece.deeper, specs.Plain.ends_plain, specs.Scalar.string_of, specs.Inline.IsInline}
+use Rattle.yq_core.{specs.NodesWritten.scalar_text, specs.Trees.{node_anchor, node_head}}
 use Rattle.yq_text.specs.Limit.{text_limit}
-use Rattle.yq_core.specs.Piece.{deeper}
-use Rattle.yq_core.specs.Plain.{ends_plain}
-use Rattle.yq_core.specs.Scalar.{string_of}
-use Rattle.yq_core.specs.Tree as tree
-use Rattle.yq_core.specs.Inline.{IsInline}
-use Rattle.yq_core.specs.Nodes as inline
 use Rattle.yq_flow_edits.specs.Valued.{IsValueTree}
-use Rattle.yq_core.specs.NodesWritten.{scalar_text}
-use Rattle.yq_outline.specs.Comments.{line_comment}
-use Rattle.yq_row_table.specs.Exchange.{asked_behind}
-use Rattle.yq_row_table.specs.Grammar.{is_more, Limit, allows, AreRows, key_limit}
-use Rattle.yq_row_table.specs.Rows.{rows_text}
-use Rattle.yq_outline.specs.LineAnchors.{HaveOneAnchorEach}
+use Rattle.yq_outline.{specs.Comments.line_comment, specs.LineAnchors.HaveOneAnchorEach, specs.Lines.lines_of_rows, specs.Outline.Stands}
+use Rattle.yq_row_table.{specs.Exchange.asked_behind, specs.Grammar.{is_more, Limit, allows, AreRows, key_limit}, specs.Rows.rows_text}
 use Rattle.yq_documents.specs.Documents.{HasFitKeys, HaveFitKeys, ReadsDocuments}
-use Rattle.yq_core.specs.Trees.{node_anchor, node_head}
-use Rattle.yq_outline.specs.Lines.{lines_of_rows}
-use Rattle.yq_outline.specs.Outline.{Stands}
-use Rattle.yq_edits.specs.declared.layout.Layout.{Layout}
-use Rattle.yq_edits.specs.BlockRows.{inline_of, column_below, node_rows}
-use Rattle.yq_edits.specs.BlockText.{block_value}
+use Rattle.yq_edits.{specs.declared.layout.Layout.Layout, specs.BlockRows.{inline_of, column_below, node_rows}, specs.BlockText.block_value}
 use Rattle.yq_edits.specs.BlockValues.{IsFilled, IsFilledValue, IsNear, IsWritable, MayBeRoot, entry_level, level_at}
+use Rattle.yq_core.specs.Tree as tree
+use Rattle.yq_core.specs.Nodes as inline
 
 -- An inline node is a value's: it is one below any parent, before any rest at which a plain scalar ends; it stands for the value and has no anchor; it may
 -- stand alone on its line; and its keys are fit (own).

@@ -1,17 +1,13 @@
 -- Rows that are put in the place of others, and values that are written there (own).
 use Rattle.std.specs.Prelude.{◌≡◌, ℕ, ◌≤◌, List, [], ◌∷◌, ◌++◌, true, false, Some}
-use Rattle.yq_core.specs.Text.{separates}
-use Rattle.yq_core.specs.Tree as tree
-use Rattle.yq_core.specs.Alike.{Alike}
-use Rattle.yq_row_table.specs.Alone.{holds_nothing}
-use Rattle.yq_row_table.specs.Exchange.{asked_behind, with_content}
-use Rattle.yq_row_table.specs.Grammar.{IsContent, is_entry, Limit, allows, IsRow, AreRows}
-use Rattle.yq_row_table.specs.Joined.{dashed_row, compact_row}
+use Rattle.yq_core.{specs.Text.separates, specs.Alike.Alike}
+use Rattle.yq_row_table.{specs.Alone.holds_nothing, specs.Exchange.{asked_behind, with_content}}
+use Rattle.yq_row_table.{specs.Grammar.{IsContent, is_entry, Limit, allows, IsRow, AreRows}, specs.Joined.{dashed_row, compact_row}}
 use Rattle.yq_row_table.specs.Rows.{Dash, Content, Nothing, content_text, Row, parent_indent, mark_column, print_row, rows_text}
 use Rattle.yq_outline.specs.Lines.{row_lines, lines_of_rows}
-use Rattle.yq_edits.specs.declared.layout.Layout.{Layout}
-use Rattle.yq_edits.specs.BlockRows.{item_column, node_rows}
+use Rattle.yq_edits.{specs.declared.layout.Layout.Layout, specs.BlockRows.{item_column, node_rows}}
 use Rattle.yq_edits.specs.BlockValues.{IsFilledValue, IsWritable}
+use Rattle.yq_core.specs.Tree as tree
 
 -- rows of which the first one stands on the line of a row's dash, behind a space (YAML 1.2.2, section 8.2.1)
 abbrev pub compact_rows : Row → List Row → List Row

@@ -1,11 +1,9 @@
 -- Reading (own; a reader may skip it): items and entries in block style, one behind the other.
-use Rattle.std.specs.Prelude.{ℕ, ◌+◌, List, [], ◌∷◌, ◌++◌, Bool, true, false, replicate, map, if◌then◌else◌}
-use Rattle.std.specs.Option.{is_none}
+use Rattle.std.{specs.Prelude.{ℕ, ◌+◌, List, [], ◌∷◌, ◌++◌, Bool, true, false, replicate, map, if◌then◌else◌}, specs.Option.is_none}
 use Rattle.yq_core.specs.BlockWritten.{break_text}
-use Rattle.yq_core.specs.Tree as tree
-use Rattle.yq_edits.specs.declared.layout.Layout.{Layout}
-use Rattle.yq_edits.specs.BlockRows.{inline_of, block_key, indent_step, item_column}
+use Rattle.yq_edits.{specs.declared.layout.Layout.Layout, specs.BlockRows.{inline_of, block_key, indent_step, item_column}}
 use Rattle.yq_edits.specs.BlockText.{block_value}
+use Rattle.yq_core.specs.Tree as tree
 
 -- a break, and the spaces before a line (own)
 abbrev pub break_and_indent : Layout → ℕ → List ℕ

@@ -1,14 +1,11 @@
 -- The rows in which values are written in block style (YAML 1.2.2, sections 8.2.1 and 8.2.2).
 use Rattle.std.specs.Prelude.{ℕ, ◌+◌, List, [], ◌∷◌, ◌++◌, Option, Some, None}
-use Rattle.yq_core.specs.declared.style.Place.TheVariants as places
-use Rattle.yq_core.specs.BlockWritten.{break_text}
-use Rattle.yq_core.specs.Scalar.{string_of}
-use Rattle.yq_core.specs.Tree as tree
-use Rattle.yq_core.specs.Tree.{Children}
-use Rattle.yq_core.specs.Nodes as inline
-use Rattle.yq_core.specs.NodesWritten.{scalar_text}
+use Rattle.yq_core.{specs.BlockWritten.break_text, specs.Scalar.string_of, specs.Tree.Children, specs.NodesWritten.scalar_text}
 use Rattle.yq_row_table.specs.Rows.{Dash, Key, Content, Nothing, Inline, Row, behind_columns}
 use Rattle.yq_edits.specs.declared.layout.Layout.{Layout}
+use Rattle.yq_core.specs.declared.style.Place.TheVariants as places
+use Rattle.yq_core.specs.Tree as tree
+use Rattle.yq_core.specs.Nodes as inline
 
 -- the inline node as which a value is written: a scalar, plain if it can be, or an empty collection; others are written in rows (own)
 abbrev pub inline_of : tree.Node → Option inline.FlowNode

@@ -1,12 +1,9 @@
 -- The text of values in block style, without rows (YAML 1.2.2, sections 8.2.1 and 8.2.2).
 use Rattle.std.specs.Prelude.{ℕ, List, [], ◌∷◌, ◌++◌, replicate, Option, Some, None}
-use Rattle.yq_core.specs.BlockWritten.{break_text}
+use Rattle.yq_core.{specs.BlockWritten.break_text, specs.Tree.Children, specs.Nodes.node_text}
+use Rattle.yq_edits.{specs.declared.layout.Layout.Layout, specs.BlockRows.{inline_of, block_key, column_below}}
 use Rattle.yq_core.specs.Tree as tree
-use Rattle.yq_core.specs.Tree.{Children}
 use Rattle.yq_core.specs.Nodes as inline
-use Rattle.yq_core.specs.Nodes.{node_text}
-use Rattle.yq_edits.specs.declared.layout.Layout.{Layout}
-use Rattle.yq_edits.specs.BlockRows.{inline_of, block_key, column_below}
 
 -- a break, the spaces up to a column, and the text of these items or entries on the lines there; nothing where there are none (own)
 abbrev pub then_lines : Layout → ℕ → Children → List ℕ → List ℕ

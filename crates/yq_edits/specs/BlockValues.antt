@@ -1,14 +1,10 @@
 -- What is asked of a value and of its place, so that it can be written in block style.
-use Rattle.std.specs.Prelude.{◌≡◌, ℕ, suc, ◌+◌, ◌*◌, ◌≤◌, List, ◌++◌, true, false, Option, Some, None, ⊤, length}
-use Rattle.std.specs.Str.{chars}
-use Rattle.yq_core.specs.Keys.{HasUniqueKeys, depth}
-use Rattle.yq_core.specs.Plain.{ends_plain}
-use Rattle.yq_core.specs.Tree as tree
-use Rattle.yq_core.specs.Tree.{Children}
-use Rattle.yq_core.specs.Inline.{depth_limit}
+use Rattle.std.{specs.Prelude.{◌≡◌, ℕ, suc, ◌+◌, ◌*◌, ◌≤◌, List, ◌++◌, true, false, Option, Some, None, ⊤, length}, specs.Str.chars}
+use Rattle.yq_core.{specs.Keys.{HasUniqueKeys, depth}, specs.Plain.ends_plain, specs.Tree.Children, specs.Inline.depth_limit}
 use Rattle.yq_flow_edits.specs.Valued.{IsValueTree}
 use Rattle.yq_row_table.specs.Grammar.{IsTail, key_limit}
 use Rattle.yq_edits.specs.BlockRows.{block_key}
+use Rattle.yq_core.specs.Tree as tree
 
 -- a sequence or a mapping (YAML 1.2.2, section 3.2.1.1)
 abbrev pub IsCollection : tree.Node → Type 0

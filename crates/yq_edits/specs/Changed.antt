@@ -1,21 +1,11 @@
 -- Texts in which one document has other rows, and what they read as (own).
-use Rattle.std.specs.Prelude.{◌≡◌, ℕ, zero, suc, ◌≤◌, List, [], ◌∷◌, slice_get, Some, true}
-use Rattle.std.specs.Str.{is_utf8}
-use Rattle.yq_core.specs.Keys.{HasUniqueKeys, depth}
-use Rattle.yq_core.specs.Tree.{Node}
-use Rattle.yq_core.specs.Inline.{depth_limit}
-use Rattle.yq_outline.specs.Comments.{head_comment}
-use Rattle.yq_row_table.specs.Grammar.{IsCut, no_rows}
-use Rattle.yq_row_table.specs.Rows.{Part, Cut, last, marked, cut_text}
-use Rattle.yq_core.specs.Anchors.{names_of, AreBound}
-use Rattle.yq_outline.specs.LineAnchors.{HaveOneAnchorEach}
+use Rattle.std.{specs.Prelude.{◌≡◌, ℕ, zero, suc, ◌≤◌, List, [], ◌∷◌, slice_get, Some, true}, specs.Str.is_utf8}
+use Rattle.yq_core.{specs.Keys.{HasUniqueKeys, depth}, specs.Tree.Node, specs.Inline.depth_limit, specs.Anchors.{names_of, AreBound}}
+use Rattle.yq_outline.{specs.Comments.head_comment, specs.LineAnchors.HaveOneAnchorEach, specs.Lines.lines_of_rows, specs.Outline.Line}
+use Rattle.yq_row_table.{specs.Grammar.{IsCut, no_rows}, specs.Rows.{Part, Cut, last, marked, cut_text}}
 use Rattle.yq_documents.specs.Documents.{Document, HaveFitKeys, HasShortRoot, IsDocument, document_parts, lead_of}
-use Rattle.yq_documents.specs.PartNumbers.{part_number}
-use Rattle.yq_outline.specs.Lines.{lines_of_rows}
-use Rattle.yq_outline.specs.Outline.{Line}
-use Rattle.yq_documents.specs.Reading.{documents, read_at, root_of}
+use Rattle.yq_documents.{specs.PartNumbers.part_number, specs.Reading.{documents, read_at, root_of}, specs.TreeEdits.change_nth}
 use Rattle.yq_edits.specs.Siblings.{StandsSomewhere}
-use Rattle.yq_documents.specs.TreeEdits.{change_nth}
 
 -- a cut with another part i, or another last one
 abbrev pub put_part : ℕ → Part → Cut → Cut

@@ -2,14 +2,10 @@
 use Rattle.std.specs.Prelude.{◌≡◌, ℕ, ◌+◌, List, ◌∷◌, ◌++◌, [], length}
 use Rattle.yq_core.specs.Paths.{Step}
 use Rattle.yq_row_table.specs.Rows.{Row, rows_text, Part, part_text, Cut, cut_text}
-use Rattle.yq_outline.specs.Outline.{Outline, end, row, flatten}
-use Rattle.yq_outline.specs.Places.{lines_before}
+use Rattle.yq_outline.{specs.Outline.{Outline, end, row, flatten}, specs.Places.lines_before, specs.Lines.lines_of_rows}
 use Rattle.yq_places.specs.CollectionEnds.{CollectionEnd, is_broken}
-use Rattle.yq_outline.specs.Lines.{lines_of_rows}
 use Rattle.yq_documents.specs.Reading.{part_outline}
-use Rattle.yq_edits.specs.Changed.{put_document}
-use Rattle.yq_edits.specs.DocumentRows.{behind_document}
-use Rattle.yq_edits.specs.Siblings.{NodeLines, IsCollectionAt}
+use Rattle.yq_edits.{specs.Changed.put_document, specs.DocumentRows.behind_document, specs.Siblings.{NodeLines, IsCollectionAt}}
 
 -- the first of lines begins at a column
 abbrev pub BeginsAt : ℕ → Outline → Type 0

@@ -1,12 +1,9 @@
 -- Where rows may stand, by the levels of lines (own).
 use Rattle.std.specs.Prelude.{◌≡◌, ℕ, ◌<◌, List, [], ◌∷◌, ◌++◌, Some, true, false}
 use Rattle.yq_core.specs.Block.{BlockText}
-use Rattle.yq_row_table.specs.Exchange.{allows_first, asked_behind}
-use Rattle.yq_row_table.specs.Grammar.{Limit, AreRows, no_rows}
-use Rattle.yq_row_table.specs.Rows.{Row}
+use Rattle.yq_row_table.{specs.Exchange.{allows_first, asked_behind}, specs.Grammar.{Limit, AreRows, no_rows}, specs.Rows.Row}
 use Rattle.yq_row_table.specs.Removal.{last_block, next_column, StandsLess}
-use Rattle.yq_outline.specs.Lines.{lines_of_rows}
-use Rattle.yq_outline.specs.Outline.{Line, level}
+use Rattle.yq_outline.{specs.Lines.lines_of_rows, specs.Outline.{Line, level}}
 use Rattle.yq_edits.specs.LineRows.{AreClosed, AreDeep, Begins, StandApart}
 
 -- Behind rows whose lines are all deeper than the next row's first one, that row may stand.

@@ -1,12 +1,8 @@
 -- LineComment and HeadComment: what is exchanged, by what stands at the place (YAML 1.2.2, 6.6; own).
 use Rattle.std.specs.Prelude.{ℕ, ◌==◌, ◌&&◌, not, List, [], ◌∷◌, ◌++◌, length, replicate, Option, Some, None, if◌then◌else◌}
-use Rattle.yq_core.specs.Answers.{◌>>=◌}
-use Rattle.yq_core.specs.BlockWritten.{break_text}
-use Rattle.yq_core.specs.Paths.{Step}
-use Rattle.yq_core.specs.Text.{is_empty}
+use Rattle.yq_core.{specs.Answers.◌>>=◌, specs.BlockWritten.break_text, specs.Paths.Step, specs.Text.is_empty}
 use Rattle.yq_row_table.specs.Rows.{Cut, behind_gap, cut_text, rows_text}
-use Rattle.yq_places.specs.CommentPlaces.{LinesAbove, gap_above}
-use Rattle.yq_places.specs.FirstBreak.{first_break}
+use Rattle.yq_places.{specs.CommentPlaces.{LinesAbove, gap_above}, specs.FirstBreak.first_break}
 use Rattle.yq_places.specs.Standings.{Held, RowsOfEntry, before_entry, behind_entry, held, rows_of_entry}
 use Rattle.yq_semantics.specs.Meaning.{head_comment_lines}
 use Rattle.yq_text.specs.Script.{Segment, keep, put}

@@ -1,11 +1,8 @@
 -- What is asked of a whole document, where one node of it is changed (own).
 use Rattle.std.specs.Prelude.{◌≡◌, ℕ, ◌+◌, ◌≤◌, List, [], ◌∷◌, ◌++◌, length, Option, Some, None, ⊤}
-use Rattle.yq_core.specs.Keys.{HasUniqueKeys, depth}
-use Rattle.yq_core.specs.Paths.{Step, node_at, changed_at}
-use Rattle.yq_core.specs.Tree.{Node}
+use Rattle.yq_core.{specs.Keys.{HasUniqueKeys, depth}, specs.Paths.{Step, node_at, changed_at}, specs.Tree.Node}
 use Rattle.yq_core.specs.Anchors.{Name, Anchors, Refers, names_of, IsAmong, AreBound}
-use Rattle.yq_outline.specs.LineAnchors.{IsFree, HaveOneAnchorEach}
-use Rattle.yq_outline.specs.Outline.{Line, Outline, IsEven}
+use Rattle.yq_outline.{specs.LineAnchors.{IsFree, HaveOneAnchorEach}, specs.Outline.{Line, Outline, IsEven}}
 use Rattle.yq_outline.specs.Places.{lines_before, lines_after}
 use Rattle.yq_edits.specs.Siblings.{IsEntry, NodeLines, lines_at}
 

@@ -1,22 +1,14 @@
 -- What is written behind the mark of one row gives way to a value (own).
 use Rattle.std.specs.Prelude.{◌≡◌, ℕ, suc, ◌+◌, List, [], ◌∷◌, ◌++◌, length, Some, None, false}
-use Rattle.yq_core.specs.Paths.{Step, changed_at}
-use Rattle.yq_core.specs.Tree.{Node}
-use Rattle.yq_outline.specs.Comments.{line_comment}
-use Rattle.yq_outline.specs.Outline.{flatten}
-use Rattle.yq_outline.specs.Places.{lines_before, FoundLine, find, content_under}
-use Rattle.yq_row_table.specs.Exchange.{asked_behind, with_content}
-use Rattle.yq_row_table.specs.Grammar.{unlimited}
-use Rattle.yq_row_table.specs.Rows.{Bare, Content, Row, rows_text, Part, Cut, cut_text}
-use Rattle.yq_row_table.specs.SpliceFits.{StandsFor}
-use Rattle.yq_documents.specs.Documents.{ContentHasFitKeys, is_long_plain, lead_of}
+use Rattle.yq_core.{specs.Paths.{Step, changed_at}, specs.Tree.Node}
+use Rattle.yq_outline.{specs.Comments.line_comment, specs.Outline.flatten, specs.Places.{lines_before, FoundLine, find, content_under}}
 use Rattle.yq_outline.specs.Lines.{content_anchor, head_of, tail_of, lines_of_rows}
-use Rattle.yq_documents.specs.Reading.{part_outline, root_of}
-use Rattle.yq_places.specs.RowPaths.{IsReadable}
+use Rattle.yq_row_table.{specs.Exchange.{asked_behind, with_content}, specs.Grammar.unlimited}
+use Rattle.yq_row_table.{specs.Rows.{Bare, Content, Row, rows_text, Part, Cut, cut_text}, specs.SpliceFits.StandsFor}
+use Rattle.yq_documents.{specs.Documents.{ContentHasFitKeys, is_long_plain, lead_of}, specs.Reading.{part_outline, root_of}}
 use Rattle.yq_documents.specs.TreeEdits.{replaced_node}
-use Rattle.yq_edits.specs.Appends.{inserted}
-use Rattle.yq_edits.specs.Changed.{IsChanged, put_document}
-use Rattle.yq_edits.specs.DocumentRows.{IsDocumentPart, behind_document}
+use Rattle.yq_places.specs.RowPaths.{IsReadable}
+use Rattle.yq_edits.{specs.Appends.inserted, specs.Changed.{IsChanged, put_document}, specs.DocumentRows.{IsDocumentPart, behind_document}}
 use Rattle.yq_edits.specs.SoundRoots.{MayReplace}
 
 -- a part in which one row has another content

@@ -1,10 +1,8 @@
 -- A document of a cut among the items of that, which are its rows and the ends of its parts, in order (own).
 use Rattle.std.specs.Prelude.{◌≡◌, ℕ, List, [], ◌∷◌, ◌++◌, slice_get, Some}
-use Rattle.yq_row_table.specs.Items.{Item, end_item, rows_items, items_of_cut, items_text}
-use Rattle.yq_row_table.specs.Rows.{Part, Cut}
+use Rattle.yq_row_table.{specs.Items.{Item, end_item, rows_items, items_of_cut, items_text}, specs.Rows.{Part, Cut}}
 use Rattle.yq_documents.specs.Documents.{document_parts}
-use Rattle.yq_edits.specs.Changed.{put_document}
-use Rattle.yq_edits.specs.DocumentRows.{behind_document}
+use Rattle.yq_edits.{specs.Changed.put_document, specs.DocumentRows.behind_document}
 
 -- Document k of a cut stands among items, and so does another part that is put in its place; all other items stay.
 pub record HasItems (c : Cut) (k : ℕ) (p : Part) : Type 0 where

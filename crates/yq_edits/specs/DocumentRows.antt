@@ -1,15 +1,12 @@
 -- Rows of one document exchanged in a cut (own).
 use Rattle.std.specs.Prelude.{◌≡◌, ℕ, ◌+◌, true, false, List, ◌++◌, length, slice_get, Some}
-use Rattle.yq_row_table.specs.Exchange.{allows_first, asked_behind}
-use Rattle.yq_row_table.specs.Grammar.{unlimited, AreRows, IsCut, no_rows}
+use Rattle.yq_row_table.{specs.Exchange.{allows_first, asked_behind}, specs.Grammar.{unlimited, AreRows, IsCut, no_rows}}
 use Rattle.yq_row_table.specs.Rows.{Row, rows_text, Part, Cut, cut_text}
 use Rattle.yq_row_table.specs.Splices.{with_first_gap, end_gap, behind_first, splice_part, splice, nth_part, behind_part}
 use Rattle.yq_row_table.specs.Seams.{are_seamed}
-use Rattle.yq_documents.specs.Documents.{IsDocument, document_parts}
-use Rattle.yq_documents.specs.PartNumbers.{part_number}
-use Rattle.yq_outline.specs.Group.{level_or}
-use Rattle.yq_outline.specs.Outline.{IsEven}
+use Rattle.yq_documents.{specs.Documents.{IsDocument, document_parts}, specs.PartNumbers.part_number}
 use Rattle.yq_documents.specs.Reading.{part_document, part_outline, read_at}
+use Rattle.yq_outline.{specs.Group.level_or, specs.Outline.IsEven}
 use Rattle.yq_places.specs.RowPaths.{IsReadable}
 use Rattle.yq_edits.specs.Changed.{put_document}
 

@@ -1,19 +1,13 @@
 -- One document of a text in the place of another, as an operation makes it (own).
 use Rattle.std.specs.Prelude.{◌≡◌, ℕ, ◌≤◌, List, [], ◌∷◌, length, slice_get, Some, ⊤}
-use Rattle.yq_text.specs.Limit.{text_limit}
+use Rattle.yq_text.{specs.Limit.text_limit, specs.Script.{Segment, keep, put, new_text}}
 use Rattle.yq_core.specs.Tree.{Node}
 use Rattle.yq_row_table.specs.Rows.{Part, Cut, cut_text}
-use Rattle.yq_documents.specs.Documents.{document_parts, lead_of}
-use Rattle.yq_documents.specs.Reading.{read_at, root_of}
+use Rattle.yq_documents.{specs.Documents.{document_parts, lead_of}, specs.Reading.{read_at, root_of}}
 use Rattle.yq_places.specs.RowPaths.{IsReadable}
-use Rattle.yq_edits.specs.Changed.{IsChanged, KeepsRows, put_document}
-use Rattle.yq_edits.specs.Rooms.{is_block_root, LeadGoes, EqualRoom}
-use Rattle.yq_edits.specs.TextPieces.{IsPiece}
-use Rattle.yq_semantics.specs.After.{op_document, root_after}
-use Rattle.yq_semantics.specs.Operations.{Operation}
-use Rattle.yq_semantics.specs.RoomsKept.{KeepsBlock, SetsComment}
-use Rattle.yq_text.specs.Script.{Segment, keep, put, new_text}
-use Rattle.yq_edits.specs.ReadsAfter.{ReadsAfter}
+use Rattle.yq_edits.{specs.Changed.{IsChanged, KeepsRows, put_document}, specs.Rooms.{is_block_root, LeadGoes, EqualRoom}}
+use Rattle.yq_edits.{specs.TextPieces.IsPiece, specs.ReadsAfter.ReadsAfter}
+use Rattle.yq_semantics.{specs.After.{op_document, root_after}, specs.Operations.Operation, specs.RoomsKept.{KeepsBlock, SetsComment}}
 
 -- The document of an operation has part p, and with part q for it the text reads so that this document is as the operation makes it (own).
 pub record IsDone (op : Operation) (c : Cut) (p q : Part) (lead : List (List ℕ)) (f : Node → Node) : Type 0 where

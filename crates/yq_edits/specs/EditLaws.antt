@@ -1,32 +1,18 @@
 -- What is owed of the segments that an operation exchanges, by what stands at its place (own).
 use Rattle.std.specs.Prelude.{◌≡◌, ◌⊎◌, ℕ, ◌≤◌, List, [], ◌∷◌, length, Option, Some, true, false}
-use Rattle.yq_core.specs.Answers.{◌>>=◌}
-use Rattle.yq_core.specs.BlockWritten.{break_text}
-use Rattle.yq_text.specs.Limit.{text_limit}
-use Rattle.yq_core.specs.Paths.{Step}
-use Rattle.yq_core.specs.Tree.{Node}
-use Rattle.yq_core.specs.Collections.{CollPieces}
+use Rattle.yq_core.{specs.Answers.◌>>=◌, specs.BlockWritten.break_text, specs.Paths.Step, specs.Tree.Node, specs.Collections.CollPieces}
+use Rattle.yq_text.{specs.Limit.text_limit, specs.Script.{Segment, AllStay, keep, new_text, old_text}}
 use Rattle.yq_row_table.specs.Rows.{Cut, cut_text}
 use Rattle.yq_documents.specs.Reading.{documents, read_at}
-use Rattle.yq_places.specs.FirstBreak.{first_break}
-use Rattle.yq_places.specs.FlowNodes.{flow_collection}
-use Rattle.yq_places.specs.NodesAt.{node_in}
+use Rattle.yq_places.{specs.FirstBreak.first_break, specs.FlowNodes.flow_collection, specs.NodesAt.node_in}
 use Rattle.yq_places.specs.RemovalPlaces.{has_others_at}
 use Rattle.yq_places.specs.Standings.{FlowPart, RowsOfEntry, Standing, flow_standing, last_step, rows_of_entry, standing_at}
-use Rattle.yq_semantics.specs.Fits.{Fits}
-use Rattle.yq_semantics.specs.Operations.{Operation, replace, append, remove, line_comment, head_comment}
+use Rattle.yq_semantics.{specs.Fits.Fits, specs.Operations.{Operation, replace, append, remove, line_comment, head_comment}}
 use Rattle.yq_semantics.specs.Rooms.{room_of}
-use Rattle.yq_text.specs.Script.{Segment, AllStay, keep, new_text, old_text}
-use Rattle.yq_edits.specs.CommentEdits.{head_comment_put, line_comment_put}
-use Rattle.yq_edits.specs.Edits.{appended, op_edits, empty_collection}
-use Rattle.yq_edits.specs.EntryEdits.{block_more, one_removed}
-use Rattle.yq_edits.specs.FlowParts.{flow_more, flow_put, flow_removed}
-use Rattle.yq_edits.specs.Layouts.{layout_of}
-use Rattle.yq_edits.specs.Local.{IsLocalTo}
-use Rattle.yq_edits.specs.Operands.{HasOperand}
-use Rattle.yq_edits.specs.ReplaceEdits.{has_text, value_put}
-use Rattle.yq_edits.specs.Replacing.{keeps_scalar}
-use Rattle.yq_edits.specs.ReadsAfter.{ReadsAfter}
+use Rattle.yq_edits.{specs.CommentEdits.{head_comment_put, line_comment_put}, specs.Edits.{appended, op_edits, empty_collection}}
+use Rattle.yq_edits.{specs.EntryEdits.{block_more, one_removed}, specs.FlowParts.{flow_more, flow_put, flow_removed}}
+use Rattle.yq_edits.{specs.Layouts.layout_of, specs.Local.IsLocalTo, specs.Operands.HasOperand, specs.ReplaceEdits.{has_text, value_put}}
+use Rattle.yq_edits.{specs.Replacing.keeps_scalar, specs.ReadsAfter.ReadsAfter}
 
 -- Segments make a text that reads as the documents after an operation, and exchange only the items that they touch; or all bytes stay.
 pub record CarriedOut (op : Operation) (c : Cut) (ss : List Segment) : Type 0 where

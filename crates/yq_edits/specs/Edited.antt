@@ -1,23 +1,17 @@
 -- What texts with other lines in one document read as (own).
-use Rattle.std.specs.Prelude.{◌≡◌, ℕ, ◌<◌, List, [], ◌∷◌, ◌++◌, slice_get, Option, Some, None, true}
-use Rattle.std.specs.Str.{is_utf8}
+use Rattle.std.{specs.Prelude.{◌≡◌, ℕ, ◌<◌, List, [], ◌∷◌, ◌++◌, slice_get, Option, Some, None, true}, specs.Str.is_utf8}
 use Rattle.yq_core.specs.Paths.{Step, append_child, changed_at, node_at, relabel_child, remove_child, within}
 use Rattle.yq_core.specs.Tree.{Label, Node, Children, none, child, children_of}
-use Rattle.yq_row_table.specs.Grammar.{IsCut}
-use Rattle.yq_row_table.specs.Rows.{Part, Cut, cut_text}
-use Rattle.yq_outline.specs.LineAnchors.{IsFree, HaveOneAnchorEach}
-use Rattle.yq_documents.specs.Documents.{HaveFitKeys, HasShortRoot, document_parts, lead_of}
-use Rattle.yq_outline.specs.Group.{level_or}
-use Rattle.yq_outline.specs.Laws.{with_lines}
+use Rattle.yq_row_table.{specs.Grammar.IsCut, specs.Rows.{Part, Cut, cut_text}}
+use Rattle.yq_outline.{specs.LineAnchors.{IsFree, HaveOneAnchorEach}, specs.Group.level_or, specs.Laws.with_lines}
 use Rattle.yq_outline.specs.Lines.{lines_of_rows}
 use Rattle.yq_outline.specs.Outline.{Line, level, Outline, end, row, flatten, IsOpen, IsWhole, IsEven, anchored, label, value}
 use Rattle.yq_outline.specs.Places.{lines_before, plug, FoundLine, find, content_under}
-use Rattle.yq_documents.specs.Reading.{part_outline, read_at, root_of}
-use Rattle.yq_edits.specs.Changed.{IsChanged, KeepsRows, put_document}
-use Rattle.yq_edits.specs.Conditions.{last_anchor}
-use Rattle.yq_edits.specs.SoundRoots.{IsSoundRoot}
-use Rattle.yq_edits.specs.Siblings.{HasEntries, NodeLines, lines_at, put_lines, IsCollectionAt, IsEntryAt, LinesFit, EntryFits, IsRelabelled}
-use Rattle.yq_documents.specs.TreeEdits.{headed}
+use Rattle.yq_documents.specs.Documents.{HaveFitKeys, HasShortRoot, document_parts, lead_of}
+use Rattle.yq_documents.{specs.Reading.{part_outline, read_at, root_of}, specs.TreeEdits.headed}
+use Rattle.yq_edits.{specs.Changed.{IsChanged, KeepsRows, put_document}, specs.Conditions.last_anchor, specs.SoundRoots.IsSoundRoot}
+use Rattle.yq_edits.specs.Siblings.{HasEntries, NodeLines, lines_at, put_lines, IsCollectionAt, IsEntryAt, LinesFit, EntryFits}
+use Rattle.yq_edits.specs.Siblings.{IsRelabelled}
 
 -- A text reads as a cut, and another one has that cut with part q for part p of document k; its rows have fit keys and a short root.
 pub record IsPut (t : List ℕ) (c : Cut) (k : ℕ) (p q : Part) : Type 0 where

@@ -1,21 +1,13 @@
 -- What each operation exchanges, by its kind and by what stands at its place: the tables of docs/STYLE-AND-EXTENTS.md (own).
-use Rattle.std.specs.Option.{option_or}
-use Rattle.std.specs.Prelude.{ℕ, List, [], ◌∷◌, Option, Some, None, option_map, if◌then◌else◌}
-use Rattle.yq_core.specs.Answers.{◌>>=◌}
-use Rattle.yq_core.specs.Paths.{Step}
-use Rattle.yq_core.specs.Tree.{Node, alias, scalar, list, map, none}
+use Rattle.std.{specs.Option.option_or, specs.Prelude.{ℕ, List, [], ◌∷◌, Option, Some, None, option_map, if◌then◌else◌}}
+use Rattle.yq_core.{specs.Answers.◌>>=◌, specs.Paths.Step, specs.Tree.{Node, alias, scalar, list, map, none}}
 use Rattle.yq_row_table.specs.Rows.{Cut, cut_text}
-use Rattle.yq_places.specs.FlowNodes.{flow_collection}
-use Rattle.yq_places.specs.NodesAt.{node_in}
-use Rattle.yq_places.specs.RemovalPlaces.{has_others_at}
+use Rattle.yq_places.{specs.FlowNodes.flow_collection, specs.NodesAt.node_in, specs.RemovalPlaces.has_others_at}
 use Rattle.yq_places.specs.Standings.{flow_standing, last_step}
 use Rattle.yq_semantics.specs.Operations.{Operation, replace, append, remove, line_comment, head_comment}
 use Rattle.yq_text.specs.Script.{Segment, keep}
-use Rattle.yq_edits.specs.CommentEdits.{head_comment_at, line_comment_at}
-use Rattle.yq_edits.specs.EntryEdits.{more_at, one_removed}
-use Rattle.yq_edits.specs.FlowParts.{flow_more, flow_put, flow_removed}
-use Rattle.yq_edits.specs.ReplaceEdits.{value_put_at}
-use Rattle.yq_edits.specs.Replacing.{keeps_scalar}
+use Rattle.yq_edits.{specs.CommentEdits.{head_comment_at, line_comment_at}, specs.EntryEdits.{more_at, one_removed}}
+use Rattle.yq_edits.{specs.FlowParts.{flow_more, flow_put, flow_removed}, specs.ReplaceEdits.value_put_at, specs.Replacing.keeps_scalar}
 
 -- Replace: an equal scalar leaves the bytes alone; else by what stands there outside flow collections, or by the part of one
 abbrev pub replace_segments : ℕ → List Step → Node → Cut → Option (List Segment)

@@ -1,18 +1,12 @@
 -- One item or entry more at the end of a text without a final break (own).
 use Rattle.std.specs.Prelude.{◌≡◌, ℕ, ◌+◌, List, [], ◌∷◌, ◌++◌, length}
 use Rattle.yq_core.specs.Paths.{Step, append_child, changed_at, within}
-use Rattle.yq_row_table.specs.Grammar.{AreRows, limit_after}
-use Rattle.yq_row_table.specs.Rows.{Row, Part, Cut, cut_text}
+use Rattle.yq_row_table.{specs.Grammar.{AreRows, limit_after}, specs.Rows.{Row, Part, Cut, cut_text}}
 use Rattle.yq_row_table.specs.Appending.{closed_by, TakesBreak}
-use Rattle.yq_documents.specs.Documents.{lead_of}
-use Rattle.yq_outline.specs.Lines.{lines_of_rows}
-use Rattle.yq_outline.specs.Outline.{Line, Outline, flatten, label}
-use Rattle.yq_outline.specs.Places.{lines_before, content_under}
-use Rattle.yq_documents.specs.Reading.{part_outline}
+use Rattle.yq_documents.{specs.Documents.lead_of, specs.Reading.part_outline}
+use Rattle.yq_outline.{specs.Lines.lines_of_rows, specs.Outline.{Line, Outline, flatten, label}, specs.Places.{lines_before, content_under}}
 use Rattle.yq_places.specs.RowPaths.{IsReadable}
-use Rattle.yq_edits.specs.Changed.{IsChanged, put_document}
-use Rattle.yq_edits.specs.Siblings.{NodeLines, IsCollectionAt}
-use Rattle.yq_edits.specs.Appends.{AreAppendedRows}
+use Rattle.yq_edits.{specs.Changed.{IsChanged, put_document}, specs.Siblings.{NodeLines, IsCollectionAt}, specs.Appends.AreAppendedRows}
 use Rattle.yq_edits.specs.DocumentRows.{IsDocumentPart, behind_document, put_rows}
 
 -- a part whose last row gets a break, and rows behind it

@@ -1,23 +1,13 @@
 -- Append and Remove: what is exchanged, by what stands at the place (YAML 1.2.2, 8.2; own).
-use Rattle.std.specs.Option.{option_or}
-use Rattle.std.specs.Prelude.{ℕ, not, List, [], ◌∷◌, ◌++◌, replicate, Option, Some, None, option_map}
-use Rattle.yq_core.specs.Answers.{◌>>=◌}
-use Rattle.yq_core.specs.BlockWritten.{break_text}
-use Rattle.yq_core.specs.Paths.{Step}
-use Rattle.yq_core.specs.Text.{is_empty}
-use Rattle.yq_core.specs.Tree.{Node}
+use Rattle.std.{specs.Option.option_or, specs.Prelude.{ℕ, not, List, [], ◌∷◌, ◌++◌, replicate, Option, Some, None, option_map}}
+use Rattle.yq_core.{specs.Answers.◌>>=◌, specs.BlockWritten.break_text, specs.Paths.Step, specs.Text.is_empty, specs.Tree.Node}
 use Rattle.yq_row_table.specs.Rows.{Cut}
-use Rattle.yq_places.specs.FirstPlaces.{first_removal}
-use Rattle.yq_places.specs.RemovalPlaces.{removal_place}
+use Rattle.yq_places.{specs.FirstPlaces.first_removal, specs.RemovalPlaces.removal_place}
 use Rattle.yq_places.specs.Standings.{Held, Standing, alone, beside, under, compact, block, root, no_rows, standing_at}
-use Rattle.yq_edits.specs.declared.layout.Layout.{Layout}
-use Rattle.yq_edits.specs.Alone as single
-use Rattle.yq_edits.specs.BlockText.{block_value}
+use Rattle.yq_edits.{specs.declared.layout.Layout.Layout, specs.BlockText.block_value, specs.ClosedTexts.lines_put_behind}
+use Rattle.yq_edits.{specs.Layouts.layout_of, specs.Removing.rows_removed, specs.RemovingFirst.first_removed}
 use Rattle.yq_text.specs.Script.{Segment, keep, put}
-use Rattle.yq_edits.specs.ClosedTexts.{lines_put_behind}
-use Rattle.yq_edits.specs.Layouts.{layout_of}
-use Rattle.yq_edits.specs.Removing.{rows_removed}
-use Rattle.yq_edits.specs.RemovingFirst.{first_removed}
+use Rattle.yq_edits.specs.Alone as single
 
 -- ---- Append
 

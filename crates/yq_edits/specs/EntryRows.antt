@@ -2,13 +2,9 @@
 use Rattle.std.specs.Prelude.{◌≡◌, ℕ, List, ◌∷◌, ◌++◌, length, Some}
 use Rattle.yq_core.specs.Paths.{Step}
 use Rattle.yq_row_table.specs.Rows.{Row, Part}
-use Rattle.yq_outline.specs.Lines.{lines_of_rows}
-use Rattle.yq_outline.specs.Outline.{flatten, IsEven}
-use Rattle.yq_outline.specs.Places.{FoundLine}
-use Rattle.yq_documents.specs.Reading.{part_outline}
-use Rattle.yq_documents.specs.LinesInRows.{RowLine, row_line}
-use Rattle.yq_edits.specs.Siblings.{IsEntryAt, NodeLines}
-use Rattle.yq_edits.specs.LineRows.{lines_before_entry}
+use Rattle.yq_outline.{specs.Lines.lines_of_rows, specs.Outline.{flatten, IsEven}, specs.Places.FoundLine}
+use Rattle.yq_documents.{specs.Reading.part_outline, specs.LinesInRows.{RowLine, row_line}}
+use Rattle.yq_edits.{specs.Siblings.{IsEntryAt, NodeLines}, specs.LineRows.lines_before_entry}
 
 -- The rows of an item or entry that has whole rows are those between others in front and others behind.
 pub record HasWholeRows (p : Part) (h : NodeLines) (f : FoundLine) (front gone back : List Row) : Type 0 where

@@ -1,15 +1,11 @@
 -- What stays of a document in which a flow collection has other items or entries (7.4; own).
 use Rattle.std.specs.Prelude.{◌≡◌, ℕ, List, Some}
-use Rattle.yq_core.specs.Paths.{Step}
-use Rattle.yq_core.specs.Collections.{CollPieces, collection_put}
-use Rattle.yq_core.specs.Nodes.{Items}
-use Rattle.yq_flow_edits.specs.FlowEdits.{FlowEdit}
-use Rattle.yq_flow_edits.specs.Removals.{removing}
+use Rattle.yq_core.{specs.Paths.Step, specs.Collections.{CollPieces, collection_put}, specs.Nodes.Items}
+use Rattle.yq_flow_edits.{specs.FlowEdits.FlowEdit, specs.Removals.removing}
 use Rattle.yq_outline.specs.Places.{FoundLine}
 use Rattle.yq_row_table.specs.Rows.{Part, Cut}
 use Rattle.yq_documents.specs.Documents.{EachHasFitKeys, HasFitKeys, lead_of}
-use Rattle.yq_edits.specs.DocumentRows.{IsDocumentPart}
-use Rattle.yq_edits.specs.FlowRows.{InlineRow, IsFlowAt, with_node}
+use Rattle.yq_edits.{specs.DocumentRows.IsDocumentPart, specs.FlowRows.{InlineRow, IsFlowAt, with_node}}
 use Rattle.yq_edits.specs.Rooms.{is_block_root, EqualRoom}
 
 -- the document with another gap and other items or entries in a collection in a row

@@ -1,18 +1,13 @@
 -- Edits in flow collections: what is exchanged, by the part of the collection (YAML 1.2.2, 7.4; own).
 use Rattle.std.specs.Prelude.{ℕ, ◌==◌, List, [], ◌∷◌, ◌++◌, Option, Some, None, is_some, option_map, Bool, not, if◌then◌else◌}
-use Rattle.yq_core.specs.Paths.{Step}
-use Rattle.yq_core.specs.Tree as tree
-use Rattle.yq_core.specs.Written.{written_scalar}
-use Rattle.yq_core.specs.declared.style.Place.TheVariants.{Flow as InFlow}
-use Rattle.yq_core.specs.Collections.{CollPieces}
-use Rattle.yq_core.specs.Nodes.{FlowNode, alias, scalar, node_text, without_anchor}
-use Rattle.yq_core.specs.Scalars.{scalar_style}
-use Rattle.yq_core.specs.NodesWritten.{flow_key, flow_of}
-use Rattle.yq_flow_edits.specs.FlowEdits.{FlowEdit, appending, replacing}
-use Rattle.yq_flow_edits.specs.Removals.{removing}
+use Rattle.yq_core.{specs.Paths.Step, specs.Written.written_scalar, specs.declared.style.Place.TheVariants.Flow as InFlow}
+use Rattle.yq_core.{specs.Collections.CollPieces, specs.Nodes.{FlowNode, alias, scalar, node_text, without_anchor}}
+use Rattle.yq_core.{specs.Scalars.scalar_style, specs.NodesWritten.{flow_key, flow_of}}
+use Rattle.yq_flow_edits.{specs.FlowEdits.{FlowEdit, appending, replacing}, specs.Removals.removing}
 use Rattle.yq_places.specs.Standings.{FlowPart}
 use Rattle.yq_text.specs.Script.{Segment, keep, put, script_text_before}
 use Rattle.yq_edits.specs.Style.{style_in}
+use Rattle.yq_core.specs.Tree as tree
 
 -- the segments of a text in which a flow collection is edited
 abbrev pub flow_segments : List ℕ → FlowEdit → List Segment

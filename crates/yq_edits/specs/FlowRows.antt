@@ -1,23 +1,15 @@
 -- The operations inside flow collections, by the row in whose content the collection stands (7.4; own).
 use Rattle.std.specs.Prelude.{◌≡◌, ℕ, ◌+◌, List, [], ◌∷◌, ◌++◌, length, slice_get, Some}
-use Rattle.yq_core.specs.Paths.{Step, changed_at, within}
-use Rattle.yq_core.specs.Tree.{Children}
-use Rattle.yq_core.specs.declared.style.Place.TheVariants as places
-use Rattle.yq_core.specs.Collections.{CollAt, CollPieces, IsCollAt, coll_along}
+use Rattle.yq_core.{specs.Paths.{Step, changed_at, within}, specs.Tree.Children}
+use Rattle.yq_core.{specs.Collections.{CollAt, CollPieces, IsCollAt, coll_along}, specs.Nodes.{FlowNode, node_text}}
 use Rattle.yq_flow_edits.specs.FlowEdits.{FlowEdit, IsFlowEdited, edited_node}
-use Rattle.yq_core.specs.Nodes.{FlowNode, node_text}
-use Rattle.yq_outline.specs.Places.{lines_before, FoundLine}
-use Rattle.yq_row_table.specs.Exchange.{with_content}
-use Rattle.yq_row_table.specs.Rows.{Inline, Row, parent_indent, rows_text, Part, Cut, cut_text}
-use Rattle.yq_documents.specs.Documents.{HasFitKeys, document_parts, lead_of}
-use Rattle.yq_places.specs.FlowNodes.{find_head, flow_collection}
-use Rattle.yq_outline.specs.Lines.{lines_of_rows}
-use Rattle.yq_documents.specs.Reading.{part_outline, read_at, root_of}
-use Rattle.yq_places.specs.RowPaths.{IsReadable}
-use Rattle.yq_edits.specs.Appends.{inserted}
-use Rattle.yq_edits.specs.Changed.{IsChanged, put_document}
-use Rattle.yq_edits.specs.DocumentRows.{IsDocumentPart, behind_document}
+use Rattle.yq_outline.{specs.Places.{lines_before, FoundLine}, specs.Lines.lines_of_rows}
+use Rattle.yq_row_table.{specs.Exchange.with_content, specs.Rows.{Inline, Row, parent_indent, rows_text, Part, Cut, cut_text}}
+use Rattle.yq_documents.{specs.Documents.{HasFitKeys, document_parts, lead_of}, specs.Reading.{part_outline, read_at, root_of}}
+use Rattle.yq_places.{specs.FlowNodes.{find_head, flow_collection}, specs.RowPaths.IsReadable}
+use Rattle.yq_edits.{specs.Appends.inserted, specs.Changed.{IsChanged, put_document}, specs.DocumentRows.{IsDocumentPart, behind_document}}
 use Rattle.yq_edits.specs.SoundRoots.{IsSoundRoot}
+use Rattle.yq_core.specs.declared.style.Place.TheVariants as places
 
 -- An inline node in a row of a document: the rows before and behind that one, and the pieces of its content.
 pub record InlineRow : Type 0 where

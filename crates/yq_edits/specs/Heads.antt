@@ -1,21 +1,12 @@
 -- Head comments of items and entries, put and taken away (own).
 use Rattle.std.specs.Prelude.{◌≡◌, ◌⊎◌, ℕ, List, [], ◌∷◌, ◌++◌, length, replicate}
-use Rattle.yq_core.specs.Paths.{Step, changed_at, relabel_child, within}
-use Rattle.yq_core.specs.Text.{joined, text_lines}
-use Rattle.yq_outline.specs.Comments.{head_comment}
-use Rattle.yq_row_table.specs.Gap.{IsGap}
-use Rattle.yq_row_table.specs.Rows.{Row, behind_gap, rows_text, Part, Cut, cut_text}
-use Rattle.yq_documents.specs.Pieces.{before_run}
-use Rattle.yq_documents.specs.Documents.{lead_of}
-use Rattle.yq_outline.specs.Lines.{lines_of_rows}
-use Rattle.yq_outline.specs.Places.{FoundLine}
-use Rattle.yq_documents.specs.Reading.{part_outline}
+use Rattle.yq_core.{specs.Paths.{Step, changed_at, relabel_child, within}, specs.Text.{joined, text_lines}}
+use Rattle.yq_outline.{specs.Comments.head_comment, specs.Lines.lines_of_rows, specs.Places.FoundLine}
+use Rattle.yq_row_table.{specs.Gap.IsGap, specs.Rows.{Row, behind_gap, rows_text, Part, Cut, cut_text}}
+use Rattle.yq_documents.{specs.Pieces.before_run, specs.Documents.lead_of, specs.Reading.part_outline, specs.TreeEdits.with_head_comment}
 use Rattle.yq_places.specs.RowPaths.{IsReadable}
-use Rattle.yq_edits.specs.Changed.{IsChanged, put_document}
-use Rattle.yq_edits.specs.Siblings.{IsEntryAt, NodeLines}
-use Rattle.yq_edits.specs.LineRows.{lines_before_entry}
+use Rattle.yq_edits.{specs.Changed.{IsChanged, put_document}, specs.Siblings.{IsEntryAt, NodeLines}, specs.LineRows.lines_before_entry}
 use Rattle.yq_edits.specs.DocumentRows.{IsDocumentPart, behind_document, put_rows}
-use Rattle.yq_documents.specs.TreeEdits.{with_head_comment}
 
 -- What is written for a head comment before a rest: comment lines of which the first begins in a column, or nothing.
 pub record IsHeadCommentRun (column : ℕ) (run rest : List ℕ) : Type 0 where

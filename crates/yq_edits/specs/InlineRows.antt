@@ -1,22 +1,12 @@
 -- Rows that are alone on their lines, and the inline nodes of values (own).
 use Rattle.std.specs.Prelude.{◌≡◌, ℕ, ℤ, suc, ◌+◌, List, [], ◌∷◌, length, Some, None, true, false}
-use Rattle.yq_core.specs.Paths.{Step}
-use Rattle.yq_core.specs.Piece.{deeper}
-use Rattle.yq_core.specs.Plain.{ends_plain, holds_break}
-use Rattle.yq_core.specs.Text.{is_marker, separates}
-use Rattle.yq_core.specs.Tree.{Node}
-use Rattle.yq_core.specs.declared.style.Place.TheVariants.{Block}
-use Rattle.yq_core.specs.Inline.{IsInline}
+use Rattle.yq_core.{specs.Paths.Step, specs.Piece.deeper, specs.Plain.{ends_plain, holds_break}, specs.Text.{is_marker, separates}}
+use Rattle.yq_core.{specs.Tree.Node, specs.declared.style.Place.TheVariants.Block, specs.Inline.IsInline}
+use Rattle.yq_core.{specs.Nodes.{node_text, takes_anchor}, specs.Trees.{node_anchor, node_head}}
+use Rattle.yq_outline.{specs.Outline.flatten, specs.Places.{lines_before, FoundLine, find}, specs.Lines.lines_of_rows}
+use Rattle.yq_row_table.{specs.Grammar.{is_more, is_plain_content}, specs.Rows.{Bare, Row, Part}}
+use Rattle.yq_documents.{specs.Documents.HasFitKeys, specs.Reading.part_outline}
 use Rattle.yq_core.specs.Nodes as inline
-use Rattle.yq_core.specs.Nodes.{node_text, takes_anchor}
-use Rattle.yq_core.specs.Trees.{node_anchor, node_head}
-use Rattle.yq_outline.specs.Outline.{flatten}
-use Rattle.yq_outline.specs.Places.{lines_before, FoundLine, find}
-use Rattle.yq_row_table.specs.Grammar.{is_more, is_plain_content}
-use Rattle.yq_row_table.specs.Rows.{Bare, Row, Part}
-use Rattle.yq_documents.specs.Documents.{HasFitKeys}
-use Rattle.yq_outline.specs.Lines.{lines_of_rows}
-use Rattle.yq_documents.specs.Reading.{part_outline}
 
 -- Steps lead to an entry or item without a head, under whose line a row alone stands, which stands behind these.
 pub record LeadsBelow (p : Part) (s : Step) (ss : List Step) (front : List Row) (r : Row) : Type 0 where

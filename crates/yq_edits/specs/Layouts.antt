@@ -1,13 +1,10 @@
 -- How block style looks in a document of a text (own).
-use Rattle.std.specs.Prelude.{◌≡◌, ℕ, ◌&&◌, ◌||◌, not, Bool, true, false, if◌then◌else◌}
-use Rattle.std.specs.Option.{is_some}
+use Rattle.std.{specs.Prelude.{◌≡◌, ℕ, ◌&&◌, ◌||◌, not, Bool, true, false, if◌then◌else◌}, specs.Option.is_some}
 use Rattle.yq_core.specs.Tree.{Node, alias, scalar, list, map, Children, none, child}
 use Rattle.yq_row_table.specs.Rows.{Cut, cut_text}
-use Rattle.yq_places.specs.FirstBreak.{first_break}
-use Rattle.yq_places.specs.Steps.{document_steps}
+use Rattle.yq_places.{specs.FirstBreak.first_break, specs.Steps.document_steps}
 use Rattle.yq_places.specs.Standings.{Standing, alone, beside, under, compact, block, root, no_rows}
-use Rattle.yq_edits.specs.BlockReading.{is_filled}
-use Rattle.yq_edits.specs.declared.layout.Layout.{Layout}
+use Rattle.yq_edits.{specs.BlockReading.is_filled, specs.declared.layout.Layout.Layout}
 
 -- how block style looks in document n of a cut: with the text's first break, and that document's steps (own)
 abbrev pub layout_of : ℕ → Cut → Layout

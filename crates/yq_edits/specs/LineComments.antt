@@ -1,20 +1,13 @@
 -- Comments of items and entries, put and taken away (own).
 use Rattle.std.specs.Prelude.{◌≡◌, ℕ, ◌+◌, List, [], ◌∷◌, ◌++◌, length, false}
 use Rattle.yq_core.specs.Paths.{Step, changed_at, relabel_child, within}
-use Rattle.yq_outline.specs.Comments.{line_comment}
-use Rattle.yq_row_table.specs.Rows.{Row, parent_indent, rows_text, Part, Cut, cut_text}
-use Rattle.yq_row_table.specs.Seams.{TailFits, is_block, retail}
+use Rattle.yq_outline.{specs.Comments.line_comment, specs.Lines.lines_of_rows, specs.Places.FoundLine}
+use Rattle.yq_row_table.{specs.Rows.{Row, parent_indent, rows_text, Part, Cut, cut_text}, specs.Seams.{TailFits, is_block, retail}}
 use Rattle.yq_row_table.specs.Splices.{first_gap}
-use Rattle.yq_documents.specs.Documents.{lead_of}
-use Rattle.yq_outline.specs.Lines.{lines_of_rows}
-use Rattle.yq_outline.specs.Places.{FoundLine}
-use Rattle.yq_documents.specs.Reading.{part_outline}
+use Rattle.yq_documents.{specs.Documents.lead_of, specs.Reading.part_outline, specs.TreeEdits.with_line_comment}
 use Rattle.yq_places.specs.RowPaths.{IsReadable}
-use Rattle.yq_edits.specs.Changed.{IsChanged, put_document}
-use Rattle.yq_edits.specs.Siblings.{IsEntryAt, NodeLines}
-use Rattle.yq_edits.specs.LineRows.{lines_before_entry}
+use Rattle.yq_edits.{specs.Changed.{IsChanged, put_document}, specs.Siblings.{IsEntryAt, NodeLines}, specs.LineRows.lines_before_entry}
 use Rattle.yq_edits.specs.DocumentRows.{IsDocumentPart, behind_document, put_rows}
-use Rattle.yq_documents.specs.TreeEdits.{with_line_comment}
 
 -- a part in which a row has another tail
 abbrev pub retailed : (front : List Row) → Row → (back : List Row) → List ℕ → Part → Part

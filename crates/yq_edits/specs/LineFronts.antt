@@ -1,12 +1,7 @@
 -- A text cut before the end of a line (5.4; own).
-use Rattle.std.specs.Prelude.{◌≡◌, ℕ, List, ◌++◌, true, false}
-use Rattle.std.specs.Str.{IsUtf8}
-use Rattle.yq_core.specs.Characters.{pairs_returns}
-use Rattle.yq_core.specs.Text.{front, is_feed}
-use Rattle.yq_row_table.specs.Grammar.{IsRow, Limit}
-use Rattle.yq_row_table.specs.Rows.{Row, print_row}
-use Rattle.yq_row_table.specs.View.{slices}
-use Rattle.yq_row_table.proofs.seams.ScalarSeams.{ends_return}
+use Rattle.std.{specs.Prelude.{◌≡◌, ℕ, List, ◌++◌, true, false}, specs.Str.IsUtf8}
+use Rattle.yq_core.{specs.Characters.pairs_returns, specs.Text.{front, is_feed}}
+use Rattle.yq_row_table.{specs.Grammar.{IsRow, Limit}, specs.Rows.{Row, print_row}, specs.View.slices, proofs.seams.ScalarSeams.ends_return}
 use Rattle.yq_places.specs.CommentPlaces.{text_to_line_end}
 use Rattle.yq_edits.specs.TextPieces.{IsPiece}
 

@@ -2,8 +2,7 @@
 use Rattle.std.specs.Prelude.{◌≡◌, ℕ, ◌+◌, ◌≤◌, List, [], ◌∷◌, ◌++◌, length, Some, is_some, true, ⊤}
 use Rattle.yq_core.specs.Paths.{Step}
 use Rattle.yq_row_table.specs.Rows.{Row}
-use Rattle.yq_outline.specs.Lines.{lines_of_rows}
-use Rattle.yq_outline.specs.Outline.{Line, level, Outline, flatten, IsEven}
+use Rattle.yq_outline.{specs.Lines.lines_of_rows, specs.Outline.{Line, level, Outline, flatten, IsEven}}
 use Rattle.yq_outline.specs.Places.{lines_before, lines_after, FoundLine}
 use Rattle.yq_documents.specs.LinesInRows.{RowLine, row_line}
 use Rattle.yq_edits.specs.Siblings.{HasEntries, NodeLines, lines_at, IsEntryAt}

@@ -1,8 +1,6 @@
 -- Which rows and ends of parts of a text an operation exchanges: those that it touches (own).
 use Rattle.std.specs.Prelude.{◌≡◌, ℕ, ◌≤◌, List, [], ◌∷◌, ◌++◌, length, Some}
-use Rattle.yq_row_table.specs.Items.{Item, items_of_cut, items_text}
-use Rattle.yq_row_table.specs.Rows.{Cut}
-use Rattle.yq_row_table.specs.Touched.{item_text, TouchesOnly}
+use Rattle.yq_row_table.{specs.Items.{Item, items_of_cut, items_text}, specs.Rows.Cut, specs.Touched.{item_text, TouchesOnly}}
 use Rattle.yq_documents.specs.Reading.{read_at}
 use Rattle.yq_text.specs.Script.{Segment, new_text, kept_front, kept_back}
 

@@ -1,10 +1,8 @@
 -- The first entry or item of a compact collection taken out: the next one's row stands behind the dash (8.2.1; own).
 use Rattle.std.specs.Prelude.{◌≡◌, ℕ, suc, ◌+◌, List, [], ◌∷◌, ◌++◌, None}
-use Rattle.yq_outline.specs.Comments.{head_comment, line_comment}
-use Rattle.yq_row_table.specs.Rows as rows
+use Rattle.yq_outline.{specs.Comments.{head_comment, line_comment}, specs.Lines.{dash_line, lines_from, lines_of_rows}, specs.Outline.Line}
 use Rattle.yq_row_table.specs.Rows.{Content, Nothing, Row, behind_columns}
-use Rattle.yq_outline.specs.Lines.{dash_line, lines_from, lines_of_rows}
-use Rattle.yq_outline.specs.Outline.{Line}
+use Rattle.yq_row_table.specs.Rows as rows
 
 -- the lines of dashes, from a column on
 abbrev pub dash_lines : List (List ℕ) → ℕ → List ℕ → List Line

@@ -1,6 +1,5 @@
 -- What is known of the operands of an operation, since the code holds no others.
-use Rattle.std.specs.Prelude.{ℕ, List, Option, Some, None, ⊤}
-use Rattle.std.specs.Str.{IsUtf8}
+use Rattle.std.{specs.Prelude.{ℕ, List, Option, Some, None, ⊤}, specs.Str.IsUtf8}
 use Rattle.yq_flow_edits.specs.Valued.{IsValueTree}
 use Rattle.yq_semantics.specs.Operations.{Operation, replace, append, remove, line_comment, head_comment}
 

@@ -1,23 +1,15 @@
 -- The row to which a path leads (own).
 use Rattle.std.specs.Prelude.{◌≡◌, ℕ, List, [], ◌∷◌, ◌++◌, length, Some}
 use Rattle.yq_core.specs.Paths.{Step, changed_at, relabel_child, within}
-use Rattle.yq_outline.specs.Comments.{line_comment, head_comment}
+use Rattle.yq_outline.{specs.Comments.{line_comment, head_comment}, specs.Lines.lines_of_rows, specs.Outline.{Outline, IsEven}}
+use Rattle.yq_outline.{specs.Places.FoundLine, specs.Ends.line_at_steps}
 use Rattle.yq_row_table.specs.Rows.{Row, Part, Cut, cut_text}
-use Rattle.yq_documents.specs.Documents.{lead_of}
-use Rattle.yq_outline.specs.Lines.{lines_of_rows}
-use Rattle.yq_outline.specs.Outline.{Outline, IsEven}
-use Rattle.yq_outline.specs.Places.{FoundLine}
-use Rattle.yq_documents.specs.Reading.{part_outline}
-use Rattle.yq_places.specs.RowPaths.{IsReadable}
-use Rattle.yq_outline.specs.Ends.{line_at_steps}
-use Rattle.yq_documents.specs.LinesInRows.{RowLine, row_line_of}
-use Rattle.yq_edits.specs.Changed.{IsChanged, put_document}
-use Rattle.yq_edits.specs.Siblings.{IsEntryAt, NodeLines}
-use Rattle.yq_edits.specs.Heads.{rerun, TakesRun}
-use Rattle.yq_edits.specs.LineRows.{lines_before_entry}
-use Rattle.yq_edits.specs.DocumentRows.{IsDocumentPart, behind_document}
-use Rattle.yq_edits.specs.LineComments.{retailed, TakesTail}
+use Rattle.yq_documents.{specs.Documents.lead_of, specs.Reading.part_outline, specs.LinesInRows.{RowLine, row_line_of}}
 use Rattle.yq_documents.specs.TreeEdits.{with_head_comment, with_line_comment}
+use Rattle.yq_places.specs.RowPaths.{IsReadable}
+use Rattle.yq_edits.{specs.Changed.{IsChanged, put_document}, specs.Siblings.{IsEntryAt, NodeLines}, specs.Heads.{rerun, TakesRun}}
+use Rattle.yq_edits.{specs.LineRows.lines_before_entry, specs.DocumentRows.{IsDocumentPart, behind_document}}
+use Rattle.yq_edits.specs.LineComments.{retailed, TakesTail}
 
 -- Line n is that of an item or entry of the block collection at a path.
 pub record IsEntryLine (steps : List Step) (s : Step) (o : Outline) (n : ℕ) : Type 0 where

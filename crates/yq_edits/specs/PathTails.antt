@@ -1,18 +1,12 @@
 -- The line comment of an item or entry at a path, whatever its row holds: a tail behind what is written on its line, which for a block scalar is its header (6.6, 8.1.1; own).
 use Rattle.std.specs.Prelude.{◌≡◌, ℕ, List, [], ◌∷◌, ◌++◌, length, Some, true}
-use Rattle.yq_core.specs.Block.{is_tail}
-use Rattle.yq_core.specs.Paths.{Step, changed_at, relabel_child, within}
+use Rattle.yq_core.{specs.Block.is_tail, specs.Paths.{Step, changed_at, relabel_child, within}}
 use Rattle.yq_outline.specs.Comments.{line_comment}
-use Rattle.yq_row_table.specs.Exchange.{with_content}
-use Rattle.yq_row_table.specs.Grammar.{IsTail}
+use Rattle.yq_row_table.{specs.Exchange.with_content, specs.Grammar.IsTail}
 use Rattle.yq_row_table.specs.Rows.{Content, Nothing, Inline, Block, Row, rows_text, Part, Cut, cut_text}
-use Rattle.yq_documents.specs.Documents.{lead_of}
+use Rattle.yq_documents.{specs.Documents.lead_of, specs.LinesInRows.{RowLine, row_line_of}, specs.TreeEdits.with_line_comment}
 use Rattle.yq_places.specs.RowPaths.{IsReadable}
-use Rattle.yq_documents.specs.LinesInRows.{RowLine, row_line_of}
-use Rattle.yq_documents.specs.TreeEdits.{with_line_comment}
-use Rattle.yq_edits.specs.Appends.{inserted}
-use Rattle.yq_edits.specs.Changed.{IsChanged, put_document}
-use Rattle.yq_edits.specs.DocumentRows.{IsDocumentPart, behind_document}
+use Rattle.yq_edits.{specs.Appends.inserted, specs.Changed.{IsChanged, put_document}, specs.DocumentRows.{IsDocumentPart, behind_document}}
 
 -- a content with another end of its line: a block scalar has that in its header
 abbrev pub with_line_tail : List ℕ → Content → Content

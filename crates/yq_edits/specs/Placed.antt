@@ -2,9 +2,7 @@
 use Rattle.std.specs.Prelude.{◌≡◌, ℕ, ◌+◌, List, [], ◌∷◌, ◌++◌, length, Some}
 use Rattle.yq_core.specs.Paths.{Step}
 use Rattle.yq_row_table.specs.Rows.{Row, Part}
-use Rattle.yq_outline.specs.Laws.{with_lines}
-use Rattle.yq_outline.specs.Lines.{lines_of_rows}
-use Rattle.yq_outline.specs.Outline.{Line, flatten, IsEven}
+use Rattle.yq_outline.{specs.Laws.with_lines, specs.Lines.lines_of_rows, specs.Outline.{Line, flatten, IsEven}}
 use Rattle.yq_outline.specs.Places.{lines_before, FoundLine, find}
 use Rattle.yq_documents.specs.Reading.{part_outline}
 use Rattle.yq_edits.specs.Siblings.{IsEntry, NodeLines, put_lines, IsEntryAt}

@@ -3,8 +3,7 @@ use Rattle.std.specs.Prelude.{◌≡◌, ℕ, ◌++◌, slice_get, Some}
 use Rattle.yq_row_table.specs.Rows.{Part, part_text, Cut, cut_text}
 use Rattle.yq_documents.specs.Documents.{document_parts}
 use Rattle.yq_places.specs.PlacedRows.{PlacedPart, placed_document}
-use Rattle.yq_edits.specs.Changed.{put_document}
-use Rattle.yq_edits.specs.DocumentRows.{behind_document}
+use Rattle.yq_edits.{specs.Changed.put_document, specs.DocumentRows.behind_document}
 
 -- A document stands in a cut between two texts, and so does another part that is put in its place.
 pub record StandsAt (c : Cut) (k : ℕ) (s : PlacedPart) : Type 0 where

@@ -1,9 +1,8 @@
 -- How values are printed (own).
 use Rattle.std.specs.Prelude.{List, [], ◌∷◌, ◌++◌, ℕ}
+use Rattle.yq_edits.{specs.declared.layout.Layout.Layout, specs.BlockText.block_value}
 use Rattle.yq_core.specs.declared.block_types.Break.TheVariants as breaks
 use Rattle.yq_core.specs.Tree as tree
-use Rattle.yq_edits.specs.declared.layout.Layout.{Layout}
-use Rattle.yq_edits.specs.BlockText.{block_value}
 
 -- steps of 2, and LF (own)
 abbrev pub print_layout : Layout

@@ -2,10 +2,7 @@
 use Rattle.std.specs.Prelude.{◌≡◌, ℕ, List, Some}
 use Rattle.yq_row_table.specs.Rows.{Cut, cut_text}
 use Rattle.yq_documents.specs.Reading.{documents, read_at, documents_of}
-use Rattle.yq_semantics.specs.After.{after_op}
-use Rattle.yq_semantics.specs.Operations.{Operation}
-use Rattle.yq_semantics.specs.Rooms.{room_of}
-use Rattle.yq_semantics.specs.RoomsKept.{LeavesRooms}
+use Rattle.yq_semantics.{specs.After.after_op, specs.Operations.Operation, specs.Rooms.room_of, specs.RoomsKept.LeavesRooms}
 
 -- the room that an operation on a text leaves in the new one (own)
 abbrev pub RoomStays : Operation → List ℕ → List ℕ → Type 0

@@ -1,23 +1,14 @@
 -- What is taken out of a text with an item or entry, as rows taken out of a document (own).
 use Rattle.std.specs.Prelude.{◌≡◌, ℕ, List, [], ◌∷◌, ◌++◌, slice_get, Option, Some, None, true}
-use Rattle.yq_core.specs.BlockRepair.{repair}
-use Rattle.yq_core.specs.Paths.{Step, node_at, remove_child}
-use Rattle.yq_core.specs.Text.{joined, text_lines}
-use Rattle.yq_core.specs.Tree.{Node}
+use Rattle.yq_core.{specs.BlockRepair.repair, specs.Paths.{Step, node_at, remove_child}, specs.Text.{joined, text_lines}, specs.Tree.Node}
 use Rattle.yq_core.specs.Anchors.{names_of}
 use Rattle.yq_outline.specs.Places.{FoundLine}
 use Rattle.yq_row_table.specs.Rows.{Part, Cut, cut_text}
-use Rattle.yq_documents.specs.Documents.{document_parts, lead_of}
+use Rattle.yq_documents.{specs.Documents.{document_parts, lead_of}, specs.Reading.{part_outline, read_at, root_of}, specs.TreeEdits.at_end}
 use Rattle.yq_places.specs.FirstPlaces.{FirstOut, first_removal}
-use Rattle.yq_documents.specs.Reading.{part_outline, read_at, root_of}
 use Rattle.yq_places.specs.RemovalPlaces.{OwnRows, own_rows, Seam, Removal, removal_place, has_others}
-use Rattle.yq_documents.specs.TreeEdits.{at_end}
-use Rattle.yq_edits.specs.Changed.{IsChanged, KeepsRows, put_document}
-use Rattle.yq_edits.specs.Conditions.{AreSpared}
-use Rattle.yq_edits.specs.DocumentRows.{IsDocumentPart}
-use Rattle.yq_edits.specs.EntryRows.{HasWholeRows}
-use Rattle.yq_edits.specs.Rooms.{is_block_root}
-use Rattle.yq_edits.specs.Siblings.{HasEntries, IsEntryAt, NodeLines}
+use Rattle.yq_edits.{specs.Changed.{IsChanged, KeepsRows, put_document}, specs.Conditions.AreSpared, specs.DocumentRows.IsDocumentPart}
+use Rattle.yq_edits.{specs.EntryRows.HasWholeRows, specs.Rooms.is_block_root, specs.Siblings.{HasEntries, IsEntryAt, NodeLines}}
 
 -- An item or entry to which a path leads has these rows as its own.
 pub record HasOwnRows (p : Part) (steps : List Step) (s : Step) (x : OwnRows) : Type 0 where

@@ -1,9 +1,7 @@
 -- One of several items or entries of a block collection taken out (own).
 use Rattle.std.specs.Prelude.{ℕ, List, []}
 use Rattle.yq_core.specs.Text.{joined, text_lines}
-use Rattle.yq_row_table.specs.Rows.{Row, Part}
-use Rattle.yq_row_table.specs.Splices.{first_gap}
-use Rattle.yq_row_table.specs.Removal.{last_block, next_column, seam_gap}
+use Rattle.yq_row_table.{specs.Rows.{Row, Part}, specs.Splices.first_gap, specs.Removal.{last_block, next_column, seam_gap}}
 use Rattle.yq_documents.specs.Pieces.{before_run}
 use Rattle.yq_edits.specs.DocumentRows.{put_rows}
 

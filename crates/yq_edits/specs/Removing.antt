@@ -1,7 +1,6 @@
 -- What is exchanged where an item or entry is taken out with its rows (YAML 1.2.2, 8.2; own).
 use Rattle.std.specs.Prelude.{ℕ, List, [], ◌∷◌, ◌++◌, replicate, Option, Some, None, if◌then◌else◌}
-use Rattle.yq_core.specs.BlockRepair.{is_short, is_outdented_comment}
-use Rattle.yq_core.specs.Lines.{is_blank}
+use Rattle.yq_core.{specs.BlockRepair.{is_short, is_outdented_comment}, specs.Lines.is_blank}
 use Rattle.yq_core.specs.Text.{cut, no_white, past_white, joined, text_lines}
 use Rattle.yq_places.specs.RemovalPlaces.{Seam, Removal}
 use Rattle.yq_text.specs.Script.{Segment, keep, put}

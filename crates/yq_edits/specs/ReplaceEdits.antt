@@ -1,26 +1,19 @@
 -- Replace: what is exchanged, by what stands at the place: a clause for each row of the table (YAML 1.2.2, 7 and 8; own).
 use Rattle.std.specs.List.{list_any}
 use Rattle.std.specs.Prelude.{ℕ, ◌&&◌, not, List, [], ◌∷◌, ◌++◌, Option, Some, None, Bool, false, option_map, if◌then◌else◌}
-use Rattle.yq_core.specs.Answers.{◌>>=◌}
-use Rattle.yq_core.specs.BlockWritten as literal
-use Rattle.yq_core.specs.BlockWritten.{break_text, chomping_of, header_text}
-use Rattle.yq_core.specs.Paths.{Step}
-use Rattle.yq_core.specs.Scalar.{ScalarText}
-use Rattle.yq_core.specs.Text.{is_empty, is_feed, joined, text_lines}
-use Rattle.yq_core.specs.Tree.{Node}
-use Rattle.yq_core.specs.Writable.{can_write, is_string}
-use Rattle.yq_core.specs.Written.{double}
-use Rattle.yq_core.specs.declared.style.Place.TheVariants.{Block as InBlock}
+use Rattle.yq_core.{specs.Answers.◌>>=◌, specs.BlockWritten.{break_text, chomping_of, header_text}, specs.Paths.Step}
+use Rattle.yq_core.{specs.Scalar.ScalarText, specs.Text.{is_empty, is_feed, joined, text_lines}, specs.Tree.Node}
+use Rattle.yq_core.{specs.Writable.{can_write, is_string}, specs.Written.double, specs.declared.style.Place.TheVariants.Block as InBlock}
 use Rattle.yq_core.specs.declared.style.Style.TheVariants.{Literal}
 use Rattle.yq_row_table.specs.Rows.{Cut}
 use Rattle.yq_places.specs.NodesAt.{node_in, scalar_in}
-use Rattle.yq_places.specs.Standings.{Compact, Held, Lone, BlockRoot, NoRows, Standing, alone, beside, under, compact, block, root, no_rows, standing_at}
-use Rattle.yq_edits.specs.declared.layout.Layout.{Layout}
-use Rattle.yq_edits.specs.BlockText.{block_value}
-use Rattle.yq_text.specs.Script.{Segment, keep, put}
-use Rattle.yq_edits.specs.ClosedTexts.{is_closed_text, lines_put_behind}
+use Rattle.yq_places.specs.Standings.{Compact, Held, Lone, BlockRoot, NoRows, Standing, alone, beside, under, compact, block, root, no_rows}
+use Rattle.yq_places.specs.Standings.{standing_at}
+use Rattle.yq_edits.{specs.declared.layout.Layout.Layout, specs.BlockText.block_value, specs.ClosedTexts.{is_closed_text, lines_put_behind}}
 use Rattle.yq_edits.specs.Layouts.{layout_of}
 use Rattle.yq_edits.specs.WrittenValues.{Written, inline, compact_text, lines, value_text, written_at, written_under}
+use Rattle.yq_text.specs.Script.{Segment, keep, put}
+use Rattle.yq_core.specs.BlockWritten as literal
 
 -- ---- behind a key or dash
 

@@ -1,32 +1,18 @@
 -- A node replaced by rows, and what stands first in a compact collection taken out (own).
 use Rattle.std.specs.Prelude.{◌≡◌, ℕ, ◌+◌, List, [], ◌∷◌, ◌++◌, length, Some, true, false}
-use Rattle.yq_core.specs.Paths.{Step, changed_at, remove_child, within}
-use Rattle.yq_core.specs.Tree.{Node}
-use Rattle.yq_core.specs.Anchors.{names_of}
-use Rattle.yq_outline.specs.LineAnchors.{HaveOneAnchorEach}
-use Rattle.yq_outline.specs.Outline.{Line, Outline, flatten}
-use Rattle.yq_outline.specs.Places.{lines_before, plug, FoundLine, find, content_under}
-use Rattle.yq_core.specs.Alike.{Alike}
-use Rattle.yq_row_table.specs.Exchange.{allows_first, asked_behind}
-use Rattle.yq_row_table.specs.Grammar.{unlimited, AreRows, IsCut, no_rows}
-use Rattle.yq_row_table.specs.Rows.{Row, behind_columns, rows_text, Part, Cut, cut_text}
-use Rattle.yq_row_table.specs.SpliceFits.{is_after}
+use Rattle.yq_core.{specs.Paths.{Step, changed_at, remove_child, within}, specs.Tree.Node, specs.Anchors.names_of, specs.Alike.Alike}
+use Rattle.yq_outline.{specs.LineAnchors.HaveOneAnchorEach, specs.Outline.{Line, Outline, flatten}}
+use Rattle.yq_outline.{specs.Places.{lines_before, plug, FoundLine, find, content_under}, specs.Lines.{lines_from, lines_of_rows}}
+use Rattle.yq_row_table.{specs.Exchange.{allows_first, asked_behind}, specs.Grammar.{unlimited, AreRows, IsCut, no_rows}}
+use Rattle.yq_row_table.{specs.Rows.{Row, behind_columns, rows_text, Part, Cut, cut_text}, specs.SpliceFits.is_after}
 use Rattle.yq_row_table.specs.Splices.{behind_first, first_gap, marker_before}
-use Rattle.yq_documents.specs.Documents.{HaveFitKeys, HasShortRoot, lead_of}
-use Rattle.yq_outline.specs.Lines.{lines_from, lines_of_rows}
-use Rattle.yq_documents.specs.Reading.{part_outline, root_of}
+use Rattle.yq_documents.{specs.Documents.{HaveFitKeys, HasShortRoot, lead_of}, specs.Reading.{part_outline, root_of}}
+use Rattle.yq_documents.{specs.TreeEdits.replaced_node, specs.PartNumbers.part_number}
 use Rattle.yq_places.specs.RowPaths.{IsReadable}
-use Rattle.yq_documents.specs.TreeEdits.{replaced_node}
-use Rattle.yq_edits.specs.Appends.{inserted}
-use Rattle.yq_edits.specs.BlockChanges.{AreCounted, MovesUp, RootFits, StaysEmpty}
-use Rattle.yq_edits.specs.Changed.{IsChanged, put_document}
-use Rattle.yq_edits.specs.Conditions.{AreSpared}
-use Rattle.yq_edits.specs.DocumentRows.{IsDocumentPart, behind_document, put_rows}
-use Rattle.yq_documents.specs.PartNumbers.{part_number}
-use Rattle.yq_edits.specs.Edited.{LineFits}
-use Rattle.yq_edits.specs.Moved.{moved_up, emptied_row}
-use Rattle.yq_edits.specs.Siblings.{HasEntries, IsEntryAt, NodeLines}
-use Rattle.yq_edits.specs.SoundRoots.{MayReplace}
+use Rattle.yq_edits.{specs.Appends.inserted, specs.BlockChanges.{AreCounted, MovesUp, RootFits, StaysEmpty}}
+use Rattle.yq_edits.{specs.Changed.{IsChanged, put_document}, specs.Conditions.AreSpared}
+use Rattle.yq_edits.{specs.DocumentRows.{IsDocumentPart, behind_document, put_rows}, specs.Edited.LineFits}
+use Rattle.yq_edits.{specs.Moved.{moved_up, emptied_row}, specs.Siblings.{HasEntries, IsEntryAt, NodeLines}, specs.SoundRoots.MayReplace}
 
 -- Rows may stand in the place of some of a part, with a gap behind them, before a rest: they are rows there, the next row may follow, and their text begins
 -- like the old one.

@@ -1,10 +1,6 @@
 -- Whether a value is the scalar that is there (YAML 1.2.2, 3.2.1; own).
-use Rattle.std.specs.Prelude.{ℕ, ◌==◌, ◌||◌, List, Option, Some, None, Bool, false}
-use Rattle.std.specs.Str.{bytes_eq}
-use Rattle.yq_core.specs.Answers.{◌>>=◌}
-use Rattle.yq_core.specs.Scalar.{ScalarText}
-use Rattle.yq_core.specs.Tree.{Node}
-use Rattle.yq_core.specs.declared.kind.Kind.TheVariants.{Null}
+use Rattle.std.{specs.Prelude.{ℕ, ◌==◌, ◌||◌, List, Option, Some, None, Bool, false}, specs.Str.bytes_eq}
+use Rattle.yq_core.{specs.Answers.◌>>=◌, specs.Scalar.ScalarText, specs.Tree.Node, specs.declared.kind.Kind.TheVariants.Null}
 use Rattle.yq_places.specs.NodesAt.{scalar_in}
 use Rattle.yq_edits.specs.Style.{is_same, table_row}
 

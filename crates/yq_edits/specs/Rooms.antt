@@ -1,16 +1,12 @@
 -- What the rows of a part tell of its lead, of whether its root is block, and of the room for comments, where they take the place of another one's (own).
 use Rattle.std.specs.Prelude.{◌≡◌, ℕ, List, map, is_some, Bool, true}
-use Rattle.yq_core.specs.Paths.{Step}
-use Rattle.yq_core.specs.Tree.{none, children_of}
+use Rattle.yq_core.{specs.Paths.Step, specs.Tree.{none, children_of}}
 use Rattle.yq_row_table.specs.Rows.{RowMark, Row, Part}
-use Rattle.yq_documents.specs.declared.path.Part as places
-use Rattle.yq_documents.specs.Documents.{lead_of}
+use Rattle.yq_documents.{specs.Documents.lead_of, specs.Reading.{part_outline, root_of}, specs.Ready.begins_no_node}
+use Rattle.yq_documents.{specs.LinesInRows.{row_line_of, row_line_has_room}, specs.TreeEdits.lead_by}
 use Rattle.yq_outline.specs.Lines.{head_of, lines_of_rows}
-use Rattle.yq_documents.specs.Reading.{part_outline, root_of}
-use Rattle.yq_documents.specs.Ready.{begins_no_node}
-use Rattle.yq_documents.specs.LinesInRows.{row_line_of, row_line_has_room}
-use Rattle.yq_documents.specs.TreeEdits.{lead_by}
 use Rattle.yq_edits.specs.Siblings.{HasEntries}
+use Rattle.yq_documents.specs.declared.path.Part as places
 
 -- whether a collection at the root of a part is block
 abbrev pub is_block_root : Part → Bool

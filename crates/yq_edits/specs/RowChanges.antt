@@ -1,31 +1,14 @@
 -- Operations that give one row of a text another content of the same shape (own).
 use Rattle.std.specs.Prelude.{◌≡◌, ℕ, ◌≤◌, ◌&&◌, not, Bool, List, [], ◌∷◌, ◌++◌, length, slice_get, Some, false, if◌then◌else◌}
-use Rattle.yq_text.specs.Limit.{text_limit}
-use Rattle.yq_core.specs.Paths.{Step}
-use Rattle.yq_core.specs.Text.{is_empty}
-use Rattle.yq_core.specs.Tree.{Node}
-use Rattle.yq_core.specs.declared.style.Place.TheVariants.{Block as InBlock}
-use Rattle.yq_row_table.specs.Rows.{Cut, Part, Row, cut_text}
-use Rattle.yq_row_table.specs.Seams.{is_block}
-use Rattle.yq_row_table.specs.View.{slices}
-use Rattle.yq_documents.specs.Documents.{document_parts}
-use Rattle.yq_documents.specs.Reading.{documents, read_at}
-use Rattle.yq_places.specs.Standings.{Held, RowsOfEntry, held, rows_of_entry}
-use Rattle.yq_edits.specs.Appends.{inserted}
-use Rattle.yq_edits.specs.Changed.{put_document}
-use Rattle.yq_edits.specs.Rooms.{row_shape}
-use Rattle.yq_edits.specs.BlockReading.{is_filled}
-use Rattle.yq_semantics.specs.Fits.{Fits}
-use Rattle.yq_semantics.specs.Operations.{line_comment, replace}
-use Rattle.yq_semantics.specs.Rooms.{room_of}
-use Rattle.yq_text.specs.Script.{Segment, changes, keep, new_text, old_text, splice_at}
-use Rattle.yq_places.specs.NodesAt.{node_in}
-use Rattle.yq_edits.specs.CommentEdits.{comment_put, comment_written}
-use Rattle.yq_edits.specs.Edits.{op_edits}
-use Rattle.yq_edits.specs.Operands.{HasOperand}
-use Rattle.yq_edits.specs.ReplaceEdits.{held_put}
-use Rattle.yq_edits.specs.Replacing.{keeps_scalar}
-use Rattle.yq_edits.specs.WrittenValues.{inline, value_text}
+use Rattle.yq_text.{specs.Limit.text_limit, specs.Script.{Segment, changes, keep, new_text, old_text, splice_at}}
+use Rattle.yq_core.{specs.Paths.Step, specs.Text.is_empty, specs.Tree.Node, specs.declared.style.Place.TheVariants.Block as InBlock}
+use Rattle.yq_row_table.{specs.Rows.{Cut, Part, Row, cut_text}, specs.Seams.is_block, specs.View.slices}
+use Rattle.yq_documents.{specs.Documents.document_parts, specs.Reading.{documents, read_at}}
+use Rattle.yq_places.{specs.Standings.{Held, RowsOfEntry, held, rows_of_entry}, specs.NodesAt.node_in}
+use Rattle.yq_edits.{specs.Appends.inserted, specs.Changed.put_document, specs.Rooms.row_shape, specs.BlockReading.is_filled}
+use Rattle.yq_edits.{specs.CommentEdits.{comment_put, comment_written}, specs.Edits.op_edits, specs.Operands.HasOperand}
+use Rattle.yq_edits.{specs.ReplaceEdits.held_put, specs.Replacing.keeps_scalar, specs.WrittenValues.{inline, value_text}}
+use Rattle.yq_semantics.{specs.Fits.Fits, specs.Operations.{line_comment, replace}, specs.Rooms.room_of}
 
 -- In the cut of the text that segments make, the row of an item or entry of document n has given way to another one of its shape (own).
 pub record ChangesRow (n : ℕ) (c : Cut) (e : RowsOfEntry) (ss : List Segment) : Type 0 where

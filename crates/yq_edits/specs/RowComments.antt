@@ -1,26 +1,15 @@
 -- One row in the place of another one, and the line comments of rows of which a tail alone doesn't tell: block scalars have theirs in the header (8.1.1; own).
 use Rattle.std.specs.Prelude.{◌≡◌, ℕ, ◌+◌, List, [], ◌∷◌, ◌++◌, length, Option, true, false}
-use Rattle.yq_core.specs.Block.{BlockText}
-use Rattle.yq_core.specs.Paths.{Step, changed_at, relabel_child, within}
-use Rattle.yq_outline.specs.Comments.{line_comment}
-use Rattle.yq_outline.specs.Places.{FoundLine}
-use Rattle.yq_row_table.specs.Exchange.{allows_first, asked_behind, with_content}
-use Rattle.yq_row_table.specs.Grammar.{unlimited, limit_after}
-use Rattle.yq_row_table.specs.Rows as rows
-use Rattle.yq_row_table.specs.Rows.{Content, Block, Row, rows_text, Part, Cut, cut_text}
-use Rattle.yq_row_table.specs.Seams.{TakesPlace}
-use Rattle.yq_row_table.specs.Splices.{first_gap}
-use Rattle.yq_documents.specs.Documents.{ContentHasFitKeys, is_long_plain, lead_of}
-use Rattle.yq_outline.specs.Lines.{content_anchor, head_of, tail_of, lines_of_rows}
-use Rattle.yq_documents.specs.Reading.{part_outline}
-use Rattle.yq_places.specs.RowPaths.{IsReadable}
+use Rattle.yq_core.{specs.Block.BlockText, specs.Paths.{Step, changed_at, relabel_child, within}}
+use Rattle.yq_outline.{specs.Comments.line_comment, specs.Places.FoundLine, specs.Lines.{content_anchor, head_of, tail_of, lines_of_rows}}
+use Rattle.yq_row_table.{specs.Exchange.{allows_first, asked_behind, with_content}, specs.Grammar.{unlimited, limit_after}}
+use Rattle.yq_row_table.{specs.Rows.{Content, Block, Row, rows_text, Part, Cut, cut_text}, specs.Seams.TakesPlace, specs.Splices.first_gap}
+use Rattle.yq_documents.{specs.Documents.{ContentHasFitKeys, is_long_plain, lead_of}, specs.Reading.part_outline}
 use Rattle.yq_documents.specs.TreeEdits.{with_line_comment}
-use Rattle.yq_edits.specs.Appends.{inserted}
-use Rattle.yq_edits.specs.Changed.{IsChanged, put_document}
-use Rattle.yq_edits.specs.DocumentRows.{IsDocumentPart, behind_document}
-use Rattle.yq_edits.specs.LineRows.{lines_before_entry}
-use Rattle.yq_edits.specs.Replaces.{RowsReplace}
-use Rattle.yq_edits.specs.Siblings.{IsEntryAt, NodeLines}
+use Rattle.yq_places.specs.RowPaths.{IsReadable}
+use Rattle.yq_edits.{specs.Appends.inserted, specs.Changed.{IsChanged, put_document}, specs.DocumentRows.{IsDocumentPart, behind_document}}
+use Rattle.yq_edits.{specs.LineRows.lines_before_entry, specs.Replaces.RowsReplace, specs.Siblings.{IsEntryAt, NodeLines}}
+use Rattle.yq_row_table.specs.Rows as rows
 
 -- A row takes the place of one of a part before a rest, and the next row may follow it.
 pub record TakesRow (p : Part) (front : List Row) (r new : Row) (back : List Row) (rest : List ℕ) : Type 0 where

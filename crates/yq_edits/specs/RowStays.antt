@@ -1,18 +1,11 @@
 -- What stands behind rows that gave way to others of the same shapes (own).
 use Rattle.std.specs.Prelude.{◌≡◌, ◌⊎◌, ℕ, suc, ◌<◌, ◌≤◌, List, [], ◌∷◌, ◌++◌, drop, length, map, slice_get, Some}
-use Rattle.yq_core.specs.Paths.{Step}
-use Rattle.yq_core.specs.Tree.{Node}
-use Rattle.yq_outline.specs.Outline.{anchored}
+use Rattle.yq_core.{specs.Paths.Step, specs.Tree.Node}
+use Rattle.yq_outline.{specs.Outline.anchored, specs.Lines.{content_anchor, head_of}}
 use Rattle.yq_row_table.specs.Rows.{Row, Part, Cut}
-use Rattle.yq_documents.specs.Documents.{document_parts}
-use Rattle.yq_documents.specs.LinesInRows.{RowLine, row_line_of}
-use Rattle.yq_outline.specs.Lines.{content_anchor, head_of}
-use Rattle.yq_places.specs.NodesAt.{node_in}
-use Rattle.yq_places.specs.Standings.{RowsOfEntry, rows_of_entry}
-use Rattle.yq_edits.specs.Appends.{inserted}
-use Rattle.yq_edits.specs.Changed.{put_document}
-use Rattle.yq_edits.specs.Rooms.{row_shape}
-use Rattle.yq_edits.specs.StandingLaws.{StandsThere}
+use Rattle.yq_documents.{specs.Documents.document_parts, specs.LinesInRows.{RowLine, row_line_of}}
+use Rattle.yq_places.{specs.NodesAt.node_in, specs.Standings.{RowsOfEntry, rows_of_entry}}
+use Rattle.yq_edits.{specs.Appends.inserted, specs.Changed.put_document, specs.Rooms.row_shape, specs.StandingLaws.StandsThere}
 
 -- A part is another one but for the first so many of its rows, which keep their shapes (own).
 pub record StaysFrom (n : ℕ) (p q : Part) : Type 0 where

@@ -1,11 +1,11 @@
 -- Items or entries of a block collection exchanged, and the lines of a node at a path (own).
 use Rattle.std.specs.Prelude.{◌≡◌, ℕ, ◌<◌, List, [], ◌∷◌, ◌++◌, Option, Some, None, option_and_then, ⊤}
-use Rattle.yq_core.specs.Paths.{Step, append_child, changed_at, relabel_child, remove_child, within}
-use Rattle.yq_core.specs.Tree.{Label, Node, Children}
-use Rattle.yq_outline.specs.Group.{level_or}
-use Rattle.yq_outline.specs.Laws.{with_lines}
-use Rattle.yq_outline.specs.Outline.{LineMark, Bare, Key, Dash, Line, level, Outline, end, row, flatten, IsOpen, IsEven, anchored, label, children, value, Stands}
-use Rattle.yq_outline.specs.Places.{Context, here, below, plug, lines_before, lines_after, compose, FoundLine, find_row, find, content_under}
+use Rattle.yq_core.{specs.Paths.{Step, append_child, changed_at, relabel_child, remove_child, within}, specs.Tree.{Label, Node, Children}}
+use Rattle.yq_outline.{specs.Group.level_or, specs.Laws.with_lines}
+use Rattle.yq_outline.specs.Outline.{LineMark, Bare, Key, Dash, Line, level, Outline, end, row, flatten, IsOpen, IsEven, anchored, label}
+use Rattle.yq_outline.specs.Outline.{children, value, Stands}
+use Rattle.yq_outline.specs.Places.{Context, here, below, plug, lines_before, lines_after, compose, FoundLine, find_row, find}
+use Rattle.yq_outline.specs.Places.{content_under}
 
 -- an outline with another one behind it
 abbrev pub append_outline : Outline → Outline → Outline

@@ -2,8 +2,7 @@
 use Rattle.std.specs.Prelude.{◌≡◌, ℕ, suc, ◌+◌, ◌≤◌, List, [], ◌∷◌, length, Option, Some, None, ⊤}
 use Rattle.yq_core.specs.Keys.{HasUniqueKeys, depth, keys_of}
 use Rattle.yq_core.specs.Paths.{Step, append_child, changed_at, child_at, node_at, relabel_child, remove_child, within}
-use Rattle.yq_core.specs.Tree.{Label, Node, alias, scalar, list, map, children_of}
-use Rattle.yq_core.specs.Inline.{depth_limit}
+use Rattle.yq_core.{specs.Tree.{Label, Node, alias, scalar, list, map, children_of}, specs.Inline.depth_limit}
 use Rattle.yq_core.specs.Anchors.{Name, Refers, names_of, names_in, IsAmong, AreBound}
 use Rattle.yq_edits.specs.Conditions.{AreSpared}
 use Rattle.yq_documents.specs.TreeEdits.{replaced_node}

@@ -1,21 +1,12 @@
 -- What is owed of the rows in which items and entries stand, and of what these hold (own).
 use Rattle.std.specs.Prelude.{◌≡◌, ◌⊎◌, ℕ, suc, ◌+◌, List, [], ◌∷◌, ◌++◌, length, nat_lt, slice_get, Some}
-use Rattle.yq_core.specs.Paths.{Step}
-use Rattle.yq_core.specs.Tree.{Node}
-use Rattle.yq_core.specs.Trees.{items_tree}
-use Rattle.yq_outline.specs.Counts.{count}
-use Rattle.yq_outline.specs.Outline.{flatten}
-use Rattle.yq_outline.specs.Places.{FoundLine, find, lines_before}
+use Rattle.yq_core.{specs.Paths.Step, specs.Tree.Node, specs.Trees.items_tree}
+use Rattle.yq_outline.{specs.Counts.count, specs.Outline.flatten, specs.Places.{FoundLine, find, lines_before}, specs.Lines.lines_of_rows}
 use Rattle.yq_row_table.specs.Rows.{Cut, Part, cut_text, part_text}
-use Rattle.yq_documents.specs.Documents.{document_parts}
-use Rattle.yq_outline.specs.Lines.{lines_of_rows}
-use Rattle.yq_documents.specs.Reading.{part_outline, read_at}
-use Rattle.yq_places.specs.NodesAt.{node_in}
-use Rattle.yq_places.specs.RemovalPlaces.{has_others_at}
-use Rattle.yq_edits.specs.Changed.{put_document}
-use Rattle.yq_edits.specs.DocumentRows.{IsDocumentPart, behind_document}
-use Rattle.yq_edits.specs.TextPieces.{IsPiece}
+use Rattle.yq_documents.{specs.Documents.document_parts, specs.Reading.{part_outline, read_at}}
+use Rattle.yq_places.{specs.NodesAt.node_in, specs.RemovalPlaces.has_others_at}
 use Rattle.yq_places.specs.Standings.{RowsOfEntry, FlowPart, Held, Standing, rows_of_entry, flow_standing, held, last_step, standing_at}
+use Rattle.yq_edits.{specs.Changed.put_document, specs.DocumentRows.{IsDocumentPart, behind_document}, specs.TextPieces.IsPiece}
 
 -- ---- there is something
 

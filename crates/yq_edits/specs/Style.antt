@@ -1,13 +1,8 @@
 -- How a scalar is written in the place of another.
-use Rattle.std.specs.Prelude.{ℕ, Bool, ◌&&◌, ◌==◌, if◌then◌else◌}
-use Rattle.std.specs.Str.{bytes_eq}
-use Rattle.yq_core.specs.declared.kind.Kind.{Kind}
+use Rattle.std.{specs.Prelude.{ℕ, Bool, ◌&&◌, ◌==◌, if◌then◌else◌}, specs.Str.bytes_eq}
+use Rattle.yq_core.{specs.declared.kind.Kind.Kind, specs.Scalar.ScalarText, specs.Writable.can_write, specs.declared.style.Place.Place}
+use Rattle.yq_core.{specs.declared.style.Style.Style, specs.declared.style.Style.TheVariants.{Plain, Double}}
 use Rattle.yq_core.specs.declared.kind.Kind.TheVariants as kinds
-use Rattle.yq_core.specs.Scalar.{ScalarText}
-use Rattle.yq_core.specs.Writable.{can_write}
-use Rattle.yq_core.specs.declared.style.Place.{Place}
-use Rattle.yq_core.specs.declared.style.Style.{Style}
-use Rattle.yq_core.specs.declared.style.Style.TheVariants.{Plain, Double}
 
 -- the row of the core schema's table that a kind has, from 0 (YAML 1.2.2, section 10.3.2)
 abbrev pub table_row : Kind → ℕ

@@ -1,8 +1,6 @@
 -- Pieces of a text, which can be joined to texts that may be read (own).
-use Rattle.std.specs.Prelude.{◌≡◌, ◌<◌, ℕ, List, [], ◌∷◌, ◌++◌, Some, true, false}
-use Rattle.std.specs.Str.{IsUtf8}
-use Rattle.yq_core.specs.Characters.{is_text}
-use Rattle.yq_core.specs.Text.{is_feed}
+use Rattle.std.{specs.Prelude.{◌≡◌, ◌<◌, ℕ, List, [], ◌∷◌, ◌++◌, Some, true, false}, specs.Str.IsUtf8}
+use Rattle.yq_core.{specs.Characters.is_text, specs.Text.is_feed}
 use Rattle.yq_row_table.specs.Rows.{Cut, cut_text}
 use Rattle.yq_documents.specs.Reading.{read_at}
 

@@ -1,12 +1,10 @@
 -- The rows under an item or entry, where what is written behind its mark gives way to another content (own).
 use Rattle.std.specs.Prelude.{◌≡◌, ℕ, ◌+◌, List, [], ◌∷◌, ◌++◌, length, Some}
 use Rattle.yq_core.specs.Paths.{Step}
-use Rattle.yq_core.specs.Nodes as inline
-use Rattle.yq_outline.specs.Outline.{flatten}
-use Rattle.yq_outline.specs.Places.{lines_before, FoundLine, find}
+use Rattle.yq_outline.{specs.Outline.flatten, specs.Places.{lines_before, FoundLine, find}, specs.Lines.lines_of_rows}
 use Rattle.yq_row_table.specs.Rows.{Content, Inline, Row, Part}
-use Rattle.yq_outline.specs.Lines.{lines_of_rows}
 use Rattle.yq_documents.specs.Reading.{part_outline}
+use Rattle.yq_core.specs.Nodes as inline
 
 -- Steps lead to an item or entry whose line is that of a row's mark, with these rows under it, between others in front and others behind.
 pub record HasUnder (p : Part) (s : Step) (ss : List Step) (front : List Row) (r : Row) (under back : List Row) : Type 0 where

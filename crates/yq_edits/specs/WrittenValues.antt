@@ -1,17 +1,10 @@
 -- How a value is written at a place (YAML 1.2.2, 7 and 8; own).
 use Rattle.std.specs.Prelude.{ℕ, ◌+◌, ◌||◌, not, List, [], ◌++◌, replicate, Bool, if◌then◌else◌}
-use Rattle.yq_core.specs.Tree.{Node, alias, scalar, list, map}
-use Rattle.yq_core.specs.Written.{written_scalar}
-use Rattle.yq_core.specs.declared.style.Place.{Place}
-use Rattle.yq_core.specs.declared.style.Place.TheVariants.{Block as InBlock}
-use Rattle.yq_core.specs.Scalars.{scalar_style}
-use Rattle.yq_core.specs.NodesWritten.{flow_text}
+use Rattle.yq_core.{specs.Tree.{Node, alias, scalar, list, map}, specs.Written.written_scalar, specs.declared.style.Place.Place}
+use Rattle.yq_core.{specs.declared.style.Place.TheVariants.Block as InBlock, specs.Scalars.scalar_style, specs.NodesWritten.flow_text}
 use Rattle.yq_places.specs.Standings.{MarkPieces}
-use Rattle.yq_edits.specs.declared.layout.Layout.{Layout}
-use Rattle.yq_edits.specs.BlockReading.{is_filled}
-use Rattle.yq_edits.specs.BlockRows.{indent_step, item_column}
-use Rattle.yq_edits.specs.BlockText.{block_value}
-use Rattle.yq_edits.specs.Style.{style_in}
+use Rattle.yq_edits.{specs.declared.layout.Layout.Layout, specs.BlockReading.is_filled, specs.BlockRows.{indent_step, item_column}}
+use Rattle.yq_edits.{specs.BlockText.block_value, specs.Style.style_in}
 
 -- a value on one line, in the place of a text: a scalar in the style of that, if this can write it, else plain if it can be, else in double quotes; a
 -- collection in flow style (7)

@@ -1,10 +1,10 @@
 //! Laws on lines exchanged, for the crates above.
-ghost use Rattle.yq_edits.specs.After.{EndIsChange};
-ghost use Rattle.yq_edits.specs.Changed.{DocumentChanged, DocumentPut, LeadIsFirst, PartStands};
+ghost use Rattle.yq_edits.{specs.After.EndIsChange, specs.Changed.{DocumentChanged, DocumentPut, LeadIsFirst, PartStands}};
 ghost use Rattle.yq_edits.specs.Conditions.{AnchorsStay, BoundChanged, BoundStays, DepthChanged, LinesAmong, NamesAround, UniqueChanged};
-ghost use Rattle.yq_edits.specs.Edited.{LinesAreThere, LeadIsAbove, LineExchanged, LineRelabelled, LinesAppended, LinesExchanged, LinesRemoved, OldIsEven, OldIsSound, RootHasLead};
-ghost use Rattle.yq_edits.specs.BlockChanges.{EntryAppended, EntryRelabelled, EntryRemoved, FirstDropped, FirstRemoved, NodeReplaced, RootReplaced};
-ghost use Rattle.yq_edits.specs.Moved.{DashesFirst, FirstEmptied, FirstMoved};
+ghost use Rattle.yq_edits.specs.Edited.{LinesAreThere, LeadIsAbove, LineExchanged, LineRelabelled, LinesAppended, LinesExchanged};
+ghost use Rattle.yq_edits.specs.Edited.{LinesRemoved, OldIsEven, OldIsSound, RootHasLead};
+ghost use Rattle.yq_edits.specs.BlockChanges.{EntryAppended, EntryRelabelled, EntryRemoved, FirstDropped, FirstRemoved, NodeReplaced};
+ghost use Rattle.yq_edits.{specs.BlockChanges.RootReplaced, specs.Moved.{DashesFirst, FirstEmptied, FirstMoved}};
 ghost use Rattle.yq_edits.specs.SoundRoots.{AppendKeeps, RelabelKeeps, RemoveKeeps, ReplaceKeeps};
 ghost use Rattle.yq_edits.specs.Placed.{EntryPlaced, FoundIsEntry, LinePlaced, RowsInParts, SameParts};
 ghost use Rattle.yq_edits.specs.Siblings.{Appended, CollectionReplaced, LinesReplaced, Relabelled, Removed};

@@ -3,9 +3,8 @@ ghost use Rattle.std.specs.Prelude.{◌≡◌, ◌++◌, IfOk, OnOk, string_byte
 ghost use Rattle.yq_flow_edits.specs.Valued.{IsValueTree};
 ghost use Rattle.yq_core.specs.Values.{value_node};
 ghost use Rattle.yq_outline.specs.Bodies.{borrowed};
-ghost use Rattle.yq_edits.specs.Alone.{singleton};
+ghost use Rattle.yq_edits.{specs.Alone.singleton, specs.BlockText.block_value};
 ghost use Rattle.yq_edits.specs.BlockReading as spec;
-ghost use Rattle.yq_edits.specs.BlockText.{block_value};
 
 use crate::layout::Layout;
 use crate::pieces::{add, push_front};

@@ -1,16 +1,12 @@
 //! Whole operations, by the rows that they exchange.
-ghost use Rattle.yq_edits.specs.Appends.{BlockAppended};
-ghost use Rattle.yq_edits.specs.Columns.{BlockIsDeeper, ClosedStandsLess, NextAllowed, NextStays};
-ghost use Rattle.yq_edits.specs.Ends.{EndAppended};
-ghost use Rattle.yq_edits.specs.Heads.{HeadCommented};
-ghost use Rattle.yq_edits.specs.Contents.{LowerContentReplaced, RootContentReplaced};
-ghost use Rattle.yq_edits.specs.DocumentRows.{DocumentKnown, DocumentSpliced, PartNumbered, RowsPut};
-ghost use Rattle.yq_edits.specs.LineComments.{LineCommented};
+ghost use Rattle.yq_edits.{specs.Appends.BlockAppended, specs.Columns.{BlockIsDeeper, ClosedStandsLess, NextAllowed, NextStays}};
+ghost use Rattle.yq_edits.{specs.Ends.EndAppended, specs.Heads.HeadCommented, specs.Contents.{LowerContentReplaced, RootContentReplaced}};
+ghost use Rattle.yq_edits.{specs.DocumentRows.{DocumentKnown, DocumentSpliced, PartNumbered, RowsPut}, specs.LineComments.LineCommented};
 ghost use Rattle.yq_edits.specs.PathRows.{PathHeadCommented, PathIsEntry, PathLineCommented};
-ghost use Rattle.yq_edits.specs.RowComments.{BlockCommented, ContentCommented, RowReplaces};
-ghost use Rattle.yq_edits.specs.EntryRows.{EntryRows};
+ghost use Rattle.yq_edits.{specs.RowComments.{BlockCommented, ContentCommented, RowReplaces}, specs.EntryRows.EntryRows};
 ghost use Rattle.yq_edits.specs.FlowRows.{FlowEdited, FlowFound, FlowStands, RowTexts};
-ghost use Rattle.yq_edits.specs.Replaces.{DocumentReplaced, DocumentRooted, FirstRowDropped, FirstRowMoved, NodeRowsReplaced, RootRowsReplaced};
+ghost use Rattle.yq_edits.specs.Replaces.{DocumentReplaced, DocumentRooted, FirstRowDropped, FirstRowMoved, NodeRowsReplaced};
+ghost use Rattle.yq_edits.specs.Replaces.{RootRowsReplaced};
 ghost use Rattle.yq_edits.specs.LineRows.{EntriesApart, EvenClosed, LinesApart, RowBegins, RowLineSplits};
 
 /// Rows of a document exchanged, by the document's number among the parts.

@@ -1,6 +1,5 @@
 //! Pieces of lines in block style.
-ghost use Rattle.std.specs.Prelude.{◌≡◌, ◌+◌, ◌++◌, IfOk, OnOk, string_bytes};
-ghost use Rattle.std.specs.Str.{IsUtf8};
+ghost use Rattle.std.{specs.Prelude.{◌≡◌, ◌+◌, ◌++◌, IfOk, OnOk, string_bytes}, specs.Str.IsUtf8};
 ghost use Rattle.yq_edits.specs.BlockReading as spec;
 ghost use Rattle.yq_edits.specs.BlockRows as rows;
 

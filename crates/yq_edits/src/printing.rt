@@ -2,8 +2,7 @@
 ghost use Rattle.std.specs.Prelude.{◌≡◌, ◌++◌, IfOk, OnOk, string_bytes};
 ghost use Rattle.yq_flow_edits.specs.Valued.{IsValueTree};
 ghost use Rattle.yq_core.specs.Values.{value_node};
-ghost use Rattle.yq_edits.specs.BlockLaws.{ReadsAlone};
-ghost use Rattle.yq_edits.specs.BlockValues.{IsCollection};
+ghost use Rattle.yq_edits.{specs.BlockLaws.ReadsAlone, specs.BlockValues.IsCollection};
 ghost use Rattle.yq_edits.specs.Print as spec;
 
 use crate::layout::Layout;

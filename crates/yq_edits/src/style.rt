@@ -1,8 +1,8 @@
 //! How a scalar is written in the place of another one.
 ghost use Rattle.std.specs.Prelude.{◌≡◌, true};
-ghost use Rattle.yq_core.specs.Writable as writable;
 ghost use Rattle.yq_core.specs.Written.{IsOneLine};
 ghost use Rattle.yq_flow_edits.specs.Valued.{IsValid};
+ghost use Rattle.yq_core.specs.Writable as writable;
 ghost use Rattle.yq_edits.specs.Style as spec;
 
 use yq_core::{Kind, Place, Scalar, Style};

@@ -2,9 +2,9 @@
 ghost use Rattle.std.specs.Prelude.{◌≡◌, ◌++◌, IfOk, OnOk, false, map, string_bytes, true};
 ghost use Rattle.yq_flow_edits.specs.Valued.{AreValueTrees, IsValueTree};
 ghost use Rattle.yq_core.specs.Values.{entries_of, field_of, items_of, value_node};
+ghost use Rattle.yq_edits.specs.BlockText.{block_value};
 ghost use Rattle.yq_edits.specs.BlockReading as spec;
 ghost use Rattle.yq_edits.specs.BlockRows as rows;
-ghost use Rattle.yq_edits.specs.BlockText.{block_value};
 
 use crate::layout::Layout;
 use crate::pieces::{add, push_front, push_line};

@@ -1,10 +1,8 @@
 //! How a value is written at a place.
 ghost use Rattle.std.specs.Prelude.{◌≡◌, ◌∷◌, ◌++◌, IfOk, OnOk, string_bytes};
-ghost use Rattle.yq_core.specs.Values.{value_node};
-ghost use Rattle.yq_core.specs.BlockWritten.{break_text};
+ghost use Rattle.yq_core.{specs.Values.value_node, specs.BlockWritten.break_text};
 ghost use Rattle.yq_places.specs.StandingViews.{held_mark_view};
-ghost use Rattle.yq_edits.specs.BlockRows.{item_column};
-ghost use Rattle.yq_edits.specs.BlockText.{block_value};
+ghost use Rattle.yq_edits.{specs.BlockRows.item_column, specs.BlockText.block_value};
 ghost use Rattle.yq_edits.specs.WrittenValues as spec;
 
 use crate::style::style_in;

@@ -1,16 +1,12 @@
 -- Copies of items and entries, one behind the other.
 use Rattle.std.proofs.Common.{◌≡◌, ℕ, ◌<◌, ◌≤◌, List, [], ◌∷◌, ◌++◌, None, sym, ap, ◌∙◌, arith, append-nil}
-use Rattle.yq_core.specs.Keys.{depth, deepest}
-use Rattle.yq_core.specs.Tree as tree
-use Rattle.yq_core.specs.Tree.{Label, Node, list, Children, child, children_of, none}
-use Rattle.yq_core.specs.Values.{entries}
+use Rattle.yq_core.{specs.Keys.{depth, deepest}, specs.Tree.{Label, Node, list, Children, child, children_of, none}, specs.Values.entries}
 use Rattle.yq_outline.specs.Counts.{count}
 use Rattle.yq_nodes.specs.Nodes.{kind_of}
+use Rattle.yq_semantics.{specs.Copies.{and_others, keyed, copy, item_copies, entry_copies}, specs.Judgement.{Judgement, and_then, gives}}
+use Rattle.yq_eval.{specs.PlaceView.put_behind, proofs.EachLaws.put_first}
+use Rattle.yq_core.specs.Tree as tree
 use Rattle.yq_nodes.specs.declared.nodes.node.NodeKind.TheVariants as kinds
-use Rattle.yq_semantics.specs.Copies.{and_others, keyed, copy, item_copies, entry_copies}
-use Rattle.yq_semantics.specs.Judgement.{Judgement, and_then, gives}
-use Rattle.yq_eval.specs.PlaceView.{put_behind}
-use Rattle.yq_eval.proofs.EachLaws.{put_first}
 
 -- one more behind what is there
 put_one : {V A : Type 0} (g : V → A) (before : List A) (v : V) (j : Judgement V) (others : Judgement (List A)) → j ≡ gives v →

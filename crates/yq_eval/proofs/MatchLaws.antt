@@ -1,30 +1,23 @@
 -- Matches of a pipe in documents: the nodes of its places, one document more.
-use Rattle.std.proofs.Common.{◌≡◌, ℕ, zero, suc, ◌+◌, ◌<◌, ◌≤◌, Bool, true, false, cond, List, [], ◌∷◌, ◌++◌, length, map, drop, Option, Some, None, option_map, refl, sym, ap, ◌∙◌, subst, add-one, append-nil, arith}
-use Rattle.std.proofs.lemmas.List.{drop_all}
-use Rattle.std.proofs.lemmas.Option.{same_Some}
-use Rattle.std.specs.List.{slice_get}
-use Rattle.std.specs.Prelude.{ℤ}
-use Rattle.yq_core.specs.declared.kind.Kind.{Kind}
-use Rattle.yq_core.specs.declared.kind.Kind.TheVariants as kinds
-use Rattle.yq_core.specs.Paths as paths
-use Rattle.yq_core.specs.Paths.{is_here, further, child_at}
-use Rattle.yq_core.specs.Tree as tree
+use Rattle.std.proofs.Common.{◌≡◌, ℕ, zero, suc, ◌+◌, ◌<◌, ◌≤◌, Bool, true, false, cond, List, [], ◌∷◌, ◌++◌, length, map, drop, Option}
+use Rattle.std.{proofs.Common.{Some, None, option_map, refl, sym, ap, ◌∙◌, subst, add-one, append-nil, arith}, proofs.lemmas.List.drop_all}
+use Rattle.std.{proofs.lemmas.Option.same_Some, specs.List.slice_get, specs.Prelude.ℤ}
+use Rattle.yq_core.{specs.declared.kind.Kind.Kind, specs.Paths.{is_here, further, child_at}}
 use Rattle.yq_core.specs.Tree.{Node, alias, scalar, list, Children, none, child}
 use Rattle.yq_documents.specs.Documents.{Document}
-use Rattle.yq_semantics.specs.Conditions.{node_there, value_of, condition_holds}
-use Rattle.yq_semantics.specs.Copies.{matches_in, matches_from}
+use Rattle.yq_semantics.{specs.Conditions.{node_there, value_of, condition_holds}, specs.Copies.{matches_in, matches_from}}
 use Rattle.yq_semantics.specs.Judgement.{MatchFails, Judgement, and_then, gives}
 use Rattle.yq_semantics.specs.Matching.{ChildFound, step_child, in_scalar, key_step, item_number, index_step}
 use Rattle.yq_semantics.specs.Pipes.{kept_place, select_on, stage_on, pipe_on, places}
-use Rattle.yq_eval.specs.PlaceView.{put_behind}
-use Rattle.yq_semantics.specs.Places.{Place, root_place, child_place, for_each, miss, found_place, stepped, all_steps, step_there, step_from, step_on, chained}
-use Rattle.yq_semantics.specs.Program.{PathStep, key, index, each, Stage, path, select}
-use Rattle.yq_eval.specs.TreeScalars.{HasScalars, EachHasScalars, HaveScalars}
-use Rattle.yq_semantics.specs.declared.expr_error.ExprError.{ExprError}
-use Rattle.yq_semantics.specs.declared.refusal.Refusal.{Refusal}
-use Rattle.yq_semantics.specs.declared.refusal.Refusal.TheVariants.{NotAMap, NotASequence}
+use Rattle.yq_semantics.specs.Places.{Place, root_place, child_place, for_each, miss, found_place, stepped, all_steps, step_there}
+use Rattle.yq_semantics.{specs.Places.{step_from, step_on, chained}, specs.Program.{PathStep, key, index, each, Stage, path, select}}
+use Rattle.yq_semantics.{specs.declared.expr_error.ExprError.ExprError, specs.declared.refusal.Refusal.Refusal}
+use Rattle.yq_semantics.{specs.declared.refusal.Refusal.TheVariants.{NotAMap, NotASequence}, proofs.JudgementLaws.{then_gives, gives_same}}
+use Rattle.yq_eval.{specs.PlaceView.put_behind, specs.TreeScalars.{HasScalars, EachHasScalars, HaveScalars}}
 use Rattle.yq_eval.proofs.EachLaws.{fails_then, put_both}
-use Rattle.yq_semantics.proofs.JudgementLaws.{then_gives, gives_same}
+use Rattle.yq_core.specs.declared.kind.Kind.TheVariants as kinds
+use Rattle.yq_core.specs.Paths as paths
+use Rattle.yq_core.specs.Tree as tree
 
 -- ---- the scalars of places
 

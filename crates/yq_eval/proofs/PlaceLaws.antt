@@ -2,13 +2,10 @@
 use Rattle.std.proofs.Common.{◌≡◌, ℕ, suc, ◌+◌, List, [], ◌∷◌, ◌++◌, map, refl, sym, ap, ◌∙◌, append_assoc, add-one, arith, Fits, w64, ◌<◌}
 use Rattle.std.proofs.lemmas.List.{map_push}
 use Rattle.yq_core.specs.Tree.{Label, Node, Children, none, child}
-use Rattle.yq_outline.specs.Counts.{count}
-use Rattle.yq_outline.specs.Outline.{null_node}
-use Rattle.yq_semantics.specs.Conditions.{node_there}
-use Rattle.yq_semantics.specs.Judgement.{gives}
+use Rattle.yq_outline.{specs.Counts.count, specs.Outline.null_node}
+use Rattle.yq_semantics.{specs.Conditions.node_there, specs.Judgement.gives}
+use Rattle.yq_semantics.{specs.Places.{Place, child_place, miss, step_by, step_from, stepped}, specs.Program.PathStep}
 use Rattle.yq_eval.specs.PlaceView.{place_of, places_of}
-use Rattle.yq_semantics.specs.Places.{Place, child_place, miss, step_by, step_from, stepped}
-use Rattle.yq_semantics.specs.Program.{PathStep}
 use Rattle.yq_eval.specs.declared.matching.place.FoundPlace as declared
 
 -- where a step is missing there is null

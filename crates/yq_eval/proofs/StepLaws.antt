@@ -1,23 +1,17 @@
 -- Where a step leads from a place, by what it is and by what stands there.
-use Rattle.std.proofs.Common.{◌≡◌, ◌⊎◌, inl, inr, ℕ, ◌≤◌, ◌<◌, List, [], ◌∷◌, ◌++◌, length, map, slice_index_or, Option, option_map, Bor, refl, sym, ap, ◌∙◌, rules, arith, append-nil}
-use Rattle.std.specs.Prelude.{ℤ}
-use Rattle.yq_core.specs.Paths.{Nth, child_at}
-use Rattle.yq_core.specs.Tree as tree
-use Rattle.yq_core.specs.Tree.{Node, alias, scalar, list, Children, children_of}
-use Rattle.yq_nodes.specs.Nodes.{kind_of, node_of}
-use Rattle.yq_nodes.specs.declared.nodes.node.NodeKind.{NodeKind}
-use Rattle.yq_nodes.specs.declared.nodes.node.NodeKind.TheVariants as node_kinds
-use Rattle.yq_eval.specs.declared.matching.place.Missing.{Missing, Further, Nothing, the_lemmas}
-use Rattle.yq_eval.specs.declared.matching.place.FoundPlace as declared
-use Rattle.yq_eval.specs.FoundView.{child_places}
-use Rattle.yq_eval.specs.PlaceView.{missing_of, path_of, place_of, places_of, put_behind}
-use Rattle.yq_semantics.specs.Judgement.{and_then, gives}
-use Rattle.yq_semantics.specs.Matching.{step_child, item_at_index, item_number}
+use Rattle.std.proofs.Common.{◌≡◌, ◌⊎◌, inl, inr, ℕ, ◌≤◌, ◌<◌, List, [], ◌∷◌, ◌++◌, length, map, slice_index_or, Option, option_map, Bor}
+use Rattle.std.{proofs.Common.{refl, sym, ap, ◌∙◌, rules, arith, append-nil}, specs.Prelude.ℤ}
+use Rattle.yq_core.{specs.Paths.{Nth, child_at}, specs.Tree.{Node, alias, scalar, list, Children, children_of}}
+use Rattle.yq_nodes.{specs.Nodes.{kind_of, node_of}, specs.declared.nodes.node.NodeKind.NodeKind}
+use Rattle.yq_eval.{specs.declared.matching.place.Missing.{Missing, Further, Nothing, the_lemmas}, specs.FoundView.child_places}
+use Rattle.yq_eval.{specs.PlaceView.{missing_of, path_of, place_of, places_of, put_behind}, proofs.PlaceLaws.missed_on}
+use Rattle.yq_semantics.{specs.Judgement.{and_then, gives}, specs.Matching.{step_child, item_at_index, item_number}}
 use Rattle.yq_semantics.specs.Places.{Place, all_steps, child_place, for_each, miss, step_from, step_on, stepped}
-use Rattle.yq_semantics.specs.Program.{PathStep, each}
-use Rattle.yq_semantics.specs.View.{program_step}
+use Rattle.yq_semantics.{specs.Program.{PathStep, each}, specs.View.program_step}
+use Rattle.yq_core.specs.Tree as tree
+use Rattle.yq_nodes.specs.declared.nodes.node.NodeKind.TheVariants as node_kinds
+use Rattle.yq_eval.specs.declared.matching.place.FoundPlace as declared
 use Rattle.yq_semantics.specs.declared.program.PathStep as program
-use Rattle.yq_eval.proofs.PlaceLaws.{missed_on}
 
 -- ---- what is missing
 

@@ -1,25 +1,18 @@
 -- The scalars of documents have the kinds of their texts.
-use Rattle.std.proofs.Common.{◌≡◌, ℕ, zero, suc, ◌+◌, ◌==◌, nat_lt, Bool, true, false, cond, List, [], ◌∷◌, ◌++◌, map, Option, Some, None, refl, subst}
-use Rattle.std.proofs.lemmas.Option.{none-some}
-use Rattle.std.specs.List.{slice_get}
-use Rattle.yq_core.specs.declared.kind.Kind.{Kind}
-use Rattle.yq_core.specs.declared.kind.Kind.TheVariants as kinds
-use Rattle.yq_core.specs.Scalar.{IsScalar, of_kind, string_of, plain_of}
-use Rattle.yq_core.specs.ContentReading.{plain_content, quoted_content}
-use Rattle.yq_core.specs.SchemaReading.{resolve}
-use Rattle.yq_core.specs.Tree as tree
-use Rattle.yq_core.specs.Tree.{Node, Children}
-use Rattle.yq_core.specs.Nodes as inline
-use Rattle.yq_core.specs.Scalars.{is_quoted, scalar_of}
-use Rattle.yq_core.specs.Trees.{tree_of, items_tree, with_name, node_head}
-use Rattle.yq_row_table.specs.Rows as rows
-use Rattle.yq_documents.specs.Documents.{Document}
-use Rattle.yq_outline.specs.Group.{deeper_lines, shallow, group}
-use Rattle.yq_outline.specs.Lines.{head_of, lines_from, row_lines, lines_of_rows}
-use Rattle.yq_outline.specs.Outline as outline
+use Rattle.std.proofs.Common.{◌≡◌, ℕ, zero, suc, ◌+◌, ◌==◌, nat_lt, Bool, true, false, cond, List, [], ◌∷◌, ◌++◌, map, Option, Some, None}
+use Rattle.std.{proofs.Common.{refl, subst}, proofs.lemmas.Option.none-some, specs.List.slice_get}
+use Rattle.yq_core.{specs.declared.kind.Kind.Kind, specs.Scalar.{IsScalar, of_kind, string_of, plain_of}}
+use Rattle.yq_core.{specs.ContentReading.{plain_content, quoted_content}, specs.SchemaReading.resolve, specs.Tree.{Node, Children}}
+use Rattle.yq_core.{specs.Scalars.{is_quoted, scalar_of}, specs.Trees.{tree_of, items_tree, with_name, node_head}}
+use Rattle.yq_documents.{specs.Documents.Document, specs.Reading.part_document}
+use Rattle.yq_outline.{specs.Group.{deeper_lines, shallow, group}, specs.Lines.{head_of, lines_from, row_lines, lines_of_rows}}
 use Rattle.yq_outline.specs.Outline.{LineMark, Bare, Key, Dash, Line, level, Outline, end, row, anchored, head_or, shaped, children}
-use Rattle.yq_documents.specs.Reading.{part_document}
 use Rattle.yq_eval.specs.TreeScalars.{HasScalars, EachHasScalars}
+use Rattle.yq_core.specs.declared.kind.Kind.TheVariants as kinds
+use Rattle.yq_core.specs.Tree as tree
+use Rattle.yq_core.specs.Nodes as inline
+use Rattle.yq_row_table.specs.Rows as rows
+use Rattle.yq_outline.specs.Outline as outline
 
 -- ---- inline nodes
 

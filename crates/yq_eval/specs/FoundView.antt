@@ -1,11 +1,11 @@
 -- The places that what a pipe finds stands for.
 use Rattle.std.specs.Prelude.{List, [], map}
-use Rattle.yq_core.specs.Paths as paths
 use Rattle.yq_core.specs.Tree.{Node, children_of}
 use Rattle.yq_nodes.specs.Nodes.{node_of}
-use Rattle.yq_eval.specs.declared.matching.found.FoundPlaces as found
 use Rattle.yq_eval.specs.PlaceView.{path_of, places_of}
 use Rattle.yq_semantics.specs.Places.{Place, child_place, stepped}
+use Rattle.yq_core.specs.Paths as paths
+use Rattle.yq_eval.specs.declared.matching.found.FoundPlaces as found
 
 -- the place of the node at a path (own)
 abbrev pub place_at_path : List paths.Step → Node → Place

@@ -1,7 +1,6 @@
 -- The matches that those of the code stand for.
 use Rattle.std.specs.Prelude.{ℕ, List, map}
-use Rattle.yq_core.specs.Tree.{Node}
-use Rattle.yq_core.specs.Values.{value_node}
+use Rattle.yq_core.{specs.Tree.Node, specs.Values.value_node}
 use Rattle.yq_eval.specs.declared.matched.Match.{Match}
 
 -- the number of the document and the copy that a match of the code stands for (own)

@@ -1,23 +1,18 @@
 -- The places that those of the code stand for.
-use Rattle.std.specs.Borrow.{Bor}
-use Rattle.std.specs.Prelude.{List, [], ◌∷◌, ◌++◌, map, Option, Some, None, option_map}
-use Rattle.yq_core.specs.Paths as paths
+use Rattle.std.{specs.Borrow.Bor, specs.Prelude.{List, [], ◌∷◌, ◌++◌, map, Option, Some, None, option_map}}
 use Rattle.yq_core.specs.Paths.{To, Nth}
-use Rattle.yq_core.specs.Tree as tree
-use Rattle.yq_nodes.specs.declared.nodes.node.Node as nodes
 use Rattle.yq_nodes.specs.Nodes.{node_of}
 use Rattle.yq_outline.specs.Outline.{null_node}
-use Rattle.yq_eval.specs.declared.matching.place.NodeStep as steps
 use Rattle.yq_eval.specs.declared.matching.place.NodePath.{NodePath, fold-NodePath}
 use Rattle.yq_eval.specs.declared.matching.place.NodePath.TheOpen.{NodePath-F}
-use Rattle.yq_eval.specs.declared.matching.place.Missing.{Missing, fold-Missing}
-use Rattle.yq_eval.specs.declared.matching.place.Missing.TheOpen.{Missing-F}
+use Rattle.yq_eval.{specs.declared.matching.place.Missing.{Missing, fold-Missing}, specs.declared.matching.place.Missing.TheOpen.Missing-F}
+use Rattle.yq_semantics.{specs.Judgement.{Judgement, and_then, gives}, specs.Matching.ChildFound, specs.Places.Place}
+use Rattle.yq_semantics.{specs.Program.PathStep, specs.View.program_step}
+use Rattle.yq_core.specs.Paths as paths
+use Rattle.yq_core.specs.Tree as tree
+use Rattle.yq_nodes.specs.declared.nodes.node.Node as nodes
+use Rattle.yq_eval.specs.declared.matching.place.NodeStep as steps
 use Rattle.yq_eval.specs.declared.matching.place.FoundPlace as declared
-use Rattle.yq_semantics.specs.Judgement.{Judgement, and_then, gives}
-use Rattle.yq_semantics.specs.Matching.{ChildFound}
-use Rattle.yq_semantics.specs.Places.{Place}
-use Rattle.yq_semantics.specs.Program.{PathStep}
-use Rattle.yq_semantics.specs.View.{program_step}
 
 -- the step to a node that one of the code stands for (own)
 abbrev pub node_step_of : steps.NodeStep → paths.Step

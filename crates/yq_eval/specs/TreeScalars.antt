@@ -1,7 +1,6 @@
 -- Trees whose scalars have the kinds of their texts, as those of documents do.
 use Rattle.std.specs.Prelude.{List, [], ◌∷◌, ⊤}
-use Rattle.yq_core.specs.Scalar.{IsScalar}
-use Rattle.yq_core.specs.Tree.{Node, alias, scalar, list, map, Children, none, child}
+use Rattle.yq_core.{specs.Scalar.IsScalar, specs.Tree.{Node, alias, scalar, list, map, Children, none, child}}
 use Rattle.yq_semantics.specs.Places.{Place}
 
 abbrev mutual

@@ -2,16 +2,11 @@
 ghost use Rattle.std.specs.Prelude.{◌≡◌, IfOk, List, map, true};
 ghost use Rattle.yq_nodes.specs.Nodes.{node_of};
 ghost use Rattle.yq_documents.specs.Reading.{documents_of};
-ghost use Rattle.yq_semantics.specs.Conditions.{value_of};
-ghost use Rattle.yq_semantics.specs.Copies as spec;
-ghost use Rattle.yq_semantics.specs.Judgement.{Judges};
-ghost use Rattle.yq_semantics.specs.MatchTrees.{AreMatches};
-ghost use Rattle.yq_eval.specs.MatchView.{matches_of};
-ghost use Rattle.yq_eval.specs.PlaceView.{place_of, places_of, put_behind};
-ghost use Rattle.yq_semantics.specs.Places.{for_each};
-ghost use Rattle.yq_semantics.specs.Program.{Stage as PipeStage, is_read, read};
+ghost use Rattle.yq_semantics.{specs.Conditions.value_of, specs.Judgement.Judges, specs.MatchTrees.AreMatches, specs.Places.for_each};
+ghost use Rattle.yq_semantics.{specs.Program.{Stage as PipeStage, is_read, read}, specs.View.{program_of, stage_of}};
+ghost use Rattle.yq_eval.{specs.MatchView.matches_of, specs.PlaceView.{place_of, places_of, put_behind}};
 ghost use Rattle.yq_eval.specs.TreeScalars.{HasScalars, HaveScalars};
-ghost use Rattle.yq_semantics.specs.View.{program_of, stage_of};
+ghost use Rattle.yq_semantics.specs.Copies as spec;
 
 use crate::{FoundPlace, copy_at, find};
 use bumpalo::Bump;

@@ -1,19 +1,14 @@
 -- What an update changes: place by place, and document by document.
-use Rattle.std.proofs.Common.{refl, append_assoc, ◌≡◌, ℕ, suc, ◌+◌, ◌<◌, ◌≤◌, List, [], ◌∷◌, ◌++◌, length, map, drop, sym, ap, ◌∙◌, subst, append-nil, add-one, arith}
-use Rattle.std.proofs.lemmas.List.{drop_all}
+use Rattle.std.proofs.Common.{refl, append_assoc, ◌≡◌, ℕ, suc, ◌+◌, ◌<◌, ◌≤◌, List, [], ◌∷◌, ◌++◌, length, map, drop, sym, ap, ◌∙◌, subst}
+use Rattle.std.{proofs.Common.{append-nil, add-one, arith}, proofs.lemmas.List.drop_all}
 use Rattle.yq_core.specs.Tree.{Node}
 use Rattle.yq_documents.specs.Documents.{Document}
 use Rattle.yq_semantics.specs.Changes.{Room, Changed, put_with_path, at_each, with_value, changes_at, changes_in, changes_from}
-use Rattle.yq_semantics.specs.Judgement.{MatchFails, Judgement, and_then, gives}
-use Rattle.yq_semantics.specs.Meaning.{roots_of}
-use Rattle.yq_eval.specs.PlaceView.{put_behind}
-use Rattle.yq_semantics.specs.Places.{Place, for_each}
-use Rattle.yq_semantics.specs.Program.{Stage, Term, Update, assign}
-use Rattle.yq_semantics.specs.RightValues.{right_value}
-use Rattle.yq_semantics.specs.declared.program.Operator.{Operator}
+use Rattle.yq_semantics.{specs.Judgement.{MatchFails, Judgement, and_then, gives}, specs.Meaning.roots_of, specs.Places.{Place, for_each}}
+use Rattle.yq_semantics.{specs.Program.{Stage, Term, Update, assign}, specs.RightValues.right_value}
+use Rattle.yq_semantics.{specs.declared.program.Operator.Operator, specs.declared.expr_error.ExprError.ExprError}
+use Rattle.yq_eval.{specs.PlaceView.put_behind, proofs.EachLaws.fails_then}
 use Rattle.yq_semantics.specs.declared.program.Operator.TheVariants as operator
-use Rattle.yq_semantics.specs.declared.expr_error.ExprError.{ExprError}
-use Rattle.yq_eval.proofs.EachLaws.{fails_then}
 
 -- ---- places
 

@@ -1,14 +1,11 @@
 -- Changes at a place: steps that are missing, and what is added.
-use Rattle.std.proofs.Common.{◌≡◌, ℕ, zero, suc, ◌-◌, ◌≤◌, Bool, cond, List, [], ◌∷◌, ◌++◌, length, map, take, drop, get_or, Some, None, refl, sym, ap, ◌∙◌, arith}
-use Rattle.std.specs.List.{list_any}
-use Rattle.std.proofs.lemmas.List.{map_push, take_rest}
-use Rattle.yq_core.specs.Tree as tree
+use Rattle.std.proofs.Common.{◌≡◌, ℕ, zero, suc, ◌-◌, ◌≤◌, Bool, cond, List, [], ◌∷◌, ◌++◌, length, map, take, drop, get_or, Some, None}
+use Rattle.std.{proofs.Common.{refl, sym, ap, ◌∙◌, arith}, specs.List.list_any, proofs.lemmas.List.{map_push, take_rest}}
 use Rattle.yq_core.specs.Tree.{Node, none, child, key_label}
-use Rattle.yq_semantics.specs.Changes.{nested, created, put_below}
-use Rattle.yq_semantics.specs.Judgement.{gives, refuses}
-use Rattle.yq_semantics.specs.declared.refusal.Refusal.TheVariants.{IndexOutOfRange}
-use Rattle.yq_semantics.proofs.Lists.{list_any_map}
+use Rattle.yq_semantics.{specs.Changes.{nested, created, put_below}, specs.Judgement.{gives, refuses}}
+use Rattle.yq_semantics.{specs.declared.refusal.Refusal.TheVariants.IndexOutOfRange, proofs.Lists.list_any_map}
 use Rattle.yq_semantics.specs.Program.{is_index, PathStep, key}
+use Rattle.yq_core.specs.Tree as tree
 
 -- a value under one key more, inside the others
 pub nested_last : (ms : List PathStep) (m : PathStep) (v : Node) → nested (ms ++ m ∷ []) v ≡ nested ms (nested (m ∷ []) v)

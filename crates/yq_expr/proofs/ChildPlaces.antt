@@ -1,11 +1,9 @@
 -- What is changed at the items or values of a node, one after the other.
 use Rattle.std.proofs.Common.{◌≡◌, ℕ, suc, ◌+◌, List, [], ◌∷◌, map, refl, sym, ap, ◌∙◌, add-one, append-nil, arith}
 use Rattle.yq_core.specs.Tree.{Label, Node, Children, none, child}
-use Rattle.yq_eval.specs.PlaceView.{put_behind}
-use Rattle.yq_eval.proofs.EachLaws.{each_more, each_fails}
+use Rattle.yq_eval.{specs.PlaceView.put_behind, proofs.EachLaws.{each_more, each_fails}}
 use Rattle.yq_semantics.specs.Judgement.{MatchFails, Judgement, gives, refuses}
-use Rattle.yq_semantics.specs.Places.{Place, child_place, for_each, step_by, stepped}
-use Rattle.yq_semantics.specs.declared.expr_error.ExprError.{ExprError}
+use Rattle.yq_semantics.{specs.Places.{Place, child_place, for_each, step_by, stepped}, specs.declared.expr_error.ExprError.ExprError}
 
 -- the places of items or entries, the first one apart
 pub first_child : (p : Place) (b : ℕ) (cs rest : Children) (label : Label) (n : Node) → cs ≡ child label n rest →

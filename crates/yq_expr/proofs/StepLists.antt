@@ -2,9 +2,7 @@
 use Rattle.std.proofs.Common.{◌≡◌, List, [], ◌∷◌, ◌++◌, map, reverse, sym, ap, ◌∙◌, append_assoc, refl, false}
 use Rattle.std.proofs.lemmas.List.{map-append, reverse-append}
 use Rattle.yq_core.specs.Tree.{Node}
-use Rattle.yq_semantics.specs.Changes.{add_below, is_there, put_with_path}
-use Rattle.yq_semantics.specs.Places.{Place}
-use Rattle.yq_semantics.specs.Program.{PathStep}
+use Rattle.yq_semantics.{specs.Changes.{add_below, is_there, put_with_path}, specs.Places.Place, specs.Program.PathStep}
 
 -- one more, behind those of which the last were pushed first
 pub pushed_back : {A B : Type 0} (f : A → B) (front : List B) (xs : List A) (x : A) → front ++ reverse (map f (xs ++ x ∷ [])) ≡ (front ++ f x ∷ []) ++ reverse (map f xs)

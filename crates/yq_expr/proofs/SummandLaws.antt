@@ -1,15 +1,11 @@
 -- The sum of two scalars with which a right side begins.
 use Rattle.std.proofs.Common.{refl, ◌≡◌, ℕ, cond, false, List, [], ◌∷◌, length, map, get_or, None, sym, ap, ◌∙◌, arith}
-use Rattle.yq_core.specs.declared.kind.Kind.{Kind}
-use Rattle.yq_core.specs.Tree.{Node, scalar}
+use Rattle.yq_core.{specs.declared.kind.Kind.Kind, specs.Tree.{Node, scalar}}
 use Rattle.yq_nodes.specs.Nodes.{kind_of, text_of}
-use Rattle.yq_nodes.specs.declared.nodes.node.NodeKind.TheVariants as kinds
 use Rattle.yq_expr.specs.Summand.{IsSummand}
-use Rattle.yq_semantics.specs.Copies.{copy}
-use Rattle.yq_semantics.specs.Judgement.{Judgement, and_then, gives}
-use Rattle.yq_semantics.specs.Places.{Place}
-use Rattle.yq_semantics.specs.RightValues.{is_null, scalar_sum, value_sum, sum, term_value, right_value}
-use Rattle.yq_semantics.specs.Program.{Term}
+use Rattle.yq_semantics.{specs.Copies.copy, specs.Judgement.{Judgement, and_then, gives}, specs.Places.Place}
+use Rattle.yq_semantics.{specs.RightValues.{is_null, scalar_sum, value_sum, sum, term_value, right_value}, specs.Program.Term}
+use Rattle.yq_nodes.specs.declared.nodes.node.NodeKind.TheVariants as kinds
 
 -- nothing more comes of a last step that gives what it has
 then_same : (j : Judgement Node) → and_then (λ (u : Node). gives u) j ≡ j

@@ -1,12 +1,9 @@
 -- What an update does at each place, as the code has it.
 use Rattle.std.specs.Prelude.{ℕ, List, map}
 use Rattle.yq_core.specs.Values.{value_node}
+use Rattle.yq_semantics.{specs.Changes.{Room, Changed, put_with_path, add_at, remove_at, comment_at}, specs.Judgement.{Judgement, and_then}}
+use Rattle.yq_semantics.{specs.Places.Place, specs.RightValues.right_value, specs.View.term_of}
 use Rattle.yq_expr.specs.declared.effect.Action as effect
-use Rattle.yq_semantics.specs.Changes.{Room, Changed, put_with_path, add_at, remove_at, comment_at}
-use Rattle.yq_semantics.specs.Judgement.{Judgement, and_then}
-use Rattle.yq_semantics.specs.Places.{Place}
-use Rattle.yq_semantics.specs.RightValues.{right_value}
-use Rattle.yq_semantics.specs.View.{term_of}
 
 -- what is changed at a place of the document of that number, which has such room (own)
 abbrev pub effect_at : ℕ → Room → effect.Action → Place → Judgement (List Changed)

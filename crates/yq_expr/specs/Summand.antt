@@ -1,9 +1,7 @@
 -- Scalars that are added as they stand.
 use Rattle.std.specs.Prelude.{◌≡◌, ℕ, List, false, None}
-use Rattle.yq_core.specs.declared.kind.Kind.{Kind}
-use Rattle.yq_core.specs.Tree.{Node, scalar}
-use Rattle.yq_semantics.specs.Judgement.{Judgement, gives}
-use Rattle.yq_semantics.specs.RightValues.{is_null}
+use Rattle.yq_core.{specs.declared.kind.Kind.Kind, specs.Tree.{Node, scalar}}
+use Rattle.yq_semantics.{specs.Judgement.{Judgement, gives}, specs.RightValues.is_null}
 
 -- what a term gives is the scalar of that kind and text, and not null (own)
 abbrev pub IsSummand : Kind → List ℕ → Judgement Node → Type 0

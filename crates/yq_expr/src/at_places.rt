@@ -1,18 +1,13 @@
 //! What is changed at each of places.
 ghost use Rattle.std.specs.Prelude.{◌≡◌, map};
-ghost use Rattle.yq_core.specs.Tree.{Node as TreeNode};
-ghost use Rattle.yq_core.specs.Anchors.{names_of};
+ghost use Rattle.yq_core.{specs.Tree.Node as TreeNode, specs.Anchors.names_of};
 ghost use Rattle.yq_nodes.specs.Nodes.{node_of};
-ghost use Rattle.yq_semantics.specs.Changes as spec;
-ghost use Rattle.yq_planner.specs.ChangeView.{changed_of};
+ghost use Rattle.yq_planner.{specs.ChangeView.changed_of, specs.Indexes.HasAliases};
 ghost use Rattle.yq_expr.specs.EffectView.{effect_at};
-ghost use Rattle.yq_planner.specs.Indexes.{HasAliases};
-ghost use Rattle.yq_semantics.specs.Judgement.{Judges, and_then};
-ghost use Rattle.yq_eval.specs.FoundView.{child_places, found_places};
-ghost use Rattle.yq_eval.specs.PlaceView.{path_of, place_of, places_of, put_behind};
-ghost use Rattle.yq_semantics.specs.PlacesApart.{AreIn, IsIn};
-ghost use Rattle.yq_semantics.specs.Rooms.{room_of};
+ghost use Rattle.yq_semantics.{specs.Judgement.{Judges, and_then}, specs.PlacesApart.{AreIn, IsIn}, specs.Rooms.room_of};
+ghost use Rattle.yq_eval.{specs.FoundView.{child_places, found_places}, specs.PlaceView.{path_of, place_of, places_of, put_behind}};
 ghost use Rattle.yq_eval.specs.TreeScalars.{HasScalars, HaveScalars};
+ghost use Rattle.yq_semantics.specs.Changes as spec;
 
 use crate::effect::{Action, change_at};
 use crate::push_change;

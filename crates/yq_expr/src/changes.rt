@@ -1,21 +1,13 @@
 //! What an update changes in documents.
 ghost use Rattle.std.specs.Prelude.{◌≡◌, ◌<◌, length, map, if◌then◌else◌};
-ghost use Rattle.yq_core.specs.Shapes.{IsTree};
-ghost use Rattle.yq_core.specs.Anchors.{names_of};
+ghost use Rattle.yq_core.{specs.Shapes.IsTree, specs.Anchors.names_of};
 ghost use Rattle.yq_nodes.specs.Nodes.{node_of};
 ghost use Rattle.yq_documents.specs.Reading.{documents_of};
+ghost use Rattle.yq_planner.{specs.ChangeView.{all_changed_of, changed_of}, specs.Indexes.HasAliases};
+ghost use Rattle.yq_semantics.{specs.Judgement.Judges, specs.Meaning.roots_of, specs.Places.root_place, specs.PlacesApart.AreIn};
+ghost use Rattle.yq_semantics.{specs.RightValues.right_value as right_sum, specs.Rooms.room_of, specs.View.{stage_of, term_of, update_of}};
+ghost use Rattle.yq_eval.{specs.FoundView.found_places, specs.TreeScalars.{HasScalars, HaveScalars}};
 ghost use Rattle.yq_semantics.specs.Changes as spec;
-ghost use Rattle.yq_planner.specs.ChangeView.{all_changed_of, changed_of};
-ghost use Rattle.yq_planner.specs.Indexes.{HasAliases};
-ghost use Rattle.yq_semantics.specs.Judgement.{Judges};
-ghost use Rattle.yq_semantics.specs.Meaning.{roots_of};
-ghost use Rattle.yq_eval.specs.FoundView.{found_places};
-ghost use Rattle.yq_semantics.specs.Places.{root_place};
-ghost use Rattle.yq_semantics.specs.PlacesApart.{AreIn};
-ghost use Rattle.yq_semantics.specs.RightValues.{right_value as right_sum};
-ghost use Rattle.yq_semantics.specs.Rooms.{room_of};
-ghost use Rattle.yq_eval.specs.TreeScalars.{HasScalars, HaveScalars};
-ghost use Rattle.yq_semantics.specs.View.{stage_of, term_of, update_of};
 
 use crate::at_places::at_found;
 use crate::effect::Action;

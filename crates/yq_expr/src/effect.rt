@@ -2,13 +2,11 @@
 ghost use Rattle.std.specs.Prelude.{◌≡◌, map};
 ghost use Rattle.yq_planner.specs.ChangeView.{placed};
 ghost use Rattle.yq_expr.specs.EffectView.{effect_at};
-ghost use Rattle.yq_semantics.specs.Judgement.{Judges};
+ghost use Rattle.yq_semantics.{specs.Judgement.Judges, specs.Rooms.{comment_part, room_of}};
 ghost use Rattle.yq_documents.specs.Located.{steps_of};
-ghost use Rattle.yq_eval.specs.PlaceView.{path_of, place_of};
-ghost use Rattle.yq_semantics.specs.Changes as spec;
-ghost use Rattle.yq_semantics.specs.Rooms.{comment_part, room_of};
-ghost use Rattle.yq_eval.specs.TreeScalars.{HasScalars};
+ghost use Rattle.yq_eval.{specs.PlaceView.{path_of, place_of}, specs.TreeScalars.HasScalars};
 ghost use Rattle.yq_core.specs.Values.{value_node};
+ghost use Rattle.yq_semantics.specs.Changes as spec;
 
 use crate::put::put;
 use crate::right_value::right_value;

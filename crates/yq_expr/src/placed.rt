@@ -1,14 +1,10 @@
 //! Changes at places, which nothing refuses.
 ghost use Rattle.std.specs.Prelude.{◌≡◌, map};
-ghost use Rattle.yq_core.specs.Anchors.{names_of};
-ghost use Rattle.yq_core.specs.Tree.{Node as TreeNode};
-ghost use Rattle.yq_core.specs.Entries.{tree_step};
-ghost use Rattle.yq_semantics.specs.Changes as spec;
-ghost use Rattle.yq_semantics.specs.Judgement.{Judges};
-ghost use Rattle.yq_semantics.specs.PlacesApart.{IsIn};
+ghost use Rattle.yq_core.{specs.Anchors.names_of, specs.Tree.Node as TreeNode, specs.Entries.tree_step};
+ghost use Rattle.yq_semantics.{specs.Judgement.Judges, specs.PlacesApart.IsIn};
 ghost use Rattle.yq_eval.specs.PlaceView.{path_of, place_of, put_behind};
-ghost use Rattle.yq_planner.specs.ChangeView.{changed_of, placed_change};
-ghost use Rattle.yq_planner.specs.Indexes.{HasAliases};
+ghost use Rattle.yq_planner.{specs.ChangeView.{changed_of, placed_change}, specs.Indexes.HasAliases};
+ghost use Rattle.yq_semantics.specs.Changes as spec;
 
 use std::alloc::Global;
 use yq_core::Step as TreeStep;

@@ -1,15 +1,10 @@
 //! Planning: the operations that carry out an update on documents.
 ghost use Rattle.std.specs.Prelude.{◌≡◌, ◌<◌, ◌∷◌, ◌⊎◌, [], IfOk, Some};
 ghost use Rattle.yq_documents.specs.Reading.{documents_of};
-ghost use Rattle.yq_semantics.specs.After.{all_after};
-ghost use Rattle.yq_semantics.specs.Fits.{AllFit};
-ghost use Rattle.yq_semantics.specs.Judgement.{Judges, gives, refuses};
-ghost use Rattle.yq_semantics.specs.Meaning.{meaning};
-ghost use Rattle.yq_semantics.specs.Operations.{operations_of};
+ghost use Rattle.yq_semantics.{specs.After.all_after, specs.Fits.AllFit, specs.Judgement.{Judges, gives, refuses}, specs.Meaning.meaning};
+ghost use Rattle.yq_semantics.{specs.Operations.operations_of, specs.Rooms.room_of, specs.View.{program_of, update_of}};
 ghost use Rattle.yq_semantics.specs.Plans as plans;
 ghost use Rattle.yq_semantics.specs.Program as spec;
-ghost use Rattle.yq_semantics.specs.Rooms.{room_of};
-ghost use Rattle.yq_semantics.specs.View.{program_of, update_of};
 
 use crate::changes::changes;
 use std::alloc::Global;

@@ -1,14 +1,11 @@
 //! A value that is put at a place.
-ghost use Rattle.std.specs.List.{list_any};
-ghost use Rattle.std.specs.Prelude.{◌≡◌, ◌∷◌, [], IfOk, map};
+ghost use Rattle.std.{specs.List.list_any, specs.Prelude.{◌≡◌, ◌∷◌, [], IfOk, map}};
 ghost use Rattle.yq_core.specs.Values.{value_node};
 ghost use Rattle.yq_nodes.specs.Nodes.{node_of};
-ghost use Rattle.yq_semantics.specs.Changes as spec;
 ghost use Rattle.yq_planner.specs.ChangeView.{change_of, placed};
-ghost use Rattle.yq_semantics.specs.Judgement.{Judges};
+ghost use Rattle.yq_semantics.{specs.Judgement.Judges, specs.Program.is_index, specs.View.program_step};
 ghost use Rattle.yq_eval.specs.PlaceView.{place_of};
-ghost use Rattle.yq_semantics.specs.Program.{is_index};
-ghost use Rattle.yq_semantics.specs.View.{program_step};
+ghost use Rattle.yq_semantics.specs.Changes as spec;
 
 use crate::steps::missing_steps;
 use std::alloc::{AllocError, Global};

@@ -1,15 +1,11 @@
 //! Right sides: sums of terms, from a place.
 ghost use Rattle.std.specs.Prelude.{◌≡◌, ◌∷◌, ℕ, [], IfSome, map, true};
 ghost use Rattle.yq_core.specs.Values.{value_node};
-ghost use Rattle.yq_semantics.specs.Judgement.{Judges, and_then};
-ghost use Rattle.yq_semantics.specs.Pipes.{pipe_on};
+ghost use Rattle.yq_semantics.{specs.Judgement.{Judges, and_then}, specs.Pipes.pipe_on, specs.Places.{Place as SpecPlace, chained}};
+ghost use Rattle.yq_semantics.{specs.Program.path, specs.View.{stage_of, term_of}};
 ghost use Rattle.yq_expr.specs.Summand.{IsSummand};
-ghost use Rattle.yq_eval.specs.PlaceView.{place_of, places_of};
-ghost use Rattle.yq_semantics.specs.Places.{Place as SpecPlace, chained};
+ghost use Rattle.yq_eval.{specs.PlaceView.{place_of, places_of}, specs.TreeScalars.{HasScalars, HaveScalars}};
 ghost use Rattle.yq_semantics.specs.RightValues as spec;
-ghost use Rattle.yq_eval.specs.TreeScalars.{HasScalars, HaveScalars};
-ghost use Rattle.yq_semantics.specs.Program.{path};
-ghost use Rattle.yq_semantics.specs.View.{stage_of, term_of};
 
 use bumpalo::Bump;
 use std::alloc::Global;

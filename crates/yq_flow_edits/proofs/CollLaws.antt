@@ -1,15 +1,12 @@
 -- The collection of a node, exchanged for another one.
-use Rattle.std.proofs.Common.{◌≡◌, inl, inr, ℕ, zero, suc, ◌+◌, ◌≤◌, Bool, true, false, not, eqb, cond, List, [], ◌∷◌, ◌++◌, length, Option, Some, None, refl, sym, ap, ◌∙◌, subst, arith, append_assoc, rules}
-use Rattle.std.proofs.lemmas.Bool.{false≢true, cond_both}
-use Rattle.std.proofs.lemmas.Option.{same_Some}
-use Rattle.yq_core.specs.Paths.{within}
-use Rattle.yq_core.specs.Text.{is_empty, is_white}
-use Rattle.yq_core.specs.Alike.{ends_lookahead, Alike, stop}
-use Rattle.yq_core.specs.Gaps.{IsInlineGap}
-use Rattle.yq_core.specs.Nodes.{FlowNode, empty, alias, scalar, coll, anchored, Items, node_text, flow_items_text, opening_bracket, begins_content, is_close, IsApart, IsLead, IsName, is_empty_node, IsFlowNode, AreFlowItems}
+use Rattle.std.proofs.Common.{◌≡◌, inl, inr, ℕ, zero, suc, ◌+◌, ◌≤◌, Bool, true, false, not, eqb, cond, List, [], ◌∷◌, ◌++◌, length, Option}
+use Rattle.std.proofs.Common.{Some, None, refl, sym, ap, ◌∙◌, subst, arith, append_assoc, rules}
+use Rattle.std.{proofs.lemmas.Bool.{false≢true, cond_both}, proofs.lemmas.Option.same_Some}
+use Rattle.yq_core.{specs.Paths.within, specs.Text.{is_empty, is_white}, specs.Alike.{ends_lookahead, Alike, stop}, specs.Gaps.IsInlineGap}
+use Rattle.yq_core.specs.Nodes.{FlowNode, empty, alias, scalar, coll, anchored, Items, node_text, flow_items_text, opening_bracket}
+use Rattle.yq_core.specs.Nodes.{begins_content, is_close, IsApart, IsLead, IsName, is_empty_node, IsFlowNode, AreFlowItems}
 use Rattle.yq_core.specs.Collections.{CollPieces, coll_text, coll_in, put_coll}
-use Rattle.yq_core.specs.Trees.{tree_collection, with_name, tree_of, items_tree}
-use Rattle.yq_core.proofs.AlikePieces.{gap_alike, none_unless, name_by}
+use Rattle.yq_core.{specs.Trees.{tree_collection, with_name, tree_of, items_tree}, proofs.AlikePieces.{gap_alike, none_unless, name_by}}
 use Rattle.yq_core.specs.Tree as tree
 
 pub open_stop : (k : ℕ) → ends_lookahead (opening_bracket k) ≡ true

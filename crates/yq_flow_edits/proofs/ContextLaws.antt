@@ -1,17 +1,12 @@
 -- A collection inside a node, exchanged for another one.
-use Rattle.std.proofs.Common.{◌≡◌, ℕ, Bool, true, false, List, [], ◌∷◌, ◌++◌, length, Option, Some, refl, sym, ap, ◌∙◌, subst, arith, append_assoc}
-use Rattle.std.proofs.lemmas.Option.{same_Some}
-use Rattle.yq_core.specs.Paths.{Step, change_child, within, changed_at}
-use Rattle.yq_core.specs.Alike.{Alike}
-use Rattle.yq_core.specs.Gaps.{IsInlineGap}
-use Rattle.yq_core.specs.Nodes.{FlowNode, empty, alias, scalar, coll, anchored, Items, node_text, flow_items_text, opening_bracket, is_empty_node, IsFlowNode, AreFlowItems}
-use Rattle.yq_core.specs.Entries.{EntryPieces, item_at, path_inside}
+use Rattle.std.proofs.Common.{◌≡◌, ℕ, Bool, true, false, List, [], ◌∷◌, ◌++◌, length, Option, Some, refl, sym, ap, ◌∙◌, subst, arith}
+use Rattle.std.{proofs.Common.append_assoc, proofs.lemmas.Option.same_Some}
+use Rattle.yq_core.{specs.Paths.{Step, change_child, within, changed_at}, specs.Alike.Alike, specs.Gaps.IsInlineGap}
+use Rattle.yq_core.specs.Nodes.{FlowNode, empty, alias, scalar, coll, anchored, Items, node_text, flow_items_text, opening_bracket}
+use Rattle.yq_core.{specs.Nodes.{is_empty_node, IsFlowNode, AreFlowItems}, specs.Entries.{EntryPieces, item_at, path_inside}}
 use Rattle.yq_core.specs.Collections.{CollPieces, coll_text, coll_in, coll_along, put_coll, within_items, change_item, collection_put}
-use Rattle.yq_core.specs.Trees.{tree_of}
-use Rattle.yq_core.proofs.AlikePieces.{gap_alike}
-use Rattle.yq_core.proofs.PathLaws.{then_some, items_hold}
-use Rattle.yq_flow_edits.proofs.ItemPlaces.{item_rest}
-use Rattle.yq_flow_edits.proofs.ItemSwaps.{items_change, in_items, Swapped, InItems, items_swap}
+use Rattle.yq_core.{specs.Trees.tree_of, proofs.AlikePieces.gap_alike, proofs.PathLaws.{then_some, items_hold}}
+use Rattle.yq_flow_edits.{proofs.ItemPlaces.item_rest, proofs.ItemSwaps.{items_change, in_items, Swapped, InItems, items_swap}}
 use Rattle.yq_flow_edits.proofs.CollLaws.{coll_stands, Stands}
 
 -- the collection in which a step finds its item

@@ -1,22 +1,15 @@
 -- Edits of a collection inside an inline node: a node replaced, an item or entry appended.
 use Rattle.std.proofs.Common.{◌≡◌, ℕ, ◌-◌, Bool, true, not, List, [], ◌∷◌, ◌++◌, length, Some, refl, sym, ap, ◌∙◌, subst, arith, eq-eqb}
-use Rattle.yq_core.specs.Paths.{Step, change_child, append_child, within, changed_at}
-use Rattle.yq_core.specs.Piece.{further_spaces}
-use Rattle.yq_core.specs.Writable.{in_flow}
-use Rattle.yq_core.specs.Gaps.{IsInlineGap}
-use Rattle.yq_core.specs.Inline.{depth_limit}
-use Rattle.yq_core.specs.Nodes.{Key, FlowNode, Items, none, item, key_text, node_text, flow_items_text, opening_bracket, is_close, AreFlowItems}
-use Rattle.yq_core.specs.Collections.{coll_text, collection_put, room_in, CollAt, item_in, IsCollAt}
-use Rattle.yq_flow_edits.specs.FlowEdits.{Becomes, put_item, put_value, FitsNode, behind_last, FitsItem, replacing, appending, IsFlowEdited, FlowEdit, behind_appended}
-use Rattle.yq_core.specs.Entries.{EntryPieces}
-use Rattle.yq_core.specs.Trees.{key_content, tree_of, items_tree}
-use Rattle.yq_flow_edits.proofs.CollLaws.{Stands}
-use Rattle.yq_flow_edits.proofs.ContextLaws.{path_stands}
-use Rattle.yq_flow_edits.proofs.ItemLaws.{put_local, put_before, becomes_same, add_local, item_begins}
-use Rattle.yq_flow_edits.proofs.LocalLaws.{no_gap_before}
-use Rattle.yq_core.proofs.NodesWrittenLaws.{node_then, key_append}
+use Rattle.yq_core.{specs.Paths.{Step, change_child, append_child, within, changed_at}, specs.Piece.further_spaces, specs.Writable.in_flow}
+use Rattle.yq_core.{specs.Gaps.IsInlineGap, specs.Inline.depth_limit}
+use Rattle.yq_core.specs.Nodes.{Key, FlowNode, Items, none, item, key_text, node_text, flow_items_text, opening_bracket, is_close}
+use Rattle.yq_core.{specs.Nodes.AreFlowItems, specs.Collections.{coll_text, collection_put, room_in, CollAt, item_in, IsCollAt}}
+use Rattle.yq_core.{specs.Entries.EntryPieces, specs.Trees.{key_content, tree_of, items_tree}}
+use Rattle.yq_core.{proofs.NodesWrittenLaws.{node_then, key_append}, specs.Tree.key_label}
+use Rattle.yq_flow_edits.specs.FlowEdits.{Becomes, put_item, put_value, FitsNode, behind_last, FitsItem, replacing, appending, IsFlowEdited}
+use Rattle.yq_flow_edits.{specs.FlowEdits.{FlowEdit, behind_appended}, proofs.CollLaws.Stands, proofs.ContextLaws.path_stands}
+use Rattle.yq_flow_edits.{proofs.ItemLaws.{put_local, put_before, becomes_same, add_local, item_begins}, proofs.LocalLaws.no_gap_before}
 use Rattle.yq_core.specs.Tree as tree
-use Rattle.yq_core.specs.Tree.{key_label}
 
 -- what is known of the collection, and of the node with another one there
 abbrev pub Around : CollAt → Type 0

@@ -1,25 +1,15 @@
 -- The bytes of an edit of a flow collection go from one whole character to another.
-use Rattle.std.proofs.Common.{◌≡◌, ◌⊎◌, inl, inr, ⊎_elim, ℕ, zero, suc, ◌-◌, ◌<◌, Bool, true, false, cond, eqb-true, eq-eqb, List, [], ◌∷◌, ◌++◌, length, drop, Option, Some, None, option_map, refl, ap, ◌∙◌, subst, arith, rules}
-use Rattle.std.proofs.lemmas.Bool.{false≢true, and_parts, or_cases}
-use Rattle.std.proofs.lemmas.Option.{none-some, same_Some}
-use Rattle.std.proofs.lemmas.Str.{IsCharBoundary-before_ascii}
-use Rattle.std.specs.Option.{option_or}
-use Rattle.std.specs.Prelude.{get_or}
-use Rattle.std.specs.Str.{IsCharBoundary}
-use Rattle.yq_core.specs.Paths.{Step, is_here, further}
-use Rattle.yq_core.specs.Text.{is_space}
-use Rattle.yq_core.specs.declared.piece.Piece.{Piece}
-use Rattle.yq_core.proofs.Boundaries.{space_ascii}
-use Rattle.yq_core.specs.Alike.{EndsItem}
-use Rattle.yq_core.specs.Entries.{end_of, entry_start, parts_in}
-use Rattle.yq_flow_edits.specs.FlowPlaces.{PlacedEdit, first_start, marks_before, only_end, past_gap, remove_before, remove_end, remove_part, remove_place, replace_place}
-use Rattle.yq_core.specs.Nodes.{begins_with, is_close}
-use Rattle.yq_core.specs.Places.{Placed, placed, CoreNode, Parts, end, part}
-use Rattle.yq_core.specs.Spans.{ContentHasSpans, HasKeySpan, HasSpans, PartsHaveSpans}
-use Rattle.yq_core.specs.Trees.{unplaced_key}
-use Rattle.yq_core.specs.Tree.{key_label}
+use Rattle.std.proofs.Common.{◌≡◌, ◌⊎◌, inl, inr, ⊎_elim, ℕ, zero, suc, ◌-◌, ◌<◌, Bool, true, false, cond, eqb-true, eq-eqb, List, [], ◌∷◌}
+use Rattle.std.proofs.Common.{◌++◌, length, drop, Option, Some, None, option_map, refl, ap, ◌∙◌, subst, arith, rules}
+use Rattle.std.{proofs.lemmas.Bool.{false≢true, and_parts, or_cases}, proofs.lemmas.Option.{none-some, same_Some}}
+use Rattle.std.{proofs.lemmas.Str.IsCharBoundary-before_ascii, specs.Option.option_or, specs.Prelude.get_or, specs.Str.IsCharBoundary}
+use Rattle.yq_core.{specs.Paths.{Step, is_here, further}, specs.Text.is_space, specs.declared.piece.Piece.Piece}
+use Rattle.yq_core.{proofs.Boundaries.space_ascii, specs.Alike.EndsItem, specs.Entries.{end_of, entry_start, parts_in}}
+use Rattle.yq_core.{specs.Nodes.{begins_with, is_close}, specs.Places.{Placed, placed, CoreNode, Parts, end, part}}
+use Rattle.yq_core.{specs.Spans.{ContentHasSpans, HasKeySpan, HasSpans, PartsHaveSpans}, specs.Trees.unplaced_key, specs.Tree.key_label}
 use Rattle.yq_core.proofs.EndLaws.{ends_by}
-use Rattle.yq_flow_edits.proofs.RemovePlaces.{drop_end}
+use Rattle.yq_flow_edits.specs.FlowPlaces.{PlacedEdit, first_start, marks_before, only_end, past_gap, remove_before, remove_end}
+use Rattle.yq_flow_edits.{specs.FlowPlaces.{remove_part, remove_place, replace_place}, proofs.RemovePlaces.drop_end}
 use Rattle.yq_flow_edits.proofs.RemoveTexts.{either}
 
 -- an edit begins and ends at whole characters

@@ -1,15 +1,11 @@
 -- The items and entries of the code.
-use Rattle.std.proofs.Common.{◌≡◌, ℕ, zero, suc, ◌-◌, ◌≤◌, List, [], ◌∷◌, length, take, drop, slice_index_or, Option, Some, None, option_map, refl, sym, ap, ◌∙◌, arith, String, string_bytes}
-use Rattle.std.proofs.lemmas.List.{take_all}
-use Rattle.std.specs.Option.{option_or}
-use Rattle.std.specs.declared.alloc.Global.{Global}
-use Rattle.yq_core.specs.Paths.{To, Nth}
-use Rattle.yq_core.specs.declared.inline.Inline.{Inline}
-use Rattle.yq_core.specs.declared.path.Step as declared
-use Rattle.yq_core.specs.Entries.{end_of, entry_start, tree_step}
+use Rattle.std.proofs.Common.{◌≡◌, ℕ, zero, suc, ◌-◌, ◌≤◌, List, [], ◌∷◌, length, take, drop, slice_index_or, Option, Some, None}
+use Rattle.std.{proofs.Common.{option_map, refl, sym, ap, ◌∙◌, arith, String, string_bytes}, proofs.lemmas.List.take_all}
+use Rattle.std.{specs.Option.option_or, specs.declared.alloc.Global.Global}
+use Rattle.yq_core.{specs.Paths.{To, Nth}, specs.declared.inline.Inline.Inline, specs.Entries.{end_of, entry_start, tree_step}}
+use Rattle.yq_core.{specs.View.{inline_view, items_end, entries_end}, proofs.PathLoops.Field}
 use Rattle.yq_flow_edits.specs.FlowPlaces.{last_end, only_end, remove_end, remove_part}
-use Rattle.yq_core.specs.View.{inline_view, items_end, entries_end}
-use Rattle.yq_core.proofs.PathLoops.{Field}
+use Rattle.yq_core.specs.declared.path.Step as declared
 
 last_item : (is : List Inline) (x d : Inline) → last_end (items_end (x ∷ is)) ≡ Some (end_of (inline_view (slice_index_or (x ∷ is) (length is) d)))
 last_item [] x d = refl

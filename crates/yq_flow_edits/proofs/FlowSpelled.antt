@@ -1,20 +1,13 @@
 -- What is written in flow style spells an entry, or a scalar, of a flow collection.
-use Rattle.std.proofs.Common.{◌≡◌, ℕ, true, List, [], ◌∷◌, ◌++◌, Some, refl, sym, ap, ◌∙◌, append_assoc}
-use Rattle.std.specs.Str.{IsUtf8}
-use Rattle.yq_core.specs.declared.style.Place.TheVariants as places
-use Rattle.yq_core.specs.declared.style.Style.{Style}
-use Rattle.yq_core.specs.Scalar.{ScalarText, string_of}
-use Rattle.yq_core.specs.Tree as tree
-use Rattle.yq_core.specs.Tree.{key_label}
-use Rattle.yq_core.specs.Writable.{can_write}
-use Rattle.yq_core.specs.Written as scalars
-use Rattle.yq_flow_edits.specs.FlowValues.{SpellsEntry, SpellsInFlow}
-use Rattle.yq_flow_edits.specs.Valued.{IsValid, IsValueTree}
-use Rattle.yq_core.specs.NodesWritten.{scalar_text, flow_key, flow_of, flow_text, entry_text}
-use Rattle.yq_flow_edits.proofs.SpelledLaws.{written_tree, entries_fit}
-use Rattle.yq_flow_edits.proofs.StyledScalars.{styled_spells}
+use Rattle.std.{proofs.Common.{◌≡◌, ℕ, true, List, [], ◌∷◌, ◌++◌, Some, refl, sym, ap, ◌∙◌, append_assoc}, specs.Str.IsUtf8}
+use Rattle.yq_core.{specs.declared.style.Style.Style, specs.Scalar.{ScalarText, string_of}, specs.Tree.key_label, specs.Writable.can_write}
+use Rattle.yq_core.{specs.NodesWritten.{scalar_text, flow_key, flow_of, flow_text, entry_text}, proofs.NodesWrittenLaws.node_then}
+use Rattle.yq_flow_edits.{specs.FlowValues.{SpellsEntry, SpellsInFlow}, specs.Valued.{IsValid, IsValueTree}}
+use Rattle.yq_flow_edits.{proofs.SpelledLaws.{written_tree, entries_fit}, proofs.StyledScalars.styled_spells}
 use Rattle.yq_flow_edits.proofs.ValueFits.{item_fits, scalar_fits, scalar_block}
-use Rattle.yq_core.proofs.NodesWrittenLaws.{node_then}
+use Rattle.yq_core.specs.declared.style.Place.TheVariants as places
+use Rattle.yq_core.specs.Tree as tree
+use Rattle.yq_core.specs.Written as scalars
 
 pub entry_spells : (k : List ℕ) (v : tree.Node) → IsUtf8 k → IsValueTree v → SpellsEntry k v (entry_text (k, v))
 entry_spells k v utf8 is = record {

@@ -1,33 +1,23 @@
 -- An item replaced, and one added behind the last.
-use Rattle.std.proofs.Common.{◌≡◌, ℕ, Bool, true, false, not, ◌&&◌, ◌||◌, cond, List, [], ◌∷◌, ◌++◌, Some, None, refl, sym, ap, ◌∙◌, subst, arith, append_assoc, rules}
-use Rattle.std.proofs.Math.Bool.{and-false}
-use Rattle.std.proofs.lemmas.Bool.{false≢true, or_right, not-true, or_parts}
-use Rattle.std.proofs.lemmas.Option.{same_Some}
-use Rattle.yq_core.specs.Paths.{Step, is_here, further, change_child, append_child}
-use Rattle.yq_core.specs.PlainText.{begins_marker}
-use Rattle.yq_core.specs.Text.{front, is_white, is_feed, is_return, is_space, is_marker, separates}
-use Rattle.yq_core.proofs.Bools.{at_byte}
-use Rattle.yq_core.specs.Alike.{Alike, stop, EndsItem, fresh, KeepsApart}
-use Rattle.yq_core.specs.Gaps.{IsInlineGap}
-use Rattle.yq_core.specs.Nodes.{Key, bare, keyed, Sep, last, comma, FlowNode, Items, none, item, key_text, sep_text, node_text, flow_items_text, begins_with, begins_node, is_close, IsInlineKey, IsSep, is_empty_node, is_keyed, IsFlowNode, AreFlowItems, without_anchor}
-use Rattle.yq_core.specs.Entries.{EntryPieces, item_at}
-use Rattle.yq_flow_edits.specs.FlowEdits.{Becomes, space_for, put_content, put_item, put_value, FitsNode, add_item, is_none, behind_last, FitsItem}
-use Rattle.yq_flow_edits.specs.Removals.{is_marks, ends_marked, ends_return, IsApartFrom}
-use Rattle.yq_core.specs.Trees.{key_content, tree_of, items_tree}
-use Rattle.yq_core.proofs.Alikes.{no_first, no_second, no_third, alike_append}
-use Rattle.yq_core.proofs.AlikePieces.{gap_alike}
-use Rattle.yq_flow_edits.proofs.ItemSwaps.{item_cut}
-use Rattle.yq_core.proofs.EndLaws.{ends_by}
-use Rattle.yq_core.proofs.GapLaws.{none_gap}
-use Rattle.yq_core.proofs.KeepLaws.{NotEmpty, some_text, gap_some, keeps_append, keeps_alike, some_begins}
-use Rattle.yq_core.proofs.KeyKeeps.{key_keeps}
-use Rattle.yq_core.proofs.NodeKeeps.{node_keeps, sep_ends, key_text_alike, node_text_alike}
-use Rattle.yq_flow_edits.proofs.LocalLaws.{Front, filled, space_before}
-use Rattle.yq_core.proofs.NodeAgain.{item_front}
-use Rattle.yq_core.proofs.NodesPieceLaws.{scalar_begins, scalar_some}
-use Rattle.yq_core.proofs.NodesWrittenLaws.{node_then, key_append}
-use Rattle.yq_core.specs.Tree as tree
+use Rattle.std.proofs.Common.{◌≡◌, ℕ, Bool, true, false, not, ◌&&◌, ◌||◌, cond, List, [], ◌∷◌, ◌++◌, Some, None, refl, sym, ap, ◌∙◌, subst}
+use Rattle.std.{proofs.Common.{arith, append_assoc, rules}, proofs.Math.Bool.and-false}
+use Rattle.std.{proofs.lemmas.Bool.{false≢true, or_right, not-true, or_parts}, proofs.lemmas.Option.same_Some}
+use Rattle.yq_core.{specs.Paths.{Step, is_here, further, change_child, append_child}, specs.PlainText.begins_marker}
+use Rattle.yq_core.{specs.Text.{front, is_white, is_feed, is_return, is_space, is_marker, separates}, proofs.Bools.at_byte}
+use Rattle.yq_core.{specs.Alike.{Alike, stop, EndsItem, fresh, KeepsApart}, specs.Gaps.IsInlineGap}
+use Rattle.yq_core.specs.Nodes.{Key, bare, keyed, Sep, last, comma, FlowNode, Items, none, item, key_text, sep_text, node_text}
+use Rattle.yq_core.specs.Nodes.{flow_items_text, begins_with, begins_node, is_close, IsInlineKey, IsSep, is_empty_node, is_keyed}
+use Rattle.yq_core.{specs.Nodes.{IsFlowNode, AreFlowItems, without_anchor}, specs.Entries.{EntryPieces, item_at}}
+use Rattle.yq_core.{specs.Trees.{key_content, tree_of, items_tree}, proofs.Alikes.{no_first, no_second, no_third, alike_append}}
+use Rattle.yq_core.{proofs.AlikePieces.gap_alike, proofs.EndLaws.ends_by, proofs.GapLaws.none_gap}
+use Rattle.yq_core.{proofs.KeepLaws.{NotEmpty, some_text, gap_some, keeps_append, keeps_alike, some_begins}, proofs.KeyKeeps.key_keeps}
+use Rattle.yq_core.{proofs.NodeKeeps.{node_keeps, sep_ends, key_text_alike, node_text_alike}, proofs.NodeAgain.item_front}
+use Rattle.yq_core.{proofs.NodesPieceLaws.{scalar_begins, scalar_some}, proofs.NodesWrittenLaws.{node_then, key_append}}
 use Rattle.yq_core.specs.Tree.{key_label}
+use Rattle.yq_flow_edits.specs.FlowEdits.{Becomes, space_for, put_content, put_item, put_value, FitsNode, add_item, is_none, behind_last}
+use Rattle.yq_flow_edits.{specs.FlowEdits.FitsItem, specs.Removals.{is_marks, ends_marked, ends_return, IsApartFrom}}
+use Rattle.yq_flow_edits.{proofs.ItemSwaps.item_cut, proofs.LocalLaws.{Front, filled, space_before}}
+use Rattle.yq_core.specs.Tree as tree
 
 -- Items of a collection give way to others, with this tree: these stand before the same rest, a gap before the ones may stand before the others, and
 -- bytes of their text give way to others.

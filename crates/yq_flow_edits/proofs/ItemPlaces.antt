@@ -1,17 +1,10 @@
 -- Where an item or entry stands among others, and what ends it.
-use Rattle.std.proofs.Common.{◌≡◌, ℕ, ◌≤◌, length, arith, length-append, Bool, true, false, cond, List, [], ◌∷◌, ◌++◌, Some, refl, sym, ap, ◌∙◌, subst, append_assoc}
-use Rattle.std.proofs.lemmas.Bool.{false≢true}
-use Rattle.std.proofs.lemmas.Option.{none-some, same_Some}
-use Rattle.yq_core.specs.Paths.{Step, is_here, further}
-use Rattle.yq_core.specs.Alike.{EndsItem}
-use Rattle.yq_core.specs.Entries.{EntryPieces, item_at, pieces_text}
-use Rattle.yq_flow_edits.specs.FlowEdits.{FitsItem, behind_last, is_none}
-use Rattle.yq_core.specs.Nodes.{Items, none, item, key_text, sep_text, node_text, flow_items_text, AreFlowItems}
-use Rattle.yq_core.specs.Trees.{key_content}
-use Rattle.yq_core.specs.Tree.{key_label}
-use Rattle.yq_core.proofs.NodeAgain.{items_longer, sep_longer}
-use Rattle.yq_core.proofs.NodeKeeps.{sep_ends}
-use Rattle.yq_flow_edits.proofs.ItemSwaps.{item_cut}
+use Rattle.std.proofs.Common.{◌≡◌, ℕ, ◌≤◌, length, arith, length-append, Bool, true, false, cond, List, [], ◌∷◌, ◌++◌, Some, refl, sym, ap}
+use Rattle.std.{proofs.Common.{◌∙◌, subst, append_assoc}, proofs.lemmas.Bool.false≢true, proofs.lemmas.Option.{none-some, same_Some}}
+use Rattle.yq_core.{specs.Paths.{Step, is_here, further}, specs.Alike.EndsItem, specs.Entries.{EntryPieces, item_at, pieces_text}}
+use Rattle.yq_core.{specs.Nodes.{Items, none, item, key_text, sep_text, node_text, flow_items_text, AreFlowItems}, specs.Trees.key_content}
+use Rattle.yq_core.{specs.Tree.key_label, proofs.NodeAgain.{items_longer, sep_longer}, proofs.NodeKeeps.sep_ends}
+use Rattle.yq_flow_edits.{specs.FlowEdits.{FitsItem, behind_last, is_none}, proofs.ItemSwaps.item_cut}
 
 -- An item or entry stands behind a text, and what ends it behind that.
 pub record Behind (d k : ℕ) (t : List ℕ) (y : EntryPieces) : Type 0 where

@@ -1,19 +1,15 @@
 -- The node of an item, exchanged for one that begins like it.
 use Rattle.std.proofs.Common.{◌≡◌, ℕ, Bool, true, false, not, ◌||◌, cond, List, [], ◌++◌, Some, refl, sym, ap, ◌∙◌, subst, append_assoc}
 use Rattle.std.proofs.lemmas.Option.{same_Some}
-use Rattle.yq_core.specs.Paths.{Step, is_here, further, change_child}
-use Rattle.yq_core.specs.Alike.{Alike}
-use Rattle.yq_core.specs.Nodes.{Key, bare, keyed, Sep, FlowNode, Items, none, item, key_text, sep_text, node_text, flow_items_text, begins_node, is_close, IsInlineKey, IsSep, is_empty_node, is_keyed, IsFlowNode, AreFlowItems}
-use Rattle.yq_core.specs.Entries.{EntryPieces, item_at}
-use Rattle.yq_core.specs.Collections.{change_item}
-use Rattle.yq_core.specs.Trees.{key_content, tree_of, items_tree}
-use Rattle.yq_core.proofs.AlikePieces.{gap_alike}
-use Rattle.yq_core.proofs.KeepLaws.{keeps_alike, some_begins}
+use Rattle.yq_core.{specs.Paths.{Step, is_here, further, change_child}, specs.Alike.Alike}
+use Rattle.yq_core.specs.Nodes.{Key, bare, keyed, Sep, FlowNode, Items, none, item, key_text, sep_text, node_text, flow_items_text}
+use Rattle.yq_core.specs.Nodes.{begins_node, is_close, IsInlineKey, IsSep, is_empty_node, is_keyed, IsFlowNode, AreFlowItems}
+use Rattle.yq_core.{specs.Entries.{EntryPieces, item_at}, specs.Collections.change_item, specs.Trees.{key_content, tree_of, items_tree}}
+use Rattle.yq_core.{proofs.AlikePieces.gap_alike, proofs.KeepLaws.{keeps_alike, some_begins}}
 use Rattle.yq_core.proofs.KeyKeeps.{lead_gap, key_front, key_keeps}
 use Rattle.yq_core.proofs.NodeKeeps.{node_keeps, sep_ends, sep_alike, sep_text_alike, key_text_alike, node_text_alike}
-use Rattle.yq_core.proofs.NodesWrittenLaws.{key_append, sep_append, node_append, node_then}
+use Rattle.yq_core.{proofs.NodesWrittenLaws.{key_append, sep_append, node_append, node_then}, specs.Tree.key_label}
 use Rattle.yq_core.specs.Tree as tree
-use Rattle.yq_core.specs.Tree.{key_label}
 
 -- an item before others that begin alike
 pub record ItemBefore (d k : ℕ) (key : Key) (n : FlowNode) (s : Sep) (u : List ℕ) : Type 0 where

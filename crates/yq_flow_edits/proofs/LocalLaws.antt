@@ -1,27 +1,21 @@
 -- Items of one collection, edited.
-use Rattle.std.proofs.Common.{◌≡◌, inl, ℕ, true, false, not, ◌&&◌, ◌||◌, eqb, cond, List, [], ◌∷◌, ◌++◌, Option, Some, None, refl, sym, ap, ◌∙◌, subst, append_assoc, Bool, rules}
-use Rattle.std.proofs.Math.Bool.{and-false, or-true}
+use Rattle.std.proofs.Common.{◌≡◌, inl, ℕ, true, false, not, ◌&&◌, ◌||◌, eqb, cond, List, [], ◌∷◌, ◌++◌, Option, Some, None, refl, sym, ap}
+use Rattle.std.{proofs.Common.{◌∙◌, subst, append_assoc, Bool, rules}, proofs.Math.Bool.{and-false, or-true}}
 use Rattle.std.proofs.lemmas.Bool.{false≢true, or_from}
-use Rattle.yq_core.specs.Plain.{is_safe}
-use Rattle.yq_core.specs.Scalars.{is_quoted}
-use Rattle.yq_core.specs.Text.{front, is_feed, is_marker, is_empty}
-use Rattle.yq_core.specs.declared.gap.GapPlace.{GapPlace}
-use Rattle.yq_core.specs.declared.gap.GapPlace.TheVariants.{Token, White, Break, Comment}
+use Rattle.yq_core.{specs.Plain.is_safe, specs.Scalars.is_quoted, specs.Text.{front, is_feed, is_marker, is_empty}}
+use Rattle.yq_core.{specs.declared.gap.GapPlace.GapPlace, specs.declared.gap.GapPlace.TheVariants.{Token, White, Break, Comment}}
 use Rattle.yq_core.specs.Alike.{Alike, colon, any_colon, EndsItem}
 use Rattle.yq_core.specs.Gaps.{gap_place_after, at_line_start as at_break, stops, IsInlineGap}
-use Rattle.yq_core.specs.Nodes.{Key, bare, keyed, FlowNode, empty, alias, scalar, coll, anchored, key_text, node_text, begins_with, begins_content, begins_node, is_close, IsName, IsInlineKey, is_empty_node, is_keyed, IsFlowNode, takes_anchor, without_anchor}
-use Rattle.yq_flow_edits.specs.FlowEdits.{Becomes, space_for, put_content, put_value, FitsNode}
+use Rattle.yq_core.specs.Nodes.{Key, bare, keyed, FlowNode, empty, alias, scalar, coll, anchored, key_text, node_text, begins_with}
+use Rattle.yq_core.specs.Nodes.{begins_content, begins_node, is_close, IsName, IsInlineKey, is_empty_node, is_keyed, IsFlowNode}
+use Rattle.yq_core.specs.Nodes.{takes_anchor, without_anchor}
 use Rattle.yq_core.specs.Trees.{tree_collection, with_name, with_anchor_name, key_content, tree_of, items_tree}
-use Rattle.yq_core.proofs.Alikes.{no_first, alike_append}
-use Rattle.yq_core.proofs.AlikePieces.{scalar_alike, gap_alike, name_by}
-use Rattle.yq_core.proofs.EndLaws.{ends_safe, node_no_space}
-use Rattle.yq_core.proofs.GapLaws.{none_gap}
-use Rattle.yq_core.proofs.KeepLaws.{go_front, some_begins, taken_begins}
-use Rattle.yq_core.proofs.KeyKeeps.{lead_gap, lead_none, key_front}
-use Rattle.yq_core.proofs.NodesPieceLaws.{front_not}
-use Rattle.yq_core.proofs.NodesWrittenLaws.{node_then, key_append}
+use Rattle.yq_core.{proofs.Alikes.{no_first, alike_append}, proofs.AlikePieces.{scalar_alike, gap_alike, name_by}}
+use Rattle.yq_core.{proofs.EndLaws.{ends_safe, node_no_space}, proofs.GapLaws.none_gap}
+use Rattle.yq_core.{proofs.KeepLaws.{go_front, some_begins, taken_begins}, proofs.KeyKeeps.{lead_gap, lead_none, key_front}}
+use Rattle.yq_core.{proofs.NodesPieceLaws.front_not, proofs.NodesWrittenLaws.{node_then, key_append}, specs.Tree.anchor_of}
+use Rattle.yq_flow_edits.specs.FlowEdits.{Becomes, space_for, put_content, put_value, FitsNode}
 use Rattle.yq_core.specs.Tree as tree
-use Rattle.yq_core.specs.Tree.{anchor_of}
 
 -- gaps before what begins a node
 pub node_no_feed : (t : List ℕ) → begins_node true t ≡ true → front is_feed t ≡ false

@@ -1,12 +1,9 @@
 -- Lines and document markers before a place of a text, and in its pieces.
-use Rattle.std.proofs.Common.{◌≡◌, ℕ, suc, ◌+◌, ◌-◌, Bool, true, false, ◌&&◌, ◌||◌, nat_le, nat_lt, List, [], ◌∷◌, ◌++◌, length, drop, refl, sym, ap, ◌∙◌, arith, append_assoc, length-append, rules}
-use Rattle.std.proofs.Math.Seq.{drop-append_seam}
+use Rattle.std.proofs.Common.{◌≡◌, ℕ, suc, ◌+◌, ◌-◌, Bool, true, false, ◌&&◌, ◌||◌, nat_le, nat_lt, List, [], ◌∷◌, ◌++◌, length, drop, refl}
+use Rattle.std.{proofs.Common.{sym, ap, ◌∙◌, arith, append_assoc, length-append, rules}, proofs.Math.Seq.drop-append_seam}
 use Rattle.std.proofs.lemmas.Bool.{le-leb, lt-ltb}
-use Rattle.yq_core.specs.PlainText.{begins_marker}
-use Rattle.yq_core.specs.Text.{is_feed}
-use Rattle.yq_core.specs.Alike.{fresh}
-use Rattle.yq_flow_edits.specs.FlowPlaces.{behind_feed, marks_before}
-use Rattle.yq_flow_edits.specs.Removals.{is_marks, ends_marked}
+use Rattle.yq_core.{specs.PlainText.begins_marker, specs.Text.is_feed, specs.Alike.fresh}
+use Rattle.yq_flow_edits.{specs.FlowPlaces.{behind_feed, marks_before}, specs.Removals.{is_marks, ends_marked}}
 
 -- behind a byte
 feed_behind : (w : List ℕ) (b : ℕ) (x : List ℕ) (at : ℕ) → at ≡ suc (length w) → behind_feed (w ++ (b ∷ x)) at ≡ is_feed b

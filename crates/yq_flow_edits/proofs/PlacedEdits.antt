@@ -1,16 +1,14 @@
 -- Where another content, and one more item or entry, are written: in the bytes of the edit.
-use Rattle.std.proofs.Common.{◌≡◌, ℕ, suc, ◌+◌, ◌-◌, ◌≤◌, min, Bool, true, false, eqb, cond, List, [], ◌∷◌, ◌++◌, length, Option, Some, None, refl, sym, ap, ◌∙◌, subst, arith, rules}
-use Rattle.std.proofs.lemmas.Bool.{false≢true}
+use Rattle.std.proofs.Common.{◌≡◌, ℕ, suc, ◌+◌, ◌-◌, ◌≤◌, min, Bool, true, false, eqb, cond, List, [], ◌∷◌, ◌++◌, length, Option, Some}
+use Rattle.std.{proofs.Common.{None, refl, sym, ap, ◌∙◌, subst, arith, rules}, proofs.lemmas.Bool.false≢true}
 use Rattle.std.proofs.lemmas.Option.{same_Some}
-use Rattle.yq_core.specs.Paths.{Step}
-use Rattle.yq_core.specs.Collections.{CollPieces, coll_in}
-use Rattle.yq_core.specs.Entries.{EntryPieces, place_in}
+use Rattle.yq_core.{specs.Paths.Step, specs.Collections.{CollPieces, coll_in}, specs.Entries.{EntryPieces, place_in}}
+use Rattle.yq_core.specs.Nodes.{Key, FlowNode, empty, alias, scalar, coll, anchored, Items, none, item, sep_text, node_text}
+use Rattle.yq_core.specs.Nodes.{flow_items_text, IsFlowNode, without_anchor}
+use Rattle.yq_core.specs.Places.{Placed, placed, sequence, mapping, Parts, holder, anchored_node, locate, locate_items}
+use Rattle.yq_core.{proofs.EditPlaces.end_placed, proofs.NodesWrittenLaws.node_then}
 use Rattle.yq_flow_edits.specs.FlowEdits.{space_for, replacing, is_none, appending, behind_last}
 use Rattle.yq_flow_edits.specs.FlowPlaces.{PlacedEdit, place_edit, replace_at, replace_place, last_end, append_at, append_in, append_place}
-use Rattle.yq_core.specs.Nodes.{Key, FlowNode, empty, alias, scalar, coll, anchored, Items, none, item, sep_text, node_text, flow_items_text, IsFlowNode, without_anchor}
-use Rattle.yq_core.specs.Places.{Placed, placed, sequence, mapping, Parts, holder, anchored_node, locate, locate_items}
-use Rattle.yq_core.proofs.EditPlaces.{end_placed}
-use Rattle.yq_core.proofs.NodesWrittenLaws.{node_then}
 
 -- another content
 content_edit : ℕ → FlowNode → List ℕ → PlacedEdit

@@ -1,35 +1,28 @@
 -- Edits of a collection inside an inline node: an item or entry taken out.
-use Rattle.std.proofs.Common.{◌≡◌, ◌⊎◌, inl, inr, ℕ, Bool, true, false, ◌&&◌, cond, List, [], ◌∷◌, ◌++◌, Some, None, option_map, refl, sym, ap, ◌∙◌, subst, append_assoc, append-nil, rules}
-use Rattle.std.proofs.lemmas.Bool.{false≢true, and_parts}
-use Rattle.std.proofs.lemmas.List.{append_cancel_right}
-use Rattle.std.proofs.lemmas.Option.{none-some, same_Some}
-use Rattle.std.specs.Option.{option_or}
-use Rattle.yq_core.specs.Characters.{pairs_returns}
-use Rattle.yq_core.specs.Paths.{Step, is_here, further, remove_child, within, changed_at}
-use Rattle.yq_core.specs.PlainText.{begins_marker}
-use Rattle.yq_core.specs.Text.{front, is_feed, is_marker}
-use Rattle.yq_core.specs.declared.gap.GapPlace.{GapPlace}
-use Rattle.yq_core.specs.declared.gap.GapPlace.TheVariants.{Token, White, Break}
-use Rattle.yq_core.specs.Alike.{stop, fresh}
+use Rattle.std.proofs.Common.{◌≡◌, ◌⊎◌, inl, inr, ℕ, Bool, true, false, ◌&&◌, cond, List, [], ◌∷◌, ◌++◌, Some, None, option_map, refl, sym}
+use Rattle.std.{proofs.Common.{ap, ◌∙◌, subst, append_assoc, append-nil, rules}, proofs.lemmas.Bool.{false≢true, and_parts}}
+use Rattle.std.{proofs.lemmas.List.append_cancel_right, proofs.lemmas.Option.{none-some, same_Some}, specs.Option.option_or}
+use Rattle.yq_core.{specs.Characters.pairs_returns, specs.Paths.{Step, is_here, further, remove_child, within, changed_at}}
+use Rattle.yq_core.{specs.PlainText.begins_marker, specs.Text.{front, is_feed, is_marker}, specs.declared.gap.GapPlace.GapPlace}
+use Rattle.yq_core.{specs.declared.gap.GapPlace.TheVariants.{Token, White, Break}, specs.Alike.{stop, fresh}}
 use Rattle.yq_core.specs.Collections.{CollAt, IsCollAt}
 use Rattle.yq_core.specs.Gaps.{goes, next_gap_place, gap_place_after, at_line_start as at_break, AllGo, IsInlineGap}
-use Rattle.yq_core.specs.Nodes.{Key, Sep, last, comma, FlowNode, Items, none, item, key_text, sep_text, node_text, flow_items_text, opening_bracket, begins_node, is_close, IsSep, AreFlowItems}
-use Rattle.yq_core.specs.Trees.{key_content, tree_of, items_tree}
-use Rattle.yq_core.proofs.AlikePieces.{gap_alike}
-use Rattle.yq_core.proofs.GapLaws.{none_gap}
-use Rattle.yq_core.proofs.KeepLaws.{behind_fresh, keeps_alike, go_front}
-use Rattle.yq_core.proofs.NodeAgain.{item_front}
-use Rattle.yq_core.proofs.NodeKeeps.{sep_ends, key_text_alike, node_text_alike}
+use Rattle.yq_core.specs.Nodes.{Key, Sep, last, comma, FlowNode, Items, none, item, key_text, sep_text, node_text, flow_items_text}
+use Rattle.yq_core.specs.Nodes.{opening_bracket, begins_node, is_close, IsSep, AreFlowItems}
+use Rattle.yq_core.{specs.Trees.{key_content, tree_of, items_tree}, proofs.AlikePieces.gap_alike, proofs.GapLaws.none_gap}
+use Rattle.yq_core.{proofs.KeepLaws.{behind_fresh, keeps_alike, go_front}, proofs.NodeAgain.item_front}
+use Rattle.yq_core.{proofs.NodeKeeps.{sep_ends, key_text_alike, node_text_alike}, specs.Tree.key_label}
 use Rattle.yq_flow_edits.specs.FlowEdits.{FlowEdit, IsFlowEdited}
-use Rattle.yq_flow_edits.specs.Removals.{IsApartFrom, before_next, edit_from_item, comma_left, ends_marked, ends_return, gap_of, gap_to, last_gone, last_out, last_removed, removing, removing_from}
+use Rattle.yq_flow_edits.specs.Removals.{IsApartFrom, before_next, edit_from_item, comma_left, ends_marked, ends_return, gap_of, gap_to}
+use Rattle.yq_flow_edits.specs.Removals.{last_gone, last_out, last_removed, removing, removing_from}
 use Rattle.yq_flow_edits.proofs.EditLaws.{edited, around_is, opened}
-use Rattle.yq_flow_edits.proofs.ItemLaws.{item_begins, item_keeps, item_some, comma_apart, comma_like, ends_mark, gap_before, keeps_from, marker_append, Unmarked}
-use Rattle.yq_flow_edits.proofs.ItemSwaps.{item_cut, text_cut}
+use Rattle.yq_flow_edits.proofs.ItemLaws.{item_begins, item_keeps, item_some, comma_apart, comma_like, ends_mark, gap_before, keeps_from}
+use Rattle.yq_flow_edits.{proofs.ItemLaws.{marker_append, Unmarked}, proofs.ItemSwaps.{item_cut, text_cut}}
 use Rattle.yq_flow_edits.proofs.LocalLaws.{gap_new, node_no_feed, node_stops}
-use Rattle.yq_flow_edits.proofs.RemoveTexts.{LastBytes, behind_cut, comma_new_bytes, comma_old_bytes, either, gone_bytes, option_some, removed_text, sep_front}
+use Rattle.yq_flow_edits.proofs.RemoveTexts.{LastBytes, behind_cut, comma_new_bytes, comma_old_bytes, either, gone_bytes, option_some}
+use Rattle.yq_flow_edits.proofs.RemoveTexts.{removed_text, sep_front}
 use Rattle.yq_flow_edits.proofs.ReturnLaws.{Whole, item_return, pairs_behind, pairs_end, return_some, whole_by, whole_front}
 use Rattle.yq_core.specs.Tree as tree
-use Rattle.yq_core.specs.Tree.{key_label}
 
 -- ---- a space behind a gap that ends a line
 

@@ -1,35 +1,24 @@
 -- What the code tells of an item or entry that is taken out is where the bytes of the edit stand.
-use Rattle.std.proofs.Common.{◌≡◌, ⊎_elim, ℕ, suc, ◌+◌, ◌-◌, Bool, true, false, ◌&&◌, eqb, cond, List, [], ◌∷◌, ◌++◌, length, drop, Option, Some, None, option_map, refl, sym, ap, ◌∙◌, arith, append_assoc, length-append, eqb-true, rules}
-use Rattle.std.proofs.Math.Seq.{drop-append_seam}
-use Rattle.std.proofs.lemmas.Bool.{false≢true, or_cases}
-use Rattle.std.proofs.lemmas.Option.{same_Some}
+use Rattle.std.proofs.Common.{◌≡◌, ⊎_elim, ℕ, suc, ◌+◌, ◌-◌, Bool, true, false, ◌&&◌, eqb, cond, List, [], ◌∷◌, ◌++◌, length, drop, Option}
+use Rattle.std.proofs.Common.{Some, None, option_map, refl, sym, ap, ◌∙◌, arith, append_assoc, length-append, eqb-true, rules}
+use Rattle.std.{proofs.Math.Seq.drop-append_seam, proofs.lemmas.Bool.{false≢true, or_cases}, proofs.lemmas.Option.same_Some}
 use Rattle.std.specs.Option.{option_or}
-use Rattle.yq_core.specs.Paths.{Step, is_here, further}
-use Rattle.yq_core.specs.PlainText.{begins_marker}
-use Rattle.yq_core.specs.Text.{is_feed}
-use Rattle.yq_core.specs.Alike.{fresh}
-use Rattle.yq_core.specs.Collections.{CollPieces, coll_in}
-use Rattle.yq_core.specs.Entries.{entry_start, parts_in, parts_of}
-use Rattle.yq_core.specs.Gaps.{IsInlineGap}
+use Rattle.yq_core.{specs.Paths.{Step, is_here, further}, specs.PlainText.begins_marker, specs.Text.is_feed, specs.Alike.fresh}
+use Rattle.yq_core.{specs.Collections.{CollPieces, coll_in}, specs.Entries.{entry_start, parts_in, parts_of}, specs.Gaps.IsInlineGap}
 use Rattle.yq_core.specs.declared.gap.GapPlace.TheVariants.{Token}
-use Rattle.yq_core.specs.Nodes.{Key, Sep, last, comma, FlowNode, empty, alias, scalar, coll, anchored, Items, none, item, key_text, sep_text, node_text, flow_items_text, begins_with, opening_bracket, is_close, IsFlowNode, IsSep, AreFlowItems}
+use Rattle.yq_core.specs.Nodes.{Key, Sep, last, comma, FlowNode, empty, alias, scalar, coll, anchored, Items, none, item, key_text}
+use Rattle.yq_core.specs.Nodes.{sep_text, node_text, flow_items_text, begins_with, opening_bracket, is_close, IsFlowNode, IsSep}
+use Rattle.yq_core.specs.Nodes.{AreFlowItems}
 use Rattle.yq_core.specs.Places.{Parts, Placed, placed, key_placed, holder, locate, locate_items, mapping, sequence, anchored_node}
-use Rattle.yq_core.specs.Reading.{flow_gap_len}
-use Rattle.yq_core.specs.Trees.{key_content}
-use Rattle.yq_core.specs.Tree.{key_label}
-use Rattle.yq_core.proofs.EditPlaces.{end_placed, entry_placed}
-use Rattle.yq_core.proofs.GapLaws.{gap_append}
-use Rattle.yq_core.proofs.NodeAgain.{item_front}
-use Rattle.yq_core.proofs.NodeKeeps.{sep_ends}
-use Rattle.yq_core.proofs.TreeLaws.{key_tree}
+use Rattle.yq_core.{specs.Reading.flow_gap_len, specs.Trees.key_content, specs.Tree.key_label, proofs.EditPlaces.{end_placed, entry_placed}}
+use Rattle.yq_core.{proofs.GapLaws.gap_append, proofs.NodeAgain.item_front, proofs.NodeKeeps.sep_ends, proofs.TreeLaws.key_tree}
 use Rattle.yq_flow_edits.specs.FlowEdits.{FlowEdit}
-use Rattle.yq_flow_edits.specs.FlowPlaces.{PlacedEdit, behind_feed, first_start, marks_before, only_end, past_gap, place_edit, remove_before, remove_end, remove_part, remove_place, space_at}
-use Rattle.yq_flow_edits.specs.Removals.{before_next, edit_from_item, comma_left, ends_marked, gap_of, last_gone, last_out, last_removed, removing, removing_from, space_to}
-use Rattle.yq_flow_edits.proofs.CollLaws.{coll_stands}
-use Rattle.yq_flow_edits.proofs.ItemLaws.{Unmarked, ends_mark, marks_own}
-use Rattle.yq_flow_edits.proofs.ItemSwaps.{item_cut, text_cut}
-use Rattle.yq_flow_edits.proofs.Marks.{line_behind, marks_are}
-use Rattle.yq_flow_edits.proofs.RemoveTexts.{comma_new_bytes, comma_old_bytes, gone_bytes}
+use Rattle.yq_flow_edits.specs.FlowPlaces.{PlacedEdit, behind_feed, first_start, marks_before, only_end, past_gap, place_edit}
+use Rattle.yq_flow_edits.specs.FlowPlaces.{remove_before, remove_end, remove_part, remove_place, space_at}
+use Rattle.yq_flow_edits.specs.Removals.{before_next, edit_from_item, comma_left, ends_marked, gap_of, last_gone, last_out, last_removed}
+use Rattle.yq_flow_edits.{specs.Removals.{removing, removing_from, space_to}, proofs.CollLaws.coll_stands}
+use Rattle.yq_flow_edits.{proofs.ItemLaws.{Unmarked, ends_mark, marks_own}, proofs.ItemSwaps.{item_cut, text_cut}}
+use Rattle.yq_flow_edits.{proofs.Marks.{line_behind, marks_are}, proofs.RemoveTexts.{comma_new_bytes, comma_old_bytes, gone_bytes}}
 
 -- ---- up to the next one
 

@@ -1,19 +1,13 @@
 -- The bytes of an item that is taken out.
-use Rattle.std.proofs.Common.{◌≡◌, ◌⊎◌, inl, inr, ℕ, ◌≤◌, Bool, true, false, ◌&&◌, cond, List, [], ◌∷◌, ◌++◌, length, Option, Some, None, option_map, refl, sym, ap, ◌∙◌, subst, arith, append_assoc, append-nil, length-append, rules}
-use Rattle.std.proofs.lemmas.Bool.{cond_both}
-use Rattle.std.proofs.lemmas.Option.{none-some, same_Some}
-use Rattle.std.specs.Option.{option_or}
-use Rattle.yq_core.specs.Paths.{Step, is_here, further}
-use Rattle.yq_core.specs.PlainText.{begins_marker}
-use Rattle.yq_core.specs.Alike.{fresh}
+use Rattle.std.proofs.Common.{◌≡◌, ◌⊎◌, inl, inr, ℕ, ◌≤◌, Bool, true, false, ◌&&◌, cond, List, [], ◌∷◌, ◌++◌, length, Option, Some, None}
+use Rattle.std.proofs.Common.{option_map, refl, sym, ap, ◌∙◌, subst, arith, append_assoc, append-nil, length-append, rules}
+use Rattle.std.{proofs.lemmas.Bool.cond_both, proofs.lemmas.Option.{none-some, same_Some}, specs.Option.option_or}
+use Rattle.yq_core.{specs.Paths.{Step, is_here, further}, specs.PlainText.begins_marker, specs.Alike.fresh}
 use Rattle.yq_core.specs.Nodes.{Key, Sep, last, comma, FlowNode, Items, none, item, key_text, sep_text, node_text, flow_items_text}
-use Rattle.yq_core.specs.Trees.{key_content}
-use Rattle.yq_core.specs.Tree.{key_label}
-use Rattle.yq_core.proofs.NodeAgain.{items_longer}
-use Rattle.yq_core.proofs.NodesWrittenLaws.{sep_append}
+use Rattle.yq_core.{specs.Trees.key_content, specs.Tree.key_label, proofs.NodeAgain.items_longer, proofs.NodesWrittenLaws.sep_append}
 use Rattle.yq_flow_edits.specs.FlowEdits.{Becomes, FlowEdit}
-use Rattle.yq_flow_edits.specs.Removals.{before_next, edit_from_item, comma_left, ends_marked, gap_of, last_gone, last_out, last_removed, next_text, removing_from, space_to, with_gap}
-use Rattle.yq_flow_edits.proofs.ItemLaws.{put_before, becomes_same}
+use Rattle.yq_flow_edits.specs.Removals.{before_next, edit_from_item, comma_left, ends_marked, gap_of, last_gone, last_out, last_removed}
+use Rattle.yq_flow_edits.{specs.Removals.{next_text, removing_from, space_to, with_gap}, proofs.ItemLaws.{put_before, becomes_same}}
 use Rattle.yq_flow_edits.proofs.ItemSwaps.{item_cut, text_cut}
 
 -- ---- one of two, and what is made of one

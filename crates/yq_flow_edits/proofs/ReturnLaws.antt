@@ -1,18 +1,15 @@
 -- In a text with whole breaks no CR ends an item before an LF.
-use Rattle.std.proofs.Common.{◌≡◌, ◌⊎◌, inl, inr, ℕ, Bool, true, false, ◌&&◌, ◌||◌, eqb, cond, List, [], ◌∷◌, ◌++◌, Some, refl, sym, ap, ◌∙◌, subst, append_assoc, append-nil, eq-eqb, rules}
-use Rattle.std.proofs.Math.Bool.{and-false}
+use Rattle.std.proofs.Common.{◌≡◌, ◌⊎◌, inl, inr, ℕ, Bool, true, false, ◌&&◌, ◌||◌, eqb, cond, List, [], ◌∷◌, ◌++◌, Some, refl, sym, ap}
+use Rattle.std.{proofs.Common.{◌∙◌, subst, append_assoc, append-nil, eq-eqb, rules}, proofs.Math.Bool.and-false}
 use Rattle.std.proofs.lemmas.Bool.{false≢true, not-false, or_right, and_parts, cases_Bool, or_parts}
-use Rattle.yq_core.specs.Characters.{pairs_returns}
-use Rattle.yq_core.specs.Text.{NoneIn, unless, front, is_white, is_feed, is_return}
-use Rattle.yq_core.proofs.Bools.{at_byte}
+use Rattle.yq_core.{specs.Characters.pairs_returns, specs.Text.{NoneIn, unless, front, is_white, is_feed, is_return}, proofs.Bools.at_byte}
 use Rattle.yq_core.specs.Alike.{EndsItem}
-use Rattle.yq_core.specs.Nodes.{Key, bare, keyed, FlowNode, empty, alias, scalar, coll, anchored, Items, none, item, key_text, sep_text, node_text, flow_items_text, opening_bracket, in_name, begins_content, begins_node, is_close, IsInlineKey, IsLead, is_empty_node, IsFlowNode, begins_with}
-use Rattle.yq_core.specs.Scalars.{IsScalarAt}
-use Rattle.yq_flow_edits.specs.Removals.{ends_return}
-use Rattle.yq_flow_edits.proofs.ItemSwaps.{item_cut}
-use Rattle.yq_core.proofs.EndLaws.{ends_node, stops_here, last_space, by_close}
-use Rattle.yq_core.proofs.KeepLaws.{NotEmpty, some_text, bare_text}
+use Rattle.yq_core.specs.Nodes.{Key, bare, keyed, FlowNode, empty, alias, scalar, coll, anchored, Items, none, item, key_text, sep_text}
+use Rattle.yq_core.specs.Nodes.{node_text, flow_items_text, opening_bracket, in_name, begins_content, begins_node, is_close, IsInlineKey}
+use Rattle.yq_core.{specs.Nodes.{IsLead, is_empty_node, IsFlowNode, begins_with}, specs.Scalars.IsScalarAt}
+use Rattle.yq_core.{proofs.EndLaws.{ends_node, stops_here, last_space, by_close}, proofs.KeepLaws.{NotEmpty, some_text, bare_text}}
 use Rattle.yq_core.proofs.KeyKeeps.{lead_none}
+use Rattle.yq_flow_edits.{specs.Removals.ends_return, proofs.ItemSwaps.item_cut}
 
 return_append : (x : List ℕ) (b : ℕ) (y : List ℕ) → ends_return (x ++ (b ∷ y)) ≡ ends_return (b ∷ y)
 return_append [] b y = refl

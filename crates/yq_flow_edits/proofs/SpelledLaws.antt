@@ -1,29 +1,20 @@
 -- What is written in flow style is a node that stands for its tree.
-use Rattle.std.proofs.Common.{◌≡◌, ℕ, zero, suc, ◌-◌, ◌≤◌, Bool, true, false, not, ◌||◌, eqb, List, [], ◌∷◌, ◌++◌, drop, Option, Some, None, refl, ap, inl, arith, eq-eqb, ⊎_elim, rules}
-use Rattle.std.proofs.Math.Nat.{le-max_left, le-max_right}
-use Rattle.std.proofs.lemmas.Bool.{or_cases, or_right}
-use Rattle.std.specs.Str.{IsUtf8}
-use Rattle.yq_core.specs.declared.style.Place.TheVariants as places
-use Rattle.yq_core.specs.Keys.{depth, deepest}
-use Rattle.yq_core.specs.Piece.{further_spaces}
-use Rattle.yq_core.specs.Plain.{ends_plain, begins_plain}
-use Rattle.yq_core.specs.Scalar.{ScalarText, string_of}
-use Rattle.yq_core.specs.Text.{is_space}
-use Rattle.yq_core.specs.Tree as tree
-use Rattle.yq_core.specs.Tree.{key_label}
-use Rattle.yq_core.specs.Writable.{can_write_plain, in_flow}
-use Rattle.yq_core.specs.declared.gap.GapPlace.TheVariants.{Token, White}
-use Rattle.yq_core.specs.Gaps.{IsInlineGap, stops}
-use Rattle.yq_core.specs.Inline.{depth_limit}
-use Rattle.yq_core.specs.Nodes.{key_text, sep_text, node_text, flow_items_text, begins_with, begins_content, is_empty_node, is_keyed, IsInlineKey, IsSep, IsFlowNode, AreFlowItems}
-use Rattle.yq_core.specs.Scalars.{is_quoted, begins_scalar, IsScalarAt}
+use Rattle.std.proofs.Common.{◌≡◌, ℕ, zero, suc, ◌-◌, ◌≤◌, Bool, true, false, not, ◌||◌, eqb, List, [], ◌∷◌, ◌++◌, drop, Option, Some, None}
+use Rattle.std.{proofs.Common.{refl, ap, inl, arith, eq-eqb, ⊎_elim, rules}, proofs.Math.Nat.{le-max_left, le-max_right}}
+use Rattle.std.{proofs.lemmas.Bool.{or_cases, or_right}, specs.Str.IsUtf8}
+use Rattle.yq_core.{specs.Keys.{depth, deepest}, specs.Piece.further_spaces, specs.Plain.{ends_plain, begins_plain}}
+use Rattle.yq_core.{specs.Scalar.{ScalarText, string_of}, specs.Text.is_space, specs.Tree.key_label}
+use Rattle.yq_core.{specs.Writable.{can_write_plain, in_flow}, specs.declared.gap.GapPlace.TheVariants.{Token, White}}
+use Rattle.yq_core.{specs.Gaps.{IsInlineGap, stops}, specs.Inline.depth_limit}
+use Rattle.yq_core.specs.Nodes.{key_text, sep_text, node_text, flow_items_text, begins_with, begins_content, is_empty_node, is_keyed}
+use Rattle.yq_core.{specs.Nodes.{IsInlineKey, IsSep, IsFlowNode, AreFlowItems}, specs.Scalars.{is_quoted, begins_scalar, IsScalarAt}}
 use Rattle.yq_core.specs.Trees.{scalar_node, key_content, tree_of, items_tree}
+use Rattle.yq_core.{specs.NodesWritten.{scalar_text, flow_key, flow_sep, flow_of, flow_items, flow_text}, proofs.GapLaws.none_gap}
+use Rattle.yq_core.{proofs.NodesPieceLaws.{front_is, front_not, no_space, scalar_begins}, proofs.NodesWrittenLaws.node_then}
 use Rattle.yq_flow_edits.specs.Valued.{IsValid, IsLabel, IsValueTree, AreValueTrees, Spells}
-use Rattle.yq_core.specs.NodesWritten.{scalar_text, flow_key, flow_sep, flow_of, flow_items, flow_text}
-use Rattle.yq_core.proofs.GapLaws.{none_gap}
-use Rattle.yq_core.proofs.NodesPieceLaws.{front_is, front_not, no_space, scalar_begins}
 use Rattle.yq_flow_edits.proofs.SpelledScalars.{IsWritten, written_by}
-use Rattle.yq_core.proofs.NodesWrittenLaws.{node_then}
+use Rattle.yq_core.specs.declared.style.Place.TheVariants as places
+use Rattle.yq_core.specs.Tree as tree
 
 -- where a content begins there is no white space, no break and no comment
 begins_here : (k : ℕ) (t : List ℕ) → ((bs : List ℕ) → is_space (k ∷ bs) ≡ false) → begins_with k t ≡ true → is_space t ≡ false

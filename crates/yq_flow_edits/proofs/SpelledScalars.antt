@@ -1,26 +1,18 @@
 -- Scalars that are written are read as they were.
-use Rattle.std.proofs.Common.{◌≡◌, ℕ, Bool, true, false, cond, not, ◌&&◌, ◌||◌, List, [], ◌∷◌, ◌++◌, Option, Some, None, refl, sym, ap, ◌∙◌, inl, inr, ⊎_elim, append_assoc, append-nil, eqb-true, rules}
-use Rattle.std.proofs.Math.Bool.{and-false}
+use Rattle.std.proofs.Common.{◌≡◌, ℕ, Bool, true, false, cond, not, ◌&&◌, ◌||◌, List, [], ◌∷◌, ◌++◌, Option, Some, None, refl, sym, ap, ◌∙◌}
+use Rattle.std.{proofs.Common.{inl, inr, ⊎_elim, append_assoc, append-nil, eqb-true, rules}, proofs.Math.Bool.and-false}
 use Rattle.std.proofs.lemmas.Bool.{false≢true, cond_both, or_cases, and_parts, not-true, or_parts}
-use Rattle.yq_core.specs.declared.kind.Kind.{Kind}
-use Rattle.yq_core.specs.declared.style.Style.TheVariants as styles
-use Rattle.yq_core.specs.ContentReading.{within, one_break_more, content_on}
+use Rattle.yq_core.{specs.declared.kind.Kind.Kind, specs.ContentReading.{within, one_break_more, content_on}}
 use Rattle.yq_core.specs.Plain.{ends_plain, holds_break, is_indicator}
-use Rattle.yq_core.specs.PlainText.{is_plain_text, begins_plainly, needs_quotes, no_rest, is_merge, begins_marker}
-use Rattle.yq_core.specs.Quoted.{last}
-use Rattle.yq_core.specs.QuotedReading.{is_quote}
-use Rattle.yq_core.specs.Scalar.{ScalarText, string_of, plain_of}
-use Rattle.yq_core.specs.SchemaReading.{resolve}
-use Rattle.yq_core.specs.Text.{is_white, is_feed, is_return, is_break, front}
-use Rattle.yq_core.specs.Writable.{can_write_plain, is_string}
-use Rattle.yq_core.specs.Written.{written_scalar, double}
-use Rattle.yq_core.proofs.ContentLaws.{quoted_content_is}
+use Rattle.yq_core.{specs.PlainText.{is_plain_text, begins_plainly, needs_quotes, no_rest, is_merge, begins_marker}, specs.Quoted.last}
+use Rattle.yq_core.{specs.QuotedReading.is_quote, specs.Scalar.{ScalarText, string_of, plain_of}, specs.SchemaReading.resolve}
+use Rattle.yq_core.{specs.Text.{is_white, is_feed, is_return, is_break, front}, specs.Writable.{can_write_plain, is_string}}
+use Rattle.yq_core.{specs.Written.{written_scalar, double}, proofs.ContentLaws.quoted_content_is}
 use Rattle.yq_core.proofs.PlainSpells.{plain_line, plain_opens, writable_text, writable_same, writable_piece, string_kind}
-use Rattle.yq_core.proofs.PlainWritten.{plain_text_parts}
-use Rattle.yq_core.proofs.WrittenLaws.{double_spells}
-use Rattle.yq_core.proofs.WrittenText.{line_holds, double_is_line}
+use Rattle.yq_core.{proofs.PlainWritten.plain_text_parts, proofs.WrittenLaws.double_spells, proofs.WrittenText.{line_holds, double_is_line}}
 use Rattle.yq_core.specs.Scalars.{is_quoted, has_its_lines, IsScalarAt, scalar_content, scalar_of}
 use Rattle.yq_flow_edits.specs.Valued.{IsValid}
+use Rattle.yq_core.specs.declared.style.Style.TheVariants as styles
 
 -- the content of one line is the line
 front_none : (t : List ℕ) → holds_break t ≡ false → front is_feed t ≡ false

@@ -1,26 +1,16 @@
 -- Scalars that are written outside flow collections, in each style of one line, are read as they were.
 use Rattle.std.proofs.Common.{◌≡◌, ℕ, true, false, eqb, List, [], Option, Some, None, refl, sym, ap, ◌∙◌, inl, inr, eqb-true, rules}
-use Rattle.std.proofs.lemmas.Bool.{false≢true, and_parts}
-use Rattle.std.specs.List.{list_all}
-use Rattle.std.specs.Str.{chars}
-use Rattle.yq_core.specs.declared.style.Place.TheVariants.{Block}
-use Rattle.yq_core.specs.declared.style.Style.{Style}
-use Rattle.yq_core.specs.declared.style.Style.TheVariants as styles
-use Rattle.yq_core.specs.Plain.{ends_plain, holds_break}
-use Rattle.yq_core.specs.Quoted.{last}
-use Rattle.yq_core.specs.QuotedReading.{is_quote}
-use Rattle.yq_core.specs.Scalar.{ScalarText, string_of, plain_of}
-use Rattle.yq_core.specs.Text.{front}
+use Rattle.std.{proofs.lemmas.Bool.{false≢true, and_parts}, specs.List.list_all, specs.Str.chars}
+use Rattle.yq_core.{specs.declared.style.Place.TheVariants.Block, specs.declared.style.Style.Style, specs.Plain.{ends_plain, holds_break}}
+use Rattle.yq_core.{specs.Quoted.last, specs.QuotedReading.is_quote, specs.Scalar.{ScalarText, string_of, plain_of}, specs.Text.front}
 use Rattle.yq_core.specs.Writable.{can_write, can_write_plain, is_string, is_single_char}
-use Rattle.yq_core.specs.Written.{written_scalar, single, double, IsOneLine}
-use Rattle.yq_core.proofs.ContentLaws.{quoted_content_is}
+use Rattle.yq_core.{specs.Written.{written_scalar, single, double, IsOneLine}, proofs.ContentLaws.quoted_content_is}
 use Rattle.yq_core.proofs.PlainSpells.{plain_line, plain_is_text, plain_opens, writable_text, writable_same, writable_piece, string_kind}
-use Rattle.yq_core.proofs.PlainWritten.{plain_text_parts}
-use Rattle.yq_core.proofs.WrittenLaws.{double_spells, single_spells}
+use Rattle.yq_core.{proofs.PlainWritten.plain_text_parts, proofs.WrittenLaws.{double_spells, single_spells}}
 use Rattle.yq_core.proofs.WrittenText.{line_holds, line_is_text, double_is_line, single_is_line}
 use Rattle.yq_core.specs.Scalars.{is_quoted, has_its_lines, scalar_of}
-use Rattle.yq_flow_edits.specs.Valued.{IsValid, SpellsScalar}
-use Rattle.yq_flow_edits.proofs.SpelledScalars.{line_on, quote_indicates}
+use Rattle.yq_flow_edits.{specs.Valued.{IsValid, SpellsScalar}, proofs.SpelledScalars.{line_on, quote_indicates}}
+use Rattle.yq_core.specs.declared.style.Style.TheVariants as styles
 
 -- a string is that of its text
 string_is : (s : ScalarText) → is_string s.kind ≡ true → string_of s.text ≡ s

@@ -1,28 +1,18 @@
 -- Values put into a flow collection.
 use Rattle.std.proofs.Common.{◌≡◌, ℕ, ◌≤◌, true, eqb, List, [], ◌∷◌, ◌++◌, Some, refl, ap, ◌∙◌, subst, eq-eqb}
 use Rattle.std.proofs.lemmas.Bool.{or_right}
-use Rattle.yq_core.specs.declared.style.Style.{Style}
-use Rattle.yq_core.specs.Keys.{depth}
-use Rattle.yq_core.specs.Paths.{Step, change_child, append_child, within, changed_at}
-use Rattle.yq_core.specs.Scalar.{ScalarText}
-use Rattle.yq_core.specs.Writable.{can_write}
-use Rattle.yq_core.specs.Written.{written_scalar}
-use Rattle.yq_core.specs.Alike.{EndsItem}
-use Rattle.yq_core.specs.Gaps.{IsInlineGap}
-use Rattle.yq_flow_edits.specs.FlowEdits.{put_value, behind_last, replacing, appending, IsFlowEdited, FlowEdit, behind_appended}
-use Rattle.yq_core.specs.Entries.{EntryPieces}
+use Rattle.yq_core.{specs.declared.style.Style.Style, specs.Keys.depth, specs.Paths.{Step, change_child, append_child, within, changed_at}}
+use Rattle.yq_core.{specs.Scalar.ScalarText, specs.Writable.can_write, specs.Written.written_scalar, specs.Alike.EndsItem}
+use Rattle.yq_core.{specs.Gaps.IsInlineGap, specs.Entries.EntryPieces}
 use Rattle.yq_core.specs.Nodes.{FlowNode, scalar, Items, none, item, flow_items_text, AreFlowItems}
-use Rattle.yq_core.specs.Trees.{scalar_node, key_content, tree_of}
-use Rattle.yq_flow_edits.specs.Valued.{IsValid, IsLabel, IsValueTree}
-use Rattle.yq_core.specs.NodesWritten.{flow_key, flow_of}
-use Rattle.yq_flow_edits.proofs.EditLaws.{appended, replaced, Around, around_is}
-use Rattle.yq_flow_edits.proofs.ItemPlaces.{item_behind, last_behind}
-use Rattle.yq_flow_edits.proofs.SpelledLaws.{written_tree}
+use Rattle.yq_core.{specs.Trees.{scalar_node, key_content, tree_of}, specs.NodesWritten.{flow_key, flow_of}}
+use Rattle.yq_core.{specs.Collections.{room_in, CollAt, item_in, IsCollAt}, specs.Tree.key_label}
+use Rattle.yq_flow_edits.specs.FlowEdits.{put_value, behind_last, replacing, appending, IsFlowEdited, FlowEdit, behind_appended}
+use Rattle.yq_flow_edits.{specs.Valued.{IsValid, IsLabel, IsValueTree}, proofs.EditLaws.{appended, replaced, Around, around_is}}
+use Rattle.yq_flow_edits.{proofs.ItemPlaces.{item_behind, last_behind}, proofs.SpelledLaws.written_tree}
 use Rattle.yq_flow_edits.proofs.ValueFits.{value_fits, item_fits, fit_of, scalar_fits, scalar_same}
-use Rattle.yq_core.specs.Collections.{room_in, CollAt, item_in, IsCollAt}
 use Rattle.yq_core.specs.declared.style.Place.TheVariants as places
 use Rattle.yq_core.specs.Tree as tree
-use Rattle.yq_core.specs.Tree.{key_label}
 use Rattle.yq_core.specs.Written as scalars
 
 -- a change at the last of more steps

@@ -1,30 +1,18 @@
 -- What is written in flow style fits into a flow collection.
-use Rattle.std.proofs.Common.{◌≡◌, inl, inr, ⊎_elim, ℕ, ◌≤◌, Bool, true, false, not, eqb, cond, List, ◌++◌, Some, refl, sym, ap, subst, eqb-true, rules}
-use Rattle.std.proofs.lemmas.Bool.{or_right, or_cases, not-true, and_parts}
-use Rattle.std.specs.List.{list_all}
+use Rattle.std.proofs.Common.{◌≡◌, inl, inr, ⊎_elim, ℕ, ◌≤◌, Bool, true, false, not, eqb, cond, List, ◌++◌, Some, refl, sym, ap, subst}
+use Rattle.std.{proofs.Common.{eqb-true, rules}, proofs.lemmas.Bool.{or_right, or_cases, not-true, and_parts}, specs.List.list_all}
 use Rattle.std.specs.Str.{chars}
-use Rattle.yq_core.specs.declared.style.Style.{Style}
-use Rattle.yq_core.specs.Keys.{depth}
-use Rattle.yq_core.specs.PlainText.{is_plain_text, begins_marker}
-use Rattle.yq_core.specs.Quoted.{last}
-use Rattle.yq_core.specs.Scalar.{ScalarText}
-use Rattle.yq_core.specs.Text.{is_marker}
-use Rattle.yq_core.specs.Writable.{can_write, can_write_plain, is_string, is_single_char}
-use Rattle.yq_core.specs.Written.{written_scalar}
-use Rattle.yq_core.proofs.PlainSpells.{writable_text, writable_piece}
-use Rattle.yq_core.proofs.WrittenLaws.{double_spells, single_spells}
-use Rattle.yq_core.specs.Alike.{EndsItem}
-use Rattle.yq_flow_edits.specs.FlowEdits.{FitsNode, FitsItem}
+use Rattle.yq_core.{specs.declared.style.Style.Style, specs.Keys.depth, specs.PlainText.{is_plain_text, begins_marker}, specs.Quoted.last}
+use Rattle.yq_core.{specs.Scalar.ScalarText, specs.Text.is_marker, specs.Writable.{can_write, can_write_plain, is_string, is_single_char}}
+use Rattle.yq_core.{specs.Written.written_scalar, proofs.PlainSpells.{writable_text, writable_piece}}
+use Rattle.yq_core.{proofs.WrittenLaws.{double_spells, single_spells}, specs.Alike.EndsItem}
 use Rattle.yq_core.specs.Nodes.{scalar, node_text, is_close, is_empty_node, is_keyed, takes_anchor, IsFlowNode}
-use Rattle.yq_core.specs.Trees.{scalar_node, tree_of}
-use Rattle.yq_flow_edits.specs.Valued.{IsValid, IsLabel, IsValueTree}
-use Rattle.yq_core.specs.NodesWritten.{scalar_text, flow_key, flow_of}
-use Rattle.yq_core.proofs.Alikes.{no_first}
+use Rattle.yq_core.{specs.Trees.{scalar_node, tree_of}, specs.NodesWritten.{scalar_text, flow_key, flow_of}, proofs.Alikes.no_first}
 use Rattle.yq_core.proofs.EndLaws.{ends_plainly, ends_quote}
+use Rattle.yq_flow_edits.{specs.FlowEdits.{FitsNode, FitsItem}, specs.Valued.{IsValid, IsLabel, IsValueTree}}
 use Rattle.yq_flow_edits.proofs.ItemLaws.{Unmarked, ends_mark, marker_append}
 use Rattle.yq_flow_edits.proofs.SpelledLaws.{no_bare, node_begins, written_node, items_fit, entries_fit}
-use Rattle.yq_flow_edits.proofs.SpelledScalars.{plain_anywhere}
-use Rattle.yq_flow_edits.proofs.StyledScalars.{styled_spells}
+use Rattle.yq_flow_edits.{proofs.SpelledScalars.plain_anywhere, proofs.StyledScalars.styled_spells}
 use Rattle.yq_core.specs.declared.style.Place.TheVariants as places
 use Rattle.yq_core.specs.declared.style.Style.TheVariants as styles
 use Rattle.yq_core.specs.Tree as tree

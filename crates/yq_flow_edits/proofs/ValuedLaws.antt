@@ -1,13 +1,11 @@
 -- The trees of the code's values.
 use Rattle.std.proofs.Common.{◌≡◌, ℕ, List, map, true, false, refl, sym, subst, String, string_bytes, Result, Ok, Err, IfOk}
-use Rattle.std.specs.declared.alloc.Global.{Global}
-use Rattle.std.specs.Prelude.{Vec}
-use Rattle.yq_core.specs.declared.value.Value.{Value}
-use Rattle.yq_core.specs.declared.value.Value.TheVariants as values
-use Rattle.yq_flow_edits.specs.Valued.{IsValueTree, AreValueTrees}
-use Rattle.yq_core.specs.Values.{value_node, field_of, items_of, entries_of}
-use Rattle.yq_core.specs.Tree as tree
+use Rattle.std.{specs.declared.alloc.Global.Global, specs.Prelude.Vec}
+use Rattle.yq_core.{specs.declared.value.Value.Value, specs.Values.{value_node, field_of, items_of, entries_of}}
 use Rattle.yq_core.proofs.NodesWrittenLaws.{node_list, node_map, map_twice}
+use Rattle.yq_flow_edits.specs.Valued.{IsValueTree, AreValueTrees}
+use Rattle.yq_core.specs.declared.value.Value.TheVariants as values
+use Rattle.yq_core.specs.Tree as tree
 
 abbrev Entry : Type 0
 Entry = String Global × Value

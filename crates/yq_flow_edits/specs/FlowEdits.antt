@@ -1,14 +1,11 @@
 -- Edits of a flow collection: a node in the place of another one, and one more item or entry.
 use Rattle.std.specs.Prelude.{◌≡◌, ℕ, Bool, true, false, not, ◌||◌, List, [], ◌∷◌, ◌++◌, Some, if◌then◌else◌}
-use Rattle.yq_core.specs.Paths.{Step, is_here, further}
-use Rattle.yq_core.specs.Text.{is_marker}
-use Rattle.yq_core.specs.Tree as tree
-use Rattle.yq_core.specs.Tree.{anchor_of, key_label}
-use Rattle.yq_core.specs.Collections.{CollPieces, CollAt, collection_put}
-use Rattle.yq_core.specs.Entries.{EntryPieces}
-use Rattle.yq_core.specs.Inline.{IsInline}
-use Rattle.yq_core.specs.Nodes.{Key, bare, keyed, last, comma, FlowNode, empty, alias, scalar, coll, anchored, Items, none, item, key_text, sep_text, node_text, is_empty_node, takes_anchor, is_keyed, IsInlineKey, IsFlowNode, without_anchor}
+use Rattle.yq_core.{specs.Paths.{Step, is_here, further}, specs.Text.is_marker, specs.Tree.{anchor_of, key_label}}
+use Rattle.yq_core.{specs.Collections.{CollPieces, CollAt, collection_put}, specs.Entries.EntryPieces, specs.Inline.IsInline}
+use Rattle.yq_core.specs.Nodes.{Key, bare, keyed, last, comma, FlowNode, empty, alias, scalar, coll, anchored, Items, none, item, key_text}
+use Rattle.yq_core.specs.Nodes.{sep_text, node_text, is_empty_node, takes_anchor, is_keyed, IsInlineKey, IsFlowNode, without_anchor}
 use Rattle.yq_core.specs.Trees.{with_anchor_name, key_content, tree_of}
+use Rattle.yq_core.specs.Tree as tree
 
 -- In a text the bytes `old` give way to `new`; behind them stands `behind` (own).
 pub record Becomes (t u old new behind : List ℕ) : Type 0 where

@@ -1,18 +1,13 @@
 -- Where the bytes of an edit of a flow collection stand in the text, by the places of the collection's parts.
 use Rattle.std.specs.Option.{option_or}
-use Rattle.std.specs.Prelude.{ℕ, ◌+◌, ◌-◌, Bool, ◌&&◌, List, [], ◌∷◌, ◌++◌, drop, length, nat_le, nat_lt, Option, Some, None, option_map, min, if◌then◌else◌}
-use Rattle.yq_core.specs.Paths.{Step, is_here, further}
-use Rattle.yq_core.specs.PlainText.{begins_marker}
-use Rattle.yq_core.specs.Text.{is_feed, front}
-use Rattle.yq_flow_edits.specs.declared.flow_place.EditPlace.{EditPlace}
-use Rattle.yq_core.specs.declared.gap.GapPlace.TheVariants.{Token}
-use Rattle.yq_core.specs.Entries.{content_place, end_of, entry_start, parts_of}
-use Rattle.yq_flow_edits.specs.FlowEdits.{FlowEdit}
+use Rattle.std.specs.Prelude.{ℕ, ◌+◌, ◌-◌, Bool, ◌&&◌, List, [], ◌∷◌, ◌++◌, drop, length, nat_le, nat_lt, Option, Some, None, option_map}
+use Rattle.std.specs.Prelude.{min, if◌then◌else◌}
+use Rattle.yq_core.{specs.Paths.{Step, is_here, further}, specs.PlainText.begins_marker, specs.Text.{is_feed, front}}
+use Rattle.yq_core.{specs.declared.gap.GapPlace.TheVariants.Token, specs.Entries.{content_place, end_of, entry_start, parts_of}}
 use Rattle.yq_core.specs.Nodes.{begins_with}
 use Rattle.yq_core.specs.Places.{Placed, placed, CoreNode, nothing, name, text, sequence, mapping, Parts, end, part}
-use Rattle.yq_core.specs.Reading.{flow_gap_len}
-use Rattle.yq_core.specs.Trees.{unplaced_key}
-use Rattle.yq_core.specs.Tree.{key_label}
+use Rattle.yq_core.{specs.Reading.flow_gap_len, specs.Trees.unplaced_key, specs.Tree.key_label}
+use Rattle.yq_flow_edits.{specs.declared.flow_place.EditPlace.EditPlace, specs.FlowEdits.FlowEdit}
 
 -- where bytes that give way begin and end, and what takes their place before that which is written (own)
 pub record PlacedEdit : Type 0 where

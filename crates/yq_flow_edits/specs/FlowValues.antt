@@ -1,16 +1,10 @@
 -- Texts that spell what is put into flow collections.
-use Rattle.std.specs.Prelude.{◌≡◌, ℕ, ◌≤◌, true, false, List, ◌++◌, Some}
-use Rattle.std.specs.Str.{IsUtf8}
-use Rattle.yq_core.specs.Characters.{is_text}
-use Rattle.yq_core.specs.Keys.{depth}
-use Rattle.yq_core.specs.Plain.{holds_break}
-use Rattle.yq_core.specs.Scalar.{ScalarText}
-use Rattle.yq_core.specs.Tree as tree
-use Rattle.yq_core.specs.Alike.{EndsItem}
+use Rattle.std.{specs.Prelude.{◌≡◌, ℕ, ◌≤◌, true, false, List, ◌++◌, Some}, specs.Str.IsUtf8}
+use Rattle.yq_core.{specs.Characters.is_text, specs.Keys.depth, specs.Plain.holds_break, specs.Scalar.ScalarText, specs.Alike.EndsItem}
+use Rattle.yq_core.{specs.Nodes.{Key, FlowNode, scalar, key_text, node_text, is_close}, specs.Trees.{key_content, tree_of}}
 use Rattle.yq_flow_edits.specs.FlowEdits.{FitsItem, FitsNode}
-use Rattle.yq_core.specs.Nodes.{Key, FlowNode, scalar, key_text, node_text, is_close}
+use Rattle.yq_core.specs.Tree as tree
 use Rattle.yq_core.specs.Scalars as scalars
-use Rattle.yq_core.specs.Trees.{key_content, tree_of}
 
 -- A text spells an entry of a flow mapping: before what stands behind an entry, and where so many collections may be nested, it is the text of one
 -- with that key, whose node stands for the tree (YAML 1.2.2, section 7.4.2).

@@ -1,15 +1,11 @@
 -- Edits of a flow collection: an item or entry is taken out.
 use Rattle.std.specs.Option.{option_or}
 use Rattle.std.specs.Prelude.{◌≡◌, ℕ, Bool, false, ◌||◌, ◌&&◌, ◌==◌, List, [], ◌∷◌, ◌++◌, Option, Some, None, option_map, if◌then◌else◌}
-use Rattle.yq_core.specs.Paths.{Step, is_here, further}
-use Rattle.yq_core.specs.PlainText.{begins_marker}
-use Rattle.yq_core.specs.Text.{is_feed, is_return, front, separates}
-use Rattle.yq_core.specs.Alike.{fresh}
-use Rattle.yq_core.specs.Collections.{CollPieces}
-use Rattle.yq_flow_edits.specs.FlowEdits.{FlowEdit}
+use Rattle.yq_core.{specs.Paths.{Step, is_here, further}, specs.PlainText.begins_marker, specs.Text.{is_feed, is_return, front, separates}}
+use Rattle.yq_core.{specs.Alike.fresh, specs.Collections.CollPieces}
 use Rattle.yq_core.specs.Nodes.{Key, FlowNode, Sep, last, comma, Items, none, item, key_text, sep_text, node_text, flow_items_text}
-use Rattle.yq_core.specs.Trees.{key_content}
-use Rattle.yq_core.specs.Tree.{key_label}
+use Rattle.yq_core.{specs.Trees.key_content, specs.Tree.key_label}
+use Rattle.yq_flow_edits.specs.FlowEdits.{FlowEdit}
 
 -- the text is `---` or `...` (YAML 1.2.2, sections 9.1.2 and 9.1.3)
 abbrev pub is_marks : List ℕ → Bool

@@ -1,19 +1,10 @@
 -- The trees that values stand for, and the texts that spell them.
-use Rattle.std.specs.Prelude.{◌≡◌, ℕ, ◌+◌, ◌≤◌, Bool, true, false, List, ◌++◌, Option, Some, None, ⊤, ℤ}
-use Rattle.std.specs.Str.{IsUtf8}
-use Rattle.yq_core.specs.declared.style.Place.{Place}
-use Rattle.yq_core.specs.Characters.{is_text}
-use Rattle.yq_core.specs.Keys.{depth}
-use Rattle.yq_core.specs.Piece.{further_spaces}
-use Rattle.yq_core.specs.Plain.{ends_plain, holds_break}
-use Rattle.yq_core.specs.Scalar.{ScalarText, IsScalar}
+use Rattle.std.{specs.Prelude.{◌≡◌, ℕ, ◌+◌, ◌≤◌, Bool, true, false, List, ◌++◌, Option, Some, None, ⊤, ℤ}, specs.Str.IsUtf8}
+use Rattle.yq_core.{specs.declared.style.Place.Place, specs.Characters.is_text, specs.Keys.depth, specs.Piece.further_spaces}
+use Rattle.yq_core.{specs.Plain.{ends_plain, holds_break}, specs.Scalar.{ScalarText, IsScalar}, specs.Tree.key_label}
+use Rattle.yq_core.{specs.Writable.in_flow, specs.Inline.{IsInline, depth_limit}, specs.Nodes.{FlowNode, node_text}, specs.Trees.tree_of}
 use Rattle.yq_core.specs.Tree as tree
-use Rattle.yq_core.specs.Tree.{key_label}
-use Rattle.yq_core.specs.Writable.{in_flow}
-use Rattle.yq_core.specs.Inline.{IsInline, depth_limit}
-use Rattle.yq_core.specs.Nodes.{FlowNode, node_text}
 use Rattle.yq_core.specs.Scalars as scalars
-use Rattle.yq_core.specs.Trees.{tree_of}
 
 -- a scalar's kind fits its text, which is UTF-8 (YAML 1.2.2, section 10.3.2)
 pub record IsValid (s : ScalarText) : Type 0 where

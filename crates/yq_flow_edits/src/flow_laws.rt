@@ -1,24 +1,16 @@
 //! Laws of edits in flow collections, each the contract of a function that does nothing.
 ghost use Rattle.std.specs.Prelude.{◌≡◌, ◌∷◌, ◌++◌, ◌==◌, ◌≤◌, [], Some, true};
-ghost use Rattle.yq_core.specs.Characters.{pairs_returns};
-ghost use Rattle.yq_core.specs.Keys.{depth};
-ghost use Rattle.yq_core.specs.Paths.{Step, append_child, changed_at, change_child, remove_child, within};
-ghost use Rattle.yq_core.specs.Scalar.{ScalarText};
+ghost use Rattle.yq_core.{specs.Characters.pairs_returns, specs.Keys.depth};
+ghost use Rattle.yq_core.{specs.Paths.{Step, append_child, changed_at, change_child, remove_child, within}, specs.Scalar.ScalarText};
+ghost use Rattle.yq_core.{specs.Tree.key_label, specs.Writable.can_write, specs.declared.style.Place.TheVariants.{Flow, Block}};
+ghost use Rattle.yq_core.{specs.declared.style.Style.Style, specs.Collections.{CollAt, IsCollAt, item_in, room_in}};
+ghost use Rattle.yq_core.{specs.Entries.EntryPieces, specs.Nodes.{Key, FlowNode, node_text, scalar}};
+ghost use Rattle.yq_core.{specs.Trees.{key_content, scalar_node, tree_of}, specs.NodesWritten.{flow_key, flow_of, flow_text}};
+ghost use Rattle.yq_flow_edits.specs.FlowEdits.{FitsItem, FitsNode, FlowEdit, IsFlowEdited, appending, behind_appended, put_value};
+ghost use Rattle.yq_flow_edits.{specs.FlowEdits.replacing, specs.Removals.removing};
+ghost use Rattle.yq_flow_edits.{specs.Valued.{IsLabel, IsValid, IsValueTree, Spells, SpellsScalar}, specs.FlowValues.SpellsInFlow};
 ghost use Rattle.yq_core.specs.Tree as tree;
-ghost use Rattle.yq_core.specs.Tree.{key_label};
-ghost use Rattle.yq_core.specs.Writable.{can_write};
 ghost use Rattle.yq_core.specs.Written as scalars;
-ghost use Rattle.yq_core.specs.declared.style.Place.TheVariants.{Flow, Block};
-ghost use Rattle.yq_core.specs.declared.style.Style.{Style};
-ghost use Rattle.yq_core.specs.Collections.{CollAt, IsCollAt, item_in, room_in};
-ghost use Rattle.yq_core.specs.Entries.{EntryPieces};
-ghost use Rattle.yq_flow_edits.specs.FlowEdits.{FitsItem, FitsNode, FlowEdit, IsFlowEdited, appending, behind_appended, put_value, replacing};
-ghost use Rattle.yq_core.specs.Nodes.{Key, FlowNode, node_text, scalar};
-ghost use Rattle.yq_flow_edits.specs.Removals.{removing};
-ghost use Rattle.yq_core.specs.Trees.{key_content, scalar_node, tree_of};
-ghost use Rattle.yq_flow_edits.specs.Valued.{IsLabel, IsValid, IsValueTree, Spells, SpellsScalar};
-ghost use Rattle.yq_core.specs.NodesWritten.{flow_key, flow_of, flow_text};
-ghost use Rattle.yq_flow_edits.specs.FlowValues.{SpellsInFlow};
 
 /// The content of an item or entry of a flow collection gives way to another node, behind its own
 /// anchor.

@@ -1,8 +1,8 @@
 //! Where the bytes of an edit of a flow collection stand.
 ghost use Rattle.std.specs.Prelude.{◌≡◌, option_map};
+ghost use Rattle.yq_core.specs.View.{inline_view};
 ghost use Rattle.yq_core.specs.Entries as places;
 ghost use Rattle.yq_core.specs.View as views;
-ghost use Rattle.yq_core.specs.View.{inline_view};
 ghost use Rattle.yq_flow_edits.specs.FlowPlaces as spec;
 
 use yq_core::{Form, Inline, Piece};

@@ -1,9 +1,9 @@
 //! Where the bytes of an item or entry of a flow collection stand that is taken out.
 ghost use Rattle.std.specs.Prelude.{◌≡◌, drop, option_map};
+ghost use Rattle.yq_core.specs.View.{inline_view};
 ghost use Rattle.yq_core.specs.Paths as paths;
 ghost use Rattle.yq_core.specs.Entries as places;
 ghost use Rattle.yq_core.specs.View as views;
-ghost use Rattle.yq_core.specs.View.{inline_view};
 ghost use Rattle.yq_flow_edits.specs.FlowPlaces as spec;
 
 use crate::flow_place::{EditPlace, end_of};

@@ -1,12 +1,9 @@
 //! Values, written in flow style.
-ghost use Rattle.std.specs.Prelude.{◌≡◌, ◌++◌, IfOk, OnOk, false, map, string_bytes, true};
-ghost use Rattle.std.specs.Str.{IsUtf8};
-ghost use Rattle.yq_core.specs.Scalar.{IsScalar};
-ghost use Rattle.yq_core.specs.Writable as writable;
-ghost use Rattle.yq_core.specs.declared.style.Style.TheVariants.{Plain};
-ghost use Rattle.yq_flow_edits.specs.FlowValues.{SpellsEntry};
-ghost use Rattle.yq_flow_edits.specs.Valued.{AreValueTrees, IsValid, IsValueTree, Spells};
+ghost use Rattle.std.{specs.Prelude.{◌≡◌, ◌++◌, IfOk, OnOk, false, map, string_bytes, true}, specs.Str.IsUtf8};
+ghost use Rattle.yq_core.{specs.Scalar.IsScalar, specs.declared.style.Style.TheVariants.Plain};
 ghost use Rattle.yq_core.specs.Values.{entries_of, items_of, value_node};
+ghost use Rattle.yq_flow_edits.{specs.FlowValues.SpellsEntry, specs.Valued.{AreValueTrees, IsValid, IsValueTree, Spells}};
+ghost use Rattle.yq_core.specs.Writable as writable;
 ghost use Rattle.yq_core.specs.NodesWritten as spec;
 
 use std::alloc::{AllocError, Global};

@@ -1,12 +1,8 @@
 -- What a move or a squash leaves that was cut short.
-use Rattle.std.proofs.Common.{◌≡◌, ◌≢◌, inl, inr, ℕ, List, Some, sym, ap, ◌∙◌, subst}
-use Rattle.std.specs.FinMap.{get, insert}
-use Rattle.yq_journal.specs.Json.{journal_text}
-use Rattle.yq_journal.specs.State.{State}
+use Rattle.std.{proofs.Common.{◌≡◌, ◌≢◌, inl, inr, ℕ, List, Some, sym, ap, ◌∙◌, subst}, specs.FinMap.{get, insert}}
+use Rattle.yq_journal.{specs.Json.journal_text, specs.State.State}
 use Rattle.yq_store.specs.FileMap.{FileMap, get_written, get_other}
-use Rattle.yq_history.specs.Effects.{IsCutShort}
-use Rattle.yq_history.specs.Pair.{IsJournal, Writes}
-use Rattle.yq_history.proofs.MoveLaws.{journal_written}
+use Rattle.yq_history.{specs.Effects.IsCutShort, specs.Pair.{IsJournal, Writes}, proofs.MoveLaws.journal_written}
 
 module _ (f j u : List ℕ) (started s : State) (c : FileMap) where
   -- nothing was written

@@ -1,29 +1,22 @@
 -- The effects of commands, from the contracts of the calls of which they are made.
-use Rattle.std.proofs.Common.{◌≡◌, ◌⊎◌, inl, ℕ, Bool, true, false, ◌==◌, List, [], Option, Some, None, Result, Ok, Err, OnOk, OnErr, IfErr, IsTrue, MatchBool, if◌then◌else◌, sym, ap, ◌∙◌, subst, refl}
-use Rattle.std.specs.Option.{option_or}
-use Rattle.std.proofs.lemmas.Option.{same_Some, none-some}
-use Rattle.std.specs.FinMap.{get}
-use Rattle.yq_journal.specs.declared.fault.JournalError.{JournalError}
-use Rattle.yq_journal.specs.declared.fault.JournalError.TheVariants as error
-use Rattle.yq_journal.specs.declared.fault.JournalFault.{JournalFault}
-use Rattle.yq_journal.specs.declared.fault.JournalFault.TheVariants as journal
-use Rattle.yq_journal.specs.declared.moves.Move.{Move}
-use Rattle.yq_journal.specs.Good.{journal_beside}
-use Rattle.yq_journal.specs.Record.{Record}
+use Rattle.std.proofs.Common.{◌≡◌, ◌⊎◌, inl, ℕ, Bool, true, false, ◌==◌, List, [], Option, Some, None, Result, Ok, Err, OnOk, OnErr, IfErr}
+use Rattle.std.{proofs.Common.{IsTrue, MatchBool, if◌then◌else◌, sym, ap, ◌∙◌, subst, refl}, specs.Option.option_or}
+use Rattle.std.{proofs.lemmas.Option.{same_Some, none-some}, specs.FinMap.get}
+use Rattle.yq_journal.{specs.declared.fault.JournalError.JournalError, specs.declared.fault.JournalFault.JournalFault}
+use Rattle.yq_journal.{specs.declared.moves.Move.Move, specs.Good.journal_beside, specs.Record.Record}
 use Rattle.yq_journal.specs.Refusals.{ErrorIs, Reports, no_way, if_moves, way_fault, squash_fault}
 use Rattle.yq_journal.specs.State.{State, journal_after, moved_text, with_move, settled_beside, squashed}
-use Rattle.yq_history.specs.declared.fault.Fault.{Fault}
+use Rattle.yq_history.{specs.declared.fault.Fault.Fault, specs.declared.direction.Direction.Direction}
+use Rattle.yq_history.specs.Effects.{Effect, refuses, writes_nothing, writes_both, from_pair, from_journal, from_settled, leads_to, goes_to}
+use Rattle.yq_history.specs.Effects.{move_effect, joins_to, squash_effect, IsCutShort, Works}
+use Rattle.yq_history.{specs.Faults.{is_outer_fault, of_fault, of_journal}, specs.Pair.IsJournal, specs.Causes.{IsFor, named}}
+use Rattle.yq_history.{specs.Directions.walk_move, proofs.MoveLaws.{IsMove, either, fault_outside, no_way_free, on_err_map}}
+use Rattle.yq_history.proofs.CutLaws.{cut_unwritten, cut_settled}
+use Rattle.yq_store.specs.FileMap.{FileMap}
+use Rattle.yq_journal.specs.declared.fault.JournalError.TheVariants as error
+use Rattle.yq_journal.specs.declared.fault.JournalFault.TheVariants as journal
 use Rattle.yq_history.specs.declared.fault.Fault.TheVariants as fault
 use Rattle.yq_store.specs.declared.store.FileReadError.TheVariants as read
-use Rattle.yq_history.specs.declared.direction.Direction.{Direction}
-use Rattle.yq_store.specs.FileMap.{FileMap}
-use Rattle.yq_history.specs.Effects.{Effect, refuses, writes_nothing, writes_both, from_pair, from_journal, from_settled, leads_to, goes_to, move_effect, joins_to, squash_effect, IsCutShort, Works}
-use Rattle.yq_history.specs.Faults.{is_outer_fault, of_fault, of_journal}
-use Rattle.yq_history.specs.Pair.{IsJournal}
-use Rattle.yq_history.specs.Causes.{IsFor, named}
-use Rattle.yq_history.specs.Directions.{walk_move}
-use Rattle.yq_history.proofs.MoveLaws.{IsMove, either, fault_outside, no_way_free, on_err_map}
-use Rattle.yq_history.proofs.CutLaws.{cut_unwritten, cut_settled}
 
 pub on_ok : {T E P : Type 0} (r : Result T E) → P → OnOk r P
 on_ok (Ok v) p = p

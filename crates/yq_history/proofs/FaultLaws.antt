@@ -1,20 +1,17 @@
 -- What is told where a call within a move failed.
-use Rattle.std.proofs.Common.{◌≡◌, ℕ, true, false, List, Some, None, Result, Ok, Err, OnOk, IfErr, IfSome, IsTrue, IsNone, option_map, is_some, if◌then◌else◌, sym, ap, ◌∙◌, subst, refl, true≢false}
-use Rattle.std.specs.Option.{option_or}
+use Rattle.std.proofs.Common.{◌≡◌, ℕ, true, false, List, Some, None, Result, Ok, Err, OnOk, IfErr, IfSome, IsTrue, IsNone, option_map}
+use Rattle.std.{proofs.Common.{is_some, if◌then◌else◌, sym, ap, ◌∙◌, subst, refl, true≢false}, specs.Option.option_or}
 use Rattle.std.proofs.lemmas.Option.{same_Some, none-some}
-use Rattle.yq_journal.specs.declared.fault.JournalError.{JournalError}
-use Rattle.yq_journal.specs.declared.fault.JournalError.TheVariants as error
-use Rattle.yq_journal.specs.declared.fault.JournalFault.{JournalFault}
-use Rattle.yq_journal.specs.declared.fault.JournalFault.TheVariants as journal
-use Rattle.yq_journal.specs.declared.moves.Move.{Move}
-use Rattle.yq_journal.specs.Refusals.{ErrorIs, if_moves, move_fault, no_way, way_fault}
+use Rattle.yq_journal.{specs.declared.fault.JournalError.JournalError, specs.declared.fault.JournalFault.JournalFault}
+use Rattle.yq_journal.{specs.declared.moves.Move.Move, specs.Refusals.{ErrorIs, if_moves, move_fault, no_way, way_fault}}
 use Rattle.yq_journal.specs.State.{State, moved_text, with_move}
-use Rattle.yq_store.specs.Count.{after_write}
-use Rattle.yq_store.specs.declared.store.FileWriteError.{FileWriteError}
-use Rattle.yq_store.specs.declared.store.FileWriteError.TheVariants as write
+use Rattle.yq_store.{specs.Count.after_write, specs.declared.store.FileWriteError.FileWriteError}
 use Rattle.yq_history.specs.declared.fault.Fault.{Fault}
 use Rattle.yq_history.specs.Faults.{failures_after, is_outer_fault, is_output, of_fault, of_journal, of_write}
 use Rattle.yq_history.proofs.MoveLaws.{no_way_free, none_of}
+use Rattle.yq_journal.specs.declared.fault.JournalError.TheVariants as error
+use Rattle.yq_journal.specs.declared.fault.JournalFault.TheVariants as journal
+use Rattle.yq_store.specs.declared.store.FileWriteError.TheVariants as write
 
 -- what is told of an error
 pub told : {T : Type 0} (P : Fault → Type 0) (r : Result T Fault) (e : Fault) → r ≡ Err e → P e → IfErr r P

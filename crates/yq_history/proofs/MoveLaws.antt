@@ -1,33 +1,23 @@
 -- What each write of a move leaves, and how a move ends.
-use Rattle.std.proofs.Common.{◌≡◌, ◌≢◌, ◌⊎◌, inl, inr, ℕ, true, false, List, [], Option, Some, None, Result, Ok, Err, OnOk, OnErr, IfErr, IsTrue, IsNone, MatchBool, option_map, if◌then◌else◌, sym, ap, ◌∙◌, subst, refl}
-use Rattle.std.specs.FinMap.{get, insert}
-use Rattle.std.specs.Str.{bytes_eq}
-use Rattle.std.specs.Option.{option_or}
-use Rattle.std.proofs.lemmas.Option.{same_Some, none-some}
+use Rattle.std.proofs.Common.{◌≡◌, ◌≢◌, ◌⊎◌, inl, inr, ℕ, true, false, List, [], Option, Some, None, Result, Ok, Err, OnOk, OnErr, IfErr}
+use Rattle.std.{proofs.Common.{IsTrue, IsNone, MatchBool, option_map, if◌then◌else◌, sym, ap, ◌∙◌, subst, refl}, specs.FinMap.{get, insert}}
+use Rattle.std.{specs.Str.bytes_eq, specs.Option.option_or, proofs.lemmas.Option.{same_Some, none-some}}
 use Rattle.std.proofs.lemmas.Slice.Eq.{bytes_eq-Decides}
-use Rattle.yq_journal.specs.declared.fault.JournalError.{JournalError}
-use Rattle.yq_journal.specs.declared.fault.JournalError.TheVariants as error
-use Rattle.yq_journal.specs.declared.fault.JournalFault.{JournalFault}
-use Rattle.yq_journal.specs.declared.fault.JournalFault.TheVariants as journal
-use Rattle.yq_journal.specs.declared.moves.Move.{Move}
-use Rattle.yq_journal.specs.declared.moves.Move.TheVariants.{Edit, Undo, Redo}
-use Rattle.yq_journal.specs.Good.{AtRest, Describes, after_move, journal_beside, step_fault}
-use Rattle.yq_journal.specs.Json.{journal_text}
-use Rattle.yq_journal.specs.Record.{Record}
-use Rattle.yq_journal.specs.History.{History}
-use Rattle.yq_journal.specs.Refusals.{ErrorIs, no_way, if_moves, way_fault}
+use Rattle.yq_journal.{specs.declared.fault.JournalError.JournalError, specs.declared.fault.JournalFault.JournalFault}
+use Rattle.yq_journal.{specs.declared.moves.Move.Move, specs.declared.moves.Move.TheVariants.{Edit, Undo, Redo}}
+use Rattle.yq_journal.{specs.Good.{AtRest, Describes, after_move, journal_beside, step_fault}, specs.Json.journal_text, specs.Record.Record}
+use Rattle.yq_journal.{specs.History.History, specs.Refusals.{ErrorIs, no_way, if_moves, way_fault}}
 use Rattle.yq_journal.specs.State.{State, without_move, is_reached, journal_after, moved_text, with_move, settled_beside}
 use Rattle.yq_journal.proofs.GoodLaws.{describes, open_before, open_after, settled_rests, undo_fault, redo_fault}
 use Rattle.yq_journal.proofs.HistoryLaws.{move_moves}
-use Rattle.yq_history.specs.declared.fault.Fault.{Fault}
-use Rattle.yq_history.specs.Causes.{Cause, IsFor, named}
-use Rattle.yq_store.specs.FileMap.{FileMap, get_written, get_other}
-use Rattle.yq_history.specs.Effects.{IsCutShort}
+use Rattle.yq_history.{specs.declared.fault.Fault.Fault, specs.Causes.{Cause, IsFor, named}, specs.Effects.IsCutShort}
 use Rattle.yq_history.specs.Faults.{is_outer_fault, of_fault, of_journal}
 use Rattle.yq_history.specs.Pair.{Arrives, GoodIn, IsJournal, PairAtRest, PairStands, Writes}
-use Rattle.yq_history.specs.Steps.{move_cause, move_next, unless_fault}
-use Rattle.yq_history.specs.Directions.{walk_move}
+use Rattle.yq_history.{specs.Steps.{move_cause, move_next, unless_fault}, specs.Directions.walk_move}
 use Rattle.yq_history.specs.declared.direction.Direction.{Direction}
+use Rattle.yq_store.specs.FileMap.{FileMap, get_written, get_other}
+use Rattle.yq_journal.specs.declared.fault.JournalError.TheVariants as error
+use Rattle.yq_journal.specs.declared.fault.JournalFault.TheVariants as journal
 
 moved_closed : (s : State) (step : Move) → (journal_after s step).pending ≡ None
 moved_closed s (Edit r) = refl

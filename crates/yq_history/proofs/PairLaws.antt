@@ -1,11 +1,7 @@
 -- What reading a pair and writing to it leave.
 use Rattle.std.proofs.Common.{◌≡◌, ℕ, List, Option, Some, None, Ok, Vec, option_map, sym, ap, ◌∙◌, subst}
-use Rattle.std.proofs.lemmas.Option.{same_Some, none-some}
-use Rattle.std.specs.FinMap.{get}
-use Rattle.std.specs.declared.alloc.Global.{Global}
-use Rattle.yq_journal.specs.Good.{Describes, journal_beside}
-use Rattle.yq_journal.specs.History.{History, text_at}
-use Rattle.yq_journal.specs.State.{State, settled_beside}
+use Rattle.std.{proofs.lemmas.Option.{same_Some, none-some}, specs.FinMap.get, specs.declared.alloc.Global.Global}
+use Rattle.yq_journal.{specs.Good.{Describes, journal_beside}, specs.History.{History, text_at}, specs.State.{State, settled_beside}}
 use Rattle.yq_journal.proofs.GoodLaws.{settles, settled_rests}
 use Rattle.yq_store.specs.FileMap.{FileMap}
 use Rattle.yq_history.specs.Pair.{GoodIn, Opens, PairAtRest}

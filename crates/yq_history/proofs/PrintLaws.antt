@@ -1,17 +1,11 @@
 -- What is printed of a journal is what is printed of its history.
-use Rattle.std.proofs.Common.{◌≡◌, ℕ, suc, ◌+◌, List, [], ◌∷◌, ◌++◌, map, nat_lt, slice_get, take, Option, Some, None, Result, Ok, Err, IfOk, String, Vec, sym, ap, ap₂, ◌∙◌, refl, arith, append_assoc}
-use Rattle.std.specs.Prelude.{decimal}
-use Rattle.std.specs.String.{string_bytes}
-use Rattle.std.specs.declared.alloc.Global.{Global}
+use Rattle.std.proofs.Common.{◌≡◌, ℕ, suc, ◌+◌, List, [], ◌∷◌, ◌++◌, map, nat_lt, slice_get, take, Option, Some, None, Result, Ok, Err}
+use Rattle.std.{proofs.Common.{IfOk, String, Vec, sym, ap, ap₂, ◌∙◌, refl, arith, append_assoc}, specs.Prelude.decimal}
+use Rattle.std.{specs.String.string_bytes, specs.declared.alloc.Global.Global, proofs.lemmas.List.append-nil}
 use Prim.Native.Nat.{zero}
-use Rattle.std.proofs.lemmas.List.{append-nil}
-use Rattle.yq_journal.specs.Good.{Leads, AtRest}
-use Rattle.yq_journal.specs.History.{History, Revision}
-use Rattle.yq_journal.specs.Record.{Record}
-use Rattle.yq_journal.specs.State.{State}
+use Rattle.yq_journal.{specs.Good.{Leads, AtRest}, specs.History.{History, Revision}, specs.Record.Record, specs.State.State}
 use Rattle.yq_store.specs.FileMap.{FileMap}
-use Rattle.yq_history.specs.Pair.{Opens}
-use Rattle.yq_history.specs.Listing.{edit_line, listing_after, history_lines, listing_output}
+use Rattle.yq_history.{specs.Pair.Opens, specs.Listing.{edit_line, listing_after, history_lines, listing_output}}
 
 -- a line by other names of its texts
 pub line_is : {E : Type 0} (r : Result (String Global) E) (n : ℕ) (state expr word text : List ℕ) →

@@ -1,8 +1,7 @@
 -- Undo and redo as moves of a journal (own).
 use Rattle.yq_journal.specs.declared.moves.Move.{Move}
+use Rattle.yq_history.{specs.declared.direction.Direction.Direction, specs.declared.direction.Direction.TheVariants.{Undo, Redo}}
 use Rattle.yq_journal.specs.declared.moves.Move.TheVariants as move
-use Rattle.yq_history.specs.declared.direction.Direction.{Direction}
-use Rattle.yq_history.specs.declared.direction.Direction.TheVariants.{Undo, Redo}
 
 -- the move of a walk
 abbrev pub walk_move : Direction → Move

@@ -1,18 +1,13 @@
 -- What is done to a file and its journal, by their bytes as they are, good for a history or not (own).
 use Rattle.std.specs.Prelude.{◌≡◌, ◌⊎◌, ◌==◌, ℕ, List, [], if◌then◌else◌, Option, Some, None, Result, Ok, Err, IsTrue, MatchBool}
 use Rattle.std.specs.FinMap.{get}
-use Rattle.yq_journal.specs.declared.fault.JournalFault.{JournalFault}
-use Rattle.yq_journal.specs.declared.moves.Move.{Move}
-use Rattle.yq_journal.specs.Good.{journal_beside}
+use Rattle.yq_journal.{specs.declared.fault.JournalFault.JournalFault, specs.declared.moves.Move.Move, specs.Good.journal_beside}
 use Rattle.yq_journal.specs.Refusals.{no_way, squash_fault}
 use Rattle.yq_journal.specs.State.{State, journal_after, moved_text, with_move, settled_beside, squashed}
 use Rattle.yq_history.specs.declared.fault.Fault.{Fault}
-use Rattle.yq_history.specs.declared.fault.Fault.TheVariants.{NotThere, DoesNotStand, BadJournal, Unsettled}
+use Rattle.yq_history.{specs.declared.fault.Fault.TheVariants.{NotThere, DoesNotStand, BadJournal, Unsettled}, specs.Pair.IsJournal}
+use Rattle.yq_history.{specs.Faults.{is_outer_fault, of_fault}, specs.Listing.record_lines, specs.Causes.{Cause, IsFor, named}}
 use Rattle.yq_store.specs.FileMap.{FileMap}
-use Rattle.yq_history.specs.Pair.{IsJournal}
-use Rattle.yq_history.specs.Faults.{is_outer_fault, of_fault}
-use Rattle.yq_history.specs.Listing.{record_lines}
-use Rattle.yq_history.specs.Causes.{Cause, IsFor, named}
 
 -- what a command does: it is refused; it writes nothing and prints these bytes; or it prints nothing, and leaves this text in the file
 -- and the second of these journals beside it, where the first one, in which its move is open, stands until the text does

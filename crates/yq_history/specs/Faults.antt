@@ -1,18 +1,18 @@
 -- Faults of stores, journals and readings as faults of a command, and those that come from outside (own).
 use Rattle.std.specs.Prelude.{ℕ, Bool, true, false, if◌then◌else◌, Result, Ok, Err}
 use Rattle.yq_core.specs.declared.fault.ReadError.{ReadError}
-use Rattle.yq_core.specs.declared.fault.ReadError.TheVariants as reading
-use Rattle.yq_journal.specs.declared.fault.JournalError.{JournalError}
-use Rattle.yq_journal.specs.declared.fault.JournalError.TheVariants as error
-use Rattle.yq_journal.specs.declared.fault.JournalFault.{JournalFault}
-use Rattle.yq_journal.specs.declared.fault.JournalFault.TheVariants as journal
+use Rattle.yq_journal.{specs.declared.fault.JournalError.JournalError, specs.declared.fault.JournalFault.JournalFault}
 use Rattle.yq_history.specs.declared.fault.Fault.{Fault}
-use Rattle.yq_history.specs.declared.fault.Fault.TheVariants.{NotThere, ReadFailed, WriteFailed, OutFailed, NothingToUndo, NothingToRedo, DoesNotStand, BadJournal, Unsettled, JournalFull, BadCount, Unreadable, OutOfMemory}
-use Rattle.yq_store.specs.declared.store.FileReadError.{FileReadError}
-use Rattle.yq_store.specs.declared.store.FileReadError.TheVariants as read
-use Rattle.yq_store.specs.declared.store.FileWriteError.{FileWriteError}
-use Rattle.yq_store.specs.declared.store.FileWriteError.TheVariants as write
+use Rattle.yq_history.specs.declared.fault.Fault.TheVariants.{NotThere, ReadFailed, WriteFailed, OutFailed, NothingToUndo, NothingToRedo}
+use Rattle.yq_history.specs.declared.fault.Fault.TheVariants.{DoesNotStand, BadJournal, Unsettled, JournalFull, BadCount, Unreadable}
+use Rattle.yq_history.specs.declared.fault.Fault.TheVariants.{OutOfMemory}
+use Rattle.yq_store.{specs.declared.store.FileReadError.FileReadError, specs.declared.store.FileWriteError.FileWriteError}
 use Rattle.yq_store.specs.Count.{count_plus_one}
+use Rattle.yq_core.specs.declared.fault.ReadError.TheVariants as reading
+use Rattle.yq_journal.specs.declared.fault.JournalError.TheVariants as error
+use Rattle.yq_journal.specs.declared.fault.JournalFault.TheVariants as journal
+use Rattle.yq_store.specs.declared.store.FileReadError.TheVariants as read
+use Rattle.yq_store.specs.declared.store.FileWriteError.TheVariants as write
 
 -- why a file was not read
 abbrev pub of_read : FileReadError → Fault

@@ -1,9 +1,7 @@
 -- What `history` prints (own).
 use Rattle.std.specs.Prelude.{ℕ, ◌+◌, Bool, true, false, List, [], ◌∷◌, ◌++◌, map, nat_lt, codes, decimal, Option, Some, None}
 use Rattle.json.specs.Print.{quoted}
-use Rattle.yq_journal.specs.History.{History, Revision}
-use Rattle.yq_journal.specs.Record.{Record}
-use Rattle.yq_journal.specs.State.{State}
+use Rattle.yq_journal.{specs.History.{History, Revision}, specs.Record.Record, specs.State.State}
 
 -- the word for an edit that is done, or undone
 abbrev pub state_word : Bool → List ℕ

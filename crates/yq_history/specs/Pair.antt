@@ -1,16 +1,11 @@
 -- A file and its journal in a store (own).
 use Rattle.std.specs.Prelude.{◌≡◌, ◌≢◌, ◌⊎◌, ℕ, List, Option, Some, None, Result, Ok, Err, MatchBool, IsTrue, Vec}
-use Rattle.std.specs.FinMap.{get, insert}
-use Rattle.std.specs.declared.alloc.Global.{Global}
-use Rattle.yq_journal.specs.Good.{Good, PairHolds, AtRest, journal_beside}
-use Rattle.yq_journal.specs.History.{History}
-use Rattle.yq_journal.specs.Json.{journal_in, journal_text}
+use Rattle.std.{specs.FinMap.{get, insert}, specs.declared.alloc.Global.Global}
+use Rattle.yq_journal.{specs.Good.{Good, PairHolds, AtRest, journal_beside}, specs.History.History, specs.Json.{journal_in, journal_text}}
 use Rattle.yq_journal.specs.State.{State}
-use Rattle.yq_history.specs.declared.fault.Fault.{Fault}
-use Rattle.yq_history.specs.declared.fault.Fault.TheVariants.{NotThere}
-use Rattle.yq_store.specs.FileMap.{FileMap}
-use Rattle.yq_history.specs.Causes.{Cause, IsFor}
+use Rattle.yq_history.{specs.declared.fault.Fault.Fault, specs.declared.fault.Fault.TheVariants.NotThere, specs.Causes.{Cause, IsFor}}
 use Rattle.yq_history.specs.Faults.{is_outer_fault}
+use Rattle.yq_store.specs.FileMap.{FileMap}
 
 -- a file and its journal are good for a history
 abbrev pub GoodIn : FileMap → List ℕ → List ℕ → Option History → Type 0

@@ -1,6 +1,5 @@
 -- What a command that is carried out shows (own).
-use Rattle.std.specs.Prelude.{ℕ, Bool, true, List, []}
-use Rattle.std.specs.String.{string_bytes}
+use Rattle.std.{specs.Prelude.{ℕ, Bool, true, List, []}, specs.String.string_bytes}
 use Rattle.yq_history.specs.declared.report.Report as declared
 
 -- the bytes that it prints, and whether what it was asked for is there

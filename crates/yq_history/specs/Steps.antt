@@ -1,12 +1,8 @@
 -- What an undo, a redo and a squash do to a history, and why they and its listing are refused (own).
 use Rattle.std.specs.Prelude.{ℕ, [], Option, Some, None, option_map}
-use Rattle.yq_journal.specs.declared.fault.JournalFault.{JournalFault}
-use Rattle.yq_journal.specs.declared.moves.Move.{Move}
-use Rattle.yq_journal.specs.Good.{after_move, squash_refusal, step_fault}
-use Rattle.yq_journal.specs.History.{History, after_squash}
-use Rattle.yq_history.specs.declared.fault.Fault.TheVariants.{NotThere}
-use Rattle.yq_history.specs.Causes.{Cause, named}
-use Rattle.yq_history.specs.Faults.{of_fault}
+use Rattle.yq_journal.{specs.declared.fault.JournalFault.JournalFault, specs.declared.moves.Move.Move}
+use Rattle.yq_journal.{specs.Good.{after_move, squash_refusal, step_fault}, specs.History.{History, after_squash}}
+use Rattle.yq_history.{specs.declared.fault.Fault.TheVariants.NotThere, specs.Causes.{Cause, named}, specs.Faults.of_fault}
 
 -- a history that stays where there is a fault, and else goes on
 abbrev pub unless_fault : Option JournalFault → History → History → History

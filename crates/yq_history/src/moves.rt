@@ -1,14 +1,10 @@
 //! Moves of a file and its journal.
 ghost use Rattle.std.specs.Prelude.{◌≡◌, ◌≢◌, ◌⊎◌, Some, None, Err, false, IsTrue, IsNone, IfErr, OnOk, OnErr, option_map};
-ghost use Rattle.std.specs.FinMap as map;
-ghost use Rattle.yq_journal.specs.Good.{after_move};
-ghost use Rattle.yq_journal.specs.History.{History};
-ghost use Rattle.yq_journal.specs.Refusals.{no_way};
-ghost use Rattle.yq_journal.specs.State.{journal_after, moved_text};
+ghost use Rattle.yq_journal.{specs.Good.after_move, specs.History.History, specs.Refusals.no_way, specs.State.{journal_after, moved_text}};
 ghost use Rattle.yq_journal.specs.declared.fault.JournalFault.{JournalFault};
-ghost use Rattle.yq_history.specs.Effects.{IsMoveCutShort};
-ghost use Rattle.yq_history.specs.Faults.{is_outer_fault, is_output, failures_after, of_fault};
+ghost use Rattle.yq_history.{specs.Effects.IsMoveCutShort, specs.Faults.{is_outer_fault, is_output, failures_after, of_fault}};
 ghost use Rattle.yq_history.specs.Pair.{IsJournal, OthersStay, PairAtRest, PairStands};
+ghost use Rattle.std.specs.FinMap as map;
 
 use crate::{Fault, write_journal};
 use std::alloc::Global;

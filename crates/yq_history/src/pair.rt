@@ -1,13 +1,9 @@
 //! A file and its journal, read from a store and written to it.
 ghost use Rattle.std.specs.Prelude.{◌≡◌, ◌≢◌, ◌⊎◌, ℕ, List, Option, Some, None, false, IfOk, OnOk, IfErr, OnErr, IsTrue, IsNone};
+ghost use Rattle.yq_journal.{specs.Good.journal_beside, specs.History.History, specs.State.State};
+ghost use Rattle.yq_history.{specs.Effects.{Effect, from_names, refuses}, specs.Faults.{is_outer_fault, is_output, failures_after}};
+ghost use Rattle.yq_history.{specs.Pair.{GoodIn, Opens, Writes}, specs.Causes.named};
 ghost use Rattle.std.specs.FinMap as map;
-ghost use Rattle.yq_journal.specs.Good.{journal_beside};
-ghost use Rattle.yq_journal.specs.History.{History};
-ghost use Rattle.yq_journal.specs.State.{State};
-ghost use Rattle.yq_history.specs.Effects.{Effect, from_names, refuses};
-ghost use Rattle.yq_history.specs.Faults.{is_outer_fault, is_output, failures_after};
-ghost use Rattle.yq_history.specs.Pair.{GoodIn, Opens, Writes};
-ghost use Rattle.yq_history.specs.Causes.{named};
 
 use crate::fault::Fault;
 use std::alloc::Global;

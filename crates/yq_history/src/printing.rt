@@ -1,14 +1,12 @@
 //! The lines of a history.
 ghost use Rattle.std.specs.Prelude.{◌≡◌, ◌∷◌, ◌++◌, [], Option, IfErr, OnOk, IfOk, IsTrue, false, true, decimal};
 ghost use Rattle.std.specs.String.{string_bytes};
-ghost use Rattle.json.specs.Print as json;
 ghost use Rattle.yq_journal.specs.History.{History};
-ghost use Rattle.yq_history.specs.Effects.{Works, from_names, listing_effect, printed_by};
-ghost use Rattle.yq_history.specs.Faults.{is_output, failures_after};
-ghost use Rattle.yq_history.specs.Pair.{Arrives, GoodIn};
-ghost use Rattle.yq_history.specs.Listing as spec;
-ghost use Rattle.yq_history.specs.Report.{nothing, report_by, text as report_text};
+ghost use Rattle.yq_history.{specs.Effects.{Works, from_names, listing_effect, printed_by}, specs.Faults.{is_output, failures_after}};
+ghost use Rattle.yq_history.{specs.Pair.{Arrives, GoodIn}, specs.Report.{nothing, report_by, text as report_text}};
 ghost use Rattle.yq_history.specs.Steps.{listing_cause};
+ghost use Rattle.json.specs.Print as json;
+ghost use Rattle.yq_history.specs.Listing as spec;
 
 use crate::fault::Fault;
 use crate::pair::open_pair;

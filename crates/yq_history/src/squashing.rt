@@ -1,13 +1,10 @@
 //! Squashes: the last edits of a file joined into one in its journal.
 ghost use Rattle.std.specs.Prelude.{◌≡◌, ◌≢◌, ℕ, List, Option, Some, Err, IfErr, IsTrue, IsNone, false};
-ghost use Rattle.std.specs.FinMap as map;
-ghost use Rattle.yq_journal.specs.History.{History};
-ghost use Rattle.yq_journal.specs.Refusals.{squash_fault};
-ghost use Rattle.yq_journal.specs.declared.fault.JournalFault.{JournalFault};
+ghost use Rattle.yq_journal.{specs.History.History, specs.Refusals.squash_fault, specs.declared.fault.JournalFault.JournalFault};
 ghost use Rattle.yq_history.specs.Effects.{Works, from_names, squash_effect};
-ghost use Rattle.yq_history.specs.Faults.{is_outer_fault, is_output, failures_after, of_fault};
-ghost use Rattle.yq_history.specs.Pair.{Arrives, GoodIn, PairAtRest};
+ghost use Rattle.yq_history.{specs.Faults.{is_outer_fault, is_output, failures_after, of_fault}, specs.Pair.{Arrives, GoodIn, PairAtRest}};
 ghost use Rattle.yq_history.specs.Steps.{squash_cause, squash_next};
+ghost use Rattle.std.specs.FinMap as map;
 
 use crate::fault::Fault;
 use crate::pair::{open_pair, write_journal};

@@ -1,15 +1,11 @@
 //! Undo and redo of a file and its journal.
 ghost use Rattle.std.specs.Prelude.{◌≡◌, ◌≢◌, ◌⊎◌, ℕ, List, Option, Some, None, false, IsTrue, IsNone, IfErr, OnOk, OnErr};
-ghost use Rattle.std.specs.FinMap as map;
-ghost use Rattle.yq_journal.specs.Good.{after_move};
-ghost use Rattle.yq_journal.specs.History.{History};
-ghost use Rattle.yq_journal.specs.Refusals.{way_fault};
+ghost use Rattle.yq_journal.{specs.Good.after_move, specs.History.History, specs.Refusals.way_fault};
 ghost use Rattle.yq_journal.specs.State.{journal_after, moved_text};
-ghost use Rattle.yq_history.specs.Effects.{Works, from_names, move_effect};
-ghost use Rattle.yq_history.specs.Faults.{is_outer_fault, is_output, failures_after};
+ghost use Rattle.yq_history.{specs.Effects.{Works, from_names, move_effect}, specs.Faults.{is_outer_fault, is_output, failures_after}};
 ghost use Rattle.yq_history.specs.Pair.{Arrives, GoodIn, IsJournal, OthersStay, PairAtRest, PairStands};
-ghost use Rattle.yq_history.specs.Steps.{move_cause, move_next};
-ghost use Rattle.yq_history.specs.Directions.{walk_move};
+ghost use Rattle.yq_history.{specs.Steps.{move_cause, move_next}, specs.Directions.walk_move};
+ghost use Rattle.std.specs.FinMap as map;
 
 use crate::{Direction, Fault, carry_out, open_pair, write_journal};
 use std::alloc::Global;

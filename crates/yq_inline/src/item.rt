@@ -1,10 +1,8 @@
 //! What stands behind the items of a sequence.
 ghost use Rattle.std.specs.Prelude.{◌≡◌, ◌≢◌, ◌≤◌, IfErr, IfOk, false, length};
-ghost use Rattle.yq_core.specs.Answers.{ReadsAs};
-ghost use Rattle.yq_core.specs.declared.fault.FaultKind.TheVariants.{NotUtf8};
-ghost use Rattle.yq_inline.specs.Forms as spec;
-ghost use Rattle.yq_core.specs.Places.{bare_placed};
+ghost use Rattle.yq_core.{specs.Answers.ReadsAs, specs.declared.fault.FaultKind.TheVariants.NotUtf8, specs.Places.bare_placed};
 ghost use Rattle.yq_core.specs.View.{inline_view};
+ghost use Rattle.yq_inline.specs.Forms as spec;
 
 use crate::fault::flow_fault;
 use crate::pieces::{no_node, read_sep};

@@ -1,12 +1,9 @@
 //! Laws of inline nodes, each the contract of a function that does nothing.
 ghost use Rattle.std.specs.Prelude.{◌≡◌, ◌+◌, ◌∷◌, length, Bool, List, Option, Some, option_map, true, ℕ, ℤ};
-ghost use Rattle.yq_core.specs.Paths.{Step};
-ghost use Rattle.yq_core.specs.declared.style.Place.{Place};
-ghost use Rattle.yq_core.specs.Inline.{IsInline, IsInlineAt, inline_at};
+ghost use Rattle.yq_core.{specs.Paths.Step, specs.declared.style.Place.Place, specs.Inline.{IsInline, IsInlineAt, inline_at}};
 ghost use Rattle.yq_core.specs.Nodes.{IsFlowNode, FlowNode, node_text};
 ghost use Rattle.yq_core.specs.Entries.{EntryPieces, StandsIn, placed_entry_at, entry_pieces_at, locate_entry, pieces_text};
-ghost use Rattle.yq_core.specs.Places.{Placed, locate};
-ghost use Rattle.yq_core.specs.Trees.{placed_tree, tree_of};
+ghost use Rattle.yq_core.{specs.Places.{Placed, locate}, specs.Trees.{placed_tree, tree_of}};
 
 /// What is read as an inline node is one, what is one is read, and a text begins with one at most.
 pub fn one_inline()

@@ -1,13 +1,10 @@
 //! The pieces of inline nodes, read one behind the other.
-ghost use Rattle.std.specs.Prelude.{◌≡◌, ◌≢◌, ◌<◌, ◌≤◌, IfErr, IfOk, length, true};
-ghost use Rattle.yq_core.specs.Answers.{ReadsAs};
-ghost use Rattle.yq_core.specs.Quoted.{IsQuotedText};
-ghost use Rattle.yq_core.specs.declared.fault.FaultKind.TheVariants.{NotUtf8};
+ghost use Rattle.std.{specs.Prelude.{◌≡◌, ◌≢◌, ◌<◌, ◌≤◌, IfErr, IfOk, length, true}, specs.List.prefix_len};
+ghost use Rattle.yq_core.{specs.Answers.ReadsAs, specs.Quoted.IsQuotedText, specs.declared.fault.FaultKind.TheVariants.NotUtf8};
 ghost use Rattle.yq_core.specs.Nodes as nodes;
 ghost use Rattle.yq_core.specs.PlacedReading as reading;
 ghost use Rattle.yq_core.specs.Reading as spec;
 ghost use Rattle.yq_core.specs.Scalars as scalars;
-ghost use Rattle.std.specs.List.{prefix_len};
 
 use crate::fault::{fault, flow_fault};
 use crate::lead::read_gap;

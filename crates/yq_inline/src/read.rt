@@ -1,12 +1,8 @@
 //! The inline node at an offset of a text.
-ghost use Rattle.std.specs.Prelude.{◌≡◌, ◌⊎◌, IfErr, IfOk, Some};
-ghost use Rattle.std.specs.Str.{IsCharBoundary};
-ghost use Rattle.yq_core.specs.Answers.{Gives, IsOfText};
-ghost use Rattle.yq_core.specs.declared.style.Place.TheVariants.{Block, Flow};
+ghost use Rattle.std.{specs.Prelude.{◌≡◌, ◌⊎◌, IfErr, IfOk, Some}, specs.Str.IsCharBoundary};
+ghost use Rattle.yq_core.{specs.Answers.{Gives, IsOfText}, specs.declared.style.Place.TheVariants.{Block, Flow}, specs.Places.Placed};
+ghost use Rattle.yq_core.{specs.Spans.{HasSpans, IsNested}, specs.View.inline_view};
 ghost use Rattle.yq_core.specs.Inline as spec;
-ghost use Rattle.yq_core.specs.Places.{Placed};
-ghost use Rattle.yq_core.specs.Spans.{HasSpans, IsNested};
-ghost use Rattle.yq_core.specs.View.{inline_view};
 
 use crate::fault::fault;
 use crate::pieces::no_node;

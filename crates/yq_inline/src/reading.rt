@@ -1,11 +1,9 @@
 //! Inline nodes, read from left to right.
-ghost use Rattle.std.specs.Prelude.{◌≡◌, ◌<◌, ◌≤◌, IfErr, IfOk, Some, length, true};
-ghost use Rattle.std.specs.String.{string_bytes};
-ghost use Rattle.yq_core.specs.Answers.{Gives, IsOfText};
+ghost use Rattle.std.{specs.Prelude.{◌≡◌, ◌<◌, ◌≤◌, IfErr, IfOk, Some, length, true}, specs.String.string_bytes};
+ghost use Rattle.yq_core.{specs.Answers.{Gives, IsOfText}, specs.View.{entries_end, form_view, items_end, inline_view}};
 ghost use Rattle.yq_inline.specs.Forms.{placed_form};
 ghost use Rattle.yq_core.specs.Places as spec;
 ghost use Rattle.yq_core.specs.PlacedReading as reading;
-ghost use Rattle.yq_core.specs.View.{entries_end, form_view, items_end, inline_view};
 
 use crate::fault::fault;
 use crate::item::read_behind;

@@ -1,11 +1,8 @@
 //! Scalars and keys with what they stand for and their pieces.
 ghost use Rattle.std.specs.Prelude.{◌≡◌, ◌<◌, ◌≤◌, IfErr, IfOk, length, string_bytes, true};
-ghost use Rattle.yq_core.specs.Answers.{Gives, IsOfText};
-ghost use Rattle.yq_core.specs.Quoted.{IsQuotedText};
-ghost use Rattle.yq_core.specs.Written.{IsOneLine};
+ghost use Rattle.yq_core.{specs.Answers.{Gives, IsOfText}, specs.Quoted.IsQuotedText, specs.Written.IsOneLine, specs.View.form_view};
 ghost use Rattle.yq_core.specs.PlacedReading as reading;
 ghost use Rattle.yq_core.specs.Scalars as scalars;
-ghost use Rattle.yq_core.specs.View.{form_view};
 
 use crate::pieces::{read_key, read_scalar};
 use std::alloc::{AllocError, Global};

@@ -1,11 +1,9 @@
 -- What stands before and behind a cursor, as bytes go over it.
-use Rattle.std.proofs.Common.{◌≡◌, ◌≢◌, ℕ, ◌+◌, ◌<◌, List, ◌++◌, length, take, drop, refl, sym, ap, ◌∙◌, arith, append_assoc, append-nil, length-append, Some, None, rules}
-use Rattle.std.specs.Prelude.{reverse}
-use Rattle.std.proofs.lemmas.Grind.{common_steps}
+use Rattle.std.proofs.Common.{◌≡◌, ◌≢◌, ℕ, ◌+◌, ◌<◌, List, ◌++◌, length, take, drop, refl, sym, ap, ◌∙◌, arith, append_assoc, append-nil}
+use Rattle.std.{proofs.Common.{length-append, Some, None, rules}, specs.Prelude.reverse, proofs.lemmas.Grind.common_steps}
 use Rattle.std.proofs.Math.Seq.{drop-append_seam, take-append_seam}
 use Rattle.std.proofs.lemmas.List.{reverse-append, reverse-reverse, take-append-drop, nil_from_length}
-use Rattle.yq_text.specs.Splice.{Splice, Exchanges, change_done}
-use Rattle.yq_text.proofs.SpliceLaws.{done-from_exchanges, exchanges-from_done}
+use Rattle.yq_text.{specs.Splice.{Splice, Exchanges, change_done}, proofs.SpliceLaws.{done-from_exchanges, exchanges-from_done}}
 use Rattle.yq_journal.specs.ByteGapBuffer.{splice_of_parts}
 
 over_rest : (front rest : List ℕ) (n : ℕ) → (front ++ take n rest) ++ drop n rest ≡ front ++ rest

@@ -1,23 +1,17 @@
 -- What an open move, and settling it, make of a journal that describes a history.
-use Rattle.std.proofs.Common.{◌≡◌, ◌≢◌, ◌⊎◌, inl, inr, ◌==◌, ℕ, suc, ◌-◌, ◌<◌, List, [], ◌∷◌, length, Option, Some, None, true, false, nat_le, refl, sym, ap, ◌∙◌, subst, arith, if◌then◌else◌, rules}
-use Rattle.std.specs.Prelude.{option_and_then, slice_get}
-use Rattle.std.specs.Str.{bytes_eq}
+use Rattle.std.proofs.Common.{◌≡◌, ◌≢◌, ◌⊎◌, inl, inr, ◌==◌, ℕ, suc, ◌-◌, ◌<◌, List, [], ◌∷◌, length, Option, Some, None, true, false}
+use Rattle.std.{proofs.Common.{nat_le, refl, sym, ap, ◌∙◌, subst, arith, if◌then◌else◌, rules}, specs.Prelude.{option_and_then, slice_get}}
+use Rattle.std.{specs.Str.bytes_eq, proofs.lemmas.Bool.Decides.nat_tests, proofs.lemmas.Option.same_Some}
+use Rattle.std.{proofs.lemmas.Slice.Eq.bytes_eq-Decides, specs.Option.option_or}
 use Prim.Native.Nat.{zero}
-use Rattle.std.proofs.lemmas.Bool.Decides.{nat_tests}
-use Rattle.std.proofs.lemmas.Option.{same_Some}
-use Rattle.std.proofs.lemmas.Slice.Eq.{bytes_eq-Decides}
-use Rattle.std.specs.Option.{option_or}
-use Rattle.yq_journal.specs.declared.fault.JournalFault.{JournalFault}
-use Rattle.yq_journal.specs.declared.fault.JournalFault.TheVariants as fault
-use Rattle.yq_journal.specs.declared.moves.Move.{Move}
+use Rattle.yq_journal.{specs.declared.fault.JournalFault.JournalFault, specs.declared.moves.Move.Move}
 use Rattle.yq_journal.specs.declared.moves.Move.TheVariants.{Edit, Undo, Redo}
 use Rattle.yq_journal.specs.Good.{AtRest, Underway, DescribesPending, Describes, Rests, step_fault, after_move}
-use Rattle.yq_journal.specs.History.{History, text_after_edits}
-use Rattle.yq_journal.specs.Record.{Record, done, undone}
+use Rattle.yq_journal.{specs.History.{History, text_after_edits}, specs.Record.{Record, done, undone}}
 use Rattle.yq_journal.specs.Refusals.{no_way, if_moves, way_fault}
-use Rattle.yq_journal.specs.State.{State, Pending, moved_text, journal_after, without_move, with_move, settled_beside, settled_pending, is_reached}
-use Rattle.yq_journal.proofs.HistoryLaws.{same_length, leads_at, move_moves}
-use Rattle.yq_journal.proofs.RecordLaws.{undone_after_done}
+use Rattle.yq_journal.specs.State.{State, Pending, moved_text, journal_after, without_move, with_move, settled_beside, settled_pending}
+use Rattle.yq_journal.{specs.State.is_reached, proofs.HistoryLaws.{same_length, leads_at, move_moves}, proofs.RecordLaws.undone_after_done}
+use Rattle.yq_journal.specs.declared.fault.JournalFault.TheVariants as fault
 
 pub bytes_same : (t : List ℕ) → bytes_eq t t ≡ true
 bytes_same t = (bytes_eq-Decides t t).1 refl

@@ -1,16 +1,13 @@
 -- Moves of a journal are moves of its history.
-use Rattle.std.proofs.Common.{◌≡◌, ◌==◌, ℕ, suc, ◌+◌, ◌-◌, ◌≤◌, ◌<◌, List, [], ◌∷◌, ◌++◌, length, take, Option, Some, None, Bool, true, false, refl, sym, ap, ◌∙◌, arith, add-one, if◌then◌else◌, rules}
-use Rattle.std.specs.Prelude.{slice_get}
-use Prim.Native.Nat.{zero}
-use Rattle.std.proofs.lemmas.Bool.Decides.{nat_tests}
-use Rattle.std.proofs.lemmas.Grind.{common_steps}
+use Rattle.std.proofs.Common.{◌≡◌, ◌==◌, ℕ, suc, ◌+◌, ◌-◌, ◌≤◌, ◌<◌, List, [], ◌∷◌, ◌++◌, length, take, Option, Some, None, Bool, true}
+use Rattle.std.{proofs.Common.{false, refl, sym, ap, ◌∙◌, arith, add-one, if◌then◌else◌, rules}, specs.Prelude.slice_get}
+use Rattle.std.{proofs.lemmas.Bool.Decides.nat_tests, proofs.lemmas.Grind.common_steps}
 use Rattle.std.proofs.lemmas.Option.{option_and_then_some, slice_get_within, same_Some}
-use Rattle.yq_journal.specs.declared.moves.Move.{Move}
-use Rattle.yq_journal.specs.declared.moves.Move.TheVariants.{Edit, Undo, Redo}
+use Prim.Native.Nat.{zero}
+use Rattle.yq_journal.{specs.declared.moves.Move.Move, specs.declared.moves.Move.TheVariants.{Edit, Undo, Redo}}
 use Rattle.yq_journal.specs.Good.{Leads, AtRest, after_move}
 use Rattle.yq_journal.specs.History.{History, Revision, text_after_edits, text_at, after_edit, after_undo, after_redo}
-use Rattle.yq_journal.specs.Record.{Record, done, undone}
-use Rattle.yq_journal.specs.State.{State, moved_text, journal_after}
+use Rattle.yq_journal.{specs.Record.{Record, done, undone}, specs.State.{State, moved_text, journal_after}}
 use Rattle.yq_journal.proofs.RecordLaws.{undone_after_done}
 
 pub same_length : (t : List ℕ) (rs : List Record) (es : List Revision) → Leads t rs es → length rs ≡ length es

@@ -1,21 +1,14 @@
 -- Records joined one after the other.
-use Rattle.std.proofs.Common.{◌≡◌, ℕ, ◌≤◌, ◌<◌, List, [], ◌∷◌, ◌++◌, length, suc, Option, Some, None, Result, Err, IfErr, true, refl, ap, ◌∙◌, subst, arith, rules}
-use Rattle.std.specs.Prelude.{◌==◌, ◌&&◌, Bool, false, slice_get, take}
+use Rattle.std.proofs.Common.{◌≡◌, ℕ, ◌≤◌, ◌<◌, List, [], ◌∷◌, ◌++◌, length, suc, Option, Some, None, Result, Err, IfErr, true, refl, ap}
+use Rattle.std.proofs.Common.{◌∙◌, subst, arith, rules, sym, get_or, take_all}
+use Rattle.std.specs.Prelude.{◌==◌, ◌&&◌, Bool, false, slice_get, take, ◌+◌, ◌-◌, drop, if◌then◌else◌, nat_le}
+use Rattle.std.{proofs.lemmas.Bool.{eqb-true, and_parts, le-leb}, specs.Cmp.Derive.both_true, proofs.lemmas.List.drop-take}
 use Prim.Native.Nat.{zero}
-use Rattle.std.proofs.lemmas.Bool.{eqb-true, and_parts}
 use Rattle.yq_text.proofs.SpliceLaws.{lengths_done-append}
-use Rattle.std.specs.Prelude.{◌+◌, ◌-◌, drop, if◌then◌else◌, nat_le}
-use Rattle.std.specs.Cmp.Derive.{both_true}
-use Rattle.std.proofs.Common.{sym, get_or, take_all}
-use Rattle.std.proofs.lemmas.Bool.{le-leb}
-use Rattle.std.proofs.lemmas.List.{drop-take}
-use Rattle.yq_journal.specs.declared.fault.JournalError.{JournalError}
-use Rattle.yq_journal.specs.declared.fault.JournalError.TheVariants as error
-use Rattle.yq_journal.specs.declared.fault.JournalFault.{JournalFault}
-use Rattle.yq_journal.specs.declared.fault.JournalFault.TheVariants.{BadCount}
-use Rattle.yq_journal.specs.Refusals.{Reports, count_fault}
-use Rattle.yq_journal.specs.State.{last_done}
+use Rattle.yq_journal.{specs.declared.fault.JournalError.JournalError, specs.declared.fault.JournalFault.JournalFault}
+use Rattle.yq_journal.{specs.declared.fault.JournalFault.TheVariants.BadCount, specs.Refusals.{Reports, count_fault}, specs.State.last_done}
 use Rattle.yq_journal.specs.Record.{Record, IsRecord, join, records_joined, meet}
+use Rattle.yq_journal.specs.declared.fault.JournalError.TheVariants as error
 
 -- fewer than two records meet
 pub short_meet : (rs : List Record) → length rs < 2 → meet rs ≡ true

@@ -1,22 +1,15 @@
 -- Members that are counted, lists that are read item by item, and tests that are facts.
-use Rattle.std.proofs.Common.{◌≡◌, ◌==◌, ℕ, suc, List, [], ◌∷◌, ◌++◌, length, String, Option, Some, None, true, false, refl, sym, ap, ◌∙◌, if◌then◌else◌, ◌+◌, ◌<◌, ◌≤◌, take, drop, map, ap₂, get_or, append_assoc, option_map, rules}
-use Rattle.std.specs.Cmp.Derive.{both_true}
-use Rattle.std.proofs.lemmas.List.{take_all, take_more, drop_more, map-append, append-nil, at_drop_all}
-use Rattle.std.specs.Prelude.{◌≢◌, not, is_some}
-use Rattle.std.specs.Option.{ForSome}
-use Rattle.std.specs.declared.alloc.Global.{Global}
-use Rattle.std.specs.Str.{IsUtf8, is_utf8}
-use Rattle.std.proofs.lemmas.Bool.{le-leb, leb-true, and_parts}
-use Rattle.std.proofs.lemmas.Slice.Eq.{bytes_eq-Decides}
+use Rattle.std.proofs.Common.{◌≡◌, ◌==◌, ℕ, suc, List, [], ◌∷◌, ◌++◌, length, String, Option, Some, None, true, false, refl, sym, ap, ◌∙◌}
+use Rattle.std.proofs.Common.{if◌then◌else◌, ◌+◌, ◌<◌, ◌≤◌, take, drop, map, ap₂, get_or, append_assoc, option_map, rules}
+use Rattle.std.{specs.Cmp.Derive.both_true, proofs.lemmas.List.{take_all, take_more, drop_more, map-append, append-nil, at_drop_all}}
+use Rattle.std.{specs.Prelude.{◌≢◌, not, is_some}, specs.Option.ForSome, specs.declared.alloc.Global.Global, specs.Str.{IsUtf8, is_utf8}}
+use Rattle.std.{proofs.lemmas.Bool.{le-leb, leb-true, and_parts}, proofs.lemmas.Slice.Eq.bytes_eq-Decides}
 use Rattle.std.proofs.lemmas.Str.{is_utf8-from_IsUtf8, IsUtf8-from_is_utf8}
-use Rattle.serde_json.specs.Data.{Data, Items, Members}
-use Rattle.serde_json.specs.Read.{read}
-use Rattle.serde_json.specs.View.{view, items_of, items_view, members_view}
+use Rattle.serde_json.{specs.Data.{Data, Items, Members}, specs.Read.read, specs.View.{view, items_of, items_view, members_view}}
 use Rattle.serde_json.specs.declared.value.Value.{Value}
-use Rattle.yq_journal.specs.Json.{count_members, counts, and_more, each_of, can_move, is_sound_journal, record_of, pending_of, state_from, state_of, journal_of, journal_object}
-use Rattle.yq_journal.specs.Record.{Record}
-use Rattle.yq_journal.specs.Refusals.{most_records, CanMove, IsSound, way_fault}
-use Rattle.yq_journal.specs.State.{Pending, State, moved_text, is_reached}
+use Rattle.yq_journal.specs.Json.{count_members, counts, and_more, each_of, can_move, is_sound_journal, record_of, pending_of, state_from}
+use Rattle.yq_journal.{specs.Json.{state_of, journal_of, journal_object}, specs.Record.Record}
+use Rattle.yq_journal.{specs.Refusals.{most_records, CanMove, IsSound, way_fault}, specs.State.{Pending, State, moved_text, is_reached}}
 
 count_members-members_view : (es : List (String Global × Value)) → count_members (members_view es) ≡ length es
 count_members-members_view [] = refl

@@ -1,16 +1,14 @@
 -- A line feed behind a printed JSON text changes nothing of what is read.
-use Rattle.std.proofs.Common.{◌≡◌, ℕ, Bool, true, false, cond, ◌&&◌, List, [], ◌∷◌, ◌++◌, refl, sym, ap, ap₂, ◌∙◌, subst, append_assoc, append-nil, arith, rules}
+use Rattle.std.proofs.Common.{◌≡◌, ℕ, Bool, true, false, cond, ◌&&◌, List, [], ◌∷◌, ◌++◌, refl, sym, ap, ap₂, ◌∙◌, subst, append_assoc}
+use Rattle.std.proofs.Common.{append-nil, arith, rules}
 use Rattle.json.specs.Token.{Token, begin_object, end_object, begin_array, end_array, key, string, number, boolean, null, bad}
 use Rattle.json.specs.Word.{ends_word, word}
 use Rattle.json.specs.Lex.{Lexeme, token, comma, colon, string_token, lex, between, fresh, punctuate, tokens}
 use Rattle.json.specs.Print.{escape, quoted, token_text, begins, ends, print_from, print, IsPrintable, ArePrintable, ArePrintableOrBad}
-use Rattle.json.specs.Tree.{json_tokens, depth}
-use Rattle.json.proofs.Numbered.{ArePrintableOrBad-tokens, value-HasNumbers}
-use Rattle.json.proofs.Printed.Numbers.{lex-number, in_word-ended}
-use Rattle.json.proofs.Printed.Strings.{content-escape, lex-escape}
+use Rattle.json.{specs.Tree.{json_tokens, depth}, proofs.Numbered.{ArePrintableOrBad-tokens, value-HasNumbers}}
+use Rattle.json.{proofs.Printed.Numbers.{lex-number, in_word-ended}, proofs.Printed.Strings.{content-escape, lex-escape}}
 use Rattle.json.proofs.Printed.Trees.{value-json_tokens, ArePrintable-json_tokens}
-use Rattle.serde_json.specs.Data.{Data}
-use Rattle.serde_json.specs.Written.{IsInOrder}
+use Rattle.serde_json.{specs.Data.Data, specs.Written.IsInOrder}
 
 -- what the lexer gives of a token
 abbrev token_lexemes : Token → List Lexeme

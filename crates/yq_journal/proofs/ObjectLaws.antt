@@ -1,10 +1,6 @@
 -- Objects made member by member, and what is read of them.
-use Rattle.std.proofs.Common.{◌≡◌, ℕ, List, Ok, Err, Result, ap, ◌∙◌, String, Global, rules}
-use Rattle.std.specs.String.{string_bytes}
-use Rattle.std.specs.Result.{OnOk}
-use Rattle.serde_json.specs.Data.{Data, Members, put, string}
-use Rattle.serde_json.specs.View.{view}
-use Rattle.serde_json.specs.declared.value.Value.{the_lemmas}
+use Rattle.std.{proofs.Common.{◌≡◌, ℕ, List, Ok, Err, Result, ap, ◌∙◌, String, Global, rules}, specs.String.string_bytes, specs.Result.OnOk}
+use Rattle.serde_json.{specs.Data.{Data, Members, put, string}, specs.View.view, specs.declared.value.Value.the_lemmas}
 use Rattle.serde_json.specs.declared.value.Value.TheVariants.{String as Text}
 
 -- the data that a string stands for

@@ -1,40 +1,27 @@
 -- The text of a journal with an open move, written in pieces, is that of its value, and is read back.
-use Rattle.std.proofs.Common.{◌≡◌, ◌≤◌, ◌<◌, ◌/◌, ◌%◌, ◌*◌, ◌+◌, ◌^◌, ℕ, zero, suc, List, [], ◌∷◌, ◌++◌, Bool, true, false, Option, Some, None, Ok, codes, replicate, slice_index, decimal, refl, sym, ap, ap₂, ◌∙◌, subst, arith, append_assoc, append-nil, if◌then◌else◌, rules}
-use Rattle.std.specs.Prelude.{max, option_and_then, option_map, ⊤}
-use Rattle.std.specs.Result.{result_ok}
-use Rattle.std.specs.Str.{IsUtf8, bytes_eq}
-use Rattle.std.proofs.lemmas.Slice.Eq.{bytes_eq-Decides}
-use Rattle.std.proofs.lemmas.Str.{is_utf8-from_IsUtf8}
-use Rattle.std.proofs.lemmas.Fmt.{decimal_digit}
-use Rattle.base64.specs.Engines.{standard}
-use Rattle.base64.specs.GeneralPurpose.{IsBytes, decode_of, encode_of}
-use Rattle.base64.specs.Rfc4648.{encode_symbols}
-use Rattle.base64.specs.Tables.{all_below}
-use Rattle.base64.proofs.Tables.{all_below_at}
-use Rattle.json.specs.Lex.{tokens}
-use Rattle.json.specs.Print.{escape, escape_byte, ArePrintableOrBad}
-use Rattle.json.specs.Json as json
-use Rattle.json.specs.Token.{Token}
-use Rattle.json.specs.Tree as tree
-use Rattle.json.specs.Tree.{HasNumbers, json_tokens}
-use Rattle.json.proofs.Numbered.{ArePrintableOrBad-tokens, value-HasNumbers}
-use Rattle.json.proofs.Printed.Decimals.{IsNumber-decimal}
-use Rattle.json.proofs.Printed.Tokens.{tokens-print}
+use Rattle.std.proofs.Common.{◌≡◌, ◌≤◌, ◌<◌, ◌/◌, ◌%◌, ◌*◌, ◌+◌, ◌^◌, ℕ, zero, suc, List, [], ◌∷◌, ◌++◌, Bool, true, false, Option, Some}
+use Rattle.std.proofs.Common.{None, Ok, codes, replicate, slice_index, decimal, refl, sym, ap, ap₂, ◌∙◌, subst, arith, append_assoc}
+use Rattle.std.{proofs.Common.{append-nil, if◌then◌else◌, rules}, specs.Prelude.{max, option_and_then, option_map, ⊤}}
+use Rattle.std.{specs.Result.result_ok, specs.Str.{IsUtf8, bytes_eq}, proofs.lemmas.Slice.Eq.bytes_eq-Decides}
+use Rattle.std.{proofs.lemmas.Str.is_utf8-from_IsUtf8, proofs.lemmas.Fmt.decimal_digit}
+use Rattle.base64.{specs.Engines.standard, specs.GeneralPurpose.{IsBytes, decode_of, encode_of}, specs.Rfc4648.encode_symbols}
+use Rattle.base64.{specs.Tables.all_below, proofs.Tables.all_below_at}
+use Rattle.json.{specs.Lex.tokens, specs.Print.{escape, escape_byte, ArePrintableOrBad}, specs.Token.Token}
+use Rattle.json.{specs.Tree.{HasNumbers, json_tokens}, proofs.Numbered.{ArePrintableOrBad-tokens, value-HasNumbers}}
+use Rattle.json.{proofs.Printed.Decimals.IsNumber-decimal, proofs.Printed.Tokens.tokens-print}
 use Rattle.json.proofs.Printed.Trees.{value-json_tokens, ArePrintable-json_tokens}
-use Rattle.serde_json.specs.Data.{unsigned, Data, number, string, array, object, Items, no_items, item, Members, no_members, member, put, depth, items_depth, members_depth}
-use Rattle.serde_json.specs.Read.{read, max_depth, of_json}
+use Rattle.serde_json.specs.Data.{unsigned, Data, number, string, array, object, Items, no_items, item, Members, no_members, member, put}
+use Rattle.serde_json.{specs.Data.{depth, items_depth, members_depth}, specs.Read.{read, max_depth, of_json}}
 use Rattle.serde_json.specs.Written.{IsInOrder, compact_text, has_float, outline, items_outline, members_outline}
-use Rattle.serde_json.proofs.Numbers.{number_of-decimal}
-use Rattle.serde_json.proofs.Texts.{tokens_from_order, print-outline}
-use Rattle.yq_journal.specs.declared.moves.Move.{Move}
-use Rattle.yq_journal.specs.declared.moves.Move.TheVariants.{Edit}
-use Rattle.yq_journal.specs.Json.{each_of, bytes_data, journal_data, journal_in, journal_object, journal_of, journal_text, kind_text, list_data, move_data, move_of, open_from, open_move_of, pending_data, pending_of, record_data, record_of}
-use Rattle.yq_journal.specs.OpenText.{IsWrittenJson, journal_text_before, journal_text_after}
-use Rattle.yq_journal.specs.Refusals.{IsSound}
-use Rattle.yq_journal.specs.State.{Pending, State}
-use Rattle.yq_journal.proofs.JsonLaws.{journal_reads}
-use Rattle.yq_journal.proofs.LineFeed.{tokens-line_feed}
+use Rattle.serde_json.{proofs.Numbers.number_of-decimal, proofs.Texts.{tokens_from_order, print-outline}}
+use Rattle.yq_journal.{specs.declared.moves.Move.Move, specs.declared.moves.Move.TheVariants.Edit}
+use Rattle.yq_journal.specs.Json.{each_of, bytes_data, journal_data, journal_in, journal_object, journal_of, journal_text, kind_text}
+use Rattle.yq_journal.specs.Json.{list_data, move_data, move_of, open_from, open_move_of, pending_data, pending_of, record_data, record_of}
+use Rattle.yq_journal.{specs.OpenText.{IsWrittenJson, journal_text_before, journal_text_after}, specs.Refusals.IsSound}
+use Rattle.yq_journal.{specs.State.{Pending, State}, proofs.JsonLaws.journal_reads, proofs.LineFeed.tokens-line_feed}
 use Rattle.yq_journal.proofs.WriteLaws.{shallow}
+use Rattle.json.specs.Json as json
+use Rattle.json.specs.Tree as tree
 
 -- ---- base64 has no byte that JSON escapes
 

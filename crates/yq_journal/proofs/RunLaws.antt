@@ -1,9 +1,8 @@
 -- A run of a list gives way to one element, by turning the list.
-use Rattle.std.proofs.Common.{◌≡◌, ℕ, suc, ◌+◌, ◌-◌, ◌≤◌, ◌<◌, List, [], ◌∷◌, ◌++◌, length, take, drop, set, sym, ap, ◌∙◌, arith, append_assoc, length-drop}
+use Rattle.std.proofs.Common.{◌≡◌, ℕ, suc, ◌+◌, ◌-◌, ◌≤◌, ◌<◌, List, [], ◌∷◌, ◌++◌, length, take, drop, set, sym, ap, ◌∙◌, arith}
+use Rattle.std.{proofs.Common.{append_assoc, length-drop}, proofs.Math.Seq.{drop-append_seam, take-append_seam}}
+use Rattle.std.{proofs.lemmas.Grind.common_steps, proofs.lemmas.List.take-take}
 use Prim.Native.Nat.{zero}
-use Rattle.std.proofs.Math.Seq.{drop-append_seam, take-append_seam}
-use Rattle.std.proofs.lemmas.Grind.{common_steps}
-use Rattle.std.proofs.lemmas.List.{take-take}
 
 take_seam : {A : Type 0} (xs ys : List A) (n : ℕ) → n ≡ length xs → take n (xs ++ ys) ≡ xs
 take_seam xs ys n is = ap (λ m. take m (xs ++ ys)) is ∙ take-append_seam xs ys

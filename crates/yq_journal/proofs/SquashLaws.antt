@@ -1,18 +1,14 @@
 -- Joining the last done records of a journal is a squash of its history.
-use Rattle.std.proofs.Common.{◌≡◌, ℕ, suc, ◌+◌, ◌-◌, ◌≤◌, ◌<◌, ◌&&◌, List, [], ◌∷◌, ◌++◌, length, take, drop, Some, None, true, nat_le, refl, sym, ap, ap₂, ◌∙◌, subst, arith, append_assoc, length-append, length-drop, if◌then◌else◌, eq-eqb, rules}
-use Rattle.std.specs.Prelude.{codes, is_some}
-use Rattle.std.specs.Cmp.Derive.{both_true}
-use Prim.Native.Nat.{zero}
-use Rattle.std.proofs.Math.Bool.{and-true}
+use Rattle.std.proofs.Common.{◌≡◌, ℕ, suc, ◌+◌, ◌-◌, ◌≤◌, ◌<◌, ◌&&◌, List, [], ◌∷◌, ◌++◌, length, take, drop, Some, None, true, nat_le}
+use Rattle.std.proofs.Common.{refl, sym, ap, ap₂, ◌∙◌, subst, arith, append_assoc, length-append, length-drop, if◌then◌else◌, eq-eqb, rules}
+use Rattle.std.{specs.Prelude.{codes, is_some}, specs.Cmp.Derive.both_true, proofs.Math.Bool.and-true}
 use Rattle.std.proofs.lemmas.List.{length-take-le, take-append-drop, take-take}
+use Prim.Native.Nat.{zero}
 use Rattle.yq_text.proofs.SpliceLaws.{all_done-append}
-use Rattle.yq_journal.specs.declared.fault.JournalFault.TheVariants.{BadCount, Unsettled}
-use Rattle.yq_journal.specs.Good.{Leads, AtRest, squash_refusal}
+use Rattle.yq_journal.{specs.declared.fault.JournalFault.TheVariants.{BadCount, Unsettled}, specs.Good.{Leads, AtRest, squash_refusal}}
 use Rattle.yq_journal.specs.History.{History, Revision, text_after_edits, text_at, latest, latest_of, after_squash}
-use Rattle.yq_journal.specs.Record.{Record, done, join, records_joined, meet}
-use Rattle.yq_journal.specs.Refusals.{squash_fault}
-use Rattle.yq_journal.specs.State.{State, joined_of, last_done, squashed}
-use Rattle.yq_journal.proofs.RecordLaws.{stands_of, of_stands}
+use Rattle.yq_journal.{specs.Record.{Record, done, join, records_joined, meet}, specs.Refusals.squash_fault}
+use Rattle.yq_journal.{specs.State.{State, joined_of, last_done, squashed}, proofs.RecordLaws.{stands_of, of_stands}}
 
 -- one record done after the other is their join done
 done_join : (r q : Record) (b c d : List ℕ) → done r b ≡ Some c → done q c ≡ Some d → done (join r q) b ≡ Some d

@@ -1,18 +1,15 @@
 -- Splices that can be done, told from the bytes of the text before them.
-use Rattle.std.proofs.Common.{◌≡◌, ◌≢◌, ◌⊎◌, ℕ, suc, ◌+◌, ◌-◌, ◌≤◌, ◌<◌, Bool, true, false, List, [], ◌∷◌, ◌++◌, length, take, drop, nat_le, Option, Some, None, refl, sym, ap, ◌∙◌, subst, arith, length-append, if◌then◌else◌, eq-eqb, rules}
-use Rattle.std.specs.Prelude.{◌==◌, ◌^◌, option_and_then, slice_get, is_some}
-use Prim.Native.Nat.{zero}
-use Rattle.std.proofs.Math.Seq.{drop-append_seam, take-append_seam}
-use Rattle.std.proofs.lemmas.Bool.{and_parts, le-leb, leb-true, lt-ltb, ltb-true}
-use Rattle.std.proofs.lemmas.Bool.Decides.{nat_tests}
+use Rattle.std.proofs.Common.{◌≡◌, ◌≢◌, ◌⊎◌, ℕ, suc, ◌+◌, ◌-◌, ◌≤◌, ◌<◌, Bool, true, false, List, [], ◌∷◌, ◌++◌, length, take, drop, nat_le}
+use Rattle.std.proofs.Common.{Option, Some, None, refl, sym, ap, ◌∙◌, subst, arith, length-append, if◌then◌else◌, eq-eqb, rules}
+use Rattle.std.{specs.Prelude.{◌==◌, ◌^◌, option_and_then, slice_get, is_some}, proofs.Math.Seq.{drop-append_seam, take-append_seam}}
+use Rattle.std.{proofs.lemmas.Bool.{and_parts, le-leb, leb-true, lt-ltb, ltb-true}, proofs.lemmas.Bool.Decides.nat_tests}
 use Rattle.std.proofs.lemmas.List.{take-append-drop, length-take-le}
 use Rattle.std.proofs.lemmas.Option.{cond_some, none-some, option_and_then_some, same_Some}
+use Prim.Native.Nat.{zero}
 use Rattle.yq_text.specs.Splice.{Splice, swapped, change_done, all_done, flipped, length_done, lengths_done}
 use Rattle.yq_text.proofs.PlaceInList.{split_at, take_next}
 use Rattle.yq_text.proofs.SpliceLaws.{done-from_exchanges, exchanges-from_done, all_done-append, lengths_done-append}
-use Rattle.yq_journal.specs.Turned.{flipped_if}
-use Rattle.yq_journal.proofs.GapLaws.{none_done}
-use Rattle.yq_journal.specs.Record.{if_length}
+use Rattle.yq_journal.{specs.Turned.flipped_if, proofs.GapLaws.none_done, specs.Record.if_length}
 
 and_then_one : (o : Option (List ℕ)) (s : Splice) → option_and_then (all_done (s ∷ [])) o ≡ option_and_then (change_done s) o
 and_then_one None s = refl

@@ -1,22 +1,15 @@
 -- A journal's value has no float and is shallow, so its text is read back, also with its line feed.
 use Rattle.std.proofs.Common.{◌≡◌, ◌≤◌, ℕ, List, [], ◌∷◌, ◌++◌, false, ◌||◌, Option, Some, map, refl, ap, ◌∙◌, arith, rules}
-use Prim.Native.Nat.{zero}
-use Rattle.std.specs.Prelude.{◌<◌, slice_index, suc}
-use Rattle.std.specs.Str.{IsUtf8}
+use Rattle.std.{specs.Prelude.{◌<◌, slice_index, suc}, specs.Str.IsUtf8}
 use Rattle.std.proofs.lemmas.Str.{is_utf8-from_IsUtf8, IsUtf8-append, IsUtf8-from_ascii}
-use Rattle.json.specs.Lex.{tokens}
-use Rattle.json.specs.Print.{print}
-use Rattle.serde_json.specs.Data.{Data, array, depth, items_depth}
-use Rattle.serde_json.specs.Read.{read, max_depth}
-use Rattle.serde_json.specs.View.{items_of}
+use Prim.Native.Nat.{zero}
+use Rattle.json.{specs.Lex.tokens, specs.Print.print}
+use Rattle.serde_json.{specs.Data.{Data, array, depth, items_depth}, specs.Read.{read, max_depth}, specs.View.items_of}
 use Rattle.serde_json.specs.Written.{IsInOrder, has_float, items_have_float}
 use Rattle.yq_text.specs.Splice.{Splice}
-use Rattle.yq_journal.specs.declared.moves.Move.{Move}
-use Rattle.yq_journal.specs.declared.moves.Move.TheVariants.{Edit}
+use Rattle.yq_journal.{specs.declared.moves.Move.Move, specs.declared.moves.Move.TheVariants.Edit}
 use Rattle.yq_journal.specs.Json.{change_data, record_data, move_data, pending_data, journal_data, journal_of, journal_in}
-use Rattle.yq_journal.specs.Record.{Record}
-use Rattle.yq_journal.specs.State.{Pending, State}
-use Rattle.yq_journal.proofs.LineFeed.{tokens_of_line}
+use Rattle.yq_journal.{specs.Record.Record, specs.State.{Pending, State}, proofs.LineFeed.tokens_of_line}
 
 no_float_changes : (cs : List Splice) → items_have_float (items_of (map change_data cs)) ≡ false
 no_float_changes [] = refl

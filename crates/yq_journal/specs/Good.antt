@@ -2,13 +2,9 @@
 use Rattle.std.specs.Prelude.{◌≡◌, ◌≢◌, ◌==◌, ◌⊎◌, ℕ, ◌≤◌, ◌&&◌, List, [], ◌∷◌, length, nat_le, if◌then◌else◌, Option, Some, None}
 use Rattle.yq_journal.specs.declared.fault.JournalFault.{JournalFault}
 use Rattle.yq_journal.specs.declared.fault.JournalFault.TheVariants.{NothingToUndo, NothingToRedo, JournalFull, BadCount}
-use Rattle.yq_journal.specs.declared.moves.Move.{Move}
-use Rattle.yq_journal.specs.declared.moves.Move.TheVariants.{Edit, Undo, Redo}
-use Rattle.yq_journal.specs.History.{History, Revision, text_at, after_edit, after_undo, after_redo}
-use Rattle.yq_journal.specs.Record.{Record, done}
-use Rattle.yq_journal.specs.Json.{journal_in}
-use Rattle.yq_journal.specs.Refusals.{most_records}
-use Rattle.yq_journal.specs.State.{State, Pending, empty_state, moved_text}
+use Rattle.yq_journal.{specs.declared.moves.Move.Move, specs.declared.moves.Move.TheVariants.{Edit, Undo, Redo}}
+use Rattle.yq_journal.{specs.History.{History, Revision, text_at, after_edit, after_undo, after_redo}, specs.Record.{Record, done}}
+use Rattle.yq_journal.{specs.Json.journal_in, specs.Refusals.most_records, specs.State.{State, Pending, empty_state, moved_text}}
 
 -- each record leads from a text to the next, and has its expression (own)
 abbrev pub Leads : List ℕ → List Record → List Revision → Type 0

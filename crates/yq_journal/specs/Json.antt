@@ -1,19 +1,15 @@
 -- The text of a journal: compact JSON and a line feed (RFC 8259), with the recorded bytes in padded standard base64 (RFC 4648).
-use Rattle.std.specs.Prelude.{◌==◌, ℕ, suc, ◌&&◌, List, [], ◌∷◌, ◌++◌, length, codes, map, nat_le, Bool, true, false, not, if◌then◌else◌, Option, Some, None, option_map, option_and_then, is_some}
-use Rattle.std.specs.Result.{result_ok}
+use Rattle.std.specs.Prelude.{◌==◌, ℕ, suc, ◌&&◌, List, [], ◌∷◌, ◌++◌, length, codes, map, nat_le, Bool, true, false, not, if◌then◌else◌}
+use Rattle.std.{specs.Prelude.{Option, Some, None, option_map, option_and_then, is_some}, specs.Result.result_ok}
 use Rattle.std.specs.Str.{bytes_eq, is_utf8}
 use Rattle.serde_json.specs.Read.{read}
 use Rattle.serde_json.specs.Data.{unsigned, Data, null, number, string, array, object, Items, no_items, item, Members, no_members, member}
-use Rattle.serde_json.specs.Find.{get, as_null, as_number, as_u64, as_str, as_array, as_object}
-use Rattle.serde_json.specs.View.{items_of}
+use Rattle.serde_json.{specs.Find.{get, as_null, as_number, as_u64, as_str, as_array, as_object}, specs.View.items_of}
 use Rattle.serde_json.specs.Written.{compact_text}
-use Rattle.base64.specs.GeneralPurpose.{encode_of, decode_of}
-use Rattle.base64.specs.Engines.{standard}
+use Rattle.base64.{specs.GeneralPurpose.{encode_of, decode_of}, specs.Engines.standard}
 use Rattle.yq_text.specs.Splice.{Splice, lengths_done}
-use Rattle.yq_journal.specs.declared.moves.Move.{Move}
-use Rattle.yq_journal.specs.declared.moves.Move.TheVariants.{Edit, Undo, Redo}
-use Rattle.yq_journal.specs.Record.{Record, is_length}
-use Rattle.yq_journal.specs.State.{Pending, State, state, moved_text, is_reached}
+use Rattle.yq_journal.{specs.declared.moves.Move.Move, specs.declared.moves.Move.TheVariants.{Edit, Undo, Redo}}
+use Rattle.yq_journal.{specs.Record.{Record, is_length}, specs.State.{Pending, State, state, moved_text, is_reached}}
 use Rattle.yq_journal.specs.Refusals.{most_records, way_fault}
 
 -- how many members there are (own)

@@ -1,9 +1,7 @@
 -- The text of a journal with an open move, in pieces (RFC 8259, RFC 4648).
 use Rattle.std.specs.Prelude.{◌≡◌, ℕ, List, ◌++◌, codes, decimal, Some}
 use Rattle.json.specs.Tree.{HasNumbers}
-use Rattle.serde_json.specs.Data.{Data}
-use Rattle.serde_json.specs.Read.{of_json}
-use Rattle.serde_json.specs.Written.{compact_text, outline}
+use Rattle.serde_json.{specs.Data.Data, specs.Read.of_json, specs.Written.{compact_text, outline}}
 
 -- the text up to the base64 of the text from which the move starts (own)
 abbrev pub journal_text_before : ℕ → List ℕ

@@ -1,5 +1,6 @@
 -- What an edit did, as splices between two lengths, and what it is to do and to undo it.
-use Rattle.std.specs.Prelude.{◌≡◌, ◌==◌, ℕ, ◌+◌, ◌-◌, ◌^◌, ◌≤◌, ◌&&◌, Bool, true, false, List, [], ◌∷◌, ◌++◌, length, min, codes, if◌then◌else◌, Option, Some, None}
+use Rattle.std.specs.Prelude.{◌≡◌, ◌==◌, ℕ, ◌+◌, ◌-◌, ◌^◌, ◌≤◌, ◌&&◌, Bool, true, false, List, [], ◌∷◌, ◌++◌, length, min, codes}
+use Rattle.std.specs.Prelude.{if◌then◌else◌, Option, Some, None}
 use Rattle.yq_text.specs.Splice.{Splice, all_done, flipped, lengths_done}
 
 -- a record: an edit's expression, its splices, the lengths of the texts before and after it, and how many edits it stands for (own)

@@ -2,13 +2,12 @@
 use Rattle.std.specs.Prelude.{◌≡◌, ◌≢◌, ◌==◌, ℕ, ◌≤◌, ◌&&◌, List, length, nat_le, if◌then◌else◌, Option, Some, None, is_some}
 use Rattle.std.specs.Option.{ForSome, option_or}
 use Rattle.yq_journal.specs.declared.fault.JournalFault.{JournalFault}
-use Rattle.yq_journal.specs.declared.fault.JournalFault.TheVariants.{NothingToUndo, NothingToRedo, DoesNotStand, BadJournal, Unsettled, JournalFull, BadCount}
-use Rattle.yq_journal.specs.declared.fault.JournalError.{JournalError}
-use Rattle.yq_journal.specs.declared.fault.JournalError.TheVariants as error
-use Rattle.yq_journal.specs.declared.moves.Move.{Move}
-use Rattle.yq_journal.specs.declared.moves.Move.TheVariants.{Edit, Undo, Redo}
-use Rattle.yq_journal.specs.Record.{Record, meet}
+use Rattle.yq_journal.specs.declared.fault.JournalFault.TheVariants.{NothingToUndo, NothingToRedo, DoesNotStand, BadJournal, Unsettled}
+use Rattle.yq_journal.specs.declared.fault.JournalFault.TheVariants.{JournalFull, BadCount}
+use Rattle.yq_journal.{specs.declared.fault.JournalError.JournalError, specs.declared.moves.Move.Move}
+use Rattle.yq_journal.{specs.declared.moves.Move.TheVariants.{Edit, Undo, Redo}, specs.Record.{Record, meet}}
 use Rattle.yq_journal.specs.State.{State, moved_text, last_done}
+use Rattle.yq_journal.specs.declared.fault.JournalError.TheVariants as error
 
 -- an error names the fault; want of memory says nothing (own)
 abbrev pub ErrorIs : JournalError → Option JournalFault → Type 0

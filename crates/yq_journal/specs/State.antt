@@ -1,8 +1,7 @@
 -- What a journal holds, and its moves.
-use Rattle.std.specs.Prelude.{◌==◌, ℕ, ◌+◌, ◌-◌, Bool, false, List, [], ◌∷◌, ◌++◌, take, drop, if◌then◌else◌, Option, Some, None, option_and_then, slice_get}
-use Rattle.std.specs.Str.{bytes_eq}
-use Rattle.yq_journal.specs.declared.moves.Move.{Move}
-use Rattle.yq_journal.specs.declared.moves.Move.TheVariants.{Edit, Undo, Redo}
+use Rattle.std.specs.Prelude.{◌==◌, ℕ, ◌+◌, ◌-◌, Bool, false, List, [], ◌∷◌, ◌++◌, take, drop, if◌then◌else◌, Option, Some, None}
+use Rattle.std.{specs.Prelude.{option_and_then, slice_get}, specs.Str.bytes_eq}
+use Rattle.yq_journal.{specs.declared.moves.Move.Move, specs.declared.moves.Move.TheVariants.{Edit, Undo, Redo}}
 use Rattle.yq_journal.specs.Record.{Record, done, undone, records_joined}
 
 -- an open move, with the whole text from which it starts (own)

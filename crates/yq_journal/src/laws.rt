@@ -1,12 +1,9 @@
 //! Laws: what a journal's moves are for a history of whole texts.
 ghost use Rattle.std.specs.Prelude.{◌≡◌, ◌≢◌, ◌≤◌, ℕ, List, None, Some, length};
 ghost use Rattle.yq_journal.specs.Good.{AtRest, Describes, Rests, after_move, squash_refusal, step_fault};
-ghost use Rattle.yq_journal.specs.History.{History, after_squash};
-ghost use Rattle.yq_journal.specs.Record.{Record, done};
-ghost use Rattle.yq_journal.specs.Refusals.{squash_fault, way_fault};
+ghost use Rattle.yq_journal.{specs.History.{History, after_squash}, specs.Record.{Record, done}, specs.Refusals.{squash_fault, way_fault}};
 ghost use Rattle.yq_journal.specs.State.{State, journal_after, moved_text, with_move, settled_beside, squashed};
-ghost use Rattle.yq_journal.specs.declared.moves.Move.{Move};
-ghost use Rattle.yq_journal.specs.declared.moves.Move.TheVariants.{Edit, Redo, Undo};
+ghost use Rattle.yq_journal.{specs.declared.moves.Move.Move, specs.declared.moves.Move.TheVariants.{Edit, Redo, Undo}};
 
 /// A move that stands makes of a journal and its history the ones after it,
 /// also where it leaves the text equal.

@@ -1,9 +1,7 @@
 //! Objects, made member by member.
 ghost use Rattle.std.specs.Prelude.{◌≡◌, Ok, OnOk};
-ghost use Rattle.base64.specs.Engines.{standard};
-ghost use Rattle.base64.specs.GeneralPurpose.{decode_of, encode_of};
-ghost use Rattle.serde_json.specs.Data.{put, string};
-ghost use Rattle.serde_json.specs.View.{members_view};
+ghost use Rattle.base64.{specs.Engines.standard, specs.GeneralPurpose.{decode_of, encode_of}};
+ghost use Rattle.serde_json.{specs.Data.{put, string}, specs.View.members_view};
 ghost use Rattle.yq_journal.specs.Json.{bytes_data};
 
 use base64::engine::general_purpose::STANDARD;

@@ -1,7 +1,6 @@
 //! Moves over the records of a journal.
 ghost use Rattle.std.specs.Prelude.{◌≡◌, ◌⊎◌, ◌≤◌, None, Some, OnOk, IfOk, IfErr, false, length};
-ghost use Rattle.yq_journal.specs.Refusals.{ErrorIs, if_moves, no_way};
-ghost use Rattle.yq_journal.specs.State.{is_reached, journal_after, moved_text, state};
+ghost use Rattle.yq_journal.{specs.Refusals.{ErrorIs, if_moves, no_way}, specs.State.{is_reached, journal_after, moved_text, state}};
 
 use crate::fault::{JournalError, JournalFault};
 use crate::record::{Record, redo_record, undo_record};

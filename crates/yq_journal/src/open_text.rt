@@ -1,13 +1,8 @@
 //! The text of a journal with an open move: base64 is written where it stands, and not copied.
-ghost use Rattle.std.specs.Prelude.{◌≡◌, ◌≤◌, ◌++◌, Ok, Some, IfOk, OnOk, false, true};
-ghost use Rattle.std.specs.String.{string_bytes};
-ghost use Rattle.base64.specs.Engines.{standard};
-ghost use Rattle.base64.specs.GeneralPurpose.{decode_of, encode_of};
+ghost use Rattle.std.{specs.Prelude.{◌≡◌, ◌≤◌, ◌++◌, Ok, Some, IfOk, OnOk, false, true}, specs.String.string_bytes};
+ghost use Rattle.base64.{specs.Engines.standard, specs.GeneralPurpose.{decode_of, encode_of}};
 ghost use Rattle.json.specs.Print.{escape};
-ghost use Rattle.serde_json.specs.Data.{array, depth};
-ghost use Rattle.serde_json.specs.Read.{max_depth};
-ghost use Rattle.serde_json.specs.View.{view};
-ghost use Rattle.serde_json.specs.Written.{has_float};
+ghost use Rattle.serde_json.{specs.Data.{array, depth}, specs.Read.max_depth, specs.View.view, specs.Written.has_float};
 ghost use Rattle.yq_journal.specs.Json as json;
 ghost use Rattle.yq_journal.specs.OpenText as spec;
 

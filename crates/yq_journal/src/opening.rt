@@ -1,7 +1,6 @@
 //! The open move of a journal: opened on a text, and settled beside it or the text to which it leads.
 ghost use Rattle.std.specs.Prelude.{◌≡◌, ◌≢◌, ◌⊎◌, None, Some, IfErr, IfSome, OnOk, OnErr, IsNone, IsOk};
-ghost use Rattle.yq_journal.specs.Refusals.{ErrorIs, move_fault, no_way};
-ghost use Rattle.yq_journal.specs.State.{moved_text, with_move, settled_beside};
+ghost use Rattle.yq_journal.{specs.Refusals.{ErrorIs, move_fault, no_way}, specs.State.{moved_text, with_move, settled_beside}};
 
 use crate::journal::{Journal, Open};
 use crate::ways::check_way;

@@ -1,11 +1,8 @@
 //! A journal from its text.
-ghost use Rattle.std.specs.Prelude.{◌≡◌, None, Some, IfOk, IfErr, option_map, if◌then◌else◌};
-ghost use Rattle.std.specs.Str.{is_utf8};
-ghost use Rattle.serde_json.specs.Read.{read};
-ghost use Rattle.serde_json.specs.View.{view};
+ghost use Rattle.std.{specs.Prelude.{◌≡◌, None, Some, IfOk, IfErr, option_map, if◌then◌else◌}, specs.Str.is_utf8};
+ghost use Rattle.serde_json.{specs.Read.read, specs.View.view};
+ghost use Rattle.yq_journal.{specs.Refusals.{ErrorIs, if_journal}, specs.State.state};
 ghost use Rattle.yq_journal.specs.Json as spec;
-ghost use Rattle.yq_journal.specs.Refusals.{ErrorIs, if_journal};
-ghost use Rattle.yq_journal.specs.State.{state};
 
 pub(crate) mod edits;
 mod fields;

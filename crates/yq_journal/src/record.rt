@@ -1,9 +1,7 @@
 //! A record of an edit, and what it does to a text.
-ghost use Rattle.std.specs.Prelude.{◌≡◌, ◌↔◌, ℕ, List, Some, IfOk, IfErr};
-ghost use Rattle.std.specs.String.{string_bytes};
+ghost use Rattle.std.{specs.Prelude.{◌≡◌, ◌↔◌, ℕ, List, Some, IfOk, IfErr}, specs.String.string_bytes};
 ghost use Rattle.yq_text.specs.Splice.{lengths_done};
-ghost use Rattle.yq_journal.specs.Record.{Record, done, undone};
-ghost use Rattle.yq_journal.specs.Refusals.{ErrorIs, if_moves};
+ghost use Rattle.yq_journal.{specs.Record.{Record, done, undone}, specs.Refusals.{ErrorIs, if_moves}};
 
 use crate::fault::{JournalError, JournalFault};
 use crate::gap::spliced;

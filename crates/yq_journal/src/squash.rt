@@ -1,7 +1,6 @@
 //! Several records joined into one.
 ghost use Rattle.std.specs.Prelude.{◌≡◌, true, ◌<◌, ◌≤◌, ◌∷◌, ◌++◌, [], IfErr, IfOk, None, OnOk, drop, length, take};
-ghost use Rattle.yq_journal.specs.Record.{IsRecord, join, records_joined, meet};
-ghost use Rattle.yq_journal.specs.Refusals.{Reports, count_fault};
+ghost use Rattle.yq_journal.{specs.Record.{IsRecord, join, records_joined, meet}, specs.Refusals.{Reports, count_fault}};
 ghost use Rattle.yq_journal.specs.State.{joined_of, last_done};
 
 use crate::{JournalError, JournalFault, Record};

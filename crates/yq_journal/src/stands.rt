@@ -1,9 +1,8 @@
 //! Whether splices can be done on a text, told without memory.
-ghost use Rattle.std.specs.Prelude.{◌≡◌, ◌≢◌, ◌⊎◌, ◌+◌, ◌-◌, ◌^◌, ◌<◌, ◌≤◌, ◌↔◌, ℕ, IfSome, IsTrue, List, None, Some, drop, length, is_some, slice_get, take};
+ghost use Rattle.std.specs.Prelude.{◌≡◌, ◌≢◌, ◌⊎◌, ◌+◌, ◌-◌, ◌^◌, ◌<◌, ◌≤◌, ◌↔◌, ℕ, IfSome, IsTrue, List, None, Some, drop, length};
+ghost use Rattle.std.specs.Prelude.{is_some, slice_get, take};
 ghost use Rattle.yq_text.specs.Splice.{Splice, all_done, flipped, lengths_done};
-ghost use Rattle.yq_journal.specs.ByteGapBuffer.{splice_of_parts};
-ghost use Rattle.yq_journal.specs.Record.{done, undone};
-ghost use Rattle.yq_journal.specs.Turned.{flipped_if};
+ghost use Rattle.yq_journal.{specs.ByteGapBuffer.splice_of_parts, specs.Record.{done, undone}, specs.Turned.flipped_if};
 
 use crate::Record;
 use yq_text::Splice;

@@ -1,7 +1,6 @@
 //! Whether a move over the records of a journal can be made, and the text to which it leads.
 ghost use Rattle.std.specs.Prelude.{◌≡◌, None, Some, OnOk, IfOk, IfErr};
-ghost use Rattle.yq_journal.specs.Refusals.{ErrorIs, if_moves, no_way, way_fault};
-ghost use Rattle.yq_journal.specs.State.{moved_text};
+ghost use Rattle.yq_journal.{specs.Refusals.{ErrorIs, if_moves, no_way, way_fault}, specs.State.moved_text};
 
 use crate::stands::stands_before;
 use crate::{JournalError, JournalFault, MAX_RECORDS, Move, Record, lead};

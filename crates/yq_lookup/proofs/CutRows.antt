@@ -1,15 +1,10 @@
 -- The rows of a text with its cut, and what is known of them.
-use Rattle.std.proofs.Common.{◌≡◌, ℕ, ◌<◌, List, length, sym, ap, subst, arith}
-use Rattle.std.proofs.lemmas.List.{length-map}
+use Rattle.std.{proofs.Common.{◌≡◌, ℕ, ◌<◌, List, length, sym, ap, subst, arith}, proofs.lemmas.List.length-map}
 use Rattle.std.specs.Prelude.{IfSome, Option}
-use Rattle.yq_row_table.specs.Grammar.{IsCut}
-use Rattle.yq_row_table.specs.View.{RowsView, rows_of, rows_view, slices}
+use Rattle.yq_row_table.{specs.Grammar.IsCut, specs.View.{RowsView, rows_of, rows_view, slices}}
 use Rattle.yq_documents.specs.Reading.{cut_of}
-use Rattle.yq_outline.specs.declared.line_position.KnownItems.{KnownItems}
-use Rattle.yq_outline.specs.Extents.{IsRowsView}
-use Rattle.yq_outline.specs.RowWalk.{AreKnown}
-use Rattle.yq_places.specs.declared.places.known_line.KnownLine.{KnownLine}
-use Rattle.yq_places.specs.RowWalk.{IsKnownLine}
+use Rattle.yq_outline.{specs.declared.line_position.KnownItems.KnownItems, specs.Extents.IsRowsView, specs.RowWalk.AreKnown}
+use Rattle.yq_places.{specs.declared.places.known_line.KnownLine.KnownLine, specs.RowWalk.IsKnownLine}
 
 pub rows_are_view : (t : List ℕ) (s : RowsView) → IsCut t (cut_of t) → s ≡ rows_view (cut_of t) → IsRowsView s
 rows_are_view t s cut rows = record { cut = cut_of t; is = rows; size = omega (arith, ap length cut.text, cut.size) }

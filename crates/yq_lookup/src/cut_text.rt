@@ -1,9 +1,7 @@
 //! A text with its cut.
-ghost use Rattle.std.specs.Prelude.{◌≡◌, ℕ, IfSome, List, Some, true};
-ghost use Rattle.std.specs.Str.{IsUtf8};
+ghost use Rattle.std.{specs.Prelude.{◌≡◌, ℕ, IfSome, List, Some, true}, specs.Str.IsUtf8};
 ghost use Rattle.yq_text.specs.Halves.{whole};
-ghost use Rattle.yq_row_table.specs.Grammar.{IsCut};
-ghost use Rattle.yq_row_table.specs.View.{rows_view};
+ghost use Rattle.yq_row_table.{specs.Grammar.IsCut, specs.View.rows_view};
 ghost use Rattle.yq_documents.specs.Reading.{all_documents, cut_of, read_at};
 ghost use Rattle.yq_outline.specs.RowWalk.{AreKnown};
 ghost use Rattle.yq_places.specs.RowWalk.{HasCut, IsKnownLine};

@@ -1,7 +1,6 @@
 -- The anchor of a node changes neither its kind nor its text.
 use Rattle.std.proofs.Common.{◌≡◌, ℕ, List, Option, Some, None, refl}
-use Rattle.yq_core.specs.Tree.{Node, alias, scalar, list, map, Children, anchor_of}
-use Rattle.yq_core.specs.declared.kind.Kind.{Kind}
+use Rattle.yq_core.{specs.Tree.{Node, alias, scalar, list, map, Children, anchor_of}, specs.declared.kind.Kind.Kind}
 use Rattle.yq_core.specs.Trees.{with_anchor_name}
 use Rattle.yq_nodes.specs.Nodes.{kind_of, text_of}
 use Rattle.yq_outline.specs.Outline.{first_anchor, anchored}

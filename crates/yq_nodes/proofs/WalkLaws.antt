@@ -1,14 +1,11 @@
 -- Nodes of the code where steps lead.
-use Rattle.std.proofs.Common.{◌≡◌, ℕ, ◌+◌, ◌<◌, List, ◌∷◌, length, drop, get_or, map, Option, Some, None, option_map, option_and_then, refl, sym, ap, ◌∙◌}
-use Rattle.std.proofs.lemmas.List.{drop_more}
-use Rattle.yq_core.specs.declared.path.Step as step
-use Rattle.yq_core.specs.Entries.{tree_step}
-use Rattle.yq_core.specs.Paths.{Step, child_at, node_at}
-use Rattle.yq_core.specs.Tree.{Node, children_of}
-use Rattle.yq_nodes.specs.declared.nodes.node.Node as declared
-use Rattle.yq_outline.specs.Labelled.{Labelled, labelled_at, labelled_from}
+use Rattle.std.proofs.Common.{◌≡◌, ℕ, ◌+◌, ◌<◌, List, ◌∷◌, length, drop, get_or, map, Option, Some, None, option_map, option_and_then, refl}
+use Rattle.std.{proofs.Common.{sym, ap, ◌∙◌}, proofs.lemmas.List.drop_more}
+use Rattle.yq_core.{specs.Entries.tree_step, specs.Paths.{Step, child_at, node_at}, specs.Tree.{Node, children_of}}
+use Rattle.yq_outline.{specs.Labelled.{Labelled, labelled_at, labelled_from}, proofs.Finding.{labelled_child, labelled_path}}
 use Rattle.yq_nodes.specs.Nodes.{node_of, labelled_of}
-use Rattle.yq_outline.proofs.Finding.{labelled_child, labelled_path}
+use Rattle.yq_core.specs.declared.path.Step as step
+use Rattle.yq_nodes.specs.declared.nodes.node.Node as declared
 
 -- the node of one of the code that is given with its label
 nodes : (r : Option declared.Node) → option_map node_of r ≡ option_map (λ x. x.1) (option_map labelled_of r)

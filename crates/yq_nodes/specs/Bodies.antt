@@ -1,15 +1,11 @@
 -- What nodes of the code stand for.
 use Rattle.std.specs.Prelude.{None}
-use Rattle.yq_core.specs.Tree.{Node, scalar, list, map}
-use Rattle.yq_core.specs.Trees.{placed_tree}
-use Rattle.yq_core.specs.View as inline
-use Rattle.yq_outline.specs.Bodies.{borrowed}
-use Rattle.yq_outline.specs.Ends.{part}
-use Rattle.yq_outline.specs.Outline.{Outline, anchored, null_node, children}
+use Rattle.yq_core.{specs.Tree.{Node, scalar, list, map}, specs.Trees.placed_tree}
+use Rattle.yq_outline.{specs.Bodies.borrowed, specs.Ends.part, specs.Outline.{Outline, anchored, null_node, children}}
 use Rattle.yq_documents.specs.Stretches.{document_lines, number_of}
-use Rattle.yq_nodes.specs.declared.nodes.under.Under.{Under}
+use Rattle.yq_nodes.{specs.declared.nodes.under.Under.Under, specs.declared.nodes.body.Named.Named}
+use Rattle.yq_core.specs.View as inline
 use Rattle.yq_nodes.specs.declared.nodes.body.Body as bodies
-use Rattle.yq_nodes.specs.declared.nodes.body.Named.{Named}
 
 -- the lines of a document from one on that are deeper than a level, as an outline (own)
 abbrev pub body_outline : Under → Outline

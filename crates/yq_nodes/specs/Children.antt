@@ -1,17 +1,13 @@
 -- The items or entries of the code, as those of trees.
 use Rattle.std.specs.Prelude.{◌≡◌, ℕ, length, Option, Some, None}
-use Rattle.yq_core.specs.Tree.{Children, none, child}
-use Rattle.yq_core.specs.Trees.{parts_tree}
-use Rattle.yq_core.specs.View.{entries_end, items_end}
-use Rattle.yq_outline.specs.Outline as outline
+use Rattle.yq_core.{specs.Tree.{Children, none, child}, specs.Trees.parts_tree, specs.View.{entries_end, items_end}}
 use Rattle.yq_outline.specs.Places.{content_under}
-use Rattle.yq_nodes.specs.Bodies.{body_outline}
-use Rattle.yq_nodes.specs.Nodes.{node_of, label_of}
+use Rattle.yq_nodes.{specs.Bodies.body_outline, specs.Nodes.{node_of, label_of}, specs.declared.nodes.node.Node.Node}
+use Rattle.yq_nodes.specs.declared.nodes.under.Under.{Under}
 use Rattle.yq_documents.specs.Stretches.{IsLineIn, count_from, lines_under}
+use Rattle.yq_outline.specs.Outline as outline
 use Rattle.yq_nodes.specs.declared.nodes.children.Children as declared
 use Rattle.yq_nodes.specs.declared.nodes.children.Rest as rests
-use Rattle.yq_nodes.specs.declared.nodes.node.Node.{Node}
-use Rattle.yq_nodes.specs.declared.nodes.under.Under.{Under}
 
 -- items or entries that are left on lines (own)
 abbrev pub lines_rest : Under → rests.Rest

@@ -1,15 +1,12 @@
 -- The nodes of the code, as those of trees.
 use Rattle.std.specs.Prelude.{List, [], ℕ}
 use Rattle.yq_core.specs.Tree.{Label, Node, alias, scalar, list, map, key_label, plain_label}
-use Rattle.yq_nodes.specs.Bodies.{named_node}
+use Rattle.yq_nodes.{specs.Bodies.named_node, specs.declared.nodes.node.NodeKind.NodeKind, specs.declared.nodes.node.Written.Written}
+use Rattle.yq_outline.{specs.Bodies.borrowed, specs.Labelled.Labelled}
 use Rattle.yq_nodes.specs.declared.nodes.node.Node as declared
-use Rattle.yq_nodes.specs.declared.nodes.node.NodeKind.{NodeKind}
 use Rattle.yq_nodes.specs.declared.nodes.node.NodeKind.TheVariants as kinds
 use Rattle.yq_nodes.specs.declared.nodes.node.Slot as slots
-use Rattle.yq_nodes.specs.declared.nodes.node.Written.{Written}
-use Rattle.yq_outline.specs.Bodies.{borrowed}
 use Rattle.yq_outline.specs.Comments as comments
-use Rattle.yq_outline.specs.Labelled.{Labelled}
 
 -- the node that one of the code stands for (own)
 abbrev pub node_of : declared.Node → Node

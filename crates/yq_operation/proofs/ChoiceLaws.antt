@@ -1,13 +1,11 @@
 -- What is answered by the first of two, or else by the second; and what a value is put in the place of.
 use Rattle.std.proofs.Common.{◌≡◌, Bool, true, false, cond, ℕ, List, [], ◌∷◌, Option, Some, None, option_map, Result, sym, ap, ◌∙◌, subst}
-use Rattle.std.proofs.lemmas.Option.{none-some}
-use Rattle.std.specs.Option.{option_or}
+use Rattle.std.{proofs.lemmas.Option.none-some, specs.Option.option_or}
 use Rattle.yq_text.specs.Script.{Segment, keep}
 use Rattle.yq_core.specs.Tree.{Node}
 use Rattle.yq_places.specs.Standings.{FlowPart}
-use Rattle.yq_edits.specs.FlowParts.{flow_put}
+use Rattle.yq_edits.{specs.FlowParts.flow_put, specs.Answers.GivesSegments}
 use Rattle.yq_edit_laws.specs.PartPuts.{part_put}
-use Rattle.yq_edits.specs.Answers.{GivesSegments}
 
 -- the first one answers
 pub first_is : (ss : List Segment) (x y : Option (List Segment)) → x ≡ Some ss → option_or x y ≡ Some ss

@@ -1,33 +1,20 @@
 -- Lines of an item or entry that go, where no other byte changes.
-use Rattle.std.proofs.Common.{◌≡◌, ℕ, ◌+◌, ◌≤◌, true, false, eqb, List, [], ◌∷◌, ◌++◌, length, Option, Some, None, is_some, option_map, refl, sym, ap, ◌∙◌, subst, arith, append-nil, length-append}
-use Rattle.std.proofs.lemmas.Bool.{le-leb}
-use Rattle.std.proofs.lemmas.Str.{IsUtf8-append}
-use Rattle.std.specs.Option.{option_or}
-use Rattle.std.specs.Str.{IsUtf8}
-use Rattle.std.specs.String.{string_bytes}
-use Rattle.yq_text.specs.Limit.{text_limit}
+use Rattle.std.proofs.Common.{◌≡◌, ℕ, ◌+◌, ◌≤◌, true, false, eqb, List, [], ◌∷◌, ◌++◌, length, Option, Some, None, is_some, option_map}
+use Rattle.std.{proofs.Common.{refl, sym, ap, ◌∙◌, subst, arith, append-nil, length-append}, proofs.lemmas.Bool.le-leb}
+use Rattle.std.{proofs.lemmas.Str.IsUtf8-append, specs.Option.option_or, specs.Str.IsUtf8, specs.String.string_bytes}
+use Rattle.yq_text.{specs.Limit.text_limit, specs.Changing.IsChange, specs.Exchanging.{gives, within_limit}}
+use Rattle.yq_text.{specs.Script.{Segment, keep, put, changes_behind, new_text}, specs.declared.changed.ChangedMiddle.ChangedMiddle}
+use Rattle.yq_text.proofs.ChangeLaws.{change_is}
 use Rattle.yq_core.specs.Paths.{Step}
 use Rattle.yq_row_table.specs.Rows.{Cut}
 use Rattle.yq_documents.specs.Reading.{read_at}
-use Rattle.yq_places.specs.FirstPlaces.{first_removal}
-use Rattle.yq_places.specs.RemovalPlaces.{Removal, has_others_at, removal_place}
-use Rattle.yq_places.specs.RemovalReading.{seam_view}
-use Rattle.yq_places.specs.Standings.{last_step}
-use Rattle.yq_places.specs.declared.places.removal_place.Seam.{Seam}
-use Rattle.yq_edits.proofs.RemovalChangeLaws.{removal_stands}
+use Rattle.yq_places.{specs.FirstPlaces.first_removal, specs.RemovalPlaces.{Removal, has_others_at, removal_place}}
+use Rattle.yq_places.{specs.RemovalReading.seam_view, specs.Standings.last_step, specs.declared.places.removal_place.Seam.Seam}
+use Rattle.yq_edits.{proofs.RemovalChangeLaws.removal_stands, specs.Edits.{or_stay, part_removed, rows_or_sole}}
+use Rattle.yq_edits.{specs.EntryEdits.one_removed, specs.Removing.{gap_mended, rows_removed}, specs.RemovingFirst.first_removed}
 use Rattle.yq_semantics.specs.Operations.{remove}
-use Rattle.yq_text.specs.Changing.{IsChange}
-use Rattle.yq_text.specs.Exchanging.{gives, within_limit}
-use Rattle.yq_text.specs.Script.{Segment, keep, put, changes_behind, new_text}
-use Rattle.yq_text.specs.declared.changed.ChangedMiddle.{ChangedMiddle}
-use Rattle.yq_text.proofs.ChangeLaws.{change_is}
-use Rattle.yq_edits.specs.Edits.{or_stay, part_removed, rows_or_sole}
-use Rattle.yq_edits.specs.EntryEdits.{one_removed}
-use Rattle.yq_edits.specs.Removing.{gap_mended, rows_removed}
-use Rattle.yq_edits.specs.RemovingFirst.{first_removed}
-use Rattle.yq_edit_laws.proofs.CutLaws.{cut_read}
+use Rattle.yq_edit_laws.{proofs.CutLaws.cut_read, specs.Valid.segments_by}
 use Rattle.yq_operation.specs.RowsGone.{IsSmall}
-use Rattle.yq_edit_laws.specs.Valid.{segments_by}
 
 -- a text behind another one
 pub texts_joined : (t u : List ℕ) → IsUtf8 t → IsUtf8 u → IsUtf8 (t ++ u)

@@ -4,9 +4,8 @@ ghost use Rattle.yq_semantics.specs.Operations.{operation_of};
 ghost use Rattle.yq_documents.specs.Reading.{cut_of};
 ghost use Rattle.yq_text.specs.Changing.{IsChange};
 ghost use Rattle.yq_places.specs.RowWalk.{StayKnown};
-ghost use Rattle.yq_edit_laws.specs.Answers.{Edits, EditFails};
+ghost use Rattle.yq_edit_laws.{specs.Answers.{Edits, EditFails}, specs.Valid.segments_by};
 ghost use Rattle.yq_edit_laws.specs.Carried as spec;
-ghost use Rattle.yq_edit_laws.specs.Valid.{segments_by};
 
 use crate::{change, op_segments};
 use std::alloc::Global;

@@ -1,19 +1,12 @@
 //! Items and entries that are taken out of block collections with their lines, where no other byte changes.
-ghost use Rattle.std.specs.Prelude.{◌≡◌, ◌<◌, ◌^◌, IfOk, IfErr, IfSome, None, length};
-ghost use Rattle.std.specs.Str.{IsUtf8};
-ghost use Rattle.yq_text.specs.Halves.{whole};
-ghost use Rattle.yq_documents.specs.Located.{steps_of};
-ghost use Rattle.yq_documents.specs.Reading.{cut_of};
+ghost use Rattle.std.{specs.Prelude.{◌≡◌, ◌<◌, ◌^◌, IfOk, IfErr, IfSome, None, length}, specs.Str.IsUtf8};
+ghost use Rattle.yq_text.{specs.Halves.whole, specs.Changing.IsChange};
+ghost use Rattle.yq_documents.{specs.Located.steps_of, specs.Reading.cut_of};
 ghost use Rattle.yq_semantics.specs.Operations.{operation_of, remove};
-ghost use Rattle.yq_places.specs.RemovalReading.{removal_view};
-ghost use Rattle.yq_places.specs.Standings.{last_step};
-ghost use Rattle.yq_text.specs.Changing.{IsChange};
-ghost use Rattle.yq_edits.specs.Edits.{part_removed};
-ghost use Rattle.yq_edits.specs.Removing.{rows_removed};
-ghost use Rattle.yq_edit_laws.specs.Answers.{EditFails};
-ghost use Rattle.yq_edit_laws.specs.Carried.{carry_one};
+ghost use Rattle.yq_places.{specs.RemovalReading.removal_view, specs.Standings.last_step};
+ghost use Rattle.yq_edits.{specs.Edits.part_removed, specs.Removing.rows_removed};
+ghost use Rattle.yq_edit_laws.{specs.Answers.EditFails, specs.Carried.carry_one, specs.Valid.segments_by};
 ghost use Rattle.yq_operation.specs.RowsGone.{IsSmall};
-ghost use Rattle.yq_edit_laws.specs.Valid.{segments_by};
 
 use crate::exchanged::op_segments;
 use std::alloc::{AllocError, Global};

@@ -1,17 +1,12 @@
 -- Aliases of a node stand in heads of its lines.
-use Rattle.std.proofs.Common.{◌≡◌, ℕ, zero, suc, ◌+◌, ltb, Bool, true, false, ◌||◌, cond, List, [], ◌∷◌, ◌++◌, drop, Option, refl, sym, ap, ◌∙◌, rules}
-use Rattle.std.specs.List.{list_any}
-use Rattle.std.proofs.lemmas.Bool.{false≢true, or_parts}
+use Rattle.std.proofs.Common.{◌≡◌, ℕ, zero, suc, ◌+◌, ltb, Bool, true, false, ◌||◌, cond, List, [], ◌∷◌, ◌++◌, drop, Option, refl, sym, ap}
+use Rattle.std.{proofs.Common.{◌∙◌, rules}, specs.List.list_any, proofs.lemmas.Bool.{false≢true, or_parts}}
 use Rattle.std.proofs.lemmas.List.Folds.{list_any-append}
-use Rattle.yq_core.specs.Tree.{Node, Children}
-use Rattle.yq_core.specs.Anchors.{Name, Anchors, Refers, anchor_names, names_of, names_in}
-use Rattle.yq_outline.specs.Ends.{part}
-use Rattle.yq_outline.specs.Group.{deeper_lines}
-use Rattle.yq_outline.specs.LinesReading.{are_bound}
+use Rattle.yq_core.{specs.Tree.{Node, Children}, specs.Anchors.{Name, Anchors, Refers, anchor_names, names_of, names_in}}
+use Rattle.yq_outline.{specs.Ends.part, specs.Group.deeper_lines, specs.LinesReading.are_bound}
 use Rattle.yq_outline.specs.Names.{is_reference, head_names, line_names}
 use Rattle.yq_outline.specs.Outline.{LineMark, Line, level, Outline, end, row, flatten, anchored, head_or, outline_node, shaped, children}
-use Rattle.yq_outline.proofs.Decides.{flatten-group}
-use Rattle.yq_outline.proofs.NameLaws.{line_names-append}
+use Rattle.yq_outline.{proofs.Decides.flatten-group, proofs.NameLaws.line_names-append}
 
 -- some of these names is an alias's
 abbrev refer : List Name → Bool

@@ -1,16 +1,11 @@
 -- Aliases and the anchors before them.
 use Rattle.std.proofs.Common.{◌≡◌, ℕ, List, ◌∷◌, Option, Some, is_some, Bool, true, ◌||◌, ◌&&◌, cond, sym, ap, ◌∙◌, bytes_eq, rules}
-use Rattle.std.proofs.lemmas.Bool.{false≢true}
-use Rattle.std.proofs.lemmas.Map.Text.{btree_map_updates_str}
-use Rattle.std.proofs.lemmas.Slice.Eq.{bytes_eq-Decides}
-use Rattle.std.specs.BTreeMap as tree
-use Rattle.std.specs.BTreeMap.{BTreeMap}
-use Rattle.std.specs.Cmp.Lexicographic.{slice_cmp}
-use Rattle.std.specs.List.{list_any}
-use Rattle.std.specs.Ordering.{nat_cmp}
+use Rattle.std.{proofs.lemmas.Bool.false≢true, proofs.lemmas.Map.Text.btree_map_updates_str, proofs.lemmas.Slice.Eq.bytes_eq-Decides}
+use Rattle.std.{specs.BTreeMap.BTreeMap, specs.Cmp.Lexicographic.slice_cmp, specs.List.list_any, specs.Ordering.nat_cmp}
 use denote.Bor.{Bor}
 use Rattle.yq_core.specs.Anchors.{Name, Anchors, Refers}
 use Rattle.yq_outline.specs.LinesReading.{are_bound}
+use Rattle.std.specs.BTreeMap as tree
 
 -- a name is among the keys
 abbrev pub has : {X : Type 0} → BTreeMap (Bor (List ℕ)) X → List ℕ → Bool

@@ -2,10 +2,10 @@
 use Rattle.std.proofs.Common.{◌≡◌, ℕ, ◌+◌, ◌<◌, List, [], ◌∷◌, ◌++◌, Option, Some, None, refl, sym, ◌∙◌, subst, arith, rules}
 use Rattle.std.proofs.lemmas.Option.{none-some}
 use Rattle.yq_core.specs.Tree.{Node, Children, none, child}
-use Rattle.yq_outline.specs.Outline.{LineMark, Bare, Key, Dash, Line, level, Outline, end, row, flatten, IsOpen, IsWhole, IsEven, anchored, head_or, null_node, label, outline_node, children, value, Stands}
-use Rattle.yq_outline.specs.Grammar.{IsNodeOutline, alone, mapping, sequence, AreEntryLines, no_more, entry, IsUnder, headed, missing, deeper_lines}
-use Rattle.yq_outline.proofs.Allowing.{IsEntry, IsCollection}
-use Rattle.yq_outline.proofs.Values.{same_entry, same_rank}
+use Rattle.yq_outline.specs.Outline.{LineMark, Bare, Key, Dash, Line, level, Outline, end, row, flatten, IsOpen, IsWhole, IsEven, anchored}
+use Rattle.yq_outline.specs.Outline.{head_or, null_node, label, outline_node, children, value, Stands}
+use Rattle.yq_outline.specs.Grammar.{IsNodeOutline, alone, mapping, sequence, AreEntryLines, no_more, entry, IsUnder, headed, missing}
+use Rattle.yq_outline.{specs.Grammar.deeper_lines, proofs.Allowing.{IsEntry, IsCollection}, proofs.Values.{same_entry, same_rank}}
 
 -- an outline of these lines, with these items or entries
 record Listed (n : ℕ) (lines : List Line) (cs : Children) : Type 0 where

@@ -1,15 +1,9 @@
 -- The items or entries of nodes.
-use Rattle.std.proofs.Common.{◌≡◌, ℕ, ◌+◌, List, Option, Some, option_map, true, not, ap, rules}
-use Rattle.std.specs.List.{slice_get}
-use Rattle.yq_core.specs.Tree.{Label, Node, child, children_of}
-use Rattle.yq_core.specs.Trees.{with_anchor_name}
-use Rattle.yq_outline.specs.Ends.{part, has_no_lines, IsEndOf}
-use Rattle.yq_core.specs.Paths.{Step}
-use Rattle.yq_outline.specs.Labelled.{labelled_at}
-use Rattle.yq_outline.specs.Outline.{Line, level, Outline, anchored, label, children}
-use Rattle.yq_outline.specs.Places.{find_row, content_under}
-use Rattle.yq_outline.specs.Positions.{position, line_here}
-use Rattle.yq_outline.proofs.EndsLaws.{deeper_line, not_end, row_parts}
+use Rattle.std.{proofs.Common.{◌≡◌, ℕ, ◌+◌, List, Option, Some, option_map, true, not, ap, rules}, specs.List.slice_get}
+use Rattle.yq_core.{specs.Tree.{Label, Node, child, children_of}, specs.Trees.with_anchor_name, specs.Paths.Step}
+use Rattle.yq_outline.{specs.Ends.{part, has_no_lines, IsEndOf}, specs.Labelled.labelled_at}
+use Rattle.yq_outline.{specs.Outline.{Line, level, Outline, anchored, label, children}, specs.Places.{find_row, content_under}}
+use Rattle.yq_outline.{specs.Positions.{position, line_here}, proofs.EndsLaws.{deeper_line, not_end, row_parts}}
 use Rattle.yq_outline.proofs.Finding.{entry_of, row_labelled}
 
 pub anchored_children : (a : Option (List ℕ)) (n : Node) → children_of (anchored a n) ≡ children_of n

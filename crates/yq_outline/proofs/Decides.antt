@@ -1,12 +1,11 @@
 -- `stand` tells exactly what lines stand for.
-use Rattle.std.proofs.Common.{◌≡◌, ℕ, ◌+◌, ◌<◌, ltb, List, [], ◌∷◌, ◌++◌, Option, Some, None, Bool, true, false, cond, refl, ap, ◌∙◌, append_assoc, rules}
+use Rattle.std.proofs.Common.{◌≡◌, ℕ, ◌+◌, ◌<◌, ltb, List, [], ◌∷◌, ◌++◌, Option, Some, None, Bool, true, false, cond, refl, ap, ◌∙◌}
+use Rattle.std.proofs.Common.{append_assoc, rules}
 use Rattle.std.proofs.lemmas.Bool.{lt-ltb, ltb-true, eqb-true, eq-eqb, cond-true, and_parts, and_from, false≢true}
 use Rattle.std.proofs.lemmas.Option.{none-some, same_Some}
 use Rattle.yq_core.specs.Tree.{Node}
 use Rattle.yq_outline.specs.Outline.{LineMark, Line, level, Outline, end, row, flatten, IsOpen, IsWhole, IsEven, value, Stands}
-use Rattle.yq_outline.specs.Group.{deeper_lines, shallow, group}
-use Rattle.yq_outline.specs.Group.{is_open, is_whole, level_or, is_even, stand}
-use Rattle.yq_outline.proofs.Unique.{group_even}
+use Rattle.yq_outline.{specs.Group.{deeper_lines, shallow, group, is_open, is_whole, level_or, is_even, stand}, proofs.Unique.group_even}
 
 -- the lines of an outline's two parts
 pub flatten-parts : (n : ℕ) (o : Outline) → flatten (deeper_lines n o) ++ flatten (shallow n o) ≡ flatten o

@@ -1,11 +1,9 @@
 -- Lines that are deeper than a level.
-use Rattle.std.proofs.Common.{◌≡◌, ℕ, ◌<◌, ◌≤◌, ltb, List, length, get_or, Some, None, Bool, true, false, not, ◌⊎◌, inl, inr, sym, ap, ◌∙◌, rules, zero, suc, ◌+◌, [], ◌∷◌, drop, add-one}
+use Rattle.std.proofs.Common.{◌≡◌, ℕ, ◌<◌, ◌≤◌, ltb, List, length, get_or, Some, None, Bool, true, false, not, ◌⊎◌, inl, inr, sym, ap, ◌∙◌}
+use Rattle.std.proofs.Common.{rules, zero, suc, ◌+◌, [], ◌∷◌, drop, add-one}
 use Rattle.std.proofs.lemmas.Bool.{lt-ltb, le-ltb, cases_lt, false≢true, cond-true, cond-false}
-use Rattle.std.proofs.lemmas.Option.{slice_get_cases, same_Some}
-use Rattle.std.specs.List.{slice_get}
-use Rattle.yq_outline.specs.Outline.{Line, level, end, row}
-use Rattle.yq_outline.specs.Ends.{part, has_no_lines, rest}
-use Rattle.yq_outline.specs.Group.{deeper_lines, group}
+use Rattle.std.{proofs.lemmas.Option.{slice_get_cases, same_Some}, specs.List.slice_get}
+use Rattle.yq_outline.{specs.Outline.{Line, level, end, row}, specs.Ends.{part, has_no_lines, rest}, specs.Group.{deeper_lines, group}}
 
 -- ---- the lines of a collection, by their indexes
 

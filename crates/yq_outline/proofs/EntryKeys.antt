@@ -1,20 +1,13 @@
 -- The entries under a line, or of a document, have different keys.
-use Rattle.std.proofs.Common.{◌≡◌, ◌⊎◌, inl, inr, ℕ, zero, suc, ◌+◌, ltb, Bool, true, false, cond, not, ◌&&◌, List, [], ◌∷◌, ◌++◌, Option, Some, None, option_map, bytes_eq, refl, sym, ap, ◌∙◌, subst, arith, rules}
+use Rattle.std.proofs.Common.{◌≡◌, ◌⊎◌, inl, inr, ℕ, zero, suc, ◌+◌, ltb, Bool, true, false, cond, not, ◌&&◌, List, [], ◌∷◌, ◌++◌, Option}
+use Rattle.std.proofs.Common.{Some, None, option_map, bytes_eq, refl, sym, ap, ◌∙◌, subst, arith, rules}
 use Rattle.std.proofs.lemmas.Bool.{and_parts, or_parts, not-true, ltb-true, eqb-true, le-leb, cond-false, false≢true}
-use Rattle.std.proofs.lemmas.Option.{same_Some, none-some}
-use Rattle.std.specs.List.{slice_get, list_any}
-use Rattle.yq_core.specs.Keys.{keys_of, are_distinct}
-use Rattle.yq_core.specs.Paths.{To, is_here, key_is}
-use Rattle.yq_core.specs.Text.{with_first}
-use Rattle.yq_outline.specs.Ends.{part, has_no_lines, IsEndOf}
-use Rattle.yq_outline.specs.Group.{deeper_lines, shallow, group}
+use Rattle.std.{proofs.lemmas.Option.{same_Some, none-some}, specs.List.{slice_get, list_any}}
+use Rattle.yq_core.{specs.Keys.{keys_of, are_distinct}, specs.Paths.{To, is_here, key_is}, specs.Text.with_first}
+use Rattle.yq_outline.{specs.Ends.{part, has_no_lines, IsEndOf}, specs.Group.{deeper_lines, shallow, group}}
 use Rattle.yq_outline.specs.Outline.{LineMark, Bare, Line, level, Outline, end, row, children, key_of, label}
-use Rattle.yq_outline.specs.Places.{here, find_row, next_to}
-use Rattle.yq_outline.specs.Sound.{is_sound_outline, is_entry_line}
-use Rattle.yq_outline.specs.Positions.{position}
-use Rattle.yq_outline.proofs.EndsLaws.{deeper_line, not_end, row_parts}
-use Rattle.yq_outline.proofs.KeyLaws.{differ, differs}
-use Rattle.yq_outline.proofs.NameLaws.{part-all}
+use Rattle.yq_outline.{specs.Places.{here, find_row, next_to}, specs.Sound.{is_sound_outline, is_entry_line}, specs.Positions.position}
+use Rattle.yq_outline.{proofs.EndsLaws.{deeper_line, not_end, row_parts}, proofs.KeyLaws.{differ, differs}, proofs.NameLaws.part-all}
 use Rattle.yq_outline.proofs.SoundLaws.{asked, keys_with, IsEntryLevel, asked_line, entry_level, sound_entries, too_deep, sound_bare}
 
 -- An outline is that of a node, or the rest of a collection's.

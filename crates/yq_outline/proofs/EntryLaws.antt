@@ -1,14 +1,12 @@
 -- What is asked of the lines of a collection, by their indexes.
 use Rattle.std.proofs.Common.{◌≡◌, ℕ, suc, ◌+◌, ◌<◌, List, [], Some, is_some, Bool, true, false, not, ◌&&◌, sym, ap, ◌∙◌, append-nil, rules}
-use Rattle.std.proofs.lemmas.Bool.{ltb-true, le-leb, false≢true}
-use Rattle.std.specs.List.{slice_get}
-use Rattle.yq_outline.specs.Outline.{Bare, Line, level, Outline, end, row}
-use Rattle.yq_outline.specs.Group.{deeper_lines, group, level_or}
+use Rattle.std.{proofs.lemmas.Bool.{ltb-true, le-leb, false≢true}, specs.List.slice_get}
+use Rattle.yq_outline.{specs.Outline.{Bare, Line, level, Outline, end, row}, specs.Group.{deeper_lines, group, level_or}}
 use Rattle.yq_outline.specs.Ends.{part, has_no_lines, IsEndOf}
 use Rattle.yq_outline.specs.Sound.{is_sound_outline, head_is_sound, line_is_sound, is_entry_line}
-use Rattle.yq_core.specs.Keys.{are_distinct}
 use Rattle.yq_outline.proofs.EndsLaws.{deeper_line, not_end, part_row, row_parts}
 use Rattle.yq_outline.proofs.SoundLaws.{asked, keys_with, IsEntryLevel, asked_line, sound_entries, too_deep, sound_bare, lone}
+use Rattle.yq_core.specs.Keys.{are_distinct}
 
 first_deeper : (n d : ℕ) (o : Outline) → n < d → n < level_or d (deeper_lines n o)
 first_deeper n d end h = h

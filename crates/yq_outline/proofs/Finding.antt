@@ -1,12 +1,10 @@
 -- Where a path leads.
 use Rattle.std.proofs.Common.{◌≡◌, ℕ, List, [], ◌∷◌, Option, Some, None, option_map, option_and_then, Bool, cond, refl, sym, ap, ◌∙◌, rules}
-use Rattle.yq_core.specs.Tree.{Node, Children, children_of, none, child}
-use Rattle.yq_core.specs.Paths.{Step, is_here, further, child_at, node_at}
-use Rattle.yq_outline.specs.Outline.{LineMark, Bare, Key, Dash, Line, Outline, end, row, anchored, head_or, label, outline_node, children, value}
+use Rattle.yq_core.{specs.Tree.{Node, Children, children_of, none, child}, specs.Paths.{Step, is_here, further, child_at, node_at}}
+use Rattle.yq_outline.specs.Outline.{LineMark, Bare, Key, Dash, Line, Outline, end, row, anchored, head_or, label, outline_node, children}
+use Rattle.yq_outline.specs.Outline.{value}
 use Rattle.yq_outline.specs.Places.{here, plug, FoundLine, next_to, find_row, place_inside, bare_or, in_head, find, content_under}
-use Rattle.yq_outline.specs.Labelled.{Labelled, labelled_at, labelled_from}
-use Rattle.yq_outline.proofs.Allowing.{IsEntry}
-use Rattle.yq_outline.proofs.Plug.{plug-compose}
+use Rattle.yq_outline.{specs.Labelled.{Labelled, labelled_at, labelled_from}, proofs.Allowing.IsEntry, proofs.Plug.plug-compose}
 use Rattle.yq_outline.proofs.Values.{If}
 
 -- ---- items and entries where steps lead in a tree: their nodes are those of `child_at` and `node_at`

@@ -1,14 +1,10 @@
 -- How deep the lines of a row are, by how deep the row begins.
-use Rattle.std.proofs.Common.{◌≡◌, ℕ, List, [], ◌∷◌, length, Some, refl, arith, ◌+◌, ◌-◌, ◌*◌, ◌≤◌, Bool, true, false, not, cond, ltb, rules}
-use Rattle.std.proofs.lemmas.Bool.{lt-ltb}
-use Rattle.std.proofs.lemmas.Option.{slice_get-map, same_Some}
-use Rattle.std.specs.List.{slice_get}
+use Rattle.std.proofs.Common.{◌≡◌, ℕ, List, [], ◌∷◌, length, Some, refl, arith, ◌+◌, ◌-◌, ◌*◌, ◌≤◌, Bool, true, false, not, cond, ltb}
+use Rattle.std.{proofs.Common.rules, proofs.lemmas.Bool.lt-ltb, proofs.lemmas.Option.{slice_get-map, same_Some}, specs.List.slice_get}
 use Rattle.yq_core.specs.Text.{is_empty}
-use Rattle.yq_row_table.specs.RowStarts.{row_level}
-use Rattle.yq_row_table.specs.Rows.{RowMark, Bare, Dash, Key, Row, dashes_text}
+use Rattle.yq_row_table.{specs.RowStarts.row_level, specs.Rows.{RowMark, Bare, Dash, Key, Row, dashes_text}}
 use Rattle.yq_row_table.specs.View.{Slices, slices, last_dash, RowsView}
-use Rattle.yq_outline.specs.Extents.{dash_at, IsRowsView}
-use Rattle.yq_outline.specs.RowWalk.{line_level, line_rank}
+use Rattle.yq_outline.{specs.Extents.{dash_at, IsRowsView}, specs.RowWalk.{line_level, line_rank}}
 
 -- a row without dashes, or one that begins with a dash
 bare_level : (s : Slices) → s.dashes ≡ [] → row_level s ≡ line_level 0 s

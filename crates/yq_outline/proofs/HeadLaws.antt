@@ -1,12 +1,11 @@
 -- The comment lines that end lines, behind others, or where the lines are repaired.
-use Rattle.std.proofs.Common.{◌≡◌, ℕ, Bool, true, false, ◌&&◌, List, [], ◌∷◌, ◌++◌, Option, Some, refl, sym, ap, ◌∙◌, ⊎_elim, replicate, eqb-true, drop, rules}
+use Rattle.std.proofs.Common.{◌≡◌, ℕ, Bool, true, false, ◌&&◌, List, [], ◌∷◌, ◌++◌, Option, Some, refl, sym, ap, ◌∙◌, ⊎_elim, replicate}
+use Rattle.std.proofs.Common.{eqb-true, drop, rules}
 use Rattle.std.proofs.lemmas.Bool.{false≢true, cond_both, cond-true, cond-false, false_from_ne_true, and_parts, cases_Bool}
 use Rattle.yq_core.specs.Block.{RawLines}
 use Rattle.yq_core.specs.BlockRepair.{AreGap, is_short, is_outdented_comment, repaired_blank, repaired_comment, repair}
-use Rattle.yq_core.specs.Lines.{is_hash, is_blank}
-use Rattle.yq_core.specs.Text.{upto, cut, is_white, ends_line, past_white, with_first}
-use Rattle.yq_core.proofs.SpaceLaws.{white_drop}
-use Rattle.yq_core.proofs.BlockRepairLaws.{white_front}
+use Rattle.yq_core.{specs.Lines.{is_hash, is_blank}, specs.Text.{upto, cut, is_white, ends_line, past_white, with_first}}
+use Rattle.yq_core.{proofs.SpaceLaws.white_drop, proofs.BlockRepairLaws.white_front}
 use Rattle.yq_outline.specs.Comments.{less_space, comment_text, are_comments, last_comments}
 
 -- lines behind lines

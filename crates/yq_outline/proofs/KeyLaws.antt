@@ -1,20 +1,12 @@
 -- Unique keys, as a test and as a fact.
-use Rattle.std.proofs.Common.{◌≡◌, ◌≢◌, ℕ, zero, suc, List, [], ◌∷◌, get_or, Bool, true, false, not, refl, sym, ap, ◌∙◌, arith, bytes_eq, ◌↔◌, rules, ◌≤◌, ◌++◌, length, drop, ◌&&◌, append-nil}
-use Rattle.std.specs.Bool.{IsTrue}
+use Rattle.std.proofs.Common.{◌≡◌, ◌≢◌, ℕ, zero, suc, List, [], ◌∷◌, get_or, Bool, true, false, not, refl, sym, ap, ◌∙◌, arith, bytes_eq}
+use Rattle.std.{proofs.Common.{◌↔◌, rules, ◌≤◌, ◌++◌, length, drop, ◌&&◌, append-nil}, specs.Bool.IsTrue}
 use Rattle.std.proofs.lemmas.Bool.{and_parts, and_from, or_parts, false≢true, false_from_ne_true, not-true, le-leb}
-use Rattle.std.proofs.lemmas.List.Folds.{list_any_none}
-use Rattle.std.proofs.lemmas.List.Kept.{AllPairs-cons}
-use Rattle.std.proofs.lemmas.Slice.Eq.{bytes_eq-Decides}
-use Rattle.std.specs.List.{list_any, All}
+use Rattle.std.{proofs.lemmas.List.Folds.list_any_none, proofs.lemmas.List.Kept.AllPairs-cons, proofs.lemmas.Slice.Eq.bytes_eq-Decides}
+use Rattle.std.{specs.List.{list_any, All}, proofs.lemmas.List.drop_all, specs.Prelude.String, specs.declared.alloc.Global.Global}
 use Rattle.yq_core.specs.Tree.{Node, alias, scalar, list, map, Children, none, child}
-use Rattle.yq_core.specs.Keys.{AreDistinct, keys_of, HasUniqueKeys, EachHasUniqueKeys, are_distinct}
-use Rattle.std.proofs.lemmas.List.{drop_all}
-use Rattle.std.specs.Prelude.{String}
-use Rattle.std.specs.declared.alloc.Global.{Global}
-use Rattle.yq_core.specs.declared.piece.Piece.{Piece}
-use Rattle.yq_core.specs.declared.inline.Inline.{Inline}
-use Rattle.yq_core.specs.Trees.{parts_tree}
-use Rattle.yq_core.specs.View.{entries_end}
+use Rattle.yq_core.{specs.Keys.{AreDistinct, keys_of, HasUniqueKeys, EachHasUniqueKeys, are_distinct}, specs.declared.piece.Piece.Piece}
+use Rattle.yq_core.{specs.declared.inline.Inline.Inline, specs.Trees.parts_tree, specs.View.entries_end}
 use Rattle.yq_outline.specs.Sound.{has_unique_keys, each_has_unique_keys, are_sound}
 
 pub differ : (a b : List ℕ) → bytes_eq a b ≡ false → a ≢ b

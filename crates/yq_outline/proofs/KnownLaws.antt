@@ -1,8 +1,7 @@
 -- Items that are passed, row by row.
-use Rattle.std.proofs.Common.{◌≡◌, ℕ, zero, suc, ◌+◌, ◌<◌, ◌≤◌, eqb, cond, Bool, List, [], ◌∷◌, ◌++◌, length, take, drop, Some, refl, sym, ap, ◌∙◌, subst, arith, length-append, rules}
-use Rattle.std.proofs.lemmas.Bool.{cond-true, cond-false, eq-eqb, ne_eqb}
-use Rattle.std.proofs.lemmas.List.{drop-append-le, length-take-le}
-use Rattle.std.proofs.lemmas.Option.{same_Some, slice_get_within}
+use Rattle.std.proofs.Common.{◌≡◌, ℕ, zero, suc, ◌+◌, ◌<◌, ◌≤◌, eqb, cond, Bool, List, [], ◌∷◌, ◌++◌, length, take, drop, Some, refl, sym}
+use Rattle.std.{proofs.Common.{ap, ◌∙◌, subst, arith, length-append, rules}, proofs.lemmas.Bool.{cond-true, cond-false, eq-eqb, ne_eqb}}
+use Rattle.std.{proofs.lemmas.List.{drop-append-le, length-take-le}, proofs.lemmas.Option.{same_Some, slice_get_within}}
 use Rattle.std.specs.List.{slice_get}
 use Rattle.yq_row_table.specs.View.{Slices}
 use Rattle.yq_outline.specs.RowWalk.{line_level, level_count, AreRowsDeep, ArePassed, IsKnown}

@@ -1,26 +1,20 @@
 -- A walk to an item or entry goes on from one that is known.
-use Rattle.std.proofs.Common.{◌≡◌, ◌⊎◌, inl, inr, ℕ, zero, suc, ◌+◌, ◌-◌, ◌<◌, ◌≤◌, Bool, true, false, not, ◌&&◌, List, ◌∷◌, length, take, drop, Option, Some, option_map, refl, sym, ap, ◌∙◌, subst, arith, rules}
-use Rattle.std.proofs.lemmas.Bool.{lt-ltb, ne_eqb}
-use Rattle.std.proofs.lemmas.List.{drop-drop, drop-take, take-take, length-take-le, length-drop}
-use Rattle.std.proofs.lemmas.Option.{same_Some, slice_get_within}
-use Rattle.std.specs.List.{slice_get}
-use Rattle.yq_core.specs.Keys.{are_distinct, keys_of}
-use Rattle.yq_core.specs.Paths.{Step, To, Nth, is_here, is_item, further}
-use Rattle.yq_outline.specs.Ends.{IsEndOf, has_no_lines, part}
-use Rattle.yq_outline.specs.Outline.{Line, Outline, children, key_of, label, level}
-use Rattle.yq_outline.specs.Positions as lines
-use Rattle.yq_outline.proofs.EndsLaws.{drop_at}
-use Rattle.yq_outline.proofs.PositionLaws.{position_here, position_passed, here_item}
+use Rattle.std.proofs.Common.{◌≡◌, ◌⊎◌, inl, inr, ℕ, zero, suc, ◌+◌, ◌-◌, ◌<◌, ◌≤◌, Bool, true, false, not, ◌&&◌, List, ◌∷◌, length, take}
+use Rattle.std.proofs.Common.{drop, Option, Some, option_map, refl, sym, ap, ◌∙◌, subst, arith, rules}
+use Rattle.std.{proofs.lemmas.Bool.{lt-ltb, ne_eqb}, proofs.lemmas.List.{drop-drop, drop-take, take-take, length-take-le, length-drop}}
+use Rattle.std.{proofs.lemmas.Option.{same_Some, slice_get_within}, specs.List.slice_get}
+use Rattle.yq_core.{specs.Keys.{are_distinct, keys_of}, specs.Paths.{Step, To, Nth, is_here, is_item, further}}
+use Rattle.yq_outline.{specs.Ends.{IsEndOf, has_no_lines, part}, specs.Outline.{Line, Outline, children, key_of, label, level}}
+use Rattle.yq_outline.{proofs.EndsLaws.drop_at, proofs.PositionLaws.{position_here, position_passed, here_item}, specs.Lines.lines_of_rows}
+use Rattle.yq_outline.specs.RowWalk.{line_level, level_count, deeper_rows, AreRowsDeep, HasRows, IsPosition, IsLine, IsKnownIn, IsKeyed}
+use Rattle.yq_outline.specs.RowWalk.{HaveKeys, Finds, GoesOn, found_from, line_number, rows_end}
+use Rattle.yq_outline.{specs.declared.line_position.KnownItem.KnownItem, specs.declared.line_position.Position.Position}
+use Rattle.yq_outline.{specs.declared.line_position.Stretch.Stretch, proofs.EntryKeys.{keys_behind, other_key}}
+use Rattle.yq_outline.{proofs.KnownLaws.{get_dropped, one_there}, proofs.WalkRows.under_more}
+use Rattle.yq_outline.proofs.WalkPositions.{Located, Sibling, behind_agrees, deeper_agrees, deeper_upto, get_taken, located, position_line}
+use Rattle.yq_outline.proofs.WalkPositions.{siblings}
 use Rattle.yq_row_table.specs.View.{Slices, RowsView}
-use Rattle.yq_outline.specs.Lines.{lines_of_rows}
-use Rattle.yq_outline.specs.RowWalk.{line_level, level_count, deeper_rows, AreRowsDeep, HasRows, IsPosition, IsLine, IsKnownIn, IsKeyed, HaveKeys, Finds, GoesOn, found_from, line_number, rows_end}
-use Rattle.yq_outline.specs.declared.line_position.KnownItem.{KnownItem}
-use Rattle.yq_outline.specs.declared.line_position.Position.{Position}
-use Rattle.yq_outline.specs.declared.line_position.Stretch.{Stretch}
-use Rattle.yq_outline.proofs.EntryKeys.{keys_behind, other_key}
-use Rattle.yq_outline.proofs.KnownLaws.{get_dropped, one_there}
-use Rattle.yq_outline.proofs.WalkRows.{under_more}
-use Rattle.yq_outline.proofs.WalkPositions.{Located, Sibling, behind_agrees, deeper_agrees, deeper_upto, get_taken, located, position_line, siblings}
+use Rattle.yq_outline.specs.Positions as lines
 
 module _ (s : RowsView) (d : Stretch) (h : HasRows s d) (floor row n : ℕ) (y : Slices) (within : row < d.end) (last : slice_get s.rows row ≡ Some y) (low : line_level 0 y ≤ n) (deeper : floor < n) where
   -- where a step leads

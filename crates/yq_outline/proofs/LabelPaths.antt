@@ -1,13 +1,10 @@
 -- Where steps lead in what lines stand for, with the label there.
 use Rattle.std.proofs.Common.{◌≡◌, ℕ, List, [], ◌∷◌, Option, Some, None, option_map, option_and_then, refl, sym, ◌∙◌, rules}
-use Rattle.yq_core.specs.Tree.{Node, children_of}
-use Rattle.yq_core.specs.Paths.{Step}
+use Rattle.yq_core.{specs.Tree.{Node, children_of}, specs.Paths.Step}
 use Rattle.yq_outline.specs.Labelled.{Labelled, labelled_at, labelled_from}
 use Rattle.yq_outline.specs.Outline.{LineMark, Bare, Key, Dash, Outline, end, row, anchored, head_or, outline_node, children, value}
-use Rattle.yq_outline.specs.Places.{here, FoundLine, find_row, place_inside, bare_or, in_head, find}
-use Rattle.yq_outline.proofs.Allowing.{IsEntry}
-use Rattle.yq_outline.proofs.Finding.{entry_of, row_labelled, children-collection}
-use Rattle.yq_outline.proofs.Values.{If}
+use Rattle.yq_outline.{specs.Places.{here, FoundLine, find_row, place_inside, bare_or, in_head, find}, proofs.Allowing.IsEntry}
+use Rattle.yq_outline.{proofs.Finding.{entry_of, row_labelled, children-collection}, proofs.Values.If}
 
 -- where steps lead from a node
 abbrev pub reach : Step → List Step → Node → Option Labelled

@@ -1,17 +1,15 @@
 -- How long rows and the ends of parts are, and what stands before their pieces.
-use Rattle.std.proofs.Common.{◌≡◌, ◌⊎◌, inl, inr, ℕ, zero, suc, ◌+◌, ◌-◌, ◌<◌, ◌≤◌, List, [], ◌∷◌, ◌++◌, length, map, take, replicate, Some, ap, ◌∙◌, arith, length-append, rules}
+use Rattle.std.proofs.Common.{◌≡◌, ◌⊎◌, inl, inr, ℕ, zero, suc, ◌+◌, ◌-◌, ◌<◌, ◌≤◌, List, [], ◌∷◌, ◌++◌, length, map, take, replicate, Some}
+use Rattle.std.proofs.Common.{ap, ◌∙◌, arith, length-append, rules}
 use Rattle.std.proofs.lemmas.Bool.{cases_lt, lt-ltb, le-ltb, le-leb, lt-leb, cond-true, cond-false}
 use Rattle.std.proofs.lemmas.List.{length-replicate, length-map, map-append, take-append-le}
 use Rattle.std.proofs.lemmas.List.Sums.{sum_by-cons, sum_by-append, sum_by_more_le, sum_by-le-sum_by}
-use Rattle.std.proofs.lemmas.Option.{get_or_from_slice_get, slice_get_within, slice_get-map, same_Some}
-use Rattle.std.specs.List.{slice_get, sum_by}
+use Rattle.std.{proofs.lemmas.Option.{get_or_from_slice_get, slice_get_within, slice_get-map, same_Some}, specs.List.{slice_get, sum_by}}
 use Rattle.yq_text.specs.Limit.{text_limit}
 use Rattle.yq_row_table.specs.Exchange.{row_front, before_at, before_content}
 use Rattle.yq_row_table.specs.Rows.{RowMark, Row, dashes_text, mark_text, rows_text, Part, part_text, Cut, last, marked, cut_text}
 use Rattle.yq_row_table.specs.View.{Slices, slices, last_dash, key_of_mark, colon_of, rows_of, Bound, bounds_from, RowsView, rows_view}
-use Rattle.yq_row_table.proofs.ExchangeLaws.{slice_front, slice_back}
-use Rattle.yq_row_table.proofs.SliceLaws.{print-length}
-use Rattle.yq_row_table.specs.Offsets.{row_length}
+use Rattle.yq_row_table.{proofs.ExchangeLaws.{slice_front, slice_back}, proofs.SliceLaws.print-length, specs.Offsets.row_length}
 use Rattle.yq_outline.specs.Extents.{bound_length, passed_length, row_start, front_length, view_length, head_place, IsRowsView}
 
 -- how long rows are

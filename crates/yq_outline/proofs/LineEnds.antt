@@ -1,14 +1,9 @@
 -- Where the lines under a line end, by how many of those behind it are deeper.
-use Rattle.std.proofs.Common.{◌≡◌, ℕ, zero, suc, ◌+◌, ◌<◌, ◌≤◌, ltb, List, [], ◌∷◌, ◌++◌, length, drop, Some, Bool, cond, refl, sym, ap, ◌∙◌, arith, length-drop, rules}
-use Rattle.std.proofs.lemmas.Bool.{lt-ltb, ltb-true, cond-true}
-use Rattle.std.proofs.lemmas.List.{drop-drop}
-use Rattle.std.proofs.lemmas.Option.{same_Some, slice_get_within}
-use Rattle.std.specs.List.{slice_get}
-use Rattle.yq_outline.specs.Ends.{IsEndOf, deeper_count, lines_end}
-use Rattle.yq_outline.specs.Group.{deeper_lines, shallow, group}
-use Rattle.yq_outline.specs.Outline.{Line, level, Outline, end, row, flatten}
-use Rattle.yq_outline.proofs.Decides.{flatten-group}
-use Rattle.yq_outline.proofs.EndsLaws.{has_line}
+use Rattle.std.proofs.Common.{◌≡◌, ℕ, zero, suc, ◌+◌, ◌<◌, ◌≤◌, ltb, List, [], ◌∷◌, ◌++◌, length, drop, Some, Bool, cond, refl, sym, ap}
+use Rattle.std.{proofs.Common.{◌∙◌, arith, length-drop, rules}, proofs.lemmas.Bool.{lt-ltb, ltb-true, cond-true}}
+use Rattle.std.{proofs.lemmas.List.drop-drop, proofs.lemmas.Option.{same_Some, slice_get_within}, specs.List.slice_get}
+use Rattle.yq_outline.{specs.Ends.{IsEndOf, deeper_count, lines_end}, specs.Group.{deeper_lines, shallow, group}}
+use Rattle.yq_outline.{specs.Outline.{Line, level, Outline, end, row, flatten}, proofs.Decides.flatten-group, proofs.EndsLaws.has_line}
 
 -- behind the lines that are deeper than one level and those that are deeper than a lower one
 shallow_twice : (k m : ℕ) (o : Outline) → k < m → shallow k (shallow m o) ≡ shallow k o

@@ -1,14 +1,9 @@
 -- What is asked of anchors and aliases, as a test and as a fact.
-use Rattle.std.proofs.Common.{◌≡◌, ℕ, List, [], ◌∷◌, true, Option, refl, inl, inr, ⊎_elim, bytes_eq, rules}
-use Rattle.std.proofs.Math.Bool.{or-true}
-use Rattle.std.proofs.lemmas.Bool.{and_parts, and_from, or_cases}
-use Rattle.std.proofs.lemmas.Slice.Eq.{bytes_eq-Decides}
-use Rattle.std.specs.List.{list_any}
-use Rattle.yq_core.specs.Tree.{Node}
-use Rattle.yq_core.specs.Anchors.{Name, Anchors, Refers, IsAmong, AreBound, IsNoAlias}
+use Rattle.std.{proofs.Common.{◌≡◌, ℕ, List, [], ◌∷◌, true, Option, refl, inl, inr, ⊎_elim, bytes_eq, rules}, proofs.Math.Bool.or-true}
+use Rattle.std.{proofs.lemmas.Bool.{and_parts, and_from, or_cases}, proofs.lemmas.Slice.Eq.bytes_eq-Decides, specs.List.list_any}
+use Rattle.yq_core.{specs.Tree.Node, specs.Anchors.{Name, Anchors, Refers, IsAmong, AreBound, IsNoAlias}}
 use Rattle.yq_outline.specs.LineAnchors.{MayTake, IsFree, HaveOneAnchorEach}
-use Rattle.yq_outline.specs.LinesReading.{is_no_alias, may_take, is_free, have_one_anchor_each, are_bound}
-use Rattle.yq_outline.specs.Outline.{LineMark, Line}
+use Rattle.yq_outline.{specs.LinesReading.{is_no_alias, may_take, is_free, have_one_anchor_each, are_bound}, specs.Outline.{LineMark, Line}}
 
 -- anchors
 no_alias_is : (h : Option Node) → is_no_alias h ≡ true → IsNoAlias h

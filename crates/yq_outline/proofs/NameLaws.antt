@@ -1,21 +1,14 @@
 -- The anchors and aliases of a node, as those of its lines.
-use Rattle.std.proofs.Common.{◌≡◌, ℕ, ◌+◌, List, [], ◌∷◌, ◌++◌, Option, Some, None, true, refl, sym, ap, ◌∙◌, append_assoc, append-nil, rules, ◌<◌, false, arith}
-use Rattle.yq_core.specs.Tree.{Label, Node, Children, child}
-use Rattle.yq_core.specs.Anchors.{Name, anchor_names, names_of, names_in, IsNoAlias}
-use Rattle.std.proofs.lemmas.Bool.{lt-ltb, cond-true, and_parts}
-use Rattle.std.proofs.Math.Bool.{and-false}
+use Rattle.std.proofs.Common.{◌≡◌, ℕ, ◌+◌, List, [], ◌∷◌, ◌++◌, Option, Some, None, true, refl, sym, ap, ◌∙◌, append_assoc, append-nil}
+use Rattle.std.{proofs.Common.{rules, ◌<◌, false, arith}, proofs.lemmas.Bool.{lt-ltb, cond-true, and_parts}, proofs.Math.Bool.and-false}
+use Rattle.yq_core.{specs.Tree.{Label, Node, Children, child}, specs.Anchors.{Name, anchor_names, names_of, names_in, IsNoAlias}}
 use Rattle.yq_core.specs.Inline.{depth_limit}
-use Rattle.yq_outline.specs.LineAnchors.{MayTake, IsFree, HaveOneAnchorEach}
-use Rattle.yq_outline.specs.Group.{group, level_or, is_fine, deeper_lines}
+use Rattle.yq_outline.{specs.LineAnchors.{MayTake, IsFree, HaveOneAnchorEach}, specs.Group.{group, level_or, is_fine, deeper_lines}}
 use Rattle.yq_outline.specs.Names.{head_names, line_names, IsUnnamed, MayBeNamed, HaveHeadsApart}
-use Rattle.yq_outline.specs.Outline.{LineMark, Bare, Line, Outline, end, row, flatten, IsOpen, IsWhole, IsEven, anchored, head_or, outline_node, children, value, level}
-use Rattle.yq_outline.proofs.Decides.{flatten-group, even_from}
-use Rattle.yq_outline.proofs.NodeLaws.{anchored_none}
-use Rattle.yq_outline.specs.Ends.{part}
-use Rattle.yq_outline.specs.LinesReading.{names_are_sound, lines_are_sound}
-use Rattle.yq_outline.specs.Sound.{is_sound_outline}
-use Rattle.yq_outline.proofs.NameConditions.{anchors_are}
-use Rattle.yq_outline.proofs.Values.{rank_small}
+use Rattle.yq_outline.specs.Outline.{LineMark, Bare, Line, Outline, end, row, flatten, IsOpen, IsWhole, IsEven, anchored, head_or}
+use Rattle.yq_outline.{specs.Outline.{outline_node, children, value, level}, proofs.Decides.{flatten-group, even_from}}
+use Rattle.yq_outline.{proofs.NodeLaws.anchored_none, specs.Ends.part, specs.LinesReading.{names_are_sound, lines_are_sound}}
+use Rattle.yq_outline.{specs.Sound.is_sound_outline, proofs.NameConditions.anchors_are, proofs.Values.rank_small}
 
 with-append : (a : Option (List ℕ)) (xs ys : List Name) → anchor_names a (xs ++ ys) ≡ anchor_names a xs ++ ys
 with-append a xs ys = search rules

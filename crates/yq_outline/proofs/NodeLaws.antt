@@ -1,11 +1,9 @@
 -- The nodes that lines stand for.
-use Rattle.std.proofs.Common.{◌≡◌, ℕ, ◌+◌, ◌<◌, List, Option, Some, None, ap, ◌∙◌, rules}
-use Rattle.std.specs.List.{slice_get}
+use Rattle.std.{proofs.Common.{◌≡◌, ℕ, ◌+◌, ◌<◌, List, Option, Some, None, ap, ◌∙◌, rules}, specs.List.slice_get}
 use Rattle.yq_core.specs.Tree.{Node, list, map}
-use Rattle.yq_outline.specs.Ends.{part, rest}
-use Rattle.yq_outline.specs.Group.{deeper_lines}
-use Rattle.yq_outline.specs.Outline.{Bare, Key, Dash, Line, level, Outline, row, first_anchor, anchored, head_or, outline_node, children, value}
-use Rattle.yq_outline.proofs.EndsLaws.{part_row}
+use Rattle.yq_outline.{specs.Ends.{part, rest}, specs.Group.deeper_lines}
+use Rattle.yq_outline.specs.Outline.{Bare, Key, Dash, Line, level, Outline, row, first_anchor, anchored, head_or, outline_node, children}
+use Rattle.yq_outline.{specs.Outline.value, proofs.EndsLaws.part_row}
 
 pub anchored_twice : (a b : Option (List ℕ)) (n : Node) → anchored a (anchored b n) ≡ anchored (first_anchor a b) n
 anchored_twice a b n = search rules

@@ -1,11 +1,9 @@
 -- A plain scalar on one line stands for itself, and a quoted one without escapes for what is between its quotes.
-use Rattle.std.proofs.Common.{◌≡◌, ℕ, Bool, true, false, ◌&&◌, cond, eqb, ◌⊎◌, List, [], ◌∷◌, ◌++◌, refl, sym, ap, ◌∙◌, ⊎_elim, append_assoc, append-nil, subst, ◌-◌, length, take, drop, slice_index, rules}
-use Rattle.std.proofs.lemmas.Bool.{cases_Bool, or_parts}
-use Rattle.std.specs.List.{list_any}
+use Rattle.std.proofs.Common.{◌≡◌, ℕ, Bool, true, false, ◌&&◌, cond, eqb, ◌⊎◌, List, [], ◌∷◌, ◌++◌, refl, sym, ap, ◌∙◌, ⊎_elim}
+use Rattle.std.proofs.Common.{append_assoc, append-nil, subst, ◌-◌, length, take, drop, slice_index, rules}
+use Rattle.std.{proofs.lemmas.Bool.{cases_Bool, or_parts}, specs.List.list_any}
 use Rattle.yq_core.specs.ContentReading.{within, quoted_item, item_len, item_before, content_on, plain_content, quoted_content}
-use Rattle.yq_core.specs.Plain.{holds_break}
-use Rattle.yq_core.specs.Quoted.{IsQuotedText}
-use Rattle.yq_core.specs.Text.{is_white, is_feed, is_return, front}
+use Rattle.yq_core.{specs.Plain.holds_break, specs.Quoted.IsQuotedText, specs.Text.{is_white, is_feed, is_return, front}}
 use Rattle.yq_core.specs.Scalars.{is_quoted, scalar_content}
 
 -- no break is in front of a text without an LF

@@ -1,15 +1,11 @@
 -- The line to which a path leads, and the steps that go on in its head, step by step.
-use Rattle.std.proofs.Common.{◌≡◌, ℕ, suc, ◌+◌, ◌<◌, eqb, List, [], ◌∷◌, length, Option, Some, None, option_map, option_and_then, true, false, refl, sym, ap, ◌∙◌, arith, length-append, rules}
-use Rattle.std.proofs.lemmas.Bool.{eq-eqb, eqb-true, false≢true}
-use Rattle.std.proofs.lemmas.Option.{none-some, same_Some}
-use Rattle.std.specs.List.{slice_get}
-use Rattle.std.specs.Prelude.{IfSome}
+use Rattle.std.proofs.Common.{◌≡◌, ℕ, suc, ◌+◌, ◌<◌, eqb, List, [], ◌∷◌, length, Option, Some, None, option_map, option_and_then, true}
+use Rattle.std.{proofs.Common.{false, refl, sym, ap, ◌∙◌, arith, length-append, rules}, proofs.lemmas.Bool.{eq-eqb, eqb-true, false≢true}}
+use Rattle.std.{proofs.lemmas.Option.{none-some, same_Some}, specs.List.slice_get, specs.Prelude.IfSome}
 use Rattle.yq_core.specs.Paths.{Step}
-use Rattle.yq_outline.specs.Ends.{part, line_at_steps, reached}
-use Rattle.yq_outline.specs.Outline.{Line, level, Outline, flatten}
+use Rattle.yq_outline.{specs.Ends.{part, line_at_steps, reached}, specs.Outline.{Line, level, Outline, flatten}}
 use Rattle.yq_outline.specs.Places.{Context, here, below, beside, compose, lines_before, FoundLine, find_row, place_inside, in_head, find}
-use Rattle.yq_outline.specs.Positions.{position, line_here, begins_with_node, reach_in, reach_under, reach_from}
-use Rattle.yq_outline.proofs.EndsLaws.{has_line}
+use Rattle.yq_outline.{specs.Positions.{position, line_here, begins_with_node, reach_in, reach_under, reach_from}, proofs.EndsLaws.has_line}
 use Rattle.yq_outline.proofs.NameLaws.{part-all}
 
 -- what a search found, by its index behind so many lines

@@ -1,12 +1,9 @@
 -- The law of places, from those of plugging.
 use Rattle.std.proofs.Common.{◌≡◌, ◌<◌, ◌∷◌, ◌++◌, Option, Some, sym, ap, ◌∙◌, subst, append_assoc}
 use Rattle.yq_outline.specs.Outline.{Line, level, Outline, row, flatten, IsEven}
-use Rattle.yq_outline.specs.Places.{plug, lines_before, lines_after, FoundLine, find}
-use Rattle.yq_outline.specs.Laws.{with_lines, NodeExchanged}
-use Rattle.yq_outline.proofs.Allowing.{Allows}
-use Rattle.yq_outline.proofs.Plug.{flatten-plug, plug-even, allows_from}
-use Rattle.yq_outline.proofs.Values.{If, PathChanges, path_value}
-use Rattle.yq_outline.proofs.Finding.{IsFoundIn, path_whole}
+use Rattle.yq_outline.{specs.Places.{plug, lines_before, lines_after, FoundLine, find}, specs.Laws.{with_lines, NodeExchanged}}
+use Rattle.yq_outline.{proofs.Allowing.Allows, proofs.Plug.{flatten-plug, plug-even, allows_from}}
+use Rattle.yq_outline.{proofs.Values.{If, PathChanges, path_value}, proofs.Finding.{IsFoundIn, path_whole}}
 
 pub at : {A : Type 0} (P : A → Type 0) (r : Option A) (x : A) → r ≡ Some x → If r P → P x
 at {A} P r x e h = let Q : Option A → Type 0 = λ r. If r P in subst Q e h

@@ -1,14 +1,11 @@
 -- Where a step leads among lines, one line after the other.
-use Rattle.std.proofs.Common.{◌≡◌, ℕ, suc, ◌+◌, ◌-◌, ◌<◌, eqb, List, ◌++◌, length, drop, Option, Some, None, option_map, true, false, not, ◌&&◌, sym, ap, ◌∙◌, arith, length-append, length-drop, rules}
-use Rattle.std.proofs.lemmas.Bool.{cond-true, cond-false, ne_eqb, false≢true}
-use Rattle.std.specs.List.{slice_get}
+use Rattle.std.proofs.Common.{◌≡◌, ℕ, suc, ◌+◌, ◌-◌, ◌<◌, eqb, List, ◌++◌, length, drop, Option, Some, None, option_map, true, false, not}
+use Rattle.std.proofs.Common.{◌&&◌, sym, ap, ◌∙◌, arith, length-append, length-drop, rules}
+use Rattle.std.{proofs.lemmas.Bool.{cond-true, cond-false, ne_eqb, false≢true}, specs.List.slice_get}
 use Rattle.yq_core.specs.Paths.{Step, Nth, is_here, further, is_item}
-use Rattle.yq_outline.specs.Ends.{part, has_no_lines, IsEndOf}
-use Rattle.yq_outline.specs.Group.{deeper_lines, shallow, group}
-use Rattle.yq_outline.specs.Outline.{Line, level, Outline, flatten, key_of, label}
-use Rattle.yq_outline.specs.Places.{FoundLine, next_to, find_row}
-use Rattle.yq_outline.specs.Positions.{position, line_here}
-use Rattle.yq_outline.proofs.Decides.{flatten-parts, flatten-group}
+use Rattle.yq_outline.{specs.Ends.{part, has_no_lines, IsEndOf}, specs.Group.{deeper_lines, shallow, group}}
+use Rattle.yq_outline.{specs.Outline.{Line, level, Outline, flatten, key_of, label}, specs.Places.{FoundLine, next_to, find_row}}
+use Rattle.yq_outline.{specs.Positions.{position, line_here}, proofs.Decides.{flatten-parts, flatten-group}}
 use Rattle.yq_outline.proofs.EndsLaws.{deeper_line, not_end, part_row, row_parts}
 
 -- how many lines are under a line

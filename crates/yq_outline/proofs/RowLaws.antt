@@ -1,28 +1,17 @@
 -- What a row spells, by what is written: its colon, its key and its lines.
-use Rattle.std.proofs.Common.{◌≡◌, ℕ, ℤ, suc, ◌+◌, true, false, List, [], ◌∷◌, ◌++◌, length, Option, Some, refl, ap, rules, zero, ◌<◌, ◌≤◌, None, arith, ◌-◌, eqb, Bool, cond, ◌||◌, drop, take, ◌∙◌, replicate, not}
-use Rattle.std.proofs.lemmas.Bool.{false≢true, cases_lt, or_parts, cond-false}
-use Rattle.yq_core.specs.Piece.{deeper}
-use Rattle.yq_core.specs.Plain.{begins_plain, holds_break}
-use Rattle.yq_core.specs.Quoted.{IsQuotedText}
-use Rattle.yq_core.specs.Text.{is_empty, text_lines, is_feed}
-use Rattle.yq_core.specs.Scalars.{IsScalarAt, is_quoted}
-use Rattle.yq_core.proofs.NodesPieceLaws.{front_not, scalar_some}
-use Rattle.yq_outline.specs.Comments.{head_comment}
-use Rattle.yq_row_table.specs.Grammar.{IsMark, AreDashes}
-use Rattle.yq_row_table.specs.Rows.{Content, RowMark, Bare, Dash, Key, dashes_text}
-use Rattle.yq_row_table.specs.View.{key_of_mark, Slices, last_dash, colon_of}
-use Rattle.yq_row_table.proofs.KeyLines.{key_line}
-use Rattle.std.proofs.lemmas.Option.{same_Some}
-use Rattle.std.specs.List.{slice_get, list_any}
-use Rattle.yq_outline.specs.Outline.{Line}
-use Rattle.yq_core.specs.ContentReading.{quoted_content}
-use Rattle.yq_core.specs.Nodes.{begins_with}
-use Rattle.yq_outline.proofs.OneLine.{borrowed_quoted}
-use Rattle.std.proofs.lemmas.List.Sums.{sum_by-cons}
+use Rattle.std.proofs.Common.{◌≡◌, ℕ, ℤ, suc, ◌+◌, true, false, List, [], ◌∷◌, ◌++◌, length, Option, Some, refl, ap, rules, zero, ◌<◌, ◌≤◌}
+use Rattle.std.proofs.Common.{None, arith, ◌-◌, eqb, Bool, cond, ◌||◌, drop, take, ◌∙◌, replicate, not}
+use Rattle.std.{proofs.lemmas.Bool.{false≢true, cases_lt, or_parts, cond-false}, proofs.lemmas.Option.same_Some}
+use Rattle.std.{specs.List.{slice_get, list_any}, proofs.lemmas.List.Sums.sum_by-cons}
+use Rattle.yq_core.{specs.Piece.deeper, specs.Plain.{begins_plain, holds_break}, specs.Quoted.IsQuotedText}
+use Rattle.yq_core.{specs.Text.{is_empty, text_lines, is_feed}, specs.Scalars.{IsScalarAt, is_quoted}}
+use Rattle.yq_core.{proofs.NodesPieceLaws.{front_not, scalar_some}, specs.ContentReading.quoted_content, specs.Nodes.begins_with}
+use Rattle.yq_outline.{specs.Comments.head_comment, specs.Outline.Line, proofs.OneLine.borrowed_quoted}
+use Rattle.yq_outline.{specs.Lines.{lines_from, content_anchor, tail_of}, specs.Extents.{dash_count, lines_before_mark}}
+use Rattle.yq_row_table.{specs.Grammar.{IsMark, AreDashes}, specs.Rows.{Content, RowMark, Bare, Dash, Key, dashes_text}}
+use Rattle.yq_row_table.{specs.View.{key_of_mark, Slices, last_dash, colon_of}, proofs.KeyLines.key_line}
 use Rattle.yq_row_table.specs.Rows as rows
 use Rattle.yq_outline.specs.Comments as comments
-use Rattle.yq_outline.specs.Lines.{lines_from, content_anchor, tail_of}
-use Rattle.yq_outline.specs.Extents.{dash_count, lines_before_mark}
 
 -- a colon is written, and a scalar
 pub colon_some : (white : List ℕ) → is_empty (white ++ 58 ∷ []) ≡ false

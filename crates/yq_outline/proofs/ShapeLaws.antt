@@ -1,14 +1,12 @@
 -- The node for which lines stand is a tree.
-use Rattle.std.proofs.Common.{◌≡◌, ◌≢◌, ℕ, zero, suc, ◌+◌, ◌*◌, List, [], ◌∷◌, ◌++◌, Option, Some, None, refl, sym, ap, ◌∙◌, subst, arith, rules}
-use Rattle.std.proofs.lemmas.Option.{same_Some}
-use Rattle.std.specs.List.{All}
+use Rattle.std.proofs.Common.{◌≡◌, ◌≢◌, ℕ, zero, suc, ◌+◌, ◌*◌, List, [], ◌∷◌, ◌++◌, Option, Some, None, refl, sym, ap, ◌∙◌, subst, arith}
+use Rattle.std.{proofs.Common.rules, proofs.lemmas.Option.same_Some, specs.List.All}
 use Rattle.yq_core.specs.Keys.{keys_of, AreDistinct, HasUniqueKeys, EachHasUniqueKeys}
 use Rattle.yq_core.specs.Shapes.{IsNew, AreItems, AreKeyed, AreEntries as HaveNewKeys, IsTree, AreTrees, IsShaped, AreShaped}
-use Rattle.yq_core.specs.Tree.{Node, alias, scalar, list, map, Children, none, child}
-use Rattle.yq_core.specs.Text.{with_first}
+use Rattle.yq_core.{specs.Tree.{Node, alias, scalar, list, map, Children, none, child}, specs.Text.with_first}
 use Rattle.yq_outline.specs.Outline.{LineMark, Bare, Key, Dash, rank, Line, level, anchored, key_of}
-use Rattle.yq_outline.specs.Grammar.{IsNodeOutline, alone, mapping, sequence, AreEntryLines, no_more, entry, IsUnder, headed, missing, deeper_lines}
-use Rattle.yq_outline.specs.ShapedLines.{HeadIsShaped, HeadsAreShaped}
+use Rattle.yq_outline.specs.Grammar.{IsNodeOutline, alone, mapping, sequence, AreEntryLines, no_more, entry, IsUnder, headed, missing}
+use Rattle.yq_outline.{specs.Grammar.deeper_lines, specs.ShapedLines.{HeadIsShaped, HeadsAreShaped}}
 
 -- ---- items and keys
 

@@ -1,11 +1,7 @@
 -- How many nodes there are in flow collections: fewer in a part than in the whole.
 use Rattle.std.proofs.Common.{◌≡◌, ℕ, zero, suc, ◌≤◌, ◌+◌, List, [], ◌∷◌, length, drop, sym, ap, ◌∙◌, arith, get_or, ◌<◌}
-use Rattle.std.proofs.lemmas.List.{drop_more}
-use Rattle.std.specs.Prelude.{String}
-use Rattle.std.specs.declared.alloc.Global.{Global}
-use Rattle.yq_core.specs.declared.piece.Piece.{Piece}
-use Rattle.yq_core.specs.declared.inline.Inline.{Inline}
-use Rattle.yq_core.specs.View.{inline_view, items_end, entries_end}
+use Rattle.std.{proofs.lemmas.List.drop_more, specs.Prelude.String, specs.declared.alloc.Global.Global}
+use Rattle.yq_core.{specs.declared.piece.Piece.Piece, specs.declared.inline.Inline.Inline, specs.View.{inline_view, items_end, entries_end}}
 use Rattle.yq_core.specs.Places.{Placed, placed, CoreNode, nothing, name, text, sequence, mapping, Parts, end, part}
 
 -- how many nodes there are

@@ -1,12 +1,8 @@
 -- Where lines end that are deeper than a level: behind one of them and those under it.
 use Rattle.std.proofs.Common.{◌≡◌, ℕ, suc, ◌+◌, ◌<◌, ltb, Bool, cond, List, [], ◌∷◌, length, drop, Some, refl, sym, ap, ◌∙◌, arith, rules}
-use Rattle.std.proofs.lemmas.Bool.{lt-ltb, ltb-true, cond-true}
-use Rattle.std.proofs.lemmas.List.{drop-drop}
-use Rattle.std.proofs.lemmas.Option.{slice_get_within}
+use Rattle.std.{proofs.lemmas.Bool.{lt-ltb, ltb-true, cond-true}, proofs.lemmas.List.drop-drop, proofs.lemmas.Option.slice_get_within}
 use Rattle.std.specs.List.{slice_get}
-use Rattle.yq_outline.specs.Ends.{IsEndOf, deeper_count}
-use Rattle.yq_outline.specs.Outline.{Line, level}
-use Rattle.yq_outline.proofs.LineEnds.{end_counted, end_agrees}
+use Rattle.yq_outline.{specs.Ends.{IsEndOf, deeper_count}, specs.Outline.{Line, level}, proofs.LineEnds.{end_counted, end_agrees}}
 use Rattle.yq_outline.proofs.EndsLaws.{drop_at}
 
 count_more : (n : ℕ) (l : Line) (ls : List Line) → n < level l → deeper_count n (l ∷ ls) ≡ suc (deeper_count n ls)

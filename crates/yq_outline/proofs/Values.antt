@@ -1,11 +1,11 @@
 -- What exchanging the lines in a place does to the tree.
-use Rattle.std.proofs.Common.{◌≡◌, ℕ, ◌≤◌, List, [], ◌∷◌, Option, Some, None, option_map, option_and_then, Bool, cond, refl, sym, ap, ◌∙◌, subst, arith, rules}
-use Rattle.yq_core.specs.Tree.{Node, Children, child}
-use Rattle.yq_outline.specs.Outline.{LineMark, Bare, rank, Line, level, Outline, end, row, anchored, label, outline_node, shaped, children, value}
-use Rattle.yq_core.specs.Paths.{Step, is_here, further, change_child, within, changed_at}
+use Rattle.std.proofs.Common.{◌≡◌, ℕ, ◌≤◌, List, [], ◌∷◌, Option, Some, None, option_map, option_and_then, Bool, cond, refl, sym, ap, ◌∙◌}
+use Rattle.std.proofs.Common.{subst, arith, rules}
+use Rattle.yq_core.{specs.Tree.{Node, Children, child}, specs.Paths.{Step, is_here, further, change_child, within, changed_at}}
+use Rattle.yq_outline.specs.Outline.{LineMark, Bare, rank, Line, level, Outline, end, row, anchored, label, outline_node, shaped, children}
+use Rattle.yq_outline.specs.Outline.{value}
 use Rattle.yq_outline.specs.Places.{here, plug, FoundLine, next_to, find_row, place_inside, bare_or, in_head, find, content_under}
-use Rattle.yq_outline.proofs.Allowing.{IsEntry, IsCollection}
-use Rattle.yq_outline.proofs.Plug.{plug-compose}
+use Rattle.yq_outline.{proofs.Allowing.{IsEntry, IsCollection}, proofs.Plug.plug-compose}
 
 abbrev pub If : {A : Type 0} → Option A → (A → Type 0) → Type 0
 If None P = Unit {0}

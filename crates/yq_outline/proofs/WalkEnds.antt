@@ -1,22 +1,14 @@
 -- Where the lines under a line end, row by row.
-use Rattle.std.proofs.Common.{◌≡◌, ◌⊎◌, inl, inr, ℕ, zero, suc, ◌+◌, ◌-◌, ◌*◌, ◌<◌, ◌≤◌, List, [], ◌∷◌, ◌++◌, length, map, take, drop, Some, refl, sym, ap, ◌∙◌, subst, arith, append_assoc, length-append, rules}
-use Rattle.std.proofs.Math.Seq.{drop-append-add}
-use Rattle.std.proofs.lemmas.Bool.{cases_lt, lt-ltb, le-ltb, cond-true, cond-false}
-use Rattle.std.proofs.lemmas.Option.{same_Some}
-use Rattle.std.specs.List.{slice_get}
+use Rattle.std.proofs.Common.{◌≡◌, ◌⊎◌, inl, inr, ℕ, zero, suc, ◌+◌, ◌-◌, ◌*◌, ◌<◌, ◌≤◌, List, [], ◌∷◌, ◌++◌, length, map, take, drop, Some}
+use Rattle.std.{proofs.Common.{refl, sym, ap, ◌∙◌, subst, arith, append_assoc, length-append, rules}, proofs.Math.Seq.drop-append-add}
+use Rattle.std.{proofs.lemmas.Bool.{cases_lt, lt-ltb, le-ltb, cond-true, cond-false}, proofs.lemmas.Option.same_Some, specs.List.slice_get}
+use Rattle.yq_outline.{specs.Ends.{IsEndOf, deeper_count}, specs.Outline.{Line, level}, proofs.LineEnds.end_counted}
+use Rattle.yq_outline.{proofs.EndsLaws.drop_at, proofs.Values.rank_small}
+use Rattle.yq_outline.{specs.Lines.{line_mark, mark_line, dash_line, lines_from, row_lines, lines_of_rows}, proofs.RowLaws.lines_count}
+use Rattle.yq_outline.{specs.RowWalk.{line_level, deeper_rows, lines_stop}, proofs.WalkLevels.{RowAgrees, RowsAgree, line_in, level_is}}
+use Rattle.yq_row_table.{specs.Rows.{Content, Row}, specs.View.slices}
 use Rattle.yq_outline.specs.Comments as comments
-use Rattle.yq_outline.specs.Ends.{IsEndOf, deeper_count}
-use Rattle.yq_outline.specs.Outline.{Line, level}
-use Rattle.yq_outline.proofs.LineEnds.{end_counted}
-use Rattle.yq_outline.proofs.EndsLaws.{drop_at}
-use Rattle.yq_outline.proofs.Values.{rank_small}
 use Rattle.yq_row_table.specs.Rows as rows
-use Rattle.yq_row_table.specs.Rows.{Content, Row}
-use Rattle.yq_row_table.specs.View.{slices}
-use Rattle.yq_outline.specs.Lines.{line_mark, mark_line, dash_line, lines_from, row_lines, lines_of_rows}
-use Rattle.yq_outline.proofs.RowLaws.{lines_count}
-use Rattle.yq_outline.specs.RowWalk.{line_level, deeper_rows, lines_stop}
-use Rattle.yq_outline.proofs.WalkLevels.{RowAgrees, RowsAgree, line_in, level_is}
 
 -- one more line that is deeper, or none
 count_more : (n : ℕ) (l : Line) (ls : List Line) → n < level l → deeper_count n (l ∷ ls) ≡ suc (deeper_count n ls)

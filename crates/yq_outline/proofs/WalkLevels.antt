@@ -1,25 +1,17 @@
 -- How deep the lines of rows are, by the pieces of rows.
-use Rattle.std.proofs.Common.{◌≡◌, ◌⊎◌, ℕ, zero, suc, ◌+◌, ◌%◌, ◌<◌, ◌≤◌, ltb, true, false, cond, List, [], ◌∷◌, length, take, replicate, Some, None, refl, arith, length-append, rules, ◌-◌, inl, inr, ◌++◌, ap, ◌&&◌}
+use Rattle.std.proofs.Common.{◌≡◌, ◌⊎◌, ℕ, zero, suc, ◌+◌, ◌%◌, ◌<◌, ◌≤◌, ltb, true, false, cond, List, [], ◌∷◌, length, take, replicate}
+use Rattle.std.proofs.Common.{Some, None, refl, arith, length-append, rules, ◌-◌, inl, inr, ◌++◌, ap, ◌&&◌}
 use Rattle.std.proofs.lemmas.Bool.{cases_lt, lt-ltb, le-ltb, cond-true, cond-false, ne_eqb}
-use Rattle.std.proofs.lemmas.List.{length-replicate, take_all}
-use Rattle.std.specs.List.{slice_get}
-use Rattle.std.specs.Prelude.{is_none}
-use Rattle.yq_core.specs.Scalars.{is_quoted}
-use Rattle.yq_core.specs.Paths.{is_item}
-use Rattle.yq_core.specs.Plain.{holds_break}
-use Rattle.yq_core.specs.Quoted.{IsQuotedText}
-use Rattle.yq_core.specs.Text.{is_empty}
-use Rattle.yq_outline.specs.Outline.{Dash, Line, key_of, level, rank}
-use Rattle.yq_row_table.specs.Rows.{Content, Row, dashes_text, RowMark}
-use Rattle.yq_row_table.specs.View.{Slices, slices, last_dash, colon_of, content_cut}
+use Rattle.std.{proofs.lemmas.List.{length-replicate, take_all}, specs.List.slice_get, specs.Prelude.is_none}
+use Rattle.yq_core.{specs.Scalars.is_quoted, specs.Paths.is_item, specs.Plain.holds_break, specs.Quoted.IsQuotedText, specs.Text.is_empty}
 use Rattle.yq_core.specs.Anchors.{anchor_names}
-use Rattle.yq_outline.specs.LinesReading.{is_free, have_one_anchor_each}
+use Rattle.yq_outline.{specs.Outline.{Dash, Line, key_of, level, rank}, specs.LinesReading.{is_free, have_one_anchor_each}}
 use Rattle.yq_outline.specs.Names.{head_names, line_names}
+use Rattle.yq_outline.specs.Lines.{head_of, line_mark, mark_line, dash_line, lines_from, content_anchor, row_lines}
+use Rattle.yq_outline.{specs.Extents.{dash_at, lines_before_mark}, specs.RowWalk.{line_rank, line_level}}
+use Rattle.yq_row_table.{specs.Rows.{Content, Row, dashes_text, RowMark}, specs.View.{Slices, slices, last_dash, colon_of, content_cut}}
 use Rattle.yq_row_table.specs.Rows as rows
 use Rattle.yq_outline.specs.Comments as comments
-use Rattle.yq_outline.specs.Lines.{head_of, line_mark, mark_line, dash_line, lines_from, content_anchor, row_lines}
-use Rattle.yq_outline.specs.Extents.{dash_at, lines_before_mark}
-use Rattle.yq_outline.specs.RowWalk.{line_rank, line_level}
 
 -- ---- how far it is to the dashes of a row
 

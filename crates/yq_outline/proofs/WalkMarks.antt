@@ -1,28 +1,16 @@
 -- What lines of a document begin with, and whether they have a head, by their rows.
-use Rattle.std.proofs.Common.{◌≡◌, ◌⊎◌, ℕ, ◌<◌, ◌≤◌, eqb, Bool, true, false, not, ◌&&◌, List, length, Option, Some, None, sym, ap, ◌∙◌, subst, rules}
-use Rattle.std.proofs.lemmas.Bool.{cases_lt, eq-eqb, ne_eqb}
-use Rattle.std.proofs.lemmas.Option.{same_Some}
-use Rattle.std.specs.List.{slice_get}
-use Rattle.std.specs.Prelude.{is_none, is_some}
-use Rattle.std.specs.Str.{bytes_eq}
-use Rattle.yq_core.specs.Scalars.{scalar_content, is_quoted}
-use Rattle.yq_outline.specs.Outline.{LineMark, Line, key_of, rank}
-use Rattle.yq_outline.specs.Positions.{has_no_mark}
-use Rattle.yq_core.specs.Paths.{is_item, key_is}
-use Rattle.yq_core.specs.Plain.{holds_break}
-use Rattle.yq_core.specs.Quoted.{IsQuotedText}
-use Rattle.yq_core.specs.Text.{is_empty}
-use Rattle.yq_core.specs.Tree.{Node}
+use Rattle.std.proofs.Common.{◌≡◌, ◌⊎◌, ℕ, ◌<◌, ◌≤◌, eqb, Bool, true, false, not, ◌&&◌, List, length, Option, Some, None, sym, ap, ◌∙◌}
+use Rattle.std.{proofs.Common.{subst, rules}, proofs.lemmas.Bool.{cases_lt, eq-eqb, ne_eqb}, proofs.lemmas.Option.same_Some}
+use Rattle.std.{specs.List.slice_get, specs.Prelude.{is_none, is_some}, specs.Str.bytes_eq}
+use Rattle.yq_core.{specs.Scalars.{scalar_content, is_quoted}, specs.Paths.{is_item, key_is}, specs.Plain.holds_break}
+use Rattle.yq_core.{specs.Quoted.IsQuotedText, specs.Text.is_empty, specs.Tree.Node}
+use Rattle.yq_outline.{specs.Outline.{LineMark, Line, key_of, rank}, specs.Positions.has_no_mark, specs.Lines.{line_mark, lines_of_rows}}
+use Rattle.yq_outline.{specs.Extents.lines_before_mark, specs.RowWalk.{line_rank, HasRows, IsLine, line_number}}
+use Rattle.yq_outline.{specs.declared.line_position.Position.Position, specs.declared.line_position.Stretch.Stretch}
+use Rattle.yq_outline.{proofs.WalkLevels.rank_is, proofs.WalkPositions.{Located, located}}
+use Rattle.yq_row_table.specs.View.{Slices, slices, RowsView}
 use Rattle.yq_row_table.specs.Rows as rows
 use Rattle.yq_row_table.specs.View as views
-use Rattle.yq_row_table.specs.View.{Slices, slices, RowsView}
-use Rattle.yq_outline.specs.Lines.{line_mark, lines_of_rows}
-use Rattle.yq_outline.specs.Extents.{lines_before_mark}
-use Rattle.yq_outline.specs.RowWalk.{line_rank, HasRows, IsLine, line_number}
-use Rattle.yq_outline.specs.declared.line_position.Position.{Position}
-use Rattle.yq_outline.specs.declared.line_position.Stretch.{Stretch}
-use Rattle.yq_outline.proofs.WalkLevels.{rank_is}
-use Rattle.yq_outline.proofs.WalkPositions.{Located, located}
 
 -- what is told of a line's mark, by its rank
 bare_ranked : (m : LineMark) → has_no_mark m ≡ eqb (rank m) 1

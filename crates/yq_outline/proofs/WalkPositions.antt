@@ -1,27 +1,19 @@
 -- Lines of a document by their rows and by their numbers.
-use Rattle.std.proofs.Common.{◌≡◌, ℕ, zero, suc, ◌+◌, ◌-◌, ◌<◌, ◌≤◌, ltb, true, false, not, List, [], ◌∷◌, length, map, take, drop, Option, Some, refl, sym, ap, ◌∙◌, subst, arith, rules, None, option_and_then, ◌⊎◌, inl, cond}
+use Rattle.std.proofs.Common.{◌≡◌, ℕ, zero, suc, ◌+◌, ◌-◌, ◌<◌, ◌≤◌, ltb, true, false, not, List, [], ◌∷◌, length, map, take, drop, Option}
+use Rattle.std.proofs.Common.{Some, refl, sym, ap, ◌∙◌, subst, arith, rules, None, option_and_then, ◌⊎◌, inl, cond}
 use Rattle.std.proofs.lemmas.Bool.{false≢true, cases_lt, cond-true, cond-false, lt-ltb, le-ltb, eq-eqb, ne_eqb}
-use Rattle.std.proofs.lemmas.List.{take_all}
-use Rattle.std.proofs.lemmas.Option.{same_Some}
-use Rattle.std.specs.List.{slice_get}
-use Rattle.std.specs.Prelude.{is_some}
-use Rattle.yq_outline.specs.Ends.{IsEndOf, has_no_lines, part, line_at_steps, reached}
-use Rattle.yq_outline.specs.Outline.{Line, level}
-use Rattle.yq_outline.specs.Positions.{if_head}
-use Rattle.yq_core.specs.Paths.{Step}
-use Rattle.yq_core.specs.Tree.{Node}
-use Rattle.yq_outline.proofs.EndsLaws.{deeper_at}
-use Rattle.yq_row_table.specs.Rows.{Row}
-use Rattle.yq_row_table.specs.View.{Slices, slices, RowsView}
-use Rattle.yq_outline.specs.Comments as comments
-use Rattle.yq_outline.specs.Lines.{row_lines, lines_of_rows}
+use Rattle.std.{proofs.lemmas.List.take_all, proofs.lemmas.Option.same_Some, specs.List.slice_get, specs.Prelude.is_some}
+use Rattle.yq_outline.{specs.Ends.{IsEndOf, has_no_lines, part, line_at_steps, reached}, specs.Outline.{Line, level}}
+use Rattle.yq_outline.{specs.Positions.if_head, proofs.EndsLaws.deeper_at, specs.Lines.{row_lines, lines_of_rows}}
 use Rattle.yq_outline.specs.Extents.{lines_before_mark}
-use Rattle.yq_outline.specs.RowWalk.{line_level, deeper_rows, HasRows, IsPosition, IsLine, line_number, lines_stop, level_count, AreRowsDeep}
-use Rattle.yq_outline.specs.declared.line_position.Position.{Position}
-use Rattle.yq_outline.specs.declared.line_position.Stretch.{Stretch}
-use Rattle.yq_outline.proofs.WalkEnds.{line_of_row, lines_upto, ends_at, stops_at}
+use Rattle.yq_outline.specs.RowWalk.{line_level, deeper_rows, HasRows, IsPosition, IsLine, line_number, lines_stop, level_count}
+use Rattle.yq_outline.{specs.RowWalk.AreRowsDeep, specs.declared.line_position.Position.Position}
+use Rattle.yq_outline.{specs.declared.line_position.Stretch.Stretch, proofs.WalkEnds.{line_of_row, lines_upto, ends_at, stops_at}}
 use Rattle.yq_outline.proofs.WalkLevels.{RowAgrees, RowsAgree, IsLineOf, line_in, level_is}
 use Rattle.yq_outline.proofs.WalkRows.{rows_behind, rows_length, row_of, rows_agree}
+use Rattle.yq_core.{specs.Paths.Step, specs.Tree.Node}
+use Rattle.yq_row_table.{specs.Rows.Row, specs.View.{Slices, slices, RowsView}}
+use Rattle.yq_outline.specs.Comments as comments
 
 row_agrees_at : (rs : List Row) (i : ℕ) (r : Row) → RowsAgree rs → slice_get rs i ≡ Some r → RowAgrees r
 row_agrees_at [] i r t e = absurd (cc)

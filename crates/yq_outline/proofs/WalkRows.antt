@@ -1,27 +1,16 @@
 -- The rows of a document among those of a text, and that their pieces tell their lines.
-use Rattle.std.proofs.Common.{◌≡◌, ℕ, ℤ, zero, suc, ◌+◌, ◌-◌, ◌<◌, ◌≤◌, false, List, [], ◌∷◌, ◌++◌, length, map, take, drop, Some, refl, sym, ◌∙◌, arith, append-nil, rules}
-use Rattle.std.proofs.lemmas.Bool.{false≢true, lt-ltb, le-ltb, cond-true, cond-false}
-use Rattle.std.proofs.lemmas.List.{drop-drop, drop-map, drop-take, length-map, length-take-le, length-drop}
-use Rattle.std.specs.List.{slice_get}
+use Rattle.std.proofs.Common.{◌≡◌, ℕ, ℤ, zero, suc, ◌+◌, ◌-◌, ◌<◌, ◌≤◌, false, List, [], ◌∷◌, ◌++◌, length, map, take, drop, Some, refl}
+use Rattle.std.{proofs.Common.{sym, ◌∙◌, arith, append-nil, rules}, proofs.lemmas.Bool.{false≢true, lt-ltb, le-ltb, cond-true, cond-false}}
+use Rattle.std.{proofs.lemmas.List.{drop-drop, drop-map, drop-take, length-map, length-take-le, length-drop}, specs.List.slice_get}
 use Rattle.std.specs.Prelude.{is_none}
-use Rattle.yq_core.specs.Piece.{deeper}
-use Rattle.yq_core.specs.Paths.{is_item}
-use Rattle.yq_core.specs.Text.{is_empty}
-use Rattle.yq_core.specs.Inline.{depth_limit}
-use Rattle.yq_core.specs.Nodes.{FlowNode, node_text, IsFlowNode}
-use Rattle.yq_core.specs.Trees.{node_head}
-use Rattle.yq_core.proofs.NodeAgain.{is_anchored, takes_unanchored}
-use Rattle.yq_outline.specs.Outline.{key_of}
-use Rattle.yq_outline.proofs.EndsLaws.{drop_at}
+use Rattle.yq_core.{specs.Piece.deeper, specs.Paths.is_item, specs.Text.is_empty, specs.Inline.depth_limit}
+use Rattle.yq_core.{specs.Nodes.{FlowNode, node_text, IsFlowNode}, specs.Trees.node_head, proofs.NodeAgain.{is_anchored, takes_unanchored}}
+use Rattle.yq_outline.{specs.Outline.key_of, proofs.EndsLaws.drop_at, specs.Lines.{head_of, line_mark}}
+use Rattle.yq_outline.{specs.RowWalk.{line_level, deeper_rows, HasRows}, specs.declared.line_position.Stretch.Stretch}
+use Rattle.yq_outline.{proofs.RowLaws.{before_mark, colon_some, mark_line, mark_quoted, scalar_written}, proofs.WalkLevels.RowsAgree}
 use Rattle.yq_row_table.specs.Grammar.{IsContent, IsMark, Limit, limit_after, AreRows}
+use Rattle.yq_row_table.{specs.Rows.{Content, Row, parent_indent, rows_text}, specs.View.{Slices, slices, RowsView, colon_of, content_cut}}
 use Rattle.yq_row_table.specs.Rows as rows
-use Rattle.yq_row_table.specs.Rows.{Content, Row, parent_indent, rows_text}
-use Rattle.yq_row_table.specs.View.{Slices, slices, RowsView, colon_of, content_cut}
-use Rattle.yq_outline.specs.Lines.{head_of, line_mark}
-use Rattle.yq_outline.specs.RowWalk.{line_level, deeper_rows, HasRows}
-use Rattle.yq_outline.specs.declared.line_position.Stretch.{Stretch}
-use Rattle.yq_outline.proofs.RowLaws.{before_mark, colon_some, mark_line, mark_quoted, scalar_written}
-use Rattle.yq_outline.proofs.WalkLevels.{RowsAgree}
 
 -- row by row, up to one that doesn't begin deeper
 pub under_more : (ss : List Slices) (n at end : ℕ) (x : Slices) → slice_get ss at ≡ Some x → at < end → n < line_level 0 x →

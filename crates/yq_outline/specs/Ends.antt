@@ -1,8 +1,8 @@
 -- Reading (own; a reader may skip it: the grammar is what is believed, and the clauses `found` and `only` tie the two): lines by their indexes, where those under each end, and where steps lead.
-use Rattle.std.specs.Prelude.{◌≡◌, ℕ, zero, suc, ◌+◌, ◌<◌, ◌≤◌, nat_lt, List, [], ◌∷◌, drop, length, slice_get, Option, Some, None, option_map, option_and_then, Bool, true, false, if◌then◌else◌}
+use Rattle.std.specs.Prelude.{◌≡◌, ℕ, zero, suc, ◌+◌, ◌<◌, ◌≤◌, nat_lt, List, [], ◌∷◌, drop, length, slice_get, Option, Some, None}
+use Rattle.std.specs.Prelude.{option_map, option_and_then, Bool, true, false, if◌then◌else◌}
 use Rattle.yq_core.specs.Paths.{Step}
-use Rattle.yq_outline.specs.Outline.{Line, level, Outline, end, row}
-use Rattle.yq_outline.specs.Group.{deeper_lines, shallow, group}
+use Rattle.yq_outline.{specs.Outline.{Line, level, Outline, end, row}, specs.Group.{deeper_lines, shallow, group}}
 use Rattle.yq_outline.specs.Places.{lines_before, FoundLine, find}
 
 -- from a line on, the first lines that are deeper than a level, as an outline

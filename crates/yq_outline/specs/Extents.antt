@@ -1,13 +1,10 @@
 -- Reading (own; a reader may skip it): where what a row spells stands in its text, by the pieces of rows.
-use Rattle.std.specs.List.{sum_by, count_by}
-use Rattle.std.specs.Prelude.{ℕ, suc, ◌+◌, ◌-◌, ◌≤◌, ◌≡◌, ◌==◌, List, [], ◌∷◌, ◌++◌, length, if◌then◌else◌}
-use Rattle.yq_row_table.specs.Exchange.{before_content}
-use Rattle.yq_row_table.specs.Offsets.{row_length}
-use Rattle.yq_row_table.specs.Rows.{Row, Cut, cut_text}
-pub use Rattle.yq_row_table.specs.RowStarts.{bound_length, passed_length, row_start}
+use Rattle.std.{specs.List.{sum_by, count_by}, specs.Prelude.{ℕ, suc, ◌+◌, ◌-◌, ◌≤◌, ◌≡◌, ◌==◌, List, [], ◌∷◌, ◌++◌, length, if◌then◌else◌}}
+use Rattle.yq_row_table.{specs.Exchange.before_content, specs.Offsets.row_length, specs.Rows.{Row, Cut, cut_text}}
 use Rattle.yq_row_table.specs.View.{Slices, slices, RowsView, rows_view}
 use Rattle.yq_text.specs.Limit.{text_limit}
 use Rattle.yq_core.specs.Text.{is_empty}
+pub use Rattle.yq_row_table.specs.RowStarts.{bound_length, passed_length, row_start}
 
 -- The place of a row's head: behind the text before the row's content, white space, an anchor and the white space behind that.
 abbrev pub head_place : ℕ → Cut → Row → ℕ × ℕ

@@ -1,7 +1,6 @@
 -- Where steps lead in a tree: the item or entry there, which is a node with its label.
 use Rattle.std.specs.Prelude.{List, [], ◌∷◌, Option, Some, None, option_and_then, if◌then◌else◌}
-use Rattle.yq_core.specs.Paths.{Step, is_here, further}
-use Rattle.yq_core.specs.Tree.{Label, Node, Children, none, child, children_of}
+use Rattle.yq_core.{specs.Paths.{Step, is_here, further}, specs.Tree.{Label, Node, Children, none, child, children_of}}
 
 -- an item or entry, or a root: what is told of it, and its node (own)
 abbrev pub Labelled : Type 0

@@ -1,8 +1,7 @@
 -- The law of places (own): what an exchange of lines does to the tree.
 use Rattle.std.specs.Prelude.{◌≡◌, ℕ, ◌<◌, List, ◌∷◌, ◌++◌, Some}
-use Rattle.yq_core.specs.Tree.{Node}
+use Rattle.yq_core.{specs.Tree.Node, specs.Paths.{Step, changed_at}}
 use Rattle.yq_outline.specs.Outline.{Line, level, Outline, flatten, IsOpen, IsWhole, IsEven, label, value, Stands}
-use Rattle.yq_core.specs.Paths.{Step, changed_at}
 use Rattle.yq_outline.specs.Places.{lines_before, lines_after, FoundLine, find, content_under}
 
 -- the lines of an outline with these in the place of the line at a path and of those under it

@@ -1,7 +1,6 @@
 -- Anchors before lines (YAML 1.2.2, sections 3.2.2.2, 6.9.2 and 7.1).
 use Rattle.std.specs.Prelude.{ℕ, List, [], ◌∷◌, Option, Some, None, ⊤}
-use Rattle.yq_core.specs.Anchors.{IsNoAlias}
-use Rattle.yq_core.specs.Tree.{Node}
+use Rattle.yq_core.{specs.Anchors.IsNoAlias, specs.Tree.Node}
 use Rattle.yq_outline.specs.Outline.{LineMark, Bare, Key, Dash, Line}
 
 -- the node that begins with a line may take an anchor: one that is alone on its line has none and is no alias (6.9.2, 7.1)

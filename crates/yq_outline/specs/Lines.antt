@@ -1,14 +1,12 @@
 -- The lines of block nodes that rows are.
 use Rattle.std.specs.Prelude.{ℕ, suc, ◌+◌, List, [], ◌∷◌, ◌++◌, Option, Some, None}
-use Rattle.yq_core.specs.declared.kind.Kind.TheVariants.{Text}
-use Rattle.yq_core.specs.BlockContent.{block_content}
-use Rattle.yq_core.specs.Tree as tree
-use Rattle.yq_core.specs.Scalars.{scalar_content}
+use Rattle.yq_core.{specs.declared.kind.Kind.TheVariants.Text, specs.BlockContent.block_content, specs.Scalars.scalar_content}
 use Rattle.yq_core.specs.Trees.{node_anchor, node_head}
-use Rattle.yq_outline.specs.Comments as comments
-use Rattle.yq_row_table.specs.Rows as rows
 use Rattle.yq_row_table.specs.Rows.{Content, Nothing, Inline, Block, Row}
 use Rattle.yq_outline.specs.Outline.{LineMark, Bare, Key, Dash, Line}
+use Rattle.yq_core.specs.Tree as tree
+use Rattle.yq_outline.specs.Comments as comments
+use Rattle.yq_row_table.specs.Rows as rows
 
 -- the name of the anchor before a block scalar, if there is one (YAML 1.2.2, section 6.9.2)
 abbrev pub block_anchor : Option rows.Anchor → Option (List ℕ)

@@ -1,15 +1,9 @@
 -- Reading (own; a reader may skip it: the grammar is what is believed, and the clauses `found` and `only` tie the two): what is asked of all lines of a document.
-use Rattle.std.specs.Prelude.{ℕ, List, [], ◌∷◌, Bool, true, false, ◌&&◌, Option, Some, None}
-use Rattle.std.specs.List.{list_any}
-use Rattle.std.specs.Str.{bytes_eq}
-use Rattle.yq_core.specs.Tree as tree
-use Rattle.yq_core.specs.Tree.{Node, alias, scalar, list}
-use Rattle.yq_core.specs.Inline.{depth_limit}
-use Rattle.yq_core.specs.Anchors.{Name, Anchors, Refers, names_of}
-use Rattle.yq_outline.specs.Group.{group}
-use Rattle.yq_outline.specs.Names.{line_names}
-use Rattle.yq_outline.specs.Outline.{LineMark, Bare, Key, Dash, Line, value}
+use Rattle.std.{specs.Prelude.{ℕ, List, [], ◌∷◌, Bool, true, false, ◌&&◌, Option, Some, None}, specs.List.list_any, specs.Str.bytes_eq}
+use Rattle.yq_core.{specs.Tree.{Node, alias, scalar, list}, specs.Inline.depth_limit, specs.Anchors.{Name, Anchors, Refers, names_of}}
+use Rattle.yq_outline.{specs.Group.group, specs.Names.line_names, specs.Outline.{LineMark, Bare, Key, Dash, Line, value}}
 use Rattle.yq_outline.specs.Sound.{is_sound_outline}
+use Rattle.yq_core.specs.Tree as tree
 
 -- whether a node, if there is one, is no alias
 abbrev pub is_no_alias : Option Node → Bool

@@ -1,9 +1,8 @@
 -- Reading (own; a reader may skip it: the grammar is what is believed, and the clauses `found` and `only` tie the two): the anchors and aliases of lines.
 use Rattle.std.specs.Prelude.{ℕ, Bool, true, false, List, [], ◌∷◌, ◌++◌, Option, Some, None, ⊤}
-use Rattle.yq_core.specs.Tree as tree
-use Rattle.yq_core.specs.Tree.{Node, alias, scalar, list}
-use Rattle.yq_core.specs.Anchors.{Name, Anchors, Refers, anchor_names, names_of, IsNoAlias}
+use Rattle.yq_core.{specs.Tree.{Node, alias, scalar, list}, specs.Anchors.{Name, Anchors, Refers, anchor_names, names_of, IsNoAlias}}
 use Rattle.yq_outline.specs.Outline.{Line}
+use Rattle.yq_core.specs.Tree as tree
 
 -- whether a name is that of an alias (7.1)
 abbrev pub is_reference : Name → Bool

@@ -1,7 +1,6 @@
 -- Block nodes by the indentation of their lines (YAML 1.2.2, 8.2).
 use Rattle.std.specs.Prelude.{◌≡◌, ℕ, ◌+◌, ◌*◌, ◌<◌, List, [], ◌∷◌, ◌++◌, Option, Some, None, ⊤, codes}
-use Rattle.yq_core.specs.declared.kind.Kind.TheVariants.{Null}
-use Rattle.yq_core.specs.Tree.{Label, Node, alias, scalar, list, map, Children, none, child}
+use Rattle.yq_core.{specs.declared.kind.Kind.TheVariants.Null, specs.Tree.{Label, Node, alias, scalar, list, map, Children, none, child}}
 
 -- what a line begins with: a key (8.2.2), a dash (8.2.1), or the node itself (8.2.3)
 pub data LineMark : Type 0 where

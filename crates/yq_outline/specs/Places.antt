@@ -1,8 +1,7 @@
 -- Places in an outline, where lines can be exchanged (own).
 use Rattle.std.specs.Prelude.{List, [], ◌∷◌, ◌++◌, Option, Some, None, option_map, option_and_then, if◌then◌else◌}
-use Rattle.yq_core.specs.Tree.{Node}
+use Rattle.yq_core.{specs.Tree.Node, specs.Paths.{Step, is_here, further}}
 use Rattle.yq_outline.specs.Outline.{LineMark, Bare, Key, Dash, Line, Outline, end, row, flatten, anchored, head_or, label, value}
-use Rattle.yq_core.specs.Paths.{Step, is_here, further}
 
 -- an outline with a hole: here, in what is under a line, or in what is after one
 pub data Context : Type 0 where

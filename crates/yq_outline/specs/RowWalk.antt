@@ -1,27 +1,16 @@
 -- Reading (own; a reader may skip it): where steps lead in a document, row by row, by the pieces of rows, as the code goes.
-use Rattle.std.specs.Prelude.{◌≡◌, ℕ, suc, true, ◌+◌, ◌-◌, ◌*◌, ◌==◌, ◌<◌, ◌≤◌, nat_lt, IfSome, List, [], ◌∷◌, length, map, take, drop, slice_get, Option, Some, option_and_then, option_map, if◌then◌else◌}
+use Rattle.std.specs.Prelude.{◌≡◌, ℕ, suc, true, ◌+◌, ◌-◌, ◌*◌, ◌==◌, ◌<◌, ◌≤◌, nat_lt, IfSome, List, [], ◌∷◌, length, map, take, drop}
+use Rattle.std.specs.Prelude.{slice_get, Option, Some, option_and_then, option_map, if◌then◌else◌}
 use denote.Bor.{Bor}
-use Rattle.yq_core.specs.declared.path.Step as declared
-use Rattle.yq_core.specs.Entries.{tree_step}
-use Rattle.yq_core.specs.Inline.{depth_limit}
-use Rattle.yq_core.specs.Keys.{are_distinct, keys_of}
-use Rattle.yq_core.specs.Paths.{Step, Nth, key_is}
+use Rattle.yq_core.{specs.Entries.tree_step, specs.Inline.depth_limit, specs.Keys.{are_distinct, keys_of}, specs.Paths.{Step, Nth, key_is}}
 use Rattle.yq_core.specs.Text.{is_empty}
-use Rattle.yq_outline.specs.Ends.{deeper_count, part}
-use Rattle.yq_outline.specs.Group.{group}
-use Rattle.yq_outline.specs.Outline.{Line, Outline, children, key_of}
-use Rattle.yq_outline.specs.Places.{find_row}
-use Rattle.yq_outline.specs.Sound.{is_sound_outline}
-use Rattle.yq_outline.specs.Positions.{reach_from, line_here, position}
-use Rattle.yq_row_table.specs.Grammar.{Limit, AreRows}
-use Rattle.yq_row_table.specs.Rows.{Row}
-use Rattle.yq_row_table.specs.View.{Slices, slices, RowsView}
-use Rattle.yq_outline.specs.Lines.{lines_of_rows}
-use Rattle.yq_outline.specs.Extents.{dash_at, lines_before_mark}
-use Rattle.yq_outline.specs.declared.line_position.KnownItem.{KnownItem}
-use Rattle.yq_outline.specs.declared.line_position.KnownItems.{KnownItems}
-use Rattle.yq_outline.specs.declared.line_position.Position.{Position}
-use Rattle.yq_outline.specs.declared.line_position.Stretch.{Stretch}
+use Rattle.yq_outline.{specs.Ends.{deeper_count, part}, specs.Group.group, specs.Outline.{Line, Outline, children, key_of}}
+use Rattle.yq_outline.{specs.Places.find_row, specs.Sound.is_sound_outline, specs.Positions.{reach_from, line_here, position}}
+use Rattle.yq_outline.{specs.Lines.lines_of_rows, specs.Extents.{dash_at, lines_before_mark}}
+use Rattle.yq_outline.{specs.declared.line_position.KnownItem.KnownItem, specs.declared.line_position.KnownItems.KnownItems}
+use Rattle.yq_outline.{specs.declared.line_position.Position.Position, specs.declared.line_position.Stretch.Stretch}
+use Rattle.yq_row_table.{specs.Grammar.{Limit, AreRows}, specs.Rows.Row, specs.View.{Slices, slices, RowsView}}
+use Rattle.yq_core.specs.declared.path.Step as declared
 use Rattle.yq_outline.specs.declared.line_position.Next as nexts
 
 -- the rank of line k of a row: that of a dash, of a key, or of a node itself (8.2.3)

@@ -1,10 +1,7 @@
 -- The laws of shape: the node for which lines stand is a tree, where what is written on them is (YAML 1.2.2, section 3.2.1).
 use Rattle.std.specs.Prelude.{ℕ, List, [], ◌∷◌, Option, Some, None, ⊤}
-use Rattle.yq_core.specs.Keys.{HasUniqueKeys}
-use Rattle.yq_core.specs.Shapes.{IsShaped, IsTree}
-use Rattle.yq_core.specs.Tree.{Node}
-use Rattle.yq_outline.specs.Grammar.{IsNodeOutline}
-use Rattle.yq_outline.specs.Outline.{Line}
+use Rattle.yq_core.{specs.Keys.HasUniqueKeys, specs.Shapes.{IsShaped, IsTree}, specs.Tree.Node}
+use Rattle.yq_outline.{specs.Grammar.IsNodeOutline, specs.Outline.Line}
 
 -- what a head spells, if there is one, has items and keys where they belong (own)
 abbrev pub HeadIsShaped : Option Node → Type 0

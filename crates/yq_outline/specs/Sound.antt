@@ -1,9 +1,7 @@
 -- Reading (own; a reader may skip it: the grammar is what is believed, and the clauses `found` and `only` tie the two): what is asked of a document's lines.
 use Rattle.std.specs.Prelude.{ℕ, nat_le, nat_eq, Option, Some, None, Bool, true, false, ◌&&◌}
-use Rattle.yq_core.specs.Tree.{Node, alias, scalar, list, map, Children, none, child}
-use Rattle.yq_core.specs.Keys.{are_distinct, keys_of, depth, deepest}
-use Rattle.yq_outline.specs.Outline.{LineMark, Bare, Key, Dash, Line, level, Outline, value}
-use Rattle.yq_outline.specs.Group.{is_fine, is_open}
+use Rattle.yq_core.{specs.Tree.{Node, alias, scalar, list, map, Children, none, child}, specs.Keys.{are_distinct, keys_of, depth, deepest}}
+use Rattle.yq_outline.{specs.Outline.{LineMark, Bare, Key, Dash, Line, level, Outline, value}, specs.Group.{is_fine, is_open}}
 
 abbrev mutual
   -- whether no mapping has a key twice (3.2.1.3)

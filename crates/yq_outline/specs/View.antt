@@ -1,8 +1,6 @@
 -- The texts and heads of the code, as those of lines.
 use Rattle.std.specs.Prelude.{ℕ, List, Option, Some, None, string_bytes}
-use Rattle.yq_core.specs.Tree.{Node, scalar}
-use Rattle.yq_core.specs.Places.{Placed}
-use Rattle.yq_core.specs.Trees.{placed_tree}
+use Rattle.yq_core.{specs.Tree.{Node, scalar}, specs.Places.Placed, specs.Trees.placed_tree}
 use Rattle.yq_core.specs.View as inline
 use Rattle.yq_outline.specs.declared.line.Content as contents
 use Rattle.yq_outline.specs.declared.line.Head as heads

@@ -1,12 +1,8 @@
 //! Laws on the lines of block nodes, for the crates above.
 ghost use Rattle.std.specs.Prelude.{◌≡◌, ℕ, Bool, List, [], ◌∷◌, ◌++◌};
-ghost use Rattle.yq_core.specs.BlockRepair.{AreGap, repair};
-ghost use Rattle.yq_core.specs.Tree.{Node};
-ghost use Rattle.yq_outline.specs.Comments.{last_comments};
-ghost use Rattle.yq_outline.specs.Outline.{Line, Stands};
-ghost use Rattle.yq_outline.specs.Grammar.{IsNodeOutline};
-ghost use Rattle.yq_outline.specs.Laws.{NodeExchanged};
-ghost use Rattle.yq_outline.specs.ShapedLines.{ShapedByLines, ShapedIsTree};
+ghost use Rattle.yq_core.{specs.BlockRepair.{AreGap, repair}, specs.Tree.Node};
+ghost use Rattle.yq_outline.{specs.Comments.last_comments, specs.Outline.{Line, Stands}, specs.Grammar.IsNodeOutline};
+ghost use Rattle.yq_outline.{specs.Laws.NodeExchanged, specs.ShapedLines.{ShapedByLines, ShapedIsTree}};
 
 /// Lines stand for one node at most.
 pub fn one_node()

@@ -1,15 +1,12 @@
 -- What stands in front of the bytes behind a pattern: turns of the search for a closing quote, and forms of tokens.
-use Rattle.std.proofs.Common.{◌≡◌, ℕ, ◌+◌, ◌-◌, ◌≤◌, Bool, true, false, ◌||◌, ◌&&◌, ◌==◌, List, [], ◌∷◌, length, take, drop, get_or, Option, Some, None, is_some, refl, sym, ap, ◌∙◌, arith, length-drop, eqb-true}
-use Rattle.std.proofs.lemmas.List.{take_all}
-use Rattle.std.proofs.lemmas.Bool.{and_parts, false_from_ne_true}
-use Rattle.std.specs.Char.{is_ascii_digit}
-use Rattle.std.specs.List.{prefix_len}
-use Rattle.yq_core.specs.Text.{front}
-use Rattle.yq_core.proofs.Bools.{at_byte}
+use Rattle.std.proofs.Common.{◌≡◌, ℕ, ◌+◌, ◌-◌, ◌≤◌, Bool, true, false, ◌||◌, ◌&&◌, ◌==◌, List, [], ◌∷◌, length, take, drop, get_or, Option}
+use Rattle.std.{proofs.Common.{Some, None, is_some, refl, sym, ap, ◌∙◌, arith, length-drop, eqb-true}, proofs.lemmas.List.take_all}
+use Rattle.std.{proofs.lemmas.Bool.{and_parts, false_from_ne_true}, specs.Char.is_ascii_digit, specs.List.prefix_len}
+use Rattle.yq_core.{specs.Text.front, proofs.Bools.at_byte}
 use Rattle.yq_semantics.specs.Tokens.{escaped_character, begins_name}
 use Rattle.yq_parser.specs.declared.token.TokenForm.{TokenForm}
-use Rattle.yq_parser.specs.declared.token.TokenForm.TheVariants as form
 use Rattle.yq_parser.specs.Lexing.{beyond, closing, quoted, fraction_len, number_len, dotted, marked, worded, token_measure}
+use Rattle.yq_parser.specs.declared.token.TokenForm.TheVariants as form
 
 -- what a pattern's rest is
 abbrev pub behind : ℕ → List ℕ → List ℕ

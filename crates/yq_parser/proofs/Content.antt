@@ -1,11 +1,8 @@
 -- The content of a string, run by run.
-use Rattle.std.proofs.Common.{◌≡◌, ℕ, ◌<◌, true, false, ◌==◌, not, List, [], ◌∷◌, ◌++◌, Some, None, refl, sym, ap, ◌∙◌, subst, inl, inr, arith, eqb-true, append_assoc, append-nil, rules}
-use Rattle.std.proofs.lemmas.Bool.{not-true, false≢true, and_parts, cases_Bool}
-use Rattle.std.specs.List.{prefix_len}
-use Rattle.std.specs.Str.{IsCharBoundary}
-use Rattle.yq_core.specs.Text.{unless, upto, cut}
-use Rattle.yq_core.proofs.Boundaries.{boundary_ends}
-use Rattle.yq_core.proofs.Bools.{guard_then}
+use Rattle.std.proofs.Common.{◌≡◌, ℕ, ◌<◌, true, false, ◌==◌, not, List, [], ◌∷◌, ◌++◌, Some, None, refl, sym, ap, ◌∙◌, subst, inl, inr}
+use Rattle.std.proofs.Common.{arith, eqb-true, append_assoc, append-nil, rules}
+use Rattle.std.{proofs.lemmas.Bool.{not-true, false≢true, and_parts, cases_Bool}, specs.List.prefix_len, specs.Str.IsCharBoundary}
+use Rattle.yq_core.{specs.Text.{unless, upto, cut}, proofs.Boundaries.boundary_ends, proofs.Bools.guard_then}
 use Rattle.yq_core.proofs.Upto.{upto_ends, upto_unless}
 use Rattle.yq_parser.specs.Lexing.{string_content, is_plain_byte, escape_front}
 

@@ -1,12 +1,8 @@
 -- Forms one after the other are read again as the grammar says, if each of them is.
-use Rattle.std.proofs.Common.{◌≡◌, ℕ, true, List, [], ◌∷◌, Option, Some, None, refl, sym, ◌∙◌, subst}
-use Rattle.std.specs.Prelude.{codes}
-use Rattle.std.specs.Str.{bytes_eq}
-use Rattle.std.proofs.lemmas.Slice.Eq.{bytes_eq-Decides}
-use Rattle.yq_semantics.specs.Tokens.{Token, symbol}
-use Rattle.yq_parser.specs.Lexing.{after, taken, as_step}
-use Rattle.yq_semantics.specs.Grammar.{Production, HasSymbol, Are, Behind, AreParted}
-use Rattle.yq_parser.specs.Parse.{Parse, many, after_mark, parted_at}
+use Rattle.std.{proofs.Common.{◌≡◌, ℕ, true, List, [], ◌∷◌, Option, Some, None, refl, sym, ◌∙◌, subst}, specs.Prelude.codes}
+use Rattle.std.{specs.Str.bytes_eq, proofs.lemmas.Slice.Eq.bytes_eq-Decides}
+use Rattle.yq_semantics.{specs.Tokens.{Token, symbol}, specs.Grammar.{Production, HasSymbol, Are, Behind, AreParted}}
+use Rattle.yq_parser.{specs.Lexing.{after, taken, as_step}, specs.Parse.{Parse, many, after_mark, parted_at}}
 use Rattle.yq_parser.proofs.Readers.{Lessens, many_next}
 
 pub after_again : (s : List ℕ) (ts r : List Token) → HasSymbol s ts r → after s ts ≡ Some r

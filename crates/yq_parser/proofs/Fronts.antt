@@ -1,8 +1,7 @@
 -- What the token in front is taken as, of what splitting it off gives.
 use Rattle.std.proofs.Common.{◌≡◌, ℕ, List, ◌∷◌, true, false, Option, Some, None, is_some, option_map, refl, sym, ap, ◌∙◌}
 use Rattle.yq_semantics.specs.Tokens.{Token, is_symbol}
-use Rattle.yq_parser.specs.Lexing.{next_token, ahead, tokens, after, taken}
-use Rattle.yq_parser.proofs.Lexing.{tokens_next, tokens_some}
+use Rattle.yq_parser.{specs.Lexing.{next_token, ahead, tokens, after, taken}, proofs.Lexing.{tokens_next, tokens_some}}
 
 -- a token is in front
 pub taken_front : {A : Type 0} (view : Token → Option A) (t : List ℕ) (x : Token × List ℕ) (o : Option A) → Some x ≡ next_token t → o ≡ view x.0

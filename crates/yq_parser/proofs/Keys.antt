@@ -1,16 +1,10 @@
 -- Keys that differ, as a test.
-use Rattle.std.proofs.Common.{◌≡◌, ◌≢◌, ℕ, zero, suc, not, Bool, true, false, List, [], ◌∷◌, get_or, refl, sym, ap, ◌∙◌, arith, map, IsTrue, ◌↔◌}
-use Rattle.std.specs.Str.{bytes_eq}
-use Rattle.std.specs.List.{list_any, All}
+use Rattle.std.proofs.Common.{◌≡◌, ◌≢◌, ℕ, zero, suc, not, Bool, true, false, List, [], ◌∷◌, get_or, refl, sym, ap, ◌∙◌, arith, map, IsTrue}
+use Rattle.std.{proofs.Common.◌↔◌, specs.Str.bytes_eq, specs.List.{list_any, All}}
 use Rattle.std.proofs.lemmas.Bool.{and_from, not-true, false≢true, false_from_ne_true, and_parts}
-use Rattle.std.proofs.lemmas.List.Folds.{list_any_at, list_any_none}
-use Rattle.std.proofs.lemmas.List.Kept.{AllPairs-cons}
-use Rattle.std.proofs.lemmas.Slice.Eq.{bytes_eq-Decides}
-use Rattle.yq_core.specs.Keys.{AreDistinct, are_distinct}
-use Rattle.std.specs.Prelude.{string_bytes, String}
-use Rattle.std.specs.declared.alloc.Global.{Global}
-use Rattle.yq_core.specs.declared.value.Value.{Value}
-use Rattle.yq_core.specs.Values.{field_of}
+use Rattle.std.{proofs.lemmas.List.Folds.{list_any_at, list_any_none}, proofs.lemmas.List.Kept.AllPairs-cons}
+use Rattle.std.{proofs.lemmas.Slice.Eq.bytes_eq-Decides, specs.Prelude.{string_bytes, String}, specs.declared.alloc.Global.Global}
+use Rattle.yq_core.{specs.Keys.{AreDistinct, are_distinct}, specs.declared.value.Value.Value, specs.Values.field_of}
 
 others : (k : List ℕ) (ks : List (List ℕ)) → list_any (bytes_eq k) ks ≡ false → All (λ x. k ≢ x) ks
 others k ks none i d lt same =

@@ -1,20 +1,15 @@
 -- Where tokens end, and that the tokens of a text are those in front and those of what follows.
-use Rattle.std.proofs.Common.{◌≡◌, ◌⊎◌, ℕ, suc, ◌+◌, ◌<◌, ◌≤◌, Bool, true, false, cond, ◌&&◌, ◌||◌, ◌==◌, List, [], ◌∷◌, length, take, drop, get_or, Option, Some, None, is_some, refl, sym, ap, ◌∙◌, subst, inl, inr, arith, add-one, eqb-true, length-drop, rules}
-use Rattle.std.proofs.lemmas.Bool.{and_parts, cases_Bool}
-use Rattle.std.proofs.lemmas.List.{get_or-drop}
-use Rattle.std.proofs.lemmas.List.Sums.{prefix_len_passes, prefix_len-le-length}
-use Rattle.std.proofs.lemmas.Option.{same_Some}
-use Rattle.std.proofs.lemmas.Str.{IsCharBoundary-after_ascii}
-use Rattle.std.specs.Char.{is_ascii_digit}
-use Rattle.std.specs.List.{prefix_len}
+use Rattle.std.proofs.Common.{◌≡◌, ◌⊎◌, ℕ, suc, ◌+◌, ◌<◌, ◌≤◌, Bool, true, false, cond, ◌&&◌, ◌||◌, ◌==◌, List, [], ◌∷◌, length, take, drop}
+use Rattle.std.proofs.Common.{get_or, Option, Some, None, is_some, refl, sym, ap, ◌∙◌, subst, inl, inr, arith, add-one, eqb-true}
+use Rattle.std.{proofs.Common.{length-drop, rules}, proofs.lemmas.Bool.{and_parts, cases_Bool}, proofs.lemmas.List.get_or-drop}
+use Rattle.std.{proofs.lemmas.List.Sums.{prefix_len_passes, prefix_len-le-length}, proofs.lemmas.Option.same_Some}
+use Rattle.std.{proofs.lemmas.Str.IsCharBoundary-after_ascii, specs.Char.is_ascii_digit, specs.List.prefix_len}
 use Rattle.std.specs.Str.{IsUtf8, IsCharBoundary}
-use Rattle.yq_core.specs.Text.{front}
-use Rattle.yq_core.proofs.Boundaries.{boundary_unless}
-use Rattle.yq_core.proofs.Upto.{upto_unless}
-use Rattle.yq_core.proofs.Bools.{chosen, guard_then}
-use Rattle.yq_semantics.specs.Tokens.{Token, is_token_blank, begins_name, is_name_byte, is_keyword, is_mark_character, is_mark_before, is_foreign, escaped_character}
-use Rattle.yq_parser.specs.Lexing.{beyond, closing, escaping, quoted, fraction_len, number_len, dotted, marked, worded, token_measure, front_token, next_token, ahead, tokens_in, tokens}
-use Rattle.yq_parser.specs.declared.token.TokenForm.{TokenForm}
+use Rattle.yq_core.{specs.Text.front, proofs.Boundaries.boundary_unless, proofs.Upto.upto_unless, proofs.Bools.{chosen, guard_then}}
+use Rattle.yq_semantics.specs.Tokens.{Token, is_token_blank, begins_name, is_name_byte, is_keyword, is_mark_character, is_mark_before}
+use Rattle.yq_semantics.specs.Tokens.{is_foreign, escaped_character}
+use Rattle.yq_parser.specs.Lexing.{beyond, closing, escaping, quoted, fraction_len, number_len, dotted, marked, worded, token_measure}
+use Rattle.yq_parser.{specs.Lexing.{front_token, next_token, ahead, tokens_in, tokens}, specs.declared.token.TokenForm.TokenForm}
 use Rattle.yq_parser.specs.declared.token.TokenForm.TheVariants as form
 
 pub blank_ascii : (b : ℕ) → is_token_blank b ≡ true → b < 128

@@ -1,18 +1,12 @@
 -- Scalars and literals of the grammar are read again.
-use Rattle.std.proofs.Common.{◌≡◌, ℕ, zero, suc, true, false, List, [], ◌∷◌, map, Some, None, refl, inl, inr, rules}
-use Rattle.std.specs.Prelude.{codes}
-use Rattle.std.proofs.lemmas.Bool.{false≢true, cases_Bool}
-use Rattle.std.proofs.lemmas.Slice.Eq.{bytes_eq-Decides}
-use Rattle.yq_core.specs.Scalar.{ScalarText}
-use Rattle.yq_core.specs.Tree.{Node}
-use Rattle.yq_core.specs.SchemaReading.{is_one_of}
+use Rattle.std.{proofs.Common.{◌≡◌, ℕ, zero, suc, true, false, List, [], ◌∷◌, map, Some, None, refl, inl, inr, rules}, specs.Prelude.codes}
+use Rattle.std.{proofs.lemmas.Bool.{false≢true, cases_Bool}, proofs.lemmas.Slice.Eq.bytes_eq-Decides}
+use Rattle.yq_core.{specs.Scalar.ScalarText, specs.Tree.Node, specs.SchemaReading.is_one_of}
 use Rattle.yq_semantics.specs.Tokens.{Token, symbol, scalar_words}
-use Rattle.yq_parser.specs.Lexing.{after, taken, as_step}
 use Rattle.yq_semantics.specs.Grammar.{Production, HasSymbol, IsPlainLiteral, AreListed, IsField, IsLiteral}
+use Rattle.yq_parser.specs.Lexing.{after, taken, as_step}
 use Rattle.yq_parser.specs.Parse.{Parse, after_mark, word_at, parse_scalar, listed_at, field_at, literal_at, begins_left}
-use Rattle.yq_parser.proofs.Keys.{distinct_again}
-use Rattle.yq_parser.proofs.Readers.{Lessens}
-use Rattle.yq_parser.proofs.LoopSteps.{item_lessens, field_lessens}
+use Rattle.yq_parser.{proofs.Keys.distinct_again, proofs.Readers.Lessens, proofs.LoopSteps.{item_lessens, field_lessens}}
 use Rattle.yq_parser.proofs.FormsAgain.{after_again, Again, parted_again, Anything}
 
 word_again : (w : List ℕ) (r : List Token) → is_one_of scalar_words w ≡ true → word_at (symbol w ∷ r) ≡ Some (w, r)

@@ -1,17 +1,14 @@
 -- The scalars and literals that are read are those of the grammar, and each has a token at least.
 use Rattle.std.proofs.Common.{◌≡◌, ℕ, zero, suc, true, List, [], ◌∷◌, length, map, Some, refl, ap, ◌∙◌, subst, inl, inr, arith, rules}
-use Rattle.std.proofs.lemmas.Option.{cond_some}
-use Rattle.std.specs.Prelude.{codes}
-use Rattle.yq_core.specs.Tree.{Node}
-use Rattle.yq_core.proofs.Bools.{bind_some}
-use Rattle.yq_core.specs.Keys.{are_distinct}
-use Rattle.yq_core.specs.SchemaReading.{is_one_of}
+use Rattle.std.{proofs.lemmas.Option.cond_some, specs.Prelude.codes}
+use Rattle.yq_core.{specs.Tree.Node, proofs.Bools.bind_some, specs.Keys.are_distinct, specs.SchemaReading.is_one_of}
 use Rattle.yq_semantics.specs.Tokens.{Token, symbol, scalar_words}
-use Rattle.yq_parser.specs.Lexing.{after, taken, as_number, as_string}
 use Rattle.yq_semantics.specs.Grammar.{Production, HasSymbol, AreParted, IsPlainLiteral, AreListed, IsField, IsScalarNode, IsLiteral}
+use Rattle.yq_parser.specs.Lexing.{after, taken, as_number, as_string}
 use Rattle.yq_parser.specs.Parse.{Parse, parted_at, word_at, parse_scalar, listed_at, field_at, mapping_of, scalar_node_at, literal_at}
 use Rattle.yq_parser.proofs.Keys.{distinct_keys}
-use Rattle.yq_parser.proofs.Readers.{either_cases, after_takes, string_takes, number_takes, Takes, Shortens, same_form, parted_takes, closed_takes, parted_shortens, between_shortens}
+use Rattle.yq_parser.proofs.Readers.{either_cases, after_takes, string_takes, number_takes, Takes, Shortens, same_form, parted_takes}
+use Rattle.yq_parser.proofs.Readers.{closed_takes, parted_shortens, between_shortens}
 
 word_takes : (ts : List Token) (x : List ℕ × List Token) → word_at ts ≡ Some x → (is_one_of scalar_words x.0 ≡ true) × (ts ≡ symbol x.0 ∷ x.1)
 word_takes ts x h = search (rules, either_cases, same_form, after_takes)

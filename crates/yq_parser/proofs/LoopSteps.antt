@@ -1,21 +1,17 @@
 -- Loops over forms one after the other, a turn at a time.
-use Rattle.std.proofs.Common.{◌≡◌, ℕ, List, [], ◌∷◌, ◌++◌, ◌<◌, subst, length, map, Option, Some, None, option_map, refl, sym, ap, ◌∙◌, append_assoc, append-nil, Result, Err}
-use Rattle.std.proofs.lemmas.List.{map_push}
+use Rattle.std.proofs.Common.{◌≡◌, ℕ, List, [], ◌∷◌, ◌++◌, ◌<◌, subst, length, map, Option, Some, None, option_map, refl, sym, ap, ◌∙◌}
+use Rattle.std.{proofs.Common.{append_assoc, append-nil, Result, Err}, proofs.lemmas.List.map_push, specs.Borrow.Bor, specs.Prelude.codes}
 use Rattle.yq_core.specs.Answers.{◌>>=◌}
-use Rattle.yq_parser.specs.declared.error.ParseError.{ParseError}
-use Rattle.yq_parser.specs.declared.error.ParseError.TheVariants as error
-use Rattle.yq_semantics.specs.Tokens.{Token}
-use Rattle.yq_parser.specs.ReadAnswers.{ParseFails, GivesForm, with_tokens, IsShorter}
+use Rattle.yq_parser.{specs.declared.error.ParseError.ParseError, specs.ReadAnswers.{ParseFails, GivesForm, with_tokens, IsShorter}}
 use Rattle.yq_parser.specs.Lexing.{tokens, after}
-use Rattle.std.specs.Borrow.{Bor}
-use Rattle.yq_parser.specs.Parse.{Parse, either, with_front, many, step_at, after_mark, parted_at, literal_at, field_at, stage_at, term_at, parse_update}
-use Rattle.std.specs.Prelude.{codes}
-use Rattle.yq_parser.proofs.Readers.{Lessens, many_next, Takes, Shortens, behind_takes, behind_shortens}
-use Rattle.yq_semantics.specs.Grammar.{Production, IsLiteral, IsField, IsStage, IsTerm, IsUpdate, literal_depth}
+use Rattle.yq_parser.specs.Parse.{Parse, either, with_front, many, step_at, after_mark, parted_at, literal_at, field_at, stage_at, term_at}
+use Rattle.yq_parser.{specs.Parse.parse_update, proofs.Readers.{Lessens, many_next, Takes, Shortens, behind_takes, behind_shortens}}
 use Rattle.yq_parser.proofs.PathTakes.{step_takes, next_shortens}
 use Rattle.yq_parser.proofs.LiteralTakes.{literal_takes, literal_shortens, field_takes, field_shortens}
 use Rattle.yq_parser.proofs.PipeTakes.{stage_takes, stage_shortens}
 use Rattle.yq_parser.proofs.UpdateTakes.{term_takes, term_shortens, update_takes, update_shortens}
+use Rattle.yq_semantics.{specs.Tokens.Token, specs.Grammar.{Production, IsLiteral, IsField, IsStage, IsTerm, IsUpdate, literal_depth}}
+use Rattle.yq_parser.specs.declared.error.ParseError.TheVariants as error
 
 -- the forms read so far before those to come
 abbrev pub onto : {A : Type 0} → List A → Option (List A × List Token) → Option (List A × List Token)

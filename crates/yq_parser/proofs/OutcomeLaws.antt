@@ -1,17 +1,13 @@
 -- That the outcome of a text is what it comes to by the grammar, and nothing else.
 use Rattle.std.proofs.Common.{◌≡◌, ◌⊎◌, ◌↔◌, ℕ, Bool, true, false, List, Option, Some, None, refl, sym, ap, ◌∙◌, inl, inr, rules}
 use Rattle.yq_core.proofs.Bools.{chosen}
-use Rattle.yq_parser.specs.declared.error.ParseError.{ParseError}
-use Rattle.yq_parser.specs.declared.error.ParseError.TheVariants as error
-use Rattle.yq_semantics.specs.Tokens.{Token, AreTokens}
-use Rattle.yq_parser.specs.Lexing.{tokens, AreRead}
-use Rattle.yq_semantics.specs.Program.{Program}
-use Rattle.yq_semantics.specs.Grammar.{IsProgram, literal_depth}
+use Rattle.yq_parser.{specs.declared.error.ParseError.ParseError, specs.Lexing.{tokens, AreRead}}
 use Rattle.yq_parser.specs.Outcome.{Outcome, parsed, refused, ComesTo, HasForeign, ExprRefused, IsTooDeep}
 use Rattle.yq_parser.specs.Parse.{surveyed, program_at, outcome}
 use Rattle.yq_parser.proofs.Outcomes.{all_read, derives_again, none_in, outcome_again, outcome_parsed, outcome_refused, surveys, unread_in}
-use Rattle.yq_parser.proofs.TextTokens.{tokens_take, tokens_again}
-use Rattle.yq_parser.proofs.UpdateTakes.{program_takes}
+use Rattle.yq_parser.{proofs.TextTokens.{tokens_take, tokens_again}, proofs.UpdateTakes.program_takes}
+use Rattle.yq_semantics.{specs.Tokens.{Token, AreTokens}, specs.Program.Program, specs.Grammar.{IsProgram, literal_depth}}
+use Rattle.yq_parser.specs.declared.error.ParseError.TheVariants as error
 
 -- the tokens of a text are those that are read of it
 pub one_list : (text : List ℕ) (ts us : List Token) → AreTokens ts text → AreTokens us text → ts ≡ us

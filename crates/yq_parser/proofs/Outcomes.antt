@@ -1,21 +1,16 @@
 -- What the survey of a text tells, and that outcomes are as the order of refusals says.
-use Rattle.std.proofs.Common.{◌≡◌, ◌⊎◌, ℕ, zero, suc, ◌+◌, ◌<◌, Bool, true, false, ◌||◌, nat_lt, List, [], ◌∷◌, take, Option, Some, None, Result, Ok, Err, refl, sym, ap, ◌∙◌, subst, inl, inr, arith, ltb-true, rules}
-use Rattle.std.proofs.lemmas.Bool.{false≢true, or_cases, lt-ltb, or_parts}
-use Rattle.std.proofs.lemmas.Option.{none-some}
-use Rattle.std.specs.Prelude.{IfOk, IfErr}
+use Rattle.std.proofs.Common.{◌≡◌, ◌⊎◌, ℕ, zero, suc, ◌+◌, ◌<◌, Bool, true, false, ◌||◌, nat_lt, List, [], ◌∷◌, take, Option, Some, None}
+use Rattle.std.proofs.Common.{Result, Ok, Err, refl, sym, ap, ◌∙◌, subst, inl, inr, arith, ltb-true, rules}
+use Rattle.std.{proofs.lemmas.Bool.{false≢true, or_cases, lt-ltb, or_parts}, proofs.lemmas.Option.none-some, specs.Prelude.{IfOk, IfErr}}
 use Rattle.yq_core.proofs.Bools.{chosen}
-use Rattle.yq_parser.specs.declared.error.ParseError.{ParseError}
-use Rattle.yq_parser.specs.declared.error.ParseError.TheVariants as error
-use Rattle.yq_semantics.specs.Tokens.{Token, foreign, unread, AreTokens}
-use Rattle.yq_parser.specs.Lexing.{tokens, AreRead}
-use Rattle.yq_semantics.specs.Program.{Program, LiteralsHold}
-use Rattle.yq_semantics.specs.Grammar.{literal_depth}
-use Rattle.yq_parser.specs.Outcome.{parsed, refused, count_if, is_opening, is_closing, opening_count, closing_count, IsTooDeep, HasForeign, has_pattern, Derives, ExprRefused, Answers}
+use Rattle.yq_parser.{specs.declared.error.ParseError.ParseError, specs.Lexing.{tokens, AreRead}}
+use Rattle.yq_parser.specs.Outcome.{parsed, refused, count_if, is_opening, is_closing, opening_count, closing_count, IsTooDeep, HasForeign}
+use Rattle.yq_parser.specs.Outcome.{has_pattern, Derives, ExprRefused, Answers}
 use Rattle.yq_parser.specs.Parse.{is_unread, is_foreign_token, surveyed, program_at, unless_pattern, parse_outcome, outcome}
-use Rattle.yq_semantics.proofs.Literals.{literals_hold}
-use Rattle.yq_parser.proofs.TextTokens.{tokens_take, tokens_again}
-use Rattle.yq_parser.proofs.UpdateTakes.{program_takes}
-use Rattle.yq_parser.proofs.ProgramAgain.{program_again}
+use Rattle.yq_parser.{proofs.TextTokens.{tokens_take, tokens_again}, proofs.UpdateTakes.program_takes, proofs.ProgramAgain.program_again}
+use Rattle.yq_semantics.{specs.Tokens.{Token, foreign, unread, AreTokens}, specs.Program.{Program, LiteralsHold}}
+use Rattle.yq_semantics.{specs.Grammar.literal_depth, proofs.Literals.literals_hold}
+use Rattle.yq_parser.specs.declared.error.ParseError.TheVariants as error
 
 unread_is : (t : Token) → is_unread t ≡ true → t ≡ unread
 unread_is t h1 = search rules

@@ -1,13 +1,9 @@
 -- Steps and paths of the grammar are read again.
-use Rattle.std.proofs.Common.{◌≡◌, ◌⊎◌, ℕ, false, List, [], ◌∷◌, Some, None, refl, inl, inr, rules}
-use Rattle.std.specs.Prelude.{codes}
-use Rattle.yq_semantics.specs.Program.{PathStep}
-use Rattle.yq_semantics.specs.Tokens.{Token, is_symbol, step, symbol}
-use Rattle.yq_parser.specs.Lexing.{after, taken, as_step}
+use Rattle.std.{proofs.Common.{◌≡◌, ◌⊎◌, ℕ, false, List, [], ◌∷◌, Some, None, refl, inl, inr, rules}, specs.Prelude.codes}
+use Rattle.yq_semantics.{specs.Program.PathStep, specs.Tokens.{Token, is_symbol, step, symbol}}
 use Rattle.yq_semantics.specs.Grammar.{HasSymbol, IsBracket, IsNamed, IsFirst, IsNext, Are, IsPath}
-use Rattle.yq_parser.specs.Parse.{many, bracketed_at, bracket_at, step_at, path_at}
-use Rattle.yq_parser.proofs.LoopSteps.{step_lessens}
-use Rattle.yq_parser.proofs.FormsAgain.{Again, AgainMaybe, many_again, Anything, Ends}
+use Rattle.yq_parser.{specs.Lexing.{after, taken, as_step}, specs.Parse.{many, bracketed_at, bracket_at, step_at, path_at}}
+use Rattle.yq_parser.{proofs.LoopSteps.step_lessens, proofs.FormsAgain.{Again, AgainMaybe, many_again, Anything, Ends}}
 
 bracket_again : (s : PathStep) (ts rest : List Token) → IsBracket s ts rest → bracket_at ts ≡ Some (Some (s, rest))
 unfolding bracketed_at

@@ -1,14 +1,12 @@
 -- The steps and paths that are read are those of the grammar, and each has a token at least.
 use Rattle.std.proofs.Common.{◌≡◌, false, List, [], ◌∷◌, length, Some, is_some, ap, inl, inr, arith, rules}
-use Rattle.std.proofs.lemmas.Option.{same_Some}
-use Rattle.std.specs.Prelude.{codes}
+use Rattle.std.{proofs.lemmas.Option.same_Some, specs.Prelude.codes}
 use Rattle.yq_core.proofs.Bools.{bind_some, chosen}
-use Rattle.yq_semantics.specs.Program.{PathStep, key, index}
-use Rattle.yq_semantics.specs.Tokens.{Token}
-use Rattle.yq_parser.specs.Lexing.{after}
+use Rattle.yq_semantics.{specs.Program.{PathStep, key, index}, specs.Tokens.Token}
 use Rattle.yq_semantics.specs.Grammar.{Production, HasSymbol, IsBracket, IsDotted, IsNamed, IsFirst, IsNext, Are, IsPath}
-use Rattle.yq_parser.specs.Parse.{many, bracketed_at, bracket_at, step_at, written_path, path_at}
-use Rattle.yq_parser.proofs.Readers.{either_cases, after_takes, string_takes, number_takes, named_takes, Takes, TakesMaybe, Shortens, same_form, many_takes, many_shortens}
+use Rattle.yq_parser.{specs.Lexing.after, specs.Parse.{many, bracketed_at, bracket_at, step_at, written_path, path_at}}
+use Rattle.yq_parser.proofs.Readers.{either_cases, after_takes, string_takes, number_takes, named_takes, Takes, TakesMaybe, Shortens}
+use Rattle.yq_parser.proofs.Readers.{same_form, many_takes, many_shortens}
 
 -- a bracket from behind its opening mark
 abbrev Inner : Production PathStep

@@ -1,15 +1,13 @@
 -- Conditions, stages and pipes of the grammar are read again.
-use Rattle.std.proofs.Common.{◌≡◌, Bool, true, false, List, [], ◌∷◌, Some, None, refl, sym, subst, inl, inr, rules}
-use Rattle.std.specs.Prelude.{codes}
+use Rattle.std.{proofs.Common.{◌≡◌, Bool, true, false, List, [], ◌∷◌, Some, None, refl, sym, subst, inl, inr, rules}, specs.Prelude.codes}
 use Rattle.yq_semantics.specs.Program.{is_simple, PathStep, each, Operand, value_at, document_index, compares, has, Stage, path, select}
 use Rattle.yq_semantics.specs.Tokens.{Token, symbol}
+use Rattle.yq_semantics.specs.Grammar.{Production, HasSymbol, IsSimple, IsOperand, comparison, IsCondition, InParentheses, IsStage, IsPipe}
+use Rattle.yq_semantics.specs.Grammar.{IsLeft}
 use Rattle.yq_parser.specs.Lexing.{after}
-use Rattle.yq_semantics.specs.Grammar.{Production, HasSymbol, IsSimple, IsOperand, comparison, IsCondition, InParentheses, IsStage, IsPipe, IsLeft}
 use Rattle.yq_parser.specs.Parse.{Parse, parenthesized_at, operand_at, comparison_at, condition_at, stage_at, pipe_at, left_at, begins_left}
-use Rattle.yq_parser.proofs.LoopSteps.{stage_lessens}
-use Rattle.yq_parser.proofs.FormsAgain.{after_again, Again, parted_again, Anything, Ends}
-use Rattle.yq_parser.proofs.PathAgain.{no_mark, path_begins, path_again}
-use Rattle.yq_parser.proofs.LiteralAgain.{scalar_again}
+use Rattle.yq_parser.{proofs.LoopSteps.stage_lessens, proofs.FormsAgain.{after_again, Again, parted_again, Anything, Ends}}
+use Rattle.yq_parser.{proofs.PathAgain.{no_mark, path_begins, path_again}, proofs.LiteralAgain.scalar_again}
 
 simple_again : (steps : List PathStep) → IsSimple steps → is_simple steps ≡ true
 simple_again [] h = refl

@@ -1,15 +1,16 @@
 -- The conditions, stages and pipes that are read are those of the grammar, and each has a token at least.
 use Rattle.std.proofs.Common.{◌≡◌, Bool, true, List, [], ◌∷◌, length, Some, refl, ap, inl, inr, arith, rules}
-use Rattle.std.proofs.lemmas.Option.{cond_some}
-use Rattle.std.specs.Prelude.{codes}
+use Rattle.std.{proofs.lemmas.Option.cond_some, specs.Prelude.codes}
 use Rattle.yq_core.proofs.Bools.{bind_some}
 use Rattle.yq_semantics.specs.Program.{is_simple, PathStep, each, value_at, document_index, compares, has, path, select}
 use Rattle.yq_semantics.specs.Tokens.{Token, string, symbol}
+use Rattle.yq_semantics.specs.Grammar.{Production, HasSymbol, IsSimple, IsOperand, comparison, IsCondition, InParentheses, IsStage, IsPipe}
+use Rattle.yq_semantics.specs.Grammar.{IsLeft}
 use Rattle.yq_parser.specs.Lexing.{after, taken, as_string}
-use Rattle.yq_semantics.specs.Grammar.{Production, HasSymbol, IsSimple, IsOperand, comparison, IsCondition, InParentheses, IsStage, IsPipe, IsLeft}
-use Rattle.yq_parser.specs.Parse.{Parse, parenthesized_at, path_at, parse_scalar, operand_at, comparison_at, condition_at, stage_at, pipe_at, left_at}
-use Rattle.yq_parser.proofs.Readers.{either_cases, after_takes, string_takes, Takes, Shortens, same_form, parted_takes, closed_takes, behind_shortens, parted_shortens, between_shortens}
-use Rattle.yq_parser.proofs.PathTakes.{path_takes, path_shortens}
+use Rattle.yq_parser.specs.Parse.{Parse, parenthesized_at, path_at, parse_scalar, operand_at, comparison_at, condition_at, stage_at}
+use Rattle.yq_parser.specs.Parse.{pipe_at, left_at}
+use Rattle.yq_parser.proofs.Readers.{either_cases, after_takes, string_takes, Takes, Shortens, same_form, parted_takes, closed_takes}
+use Rattle.yq_parser.{proofs.Readers.{behind_shortens, parted_shortens, between_shortens}, proofs.PathTakes.{path_takes, path_shortens}}
 use Rattle.yq_parser.proofs.LiteralTakes.{scalar_takes, scalar_shortens}
 
 simple_is : (steps : List PathStep) → is_simple steps ≡ true → IsSimple steps

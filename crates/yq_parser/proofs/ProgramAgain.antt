@@ -1,23 +1,15 @@
 -- Programs of the grammar are read again: no tokens are both a pipe and updates.
-use Rattle.std.proofs.Common.{◌≡◌, ◌⊎◌, ℕ, false, List, [], ◌∷◌, Option, Some, None, refl, inl, inr, rules}
-use Rattle.std.specs.Prelude.{codes}
-use Rattle.std.specs.Str.{bytes_eq}
-use Rattle.std.proofs.lemmas.Bool.{false≢true}
-use Rattle.std.proofs.lemmas.Slice.Eq.{bytes_eq-Decides}
-use Rattle.yq_semantics.specs.declared.program.Operator.{Operator}
-use Rattle.yq_semantics.specs.declared.program.CommentPlace.{CommentPlace}
-use Rattle.yq_semantics.specs.declared.program.CommentPlace.TheVariants as place
+use Rattle.std.{proofs.Common.{◌≡◌, ◌⊎◌, ℕ, false, List, [], ◌∷◌, Option, Some, None, refl, inl, inr, rules}, specs.Prelude.codes}
+use Rattle.std.{specs.Str.bytes_eq, proofs.lemmas.Bool.false≢true, proofs.lemmas.Slice.Eq.bytes_eq-Decides}
+use Rattle.yq_semantics.{specs.declared.program.Operator.Operator, specs.declared.program.CommentPlace.CommentPlace}
 use Rattle.yq_semantics.specs.Program.{Stage, path, select, Update, assign, delete, comment, Program, read, updates}
 use Rattle.yq_semantics.specs.Tokens.{Token, string, symbol}
-use Rattle.yq_semantics.specs.Grammar.{HasSymbol, Are, Behind, AreParted, IsStage, IsPipe, IsLeft, literal_depth, operator_mark, place_word, IsUpdate, IsProgram}
-use Rattle.yq_parser.specs.Parse.{pipe_at, whole_form, updates_at, program_at}
-use Rattle.yq_parser.proofs.Readers.{second}
-use Rattle.yq_parser.proofs.UpdateTakes.{whole_takes}
-use Rattle.yq_parser.proofs.PipeTakes.{pipe_takes}
-use Rattle.yq_parser.proofs.FormsAgain.{Ends}
-use Rattle.yq_parser.proofs.PathAgain.{BeginsPath, path_begins, path_again}
-use Rattle.yq_parser.proofs.PipeAgain.{pipe_again}
-use Rattle.yq_parser.proofs.UpdateAgain.{operator_again, place_again, updates_again}
+use Rattle.yq_semantics.specs.Grammar.{HasSymbol, Are, Behind, AreParted, IsStage, IsPipe, IsLeft, literal_depth, operator_mark, place_word}
+use Rattle.yq_semantics.specs.Grammar.{IsUpdate, IsProgram}
+use Rattle.yq_parser.{specs.Parse.{pipe_at, whole_form, updates_at, program_at}, proofs.Readers.second, proofs.UpdateTakes.whole_takes}
+use Rattle.yq_parser.{proofs.PipeTakes.pipe_takes, proofs.FormsAgain.Ends, proofs.PathAgain.{BeginsPath, path_begins, path_again}}
+use Rattle.yq_parser.{proofs.PipeAgain.pipe_again, proofs.UpdateAgain.{operator_again, place_again, updates_again}}
+use Rattle.yq_semantics.specs.declared.program.CommentPlace.TheVariants as place
 
 -- what follows the first stage of a pipe that is all
 pipe_goes_on : (stages : List Stage) (ts : List Token) → Are (Behind (codes "|") IsStage) stages ts [] → (ts ≡ []) ⊎ ((r : List Token) × HasSymbol (codes "|") ts r)

@@ -1,19 +1,15 @@
 -- What reading gives, a step at a time.
-use Rattle.std.proofs.Common.{◌≡◌, ℕ, suc, ◌-◌, ◌<◌, length, arith, List, [], ◌∷◌, ◌++◌, Bool, true, false, Option, Some, None, refl, sym, ap, ◌∙◌, subst, map, option_map, Result, Ok, Err}
-use Rattle.std.specs.Borrow.{Bor}
+use Rattle.std.proofs.Common.{◌≡◌, ℕ, suc, ◌-◌, ◌<◌, length, arith, List, [], ◌∷◌, ◌++◌, Bool, true, false, Option, Some, None, refl, sym}
+use Rattle.std.{proofs.Common.{ap, ◌∙◌, subst, map, option_map, Result, Ok, Err}, specs.Borrow.Bor}
 use Rattle.std.specs.Prelude.{if◌then◌else◌, ◌==◌, is_some, codes}
-use Rattle.yq_core.specs.Answers.{◌>>=◌}
-use Rattle.yq_core.specs.Tree as tree
-use Rattle.yq_core.specs.Values.{items}
-use Rattle.yq_parser.specs.declared.error.ParseError.{ParseError}
-use Rattle.yq_parser.specs.declared.error.ParseError.TheVariants as error
-use Rattle.yq_semantics.specs.Program.{PathStep}
-use Rattle.yq_semantics.specs.Tokens.{Token}
-use Rattle.yq_parser.specs.ReadAnswers.{ParseFails, GivesForm, ReadsForm, with_tokens}
+use Rattle.yq_core.{specs.Answers.◌>>=◌, specs.Values.items}
+use Rattle.yq_parser.{specs.declared.error.ParseError.ParseError, specs.ReadAnswers.{ParseFails, GivesForm, ReadsForm, with_tokens}}
 use Rattle.yq_parser.specs.Lexing.{tokens, after}
 use Rattle.yq_parser.specs.Parse.{either, many, listed_at, field_at, literal_at, scalar_node_at, mapping_of, written_path}
-use Rattle.yq_parser.proofs.Readers.{Lessens}
-use Rattle.yq_parser.proofs.LoopSteps.{onto, step_more}
+use Rattle.yq_parser.{proofs.Readers.Lessens, proofs.LoopSteps.{onto, step_more}}
+use Rattle.yq_semantics.{specs.Program.PathStep, specs.Tokens.Token}
+use Rattle.yq_core.specs.Tree as tree
+use Rattle.yq_parser.specs.declared.error.ParseError.TheVariants as error
 
 -- a step gave something, and so does the next one
 pub bind_gives : {A B : Type 0} (f : A → Option B) (o : Option A) (x : A) (z : Option B) → o ≡ Some x → f x ≡ z → (o >>= f) ≡ z

@@ -1,12 +1,10 @@
 -- Steps of reading functions, forms one after the other, and when both tell the same.
-use Rattle.std.proofs.Common.{◌≡◌, ◌⊎◌, ℕ, zero, suc, ◌+◌, ◌<◌, ◌≤◌, true, List, [], ◌∷◌, length, Option, Some, None, refl, ap, ◌∙◌, subst, inl, inr, arith, rules}
-use Rattle.std.proofs.lemmas.Option.{cond_some, same_Some}
-use Rattle.std.specs.Prelude.{option_map}
-use Rattle.yq_core.specs.Answers.{◌>>=◌}
-use Rattle.yq_core.proofs.Bools.{bind_some}
+use Rattle.std.proofs.Common.{◌≡◌, ◌⊎◌, ℕ, zero, suc, ◌+◌, ◌<◌, ◌≤◌, true, List, [], ◌∷◌, length, Option, Some, None, refl, ap, ◌∙◌, subst}
+use Rattle.std.{proofs.Common.{inl, inr, arith, rules}, proofs.lemmas.Option.{cond_some, same_Some}, specs.Prelude.option_map}
+use Rattle.yq_core.{specs.Answers.◌>>=◌, proofs.Bools.bind_some}
 use Rattle.yq_semantics.specs.Tokens.{Token, is_symbol, string, number, step, symbol}
-use Rattle.yq_parser.specs.Lexing.{after, taken, as_number, as_string, as_step}
 use Rattle.yq_semantics.specs.Grammar.{Production, HasSymbol, Are, Behind, AreParted, Between}
+use Rattle.yq_parser.specs.Lexing.{after, taken, as_number, as_string, as_step}
 use Rattle.yq_parser.specs.Parse.{Parse, either, with_front, many_in, many, after_mark, parted_at, closed_at}
 
 pub either_cases : {A B : Type 0} {f : A → B} {y z : B} (o : Option A) → either o f y ≡ z → ((x : A) × (o ≡ Some x) × (f x ≡ z)) ⊎ ((o ≡ None) × (y ≡ z))

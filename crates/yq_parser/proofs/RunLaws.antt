@@ -1,14 +1,13 @@
 -- Runs of bytes, and strings, as they are measured and spelled.
-use Rattle.std.proofs.Common.{◌≡◌, ℕ, suc, ◌+◌, Bool, true, false, cond, ◌||◌, ◌==◌, List, [], ◌∷◌, ◌++◌, length, take, drop, Option, Some, None, is_some, refl, sym, ap, ◌∙◌, subst, inl, inr, arith, eqb-true}
-use Rattle.std.proofs.lemmas.Bool.{not-true, and_parts, cases_Bool, or_parts}
-use Rattle.std.proofs.lemmas.Option.{same_Some}
+use Rattle.std.proofs.Common.{◌≡◌, ℕ, suc, ◌+◌, Bool, true, false, cond, ◌||◌, ◌==◌, List, [], ◌∷◌, ◌++◌, length, take, drop, Option, Some}
+use Rattle.std.proofs.Common.{None, is_some, refl, sym, ap, ◌∙◌, subst, inl, inr, arith, eqb-true}
+use Rattle.std.{proofs.lemmas.Bool.{not-true, and_parts, cases_Bool, or_parts}, proofs.lemmas.Option.same_Some}
 use Rattle.std.specs.List.{prefix_len, list_all}
-use Rattle.yq_core.specs.Text.{front, unless}
-use Rattle.yq_core.proofs.Bools.{chosen, guard_then}
-use Rattle.yq_parser.specs.declared.token.TokenForm.{TokenForm}
+use Rattle.yq_core.{specs.Text.{front, unless}, proofs.Bools.{chosen, guard_then}}
+use Rattle.yq_parser.{specs.declared.token.TokenForm.TokenForm, specs.Lexing.{beyond, closing, escaping, quoted, string_content, token_of}}
+use Rattle.yq_semantics.specs.Tokens.{Token, foreign, escaped_character, Character, itself, escaped, spelling, AreCharacters, interpolates}
+use Rattle.yq_semantics.specs.Tokens.{character_before, said, IsString}
 use Rattle.yq_parser.specs.declared.token.TokenForm.TheVariants as form
-use Rattle.yq_semantics.specs.Tokens.{Token, foreign, escaped_character, Character, itself, escaped, spelling, AreCharacters, interpolates, character_before, said, IsString}
-use Rattle.yq_parser.specs.Lexing.{beyond, closing, escaping, quoted, string_content, token_of}
 
 -- ---- runs of bytes that pass a test
 

@@ -1,10 +1,9 @@
 -- A turn of the survey.
-use Rattle.std.proofs.Common.{◌≡◌, ℕ, ◌+◌, ◌<◌, ◌≤◌, Bool, true, false, ◌||◌, nat_lt, List, ◌∷◌, Option, Some, None, refl, sym, ap, ◌∙◌, arith}
+use Rattle.std.proofs.Common.{◌≡◌, ℕ, ◌+◌, ◌<◌, ◌≤◌, Bool, true, false, ◌||◌, nat_lt, List, ◌∷◌, Option, Some, None, refl, sym, ap, ◌∙◌}
+use Rattle.std.proofs.Common.{arith}
 use Rattle.yq_semantics.specs.Tokens.{Token}
-use Rattle.yq_parser.specs.Lexing.{next_token, tokens}
-use Rattle.yq_parser.specs.Outcome.{count_if, is_opening, is_closing}
-use Rattle.yq_parser.specs.Parse.{is_unread, is_foreign_token, surveyed}
-use Rattle.yq_parser.proofs.Lexing.{tokens_some}
+use Rattle.yq_parser.{specs.Lexing.{next_token, tokens}, specs.Outcome.{count_if, is_opening, is_closing}}
+use Rattle.yq_parser.{specs.Parse.{is_unread, is_foreign_token, surveyed}, proofs.Lexing.tokens_some}
 
 survey_on : (o : Bool) (a b : ℕ) (t : Token) (ts : List Token) → false ≡ is_unread t
     → surveyed o a b (t ∷ ts) ≡ surveyed (o || is_foreign_token t || nat_lt (count_if (is_closing t) b + 64) (count_if (is_opening t) a)) (count_if (is_opening t) a) (count_if (is_closing t) b) ts

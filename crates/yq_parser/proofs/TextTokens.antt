@@ -1,18 +1,14 @@
 -- The tokens of a text are those that the grammar has.
-use Rattle.std.proofs.Common.{◌≡◌, ℕ, zero, suc, ◌+◌, ◌<◌, Bool, true, false, cond, List, [], ◌∷◌, ◌++◌, length, take, drop, Option, Some, None, refl, sym, ap, ◌∙◌, subst, arith, append-nil, eqb-true, rules}
-use Rattle.std.proofs.lemmas.Bool.{or_cases, false_from_ne_true, and_parts}
-use Rattle.std.proofs.lemmas.List.{take-append-drop}
-use Rattle.std.proofs.Math.Seq.{take-append_seam, drop-append_seam}
-use Rattle.std.proofs.lemmas.Option.{none-some}
-use Rattle.std.specs.List.{prefix_len, list_all}
+use Rattle.std.proofs.Common.{◌≡◌, ℕ, zero, suc, ◌+◌, ◌<◌, Bool, true, false, cond, List, [], ◌∷◌, ◌++◌, length, take, drop, Option, Some}
+use Rattle.std.proofs.Common.{None, refl, sym, ap, ◌∙◌, subst, arith, append-nil, eqb-true, rules}
+use Rattle.std.{proofs.lemmas.Bool.{or_cases, false_from_ne_true, and_parts}, proofs.lemmas.List.take-append-drop}
+use Rattle.std.{proofs.Math.Seq.{take-append_seam, drop-append_seam}, proofs.lemmas.Option.none-some, specs.List.{prefix_len, list_all}}
 use Rattle.yq_core.specs.Text.{unless}
 use Rattle.yq_parser.specs.declared.token.TokenForm.{TokenForm}
-use Rattle.yq_semantics.specs.Tokens.{Token, symbol, foreign, unread, is_token_blank, IsToken, AreTokens}
 use Rattle.yq_parser.specs.Lexing.{token_measure, token_of, cut_token, front_token, next_token, ahead, tokens, AreRead}
-use Rattle.yq_parser.proofs.Lexing.{tokens_next, next_shorter}
-use Rattle.yq_parser.proofs.RunLaws.{run_len, run_passes}
-use Rattle.yq_parser.proofs.TokenTakes.{measure_in}
+use Rattle.yq_parser.{proofs.Lexing.{tokens_next, next_shorter}, proofs.RunLaws.{run_len, run_passes}, proofs.TokenTakes.measure_in}
 use Rattle.yq_parser.proofs.TokenAgain.{measure_again}
+use Rattle.yq_semantics.specs.Tokens.{Token, symbol, foreign, unread, is_token_blank, IsToken, AreTokens}
 
 -- ---- the tokens of a text
 

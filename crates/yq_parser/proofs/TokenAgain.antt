@@ -1,17 +1,16 @@
 -- Every token is what measuring finds.
-use Rattle.std.proofs.Common.{◌≡◌, ℕ, suc, ◌+◌, Bool, true, false, cond, ◌&&◌, ◌==◌, List, [], ◌∷◌, ◌++◌, length, take, Some, refl, sym, ap, ◌∙◌, subst, inl, inr, arith, append_assoc, eqb-true, length-append, rules}
-use Rattle.std.proofs.lemmas.Bool.{false≢true, false_from_ne_true, cases_Bool, or_parts}
-use Rattle.std.proofs.Math.Bool.{and-false}
-use Rattle.std.proofs.Math.Seq.{take-append_seam, drop-append_seam}
-use Rattle.std.specs.Char.{is_ascii_digit}
-use Rattle.std.specs.List.{prefix_len}
-use Rattle.yq_core.specs.Text.{front}
-use Rattle.yq_core.proofs.Bools.{at_byte}
-use Rattle.yq_parser.specs.declared.token.TokenForm.TheVariants as form
-use Rattle.yq_semantics.specs.Tokens.{Token, string, number, step, symbol, foreign, begins_name, is_name_byte, is_keyword, is_mark_character, is_mark_before, is_foreign, Character, spelling, AreCharacters, interpolates, said, IsString, IsBareName, begins_fraction, IsUnsigned, IsNumberToken, dot_goes_on, begins_equals, IsMarkToken, IsForeign, IsToken}
+use Rattle.std.proofs.Common.{◌≡◌, ℕ, suc, ◌+◌, Bool, true, false, cond, ◌&&◌, ◌==◌, List, [], ◌∷◌, ◌++◌, length, take, Some, refl, sym, ap}
+use Rattle.std.proofs.Common.{◌∙◌, subst, inl, inr, arith, append_assoc, eqb-true, length-append, rules}
+use Rattle.std.{proofs.lemmas.Bool.{false≢true, false_from_ne_true, cases_Bool, or_parts}, proofs.Math.Bool.and-false}
+use Rattle.std.{proofs.Math.Seq.{take-append_seam, drop-append_seam}, specs.Char.is_ascii_digit, specs.List.prefix_len}
+use Rattle.yq_core.{specs.Text.front, proofs.Bools.at_byte}
+use Rattle.yq_semantics.specs.Tokens.{Token, string, number, step, symbol, foreign, begins_name, is_name_byte, is_keyword}
+use Rattle.yq_semantics.specs.Tokens.{is_mark_character, is_mark_before, is_foreign, Character, spelling, AreCharacters, interpolates, said}
+use Rattle.yq_semantics.specs.Tokens.{IsString, IsBareName, begins_fraction, IsUnsigned, IsNumberToken, dot_goes_on, begins_equals}
+use Rattle.yq_semantics.specs.Tokens.{IsMarkToken, IsForeign, IsToken}
 use Rattle.yq_parser.specs.Lexing.{closing, quoted, fraction_len, number_len, read_word, marked, token_measure, string_content, token_of}
-use Rattle.yq_parser.proofs.RunLaws.{closing_again, content_again, form_if, run_len}
-use Rattle.yq_parser.proofs.TokenTakes.{Measures}
+use Rattle.yq_parser.{proofs.RunLaws.{closing_again, content_again, form_if, run_len}, proofs.TokenTakes.Measures}
+use Rattle.yq_parser.specs.declared.token.TokenForm.TheVariants as form
 
 -- ---- each token is measured
 

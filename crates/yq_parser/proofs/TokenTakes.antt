@@ -1,19 +1,16 @@
 -- What measuring finds in front is a token.
-use Rattle.std.proofs.Common.{◌≡◌, ◌⊎◌, ℕ, suc, ◌+◌, Bool, true, false, cond, ◌&&◌, ◌||◌, ◌==◌, List, [], ◌∷◌, ◌++◌, length, take, drop, Some, refl, sym, ap, ◌∙◌, subst, inl, inr, arith, eqb-true, rules}
-use Rattle.std.proofs.lemmas.List.{drop-drop}
-use Rattle.std.proofs.Math.Seq.{take-add}
-use Rattle.std.proofs.lemmas.Bool.{and_parts, cases_Bool}
-use Rattle.std.proofs.lemmas.Option.{same_Some}
-use Rattle.std.specs.Char.{is_ascii_digit}
-use Rattle.std.specs.List.{prefix_len}
-use Rattle.yq_core.specs.Text.{front}
-use Rattle.yq_core.proofs.Bools.{chosen, guard_then}
+use Rattle.std.proofs.Common.{◌≡◌, ◌⊎◌, ℕ, suc, ◌+◌, Bool, true, false, cond, ◌&&◌, ◌||◌, ◌==◌, List, [], ◌∷◌, ◌++◌, length, take, drop}
+use Rattle.std.{proofs.Common.{Some, refl, sym, ap, ◌∙◌, subst, inl, inr, arith, eqb-true, rules}, proofs.lemmas.List.drop-drop}
+use Rattle.std.{proofs.Math.Seq.take-add, proofs.lemmas.Bool.{and_parts, cases_Bool}, proofs.lemmas.Option.same_Some}
+use Rattle.std.{specs.Char.is_ascii_digit, specs.List.prefix_len}
+use Rattle.yq_core.{specs.Text.front, proofs.Bools.{chosen, guard_then}}
 use Rattle.yq_parser.specs.declared.token.TokenForm.{TokenForm}
-use Rattle.yq_parser.specs.declared.token.TokenForm.TheVariants as form
-use Rattle.yq_semantics.specs.Tokens.{Token, string, step, symbol, foreign, begins_name, is_name_byte, is_keyword, is_mark_character, is_mark_before, is_foreign, IsBareName, AreDigits, begins_fraction, IsUnsigned, dot_goes_on, begins_equals, IsToken}
 use Rattle.yq_parser.specs.Lexing.{closing, fraction_len, number_len, dotted, marked, worded, token_measure, token_of}
-use Rattle.yq_parser.proofs.Lexing.{begins_is_name}
-use Rattle.yq_parser.proofs.RunLaws.{form_if, quoted_is, run_front, run_passes, run_stops, string_in}
+use Rattle.yq_parser.{proofs.Lexing.begins_is_name, proofs.RunLaws.{form_if, quoted_is, run_front, run_passes, run_stops, string_in}}
+use Rattle.yq_semantics.specs.Tokens.{Token, string, step, symbol, foreign, begins_name, is_name_byte, is_keyword, is_mark_character}
+use Rattle.yq_semantics.specs.Tokens.{is_mark_before, is_foreign, IsBareName, AreDigits, begins_fraction, IsUnsigned, dot_goes_on}
+use Rattle.yq_semantics.specs.Tokens.{begins_equals, IsToken}
+use Rattle.yq_parser.specs.declared.token.TokenForm.TheVariants as form
 
 -- ---- what measuring finds is a token
 

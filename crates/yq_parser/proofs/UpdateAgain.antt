@@ -1,18 +1,13 @@
 -- Updates of the grammar are read again.
-use Rattle.std.proofs.Common.{◌≡◌, List, [], ◌∷◌, Some, None, refl, rules}
-use Rattle.std.specs.Prelude.{codes}
-use Rattle.yq_semantics.specs.declared.program.Operator.{Operator}
-use Rattle.yq_semantics.specs.declared.program.CommentPlace.{CommentPlace}
-use Rattle.yq_semantics.specs.declared.program.CommentPlace.TheVariants as place
-use Rattle.yq_semantics.specs.Program.{literal, found, Update, assign, delete, comment}
-use Rattle.yq_semantics.specs.Tokens.{Token, string, symbol}
-use Rattle.yq_parser.specs.Lexing.{after}
+use Rattle.std.{proofs.Common.{◌≡◌, List, [], ◌∷◌, Some, None, refl, rules}, specs.Prelude.codes}
+use Rattle.yq_semantics.{specs.declared.program.Operator.Operator, specs.declared.program.CommentPlace.CommentPlace}
+use Rattle.yq_semantics.{specs.Program.{literal, found, Update, assign, delete, comment}, specs.Tokens.{Token, string, symbol}}
 use Rattle.yq_semantics.specs.Grammar.{HasSymbol, AreParted, literal_depth, IsTerm, IsRight, operator_mark, place_word, IsUpdate}
-use Rattle.yq_parser.specs.Parse.{parted_at, term_at, right_at, operator_at, place_at, action_at, parse_update}
-use Rattle.yq_parser.proofs.LoopSteps.{term_lessens, update_lessens}
-use Rattle.yq_parser.proofs.FormsAgain.{Again, parted_again, Ends}
+use Rattle.yq_parser.{specs.Lexing.after, specs.Parse.{parted_at, term_at, right_at, operator_at, place_at, action_at, parse_update}}
+use Rattle.yq_parser.{proofs.LoopSteps.{term_lessens, update_lessens}, proofs.FormsAgain.{Again, parted_again, Ends}}
 use Rattle.yq_parser.proofs.LiteralAgain.{literal_begins, literal_again}
 use Rattle.yq_parser.proofs.PipeAgain.{EndsPipe, parenthesized_pipe, left_again, left_begins}
+use Rattle.yq_semantics.specs.declared.program.CommentPlace.TheVariants as place
 
 term_again : Again (term_at literal_depth) IsTerm Ends
 unfolding term_at

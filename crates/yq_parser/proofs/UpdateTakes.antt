@@ -1,18 +1,17 @@
 -- The updates and programs that are read are those of the grammar, and each has a token at least.
-use Rattle.std.proofs.Common.{◌≡◌, List, [], ◌∷◌, length, Some, ap, inl, inr, arith, rules}
-use Rattle.std.proofs.lemmas.Option.{same_Some}
+use Rattle.std.{proofs.Common.{◌≡◌, List, [], ◌∷◌, length, Some, ap, inl, inr, arith, rules}, proofs.lemmas.Option.same_Some}
 use Rattle.std.specs.Prelude.{codes}
-use Rattle.yq_core.specs.Answers.{◌>>=◌}
-use Rattle.yq_core.proofs.Bools.{bind_some, chosen}
-use Rattle.yq_semantics.specs.declared.program.Operator.{Operator}
-use Rattle.yq_semantics.specs.declared.program.CommentPlace.{CommentPlace}
+use Rattle.yq_core.{specs.Answers.◌>>=◌, proofs.Bools.{bind_some, chosen}}
+use Rattle.yq_semantics.{specs.declared.program.Operator.Operator, specs.declared.program.CommentPlace.CommentPlace}
 use Rattle.yq_semantics.specs.Program.{Stage, literal, found, Update, assign, delete, comment, Program}
 use Rattle.yq_semantics.specs.Tokens.{Token, string, symbol}
+use Rattle.yq_semantics.specs.Grammar.{Production, HasSymbol, InParentheses, IsPipe, IsLeft, literal_depth, IsTerm, IsRight, operator_mark}
+use Rattle.yq_semantics.specs.Grammar.{place_word, IsUpdate, IsProgram}
 use Rattle.yq_parser.specs.Lexing.{after, taken, as_string}
-use Rattle.yq_semantics.specs.Grammar.{Production, HasSymbol, InParentheses, IsPipe, IsLeft, literal_depth, IsTerm, IsRight, operator_mark, place_word, IsUpdate, IsProgram}
-use Rattle.yq_parser.specs.Parse.{Parse, parenthesized_at, pipe_at, left_at, term_at, right_at, operator_at, place_at, action_at, parse_update, all_read, updates_at, program_at}
-use Rattle.yq_parser.proofs.Readers.{either_cases, after_takes, string_takes, Takes, Shortens, same_form, parted_takes, behind_shortens, parted_shortens, between_shortens}
-use Rattle.yq_parser.proofs.LiteralTakes.{literal_takes, literal_shortens}
+use Rattle.yq_parser.specs.Parse.{Parse, parenthesized_at, pipe_at, left_at, term_at, right_at, operator_at, place_at, action_at}
+use Rattle.yq_parser.specs.Parse.{parse_update, all_read, updates_at, program_at}
+use Rattle.yq_parser.proofs.Readers.{either_cases, after_takes, string_takes, Takes, Shortens, same_form, parted_takes, behind_shortens}
+use Rattle.yq_parser.{proofs.Readers.{parted_shortens, between_shortens}, proofs.LiteralTakes.{literal_takes, literal_shortens}}
 use Rattle.yq_parser.proofs.PipeTakes.{parenthesized_takes, pipe_takes, pipe_shortens, left_takes, left_shortens}
 
 pub term_takes : Takes (term_at literal_depth) IsTerm

@@ -1,9 +1,10 @@
 -- Reading (own; a reader may skip it: the grammar is what is believed, and the clauses `found` and `only` tie the two).
-use Rattle.std.specs.Prelude.{◌≡◌, ℕ, zero, suc, ◌+◌, if◌then◌else◌, Bool, true, false, ◌||◌, ◌&&◌, ◌==◌, List, [], ◌∷◌, length, take, drop, Option, Some, None, is_some, option_map, not}
-use Rattle.std.specs.Char.{is_ascii_digit}
-use Rattle.std.specs.List.{prefix_len}
+use Rattle.std.specs.Prelude.{◌≡◌, ℕ, zero, suc, ◌+◌, if◌then◌else◌, Bool, true, false, ◌||◌, ◌&&◌, ◌==◌, List, [], ◌∷◌, length, take, drop}
+use Rattle.std.{specs.Prelude.{Option, Some, None, is_some, option_map, not}, specs.Char.is_ascii_digit, specs.List.prefix_len}
 use Rattle.yq_core.specs.Text.{front}
-use Rattle.yq_semantics.specs.Tokens.{Token, is_symbol, string, number, step, symbol, foreign, unread, is_token_blank, begins_name, is_name_byte, is_keyword, is_mark_character, is_mark_before, is_foreign, escaped_character, character_before}
+use Rattle.yq_semantics.specs.Tokens.{Token, is_symbol, string, number, step, symbol, foreign, unread, is_token_blank, begins_name}
+use Rattle.yq_semantics.specs.Tokens.{is_name_byte, is_keyword, is_mark_character, is_mark_before, is_foreign, escaped_character}
+use Rattle.yq_semantics.specs.Tokens.{character_before}
 use Rattle.yq_parser.specs.declared.token.TokenForm.{TokenForm}
 use Rattle.yq_parser.specs.declared.token.TokenForm.TheVariants as form
 

@@ -2,10 +2,10 @@
 use Rattle.std.specs.Prelude.{◌≡◌, ◌≢◌, ℕ, ◌+◌, ◌<◌, ◌⊎◌, Bool, true, false, ◌||◌, ◌==◌, List, [], ◌∷◌, take, codes, Result, Ok, Err}
 use Rattle.std.specs.List.{list_any}
 use Rattle.yq_parser.specs.declared.error.ParseError.{ParseError}
+use Rattle.yq_semantics.specs.Program.{PathStep, key, index, each, Operand, value_at, document_index, Condition, compares, has, Stage, path}
+use Rattle.yq_semantics.specs.Program.{select, Term, literal, found, Update, assign, delete, comment, Program, read, updates}
+use Rattle.yq_semantics.{specs.Tokens.{Token, foreign, is_symbol, AreTokens}, specs.Grammar.IsProgram}
 use Rattle.yq_parser.specs.declared.error.ParseError.TheVariants as error
-use Rattle.yq_semantics.specs.Program.{PathStep, key, index, each, Operand, value_at, document_index, Condition, compares, has, Stage, path, select, Term, literal, found, Update, assign, delete, comment, Program, read, updates}
-use Rattle.yq_semantics.specs.Tokens.{Token, foreign, is_symbol, AreTokens}
-use Rattle.yq_semantics.specs.Grammar.{IsProgram}
 
 -- a text with `*` or `?` (own)
 abbrev pub is_pattern : List ℕ → Bool

@@ -1,22 +1,18 @@
 -- Reading (own; a reader may skip it: the grammar is what is believed, and the clauses `found` and `only` tie the two).
-use Rattle.std.specs.Prelude.{ℕ, zero, suc, ◌+◌, nat_lt, if◌then◌else◌, Bool, true, false, ◌||◌, List, [], ◌∷◌, length, map, Option, Some, None, is_some, codes}
-use Rattle.yq_core.specs.Answers.{◌>>=◌}
-use Rattle.yq_core.specs.Scalar.{ScalarText, string_of, plain_of}
-use Rattle.yq_core.specs.SchemaReading.{int_value}
-use Rattle.yq_core.specs.Tree.{Node}
-use Rattle.yq_core.specs.Tree as tree
-use Rattle.yq_semantics.specs.declared.program.Operator.{Operator}
-use Rattle.yq_semantics.specs.declared.program.Operator.TheVariants as operator
-use Rattle.yq_semantics.specs.declared.program.CommentPlace.{CommentPlace}
-use Rattle.yq_semantics.specs.declared.program.CommentPlace.TheVariants as place
-use Rattle.yq_semantics.specs.Program.{is_simple, PathStep, key, index, each, Operand, value_at, document_index, Condition, compares, has, Stage, path, select, Term, literal, found, Update, assign, delete, comment, Program, read, updates}
-use Rattle.yq_semantics.specs.Tokens.{Token, string, number, step, symbol, foreign, unread}
+use Rattle.std.specs.Prelude.{ℕ, zero, suc, ◌+◌, nat_lt, if◌then◌else◌, Bool, true, false, ◌||◌, List, [], ◌∷◌, length, map, Option, Some}
+use Rattle.std.specs.Prelude.{None, is_some, codes}
+use Rattle.yq_core.{specs.Answers.◌>>=◌, specs.Scalar.{ScalarText, string_of, plain_of}, specs.SchemaReading.int_value, specs.Tree.Node}
+use Rattle.yq_core.{specs.Values.{items, entries}, specs.Keys.are_distinct}
+use Rattle.yq_semantics.{specs.declared.program.Operator.Operator, specs.declared.program.CommentPlace.CommentPlace}
+use Rattle.yq_semantics.specs.Program.{is_simple, PathStep, key, index, each, Operand, value_at, document_index, Condition, compares, has}
+use Rattle.yq_semantics.specs.Program.{Stage, path, select, Term, literal, found, Update, assign, delete, comment, Program, read, updates}
+use Rattle.yq_semantics.{specs.Tokens.{Token, string, number, step, symbol, foreign, unread}, specs.Grammar.literal_depth}
 use Rattle.yq_parser.specs.Outcome.{Outcome, parsed, refused, has_pattern, count_if, is_opening, is_closing}
-use Rattle.yq_semantics.specs.Grammar.{literal_depth}
-use Rattle.yq_parser.specs.declared.error.ParseError.TheVariants as error
 use Rattle.yq_parser.specs.Lexing.{tokens, after, taken, as_number, as_string, as_step, no_tokens}
-use Rattle.yq_core.specs.Values.{items, entries}
-use Rattle.yq_core.specs.Keys.{are_distinct}
+use Rattle.yq_core.specs.Tree as tree
+use Rattle.yq_semantics.specs.declared.program.Operator.TheVariants as operator
+use Rattle.yq_semantics.specs.declared.program.CommentPlace.TheVariants as place
+use Rattle.yq_parser.specs.declared.error.ParseError.TheVariants as error
 
 -- a reading function: the form in front and the tokens that follow, or nothing (own)
 abbrev pub Parse : Type 0 → Type 0

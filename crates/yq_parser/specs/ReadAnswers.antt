@@ -1,10 +1,8 @@
 -- What an answer of the parser says of what reading gives.
-use Rattle.std.specs.Prelude.{◌≡◌, ℕ, ◌<◌, List, length, Option, Some, None, option_map, Result, Ok, Err, IfOk}
-use Rattle.std.specs.Borrow.{Bor}
-use Rattle.yq_parser.specs.declared.error.ParseError.{ParseError}
-use Rattle.yq_parser.specs.declared.error.ParseError.TheVariants as error
+use Rattle.std.{specs.Prelude.{◌≡◌, ℕ, ◌<◌, List, length, Option, Some, None, option_map, Result, Ok, Err, IfOk}, specs.Borrow.Bor}
+use Rattle.yq_parser.{specs.declared.error.ParseError.ParseError, specs.Lexing.tokens}
 use Rattle.yq_semantics.specs.Tokens.{Token}
-use Rattle.yq_parser.specs.Lexing.{tokens}
+use Rattle.yq_parser.specs.declared.error.ParseError.TheVariants as error
 
 -- Syntax comes where reading gives nothing; want of memory says nothing (own).
 abbrev pub ParseFails : {Y : Type 0} → ParseError → Option Y → Type 0

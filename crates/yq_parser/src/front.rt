@@ -1,9 +1,9 @@
 //! What is in front of a text, token by token.
 ghost use Rattle.std.specs.Prelude.{◌≡◌, ◌<◌, ℕ, List, length, is_some, option_map, string_bytes, IfSome, IfOk};
 ghost use Rattle.yq_parser.specs.ReadAnswers.{GivesForm, Succeeds, ReadsForm, Shortens, IsShorter, with_tokens};
-ghost use Rattle.yq_parser.specs.Lexing as spec;
 ghost use Rattle.yq_parser.specs.TokenView.{token_view};
 ghost use Rattle.yq_semantics.specs.Tokens.{Token};
+ghost use Rattle.yq_parser.specs.Lexing as spec;
 
 use crate::error::ParseError;
 use crate::token::split_token;

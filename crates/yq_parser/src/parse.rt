@@ -1,12 +1,9 @@
 //! Texts are parsed into programs.
 ghost use Rattle.std.specs.Prelude.{◌≡◌, false, map, IfOk, IfErr};
-ghost use Rattle.yq_parser.specs.ReadAnswers.{GivesForm};
-ghost use Rattle.yq_semantics.specs.Grammar.{literal_depth};
-ghost use Rattle.yq_parser.specs.Lexing.{tokens};
+ghost use Rattle.yq_parser.{specs.ReadAnswers.GivesForm, specs.Lexing.tokens};
 ghost use Rattle.yq_parser.specs.Outcome.{Answers, Derives, ExprRefused, has_pattern, parsed};
+ghost use Rattle.yq_semantics.{specs.Grammar.literal_depth, specs.Program.Program as Outline, specs.View.{stage_of, update_of, program_of}};
 ghost use Rattle.yq_parser.specs.Parse as spec;
-ghost use Rattle.yq_semantics.specs.Program.{Program as Outline};
-ghost use Rattle.yq_semantics.specs.View.{stage_of, update_of, program_of};
 
 mod literal;
 mod path;

@@ -1,8 +1,7 @@
 //! Patterns, which this language has not.
-ghost use Rattle.std.specs.List.{list_any};
-ghost use Rattle.std.specs.Prelude.{◌≡◌, ◌==◌, ◌||◌, string_bytes};
-ghost use Rattle.yq_parser.specs.Outcome as spec;
+ghost use Rattle.std.{specs.List.list_any, specs.Prelude.{◌≡◌, ◌==◌, ◌||◌, string_bytes}};
 ghost use Rattle.yq_semantics.specs.View.{program_step, operand_of, condition_of, stage_of, term_of, update_of, program_of};
+ghost use Rattle.yq_parser.specs.Outcome as spec;
 
 use yq_semantics::{Condition, Operand, PathStep, Stage, Syntax, Term, Update};
 

@@ -1,10 +1,8 @@
 //! What is told of a text before it is parsed.
 ghost use Rattle.std.specs.Prelude.{◌≡◌, ◌+◌, ◌^◌, ◌<◌, false};
-ghost use Rattle.yq_parser.specs.ReadAnswers.{GivesForm};
-ghost use Rattle.yq_parser.specs.Lexing.{tokens};
+ghost use Rattle.yq_parser.{specs.ReadAnswers.GivesForm, specs.Lexing.tokens, specs.TokenView.token_view};
 ghost use Rattle.yq_parser.specs.Outcome as grammar;
 ghost use Rattle.yq_parser.specs.Parse as spec;
-ghost use Rattle.yq_parser.specs.TokenView.{token_view};
 
 use crate::error::ParseError;
 use crate::token::{Token, split_token};

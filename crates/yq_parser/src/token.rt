@@ -1,11 +1,11 @@
 //! Tokens of a text, one after the other.
 ghost use Rattle.std.specs.List.{prefix_len};
 ghost use Rattle.std.specs.Prelude.{◌≡◌, ◌<◌, ◌≤◌, length, is_some, option_map, string_bytes, IfSome, IfOk, MatchOption};
+ghost use Rattle.yq_parser.specs.TokenView.{token_view};
+ghost use Rattle.yq_semantics.specs.Tokens.{is_token_blank};
 ghost use Rattle.yq_parser.specs.Lexing as spec;
 ghost use Rattle.yq_parser.specs.Parse as parse;
-ghost use Rattle.yq_parser.specs.TokenView.{token_view};
 ghost use Rattle.yq_semantics.specs.Tokens as grammar;
-ghost use Rattle.yq_semantics.specs.Tokens.{is_token_blank};
 
 mod measure;
 mod unescape;

@@ -1,36 +1,19 @@
 -- Where comments stand or would stand, by the row that the code has found.
-use Rattle.std.proofs.Common.{◌≡◌, ℕ, ◌+◌, ◌-◌, ◌≤◌, eqb, List, [], ◌∷◌, ◌++◌, length, take, drop, Option, Some, None, option_map, true, cond, refl, sym, ap, ◌∙◌, subst, arith, append_assoc, append-nil, length-append, rules}
-use Rattle.std.proofs.Math.Seq.{take-append_seam, drop-append_seam}
-use Rattle.std.proofs.lemmas.Bool.{eq-eqb}
-use Rattle.std.proofs.lemmas.Option.{slice_get-map}
-use Rattle.std.specs.List.{slice_get}
-use Rattle.std.specs.Str.{IsUtf8, IsCharBoundary}
-use Rattle.yq_core.specs.Answers.{◌>>=◌}
-use Rattle.yq_core.specs.Text.{joined, text_lines}
-use Rattle.yq_core.proofs.LineLaws.{joined_lines}
-use Rattle.yq_row_table.specs.Exchange.{row_front}
-use Rattle.yq_row_table.specs.Gap.{IsGap}
-use Rattle.yq_row_table.specs.Rows.{Row, behind_gap, print_row, Cut}
-use Rattle.yq_row_table.specs.View.{Slices, slices, rows_of, RowsView}
-use Rattle.yq_row_table.proofs.NodePieces.{BeginsAscii, before_ascii}
-use Rattle.yq_row_table.proofs.PlaceLaws.{row_front-append, row_in}
-use Rattle.yq_row_table.proofs.SliceLaws.{content_slices}
-use Rattle.yq_documents.specs.declared.path.Path.{Path}
-use Rattle.yq_places.specs.CommentPlaces.{LinesAbove, text_to_line_end, gap_above, above_row, lines_above}
-use Rattle.yq_places.specs.CommentViews.{GapStands}
+use Rattle.std.proofs.Common.{◌≡◌, ℕ, ◌+◌, ◌-◌, ◌≤◌, eqb, List, [], ◌∷◌, ◌++◌, length, take, drop, Option, Some, None, option_map, true}
+use Rattle.std.proofs.Common.{cond, refl, sym, ap, ◌∙◌, subst, arith, append_assoc, append-nil, length-append, rules}
+use Rattle.std.{proofs.Math.Seq.{take-append_seam, drop-append_seam}, proofs.lemmas.Bool.eq-eqb, proofs.lemmas.Option.slice_get-map}
+use Rattle.std.{specs.List.slice_get, specs.Str.{IsUtf8, IsCharBoundary}}
+use Rattle.yq_core.{specs.Answers.◌>>=◌, specs.Text.{joined, text_lines}, proofs.LineLaws.joined_lines}
+use Rattle.yq_row_table.{specs.Exchange.row_front, specs.Gap.IsGap, specs.Rows.{Row, behind_gap, print_row, Cut}}
+use Rattle.yq_row_table.{specs.View.{Slices, slices, rows_of, RowsView}, proofs.NodePieces.{BeginsAscii, before_ascii}}
+use Rattle.yq_row_table.{proofs.PlaceLaws.{row_front-append, row_in}, proofs.SliceLaws.content_slices}
+use Rattle.yq_documents.{specs.declared.path.Path.Path, specs.Located.steps_of, specs.Pieces.{before_run, last_run}, specs.Reading.cut_of}
+use Rattle.yq_documents.{specs.LinesInRows.{row_line_at, document_row}, proofs.RunLaws.run_split}
+use Rattle.yq_places.{specs.CommentPlaces.{LinesAbove, text_to_line_end, gap_above, above_row, lines_above}, specs.CommentViews.GapStands}
+use Rattle.yq_places.{specs.PlacedRows.PlacedRow, specs.RowLineReading.{LineCounts, numbers}, specs.RowWalk.HasCut}
+use Rattle.yq_places.{proofs.CommentPieceLaws.{row_place, run_begins}, proofs.PlacedRowLaws.{row_line_placed, no_row_line_placed}}
+use Rattle.yq_places.{proofs.SeamLaws.{IsSeam, seam_boundary, seam_then, gap_seam, row_seam}, proofs.StartLaws.start_agrees}
 use Rattle.yq_outline.specs.Extents.{row_start}
-use Rattle.yq_documents.specs.Located.{steps_of}
-use Rattle.yq_documents.specs.Pieces.{before_run, last_run}
-use Rattle.yq_places.specs.PlacedRows.{PlacedRow}
-use Rattle.yq_documents.specs.Reading.{cut_of}
-use Rattle.yq_places.specs.RowLineReading.{LineCounts, numbers}
-use Rattle.yq_documents.specs.LinesInRows.{row_line_at, document_row}
-use Rattle.yq_places.specs.RowWalk.{HasCut}
-use Rattle.yq_places.proofs.CommentPieceLaws.{row_place, run_begins}
-use Rattle.yq_places.proofs.PlacedRowLaws.{row_line_placed, no_row_line_placed}
-use Rattle.yq_documents.proofs.RunLaws.{run_split}
-use Rattle.yq_places.proofs.SeamLaws.{IsSeam, seam_boundary, seam_then, gap_seam, row_seam}
-use Rattle.yq_places.proofs.StartLaws.{start_agrees}
 
 -- a row up to the end of the line of its mark, and behind that
 pub row_text_parts : (r : Row) (rest : List ℕ) → print_row r rest ≡ text_to_line_end r ++ ((slices r).tail ++ ((slices r).raw ++ rest))

@@ -1,23 +1,15 @@
 -- The text holds the pieces of comments.
-use Rattle.std.proofs.Common.{◌≡◌, ◌⊎◌, inl, inr, ℕ, List, [], ◌∷◌, ◌++◌, length, map, Some, None, refl, sym, ap, ◌∙◌, subst, append_assoc, rules}
-use Rattle.std.proofs.lemmas.Option.{none-some}
-use Rattle.std.specs.Str.{IsUtf8}
-use Rattle.yq_core.specs.Paths.{Step}
-use Rattle.yq_core.specs.Text.{upto, text_lines}
-use Rattle.yq_core.proofs.Bools.{bind_some}
-use Rattle.yq_outline.specs.Group.{group}
-use Rattle.yq_outline.specs.Outline.{flatten}
-use Rattle.yq_outline.specs.Places.{lines_before, FoundLine, find}
-use Rattle.yq_row_table.specs.Rows.{Content, Nothing, content_text}
-use Rattle.yq_row_table.specs.View.{content_cut}
-use Rattle.yq_documents.specs.declared.path.Part.TheVariants as parts
+use Rattle.std.proofs.Common.{◌≡◌, ◌⊎◌, inl, inr, ℕ, List, [], ◌∷◌, ◌++◌, length, map, Some, None, refl, sym, ap, ◌∙◌, subst, append_assoc}
+use Rattle.std.{proofs.Common.rules, proofs.lemmas.Option.none-some, specs.Str.IsUtf8}
+use Rattle.yq_core.{specs.Paths.Step, specs.Text.{upto, text_lines}, proofs.Bools.bind_some}
+use Rattle.yq_outline.{specs.Group.group, specs.Outline.flatten, specs.Places.{lines_before, FoundLine, find}}
+use Rattle.yq_row_table.{specs.Rows.{Content, Nothing, content_text}, specs.View.content_cut}
 use Rattle.yq_places.specs.PathPieces.{BlockEntry, PrintedDocument, found_entry, piece_in_entry, piece_in}
-use Rattle.yq_documents.specs.Pieces.{TextPiece, HoldsPiece, tail_comment, content_comment, gap_comment}
-use Rattle.yq_places.specs.PrintedLines.{line_rest, print_lines, line_in}
-use Rattle.yq_places.proofs.CommentPieceLaws.{Ended, tail_piece, gap_piece}
-use Rattle.yq_places.proofs.PrintedLaws.{IsPrinted, ArePrinted}
-use Rattle.yq_places.proofs.FoundEntries.{entry_found}
+use Rattle.yq_places.{specs.PrintedLines.{line_rest, print_lines, line_in}, proofs.CommentPieceLaws.{Ended, tail_piece, gap_piece}}
+use Rattle.yq_places.{proofs.PrintedLaws.{IsPrinted, ArePrinted}, proofs.FoundEntries.entry_found}
 use Rattle.yq_places.proofs.PieceTexts.{tail_text, entry_text, document_text, entry_whole}
+use Rattle.yq_documents.specs.Pieces.{TextPiece, HoldsPiece, tail_comment, content_comment, gap_comment}
+use Rattle.yq_documents.specs.declared.path.Part.TheVariants as parts
 
 pub no_tail : (before behind : List ℕ) → tail_comment before [] behind ≡ None
 unfolding upto

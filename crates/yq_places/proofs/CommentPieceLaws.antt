@@ -1,30 +1,22 @@
 -- Comments stand in their text between whole characters.
-use Rattle.std.proofs.Common.{◌≡◌, ◌⊎◌, inl, inr, ℕ, zero, suc, ◌+◌, ◌-◌, ◌<◌, ◌≤◌, ℤ, eqb, List, [], ◌∷◌, ◌++◌, length, take, drop, Some, None, Bool, true, false, cond, ◌&&◌, refl, sym, ap, ◌∙◌, subst, arith, append-nil, append_assoc, length-append, rules}
-use Rattle.std.proofs.Math.Seq.{take-append_seam, drop-append_seam}
+use Rattle.std.proofs.Common.{◌≡◌, ◌⊎◌, inl, inr, ℕ, zero, suc, ◌+◌, ◌-◌, ◌<◌, ◌≤◌, ℤ, eqb, List, [], ◌∷◌, ◌++◌, length, take, drop, Some}
+use Rattle.std.proofs.Common.{None, Bool, true, false, cond, ◌&&◌, refl, sym, ap, ◌∙◌, subst, arith, append-nil, append_assoc}
+use Rattle.std.{proofs.Common.{length-append, rules}, proofs.Math.Seq.{take-append_seam, drop-append_seam}}
 use Rattle.std.proofs.lemmas.Bool.{cases_lt, eqb-true, false≢true, lt-ltb, le-ltb, and_parts}
-use Rattle.std.proofs.lemmas.List.{take-append-drop, length-drop}
-use Rattle.std.proofs.lemmas.Option.{same_Some}
-use Rattle.std.proofs.lemmas.Str.{IsUtf8-take, IsUtf8-between}
-use Rattle.std.specs.List.{slice_get}
-use Rattle.std.specs.Str.{IsUtf8, IsCharBoundary}
+use Rattle.std.{proofs.lemmas.List.{take-append-drop, length-drop}, proofs.lemmas.Option.same_Some}
+use Rattle.std.{proofs.lemmas.Str.{IsUtf8-take, IsUtf8-between}, specs.List.slice_get, specs.Str.{IsUtf8, IsCharBoundary}}
 use Rattle.yq_core.specs.Text.{cut, front, ends_line, is_break, is_line, is_empty, joined, text_lines, no_white, past_white, upto}
-use Rattle.yq_core.proofs.BlockPieceLaws.{IsLf, line_lf, append_lf, cut_lf}
-use Rattle.yq_core.proofs.Boundaries.{white_ascii, break_ascii}
-use Rattle.yq_core.proofs.LineLaws.{joined_lines}
-use Rattle.yq_core.proofs.Upto.{upto_ends}
+use Rattle.yq_core.{proofs.BlockPieceLaws.{IsLf, line_lf, append_lf, cut_lf}, proofs.Boundaries.{white_ascii, break_ascii}}
+use Rattle.yq_core.{proofs.LineLaws.joined_lines, proofs.Upto.upto_ends}
 use Rattle.yq_outline.specs.Comments.{are_comments}
-use Rattle.yq_row_table.specs.Exchange.{before_content, text_after_row, behind_row, HasPieces}
-use Rattle.yq_row_table.specs.Gap.{IsLineEnd, IsGap, AreGapLines}
+use Rattle.yq_row_table.{specs.Exchange.{before_content, text_after_row, behind_row, HasPieces}, specs.Gap.{IsLineEnd, IsGap, AreGapLines}}
 use Rattle.yq_row_table.specs.Grammar.{IsTail, IsContent}
-use Rattle.yq_row_table.specs.Rows.{Content, Nothing, Inline, Block, Row, print_row, rows_text, Part, part_text, Cut, last, marked, cut_text}
-use Rattle.yq_row_table.specs.View.{content_cut, slices, rows_of}
-use Rattle.yq_row_table.proofs.ExchangeLaws.{slice_front, slice_back}
-use Rattle.yq_row_table.proofs.NodePieces.{BeginsAscii, before_ascii}
-use Rattle.yq_row_table.proofs.PlaceLaws.{place, row_then, part_then}
+use Rattle.yq_row_table.specs.Rows.{Content, Nothing, Inline, Block, Row, print_row, rows_text, Part, part_text, Cut, last, marked}
+use Rattle.yq_row_table.{specs.Rows.cut_text, specs.View.{content_cut, slices, rows_of}, proofs.ExchangeLaws.{slice_front, slice_back}}
+use Rattle.yq_row_table.{proofs.NodePieces.{BeginsAscii, before_ascii}, proofs.PlaceLaws.{place, row_then, part_then}}
 use Rattle.yq_row_table.proofs.SliceLaws.{content_slices}
-use Rattle.yq_documents.specs.Pieces.{last_run, before_run, tail_comment, gap_comment, TextPiece, HoldsPiece}
+use Rattle.yq_documents.{specs.Pieces.{last_run, before_run, tail_comment, gap_comment, TextPiece, HoldsPiece}, proofs.RunLaws.run_split}
 use Rattle.yq_places.specs.CommentReading.{before_row, before_tail}
-use Rattle.yq_documents.proofs.RunLaws.{run_split}
 
 -- a text in three pieces, by the two places
 pieces_at : (before old behind : List ℕ) → IsUtf8 (before ++ (old ++ behind)) → IsCharBoundary (before ++ (old ++ behind)) (length before) → IsCharBoundary (before ++ (old ++ behind)) (length before + length old) →

@@ -1,21 +1,16 @@
 -- Where the comments of a row stand, by its pieces.
-use Rattle.std.proofs.Common.{◌≡◌, ℕ, ◌+◌, ◌-◌, ◌<◌, ◌≤◌, eqb, List, [], ◌++◌, length, Option, Some, None, option_map, Bool, true, false, cond, refl, sym, ap, ◌∙◌, arith, length-append, length-drop, length-take, rules}
-use Rattle.std.proofs.lemmas.Option.{slice_get-map}
-use Rattle.std.specs.List.{slice_get}
+use Rattle.std.proofs.Common.{◌≡◌, ℕ, ◌+◌, ◌-◌, ◌<◌, ◌≤◌, eqb, List, [], ◌++◌, length, Option, Some, None, option_map, Bool, true, false}
+use Rattle.std.proofs.Common.{cond, refl, sym, ap, ◌∙◌, arith, length-append, length-drop, length-take, rules}
+use Rattle.std.{proofs.lemmas.Option.slice_get-map, specs.List.slice_get}
 use Rattle.yq_text.specs.Limit.{text_limit}
 use Rattle.yq_core.specs.Text.{cut, upto, front, ends_line, no_white, past_white, is_empty, joined, text_lines}
-use Rattle.yq_row_table.specs.Exchange.{behind_row}
-use Rattle.yq_row_table.specs.Rows.{Row, behind_gap, Cut}
-use Rattle.yq_row_table.specs.View.{Slices, slices, rows_of, rows_view}
 use Rattle.yq_core.proofs.LineLaws.{joined_lines}
-use Rattle.yq_documents.specs.Pieces.{tail_comment, before_run, last_run, gap_comment, piece_span}
-use Rattle.yq_places.specs.CommentReading.{before_tail, line_comment_in, head_comment_in, tail_span, line_comment_span, gap_span, head_comment_span, before_row}
-use Rattle.yq_outline.specs.Extents.{row_start, front_length}
-use Rattle.yq_places.specs.RowLineReading.{numbers}
-use Rattle.yq_documents.specs.LinesInRows.{RowLine}
-use Rattle.yq_outline.proofs.LengthLaws.{head_agrees}
+use Rattle.yq_row_table.{specs.Exchange.behind_row, specs.Rows.{Row, behind_gap, Cut}, specs.View.{Slices, slices, rows_of, rows_view}}
+use Rattle.yq_documents.{specs.Pieces.{tail_comment, before_run, last_run, gap_comment, piece_span}, specs.LinesInRows.RowLine}
 use Rattle.yq_documents.proofs.RunLaws.{run_split}
-use Rattle.yq_places.proofs.StartLaws.{start_agrees}
+use Rattle.yq_places.specs.CommentReading.{before_tail, line_comment_in, head_comment_in, tail_span, line_comment_span, gap_span}
+use Rattle.yq_places.{specs.CommentReading.{head_comment_span, before_row}, specs.RowLineReading.numbers, proofs.StartLaws.start_agrees}
+use Rattle.yq_outline.{specs.Extents.{row_start, front_length}, proofs.LengthLaws.head_agrees}
 
 -- the comment in a tail
 pair : (a b c d : ℕ) → a ≡ b → c ≡ d → ◌≡◌ {A = ℕ × ℕ} (a, c) (b, d)

@@ -1,35 +1,23 @@
 -- What the code answers for a comment is the span of its piece.
-use Rattle.std.proofs.Common.{◌≡◌, ℕ, ◌+◌, eqb, List, [], ◌∷◌, ◌++◌, length, take, drop, map, Option, Some, None, option_map, option_and_then, Bool, true, false, cond, refl, sym, ap, ◌∙◌, subst, arith, length-append, rules}
-use Rattle.std.proofs.lemmas.Bool.{eqb-true, eqb-false}
-use Rattle.std.specs.List.{slice_get}
-use Rattle.yq_core.specs.Answers.{◌>>=◌}
-use Rattle.yq_core.specs.Paths.{Step}
-use Rattle.yq_outline.specs.Ends.{found_line, line_at_steps}
-use Rattle.yq_outline.specs.Group.{group}
-use Rattle.yq_outline.specs.Places.{lines_before, FoundLine, find}
-use Rattle.yq_row_table.specs.Exchange.{before_content, behind_row}
-use Rattle.yq_row_table.specs.Rows.{dashes_text, behind_gap, Row, Part, Cut}
+use Rattle.std.proofs.Common.{◌≡◌, ℕ, ◌+◌, eqb, List, [], ◌∷◌, ◌++◌, length, take, drop, map, Option, Some, None, option_map}
+use Rattle.std.proofs.Common.{option_and_then, Bool, true, false, cond, refl, sym, ap, ◌∙◌, subst, arith, length-append, rules}
+use Rattle.std.{proofs.lemmas.Bool.{eqb-true, eqb-false}, specs.List.slice_get}
+use Rattle.yq_core.{specs.Answers.◌>>=◌, specs.Paths.Step}
+use Rattle.yq_outline.{specs.Ends.{found_line, line_at_steps}, specs.Group.group, specs.Places.{lines_before, FoundLine, find}}
+use Rattle.yq_row_table.{specs.Exchange.{before_content, behind_row}, specs.Rows.{dashes_text, behind_gap, Row, Part, Cut}}
 use Rattle.yq_row_table.specs.View.{content_cut, slices, rows_of}
-use Rattle.yq_documents.specs.declared.path.Part.TheVariants as parts
-use Rattle.yq_documents.specs.declared.path.Path.{Path}
-use Rattle.yq_places.specs.CommentReading.{before_row, before_tail, line_comment_in, head_comment_in}
-use Rattle.yq_documents.specs.Documents.{document_parts}
-use Rattle.yq_documents.specs.Located.{steps_of}
-use Rattle.yq_places.specs.PathPieces.{PrintedDocument, printed_document, found_entry, piece_in_entry, piece_in, path_piece}
+use Rattle.yq_documents.{specs.declared.path.Path.Path, specs.Documents.document_parts, specs.Located.steps_of}
 use Rattle.yq_documents.specs.Pieces.{piece_span, tail_comment, content_comment, gap_comment}
+use Rattle.yq_documents.{specs.LinesInRows.{RowLine, row_line, row_line_of, row_line_at, document_row}, proofs.PartRows.part_begins}
+use Rattle.yq_places.specs.CommentReading.{before_row, before_tail, line_comment_in, head_comment_in}
+use Rattle.yq_places.specs.PathPieces.{PrintedDocument, printed_document, found_entry, piece_in_entry, piece_in, path_piece}
 use Rattle.yq_places.specs.PrintedLines.{PrintedLine, line_front, print_lines, printed_lines, line_in}
-use Rattle.yq_documents.specs.LinesInRows.{RowLine, row_line, row_line_of, row_line_at, document_row}
-use Rattle.yq_places.proofs.CommentHolds.{no_gap, no_comment}
-use Rattle.yq_places.proofs.CommentPlaceLaws.{tail_view, gap_agrees}
-use Rattle.yq_places.proofs.PieceHolds.{no_part}
-use Rattle.yq_places.specs.PlacedRows.{placed_document}
-use Rattle.yq_places.proofs.PlacedPartLaws.{part_stands}
-use Rattle.yq_places.proofs.PrintedLaws.{lines_are}
-use Rattle.yq_places.proofs.FoundEntries.{line_there, entry_is}
-use Rattle.yq_places.proofs.PrintedTexts.{map_some, lines_then}
+use Rattle.yq_places.{proofs.CommentHolds.{no_gap, no_comment}, proofs.CommentPlaceLaws.{tail_view, gap_agrees}, proofs.PieceHolds.no_part}
+use Rattle.yq_places.{specs.PlacedRows.placed_document, proofs.PlacedPartLaws.part_stands, proofs.PrintedLaws.lines_are}
+use Rattle.yq_places.{proofs.FoundEntries.{line_there, entry_is}, proofs.PrintedTexts.{map_some, lines_then}}
 use Rattle.yq_places.proofs.RunSpans.{begin_is, content_size, row_line_at as row_line_there}
-use Rattle.yq_documents.proofs.PartRows.{part_begins}
 use Rattle.yq_places.proofs.PrintedRowLines.{IsPrintedLine, IsPlaced, document_placed}
+use Rattle.yq_documents.specs.declared.path.Part.TheVariants as parts
 
 -- spans of comments, by how long the text before them is
 tail_same : (a b tail x y : List ℕ) → length a ≡ length b → option_map piece_span (tail_comment a tail x) ≡ option_map piece_span (tail_comment b tail y)

@@ -1,42 +1,22 @@
 -- The comments that are told of entries and items are those in the pieces there.
-use Rattle.std.proofs.Common.{◌≡◌, ℕ, List, [], ◌∷◌, map, Option, Some, None, option_map, option_and_then, true, refl, sym, ap, ◌∙◌, subst, rules}
-use Rattle.std.proofs.lemmas.Option.{slice_get-map}
-use Rattle.std.specs.List.{slice_get}
-use Rattle.std.specs.Str.{is_utf8}
-use Rattle.yq_core.specs.Answers.{◌>>=◌}
-use Rattle.yq_core.specs.Paths.{Step}
-use Rattle.yq_core.specs.Tree.{plain_label}
-use Rattle.yq_core.proofs.Bools.{guard_then}
-use Rattle.yq_outline.specs.Comments as comments
-use Rattle.yq_row_table.specs.Grammar.{IsCut}
-use Rattle.yq_row_table.specs.Rows.{Content, Cut}
-use Rattle.yq_documents.specs.declared.path.Part.TheVariants as parts
-use Rattle.yq_documents.specs.declared.path.Path.{Path}
+use Rattle.std.proofs.Common.{◌≡◌, ℕ, List, [], ◌∷◌, map, Option, Some, None, option_map, option_and_then, true, refl, sym, ap, ◌∙◌, subst}
+use Rattle.std.{proofs.Common.rules, proofs.lemmas.Option.slice_get-map, specs.List.slice_get, specs.Str.is_utf8}
+use Rattle.yq_core.{specs.Answers.◌>>=◌, specs.Paths.Step, specs.Tree.plain_label, proofs.Bools.guard_then}
+use Rattle.yq_row_table.{specs.Grammar.IsCut, specs.Rows.{Content, Cut}}
+use Rattle.yq_documents.{specs.declared.path.Path.Path, specs.Documents.document_parts, specs.Located.{steps_of, labelled_located}}
+use Rattle.yq_documents.{specs.Pieces.{TextPiece, content_comment}, specs.Reading.{all_documents, part_document, read_at}}
+use Rattle.yq_documents.{proofs.RowLineLaws.tail_is, proofs.PartRows.each, proofs.ReadLaws.{cut_is, text_takes}}
 use Rattle.yq_places.specs.CommentLaws.{comment_of, comments_of, head_comment_of, CommentsStand}
-use Rattle.yq_documents.specs.Documents.{document_parts}
-use Rattle.yq_outline.specs.Group.{group, is_fine}
-use Rattle.yq_outline.specs.Labelled.{Labelled, labelled_from}
-use Rattle.yq_outline.specs.Lines.{tail_of, lines_of_rows}
-use Rattle.yq_documents.specs.Located.{steps_of, labelled_located}
-use Rattle.yq_outline.specs.Outline.{Line, anchored, head_or, value}
 use Rattle.yq_places.specs.PathPieces.{BlockEntry, PrintedDocument, printed_document, found_entry, piece_in_entry, piece_in}
-use Rattle.yq_documents.specs.Pieces.{TextPiece, content_comment}
-use Rattle.yq_outline.specs.Places.{FoundLine, find}
-use Rattle.yq_places.specs.PrintedLines.{line_in}
-use Rattle.yq_documents.specs.Reading.{all_documents, part_document, read_at}
-use Rattle.yq_outline.proofs.Finding.{entry_of}
-use Rattle.yq_outline.proofs.LabelPaths.{reach, FoundEntry, path_entry}
-use Rattle.yq_outline.proofs.Values.{If}
-use Rattle.yq_documents.proofs.RowLineLaws.{tail_is}
-use Rattle.yq_documents.proofs.PartRows.{each}
-use Rattle.yq_places.proofs.FlowPieces.{head_there}
-use Rattle.yq_places.proofs.PieceHolds.{no_part}
-use Rattle.yq_places.proofs.PrintedLaws.{ArePrinted, lines_are, document_is}
-use Rattle.yq_places.proofs.FoundEntries.{IsFound, entry_there, entry_found}
+use Rattle.yq_places.{specs.PrintedLines.line_in, proofs.FlowPieces.head_there, proofs.PieceHolds.no_part}
+use Rattle.yq_places.{proofs.PrintedLaws.{ArePrinted, lines_are, document_is}, proofs.FoundEntries.{IsFound, entry_there, entry_found}}
 use Rattle.yq_places.proofs.UncommentedLaws.{HasNone, Uncommented, uncommented_content, uncommented_reach}
-use Rattle.yq_documents.proofs.ReadLaws.{cut_is, text_takes}
-use Rattle.yq_places.proofs.CommentTextLaws.{tail_view, gap_agrees}
-use Rattle.yq_places.proofs.RowPathLaws.{document_fine}
+use Rattle.yq_places.{proofs.CommentTextLaws.{tail_view, gap_agrees}, proofs.RowPathLaws.document_fine}
+use Rattle.yq_outline.{specs.Group.{group, is_fine}, specs.Labelled.{Labelled, labelled_from}, specs.Lines.{tail_of, lines_of_rows}}
+use Rattle.yq_outline.{specs.Outline.{Line, anchored, head_or, value}, specs.Places.{FoundLine, find}, proofs.Finding.entry_of}
+use Rattle.yq_outline.{proofs.LabelPaths.{reach, FoundEntry, path_entry}, proofs.Values.If}
+use Rattle.yq_outline.specs.Comments as comments
+use Rattle.yq_documents.specs.declared.path.Part.TheVariants as parts
 
 content_agrees : (before : List ℕ) (c : Content) (behind : List ℕ) → comments.line_comment (tail_of c) ≡ option_map comment_of (content_comment before c behind)
 content_agrees before c behind = simp (tail_is, tail_view)

@@ -1,14 +1,12 @@
 -- The texts of comments, by where they stand.
-use Rattle.std.proofs.Common.{◌≡◌, ℕ, ◌<◌, eqb, List, [], ◌∷◌, ◌++◌, length, drop, Some, None, option_map, Bool, true, false, cond, refl, sym, ap, ◌∙◌, arith, rules}
-use Rattle.std.proofs.lemmas.Bool.{eqb-true, cond-true, cond-false}
+use Rattle.std.proofs.Common.{◌≡◌, ℕ, ◌<◌, eqb, List, [], ◌∷◌, ◌++◌, length, drop, Some, None, option_map, Bool, true, false, cond, refl}
+use Rattle.std.{proofs.Common.{sym, ap, ◌∙◌, arith, rules}, proofs.lemmas.Bool.{eqb-true, cond-true, cond-false}}
 use mathlib.Core.List.{tail-eq_of_cons-eq}
 use Rattle.yq_core.specs.Text.{cut, front, ends_line, no_white, past_white, upto, is_empty, joined, text_lines, line_len}
 use Rattle.yq_core.proofs.LineLaws.{joined_lines, line_step}
 use Rattle.yq_outline.specs.Comments.{less_space, comment_text, are_comments, head_comment}
-use Rattle.yq_documents.specs.Pieces.{last_run, before_run, tail_comment, gap_comment}
+use Rattle.yq_documents.{specs.Pieces.{last_run, before_run, tail_comment, gap_comment}, specs.Texts.texts, proofs.RunLaws.run_texts}
 use Rattle.yq_places.specs.CommentLaws.{comment_of, comments_of}
-use Rattle.yq_documents.specs.Texts.{texts}
-use Rattle.yq_documents.proofs.RunLaws.{run_texts}
 
 -- the comment in a tail
 cut_mark : (bs : List ℕ) → drop 1 (cut ends_line (35 ∷ bs)).0 ≡ (cut ends_line bs).0

@@ -1,13 +1,10 @@
 -- A content ends in a break, or the text ends behind it.
-use Rattle.std.proofs.Common.{◌≡◌, ◌⊎◌, inl, inr, ℕ, ℤ, Bool, true, false, ◌&&◌, List, [], ◌∷◌, ◌++◌, refl, sym, ap, ◌∙◌, subst, append-nil, rules}
-use Rattle.std.proofs.lemmas.Bool.{eqb-true, false_from_ne_true, false≢true, and_parts, or_parts}
+use Rattle.std.proofs.Common.{◌≡◌, ◌⊎◌, inl, inr, ℕ, ℤ, Bool, true, false, ◌&&◌, List, [], ◌∷◌, ◌++◌, refl, sym, ap, ◌∙◌, subst, append-nil}
+use Rattle.std.{proofs.Common.rules, proofs.lemmas.Bool.{eqb-true, false_from_ne_true, false≢true, and_parts, or_parts}}
 use Rattle.yq_core.specs.Text.{front, is_white, is_feed, is_return, is_break, is_line, ends_line, NoneIn}
-use Rattle.yq_row_table.specs.Gap.{IsBreak, IsComment, IsWhite}
-use Rattle.yq_row_table.specs.Grammar.{IsContent, IsTail}
-use Rattle.yq_row_table.specs.Rows.{Content, Nothing, Inline, Block}
-use Rattle.yq_row_table.proofs.seams.SeamLaws.{line_by_break}
-use Rattle.yq_places.specs.CollectionEnds.{is_broken}
-use Rattle.yq_places.specs.PrintedLines.{last_break, end_break}
+use Rattle.yq_row_table.{specs.Gap.{IsBreak, IsComment, IsWhite}, specs.Grammar.{IsContent, IsTail}}
+use Rattle.yq_row_table.{specs.Rows.{Content, Nothing, Inline, Block}, proofs.seams.SeamLaws.line_by_break}
+use Rattle.yq_places.{specs.CollectionEnds.is_broken, specs.PrintedLines.{last_break, end_break}}
 use Rattle.yq_places.proofs.LastBreakLaws.{HasNoFeed, line_last, raw_last, no_last}
 
 -- a text ends in a break that is a line, or has none, and nothing is behind it

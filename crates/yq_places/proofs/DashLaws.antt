@@ -1,18 +1,13 @@
 -- Rows cut behind a dash, and the lines of items and entries in their rows.
-use Rattle.std.proofs.Common.{◌≡◌, ℕ, zero, suc, ◌<◌, ◌≤◌, List, [], ◌∷◌, ◌++◌, length, take, drop, replicate, Some, refl, ap, ◌∙◌, subst, arith, append_assoc}
-use Rattle.yq_core.specs.Paths.{Step}
-use Rattle.yq_core.proofs.Bools.{bind_some}
-use Rattle.yq_outline.specs.Ends.{line_at_steps}
-use Rattle.yq_row_table.specs.Exchange.{row_front}
-use Rattle.yq_row_table.specs.Rows.{Row, behind_dashes, dashes_text, print_row, Cut}
+use Rattle.std.proofs.Common.{◌≡◌, ℕ, zero, suc, ◌<◌, ◌≤◌, List, [], ◌∷◌, ◌++◌, length, take, drop, replicate, Some, refl, ap, ◌∙◌, subst}
+use Rattle.std.proofs.Common.{arith, append_assoc}
+use Rattle.yq_core.{specs.Paths.Step, proofs.Bools.bind_some}
+use Rattle.yq_outline.{specs.Ends.line_at_steps, specs.Lines.lines_of_rows}
+use Rattle.yq_row_table.{specs.Exchange.row_front, specs.Rows.{Row, behind_dashes, dashes_text, print_row, Cut}}
 use Rattle.yq_row_table.proofs.PlaceLaws.{dashes_then}
-use Rattle.yq_places.specs.RowPieces.{past_dash, upto_dash}
-use Rattle.yq_outline.specs.Lines.{lines_of_rows}
-use Rattle.yq_places.specs.PlacedRows.{PlacedRow, placed_document, row_of_path}
+use Rattle.yq_places.{specs.RowPieces.{past_dash, upto_dash}, specs.PlacedRows.{PlacedRow, placed_document, row_of_path}}
+use Rattle.yq_places.{proofs.EntryPlaceLaws.row_line_is, proofs.PrintedTexts.map_some, proofs.SeamLaws.dashes_split}
 use Rattle.yq_documents.specs.LinesInRows.{row_line_of}
-use Rattle.yq_places.proofs.EntryPlaceLaws.{row_line_is}
-use Rattle.yq_places.proofs.PrintedTexts.{map_some}
-use Rattle.yq_places.proofs.SeamLaws.{dashes_split}
 
 -- ---- a row, cut behind a dash
 

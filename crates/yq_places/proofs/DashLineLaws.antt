@@ -1,15 +1,12 @@
 -- What is told of the line that is in a row line.
-use Rattle.std.proofs.Common.{◌≡◌, ◌⊎◌, inl, inr, ℕ, zero, suc, ◌+◌, ◌-◌, ◌<◌, ◌≤◌, List, [], ◌∷◌, ◌++◌, length, Some, None, option_map, refl, sym, ap, ◌∙◌, subst, arith}
-use Rattle.std.proofs.lemmas.Bool.{cases_lt, lt-ltb, le-ltb, cond-true, cond-false}
-use Rattle.std.proofs.lemmas.Option.{same_Some}
-use Rattle.std.specs.List.{slice_get}
+use Rattle.std.proofs.Common.{◌≡◌, ◌⊎◌, inl, inr, ℕ, zero, suc, ◌+◌, ◌-◌, ◌<◌, ◌≤◌, List, [], ◌∷◌, ◌++◌, length, Some, None, option_map}
+use Rattle.std.{proofs.Common.{refl, sym, ap, ◌∙◌, subst, arith}, proofs.lemmas.Bool.{cases_lt, lt-ltb, le-ltb, cond-true, cond-false}}
+use Rattle.std.{proofs.lemmas.Option.same_Some, specs.List.slice_get}
+use Rattle.yq_row_table.specs.Rows.{Content, Row}
+use Rattle.yq_outline.{specs.Lines.{lines_from, row_lines, lines_of_rows}, specs.Outline.{Dash, Line}, proofs.RowLaws.lines_count}
+use Rattle.yq_documents.specs.LinesInRows.{RowLine, behind_one, row_line}
 use Rattle.yq_outline.specs.Comments as comments
 use Rattle.yq_row_table.specs.Rows as rows
-use Rattle.yq_row_table.specs.Rows.{Content, Row}
-use Rattle.yq_outline.specs.Lines.{lines_from, row_lines, lines_of_rows}
-use Rattle.yq_outline.specs.Outline.{Dash, Line}
-use Rattle.yq_documents.specs.LinesInRows.{RowLine, behind_one, row_line}
-use Rattle.yq_outline.proofs.RowLaws.{lines_count}
 
 -- Line n of a row, before whose mark so many dashes stand: before the mark it is that of a dash.
 pub record IsDashLine (dashes n : ℕ) (l : Line) : Type 0 where

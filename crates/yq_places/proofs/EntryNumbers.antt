@@ -1,34 +1,21 @@
 -- The rows of items and entries, as the code counts them.
-use Rattle.std.proofs.Common.{◌≡◌, ℕ, suc, ◌+◌, ◌-◌, ◌≤◌, ltb, Bool, true, false, cond, List, [], ◌∷◌, ◌++◌, length, map, take, drop, Option, Some, None, option_map, refl, sym, ap, ◌∙◌, arith, length-take-le}
-use Rattle.std.proofs.lemmas.List.{length-map, take-append-drop}
-use Rattle.yq_outline.proofs.EndsLaws.{drop_at}
-use Rattle.std.proofs.lemmas.Option.{slice_get_within, none-some}
-use Rattle.std.specs.List.{slice_get}
-use Rattle.yq_core.specs.Answers.{◌>>=◌}
-use Rattle.yq_core.specs.Paths.{Step}
-use Rattle.yq_core.proofs.Bools.{bind_some}
-use Rattle.yq_row_table.specs.Grammar.{IsCut}
-use Rattle.yq_row_table.specs.Rows.{Row, Part, Cut}
-use Rattle.yq_row_table.specs.View.{Slices, slices, RowsView, rows_view}
-use Rattle.yq_outline.specs.Ends.{line_at_steps}
-use Rattle.yq_documents.specs.Documents.{document_parts}
-use Rattle.yq_outline.specs.Lines.{lines_of_rows}
-use Rattle.yq_documents.specs.Reading.{cut_of}
-use Rattle.yq_documents.specs.LinesInRows.{RowLine, document_row, row_line, row_line_of}
-use Rattle.yq_outline.specs.Extents.{lines_before_mark}
-use Rattle.yq_places.specs.PlacedRows.{PlacedPart, placed_document}
+use Rattle.std.proofs.Common.{◌≡◌, ℕ, suc, ◌+◌, ◌-◌, ◌≤◌, ltb, Bool, true, false, cond, List, [], ◌∷◌, ◌++◌, length, map, take, drop}
+use Rattle.std.proofs.Common.{Option, Some, None, option_map, refl, sym, ap, ◌∙◌, arith, length-take-le}
+use Rattle.std.{proofs.lemmas.List.{length-map, take-append-drop}, proofs.lemmas.Option.{slice_get_within, none-some}, specs.List.slice_get}
+use Rattle.yq_outline.{proofs.EndsLaws.drop_at, specs.Ends.line_at_steps, specs.Lines.lines_of_rows, specs.Extents.lines_before_mark}
 use Rattle.yq_outline.specs.RowWalk.{HasRows, IsLine, deeper_rows, line_level, line_number}
+use Rattle.yq_outline.{specs.declared.line_position.Position.Position, specs.declared.line_position.Stretch.Stretch}
+use Rattle.yq_outline.{proofs.WalkRows.rows_behind, proofs.WalkPositions.located}
+use Rattle.yq_core.{specs.Answers.◌>>=◌, specs.Paths.Step, proofs.Bools.bind_some}
+use Rattle.yq_row_table.{specs.Grammar.IsCut, specs.Rows.{Row, Part, Cut}, specs.View.{Slices, slices, RowsView, rows_view}}
+use Rattle.yq_documents.{specs.Documents.document_parts, specs.Reading.cut_of}
+use Rattle.yq_documents.specs.LinesInRows.{RowLine, document_row, row_line, row_line_of}
+use Rattle.yq_places.specs.PlacedRows.{PlacedPart, placed_document}
 use Rattle.yq_places.specs.Standings.{RowsOfEntry, entry_rows_at, rows_of_entry, under_count}
 use Rattle.yq_places.specs.StandingReading.{IsEntryIn, StandingCounts, numbers_at, numbers_of_entry, as_numbers}
+use Rattle.yq_places.{proofs.EntryPlaceLaws.row_line_is, proofs.PlacedPartLaws.{map_some, part_stands, placed_is}}
+use Rattle.yq_places.{proofs.RowLineSpans.steps_row, proofs.WalkDocuments.row_line_number}
 use Rattle.yq_places.specs.declared.places.rows_of_entry.RowsOfEntry as declared
-use Rattle.yq_outline.specs.declared.line_position.Position.{Position}
-use Rattle.yq_outline.specs.declared.line_position.Stretch.{Stretch}
-use Rattle.yq_places.proofs.EntryPlaceLaws.{row_line_is}
-use Rattle.yq_places.proofs.PlacedPartLaws.{map_some, part_stands, placed_is}
-use Rattle.yq_places.proofs.RowLineSpans.{steps_row}
-use Rattle.yq_places.proofs.WalkDocuments.{row_line_number}
-use Rattle.yq_outline.proofs.WalkRows.{rows_behind}
-use Rattle.yq_outline.proofs.WalkPositions.{located}
 
 -- ---- where steps lead in a document
 

@@ -1,26 +1,16 @@
 -- The places of entries and of their contents, by lines or in flow.
-use Rattle.std.proofs.Common.{◌≡◌, ℕ, suc, ◌+◌, ◌-◌, ◌≤◌, eqb, ltb, List, [], ◌∷◌, ◌++◌, length, drop, Option, Some, None, option_map, option_and_then, Bool, true, false, cond, refl, ap, zero, ◌<◌, take, rules}
-use Rattle.std.proofs.lemmas.Bool.{ltb-false, eq-eqb, eqb-true, false≢true}
-use Rattle.std.proofs.lemmas.Option.{same_Some}
-use Rattle.std.specs.List.{slice_get}
-use Rattle.yq_core.specs.Answers.{◌>>=◌}
-use Rattle.yq_core.specs.Paths.{Step}
-use Rattle.yq_core.specs.Entries.{PlacedEntry, entry_place, content_place}
-use Rattle.yq_core.specs.Places.{Placed}
-use Rattle.yq_row_table.specs.Exchange.{behind_row}
-use Rattle.yq_row_table.specs.Rows.{Row, Cut, cut_text}
-use Rattle.yq_row_table.specs.View.{rows_of, Bound}
-use Rattle.yq_documents.specs.FlowReading.{row_flow}
-use Rattle.yq_documents.specs.declared.path.Path.{Path}
-use Rattle.yq_outline.specs.Group.{group}
-use Rattle.yq_outline.specs.Places.{lines_before, FoundLine, find}
-use Rattle.yq_outline.specs.Lines.{lines_of_rows}
+use Rattle.std.proofs.Common.{◌≡◌, ℕ, suc, ◌+◌, ◌-◌, ◌≤◌, eqb, ltb, List, [], ◌∷◌, ◌++◌, length, drop, Option, Some, None, option_map}
+use Rattle.std.proofs.Common.{option_and_then, Bool, true, false, cond, refl, ap, zero, ◌<◌, take, rules}
+use Rattle.std.{proofs.lemmas.Bool.{ltb-false, eq-eqb, eqb-true, false≢true}, proofs.lemmas.Option.same_Some, specs.List.slice_get}
+use Rattle.yq_core.{specs.Answers.◌>>=◌, specs.Paths.Step, specs.Entries.{PlacedEntry, entry_place, content_place}, specs.Places.Placed}
+use Rattle.yq_row_table.{specs.Exchange.behind_row, specs.Rows.{Row, Cut, cut_text}, specs.View.{rows_of, Bound}}
+use Rattle.yq_documents.{specs.FlowReading.row_flow, specs.declared.path.Path.Path}
 use Rattle.yq_documents.specs.LinesInRows.{RowLine, behind_one, row_line, row_line_of, row_line_at}
-use Rattle.yq_outline.specs.Ends.{found_line, reached}
-use Rattle.yq_outline.proofs.Values.{If}
-use Rattle.yq_outline.proofs.KnownLaws.{get_dropped, get_front}
-use Rattle.yq_places.specs.EntryReading.{line_entry, line_content, entry_from, content_from, entry_of, node_place_of, entry_at, content_row_place, entry_within, line_entry_of, line_content_of, flow_entry_from, flow_entry_of, line_entry_at, line_content_at, flow_entry_at}
-use Rattle.yq_places.specs.RowLineReading.{LineCounts, numbers}
+use Rattle.yq_outline.{specs.Group.group, specs.Places.{lines_before, FoundLine, find}, specs.Lines.lines_of_rows}
+use Rattle.yq_outline.{specs.Ends.{found_line, reached}, proofs.Values.If, proofs.KnownLaws.{get_dropped, get_front}}
+use Rattle.yq_places.specs.EntryReading.{line_entry, line_content, entry_from, content_from, entry_of, node_place_of, entry_at}
+use Rattle.yq_places.specs.EntryReading.{content_row_place, entry_within, line_entry_of, line_content_of, flow_entry_from, flow_entry_of}
+use Rattle.yq_places.{specs.EntryReading.{line_entry_at, line_content_at, flow_entry_at}, specs.RowLineReading.{LineCounts, numbers}}
 use Rattle.yq_places.proofs.FlowPlaceLaws.{flow_agrees}
 
 -- a line is one of its row, and that is one of the rows

@@ -1,34 +1,20 @@
 -- Entries, items and their contents stand in the text, from one whole character to another.
-use Rattle.std.proofs.Common.{◌≡◌, ◌⊎◌, inl, inr, ℕ, suc, ◌+◌, ◌-◌, ◌<◌, ◌≤◌, eqb, ltb, List, [], ◌∷◌, ◌++◌, length, drop, Option, Some, None, is_some, option_map, option_and_then, Bool, true, false, cond, refl, sym, subst, arith, length-append, rules}
-use Rattle.std.proofs.lemmas.Bool.{ltb-true, ltb-false, eqb-false}
-use Rattle.std.proofs.lemmas.Option.{slice_get_within, none-some, same_Some}
-use Rattle.std.specs.List.{slice_get}
-use Rattle.std.specs.Str.{IsUtf8}
-use Rattle.yq_core.specs.Answers.{◌>>=◌}
-use Rattle.yq_core.specs.Paths.{Step}
-use Rattle.yq_core.proofs.Bools.{bind_some}
-use Rattle.yq_core.specs.Entries.{PlacedEntry, entry_place, content_place}
+use Rattle.std.proofs.Common.{◌≡◌, ◌⊎◌, inl, inr, ℕ, suc, ◌+◌, ◌-◌, ◌<◌, ◌≤◌, eqb, ltb, List, [], ◌∷◌, ◌++◌, length, drop, Option, Some}
+use Rattle.std.proofs.Common.{None, is_some, option_map, option_and_then, Bool, true, false, cond, refl, sym, subst, arith, length-append}
+use Rattle.std.{proofs.Common.rules, proofs.lemmas.Bool.{ltb-true, ltb-false, eqb-false}}
+use Rattle.std.{proofs.lemmas.Option.{slice_get_within, none-some, same_Some}, specs.List.slice_get, specs.Str.IsUtf8}
+use Rattle.yq_core.{specs.Answers.◌>>=◌, specs.Paths.Step, proofs.Bools.bind_some, specs.Entries.{PlacedEntry, entry_place, content_place}}
 use Rattle.yq_core.specs.Spans.{IsSpan}
+use Rattle.yq_row_table.{specs.Grammar.IsCut, specs.Rows.{Row, Cut, cut_text}, specs.View.rows_of}
+use Rattle.yq_documents.{specs.declared.path.Path.Path, specs.Documents.document_parts, specs.Located.steps_of}
+use Rattle.yq_documents.{specs.LinesInRows.{RowLine, behind_one, row_line, document_row}, proofs.PartRows.part_begins}
+use Rattle.yq_places.specs.EntryReading.{lines_place, line_entry, line_head, lines_content, line_content, flow_entry, entry_from}
+use Rattle.yq_places.specs.EntryReading.{content_from, entry_of, node_place_of, entry_at, content_row_place}
+use Rattle.yq_places.{proofs.EntryPlaceLaws.row_there, proofs.FinishLaws.{row_boundary, lines_order}}
+use Rattle.yq_places.{proofs.FlowSpanLaws.{AreSpans, flow_spans}, proofs.HeadSpanLaws.head_span, proofs.SeamLaws.line_boundary}
+use Rattle.yq_outline.{specs.Lines.{row_lines, lines_of_rows}, specs.Ends.{reached, lines_end}, specs.Positions.has_no_mark}
+use Rattle.yq_outline.{proofs.LineEnds.end_within, proofs.RowLaws.lines_count}
 use Rattle.yq_outline.specs.Comments as comments
-use Rattle.yq_row_table.specs.Grammar.{IsCut}
-use Rattle.yq_row_table.specs.Rows.{Row, Cut, cut_text}
-use Rattle.yq_row_table.specs.View.{rows_of}
-use Rattle.yq_documents.specs.declared.path.Path.{Path}
-use Rattle.yq_documents.specs.Documents.{document_parts}
-use Rattle.yq_places.specs.EntryReading.{lines_place, line_entry, line_head, lines_content, line_content, flow_entry, entry_from, content_from, entry_of, node_place_of, entry_at, content_row_place}
-use Rattle.yq_outline.specs.Lines.{row_lines, lines_of_rows}
-use Rattle.yq_documents.specs.Located.{steps_of}
-use Rattle.yq_outline.specs.Ends.{reached, lines_end}
-use Rattle.yq_documents.specs.LinesInRows.{RowLine, behind_one, row_line, document_row}
-use Rattle.yq_outline.specs.Positions.{has_no_mark}
-use Rattle.yq_places.proofs.EntryPlaceLaws.{row_there}
-use Rattle.yq_places.proofs.FinishLaws.{row_boundary, lines_order}
-use Rattle.yq_places.proofs.FlowSpanLaws.{AreSpans, flow_spans}
-use Rattle.yq_places.proofs.HeadSpanLaws.{head_span}
-use Rattle.yq_outline.proofs.LineEnds.{end_within}
-use Rattle.yq_outline.proofs.RowLaws.{lines_count}
-use Rattle.yq_places.proofs.SeamLaws.{line_boundary}
-use Rattle.yq_documents.proofs.PartRows.{part_begins}
 
 -- a line that has a row line is there, and lines have theirs in order
 row_line_within : (rs : List Row) (n : ℕ) (s : RowLine) → row_line n rs ≡ Some s → n < length (lines_of_rows rs)

@@ -1,35 +1,20 @@
 -- Rows that stand in a text, with those in front of them and behind: where they begin and end there.
-use Rattle.std.proofs.Common.{◌≡◌, inr, ℕ, suc, ◌+◌, ◌-◌, ◌<◌, ◌≤◌, List, [], ◌∷◌, ◌++◌, length, length-append, take, drop, Some, option_map, true, refl, sym, ap, ◌∙◌, subst, arith, append_assoc}
-use Rattle.std.proofs.Math.Seq.{take-append_seam}
-use Rattle.std.proofs.lemmas.Option.{slice_get-map, slice_get_within}
-use Rattle.std.specs.List.{slice_get}
-use Rattle.std.specs.Str.{IsUtf8, IsCharBoundary}
+use Rattle.std.proofs.Common.{◌≡◌, inr, ℕ, suc, ◌+◌, ◌-◌, ◌<◌, ◌≤◌, List, [], ◌∷◌, ◌++◌, length, length-append, take, drop, Some}
+use Rattle.std.{proofs.Common.{option_map, true, refl, sym, ap, ◌∙◌, subst, arith, append_assoc}, proofs.Math.Seq.take-append_seam}
+use Rattle.std.{proofs.lemmas.Option.{slice_get-map, slice_get_within}, specs.List.slice_get, specs.Str.{IsUtf8, IsCharBoundary}}
 use Rattle.yq_text.specs.Limit.{text_limit}
-use Rattle.yq_row_table.specs.Exchange.{before_content, behind_row, row_front, rows_behind}
-use Rattle.yq_row_table.specs.Grammar.{AreRows, unlimited}
-use Rattle.yq_row_table.specs.Offsets.{row_length}
-use Rattle.yq_row_table.specs.Rows.{Row, parent_indent, print_row, rows_text, part_text, Cut}
-use Rattle.yq_row_table.specs.View.{Slices, slices, rows_of, RowsView, rows_view}
-use Rattle.yq_row_table.proofs.PlaceLaws.{RowIn, row_in}
-use Rattle.yq_row_table.proofs.seams.SeamLaws.{rows_text-append}
-use Rattle.yq_row_table.proofs.splices.SpliceTexts.{first_text}
-use Rattle.yq_documents.specs.Reading.{cut_of}
-use Rattle.yq_documents.specs.LinesInRows.{document_row}
-use Rattle.yq_places.specs.CommentPlaces.{text_to_line_end}
-use Rattle.yq_places.specs.CommentReading.{before_row}
-use Rattle.yq_outline.specs.Extents.{IsRowsView, head_place, row_start}
-use Rattle.yq_places.specs.RemovalPlaces.{OwnRows, rows_out}
-use Rattle.yq_places.specs.Standings.{RowsOfEntry, before_entry, behind_entry}
-use Rattle.yq_places.specs.StandingReading.{AreRowsOf}
-use Rattle.yq_places.proofs.CommentEndLaws.{row_text_parts}
-use Rattle.yq_places.proofs.CommentPieceLaws.{Ended, content_end, row_place}
-use Rattle.yq_outline.proofs.LengthLaws.{row_fits, view_small}
-use Rattle.yq_places.proofs.PlacedRowLaws.{IsAt, part_at}
-use Rattle.yq_places.proofs.RemovalLines.{LineSeam, lies_in, rows_seam, seam_join}
-use Rattle.yq_places.proofs.RemovalTexts.{texts_then}
-use Rattle.yq_places.proofs.RemovalViewLaws.{OutAgrees, line_boundary, out_agrees, slice_seam}
-use Rattle.yq_places.proofs.SeamLaws.{ended_after}
-use Rattle.yq_places.proofs.StartLaws.{front_in}
+use Rattle.yq_row_table.{specs.Exchange.{before_content, behind_row, row_front, rows_behind}, specs.Grammar.{AreRows, unlimited}}
+use Rattle.yq_row_table.{specs.Offsets.row_length, specs.Rows.{Row, parent_indent, print_row, rows_text, part_text, Cut}}
+use Rattle.yq_row_table.{specs.View.{Slices, slices, rows_of, RowsView, rows_view}, proofs.PlaceLaws.{RowIn, row_in}}
+use Rattle.yq_row_table.{proofs.seams.SeamLaws.rows_text-append, proofs.splices.SpliceTexts.first_text}
+use Rattle.yq_documents.{specs.Reading.cut_of, specs.LinesInRows.document_row}
+use Rattle.yq_places.{specs.CommentPlaces.text_to_line_end, specs.CommentReading.before_row, specs.RemovalPlaces.{OwnRows, rows_out}}
+use Rattle.yq_places.{specs.Standings.{RowsOfEntry, before_entry, behind_entry}, specs.StandingReading.AreRowsOf}
+use Rattle.yq_places.{proofs.CommentEndLaws.row_text_parts, proofs.CommentPieceLaws.{Ended, content_end, row_place}}
+use Rattle.yq_places.{proofs.PlacedRowLaws.{IsAt, part_at}, proofs.RemovalLines.{LineSeam, lies_in, rows_seam, seam_join}}
+use Rattle.yq_places.{proofs.RemovalTexts.texts_then, proofs.RemovalViewLaws.{OutAgrees, line_boundary, out_agrees, slice_seam}}
+use Rattle.yq_places.{proofs.SeamLaws.ended_after, proofs.StartLaws.front_in}
+use Rattle.yq_outline.{specs.Extents.{IsRowsView, head_place, row_start}, proofs.LengthLaws.{row_fits, view_small}}
 
 drop_seam : (front : List Row) (r : Row) (rest : List Row) → drop (suc (length front)) (front ++ (r ∷ rest)) ≡ rest
 drop_seam [] r rest = refl

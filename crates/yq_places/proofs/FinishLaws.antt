@@ -1,25 +1,18 @@
 -- Rows end, before their breaks, at whole characters, and no later than rows behind them.
-use Rattle.std.proofs.Common.{◌≡◌, ◌⊎◌, inl, inr, ℕ, zero, suc, ◌-◌, ◌<◌, ◌≤◌, List, [], ◌∷◌, ◌++◌, length, take, drop, replicate, Some, Bool, true, false, cond, refl, sym, ap, ◌∙◌, subst, arith, eqb-true, append_assoc, length-append, rules}
-use Rattle.std.proofs.lemmas.Bool.{cases_lt, lt-ltb, le-ltb, cond-true, cond-false, false≢true, and_parts}
-use Rattle.std.specs.List.{slice_get}
+use Rattle.std.proofs.Common.{◌≡◌, ◌⊎◌, inl, inr, ℕ, zero, suc, ◌-◌, ◌<◌, ◌≤◌, List, [], ◌∷◌, ◌++◌, length, take, drop, replicate, Some}
+use Rattle.std.proofs.Common.{Bool, true, false, cond, refl, sym, ap, ◌∙◌, subst, arith, eqb-true, append_assoc, length-append, rules}
+use Rattle.std.{proofs.lemmas.Bool.{cases_lt, lt-ltb, le-ltb, cond-true, cond-false, false≢true, and_parts}, specs.List.slice_get}
 use Rattle.std.specs.Str.{IsCharBoundary}
-use Rattle.yq_core.specs.Text.{is_empty}
-use Rattle.yq_core.proofs.BlockPieceLaws.{IsLf}
-use Rattle.yq_row_table.specs.Exchange.{row_front, before_at, before_content, behind_row}
-use Rattle.yq_row_table.specs.Grammar.{AreParts}
-use Rattle.yq_row_table.specs.Rows.{mark_text, dashes_text, content_text, Row, rows_text, parent_indent, part_text, Cut, last, marked, cut_text}
-use Rattle.yq_row_table.specs.View.{Slices, slices, rows_of}
-use Rattle.yq_row_table.proofs.ExchangeLaws.{slice_front, slice_back}
-use Rattle.yq_row_table.proofs.NodePieces.{BeginsAscii, before_ascii}
-use Rattle.yq_row_table.proofs.PlaceLaws.{row_front-append, row_in}
-use Rattle.yq_places.specs.CommentReading.{before_tail}
-use Rattle.yq_places.specs.EntryReading.{before_line, through_row}
-use Rattle.yq_places.specs.PrintedLines.{is_last_break, less_break}
-use Rattle.yq_outline.proofs.LengthLaws.{part-length}
+use Rattle.yq_core.{specs.Text.is_empty, proofs.BlockPieceLaws.IsLf}
+use Rattle.yq_row_table.{specs.Exchange.{row_front, before_at, before_content, behind_row}, specs.Grammar.AreParts}
+use Rattle.yq_row_table.specs.Rows.{mark_text, dashes_text, content_text, Row, rows_text, parent_indent, part_text, Cut, last, marked}
+use Rattle.yq_row_table.{specs.Rows.cut_text, specs.View.{Slices, slices, rows_of}, proofs.ExchangeLaws.{slice_front, slice_back}}
+use Rattle.yq_row_table.{proofs.NodePieces.{BeginsAscii, before_ascii}, proofs.PlaceLaws.{row_front-append, row_in}}
 use Rattle.yq_row_table.proofs.SliceLaws.{print-length}
-use Rattle.yq_places.proofs.CommentPieceLaws.{Ended, content_end, tail_place}
-use Rattle.yq_places.proofs.SeamLaws.{raw_end, dashes_split}
-use Rattle.yq_places.proofs.StartLaws.{front_in}
+use Rattle.yq_places.{specs.CommentReading.before_tail, specs.EntryReading.{before_line, through_row}}
+use Rattle.yq_places.{specs.PrintedLines.{is_last_break, less_break}, proofs.CommentPieceLaws.{Ended, content_end, tail_place}}
+use Rattle.yq_places.{proofs.SeamLaws.{raw_end, dashes_split}, proofs.StartLaws.front_in}
+use Rattle.yq_outline.proofs.LengthLaws.{part-length}
 
 -- the break that ends a text, if there is one
 record IsSplit (x less : List ℕ) : Type 0 where

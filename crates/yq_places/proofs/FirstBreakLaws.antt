@@ -1,11 +1,9 @@
 -- The first break of a text, by the break of its first line.
-use Rattle.std.proofs.Common.{◌≡◌, ℕ, suc, Bool, true, false, cond, ◌&&◌, ◌||◌, List, [], ◌∷◌, length, take, drop, refl, sym, ap, ◌∙◌, rules}
-use Rattle.std.proofs.lemmas.Bool.{and_parts, eq-eqb, eqb-true, ne_eqb}
-use Rattle.std.proofs.Math.Dec.{eqb}
+use Rattle.std.proofs.Common.{◌≡◌, ℕ, suc, Bool, true, false, cond, ◌&&◌, ◌||◌, List, [], ◌∷◌, length, take, drop, refl, sym, ap, ◌∙◌}
+use Rattle.std.{proofs.Common.rules, proofs.lemmas.Bool.{and_parts, eq-eqb, eqb-true, ne_eqb}, proofs.Math.Dec.eqb}
 use Rattle.yq_core.specs.Text.{cut, cut_line, ends_line, front, is_feed, is_return, line_len, upto}
 use Rattle.yq_core.specs.declared.block_types.Break.TheVariants.{Lf, CrLf}
-use Rattle.yq_places.specs.FirstBreak.{first_break}
-use Rattle.yq_places.specs.PrintedLines.{is_last_break, last_break, less_break}
+use Rattle.yq_places.{specs.FirstBreak.first_break, specs.PrintedLines.{is_last_break, last_break, less_break}}
 
 -- a line that ends behind a CR and an LF
 both_bytes : (b : ℕ) (bs : List ℕ) → is_return b ≡ true → front is_feed bs ≡ true → eqb (length (last_break (take (suc (line_len bs)) (b ∷ bs)))) 2 ≡ true

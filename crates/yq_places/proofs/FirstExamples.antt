@@ -1,14 +1,12 @@
 -- The smallest rows of which the first item or entry of a compact collection is taken out.
 use Rattle.std.proofs.Common.{◌≡◌, ℕ, List, [], ◌∷◌, ◌++◌, Some, None, refl, codes}
-use Rattle.yq_core.specs.Paths.{Nth, To}
-use Rattle.yq_core.specs.Text.{upto, line_len, text_lines}
+use Rattle.yq_core.{specs.Paths.{Nth, To}, specs.Text.{upto, line_len, text_lines}}
+use Rattle.yq_outline.specs.Outline.{level}
+use Rattle.yq_row_table.specs.Rows.{Key, Inline, Row, Cut, last}
+use Rattle.yq_places.{specs.FirstPlaces.{first_removal, less_spaces}, specs.PrintedLines.less_break}
 use Rattle.yq_core.specs.ContentReading as reading
 use Rattle.yq_core.specs.Nodes as inline
 use Rattle.yq_core.specs.Scalars as scalars
-use Rattle.yq_outline.specs.Outline.{level}
-use Rattle.yq_row_table.specs.Rows.{Key, Inline, Row, Cut, last}
-use Rattle.yq_places.specs.FirstPlaces.{first_removal, less_spaces}
-use Rattle.yq_places.specs.PrintedLines.{less_break}
 
 abbrev break : List ℕ
 break = 10 ∷ []

@@ -1,31 +1,19 @@
 -- Spaces that end a text, and the text around an item or entry.
-use Rattle.std.proofs.Common.{◌≡◌, inl, ℕ, zero, suc, ◌+◌, ◌-◌, ◌<◌, ◌≤◌, eqb, Bool, true, false, cond, ◌&&◌, List, [], ◌∷◌, ◌++◌, length, take, drop, slice_index, Option, Some, None, option_map, refl, sym, ap, ◌∙◌, subst, arith, append_assoc, length-append, rules}
-use Rattle.std.proofs.Math.Seq.{drop-append_seam, take-append_seam}
-use Rattle.std.proofs.lemmas.Bool.{eqb-true, ne_eqb, and_parts}
-use Rattle.std.proofs.lemmas.List.{length-take-le}
+use Rattle.std.proofs.Common.{◌≡◌, inl, ℕ, zero, suc, ◌+◌, ◌-◌, ◌<◌, ◌≤◌, eqb, Bool, true, false, cond, ◌&&◌, List, [], ◌∷◌, ◌++◌, length}
+use Rattle.std.proofs.Common.{take, drop, slice_index, Option, Some, None, option_map, refl, sym, ap, ◌∙◌, subst, arith, append_assoc}
+use Rattle.std.{proofs.Common.{length-append, rules}, proofs.Math.Seq.{drop-append_seam, take-append_seam}}
+use Rattle.std.{proofs.lemmas.Bool.{eqb-true, ne_eqb, and_parts}, proofs.lemmas.List.length-take-le}
 use Rattle.std.proofs.lemmas.Str.{IsCharBoundary-at_seam, IsUtf8-drop, IsUtf8-from_ascii}
-use Rattle.std.proofs.lemmas.Str.Ascii.{IsAscii-nil, IsAscii-cons}
-use Rattle.std.specs.Str.{IsAscii, IsUtf8, IsCharBoundary}
-use Rattle.yq_core.specs.Answers.{◌>>=◌}
-use Rattle.yq_core.proofs.Bools.{bind_some}
-use Rattle.yq_core.specs.Spans.{IsSpan}
-use Rattle.yq_row_table.specs.Grammar.{IsCut}
-use Rattle.yq_row_table.specs.Rows.{Cut}
-use Rattle.yq_documents.specs.declared.path.Part.TheVariants as parts
-use Rattle.yq_documents.specs.declared.path.Path.{Path}
+use Rattle.std.{proofs.lemmas.Str.Ascii.{IsAscii-nil, IsAscii-cons}, specs.Str.{IsAscii, IsUtf8, IsCharBoundary}}
+use Rattle.yq_core.{specs.Answers.◌>>=◌, proofs.Bools.bind_some, specs.Spans.IsSpan}
+use Rattle.yq_row_table.{specs.Grammar.IsCut, specs.Rows.Cut}
+use Rattle.yq_documents.{specs.declared.path.Path.Path, specs.Located.steps_of, specs.Pieces.{TextPiece, piece_span}}
+use Rattle.yq_documents.{specs.Reading.all_documents, specs.LinesInRows.{RowLine, row_line_at}}
 use Rattle.yq_places.specs.FirstPlaces.{are_spaces, less_spaces, end_spaces, FirstOut, first_out, first_removal}
-use Rattle.yq_documents.specs.Located.{steps_of}
-use Rattle.yq_places.specs.PathPieces.{printed_document, path_piece}
-use Rattle.yq_documents.specs.Pieces.{TextPiece, piece_span}
-use Rattle.yq_documents.specs.Reading.{all_documents}
-use Rattle.yq_places.specs.RowLineReading.{LineCounts, numbers}
-use Rattle.yq_documents.specs.LinesInRows.{RowLine, row_line_at}
-use Rattle.yq_places.specs.EntryReading.{line_entry_at}
-use Rattle.yq_places.proofs.EntryPlaceLaws.{row_line_entry}
-use Rattle.yq_places.proofs.EntryPlacedLaws.{entries_placed}
-use Rattle.yq_places.proofs.PieceHolds.{spans_are}
-use Rattle.yq_places.proofs.PieceTexts.{document_whole, piece_whole}
-use Rattle.yq_places.proofs.PrintedTexts.{map_some}
+use Rattle.yq_places.{specs.PathPieces.{printed_document, path_piece}, specs.RowLineReading.{LineCounts, numbers}}
+use Rattle.yq_places.{specs.EntryReading.line_entry_at, proofs.EntryPlaceLaws.row_line_entry, proofs.EntryPlacedLaws.entries_placed}
+use Rattle.yq_places.{proofs.PieceHolds.spans_are, proofs.PieceTexts.{document_whole, piece_whole}, proofs.PrintedTexts.map_some}
+use Rattle.yq_documents.specs.declared.path.Part.TheVariants as parts
 
 -- ---- the spaces that end a text
 

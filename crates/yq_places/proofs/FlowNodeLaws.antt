@@ -1,48 +1,30 @@
 -- The flow collection at a path is the one that the code finds in the head of a line.
-use Rattle.std.proofs.Common.{◌≡◌, ℕ, ℤ, ◌+◌, Bool, true, false, not, cond, List, [], ◌∷◌, ◌++◌, length, map, take, Option, Some, None, option_and_then, option_map, refl, sym, ap, ◌∙◌, subst, append-nil}
-use Rattle.std.specs.List.{slice_get}
-use Rattle.yq_core.specs.Answers.{◌>>=◌}
-use Rattle.yq_core.specs.Paths.{Step, is_here, further}
-use Rattle.yq_core.specs.Piece.{deeper}
-use Rattle.yq_core.specs.declared.style.Place.TheVariants.{Block}
-use Rattle.yq_core.specs.Collections.{CollAt, CollPieces, IsCollAt, coll_along, coll_in}
+use Rattle.std.proofs.Common.{◌≡◌, ℕ, ℤ, ◌+◌, Bool, true, false, not, cond, List, [], ◌∷◌, ◌++◌, length, map, take, Option, Some, None}
+use Rattle.std.{proofs.Common.{option_and_then, option_map, refl, sym, ap, ◌∙◌, subst, append-nil}, specs.List.slice_get}
+use Rattle.yq_core.{specs.Answers.◌>>=◌, specs.Paths.{Step, is_here, further}, specs.Piece.deeper}
+use Rattle.yq_core.{specs.declared.style.Place.TheVariants.Block, specs.Collections.{CollAt, CollPieces, IsCollAt, coll_along, coll_in}}
 use Rattle.yq_core.specs.Entries.{EntryPieces, path_inside, item_at, tree_step}
-use Rattle.yq_core.specs.Nodes.{Items, none, item, Key, FlowNode, empty, alias, scalar, coll, anchored, flow_items_text, sep_text, node_text, is_empty_node, IsFlowNode, without_anchor}
-use Rattle.yq_core.specs.Inline.{depth_limit}
-use Rattle.yq_core.specs.Places.{Placed, placed, nothing, name, text, sequence, mapping, anchored_node, locate}
-use Rattle.yq_core.specs.Trees.{key_content}
-use Rattle.yq_core.specs.View.{inline_view}
-use Rattle.yq_core.specs.Tree.{key_label}
-use Rattle.yq_core.proofs.NodesWrittenLaws.{items_append, node_then, sep_append}
-use Rattle.yq_row_table.specs.Exchange.{behind_row}
-use Rattle.yq_row_table.specs.Grammar.{IsContent, IsCut}
-use Rattle.yq_row_table.specs.Rows as rows
+use Rattle.yq_core.specs.Nodes.{Items, none, item, Key, FlowNode, empty, alias, scalar, coll, anchored, flow_items_text, sep_text}
+use Rattle.yq_core.{specs.Nodes.{node_text, is_empty_node, IsFlowNode, without_anchor}, specs.Inline.depth_limit}
+use Rattle.yq_core.{specs.Places.{Placed, placed, nothing, name, text, sequence, mapping, anchored_node, locate}, specs.Trees.key_content}
+use Rattle.yq_core.{specs.View.inline_view, specs.Tree.key_label, proofs.NodesWrittenLaws.{items_append, node_then, sep_append}}
+use Rattle.yq_row_table.{specs.Exchange.behind_row, specs.Grammar.{IsContent, IsCut}}
 use Rattle.yq_row_table.specs.Rows.{Content, Nothing, Inline, Row, Part, Cut, parent_indent}
-use Rattle.yq_row_table.specs.View.{RowsView, anchor_cut, content_cut, rows_view, slices}
-use Rattle.yq_row_table.proofs.PlaceLaws.{row_in}
-use Rattle.yq_outline.specs.Outline.{Line}
-use Rattle.yq_outline.specs.Places.{lines_before, FoundLine}
-use Rattle.yq_documents.specs.Documents.{document_parts}
-use Rattle.yq_documents.specs.FlowReading.{alias_or_collection, content_core, row_flow}
-use Rattle.yq_outline.specs.Lines.{tail_of, lines_of_rows}
-use Rattle.yq_documents.specs.Reading.{part_outline}
-use Rattle.yq_documents.specs.RowReading.{from_head}
-use Rattle.yq_documents.specs.LinesInRows.{RowLine, document_row}
-use Rattle.yq_places.specs.FlowNodes.{content_flow, find_head, flow_collection, line_collection, part_collection}
-use Rattle.yq_places.specs.FlowViews as views
-use Rattle.yq_places.specs.FlowViews.{FlowAgrees, IsHeadFor, placed_collection, collection_along}
-use Rattle.yq_places.specs.NodeReading.{NodePlace, with_steps, node_place, place_line, head_line_of}
-use Rattle.yq_places.specs.RowWalk.{InCut}
-use Rattle.yq_outline.specs.RowWalk.{IsLine, line_number}
-use Rattle.yq_places.specs.declared.places.flow_node.FlowHead.{FlowHead}
-use Rattle.yq_outline.specs.declared.line_position.Position.{Position}
+use Rattle.yq_row_table.{specs.View.{RowsView, anchor_cut, content_cut, rows_view, slices}, proofs.PlaceLaws.row_in}
+use Rattle.yq_outline.{specs.Outline.Line, specs.Places.{lines_before, FoundLine}, specs.Lines.{tail_of, lines_of_rows}}
+use Rattle.yq_outline.{specs.RowWalk.{IsLine, line_number}, specs.declared.line_position.Position.Position}
 use Rattle.yq_outline.specs.declared.line_position.Stretch.{Stretch}
-use Rattle.yq_places.proofs.FlowViewLaws.{collection_placed, head_found, numbered}
-use Rattle.yq_places.proofs.HeadSteps.{HasStemAt, stem_at}
-use Rattle.yq_places.proofs.WalkDocuments as documents
-use Rattle.yq_places.proofs.WalkDocuments.{found_in_cut}
-use Rattle.yq_places.proofs.RowHeads.{row_alone}
+use Rattle.yq_documents.{specs.Documents.document_parts, specs.FlowReading.{alias_or_collection, content_core, row_flow}}
+use Rattle.yq_documents.{specs.Reading.part_outline, specs.RowReading.from_head, specs.LinesInRows.{RowLine, document_row}}
+use Rattle.yq_places.specs.FlowNodes.{content_flow, find_head, flow_collection, line_collection, part_collection}
+use Rattle.yq_places.specs.FlowViews.{FlowAgrees, IsHeadFor, placed_collection, collection_along}
+use Rattle.yq_places.{specs.NodeReading.{NodePlace, with_steps, node_place, place_line, head_line_of}, specs.RowWalk.InCut}
+use Rattle.yq_places.{specs.declared.places.flow_node.FlowHead.FlowHead, proofs.FlowViewLaws.{collection_placed, head_found, numbered}}
+use Rattle.yq_places.{proofs.HeadSteps.{HasStemAt, stem_at}, proofs.WalkDocuments.found_in_cut, proofs.RowHeads.row_alone}
 use Rattle.yq_places.proofs.WalkNodes.{row_is, row_in_cut, row_line_is, before_is}
+use Rattle.yq_row_table.specs.Rows as rows
+use Rattle.yq_places.specs.FlowViews as views
+use Rattle.yq_places.proofs.WalkDocuments as documents
 
 -- ---- the head of a row
 

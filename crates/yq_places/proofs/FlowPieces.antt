@@ -1,32 +1,21 @@
 -- Items and entries in flow, and the trees of their nodes.
-use Rattle.std.proofs.Common.{◌≡◌, ℕ, List, [], ◌∷◌, ◌++◌, Option, Some, None, option_map, option_and_then, Bool, true, cond, refl, sym, ap, ◌∙◌, rules}
-use Rattle.std.proofs.lemmas.Option.{none-some, same_Some}
-use Rattle.yq_core.specs.declared.kind.Kind.TheVariants.{Text}
-use Rattle.yq_core.specs.Answers.{◌>>=◌}
-use Rattle.yq_core.specs.BlockContent.{block_content}
-use Rattle.yq_outline.specs.Group.{group, is_fine}
-use Rattle.yq_outline.specs.Labelled.{Labelled, labelled_at, labelled_from}
-use Rattle.yq_outline.proofs.Finding.{entry_of}
-use Rattle.yq_outline.proofs.LabelPaths.{reach, HasHead, rest_head}
-use Rattle.yq_outline.proofs.PlaceLaws.{at}
-use Rattle.yq_places.proofs.RowPathLaws.{found_place}
-use Rattle.yq_core.specs.Paths.{Step, is_here, further}
-use Rattle.yq_core.specs.Tree as tree
-use Rattle.yq_core.specs.Tree.{key_label}
-use Rattle.yq_core.specs.Entries.{EntryPieces, entry_pieces_at, path_inside}
-use Rattle.yq_core.specs.Entries as entries
-use Rattle.yq_core.specs.Nodes.{bare, FlowNode, empty, alias, scalar, coll, anchored, Items, none, item, key_text, sep_text, opening_bracket, node_text, flow_items_text, IsFlowNode}
-use Rattle.yq_core.specs.Trees.{key_content, tree_of, items_tree, tree_collection, with_name, node_head}
-use Rattle.yq_core.proofs.PathLaws.{path_holds}
-use Rattle.yq_row_table.specs.Rows.{Content, Nothing, Inline, Block}
-use Rattle.yq_outline.specs.Lines.{head_of}
-use Rattle.yq_outline.specs.Outline as outlines
-use Rattle.yq_outline.specs.Outline.{Line, first_anchor, head_or, value}
-use Rattle.yq_outline.specs.Places.{FoundLine, find}
-use Rattle.yq_places.specs.PrintedLines.{line_front, print_lines}
+use Rattle.std.proofs.Common.{◌≡◌, ℕ, List, [], ◌∷◌, ◌++◌, Option, Some, None, option_map, option_and_then, Bool, true, cond, refl, sym, ap}
+use Rattle.std.{proofs.Common.{◌∙◌, rules}, proofs.lemmas.Option.{none-some, same_Some}}
+use Rattle.yq_core.{specs.declared.kind.Kind.TheVariants.Text, specs.Answers.◌>>=◌, specs.BlockContent.block_content}
+use Rattle.yq_core.{specs.Paths.{Step, is_here, further}, specs.Tree.key_label, specs.Entries.{EntryPieces, entry_pieces_at, path_inside}}
+use Rattle.yq_core.specs.Nodes.{bare, FlowNode, empty, alias, scalar, coll, anchored, Items, none, item, key_text, sep_text}
+use Rattle.yq_core.specs.Nodes.{opening_bracket, node_text, flow_items_text, IsFlowNode}
+use Rattle.yq_core.{specs.Trees.{key_content, tree_of, items_tree, tree_collection, with_name, node_head}, proofs.PathLaws.path_holds}
+use Rattle.yq_outline.{specs.Group.{group, is_fine}, specs.Labelled.{Labelled, labelled_at, labelled_from}, proofs.Finding.entry_of}
+use Rattle.yq_outline.{proofs.LabelPaths.{reach, HasHead, rest_head}, proofs.PlaceLaws.at, specs.Lines.head_of}
+use Rattle.yq_outline.{specs.Outline.{Line, first_anchor, head_or, value}, specs.Places.{FoundLine, find}}
+use Rattle.yq_places.{proofs.RowPathLaws.found_place, specs.PrintedLines.{line_front, print_lines}}
 use Rattle.yq_places.specs.PathPieces.{BlockEntry, FlowEntry, flow_in, flow_under, flow_at, content_inline, line_inline, PrintedDocument}
-use Rattle.yq_places.proofs.PrintedLaws.{IsValid, IsWritten}
-use Rattle.yq_places.proofs.FoundEntries.{IsFound, some_head}
+use Rattle.yq_places.{proofs.PrintedLaws.{IsValid, IsWritten}, proofs.FoundEntries.{IsFound, some_head}}
+use Rattle.yq_row_table.specs.Rows.{Content, Nothing, Inline, Block}
+use Rattle.yq_core.specs.Tree as tree
+use Rattle.yq_core.specs.Entries as entries
+use Rattle.yq_outline.specs.Outline as outlines
 
 -- a node behind another anchor
 pub none_anchored : (n : tree.Node) → n ≡ outlines.anchored None n

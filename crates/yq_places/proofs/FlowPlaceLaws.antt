@@ -1,24 +1,15 @@
 -- The items and entries to which steps lead in a head are those of its row.
-use Rattle.std.proofs.Common.{◌≡◌, ◌⊎◌, ℕ, ◌+◌, List, [], ◌∷◌, ◌++◌, length, Option, Some, None, option_map, option_and_then, true, refl, rules}
-use Rattle.std.proofs.lemmas.Bool.{cases_lt, false≢true}
-use Rattle.std.specs.List.{slice_get}
-use Rattle.std.specs.Prelude.{is_some}
-use Rattle.yq_core.specs.Paths.{Step}
-use Rattle.yq_core.specs.Tree as tree
-use Rattle.yq_core.specs.Entries.{parts_of, placed_entry_at}
-use Rattle.yq_core.specs.Nodes.{FlowNode, without_anchor}
+use Rattle.std.proofs.Common.{◌≡◌, ◌⊎◌, ℕ, ◌+◌, List, [], ◌∷◌, ◌++◌, length, Option, Some, None, option_map, option_and_then, true, refl}
+use Rattle.std.{proofs.Common.rules, proofs.lemmas.Bool.{cases_lt, false≢true}, specs.List.slice_get, specs.Prelude.is_some}
+use Rattle.yq_core.{specs.Paths.Step, specs.Entries.{parts_of, placed_entry_at}, specs.Nodes.{FlowNode, without_anchor}}
 use Rattle.yq_core.specs.Places.{Placed, locate}
-use Rattle.yq_row_table.specs.Exchange.{behind_row}
-use Rattle.yq_row_table.specs.Rows.{Content, Row, Cut, cut_text}
-use Rattle.yq_places.specs.EntryReading.{inline_node, flow_entry, entry_within}
-use Rattle.yq_documents.specs.FlowReading.{alias_or_collection, content_core, row_flow}
-use Rattle.yq_outline.specs.Lines.{tail_of, lines_of_rows}
-use Rattle.yq_outline.specs.Outline.{LineMark, Dash, Line, Outline, end, row}
-use Rattle.yq_outline.specs.Places.{here, FoundLine, find_row, place_inside, bare_or, in_head, find}
-use Rattle.yq_documents.specs.LinesInRows.{RowLine, row_line}
-use Rattle.yq_outline.specs.Positions.{has_no_mark}
-use Rattle.yq_places.proofs.DashLineLaws.{row_line_found}
+use Rattle.yq_row_table.{specs.Exchange.behind_row, specs.Rows.{Content, Row, Cut, cut_text}}
+use Rattle.yq_places.{specs.EntryReading.{inline_node, flow_entry, entry_within}, proofs.DashLineLaws.row_line_found}
+use Rattle.yq_documents.{specs.FlowReading.{alias_or_collection, content_core, row_flow}, specs.LinesInRows.{RowLine, row_line}}
+use Rattle.yq_outline.{specs.Lines.{tail_of, lines_of_rows}, specs.Outline.{LineMark, Dash, Line, Outline, end, row}}
+use Rattle.yq_outline.{specs.Places.{here, FoundLine, find_row, place_inside, bare_or, in_head, find}, specs.Positions.has_no_mark}
 use Rattle.yq_outline.proofs.Values.{If}
+use Rattle.yq_core.specs.Tree as tree
 
 -- a line in whose head steps may go on: a node itself, or a line that has a head
 abbrev pub TakesSteps : Line → Type 0

@@ -1,25 +1,17 @@
 -- Items and entries in flow go from one whole character to another.
-use Rattle.std.proofs.Common.{◌≡◌, ℕ, ◌≤◌, List, [], ◌∷◌, ◌++◌, length, Option, Some, None, option_map, option_and_then, Bool, cond, refl, sym, ◌∙◌, subst, length-append, rules}
-use Rattle.std.proofs.lemmas.Option.{same_Some}
-use Rattle.std.specs.List.{slice_get}
+use Rattle.std.proofs.Common.{◌≡◌, ℕ, ◌≤◌, List, [], ◌∷◌, ◌++◌, length, Option, Some, None, option_map, option_and_then, Bool, cond, refl}
+use Rattle.std.{proofs.Common.{sym, ◌∙◌, subst, length-append, rules}, proofs.lemmas.Option.same_Some, specs.List.slice_get}
 use Rattle.std.specs.Str.{IsUtf8}
 use Rattle.yq_core.specs.Paths.{Step, is_here, further}
-use Rattle.yq_core.specs.Entries.{PlacedEntry, EntryPieces, parts_of, flow_part_at, placed_entry_at, content_place, end_of, entry_start, entry_place, locate_entry, entry_pieces_at}
-use Rattle.yq_core.specs.Nodes.{Key, bare, empty, node_text, key_text}
-use Rattle.yq_core.specs.Places.{Placed, Parts, end, part, key_placed, locate}
-use Rattle.yq_core.specs.Spans.{IsSpan, HasKeySpan, HasSpans, PartsHaveSpans}
-use Rattle.yq_core.specs.Trees.{unplaced_key}
-use Rattle.yq_core.specs.Tree.{key_label}
-use Rattle.yq_core.proofs.NodeAgain.{node_longer}
-use Rattle.yq_core.proofs.PathLaws.{path_places}
+use Rattle.yq_core.specs.Entries.{PlacedEntry, EntryPieces, parts_of, flow_part_at, placed_entry_at, content_place, end_of, entry_start}
+use Rattle.yq_core.{specs.Entries.{entry_place, locate_entry, entry_pieces_at}, specs.Nodes.{Key, bare, empty, node_text, key_text}}
+use Rattle.yq_core.{specs.Places.{Placed, Parts, end, part, key_placed, locate}, specs.Spans.{IsSpan, HasKeySpan, HasSpans, PartsHaveSpans}}
+use Rattle.yq_core.{specs.Trees.unplaced_key, specs.Tree.key_label, proofs.NodeAgain.node_longer, proofs.PathLaws.path_places}
 use Rattle.yq_core.proofs.EditPlaces.{start_placed, end_placed}
-use Rattle.yq_row_table.specs.Exchange.{behind_row}
-use Rattle.yq_row_table.specs.Grammar.{IsCut}
-use Rattle.yq_row_table.specs.Rows.{Content, Nothing, Inline, Block, Row, Cut, cut_text}
+use Rattle.yq_row_table.{specs.Exchange.behind_row, specs.Grammar.IsCut, specs.Rows.{Content, Nothing, Inline, Block, Row, Cut, cut_text}}
 use Rattle.yq_row_table.specs.View.{rows_of}
-use Rattle.yq_places.specs.EntryReading.{inline_node, placed_inline}
+use Rattle.yq_places.{specs.EntryReading.{inline_node, placed_inline}, proofs.HeadSpanLaws.node_spans}
 use Rattle.yq_outline.specs.Lines.{tail_of}
-use Rattle.yq_places.proofs.HeadSpanLaws.{node_spans}
 
 -- an item or entry with its key
 abbrev pub EntrySpans : List ℕ → PlacedEntry → Type 0

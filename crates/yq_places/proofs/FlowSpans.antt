@@ -1,14 +1,12 @@
 -- The spans of items and entries in flow.
-use Rattle.std.proofs.Common.{◌≡◌, ℕ, ◌+◌, ◌-◌, List, [], ◌∷◌, ◌++◌, length, option_map, refl, sym, ap, ◌∙◌, arith, append_assoc, length-append, rules}
+use Rattle.std.proofs.Common.{◌≡◌, ℕ, ◌+◌, ◌-◌, List, [], ◌∷◌, ◌++◌, length, option_map, refl, sym, ap, ◌∙◌, arith, append_assoc}
+use Rattle.std.proofs.Common.{length-append, rules}
 use Rattle.yq_core.specs.Entries.{entry_place, content_place, locate_entry}
 use Rattle.yq_core.specs.Nodes.{Key, bare, keyed, FlowNode, empty, alias, scalar, coll, anchored, key_text, node_text}
-use Rattle.yq_core.specs.Places.{Placed, placed, locate, anchored_node}
-use Rattle.yq_core.proofs.NodesWrittenLaws.{key_append, node_then}
+use Rattle.yq_core.{specs.Places.{Placed, placed, locate, anchored_node}, proofs.NodesWrittenLaws.{key_append, node_then}}
 use Rattle.yq_core.proofs.EditPlaces.{start_placed, end_placed}
 use Rattle.yq_documents.specs.Pieces.{piece_span, node_piece}
-use Rattle.yq_places.specs.PathPieces.{FlowEntry, flow_piece, flow_content}
-use Rattle.yq_places.proofs.PieceTexts.{item_text}
-use Rattle.yq_places.proofs.FlowPieces.{pieces}
+use Rattle.yq_places.{specs.PathPieces.{FlowEntry, flow_piece, flow_content}, proofs.PieceTexts.item_text, proofs.FlowPieces.pieces}
 
 -- pieces of items by their places
 pub item_place : (y : FlowEntry) (total : ℕ) → total ≡ length (item_text y) → entry_place (locate_entry total (pieces y)) ≡ piece_span (flow_piece y)

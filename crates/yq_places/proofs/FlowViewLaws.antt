@@ -1,26 +1,19 @@
 -- Flow collections at paths, as the code finds them.
-use Rattle.std.proofs.Common.{◌≡◌, ℕ, ◌+◌, cond, List, [], ◌∷◌, ◌++◌, length, Option, Some, None, option_map, option_and_then, refl, sym, ap, ◌∙◌, length-append, rules}
-use Rattle.std.specs.List.{slice_get}
-use Rattle.std.specs.Prelude.{is_some}
-use Rattle.yq_core.specs.Answers.{◌>>=◌}
-use Rattle.yq_core.specs.Paths.{Step}
-use Rattle.yq_core.specs.Tree as tree
-use Rattle.yq_core.specs.Collections.{coll_along, coll_in}
+use Rattle.std.proofs.Common.{◌≡◌, ℕ, ◌+◌, cond, List, [], ◌∷◌, ◌++◌, length, Option, Some, None, option_map, option_and_then, refl, sym}
+use Rattle.std.{proofs.Common.{ap, ◌∙◌, length-append, rules}, specs.List.slice_get, specs.Prelude.is_some}
+use Rattle.yq_core.{specs.Answers.◌>>=◌, specs.Paths.Step, specs.Collections.{coll_along, coll_in}}
 use Rattle.yq_core.specs.Entries.{EntryPieces, PlacedEntry, entry_pieces_at, path_inside, locate_entry}
 use Rattle.yq_core.specs.Nodes.{bare, FlowNode, coll, anchored}
-use Rattle.yq_core.specs.Places.{Placed, placed, Parts, holder, locate, locate_items, anchored_node}
-use Rattle.yq_core.proofs.PathLaws.{path_places}
-use Rattle.yq_outline.specs.Ends.{part}
-use Rattle.yq_outline.specs.Group.{group}
-use Rattle.yq_outline.specs.Outline.{Line, level, Outline}
+use Rattle.yq_core.{specs.Places.{Placed, placed, Parts, holder, locate, locate_items, anchored_node}, proofs.PathLaws.path_places}
+use Rattle.yq_outline.{specs.Ends.part, specs.Group.group, specs.Outline.{Line, level, Outline}}
 use Rattle.yq_outline.specs.Places.{Context, here, below, lines_before, compose, FoundLine, find, in_head}
-use Rattle.yq_outline.specs.Places as lines
-use Rattle.yq_outline.specs.Positions.{begins_with_node}
-use Rattle.yq_outline.proofs.NameLaws.{part-all}
+use Rattle.yq_outline.{specs.Positions.begins_with_node, proofs.NameLaws.part-all}
 use Rattle.yq_places.specs.FlowNodes.{bare_line, head_line, find_head}
 use Rattle.yq_places.specs.FlowViews.{placed_collection, if_collection, collection_of, collection_along}
 use Rattle.yq_places.specs.NodeReading.{at_head, at_lines, line_place, line_with_steps, with_steps, place_line, head_line_of}
 use Rattle.yq_places.proofs.FoundLaws.{before_inside, found_in_lines}
+use Rattle.yq_core.specs.Tree as tree
+use Rattle.yq_outline.specs.Places as lines
 
 -- ---- collections in nodes with places
 

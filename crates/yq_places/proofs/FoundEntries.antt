@@ -1,21 +1,13 @@
 -- The entries of lines that were found.
-use Rattle.std.proofs.Common.{◌≡◌, ℕ, zero, suc, ◌<◌, List, [], ◌∷◌, ◌++◌, length, take, drop, map, Option, Some, option_map, refl, sym, ap, ◌∙◌, subst, arith, length-append, rules}
-use Rattle.std.proofs.Math.Seq.{take-append_seam}
-use Rattle.std.proofs.lemmas.List.{take-append-drop, take-map, drop-map}
-use Rattle.std.proofs.lemmas.Option.{slice_get-map, same_Some}
+use Rattle.std.proofs.Common.{◌≡◌, ℕ, zero, suc, ◌<◌, List, [], ◌∷◌, ◌++◌, length, take, drop, map, Option, Some, option_map, refl, sym, ap}
+use Rattle.std.{proofs.Common.{◌∙◌, subst, arith, length-append, rules}, proofs.Math.Seq.take-append_seam}
+use Rattle.std.{proofs.lemmas.List.{take-append-drop, take-map, drop-map}, proofs.lemmas.Option.{slice_get-map, same_Some}}
 use Rattle.std.specs.List.{slice_get}
-use Rattle.yq_core.specs.Answers.{◌>>=◌}
-use Rattle.yq_core.specs.Paths.{Step}
-use Rattle.yq_core.proofs.Bools.{bind_some}
-use Rattle.yq_outline.specs.Group.{group}
-use Rattle.yq_outline.specs.Outline.{Line, flatten, LineMark, Outline, IsWhole}
-use Rattle.yq_outline.specs.Places.{lines_before, lines_after, FoundLine, find}
-use Rattle.yq_core.specs.Tree.{Node}
-use Rattle.yq_outline.proofs.LabelPaths.{HasHead}
-use Rattle.yq_places.proofs.RowPathLaws.{found_lines}
-use Rattle.yq_places.specs.PrintedLines.{PrintedLine, print_lines, line_in}
-use Rattle.yq_places.specs.PathPieces.{BlockEntry, PrintedDocument, found_entry}
-use Rattle.yq_places.proofs.PrintedTexts.{line_split}
+use Rattle.yq_core.{specs.Answers.◌>>=◌, specs.Paths.Step, proofs.Bools.bind_some, specs.Tree.Node}
+use Rattle.yq_outline.{specs.Group.group, specs.Outline.{Line, flatten, LineMark, Outline, IsWhole}}
+use Rattle.yq_outline.{specs.Places.{lines_before, lines_after, FoundLine, find}, proofs.LabelPaths.HasHead}
+use Rattle.yq_places.{proofs.RowPathLaws.found_lines, specs.PrintedLines.{PrintedLine, print_lines, line_in}}
+use Rattle.yq_places.{specs.PathPieces.{BlockEntry, PrintedDocument, found_entry}, proofs.PrintedTexts.line_split}
 use Rattle.yq_places.proofs.PrintedLaws.{ArePrinted, printed_split}
 
 -- ---- lines that were found

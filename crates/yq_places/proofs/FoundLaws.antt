@@ -1,21 +1,14 @@
 -- Lines that were found, by their indexes.
-use Rattle.std.proofs.Common.{◌≡◌, ◌⊎◌, inl, inr, ℕ, suc, ◌+◌, ◌<◌, ◌≤◌, Bool, true, false, cond, List, [], ◌∷◌, ◌++◌, length, get_or, Option, Some, None, option_map, option_and_then, refl, sym, ap, ◌∙◌, arith, append_assoc, length-append, rules}
-use Rattle.std.proofs.lemmas.Bool.{cases_lt}
-use Rattle.std.proofs.lemmas.List.{drop_all}
-use Rattle.std.proofs.lemmas.Option.{slice_get_cases}
+use Rattle.std.proofs.Common.{◌≡◌, ◌⊎◌, inl, inr, ℕ, suc, ◌+◌, ◌<◌, ◌≤◌, Bool, true, false, cond, List, [], ◌∷◌, ◌++◌, length, get_or}
+use Rattle.std.proofs.Common.{Option, Some, None, option_map, option_and_then, refl, sym, ap, ◌∙◌, arith, append_assoc, length-append}
+use Rattle.std.{proofs.Common.rules, proofs.lemmas.Bool.cases_lt, proofs.lemmas.List.drop_all, proofs.lemmas.Option.slice_get_cases}
 use Rattle.std.specs.List.{slice_get}
-use Rattle.yq_core.specs.Paths.{Step, is_here, further}
-use Rattle.yq_core.specs.Tree.{Node}
-use Rattle.yq_outline.specs.Ends.{part}
-use Rattle.yq_outline.specs.Group.{group}
+use Rattle.yq_core.{specs.Paths.{Step, is_here, further}, specs.Tree.Node}
+use Rattle.yq_outline.{specs.Ends.part, specs.Group.group}
 use Rattle.yq_outline.specs.Outline.{LineMark, Bare, Key, Dash, Line, level, Outline, end, row, flatten, label}
-use Rattle.yq_outline.specs.Places.{Context, here, below, beside, compose, lines_before, FoundLine, next_to, find_row, place_inside, in_head, bare_or, find}
-use Rattle.yq_outline.proofs.LineEnds.{end_counted}
-use Rattle.yq_outline.proofs.NameLaws.{part-all}
-use Rattle.yq_outline.proofs.EndsLaws.{part_stop, row_parts}
-use Rattle.yq_outline.proofs.PlaceLaws.{at}
-use Rattle.yq_outline.proofs.PositionLaws.{under-length}
-use Rattle.yq_outline.proofs.Values.{If}
+use Rattle.yq_outline.specs.Places.{Context, here, below, beside, compose, lines_before, FoundLine, next_to, find_row, place_inside}
+use Rattle.yq_outline.{specs.Places.{in_head, bare_or, find}, proofs.LineEnds.end_counted, proofs.NameLaws.part-all}
+use Rattle.yq_outline.{proofs.EndsLaws.{part_stop, row_parts}, proofs.PlaceLaws.at, proofs.PositionLaws.under-length, proofs.Values.If}
 
 -- The first of the lines from one on that are deeper than a level, with those under it, before the others.
 pub record IsFirst (ls : List Line) (first floor : ℕ) (l : Line) (u a : Outline) : Type 0 where

@@ -1,12 +1,10 @@
 -- What a text in two halves begins and ends with.
-use Rattle.std.proofs.Common.{◌≡◌, ℕ, zero, suc, ◌+◌, ◌-◌, ◌<◌, ◌≤◌, Bool, true, false, cond, eqb, List, [], ◌∷◌, ◌++◌, length, drop, slice_index, ◌||◌, refl, sym, ap, ◌∙◌, ◌⊎◌, inl, inr, ⊎_elim, arith, drop-cons, rules}
+use Rattle.std.proofs.Common.{◌≡◌, ℕ, zero, suc, ◌+◌, ◌-◌, ◌<◌, ◌≤◌, Bool, true, false, cond, eqb, List, [], ◌∷◌, ◌++◌, length, drop}
+use Rattle.std.proofs.Common.{slice_index, ◌||◌, refl, sym, ap, ◌∙◌, ◌⊎◌, inl, inr, ⊎_elim, arith, drop-cons, rules}
 use Rattle.std.proofs.lemmas.Bool.{cases_lt, eq-eqb, eqb-true, ne_eqb, false_from_ne_true}
 use Rattle.std.proofs.lemmas.List.{drop_all, get_or_append_left, get_or-append_right, get_or_past}
-use Rattle.std.proofs.lemmas.List.Folds.{prefix_len-append}
-use Rattle.std.proofs.lemmas.List.Sums.{prefix_len-le-length}
-use Rattle.std.specs.List.{prefix_len}
-use Rattle.yq_core.specs.Text.{front, is_break, is_empty, is_feed, is_line, is_white, line_len, past_white}
-use Rattle.yq_core.proofs.Upto.{upto_unless}
+use Rattle.std.{proofs.lemmas.List.Folds.prefix_len-append, proofs.lemmas.List.Sums.prefix_len-le-length, specs.List.prefix_len}
+use Rattle.yq_core.{specs.Text.{front, is_break, is_empty, is_feed, is_line, is_white, line_len, past_white}, proofs.Upto.upto_unless}
 use Rattle.yq_row_table.specs.Reading.{begins_gap}
 use Rattle.yq_places.specs.PrintedLines.{less_break}
 

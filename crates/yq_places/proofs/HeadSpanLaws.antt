@@ -1,36 +1,25 @@
 -- The heads of rows, and what stands in flow in them, go from one whole character to another.
-use Rattle.std.proofs.Common.{◌≡◌, ℕ, ◌+◌, ◌-◌, ◌<◌, List, [], ◌∷◌, ◌++◌, length, drop, replicate, Option, Some, Bool, true, false, refl, sym, ap, ◌∙◌, subst, arith, append_assoc, length-append, inl, rules}
-use Rattle.std.proofs.Math.Seq.{drop-append_seam}
-use Rattle.std.proofs.lemmas.Bool.{false≢true, and_parts}
-use Rattle.std.specs.List.{slice_get}
-use Rattle.std.specs.Str.{IsUtf8, IsCharBoundary}
-use Rattle.yq_core.specs.declared.block_header.BlockStyle.{BlockStyle}
-use Rattle.yq_core.specs.Block.{style_indicator}
-use Rattle.yq_core.specs.Entries.{end_of}
-use Rattle.yq_core.specs.Inline.{IsInlineAt}
-use Rattle.yq_core.specs.Nodes.{FlowNode, node_text, IsFlowNode}
-use Rattle.yq_core.specs.Places.{Placed, placed, anchored_node, locate}
-use Rattle.yq_core.specs.Spans.{IsSpan, HasSpans}
-use Rattle.yq_core.proofs.NodeAgain.{is_anchored, takes_unanchored}
-use Rattle.yq_core.proofs.SpanLaws.{inline_spans}
-use Rattle.yq_core.proofs.NodesWrittenLaws.{node_then}
-use Rattle.yq_core.proofs.EditPlaces.{end_placed}
+use Rattle.std.proofs.Common.{◌≡◌, ℕ, ◌+◌, ◌-◌, ◌<◌, List, [], ◌∷◌, ◌++◌, length, drop, replicate, Option, Some, Bool, true, false, refl}
+use Rattle.std.{proofs.Common.{sym, ap, ◌∙◌, subst, arith, append_assoc, length-append, inl, rules}, proofs.Math.Seq.drop-append_seam}
+use Rattle.std.{proofs.lemmas.Bool.{false≢true, and_parts}, specs.List.slice_get, specs.Str.{IsUtf8, IsCharBoundary}}
+use Rattle.yq_core.{specs.declared.block_header.BlockStyle.BlockStyle, specs.Block.style_indicator, specs.Entries.end_of}
+use Rattle.yq_core.{specs.Inline.IsInlineAt, specs.Nodes.{FlowNode, node_text, IsFlowNode}}
+use Rattle.yq_core.{specs.Places.{Placed, placed, anchored_node, locate}, specs.Spans.{IsSpan, HasSpans}}
+use Rattle.yq_core.{proofs.NodeAgain.{is_anchored, takes_unanchored}, proofs.SpanLaws.inline_spans, proofs.NodesWrittenLaws.node_then}
+use Rattle.yq_core.{proofs.EditPlaces.end_placed, specs.Piece.deeper}
 use Rattle.yq_row_table.specs.Exchange.{before_content, behind_row, with_content, allows_first}
 use Rattle.yq_row_table.specs.Grammar.{IsContent, AreDashes, IsMark, is_entry, IsCut, unlimited, limit_after}
 use Rattle.yq_row_table.specs.Rows.{RowMark, Content, Inline, Block, mark_text, dashes_text, Row, parent_indent, Cut, cut_text}
 use Rattle.yq_row_table.specs.View.{Slices, anchor_cut, content_cut, slices, rows_of}
-use Rattle.yq_row_table.proofs.NodePieces.{BeginsAscii, tail_ascii, before_ascii, node_pieces}
-use Rattle.yq_row_table.proofs.PlaceLaws.{place, row_in}
+use Rattle.yq_row_table.{proofs.NodePieces.{BeginsAscii, tail_ascii, before_ascii, node_pieces}, proofs.PlaceLaws.{place, row_in}}
 use Rattle.yq_row_table.proofs.EmptyTexts.{empty_is}
 use Rattle.yq_documents.specs.RowReading.{from_head}
-use Rattle.yq_core.specs.Piece.{deeper}
-use Rattle.yq_core.specs.declared.style.Place.TheVariants as places
-use Rattle.yq_row_table.specs.Rows as rows
-use Rattle.yq_places.specs.CommentReading.{before_tail}
-use Rattle.yq_places.specs.EntryReading.{before_line, head_extent}
+use Rattle.yq_places.{specs.CommentReading.before_tail, specs.EntryReading.{before_line, head_extent}}
 use Rattle.yq_places.proofs.CommentPieceLaws.{Ended, content_end, tail_place}
 use Rattle.yq_places.proofs.SeamLaws.{seam_boundary, ended_seam, ended_after, raw_end, last_ended, line_boundary}
 use Rattle.yq_places.proofs.StartLaws.{front_in}
+use Rattle.yq_core.specs.declared.style.Place.TheVariants as places
+use Rattle.yq_row_table.specs.Rows as rows
 
 -- where a node with its places begins, behind its anchor too, and where it ends
 abbrev core_of : Placed → ℕ

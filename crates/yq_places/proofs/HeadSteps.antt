@@ -1,15 +1,10 @@
 -- The steps before those that go on in the head of a line lead to it, whichever steps go on there.
 use Rattle.std.proofs.Common.{◌≡◌, ℕ, List, [], ◌∷◌, ◌++◌, Option, Some, None, option_map, refl, sym, ap, ◌∙◌, subst, rules}
-use Rattle.std.proofs.lemmas.Option.{none-some, same_Some}
-use Rattle.std.specs.Prelude.{option_and_then}
-use Rattle.yq_core.specs.Answers.{◌>>=◌}
-use Rattle.yq_core.specs.Paths.{Step}
-use Rattle.yq_core.specs.Tree.{Node}
-use Rattle.yq_outline.specs.Group.{group}
-use Rattle.yq_outline.specs.Outline.{LineMark, Bare, Key, Dash, Line, Outline, end, row}
+use Rattle.std.{proofs.lemmas.Option.{none-some, same_Some}, specs.Prelude.option_and_then}
+use Rattle.yq_core.{specs.Answers.◌>>=◌, specs.Paths.Step, specs.Tree.Node}
+use Rattle.yq_outline.{specs.Group.group, specs.Outline.{LineMark, Bare, Key, Dash, Line, Outline, end, row}}
 use Rattle.yq_outline.specs.Places.{Context, here, below, beside, compose, FoundLine, bare_or, find_row, in_head, place_inside}
-use Rattle.yq_places.specs.FlowNodes.{bare_line, find_head, head_line}
-use Rattle.yq_places.specs.NodeReading.{head_line_of}
+use Rattle.yq_places.{specs.FlowNodes.{bare_line, find_head, head_line}, specs.NodeReading.head_line_of}
 use Rattle.yq_places.proofs.FlowViewLaws.{head_found, numbered}
 
 abbrev Reached : Type 0

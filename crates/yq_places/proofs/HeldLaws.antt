@@ -1,8 +1,7 @@
 -- A text with its cut, and that it is not too long.
 use Rattle.std.proofs.Common.{◌≡◌, ◌≤◌, ℕ, List, length, true, sym, subst}
 use Rattle.yq_text.specs.Limit.{text_limit}
-use Rattle.yq_row_table.specs.Grammar.{IsCut}
-use Rattle.yq_row_table.specs.View.{RowsView, rows_view}
+use Rattle.yq_row_table.{specs.Grammar.IsCut, specs.View.{RowsView, rows_view}}
 use Rattle.yq_outline.specs.Extents.{IsRowsView}
 use Rattle.yq_places.specs.RowWalk.{HasCut}
 use Rattle.yq_documents.specs.Reading.{all_documents, cut_of}

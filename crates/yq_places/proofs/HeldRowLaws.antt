@@ -1,42 +1,24 @@
 -- The row of a key or dash whose line is its last one, as the code finds it by a walk.
-use Rattle.std.proofs.Common.{◌≡◌, ℕ, ◌+◌, ◌-◌, ◌<◌, Bool, true, false, not, ◌&&◌, List, [], ◌++◌, length, take, drop, Option, Some, None, option_map, refl, sym, ap, ◌∙◌, arith, length-append}
-use Rattle.std.proofs.lemmas.Bool.{and_parts, false≢true}
-use Rattle.std.proofs.lemmas.Option.{none-some, same_Some, slice_get_within}
-use Rattle.std.specs.List.{slice_get}
-use Rattle.yq_core.specs.Answers.{◌>>=◌}
-use Rattle.yq_core.specs.Paths.{Step}
-use Rattle.yq_core.specs.Text.{is_empty}
-use Rattle.yq_row_table.specs.Exchange.{row_front}
-use Rattle.yq_row_table.specs.Grammar.{IsCut}
-use Rattle.yq_row_table.specs.Rows.{Content, Nothing, Inline, Block, Row, Cut}
-use Rattle.yq_row_table.specs.RowStarts.{row_start}
-use Rattle.yq_row_table.specs.Seams.{is_block}
+use Rattle.std.proofs.Common.{◌≡◌, ℕ, ◌+◌, ◌-◌, ◌<◌, Bool, true, false, not, ◌&&◌, List, [], ◌++◌, length, take, drop, Option, Some, None}
+use Rattle.std.{proofs.Common.{option_map, refl, sym, ap, ◌∙◌, arith, length-append}, proofs.lemmas.Bool.{and_parts, false≢true}}
+use Rattle.std.{proofs.lemmas.Option.{none-some, same_Some, slice_get_within}, specs.List.slice_get}
+use Rattle.yq_core.{specs.Answers.◌>>=◌, specs.Paths.Step, specs.Text.is_empty}
+use Rattle.yq_row_table.{specs.Exchange.row_front, specs.Grammar.IsCut, specs.Rows.{Content, Nothing, Inline, Block, Row, Cut}}
+use Rattle.yq_row_table.{specs.RowStarts.row_start, specs.Seams.is_block}
 use Rattle.yq_row_table.specs.View.{Slices, slices, content_cut, rows_of, RowsView, rows_view}
-use Rattle.yq_outline.proofs.PathLines.{last_line}
-use Rattle.yq_outline.proofs.WalkPositions.{located}
-use Rattle.yq_outline.specs.Extents.{front_length, head_place, lines_before_mark}
-use Rattle.yq_outline.specs.Lines.{lines_of_rows}
+use Rattle.yq_outline.{proofs.PathLines.last_line, proofs.WalkPositions.located}
+use Rattle.yq_outline.{specs.Extents.{front_length, head_place, lines_before_mark}, specs.Lines.lines_of_rows}
 use Rattle.yq_outline.specs.RowWalk.{HasRows, deeper_rows, line_level, line_number, stretch_view}
-use Rattle.yq_outline.specs.declared.line_position.Position.{Position}
-use Rattle.yq_outline.specs.declared.line_position.Stretch.{Stretch}
-use Rattle.yq_documents.specs.LinesInRows.{row_line_of}
-use Rattle.yq_documents.specs.Reading.{all_documents, cut_of}
-use Rattle.yq_documents.specs.RowReading.{is_block_head}
+use Rattle.yq_outline.{specs.declared.line_position.Position.Position, specs.declared.line_position.Stretch.Stretch}
+use Rattle.yq_documents.{specs.LinesInRows.row_line_of, specs.Reading.{all_documents, cut_of}, specs.RowReading.is_block_head}
 use Rattle.yq_documents.proofs.HeadLaws.{block_marks}
-use Rattle.yq_places.specs.CommentPlaces.{text_to_line_end}
-use Rattle.yq_places.specs.PlacedRows.{PlacedPart, placed_document}
-use Rattle.yq_places.specs.RowPieces.{anchor_before, space_before}
-use Rattle.yq_places.specs.RowWalk.{IsLineAt, document_row_range}
+use Rattle.yq_places.{specs.CommentPlaces.text_to_line_end, specs.PlacedRows.{PlacedPart, placed_document}}
+use Rattle.yq_places.{specs.RowPieces.{anchor_before, space_before}, specs.RowWalk.{IsLineAt, document_row_range}}
 use Rattle.yq_places.specs.Standings.{RowsOfEntry, before_entry, entry_rows_at, held, rows_of_entry}
-use Rattle.yq_places.specs.StandingReading.{AreRowsOf, numbers_of_entry}
-use Rattle.yq_places.specs.StandingViews.{IsHeldRow, IsLastOf}
-use Rattle.yq_places.specs.declared.places.held_row.HeldRow.{HeldRow}
-use Rattle.yq_places.proofs.EntryNumbers.{FoundEntry, entry_found, entry_row_agrees}
-use Rattle.yq_places.proofs.EntryRowLaws.{first_at, head_ends, pieces_at}
-use Rattle.yq_places.proofs.HeldTexts.{line_is}
-use Rattle.yq_places.proofs.RowHeads.{slices_are}
-use Rattle.yq_places.proofs.RowStarts.{head_is}
-use Rattle.yq_places.proofs.WalkDocuments.{place_found}
+use Rattle.yq_places.{specs.StandingReading.{AreRowsOf, numbers_of_entry}, specs.StandingViews.{IsHeldRow, IsLastOf}}
+use Rattle.yq_places.{specs.declared.places.held_row.HeldRow.HeldRow, proofs.EntryNumbers.{FoundEntry, entry_found, entry_row_agrees}}
+use Rattle.yq_places.{proofs.EntryRowLaws.{first_at, head_ends, pieces_at}, proofs.HeldTexts.line_is, proofs.RowHeads.slices_are}
+use Rattle.yq_places.{proofs.RowStarts.head_is, proofs.WalkDocuments.place_found}
 
 -- what the code tells of a row in which a line is the last one
 pub last_of : (c : Cut) (s : RowsView) (q : Position) (r : Row) (x : HeldRow) (y : Slices) → s ≡ rows_view c → slice_get s.rows q.row ≡ Some y → slice_get (rows_of c) q.row ≡ Some r →

@@ -1,28 +1,19 @@
 -- What the key or dash of rows holds, by the row that the code has found.
-use Rattle.std.proofs.Common.{◌≡◌, ℕ, suc, ◌+◌, ◌-◌, ◌≤◌, Bool, cond, not, ◌||◌, List, [], ◌∷◌, ◌++◌, length, length-append, take, replicate, Some, None, refl, sym, ap, ◌∙◌, subst, arith, append_assoc}
-use Rattle.std.proofs.Math.Seq.{take-append_seam}
-use Rattle.std.proofs.lemmas.List.{length-replicate, take_all}
-use Rattle.std.proofs.lemmas.Option.{same_Some}
-use Rattle.std.proofs.lemmas.Str.{IsCharBoundary-at_seam, IsUtf8-append}
-use Rattle.std.specs.List.{slice_get}
-use Rattle.std.specs.Str.{IsUtf8, IsCharBoundary}
+use Rattle.std.proofs.Common.{◌≡◌, ℕ, suc, ◌+◌, ◌-◌, ◌≤◌, Bool, cond, not, ◌||◌, List, [], ◌∷◌, ◌++◌, length, length-append, take}
+use Rattle.std.{proofs.Common.{replicate, Some, None, refl, sym, ap, ◌∙◌, subst, arith, append_assoc}, proofs.Math.Seq.take-append_seam}
+use Rattle.std.{proofs.lemmas.List.{length-replicate, take_all}, proofs.lemmas.Option.same_Some}
+use Rattle.std.{proofs.lemmas.Str.{IsCharBoundary-at_seam, IsUtf8-append}, specs.List.slice_get, specs.Str.{IsUtf8, IsCharBoundary}}
 use Rattle.yq_text.specs.Limit.{text_limit}
-use Rattle.yq_core.specs.Text.{is_empty}
-use Rattle.yq_core.specs.Nodes.{empty, alias, scalar, coll, anchored}
-use Rattle.yq_row_table.specs.Exchange.{row_front}
-use Rattle.yq_row_table.specs.Offsets.{row_length}
-use Rattle.yq_row_table.specs.Rows.{Content, Nothing, Inline, Block, Row, behind_columns, dashes_text, mark_column, print_row, rows_text, Cut}
-use Rattle.yq_row_table.specs.View.{Slices, slices, content_cut, last_dash, rows_of, RowsView, rows_view}
+use Rattle.yq_core.{specs.Text.is_empty, specs.Nodes.{empty, alias, scalar, coll, anchored}}
+use Rattle.yq_row_table.{specs.Exchange.row_front, specs.Offsets.row_length}
+use Rattle.yq_row_table.specs.Rows.{Content, Nothing, Inline, Block, Row, behind_columns, dashes_text, mark_column, print_row, rows_text}
+use Rattle.yq_row_table.{specs.Rows.Cut, specs.View.{Slices, slices, content_cut, last_dash, rows_of, RowsView, rows_view}}
 use Rattle.yq_places.specs.CommentPlaces.{LineEnd, end_in_line, text_to_line_end}
-use Rattle.yq_outline.specs.Extents.{head_place, row_start}
-use Rattle.yq_places.specs.LineReading.{CutsLines, LinesIn, lines_between, line_list}
-use Rattle.yq_places.specs.PrintedLines.{last_break}
-use Rattle.yq_outline.specs.RowWalk.{line_column}
-use Rattle.yq_places.specs.RowPieces.{anchor_before, space_before}
-use Rattle.yq_places.specs.Standings.{Held, RowsOfEntry, before_entry, behind_entry, held}
+use Rattle.yq_places.{specs.LineReading.{CutsLines, LinesIn, lines_between, line_list}, specs.PrintedLines.last_break}
+use Rattle.yq_places.{specs.RowPieces.{anchor_before, space_before}, specs.Standings.{Held, RowsOfEntry, before_entry, behind_entry, held}}
 use Rattle.yq_places.specs.StandingReading.{AreRowsOf}
 use Rattle.yq_places.proofs.EntryRowLaws.{head_ends, line_boundary_at, line_cut, pieces_at, stop_boundary, stop_is, through_is}
-use Rattle.yq_outline.proofs.WalkLevels.{last_is, to_dash}
+use Rattle.yq_outline.{specs.Extents.{head_place, row_start}, specs.RowWalk.line_column, proofs.WalkLevels.{last_is, to_dash}}
 
 -- the column behind dashes
 columns : (c : ℕ) (ns : List ℕ) → behind_columns c ns ≡ c + length (dashes_text ns [])

@@ -1,15 +1,10 @@
 -- The end of the lines under a line is looked for from an item on that is known among them.
-use Rattle.std.proofs.Common.{◌≡◌, ◌⊎◌, inl, inr, ℕ, ◌+◌, ◌<◌, Some, sym, ap, ◌∙◌, arith}
-use Rattle.std.proofs.lemmas.Option.{same_Some}
+use Rattle.std.{proofs.Common.{◌≡◌, ◌⊎◌, inl, inr, ℕ, ◌+◌, ◌<◌, Some, sym, ap, ◌∙◌, arith}, proofs.lemmas.Option.same_Some}
 use Rattle.std.specs.List.{slice_get}
 use Rattle.yq_row_table.specs.View.{Slices, RowsView}
-use Rattle.yq_outline.specs.RowWalk.{HasRows, IsKnownIn, line_level, rows_end}
-use Rattle.yq_outline.specs.declared.line_position.KnownItem.{KnownItem}
-use Rattle.yq_outline.specs.declared.line_position.Position.{Position}
-use Rattle.yq_outline.specs.declared.line_position.Stretch.{Stretch}
-use Rattle.yq_outline.proofs.KnownLaws.{one_there}
-use Rattle.yq_outline.proofs.KnownWalks.{end_later, row_later}
-use Rattle.yq_outline.proofs.WalkPositions.{get_taken}
+use Rattle.yq_outline.{specs.RowWalk.{HasRows, IsKnownIn, line_level, rows_end}, specs.declared.line_position.KnownItem.KnownItem}
+use Rattle.yq_outline.{specs.declared.line_position.Position.Position, specs.declared.line_position.Stretch.Stretch}
+use Rattle.yq_outline.{proofs.KnownLaws.one_there, proofs.KnownWalks.{end_later, row_later}, proofs.WalkPositions.get_taken}
 use Rattle.yq_outline.proofs.WalkRows.{under_more}
 
 module _ (s : RowsView) (d : Stretch) (h : HasRows s d) (row : ℕ) (under : Position) (floor : ℕ) (k : KnownItem) (among : IsKnownIn s.rows under floor d.end k) where

@@ -1,23 +1,14 @@
 -- Items stay known in a text that keeps what is in front.
-use Rattle.std.proofs.Common.{◌≡◌, ℕ, zero, suc, ◌+◌, ◌-◌, ◌<◌, ◌≤◌, ltb, cond, Bool, List, [], ◌∷◌, ◌++◌, length, take, Option, Some, None, refl, ap, ◌∙◌, subst, arith, ltb-false, rules}
-use Rattle.std.proofs.lemmas.List.{take-append-le}
-use Rattle.std.proofs.lemmas.Option.{same_Some}
-use Rattle.std.specs.List.{slice_get, sum_by}
-use Rattle.std.specs.Prelude.{IfSome}
+use Rattle.std.proofs.Common.{◌≡◌, ℕ, zero, suc, ◌+◌, ◌-◌, ◌<◌, ◌≤◌, ltb, cond, Bool, List, [], ◌∷◌, ◌++◌, length, take, Option, Some, None}
+use Rattle.std.{proofs.Common.{refl, ap, ◌∙◌, subst, arith, ltb-false, rules}, proofs.lemmas.List.take-append-le}
+use Rattle.std.{proofs.lemmas.Option.same_Some, specs.List.{slice_get, sum_by}, specs.Prelude.IfSome}
 use Rattle.yq_row_table.specs.Items.{Item, row_item, end_item, items_of_cut, rows_in_items, bounds_in_items, view_of_items}
-use Rattle.yq_row_table.specs.Kept.{near}
-use Rattle.yq_row_table.specs.Rows.{Cut}
-use Rattle.yq_row_table.specs.Offsets.{row_length}
-use Rattle.yq_row_table.specs.RowStarts.{passed_length, row_start}
-use Rattle.yq_row_table.specs.Touched.{TouchesOnly, item_text, in_front}
-use Rattle.yq_row_table.specs.View.{Slices, slices, RowsView, rows_view}
-use Rattle.yq_row_table.specs.declared.offsets.Offsets as declared
-use Rattle.yq_row_table.proofs.ItemLaws.{items_view_is}
-use Rattle.yq_row_table.proofs.NearLaws.{near_at}
-use Rattle.yq_outline.specs.RowWalk.{IsKnown}
+use Rattle.yq_row_table.{specs.Kept.near, specs.Rows.Cut, specs.Offsets.row_length, specs.RowStarts.{passed_length, row_start}}
+use Rattle.yq_row_table.{specs.Touched.{TouchesOnly, item_text, in_front}, specs.View.{Slices, slices, RowsView, rows_view}}
+use Rattle.yq_row_table.{proofs.ItemLaws.items_view_is, proofs.NearLaws.near_at}
+use Rattle.yq_outline.{specs.RowWalk.IsKnown, specs.declared.line_position.KnownItem.KnownItem, proofs.KnownLaws.one_there}
 use Rattle.yq_places.specs.RowWalk.{StaysKnown}
-use Rattle.yq_outline.specs.declared.line_position.KnownItem.{KnownItem}
-use Rattle.yq_outline.proofs.KnownLaws.{one_there}
+use Rattle.yq_row_table.specs.declared.offsets.Offsets as declared
 
 begins_behind : (xs : List Item) (m i : ℕ) (o : declared.Offsets) → slice_get (near m xs) i ≡ Some o → m ≤ o.start
 begins_behind [] m i o e = absurd (cc)

@@ -1,10 +1,8 @@
 -- The break that ends a text, and what stands behind the last line of a content.
 use Rattle.std.proofs.Common.{◌≡◌, ◌⊎◌, ℕ, true, false, cond, List, [], ◌∷◌, ◌++◌, length, drop, refl, ap, ◌∙◌, rules}
 use Rattle.std.proofs.lemmas.Bool.{eqb-true}
-use Rattle.yq_core.specs.Block.{AreRaw}
-use Rattle.yq_core.specs.Text.{is_empty, is_feed, is_return, is_line, joined}
-use Rattle.yq_core.specs.declared.block_lines.TextIndent.{TextIndent}
-use Rattle.yq_core.proofs.BlockPieceLaws.{IsLf, line_lf, raw_lf}
+use Rattle.yq_core.{specs.Block.AreRaw, specs.Text.{is_empty, is_feed, is_return, is_line, joined}}
+use Rattle.yq_core.{specs.declared.block_lines.TextIndent.TextIndent, proofs.BlockPieceLaws.{IsLf, line_lf, raw_lf}}
 use Rattle.yq_places.specs.PrintedLines.{less_break, last_break}
 
 -- no byte of a text is an LF

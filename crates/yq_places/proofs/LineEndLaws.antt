@@ -1,17 +1,14 @@
 -- The end of a line, by its white space, its comment and its break.
-use Rattle.std.proofs.Common.{◌≡◌, ◌⊎◌, inl, ℕ, ◌<◌, ℤ, true, false, ◌&&◌, ◌||◌, List, [], ◌∷◌, ◌++◌, length, refl, sym, ap, ◌∙◌, subst, arith, append_assoc, append-nil, ⊎_elim, rules}
-use Rattle.std.proofs.lemmas.Bool.{false≢true, or_cases, and_parts}
-use Rattle.yq_core.specs.Block.{is_tail}
-use Rattle.yq_core.specs.Lines.{is_blank, is_hash}
-use Rattle.yq_core.specs.Text as text
+use Rattle.std.proofs.Common.{◌≡◌, ◌⊎◌, inl, ℕ, ◌<◌, ℤ, true, false, ◌&&◌, ◌||◌, List, [], ◌∷◌, ◌++◌, length, refl, sym, ap, ◌∙◌, subst}
+use Rattle.std.{proofs.Common.{arith, append_assoc, append-nil, ⊎_elim, rules}, proofs.lemmas.Bool.{false≢true, or_cases, and_parts}}
+use Rattle.yq_core.{specs.Block.is_tail, specs.Lines.{is_blank, is_hash}}
 use Rattle.yq_core.specs.Text.{front, is_white, is_feed, is_return, is_break, is_line, is_empty, ends_line, no_white, past_white, NoneIn}
 use Rattle.yq_core.proofs.Upto.{upto_ends, none_in_cut, cut-append, cut_takes}
-use Rattle.yq_row_table.specs.Gap.{IsWhite, IsBreak, IsComment}
-use Rattle.yq_row_table.specs.Grammar.{IsTail, IsContent}
-use Rattle.yq_row_table.specs.Rows.{Content}
+use Rattle.yq_row_table.{specs.Gap.{IsWhite, IsBreak, IsComment}, specs.Grammar.{IsTail, IsContent}, specs.Rows.Content}
 use Rattle.yq_row_table.specs.View.{content_cut}
 use Rattle.yq_row_table.proofs.LineEnds.{white_cut, white_again, white_none, text_line, behind_comment, comment_none}
 use Rattle.yq_places.specs.CommentPlaces.{LineEnd, end_in_line}
+use Rattle.yq_core.specs.Text as text
 
 -- more text behind a break
 front_more : (p : ℕ → Rattle.std.proofs.Common.Bool) (c break more : List ℕ) → 0 < length break → front p (c ++ (break ++ more)) ≡ front p (c ++ break)

@@ -1,6 +1,6 @@
 -- Lines cut out of a text.
-use Rattle.std.proofs.Common.{◌≡◌, inl, ℕ, ◌-◌, eqb, Bool, true, cond, List, [], ◌∷◌, ◌++◌, length, length-append, take, drop, refl, ◌∙◌, arith, rules}
-use Rattle.std.proofs.Math.Seq.{drop-append_seam, take-append_seam}
+use Rattle.std.proofs.Common.{◌≡◌, inl, ℕ, ◌-◌, eqb, Bool, true, cond, List, [], ◌∷◌, ◌++◌, length, length-append, take, drop, refl, ◌∙◌}
+use Rattle.std.{proofs.Common.{arith, rules}, proofs.Math.Seq.{drop-append_seam, take-append_seam}}
 use Rattle.std.proofs.lemmas.Bool.{and_parts, eqb-true, ne_eqb}
 use Rattle.yq_core.specs.Text.{is_empty}
 use Rattle.yq_places.specs.LineReading.{CutsLines, IsLastBreak, LinesIn, line_list}

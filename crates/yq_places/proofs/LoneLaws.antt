@@ -1,35 +1,23 @@
 -- Nodes alone on their lines, and collections behind dashes, by the rows that the code has found.
-use Rattle.std.proofs.Common.{◌≡◌, ℕ, ◌+◌, ◌-◌, ◌<◌, ◌≤◌, true, List, [], ◌∷◌, ◌++◌, length, length-append, take, drop, replicate, Some, refl, sym, ap, ◌∙◌, subst, arith, append_assoc}
-use Rattle.std.proofs.Math.Seq.{drop-append_seam, take-append_seam}
-use Rattle.std.proofs.lemmas.Bool.{and_parts, false≢true}
-use Rattle.std.proofs.lemmas.Option.{same_Some}
-use Rattle.std.proofs.lemmas.Str.{IsCharBoundary-at_seam}
-use Rattle.std.specs.List.{slice_get}
-use Rattle.std.specs.Str.{IsUtf8, IsCharBoundary}
+use Rattle.std.proofs.Common.{◌≡◌, ℕ, ◌+◌, ◌-◌, ◌<◌, ◌≤◌, true, List, [], ◌∷◌, ◌++◌, length, length-append, take, drop, replicate, Some}
+use Rattle.std.{proofs.Common.{refl, sym, ap, ◌∙◌, subst, arith, append_assoc}, proofs.Math.Seq.{drop-append_seam, take-append_seam}}
+use Rattle.std.{proofs.lemmas.Bool.{and_parts, false≢true}, proofs.lemmas.Option.same_Some, proofs.lemmas.Str.IsCharBoundary-at_seam}
+use Rattle.std.{specs.List.slice_get, specs.Str.{IsUtf8, IsCharBoundary}}
 use Rattle.yq_text.specs.Limit.{text_limit}
 use Rattle.yq_core.specs.Text.{is_empty}
-use Rattle.yq_outline.specs.Positions.{has_no_mark}
-use Rattle.yq_row_table.specs.Exchange.{row_front}
-use Rattle.yq_row_table.specs.Grammar.{IsMark}
-use Rattle.yq_row_table.specs.Offsets.{row_length}
-use Rattle.yq_row_table.specs.Rows as rows
+use Rattle.yq_outline.{specs.Positions.has_no_mark, specs.Lines.line_mark, specs.Extents.{head_place, row_start}}
+use Rattle.yq_row_table.{specs.Exchange.row_front, specs.Grammar.IsMark, specs.Offsets.row_length}
 use Rattle.yq_row_table.specs.Rows.{Content, Nothing, Inline, Block, Row, dashes_text, parent_indent, print_row, rows_text, Cut}
 use Rattle.yq_row_table.specs.View.{Slices, slices, content_cut, rows_of, RowsView, rows_view}
 use Rattle.yq_row_table.proofs.NodePieces.{before_ascii, behind_ascii, tail_ascii}
-use Rattle.yq_outline.specs.Lines.{line_mark}
 use Rattle.yq_documents.specs.Reading.{cut_of}
-use Rattle.yq_places.specs.CommentPlaces.{text_to_line_end}
-use Rattle.yq_places.specs.RowPieces.{upto_dash}
-use Rattle.yq_places.specs.EntryReading.{line_begin}
-use Rattle.yq_outline.specs.Extents.{head_place, row_start}
+use Rattle.yq_places.{specs.CommentPlaces.text_to_line_end, specs.RowPieces.upto_dash, specs.EntryReading.line_begin}
 use Rattle.yq_places.specs.LineReading.{CutsLines, LinesIn, lines_between, line_list}
 use Rattle.yq_places.specs.Standings.{Lone, RowsOfEntry, before_entry, behind_entry, dash_text, is_alone, lone}
-use Rattle.yq_places.specs.StandingReading.{AreRowsOf}
-use Rattle.yq_places.proofs.CommentEndLaws.{row_text_parts}
-use Rattle.yq_places.proofs.DashLaws.{front_is, row_cut}
+use Rattle.yq_places.{specs.StandingReading.AreRowsOf, proofs.CommentEndLaws.row_text_parts, proofs.DashLaws.{front_is, row_cut}}
 use Rattle.yq_places.proofs.EntryRowLaws.{cut_in_two, first_at, head_ends, pieces_at, row_valid, stop_boundary, stop_is, text}
-use Rattle.yq_places.proofs.LineEndLaws.{line_tail}
-use Rattle.yq_places.proofs.RowStarts.{line_begins}
+use Rattle.yq_places.{proofs.LineEndLaws.line_tail, proofs.RowStarts.line_begins}
+use Rattle.yq_row_table.specs.Rows as rows
 
 raw_none : (m : rows.RowMark) (x : Content) (rest : List ℕ) → IsMark m x rest → has_no_mark (line_mark m) ≡ true → (content_cut x).5 ≡ []
 raw_none rows.Bare (Nothing tail) rest h bare = refl

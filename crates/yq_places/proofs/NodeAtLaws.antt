@@ -1,52 +1,31 @@
 -- What is told of the nodes at paths, as the code finds it.
-use Rattle.std.proofs.Common.{rules, ◌≡◌, ◌⊎◌, inl, inr, ℕ, zero, suc, ◌+◌, ◌-◌, ◌<◌, ◌≤◌, ltb, eqb, Bool, true, false, not, cond, List, [], ◌∷◌, length, take, map, Option, Some, None, option_map, option_and_then, refl, sym, ap, ◌∙◌, subst, arith}
-use Rattle.std.proofs.lemmas.Bool.{cases_lt, lt-ltb, le-ltb, eq-eqb, ne_eqb, false≢true}
-use Rattle.std.proofs.lemmas.List.{length-map}
-use Rattle.std.proofs.lemmas.Option.{slice_get-map, same_Some}
-use Rattle.std.specs.List.{slice_get}
-use Rattle.std.specs.Prelude.{is_some, Vec, vec_len}
+use Rattle.std.proofs.Common.{rules, ◌≡◌, ◌⊎◌, inl, inr, ℕ, zero, suc, ◌+◌, ◌-◌, ◌<◌, ◌≤◌, ltb, eqb, Bool, true, false, not, cond, List, []}
+use Rattle.std.proofs.Common.{◌∷◌, length, take, map, Option, Some, None, option_map, option_and_then, refl, sym, ap, ◌∙◌, subst, arith}
+use Rattle.std.{proofs.lemmas.Bool.{cases_lt, lt-ltb, le-ltb, eq-eqb, ne_eqb, false≢true}, proofs.lemmas.List.length-map}
+use Rattle.std.{proofs.lemmas.Option.{slice_get-map, same_Some}, specs.List.slice_get, specs.Prelude.{is_some, Vec, vec_len}}
 use Rattle.std.specs.declared.alloc.Global.{Global}
-use Rattle.yq_core.specs.declared.kind.Kind.{Kind}
-use Rattle.yq_core.specs.Answers.{◌>>=◌}
-use Rattle.yq_core.specs.Paths.{Step, node_at, is_item}
-use Rattle.yq_core.specs.Tree as tree
-use Rattle.yq_core.specs.Tree.{Node}
-use Rattle.yq_core.specs.declared.inline.Inline.{Inline}
-use Rattle.yq_core.specs.declared.inline.Form as forms
-use Rattle.yq_core.specs.declared.inline.Form.TheFolds.{the_lemmas}
+use Rattle.yq_core.{specs.declared.kind.Kind.Kind, specs.Answers.◌>>=◌, specs.Paths.{Step, node_at, is_item}, specs.Tree.Node}
+use Rattle.yq_core.{specs.declared.inline.Inline.Inline, specs.declared.inline.Form.TheFolds.the_lemmas}
 use Rattle.yq_core.specs.Places.{Placed, placed, CoreNode, sequence, mapping as entries_form}
 use Rattle.yq_core.specs.Trees.{with_anchor_name, placed_tree, content_tree, parts_tree}
 use Rattle.yq_core.specs.View.{anchor_name, inline_view, form_view, items_end, entries_end}
-use Rattle.yq_documents.proofs.CountedLaws.{items_count, entries_count}
-use Rattle.yq_documents.proofs.FlowLaws.{Field}
-use Rattle.yq_outline.specs.Counts.{count}
-use Rattle.yq_outline.specs.Ends.{IsEndOf, has_no_lines, part, reached}
-use Rattle.yq_outline.specs.Group.{group}
+use Rattle.yq_documents.{proofs.CountedLaws.{items_count, entries_count}, proofs.FlowLaws.Field, specs.Documents.document_parts}
+use Rattle.yq_documents.{specs.Reading.{all_documents, part_document}, proofs.PartRows.each}
+use Rattle.yq_outline.{specs.Counts.count, specs.Ends.{IsEndOf, has_no_lines, part, reached}, specs.Group.group}
 use Rattle.yq_outline.specs.Outline.{LineMark, Bare, Key, Dash, Line, level, Outline, end, row, key_of, children, value}
-use Rattle.yq_outline.specs.Places.{lines_before, FoundLine, find}
-use Rattle.yq_outline.specs.Positions.{has_no_mark, begins_with_node}
-use Rattle.yq_outline.proofs.EndsLaws.{deeper_line, not_end, row_parts}
-use Rattle.yq_outline.proofs.PlaceLaws.{at}
-use Rattle.yq_row_table.specs.Rows.{Row, Part, Cut}
-use Rattle.yq_row_table.specs.View.{RowsView}
-use Rattle.yq_documents.specs.Documents.{document_parts}
-use Rattle.yq_outline.specs.Lines.{head_of, lines_of_rows}
-use Rattle.yq_documents.specs.Reading.{all_documents, part_document}
-use Rattle.yq_places.specs.NodeReading.{NodePlace, at_head, at_lines, line_place, line_with_steps, node_place, place_line, summary_in_head, summary_in_line, summary_of_lines, line_or, place_node}
+use Rattle.yq_outline.{specs.Places.{lines_before, FoundLine, find}, specs.Positions.{has_no_mark, begins_with_node}}
+use Rattle.yq_outline.{proofs.EndsLaws.{deeper_line, not_end, row_parts}, proofs.PlaceLaws.at, specs.Lines.{head_of, lines_of_rows}}
+use Rattle.yq_outline.{specs.RowWalk.{HasRows, IsLine, line_number}, specs.declared.line_position.Position.Position}
+use Rattle.yq_outline.{specs.declared.line_position.Stretch.Stretch, proofs.WalkPositions.{Located, located}}
+use Rattle.yq_row_table.{specs.Rows.{Row, Part, Cut}, specs.View.RowsView}
+use Rattle.yq_places.specs.NodeReading.{NodePlace, at_head, at_lines, line_place, line_with_steps, node_place, place_line, summary_in_head}
+use Rattle.yq_places.specs.NodeReading.{summary_in_line, summary_of_lines, line_or, place_node}
 use Rattle.yq_places.specs.NodesAt.{NodeAt, scalar, list, map as mapping, node_summary, node_in, summary_several, scalar_in, summary_scalar}
-use Rattle.yq_places.specs.RemovalPlaces.{has_several}
-use Rattle.yq_outline.specs.RowWalk.{HasRows, IsLine, line_number}
-use Rattle.yq_places.specs.RowWalk.{InCut}
-use Rattle.yq_outline.specs.declared.line_position.Position.{Position}
-use Rattle.yq_outline.specs.declared.line_position.Stretch.{Stretch}
-use Rattle.yq_places.proofs.FlowPlaceLaws.{TakesSteps, Takes, takes_left}
-use Rattle.yq_places.proofs.FlowViewLaws.{numbered}
-use Rattle.yq_documents.proofs.PartRows.{each}
-use Rattle.yq_places.proofs.NodePlaceLaws.{node_found}
-use Rattle.yq_places.proofs.RowPathLaws.{document_fine}
-use Rattle.yq_places.proofs.FoundLaws.{first_is, found_in_lines}
-use Rattle.yq_places.proofs.WalkNodes.{row_is}
-use Rattle.yq_outline.proofs.WalkPositions.{Located, located}
+use Rattle.yq_places.{specs.RemovalPlaces.has_several, specs.RowWalk.InCut, proofs.FlowPlaceLaws.{TakesSteps, Takes, takes_left}}
+use Rattle.yq_places.{proofs.FlowViewLaws.numbered, proofs.NodePlaceLaws.node_found, proofs.RowPathLaws.document_fine}
+use Rattle.yq_places.{proofs.FoundLaws.{first_is, found_in_lines}, proofs.WalkNodes.row_is}
+use Rattle.yq_core.specs.Tree as tree
+use Rattle.yq_core.specs.declared.inline.Form as forms
 
 -- an anchor tells nothing of a node
 pub named_summary : (a : Option (List ℕ)) (n : Node) → node_summary (with_anchor_name a n) ≡ node_summary n

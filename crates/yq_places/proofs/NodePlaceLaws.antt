@@ -1,29 +1,19 @@
 -- What is told of the node at a path, where it is written among lines.
-use Rattle.std.proofs.Common.{◌≡◌, ℕ, suc, ◌+◌, eqb, Bool, true, false, cond, List, [], ◌∷◌, length, Option, Some, None, option_map, option_and_then, refl, sym, ap, ◌∙◌, arith}
-use Rattle.std.proofs.lemmas.Bool.{eq-eqb, false≢true}
-use Rattle.std.specs.List.{slice_get}
+use Rattle.std.proofs.Common.{◌≡◌, ℕ, suc, ◌+◌, eqb, Bool, true, false, cond, List, [], ◌∷◌, length, Option, Some, None, option_map}
+use Rattle.std.{proofs.Common.{option_and_then, refl, sym, ap, ◌∙◌, arith}, proofs.lemmas.Bool.{eq-eqb, false≢true}, specs.List.slice_get}
 use Rattle.std.specs.Prelude.{is_some}
-use Rattle.yq_core.specs.Answers.{◌>>=◌}
-use Rattle.yq_core.specs.Paths.{Step, node_at}
-use Rattle.yq_core.specs.Tree as tree
-use Rattle.yq_core.specs.Tree.{Node, child}
-use Rattle.yq_outline.specs.Ends.{found_line, line_at_steps, lines_end, part}
-use Rattle.yq_outline.specs.Group.{group, level_or, is_fine}
-use Rattle.yq_outline.specs.Outline.{LineMark, Bare, Key, Dash, Line, level, Outline, end, row, IsEven, IsWhole, anchored, head_or, label, outline_node, shaped, children, value}
-use Rattle.yq_outline.specs.Places.{lines_before, FoundLine, content_under, find}
-use Rattle.yq_outline.specs.Positions.{has_no_mark, begins_with_node}
-use Rattle.yq_outline.proofs.Decides.{even_from}
-use Rattle.yq_outline.proofs.Finding.{FoundNode, node-anchored, path_node}
-use Rattle.yq_outline.proofs.NameLaws.{part-all}
+use Rattle.yq_core.{specs.Answers.◌>>=◌, specs.Paths.{Step, node_at}, specs.Tree.{Node, child}}
+use Rattle.yq_outline.{specs.Ends.{found_line, line_at_steps, lines_end, part}, specs.Group.{group, level_or, is_fine}}
+use Rattle.yq_outline.specs.Outline.{LineMark, Bare, Key, Dash, Line, level, Outline, end, row, IsEven, IsWhole, anchored, head_or, label}
+use Rattle.yq_outline.{specs.Outline.{outline_node, shaped, children, value}, specs.Places.{lines_before, FoundLine, content_under, find}}
+use Rattle.yq_outline.{specs.Positions.{has_no_mark, begins_with_node}, proofs.Decides.even_from}
+use Rattle.yq_outline.{proofs.Finding.{FoundNode, node-anchored, path_node}, proofs.NameLaws.part-all, specs.RowWalk.lines_stop}
 use Rattle.yq_places.specs.NodesAt.{node_summary}
-use Rattle.yq_places.specs.NodeReading.{NodePlace, at_head, at_lines, line_place, line_with_steps, node_place, summary_in_head, summary_in_line, line_or, place_node, said_at}
-use Rattle.yq_outline.specs.RowWalk.{lines_stop}
-use Rattle.yq_places.proofs.FlowPieces.{head_there}
-use Rattle.yq_places.proofs.FlowViewLaws.{numbered}
-use Rattle.yq_places.proofs.PieceSpelling.{bare_is}
-use Rattle.yq_places.proofs.RowPathLaws.{found_place}
-use Rattle.yq_places.proofs.FoundLaws.{first_is, found_in_lines}
-use Rattle.yq_places.proofs.WalkNodes.{all_stop, line_stop, no_steps}
+use Rattle.yq_places.specs.NodeReading.{NodePlace, at_head, at_lines, line_place, line_with_steps, node_place, summary_in_head}
+use Rattle.yq_places.{specs.NodeReading.{summary_in_line, line_or, place_node, said_at}, proofs.FlowPieces.head_there}
+use Rattle.yq_places.{proofs.FlowViewLaws.numbered, proofs.PieceSpelling.bare_is, proofs.RowPathLaws.found_place}
+use Rattle.yq_places.{proofs.FoundLaws.{first_is, found_in_lines}, proofs.WalkNodes.{all_stop, line_stop, no_steps}}
+use Rattle.yq_core.specs.Tree as tree
 
 -- an anchor tells nothing of what a node is
 anchored_summary : (a : Option (List ℕ)) (n : Node) → node_summary (anchored a n) ≡ node_summary n

@@ -1,19 +1,15 @@
 -- Contents begin in their entries.
-use Rattle.std.proofs.Common.{◌≡◌, ℕ, List, [], ◌∷◌, ◌++◌, map, Option, Some, None, is_some, option_map, Bool, true, false, cond, sym, ap, ◌∙◌, append_assoc, append-nil, rules}
-use Rattle.std.proofs.lemmas.Option.{none-some, same_Some}
-use Rattle.yq_core.specs.Answers.{◌>>=◌}
-use Rattle.yq_core.specs.Paths.{Step}
-use Rattle.yq_core.specs.Nodes.{FlowNode, empty, alias, scalar, coll, anchored, key_text}
+use Rattle.std.proofs.Common.{◌≡◌, ℕ, List, [], ◌∷◌, ◌++◌, map, Option, Some, None, is_some, option_map, Bool, true, false, cond, sym, ap}
+use Rattle.std.{proofs.Common.{◌∙◌, append_assoc, append-nil, rules}, proofs.lemmas.Option.{none-some, same_Some}}
+use Rattle.yq_core.{specs.Answers.◌>>=◌, specs.Paths.Step, specs.Nodes.{FlowNode, empty, alias, scalar, coll, anchored, key_text}}
 use Rattle.yq_row_table.specs.Rows.{Content, Nothing, Inline, Block, anchor_text}
-use Rattle.yq_documents.specs.declared.path.Part.TheVariants as parts
-use Rattle.yq_outline.specs.Group.{group}
-use Rattle.yq_documents.specs.Located.{steps_of}
-use Rattle.yq_outline.specs.Places.{FoundLine, find}
-use Rattle.yq_outline.specs.Positions.{has_no_mark}
-use Rattle.yq_documents.specs.Pieces.{TextPiece, node_piece, head_piece}
+use Rattle.yq_outline.{specs.Group.group, specs.Places.{FoundLine, find}, specs.Positions.has_no_mark}
+use Rattle.yq_documents.{specs.Located.steps_of, specs.Pieces.{TextPiece, node_piece, head_piece}}
 use Rattle.yq_places.specs.PrintedLines.{line_front, PrintedLine, line_rest, print_line, print_lines, line_in, run_piece, lines_piece}
-use Rattle.yq_places.specs.PathPieces.{BlockEntry, content_piece, FlowEntry, flow_at, line_inline, flow_piece, flow_content, PrintedDocument, printed_document, found_entry, piece_in_entry, piece_in}
+use Rattle.yq_places.specs.PathPieces.{BlockEntry, content_piece, FlowEntry, flow_at, line_inline, flow_piece, flow_content}
+use Rattle.yq_places.specs.PathPieces.{PrintedDocument, printed_document, found_entry, piece_in_entry, piece_in}
 use Rattle.yq_places.specs.PieceLaws.{ContentsBegin}
+use Rattle.yq_documents.specs.declared.path.Part.TheVariants as parts
 
 -- a piece begins behind a text
 abbrev From : List ℕ → TextPiece → Type 0

@@ -1,17 +1,13 @@
 -- The smallest rows on which pieces can be seen.
 use Rattle.std.proofs.Common.{◌≡◌, ℕ, List, [], ◌∷◌, ◌++◌, Option, Some, None, true, refl, codes}
-use Rattle.yq_core.specs.Answers.{◌>>=◌}
-use Rattle.yq_core.specs.Paths.{Step, Nth}
-use Rattle.yq_core.specs.declared.block_header.BlockStyle.TheVariants.{Literal}
-use Rattle.yq_core.specs.declared.block_header.Chomping.TheVariants.{Clip}
-use Rattle.yq_core.specs.Text.{upto, text_lines}
-use Rattle.yq_core.specs.Nodes as inline
+use Rattle.yq_core.{specs.Answers.◌>>=◌, specs.Paths.{Step, Nth}, specs.declared.block_header.BlockStyle.TheVariants.Literal}
+use Rattle.yq_core.{specs.declared.block_header.Chomping.TheVariants.Clip, specs.Text.{upto, text_lines}}
 use Rattle.yq_row_table.specs.Rows.{Dash, Content, Inline, Block, Row, Cut, last}
-use Rattle.yq_places.specs.PrintedLines.{less_break}
+use Rattle.yq_places.{specs.PrintedLines.less_break, specs.PathPieces.{printed_document, piece_in}}
 use Rattle.yq_outline.specs.Outline.{level}
 use Rattle.yq_documents.specs.declared.path.Part.{Part}
+use Rattle.yq_core.specs.Nodes as inline
 use Rattle.yq_documents.specs.declared.path.Part.TheVariants as parts
-use Rattle.yq_places.specs.PathPieces.{printed_document, piece_in}
 
 -- an item's row in column 0, behind dashes
 abbrev item : List ℕ → Content → Row

@@ -1,42 +1,30 @@
 -- For which nodes there are pieces.
-use Rattle.std.proofs.Common.{◌≡◌, ℕ, List, [], ◌∷◌, ◌++◌, map, Option, Some, None, is_some, option_map, option_and_then, Bool, true, false, cond, not, ◌&&◌, ◌||◌, refl, sym, ap, ◌∙◌, subst, rules}
-use Rattle.std.proofs.lemmas.Bool.{false≢true, or_parts}
-use Rattle.std.proofs.lemmas.Option.{slice_get-map, none-some, same_Some}
-use Rattle.std.specs.List.{slice_get}
-use Rattle.std.specs.Str.{is_utf8}
-use Rattle.yq_core.specs.Answers.{◌>>=◌}
-use Rattle.yq_core.specs.Paths.{Step, node_at}
-use Rattle.yq_core.specs.Tree as tree
-use Rattle.yq_core.proofs.Bools.{guard_then}
-use Rattle.yq_core.specs.Nodes.{FlowNode, empty, anchored}
-use Rattle.yq_row_table.specs.Rows.{Content, Cut}
-use Rattle.yq_documents.specs.declared.path.Path.{Path}
-use Rattle.yq_documents.specs.declared.path.Part.TheVariants as parts
-use Rattle.yq_documents.specs.Documents.{Document, document_parts}
-use Rattle.yq_outline.specs.Group.{group, level_or, is_fine}
-use Rattle.yq_outline.specs.Lines.{head_of}
+use Rattle.std.proofs.Common.{◌≡◌, ℕ, List, [], ◌∷◌, ◌++◌, map, Option, Some, None, is_some, option_map, option_and_then, Bool, true, false}
+use Rattle.std.{proofs.Common.{cond, not, ◌&&◌, ◌||◌, refl, sym, ap, ◌∙◌, subst, rules}, proofs.lemmas.Bool.{false≢true, or_parts}}
+use Rattle.std.{proofs.lemmas.Option.{slice_get-map, none-some, same_Some}, specs.List.slice_get, specs.Str.is_utf8}
+use Rattle.yq_core.{specs.Answers.◌>>=◌, specs.Paths.{Step, node_at}, proofs.Bools.guard_then, specs.Nodes.{FlowNode, empty, anchored}}
 use Rattle.yq_core.specs.Trees.{tree_of, with_name, node_head}
-use Rattle.yq_documents.specs.Located.{steps_of, located}
-use Rattle.yq_outline.specs.Outline as outlines
-use Rattle.yq_outline.specs.Outline.{LineMark, Outline, end, row, flatten, IsEven, IsWhole, value}
-use Rattle.yq_outline.specs.Places.{FoundLine, find, content_under}
-use Rattle.yq_documents.specs.Reading.{part_document, read_at}
-use Rattle.yq_outline.specs.Positions.{has_no_mark}
-use Rattle.yq_documents.proofs.PartRows.{each}
-use Rattle.yq_outline.proofs.Decides.{flatten-group, even_from}
-use Rattle.yq_outline.specs.Labelled.{labelled_from}
-use Rattle.yq_outline.proofs.Finding.{FoundNode, entry_of, labelled_path, path_node}
-use Rattle.yq_outline.proofs.PlaceLaws.{at}
-use Rattle.yq_documents.proofs.ReadLaws.{cut_is, text_takes}
-use Rattle.yq_places.proofs.RowPathLaws.{found_place, document_fine}
-use Rattle.yq_places.specs.Existence.{are_none, IsNull, some_lines, flow_written, or_false, entry_written, document_written, ContentsExist, EntriesExist}
+use Rattle.yq_row_table.specs.Rows.{Content, Cut}
+use Rattle.yq_documents.{specs.declared.path.Path.Path, specs.Documents.{Document, document_parts}, specs.Located.{steps_of, located}}
+use Rattle.yq_documents.{specs.Reading.{part_document, read_at}, proofs.PartRows.each, proofs.ReadLaws.{cut_is, text_takes}}
 use Rattle.yq_documents.specs.Pieces.{node_piece, head_piece}
+use Rattle.yq_outline.{specs.Group.{group, level_or, is_fine}, specs.Lines.head_of}
+use Rattle.yq_outline.specs.Outline.{LineMark, Outline, end, row, flatten, IsEven, IsWhole, value}
+use Rattle.yq_outline.{specs.Places.{FoundLine, find, content_under}, specs.Positions.has_no_mark}
+use Rattle.yq_outline.{proofs.Decides.{flatten-group, even_from}, specs.Labelled.labelled_from}
+use Rattle.yq_outline.{proofs.Finding.{FoundNode, entry_of, labelled_path, path_node}, proofs.PlaceLaws.at}
+use Rattle.yq_places.proofs.RowPathLaws.{found_place, document_fine}
+use Rattle.yq_places.specs.Existence.{are_none, IsNull, some_lines, flow_written, or_false, entry_written, document_written, ContentsExist}
+use Rattle.yq_places.specs.Existence.{EntriesExist}
 use Rattle.yq_places.specs.PrintedLines.{line_front, PrintedLine, print_line, print_lines, line_in, run_piece, lines_piece}
-use Rattle.yq_places.specs.PathPieces.{BlockEntry, content_piece, FlowEntry, flow_at, line_inline, flow_piece, flow_content, PrintedDocument, printed_document, found_entry, piece_in_entry, piece_in}
-use Rattle.yq_places.proofs.PieceHolds.{no_part}
-use Rattle.yq_places.proofs.PrintedLaws.{ArePrinted, lines_are, document_is}
+use Rattle.yq_places.specs.PathPieces.{BlockEntry, content_piece, FlowEntry, flow_at, line_inline, flow_piece, flow_content}
+use Rattle.yq_places.specs.PathPieces.{PrintedDocument, printed_document, found_entry, piece_in_entry, piece_in}
+use Rattle.yq_places.{proofs.PieceHolds.no_part, proofs.PrintedLaws.{ArePrinted, lines_are, document_is}}
 use Rattle.yq_places.proofs.FoundEntries.{IsFound, entry_there, entry_found}
 use Rattle.yq_places.proofs.FlowPieces.{flow_label, line_labels, head_there, head_item_at}
+use Rattle.yq_core.specs.Tree as tree
+use Rattle.yq_documents.specs.declared.path.Part.TheVariants as parts
+use Rattle.yq_outline.specs.Outline as outlines
 
 node_some : (before : List ℕ) (node : FlowNode) (rest : List ℕ) → is_some (node_piece before node rest) ≡ is_some (node_head node)
 node_some before (anchored n g node) rest = node_some (before ++ 38 ∷ (n ++ g)) node rest

@@ -1,40 +1,21 @@
 -- What the code answers is the span of a piece, and the text holds each.
-use Rattle.std.proofs.Common.{◌≡◌, ◌⊎◌, inl, inr, ℕ, ◌+◌, ◌-◌, List, ◌++◌, length, take, drop, map, Option, Some, None, option_map, true, refl, sym, ap, ◌∙◌, subst, arith, rules}
-use Rattle.std.proofs.Math.Seq.{take-append_seam, drop-append_seam}
-use Rattle.std.proofs.lemmas.Str.{IsUtf8-take, IsUtf8-between, IsUtf8-from_is_utf8}
-use Rattle.std.specs.List.{slice_get}
-use Rattle.std.specs.Str.{is_utf8, IsUtf8}
-use Rattle.yq_core.specs.Answers.{◌>>=◌}
-use Rattle.yq_core.proofs.Bools.{bind_some, guard_then}
-use Rattle.yq_core.specs.Spans.{IsSpan}
-use Rattle.yq_row_table.specs.Exchange.{HasPieces}
-use Rattle.yq_row_table.specs.Grammar.{IsCut}
-use Rattle.yq_row_table.specs.Rows.{Part, Cut, cut_text}
-use Rattle.yq_documents.specs.declared.path.Part.{Part as WhichPart}
-use Rattle.yq_documents.specs.declared.path.Part.TheVariants as parts
-use Rattle.yq_documents.specs.declared.path.Path.{Path}
-use Rattle.yq_documents.specs.Documents.{document_parts}
-use Rattle.yq_documents.specs.PartNumbers.{part_number}
-use Rattle.yq_places.specs.EntryReading.{content_row_place, entry_at}
-use Rattle.yq_outline.specs.Group.{group, is_fine}
-use Rattle.yq_documents.specs.Located.{steps_of}
-use Rattle.yq_documents.specs.Pieces.{piece_span, HoldsPiece}
-use Rattle.yq_documents.specs.Reading.{all_documents, read_at}
-use Rattle.yq_documents.specs.LinesInRows.{document_row}
-use Rattle.yq_documents.proofs.PartRows.{each}
-use Rattle.yq_places.proofs.EntryPlacedLaws.{entries_placed}
-use Rattle.yq_places.proofs.CommentHolds.{comments_hold}
+use Rattle.std.proofs.Common.{◌≡◌, ◌⊎◌, inl, inr, ℕ, ◌+◌, ◌-◌, List, ◌++◌, length, take, drop, map, Option, Some, None, option_map, true}
+use Rattle.std.{proofs.Common.{refl, sym, ap, ◌∙◌, subst, arith, rules}, proofs.Math.Seq.{take-append_seam, drop-append_seam}}
+use Rattle.std.{proofs.lemmas.Str.{IsUtf8-take, IsUtf8-between, IsUtf8-from_is_utf8}, specs.List.slice_get, specs.Str.{is_utf8, IsUtf8}}
+use Rattle.yq_core.{specs.Answers.◌>>=◌, proofs.Bools.{bind_some, guard_then}, specs.Spans.IsSpan}
+use Rattle.yq_row_table.{specs.Exchange.HasPieces, specs.Grammar.IsCut, specs.Rows.{Part, Cut, cut_text}}
+use Rattle.yq_documents.{specs.declared.path.Part.Part as WhichPart, specs.declared.path.Path.Path, specs.Documents.document_parts}
+use Rattle.yq_documents.{specs.PartNumbers.part_number, specs.Located.steps_of, specs.Pieces.{piece_span, HoldsPiece}}
+use Rattle.yq_documents.{specs.Reading.{all_documents, read_at}, specs.LinesInRows.document_row, proofs.PartRows.{each, part_begins}}
 use Rattle.yq_documents.proofs.ReadLaws.{text_takes}
-use Rattle.yq_places.proofs.RowPathLaws.{document_fine}
-use Rattle.yq_documents.proofs.PartRows.{part_begins}
-use Rattle.yq_places.specs.PrintedLines.{printed_lines, line_in}
+use Rattle.yq_places.{specs.EntryReading.{content_row_place, entry_at}, proofs.EntryPlacedLaws.entries_placed}
+use Rattle.yq_places.{proofs.CommentHolds.comments_hold, proofs.RowPathLaws.document_fine, specs.PrintedLines.{printed_lines, line_in}}
 use Rattle.yq_places.specs.PathPieces.{PrintedDocument, printed_part, printed_document, piece_in, path_piece}
-use Rattle.yq_places.specs.PlacedRows.{placed_at, placed_document}
-use Rattle.yq_places.specs.PieceLaws.{PiecesHold}
-use Rattle.yq_places.proofs.PieceTexts.{document_text, document_whole, whole_text}
-use Rattle.yq_places.proofs.PrintedLaws.{lines_are, document_is}
-use Rattle.yq_places.proofs.PrintedRowLines.{document_placed}
-use Rattle.yq_places.proofs.PieceSpans.{contents_span, entries_span}
+use Rattle.yq_places.{specs.PlacedRows.{placed_at, placed_document}, specs.PieceLaws.PiecesHold}
+use Rattle.yq_places.{proofs.PieceTexts.{document_text, document_whole, whole_text}, proofs.PrintedLaws.{lines_are, document_is}}
+use Rattle.yq_places.{proofs.PrintedRowLines.document_placed, proofs.PieceSpans.{contents_span, entries_span}}
+use Rattle.yq_outline.specs.Group.{group, is_fine}
+use Rattle.yq_documents.specs.declared.path.Part.TheVariants as parts
 
 none_map : {A B : Type 0} (f : A → B) (o : Option A) → option_map f o ≡ None → o ≡ None
 none_map f o h1 = search rules

@@ -1,49 +1,38 @@
 -- What the code answers for a part of a node is the span of its piece.
-use Rattle.std.proofs.Common.{◌≡◌, ◌⊎◌, ℕ, zero, suc, ◌+◌, ◌-◌, ◌<◌, ◌≤◌, eqb, List, [], ◌∷◌, ◌++◌, length, take, drop, map, Option, Some, None, is_some, option_map, option_and_then, Bool, true, false, cond, refl, sym, ap, ◌∙◌, subst, arith, append_assoc, append-nil, length-append, rules}
-use Rattle.std.proofs.Math.Seq.{drop-append_seam}
-use Rattle.std.proofs.lemmas.Bool.{cases_lt, eq-eqb, eqb-true, cond-true, cond-false}
-use Rattle.std.proofs.lemmas.List.{append_cancel_left}
-use Rattle.std.proofs.lemmas.Option.{slice_get-map, slice_get_within, none-some, same_Some}
-use Rattle.std.specs.List.{slice_get}
-use Rattle.yq_core.specs.Answers.{◌>>=◌}
-use Rattle.yq_core.specs.Paths.{Step}
-use Rattle.yq_core.specs.Tree as tree
-use Rattle.yq_core.specs.Entries.{PlacedEntry, placed_entry_at, entry_place, content_place, locate_entry}
-use Rattle.yq_core.specs.Nodes.{bare, node_text}
-use Rattle.yq_core.specs.Places.{locate}
-use Rattle.yq_core.proofs.PathLaws.{path_places}
+use Rattle.std.proofs.Common.{◌≡◌, ◌⊎◌, ℕ, zero, suc, ◌+◌, ◌-◌, ◌<◌, ◌≤◌, eqb, List, [], ◌∷◌, ◌++◌, length, take, drop, map, Option, Some}
+use Rattle.std.proofs.Common.{None, is_some, option_map, option_and_then, Bool, true, false, cond, refl, sym, ap, ◌∙◌, subst, arith}
+use Rattle.std.{proofs.Common.{append_assoc, append-nil, length-append, rules}, proofs.Math.Seq.drop-append_seam}
+use Rattle.std.{proofs.lemmas.Bool.{cases_lt, eq-eqb, eqb-true, cond-true, cond-false}, proofs.lemmas.List.append_cancel_left}
+use Rattle.std.{proofs.lemmas.Option.{slice_get-map, slice_get_within, none-some, same_Some}, specs.List.slice_get}
+use Rattle.yq_core.{specs.Answers.◌>>=◌, specs.Paths.Step}
+use Rattle.yq_core.{specs.Entries.{PlacedEntry, placed_entry_at, entry_place, content_place, locate_entry}, specs.Nodes.{bare, node_text}}
+use Rattle.yq_core.{specs.Places.locate, proofs.PathLaws.path_places}
 use Rattle.yq_row_table.specs.Exchange.{before_content, behind_row}
-use Rattle.yq_row_table.specs.Rows.{Content, Nothing, Inline, Block, content_text, Row, Part, Cut, cut_text}
-use Rattle.yq_row_table.specs.View.{rows_of}
+use Rattle.yq_row_table.{specs.Rows.{Content, Nothing, Inline, Block, content_text, Row, Part, Cut, cut_text}, specs.View.rows_of}
 use Rattle.yq_row_table.proofs.PlaceLaws.{place, content_then}
-use Rattle.yq_documents.specs.declared.path.Part.TheVariants as parts
-use Rattle.yq_outline.proofs.KnownLaws.{get_dropped}
-use Rattle.yq_places.specs.EntryReading as places
-use Rattle.yq_places.specs.EntryReading.{lines_place, line_head, lines_content, line_content, line_entry, inline_node, placed_inline, flow_entry, entry_from, content_from}
-use Rattle.yq_outline.specs.Ends.{deeper_count, lines_end, reached}
-use Rattle.yq_outline.specs.Group.{group, level_or, is_fine}
+use Rattle.yq_outline.{proofs.KnownLaws.get_dropped, specs.Ends.{deeper_count, lines_end, reached}, specs.Group.{group, level_or, is_fine}}
 use Rattle.yq_outline.specs.Lines.{head_of, tail_of, lines_of_rows}
-use Rattle.yq_outline.specs.Outline as outlines
 use Rattle.yq_outline.specs.Outline.{Line, level, Outline, end, row, flatten, IsEven, IsWhole}
-use Rattle.yq_outline.specs.Places.{lines_before, lines_after, FoundLine, find}
-use Rattle.yq_documents.specs.LinesInRows.{RowLine, row_line}
-use Rattle.yq_outline.specs.Positions.{has_no_mark}
+use Rattle.yq_outline.{specs.Places.{lines_before, lines_after, FoundLine, find}, specs.Positions.has_no_mark}
 use Rattle.yq_outline.proofs.Decides.{flatten-group, even_from}
-use Rattle.yq_places.proofs.EntryPlaceLaws.{by_line, row_there}
+use Rattle.yq_places.specs.EntryReading.{lines_place, line_head, lines_content, line_content, line_entry, inline_node, placed_inline}
+use Rattle.yq_places.{specs.EntryReading.{flow_entry, entry_from, content_from}, proofs.EntryPlaceLaws.{by_line, row_there}}
 use Rattle.yq_places.proofs.RowPathLaws.{found_lines, found_place}
-use Rattle.yq_documents.specs.Pieces.{piece_span, head_piece}
 use Rattle.yq_places.specs.PrintedLines.{line_front, PrintedLine, print_line, print_lines, printed_lines, line_in, run_piece, lines_piece}
-use Rattle.yq_places.specs.PathPieces.{BlockEntry, entry_piece, content_piece, FlowEntry, flow_at, content_inline, line_inline, flow_piece, flow_content, PrintedDocument, found_entry, piece_in_entry, piece_in}
-use Rattle.yq_places.proofs.PrintedTexts.{lines_then}
-use Rattle.yq_places.proofs.PieceTexts.{entry_text, item_text, entry_whole, at_whole}
+use Rattle.yq_places.specs.PathPieces.{BlockEntry, entry_piece, content_piece, FlowEntry, flow_at, content_inline, line_inline, flow_piece}
+use Rattle.yq_places.specs.PathPieces.{flow_content, PrintedDocument, found_entry, piece_in_entry, piece_in}
+use Rattle.yq_places.{proofs.PrintedTexts.lines_then, proofs.PieceTexts.{entry_text, item_text, entry_whole, at_whole}}
 use Rattle.yq_places.proofs.PrintedLaws.{IsPrinted, ArePrinted, lines_are}
 use Rattle.yq_places.proofs.FoundEntries.{lines_count, within_some, IsFound, entry_found, line_there, entry_is}
-use Rattle.yq_places.proofs.FlowPieces.{pieces, at_pieces, head_there}
-use Rattle.yq_places.proofs.PrintedRowLines.{IsPrintedLine, IsPlaced}
+use Rattle.yq_places.{proofs.FlowPieces.{pieces, at_pieces, head_there}, proofs.PrintedRowLines.{IsPrintedLine, IsPlaced}}
 use Rattle.yq_places.proofs.RunSpans.{get_some, content_size, row_line_at, run_span, head_span}
-use Rattle.yq_places.proofs.UnderCounts.{count_stops, count_holds, end_is}
-use Rattle.yq_places.proofs.FlowSpans.{item_place, value_place}
+use Rattle.yq_places.{proofs.UnderCounts.{count_stops, count_holds, end_is}, proofs.FlowSpans.{item_place, value_place}}
 use Rattle.yq_places.proofs.PieceSpelling.{bare_is}
+use Rattle.yq_documents.{specs.LinesInRows.{RowLine, row_line}, specs.Pieces.{piece_span, head_piece}}
+use Rattle.yq_core.specs.Tree as tree
+use Rattle.yq_documents.specs.declared.path.Part.TheVariants as parts
+use Rattle.yq_places.specs.EntryReading as places
+use Rattle.yq_outline.specs.Outline as outlines
 
 -- lists
 pub line_more : (ls : List PrintedLine) (n : ℕ) (l : PrintedLine) → slice_get ls n ≡ Some l → print_lines (take (suc n) ls) [] ≡ print_lines (take n ls) (print_line l [])

@@ -1,46 +1,35 @@
 -- Contents spell the nodes at their paths.
-use Rattle.std.proofs.Common.{◌≡◌, ◌⊎◌, inl, inr, ℕ, ◌<◌, List, [], ◌∷◌, ◌++◌, map, Option, Some, None, is_some, option_map, option_and_then, Bool, true, false, cond, refl, sym, ap, ◌∙◌, subst, append_assoc, append-nil, rules}
-use Rattle.std.proofs.lemmas.Option.{slice_get-map, none-some, same_Some}
-use Rattle.std.specs.Str.{is_utf8}
-use Rattle.yq_core.specs.Answers.{◌>>=◌}
-use Rattle.yq_core.specs.Block.{IsBlock}
-use Rattle.yq_core.specs.Paths.{Step, node_at}
-use Rattle.yq_core.specs.Tree as tree
-use Rattle.yq_core.specs.Tree.{plain_label}
-use Rattle.yq_core.proofs.Bools.{bind_some, guard_then}
-use Rattle.yq_core.specs.Entries.{path_inside}
+use Rattle.std.proofs.Common.{◌≡◌, ◌⊎◌, inl, inr, ℕ, ◌<◌, List, [], ◌∷◌, ◌++◌, map, Option, Some, None, is_some, option_map}
+use Rattle.std.proofs.Common.{option_and_then, Bool, true, false, cond, refl, sym, ap, ◌∙◌, subst, append_assoc, append-nil, rules}
+use Rattle.std.{proofs.lemmas.Option.{slice_get-map, none-some, same_Some}, specs.Str.is_utf8}
+use Rattle.yq_core.{specs.Answers.◌>>=◌, specs.Block.IsBlock, specs.Paths.{Step, node_at}, specs.Tree.plain_label}
+use Rattle.yq_core.{proofs.Bools.{bind_some, guard_then}, specs.Entries.path_inside}
 use Rattle.yq_core.specs.Nodes.{FlowNode, node_text, empty, alias, scalar, coll, anchored, IsFlowNode}
 use Rattle.yq_core.specs.Trees.{node_anchor, tree_of, node_head}
 use Rattle.yq_row_table.specs.Rows.{Content, Nothing, Inline, Block, Cut}
-use Rattle.yq_documents.specs.declared.path.Part.{Part as WhichPart}
-use Rattle.yq_documents.specs.declared.path.Part.TheVariants as parts
-use Rattle.yq_documents.specs.declared.path.Path.{Path}
-use Rattle.yq_documents.specs.Documents.{document_parts, Document}
-use Rattle.yq_outline.specs.Group.{group, level_or, is_fine}
-use Rattle.yq_outline.specs.Lines.{head_of, lines_of_rows}
-use Rattle.yq_outline.specs.Labelled.{Labelled, labelled_from}
-use Rattle.yq_outline.proofs.LabelPaths.{FoundEntry, path_entry}
-use Rattle.yq_documents.specs.Located.{steps_of, document_at, labelled_located, located}
-use Rattle.yq_outline.specs.Outline as outlines
-use Rattle.yq_outline.specs.Outline.{LineMark, Line, level, Outline, end, row, flatten, IsEven, first_anchor, head_or, value}
-use Rattle.yq_outline.specs.Places.{FoundLine, find}
-use Rattle.yq_outline.specs.Places as places
-use Rattle.yq_documents.specs.Reading.{read_at}
-use Rattle.yq_outline.specs.Positions.{has_no_mark}
-use Rattle.yq_documents.proofs.PartRows.{each}
-use Rattle.yq_outline.proofs.Decides.{flatten-group, even_from}
-use Rattle.yq_outline.proofs.Finding.{entry_of, labelled_path}
-use Rattle.yq_documents.proofs.ReadLaws.{cut_is, text_takes}
-use Rattle.yq_places.proofs.RowPathLaws.{found_place, document_fine}
+use Rattle.yq_documents.{specs.declared.path.Part.Part as WhichPart, specs.declared.path.Path.Path}
+use Rattle.yq_documents.{specs.Documents.{document_parts, Document}, specs.Located.{steps_of, document_at, labelled_located, located}}
+use Rattle.yq_documents.{specs.Reading.read_at, proofs.PartRows.each, proofs.ReadLaws.{cut_is, text_takes}}
 use Rattle.yq_documents.specs.Pieces.{TextPiece, node_piece, head_piece}
+use Rattle.yq_outline.{specs.Group.{group, level_or, is_fine}, specs.Lines.{head_of, lines_of_rows}}
+use Rattle.yq_outline.{specs.Labelled.{Labelled, labelled_from}, proofs.LabelPaths.{FoundEntry, path_entry}}
+use Rattle.yq_outline.specs.Outline.{LineMark, Line, level, Outline, end, row, flatten, IsEven, first_anchor, head_or, value}
+use Rattle.yq_outline.{specs.Places.{FoundLine, find}, specs.Positions.has_no_mark, proofs.Decides.{flatten-group, even_from}}
+use Rattle.yq_outline.proofs.Finding.{entry_of, labelled_path}
+use Rattle.yq_places.proofs.RowPathLaws.{found_place, document_fine}
 use Rattle.yq_places.specs.PrintedLines.{line_front, PrintedLine, print_line, print_lines, line_in, run_piece, lines_piece}
-use Rattle.yq_places.specs.PathPieces.{BlockEntry, content_piece, FlowEntry, flow_at, line_inline, flow_content, PrintedDocument, printed_document, found_entry, piece_in_entry, piece_in}
-use Rattle.yq_places.specs.PieceLaws.{IsInlinePiece, IsLineRun, SpellsTree, SpellsNode, IsEntryRun, IsFlowPiece, ContentsSpell, EntriesSpell, LinesStand}
-use Rattle.yq_places.proofs.PrintedTexts.{map_some, lines_then, lines_append}
+use Rattle.yq_places.specs.PathPieces.{BlockEntry, content_piece, FlowEntry, flow_at, line_inline, flow_content, PrintedDocument}
+use Rattle.yq_places.specs.PathPieces.{printed_document, found_entry, piece_in_entry, piece_in}
+use Rattle.yq_places.specs.PieceLaws.{IsInlinePiece, IsLineRun, SpellsTree, SpellsNode, IsEntryRun, IsFlowPiece, ContentsSpell}
+use Rattle.yq_places.{specs.PieceLaws.{EntriesSpell, LinesStand}, proofs.PrintedTexts.{map_some, lines_then, lines_append}}
 use Rattle.yq_places.proofs.PieceTexts.{document_whole}
 use Rattle.yq_places.proofs.PrintedLaws.{IsValid, IsWritten, IsPrinted, ArePrinted, lines_are, document_is}
 use Rattle.yq_places.proofs.FoundEntries.{IsIn, IsFound, entry_found}
 use Rattle.yq_places.proofs.FlowPieces.{none_anchored, twice, head_tree, head_item_at, head_there}
+use Rattle.yq_core.specs.Tree as tree
+use Rattle.yq_documents.specs.declared.path.Part.TheVariants as parts
+use Rattle.yq_outline.specs.Outline as outlines
+use Rattle.yq_outline.specs.Places as places
 
 -- an inline node
 piece_is : (node : FlowNode) (before behind : List ℕ) (x : TextPiece) → node_anchor node ≡ None → Some (record { before = before; text = node_text node []; behind = behind }) ≡ Some x → IsValid node behind → IsInlinePiece x (tree_of node)

@@ -1,37 +1,26 @@
 -- Pieces with what stands before and behind them are the text.
-use Rattle.std.proofs.Common.{◌≡◌, ℕ, suc, eqb, List, [], ◌∷◌, ◌++◌, length, take, drop, map, Some, None, is_some, Bool, true, false, cond, refl, sym, ap, ◌∙◌, append_assoc, rules}
-use Rattle.std.proofs.lemmas.List.{take-append-drop}
-use Rattle.std.proofs.lemmas.Option.{none-some, same_Some}
-use Rattle.std.specs.List.{slice_get}
-use Rattle.std.specs.Str.{is_utf8}
-use Rattle.yq_core.specs.Answers.{◌>>=◌}
-use Rattle.yq_core.specs.Paths.{Step, is_here, further}
+use Rattle.std.proofs.Common.{◌≡◌, ℕ, suc, eqb, List, [], ◌∷◌, ◌++◌, length, take, drop, map, Some, None, is_some, Bool, true, false, cond}
+use Rattle.std.{proofs.Common.{refl, sym, ap, ◌∙◌, append_assoc, rules}, proofs.lemmas.List.take-append-drop}
+use Rattle.std.{proofs.lemmas.Option.{none-some, same_Some}, specs.List.slice_get, specs.Str.is_utf8}
+use Rattle.yq_core.{specs.Answers.◌>>=◌, specs.Paths.{Step, is_here, further}}
 use Rattle.yq_core.specs.Text.{cut, front, ends_line, is_empty, joined, text_lines, no_white, past_white, upto}
-use Rattle.yq_core.proofs.LineLaws.{joined_lines}
-use Rattle.yq_core.proofs.Bools.{bind_some, guard_then}
-use Rattle.yq_core.specs.Nodes.{FlowNode, empty, alias, scalar, coll, anchored, Items, none, item, key_text, sep_text, opening_bracket, node_text, flow_items_text}
-use Rattle.yq_core.specs.Trees.{key_content}
-use Rattle.yq_core.specs.Tree.{key_label}
-use Rattle.yq_core.proofs.NodesWrittenLaws.{key_append, sep_append, node_append, node_then}
-use Rattle.yq_core.proofs.PathLaws.{then_some}
-use Rattle.yq_row_table.specs.Rows.{Content, content_text, Cut, cut_text}
-use Rattle.yq_row_table.specs.View.{content_cut}
-use Rattle.yq_row_table.proofs.SliceLaws.{content_slices}
-use Rattle.yq_documents.specs.declared.path.Part.{Part as WhichPart}
-use Rattle.yq_documents.specs.declared.path.Part.TheVariants as parts
-use Rattle.yq_documents.specs.declared.path.Path.{Path}
-use Rattle.yq_places.specs.PrintedLines.{PrintedLine, line_front, print_line, print_lines, line_in, run_text, run_break, run_piece, lines_piece}
-use Rattle.yq_outline.specs.Group.{group}
-use Rattle.yq_documents.specs.Located.{steps_of}
-use Rattle.yq_outline.specs.Outline.{flatten}
-use Rattle.yq_outline.specs.Places.{lines_before, find}
-use Rattle.yq_documents.specs.Reading.{read_at}
-use Rattle.yq_documents.proofs.ReadLaws.{text_takes}
+use Rattle.yq_core.{proofs.LineLaws.joined_lines, proofs.Bools.{bind_some, guard_then}}
+use Rattle.yq_core.specs.Nodes.{FlowNode, empty, alias, scalar, coll, anchored, Items, none, item, key_text, sep_text, opening_bracket}
+use Rattle.yq_core.{specs.Nodes.{node_text, flow_items_text}, specs.Trees.key_content, specs.Tree.key_label}
+use Rattle.yq_core.{proofs.NodesWrittenLaws.{key_append, sep_append, node_append, node_then}, proofs.PathLaws.then_some}
+use Rattle.yq_row_table.{specs.Rows.{Content, content_text, Cut, cut_text}, specs.View.content_cut, proofs.SliceLaws.content_slices}
+use Rattle.yq_documents.{specs.declared.path.Part.Part as WhichPart, specs.declared.path.Path.Path, specs.Located.steps_of}
+use Rattle.yq_documents.{specs.Reading.read_at, proofs.ReadLaws.text_takes}
 use Rattle.yq_documents.specs.Pieces.{TextPiece, node_piece, head_piece, tail_comment, content_comment, last_run, before_run, gap_comment}
 use Rattle.yq_documents.proofs.RunLaws.{run_split}
-use Rattle.yq_places.specs.PathPieces.{BlockEntry, content_piece, FlowEntry, flow_in, flow_under, flow_at, content_inline, line_inline, flow_piece, flow_content, PrintedDocument, printed_document, entry_with, found_entry, piece_in_entry, piece_in}
-use Rattle.yq_places.proofs.PlacedPartLaws.{part_stands}
+use Rattle.yq_places.specs.PrintedLines.{PrintedLine, line_front, print_line, print_lines, line_in, run_text, run_break, run_piece}
+use Rattle.yq_places.specs.PrintedLines.{lines_piece}
+use Rattle.yq_places.specs.PathPieces.{BlockEntry, content_piece, FlowEntry, flow_in, flow_under, flow_at, content_inline, line_inline}
+use Rattle.yq_places.specs.PathPieces.{flow_piece, flow_content, PrintedDocument, printed_document, entry_with, found_entry, piece_in_entry}
+use Rattle.yq_places.{specs.PathPieces.piece_in, proofs.PlacedPartLaws.part_stands}
 use Rattle.yq_places.proofs.PrintedTexts.{line_then, lines_then, lines_append, run_is, map_some, line_split, rows_are}
+use Rattle.yq_outline.{specs.Group.group, specs.Outline.flatten, specs.Places.{lines_before, find}}
+use Rattle.yq_documents.specs.declared.path.Part.TheVariants as parts
 
 -- a piece with the text before and behind it
 abbrev pub piece_text : TextPiece → List ℕ

@@ -1,19 +1,12 @@
 -- Documents in their place in a text.
-use Rattle.std.proofs.Common.{◌≡◌, ℕ, zero, suc, ◌+◌, ◌-◌, ◌<◌, ltb, List, [], ◌++◌, length, take, Option, Some, option_map, true, false, refl, ap, ◌∙◌, subst, arith, append_assoc, rules}
-use Rattle.std.proofs.lemmas.Bool.{lt-ltb, le-ltb, cond-true, cond-false}
-use Rattle.std.proofs.lemmas.Option.{same_Some}
-use Rattle.std.specs.List.{slice_get}
-use Rattle.yq_row_table.specs.Grammar.{unlimited, AreRows, AreParts}
-use Rattle.yq_row_table.specs.Rows.{rows_text, Part, part_text, Cut, last, marked, cut_text}
-use Rattle.yq_row_table.specs.Splices.{nth_part, behind_part}
-use Rattle.yq_row_table.proofs.PlaceLaws.{part_then}
-use Rattle.yq_row_table.proofs.splices.PartPlaces.{part_in}
-use Rattle.yq_documents.specs.Documents.{document_parts}
-use Rattle.yq_documents.specs.PartNumbers.{part_number, rows_to}
-use Rattle.yq_documents.specs.LinesInRows.{document_row}
+use Rattle.std.proofs.Common.{◌≡◌, ℕ, zero, suc, ◌+◌, ◌-◌, ◌<◌, ltb, List, [], ◌++◌, length, take, Option, Some, option_map, true, false}
+use Rattle.std.proofs.Common.{refl, ap, ◌∙◌, subst, arith, append_assoc, rules}
+use Rattle.std.{proofs.lemmas.Bool.{lt-ltb, le-ltb, cond-true, cond-false}, proofs.lemmas.Option.same_Some, specs.List.slice_get}
+use Rattle.yq_row_table.{specs.Grammar.{unlimited, AreRows, AreParts}, specs.Rows.{rows_text, Part, part_text, Cut, last, marked, cut_text}}
+use Rattle.yq_row_table.{specs.Splices.{nth_part, behind_part}, proofs.PlaceLaws.part_then, proofs.splices.PartPlaces.part_in}
+use Rattle.yq_documents.{specs.Documents.document_parts, specs.PartNumbers.{part_number, rows_to}, specs.LinesInRows.document_row}
 use Rattle.yq_documents.proofs.PartNumberLaws.{part_there}
-use Rattle.yq_places.specs.CommentReading.{before_row}
-use Rattle.yq_places.specs.PlacedRows.{PlacedPart, before_part, placed_at, placed_document}
+use Rattle.yq_places.{specs.CommentReading.before_row, specs.PlacedRows.{PlacedPart, before_part, placed_at, placed_document}}
 
 pub map_some : {A B : Type 0} (f : A → B) (o : Option A) (y : B) → option_map f o ≡ Some y → (x : A) × (o ≡ Some x) × (f x ≡ y)
 map_some f o y h1 = search (rules, same_Some)

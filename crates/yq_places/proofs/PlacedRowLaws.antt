@@ -1,26 +1,17 @@
 -- A document's rows in the text of a cut, and the row of a line, by the rows of all parts.
-use Rattle.std.proofs.Common.{◌≡◌, ℕ, zero, suc, ◌+◌, ◌-◌, ltb, List, [], ◌∷◌, ◌++◌, length, take, drop, Option, Some, None, option_map, refl, sym, ap, ◌∙◌, subst, arith, rules}
-use Rattle.std.proofs.lemmas.Bool.{lt-ltb, le-ltb, cond-true, cond-false}
-use Rattle.std.proofs.lemmas.Option.{slice_get_within, none-some, same_Some}
-use Rattle.std.specs.List.{slice_get}
+use Rattle.std.proofs.Common.{◌≡◌, ℕ, zero, suc, ◌+◌, ◌-◌, ltb, List, [], ◌∷◌, ◌++◌, length, take, drop, Option, Some, None, option_map}
+use Rattle.std.{proofs.Common.{refl, sym, ap, ◌∙◌, subst, arith, rules}, proofs.lemmas.Bool.{lt-ltb, le-ltb, cond-true, cond-false}}
+use Rattle.std.{proofs.lemmas.Option.{slice_get_within, none-some, same_Some}, specs.List.slice_get}
 use Rattle.yq_core.specs.Answers.{◌>>=◌}
-use Rattle.yq_row_table.specs.Exchange.{text_after_row, behind_row}
-use Rattle.yq_row_table.specs.Rows.{Row, rows_text, Part, Cut, last, marked, cut_text}
-use Rattle.yq_row_table.specs.Splices.{nth_part, behind_part}
-use Rattle.yq_row_table.specs.View.{rows_of}
-use Rattle.yq_outline.specs.Ends.{line_at_steps}
-use Rattle.yq_documents.specs.declared.path.Path.{Path}
-use Rattle.yq_places.specs.CommentReading.{before_row}
-use Rattle.yq_documents.specs.Documents.{document_parts}
-use Rattle.yq_outline.specs.Lines.{lines_of_rows}
-use Rattle.yq_documents.specs.Located.{steps_of}
-use Rattle.yq_places.specs.PlacedRows.{PlacedPart, PlacedRow, placed_at, placed_document, placed_row, row_of_path}
-use Rattle.yq_places.specs.RowLineReading.{LineCounts, numbers}
-use Rattle.yq_documents.specs.LinesInRows.{RowLine, row_line_of, row_line_at, document_row}
-use Rattle.yq_documents.specs.PartNumbers.{part_number, rows_to}
+use Rattle.yq_row_table.{specs.Exchange.{text_after_row, behind_row}, specs.Rows.{Row, rows_text, Part, Cut, last, marked, cut_text}}
+use Rattle.yq_row_table.{specs.Splices.{nth_part, behind_part}, specs.View.rows_of}
+use Rattle.yq_outline.{specs.Ends.line_at_steps, specs.Lines.lines_of_rows, proofs.KnownLaws.get_front}
+use Rattle.yq_documents.{specs.declared.path.Path.Path, specs.Documents.document_parts, specs.Located.steps_of}
+use Rattle.yq_documents.{specs.LinesInRows.{RowLine, row_line_of, row_line_at, document_row}, specs.PartNumbers.{part_number, rows_to}}
 use Rattle.yq_documents.proofs.PartNumberLaws.{part_there}
-use Rattle.yq_places.proofs.PlacedPartLaws.{part_stands, row_before}
-use Rattle.yq_outline.proofs.KnownLaws.{get_front}
+use Rattle.yq_places.specs.CommentReading.{before_row}
+use Rattle.yq_places.specs.PlacedRows.{PlacedPart, PlacedRow, placed_at, placed_document, placed_row, row_of_path}
+use Rattle.yq_places.{specs.RowLineReading.{LineCounts, numbers}, proofs.PlacedPartLaws.{part_stands, row_before}}
 use Rattle.yq_places.proofs.RowLineSpans.{steps_row}
 
 -- A row of a cut stands behind others, between these texts.

@@ -1,23 +1,18 @@
 -- What is told of lines with their texts, and the lines of a document.
-use Rattle.std.proofs.Common.{◌≡◌, ◌⊎◌, inl, ℕ, suc, ◌+◌, List, [], ◌∷◌, ◌++◌, map, Option, Some, None, Bool, true, refl, sym, ap, ◌∙◌, subst, replicate, ℤ, rules}
-use Rattle.std.specs.List.{slice_get}
-use Rattle.yq_core.specs.Block.{IsBlock}
-use Rattle.yq_core.specs.Text.{upto}
-use Rattle.yq_core.specs.Nodes.{FlowNode, IsFlowNode}
-use Rattle.yq_outline.specs.Comments as comments
-use Rattle.yq_row_table.specs.Grammar.{Limit, unlimited, limit_after, IsContent, AreRows, AreParts}
-use Rattle.yq_row_table.specs.Rows as rows
-use Rattle.yq_row_table.specs.View.{content_cut}
-use Rattle.yq_row_table.specs.Rows.{Content, Nothing, Inline, Block, content_text, mark_text, dashes_text, behind_gap, Row, rows_text, Part, Cut}
+use Rattle.std.proofs.Common.{◌≡◌, ◌⊎◌, inl, ℕ, suc, ◌+◌, List, [], ◌∷◌, ◌++◌, map, Option, Some, None, Bool, true, refl, sym, ap, ◌∙◌}
+use Rattle.std.{proofs.Common.{subst, replicate, ℤ, rules}, specs.List.slice_get}
+use Rattle.yq_core.{specs.Block.IsBlock, specs.Text.upto, specs.Nodes.{FlowNode, IsFlowNode}}
+use Rattle.yq_row_table.{specs.Grammar.{Limit, unlimited, limit_after, IsContent, AreRows, AreParts}, specs.View.content_cut}
+use Rattle.yq_row_table.specs.Rows.{Content, Nothing, Inline, Block, content_text, mark_text, dashes_text, behind_gap, Row, rows_text, Part}
+use Rattle.yq_row_table.specs.Rows.{Cut}
 use Rattle.yq_documents.specs.Documents.{document_parts}
-use Rattle.yq_outline.specs.Lines.{head_of, tail_of, lines_from, lines_of_rows}
-use Rattle.yq_outline.proofs.RowLaws.{no_comments}
+use Rattle.yq_outline.{specs.Lines.{head_of, tail_of, lines_from, lines_of_rows}, proofs.RowLaws.no_comments}
 use Rattle.yq_places.specs.PrintedLines.{line_rest, PrintedLine, print_lines, printed_from, printed_row, printed_lines, line_in}
-use Rattle.yq_places.specs.PathPieces.{PrintedDocument, printed_document}
-use Rattle.yq_places.specs.PlacedRows.{placed_document}
-use Rattle.yq_places.proofs.CommentPieceLaws.{Ended, content_end, gap_end}
-use Rattle.yq_places.proofs.PlacedPartLaws.{part_rows, part_stands}
+use Rattle.yq_places.{specs.PathPieces.{PrintedDocument, printed_document}, specs.PlacedRows.placed_document}
+use Rattle.yq_places.{proofs.CommentPieceLaws.{Ended, content_end, gap_end}, proofs.PlacedPartLaws.{part_rows, part_stands}}
 use Rattle.yq_places.proofs.PrintedTexts.{alone, from_is, map_some, lines_append, rows_are}
+use Rattle.yq_outline.specs.Comments as comments
+use Rattle.yq_row_table.specs.Rows as rows
 
 -- an inline node is valid where it stands
 abbrev pub IsValid : FlowNode → List ℕ → Type 0

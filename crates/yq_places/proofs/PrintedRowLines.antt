@@ -1,24 +1,15 @@
 -- The lines of rows with their texts, by the row lines of lines.
-use Rattle.std.proofs.Common.{◌≡◌, ◌⊎◌, inl, inr, ℕ, zero, suc, ◌+◌, ◌-◌, ◌<◌, ◌≤◌, List, [], ◌∷◌, ◌++◌, length, take, Some, None, refl, sym, ap, ◌∙◌, subst, arith, append_assoc, append-nil, replicate, rules}
-use Rattle.std.proofs.Math.Seq.{take-append-add}
-use Rattle.std.proofs.lemmas.Bool.{cases_lt, lt-ltb, le-ltb, cond-true, cond-false}
-use Rattle.std.proofs.lemmas.List.{take-append-le}
-use Rattle.std.proofs.lemmas.Option.{none-some, same_Some}
-use Rattle.std.specs.List.{slice_get}
-use Rattle.yq_outline.specs.Comments.{head_comment}
-use Rattle.yq_row_table.specs.Rows as rows
+use Rattle.std.proofs.Common.{◌≡◌, ◌⊎◌, inl, inr, ℕ, zero, suc, ◌+◌, ◌-◌, ◌<◌, ◌≤◌, List, [], ◌∷◌, ◌++◌, length, take, Some, None, refl}
+use Rattle.std.{proofs.Common.{sym, ap, ◌∙◌, subst, arith, append_assoc, append-nil, replicate, rules}, proofs.Math.Seq.take-append-add}
+use Rattle.std.{proofs.lemmas.Bool.{cases_lt, lt-ltb, le-ltb, cond-true, cond-false}, proofs.lemmas.List.take-append-le}
+use Rattle.std.{proofs.lemmas.Option.{none-some, same_Some}, specs.List.slice_get}
+use Rattle.yq_outline.{specs.Comments.head_comment, specs.Lines.{line_mark, dash_line}, specs.Outline.level, proofs.Values.rank_small}
 use Rattle.yq_row_table.specs.Rows.{Content, Nothing, Row, dashes_text, mark_text, rows_text, Part, Cut}
-use Rattle.yq_documents.specs.Documents.{document_parts}
-use Rattle.yq_outline.specs.Lines.{line_mark, dash_line}
-use Rattle.yq_outline.specs.Outline.{level}
-use Rattle.yq_places.specs.CommentReading.{before_row}
-use Rattle.yq_documents.specs.LinesInRows.{RowLine, behind_one, row_line, document_row}
-use Rattle.yq_places.specs.PlacedRows.{placed_document}
-use Rattle.yq_places.proofs.PlacedPartLaws.{part_stands, text_before}
-use Rattle.yq_outline.proofs.Values.{rank_small}
+use Rattle.yq_documents.{specs.Documents.document_parts, specs.LinesInRows.{RowLine, behind_one, row_line, document_row}}
+use Rattle.yq_places.{specs.CommentReading.before_row, specs.PlacedRows.placed_document, proofs.PlacedPartLaws.{part_stands, text_before}}
 use Rattle.yq_places.specs.PrintedLines.{PrintedLine, line_front, print_lines, printed_from, printed_row, printed_lines}
-use Rattle.yq_places.specs.PathPieces.{PrintedDocument, printed_document}
-use Rattle.yq_places.proofs.PrintedTexts.{map_some, lines_append, row_is}
+use Rattle.yq_places.{specs.PathPieces.{PrintedDocument, printed_document}, proofs.PrintedTexts.{map_some, lines_append, row_is}}
+use Rattle.yq_row_table.specs.Rows as rows
 
 -- Line n of those of a row.
 pub record IsInRow (ls : List PrintedLine) (gap spaces : List ℕ) (ns : List ℕ) (m : rows.RowMark) (c : Content) (n : ℕ) : Type 0 where

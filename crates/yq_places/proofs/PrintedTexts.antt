@@ -1,13 +1,13 @@
 -- The texts of lines, and of runs of them.
-use Rattle.std.proofs.Common.{◌≡◌, ℕ, zero, suc, ◌+◌, List, [], ◌∷◌, ◌++◌, length, take, drop, Option, Some, option_map, Bool, cond, refl, sym, ap, ◌∙◌, append_assoc, append-nil, replicate, rules}
-use Rattle.std.proofs.lemmas.Option.{none-some, same_Some}
+use Rattle.std.proofs.Common.{◌≡◌, ℕ, zero, suc, ◌+◌, List, [], ◌∷◌, ◌++◌, length, take, drop, Option, Some, option_map, Bool, cond, refl}
+use Rattle.std.{proofs.Common.{sym, ap, ◌∙◌, append_assoc, append-nil, replicate, rules}, proofs.lemmas.Option.{none-some, same_Some}}
 use Rattle.std.specs.List.{slice_get}
 use Rattle.yq_core.specs.Text.{is_empty}
-use Rattle.yq_row_table.specs.Rows as rows
 use Rattle.yq_row_table.specs.Rows.{Content, dashes_text, mark_text, content_text, Row, print_row, rows_text}
-use Rattle.yq_row_table.proofs.SliceLaws.{content_slices}
-use Rattle.yq_row_table.proofs.PlaceLaws.{content_then}
-use Rattle.yq_places.specs.PrintedLines.{is_last_break, less_break, less_last, less_end, last_break, end_break, PrintedLine, line_front, line_rest, print_line, print_lines, printed_from, printed_row, printed_lines, run_text, run_break}
+use Rattle.yq_row_table.{proofs.SliceLaws.content_slices, proofs.PlaceLaws.content_then}
+use Rattle.yq_places.specs.PrintedLines.{is_last_break, less_break, less_last, less_end, last_break, end_break, PrintedLine, line_front}
+use Rattle.yq_places.specs.PrintedLines.{line_rest, print_line, print_lines, printed_from, printed_row, printed_lines, run_text, run_break}
+use Rattle.yq_row_table.specs.Rows as rows
 
 -- a text less its last break, and that break
 pub less_is : (t : List ℕ) → less_break t ++ last_break t ≡ t

@@ -1,17 +1,12 @@
 -- Rows of a document and the gaps behind them, among all rows of a text.
-use Rattle.std.proofs.Common.{◌≡◌, ℕ, zero, suc, ◌+◌, ◌-◌, ◌<◌, ◌≤◌, eqb, List, [], ◌∷◌, ◌++◌, length, length-append, take, Some, refl, ap, ◌∙◌, subst, arith, rules}
-use Rattle.std.proofs.lemmas.Bool.{cond-true, cond-false, eq-eqb, ne_eqb}
-use Rattle.std.proofs.lemmas.Option.{slice_get-map}
-use Rattle.std.specs.List.{slice_get}
-use Rattle.yq_row_table.specs.Removal.{block_of, last_block, next_column}
-use Rattle.yq_row_table.specs.Rows.{Row, Part, Cut, last, marked}
-use Rattle.yq_row_table.specs.Splices.{first_gap, nth_part}
-use Rattle.yq_row_table.specs.View.{rows_of, Bound, bounds_from, bounds_of, bounds_at, rows_view}
-use Rattle.yq_places.specs.PlacedRows.{PlacedPart, placed_document}
-use Rattle.yq_places.specs.RemovalReading.{gap_counts, gap_and_column}
-use Rattle.yq_documents.specs.LinesInRows.{document_row}
-use Rattle.yq_documents.specs.PartNumbers.{part_number, rows_to}
+use Rattle.std.proofs.Common.{◌≡◌, ℕ, zero, suc, ◌+◌, ◌-◌, ◌<◌, ◌≤◌, eqb, List, [], ◌∷◌, ◌++◌, length, length-append, take, Some, refl, ap}
+use Rattle.std.{proofs.Common.{◌∙◌, subst, arith, rules}, proofs.lemmas.Bool.{cond-true, cond-false, eq-eqb, ne_eqb}}
+use Rattle.std.{proofs.lemmas.Option.slice_get-map, specs.List.slice_get}
+use Rattle.yq_row_table.{specs.Removal.{block_of, last_block, next_column}, specs.Rows.{Row, Part, Cut, last, marked}}
+use Rattle.yq_row_table.{specs.Splices.{first_gap, nth_part}, specs.View.{rows_of, Bound, bounds_from, bounds_of, bounds_at, rows_view}}
+use Rattle.yq_places.{specs.PlacedRows.{PlacedPart, placed_document}, specs.RemovalReading.{gap_counts, gap_and_column}}
 use Rattle.yq_places.proofs.PlacedPartLaws.{part_stands}
+use Rattle.yq_documents.{specs.LinesInRows.document_row, specs.PartNumbers.{part_number, rows_to}}
 
 -- ---- the ends of parts before a row
 

@@ -1,31 +1,20 @@
 -- What is taken out of a text with rows of a document begins and ends between lines.
-use Rattle.std.proofs.Common.{◌≡◌, ◌⊎◌, inl, inr, ℕ, zero, suc, ℤ, Bool, true, false, List, [], ◌∷◌, ◌++◌, length, take, drop, replicate, Some, refl, sym, ap, ◌∙◌, subst, append-nil, rules}
-use Rattle.std.proofs.Math.Seq.{drop-append_seam}
-use Rattle.std.proofs.lemmas.Bool.{and_parts}
-use Rattle.std.proofs.lemmas.List.{take-append-drop}
-use Rattle.yq_core.specs.Block.{RawLines}
-use Rattle.yq_core.specs.Text.{is_empty, is_line, joined, text_lines}
+use Rattle.std.proofs.Common.{◌≡◌, ◌⊎◌, inl, inr, ℕ, zero, suc, ℤ, Bool, true, false, List, [], ◌∷◌, ◌++◌, length, take, drop, replicate}
+use Rattle.std.{proofs.Common.{Some, refl, sym, ap, ◌∙◌, subst, append-nil, rules}, proofs.Math.Seq.drop-append_seam}
+use Rattle.std.{proofs.lemmas.Bool.and_parts, proofs.lemmas.List.take-append-drop}
+use Rattle.yq_core.{specs.Block.RawLines, specs.Text.{is_empty, is_line, joined, text_lines}}
 use Rattle.yq_core.proofs.BlockPieceLaws.{IsLf, line_lf, append_lf, raw_lf}
-use Rattle.yq_row_table.specs.Exchange.{asked_behind}
-use Rattle.yq_row_table.specs.Gap.{IsGap, AreGapLines}
+use Rattle.yq_row_table.{specs.Exchange.asked_behind, specs.Gap.{IsGap, AreGapLines}}
 use Rattle.yq_row_table.specs.Grammar.{begins_document, IsContent, Limit, unlimited, AreRows, no_rows, AreParts}
-use Rattle.yq_row_table.specs.Rows.{Content, Nothing, Inline, Block, Row, behind_gap, parent_indent, print_row, rows_text, Part, part_text, Cut, last, marked, cut_text}
-use Rattle.yq_row_table.specs.Splices.{behind_first, first_gap, with_row_gap}
-use Rattle.yq_row_table.specs.View.{Slices, content_cut, slices}
-use Rattle.yq_row_table.proofs.NothingLaws.{some_behind}
-use Rattle.yq_row_table.proofs.PlaceLaws.{part_then, row_then}
-use Rattle.yq_row_table.proofs.SliceLaws.{slices_are}
-use Rattle.yq_row_table.proofs.seams.BlockFronts.{gap_front}
-use Rattle.yq_row_table.proofs.seams.FrontSeams.{behind_row_some, rows_some}
-use Rattle.yq_row_table.proofs.seams.SeamLaws.{rows_drop, rows_text-append}
-use Rattle.yq_row_table.proofs.splices.SpliceTexts.{first_is, first_text}
-use Rattle.yq_row_table.proofs.EmptyTexts.{none_is}
-use Rattle.yq_documents.specs.PartNumbers.{part_number}
-use Rattle.yq_documents.specs.Pieces.{before_run, last_run}
-use Rattle.yq_places.specs.PlacedRows.{PlacedPart, placed_at, placed_document}
-use Rattle.yq_places.specs.RemovalPlaces.{comment_above, rows_out}
-use Rattle.yq_places.proofs.CommentPieceLaws.{Ended, gap_end, tail_end}
-use Rattle.yq_places.proofs.PlacedPartLaws.{part_stands, text_at}
+use Rattle.yq_row_table.specs.Rows.{Content, Nothing, Inline, Block, Row, behind_gap, parent_indent, print_row, rows_text, Part, part_text}
+use Rattle.yq_row_table.{specs.Rows.{Cut, last, marked, cut_text}, specs.Splices.{behind_first, first_gap, with_row_gap}}
+use Rattle.yq_row_table.{specs.View.{Slices, content_cut, slices}, proofs.NothingLaws.some_behind, proofs.PlaceLaws.{part_then, row_then}}
+use Rattle.yq_row_table.{proofs.SliceLaws.slices_are, proofs.seams.BlockFronts.gap_front}
+use Rattle.yq_row_table.{proofs.seams.FrontSeams.{behind_row_some, rows_some}, proofs.seams.SeamLaws.{rows_drop, rows_text-append}}
+use Rattle.yq_row_table.{proofs.splices.SpliceTexts.{first_is, first_text}, proofs.EmptyTexts.none_is}
+use Rattle.yq_documents.{specs.PartNumbers.part_number, specs.Pieces.{before_run, last_run}}
+use Rattle.yq_places.{specs.PlacedRows.{PlacedPart, placed_at, placed_document}, specs.RemovalPlaces.{comment_above, rows_out}}
+use Rattle.yq_places.{proofs.CommentPieceLaws.{Ended, gap_end, tail_end}, proofs.PlacedPartLaws.{part_stands, text_at}}
 use Rattle.yq_places.proofs.RemovalTexts.{run_parts, texts_then}
 
 -- Between two lines of a text: nothing is in front, an LF, or nothing is behind.

@@ -1,35 +1,19 @@
 -- What is taken out with an item or entry, by the pieces of rows.
-use Rattle.std.proofs.Common.{◌≡◌, ℕ, zero, suc, ◌+◌, ◌-◌, ◌<◌, ◌≤◌, eqb, ltb, List, [], ◌∷◌, ◌++◌, length, take, drop, Option, Some, None, option_map, Bool, true, false, cond, refl, sym, ap, ◌∙◌, subst, arith, length-append, length-take-le}
+use Rattle.std.proofs.Common.{◌≡◌, ℕ, zero, suc, ◌+◌, ◌-◌, ◌<◌, ◌≤◌, eqb, ltb, List, [], ◌∷◌, ◌++◌, length, take, drop, Option, Some, None}
+use Rattle.std.proofs.Common.{option_map, Bool, true, false, cond, refl, sym, ap, ◌∙◌, subst, arith, length-append, length-take-le}
 use Rattle.std.proofs.Math.Seq.{drop-append_seam, take-append_seam}
 use Rattle.std.proofs.lemmas.Bool.{cond-true, cond-false, eq-eqb, ne_eqb, eqb-true, ltb-true}
-use Rattle.std.proofs.lemmas.List.{length-drop, take-append-drop}
-use Rattle.std.proofs.lemmas.Option.{cond_some, same_Some}
-use Rattle.std.proofs.lemmas.Str.{IsCharBoundary-at_seam}
-use Rattle.std.specs.List.{slice_get}
-use Rattle.std.specs.Str.{IsUtf8, IsCharBoundary}
-use Rattle.yq_core.specs.Answers.{◌>>=◌}
-use Rattle.yq_core.specs.Paths.{Step}
-use Rattle.yq_core.specs.Lines.{is_blank}
-use Rattle.yq_core.specs.Text.{joined, text_lines}
-use Rattle.yq_core.proofs.Bools.{bind_some}
+use Rattle.std.{proofs.lemmas.List.{length-drop, take-append-drop}, proofs.lemmas.Option.{cond_some, same_Some}}
+use Rattle.std.{proofs.lemmas.Str.IsCharBoundary-at_seam, specs.List.slice_get, specs.Str.{IsUtf8, IsCharBoundary}}
+use Rattle.yq_core.{specs.Answers.◌>>=◌, specs.Paths.Step, specs.Lines.is_blank, specs.Text.{joined, text_lines}, proofs.Bools.bind_some}
 use Rattle.yq_core.proofs.LineLaws.{joined_lines}
-use Rattle.yq_outline.specs.Comments.{head_comment}
-use Rattle.yq_outline.specs.Ends.{line_at_steps, lines_end}
-use Rattle.yq_outline.specs.Outline.{Line}
-use Rattle.yq_row_table.specs.Grammar.{no_rows}
-use Rattle.yq_row_table.specs.Removal.{hold_comment}
-use Rattle.yq_row_table.specs.Rows.{RowMark, Content, Row}
-use Rattle.yq_outline.specs.Lines.{lines_from, row_lines, lines_of_rows}
-use Rattle.yq_documents.specs.Pieces.{before_run, last_run}
-use Rattle.yq_places.specs.RemovalPlaces.{OwnRows, row_count, in_three, own_rows}
-use Rattle.yq_places.specs.RemovalReading.{marks}
-use Rattle.yq_outline.specs.RowWalk.{line_number}
-use Rattle.yq_outline.specs.declared.line_position.Position.{Position}
-use Rattle.yq_outline.specs.declared.line_position.Stretch.{Stretch}
-use Rattle.yq_documents.specs.LinesInRows.{RowLine, behind_one, row_line}
-use Rattle.yq_places.proofs.PlacedPartLaws.{map_some}
-use Rattle.yq_places.proofs.RemovalTexts.{gap_parts}
-use Rattle.yq_places.proofs.WalkDocuments.{row_line_number}
+use Rattle.yq_outline.{specs.Comments.head_comment, specs.Ends.{line_at_steps, lines_end}, specs.Outline.Line}
+use Rattle.yq_outline.{specs.Lines.{lines_from, row_lines, lines_of_rows}, specs.RowWalk.line_number}
+use Rattle.yq_outline.{specs.declared.line_position.Position.Position, specs.declared.line_position.Stretch.Stretch}
+use Rattle.yq_row_table.{specs.Grammar.no_rows, specs.Removal.hold_comment, specs.Rows.{RowMark, Content, Row}}
+use Rattle.yq_documents.{specs.Pieces.{before_run, last_run}, specs.LinesInRows.{RowLine, behind_one, row_line}}
+use Rattle.yq_places.{specs.RemovalPlaces.{OwnRows, row_count, in_three, own_rows}, specs.RemovalReading.marks}
+use Rattle.yq_places.{proofs.PlacedPartLaws.map_some, proofs.RemovalTexts.gap_parts, proofs.WalkDocuments.row_line_number}
 
 -- ---- a gap cut before its comment
 

@@ -1,20 +1,13 @@
 -- The text of a document, by rows that are taken out of it.
 use Rattle.std.proofs.Common.{◌≡◌, Bool, false, cond, ℕ, List, [], ◌∷◌, ◌++◌, refl, sym, ap, ◌∙◌, append_assoc, rules}
 use Rattle.std.proofs.lemmas.Bool.{false≢true}
-use Rattle.yq_core.specs.Block.{RawLines}
-use Rattle.yq_core.specs.Text.{joined, text_lines}
-use Rattle.yq_core.proofs.LineLaws.{joined_lines}
+use Rattle.yq_core.{specs.Block.RawLines, specs.Text.{joined, text_lines}, proofs.LineLaws.joined_lines}
 use Rattle.yq_outline.specs.Comments.{are_comments}
-use Rattle.yq_row_table.specs.Grammar.{no_rows}
-use Rattle.yq_row_table.specs.Rows.{Row, print_row, rows_text, part_text}
-use Rattle.yq_row_table.specs.Splices.{behind_first, first_gap, with_row_gap}
-use Rattle.yq_row_table.proofs.PlaceLaws.{row_then}
-use Rattle.yq_row_table.proofs.seams.SeamLaws.{rows_text-append}
-use Rattle.yq_row_table.proofs.splices.SpliceTexts.{first_text}
-use Rattle.yq_documents.specs.Pieces.{before_run, last_run}
-use Rattle.yq_places.specs.PlacedRows.{PlacedPart}
-use Rattle.yq_places.specs.RemovalPlaces.{OwnRows, kept_gap, comment_above, rows_out}
-use Rattle.yq_documents.proofs.RunLaws.{run_split}
+use Rattle.yq_row_table.{specs.Grammar.no_rows, specs.Rows.{Row, print_row, rows_text, part_text}}
+use Rattle.yq_row_table.{specs.Splices.{behind_first, first_gap, with_row_gap}, proofs.PlaceLaws.row_then}
+use Rattle.yq_row_table.{proofs.seams.SeamLaws.rows_text-append, proofs.splices.SpliceTexts.first_text}
+use Rattle.yq_documents.{specs.Pieces.{before_run, last_run}, proofs.RunLaws.run_split}
+use Rattle.yq_places.{specs.PlacedRows.PlacedPart, specs.RemovalPlaces.{OwnRows, kept_gap, comment_above, rows_out}}
 
 pub texts_then : (rs : List Row) (t u : List ℕ) → rows_text rs (t ++ u) ≡ rows_text rs t ++ u
 texts_then [] t u = refl

@@ -1,43 +1,24 @@
 -- What is taken out of a text with rows of a document, as the code counts it.
-use Rattle.std.proofs.Common.{◌≡◌, inl, inr, ℕ, zero, suc, ◌+◌, ◌-◌, ◌<◌, ◌≤◌, List, [], ◌∷◌, ◌++◌, length, length-append, take, drop, Option, Some, None, option_map, refl, sym, ap, ◌∙◌, subst, arith, append_assoc}
-use Rattle.std.proofs.Math.Seq.{drop-append_seam, take-append_seam}
-use Rattle.std.proofs.lemmas.Bool.{false≢true}
+use Rattle.std.proofs.Common.{◌≡◌, inl, inr, ℕ, zero, suc, ◌+◌, ◌-◌, ◌<◌, ◌≤◌, List, [], ◌∷◌, ◌++◌, length, length-append, take, drop}
+use Rattle.std.proofs.Common.{Option, Some, None, option_map, refl, sym, ap, ◌∙◌, subst, arith, append_assoc}
+use Rattle.std.{proofs.Math.Seq.{drop-append_seam, take-append_seam}, proofs.lemmas.Bool.false≢true}
 use Rattle.std.proofs.lemmas.Option.{slice_get_within, slice_get-map, none-some, same_Some}
-use Rattle.std.proofs.lemmas.Str.{IsCharBoundary-start, IsUtf8-drop}
-use Rattle.std.specs.List.{slice_get}
-use Rattle.std.specs.Str.{IsUtf8, IsCharBoundary}
-use Rattle.yq_core.specs.Answers.{◌>>=◌}
-use Rattle.yq_core.specs.Paths.{Step}
-use Rattle.yq_core.specs.Text.{joined, text_lines}
-use Rattle.yq_core.proofs.BlockPieceLaws.{cut_lf}
+use Rattle.std.{proofs.lemmas.Str.{IsCharBoundary-start, IsUtf8-drop}, specs.List.slice_get, specs.Str.{IsUtf8, IsCharBoundary}}
+use Rattle.yq_core.{specs.Answers.◌>>=◌, specs.Paths.Step, specs.Text.{joined, text_lines}, proofs.BlockPieceLaws.cut_lf}
 use Rattle.yq_core.proofs.Bools.{bind_some}
-use Rattle.yq_row_table.specs.Grammar.{IsCut, no_rows}
-use Rattle.yq_row_table.specs.Offsets.{row_length}
-use Rattle.yq_row_table.specs.Removal.{next_column}
-use Rattle.yq_row_table.specs.Rows.{Row, rows_text, Part, Cut}
-use Rattle.yq_row_table.specs.Splices.{first_gap}
-use Rattle.yq_row_table.specs.View.{Slices, slices, rows_of, RowsView, rows_view}
-use Rattle.yq_row_table.proofs.NodePieces.{BeginsAscii, before_ascii}
-use Rattle.yq_row_table.proofs.seams.SeamLaws.{rows_text-append}
-use Rattle.yq_row_table.proofs.splices.SpliceTexts.{first_text}
-use Rattle.yq_documents.specs.Documents.{document_parts}
-use Rattle.yq_outline.specs.Extents.{IsRowsView, row_start}
-use Rattle.yq_documents.specs.Pieces.{before_run}
-use Rattle.yq_documents.specs.Reading.{cut_of}
+use Rattle.yq_row_table.{specs.Grammar.{IsCut, no_rows}, specs.Offsets.row_length, specs.Removal.next_column}
+use Rattle.yq_row_table.{specs.Rows.{Row, rows_text, Part, Cut}, specs.Splices.first_gap}
+use Rattle.yq_row_table.{specs.View.{Slices, slices, rows_of, RowsView, rows_view}, proofs.NodePieces.{BeginsAscii, before_ascii}}
+use Rattle.yq_row_table.{proofs.seams.SeamLaws.rows_text-append, proofs.splices.SpliceTexts.first_text, proofs.SliceLaws.print-length}
+use Rattle.yq_documents.{specs.Documents.document_parts, specs.Pieces.before_run, specs.Reading.cut_of, specs.LinesInRows.document_row}
+use Rattle.yq_documents.proofs.PartRows.{part_begins}
+use Rattle.yq_outline.{specs.Extents.{IsRowsView, row_start}, proofs.KnownLaws.{get_dropped, get_front}}
 use Rattle.yq_places.specs.PlacedRows.{PlacedPart, placed_document}
 use Rattle.yq_places.specs.RemovalPlaces.{OwnRows, own_rows, Removal, kept_gap, rows_out, removal_place}
-use Rattle.yq_places.specs.RemovalReading.{RowCounts, marks, mark_counts, gap_counts, IsOwn}
-use Rattle.yq_documents.specs.LinesInRows.{document_row}
-use Rattle.yq_places.proofs.CommentPieceLaws.{gap_end}
-use Rattle.yq_row_table.proofs.SliceLaws.{print-length}
-use Rattle.yq_places.proofs.PlacedPartLaws.{map_some, part_stands, placed_is, text_before}
-use Rattle.yq_places.proofs.RemovalBounds.{gap_behind, last_row}
-use Rattle.yq_places.proofs.RemovalLines.{LineSeam, are_lines, lies_in, line_seam}
-use Rattle.yq_places.proofs.RemovalPlaceLaws.{own_stands}
-use Rattle.yq_places.proofs.RemovalTexts.{old_text, texts_then}
-use Rattle.yq_documents.proofs.PartRows.{part_begins}
-use Rattle.yq_outline.proofs.KnownLaws.{get_dropped, get_front}
-use Rattle.yq_places.proofs.StartLaws.{start_agrees}
+use Rattle.yq_places.{specs.RemovalReading.{RowCounts, marks, mark_counts, gap_counts, IsOwn}, proofs.CommentPieceLaws.gap_end}
+use Rattle.yq_places.{proofs.PlacedPartLaws.{map_some, part_stands, placed_is, text_before}, proofs.RemovalBounds.{gap_behind, last_row}}
+use Rattle.yq_places.{proofs.RemovalLines.{LineSeam, are_lines, lies_in, line_seam}, proofs.RemovalPlaceLaws.own_stands}
+use Rattle.yq_places.{proofs.RemovalTexts.{old_text, texts_then}, proofs.StartLaws.start_agrees}
 
 -- ---- a text cut between lines
 

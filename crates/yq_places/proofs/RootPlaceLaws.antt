@@ -1,32 +1,20 @@
 -- Where a document ends in which no rows are, as the code counts it.
-use Rattle.std.proofs.Common.{◌≡◌, ℕ, zero, suc, ◌+◌, List, [], ◌∷◌, ◌++◌, length, map, take, drop, Option, Some, None, option_map, true, false, refl, sym, ap, ◌∙◌, subst, arith, append_assoc, append-nil, length-append}
+use Rattle.std.proofs.Common.{◌≡◌, ℕ, zero, suc, ◌+◌, List, [], ◌∷◌, ◌++◌, length, map, take, drop, Option, Some, None, option_map, true}
+use Rattle.std.proofs.Common.{false, refl, sym, ap, ◌∙◌, subst, arith, append_assoc, append-nil, length-append}
 use Rattle.std.proofs.Math.Seq.{drop-append_seam, take-append_seam, take-append-add}
-use Rattle.std.proofs.lemmas.Bool.{false≢true, cond-true, cond-false}
-use Rattle.std.proofs.lemmas.List.{length-map, map-append, nil_from_length}
-use Rattle.std.proofs.lemmas.List.Sums.{sum_by-cons, sum_by-append}
-use Rattle.std.proofs.lemmas.Option.{same_Some}
-use Rattle.std.specs.List.{slice_get, sum_by}
+use Rattle.std.{proofs.lemmas.Bool.{false≢true, cond-true, cond-false}, proofs.lemmas.List.{length-map, map-append, nil_from_length}}
+use Rattle.std.{proofs.lemmas.List.Sums.{sum_by-cons, sum_by-append}, proofs.lemmas.Option.same_Some, specs.List.{slice_get, sum_by}}
 use Rattle.std.specs.Str.{IsUtf8, IsCharBoundary}
-use Rattle.yq_core.specs.Answers.{◌>>=◌}
-use Rattle.yq_core.proofs.Bools.{bind_some, guard_then}
-use Rattle.yq_row_table.specs.Grammar.{unlimited, AreRows, IsCut, no_rows}
-use Rattle.yq_row_table.specs.Offsets.{row_length}
-use Rattle.yq_row_table.specs.Rows.{Row, rows_text, Part, part_text, Cut, last, marked}
-use Rattle.yq_row_table.specs.Splices.{nth_part}
-use Rattle.yq_row_table.specs.View.{Slices, slices, Bound, bounds_from, bounds_of, rows_of, RowsView, rows_view}
-use Rattle.yq_outline.specs.Extents.{bound_length}
+use Rattle.yq_core.{specs.Answers.◌>>=◌, proofs.Bools.{bind_some, guard_then}}
+use Rattle.yq_row_table.{specs.Grammar.{unlimited, AreRows, IsCut, no_rows}, specs.Offsets.row_length}
+use Rattle.yq_row_table.{specs.Rows.{Row, rows_text, Part, part_text, Cut, last, marked}, specs.Splices.nth_part}
+use Rattle.yq_row_table.{specs.View.{Slices, slices, Bound, bounds_from, bounds_of, rows_of, RowsView, rows_view}, specs.RowStarts.part_end}
+use Rattle.yq_outline.{specs.Extents.bound_length, proofs.LengthLaws.part-length}
 use Rattle.yq_documents.specs.PartNumbers.{part_number, document_part, rows_to}
-use Rattle.yq_documents.proofs.PartNumberLaws.{document_found, document_missing, end_agrees}
-use Rattle.yq_places.specs.PlacedRows.{before_part, placed_at, placed_document}
-use Rattle.yq_documents.specs.Reading.{cut_of}
-use Rattle.yq_row_table.specs.RowStarts.{part_end}
-use Rattle.yq_places.specs.RootReading.{if_rowless, rowless_place, rowless_at}
-use Rattle.yq_places.specs.Standings.{NoRows}
-use Rattle.yq_places.proofs.CommentPieceLaws.{gap_end}
-use Rattle.yq_outline.proofs.LengthLaws.{part-length}
-use Rattle.yq_places.proofs.PlacedPartLaws.{map_some, part_stands}
-use Rattle.yq_places.proofs.RemovalLines.{LineSeam, lies_in, seam_join}
-use Rattle.yq_places.proofs.RemovalViewLaws.{line_boundary}
+use Rattle.yq_documents.{proofs.PartNumberLaws.{document_found, document_missing, end_agrees}, specs.Reading.cut_of}
+use Rattle.yq_places.{specs.PlacedRows.{before_part, placed_at, placed_document}, specs.RootReading.{if_rowless, rowless_place, rowless_at}}
+use Rattle.yq_places.{specs.Standings.NoRows, proofs.CommentPieceLaws.gap_end, proofs.PlacedPartLaws.{map_some, part_stands}}
+use Rattle.yq_places.{proofs.RemovalLines.{LineSeam, lies_in, seam_join}, proofs.RemovalViewLaws.line_boundary}
 
 -- ---- the sums of the code
 

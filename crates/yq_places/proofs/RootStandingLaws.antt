@@ -1,32 +1,21 @@
 -- What stands at roots, by the rows that the code has found.
-use Rattle.std.proofs.Common.{◌≡◌, ℕ, ◌+◌, ◌-◌, true, false, cond, List, [], ◌∷◌, ◌++◌, length, replicate, Option, Some, None, option_map, refl, sym, ap, ◌∙◌, subst, arith, append_assoc, append-nil}
-use Rattle.std.proofs.lemmas.Bool.{cond-false, cond-true}
-use Rattle.std.proofs.lemmas.Option.{none-some, same_Some}
-use Rattle.std.specs.List.{slice_get}
-use Rattle.std.specs.Str.{IsUtf8, IsCharBoundary}
+use Rattle.std.proofs.Common.{◌≡◌, ℕ, ◌+◌, ◌-◌, true, false, cond, List, [], ◌∷◌, ◌++◌, length, replicate, Option, Some, None, option_map}
+use Rattle.std.{proofs.Common.{refl, sym, ap, ◌∙◌, subst, arith, append_assoc, append-nil}, proofs.lemmas.Bool.{cond-false, cond-true}}
+use Rattle.std.{proofs.lemmas.Option.{none-some, same_Some}, specs.List.slice_get, specs.Str.{IsUtf8, IsCharBoundary}}
 use Rattle.yq_core.specs.Answers.{◌>>=◌}
-use Rattle.yq_row_table.specs.Grammar.{IsCut, no_rows as has_none}
-use Rattle.yq_row_table.specs.Offsets.{row_length}
+use Rattle.yq_row_table.{specs.Grammar.{IsCut, no_rows as has_none}, specs.Offsets.row_length}
 use Rattle.yq_row_table.specs.Rows.{Part, Row, behind_indent, print_row, rows_text, Cut, cut_text}
 use Rattle.yq_row_table.specs.View.{Slices, slices, RowsView, rows_view}
-use Rattle.yq_documents.specs.Reading.{cut_of}
-use Rattle.yq_documents.specs.LinesInRows.{document_row}
-use Rattle.yq_places.specs.EntryReading.{before_line, line_begin}
-use Rattle.yq_outline.specs.Extents.{row_start}
-use Rattle.yq_places.specs.LineReading.{CutsLines, LinesIn, lines_between, line_list}
-use Rattle.yq_places.specs.PlacedRows.{PlacedPart, placed_document}
-use Rattle.yq_places.specs.RootReading.{if_rowless, rowless_at, rowless_place}
+use Rattle.yq_documents.{specs.Reading.cut_of, specs.LinesInRows.document_row}
+use Rattle.yq_places.{specs.EntryReading.{before_line, line_begin}, specs.LineReading.{CutsLines, LinesIn, lines_between, line_list}}
+use Rattle.yq_places.{specs.PlacedRows.{PlacedPart, placed_document}, specs.RootReading.{if_rowless, rowless_at, rowless_place}}
 use Rattle.yq_places.specs.RowWalk.{document_row_range}
-use Rattle.yq_places.specs.Standings.{NoRows, RowsOfEntry, alone, before_entry, behind_entry, block_root, is_alone, lone, no_rows, root, root_standing, standing_at}
-use Rattle.yq_places.specs.StandingReading.{IsRootOf, root_entry}
-use Rattle.yq_outline.specs.declared.line_position.Stretch.{Stretch}
-use Rattle.yq_places.proofs.EntryRowLaws.{cut_in_two, first_at, pieces_at, stop_boundary, stop_is}
-use Rattle.yq_places.proofs.PlacedPartLaws.{placed_is}
-use Rattle.yq_places.proofs.PlacedRowLaws.{document_placed, part_of}
-use Rattle.yq_places.proofs.RowStarts.{line_begins}
-use Rattle.yq_places.proofs.SeamLaws.{line_boundary}
+use Rattle.yq_places.specs.Standings.{NoRows, RowsOfEntry, alone, before_entry, behind_entry, block_root, is_alone, lone, no_rows, root}
+use Rattle.yq_places.{specs.Standings.{root_standing, standing_at}, specs.StandingReading.{IsRootOf, root_entry}}
+use Rattle.yq_places.{proofs.EntryRowLaws.{cut_in_two, first_at, pieces_at, stop_boundary, stop_is}, proofs.PlacedPartLaws.placed_is}
+use Rattle.yq_places.{proofs.PlacedRowLaws.{document_placed, part_of}, proofs.RowStarts.line_begins, proofs.SeamLaws.line_boundary}
 use Rattle.yq_places.proofs.WalkDocuments.{Found}
-use Rattle.yq_outline.proofs.WalkRows.{rows_length}
+use Rattle.yq_outline.{specs.Extents.row_start, specs.declared.line_position.Stretch.Stretch, proofs.WalkRows.rows_length}
 
 -- ---- documents without rows
 

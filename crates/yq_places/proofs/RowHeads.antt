@@ -1,36 +1,21 @@
 -- The head of a row of a text with its cut, read again.
-use Rattle.std.proofs.Common.{◌≡◌, ℕ, zero, suc, ◌+◌, ◌-◌, ◌<◌, ◌&&◌, Bool, true, List, [], ◌∷◌, ◌++◌, length, take, drop, Some, option_map, refl, sym, ap, ◌∙◌, subst, arith, append_assoc, append-nil, length-append}
-use Rattle.std.proofs.Math.Seq.{take-append_seam, drop-append_seam}
-use Rattle.std.proofs.lemmas.Bool.{and_parts, or_right}
-use Rattle.std.proofs.lemmas.List.{length-take-le, take-append-drop}
-use Rattle.std.proofs.lemmas.Option.{slice_get_within, slice_get-map, same_Some}
-use Rattle.std.proofs.lemmas.Str.{IsCharBoundary-from_take, IsUtf8-append, IsUtf8-drop}
-use Rattle.std.specs.List.{slice_get}
+use Rattle.std.proofs.Common.{◌≡◌, ℕ, zero, suc, ◌+◌, ◌-◌, ◌<◌, ◌&&◌, Bool, true, List, [], ◌∷◌, ◌++◌, length, take, drop, Some, option_map}
+use Rattle.std.proofs.Common.{refl, sym, ap, ◌∙◌, subst, arith, append_assoc, append-nil, length-append}
+use Rattle.std.{proofs.Math.Seq.{take-append_seam, drop-append_seam}, proofs.lemmas.Bool.{and_parts, or_right}}
+use Rattle.std.{proofs.lemmas.List.{length-take-le, take-append-drop}, proofs.lemmas.Option.{slice_get_within, slice_get-map, same_Some}}
+use Rattle.std.{proofs.lemmas.Str.{IsCharBoundary-from_take, IsUtf8-append, IsUtf8-drop}, specs.List.slice_get}
 use Rattle.std.specs.Str.{IsUtf8, IsCharBoundary}
-use Rattle.yq_core.specs.Block.{ends_block, keeps}
-use Rattle.yq_core.specs.declared.block_lines.TextIndent.{TextIndent}
-use Rattle.yq_core.specs.Text.{is_line, text_lines}
-use Rattle.yq_row_table.specs.Exchange.{before_content, behind_row}
-use Rattle.yq_row_table.specs.Grammar.{IsCut, IsRow, Limit}
-use Rattle.yq_row_table.specs.Rows.{Content, Nothing, Inline, Block, Row, Cut, cut_text, parent_indent}
-use Rattle.yq_row_table.specs.Seams.{is_closed, is_seam}
-use Rattle.yq_row_table.specs.View.{Slices, slices, rows_of, RowsView, rows_view}
-use Rattle.yq_row_table.proofs.ItemCuts.{no_gap}
-use Rattle.yq_row_table.proofs.PlaceLaws.{row_in}
+use Rattle.yq_core.{specs.Block.{ends_block, keeps}, specs.declared.block_lines.TextIndent.TextIndent, specs.Text.{is_line, text_lines}}
+use Rattle.yq_row_table.{specs.Exchange.{before_content, behind_row}, specs.Grammar.{IsCut, IsRow, Limit}}
+use Rattle.yq_row_table.{specs.Rows.{Content, Nothing, Inline, Block, Row, Cut, cut_text, parent_indent}, specs.Seams.{is_closed, is_seam}}
+use Rattle.yq_row_table.{specs.View.{Slices, slices, rows_of, RowsView, rows_view}, proofs.ItemCuts.no_gap, proofs.PlaceLaws.row_in}
 use Rattle.yq_row_table.proofs.seams.SeamLaws.{row_seam, plain_before}
-use Rattle.yq_documents.specs.Documents.{document_parts}
-use Rattle.yq_documents.specs.Reading.{mark_is_fit, content_is_fit, have_fit_keys, all_documents}
-use Rattle.yq_documents.specs.RowReading.{HasHead, from_head}
-use Rattle.yq_outline.specs.Extents.{head_place}
-use Rattle.yq_places.specs.RowWalk.{InCut}
-use Rattle.yq_outline.specs.RowWalk.{IsLine}
-use Rattle.yq_outline.specs.declared.line_position.Position.{Position}
-use Rattle.yq_outline.specs.declared.line_position.Stretch.{Stretch}
-use Rattle.yq_documents.proofs.PartRows.{each}
-use Rattle.yq_places.proofs.HeadSpanLaws.{head_span, head_text}
-use Rattle.yq_places.proofs.WalkDocuments.{Found}
+use Rattle.yq_documents.{specs.Documents.document_parts, specs.Reading.{mark_is_fit, content_is_fit, have_fit_keys, all_documents}}
+use Rattle.yq_documents.{specs.RowReading.{HasHead, from_head}, proofs.PartRows.each}
+use Rattle.yq_outline.{specs.Extents.head_place, specs.RowWalk.IsLine, specs.declared.line_position.Position.Position}
+use Rattle.yq_outline.{specs.declared.line_position.Stretch.Stretch, proofs.WalkPositions.located}
+use Rattle.yq_places.{specs.RowWalk.InCut, proofs.HeadSpanLaws.{head_span, head_text}, proofs.WalkDocuments.Found}
 use Rattle.yq_places.proofs.WalkNodes.{row_is as row_at, row_in_cut}
-use Rattle.yq_outline.proofs.WalkPositions.{located}
 
 -- the pieces of a row that is shown
 pub slices_are : (c : Cut) (s : RowsView) (i : ℕ) (x : Slices) (r : Row) → s ≡ rows_view c → slice_get s.rows i ≡ Some x → slice_get (rows_of c) i ≡ Some r → x ≡ slices r

@@ -1,24 +1,16 @@
 -- Where a part of a line stands, by the pieces of its row.
-use Rattle.std.proofs.Common.{◌≡◌, ℕ, suc, ◌+◌, ◌-◌, ◌<◌, ltb, List, [], ◌∷◌, length, Option, Some, None, option_map, Bool, cond, refl, sym, ap, ◌∙◌, subst, rules}
-use Rattle.std.proofs.lemmas.Option.{slice_get_within, slice_get-map, same_Some}
+use Rattle.std.proofs.Common.{◌≡◌, ℕ, suc, ◌+◌, ◌-◌, ◌<◌, ltb, List, [], ◌∷◌, length, Option, Some, None, option_map, Bool, cond, refl, sym}
+use Rattle.std.{proofs.Common.{ap, ◌∙◌, subst, rules}, proofs.lemmas.Option.{slice_get_within, slice_get-map, same_Some}}
 use Rattle.std.specs.List.{slice_get}
 use Rattle.yq_core.specs.Answers.{◌>>=◌}
-use Rattle.yq_row_table.specs.Rows.{Row, Part, Cut}
-use Rattle.yq_row_table.specs.View.{Slices, slices, rows_of, RowsView, rows_view}
-use Rattle.yq_documents.specs.declared.path.Path.{Path}
-use Rattle.yq_documents.specs.Documents.{document_parts}
-use Rattle.yq_outline.specs.Extents.{row_start}
-use Rattle.yq_outline.specs.Lines.{lines_of_rows}
-use Rattle.yq_documents.specs.Located.{steps_of}
-use Rattle.yq_documents.specs.Pieces.{TextPiece, piece_span}
-use Rattle.yq_documents.specs.Reading.{cut_of}
-use Rattle.yq_outline.specs.Ends.{line_at_steps}
-use Rattle.yq_places.specs.RowWalk.{HasCut}
-use Rattle.yq_places.specs.RowLineReading.{LineCounts, numbers}
+use Rattle.yq_row_table.{specs.Rows.{Row, Part, Cut}, specs.View.{Slices, slices, rows_of, RowsView, rows_view}}
+use Rattle.yq_documents.{specs.declared.path.Path.Path, specs.Documents.document_parts, specs.Located.steps_of}
+use Rattle.yq_documents.{specs.Pieces.{TextPiece, piece_span}, specs.Reading.cut_of}
 use Rattle.yq_documents.specs.LinesInRows.{RowLine, behind_one, row_line, row_line_of, row_line_at, document_row}
 use Rattle.yq_documents.proofs.PartRows.{part_begins}
-use Rattle.yq_outline.proofs.KnownLaws.{get_dropped, get_front}
-use Rattle.yq_outline.proofs.Values.{If}
+use Rattle.yq_outline.{specs.Extents.row_start, specs.Lines.lines_of_rows, specs.Ends.line_at_steps}
+use Rattle.yq_outline.{proofs.KnownLaws.{get_dropped, get_front}, proofs.Values.If}
+use Rattle.yq_places.{specs.RowWalk.HasCut, specs.RowLineReading.{LineCounts, numbers}}
 
 -- the row of a line
 row_line_row : (n : ℕ) (rs : List Row) → If (row_line n rs) (λ s. slice_get rs s.before ≡ Some s.row)

@@ -3,17 +3,12 @@ use Rattle.std.proofs.Common.{◌≡◌, List, [], ◌∷◌, Some, true, sym, a
 use Rattle.std.proofs.lemmas.Bool.{and_parts}
 use Rattle.yq_core.specs.Paths.{Step}
 use Rattle.yq_row_table.specs.Rows.{Part}
-use Rattle.yq_outline.specs.Group.{group, level_or, is_fine}
-use Rattle.yq_outline.specs.Laws.{with_lines}
-use Rattle.yq_outline.specs.Lines.{lines_of_rows}
+use Rattle.yq_outline.{specs.Group.{group, level_or, is_fine}, specs.Laws.with_lines, specs.Lines.lines_of_rows}
 use Rattle.yq_outline.specs.Outline.{Line, level, Outline, row, flatten, IsEven, end}
-use Rattle.yq_outline.specs.Places.{plug, FoundLine, find, Context, here, below, beside, lines_after}
-use Rattle.yq_documents.specs.Reading.{is_document}
-use Rattle.yq_outline.proofs.Allowing.{Allows}
-use Rattle.yq_outline.proofs.Decides.{flatten-group, even_from}
-use Rattle.yq_outline.proofs.Finding.{IsFoundIn, path_whole}
-use Rattle.yq_outline.proofs.PlaceLaws.{at, placed}
+use Rattle.yq_outline.{specs.Places.{plug, FoundLine, find, Context, here, below, beside, lines_after}, proofs.Allowing.Allows}
+use Rattle.yq_outline.{proofs.Decides.{flatten-group, even_from}, proofs.Finding.{IsFoundIn, path_whole}, proofs.PlaceLaws.{at, placed}}
 use Rattle.yq_outline.proofs.Plug.{allows_from}
+use Rattle.yq_documents.specs.Reading.{is_document}
 
 -- the lines with the one that was found
 pub found_lines : (ls : List Line) (s : Step) (ss rest : List Step) (f : FoundLine) → find s ss (group ls) ≡ Some (f, rest) → ls ≡ with_lines f (f.line ∷ flatten f.under)

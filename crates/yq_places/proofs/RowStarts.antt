@@ -1,15 +1,10 @@
 -- Where rows and their lines begin, by the pieces of rows.
-use Rattle.yq_outline.proofs.WalkLevels.{to_dash, last_is}
-use Rattle.std.proofs.Common.{◌≡◌, ℕ, ◌+◌, ◌≤◌, length, Some, option_map, refl, sym, ap, ◌∙◌, length-append, rules}
-use Rattle.std.proofs.lemmas.List.{length-replicate}
-use Rattle.std.proofs.lemmas.Option.{slice_get-map}
-use Rattle.std.specs.List.{slice_get}
-use Rattle.yq_row_table.specs.Rows.{Row, Cut}
-use Rattle.yq_row_table.specs.View.{Slices, slices, rows_of, rows_view}
-use Rattle.yq_places.specs.EntryReading.{before_line, row_ending, through_row, line_begin}
-use Rattle.yq_outline.specs.Extents.{row_start, front_length, head_place}
+use Rattle.yq_outline.{proofs.WalkLevels.{to_dash, last_is}, specs.Extents.{row_start, front_length, head_place}}
 use Rattle.yq_outline.proofs.LengthLaws.{head_agrees}
-use Rattle.yq_places.proofs.StartLaws.{start_agrees}
+use Rattle.std.proofs.Common.{◌≡◌, ℕ, ◌+◌, ◌≤◌, length, Some, option_map, refl, sym, ap, ◌∙◌, length-append, rules}
+use Rattle.std.{proofs.lemmas.List.length-replicate, proofs.lemmas.Option.slice_get-map, specs.List.slice_get}
+use Rattle.yq_row_table.{specs.Rows.{Row, Cut}, specs.View.{Slices, slices, rows_of, rows_view}}
+use Rattle.yq_places.{specs.EntryReading.{before_line, row_ending, through_row, line_begin}, proofs.StartLaws.start_agrees}
 
 -- where the head of a row stands, by where the row begins
 pub head_is : (c : Cut) (i : ℕ) (r : Row) → slice_get (rows_of c) i ≡ Some r → head_place i c r ≡ (row_start i (rows_view c) + front_length (slices r), row_start i (rows_view c) + front_length (slices r) + length (slices r).head)

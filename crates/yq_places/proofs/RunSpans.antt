@@ -1,32 +1,24 @@
 -- What the code answers for a content, an entry or an item is the span of its piece.
-use Rattle.std.proofs.Common.{◌≡◌, ◌⊎◌, ℕ, zero, suc, ◌+◌, ◌<◌, ◌≤◌, List, [], ◌∷◌, ◌++◌, length, take, drop, Option, Some, option_map, true, refl, sym, ap, ◌∙◌, arith, append_assoc, length-append, replicate, rules}
-use Rattle.std.proofs.Math.Seq.{take-add}
-use Rattle.std.proofs.lemmas.Bool.{cases_lt}
-use Rattle.std.proofs.lemmas.Option.{slice_get-map, slice_get_within, none-some, same_Some}
+use Rattle.std.proofs.Common.{◌≡◌, ◌⊎◌, ℕ, zero, suc, ◌+◌, ◌<◌, ◌≤◌, List, [], ◌∷◌, ◌++◌, length, take, drop, Option, Some, option_map}
+use Rattle.std.{proofs.Common.{true, refl, sym, ap, ◌∙◌, arith, append_assoc, length-append, replicate, rules}, proofs.Math.Seq.take-add}
+use Rattle.std.{proofs.lemmas.Bool.cases_lt, proofs.lemmas.Option.{slice_get-map, slice_get_within, none-some, same_Some}}
 use Rattle.std.specs.List.{slice_get}
-use Rattle.yq_core.specs.Answers.{◌>>=◌}
-use Rattle.yq_core.specs.Tree as tree
-use Rattle.yq_core.specs.Nodes.{FlowNode, empty, scalar, coll, anchored, node_text, takes_anchor, IsFlowNode}
-use Rattle.yq_row_table.specs.Exchange.{row_front, before_content}
-use Rattle.yq_row_table.specs.Rows as rows
-use Rattle.yq_row_table.specs.Rows.{Content, Nothing, Inline, Block, dashes_text, mark_text, anchor_text, Row, rows_text, Part, Cut}
-use Rattle.yq_row_table.specs.View.{anchor_cut, anchor_with_sign, apart_of, content_cut, rows_of}
-use Rattle.yq_row_table.proofs.PlaceLaws.{part_then}
-use Rattle.yq_outline.proofs.KnownLaws.{get_dropped}
-use Rattle.yq_places.specs.EntryReading.{before_line, through_row, lines_place, head_end, head_extent, line_head}
-use Rattle.yq_outline.specs.Lines.{head_of, lines_of_rows}
+use Rattle.yq_core.{specs.Answers.◌>>=◌, specs.Nodes.{FlowNode, empty, scalar, coll, anchored, node_text, takes_anchor, IsFlowNode}}
 use Rattle.yq_core.specs.Trees.{node_head}
-use Rattle.yq_places.specs.CommentReading.{before_row}
-use Rattle.yq_documents.specs.LinesInRows.{RowLine, row_line}
-use Rattle.yq_places.proofs.EntryPlaceLaws.{row_there}
-use Rattle.yq_places.proofs.DashLineLaws.{row_line_found}
+use Rattle.yq_row_table.specs.Exchange.{row_front, before_content}
+use Rattle.yq_row_table.specs.Rows.{Content, Nothing, Inline, Block, dashes_text, mark_text, anchor_text, Row, rows_text, Part, Cut}
+use Rattle.yq_row_table.{specs.View.{anchor_cut, anchor_with_sign, apart_of, content_cut, rows_of}, proofs.PlaceLaws.part_then}
+use Rattle.yq_outline.{proofs.KnownLaws.get_dropped, specs.Lines.{head_of, lines_of_rows}}
+use Rattle.yq_places.specs.EntryReading.{before_line, through_row, lines_place, head_end, head_extent, line_head}
+use Rattle.yq_places.{specs.CommentReading.before_row, proofs.EntryPlaceLaws.row_there, proofs.DashLineLaws.row_line_found}
 use Rattle.yq_places.proofs.StartLaws.{front_in}
-use Rattle.yq_documents.specs.Pieces.{TextPiece, piece_span, node_piece, head_piece}
-use Rattle.yq_places.specs.PrintedLines.{line_front, less_end, PrintedLine, print_line, print_lines, printed_lines, line_in, run_text, run_piece}
-use Rattle.yq_places.specs.PathPieces.{PrintedDocument}
-use Rattle.yq_places.proofs.PrintedTexts.{lines_then, lines_append}
+use Rattle.yq_places.specs.PrintedLines.{line_front, less_end, PrintedLine, print_line, print_lines, printed_lines, line_in, run_text}
+use Rattle.yq_places.{specs.PrintedLines.run_piece, specs.PathPieces.PrintedDocument, proofs.PrintedTexts.{lines_then, lines_append}}
 use Rattle.yq_places.proofs.PrintedLaws.{IsValid, IsWritten, IsPrinted, lines_are}
 use Rattle.yq_places.proofs.PrintedRowLines.{row_begin, IsPrintedLine, printed_line, IsPlaced}
+use Rattle.yq_documents.{specs.LinesInRows.{RowLine, row_line}, specs.Pieces.{TextPiece, piece_span, node_piece, head_piece}}
+use Rattle.yq_core.specs.Tree as tree
+use Rattle.yq_row_table.specs.Rows as rows
 
 -- an anchor with the white space behind it, and what is behind that
 abbrev front_of : FlowNode → List ℕ

@@ -1,22 +1,17 @@
 -- Rows and their lines begin at whole characters.
-use Rattle.std.proofs.Common.{◌≡◌, ◌⊎◌, inl, inr, ℕ, zero, suc, ◌-◌, ◌<◌, ◌≤◌, ltb, List, [], ◌∷◌, ◌++◌, length, take, drop, replicate, ℤ, Some, Bool, true, false, refl, sym, ap, ◌∙◌, subst, arith, append-nil, append_assoc, rules}
-use Rattle.std.proofs.lemmas.Bool.{cases_lt, lt-ltb, le-ltb}
-use Rattle.std.proofs.lemmas.List.{take-append-drop}
-use Rattle.std.proofs.lemmas.Str.{IsCharBoundary-start}
-use Rattle.std.specs.List.{slice_get}
-use Rattle.std.specs.Str.{IsUtf8, IsCharBoundary}
+use Rattle.std.proofs.Common.{◌≡◌, ◌⊎◌, inl, inr, ℕ, zero, suc, ◌-◌, ◌<◌, ◌≤◌, ltb, List, [], ◌∷◌, ◌++◌, length, take, drop, replicate, ℤ}
+use Rattle.std.proofs.Common.{Some, Bool, true, false, refl, sym, ap, ◌∙◌, subst, arith, append-nil, append_assoc, rules}
+use Rattle.std.{proofs.lemmas.Bool.{cases_lt, lt-ltb, le-ltb}, proofs.lemmas.List.take-append-drop, proofs.lemmas.Str.IsCharBoundary-start}
+use Rattle.std.{specs.List.slice_get, specs.Str.{IsUtf8, IsCharBoundary}}
 use Rattle.yq_core.proofs.BlockPieceLaws.{IsLf, append_lf, raw_lf}
-use Rattle.yq_row_table.specs.Exchange.{text_after_row, behind_row}
-use Rattle.yq_row_table.specs.Gap.{IsGap}
+use Rattle.yq_row_table.{specs.Exchange.{text_after_row, behind_row}, specs.Gap.IsGap}
 use Rattle.yq_row_table.specs.Grammar.{IsContent, Limit, unlimited, limit_after, IsRow, AreRows, IsMarkerLine, AreParts, begins_document}
-use Rattle.yq_row_table.specs.Rows.{Content, Row, behind_dashes, behind_gap, dashes_text, print_row, rows_text, parent_indent, part_text, Cut, last, marked, cut_text}
-use Rattle.yq_row_table.specs.View.{content_cut, Slices, slices, rows_of}
+use Rattle.yq_row_table.specs.Rows.{Content, Row, behind_dashes, behind_gap, dashes_text, print_row, rows_text, parent_indent, part_text}
+use Rattle.yq_row_table.{specs.Rows.{Cut, last, marked, cut_text}, specs.View.{content_cut, Slices, slices, rows_of}}
 use Rattle.yq_row_table.proofs.ExchangeLaws.{slice_front, slice_back}
 use Rattle.yq_row_table.proofs.NodePieces.{EndsAscii, ends_behind, BeginsAscii, before_ascii, behind_ascii}
-use Rattle.yq_row_table.proofs.PlaceLaws.{row_then, part_then, row_in}
-use Rattle.yq_row_table.proofs.SliceLaws.{slices_are}
-use Rattle.yq_places.specs.EntryReading.{before_line}
-use Rattle.yq_places.specs.CommentReading.{before_row}
+use Rattle.yq_row_table.{proofs.PlaceLaws.{row_then, part_then, row_in}, proofs.SliceLaws.slices_are}
+use Rattle.yq_places.{specs.EntryReading.before_line, specs.CommentReading.before_row}
 use Rattle.yq_places.proofs.CommentPieceLaws.{Ended, tail_end, content_end, gap_end, row_place}
 
 -- a text ends between characters before a rest: it is empty, or its last byte is ASCII, or nothing is behind it

@@ -1,27 +1,19 @@
 -- What stands at items and entries, by the rows that the code has found.
-use Rattle.std.proofs.Common.{◌≡◌, ℕ, suc, ◌+◌, ◌<◌, eqb, Bool, true, false, ◌&&◌, List, [], ◌∷◌, ◌++◌, length, length-append, map, Option, Some, None, option_map, refl, sym, ap, ◌∙◌, arith, append_assoc}
+use Rattle.std.proofs.Common.{◌≡◌, ℕ, suc, ◌+◌, ◌<◌, eqb, Bool, true, false, ◌&&◌, List, [], ◌∷◌, ◌++◌, length, length-append, map, Option}
+use Rattle.std.proofs.Common.{Some, None, option_map, refl, sym, ap, ◌∙◌, arith, append_assoc}
 use Rattle.std.proofs.lemmas.Bool.{cond-false, cond-true, eq-eqb, false≢true, ne_eqb}
-use Rattle.yq_core.specs.Answers.{◌>>=◌}
-use Rattle.yq_core.specs.Block.{BlockText}
-use Rattle.yq_core.specs.Paths.{Step}
-use Rattle.yq_core.specs.Text.{is_empty}
-use Rattle.yq_outline.specs.Positions.{has_no_mark}
-use Rattle.yq_row_table.specs.Grammar.{IsMark}
-use Rattle.yq_row_table.specs.Removal.{block_numbers, block_of}
-use Rattle.yq_row_table.specs.Rows as rows
+use Rattle.yq_core.{specs.Answers.◌>>=◌, specs.Block.BlockText, specs.Paths.Step, specs.Text.is_empty}
+use Rattle.yq_outline.{specs.Positions.has_no_mark, specs.Lines.line_mark, proofs.RowLaws.colon_some}
+use Rattle.yq_row_table.{specs.Grammar.IsMark, specs.Removal.{block_numbers, block_of}}
 use Rattle.yq_row_table.specs.Rows.{Content, Nothing, Inline, Block, Row, dashes_text, print_row, rows_text, Cut}
-use Rattle.yq_row_table.specs.View.{Slices, slices, colon_of, content_cut, last_dash, RowsView}
-use Rattle.yq_row_table.proofs.seams.SeamLaws.{rows_text-append}
-use Rattle.yq_outline.specs.Lines.{line_mark}
+use Rattle.yq_row_table.{specs.View.{Slices, slices, colon_of, content_cut, last_dash, RowsView}, proofs.seams.SeamLaws.rows_text-append}
 use Rattle.yq_documents.specs.Reading.{cut_of}
-use Rattle.yq_outline.proofs.RowLaws.{colon_some}
-use Rattle.yq_places.specs.Standings.{RowsOfEntry, alone, before_entry, behind_entry, behind_mark, below, beside, block, compact, compact_in, entry_standing, held, is_alone, lone, rows_of_entry, standing_at, under}
-use Rattle.yq_places.specs.StandingReading.{AreRowsOf, IsEntryIn, numbers_at}
-use Rattle.yq_places.specs.StandingViews.{held_at, held_if_last}
+use Rattle.yq_places.specs.Standings.{RowsOfEntry, alone, before_entry, behind_entry, behind_mark, below, beside, block, compact}
+use Rattle.yq_places.specs.Standings.{compact_in, entry_standing, held, is_alone, lone, rows_of_entry, standing_at, under}
+use Rattle.yq_places.{specs.StandingReading.{AreRowsOf, IsEntryIn, numbers_at}, specs.StandingViews.{held_at, held_if_last}}
+use Rattle.yq_places.{proofs.EntryNumbers.{FoundEntry, no_entry}, proofs.LinesCutLaws.none_is, proofs.RemovalTexts.texts_then}
+use Rattle.yq_row_table.specs.Rows as rows
 use Rattle.yq_places.specs.declared.places.rows_of_entry.RowsOfEntry as declared
-use Rattle.yq_places.proofs.EntryNumbers.{FoundEntry, no_entry}
-use Rattle.yq_places.proofs.LinesCutLaws.{none_is}
-use Rattle.yq_places.proofs.RemovalTexts.{texts_then}
 
 -- ---- a node that is alone on its line
 

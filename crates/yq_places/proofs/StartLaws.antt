@@ -1,16 +1,12 @@
 -- Where rows begin, by their pieces.
-use Rattle.std.proofs.Common.{◌≡◌, ◌⊎◌, ℕ, zero, suc, ◌+◌, ◌-◌, ◌<◌, ◌≤◌, List, [], ◌∷◌, length, take, Some, option_map, refl, ap, ◌∙◌, arith, length-append, rules}
-use Rattle.std.proofs.lemmas.Bool.{cases_lt, lt-ltb, le-ltb, cond-true, cond-false}
-use Rattle.std.proofs.lemmas.Option.{slice_get-map}
-use Rattle.std.specs.List.{slice_get}
-use Rattle.yq_row_table.specs.Exchange.{row_front, before_at, before_content}
-use Rattle.yq_row_table.specs.Rows.{Row, rows_text, Cut, last, marked}
-use Rattle.yq_row_table.specs.View.{Slices, slices, rows_of, rows_view}
-use Rattle.yq_row_table.proofs.ExchangeLaws.{slice_front, slice_back}
-use Rattle.yq_outline.specs.Extents.{row_start, front_length, head_place}
-use Rattle.yq_places.specs.CommentReading.{before_row}
-use Rattle.yq_outline.proofs.LengthLaws.{part-length, front-length, head_agrees}
+use Rattle.std.proofs.Common.{◌≡◌, ◌⊎◌, ℕ, zero, suc, ◌+◌, ◌-◌, ◌<◌, ◌≤◌, List, [], ◌∷◌, length, take, Some, option_map, refl, ap, ◌∙◌}
+use Rattle.std.{proofs.Common.{arith, length-append, rules}, proofs.lemmas.Bool.{cases_lt, lt-ltb, le-ltb, cond-true, cond-false}}
+use Rattle.std.{proofs.lemmas.Option.slice_get-map, specs.List.slice_get}
+use Rattle.yq_row_table.{specs.Exchange.{row_front, before_at, before_content}, specs.Rows.{Row, rows_text, Cut, last, marked}}
+use Rattle.yq_row_table.{specs.View.{Slices, slices, rows_of, rows_view}, proofs.ExchangeLaws.{slice_front, slice_back}}
 use Rattle.yq_row_table.proofs.SliceLaws.{print-length}
+use Rattle.yq_outline.{specs.Extents.{row_start, front_length, head_place}, proofs.LengthLaws.{part-length, front-length, head_agrees}}
+use Rattle.yq_places.specs.CommentReading.{before_row}
 
 -- the text before a row's content is that before the row, and the row's front
 front_at : (rows : List Row) (i : ℕ) (r : Row) → slice_get rows i ≡ Some r → length (before_at i rows) ≡ length (rows_text (take i rows) []) + length (row_front r)

@@ -1,24 +1,18 @@
 -- The steps of a document, row by row.
-use Rattle.std.proofs.Common.{◌≡◌, ◌⊎◌, inl, inr, ℕ, suc, ◌+◌, ◌-◌, ◌*◌, ◌/◌, ◌%◌, ◌<◌, ◌≤◌, eqb, ltb, ◌&&◌, Bool, true, false, cond, List, [], ◌∷◌, ◌++◌, length, drop, Some, refl, sym, ap, ◌∙◌, arith}
-use Rattle.std.proofs.lemmas.Bool.{cases_Bool, eq-eqb, ne_eqb, ltb-true}
-use Rattle.std.proofs.lemmas.Option.{same_Some}
-use Rattle.std.specs.List.{slice_get}
-use Rattle.yq_outline.specs.Comments as comments
+use Rattle.std.proofs.Common.{◌≡◌, ◌⊎◌, inl, inr, ℕ, suc, ◌+◌, ◌-◌, ◌*◌, ◌/◌, ◌%◌, ◌<◌, ◌≤◌, eqb, ltb, ◌&&◌, Bool, true, false, cond, List}
+use Rattle.std.proofs.Common.{[], ◌∷◌, ◌++◌, length, drop, Some, refl, sym, ap, ◌∙◌, arith}
+use Rattle.std.{proofs.lemmas.Bool.{cases_Bool, eq-eqb, ne_eqb, ltb-true}, proofs.lemmas.Option.same_Some, specs.List.slice_get}
 use Rattle.yq_outline.specs.Outline.{LineMark, Bare, Key, Dash, Line, level, rank}
-use Rattle.yq_row_table.specs.Rows as rows
-use Rattle.yq_row_table.specs.Rows.{Content, Row, Cut}
-use Rattle.yq_row_table.specs.View.{Slices, slices, RowsView}
-use Rattle.yq_outline.specs.Lines.{dash_line, lines_from, row_lines, lines_of_rows}
-use Rattle.yq_outline.specs.Extents.{lines_before_mark}
-use Rattle.yq_outline.specs.RowWalk.{HasRows, line_level}
+use Rattle.yq_outline.{specs.Lines.{dash_line, lines_from, row_lines, lines_of_rows}, specs.Extents.lines_before_mark}
+use Rattle.yq_outline.{specs.RowWalk.{HasRows, line_level}, specs.declared.line_position.Stretch.Stretch, proofs.EndsLaws.drop_at}
+use Rattle.yq_outline.{proofs.WalkLevels.{RowAgrees, line_in, level_is}, proofs.WalkPositions.{Located, located}}
+use Rattle.yq_row_table.{specs.Rows.{Content, Row, Cut}, specs.View.{Slices, slices, RowsView}}
 use Rattle.yq_places.specs.StepReading.{begins_under_level}
-use Rattle.yq_places.specs.Steps as spec
 use Rattle.yq_places.specs.Steps.{IndentSteps, steps_in, steps_of_part, document_steps, is_key, is_kind, first_step}
-use Rattle.yq_outline.specs.declared.line_position.Stretch.{Stretch}
-use Rattle.yq_outline.proofs.EndsLaws.{drop_at}
 use Rattle.yq_places.proofs.WalkDocuments.{Found}
-use Rattle.yq_outline.proofs.WalkLevels.{RowAgrees, line_in, level_is}
-use Rattle.yq_outline.proofs.WalkPositions.{Located, located}
+use Rattle.yq_outline.specs.Comments as comments
+use Rattle.yq_row_table.specs.Rows as rows
+use Rattle.yq_places.specs.Steps as spec
 
 -- the step of the first collection that begins under a key, in lines behind one of a level
 abbrev pub step_behind : (dashes : Bool) → ℕ → List Line → ℕ

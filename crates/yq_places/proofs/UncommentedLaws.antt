@@ -1,16 +1,12 @@
 -- Nothing is told of comments in heads.
 use Rattle.std.proofs.Common.{◌≡◌, ℕ, Bool, cond, List, [], ◌∷◌, Option, Some, None, option_and_then, refl, rules}
 use Rattle.yq_core.specs.Tree.{Label, Node, alias, scalar, list, map, Children, none, child, children_of}
-use Rattle.yq_core.specs.Paths.{Step, is_here, further}
-use Rattle.yq_core.specs.Nodes as inline
-use Rattle.yq_core.specs.Nodes.{Items, item}
+use Rattle.yq_core.{specs.Paths.{Step, is_here, further}, specs.Nodes.{Items, item}}
 use Rattle.yq_core.specs.Trees.{tree_of, items_tree, tree_collection, with_name, node_head}
 use Rattle.yq_row_table.specs.Rows.{Content}
-use Rattle.yq_outline.specs.Labelled.{Labelled, labelled_at, labelled_from}
-use Rattle.yq_outline.specs.Lines.{head_of}
-use Rattle.yq_outline.specs.Outline.{anchored}
-use Rattle.yq_outline.proofs.LabelPaths.{reach}
-use Rattle.yq_outline.proofs.Values.{If}
+use Rattle.yq_outline.{specs.Labelled.{Labelled, labelled_at, labelled_from}, specs.Lines.head_of, specs.Outline.anchored}
+use Rattle.yq_outline.{proofs.LabelPaths.reach, proofs.Values.If}
+use Rattle.yq_core.specs.Nodes as inline
 
 -- a label without comments
 abbrev pub HasNone : Label → Type 0

@@ -1,14 +1,12 @@
 -- How many lines are under one that was found.
-use Rattle.std.proofs.Common.{◌≡◌, ℕ, suc, ◌+◌, ◌<◌, ◌≤◌, ltb, List, [], ◌∷◌, ◌++◌, length, drop, Some, Bool, true, cond, refl, ap, ◌∙◌, arith, append_assoc, length-append, rules}
+use Rattle.std.proofs.Common.{◌≡◌, ℕ, suc, ◌+◌, ◌<◌, ◌≤◌, ltb, List, [], ◌∷◌, ◌++◌, length, drop, Some, Bool, true, cond, refl, ap, ◌∙◌}
+use Rattle.std.proofs.Common.{arith, append_assoc, length-append, rules}
 use Rattle.std.proofs.lemmas.Bool.{ltb-true, ltb-false, lt-ltb, le-ltb, cond-true, cond-false}
-use Rattle.std.proofs.lemmas.Option.{none-some, same_Some}
-use Rattle.std.specs.List.{slice_get}
+use Rattle.std.{proofs.lemmas.Option.{none-some, same_Some}, specs.List.slice_get}
 use Rattle.yq_core.specs.Paths.{Step}
-use Rattle.yq_outline.specs.Ends.{deeper_count, lines_end}
-use Rattle.yq_outline.specs.Group.{group, level_or, is_fine}
+use Rattle.yq_outline.{specs.Ends.{deeper_count, lines_end}, specs.Group.{group, level_or, is_fine}}
 use Rattle.yq_outline.specs.Outline.{Line, level, Outline, end, row, flatten, IsEven}
-use Rattle.yq_outline.specs.Places.{Context, here, below, beside, lines_before, lines_after, FoundLine, find}
-use Rattle.yq_outline.proofs.Allowing.{Allows}
+use Rattle.yq_outline.{specs.Places.{Context, here, below, beside, lines_before, lines_after, FoundLine, find}, proofs.Allowing.Allows}
 use Rattle.yq_outline.proofs.LineEnds.{end_behind}
 use Rattle.yq_places.proofs.RowPathLaws.{found_lines, found_place}
 

@@ -1,31 +1,19 @@
 -- The rows of documents among those of a text.
-use Rattle.std.proofs.Common.{◌≡◌, ℕ, zero, suc, ◌+◌, ◌-◌, ◌<◌, ◌≤◌, List, [], ◌∷◌, ◌++◌, length, take, drop, Option, Some, None, option_map, true, refl, sym, ap, ◌∙◌, arith, length-append, Bool}
-use Rattle.std.proofs.lemmas.Bool.{lt-ltb, le-ltb, cond-true, cond-false}
-use Rattle.std.proofs.lemmas.Option.{same_Some}
-use Rattle.std.specs.List.{slice_get}
-use Rattle.yq_core.specs.Answers.{◌>>=◌}
-use Rattle.yq_core.specs.Paths.{Step}
-use Rattle.yq_outline.specs.Ends.{line_at_steps}
-use Rattle.yq_row_table.specs.Grammar.{IsCut}
-use Rattle.yq_row_table.specs.Rows.{Row, Part, Cut}
-use Rattle.yq_row_table.specs.Splices.{nth_part}
+use Rattle.std.proofs.Common.{◌≡◌, ℕ, zero, suc, ◌+◌, ◌-◌, ◌<◌, ◌≤◌, List, [], ◌∷◌, ◌++◌, length, take, drop, Option, Some, None}
+use Rattle.std.proofs.Common.{option_map, true, refl, sym, ap, ◌∙◌, arith, length-append, Bool}
+use Rattle.std.{proofs.lemmas.Bool.{lt-ltb, le-ltb, cond-true, cond-false}, proofs.lemmas.Option.same_Some, specs.List.slice_get}
+use Rattle.yq_core.{specs.Answers.◌>>=◌, specs.Paths.Step}
+use Rattle.yq_outline.{specs.Ends.line_at_steps, specs.Lines.{row_lines, lines_of_rows}, proofs.RowLaws.lines_count}
+use Rattle.yq_outline.{specs.RowWalk.{HasDocument, stretch_view}, specs.declared.line_position.Stretch.Stretch}
+use Rattle.yq_row_table.{specs.Grammar.IsCut, specs.Rows.{Row, Part, Cut}, specs.Splices.nth_part}
 use Rattle.yq_row_table.specs.View.{Bound, rows_of, RowsView, rows_view}
-use Rattle.yq_documents.specs.Documents.{document_parts}
-use Rattle.yq_outline.specs.Lines.{row_lines, lines_of_rows}
-use Rattle.yq_documents.proofs.PartRows.{document_has, part_begins}
-use Rattle.yq_outline.proofs.RowLaws.{lines_count}
-use Rattle.yq_documents.specs.LinesInRows.{behind_one, row_line, row_line_of, row_line_at, document_row, RowLine, line_has_room, row_line_has_room}
-use Rattle.yq_documents.specs.PartNumbers.{document_part, rows_to}
-use Rattle.yq_documents.proofs.PartNumberLaws.{part_there, document_found, document_missing, end_agrees}
-use Rattle.yq_documents.specs.declared.path.Path.{Path}
-use Rattle.yq_documents.specs.Located.{steps_of}
-use Rattle.yq_documents.specs.Reading.{all_documents}
-use Rattle.yq_outline.specs.RowWalk.{HasDocument, stretch_view}
-use Rattle.yq_outline.specs.declared.line_position.Stretch.{Stretch}
-use Rattle.yq_documents.specs.declared.path.Part.{Part as Place}
+use Rattle.yq_documents.{specs.Documents.document_parts, proofs.PartRows.{document_has, part_begins}}
+use Rattle.yq_documents.specs.LinesInRows.{behind_one, row_line, row_line_of, row_line_at, document_row, RowLine, line_has_room}
+use Rattle.yq_documents.{specs.LinesInRows.row_line_has_room, specs.PartNumbers.{document_part, rows_to}}
+use Rattle.yq_documents.{proofs.PartNumberLaws.{part_there, document_found, document_missing, end_agrees}, specs.declared.path.Path.Path}
+use Rattle.yq_documents.{specs.Located.steps_of, specs.Reading.all_documents, specs.declared.path.Part.Part as Place}
+use Rattle.yq_places.{specs.RowWalk.{InCut, document_row_range}, specs.RowLineReading.{LineCounts, numbers}}
 use Rattle.yq_outline.specs.Comments as comments
-use Rattle.yq_places.specs.RowWalk.{InCut, document_row_range}
-use Rattle.yq_places.specs.RowLineReading.{LineCounts, numbers}
 
 -- the rows of a document, by the number of its part
 pub rows_known : (c : Cut) (s : RowsView) (n k first : ℕ) (b : Bound) → s ≡ rows_view c → Some k ≡ document_part n c → first ≡ rows_to k c → slice_get s.bounds k ≡ Some b → Some (first, b.rows) ≡ document_row_range n c

@@ -1,22 +1,13 @@
 -- Lines of a document from one up to another one, and their place.
-use Rattle.std.proofs.Common.{◌≡◌, ℕ, suc, ◌+◌, ◌-◌, ◌<◌, List, length, take, Option, Some, sym, ap, ◌∙◌, arith}
-use Rattle.std.specs.List.{slice_get}
+use Rattle.std.{proofs.Common.{◌≡◌, ℕ, suc, ◌+◌, ◌-◌, ◌<◌, List, length, take, Option, Some, sym, ap, ◌∙◌, arith}, specs.List.slice_get}
 use Rattle.yq_core.specs.Answers.{◌>>=◌}
-use Rattle.yq_row_table.specs.Rows.{Row, Cut}
-use Rattle.yq_row_table.specs.View.{Slices, slices, rows_of, RowsView}
-use Rattle.yq_outline.specs.Lines.{lines_of_rows}
+use Rattle.yq_row_table.{specs.Rows.{Row, Cut}, specs.View.{Slices, slices, rows_of, RowsView}}
+use Rattle.yq_outline.{specs.Lines.lines_of_rows, specs.Extents.row_start, specs.RowWalk.{HasRows, IsLine, AreLinesTo, line_number}}
+use Rattle.yq_outline.{specs.declared.line_position.Position.Position, specs.declared.line_position.Stretch.Stretch}
+use Rattle.yq_outline.{proofs.WalkEnds.lines_upto, proofs.WalkPositions.{located, position_line}}
 use Rattle.yq_documents.specs.LinesInRows.{RowLine, row_line}
-use Rattle.yq_places.specs.EntryReading.{before_line, through_row, lines_place, line_begin}
-use Rattle.yq_outline.specs.Extents.{row_start}
-use Rattle.yq_outline.specs.RowWalk.{HasRows, IsLine, AreLinesTo, line_number}
-use Rattle.yq_places.specs.RowWalk.{InCut}
-use Rattle.yq_outline.specs.declared.line_position.Position.{Position}
-use Rattle.yq_outline.specs.declared.line_position.Stretch.{Stretch}
-use Rattle.yq_places.proofs.RowStarts.{line_begins}
-use Rattle.yq_places.proofs.WalkDocuments.{row_line_number}
-use Rattle.yq_outline.proofs.WalkEnds.{lines_upto}
-use Rattle.yq_places.proofs.WalkNodes.{row_line_is, row_in_cut}
-use Rattle.yq_outline.proofs.WalkPositions.{located, position_line}
+use Rattle.yq_places.{specs.EntryReading.{before_line, through_row, lines_place, line_begin}, specs.RowWalk.InCut}
+use Rattle.yq_places.{proofs.RowStarts.line_begins, proofs.WalkDocuments.row_line_number, proofs.WalkNodes.{row_line_is, row_in_cut}}
 
 -- the first of lines is one, where there are any
 first_line : (s : RowsView) (d : Stretch) (p q : Position) → AreLinesTo s d p q → p.row < q.row → IsLine s d p

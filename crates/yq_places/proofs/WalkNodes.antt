@@ -1,27 +1,17 @@
 -- What stands under a line or a document, and in which row of a cut a line is.
-use Rattle.std.proofs.Common.{◌≡◌, ◌⊎◌, inl, inr, ℕ, suc, ◌+◌, ◌-◌, ◌<◌, ◌≤◌, eqb, Bool, true, false, cond, not, List, [], ◌∷◌, length, drop, get_or, Option, Some, None, refl, sym, ap, ◌∙◌, arith}
+use Rattle.std.proofs.Common.{◌≡◌, ◌⊎◌, inl, inr, ℕ, suc, ◌+◌, ◌-◌, ◌<◌, ◌≤◌, eqb, Bool, true, false, cond, not, List, [], ◌∷◌, length}
+use Rattle.std.proofs.Common.{drop, get_or, Option, Some, None, refl, sym, ap, ◌∙◌, arith}
 use Rattle.std.proofs.lemmas.Bool.{cases_lt, false≢true, eq-eqb, ne_eqb, eqb-true, lt-ltb, le-ltb, cond-true, cond-false}
-use Rattle.std.proofs.lemmas.List.{drop_all}
-use Rattle.std.proofs.lemmas.Option.{slice_get_cases}
-use Rattle.std.specs.List.{slice_get}
-use Rattle.yq_core.specs.Answers.{◌>>=◌}
-use Rattle.yq_core.specs.Paths.{Step}
-use Rattle.yq_outline.specs.Ends.{has_no_lines, part, deeper_count, lines_end}
-use Rattle.yq_outline.specs.Group.{deeper_lines, group}
-use Rattle.yq_outline.specs.Outline.{Line, level}
-use Rattle.yq_outline.proofs.EndsLaws.{drop_at, not_end, part_row, part_stop}
-use Rattle.yq_outline.proofs.LineEnds.{end_line}
-use Rattle.yq_outline.proofs.NameLaws.{above}
-use Rattle.yq_row_table.specs.Rows.{Row, Cut}
-use Rattle.yq_row_table.specs.View.{rows_of, RowsView}
-use Rattle.yq_documents.specs.LinesInRows.{RowLine, row_line}
-use Rattle.yq_places.specs.RowWalk.{InCut}
-use Rattle.yq_outline.specs.RowWalk.{IsLine, line_number, lines_stop}
-use Rattle.yq_outline.specs.declared.line_position.Position.{Position}
-use Rattle.yq_outline.specs.declared.line_position.Stretch.{Stretch}
-use Rattle.yq_places.proofs.EntryPlaceLaws.{row_there}
-use Rattle.yq_places.proofs.WalkDocuments.{row_line_number}
+use Rattle.std.{proofs.lemmas.List.drop_all, proofs.lemmas.Option.slice_get_cases, specs.List.slice_get}
+use Rattle.yq_core.{specs.Answers.◌>>=◌, specs.Paths.Step}
+use Rattle.yq_outline.{specs.Ends.{has_no_lines, part, deeper_count, lines_end}, specs.Group.{deeper_lines, group}}
+use Rattle.yq_outline.{specs.Outline.{Line, level}, proofs.EndsLaws.{drop_at, not_end, part_row, part_stop}, proofs.LineEnds.end_line}
+use Rattle.yq_outline.{proofs.NameLaws.above, specs.RowWalk.{IsLine, line_number, lines_stop}}
+use Rattle.yq_outline.{specs.declared.line_position.Position.Position, specs.declared.line_position.Stretch.Stretch}
 use Rattle.yq_outline.proofs.WalkPositions.{located}
+use Rattle.yq_row_table.{specs.Rows.{Row, Cut}, specs.View.{rows_of, RowsView}}
+use Rattle.yq_documents.specs.LinesInRows.{RowLine, row_line}
+use Rattle.yq_places.{specs.RowWalk.InCut, proofs.EntryPlaceLaws.row_there, proofs.WalkDocuments.row_line_number}
 
 -- lines that are deeper than a level end where they begin exactly where there are none
 pub stops_here : (ls : List Line) (n floor : ℕ) → eqb n (lines_stop n floor ls) ≡ has_no_lines (part ls n floor)

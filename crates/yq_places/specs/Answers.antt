@@ -1,7 +1,6 @@
 -- What an answer says of bytes that are no text.
 use Rattle.std.specs.Prelude.{◌≡◌, Result, Ok, Err}
-use Rattle.yq_core.specs.declared.fault.FaultKind.TheVariants.{NotUtf8}
-use Rattle.yq_core.specs.declared.fault.ReadError.{ReadError}
+use Rattle.yq_core.{specs.declared.fault.FaultKind.TheVariants.NotUtf8, specs.declared.fault.ReadError.ReadError}
 use Rattle.yq_core.specs.declared.fault.ReadError.TheVariants as error
 
 -- the bytes are refused because they are not UTF-8 (YAML 1.2.2, section 5.2)

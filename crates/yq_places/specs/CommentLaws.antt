@@ -1,17 +1,12 @@
 -- What the comments in pieces of a text tell (own).
 use Rattle.std.specs.Prelude.{ℕ, List, [], drop, Option, Some, None, option_map, ◌≡◌}
-use Rattle.yq_core.specs.Answers.{◌>>=◌}
-use Rattle.yq_core.specs.Text.{text_lines}
+use Rattle.yq_core.{specs.Answers.◌>>=◌, specs.Text.text_lines}
 use Rattle.yq_row_table.specs.Rows.{Cut}
-use Rattle.yq_documents.specs.declared.path.Path.{Path}
-use Rattle.yq_documents.specs.Located.{labelled_located}
-use Rattle.yq_outline.specs.Comments.{less_space}
-use Rattle.yq_outline.specs.Labelled.{Labelled}
-use Rattle.yq_documents.specs.Reading.{read_at}
-use Rattle.yq_documents.specs.Texts.{texts}
-use Rattle.yq_documents.specs.declared.path.Part.TheVariants as parts
+use Rattle.yq_documents.{specs.declared.path.Path.Path, specs.Located.labelled_located, specs.Reading.read_at, specs.Texts.texts}
 use Rattle.yq_documents.specs.Pieces.{TextPiece}
+use Rattle.yq_outline.{specs.Comments.less_space, specs.Labelled.Labelled}
 use Rattle.yq_places.specs.PathPieces.{path_piece}
+use Rattle.yq_documents.specs.declared.path.Part.TheVariants as parts
 use Rattle.yq_documents.specs.declared.path.Part.TheVariants as parts
 
 -- the text of the comment in a piece: what follows its `#`, less one leading space

@@ -1,14 +1,10 @@
 -- Where the comments of entries and items stand, or would stand, in a text (YAML 1.2.2, 6.6; own).
 use Rattle.std.specs.Prelude.{ℕ, ◌==◌, List, ◌++◌, Option, Some, None, if◌then◌else◌}
-use Rattle.yq_core.specs.Answers.{◌>>=◌}
-use Rattle.yq_core.specs.Paths.{Step}
-use Rattle.yq_core.specs.Text as text
-use Rattle.yq_core.specs.Text.{ends_line, joined, text_lines, no_white, past_white}
-use Rattle.yq_row_table.specs.Exchange.{row_front}
-use Rattle.yq_row_table.specs.Rows.{Row, behind_gap, Cut}
-use Rattle.yq_row_table.specs.View.{slices}
+use Rattle.yq_core.{specs.Answers.◌>>=◌, specs.Paths.Step, specs.Text.{ends_line, joined, text_lines, no_white, past_white}}
+use Rattle.yq_row_table.{specs.Exchange.row_front, specs.Rows.{Row, behind_gap, Cut}, specs.View.slices}
 use Rattle.yq_documents.specs.Pieces.{before_run, last_run}
 use Rattle.yq_places.specs.PlacedRows.{PlacedRow, row_of_path}
+use Rattle.yq_core.specs.Text as text
 
 -- The end of a line: the text before it, the white space and the comment that end the line, each of which may be nothing, and the text from its break on (6.6).
 pub record LineEnd : Type 0 where

@@ -1,13 +1,11 @@
 -- Reading (own; a reader may skip it): where comments stand, by the pieces of rows.
 use Rattle.std.specs.Prelude.{ℕ, ◌+◌, ◌-◌, ◌==◌, List, length, Option, Some, None, if◌then◌else◌, [], ◌++◌, nat_lt, take}
 use Rattle.yq_core.specs.Text.{cut, front, ends_line, is_empty, joined, text_lines, no_white, past_white}
-use Rattle.yq_row_table.specs.View.{Slices, slices}
+use Rattle.yq_row_table.{specs.View.{Slices, slices}, specs.Exchange.{before_content, behind_row}}
+use Rattle.yq_row_table.specs.Rows.{Row, Cut, rows_text, part_text, last, marked, behind_gap}
 use Rattle.yq_outline.specs.Extents.{front_length}
 use Rattle.yq_places.specs.RowLineReading.{LineCounts}
-use Rattle.yq_row_table.specs.Exchange.{before_content, behind_row}
-use Rattle.yq_row_table.specs.Rows.{Row, Cut, rows_text, part_text, last, marked, behind_gap}
-use Rattle.yq_documents.specs.LinesInRows.{RowLine}
-use Rattle.yq_documents.specs.Pieces.{TextPiece, tail_comment, last_run, gap_comment}
+use Rattle.yq_documents.{specs.LinesInRows.RowLine, specs.Pieces.{TextPiece, tail_comment, last_run, gap_comment}}
 
 -- the text of a cut before row i
 abbrev pub before_row : ℕ → Cut → List ℕ

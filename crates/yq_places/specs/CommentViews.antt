@@ -1,6 +1,5 @@
 -- What the code tells of the places of comments (own).
-use Rattle.std.specs.Prelude.{◌≡◌, ℕ, ◌+◌, List, ◌++◌, length}
-use Rattle.std.specs.Str.{IsCharBoundary}
+use Rattle.std.{specs.Prelude.{◌≡◌, ℕ, ◌+◌, List, ◌++◌, length}, specs.Str.IsCharBoundary}
 use Rattle.yq_text.specs.Halves.{whole}
 use Rattle.yq_places.specs.CommentPlaces.{LinesAbove}
 use Rattle.yq_places.specs.declared.places.lines_above.LinesAbove as declared_above

@@ -1,25 +1,16 @@
 -- Reading (own; a reader may skip it): where lines, entries and contents begin and end, by the rows of a text and their pieces, as the code counts.
-use Rattle.yq_outline.specs.Extents.{dash_at, head_place}
-use Rattle.std.specs.Prelude.{ℕ, suc, ◌+◌, ◌-◌, ◌==◌, List, [], ◌∷◌, ◌++◌, length, replicate, slice_get, take, Option, Some, None, is_some, option_map, option_and_then, if◌then◌else◌}
-use Rattle.yq_core.specs.Answers.{◌>>=◌}
-use Rattle.yq_core.specs.Paths.{Step}
-use Rattle.yq_core.specs.Text.{is_empty, joined}
-use Rattle.yq_core.specs.Entries.{PlacedEntry, placed_entry_at, entry_place, content_place}
-use Rattle.yq_core.specs.Nodes.{FlowNode, empty}
+use Rattle.yq_outline.{specs.Extents.{dash_at, head_place}, specs.Lines.{tail_of, lines_of_rows}}
+use Rattle.yq_outline.{specs.Ends.{line_at_steps, reached, lines_end}, specs.Positions.has_no_mark}
+use Rattle.std.specs.Prelude.{ℕ, suc, ◌+◌, ◌-◌, ◌==◌, List, [], ◌∷◌, ◌++◌, length, replicate, slice_get, take, Option, Some, None, is_some}
+use Rattle.std.specs.Prelude.{option_map, option_and_then, if◌then◌else◌}
+use Rattle.yq_core.{specs.Answers.◌>>=◌, specs.Paths.Step, specs.Text.{is_empty, joined}}
+use Rattle.yq_core.{specs.Entries.{PlacedEntry, placed_entry_at, entry_place, content_place}, specs.Nodes.{FlowNode, empty}}
 use Rattle.yq_core.specs.Places.{Placed, locate}
-use Rattle.yq_row_table.specs.Exchange.{behind_row}
-use Rattle.yq_row_table.specs.Rows.{Content, Nothing, Inline, Block, Row, dashes_text, Cut, cut_text}
+use Rattle.yq_row_table.{specs.Exchange.behind_row, specs.Rows.{Content, Nothing, Inline, Block, Row, dashes_text, Cut, cut_text}}
 use Rattle.yq_row_table.specs.View.{Slices, slices}
-use Rattle.yq_documents.specs.declared.path.Path.{Path}
-use Rattle.yq_places.specs.CommentReading.{before_tail, before_row}
-use Rattle.yq_documents.specs.Documents.{document_parts}
-use Rattle.yq_outline.specs.Lines.{tail_of, lines_of_rows}
-use Rattle.yq_documents.specs.Located.{steps_of}
-use Rattle.yq_outline.specs.Ends.{line_at_steps, reached, lines_end}
-use Rattle.yq_documents.specs.LinesInRows.{row_line, document_row}
-use Rattle.yq_outline.specs.Positions.{has_no_mark}
-use Rattle.yq_documents.specs.RowReading.{is_block_head}
-use Rattle.yq_places.specs.PrintedLines.{less_break}
+use Rattle.yq_documents.{specs.declared.path.Path.Path, specs.Documents.document_parts, specs.Located.steps_of}
+use Rattle.yq_documents.{specs.LinesInRows.{row_line, document_row}, specs.RowReading.is_block_head}
+use Rattle.yq_places.{specs.CommentReading.{before_tail, before_row}, specs.PrintedLines.less_break}
 
 -- the text of a cut before line k of row i: before its dash, its key or the node itself (8.2.1, 8.2.2)
 abbrev pub before_line : ℕ → ℕ → Row → Cut → List ℕ

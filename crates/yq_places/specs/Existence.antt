@@ -1,19 +1,13 @@
 -- For which nodes there are pieces (own).
 use Rattle.std.specs.Prelude.{◌≡◌, ◌&&◌, ◌||◌, not, List, [], ◌∷◌, map, Option, Some, None, is_some, option_map, Bool, true, false, ℕ}
-use Rattle.yq_core.specs.Answers.{◌>>=◌}
-use Rattle.yq_core.specs.Paths.{Step}
-use Rattle.yq_core.specs.Tree.{Node}
+use Rattle.yq_core.{specs.Answers.◌>>=◌, specs.Paths.Step, specs.Tree.Node, specs.Trees.node_head}
 use Rattle.yq_row_table.specs.Rows.{Cut}
-use Rattle.yq_documents.specs.declared.path.Part.TheVariants as parts
-use Rattle.yq_documents.specs.declared.path.Path.{Path}
-use Rattle.yq_outline.specs.Group.{group}
-use Rattle.yq_outline.specs.Outline.{anchored, null_node}
-use Rattle.yq_core.specs.Trees.{node_head}
-use Rattle.yq_documents.specs.Located.{steps_of, located}
-use Rattle.yq_outline.specs.Places.{find}
-use Rattle.yq_documents.specs.Reading.{read_at}
+use Rattle.yq_documents.{specs.declared.path.Path.Path, specs.Located.{steps_of, located}, specs.Reading.read_at}
+use Rattle.yq_outline.{specs.Group.group, specs.Outline.{anchored, null_node}, specs.Places.find}
 use Rattle.yq_places.specs.PrintedLines.{PrintedLine, line_in}
-use Rattle.yq_places.specs.PathPieces.{BlockEntry, FlowEntry, flow_at, line_inline, PrintedDocument, printed_document, found_entry, path_piece}
+use Rattle.yq_places.specs.PathPieces.{BlockEntry, FlowEntry, flow_at, line_inline, PrintedDocument, printed_document, found_entry}
+use Rattle.yq_places.specs.PathPieces.{path_piece}
+use Rattle.yq_documents.specs.declared.path.Part.TheVariants as parts
 
 -- whether there are no steps, so that they end at the root
 abbrev pub are_none : List Step → Bool

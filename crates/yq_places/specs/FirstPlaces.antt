@@ -1,15 +1,10 @@
 -- Where the first item or entry of a compact collection stands in a text, and what is taken out of the text with it (YAML 1.2.2, 8.2.1; own).
 use Rattle.std.specs.Prelude.{ℕ, ◌==◌, ◌&&◌, Bool, true, List, [], ◌∷◌, length, drop, slice_get, Option, None, option_map, if◌then◌else◌}
-use Rattle.yq_core.specs.Answers.{◌>>=◌}
-use Rattle.yq_core.specs.Paths.{Step}
-use Rattle.yq_core.specs.Text.{cut, cut_line, no_space}
-use Rattle.yq_row_table.specs.Rows.{Cut}
-use Rattle.yq_row_table.specs.Reading.{begins_gap}
-use Rattle.yq_documents.specs.declared.path.Part.TheVariants.{Entry}
-use Rattle.yq_documents.specs.Documents.{document_parts}
-use Rattle.yq_places.specs.PathPieces.{printed_document, piece_in}
-use Rattle.yq_documents.specs.Pieces.{TextPiece}
+use Rattle.yq_core.{specs.Answers.◌>>=◌, specs.Paths.Step, specs.Text.{cut, cut_line, no_space}}
+use Rattle.yq_row_table.{specs.Rows.Cut, specs.Reading.begins_gap}
+use Rattle.yq_documents.{specs.declared.path.Part.TheVariants.Entry, specs.Documents.document_parts, specs.Pieces.TextPiece}
 use Rattle.yq_documents.specs.LinesInRows.{RowLine, row_line_of}
+use Rattle.yq_places.specs.PathPieces.{printed_document, piece_in}
 
 -- whether each byte is a space (5.5)
 abbrev pub are_spaces : List ℕ → Bool

@@ -1,16 +1,10 @@
 -- The flow collections of documents, by paths (YAML 1.2.2, 7.4; own).
 use Rattle.std.specs.Prelude.{ℕ, ◌+◌, List, [], ◌∷◌, ◌++◌, length, slice_get, Option, Some, None, option_map, if◌then◌else◌}
-use Rattle.yq_core.specs.Answers.{◌>>=◌}
-use Rattle.yq_core.specs.Paths.{Step}
-use Rattle.yq_core.specs.Collections.{CollPieces, coll_along}
-use Rattle.yq_row_table.specs.Exchange.{behind_row}
-use Rattle.yq_row_table.specs.Rows.{Content, Nothing, Inline, Block, Row, Part, Cut}
-use Rattle.yq_outline.specs.Outline.{Outline, end, row}
-use Rattle.yq_outline.specs.Places.{here, lines_before, FoundLine, find, in_head, place_inside}
+use Rattle.yq_core.{specs.Answers.◌>>=◌, specs.Paths.Step, specs.Collections.{CollPieces, coll_along}}
+use Rattle.yq_row_table.{specs.Exchange.behind_row, specs.Rows.{Content, Nothing, Inline, Block, Row, Part, Cut}}
+use Rattle.yq_outline.{specs.Outline.{Outline, end, row}, specs.Places.{here, lines_before, FoundLine, find, in_head, place_inside}}
 use Rattle.yq_outline.specs.Positions.{has_no_mark}
-use Rattle.yq_documents.specs.Documents.{document_parts}
-use Rattle.yq_documents.specs.Reading.{part_outline}
-use Rattle.yq_documents.specs.LinesInRows.{row_line, document_row}
+use Rattle.yq_documents.{specs.Documents.document_parts, specs.Reading.part_outline, specs.LinesInRows.{row_line, document_row}}
 
 -- the first line, if it is a node itself (8.2)
 abbrev pub bare_line : Outline → Option FoundLine

@@ -1,18 +1,12 @@
 -- Reading (own; a reader may skip it: the grammar is what is believed, and the clauses `found` and `only` tie the two): flow collections at paths, as the code finds them.
 use Rattle.std.specs.Prelude.{◌≡◌, ℕ, List, ◌++◌, length, slice_get, map, Option, Some, None}
-use Rattle.yq_core.specs.Answers.{◌>>=◌}
-use Rattle.yq_core.specs.Paths.{Step}
-use Rattle.yq_core.specs.Collections.{CollAt, CollPieces, IsCollAt}
-use Rattle.yq_core.specs.Entries.{placed_entry_at, tree_step}
-use Rattle.yq_core.specs.Nodes.{coll, node_text}
-use Rattle.yq_core.specs.View.{inline_view}
+use Rattle.yq_core.{specs.Answers.◌>>=◌, specs.Paths.Step, specs.Collections.{CollAt, CollPieces, IsCollAt}}
+use Rattle.yq_core.{specs.Entries.{placed_entry_at, tree_step}, specs.Nodes.{coll, node_text}, specs.View.inline_view}
+use Rattle.yq_core.specs.Places.{Placed, placed, CoreNode, nothing, name, text, sequence, mapping, locate}
 use Rattle.yq_row_table.specs.Rows.{Part, Cut}
 use Rattle.yq_outline.specs.Lines.{lines_of_rows}
 use Rattle.yq_documents.specs.Documents.{document_parts}
-use Rattle.yq_places.specs.FlowNodes.{flow_collection}
-use Rattle.yq_places.specs.NodeReading.{head_line_of}
-use Rattle.yq_places.specs.declared.places.flow_node.FlowHead.{FlowHead}
-use Rattle.yq_core.specs.Places.{Placed, placed, CoreNode, nothing, name, text, sequence, mapping, locate}
+use Rattle.yq_places.{specs.FlowNodes.flow_collection, specs.NodeReading.head_line_of, specs.declared.places.flow_node.FlowHead.FlowHead}
 
 -- a collection with its places in a text so long (7.4)
 abbrev pub placed_collection : ℕ → CollPieces → Placed

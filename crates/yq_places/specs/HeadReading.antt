@@ -1,12 +1,8 @@
 -- Reading (own; a reader may skip it): the heads of rows, as the code reads them again.
 use Rattle.std.specs.Prelude.{◌≡◌, ℕ, [], length}
-use Rattle.yq_outline.specs.View.{head_flow, head_view}
-use Rattle.yq_row_table.specs.Rows.{Row, Cut}
-use Rattle.yq_row_table.specs.View.{slices}
-use Rattle.yq_documents.specs.FlowReading.{row_flow}
-use Rattle.yq_outline.specs.Lines.{head_of}
-use Rattle.yq_documents.specs.RowReading.{from_head}
-use Rattle.yq_outline.specs.Extents.{head_place}
+use Rattle.yq_outline.{specs.View.{head_flow, head_view}, specs.Lines.head_of, specs.Extents.head_place}
+use Rattle.yq_row_table.{specs.Rows.{Row, Cut}, specs.View.slices}
+use Rattle.yq_documents.{specs.FlowReading.row_flow, specs.RowReading.from_head}
 use Rattle.yq_places.specs.declared.places.row_head.RowHead.{RowHead}
 
 -- The head of row i, with the text from there to the end of the row, in which it has its places.

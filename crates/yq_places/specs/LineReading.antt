@@ -1,10 +1,8 @@
 -- Reading (own; a reader may skip it): lines cut out of a text, as the code cuts them.
-use Rattle.std.specs.Prelude.{◌≡◌, ◌⊎◌, ℕ, Bool, List, [], ◌∷◌, ◌++◌, length}
-use Rattle.std.specs.Str.{IsCharBoundary}
+use Rattle.std.{specs.Prelude.{◌≡◌, ◌⊎◌, ℕ, Bool, List, [], ◌∷◌, ◌++◌, length}, specs.Str.IsCharBoundary}
 use Rattle.yq_text.specs.Halves.{whole}
 use Rattle.yq_core.specs.Text.{is_empty}
-use Rattle.yq_places.specs.CommentPlaces.{LineEnd}
-use Rattle.yq_places.specs.PrintedLines.{last_break, less_break}
+use Rattle.yq_places.{specs.CommentPlaces.LineEnd, specs.PrintedLines.{last_break, less_break}}
 use Rattle.yq_places.specs.declared.places.lines_cut.LinesCut as declared_lines
 use Rattle.yq_places.specs.declared.places.lines_cut.TailCut as declared_tail
 

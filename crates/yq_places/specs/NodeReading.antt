@@ -1,20 +1,14 @@
 -- Reading (own; a reader may skip it): where the node at a path is written among lines, as the code finds it.
 use Rattle.std.specs.Prelude.{ℕ, ◌+◌, List, [], ◌∷◌, slice_get, map, Option, Some, None, is_some, option_map, if◌then◌else◌}
 use denote.Bor.{Bor}
-use Rattle.yq_core.specs.declared.path.Step as steps
-use Rattle.yq_core.specs.Entries.{tree_step}
-use Rattle.yq_core.specs.Answers.{◌>>=◌}
-use Rattle.yq_core.specs.Paths.{Step, node_at}
-use Rattle.yq_core.specs.Tree as tree
-use Rattle.yq_outline.specs.Ends.{part, reached}
-use Rattle.yq_outline.specs.Outline.{Line, level, value}
-use Rattle.yq_outline.specs.Positions.{begins_with_node}
-use Rattle.yq_row_table.specs.Rows.{Row}
-use Rattle.yq_row_table.specs.View.{RowsView}
+use Rattle.yq_core.{specs.Entries.tree_step, specs.Answers.◌>>=◌, specs.Paths.{Step, node_at}}
+use Rattle.yq_outline.{specs.Ends.{part, reached}, specs.Outline.{Line, level, value}, specs.Positions.begins_with_node}
+use Rattle.yq_outline.{specs.RowWalk.{IsLine, IsPosition, line_number, lines_stop}, specs.declared.line_position.Stretch.Stretch}
+use Rattle.yq_row_table.{specs.Rows.Row, specs.View.RowsView}
 use Rattle.yq_places.specs.NodesAt.{NodeAt, node_summary}
-use Rattle.yq_outline.specs.RowWalk.{IsLine, IsPosition, line_number, lines_stop}
+use Rattle.yq_core.specs.declared.path.Step as steps
+use Rattle.yq_core.specs.Tree as tree
 use Rattle.yq_places.specs.declared.places.node_place.NodePlace as declared
-use Rattle.yq_outline.specs.declared.line_position.Stretch.{Stretch}
 
 -- Where a node is written: in the head of a line, or on the lines from one on that are deeper than a level (8.2).
 pub data NodePlace : Type 0 where

@@ -1,15 +1,10 @@
 -- What a node at a path is, as far as updates ask (YAML 1.2.2, 3.2.1; own).
 use Rattle.std.specs.Prelude.{ℕ, nat_lt, List, slice_get, Bool, false, Option, Some, None}
-use Rattle.yq_core.specs.declared.kind.Kind.{Kind}
-use Rattle.yq_core.specs.Answers.{◌>>=◌}
-use Rattle.yq_core.specs.Scalar.{ScalarText}
-use Rattle.yq_core.specs.Tree as tree
-use Rattle.yq_core.specs.Paths.{Step, node_at}
-use Rattle.yq_outline.specs.Counts.{count}
-use Rattle.yq_outline.specs.declared.line.Content.{Content}
-use Rattle.yq_outline.specs.View.{content_view}
+use Rattle.yq_core.{specs.declared.kind.Kind.Kind, specs.Answers.◌>>=◌, specs.Scalar.ScalarText, specs.Paths.{Step, node_at}}
+use Rattle.yq_outline.{specs.Counts.count, specs.declared.line.Content.Content, specs.View.content_view}
 use Rattle.yq_row_table.specs.Rows.{Cut}
 use Rattle.yq_documents.specs.Reading.{documents}
+use Rattle.yq_core.specs.Tree as tree
 use Rattle.yq_places.specs.declared.places.node_at.NodeAt as declared
 
 -- What is told of a node: that it is an alias, which scalar it is, or that it is a sequence or a mapping, and whether that has several

@@ -1,21 +1,17 @@
 -- The pieces of a text where nodes, entries, items and comments at paths stand (YAML 1.2.2, 7.4 and 8; own).
-use Rattle.std.specs.Prelude.{ℕ, suc, List, [], ◌∷◌, ◌++◌, length, take, drop, map, slice_get, Option, Some, None, is_some, option_map, option_and_then, if◌then◌else◌}
-use Rattle.yq_core.specs.Answers.{◌>>=◌}
-use Rattle.yq_core.specs.Paths.{Step, is_here, further}
-use Rattle.yq_core.specs.Nodes.{Key, bare, FlowNode, empty, alias, scalar, coll, anchored, Items, none, item, key_text, sep_text, opening_bracket, node_text, flow_items_text}
-use Rattle.yq_core.specs.Trees.{key_content}
-use Rattle.yq_core.specs.Tree.{key_label}
+use Rattle.std.specs.Prelude.{ℕ, suc, List, [], ◌∷◌, ◌++◌, length, take, drop, map, slice_get, Option, Some, None, is_some, option_map}
+use Rattle.std.specs.Prelude.{option_and_then, if◌then◌else◌}
+use Rattle.yq_core.{specs.Answers.◌>>=◌, specs.Paths.{Step, is_here, further}}
+use Rattle.yq_core.specs.Nodes.{Key, bare, FlowNode, empty, alias, scalar, coll, anchored, Items, none, item, key_text, sep_text}
+use Rattle.yq_core.{specs.Nodes.{opening_bracket, node_text, flow_items_text}, specs.Trees.key_content, specs.Tree.key_label}
 use Rattle.yq_row_table.specs.Rows.{Content, Nothing, Inline, Block, Cut}
-use Rattle.yq_documents.specs.declared.path.Part.{Part}
-use Rattle.yq_documents.specs.declared.path.Path.{Path}
-use Rattle.yq_outline.specs.Group.{group}
-use Rattle.yq_documents.specs.Located.{steps_of}
-use Rattle.yq_outline.specs.Outline.{flatten}
-use Rattle.yq_outline.specs.Places.{lines_before, FoundLine, find}
-use Rattle.yq_documents.specs.declared.path.Part.TheVariants as parts
+use Rattle.yq_documents.{specs.declared.path.Part.Part, specs.declared.path.Path.Path, specs.Located.steps_of}
 use Rattle.yq_documents.specs.Pieces.{TextPiece, node_piece, head_piece, content_comment, gap_comment}
+use Rattle.yq_outline.{specs.Group.group, specs.Outline.flatten, specs.Places.{lines_before, FoundLine, find}}
 use Rattle.yq_places.specs.PlacedRows.{PlacedPart, placed_document}
-use Rattle.yq_places.specs.PrintedLines.{PrintedLine, line_front, line_rest, print_line, print_lines, printed_lines, line_in, run_piece, lines_piece}
+use Rattle.yq_places.specs.PrintedLines.{PrintedLine, line_front, line_rest, print_line, print_lines, printed_lines, line_in, run_piece}
+use Rattle.yq_places.specs.PrintedLines.{lines_piece}
+use Rattle.yq_documents.specs.declared.path.Part.TheVariants as parts
 
 -- A line and those under it, with the text before and behind them.
 pub record BlockEntry : Type 0 where

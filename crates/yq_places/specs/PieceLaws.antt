@@ -1,27 +1,18 @@
 -- What stands in pieces of a text (own).
 use Rattle.std.specs.Prelude.{◌≡◌, ◌<◌, ◌⊎◌, ℕ, List, [], ◌∷◌, ◌++◌, map, Option, Some, None, slice_get, Bool, true, false}
-use Rattle.yq_core.specs.declared.kind.Kind.TheVariants.{Text}
-use Rattle.yq_core.specs.Block.{BlockText, block_text, IsBlock}
-use Rattle.yq_core.specs.BlockContent.{block_content}
-use Rattle.yq_core.specs.Tree as tree
-use Rattle.yq_core.specs.Tree.{key_label}
-use Rattle.yq_core.specs.Nodes.{Key, key_text, FlowNode, node_text, IsFlowNode}
+use Rattle.yq_core.{specs.declared.kind.Kind.TheVariants.Text, specs.Block.{BlockText, block_text, IsBlock}}
+use Rattle.yq_core.{specs.BlockContent.block_content, specs.Tree.key_label, specs.Nodes.{Key, key_text, FlowNode, node_text, IsFlowNode}}
 use Rattle.yq_core.specs.Trees.{tree_of, key_content, node_anchor}
 use Rattle.yq_row_table.specs.Rows.{Part as Rows, Cut}
-use Rattle.yq_documents.specs.declared.path.Part.{Part}
-use Rattle.yq_documents.specs.declared.path.Part.TheVariants.{Content, Entry}
-use Rattle.yq_documents.specs.declared.path.Path.{Path}
-use Rattle.yq_documents.specs.Documents.{document_parts}
-use Rattle.yq_outline.specs.Lines.{lines_of_rows}
-use Rattle.yq_documents.specs.Located.{labelled_located, located}
-use Rattle.yq_outline.specs.Labelled.{Labelled}
-use Rattle.yq_outline.specs.Outline.{level, Outline, flatten, IsEven, anchored, value, label}
-use Rattle.yq_outline.specs.Places.{content_under}
-use Rattle.yq_documents.specs.Reading.{read_at}
+use Rattle.yq_documents.{specs.declared.path.Part.Part, specs.declared.path.Part.TheVariants.{Content, Entry}}
+use Rattle.yq_documents.{specs.declared.path.Path.Path, specs.Documents.document_parts, specs.Located.{labelled_located, located}}
+use Rattle.yq_documents.{specs.Reading.read_at, specs.Pieces.{TextPiece, HoldsPiece}}
+use Rattle.yq_outline.{specs.Lines.lines_of_rows, specs.Labelled.Labelled}
+use Rattle.yq_outline.{specs.Outline.{level, Outline, flatten, IsEven, anchored, value, label}, specs.Places.content_under}
 use Rattle.yq_outline.specs.Positions.{has_no_mark}
-use Rattle.yq_documents.specs.Pieces.{TextPiece, HoldsPiece}
 use Rattle.yq_places.specs.PrintedLines.{PrintedLine, print_lines, printed_lines, line_in, run_piece}
 use Rattle.yq_places.specs.PathPieces.{PrintedDocument, printed_document, path_piece}
+use Rattle.yq_core.specs.Tree as tree
 
 -- A piece is an inline node without an anchor, which stands for a tree (7).
 pub record IsInlinePiece (p : TextPiece) (n : tree.Node) : Type 0 where

@@ -1,12 +1,8 @@
 -- A document's rows in the text of a cut, and the row of the line to which a path leads (YAML 1.2.2, 9.1; own).
 use Rattle.std.specs.Prelude.{ℕ, zero, suc, List, [], ◌++◌, take, drop, slice_get, Option, option_map}
-use Rattle.yq_core.specs.Answers.{◌>>=◌}
-use Rattle.yq_core.specs.Paths.{Step}
-use Rattle.yq_row_table.specs.Rows.{Row, rows_text, Part, part_text, Cut, last, marked}
-use Rattle.yq_row_table.specs.Splices.{nth_part, behind_part}
-use Rattle.yq_documents.specs.Documents.{document_parts}
-use Rattle.yq_documents.specs.PartNumbers.{part_number}
-use Rattle.yq_documents.specs.LinesInRows.{RowLine, row_line_of}
+use Rattle.yq_core.{specs.Answers.◌>>=◌, specs.Paths.Step}
+use Rattle.yq_row_table.{specs.Rows.{Row, rows_text, Part, part_text, Cut, last, marked}, specs.Splices.{nth_part, behind_part}}
+use Rattle.yq_documents.{specs.Documents.document_parts, specs.PartNumbers.part_number, specs.LinesInRows.{RowLine, row_line_of}}
 
 -- The part of a cut that is a document, with the text before and behind it (9.1; own).
 pub record PlacedPart : Type 0 where

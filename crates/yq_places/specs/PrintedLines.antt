@@ -1,14 +1,12 @@
 -- The lines of a text with their texts, and runs of them (YAML 1.2.2, 8; own).
-use Rattle.std.specs.Prelude.{ℕ, suc, ◌+◌, ◌&&◌, List, [], ◌∷◌, ◌++◌, length, drop, replicate, Option, Some, None, Bool, false, if◌then◌else◌}
+use Rattle.std.specs.Prelude.{ℕ, suc, ◌+◌, ◌&&◌, List, [], ◌∷◌, ◌++◌, length, drop, replicate, Option, Some, None, Bool, false}
+use Rattle.std.specs.Prelude.{if◌then◌else◌}
 use Rattle.yq_core.specs.Text.{is_empty, is_feed, is_return}
-use Rattle.yq_row_table.specs.Rows.{Content, Nothing, mark_text, content_text, Row, last}
-use Rattle.yq_row_table.specs.View.{content_cut}
-use Rattle.yq_outline.specs.Lines.{mark_line, dash_line}
-use Rattle.yq_outline.specs.Outline.{Line}
-use Rattle.yq_outline.specs.Positions.{has_no_mark}
+use Rattle.yq_row_table.{specs.Rows.{Content, Nothing, mark_text, content_text, Row, last}, specs.View.content_cut}
+use Rattle.yq_outline.{specs.Lines.{mark_line, dash_line}, specs.Outline.Line, specs.Positions.has_no_mark}
+use Rattle.yq_documents.specs.Pieces.{TextPiece, head_piece}
 use Rattle.yq_outline.specs.Comments as comments
 use Rattle.yq_row_table.specs.Rows as rows
-use Rattle.yq_documents.specs.Pieces.{TextPiece, head_piece}
 
 -- a break, and nothing behind it (5.4)
 abbrev pub is_last_break : List ℕ → Bool

@@ -1,20 +1,13 @@
 -- Where an item or entry of a block collection, with whole rows, is taken out of a text (YAML 1.2.2, 8.2 and 9.1; own).
-use Rattle.std.specs.Prelude.{ℕ, zero, suc, ◌-◌, ◌==◌, nat_lt, List, [], ◌∷◌, ◌++◌, length, slice_get, take, drop, Option, Some, None, option_map, Bool, false, if◌then◌else◌}
-use Rattle.yq_core.specs.Answers.{◌>>=◌}
-use Rattle.yq_core.specs.Block.{BlockText, keeps}
-use Rattle.yq_core.specs.Paths.{Step, node_at}
-use Rattle.yq_core.specs.Text.{joined, text_lines}
+use Rattle.std.specs.Prelude.{ℕ, zero, suc, ◌-◌, ◌==◌, nat_lt, List, [], ◌∷◌, ◌++◌, length, slice_get, take, drop, Option, Some, None}
+use Rattle.std.specs.Prelude.{option_map, Bool, false, if◌then◌else◌}
+use Rattle.yq_core.{specs.Answers.◌>>=◌, specs.Block.{BlockText, keeps}, specs.Paths.{Step, node_at}, specs.Text.{joined, text_lines}}
 use Rattle.yq_core.specs.Tree.{Node, children_of}
-use Rattle.yq_row_table.specs.Removal.{hold_comment, last_block, next_column}
-use Rattle.yq_row_table.specs.Rows.{Row, rows_text, Cut}
+use Rattle.yq_row_table.{specs.Removal.{hold_comment, last_block, next_column}, specs.Rows.{Row, rows_text, Cut}}
 use Rattle.yq_row_table.specs.Splices.{behind_first, first_gap}
-use Rattle.yq_outline.specs.Counts.{count}
-use Rattle.yq_outline.specs.Ends.{line_at_steps, lines_end}
-use Rattle.yq_outline.specs.Lines.{lines_of_rows}
-use Rattle.yq_documents.specs.Pieces.{before_run, last_run}
+use Rattle.yq_outline.{specs.Counts.count, specs.Ends.{line_at_steps, lines_end}, specs.Lines.lines_of_rows}
+use Rattle.yq_documents.{specs.Pieces.{before_run, last_run}, specs.Reading.documents, specs.LinesInRows.row_line}
 use Rattle.yq_places.specs.PlacedRows.{PlacedPart, placed_document}
-use Rattle.yq_documents.specs.Reading.{documents}
-use Rattle.yq_documents.specs.LinesInRows.{row_line}
 
 -- The rows of an item or entry, between those in front of it and those behind it (8.2).
 pub record OwnRows : Type 0 where

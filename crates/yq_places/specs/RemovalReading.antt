@@ -1,16 +1,10 @@
 -- Reading (own; a reader may skip it): what is taken out with an item or entry, by the pieces of rows, as the code counts.
 use Rattle.std.specs.Prelude.{◌≡◌, ℕ, ◌+◌, false, List, [], ◌∷◌, ◌++◌, length, slice_get, Option, Some, None, option_map}
 use Rattle.yq_text.specs.Halves.{whole}
-use Rattle.yq_core.specs.Answers.{◌>>=◌}
-use Rattle.yq_core.specs.Paths.{Step}
-use Rattle.yq_row_table.specs.Grammar.{IsCut, no_rows}
-use Rattle.yq_row_table.specs.Rows.{Cut}
-use Rattle.yq_row_table.specs.View.{Slices, Bound, bounds_at, RowsView, rows_view}
-use Rattle.yq_documents.specs.Documents.{document_parts}
-use Rattle.yq_documents.specs.Reading.{cut_of}
-use Rattle.yq_places.specs.PlacedRows.{PlacedPart, placed_document}
-use Rattle.yq_places.specs.RemovalPlaces.{OwnRows, own_rows, Seam, Removal}
-use Rattle.yq_documents.specs.LinesInRows.{document_row}
+use Rattle.yq_core.{specs.Answers.◌>>=◌, specs.Paths.Step}
+use Rattle.yq_row_table.{specs.Grammar.{IsCut, no_rows}, specs.Rows.Cut, specs.View.{Slices, Bound, bounds_at, RowsView, rows_view}}
+use Rattle.yq_documents.{specs.Documents.document_parts, specs.Reading.cut_of, specs.LinesInRows.document_row}
+use Rattle.yq_places.{specs.PlacedRows.{PlacedPart, placed_document}, specs.RemovalPlaces.{OwnRows, own_rows, Seam, Removal}}
 use Rattle.yq_places.specs.declared.places.removal_place.Removal as declared
 use Rattle.yq_places.specs.declared.places.removal_place.Seam as seams
 

@@ -1,10 +1,8 @@
 -- Reading (own; a reader may skip it): documents without rows, by the bounds of parts, as the code counts.
 use Rattle.std.specs.Prelude.{ℕ, ◌++◌, length, Option, Some, None, option_map, if◌then◌else◌}
 use Rattle.yq_core.specs.Answers.{◌>>=◌}
-use Rattle.yq_row_table.specs.Grammar.{no_rows}
-use Rattle.yq_row_table.specs.Rows.{Cut}
-use Rattle.yq_places.specs.PlacedRows.{PlacedPart, placed_document}
-use Rattle.yq_places.specs.Standings.{NoRows}
+use Rattle.yq_row_table.{specs.Grammar.no_rows, specs.Rows.Cut}
+use Rattle.yq_places.{specs.PlacedRows.{PlacedPart, placed_document}, specs.Standings.NoRows}
 
 -- a document in its text, if it has no rows
 abbrev pub if_rowless : PlacedPart → Option NoRows

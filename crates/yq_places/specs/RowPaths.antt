@@ -1,13 +1,10 @@
 -- What a row spells behind its mark, the white space before what is put behind an anchor, and texts that may be read (own).
-use Rattle.std.specs.Prelude.{◌≡◌, ℕ, ◌≤◌, true, List, [], ◌∷◌, length, if◌then◌else◌}
-use Rattle.std.specs.Str.{is_utf8}
-use Rattle.yq_core.specs.Characters.{is_text}
+use Rattle.std.{specs.Prelude.{◌≡◌, ℕ, ◌≤◌, true, List, [], ◌∷◌, length, if◌then◌else◌}, specs.Str.is_utf8}
+use Rattle.yq_core.{specs.Characters.is_text, specs.Tree.Node}
 use Rattle.yq_text.specs.Limit.{text_limit}
-use Rattle.yq_core.specs.Tree.{Node}
-use Rattle.yq_core.specs.Nodes as inline
 use Rattle.yq_row_table.specs.Rows.{Content}
-use Rattle.yq_outline.specs.Lines.{content_anchor, head_of}
-use Rattle.yq_outline.specs.Outline.{anchored, head_or, null_node}
+use Rattle.yq_outline.{specs.Lines.{content_anchor, head_of}, specs.Outline.{anchored, head_or, null_node}}
+use Rattle.yq_core.specs.Nodes as inline
 
 -- the node that a row spells behind its mark; where nothing is written but perhaps an anchor, a null (7.2)
 abbrev pub spelled_node : Content → Node

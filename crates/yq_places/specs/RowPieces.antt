@@ -1,9 +1,7 @@
 -- The pieces of a row behind its mark, and of one that is cut behind a dash (YAML 1.2.2, 8.1 and 8.2.1; own).
 use Rattle.std.specs.Prelude.{ℕ, List, [], ◌∷◌, ◌++◌, replicate, take, if◌then◌else◌}
 use Rattle.yq_core.specs.Text.{is_empty}
-use Rattle.yq_row_table.specs.Joined.{dashed_row}
-use Rattle.yq_row_table.specs.Rows.{Nothing, Row, dashes_text}
-use Rattle.yq_row_table.specs.View.{Slices}
+use Rattle.yq_row_table.{specs.Joined.dashed_row, specs.Rows.{Nothing, Row, dashes_text}, specs.View.Slices}
 
 -- the anchor of a row with the white space before it, if it has one
 abbrev pub anchor_before : Slices → List ℕ

@@ -1,21 +1,11 @@
 -- Reading (own; a reader may skip it): the rows of documents among those of a cut, and items that stay known in other cuts.
 use Rattle.std.specs.Prelude.{◌≡◌, ℕ, true, ◌+◌, List, [], ◌++◌, length, map, drop, slice_get, Option, Some, option_map}
-use Rattle.yq_row_table.specs.Grammar.{IsCut}
-use Rattle.yq_row_table.specs.Rows.{Row, Cut}
-use Rattle.yq_row_table.specs.Touched.{TouchesOnly}
-use Rattle.yq_row_table.specs.View.{rows_of, RowsView, rows_view}
-use Rattle.yq_documents.specs.Documents.{document_parts}
-use Rattle.yq_documents.specs.Reading.{all_documents, cut_of}
-use Rattle.yq_documents.specs.LinesInRows.{document_row}
-use Rattle.yq_core.specs.Entries.{tree_step}
-use Rattle.yq_outline.specs.Ends.{reached}
-use Rattle.yq_core.specs.Paths.{Step}
-use Rattle.yq_outline.specs.Lines.{lines_of_rows}
-use Rattle.yq_outline.specs.RowWalk.{IsKnown, AreKnown, HasDocument, IsLine, line_number}
-use Rattle.yq_outline.specs.declared.line_position.KnownItem.{KnownItem}
-use Rattle.yq_outline.specs.declared.line_position.KnownItems.{KnownItems}
-use Rattle.yq_outline.specs.declared.line_position.Position.{Position}
-use Rattle.yq_outline.specs.declared.line_position.Stretch.{Stretch}
+use Rattle.yq_row_table.{specs.Grammar.IsCut, specs.Rows.{Row, Cut}, specs.Touched.TouchesOnly, specs.View.{rows_of, RowsView, rows_view}}
+use Rattle.yq_documents.{specs.Documents.document_parts, specs.Reading.{all_documents, cut_of}, specs.LinesInRows.document_row}
+use Rattle.yq_core.{specs.Entries.tree_step, specs.Paths.Step}
+use Rattle.yq_outline.{specs.Ends.reached, specs.Lines.lines_of_rows, specs.RowWalk.{IsKnown, AreKnown, HasDocument, IsLine, line_number}}
+use Rattle.yq_outline.{specs.declared.line_position.KnownItem.KnownItem, specs.declared.line_position.KnownItems.KnownItems}
+use Rattle.yq_outline.{specs.declared.line_position.Position.Position, specs.declared.line_position.Stretch.Stretch}
 use Rattle.yq_places.specs.declared.places.known_line.KnownLine.{KnownLine}
 
 -- An item stays known in each text in which the items of its cut stay that end in front of so many bytes.

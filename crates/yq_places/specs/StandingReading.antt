@@ -1,17 +1,11 @@
 -- Reading (own; a reader may skip it): the rows of items and entries, as the code counts them.
 use Rattle.std.specs.Prelude.{◌≡◌, ℕ, suc, ◌+◌, ◌≤◌, List, [], ◌∷◌, ◌++◌, length, drop, slice_get, Option, Some, option_map}
-use Rattle.yq_core.specs.Answers.{◌>>=◌}
-use Rattle.yq_core.specs.Paths.{Step}
-use Rattle.yq_row_table.specs.Grammar.{IsCut}
-use Rattle.yq_row_table.specs.Rows.{Row, Cut}
-use Rattle.yq_row_table.specs.View.{RowsView, rows_view}
-use Rattle.yq_documents.specs.Documents.{document_parts}
-use Rattle.yq_documents.specs.Reading.{cut_of}
-use Rattle.yq_documents.specs.LinesInRows.{RowLine, document_row, row_line_of}
-use Rattle.yq_places.specs.PlacedRows.{PlacedPart, placed_document}
-use Rattle.yq_places.specs.Standings.{RowsOfEntry, under_count}
-use Rattle.yq_places.specs.declared.places.rows_of_entry.RowsOfEntry as declared
+use Rattle.yq_core.{specs.Answers.◌>>=◌, specs.Paths.Step}
+use Rattle.yq_row_table.{specs.Grammar.IsCut, specs.Rows.{Row, Cut}, specs.View.{RowsView, rows_view}}
+use Rattle.yq_documents.{specs.Documents.document_parts, specs.Reading.cut_of, specs.LinesInRows.{RowLine, document_row, row_line_of}}
+use Rattle.yq_places.{specs.PlacedRows.{PlacedPart, placed_document}, specs.Standings.{RowsOfEntry, under_count}}
 use Rattle.yq_outline.specs.declared.line_position.Stretch.{Stretch}
+use Rattle.yq_places.specs.declared.places.rows_of_entry.RowsOfEntry as declared
 
 -- how many rows stand before the first one, how many lines of that before the one of the key or dash and before that of its mark, and how
 -- many rows stand before what is behind

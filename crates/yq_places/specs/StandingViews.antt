@@ -1,17 +1,12 @@
 -- What the code tells of what stands at a place (own).
 use Rattle.std.specs.Prelude.{◌≡◌, ℕ, ◌+◌, ◌==◌, ◌&&◌, not, true, false, List, length, Option, Some, None, if◌then◌else◌}
 use Rattle.yq_text.specs.Halves.{whole}
-use Rattle.yq_core.specs.Answers.{◌>>=◌}
-use Rattle.yq_core.specs.Paths.{Step}
-use Rattle.yq_core.specs.Text.{is_empty}
-use Rattle.yq_row_table.specs.Rows.{Cut, Row}
-use Rattle.yq_row_table.specs.Seams.{is_block}
-use Rattle.yq_row_table.specs.View.{slices}
-use Rattle.yq_documents.specs.LinesInRows.{document_row}
-use Rattle.yq_documents.specs.RowReading.{is_block_head}
-use Rattle.yq_outline.specs.Extents.{head_place, lines_before_mark}
-use Rattle.yq_outline.specs.declared.line_position.Position.{Position}
-use Rattle.yq_places.specs.Standings.{MarkPieces, Held, Lone, Compact, BlockRoot, NoRows, Standing, RowsOfEntry, alone, beside, under, compact, block, root, no_rows, held, rows_of_entry}
+use Rattle.yq_core.{specs.Answers.◌>>=◌, specs.Paths.Step, specs.Text.is_empty}
+use Rattle.yq_row_table.{specs.Rows.{Cut, Row}, specs.Seams.is_block, specs.View.slices}
+use Rattle.yq_documents.{specs.LinesInRows.document_row, specs.RowReading.is_block_head}
+use Rattle.yq_outline.{specs.Extents.{head_place, lines_before_mark}, specs.declared.line_position.Position.Position}
+use Rattle.yq_places.specs.Standings.{MarkPieces, Held, Lone, Compact, BlockRoot, NoRows, Standing, RowsOfEntry, alone, beside, under}
+use Rattle.yq_places.specs.Standings.{compact, block, root, no_rows, held, rows_of_entry}
 use Rattle.yq_places.specs.declared.places.held.Held as declared_held
 use Rattle.yq_places.specs.declared.places.held_row.HeldRow as declared_row
 use Rattle.yq_places.specs.declared.places.held.EntryMark as declared_mark

@@ -1,22 +1,16 @@
 -- What stands where steps lead in a text, by the rows in which it stands (YAML 1.2.2, 7.4, 8 and 9.1; own).
-use Rattle.std.specs.Prelude.{ℕ, ◌==◌, ◌||◌, ◌&&◌, not, suc, List, [], ◌∷◌, ◌++◌, drop, length, map, replicate, take, Option, Some, None, option_map, Bool, false, if◌then◌else◌}
-use Rattle.yq_core.specs.Answers.{◌>>=◌}
-use Rattle.yq_core.specs.Paths.{Step}
-use Rattle.yq_core.specs.Text.{is_empty}
-use Rattle.yq_core.specs.Collections.{CollPieces}
+use Rattle.std.specs.Prelude.{ℕ, ◌==◌, ◌||◌, ◌&&◌, not, suc, List, [], ◌∷◌, ◌++◌, drop, length, map, replicate, take, Option, Some, None}
+use Rattle.std.specs.Prelude.{option_map, Bool, false, if◌then◌else◌}
+use Rattle.yq_core.{specs.Answers.◌>>=◌, specs.Paths.Step, specs.Text.is_empty, specs.Collections.CollPieces}
 use Rattle.yq_core.specs.Entries.{EntryPieces, item_at}
-use Rattle.yq_outline.specs.Positions.{has_no_mark}
+use Rattle.yq_outline.{specs.Positions.has_no_mark, specs.Lines.line_mark, specs.RowWalk.{deeper_rows, line_level}}
 use Rattle.yq_row_table.specs.Exchange.{row_front}
-use Rattle.yq_row_table.specs.Rows.{Content, Nothing, Inline, Block, Cut, Row, behind_columns, behind_dashes, behind_indent, mark_column, print_row, rows_text}
-use Rattle.yq_row_table.specs.View.{Slices, slices}
-use Rattle.yq_outline.specs.Lines.{line_mark}
+use Rattle.yq_row_table.specs.Rows.{Content, Nothing, Inline, Block, Cut, Row, behind_columns, behind_dashes, behind_indent, mark_column}
+use Rattle.yq_row_table.{specs.Rows.{print_row, rows_text}, specs.View.{Slices, slices}}
 use Rattle.yq_documents.specs.LinesInRows.{RowLine, row_line_of}
-use Rattle.yq_places.specs.CommentPlaces.{LineEnd, end_in_line}
-use Rattle.yq_places.specs.FlowNodes.{flow_collection}
-use Rattle.yq_places.specs.PlacedRows.{PlacedPart, placed_document}
-use Rattle.yq_places.specs.PrintedLines.{last_break, less_break}
+use Rattle.yq_places.{specs.CommentPlaces.{LineEnd, end_in_line}, specs.FlowNodes.flow_collection}
+use Rattle.yq_places.{specs.PlacedRows.{PlacedPart, placed_document}, specs.PrintedLines.{last_break, less_break}}
 use Rattle.yq_places.specs.RowPieces.{anchor_before, past_dash, space_before, upto_dash}
-use Rattle.yq_outline.specs.RowWalk.{deeper_rows, line_level}
 
 -- ---- the rows of an item or entry
 

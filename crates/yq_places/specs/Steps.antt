@@ -1,9 +1,8 @@
 -- By how many columns the collections of a document stand deeper than their keys (own).
 use Rattle.std.specs.Prelude.{ℕ, ◌-◌, ◌&&◌, nat_lt, List, [], ◌∷◌, Option, Some, None, slice_get, Bool, true, false, not, if◌then◌else◌}
 use Rattle.yq_row_table.specs.Rows.{Cut, Part}
-use Rattle.yq_outline.specs.Outline.{LineMark, Bare, Key, Dash, Line, level}
+use Rattle.yq_outline.{specs.Outline.{LineMark, Bare, Key, Dash, Line, level}, specs.Lines.lines_of_rows}
 use Rattle.yq_documents.specs.Documents.{document_parts}
-use Rattle.yq_outline.specs.Lines.{lines_of_rows}
 
 -- a line begins with a key (8.2.2)
 abbrev pub is_key : LineMark → Bool

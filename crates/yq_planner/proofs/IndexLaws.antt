@@ -1,23 +1,15 @@
 -- Maps by texts: one entry or alias more.
-use Rattle.std.proofs.lemmas.Bool.{cases_Bool}
-use Rattle.std.proofs.Common.{◌≡◌, ℕ, Bool, true, false, ◌||◌, cond, List, Option, Some, None, is_some, option_map, refl, sym, ap, ◌∙◌, bytes_eq, rules}
-use Rattle.std.proofs.lemmas.Bool.{false≢true}
-use Rattle.std.proofs.lemmas.Map.Text.{btree_map_updates_str}
-use Rattle.std.proofs.lemmas.Slice.Eq.{bytes_eq-Decides}
-use Rattle.std.specs.BTreeMap as maps
-use Rattle.std.specs.BTreeMap.{BTreeMap}
-use Rattle.std.specs.Map.{lookup}
-use Rattle.std.specs.Borrow.{Bor}
-use Rattle.std.specs.Cmp.Lexicographic.{slice_cmp}
-use Rattle.std.specs.List.{list_any}
+use Rattle.std.proofs.lemmas.Bool.{cases_Bool, false≢true}
+use Rattle.std.proofs.Common.{◌≡◌, ℕ, Bool, true, false, ◌||◌, cond, List, Option, Some, None, is_some, option_map, refl, sym, ap, ◌∙◌}
+use Rattle.std.{proofs.Common.{bytes_eq, rules}, proofs.lemmas.Map.Text.btree_map_updates_str, proofs.lemmas.Slice.Eq.bytes_eq-Decides}
+use Rattle.std.{specs.BTreeMap.BTreeMap, specs.Map.lookup, specs.Borrow.Bor, specs.Cmp.Lexicographic.slice_cmp, specs.List.list_any}
 use Rattle.std.specs.Ordering.{nat_cmp}
-use Rattle.yq_core.specs.Tree as tree
-use Rattle.yq_core.specs.Tree.{Label, Node}
-use Rattle.yq_core.specs.Anchors.{Name, names_of}
+use Rattle.yq_core.{specs.Tree.{Label, Node}, specs.Anchors.{Name, names_of}}
 use Rattle.yq_outline.proofs.BoundLaws.{equal_back}
 use Rattle.yq_semantics.specs.Changes.{refers_to}
-use Rattle.yq_planner.specs.EntryNumbers.{number_kept}
-use Rattle.yq_planner.specs.Indexes.{get_text, HasAliases, kept_first}
+use Rattle.yq_planner.{specs.EntryNumbers.number_kept, specs.Indexes.{get_text, HasAliases, kept_first}}
+use Rattle.std.specs.BTreeMap as maps
+use Rattle.yq_core.specs.Tree as tree
 
 -- that a map has a value more, as `insert` says it
 abbrev pub Puts : {X : Type 0} → BTreeMap (Bor (List ℕ)) X → BTreeMap (Bor (List ℕ)) X → List ℕ → X → Type 0

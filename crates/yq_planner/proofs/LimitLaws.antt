@@ -1,7 +1,5 @@
 -- Values nested too deep.
-use Rattle.std.proofs.lemmas.Bool.{cases_Bool}
-use Rattle.std.proofs.Common.{◌≡◌, ℕ, suc, ◌-◌, ◌<◌, ltb, rules}
-use Rattle.std.proofs.lemmas.Bool.{le-ltb, lt-ltb, ltb-false, ltb-true}
+use Rattle.std.{proofs.lemmas.Bool.{cases_Bool, le-ltb, lt-ltb, ltb-false, ltb-true}, proofs.Common.{◌≡◌, ℕ, suc, ◌-◌, ◌<◌, ltb, rules}}
 
 -- one collection more
 pub one_deeper : (l d : ℕ) → 0 < l → ltb (l - 1) d ≡ ltb l (suc d)

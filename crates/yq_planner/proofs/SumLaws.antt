@@ -1,27 +1,20 @@
 -- Sums of values: the int that is written, one item, entry or term more.
-use Rattle.std.proofs.Common.{◌≡◌, ℕ, zero, suc, ◌+◌, ◌-◌, ◌<◌, ◌^◌, Bool, true, false, List, [], ◌∷◌, ◌++◌, Option, Some, None, is_some, option_map, length, map, drop, take, get_or, set, FitsSigned, refl, sym, ap, ◌∙◌, arith, cond, rules}
-use mir.Syntax.{w64}
-use Rattle.std.specs.Prelude.{ℤ, pos, negsuc}
-use Rattle.std.specs.Fmt.{decimal, signed_decimal}
-use Rattle.std.specs.Str.{bytes_eq}
-use Rattle.std.proofs.lemmas.Fmt.{decimal_is_IsNumeral}
-use Rattle.std.proofs.lemmas.Int.{to_z-of_z}
+use Rattle.std.proofs.Common.{◌≡◌, ℕ, zero, suc, ◌+◌, ◌-◌, ◌<◌, ◌^◌, Bool, true, false, List, [], ◌∷◌, ◌++◌, Option, Some, None, is_some}
+use Rattle.std.proofs.Common.{option_map, length, map, drop, take, get_or, set, FitsSigned, refl, sym, ap, ◌∙◌, arith, cond, rules}
+use Rattle.std.{specs.Prelude.{ℤ, pos, negsuc}, specs.Fmt.{decimal, signed_decimal}, specs.Str.bytes_eq}
+use Rattle.std.{proofs.lemmas.Fmt.decimal_is_IsNumeral, proofs.lemmas.Int.to_z-of_z}
 use Rattle.std.proofs.lemmas.List.{length-map, length-take-le, map_push, take_more, take_rest}
+use mir.Syntax.{w64}
 use mir.Val.{to_z, of_z}
-use Rattle.yq_core.specs.Values.{items, entries}
-use Rattle.yq_core.specs.Numbers as numbers
-use Rattle.yq_core.specs.Numbers.{unsigned, minus}
-use Rattle.yq_core.specs.Paths.{To, child_at, change_child, append_child, append_children}
-use Rattle.yq_core.specs.SchemaReading.{resolve}
-use Rattle.yq_core.specs.Tree as tree
-use Rattle.yq_core.specs.Tree.{Node, Children, none, child, key_label}
-use Rattle.yq_core.specs.declared.kind.Kind.TheVariants as kinds
-use Rattle.yq_core.proofs.SchemaLaws.{resolve_again}
+use Rattle.yq_core.{specs.Values.{items, entries}, specs.Numbers.{unsigned, minus}}
+use Rattle.yq_core.{specs.Paths.{To, child_at, change_child, append_child, append_children}, specs.SchemaReading.resolve}
+use Rattle.yq_core.{specs.Tree.{Node, Children, none, child, key_label}, proofs.SchemaLaws.resolve_again}
 use Rattle.yq_planner.specs.EntryNumbers.{entry_number, number_kept}
-use Rattle.yq_semantics.specs.Judgement.{Judgement, and_then, gives, refuses}
-use Rattle.yq_semantics.specs.Places.{Place, chained}
-use Rattle.yq_semantics.specs.Program.{Term}
+use Rattle.yq_semantics.{specs.Judgement.{Judgement, and_then, gives, refuses}, specs.Places.{Place, chained}, specs.Program.Term}
 use Rattle.yq_semantics.specs.RightValues.{as_items, with_entry, with_entries, value_sum, sum, term_value, sum_from, right_value}
+use Rattle.yq_core.specs.Numbers as numbers
+use Rattle.yq_core.specs.Tree as tree
+use Rattle.yq_core.specs.declared.kind.Kind.TheVariants as kinds
 
 -- ---- ints
 

@@ -1,20 +1,18 @@
 -- Anchors that aliases name, node by node.
 use Rattle.std.proofs.Common.{◌≡◌, ℕ, Bool, true, false, ◌||◌, cond, List, [], ◌∷◌, length, Option, Some, None, refl, sym, ap, ◌∙◌}
-use Rattle.std.proofs.lemmas.Bool.{false≢true}
-use Rattle.std.proofs.lemmas.List.Folds.{list_any-append}
-use Rattle.std.specs.List.{list_any}
+use Rattle.std.{proofs.lemmas.Bool.false≢true, proofs.lemmas.List.Folds.list_any-append, specs.List.list_any}
 use Rattle.yq_core.specs.Paths.{Step, To, child_at, node_at}
-use Rattle.yq_core.specs.Tree as tree
 use Rattle.yq_core.specs.Tree.{Label, Node, alias, scalar, list, Children, child, children_of, anchor_of}
 use Rattle.yq_core.specs.Anchors.{Name, Anchors, Refers, names_of, names_in}
 use Rattle.yq_outline.specs.Names.{is_reference}
 use Rattle.yq_nodes.specs.Nodes.{kind_of, text_of}
-use Rattle.yq_nodes.specs.declared.nodes.node.NodeKind.TheVariants as kinds
-use Rattle.yq_semantics.specs.Changes.{Addition, appends, overwrites, Change, replaces, adds, removes, sets_comment, allowed, is_too_deep, is_too_long, refers_to, is_used, is_used_inside, is_used_in, overwrites_used, takes_used}
-use Rattle.yq_semantics.specs.Judgement.{gives, refuses}
-use Rattle.yq_semantics.specs.declared.refusal.Refusal.TheVariants.{AnchorInUse}
-use Rattle.yq_planner.specs.TakenNames.{is_used_anchor, overwrites_at, takes_at}
+use Rattle.yq_semantics.specs.Changes.{Addition, appends, overwrites, Change, replaces, adds, removes, sets_comment, allowed, is_too_deep}
+use Rattle.yq_semantics.specs.Changes.{is_too_long, refers_to, is_used, is_used_inside, is_used_in, overwrites_used, takes_used}
+use Rattle.yq_semantics.{specs.Judgement.{gives, refuses}, specs.declared.refusal.Refusal.TheVariants.AnchorInUse}
 use Rattle.yq_semantics.proofs.ChildPlaces.{node_further}
+use Rattle.yq_planner.specs.TakenNames.{is_used_anchor, overwrites_at, takes_at}
+use Rattle.yq_core.specs.Tree as tree
+use Rattle.yq_nodes.specs.declared.nodes.node.NodeKind.TheVariants as kinds
 
 -- ---- anchors of a node
 

@@ -1,13 +1,11 @@
 -- The changes that those of the code stand for.
-use Rattle.std.specs.Prelude.{List, [], ◌∷◌, map, Option, Some, None, option_map, string_bytes}
-use Rattle.std.specs.Global.{Vec}
-use Rattle.yq_core.specs.Entries.{tree_step}
-use Rattle.yq_core.specs.Values.{value_node}
+use Rattle.std.{specs.Prelude.{List, [], ◌∷◌, map, Option, Some, None, option_map, string_bytes}, specs.Global.Vec}
+use Rattle.yq_core.{specs.Entries.tree_step, specs.Values.value_node}
+use Rattle.yq_semantics.specs.Places.{Place}
+use Rattle.yq_semantics.specs.Changes.{Addition, appends, overwrites, Change, replaces, adds, removes, sets_comment, Changed}
 use Rattle.yq_planner.specs.declared.updating.change.Addition as addition
 use Rattle.yq_planner.specs.declared.updating.change.Change as change
 use Rattle.yq_planner.specs.declared.updating.change.PlacedChange as changed
-use Rattle.yq_semantics.specs.Places.{Place}
-use Rattle.yq_semantics.specs.Changes.{Addition, appends, overwrites, Change, replaces, adds, removes, sets_comment, Changed}
 
 -- the addition that one of the code stands for (own)
 abbrev pub addition_of : addition.Addition → Addition

@@ -1,8 +1,6 @@
 -- Entries by their numbers.
 use Rattle.std.specs.Prelude.{◌≡◌, ℕ, suc, List, [], ◌∷◌, Option, Some, None, option_map, if◌then◌else◌, String}
-use Rattle.std.specs.BTreeMap.{BTreeMap, get_by_text}
-use Rattle.std.specs.Str.{bytes_eq}
-use Rattle.std.specs.declared.alloc.Global.{Global}
+use Rattle.std.{specs.BTreeMap.{BTreeMap, get_by_text}, specs.Str.bytes_eq, specs.declared.alloc.Global.Global}
 use Rattle.yq_core.specs.Tree.{Node}
 
 -- the number from 0 of the first entry of a key, if there is one (own)

@@ -1,16 +1,10 @@
 -- Maps by texts, as the code makes them of nodes.
-use Rattle.std.specs.Prelude.{◌≡◌, ℕ, List, Option, Some, None, option_map, is_some, if◌then◌else◌}
-use Rattle.std.specs.BTreeMap.{BTreeMap, get_by}
-use Rattle.std.specs.Borrow.{Bor}
-use Rattle.std.specs.Cmp.Lexicographic.{slice_cmp}
-use Rattle.std.specs.List.{list_any}
-use Rattle.std.specs.Ordering.{nat_cmp}
-use Rattle.yq_core.specs.Paths.{To, child_at, key_is}
-use Rattle.yq_core.specs.Tree.{Label, Node, Children}
-use Rattle.yq_core.specs.Anchors.{Name}
+use Rattle.std.{specs.Prelude.{◌≡◌, ℕ, List, Option, Some, None, option_map, is_some, if◌then◌else◌}, specs.BTreeMap.{BTreeMap, get_by}}
+use Rattle.std.{specs.Borrow.Bor, specs.Cmp.Lexicographic.slice_cmp, specs.List.list_any, specs.Ordering.nat_cmp}
+use Rattle.yq_core.{specs.Paths.{To, child_at, key_is}, specs.Tree.{Label, Node, Children}, specs.Anchors.Name}
 use Rattle.yq_nodes.specs.Nodes.{node_of}
-use Rattle.yq_nodes.specs.declared.nodes.node.Node as nodes
 use Rattle.yq_semantics.specs.Changes.{refers_to}
+use Rattle.yq_nodes.specs.declared.nodes.node.Node as nodes
 
 -- what a map has for a text (own)
 abbrev pub get_text : {X : Type 0} → List ℕ → BTreeMap (Bor (List ℕ)) X → Option X

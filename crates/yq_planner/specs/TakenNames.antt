@@ -1,10 +1,8 @@
 -- Whether a change takes away an anchor that an alias names, by the node at which it is made: as the code finds it.
-use Rattle.std.specs.Prelude.{ℕ, List, Bool, false, Some, None, Option}
-use Rattle.std.specs.List.{list_any}
-use Rattle.yq_core.specs.Paths.{To, child_at}
-use Rattle.yq_core.specs.Tree.{Node, Children, children_of}
-use Rattle.yq_core.specs.Anchors.{Name}
-use Rattle.yq_semantics.specs.Changes.{Addition, appends, overwrites, Change, replaces, adds, removes, sets_comment, refers_to, is_used_inside, is_used_in}
+use Rattle.std.{specs.Prelude.{ℕ, List, Bool, false, Some, None, Option}, specs.List.list_any}
+use Rattle.yq_core.{specs.Paths.{To, child_at}, specs.Tree.{Node, Children, children_of}, specs.Anchors.Name}
+use Rattle.yq_semantics.specs.Changes.{Addition, appends, overwrites, Change, replaces, adds, removes, sets_comment, refers_to}
+use Rattle.yq_semantics.specs.Changes.{is_used_inside, is_used_in}
 
 -- whether an anchor, if there is one, is named by an alias among these names (own)
 abbrev pub is_used_anchor : List Name → Option (List ℕ) → Bool

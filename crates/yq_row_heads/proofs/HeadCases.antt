@@ -1,11 +1,7 @@
 -- The head of a row by cases: nothing, a block scalar, a quoted one, a plain one on one line, and any other inline node.
-use Rattle.std.proofs.Common.{◌≡◌, ℕ, ℤ, List, [], ◌∷◌, true, false, length, Some, None, refl, ◌∙◌, rules}
-use Rattle.std.specs.Prelude.{◌==◌}
+use Rattle.std.{proofs.Common.{◌≡◌, ℕ, ℤ, List, [], ◌∷◌, true, false, length, Some, None, refl, ◌∙◌, rules}, specs.Prelude.◌==◌}
 use Rattle.std.proofs.lemmas.Bool.{cond-true, cond-false}
-use Rattle.yq_core.specs.Scalar.{plain_of}
-use Rattle.yq_core.specs.Text.{is_empty}
-use Rattle.yq_core.specs.Scalars.{is_quoted, scalar_content}
-use Rattle.yq_core.specs.Trees.{scalar_node}
+use Rattle.yq_core.{specs.Scalar.plain_of, specs.Text.is_empty, specs.Scalars.{is_quoted, scalar_content}, specs.Trees.scalar_node}
 use Rattle.yq_documents.specs.FlowReading.{head_flow_at, node_flow_at}
 use Rattle.yq_documents.specs.RowReading.{block_head_at, read_head, is_block_head, is_short_plain, node_head_at, string_head}
 

@@ -1,12 +1,9 @@
 //! The texts that keys and scalars stand for.
-ghost use Rattle.std.specs.List.{list_any};
-ghost use Rattle.std.specs.Prelude.{◌≡◌, ◌==◌, IfOk, None, Some, if◌then◌else◌, true};
-ghost use Rattle.yq_core.specs.ContentReading as reading;
-ghost use Rattle.yq_core.specs.Quoted.{IsQuotedText};
-ghost use Rattle.yq_core.specs.Scalar.{plain_of};
-ghost use Rattle.yq_core.specs.Scalars as scalars;
-ghost use Rattle.yq_core.specs.Trees.{scalar_node};
+ghost use Rattle.std.{specs.List.list_any, specs.Prelude.{◌≡◌, ◌==◌, IfOk, None, Some, if◌then◌else◌, true}};
+ghost use Rattle.yq_core.{specs.Quoted.IsQuotedText, specs.Scalar.plain_of, specs.Trees.scalar_node};
 ghost use Rattle.yq_outline.specs.View.{content_view, head_view, head_flow};
+ghost use Rattle.yq_core.specs.ContentReading as reading;
+ghost use Rattle.yq_core.specs.Scalars as scalars;
 
 use std::alloc::{AllocError, Global};
 use yq_core::{Kind, is_quoted, resolve};

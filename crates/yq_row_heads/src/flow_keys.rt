@@ -1,7 +1,6 @@
 //! The keys in flow collections, as they are written.
 ghost use Rattle.std.specs.Prelude.{◌≡◌, ◌≢◌, is_none, IfSome};
-ghost use Rattle.yq_core.specs.Spans.{HasSpans, IsSpan, PartsHaveSpans};
-ghost use Rattle.yq_core.specs.View.{entries_end, items_end, inline_view as node_view};
+ghost use Rattle.yq_core.{specs.Spans.{HasSpans, IsSpan, PartsHaveSpans}, specs.View.{entries_end, items_end, inline_view as node_view}};
 ghost use Rattle.yq_core.specs.declared.fault.FaultKind.TheVariants.{NotUtf8};
 ghost use Rattle.yq_documents.specs.KeyReading as spec;
 

@@ -1,15 +1,12 @@
 //! The heads of rows.
 ghost use Rattle.std.specs.Prelude.{◌≡◌, IfErr, IfOk, None, length, true};
-ghost use Rattle.yq_core.specs.Answers.{Gives, IsOfText};
-ghost use Rattle.yq_core.specs.Quoted.{IsQuotedText};
-ghost use Rattle.yq_core.specs.Scalars.{is_quoted, scalar_content as content_text};
-ghost use Rattle.yq_core.specs.View.{inline_view as node_view};
+ghost use Rattle.yq_core.{specs.Answers.{Gives, IsOfText}, specs.Quoted.IsQuotedText};
+ghost use Rattle.yq_core.{specs.Scalars.{is_quoted, scalar_content as content_text}, specs.View.inline_view as node_view};
 ghost use Rattle.yq_row_table.specs.View.{row_view};
-ghost use Rattle.yq_documents.specs.FlowReading as flow;
 ghost use Rattle.yq_documents.specs.KeyReading.{EndsIn};
-ghost use Rattle.yq_outline.specs.Lines.{head_of};
+ghost use Rattle.yq_outline.{specs.Lines.head_of, specs.View.{head_view, head_flow}};
+ghost use Rattle.yq_documents.specs.FlowReading as flow;
 ghost use Rattle.yq_documents.specs.RowReading as spec;
-ghost use Rattle.yq_outline.specs.View.{head_view, head_flow};
 
 use crate::content::{content_of, plain_head};
 use crate::flow_keys::keys_fault;

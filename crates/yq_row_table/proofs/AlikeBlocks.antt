@@ -1,17 +1,14 @@
 -- A block scalar before one text is one before a text that is alike.
-use Rattle.std.proofs.Common.{◌≡◌, inl, inr, ℕ, suc, Bool, false, cond, not, ◌&&◌, eqb, List, [], ◌∷◌, ◌++◌, refl, sym, ap, ◌∙◌, Some, rules}
-use Rattle.std.proofs.Math.Bool.{and-false}
-use Rattle.std.proofs.lemmas.Bool.{false≢true, not-true, cases_Bool, or_parts}
+use Rattle.std.proofs.Common.{◌≡◌, inl, inr, ℕ, suc, Bool, false, cond, not, ◌&&◌, eqb, List, [], ◌∷◌, ◌++◌, refl, sym, ap, ◌∙◌, Some}
+use Rattle.std.{proofs.Common.rules, proofs.Math.Bool.and-false, proofs.lemmas.Bool.{false≢true, not-true, cases_Bool, or_parts}}
 use Rattle.yq_core.specs.Block.{is_empty_line, is_less_indented, ends_block, IsBlock, BlockText, keeps}
 use Rattle.yq_core.specs.Lines.{spaces, behind_spaces, is_tab}
 use Rattle.yq_core.specs.Text.{front, is_white, is_feed, is_return, is_break, ends_line, text_lines, put_byte}
-use Rattle.yq_core.specs.declared.block_lines.TextIndent.{TextIndent}
-use Rattle.yq_core.proofs.Bools.{at_byte}
-use Rattle.yq_core.proofs.SpaceLaws.{prefix_drop, prefix_next, prefix_none}
+use Rattle.yq_core.{specs.declared.block_lines.TextIndent.TextIndent, proofs.Bools.at_byte}
+use Rattle.yq_core.{proofs.SpaceLaws.{prefix_drop, prefix_next, prefix_none}, specs.Alike.{ends_lookahead, Alike, stop, colon, after}}
+use Rattle.yq_core.proofs.Alikes.{stop_break}
 use Rattle.yq_row_table.proofs.Fronts.{Starts}
 use Rattle.yq_core.specs.Alike as texts
-use Rattle.yq_core.specs.Alike.{ends_lookahead, Alike, stop, colon, after}
-use Rattle.yq_core.proofs.Alikes.{stop_break}
 
 -- two lines that are the same up to bytes that are no spaces and begin no break, of which both or none are tabs
 pub data LineAlike : List ℕ → List ℕ → Type 0 where

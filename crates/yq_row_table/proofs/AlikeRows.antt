@@ -1,18 +1,15 @@
 -- A row, and rows, before one text are rows before a text that is alike.
-use Rattle.std.proofs.Common.{inl, ℕ, ℤ, Bool, false, ◌&&◌, eqb, List, [], ◌∷◌, ◌++◌, Option, Some, None, drop, sym, ap, ◌∙◌, ⊎_elim, replicate, ◌≡◌, rules}
-use Rattle.yq_core.specs.Block.{BlockText, block_text}
-use Rattle.yq_core.specs.Piece.{deeper}
-use Rattle.yq_core.specs.Text.{joined}
-use Rattle.yq_core.specs.Inline.{depth_limit}
+use Rattle.std.proofs.Common.{inl, ℕ, ℤ, Bool, false, ◌&&◌, eqb, List, [], ◌∷◌, ◌++◌, Option, Some, None, drop, sym, ap, ◌∙◌, ⊎_elim}
+use Rattle.std.proofs.Common.{replicate, ◌≡◌, rules}
+use Rattle.yq_core.{specs.Block.{BlockText, block_text}, specs.Piece.deeper, specs.Text.joined, specs.Inline.depth_limit}
+use Rattle.yq_core.{specs.Alike.{Alike, after}, proofs.Alikes.{alike_append, alike_separates, alike_marker}}
+use Rattle.yq_core.{proofs.LineNodes.line_node_alike, proofs.NodeKeeps.node_text_alike, proofs.AlikePieces.{scalar_alike, name_alike}}
 use Rattle.yq_row_table.specs.Gap.{IsBreak, IsLineEnd, AreGapLines, IsGap}
-use Rattle.yq_row_table.specs.Grammar.{IsColon, IsKey, IsTail, IsAnchor, IsContent, IsMark, IsRow, Limit, limit_after, AreRows, IsPart, IsMarkerLine}
-use Rattle.yq_row_table.specs.Rows.{RowMark, Bare, Dash, Key, Anchor, Content, Nothing, Inline, Block, dashes_text, mark_text, anchor_text, content_text, Row, behind_indent, behind_gap, parent_indent, print_row, rows_text, Part, part_text}
-use Rattle.yq_core.specs.Alike.{Alike, after}
-use Rattle.yq_core.proofs.Alikes.{alike_append, alike_separates, alike_marker}
+use Rattle.yq_row_table.specs.Grammar.{IsColon, IsKey, IsTail, IsAnchor, IsContent, IsMark, IsRow, Limit, limit_after, AreRows, IsPart}
+use Rattle.yq_row_table.specs.Grammar.{IsMarkerLine}
+use Rattle.yq_row_table.specs.Rows.{RowMark, Bare, Dash, Key, Anchor, Content, Nothing, Inline, Block, dashes_text, mark_text, anchor_text}
+use Rattle.yq_row_table.specs.Rows.{content_text, Row, behind_indent, behind_gap, parent_indent, print_row, rows_text, Part, part_text}
 use Rattle.yq_row_table.proofs.AlikeBlocks.{block_alike}
-use Rattle.yq_core.proofs.LineNodes.{line_node_alike}
-use Rattle.yq_core.proofs.NodeKeeps.{node_text_alike}
-use Rattle.yq_core.proofs.AlikePieces.{scalar_alike, name_alike}
 
 -- ends of lines and gaps
 alike_some : (t u : List ℕ) → Alike (Some false) t u → t ≡ [] → ⊥

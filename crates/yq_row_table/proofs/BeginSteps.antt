@@ -1,15 +1,12 @@
 -- Dashes and the mark behind them, as the code reads them.
-use Rattle.std.proofs.Common.{◌≡◌, ℕ, suc, ◌+◌, ◌-◌, ◌<◌, ◌≤◌, true, false, not, ◌&&◌, List, [], ◌∷◌, ◌++◌, length, take, drop, Option, Some, None, refl, sym, ap, ◌∙◌, subst, arith, append_assoc, append-nil, length-append, replicate}
-use Rattle.std.proofs.lemmas.List.{length-replicate}
-use Rattle.std.specs.Str.{IsUtf8, IsCharBoundary}
-use Rattle.yq_core.specs.Text.{cut, no_space, is_empty}
-use Rattle.yq_core.proofs.Upto.{cut_takes}
+use Rattle.std.proofs.Common.{◌≡◌, ℕ, suc, ◌+◌, ◌-◌, ◌<◌, ◌≤◌, true, false, not, ◌&&◌, List, [], ◌∷◌, ◌++◌, length, take, drop, Option}
+use Rattle.std.proofs.Common.{Some, None, refl, sym, ap, ◌∙◌, subst, arith, append_assoc, append-nil, length-append, replicate}
+use Rattle.std.{proofs.lemmas.List.length-replicate, specs.Str.{IsUtf8, IsCharBoundary}}
+use Rattle.yq_core.{specs.Text.{cut, no_space, is_empty}, proofs.Upto.cut_takes}
 use Rattle.yq_row_table.specs.Slicing.{Begun, begun, with_dashes}
 use Rattle.yq_row_table.specs.Reading.{Marks, read_row_key, begins_entry, is_dash, key_mark, mark_at, undashed, with_dash, read_marks}
-use Rattle.yq_row_table.specs.Rows.{RowMark, Dash, behind_columns}
-use Rattle.yq_row_table.specs.View.{last_dash}
-use Rattle.yq_row_table.proofs.MarkLaws.{dash_is, marks_more, marks_dash, marks_none, spaces_are}
-use Rattle.yq_row_table.proofs.PieceLaws.{key_takes}
+use Rattle.yq_row_table.{specs.Rows.{RowMark, Dash, behind_columns}, specs.View.last_dash}
+use Rattle.yq_row_table.{proofs.MarkLaws.{dash_is, marks_more, marks_dash, marks_none, spaces_are}, proofs.PieceLaws.key_takes}
 use Rattle.yq_row_table.proofs.FrontLaws.{front_take, front_drop, front_boundary, front_join, front_next}
 
 pub columns_from : (c : ℕ) (ns : List ℕ) → behind_columns c ns ≡ c + behind_columns 0 ns

@@ -1,25 +1,16 @@
 -- What a gap behind a block scalar asks of it, by the pieces of its row.
-use Rattle.std.proofs.Common.{◌≡◌, ℕ, ℤ, true, false, eqb, cond, List, [], ◌∷◌, ◌++◌, Some, None, refl, sym, ap, ◌∙◌, append-nil, option_map}
-use Rattle.std.proofs.lemmas.Bool.{cond_both, false≢true}
-use Rattle.yq_core.specs.Block.{BlockText, IsBlock, ends_block, style_indicator}
-use Rattle.yq_core.specs.BlockReading.{indent_at, indicators_at}
-use Rattle.yq_core.specs.Piece.{deeper}
-use Rattle.yq_core.specs.Text.{front, joined, text_lines}
-use Rattle.yq_core.specs.declared.block_header.BlockStyle.{BlockStyle}
-use Rattle.yq_core.specs.declared.block_header.BlockStyle.TheVariants as styles
-use Rattle.yq_core.proofs.DetectedLaws.{indent_again}
-use Rattle.yq_core.proofs.HeaderLaws.{indicators_again}
-use Rattle.yq_core.proofs.RawLaws.{raw_lines}
+use Rattle.std.proofs.Common.{◌≡◌, ℕ, ℤ, true, false, eqb, cond, List, [], ◌∷◌, ◌++◌, Some, None, refl, sym, ap, ◌∙◌, append-nil}
+use Rattle.std.{proofs.Common.option_map, proofs.lemmas.Bool.{cond_both, false≢true}}
+use Rattle.yq_core.{specs.Block.{BlockText, IsBlock, ends_block, style_indicator}, specs.BlockReading.{indent_at, indicators_at}}
+use Rattle.yq_core.{specs.Piece.deeper, specs.Text.{front, joined, text_lines}, specs.declared.block_header.BlockStyle.BlockStyle}
+use Rattle.yq_core.{proofs.DetectedLaws.indent_again, proofs.HeaderLaws.indicators_again, proofs.RawLaws.raw_lines}
 use Rattle.yq_core.specs.Inline.{depth_limit}
 use Rattle.yq_core.specs.Nodes.{FlowNode, empty, alias, scalar, coll, anchored, node_text, flow_items_text, takes_anchor, IsFlowNode}
-use Rattle.yq_core.specs.Scalars.{IsScalarAt, begins_scalar}
-use Rattle.yq_core.proofs.NodesPieceLaws.{front_not, scalar_begins}
-use Rattle.yq_row_table.specs.BlockNumbers.{block_numbers_of}
-use Rattle.yq_row_table.specs.Grammar.{IsContent}
-use Rattle.yq_row_table.specs.Removal.{block_numbers, block_of}
-use Rattle.yq_row_table.specs.Rows.{Content, Nothing, Inline, Block}
-use Rattle.yq_row_table.specs.View.{anchor_cut, content_cut}
+use Rattle.yq_core.{specs.Scalars.{IsScalarAt, begins_scalar}, proofs.NodesPieceLaws.{front_not, scalar_begins}}
+use Rattle.yq_row_table.{specs.BlockNumbers.block_numbers_of, specs.Grammar.IsContent, specs.Removal.{block_numbers, block_of}}
+use Rattle.yq_row_table.{specs.Rows.{Content, Nothing, Inline, Block}, specs.View.{anchor_cut, content_cut}}
 use Rattle.yq_row_table.proofs.NodeFronts.{is_block_mark}
+use Rattle.yq_core.specs.declared.block_header.BlockStyle.TheVariants as styles
 
 -- no inline node begins as a block scalar does
 scalar_no_mark : (n : ℤ) (p rest : List ℕ) → IsScalarAt false (Some (deeper n)) p rest → front is_block_mark p ≡ false

@@ -1,28 +1,17 @@
 -- Block scalars behind a mark, as the code lends them.
-use Rattle.std.proofs.Common.{◌≡◌, ℕ, suc, ◌+◌, ◌-◌, ◌<◌, ◌≤◌, true, false, not, ◌||◌, eqb, List, [], ◌∷◌, ◌++◌, length, take, drop, get_or, Option, Some, None, refl, sym, ap, ◌∙◌, subst, ⊎_elim, arith, eqb-true, ℤ, length-append, length-take}
+use Rattle.std.proofs.Common.{◌≡◌, ℕ, suc, ◌+◌, ◌-◌, ◌<◌, ◌≤◌, true, false, not, ◌||◌, eqb, List, [], ◌∷◌, ◌++◌, length, take, drop, get_or}
+use Rattle.std.proofs.Common.{Option, Some, None, refl, sym, ap, ◌∙◌, subst, ⊎_elim, arith, eqb-true, ℤ, length-append, length-take}
 use Rattle.std.proofs.lemmas.Bool.{false≢true, or_cases, and_parts, cases_Bool}
-use Rattle.std.proofs.Math.Seq.{take-append_seam, drop-append_seam, get_or-append_seam}
-use Rattle.std.proofs.lemmas.Option.{same_Some}
-use Rattle.std.proofs.lemmas.Str.{IsCharBoundary-start, IsCharBoundary-before_ascii}
-use Rattle.std.specs.Str.{IsUtf8, IsCharBoundary}
-use Rattle.yq_core.specs.Answers.{◌>>=◌}
-use Rattle.yq_core.specs.Block.{style_indicator, BlockText, block_text, block_piece, is_tail, IsBlock}
-use Rattle.yq_core.specs.BlockReading.{block_at, block_from}
-use Rattle.yq_core.specs.Lines.{is_blank}
-use Rattle.yq_core.specs.Piece.{deeper}
+use Rattle.std.{proofs.Math.Seq.{take-append_seam, drop-append_seam, get_or-append_seam}, proofs.lemmas.Option.same_Some}
+use Rattle.std.{proofs.lemmas.Str.{IsCharBoundary-start, IsCharBoundary-before_ascii}, specs.Str.{IsUtf8, IsCharBoundary}}
+use Rattle.yq_core.{specs.Answers.◌>>=◌, specs.Block.{style_indicator, BlockText, block_text, block_piece, is_tail, IsBlock}}
+use Rattle.yq_core.{specs.BlockReading.{block_at, block_from}, specs.Lines.is_blank, specs.Piece.deeper}
 use Rattle.yq_core.specs.Text.{cut, upto, unless, front, no_white, past_white, ends_line, is_line, is_white, joined}
-use Rattle.yq_core.specs.declared.piece.Piece.{Piece}
-use Rattle.yq_core.proofs.BlockLaws.{block_takes}
-use Rattle.yq_core.proofs.BlockPieceLaws.{line_lf, raw_lf, cut_lf}
-use Rattle.yq_core.proofs.Bools.{bind_some}
-use Rattle.yq_core.proofs.Boundaries.{break_ascii, white_ascii}
-use Rattle.yq_core.proofs.Upto.{upto_here, upto_ends, upto_le_length}
-use Rattle.yq_row_table.specs.View.{anchor_with_sign, apart_of}
-use Rattle.yq_core.specs.Nodes.{begins_with, in_name}
-use Rattle.yq_core.specs.Reading.{name_at}
-use Rattle.yq_row_table.specs.Slicing.{Filled, cut_anchor, cut_apart, block_sliced}
-use Rattle.yq_row_table.specs.Reading.{past_anchor, begins_block, anchor_at, block_content_at}
-use Rattle.yq_row_table.specs.Rows.{Anchor}
+use Rattle.yq_core.{specs.declared.piece.Piece.Piece, proofs.BlockLaws.block_takes, proofs.BlockPieceLaws.{line_lf, raw_lf, cut_lf}}
+use Rattle.yq_core.{proofs.Bools.bind_some, proofs.Boundaries.{break_ascii, white_ascii}}
+use Rattle.yq_core.{proofs.Upto.{upto_here, upto_ends, upto_le_length}, specs.Nodes.{begins_with, in_name}, specs.Reading.name_at}
+use Rattle.yq_row_table.{specs.View.{anchor_with_sign, apart_of}, specs.Slicing.{Filled, cut_anchor, cut_apart, block_sliced}}
+use Rattle.yq_row_table.{specs.Reading.{past_anchor, begins_block, anchor_at, block_content_at}, specs.Rows.Anchor}
 
 -- where a block scalar begins
 past_is : (t : List ℕ) → past_anchor t ≡ (cut_apart t).2

@@ -1,12 +1,8 @@
 -- The characters of a text of which a piece is exchanged.
 use Rattle.std.proofs.Common.{inl, inr, ◌≡◌, ℕ, Bool, true, false, ◌&&◌, List, [], ◌∷◌, ◌++◌, refl, sym, ap, ◌∙◌, append_assoc, rules}
-use Rattle.std.proofs.lemmas.Bool.{false≢true, and_from, and_parts, cases_Bool}
-use Rattle.std.proofs.lemmas.List.Folds.{list_all-append}
-use Rattle.std.proofs.lemmas.Str.{chars-append}
-use Rattle.std.specs.List.{list_all}
-use Rattle.std.specs.Str.{chars, IsUtf8}
-use Rattle.yq_core.specs.Characters.{is_text, is_text_char, pairs_returns}
-use Rattle.yq_core.specs.Text.{front, is_feed, is_return}
+use Rattle.std.{proofs.lemmas.Bool.{false≢true, and_from, and_parts, cases_Bool}, proofs.lemmas.List.Folds.list_all-append}
+use Rattle.std.{proofs.lemmas.Str.chars-append, specs.List.list_all, specs.Str.{chars, IsUtf8}}
+use Rattle.yq_core.{specs.Characters.{is_text, is_text_char, pairs_returns}, specs.Text.{front, is_feed, is_return}}
 
 -- an LF behind each CR, in pieces
 front_more : (a b : List ℕ) → front is_feed a ≡ true → front is_feed (a ++ b) ≡ true

@@ -1,22 +1,12 @@
 -- Behind a mark no dash and no key begins.
 use Rattle.std.proofs.Common.{◌≡◌, ℕ, ℤ, suc, true, false, not, eqb, List, [], ◌∷◌, ◌++◌, drop, Option, Some, None, refl, rules}
-use Rattle.std.proofs.Math.Bool.{and-false}
-use Rattle.std.proofs.lemmas.Bool.{cond_both}
-use Rattle.yq_core.specs.Block.{BlockText, block_text}
-use Rattle.yq_core.specs.Piece.{deeper}
-use Rattle.yq_core.specs.Text.{cut, upto, no_space, is_white}
-use Rattle.yq_core.proofs.Bools.{at_byte}
-use Rattle.yq_core.proofs.Upto.{upto_here}
-use Rattle.yq_core.specs.Inline.{depth_limit}
-use Rattle.yq_core.specs.Nodes.{node_text, begins_node}
+use Rattle.std.{proofs.Math.Bool.and-false, proofs.lemmas.Bool.cond_both}
+use Rattle.yq_core.{specs.Block.{BlockText, block_text}, specs.Piece.deeper, specs.Text.{cut, upto, no_space, is_white}}
+use Rattle.yq_core.{proofs.Bools.at_byte, proofs.Upto.upto_here, specs.Inline.depth_limit, specs.Nodes.{node_text, begins_node}}
 use Rattle.yq_core.specs.Scalars.{begins_scalar}
-use Rattle.yq_row_table.specs.Gap.{IsWhite}
-use Rattle.yq_row_table.specs.Grammar.{IsContent, may_be_alone, IsMark}
-use Rattle.yq_row_table.specs.Reading.{begins_entry}
+use Rattle.yq_row_table.{specs.Gap.IsWhite, specs.Grammar.{IsContent, may_be_alone, IsMark}, specs.Reading.begins_entry}
 use Rattle.yq_row_table.specs.Rows.{RowMark, Anchor, Content, Nothing, Inline, Block, content_text, anchor_text}
-use Rattle.yq_row_table.proofs.Fronts.{tail_front, node_starts}
-use Rattle.yq_row_table.proofs.MarkAgain.{Ended}
-use Rattle.yq_row_table.proofs.NodeFronts.{node_begins, block_front}
+use Rattle.yq_row_table.{proofs.Fronts.{tail_front, node_starts}, proofs.MarkAgain.Ended, proofs.NodeFronts.{node_begins, block_front}}
 use Rattle.yq_row_table.proofs.NoKeys.{no_key, tail_no_colon, NoEntry, node_no_entry}
 
 -- White space, and behind it neither a space nor a dash or key.

@@ -1,29 +1,19 @@
 -- What stands behind a mark, read and spelled.
-use Rattle.std.proofs.Common.{◌≡◌, ℕ, ℤ, true, false, cond, not, List, ◌∷◌, ◌++◌, drop, Option, Some, refl, sym, ap, ◌∙◌, subst, ⊎_elim, eqb-true, rules}
-use Rattle.std.proofs.lemmas.Bool.{false≢true, or_cases}
-use Rattle.std.proofs.lemmas.Option.{same_Some}
-use Rattle.yq_core.specs.Answers.{◌>>=◌}
-use Rattle.yq_core.specs.declared.style.Place.TheVariants as places
-use Rattle.yq_core.specs.Block.{IsBlock, BlockText, block_text}
-use Rattle.yq_core.specs.BlockReading.{block_at}
-use Rattle.yq_core.specs.Piece.{deeper}
-use Rattle.yq_core.specs.Text.{cut, unless, front, is_empty, no_white, past_white}
-use Rattle.yq_core.proofs.BlockLaws.{block_takes, block_again}
-use Rattle.yq_core.proofs.Bools.{bind_some, chosen}
-use Rattle.yq_core.proofs.Upto.{cut_takes}
-use Rattle.yq_core.specs.Inline.{depth_limit, IsInline}
+use Rattle.std.proofs.Common.{◌≡◌, ℕ, ℤ, true, false, cond, not, List, ◌∷◌, ◌++◌, drop, Option, Some, refl, sym, ap, ◌∙◌, subst, ⊎_elim}
+use Rattle.std.{proofs.Common.{eqb-true, rules}, proofs.lemmas.Bool.{false≢true, or_cases}, proofs.lemmas.Option.same_Some}
+use Rattle.yq_core.{specs.Answers.◌>>=◌, specs.Block.{IsBlock, BlockText, block_text}, specs.BlockReading.block_at, specs.Piece.deeper}
+use Rattle.yq_core.{specs.Text.{cut, unless, front, is_empty, no_white, past_white}, proofs.BlockLaws.{block_takes, block_again}}
+use Rattle.yq_core.{proofs.Bools.{bind_some, chosen}, proofs.Upto.cut_takes, specs.Inline.{depth_limit, IsInline}}
 use Rattle.yq_core.specs.Nodes.{FlowNode, node_text, begins_with, in_name, begins_node, IsName, is_empty_node}
-use Rattle.yq_core.specs.Reading.{name_at, all_node}
-use Rattle.yq_core.proofs.NodeLaws.{all_takes, all_again}
+use Rattle.yq_core.{specs.Reading.{name_at, all_node}, proofs.NodeLaws.{all_takes, all_again}}
 use Rattle.yq_core.proofs.NodesPieceLaws.{front_is, name_takes, name_again}
-use Rattle.yq_row_table.specs.Gap.{IsWhite}
-use Rattle.yq_row_table.specs.Grammar.{IsTail, IsAnchor, IsContent}
+use Rattle.yq_row_table.{specs.Gap.IsWhite, specs.Grammar.{IsTail, IsAnchor, IsContent}}
 use Rattle.yq_row_table.specs.Reading.{begins_block, anchor_at, block_content_at, inline_content_at, read_content, read_tail}
 use Rattle.yq_row_table.specs.Rows.{Anchor, Content, Nothing, Inline, Block, anchor_text, content_text}
-use Rattle.yq_row_table.proofs.Fronts.{tail_front, node_starts}
-use Rattle.yq_row_table.proofs.LineEnds.{white_cut, white_again}
+use Rattle.yq_row_table.{proofs.Fronts.{tail_front, node_starts}, proofs.LineEnds.{white_cut, white_again}}
 use Rattle.yq_row_table.proofs.NodeFronts.{is_block_mark, node_begins, bare_node, no_block_here, name_cut, node_no_block, block_front}
 use Rattle.yq_row_table.proofs.PieceLaws.{tail_takes, tail_again}
+use Rattle.yq_core.specs.declared.style.Place.TheVariants as places
 
 -- an anchor before a block scalar
 apart_some : (gap rest : List ℕ) → unless in_name (gap ++ rest) ≡ true → front is_block_mark rest ≡ true → is_empty gap ≡ false

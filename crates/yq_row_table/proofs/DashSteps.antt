@@ -1,12 +1,10 @@
 -- A dash behind which a further one stands, or a key, or neither.
-use Rattle.std.proofs.Common.{◌≡◌, ℕ, ◌-◌, ◌≤◌, Bool, true, false, cond, not, ◌&&◌, ◌||◌, List, ◌++◌, length, take, drop, Option, Some, None, refl, sym, ap, arith}
-use Rattle.std.proofs.lemmas.Bool.{false≢true}
+use Rattle.std.proofs.Common.{◌≡◌, ℕ, ◌-◌, ◌≤◌, Bool, true, false, cond, not, ◌&&◌, ◌||◌, List, ◌++◌, length, take, drop, Option, Some}
+use Rattle.std.{proofs.Common.{None, refl, sym, ap, arith}, proofs.lemmas.Bool.false≢true}
 use Rattle.yq_core.specs.Text.{cut, no_space, is_empty}
 use Rattle.yq_row_table.specs.Slicing.{begun, with_dashes}
-use Rattle.yq_row_table.specs.Reading.{read_row_key, begins_entry, is_dash, is_some, key_mark, read_marks}
-use Rattle.yq_row_table.specs.Rows.{Key}
-use Rattle.yq_row_table.proofs.BeginSteps.{dash_further, no_dash, mark_within}
-use Rattle.yq_row_table.proofs.FrontLaws.{front_join}
+use Rattle.yq_row_table.{specs.Reading.{read_row_key, begins_entry, is_dash, is_some, key_mark, read_marks}, specs.Rows.Key}
+use Rattle.yq_row_table.{proofs.BeginSteps.{dash_further, no_dash, mark_within}, proofs.FrontLaws.front_join}
 
 -- the key behind spaces, if there are any
 abbrev pub KeyBehind : List ℕ → List ℕ → Option (List ℕ × List ℕ × List ℕ)

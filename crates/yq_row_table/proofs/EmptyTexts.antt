@@ -1,6 +1,5 @@
 -- Empty texts.
-use Rattle.std.proofs.Common.{◌≡◌, ◌⊎◌, inl, inr, ℕ, true, false, List, [], ◌∷◌, refl, sym, ap, ◌∙◌}
-use Rattle.std.proofs.lemmas.Bool.{false≢true}
+use Rattle.std.{proofs.Common.{◌≡◌, ◌⊎◌, inl, inr, ℕ, true, false, List, [], ◌∷◌, refl, sym, ap, ◌∙◌}, proofs.lemmas.Bool.false≢true}
 use Rattle.yq_core.specs.Text.{is_empty}
 
 pub empty_is : (t : List ℕ) → is_empty t ≡ true → t ≡ []

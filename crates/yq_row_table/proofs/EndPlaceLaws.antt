@@ -1,12 +1,8 @@
 -- Ends of parts by where they stand in a text.
-use Rattle.std.proofs.Common.{◌≡◌, ℕ, Fits, w32, ◌-◌, ◌<◌, ◌≤◌, ◌^◌, List, [], ◌∷◌, ◌++◌, length, take, drop, refl, sym, ap, ◌∙◌, subst, arith, length-append, length-drop}
-use Rattle.std.proofs.Math.Seq.{drop-append_seam}
-use Rattle.std.proofs.lemmas.List.{take-append-drop, take_at}
-use Rattle.std.proofs.lemmas.Str.{IsUtf8-append}
-use Rattle.std.specs.Str.{IsUtf8}
-use Rattle.yq_row_table.specs.Ends.{bound_in, EndStands, end_at}
-use Rattle.yq_row_table.specs.Offsets.{Ends, AreCuts}
-use Rattle.yq_row_table.proofs.FrontLaws.{front_boundary}
+use Rattle.std.proofs.Common.{◌≡◌, ℕ, Fits, w32, ◌-◌, ◌<◌, ◌≤◌, ◌^◌, List, [], ◌∷◌, ◌++◌, length, take, drop, refl, sym, ap, ◌∙◌, subst}
+use Rattle.std.{proofs.Common.{arith, length-append, length-drop}, proofs.Math.Seq.drop-append_seam}
+use Rattle.std.{proofs.lemmas.List.{take-append-drop, take_at}, proofs.lemmas.Str.IsUtf8-append, specs.Str.IsUtf8}
+use Rattle.yq_row_table.{specs.Ends.{bound_in, EndStands, end_at}, specs.Offsets.{Ends, AreCuts}, proofs.FrontLaws.front_boundary}
 use Rattle.yq_row_table.proofs.OffsetLaws.{cuts}
 
 pub end_stands : (whole end marker rest : List ℕ) (k : ℕ) → Ends (end ++ (marker ++ rest)) whole → IsUtf8 end → IsUtf8 marker → IsUtf8 rest → EndStands whole (end_at (length whole - length (end ++ (marker ++ rest))) k end marker)

@@ -1,24 +1,15 @@
 -- Ends of parts at their distance from the beginning of a text, as they are read, and each by its index.
-use Rattle.std.proofs.Common.{◌≡◌, ℕ, zero, suc, ◌+◌, ◌-◌, ◌≤◌, Bool, true, List, [], ◌∷◌, ◌++◌, length, take, get_or, Option, Some, None, refl, sym, ap, ◌∙◌, arith, append_assoc, length-append}
-use Rattle.std.proofs.lemmas.List.Sums.{sum_by-cons}
-use Rattle.std.proofs.lemmas.Option.{same_Some, slice_get_read, slice_get_within}
-use Rattle.std.specs.List.{slice_get, sum_by}
-use Rattle.yq_core.specs.Answers.{◌>>=◌}
-use Rattle.yq_core.specs.Text.{is_empty}
-use Rattle.yq_row_table.specs.Ends.{end_at}
-use Rattle.yq_row_table.specs.Grammar.{begins_document}
+use Rattle.std.proofs.Common.{◌≡◌, ℕ, zero, suc, ◌+◌, ◌-◌, ◌≤◌, Bool, true, List, [], ◌∷◌, ◌++◌, length, take, get_or, Option, Some, None}
+use Rattle.std.{proofs.Common.{refl, sym, ap, ◌∙◌, arith, append_assoc, length-append}, proofs.lemmas.List.Sums.sum_by-cons}
+use Rattle.std.{proofs.lemmas.Option.{same_Some, slice_get_read, slice_get_within}, specs.List.{slice_get, sum_by}}
+use Rattle.yq_core.{specs.Answers.◌>>=◌, specs.Text.is_empty}
+use Rattle.yq_row_table.{specs.Ends.end_at, specs.Grammar.begins_document}
 use Rattle.yq_row_table.specs.Items.{Item, row_item, end_item, rows_items, items_of_cut, rows_in_items, bounds_in_items, view_of_items}
-use Rattle.yq_row_table.specs.Kept.{ends_near, ends_placed}
-use Rattle.yq_row_table.specs.Offsets.{Ends, row_length}
-use Rattle.yq_row_table.specs.RowStarts.{bound_length, part_end}
-use Rattle.yq_row_table.specs.View.{Bound, slices}
-use Rattle.yq_row_table.specs.Reading.{read_cut_part, all_parts}
-use Rattle.yq_row_table.specs.Rows.{Row, print_row, rows_text, Part, Cut, marked}
-use Rattle.yq_row_table.specs.declared.ends.EndPlace.{EndPlace}
-use Rattle.yq_row_table.proofs.KeptLaws.{print_then}
-use Rattle.yq_row_table.proofs.NearLaws.{ReadMarked, next_place, part_apart}
-use Rattle.yq_row_table.proofs.PartsLaws.{parts_last, parts_marked, part_takes}
-use Rattle.yq_row_table.proofs.SliceLaws.{print-length}
+use Rattle.yq_row_table.{specs.Kept.{ends_near, ends_placed}, specs.Offsets.{Ends, row_length}, specs.RowStarts.{bound_length, part_end}}
+use Rattle.yq_row_table.{specs.View.{Bound, slices}, specs.Reading.{read_cut_part, all_parts}}
+use Rattle.yq_row_table.{specs.Rows.{Row, print_row, rows_text, Part, Cut, marked}, specs.declared.ends.EndPlace.EndPlace}
+use Rattle.yq_row_table.{proofs.KeptLaws.print_then, proofs.NearLaws.{ReadMarked, next_place, part_apart}}
+use Rattle.yq_row_table.{proofs.PartsLaws.{parts_last, parts_marked, part_takes}, proofs.SliceLaws.print-length}
 use Rattle.yq_row_table.proofs.splices.SpliceTexts.{nil_before}
 
 -- the end of a part, behind its rows

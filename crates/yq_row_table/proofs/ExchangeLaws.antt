@@ -1,16 +1,11 @@
 -- What stands behind the mark of a row, exchanged for something else.
-use Rattle.std.proofs.Common.{◌≡◌, ℕ, zero, suc, ◌-◌, ◌<◌, ◌≤◌, Bool, true, false, List, [], ◌∷◌, ◌++◌, length, Some, None, refl, arith, append_assoc}
-use Rattle.std.proofs.lemmas.Bool.{false≢true}
-use Rattle.std.specs.List.{slice_get}
-use Rattle.yq_core.specs.Text.{separates}
+use Rattle.std.proofs.Common.{◌≡◌, ℕ, zero, suc, ◌-◌, ◌<◌, ◌≤◌, Bool, true, false, List, [], ◌∷◌, ◌++◌, length, Some, None, refl, arith}
+use Rattle.std.{proofs.Common.append_assoc, proofs.lemmas.Bool.false≢true, specs.List.slice_get}
+use Rattle.yq_core.{specs.Text.separates, specs.Alike.{Alike, byte}, proofs.Alikes.alike_append, proofs.AlikePieces.scalar_alike}
 use Rattle.yq_row_table.specs.Exchange.{with_content, allows_first, asked_behind}
 use Rattle.yq_row_table.specs.Grammar.{IsContent, IsMark, is_entry, IsRow, Limit, limit_after, AreRows, begins_document, AreParts}
-use Rattle.yq_row_table.specs.Rows.{RowMark, Bare, Dash, Key, Content, mark_text, content_text, Row, parent_indent, rows_text, Part, Cut, marked, cut_text}
-use Rattle.yq_row_table.specs.Seams.{TakesPlace}
-use Rattle.yq_core.specs.Alike.{Alike, byte}
-use Rattle.yq_core.proofs.Alikes.{alike_append}
-use Rattle.yq_core.proofs.AlikePieces.{scalar_alike}
-use Rattle.yq_row_table.proofs.RowPlaces.{takes_place}
+use Rattle.yq_row_table.specs.Rows.{RowMark, Bare, Dash, Key, Content, mark_text, content_text, Row, parent_indent, rows_text, Part, Cut}
+use Rattle.yq_row_table.{specs.Rows.{marked, cut_text}, specs.Seams.TakesPlace, proofs.RowPlaces.takes_place}
 use Rattle.yq_row_table.proofs.AlikeRows.{dashes_text_alike, row_text_alike, row_alike, part_alike, part_text_alike, marker_line_alike}
 
 -- a mark before one content and before another one

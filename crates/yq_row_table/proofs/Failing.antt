@@ -1,7 +1,6 @@
 -- What a refusal says.
 use Rattle.std.proofs.Common.{◌≡◌, Option, None}
-use Rattle.yq_core.specs.Answers.{ReadFails}
-use Rattle.yq_core.specs.declared.fault.ReadError.{ReadError}
+use Rattle.yq_core.{specs.Answers.ReadFails, specs.declared.fault.ReadError.ReadError}
 use Rattle.yq_core.specs.declared.fault.ReadError.TheVariants as error
 
 -- where reading gives nothing, reading further gives nothing

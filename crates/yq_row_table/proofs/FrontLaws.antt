@@ -1,9 +1,7 @@
 -- A text and what follows its front.
 use Rattle.std.proofs.Common.{◌≡◌, ℕ, ◌-◌, ◌≤◌, List, ◌++◌, length, take, drop, sym, ap, ◌∙◌, arith, append_assoc, length-append}
-use Rattle.std.proofs.Math.Seq.{take-append_seam, drop-append_seam}
-use Rattle.std.proofs.lemmas.List.{take-append-drop}
-use Rattle.std.proofs.lemmas.Str.{IsCharBoundary-at_seam}
-use Rattle.std.specs.Str.{IsUtf8, IsCharBoundary}
+use Rattle.std.{proofs.Math.Seq.{take-append_seam, drop-append_seam}, proofs.lemmas.List.take-append-drop}
+use Rattle.std.{proofs.lemmas.Str.IsCharBoundary-at_seam, specs.Str.{IsUtf8, IsCharBoundary}}
 
 pub front_length : (t a b : List ℕ) → t ≡ a ++ b → length t - length b ≡ length a
 front_length t a b h = rw h (omega (arith, length-append a b))

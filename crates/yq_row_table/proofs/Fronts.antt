@@ -1,14 +1,9 @@
 -- What is in front of a node, of a tail and of a marker.
 use Rattle.std.proofs.Common.{◌≡◌, ℕ, true, false, ◌||◌, eqb, List, ◌∷◌, ◌++◌, refl, ap, ◌∙◌, ⊎_elim, eqb-true, rules}
 use Rattle.std.proofs.lemmas.Bool.{false≢true, or_cases, false_from_ne_true, and_parts, cases_Bool}
-use Rattle.yq_core.specs.Text.{cut, is_feed, front, is_break, ends_line, no_white, no_space, separates, is_empty}
-use Rattle.yq_core.specs.Lines.{is_hash}
-use Rattle.yq_core.specs.Nodes.{begins_with, begins_node}
-use Rattle.yq_core.specs.Scalars.{begins_scalar}
-use Rattle.yq_core.proofs.NodesPieceLaws.{front_not}
-use Rattle.yq_row_table.specs.Gap.{IsWhite}
-use Rattle.yq_row_table.specs.Grammar.{IsTail}
-use Rattle.yq_row_table.specs.Reading.{is_colon, is_dash}
+use Rattle.yq_core.{specs.Text.{cut, is_feed, front, is_break, ends_line, no_white, no_space, separates, is_empty}, specs.Lines.is_hash}
+use Rattle.yq_core.{specs.Nodes.{begins_with, begins_node}, specs.Scalars.begins_scalar, proofs.NodesPieceLaws.front_not}
+use Rattle.yq_row_table.{specs.Gap.IsWhite, specs.Grammar.IsTail, specs.Reading.{is_colon, is_dash}}
 use Rattle.yq_row_table.proofs.LineEnds.{line_end_behind, white_again}
 
 -- A text that begins with none of white space, a break, the end and `#`.

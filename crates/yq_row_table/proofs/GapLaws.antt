@@ -1,16 +1,12 @@
 -- Gaps, read and spelled.
-use Rattle.std.proofs.Common.{◌≡◌, ℕ, zero, suc, ◌+◌, ◌<◌, ◌≤◌, true, false, cond, not, ◌||◌, List, [], ◌∷◌, ◌++◌, length, take, drop, refl, sym, ap, ◌∙◌, subst, arith, append_assoc, length-append, length-drop, length-take, rules}
-use Rattle.std.proofs.lemmas.Bool.{false≢true, cond_both, not-true, and_parts}
-use Rattle.std.proofs.lemmas.List.{take-append-drop, drop-drop}
+use Rattle.std.proofs.Common.{◌≡◌, ℕ, zero, suc, ◌+◌, ◌<◌, ◌≤◌, true, false, cond, not, ◌||◌, List, [], ◌∷◌, ◌++◌, length, take, drop, refl}
+use Rattle.std.proofs.Common.{sym, ap, ◌∙◌, subst, arith, append_assoc, length-append, length-drop, length-take, rules}
+use Rattle.std.{proofs.lemmas.Bool.{false≢true, cond_both, not-true, and_parts}, proofs.lemmas.List.{take-append-drop, drop-drop}}
 use Rattle.std.proofs.Math.Seq.{take-append_seam, drop-append_seam, take-add}
+use Rattle.std.{proofs.lemmas.Str.{IsCharBoundary-start, IsCharBoundary-from_rest, IsUtf8-drop}, specs.Str.{IsUtf8, IsCharBoundary}}
 use Rattle.yq_core.specs.Text.{upto, cut, no_white, is_feed, ends_line, is_empty, past_white, line_len, cut_line, joined}
-use Rattle.std.proofs.lemmas.Str.{IsCharBoundary-start, IsCharBoundary-from_rest, IsUtf8-drop}
-use Rattle.std.specs.Str.{IsUtf8, IsCharBoundary}
-use Rattle.yq_core.proofs.Boundaries.{boundary_line}
-use Rattle.yq_core.proofs.LineLaws.{line_len_some, line_len_within}
-use Rattle.yq_core.specs.Lines.{is_hash}
-use Rattle.yq_row_table.specs.Gap.{IsGapLine, AreGapLines, IsGap}
-use Rattle.yq_row_table.specs.Reading.{begins_gap, gap_lines, gap_len, cut_gap}
+use Rattle.yq_core.{proofs.Boundaries.boundary_line, proofs.LineLaws.{line_len_some, line_len_within}, specs.Lines.is_hash}
+use Rattle.yq_row_table.{specs.Gap.{IsGapLine, AreGapLines, IsGap}, specs.Reading.{begins_gap, gap_lines, gap_len, cut_gap}}
 use Rattle.yq_row_table.proofs.LineEnds.{white_cut, white_again, line_end_takes, line_end_behind, line_end_line, line_again}
 
 some_line : (t : List ℕ) → is_empty t ≡ false → is_empty (cut_line t).0 ≡ false

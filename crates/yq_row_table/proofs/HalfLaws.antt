@@ -1,24 +1,17 @@
 -- Rows and ends of parts by where they are kept, borrowed on the two halves of their text.
-use Rattle.std.proofs.Common.{◌≡◌, ℕ, ⊎_elim, ◌+◌, ◌-◌, ◌<◌, ◌≤◌, nat_lt, true, false, List, [], ◌∷◌, ◌++◌, length, map, reverse, refl, sym, ap, ◌∙◌, subst, arith, append-nil, length-append}
-use Rattle.std.proofs.lemmas.Bool.{cases_lt, le-ltb, lt-ltb}
-use Rattle.std.proofs.lemmas.Simd.{map-map}
-use Rattle.std.proofs.lemmas.List.Elements.{All-cons, All-nil}
-use Rattle.std.proofs.lemmas.Str.{IsUtf8-nil}
-use Rattle.std.specs.List.{All}
+use Rattle.std.proofs.Common.{◌≡◌, ℕ, ⊎_elim, ◌+◌, ◌-◌, ◌<◌, ◌≤◌, nat_lt, true, false, List, [], ◌∷◌, ◌++◌, length, map, reverse, refl, sym}
+use Rattle.std.{proofs.Common.{ap, ◌∙◌, subst, arith, append-nil, length-append}, proofs.lemmas.Bool.{cases_lt, le-ltb, lt-ltb}}
+use Rattle.std.{proofs.lemmas.Simd.map-map, proofs.lemmas.List.Elements.{All-cons, All-nil}, proofs.lemmas.Str.IsUtf8-nil, specs.List.All}
 use Rattle.std.specs.Str.{IsUtf8}
 use Rattle.yq_text.specs.declared.halves.Halves.{Halves}
 use Rattle.yq_row_table.specs.Ends.{EndStands, bound_in, bound_in_half, bounds_in_halves, end_at}
 use Rattle.yq_row_table.specs.Items.{Item, row_item, end_item, items_text, rows_in_items, bounds_in_items, view_of_items}
 use Rattle.yq_row_table.specs.Kept.{HavePlaces, TextsIn, ends_near, near, halves_view, slices_behind, row_from_end}
-use Rattle.yq_row_table.specs.Offsets.{Ends, pieces_of, rows_in, slices_in}
-use Rattle.yq_row_table.specs.Rows.{print_row}
-use Rattle.yq_row_table.specs.View.{Bound, Slices, slices}
-use Rattle.yq_row_table.specs.declared.ends.EndPlace.{EndPlace}
-use Rattle.yq_row_table.specs.declared.offsets.Offsets as declared
-use Rattle.yq_row_table.specs.declared.places.Places.{Places}
-use Rattle.yq_row_table.proofs.EndPlaceLaws.{end_same, end_stands}
-use Rattle.yq_row_table.proofs.FrontLaws.{front_drop, front_length}
+use Rattle.yq_row_table.{specs.Offsets.{Ends, pieces_of, rows_in, slices_in}, specs.Rows.print_row, specs.View.{Bound, Slices, slices}}
+use Rattle.yq_row_table.{specs.declared.ends.EndPlace.EndPlace, specs.declared.places.Places.Places}
+use Rattle.yq_row_table.{proofs.EndPlaceLaws.{end_same, end_stands}, proofs.FrontLaws.{front_drop, front_length}}
 use Rattle.yq_row_table.proofs.KeptLaws.{KeptRows, end_apart, far_near, items_texts, near_kept, row_apart}
+use Rattle.yq_row_table.specs.declared.offsets.Offsets as declared
 
 -- one end of a part in a text
 kept_end : (pre gap marker t : List ℕ) (k : ℕ) → IsUtf8 gap → IsUtf8 marker → IsUtf8 t → (bound_in (pre ++ (gap ++ (marker ++ t))) (end_at (length pre) k gap marker) ≡ record { rows = k; end = gap; marker = marker }) × EndStands (pre ++ (gap ++ (marker ++ t))) (end_at (length pre) k gap marker)

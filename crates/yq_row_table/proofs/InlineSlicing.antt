@@ -1,35 +1,22 @@
 -- Inline nodes behind a mark, as the code lends them.
-use Rattle.std.proofs.Common.{◌≡◌, inl, inr, ℕ, ◌+◌, ◌-◌, ◌<◌, ◌≤◌, Bool, true, false, cond, not, ◌&&◌, ◌||◌, eqb, List, [], ◌∷◌, ◌++◌, length, take, drop, Option, Some, None, refl, sym, ap, ◌∙◌, subst, arith, ℤ}
-use Rattle.std.proofs.lemmas.Bool.{false≢true, cond_both}
-use Rattle.std.proofs.Math.Seq.{take-append_seam, drop-append_seam}
-use Rattle.std.proofs.lemmas.Option.{same_Some}
-use Rattle.std.proofs.lemmas.Str.{IsCharBoundary-from_rest}
-use Rattle.std.specs.List.{prefix_len}
+use Rattle.std.proofs.Common.{◌≡◌, inl, inr, ℕ, ◌+◌, ◌-◌, ◌<◌, ◌≤◌, Bool, true, false, cond, not, ◌&&◌, ◌||◌, eqb, List, [], ◌∷◌, ◌++◌}
+use Rattle.std.proofs.Common.{length, take, drop, Option, Some, None, refl, sym, ap, ◌∙◌, subst, arith, ℤ}
+use Rattle.std.{proofs.lemmas.Bool.{false≢true, cond_both}, proofs.Math.Seq.{take-append_seam, drop-append_seam}}
+use Rattle.std.{proofs.lemmas.Option.same_Some, proofs.lemmas.Str.IsCharBoundary-from_rest, specs.List.prefix_len}
 use Rattle.std.specs.Str.{IsUtf8, IsCharBoundary}
-use Rattle.yq_core.specs.Answers.{◌>>=◌}
-use Rattle.yq_core.specs.Piece.{deeper}
-use Rattle.yq_core.specs.Text.{cut, upto, unless, no_white, is_empty}
-use Rattle.yq_core.proofs.Bools.{bind_some}
-use Rattle.yq_core.proofs.Upto.{cut-append, upto-append, upto_here, upto_unless, upto_le_length}
-use Rattle.yq_core.specs.Inline.{depth_limit}
-use Rattle.yq_core.specs.Nodes.{FlowNode, empty, alias, scalar, coll, anchored, node_text, flow_items_text, begins_with, in_name, begins_content, is_empty_node, takes_anchor, IsFlowNode, IsLead}
+use Rattle.yq_core.{specs.Answers.◌>>=◌, specs.Piece.deeper, specs.Text.{cut, upto, unless, no_white, is_empty}, proofs.Bools.bind_some}
+use Rattle.yq_core.{proofs.Upto.{cut-append, upto-append, upto_here, upto_unless, upto_le_length}, specs.Inline.depth_limit}
+use Rattle.yq_core.specs.Nodes.{FlowNode, empty, alias, scalar, coll, anchored, node_text, flow_items_text, begins_with, in_name}
+use Rattle.yq_core.specs.Nodes.{begins_content, is_empty_node, takes_anchor, IsFlowNode, IsLead}
 use Rattle.yq_core.specs.Places.{Placed, placed, Parts, mapping, sequence, placed_between, locate, locate_items, anchored_node, holder}
-use Rattle.yq_core.specs.PlacedReading.{placed_node}
-use Rattle.yq_core.specs.Reading.{all_node}
-use Rattle.yq_core.specs.Scalars.{is_quoted, begins_scalar, scalar_style}
-use Rattle.yq_core.specs.declared.style.Style.TheVariants as styles
-use Rattle.yq_core.proofs.Bounds.{boundary_name}
-use Rattle.yq_core.proofs.NodeLaws.{all_takes}
-use Rattle.yq_core.proofs.NodesPieceLaws.{front_not, scalar_begins}
+use Rattle.yq_core.{specs.PlacedReading.placed_node, specs.Reading.all_node, specs.Scalars.{is_quoted, begins_scalar, scalar_style}}
+use Rattle.yq_core.{proofs.Bounds.boundary_name, proofs.NodeLaws.all_takes, proofs.NodesPieceLaws.{front_not, scalar_begins}}
 use Rattle.yq_core.proofs.NodesWrittenLaws.{node_then}
 use Rattle.yq_row_table.specs.Grammar.{is_more, is_plain_content}
 use Rattle.yq_row_table.specs.Slicing.{cut_anchor, anchor_len, cut_lead, nothing_placed, is_plain_style, plain_placed, inline_sliced}
-use Rattle.yq_row_table.specs.Reading.{read_tail, inline_content_at}
-use Rattle.yq_row_table.specs.View.{anchor_cut}
-use Rattle.yq_row_table.proofs.Fronts.{node_starts}
-use Rattle.yq_row_table.proofs.MarkAgain.{scalar_node}
-use Rattle.yq_row_table.proofs.FrontLaws.{front_take, front_boundary, front_le}
-use Rattle.yq_row_table.proofs.NodeFronts.{bare_or}
+use Rattle.yq_row_table.{specs.Reading.{read_tail, inline_content_at}, specs.View.anchor_cut, proofs.Fronts.node_starts}
+use Rattle.yq_row_table.{proofs.MarkAgain.scalar_node, proofs.FrontLaws.{front_take, front_boundary, front_le}, proofs.NodeFronts.bare_or}
+use Rattle.yq_core.specs.declared.style.Style.TheVariants as styles
 
 -- the anchor in front
 pub anchor_some : (t : List ℕ) (n : ℕ) → begins_with 38 t ≡ true → n ≡ prefix_len in_name (drop 1 t) → (take (n + 1) t, drop (n + 1) t) ≡ cut_anchor t

@@ -1,15 +1,12 @@
 -- The cut of items.
-use Rattle.std.proofs.Common.{◌≡◌, ◌⊎◌, inl, inr, ℕ, Bool, true, false, ◌||◌, List, [], ◌∷◌, ◌++◌, Some, if◌then◌else◌, refl, sym, ap, ◌∙◌, subst, ⊎_elim, arith, rules}
-use Rattle.std.proofs.lemmas.Bool.{false≢true, or_right}
+use Rattle.std.proofs.Common.{◌≡◌, ◌⊎◌, inl, inr, ℕ, Bool, true, false, ◌||◌, List, [], ◌∷◌, ◌++◌, Some, if◌then◌else◌, refl, sym, ap, ◌∙◌}
+use Rattle.std.{proofs.Common.{subst, ⊎_elim, arith, rules}, proofs.lemmas.Bool.{false≢true, or_right}}
 use Rattle.yq_core.specs.Text.{is_empty}
-use Rattle.yq_row_table.specs.Exchange.{allows_first}
-use Rattle.yq_row_table.specs.Gap.{IsGap}
+use Rattle.yq_row_table.{specs.Exchange.allows_first, specs.Gap.IsGap}
 use Rattle.yq_row_table.specs.Grammar.{Limit, unlimited, IsRow, AreRows, no_rows, IsMarkerLine, begins_document, AreParts}
-use Rattle.yq_row_table.specs.Items.{Item, row_item, end_item, rows_items, items_of_cut, items_text, Asked, asked_by, IsPartEnd, AreRowItems}
-use Rattle.yq_row_table.specs.Regions.{no_items, ended}
-use Rattle.yq_row_table.specs.Reading.{all_parts}
-use Rattle.yq_row_table.specs.Rows.{Row, print_row, Part, Cut, last, marked, cut_text}
-use Rattle.yq_row_table.proofs.ExchangeLaws.{relimit}
+use Rattle.yq_row_table.specs.Items.{Item, row_item, end_item, rows_items, items_of_cut, items_text, Asked, asked_by, IsPartEnd}
+use Rattle.yq_row_table.{specs.Items.AreRowItems, specs.Regions.{no_items, ended}, specs.Reading.all_parts}
+use Rattle.yq_row_table.{specs.Rows.{Row, print_row, Part, Cut, last, marked, cut_text}, proofs.ExchangeLaws.relimit}
 use Rattle.yq_row_table.proofs.ScanLaws.{parts_again}
 
 pub no_last : (xs : List Item) (z : Item) (zs : List Item) (rest : List ℕ) (A : Type 0) → (xs ++ (z ∷ zs)) ≡ [] → A

@@ -1,8 +1,9 @@
 -- A cut and its items.
-use Rattle.std.proofs.Common.{◌≡◌, inl, inr, ℕ, ◌+◌, Bool, true, false, ◌||◌, List, [], ◌∷◌, ◌++◌, length, map, refl, sym, ap, ◌∙◌, subst, arith, append-nil}
-use Rattle.std.proofs.lemmas.List.{map-append}
+use Rattle.std.proofs.Common.{◌≡◌, inl, inr, ℕ, ◌+◌, Bool, true, false, ◌||◌, List, [], ◌∷◌, ◌++◌, length, map, refl, sym, ap, ◌∙◌, subst}
+use Rattle.std.{proofs.Common.{arith, append-nil}, proofs.lemmas.List.map-append}
 use Rattle.yq_row_table.specs.Grammar.{unlimited, limit_after, IsRow, AreRows, no_rows, IsMarkerLine, begins_document, AreParts}
-use Rattle.yq_row_table.specs.Items.{Item, row_item, end_item, rows_items, items_of_cut, items_text, Asked, asked_by, asked_of, IsPartEnd, AreRowItems, rows_in_items, bounds_in_items, view_of_items}
+use Rattle.yq_row_table.specs.Items.{Item, row_item, end_item, rows_items, items_of_cut, items_text, Asked, asked_by, asked_of, IsPartEnd}
+use Rattle.yq_row_table.specs.Items.{AreRowItems, rows_in_items, bounds_in_items, view_of_items}
 use Rattle.yq_row_table.specs.Rows.{Row, print_row, rows_text, Cut, last, marked, cut_text}
 use Rattle.yq_row_table.specs.View.{Slices, slices, Bound, rows_of, bounds_from, rows_view}
 

@@ -1,8 +1,7 @@
 -- Splices of a cut, by its items.
 use Rattle.std.proofs.Common.{◌≡◌, ℕ, zero, suc, ◌≤◌, List, [], ◌∷◌, ◌++◌, take, drop, refl, sym, ap, ◌∙◌, arith, append_assoc, rules}
 use Rattle.yq_row_table.specs.Items.{Item, row_item, end_item, rows_items, items_of_cut}
-use Rattle.yq_row_table.specs.ItemSplices.{items_before, first_item, regapped, SplicedItems}
-use Rattle.yq_row_table.specs.Rows.{Row, Cut, last, marked}
+use Rattle.yq_row_table.{specs.ItemSplices.{items_before, first_item, regapped, SplicedItems}, specs.Rows.{Row, Cut, last, marked}}
 use Rattle.yq_row_table.specs.Splices.{with_first_gap, end_gap}
 
 -- the items behind the first one of rows and of the end behind them

@@ -1,19 +1,13 @@
 -- Rows kept by their distance from the beginning of a text, or from its end.
-use Rattle.std.proofs.Common.{◌≡◌, ℕ, ◌+◌, ◌-◌, Some, List, [], ◌∷◌, ◌++◌, length, map, refl, sym, ap, ◌∙◌, subst, arith, append_assoc, length-append}
-use Rattle.std.proofs.lemmas.Option.{get_or_from_slice_get, slice_get_within}
-use Rattle.std.specs.List.{slice_get}
-use Rattle.std.proofs.lemmas.List.Elements.{All-get_or, All-nil, All-cons}
-use Rattle.std.proofs.lemmas.Str.{IsUtf8-append}
-use Rattle.std.specs.Str.{IsUtf8}
-use Rattle.yq_row_table.specs.Items.{Item, row_item, end_item, items_text, rows_in_items}
-use Rattle.yq_row_table.specs.Kept.{near, far, row_from_end, TextsIn}
-use Rattle.yq_row_table.specs.Offsets.{Ends, IsCutIn, Stand, slices_in, rows_in, AreTexts, offsets_of}
-use Rattle.yq_row_table.specs.Rows.{Row, print_row}
-use Rattle.yq_row_table.specs.View.{Slices, slices, slices_text}
-use Rattle.yq_row_table.specs.declared.offsets.Offsets as declared
-use Rattle.yq_row_table.proofs.FrontLaws.{front_drop, front_length}
+use Rattle.std.proofs.Common.{◌≡◌, ℕ, ◌+◌, ◌-◌, Some, List, [], ◌∷◌, ◌++◌, length, map, refl, sym, ap, ◌∙◌, subst, arith, append_assoc}
+use Rattle.std.{proofs.Common.length-append, proofs.lemmas.Option.{get_or_from_slice_get, slice_get_within}, specs.List.slice_get}
+use Rattle.std.{proofs.lemmas.List.Elements.{All-get_or, All-nil, All-cons}, proofs.lemmas.Str.IsUtf8-append, specs.Str.IsUtf8}
+use Rattle.yq_row_table.{specs.Items.{Item, row_item, end_item, items_text, rows_in_items}, specs.Kept.{near, far, row_from_end, TextsIn}}
+use Rattle.yq_row_table.{specs.Offsets.{Ends, IsCutIn, Stand, slices_in, rows_in, AreTexts, offsets_of}, specs.Rows.{Row, print_row}}
+use Rattle.yq_row_table.{specs.View.{Slices, slices, slices_text}, proofs.FrontLaws.{front_drop, front_length}}
 use Rattle.yq_row_table.proofs.OffsetLaws.{row_then, row_stands, row_same, pieces_text, AreAll, pieces, texts}
 use Rattle.yq_row_table.proofs.SliceLaws.{slices_are}
+use Rattle.yq_row_table.specs.declared.offsets.Offsets as declared
 
 -- texts of items
 pieces_are : (ps : List (List ℕ)) (rest : List ℕ) → AreAll ps → IsUtf8 rest → IsUtf8 (pieces_text ps rest)

@@ -1,28 +1,19 @@
 -- Rows and ends of parts by their index, where they are kept and in the halves of their text.
-use Rattle.std.proofs.Common.{◌≡◌, ℕ, zero, suc, ⊎_elim, ◌+◌, ◌-◌, ◌<◌, ◌≤◌, ◌^◌, List, [], ◌∷◌, ◌++◌, length, map, reverse, Some, slice_get, refl, sym, ap, ◌∙◌, subst, arith, drop, get_or, length-append}
-use Rattle.std.proofs.lemmas.Bool.{cases_lt, le-ltb, lt-ltb}
-use Rattle.std.proofs.lemmas.List.{length-map, map-id}
+use Rattle.std.proofs.Common.{◌≡◌, ℕ, zero, suc, ⊎_elim, ◌+◌, ◌-◌, ◌<◌, ◌≤◌, ◌^◌, List, [], ◌∷◌, ◌++◌, length, map, reverse, Some}
+use Rattle.std.proofs.Common.{slice_get, refl, sym, ap, ◌∙◌, subst, arith, drop, get_or, length-append}
+use Rattle.std.{proofs.lemmas.Bool.{cases_lt, le-ltb, lt-ltb}, proofs.lemmas.List.{length-map, map-id}}
 use Rattle.std.proofs.lemmas.List.Elements.{All-cons, All-get_or, All-nil}
-use Rattle.std.proofs.lemmas.Option.{get_or_from_slice_get, same_Some, slice_get-map, slice_get_read, slice_get_within}
-use Rattle.std.specs.List.{All}
-use Rattle.std.specs.Option.{option_map}
-use Rattle.std.specs.Str.{IsCharBoundary}
-use Rattle.yq_text.specs.Halves.{whole}
-use Rattle.yq_text.specs.declared.halves.Halves.{Halves}
-use Rattle.yq_row_table.specs.Ends.{EndStands, bound_at, bound_in_half}
-use Rattle.yq_row_table.specs.Items.{Item, row_item, end_item, items_text}
+use Rattle.std.{proofs.lemmas.Option.{get_or_from_slice_get, same_Some, slice_get-map, slice_get_read, slice_get_within}, specs.List.All}
+use Rattle.std.{specs.Option.option_map, specs.Str.IsCharBoundary}
+use Rattle.yq_text.{specs.Halves.whole, specs.declared.halves.Halves.Halves}
+use Rattle.yq_row_table.{specs.Ends.{EndStands, bound_at, bound_in_half}, specs.Items.{Item, row_item, end_item, items_text}}
 use Rattle.yq_row_table.specs.Kept.{HavePlaces, far, kept_rows, near, placed_rows, halves_view, slices_behind, row_from_end}
-use Rattle.yq_row_table.specs.Offsets.{AreCuts, IsCutIn, offsets_of, slices_in}
-use Rattle.yq_row_table.specs.RowStarts.{row_start}
-use Rattle.yq_row_table.specs.View.{RowsView, Slices, slices}
-use Rattle.yq_row_table.specs.declared.ends.EndPlace.{EndPlace}
-use Rattle.yq_row_table.specs.declared.offsets.Offsets as declared
-use Rattle.yq_row_table.specs.declared.places.Places.{Places}
-use Rattle.yq_row_table.proofs.HalfLaws.{InHalf, back_rows, front_rows, half_ends, have_view}
-use Rattle.yq_row_table.proofs.ItemLaws.{items_text-append}
-use Rattle.yq_row_table.proofs.KeptLaws.{far_near, items_apart, near_joined, stands_at}
-use Rattle.yq_row_table.proofs.NearLaws.{row_near, some_row}
+use Rattle.yq_row_table.{specs.Offsets.{AreCuts, IsCutIn, offsets_of, slices_in}, specs.RowStarts.row_start}
+use Rattle.yq_row_table.{specs.View.{RowsView, Slices, slices}, specs.declared.ends.EndPlace.EndPlace, specs.declared.places.Places.Places}
+use Rattle.yq_row_table.{proofs.HalfLaws.{InHalf, back_rows, front_rows, half_ends, have_view}, proofs.ItemLaws.items_text-append}
+use Rattle.yq_row_table.{proofs.KeptLaws.{far_near, items_apart, near_joined, stands_at}, proofs.NearLaws.{row_near, some_row}}
 use Rattle.yq_row_table.proofs.SliceLaws.{print-length}
+use Rattle.yq_row_table.specs.declared.offsets.Offsets as declared
 
 -- the places of all rows in the whole text
 placed_near : (text : Halves) (p : Places) → (h : HavePlaces text p) → placed_rows (length (whole text)) p ≡ near 0 (h.before ++ h.behind)

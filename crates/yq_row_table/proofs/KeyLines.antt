@@ -1,16 +1,11 @@
 -- A key has one line, so that its `:` stands in front of the end of the line.
-use Rattle.std.proofs.Common.{◌≡◌, inl, inr, ℕ, suc, ◌+◌, Bool, true, false, not, ◌&&◌, eqb, eqb-true, List, [], ◌∷◌, ◌++◌, Option, Some, None, refl, sym, ap, ◌∙◌, subst, arith, append_assoc, drop}
-use Rattle.std.proofs.lemmas.Bool.{cases_Bool, false≢true, not-true, or_parts}
-use Rattle.std.specs.List.{prefix_len}
-use Rattle.std.specs.Option.{option_or}
+use Rattle.std.proofs.Common.{◌≡◌, inl, inr, ℕ, suc, ◌+◌, Bool, true, false, not, ◌&&◌, eqb, eqb-true, List, [], ◌∷◌, ◌++◌, Option, Some}
+use Rattle.std.proofs.Common.{None, refl, sym, ap, ◌∙◌, subst, arith, append_assoc, drop}
+use Rattle.std.{proofs.lemmas.Bool.{cases_Bool, false≢true, not-true, or_parts}, specs.List.prefix_len, specs.Option.option_or}
 use Rattle.yq_core.specs.Plain.{ends_plain, ends_text, holds_break, last_line, plain_may_follow, no_gap}
-use Rattle.yq_core.specs.Text.{NoneIn, cut, front, is_empty, is_feed, is_white, upto}
-use Rattle.yq_core.proofs.Bools.{at_byte}
-use Rattle.yq_core.specs.Nodes.{begins_with}
+use Rattle.yq_core.{specs.Text.{NoneIn, cut, front, is_empty, is_feed, is_white, upto}, proofs.Bools.at_byte, specs.Nodes.begins_with}
 use Rattle.yq_core.specs.Scalars.{IsScalarAt}
-use Rattle.yq_row_table.specs.Gap.{IsWhite}
-use Rattle.yq_row_table.specs.Reading.{holds_colon, read_row_key}
-use Rattle.yq_row_table.proofs.PieceLaws.{key_takes}
+use Rattle.yq_row_table.{specs.Gap.IsWhite, specs.Reading.{holds_colon, read_row_key}, proofs.PieceLaws.key_takes}
 
 -- a plain scalar that may have no further line ends before an LF
 last_false : (a b c d : Bool) → d ≡ false → (a && b && c && d) ≡ false

@@ -1,9 +1,6 @@
 -- A text has no more characters than bytes.
-use Rattle.std.proofs.Common.{◌≡◌, ℕ, ◌+◌, ◌≤◌, List, length, true, ap, arith}
-use Rattle.std.proofs.lemmas.Bool.{le-leb}
-use Rattle.std.proofs.lemmas.Str.{length-le-encodes, encodes-chars}
-use Rattle.std.specs.Prelude.{nat_le}
-use Rattle.std.specs.Str.{IsUtf8, chars}
+use Rattle.std.{proofs.Common.{◌≡◌, ℕ, ◌+◌, ◌≤◌, List, length, true, ap, arith}, proofs.lemmas.Bool.le-leb}
+use Rattle.std.{proofs.lemmas.Str.{length-le-encodes, encodes-chars}, specs.Prelude.nat_le, specs.Str.{IsUtf8, chars}}
 
 chars_le : (t : List ℕ) → IsUtf8 t → length (chars t) ≤ length t
 chars_le t u = let e = ap length (encodes-chars t u) in omega (arith, length-le-encodes (chars t), e)

@@ -1,12 +1,10 @@
 -- Ends of lines, read and spelled.
-use Rattle.std.proofs.Common.{◌≡◌, ℕ, suc, ◌+◌, true, false, not, ◌&&◌, ◌||◌, List, [], ◌∷◌, ◌++◌, length, take, drop, refl, sym, ap, ◌∙◌, subst, inl, inr, ⊎_elim, arith, eqb-true, append_assoc, append-nil, rules}
+use Rattle.std.proofs.Common.{◌≡◌, ℕ, suc, ◌+◌, true, false, not, ◌&&◌, ◌||◌, List, [], ◌∷◌, ◌++◌, length, take, drop, refl, sym, ap, ◌∙◌}
+use Rattle.std.proofs.Common.{subst, inl, inr, ⊎_elim, arith, eqb-true, append_assoc, append-nil, rules}
 use Rattle.std.proofs.lemmas.Bool.{false≢true, cond_both, or_cases, not-false, and_parts, cases_Bool, or_parts}
-use Rattle.std.proofs.Math.Bool.{and-false}
-use Rattle.std.proofs.Math.Seq.{take-append_seam, drop-append_seam, take-append-add, drop-append-add}
-use Rattle.yq_core.specs.Text.{upto, cut, NoneIn, no_white, is_white, is_feed, is_return, front, is_break, ends_line, is_empty, is_line, line_len, cut_line}
-use Rattle.yq_core.proofs.Bools.{at_byte}
-use Rattle.yq_core.proofs.LineLaws.{line_cut}
-use Rattle.yq_core.proofs.Upto.{cut-append}
+use Rattle.std.{proofs.Math.Bool.and-false, proofs.Math.Seq.{take-append_seam, drop-append_seam, take-append-add, drop-append-add}}
+use Rattle.yq_core.specs.Text.{upto, cut, NoneIn, no_white, is_white, is_feed, is_return, front, is_break, ends_line, is_empty, is_line}
+use Rattle.yq_core.{specs.Text.{line_len, cut_line}, proofs.Bools.at_byte, proofs.LineLaws.line_cut, proofs.Upto.cut-append}
 use Rattle.yq_core.specs.Lines.{is_hash}
 use Rattle.yq_row_table.specs.Gap.{IsWhite, IsBreak, IsComment, IsLineEnd}
 

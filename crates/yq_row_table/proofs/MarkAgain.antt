@@ -1,17 +1,13 @@
 -- Dashes and the mark behind them are read again.
-use Rattle.std.proofs.Common.{◌≡◌, ℕ, zero, suc, ◌≤◌, ◌<◌, true, false, not, ◌&&◌, List, [], ◌∷◌, ◌++◌, length, None, refl, ap, arith, eqb-true, replicate, length-append, rules}
-use Rattle.std.proofs.lemmas.Bool.{false≢true, not-true, or_right, and_parts, cases_Bool}
-use Rattle.std.proofs.lemmas.List.{length-replicate}
-use Rattle.yq_core.specs.Text.{cut, no_space, is_empty, separates}
-use Rattle.yq_core.specs.Nodes.{begins_node, begins_with, begins_content}
-use Rattle.yq_core.specs.Scalars.{begins_scalar}
-use Rattle.yq_core.proofs.NodesPieceLaws.{scalar_begins}
+use Rattle.std.proofs.Common.{◌≡◌, ℕ, zero, suc, ◌≤◌, ◌<◌, true, false, not, ◌&&◌, List, [], ◌∷◌, ◌++◌, length, None, refl, ap, arith}
+use Rattle.std.proofs.Common.{eqb-true, replicate, length-append, rules}
+use Rattle.std.{proofs.lemmas.Bool.{false≢true, not-true, or_right, and_parts, cases_Bool}, proofs.lemmas.List.length-replicate}
+use Rattle.yq_core.{specs.Text.{cut, no_space, is_empty, separates}, specs.Nodes.{begins_node, begins_with, begins_content}}
+use Rattle.yq_core.{specs.Scalars.begins_scalar, proofs.NodesPieceLaws.scalar_begins}
 use Rattle.yq_row_table.specs.Grammar.{IsKey, is_entry, AreDashes}
 use Rattle.yq_row_table.specs.Reading.{read_row_key, is_dash, is_some, begins_entry, Marks, with_dash, dashes_at, read_marks}
-use Rattle.yq_row_table.specs.Rows.{RowMark, Bare, Dash, Key, dashes_text, mark_text}
-use Rattle.yq_row_table.proofs.Fronts.{node_starts}
-use Rattle.yq_row_table.proofs.MarkLaws.{spaces_again}
-use Rattle.yq_row_table.proofs.PieceLaws.{key_again}
+use Rattle.yq_row_table.{specs.Rows.{RowMark, Bare, Dash, Key, dashes_text, mark_text}, proofs.Fronts.node_starts}
+use Rattle.yq_row_table.{proofs.MarkLaws.spaces_again, proofs.PieceLaws.key_again}
 
 -- a scalar is no dash
 pub scalar_no_dash : (t : List ℕ) → begins_scalar false t ≡ true → is_dash t ≡ false

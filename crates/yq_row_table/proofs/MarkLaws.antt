@@ -1,11 +1,11 @@
 -- Dashes and the mark behind them, read and spelled.
-use Rattle.std.proofs.Common.{◌≡◌, ℕ, zero, suc, ◌≤◌, true, false, cond, not, ◌&&◌, eqb, List, [], ◌∷◌, ◌++◌, length, take, drop, Option, Some, None, refl, ap, ◌∙◌, arith, eqb-true, replicate, length-drop, rules}
+use Rattle.std.proofs.Common.{◌≡◌, ℕ, zero, suc, ◌≤◌, true, false, cond, not, ◌&&◌, eqb, List, [], ◌∷◌, ◌++◌, length, take, drop, Option}
+use Rattle.std.proofs.Common.{Some, None, refl, ap, ◌∙◌, arith, eqb-true, replicate, length-drop, rules}
 use Rattle.std.proofs.lemmas.Bool.{false≢true, cond_both, not-false, and_parts}
-use Rattle.yq_core.specs.Text.{upto, cut, NoneIn, no_space, is_empty, separates}
-use Rattle.yq_core.proofs.Upto.{cut-append, cut_takes}
+use Rattle.yq_core.{specs.Text.{upto, cut, NoneIn, no_space, is_empty, separates}, proofs.Upto.{cut-append, cut_takes}}
 use Rattle.yq_row_table.specs.Grammar.{IsKey, is_entry, AreDashes}
-use Rattle.yq_row_table.specs.Reading.{read_row_key, is_dash, is_some, begins_entry, key_mark, mark_at, Marks, with_dash, undashed, dashes_at, read_marks}
-use Rattle.yq_row_table.specs.Rows.{RowMark, Bare, Dash, Key, dashes_text, mark_text}
+use Rattle.yq_row_table.specs.Reading.{read_row_key, is_dash, is_some, begins_entry, key_mark, mark_at, Marks, with_dash, undashed}
+use Rattle.yq_row_table.{specs.Reading.{dashes_at, read_marks}, specs.Rows.{RowMark, Bare, Dash, Key, dashes_text, mark_text}}
 use Rattle.yq_row_table.proofs.PieceLaws.{key_takes}
 
 -- spaces

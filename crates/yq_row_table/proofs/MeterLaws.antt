@@ -1,12 +1,9 @@
 -- Lines one behind the other, and their count.
-use Rattle.std.proofs.Common.{◌≡◌, ℕ, zero, suc, ◌+◌, ◌-◌, ◌<◌, ◌≤◌, true, List, [], ◌∷◌, length, drop, get_or, sym, ap, ◌∙◌, subst, ⊎_elim, arith, eqb-true, length-take, length-drop}
-use Rattle.std.proofs.lemmas.Bool.{false≢true, cases_Bool}
-use Rattle.std.proofs.Math.ListN.{drop_of_length-le}
-use Rattle.std.proofs.lemmas.List.{drop-drop}
-use Rattle.std.proofs.lemmas.Str.{IsCharBoundary-start, IsCharBoundary-after_ascii}
-use Rattle.std.specs.Str.{IsUtf8, IsCharBoundary}
-use Rattle.yq_core.specs.Text.{is_feed, front, line_len, text_lines}
-use Rattle.yq_core.proofs.LineLaws.{line_step, line_len_some, line_len_within}
+use Rattle.std.proofs.Common.{◌≡◌, ℕ, zero, suc, ◌+◌, ◌-◌, ◌<◌, ◌≤◌, true, List, [], ◌∷◌, length, drop, get_or, sym, ap, ◌∙◌, subst, ⊎_elim}
+use Rattle.std.{proofs.Common.{arith, eqb-true, length-take, length-drop}, proofs.lemmas.Bool.{false≢true, cases_Bool}}
+use Rattle.std.{proofs.Math.ListN.drop_of_length-le, proofs.lemmas.List.drop-drop}
+use Rattle.std.{proofs.lemmas.Str.{IsCharBoundary-start, IsCharBoundary-after_ascii}, specs.Str.{IsUtf8, IsCharBoundary}}
+use Rattle.yq_core.{specs.Text.{is_feed, front, line_len, text_lines}, proofs.LineLaws.{line_step, line_len_some, line_len_within}}
 use Rattle.yq_row_table.specs.Meter.{next_count, count_after, begins_line, line_at, line_count}
 
 -- where a line begins, a text may be cut

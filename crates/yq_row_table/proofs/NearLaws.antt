@@ -1,33 +1,24 @@
 -- Rows at their distance from the beginning of a text: as they are read, and each by its index.
-use Rattle.std.proofs.Common.{◌≡◌, ℕ, zero, suc, ◌+◌, ◌-◌, ◌<◌, Bool, true, false, List, [], ◌∷◌, ◌++◌, length, take, Option, Some, None, refl, sym, ap, ◌∙◌, subst, arith, append_assoc, append-nil, length-append}
-use Rattle.std.proofs.lemmas.Bool.{le-leb, lt-leb}
-use Rattle.std.proofs.lemmas.List.Sums.{sum_by-cons}
-use Rattle.std.proofs.lemmas.Option.{same_Some}
+use Rattle.std.proofs.Common.{◌≡◌, ℕ, zero, suc, ◌+◌, ◌-◌, ◌<◌, Bool, true, false, List, [], ◌∷◌, ◌++◌, length, take, Option, Some, None}
+use Rattle.std.proofs.Common.{refl, sym, ap, ◌∙◌, subst, arith, append_assoc, append-nil, length-append}
+use Rattle.std.{proofs.lemmas.Bool.{le-leb, lt-leb}, proofs.lemmas.List.Sums.sum_by-cons, proofs.lemmas.Option.same_Some}
 use Rattle.std.specs.List.{slice_get, sum_by}
-use Rattle.yq_core.specs.Answers.{◌>>=◌}
-use Rattle.yq_core.specs.Text.{is_empty}
-use Rattle.yq_core.proofs.Bools.{bind_some}
+use Rattle.yq_core.{specs.Answers.◌>>=◌, specs.Text.is_empty, proofs.Bools.bind_some}
 use Rattle.yq_row_table.specs.Grammar.{Limit, limit_after, ends_part, begins_document}
-use Rattle.yq_row_table.specs.Items.{Item, row_item, end_item, rows_items, items_of_cut, items_text, rows_in_items, bounds_in_items, view_of_items}
-use Rattle.yq_row_table.specs.Kept.{near, ends_near, rows_placed, parts_placed, ends_placed}
-use Rattle.yq_row_table.specs.Slicing.{SlicedRow, sliced, row_sliced, read_view}
-use Rattle.yq_row_table.specs.Offsets.{Ends, offsets_of, row_length}
+use Rattle.yq_row_table.specs.Items.{Item, row_item, end_item, rows_items, items_of_cut, items_text, rows_in_items, bounds_in_items}
+use Rattle.yq_row_table.{specs.Items.view_of_items, specs.Kept.{near, ends_near, rows_placed, parts_placed, ends_placed}}
+use Rattle.yq_row_table.{specs.Slicing.{SlicedRow, sliced, row_sliced, read_view}, specs.Offsets.{Ends, offsets_of, row_length}}
 use Rattle.yq_row_table.specs.Reading.{cut_gap, row_at, all_rows, read_cut_part, marker_at, all_parts}
 use Rattle.yq_row_table.specs.RowStarts.{bound_length, passed_length, row_start}
 use Rattle.yq_row_table.specs.Rows.{Row, print_row, rows_text, Part, part_text, Cut, last, marked, cut_text}
-use Rattle.yq_row_table.specs.View.{Slices, slices, slices_text, Bound, RowsView}
-use Rattle.yq_row_table.specs.declared.ends.EndPlace.{EndPlace}
-use Rattle.yq_row_table.specs.declared.offsets.Offsets as declared
-use Rattle.yq_row_table.proofs.FrontLaws.{front_join, front_le}
-use Rattle.yq_row_table.proofs.ItemLaws.{items_of_text, items_view_is, rows_items_text}
-use Rattle.yq_row_table.proofs.ItemSpliceLaws.{rows_front}
-use Rattle.yq_row_table.proofs.KeptLaws.{items_apart, near_joined}
-use Rattle.yq_row_table.proofs.OffsetLaws.{row_then}
+use Rattle.yq_row_table.{specs.View.{Slices, slices, slices_text, Bound, RowsView}, specs.declared.ends.EndPlace.EndPlace}
+use Rattle.yq_row_table.{proofs.FrontLaws.{front_join, front_le}, proofs.ItemLaws.{items_of_text, items_view_is, rows_items_text}}
+use Rattle.yq_row_table.{proofs.ItemSpliceLaws.rows_front, proofs.KeptLaws.{items_apart, near_joined}, proofs.OffsetLaws.row_then}
 use Rattle.yq_row_table.proofs.PartsLaws.{parts_last, parts_marked, part_takes, marker_takes, part_marker}
 use Rattle.yq_row_table.proofs.RowSlicing.{row_joined, not_read}
-use Rattle.yq_row_table.proofs.RowsLaws.{with_front, rows_from, rows_cut, rows_step, rows_refused, rows_done}
-use Rattle.yq_row_table.proofs.ScanLaws.{parts_take}
+use Rattle.yq_row_table.{proofs.RowsLaws.{with_front, rows_from, rows_cut, rows_step, rows_refused, rows_done}, proofs.ScanLaws.parts_take}
 use Rattle.yq_row_table.proofs.SliceLaws.{slices_are, print-length}
+use Rattle.yq_row_table.specs.declared.offsets.Offsets as declared
 
 -- one row more
 front_placed : (os : List declared.Offsets) (n : ℕ) (r : Row) (o : Option (Part × List ℕ)) → rows_placed os n (with_front (r ∷ []) o) ≡ rows_placed (os ++ offsets_of n (slices r) ∷ []) (n + length (slices_text (slices r) [])) o

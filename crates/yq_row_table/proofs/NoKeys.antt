@@ -1,20 +1,14 @@
 -- Before a tail, what stands behind a mark is no key and no dash.
-use Rattle.std.proofs.Common.{◌≡◌, inl, inr, ℕ, suc, true, false, not, eqb, List, [], ◌∷◌, ◌++◌, ◌∙◌, ◌||◌, Bool, drop, if◌then◌else◌, take, Option, Some, None, refl, sym, ap, rules}
-use Rattle.std.proofs.lemmas.Bool.{false≢true, cond_both, not-true, not-false, and_parts, cases_Bool, or_parts}
-use Rattle.std.specs.Option.{option_or}
+use Rattle.std.proofs.Common.{◌≡◌, inl, inr, ℕ, suc, true, false, not, eqb, List, [], ◌∷◌, ◌++◌, ◌∙◌, ◌||◌, Bool, drop, if◌then◌else◌, take}
+use Rattle.std.proofs.Common.{Option, Some, None, refl, sym, ap, rules}
+use Rattle.std.{proofs.lemmas.Bool.{false≢true, cond_both, not-true, not-false, and_parts, cases_Bool, or_parts}, specs.Option.option_or}
 use Rattle.yq_core.specs.Plain.{begins_plain, ends_plain, follows, plain_may_follow, last_line, no_gap, plain_at}
-use Rattle.yq_core.specs.Text.{upto, cut, NoneIn, is_space, is_white, is_break, no_white, past_white}
-use Rattle.yq_core.proofs.Bools.{at_byte}
-use Rattle.yq_core.proofs.QuotedFound.{quoted_again}
-use Rattle.yq_core.proofs.Upto.{upto_here}
-use Rattle.yq_core.proofs.QuotedLaws.{of_quotes}
+use Rattle.yq_core.{specs.Text.{upto, cut, NoneIn, is_space, is_white, is_break, no_white, past_white}, proofs.Bools.at_byte}
+use Rattle.yq_core.{proofs.QuotedFound.quoted_again, proofs.Upto.upto_here, proofs.QuotedLaws.of_quotes}
 use Rattle.yq_core.specs.Nodes.{FlowNode, empty, alias, scalar, coll, anchored, node_text, is_empty_node, IsFlowNode}
-use Rattle.yq_core.specs.Reading.{read_scalar}
-use Rattle.yq_core.specs.Scalars.{is_quoted, IsScalarAt, begins_scalar}
+use Rattle.yq_core.{specs.Reading.read_scalar, specs.Scalars.{is_quoted, IsScalarAt, begins_scalar}}
 use Rattle.yq_core.proofs.NodesPieceLaws.{front_not, scalar_begins}
-use Rattle.yq_row_table.specs.Grammar.{IsTail}
-use Rattle.yq_row_table.specs.Reading.{is_colon, read_colon, read_row_key, is_dash}
-use Rattle.yq_row_table.proofs.Fronts.{tail_front}
+use Rattle.yq_row_table.{specs.Grammar.IsTail, specs.Reading.{is_colon, read_colon, read_row_key, is_dash}, proofs.Fronts.tail_front}
 use Rattle.yq_row_table.proofs.MarkAgain.{scalar_no_dash}
 
 -- no scalar, no key

@@ -1,24 +1,14 @@
 -- An inline node behind a dash or a key, exchanged for another one.
 use Rattle.std.proofs.Common.{◌≡◌, ℕ, ℤ, true, false, List, [], ◌∷◌, ◌++◌, Some, refl, sym, ap, ◌∙◌, subst, append_assoc, rules}
-use Rattle.std.proofs.lemmas.Bool.{false≢true, or_parts}
-use Rattle.std.specs.List.{slice_get}
-use Rattle.std.specs.Str.{IsUtf8}
-use Rattle.yq_core.specs.declared.style.Place.TheVariants as places
-use Rattle.yq_core.specs.Characters.{is_text}
-use Rattle.yq_core.specs.Piece.{deeper}
-use Rattle.yq_core.specs.Text.{front, is_feed, separates}
-use Rattle.yq_core.specs.Inline.{depth_limit, IsInline}
-use Rattle.yq_core.specs.Nodes.{FlowNode, node_text}
-use Rattle.yq_core.proofs.NodesWrittenLaws.{node_then}
+use Rattle.std.{proofs.lemmas.Bool.{false≢true, or_parts}, specs.List.slice_get, specs.Str.IsUtf8}
+use Rattle.yq_core.{specs.Characters.is_text, specs.Piece.deeper, specs.Text.{front, is_feed, separates}}
+use Rattle.yq_core.{specs.Inline.{depth_limit, IsInline}, specs.Nodes.{FlowNode, node_text}, proofs.NodesWrittenLaws.node_then}
 use Rattle.yq_row_table.specs.Exchange.{with_content, exchange, before_content, behind_row, rows_behind, allows_first, FitsRow}
-use Rattle.yq_row_table.specs.Gap.{IsWhite}
-use Rattle.yq_row_table.specs.Grammar.{IsTail, IsContent, IsMark, is_entry, limit_after, IsCut}
-use Rattle.yq_row_table.specs.Rows.{RowMark, Content, Inline, content_text, Row, parent_indent, Cut, cut_text}
-use Rattle.yq_row_table.specs.View.{rows_of}
-use Rattle.yq_row_table.proofs.CharacterLaws.{text_exchanged}
-use Rattle.yq_row_table.proofs.Fronts.{Starts, node_starts}
-use Rattle.yq_row_table.proofs.NodeFronts.{node_begins}
+use Rattle.yq_row_table.{specs.Gap.IsWhite, specs.Grammar.{IsTail, IsContent, IsMark, is_entry, limit_after, IsCut}}
+use Rattle.yq_row_table.{specs.Rows.{RowMark, Content, Inline, content_text, Row, parent_indent, Cut, cut_text}, specs.View.rows_of}
+use Rattle.yq_row_table.{proofs.CharacterLaws.text_exchanged, proofs.Fronts.{Starts, node_starts}, proofs.NodeFronts.node_begins}
 use Rattle.yq_row_table.proofs.PlaceLaws.{place, new_place, RowIn, row_in}
+use Rattle.yq_core.specs.declared.style.Place.TheVariants as places
 
 -- white space stands before the node
 pub inline_starts : (n : ℤ) (node : FlowNode) (rest : List ℕ) → IsInline places.Block n 0 node rest → Starts (node_text node rest)

@@ -1,17 +1,13 @@
 -- What is in front of an inline node and of a block scalar.
 use Rattle.std.proofs.Common.{◌≡◌, inl, inr, ℕ, Bool, true, false, not, ◌||◌, eqb, List, [], ◌∷◌, ◌++◌, drop, Option, refl, ap, rules}
 use Rattle.std.proofs.lemmas.Bool.{false≢true, cond_both, or_right}
-use Rattle.yq_core.specs.Block.{style_indicator, BlockText, block_text}
-use Rattle.yq_core.specs.declared.block_header.BlockStyle.{BlockStyle}
+use Rattle.yq_core.{specs.Block.{style_indicator, BlockText, block_text}, specs.declared.block_header.BlockStyle.BlockStyle}
+use Rattle.yq_core.{specs.Text.{upto, unless, front, is_empty, no_white, no_space, past_white, NoneIn, joined}, proofs.Upto.cut-append}
+use Rattle.yq_core.specs.Nodes.{FlowNode, empty, alias, scalar, coll, anchored, node_text, flow_items_text, begins_with, in_name}
+use Rattle.yq_core.{specs.Nodes.{begins_content, begins_node, IsLead, IsName, is_empty_node, IsFlowNode}, specs.Scalars.begins_scalar}
+use Rattle.yq_core.{proofs.NodesPieceLaws.{front_not, scalar_begins}, proofs.KeepLaws.bare_text}
+use Rattle.yq_row_table.{specs.Reading.{is_dash, begins_block}, proofs.MarkAgain.scalar_node}
 use Rattle.yq_core.specs.declared.block_header.BlockStyle.TheVariants as styles
-use Rattle.yq_core.specs.Text.{upto, unless, front, is_empty, no_white, no_space, past_white, NoneIn, joined}
-use Rattle.yq_core.proofs.Upto.{cut-append}
-use Rattle.yq_core.specs.Nodes.{FlowNode, empty, alias, scalar, coll, anchored, node_text, flow_items_text, begins_with, in_name, begins_content, begins_node, IsLead, IsName, is_empty_node, IsFlowNode}
-use Rattle.yq_core.specs.Scalars.{begins_scalar}
-use Rattle.yq_core.proofs.NodesPieceLaws.{front_not, scalar_begins}
-use Rattle.yq_core.proofs.KeepLaws.{bare_text}
-use Rattle.yq_row_table.specs.Reading.{is_dash, begins_block}
-use Rattle.yq_row_table.proofs.MarkAgain.{scalar_node}
 
 -- the mark of a block scalar
 abbrev pub is_block_mark : ℕ → Bool

@@ -1,23 +1,17 @@
 -- Whole characters stand before, in and behind a node.
-use Rattle.std.proofs.Common.{◌≡◌, ◌⊎◌, inl, inr, ℕ, zero, suc, ◌+◌, ◌-◌, ◌<◌, ◌≤◌, replicate, true, false, ◌||◌, List, [], ◌∷◌, ◌++◌, length, take, drop, get_or, Some, refl, sym, ap, ◌∙◌, subst, arith, ⊎_elim, eqb-true, append_assoc, append-nil, length-append, rules}
-use Rattle.std.proofs.Math.Seq.{take-append_seam, drop-append_seam, get_or-append_seam}
+use Rattle.std.proofs.Common.{◌≡◌, ◌⊎◌, inl, inr, ℕ, zero, suc, ◌+◌, ◌-◌, ◌<◌, ◌≤◌, replicate, true, false, ◌||◌, List, [], ◌∷◌, ◌++◌}
+use Rattle.std.proofs.Common.{length, take, drop, get_or, Some, refl, sym, ap, ◌∙◌, subst, arith, ⊎_elim, eqb-true, append_assoc}
+use Rattle.std.{proofs.Common.{append-nil, length-append, rules}, proofs.Math.Seq.{take-append_seam, drop-append_seam, get_or-append_seam}}
 use Rattle.std.proofs.lemmas.Bool.{false≢true, or_cases, and_parts, cases_Bool}
-use Rattle.std.proofs.lemmas.Str.{IsCharBoundary-after_ascii, IsUtf8-take, IsUtf8-between}
-use Rattle.std.specs.List.{slice_get}
+use Rattle.std.{proofs.lemmas.Str.{IsCharBoundary-after_ascii, IsUtf8-take, IsUtf8-between}, specs.List.slice_get}
 use Rattle.std.specs.Str.{IsUtf8, IsCharBoundary}
-use Rattle.yq_core.specs.Text.{ends_line, separates}
-use Rattle.yq_core.proofs.Boundaries.{white_ascii}
-use Rattle.yq_core.specs.Lines.{is_hash}
+use Rattle.yq_core.{specs.Text.{ends_line, separates}, proofs.Boundaries.white_ascii, specs.Lines.is_hash}
 use Rattle.yq_core.specs.Nodes.{FlowNode, node_text}
-use Rattle.yq_row_table.specs.Exchange.{before_content, behind_row, rows_behind, HasPieces}
-use Rattle.yq_row_table.specs.Gap.{IsWhite}
+use Rattle.yq_row_table.{specs.Exchange.{before_content, behind_row, rows_behind, HasPieces}, specs.Gap.IsWhite}
 use Rattle.yq_row_table.specs.Grammar.{IsTail, IsContent, AreDashes, is_entry, IsCut}
 use Rattle.yq_row_table.specs.Rows.{RowMark, Bare, Dash, Key, Content, Inline, mark_text, dashes_text, Row, parent_indent, Cut}
-use Rattle.yq_row_table.specs.View.{rows_of}
-use Rattle.yq_row_table.proofs.LineEnds.{line_end_behind}
-use Rattle.yq_row_table.proofs.MarkEnds.{content_ends}
-use Rattle.yq_row_table.proofs.NodeExchange.{inline_starts, holds_node, node_place}
-use Rattle.yq_row_table.proofs.PlaceLaws.{row_in}
+use Rattle.yq_row_table.{specs.View.rows_of, proofs.LineEnds.line_end_behind, proofs.MarkEnds.content_ends}
+use Rattle.yq_row_table.{proofs.NodeExchange.{inline_starts, holds_node, node_place}, proofs.PlaceLaws.row_in}
 
 -- the last byte is ASCII
 pub record EndsAscii (p : List ℕ) : Type 0 where

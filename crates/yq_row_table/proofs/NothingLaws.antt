@@ -1,12 +1,10 @@
 -- Gaps, tails, and what holds nothing but an anchor: before one text that isn't empty as before another.
-use Rattle.std.proofs.Common.{◌≡◌, inl, inr, ℕ, Bool, true, false, not, ◌||◌, List, [], ◌∷◌, ◌++◌, length, refl, sym, ap, ◌∙◌, ⊎_elim, length-append, rules}
-use Rattle.std.proofs.lemmas.Bool.{false≢true, false_from_ne_true, or_right, or_parts}
+use Rattle.std.proofs.Common.{◌≡◌, inl, inr, ℕ, Bool, true, false, not, ◌||◌, List, [], ◌∷◌, ◌++◌, length, refl, sym, ap, ◌∙◌, ⊎_elim}
+use Rattle.std.{proofs.Common.{length-append, rules}, proofs.lemmas.Bool.{false≢true, false_from_ne_true, or_right, or_parts}}
 use Rattle.yq_core.specs.Text.{is_empty, is_white, is_break, unless, ends_line, separates, NoneIn, joined}
 use Rattle.yq_core.specs.Nodes.{begins_with, begins_content, begins_node, IsLead}
-use Rattle.yq_row_table.specs.Gap.{IsWhite, IsBreak, IsLineEnd, AreGapLines, IsGap}
-use Rattle.yq_row_table.specs.Grammar.{IsTail}
-use Rattle.yq_row_table.proofs.Fronts.{node_starts, stops_by}
-use Rattle.yq_row_table.proofs.LineEnds.{none_in_white, line_end_behind}
+use Rattle.yq_row_table.{specs.Gap.{IsWhite, IsBreak, IsLineEnd, AreGapLines, IsGap}, specs.Grammar.IsTail}
+use Rattle.yq_row_table.{proofs.Fronts.{node_starts, stops_by}, proofs.LineEnds.{none_in_white, line_end_behind}}
 
 pub some_behind : (p t : List ℕ) → is_empty t ≡ false → is_empty (p ++ t) ≡ false
 some_behind [] t some = some

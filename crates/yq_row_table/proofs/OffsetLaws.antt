@@ -1,15 +1,13 @@
 -- Rows by where they stand in a text.
-use Rattle.std.proofs.Common.{◌≡◌, ◌<◌, ◌≤◌, ℕ, zero, suc, ◌-◌, if◌then◌else◌, List, [], ◌∷◌, ◌++◌, length, map, take, drop, replicate, refl, sym, ap, ◌∙◌, subst, arith, append_assoc, length-append}
-use Rattle.std.proofs.Math.Seq.{drop-append_seam}
+use Rattle.std.proofs.Common.{◌≡◌, ◌<◌, ◌≤◌, ℕ, zero, suc, ◌-◌, if◌then◌else◌, List, [], ◌∷◌, ◌++◌, length, map, take, drop, replicate}
+use Rattle.std.{proofs.Common.{refl, sym, ap, ◌∙◌, subst, arith, append_assoc, length-append}, proofs.Math.Seq.drop-append_seam}
 use Rattle.std.proofs.lemmas.List.{length-map, length-replicate, map-append, take-append-drop, take_at}
 use Rattle.std.proofs.lemmas.Str.{IsCharBoundary-from_take, IsUtf8-drop, IsUtf8-from_ascii}
-use Rattle.std.proofs.lemmas.Str.Ascii.{IsAscii-nil, IsAscii-cons}
-use Rattle.std.specs.Str.{IsAscii, IsUtf8, IsCharBoundary}
+use Rattle.std.{proofs.lemmas.Str.Ascii.{IsAscii-nil, IsAscii-cons}, specs.Str.{IsAscii, IsUtf8, IsCharBoundary}}
 use Rattle.yq_core.specs.Text.{is_empty}
 use Rattle.yq_row_table.specs.Offsets.{Ends, pieces_of, slices_in, rows_in, AreCuts, IsCutIn, AreTexts, ParentAgrees, offsets_of}
-use Rattle.yq_row_table.specs.View.{Slices, slices_text}
+use Rattle.yq_row_table.{specs.View.{Slices, slices_text}, proofs.FrontLaws.{front_drop, front_next, front_boundary}}
 use Rattle.yq_row_table.specs.declared.offsets.Offsets as declared
-use Rattle.yq_row_table.proofs.FrontLaws.{front_drop, front_next, front_boundary}
 
 -- what stands behind a piece of the end of a text is one
 pub ends_next : (whole t p rest : List ℕ) → Ends t whole → t ≡ p ++ rest → Ends rest whole

@@ -1,17 +1,12 @@
 -- The parent indentation of what stands behind a row's mark, told by the row's pieces.
-use Rattle.std.proofs.Common.{◌≡◌, ℕ, zero, suc, ◌+◌, ◌<◌, List, [], ◌∷◌, length, pos, Some, refl, sym, ap, ◌∙◌, subst, arith, replicate, length-append}
-use Rattle.std.proofs.lemmas.Bool.{false≢true}
-use Rattle.std.proofs.lemmas.List.{length-replicate}
+use Rattle.std.proofs.Common.{◌≡◌, ℕ, zero, suc, ◌+◌, ◌<◌, List, [], ◌∷◌, length, pos, Some, refl, sym, ap, ◌∙◌, subst, arith, replicate}
+use Rattle.std.{proofs.Common.length-append, proofs.lemmas.Bool.false≢true, proofs.lemmas.List.length-replicate}
 use Rattle.std.proofs.lemmas.Option.{same_Some}
 use Rattle.yq_core.proofs.Bools.{bind_some}
-use Rattle.yq_row_table.specs.Grammar.{AreDashes, IsMark, Limit}
-use Rattle.yq_row_table.specs.Slicing.{SlicedRow, sliced, row_sliced}
-use Rattle.yq_row_table.specs.Offsets.{ParentAgrees, parent_by}
-use Rattle.yq_row_table.specs.Reading.{row_at}
+use Rattle.yq_row_table.{specs.Grammar.{AreDashes, IsMark, Limit}, specs.Slicing.{SlicedRow, sliced, row_sliced}}
+use Rattle.yq_row_table.{specs.Offsets.{ParentAgrees, parent_by}, specs.Reading.row_at}
 use Rattle.yq_row_table.specs.Rows.{Bare, Content, Dash, Key, RowMark, before_column, behind_columns, dashes_text, parent_of}
-use Rattle.yq_row_table.specs.View.{Slices, colon_of, last_dash}
-use Rattle.yq_row_table.proofs.BeginSteps.{columns_from}
-use Rattle.yq_row_table.proofs.RowLaws.{row_takes}
+use Rattle.yq_row_table.{specs.View.{Slices, colon_of, last_dash}, proofs.BeginSteps.columns_from, proofs.RowLaws.row_takes}
 
 dashes_length : (ns rest : List ℕ) → length (dashes_text ns rest) ≡ behind_columns 0 ns + length rest
 dashes_length [] rest = omega arith

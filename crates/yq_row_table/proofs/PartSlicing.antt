@@ -1,27 +1,18 @@
 -- Parts and markers, as the code lends them.
 use Rattle.std.proofs.lemmas.Bool.{eqb-true, false_from_ne_true}
-use Rattle.std.proofs.Common.{◌≡◌, ℕ, suc, ◌+◌, ◌-◌, ◌<◌, ◌≤◌, Bool, true, false, eqb, List, [], ◌∷◌, ◌++◌, length, map, take, drop, Option, Some, None, refl, sym, ap, ◌∙◌, arith, append_assoc, length-append}
-use Rattle.std.proofs.lemmas.List.{take-append-drop, length-map, map-append}
-use Rattle.std.proofs.lemmas.Option.{same_Some}
+use Rattle.std.proofs.Common.{◌≡◌, ℕ, suc, ◌+◌, ◌-◌, ◌<◌, ◌≤◌, Bool, true, false, eqb, List, [], ◌∷◌, ◌++◌, length, map, take, drop, Option}
+use Rattle.std.proofs.Common.{Some, None, refl, sym, ap, ◌∙◌, arith, append_assoc, length-append}
+use Rattle.std.{proofs.lemmas.List.{take-append-drop, length-map, map-append}, proofs.lemmas.Option.same_Some}
 use Rattle.std.specs.Str.{IsUtf8, IsCharBoundary}
-use Rattle.yq_core.specs.Answers.{◌>>=◌}
-use Rattle.yq_core.specs.Text.{is_empty, is_marker}
-use Rattle.yq_core.proofs.Bools.{bind_some}
-use Rattle.yq_row_table.specs.Grammar.{begins_document}
-use Rattle.yq_row_table.specs.Slicing.{SlicedPart, part_behind, rows_sliced, behind_parts, parts_sliced}
-use Rattle.yq_row_table.specs.Reading.{read_tail, marker_at, read_cut_part, all_parts}
-use Rattle.yq_row_table.specs.Rows.{rows_text, Part, Cut, last, marked}
-use Rattle.yq_row_table.specs.View.{Slices, slices, Bound, RowsView, rows_of, bounds_from}
-use Rattle.yq_row_table.specs.Ends.{bound_in, bounds_in}
-use Rattle.yq_row_table.specs.Items.{items_text, rows_items}
-use Rattle.yq_row_table.specs.Offsets.{Ends}
-use Rattle.yq_row_table.specs.declared.ends.EndPlace as ends
+use Rattle.yq_core.{specs.Answers.◌>>=◌, specs.Text.{is_empty, is_marker}, proofs.Bools.bind_some}
+use Rattle.yq_row_table.{specs.Grammar.begins_document, specs.Slicing.{SlicedPart, part_behind, rows_sliced, behind_parts, parts_sliced}}
+use Rattle.yq_row_table.{specs.Reading.{read_tail, marker_at, read_cut_part, all_parts}, specs.Rows.{rows_text, Part, Cut, last, marked}}
+use Rattle.yq_row_table.{specs.View.{Slices, slices, Bound, RowsView, rows_of, bounds_from}, specs.Ends.{bound_in, bounds_in}}
+use Rattle.yq_row_table.{specs.Items.{items_text, rows_items}, specs.Offsets.Ends}
 use Rattle.yq_row_table.proofs.PartsLaws.{parts_refused, parts_last, parts_no_marker, parts_marked, part_marker, parts_smaller, part_takes}
-use Rattle.yq_row_table.proofs.ItemLaws.{rows_items_text}
-use Rattle.yq_row_table.proofs.KeptLaws.{items_apart}
-use Rattle.yq_row_table.proofs.OffsetLaws.{ends_next}
-use Rattle.yq_row_table.proofs.PieceLaws.{tail_takes}
-use Rattle.yq_row_table.proofs.FrontLaws.{front_take, front_boundary, front_le}
+use Rattle.yq_row_table.{proofs.ItemLaws.rows_items_text, proofs.KeptLaws.items_apart, proofs.OffsetLaws.ends_next}
+use Rattle.yq_row_table.{proofs.PieceLaws.tail_takes, proofs.FrontLaws.{front_take, front_boundary, front_le}}
+use Rattle.yq_row_table.specs.declared.ends.EndPlace as ends
 
 -- the line of a marker
 marker_is : (t behind tail rest : List ℕ) → behind ≡ drop 3 t → read_tail behind ≡ Some (tail, rest) → t ≡ (take 3 t ++ tail) ++ rest

@@ -1,16 +1,12 @@
 -- The parts of a text and the markers between them, read and spelled.
-use Rattle.std.proofs.Common.{◌≡◌, ℕ, zero, suc, ◌<◌, ◌≤◌, Bool, true, false, cond, ◌||◌, List, [], ◌∷◌, ◌++◌, length, Option, Some, None, refl, sym, ap, ◌∙◌, subst, arith, rules}
-use Rattle.std.proofs.lemmas.Bool.{false≢true, cases_Bool}
+use Rattle.std.proofs.Common.{◌≡◌, ℕ, zero, suc, ◌<◌, ◌≤◌, Bool, true, false, cond, ◌||◌, List, [], ◌∷◌, ◌++◌, length, Option, Some, None}
+use Rattle.std.{proofs.Common.{refl, sym, ap, ◌∙◌, subst, arith, rules}, proofs.lemmas.Bool.{false≢true, cases_Bool}}
 use Rattle.std.proofs.lemmas.Option.{cond_some, same_Some}
-use Rattle.yq_core.specs.Answers.{◌>>=◌}
-use Rattle.yq_core.specs.Text.{is_empty, is_marker}
-use Rattle.yq_core.proofs.Bools.{bind_some}
-use Rattle.yq_core.proofs.Binds.{bind_same}
+use Rattle.yq_core.{specs.Answers.◌>>=◌, specs.Text.{is_empty, is_marker}, proofs.Bools.bind_some, proofs.Binds.bind_same}
 use Rattle.yq_row_table.specs.Grammar.{Limit, unlimited, limit_after, AreRows, no_rows, IsPart, IsMarkerLine, begins_document, ends_part}
 use Rattle.yq_row_table.specs.Reading.{read_tail, all_rows, read_cut_part, marker_at, parts_at, all_parts}
 use Rattle.yq_row_table.specs.Rows.{Row, behind_gap, Part, part_text, rows_text, Cut, last, marked}
-use Rattle.yq_row_table.proofs.PieceLaws.{tail_takes, tail_again}
-use Rattle.yq_row_table.proofs.RowLaws.{row_longer, suffix_le}
+use Rattle.yq_row_table.{proofs.PieceLaws.{tail_takes, tail_again}, proofs.RowLaws.{row_longer, suffix_le}}
 use Rattle.yq_row_table.proofs.RowsRead.{rows_takes, rows_again}
 
 -- a part

@@ -1,10 +1,7 @@
 -- The pieces of a row, each behind the lengths of those before it.
 use Rattle.std.proofs.Common.{◌≡◌, ◌<◌, ◌≤◌, ℕ, zero, suc, ◌+◌, List, [], ◌∷◌, length, get_or, take, drop, refl, sym, ap, ◌∙◌, subst, arith}
-use Rattle.std.proofs.lemmas.List.{drop-drop}
-use Rattle.std.proofs.lemmas.Str.{IsCharBoundary-from_rest}
-use Rattle.std.specs.Str.{IsCharBoundary}
-use Rattle.yq_row_table.specs.Offsets.{AreCuts, lengths, parent_by, pieces_of}
-use Rattle.yq_row_table.specs.View.{Slices}
+use Rattle.std.{proofs.lemmas.List.drop-drop, proofs.lemmas.Str.IsCharBoundary-from_rest, specs.Str.IsCharBoundary}
+use Rattle.yq_row_table.{specs.Offsets.{AreCuts, lengths, parent_by, pieces_of}, specs.View.Slices}
 use Rattle.yq_row_table.specs.declared.offsets.Offsets as declared
 
 -- so many bytes and the first of these lengths

@@ -1,19 +1,13 @@
 -- Keys and tails, read and spelled.
-use Rattle.std.proofs.Common.{◌≡◌, ℕ, zero, suc, ◌+◌, Bool, true, false, cond, not, ◌&&◌, ◌||◌, eqb, leb, List, [], ◌∷◌, ◌++◌, length, take, drop, Option, Some, None, refl, sym, ap, ◌∙◌, subst, ⊎_elim, eqb-true, append_assoc, rules}
+use Rattle.std.proofs.Common.{◌≡◌, ℕ, zero, suc, ◌+◌, Bool, true, false, cond, not, ◌&&◌, ◌||◌, eqb, leb, List, [], ◌∷◌, ◌++◌, length, take}
+use Rattle.std.proofs.Common.{drop, Option, Some, None, refl, sym, ap, ◌∙◌, subst, ⊎_elim, eqb-true, append_assoc, rules}
 use Rattle.std.proofs.lemmas.Bool.{false≢true, or_cases, leb-true, le-leb, or_right, and_from, and_parts}
-use Rattle.std.proofs.lemmas.List.{take-append-drop}
-use Rattle.std.proofs.Math.Seq.{take-append_seam, drop-append_seam}
-use Rattle.std.proofs.lemmas.Option.{cond_some}
+use Rattle.std.{proofs.lemmas.List.take-append-drop, proofs.Math.Seq.{take-append_seam, drop-append_seam}, proofs.lemmas.Option.cond_some}
 use Rattle.std.specs.Str.{chars}
-use Rattle.yq_core.specs.Text.{upto, cut, no_white, ends_line, separates, is_empty, cut_line, line_len}
-use Rattle.yq_core.proofs.Bools.{bind_some}
-use Rattle.yq_core.proofs.Upto.{upto-append}
-use Rattle.yq_core.specs.Lines.{is_hash}
-use Rattle.yq_core.specs.Reading.{read_scalar}
-use Rattle.yq_core.specs.Scalars.{IsScalarAt}
+use Rattle.yq_core.{specs.Text.{upto, cut, no_white, ends_line, separates, is_empty, cut_line, line_len}, proofs.Bools.bind_some}
+use Rattle.yq_core.{proofs.Upto.upto-append, specs.Lines.is_hash, specs.Reading.read_scalar, specs.Scalars.IsScalarAt}
 use Rattle.yq_core.proofs.NodesPieceLaws.{scalar_takes, scalar_again}
-use Rattle.yq_row_table.specs.Gap.{IsWhite}
-use Rattle.yq_row_table.specs.Grammar.{IsColon, IsKey, IsTail, key_limit}
+use Rattle.yq_row_table.{specs.Gap.IsWhite, specs.Grammar.{IsColon, IsKey, IsTail, key_limit}}
 use Rattle.yq_row_table.specs.Reading.{is_colon, read_colon, read_row_key, read_tail}
 use Rattle.yq_row_table.proofs.LineEnds.{none_in_white, white_cut, white_again, line_end_takes, line_end_behind, line_end_line, line_again}
 

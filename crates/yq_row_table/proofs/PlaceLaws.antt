@@ -1,14 +1,13 @@
 -- Where the content of a row stands in a text.
-use Rattle.std.proofs.Common.{◌≡◌, inl, inr, ℕ, zero, suc, ◌-◌, Bool, true, List, [], ◌∷◌, ◌++◌, length, drop, Some, refl, sym, ap, ◌∙◌, subst, append_assoc, replicate, rules}
-use Rattle.std.proofs.Math.Dec.{ltb}
-use Rattle.std.proofs.lemmas.Bool.{ltb-true, ltb-false, cases_Bool}
-use Rattle.std.specs.List.{slice_get}
+use Rattle.std.proofs.Common.{◌≡◌, inl, inr, ℕ, zero, suc, ◌-◌, Bool, true, List, [], ◌∷◌, ◌++◌, length, drop, Some, refl, sym, ap, ◌∙◌}
+use Rattle.std.{proofs.Common.{subst, append_assoc, replicate, rules}, proofs.Math.Dec.ltb}
+use Rattle.std.{proofs.lemmas.Bool.{ltb-true, ltb-false, cases_Bool}, specs.List.slice_get}
 use Rattle.yq_core.proofs.NodesWrittenLaws.{node_append}
-use Rattle.yq_row_table.specs.Exchange.{with_content, with_content_at, exchange, row_front, before_at, text_after_row, before_content, behind_row, rows_behind, allows_first}
+use Rattle.yq_row_table.specs.Exchange.{with_content, with_content_at, exchange, row_front, before_at, text_after_row, before_content}
+use Rattle.yq_row_table.specs.Exchange.{behind_row, rows_behind, allows_first}
 use Rattle.yq_row_table.specs.Grammar.{IsRow, Limit, unlimited, limit_after, AreRows, begins_document, AreParts}
-use Rattle.yq_row_table.specs.Rows.{RowMark, Content, mark_text, dashes_text, content_text, Row, print_row, rows_text, Part, part_text, Cut, last, marked, cut_text}
-use Rattle.yq_row_table.specs.View.{rows_of}
-use Rattle.yq_row_table.proofs.ExchangeLaws.{slice_front, slice_back}
+use Rattle.yq_row_table.specs.Rows.{RowMark, Content, mark_text, dashes_text, content_text, Row, print_row, rows_text, Part, part_text, Cut}
+use Rattle.yq_row_table.{specs.Rows.{last, marked, cut_text}, specs.View.rows_of, proofs.ExchangeLaws.{slice_front, slice_back}}
 
 -- the text of a row, before two texts
 pub dashes_then : (ns t u : List ℕ) → dashes_text ns (t ++ u) ≡ dashes_text ns t ++ u

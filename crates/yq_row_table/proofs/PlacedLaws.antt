@@ -1,29 +1,21 @@
 -- Rows and ends of parts that are kept by their places alone, borrowed in their text again.
-use Rattle.std.proofs.Common.{◌≡◌, ℕ, ◌+◌, ◌≤◌, List, [], ◌∷◌, ◌++◌, length, take, take_at, reverse, ◌<◌, ◌^◌, append-nil, refl, sym, ap, ◌∙◌, subst, arith}
-use mathlib.Core.List.{head-eq_of_cons-eq, tail-eq_of_cons-eq}
-use Rattle.std.proofs.lemmas.List.{append_cancel_left, length-take-le}
+use Rattle.std.proofs.Common.{◌≡◌, ℕ, ◌+◌, ◌≤◌, List, [], ◌∷◌, ◌++◌, length, take, take_at, reverse, ◌<◌, ◌^◌, append-nil, refl, sym, ap}
+use Rattle.std.{proofs.Common.{◌∙◌, subst, arith}, proofs.lemmas.List.{append_cancel_left, length-take-le}}
 use Rattle.std.proofs.lemmas.List.Elements.{All-head, All-map, All-tail, All-weaker}
-use Rattle.std.proofs.lemmas.Str.{IsCharBoundary-at_seam, IsUtf8-drop, IsUtf8-nil, IsUtf8-take}
-use Rattle.std.specs.List.{All}
+use Rattle.std.{proofs.lemmas.Str.{IsCharBoundary-at_seam, IsUtf8-drop, IsUtf8-nil, IsUtf8-take}, specs.List.All}
 use Rattle.std.specs.Str.{IsCharBoundary, IsUtf8}
-use Rattle.yq_text.specs.Halves.{whole}
-use Rattle.yq_text.specs.declared.halves.Halves.{Halves}
-use Rattle.yq_row_table.specs.Ends.{EndStands, EndsStand, bound_in, bounds_in, end_at}
-use Rattle.yq_row_table.specs.Grammar.{IsCut}
+use mathlib.Core.List.{head-eq_of_cons-eq, tail-eq_of_cons-eq}
+use Rattle.yq_text.{specs.Halves.whole, specs.declared.halves.Halves.Halves}
+use Rattle.yq_row_table.{specs.Ends.{EndStands, EndsStand, bound_in, bounds_in, end_at}, specs.Grammar.IsCut}
 use Rattle.yq_row_table.specs.Items.{Item, row_item, end_item, items_of_cut, items_text, rows_in_items, bounds_in_items, view_of_items}
 use Rattle.yq_row_table.specs.Kept.{HavePlaces, IsPlaced, TextsIn, ends_near, near, halves_view}
 use Rattle.yq_row_table.specs.Offsets.{AreTexts, Stand, IsCutIn, offsets_of, parent_by, pieces_of, rows_in, slices_in}
-use Rattle.yq_row_table.specs.Rows.{Row, Cut, print_row}
-use Rattle.yq_row_table.specs.View.{Bound, RowsView, rows_view, slices, slices_text}
-use Rattle.yq_row_table.specs.declared.ends.EndPlace.{EndPlace}
-use Rattle.yq_row_table.specs.declared.offsets.Offsets as declared
-use Rattle.yq_row_table.specs.declared.places.Places.{Places}
-use Rattle.yq_row_table.proofs.HalfLaws.{have_view, texts_parts}
-use Rattle.yq_row_table.proofs.ItemLaws.{items_of_text, items_view_is, items_text-append}
-use Rattle.yq_row_table.proofs.KeptLaws.{items_apart, items_texts}
-use Rattle.yq_row_table.proofs.NearLaws.{AreRead}
-use Rattle.yq_row_table.proofs.ScanLaws.{one_cut}
+use Rattle.yq_row_table.{specs.Rows.{Row, Cut, print_row}, specs.View.{Bound, RowsView, rows_view, slices, slices_text}}
+use Rattle.yq_row_table.{specs.declared.ends.EndPlace.EndPlace, specs.declared.places.Places.Places}
+use Rattle.yq_row_table.{proofs.HalfLaws.{have_view, texts_parts}, proofs.ItemLaws.{items_of_text, items_view_is, items_text-append}}
+use Rattle.yq_row_table.{proofs.KeptLaws.{items_apart, items_texts}, proofs.NearLaws.AreRead, proofs.ScanLaws.one_cut}
 use Rattle.yq_row_table.proofs.SliceLaws.{slices_are}
+use Rattle.yq_row_table.specs.declared.offsets.Offsets as declared
 
 -- the lengths of pieces that were cut again
 agrees_again : (column m n : ℕ) (dashes colon : List ℕ) → IsCharBoundary dashes m → IsCharBoundary colon n → parent_by (column + length (take m dashes)) (length (take n colon)) ≡ parent_by (column + m) n

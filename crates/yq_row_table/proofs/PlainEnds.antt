@@ -1,25 +1,18 @@
 -- A plain scalar ends behind a row, where the next row of the part stands no deeper.
-use Rattle.std.proofs.Common.{◌≡◌, inl, inr, ⊎_elim, ℕ, zero, suc, ◌+◌, ◌-◌, ◌<◌, Bool, true, false, not, ◌&&◌, ◌||◌, eqb, List, [], ◌∷◌, ◌++◌, length, drop, Option, Some, None, refl, sym, ap, ◌∙◌, subst, arith, append_assoc, append-nil, replicate, eqb-true, rules}
-use Rattle.std.proofs.Math.Dec.{ltb}
-use Rattle.std.proofs.Math.Bool.{and-false}
+use Rattle.std.proofs.Common.{◌≡◌, inl, inr, ⊎_elim, ℕ, zero, suc, ◌+◌, ◌-◌, ◌<◌, Bool, true, false, not, ◌&&◌, ◌||◌, eqb, List, [], ◌∷◌}
+use Rattle.std.proofs.Common.{◌++◌, length, drop, Option, Some, None, refl, sym, ap, ◌∙◌, subst, arith, append_assoc, append-nil, replicate}
+use Rattle.std.{proofs.Common.{eqb-true, rules}, proofs.Math.Dec.ltb, proofs.Math.Bool.and-false}
 use Rattle.std.proofs.lemmas.Bool.{false≢true, ltb-true, ltb-false, not-false, or_cases, and_parts, cases_Bool, not-true}
-use Rattle.std.specs.List.{slice_get}
-use Rattle.std.specs.Prelude.{nat_le}
-use Rattle.yq_core.specs.Lines.{spaces}
-use Rattle.yq_core.specs.Plain.{no_gap, last_line, begins_deep, follows, ends_plain}
+use Rattle.std.{specs.List.slice_get, specs.Prelude.nat_le}
+use Rattle.yq_core.{specs.Lines.spaces, specs.Plain.{no_gap, last_line, begins_deep, follows, ends_plain}}
 use Rattle.yq_core.specs.Text.{cut, NoneIn, is_space, is_feed, is_return, is_break, is_line, is_empty, front, is_marker, joined}
-use Rattle.yq_core.proofs.SpaceLaws.{spaces_front, prefix_none}
-use Rattle.yq_core.proofs.Upto.{cut-append}
+use Rattle.yq_core.{proofs.SpaceLaws.{spaces_front, prefix_none}, proofs.Upto.cut-append}
 use Rattle.yq_row_table.specs.Exchange.{text_after_row, behind_row, rows_behind, allows_first}
 use Rattle.yq_row_table.specs.Gap.{IsWhite, IsLineEnd, AreGapLines, IsGap}
 use Rattle.yq_row_table.specs.Grammar.{IsTail, IsRow, Limit, unlimited, limit_after, AreRows, begins_document, AreParts, IsCut}
-use Rattle.yq_row_table.specs.Rows.{Row, behind_indent, behind_gap, rows_text, Cut, last, marked, cut_text}
-use Rattle.yq_row_table.specs.View.{rows_of}
-use Rattle.yq_row_table.proofs.ExchangeLaws.{slice_front, slice_back}
-use Rattle.yq_row_table.proofs.Fronts.{Starts}
-use Rattle.yq_row_table.proofs.LineEnds.{one_feed, feed_is}
-use Rattle.yq_row_table.proofs.RowAgain.{row_starts}
-use Rattle.yq_row_table.proofs.EmptyTexts.{empty_is}
+use Rattle.yq_row_table.{specs.Rows.{Row, behind_indent, behind_gap, rows_text, Cut, last, marked, cut_text}, specs.View.rows_of}
+use Rattle.yq_row_table.{proofs.ExchangeLaws.{slice_front, slice_back}, proofs.Fronts.Starts, proofs.LineEnds.{one_feed, feed_is}}
+use Rattle.yq_row_table.{proofs.RowAgain.row_starts, proofs.EmptyTexts.empty_is}
 
 -- the last line of white space that begins a line
 abbrev pub line_or : Option (List ℕ) → List ℕ → List ℕ

@@ -1,25 +1,16 @@
 -- The law of regions where one ends in front of a marker: the marker's line isn't read.
-use Rattle.std.proofs.Common.{◌≡◌, inl, inr, ℕ, ℤ, Bool, true, false, not, List, [], ◌∷◌, ◌++◌, Some, refl, sym, ap, ◌∙◌, subst, ⊎_elim, append-nil, append_assoc, rules}
-use Rattle.std.proofs.lemmas.Bool.{false≢true, and_parts, cases_Bool}
-use Rattle.yq_core.specs.Block.{ends_block, is_empty_line}
-use Rattle.yq_core.specs.declared.block_lines.TextIndent.{TextIndent}
-use Rattle.yq_core.specs.Text.{is_empty}
-use Rattle.yq_core.specs.Alike.{Alike}
-use Rattle.yq_core.proofs.Alikes.{alike_append}
-use Rattle.yq_row_table.specs.Gap.{IsGap}
-use Rattle.yq_row_table.specs.Grammar.{Limit, IsContent, IsRow, IsMarkerLine}
-use Rattle.yq_row_table.specs.Items.{Item, row_item, end_item, items_of_cut, items_text, Asked, nothing_asked, asked_by, asked_of, AreRowItems}
-use Rattle.yq_row_table.specs.Regions.{StandIn, ended, IsReadAlone}
-use Rattle.yq_row_table.specs.Rows.{Content, Row, parent_indent}
-use Rattle.yq_row_table.specs.Seams.{is_seam, TakesPlace}
-use Rattle.yq_row_table.proofs.AlikeRows.{marker_line_alike, row_alike, row_gap_alike, row_text_alike}
-use Rattle.yq_row_table.proofs.ItemLaws.{items_joined, parts_are_items}
-use Rattle.yq_row_table.proofs.NothingLaws.{gap_other, some_behind}
+use Rattle.std.proofs.Common.{◌≡◌, inl, inr, ℕ, ℤ, Bool, true, false, not, List, [], ◌∷◌, ◌++◌, Some, refl, sym, ap, ◌∙◌, subst, ⊎_elim}
+use Rattle.std.{proofs.Common.{append-nil, append_assoc, rules}, proofs.lemmas.Bool.{false≢true, and_parts, cases_Bool}}
+use Rattle.yq_core.{specs.Block.{ends_block, is_empty_line}, specs.declared.block_lines.TextIndent.TextIndent, specs.Text.is_empty}
+use Rattle.yq_core.{specs.Alike.Alike, proofs.Alikes.alike_append}
+use Rattle.yq_row_table.{specs.Gap.IsGap, specs.Grammar.{Limit, IsContent, IsRow, IsMarkerLine}}
+use Rattle.yq_row_table.specs.Items.{Item, row_item, end_item, items_of_cut, items_text, Asked, nothing_asked, asked_by, asked_of}
+use Rattle.yq_row_table.{specs.Items.AreRowItems, specs.Regions.{StandIn, ended, IsReadAlone}, specs.Rows.{Content, Row, parent_indent}}
+use Rattle.yq_row_table.{specs.Seams.{is_seam, TakesPlace}, proofs.AlikeRows.{marker_line_alike, row_alike, row_gap_alike, row_text_alike}}
+use Rattle.yq_row_table.{proofs.ItemLaws.{items_joined, parts_are_items}, proofs.NothingLaws.{gap_other, some_behind}}
 use Rattle.yq_row_table.proofs.ItemCuts.{Ended, alone_read, cut_of_items, cut_of, last_items, no_last, no_marker}
-use Rattle.yq_row_table.proofs.seams.GapSeams.{gap_lines_of, lines_before}
-use Rattle.yq_row_table.proofs.seams.MarkerSeams.{marker_line_is, marker_seam}
-use Rattle.yq_row_table.proofs.seams.SeamLaws.{plain_before, row_seam}
-use Rattle.yq_row_table.proofs.seams.FrontSeams.{closed_line, tail_any}
+use Rattle.yq_row_table.{proofs.seams.GapSeams.{gap_lines_of, lines_before}, proofs.seams.MarkerSeams.{marker_line_is, marker_seam}}
+use Rattle.yq_row_table.{proofs.seams.SeamLaws.{plain_before, row_seam}, proofs.seams.FrontSeams.{closed_line, tail_any}}
 
 -- a gap at the end of a text
 ends_front : (keep : Bool) (f : TextIndent) (ls ms : List (List ℕ)) → ends_block keep f (ls ++ ms) ≡ true → ends_block keep f ls ≡ true

@@ -1,26 +1,18 @@
 -- The law of regions: items between others, read alone.
-use Rattle.std.proofs.Common.{◌≡◌, inl, ℕ, Bool, true, false, List, [], ◌∷◌, ◌++◌, Option, Some, Result, refl, sym, ap, ◌∙◌, subst, ⊎_elim, append-nil, rules}
-use Rattle.std.proofs.lemmas.Bool.{or_right}
-use Rattle.yq_core.specs.Answers.{Gives}
-use Rattle.yq_core.specs.declared.fault.ReadError.{ReadError}
-use Rattle.yq_core.specs.Block.{ends_block}
-use Rattle.yq_core.specs.declared.block_lines.TextIndent.{TextIndent}
-use Rattle.yq_core.specs.Text.{is_line, text_lines}
-use Rattle.yq_core.specs.Alike.{Alike}
+use Rattle.std.proofs.Common.{◌≡◌, inl, ℕ, Bool, true, false, List, [], ◌∷◌, ◌++◌, Option, Some, Result, refl, sym, ap, ◌∙◌, subst, ⊎_elim}
+use Rattle.std.{proofs.Common.{append-nil, rules}, proofs.lemmas.Bool.or_right}
+use Rattle.yq_core.{specs.Answers.Gives, specs.declared.fault.ReadError.ReadError, specs.Block.ends_block}
+use Rattle.yq_core.{specs.declared.block_lines.TextIndent.TextIndent, specs.Text.{is_line, text_lines}, specs.Alike.Alike}
 use Rattle.yq_core.proofs.Alikes.{alike_append}
 use Rattle.yq_row_table.specs.Grammar.{Limit, IsRow, IsMarkerLine}
-use Rattle.yq_row_table.specs.Items.{Item, row_item, end_item, items_text, Asked, nothing_asked, asked_by, asked_of, AreRowItems, view_of_items}
-use Rattle.yq_row_table.specs.Regions.{StandIn, region_items, IsReadAlone}
-use Rattle.yq_row_table.specs.Slicing.{read_view}
-use Rattle.yq_row_table.specs.Reading.{all_parts}
-use Rattle.yq_row_table.specs.Rows.{Content, Row, parent_indent}
-use Rattle.yq_row_table.specs.View.{RowsView, rows_view}
+use Rattle.yq_row_table.specs.Items.{Item, row_item, end_item, items_text, Asked, nothing_asked, asked_by, asked_of, AreRowItems}
+use Rattle.yq_row_table.{specs.Items.view_of_items, specs.Regions.{StandIn, region_items, IsReadAlone}, specs.Slicing.read_view}
+use Rattle.yq_row_table.{specs.Reading.all_parts, specs.Rows.{Content, Row, parent_indent}, specs.View.{RowsView, rows_view}}
 use Rattle.yq_row_table.specs.Seams.{is_closed, is_seam, TakesPlace}
 use Rattle.yq_row_table.proofs.AlikeRows.{row_alike, row_gap_alike, row_text_alike, marker_line_alike}
-use Rattle.yq_row_table.proofs.ItemCuts.{no_last, no_gap, cut_of, cut_of_items, alone_read, inner_items, Ended, last_items, cut_ended, back_ended}
-use Rattle.yq_row_table.proofs.ItemLaws.{items_joined, items_view_is, parts_are_items}
-use Rattle.yq_row_table.proofs.seams.MarkerSeams.{marker_seam}
-use Rattle.yq_row_table.proofs.seams.SeamLaws.{row_seam, plain_before}
+use Rattle.yq_row_table.proofs.ItemCuts.{no_last, no_gap, cut_of, cut_of_items, alone_read, inner_items, Ended, last_items, cut_ended}
+use Rattle.yq_row_table.{proofs.ItemCuts.back_ended, proofs.ItemLaws.{items_joined, items_view_is, parts_are_items}}
+use Rattle.yq_row_table.{proofs.seams.MarkerSeams.marker_seam, proofs.seams.SeamLaws.{row_seam, plain_before}}
 
 -- a row at the end of a text
 none_ends : (keep : Bool) (f : TextIndent) → ends_block keep f (text_lines []) ≡ true

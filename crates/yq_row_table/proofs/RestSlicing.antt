@@ -1,14 +1,11 @@
 -- The ends of parts directly before a row.
-use Rattle.std.proofs.Common.{◌≡◌, ℕ, zero, suc, ◌+◌, ◌-◌, ◌<◌, ◌≤◌, true, false, leb, ltb, List, [], ◌∷◌, ◌++◌, length, take, drop, slice_index_or, sym, refl, ap, ◌∙◌, arith, leb-true, leb-false, ltb-true, ltb-false, eq-eqb, ne_eqb}
-use Rattle.std.specs.List.{AllWithin}
-use Rattle.std.specs.List.Sorted.{IsNonDecreasingBy, IsPartitionPoint}
+use Rattle.std.proofs.Common.{◌≡◌, ℕ, zero, suc, ◌+◌, ◌-◌, ◌<◌, ◌≤◌, true, false, leb, ltb, List, [], ◌∷◌, ◌++◌, length, take, drop}
+use Rattle.std.proofs.Common.{slice_index_or, sym, refl, ap, ◌∙◌, arith, leb-true, leb-false, ltb-true, ltb-false, eq-eqb, ne_eqb}
+use Rattle.std.{specs.List.AllWithin, specs.List.Sorted.{IsNonDecreasingBy, IsPartitionPoint}}
 use Rattle.std.proofs.lemmas.List.{get_or-drop, length-map, length-drop, take-map, drop-map}
 use Rattle.yq_text.specs.declared.halves.Halves.{Halves}
-use Rattle.yq_row_table.specs.Ends.{bound_in_half, bounds_in_halves}
-use Rattle.yq_row_table.specs.Items.{Item, row_item, end_item}
-use Rattle.yq_row_table.specs.Kept.{ends_near}
-use Rattle.yq_row_table.specs.Rows.{print_row}
-use Rattle.yq_row_table.specs.View.{bounds_at}
+use Rattle.yq_row_table.{specs.Ends.{bound_in_half, bounds_in_halves}, specs.Items.{Item, row_item, end_item}, specs.Kept.ends_near}
+use Rattle.yq_row_table.{specs.Rows.print_row, specs.View.bounds_at}
 use Rattle.yq_row_table.specs.declared.ends.EndPlace as ends
 
 -- rows never fall from a part's end to the next one's

@@ -1,18 +1,13 @@
 -- A row is read again, and where its gap ends.
-use Rattle.std.proofs.Common.{◌≡◌, ℕ, ℤ, zero, suc, true, false, cond, not, ◌&&◌, eqb, List, [], ◌∷◌, ◌++◌, length, Some, None, refl, ap, ◌∙◌, replicate, rules}
-use Rattle.std.proofs.Math.Bool.{and-false}
-use Rattle.std.proofs.lemmas.List.{length-replicate}
+use Rattle.std.proofs.Common.{◌≡◌, ℕ, ℤ, zero, suc, true, false, cond, not, ◌&&◌, eqb, List, [], ◌∷◌, ◌++◌, length, Some, None, refl, ap}
+use Rattle.std.{proofs.Common.{◌∙◌, replicate, rules}, proofs.Math.Bool.and-false, proofs.lemmas.List.length-replicate}
 use Rattle.yq_core.specs.Text.{past_white, is_empty, is_marker}
-use Rattle.yq_row_table.specs.Gap.{IsWhite}
-use Rattle.yq_row_table.specs.Grammar.{IsRow, IsContent, IsMark, Limit, allows, ends_part}
+use Rattle.yq_row_table.{specs.Gap.IsWhite, specs.Grammar.{IsRow, IsContent, IsMark, Limit, allows, ends_part}}
 use Rattle.yq_row_table.specs.Reading.{begins_gap, read_marks, fits, marked_row_at, row_at}
-use Rattle.yq_row_table.specs.Rows.{RowMark, Bare, Dash, Key, Content, dashes_text, mark_text, content_text, Row, behind_indent, behind_gap, parent_indent}
-use Rattle.yq_row_table.proofs.ContentEnds.{alone_no_entry, mark_ended}
-use Rattle.yq_row_table.proofs.ContentLaws.{content_again}
-use Rattle.yq_row_table.proofs.Fronts.{Starts, starts_by, node_starts}
-use Rattle.yq_row_table.proofs.LineEnds.{white_again}
-use Rattle.yq_row_table.proofs.MarkAgain.{scalar_node, key_starts, marks_again}
-use Rattle.yq_row_table.proofs.MarkLaws.{spaces_again}
+use Rattle.yq_row_table.specs.Rows.{RowMark, Bare, Dash, Key, Content, dashes_text, mark_text, content_text, Row, behind_indent, behind_gap}
+use Rattle.yq_row_table.{specs.Rows.parent_indent, proofs.ContentEnds.{alone_no_entry, mark_ended}, proofs.ContentLaws.content_again}
+use Rattle.yq_row_table.{proofs.Fronts.{Starts, starts_by, node_starts}, proofs.LineEnds.white_again}
+use Rattle.yq_row_table.{proofs.MarkAgain.{scalar_node, key_starts, marks_again}, proofs.MarkLaws.spaces_again}
 
 -- what a row begins with
 dash_starts : (t : List ℕ) → Starts (45 ∷ t)

@@ -1,19 +1,13 @@
 -- A row, read and spelled.
-use Rattle.std.proofs.Common.{◌≡◌, ℕ, ℤ, ◌<◌, ◌≤◌, true, false, not, ◌&&◌, eqb, List, [], ◌∷◌, ◌++◌, length, Option, Some, None, refl, ap, ◌∙◌, subst, arith, replicate, length-append, rules}
-use Rattle.std.proofs.lemmas.Bool.{not-true, and_parts}
+use Rattle.std.proofs.Common.{◌≡◌, ℕ, ℤ, ◌<◌, ◌≤◌, true, false, not, ◌&&◌, eqb, List, [], ◌∷◌, ◌++◌, length, Option, Some, None, refl, ap}
+use Rattle.std.{proofs.Common.{◌∙◌, subst, arith, replicate, length-append, rules}, proofs.lemmas.Bool.{not-true, and_parts}}
 use Rattle.std.proofs.lemmas.Option.{cond_some}
-use Rattle.yq_core.specs.Piece.{deeper}
-use Rattle.yq_core.specs.Text.{cut, no_space, is_marker}
-use Rattle.yq_core.proofs.Bools.{guard_then, bind_some}
-use Rattle.yq_core.proofs.Upto.{cut_takes}
-use Rattle.yq_core.specs.Inline.{depth_limit}
-use Rattle.yq_core.specs.Nodes.{bare, node_text}
-use Rattle.yq_core.proofs.NodeAgain.{item_longer}
-use Rattle.yq_row_table.specs.Gap.{IsGap}
-use Rattle.yq_row_table.specs.Grammar.{IsRow, IsContent, IsMark, AreDashes, may_be_alone, Limit, allows}
+use Rattle.yq_core.{specs.Piece.deeper, specs.Text.{cut, no_space, is_marker}, proofs.Bools.{guard_then, bind_some}, proofs.Upto.cut_takes}
+use Rattle.yq_core.{specs.Inline.depth_limit, specs.Nodes.{bare, node_text}, proofs.NodeAgain.item_longer}
+use Rattle.yq_row_table.{specs.Gap.IsGap, specs.Grammar.{IsRow, IsContent, IsMark, AreDashes, may_be_alone, Limit, allows}}
 use Rattle.yq_row_table.specs.Reading.{read_marks, read_content, fits, marked_row_at, row_at}
-use Rattle.yq_row_table.specs.Rows.{RowMark, Anchor, Content, Inline, dashes_text, mark_text, anchor_text, content_text, Row, behind_indent, behind_gap, behind_columns, parent_of, parent_indent}
-use Rattle.yq_row_table.proofs.ContentLaws.{content_takes}
+use Rattle.yq_row_table.specs.Rows.{RowMark, Anchor, Content, Inline, dashes_text, mark_text, anchor_text, content_text, Row, behind_indent}
+use Rattle.yq_row_table.{specs.Rows.{behind_gap, behind_columns, parent_of, parent_indent}, proofs.ContentLaws.content_takes}
 use Rattle.yq_row_table.proofs.MarkLaws.{spaces_are, IsMarked, marks_take}
 
 -- A row behind its gap and its indentation.

@@ -1,11 +1,9 @@
 -- A row of other pieces behind the indentation of one.
 use Rattle.std.proofs.Common.{ℕ, false, ◌&&◌, eqb, List, sym, ap, ◌∙◌, replicate, Some}
-use Rattle.yq_core.specs.Alike.{Alike}
+use Rattle.yq_core.{specs.Alike.Alike, proofs.Alikes.{alike_append, alike_marker}}
 use Rattle.yq_row_table.specs.Grammar.{IsContent, IsMark, AreDashes, IsRow, Limit}
-use Rattle.yq_row_table.specs.Rows.{RowMark, Content, dashes_text, mark_text, content_text, behind_columns, parent_of, Row, behind_indent, behind_gap}
-use Rattle.yq_row_table.specs.Seams.{TakesPlace}
-use Rattle.yq_core.proofs.Alikes.{alike_append, alike_marker}
-use Rattle.yq_row_table.proofs.AlikeRows.{row_gap_alike}
+use Rattle.yq_row_table.specs.Rows.{RowMark, Content, dashes_text, mark_text, content_text, behind_columns, parent_of, Row, behind_indent}
+use Rattle.yq_row_table.{specs.Rows.behind_gap, specs.Seams.TakesPlace, proofs.AlikeRows.row_gap_alike}
 
 -- It takes the place of that row, where the texts behind the indentation begin alike, and the pieces stand there.
 pub takes_place : (limit : Limit) (r : Row) (t dashes : List ℕ) (mark : RowMark) (new : Content) (u : List ℕ) → IsRow limit r t → Alike (Some false) (behind_indent r t) (dashes_text dashes (mark_text mark (content_text new u))) →

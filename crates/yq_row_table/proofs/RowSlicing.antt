@@ -1,18 +1,15 @@
 -- Rows, as the code lends them.
-use Rattle.std.proofs.Common.{if◌then◌else◌, ◌≡◌, ℕ, ◌+◌, ◌<◌, ◌≤◌, Bool, true, false, cond, not, ◌&&◌, ◌||◌, eqb, List, [], ◌∷◌, ◌++◌, length, map, Option, Some, None, refl, sym, ap, ◌∙◌, subst, arith, append_assoc, append-nil, ℤ}
-use Rattle.std.proofs.lemmas.Bool.{false≢true}
-use Rattle.std.proofs.lemmas.List.{take-append-drop}
-use Rattle.std.proofs.lemmas.Option.{same_Some}
-use Rattle.yq_core.specs.Answers.{◌>>=◌}
-use Rattle.yq_core.specs.Text.{cut, no_space, no_white, is_marker}
-use Rattle.yq_core.proofs.Bools.{bind_some}
-use Rattle.yq_core.specs.Nodes.{begins_node}
+use Rattle.std.proofs.Common.{if◌then◌else◌, ◌≡◌, ℕ, ◌+◌, ◌<◌, ◌≤◌, Bool, true, false, cond, not, ◌&&◌, ◌||◌, eqb, List, [], ◌∷◌, ◌++◌}
+use Rattle.std.proofs.Common.{length, map, Option, Some, None, refl, sym, ap, ◌∙◌, subst, arith, append_assoc, append-nil, ℤ}
+use Rattle.std.{proofs.lemmas.Bool.false≢true, proofs.lemmas.List.take-append-drop, proofs.lemmas.Option.same_Some}
+use Rattle.yq_core.{specs.Answers.◌>>=◌, specs.Text.{cut, no_space, no_white, is_marker}, proofs.Bools.bind_some, specs.Nodes.begins_node}
 use Rattle.yq_row_table.specs.Grammar.{Limit, unlimited, allows, limit_after, limit_behind, is_entry, no_rows, ends_part}
-use Rattle.yq_row_table.specs.Slicing.{Begun, begun, borrowed_content, filled_at, holds_plain, limit_by, SlicedRow, sliced, row_of, marked_sliced, row_sliced, rows_sliced, inline_sliced, block_sliced}
-use Rattle.yq_row_table.specs.Reading.{Marks, read_marks, read_content, begins_block, read_tail, fits, marked_row_at, row_at, gap_len, cut_gap, all_rows, read_cut_part}
+use Rattle.yq_row_table.specs.Slicing.{Begun, begun, borrowed_content, filled_at, holds_plain, limit_by, SlicedRow, sliced, row_of}
+use Rattle.yq_row_table.specs.Slicing.{marked_sliced, row_sliced, rows_sliced, inline_sliced, block_sliced}
+use Rattle.yq_row_table.specs.Reading.{Marks, read_marks, read_content, begins_block, read_tail, fits, marked_row_at, row_at, gap_len}
+use Rattle.yq_row_table.specs.Reading.{cut_gap, all_rows, read_cut_part}
 use Rattle.yq_row_table.specs.Rows.{Content, Nothing, Inline, Block, Row, behind_columns, parent_of, dashes_text, Part}
-use Rattle.yq_row_table.specs.View.{Slices, slices, slices_text, last_dash, key_of_mark, colon_of}
-use Rattle.yq_row_table.proofs.BeginSteps.{columns_from}
+use Rattle.yq_row_table.{specs.View.{Slices, slices, slices_text, last_dash, key_of_mark, colon_of}, proofs.BeginSteps.columns_from}
 use Rattle.yq_row_table.proofs.RowLaws.{row_takes, row_shorter}
 use Rattle.yq_row_table.proofs.RowsLaws.{behind_le, with_front, no_more, rows_from, rows_cut, rows_step, rows_refused, rows_done}
 use Rattle.yq_row_table.proofs.SliceLaws.{slices_are}

@@ -1,10 +1,9 @@
 -- The rows of a part: steps of reading them.
-use Rattle.std.proofs.Common.{if◌then◌else◌, ◌≡◌, ℕ, zero, suc, ◌<◌, ◌≤◌, true, false, cond, List, [], ◌∷◌, length, Option, Some, None, refl, ap, arith, length-drop}
-use Rattle.yq_core.specs.Answers.{◌>>=◌}
-use Rattle.yq_core.proofs.Binds.{bind_same}
+use Rattle.std.proofs.Common.{if◌then◌else◌, ◌≡◌, ℕ, zero, suc, ◌<◌, ◌≤◌, true, false, cond, List, [], ◌∷◌, length, Option, Some, None}
+use Rattle.std.proofs.Common.{refl, ap, arith, length-drop}
+use Rattle.yq_core.{specs.Answers.◌>>=◌, proofs.Binds.bind_same}
 use Rattle.yq_row_table.specs.Grammar.{Limit, limit_after, ends_part}
-use Rattle.yq_row_table.specs.Reading.{gap_len, cut_gap, row_at, with_rows, rows_at, all_rows}
-use Rattle.yq_row_table.specs.Rows.{Row, Part}
+use Rattle.yq_row_table.{specs.Reading.{gap_len, cut_gap, row_at, with_rows, rows_at, all_rows}, specs.Rows.{Row, Part}}
 use Rattle.yq_row_table.proofs.RowLaws.{row_shorter}
 
 pub behind_le : (t : List ℕ) → length (cut_gap t).1 ≤ length t

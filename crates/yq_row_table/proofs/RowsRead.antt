@@ -1,20 +1,13 @@
 -- The rows of a part, read and spelled.
-use Rattle.std.proofs.Common.{◌≡◌, ℕ, zero, suc, ◌<◌, true, false, cond, List, [], ◌∷◌, ◌++◌, length, Option, Some, refl, sym, ⊎_elim, ap, ◌∙◌, subst, arith, rules}
-use Rattle.std.proofs.lemmas.Bool.{false≢true}
-use Rattle.std.proofs.lemmas.List.{take-append-drop}
+use Rattle.std.proofs.Common.{◌≡◌, ℕ, zero, suc, ◌<◌, true, false, cond, List, [], ◌∷◌, ◌++◌, length, Option, Some, refl, sym, ⊎_elim, ap}
+use Rattle.std.{proofs.Common.{◌∙◌, subst, arith, rules}, proofs.lemmas.Bool.false≢true, proofs.lemmas.List.take-append-drop}
 use Rattle.std.proofs.lemmas.Option.{same_Some}
-use Rattle.yq_core.specs.Answers.{◌>>=◌}
-use Rattle.yq_core.specs.Text.{is_marker}
-use Rattle.yq_core.proofs.Bools.{at_byte, bind_some, chosen}
-use Rattle.yq_row_table.specs.Gap.{IsGap}
-use Rattle.yq_row_table.specs.Grammar.{IsRow, Limit, limit_after, AreRows, ends_part}
+use Rattle.yq_core.{specs.Answers.◌>>=◌, specs.Text.is_marker, proofs.Bools.{at_byte, bind_some, chosen}}
+use Rattle.yq_row_table.{specs.Gap.IsGap, specs.Grammar.{IsRow, Limit, limit_after, AreRows, ends_part}}
 use Rattle.yq_row_table.specs.Reading.{gap_len, cut_gap, begins_gap, row_at, rows_at}
-use Rattle.yq_row_table.specs.Rows.{Row, Part, part_text, behind_gap, print_row, rows_text}
-use Rattle.yq_row_table.proofs.Fronts.{Starts, starts_by}
-use Rattle.yq_row_table.proofs.GapLaws.{gap_takes, gap_again}
-use Rattle.yq_row_table.proofs.RowAgain.{no_gap_line, row_no_gap, row_no_end, row_again}
-use Rattle.yq_row_table.proofs.RowLaws.{row_takes, row_longer, suffix_le}
-use Rattle.yq_row_table.proofs.RowsLaws.{then_rows, no_more}
+use Rattle.yq_row_table.{specs.Rows.{Row, Part, part_text, behind_gap, print_row, rows_text}, proofs.Fronts.{Starts, starts_by}}
+use Rattle.yq_row_table.{proofs.GapLaws.{gap_takes, gap_again}, proofs.RowAgain.{no_gap_line, row_no_gap, row_no_end, row_again}}
+use Rattle.yq_row_table.{proofs.RowLaws.{row_takes, row_longer, suffix_le}, proofs.RowsLaws.{then_rows, no_more}}
 
 -- what a marker begins with
 pub marker_starts : (t : List ℕ) → is_marker t ≡ true → Starts t

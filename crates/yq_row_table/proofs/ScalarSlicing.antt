@@ -1,16 +1,10 @@
 -- A scalar without an anchor behind a mark, as the code lends it.
 use Rattle.std.proofs.Common.{◌≡◌, ℕ, Bool, true, false, not, ◌&&◌, ◌||◌, eqb, List, [], ◌∷◌, Option, Some, None, refl, sym, ℤ}
-use Rattle.std.proofs.lemmas.Bool.{false≢true, or_from}
-use Rattle.std.proofs.lemmas.List.{append-nil}
-use Rattle.yq_core.specs.Answers.{◌>>=◌}
-use Rattle.yq_core.specs.Piece.{deeper}
-use Rattle.yq_core.specs.Text.{is_empty}
-use Rattle.yq_core.specs.Inline.{depth_limit}
-use Rattle.yq_core.specs.Nodes.{scalar, node_text, begins_node}
-use Rattle.yq_core.specs.Reading.{read_scalar, read_core, read_node, all_node}
+use Rattle.std.{proofs.lemmas.Bool.{false≢true, or_from}, proofs.lemmas.List.append-nil}
+use Rattle.yq_core.{specs.Answers.◌>>=◌, specs.Piece.deeper, specs.Text.is_empty, specs.Inline.depth_limit}
+use Rattle.yq_core.{specs.Nodes.{scalar, node_text, begins_node}, specs.Reading.{read_scalar, read_core, read_node, all_node}}
 use Rattle.yq_core.specs.Scalars.{is_quoted, begins_scalar}
-use Rattle.yq_row_table.specs.Slicing.{begins_other, inline_sliced}
-use Rattle.yq_row_table.specs.Reading.{read_tail, inline_content_at}
+use Rattle.yq_row_table.{specs.Slicing.{begins_other, inline_sliced}, specs.Reading.{read_tail, inline_content_at}}
 
 -- what begins here, by its first byte
 pub other_node : (t : List ℕ) → begins_other t ≡ true → begins_node false t ≡ true

@@ -1,19 +1,16 @@
 -- A whole text, cut into its rows and markers and read again.
-use Rattle.std.proofs.Common.{◌≡◌, ℕ, zero, suc, ◌<◌, Bool, true, false, ◌&&◌, leb, List, [], ◌++◌, length, Option, Some, Result, Ok, Err, IfOk, refl, sym, ⊎_elim, ap, ◌∙◌, subst, arith, rules}
-use Rattle.std.proofs.lemmas.Bool.{leb-true, le-leb, and_parts}
+use Rattle.std.proofs.Common.{◌≡◌, ℕ, zero, suc, ◌<◌, Bool, true, false, ◌&&◌, leb, List, [], ◌++◌, length, Option, Some, Result, Ok, Err}
+use Rattle.std.{proofs.Common.{IfOk, refl, sym, ⊎_elim, ap, ◌∙◌, subst, arith, rules}, proofs.lemmas.Bool.{leb-true, le-leb, and_parts}}
 use Rattle.std.proofs.lemmas.Option.{same_Some}
-use Rattle.yq_core.specs.Answers.{◌>>=◌, Gives}
-use Rattle.yq_core.specs.Characters.{is_text}
-use Rattle.yq_text.specs.Limit.{text_limit}
-use Rattle.yq_core.specs.Text.{is_empty}
-use Rattle.yq_core.specs.declared.fault.ReadError.{ReadError}
+use Rattle.yq_core.{specs.Answers.{◌>>=◌, Gives}, specs.Characters.is_text, specs.Text.is_empty, specs.declared.fault.ReadError.ReadError}
 use Rattle.yq_core.proofs.Bools.{bind_some, chosen, guard_then}
+use Rattle.yq_text.specs.Limit.{text_limit}
 use Rattle.yq_row_table.specs.Grammar.{begins_document, IsPart, IsMarkerLine, AreParts, IsCut}
 use Rattle.yq_row_table.specs.Reading.{read_cut_part, marker_at, parts_at, scan_at}
-use Rattle.yq_row_table.specs.Rows.{Part, part_text, Cut, last, marked, cut_text}
-use Rattle.yq_row_table.specs.View.{RowsView, rows_view}
+use Rattle.yq_row_table.{specs.Rows.{Part, part_text, Cut, last, marked, cut_text}, specs.View.{RowsView, rows_view}}
 use Rattle.yq_row_table.proofs.EmptyTexts.{empty_is}
-use Rattle.yq_row_table.proofs.PartsLaws.{PartCut, part_takes, part_again, part_longer, marker_takes, marker_again, marker_ends, ends_marker}
+use Rattle.yq_row_table.proofs.PartsLaws.{PartCut, part_takes, part_again, part_longer, marker_takes, marker_again, marker_ends}
+use Rattle.yq_row_table.proofs.PartsLaws.{ends_marker}
 
 -- parts
 abbrev pub PartsCut : Bool → List ℕ → Cut → Type 0

@@ -1,8 +1,7 @@
 -- The pieces of a row, one behind the other, are the row.
 use Rattle.std.proofs.Common.{◌≡◌, ℕ, ◌+◌, List, [], ◌∷◌, ◌++◌, length, refl, sym, ap, ◌∙◌, append_assoc, length-append, replicate, rules}
 use Rattle.std.proofs.lemmas.List.{length-replicate}
-use Rattle.yq_core.specs.Nodes.{FlowNode, node_text}
-use Rattle.yq_core.proofs.NodesWrittenLaws.{node_then}
+use Rattle.yq_core.{specs.Nodes.{FlowNode, node_text}, proofs.NodesWrittenLaws.node_then}
 use Rattle.yq_row_table.specs.Offsets.{row_length}
 use Rattle.yq_row_table.specs.Rows.{RowMark, Bare, Dash, Key, Content, dashes_text, mark_text, content_text, Row, print_row}
 use Rattle.yq_row_table.specs.View.{Slices, last_dash, key_of_mark, colon_of, anchor_cut, content_cut, slices, slices_text}

@@ -1,17 +1,10 @@
 -- What a letter, a digit or an LF in front tells.
-use Rattle.std.proofs.Common.{◌≡◌, ℕ, Bool, true, false, ◌||◌, ◌&&◌, not, eqb, eqb-true, Option, Some, List, [], ◌∷◌, take, drop, refl, sym, ap, ◌∙◌, inl, inr}
-use Rattle.std.proofs.lemmas.Bool.{false≢true, or_cases, and_right, cases_Bool}
-use Rattle.std.specs.List.{prefix_len}
-use Rattle.yq_core.specs.Lines.{is_hash}
-use Rattle.yq_core.specs.Text.{upto, cut, front, line_len, is_empty, ends_line, past_white}
-use Rattle.yq_core.specs.Plain.{begins_plain, ends_plain, plain_at}
-use Rattle.yq_core.proofs.Bools.{at_byte}
-use Rattle.yq_core.proofs.SpaceLaws.{prefix_drop, white_drop}
-use Rattle.yq_core.specs.Nodes.{begins_with}
-use Rattle.yq_core.specs.Reading.{read_scalar}
-use Rattle.yq_core.specs.Scalars.{is_quoted, begins_scalar}
-use Rattle.yq_row_table.specs.Slicing.{begins_other}
-use Rattle.yq_row_table.specs.Reading.{is_alphanumeric, begins_gap, begins_block, read_tail}
+use Rattle.std.proofs.Common.{◌≡◌, ℕ, Bool, true, false, ◌||◌, ◌&&◌, not, eqb, eqb-true, Option, Some, List, [], ◌∷◌, take, drop, refl, sym}
+use Rattle.std.{proofs.Common.{ap, ◌∙◌, inl, inr}, proofs.lemmas.Bool.{false≢true, or_cases, and_right, cases_Bool}, specs.List.prefix_len}
+use Rattle.yq_core.{specs.Lines.is_hash, specs.Text.{upto, cut, front, line_len, is_empty, ends_line, past_white}}
+use Rattle.yq_core.{specs.Plain.{begins_plain, ends_plain, plain_at}, proofs.Bools.at_byte, proofs.SpaceLaws.{prefix_drop, white_drop}}
+use Rattle.yq_core.{specs.Nodes.begins_with, specs.Reading.read_scalar, specs.Scalars.{is_quoted, begins_scalar}}
+use Rattle.yq_row_table.{specs.Slicing.begins_other, specs.Reading.{is_alphanumeric, begins_gap, begins_block, read_tail}}
 
 isnt : (b k : ℕ) → is_alphanumeric b ≡ true → is_alphanumeric k ≡ false → eqb b k ≡ false
 isnt b k h there = at_byte is_alphanumeric b k h there

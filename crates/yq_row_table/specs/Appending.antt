@@ -1,10 +1,8 @@
 -- What is put behind a text that has no final break.
 use Rattle.std.specs.Prelude.{◌≡◌, ℕ, Bool, true, false, ◌&&◌, List, [], ◌++◌}
 use Rattle.yq_core.specs.Text.{is_break, is_empty, is_line}
-use Rattle.yq_row_table.specs.Grammar.{IsPart, begins_document}
-use Rattle.yq_row_table.specs.Rows.{Row, Part, Cut, last, marked}
-use Rattle.yq_row_table.specs.Seams.{tail_behind, retail, is_block}
-use Rattle.yq_row_table.specs.Splices.{nth_part, behind_part, StandsBetween}
+use Rattle.yq_row_table.{specs.Grammar.{IsPart, begins_document}, specs.Rows.{Row, Part, Cut, last, marked}}
+use Rattle.yq_row_table.{specs.Seams.{tail_behind, retail, is_block}, specs.Splices.{nth_part, behind_part, StandsBetween}}
 
 -- a break and nothing else (YAML 1.2.2, section 5.4)
 abbrev pub is_one_break : List ℕ → Bool

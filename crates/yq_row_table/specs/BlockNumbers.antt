@@ -1,10 +1,6 @@
 -- Reading (own; a reader may skip it): what a gap behind a block scalar asks of it, by the pieces of its row.
-use Rattle.std.specs.Prelude.{ℤ, ℕ, ◌==◌, ◌||◌, Bool, List, [], ◌∷◌, Option, None, if◌then◌else◌}
-use Rattle.std.specs.Option.{option_map}
-use Rattle.yq_core.specs.Block.{keeps}
-use Rattle.yq_core.specs.BlockReading.{indent_at, indicators_at}
-use Rattle.yq_core.specs.Piece.{deeper}
-use Rattle.yq_core.specs.Text.{text_lines}
+use Rattle.std.{specs.Prelude.{ℤ, ℕ, ◌==◌, ◌||◌, Bool, List, [], ◌∷◌, Option, None, if◌then◌else◌}, specs.Option.option_map}
+use Rattle.yq_core.{specs.Block.keeps, specs.BlockReading.{indent_at, indicators_at}, specs.Piece.deeper, specs.Text.text_lines}
 
 -- how far raw lines behind this indentation indicator are indented, at least so far (own)
 abbrev pub columns_at : ℕ → Option ℕ → List ℕ → Option ℕ

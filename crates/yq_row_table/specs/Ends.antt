@@ -1,9 +1,7 @@
 -- Reading (own; a reader may skip it): the ends of the parts of a text, as the code keeps them: where they stand in it, and how long their pieces are.
-use Rattle.std.specs.Prelude.{ℕ, ◌-◌, nat_lt, List, [], ◌∷◌, length, map, take, drop, if◌then◌else◌}
-use Rattle.std.specs.List.{All}
+use Rattle.std.{specs.Prelude.{ℕ, ◌-◌, nat_lt, List, [], ◌∷◌, length, map, take, drop, if◌then◌else◌}, specs.List.All}
 use Rattle.yq_text.specs.declared.halves.Halves.{Halves}
-use Rattle.yq_row_table.specs.Offsets.{AreCuts}
-use Rattle.yq_row_table.specs.View.{Bound}
+use Rattle.yq_row_table.{specs.Offsets.AreCuts, specs.View.Bound}
 use Rattle.yq_row_table.specs.declared.ends.EndPlace as declared
 
 -- the gap and the marker's line at the end of a part, cut from the front of a text (own)

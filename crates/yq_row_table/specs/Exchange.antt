@@ -3,7 +3,8 @@ use Rattle.std.specs.Prelude.{◌≡◌, ℕ, zero, suc, ◌+◌, ◌-◌, Bool,
 use Rattle.std.specs.Str.{IsUtf8, IsCharBoundary}
 use Rattle.yq_core.specs.Text.{separates}
 use Rattle.yq_row_table.specs.Grammar.{IsContent, is_entry, Limit, allows, limit_after}
-use Rattle.yq_row_table.specs.Rows.{Content, content_text, dashes_text, mark_text, Row, parent_indent, print_row, rows_text, Part, part_text, Cut, last, marked, cut_text}
+use Rattle.yq_row_table.specs.Rows.{Content, content_text, dashes_text, mark_text, Row, parent_indent, print_row, rows_text, Part}
+use Rattle.yq_row_table.specs.Rows.{part_text, Cut, last, marked, cut_text}
 
 -- a row with another content (own)
 abbrev pub with_content : Content → Row → Row

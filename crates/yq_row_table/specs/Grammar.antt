@@ -1,18 +1,15 @@
 -- What a row is, and how a text is cut into rows and markers.
-use Rattle.std.specs.Prelude.{◌≡◌, ℕ, ◌+◌, ◌≤◌, ℤ, Bool, true, false, nat_lt, ◌==◌, ◌&&◌, ◌||◌, not, List, [], ◌∷◌, ◌++◌, length, drop, Option, Some, None, if◌then◌else◌}
-use Rattle.std.specs.Str.{chars}
-use Rattle.yq_core.specs.declared.style.Place.TheVariants.{Block}
-use Rattle.yq_core.specs.Block.{IsBlock, block_text}
-use Rattle.yq_core.specs.Characters.{is_text}
-use Rattle.yq_text.specs.Limit.{text_limit}
-use Rattle.yq_core.specs.Piece.{deeper}
-use Rattle.yq_core.specs.Text.{is_empty, separates, front, is_marker}
-use Rattle.yq_core.specs.Inline.{IsInline}
+use Rattle.std.specs.Prelude.{◌≡◌, ℕ, ◌+◌, ◌≤◌, ℤ, Bool, true, false, nat_lt, ◌==◌, ◌&&◌, ◌||◌, not, List, [], ◌∷◌, ◌++◌, length, drop}
+use Rattle.std.{specs.Prelude.{Option, Some, None, if◌then◌else◌}, specs.Str.chars}
+use Rattle.yq_core.{specs.declared.style.Place.TheVariants.Block, specs.Block.{IsBlock, block_text}, specs.Characters.is_text}
+use Rattle.yq_core.{specs.Piece.deeper, specs.Text.{is_empty, separates, front, is_marker}, specs.Inline.IsInline}
 use Rattle.yq_core.specs.Nodes.{FlowNode, empty, alias, scalar, coll, anchored, is_empty_node, IsName}
 use Rattle.yq_core.specs.Scalars.{IsScalarAt, is_quoted}
+use Rattle.yq_text.specs.Limit.{text_limit}
 use Rattle.yq_row_table.specs.Gap.{IsWhite, IsLineEnd, IsGap}
+use Rattle.yq_row_table.specs.Rows.{RowMark, Bare, Dash, Key, Anchor, Content, Nothing, Inline, content_text, Row, behind_indent}
+use Rattle.yq_row_table.specs.Rows.{behind_gap, parent_indent, rows_text, Part, Cut, last, marked, cut_text}
 use Rattle.yq_row_table.specs.Rows as rows
-use Rattle.yq_row_table.specs.Rows.{RowMark, Bare, Dash, Key, Anchor, Content, Nothing, Inline, content_text, Row, behind_indent, behind_gap, parent_indent, rows_text, Part, Cut, last, marked, cut_text}
 
 -- white space and the `:` of a key, before white space, a break or the end (YAML 1.2.2, section 8.2.2)
 pub record IsColon (p rest : List ℕ) : Type 0 where

@@ -1,7 +1,6 @@
 -- Splices of a cut, by its items: which of them stay, and which give way.
 use Rattle.std.specs.Prelude.{◌≡◌, ℕ, zero, suc, List, [], ◌∷◌, ◌++◌, take}
-use Rattle.yq_row_table.specs.Items.{Item, row_item, end_item, rows_items, items_of_cut}
-use Rattle.yq_row_table.specs.Rows.{Row, Cut, last, marked}
+use Rattle.yq_row_table.{specs.Items.{Item, row_item, end_item, rows_items, items_of_cut}, specs.Rows.{Row, Cut, last, marked}}
 use Rattle.yq_row_table.specs.Splices.{with_row_gap, splice, nth_part, rows_between, back_rows}
 
 -- the items before row i of part k (own)

@@ -1,9 +1,7 @@
 -- A cut as a list: its rows and the ends of its parts, one behind the other.
 use Rattle.std.specs.Prelude.{◌≡◌, ◌⊎◌, ℕ, ◌+◌, Bool, true, List, [], ◌∷◌, ◌++◌}
-use Rattle.yq_row_table.specs.Gap.{IsGap}
-use Rattle.yq_row_table.specs.Grammar.{IsRow, Limit, unlimited, limit_after, begins_document, IsMarkerLine}
-use Rattle.yq_row_table.specs.Rows.{Row, print_row, Cut, last, marked}
-use Rattle.yq_row_table.specs.View.{Slices, slices, Bound, RowsView}
+use Rattle.yq_row_table.{specs.Gap.IsGap, specs.Grammar.{IsRow, Limit, unlimited, limit_after, begins_document, IsMarkerLine}}
+use Rattle.yq_row_table.{specs.Rows.{Row, print_row, Cut, last, marked}, specs.View.{Slices, slices, Bound, RowsView}}
 
 -- a row, or the end of a part: the gap behind its rows, and the line of the marker behind that, which the last part has not (YAML 1.2.2, section 9.1;
 -- own)

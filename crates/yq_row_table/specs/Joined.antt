@@ -1,8 +1,7 @@
 -- Rows joined from pieces of two, where collections are compact (YAML 1.2.2, section 8.2.1).
 use Rattle.std.specs.Prelude.{◌≡◌, ℕ, suc, ◌+◌, ◌≤◌, pos, true, false, List, ◌∷◌, ◌++◌}
 use Rattle.yq_core.specs.Text.{is_empty, separates}
-use Rattle.yq_row_table.specs.Grammar.{IsContent, is_entry}
-use Rattle.yq_row_table.specs.Rows.{Dash, Content, content_text, Row, behind_columns, mark_column}
+use Rattle.yq_row_table.{specs.Grammar.{IsContent, is_entry}, specs.Rows.{Dash, Content, content_text, Row, behind_columns, mark_column}}
 
 -- The row in which what stands behind the dashes of a row is what stands behind the indentation of another one (own).
 abbrev pub joined_row : Row → Row → Row

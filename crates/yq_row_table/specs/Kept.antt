@@ -1,17 +1,13 @@
 -- Rows kept by where they stand (own; a reader of the contracts may skip it): in front of a split by the distance from the text's beginning, behind it by
 -- that to the text's end.
-use Rattle.std.specs.Prelude.{◌≡◌, ℕ, ◌+◌, ◌-◌, ◌<◌, ◌^◌, List, [], ◌∷◌, ◌++◌, drop, length, map, reverse, Option, Some}
+use Rattle.std.{specs.Prelude.{◌≡◌, ℕ, ◌+◌, ◌-◌, ◌<◌, ◌^◌, List, [], ◌∷◌, ◌++◌, drop, length, map, reverse, Option, Some}, specs.Str.IsUtf8}
 use Rattle.yq_core.specs.Answers.{◌>>=◌}
-use Rattle.std.specs.Str.{IsUtf8}
 use Rattle.yq_text.specs.declared.halves.Halves.{Halves}
 use Rattle.yq_row_table.specs.Ends.{bounds_in_halves, end_at}
 use Rattle.yq_row_table.specs.Items.{Item, row_item, end_item, items_of_cut, items_text, rows_items, view_of_items}
-use Rattle.yq_row_table.specs.Offsets.{AreTexts, offsets_of, pieces_of, rows_in}
-use Rattle.yq_row_table.specs.Rows.{print_row, Part, Cut}
-use Rattle.yq_row_table.specs.View.{slices, RowsView, Slices}
-use Rattle.yq_row_table.specs.declared.ends.EndPlace.{EndPlace}
+use Rattle.yq_row_table.{specs.Offsets.{AreTexts, offsets_of, pieces_of, rows_in}, specs.Rows.{print_row, Part, Cut}}
+use Rattle.yq_row_table.{specs.View.{slices, RowsView, Slices}, specs.declared.ends.EndPlace.EndPlace, specs.declared.places.Places.Places}
 use Rattle.yq_row_table.specs.declared.offsets.Offsets as declared
-use Rattle.yq_row_table.specs.declared.places.Places.{Places}
 
 -- the rows of items, of which so many bytes stand in front (own)
 abbrev pub near : ℕ → List Item → List declared.Offsets

@@ -1,9 +1,7 @@
 -- Reading (own; a reader may skip it): the rows of a text, as the code keeps them: where they begin in it, and how long their pieces are.
-use Rattle.std.specs.Prelude.{◌≡◌, ℕ, zero, suc, ◌+◌, ◌-◌, ℤ, pos, List, [], ◌∷◌, length, map, take, drop}
-use Rattle.std.specs.List.{All}
+use Rattle.std.{specs.Prelude.{◌≡◌, ℕ, zero, suc, ◌+◌, ◌-◌, ℤ, pos, List, [], ◌∷◌, length, map, take, drop}, specs.List.All}
 use Rattle.std.specs.Str.{IsUtf8, IsCharBoundary}
-use Rattle.yq_row_table.specs.Rows.{before_column}
-use Rattle.yq_row_table.specs.View.{Slices}
+use Rattle.yq_row_table.{specs.Rows.before_column, specs.View.Slices}
 use Rattle.yq_row_table.specs.declared.offsets.Offsets as declared
 
 -- a text is the end of the whole one (own)

@@ -1,19 +1,15 @@
 -- Reading (own; a reader may skip it: the grammar is what is believed, and the clauses `found` and `only` tie the two).
-use Rattle.std.specs.Prelude.{ℕ, zero, suc, ◌+◌, ℤ, Bool, true, false, ◌||◌, ◌&&◌, not, ◌==◌, nat_le, List, [], ◌∷◌, ◌++◌, length, take, drop, if◌then◌else◌, Option, Some, None}
-use Rattle.std.specs.List.{prefix_len}
-use Rattle.std.specs.Str.{chars}
-use Rattle.yq_core.specs.Answers.{◌>>=◌}
-use Rattle.yq_core.specs.BlockReading.{block_at}
-use Rattle.yq_core.specs.Characters.{is_text}
+use Rattle.std.specs.Prelude.{ℕ, zero, suc, ◌+◌, ℤ, Bool, true, false, ◌||◌, ◌&&◌, not, ◌==◌, nat_le, List, [], ◌∷◌, ◌++◌, length, take}
+use Rattle.std.{specs.Prelude.{drop, if◌then◌else◌, Option, Some, None}, specs.List.prefix_len, specs.Str.chars}
+use Rattle.yq_core.{specs.Answers.◌>>=◌, specs.BlockReading.block_at, specs.Characters.is_text, specs.Piece.deeper}
+use Rattle.yq_core.specs.Text.{cut, upto, front, is_empty, unless, no_space, no_white, past_white, ends_line, separates, is_marker}
+use Rattle.yq_core.{specs.Text.{line_len, cut_line}, specs.Lines.is_hash, specs.Inline.depth_limit}
+use Rattle.yq_core.{specs.Nodes.{begins_with, in_name, begins_node}, specs.Reading.{read_scalar, name_at, all_node}}
 use Rattle.yq_text.specs.Limit.{text_limit}
-use Rattle.yq_core.specs.Piece.{deeper}
-use Rattle.yq_core.specs.Text.{cut, upto, front, is_empty, unless, no_space, no_white, past_white, ends_line, separates, is_marker, line_len, cut_line}
-use Rattle.yq_core.specs.Lines.{is_hash}
-use Rattle.yq_core.specs.Inline.{depth_limit}
-use Rattle.yq_core.specs.Nodes.{begins_with, in_name, begins_node}
-use Rattle.yq_core.specs.Reading.{read_scalar, name_at, all_node}
-use Rattle.yq_row_table.specs.Grammar.{is_entry, may_be_alone, Limit, unlimited, allows, limit_after, key_limit, no_rows, begins_document, ends_part}
-use Rattle.yq_row_table.specs.Rows.{RowMark, Bare, Dash, Key, Anchor, Content, Nothing, Inline, Block, Row, behind_columns, parent_of, Part, Cut, last, marked}
+use Rattle.yq_row_table.specs.Grammar.{is_entry, may_be_alone, Limit, unlimited, allows, limit_after, key_limit, no_rows, begins_document}
+use Rattle.yq_row_table.specs.Grammar.{ends_part}
+use Rattle.yq_row_table.specs.Rows.{RowMark, Bare, Dash, Key, Anchor, Content, Nothing, Inline, Block, Row, behind_columns, parent_of, Part}
+use Rattle.yq_row_table.specs.Rows.{Cut, last, marked}
 
 -- a letter or a digit, as ASCII has them (own)
 abbrev pub is_alphanumeric : ℕ → Bool

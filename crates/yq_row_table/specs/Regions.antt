@@ -1,8 +1,6 @@
 -- Regions (own): rows and ends of parts of a cut, one behind the other, and what reading them alone gives.
 use Rattle.std.specs.Prelude.{◌≡◌, ℕ, Bool, true, false, List, [], ◌∷◌, ◌++◌, Some, if◌then◌else◌}
-use Rattle.yq_row_table.specs.Grammar.{IsCut}
-use Rattle.yq_row_table.specs.Items.{Item, end_item, items_of_cut, items_text}
-use Rattle.yq_row_table.specs.Reading.{all_parts}
+use Rattle.yq_row_table.{specs.Grammar.IsCut, specs.Items.{Item, end_item, items_of_cut, items_text}, specs.Reading.all_parts}
 use Rattle.yq_row_table.specs.Rows.{Cut, cut_text}
 
 -- no items (own)

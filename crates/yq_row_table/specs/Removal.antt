@@ -1,12 +1,7 @@
 -- Rows taken away, and the gap that then stands in their place.
 use Rattle.std.specs.Prelude.{◌≡◌, ℕ, Bool, true, false, ◌||◌, not, List, [], ◌∷◌, ◌++◌, take, drop, ◌<◌, Option, Some, None, if◌then◌else◌}
-use Rattle.yq_core.specs.Block.{BlockText, keeps}
-use Rattle.yq_core.specs.BlockRepair.{repair}
-use Rattle.yq_core.specs.Lines.{is_blank}
-use Rattle.yq_core.specs.Text.{joined, text_lines}
-use Rattle.yq_row_table.specs.Exchange.{allows_first}
-use Rattle.yq_row_table.specs.Grammar.{no_rows}
-use Rattle.yq_row_table.specs.Rows.{Content, Nothing, Inline, Block, Row, Part, Cut}
+use Rattle.yq_core.{specs.Block.{BlockText, keeps}, specs.BlockRepair.repair, specs.Lines.is_blank, specs.Text.{joined, text_lines}}
+use Rattle.yq_row_table.{specs.Exchange.allows_first, specs.Grammar.no_rows, specs.Rows.{Content, Nothing, Inline, Block, Row, Part, Cut}}
 use Rattle.yq_row_table.specs.Splices.{first_gap, splice, nth_part, front_rows, back_rows, gap_before, asked_at}
 
 -- the block scalar of a content, if it is one (YAML 1.2.2, section 8.1)

@@ -1,9 +1,7 @@
 -- Where rows begin in their text (own), by the pieces of the rows and of the ends of parts in front of them.
-use Rattle.std.specs.Prelude.{ℕ, ◌+◌, ◌*◌, nat_le, length, take, if◌then◌else◌}
-use Rattle.std.specs.List.{sum_by}
+use Rattle.std.{specs.Prelude.{ℕ, ◌+◌, ◌*◌, nat_le, length, take, if◌then◌else◌}, specs.List.sum_by}
 use Rattle.yq_core.specs.Text.{is_empty}
-use Rattle.yq_row_table.specs.Offsets.{row_length}
-use Rattle.yq_row_table.specs.View.{Slices, Bound, RowsView}
+use Rattle.yq_row_table.{specs.Offsets.row_length, specs.View.{Slices, Bound, RowsView}}
 
 -- how long the end of a part is, with the marker behind it (own)
 abbrev pub bound_length : Bound → ℕ

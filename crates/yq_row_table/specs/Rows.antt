@@ -1,7 +1,6 @@
 -- The pieces of a row, the parts of a text, and what they spell.
 use Rattle.std.specs.Prelude.{ℕ, zero, suc, ◌+◌, ℤ, pos, negsuc, List, [], ◌∷◌, ◌++◌, replicate, Option, Some, None}
-use Rattle.yq_core.specs.Block.{BlockText, block_text}
-use Rattle.yq_core.specs.Nodes.{FlowNode, node_text}
+use Rattle.yq_core.{specs.Block.{BlockText, block_text}, specs.Nodes.{FlowNode, node_text}}
 
 -- what a row begins with behind the dashes before it: the content itself, a dash, or a key with the white space and `:` behind it (YAML 1.2.2,
 -- sections 8.2.1 and 8.2.2)

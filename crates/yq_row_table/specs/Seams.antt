@@ -1,9 +1,6 @@
 -- Seams: what a row asks of the text behind it, and a row that takes the place of another one.
 use Rattle.std.specs.Prelude.{◌≡◌, ℕ, ℤ, Bool, true, false, ◌||◌, List, [], ◌∷◌, ◌++◌, Some, if◌then◌else◌}
-use Rattle.yq_core.specs.Block.{ends_block, keeps}
-use Rattle.yq_core.specs.Piece.{deeper}
-use Rattle.yq_core.specs.Plain.{ends_plain}
-use Rattle.yq_core.specs.Text.{is_empty, is_line, text_lines}
+use Rattle.yq_core.{specs.Block.{ends_block, keeps}, specs.Piece.deeper, specs.Plain.ends_plain, specs.Text.{is_empty, is_line, text_lines}}
 use Rattle.yq_core.specs.Alike.{Alike}
 use Rattle.yq_row_table.specs.Exchange.{asked_behind, with_content}
 use Rattle.yq_row_table.specs.Grammar.{IsTail, is_plain_content, IsRow, Limit, AreRows, no_rows, ends_part}

@@ -1,17 +1,15 @@
 -- What reading gives, as the code lends it (own; a reader may skip it).
-use Rattle.std.specs.Prelude.{ℕ, suc, ◌+◌, Bool, true, false, ◌||◌, ◌==◌, List, [], ◌++◌, length, map, take, drop, Option, Some, None, if◌then◌else◌, ℤ}
-use Rattle.yq_core.specs.Answers.{◌>>=◌}
-use Rattle.yq_core.specs.Piece.{deeper}
-use Rattle.yq_core.specs.Text.{upto, cut, front, unless, no_white}
-use Rattle.yq_core.specs.declared.style.Style.{Style}
-use Rattle.yq_core.specs.declared.style.Style.TheVariants as styles
-use Rattle.yq_core.specs.Nodes.{begins_with, in_name}
-use Rattle.yq_core.specs.Places.{Placed, placed, nothing, name, text, sequence, mapping, bare_in}
-use Rattle.yq_core.specs.Places.{CoreNode as Placement}
+use Rattle.std.specs.Prelude.{ℕ, suc, ◌+◌, Bool, true, false, ◌||◌, ◌==◌, List, [], ◌++◌, length, map, take, drop, Option, Some, None}
+use Rattle.std.specs.Prelude.{if◌then◌else◌, ℤ}
+use Rattle.yq_core.{specs.Answers.◌>>=◌, specs.Piece.deeper, specs.Text.{upto, cut, front, unless, no_white}}
+use Rattle.yq_core.{specs.declared.style.Style.Style, specs.Nodes.{begins_with, in_name}}
+use Rattle.yq_core.specs.Places.{Placed, placed, nothing, name, text, sequence, mapping, bare_in, CoreNode as Placement}
 use Rattle.yq_row_table.specs.Grammar.{Limit, unlimited, limit_after, is_entry, is_plain_content, may_be_alone}
 use Rattle.yq_row_table.specs.Reading.{Marks, block_content_at, inline_content_at, read_content, row_at}
 use Rattle.yq_row_table.specs.Rows.{RowMark, Content, Nothing, Inline, Block, Row, dashes_text, behind_columns, parent_of, Part, Cut}
-use Rattle.yq_row_table.specs.View.{Slices, Bound, RowsView, last_dash, key_of_mark, colon_of, content_cut, slices, rows_of, bounds_from, rows_view}
+use Rattle.yq_row_table.specs.View.{Slices, Bound, RowsView, last_dash, key_of_mark, colon_of, content_cut, slices, rows_of, bounds_from}
+use Rattle.yq_row_table.specs.View.{rows_view}
+use Rattle.yq_core.specs.declared.style.Style.TheVariants as styles
 
 -- The dashes in front with a last one that is the mark, how many columns stand before the mark, the mark, and what follows (own).
 pub record Begun : Type 0 where

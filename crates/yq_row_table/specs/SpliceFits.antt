@@ -1,13 +1,11 @@
 -- What is asked of rows that stand in the place of others.
 use Rattle.std.specs.Prelude.{◌≡◌, ℕ, Bool, true, false, ◌||◌, not, List, [], ◌++◌, take, drop, Some}
-use Rattle.yq_core.specs.Text.{is_empty}
-use Rattle.yq_core.specs.Alike.{Alike}
-use Rattle.yq_row_table.specs.Exchange.{allows_first, asked_behind}
-use Rattle.yq_row_table.specs.Gap.{IsGap}
-use Rattle.yq_row_table.specs.Grammar.{IsRow, Limit, unlimited, limit_after, AreRows, no_rows}
-use Rattle.yq_row_table.specs.Rows.{Row, rows_text, Part, Cut}
+use Rattle.yq_core.{specs.Text.is_empty, specs.Alike.Alike}
+use Rattle.yq_row_table.{specs.Exchange.{allows_first, asked_behind}, specs.Gap.IsGap}
+use Rattle.yq_row_table.{specs.Grammar.{IsRow, Limit, unlimited, limit_after, AreRows, no_rows}, specs.Rows.{Row, rows_text, Part, Cut}}
 use Rattle.yq_row_table.specs.Seams.{is_closed, are_seamed, ends_in_block}
-use Rattle.yq_row_table.specs.Splices.{behind_first, nth_part, behind_part, marker_before, is_started, front_rows, back_rows, asked_at, behind_rows}
+use Rattle.yq_row_table.specs.Splices.{behind_first, nth_part, behind_part, marker_before, is_started, front_rows, back_rows, asked_at}
+use Rattle.yq_row_table.specs.Splices.{behind_rows}
 
 -- behind a marker's line, if it has no break, nothing stands (YAML 1.2.2, section 9.1.2)
 abbrev pub is_after : List ℕ → List ℕ → Bool

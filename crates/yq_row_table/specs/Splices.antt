@@ -2,8 +2,7 @@
 use Rattle.std.specs.Prelude.{◌≡◌, ◌≤◌, ℕ, zero, suc, Bool, true, List, [], ◌∷◌, ◌++◌, length, take, drop}
 use Rattle.yq_core.specs.Characters.{is_text}
 use Rattle.yq_text.specs.Limit.{text_limit}
-use Rattle.yq_row_table.specs.Exchange.{asked_behind}
-use Rattle.yq_row_table.specs.Grammar.{Limit, unlimited, begins_document, IsCut}
+use Rattle.yq_row_table.{specs.Exchange.asked_behind, specs.Grammar.{Limit, unlimited, begins_document, IsCut}}
 use Rattle.yq_row_table.specs.Rows.{Row, behind_gap, rows_text, Part, part_text, Cut, last, marked, cut_text}
 
 -- a row with another gap (own)

@@ -1,7 +1,6 @@
 -- Which rows and ends of parts a change of a text touches, by the bytes that it keeps in front and behind (own).
 use Rattle.std.specs.Prelude.{◌≡◌, ℕ, ◌-◌, nat_lt, List, [], ◌∷◌, ◌++◌, length, if◌then◌else◌}
-use Rattle.yq_row_table.specs.Items.{Item, row_item, end_item, items_of_cut, items_text}
-use Rattle.yq_row_table.specs.Rows.{print_row, Cut}
+use Rattle.yq_row_table.{specs.Items.{Item, row_item, end_item, items_of_cut, items_text}, specs.Rows.{print_row, Cut}}
 
 -- the text of an item (own)
 abbrev pub item_text : Item → List ℕ

@@ -1,9 +1,8 @@
 -- The rows of the code, as the pieces that they lend.
 use Rattle.std.specs.Prelude.{ℕ, ℤ, ◌+◌, ◌==◌, List, [], ◌∷◌, ◌++◌, length, map, replicate, Option, Some, None, if◌then◌else◌}
-use Rattle.yq_core.specs.Block.{style_indicator}
-use Rattle.yq_core.specs.Text.{joined}
-use Rattle.yq_core.specs.Nodes.{FlowNode, empty, alias, scalar, coll, anchored, node_text}
-use Rattle.yq_row_table.specs.Rows.{RowMark, Bare, Dash, Key, Anchor, Content, Nothing, Inline, Block, Row, dashes_text, parent_indent, Cut, last, marked}
+use Rattle.yq_core.{specs.Block.style_indicator, specs.Text.joined, specs.Nodes.{FlowNode, empty, alias, scalar, coll, anchored, node_text}}
+use Rattle.yq_row_table.specs.Rows.{RowMark, Bare, Dash, Key, Anchor, Content, Nothing, Inline, Block, Row, dashes_text, parent_indent, Cut}
+use Rattle.yq_row_table.specs.Rows.{last, marked}
 use Rattle.yq_row_table.specs.declared.row.Row as declared
 use Rattle.yq_row_table.specs.declared.ends.Bound as ends
 

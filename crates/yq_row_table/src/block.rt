@@ -1,6 +1,5 @@
 //! Block scalars by the pieces of their rows.
-ghost use Rattle.std.specs.Option.{option_map};
-ghost use Rattle.std.specs.Prelude.{◌≡◌, ◌≤◌, ◌^◌};
+ghost use Rattle.std.{specs.Option.option_map, specs.Prelude.{◌≡◌, ◌≤◌, ◌^◌}};
 ghost use Rattle.yq_row_table.specs.BlockNumbers as spec;
 
 use yq_core::block_header::{keeps, split_indicators};

@@ -1,9 +1,7 @@
 //! Where the parts of a text end in it.
 ghost use Rattle.std.specs.Prelude.{◌≡◌, ◌∷◌, ◌<◌, ◌+◌, ◌-◌, ◌^◌, ◌++◌, [], length};
+ghost use Rattle.yq_row_table.{specs.Kept.moved_end, specs.Offsets.{AreCuts, Ends}, specs.View.bound_view};
 ghost use Rattle.yq_row_table.specs.Ends as spec;
-ghost use Rattle.yq_row_table.specs.Kept.{moved_end};
-ghost use Rattle.yq_row_table.specs.Offsets.{AreCuts, Ends};
-ghost use Rattle.yq_row_table.specs.View.{bound_view};
 
 /// The end of a part: the rows between two markers or the ends of the text.
 #[derive(Clone, Copy)]

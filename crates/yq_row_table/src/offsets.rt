@@ -1,9 +1,7 @@
 //! Where the rows of a text stand in it.
 ghost use Rattle.std.specs.Prelude.{◌≡◌, ◌<◌, ◌+◌, ◌-◌, ◌^◌};
-ghost use Rattle.yq_row_table.specs.Kept.{raised, row_from_end};
+ghost use Rattle.yq_row_table.{specs.Kept.{raised, row_from_end}, specs.RowStarts.row_level, specs.View.{Slices, row_view}};
 ghost use Rattle.yq_row_table.specs.Offsets as spec;
-ghost use Rattle.yq_row_table.specs.RowStarts.{row_level};
-ghost use Rattle.yq_row_table.specs.View.{Slices, row_view};
 
 mod pieces;
 

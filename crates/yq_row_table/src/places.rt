@@ -1,11 +1,8 @@
 //! Where the rows of a text and the ends of its parts stand, kept without the text.
 ghost use Rattle.std.specs.Prelude.{◌≡◌, ◌<◌, ◌^◌, ℕ, [], Some, length, slice_get};
 ghost use Rattle.yq_text.specs.Halves.{whole};
-ghost use Rattle.yq_row_table.specs.Grammar.{IsCut};
-ghost use Rattle.yq_row_table.specs.Items.{view_of_items};
-ghost use Rattle.yq_row_table.specs.Kept.{IsPlaced, kept_rows, placed_rows};
-ghost use Rattle.yq_row_table.specs.Rows.{Cut};
-ghost use Rattle.yq_row_table.specs.View.{rows_view};
+ghost use Rattle.yq_row_table.{specs.Grammar.IsCut, specs.Items.view_of_items, specs.Kept.{IsPlaced, kept_rows, placed_rows}};
+ghost use Rattle.yq_row_table.{specs.Rows.Cut, specs.View.rows_view};
 
 use crate::ends::EndPlace;
 use crate::offsets::Offsets;

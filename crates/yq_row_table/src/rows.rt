@@ -1,14 +1,11 @@
 //! The rows of a text, kept by where they stand.
 ghost use Rattle.std.specs.Prelude.{◌≡◌, ◌<◌, ◌≤◌, ◌-◌, ℕ, List, drop, length, option_map, take, Some, slice_get};
-ghost use Rattle.yq_row_table.specs.Grammar.{IsCut};
-ghost use Rattle.yq_row_table.specs.Grammar as grammar;
-ghost use Rattle.yq_row_table.specs.Kept.{HavePlaces, IsPlaced, halves_view};
-ghost use Rattle.yq_row_table.specs.Offsets.{AreCuts, lengths, pieces_of};
-ghost use Rattle.yq_row_table.specs.Removal.{block_numbers, block_of};
-ghost use Rattle.yq_row_table.specs.RowStarts.{part_end, row_level, row_start};
-ghost use Rattle.yq_row_table.specs.Rows.{Cut, Row as RowOf};
-ghost use Rattle.yq_row_table.specs.View as ends;
+ghost use Rattle.yq_row_table.{specs.Grammar.IsCut, specs.Kept.{HavePlaces, IsPlaced, halves_view}};
+ghost use Rattle.yq_row_table.{specs.Offsets.{AreCuts, lengths, pieces_of}, specs.Removal.{block_numbers, block_of}};
+ghost use Rattle.yq_row_table.{specs.RowStarts.{part_end, row_level, row_start}, specs.Rows.{Cut, Row as RowOf}};
 ghost use Rattle.yq_row_table.specs.View.{bound_view, bounds_at, rows_of, rows_view, row_view, RowsView, Slices};
+ghost use Rattle.yq_row_table.specs.Grammar as grammar;
+ghost use Rattle.yq_row_table.specs.View as ends;
 
 use crate::block::block_numbers_of;
 use crate::ends::Bound;

@@ -1,9 +1,7 @@
 //! Where what rows spell stands in their text.
 ghost use Rattle.std.specs.Prelude.{◌≡◌, ◌<◌, ◌≤◌, ◌-◌, length, slice_get, Some};
 ghost use Rattle.yq_text.specs.Limit.{text_limit};
-ghost use Rattle.yq_row_table.specs.Offsets.{row_length};
-ghost use Rattle.yq_row_table.specs.Rows.{Cut, Row as RowOf};
-ghost use Rattle.yq_row_table.specs.View.{rows_of, rows_view, row_view, Slices};
+ghost use Rattle.yq_row_table.{specs.Offsets.row_length, specs.Rows.{Cut, Row as RowOf}, specs.View.{rows_of, rows_view, row_view, Slices}};
 ghost use Rattle.yq_outline.specs.Extents as spec;
 
 use yq_row_table::{Row, Rows};

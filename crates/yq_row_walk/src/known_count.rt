@@ -1,7 +1,6 @@
 //! The item of a row, counted from one that is known.
 ghost use Rattle.std.specs.Prelude.{◌≡◌, ◌<◌, ◌≤◌, ◌+◌, length, IfSome, if◌then◌else◌};
-ghost use Rattle.yq_outline.specs.Extents.{IsRowsView};
-ghost use Rattle.yq_outline.specs.RowWalk.{AreKnown, HasDocument, IsKnown};
+ghost use Rattle.yq_outline.{specs.Extents.IsRowsView, specs.RowWalk.{AreKnown, HasDocument, IsKnown}};
 
 use crate::known_item::known_among;
 use crate::position::level_at;

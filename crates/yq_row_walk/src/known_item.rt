@@ -1,7 +1,6 @@
 //! Items and entries that are known, from which a walk over the rows of a collection goes on.
 ghost use Rattle.std.specs.Prelude.{◌≡◌, ◌<◌, ◌≤◌, ◌+◌, length, IfSome, IsTrue};
-ghost use Rattle.yq_outline.specs.Extents.{IsRowsView};
-ghost use Rattle.yq_outline.specs.RowWalk.{AreKnown, GoesOn, HasDocument, IsKnownIn, IsKnown, IsPosition};
+ghost use Rattle.yq_outline.{specs.Extents.IsRowsView, specs.RowWalk.{AreKnown, GoesOn, HasDocument, IsKnownIn, IsKnown, IsPosition}};
 
 use crate::position::level_at;
 use yq_outline::{KnownItem, KnownItems, Position, Stretch};

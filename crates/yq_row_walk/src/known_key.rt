@@ -1,8 +1,8 @@
 //! The entry of a key, looked for on both sides of an entry that is known.
 ghost use Rattle.std.specs.Prelude.{◌<◌, ◌≤◌, length, IfSome, Some};
-ghost use Rattle.yq_core.specs.Paths as steps;
 ghost use Rattle.yq_outline.specs.Extents.{IsRowsView};
 ghost use Rattle.yq_outline.specs.RowWalk.{AreKnown, Finds, HasDocument, HaveKeys, IsKnownIn, IsKnown, IsLine, IsPosition};
+ghost use Rattle.yq_core.specs.Paths as steps;
 
 use crate::known_count::counted;
 use crate::known_item::{item_before, known_among};

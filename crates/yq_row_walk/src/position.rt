@@ -1,14 +1,11 @@
 //! Lines of a document by their rows, and how deep they are.
 ghost use Rattle.std.specs.Prelude.{◌≡◌, ◌<◌, ◌≤◌, ◌+◌, ◌-◌, ◌*◌, drop, length, nat_lt, not, slice_get, take, if◌then◌else◌, IsTrue, Some};
-ghost use Rattle.yq_outline.specs.Ends.{IsEndOf, has_no_lines, part};
-ghost use Rattle.yq_outline.specs.Outline.{level};
+ghost use Rattle.yq_outline.{specs.Ends.{IsEndOf, has_no_lines, part}, specs.Outline.level, specs.Lines.lines_of_rows};
+ghost use Rattle.yq_outline.{specs.Extents.IsRowsView, specs.RowWalk.{HasRows, IsLine, IsPosition}};
 ghost use Rattle.yq_row_table.specs.View.{row_view, Slices};
-ghost use Rattle.yq_outline.specs.Lines.{lines_of_rows};
 ghost use Rattle.yq_text.specs.Limit.{text_limit};
 ghost use Rattle.yq_outline.specs.Extents as extents;
-ghost use Rattle.yq_outline.specs.Extents.{IsRowsView};
 ghost use Rattle.yq_outline.specs.RowWalk as spec;
-ghost use Rattle.yq_outline.specs.RowWalk.{HasRows, IsLine, IsPosition};
 
 use crate::extent::{dash_at, lines_before_mark};
 use yq_outline::{Position, Stretch};

@@ -1,9 +1,8 @@
 //! Where a step of a path leads among the lines of a document, row by row.
 ghost use Rattle.std.specs.Prelude.{IfSome};
 ghost use Rattle.yq_core.specs.Entries.{tree_step};
+ghost use Rattle.yq_outline.{specs.Extents.IsRowsView, specs.RowWalk.{AreKnown, Finds, HasDocument, HaveKeys, IsLine, IsPosition}};
 ghost use Rattle.yq_core.specs.Paths as steps;
-ghost use Rattle.yq_outline.specs.Extents.{IsRowsView};
-ghost use Rattle.yq_outline.specs.RowWalk.{AreKnown, Finds, HasDocument, HaveKeys, IsLine, IsPosition};
 
 use crate::known_item::walk_begin;
 use crate::known_key::key_near;

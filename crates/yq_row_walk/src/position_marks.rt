@@ -1,10 +1,9 @@
 //! What lines of a document begin with, and whether they have a head, by their rows.
 ghost use Rattle.std.specs.Prelude.{◌≡◌, ◌&&◌, is_some, nat_eq};
+ghost use Rattle.yq_outline.{specs.Extents.IsRowsView, specs.RowWalk.{HasRows, IsLine, OfLine}};
 ghost use Rattle.yq_outline.specs.Outline as outline;
 ghost use Rattle.yq_outline.specs.Positions as positions;
 ghost use Rattle.yq_core.specs.Paths as steps;
-ghost use Rattle.yq_outline.specs.Extents.{IsRowsView};
-ghost use Rattle.yq_outline.specs.RowWalk.{HasRows, IsLine, OfLine};
 
 use crate::extent::lines_before_mark;
 use crate::position::rank_at;

@@ -1,12 +1,10 @@
 //! The line of a document to which steps lead, and the steps that go on in its head, row by row.
 ghost use Rattle.std.specs.Prelude.{◌≡◌, ◌∷◌, map, option_map, IfSome, IsTrue, Some};
 ghost use Rattle.yq_core.specs.Entries.{tree_step};
-ghost use Rattle.yq_outline.specs.Ends.{line_at_steps, part, reached};
-ghost use Rattle.yq_outline.specs.Positions as positions;
-ghost use Rattle.yq_outline.specs.Lines.{lines_of_rows};
-ghost use Rattle.yq_outline.specs.Extents.{IsRowsView};
-ghost use Rattle.yq_outline.specs.RowWalk as spec;
+ghost use Rattle.yq_outline.{specs.Ends.{line_at_steps, part, reached}, specs.Lines.lines_of_rows, specs.Extents.IsRowsView};
 ghost use Rattle.yq_outline.specs.RowWalk.{AreKnown, HasDocument, HasRows, HaveKeys, IsLine, IsPosition, LeadsTo, line_number};
+ghost use Rattle.yq_outline.specs.Positions as positions;
+ghost use Rattle.yq_outline.specs.RowWalk as spec;
 
 use crate::position::{is_deeper, level_at, next};
 use crate::position_find::find_step;

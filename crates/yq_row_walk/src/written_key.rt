@@ -1,11 +1,7 @@
 //! Keys as they are written, compared with keys by what they stand for.
-ghost use Rattle.std.specs.List.{list_any};
-ghost use Rattle.std.specs.Prelude.{◌≡◌, ◌==◌, false, if◌then◌else◌, true};
-ghost use Rattle.std.specs.Str.{bytes_eq};
+ghost use Rattle.std.{specs.List.list_any, specs.Prelude.{◌≡◌, ◌==◌, false, if◌then◌else◌, true}, specs.Str.bytes_eq};
+ghost use Rattle.yq_core.{specs.ContentReading.quoted_content, specs.Plain.holds_break, specs.Quoted.IsQuotedText};
 ghost use Rattle.yq_core.specs.Scalars as scalars;
-ghost use Rattle.yq_core.specs.ContentReading.{quoted_content};
-ghost use Rattle.yq_core.specs.Plain.{holds_break};
-ghost use Rattle.yq_core.specs.Quoted.{IsQuotedText};
 
 use yq_core::{first_is, is_quoted};
 use yq_outline::between_quotes;

@@ -1,21 +1,16 @@
 -- What stands in front of the items that are near the end of a text, by the places that are kept.
-use Rattle.std.proofs.Common.{◌≡◌, ◌⊎◌, inl, inr, ⊎_elim, ℕ, ◌+◌, ◌-◌, ◌<◌, ◌≤◌, min, List, [], ◌∷◌, ◌++◌, length, map, reverse, get_or, take, refl, sym, ap, ◌∙◌, subst, arith, append_assoc, append-nil, length-append, rules}
+use Rattle.std.proofs.Common.{◌≡◌, ◌⊎◌, inl, inr, ⊎_elim, ℕ, ◌+◌, ◌-◌, ◌<◌, ◌≤◌, min, List, [], ◌∷◌, ◌++◌, length, map, reverse, get_or}
+use Rattle.std.proofs.Common.{take, refl, sym, ap, ◌∙◌, subst, arith, append_assoc, append-nil, length-append, rules}
 use Rattle.std.proofs.lemmas.List.{get_or_at, length-map, length-reverse, reverse-append, reverse-reverse, take_at}
-use Rattle.std.proofs.lemmas.List.Elements.{All-cons, All-head, All-nil, All-tail, All-weaker}
-use Rattle.std.specs.List.{All}
-use Rattle.yq_row_table.specs.Items.{Item, row_item, end_item, items_text}
-use Rattle.yq_row_table.specs.Kept.{far, near, ends_near, row_from_end}
-use Rattle.yq_row_table.specs.Touched.{in_back}
-use Rattle.yq_row_table.specs.declared.ends.EndPlace.{EndPlace}
-use Rattle.yq_row_table.specs.declared.offsets.Offsets as declared
-use Rattle.yq_row_table.specs.declared.places.Places.{Places}
-use Rattle.yq_row_table.proofs.ItemLaws.{items_text-append}
-use Rattle.yq_row_table.proofs.KeptLaws.{far_near, items_apart, near_joined}
+use Rattle.std.{proofs.lemmas.List.Elements.{All-cons, All-head, All-nil, All-tail, All-weaker}, specs.List.All}
+use Rattle.yq_row_table.{specs.Items.{Item, row_item, end_item, items_text}, specs.Kept.{far, near, ends_near, row_from_end}}
+use Rattle.yq_row_table.{specs.Touched.in_back, specs.declared.ends.EndPlace.EndPlace, specs.declared.places.Places.Places}
+use Rattle.yq_row_table.{proofs.ItemLaws.items_text-append, proofs.KeptLaws.{far_near, items_apart, near_joined}}
 use Rattle.yq_rows.specs.Sides.{AreAt, IsSplitAt, ends_before, nearer, not_in_back, side_of, text_length}
 use Rattle.yq_rows.proofs.BeginLaws.{BackFound, back_found, begin_from, begin_where, ends_begin, joined_long, rows_begin}
-use Rattle.yq_rows.proofs.CountLaws.{ends_joined, near_count}
-use Rattle.yq_rows.proofs.SideLaws.{sides_same}
+use Rattle.yq_rows.{proofs.CountLaws.{ends_joined, near_count}, proofs.SideLaws.sides_same}
 use Rattle.yq_rows.proofs.SplitLaws.{Within, ends_counted, far_within, nearer_split, prefix, turned_twice}
+use Rattle.yq_row_table.specs.declared.offsets.Offsets as declared
 
 -- lists
 pub record MapSplit (n : ℕ) (os xs ys : List declared.Offsets) : Type 0 where

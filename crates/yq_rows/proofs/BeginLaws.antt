@@ -1,19 +1,13 @@
 -- Where items begin, and with them their rows and ends of parts.
-use Rattle.std.proofs.Common.{◌≡◌, ℕ, ◌+◌, ◌-◌, ◌<◌, ◌≤◌, ltb, cond, Bool, true, false, List, [], ◌∷◌, ◌++◌, length, refl, sym, ap, ◌∙◌, subst, arith, append_assoc, length-append, ltb-true, ltb-false}
-use Rattle.std.proofs.lemmas.List.Elements.{All-cons, All-nil}
-use Rattle.std.specs.List.{All}
-use Rattle.yq_row_table.specs.Ends.{end_at}
-use Rattle.yq_row_table.specs.Items.{Item, row_item, end_item, items_text}
-use Rattle.yq_row_table.specs.Kept.{near, ends_near}
-use Rattle.yq_row_table.specs.Offsets.{offsets_of}
-use Rattle.yq_row_table.specs.Rows.{print_row}
-use Rattle.yq_row_table.specs.Touched.{item_text, in_front, in_back}
-use Rattle.yq_row_table.specs.View.{slices}
-use Rattle.yq_row_table.specs.declared.ends.EndPlace.{EndPlace}
-use Rattle.yq_row_table.specs.declared.offsets.Offsets as declared
-use Rattle.yq_row_table.proofs.ItemLaws.{items_text-append}
+use Rattle.std.proofs.Common.{◌≡◌, ℕ, ◌+◌, ◌-◌, ◌<◌, ◌≤◌, ltb, cond, Bool, true, false, List, [], ◌∷◌, ◌++◌, length, refl, sym, ap, ◌∙◌}
+use Rattle.std.proofs.Common.{subst, arith, append_assoc, length-append, ltb-true, ltb-false}
+use Rattle.std.{proofs.lemmas.List.Elements.{All-cons, All-nil}, specs.List.All}
+use Rattle.yq_row_table.{specs.Ends.end_at, specs.Items.{Item, row_item, end_item, items_text}, specs.Kept.{near, ends_near}}
+use Rattle.yq_row_table.{specs.Offsets.offsets_of, specs.Rows.print_row, specs.Touched.{item_text, in_front, in_back}, specs.View.slices}
+use Rattle.yq_row_table.{specs.declared.ends.EndPlace.EndPlace, proofs.ItemLaws.items_text-append}
 use Rattle.yq_row_table.proofs.KeptLaws.{items_apart, print_then}
 use Rattle.yq_rows.specs.Sides.{not_in_back, text_length}
+use Rattle.yq_row_table.specs.declared.offsets.Offsets as declared
 
 -- lengths
 pub first_long : (i : Item) (is : List Item) → text_length (i ∷ is) ≡ length (item_text i) + text_length is

@@ -1,11 +1,9 @@
 -- The `:` of a key behind white space.
-use Rattle.std.proofs.Common.{◌≡◌, ℕ, suc, ◌+◌, ◌-◌, ◌==◌, true, List, [], ◌∷◌, ◌++◌, length, take, drop, eqb-true, Some, refl, sym, subst, ap, ◌∙◌, arith, append_assoc, length-append, length-drop}
-use Rattle.std.proofs.lemmas.Bool.{false≢true, and_parts}
+use Rattle.std.proofs.Common.{◌≡◌, ℕ, suc, ◌+◌, ◌-◌, ◌==◌, true, List, [], ◌∷◌, ◌++◌, length, take, drop, eqb-true, Some, refl, sym, subst}
+use Rattle.std.{proofs.Common.{ap, ◌∙◌, arith, append_assoc, length-append, length-drop}, proofs.lemmas.Bool.{false≢true, and_parts}}
 use Rattle.std.specs.Str.{IsUtf8, IsCharBoundary}
-use Rattle.yq_core.specs.Text.{cut, no_white, separates, upto}
-use Rattle.yq_core.proofs.Upto.{cut_takes}
-use Rattle.yq_row_table.specs.Reading.{is_colon, read_colon}
-use Rattle.yq_row_table.proofs.NodePieces.{behind_ascii}
+use Rattle.yq_core.{specs.Text.{cut, no_white, separates, upto}, proofs.Upto.cut_takes}
+use Rattle.yq_row_table.{specs.Reading.{is_colon, read_colon}, proofs.NodePieces.behind_ascii}
 
 colon_is : (t : List ℕ) → is_colon t ≡ true → t ≡ 58 ∷ drop 1 t
 colon_is [] h = absurd (false≢true h)

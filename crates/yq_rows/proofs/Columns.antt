@@ -1,9 +1,7 @@
 -- How long what the readers cut off is: no longer than the text.
 use Rattle.std.proofs.Common.{◌≡◌, ℕ, ◌+◌, ◌-◌, ◌<◌, ◌≤◌, List, ◌++◌, [], length, sym, ap, ◌∙◌, arith, length-append, length-drop}
-use Rattle.yq_core.specs.Text.{cut, no_space}
-use Rattle.yq_core.proofs.Upto.{cut_takes}
-use Rattle.yq_row_table.specs.Offsets.{Ends}
-use Rattle.yq_row_table.specs.Slicing.{Begun, with_dashes}
+use Rattle.yq_core.{specs.Text.{cut, no_space}, proofs.Upto.cut_takes}
+use Rattle.yq_row_table.{specs.Offsets.Ends, specs.Slicing.{Begun, with_dashes}}
 
 -- the spaces in front and what follows are the text
 spaces_length : (t s rest : List ℕ) → (s, rest) ≡ cut no_space t → length t ≡ length s + length rest

@@ -1,14 +1,9 @@
 -- How many rows and ends of parts items have, and how many rows stand in front of an end.
 use Rattle.std.proofs.Common.{◌≡◌, ℕ, suc, ◌+◌, ◌≤◌, List, [], ◌∷◌, ◌++◌, length, refl, ap, ◌∙◌, arith, rules}
-use Rattle.std.proofs.lemmas.List.Elements.{All-cons, All-nil}
-use Rattle.std.specs.List.{All}
-use Rattle.yq_row_table.specs.Ends.{end_at}
-use Rattle.yq_row_table.specs.Items.{Item, row_item, end_item}
-use Rattle.yq_row_table.specs.Kept.{near, ends_near}
-use Rattle.yq_row_table.specs.Rows.{print_row}
+use Rattle.std.{proofs.lemmas.List.Elements.{All-cons, All-nil}, specs.List.All}
+use Rattle.yq_row_table.{specs.Ends.end_at, specs.Items.{Item, row_item, end_item}, specs.Kept.{near, ends_near}, specs.Rows.print_row}
 use Rattle.yq_row_table.specs.declared.ends.EndPlace.{EndPlace}
-use Rattle.yq_rows.specs.Sides.{text_length}
-use Rattle.yq_rows.proofs.BeginLaws.{first_long}
+use Rattle.yq_rows.{specs.Sides.text_length, proofs.BeginLaws.first_long}
 
 -- ends of parts, one behind the other
 pub ends_joined : (n k : ℕ) (xs ys : List Item) → ends_near n k (xs ++ ys) ≡ ends_near n k xs ++ ends_near (n + text_length xs) (k + length (near n xs)) ys

@@ -1,18 +1,11 @@
 -- What a change that was followed leaves.
 use Rattle.std.proofs.Common.{◌≡◌, ℕ, List, ◌++◌, if◌then◌else◌, refl, sym, ap, ◌∙◌, subst, append_assoc, rules}
 use Rattle.std.specs.Prelude.{Err, Result, is_ok}
-use Rattle.yq_row_table.specs.Grammar.{IsCut}
-use Rattle.yq_row_table.specs.Items.{items_of_cut}
-use Rattle.yq_row_table.specs.Kept.{IsPlaced}
-use Rattle.yq_row_table.specs.Rows.{Cut}
-use Rattle.yq_row_table.specs.View.{rows_view}
+use Rattle.yq_row_table.{specs.Grammar.IsCut, specs.Items.items_of_cut, specs.Kept.IsPlaced, specs.Rows.Cut, specs.View.rows_view}
 use Rattle.yq_row_table.specs.declared.places.Places.{Places}
 use Rattle.yq_rows.specs.Exchanging.{TextChange, RowsExchanged, GivesWay, SamePlaces}
-use Rattle.yq_rows.specs.Following.{ArePlacesOf, Follows, IsPlacedIn, exchanged}
-use Rattle.yq_rows.specs.Reading.{ArePlacesRead}
-use Rattle.yq_rows.specs.declared.kept.Kept.{Kept}
-use Rattle.yq_rows.specs.declared.session_reading.NewRows.{NewRows}
-use Rattle.yq_rows.specs.declared.touched.Touched.{Touched}
+use Rattle.yq_rows.{specs.Following.{ArePlacesOf, Follows, IsPlacedIn, exchanged}, specs.Reading.ArePlacesRead}
+use Rattle.yq_rows.{specs.declared.kept.Kept.Kept, specs.declared.session_reading.NewRows.NewRows, specs.declared.touched.Touched.Touched}
 use Rattle.yq_rows.proofs.ItemPlaces.{BothSides, placed_in, places_of}
 
 -- before a change: places that were moved

@@ -1,37 +1,19 @@
 -- Rows that go from the end of a text, behind one that stays as it was read.
-use Rattle.std.proofs.Common.{◌≡◌, ℕ, ◌+◌, ◌-◌, ◌<◌, true, false, not, List, [], ◌∷◌, ◌++◌, length, map, reverse, take, drop, drop_at, suc, Some, get_or, slice_get, slice_set, refl, sym, ap, ◌∙◌, subst, arith, append-nil, append_assoc, length-append, length-take, rules}
-use Rattle.std.proofs.Math.Seq.{get_or-append_seam}
-use Rattle.std.proofs.lemmas.List.{drop_all, set_split, take_at}
-use Rattle.std.proofs.lemmas.Option.{get_or_from_slice_get, same_Some, slice_get_within}
-use Rattle.std.proofs.lemmas.Str.{IsUtf8-nil}
-use Rattle.yq_row_table.specs.Ends.{end_at}
-use Rattle.yq_row_table.specs.Grammar.{IsCut}
-use Rattle.yq_row_table.specs.Items.{Item, row_item, end_item, items_of_cut, items_text}
-use Rattle.yq_row_table.specs.Kept.{ArePlaced, near, ends_near, row_from_end, TextsIn}
-use Rattle.yq_row_table.specs.Offsets.{offsets_of}
-use Rattle.yq_row_table.specs.Reading.{all_parts}
-use Rattle.yq_row_table.specs.Regions.{IsReadAlone, region_items, no_items}
-use Rattle.yq_row_table.specs.Rows.{Row, Cut}
-use Rattle.yq_row_table.specs.Touched.{TouchesOnly}
-use Rattle.yq_row_table.specs.View.{slices}
-use Rattle.yq_row_table.specs.declared.ends.EndPlace.{EndPlace}
-use Rattle.yq_row_table.specs.declared.offsets.Offsets as declared
-use Rattle.yq_row_table.specs.declared.places.Places.{Places}
-use Rattle.yq_row_table.proofs.ItemLaws.{items_of_text}
-use Rattle.yq_row_table.proofs.KeptLaws.{near_joined, texts_joined}
-use Rattle.yq_row_table.proofs.RegionLaws.{region}
-use Rattle.yq_rows.specs.Dropping.{DropsLast}
-use Rattle.yq_rows.specs.Exchanging.{TextChange}
-use Rattle.yq_rows.specs.Following.{ArePlacesOf, exchanged, read_text}
-use Rattle.yq_rows.specs.Reading.{read_part, region_text}
-use Rattle.yq_rows.specs.Sides.{AreAt, first_byte, text_length}
-use Rattle.yq_rows.specs.declared.kept.Kept.{Kept}
-use Rattle.yq_rows.specs.declared.sides.Side.{Side}
-use Rattle.yq_rows.specs.declared.touched.Touched.{Touched}
-use Rattle.yq_rows.proofs.BeginLaws.{joined_long}
-use Rattle.yq_rows.proofs.CountLaws.{ends_joined}
-use Rattle.yq_rows.proofs.ExchangeLaws.{texts_first}
+use Rattle.std.proofs.Common.{◌≡◌, ℕ, ◌+◌, ◌-◌, ◌<◌, true, false, not, List, [], ◌∷◌, ◌++◌, length, map, reverse, take, drop, drop_at, suc}
+use Rattle.std.proofs.Common.{Some, get_or, slice_get, slice_set, refl, sym, ap, ◌∙◌, subst, arith, append-nil, append_assoc, length-append}
+use Rattle.std.{proofs.Common.{length-take, rules}, proofs.Math.Seq.get_or-append_seam, proofs.lemmas.List.{drop_all, set_split, take_at}}
+use Rattle.std.{proofs.lemmas.Option.{get_or_from_slice_get, same_Some, slice_get_within}, proofs.lemmas.Str.IsUtf8-nil}
+use Rattle.yq_row_table.{specs.Ends.end_at, specs.Grammar.IsCut, specs.Items.{Item, row_item, end_item, items_of_cut, items_text}}
+use Rattle.yq_row_table.{specs.Kept.{ArePlaced, near, ends_near, row_from_end, TextsIn}, specs.Offsets.offsets_of, specs.Reading.all_parts}
+use Rattle.yq_row_table.{specs.Regions.{IsReadAlone, region_items, no_items}, specs.Rows.{Row, Cut}, specs.Touched.TouchesOnly}
+use Rattle.yq_row_table.{specs.View.slices, specs.declared.ends.EndPlace.EndPlace, specs.declared.places.Places.Places}
+use Rattle.yq_row_table.{proofs.ItemLaws.items_of_text, proofs.KeptLaws.{near_joined, texts_joined}, proofs.RegionLaws.region}
+use Rattle.yq_rows.{specs.Dropping.DropsLast, specs.Exchanging.TextChange, specs.Following.{ArePlacesOf, exchanged, read_text}}
+use Rattle.yq_rows.{specs.Reading.{read_part, region_text}, specs.Sides.{AreAt, first_byte, text_length}, specs.declared.kept.Kept.Kept}
+use Rattle.yq_rows.{specs.declared.sides.Side.Side, specs.declared.touched.Touched.Touched, proofs.BeginLaws.joined_long}
+use Rattle.yq_rows.{proofs.CountLaws.ends_joined, proofs.ExchangeLaws.texts_first}
 use Rattle.yq_rows.proofs.ItemPlaces.{BothSides, cut_long, placed_in, places_of, text_split}
+use Rattle.yq_row_table.specs.declared.offsets.Offsets as declared
 
 -- the item behind some others is a row, where more rows than they have stand before the next end of a part
 row_next : (p : Places) (f ys : List Item) (e : EndPlace) → AreAt p (f ++ ys) → slice_get p.ends.items (length (ends_near 0 0 f)) ≡ Some e → length (near 0 f) < e.rows → (r : Row) × (rest : List Item) × (ys ≡ row_item r ∷ rest)

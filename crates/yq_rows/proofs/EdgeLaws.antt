@@ -1,8 +1,8 @@
 -- The text of what comes in the place of what a change touches, and where a text may be cut for it.
-use Rattle.std.proofs.Common.{◌≡◌, ℕ, ◌+◌, ◌-◌, ◌≤◌, List, ◌++◌, length, take, drop, drop_at, sym, ap, ◌∙◌, subst, arith, append_assoc, length-append, length-take, take-append-drop, take-take, rules}
+use Rattle.std.proofs.Common.{◌≡◌, ℕ, ◌+◌, ◌-◌, ◌≤◌, List, ◌++◌, length, take, drop, drop_at, sym, ap, ◌∙◌, subst, arith, append_assoc}
+use Rattle.std.proofs.Common.{length-append, length-take, take-append-drop, take-take, rules}
 use Rattle.std.proofs.lemmas.List.{append_cancel_left, append_cancel_right, drop-append-le, get_or-take, take_at}
-use Rattle.std.proofs.lemmas.Str.{IsCharBoundary-at_seam, IsCharBoundary-from_take, IsUtf8-take}
-use Rattle.std.specs.Str.{IsCharBoundary, IsUtf8}
+use Rattle.std.{proofs.lemmas.Str.{IsCharBoundary-at_seam, IsCharBoundary-from_take, IsUtf8-take}, specs.Str.{IsCharBoundary, IsUtf8}}
 
 -- Three pieces of a text, and how many of its bytes are kept in front and behind.
 pub record Pieces (t f m z : List ℕ) (front back : ℕ) : Type 0 where

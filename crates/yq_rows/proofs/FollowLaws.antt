@@ -1,40 +1,26 @@
 -- What a change touches, and what is read and exchanged for it.
-use Rattle.std.proofs.Common.{◌≡◌, ⊎_elim, ltb, ◌||◌, true, false, not, ℕ, ◌+◌, ◌-◌, ◌≤◌, List, [], ◌∷◌, ◌++◌, length, take, drop, Option, Some, refl, sym, ap, ◌∙◌, subst, arith, append_assoc, append-nil, length-append, length-drop, length-take, rules}
-use Rattle.std.proofs.lemmas.Bool.{cases_lt, le-ltb, lt-ltb, or_right}
-use Rattle.std.proofs.lemmas.List.{append_cancel_left, append_cancel_right}
-use Rattle.std.proofs.lemmas.Str.{IsUtf8-nil}
-use Rattle.std.specs.Str.{IsUtf8}
+use Rattle.std.proofs.Common.{◌≡◌, ⊎_elim, ltb, ◌||◌, true, false, not, ℕ, ◌+◌, ◌-◌, ◌≤◌, List, [], ◌∷◌, ◌++◌, length, take, drop, Option}
+use Rattle.std.proofs.Common.{Some, refl, sym, ap, ◌∙◌, subst, arith, append_assoc, append-nil, length-append, length-drop, length-take}
+use Rattle.std.{proofs.Common.rules, proofs.lemmas.Bool.{cases_lt, le-ltb, lt-ltb, or_right}}
+use Rattle.std.{proofs.lemmas.List.{append_cancel_left, append_cancel_right}, proofs.lemmas.Str.IsUtf8-nil, specs.Str.IsUtf8}
 use Rattle.yq_row_table.specs.Grammar.{IsCut, IsMarkerLine}
 use Rattle.yq_row_table.specs.Items.{Item, end_item, items_of_cut, items_text, nothing_asked, asked_of, AreRowItems}
-use Rattle.yq_row_table.specs.Kept.{kept_rows, near, ends_near, TextsIn}
-use Rattle.yq_row_table.specs.Meter.{begins_line}
-use Rattle.yq_row_table.specs.Regions.{StandIn, ended, no_items}
-use Rattle.yq_row_table.specs.Rows.{Cut}
-use Rattle.yq_row_table.specs.Touched.{TouchesOnly, in_back, in_front}
-use Rattle.yq_row_table.specs.declared.ends.EndPlace.{EndPlace}
-use Rattle.yq_row_table.specs.declared.places.Places.{Places}
-use Rattle.yq_row_table.proofs.ItemLaws.{items_joined, items_of_text, parts_are_items}
-use Rattle.yq_row_table.proofs.KeptLaws.{items_texts, near_joined}
-use Rattle.yq_row_table.proofs.RegionEnds.{region_end}
-use Rattle.yq_row_table.proofs.RegionLaws.{region}
-use Rattle.yq_row_table.proofs.ScanLaws.{one_cut}
-use Rattle.yq_rows.specs.Exchanging.{TextChange}
-use Rattle.yq_rows.specs.Following.{Follows, exchanged, read_text}
+use Rattle.yq_row_table.{specs.Kept.{kept_rows, near, ends_near, TextsIn}, specs.Meter.begins_line}
+use Rattle.yq_row_table.{specs.Regions.{StandIn, ended, no_items}, specs.Rows.Cut, specs.Touched.{TouchesOnly, in_back, in_front}}
+use Rattle.yq_row_table.{specs.declared.ends.EndPlace.EndPlace, specs.declared.places.Places.Places}
+use Rattle.yq_row_table.{proofs.ItemLaws.{items_joined, items_of_text, parts_are_items}, proofs.KeptLaws.{items_texts, near_joined}}
+use Rattle.yq_row_table.{proofs.RegionEnds.region_end, proofs.RegionLaws.region, proofs.ScanLaws.one_cut}
+use Rattle.yq_rows.{specs.Exchanging.TextChange, specs.Following.{Follows, exchanged, read_text}}
 use Rattle.yq_rows.specs.Reading.{AreEdges, IsRead, IsUnread, read_part, region_text, unread_end}
 use Rattle.yq_rows.specs.Sides.{AreAt, IsSplitAt, IsSideBefore, IsSideBehind, marked_end, not_in_back, side_of, text_length}
-use Rattle.yq_rows.specs.declared.kept.Kept.{Kept}
-use Rattle.yq_rows.specs.declared.sides.Side.{Side}
-use Rattle.yq_rows.specs.declared.touched.Touched.{Touched}
-use Rattle.yq_rows.proofs.BackLaws.{back_taken}
-use Rattle.yq_rows.proofs.BeginLaws.{back_found, joined_long}
+use Rattle.yq_rows.{specs.declared.kept.Kept.Kept, specs.declared.sides.Side.Side, specs.declared.touched.Touched.Touched}
+use Rattle.yq_rows.{proofs.BackLaws.back_taken, proofs.BeginLaws.{back_found, joined_long}}
 use Rattle.yq_rows.proofs.CountLaws.{near_count, ends_count, ends_joined}
 use Rattle.yq_rows.proofs.EdgeLaws.{Pieces, begin_edge, back_edge, end_edge, region_ends, region_is}
 use Rattle.yq_rows.proofs.ExchangeLaws.{kept_count, texts_first, texts_second}
 use Rattle.yq_rows.proofs.KeptSides.{all_in_front, back_long, cut_some, front_long, last_long, some_behind}
-use Rattle.yq_rows.proofs.ItemPlaces.{cut_long, cut_places, text_split}
-use Rattle.yq_rows.proofs.MarkedLaws.{KeepsEnd, KeepsMarker, agrees}
-use Rattle.yq_rows.proofs.MarkerLaws.{marker_stays, marker_there}
-use Rattle.yq_rows.proofs.ReadLaws.{unread_is, without, without_none}
+use Rattle.yq_rows.{proofs.ItemPlaces.{cut_long, cut_places, text_split}, proofs.MarkedLaws.{KeepsEnd, KeepsMarker, agrees}}
+use Rattle.yq_rows.{proofs.MarkerLaws.{marker_stays, marker_there}, proofs.ReadLaws.{unread_is, without, without_none}}
 use Rattle.yq_rows.proofs.SideLaws.{front_taken}
 
 -- the text of three lists of items

@@ -1,24 +1,16 @@
 -- Places of the items of a cut, by what is borrowed of them, and on both sides of a split.
-use Rattle.std.proofs.Common.{◌≡◌, ℕ, ◌+◌, ◌<◌, ◌≤◌, ◌^◌, List, [], ◌∷◌, ◌++◌, length, map, reverse, refl, sym, ap, ◌∙◌, subst, arith, rules}
-use Rattle.std.proofs.lemmas.List.{reverse-append, reverse-reverse}
-use Rattle.std.proofs.lemmas.List.Elements.{All-head, All-nil, All-push, All-tail}
-use Rattle.std.specs.List.{All}
-use Rattle.yq_row_table.specs.Grammar.{IsCut}
-use Rattle.yq_row_table.specs.Items.{Item, row_item, end_item, items_of_cut, items_text, view_of_items}
+use Rattle.std.proofs.Common.{◌≡◌, ℕ, ◌+◌, ◌<◌, ◌≤◌, ◌^◌, List, [], ◌∷◌, ◌++◌, length, map, reverse, refl, sym, ap, ◌∙◌, subst, arith}
+use Rattle.std.{proofs.Common.rules, proofs.lemmas.List.{reverse-append, reverse-reverse}}
+use Rattle.std.{proofs.lemmas.List.Elements.{All-head, All-nil, All-push, All-tail}, specs.List.All}
+use Rattle.yq_row_table.{specs.Grammar.IsCut, specs.Items.{Item, row_item, end_item, items_of_cut, items_text, view_of_items}}
 use Rattle.yq_row_table.specs.Kept.{ArePlaced, IsPlaced, far, near, ends_near, placed_rows, row_from_end, TextsIn}
-use Rattle.yq_row_table.specs.Offsets.{offsets_of}
-use Rattle.yq_row_table.specs.Rows.{Cut, print_row}
-use Rattle.yq_row_table.specs.View.{RowsView, rows_view, slices}
-use Rattle.yq_row_table.specs.declared.offsets.Offsets as declared
-use Rattle.yq_row_table.specs.declared.places.Places.{Places}
-use Rattle.yq_row_table.proofs.ItemLaws.{items_of_text, items_view_is, items_text-append}
-use Rattle.yq_row_table.proofs.KeptLaws.{far_near, items_apart, near_joined}
-use Rattle.yq_row_table.proofs.PlacedLaws.{same_view}
-use Rattle.yq_row_table.proofs.ScanLaws.{one_cut}
-use Rattle.yq_rows.specs.Following.{ArePlacesOf, IsPlacedIn}
-use Rattle.yq_rows.specs.Sides.{AreAt, first_byte, text_length}
+use Rattle.yq_row_table.{specs.Offsets.offsets_of, specs.Rows.{Cut, print_row}, specs.View.{RowsView, rows_view, slices}}
+use Rattle.yq_row_table.{specs.declared.places.Places.Places, proofs.ItemLaws.{items_of_text, items_view_is, items_text-append}}
+use Rattle.yq_row_table.{proofs.KeptLaws.{far_near, items_apart, near_joined}, proofs.PlacedLaws.same_view, proofs.ScanLaws.one_cut}
+use Rattle.yq_rows.{specs.Following.{ArePlacesOf, IsPlacedIn}, specs.Sides.{AreAt, first_byte, text_length}}
 use Rattle.yq_rows.proofs.BeginLaws.{begin_within, first_long, joined_long, rows_begin}
 use Rattle.yq_rows.proofs.SplitLaws.{Within, far_within, turned_twice}
+use Rattle.yq_row_table.specs.declared.offsets.Offsets as declared
 
 -- the text of items in front of a split and behind it
 pub text_split : (b z : List Item) → items_text (b ++ z) [] ≡ items_text b [] ++ items_text z []

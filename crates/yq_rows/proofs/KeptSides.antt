@@ -1,13 +1,9 @@
 -- How long what a change keeps on either side is.
-use Rattle.std.proofs.Common.{◌≡◌, ⊎_elim, ltb, cond, Bool, true, false, ℕ, ◌+◌, ◌-◌, ◌<◌, ◌≤◌, List, [], ◌∷◌, ◌++◌, length, refl, sym, ap, ◌∙◌, arith, append_assoc, length-append, ltb-true, rules}
-use Rattle.std.proofs.lemmas.Bool.{cases_lt, lt-ltb}
-use Rattle.yq_row_table.specs.Items.{Item, row_item, end_item, items_of_cut, rows_items}
-use Rattle.yq_row_table.specs.Kept.{near, ends_near}
-use Rattle.yq_row_table.specs.Regions.{no_items}
-use Rattle.yq_row_table.specs.Rows.{Row, Cut, last, marked}
-use Rattle.yq_row_table.specs.Touched.{in_back, in_front, item_text}
-use Rattle.yq_rows.specs.Sides.{text_length}
-use Rattle.yq_rows.proofs.BeginLaws.{first_long}
+use Rattle.std.proofs.Common.{◌≡◌, ⊎_elim, ltb, cond, Bool, true, false, ℕ, ◌+◌, ◌-◌, ◌<◌, ◌≤◌, List, [], ◌∷◌, ◌++◌, length, refl, sym, ap}
+use Rattle.std.{proofs.Common.{◌∙◌, arith, append_assoc, length-append, ltb-true, rules}, proofs.lemmas.Bool.{cases_lt, lt-ltb}}
+use Rattle.yq_row_table.{specs.Items.{Item, row_item, end_item, items_of_cut, rows_items}, specs.Kept.{near, ends_near}}
+use Rattle.yq_row_table.{specs.Regions.no_items, specs.Rows.{Row, Cut, last, marked}, specs.Touched.{in_back, in_front, item_text}}
+use Rattle.yq_rows.{specs.Sides.text_length, proofs.BeginLaws.first_long}
 
 -- a cut has items, and not all of them are in front of an offset within its text
 pub all_in_front : (xs : List Item) (n : ℕ) → in_front n xs ≡ xs → no_items xs ≡ false → text_length xs < n

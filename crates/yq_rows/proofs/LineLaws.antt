@@ -1,11 +1,11 @@
 -- No line begins with a document marker inside the pieces of a row.
-use Rattle.std.proofs.Common.{◌≡◌, ⊎_elim, ℕ, ◌<◌, Bool, true, false, eqb, List, [], ◌∷◌, ◌++◌, Option, Some, None, refl, sym, ap, ◌∙◌, subst, arith, append_assoc, eqb-true, if◌then◌else◌, rules}
-use Rattle.std.proofs.lemmas.Bool.{and_parts, cases_Bool, false≢true, not-false, not-true, or_cases}
-use Rattle.std.specs.Str.Parse.{AllDigits}
+use Rattle.std.proofs.Common.{◌≡◌, ⊎_elim, ℕ, ◌<◌, Bool, true, false, eqb, List, [], ◌∷◌, ◌++◌, Option, Some, None, refl, sym, ap, ◌∙◌}
+use Rattle.std.proofs.Common.{subst, arith, append_assoc, eqb-true, if◌then◌else◌, rules}
+use Rattle.std.{proofs.lemmas.Bool.{and_parts, cases_Bool, false≢true, not-false, not-true, or_cases}, specs.Str.Parse.AllDigits}
 use Rattle.std.specs.Char.{digit_value}
 use Rattle.yq_core.specs.Plain.{ends_plain}
-use Rattle.yq_core.specs.Quoted.{Break, Char, QuotedLines, last, line, spell_char, spell_chars, spell_end, spell_lines, AreChars, AreLines, IsChar, beside}
-use Rattle.yq_core.specs.Text.{is_empty, is_feed, is_line, is_marker, is_space, upto, NoneIn}
+use Rattle.yq_core.specs.Quoted.{Break, Char, QuotedLines, last, line, spell_char, spell_chars, spell_end, spell_lines, AreChars, AreLines}
+use Rattle.yq_core.{specs.Quoted.{IsChar, beside}, specs.Text.{is_empty, is_feed, is_line, is_marker, is_space, upto, NoneIn}}
 
 -- No line but the first begins with a marker in a piece before a rest, nor does the first, where the piece begins a line.
 abbrev pub Unmarked : Bool → List ℕ → List ℕ → Type 0

@@ -1,25 +1,16 @@
 -- The last end of a part among the touched items, and whether its marker is kept.
-use Rattle.std.proofs.Common.{◌≡◌, ◌⊎◌, inl, inr, ⊎_elim, ℕ, zero, suc, ◌+◌, ◌-◌, ◌<◌, ◌≤◌, Bool, true, false, eqb, ltb, leb, if◌then◌else◌, ◌&&◌, List, [], ◌∷◌, ◌++◌, length, Option, Some, None, slice_get, refl, sym, ap, ◌∙◌, arith, append_assoc, append-nil, length-append, rules}
-use Rattle.std.proofs.Common.{◌∷◌, ◌++◌, length, Option, Some, None, slice_get, refl, sym, ap, ◌∙◌, arith, append_assoc, append-nil}
-use Rattle.std.proofs.Common.{length-append, rules}
-use Rattle.std.proofs.lemmas.Bool.{and_from, and_parts, cases_Bool, cases_lt, cond-false, cond-true, eq-eqb, false≢true, leb-true, le-leb, lt-leb, lt-ltb, ltb-true, ne_eqb}
-use Rattle.std.proofs.lemmas.Bool.{ltb-true, ne_eqb}
-use Rattle.std.proofs.lemmas.List.Elements.{All-get_or}
+use Rattle.std.proofs.Common.{◌≡◌, ◌⊎◌, inl, inr, ⊎_elim, ℕ, zero, suc, ◌+◌, ◌-◌, ◌<◌, ◌≤◌, Bool, true, false, eqb, ltb, leb, if◌then◌else◌}
+use Rattle.std.proofs.Common.{◌&&◌, List, [], ◌∷◌, ◌++◌, length, Option, Some, None, slice_get, refl, sym, ap, ◌∙◌, arith, append_assoc}
+use Rattle.std.proofs.Common.{append-nil, length-append, rules}
+use Rattle.std.proofs.lemmas.Bool.{and_from, and_parts, cases_Bool, cases_lt, cond-false, cond-true, eq-eqb, false≢true, leb-true, le-leb}
+use Rattle.std.{proofs.lemmas.Bool.{lt-leb, lt-ltb, ltb-true, ne_eqb}, proofs.lemmas.List.Elements.All-get_or}
 use Rattle.std.proofs.lemmas.Option.{get_or_from_slice_get}
 use Rattle.yq_core.specs.Answers.{◌>>=◌}
-use Rattle.yq_row_table.specs.Ends.{end_at}
-use Rattle.yq_row_table.specs.Items.{Item, row_item, end_item}
-use Rattle.yq_row_table.specs.Kept.{near, ends_near}
-use Rattle.yq_row_table.specs.Regions.{ended, no_items}
-use Rattle.yq_row_table.specs.Offsets.{offsets_of}
-use Rattle.yq_row_table.specs.Rows.{Row}
-use Rattle.yq_row_table.specs.View.{slices}
+use Rattle.yq_row_table.{specs.Ends.end_at, specs.Items.{Item, row_item, end_item}, specs.Kept.{near, ends_near}}
+use Rattle.yq_row_table.{specs.Regions.{ended, no_items}, specs.Offsets.offsets_of, specs.Rows.Row, specs.View.slices}
 use Rattle.yq_row_table.specs.declared.ends.EndPlace.{EndPlace}
-use Rattle.yq_rows.specs.Following.{kept_marker, marker_line, marker_of}
-use Rattle.yq_rows.specs.Sides.{keeps_marker, marked_end, side_of, text_length}
-use Rattle.yq_rows.specs.declared.sides.Side.{Side}
-use Rattle.yq_rows.proofs.BeginLaws.{first_long, joined_long}
-use Rattle.yq_rows.proofs.CountLaws.{ends_joined, ends_rows}
+use Rattle.yq_rows.{specs.Following.{kept_marker, marker_line, marker_of}, specs.Sides.{keeps_marker, marked_end, side_of, text_length}}
+use Rattle.yq_rows.{specs.declared.sides.Side.Side, proofs.BeginLaws.{first_long, joined_long}, proofs.CountLaws.{ends_joined, ends_rows}}
 use Rattle.yq_rows.proofs.SideLaws.{ends_end, ends_row, rows_end, rows_row}
 
 -- The last touched item is the end of a part whose marker the change keeps.

@@ -1,21 +1,13 @@
 -- The line of a marker that begins a line is a marker in every cut.
-use Rattle.std.proofs.Common.{◌≡◌, ⊎_elim, ℕ, ◌<◌, ◌≤◌, Bool, true, false, List, [], ◌∷◌, ◌++◌, length, drop, refl, sym, ap, ◌∙◌, subst, arith, append_assoc, append-nil, length-append, rules}
-use Rattle.std.proofs.lemmas.Bool.{cases_lt, false≢true}
+use Rattle.std.proofs.Common.{◌≡◌, ⊎_elim, ℕ, ◌<◌, ◌≤◌, Bool, true, false, List, [], ◌∷◌, ◌++◌, length, drop, refl, sym, ap, ◌∙◌, subst}
+use Rattle.std.{proofs.Common.{arith, append_assoc, append-nil, length-append, rules}, proofs.lemmas.Bool.{cases_lt, false≢true}}
 use Rattle.std.proofs.lemmas.List.{append_cancel_right, nil_from_length}
-use Rattle.yq_core.specs.Text.{front, is_feed, is_marker}
-use Rattle.yq_core.specs.Alike.{fresh}
-use Rattle.yq_row_table.specs.Gap.{IsGap}
-use Rattle.yq_row_table.specs.Grammar.{IsMarkerLine, IsRow, Limit}
+use Rattle.yq_core.{specs.Text.{front, is_feed, is_marker}, specs.Alike.fresh}
+use Rattle.yq_row_table.{specs.Gap.IsGap, specs.Grammar.{IsMarkerLine, IsRow, Limit}}
 use Rattle.yq_row_table.specs.Items.{Item, row_item, end_item, items_text, Asked, asked_of, AreRowItems, IsPartEnd, nothing_asked}
-use Rattle.yq_row_table.specs.Meter.{begins_line}
-use Rattle.yq_row_table.specs.Regions.{ended}
-use Rattle.yq_row_table.specs.Rows.{Row, print_row}
-use Rattle.yq_row_table.specs.Touched.{item_text}
-use Rattle.yq_row_table.proofs.ItemLaws.{items_joined}
-use Rattle.yq_row_table.proofs.KeptLaws.{print_then}
-use Rattle.yq_rows.proofs.ItemPlaces.{text_split}
-use Rattle.yq_rows.proofs.LineLaws.{Unmarked, Upto, upto_none}
-use Rattle.yq_rows.proofs.MarkedLaws.{last_of}
+use Rattle.yq_row_table.{specs.Meter.begins_line, specs.Regions.ended, specs.Rows.{Row, print_row}, specs.Touched.item_text}
+use Rattle.yq_row_table.{proofs.ItemLaws.items_joined, proofs.KeptLaws.print_then}
+use Rattle.yq_rows.{proofs.ItemPlaces.text_split, proofs.LineLaws.{Unmarked, Upto, upto_none}, proofs.MarkedLaws.last_of}
 use Rattle.yq_rows.proofs.RowLines.{gap_lines, marker_lines, row_lines}
 
 -- the marker of an end among items

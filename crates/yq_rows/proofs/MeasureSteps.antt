@@ -1,22 +1,19 @@
 -- Steps of finding the ends of nodes, as the code takes them.
-use Rattle.std.proofs.Common.{◌≡◌, ℕ, suc, ◌-◌, ◌<◌, ◌≤◌, Bool, true, false, cond, not, ◌&&◌, ◌||◌, List, length, drop, Option, Some, None, refl, ap, ◌∙◌, subst, arith}
-use Rattle.std.proofs.lemmas.Option.{same_Some}
-use Rattle.yq_core.specs.Answers.{◌>>=◌}
-use Rattle.yq_core.specs.Text.{is_empty}
-use Rattle.yq_core.proofs.Bools.{bind_some}
-use Rattle.yq_core.specs.declared.piece.Piece.{Piece}
-use Rattle.yq_core.specs.declared.style.Style.{Style}
-use Rattle.yq_core.specs.declared.style.Style.TheVariants as styles
-use Rattle.yq_rows.specs.Measured.{kind_of_style, node_measure, measured, past_node, is_no_node, node_may_follow, closing_byte, past_part}
-use Rattle.yq_core.specs.Nodes.{FlowNode, begins_with, begins_content, coll, Items}
-use Rattle.yq_core.specs.Places.{Placed, placed, CoreNode, nothing, name, text, sequence, mapping, Parts, part, anchored_node, placed_between, bare_placed, holder, key_here, locate_items}
-use Rattle.yq_core.specs.PlacedReading.{core_between, placed_node, placed_items, placed_content, placed_coll, placed_item, placed_entry, split_key, past_sep, stands_behind, then_anchored}
+use Rattle.std.proofs.Common.{◌≡◌, ℕ, suc, ◌-◌, ◌<◌, ◌≤◌, Bool, true, false, cond, not, ◌&&◌, ◌||◌, List, length, drop, Option, Some, None}
+use Rattle.std.{proofs.Common.{refl, ap, ◌∙◌, subst, arith}, proofs.lemmas.Option.same_Some}
+use Rattle.yq_core.{specs.Answers.◌>>=◌, specs.Text.is_empty, proofs.Bools.bind_some, specs.declared.piece.Piece.Piece}
+use Rattle.yq_core.{specs.declared.style.Style.Style, specs.Nodes.{FlowNode, begins_with, begins_content, coll, Items}}
+use Rattle.yq_core.specs.Places.{Placed, placed, CoreNode, nothing, name, text, sequence, mapping, Parts, part, anchored_node}
+use Rattle.yq_core.specs.Places.{placed_between, bare_placed, holder, key_here, locate_items}
+use Rattle.yq_core.specs.PlacedReading.{core_between, placed_node, placed_items, placed_content, placed_coll, placed_item, placed_entry}
+use Rattle.yq_core.specs.PlacedReading.{split_key, past_sep, stands_behind, then_anchored}
 use Rattle.yq_core.specs.Reading.{read_gap, read_scalar, name_at, lead_at, read_collection, read_core, kids_of, all_items}
-use Rattle.yq_core.specs.Scalars.{scalar_style, begins_scalar}
-use Rattle.yq_rows.specs.declared.measuring.MeasuredKind.{MeasuredKind}
-use Rattle.yq_rows.specs.declared.measuring.MeasuredKind.TheVariants as kinds
-use Rattle.yq_core.proofs.Loops.{node_shorter}
+use Rattle.yq_core.{specs.Scalars.{scalar_style, begins_scalar}, proofs.Loops.node_shorter}
 use Rattle.yq_core.proofs.Steps.{items_end, items_more, entries_more, node_plain, node_anchored, node_no_name, node_no_lead}
+use Rattle.yq_rows.specs.Measured.{kind_of_style, node_measure, measured, past_node, is_no_node, node_may_follow, closing_byte, past_part}
+use Rattle.yq_rows.specs.declared.measuring.MeasuredKind.{MeasuredKind}
+use Rattle.yq_core.specs.declared.style.Style.TheVariants as styles
+use Rattle.yq_rows.specs.declared.measuring.MeasuredKind.TheVariants as kinds
 
 pub within : (a b c : ℕ) → a ≤ b → b ≤ c → a ≤ c
 within a b c h k = omega arith

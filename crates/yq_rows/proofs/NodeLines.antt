@@ -1,15 +1,16 @@
 -- No line begins with a document marker inside a node.
-use Rattle.std.proofs.Common.{◌≡◌, ◌⊎◌, ⊎_elim, ℕ, zero, suc, Bool, true, false, ◌&&◌, ◌||◌, eqb, List, [], ◌∷◌, ◌++◌, Option, refl, sym, ap, ◌∙◌, subst, append_assoc, eqb-true, rules}
+use Rattle.std.proofs.Common.{◌≡◌, ◌⊎◌, ⊎_elim, ℕ, zero, suc, Bool, true, false, ◌&&◌, ◌||◌, eqb, List, [], ◌∷◌, ◌++◌, Option, refl, sym}
+use Rattle.std.proofs.Common.{ap, ◌∙◌, subst, append_assoc, eqb-true, rules}
 use Rattle.std.proofs.lemmas.Bool.{cases_Bool, false≢true, not-false, or_cases}
-use Rattle.yq_core.specs.Plain.{IsPlain}
-use Rattle.yq_core.specs.Quoted.{QuotedLines, IsQuoted, spell_lines}
-use Rattle.yq_core.specs.Text.{is_feed, is_marker, is_white, no_white, unless, NoneIn}
-use Rattle.yq_core.specs.declared.gap.GapPlace.{GapPlace}
+use Rattle.yq_core.{specs.Plain.IsPlain, specs.Quoted.{QuotedLines, IsQuoted, spell_lines}}
+use Rattle.yq_core.{specs.Text.{is_feed, is_marker, is_white, no_white, unless, NoneIn}, specs.declared.gap.GapPlace.GapPlace}
 use Rattle.yq_core.specs.declared.gap.GapPlace.TheVariants.{Token}
 use Rattle.yq_core.specs.Gaps.{goes, next_gap_place, gap_place_after, at_line_start, AllGo, IsInlineGap}
-use Rattle.yq_core.specs.Nodes.{FlowNode, empty, alias, scalar, coll, anchored, Items, none, item, Key, bare, keyed, Sep, last, comma, key_text, sep_text, node_text, flow_items_text, opening_bracket, is_close, in_name, begins_node, begins_content, IsApart, IsLead, IsInlineKey, IsSep, IsFlowNode, AreFlowItems}
-use Rattle.yq_core.specs.Scalars.{IsScalarAt}
-use Rattle.yq_rows.proofs.LineLaws.{NoFeed, Upto, no_marker_byte, plain_lines, quoted_lines, space_no_marker, upto_byte, upto_line, upto_more, upto_piece}
+use Rattle.yq_core.specs.Nodes.{FlowNode, empty, alias, scalar, coll, anchored, Items, none, item, Key, bare, keyed, Sep, last, comma}
+use Rattle.yq_core.specs.Nodes.{key_text, sep_text, node_text, flow_items_text, opening_bracket, is_close, in_name, begins_node}
+use Rattle.yq_core.{specs.Nodes.{begins_content, IsApart, IsLead, IsInlineKey, IsSep, IsFlowNode, AreFlowItems}, specs.Scalars.IsScalarAt}
+use Rattle.yq_rows.proofs.LineLaws.{NoFeed, Upto, no_marker_byte, plain_lines, quoted_lines, space_no_marker, upto_byte, upto_line}
+use Rattle.yq_rows.proofs.LineLaws.{upto_more, upto_piece}
 
 -- a byte is one of two
 pub two_bytes : (b m n : ℕ) → is_feed m ≡ false → is_feed n ≡ false → (eqb b m || eqb b n) ≡ true → is_feed b ≡ false

@@ -1,14 +1,11 @@
 -- One row more, moved over the gap.
-use Rattle.std.proofs.Common.{◌≡◌, ℕ, ◌-◌, ◌<◌, ◌≤◌, Option, Some, List, [], ◌∷◌, ◌++◌, length, get_or, map, reverse, slice_index_or, option_to_list, sym, ap, ◌∙◌, subst, append_assoc, rules}
-use Rattle.std.proofs.Common.{reverse, slice_get, slice_index_or, option_to_list, sym, ap, ◌∙◌, subst, append_assoc, arith, rules}
-use Rattle.std.proofs.lemmas.List.{reverse-append}
-use Rattle.std.proofs.lemmas.List.Elements.{All-pop}
-use Rattle.std.proofs.lemmas.Option.{get_or_from_slice_get, slice_get_within}
-use Rattle.std.specs.List.{All}
+use Rattle.std.proofs.Common.{◌≡◌, ℕ, ◌-◌, ◌<◌, ◌≤◌, Option, Some, List, [], ◌∷◌, ◌++◌, length, get_or, map, reverse, slice_index_or}
+use Rattle.std.proofs.Common.{option_to_list, sym, ap, ◌∙◌, subst, append_assoc, rules, slice_get, arith}
+use Rattle.std.{proofs.lemmas.List.reverse-append, proofs.lemmas.List.Elements.All-pop}
+use Rattle.std.{proofs.lemmas.Option.{get_or_from_slice_get, slice_get_within}, specs.List.All}
 use Rattle.yq_row_table.specs.Kept.{row_from_end}
+use Rattle.yq_rows.{specs.Sides.{LastBefore, both_sides}, proofs.SplitLaws.{Within, last_of_joined, turned_one}}
 use Rattle.yq_row_table.specs.declared.offsets.Offsets as declared
-use Rattle.yq_rows.specs.Sides.{LastBefore, both_sides}
-use Rattle.yq_rows.proofs.SplitLaws.{Within, last_of_joined, turned_one}
 
 pub popped : (old new : List declared.Offsets) (n m : ℕ) (r : Option declared.Offsets) (o : declared.Offsets) → old ≡ new ++ option_to_list r → ((d : declared.Offsets) → 0 < n → r ≡ Some (slice_index_or old (n - 1) d)) →
     m ≡ n → 0 < n → o ≡ slice_index_or old (m - 1) o → old ≡ new ++ o ∷ []

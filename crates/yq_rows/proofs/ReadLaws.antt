@@ -1,36 +1,22 @@
 -- What is read of a region, and the places that come of it.
-use Rattle.std.proofs.Common.{◌≡◌, ℕ, ◌+◌, ◌-◌, ◌≤◌, Bool, true, false, not, List, [], ◌∷◌, ◌++◌, length, take, drop_at, get_or, slice_set, Option, Some, None, IfSome, if◌then◌else◌, ⊎_elim, take_all, refl, sym, ap, ◌∙◌, subst, arith, append-nil, append_assoc, length-append, length-take, rules}
-use Rattle.std.proofs.Common.{slice_set, Option, Some, None, IfSome, if◌then◌else◌, ⊎_elim, take_all, refl, sym, ap, ◌∙◌, subst, arith, append-nil}
-use Rattle.std.proofs.Common.{append_assoc, length-append, length-take, rules}
-use Rattle.std.proofs.lemmas.Bool.{cases_Bool, cond-false, cond-true}
-use Rattle.std.proofs.lemmas.Option.{same_Some}
-use Rattle.std.proofs.lemmas.List.{drop_all, drop_more, set_split, take_at}
-use Rattle.std.proofs.lemmas.Str.{IsCharBoundary-at_seam}
-use Rattle.std.specs.Str.{IsCharBoundary}
-use Rattle.yq_core.specs.Answers.{ReadFails}
-use Rattle.yq_core.specs.declared.fault.ReadError.{ReadError}
-use Rattle.yq_core.specs.declared.fault.ReadError.TheVariants as reading
-use Rattle.yq_core.specs.declared.fault.ReadFault.{ReadFault}
+use Rattle.std.proofs.Common.{◌≡◌, ℕ, ◌+◌, ◌-◌, ◌≤◌, Bool, true, false, not, List, [], ◌∷◌, ◌++◌, length, take, drop_at, get_or, slice_set}
+use Rattle.std.proofs.Common.{Option, Some, None, IfSome, if◌then◌else◌, ⊎_elim, take_all, refl, sym, ap, ◌∙◌, subst, arith, append-nil}
+use Rattle.std.{proofs.Common.{append_assoc, length-append, length-take, rules}, proofs.lemmas.Bool.{cases_Bool, cond-false, cond-true}}
+use Rattle.std.{proofs.lemmas.Option.same_Some, proofs.lemmas.List.{drop_all, drop_more, set_split, take_at}}
+use Rattle.std.{proofs.lemmas.Str.IsCharBoundary-at_seam, specs.Str.IsCharBoundary}
+use Rattle.yq_core.{specs.Answers.ReadFails, specs.declared.fault.ReadError.ReadError, specs.declared.fault.ReadFault.ReadFault}
 use Rattle.yq_core.specs.Text.{front}
-use Rattle.yq_row_table.specs.Ends.{end_at}
-use Rattle.yq_row_table.specs.Items.{Item, end_item, items_of_cut, items_text, rows_items, view_of_items}
-use Rattle.yq_row_table.specs.Kept.{IsPlaced, near, ends_near, TextsIn}
-use Rattle.yq_row_table.specs.Meter.{begins_line}
-use Rattle.yq_row_table.specs.Regions.{IsReadAlone, region_items, ended, no_items}
-use Rattle.yq_row_table.specs.Rows.{Row, Cut, last, marked, print_row}
-use Rattle.yq_row_table.specs.View.{RowsView}
-use Rattle.yq_row_table.specs.declared.ends.EndPlace.{EndPlace}
-use Rattle.yq_row_table.specs.declared.places.Places.{Places}
+use Rattle.yq_row_table.{specs.Ends.end_at, specs.Items.{Item, end_item, items_of_cut, items_text, rows_items, view_of_items}}
+use Rattle.yq_row_table.{specs.Kept.{IsPlaced, near, ends_near, TextsIn}, specs.Meter.begins_line}
+use Rattle.yq_row_table.{specs.Regions.{IsReadAlone, region_items, ended, no_items}, specs.Rows.{Row, Cut, last, marked, print_row}}
+use Rattle.yq_row_table.{specs.View.RowsView, specs.declared.ends.EndPlace.EndPlace, specs.declared.places.Places.Places}
 use Rattle.yq_row_table.proofs.KeptLaws.{texts_joined}
 use Rattle.yq_rows.specs.Following.{without_line}
 use Rattle.yq_rows.specs.Reading.{ArePlacesRead, IsRead, IsUnread, marked_as, read_part, settled_ends, unread_end, without_marker}
-use Rattle.yq_rows.specs.Sides.{text_length}
-use Rattle.yq_rows.specs.declared.session_reading.NewRows.{NewRows}
-use Rattle.yq_rows.specs.declared.touched.Touched.{Touched}
-use Rattle.yq_rows.proofs.CountLaws.{ends_joined}
-use Rattle.yq_rows.proofs.ExchangeLaws.{alone_are, texts_first, texts_second}
-use Rattle.yq_rows.proofs.ItemPlaces.{places_are, text_split}
-use Rattle.yq_rows.proofs.SideLaws.{ends_end, rows_end}
+use Rattle.yq_rows.{specs.Sides.text_length, specs.declared.session_reading.NewRows.NewRows, specs.declared.touched.Touched.Touched}
+use Rattle.yq_rows.{proofs.CountLaws.ends_joined, proofs.ExchangeLaws.{alone_are, texts_first, texts_second}}
+use Rattle.yq_rows.{proofs.ItemPlaces.{places_are, text_split}, proofs.SideLaws.{ends_end, rows_end}}
+use Rattle.yq_core.specs.declared.fault.ReadError.TheVariants as reading
 
 -- The items that are read of a region, before others, and how the ends of parts that come of it are those of all its items.
 pub record Parted (text : List ℕ) (written : List Item) (u : Option EndPlace) (more : Bool) : Type 0 where

@@ -1,21 +1,20 @@
 -- No line begins with a document marker inside a row.
-use Rattle.std.proofs.Common.{◌≡◌, ⊎_elim, ℕ, zero, suc, ◌+◌, ◌≤◌, true, false, ◌&&◌, eqb, List, [], ◌∷◌, ◌++◌, length, drop, Option, Some, None, refl, sym, ap, ◌∙◌, subst, arith, append_assoc, eqb-true, replicate, rules}
+use Rattle.std.proofs.Common.{◌≡◌, ⊎_elim, ℕ, zero, suc, ◌+◌, ◌≤◌, true, false, ◌&&◌, eqb, List, [], ◌∷◌, ◌++◌, length, drop, Option, Some}
+use Rattle.std.proofs.Common.{None, refl, sym, ap, ◌∙◌, subst, arith, append_assoc, eqb-true, replicate, rules}
 use Rattle.std.proofs.lemmas.Bool.{and_from, and_parts, cases_Bool, false≢true, leb-true, ne_eqb, or_cases, or_right}
-use Rattle.yq_core.specs.Block.{BlockText, IsBlock, IsDetected, IsDigit, IsIndicators, IsRawLine, IsTextIndent, AreRaw, block_text, digit_text, style_indicator, sign_text}
-use Rattle.yq_core.specs.declared.block_header.BlockStyle.{BlockStyle}
-use Rattle.yq_core.specs.declared.block_header.BlockStyle.TheVariants as styles
-use Rattle.yq_core.specs.declared.block_header.Chomping.{Chomping}
-use Rattle.yq_core.specs.declared.block_lines.TextIndent.{TextIndent}
-use Rattle.yq_core.specs.Piece.{deeper}
-use Rattle.yq_core.specs.Text.{ends_line, is_break, is_empty, is_feed, is_line, is_marker, joined, NoneIn}
-use Rattle.yq_core.specs.Nodes.{node_text}
+use Rattle.yq_core.specs.Block.{BlockText, IsBlock, IsDetected, IsDigit, IsIndicators, IsRawLine, IsTextIndent, AreRaw, block_text}
+use Rattle.yq_core.{specs.Block.{digit_text, style_indicator, sign_text}, specs.declared.block_header.BlockStyle.BlockStyle}
+use Rattle.yq_core.{specs.declared.block_header.Chomping.Chomping, specs.declared.block_lines.TextIndent.TextIndent, specs.Piece.deeper}
+use Rattle.yq_core.{specs.Text.{ends_line, is_break, is_empty, is_feed, is_line, is_marker, joined, NoneIn}, specs.Nodes.node_text}
 use Rattle.yq_row_table.specs.Gap.{AreGapLines, IsBreak, IsComment, IsGap, IsLineEnd, IsWhite}
 use Rattle.yq_row_table.specs.Grammar.{IsAnchor, IsContent, IsMark, IsMarkerLine, IsRow, IsTail, Limit, may_be_alone}
-use Rattle.yq_row_table.specs.Rows.{Anchor, Bare, Content, Dash, Inline, Key, RowMark, Nothing, Row, anchor_text, behind_gap, behind_indent, content_text, dashes_text, mark_column, mark_text, parent_of, print_row}
-use Rattle.yq_row_table.specs.Rows as rows
+use Rattle.yq_row_table.specs.Rows.{Anchor, Bare, Content, Dash, Inline, Key, RowMark, Nothing, Row, anchor_text, behind_gap, behind_indent}
+use Rattle.yq_row_table.specs.Rows.{content_text, dashes_text, mark_column, mark_text, parent_of, print_row}
 use Rattle.yq_row_table.proofs.seams.MarkerSeams.{marker_byte}
-use Rattle.yq_rows.proofs.LineLaws.{NoFeed, Upto, line_lines, no_marker_byte, space_no_marker, upto_byte, upto_inside, upto_line, upto_none, upto_piece}
-use Rattle.yq_rows.proofs.NodeLines.{name_no_feed, node_lines, scalar_lines, two_bytes}
+use Rattle.yq_rows.proofs.LineLaws.{NoFeed, Upto, line_lines, no_marker_byte, space_no_marker, upto_byte, upto_inside, upto_line, upto_none}
+use Rattle.yq_rows.{proofs.LineLaws.upto_piece, proofs.NodeLines.{name_no_feed, node_lines, scalar_lines, two_bytes}}
+use Rattle.yq_core.specs.declared.block_header.BlockStyle.TheVariants as styles
+use Rattle.yq_row_table.specs.Rows as rows
 
 -- ---- ends of lines
 

@@ -1,23 +1,14 @@
 -- What stands in front of the items that a change touches, by the places that are kept.
-use Rattle.std.proofs.Common.{◌≡◌, ◌⊎◌, inl, inr, ⊎_elim, le-ltb, ℕ, zero, suc, ◌+◌, ◌-◌, ◌<◌, ◌≤◌, List, [], ◌∷◌, ◌++◌, length, map, reverse, get_or, refl, sym, ap, ◌∙◌, subst, arith, append_assoc, append-nil, length-append, take, take_at, rules}
-use Rattle.std.proofs.lemmas.List.{get_or_append_left, get_or_at}
-use Rattle.std.proofs.lemmas.Option.{slice_get-get_or}
-use Rattle.yq_row_table.specs.Ends.{end_at}
-use Rattle.yq_row_table.specs.Items.{Item, row_item, end_item}
-use Rattle.yq_row_table.specs.Kept.{near, ends_near, row_from_end}
-use Rattle.yq_row_table.specs.Offsets.{offsets_of}
-use Rattle.yq_row_table.specs.Rows.{Row}
-use Rattle.yq_row_table.specs.Touched.{in_front, item_text}
-use Rattle.yq_row_table.specs.View.{slices}
-use Rattle.yq_row_table.specs.declared.ends.EndPlace.{EndPlace}
-use Rattle.yq_row_table.specs.declared.offsets.Offsets as declared
-use Rattle.yq_row_table.specs.declared.places.Places.{Places}
-use Rattle.yq_row_table.proofs.KeptLaws.{near_joined}
-use Rattle.yq_rows.specs.Sides.{AreAt, IsSplitAt, LastBefore, ends_before, side_of, text_length}
-use Rattle.yq_rows.specs.declared.sides.Side.{Side}
+use Rattle.std.proofs.Common.{◌≡◌, ◌⊎◌, inl, inr, ⊎_elim, le-ltb, ℕ, zero, suc, ◌+◌, ◌-◌, ◌<◌, ◌≤◌, List, [], ◌∷◌, ◌++◌, length, map}
+use Rattle.std.proofs.Common.{reverse, get_or, refl, sym, ap, ◌∙◌, subst, arith, append_assoc, append-nil, length-append, take, take_at}
+use Rattle.std.{proofs.Common.rules, proofs.lemmas.List.{get_or_append_left, get_or_at}, proofs.lemmas.Option.slice_get-get_or}
+use Rattle.yq_row_table.{specs.Ends.end_at, specs.Items.{Item, row_item, end_item}, specs.Kept.{near, ends_near, row_from_end}}
+use Rattle.yq_row_table.{specs.Offsets.offsets_of, specs.Rows.Row, specs.Touched.{in_front, item_text}, specs.View.slices}
+use Rattle.yq_row_table.{specs.declared.ends.EndPlace.EndPlace, specs.declared.places.Places.Places, proofs.KeptLaws.near_joined}
+use Rattle.yq_rows.{specs.Sides.{AreAt, IsSplitAt, LastBefore, ends_before, side_of, text_length}, specs.declared.sides.Side.Side}
 use Rattle.yq_rows.proofs.BeginLaws.{FrontFound, begin_where, ends_begin, front_found, rows_begin}
-use Rattle.yq_rows.proofs.CountLaws.{ends_joined, ends_rows}
-use Rattle.yq_rows.proofs.SplitLaws.{ends_counted, first_turned, one_split}
+use Rattle.yq_rows.{proofs.CountLaws.{ends_joined, ends_rows}, proofs.SplitLaws.{ends_counted, first_turned, one_split}}
+use Rattle.yq_row_table.specs.declared.offsets.Offsets as declared
 
 -- Items in front, and one more, by the rows in front of the gap and the ends of parts that begin in front of an offset.
 pub record FrontKept (front : List Item) (first : Item) (rows : List declared.Offsets) (ends : List EndPlace) (count : ℕ) : Type 0 where

@@ -1,16 +1,12 @@
 -- A list of places that is split in two ways.
-use Rattle.std.proofs.Common.{◌≡◌, ℕ, suc, ◌-◌, ◌<◌, ◌≤◌, Some, List, [], ◌∷◌, ◌++◌, length, map, reverse, slice_get, refl, sym, ap, ◌∙◌, subst, arith, append-nil, length-append, lt-ltb, le-ltb, rules}
-use Rattle.std.proofs.lemmas.List.{reverse-append, reverse-reverse}
-use Rattle.std.proofs.lemmas.List.Elements.{All-cons, All-head, All-nil, All-tail}
+use Rattle.std.proofs.Common.{◌≡◌, ℕ, suc, ◌-◌, ◌<◌, ◌≤◌, Some, List, [], ◌∷◌, ◌++◌, length, map, reverse, slice_get, refl, sym, ap, ◌∙◌}
+use Rattle.std.proofs.Common.{subst, arith, append-nil, length-append, lt-ltb, le-ltb, rules}
+use Rattle.std.{proofs.lemmas.List.{reverse-append, reverse-reverse}, proofs.lemmas.List.Elements.{All-cons, All-head, All-nil, All-tail}}
 use Rattle.std.specs.List.{All}
-use Rattle.yq_row_table.specs.Items.{Item, row_item, end_item}
-use Rattle.yq_row_table.specs.Kept.{far, row_from_end}
-use Rattle.yq_row_table.specs.Offsets.{offsets_of}
-use Rattle.yq_row_table.specs.View.{slices}
-use Rattle.yq_row_table.specs.declared.ends.EndPlace.{EndPlace}
+use Rattle.yq_row_table.{specs.Items.{Item, row_item, end_item}, specs.Kept.{far, row_from_end}, specs.Offsets.offsets_of}
+use Rattle.yq_row_table.{specs.View.slices, specs.declared.ends.EndPlace.EndPlace}
+use Rattle.yq_rows.{specs.Sides.{FirstFrom, ends_before, nearer, text_length}, proofs.BeginLaws.first_long}
 use Rattle.yq_row_table.specs.declared.offsets.Offsets as declared
-use Rattle.yq_rows.specs.Sides.{FirstFrom, ends_before, nearer, text_length}
-use Rattle.yq_rows.proofs.BeginLaws.{first_long}
 
 -- the last place of a list
 abbrev pub LastIs : (declared.Offsets → Type 0) → List declared.Offsets → Type 0

@@ -1,12 +1,8 @@
 -- Text that comes in the place of bytes that aren't kept, and the text of a region by its pieces.
-use Rattle.std.proofs.Common.{◌≡◌, ℕ, ◌+◌, ◌-◌, ◌<◌, ◌≤◌, ◌^◌, Fits, w64, List, [], ◌++◌, length, take, drop, sym, ap, ◌∙◌, subst, arith, append_assoc}
-use Rattle.std.proofs.Common.{length-append, length-drop}
-use Rattle.std.proofs.lemmas.List.{drop-drop, get_or-drop}
-use Rattle.std.specs.Prelude.{slice_index}
-use Rattle.std.specs.Str.{IsCharBoundary}
-use Rattle.yq_rows.specs.Reading.{region_text}
-use Rattle.yq_rows.specs.declared.kept.Kept.{Kept}
-use Rattle.yq_rows.specs.declared.touched.Touched.{Touched}
+use Rattle.std.proofs.Common.{◌≡◌, ℕ, ◌+◌, ◌-◌, ◌<◌, ◌≤◌, ◌^◌, Fits, w64, List, [], ◌++◌, length, take, drop, sym, ap, ◌∙◌, subst, arith}
+use Rattle.std.{proofs.Common.{append_assoc, length-append, length-drop}, proofs.lemmas.List.{drop-drop, get_or-drop}}
+use Rattle.std.{specs.Prelude.slice_index, specs.Str.IsCharBoundary}
+use Rattle.yq_rows.{specs.Reading.region_text, specs.declared.kept.Kept.Kept, specs.declared.touched.Touched.Touched}
 
 -- a place behind the first bytes of a text, in what follows them
 boundary_behind : (t : List ℕ) (a n : ℕ) → a ≤ n → IsCharBoundary t n → IsCharBoundary (drop a t) (n - a)

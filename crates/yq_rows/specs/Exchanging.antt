@@ -1,19 +1,11 @@
 -- What a change touches and what is written in its place, and rows and ends of parts that give way to others (own; a reader of the contracts may skip it).
 use Rattle.std.specs.Prelude.{◌≡◌, ℕ, ◌+◌, ◌-◌, ◌<◌, ◌^◌, List, ◌++◌, drop, length, map, reverse, take}
-use Rattle.yq_row_table.specs.Grammar.{IsCut}
-use Rattle.yq_row_table.specs.Items.{Item, items_of_cut}
-use Rattle.yq_row_table.specs.Kept.{near, far, moved_end, ArePlaced}
-use Rattle.yq_row_table.specs.Rows.{Cut}
-use Rattle.yq_row_table.specs.Touched.{TouchesOnly}
-use Rattle.yq_row_table.specs.declared.ends.EndPlace.{EndPlace}
+use Rattle.yq_row_table.{specs.Grammar.IsCut, specs.Items.{Item, items_of_cut}, specs.Kept.{near, far, moved_end, ArePlaced}}
+use Rattle.yq_row_table.{specs.Rows.Cut, specs.Touched.TouchesOnly, specs.declared.ends.EndPlace.EndPlace}
 use Rattle.yq_row_table.specs.declared.places.Places.{Places}
-use Rattle.yq_rows.specs.Following.{exchanged, read_text}
-use Rattle.yq_rows.specs.Reading.{ArePlacesRead, IsRead, AreEdges, read_part, region_text}
-use Rattle.yq_rows.specs.Sides.{AreAt, origin, side_of, text_length}
-use Rattle.yq_rows.specs.declared.kept.Kept.{Kept}
-use Rattle.yq_rows.specs.declared.session_reading.NewRows.{NewRows}
-use Rattle.yq_rows.specs.declared.sides.Side.{Side}
-use Rattle.yq_rows.specs.declared.touched.Touched.{Touched}
+use Rattle.yq_rows.{specs.Following.{exchanged, read_text}, specs.Reading.{ArePlacesRead, IsRead, AreEdges, read_part, region_text}}
+use Rattle.yq_rows.{specs.Sides.{AreAt, origin, side_of, text_length}, specs.declared.kept.Kept.Kept}
+use Rattle.yq_rows.{specs.declared.session_reading.NewRows.NewRows, specs.declared.sides.Side.Side, specs.declared.touched.Touched.Touched}
 
 -- the end of a part that stood behind one place, behind another (own)
 abbrev pub moved_from : Side → Side → EndPlace → EndPlace

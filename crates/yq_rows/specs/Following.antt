@@ -1,15 +1,9 @@
 -- A text and the places of its rows and of the ends of its parts that follow a change (own).
 use Rattle.std.specs.Prelude.{◌≡◌, ℕ, ◌+◌, ◌-◌, ◌≤◌, nat_le, List, [], ◌∷◌, ◌++◌, length, take, drop, if◌then◌else◌}
 use Rattle.std.specs.Str.{IsCharBoundary}
-use Rattle.yq_row_table.specs.Grammar.{IsCut}
-use Rattle.yq_row_table.specs.Items.{Item, row_item, end_item, items_of_cut, items_text}
-use Rattle.yq_row_table.specs.Kept.{IsPlaced}
-use Rattle.yq_row_table.specs.Meter.{begins_line, count_after, line_count}
-use Rattle.yq_row_table.specs.Regions.{no_items}
-use Rattle.yq_row_table.specs.Rows.{Cut}
-use Rattle.yq_row_table.specs.Touched.{TouchesOnly, in_back}
-use Rattle.yq_row_table.specs.View.{rows_view}
-use Rattle.yq_row_table.specs.declared.places.Places.{Places}
+use Rattle.yq_row_table.{specs.Grammar.IsCut, specs.Items.{Item, row_item, end_item, items_of_cut, items_text}, specs.Kept.IsPlaced}
+use Rattle.yq_row_table.{specs.Meter.{begins_line, count_after, line_count}, specs.Regions.no_items, specs.Rows.Cut}
+use Rattle.yq_row_table.{specs.Touched.{TouchesOnly, in_back}, specs.View.rows_view, specs.declared.places.Places.Places}
 use Rattle.yq_rows.specs.declared.kept.Kept.{Kept}
 
 -- what a text becomes where these bytes come in the place of those that aren't kept (own)

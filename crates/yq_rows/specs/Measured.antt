@@ -1,13 +1,10 @@
 -- What is told of an inline node of which only the end is found (own).
 use Rattle.std.specs.Prelude.{ℕ, Bool, true, false, ◌||◌, ◌&&◌, not, List, Option, Some, None}
-use Rattle.yq_core.specs.Answers.{◌>>=◌}
-use Rattle.yq_core.specs.Text.{is_empty}
+use Rattle.yq_core.{specs.Answers.◌>>=◌, specs.Text.is_empty}
 use Rattle.yq_core.specs.Places.{Placed, placed, CoreNode, nothing, name, text, sequence, mapping}
-use Rattle.yq_core.specs.PlacedReading.{placed_entry, placed_item}
-use Rattle.yq_rows.specs.declared.measuring.MeasuredKind.{MeasuredKind}
+use Rattle.yq_core.{specs.PlacedReading.{placed_entry, placed_item}, specs.declared.style.Style.Style}
+use Rattle.yq_rows.{specs.declared.measuring.MeasuredKind.MeasuredKind, specs.declared.measuring.Measured.Measured}
 use Rattle.yq_rows.specs.declared.measuring.MeasuredKind.TheVariants as kinds
-use Rattle.yq_rows.specs.declared.measuring.Measured.{Measured}
-use Rattle.yq_core.specs.declared.style.Style.{Style}
 use Rattle.yq_core.specs.declared.style.Style.TheVariants as styles
 
 -- the kind of a scalar of this style (own)

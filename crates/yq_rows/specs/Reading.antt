@@ -1,14 +1,9 @@
 -- What is read where rows and ends of parts are exchanged (own; a reader of the contracts may skip it).
-use Rattle.std.specs.Prelude.{◌≡◌, ℕ, ◌-◌, ◌<◌, ◌≤◌, ◌^◌, Bool, true, false, not, List, [], ◌++◌, length, map, take, drop, Option, Some, None, if◌then◌else◌}
-use Rattle.std.specs.Str.{IsCharBoundary, IsUtf8}
-use Rattle.yq_row_table.specs.Items.{Item, items_text}
-use Rattle.yq_row_table.specs.Kept.{near, ends_near, placed_rows, TextsIn}
-use Rattle.yq_row_table.specs.Meter.{begins_line}
-use Rattle.yq_row_table.specs.Regions.{IsReadAlone, ended, no_items}
-use Rattle.yq_row_table.specs.declared.ends.EndPlace.{EndPlace}
-use Rattle.yq_rows.specs.declared.kept.Kept.{Kept}
-use Rattle.yq_rows.specs.declared.session_reading.NewRows.{NewRows}
-use Rattle.yq_rows.specs.declared.touched.Touched.{Touched}
+use Rattle.std.specs.Prelude.{◌≡◌, ℕ, ◌-◌, ◌<◌, ◌≤◌, ◌^◌, Bool, true, false, not, List, [], ◌++◌, length, map, take, drop, Option, Some}
+use Rattle.std.{specs.Prelude.{None, if◌then◌else◌}, specs.Str.{IsCharBoundary, IsUtf8}}
+use Rattle.yq_row_table.{specs.Items.{Item, items_text}, specs.Kept.{near, ends_near, placed_rows, TextsIn}, specs.Meter.begins_line}
+use Rattle.yq_row_table.{specs.Regions.{IsReadAlone, ended, no_items}, specs.declared.ends.EndPlace.EndPlace}
+use Rattle.yq_rows.{specs.declared.kept.Kept.Kept, specs.declared.session_reading.NewRows.NewRows, specs.declared.touched.Touched.Touched}
 
 -- the text of what comes in the place of what a change touches: what stays of that in front, what comes, and what stays behind (own)
 abbrev pub region_text : List ℕ → Touched → Kept → List ℕ → List ℕ

@@ -1,13 +1,11 @@
 -- What stands in front of items that a change touches, and in front of those behind them, by places (own; a reader of the contracts may skip it).
-use Rattle.std.specs.Prelude.{◌≡◌, ◌==◌, ◌&&◌, Bool, ℕ, suc, ◌+◌, ◌-◌, ◌<◌, ◌≤◌, ◌^◌, nat_le, nat_lt, List, [], ◌∷◌, ◌++◌, length, map, reverse, Option, Some, None, slice_get, if◌then◌else◌}
+use Rattle.std.specs.Prelude.{◌≡◌, ◌==◌, ◌&&◌, Bool, ℕ, suc, ◌+◌, ◌-◌, ◌<◌, ◌≤◌, ◌^◌, nat_le, nat_lt, List, [], ◌∷◌, ◌++◌, length, map}
+use Rattle.std.specs.Prelude.{reverse, Option, Some, None, slice_get, if◌then◌else◌}
 use Rattle.yq_core.specs.Answers.{◌>>=◌}
-use Rattle.yq_row_table.specs.Items.{Item, items_text}
-use Rattle.yq_row_table.specs.Kept.{near, ends_near, placed_rows, row_from_end, TextsIn}
-use Rattle.yq_row_table.specs.Touched.{in_front}
-use Rattle.yq_row_table.specs.declared.ends.EndPlace.{EndPlace}
-use Rattle.yq_row_table.specs.declared.offsets.Offsets as declared
-use Rattle.yq_row_table.specs.declared.places.Places.{Places}
+use Rattle.yq_row_table.{specs.Items.{Item, items_text}, specs.Kept.{near, ends_near, placed_rows, row_from_end, TextsIn}}
+use Rattle.yq_row_table.{specs.Touched.in_front, specs.declared.ends.EndPlace.EndPlace, specs.declared.places.Places.Places}
 use Rattle.yq_rows.specs.declared.sides.Side.{Side}
+use Rattle.yq_row_table.specs.declared.offsets.Offsets as declared
 
 -- how long the text of items is (own)
 abbrev pub text_length : List Item → ℕ

@@ -1,15 +1,12 @@
 //! What stands behind a row's mark.
-ghost use Rattle.std.specs.Option.{option_map};
-ghost use Rattle.std.specs.Prelude.{◌≡◌, ◌≢◌, ◌≤◌, ◌==◌, ◌||◌, ◌&&◌, not, length, true, false, IfErr};
-ghost use Rattle.yq_core.specs.Answers.{Gives, IsOfText};
+ghost use Rattle.std.{specs.Option.option_map, specs.Prelude.{◌≡◌, ◌≢◌, ◌≤◌, ◌==◌, ◌||◌, ◌&&◌, not, length, true, false, IfErr}};
+ghost use Rattle.yq_core.{specs.Answers.{Gives, IsOfText}, specs.Text.{front, is_empty}};
+ghost use Rattle.yq_core.specs.declared.fault.FaultKind.TheVariants.{NotUtf8};
+ghost use Rattle.yq_rows.specs.ReadPieces.{is_plain_kind, filling_view};
+ghost use Rattle.yq_row_table.specs.Slicing.{filled_at};
 ghost use Rattle.yq_rows.specs.Measured as measured;
 ghost use Rattle.yq_core.specs.Scalars as scalars;
 ghost use Rattle.yq_row_table.specs.Slicing as slicing;
-ghost use Rattle.yq_rows.specs.ReadPieces.{is_plain_kind};
-ghost use Rattle.yq_row_table.specs.Slicing.{filled_at};
-ghost use Rattle.yq_rows.specs.ReadPieces.{filling_view};
-ghost use Rattle.yq_core.specs.Text.{front, is_empty};
-ghost use Rattle.yq_core.specs.declared.fault.FaultKind.TheVariants.{NotUtf8};
 ghost use Rattle.yq_row_table.specs.Reading as spec;
 
 use crate::fault::{block_fault, fault};

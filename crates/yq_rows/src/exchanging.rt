@@ -1,10 +1,8 @@
 //! Rows and ends of parts that give way to others.
-ghost use Rattle.std.specs.Prelude.{◌≡◌, ◌<◌, ◌≤◌, ◌+◌, ◌^◌, ◌++◌, IfOk, OnOk, OnErr, length, map, drop};
-ghost use Rattle.std.specs.List.{All};
+ghost use Rattle.std.{specs.Prelude.{◌≡◌, ◌<◌, ◌≤◌, ◌+◌, ◌^◌, ◌++◌, IfOk, OnOk, OnErr, length, map, drop}, specs.List.All};
 ghost use Rattle.std.specs.Vec.{vec_capacity, vec_len};
 ghost use Rattle.yq_row_table.specs.Kept.{kept_rows, placed_rows, raised};
-ghost use Rattle.yq_rows.specs.Exchanging.{RowsExchanged, GivesWay, IsMovable, SamePlaces, joined_ends, moved_from};
-ghost use Rattle.yq_rows.specs.Sides.{origin};
+ghost use Rattle.yq_rows.{specs.Exchanging.{RowsExchanged, GivesWay, IsMovable, SamePlaces, joined_ends, moved_from}, specs.Sides.origin};
 
 use crate::Side;
 use crate::session_reading::NewRows;

@@ -1,6 +1,5 @@
 //! A text and the places of its rows that follow a change.
-ghost use Rattle.std.specs.Prelude.{◌≡◌, ◌≤◌, ◌+◌, ◌-◌, OnOk, length, is_ok, if◌then◌else◌};
-ghost use Rattle.std.specs.Str.{IsCharBoundary};
+ghost use Rattle.std.{specs.Prelude.{◌≡◌, ◌≤◌, ◌+◌, ◌-◌, OnOk, length, is_ok, if◌then◌else◌}, specs.Str.IsCharBoundary};
 ghost use Rattle.yq_text.specs.TextGapBuffer.{buffer_text};
 ghost use Rattle.yq_rows.specs.Following.{ArePlacesOf, CountsWritten, Follows, exchanged};
 

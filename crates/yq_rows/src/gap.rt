@@ -1,7 +1,7 @@
 //! Blank lines and comment lines.
 ghost use Rattle.std.specs.Prelude.{◌≡◌, ◌||◌};
-ghost use Rattle.yq_core.specs.Lines as lines;
 ghost use Rattle.yq_core.specs.Text.{front};
+ghost use Rattle.yq_core.specs.Lines as lines;
 ghost use Rattle.yq_core.specs.Nodes as nodes;
 ghost use Rattle.yq_row_table.specs.Reading as spec;
 

@@ -1,6 +1,5 @@
 //! The lengths of rows as they are read.
-ghost use Rattle.std.specs.Prelude.{◌≡◌, ◌<◌, ◌-◌, ◌^◌, length};
-ghost use Rattle.std.specs.Str.{IsUtf8};
+ghost use Rattle.std.{specs.Prelude.{◌≡◌, ◌<◌, ◌-◌, ◌^◌, length}, specs.Str.IsUtf8};
 ghost use Rattle.yq_rows.specs.ReadPieces.{IsSliced, read_slices};
 ghost use Rattle.yq_row_table.specs.Offsets as spec;
 

@@ -1,8 +1,8 @@
 //! What a row asks of the next one.
 ghost use Rattle.std.specs.Prelude.{◌≡◌};
+ghost use Rattle.yq_rows.specs.ReadPieces.{limit_view};
 ghost use Rattle.yq_row_table.specs.Grammar as grammar;
 ghost use Rattle.yq_row_table.specs.Slicing as slicing;
-ghost use Rattle.yq_rows.specs.ReadPieces.{limit_view};
 
 use yq_core::{Place, further_spaces};
 

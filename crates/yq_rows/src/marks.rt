@@ -1,13 +1,10 @@
 //! Dashes and keys.
-ghost use Rattle.std.specs.List.{prefix_len};
-ghost use Rattle.std.specs.Option.{option_map};
-ghost use Rattle.std.specs.Prelude.{◌≡◌, ◌≤◌, ◌==◌, ◌&&◌, ◌+◌, length, nat_le, not, None, if◌then◌else◌};
-ghost use Rattle.std.specs.Str.{chars};
+ghost use Rattle.std.{specs.List.prefix_len, specs.Option.option_map};
+ghost use Rattle.std.{specs.Prelude.{◌≡◌, ◌≤◌, ◌==◌, ◌&&◌, ◌+◌, length, nat_le, not, None, if◌then◌else◌}, specs.Str.chars};
 ghost use Rattle.yq_core.specs.Text.{is_empty};
-ghost use Rattle.yq_row_table.specs.Grammar as grammar;
-ghost use Rattle.yq_row_table.specs.Grammar.{key_limit};
-ghost use Rattle.yq_row_table.specs.Slicing.{begun};
+ghost use Rattle.yq_row_table.{specs.Grammar.key_limit, specs.Slicing.begun};
 ghost use Rattle.yq_rows.specs.ReadPieces.{begin_view, mark_view};
+ghost use Rattle.yq_row_table.specs.Grammar as grammar;
 ghost use Rattle.yq_row_table.specs.Reading as spec;
 ghost use Rattle.yq_row_table.specs.Rows as rows;
 ghost use Rattle.yq_row_table.specs.View as view;

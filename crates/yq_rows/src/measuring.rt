@@ -1,11 +1,10 @@
 //! The ends of inline nodes, found without their trees.
 ghost use Rattle.std.specs.Prelude.{◌≡◌, ◌≢◌, ◌<◌, ◌≤◌, IfErr, IfOk, false, length};
-ghost use Rattle.yq_core.specs.Answers.{ReadsAs};
-ghost use Rattle.yq_core.specs.declared.fault.FaultKind.TheVariants.{NotUtf8};
-ghost use Rattle.yq_rows.specs.Measured as spec;
-ghost use Rattle.yq_rows.specs.Measured.{measured, measured_view, past_node};
-ghost use Rattle.yq_core.specs.PlacedReading as reading;
+ghost use Rattle.yq_core.{specs.Answers.ReadsAs, specs.declared.fault.FaultKind.TheVariants.NotUtf8};
 ghost use Rattle.yq_core.specs.Scalars.{scalar_style as style_at};
+ghost use Rattle.yq_rows.specs.Measured.{measured, measured_view, past_node};
+ghost use Rattle.yq_rows.specs.Measured as spec;
+ghost use Rattle.yq_core.specs.PlacedReading as reading;
 
 use yq_core::{FaultKind, ReadFault, strip};
 use yq_inline::fault::{fault, flow_fault};

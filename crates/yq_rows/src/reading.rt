@@ -1,16 +1,13 @@
 //! Rows, read one behind the other.
 ghost use Rattle.std.specs.Prelude.{◌≡◌, ◌≢◌, ◌<◌, ◌≤◌, ◌+◌, ◌++◌, ◌-◌, ◌^◌, ◌==◌, ◌&&◌, ◌||◌, ℕ, List, not, length, true, IfErr, IfOk};
-ghost use Rattle.yq_core.specs.Answers.{Gives, IsOfText, ReadsAs};
-ghost use Rattle.yq_core.specs.Text;
-ghost use Rattle.yq_core.specs.declared.fault.FaultKind.TheVariants.{NotUtf8};
-ghost use Rattle.yq_row_table.specs.Grammar as grammar;
-ghost use Rattle.yq_row_table.specs.Grammar.{unlimited, ends_part};
-ghost use Rattle.yq_row_table.specs.Kept.{rows_placed};
+ghost use Rattle.yq_core.{specs.Answers.{Gives, IsOfText, ReadsAs}, specs.declared.fault.FaultKind.TheVariants.NotUtf8};
+ghost use Rattle.yq_row_table.{specs.Grammar.{unlimited, ends_part}, specs.Kept.rows_placed};
 ghost use Rattle.yq_row_table.specs.Slicing.{marked_sliced, row_sliced, row_of, rows_sliced};
-ghost use Rattle.yq_rows.specs.ReadPieces.{begin_view, filling_view};
 ghost use Rattle.yq_row_table.specs.Offsets.{Ends, Stand, IsCutIn, offsets_of, rows_in, slices_in};
+ghost use Rattle.yq_rows.specs.ReadPieces.{begin_view, filling_view, limit_view};
+ghost use Rattle.yq_core.specs.Text;
+ghost use Rattle.yq_row_table.specs.Grammar as grammar;
 ghost use Rattle.yq_row_table.specs.Reading as spec;
-ghost use Rattle.yq_rows.specs.ReadPieces.{limit_view};
 
 use crate::content::{Filling, find_tail, read_content};
 use crate::fault::fault;

@@ -1,11 +1,8 @@
 //! Regions of a text: rows and ends of parts between others, read alone.
 ghost use Rattle.std.specs.Prelude.{◌≡◌, ◌<◌, ◌^◌, List, [], Some, length, true};
 ghost use Rattle.yq_core.specs.Answers.{Gives};
-ghost use Rattle.yq_row_table.specs.Items.{Item, items_text, view_of_items};
-ghost use Rattle.yq_row_table.specs.Regions.{IsReadAlone, region_items};
-ghost use Rattle.yq_row_table.specs.Slicing.{read_view};
-ghost use Rattle.yq_row_table.specs.Meter.{count_after, line_count};
-ghost use Rattle.yq_row_table.specs.Reading.{all_parts};
+ghost use Rattle.yq_row_table.{specs.Items.{Item, items_text, view_of_items}, specs.Regions.{IsReadAlone, region_items}};
+ghost use Rattle.yq_row_table.{specs.Slicing.read_view, specs.Meter.{count_after, line_count}, specs.Reading.all_parts};
 
 use crate::meter::{Meter, count_lines};
 use crate::scanning::cut;

@@ -1,9 +1,7 @@
 //! The split of the kept rows of a text, moved to a place in it.
-ghost use Rattle.std.specs.Prelude.{◌≡◌, ◌<◌, ◌≤◌, ◌^◌, OnOk, length, reverse};
-ghost use Rattle.std.specs.List.{All};
+ghost use Rattle.std.{specs.Prelude.{◌≡◌, ◌<◌, ◌≤◌, ◌^◌, OnOk, length, reverse}, specs.List.All};
 ghost use Rattle.yq_text.specs.TextGapBuffer.{buffer_text};
-ghost use Rattle.yq_rows.specs.Following.{IsPlacedIn};
-ghost use Rattle.yq_rows.specs.Sides.{IsSplitAt, LastBefore, FirstFrom, both_sides, first_byte};
+ghost use Rattle.yq_rows.{specs.Following.IsPlacedIn, specs.Sides.{IsSplitAt, LastBefore, FirstFrom, both_sides, first_byte}};
 
 use std::alloc::AllocError;
 use yq_row_table::{Offsets, Places};

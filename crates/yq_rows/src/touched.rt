@@ -1,8 +1,7 @@
 //! The rows and ends of parts that a change touches.
 ghost use Rattle.std.specs.Prelude.{◌≡◌, ◌<◌, ◌≤◌, ◌^◌, ◌||◌, List, ℕ, length, nat_lt};
 ghost use Rattle.yq_row_table.specs.Kept.{kept_rows};
-ghost use Rattle.yq_rows.specs.Exchanging.{TextChange};
-ghost use Rattle.yq_rows.specs.Following.{Follows};
+ghost use Rattle.yq_rows.{specs.Exchanging.TextChange, specs.Following.Follows};
 ghost use Rattle.yq_rows.specs.Sides as spec;
 
 use crate::kept::Kept;

@@ -1,8 +1,6 @@
 //! What a letter or a digit in front tells.
 ghost use Rattle.std.specs.Prelude.{◌≡◌, ◌≢◌, IfErr, false};
-ghost use Rattle.yq_core.specs.Answers.{ReadsAs};
-ghost use Rattle.yq_core.specs.Text.{front};
-ghost use Rattle.yq_core.specs.declared.fault.FaultKind.TheVariants.{NotUtf8};
+ghost use Rattle.yq_core.{specs.Answers.ReadsAs, specs.Text.front, specs.declared.fault.FaultKind.TheVariants.NotUtf8};
 ghost use Rattle.yq_core.specs.Reading as inline;
 ghost use Rattle.yq_row_table.specs.Reading as spec;
 

@@ -1,17 +1,14 @@
 //! Edits of texts, and of files beside their journals.
 ghost use Rattle.std.specs.Prelude.{◌≡◌, ◌≢◌, Some, Ok, IfOk, OnOk, IfErr, IsTrue, IsNone, true, false, length};
-ghost use Rattle.std.specs.FinMap as map;
 ghost use Rattle.std.specs.String.{string_bytes};
 ghost use Rattle.yq_semantics.specs.View.{program_of};
 ghost use Rattle.yq_journal.specs.History.{History};
 ghost use Rattle.yq_text.specs.Splice.{all_done, lengths_done};
-ghost use Rattle.yq_commands.specs.CommandEffects.{edit_effect};
-ghost use Rattle.yq_commands.specs.CommandSteps.{update_cause, update_next};
-ghost use Rattle.yq_commands.specs.Editing.{Refuses, edited, program_edits};
-ghost use Rattle.yq_commands.specs.FileEdits.{HoldsEdited, IsTextEdited};
-ghost use Rattle.yq_history.specs.Effects.{Works};
-ghost use Rattle.yq_history.specs.Faults.{is_failure, is_outer_fault, is_output, failures_after};
+ghost use Rattle.yq_commands.{specs.CommandEffects.edit_effect, specs.CommandSteps.{update_cause, update_next}};
+ghost use Rattle.yq_commands.{specs.Editing.{Refuses, edited, program_edits}, specs.FileEdits.{HoldsEdited, IsTextEdited}};
+ghost use Rattle.yq_history.{specs.Effects.Works, specs.Faults.{is_failure, is_outer_fault, is_output, failures_after}};
 ghost use Rattle.yq_history.specs.Pair.{Arrives, OthersStay, PairAtRest};
+ghost use Rattle.std.specs.FinMap as map;
 
 use std::alloc::Global;
 use yq_commands::{commit, edit_fault, utf8_text};

@@ -1,18 +1,14 @@
 //! Expressions that aren't carried out in place: what they show of a file.
 ghost use Rattle.std.specs.Prelude.{◌≡◌, ◌≢◌, Ok, ℕ, Bool, List, Option, Some, IfErr, IfOk, OnOk, IsTrue, true, false};
-ghost use Rattle.std.specs.FinMap as map;
 ghost use Rattle.std.specs.String.{string_bytes};
-ghost use Rattle.yq_semantics.specs.Program.{is_read};
-ghost use Rattle.yq_semantics.specs.View.{program_of};
+ghost use Rattle.yq_semantics.{specs.Program.is_read, specs.View.program_of};
 ghost use Rattle.yq_journal.specs.History.{History};
-ghost use Rattle.yq_history.specs.Causes.{IsFor};
-ghost use Rattle.yq_commands.specs.CommandEffects.{IsUnparsed, fault_of};
-ghost use Rattle.yq_commands.specs.Editing.{program_in};
+ghost use Rattle.yq_history.{specs.Causes.IsFor, specs.Faults.{is_failure, is_output, failures_after}, specs.Pair.{Arrives, GoodIn}};
+ghost use Rattle.yq_history.specs.Report.{report_by};
+ghost use Rattle.yq_commands.{specs.CommandEffects.{IsUnparsed, fault_of}, specs.Editing.program_in};
 ghost use Rattle.yq_commands.specs.Evaluation.{cause_in, evaluated, of_file, report_in, shows};
 ghost use Rattle.yq_commands.specs.FileEdits.{IsTextEdited, PrintsEdited};
-ghost use Rattle.yq_history.specs.Faults.{is_failure, is_output, failures_after};
-ghost use Rattle.yq_history.specs.Pair.{Arrives, GoodIn};
-ghost use Rattle.yq_history.specs.Report.{report_by};
+ghost use Rattle.std.specs.FinMap as map;
 
 use crate::editing::edit_text;
 use std::alloc::Global;

@@ -1,18 +1,13 @@
 //! One command, carried out over a store.
-ghost use Rattle.std.specs.Prelude.{◌≡◌, ◌≢◌, ℕ, List, Option, Some, IfErr, OnOk, IsTrue, true, false};
-ghost use Rattle.std.specs.FinMap as map;
-ghost use Rattle.std.specs.String.{string_bytes};
+ghost use Rattle.std.{specs.Prelude.{◌≡◌, ◌≢◌, ℕ, List, Option, Some, IfErr, OnOk, IsTrue, true, false}, specs.String.string_bytes};
 ghost use Rattle.yq_journal.specs.History.{History};
-ghost use Rattle.yq_commands.specs.CommandNames.{IsOn, IsNotNamed};
-ghost use Rattle.yq_commands.specs.Editing.{program_in};
+ghost use Rattle.yq_commands.{specs.CommandNames.{IsOn, IsNotNamed}, specs.Editing.program_in};
 ghost use Rattle.yq_commands.specs.CommandEffects.{IsListing, IsUnparsed, OfEffect, expression_fault, fault_of, update_effect};
-ghost use Rattle.yq_commands.specs.FileEdits.{HasEdited, IsFileEdited};
-ghost use Rattle.yq_history.specs.Effects.{Works};
-ghost use Rattle.yq_history.specs.Faults.{is_outer_fault, is_output, failures_after};
-ghost use Rattle.yq_history.specs.Pair.{Arrives, GoodIn, OthersStay};
-ghost use Rattle.yq_commands.specs.Prints.{prints, reads_journal, report_of};
-ghost use Rattle.yq_history.specs.Report.{nothing, report_by};
+ghost use Rattle.yq_commands.{specs.FileEdits.{HasEdited, IsFileEdited}, specs.Prints.{prints, reads_journal, report_of}};
 ghost use Rattle.yq_commands.specs.CommandSteps.{cause_of, next_of, update_cause, update_next};
+ghost use Rattle.yq_history.{specs.Effects.Works, specs.Faults.{is_outer_fault, is_output, failures_after}};
+ghost use Rattle.yq_history.{specs.Pair.{Arrives, GoodIn, OthersStay}, specs.Report.{nothing, report_by}};
+ghost use Rattle.std.specs.FinMap as map;
 
 use crate::editing::edit_from;
 use crate::evaluating::evaluate;

@@ -1,11 +1,12 @@
 //! Lists of commands, carried out over a store.
 ghost use Rattle.std.specs.Prelude.{◌≡◌, ◌≢◌, ◌+◌, ◌-◌, ◌^◌, ◌<◌, ℕ, List, ◌++◌, Option, IfOk, OnErr, IsTrue, All, true, min, length};
 ghost use Rattle.std.specs.List.{list_all};
-ghost use Rattle.std.specs.FinMap as map;
 ghost use Rattle.yq_journal.specs.History.{History};
 ghost use Rattle.yq_commands.specs.CommandNames.{IsNotNamed};
-ghost use Rattle.yq_commands.specs.Lists.{AllOnOrApart, Keeps, Run, RunExactly, Reply, answers_in, printed_in, has_memory, failures_in, output_failures_in};
+ghost use Rattle.yq_commands.specs.Lists.{AllOnOrApart, Keeps, Run, RunExactly, Reply, answers_in, printed_in, has_memory, failures_in};
+ghost use Rattle.yq_commands.specs.Lists.{output_failures_in};
 ghost use Rattle.yq_history.specs.Pair.{GoodIn};
+ghost use Rattle.std.specs.FinMap as map;
 
 use crate::executing::execute;
 use std::alloc::{AllocError, Global};

@@ -1,14 +1,11 @@
 -- The kind of a piece that was given for a text, by its style.
 use Rattle.std.proofs.Common.{◌≡◌, ◌⊎◌, ⊎_elim, inl, inr, ℕ, ◌+◌, ◌-◌, ◌==◌, List, drop, length, take, refl, sym, ap, ◌∙◌, subst, arith}
-use Rattle.std.proofs.Math.Seq.{take-append_seam}
-use Rattle.std.proofs.lemmas.Bool.{cond_both}
-use Rattle.yq_core.specs.Quoted.{IsQuoted, QuotedLines}
-use Rattle.yq_core.specs.declared.piece.Piece.{Piece}
-use Rattle.yq_core.specs.declared.style.Style.{Style}
-use Rattle.yq_core.specs.declared.style.Style.TheVariants as styles
-use Rattle.yq_core.specs.Block as block
+use Rattle.std.{proofs.Math.Seq.take-append_seam, proofs.lemmas.Bool.cond_both}
+use Rattle.yq_core.{specs.Quoted.{IsQuoted, QuotedLines}, specs.declared.piece.Piece.Piece, specs.declared.style.Style.Style}
 use Rattle.yq_core.specs.ScalarPiece.{IsPlainScalar, IsQuotedScalar, IsReadPiece, piece_text}
 use Rattle.yq_core.specs.declared.block_header.BlockStyle.{BlockStyle}
+use Rattle.yq_core.specs.declared.style.Style.TheVariants as styles
+use Rattle.yq_core.specs.Block as block
 use Rattle.yq_core.specs.declared.block_header.BlockStyle.TheVariants as block_styles
 
 -- plain, in quotes, or in a block

@@ -1,8 +1,7 @@
 -- What is added to a text, one behind the other.
-use Rattle.std.proofs.Common.{inl, inr, ◌≡◌, ◌<◌, ℕ, Bool, ◌==◌, List, [], ◌∷◌, ◌++◌, Option, Some, Result, Ok, Err, OnOk, is_ok, if◌then◌else◌, sym, ap, ◌∙◌, append_assoc, arith, encode_utf8}
-use Rattle.std.proofs.lemmas.Bool.{cases_Bool}
-use Rattle.std.proofs.lemmas.Option.{same_Some}
-use Rattle.std.proofs.lemmas.Str.{encode_ascii}
+use Rattle.std.proofs.Common.{inl, inr, ◌≡◌, ◌<◌, ℕ, Bool, ◌==◌, List, [], ◌∷◌, ◌++◌, Option, Some, Result, Ok, Err, OnOk, is_ok}
+use Rattle.std.{proofs.Common.{if◌then◌else◌, sym, ap, ◌∙◌, append_assoc, arith, encode_utf8}, proofs.lemmas.Bool.cases_Bool}
+use Rattle.std.{proofs.lemmas.Option.same_Some, proofs.lemmas.Str.encode_ascii}
 use Rattle.yq_core.specs.Written.{double_by, in_double, letter_of, written_letters}
 
 -- what is added behind what was added

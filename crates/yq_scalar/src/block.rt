@@ -1,13 +1,9 @@
 //! The block scalar at an offset of a text (YAML 1.2.2, section 8.1).
-ghost use Rattle.std.specs.Prelude.{◌≡◌, ◌<◌, ◌≤◌, ◌+◌, ◌^◌, length, drop, true, IfErr, IfOk, Ok};
-ghost use Rattle.std.specs.Str.{IsCharBoundary};
-ghost use Rattle.yq_core.specs.Answers.{ReadsAs};
+ghost use Rattle.std.{specs.Prelude.{◌≡◌, ◌<◌, ◌≤◌, ◌+◌, ◌^◌, length, drop, true, IfErr, IfOk, Ok}, specs.Str.IsCharBoundary};
+ghost use Rattle.yq_core.{specs.Answers.ReadsAs, specs.ScalarPiece.IsReadPiece, specs.Piece.deeper, specs.Text.text_lines};
+ghost use Rattle.yq_core.specs.declared.piece.Piece.{Piece};
 ghost use Rattle.yq_core.specs.Block as spec;
 ghost use Rattle.yq_core.specs.BlockReading as reading;
-ghost use Rattle.yq_core.specs.ScalarPiece.{IsReadPiece};
-ghost use Rattle.yq_core.specs.Piece.{deeper};
-ghost use Rattle.yq_core.specs.Text.{text_lines};
-ghost use Rattle.yq_core.specs.declared.piece.Piece.{Piece};
 
 use yq_core::block_header::{keeps, read_style, read_tail, split_indicators, style_of};
 use yq_core::block_lines::{TextIndent, detect_indent, raw_len};

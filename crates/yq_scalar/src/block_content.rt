@@ -1,12 +1,10 @@
 //! What a block scalar stands for (YAML 1.2.2, sections 8.1.1.2, 8.1.2 and 8.1.3).
-ghost use Rattle.std.specs.Prelude.{◌≡◌, ◌<◌, ◌≤◌, ◌==◌, ◌&&◌, not, ◌++◌, ℤ, length, OnOk, IfOk};
-ghost use Rattle.std.specs.Str.{IsCharBoundary};
+ghost use Rattle.std.{specs.Prelude.{◌≡◌, ◌<◌, ◌≤◌, ◌==◌, ◌&&◌, not, ◌++◌, ℤ, length, OnOk, IfOk}, specs.Str.IsCharBoundary};
 ghost use Rattle.std.specs.String.{string_bytes};
-ghost use Rattle.yq_core.specs.Block.{IsBlockPiece, IsBlockScalar};
+ghost use Rattle.yq_core.{specs.Block.{IsBlockPiece, IsBlockScalar}, specs.Text.{front, is_white, text_lines}};
+ghost use Rattle.yq_core.specs.declared.block_types.LineBefore.TheVariants.{Nothing};
 ghost use Rattle.yq_core.specs.BlockContent as spec;
 ghost use Rattle.yq_core.specs.BlockReading as reading;
-ghost use Rattle.yq_core.specs.Text.{front, is_white, text_lines};
-ghost use Rattle.yq_core.specs.declared.block_types.LineBefore.TheVariants.{Nothing};
 
 use std::alloc::{AllocError, Global};
 use yq_core::block_header::{BlockStyle, Chomping, split_indicators};

@@ -1,17 +1,11 @@
 //! Laws of block scalars, each the contract of a function that does nothing.
-ghost use Rattle.std.specs.Prelude.{◌≡◌, ◌<◌, ◌≤◌, ◌++◌, ◌⊎◌, [], Bool, List, Some, false, true, ℕ};
-ghost use Rattle.std.specs.Str.{IsUtf8};
+ghost use Rattle.std.{specs.Prelude.{◌≡◌, ◌<◌, ◌≤◌, ◌++◌, ◌⊎◌, [], Bool, List, Some, false, true, ℕ}, specs.Str.IsUtf8};
 ghost use Rattle.yq_core.specs.Block.{BlockText, IsBlock, RawLines, block_text, ends_block, is_tail, keeps};
-ghost use Rattle.yq_core.specs.BlockContent.{block_content};
-ghost use Rattle.yq_core.specs.BlockReading.{block_at};
+ghost use Rattle.yq_core.{specs.BlockContent.block_content, specs.BlockReading.block_at};
 ghost use Rattle.yq_core.specs.BlockRepair.{AreGap, is_behind, comment_lines, repair};
-ghost use Rattle.yq_core.specs.BlockWritten.{break_text, ends_with_break, written_block};
-ghost use Rattle.yq_core.specs.Scalar.{ScalarText};
-ghost use Rattle.yq_core.specs.Text.{joined, text_lines};
-ghost use Rattle.yq_core.specs.Writable.{can_write};
-ghost use Rattle.yq_core.specs.declared.block_lines.TextIndent.{TextIndent};
-ghost use Rattle.yq_core.specs.declared.block_types.Break.{Break};
-ghost use Rattle.yq_core.specs.declared.style.Place.TheVariants.{Block};
+ghost use Rattle.yq_core.{specs.BlockWritten.{break_text, ends_with_break, written_block}, specs.Scalar.ScalarText};
+ghost use Rattle.yq_core.{specs.Text.{joined, text_lines}, specs.Writable.can_write, specs.declared.block_lines.TextIndent.TextIndent};
+ghost use Rattle.yq_core.{specs.declared.block_types.Break.Break, specs.declared.style.Place.TheVariants.Block};
 ghost use Rattle.yq_core.specs.declared.style.Style.TheVariants.{Literal};
 
 /// What is read is a block scalar in front of its rest, what is one is read, and a text begins with one

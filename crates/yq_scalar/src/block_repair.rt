@@ -1,8 +1,7 @@
 //! A gap that comes to stand behind a block scalar.
-ghost use Rattle.std.specs.Prelude.{◌≡◌, ◌++◌, [], OnOk, IfOk, if◌then◌else◌};
-ghost use Rattle.std.specs.String.{string_bytes};
-ghost use Rattle.yq_core.specs.BlockRepair as spec;
+ghost use Rattle.std.{specs.Prelude.{◌≡◌, ◌++◌, [], OnOk, IfOk, if◌then◌else◌}, specs.String.string_bytes};
 ghost use Rattle.yq_core.specs.Text.{joined, text_lines};
+ghost use Rattle.yq_core.specs.BlockRepair as spec;
 
 use std::alloc::{AllocError, Global};
 use yq_core::{Piece, behind_spaces, ends_line, is_blank, spaces_len, split_line, split_white};

@@ -1,8 +1,7 @@
 //! A text written as a literal block scalar.
-ghost use Rattle.std.specs.Prelude.{◌≡◌, ◌++◌, ◌-◌, ◌^◌, length, min, OnOk, IfOk};
-ghost use Rattle.std.specs.String.{string_bytes};
-ghost use Rattle.yq_core.specs.BlockWritten as spec;
+ghost use Rattle.std.{specs.Prelude.{◌≡◌, ◌++◌, ◌-◌, ◌^◌, length, min, OnOk, IfOk}, specs.String.string_bytes};
 ghost use Rattle.yq_core.specs.Text.{joined, text_lines};
+ghost use Rattle.yq_core.specs.BlockWritten as spec;
 
 use std::alloc::{AllocError, Global};
 use yq_core::{Break, split_at_break, split_line};

@@ -1,13 +1,10 @@
 //! What the scalar of a piece stands for.
 ghost use Rattle.std.specs.Prelude.{◌≡◌, IfOk, string_bytes, ℕ, ℤ};
-ghost use Rattle.yq_core.specs.Block.{IsBlockPiece};
+ghost use Rattle.yq_core.{specs.Block.IsBlockPiece, specs.Piece.IsPlainPiece, specs.PlainContent.IsPlainLines};
+ghost use Rattle.yq_core.{specs.Quoted.{QuotedLines, quoted_lines_content as content_of}, specs.QuotedPiece.IsQuotedPiece};
+ghost use Rattle.yq_core.specs.declared.style.Place.{Place};
 ghost use Rattle.yq_core.specs.BlockContent as block;
 ghost use Rattle.yq_core.specs.ScalarPiece as spec;
-ghost use Rattle.yq_core.specs.Piece.{IsPlainPiece};
-ghost use Rattle.yq_core.specs.PlainContent.{IsPlainLines};
-ghost use Rattle.yq_core.specs.Quoted.{QuotedLines, quoted_lines_content as content_of};
-ghost use Rattle.yq_core.specs.QuotedPiece.{IsQuotedPiece};
-ghost use Rattle.yq_core.specs.declared.style.Place.{Place};
 
 use crate::block_content::block_content;
 use std::alloc::{AllocError, Global};

@@ -1,13 +1,8 @@
 //! Laws of plain scalars, each the contract of a function that does nothing.
-ghost use Rattle.std.specs.Prelude.{◌≡◌, ◌++◌, Bool, List, Option, Some, false, true, ℕ};
-ghost use Rattle.std.specs.Str.{IsUtf8};
-ghost use Rattle.yq_core.specs.Characters.{is_text};
-ghost use Rattle.yq_core.specs.Plain.{IsPlain, ends_plain, holds_break, is_indicator, plain_at};
-ghost use Rattle.yq_core.specs.Scalar.{IsScalar, ScalarText, plain_of};
-ghost use Rattle.yq_core.specs.Text.{front, is_empty};
-ghost use Rattle.yq_core.specs.Writable.{can_write, in_flow};
-ghost use Rattle.yq_core.specs.declared.style.Place.{Place};
-ghost use Rattle.yq_core.specs.declared.style.Style.TheVariants.{Plain};
+ghost use Rattle.std.{specs.Prelude.{◌≡◌, ◌++◌, Bool, List, Option, Some, false, true, ℕ}, specs.Str.IsUtf8};
+ghost use Rattle.yq_core.{specs.Characters.is_text, specs.Plain.{IsPlain, ends_plain, holds_break, is_indicator, plain_at}};
+ghost use Rattle.yq_core.{specs.Scalar.{IsScalar, ScalarText, plain_of}, specs.Text.{front, is_empty}, specs.Writable.{can_write, in_flow}};
+ghost use Rattle.yq_core.{specs.declared.style.Place.Place, specs.declared.style.Style.TheVariants.Plain};
 
 /// What is read as a plain scalar is one, what is one is read, and a text begins with one at most.
 pub fn one_plain()

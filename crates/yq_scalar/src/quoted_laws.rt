@@ -1,16 +1,8 @@
 //! Laws of quoted scalars and of folded lines, each the contract of a function that does nothing.
-ghost use Rattle.std.specs.List.{list_all};
-ghost use Rattle.std.specs.Prelude.{◌≡◌, ◌==◌, ◌++◌, List, Some, false, true, ℕ};
-ghost use Rattle.std.specs.Str.{IsUtf8, chars};
-ghost use Rattle.yq_core.specs.Characters.{is_text};
-ghost use Rattle.yq_core.specs.ContentReading.{plain_content, quoted_content};
-ghost use Rattle.yq_core.specs.PlainContent.{IsPlainLines};
-ghost use Rattle.yq_core.specs.Quoted.{IsQuoted, QuotedLines, quoted_lines_content};
-ghost use Rattle.yq_core.specs.QuotedReading.{quoted_at};
-ghost use Rattle.yq_core.specs.Plain.{holds_break};
-ghost use Rattle.yq_core.specs.Text.{front};
-ghost use Rattle.yq_core.specs.Writable.{is_single_char};
-ghost use Rattle.yq_core.specs.Written.{double, single};
+ghost use Rattle.std.{specs.List.list_all, specs.Prelude.{◌≡◌, ◌==◌, ◌++◌, List, Some, false, true, ℕ}, specs.Str.{IsUtf8, chars}};
+ghost use Rattle.yq_core.{specs.Characters.is_text, specs.ContentReading.{plain_content, quoted_content}, specs.PlainContent.IsPlainLines};
+ghost use Rattle.yq_core.{specs.Quoted.{IsQuoted, QuotedLines, quoted_lines_content}, specs.QuotedReading.quoted_at};
+ghost use Rattle.yq_core.{specs.Plain.holds_break, specs.Text.front, specs.Writable.is_single_char, specs.Written.{double, single}};
 
 /// What is read as a quoted scalar is one, what is one is read, and a text begins with one at most.
 pub fn one_quoted()

@@ -1,11 +1,8 @@
 //! The quoted scalar at an offset of a text.
-ghost use Rattle.std.specs.Prelude.{◌≡◌, IfErr, IfOk, Ok};
-ghost use Rattle.std.specs.Str.{IsCharBoundary};
-ghost use Rattle.yq_core.specs.Answers.{ReadsAs};
-ghost use Rattle.yq_core.specs.ScalarPiece.{IsReadPiece};
-ghost use Rattle.yq_core.specs.QuotedPiece as spec;
-ghost use Rattle.yq_core.specs.declared.fault.FaultKind.TheVariants.{BadScalar};
+ghost use Rattle.std.{specs.Prelude.{◌≡◌, IfErr, IfOk, Ok}, specs.Str.IsCharBoundary};
+ghost use Rattle.yq_core.{specs.Answers.ReadsAs, specs.ScalarPiece.IsReadPiece, specs.declared.fault.FaultKind.TheVariants.BadScalar};
 ghost use Rattle.yq_core.specs.declared.piece.Piece.{Piece};
+ghost use Rattle.yq_core.specs.QuotedPiece as spec;
 
 use yq_core::{FaultKind, Piece, Style, inline_piece};
 use yq_scalar_reader::split_quoted;

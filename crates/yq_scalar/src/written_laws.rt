@@ -1,19 +1,12 @@
 //! What is written is read back: laws, each the contract of a function that does nothing. The readers
 //! give each of these pieces, since they give the one piece that there is.
-ghost use Rattle.std.specs.Prelude.{◌≡◌, ◌==◌, ◌≤◌, List, false, true, ℕ, ℤ};
-ghost use Rattle.std.specs.Str.{IsUtf8};
-ghost use Rattle.yq_core.specs.Block.{ends_block, is_tail};
-ghost use Rattle.yq_core.specs.Piece.{deeper, further_spaces};
-ghost use Rattle.yq_core.specs.Plain.{ends_plain};
-ghost use Rattle.yq_core.specs.ReadBack as spec;
-ghost use Rattle.yq_core.specs.Scalar.{IsScalar, ScalarText};
-ghost use Rattle.yq_core.specs.Text.{front, text_lines};
-ghost use Rattle.yq_core.specs.Writable.{can_write, in_flow};
-ghost use Rattle.yq_core.specs.declared.block_lines.TextIndent.{TextIndent};
-ghost use Rattle.yq_core.specs.declared.block_types.Break.{Break};
-ghost use Rattle.yq_core.specs.declared.style.Place.TheVariants.{Block};
-ghost use Rattle.yq_core.specs.declared.style.Place.{Place};
+ghost use Rattle.std.{specs.Prelude.{◌≡◌, ◌==◌, ◌≤◌, List, false, true, ℕ, ℤ}, specs.Str.IsUtf8};
+ghost use Rattle.yq_core.{specs.Block.{ends_block, is_tail}, specs.Piece.{deeper, further_spaces}, specs.Plain.ends_plain};
+ghost use Rattle.yq_core.{specs.Scalar.{IsScalar, ScalarText}, specs.Text.{front, text_lines}, specs.Writable.{can_write, in_flow}};
+ghost use Rattle.yq_core.{specs.declared.block_lines.TextIndent.TextIndent, specs.declared.block_types.Break.Break};
+ghost use Rattle.yq_core.{specs.declared.style.Place.TheVariants.Block, specs.declared.style.Place.Place};
 ghost use Rattle.yq_core.specs.declared.style.Style.TheVariants.{Double, Literal, Plain, Single};
+ghost use Rattle.yq_core.specs.ReadBack as spec;
 
 /// What is written plain, before whatever ends a plain scalar in its place, is one piece there, whose
 /// content is the scalar's text and has the scalar's kind.

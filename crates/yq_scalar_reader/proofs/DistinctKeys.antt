@@ -1,15 +1,12 @@
 -- Distinct keys in another order, and in a sorted list.
-use Rattle.std.proofs.Common.{◌≡◌, ◌≢◌, ℕ, ◌+◌, ◌<◌, ◌⊎◌, List, [], ◌∷◌, map, length, get_or, swap, Bool, true, false, IsPermutation, IsSorted, Bor, Ordering, Less, Equal, Greater, nat_cmp, is_eq, is_lt, bytes_eq, inl, inr, refl, sym, ap, ◌∙◌, arith}
-use Rattle.std.proofs.lemmas.Bool.{cases_eq}
-use Rattle.std.proofs.lemmas.Cmp.{on_total, then_total, nat_cmp_total, nat_list_cmp_total, tied_itself}
-use Rattle.std.specs.Cmp.{IsTotalOrder}
-use Rattle.std.proofs.lemmas.List.{get_or-map, length-map}
-use Rattle.std.proofs.lemmas.List.Edits.{Swapped, swapped_from_swap, length-swap}
+use Rattle.std.proofs.Common.{◌≡◌, ◌≢◌, ℕ, ◌+◌, ◌<◌, ◌⊎◌, List, [], ◌∷◌, map, length, get_or, swap, Bool, true, false, IsPermutation}
+use Rattle.std.proofs.Common.{IsSorted, Bor, Ordering, Less, Equal, Greater, nat_cmp, is_eq, is_lt, bytes_eq, inl, inr, refl, sym, ap, ◌∙◌}
+use Rattle.std.{proofs.Common.arith, proofs.lemmas.Bool.cases_eq}
+use Rattle.std.{proofs.lemmas.Cmp.{on_total, then_total, nat_cmp_total, nat_list_cmp_total, tied_itself}, specs.Cmp.IsTotalOrder}
+use Rattle.std.{proofs.lemmas.List.{get_or-map, length-map}, proofs.lemmas.List.Edits.{Swapped, swapped_from_swap, length-swap}}
 use Rattle.std.proofs.lemmas.List.Sorted.{IsPermutation-keeps, IsPermutation-map, IsPermutation-sym}
-use Rattle.std.proofs.lemmas.Map.Keys.{sorted_from_all_adjacent, Less-from_sorted}
-use Rattle.std.proofs.lemmas.Map.Text.{is_eq-slice_cmp}
-use Rattle.std.proofs.lemmas.Slice.Eq.{bytes_eq-Decides}
-use Rattle.std.specs.Cmp.Lexicographic.{slice_cmp}
+use Rattle.std.{proofs.lemmas.Map.Keys.{sorted_from_all_adjacent, Less-from_sorted}, proofs.lemmas.Map.Text.is_eq-slice_cmp}
+use Rattle.std.{proofs.lemmas.Slice.Eq.bytes_eq-Decides, specs.Cmp.Lexicographic.slice_cmp}
 use Rattle.std.specs.Ordering.{ordering_reverse, ordering_then, on, then_cmp}
 use Rattle.yq_core.specs.Keys.{AreDistinct, DiffersBefore}
 

@@ -1,19 +1,14 @@
 -- The values of ints, as the standard library reads them.
-use Rattle.std.proofs.Common.{◌≡◌, ℕ, ◌<◌, ◌≤◌, ◌^◌, Bool, true, false, cond, eqb, List, [], ◌∷◌, Option, Some, None, Result, Ok, Err, ℤ, pos, negsuc, FitsSigned, refl, sym, ap, ◌∙◌, subst, arith, inl, inr, eqb-true}
-use mir.Syntax.{w64}
-use Rattle.std.specs.Result.{OkIff, result_ok}
-use Rattle.std.specs.Char.{digit_value}
+use Rattle.std.proofs.Common.{◌≡◌, ℕ, ◌<◌, ◌≤◌, ◌^◌, Bool, true, false, cond, eqb, List, [], ◌∷◌, Option, Some, None, Result, Ok, Err, ℤ}
+use Rattle.std.proofs.Common.{pos, negsuc, FitsSigned, refl, sym, ap, ◌∙◌, subst, arith, inl, inr, eqb-true}
+use Rattle.std.{specs.Result.{OkIff, result_ok}, specs.Char.digit_value}
 use Rattle.std.specs.Str.Parse.{IsNumeral, digits_value, ParsesSigned, without_leading_sign, signed_digits_value}
 use Rattle.std.proofs.lemmas.Bool.{false≢true, cases_Bool, and_parts, ltb-true, lt-ltb, ne_eqb}
-use Rattle.std.proofs.lemmas.Str.{IsCharBoundary-after_ascii}
-use Rattle.std.specs.Str.{IsUtf8, IsCharBoundary}
-use Rattle.std.specs.Option.{IfSome}
-use Rattle.yq_core.specs.Answers.{◌>>=◌}
-use Rattle.yq_core.specs.Numbers.{signed, is_i64}
-use Rattle.yq_core.specs.Schema.{IsIntOf}
+use Rattle.std.{proofs.lemmas.Str.IsCharBoundary-after_ascii, specs.Str.{IsUtf8, IsCharBoundary}, specs.Option.IfSome}
+use mir.Syntax.{w64}
+use Rattle.yq_core.{specs.Answers.◌>>=◌, specs.Numbers.{signed, is_i64}, specs.Schema.IsIntOf}
 use Rattle.yq_core.specs.SchemaReading.{past_sign, sign_of, are_digits, has_base, as_i64, based_value, decimal_value, int_number, int_value}
-use Rattle.yq_core.proofs.DigitLaws.{digits_takes, digits_again}
-use Rattle.yq_core.proofs.NumberLaws.{int_takes, int_again}
+use Rattle.yq_core.{proofs.DigitLaws.{digits_takes, digits_again}, proofs.NumberLaws.{int_takes, int_again}}
 
 pair : {A B : Type 0} {a a' : A} {b b' : B} → a ≡ a' → b ≡ b' → ◌≡◌ {A = A × B} (a, b) (a', b')
 pair {a = a} {b' = b'} p q = ap (λ y. (a, y)) q ∙ ap (λ x. (x, b')) p

@@ -1,9 +1,7 @@
 -- Steps of loops over the rests of a text.
 use Rattle.std.proofs.Common.{◌≡◌, ◌≢◌, ℕ, ◌+◌, ◌<◌, ◌≤◌, Bool, true, false, List, [], ◌∷◌, length, get_or, refl, arith}
 use Rattle.std.proofs.lemmas.Bool.{ne_eqb}
-use Rattle.yq_core.specs.ContentReading.{breaks}
-use Rattle.yq_core.specs.PlainText.{no_rest}
-use Rattle.yq_core.proofs.Across.{rest_of, rest_is}
+use Rattle.yq_core.{specs.ContentReading.breaks, specs.PlainText.no_rest, proofs.Across.{rest_of, rest_is}}
 
 pub breaks_feed : (t : List ℕ) → 1 ≤ length t → get_or t 0 0 ≡ 10 → breaks t ≡ 1 + breaks (rest_of t)
 unfolding breaks

@@ -1,10 +1,8 @@
 -- A text without what it begins with, and whether the rest is what stands behind that.
-use Rattle.std.proofs.Common.{◌≡◌, ◌≢◌, ◌<◌, ◌-◌, ℕ, zero, suc, Bool, true, false, eqb, List, [], ◌∷◌, ◌++◌, length, replicate, Option, Some, None, refl, sym, inl, inr, ap, ◌∙◌, arith, eqb-true, bytes_eq}
-use Rattle.std.proofs.lemmas.Bool.{cases_Bool, eq-eqb, ne_eqb}
-use Rattle.std.proofs.lemmas.Slice.Eq.{bytes_eq-Decides}
-use Rattle.std.proofs.Math.Utf8.{encode}
-use Rattle.std.specs.Str.Pattern.{FindsTextPrefix, FindsCharPrefix, StripsPrefix}
-use Rattle.std.specs.Prelude.{MatchOption}
+use Rattle.std.proofs.Common.{◌≡◌, ◌≢◌, ◌<◌, ◌-◌, ℕ, zero, suc, Bool, true, false, eqb, List, [], ◌∷◌, ◌++◌, length, replicate, Option}
+use Rattle.std.proofs.Common.{Some, None, refl, sym, inl, inr, ap, ◌∙◌, arith, eqb-true, bytes_eq}
+use Rattle.std.{proofs.lemmas.Bool.{cases_Bool, eq-eqb, ne_eqb}, proofs.lemmas.Slice.Eq.bytes_eq-Decides, proofs.Math.Utf8.encode}
+use Rattle.std.{specs.Str.Pattern.{FindsTextPrefix, FindsCharPrefix, StripsPrefix}, specs.Prelude.MatchOption}
 use denote.Bor.{Bor}
 use mathlib.Core.List.{tail-eq_of_cons-eq}
 use Rattle.yq_core.specs.ContentReading.{content_on, before_of}

@@ -1,11 +1,9 @@
 -- What bytes of a plain or quoted scalar stand for, one part after the other (own).
-use Rattle.std.specs.Prelude.{◌≡◌, ◌≢◌, ℕ, List, ◌++◌, Bool, false, replicate, encode_utf8, Option, MatchOption}
-use Rattle.std.specs.Str.{bytes_eq}
+use Rattle.std.{specs.Prelude.{◌≡◌, ◌≢◌, ℕ, List, ◌++◌, Bool, false, replicate, encode_utf8, Option, MatchOption}, specs.Str.bytes_eq}
 use denote.Bor.{Bor}
 use Rattle.yq_scalar_reader.specs.declared.folded.Folded.{Folded}
+use Rattle.yq_core.{specs.ContentReading.content_behind, specs.Text.feed}
 use Rattle.yq_scalar_reader.specs.declared.folded.Folded.TheVariants as folded
-use Rattle.yq_core.specs.ContentReading.{content_behind}
-use Rattle.yq_core.specs.Text.{feed}
 
 -- the text that bytes of a scalar stand for (own)
 abbrev pub folded_text : Folded → List ℕ

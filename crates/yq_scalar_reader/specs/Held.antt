@@ -1,10 +1,8 @@
 -- What plain, single-quoted and literal scalars hold as it is (own; a reader may skip it: only clauses inside this crate cite it).
 use Rattle.std.specs.Prelude.{ℕ, Bool, false, ◌&&◌, not, List, [], ◌∷◌}
 use Rattle.yq_scalar_reader.specs.declared.plain_text.Holder.{Holder}
+use Rattle.yq_core.{specs.PlainText.is_plain_char, specs.Text.{is_feed, is_white}, specs.Writable.{is_single_char, is_literal_char}}
 use Rattle.yq_scalar_reader.specs.declared.plain_text.Holder.TheVariants as holders
-use Rattle.yq_core.specs.PlainText.{is_plain_char}
-use Rattle.yq_core.specs.Text.{is_feed, is_white}
-use Rattle.yq_core.specs.Writable.{is_single_char, is_literal_char}
 
 -- a character that stands there as it is (own)
 abbrev pub is_written_as_is : Holder → ℕ → Bool

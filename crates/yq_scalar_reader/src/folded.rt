@@ -1,10 +1,8 @@
 //! What white space, breaks, escapes and other bytes of plain and quoted scalars stand for (YAML 1.2.2, sections 5.7, 6.5 and 7.3).
 ghost use Rattle.std.specs.Prelude.{◌≡◌, ◌++◌, ◌<◌, ◌≤◌, [], length, true, false};
-ghost use Rattle.yq_core.specs.ContentReading as spec;
 ghost use Rattle.yq_scalar_reader.specs.Folded.{folded_text};
-ghost use Rattle.yq_core.specs.Plain.{no_gap};
-ghost use Rattle.yq_core.specs.Text.{upto, cut, is_space};
-ghost use Rattle.yq_core.specs.Quoted.{IsQuotedText};
+ghost use Rattle.yq_core.{specs.Plain.no_gap, specs.Text.{upto, cut, is_space}, specs.Quoted.IsQuotedText};
+ghost use Rattle.yq_core.specs.ContentReading as spec;
 
 use crate::quoted::escape;
 use yq_core::text::{is_break, is_space};

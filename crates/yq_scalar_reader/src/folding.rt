@@ -1,9 +1,8 @@
 //! What plain and quoted scalars stand for (YAML 1.2.2, sections 5.7, 6.5 and 7.3).
 ghost use Rattle.std.specs.Prelude.{◌≡◌, ◌++◌, ◌<◌, ◌≤◌, ℕ, List, length, OnOk, IfOk, string_bytes};
-ghost use Rattle.yq_core.specs.ContentReading as spec;
 ghost use Rattle.yq_scalar_reader.specs.Folded.{folded_text};
-ghost use Rattle.yq_core.specs.PlainContent.{IsPlainLines};
-ghost use Rattle.yq_core.specs.Quoted.{QuotedLines, IsQuoted, IsQuotedText, quoted_lines_content};
+ghost use Rattle.yq_core.{specs.PlainContent.IsPlainLines, specs.Quoted.{QuotedLines, IsQuoted, IsQuotedText, quoted_lines_content}};
+ghost use Rattle.yq_core.specs.ContentReading as spec;
 
 use crate::folded::{Folded, fold_gap, fold_item, inside, split_space};
 use crate::pushing::push_breaks;

@@ -1,7 +1,6 @@
 //! The numbers that ints of the core schema spell.
 ghost use Rattle.std.specs.Prelude.{◌≡◌, ◌≤◌, ℤ, true, Some, IfSome};
-ghost use Rattle.yq_core.specs.Numbers.{is_i64};
-ghost use Rattle.yq_core.specs.Schema.{IsIntOf};
+ghost use Rattle.yq_core.{specs.Numbers.is_i64, specs.Schema.IsIntOf};
 ghost use Rattle.yq_core.specs.SchemaReading as spec;
 
 use yq_core::{are_digits, has_base};

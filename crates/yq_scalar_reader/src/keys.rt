@@ -1,6 +1,5 @@
 //! Whether the keys of one mapping differ.
-ghost use Rattle.std.specs.Prelude.{◌≡◌, ◌<◌, ◌↔◌, length, map, IsTrue, IsSorted};
-ghost use Rattle.std.specs.Ordering.{nat_cmp};
+ghost use Rattle.std.{specs.Prelude.{◌≡◌, ◌<◌, ◌↔◌, length, map, IsTrue, IsSorted}, specs.Ordering.nat_cmp};
 ghost use Rattle.std.specs.Cmp.Lexicographic.{slice_cmp};
 ghost use Rattle.yq_core.specs.Keys.{AreDistinct, DiffersBefore};
 

@@ -1,9 +1,8 @@
 //! Plain scalars (YAML 1.2.2, section 7.3.3).
-ghost use Rattle.std.specs.List.{prefix_len};
-ghost use Rattle.std.specs.Prelude.{◌≡◌, ◌==◌, ◌≤◌, length, true};
+ghost use Rattle.std.{specs.List.prefix_len, specs.Prelude.{◌≡◌, ◌==◌, ◌≤◌, length, true}};
+ghost use Rattle.yq_core.specs.Text.{cut, upto};
 ghost use Rattle.yq_core.specs.Plain as spec;
 ghost use Rattle.yq_core.specs.PlainReading as reading;
-ghost use Rattle.yq_core.specs.Text.{cut, upto};
 
 use yq_core::text::{is_break, is_marker, is_space, separates, whites_len};
 use yq_core::{Run, is_white, run_len, spaces_len};

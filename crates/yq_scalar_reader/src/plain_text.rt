@@ -1,7 +1,5 @@
 //! What may be written plain, on one line.
-ghost use Rattle.std.specs.List.{list_all};
-ghost use Rattle.std.specs.Prelude.{◌≡◌};
-ghost use Rattle.std.specs.Str.{chars};
+ghost use Rattle.std.{specs.List.list_all, specs.Prelude.◌≡◌, specs.Str.chars};
 ghost use Rattle.yq_scalar_reader.specs.Held.{is_written_as_is};
 ghost use Rattle.yq_core.specs.PlainText as spec;
 

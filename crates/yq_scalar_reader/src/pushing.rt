@@ -1,6 +1,5 @@
 //! Breaks and spaces, added many times.
-ghost use Rattle.std.specs.Prelude.{◌≡◌, ◌++◌, replicate, OnOk};
-ghost use Rattle.std.specs.String.{string_bytes};
+ghost use Rattle.std.{specs.Prelude.{◌≡◌, ◌++◌, replicate, OnOk}, specs.String.string_bytes};
 ghost use Rattle.yq_core.specs.Text.{feed};
 
 use std::alloc::AllocError;

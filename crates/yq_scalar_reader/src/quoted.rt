@@ -1,11 +1,9 @@
 //! Quoted scalars (YAML 1.2.2, sections 5.7, 7.3.1 and 7.3.2).
 ghost use Rattle.std.specs.Prelude.{◌≡◌, ◌==◌, ◌++◌, ◌+◌, ◌*◌, ◌<◌, ◌≤◌, length, None, Some, Result, Ok, Err, IfErr, IfOk};
-ghost use Rattle.std.specs.Option.{IfSome, option_map};
-ghost use Rattle.yq_core.specs.Answers.{ReadsAs};
-ghost use Rattle.std.specs.Str.{IsCharBoundary};
-ghost use Rattle.yq_core.specs.Quoted.{letters, beside, IsQuotedText};
-ghost use Rattle.yq_core.specs.QuotedReading as spec;
+ghost use Rattle.std.{specs.Option.{IfSome, option_map}, specs.Str.IsCharBoundary};
+ghost use Rattle.yq_core.{specs.Answers.ReadsAs, specs.Quoted.{letters, beside, IsQuotedText}};
 ghost use Rattle.yq_core.specs.declared.fault.FaultKind.TheVariants.{BadScalar};
+ghost use Rattle.yq_core.specs.QuotedReading as spec;
 
 use yq_core::text::{is_break, is_marker};
 use yq_core::{FaultKind, Run, run_len};

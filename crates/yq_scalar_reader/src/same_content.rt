@@ -1,10 +1,8 @@
 //! Plain and quoted scalars compared with what they may stand for, without memory (YAML 1.2.2, sections 5.7, 6.5 and 7.3).
-ghost use Rattle.std.specs.Prelude.{◌≡◌, ◌<◌, length, replicate, IfSome};
-ghost use Rattle.std.specs.Str.{bytes_eq};
-ghost use Rattle.yq_core.specs.ContentReading as spec;
+ghost use Rattle.std.{specs.Prelude.{◌≡◌, ◌<◌, length, replicate, IfSome}, specs.Str.bytes_eq};
 ghost use Rattle.yq_scalar_reader.specs.Folded.{folded_text, StripsItem, StripsText};
-ghost use Rattle.yq_core.specs.Quoted.{IsQuotedText};
-ghost use Rattle.yq_core.specs.Text.{feed};
+ghost use Rattle.yq_core.{specs.Quoted.IsQuotedText, specs.Text.feed};
+ghost use Rattle.yq_core.specs.ContentReading as spec;
 
 use crate::folded::{Folded, fold_gap, fold_item, inside, split_space};
 

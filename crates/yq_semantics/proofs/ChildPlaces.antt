@@ -1,18 +1,15 @@
 -- From a place to a child, and to all of them.
-use Rattle.std.proofs.Common.{◌≡◌, ◌≢◌, ℕ, suc, ◌+◌, ◌<◌, ◌⊎◌, Bool, true, false, cond, List, [], ◌∷◌, ◌++◌, map, Option, Some, None, option_and_then, refl, sym, ap, subst, ◌∙◌, inl, inr, arith, append-nil}
-use Rattle.std.proofs.lemmas.Bool.{cond-false, cond-true}
-use Rattle.std.proofs.lemmas.Option.{none-some, same_Some}
-use Rattle.yq_core.specs.Tree as tree
+use Rattle.std.proofs.Common.{◌≡◌, ◌≢◌, ℕ, suc, ◌+◌, ◌<◌, ◌⊎◌, Bool, true, false, cond, List, [], ◌∷◌, ◌++◌, map, Option, Some, None}
+use Rattle.std.proofs.Common.{option_and_then, refl, sym, ap, subst, ◌∙◌, inl, inr, arith, append-nil}
+use Rattle.std.{proofs.lemmas.Bool.{cond-false, cond-true}, proofs.lemmas.Option.{none-some, same_Some}}
 use Rattle.yq_core.specs.Tree.{Node, alias, scalar, list, Children, none, child, children_of}
-use Rattle.yq_core.specs.Paths as paths
-use Rattle.yq_core.specs.Paths.{To, Nth, key_is, is_item, is_here, further, child_at, node_at}
-use Rattle.yq_semantics.specs.Program.{PathStep, key, index, each}
-use Rattle.yq_semantics.specs.Places.{step_by, Place, child_place, miss, stepped}
-use Rattle.yq_semantics.specs.PlacesApart.{IsBeforeAll, AreApart, IsIn}
-use Rattle.yq_core.specs.PathOrder.{Diverge}
+use Rattle.yq_core.{specs.Paths.{To, Nth, key_is, is_item, is_here, further, child_at, node_at}, specs.PathOrder.Diverge}
 use Rattle.yq_core.specs.Shapes.{IsNew, AreItems, AreEntries, IsTree, AreTrees}
-use Rattle.yq_semantics.proofs.PathLaws.{bytes_refl, bytes_differ, before_in}
+use Rattle.yq_semantics.{specs.Program.{PathStep, key, index, each}, specs.Places.{step_by, Place, child_place, miss, stepped}}
+use Rattle.yq_semantics.{specs.PlacesApart.{IsBeforeAll, AreApart, IsIn}, proofs.PathLaws.{bytes_refl, bytes_differ, before_in}}
 use Rattle.yq_semantics.proofs.GoodPlaces.{LieIn, AreSound, LeadsInto}
+use Rattle.yq_core.specs.Tree as tree
+use Rattle.yq_core.specs.Paths as paths
 
 -- no place
 pub leads_none : (root : Node) (p : Place) → LeadsInto root p []

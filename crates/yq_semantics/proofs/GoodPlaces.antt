@@ -1,14 +1,10 @@
 -- Places that are apart, and what leads from each of them.
 use Rattle.std.proofs.Common.{◌≡◌, List, [], ◌∷◌, ◌++◌, sym, subst}
-use Rattle.yq_core.specs.Tree.{Node}
-use Rattle.yq_core.specs.Paths as paths
-use Rattle.yq_semantics.specs.Judgement.{Judgement, and_then, gives}
-use Rattle.yq_semantics.specs.Places.{Place, for_each}
-use Rattle.yq_semantics.specs.PlacesApart.{IsBeforeAll, AreApart, IsIn}
-use Rattle.yq_core.specs.PathOrder.{Before}
-use Rattle.yq_core.specs.Shapes.{IsTree}
-use Rattle.yq_semantics.proofs.JudgementLaws.{then_gives, gives_same}
+use Rattle.yq_core.{specs.Tree.Node, specs.PathOrder.Before, specs.Shapes.IsTree}
+use Rattle.yq_semantics.{specs.Judgement.{Judgement, and_then, gives}, specs.Places.{Place, for_each}}
+use Rattle.yq_semantics.{specs.PlacesApart.{IsBeforeAll, AreApart, IsIn}, proofs.JudgementLaws.{then_gives, gives_same}}
 use Rattle.yq_semantics.proofs.PathLaws.{before_right, before_left}
+use Rattle.yq_core.specs.Paths as paths
 
 -- a place is at another one, or lies in it
 abbrev pub LiesIn : List paths.Step → Place → Type 0

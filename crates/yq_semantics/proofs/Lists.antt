@@ -1,6 +1,6 @@
 -- Lists of which each element is seen as another, or tested.
-use Rattle.std.proofs.Common.{◌≡◌, ℕ, suc, ◌+◌, ◌<◌, ◌≤◌, Bool, true, false, ◌&&◌, ◌||◌, List, [], ◌∷◌, ◌++◌, length, map, drop, get_or, reverse, refl, sym, ap, ◌∙◌, add-one, drop-cons}
-use Rattle.std.proofs.lemmas.List.{map_push, reverse-append, drop_all}
+use Rattle.std.proofs.Common.{◌≡◌, ℕ, suc, ◌+◌, ◌<◌, ◌≤◌, Bool, true, false, ◌&&◌, ◌||◌, List, [], ◌∷◌, ◌++◌, length, map, drop, get_or}
+use Rattle.std.{proofs.Common.{reverse, refl, sym, ap, ◌∙◌, add-one, drop-cons}, proofs.lemmas.List.{map_push, reverse-append, drop_all}}
 use Rattle.std.specs.List.{list_all, list_any}
 
 pub list_all_map : {X Y : Type 0} (p : Y → Bool) (f : X → Y) (xs : List X) → list_all p (map f xs) ≡ list_all (λ x. p (f x)) xs

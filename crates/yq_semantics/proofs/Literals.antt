@@ -1,17 +1,14 @@
 -- Literals are trees without anchors and aliases, which nest so far and no further.
 use Rattle.std.proofs.Common.{◌≡◌, ◌≢◌, ℕ, zero, suc, ◌≤◌, List, [], ◌∷◌, ◌++◌, map, None, refl, subst, sym, inl, inr, arith, rules}
-use Rattle.std.proofs.lemmas.Option.{same_Some}
-use Rattle.std.specs.List.{All}
-use Rattle.std.specs.Prelude.{⊤, codes}
-use Rattle.yq_core.specs.Keys.{AreDistinct, depth, deepest}
-use Rattle.yq_core.specs.Shapes.{IsNew, AreItems, AreEntries, IsTree, AreTrees}
-use Rattle.yq_core.specs.Tree as tree
-use Rattle.yq_core.specs.Tree.{Label, Node, list, Children, none, child}
-use Rattle.yq_core.specs.Anchors.{names_of, names_in}
-use Rattle.yq_semantics.specs.Program.{Term, literal, found, Update, assign, delete, comment, Program, read, updates, IsValue, SumHolds, UpdatesHold, LiteralsHold}
-use Rattle.yq_semantics.specs.Tokens.{Token}
+use Rattle.std.{proofs.lemmas.Option.same_Some, specs.List.All, specs.Prelude.{⊤, codes}}
+use Rattle.yq_core.{specs.Keys.{AreDistinct, depth, deepest}, specs.Shapes.{IsNew, AreItems, AreEntries, IsTree, AreTrees}}
+use Rattle.yq_core.{specs.Tree.{Label, Node, list, Children, none, child}, specs.Anchors.{names_of, names_in}}
 use Rattle.yq_core.specs.Values.{items, entries}
-use Rattle.yq_semantics.specs.Grammar.{Production, Are, Behind, AreParted, AreListed, IsField, IsScalarNode, IsLiteral, literal_depth, IsTerm, IsUpdate, IsProgram}
+use Rattle.yq_semantics.specs.Program.{Term, literal, found, Update, assign, delete, comment, Program, read, updates, IsValue, SumHolds}
+use Rattle.yq_semantics.{specs.Program.{UpdatesHold, LiteralsHold}, specs.Tokens.Token}
+use Rattle.yq_semantics.specs.Grammar.{Production, Are, Behind, AreParted, AreListed, IsField, IsScalarNode, IsLiteral, literal_depth}
+use Rattle.yq_semantics.specs.Grammar.{IsTerm, IsUpdate, IsProgram}
+use Rattle.yq_core.specs.Tree as tree
 
 -- a fact of each element
 abbrev Each : {A : Type 0} → (A → Type 0) → List A → Type 0

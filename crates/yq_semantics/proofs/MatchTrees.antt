@@ -1,27 +1,17 @@
 -- Matches of documents that are ready: trees with no more collections nested than in these.
-use Rattle.std.proofs.Common.{◌≡◌, ◌≤◌, ℕ, suc, Bool, true, false, cond, List, [], ◌∷◌, ◌++◌, max, Option, Some, None, option_and_then, Result, Ok, Err, IfOk, slice_get, refl, subst, arith, rules}
-use Rattle.std.proofs.lemmas.Option.{none-some, same_Some}
-use Rattle.yq_core.specs.Keys.{depth, deepest}
-use Rattle.yq_core.specs.Paths as paths
-use Rattle.yq_core.specs.Paths.{is_here, further, child_at, node_at}
-use Rattle.yq_core.specs.Shapes.{IsTree}
-use Rattle.yq_core.specs.Tree as tree
-use Rattle.yq_core.specs.Tree.{Node, alias, scalar, list, Children, none, child, children_of}
-use Rattle.yq_core.specs.Values.{items, entries}
+use Rattle.std.proofs.Common.{◌≡◌, ◌≤◌, ℕ, suc, Bool, true, false, cond, List, [], ◌∷◌, ◌++◌, max, Option, Some, None, option_and_then}
+use Rattle.std.{proofs.Common.{Result, Ok, Err, IfOk, slice_get, refl, subst, arith, rules}, proofs.lemmas.Option.{none-some, same_Some}}
+use Rattle.yq_core.{specs.Keys.{depth, deepest}, specs.Paths.{is_here, further, child_at, node_at}, specs.Shapes.IsTree}
+use Rattle.yq_core.{specs.Tree.{Node, alias, scalar, list, Children, none, child, children_of}, specs.Values.{items, entries}}
 use Rattle.yq_documents.specs.Documents.{Document}
 use Rattle.yq_semantics.specs.Copies.{and_others, keyed, copy, item_copies, entry_copies, match_at, matches_in, matches_from, matches}
-use Rattle.yq_semantics.specs.Judgement.{Judges, gives}
-use Rattle.yq_semantics.specs.MatchTrees.{IsMatch, AreMatches}
-use Rattle.yq_semantics.specs.Pipes.{places}
-use Rattle.yq_semantics.specs.Places.{Place, for_each}
-use Rattle.yq_semantics.specs.PlacesApart.{IsIn}
-use Rattle.yq_semantics.specs.Program.{Stage, PathStep}
-use Rattle.yq_semantics.specs.declared.expr_error.ExprError.{ExprError}
-use Rattle.yq_semantics.proofs.JudgementLaws.{then_gives, gives_same}
-use Rattle.yq_semantics.proofs.GoodPlaces.{AreSound}
-use Rattle.yq_semantics.proofs.updates.PipePlaces.{places_apart}
-use Rattle.yq_semantics.proofs.updates.Pure.{copy_pure}
+use Rattle.yq_semantics.{specs.Judgement.{Judges, gives}, specs.MatchTrees.{IsMatch, AreMatches}, specs.Pipes.places}
+use Rattle.yq_semantics.{specs.Places.{Place, for_each}, specs.PlacesApart.IsIn, specs.Program.{Stage, PathStep}}
+use Rattle.yq_semantics.{specs.declared.expr_error.ExprError.ExprError, proofs.JudgementLaws.{then_gives, gives_same}}
+use Rattle.yq_semantics.{proofs.GoodPlaces.AreSound, proofs.updates.PipePlaces.places_apart, proofs.updates.Pure.copy_pure}
 use Rattle.yq_semantics.proofs.updates.Each.{joined_gives}
+use Rattle.yq_core.specs.Paths as paths
+use Rattle.yq_core.specs.Tree as tree
 
 -- ---- how deep collections are nested below a node
 

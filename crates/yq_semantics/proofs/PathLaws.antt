@@ -1,11 +1,9 @@
 -- Steps and paths that are the same, and those that part.
 use Rattle.std.proofs.Common.{◌≡◌, ◌≢◌, ℕ, true, false, List, [], ◌∷◌, ◌++◌, refl, sym, ap, subst, ◌∙◌, inl, inr, arith, append-nil}
-use Rattle.yq_core.specs.Paths.{To, Nth, Step}
-use Rattle.yq_semantics.specs.NodeEdits.{same_step}
-use Rattle.yq_core.specs.PathOrder.{Diverge, Before, Apart}
-use Rattle.std.proofs.lemmas.Bool.{ne_eqb, eq-eqb, false_from_ne_true, false≢true}
-use Rattle.std.specs.Str.{bytes_eq}
+use Rattle.std.{proofs.lemmas.Bool.{ne_eqb, eq-eqb, false_from_ne_true, false≢true}, specs.Str.bytes_eq}
 use Rattle.std.proofs.lemmas.Slice.Eq.{bytes_eq-Decides}
+use Rattle.yq_core.{specs.Paths.{To, Nth, Step}, specs.PathOrder.{Diverge, Before, Apart}}
+use Rattle.yq_semantics.specs.NodeEdits.{same_step}
 
 pub bytes_refl : (k : List ℕ) → bytes_eq k k ≡ true
 bytes_refl k = (bytes_eq-Decides k k).1 refl

@@ -1,12 +1,7 @@
 -- The documents of a text that reads are ready, with the room that the text has.
-use Rattle.std.proofs.Common.{◌≡◌, ℕ, zero, suc, ◌+◌, List, [], ◌∷◌, Some, refl, subst, arith}
-use Rattle.std.specs.List.{slice_get}
-use Rattle.yq_documents.specs.Documents.{Document}
-use Rattle.yq_documents.specs.Reading.{documents_of}
-use Rattle.yq_documents.specs.Ready.{IsReady, TextIsReady}
-use Rattle.yq_semantics.specs.Changes.{Room}
-use Rattle.yq_semantics.specs.Meaning.{AreReady}
-use Rattle.yq_semantics.specs.Rooms.{room_of}
+use Rattle.std.{proofs.Common.{◌≡◌, ℕ, zero, suc, ◌+◌, List, [], ◌∷◌, Some, refl, subst, arith}, specs.List.slice_get}
+use Rattle.yq_documents.{specs.Documents.Document, specs.Reading.documents_of, specs.Ready.{IsReady, TextIsReady}}
+use Rattle.yq_semantics.{specs.Changes.Room, specs.Meaning.AreReady, specs.Rooms.room_of}
 
 ready_from : (rooms : ℕ → Room) (n : ℕ) (docs : List Document) → ((i : ℕ) (d : Document) → slice_get docs i ≡ Some d → IsReady (rooms (n + i)).block d) → AreReady rooms n docs
 ready_from rooms n [] h = tt

@@ -1,11 +1,9 @@
 -- What operations make of documents (own).
 use Rattle.std.specs.Prelude.{ℕ, Bool, List, [], ◌∷◌}
-use Rattle.yq_core.specs.Paths.{relabel_child, remove_child, append_child, within, changed_at}
-use Rattle.yq_core.specs.Tree.{Node, key_label}
+use Rattle.yq_core.{specs.Paths.{relabel_child, remove_child, append_child, within, changed_at}, specs.Tree.{Node, key_label}}
 use Rattle.yq_documents.specs.Documents.{Document}
 use Rattle.yq_documents.specs.TreeEdits.{change_nth, replaced_node, at_end, with_line_comment, with_head_comment, led, with_tree}
-use Rattle.yq_semantics.specs.Changes.{Room}
-use Rattle.yq_semantics.specs.Meaning.{head_comment_lines, line_comment_text}
+use Rattle.yq_semantics.{specs.Changes.Room, specs.Meaning.{head_comment_lines, line_comment_text}}
 use Rattle.yq_semantics.specs.Operations.{Operation, replace, append, remove, line_comment, head_comment}
 
 -- what an operation makes of a root, where a document has such a lead (own)

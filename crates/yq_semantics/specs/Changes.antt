@@ -1,28 +1,21 @@
 -- What an update changes in a document: where, and what there; or the first refusal (yq manual; own).
-use Rattle.std.specs.Prelude.{ℕ, suc, ◌+◌, nat_lt, ◌==◌, Bool, true, false, not, ◌&&◌, ◌||◌, List, [], ◌∷◌, ◌++◌, length, Option, Some, None, is_some, if◌then◌else◌}
-use Rattle.std.specs.List.{list_any, list_all}
-use Rattle.std.specs.Str.{bytes_eq, chars}
-use Rattle.yq_core.specs.Characters.{is_text_char}
-use Rattle.yq_core.specs.Keys.{depth}
-use Rattle.yq_core.specs.declared.style.Place.TheVariants.{FlowKey}
-use Rattle.yq_core.specs.Paths as paths
-use Rattle.yq_core.specs.Paths.{To, child_at, node_at}
-use Rattle.yq_core.specs.Scalar.{string_of}
-use Rattle.yq_core.specs.Tree as tree
-use Rattle.yq_core.specs.Tree.{Node, alias, scalar, list, Children, none, child, children_of, key_label}
-use Rattle.yq_core.specs.Inline.{depth_limit}
-use Rattle.yq_core.specs.NodesWritten.{scalar_text}
+use Rattle.std.specs.Prelude.{ℕ, suc, ◌+◌, nat_lt, ◌==◌, Bool, true, false, not, ◌&&◌, ◌||◌, List, [], ◌∷◌, ◌++◌, length, Option, Some}
+use Rattle.std.{specs.Prelude.{None, is_some, if◌then◌else◌}, specs.List.{list_any, list_all}, specs.Str.{bytes_eq, chars}}
+use Rattle.yq_core.{specs.Characters.is_text_char, specs.Keys.depth, specs.declared.style.Place.TheVariants.FlowKey}
+use Rattle.yq_core.{specs.Paths.{To, child_at, node_at}, specs.Scalar.string_of}
+use Rattle.yq_core.{specs.Tree.{Node, alias, scalar, list, Children, none, child, children_of, key_label}, specs.Inline.depth_limit}
+use Rattle.yq_core.{specs.NodesWritten.scalar_text, specs.Anchors.{Name, Anchors, Refers, names_of, names_in}}
 use Rattle.yq_row_table.specs.Grammar.{key_limit}
-use Rattle.yq_core.specs.Anchors.{Name, Anchors, Refers, names_of, names_in}
 use Rattle.yq_semantics.specs.declared.program.CommentPlace.{CommentPlace}
+use Rattle.yq_semantics.specs.declared.refusal.Refusal.TheVariants.{IndexOutOfRange, ThroughAlias, AnchorInUse, KindMismatch}
+use Rattle.yq_semantics.specs.declared.refusal.Refusal.TheVariants.{NoPlaceForComment, BadCommentText, RootDelete, TooDeep, KeyTooLong}
+use Rattle.yq_semantics.specs.Judgement.{Judgement, and_then, gives, refuses}
+use Rattle.yq_semantics.{specs.Program.{is_index, PathStep, key, index, each, Stage, Update, assign, delete, comment}, specs.Pipes.places}
+use Rattle.yq_semantics.{specs.Places.{Place, root_place, for_each}, specs.RightValues.{is_null, as_items, sum, right_value}}
+use Rattle.yq_core.specs.Paths as paths
+use Rattle.yq_core.specs.Tree as tree
 use Rattle.yq_semantics.specs.declared.program.CommentPlace.TheVariants as comments
 use Rattle.yq_semantics.specs.declared.program.Operator.TheVariants as operator
-use Rattle.yq_semantics.specs.declared.refusal.Refusal.TheVariants.{IndexOutOfRange, ThroughAlias, AnchorInUse, KindMismatch, NoPlaceForComment, BadCommentText, RootDelete, TooDeep, KeyTooLong}
-use Rattle.yq_semantics.specs.Judgement.{Judgement, and_then, gives, refuses}
-use Rattle.yq_semantics.specs.Program.{is_index, PathStep, key, index, each, Stage, Update, assign, delete, comment}
-use Rattle.yq_semantics.specs.Pipes.{places}
-use Rattle.yq_semantics.specs.Places.{Place, root_place, for_each}
-use Rattle.yq_semantics.specs.RightValues.{is_null, as_items, sum, right_value}
 
 -- what a collection gets: one item or entry more, or a new value for a key that it has (own)
 pub data Addition : Type 0 where

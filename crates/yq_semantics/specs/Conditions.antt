@@ -1,18 +1,13 @@
 -- What `select` asks of a place (yq manual; own).
-use Rattle.std.specs.Prelude.{ℕ, ℤ, Bool, true, false, not, List, [], ◌∷◌, Option, Some, None, is_some}
-use Rattle.std.specs.Str.{bytes_eq}
-use Rattle.std.specs.Fmt.{decimal}
-use Rattle.std.specs.Ordering.{int_eq}
-use Rattle.yq_core.specs.declared.kind.Kind.{Kind}
-use Rattle.yq_core.specs.declared.kind.Kind.TheVariants as kinds
-use Rattle.yq_core.specs.Paths.{To, child_at}
-use Rattle.yq_core.specs.SchemaReading.{int_value, is_true_word}
+use Rattle.std.{specs.Prelude.{ℕ, ℤ, Bool, true, false, not, List, [], ◌∷◌, Option, Some, None, is_some}, specs.Str.bytes_eq}
+use Rattle.std.{specs.Fmt.decimal, specs.Ordering.int_eq}
+use Rattle.yq_core.{specs.declared.kind.Kind.Kind, specs.Paths.{To, child_at}, specs.SchemaReading.{int_value, is_true_word}}
 use Rattle.yq_core.specs.Tree.{Node, alias, scalar, list, map}
 use Rattle.yq_outline.specs.Outline.{null_node}
-use Rattle.yq_semantics.specs.declared.refusal.Refusal.TheVariants.{ThroughAlias}
-use Rattle.yq_semantics.specs.Judgement.{Judgement, and_then, gives, refuses}
+use Rattle.yq_semantics.{specs.declared.refusal.Refusal.TheVariants.ThroughAlias, specs.Judgement.{Judgement, and_then, gives, refuses}}
 use Rattle.yq_semantics.specs.Places.{Place, traverse}
 use Rattle.yq_semantics.specs.Program.{PathStep, Operand, value_at, document_index, Condition, compares, has}
+use Rattle.yq_core.specs.declared.kind.Kind.TheVariants as kinds
 
 -- whether two bools are the same (own)
 abbrev pub same_bool : Bool → Bool → Bool

@@ -1,13 +1,9 @@
 -- Copies of what a pipe finds (yq manual; own).
 use Rattle.std.specs.Prelude.{ℕ, suc, List, [], ◌∷◌, ◌++◌, Option, Some, None}
-use Rattle.yq_core.specs.Tree.{Node, alias, scalar, list, map, Children, none, child}
-use Rattle.yq_core.specs.Values.{items, entries}
+use Rattle.yq_core.{specs.Tree.{Node, alias, scalar, list, map, Children, none, child}, specs.Values.{items, entries}}
 use Rattle.yq_documents.specs.Documents.{Document}
-use Rattle.yq_semantics.specs.declared.refusal.Refusal.TheVariants.{ThroughAlias}
-use Rattle.yq_semantics.specs.Conditions.{value_of}
-use Rattle.yq_semantics.specs.Judgement.{Judgement, and_then, gives, refuses}
-use Rattle.yq_semantics.specs.Pipes.{places}
-use Rattle.yq_semantics.specs.Places.{Place, for_each}
+use Rattle.yq_semantics.{specs.declared.refusal.Refusal.TheVariants.ThroughAlias, specs.Conditions.value_of}
+use Rattle.yq_semantics.{specs.Judgement.{Judgement, and_then, gives, refuses}, specs.Pipes.places, specs.Places.{Place, for_each}}
 use Rattle.yq_semantics.specs.Program.{Stage}
 
 -- the key of an entry: each one has a key (own)

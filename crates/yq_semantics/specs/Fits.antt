@@ -1,17 +1,13 @@
 -- Whether operations fit documents: nothing refuses them (own).
 use Rattle.std.specs.Prelude.{◌≡◌, ⊤, ℕ, suc, true, false, List, [], ◌∷◌, length, slice_get, Option, Some, None}
-use Rattle.yq_core.specs.Paths as paths
-use Rattle.yq_core.specs.Paths.{To, child_at, node_at}
-use Rattle.yq_core.specs.Shapes.{IsTree}
-use Rattle.yq_core.specs.Tree as tree
-use Rattle.yq_core.specs.Tree.{Node, list, Children}
-use Rattle.yq_core.specs.Anchors.{names_of}
+use Rattle.yq_core.{specs.Paths.{To, child_at, node_at}, specs.Shapes.IsTree, specs.Tree.{Node, list, Children}, specs.Anchors.names_of}
 use Rattle.yq_documents.specs.Documents.{Document}
-use Rattle.yq_semantics.specs.declared.program.CommentPlace.{CommentPlace}
-use Rattle.yq_semantics.specs.declared.program.CommentPlace.TheVariants as comments
-use Rattle.yq_semantics.specs.After.{op_document, after_op}
+use Rattle.yq_semantics.{specs.declared.program.CommentPlace.CommentPlace, specs.After.{op_document, after_op}}
 use Rattle.yq_semantics.specs.Changes.{Room, is_overlong_key, has_long_key, is_deep, is_used_inside, is_used_in, can_be_comment}
 use Rattle.yq_semantics.specs.Operations.{Operation, replace, append, remove, line_comment, head_comment}
+use Rattle.yq_core.specs.Paths as paths
+use Rattle.yq_core.specs.Tree as tree
+use Rattle.yq_semantics.specs.declared.program.CommentPlace.TheVariants as comments
 
 -- a value may be written below so many collections: it is a tree, whose keys differ in each mapping, its keys are short enough, and it isn't too deep (own)
 abbrev pub IsWritableAt : ℕ → Node → Type 0

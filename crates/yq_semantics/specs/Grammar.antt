@@ -1,17 +1,14 @@
 -- The grammar of expressions. `IsX x ts rest` says that the tokens ts are the form x and then the tokens rest.
 use Rattle.std.specs.Prelude.{◌≡◌, ℕ, zero, suc, ◌⊎◌, Bool, true, false, List, [], ◌∷◌, map, Some, None, codes}
-use Rattle.yq_core.specs.Keys.{AreDistinct}
-use Rattle.yq_core.specs.Scalar.{ScalarText, string_of, plain_of}
-use Rattle.yq_core.specs.SchemaReading.{int_value, is_one_of}
-use Rattle.yq_core.specs.Tree.{Node}
-use Rattle.yq_core.specs.Tree as tree
-use Rattle.yq_semantics.specs.declared.program.Operator.{Operator}
-use Rattle.yq_semantics.specs.declared.program.Operator.TheVariants as operator
-use Rattle.yq_semantics.specs.declared.program.CommentPlace.{CommentPlace}
-use Rattle.yq_semantics.specs.declared.program.CommentPlace.TheVariants as place
-use Rattle.yq_semantics.specs.Program.{PathStep, key, index, each, Operand, value_at, document_index, Condition, compares, has, Stage, path, select, Term, literal, found, Update, assign, delete, comment, Program, read, updates}
+use Rattle.yq_core.{specs.Keys.AreDistinct, specs.Scalar.{ScalarText, string_of, plain_of}, specs.SchemaReading.{int_value, is_one_of}}
+use Rattle.yq_core.{specs.Tree.Node, specs.Values.{items, entries}}
+use Rattle.yq_semantics.{specs.declared.program.Operator.Operator, specs.declared.program.CommentPlace.CommentPlace}
+use Rattle.yq_semantics.specs.Program.{PathStep, key, index, each, Operand, value_at, document_index, Condition, compares, has, Stage, path}
+use Rattle.yq_semantics.specs.Program.{select, Term, literal, found, Update, assign, delete, comment, Program, read, updates}
 use Rattle.yq_semantics.specs.Tokens.{Token, string, number, step, symbol, scalar_words}
-use Rattle.yq_core.specs.Values.{items, entries}
+use Rattle.yq_core.specs.Tree as tree
+use Rattle.yq_semantics.specs.declared.program.Operator.TheVariants as operator
+use Rattle.yq_semantics.specs.declared.program.CommentPlace.TheVariants as place
 
 -- a form: what it says, its tokens with those that follow, and those that follow (own)
 abbrev pub Production : Type 0 → Type 1

@@ -1,8 +1,7 @@
 -- What comes of a program.
 use Rattle.std.specs.Prelude.{◌≡◌, Result, Ok, Err}
-use Rattle.yq_semantics.specs.declared.expr_error.ExprError.{ExprError}
+use Rattle.yq_semantics.{specs.declared.expr_error.ExprError.ExprError, specs.declared.refusal.Refusal.Refusal}
 use Rattle.yq_semantics.specs.declared.expr_error.ExprError.TheVariants as errors
-use Rattle.yq_semantics.specs.declared.refusal.Refusal.{Refusal}
 
 -- something, or a refusal (own)
 pub data Judgement (A : Type 0) : Type 0 where

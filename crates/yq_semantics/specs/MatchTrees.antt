@@ -1,9 +1,6 @@
 -- What each match is, of documents that are ready.
 use Rattle.std.specs.Prelude.{ℕ, ◌≤◌, ⊤, List, [], ◌∷◌}
-use Rattle.yq_core.specs.Keys.{depth}
-use Rattle.yq_core.specs.Shapes.{IsTree}
-use Rattle.yq_core.specs.Tree.{Node}
-use Rattle.yq_core.specs.Inline.{depth_limit}
+use Rattle.yq_core.{specs.Keys.depth, specs.Shapes.IsTree, specs.Tree.Node, specs.Inline.depth_limit}
 
 -- A tree, in which the keys of each mapping differ, with no more collections nested than may be (YAML 1.2.2, section 3.2.1.3; own).
 pub record IsMatch (n : Node) : Type 0 where

@@ -1,14 +1,12 @@
 -- Where a step to a key or an item leads from a node.
 use Rattle.std.specs.Prelude.{ℕ, suc, ◌-◌, nat_lt, ℤ, pos, negsuc, List, Option, None, option_map, if◌then◌else◌}
-use Rattle.yq_core.specs.declared.kind.Kind.{Kind}
-use Rattle.yq_core.specs.declared.kind.Kind.TheVariants as kinds
-use Rattle.yq_core.specs.Paths as paths
-use Rattle.yq_core.specs.Paths.{To, Nth, child_at}
-use Rattle.yq_core.specs.Tree.{Node, alias, scalar, list, map, Children}
+use Rattle.yq_core.{specs.declared.kind.Kind.Kind, specs.Paths.{To, Nth, child_at}, specs.Tree.{Node, alias, scalar, list, map, Children}}
 use Rattle.yq_outline.specs.Counts.{count}
 use Rattle.yq_semantics.specs.declared.refusal.Refusal.{Refusal}
 use Rattle.yq_semantics.specs.declared.refusal.Refusal.TheVariants.{NotAMap, NotASequence, IndexOutOfRange, ThroughAlias}
 use Rattle.yq_semantics.specs.Judgement.{Judgement, and_then, gives, refuses}
+use Rattle.yq_core.specs.declared.kind.Kind.TheVariants as kinds
+use Rattle.yq_core.specs.Paths as paths
 
 -- the item or entry to which a step of the tree leads, with that step, or none (own)
 abbrev pub ChildFound : Type 0

@@ -1,20 +1,16 @@
 -- What an update means: all its changes are made at once (yq manual; own).
 use Rattle.std.specs.Prelude.{◌≡◌, ⊤, ℕ, suc, ◌==◌, Bool, List, [], ◌∷◌, map, Option, Some, None, if◌then◌else◌}
-use Rattle.yq_core.specs.Paths as paths
-use Rattle.yq_core.specs.Paths.{To, change_child, append_child, within}
-use Rattle.yq_core.specs.Shapes.{IsTree}
-use Rattle.yq_core.specs.Tree.{Node, Children, children_of, key_label}
-use Rattle.yq_core.specs.Text.{put_byte}
-use Rattle.yq_documents.specs.Documents.{Document}
-use Rattle.yq_documents.specs.TreeEdits.{replaced_node, led, lead_by, with_tree}
+use Rattle.yq_core.{specs.Paths.{To, change_child, append_child, within}, specs.Shapes.IsTree}
+use Rattle.yq_core.{specs.Tree.{Node, Children, children_of, key_label}, specs.Text.put_byte}
+use Rattle.yq_documents.{specs.Documents.Document, specs.TreeEdits.{replaced_node, led, lead_by, with_tree}}
 use Rattle.yq_semantics.specs.declared.program.CommentPlace.{CommentPlace}
+use Rattle.yq_semantics.specs.Changes.{Addition, appends, overwrites, replaces, adds, sets_comment, Changed, Room, update_changes}
+use Rattle.yq_semantics.{specs.NodeEdits.{NodeEdit, becomes, done_by, at_once}, specs.Judgement.{Judgement, and_then, gives}}
+use Rattle.yq_semantics.specs.Program.{Update}
+use Rattle.yq_core.specs.Paths as paths
 use Rattle.yq_semantics.specs.declared.program.CommentPlace.TheVariants as comments
 use Rattle.yq_semantics.specs.Changes as changes
-use Rattle.yq_semantics.specs.Changes.{Addition, appends, overwrites, replaces, adds, sets_comment, Changed, Room, update_changes}
 use Rattle.yq_semantics.specs.NodeEdits as node_edits
-use Rattle.yq_semantics.specs.NodeEdits.{NodeEdit, becomes, done_by, at_once}
-use Rattle.yq_semantics.specs.Judgement.{Judgement, and_then, gives}
-use Rattle.yq_semantics.specs.Program.{Update}
 
 -- items or entries with an addition (own)
 abbrev pub add_to : Addition → Children → Children

@@ -1,6 +1,5 @@
 -- Changes of several places of a tree, all at once (own).
-use Rattle.std.specs.Prelude.{ℕ, suc, ◌==◌, Bool, true, false, ◌&&◌, List, [], ◌∷◌, Option, Some, None, if◌then◌else◌}
-use Rattle.std.specs.Str.{bytes_eq}
+use Rattle.std.{specs.Prelude.{ℕ, suc, ◌==◌, Bool, true, false, ◌&&◌, List, [], ◌∷◌, Option, Some, None, if◌then◌else◌}, specs.Str.bytes_eq}
 use Rattle.yq_core.specs.Tree.{Label, Node, alias, scalar, list, map, Children, none, child}
 use Rattle.yq_core.specs.Paths.{Step, To, Nth, is_here, further, within}
 use Rattle.yq_documents.specs.TreeEdits.{with_line_comment, with_head_comment}

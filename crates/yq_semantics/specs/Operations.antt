@@ -1,9 +1,7 @@
 -- Operations on documents.
 use Rattle.std.specs.Prelude.{ℕ, List, map, Option, option_map, string_bytes}
-use Rattle.yq_core.specs.Tree.{Node}
-use Rattle.yq_core.specs.Paths.{Step}
+use Rattle.yq_core.{specs.Tree.Node, specs.Paths.Step, specs.Values.value_node}
 use Rattle.yq_documents.specs.Located.{steps_of}
-use Rattle.yq_core.specs.Values.{value_node}
 use Rattle.yq_semantics.specs.declared.op.Op as declared
 
 -- An operation, at the steps of a path in the document of a number: a node is exchanged, appended as an item or as the entry of a key, or removed; or the text

@@ -1,10 +1,8 @@
 -- Where a pipe leads in a document (yq manual; own).
 use Rattle.std.specs.Prelude.{ℕ, Bool, true, false, List, [], ◌∷◌}
 use Rattle.yq_core.specs.Tree.{Node}
-use Rattle.yq_semantics.specs.Conditions.{condition_holds}
-use Rattle.yq_semantics.specs.Judgement.{Judgement, and_then, gives}
-use Rattle.yq_semantics.specs.Places.{Place, root_place, for_each, chained, traverse}
-use Rattle.yq_semantics.specs.Program.{Condition, Stage, path, select}
+use Rattle.yq_semantics.{specs.Conditions.condition_holds, specs.Judgement.{Judgement, and_then, gives}}
+use Rattle.yq_semantics.{specs.Places.{Place, root_place, for_each, chained, traverse}, specs.Program.{Condition, Stage, path, select}}
 
 -- a place, if it is kept (own)
 abbrev pub kept_place : Place → Bool → List Place

@@ -1,10 +1,8 @@
 -- Places of which none lies in another (own).
 use Rattle.std.specs.Prelude.{◌≡◌, ⊤, List, [], ◌∷◌, Some}
-use Rattle.yq_core.specs.PathOrder.{Before}
-use Rattle.yq_core.specs.Paths as paths
-use Rattle.yq_core.specs.Paths.{node_at}
-use Rattle.yq_core.specs.Tree.{Node}
+use Rattle.yq_core.{specs.PathOrder.Before, specs.Paths.node_at, specs.Tree.Node}
 use Rattle.yq_semantics.specs.Places.{Place}
+use Rattle.yq_core.specs.Paths as paths
 
 -- a path stands before each of these places (own)
 abbrev pub IsBeforeAll : List paths.Step → List Place → Type 0

@@ -1,16 +1,15 @@
 -- The operations that carry out an update (own).
 use Rattle.std.specs.Prelude.{ℕ, suc, Bool, true, false, List, [], ◌∷◌, ◌++◌, map, reverse}
-use Rattle.yq_core.specs.Paths as paths
 use Rattle.yq_core.specs.Paths.{To}
 use Rattle.yq_documents.specs.Documents.{Document}
 use Rattle.yq_semantics.specs.declared.program.CommentPlace.{CommentPlace}
-use Rattle.yq_semantics.specs.declared.program.CommentPlace.TheVariants as comments
-use Rattle.yq_semantics.specs.Changes as changes
 use Rattle.yq_semantics.specs.Changes.{Addition, appends, overwrites, replaces, adds, sets_comment, Changed, Room, update_changes}
-use Rattle.yq_semantics.specs.Judgement.{Judgement, and_then, gives}
-use Rattle.yq_semantics.specs.Meaning.{roots_of}
+use Rattle.yq_semantics.{specs.Judgement.{Judgement, and_then, gives}, specs.Meaning.roots_of}
 use Rattle.yq_semantics.specs.Operations.{Operation, replace, append, remove, line_comment, head_comment}
 use Rattle.yq_semantics.specs.Program.{Update, assign, delete, comment}
+use Rattle.yq_core.specs.Paths as paths
+use Rattle.yq_semantics.specs.declared.program.CommentPlace.TheVariants as comments
+use Rattle.yq_semantics.specs.Changes as changes
 
 -- the operation of an addition at a path in the document of that number (own)
 abbrev pub add_op : ℕ → List paths.Step → Addition → Operation

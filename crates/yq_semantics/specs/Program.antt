@@ -1,13 +1,7 @@
 -- Programs: what an expression says, apart from how it is written.
-use Rattle.std.specs.Prelude.{◌≡◌, ℕ, ℤ, ◌≤◌, Bool, true, false, List, [], ◌∷◌, length, slice_get, Option, None, ⊤}
-use Rattle.std.specs.List.{list_all}
-use Rattle.yq_core.specs.declared.kind.Kind.{Kind}
-use Rattle.yq_core.specs.Keys.{depth}
-use Rattle.yq_core.specs.Shapes.{IsTree}
-use Rattle.yq_core.specs.Tree.{Node}
-use Rattle.yq_core.specs.Anchors.{names_of}
-use Rattle.yq_semantics.specs.declared.program.Operator.{Operator}
-use Rattle.yq_semantics.specs.declared.program.CommentPlace.{CommentPlace}
+use Rattle.std.{specs.Prelude.{◌≡◌, ℕ, ℤ, ◌≤◌, Bool, true, false, List, [], ◌∷◌, length, slice_get, Option, None, ⊤}, specs.List.list_all}
+use Rattle.yq_core.{specs.declared.kind.Kind.Kind, specs.Keys.depth, specs.Shapes.IsTree, specs.Tree.Node, specs.Anchors.names_of}
+use Rattle.yq_semantics.{specs.declared.program.Operator.Operator, specs.declared.program.CommentPlace.CommentPlace}
 
 -- a step of a path: to the value of a key, to an item by its index, or to each item or value (own)
 pub data PathStep : Type 0 where

@@ -1,19 +1,14 @@
 -- Right sides of updates: sums of values, which are nodes without anchors, comments and aliases (yq manual; own).
 use Rattle.std.specs.Prelude.{ℕ, ℤ, ◌+ℤ◌, Bool, true, false, List, [], ◌∷◌, ◌++◌, Option, Some, None, is_some, if◌then◌else◌}
 use Rattle.std.specs.Fmt.{signed_decimal}
-use Rattle.yq_core.specs.declared.kind.Kind.{Kind}
-use Rattle.yq_core.specs.declared.kind.Kind.TheVariants as kinds
-use Rattle.yq_core.specs.Numbers.{is_i64}
-use Rattle.yq_core.specs.Paths.{To, child_at, change_child, append_child, append_children}
-use Rattle.yq_core.specs.SchemaReading.{int_value}
+use Rattle.yq_core.{specs.declared.kind.Kind.Kind, specs.Numbers.is_i64}
+use Rattle.yq_core.{specs.Paths.{To, child_at, change_child, append_child, append_children}, specs.SchemaReading.int_value}
 use Rattle.yq_core.specs.Tree.{Node, alias, scalar, list, map, Children, none, child, key_label}
 use Rattle.yq_outline.specs.Outline.{null_node}
 use Rattle.yq_semantics.specs.declared.refusal.Refusal.TheVariants.{NotOneValue, KindMismatch, IntegerRange, FloatArithmetic}
-use Rattle.yq_semantics.specs.Judgement.{Judgement, and_then, gives, refuses}
-use Rattle.yq_semantics.specs.Program.{Term, literal, found}
-use Rattle.yq_semantics.specs.Copies.{copy_at}
-use Rattle.yq_semantics.specs.Pipes.{pipe_on}
-use Rattle.yq_semantics.specs.Places.{Place}
+use Rattle.yq_semantics.{specs.Judgement.{Judgement, and_then, gives, refuses}, specs.Program.{Term, literal, found}, specs.Copies.copy_at}
+use Rattle.yq_semantics.{specs.Pipes.pipe_on, specs.Places.Place}
+use Rattle.yq_core.specs.declared.kind.Kind.TheVariants as kinds
 
 -- whether a node is null (YAML 1.2.2, section 10.2.1.1)
 abbrev pub is_null : Node → Bool

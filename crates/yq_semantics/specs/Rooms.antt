@@ -1,17 +1,11 @@
 -- What a text has room for, document by document (own).
 use Rattle.std.specs.Prelude.{ℕ, List, slice_get, Bool}
-use Rattle.yq_core.specs.Answers.{◌>>=◌}
-use Rattle.yq_core.specs.Paths.{Step}
-use Rattle.yq_documents.specs.declared.path.Part.{Part}
-use Rattle.yq_documents.specs.declared.path.Part.TheVariants.{HeadComment, LineComment}
-use Rattle.yq_documents.specs.Documents.{document_parts}
-use Rattle.yq_documents.specs.Reading.{cut_of, documents_of}
-use Rattle.yq_documents.specs.Ready.{root_is_block, TextIsReady}
+use Rattle.yq_core.{specs.Answers.◌>>=◌, specs.Paths.Step}
+use Rattle.yq_documents.{specs.declared.path.Part.Part, specs.declared.path.Part.TheVariants.{HeadComment, LineComment}}
+use Rattle.yq_documents.{specs.Documents.document_parts, specs.Reading.{cut_of, documents_of}, specs.Ready.{root_is_block, TextIsReady}}
 use Rattle.yq_documents.specs.LinesInRows.{row_line_of, row_line_has_room}
-use Rattle.yq_semantics.specs.declared.program.CommentPlace.{CommentPlace}
+use Rattle.yq_semantics.{specs.declared.program.CommentPlace.CommentPlace, specs.Changes.Room, specs.Meaning.AreReady}
 use Rattle.yq_semantics.specs.declared.program.CommentPlace.TheVariants as comments
-use Rattle.yq_semantics.specs.Changes.{Room}
-use Rattle.yq_semantics.specs.Meaning.{AreReady}
 
 -- the part of an entry or item that a comment is (own)
 abbrev pub comment_part : CommentPlace → Part

@@ -1,13 +1,9 @@
 -- What operations leave of the room that texts have: whether roots are block, and which comments have a place (own).
 use Rattle.std.specs.Prelude.{◌≡◌, ◌≢◌, ◌⊎◌, ⊤, ℕ, List, [], ◌∷◌, slice_get, Some}
-use Rattle.yq_core.specs.Paths.{Step}
-use Rattle.yq_core.specs.Tree.{Node, Children, none, child, children_of}
+use Rattle.yq_core.{specs.Paths.Step, specs.Tree.{Node, Children, none, child, children_of}}
 use Rattle.yq_documents.specs.Documents.{Document}
-use Rattle.yq_semantics.specs.declared.program.CommentPlace.{CommentPlace}
-use Rattle.yq_semantics.specs.After.{op_document, after_op}
-use Rattle.yq_semantics.specs.Changes.{Room}
-use Rattle.yq_semantics.specs.Fits.{IsBelow, AllFit}
-use Rattle.yq_semantics.specs.Operations.{Operation, replace, append, remove, line_comment, head_comment}
+use Rattle.yq_semantics.{specs.declared.program.CommentPlace.CommentPlace, specs.After.{op_document, after_op}, specs.Changes.Room}
+use Rattle.yq_semantics.{specs.Fits.{IsBelow, AllFit}, specs.Operations.{Operation, replace, append, remove, line_comment, head_comment}}
 
 -- there are items or entries (own)
 abbrev pub HasSome : Children → Type 0

@@ -1,10 +1,8 @@
 -- Tokens: the marks, words, names, numbers and strings of an expression.
-use Rattle.std.specs.Prelude.{◌≡◌, ℕ, ◌⊎◌, if◌then◌else◌, Bool, true, false, ◌||◌, ◌&&◌, ◌==◌, List, [], ◌∷◌, ◌++◌, Option, Some, None, is_some, codes}
-use Rattle.std.specs.Char.{is_ascii_digit, is_ascii_alphabetic, is_ascii_alphanumeric}
-use Rattle.std.specs.List.{list_all}
-use Rattle.std.specs.Str.{bytes_eq}
-use Rattle.yq_core.specs.Text.{front, unless}
-use Rattle.yq_core.specs.SchemaReading.{is_one_of}
+use Rattle.std.specs.Prelude.{◌≡◌, ℕ, ◌⊎◌, if◌then◌else◌, Bool, true, false, ◌||◌, ◌&&◌, ◌==◌, List, [], ◌∷◌, ◌++◌, Option, Some, None}
+use Rattle.std.{specs.Prelude.{is_some, codes}, specs.Char.{is_ascii_digit, is_ascii_alphabetic, is_ascii_alphanumeric}}
+use Rattle.std.{specs.List.list_all, specs.Str.bytes_eq}
+use Rattle.yq_core.{specs.Text.{front, unless}, specs.SchemaReading.is_one_of}
 
 -- a token: a string by its content, a number as written, a step `.name` or `."string"` by its key, a mark or
 -- a word of this language, a token that only other expressions have, or a place where no token begins (own)

@@ -1,6 +1,7 @@
 -- The program that a value of the code stands for.
 use Rattle.std.specs.Prelude.{map, string_bytes}
-use Rattle.yq_semantics.specs.Program.{PathStep, key, index, each, Operand, value_at, document_index, Condition, compares, has, Stage, path, select, Term, literal, found, Update, assign, delete, comment, Program, read, updates}
+use Rattle.yq_semantics.specs.Program.{PathStep, key, index, each, Operand, value_at, document_index, Condition, compares, has, Stage, path}
+use Rattle.yq_semantics.specs.Program.{select, Term, literal, found, Update, assign, delete, comment, Program, read, updates}
 use Rattle.yq_core.specs.Values.{value_node}
 use Rattle.yq_semantics.specs.declared.program.PathStep as step
 use Rattle.yq_semantics.specs.declared.program.Operand as operand

@@ -1,24 +1,13 @@
 //! Laws of expressions.
 ghost use Rattle.std.specs.Prelude.{◌≡◌, ℕ, List, [], ◌∷◌};
-ghost use Rattle.yq_core.specs.PathOrder.{Apart};
-ghost use Rattle.yq_core.specs.Paths.{Step as TreeStep, changed_at, node_at};
-ghost use Rattle.yq_core.specs.Shapes.{IsTree};
-ghost use Rattle.yq_core.specs.Tree.{Node};
+ghost use Rattle.yq_core.{specs.PathOrder.Apart, specs.Paths.{Step as TreeStep, changed_at, node_at}, specs.Shapes.IsTree, specs.Tree.Node};
 ghost use Rattle.yq_documents.specs.Documents.{Document};
-ghost use Rattle.yq_semantics.specs.After.{op_document, after_op, all_after};
-ghost use Rattle.yq_semantics.specs.Changes.{Room};
-ghost use Rattle.yq_semantics.specs.Fits.{Fits, AllFit};
-ghost use Rattle.yq_semantics.specs.Judgement.{gives, refuses};
-ghost use Rattle.yq_semantics.specs.Meaning.{AreReady, meaning};
-ghost use Rattle.yq_semantics.specs.Operations.{Operation};
-ghost use Rattle.yq_semantics.specs.Pipes.{places};
-ghost use Rattle.yq_semantics.specs.Places.{Place};
-ghost use Rattle.yq_semantics.specs.PlacesApart.{AreApart, AreIn};
+ghost use Rattle.yq_semantics.{specs.After.{op_document, after_op, all_after}, specs.Changes.Room, specs.Fits.{Fits, AllFit}};
+ghost use Rattle.yq_semantics.{specs.Judgement.{gives, refuses}, specs.Meaning.{AreReady, meaning}, specs.Operations.Operation};
+ghost use Rattle.yq_semantics.{specs.Pipes.places, specs.Places.Place, specs.PlacesApart.{AreApart, AreIn}};
+ghost use Rattle.yq_semantics.{specs.Program.{Stage as PipeStage, Update as Change, UpdatesHold}, specs.Rooms.RoomsAreReady};
+ghost use Rattle.yq_semantics.{specs.RoomsKept.{AlikeFor, LeavesRooms, MayFollow}, specs.declared.refusal.Refusal.Refusal as Why};
 ghost use Rattle.yq_semantics.specs.Plans as plans;
-ghost use Rattle.yq_semantics.specs.Program.{Stage as PipeStage, Update as Change, UpdatesHold};
-ghost use Rattle.yq_semantics.specs.Rooms.{RoomsAreReady};
-ghost use Rattle.yq_semantics.specs.RoomsKept.{AlikeFor, LeavesRooms, MayFollow};
-ghost use Rattle.yq_semantics.specs.declared.refusal.Refusal.{Refusal as Why};
 
 /// The documents of a text that reads are ready for updates, with the room that the text has.
 #[tactic(auto, using(crate::proofs::RoomLaws::rooms_are_ready))]

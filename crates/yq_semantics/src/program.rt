@@ -1,8 +1,7 @@
 //! Programs: what an expression says, as a syntax tree whose literals are values.
-ghost use Rattle.std.specs.List.{list_all};
-ghost use Rattle.std.specs.Prelude.{◌≡◌};
-ghost use Rattle.yq_semantics.specs.Program as spec;
+ghost use Rattle.std.{specs.List.list_all, specs.Prelude.◌≡◌};
 ghost use Rattle.yq_semantics.specs.View.{program_of, program_step};
+ghost use Rattle.yq_semantics.specs.Program as spec;
 
 use std::marker::Model;
 use yq_core::{Scalar, Value};

@@ -1,23 +1,18 @@
 -- The promises of an accepted edit, and what a refused one tells.
-use Rattle.std.proofs.Common.{◌≡◌, ℕ, suc, false, ◌+◌, ◌<◌, ◌≤◌, List, [], ◌∷◌, ◌++◌, length, take, drop, Option, Some, None, Result, Ok, Err}
-use Rattle.std.proofs.Common.{IfOk, IfErr, string_bytes, refl, sym, ap, ◌∙◌, subst, take_all, arith}
+use Rattle.std.proofs.Common.{◌≡◌, ℕ, suc, false, ◌+◌, ◌<◌, ◌≤◌, List, [], ◌∷◌, ◌++◌, length, take, drop, Option, Some, None, Result, Ok}
+use Rattle.std.proofs.Common.{Err, IfOk, IfErr, string_bytes, refl, sym, ap, ◌∙◌, subst, take_all, arith}
 use Rattle.yq_row_table.specs.Rows.{Cut}
-use Rattle.yq_documents.specs.Reading.{documents, read_at}
-use Rattle.yq_documents.proofs.ReadLaws.{read_takes}
+use Rattle.yq_documents.{specs.Reading.{documents, read_at}, proofs.ReadLaws.read_takes}
 use Rattle.yq_semantics.specs.Program.{Program, Update, read, updates, update_at, update_count, is_read}
-use Rattle.yq_text.specs.Splice.{Splice}
-use Rattle.yq_text.specs.declared.edited.Edited.{Edited}
-use Rattle.yq_text.proofs.PlaceInList.{get_some, split_at, take_next}
-use Rattle.yq_edit_laws.specs.Answers.{Edits, EditFails}
-use Rattle.yq_edit_laws.specs.Carried.{updated, program_done, edit_of}
+use Rattle.yq_text.{specs.Splice.Splice, specs.declared.edited.Edited.Edited, proofs.PlaceInList.{get_some, split_at, take_next}}
+use Rattle.yq_edit_laws.{specs.Answers.{Edits, EditFails}, specs.Carried.{updated, program_done, edit_of}}
 use Rattle.yq_edit_laws.specs.Edit.{unreadable, gives, edit_then, by_reading, in_order}
 use Rattle.yq_edit_laws.specs.Theorems.{AreSplices, EditRefused, HasReading, InOrder, IsEdited, IsUpdated, UpdateRefused}
-use Rattle.yq_edit_laws.specs.Valid.{IsStep, UpdateFails, FailsAt, FailsEach}
-use Rattle.yq_edit_laws.specs.declared.edit_error.EditError.{EditError}
-use Rattle.yq_edit_laws.specs.declared.edit_error.EditError.TheVariants as error
+use Rattle.yq_edit_laws.{specs.Valid.{IsStep, UpdateFails, FailsAt, FailsEach}, specs.declared.edit_error.EditError.EditError}
 use Rattle.yq_edit_laws.proofs.OrderLaws.{leads_on, leads_so, leads_give, leads_fail, leads_stop}
-use Rattle.yq_splice.proofs.SpliceLaws.{program_splices}
 use Rattle.yq_edit_laws.proofs.UpdateLaws.{no_reading, unread_updated}
+use Rattle.yq_splice.proofs.SpliceLaws.{program_splices}
+use Rattle.yq_edit_laws.specs.declared.edit_error.EditError.TheVariants as error
 
 pub answer_splices : (r : Result Edited EditError) (p : Program) (t : List ℕ) →
     IfOk r (λ e. IsEdited p t (string_bytes e.text) e.splices.items) → IfOk r (λ e. AreSplices e.splices.items t (string_bytes e.text))

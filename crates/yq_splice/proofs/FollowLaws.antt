@@ -1,53 +1,26 @@
 -- The text and the rows of a session follow an operation that is carried out by segments.
-use Rattle.std.proofs.Common.{◌≡◌, ◌⊎◌, inl, inr, ℕ, ◌-◌, ◌≤◌, Bool, true, false, List, [], ◌∷◌, ◌++◌, length, Some, string_bytes, refl, sym, ap, ◌∙◌, subst, arith, eqb, eqb-true, Vec, vec_len}
-use Rattle.std.proofs.lemmas.Bool.{false≢true}
-use Rattle.std.proofs.lemmas.List.{length-append}
-use Rattle.std.proofs.lemmas.Option.{same_Some}
-use Rattle.std.specs.Str.{IsCharBoundary, IsUtf8}
+use Rattle.std.proofs.Common.{◌≡◌, ◌⊎◌, inl, inr, ℕ, ◌-◌, ◌≤◌, Bool, true, false, List, [], ◌∷◌, ◌++◌, length, Some, string_bytes, refl}
+use Rattle.std.{proofs.Common.{sym, ap, ◌∙◌, subst, arith, eqb, eqb-true, Vec, vec_len}, proofs.lemmas.Bool.false≢true}
+use Rattle.std.{proofs.lemmas.List.length-append, proofs.lemmas.Option.same_Some, specs.Str.{IsCharBoundary, IsUtf8}}
 use Rattle.std.specs.declared.alloc.Global.{Global}
-use Rattle.yq_text.specs.Limit.{text_limit}
-use Rattle.yq_row_table.specs.Grammar.{IsCut}
-use Rattle.yq_row_table.specs.Meter.{count_after, line_count}
-use Rattle.yq_row_table.specs.Rows.{Cut, cut_text}
-use Rattle.yq_row_table.specs.Touched.{TouchesOnly}
-use Rattle.yq_row_table.specs.View.{rows_view}
-use Rattle.yq_row_table.specs.declared.places.Places.{Places}
-use Rattle.yq_row_table.proofs.MeterLaws.{counted_within}
-use Rattle.yq_documents.specs.Documents.{Document, ReadsDocuments}
-use Rattle.yq_documents.specs.Reading.{documents, cut_of, read_at}
-use Rattle.yq_outline.specs.RowWalk.{AreKnown}
-use Rattle.yq_places.specs.RowWalk.{StayKnown}
-use Rattle.yq_outline.specs.declared.line_position.KnownItems.{KnownItems}
-use Rattle.yq_documents.proofs.ReadLaws.{parts_read}
-use Rattle.yq_semantics.specs.Fits.{Fits}
-use Rattle.yq_semantics.specs.Operations.{Operation}
-use Rattle.yq_semantics.specs.Rooms.{room_of}
-use Rattle.yq_text.specs.Changing.{IsChange}
+use Rattle.yq_text.{specs.Limit.text_limit, specs.Changing.IsChange}
 use Rattle.yq_text.specs.Script.{Segment, keep, put, old_text, new_text, AllStay, are_kept, kept_front, kept_back}
-use Rattle.yq_text.specs.Splice.{Splice, all_done}
-use Rattle.yq_text.specs.declared.changed.ChangedMiddle.{ChangedMiddle}
-use Rattle.yq_text.proofs.ChangeLaws.{cut_back, cut_front}
-use Rattle.yq_text.proofs.ScriptLaws.{changes_lead, kept_changes}
-use Rattle.yq_rows.specs.Following.{ArePlacesOf, CountsWritten, Follows, exchanged, read_text}
-use Rattle.yq_rows.specs.declared.kept.Kept.{Kept}
-use Rattle.yq_edits.specs.Edits.{op_edits, or_stay}
-use Rattle.yq_edits.specs.Local.{IsLocalTo}
-use Rattle.yq_edits.specs.Operands.{HasOperand}
-use Rattle.yq_edit_laws.specs.TouchedRanges.{IsLocalEdit}
+use Rattle.yq_text.{specs.Splice.{Splice, all_done}, specs.declared.changed.ChangedMiddle.ChangedMiddle}
+use Rattle.yq_text.{proofs.ChangeLaws.{cut_back, cut_front}, proofs.ScriptLaws.{changes_lead, kept_changes}}
 use Rattle.yq_text.proofs.KeptSegments.{IsBetween, between}
-use Rattle.yq_edit_laws.proofs.NearLaws.{edits_are_near}
-use Rattle.yq_edit_laws.proofs.TouchLaws.{local_touches}
-use Rattle.yq_edit_laws.proofs.TouchedLaws.{near_touched}
-use Rattle.yq_edit_laws.proofs.CutLaws.{cut_read, cut_same, text_read}
-use Rattle.yq_edit_laws.specs.Carried.{carried}
-use Rattle.yq_edit_laws.specs.Edit.{gives}
-use Rattle.yq_splice.specs.Session.{HasPlaces, KnowsItems, Scans}
-use Rattle.yq_edit_laws.specs.Theorems.{IsFitting, IsApplied}
-use Rattle.yq_edit_laws.specs.Valid.{segments_by}
-use Rattle.yq_edit_laws.proofs.ApplyLaws.{fits, applied_by}
-use Rattle.yq_edit_laws.proofs.EditsHold.{edit_is}
-use Rattle.yq_splice.proofs.SessionLaws.{carried_by}
-use Rattle.yq_edit_laws.proofs.TextFaults.{text_utf8}
+use Rattle.yq_row_table.{specs.Grammar.IsCut, specs.Meter.{count_after, line_count}, specs.Rows.{Cut, cut_text}, specs.Touched.TouchesOnly}
+use Rattle.yq_row_table.{specs.View.rows_view, specs.declared.places.Places.Places, proofs.MeterLaws.counted_within}
+use Rattle.yq_documents.{specs.Documents.{Document, ReadsDocuments}, specs.Reading.{documents, cut_of, read_at}, proofs.ReadLaws.parts_read}
+use Rattle.yq_outline.{specs.RowWalk.AreKnown, specs.declared.line_position.KnownItems.KnownItems}
+use Rattle.yq_places.specs.RowWalk.{StayKnown}
+use Rattle.yq_semantics.{specs.Fits.Fits, specs.Operations.Operation, specs.Rooms.room_of}
+use Rattle.yq_rows.{specs.Following.{ArePlacesOf, CountsWritten, Follows, exchanged, read_text}, specs.declared.kept.Kept.Kept}
+use Rattle.yq_edits.{specs.Edits.{op_edits, or_stay}, specs.Local.IsLocalTo, specs.Operands.HasOperand}
+use Rattle.yq_edit_laws.{specs.TouchedRanges.IsLocalEdit, proofs.NearLaws.edits_are_near, proofs.TouchLaws.local_touches}
+use Rattle.yq_edit_laws.{proofs.TouchedLaws.near_touched, proofs.CutLaws.{cut_read, cut_same, text_read}, specs.Carried.carried}
+use Rattle.yq_edit_laws.{specs.Edit.gives, specs.Theorems.{IsFitting, IsApplied}, specs.Valid.segments_by}
+use Rattle.yq_edit_laws.{proofs.ApplyLaws.{fits, applied_by}, proofs.EditsHold.edit_is, proofs.TextFaults.text_utf8}
+use Rattle.yq_splice.{specs.Session.{HasPlaces, KnowsItems, Scans}, proofs.SessionLaws.carried_by}
 
 -- ---- whether there are splices, by their number
 

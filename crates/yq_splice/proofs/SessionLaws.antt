@@ -1,40 +1,23 @@
 -- A text with its cut, which a session keeps, and what is borrowed of it.
-use Rattle.std.proofs.Common.{◌≡◌, ℕ, ◌-◌, Bool, true, false, cond, ltb, List, [], ◌∷◌, ◌++◌, length, take, drop, Some, refl, sym, ap, ◌∙◌, subst, arith, append-nil}
-use Rattle.std.proofs.lemmas.Bool.{le-ltb}
-use Rattle.std.proofs.lemmas.List.{length-take-le, take-append-drop}
+use Rattle.std.proofs.Common.{◌≡◌, ℕ, ◌-◌, Bool, true, false, cond, ltb, List, [], ◌∷◌, ◌++◌, length, take, drop, Some, refl, sym, ap, ◌∙◌}
+use Rattle.std.{proofs.Common.{subst, arith, append-nil}, proofs.lemmas.Bool.le-ltb, proofs.lemmas.List.{length-take-le, take-append-drop}}
 use Rattle.std.specs.Str.{IsCharBoundary, IsUtf8, is_utf8}
-use Rattle.yq_text.specs.Halves.{whole}
-use Rattle.yq_text.specs.TextGapBuffer.{TextGapView, buffer_text}
-use Rattle.yq_text.specs.declared.halves.Halves.{Halves}
-use Rattle.yq_core.specs.declared.fault.ReadError.{ReadError}
-use Rattle.yq_core.specs.declared.fault.ReadError.TheVariants as reading
-use Rattle.yq_core.proofs.Bools.{guard_then}
-use Rattle.yq_row_table.specs.Grammar.{IsCut}
-use Rattle.yq_row_table.specs.Items.{Item, items_of_cut, items_text}
-use Rattle.yq_row_table.specs.Kept.{IsPlaced}
-use Rattle.yq_row_table.specs.Rows.{Cut}
-use Rattle.yq_row_table.specs.Touched.{TouchesOnly, in_back, in_front, item_text}
-use Rattle.yq_row_table.specs.View.{RowsView, rows_view}
-use Rattle.yq_row_table.specs.declared.places.Places.{Places}
-use Rattle.yq_row_table.proofs.PlacedLaws.{split_boundary}
-use Rattle.yq_documents.specs.Reading.{all_documents, documents, cut_of, read_at}
-use Rattle.yq_outline.specs.RowWalk.{AreKnown}
+use Rattle.yq_text.{specs.Halves.whole, specs.TextGapBuffer.{TextGapView, buffer_text}, specs.declared.halves.Halves.Halves}
+use Rattle.yq_text.{specs.Changing.IsChange, specs.Script.new_text, specs.declared.changed.ChangedMiddle.ChangedMiddle}
+use Rattle.yq_core.{specs.declared.fault.ReadError.ReadError, proofs.Bools.guard_then}
+use Rattle.yq_row_table.{specs.Grammar.IsCut, specs.Items.{Item, items_of_cut, items_text}, specs.Kept.IsPlaced, specs.Rows.Cut}
+use Rattle.yq_row_table.{specs.Touched.{TouchesOnly, in_back, in_front, item_text}, specs.View.{RowsView, rows_view}}
+use Rattle.yq_row_table.{specs.declared.places.Places.Places, proofs.PlacedLaws.split_boundary}
+use Rattle.yq_documents.{specs.Reading.{all_documents, documents, cut_of, read_at}, proofs.ReadLaws.{text_takes, read_takes}}
+use Rattle.yq_outline.{specs.RowWalk.AreKnown, specs.declared.line_position.KnownItems.KnownItems}
 use Rattle.yq_places.specs.RowWalk.{HasCut, StayKnown}
-use Rattle.yq_outline.specs.declared.line_position.KnownItems.{KnownItems}
-use Rattle.yq_documents.proofs.ReadLaws.{text_takes, read_takes}
 use Rattle.yq_semantics.specs.Operations.{Operation}
-use Rattle.yq_text.specs.Changing.{IsChange}
-use Rattle.yq_text.specs.Script.{new_text}
-use Rattle.yq_text.specs.declared.changed.ChangedMiddle.{ChangedMiddle}
 use Rattle.yq_rows.specs.Following.{ArePlacesOf}
-use Rattle.yq_edit_laws.proofs.CutLaws.{cut_read, cut_same}
-use Rattle.yq_edit_laws.specs.Carried.{carry_one, carried}
-use Rattle.yq_edit_laws.specs.Edit.{gives, by_reading, exchange_edit}
+use Rattle.yq_edit_laws.{proofs.CutLaws.{cut_read, cut_same}, specs.Carried.{carry_one, carried}}
+use Rattle.yq_edit_laws.{specs.Edit.{gives, by_reading, exchange_edit}, specs.Theorems.HasReading, specs.Valid.segments_by}
+use Rattle.yq_edit_laws.{proofs.TextFaults.{FailsToRead, text_unread}, proofs.UpdateLaws.no_reading}
 use Rattle.yq_splice.specs.Session.{HasPlaces, KnowsItems, NotOpened}
-use Rattle.yq_edit_laws.specs.Theorems.{HasReading}
-use Rattle.yq_edit_laws.specs.Valid.{segments_by}
-use Rattle.yq_edit_laws.proofs.TextFaults.{FailsToRead, text_unread}
-use Rattle.yq_edit_laws.proofs.UpdateLaws.{no_reading}
+use Rattle.yq_core.specs.declared.fault.ReadError.TheVariants as reading
 
 -- ---- a text with its cut
 

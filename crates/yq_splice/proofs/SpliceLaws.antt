@@ -1,13 +1,9 @@
 -- The splices of an edit lead from the old text to the new one.
 use Rattle.std.proofs.Common.{ℕ, ◌+◌, ◌^◌, ◌<◌, ◌≤◌, List, [], ◌∷◌, ◌++◌, length, Some, sym, ap, ◌∙◌, subst, arith}
 use Rattle.std.specs.Prelude.{option_and_then}
-use Rattle.yq_text.specs.Limit.{text_limit}
-use Rattle.yq_semantics.specs.Operations.{Operation}
-use Rattle.yq_semantics.specs.Program.{Program, Update}
-use Rattle.yq_text.specs.Splice.{Splice, all_done, lengths_done}
-use Rattle.yq_text.specs.Script.{Segment, old_text, new_text}
-use Rattle.yq_text.proofs.ScriptLaws.{changes_lead, changes_lengths}
-use Rattle.yq_text.proofs.SpliceLaws.{all_done-append, lengths_done-append}
+use Rattle.yq_text.{specs.Limit.text_limit, specs.Splice.{Splice, all_done, lengths_done}, specs.Script.{Segment, old_text, new_text}}
+use Rattle.yq_text.{proofs.ScriptLaws.{changes_lead, changes_lengths}, proofs.SpliceLaws.{all_done-append, lengths_done-append}}
+use Rattle.yq_semantics.{specs.Operations.Operation, specs.Program.{Program, Update}}
 use Rattle.yq_edit_laws.specs.Theorems.{AreSplices, InOrder, IsApplied, IsEdited, IsUpdated, Leading}
 
 -- splices one list after the other

@@ -1,25 +1,16 @@
 -- What a session is known by, and what an operation applied to it adds to its count.
 use Rattle.std.specs.Prelude.{◌≡◌, ◌≢◌, ◌⊎◌, ⊤, ℕ, ◌+◌, ◌≤◌, List, [], length, Some}
-use Rattle.yq_core.specs.declared.fault.FaultKind.TheVariants.{NotUtf8}
-use Rattle.yq_core.specs.declared.fault.ReadError.{ReadError}
-use Rattle.yq_core.specs.declared.fault.ReadError.TheVariants as reading
-use Rattle.yq_row_table.specs.Kept.{IsPlaced}
-use Rattle.yq_row_table.specs.Meter.{count_after, line_count}
-use Rattle.yq_row_table.specs.Rows.{Cut}
-use Rattle.yq_row_table.specs.Touched.{TouchesOnly}
-use Rattle.yq_row_table.specs.View.{rows_view}
-use Rattle.yq_row_table.specs.declared.places.Places.{Places}
+use Rattle.yq_core.{specs.declared.fault.FaultKind.TheVariants.NotUtf8, specs.declared.fault.ReadError.ReadError}
+use Rattle.yq_row_table.{specs.Kept.IsPlaced, specs.Meter.{count_after, line_count}, specs.Rows.Cut, specs.Touched.TouchesOnly}
+use Rattle.yq_row_table.{specs.View.rows_view, specs.declared.places.Places.Places}
 use Rattle.yq_documents.specs.Reading.{cut_of, read_at}
-use Rattle.yq_outline.specs.RowWalk.{AreKnown}
-use Rattle.yq_outline.specs.declared.line_position.KnownItems.{KnownItems}
+use Rattle.yq_outline.{specs.RowWalk.AreKnown, specs.declared.line_position.KnownItems.KnownItems}
 use Rattle.yq_semantics.specs.Operations.{Operation}
-use Rattle.yq_text.specs.Script.{Segment, kept_front, kept_back, new_text}
-use Rattle.yq_text.specs.Splice.{Splice}
-use Rattle.yq_rows.specs.Following.{read_text}
-use Rattle.yq_rows.specs.declared.kept.Kept.{Kept}
+use Rattle.yq_text.{specs.Script.{Segment, kept_front, kept_back, new_text}, specs.Splice.Splice}
+use Rattle.yq_rows.{specs.Following.read_text, specs.declared.kept.Kept.Kept}
 use Rattle.yq_edits.specs.Edits.{op_edits}
-use Rattle.yq_edit_laws.specs.TouchedRanges.{PutAreTouched}
-use Rattle.yq_edit_laws.specs.Theorems.{HasReading}
+use Rattle.yq_edit_laws.{specs.TouchedRanges.PutAreTouched, specs.Theorems.HasReading}
+use Rattle.yq_core.specs.declared.fault.ReadError.TheVariants as reading
 
 -- What a session is known by: its text, and how many lines were counted (own).
 pub record SessionState : Type 0 where

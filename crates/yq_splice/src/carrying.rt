@@ -2,12 +2,10 @@
 ghost use Rattle.std.specs.Prelude.{◌≡◌, ◌++◌, Some, IfErr, IfOk, IfSome, string_bytes};
 ghost use Rattle.yq_semantics.specs.Operations.{operation_of, operations_of};
 ghost use Rattle.yq_documents.specs.Reading.{cut_of, read_at};
-ghost use Rattle.yq_edit_laws.specs.Answers.{Edits, EditFails};
-ghost use Rattle.yq_edit_laws.specs.Carried as spec;
-ghost use Rattle.yq_edit_laws.specs.Edit.{edit_after, gives};
+ghost use Rattle.yq_edit_laws.{specs.Answers.{Edits, EditFails}, specs.Edit.{edit_after, gives}};
+ghost use Rattle.yq_edit_laws.{specs.Theorems.{IsApplied, IsFitting, OpRefused}, specs.Valid.AreServed};
 ghost use Rattle.yq_splice.specs.Session.{HasPlaces};
-ghost use Rattle.yq_edit_laws.specs.Theorems.{IsApplied, IsFitting, OpRefused};
-ghost use Rattle.yq_edit_laws.specs.Valid.{AreServed};
+ghost use Rattle.yq_edit_laws.specs.Carried as spec;
 
 use crate::session::Session;
 use std::alloc::{AllocError, Global};

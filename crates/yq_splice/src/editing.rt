@@ -1,11 +1,9 @@
 //! Editing: a program carried out on a text.
 ghost use Rattle.std.specs.Prelude.{◌≡◌, ◌++◌, ◌<◌, List, [], Some, IfErr, IfOk, string_bytes};
-ghost use Rattle.yq_semantics.specs.Program.{LiteralsHold, Update, update_at, update_count, updates};
-ghost use Rattle.yq_semantics.specs.View.{program_of};
-ghost use Rattle.yq_edit_laws.specs.Answers.{Edits};
-ghost use Rattle.yq_edit_laws.specs.Carried as spec;
-ghost use Rattle.yq_edit_laws.specs.Theorems.{AreSplices, EditRefused, InOrder, IsEdited};
+ghost use Rattle.yq_semantics.{specs.Program.{LiteralsHold, Update, update_at, update_count, updates}, specs.View.program_of};
+ghost use Rattle.yq_edit_laws.{specs.Answers.Edits, specs.Theorems.{AreSplices, EditRefused, InOrder, IsEdited}};
 ghost use Rattle.yq_edit_laws.specs.Valid.{FailsAt, FailsEach, IsStep};
+ghost use Rattle.yq_edit_laws.specs.Carried as spec;
 
 use crate::{EditError, carry_plan, operands_hold};
 use std::alloc::{AllocError, Global};

@@ -4,15 +4,11 @@ ghost use Rattle.yq_documents.specs.Reading.{cut_of, read_at};
 ghost use Rattle.yq_semantics.specs.Operations.{operation_of};
 ghost use Rattle.yq_row_table.specs.Meter.{count_after, line_count};
 ghost use Rattle.yq_core.specs.Answers.{Gives};
-ghost use Rattle.yq_text.specs.Changing.{IsChange};
-ghost use Rattle.yq_text.specs.Halves.{whole};
+ghost use Rattle.yq_text.{specs.Changing.IsChange, specs.Halves.whole};
 ghost use Rattle.yq_places.specs.RowWalk.{StayKnown};
-ghost use Rattle.yq_edit_laws.specs.Answers.{Edits, EditFails};
-ghost use Rattle.yq_edit_laws.specs.Carried.{carried};
-ghost use Rattle.yq_edit_laws.specs.Edit.{edit_after, gives};
+ghost use Rattle.yq_edit_laws.{specs.Answers.{Edits, EditFails}, specs.Carried.carried, specs.Edit.{edit_after, gives}};
+ghost use Rattle.yq_edit_laws.{specs.Theorems.{HasReading, IsApplied, IsFitting, OpRefused}, specs.Valid.segments_by};
 ghost use Rattle.yq_splice.specs.Session.{HasPlaces, NotOpened, Scans};
-ghost use Rattle.yq_edit_laws.specs.Theorems.{HasReading, IsApplied, IsFitting, OpRefused};
-ghost use Rattle.yq_edit_laws.specs.Valid.{segments_by};
 
 use crate::carrying::edited_behind;
 use std::alloc::Global;

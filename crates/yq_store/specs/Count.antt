@@ -1,8 +1,7 @@
 -- Counts of failures, which stay at their last value (own).
 use Rattle.std.specs.Prelude.{ℕ, ◌+◌, ◌-◌, ◌^◌, min, Result, Ok, Err}
-use Rattle.yq_store.specs.declared.store.FileReadError.{FileReadError}
+use Rattle.yq_store.{specs.declared.store.FileReadError.FileReadError, specs.declared.store.FileWriteError.FileWriteError}
 use Rattle.yq_store.specs.declared.store.FileReadError.TheVariants as read
-use Rattle.yq_store.specs.declared.store.FileWriteError.{FileWriteError}
 use Rattle.yq_store.specs.declared.store.FileWriteError.TheVariants as write
 
 -- one more, up to the last value of 64 bits

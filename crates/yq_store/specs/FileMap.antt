@@ -1,13 +1,8 @@
 -- What a store holds: a finite map from names to the bytes of files (own).
-use Rattle.std.proofs.Common.{◌≡◌, ◌≢◌, ℕ, List, map, String, Vec, Some, cond, true, false, refl, ap, ◌∙◌}
-use Rattle.std.specs.Str.{bytes_eq}
-use Rattle.std.proofs.lemmas.Map.Text.{is_eq-slice_cmp}
-use Rattle.std.proofs.lemmas.Slice.Eq.{bytes_eq-Decides}
-use Rattle.std.specs.Ordering.{nat_cmp}
-use Rattle.std.specs.Cmp.Lexicographic.{slice_cmp, nat_list_cmp_total}
-use Rattle.std.specs.FinMap.{FinMap, from_entries, get, insert, get-insert}
-use Rattle.std.specs.String.{string_bytes}
-use Rattle.std.specs.declared.alloc.Global.{Global}
+use Rattle.std.{proofs.Common.{◌≡◌, ◌≢◌, ℕ, List, map, String, Vec, Some, cond, true, false, refl, ap, ◌∙◌}, specs.Str.bytes_eq}
+use Rattle.std.{proofs.lemmas.Map.Text.is_eq-slice_cmp, proofs.lemmas.Slice.Eq.bytes_eq-Decides, specs.Ordering.nat_cmp}
+use Rattle.std.{specs.Cmp.Lexicographic.{slice_cmp, nat_list_cmp_total}, specs.FinMap.{FinMap, from_entries, get, insert, get-insert}}
+use Rattle.std.{specs.String.string_bytes, specs.declared.alloc.Global.Global}
 
 -- the bytes of files, by the bytes of their names
 abbrev pub FileMap : Type 0

@@ -1,8 +1,7 @@
 //! A store in memory, which can be told to fail.
-ghost use Rattle.std.specs.Prelude.{◌≡◌, true, [], IfOk, OnErr, option_map};
-ghost use Rattle.std.specs.FinMap as map;
-ghost use Rattle.std.specs.String.{string_bytes};
+ghost use Rattle.std.{specs.Prelude.{◌≡◌, true, [], IfOk, OnErr, option_map}, specs.String.string_bytes};
 ghost use Rattle.yq_store.specs.FileMap.{file_bytes};
+ghost use Rattle.std.specs.FinMap as map;
 
 use crate::store::{FileReadError, FileWriteError, Store};
 use std::alloc::Global;

@@ -1,8 +1,7 @@
 //! Stores of named files.
 ghost use Rattle.std.specs.Prelude.{◌≡◌, ◌≢◌, ℕ, List, ◌⊎◌, Bool, IsTrue, IfOk, OnOk, OnErr, IsErrOf, None, Some};
+ghost use Rattle.yq_store.{specs.FileMap.FileMap, specs.Count.{after_read, after_write}};
 ghost use Rattle.std.specs.FinMap as map;
-ghost use Rattle.yq_store.specs.FileMap.{FileMap};
-ghost use Rattle.yq_store.specs.Count.{after_read, after_write};
 
 use std::alloc::Global;
 

@@ -1,9 +1,9 @@
 -- What stands between the segments that are kept at both ends.
-use Rattle.std.proofs.Common.{◌≡◌, ℕ, ◌+◌, Bool, true, false, cond, List, [], ◌∷◌, ◌++◌, length, nat_eq, refl, sym, ap, ◌∙◌, arith, append_assoc, append-nil, length-append, rules}
-use Rattle.std.proofs.lemmas.Bool.{false≢true}
+use Rattle.std.proofs.Common.{◌≡◌, ℕ, ◌+◌, Bool, true, false, cond, List, [], ◌∷◌, ◌++◌, length, nat_eq, refl, sym, ap, ◌∙◌, arith}
+use Rattle.std.{proofs.Common.{append_assoc, append-nil, length-append, rules}, proofs.lemmas.Bool.false≢true}
 use Rattle.yq_text.specs.Splice.{Splice}
-use Rattle.yq_text.specs.Script.{Segment, keep, put, old_text, new_text, keep_before, put_before, merged, splice_at, splices_at, changes_behind, are_kept, kept_front, kept_back, from_first, to_last}
-use Rattle.yq_text.proofs.TouchLaws.{put_twice}
+use Rattle.yq_text.specs.Script.{Segment, keep, put, old_text, new_text, keep_before, put_before, merged, splice_at, splices_at}
+use Rattle.yq_text.{specs.Script.{changes_behind, are_kept, kept_front, kept_back, from_first, to_last}, proofs.TouchLaws.put_twice}
 use Rattle.yq_text.proofs.KeptSegments.{last_kept, new_kept, one_kept}
 
 -- ---- the last one that gives way

@@ -1,13 +1,9 @@
 -- What segments change of their text.
-use Rattle.std.proofs.Common.{◌≡◌, ℕ, ◌+◌, ◌-◌, ◌^◌, ◌<◌, true, false, List, [], ◌++◌, length, take, drop, nat_le, Some, sym, ap, ◌∙◌, subst, arith, append_assoc, length-append, rules}
-use Rattle.std.proofs.Math.Seq.{drop-append_seam, take-append_seam}
-use Rattle.std.proofs.lemmas.Bool.{leb-true}
-use Rattle.std.proofs.lemmas.Str.{IsCharBoundary-from_drop, IsCharBoundary-from_take}
-use Rattle.std.specs.Str.{IsCharBoundary, IsUtf8}
-use Rattle.std.specs.String.{string_bytes}
-use Rattle.yq_text.specs.Limit.{text_limit}
-use Rattle.yq_text.specs.Changing.{IsChange}
-use Rattle.yq_text.specs.Exchanging.{Exchange, gives, too_large, within_limit}
+use Rattle.std.proofs.Common.{◌≡◌, ℕ, ◌+◌, ◌-◌, ◌^◌, ◌<◌, true, false, List, [], ◌++◌, length, take, drop, nat_le, Some, sym, ap, ◌∙◌}
+use Rattle.std.{proofs.Common.{subst, arith, append_assoc, length-append, rules}, proofs.Math.Seq.{drop-append_seam, take-append_seam}}
+use Rattle.std.{proofs.lemmas.Bool.leb-true, proofs.lemmas.Str.{IsCharBoundary-from_drop, IsCharBoundary-from_take}}
+use Rattle.std.{specs.Str.{IsCharBoundary, IsUtf8}, specs.String.string_bytes}
+use Rattle.yq_text.{specs.Limit.text_limit, specs.Changing.IsChange, specs.Exchanging.{Exchange, gives, too_large, within_limit}}
 use Rattle.yq_text.specs.Splice.{Splice}
 use Rattle.yq_text.specs.Script.{Segment, old_text, new_text, changes, changes_behind, are_kept, kept_front, kept_back, from_first, to_last}
 use Rattle.yq_text.specs.declared.changed.ChangedMiddle.{ChangedMiddle}

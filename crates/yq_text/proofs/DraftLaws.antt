@@ -1,12 +1,8 @@
 -- Bytes and splices that are added to what is made so far.
-use Rattle.std.proofs.Common.{◌≡◌, ℕ, Bool, true, false, cond, Err, List, [], ◌∷◌, ◌++◌, length, nat_eq, Ok, Result, sym, ap, ◌∙◌, append_assoc, append-nil}
-use Rattle.std.proofs.lemmas.Bool.{eqb-true}
-use Rattle.std.proofs.lemmas.Result.{on_ok_weaker}
-use Rattle.std.specs.Result.{OnOk}
+use Rattle.std.proofs.Common.{◌≡◌, ℕ, Bool, true, false, cond, Err, List, [], ◌∷◌, ◌++◌, length, nat_eq, Ok, Result, sym, ap, ◌∙◌}
+use Rattle.std.{proofs.Common.{append_assoc, append-nil}, proofs.lemmas.Bool.eqb-true, proofs.lemmas.Result.on_ok_weaker, specs.Result.OnOk}
 use Rattle.std.specs.Str.{bytes_eq}
-use Rattle.yq_text.specs.Script.{splice_at}
-use Rattle.yq_text.specs.Splice.{Splice}
-use Rattle.yq_text.proofs.FirstSegment.{none_long}
+use Rattle.yq_text.{specs.Script.splice_at, specs.Splice.Splice, proofs.FirstSegment.none_long}
 
 -- what holds however it ends holds where it ends well
 pub on_ok : {T E P : Type 0} (r : Result T E) → P → OnOk r P

@@ -1,7 +1,6 @@
 -- Outside its extents an edit keeps each byte, in order.
 use Rattle.std.proofs.Common.{◌≡◌, ℕ, ◌+◌, ◌-◌, ◌≤◌, List, [], ◌∷◌, ◌++◌, length, refl, sym, ap, ◌∙◌, arith, append_assoc, rules}
-use Rattle.std.specs.Prelude.{⊤}
-use Rattle.std.proofs.Math.Seq.{drop-append_seam, take-append-add, drop-append-add}
+use Rattle.std.{specs.Prelude.⊤, proofs.Math.Seq.{drop-append_seam, take-append-add, drop-append-add}}
 use Rattle.yq_text.specs.Script.{Segment, keep, put, old_text, new_text, swapped_segments, kept_text, Extent, extents, outside}
 
 -- extents begin no earlier than an offset

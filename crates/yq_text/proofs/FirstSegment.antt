@@ -1,17 +1,12 @@
 -- The first segment and those behind it, as a loop over them takes it apart.
-use Rattle.std.proofs.Common.{◌≡◌, ℕ, ◌+◌, ◌-◌, ◌<◌, ◌≤◌, List, [], ◌∷◌, ◌++◌, length, take, drop, get_or, false, nat_eq, refl, sym, ap, ◌∙◌, arith, append-nil, length-append, length-drop, length-take-le, String, Global}
-use Rattle.std.proofs.lemmas.List.{take_rest}
-use Rattle.std.specs.String.{string_bytes}
-use Rattle.yq_text.specs.Halves.{whole}
-use Rattle.yq_text.specs.declared.halves.Halves.{Halves}
-use Rattle.yq_text.specs.Exchanging.{gives}
+use Rattle.std.proofs.Common.{◌≡◌, ℕ, ◌+◌, ◌-◌, ◌<◌, ◌≤◌, List, [], ◌∷◌, ◌++◌, length, take, drop, get_or, false, nat_eq, refl, sym, ap}
+use Rattle.std.proofs.Common.{◌∙◌, arith, append-nil, length-append, length-drop, length-take-le, String, Global}
+use Rattle.std.{proofs.lemmas.List.take_rest, specs.String.string_bytes}
+use Rattle.yq_text.{specs.Halves.whole, specs.declared.halves.Halves.Halves, specs.Exchanging.gives}
 use Rattle.yq_text.specs.Script.{Segment, keep, put, new_text, put_before, merged, splice_at, splices_at}
-use Rattle.yq_text.specs.Segments.{segment_of, segments_of}
-use Rattle.yq_text.specs.Splice.{Splice}
-use Rattle.yq_text.specs.declared.segment.Segment.{Segment as Held}
+use Rattle.yq_text.{specs.Segments.{segment_of, segments_of}, specs.Splice.Splice, specs.declared.segment.Segment.Segment as Held}
+use Rattle.yq_text.{proofs.BetweenLaws.loop_kept, proofs.TouchLaws.put_twice}
 use Rattle.yq_text.specs.declared.segment.Segment.TheVariants as held
-use Rattle.yq_text.proofs.BetweenLaws.{loop_kept}
-use Rattle.yq_text.proofs.TouchLaws.{put_twice}
 
 -- those behind the first one
 abbrev pub later : List Held → List Held

@@ -1,8 +1,6 @@
 -- A text cut in one of its halves.
 use Rattle.std.proofs.Common.{◌≡◌, ℕ, ◌+◌, ◌-◌, ◌≤◌, List, ◌++◌, drop, length, sym, ap, ◌∙◌, subst, arith, length-append}
-use Rattle.std.proofs.Math.Seq.{drop-append-add}
-use Rattle.std.proofs.lemmas.List.{get_or_append_left}
-use Rattle.std.specs.Str.{IsCharBoundary}
+use Rattle.std.{proofs.Math.Seq.drop-append-add, proofs.lemmas.List.get_or_append_left, specs.Str.IsCharBoundary}
 
 -- where its first half is cut
 pub first_cut : (a b : List ℕ) (n : ℕ) → n ≤ length a → IsCharBoundary (a ++ b) n → IsCharBoundary a n

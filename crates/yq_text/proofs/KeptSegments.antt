@@ -1,6 +1,6 @@
 -- What segments keep in front and behind.
-use Rattle.std.proofs.Common.{◌≡◌, ℕ, ◌≤◌, Bool, true, false, cond, List, [], ◌∷◌, ◌++◌, length, refl, sym, ap, ◌∙◌, arith, append_assoc, append-nil, length-append, rules}
-use Rattle.std.proofs.lemmas.Bool.{false≢true}
+use Rattle.std.proofs.Common.{◌≡◌, ℕ, ◌≤◌, Bool, true, false, cond, List, [], ◌∷◌, ◌++◌, length, refl, sym, ap, ◌∙◌, arith, append_assoc}
+use Rattle.std.{proofs.Common.{append-nil, length-append, rules}, proofs.lemmas.Bool.false≢true}
 use Rattle.yq_text.specs.Script.{Segment, keep, put, old_text, new_text, are_kept, kept_front, kept_back}
 
 -- ---- kept segments

@@ -1,18 +1,11 @@
 -- The segments so far and one more.
-use Rattle.std.proofs.Common.{◌≡◌, ℕ, ◌+◌, List, [], ◌∷◌, ◌++◌, ◌-◌, ◌<◌, ◌≤◌, length, length-take-le, take, get_or, sym, ap, ◌∙◌, arith, rules, subst, String, Global}
-use Rattle.std.proofs.lemmas.List.{map-append, take_all, take_more}
-use Rattle.std.proofs.Common.{subst, String, Global}
-use Rattle.std.proofs.lemmas.Str.{IsUtf8-append}
-use Rattle.std.specs.Str.{IsUtf8}
-use Rattle.std.specs.String.{string_bytes}
-use Rattle.yq_text.specs.Halves.{whole}
-use Rattle.yq_text.specs.declared.halves.Halves.{Halves}
-use Rattle.yq_text.specs.Script.{Segment, keep, kept_front, kept_back, to_last}
-use Rattle.yq_text.specs.Segments.{segment_of, segments_of}
-use Rattle.yq_text.specs.declared.segment.Segment.{Segment as Held}
+use Rattle.std.proofs.Common.{◌≡◌, ℕ, ◌+◌, List, [], ◌∷◌, ◌++◌, ◌-◌, ◌<◌, ◌≤◌, length, length-take-le, take, get_or, sym, ap, ◌∙◌, arith}
+use Rattle.std.{proofs.Common.{rules, subst, String, Global}, proofs.lemmas.List.{map-append, take_all, take_more}}
+use Rattle.std.{proofs.lemmas.Str.IsUtf8-append, specs.Str.IsUtf8, specs.String.string_bytes}
+use Rattle.yq_text.{specs.Halves.whole, specs.declared.halves.Halves.Halves, specs.Script.{Segment, keep, kept_front, kept_back, to_last}}
+use Rattle.yq_text.{specs.Segments.{segment_of, segments_of}, specs.declared.segment.Segment.Segment as Held}
+use Rattle.yq_text.{proofs.BetweenLaws.{back_gives, to_last_put, last_stays}, proofs.KeptSegments.back_last}
 use Rattle.yq_text.specs.declared.segment.Segment.TheVariants as held
-use Rattle.yq_text.proofs.BetweenLaws.{back_gives, to_last_put, last_stays}
-use Rattle.yq_text.proofs.KeptSegments.{back_last}
 
 -- those in front of the last one are fewer
 pub but_last_long : {A : Type 0} (xs : List A) → 1 ≤ length xs → length xs - 1 ≡ length (take (length xs - 1) xs)

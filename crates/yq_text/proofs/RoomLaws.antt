@@ -1,9 +1,7 @@
 -- Where the split of a text may come to stand, in bytes, and what room there is.
-use Rattle.std.proofs.Common.{◌≡◌, ℕ, ◌+◌, ◌-◌, ◌≤◌, List, ◌++◌, Fits, Vec, w64, drop, length, take, arith, length-append, length-drop, length-take, refl, vec_len}
-use Rattle.std.specs.Global.{Global}
-use Rattle.std.specs.Str.{IsCharBoundary}
-use Rattle.yq_text.specs.TextGapBuffer.{IsKept}
-use Rattle.yq_text.proofs.SplitLaws.{reaches}
+use Rattle.std.proofs.Common.{◌≡◌, ℕ, ◌+◌, ◌-◌, ◌≤◌, List, ◌++◌, Fits, Vec, w64, drop, length, take, arith, length-append, length-drop}
+use Rattle.std.{proofs.Common.{length-take, refl, vec_len}, specs.Global.Global, specs.Str.IsCharBoundary}
+use Rattle.yq_text.{specs.TextGapBuffer.IsKept, proofs.SplitLaws.reaches}
 
 -- how long a text is that is kept so
 pub kept_length : (xs : List ℕ) (f b n : ℕ) → IsKept xs f b → n ≡ length xs → f + (n - b) ≡ length (take f xs ++ drop b xs)

@@ -1,9 +1,7 @@
 -- The splices of segments lead from their old text to their new one.
-use Rattle.std.proofs.Common.{◌≡◌, ℕ, ◌+◌, ◌^◌, ◌<◌, Bool, true, false, List, [], ◌∷◌, ◌++◌, length, Some, refl, sym, ap, ◌∙◌, arith, cond, append_assoc, length-append, rules}
-use Rattle.std.specs.Prelude.{option_and_then}
-use Rattle.std.specs.Str.{bytes_eq}
-use Rattle.std.proofs.lemmas.Bool.{le-leb, lt-ltb}
-use Rattle.std.proofs.lemmas.Slice.Eq.{bytes_eq-Decides}
+use Rattle.std.proofs.Common.{◌≡◌, ℕ, ◌+◌, ◌^◌, ◌<◌, Bool, true, false, List, [], ◌∷◌, ◌++◌, length, Some, refl, sym, ap, ◌∙◌, arith, cond}
+use Rattle.std.{proofs.Common.{append_assoc, length-append, rules}, specs.Prelude.option_and_then, specs.Str.bytes_eq}
+use Rattle.std.{proofs.lemmas.Bool.{le-leb, lt-ltb}, proofs.lemmas.Slice.Eq.bytes_eq-Decides}
 use Rattle.yq_text.specs.Splice.{all_done, length_done, lengths_done}
 use Rattle.yq_text.proofs.SpliceLaws.{done-from_exchanges, all_done-append, lengths_done-append}
 use Rattle.yq_text.specs.Script.{Segment, keep, put, old_text, new_text, merged, splice_at, splices_at, changes, AllStay}

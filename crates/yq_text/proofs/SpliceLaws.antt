@@ -1,10 +1,8 @@
 -- A splice exchanges bytes in one place, and what splices do is taken back by the flipped ones.
-use Rattle.std.proofs.Common.{◌≡◌, ℕ, Bool, List, [], ◌∷◌, ◌++◌, length, take, drop, nat_eq, Some, None, refl, sym, ap, ◌∙◌, cond, append_assoc, append-nil, length-append, length-take-le, rules}
-use Rattle.std.specs.Prelude.{option_and_then}
-use Rattle.std.proofs.Math.Seq.{drop-append_seam, take-append_seam}
-use Rattle.std.proofs.lemmas.Bool.{le-leb, leb-true, and_parts}
-use Rattle.std.proofs.lemmas.List.{take-append-drop}
-use Rattle.std.proofs.lemmas.Slice.Eq.{starts_is}
+use Rattle.std.proofs.Common.{◌≡◌, ℕ, Bool, List, [], ◌∷◌, ◌++◌, length, take, drop, nat_eq, Some, None, refl, sym, ap, ◌∙◌, cond}
+use Rattle.std.{proofs.Common.{append_assoc, append-nil, length-append, length-take-le, rules}, specs.Prelude.option_and_then}
+use Rattle.std.{proofs.Math.Seq.{drop-append_seam, take-append_seam}, proofs.lemmas.Bool.{le-leb, leb-true, and_parts}}
+use Rattle.std.{proofs.lemmas.List.take-append-drop, proofs.lemmas.Slice.Eq.starts_is}
 use Rattle.yq_text.specs.Splice.{Splice, swapped, Exchanges, is_found, change_done, all_done, flipped, lengths_done, length_done}
 
 -- what is exchanged in one place is a splice done

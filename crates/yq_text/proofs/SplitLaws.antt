@@ -1,11 +1,8 @@
 -- What becomes of a text in two halves when bytes are moved or written between them.
 use Rattle.std.proofs.Common.{rules, arith, ◌≡◌, ◌+◌, ◌-◌, ◌≤◌, ◌++◌, drop, length, take, ℕ, List, take_all}
-use Rattle.std.specs.Str.{IsCharBoundary, IsUtf8}
-use Rattle.std.specs.List.{copy_within}
+use Rattle.std.{specs.Str.{IsCharBoundary, IsUtf8}, specs.List.copy_within, proofs.lemmas.List.{places, same_lists, drop_all}}
+use Rattle.std.{proofs.lemmas.Slice.overwrites, proofs.lemmas.Str.{IsUtf8-append, IsUtf8-take, IsUtf8-drop, IsUtf8-nil}}
 use lib.Seq.{paste}
-use Rattle.std.proofs.lemmas.List.{places, same_lists, drop_all}
-use Rattle.std.proofs.lemmas.Slice.{overwrites}
-use Rattle.std.proofs.lemmas.Str.{IsUtf8-append, IsUtf8-take, IsUtf8-drop, IsUtf8-nil}
 use Rattle.yq_text.specs.TextGapBuffer.{IsKept}
 
 -- a text whose split is at its end is kept

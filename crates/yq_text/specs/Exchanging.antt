@@ -1,10 +1,7 @@
 -- What the exchange of segments of a text comes to, and what an answer says of that.
 use Rattle.std.specs.Prelude.{◌≡◌, ℕ, List, length, nat_le, if◌then◌else◌, Option, Some, None, Result, Ok, Err, string_bytes}
-use Rattle.yq_text.specs.Limit.{text_limit}
-use Rattle.yq_text.specs.Splice.{Splice}
-use Rattle.yq_text.specs.Script.{Segment, new_text, changes}
-use Rattle.yq_text.specs.declared.edited.Edited.{Edited}
-use Rattle.yq_text.specs.declared.exchange_error.ExchangeError.{ExchangeError}
+use Rattle.yq_text.{specs.Limit.text_limit, specs.Splice.Splice, specs.Script.{Segment, new_text, changes}}
+use Rattle.yq_text.{specs.declared.edited.Edited.Edited, specs.declared.exchange_error.ExchangeError.ExchangeError}
 use Rattle.yq_text.specs.declared.exchange_error.ExchangeError.TheVariants as error
 
 -- What an exchange comes to: it gives a new text by these changes, or that would be too large (own).

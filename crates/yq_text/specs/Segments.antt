@@ -1,8 +1,6 @@
 -- The segments that the code holds.
 use Rattle.std.specs.Prelude.{List, map, string_bytes}
-use Rattle.yq_text.specs.Halves.{whole}
-use Rattle.yq_text.specs.Script.{Segment, keep, put}
-use Rattle.yq_text.specs.declared.segment.Segment.{Segment as Held}
+use Rattle.yq_text.{specs.Halves.whole, specs.Script.{Segment, keep, put}, specs.declared.segment.Segment.Segment as Held}
 use Rattle.yq_text.specs.declared.segment.Segment.TheVariants as held
 
 -- a segment (own)

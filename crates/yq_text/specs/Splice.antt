@@ -1,6 +1,6 @@
 -- Splices of a text: what it is to do one, to do several in order, and to take them back in reverse.
-use Rattle.std.specs.Prelude.{◌≡◌, ℕ, ◌+◌, ◌-◌, ◌^◌, ◌&&◌, Bool, List, [], ◌∷◌, ◌++◌, length, take, drop, nat_le, nat_lt, nat_eq, if◌then◌else◌, Option, Some, None, option_and_then}
-use Rattle.std.specs.List.{starts_with}
+use Rattle.std.specs.Prelude.{◌≡◌, ℕ, ◌+◌, ◌-◌, ◌^◌, ◌&&◌, Bool, List, [], ◌∷◌, ◌++◌, length, take, drop, nat_le, nat_lt, nat_eq}
+use Rattle.std.{specs.Prelude.{if◌then◌else◌, Option, Some, None, option_and_then}, specs.List.starts_with}
 
 -- a splice: at a byte offset, the old bytes give way to the new ones (own)
 pub record Splice : Type 0 where

@@ -1,10 +1,7 @@
 //! What an edit changes of its text.
-ghost use Rattle.std.specs.Prelude.{◌≡◌, ◌<◌, ◌^◌, length};
-ghost use Rattle.std.specs.Str.{IsUtf8};
-ghost use Rattle.yq_text.specs.Halves.{whole};
-ghost use Rattle.yq_text.specs.Changing.{Changes};
+ghost use Rattle.std.{specs.Prelude.{◌≡◌, ◌<◌, ◌^◌, length}, specs.Str.IsUtf8};
+ghost use Rattle.yq_text.{specs.Halves.whole, specs.Changing.Changes, specs.Segments.segments_of};
 ghost use Rattle.yq_text.specs.Script as script;
-ghost use Rattle.yq_text.specs.Segments.{segments_of};
 
 use crate::Halves;
 use crate::changed::ChangedMiddle;

@@ -1,9 +1,8 @@
 //! A text made anew of its segments.
 ghost use Rattle.std.specs.Prelude.{◌≡◌, ◌+◌, ◌<◌, ◌^◌, ◌++◌, ◌∷◌, List, length};
-ghost use Rattle.yq_text.specs.Halves.{whole};
-ghost use Rattle.yq_text.specs.Exchanging.{Exchanged, exchange_of, gives, within_limit};
-ghost use Rattle.yq_text.specs.Script as script;
+ghost use Rattle.yq_text.{specs.Halves.whole, specs.Exchanging.{Exchanged, exchange_of, gives, within_limit}};
 ghost use Rattle.yq_text.specs.Segments.{segment_of, segments_of};
+ghost use Rattle.yq_text.specs.Script as script;
 
 use crate::draft::{Draft, push_splice};
 use crate::edited::Edited;

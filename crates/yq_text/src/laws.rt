@@ -1,7 +1,8 @@
 //! What holds of every edit that is given by its segments.
 ghost use Rattle.std.specs.Prelude.{◌≡◌, ℕ, ◌+◌, ◌^◌, ◌<◌, List, [], ◌∷◌, ◌++◌, Some, length};
 ghost use Rattle.yq_text.specs.Splice.{all_done, lengths_done};
-ghost use Rattle.yq_text.specs.Script.{Segment, keep, put, old_text, new_text, changes, AllStay, kept_text, extents, outside, swapped_segments};
+ghost use Rattle.yq_text.specs.Script.{Segment, keep, put, old_text, new_text, changes, AllStay, kept_text, extents, outside};
+ghost use Rattle.yq_text.specs.Script.{swapped_segments};
 
 /// Done in order, the splices lead from the old text to the new one, and so
 /// do their lengths.

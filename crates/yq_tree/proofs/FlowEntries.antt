@@ -1,28 +1,14 @@
 -- The item or entry of a flow collection at a path, by what is made of its row.
-use Rattle.std.proofs.Common.{◌≡◌, ℕ, ◌+◌, ◌-◌, eqb, List, length, Option, Some, true, false, sym, ◌∙◌}
-use Rattle.std.specs.List.{slice_get}
-use Rattle.yq_core.specs.Answers.{◌>>=◌}
-use Rattle.yq_core.specs.Paths.{Step}
-use Rattle.yq_core.specs.Entries.{PlacedEntry}
-use Rattle.yq_core.specs.Places.{Placed}
-use Rattle.yq_outline.specs.Ends.{reached}
-use Rattle.yq_row_table.specs.Exchange.{behind_row}
-use Rattle.yq_row_table.specs.Grammar.{IsCut}
-use Rattle.yq_row_table.specs.Rows.{Row, cut_text}
+use Rattle.std.{proofs.Common.{◌≡◌, ℕ, ◌+◌, ◌-◌, eqb, List, length, Option, Some, true, false, sym, ◌∙◌}, specs.List.slice_get}
+use Rattle.yq_core.{specs.Answers.◌>>=◌, specs.Paths.Step, specs.Entries.PlacedEntry, specs.Places.Placed}
+use Rattle.yq_outline.{specs.Ends.reached, specs.Lines.lines_of_rows, specs.RowWalk.{HasDocument, IsLine, line_number, stretch_view}}
+use Rattle.yq_outline.{specs.declared.line_position.Position.Position, specs.declared.line_position.Stretch.Stretch}
+use Rattle.yq_row_table.{specs.Exchange.behind_row, specs.Grammar.IsCut, specs.Rows.{Row, cut_text}}
 use Rattle.yq_row_table.specs.View.{rows_of, RowsView, rows_view}
-use Rattle.yq_outline.specs.Lines.{lines_of_rows}
-use Rattle.yq_outline.specs.RowWalk.{HasDocument, IsLine, line_number, stretch_view}
-use Rattle.yq_outline.specs.declared.line_position.Position.{Position}
-use Rattle.yq_outline.specs.declared.line_position.Stretch.{Stretch}
-use Rattle.yq_documents.specs.Documents.{document_parts}
-use Rattle.yq_documents.specs.FlowReading.{row_flow}
-use Rattle.yq_documents.specs.Reading.{all_documents, cut_of}
+use Rattle.yq_documents.{specs.Documents.document_parts, specs.FlowReading.row_flow, specs.Reading.{all_documents, cut_of}}
 use Rattle.yq_documents.specs.LinesInRows.{RowLine, document_row}
-use Rattle.yq_places.specs.EntryReading.{entry_within, flow_entry_of}
-use Rattle.yq_places.specs.RowWalk.{document_row_range}
-use Rattle.yq_places.proofs.EntryPlaceLaws.{flow_left}
-use Rattle.yq_places.proofs.WalkDocuments.{place_found}
-use Rattle.yq_places.proofs.WalkNodes.{before_is, row_in_cut, row_is, row_line_is}
+use Rattle.yq_places.{specs.EntryReading.{entry_within, flow_entry_of}, specs.RowWalk.document_row_range, proofs.EntryPlaceLaws.flow_left}
+use Rattle.yq_places.{proofs.WalkDocuments.place_found, proofs.WalkNodes.{before_is, row_in_cut, row_is, row_line_is}}
 
 pub flow_found : (t : List ℕ) (s : RowsView) (i : ℕ) (d : Stretch) (q : Position) (steps left : List Step) (flow : Option Placed) (found : Option PlacedEntry) → IsCut t (cut_of t) → s ≡ rows_view (cut_of t) →
     Some (stretch_view d) ≡ document_row_range i (cut_of t) → all_documents (cut_of t) ≡ true → IsLine s d q → ((h : HasDocument s d) → Some (line_number d h.stand.rows q, left) ≡ reached steps (lines_of_rows h.stand.rows)) →

@@ -2,9 +2,7 @@
 ghost use Rattle.std.specs.Prelude.{◌≡◌, map, option_map};
 ghost use Rattle.yq_core.specs.Entries.{content_place, entry_place, entry_view, tree_step};
 ghost use Rattle.yq_outline.specs.View.{head_flow};
-ghost use Rattle.yq_documents.specs.Decoded.{decoded_flow};
-ghost use Rattle.yq_documents.specs.Pieces.{span};
-ghost use Rattle.yq_documents.specs.Reading.{cut_of};
+ghost use Rattle.yq_documents.{specs.Decoded.decoded_flow, specs.Pieces.span, specs.Reading.cut_of};
 ghost use Rattle.yq_places.specs.EntryReading as spec;
 
 use yq_core::{Entry, Step};

@@ -1,8 +1,8 @@
 //! Nodes by their paths.
 ghost use Rattle.std.specs.Prelude.{◌≡◌, option_map};
 ghost use Rattle.yq_documents.specs.Located.{labelled_located, located};
-ghost use Rattle.yq_documents.specs.LinesInRows as spec;
 ghost use Rattle.yq_nodes.specs.Nodes.{labelled_of, node_of};
+ghost use Rattle.yq_documents.specs.LinesInRows as spec;
 
 use yq_documents::{Documents, Part, Path};
 use yq_lookup::CutText;

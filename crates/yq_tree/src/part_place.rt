@@ -1,8 +1,7 @@
 //! Where the parts of entries and items stand.
 ghost use Rattle.std.specs.Prelude.{◌≡◌, option_map};
-ghost use Rattle.yq_documents.specs.Pieces.{piece_span, span};
+ghost use Rattle.yq_documents.{specs.Pieces.{piece_span, span}, specs.Reading.cut_of};
 ghost use Rattle.yq_places.specs.PathPieces.{path_piece};
-ghost use Rattle.yq_documents.specs.Reading.{cut_of};
 ghost use Rattle.yq_documents.specs.declared.path.Part.TheVariants as parts;
 
 use crate::flow_place::{content_span, entry_span, flow_entry};

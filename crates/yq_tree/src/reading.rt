@@ -1,14 +1,10 @@
 //! Reading bytes as documents.
-ghost use Rattle.std.specs.Prelude.{◌≡◌, ◌↔◌, ℕ, List, IfErr, IfOk, Some, MatchResult, true, false};
-ghost use Rattle.std.specs.Str.{is_utf8};
-ghost use Rattle.yq_core.specs.declared.fault.FaultKind.TheVariants.{NotUtf8};
-ghost use Rattle.yq_core.specs.Answers.{Gives, IsOfText};
-ghost use Rattle.yq_row_table.specs.Grammar.{IsCut};
-ghost use Rattle.yq_row_table.specs.Rows.{Cut};
+ghost use Rattle.std.{specs.Prelude.{◌≡◌, ◌↔◌, ℕ, List, IfErr, IfOk, Some, MatchResult, true, false}, specs.Str.is_utf8};
+ghost use Rattle.yq_core.{specs.declared.fault.FaultKind.TheVariants.NotUtf8, specs.Answers.{Gives, IsOfText}};
+ghost use Rattle.yq_row_table.{specs.Grammar.IsCut, specs.Rows.Cut};
 ghost use Rattle.yq_places.specs.Answers.{IsNotUtf8};
-ghost use Rattle.yq_documents.specs.Documents.{Document, ReadsDocuments};
+ghost use Rattle.yq_documents.{specs.Documents.{Document, ReadsDocuments}, specs.Ready.TextIsReady};
 ghost use Rattle.yq_documents.specs.Reading as spec;
-ghost use Rattle.yq_documents.specs.Ready.{TextIsReady};
 
 use std::alloc::Global;
 use std::num::NonZeroU64;

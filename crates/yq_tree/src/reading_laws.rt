@@ -1,7 +1,6 @@
 //! Laws on reading, for the crates above.
 ghost use Rattle.std.specs.Prelude.{◌≡◌, ◌↔◌, ℕ, List, Some};
-ghost use Rattle.yq_documents.specs.Documents.{ReadsDocuments};
-ghost use Rattle.yq_documents.specs.Reading.{documents, read_at};
+ghost use Rattle.yq_documents.{specs.Documents.ReadsDocuments, specs.Reading.{documents, read_at}};
 ghost use Rattle.yq_row_table.specs.Rows.{Cut};
 
 /// Reading from left to right gives a cut exactly where the grammar reads the bytes as the documents of

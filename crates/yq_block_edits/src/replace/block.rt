@@ -1,12 +1,9 @@
 //! A value in the place of a block scalar.
 ghost use Rattle.std.specs.Prelude.{◌≡◌, [], IfOk, true};
-ghost use Rattle.yq_core.specs.Values.{value_node};
-ghost use Rattle.yq_core.specs.BlockWritten.{break_text};
-ghost use Rattle.yq_core.specs.Writable.{is_string};
-ghost use Rattle.yq_places.specs.NodesAt.{scalar_in};
-ghost use Rattle.yq_places.specs.StandingViews.{held_view, held_mark_view};
-ghost use Rattle.yq_edits.specs.ReplaceEdits as spec;
+ghost use Rattle.yq_core.{specs.Values.value_node, specs.BlockWritten.break_text, specs.Writable.is_string};
+ghost use Rattle.yq_places.{specs.NodesAt.scalar_in, specs.StandingViews.{held_view, held_mark_view}};
 ghost use Rattle.yq_edits.specs.WrittenValues.{column_under, lines, lines_in, written_at};
+ghost use Rattle.yq_edits.specs.ReplaceEdits as spec;
 
 use crate::replace::held::{put_filled, put_inline};
 use std::alloc::{AllocError, Global};

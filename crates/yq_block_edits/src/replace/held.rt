@@ -1,11 +1,8 @@
 //! A value in the place of what a key or dash holds, or of a compact collection.
 ghost use Rattle.std.specs.Prelude.{◌≡◌, ℕ, List, [], false, IfOk, if◌then◌else◌, string_bytes};
-ghost use Rattle.yq_core.specs.Values.{value_node};
-ghost use Rattle.yq_core.specs.BlockWritten.{break_text};
+ghost use Rattle.yq_core.{specs.Values.value_node, specs.BlockWritten.break_text};
 ghost use Rattle.yq_places.specs.StandingViews.{compact_view, held_view, held_mark_view};
-ghost use Rattle.yq_edits.specs.BlockReading.{is_filled as filled};
-ghost use Rattle.yq_edits.specs.BlockRows.{item_column};
-ghost use Rattle.yq_edits.specs.BlockText.{block_value};
+ghost use Rattle.yq_edits.{specs.BlockReading.is_filled as filled, specs.BlockRows.item_column, specs.BlockText.block_value};
 ghost use Rattle.yq_edits.specs.declared.layout.Layout.{Layout as LayoutOf};
 ghost use Rattle.yq_edits.specs.ReplaceEdits as spec;
 ghost use Rattle.yq_edits.specs.WrittenValues as written;

@@ -1,12 +1,10 @@
 //! What `select` asks of a place.
 ghost use Rattle.std.specs.Prelude.{◌≡◌, map};
-ghost use Rattle.yq_core.specs.SchemaReading as numbers;
 ghost use Rattle.yq_nodes.specs.Nodes.{node_of};
-ghost use Rattle.yq_semantics.specs.Conditions as spec;
-ghost use Rattle.yq_semantics.specs.Judgement.{Judges};
+ghost use Rattle.yq_semantics.{specs.Judgement.Judges, specs.Program.value_at, specs.View.{condition_of, operand_of, program_step}};
 ghost use Rattle.yq_eval.specs.PlaceView.{place_of, places_of};
-ghost use Rattle.yq_semantics.specs.Program.{value_at};
-ghost use Rattle.yq_semantics.specs.View.{condition_of, operand_of, program_step};
+ghost use Rattle.yq_core.specs.SchemaReading as numbers;
+ghost use Rattle.yq_semantics.specs.Conditions as spec;
 
 use crate::matching::place::FoundPlace;
 use crate::matching::traverse::traverse;

@@ -1,14 +1,10 @@
 //! Copies of nodes, as values.
 ghost use Rattle.std.specs.Prelude.{◌≡◌, map, IfOk, string_bytes};
-ghost use Rattle.yq_core.specs.Values.{field_of, value_node};
-ghost use Rattle.yq_core.specs.Scalar.{IsScalar};
-ghost use Rattle.yq_core.specs.Tree.{children_of};
+ghost use Rattle.yq_core.{specs.Values.{field_of, value_node}, specs.Scalar.IsScalar, specs.Tree.children_of};
 ghost use Rattle.yq_nodes.specs.Nodes.{label_of, node_of};
+ghost use Rattle.yq_semantics.{specs.Judgement.Judges, specs.Conditions.value_of};
+ghost use Rattle.yq_eval.{specs.PlaceView.place_of, specs.TreeScalars.{EachHasScalars, HasScalars}};
 ghost use Rattle.yq_semantics.specs.Copies as spec;
-ghost use Rattle.yq_semantics.specs.Judgement.{Judges};
-ghost use Rattle.yq_semantics.specs.Conditions.{value_of};
-ghost use Rattle.yq_eval.specs.PlaceView.{place_of};
-ghost use Rattle.yq_eval.specs.TreeScalars.{EachHasScalars, HasScalars};
 
 use crate::matching::place::FoundPlace;
 use std::alloc::{AllocError, Global};

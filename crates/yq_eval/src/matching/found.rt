@@ -1,13 +1,10 @@
 //! What a pipe finds: places in a list, or the items or values of one node, which are not listed.
 ghost use Rattle.std.specs.Prelude.{◌≡◌, ◌++◌, ◌∷◌, ◌==◌, [], IfSome, length, map};
 ghost use Rattle.yq_nodes.specs.Nodes.{node_of};
-ghost use Rattle.yq_semantics.specs.Judgement.{Judges, gives};
-ghost use Rattle.yq_eval.specs.FoundView.{child_places, found_places};
-ghost use Rattle.yq_eval.specs.PlaceView.{path_of, places_of};
+ghost use Rattle.yq_semantics.{specs.Judgement.{Judges, gives}, specs.Program.{each, path}, specs.View.{stage_of, program_step}};
+ghost use Rattle.yq_eval.{specs.FoundView.{child_places, found_places}, specs.PlaceView.{path_of, places_of}};
 ghost use Rattle.yq_semantics.specs.Pipes as spec;
 ghost use Rattle.yq_semantics.specs.Places as steps;
-ghost use Rattle.yq_semantics.specs.Program.{each, path};
-ghost use Rattle.yq_semantics.specs.View.{stage_of, program_step};
 
 use crate::matching::pipe::find;
 use crate::matching::place::{FoundPlace, Missing};

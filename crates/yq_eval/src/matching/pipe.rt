@@ -1,11 +1,9 @@
 //! Where a pipe leads: each stage acts on all places before the next one does.
 ghost use Rattle.std.specs.Prelude.{◌≡◌, map};
 ghost use Rattle.yq_nodes.specs.Nodes.{node_of};
-ghost use Rattle.yq_semantics.specs.Judgement.{Judges};
-ghost use Rattle.yq_semantics.specs.Pipes as spec;
+ghost use Rattle.yq_semantics.{specs.Judgement.Judges, specs.Places.for_each, specs.View.{condition_of, stage_of}};
 ghost use Rattle.yq_eval.specs.PlaceView.{place_of, places_of, put_behind};
-ghost use Rattle.yq_semantics.specs.Places.{for_each};
-ghost use Rattle.yq_semantics.specs.View.{condition_of, stage_of};
+ghost use Rattle.yq_semantics.specs.Pipes as spec;
 
 use crate::matching::condition::holds;
 use crate::matching::place::FoundPlace;

@@ -2,10 +2,10 @@
 //! place takes one link, however deep it lies.
 ghost use Rattle.std.specs.Prelude.{◌≡◌, ◌++◌, ◌∷◌, [], IfOk};
 ghost use Rattle.yq_nodes.specs.Nodes.{label_of, node_of};
-ghost use Rattle.yq_semantics.specs.Conditions as conditions;
 ghost use Rattle.yq_eval.specs.PlaceView.{missing_of, node_step_of, path_of, node_or_null, place_of, places_of};
-ghost use Rattle.yq_semantics.specs.Places as spec;
 ghost use Rattle.yq_semantics.specs.View.{program_step};
+ghost use Rattle.yq_semantics.specs.Conditions as conditions;
+ghost use Rattle.yq_semantics.specs.Places as spec;
 
 use std::alloc::{AllocError, Global};
 use yq_nodes::Node;

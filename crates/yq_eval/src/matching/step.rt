@@ -1,11 +1,10 @@
 //! Where a step leads from a node.
 ghost use Rattle.std.specs.Prelude.{◌≡◌, option_map, Some};
-ghost use Rattle.yq_core.specs.Paths.{To, Nth};
-ghost use Rattle.yq_core.specs.Tree.{children_of};
+ghost use Rattle.yq_core.{specs.Paths.{To, Nth}, specs.Tree.children_of};
 ghost use Rattle.yq_nodes.specs.Nodes.{node_of};
 ghost use Rattle.yq_semantics.specs.Judgement.{Judges};
-ghost use Rattle.yq_semantics.specs.Matching as spec;
 ghost use Rattle.yq_eval.specs.PlaceView.{found_of};
+ghost use Rattle.yq_semantics.specs.Matching as spec;
 
 use crate::matching::place::NodeStep;
 use yq_core::Kind;

@@ -3,11 +3,9 @@
 ghost use Rattle.std.specs.Prelude.{◌≡◌, ◌++◌, map, OnOk};
 ghost use Rattle.yq_core.specs.Tree.{children_of};
 ghost use Rattle.yq_nodes.specs.Nodes.{node_of};
-ghost use Rattle.yq_semantics.specs.Judgement.{Judges};
+ghost use Rattle.yq_semantics.{specs.Judgement.Judges, specs.Program.each, specs.View.program_step};
 ghost use Rattle.yq_eval.specs.PlaceView.{found_of, place_of, places_of, put_behind};
 ghost use Rattle.yq_semantics.specs.Places as spec;
-ghost use Rattle.yq_semantics.specs.Program.{each};
-ghost use Rattle.yq_semantics.specs.View.{program_step};
 
 use crate::matching::place::{FoundPlace, Missing, NodePath, NodeStep};
 use crate::matching::step::{index_step, key_step};

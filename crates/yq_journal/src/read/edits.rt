@@ -1,7 +1,6 @@
 //! Records of edits from their values.
 ghost use Rattle.std.specs.Prelude.{◌≡◌, IfOk, option_map, option_and_then};
-ghost use Rattle.serde_json.specs.Find.{get};
-ghost use Rattle.serde_json.specs.View.{view};
+ghost use Rattle.serde_json.{specs.Find.get, specs.View.view};
 ghost use Rattle.yq_journal.specs.Json as spec;
 
 use super::fields::{bytes, has_keys, number, text};

@@ -1,8 +1,7 @@
 //! Where the contents of nodes stand outside flow collections.
 ghost use Rattle.std.specs.Prelude.{◌≡◌, option_map};
+ghost use Rattle.yq_documents.{specs.Pieces.span, specs.Reading.cut_of};
 ghost use Rattle.yq_places.specs.EntryReading as spec;
-ghost use Rattle.yq_documents.specs.Pieces.{span};
-ghost use Rattle.yq_documents.specs.Reading.{cut_of};
 
 use crate::cut_text::CutText;
 use yq_documents::{Path, Span};

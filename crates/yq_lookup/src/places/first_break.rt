@@ -1,8 +1,8 @@
 //! The break that is written in a text.
 ghost use Rattle.std.specs.Prelude.{◌≡◌};
 ghost use Rattle.yq_row_table.specs.Rows.{cut_text};
-ghost use Rattle.yq_places.specs.FirstBreak as spec;
 ghost use Rattle.yq_documents.specs.Reading.{cut_of};
+ghost use Rattle.yq_places.specs.FirstBreak as spec;
 
 use crate::cut_text::CutText;
 use yq_core::Break;

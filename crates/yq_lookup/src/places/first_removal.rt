@@ -1,10 +1,9 @@
 //! What is taken out of a text with the first item or entry of a compact collection.
 ghost use Rattle.std.specs.Prelude.{◌≡◌, option_map};
 ghost use Rattle.yq_text.specs.Halves.{whole};
-ghost use Rattle.yq_places.specs.FirstPlaces as spec;
 ghost use Rattle.yq_places.specs.FirstViews.{first_view};
-ghost use Rattle.yq_documents.specs.Located.{steps_of};
-ghost use Rattle.yq_documents.specs.Reading.{cut_of};
+ghost use Rattle.yq_documents.{specs.Located.steps_of, specs.Reading.cut_of};
+ghost use Rattle.yq_places.specs.FirstPlaces as spec;
 
 use crate::cut_text::CutText;
 use yq_documents::Path;

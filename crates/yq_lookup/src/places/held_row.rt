@@ -1,7 +1,6 @@
 //! Keys and dashes whose line is the last one of its row, with that row and what it holds behind them.
 ghost use Rattle.std.specs.Prelude.{◌≡◌, ◌<◌, IfSome};
-ghost use Rattle.yq_documents.specs.Located.{steps_of};
-ghost use Rattle.yq_documents.specs.Reading.{cut_of};
+ghost use Rattle.yq_documents.{specs.Located.steps_of, specs.Reading.cut_of};
 ghost use Rattle.yq_places.specs.StandingViews as row_agrees;
 
 use crate::cut_text::CutText;

@@ -1,10 +1,9 @@
 //! Lines above rows, where head comments stand or would stand.
 ghost use Rattle.std.specs.Prelude.{◌≡◌, option_map};
 ghost use Rattle.yq_text.specs.Halves.{whole};
-ghost use Rattle.yq_places.specs.CommentPlaces as spec;
 ghost use Rattle.yq_places.specs.CommentViews.{above_view};
-ghost use Rattle.yq_documents.specs.Located.{steps_of};
-ghost use Rattle.yq_documents.specs.Reading.{cut_of};
+ghost use Rattle.yq_documents.{specs.Located.steps_of, specs.Reading.cut_of};
+ghost use Rattle.yq_places.specs.CommentPlaces as spec;
 
 use crate::cut_text::CutText;
 use yq_documents::Path;

@@ -1,10 +1,9 @@
 //! What the nodes at paths are, each read from the rows that tell it.
 ghost use Rattle.std.specs.Prelude.{◌≡◌, map, option_and_then, option_map, false, IfOk, None};
 ghost use Rattle.yq_core.specs.Entries.{tree_step};
-ghost use Rattle.yq_documents.specs.Located.{steps_of};
-ghost use Rattle.yq_documents.specs.Reading.{cut_of};
-ghost use Rattle.yq_places.specs.NodesAt as spec;
+ghost use Rattle.yq_documents.{specs.Located.steps_of, specs.Reading.cut_of};
 ghost use Rattle.yq_places.specs.RemovalPlaces.{has_others_at};
+ghost use Rattle.yq_places.specs.NodesAt as spec;
 
 use crate::cut_text::CutText;
 use std::alloc::{AllocError, Global};

@@ -1,8 +1,7 @@
 //! The heads of rows, read again.
 ghost use Rattle.std.specs.Prelude.{◌≡◌, ◌<◌, length, slice_get, true, IfOk, Some};
 ghost use Rattle.yq_text.specs.Halves.{whole};
-ghost use Rattle.yq_row_table.specs.Rows.{Row as RowOf};
-ghost use Rattle.yq_row_table.specs.View.{rows_of};
+ghost use Rattle.yq_row_table.{specs.Rows.Row as RowOf, specs.View.rows_of};
 ghost use Rattle.yq_documents.specs.Reading.{content_is_fit, cut_of};
 ghost use Rattle.yq_places.specs.HeadReading.{IsRowHead};
 

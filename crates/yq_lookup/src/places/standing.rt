@@ -1,9 +1,7 @@
 //! What stands in a text where paths lead, outside flow collections.
 ghost use Rattle.std.specs.Prelude.{◌≡◌, option_map};
-ghost use Rattle.yq_documents.specs.Located.{steps_of};
-ghost use Rattle.yq_documents.specs.Reading.{cut_of};
-ghost use Rattle.yq_places.specs.Standings.{standing_at};
-ghost use Rattle.yq_places.specs.StandingViews.{standing_view};
+ghost use Rattle.yq_documents.{specs.Located.steps_of, specs.Reading.cut_of};
+ghost use Rattle.yq_places.{specs.Standings.standing_at, specs.StandingViews.standing_view};
 
 use crate::cut_text::CutText;
 use yq_documents::Path;

@@ -1,10 +1,9 @@
 //! The rows of documents among those of a text, and lines of them at paths.
 ghost use Rattle.std.specs.Prelude.{◌≡◌, ◌-◌, option_map, true};
-ghost use Rattle.yq_documents.specs.Reading.{all_documents, cut_of};
-ghost use Rattle.yq_documents.specs.LinesInRows.{document_row, row_line_at};
-ghost use Rattle.yq_places.specs.RowWalk as spec;
+ghost use Rattle.yq_documents.{specs.Reading.{all_documents, cut_of}, specs.LinesInRows.{document_row, row_line_at}};
 ghost use Rattle.yq_outline.specs.RowWalk.{stretch_view};
 ghost use Rattle.yq_places.specs.RowLineReading.{numbers, line_view};
+ghost use Rattle.yq_places.specs.RowWalk as spec;
 
 use crate::cut_text::CutText;
 use yq_documents::{Path, document_part, rows_to};

@@ -1,11 +1,9 @@
 //! The items or entries of a node, one after the other.
-ghost use Rattle.std.specs.Iterator.{at_most};
-ghost use Rattle.std.specs.Prelude.{◌≡◌, ◌<◌, IfSome};
-ghost use Rattle.yq_core.specs.Trees.{placed_tree};
-ghost use Rattle.yq_core.specs.View as inline;
-ghost use Rattle.yq_core.specs.Tree.{children_of};
-ghost use Rattle.yq_nodes.specs.Children as spec;
+ghost use Rattle.std.{specs.Iterator.at_most, specs.Prelude.{◌≡◌, ◌<◌, IfSome}};
+ghost use Rattle.yq_core.{specs.Trees.placed_tree, specs.Tree.children_of};
 ghost use Rattle.yq_nodes.specs.Nodes.{node_of};
+ghost use Rattle.yq_core.specs.View as inline;
+ghost use Rattle.yq_nodes.specs.Children as spec;
 
 use crate::nodes::body::Body;
 use crate::nodes::lines::has_lines;

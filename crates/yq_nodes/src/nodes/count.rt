@@ -1,9 +1,8 @@
 //! How many items or entries a node has.
 ghost use Rattle.std.specs.Prelude.{◌≡◌};
 ghost use Rattle.yq_core.specs.Tree.{children_of};
-ghost use Rattle.yq_nodes.specs.Children.{lines_rest, rest_of};
+ghost use Rattle.yq_nodes.{specs.Children.{lines_rest, rest_of}, specs.Nodes.node_of};
 ghost use Rattle.yq_outline.specs.Counts as spec;
-ghost use Rattle.yq_nodes.specs.Nodes.{node_of};
 
 use crate::nodes::children::{Rest, behind_first};
 use crate::nodes::node::Node;

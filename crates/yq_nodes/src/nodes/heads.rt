@@ -1,19 +1,12 @@
 //! What the lines of rows spell, borrowed or made.
 ghost use Rattle.std.specs.Prelude.{◌≡◌, ◌<◌, None, Some, length, option_map, true};
-ghost use Rattle.yq_core.specs.Scalars.{is_quoted};
-ghost use Rattle.yq_core.specs.Trees.{scalar_node};
-ghost use Rattle.yq_outline.specs.Bodies.{borrowed};
-ghost use Rattle.yq_outline.specs.Comments as comments;
-ghost use Rattle.yq_outline.specs.Outline.{key_of, label};
-ghost use Rattle.yq_outline.specs.View.{head_view};
-ghost use Rattle.yq_core.specs.Quoted.{IsQuotedText};
-ghost use Rattle.yq_core.specs.Scalar.{plain_of};
+ghost use Rattle.yq_core.{specs.Scalars.is_quoted, specs.Trees.scalar_node, specs.Quoted.IsQuotedText, specs.Scalar.plain_of};
 ghost use Rattle.yq_core.specs.Tree.{scalar};
-ghost use Rattle.yq_nodes.specs.Bodies.{body_node};
+ghost use Rattle.yq_outline.{specs.Bodies.borrowed, specs.Outline.{key_of, label}, specs.View.head_view};
+ghost use Rattle.yq_nodes.{specs.Bodies.body_node, specs.Nodes.written_label};
+ghost use Rattle.yq_documents.{specs.Reading.documents_of, specs.Stretches.{IsLineIn, OfLineIn}};
+ghost use Rattle.yq_outline.specs.Comments as comments;
 ghost use Rattle.yq_documents.specs.Decoded as spec;
-ghost use Rattle.yq_nodes.specs.Nodes.{written_label};
-ghost use Rattle.yq_documents.specs.Reading.{documents_of};
-ghost use Rattle.yq_documents.specs.Stretches.{IsLineIn, OfLineIn};
 
 use crate::nodes::body::Body;
 use crate::nodes::node::Written;

@@ -1,13 +1,10 @@
 //! Lines of documents, by the rows of their text.
 ghost use Rattle.std.specs.Prelude.{◌≡◌, ◌<◌, IsTrue, length, not};
-ghost use Rattle.yq_outline.specs.Ends.{has_no_lines};
-ghost use Rattle.yq_outline.specs.Outline.{key_of};
-ghost use Rattle.yq_outline.specs.Positions as positions;
+ghost use Rattle.yq_outline.{specs.Ends.has_no_lines, specs.Outline.key_of};
 ghost use Rattle.yq_core.specs.Paths.{is_item};
-ghost use Rattle.yq_nodes.specs.Bodies.{body_outline};
-ghost use Rattle.yq_nodes.specs.Children.{lines_left};
-ghost use Rattle.yq_documents.specs.Reading.{documents_of};
-ghost use Rattle.yq_documents.specs.Stretches.{IsLineIn, OfLineIn, count_from, lines_under};
+ghost use Rattle.yq_nodes.{specs.Bodies.body_outline, specs.Children.lines_left};
+ghost use Rattle.yq_documents.{specs.Reading.documents_of, specs.Stretches.{IsLineIn, OfLineIn, count_from, lines_under}};
+ghost use Rattle.yq_outline.specs.Positions as positions;
 
 use crate::nodes::under::Under;
 use yq_documents::Documents;

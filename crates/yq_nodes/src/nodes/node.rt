@@ -1,20 +1,12 @@
 //! The nodes of documents.
-ghost use Rattle.std.specs.List.{list_any};
-ghost use Rattle.std.specs.Prelude.{◌≡◌, ◌<◌, false, length, Some};
-ghost use Rattle.yq_core.specs.Anchors.{names_of};
-ghost use Rattle.yq_outline.specs.Names.{is_reference};
-ghost use Rattle.yq_core.specs.Trees.{placed_tree};
-ghost use Rattle.yq_core.specs.View as inline;
-ghost use Rattle.yq_core.specs.Tree.{anchor_of, key_label, plain_label};
-ghost use Rattle.yq_outline.specs.Bodies.{borrowed};
-ghost use Rattle.yq_outline.specs.Outline.{label};
-ghost use Rattle.yq_outline.specs.Places.{content_under};
+ghost use Rattle.std.{specs.List.list_any, specs.Prelude.{◌≡◌, ◌<◌, false, length, Some}};
+ghost use Rattle.yq_core.{specs.Anchors.names_of, specs.Trees.placed_tree, specs.Tree.{anchor_of, key_label, plain_label}};
+ghost use Rattle.yq_outline.{specs.Names.is_reference, specs.Bodies.borrowed, specs.Outline.label, specs.Places.content_under};
 ghost use Rattle.yq_nodes.specs.Bodies.{body_node};
-ghost use Rattle.yq_documents.specs.Documents.{Document};
-ghost use Rattle.yq_documents.specs.Located.{document_at};
-ghost use Rattle.yq_nodes.specs.Nodes as spec;
-ghost use Rattle.yq_documents.specs.Reading.{documents_of};
+ghost use Rattle.yq_documents.{specs.Documents.Document, specs.Located.document_at, specs.Reading.documents_of};
 ghost use Rattle.yq_documents.specs.Stretches.{IsLineIn, OfLineIn, lines_under};
+ghost use Rattle.yq_core.specs.View as inline;
+ghost use Rattle.yq_nodes.specs.Nodes as spec;
 
 use crate::nodes::body::{Body, Named};
 use crate::nodes::flow::{inline_anchor, inline_kind, inline_text};

@@ -1,11 +1,8 @@
 //! The nodes for which lines stand.
 ghost use Rattle.std.specs.Prelude.{◌≡◌, ◌<◌, length};
-ghost use Rattle.yq_outline.specs.Bodies.{borrowed};
-ghost use Rattle.yq_outline.specs.Outline.{anchored, value};
-ghost use Rattle.yq_outline.specs.Places.{content_under};
+ghost use Rattle.yq_outline.{specs.Bodies.borrowed, specs.Outline.{anchored, value}, specs.Places.content_under};
+ghost use Rattle.yq_documents.{specs.Reading.documents_of, specs.Stretches.{IsLineIn, OfLineIn, lines_under}};
 ghost use Rattle.yq_nodes.specs.Bodies as spec;
-ghost use Rattle.yq_documents.specs.Reading.{documents_of};
-ghost use Rattle.yq_documents.specs.Stretches.{IsLineIn, OfLineIn, lines_under};
 
 use crate::nodes::body::{Body, Named};
 use crate::nodes::flow::first_anchor;

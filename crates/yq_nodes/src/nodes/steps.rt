@@ -1,13 +1,8 @@
 //! Where steps lead from a node.
 ghost use Rattle.std.specs.Prelude.{◌≡◌, map, option_map};
-ghost use Rattle.yq_core.specs.Entries.{tree_step};
-ghost use Rattle.yq_core.specs.Paths.{To, Nth, child_at, node_at};
-ghost use Rattle.yq_core.specs.Tree.{children_of};
-ghost use Rattle.yq_nodes.specs.Children.{rest_of};
-ghost use Rattle.yq_outline.specs.Labelled.{labelled_at, labelled_from};
-ghost use Rattle.yq_nodes.specs.Nodes.{labelled_of, node_of};
-ghost use Rattle.yq_nodes.specs.Bodies.{body_outline};
-ghost use Rattle.yq_outline.specs.Outline.{children};
+ghost use Rattle.yq_core.{specs.Entries.tree_step, specs.Paths.{To, Nth, child_at, node_at}, specs.Tree.children_of};
+ghost use Rattle.yq_nodes.{specs.Children.rest_of, specs.Nodes.{labelled_of, node_of}, specs.Bodies.body_outline};
+ghost use Rattle.yq_outline.{specs.Labelled.{labelled_at, labelled_from}, specs.Outline.children};
 
 use crate::nodes::children::Rest;
 use crate::nodes::flow::{entry_at, item_at};

@@ -1,7 +1,6 @@
 //! The lines under a line, or of a document.
 ghost use Rattle.std.specs.Prelude.{◌<◌, length};
-ghost use Rattle.yq_documents.specs.Reading.{documents_of};
-ghost use Rattle.yq_documents.specs.Stretches.{IsPositionIn};
+ghost use Rattle.yq_documents.{specs.Reading.documents_of, specs.Stretches.IsPositionIn};
 
 use yq_documents::Documents;
 use yq_outline::Position;

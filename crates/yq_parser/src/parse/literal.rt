@@ -1,10 +1,8 @@
 //! Scalars and literals.
 ghost use Rattle.std.specs.Prelude.{◌≡◌, ◌<◌, codes, length, map, option_map, string_bytes, IfOk};
-ghost use Rattle.yq_parser.specs.ReadAnswers.{ReadsForm, Shortens, IsShorter, with_tokens};
-ghost use Rattle.yq_parser.specs.Lexing.{tokens};
+ghost use Rattle.yq_parser.{specs.ReadAnswers.{ReadsForm, Shortens, IsShorter, with_tokens}, specs.Lexing.tokens};
+ghost use Rattle.yq_core.{specs.Values.{value_node, field_of}, specs.Keys.are_distinct};
 ghost use Rattle.yq_parser.specs.Parse as spec;
-ghost use Rattle.yq_core.specs.Values.{value_node, field_of};
-ghost use Rattle.yq_core.specs.Keys.{are_distinct};
 
 use crate::error::ParseError;
 use crate::front::{after, closed, expect, number, string};

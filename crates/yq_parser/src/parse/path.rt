@@ -1,9 +1,8 @@
 //! Paths.
 ghost use Rattle.std.specs.Prelude.{◌≡◌, ◌<◌, ◌≤◌, vec_len, length, codes, map, option_map, string_bytes, IfOk};
-ghost use Rattle.yq_parser.specs.ReadAnswers.{GivesForm, ReadsForm, ReadsMaybe, Shortens, IsShorter, with_tokens};
-ghost use Rattle.yq_parser.specs.Lexing.{tokens};
-ghost use Rattle.yq_parser.specs.Parse as spec;
+ghost use Rattle.yq_parser.{specs.ReadAnswers.{GivesForm, ReadsForm, ReadsMaybe, Shortens, IsShorter, with_tokens}, specs.Lexing.tokens};
 ghost use Rattle.yq_semantics.specs.View.{program_step};
+ghost use Rattle.yq_parser.specs.Parse as spec;
 
 use crate::error::ParseError;
 use crate::front::{after, closed, key, number, string};

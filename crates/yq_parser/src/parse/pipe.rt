@@ -1,9 +1,8 @@
 //! Conditions, stages and pipes.
 ghost use Rattle.std.specs.Prelude.{◌≡◌, ◌<◌, codes, length, map, option_map, IfOk};
-ghost use Rattle.yq_parser.specs.ReadAnswers.{ReadsForm, Shortens};
-ghost use Rattle.yq_parser.specs.Lexing.{tokens};
-ghost use Rattle.yq_parser.specs.Parse as spec;
+ghost use Rattle.yq_parser.{specs.ReadAnswers.{ReadsForm, Shortens}, specs.Lexing.tokens};
 ghost use Rattle.yq_semantics.specs.View.{operand_of, condition_of, stage_of};
+ghost use Rattle.yq_parser.specs.Parse as spec;
 
 use super::literal::scalar;
 use super::path::path;

@@ -1,10 +1,8 @@
 //! Updates.
 ghost use Rattle.std.specs.Prelude.{◌≡◌, ◌<◌, codes, length, map, option_map, string_bytes, IfOk};
-ghost use Rattle.yq_parser.specs.ReadAnswers.{ReadsForm, Shortens, IsShorter, with_tokens};
-ghost use Rattle.yq_semantics.specs.Grammar.{literal_depth};
-ghost use Rattle.yq_parser.specs.Lexing.{tokens};
+ghost use Rattle.yq_parser.{specs.ReadAnswers.{ReadsForm, Shortens, IsShorter, with_tokens}, specs.Lexing.tokens};
+ghost use Rattle.yq_semantics.{specs.Grammar.literal_depth, specs.View.{stage_of, term_of, update_of}};
 ghost use Rattle.yq_parser.specs.Parse as spec;
-ghost use Rattle.yq_semantics.specs.View.{stage_of, term_of, update_of};
 
 use super::literal::literal;
 use super::pipe::{left, pipe};

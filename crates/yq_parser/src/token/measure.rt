@@ -1,12 +1,10 @@
 //! The form and the length of a token.
-ghost use Rattle.std.specs.Char.{is_ascii_digit};
-ghost use Rattle.std.specs.List.{prefix_len};
+ghost use Rattle.std.{specs.Char.is_ascii_digit, specs.List.prefix_len};
 ghost use Rattle.std.specs.Prelude.{◌≡◌, ◌==◌, ◌&&◌, ◌+◌, ◌^◌, ◌<◌, ◌≤◌, length, is_some, IfSome};
-ghost use Rattle.yq_core.specs.Text.{front};
-ghost use Rattle.yq_core.specs.SchemaReading.{is_one_of};
+ghost use Rattle.yq_core.{specs.Text.front, specs.SchemaReading.is_one_of};
+ghost use Rattle.yq_semantics.specs.Tokens.{is_name_byte};
 ghost use Rattle.yq_parser.specs.Lexing as spec;
 ghost use Rattle.yq_semantics.specs.Tokens as grammar;
-ghost use Rattle.yq_semantics.specs.Tokens.{is_name_byte};
 
 use super::TokenForm;
 

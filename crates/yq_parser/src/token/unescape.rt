@@ -1,6 +1,7 @@
 //! The content of strings.
 ghost use Rattle.std.specs.List.{prefix_len};
-ghost use Rattle.std.specs.Prelude.{◌≡◌, ◌-◌, ◌<◌, ◌≤◌, ℕ, List, [], ◌∷◌, length, drop, option_map, slice_index, string_bytes, IfSome, IfOk};
+ghost use Rattle.std.specs.Prelude.{◌≡◌, ◌-◌, ◌<◌, ◌≤◌, ℕ, List, [], ◌∷◌, length, drop, option_map, slice_index, string_bytes, IfSome};
+ghost use Rattle.std.specs.Prelude.{IfOk};
 ghost use Rattle.yq_core.specs.Text.{unless, cut};
 ghost use Rattle.yq_parser.specs.Lexing as spec;
 ghost use Rattle.yq_semantics.specs.Tokens as grammar;

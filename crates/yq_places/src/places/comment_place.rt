@@ -2,11 +2,11 @@
 ghost use Rattle.std.specs.Prelude.{◌≡◌, ◌<◌, ◌≤◌, ◌+◌, length, option_map, slice_get, Some};
 ghost use Rattle.yq_text.specs.Limit.{text_limit};
 ghost use Rattle.yq_row_table.specs.View.{Slices};
-ghost use Rattle.yq_places.specs.CommentReading as spec;
-ghost use Rattle.yq_outline.specs.Extents as extents;
 ghost use Rattle.yq_documents.specs.Pieces.{span};
 ghost use Rattle.yq_outline.specs.Extents.{IsRowsView};
 ghost use Rattle.yq_places.specs.RowLineReading.{line_view};
+ghost use Rattle.yq_places.specs.CommentReading as spec;
+ghost use Rattle.yq_outline.specs.Extents as extents;
 
 use crate::places::stretch::RowLine;
 use yq_core::lines::split_at_break;

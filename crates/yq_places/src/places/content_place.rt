@@ -1,12 +1,11 @@
 //! Where the contents of nodes stand outside flow collections.
 ghost use Rattle.std.specs.Prelude.{◌≡◌, map, option_map};
 ghost use Rattle.yq_core.specs.Entries.{tree_step};
-ghost use Rattle.yq_places.specs.EntryReading as spec;
-ghost use Rattle.yq_outline.specs.Extents.{IsRowsView};
-ghost use Rattle.yq_outline.specs.RowWalk.{AreKnown, HasDocument, IsPosition, lines_stop};
-ghost use Rattle.yq_places.specs.RowWalk.{InEach};
+ghost use Rattle.yq_outline.{specs.Extents.IsRowsView, specs.RowWalk.{AreKnown, HasDocument, IsPosition, lines_stop}};
 ghost use Rattle.yq_outline.specs.Lines.{lines_of_rows};
+ghost use Rattle.yq_places.specs.RowWalk.{InEach};
 ghost use Rattle.yq_documents.specs.Pieces.{span};
+ghost use Rattle.yq_places.specs.EntryReading as spec;
 
 use crate::places::entry_place::lines_place;
 use crate::places::known_end::behind_all;

@@ -1,11 +1,10 @@
 //! Where entries and items stand in block collections.
 ghost use Rattle.std.specs.Prelude.{◌≡◌, ◌<◌, ◌-◌, map, option_map, Some};
 ghost use Rattle.yq_core.specs.Entries.{tree_step};
-ghost use Rattle.yq_places.specs.EntryReading as spec;
-ghost use Rattle.yq_outline.specs.Extents.{IsRowsView};
-ghost use Rattle.yq_outline.specs.RowWalk.{AreKnown, AreLinesTo, HasDocument};
+ghost use Rattle.yq_outline.{specs.Extents.IsRowsView, specs.RowWalk.{AreKnown, AreLinesTo, HasDocument}};
 ghost use Rattle.yq_places.specs.RowWalk.{InEach};
 ghost use Rattle.yq_documents.specs.Pieces.{span};
+ghost use Rattle.yq_places.specs.EntryReading as spec;
 
 use crate::places::row_place::{line_start, row_end};
 use yq_core::Step;

@@ -1,11 +1,9 @@
 //! What stands at items and entries, by their rows.
 ghost use Rattle.std.specs.Prelude.{◌≡◌, ◌<◌, true, List, ℕ};
 ghost use Rattle.yq_text.specs.Halves.{whole};
-ghost use Rattle.yq_row_table.specs.Grammar.{IsMark};
-ghost use Rattle.yq_row_table.specs.Rows.{Row as RowOf, rows_text};
-ghost use Rattle.yq_row_table.specs.View.{slices, row_view};
-ghost use Rattle.yq_places.specs.Standings as spec;
+ghost use Rattle.yq_row_table.{specs.Grammar.IsMark, specs.Rows.{Row as RowOf, rows_text}, specs.View.{slices, row_view}};
 ghost use Rattle.yq_places.specs.StandingReading.{AreRowsOf, HasEntry, BeginsRows, IsEntryIn};
+ghost use Rattle.yq_places.specs.Standings as spec;
 ghost use Rattle.yq_places.specs.StandingViews as row_agrees;
 
 use crate::places::halves::is_text;

@@ -1,8 +1,8 @@
 //! What is taken out of a text with the first item or entry of a compact collection.
 ghost use Rattle.std.specs.Prelude.{◌≡◌};
 ghost use Rattle.yq_text.specs.Halves.{whole};
-ghost use Rattle.yq_places.specs.FirstPlaces as spec;
 ghost use Rattle.yq_places.specs.FirstViews.{first_view, piece_between};
+ghost use Rattle.yq_places.specs.FirstPlaces as spec;
 
 use crate::places::halves::{begins_gap, split_end_spaces, split_line, split_spaces};
 use yq_text::Halves;

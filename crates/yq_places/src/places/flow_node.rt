@@ -1,7 +1,6 @@
 //! Flow collections at paths, with their places.
 ghost use Rattle.std.specs.Prelude.{◌≡◌, map, option_map};
-ghost use Rattle.yq_core.specs.Entries.{tree_step};
-ghost use Rattle.yq_core.specs.View.{inline_view};
+ghost use Rattle.yq_core.{specs.Entries.tree_step, specs.View.inline_view};
 ghost use Rattle.yq_places.specs.FlowViews as spec;
 
 use yq_core::{Form, Inline, Step};

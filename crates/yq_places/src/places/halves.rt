@@ -1,7 +1,5 @@
 //! What begins and ends a text in two halves.
-ghost use Rattle.std.specs.List.{prefix_len};
-ghost use Rattle.std.specs.Prelude.{◌≡◌, ◌==◌, ◌≤◌, length, slice_index};
-ghost use Rattle.std.specs.Str.{IsUtf8};
+ghost use Rattle.std.{specs.List.prefix_len, specs.Prelude.{◌≡◌, ◌==◌, ◌≤◌, length, slice_index}, specs.Str.IsUtf8};
 ghost use Rattle.yq_text.specs.Halves.{whole};
 ghost use Rattle.yq_row_table.specs.Reading as reading;
 ghost use Rattle.yq_core.specs.Text as scan;

@@ -1,13 +1,12 @@
 //! Keys and dashes of a text, with what they hold.
 ghost use Rattle.std.specs.Prelude.{◌≡◌, ◌≤◌, ◌+◌, ◌||◌, length, not};
-ghost use Rattle.yq_text.specs.Halves.{whole};
-ghost use Rattle.yq_text.specs.Limit.{text_limit};
+ghost use Rattle.yq_text.{specs.Halves.whole, specs.Limit.text_limit};
 ghost use Rattle.yq_core.specs.Text.{is_empty};
 ghost use Rattle.yq_row_table.specs.View.{row_view};
 ghost use Rattle.yq_outline.specs.RowWalk.{line_column};
+ghost use Rattle.yq_places.specs.StandingReading.{HasEntry, IsEntryIn};
 ghost use Rattle.yq_places.specs.RowPieces as pieces;
 ghost use Rattle.yq_places.specs.Standings as spec;
-ghost use Rattle.yq_places.specs.StandingReading.{HasEntry, IsEntryIn};
 ghost use Rattle.yq_places.specs.StandingViews as row_agrees;
 
 use crate::places::halves::is_text;

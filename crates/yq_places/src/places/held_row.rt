@@ -1,8 +1,7 @@
 //! Keys and dashes whose line is the last one of its row, with that row and what it holds behind them.
 ghost use Rattle.std.specs.Prelude.{[], ◌≡◌, ◌<◌, ◌&&◌, length, not, slice_get, IfSome, Some};
 ghost use Rattle.yq_core.specs.Text.{is_empty};
-ghost use Rattle.yq_row_table.specs.Rows.{Cut, Row as RowOf};
-ghost use Rattle.yq_row_table.specs.View.{rows_of, rows_view};
+ghost use Rattle.yq_row_table.{specs.Rows.{Cut, Row as RowOf}, specs.View.{rows_of, rows_view}};
 ghost use Rattle.yq_documents.specs.RowReading.{is_block_head};
 ghost use Rattle.yq_outline.specs.Extents.{IsRowsView};
 ghost use Rattle.yq_places.specs.CommentPlaces.{end_in_line};

@@ -1,10 +1,8 @@
 //! The item on the way of a path from which a later walk may go on.
 ghost use Rattle.std.specs.Prelude.{◌≡◌, map, IfSome};
 ghost use Rattle.yq_core.specs.Entries.{tree_step};
-ghost use Rattle.yq_row_table.specs.Rows.{Cut};
-ghost use Rattle.yq_row_table.specs.View.{rows_view};
-ghost use Rattle.yq_outline.specs.Extents.{IsRowsView};
-ghost use Rattle.yq_outline.specs.RowWalk.{AreKnown, HasDocument, IsKnown, IsLine};
+ghost use Rattle.yq_row_table.{specs.Rows.Cut, specs.View.rows_view};
+ghost use Rattle.yq_outline.{specs.Extents.IsRowsView, specs.RowWalk.{AreKnown, HasDocument, IsKnown, IsLine}};
 ghost use Rattle.yq_places.specs.RowWalk.{IsKnownLine, IsLineAt, StaysKnown};
 
 use crate::places::known_line::KnownLine;

@@ -1,10 +1,9 @@
 //! The end of a collection, looked for from an item that is known.
 ghost use Rattle.std.specs.Prelude.{◌≡◌, ◌⊎◌, ◌<◌, ◌≤◌, ◌+◌, length, IfSome};
-ghost use Rattle.yq_outline.specs.Outline.{level};
-ghost use Rattle.yq_outline.specs.Extents.{IsRowsView};
-ghost use Rattle.yq_outline.specs.RowWalk as spec;
+ghost use Rattle.yq_outline.{specs.Outline.level, specs.Extents.IsRowsView};
 ghost use Rattle.yq_outline.specs.RowWalk.{AreKnown, HasDocument, IsKnown, IsLine, IsPosition, OfLine, OfLines, lines_stop};
 ghost use Rattle.yq_places.specs.RowWalk.{IsKnownLine};
+ghost use Rattle.yq_outline.specs.RowWalk as spec;
 
 use crate::places::known_line::KnownLine;
 use crate::places::node_place::{NodePlace, node_place};

@@ -1,9 +1,7 @@
 //! The line to which a path leads, where it is known.
 ghost use Rattle.std.specs.Prelude.{◌≡◌, map, option_map, IfSome, IsTrue};
 ghost use Rattle.yq_core.specs.Entries.{tree_step};
-ghost use Rattle.yq_outline.specs.Ends.{line_at_steps, reached};
-ghost use Rattle.yq_outline.specs.Lines.{lines_of_rows};
-ghost use Rattle.yq_outline.specs.Extents.{IsRowsView};
+ghost use Rattle.yq_outline.{specs.Ends.{line_at_steps, reached}, specs.Lines.lines_of_rows, specs.Extents.IsRowsView};
 ghost use Rattle.yq_outline.specs.RowWalk.{AreKnown, HasDocument, IsLine, line_number, reached_view};
 ghost use Rattle.yq_places.specs.RowWalk.{IsKnownLine, IsLineAt};
 

@@ -1,8 +1,8 @@
 //! Lines above rows, where head comments stand or would stand.
 ghost use Rattle.std.specs.Prelude.{◌≡◌};
 ghost use Rattle.yq_text.specs.Halves.{whole};
-ghost use Rattle.yq_places.specs.CommentPlaces as spec;
 ghost use Rattle.yq_places.specs.CommentViews.{above_view, GapStands};
+ghost use Rattle.yq_places.specs.CommentPlaces as spec;
 
 use yq_documents::last_run;
 use yq_text::Halves;

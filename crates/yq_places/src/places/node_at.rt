@@ -1,18 +1,11 @@
 //! What the nodes at paths are, each read from the rows that tell it.
 ghost use Rattle.std.specs.Prelude.{◌≡◌, map, option_map, false, IfOk, None};
-ghost use Rattle.yq_core.specs.Entries.{tree_step};
-ghost use Rattle.yq_core.specs.Paths.{node_at};
-ghost use Rattle.yq_core.specs.Trees.{placed_tree};
+ghost use Rattle.yq_core.{specs.Entries.tree_step, specs.Paths.node_at, specs.Trees.placed_tree};
+ghost use Rattle.yq_outline.{specs.Ends.part, specs.Outline.value, specs.Positions.begins_with_node, specs.View.head_view};
+ghost use Rattle.yq_outline.{specs.Lines.lines_of_rows, specs.Extents.IsRowsView, specs.RowWalk.{HasRows, IsPosition, line_number}};
 ghost use Rattle.yq_core.specs.View as inline;
-ghost use Rattle.yq_outline.specs.Ends.{part};
-ghost use Rattle.yq_outline.specs.Outline.{value};
-ghost use Rattle.yq_outline.specs.Positions.{begins_with_node};
-ghost use Rattle.yq_outline.specs.View.{head_view};
-ghost use Rattle.yq_outline.specs.Lines.{lines_of_rows};
-ghost use Rattle.yq_outline.specs.Extents.{IsRowsView};
 ghost use Rattle.yq_places.specs.NodeReading as reading;
 ghost use Rattle.yq_places.specs.NodesAt as spec;
-ghost use Rattle.yq_outline.specs.RowWalk.{HasRows, IsPosition, line_number};
 
 use crate::places::node_place::NodePlace;
 use std::alloc::{AllocError, Global};

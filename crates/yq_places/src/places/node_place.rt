@@ -1,12 +1,10 @@
 //! Where the nodes at paths are written among the lines of a document, row by row.
 ghost use Rattle.std.specs.Prelude.{◌≡◌, map, option_map, slice_get, IfSome, Some};
 ghost use Rattle.yq_core.specs.Entries.{tree_step};
-ghost use Rattle.yq_outline.specs.Outline.{Line};
-ghost use Rattle.yq_outline.specs.Lines.{lines_of_rows};
-ghost use Rattle.yq_outline.specs.Extents.{IsRowsView};
-ghost use Rattle.yq_places.specs.NodeReading as spec;
-ghost use Rattle.yq_places.specs.RowWalk.{IsKnownLine};
+ghost use Rattle.yq_outline.{specs.Outline.Line, specs.Lines.lines_of_rows, specs.Extents.IsRowsView};
 ghost use Rattle.yq_outline.specs.RowWalk.{AreKnown, HasDocument, HasRows, IsLine, line_number};
+ghost use Rattle.yq_places.specs.RowWalk.{IsKnownLine};
+ghost use Rattle.yq_places.specs.NodeReading as spec;
 
 use crate::places::known_line::{KnownLine, reach_by};
 use yq_core::Step;

@@ -1,20 +1,14 @@
 //! What is taken out of a text with an item or entry of a block collection.
 ghost use Rattle.std.specs.Prelude.{◌≡◌, ◌<◌, ◌≤◌, ◌+◌, ◌-◌, ◌++◌, ℕ, List, Option, drop, take, length, map, option_map, IfSome, Some};
 ghost use Rattle.yq_text.specs.Halves.{whole};
-ghost use Rattle.yq_core.specs.Entries.{tree_step};
-ghost use Rattle.yq_row_table.specs.Grammar.{IsCut};
-ghost use Rattle.yq_row_table.specs.Removal.{block_numbers, hold_comment, last_block};
-ghost use Rattle.yq_row_table.specs.Rows.{Cut, Part, Row as RowOf};
-ghost use Rattle.yq_row_table.specs.View.{rows_of, rows_view};
-ghost use Rattle.yq_core.specs.Block.{BlockText};
-ghost use Rattle.yq_core.specs.Text.{joined, text_lines};
-ghost use Rattle.yq_outline.specs.Extents.{IsRowsView};
+ghost use Rattle.yq_core.{specs.Entries.tree_step, specs.Block.BlockText, specs.Text.{joined, text_lines}};
+ghost use Rattle.yq_row_table.{specs.Grammar.IsCut, specs.Removal.{block_numbers, hold_comment, last_block}};
+ghost use Rattle.yq_row_table.{specs.Rows.{Cut, Part, Row as RowOf}, specs.View.{rows_of, rows_view}};
+ghost use Rattle.yq_outline.{specs.Extents.IsRowsView, specs.RowWalk.{AreKnown, HasDocument}};
+ghost use Rattle.yq_places.{specs.PlacedRows.PlacedPart, specs.RowWalk.IsKnownLine};
 ghost use Rattle.yq_documents.specs.Pieces as pieces;
-ghost use Rattle.yq_places.specs.PlacedRows.{PlacedPart};
 ghost use Rattle.yq_places.specs.RemovalPlaces as spec;
 ghost use Rattle.yq_places.specs.RemovalReading as reading;
-ghost use Rattle.yq_places.specs.RowWalk.{IsKnownLine};
-ghost use Rattle.yq_outline.specs.RowWalk.{AreKnown, HasDocument};
 
 use crate::places::halves::is_text;
 use crate::places::known_line::{KnownLine, line_by};

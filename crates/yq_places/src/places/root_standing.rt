@@ -1,8 +1,8 @@
 //! What stands at roots.
 ghost use Rattle.std.specs.Prelude.{◌≡◌, ◌<◌, ◌∷◌};
 ghost use Rattle.yq_text.specs.Halves.{whole};
-ghost use Rattle.yq_places.specs.Standings as spec;
 ghost use Rattle.yq_places.specs.StandingReading.{IsRootOf};
+ghost use Rattle.yq_places.specs.Standings as spec;
 ghost use Rattle.yq_places.specs.StandingViews as row_agrees;
 
 use crate::places::entry_standing::{is_alone, lone_in};

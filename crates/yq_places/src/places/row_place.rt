@@ -1,14 +1,12 @@
 //! Where rows and their lines begin and end.
 ghost use Rattle.std.specs.Prelude.{◌≡◌, ◌<◌, ◌≤◌, ◌+◌, ℕ, List, length, slice_get, Some};
 ghost use Rattle.yq_text.specs.Limit.{text_limit};
-ghost use Rattle.yq_row_table.specs.Grammar.{IsCut};
-ghost use Rattle.yq_row_table.specs.Offsets.{row_length};
-ghost use Rattle.yq_row_table.specs.Rows.{Cut, Row as RowOf};
+ghost use Rattle.yq_row_table.{specs.Grammar.IsCut, specs.Offsets.row_length, specs.Rows.{Cut, Row as RowOf}};
 ghost use Rattle.yq_row_table.specs.View.{rows_of, rows_view, Slices, row_view};
-ghost use Rattle.yq_places.specs.EntryReading as spec;
-ghost use Rattle.yq_outline.specs.Extents as extents;
 ghost use Rattle.yq_outline.specs.Extents.{IsRowsView};
 ghost use Rattle.yq_documents.specs.Pieces.{span};
+ghost use Rattle.yq_places.specs.EntryReading as spec;
+ghost use Rattle.yq_outline.specs.Extents as extents;
 
 use crate::places::halves::less_break_len;
 use yq_documents::{Span, is_block_head};

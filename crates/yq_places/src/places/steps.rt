@@ -1,8 +1,6 @@
 //! By how many columns the collections of a document stand deeper than their keys.
 ghost use Rattle.std.specs.Prelude.{◌≡◌};
-ghost use Rattle.yq_outline.specs.Lines.{lines_of_rows};
-ghost use Rattle.yq_outline.specs.Extents.{IsRowsView};
-ghost use Rattle.yq_outline.specs.RowWalk.{HasRows};
+ghost use Rattle.yq_outline.{specs.Lines.lines_of_rows, specs.Extents.IsRowsView, specs.RowWalk.HasRows};
 ghost use Rattle.yq_places.specs.StepReading as reading;
 ghost use Rattle.yq_places.specs.Steps as spec;
 

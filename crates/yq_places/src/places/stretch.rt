@@ -2,8 +2,7 @@
 ghost use Rattle.std.specs.Prelude.{◌≡◌, ◌-◌, map, option_map};
 ghost use Rattle.yq_core.specs.Entries.{tree_step};
 ghost use Rattle.yq_documents.specs.LinesInRows.{row_line_of};
-ghost use Rattle.yq_outline.specs.Extents.{IsRowsView};
-ghost use Rattle.yq_outline.specs.RowWalk.{AreKnown, HasDocument};
+ghost use Rattle.yq_outline.{specs.Extents.IsRowsView, specs.RowWalk.{AreKnown, HasDocument}};
 ghost use Rattle.yq_places.specs.RowLineReading.{numbers, line_view};
 
 use yq_core::Step;

@@ -1,6 +1,5 @@
 //! A text in three pieces.
-ghost use Rattle.std.specs.Prelude.{◌≡◌, ◌≤◌, ◌-◌, drop, take};
-ghost use Rattle.std.specs.Str.{IsCharBoundary};
+ghost use Rattle.std.{specs.Prelude.{◌≡◌, ◌≤◌, ◌-◌, drop, take}, specs.Str.IsCharBoundary};
 ghost use Rattle.yq_text.specs.Halves.{whole};
 
 use yq_text::Halves;

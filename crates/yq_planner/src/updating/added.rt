@@ -1,12 +1,10 @@
 //! A value that is added to a node.
 ghost use Rattle.std.specs.Prelude.{◌≡◌, IfOk, None, Some, map, false};
-ghost use Rattle.yq_core.specs.Values.{entries_of, value_node, items_of};
-ghost use Rattle.yq_core.specs.Tree.{Children, children_of, none, scalar};
+ghost use Rattle.yq_core.{specs.Values.{entries_of, value_node, items_of}, specs.Tree.{Children, children_of, none, scalar}};
 ghost use Rattle.yq_nodes.specs.Nodes.{node_of};
-ghost use Rattle.yq_semantics.specs.Changes as spec;
-ghost use Rattle.yq_planner.specs.ChangeView.{addition_of, change_of};
-ghost use Rattle.yq_planner.specs.Indexes.{IsIndex};
+ghost use Rattle.yq_planner.{specs.ChangeView.{addition_of, change_of}, specs.Indexes.IsIndex};
 ghost use Rattle.yq_semantics.specs.Judgement.{Judges};
+ghost use Rattle.yq_semantics.specs.Changes as spec;
 ghost use Rattle.yq_semantics.specs.RightValues as values;
 
 use crate::updating::change::{Addition, Change};

@@ -1,15 +1,12 @@
 //! What refuses a change.
-ghost use Rattle.std.specs.List.{list_any};
-ghost use Rattle.std.specs.Prelude.{◌≡◌, ◌∷◌, [], IfOk, List, Some, length, map};
-ghost use Rattle.yq_core.specs.Paths.{Step as TreeStep, node_at};
-ghost use Rattle.yq_core.specs.Tree.{Children, Node as TreeNode, children_of};
+ghost use Rattle.std.{specs.List.list_any, specs.Prelude.{◌≡◌, ◌∷◌, [], IfOk, List, Some, length, map}};
+ghost use Rattle.yq_core.{specs.Paths.{Step as TreeStep, node_at}, specs.Tree.{Children, Node as TreeNode, children_of}};
 ghost use Rattle.yq_core.specs.Anchors.{Name, names_of};
 ghost use Rattle.yq_nodes.specs.Nodes.{node_of};
-ghost use Rattle.yq_semantics.specs.Changes as spec;
-ghost use Rattle.yq_planner.specs.ChangeView.{addition_of, change_of};
-ghost use Rattle.yq_planner.specs.Indexes.{HasAliases, IsIndex};
-ghost use Rattle.yq_semantics.specs.Judgement.{Judges};
+ghost use Rattle.yq_planner.{specs.ChangeView.{addition_of, change_of}, specs.Indexes.{HasAliases, IsIndex}};
 ghost use Rattle.yq_planner.specs.TakenNames.{takes_at, overwrites_at};
+ghost use Rattle.yq_semantics.specs.Judgement.{Judges};
+ghost use Rattle.yq_semantics.specs.Changes as spec;
 
 use crate::updating::anchors::{Aliases, is_used_in, is_used_inside};
 use crate::updating::change::{Addition, Change};

@@ -1,12 +1,9 @@
 //! Anchors that aliases of a document name.
-ghost use Rattle.std.specs.List.{list_any};
-ghost use Rattle.std.specs.Prelude.{◌≡◌, ◌||◌, IfOk, List, OnOk, is_some, ℕ};
-ghost use Rattle.yq_core.specs.Tree.{children_of, anchor_of};
-ghost use Rattle.yq_core.specs.Anchors.{Name, names_in, names_of};
+ghost use Rattle.std.{specs.List.list_any, specs.Prelude.{◌≡◌, ◌||◌, IfOk, List, OnOk, is_some, ℕ}};
+ghost use Rattle.yq_core.{specs.Tree.{children_of, anchor_of}, specs.Anchors.{Name, names_in, names_of}};
 ghost use Rattle.yq_nodes.specs.Nodes.{node_of};
+ghost use Rattle.yq_planner.{specs.Indexes.{HasAliases, get_text}, specs.TakenNames.is_used_anchor};
 ghost use Rattle.yq_semantics.specs.Changes as spec;
-ghost use Rattle.yq_planner.specs.Indexes.{HasAliases, get_text};
-ghost use Rattle.yq_planner.specs.TakenNames.{is_used_anchor};
 
 use std::alloc::{AllocError, Global};
 use std::collections::BTreeMap;

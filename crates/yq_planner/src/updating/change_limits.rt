@@ -1,9 +1,8 @@
 //! Changes that can't be written: with too long a key, or nested too deep.
-ghost use Rattle.std.specs.List.{list_any};
-ghost use Rattle.std.specs.Prelude.{◌≡◌, ◌||◌, IfOk, Some, suc};
+ghost use Rattle.std.{specs.List.list_any, specs.Prelude.{◌≡◌, ◌||◌, IfOk, Some, suc}};
 ghost use Rattle.yq_core.specs.Values.{value_node};
-ghost use Rattle.yq_semantics.specs.Changes as spec;
 ghost use Rattle.yq_planner.specs.ChangeView.{addition_of, change_of};
+ghost use Rattle.yq_semantics.specs.Changes as spec;
 
 use crate::updating::change::{Addition, Change};
 use crate::updating::limits::{holds_long_key, is_deep, is_deep_inside, is_long_key};

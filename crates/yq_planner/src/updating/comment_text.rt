@@ -1,8 +1,8 @@
 //! Texts that comments can have.
 ghost use Rattle.std.specs.Prelude.{◌≡◌, ◌&&◌, ◌==◌, not};
 ghost use Rattle.yq_core.specs.Characters.{is_text_char};
-ghost use Rattle.yq_semantics.specs.Changes as spec;
 ghost use Rattle.yq_semantics.specs.View.{update_of};
+ghost use Rattle.yq_semantics.specs.Changes as spec;
 
 use yq_core::characters::is_text_char;
 use yq_semantics::{CommentPlace, Update};

@@ -1,7 +1,6 @@
 //! The entries of a mapping, by their keys.
 ghost use Rattle.std.specs.Prelude.{◌≡◌, IfOk, List, OnOk, option_map, ℕ};
-ghost use Rattle.yq_core.specs.Paths.{To, child_at};
-ghost use Rattle.yq_core.specs.Tree.{Children, children_of};
+ghost use Rattle.yq_core.{specs.Paths.{To, child_at}, specs.Tree.{Children, children_of}};
 ghost use Rattle.yq_nodes.specs.Nodes.{label_of, node_of};
 ghost use Rattle.yq_planner.specs.Indexes.{IsIndex, kept_first, get_text};
 

@@ -1,6 +1,5 @@
 //! The numbers of entries, by their keys.
-ghost use Rattle.std.specs.BTreeMap.{get_by_text};
-ghost use Rattle.std.specs.Prelude.{◌≡◌, IfOk, List, OnOk, map, ℕ};
+ghost use Rattle.std.{specs.BTreeMap.get_by_text, specs.Prelude.{◌≡◌, IfOk, List, OnOk, map, ℕ}};
 ghost use Rattle.yq_core.specs.Values.{field_of};
 ghost use Rattle.yq_planner.specs.EntryNumbers.{AreNumbered, number_kept};
 

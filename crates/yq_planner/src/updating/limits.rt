@@ -1,7 +1,6 @@
 //! What can't be written: values with too long a key, or nested too deep.
 ghost use Rattle.std.specs.Prelude.{◌≡◌, IfOk, nat_lt, suc};
-ghost use Rattle.yq_core.specs.Values.{entries_of, items_of, value_node};
-ghost use Rattle.yq_core.specs.Keys.{deepest, depth};
+ghost use Rattle.yq_core.{specs.Values.{entries_of, items_of, value_node}, specs.Keys.{deepest, depth}};
 ghost use Rattle.yq_semantics.specs.Changes as spec;
 
 use std::alloc::{AllocError, Global};

@@ -1,13 +1,10 @@
 //! Sums of values (yq manual, `+`).
-ghost use Rattle.std.specs.Fmt.{signed_decimal};
-ghost use Rattle.std.specs.Prelude.{◌≡◌, ◌++◌, IfOk, None, OnOk, Some, map, option_map, string_bytes};
-ghost use Rattle.yq_core.specs.Values.{entries_of, field_of, items_of, value_node};
-ghost use Rattle.yq_core.specs.SchemaReading as numbers;
-ghost use Rattle.yq_core.specs.Tree.{scalar};
-ghost use Rattle.yq_core.specs.declared.kind.Kind.TheVariants.{Int, Text};
-ghost use Rattle.yq_core.specs.Paths.{append_children};
+ghost use Rattle.std.{specs.Fmt.signed_decimal, specs.Prelude.{◌≡◌, ◌++◌, IfOk, None, OnOk, Some, map, option_map, string_bytes}};
+ghost use Rattle.yq_core.{specs.Values.{entries_of, field_of, items_of, value_node}, specs.Tree.scalar};
+ghost use Rattle.yq_core.{specs.declared.kind.Kind.TheVariants.{Int, Text}, specs.Paths.append_children};
 ghost use Rattle.yq_planner.specs.EntryNumbers.{AreNumbered};
 ghost use Rattle.yq_semantics.specs.Judgement.{Judges};
+ghost use Rattle.yq_core.specs.SchemaReading as numbers;
 ghost use Rattle.yq_semantics.specs.RightValues as spec;
 
 use crate::updating::key_numbers::{KeyNumbers, keep_number, number_of, numbers_of};

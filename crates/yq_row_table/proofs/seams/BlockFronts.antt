@@ -1,15 +1,10 @@
 -- A gap that stands behind a block scalar in the place of another one, repaired.
-use Rattle.std.proofs.Common.{◌≡◌, ◌⊎◌, ℕ, ◌<◌, true, false, List, [], ◌∷◌, ◌++◌, Option, Some, None, refl, sym, ap, ◌∙◌, subst, ⊎_elim, append_assoc, rules}
-use Rattle.std.proofs.lemmas.Bool.{cond_both, cases_Bool}
-use Rattle.yq_core.specs.Block.{RawLines, BlockText, IsBlock, ends_block, keeps}
-use Rattle.yq_core.specs.BlockRepair.{AreGap, repair, is_behind}
-use Rattle.yq_core.specs.BlockWritten.{ends_with_break}
-use Rattle.yq_core.specs.Piece.{deeper}
-use Rattle.yq_core.specs.Text.{is_empty, text_lines, joined}
-use Rattle.yq_core.proofs.BlockRepairText.{repair_stands}
-use Rattle.yq_core.proofs.LineLaws.{joined-append}
-use Rattle.yq_row_table.specs.Gap.{IsGapLine, AreGapLines, IsGap}
-use Rattle.yq_row_table.specs.Grammar.{IsContent, Limit, limit_after, AreRows}
+use Rattle.std.proofs.Common.{◌≡◌, ◌⊎◌, ℕ, ◌<◌, true, false, List, [], ◌∷◌, ◌++◌, Option, Some, None, refl, sym, ap, ◌∙◌, subst, ⊎_elim}
+use Rattle.std.{proofs.Common.{append_assoc, rules}, proofs.lemmas.Bool.{cond_both, cases_Bool}}
+use Rattle.yq_core.{specs.Block.{RawLines, BlockText, IsBlock, ends_block, keeps}, specs.BlockRepair.{AreGap, repair, is_behind}}
+use Rattle.yq_core.{specs.BlockWritten.ends_with_break, specs.Piece.deeper, specs.Text.{is_empty, text_lines, joined}}
+use Rattle.yq_core.{proofs.BlockRepairText.repair_stands, proofs.LineLaws.joined-append}
+use Rattle.yq_row_table.{specs.Gap.{IsGapLine, AreGapLines, IsGap}, specs.Grammar.{IsContent, Limit, limit_after, AreRows}}
 use Rattle.yq_row_table.specs.Rows.{Content, Nothing, Inline, Block, Row, parent_indent, rows_text}
 use Rattle.yq_row_table.specs.Removal.{block_of, last_block, hold_comment, seam_gap}
 use Rattle.yq_row_table.specs.Seams.{is_seam, are_seamed, ends_in_block, is_block}

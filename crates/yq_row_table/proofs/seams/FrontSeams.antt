@@ -1,16 +1,12 @@
 -- What rows in front ask of a text that stands behind them in the place of another one.
 use Rattle.std.proofs.Common.{◌≡◌, ℕ, ℤ, true, false, ◌||◌, List, [], ◌∷◌, ◌++◌, refl, sym, ap, ◌∙◌, ⊎_elim, replicate, Some, rules}
 use Rattle.std.proofs.lemmas.Bool.{false≢true, or_right}
-use Rattle.yq_core.specs.Text.{is_empty, is_line, text_lines}
-use Rattle.yq_core.specs.Alike.{Alike}
+use Rattle.yq_core.{specs.Text.{is_empty, is_line, text_lines}, specs.Alike.Alike, proofs.Alikes.alike_empty}
 use Rattle.yq_row_table.specs.Grammar.{IsTail, IsContent, IsRow, Limit, limit_after, AreRows, no_rows}
 use Rattle.yq_row_table.specs.Rows.{Content, Row, behind_indent, behind_gap, parent_indent, print_row, rows_text}
 use Rattle.yq_row_table.specs.Seams.{is_closed, is_seam, are_seamed, is_block, ends_in_block, ends_in_line, tail_behind}
-use Rattle.yq_core.proofs.Alikes.{alike_empty}
 use Rattle.yq_row_table.proofs.AlikeBlocks.{LinesAlike, lines_after, lines_alike, starts_alike, ends_alike}
-use Rattle.yq_row_table.proofs.NothingLaws.{some_behind}
-use Rattle.yq_row_table.proofs.RowAgain.{row_starts}
-use Rattle.yq_row_table.proofs.seams.SeamLaws.{tail_line}
+use Rattle.yq_row_table.{proofs.NothingLaws.some_behind, proofs.RowAgain.row_starts, proofs.seams.SeamLaws.tail_line}
 use Rattle.yq_row_table.proofs.EmptyTexts.{none_is}
 
 -- the text of a row isn't empty

@@ -1,16 +1,10 @@
 -- Gaps one behind the other, and what stays in front of a gap behind a block scalar.
 use Rattle.std.proofs.Common.{◌≡◌, ℕ, Bool, true, false, not, List, [], ◌∷◌, ◌++◌, refl, sym, ap, ◌∙◌, subst, ⊎_elim, rules}
 use Rattle.std.proofs.lemmas.Bool.{false≢true, not-false, not-true, and_parts, cases_Bool, or_parts}
-use Rattle.yq_core.specs.Block.{RawLines, ends_block, is_empty_line, is_less_indented}
-use Rattle.yq_core.specs.declared.block_lines.TextIndent.{TextIndent}
-use Rattle.yq_core.specs.Lines.{behind_spaces, is_blank}
-use Rattle.yq_core.specs.Text.{is_empty, ends_line, joined, text_lines}
-use Rattle.yq_core.specs.BlockRepair.{repair}
-use Rattle.yq_core.proofs.SpaceLaws.{char_not_blank}
-use Rattle.yq_core.proofs.LineLaws.{joined-append}
-use Rattle.yq_row_table.specs.Gap.{AreGapLines, IsGap}
-use Rattle.yq_row_table.specs.Removal.{hold_comment}
-use Rattle.yq_row_table.proofs.NothingLaws.{some_behind, line_end_other}
+use Rattle.yq_core.{specs.Block.{RawLines, ends_block, is_empty_line, is_less_indented}, specs.declared.block_lines.TextIndent.TextIndent}
+use Rattle.yq_core.{specs.Lines.{behind_spaces, is_blank}, specs.Text.{is_empty, ends_line, joined, text_lines}, specs.BlockRepair.repair}
+use Rattle.yq_core.{proofs.SpaceLaws.char_not_blank, proofs.LineLaws.joined-append}
+use Rattle.yq_row_table.{specs.Gap.{AreGapLines, IsGap}, specs.Removal.hold_comment, proofs.NothingLaws.{some_behind, line_end_other}}
 use Rattle.yq_row_table.proofs.seams.GapSeams.{gap_lines_of, lines_before, repaired_gap}
 
 -- gaps one behind the other

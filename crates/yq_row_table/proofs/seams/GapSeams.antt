@@ -1,18 +1,15 @@
 -- Gaps joined, and repaired behind a block scalar.
-use Rattle.std.proofs.Common.{◌≡◌, ◌⊎◌, inl, inr, ℕ, Bool, true, false, ◌&&◌, ◌||◌, List, [], ◌∷◌, ◌++◌, refl, sym, ap, ◌∙◌, subst, ⊎_elim, append_assoc, append-nil, replicate, rules}
+use Rattle.std.proofs.Common.{◌≡◌, ◌⊎◌, inl, inr, ℕ, Bool, true, false, ◌&&◌, ◌||◌, List, [], ◌∷◌, ◌++◌, refl, sym, ap, ◌∙◌, subst, ⊎_elim}
+use Rattle.std.proofs.Common.{append_assoc, append-nil, replicate, rules}
 use Rattle.std.proofs.lemmas.Bool.{false≢true, cond_both, and_parts, cases_Bool, or_parts}
 use Rattle.yq_core.specs.Block.{RawLines}
 use Rattle.yq_core.specs.BlockRepair.{AreGap, is_short, is_outdented_comment, repaired_blank, repaired_comment, repair}
-use Rattle.yq_core.specs.BlockWritten.{ends_with_break}
-use Rattle.yq_core.specs.Lines.{is_hash, is_blank}
-use Rattle.yq_core.specs.Text.{no_white, NoneIn, is_feed, is_return, is_break, is_empty, is_line, ends_line, front, past_white, put_byte, text_lines, joined}
-use Rattle.yq_core.proofs.LineLaws.{lines_again}
-use Rattle.yq_row_table.specs.Gap.{IsBreak, IsLineEnd, IsGapLine, AreGapLines, IsGap}
-use Rattle.yq_row_table.proofs.EmptyTexts.{empty_is, none_is, empty_or}
-use Rattle.yq_row_table.proofs.LineEnds.{white_again, white_none, comment_none}
-use Rattle.yq_row_table.proofs.NothingLaws.{some_behind}
-use Rattle.yq_row_table.proofs.seams.SeamLaws.{line_by_break}
-use Rattle.yq_row_table.proofs.RowAgain.{white_spaces}
+use Rattle.yq_core.{specs.BlockWritten.ends_with_break, specs.Lines.{is_hash, is_blank}}
+use Rattle.yq_core.specs.Text.{no_white, NoneIn, is_feed, is_return, is_break, is_empty, is_line, ends_line, front, past_white, put_byte}
+use Rattle.yq_core.{specs.Text.{text_lines, joined}, proofs.LineLaws.lines_again}
+use Rattle.yq_row_table.{specs.Gap.{IsBreak, IsLineEnd, IsGapLine, AreGapLines, IsGap}, proofs.EmptyTexts.{empty_is, none_is, empty_or}}
+use Rattle.yq_row_table.{proofs.LineEnds.{white_again, white_none, comment_none}, proofs.NothingLaws.some_behind}
+use Rattle.yq_row_table.{proofs.seams.SeamLaws.line_by_break, proofs.RowAgain.white_spaces}
 
 past_line : (white comment p rest : List ℕ) (h : IsLineEnd white comment p rest) → (past_white p ≡ comment ++ h.break) × ((ends_line (comment ++ h.break) || is_hash (comment ++ h.break)) ≡ true)
 past_line white comment p rest h =

@@ -1,14 +1,12 @@
 -- A row behind the dashes of another one.
-use Rattle.std.proofs.Common.{◌≡◌, ℕ, zero, suc, ℤ, ◌+◌, ◌≤◌, true, false, List, [], ◌∷◌, ◌++◌, refl, sym, ap, ◌∙◌, subst, arith, replicate, Some}
-use Rattle.std.proofs.lemmas.Bool.{false≢true}
-use Rattle.yq_core.specs.Text.{is_empty, separates}
-use Rattle.yq_core.specs.Alike.{Alike, byte}
+use Rattle.std.proofs.Common.{◌≡◌, ℕ, zero, suc, ℤ, ◌+◌, ◌≤◌, true, false, List, [], ◌∷◌, ◌++◌, refl, sym, ap, ◌∙◌, subst, arith, replicate}
+use Rattle.std.{proofs.Common.Some, proofs.lemmas.Bool.false≢true}
+use Rattle.yq_core.{specs.Text.{is_empty, separates}, specs.Alike.{Alike, byte}}
 use Rattle.yq_row_table.specs.Grammar.{IsContent, IsMark, AreDashes, is_entry, IsRow, Limit, limit_after, limit_behind}
-use Rattle.yq_row_table.specs.Rows.{RowMark, dashes_text, behind_columns, mark_column, parent_of, Row, behind_dashes, behind_indent, parent_indent, Dash, Content, content_text, mark_text}
-use Rattle.yq_row_table.specs.Joined.{joined_row, Joins, dashed_row, DashFits, compact_row, CompactFits}
-use Rattle.yq_row_table.specs.Seams.{TakesPlace}
-use Rattle.yq_row_table.proofs.AlikeRows.{dashes_text_alike}
-use Rattle.yq_row_table.proofs.RowPlaces.{takes_place}
+use Rattle.yq_row_table.specs.Rows.{RowMark, dashes_text, behind_columns, mark_column, parent_of, Row, behind_dashes, behind_indent}
+use Rattle.yq_row_table.specs.Rows.{parent_indent, Dash, Content, content_text, mark_text}
+use Rattle.yq_row_table.{specs.Joined.{joined_row, Joins, dashed_row, DashFits, compact_row, CompactFits}, specs.Seams.TakesPlace}
+use Rattle.yq_row_table.{proofs.AlikeRows.dashes_text_alike, proofs.RowPlaces.takes_place}
 
 pub dashes_text-append : (ns ms t : List ℕ) → dashes_text (ns ++ ms) t ≡ dashes_text ns (dashes_text ms t)
 dashes_text-append [] ms t = refl

@@ -1,20 +1,12 @@
 -- What stands behind a gap is less indented than a block scalar's text.
-use Rattle.std.proofs.Common.{◌≡◌, ℕ, zero, suc, ◌<◌, true, false, ◌&&◌, eqb, List, [], ◌∷◌, ◌++◌, refl, sym, ap, ◌∙◌, ⊎_elim, replicate, rules}
-use Rattle.std.proofs.lemmas.Bool.{false≢true, lt-ltb, not-true, or_cases, and_from, or_parts}
-use Rattle.yq_core.specs.Block.{is_less_indented}
-use Rattle.yq_core.specs.BlockRepair.{is_behind}
-use Rattle.yq_core.specs.declared.block_lines.TextIndent.{TextIndent}
+use Rattle.std.proofs.Common.{◌≡◌, ℕ, zero, suc, ◌<◌, true, false, ◌&&◌, eqb, List, [], ◌∷◌, ◌++◌, refl, sym, ap, ◌∙◌, ⊎_elim, replicate}
+use Rattle.std.{proofs.Common.rules, proofs.lemmas.Bool.{false≢true, lt-ltb, not-true, or_cases, and_from, or_parts}}
+use Rattle.yq_core.{specs.Block.is_less_indented, specs.BlockRepair.is_behind, specs.declared.block_lines.TextIndent.TextIndent}
 use Rattle.yq_core.specs.Text.{front, is_white, is_feed, is_return, is_empty, is_marker, ends_line, put_byte, text_lines}
 use Rattle.yq_core.proofs.SpaceLaws.{prefix_none, spaces_front, drop_front}
-use Rattle.yq_row_table.specs.Grammar.{Limit, AreRows, ends_part}
-use Rattle.yq_row_table.specs.Rows.{Row, behind_indent, rows_text}
-use Rattle.yq_row_table.specs.Removal.{next_column}
-use Rattle.yq_row_table.specs.Splices.{behind_first}
-use Rattle.yq_row_table.proofs.AlikeBlocks.{put_first}
-use Rattle.yq_row_table.proofs.EmptyTexts.{empty_is}
-use Rattle.yq_row_table.proofs.Fronts.{Starts}
-use Rattle.yq_row_table.proofs.RowAgain.{row_starts}
-use Rattle.yq_row_table.proofs.RowsRead.{marker_starts}
+use Rattle.yq_row_table.{specs.Grammar.{Limit, AreRows, ends_part}, specs.Rows.{Row, behind_indent, rows_text}, specs.Removal.next_column}
+use Rattle.yq_row_table.{specs.Splices.behind_first, proofs.AlikeBlocks.put_first, proofs.EmptyTexts.empty_is, proofs.Fronts.Starts}
+use Rattle.yq_row_table.{proofs.RowAgain.row_starts, proofs.RowsRead.marker_starts}
 
 -- The first line of a text that begins with spaces and a byte.
 record First (n b : ℕ) (t : List ℕ) : Type 0 where

@@ -1,15 +1,10 @@
 -- The line of a marker before another text.
-use Rattle.std.proofs.Common.{◌≡◌, ◌⊎◌, inl, inr, ℕ, Bool, true, false, ◌&&◌, ◌||◌, eqb, List, [], ◌∷◌, ◌++◌, refl, sym, ap, ◌∙◌, ⊎_elim, arith, eqb-true, Some}
-use Rattle.std.proofs.lemmas.Bool.{or_cases, or_right, and_parts}
-use Rattle.yq_core.specs.Text.{is_empty, is_feed, is_space, is_line, is_marker, separates}
-use Rattle.yq_core.specs.Alike.{Alike, byte, after}
-use Rattle.yq_row_table.specs.Grammar.{IsMarkerLine}
-use Rattle.yq_row_table.specs.Seams.{is_closed}
-use Rattle.yq_row_table.specs.SpliceFits.{is_after}
+use Rattle.std.proofs.Common.{◌≡◌, ◌⊎◌, inl, inr, ℕ, Bool, true, false, ◌&&◌, ◌||◌, eqb, List, [], ◌∷◌, ◌++◌, refl, sym, ap, ◌∙◌, ⊎_elim}
+use Rattle.std.{proofs.Common.{arith, eqb-true, Some}, proofs.lemmas.Bool.{or_cases, or_right, and_parts}}
+use Rattle.yq_core.{specs.Text.{is_empty, is_feed, is_space, is_line, is_marker, separates}, specs.Alike.{Alike, byte, after}}
 use Rattle.yq_core.proofs.Alikes.{alike_marker}
-use Rattle.yq_row_table.proofs.EmptyTexts.{none_is}
-use Rattle.yq_row_table.proofs.NothingLaws.{tail_apart}
-use Rattle.yq_row_table.proofs.seams.SeamLaws.{tail_kept, tail_line}
+use Rattle.yq_row_table.{specs.Grammar.IsMarkerLine, specs.Seams.is_closed, specs.SpliceFits.is_after, proofs.EmptyTexts.none_is}
+use Rattle.yq_row_table.{proofs.NothingLaws.tail_apart, proofs.seams.SeamLaws.{tail_kept, tail_line}}
 
 -- what stands behind a marker's line
 pub marker_byte : (a b c : ℕ) (t : List ℕ) → is_marker (a ∷ (b ∷ (c ∷ t))) ≡ true → ((a ≡ 45) × (b ≡ 45) × (c ≡ 45)) ⊎ ((a ≡ 46) × (b ≡ 46) × (c ≡ 46))

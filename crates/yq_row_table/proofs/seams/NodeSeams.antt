@@ -1,18 +1,14 @@
 -- An inline node before a text is one before another text, where white space, a break or the end is in front of both.
-use Rattle.std.proofs.Common.{◌≡◌, inl, inr, ℕ, zero, suc, true, false, not, ◌||◌, eqb, List, [], ◌∷◌, ◌++◌, Option, refl, sym, ap, ◌∙◌, subst, ⊎_elim, eqb-true, Some, rules}
+use Rattle.std.proofs.Common.{◌≡◌, inl, inr, ℕ, zero, suc, true, false, not, ◌||◌, eqb, List, [], ◌∷◌, ◌++◌, Option, refl, sym, ap, ◌∙◌}
+use Rattle.std.proofs.Common.{subst, ⊎_elim, eqb-true, Some, rules}
 use Rattle.std.proofs.lemmas.Bool.{false≢true, not-true, or_cases, cases_Bool, or_parts}
-use Rattle.yq_core.specs.Plain.{ends_plain}
-use Rattle.yq_core.specs.Text.{is_empty, is_white, is_space, separates, unless, NoneIn, no_white}
-use Rattle.yq_core.specs.Nodes.{Key, bare, keyed, Sep, last, comma, FlowNode, empty, alias, scalar, coll, anchored, Items, none, item, key_text, sep_text, node_text, flow_items_text, begins_with, is_close, in_name, begins_content, IsLead, IsName, is_empty_node, IsFlowNode}
-use Rattle.yq_core.specs.Scalars.{IsScalarAt}
-use Rattle.yq_core.specs.Alike.{Alike, byte, after}
-use Rattle.yq_row_table.specs.Grammar.{is_plain_content}
-use Rattle.yq_core.proofs.Alikes.{alike_append}
-use Rattle.yq_core.proofs.KeepLaws.{taken_begins}
-use Rattle.yq_core.proofs.NodeKeeps.{node_text_alike, items_text_alike, items_any}
-use Rattle.yq_core.proofs.AlikePieces.{gap_alike}
-use Rattle.yq_row_table.proofs.Fronts.{node_starts}
-use Rattle.yq_row_table.proofs.NothingLaws.{name_again}
+use Rattle.yq_core.{specs.Plain.ends_plain, specs.Text.{is_empty, is_white, is_space, separates, unless, NoneIn, no_white}}
+use Rattle.yq_core.specs.Nodes.{Key, bare, keyed, Sep, last, comma, FlowNode, empty, alias, scalar, coll, anchored, Items, none, item}
+use Rattle.yq_core.specs.Nodes.{key_text, sep_text, node_text, flow_items_text, begins_with, is_close, in_name, begins_content, IsLead}
+use Rattle.yq_core.{specs.Nodes.{IsName, is_empty_node, IsFlowNode}, specs.Scalars.IsScalarAt, specs.Alike.{Alike, byte, after}}
+use Rattle.yq_core.{proofs.Alikes.alike_append, proofs.KeepLaws.taken_begins}
+use Rattle.yq_core.{proofs.NodeKeeps.{node_text_alike, items_text_alike, items_any}, proofs.AlikePieces.gap_alike}
+use Rattle.yq_row_table.{specs.Grammar.is_plain_content, proofs.Fronts.node_starts, proofs.NothingLaws.name_again}
 use Rattle.yq_row_table.proofs.seams.ScalarSeams.{apart_no_node, name_seam, name_alike, quoted_seam, Joint, plain_seam, plain_unquoted}
 
 -- the plain scalar of a node, if it is one, perhaps behind an anchor

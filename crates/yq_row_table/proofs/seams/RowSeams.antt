@@ -2,24 +2,17 @@
 use Rattle.std.proofs.Common.{◌≡◌, inl, inr, ℕ, ℤ, Bool, true, false, not, ◌||◌, List, [], ◌∷◌, ◌++◌, Option, Some, None, refl, rules}
 use Rattle.std.proofs.lemmas.Bool.{false≢true, cases_Bool}
 use Rattle.yq_core.specs.Block.{BlockText, block_text, style_indicator, IsBlock, ends_block, keeps}
-use Rattle.yq_core.specs.declared.block_header.BlockStyle.{BlockStyle}
-use Rattle.yq_core.specs.declared.block_header.BlockStyle.TheVariants as styles
-use Rattle.yq_core.specs.Piece.{deeper}
-use Rattle.yq_core.specs.Text.{text_lines, joined, separates}
-use Rattle.yq_core.specs.Inline.{depth_limit}
-use Rattle.yq_core.specs.Nodes.{FlowNode, node_text, in_name, is_empty_node}
-use Rattle.yq_core.specs.Alike.{Alike}
-use Rattle.yq_row_table.specs.Grammar.{IsAnchor, IsContent, IsMark, may_be_alone, is_entry, IsRow, Limit}
-use Rattle.yq_row_table.specs.Rows.{RowMark, Anchor, Content, Nothing, Inline, Block, anchor_text, mark_text, content_text, Row, parent_indent}
-use Rattle.yq_row_table.specs.Seams.{TakesPlace, with_tail, retail, TailFits}
+use Rattle.yq_core.{specs.declared.block_header.BlockStyle.BlockStyle, specs.Piece.deeper, specs.Text.{text_lines, joined, separates}}
+use Rattle.yq_core.{specs.Inline.depth_limit, specs.Nodes.{FlowNode, node_text, in_name, is_empty_node}, specs.Alike.Alike}
 use Rattle.yq_core.proofs.Alikes.{alike_append}
-use Rattle.yq_row_table.proofs.AlikeRows.{dashes_text_alike}
-use Rattle.yq_row_table.proofs.ExchangeLaws.{one_row}
-use Rattle.yq_row_table.proofs.RowPlaces.{takes_place}
+use Rattle.yq_row_table.specs.Grammar.{IsAnchor, IsContent, IsMark, may_be_alone, is_entry, IsRow, Limit}
+use Rattle.yq_row_table.specs.Rows.{RowMark, Anchor, Content, Nothing, Inline, Block, anchor_text, mark_text, content_text, Row}
+use Rattle.yq_row_table.{specs.Rows.parent_indent, specs.Seams.{TakesPlace, with_tail, retail, TailFits}}
+use Rattle.yq_row_table.{proofs.AlikeRows.dashes_text_alike, proofs.ExchangeLaws.one_row, proofs.RowPlaces.takes_place}
 use Rattle.yq_row_table.proofs.NodeExchange.{mark_apart, space_apart, inline_starts}
 use Rattle.yq_row_table.proofs.NothingLaws.{name_again, tail_lead, tail_apart}
-use Rattle.yq_row_table.proofs.seams.NodeSeams.{plain_text, Behind, node_seam, name_front}
-use Rattle.yq_row_table.proofs.seams.ScalarSeams.{Joint}
+use Rattle.yq_row_table.{proofs.seams.NodeSeams.{plain_text, Behind, node_seam, name_front}, proofs.seams.ScalarSeams.Joint}
+use Rattle.yq_core.specs.declared.block_header.BlockStyle.TheVariants as styles
 
 -- the plain scalar of a content, if it is one
 abbrev pub plain_of : Content → List ℕ

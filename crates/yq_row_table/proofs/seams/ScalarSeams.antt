@@ -1,21 +1,16 @@
 -- Names and scalars before a text are such before another one, where white space, a break or the end is in front of both.
-use Rattle.std.proofs.Common.{◌≡◌, ◌⊎◌, inl, inr, ℕ, Bool, true, false, not, ◌&&◌, ◌||◌, eqb, if◌then◌else◌, List, [], ◌∷◌, ◌++◌, Option, Some, None, refl, sym, ap, ◌∙◌, ⊎_elim, eqb-true, append_assoc, rules}
+use Rattle.std.proofs.Common.{◌≡◌, ◌⊎◌, inl, inr, ℕ, Bool, true, false, not, ◌&&◌, ◌||◌, eqb, if◌then◌else◌, List, [], ◌∷◌, ◌++◌, Option}
+use Rattle.std.proofs.Common.{Some, None, refl, sym, ap, ◌∙◌, ⊎_elim, eqb-true, append_assoc, rules}
 use Rattle.std.proofs.lemmas.Bool.{false≢true, not-false, false_from_ne_true, or_cases, or_right, and_parts, cases_Bool, or_parts}
-use Rattle.std.proofs.Math.Bool.{and-false}
-use Rattle.std.specs.Option.{option_or}
+use Rattle.std.{proofs.Math.Bool.and-false, specs.Option.option_or}
 use Rattle.yq_core.specs.Plain.{begins_plain, ends_plain, ends_text, no_gap, last_line, plain_may_follow, follows, IsPlain}
 use Rattle.yq_core.specs.Quoted.{spell_lines, IsQuoted}
-use Rattle.yq_core.specs.Quoted as quotes
-use Rattle.yq_core.specs.Text.{upto, cut, NoneIn, front, unless, is_empty, is_feed, is_return, is_space, separates}
-use Rattle.yq_core.proofs.Bools.{at_byte}
-use Rattle.yq_core.specs.Nodes.{begins_with, in_name, begins_node, IsName}
-use Rattle.yq_core.specs.Scalars.{is_quoted}
-use Rattle.yq_core.proofs.NodesPieceLaws.{front_not}
-use Rattle.yq_core.specs.Alike.{Alike, byte, after}
-use Rattle.yq_core.proofs.Alikes.{alike_append, alike_begins, alike_ends}
+use Rattle.yq_core.{specs.Text.{upto, cut, NoneIn, front, unless, is_empty, is_feed, is_return, is_space, separates}, proofs.Bools.at_byte}
+use Rattle.yq_core.{specs.Nodes.{begins_with, in_name, begins_node, IsName}, specs.Scalars.is_quoted, proofs.NodesPieceLaws.front_not}
+use Rattle.yq_core.{specs.Alike.{Alike, byte, after}, proofs.Alikes.{alike_append, alike_begins, alike_ends}}
 use Rattle.yq_core.proofs.AlikePieces.{lines_alike}
-use Rattle.yq_row_table.proofs.Fronts.{node_starts}
-use Rattle.yq_row_table.proofs.NothingLaws.{name_again}
+use Rattle.yq_row_table.{proofs.Fronts.node_starts, proofs.NothingLaws.name_again}
+use Rattle.yq_core.specs.Quoted as quotes
 
 -- nothing begins there
 pub apart_no_node : (t : List ℕ) → separates t ≡ true → begins_node false t ≡ false

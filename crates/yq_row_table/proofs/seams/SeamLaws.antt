@@ -1,26 +1,19 @@
 -- Rows before rows that stand in the place of others.
-use Rattle.std.proofs.Common.{◌≡◌, ◌⊎◌, inl, inr, ℕ, zero, suc, ℤ, Bool, true, false, ◌||◌, if◌then◌else◌, List, [], ◌∷◌, ◌++◌, Some, take, drop, refl, sym, ap, ◌∙◌, subst, ⊎_elim, append_assoc, rules}
-use Rattle.std.proofs.lemmas.Bool.{false≢true, or_cases, and_parts}
-use Rattle.std.proofs.lemmas.List.{take-append-drop}
-use Rattle.yq_core.specs.Piece.{deeper}
-use Rattle.yq_core.specs.Plain.{ends_plain}
-use Rattle.yq_core.specs.Text.{is_empty, front, is_break, is_line, is_marker}
+use Rattle.std.proofs.Common.{◌≡◌, ◌⊎◌, inl, inr, ℕ, zero, suc, ℤ, Bool, true, false, ◌||◌, if◌then◌else◌, List, [], ◌∷◌, ◌++◌, Some, take}
+use Rattle.std.proofs.Common.{drop, refl, sym, ap, ◌∙◌, subst, ⊎_elim, append_assoc, rules}
+use Rattle.std.{proofs.lemmas.Bool.{false≢true, or_cases, and_parts}, proofs.lemmas.List.take-append-drop}
+use Rattle.yq_core.{specs.Piece.deeper, specs.Plain.ends_plain, specs.Text.{is_empty, front, is_break, is_line, is_marker}}
 use Rattle.yq_core.specs.Alike.{Alike}
-use Rattle.yq_row_table.specs.Exchange.{allows_first, asked_behind, with_content}
-use Rattle.yq_row_table.specs.Gap.{IsBreak, IsLineEnd}
-use Rattle.yq_row_table.specs.Grammar.{IsTail, IsContent, is_plain_content, IsRow, Limit, unlimited, limit_after, limit_behind, AreRows, no_rows, ends_part}
+use Rattle.yq_row_table.{specs.Exchange.{allows_first, asked_behind, with_content}, specs.Gap.{IsBreak, IsLineEnd}}
+use Rattle.yq_row_table.specs.Grammar.{IsTail, IsContent, is_plain_content, IsRow, Limit, unlimited, limit_after, limit_behind, AreRows}
+use Rattle.yq_row_table.specs.Grammar.{no_rows, ends_part}
 use Rattle.yq_row_table.specs.Rows.{Content, Nothing, Inline, Block, Row, parent_indent, print_row, rows_text}
 use Rattle.yq_row_table.specs.Seams.{is_closed, is_seam, MayFollowRows, TakesPlace, with_tail, tail_behind, TailFits}
-use Rattle.yq_row_table.specs.Splices.{with_first_gap, end_gap, behind_first}
-use Rattle.yq_row_table.proofs.AlikeRows.{row_alike, row_text_alike}
-use Rattle.yq_row_table.proofs.EmptyTexts.{empty_is, empty_or}
-use Rattle.yq_row_table.proofs.LineEnds.{text_line, white_none, comment_none}
-use Rattle.yq_row_table.proofs.NothingLaws.{no_tail}
-use Rattle.yq_row_table.proofs.PlaceLaws.{first_allowed}
-use Rattle.yq_row_table.proofs.PlainEnds.{AtLine, tail_ends, rows_line, marker_line, end_line}
-use Rattle.yq_row_table.proofs.seams.NodeSeams.{plain_text}
-use Rattle.yq_row_table.proofs.seams.ScalarSeams.{Joint}
-use Rattle.yq_row_table.proofs.seams.RowSeams.{Joined, row_tail}
+use Rattle.yq_row_table.{specs.Splices.{with_first_gap, end_gap, behind_first}, proofs.AlikeRows.{row_alike, row_text_alike}}
+use Rattle.yq_row_table.{proofs.EmptyTexts.{empty_is, empty_or}, proofs.LineEnds.{text_line, white_none, comment_none}}
+use Rattle.yq_row_table.{proofs.NothingLaws.no_tail, proofs.PlaceLaws.first_allowed}
+use Rattle.yq_row_table.{proofs.PlainEnds.{AtLine, tail_ends, rows_line, marker_line, end_line}, proofs.seams.NodeSeams.plain_text}
+use Rattle.yq_row_table.{proofs.seams.ScalarSeams.Joint, proofs.seams.RowSeams.{Joined, row_tail}}
 
 -- tails
 no_line : is_line [] ≡ false

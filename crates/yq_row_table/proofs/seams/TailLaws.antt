@@ -1,26 +1,19 @@
 -- Another tail behind a row's content, in a text in which an LF stands behind each CR.
-use Rattle.std.proofs.Common.{◌≡◌, ◌⊎◌, inl, inr, ℕ, ℤ, true, false, ◌&&◌, List, [], ◌∷◌, ◌++◌, Option, refl, sym, ap, ◌∙◌, subst, ⊎_elim, append_assoc, append-nil, length, take, rules}
+use Rattle.std.proofs.Common.{◌≡◌, ◌⊎◌, inl, inr, ℕ, ℤ, true, false, ◌&&◌, List, [], ◌∷◌, ◌++◌, Option, refl, sym, ap, ◌∙◌, subst, ⊎_elim}
+use Rattle.std.proofs.Common.{append_assoc, append-nil, length, take, rules}
 use Rattle.std.proofs.lemmas.Bool.{false≢true, false_from_ne_true, or_right, and_parts, or_parts}
 use Rattle.std.proofs.Math.Seq.{take-append_seam, drop-append_seam}
-use Rattle.yq_core.specs.Characters.{pairs_returns}
-use Rattle.yq_core.specs.Plain.{ends_plain}
-use Rattle.yq_core.specs.Quoted.{spell_lines}
+use Rattle.yq_core.{specs.Characters.pairs_returns, specs.Plain.ends_plain, specs.Quoted.spell_lines}
 use Rattle.yq_core.specs.Text.{is_white, is_feed, is_return, is_break, is_space, is_line, ends_line, front, NoneIn}
-use Rattle.yq_core.specs.Nodes.{FlowNode, empty, alias, scalar, coll, anchored, node_text, IsFlowNode}
-use Rattle.yq_row_table.specs.Exchange.{asked_behind, row_front}
-use Rattle.yq_row_table.specs.Gap.{IsComment}
+use Rattle.yq_core.{specs.Nodes.{FlowNode, empty, alias, scalar, coll, anchored, node_text, IsFlowNode}, proofs.NodesWrittenLaws.node_then}
+use Rattle.yq_row_table.{specs.Exchange.{asked_behind, row_front}, specs.Gap.IsComment}
 use Rattle.yq_row_table.specs.Grammar.{IsTail, IsContent, IsRow, Limit, limit_after, limit_behind, AreRows, ends_part}
 use Rattle.yq_row_table.specs.Rows.{Content, Nothing, Inline, Block, content_text, Row, parent_indent, print_row, rows_text}
 use Rattle.yq_row_table.specs.Appending.{is_one_break, closed_by, TakesBreak}
-use Rattle.yq_row_table.specs.Seams.{with_tail, tail_behind, TailFits, is_block, TakesPlace, retail}
-use Rattle.yq_core.proofs.NodesWrittenLaws.{node_then}
-use Rattle.yq_row_table.proofs.CharacterLaws.{pairs_back}
-use Rattle.yq_row_table.proofs.ExchangeLaws.{chain}
-use Rattle.yq_row_table.proofs.PlaceLaws.{row_front-append}
-use Rattle.yq_row_table.proofs.seams.SeamLaws.{plain_before, line_by_break, rows_drop}
-use Rattle.yq_row_table.proofs.seams.NodeSeams.{plain_text}
-use Rattle.yq_row_table.proofs.seams.ScalarSeams.{ends_return, last_no_space}
-use Rattle.yq_row_table.proofs.seams.RowSeams.{Joined, row_tail}
+use Rattle.yq_row_table.{specs.Seams.{with_tail, tail_behind, TailFits, is_block, TakesPlace, retail}, proofs.CharacterLaws.pairs_back}
+use Rattle.yq_row_table.{proofs.ExchangeLaws.chain, proofs.PlaceLaws.row_front-append}
+use Rattle.yq_row_table.{proofs.seams.SeamLaws.{plain_before, line_by_break, rows_drop}, proofs.seams.NodeSeams.plain_text}
+use Rattle.yq_row_table.{proofs.seams.ScalarSeams.{ends_return, last_no_space}, proofs.seams.RowSeams.{Joined, row_tail}}
 
 -- a CR at the end of a piece has an LF behind it
 pub return_then : (p t : List ℕ) → pairs_returns (p ++ t) ≡ true → ends_return p ≡ true → front is_feed t ≡ true

@@ -1,16 +1,11 @@
 -- Rows behind the last one of a text without a final break, in a cut.
 use Rattle.std.proofs.Common.{◌≡◌, ℕ, suc, true, false, List, [], ◌∷◌, ◌++◌, length, refl, sym, ap, ◌∙◌, subst, Some}
-use Rattle.yq_core.specs.Characters.{pairs_returns}
-use Rattle.yq_core.specs.Alike.{Alike}
-use Rattle.yq_row_table.specs.Exchange.{allows_first, asked_behind}
-use Rattle.yq_row_table.specs.Grammar.{Limit, limit_after, AreRows, no_rows, IsCut}
-use Rattle.yq_row_table.specs.Rows.{Row, print_row, rows_text, Cut}
-use Rattle.yq_row_table.specs.Appending.{closed_by, TakesBreak, IsLastRow}
+use Rattle.yq_core.{specs.Characters.pairs_returns, specs.Alike.Alike}
+use Rattle.yq_row_table.{specs.Exchange.{allows_first, asked_behind}, specs.Grammar.{Limit, limit_after, AreRows, no_rows, IsCut}}
+use Rattle.yq_row_table.{specs.Rows.{Row, print_row, rows_text, Cut}, specs.Appending.{closed_by, TakesBreak, IsLastRow}}
 use Rattle.yq_row_table.specs.Splices.{behind_first, nth_part, behind_part, back_rows, asked_at, behind_rows, replace_row, CutsItsText}
-use Rattle.yq_row_table.proofs.splices.PartPlaces.{row_stands, rows_after, rows_from}
-use Rattle.yq_row_table.proofs.splices.SpliceCases.{replaced}
-use Rattle.yq_row_table.proofs.splices.SpliceTexts.{row_pairs}
-use Rattle.yq_row_table.proofs.seams.TailLaws.{row_closed, limit_closed}
+use Rattle.yq_row_table.{proofs.splices.PartPlaces.{row_stands, rows_after, rows_from}, proofs.splices.SpliceCases.replaced}
+use Rattle.yq_row_table.{proofs.splices.SpliceTexts.row_pairs, proofs.seams.TailLaws.{row_closed, limit_closed}}
 
 -- nothing is behind the last row
 nothing_behind : (rs : List Row) (end rest : List ℕ) → rs ≡ [] → rest ≡ [] → behind_first rs end rest ≡ []

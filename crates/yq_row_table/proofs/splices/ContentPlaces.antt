@@ -1,21 +1,16 @@
 -- A row counted through all parts stands in one of them, and there its content is exchanged.
-use Rattle.std.proofs.Common.{◌≡◌, inl, inr, ℕ, zero, suc, ◌-◌, true, List, [], ◌∷◌, ◌++◌, length, take, drop, Some, refl, sym, ap, ◌∙◌, subst, false, rules}
-use Rattle.std.proofs.Math.Dec.{ltb}
-use Rattle.std.proofs.lemmas.Bool.{false≢true, ltb-true, ltb-false, cases_Bool}
+use Rattle.std.proofs.Common.{◌≡◌, inl, inr, ℕ, zero, suc, ◌-◌, true, List, [], ◌∷◌, ◌++◌, length, take, drop, Some, refl, sym, ap, ◌∙◌}
+use Rattle.std.{proofs.Common.{subst, false, rules}, proofs.Math.Dec.ltb, proofs.lemmas.Bool.{false≢true, ltb-true, ltb-false, cases_Bool}}
 use Rattle.std.specs.List.{slice_get}
 use Rattle.yq_row_table.specs.Counted.{RowPlace}
-use Rattle.yq_row_table.specs.Exchange.{with_content, with_content_at, with_content_in, exchange, text_after_row, behind_row, rows_behind, allows_first, FitsRow}
+use Rattle.yq_row_table.specs.Exchange.{with_content, with_content_at, with_content_in, exchange, text_after_row, behind_row, rows_behind}
+use Rattle.yq_row_table.specs.Exchange.{allows_first, FitsRow}
 use Rattle.yq_row_table.specs.Grammar.{IsMark, may_be_alone, is_entry, IsRow, Limit, limit_after, IsCut}
 use Rattle.yq_row_table.specs.Rows.{RowMark, Content, Row, behind_gap, rows_text, Part, Cut, last, marked, cut_text}
-use Rattle.yq_row_table.specs.Splices.{first_gap, splice_part, asked_at, rest_behind, CutsItsText}
-use Rattle.yq_row_table.specs.View.{rows_of}
-use Rattle.yq_row_table.proofs.ExchangeLaws.{one_row, slice_front, slice_back}
-use Rattle.yq_row_table.proofs.splices.PartPlaces.{row_stands}
-use Rattle.yq_row_table.proofs.splices.RowReplaced.{row_exchanged}
-use Rattle.yq_row_table.proofs.NothingLaws.{gap_other}
-use Rattle.yq_row_table.proofs.seams.FrontSeams.{behind_row_some}
-use Rattle.yq_row_table.specs.Alone.{FitsAlone}
-use Rattle.yq_row_table.proofs.splices.SpliceTexts.{own_gap, own_end}
+use Rattle.yq_row_table.{specs.Splices.{first_gap, splice_part, asked_at, rest_behind, CutsItsText}, specs.View.rows_of}
+use Rattle.yq_row_table.{proofs.ExchangeLaws.{one_row, slice_front, slice_back}, proofs.splices.PartPlaces.row_stands}
+use Rattle.yq_row_table.{proofs.splices.RowReplaced.row_exchanged, proofs.NothingLaws.gap_other, proofs.seams.FrontSeams.behind_row_some}
+use Rattle.yq_row_table.{specs.Alone.FitsAlone, proofs.splices.SpliceTexts.{own_gap, own_end}}
 
 -- row i among rows
 pub rows_around : (rows : List Row) (i : ℕ) (r : Row) → slice_get rows i ≡ Some r → rows ≡ take i rows ++ (r ∷ drop (suc i) rows)

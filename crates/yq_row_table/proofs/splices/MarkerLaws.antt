@@ -1,25 +1,15 @@
 -- Rows behind the last marker of a text, which has no break.
 use Rattle.std.proofs.Common.{◌≡◌, ℕ, Bool, true, false, List, [], ◌∷◌, ◌++◌, refl, sym, ap, ◌∙◌, subst, ⊎_elim, arith, append-nil, Some}
-use Rattle.std.proofs.lemmas.Bool.{false≢true, and_parts}
-use Rattle.std.specs.List.{list_all}
-use Rattle.std.specs.Str.{chars}
-use Rattle.yq_core.specs.Characters.{is_text_char, pairs_returns}
-use Rattle.yq_core.specs.Text.{is_empty, is_feed, is_space, is_line}
-use Rattle.yq_core.specs.Alike.{Alike, byte, after}
+use Rattle.std.{proofs.lemmas.Bool.{false≢true, and_parts}, specs.List.list_all, specs.Str.chars}
+use Rattle.yq_core.{specs.Characters.{is_text_char, pairs_returns}, specs.Text.{is_empty, is_feed, is_space, is_line}}
+use Rattle.yq_core.{specs.Alike.{Alike, byte, after}, proofs.Alikes.alike_marker}
 use Rattle.yq_row_table.specs.Grammar.{IsPart, IsMarkerLine, begins_document, AreParts, IsCut}
 use Rattle.yq_row_table.specs.Rows.{Part, part_text, Cut, last, marked, cut_text}
-use Rattle.yq_row_table.specs.Appending.{is_one_break, last_marker, with_last_part, PartFits}
-use Rattle.yq_row_table.specs.Splices.{CutsItsText}
-use Rattle.yq_core.proofs.Alikes.{alike_marker}
-use Rattle.yq_row_table.proofs.AlikeRows.{part_alike, part_text_alike}
-use Rattle.yq_row_table.proofs.CharacterLaws.{pairs_back}
-use Rattle.yq_row_table.proofs.ExchangeLaws.{CutExchanged, marked_behind}
-use Rattle.yq_row_table.proofs.NothingLaws.{tail_apart}
-use Rattle.yq_row_table.proofs.PlaceLaws.{part_then}
-use Rattle.yq_row_table.proofs.seams.SeamLaws.{tail_line}
-use Rattle.yq_row_table.proofs.seams.MarkerSeams.{three_lines, marker_byte}
-use Rattle.yq_row_table.proofs.seams.TailLaws.{tail_closed}
-use Rattle.yq_row_table.proofs.ItemCuts.{no_marker}
+use Rattle.yq_row_table.{specs.Appending.{is_one_break, last_marker, with_last_part, PartFits}, specs.Splices.CutsItsText}
+use Rattle.yq_row_table.{proofs.AlikeRows.{part_alike, part_text_alike}, proofs.CharacterLaws.pairs_back}
+use Rattle.yq_row_table.{proofs.ExchangeLaws.{CutExchanged, marked_behind}, proofs.NothingLaws.tail_apart, proofs.PlaceLaws.part_then}
+use Rattle.yq_row_table.{proofs.seams.SeamLaws.tail_line, proofs.seams.MarkerSeams.{three_lines, marker_byte}}
+use Rattle.yq_row_table.{proofs.seams.TailLaws.tail_closed, proofs.ItemCuts.no_marker}
 
 abbrev MarkerClosed : List ℕ → List ℕ → List ℕ → Type 0
 MarkerClosed p break u = IsMarkerLine (p ++ break) u × Alike (Some false) (p ++ []) ((p ++ break) ++ u)

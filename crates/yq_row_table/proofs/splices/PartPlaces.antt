@@ -1,15 +1,11 @@
 -- Part k of a cut, and what stands before and behind it.
 use Rattle.std.proofs.Common.{◌≡◌, ℕ, zero, suc, Bool, true, false, List, [], ◌∷◌, ◌++◌, length, drop, refl, ap, ◌∙◌, subst}
-use Rattle.std.proofs.Math.Seq.{drop-append_seam}
-use Rattle.std.proofs.lemmas.Bool.{or_right}
+use Rattle.std.{proofs.Math.Seq.drop-append_seam, proofs.lemmas.Bool.or_right}
 use Rattle.yq_core.specs.Text.{is_empty, is_marker}
 use Rattle.yq_row_table.specs.Grammar.{unlimited, AreRows, no_rows, IsPart, IsMarkerLine, begins_document, AreParts, IsCut, ends_part}
-use Rattle.yq_row_table.specs.Rows.{Row, Part, part_text, Cut, last, marked, cut_text}
-use Rattle.yq_row_table.specs.SpliceFits.{is_after}
+use Rattle.yq_row_table.{specs.Rows.{Row, Part, part_text, Cut, last, marked, cut_text}, specs.SpliceFits.is_after}
 use Rattle.yq_row_table.specs.Splices.{nth_part, behind_part, marker_before, is_started, back_rows, asked_at, StandsBetween}
-use Rattle.yq_row_table.proofs.seams.FrontSeams.{rows_some}
-use Rattle.yq_row_table.proofs.seams.MarkerSeams.{after_some}
-use Rattle.yq_row_table.proofs.seams.SeamLaws.{rows_drop}
+use Rattle.yq_row_table.{proofs.seams.FrontSeams.rows_some, proofs.seams.MarkerSeams.after_some, proofs.seams.SeamLaws.rows_drop}
 
 part_some : (started : Bool) (p : Part) (rest : List ℕ) → no_rows p.rows ≡ false → IsPart started p rest → is_empty (part_text p rest) ≡ false
 part_some started p rest n h = rows_some unlimited p.rows p.end rest n h.rows

@@ -1,26 +1,17 @@
 -- Rows taken away, with the gap behind them repaired.
-use Rattle.std.proofs.Common.{◌≡◌, ℕ, ◌<◌, true, false, List, [], ◌∷◌, ◌++◌, Option, Some, None, take, refl, sym, ap, ◌∙◌, subst, append_assoc}
-use Rattle.std.proofs.lemmas.Bool.{false≢true}
-use Rattle.yq_core.specs.Block.{RawLines, BlockText, IsBlock}
-use Rattle.yq_core.specs.BlockRepair.{is_behind}
-use Rattle.yq_core.specs.Text.{is_empty, text_lines, joined}
-use Rattle.yq_core.proofs.LineLaws.{joined-append, joined_lines}
-use Rattle.yq_row_table.specs.Exchange.{asked_behind}
-use Rattle.yq_row_table.specs.Gap.{AreGapLines, IsGap}
-use Rattle.yq_row_table.specs.Grammar.{Limit, unlimited, AreRows, no_rows, IsCut}
-use Rattle.yq_row_table.specs.Rows.{Row, rows_text, Cut}
+use Rattle.std.proofs.Common.{◌≡◌, ℕ, ◌<◌, true, false, List, [], ◌∷◌, ◌++◌, Option, Some, None, take, refl, sym, ap, ◌∙◌, subst}
+use Rattle.std.{proofs.Common.append_assoc, proofs.lemmas.Bool.false≢true}
+use Rattle.yq_core.{specs.Block.{RawLines, BlockText, IsBlock}, specs.BlockRepair.is_behind, specs.Text.{is_empty, text_lines, joined}}
+use Rattle.yq_core.{proofs.LineLaws.{joined-append, joined_lines}, specs.declared.block_lines.TextIndent.TextIndent}
+use Rattle.yq_row_table.{specs.Exchange.asked_behind, specs.Gap.{AreGapLines, IsGap}}
+use Rattle.yq_row_table.{specs.Grammar.{Limit, unlimited, AreRows, no_rows, IsCut}, specs.Rows.{Row, rows_text, Cut}}
 use Rattle.yq_row_table.specs.Removal.{last_block, seam_gap, next_column, StandsLess, removed_gap, without_rows, RepairFits}
 use Rattle.yq_row_table.specs.Seams.{are_seamed, ends_in_block}
 use Rattle.yq_row_table.specs.Splices.{first_gap, behind_first, nth_part, behind_part, behind_rows, front_rows, back_rows, CutsItsText}
-use Rattle.yq_core.specs.declared.block_lines.TextIndent.{TextIndent}
 use Rattle.yq_row_table.proofs.seams.BlockFronts.{gap_front, block_seam, seam_gap_is, last_is_block, last_none}
-use Rattle.yq_row_table.proofs.seams.LessLaws.{behind_less}
-use Rattle.yq_row_table.proofs.NothingLaws.{some_behind}
-use Rattle.yq_row_table.proofs.seams.SeamLaws.{rows_drop, rows_parted}
-use Rattle.yq_row_table.proofs.seams.FrontSeams.{behind_row_some}
-use Rattle.yq_row_table.proofs.splices.PartPlaces.{part_in, part_ends}
-use Rattle.yq_row_table.proofs.splices.SpliceCases.{removed}
-use Rattle.yq_row_table.proofs.splices.SpliceTexts.{first_text, first_is}
+use Rattle.yq_row_table.{proofs.seams.LessLaws.behind_less, proofs.NothingLaws.some_behind, proofs.seams.SeamLaws.{rows_drop, rows_parted}}
+use Rattle.yq_row_table.{proofs.seams.FrontSeams.behind_row_some, proofs.splices.PartPlaces.{part_in, part_ends}}
+use Rattle.yq_row_table.{proofs.splices.SpliceCases.removed, proofs.splices.SpliceTexts.{first_text, first_is}}
 
 -- what stands where rows are taken away
 pub behind_some : (limit : Limit) (rs : List Row) (end rest : List ℕ) → no_rows rs ≡ false → AreRows limit rs end rest → is_empty (behind_first rs end rest) ≡ false

@@ -1,17 +1,12 @@
 -- One row of a cut, exchanged for another one that takes its place.
 use Rattle.std.proofs.Common.{◌≡◌, ℕ, suc, true, List, [], ◌∷◌, ◌++◌, length, sym, ap, ◌∙◌, subst}
 use Rattle.yq_core.specs.Characters.{pairs_returns}
-use Rattle.yq_row_table.specs.Exchange.{allows_first}
-use Rattle.yq_row_table.specs.Grammar.{Limit, limit_after, IsRow, AreRows, no_rows, IsCut}
-use Rattle.yq_row_table.specs.Rows.{Row, parent_indent, print_row, rows_text, Cut}
-use Rattle.yq_row_table.specs.Seams.{are_seamed, TailFits, TakesPlace, retail}
-use Rattle.yq_row_table.specs.Splices.{first_gap, behind_first, nth_part, behind_part, asked_at, StandsBetween, rest_behind, replace_row, CutsItsText}
-use Rattle.yq_row_table.proofs.PlaceLaws.{first_allowed}
-use Rattle.yq_row_table.specs.SpliceFits.{StandsFor}
-use Rattle.yq_row_table.proofs.seams.FrontSeams.{seams_alike, seams_row}
-use Rattle.yq_row_table.proofs.seams.TailLaws.{row_retailed, limit_tail}
-use Rattle.yq_row_table.proofs.splices.PartPlaces.{row_stands, rows_after, rows_from}
-use Rattle.yq_row_table.proofs.splices.SpliceCases.{placed}
+use Rattle.yq_row_table.{specs.Exchange.allows_first, specs.Grammar.{Limit, limit_after, IsRow, AreRows, no_rows, IsCut}}
+use Rattle.yq_row_table.{specs.Rows.{Row, parent_indent, print_row, rows_text, Cut}, specs.Seams.{are_seamed, TailFits, TakesPlace, retail}}
+use Rattle.yq_row_table.specs.Splices.{first_gap, behind_first, nth_part, behind_part, asked_at, StandsBetween, rest_behind, replace_row}
+use Rattle.yq_row_table.{specs.Splices.CutsItsText, proofs.PlaceLaws.first_allowed, specs.SpliceFits.StandsFor}
+use Rattle.yq_row_table.{proofs.seams.FrontSeams.{seams_alike, seams_row}, proofs.seams.TailLaws.{row_retailed, limit_tail}}
+use Rattle.yq_row_table.{proofs.splices.PartPlaces.{row_stands, rows_after, rows_from}, proofs.splices.SpliceCases.placed}
 use Rattle.yq_row_table.proofs.splices.SpliceTexts.{first_text, first_is, row_pairs}
 
 -- where what the rows in front ask of it is kept

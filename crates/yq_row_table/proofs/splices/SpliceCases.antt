@@ -1,15 +1,12 @@
 -- Rows put in, taken away, or exchanged for others that begin like them.
 use Rattle.std.proofs.Common.{◌≡◌, ℕ, Bool, true, false, not, ◌||◌, List, [], ◌++◌, take, drop, refl, sym, ap, ◌∙◌, ⊎_elim, rules}
 use Rattle.std.proofs.lemmas.Bool.{false≢true, or_right, cases_Bool}
-use Rattle.yq_row_table.specs.Exchange.{allows_first, asked_behind}
-use Rattle.yq_row_table.specs.Grammar.{unlimited, no_rows, IsPart, IsCut, AreRows}
-use Rattle.yq_row_table.specs.Rows.{Row, rows_text, Part, Cut}
-use Rattle.yq_row_table.specs.Seams.{are_seamed, ends_in_block}
+use Rattle.yq_row_table.{specs.Exchange.{allows_first, asked_behind}, specs.Grammar.{unlimited, no_rows, IsPart, IsCut, AreRows}}
+use Rattle.yq_row_table.{specs.Rows.{Row, rows_text, Part, Cut}, specs.Seams.{are_seamed, ends_in_block}}
 use Rattle.yq_row_table.specs.SpliceFits.{is_after, InsertFits, ReplaceFits, RemoveFits}
-use Rattle.yq_row_table.specs.Splices.{splice, nth_part, behind_part, is_started, marker_before, front_rows, back_rows, behind_rows, CutsItsText, asked_at}
-use Rattle.yq_row_table.proofs.seams.FrontSeams.{seams_were, seams_any, seams_alike}
-use Rattle.yq_row_table.proofs.seams.SeamLaws.{rows_parted}
-use Rattle.yq_row_table.proofs.splices.PartPlaces.{part_after, part_in}
+use Rattle.yq_row_table.specs.Splices.{splice, nth_part, behind_part, is_started, marker_before, front_rows, back_rows, behind_rows}
+use Rattle.yq_row_table.{specs.Splices.{CutsItsText, asked_at}, proofs.seams.FrontSeams.{seams_were, seams_any, seams_alike}}
+use Rattle.yq_row_table.{proofs.seams.SeamLaws.rows_parted, proofs.splices.PartPlaces.{part_after, part_in}}
 use Rattle.yq_row_table.proofs.splices.SpliceLaws.{spliced}
 
 more_of : (i : ℕ) (rs : List Row) → no_rows (drop i rs) ≡ false → no_rows rs ≡ false

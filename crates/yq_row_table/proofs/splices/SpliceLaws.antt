@@ -1,18 +1,15 @@
 -- Rows in the place of others, in a part and in a cut.
-use Rattle.std.proofs.Common.{◌≡◌, ◌⊎◌, inl, inr, ℕ, zero, suc, Bool, true, false, not, ◌||◌, List, [], ◌∷◌, ◌++◌, take, drop, refl, ap, ◌∙◌, subst, ⊎_elim, arith, Some, rules}
-use Rattle.std.proofs.lemmas.Bool.{false≢true, or_right}
+use Rattle.std.proofs.Common.{◌≡◌, ◌⊎◌, inl, inr, ℕ, zero, suc, Bool, true, false, not, ◌||◌, List, [], ◌∷◌, ◌++◌, take, drop, refl, ap}
+use Rattle.std.{proofs.Common.{◌∙◌, subst, ⊎_elim, arith, Some, rules}, proofs.lemmas.Bool.{false≢true, or_right}}
 use Rattle.std.proofs.lemmas.List.{take-append-drop}
-use Rattle.yq_core.specs.Text.{is_empty, is_marker}
-use Rattle.yq_core.specs.Alike.{Alike}
+use Rattle.yq_core.{specs.Text.{is_empty, is_marker}, specs.Alike.Alike}
 use Rattle.yq_row_table.specs.Exchange.{asked_behind}
 use Rattle.yq_row_table.specs.Grammar.{unlimited, AreRows, no_rows, IsPart, IsMarkerLine, begins_document, AreParts, IsCut, ends_part}
-use Rattle.yq_row_table.specs.Rows.{Row, rows_text, Part, part_text, Cut, last, marked, cut_text}
-use Rattle.yq_row_table.specs.Seams.{is_closed, are_seamed}
+use Rattle.yq_row_table.{specs.Rows.{Row, rows_text, Part, part_text, Cut, last, marked, cut_text}, specs.Seams.{is_closed, are_seamed}}
 use Rattle.yq_row_table.specs.SpliceFits.{is_after, SpliceFits, FitsIn}
-use Rattle.yq_row_table.specs.Splices.{with_first_gap, end_gap, behind_first, splice_part, splice, nth_part, behind_part, marker_before, is_started, CutsItsText}
-use Rattle.yq_row_table.proofs.AlikeRows.{part_alike, part_text_alike}
-use Rattle.yq_row_table.proofs.ExchangeLaws.{CutExchanged, marked_behind}
-use Rattle.yq_row_table.proofs.seams.MarkerSeams.{marker_seam}
+use Rattle.yq_row_table.specs.Splices.{with_first_gap, end_gap, behind_first, splice_part, splice, nth_part, behind_part, marker_before}
+use Rattle.yq_row_table.{specs.Splices.{is_started, CutsItsText}, proofs.AlikeRows.{part_alike, part_text_alike}}
+use Rattle.yq_row_table.{proofs.ExchangeLaws.{CutExchanged, marked_behind}, proofs.seams.MarkerSeams.marker_seam}
 use Rattle.yq_row_table.proofs.seams.SeamLaws.{rows_seam, rows_join, rows_drop, rows_parted, spliced_text}
 
 -- A text and another one behind what stands before them: they begin alike, or the other one may stand there.

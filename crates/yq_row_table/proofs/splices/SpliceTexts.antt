@@ -1,20 +1,13 @@
 -- The text of a cut at rows, and of a cut in which other rows stand there.
 use Rattle.std.proofs.Common.{◌≡◌, ℕ, zero, suc, ◌≤◌, true, List, [], ◌∷◌, ◌++◌, take, drop, refl, sym, ap, ◌∙◌, arith, append_assoc, rules}
-use Rattle.std.proofs.lemmas.Bool.{and_parts}
-use Rattle.std.proofs.lemmas.List.{take-append-drop}
-use Rattle.yq_row_table.specs.Gap.{IsGap}
-use Rattle.yq_row_table.specs.Grammar.{Limit, AreRows, IsCut}
+use Rattle.std.{proofs.lemmas.Bool.and_parts, proofs.lemmas.List.take-append-drop, specs.List.list_all, specs.Str.chars}
+use Rattle.yq_row_table.{specs.Gap.IsGap, specs.Grammar.{Limit, AreRows, IsCut}}
 use Rattle.yq_row_table.specs.Rows.{Row, print_row, rows_text, Part, part_text, Cut, last, marked, cut_text}
-use Rattle.yq_row_table.specs.Splices.{with_first_gap, end_gap, first_gap, behind_first, splice_part, splice, nth_part, behind_part, before_rows, behind_rows}
-use Rattle.yq_row_table.proofs.PlaceLaws.{part_then}
-use Rattle.yq_row_table.proofs.seams.SeamLaws.{spliced_text}
-use Rattle.std.specs.List.{list_all}
-use Rattle.std.specs.Str.{chars}
-use Rattle.yq_core.specs.Characters.{is_text_char, pairs_returns}
-use Rattle.yq_row_table.specs.Splices.{rows_between, gap_before, back_rows}
+use Rattle.yq_row_table.specs.Splices.{with_first_gap, end_gap, first_gap, behind_first, splice_part, splice, nth_part, behind_part}
+use Rattle.yq_row_table.specs.Splices.{before_rows, behind_rows, rows_between, gap_before, back_rows}
+use Rattle.yq_row_table.{proofs.PlaceLaws.{part_then, row_then}, proofs.seams.SeamLaws.{spliced_text, rows_text-append}}
 use Rattle.yq_row_table.proofs.CharacterLaws.{pairs_back}
-use Rattle.yq_row_table.proofs.PlaceLaws.{row_then}
-use Rattle.yq_row_table.proofs.seams.SeamLaws.{rows_text-append}
+use Rattle.yq_core.specs.Characters.{is_text_char, pairs_returns}
 
 -- the texts
 pub nil_before : (rs : List Row) (t : List ℕ) → rows_text rs t ≡ rows_text rs [] ++ t

@@ -1,9 +1,8 @@
 //! Pieces of a row by its lengths, without the others.
-ghost use Rattle.std.specs.Prelude.{◌≡◌, drop, not, take};
-ghost use Rattle.std.specs.Str.{IsCharBoundary};
+ghost use Rattle.std.{specs.Prelude.{◌≡◌, drop, not, take}, specs.Str.IsCharBoundary};
 ghost use Rattle.yq_core.specs.Text.{is_empty};
-ghost use Rattle.yq_row_table.specs.Offsets as spec;
 ghost use Rattle.yq_row_table.specs.View.{Slices};
+ghost use Rattle.yq_row_table.specs.Offsets as spec;
 
 use crate::offsets::Offsets;
 

@@ -2,8 +2,7 @@
 ghost use Rattle.std.specs.Prelude.{◌≡◌, ℕ, List, [], ◌∷◌, ◌++◌, true};
 ghost use Rattle.yq_core.specs.Characters.{pairs_returns};
 ghost use Rattle.yq_row_table.specs.Appending.{IsLastRow, PartFits, TakesBreak, closed_by, with_last_part};
-ghost use Rattle.yq_row_table.specs.Grammar.{AreRows, IsCut, Limit, limit_after};
-ghost use Rattle.yq_row_table.specs.Rows.{Cut, Part, Row, print_row};
+ghost use Rattle.yq_row_table.{specs.Grammar.{AreRows, IsCut, Limit, limit_after}, specs.Rows.{Cut, Part, Row, print_row}};
 ghost use Rattle.yq_row_table.specs.Splices.{CutsItsText, replace_row};
 
 /// Rows behind the last one of a text without a final break: that one gets a break, and the rows

@@ -1,11 +1,8 @@
 //! Laws of a cut as a list of rows and ends of parts, and of some of them between others.
 ghost use Rattle.std.specs.Prelude.{◌≡◌, ◌≤◌, ℕ, List, [], ◌++◌, Bool};
-ghost use Rattle.yq_row_table.specs.Grammar.{AreParts, unlimited};
-ghost use Rattle.yq_row_table.specs.ItemSplices.{SplicedItems};
+ghost use Rattle.yq_row_table.{specs.Grammar.{AreParts, unlimited}, specs.ItemSplices.SplicedItems};
 ghost use Rattle.yq_row_table.specs.Items.{Asked, AreRowItems, Item, asked_of, items_of_cut, items_text, view_of_items};
-ghost use Rattle.yq_row_table.specs.Regions.{IsReadAlone, StandIn, ended};
-ghost use Rattle.yq_row_table.specs.Rows.{Cut, Row, cut_text};
-ghost use Rattle.yq_row_table.specs.View.{rows_view};
+ghost use Rattle.yq_row_table.{specs.Regions.{IsReadAlone, StandIn, ended}, specs.Rows.{Cut, Row, cut_text}, specs.View.rows_view};
 
 /// The rows and ends of a cut are its text, and what the code lends of it; each is one behind those
 /// in front of it.

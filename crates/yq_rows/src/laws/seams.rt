@@ -1,10 +1,7 @@
 //! Laws of seams: what a row asks of the text behind it, and rows that take the place of others.
 ghost use Rattle.std.specs.Prelude.{◌≡◌, ℕ, Bool, List, [], ◌∷◌, ◌++◌, false, true};
-ghost use Rattle.yq_core.specs.BlockRepair.{repair};
-ghost use Rattle.yq_core.specs.Characters.{pairs_returns};
-ghost use Rattle.yq_core.specs.Text.{is_empty, joined, text_lines};
-ghost use Rattle.yq_row_table.specs.Gap.{IsGap};
-ghost use Rattle.yq_row_table.specs.Grammar.{IsRow, AreRows, Limit, limit_after};
+ghost use Rattle.yq_core.{specs.BlockRepair.repair, specs.Characters.pairs_returns, specs.Text.{is_empty, joined, text_lines}};
+ghost use Rattle.yq_row_table.{specs.Gap.IsGap, specs.Grammar.{IsRow, AreRows, Limit, limit_after}};
 ghost use Rattle.yq_row_table.specs.Joined.{CompactFits, DashFits, Joins, compact_row, dashed_row, joined_row};
 ghost use Rattle.yq_row_table.specs.Rows.{Content, Row, mark_column, parent_indent, print_row, rows_text};
 ghost use Rattle.yq_row_table.specs.Seams.{MayFollowRows, TailFits, TakesPlace, retail};

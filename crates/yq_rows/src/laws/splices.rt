@@ -1,14 +1,11 @@
 //! Laws of splices: a cut, of which other rows stand in the place of some.
 ghost use Rattle.std.specs.Prelude.{◌≡◌, ◌≤◌, ℕ, List, [], ◌∷◌, ◌++◌, Some, false, length, slice_get, true};
-ghost use Rattle.yq_row_table.specs.Counted.{RowPlace};
-ghost use Rattle.yq_row_table.specs.Exchange.{allows_first};
-ghost use Rattle.yq_row_table.specs.Grammar.{IsCut, limit_after};
-ghost use Rattle.yq_row_table.specs.Removal.{RepairFits, without_rows};
-ghost use Rattle.yq_row_table.specs.Rows.{Cut, Row, cut_text, parent_indent, rows_text};
+ghost use Rattle.yq_row_table.{specs.Counted.RowPlace, specs.Exchange.allows_first, specs.Grammar.{IsCut, limit_after}};
+ghost use Rattle.yq_row_table.{specs.Removal.{RepairFits, without_rows}, specs.Rows.{Cut, Row, cut_text, parent_indent, rows_text}};
 ghost use Rattle.yq_row_table.specs.Seams.{TailFits, TakesPlace, are_seamed, ends_in_block, ends_in_line, retail};
 ghost use Rattle.yq_row_table.specs.SpliceFits.{FitsIn, InsertFits, RemoveFits, ReplaceFits, StandsFor};
-ghost use Rattle.yq_row_table.specs.Splices.{CutsItsText, StandsBetween, asked_at, before_rows, behind_rows, first_gap, gap_before, replace_row, nth_part, rows_between, splice, rest_behind};
-ghost use Rattle.yq_row_table.specs.View.{rows_of};
+ghost use Rattle.yq_row_table.specs.Splices.{CutsItsText, StandsBetween, asked_at, before_rows, behind_rows, first_gap, gap_before};
+ghost use Rattle.yq_row_table.{specs.Splices.{replace_row, nth_part, rows_between, splice, rest_behind}, specs.View.rows_of};
 
 /// A cut, of which other rows stand in the place of some, is a cut where they fit and the new text
 /// may stand. Its text is that before those rows, the new rows with the gap behind them, and the

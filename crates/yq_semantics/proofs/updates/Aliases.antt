@@ -1,17 +1,15 @@
 -- No change brings an alias that was not there.
-use Rattle.std.proofs.Common.{◌≡◌, ℕ, suc, ◌⊎◌, Bool, true, false, cond, List, [], ◌∷◌, map, Option, Some, None, refl, subst, inl, inr, rules}
-use Rattle.std.proofs.lemmas.Bool.{cond_both}
-use Rattle.std.proofs.lemmas.Option.{none-some, same_Some}
-use Rattle.yq_core.specs.Tree as tree
+use Rattle.std.proofs.Common.{◌≡◌, ℕ, suc, ◌⊎◌, Bool, true, false, cond, List, [], ◌∷◌, map, Option, Some, None, refl, subst, inl, inr}
+use Rattle.std.{proofs.Common.rules, proofs.lemmas.Bool.cond_both, proofs.lemmas.Option.{none-some, same_Some}}
 use Rattle.yq_core.specs.Tree.{Label, Node, list, Children, none, child}
 use Rattle.yq_core.specs.Paths.{Step, is_here, further, change_child, append_child, within}
 use Rattle.yq_semantics.specs.Changes.{Addition, Change, replaces, adds, Changed, value_in}
-use Rattle.yq_semantics.specs.NodeEdits.{NodeEdit, becomes, NodeEdits, step_to, under, done_at, child_by, node_edit_inside, each_at_once, at_once, same_path, done_by}
-use Rattle.yq_semantics.specs.Meaning.{add_to, add_all, placed_edit, node_edit_of}
-use Rattle.yq_documents.specs.TreeEdits.{replaced_node, led}
-use Rattle.yq_semantics.proofs.updates.Mentions.{Mentions, AnyMentions, HasNoAlias, MentionsNoMore}
-use Rattle.yq_semantics.proofs.updates.Each.{Each}
+use Rattle.yq_semantics.specs.NodeEdits.{NodeEdit, becomes, NodeEdits, step_to, under, done_at, child_by, node_edit_inside, each_at_once}
+use Rattle.yq_semantics.{specs.NodeEdits.{at_once, same_path, done_by}, specs.Meaning.{add_to, add_all, placed_edit, node_edit_of}}
+use Rattle.yq_semantics.{proofs.updates.Mentions.{Mentions, AnyMentions, HasNoAlias, MentionsNoMore}, proofs.updates.Each.Each}
 use Rattle.yq_semantics.proofs.updates.Spares.{child_kept_or_gone}
+use Rattle.yq_documents.specs.TreeEdits.{replaced_node, led}
+use Rattle.yq_core.specs.Tree as tree
 
 -- what is done at a place brings no alias
 abbrev BringsNone : NodeEdit → Type 0

@@ -1,16 +1,13 @@
 -- Rooms that are alike for operations say the same of them.
-use Rattle.std.proofs.lemmas.Bool.{cases_Bool}
+use Rattle.std.proofs.lemmas.Bool.{cases_Bool, eqb-true, eqb-false}
 use Rattle.std.proofs.Common.{◌≡◌, ◌⊎◌, ℕ, zero, suc, Bool, List, [], ◌∷◌, refl, sym, ap, subst, ◌∙◌, inl, inr, Some, option_map, rules}
 use Rattle.std.specs.List.{slice_get}
-use Rattle.std.proofs.lemmas.Bool.{eqb-true, eqb-false}
 use Rattle.yq_core.specs.Tree.{Node}
-use Rattle.yq_documents.specs.Documents.{Document}
-use Rattle.yq_documents.specs.TreeEdits.{change_nth}
-use Rattle.yq_semantics.specs.After.{op_document, done_to, after_op, all_after}
-use Rattle.yq_semantics.specs.Changes.{Room}
-use Rattle.yq_semantics.specs.Fits.{FitsRoot, Fits, AllFit}
+use Rattle.yq_documents.{specs.Documents.Document, specs.TreeEdits.change_nth}
+use Rattle.yq_semantics.{specs.After.{op_document, done_to, after_op, all_after}, specs.Changes.Room, specs.Fits.{FitsRoot, Fits, AllFit}}
 use Rattle.yq_semantics.specs.Operations.{Operation}
-use Rattle.yq_semantics.specs.RoomsKept.{KeepsBlockIn, SetsComment, NoneOn, BlockLasts, SetComments, SetNoComment, MayFollow, SameRoom, LeavesRooms, AlikeFor, AreAlike}
+use Rattle.yq_semantics.specs.RoomsKept.{KeepsBlockIn, SetsComment, NoneOn, BlockLasts, SetComments, SetNoComment, MayFollow, SameRoom}
+use Rattle.yq_semantics.specs.RoomsKept.{LeavesRooms, AlikeFor, AreAlike}
 
 root_alike : (old new : Room) (op : Operation) (root : Node) → AlikeFor op old new → FitsRoot old op root → FitsRoot new op root
 root_alike old new op root h1 h2 = search rules

@@ -1,29 +1,22 @@
 -- What is allowed may be done.
-use Rattle.std.proofs.Common.{◌≡◌, ◌≢◌, ℕ, suc, Bool, true, false, cond, ◌||◌, List, [], ◌∷◌, ◌++◌, length, map, Option, Some, None, is_some, refl, sym, ap, subst, ◌∙◌, rules}
-use Rattle.std.specs.List.{list_any}
-use Rattle.yq_core.specs.Tree as tree
+use Rattle.std.proofs.Common.{◌≡◌, ◌≢◌, ℕ, suc, Bool, true, false, cond, ◌||◌, List, [], ◌∷◌, ◌++◌, length, map, Option, Some, None}
+use Rattle.std.{proofs.Common.{is_some, refl, sym, ap, subst, ◌∙◌, rules}, specs.List.list_any}
+use Rattle.std.{proofs.lemmas.Bool.{false≢true, cond-false, or_parts}, proofs.lemmas.Option.none-some}
 use Rattle.yq_core.specs.Tree.{Node, list, Children, none, child, key_label}
-use Rattle.yq_core.specs.Paths as paths
-use Rattle.yq_core.specs.Paths.{To, key_is, child_at, node_at, change_child, append_child}
-use Rattle.yq_core.specs.Anchors.{names_of}
-use Rattle.yq_semantics.specs.Judgement.{Judgement, gives}
-use Rattle.yq_semantics.specs.Matching.{key_step}
-use Rattle.yq_semantics.specs.Changes.{Addition, appends, overwrites, addition, additions, is_overlong_key, has_long_key, writes_long_key, value_in, is_deep, is_used_inside, overwrites_used}
-use Rattle.yq_semantics.specs.Meaning.{add_to}
+use Rattle.yq_core.{specs.Paths.{To, key_is, child_at, node_at, change_child, append_child}, specs.Anchors.names_of}
+use Rattle.yq_core.specs.Shapes.{IsNew, AreItems, AreEntries, IsTree, AreTrees}
+use Rattle.yq_semantics.{specs.Judgement.{Judgement, gives}, specs.Matching.key_step}
+use Rattle.yq_semantics.specs.Changes.{Addition, appends, overwrites, addition, additions, is_overlong_key, has_long_key, writes_long_key}
+use Rattle.yq_semantics.{specs.Changes.{value_in, is_deep, is_used_inside, overwrites_used}, specs.Meaning.add_to}
 use Rattle.yq_semantics.specs.Pipes.{places, select_on}
 use Rattle.yq_semantics.specs.Places.{Place, root_place, child_place, for_each, miss, step_there, step_on}
-use Rattle.yq_core.specs.Shapes.{IsNew, AreItems, AreEntries, IsTree, AreTrees}
-use Rattle.yq_semantics.specs.Program.{PathStep, key, Condition, Stage}
-use Rattle.yq_semantics.proofs.JudgementLaws.{then_gives, gives_same}
-use Rattle.yq_semantics.proofs.ChildPlaces.{node_further}
-use Rattle.yq_semantics.proofs.PathLaws.{bytes_differ, bytes_same}
-use Rattle.yq_semantics.proofs.updates.FitsInOrder.{FitAdds}
-use Rattle.std.proofs.lemmas.Bool.{false≢true, cond-false, or_parts}
-use Rattle.std.proofs.lemmas.Option.{none-some}
-use mathlib.Core.List.{cons≢nil}
-use Rattle.yq_semantics.proofs.updates.Each.{Each, each_given}
-use Rattle.yq_semantics.proofs.updates.PipePlaces.{pipe_keeps, select_keeps}
+use Rattle.yq_semantics.{specs.Program.{PathStep, key, Condition, Stage}, proofs.JudgementLaws.{then_gives, gives_same}}
+use Rattle.yq_semantics.{proofs.ChildPlaces.node_further, proofs.PathLaws.{bytes_differ, bytes_same}, proofs.updates.FitsInOrder.FitAdds}
+use Rattle.yq_semantics.{proofs.updates.Each.{Each, each_given}, proofs.updates.PipePlaces.{pipe_keeps, select_keeps}}
 use Rattle.yq_semantics.proofs.updates.StepPlaces.{step_keeps}
+use mathlib.Core.List.{cons≢nil}
+use Rattle.yq_core.specs.Tree as tree
+use Rattle.yq_core.specs.Paths as paths
 
 -- ---- what is missing
 

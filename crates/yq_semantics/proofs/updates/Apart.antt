@@ -1,20 +1,17 @@
 -- What is done at one place leaves the node of another as it is, and two such changes may be made in either order.
-use Rattle.std.proofs.Common.{◌≡◌, ◌≢◌, ℕ, zero, suc, ◌+◌, ◌<◌, Bool, true, false, cond, List, [], ◌∷◌, Option, Some, None, option_map, option_and_then, refl, sym, ap, subst, ◌∙◌, inl, inr, arith, rules}
-use Rattle.std.proofs.lemmas.Bool.{cases_Bool, cond-false, cond-true, cond_both}
-use Rattle.std.specs.Str.{bytes_eq}
-use Rattle.yq_core.specs.Tree as tree
+use Rattle.std.proofs.Common.{◌≡◌, ◌≢◌, ℕ, zero, suc, ◌+◌, ◌<◌, Bool, true, false, cond, List, [], ◌∷◌, Option, Some, None, option_map}
+use Rattle.std.proofs.Common.{option_and_then, refl, sym, ap, subst, ◌∙◌, inl, inr, arith, rules}
+use Rattle.std.{proofs.lemmas.Bool.{cases_Bool, cond-false, cond-true, cond_both}, specs.Str.bytes_eq}
 use Rattle.yq_core.specs.Tree.{Label, Node, Children, none, child, children_of}
-use Rattle.yq_core.specs.Paths.{Step, To, Nth, key_is, is_item, child_at, node_at, changed_at}
-use Rattle.yq_semantics.specs.NodeEdits.{NodeEdit, becomes, goes, NodeEdits, under, done_at, child_by, node_edit_inside, each_at_once, at_once, same_path, and_at, done_by}
-use Rattle.yq_semantics.specs.Places.{step_by}
-use Rattle.yq_core.specs.PathOrder.{Before, Apart}
+use Rattle.yq_core.{specs.Paths.{Step, To, Nth, key_is, is_item, child_at, node_at, changed_at}, specs.PathOrder.{Before, Apart}}
 use Rattle.yq_core.specs.Shapes.{AreItems, AreEntries, IsTree}
-use Rattle.yq_semantics.proofs.updates.AtOnce.{one_more}
-use Rattle.yq_semantics.proofs.ChildPlaces.{child_tree, children_tree}
-use Rattle.yq_semantics.proofs.PathLaws.{apart_root, bytes_refl, bytes_same}
-use Rattle.yq_semantics.proofs.updates.Spares.{IsSpared, Spares, spares_root, spares_under, spares_behind, nothing, idle, child_done, node_edits_same, child_kept_or_gone}
-use Rattle.yq_semantics.proofs.updates.Folds.{path_same, apart_irrefl, apart_sym}
-use Rattle.yq_semantics.proofs.updates.OneAt.{one_becomes}
+use Rattle.yq_semantics.specs.NodeEdits.{NodeEdit, becomes, goes, NodeEdits, under, done_at, child_by, node_edit_inside, each_at_once}
+use Rattle.yq_semantics.{specs.NodeEdits.{at_once, same_path, and_at, done_by}, specs.Places.step_by, proofs.updates.AtOnce.one_more}
+use Rattle.yq_semantics.{proofs.ChildPlaces.{child_tree, children_tree}, proofs.PathLaws.{apart_root, bytes_refl, bytes_same}}
+use Rattle.yq_semantics.proofs.updates.Spares.{IsSpared, Spares, spares_root, spares_under, spares_behind, nothing, idle, child_done}
+use Rattle.yq_semantics.proofs.updates.Spares.{node_edits_same, child_kept_or_gone}
+use Rattle.yq_semantics.{proofs.updates.Folds.{path_same, apart_irrefl, apart_sym}, proofs.updates.OneAt.one_becomes}
+use Rattle.yq_core.specs.Tree as tree
 
 -- ---- the child to which a step leads
 

@@ -1,15 +1,15 @@
 -- What is done at once is one thing more done to what the rest makes.
-use Rattle.std.proofs.Common.{◌≡◌, ◌≢◌, ℕ, suc, ◌+◌, ◌<◌, ◌⊎◌, Bool, true, false, cond, List, [], ◌∷◌, Option, Some, None, refl, sym, ap, subst, ◌∙◌, inl, inr, arith, zero, ◌&&◌, rules}
-use Rattle.std.proofs.lemmas.Bool.{cases_Bool, cond-false, cond-true}
+use Rattle.std.proofs.Common.{◌≡◌, ◌≢◌, ℕ, suc, ◌+◌, ◌<◌, ◌⊎◌, Bool, true, false, cond, List, [], ◌∷◌, Option, Some, None, refl, sym, ap}
+use Rattle.std.{proofs.Common.{subst, ◌∙◌, inl, inr, arith, zero, ◌&&◌, rules}, proofs.lemmas.Bool.{cases_Bool, cond-false, cond-true}}
 use Rattle.std.proofs.lemmas.Option.{none-some, same_Some}
 use Rattle.yq_core.specs.Tree.{Label, Node, list, Children, none, child, map}
-use Rattle.yq_core.specs.Paths.{To, Nth, key_is, is_here, further, Step, within}
-use Rattle.yq_semantics.specs.NodeEdits.{step_to, NodeEdit, goes, NodeEdits, under, done_at, child_by, node_edit_inside, each_at_once, at_once, same_path, and_at, at_child, here, one_at}
-use Rattle.yq_semantics.specs.Places.{step_by}
-use Rattle.yq_core.specs.PathOrder.{Before}
+use Rattle.yq_core.{specs.Paths.{To, Nth, key_is, is_here, further, Step, within}, specs.PathOrder.Before}
 use Rattle.yq_core.specs.Shapes.{IsNew, AreItems, AreEntries, IsTree, AreTrees}
+use Rattle.yq_semantics.specs.NodeEdits.{step_to, NodeEdit, goes, NodeEdits, under, done_at, child_by, node_edit_inside, each_at_once}
+use Rattle.yq_semantics.{specs.NodeEdits.{at_once, same_path, and_at, at_child, here, one_at}, specs.Places.step_by}
 use Rattle.yq_semantics.proofs.PathLaws.{bytes_refl, bytes_same, bytes_other, to_nth, step_refl, step_other, apart_root}
-use Rattle.yq_semantics.proofs.updates.Spares.{node_edits_same, IsSpared, Spares, spares_under, nothing, spares_root, spares_behind, child_done, idle, child_kept_or_gone}
+use Rattle.yq_semantics.proofs.updates.Spares.{node_edits_same, IsSpared, Spares, spares_under, nothing, spares_root, spares_behind}
+use Rattle.yq_semantics.proofs.updates.Spares.{child_done, idle, child_kept_or_gone}
 
 -- none of the steps to these is this one
 abbrev HasNone : Step → ℕ → Children → Type 0

@@ -1,12 +1,7 @@
 -- Elements of lists that are each so, and what judgements give that are joined.
-use Rattle.std.proofs.Common.{◌≡◌, ℕ, List, [], ◌∷◌, ◌++◌, reverse, sym, subst, rules}
-use Rattle.std.proofs.lemmas.List.{reverse-append}
-use Rattle.yq_semantics.specs.Changes.{Changed}
-use Rattle.yq_semantics.specs.Judgement.{Judgement, gives, and_then}
-use Rattle.yq_semantics.specs.Operations.{Operation}
-use Rattle.yq_semantics.specs.Places.{for_each}
-use Rattle.yq_semantics.specs.Plans.{change_ops, ops_of}
-use Rattle.yq_semantics.proofs.JudgementLaws.{then_gives, gives_same}
+use Rattle.std.{proofs.Common.{◌≡◌, ℕ, List, [], ◌∷◌, ◌++◌, reverse, sym, subst, rules}, proofs.lemmas.List.reverse-append}
+use Rattle.yq_semantics.{specs.Changes.Changed, specs.Judgement.{Judgement, gives, and_then}, specs.Operations.Operation}
+use Rattle.yq_semantics.{specs.Places.for_each, specs.Plans.{change_ops, ops_of}, proofs.JudgementLaws.{then_gives, gives_same}}
 
 -- each element is so
 abbrev pub Each : {X : Type 0} → (X → Type 0) → List X → Type 0

@@ -1,22 +1,18 @@
 -- Updates worked out: what they change, or why they are refused.
-use Rattle.std.proofs.Common.{◌≡◌, ℕ, true, false, List, [], ◌∷◌, Some, None, refl}
-use Rattle.std.specs.Prelude.{codes, pos, negsuc}
-use Rattle.std.specs.Str.{chars}
-use Rattle.yq_core.specs.declared.kind.Kind.TheVariants as kinds
-use Rattle.yq_core.specs.Paths.{To}
-use Rattle.yq_core.specs.SchemaReading.{resolve, is_int, is_float}
-use Rattle.yq_core.specs.Tree.{Node, alias, scalar, list, map, Children, none, child, key_label}
-use Rattle.yq_core.specs.Writable.{can_write_plain}
+use Rattle.std.{proofs.Common.{◌≡◌, ℕ, true, false, List, [], ◌∷◌, Some, None, refl}, specs.Prelude.{codes, pos, negsuc}, specs.Str.chars}
+use Rattle.yq_core.{specs.Paths.To, specs.SchemaReading.{resolve, is_int, is_float}}
+use Rattle.yq_core.{specs.Tree.{Node, alias, scalar, list, map, Children, none, child, key_label}, specs.Writable.can_write_plain}
 use Rattle.yq_core.specs.NodesWritten.{scalar_text}
 use Rattle.yq_documents.specs.Documents.{Document}
+use Rattle.yq_semantics.specs.declared.refusal.Refusal.TheVariants.{NotAMap, NotASequence, IndexOutOfRange, ThroughAlias, AnchorInUse}
+use Rattle.yq_semantics.specs.declared.refusal.Refusal.TheVariants.{NotOneValue, KindMismatch, FloatArithmetic, NoPlaceForComment}
+use Rattle.yq_semantics.specs.declared.refusal.Refusal.TheVariants.{BadCommentText, RootDelete}
+use Rattle.yq_semantics.{specs.Judgement.{Judgement, gives, refuses}, specs.Meaning.meaning}
+use Rattle.yq_semantics.{specs.Operations.{Operation, replace, append, remove}, specs.Plans.plan}
+use Rattle.yq_semantics.specs.Program.{key, index, each, Stage, path, literal, found, Update, assign, delete, comment}
+use Rattle.yq_core.specs.declared.kind.Kind.TheVariants as kinds
 use Rattle.yq_semantics.specs.declared.program.CommentPlace.TheVariants as comments
 use Rattle.yq_semantics.specs.declared.program.Operator.TheVariants as operator
-use Rattle.yq_semantics.specs.declared.refusal.Refusal.TheVariants.{NotAMap, NotASequence, IndexOutOfRange, ThroughAlias, AnchorInUse, NotOneValue, KindMismatch, FloatArithmetic, NoPlaceForComment, BadCommentText, RootDelete}
-use Rattle.yq_semantics.specs.Judgement.{Judgement, gives, refuses}
-use Rattle.yq_semantics.specs.Meaning.{meaning}
-use Rattle.yq_semantics.specs.Operations.{Operation, replace, append, remove}
-use Rattle.yq_semantics.specs.Plans.{plan}
-use Rattle.yq_semantics.specs.Program.{key, index, each, Stage, path, literal, found, Update, assign, delete, comment}
 
 abbrev entry : List ℕ → Node → Children → Children
 entry k n cs = child (key_label (Some k)) n cs

@@ -2,26 +2,20 @@
 use Rattle.std.proofs.Common.{◌≡◌, ◌≢◌, ℕ, ◌⊎◌, List, [], ◌∷◌, ◌++◌, map, refl, sym, ap, subst, ◌∙◌, inl, inr, rules}
 use Rattle.std.proofs.lemmas.Option.{same_Some}
 use mathlib.Core.List.{head-eq_of_cons-eq, tail-eq_of_cons-eq}
-use Rattle.yq_core.specs.Tree as tree
-use Rattle.yq_core.specs.Tree.{Label, Node, alias, scalar, list, Children, none, child, children_of}
-use Rattle.yq_core.specs.Paths as paths
-use Rattle.yq_core.specs.Paths.{node_at}
-use Rattle.yq_semantics.specs.Judgement.{Judgement, and_then, gives}
-use Rattle.yq_semantics.specs.Matching.{ChildFound, key_step, index_step}
-use Rattle.yq_semantics.specs.Program.{PathStep, key, index, each, Condition, Stage}
-use Rattle.yq_semantics.specs.NodeEdits.{step_to}
+use Rattle.yq_core.{specs.Tree.{Label, Node, alias, scalar, list, Children, none, child, children_of}, specs.Paths.node_at}
+use Rattle.yq_core.{specs.PathOrder.Before, specs.Shapes.{AreItems, AreEntries, IsTree}}
+use Rattle.yq_semantics.{specs.Judgement.{Judgement, and_then, gives}, specs.Matching.{ChildFound, key_step, index_step}}
+use Rattle.yq_semantics.{specs.Program.{PathStep, key, index, each, Condition, Stage}, specs.NodeEdits.step_to}
 use Rattle.yq_semantics.specs.Pipes.{select_on, places}
 use Rattle.yq_semantics.specs.Places.{Place, root_place, child_place, for_each, miss, found_place, stepped, all_steps, step_there, step_on}
-use Rattle.yq_semantics.specs.PlacesApart.{IsBeforeAll, IsIn}
-use Rattle.yq_core.specs.PathOrder.{Before}
-use Rattle.yq_core.specs.Shapes.{AreItems, AreEntries, IsTree}
-use Rattle.yq_semantics.proofs.JudgementLaws.{then_gives, gives_same}
-use Rattle.yq_semantics.proofs.PathLaws.{parts_differ}
+use Rattle.yq_semantics.{specs.PlacesApart.{IsBeforeAll, IsIn}, proofs.JudgementLaws.{then_gives, gives_same}, proofs.PathLaws.parts_differ}
 use Rattle.yq_semantics.proofs.GoodPlaces.{LieIn, AreSound, LeadsSo, AreGood, each_good}
 use Rattle.yq_semantics.proofs.ChildPlaces.{StepsBefore, StepsApart, items_apart, entries_apart}
 use Rattle.yq_semantics.proofs.updates.StepPlaces.{leads_step, step_keeps}
 use Rattle.yq_semantics.proofs.updates.PipePlaces.{leads_select, pipe_keeps, select_keeps}
 use Rattle.yq_semantics.proofs.updates.Each.{Each, each_given, each_join, joined_gives}
+use Rattle.yq_core.specs.Tree as tree
+use Rattle.yq_core.specs.Paths as paths
 
 -- the step to the first item or entry of a root
 abbrev pub IsFirstStep : Node → paths.Step → Type 0

@@ -1,29 +1,22 @@
 -- Each operation of a plan fits at its turn.
 use Rattle.std.proofs.lemmas.Bool.{cases_Bool, and_parts, or_parts}
-use Rattle.std.proofs.Common.{◌≡◌, ℕ, Bool, true, false, cond, List, [], ◌∷◌, length, Option, Some, None, refl, sym, ap, subst, ◌∙◌, inl, inr, rules}
-use Rattle.yq_core.specs.Tree as tree
-use Rattle.yq_core.specs.Tree.{Node, scalar, list, Children, none, child}
-use Rattle.yq_core.specs.Anchors.{names_of}
-use Rattle.yq_semantics.specs.declared.program.CommentPlace.{CommentPlace}
-use Rattle.yq_semantics.specs.declared.program.Operator.TheVariants as operator
-use Rattle.yq_semantics.specs.Judgement.{Judgement, and_then, gives}
-use Rattle.yq_semantics.specs.Changes.{Change, replaces, Changed, Room, nested, created, put_with_path, addition, additions, added, add_below, add_at, remove_at, comment_at, is_too_long, is_too_deep, is_used_inside, takes_used, allowed, all_allowed, at_each, with_value, changes_at, left_pipe, changes_in, can_be_comment, has_comment, value_in}
-use Rattle.yq_semantics.proofs.updates.Mentions.{HasNoAlias, IsPure}
-use Rattle.yq_semantics.specs.Pipes.{places}
-use Rattle.yq_semantics.specs.Places.{Place, root_place}
-use Rattle.yq_semantics.specs.PlacesApart.{IsIn}
-use Rattle.yq_semantics.specs.RightValues.{is_null, as_items, sum, right_value}
-use Rattle.yq_core.specs.Shapes.{IsTree}
+use Rattle.std.proofs.Common.{◌≡◌, ℕ, Bool, true, false, cond, List, [], ◌∷◌, length, Option, Some, None, refl, sym, ap, subst, ◌∙◌, inl}
+use Rattle.std.proofs.Common.{inr, rules}
+use Rattle.yq_core.{specs.Tree.{Node, scalar, list, Children, none, child}, specs.Anchors.names_of, specs.Shapes.IsTree}
+use Rattle.yq_semantics.{specs.declared.program.CommentPlace.CommentPlace, specs.Judgement.{Judgement, and_then, gives}}
+use Rattle.yq_semantics.specs.Changes.{Change, replaces, Changed, Room, nested, created, put_with_path, addition, additions, added}
+use Rattle.yq_semantics.specs.Changes.{add_below, add_at, remove_at, comment_at, is_too_long, is_too_deep, is_used_inside, takes_used}
+use Rattle.yq_semantics.specs.Changes.{allowed, all_allowed, at_each, with_value, changes_at, left_pipe, changes_in, can_be_comment}
+use Rattle.yq_semantics.{specs.Changes.{has_comment, value_in}, proofs.updates.Mentions.{HasNoAlias, IsPure}, specs.Pipes.places}
+use Rattle.yq_semantics.{specs.Places.{Place, root_place}, specs.PlacesApart.IsIn, specs.RightValues.{is_null, as_items, sum, right_value}}
 use Rattle.yq_semantics.specs.Program.{SumHolds, UpdatesHold, PathStep, key, Term, Update, assign, delete, comment}
 use Rattle.yq_semantics.proofs.updates.Aliases.{AddNone, WritesNone}
 use Rattle.yq_semantics.proofs.updates.AllowedChanges.{IsMissed, AreMissed, places_missed, list_fits, entries_fit}
-use Rattle.yq_semantics.proofs.updates.FitsInOrder.{MayChange, AreFit}
-use Rattle.yq_semantics.proofs.JudgementLaws.{then_gives, gives_same}
-use Rattle.yq_semantics.proofs.GoodPlaces.{AreSound}
-use Rattle.yq_semantics.proofs.updates.PipePlaces.{places_apart}
-use Rattle.yq_semantics.proofs.updates.Pure.{HaveNoAlias}
-use Rattle.yq_semantics.proofs.updates.SumValues.{items_items, items_free, sum_pure, right_pure}
-use Rattle.yq_semantics.proofs.updates.Each.{Each, each_given}
+use Rattle.yq_semantics.{proofs.updates.FitsInOrder.{MayChange, AreFit}, proofs.JudgementLaws.{then_gives, gives_same}}
+use Rattle.yq_semantics.{proofs.GoodPlaces.AreSound, proofs.updates.PipePlaces.places_apart, proofs.updates.Pure.HaveNoAlias}
+use Rattle.yq_semantics.{proofs.updates.SumValues.{items_items, items_free, sum_pure, right_pure}, proofs.updates.Each.{Each, each_given}}
+use Rattle.yq_core.specs.Tree as tree
+use Rattle.yq_semantics.specs.declared.program.Operator.TheVariants as operator
 
 -- ---- what is allowed
 

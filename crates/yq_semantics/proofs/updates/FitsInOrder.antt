@@ -1,29 +1,25 @@
 -- Each operation of changes that are allowed fits at its turn.
-use Rattle.std.proofs.Common.{◌≡◌, ℕ, suc, Bool, true, false, cond, List, [], ◌∷◌, ◌++◌, length, map, reverse, Option, Some, None, option_and_then, refl, sym, ap, subst, ◌∙◌, inl, inr, append-nil, arith, length-append, rules}
-use Rattle.std.proofs.lemmas.List.{reverse-reverse}
-use Rattle.std.proofs.lemmas.Option.{same_Some}
-use Rattle.yq_core.specs.Tree as tree
+use Rattle.std.proofs.Common.{◌≡◌, ℕ, suc, Bool, true, false, cond, List, [], ◌∷◌, ◌++◌, length, map, reverse, Option, Some, None}
+use Rattle.std.proofs.Common.{option_and_then, refl, sym, ap, subst, ◌∙◌, inl, inr, append-nil, arith, length-append, rules}
+use Rattle.std.{proofs.lemmas.List.reverse-reverse, proofs.lemmas.Option.same_Some}
 use Rattle.yq_core.specs.Tree.{Node, alias, list, Children, none, child, children_of}
-use Rattle.yq_core.specs.Paths.{Step, To, is_here, further, child_at, node_at, change_child, within, changed_at}
-use Rattle.yq_core.specs.Anchors.{names_of}
-use Rattle.yq_semantics.specs.declared.program.CommentPlace.TheVariants as comments
+use Rattle.yq_core.{specs.Paths.{Step, To, is_here, further, child_at, node_at, change_child, within, changed_at}, specs.Anchors.names_of}
+use Rattle.yq_core.{specs.PathOrder.{Before, Apart}, specs.Shapes.IsTree}
 use Rattle.yq_semantics.specs.After.{root_after}
-use Rattle.yq_semantics.specs.Changes.{Addition, appends, overwrites, replaces, adds, sets_comment, Changed, Room, is_overlong_key, is_used_inside, is_used_in}
-use Rattle.yq_semantics.specs.NodeEdits.{at_once}
+use Rattle.yq_semantics.specs.Changes.{Addition, appends, overwrites, replaces, adds, sets_comment, Changed, Room, is_overlong_key}
+use Rattle.yq_semantics.{specs.Changes.{is_used_inside, is_used_in}, specs.NodeEdits.at_once}
 use Rattle.yq_semantics.specs.Fits.{IsWritableAt, Takes, IsBelow, MayComment, FitsRoot}
-use Rattle.yq_semantics.proofs.updates.Mentions.{AnyMentions, MentionsNoMore, inside_less, in_less}
-use Rattle.yq_semantics.specs.Meaning.{add_to}
-use Rattle.yq_semantics.specs.Operations.{Operation}
-use Rattle.yq_semantics.specs.Plans.{add_op, change_ops, ops_of, ordered}
-use Rattle.yq_core.specs.PathOrder.{Before, Apart}
-use Rattle.yq_core.specs.Shapes.{IsTree}
-use Rattle.yq_semantics.specs.Changes as changes
+use Rattle.yq_semantics.{proofs.updates.Mentions.{AnyMentions, MentionsNoMore, inside_less, in_less}, specs.Meaning.add_to}
+use Rattle.yq_semantics.{specs.Operations.Operation, specs.Plans.{add_op, change_ops, ops_of, ordered}}
 use Rattle.yq_semantics.proofs.updates.Aliases.{AddNone, one_no_more, WritesNone, all_bring, at_once_no_more}
 use Rattle.yq_semantics.proofs.updates.Apart.{node_spared}
-use Rattle.yq_semantics.proofs.updates.Folds.{InPairs, MayFold, AreSpared, node_edits_of, ops_join, fold_back, spared_in_order, spared_apart, pairs_apart, pairs_reverse, apart_sym, IsKept}
-use Rattle.yq_semantics.proofs.ChildPlaces.{node_further}
-use Rattle.yq_semantics.proofs.updates.OneAt.{roots_after, add_after}
+use Rattle.yq_semantics.proofs.updates.Folds.{InPairs, MayFold, AreSpared, node_edits_of, ops_join, fold_back, spared_in_order}
+use Rattle.yq_semantics.proofs.updates.Folds.{spared_apart, pairs_apart, pairs_reverse, apart_sym, IsKept}
+use Rattle.yq_semantics.{proofs.ChildPlaces.node_further, proofs.updates.OneAt.{roots_after, add_after}}
 use Rattle.yq_semantics.proofs.updates.Each.{Each, each_reverse, each_weaker, reverse-cons}
+use Rattle.yq_core.specs.Tree as tree
+use Rattle.yq_semantics.specs.declared.program.CommentPlace.TheVariants as comments
+use Rattle.yq_semantics.specs.Changes as changes
 
 -- each operation fits a root at its turn
 abbrev pub AllFitRoot : Bool → List (List ℕ) → Room → List Operation → Node → Type 0

@@ -1,22 +1,16 @@
 -- Operations on a root, one after the other, make all changes at once.
-use Rattle.std.proofs.Common.{◌≡◌, ℕ, Bool, true, false, cond, List, [], ◌∷◌, ◌++◌, map, reverse, Some, refl, sym, ap, subst, ◌∙◌, inl, inr, append-nil, append_assoc, rules}
-use Rattle.std.proofs.lemmas.List.{reverse-reverse}
-use Rattle.yq_core.specs.Tree.{Node}
-use Rattle.yq_core.specs.Paths.{Step}
+use Rattle.std.proofs.Common.{◌≡◌, ℕ, Bool, true, false, cond, List, [], ◌∷◌, ◌++◌, map, reverse, Some, refl, sym, ap, subst, ◌∙◌, inl, inr}
+use Rattle.std.{proofs.Common.{append-nil, append_assoc, rules}, proofs.lemmas.List.reverse-reverse}
+use Rattle.std.proofs.lemmas.Bool.{false≢true, eqb-true, and_parts, cond_both}
+use Rattle.yq_core.{specs.Tree.Node, specs.Paths.Step, specs.PathOrder.{Before, Apart}, specs.Shapes.IsTree}
 use Rattle.yq_semantics.specs.Changes.{Change, sets_comment, Changed}
 use Rattle.yq_semantics.specs.NodeEdits.{NodeEdit, NodeEdits, at_once, same_step, same_path, and_at, done_by}
-use Rattle.yq_semantics.specs.Meaning.{placed_edit, node_edit_of}
-use Rattle.yq_semantics.specs.Plans.{change_ops, ops_of, is_removal, ordered}
-use Rattle.yq_semantics.specs.Program.{Update, assign, delete, comment}
-use Rattle.yq_core.specs.PathOrder.{Before, Apart}
-use Rattle.yq_core.specs.Shapes.{IsTree}
-use Rattle.yq_semantics.specs.Changes as changes
-use Rattle.yq_semantics.proofs.updates.AtOnce.{one_more}
-use Rattle.yq_semantics.proofs.PathLaws.{bytes_same, parts_not}
-use Rattle.yq_semantics.proofs.updates.Spares.{idle, IsSpared, Spares, node_edits_same}
+use Rattle.yq_semantics.{specs.Meaning.{placed_edit, node_edit_of}, specs.Plans.{change_ops, ops_of, is_removal, ordered}}
+use Rattle.yq_semantics.{specs.Program.{Update, assign, delete, comment}, proofs.updates.AtOnce.one_more}
+use Rattle.yq_semantics.{proofs.PathLaws.{bytes_same, parts_not}, proofs.updates.Spares.{idle, IsSpared, Spares, node_edits_same}}
 use Rattle.yq_semantics.proofs.updates.OneAt.{roots_after, roots_join, change_after}
-use Rattle.std.proofs.lemmas.Bool.{false≢true, eqb-true, and_parts, cond_both}
 use Rattle.yq_semantics.proofs.updates.Each.{Each, each_join, each_reverse, each_weaker, reverse-cons}
+use Rattle.yq_semantics.specs.Changes as changes
 
 -- ---- which path is which
 

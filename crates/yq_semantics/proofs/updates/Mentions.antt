@@ -1,15 +1,11 @@
 -- Trees without aliases: nothing in them mentions a name.
 use Rattle.std.proofs.Common.{◌≡◌, ℕ, ◌⊎◌, Bool, true, false, ◌||◌, List, [], ◌∷◌, ◌++◌, Option, Some, None, refl, sym, ap, ◌∙◌, inl, inr}
-use Rattle.std.proofs.Math.Bool.{or-false}
-use Rattle.std.specs.List.{list_any}
-use Rattle.std.specs.Str.{bytes_eq}
+use Rattle.std.{proofs.Math.Bool.or-false, specs.List.list_any, specs.Str.bytes_eq}
 use Rattle.std.proofs.lemmas.Bool.{false≢true, or_cases, or_left, or_right}
-use Rattle.yq_core.specs.Tree as tree
 use Rattle.yq_core.specs.Tree.{Node, alias, scalar, list, Children, none, child, children_of}
-use Rattle.yq_core.specs.Anchors.{Name, Anchors, Refers, anchor_names, names_of, names_in}
-use Rattle.yq_semantics.specs.Changes.{refers_to, is_used, is_used_inside, is_used_in}
-use Rattle.yq_core.specs.Shapes.{IsTree}
-use Rattle.yq_semantics.specs.Program.{IsValue}
+use Rattle.yq_core.{specs.Anchors.{Name, Anchors, Refers, anchor_names, names_of, names_in}, specs.Shapes.IsTree}
+use Rattle.yq_semantics.{specs.Changes.{refers_to, is_used, is_used_inside, is_used_in}, specs.Program.IsValue}
+use Rattle.yq_core.specs.Tree as tree
 
 abbrev mutual
   -- some alias of that name is in a node (own)

@@ -2,14 +2,12 @@
 use Rattle.std.proofs.Common.{◌≡◌, ℕ, Bool, true, false, cond, List, [], ◌∷◌, ◌++◌, map, Option, Some, refl, sym, ap, ◌∙◌, rules}
 use Rattle.yq_core.specs.Tree.{Label, Node, Children, none, child}
 use Rattle.yq_core.specs.Paths.{Step, is_here, further, change_child, relabel_child, remove_child, within, changed_at}
-use Rattle.yq_semantics.specs.declared.program.CommentPlace.TheVariants as comments
-use Rattle.yq_semantics.specs.After.{root_after}
-use Rattle.yq_semantics.specs.Changes.{Addition, appends, overwrites, replaces, adds, sets_comment, Changed}
+use Rattle.yq_semantics.{specs.After.root_after, specs.Changes.{Addition, appends, overwrites, replaces, adds, sets_comment, Changed}}
 use Rattle.yq_semantics.specs.NodeEdits.{NodeEdit, becomes, line, head, goes, done_at, child_by, at_child, one_at}
-use Rattle.yq_semantics.specs.Meaning.{add_to, add_all, head_comment_lines, line_comment_text, node_edit_of}
-use Rattle.yq_semantics.specs.Operations.{Operation}
+use Rattle.yq_semantics.{specs.Meaning.{add_to, add_all, head_comment_lines, line_comment_text, node_edit_of}, specs.Operations.Operation}
 use Rattle.yq_semantics.specs.Plans.{add_op, change_ops}
 use Rattle.yq_documents.specs.TreeEdits.{replaced_node, at_end, with_line_comment, with_head_comment, led}
+use Rattle.yq_semantics.specs.declared.program.CommentPlace.TheVariants as comments
 use Rattle.yq_semantics.specs.Changes as changes
 
 -- ---- changes of one node

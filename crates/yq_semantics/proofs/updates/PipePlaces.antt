@@ -1,16 +1,11 @@
 -- The places to which a pipe leads are apart.
 use Rattle.std.proofs.Common.{◌≡◌, ℕ, Bool, true, false, List, [], ◌∷◌, refl, subst}
-use Rattle.yq_core.specs.Tree.{Node}
-use Rattle.yq_semantics.specs.Judgement.{gives}
-use Rattle.yq_semantics.specs.Program.{PathStep, Condition, Stage, path, select}
-use Rattle.yq_semantics.specs.Conditions.{condition_holds}
+use Rattle.yq_core.{specs.Tree.Node, specs.Shapes.IsTree}
+use Rattle.yq_semantics.{specs.Judgement.gives, specs.Program.{PathStep, Condition, Stage, path, select}, specs.Conditions.condition_holds}
 use Rattle.yq_semantics.specs.Pipes.{kept_place, select_on, stage_on, pipe_on, places}
-use Rattle.yq_semantics.specs.Places.{Place, root_place, for_each, step_on, chained, traverse}
-use Rattle.yq_semantics.specs.PlacesApart.{AreApart, AreIn}
-use Rattle.yq_core.specs.Shapes.{IsTree}
+use Rattle.yq_semantics.{specs.Places.{Place, root_place, for_each, step_on, chained, traverse}, specs.PlacesApart.{AreApart, AreIn}}
 use Rattle.yq_semantics.proofs.JudgementLaws.{then_gives, gives_same}
-use Rattle.yq_semantics.proofs.GoodPlaces.{AreSound, LeadsInto, LeadsSo, AreGood, each_good}
-use Rattle.yq_semantics.proofs.ChildPlaces.{leads_none, leads_self}
+use Rattle.yq_semantics.{proofs.GoodPlaces.{AreSound, LeadsInto, LeadsSo, AreGood, each_good}, proofs.ChildPlaces.{leads_none, leads_self}}
 use Rattle.yq_semantics.proofs.updates.StepPlaces.{leads_step}
 
 -- what is so of a place alone and of none is so of what a condition keeps

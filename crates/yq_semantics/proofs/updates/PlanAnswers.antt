@@ -2,19 +2,12 @@
 use Rattle.std.proofs.Common.{◌≡◌, ◌⊎◌, ℕ, zero, suc, List, [], ◌∷◌, Some, Result, Ok, Err, IfOk, refl, ap, subst, inl, inr}
 use Rattle.std.specs.List.{slice_get}
 use Rattle.yq_documents.specs.Documents.{Document}
-use Rattle.yq_semantics.specs.declared.expr_error.ExprError.{ExprError}
-use Rattle.yq_semantics.specs.declared.expr_error.ExprError.TheVariants as error
-use Rattle.yq_semantics.specs.declared.refusal.Refusal.{Refusal}
-use Rattle.yq_semantics.specs.After.{all_after}
-use Rattle.yq_semantics.specs.Changes.{Room}
-use Rattle.yq_semantics.specs.Fits.{AllFit}
-use Rattle.yq_semantics.specs.Judgement.{Judges, gives, refuses}
-use Rattle.yq_semantics.specs.Meaning.{AreReady, meaning}
-use Rattle.yq_semantics.specs.Operations.{Operation}
-use Rattle.yq_semantics.specs.Plans.{plan}
+use Rattle.yq_semantics.{specs.declared.expr_error.ExprError.ExprError, specs.declared.refusal.Refusal.Refusal, specs.After.all_after}
+use Rattle.yq_semantics.{specs.Changes.Room, specs.Fits.AllFit, specs.Judgement.{Judges, gives, refuses}, specs.Meaning.{AreReady, meaning}}
+use Rattle.yq_semantics.{specs.Operations.Operation, specs.Plans.plan}
 use Rattle.yq_semantics.specs.Program.{update_at, Update, assign, delete, comment, Program, read, updates, UpdatesHold, LiteralsHold}
-use Rattle.yq_semantics.proofs.updates.PlanFits.{plan_fits}
-use Rattle.yq_semantics.proofs.updates.PlanMeans.{plan_means, plan_refused, meaning_refused}
+use Rattle.yq_semantics.{proofs.updates.PlanFits.plan_fits, proofs.updates.PlanMeans.{plan_means, plan_refused, meaning_refused}}
+use Rattle.yq_semantics.specs.declared.expr_error.ExprError.TheVariants as error
 
 -- a literal of one update is one of the program
 update_holds : (us : List Update) (n : ℕ) (u : Update) → UpdatesHold us → slice_get us n ≡ Some u → UpdatesHold (u ∷ [])

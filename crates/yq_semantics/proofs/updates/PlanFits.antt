@@ -1,25 +1,17 @@
 -- Each operation of a plan fits at its turn.
-use Rattle.std.proofs.Common.{◌≡◌, ℕ, suc, Bool, true, false, List, [], ◌∷◌, ◌++◌, length, reverse, Some, refl, sym, ap, subst, ◌∙◌, append_assoc, arith, length-append, rules}
-use Rattle.std.specs.List.{slice_get}
-use Rattle.yq_core.specs.Tree.{Node}
+use Rattle.std.proofs.Common.{◌≡◌, ℕ, suc, Bool, true, false, List, [], ◌∷◌, ◌++◌, length, reverse, Some, refl, sym, ap, subst, ◌∙◌}
+use Rattle.std.{proofs.Common.{append_assoc, arith, length-append, rules}, specs.List.slice_get}
+use Rattle.yq_core.{specs.Tree.Node, specs.PathOrder.Before}
 use Rattle.yq_documents.specs.Documents.{Document}
-use Rattle.yq_semantics.specs.Judgement.{and_then, gives}
-use Rattle.yq_semantics.specs.After.{root_after, done_to, after_op, all_after}
-use Rattle.yq_semantics.specs.Changes.{Changed, Room, created, changes_in, has_comment, changes_from}
-use Rattle.yq_semantics.specs.Fits.{FitsRoot, AllFit}
-use Rattle.yq_semantics.specs.Meaning.{changed_at_once, roots_of, AreReady}
-use Rattle.yq_semantics.specs.Operations.{Operation}
-use Rattle.yq_semantics.specs.Plans.{change_ops, ops_of, is_removal, ordered, all_ops, plan}
-use Rattle.yq_core.specs.PathOrder.{Before}
-use Rattle.yq_semantics.specs.Program.{UpdatesHold, Update}
-use Rattle.yq_semantics.proofs.updates.FitsInOrder.{AllFitRoot, all_fit, AreFit}
-use Rattle.yq_semantics.proofs.updates.Folds.{InPairs, IsGone, AreGone, MayFold}
+use Rattle.yq_semantics.{specs.Judgement.{and_then, gives}, specs.After.{root_after, done_to, after_op, all_after}}
+use Rattle.yq_semantics.{specs.Changes.{Changed, Room, created, changes_in, has_comment, changes_from}, specs.Fits.{FitsRoot, AllFit}}
+use Rattle.yq_semantics.{specs.Meaning.{changed_at_once, roots_of, AreReady}, specs.Operations.Operation}
+use Rattle.yq_semantics.{specs.Plans.{change_ops, ops_of, is_removal, ordered, all_ops, plan}, specs.Program.{UpdatesHold, Update}}
+use Rattle.yq_semantics.{proofs.updates.FitsInOrder.{AllFitRoot, all_fit, AreFit}, proofs.updates.Folds.{InPairs, IsGone, AreGone, MayFold}}
 use Rattle.yq_semantics.proofs.updates.RootLeads.{document_after, document_folds, AllKeepSome, op_any_lead, puts_or_keeps, KeepsSome}
-use Rattle.yq_semantics.proofs.JudgementLaws.{then_gives, gives_same}
-use Rattle.yq_semantics.proofs.updates.Planned.{AreOrdered, update_ordered, removal_first}
+use Rattle.yq_semantics.{proofs.JudgementLaws.{then_gives, gives_same}, proofs.updates.Planned.{AreOrdered, update_ordered, removal_first}}
 use Rattle.yq_semantics.proofs.updates.PlanMeans.{AreOf, ops_are_of, after_at, all_after_at, plan_parts}
-use Rattle.yq_semantics.proofs.updates.FitChanges.{update_fit}
-use Rattle.yq_semantics.proofs.updates.Each.{Each, each_op, each_reverse, each_weaker}
+use Rattle.yq_semantics.{proofs.updates.FitChanges.update_fit, proofs.updates.Each.{Each, each_op, each_reverse, each_weaker}}
 
 -- each operation fits a document at its turn
 abbrev AllFitDocument : Bool → Room → List Operation → Document → Type 0

@@ -1,23 +1,19 @@
 -- What is planned leads to what is meant.
-use Rattle.std.proofs.Common.{◌≡◌, ℕ, suc, true, List, [], ◌∷◌, ◌++◌, length, map, refl, sym, ap, subst, ◌∙◌, inl, inr, append_assoc, arith, length-append, rules}
-use Rattle.yq_core.specs.Paths as paths
+use Rattle.std.proofs.Common.{◌≡◌, ℕ, suc, true, List, [], ◌∷◌, ◌++◌, length, map, refl, sym, ap, subst, ◌∙◌, inl, inr, append_assoc, arith}
+use Rattle.std.proofs.Common.{length-append, rules}
 use Rattle.yq_core.proofs.Bools.{chosen}
-use Rattle.yq_documents.specs.Documents.{Document}
-use Rattle.yq_semantics.specs.declared.program.CommentPlace.TheVariants as comments
-use Rattle.yq_semantics.specs.declared.refusal.Refusal.{Refusal}
-use Rattle.yq_semantics.specs.Judgement.{Judgement, and_then, gives, refuses}
+use Rattle.yq_documents.{specs.Documents.Document, specs.TreeEdits.change_nth}
+use Rattle.yq_semantics.{specs.declared.refusal.Refusal.Refusal, specs.Judgement.{Judgement, and_then, gives, refuses}}
 use Rattle.yq_semantics.specs.After.{op_document, done_to, after_op, all_after}
-use Rattle.yq_semantics.specs.Changes.{Addition, appends, overwrites, replaces, adds, sets_comment, Changed, Room, has_comment, changes_in, changes_from, update_changes}
-use Rattle.yq_semantics.specs.Meaning.{changed_at_once, all_changed, roots_of, meaning, AreReady}
-use Rattle.yq_semantics.specs.Operations.{Operation}
-use Rattle.yq_semantics.specs.Plans.{add_op, change_ops, ops_of, is_removal, ordered, all_ops, plan}
-use Rattle.yq_documents.specs.TreeEdits.{change_nth}
-use Rattle.yq_semantics.specs.Program.{Update}
+use Rattle.yq_semantics.specs.Changes.{Addition, appends, overwrites, replaces, adds, sets_comment, Changed, Room, has_comment, changes_in}
+use Rattle.yq_semantics.specs.Changes.{changes_from, update_changes}
+use Rattle.yq_semantics.{specs.Meaning.{changed_at_once, all_changed, roots_of, meaning, AreReady}, specs.Operations.Operation}
+use Rattle.yq_semantics.{specs.Plans.{add_op, change_ops, ops_of, is_removal, ordered, all_ops, plan}, specs.Program.Update}
+use Rattle.yq_semantics.{proofs.updates.RootLeads.{document_after, document_folds}, proofs.JudgementLaws.{then_gives, gives_same}}
+use Rattle.yq_semantics.{proofs.updates.Planned.{AreOrdered, update_ordered, removal_first}, proofs.updates.Each.{Each, each_join}}
+use Rattle.yq_core.specs.Paths as paths
+use Rattle.yq_semantics.specs.declared.program.CommentPlace.TheVariants as comments
 use Rattle.yq_semantics.specs.Changes as changes
-use Rattle.yq_semantics.proofs.updates.RootLeads.{document_after, document_folds}
-use Rattle.yq_semantics.proofs.JudgementLaws.{then_gives, gives_same}
-use Rattle.yq_semantics.proofs.updates.Planned.{AreOrdered, update_ordered, removal_first}
-use Rattle.yq_semantics.proofs.updates.Each.{Each, each_join}
 
 -- ---- operations on the document of a number
 

@@ -1,28 +1,20 @@
 -- What an update changes stands in order.
 use Rattle.std.proofs.lemmas.Bool.{cases_Bool}
 use Rattle.std.proofs.Common.{◌≡◌, ◌≢◌, ℕ, Bool, true, List, [], ◌∷◌, ◌++◌, refl, sym, ap, subst, ◌∙◌, rules}
-use Rattle.yq_core.specs.Tree as tree
-use Rattle.yq_core.specs.Tree.{Node, Children, none, child, children_of}
-use Rattle.yq_core.specs.Paths as paths
-use Rattle.yq_semantics.specs.declared.program.CommentPlace.{CommentPlace}
-use Rattle.yq_semantics.specs.declared.program.Operator.TheVariants as operator
-use Rattle.yq_semantics.specs.Judgement.{Judgement, and_then, gives}
+use Rattle.yq_core.{specs.Tree.{Node, Children, none, child, children_of}, specs.PathOrder.Before, specs.Shapes.IsTree}
+use Rattle.yq_semantics.{specs.declared.program.CommentPlace.CommentPlace, specs.Judgement.{Judgement, and_then, gives}}
 use Rattle.yq_semantics.specs.Program.{PathStep, Term, Update, assign, delete, comment}
-use Rattle.yq_semantics.specs.Changes.{Change, Changed, Room, put_below, put_with_path, added, add_at, remove_at, comment_at, allowed, all_allowed, at_each, with_value, changes_at, left_pipe, changes_in}
-use Rattle.yq_semantics.specs.NodeEdits.{step_to}
-use Rattle.yq_semantics.specs.Pipes.{places}
-use Rattle.yq_semantics.specs.Places.{Place, root_place, for_each}
-use Rattle.yq_semantics.specs.PlacesApart.{IsBeforeAll, AreApart}
-use Rattle.yq_semantics.specs.Plans.{is_removal}
-use Rattle.yq_semantics.specs.RightValues.{right_value}
-use Rattle.yq_core.specs.PathOrder.{Before}
-use Rattle.yq_core.specs.Shapes.{IsTree}
+use Rattle.yq_semantics.specs.Changes.{Change, Changed, Room, put_below, put_with_path, added, add_at, remove_at, comment_at, allowed}
+use Rattle.yq_semantics.{specs.Changes.{all_allowed, at_each, with_value, changes_at, left_pipe, changes_in}, specs.NodeEdits.step_to}
+use Rattle.yq_semantics.{specs.Pipes.places, specs.Places.{Place, root_place, for_each}, specs.PlacesApart.{IsBeforeAll, AreApart}}
+use Rattle.yq_semantics.{specs.Plans.is_removal, specs.RightValues.right_value}
 use Rattle.yq_semantics.proofs.updates.Folds.{ToEach, InPairs, AllAre, IsGone, IsWritten, IsSaid, IsOf, MayFold, of_may_fold}
-use Rattle.yq_semantics.proofs.updates.RootLeads.{NoneAt, NoneLater, FirstIn, IsFirst}
-use Rattle.yq_semantics.proofs.JudgementLaws.{then_gives, gives_same}
+use Rattle.yq_semantics.{proofs.updates.RootLeads.{NoneAt, NoneLater, FirstIn, IsFirst}, proofs.JudgementLaws.{then_gives, gives_same}}
 use Rattle.yq_semantics.proofs.updates.FirstPlaces.{NoPlaceAt, NoPlaceLater, IsFirstStep, places_first}
-use Rattle.yq_semantics.proofs.updates.PipePlaces.{places_apart}
-use Rattle.yq_semantics.proofs.updates.Each.{each_given, each_join, joined_gives}
+use Rattle.yq_semantics.{proofs.updates.PipePlaces.places_apart, proofs.updates.Each.{each_given, each_join, joined_gives}}
+use Rattle.yq_core.specs.Tree as tree
+use Rattle.yq_core.specs.Paths as paths
+use Rattle.yq_semantics.specs.declared.program.Operator.TheVariants as operator
 
 -- one change at most, at that path
 abbrev AtOne : List paths.Step → List Changed → Type 0

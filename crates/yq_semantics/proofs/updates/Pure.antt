@@ -1,13 +1,11 @@
 -- Copies are trees without aliases.
 use Rattle.std.proofs.Common.{◌≡◌, ℕ, List, [], ◌∷◌, Option, Some, None, refl, sym, ap, subst, ◌∙◌, rules}
 use Rattle.yq_core.specs.Shapes.{IsNew, AreItems, AreEntries, IsTree, AreTrees}
-use Rattle.yq_core.specs.Tree as tree
-use Rattle.yq_core.specs.Tree.{Label, Node, alias, scalar, list, Children, none, child, plain_label}
-use Rattle.yq_core.specs.Values.{entry, items, entries}
+use Rattle.yq_core.{specs.Tree.{Label, Node, alias, scalar, list, Children, none, child, plain_label}, specs.Values.{entry, items, entries}}
 use Rattle.yq_semantics.specs.Copies.{key_or_empty, and_others, keyed, copy, item_copies, entry_copies}
-use Rattle.yq_semantics.proofs.updates.Mentions.{AnyMentions, IsPure}
-use Rattle.yq_semantics.specs.Judgement.{gives}
+use Rattle.yq_semantics.{proofs.updates.Mentions.{AnyMentions, IsPure}, specs.Judgement.gives}
 use Rattle.yq_semantics.proofs.JudgementLaws.{then_gives, gives_same}
+use Rattle.yq_core.specs.Tree as tree
 
 abbrev pub HaveNoAlias : Children → Type 0
 HaveNoAlias cs = (a : List ℕ) → AnyMentions a cs → ⊥

@@ -1,28 +1,21 @@
 -- The room that the operations of a plan ask for lasts.
-use Rattle.std.proofs.Common.{◌≡◌, ◌<◌, ◌⊎◌, ℕ, suc, Bool, List, [], ◌∷◌, ◌++◌, map, option_and_then, refl, sym, subst, ◌∙◌, inl, inr, arith, rules}
-use Rattle.std.proofs.lemmas.Option.{same_Some}
-use Rattle.yq_core.specs.PathOrder.{Before}
-use Rattle.yq_core.specs.Paths.{Step}
-use Rattle.yq_core.specs.Tree.{Node}
+use Rattle.std.proofs.Common.{◌≡◌, ◌<◌, ◌⊎◌, ℕ, suc, Bool, List, [], ◌∷◌, ◌++◌, map, option_and_then, refl, sym, subst, ◌∙◌, inl, inr}
+use Rattle.std.{proofs.Common.{arith, rules}, proofs.lemmas.Option.same_Some}
+use Rattle.yq_core.{specs.PathOrder.Before, specs.Paths.Step, specs.Tree.Node}
 use Rattle.yq_documents.specs.Documents.{Document}
-use Rattle.yq_semantics.specs.declared.program.CommentPlace.TheVariants as comments
 use Rattle.yq_semantics.specs.After.{op_document, after_op}
-use Rattle.yq_semantics.specs.Changes as changes
 use Rattle.yq_semantics.specs.Changes.{Addition, appends, overwrites, replaces, adds, sets_comment, Changed, Room, changes_in, changes_from}
-use Rattle.yq_semantics.specs.Fits.{AllFit}
-use Rattle.yq_semantics.specs.Judgement.{and_then, gives}
-use Rattle.yq_semantics.specs.Meaning.{roots_of, AreReady}
-use Rattle.yq_semantics.specs.Operations.{Operation, remove}
-use Rattle.yq_semantics.specs.Plans.{add_op, ops_of, is_removal, ordered, all_ops, plan}
+use Rattle.yq_semantics.{specs.Fits.AllFit, specs.Judgement.{and_then, gives}, specs.Meaning.{roots_of, AreReady}}
+use Rattle.yq_semantics.{specs.Operations.{Operation, remove}, specs.Plans.{add_op, ops_of, is_removal, ordered, all_ops, plan}}
 use Rattle.yq_semantics.specs.Program.{UpdatesHold, Update, comment}
 use Rattle.yq_semantics.specs.RoomsKept.{KeepsBlock, KeepsBlockIn, NoneOn, BlockLasts, SetComments, SetNoComment, MayFollow}
 use Rattle.yq_semantics.proofs.JudgementLaws.{then_gives, gives_same}
 use Rattle.yq_semantics.proofs.updates.Folds.{InPairs, AllAre, AreGone, IsWritten, IsSaid, IsOf, MayFold, of_may_fold}
-use Rattle.yq_semantics.proofs.updates.Planned.{update_kind}
-use Rattle.yq_semantics.proofs.updates.PlanFits.{plan_fits}
+use Rattle.yq_semantics.{proofs.updates.Planned.update_kind, proofs.updates.PlanFits.plan_fits}
 use Rattle.yq_semantics.proofs.updates.PlanMeans.{AreOf, ops_are_of, plan_parts}
-use Rattle.yq_semantics.proofs.updates.RootLeads.{KeepsSome, AllKeepSome, puts_or_keeps}
-use Rattle.yq_semantics.proofs.updates.Each.{each_reverse}
+use Rattle.yq_semantics.{proofs.updates.RootLeads.{KeepsSome, AllKeepSome, puts_or_keeps}, proofs.updates.Each.each_reverse}
+use Rattle.yq_semantics.specs.declared.program.CommentPlace.TheVariants as comments
+use Rattle.yq_semantics.specs.Changes as changes
 
 -- ---- by turns
 

@@ -1,27 +1,25 @@
 -- Operations on a document, one after the other: the root, and the lead.
-use Rattle.std.proofs.Common.{◌≡◌, ◌≢◌, ℕ, ◌⊎◌, Bool, true, List, [], ◌∷◌, ◌++◌, map, reverse, Some, None, refl, sym, ap, ◌∙◌, inl, inr, append-nil, rules}
-use Rattle.std.proofs.lemmas.Bool.{cond_both}
+use Rattle.std.proofs.Common.{◌≡◌, ◌≢◌, ℕ, ◌⊎◌, Bool, true, List, [], ◌∷◌, ◌++◌, map, reverse, Some, None, refl, sym, ap, ◌∙◌, inl, inr}
+use Rattle.std.{proofs.Common.{append-nil, rules}, proofs.lemmas.Bool.cond_both}
 use mathlib.Core.List.{nil≢cons}
-use Rattle.yq_core.specs.Tree as tree
 use Rattle.yq_core.specs.Tree.{Label, Node, Children, none, child, children_of, key_label}
 use Rattle.yq_core.specs.Paths.{Step, To, is_here, further, change_child, relabel_child, append_child, within, changed_at}
+use Rattle.yq_core.{specs.PathOrder.Before, specs.Shapes.IsTree}
 use Rattle.yq_documents.specs.Documents.{Document}
-use Rattle.yq_semantics.specs.declared.program.CommentPlace.TheVariants as comments
+use Rattle.yq_documents.specs.TreeEdits.{replaced_node, at_end, with_line_comment, with_head_comment, lead_by, with_tree}
 use Rattle.yq_semantics.specs.After.{root_after, done_to}
 use Rattle.yq_semantics.specs.Changes.{Addition, appends, overwrites, replaces, adds, sets_comment, Changed}
 use Rattle.yq_semantics.specs.NodeEdits.{NodeEdits, same_path, step_to, at_once}
 use Rattle.yq_semantics.specs.Meaning.{head_comment_lines, line_comment_text, node_edit_of, changed_at_once, IsLed}
 use Rattle.yq_semantics.specs.Operations.{Operation, replace, append, remove, line_comment, head_comment}
-use Rattle.yq_semantics.specs.Plans.{add_op, change_ops, ops_of, ordered}
-use Rattle.yq_core.specs.PathOrder.{Before}
-use Rattle.yq_core.specs.Shapes.{IsTree}
-use Rattle.yq_documents.specs.TreeEdits.{replaced_node, at_end, with_line_comment, with_head_comment, lead_by, with_tree}
-use Rattle.yq_semantics.specs.Changes as changes
-use Rattle.yq_semantics.proofs.updates.AtOnce.{one_more}
+use Rattle.yq_semantics.{specs.Plans.{add_op, change_ops, ops_of, ordered}, proofs.updates.AtOnce.one_more}
 use Rattle.yq_semantics.proofs.updates.Spares.{idle, spares_root}
-use Rattle.yq_semantics.proofs.updates.Folds.{ToEach, InPairs, IsKept, AreKept, IsGone, MayFold, AreSpared, node_edits_of, path_same, AreGone, ops_join, folds, spared_in_order}
-use Rattle.yq_semantics.proofs.updates.OneAt.{roots_after, change_after}
+use Rattle.yq_semantics.proofs.updates.Folds.{ToEach, InPairs, IsKept, AreKept, IsGone, MayFold, AreSpared, node_edits_of, path_same}
+use Rattle.yq_semantics.{proofs.updates.Folds.{AreGone, ops_join, folds, spared_in_order}, proofs.updates.OneAt.{roots_after, change_after}}
 use Rattle.yq_semantics.proofs.updates.Each.{Each, each_join, reverse-cons}
+use Rattle.yq_core.specs.Tree as tree
+use Rattle.yq_semantics.specs.declared.program.CommentPlace.TheVariants as comments
+use Rattle.yq_semantics.specs.Changes as changes
 
 -- what operations make of a document, one after the other
 abbrev pub document_after : Bool → List Operation → Document → Document

@@ -1,9 +1,8 @@
 -- What is done spares a path: it is apart from it, and what goes stands behind.
 use Rattle.std.proofs.Common.{◌≡◌, ℕ, suc, ◌<◌, List, [], ◌∷◌, Option, Some, None, refl, ap, ◌∙◌, inl, inr, rules}
-use Rattle.yq_core.specs.Tree.{Label, Node, list, Children, none, child, map}
-use Rattle.yq_core.specs.Paths.{Nth, Step}
-use Rattle.yq_semantics.specs.NodeEdits.{step_to, NodeEdit, line, head, goes, NodeEdits, under, done_at, child_by, node_edit_inside, each_at_once, at_once}
-use Rattle.yq_core.specs.PathOrder.{Before, Apart}
+use Rattle.yq_core.{specs.Tree.{Label, Node, list, Children, none, child, map}, specs.Paths.{Nth, Step}, specs.PathOrder.{Before, Apart}}
+use Rattle.yq_semantics.specs.NodeEdits.{step_to, NodeEdit, line, head, goes, NodeEdits, under, done_at, child_by, node_edit_inside}
+use Rattle.yq_semantics.specs.NodeEdits.{each_at_once, at_once}
 use Rattle.yq_semantics.proofs.PathLaws.{before_not_in, before_under, apart_under, apart_root, apart_not_in}
 
 -- two functions that agree at each path

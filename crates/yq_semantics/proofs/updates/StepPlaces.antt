@@ -1,22 +1,15 @@
 -- From a place by a step.
-use Rattle.std.proofs.Common.{◌≡◌, ℕ, List, [], ◌∷◌, map, Some, refl, subst, rules}
-use Rattle.std.proofs.lemmas.Option.{none-some, same_Some}
+use Rattle.std.{proofs.Common.{◌≡◌, ℕ, List, [], ◌∷◌, map, Some, refl, subst, rules}, proofs.lemmas.Option.{none-some, same_Some}}
 use Rattle.std.specs.Prelude.{ℤ}
-use Rattle.yq_core.specs.declared.kind.Kind.{Kind}
-use Rattle.yq_core.specs.Tree as tree
-use Rattle.yq_core.specs.Tree.{Node, children_of}
-use Rattle.yq_core.specs.Paths as paths
-use Rattle.yq_core.specs.Paths.{child_at}
-use Rattle.yq_semantics.specs.declared.refusal.Refusal.{Refusal}
-use Rattle.yq_semantics.specs.Judgement.{Judgement, and_then, gives}
+use Rattle.yq_core.{specs.declared.kind.Kind.Kind, specs.Tree.{Node, children_of}, specs.Paths.child_at, specs.Shapes.IsTree}
+use Rattle.yq_semantics.{specs.declared.refusal.Refusal.Refusal, specs.Judgement.{Judgement, and_then, gives}}
 use Rattle.yq_semantics.specs.Matching.{ChildFound, step_child, in_scalar, key_step, index_step}
 use Rattle.yq_semantics.specs.Program.{PathStep, key, index, each}
 use Rattle.yq_semantics.specs.Places.{Place, child_place, found_place, miss, all_steps, step_there, step_from, step_on}
-use Rattle.yq_semantics.specs.PlacesApart.{IsIn}
-use Rattle.yq_core.specs.Shapes.{IsTree}
-use Rattle.yq_semantics.proofs.JudgementLaws.{then_gives, gives_same}
-use Rattle.yq_semantics.proofs.GoodPlaces.{LeadsInto, LeadsSo}
+use Rattle.yq_semantics.{specs.PlacesApart.IsIn, proofs.JudgementLaws.{then_gives, gives_same}, proofs.GoodPlaces.{LeadsInto, LeadsSo}}
 use Rattle.yq_semantics.proofs.ChildPlaces.{leads_none, leads_missing, leads_child, leads_children}
+use Rattle.yq_core.specs.Tree as tree
+use Rattle.yq_core.specs.Paths as paths
 
 -- what a step finds is a child
 abbrev IsFound : Node → Judgement ChildFound → Type 0

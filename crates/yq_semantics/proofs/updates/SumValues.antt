@@ -1,26 +1,17 @@
 -- Sums are trees without aliases.
-use Rattle.std.proofs.Common.{◌≡◌, ◌≢◌, ℕ, Bool, true, false, cond, List, [], ◌∷◌, Option, Some, None, refl, sym, ap, subst, ◌∙◌, inl, inr, rules}
-use Rattle.std.proofs.lemmas.Bool.{false≢true}
-use Rattle.std.proofs.lemmas.Option.{none-some}
-use Rattle.yq_core.specs.declared.kind.Kind.{Kind}
-use Rattle.yq_core.specs.Tree as tree
-use Rattle.yq_core.specs.Tree.{Label, Node, alias, scalar, list, Children, none, child, key_label}
+use Rattle.std.proofs.Common.{◌≡◌, ◌≢◌, ℕ, Bool, true, false, cond, List, [], ◌∷◌, Option, Some, None, refl, sym, ap, subst, ◌∙◌, inl, inr}
+use Rattle.std.{proofs.Common.rules, proofs.lemmas.Bool.false≢true, proofs.lemmas.Option.none-some}
+use Rattle.yq_core.{specs.declared.kind.Kind.Kind, specs.Tree.{Label, Node, alias, scalar, list, Children, none, child, key_label}}
 use Rattle.yq_core.specs.Paths.{To, key_is, child_at, change_child, append_child, append_children}
-use Rattle.yq_semantics.specs.Judgement.{and_then, gives}
-use Rattle.yq_semantics.specs.Program.{SumHolds, PathStep, Term, literal, found}
-use Rattle.yq_semantics.specs.Conditions.{node_there, value_of}
-use Rattle.yq_semantics.specs.Copies.{copy_at}
-use Rattle.yq_semantics.proofs.updates.Mentions.{literal_pure, IsPure}
-use Rattle.yq_semantics.specs.Pipes.{pipe_on}
-use Rattle.yq_semantics.specs.Places.{Place}
-use Rattle.yq_semantics.specs.PlacesApart.{IsIn}
-use Rattle.yq_semantics.specs.RightValues.{is_null, scalar_sum, as_items, with_entry, with_entries, value_sum, sum, only_copy, term_value, sum_from, right_value}
 use Rattle.yq_core.specs.Shapes.{IsNew, AreItems, AreEntries, IsTree}
-use Rattle.yq_semantics.proofs.JudgementLaws.{then_gives, gives_same}
-use Rattle.yq_semantics.proofs.GoodPlaces.{AreSound}
-use Rattle.yq_semantics.proofs.PathLaws.{bytes_refl}
-use Rattle.yq_semantics.proofs.updates.PipePlaces.{pipe_good}
+use Rattle.yq_semantics.{specs.Judgement.{and_then, gives}, specs.Program.{SumHolds, PathStep, Term, literal, found}}
+use Rattle.yq_semantics.{specs.Conditions.{node_there, value_of}, specs.Copies.copy_at, proofs.updates.Mentions.{literal_pure, IsPure}}
+use Rattle.yq_semantics.{specs.Pipes.pipe_on, specs.Places.Place, specs.PlacesApart.IsIn}
+use Rattle.yq_semantics.specs.RightValues.{is_null, scalar_sum, as_items, with_entry, with_entries, value_sum, sum, only_copy, term_value}
+use Rattle.yq_semantics.{specs.RightValues.{sum_from, right_value}, proofs.JudgementLaws.{then_gives, gives_same}}
+use Rattle.yq_semantics.{proofs.GoodPlaces.AreSound, proofs.PathLaws.bytes_refl, proofs.updates.PipePlaces.pipe_good}
 use Rattle.yq_semantics.proofs.updates.Pure.{AreFree, free_child, copy_pure}
+use Rattle.yq_core.specs.Tree as tree
 
 free_none : AreFree none
 free_none = (tt, λ a m. m)

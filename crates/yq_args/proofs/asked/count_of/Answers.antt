@@ -1,5 +1,4 @@
-use Rattle.std.proofs.Common.{◌∙◌, arith}
-use Rattle.std.proofs.lemmas.Bool.Decides.{nat_tests}
+use Rattle.std.{proofs.Common.{◌∙◌, arith}, proofs.lemmas.Bool.Decides.nat_tests}
 use Rattle.yq_args.proofs.Counts.{count_parsed, no_count}
 use Rattle.yq_args.proofs.asked.count_of.Goals as goal
 

@@ -1,7 +1,6 @@
 use Rattle.std.proofs.Common.{◌∙◌, ap, codes, inr, option_map, refl, sym}
 use Rattle.clap.specs.Words.{first_of, rows_of, found_of}
-use Rattle.yq_args.specs.Asked.{journal_name}
-use Rattle.yq_args.proofs.AskedLaws.{dash_fails, same_fails}
+use Rattle.yq_args.{specs.Asked.journal_name, proofs.AskedLaws.{dash_fails, same_fails}}
 use Rattle.yq_args.proofs.asked.names_of.Goals as goal
 
 pub returns-then-eq-clause-err : goal.returns-then-eq-clause-err

@@ -1,8 +1,6 @@
 use Rattle.std.proofs.Common.{◌≡◌, false, length}
-use Rattle.clap.specs.Words.{app_of}
-use Rattle.clap.specs.declared.builder.command.Command.TheViews.{out-Command as fields_of}
-use Rattle.yq_args.specs.Line.{yq}
-use Rattle.yq_args.specs.Parts.{with_commands}
+use Rattle.clap.{specs.Words.app_of, specs.declared.builder.command.Command.TheViews.out-Command as fields_of}
+use Rattle.yq_args.{specs.Line.yq, specs.Parts.with_commands}
 use Rattle.yq_args.proofs.line.line.Given as goal
 
 abbrev pub invariant-commands : goal.invariant-commands

@@ -1,5 +1,4 @@
-use Rattle.std.proofs.Common.{ap, map, ◌∙◌}
-use Rattle.std.proofs.lemmas.Result.{IfErr-weaker}
+use Rattle.std.{proofs.Common.{ap, map, ◌∙◌}, proofs.lemmas.Result.IfErr-weaker}
 use Rattle.clap.specs.Words.{takes}
 use Rattle.yq_args.proofs.ClapFaults.{matched_kinds, matched_rows, matched_taken}
 use Rattle.yq_args.proofs.line.matched.Goals as goal

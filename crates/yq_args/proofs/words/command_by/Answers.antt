@@ -1,7 +1,5 @@
-use Rattle.std.proofs.Common.{◌≡◌, ◌∷◌, [], ◌∙◌, inl, inr, sym}
-use Rattle.std.proofs.lemmas.Result.{IfErr-weaker}
-use Rattle.clap.specs.Kinds.{Kinds}
-use Rattle.clap.specs.declared.error.kind.ErrorKind.{ErrorKind}
+use Rattle.std.{proofs.Common.{◌≡◌, ◌∷◌, [], ◌∙◌, inl, inr, sym}, proofs.lemmas.Result.IfErr-weaker}
+use Rattle.clap.{specs.Kinds.Kinds, specs.declared.error.kind.ErrorKind.ErrorKind}
 use Rattle.yq_args.proofs.words.command_by.Goals as goal
 
 pub returns-in-Err-clause-err : goal.returns-in-Err-clause-err

@@ -1,11 +1,8 @@
 use Rattle.std.proofs.Common.{◌≡◌, length}
 use Rattle.yq_documents.specs.Reading.{cut_of}
 use Rattle.yq_semantics.specs.Operations.{operations_of}
-use Rattle.yq_edit_laws.specs.Carried.{carry_all}
-use Rattle.yq_edit_laws.specs.Edit.{edit_after}
-use Rattle.yq_batch.specs.RowRuns.{IsRowsRun}
-use Rattle.yq_batch.specs.Runs.{now_text}
-use Rattle.yq_edit_laws.specs.Valid.{AreServed}
+use Rattle.yq_edit_laws.{specs.Carried.carry_all, specs.Edit.edit_after, specs.Valid.AreServed}
+use Rattle.yq_batch.{specs.RowRuns.IsRowsRun, specs.Runs.now_text}
 use Rattle.yq_batch.proofs.in_rows.carry_in_rows.Given as goal
 
 abbrev pub invariant-operations : goal.invariant-operations

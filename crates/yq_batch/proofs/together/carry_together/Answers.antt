@@ -1,11 +1,8 @@
-use Rattle.std.proofs.Common.{List, Option, length, map, refl, sym, ap, ◌∙◌, subst, arith, length-append}
-use Rattle.std.proofs.lemmas.List.{length-map}
+use Rattle.std.{proofs.Common.{List, Option, length, map, refl, sym, ap, ◌∙◌, subst, arith, length-append}, proofs.lemmas.List.length-map}
 use Rattle.std.specs.Prelude.{IfSome}
-use Rattle.yq_core.specs.Paths.{Step}
-use Rattle.yq_core.specs.Entries.{tree_step}
+use Rattle.yq_core.{specs.Paths.Step, specs.Entries.tree_step}
 use Rattle.yq_documents.specs.Reading.{cut_of}
-use Rattle.yq_places.specs.FlowViews.{IsHeadFor, ReportsHead}
-use Rattle.yq_places.specs.declared.places.flow_node.FlowHead.{FlowHead}
+use Rattle.yq_places.{specs.FlowViews.{IsHeadFor, ReportsHead}, specs.declared.places.flow_node.FlowHead.FlowHead}
 use Rattle.yq_batch.proofs.RunAnswers.{stem_is}
 use Rattle.yq_batch.proofs.together.carry_together.Goals as goal
 

@@ -1,6 +1,5 @@
 use Rattle.std.proofs.Common.{map, refl, ap}
-use Rattle.yq_core.specs.Entries.{tree_step}
-use Rattle.yq_core.specs.Values.{value_node}
+use Rattle.yq_core.{specs.Entries.tree_step, specs.Values.value_node}
 use Rattle.yq_documents.specs.Located.{steps_of}
 use Rattle.yq_semantics.specs.Operations.{operation_of}
 use Rattle.yq_batch.proofs.RunAnswers.{head_there, puts_at}

@@ -1,19 +1,13 @@
-use Rattle.std.proofs.Common.{◌≡◌, ◌∙◌, ℕ, List, map, sym, ap, subst, string_bytes, arith}
-use Rattle.std.proofs.lemmas.Result.{err_from_is_err_and}
+use Rattle.std.{proofs.Common.{◌≡◌, ◌∙◌, ℕ, List, map, sym, ap, subst, string_bytes, arith}, proofs.lemmas.Result.err_from_is_err_and}
 use Rattle.yq_text.specs.Halves.{whole}
 use Rattle.yq_row_table.specs.Rows.{cut_text}
 use Rattle.yq_core.specs.Entries.{tree_step}
 use Rattle.yq_documents.specs.Reading.{cut_of}
 use Rattle.yq_semantics.specs.Operations.{operations_of}
-use Rattle.yq_edit_laws.proofs.FlowAnswers.{whole_text}
-use Rattle.yq_edit_laws.specs.Answers.{EditFails}
-use Rattle.yq_edit_laws.specs.Carried.{carry_all}
-use Rattle.yq_edit_laws.specs.Edit.{edit_after, gives}
-use Rattle.yq_batch.specs.Runs.{now_text, text_with_run}
-use Rattle.yq_edit_laws.specs.Valid.{AreServed}
-use Rattle.yq_edit_laws.proofs.OperationsLaws.{first_fails, first_fits, none_come, others_come, others_served}
+use Rattle.yq_edit_laws.{proofs.FlowAnswers.whole_text, specs.Answers.EditFails, specs.Carried.carry_all, specs.Edit.{edit_after, gives}}
+use Rattle.yq_edit_laws.{specs.Valid.AreServed, proofs.OperationsLaws.{first_fails, first_fits, none_come, others_come, others_served}}
 use Rattle.yq_edit_laws.proofs.OrderLaws.{behind_none}
-use Rattle.yq_batch.proofs.RunAnswers.{begins, begins_with, edge_in}
+use Rattle.yq_batch.{specs.Runs.{now_text, text_with_run}, proofs.RunAnswers.{begins, begins_with, edge_in}}
 use Rattle.yq_batch.proofs.together.put_each.Goals as goal
 
 pub operations-init : goal.operations-init

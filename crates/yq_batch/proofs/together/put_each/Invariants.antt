@@ -3,10 +3,8 @@ use Rattle.yq_core.specs.Entries.{tree_step}
 use Rattle.yq_documents.specs.Reading.{cut_of}
 use Rattle.yq_places.specs.FlowViews.{ReportsHead}
 use Rattle.yq_semantics.specs.Operations.{operations_of}
-use Rattle.yq_edit_laws.specs.Carried.{carry_all}
-use Rattle.yq_edit_laws.specs.Edit.{edit_after}
+use Rattle.yq_edit_laws.{specs.Carried.carry_all, specs.Edit.edit_after, specs.Valid.AreServed}
 use Rattle.yq_batch.specs.Runs.{Runs, now_text}
-use Rattle.yq_edit_laws.specs.Valid.{AreServed}
 use Rattle.yq_batch.proofs.together.put_each.Given as goal
 
 abbrev pub invariant-operations : goal.invariant-operations

@@ -1,13 +1,10 @@
-use Rattle.std.proofs.Common.{ℕ, ◌+◌, ◌++◌, List, map, Option, subst, arith}
-use Rattle.std.proofs.lemmas.Result.{err_from_is_err_and}
-use Rattle.std.specs.Prelude.{IfSome}
+use Rattle.std.{proofs.Common.{ℕ, ◌+◌, ◌++◌, List, map, Option, subst, arith}, proofs.lemmas.Result.err_from_is_err_and}
+use Rattle.std.{specs.Prelude.IfSome, proofs.lemmas.Bool.false≢true}
 use Rattle.yq_text.specs.Halves.{whole}
 use Rattle.yq_core.specs.Entries.{tree_step}
 use Rattle.yq_semantics.specs.Operations.{operation_of}
 use Rattle.yq_edit_laws.specs.declared.put.PartPut.{PartPut}
-use Rattle.yq_batch.specs.Runs.{HasPut, PutFails, PutsAt}
-use Rattle.yq_batch.proofs.RunAnswers.{edge_in, kept_on, lies_in, put_fails, put_on}
-use Rattle.std.proofs.lemmas.Bool.{false≢true}
+use Rattle.yq_batch.{specs.Runs.{HasPut, PutFails, PutsAt}, proofs.RunAnswers.{edge_in, kept_on, lies_in, put_fails, put_on}}
 use Rattle.yq_batch.proofs.together.put_one.Goals as goal
 
 pub overflow_add-start : goal.overflow_add-start

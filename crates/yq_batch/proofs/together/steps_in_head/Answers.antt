@@ -1,7 +1,5 @@
-use Rattle.std.proofs.Common.{List, ◌++◌, map, ap, ◌∙◌}
-use Rattle.std.proofs.lemmas.List.{map-append}
-use Rattle.yq_core.specs.Paths.{Step}
-use Rattle.yq_core.specs.Entries.{tree_step}
+use Rattle.std.{proofs.Common.{List, ◌++◌, map, ap, ◌∙◌}, proofs.lemmas.List.map-append}
+use Rattle.yq_core.{specs.Paths.Step, specs.Entries.tree_step}
 use Rattle.yq_documents.specs.Located.{steps_of}
 use Rattle.yq_places.specs.Standings.{last_step}
 use Rattle.yq_batch.proofs.RunAnswers.{ends_there}

@@ -1,10 +1,8 @@
-use Rattle.std.proofs.Common.{◌≡◌, ◌∙◌, Bool, Bor, IfOk, List, Option, Some, None, refl, string_bytes, subst, ℕ}
-use Rattle.std.specs.Option.{is_some}
+use Rattle.std.{proofs.Common.{◌≡◌, ◌∙◌, Bool, Bor, IfOk, List, Option, Some, None, refl, string_bytes, subst, ℕ}, specs.Option.is_some}
 use Rattle.yq_core.specs.Values.{value_node}
 use Rattle.yq_outline.specs.Bodies.{borrowed}
 use Rattle.yq_documents.specs.Reading.{cut_of}
-use Rattle.yq_edits.specs.Layouts.{LooksLike, layout_of}
-use Rattle.yq_edits.proofs.LayoutLaws.{more_like}
+use Rattle.yq_edits.{specs.Layouts.{LooksLike, layout_of}, proofs.LayoutLaws.more_like}
 use Rattle.yq_block_edits.proofs.append.more_lines.Goals as goal
 
 some_borrowed : (key : Option (Bor (List ℕ))) → is_some key ≡ is_some (borrowed key)

@@ -1,11 +1,8 @@
 use Rattle.std.proofs.Common.{rules, ◌≡◌, Some, option_map, sym, ap, ◌∙◌}
 use Rattle.yq_core.specs.BlockWritten.{break_text}
 use Rattle.yq_row_table.specs.Rows.{cut_text}
-use Rattle.yq_documents.specs.Located.{steps_of}
-use Rattle.yq_documents.specs.Reading.{cut_of}
-use Rattle.yq_places.specs.CommentPlaces.{lines_above}
-use Rattle.yq_places.specs.CommentViews.{above_view}
-use Rattle.yq_places.specs.FirstBreak.{first_break}
+use Rattle.yq_documents.{specs.Located.steps_of, specs.Reading.cut_of}
+use Rattle.yq_places.{specs.CommentPlaces.lines_above, specs.CommentViews.above_view, specs.FirstBreak.first_break}
 use Rattle.yq_edits.specs.CommentEdits.{head_comment_segments}
 use Rattle.yq_block_edits.proofs.AboveLaws.{head_there}
 use Rattle.yq_block_edits.proofs.head_comment.head_comment_at.Goals as goal

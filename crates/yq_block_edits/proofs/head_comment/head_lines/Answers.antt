@@ -1,5 +1,4 @@
-use Rattle.std.proofs.Common.{ℕ, List, ◌++◌, ap, rules, string_bytes, arith}
-use Rattle.std.proofs.lemmas.Str.Pattern.{split_parts}
+use Rattle.std.{proofs.Common.{ℕ, List, ◌++◌, ap, rules, string_bytes, arith}, proofs.lemmas.Str.Pattern.split_parts}
 use Rattle.yq_core.proofs.BlockSteps.{some_left}
 use Rattle.yq_edits.proofs.CommentPieceLaws.{loop_more, loop_done}
 use Rattle.yq_semantics.specs.Meaning.{split_lines}

@@ -1,7 +1,7 @@
 use Rattle.std.proofs.Common.{sym, ◌∙◌}
-use Rattle.yq_core.specs.Values as values
 use Rattle.yq_documents.specs.Located.{steps_of}
 use Rattle.yq_block_edits.proofs.RowKeptLaws.{kept_in_row}
+use Rattle.yq_core.specs.Values as values
 use Rattle.yq_block_edits.proofs.kept.is_kept_in_row.Goals as goal
 
 pub returns : goal.returns

@@ -1,5 +1,4 @@
-use Rattle.std.proofs.Common.{◌≡◌, ◌++◌, List, sym, ap, ◌∙◌, subst}
-use Rattle.std.specs.Prelude.{OnOk}
+use Rattle.std.{proofs.Common.{◌≡◌, ◌++◌, List, sym, ap, ◌∙◌, subst}, specs.Prelude.OnOk}
 use Rattle.yq_core.specs.BlockRepair.{is_short}
 use Rattle.yq_places.specs.RemovalReading.{seam_view}
 use Rattle.yq_text.specs.Script.{Segment}

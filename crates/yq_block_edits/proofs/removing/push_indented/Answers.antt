@@ -1,8 +1,5 @@
-use Rattle.std.proofs.Common.{◌≡◌, ℕ, List, [], ◌∷◌, ◌++◌, append_assoc, ap, ◌∙◌, subst}
-use Rattle.std.specs.Prelude.{OnOk}
-use Rattle.std.specs.String.{string_bytes}
-use Rattle.yq_text.specs.Halves.{whole}
-use Rattle.yq_text.specs.Script.{Segment, keep, put}
+use Rattle.std.{proofs.Common.{◌≡◌, ℕ, List, [], ◌∷◌, ◌++◌, append_assoc, ap, ◌∙◌, subst}, specs.Prelude.OnOk, specs.String.string_bytes}
+use Rattle.yq_text.{specs.Halves.whole, specs.Script.{Segment, keep, put}}
 use Rattle.yq_block_edits.proofs.removing.push_indented.Goals as goal
 
 pub returns : goal.returns

@@ -1,6 +1,5 @@
 use Rattle.std.proofs.Common.{rules, [], ◌∷◌, ◌++◌, sym, ap, ◌∙◌}
-use Rattle.yq_core.specs.Lines.{is_blank}
-use Rattle.yq_core.proofs.BlockSteps.{at_cut, at_end}
+use Rattle.yq_core.{specs.Lines.is_blank, proofs.BlockSteps.{at_cut, at_end}}
 use Rattle.yq_text.specs.Script.{keep}
 use Rattle.yq_places.specs.RemovalReading.{seam_view}
 use Rattle.yq_block_edits.proofs.PushedLaws.{all_done, blank_done, comment_done}

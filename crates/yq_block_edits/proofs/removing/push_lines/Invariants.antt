@@ -1,5 +1,4 @@
-use Rattle.std.proofs.Common.{◌≡◌, ◌++◌, length}
-use Rattle.std.specs.Str.{IsUtf8}
+use Rattle.std.{proofs.Common.{◌≡◌, ◌++◌, length}, specs.Str.IsUtf8}
 use Rattle.yq_core.specs.Text.{text_lines}
 use Rattle.yq_places.specs.RemovalReading.{seam_view}
 use Rattle.yq_edits.specs.Removing.{lines_mended}

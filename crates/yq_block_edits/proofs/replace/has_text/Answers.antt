@@ -1,9 +1,6 @@
-use Rattle.std.proofs.Common.{option_map, sym, ap, ◌∙◌}
-use Rattle.std.specs.List.{list_any}
-use Rattle.std.specs.Prelude.{not}
+use Rattle.std.{proofs.Common.{option_map, sym, ap, ◌∙◌}, specs.List.list_any, specs.Prelude.not}
 use Rattle.yq_core.specs.Text.{is_feed}
-use Rattle.yq_documents.specs.Located.{steps_of}
-use Rattle.yq_documents.specs.Reading.{cut_of}
+use Rattle.yq_documents.{specs.Located.steps_of, specs.Reading.cut_of}
 use Rattle.yq_places.specs.NodesAt.{node_in, scalar_view}
 use Rattle.yq_edits.proofs.ScalarAnswers.{no_text, has_text_agrees}
 use Rattle.yq_block_edits.proofs.replace.has_text.Goals as goal

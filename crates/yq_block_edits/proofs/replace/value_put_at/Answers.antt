@@ -1,6 +1,5 @@
 use Rattle.yq_core.specs.Values.{value_node}
-use Rattle.yq_documents.specs.Located.{steps_of}
-use Rattle.yq_documents.specs.Reading.{cut_of}
+use Rattle.yq_documents.{specs.Located.steps_of, specs.Reading.cut_of}
 use Rattle.yq_places.specs.StandingViews.{standing_view}
 use Rattle.yq_block_edits.proofs.PlacedValueLaws.{placed_there}
 use Rattle.yq_block_edits.proofs.replace.value_put_at.Goals as goal

@@ -1,15 +1,9 @@
-use Rattle.std.proofs.Common.{◌≢◌, ℕ, List, length, ◌∙◌, sym, ap, subst, true≢false}
-use Rattle.std.proofs.lemmas.Result.{err_from_is_err_and}
+use Rattle.std.{proofs.Common.{◌≢◌, ℕ, List, length, ◌∙◌, sym, ap, subst, true≢false}, proofs.lemmas.Result.err_from_is_err_and}
 use Rattle.std.proofs.lemmas.Slice.Eq.{bytes_eq-Decides}
-use Rattle.yq_history.specs.Effects.{Works}
-use Rattle.yq_commands.specs.CommandEffects.{edit_effect}
-use Rattle.yq_commands.specs.Editing.{program_edits}
-use Rattle.yq_commands.specs.Edits.{edit_record}
-use Rattle.yq_history.specs.Faults.{is_outer_fault}
+use Rattle.yq_history.{specs.Effects.Works, specs.Faults.is_outer_fault, proofs.EffectLaws.works_outside}
+use Rattle.yq_commands.{specs.CommandEffects.edit_effect, specs.Editing.program_edits, specs.Edits.edit_record}
+use Rattle.yq_commands.{proofs.EditLaws.{edit_done, edit_ends}, proofs.EditEffects.edit_works}
 use Rattle.yq_journal.specs.Record.{Record, done}
-use Rattle.yq_commands.proofs.EditLaws.{edit_done, edit_ends}
-use Rattle.yq_history.proofs.EffectLaws.{works_outside}
-use Rattle.yq_commands.proofs.EditEffects.{edit_works}
 use Rattle.yq_commands.proofs.commits.commit.Goals as goal
 
 pub returns : goal.returns

@@ -1,5 +1,4 @@
-use Rattle.std.proofs.Common.{IfErr, OnErr, sym, subst, ◌≡◌, None}
-use Rattle.std.proofs.lemmas.Result.{err_from_is_err_and}
+use Rattle.std.{proofs.Common.{IfErr, OnErr, sym, subst, ◌≡◌, None}, proofs.lemmas.Result.err_from_is_err_and}
 use Rattle.yq_documents.specs.Reading.{read_at}
 use Rattle.yq_commands.proofs.EditingLaws.{no_utf8_fault, not_read}
 use Rattle.yq_history.specs.Causes.{IsUnreadable}

@@ -1,5 +1,4 @@
-use Rattle.std.proofs.Common.{◌≡◌, ◌++◌, None, drop}
-use Rattle.std.specs.String.{string_bytes}
+use Rattle.std.{proofs.Common.{◌≡◌, ◌++◌, None, drop}, specs.String.string_bytes}
 use Rattle.yq_eval.specs.MatchView.{matches_of}
 use Rattle.yq_commands.specs.Reads.{matches_behind}
 use Rattle.yq_commands.proofs.reads.printed_matches.Given as goal

@@ -1,13 +1,10 @@
-use Rattle.std.proofs.Common.{Ok, Err, option_map, ap, sym, ◌∙◌, subst}
-use Rattle.std.proofs.lemmas.Result.{err_from_is_err_and}
-use Rattle.std.specs.Str.{is_utf8}
+use Rattle.std.{proofs.Common.{Ok, Err, option_map, ap, sym, ◌∙◌, subst}, proofs.lemmas.Result.err_from_is_err_and, specs.Str.is_utf8}
 use Rattle.yq_core.specs.Answers.{ReadFails}
 use Rattle.yq_documents.specs.Reading.{documents, read_at}
-use Rattle.yq_semantics.specs.Judgement.{gives}
+use Rattle.yq_semantics.{specs.Judgement.gives, specs.View.program_of}
 use Rattle.yq_eval.specs.MatchView.{matches_of}
-use Rattle.yq_semantics.specs.View.{program_of}
-use Rattle.yq_commands.specs.Reads as spec
 use Rattle.yq_commands.proofs.ShowLaws.{unread_fails, reading_fails, matching_fails, found_shows}
+use Rattle.yq_commands.specs.Reads as spec
 use Rattle.yq_commands.proofs.reads.show_read.Goals as goal
 
 pub returns-in_err-text-clause-err : goal.returns-in_err-text-clause-err

@@ -1,9 +1,7 @@
-use Rattle.std.proofs.Common.{ltb, rules, arith, subst, sym}
-use Rattle.std.proofs.lemmas.List.{take_rest}
+use Rattle.std.{proofs.Common.{ltb, rules, arith, subst, sym}, proofs.lemmas.List.take_rest}
 use Rattle.std.proofs.lemmas.List.Sorted.{IsPartitionPoint-from_clause, IsPartitionedBy-ltb}
 use Rattle.yq_documents.proofs.DecodedLaws.{rises}
-use Rattle.yq_compose.specs.Ahead.{IsAhead}
-use Rattle.yq_compose.proofs.AheadLaws.{ahead_all, ahead_found}
+use Rattle.yq_compose.{specs.Ahead.IsAhead, proofs.AheadLaws.{ahead_all, ahead_found}}
 use Rattle.yq_compose.proofs.ahead.ahead_from.Goals as goal
 
 pub returns : goal.returns

@@ -1,15 +1,8 @@
-use Rattle.std.proofs.Common.{not, Some, ◌&&◌, sym, ap, ◌∙◌}
-use Rattle.std.proofs.lemmas.Option.{same_Some}
-use Rattle.std.specs.List.{slice_get}
-use Rattle.yq_core.specs.Text.{is_empty}
-use Rattle.yq_core.specs.Nodes.{begins_with}
-use Rattle.yq_row_table.specs.View.{slices}
-use Rattle.yq_outline.specs.Lines.{row_lines}
-use Rattle.yq_outline.proofs.WalkPositions.{located}
-use Rattle.yq_compose.proofs.AnchorRows.{bare_agrees, mark_takes}
-use Rattle.yq_compose.proofs.ReadyLaws.{row_within}
-use Rattle.yq_compose.proofs.RowContents.{row_content}
-use Rattle.yq_row_table.specs.Rows.{parent_indent}
+use Rattle.std.{proofs.Common.{not, Some, ◌&&◌, sym, ap, ◌∙◌}, proofs.lemmas.Option.same_Some, specs.List.slice_get}
+use Rattle.yq_core.{specs.Text.is_empty, specs.Nodes.begins_with}
+use Rattle.yq_row_table.{specs.View.slices, specs.Rows.parent_indent}
+use Rattle.yq_outline.{specs.Lines.row_lines, proofs.WalkPositions.located}
+use Rattle.yq_compose.{proofs.AnchorRows.{bare_agrees, mark_takes}, proofs.ReadyLaws.row_within, proofs.RowContents.row_content}
 use Rattle.yq_compose.proofs.anchors.may_take.Goals as goal
 
 pub returns-then-not-is_bare : goal.returns-then-not-is_bare

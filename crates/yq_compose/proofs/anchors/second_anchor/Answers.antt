@@ -1,16 +1,10 @@
-use Rattle.std.proofs.Common.{rules, ◌≡◌, ℕ, ◌+◌, ◌-◌, ◌&&◌, drop, refl, sym, ap, ◌∙◌, arith}
-use Rattle.std.specs.Prelude.{is_none}
+use Rattle.std.{proofs.Common.{rules, ◌≡◌, ℕ, ◌+◌, ◌-◌, ◌&&◌, drop, refl, sym, ap, ◌∙◌, arith}, specs.Prelude.is_none}
 use Rattle.yq_core.specs.Text.{is_empty}
-use Rattle.yq_outline.specs.LinesReading.{have_one_anchor_each, is_free}
+use Rattle.yq_outline.{specs.LinesReading.{have_one_anchor_each, is_free}, specs.Lines.{content_anchor, lines_of_rows}}
+use Rattle.yq_outline.{specs.RowWalk.IsLine, proofs.WalkRows.rows_length, proofs.WalkPositions.located}
 use Rattle.yq_row_table.specs.View.{slices}
-use Rattle.yq_outline.specs.Lines.{content_anchor, lines_of_rows}
-use Rattle.yq_outline.specs.RowWalk.{IsLine}
-use Rattle.yq_outline.proofs.WalkRows.{rows_length}
-use Rattle.yq_outline.proofs.WalkPositions.{located}
-use Rattle.yq_documents.specs.RowReading.{name_in}
-use Rattle.yq_documents.proofs.RowLineLaws.{anchor_is}
-use Rattle.yq_compose.proofs.AnchorRows.{anchor_some, row_fails, row_passes}
-use Rattle.yq_compose.proofs.ReadyLaws.{row_first_line}
+use Rattle.yq_documents.{specs.RowReading.name_in, proofs.RowLineLaws.anchor_is}
+use Rattle.yq_compose.{proofs.AnchorRows.{anchor_some, row_fails, row_passes}, proofs.ReadyLaws.row_first_line}
 use Rattle.yq_compose.proofs.RowContents.{anchor_step, nothing_left}
 use Rattle.yq_compose.proofs.anchors.second_anchor.Goals as goal
 

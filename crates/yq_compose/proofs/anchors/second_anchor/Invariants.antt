@@ -1,11 +1,8 @@
-use Rattle.std.proofs.Common.{◌≡◌, ◌-◌, ◌&&◌, drop}
+use Rattle.std.{proofs.Common.{◌≡◌, ◌-◌, ◌&&◌, drop}, specs.Prelude.is_none}
 use denote.Shadow.{shadow}
 use denote.Text.{Utf8}
-use Rattle.std.specs.Prelude.{is_none}
 use Rattle.yq_core.specs.Text.{is_empty}
-use Rattle.yq_outline.specs.LinesReading.{have_one_anchor_each, is_free}
-use Rattle.yq_outline.specs.Lines.{lines_of_rows}
-use Rattle.yq_outline.specs.RowWalk.{HasRows}
+use Rattle.yq_outline.{specs.LinesReading.{have_one_anchor_each, is_free}, specs.Lines.lines_of_rows, specs.RowWalk.HasRows}
 use Rattle.yq_documents.specs.RowReading.{name_in}
 use Rattle.yq_compose.proofs.anchors.second_anchor.Given as goal
 

@@ -1,11 +1,9 @@
 use Rattle.std.proofs.Common.{◌+◌, [], drop, ap, sym, subst}
 use Rattle.yq_core.specs.Anchors.{Anchors, Refers}
-use Rattle.yq_compose.specs.Named.{name_view, all_named}
-use Rattle.yq_outline.specs.LinesReading.{are_bound}
-use Rattle.yq_outline.proofs.BoundLaws.{Known, anchor_known, alias_known}
-use Rattle.yq_compose.proofs.NamedLaws.{named_at}
-use Rattle.yq_compose.proofs.bound.unbound_alias.Goals as goal
+use Rattle.yq_compose.{specs.Named.{name_view, all_named}, proofs.NamedLaws.named_at}
 use Rattle.yq_compose.proofs.bound.unbound_alias.Goals.{in-Anchors+in_ok-insert-in-Anchors, in-Refers+else-not-contains_key}
+use Rattle.yq_outline.{specs.LinesReading.are_bound, proofs.BoundLaws.{Known, anchor_known, alias_known}}
+use Rattle.yq_compose.proofs.bound.unbound_alias.Goals as goal
 
 pub names-preserved : goal.names-preserved
 names-preserved c =

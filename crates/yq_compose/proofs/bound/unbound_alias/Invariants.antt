@@ -1,7 +1,6 @@
 use Rattle.std.proofs.Common.{◌-◌, [], drop, length}
 use Rattle.yq_compose.specs.Named.{all_named}
-use Rattle.yq_outline.specs.LinesReading.{are_bound}
-use Rattle.yq_outline.proofs.BoundLaws.{Known}
+use Rattle.yq_outline.{specs.LinesReading.are_bound, proofs.BoundLaws.Known}
 use Rattle.yq_compose.proofs.bound.unbound_alias.Given as goal
 
 abbrev pub invariant-names : goal.invariant-names

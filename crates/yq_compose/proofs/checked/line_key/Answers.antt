@@ -1,7 +1,6 @@
 use Rattle.std.proofs.Common.{Some, ap, ◌∙◌}
 use Rattle.yq_row_table.specs.View.{slices}
-use Rattle.yq_outline.proofs.WalkMarks.{key_none, key_here}
-use Rattle.yq_outline.proofs.WalkPositions.{located}
+use Rattle.yq_outline.{proofs.WalkMarks.{key_none, key_here}, proofs.WalkPositions.located}
 use Rattle.yq_compose.proofs.ReadyLaws.{row_within}
 use Rattle.yq_compose.proofs.checked.line_key.Goals as goal
 

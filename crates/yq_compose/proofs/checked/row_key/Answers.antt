@@ -1,10 +1,8 @@
 use Rattle.std.proofs.Common.{◌≡◌, true, List, ℕ, sym, ap, ◌∙◌, subst}
-use Rattle.yq_core.specs.Quoted.{IsQuotedText}
-use Rattle.yq_core.specs.Scalars.{is_quoted}
+use Rattle.yq_core.{specs.Quoted.IsQuotedText, specs.Scalars.is_quoted}
 use Rattle.yq_outline.proofs.WalkPositions.{has_row}
 use Rattle.yq_documents.specs.Decoded.{decoded_key}
-use Rattle.yq_compose.proofs.ReadyLaws.{key_agrees}
-use Rattle.yq_compose.proofs.RowBegins.{key_plain, key_quoted}
+use Rattle.yq_compose.{proofs.ReadyLaws.key_agrees, proofs.RowBegins.{key_plain, key_quoted}}
 use Rattle.yq_compose.proofs.checked.row_key.Goals as goal
 
 pub decoded_key-requires : goal.decoded_key-requires

@@ -1,7 +1,5 @@
-use Rattle.std.proofs.Common.{Bool, cond, eqb, sym, ap, ◌∙◌}
-use Rattle.std.specs.List.{list_any}
-use Rattle.yq_core.specs.Nodes.{begins_with}
-use Rattle.yq_core.specs.Scalars.{is_quoted}
+use Rattle.std.{proofs.Common.{Bool, cond, eqb, sym, ap, ◌∙◌}, specs.List.list_any}
+use Rattle.yq_core.{specs.Nodes.begins_with, specs.Scalars.is_quoted}
 use Rattle.yq_compose.proofs.BorrowLaws.{borrows_quoted}
 use Rattle.yq_compose.proofs.decoding.borrows_text.Goals as goal
 

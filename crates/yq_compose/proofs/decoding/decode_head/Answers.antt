@@ -1,12 +1,10 @@
-use Rattle.std.proofs.Common.{rules, ℕ, refl, sym, ap, ◌∙◌, SFits, w64}
-use Rattle.std.proofs.lemmas.Bool.{not-false}
-use Rattle.yq_core.specs.Text.{is_empty}
-use Rattle.std.proofs.lemmas.Int.{to_z-of_z}
+use Rattle.std.{proofs.Common.{rules, ℕ, refl, sym, ap, ◌∙◌, SFits, w64}, proofs.lemmas.Bool.not-false, proofs.lemmas.Int.to_z-of_z}
 use Rattle.std.proofs.lemmas.Option.{same_Some}
+use Rattle.yq_core.specs.Text.{is_empty}
 use Rattle.yq_row_table.specs.View.{Slices, slices}
 use Rattle.yq_documents.specs.Reading.{cut_of}
-use Rattle.yq_compose.proofs.RowsRead.{fit_agrees, head_quoted, head_read, borrowed_fit, none_decoded, no_head, pieces_there, place_whole, read_decoded, row_at, text_ends, unfit_agrees}
-use Rattle.yq_compose.proofs.DocumentsRead.{cut_view}
+use Rattle.yq_compose.proofs.RowsRead.{fit_agrees, head_quoted, head_read, borrowed_fit, none_decoded, no_head, pieces_there, place_whole}
+use Rattle.yq_compose.{proofs.RowsRead.{read_decoded, row_at, text_ends, unfit_agrees}, proofs.DocumentsRead.cut_view}
 use Rattle.yq_compose.proofs.decoding.decode_head.Goals as goal
 
 pub returns-then-not-has_head-clause-fits : goal.returns-then-not-has_head-clause-fits

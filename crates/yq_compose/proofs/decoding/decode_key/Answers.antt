@@ -1,7 +1,5 @@
-use Rattle.std.proofs.Common.{sym, ap, ◌∙◌}
-use Rattle.std.proofs.lemmas.Bool.{not-false}
-use Rattle.yq_core.specs.Text.{is_empty}
-use Rattle.yq_core.specs.Scalars.{scalar_content, is_quoted}
+use Rattle.std.{proofs.Common.{sym, ap, ◌∙◌}, proofs.lemmas.Bool.not-false}
+use Rattle.yq_core.{specs.Text.is_empty, specs.Scalars.{scalar_content, is_quoted}}
 use Rattle.yq_row_table.specs.View.{slices}
 use Rattle.yq_compose.proofs.BorrowLaws.{quoted_is}
 use Rattle.yq_compose.proofs.RowsRead.{key_fits_is, key_borrowed, key_quoted, key_unquoted, keyless, pieces_there, row_at}

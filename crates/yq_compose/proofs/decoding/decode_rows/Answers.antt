@@ -1,11 +1,8 @@
 use Rattle.std.proofs.Common.{arith}
 use Rattle.yq_row_table.specs.View.{rows_of}
-use Rattle.yq_documents.specs.Reading.{cut_of, have_fit_keys}
-use Rattle.yq_documents.specs.RowReading.{row_fits}
-use Rattle.yq_compose.proofs.AllOf.{all_fails}
-use Rattle.yq_compose.proofs.DecidingLaws.{denies_as}
-use Rattle.yq_compose.proofs.DecodedRows.{are_decoded, decoded_done, decoded_start, row_step}
-use Rattle.yq_compose.proofs.RowsRead.{row_at, rows_count}
+use Rattle.yq_documents.{specs.Reading.{cut_of, have_fit_keys}, specs.RowReading.row_fits}
+use Rattle.yq_compose.{proofs.AllOf.all_fails, proofs.DecidingLaws.denies_as}
+use Rattle.yq_compose.{proofs.DecodedRows.{are_decoded, decoded_done, decoded_start, row_step}, proofs.RowsRead.{row_at, rows_count}}
 use Rattle.yq_compose.proofs.decoding.decode_rows.Goals as goal
 
 pub rows-init : goal.rows-init

@@ -1,10 +1,6 @@
 use Rattle.std.proofs.Common.{[], is_none, sym, ap, ◌∙◌}
-use Rattle.yq_outline.specs.LinesReading.{are_bound}
-use Rattle.yq_outline.specs.Names.{line_names}
-use Rattle.yq_outline.proofs.AliasLaws.{bound_alone}
-use Rattle.yq_outline.specs.Lines.{lines_of_rows}
-use Rattle.yq_compose.specs.Named.{all_named}
-use Rattle.yq_compose.proofs.NoReferenceLaws.{ready_refers_not}
+use Rattle.yq_outline.{specs.LinesReading.are_bound, specs.Names.line_names, proofs.AliasLaws.bound_alone, specs.Lines.lines_of_rows}
+use Rattle.yq_compose.{specs.Named.all_named, proofs.NoReferenceLaws.ready_refers_not}
 use Rattle.yq_compose.proofs.document.check_aliases.Goals as goal
 
 pub returns-then-not-refers-clause-sound : goal.returns-then-not-refers-clause-sound

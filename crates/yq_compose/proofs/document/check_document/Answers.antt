@@ -1,15 +1,9 @@
 use Rattle.std.proofs.Common.{ℕ, ◌&&◌, sym, ap, ◌∙◌}
 use Rattle.yq_core.specs.Inline.{depth_limit}
-use Rattle.yq_outline.specs.Ends.{part}
-use Rattle.yq_outline.specs.LinesReading.{lines_are_sound}
-use Rattle.yq_outline.specs.Sound.{is_sound_outline}
-use Rattle.yq_outline.proofs.NameLaws.{lines_named, lines_unsound}
-use Rattle.yq_outline.specs.Lines.{lines_of_rows}
-use Rattle.yq_outline.specs.RowWalk.{line_number}
+use Rattle.yq_outline.{specs.Ends.part, specs.LinesReading.lines_are_sound, specs.Sound.is_sound_outline}
+use Rattle.yq_outline.{proofs.NameLaws.{lines_named, lines_unsound}, specs.Lines.lines_of_rows, specs.RowWalk.line_number}
 use Rattle.yq_outline.proofs.WalkPositions.{first_number}
-use Rattle.yq_compose.proofs.DecidingLaws.{decides_as, denies_as}
-use Rattle.yq_compose.proofs.HeadsApart.{heads_apart}
-use Rattle.yq_compose.proofs.ReadyLaws.{first_position}
+use Rattle.yq_compose.{proofs.DecidingLaws.{decides_as, denies_as}, proofs.HeadsApart.heads_apart, proofs.ReadyLaws.first_position}
 use Rattle.yq_compose.proofs.document.check_document.Goals as goal
 
 pub with_level-start-requires-clause-position : goal.with_level-start-requires-clause-position

@@ -1,7 +1,5 @@
 use Rattle.std.proofs.Common.{[], ◌&&◌, is_none, sym, ap, ◌∙◌}
-use Rattle.yq_outline.specs.LinesReading.{are_bound}
-use Rattle.yq_outline.specs.Names.{line_names}
-use Rattle.yq_outline.specs.Lines.{lines_of_rows}
+use Rattle.yq_outline.{specs.LinesReading.are_bound, specs.Names.line_names, specs.Lines.lines_of_rows}
 use Rattle.yq_compose.proofs.DecidingLaws.{decides_as}
 use Rattle.yq_compose.proofs.document.check_names.Goals as goal
 

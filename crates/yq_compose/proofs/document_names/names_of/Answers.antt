@@ -1,17 +1,10 @@
 use Rattle.std.proofs.Common.{◌≡◌, ℕ, ◌+◌, ◌-◌, ◌++◌, drop, sym, ap, ◌∙◌, arith}
-use Rattle.yq_outline.specs.Names.{head_names, line_names}
-use Rattle.yq_row_table.specs.View.{slices}
-use Rattle.yq_outline.specs.Lines.{lines_of_rows}
-use Rattle.yq_outline.specs.RowWalk.{IsLine}
-use Rattle.yq_outline.proofs.WalkRows.{rows_length}
+use Rattle.yq_outline.{specs.Names.{head_names, line_names}, specs.Lines.lines_of_rows, specs.RowWalk.IsLine, proofs.WalkRows.rows_length}
 use Rattle.yq_outline.proofs.WalkPositions.{located}
-use Rattle.yq_documents.specs.Decoded.{decoded_at}
-use Rattle.yq_documents.specs.RowReading.{name_in}
-use Rattle.yq_compose.specs.Named.{all_named, flow_names}
-use Rattle.yq_documents.proofs.RowLineLaws.{anchor_is}
-use Rattle.yq_compose.proofs.HeadViewLaws.{row_of_cut}
-use Rattle.yq_compose.proofs.NameRows.{flow_named, names_all, names_pass}
-use Rattle.yq_compose.proofs.ReadyLaws.{row_first_line}
+use Rattle.yq_row_table.specs.View.{slices}
+use Rattle.yq_documents.{specs.Decoded.decoded_at, specs.RowReading.name_in, proofs.RowLineLaws.anchor_is}
+use Rattle.yq_compose.{specs.Named.{all_named, flow_names}, proofs.HeadViewLaws.row_of_cut}
+use Rattle.yq_compose.{proofs.NameRows.{flow_named, names_all, names_pass}, proofs.ReadyLaws.row_first_line}
 use Rattle.yq_compose.proofs.document_names.names_of.Goals as goal
 
 pub rows-init : goal.rows-init

@@ -1,9 +1,6 @@
 use Rattle.std.proofs.Common.{◌≡◌, ℕ, ◌-◌, ◌≤◌, ◌++◌, drop}
-use Rattle.yq_outline.specs.Names.{line_names}
-use Rattle.yq_outline.specs.Lines.{lines_of_rows}
-use Rattle.yq_compose.specs.Ahead.{IsAhead}
-use Rattle.yq_compose.specs.Checking.{IsChecked}
-use Rattle.yq_compose.specs.Named.{all_named}
+use Rattle.yq_outline.{specs.Names.line_names, specs.Lines.lines_of_rows}
+use Rattle.yq_compose.{specs.Ahead.IsAhead, specs.Checking.IsChecked, specs.Named.all_named}
 use Rattle.yq_compose.proofs.document_names.names_of.Given as goal
 
 -- the names so far stand before those from here on, and what is made of a row that is no later is at hand

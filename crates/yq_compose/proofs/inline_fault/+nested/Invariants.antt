@@ -1,7 +1,5 @@
 use Rattle.std.proofs.Common.{◌≡◌, ◌+◌, ◌*◌, ◌++◌, ◌&&◌, drop, map}
-use Rattle.yq_core.specs.Keys.{keys_of, are_distinct}
-use Rattle.yq_core.specs.Trees.{parts_tree}
-use Rattle.yq_core.specs.View.{entries_end, items_end}
+use Rattle.yq_core.{specs.Keys.{keys_of, are_distinct}, specs.Trees.parts_tree, specs.View.{entries_end, items_end}}
 use Rattle.yq_outline.specs.Sound.{are_sound}
 use Rattle.yq_compose.proofs.inline_fault.+nested.Given as goal
 

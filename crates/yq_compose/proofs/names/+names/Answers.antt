@@ -1,8 +1,7 @@
 use Rattle.std.proofs.Common.{arith, ap}
 use Rattle.yq_core.specs.View.{entries_end, items_end}
 use Rattle.yq_outline.proofs.SizeLaws.{entry_size, item_size, parts_size}
-use Rattle.yq_compose.specs.Named.{all_named}
-use Rattle.yq_compose.proofs.NamedLaws.{entries_named, items_named}
+use Rattle.yq_compose.{specs.Named.all_named, proofs.NamedLaws.{entries_named, items_named}}
 use Rattle.yq_compose.proofs.names.+names.Goals as goal
 
 pub push_entries-push_node-requires : goal.push_entries-push_node-requires

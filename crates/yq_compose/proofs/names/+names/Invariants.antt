@@ -1,7 +1,5 @@
 use Rattle.std.proofs.Common.{◌≡◌, ◌+◌, ◌*◌, ◌++◌, drop}
-use Rattle.yq_core.specs.Trees.{parts_tree}
-use Rattle.yq_core.specs.View.{inline_view, items_end, entries_end}
-use Rattle.yq_core.specs.Anchors.{names_in}
+use Rattle.yq_core.{specs.Trees.parts_tree, specs.View.{inline_view, items_end, entries_end}, specs.Anchors.names_in}
 use Rattle.yq_compose.specs.Named.{all_named}
 use Rattle.yq_outline.proofs.SizeLaws.{node_size, parts_size}
 use Rattle.yq_compose.proofs.names.+names.Given as goal

@@ -1,12 +1,9 @@
-use Rattle.std.proofs.Common.{sym, ap, ◌∙◌}
-use Rattle.std.specs.Prelude.{option_map}
+use Rattle.std.{proofs.Common.{sym, ap, ◌∙◌}, specs.Prelude.option_map}
 use Rattle.yq_core.specs.View.{inline_view}
-use Rattle.yq_outline.specs.Sound.{head_is_sound}
+use Rattle.yq_outline.{specs.Sound.head_is_sound, proofs.WalkPositions.located}
 use Rattle.yq_row_table.specs.View.{slices}
-use Rattle.yq_outline.proofs.WalkPositions.{located}
 use Rattle.yq_documents.specs.Decoded.{decoded_at}
-use Rattle.yq_compose.proofs.DecidingLaws.{decides_as}
-use Rattle.yq_compose.proofs.HeadViewLaws.{head_free, head_line, head_some, headless}
+use Rattle.yq_compose.{proofs.DecidingLaws.decides_as, proofs.HeadViewLaws.{head_free, head_line, head_some, headless}}
 use Rattle.yq_compose.proofs.nested.head_fault.Goals as goal
 
 pub returns-in-None-clause-sound : goal.returns-in-None-clause-sound

@@ -1,8 +1,6 @@
 use Rattle.std.proofs.Common.{ap, ◌∙◌, arith}
-use Rattle.yq_row_table.specs.Grammar.{begins_document}
-use Rattle.yq_row_table.specs.View.{bound_view}
-use Rattle.yq_compose.specs.Places.{documents_view}
-use Rattle.yq_compose.proofs.PartLaws.{part_done, part_step}
+use Rattle.yq_row_table.{specs.Grammar.begins_document, specs.View.bound_view}
+use Rattle.yq_compose.{specs.Places.documents_view, proofs.PartLaws.{part_done, part_step}}
 use Rattle.yq_compose.proofs.parts.document_rows.Goals as goal
 
 pub parts-preserved : goal.parts-preserved

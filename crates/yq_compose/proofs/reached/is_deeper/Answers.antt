@@ -1,5 +1,4 @@
-use Rattle.std.proofs.Common.{arith}
-use Rattle.std.proofs.lemmas.Bool.{ltb-true}
+use Rattle.std.{proofs.Common.arith, proofs.lemmas.Bool.ltb-true}
 use Rattle.yq_compose.proofs.reached.is_deeper.Goals as goal
 
 pub returns-clause-some : goal.returns-clause-some

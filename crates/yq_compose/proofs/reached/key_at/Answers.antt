@@ -1,9 +1,7 @@
 use Rattle.std.proofs.Common.{Some, ap, ◌∙◌}
-use Rattle.yq_outline.specs.Outline.{key_of}
+use Rattle.yq_outline.{specs.Outline.key_of, proofs.WalkPositions.located}
 use Rattle.yq_row_table.specs.View.{slices}
-use Rattle.yq_outline.proofs.WalkPositions.{located}
-use Rattle.yq_compose.proofs.ReachedLaws.{key_some, none_of}
-use Rattle.yq_compose.proofs.ReadyLaws.{row_within}
+use Rattle.yq_compose.{proofs.ReachedLaws.{key_some, none_of}, proofs.ReadyLaws.row_within}
 use Rattle.yq_compose.proofs.reached.key_at.Goals as goal
 
 pub returns-then-not-has_key : goal.returns-then-not-has_key

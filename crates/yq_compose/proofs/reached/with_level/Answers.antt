@@ -1,6 +1,5 @@
 use Rattle.yq_outline.proofs.WalkPositions.{position_line}
-use Rattle.yq_compose.proofs.ReachedLaws.{reached_end, reached_line}
-use Rattle.yq_compose.proofs.ReadyLaws.{row_within}
+use Rattle.yq_compose.{proofs.ReachedLaws.{reached_end, reached_line}, proofs.ReadyLaws.row_within}
 use Rattle.yq_compose.proofs.reached.with_level.Goals as goal
 
 pub returns-then-position-x-clause-reached : goal.returns-then-position-x-clause-reached

@@ -1,9 +1,6 @@
 use Rattle.std.proofs.Common.{sym, arith, ◌∙◌}
-use Rattle.yq_documents.specs.Documents.{document_parts}
-use Rattle.yq_documents.specs.Reading.{cut_of}
-use Rattle.yq_compose.specs.Places.{all_sound, part_is_sound}
-use Rattle.yq_compose.proofs.AllOf.{all_fails, all_step}
-use Rattle.yq_compose.proofs.DecidingLaws.{denies_as}
+use Rattle.yq_documents.{specs.Documents.document_parts, specs.Reading.cut_of}
+use Rattle.yq_compose.{specs.Places.{all_sound, part_is_sound}, proofs.AllOf.{all_fails, all_step}, proofs.DecidingLaws.denies_as}
 use Rattle.yq_compose.proofs.DocumentsRead.{part_at, ready_at, sound_at}
 use Rattle.yq_compose.proofs.reading.check_documents.Goals as goal
 

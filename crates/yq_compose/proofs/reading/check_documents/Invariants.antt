@@ -1,6 +1,5 @@
 use Rattle.std.proofs.Common.{◌≡◌, ◌≤◌, ◌-◌, length, drop}
-use Rattle.yq_documents.specs.Documents.{document_parts}
-use Rattle.yq_documents.specs.Reading.{cut_of}
+use Rattle.yq_documents.{specs.Documents.document_parts, specs.Reading.cut_of}
 use Rattle.yq_compose.specs.Places.{all_sound}
 use Rattle.yq_compose.proofs.reading.check_documents.Given as goal
 

@@ -1,13 +1,8 @@
 use Rattle.std.proofs.Common.{◌&&◌, sym, ap, ◌∙◌, subst}
 use Rattle.yq_row_table.specs.View.{rows_of}
-use Rattle.yq_documents.specs.Documents.{document_parts}
-use Rattle.yq_documents.specs.Reading.{all_documents, cut_of, have_fit_keys}
-use Rattle.yq_compose.specs.Checking.{some_refer}
-use Rattle.yq_compose.specs.Places.{AreLocated, all_sound}
-use Rattle.yq_compose.proofs.DecidingLaws.{denies_as}
-use Rattle.yq_compose.proofs.DocumentsRead.{all_split, cut_into, held}
-use Rattle.yq_compose.proofs.PartLaws.{are_placed}
-use Rattle.yq_compose.specs.Decoding.{AreDecoded}
+use Rattle.yq_documents.{specs.Documents.document_parts, specs.Reading.{all_documents, cut_of, have_fit_keys}}
+use Rattle.yq_compose.{specs.Checking.some_refer, specs.Places.{AreLocated, all_sound}, proofs.DecidingLaws.denies_as}
+use Rattle.yq_compose.{proofs.DocumentsRead.{all_split, cut_into, held}, proofs.PartLaws.are_placed, specs.Decoding.AreDecoded}
 use Rattle.yq_compose.proofs.reading.read_rows.Goals as goal
 
 pub decode_rows-requires : goal.decode_rows-requires

@@ -1,18 +1,11 @@
-use Rattle.std.proofs.Common.{◌-◌, inl, refl, sym, ◌∙◌, subst, arith, map}
-use Rattle.yq_outline.specs.Ends.{has_no_lines, part}
-use Rattle.yq_outline.specs.Sound.{is_sound_outline}
-use Rattle.yq_outline.proofs.EndsLaws.{is_at_end, not_end}
+use Rattle.std.{proofs.Common.{◌-◌, inl, refl, sym, ◌∙◌, subst, arith, map}, proofs.lemmas.Result.IfOk-weaker}
+use Rattle.yq_outline.{specs.Ends.{has_no_lines, part}, specs.Sound.is_sound_outline, proofs.EndsLaws.{is_at_end, not_end}}
 use Rattle.yq_outline.proofs.EntryLaws.{start_asked, start_deep, start_bare, one_fails, one_passes, no_more}
-use Rattle.yq_outline.proofs.KeyLaws.{distinct_agrees}
-use Rattle.yq_outline.proofs.LineEnds.{end_counted}
-use Rattle.yq_outline.proofs.SoundLaws.{IsEntryLevel, entry_level}
-use Rattle.yq_outline.specs.Lines.{lines_of_rows}
-use Rattle.yq_outline.specs.RowWalk.{line_number}
-use Rattle.yq_outline.proofs.WalkPositions.{located, position_line}
+use Rattle.yq_outline.{proofs.KeyLaws.distinct_agrees, proofs.LineEnds.end_counted, proofs.SoundLaws.{IsEntryLevel, entry_level}}
+use Rattle.yq_outline.{specs.Lines.lines_of_rows, specs.RowWalk.line_number, proofs.WalkPositions.{located, position_line}}
 use Rattle.yq_compose.proofs.DecidingLaws.{decides_as, denies_as}
 use Rattle.yq_compose.proofs.GivesLaws.{gives_all, gives_alone, gives_end, gives_none, moved_on, stop_same}
 use Rattle.yq_compose.proofs.UnderLaws.{alone_sound, bare_is, both_there, entry_is, none_sound, other_level, under_sound}
-use Rattle.std.proofs.lemmas.Result.{IfOk-weaker}
 use Rattle.yq_compose.proofs.sound.+sound.Goals as goal
 
 -- a line

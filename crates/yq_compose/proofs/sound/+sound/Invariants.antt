@@ -1,7 +1,5 @@
 use Rattle.std.proofs.Common.{◌≡◌, ◌⊎◌, ◌+◌, ◌-◌, ◌*◌, ◌<◌, map}
-use Rattle.yq_outline.specs.Ends.{part}
-use Rattle.yq_outline.specs.Sound.{is_sound_outline}
-use Rattle.yq_outline.proofs.SoundLaws.{asked, IsEntryLevel}
+use Rattle.yq_outline.{specs.Ends.part, specs.Sound.is_sound_outline, proofs.SoundLaws.{asked, IsEntryLevel}}
 use Rattle.yq_outline.specs.RowWalk.{OfLines, lines_stop}
 use Rattle.yq_compose.specs.Checking.{IsReached, OfChecked}
 use Rattle.yq_compose.proofs.sound.+sound.Given as goal

@@ -1,12 +1,7 @@
-use Rattle.std.proofs.Common.{◌+◌, sym, ap, ◌∙◌}
-use Rattle.std.specs.Prelude.{is_some}
-use Rattle.yq_outline.specs.Ends.{has_no_lines, part}
-use Rattle.yq_outline.specs.Sound.{head_is_sound}
-use Rattle.yq_outline.proofs.EndsLaws.{is_at_end, not_end}
-use Rattle.yq_outline.specs.Lines.{lines_of_rows}
-use Rattle.yq_outline.specs.RowWalk.{line_number}
-use Rattle.yq_compose.proofs.DecidingLaws.{denies_as}
-use Rattle.yq_compose.proofs.GivesLaws.{gives_bare}
+use Rattle.std.{proofs.Common.{◌+◌, sym, ap, ◌∙◌}, specs.Prelude.is_some}
+use Rattle.yq_outline.{specs.Ends.{has_no_lines, part}, specs.Sound.head_is_sound, proofs.EndsLaws.{is_at_end, not_end}}
+use Rattle.yq_outline.{specs.Lines.lines_of_rows, specs.RowWalk.line_number}
+use Rattle.yq_compose.{proofs.DecidingLaws.denies_as, proofs.GivesLaws.gives_bare}
 use Rattle.yq_compose.proofs.UnderLaws.{bare_fails, bare_head, bare_passes, bare_under}
 use Rattle.yq_compose.proofs.sound.check_bare.Goals as goal
 

@@ -1,5 +1,4 @@
-use Rattle.std.proofs.Common.{◌∙◌, sym, arith, length, length-drop, ap}
-use Rattle.std.proofs.lemmas.Bool.{false≢true}
+use Rattle.std.{proofs.Common.{◌∙◌, sym, arith, length, length-drop, ap}, proofs.lemmas.Bool.false≢true}
 use Rattle.yq_core.proofs.BlockSteps.{at_line, at_end, raw_kept, raw_loose, raw_text, raw_next, raw_refused, raw_end}
 use Rattle.yq_core.proofs.block_lines.raw_len.Goals as goal
 

@@ -1,7 +1,5 @@
 use Rattle.std.proofs.Common.{arith, sym, ap, ◌∙◌}
-use Rattle.yq_core.proofs.Across.{rest_length}
-use Rattle.yq_core.specs.Gaps.{at_line_start}
-use Rattle.yq_core.proofs.GapLoops.{gap_stops, gap_goes, gap_none}
+use Rattle.yq_core.{proofs.Across.rest_length, specs.Gaps.at_line_start, proofs.GapLoops.{gap_stops, gap_goes, gap_none}}
 use Rattle.yq_core.proofs.gap.gap_len.Goals as goal
 
 pub returns-then-not-goes-clause-len : goal.returns-then-not-goes-clause-len

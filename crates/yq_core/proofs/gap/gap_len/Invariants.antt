@@ -1,6 +1,6 @@
 use Rattle.std.proofs.Common.{◌≡◌, ◌+◌, length}
-use Rattle.yq_core.specs.Reading as spec
 use Rattle.yq_core.specs.declared.gap.GapPlace.TheVariants.{Token}
+use Rattle.yq_core.specs.Reading as spec
 use Rattle.yq_core.proofs.gap.gap_len.Given as goal
 
 abbrev pub decreases-bytes : goal.decreases-bytes

@@ -1,7 +1,5 @@
 use Rattle.std.proofs.Common.{arith, sym, ◌∙◌}
-use Rattle.yq_core.specs.Text.{ends_line}
-use Rattle.yq_core.proofs.Across.{rest_length, upto_next, upto_none}
-use Rattle.yq_core.proofs.Upto.{upto_here}
+use Rattle.yq_core.{specs.Text.ends_line, proofs.Across.{rest_length, upto_next, upto_none}, proofs.Upto.upto_here}
 use Rattle.yq_core.proofs.Breaks.{ends_line_is}
 use Rattle.yq_core.proofs.lines.text_len.Goals as goal
 

@@ -1,9 +1,6 @@
-use Rattle.std.proofs.Common.{ap, arith, sym, ◌∙◌}
-use Rattle.yq_core.specs.Paths.{To}
-use Rattle.yq_core.specs.Entries.{flow_part_at}
-use Rattle.yq_core.specs.View.{entries_end}
+use Rattle.std.proofs.Common.{ap, arith, sym, ◌∙◌, List}
+use Rattle.yq_core.{specs.Paths.To, specs.Entries.flow_part_at, specs.View.entries_end}
 use Rattle.yq_core.proofs.PathLoops.{Field, entry_found, entry_past, entry_missing}
-use Rattle.std.proofs.Common.{List}
 use Rattle.yq_core.proofs.path.entry_at.Goals as goal
 
 pub each-init : goal.each-init

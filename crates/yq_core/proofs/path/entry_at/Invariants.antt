@@ -1,7 +1,5 @@
 use Rattle.std.proofs.Common.{◌≡◌, drop}
-use Rattle.yq_core.specs.Paths.{To}
-use Rattle.yq_core.specs.Entries.{flow_part_at}
-use Rattle.yq_core.specs.View.{entries_end}
+use Rattle.yq_core.{specs.Paths.To, specs.Entries.flow_part_at, specs.View.entries_end}
 use Rattle.yq_core.proofs.path.entry_at.Given as goal
 
 abbrev pub invariant-each : goal.invariant-each

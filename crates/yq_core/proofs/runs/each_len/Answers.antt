@@ -1,6 +1,5 @@
 use Rattle.std.proofs.Common.{arith, not, sym, ap, ◌∙◌}
-use Rattle.yq_core.specs.Runs.{run_goes_on}
-use Rattle.yq_core.proofs.Prefixes.{prefix_more, prefix_stop, prefix_end}
+use Rattle.yq_core.{specs.Runs.run_goes_on, proofs.Prefixes.{prefix_more, prefix_stop, prefix_end}}
 use Rattle.yq_core.proofs.runs.each_len.Goals as goal
 
 pub each-preserved : goal.each-preserved

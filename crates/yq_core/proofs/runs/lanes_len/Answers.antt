@@ -1,5 +1,4 @@
-use Rattle.std.proofs.Common.{ap, ◌∙◌, arith}
-use Rattle.std.proofs.lemmas.Simd.{length-chunk, first_set_mask_l}
+use Rattle.std.{proofs.Common.{ap, ◌∙◌, arith}, proofs.lemmas.Simd.{length-chunk, first_set_mask_l}}
 use lib.Lanes.{chunk}
 use Rattle.yq_core.specs.Runs.{first_set, is_stop}
 use Rattle.yq_core.proofs.runs.lanes_len.Goals as goal

@@ -1,8 +1,5 @@
-use Rattle.std.proofs.Common.{refl}
-use Rattle.std.proofs.lemmas.Simd.{zip2_splat}
-use Rattle.yq_core.specs.Runs.{is_stop}
-use Rattle.yq_core.specs.declared.runs.Run.TheVariants.{Spaces}
-use Rattle.yq_core.proofs.RunLaws.{lanes_mask, each_byte}
+use Rattle.std.{proofs.Common.refl, proofs.lemmas.Simd.zip2_splat}
+use Rattle.yq_core.{specs.Runs.is_stop, specs.declared.runs.Run.TheVariants.Spaces, proofs.RunLaws.{lanes_mask, each_byte}}
 use Rattle.yq_core.proofs.runs.no_spaces.Goals as goal
 
 pub returns : goal.returns

@@ -1,8 +1,6 @@
 use Rattle.std.proofs.lemmas.Simd.{zip2_splat, zip2_of_maps}
 use lib.Bits.{bit_or}
-use Rattle.yq_core.specs.Runs.{is_stop}
-use Rattle.yq_core.specs.declared.runs.Run.TheVariants.{Quoted}
-use Rattle.yq_core.proofs.RunLaws.{lanes_mask, any_byte}
+use Rattle.yq_core.{specs.Runs.is_stop, specs.declared.runs.Run.TheVariants.Quoted, proofs.RunLaws.{lanes_mask, any_byte}}
 use Rattle.yq_core.proofs.runs.quoted_stops.Goals as goal
 
 pub returns : goal.returns

@@ -1,6 +1,5 @@
 use Rattle.std.proofs.Common.{arith}
-use Rattle.yq_core.specs.Runs.{run_goes_on}
-use Rattle.yq_core.proofs.RunLaws.{run_ends, run_over}
+use Rattle.yq_core.{specs.Runs.run_goes_on, proofs.RunLaws.{run_ends, run_over}}
 use Rattle.yq_core.proofs.runs.run_len.Goals as goal
 
 pub returns-then-len-lt16-clause-value : goal.returns-then-len-lt16-clause-value

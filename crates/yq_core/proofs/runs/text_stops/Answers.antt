@@ -1,9 +1,6 @@
-use Rattle.std.proofs.Common.{refl}
-use Rattle.std.proofs.lemmas.Simd.{zip2_splat, zip2_of_maps}
+use Rattle.std.{proofs.Common.refl, proofs.lemmas.Simd.{zip2_splat, zip2_of_maps}}
 use lib.Bits.{bit_and, bit_or}
-use Rattle.yq_core.specs.Runs.{is_stop}
-use Rattle.yq_core.specs.declared.runs.Run.TheVariants.{Text}
-use Rattle.yq_core.proofs.RunLaws.{lanes_mask, each_byte}
+use Rattle.yq_core.{specs.Runs.is_stop, specs.declared.runs.Run.TheVariants.Text, proofs.RunLaws.{lanes_mask, each_byte}}
 use Rattle.yq_core.proofs.runs.text_stops.Goals as goal
 
 pub returns : goal.returns

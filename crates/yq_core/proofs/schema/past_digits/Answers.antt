@@ -1,8 +1,7 @@
 use Rattle.std.proofs.Common.{ℕ, drop, arith, sym, ap, ◌∙◌}
-use Rattle.yq_core.specs.SchemaReading.{is_digit}
-use Rattle.yq_core.proofs.Prefixes.{prefix_more, prefix_stop, prefix_end}
-use Rattle.yq_core.proofs.schema.past_digits.Goals as goal
+use Rattle.yq_core.{specs.SchemaReading.is_digit, proofs.Prefixes.{prefix_more, prefix_stop, prefix_end}}
 use Rattle.yq_core.proofs.schema.past_digits.Goals.{then-digits-test+else-is_digit, else-digits-test}
+use Rattle.yq_core.proofs.schema.past_digits.Goals as goal
 
 pub digits-preserved : goal.digits-preserved
 digits-preserved c = record {

@@ -1,7 +1,5 @@
 use Rattle.std.proofs.Common.{sym, ◌∙◌, subst}
-use Rattle.yq_core.specs.Schema.{Resolves}
-use Rattle.yq_core.specs.declared.kind.Kind.{Kind}
-use Rattle.yq_core.proofs.SchemaLaws.{resolve_takes, resolve_again}
+use Rattle.yq_core.{specs.Schema.Resolves, specs.declared.kind.Kind.Kind, proofs.SchemaLaws.{resolve_takes, resolve_again}}
 use Rattle.yq_core.proofs.schema.resolve.Goals as goal
 
 pub returns : goal.returns

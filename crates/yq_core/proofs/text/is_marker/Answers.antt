@@ -1,6 +1,5 @@
 use Rattle.std.proofs.Common.{◌&&◌, drop, ap, sym, ◌∙◌}
-use Rattle.yq_core.specs.Text.{separates}
-use Rattle.yq_core.proofs.MarkerLaws.{marker_is, marker_long}
+use Rattle.yq_core.{specs.Text.separates, proofs.MarkerLaws.{marker_is, marker_long}}
 use Rattle.yq_core.proofs.text.is_marker.Goals as goal
 
 pub returns-then-not-begins_marker : goal.returns-then-not-begins_marker

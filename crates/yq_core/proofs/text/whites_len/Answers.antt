@@ -1,6 +1,5 @@
 use Rattle.std.proofs.Common.{arith, sym, ◌∙◌}
-use Rattle.yq_core.specs.Text.{is_white}
-use Rattle.yq_core.proofs.Prefixes.{prefix_more, prefix_stop, prefix_end}
+use Rattle.yq_core.{specs.Text.is_white, proofs.Prefixes.{prefix_more, prefix_stop, prefix_end}}
 use Rattle.yq_core.proofs.text.whites_len.Goals as goal
 
 pub whites-preserved : goal.whites-preserved

@@ -1,6 +1,5 @@
 use Rattle.std.proofs.Common.{rules, sym, ap, ◌∙◌}
-use Rattle.yq_core.proofs.BlockSteps.{at_cut, at_end}
-use Rattle.yq_core.specs.Text.{text_lines}
+use Rattle.yq_core.{proofs.BlockSteps.{at_cut, at_end}, specs.Text.text_lines}
 use Rattle.yq_documents.proofs.RunLaws.{run_or, run_here, run_on, run_anew, run_end}
 use Rattle.yq_documents.proofs.comment.last_run.Goals as goal
 

@@ -1,8 +1,7 @@
-use Rattle.std.proofs.Common.{◌≡◌, length}
-use Rattle.std.specs.Str.{IsUtf8}
+use Rattle.std.{proofs.Common.{◌≡◌, length}, specs.Str.IsUtf8}
 use Rattle.yq_core.specs.Text.{text_lines}
-use Rattle.yq_documents.specs.Pieces as pieces
 use Rattle.yq_documents.proofs.RunLaws.{run_or}
+use Rattle.yq_documents.specs.Pieces as pieces
 use Rattle.yq_documents.proofs.comment.last_run.Given as goal
 
 -- the run is what stands here, if the lines behind it are comments

@@ -1,8 +1,7 @@
 use Rattle.std.proofs.Common.{length, ltb, rules, refl, sym, ap, ◌∙◌, arith}
 use Rattle.std.proofs.lemmas.List.Sorted.{IsPartitionPoint-from_clause, IsPartitionedBy-ltb}
 use Rattle.std.proofs.lemmas.Option.{same_Some, slice_get_read, slice_get_within}
-use Rattle.yq_documents.specs.declared.decoded.Decoded.{Decoded}
-use Rattle.yq_documents.proofs.DecodedLaws.{decoded_found, decoded_none, rises}
+use Rattle.yq_documents.{specs.declared.decoded.Decoded.Decoded, proofs.DecodedLaws.{decoded_found, decoded_none, rises}}
 use Rattle.yq_documents.proofs.of_row.decoded_at.Goals as goal
 
 pub returns-then-at-decoded : goal.returns-then-at-decoded

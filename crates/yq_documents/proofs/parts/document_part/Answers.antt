@@ -1,6 +1,5 @@
 use Rattle.std.proofs.Common.{◌∙◌, ap}
-use Rattle.yq_documents.specs.PartReading.{number_in}
-use Rattle.yq_documents.proofs.PartNumberLaws.{document_told}
+use Rattle.yq_documents.{specs.PartReading.number_in, proofs.PartNumberLaws.document_told}
 use Rattle.yq_documents.proofs.parts.document_part.Goals as goal
 
 pub returns-clause-value : goal.returns-clause-value

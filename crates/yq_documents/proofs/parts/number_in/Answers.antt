@@ -1,9 +1,7 @@
 use Rattle.std.proofs.Common.{◌∙◌, ◌+◌, drop, sym, ap}
-use Rattle.yq_row_table.specs.Grammar.{begins_document}
-use Rattle.yq_row_table.specs.View.{bound_view}
-use Rattle.yq_documents.specs.PartReading.{number_in}
+use Rattle.yq_row_table.{specs.Grammar.begins_document, specs.View.bound_view}
+use Rattle.yq_documents.{specs.PartReading.number_in, proofs.PartNumberLaws.{part_here, part_later}}
 use Rattle.yq_outline.proofs.EndsLaws.{drop_at}
-use Rattle.yq_documents.proofs.PartNumberLaws.{part_here, part_later}
 use Rattle.yq_documents.proofs.parts.number_in.Goals as goal
 
 pub returns-then-is_sought-clause-value : goal.returns-then-is_sought-clause-value

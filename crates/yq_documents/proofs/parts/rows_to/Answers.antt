@@ -1,7 +1,6 @@
 use Rattle.std.proofs.Common.{◌∙◌, sym, ap}
 use Rattle.yq_row_table.specs.View.{bound_view}
-use Rattle.yq_documents.specs.PartNumbers.{rows_to}
-use Rattle.yq_documents.proofs.PartNumberLaws.{none_before, start_agrees}
+use Rattle.yq_documents.{specs.PartNumbers.rows_to, proofs.PartNumberLaws.{none_before, start_agrees}}
 use Rattle.yq_documents.proofs.parts.rows_to.Goals as goal
 
 pub returns-then-i-eq0 : goal.returns-then-i-eq0

@@ -1,6 +1,5 @@
 use Rattle.std.proofs.Common.{sym, ap, ◌∙◌, arith}
-use Rattle.yq_row_table.specs.Grammar.{begins_document}
-use Rattle.yq_row_table.specs.View.{bound_view}
+use Rattle.yq_row_table.{specs.Grammar.begins_document, specs.View.bound_view}
 use Rattle.yq_documents.proofs.BeginLaws.{begin_here, begin_later}
 use Rattle.yq_documents.proofs.parts.some_begin.Goals as goal
 

@@ -1,10 +1,6 @@
-use Rattle.std.proofs.Common.{◌≡◌, ◌+◌, ◌*◌, drop}
-use Rattle.std.specs.List.{list_any}
-use Rattle.yq_core.specs.Trees.{parts_tree}
-use Rattle.yq_core.specs.View.{inline_view, items_end, entries_end}
-use Rattle.yq_core.specs.Anchors.{names_in}
-use Rattle.yq_outline.specs.Names.{is_reference}
-use Rattle.yq_outline.proofs.SizeLaws.{node_size, parts_size}
+use Rattle.std.{proofs.Common.{◌≡◌, ◌+◌, ◌*◌, drop}, specs.List.list_any}
+use Rattle.yq_core.{specs.Trees.parts_tree, specs.View.{inline_view, items_end, entries_end}, specs.Anchors.names_in}
+use Rattle.yq_outline.{specs.Names.is_reference, proofs.SizeLaws.{node_size, parts_size}}
 use Rattle.yq_documents.proofs.references.+refers.Given as goal
 
 abbrev pub decreases-node_refers : goal.decreases-node_refers

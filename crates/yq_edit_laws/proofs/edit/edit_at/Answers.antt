@@ -1,9 +1,6 @@
-use Rattle.std.proofs.Common.{◌≡◌, ℕ, ◌+◌, [], ◌∷◌, take, drop, Some, sym, ap, ◌∙◌}
-use Rattle.std.proofs.lemmas.List.{take-take}
+use Rattle.std.{proofs.Common.{◌≡◌, ℕ, ◌+◌, [], ◌∷◌, take, drop, Some, sym, ap, ◌∙◌}, proofs.lemmas.List.take-take}
 use Rattle.std.specs.String.{string_bytes}
-use Rattle.yq_text.specs.Halves.{whole}
-use Rattle.yq_text.specs.Script.{keep, put}
-use Rattle.yq_text.specs.Segments.{segments_of}
+use Rattle.yq_text.{specs.Halves.whole, specs.Script.{keep, put}, specs.Segments.segments_of}
 use Rattle.yq_edit_laws.proofs.edit.edit_at.Goals as goal
 
 pub returns : goal.returns

@@ -1,7 +1,5 @@
 use Rattle.std.proofs.Common.{ℕ, List, [], ◌∷◌, ap, ◌∙◌}
-use Rattle.yq_text.specs.Halves.{whole}
-use Rattle.yq_text.specs.Script.{keep}
-use Rattle.yq_text.specs.Segments.{segments_of}
+use Rattle.yq_text.{specs.Halves.whole, specs.Script.keep, specs.Segments.segments_of}
 use Rattle.yq_edit_laws.proofs.FlowAnswers.{whole_text}
 use Rattle.yq_edit_laws.proofs.edit.unchanged.Goals as goal
 

@@ -1,5 +1,4 @@
-use Rattle.yq_edit_laws.proofs.HeadCommentLaws.{head_comment_is_put}
-use Rattle.yq_edit_laws.proofs.LineCommentLaws.{line_comment_is_put}
+use Rattle.yq_edit_laws.{proofs.HeadCommentLaws.head_comment_is_put, proofs.LineCommentLaws.line_comment_is_put}
 use Rattle.yq_edit_laws.proofs.edit_laws.comments_are_put.Goals as goal
 
 pub returns-clause-line : goal.returns-clause-line

@@ -1,5 +1,4 @@
-use Rattle.yq_edit_laws.proofs.EmptyingAnswers.{sole_by_emptying}
-use Rattle.yq_edit_laws.proofs.SoleLaws.{sole_removed}
+use Rattle.yq_edit_laws.{proofs.EmptyingAnswers.sole_by_emptying, proofs.SoleLaws.sole_removed}
 use Rattle.yq_edit_laws.proofs.laws.emptying_removes.Goals as goal
 
 pub returns-clause-sole : goal.returns-clause-sole

@@ -1,6 +1,4 @@
-use Rattle.yq_edit_laws.proofs.FlowAppendLaws.{flow_more_put}
-use Rattle.yq_edit_laws.proofs.FlowPutLaws.{flow_values_put}
-use Rattle.yq_edit_laws.proofs.FlowRemoveLaws.{flow_part_removed}
+use Rattle.yq_edit_laws.{proofs.FlowAppendLaws.flow_more_put, proofs.FlowPutLaws.flow_values_put, proofs.FlowRemoveLaws.flow_part_removed}
 use Rattle.yq_edit_laws.proofs.laws.flow_edits_carry_out.Goals as goal
 
 pub returns-clause-put : goal.returns-clause-put

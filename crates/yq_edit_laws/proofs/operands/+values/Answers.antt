@@ -1,7 +1,6 @@
 use Rattle.std.proofs.Common.{sym, subst}
-use Rattle.yq_flow_edits.specs.Valued.{IsValueTree}
+use Rattle.yq_flow_edits.{specs.Valued.IsValueTree, proofs.ValuedLaws.map_valid}
 use Rattle.yq_core.specs.Values.{value_node}
-use Rattle.yq_flow_edits.proofs.ValuedLaws.{map_valid}
 use Rattle.yq_edit_laws.proofs.operands.+values.Goals as goal
 
 pub value_holds-returns-in-Map : goal.value_holds-returns-in-Map

@@ -1,18 +1,10 @@
 use Rattle.std.proofs.Common.{◌∙◌, ℕ, List, Option, Some, map, refl, sym, ap, subst}
-use Rattle.yq_core.specs.Answers.{◌>>=◌}
-use Rattle.yq_core.specs.declared.style.Place.TheVariants.{Flow as InFlow}
-use Rattle.yq_core.specs.Collections.{CollPieces}
-use Rattle.yq_core.specs.Entries.{entry_view, tree_step}
-use Rattle.yq_core.specs.Values.{value_node}
-use Rattle.yq_core.specs.View.{inline_view}
-use Rattle.yq_core.specs.Tree.{Node}
-use Rattle.yq_documents.specs.Located.{steps_of}
-use Rattle.yq_documents.specs.Reading.{cut_of}
+use Rattle.yq_core.{specs.Answers.◌>>=◌, specs.declared.style.Place.TheVariants.Flow as InFlow, specs.Collections.CollPieces}
+use Rattle.yq_core.{specs.Entries.{entry_view, tree_step}, specs.Values.value_node, specs.View.inline_view, specs.Tree.Node}
+use Rattle.yq_documents.{specs.Located.steps_of, specs.Reading.cut_of}
 use Rattle.yq_places.specs.Standings.{flow_part, flow_standing, last_step}
-use Rattle.yq_edits.specs.Replacing.{keeps_scalar}
-use Rattle.yq_edits.specs.WrittenValues.{value_text}
-use Rattle.yq_edit_laws.specs.PartPuts.{IsHeadOfPath}
-use Rattle.yq_edit_laws.proofs.FlowAnswers.{coll_found}
+use Rattle.yq_edits.{specs.Replacing.keeps_scalar, specs.WrittenValues.value_text}
+use Rattle.yq_edit_laws.{specs.PartPuts.IsHeadOfPath, proofs.FlowAnswers.coll_found}
 use Rattle.yq_edit_laws.proofs.PutAnswers.{content_missing, no_collection, node_there, place_found, standing_there, text_found}
 use Rattle.yq_edit_laws.proofs.put.put_at_part.Goals as goal
 

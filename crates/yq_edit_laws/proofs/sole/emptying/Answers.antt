@@ -1,13 +1,8 @@
 use Rattle.std.proofs.Common.{ℕ, List, map, Some, None, option_map, sym, ap, ◌∙◌}
-use Rattle.yq_core.specs.Paths.{Step}
-use Rattle.yq_core.specs.Entries.{tree_step}
-use Rattle.yq_core.specs.Values.{value_node}
-use Rattle.yq_documents.specs.Located.{steps_of}
-use Rattle.yq_documents.specs.Reading.{cut_of}
-use Rattle.yq_places.specs.NodesAt.{node_view}
-use Rattle.yq_places.specs.Standings.{last_step}
-use Rattle.yq_edit_laws.specs.Emptying.{Emptied, emptying}
-use Rattle.yq_edit_laws.proofs.EmptyingAnswers.{emptying_is}
+use Rattle.yq_core.{specs.Paths.Step, specs.Entries.tree_step, specs.Values.value_node}
+use Rattle.yq_documents.{specs.Located.steps_of, specs.Reading.cut_of}
+use Rattle.yq_places.{specs.NodesAt.node_view, specs.Standings.last_step}
+use Rattle.yq_edit_laws.{specs.Emptying.{Emptied, emptying}, proofs.EmptyingAnswers.emptying_is}
 use Rattle.yq_edit_laws.proofs.sole.emptying.Goals as goal
 
 pub returns-in_default : goal.returns-in_default

@@ -1,4 +1,5 @@
-use Rattle.yq_edits.proofs.BlockChangeLaws.{node_replaced, root_replaced, entry_appended, entry_removed, first_removed, first_dropped, entry_relabelled}
+use Rattle.yq_edits.proofs.BlockChangeLaws.{node_replaced, root_replaced, entry_appended, entry_removed, first_removed, first_dropped}
+use Rattle.yq_edits.proofs.BlockChangeLaws.{entry_relabelled}
 use Rattle.yq_edits.proofs.documents.operations_read.Goals as goal
 
 pub returns-clause-replaced : goal.returns-clause-replaced

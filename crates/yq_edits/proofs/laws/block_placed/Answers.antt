@@ -1,9 +1,7 @@
 use Rattle.std.proofs.Common.{arith}
 use Rattle.yq_row_table.specs.Rows.{mark_column}
-use Rattle.yq_edits.specs.BlockRows.{item_column, node_rows}
-use Rattle.yq_edits.proofs.BlockLineLaws.{node_begun}
-use Rattle.yq_edits.proofs.PlaceLaws.{under_laid, behind_laid, compact_lines, rows_replaced}
-use Rattle.yq_edits.proofs.RowLaws.{deeper_laid}
+use Rattle.yq_edits.{specs.BlockRows.{item_column, node_rows}, proofs.BlockLineLaws.node_begun}
+use Rattle.yq_edits.{proofs.PlaceLaws.{under_laid, behind_laid, compact_lines, rows_replaced}, proofs.RowLaws.deeper_laid}
 use Rattle.yq_edits.proofs.laws.block_placed.Goals as goal
 
 pub returns-clause-under : goal.returns-clause-under

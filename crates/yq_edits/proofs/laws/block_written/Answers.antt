@@ -1,16 +1,9 @@
 use Rattle.std.proofs.Common.{subst}
-use Rattle.yq_outline.proofs.ByRules.{rules_give}
-use Rattle.yq_outline.specs.Lines.{lines_of_rows}
+use Rattle.yq_outline.{proofs.ByRules.rules_give, specs.Lines.lines_of_rows}
 use Rattle.yq_row_table.specs.Grammar.{key_limit}
-use Rattle.yq_edits.specs.BlockRows.{node_rows}
-use Rattle.yq_edits.specs.BlockValues.{level_at}
-use Rattle.yq_edits.proofs.CharacterLaws.{value_sound}
-use Rattle.yq_edits.proofs.FitLaws.{node_fit, keys_fit, anchors_fit}
-use Rattle.yq_edits.proofs.KeyLaws.{near_key}
-use Rattle.yq_edits.proofs.LaidRows.{laid_rows, laid_follow}
-use Rattle.yq_edits.proofs.BlockLineLaws.{node_stands, lines_deeper}
-use Rattle.yq_edits.proofs.RowLaws.{value_laid}
-use Rattle.yq_edits.proofs.ScalarLaws.{Heads, heads}
+use Rattle.yq_edits.{specs.BlockRows.node_rows, specs.BlockValues.level_at, proofs.CharacterLaws.value_sound}
+use Rattle.yq_edits.{proofs.FitLaws.{node_fit, keys_fit, anchors_fit}, proofs.KeyLaws.near_key, proofs.LaidRows.{laid_rows, laid_follow}}
+use Rattle.yq_edits.{proofs.BlockLineLaws.{node_stands, lines_deeper}, proofs.RowLaws.value_laid, proofs.ScalarLaws.{Heads, heads}}
 use Rattle.yq_edits.proofs.TextLaws.{value_spelled}
 use Rattle.yq_edits.proofs.laws.block_written.Goals as goal
 

@@ -1,5 +1,4 @@
-use Rattle.yq_edits.proofs.AppendLaws.{block_appended}
-use Rattle.yq_edits.proofs.EndLaws.{end_of_text_appended}
+use Rattle.yq_edits.{proofs.AppendLaws.block_appended, proofs.EndLaws.end_of_text_appended}
 use Rattle.yq_edits.proofs.operations.appended.Goals as goal
 
 pub returns-clause-inside : goal.returns-clause-inside

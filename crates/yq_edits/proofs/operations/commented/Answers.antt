@@ -1,5 +1,4 @@
-use Rattle.yq_edits.proofs.HeadLaws.{head_commented}
-use Rattle.yq_edits.proofs.CommentPutLaws.{line_commented}
+use Rattle.yq_edits.{proofs.HeadLaws.head_commented, proofs.CommentPutLaws.line_commented}
 use Rattle.yq_edits.proofs.operations.commented.Goals as goal
 
 pub returns-clause-line : goal.returns-clause-line

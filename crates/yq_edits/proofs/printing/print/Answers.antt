@@ -1,7 +1,6 @@
 use Rattle.std.proofs.Common.{◌++◌, List, [], ◌∷◌, ℕ, ap, ◌∙◌, string_bytes}
 use Rattle.yq_core.specs.Values.{value_node}
-use Rattle.yq_edits.specs.Print.{printed_value, print_text}
-use Rattle.yq_edits.proofs.PrintLaws.{printed_read}
+use Rattle.yq_edits.{specs.Print.{printed_value, print_text}, proofs.PrintLaws.printed_read}
 use Rattle.yq_edits.proofs.printing.print.Goals as goal
 
 pub returns-clause-read : goal.returns-clause-read

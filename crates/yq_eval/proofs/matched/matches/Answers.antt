@@ -1,8 +1,6 @@
-use Rattle.std.specs.Prelude.{Vec}
-use Rattle.std.specs.declared.alloc.Global.{Global}
+use Rattle.std.{specs.Prelude.Vec, specs.declared.alloc.Global.Global}
 use Rattle.yq_documents.specs.Reading.{documents_of}
-use Rattle.yq_eval.specs.MatchView.{matches_of}
-use Rattle.yq_eval.specs.declared.matched.Match.{Match}
+use Rattle.yq_eval.{specs.MatchView.matches_of, specs.declared.matched.Match.Match}
 use Rattle.yq_semantics.proofs.MatchTrees.{answer_matches}
 use Rattle.yq_eval.proofs.matched.matches.Goals as goal
 

@@ -1,17 +1,9 @@
-use Rattle.std.proofs.Common.{◌<◌, List, length, map, Err, ap, sym, ◌∙◌, subst, arith}
-use Rattle.std.proofs.lemmas.Result.{err_from_is_err_and}
+use Rattle.std.{proofs.Common.{◌<◌, List, length, map, Err, ap, sym, ◌∙◌, subst, arith}, proofs.lemmas.Result.err_from_is_err_and}
 use Rattle.yq_core.specs.Tree.{Node}
-use Rattle.yq_documents.specs.Documents.{Document, document_parts}
-use Rattle.yq_documents.specs.Reading.{cut_of, documents_of}
-use Rattle.yq_semantics.specs.Copies.{matches, matches_in}
-use Rattle.yq_semantics.specs.Judgement.{MatchFails}
-use Rattle.yq_eval.specs.MatchView.{matches_of}
-use Rattle.yq_eval.specs.PlaceView.{put_behind}
-use Rattle.yq_eval.specs.TreeScalars.{HasScalars}
-use Rattle.yq_semantics.specs.View.{stage_of}
-use Rattle.yq_eval.proofs.EachLaws.{failed}
-use Rattle.yq_eval.proofs.MatchLaws.{document_there, document_more, document_fails, documents_done}
-use Rattle.yq_eval.proofs.TreeScalarLaws.{documents_have}
+use Rattle.yq_documents.{specs.Documents.{Document, document_parts}, specs.Reading.{cut_of, documents_of}}
+use Rattle.yq_semantics.{specs.Copies.{matches, matches_in}, specs.Judgement.MatchFails, specs.View.stage_of}
+use Rattle.yq_eval.{specs.MatchView.matches_of, specs.PlaceView.put_behind, specs.TreeScalars.HasScalars, proofs.EachLaws.failed}
+use Rattle.yq_eval.{proofs.MatchLaws.{document_there, document_more, document_fails, documents_done}, proofs.TreeScalarLaws.documents_have}
 use Rattle.yq_eval.proofs.matched.pipe_matches.Goals as goal
 
 pub push_document-requires : goal.push_document-requires

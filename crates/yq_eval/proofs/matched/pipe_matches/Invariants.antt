@@ -1,9 +1,7 @@
 use Rattle.std.proofs.Common.{◌≡◌, drop, map}
 use Rattle.yq_documents.specs.Reading.{documents_of}
-use Rattle.yq_semantics.specs.Copies.{matches_from}
-use Rattle.yq_eval.specs.MatchView.{matches_of}
-use Rattle.yq_eval.specs.PlaceView.{put_behind}
-use Rattle.yq_semantics.specs.View.{stage_of}
+use Rattle.yq_semantics.{specs.Copies.matches_from, specs.View.stage_of}
+use Rattle.yq_eval.{specs.MatchView.matches_of, specs.PlaceView.put_behind}
 use Rattle.yq_eval.proofs.matched.pipe_matches.Given as goal
 
 abbrev pub invariant-documents : goal.invariant-documents

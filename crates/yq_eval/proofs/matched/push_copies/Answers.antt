@@ -1,11 +1,7 @@
-use Rattle.std.proofs.Common.{Err, ap, ◌∙◌, subst}
-use Rattle.std.proofs.lemmas.Result.{err_from_is_err_and}
+use Rattle.std.{proofs.Common.{Err, ap, ◌∙◌, subst}, proofs.lemmas.Result.err_from_is_err_and}
 use Rattle.yq_semantics.specs.Copies.{match_at}
-use Rattle.yq_eval.specs.MatchView.{matches_of}
-use Rattle.yq_eval.specs.PlaceView.{place_of}
-use Rattle.yq_eval.specs.TreeScalars.{HaveScalars}
-use Rattle.yq_eval.proofs.EachLaws.{each_more, each_fails, failed, reached}
-use Rattle.yq_eval.proofs.MatchLaws.{value_has}
+use Rattle.yq_eval.{specs.MatchView.matches_of, specs.PlaceView.place_of, specs.TreeScalars.HaveScalars}
+use Rattle.yq_eval.{proofs.EachLaws.{each_more, each_fails, failed, reached}, proofs.MatchLaws.value_has}
 use Rattle.yq_eval.proofs.matched.push_copies.Goals as goal
 
 pub push_match-requires : goal.push_match-requires

@@ -1,9 +1,6 @@
 use Rattle.std.proofs.Common.{◌≡◌, drop}
-use Rattle.yq_semantics.specs.Copies.{match_at}
-use Rattle.yq_eval.specs.MatchView.{matches_of}
-use Rattle.yq_eval.specs.PlaceView.{places_of, put_behind}
-use Rattle.yq_semantics.specs.Places.{for_each}
-use Rattle.yq_eval.specs.TreeScalars.{HaveScalars}
+use Rattle.yq_semantics.{specs.Copies.match_at, specs.Places.for_each}
+use Rattle.yq_eval.{specs.MatchView.matches_of, specs.PlaceView.{places_of, put_behind}, specs.TreeScalars.HaveScalars}
 use Rattle.yq_eval.proofs.matched.push_copies.Given as goal
 
 abbrev pub invariant-places : goal.invariant-places

@@ -1,21 +1,12 @@
-use Rattle.std.proofs.Common.{◌≡◌, Err, List, map, refl, sym, ap, ◌∙◌, subst, arith}
-use Rattle.std.proofs.lemmas.Result.{err_from_is_err_and}
-use Rattle.yq_nodes.specs.Children.{left_of}
-use Rattle.yq_nodes.specs.Nodes.{label_of, node_of}
+use Rattle.std.{proofs.Common.{◌≡◌, Err, List, map, refl, sym, ap, ◌∙◌, subst, arith}, proofs.lemmas.Result.err_from_is_err_and}
+use Rattle.yq_nodes.{specs.Children.left_of, specs.Nodes.{label_of, node_of}}
 use Rattle.yq_outline.specs.Counts.{count}
-use Rattle.yq_semantics.specs.Changes.{Changed, all_allowed, at_each}
+use Rattle.yq_semantics.{specs.Changes.{Changed, all_allowed, at_each}, specs.Judgement.{MatchFails, Judgement, and_then, gives}}
+use Rattle.yq_semantics.{specs.PlacesApart.{AreIn, IsIn}, specs.Places.{Place, child_place, stepped}, specs.Rooms.room_of}
 use Rattle.yq_planner.specs.ChangeView.{changed_of}
-use Rattle.yq_expr.specs.EffectView.{effect_at}
-use Rattle.yq_semantics.specs.Judgement.{MatchFails, Judgement, and_then, gives}
-use Rattle.yq_eval.specs.FoundView.{place_at_path}
-use Rattle.yq_eval.specs.PlaceView.{path_of, put_behind}
-use Rattle.yq_semantics.specs.PlacesApart.{AreIn, IsIn}
-use Rattle.yq_semantics.specs.Places.{Place, child_place, stepped}
-use Rattle.yq_semantics.specs.Rooms.{room_of}
-use Rattle.yq_eval.specs.TreeScalars.{HasScalars, HaveScalars}
-use Rattle.yq_expr.proofs.ChildPlaces.{nothing_before, first_child, child_more, child_fails, children_done}
-use Rattle.yq_eval.proofs.EachLaws.{failed}
-use Rattle.yq_eval.proofs.PlaceLaws.{none_counted}
+use Rattle.yq_expr.{specs.EffectView.effect_at, proofs.ChildPlaces.{nothing_before, first_child, child_more, child_fails, children_done}}
+use Rattle.yq_eval.{specs.FoundView.place_at_path, specs.PlaceView.{path_of, put_behind}, specs.TreeScalars.{HasScalars, HaveScalars}}
+use Rattle.yq_eval.{proofs.EachLaws.failed, proofs.PlaceLaws.none_counted}
 use Rattle.yq_expr.proofs.at_places.at_children.Goals as goal
 
 pub push_effect-requires : goal.push_effect-requires

@@ -1,19 +1,11 @@
 use Rattle.std.proofs.Common.{◌≡◌, ◌+◌, ◌-◌, map}
-use Rattle.yq_core.specs.Tree.{Node}
-use Rattle.yq_core.specs.Anchors.{names_of}
-use Rattle.yq_nodes.specs.Children.{left_of}
-use Rattle.yq_nodes.specs.Nodes.{node_of}
+use Rattle.yq_core.{specs.Tree.Node, specs.Anchors.names_of}
+use Rattle.yq_nodes.{specs.Children.left_of, specs.Nodes.node_of}
 use Rattle.yq_outline.specs.Counts.{count}
-use Rattle.yq_semantics.specs.Changes.{at_each}
-use Rattle.yq_planner.specs.ChangeView.{changed_of}
+use Rattle.yq_semantics.{specs.Changes.at_each, specs.Places.{child_place, stepped}, specs.PlacesApart.AreIn, specs.Rooms.room_of}
+use Rattle.yq_planner.{specs.ChangeView.changed_of, specs.Indexes.HasAliases}
 use Rattle.yq_expr.specs.EffectView.{effect_at}
-use Rattle.yq_planner.specs.Indexes.{HasAliases}
-use Rattle.yq_eval.specs.FoundView.{child_places, place_at_path}
-use Rattle.yq_eval.specs.PlaceView.{path_of, put_behind}
-use Rattle.yq_semantics.specs.Places.{child_place, stepped}
-use Rattle.yq_semantics.specs.PlacesApart.{AreIn}
-use Rattle.yq_semantics.specs.Rooms.{room_of}
-use Rattle.yq_eval.specs.TreeScalars.{HaveScalars}
+use Rattle.yq_eval.{specs.FoundView.{child_places, place_at_path}, specs.PlaceView.{path_of, put_behind}, specs.TreeScalars.HaveScalars}
 use Rattle.yq_expr.proofs.at_places.at_children.Given as goal
 
 abbrev pub invariant-children : goal.invariant-children

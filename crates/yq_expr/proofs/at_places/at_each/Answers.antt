@@ -1,16 +1,9 @@
-use Rattle.std.proofs.Common.{Err, List, map, ap, ◌∙◌, subst, arith, ◌≤◌, length}
-use Rattle.std.proofs.lemmas.Result.{err_from_is_err_and}
-use Rattle.yq_semantics.specs.Changes.{Changed, all_allowed}
+use Rattle.std.{proofs.Common.{Err, List, map, ap, ◌∙◌, subst, arith, ◌≤◌, length}, proofs.lemmas.Result.err_from_is_err_and}
+use Rattle.yq_semantics.{specs.Changes.{Changed, all_allowed}, specs.Judgement.{Judgement, and_then}, specs.PlacesApart.AreIn}
+use Rattle.yq_semantics.{specs.Places.Place, specs.Rooms.room_of}
 use Rattle.yq_planner.specs.ChangeView.{changed_of}
-use Rattle.yq_expr.specs.EffectView.{effect_at}
-use Rattle.yq_semantics.specs.Judgement.{Judgement, and_then}
-use Rattle.yq_eval.specs.PlaceView.{place_of}
-use Rattle.yq_semantics.specs.PlacesApart.{AreIn}
-use Rattle.yq_semantics.specs.Places.{Place}
-use Rattle.yq_semantics.specs.Rooms.{room_of}
-use Rattle.yq_eval.specs.TreeScalars.{HaveScalars}
-use Rattle.yq_expr.proofs.AllChanges.{each_done}
-use Rattle.yq_eval.proofs.EachLaws.{each_more, each_fails, failed, reached}
+use Rattle.yq_expr.{specs.EffectView.effect_at, proofs.AllChanges.each_done}
+use Rattle.yq_eval.{specs.PlaceView.place_of, specs.TreeScalars.HaveScalars, proofs.EachLaws.{each_more, each_fails, failed, reached}}
 use Rattle.yq_expr.proofs.at_places.at_each.Goals as goal
 
 pub returns-in_err-push_effect : goal.returns-in_err-push_effect

@@ -1,14 +1,9 @@
 use Rattle.std.proofs.Common.{◌≡◌, drop, map}
-use Rattle.yq_core.specs.Tree.{Node}
-use Rattle.yq_core.specs.Anchors.{names_of}
-use Rattle.yq_semantics.specs.Changes.{at_each}
-use Rattle.yq_planner.specs.ChangeView.{changed_of}
+use Rattle.yq_core.{specs.Tree.Node, specs.Anchors.names_of}
+use Rattle.yq_semantics.{specs.Changes.at_each, specs.PlacesApart.AreIn, specs.Rooms.room_of}
+use Rattle.yq_planner.{specs.ChangeView.changed_of, specs.Indexes.HasAliases}
 use Rattle.yq_expr.specs.EffectView.{effect_at}
-use Rattle.yq_planner.specs.Indexes.{HasAliases}
-use Rattle.yq_eval.specs.PlaceView.{places_of, put_behind}
-use Rattle.yq_semantics.specs.PlacesApart.{AreIn}
-use Rattle.yq_semantics.specs.Rooms.{room_of}
-use Rattle.yq_eval.specs.TreeScalars.{HaveScalars}
+use Rattle.yq_eval.{specs.PlaceView.{places_of, put_behind}, specs.TreeScalars.HaveScalars}
 use Rattle.yq_expr.proofs.at_places.at_each.Given as goal
 
 abbrev pub invariant-places : goal.invariant-places

@@ -1,14 +1,8 @@
-use Rattle.std.proofs.Common.{List, Vec, map, sym, ap, subst}
-use Rattle.std.specs.declared.alloc.Global.{Global}
+use Rattle.std.{proofs.Common.{List, Vec, map, sym, ap, subst}, specs.declared.alloc.Global.Global}
 use Rattle.yq_expr.specs.EffectView.{effect_at}
 use Rattle.yq_eval.specs.FoundView.{found_places}
-use Rattle.yq_semantics.specs.Changes.{at_each}
-use Rattle.yq_semantics.specs.Judgement.{Judges}
-use Rattle.yq_semantics.specs.Places.{Place}
-use Rattle.yq_semantics.specs.PlacesApart.{AreIn}
-use Rattle.yq_semantics.specs.Rooms.{room_of}
-use Rattle.yq_planner.specs.ChangeView.{changed_of}
-use Rattle.yq_planner.specs.declared.updating.change.PlacedChange.{PlacedChange}
+use Rattle.yq_semantics.{specs.Changes.at_each, specs.Judgement.Judges, specs.Places.Place, specs.PlacesApart.AreIn, specs.Rooms.room_of}
+use Rattle.yq_planner.{specs.ChangeView.changed_of, specs.declared.updating.change.PlacedChange.PlacedChange}
 use Rattle.yq_expr.proofs.at_places.at_found.Goals as goal
 
 pub returns-in-Children : goal.returns-in-Children

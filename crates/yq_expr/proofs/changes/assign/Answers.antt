@@ -1,12 +1,8 @@
-use Rattle.std.proofs.Common.{Vec, map, ap, subst}
-use Rattle.std.specs.declared.alloc.Global.{Global}
+use Rattle.std.{proofs.Common.{Vec, map, ap, subst}, specs.declared.alloc.Global.Global}
 use Rattle.yq_nodes.specs.Nodes.{node_of}
-use Rattle.yq_planner.specs.ChangeView.{changed_of}
-use Rattle.yq_semantics.specs.Judgement.{Judges}
+use Rattle.yq_planner.{specs.ChangeView.changed_of, specs.declared.updating.change.PlacedChange.PlacedChange}
+use Rattle.yq_semantics.{specs.Judgement.Judges, specs.Rooms.room_of, specs.View.{stage_of, term_of}}
 use Rattle.yq_eval.specs.FoundView.{found_places}
-use Rattle.yq_semantics.specs.Rooms.{room_of}
-use Rattle.yq_semantics.specs.View.{stage_of, term_of}
-use Rattle.yq_planner.specs.declared.updating.change.PlacedChange.{PlacedChange}
 use Rattle.yq_expr.proofs.AllChanges.{modified}
 use Rattle.yq_expr.proofs.changes.assign.Goals as goal
 

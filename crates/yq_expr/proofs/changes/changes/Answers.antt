@@ -1,20 +1,12 @@
-use Rattle.std.proofs.Common.{◌<◌, List, length, map, Err, ap, sym, ◌∙◌, subst, arith}
-use Rattle.std.proofs.lemmas.List.{map_push}
+use Rattle.std.{proofs.Common.{◌<◌, List, length, map, Err, ap, sym, ◌∙◌, subst, arith}, proofs.lemmas.List.map_push}
 use Rattle.std.proofs.lemmas.Result.{err_from_is_err_and}
-use Rattle.yq_core.specs.Shapes.{IsTree}
-use Rattle.yq_core.specs.Tree.{Node}
-use Rattle.yq_documents.specs.Documents.{Document, document_parts}
-use Rattle.yq_documents.specs.Reading.{cut_of, documents_of}
-use Rattle.yq_semantics.specs.Changes.{changes_in}
+use Rattle.yq_core.{specs.Shapes.IsTree, specs.Tree.Node}
+use Rattle.yq_documents.{specs.Documents.{Document, document_parts}, specs.Reading.{cut_of, documents_of}}
+use Rattle.yq_semantics.{specs.Changes.changes_in, specs.Judgement.MatchFails, specs.Rooms.room_of, specs.View.update_of}
 use Rattle.yq_planner.specs.ChangeView.{all_changed_of, changed_of}
-use Rattle.yq_semantics.specs.Judgement.{MatchFails}
-use Rattle.yq_semantics.specs.Rooms.{room_of}
-use Rattle.yq_eval.specs.TreeScalars.{HasScalars}
-use Rattle.yq_semantics.specs.View.{update_of}
-use Rattle.yq_expr.proofs.AllChanges.{document_more, document_fails}
-use Rattle.yq_eval.proofs.EachLaws.{failed}
-use Rattle.yq_eval.proofs.MatchLaws.{document_there}
+use Rattle.yq_eval.{specs.TreeScalars.HasScalars, proofs.EachLaws.failed, proofs.MatchLaws.document_there}
 use Rattle.yq_eval.proofs.TreeScalarLaws.{documents_have}
+use Rattle.yq_expr.proofs.AllChanges.{document_more, document_fails}
 use Rattle.yq_expr.proofs.changes.changes.Goals as goal
 
 pub changes_in-requires-clause-scalars : goal.changes_in-requires-clause-scalars

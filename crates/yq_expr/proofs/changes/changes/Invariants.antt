@@ -1,11 +1,8 @@
 use Rattle.std.proofs.Common.{◌≡◌, drop}
 use Rattle.yq_documents.specs.Reading.{documents_of}
-use Rattle.yq_semantics.specs.Changes.{changes_from, update_changes}
+use Rattle.yq_semantics.{specs.Changes.{changes_from, update_changes}, specs.Meaning.roots_of, specs.Rooms.room_of, specs.View.update_of}
 use Rattle.yq_planner.specs.ChangeView.{all_changed_of}
-use Rattle.yq_semantics.specs.Meaning.{roots_of}
 use Rattle.yq_eval.specs.PlaceView.{put_behind}
-use Rattle.yq_semantics.specs.Rooms.{room_of}
-use Rattle.yq_semantics.specs.View.{update_of}
 use Rattle.yq_expr.proofs.changes.changes.Given as goal
 
 abbrev pub invariant-documents : goal.invariant-documents

@@ -1,14 +1,9 @@
-use Rattle.std.proofs.Common.{ℕ, List, Vec, map, sym, ap, ◌∙◌, subst}
-use Rattle.std.specs.declared.alloc.Global.{Global}
+use Rattle.std.{proofs.Common.{ℕ, List, Vec, map, sym, ap, ◌∙◌, subst}, specs.declared.alloc.Global.Global}
 use Rattle.yq_nodes.specs.Nodes.{node_of}
-use Rattle.yq_semantics.specs.Changes.{at_each, changes_at, comment_at}
-use Rattle.yq_planner.specs.ChangeView.{changed_of}
-use Rattle.yq_semantics.specs.Judgement.{Judges}
-use Rattle.yq_eval.specs.FoundView.{found_places}
-use Rattle.yq_semantics.specs.Rooms.{room_of}
-use Rattle.yq_semantics.specs.View.{update_of}
-use Rattle.yq_planner.specs.declared.updating.change.PlacedChange.{PlacedChange}
+use Rattle.yq_semantics.{specs.Changes.{at_each, changes_at, comment_at}, specs.Judgement.Judges, specs.Rooms.room_of, specs.View.update_of}
 use Rattle.yq_semantics.specs.declared.program.Update.{Update}
+use Rattle.yq_planner.{specs.ChangeView.changed_of, specs.declared.updating.change.PlacedChange.PlacedChange}
+use Rattle.yq_eval.specs.FoundView.{found_places}
 use Rattle.yq_expr.proofs.changes.changes_at.Goals as goal
 
 pub returns : goal.returns

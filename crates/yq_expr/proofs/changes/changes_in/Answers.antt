@@ -1,9 +1,7 @@
 use Rattle.std.proofs.Common.{map}
 use Rattle.yq_nodes.specs.Nodes.{node_of}
-use Rattle.yq_semantics.specs.View.{stage_of}
-use Rattle.yq_eval.specs.FoundView.{found_places}
-use Rattle.yq_eval.proofs.MatchLaws.{places_have}
-use Rattle.yq_semantics.proofs.updates.PipePlaces.{places_stand}
+use Rattle.yq_semantics.{specs.View.stage_of, proofs.updates.PipePlaces.places_stand}
+use Rattle.yq_eval.{specs.FoundView.found_places, proofs.MatchLaws.places_have}
 use Rattle.yq_expr.proofs.changes.changes_in.Goals as goal
 
 pub changes_at-requires-clause-scalars : goal.changes_at-requires-clause-scalars

@@ -1,19 +1,12 @@
-use Rattle.std.proofs.Common.{◌≡◌, if◌then◌else◌, Err, Vec, map, sym, ap, ◌∙◌, subst}
-use Rattle.std.proofs.lemmas.Result.{err_from_is_err_and}
+use Rattle.std.{proofs.Common.{◌≡◌, if◌then◌else◌, Err, Vec, map, sym, ap, ◌∙◌, subst}, proofs.lemmas.Result.err_from_is_err_and}
 use Rattle.std.specs.declared.alloc.Global.{Global}
 use Rattle.yq_core.specs.Values.{value_node}
 use Rattle.yq_nodes.specs.Nodes.{node_of}
-use Rattle.yq_semantics.specs.Changes.{add_at, put_with_path}
-use Rattle.yq_planner.specs.ChangeView.{changed_of}
-use Rattle.yq_semantics.specs.Judgement.{MatchFails, Judges, gives}
-use Rattle.yq_eval.specs.FoundView.{found_places}
-use Rattle.yq_semantics.specs.Places.{root_place}
-use Rattle.yq_semantics.specs.RightValues.{right_value}
-use Rattle.yq_semantics.specs.View.{term_of}
-use Rattle.yq_planner.specs.declared.updating.change.PlacedChange.{PlacedChange}
-use Rattle.yq_expr.proofs.AllChanges.{value_there, value_fails}
-use Rattle.yq_eval.proofs.EachLaws.{failed}
-use Rattle.yq_expr.proofs.changes.value_each.Goals.{then-adds, else-adds}
+use Rattle.yq_semantics.{specs.Changes.{add_at, put_with_path}, specs.Judgement.{MatchFails, Judges, gives}, specs.Places.root_place}
+use Rattle.yq_semantics.{specs.RightValues.right_value, specs.View.term_of}
+use Rattle.yq_planner.{specs.ChangeView.changed_of, specs.declared.updating.change.PlacedChange.PlacedChange}
+use Rattle.yq_eval.{specs.FoundView.found_places, proofs.EachLaws.failed}
+use Rattle.yq_expr.{proofs.AllChanges.{value_there, value_fails}, proofs.changes.value_each.Goals.{then-adds, else-adds}}
 use Rattle.yq_expr.proofs.changes.value_each.Goals as goal
 
 pub returns-in_err-value : goal.returns-in_err-value

@@ -1,13 +1,9 @@
 use Rattle.std.proofs.Common.{rules, ◌≡◌, List, [], ◌∷◌, ◌++◌, if◌then◌else◌, false, sym, ap, ◌∙◌, subst}
-use Rattle.yq_eval.specs.PlaceView.{missing_of, place_of}
-use Rattle.yq_eval.specs.declared.matching.place.Missing.{the_lemmas}
-use Rattle.yq_semantics.specs.Changes.{add_below, put_with_path}
-use Rattle.yq_semantics.specs.Judgement.{Judges, gives}
-use Rattle.yq_semantics.specs.RightValues.{is_null}
+use Rattle.yq_eval.{specs.PlaceView.{missing_of, place_of}, specs.declared.matching.place.Missing.the_lemmas}
+use Rattle.yq_semantics.{specs.Changes.{add_below, put_with_path}, specs.Judgement.{Judges, gives}, specs.RightValues.is_null}
+use Rattle.yq_semantics.{specs.Program.PathStep, specs.View.program_step}
 use Rattle.yq_core.specs.Values.{value_node}
 use Rattle.yq_planner.specs.ChangeView.{placed}
-use Rattle.yq_semantics.specs.Program.{PathStep}
-use Rattle.yq_semantics.specs.View.{program_step}
 use Rattle.yq_expr.proofs.StepLists.{added_missing}
 use Rattle.yq_expr.proofs.effect.add.Goals as goal
 

@@ -1,12 +1,7 @@
 use Rattle.std.proofs.Common.{rules, ◌≡◌, List, [], ◌∷◌, ◌++◌, if◌then◌else◌, ◌&&◌, ap, ◌∙◌}
-use Rattle.yq_eval.specs.PlaceView.{missing_of, path_of}
-use Rattle.yq_eval.specs.declared.matching.place.Missing.{the_lemmas}
-use Rattle.yq_semantics.specs.Changes.{is_there, sets_comment}
-use Rattle.yq_semantics.specs.Judgement.{gives, refuses}
-use Rattle.yq_semantics.specs.Rooms.{room_of}
-use Rattle.yq_semantics.specs.declared.refusal.Refusal.{Refusal}
-use Rattle.yq_semantics.specs.Program.{PathStep}
-use Rattle.yq_semantics.specs.View.{program_step}
+use Rattle.yq_eval.{specs.PlaceView.{missing_of, path_of}, specs.declared.matching.place.Missing.the_lemmas}
+use Rattle.yq_semantics.{specs.Changes.{is_there, sets_comment}, specs.Judgement.{gives, refuses}, specs.Rooms.room_of}
+use Rattle.yq_semantics.{specs.declared.refusal.Refusal.Refusal, specs.Program.PathStep, specs.View.program_step}
 use Rattle.yq_expr.proofs.StepLists.{not_there}
 use Rattle.yq_expr.proofs.effect.set_comment.Goals as goal
 

@@ -1,9 +1,6 @@
 use Rattle.std.proofs.Common.{ℕ, List}
 use Rattle.yq_documents.specs.Reading.{documents_of}
-use Rattle.yq_semantics.specs.Operations.{operations_of}
-use Rattle.yq_semantics.specs.Rooms.{room_of}
-use Rattle.yq_semantics.specs.View.{program_of}
-use Rattle.yq_semantics.proofs.RoomLaws.{rooms_are_ready}
+use Rattle.yq_semantics.{specs.Operations.operations_of, specs.Rooms.room_of, specs.View.program_of, proofs.RoomLaws.rooms_are_ready}
 use Rattle.yq_semantics.proofs.updates.PlanAnswers.{answer_means, answer_fits, answer_refused, answer_refuses, literals_hold}
 use Rattle.yq_expr.proofs.planning.plan.Goals as goal
 

@@ -1,9 +1,8 @@
 use Rattle.std.proofs.Common.{◌≡◌, rules, [], ◌∷◌, ◌++◌, map, option_map, string_bytes, ap, ◌∙◌}
 use Rattle.yq_core.specs.Values.{value_node}
-use Rattle.yq_semantics.specs.Changes.{adds, appends, step_key}
+use Rattle.yq_semantics.{specs.Changes.{adds, appends, step_key}, specs.View.program_step}
 use Rattle.yq_planner.specs.ChangeView.{addition_of}
 use Rattle.yq_planner.specs.declared.updating.change.Addition.TheVariants as additions
-use Rattle.yq_semantics.specs.View.{program_step}
 use Rattle.yq_expr.proofs.put.appended.Goals as goal
 
 pub returns : goal.returns

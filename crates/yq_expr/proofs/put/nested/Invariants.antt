@@ -1,7 +1,6 @@
 use Rattle.std.proofs.Common.{◌≡◌, ◌≤◌, length, map}
 use Rattle.yq_core.specs.Values.{value_node}
-use Rattle.yq_semantics.specs.Changes.{nested}
-use Rattle.yq_semantics.specs.View.{program_step}
+use Rattle.yq_semantics.{specs.Changes.nested, specs.View.program_step}
 use Rattle.yq_expr.proofs.put.nested.Given as goal
 
 abbrev pub invariant-steps : goal.invariant-steps

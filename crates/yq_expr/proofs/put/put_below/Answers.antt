@@ -1,8 +1,7 @@
 use Rattle.std.proofs.Common.{true, false, sym, ap, ◌∙◌}
 use Rattle.yq_core.specs.Values.{value_node}
 use Rattle.yq_nodes.specs.Nodes.{node_of}
-use Rattle.yq_semantics.specs.Judgement.{gives}
-use Rattle.yq_semantics.specs.View.{program_step}
+use Rattle.yq_semantics.{specs.Judgement.gives, specs.View.program_step}
 use Rattle.yq_expr.proofs.ChangeLaws.{put_first}
 use Rattle.yq_expr.proofs.put.put_below.Goals as goal
 

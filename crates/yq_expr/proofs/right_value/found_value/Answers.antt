@@ -1,11 +1,7 @@
 use Rattle.std.proofs.Common.{rules, ◌≡◌, List, [], ◌∷◌, map, sym, ap, ◌∙◌, subst}
-use Rattle.yq_semantics.specs.Judgement.{gives}
-use Rattle.yq_semantics.specs.Pipes.{pipe_on}
-use Rattle.yq_eval.specs.PlaceView.{place_of, places_of}
-use Rattle.yq_eval.specs.TreeScalars.{HaveScalars}
-use Rattle.yq_semantics.specs.View.{stage_of}
+use Rattle.yq_semantics.{specs.Judgement.gives, specs.Pipes.pipe_on, specs.View.stage_of}
+use Rattle.yq_eval.{specs.PlaceView.{place_of, places_of}, specs.TreeScalars.HaveScalars, proofs.MatchLaws.pipe_have}
 use Rattle.yq_eval.specs.declared.matching.place.FoundPlace as declared
-use Rattle.yq_eval.proofs.MatchLaws.{pipe_have}
 use Rattle.yq_expr.proofs.right_value.found_value.Goals as goal
 
 pub only-requires : goal.only-requires

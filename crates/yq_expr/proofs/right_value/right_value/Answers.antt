@@ -1,8 +1,7 @@
 use Rattle.std.proofs.Common.{sym, subst, arith}
 use Rattle.yq_core.specs.Values.{value_node}
-use Rattle.yq_semantics.specs.Judgement.{Judges}
+use Rattle.yq_semantics.{specs.Judgement.Judges, specs.View.term_of}
 use Rattle.yq_eval.specs.PlaceView.{place_of}
-use Rattle.yq_semantics.specs.View.{term_of}
 use Rattle.yq_planner.proofs.SumLaws.{right_on}
 use Rattle.yq_expr.proofs.right_value.right_value.Goals as goal
 

@@ -1,15 +1,11 @@
 use Rattle.std.proofs.Common.{rules, ◌≡◌, ℕ, List, [], ◌∷◌, false, map, None, sym, ap, ◌∙◌}
 use Rattle.yq_core.specs.Tree.{scalar}
 use Rattle.yq_nodes.specs.Nodes.{node_of, kind_of}
-use Rattle.yq_nodes.specs.declared.nodes.node.NodeKind.TheVariants as kinds
 use Rattle.yq_expr.proofs.SummandLaws.{scalar_copied}
 use Rattle.yq_eval.specs.PlaceView.{place_of}
-use Rattle.yq_semantics.specs.Conditions.{value_of}
-use Rattle.yq_semantics.specs.Copies.{copy}
-use Rattle.yq_semantics.specs.Judgement.{gives}
-use Rattle.yq_semantics.specs.RightValues.{is_null, term_value}
-use Rattle.yq_semantics.specs.Program.{found, path}
-use Rattle.yq_semantics.specs.View.{stage_of, term_of}
+use Rattle.yq_semantics.{specs.Conditions.value_of, specs.Copies.copy, specs.Judgement.gives, specs.RightValues.{is_null, term_value}}
+use Rattle.yq_semantics.{specs.Program.{found, path}, specs.View.{stage_of, term_of}}
+use Rattle.yq_nodes.specs.declared.nodes.node.NodeKind.TheVariants as kinds
 use Rattle.yq_expr.proofs.right_value.scalar_there.Goals as goal
 
 pub returns-in-Scalar : goal.returns-in-Scalar

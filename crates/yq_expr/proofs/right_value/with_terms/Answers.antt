@@ -1,11 +1,7 @@
-use Rattle.std.proofs.Common.{Err, ap, ◌∙◌}
-use Rattle.std.proofs.lemmas.Result.{err_from_is_err_and}
+use Rattle.std.{proofs.Common.{Err, ap, ◌∙◌}, proofs.lemmas.Result.err_from_is_err_and}
 use Rattle.yq_core.specs.Values.{value_node}
-use Rattle.yq_semantics.specs.Judgement.{and_then}
-use Rattle.yq_eval.specs.PlaceView.{place_of}
-use Rattle.yq_semantics.specs.RightValues.{sum, term_value}
-use Rattle.yq_semantics.specs.View.{term_of}
-use Rattle.yq_eval.proofs.EachLaws.{chain_more, chain_fails, failed}
+use Rattle.yq_semantics.{specs.Judgement.and_then, specs.RightValues.{sum, term_value}, specs.View.term_of}
+use Rattle.yq_eval.{specs.PlaceView.place_of, proofs.EachLaws.{chain_more, chain_fails, failed}}
 use Rattle.yq_expr.proofs.right_value.with_terms.Goals as goal
 
 pub returns-in_err-total : goal.returns-in_err-total

@@ -1,10 +1,7 @@
 use Rattle.std.proofs.Common.{◌≡◌, drop, map}
 use Rattle.yq_core.specs.Values.{value_node}
-use Rattle.yq_semantics.specs.Judgement.{and_then}
+use Rattle.yq_semantics.{specs.Judgement.and_then, specs.Places.chained, specs.RightValues.{sum, term_value}, specs.View.term_of}
 use Rattle.yq_eval.specs.PlaceView.{place_of}
-use Rattle.yq_semantics.specs.Places.{chained}
-use Rattle.yq_semantics.specs.RightValues.{sum, term_value}
-use Rattle.yq_semantics.specs.View.{term_of}
 use Rattle.yq_expr.proofs.right_value.with_terms.Given as goal
 
 abbrev pub invariant-terms : goal.invariant-terms

@@ -1,11 +1,8 @@
 use Rattle.std.proofs.Common.{◌≡◌, rules, List, [], ◌∷◌, map, reverse, sym, ap, ◌++◌, ◌∙◌, ◌+◌, length, arith}
 use Rattle.std.proofs.lemmas.List.{length-append}
 use Rattle.yq_expr.proofs.StepLists.{pushed_back}
-use Rattle.yq_eval.specs.PlaceView.{missing_of}
-use Rattle.yq_semantics.specs.Program.{PathStep}
-use Rattle.yq_semantics.specs.View.{program_step}
-use Rattle.yq_eval.specs.declared.matching.place.Missing.{Nothing, the_lemmas}
-use Rattle.yq_semantics.proofs.Lists.{map_reverse}
+use Rattle.yq_eval.{specs.PlaceView.missing_of, specs.declared.matching.place.Missing.{Nothing, the_lemmas}}
+use Rattle.yq_semantics.{specs.Program.PathStep, specs.View.program_step, proofs.Lists.map_reverse}
 use Rattle.yq_expr.proofs.steps.missing_steps.Goals as goal
 
 ends : missing_of Nothing ≡ []

@@ -1,10 +1,8 @@
 use Rattle.std.proofs.Common.{◌≡◌, rules, List, [], ◌∷◌, map, reverse, sym, ap, ◌++◌, ◌∙◌, ◌+◌, length, arith}
-use Rattle.yq_core.specs.Paths.{Step}
-use Rattle.yq_core.specs.Entries.{tree_step}
 use Rattle.std.proofs.lemmas.List.{length-append}
+use Rattle.yq_core.{specs.Paths.Step, specs.Entries.tree_step}
 use Rattle.yq_expr.proofs.StepLists.{pushed_back}
-use Rattle.yq_eval.specs.PlaceView.{node_step_of, path_of}
-use Rattle.yq_eval.specs.declared.matching.place.NodePath.{Root, the_lemmas}
+use Rattle.yq_eval.{specs.PlaceView.{node_step_of, path_of}, specs.declared.matching.place.NodePath.{Root, the_lemmas}}
 use Rattle.yq_semantics.proofs.Lists.{map_reverse}
 use Rattle.yq_expr.proofs.steps.path_steps.Goals as goal
 

@@ -1,5 +1,4 @@
-use Rattle.yq_flow_edits.proofs.EditLaws.{appended}
-use Rattle.yq_flow_edits.proofs.ValueEdits.{value_appended}
+use Rattle.yq_flow_edits.{proofs.EditLaws.appended, proofs.ValueEdits.value_appended}
 use Rattle.yq_flow_edits.proofs.flow_laws.appended_in_flow.Goals as goal
 
 pub returns : goal.returns

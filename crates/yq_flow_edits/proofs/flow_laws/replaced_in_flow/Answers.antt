@@ -1,5 +1,4 @@
-use Rattle.yq_flow_edits.proofs.EditLaws.{replaced}
-use Rattle.yq_flow_edits.proofs.ValueEdits.{value_replaced, scalar_replaced}
+use Rattle.yq_flow_edits.{proofs.EditLaws.replaced, proofs.ValueEdits.{value_replaced, scalar_replaced}}
 use Rattle.yq_flow_edits.proofs.flow_laws.replaced_in_flow.Goals as goal
 
 pub returns : goal.returns

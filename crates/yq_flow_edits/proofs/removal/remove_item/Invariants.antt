@@ -1,7 +1,7 @@
 use Rattle.std.proofs.Common.{◌≡◌, length}
+use Rattle.yq_core.specs.View.{items_end}
 use Rattle.yq_core.specs.Paths as paths
 use Rattle.yq_flow_edits.specs.FlowPlaces as spec
-use Rattle.yq_core.specs.View.{items_end}
 use Rattle.yq_flow_edits.proofs.removal.remove_item.Given as goal
 
 abbrev pub invariant-each : goal.invariant-each

@@ -1,8 +1,6 @@
 use Rattle.std.proofs.Common.{ap, ◌∙◌, subst, sym}
-use Rattle.yq_flow_edits.specs.Valued.{IsValueTree}
-use Rattle.yq_core.specs.Values.{value_node}
-use Rattle.yq_core.specs.NodesWritten.{flow_text}
-use Rattle.yq_flow_edits.proofs.ValuedLaws.{list_valid, map_valid, if_ok}
+use Rattle.yq_flow_edits.{specs.Valued.IsValueTree, proofs.ValuedLaws.{list_valid, map_valid, if_ok}}
+use Rattle.yq_core.{specs.Values.value_node, specs.NodesWritten.flow_text}
 use Rattle.yq_core.proofs.NodesWrittenLaws.{node_list, node_map, list_value, map_value, between_brackets}
 use Rattle.yq_flow_edits.proofs.write.+write.Goals as goal
 

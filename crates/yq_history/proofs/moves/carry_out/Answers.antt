@@ -1,13 +1,8 @@
-use Rattle.std.proofs.Common.{inl, inr, refl, ap, ◌∙◌}
-use Rattle.yq_history.proofs.MoveLaws.{first_write, second_write, third_write, same_content, moved_journal, on_err, on_ok_map, on_err_map, either}
-use Rattle.std.proofs.Common.{refl, sym, ap, ◌∙◌}
-use Rattle.yq_history.proofs.CutLaws.{cut_unwritten, cut_opened, cut_changed, cut_settled}
-use Rattle.std.specs.FinMap.{get}
+use Rattle.std.{proofs.Common.{inl, inr, refl, ap, ◌∙◌, sym}, specs.FinMap.get, proofs.lemmas.Option.none-some}
+use Rattle.yq_history.proofs.MoveLaws.{first_write, second_write, third_write, same_content, moved_journal, on_err, on_ok_map, on_err_map}
+use Rattle.yq_history.{proofs.MoveLaws.either, proofs.CutLaws.{cut_unwritten, cut_opened, cut_changed, cut_settled}}
+use Rattle.yq_history.{proofs.EffectLaws.on_ok, specs.Faults.failures_after, proofs.FaultLaws.{all_outside, way_there}}
 use Rattle.yq_store.specs.FileMap.{get_written}
-use Rattle.yq_history.proofs.EffectLaws.{on_ok}
-use Rattle.std.proofs.lemmas.Option.{none-some}
-use Rattle.yq_history.specs.Faults.{failures_after}
-use Rattle.yq_history.proofs.FaultLaws.{all_outside, way_there}
 use Rattle.yq_history.proofs.moves.carry_out.Goals as goal
 
 pub returns : goal.returns

@@ -1,9 +1,6 @@
-use Rattle.std.proofs.Common.{◌≡◌, sym, ap, ◌∙◌}
-use Rattle.std.specs.FinMap.{get}
-use Rattle.yq_journal.specs.Good.{journal_beside}
-use Rattle.yq_journal.specs.State.{settled_beside}
-use Rattle.yq_history.proofs.PairLaws.{opens}
-use Rattle.yq_history.proofs.EffectLaws.{settles}
+use Rattle.std.{proofs.Common.{◌≡◌, sym, ap, ◌∙◌}, specs.FinMap.get}
+use Rattle.yq_journal.{specs.Good.journal_beside, specs.State.settled_beside}
+use Rattle.yq_history.{proofs.PairLaws.opens, proofs.EffectLaws.settles}
 use Rattle.yq_history.proofs.pair.open_pair.Goals as goal
 
 pub returns-clause-opens : goal.returns-clause-opens

@@ -1,8 +1,6 @@
-use Rattle.std.proofs.Common.{◌≡◌, ◌++◌, ◌+◌, nat_lt, sym, ap, ap₂, ◌∙◌}
-use Rattle.std.specs.String.{string_bytes}
+use Rattle.std.{proofs.Common.{◌≡◌, ◌++◌, ◌+◌, nat_lt, sym, ap, ap₂, ◌∙◌}, specs.String.string_bytes}
 use Rattle.yq_journal.specs.Record.{Record}
-use Rattle.yq_history.specs.Listing.{edit_line}
-use Rattle.yq_history.proofs.PrintLaws.{lines_more}
+use Rattle.yq_history.{specs.Listing.edit_line, proofs.PrintLaws.lines_more}
 use Rattle.yq_history.proofs.printing.lines_of.Goals as goal
 
 pub records-preserved : goal.records-preserved

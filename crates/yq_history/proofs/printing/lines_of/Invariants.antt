@@ -1,5 +1,4 @@
-use Rattle.std.proofs.Common.{◌≡◌, map, take}
-use Rattle.std.specs.String.{string_bytes}
+use Rattle.std.{proofs.Common.{◌≡◌, map, take}, specs.String.string_bytes}
 use Rattle.yq_journal.specs.Record.{Record}
 use Rattle.yq_history.specs.Listing.{listing_after}
 use Rattle.yq_history.proofs.printing.lines_of.Given as goal

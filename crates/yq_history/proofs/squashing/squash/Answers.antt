@@ -1,9 +1,5 @@
-use Rattle.std.proofs.Common.{Err, ap, ◌∙◌}
-use Rattle.std.specs.FinMap.{get}
-use Rattle.yq_history.proofs.SquashLaws.{squash_opened}
-use Rattle.std.proofs.lemmas.Result.{err_from_is_err_and}
-use Rattle.yq_history.specs.Effects.{squash_effect}
-use Rattle.yq_history.proofs.EffectLaws.{not_opened, from_opened}
+use Rattle.std.{proofs.Common.{Err, ap, ◌∙◌}, specs.FinMap.get, proofs.lemmas.Result.err_from_is_err_and}
+use Rattle.yq_history.{proofs.SquashLaws.squash_opened, specs.Effects.squash_effect, proofs.EffectLaws.{not_opened, from_opened}}
 use Rattle.yq_history.proofs.squashing.squash.Goals as goal
 
 pub returns-clause-arrives : goal.returns-clause-arrives

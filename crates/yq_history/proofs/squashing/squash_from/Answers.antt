@@ -1,11 +1,6 @@
-use Rattle.std.proofs.Common.{inl, inr, ℕ, refl}
-use Rattle.std.proofs.lemmas.Result.{err_from_is_err_and}
-use Rattle.yq_history.proofs.MoveLaws.{none_of}
-use Rattle.yq_history.proofs.SquashLaws.{squash_refused, squash_of_one, squash_ends}
-use Rattle.yq_history.proofs.MoveLaws.{either, journal_written, on_err_map, on_ok_map}
-use Rattle.std.proofs.Common.{subst}
-use Rattle.yq_history.specs.Pair.{IsJournal}
-use Rattle.std.proofs.lemmas.Bool.{eq-eqb, ne_eqb}
+use Rattle.std.{proofs.Common.{inl, inr, ℕ, refl, subst}, proofs.lemmas.Result.err_from_is_err_and, proofs.lemmas.Bool.{eq-eqb, ne_eqb}}
+use Rattle.yq_history.proofs.MoveLaws.{none_of, either, journal_written, on_err_map, on_ok_map}
+use Rattle.yq_history.{proofs.SquashLaws.{squash_refused, squash_of_one, squash_ends}, specs.Pair.IsJournal}
 use Rattle.yq_history.proofs.EffectLaws.{squash_not_done, squash_one_works, squash_works}
 use Rattle.yq_history.proofs.squashing.squash_from.Goals as goal
 

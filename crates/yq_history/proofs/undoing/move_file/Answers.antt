@@ -1,9 +1,5 @@
-use Rattle.std.proofs.Common.{Err, ap, ◌∙◌}
-use Rattle.std.specs.FinMap.{get}
-use Rattle.std.proofs.lemmas.Result.{err_from_is_err_and}
-use Rattle.yq_history.specs.Effects.{move_effect}
-use Rattle.yq_history.specs.Directions.{walk_move}
-use Rattle.yq_history.proofs.EffectLaws.{not_opened, from_opened}
+use Rattle.std.{proofs.Common.{Err, ap, ◌∙◌}, specs.FinMap.get, proofs.lemmas.Result.err_from_is_err_and}
+use Rattle.yq_history.{specs.Effects.move_effect, specs.Directions.walk_move, proofs.EffectLaws.{not_opened, from_opened}}
 use Rattle.yq_history.proofs.undoing.move_file.Goals as goal
 
 pub returns-in_err-text-clause-effect : goal.returns-in_err-text-clause-effect

@@ -1,10 +1,6 @@
-use Rattle.std.proofs.Common.{Some, sym, ap, ◌∙◌}
-use Rattle.std.proofs.lemmas.Result.{err_from_is_err_and}
-use Rattle.std.proofs.lemmas.Slice.Eq.{bytes_eq-Decides}
-use Rattle.yq_journal.specs.Refusals.{way_fault}
-use Rattle.yq_journal.specs.State.{journal_after, moved_text, with_move}
-use Rattle.yq_history.proofs.MoveLaws.{refused_move, equal_move, other_move}
-use Rattle.yq_history.specs.Directions.{walk_move}
+use Rattle.std.{proofs.Common.{Some, sym, ap, ◌∙◌}, proofs.lemmas.Result.err_from_is_err_and, proofs.lemmas.Slice.Eq.bytes_eq-Decides}
+use Rattle.yq_journal.{specs.Refusals.way_fault, specs.State.{journal_after, moved_text, with_move}}
+use Rattle.yq_history.{proofs.MoveLaws.{refused_move, equal_move, other_move}, specs.Directions.walk_move}
 use Rattle.yq_history.proofs.EffectLaws.{move_refused, move_equal, move_other, way_free}
 use Rattle.yq_history.proofs.undoing.move_from.Goals as goal
 

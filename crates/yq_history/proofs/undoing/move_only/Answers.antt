@@ -1,7 +1,5 @@
-use Rattle.std.proofs.Common.{inl, inr, refl}
-use Rattle.yq_history.proofs.MoveLaws.{journal_written, turned, same_content, on_ok_map, on_err_map, either}
-use Rattle.std.proofs.Common.{subst}
-use Rattle.yq_history.specs.Pair.{IsJournal}
+use Rattle.std.proofs.Common.{inl, inr, refl, subst}
+use Rattle.yq_history.{proofs.MoveLaws.{journal_written, turned, same_content, on_ok_map, on_err_map, either}, specs.Pair.IsJournal}
 use Rattle.yq_history.proofs.undoing.move_only.Goals as goal
 
 pub returns-clause-ok : goal.returns-clause-ok

@@ -1,10 +1,6 @@
 use Rattle.std.proofs.Common.{◌-◌, refl}
-use Rattle.yq_core.specs.Piece.{further_spaces}
-use Rattle.yq_core.specs.Writable.{in_flow}
-use Rattle.yq_core.specs.Inline.{depth_limit}
-use Rattle.yq_core.specs.Nodes.{node_text}
-use Rattle.yq_core.proofs.InlineLaws.{inline_takes, inline_again}
-use Rattle.yq_core.proofs.NodeLaws.{one_node}
+use Rattle.yq_core.{specs.Piece.further_spaces, specs.Writable.in_flow, specs.Inline.depth_limit, specs.Nodes.node_text}
+use Rattle.yq_core.{proofs.InlineLaws.{inline_takes, inline_again}, proofs.NodeLaws.one_node}
 use Rattle.yq_inline.proofs.laws.one_inline.Goals as goal
 
 pub returns : goal.returns

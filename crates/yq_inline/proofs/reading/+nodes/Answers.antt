@@ -1,12 +1,10 @@
 use Rattle.std.proofs.Common.{Some, rules, arith, length, sym, ap, ◌∙◌}
 use Rattle.yq_core.proofs.Loops.{node_shorter, items_on, entries_on}
 use Rattle.yq_core.proofs.Steps.{node_fails, node_gives, node_no_lead, node_no_name, node_plain}
-use Rattle.yq_core.specs.declared.inline.Form.TheFolds.{the_lemmas}
-use Rattle.yq_core.specs.Nodes.{begins_content}
-use Rattle.yq_core.specs.Places.{Placed}
-use Rattle.yq_core.specs.PlacedReading.{placed_coll}
-use Rattle.yq_core.specs.View.{entries_end, form_view, items_end, inline_view}
-use Rattle.yq_inline.proofs.FormLaws.{content_fails, content_given, form_alias, form_unnamed, sequence_form, mapping_form, text_form, no_form, coll_unopened, coll_given, coll_fails, item_given, item_refused, item_fails, gives_same}
+use Rattle.yq_core.{specs.declared.inline.Form.TheFolds.the_lemmas, specs.Nodes.begins_content, specs.Places.Placed}
+use Rattle.yq_core.{specs.PlacedReading.placed_coll, specs.View.{entries_end, form_view, items_end, inline_view}}
+use Rattle.yq_inline.proofs.FormLaws.{content_fails, content_given, form_alias, form_unnamed, sequence_form, mapping_form, text_form}
+use Rattle.yq_inline.proofs.FormLaws.{no_form, coll_unopened, coll_given, coll_fails, item_given, item_refused, item_fails, gives_same}
 use Rattle.yq_inline.proofs.reading.+nodes.Goals as goal
 
 pub read_entries-each-preserved : goal.read_entries-each-preserved

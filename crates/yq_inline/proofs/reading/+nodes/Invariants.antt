@@ -1,7 +1,5 @@
-use Rattle.std.proofs.Common.{◌≡◌, ◌+◌, ◌*◌, ◌≤◌, length}
-use Rattle.std.specs.Str.{IsUtf8}
-use Rattle.yq_core.specs.PlacedReading.{placed_items}
-use Rattle.yq_core.specs.View.{behind_items, behind_entries}
+use Rattle.std.{proofs.Common.{◌≡◌, ◌+◌, ◌*◌, ◌≤◌, length}, specs.Str.IsUtf8}
+use Rattle.yq_core.{specs.PlacedReading.placed_items, specs.View.{behind_items, behind_entries}}
 use Rattle.yq_inline.proofs.reading.+nodes.Given as goal
 
 abbrev pub decreases-read_node : goal.decreases-read_node

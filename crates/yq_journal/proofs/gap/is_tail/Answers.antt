@@ -1,6 +1,4 @@
-use Rattle.std.proofs.Common.{rules}
-use Rattle.std.proofs.lemmas.Grind.{common_steps}
-use Rattle.std.proofs.lemmas.Slice.Eq.{bytes_eq-Decides}
+use Rattle.std.{proofs.Common.rules, proofs.lemmas.Grind.common_steps, proofs.lemmas.Slice.Eq.bytes_eq-Decides}
 use Rattle.yq_journal.proofs.gap.is_tail.Goals as goal
 
 pub returns : goal.returns

@@ -1,5 +1,4 @@
-use Rattle.std.proofs.Common.{◌≡◌, ◌+◌, ◌++◌, length}
-use Rattle.std.specs.Prelude.{reverse}
+use Rattle.std.{proofs.Common.{◌≡◌, ◌+◌, ◌++◌, length}, specs.Prelude.reverse}
 use Rattle.yq_journal.proofs.gap.shift.Given as goal
 
 abbrev pub invariant-bytes : goal.invariant-bytes

@@ -1,6 +1,5 @@
 use Rattle.std.proofs.Common.{◌∙◌, ap, refl, sym}
-use Rattle.base64.specs.Engines.{standard}
-use Rattle.base64.specs.GeneralPurpose.{decode_of}
+use Rattle.base64.{specs.Engines.standard, specs.GeneralPurpose.decode_of}
 use Rattle.serde_json.specs.Data.{string}
 use Rattle.yq_journal.proofs.ObjectLaws.{added_on_ok, on_ok, view-String}
 use Rattle.yq_journal.proofs.members.add_bytes.Goals as goal

@@ -1,7 +1,5 @@
 use Rattle.std.proofs.Common.{◌≤◌, sym, ap, ◌∙◌, subst}
-use Rattle.serde_json.specs.Data.{depth}
-use Rattle.serde_json.specs.Read.{max_depth}
-use Rattle.serde_json.specs.Written.{has_float}
+use Rattle.serde_json.{specs.Data.depth, specs.Read.max_depth, specs.Written.has_float}
 use Rattle.yq_journal.proofs.WriteLaws.{no_float_move, shallow_move}
 use Rattle.yq_journal.proofs.open_text.move_text.Goals as goal
 

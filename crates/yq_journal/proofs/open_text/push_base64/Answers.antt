@@ -1,8 +1,5 @@
-use Rattle.std.proofs.Common.{◌++◌, refl, sym, ap, arith}
-use Rattle.std.proofs.lemmas.Result.{IfOk-equal, IfOk-weaker}
-use Rattle.std.specs.String.{string_bytes}
-use Rattle.base64.specs.Engines.{standard}
-use Rattle.base64.proofs.EngineFacts.{decode_of-encode_of}
+use Rattle.std.{proofs.Common.{◌++◌, refl, sym, ap, arith}, proofs.lemmas.Result.{IfOk-equal, IfOk-weaker}, specs.String.string_bytes}
+use Rattle.base64.{specs.Engines.standard, proofs.EngineFacts.decode_of-encode_of}
 use Rattle.yq_journal.proofs.OpenTextLaws.{base64_escapes}
 use Rattle.yq_journal.proofs.open_text.push_base64.Goals as goal
 

@@ -1,7 +1,5 @@
 use Rattle.std.proofs.Common.{sym, ap, ◌∙◌}
-use Rattle.yq_journal.specs.State.{state}
-use Rattle.yq_journal.specs.Json.{is_sound_journal}
-use Rattle.yq_journal.proofs.JsonLaws.{IsSound-from_is_sound}
+use Rattle.yq_journal.{specs.State.state, specs.Json.is_sound_journal, proofs.JsonLaws.IsSound-from_is_sound}
 use Rattle.yq_journal.proofs.read.journal_with.Goals as goal
 
 pub invariant_of-result : goal.invariant_of-result

@@ -1,8 +1,6 @@
 use Rattle.std.proofs.Common.{◌≡◌, ◌++◌, ◌∷◌, [], ◌<◌, ◌+◌, length, take, sym, ap, ◌∙◌, arith, refl}
-use Rattle.std.proofs.lemmas.List.{take_all, take_more}
-use Rattle.std.proofs.lemmas.Option.{slice_get_read}
-use Rattle.yq_journal.specs.Record.{Record, join, records_joined}
-use Rattle.yq_journal.proofs.JoinLaws.{joined-push, joined_meets}
+use Rattle.std.{proofs.lemmas.List.{take_all, take_more}, proofs.lemmas.Option.slice_get_read}
+use Rattle.yq_journal.{specs.Record.{Record, join, records_joined}, proofs.JoinLaws.{joined-push, joined_meets}}
 use Rattle.yq_journal.proofs.squash.join_all.Goals as goal
 
 pub rest-preserved : goal.rest-preserved

@@ -1,7 +1,5 @@
-use Rattle.std.proofs.Common.{◌∷◌, ◌-◌, [], take, drop, sym, ap, ◌∙◌, arith, rules}
-use Rattle.std.proofs.lemmas.Result.{err_from_is_err_and}
-use Rattle.yq_journal.specs.Record.{meet}
-use Rattle.yq_journal.specs.State.{joined_of}
+use Rattle.std.{proofs.Common.{◌∷◌, ◌-◌, [], take, drop, sym, ap, ◌∙◌, arith, rules}, proofs.lemmas.Result.err_from_is_err_and}
+use Rattle.yq_journal.{specs.Record.meet, specs.State.joined_of}
 use Rattle.yq_journal.proofs.JoinLaws.{slice_run, bad_count, good_count, split_first, reports_memory}
 use Rattle.yq_journal.proofs.squash.join_last.Goals as goal
 

@@ -1,5 +1,4 @@
-use Rattle.std.proofs.Common.{◌-◌, arith}
-use Rattle.std.proofs.lemmas.Grind.{common_steps}
+use Rattle.std.{proofs.Common.{◌-◌, arith}, proofs.lemmas.Grind.common_steps}
 use Rattle.yq_journal.proofs.RunLaws.{turned}
 use Rattle.yq_journal.proofs.squash.replace_run.Goals as goal
 

@@ -1,7 +1,5 @@
-use Rattle.std.proofs.Common.{◌≡◌, ◌≤◌, ◌<◌, ◌+◌, ◌-◌, ◌^◌, length, sym, ◌∙◌, arith, refl, rules}
-use Rattle.std.proofs.lemmas.Option.{same_Some}
-use Rattle.yq_journal.specs.Turned.{flipped_if}
-use Rattle.yq_journal.proofs.StandLaws.{one_earlier, came_from}
+use Rattle.std.{proofs.Common.{◌≡◌, ◌≤◌, ◌<◌, ◌+◌, ◌-◌, ◌^◌, length, sym, ◌∙◌, arith, refl, rules}, proofs.lemmas.Option.same_Some}
+use Rattle.yq_journal.{specs.Turned.flipped_if, proofs.StandLaws.{one_earlier, came_from}}
 use Rattle.yq_journal.proofs.stands.byte_after.Goals as goal
 
 pub origin-requires : goal.origin-requires

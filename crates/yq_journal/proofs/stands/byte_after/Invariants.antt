@@ -1,5 +1,4 @@
-use Rattle.std.proofs.Common.{◌≡◌, ◌≤◌, ◌<◌, ℕ, List, Some, take, length}
-use Rattle.std.specs.Prelude.{slice_get}
+use Rattle.std.{proofs.Common.{◌≡◌, ◌≤◌, ◌<◌, ℕ, List, Some, take, length}, specs.Prelude.slice_get}
 use Rattle.yq_text.specs.Splice.{all_done}
 use Rattle.yq_journal.specs.Turned.{flipped_if}
 use Rattle.yq_journal.proofs.stands.byte_after.Given as goal

@@ -1,5 +1,4 @@
-use Rattle.std.proofs.Common.{ap₂, rules}
-use Rattle.std.proofs.lemmas.Option.{slice_get_read}
+use Rattle.std.{proofs.Common.{ap₂, rules}, proofs.lemmas.Option.slice_get_read}
 use Rattle.yq_journal.proofs.StandLaws.{flipped_at}
 use Rattle.yq_journal.proofs.stands.nth.Goals as goal
 

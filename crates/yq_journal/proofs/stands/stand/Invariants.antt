@@ -1,5 +1,4 @@
-use Rattle.std.proofs.Common.{◌≡◌, true, take}
-use Rattle.std.specs.Prelude.{is_some}
+use Rattle.std.{proofs.Common.{◌≡◌, true, take}, specs.Prelude.is_some}
 use Rattle.yq_text.specs.Splice.{all_done}
 use Rattle.yq_journal.specs.Turned.{flipped_if}
 use Rattle.yq_journal.proofs.stands.stand.Given as goal

@@ -1,5 +1,4 @@
-use Rattle.std.proofs.Common.{length, sym, ◌∙◌, arith}
-use Rattle.std.proofs.lemmas.Option.{none-some}
+use Rattle.std.{proofs.Common.{length, sym, ◌∙◌, arith}, proofs.lemmas.Option.none-some}
 use Rattle.yq_journal.proofs.StandLaws.{lengths_flip}
 use Rattle.yq_journal.proofs.stands.stand_back.Goals as goal
 

@@ -1,8 +1,6 @@
-use Rattle.std.proofs.Common.{◌≡◌, Some, ap, ◌∙◌}
-use Rattle.std.proofs.lemmas.Result.{IfOk-weaker}
+use Rattle.std.{proofs.Common.{◌≡◌, Some, ap, ◌∙◌}, proofs.lemmas.Result.IfOk-weaker}
 use Rattle.serde_json.specs.View.{view, items_view}
-use Rattle.yq_journal.specs.Json.{journal_data, journal_object, journal_of, list_data, record_data}
-use Rattle.yq_journal.specs.State.{state}
+use Rattle.yq_journal.{specs.Json.{journal_data, journal_object, journal_of, list_data, record_data}, specs.State.state}
 use Rattle.yq_journal.proofs.JsonLaws.{journal_reads}
 use Rattle.yq_journal.proofs.write.journal_value.Goals as goal
 

@@ -1,7 +1,6 @@
 use Rattle.std.proofs.Common.{arith, true}
 use Rattle.serde_json.specs.View.{view}
-use Rattle.yq_journal.specs.Json.{record_of, record_data}
-use Rattle.yq_journal.proofs.JsonLaws.{all_taken, pushed}
+use Rattle.yq_journal.{specs.Json.{record_of, record_data}, proofs.JsonLaws.{all_taken, pushed}}
 use Rattle.yq_journal.proofs.write.record_values.Goals as goal
 
 pub records-preserved : goal.records-preserved

@@ -1,7 +1,6 @@
 use Rattle.std.proofs.Common.{arith}
 use Rattle.serde_json.specs.View.{view}
-use Rattle.yq_journal.specs.Json.{splice_of, change_data}
-use Rattle.yq_journal.proofs.JsonLaws.{all_taken, pushed}
+use Rattle.yq_journal.{specs.Json.{splice_of, change_data}, proofs.JsonLaws.{all_taken, pushed}}
 use Rattle.yq_journal.proofs.write.splice_values.Goals as goal
 
 pub splices-preserved : goal.splices-preserved

@@ -1,5 +1,4 @@
-use Rattle.std.proofs.Common.{◌+◌, [], ◌∷◌, length, sym, ◌∙◌, subst}
-use Rattle.std.specs.Str.{IsUtf8}
+use Rattle.std.{proofs.Common.{◌+◌, [], ◌∷◌, length, sym, ◌∙◌, subst}, specs.Str.IsUtf8}
 use Rattle.yq_places.specs.RemovalReading.{removal_view}
 use Rattle.yq_operation.proofs.RowsGoneLaws.{lines_go, no_seam, some_bytes}
 use Rattle.yq_operation.proofs.rows_gone.lines_gone.Goals as goal

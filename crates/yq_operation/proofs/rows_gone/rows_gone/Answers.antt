@@ -1,10 +1,7 @@
-use Rattle.std.proofs.Common.{List, option_map, IfOk, sym, ap, ◌∙◌, subst}
-use Rattle.std.specs.Prelude.{IfSome}
-use Rattle.yq_documents.specs.Located.{steps_of}
-use Rattle.yq_documents.specs.Reading.{cut_of}
+use Rattle.std.{proofs.Common.{List, option_map, IfOk, sym, ap, ◌∙◌, subst}, specs.Prelude.IfSome}
+use Rattle.yq_documents.{specs.Located.steps_of, specs.Reading.cut_of}
 use Rattle.yq_places.specs.RemovalReading.{removal_view}
-use Rattle.yq_text.specs.Changing.{IsChange}
-use Rattle.yq_text.specs.Script.{Segment}
+use Rattle.yq_text.{specs.Changing.IsChange, specs.Script.Segment}
 use Rattle.yq_operation.proofs.RowsGoneLaws.{is_small, rows_are}
 use Rattle.yq_operation.proofs.rows_gone.rows_gone.Goals as goal
 

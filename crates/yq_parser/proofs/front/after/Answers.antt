@@ -1,5 +1,4 @@
-use Rattle.yq_parser.specs.TokenView.{token_view}
-use Rattle.yq_parser.proofs.Fronts.{after_front, after_other, after_end}
+use Rattle.yq_parser.{specs.TokenView.token_view, proofs.Fronts.{after_front, after_other, after_end}}
 use Rattle.yq_parser.proofs.front.after.Goals as goal
 
 pub returns-then-is_symbol-clause-value : goal.returns-then-is_symbol-clause-value

@@ -1,8 +1,6 @@
 use Rattle.std.proofs.Common.{ℕ, List, Option, is_some, ap, ◌∙◌}
 use Rattle.yq_semantics.specs.Tokens.{Token}
-use Rattle.yq_parser.specs.Lexing.{as_step}
-use Rattle.yq_parser.specs.TokenView.{token_view}
-use Rattle.yq_parser.proofs.Fronts.{is_taken, taken_end}
+use Rattle.yq_parser.{specs.Lexing.as_step, specs.TokenView.token_view, proofs.Fronts.{is_taken, taken_end}}
 use Rattle.yq_parser.proofs.front.begins_step.Goals as goal
 
 pub returns-in-Some : goal.returns-in-Some

@@ -1,7 +1,5 @@
 use Rattle.std.proofs.Common.{Some, None}
-use Rattle.yq_parser.specs.Lexing.{as_number}
-use Rattle.yq_parser.specs.TokenView.{token_view}
-use Rattle.yq_parser.proofs.Fronts.{taken_front, taken_end}
+use Rattle.yq_parser.{specs.Lexing.as_number, specs.TokenView.token_view, proofs.Fronts.{taken_front, taken_end}}
 use Rattle.yq_parser.proofs.front.number.Goals as goal
 
 pub returns-in-Some-number-clause-value : goal.returns-in-Some-number-clause-value

@@ -1,7 +1,5 @@
 use Rattle.std.proofs.Common.{Some, None, option_map, sym, ap, ◌∙◌, string_bytes}
-use Rattle.yq_parser.specs.Lexing.{as_string}
-use Rattle.yq_parser.specs.TokenView.{token_view}
-use Rattle.yq_parser.proofs.Fronts.{taken_front, taken_end}
+use Rattle.yq_parser.{specs.Lexing.as_string, specs.TokenView.token_view, proofs.Fronts.{taken_front, taken_end}}
 use Rattle.yq_parser.proofs.front.string.Goals as goal
 
 pub returns-in-Some-2-clause-value : goal.returns-in-Some-2-clause-value

@@ -1,6 +1,5 @@
 use Rattle.std.proofs.Common.{sym, refl, ◌∙◌}
-use Rattle.yq_parser.proofs.ReadSteps.{bind_gives, bind_none, test_holds, test_fails}
-use Rattle.yq_parser.specs.Parse.{updates_at}
+use Rattle.yq_parser.{proofs.ReadSteps.{bind_gives, bind_none, test_holds, test_fails}, specs.Parse.updates_at}
 use Rattle.yq_parser.proofs.parse.updates.Goals as goal
 
 pub returns-then-is_end : goal.returns-then-is_end

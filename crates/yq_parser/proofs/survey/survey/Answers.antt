@@ -1,7 +1,5 @@
 use Rattle.std.proofs.Common.{◌≡◌, true, false, ◌||◌, length, refl, sym, ◌∙◌, rules}
-use Rattle.yq_parser.specs.Parse.{is_foreign_token}
-use Rattle.yq_parser.specs.TokenView.{token_view}
-use Rattle.yq_parser.proofs.Surveys.{survey_turn, survey_stops, counted_within}
+use Rattle.yq_parser.{specs.Parse.is_foreign_token, specs.TokenView.token_view, proofs.Surveys.{survey_turn, survey_stops, counted_within}}
 use Rattle.yq_parser.proofs.survey.survey.Goals.{then-other, else-other}
 use Rattle.yq_parser.proofs.survey.survey.Goals as goal
 

@@ -1,8 +1,7 @@
 use Rattle.std.proofs.Common.{◌≡◌, ◌+◌, ◌≤◌, length, false}
 use denote.Text.{Utf8}
 use denote.Shadow.{shadow}
-use Rattle.yq_parser.specs.Lexing.{tokens}
-use Rattle.yq_parser.specs.Parse.{surveyed}
+use Rattle.yq_parser.{specs.Lexing.tokens, specs.Parse.surveyed}
 use Rattle.yq_parser.proofs.survey.survey.Given as goal
 
 abbrev pub invariant-tokens : goal.invariant-tokens

@@ -1,5 +1,4 @@
-use Rattle.std.proofs.Common.{ap, ◌∙◌}
-use Rattle.std.specs.List.{prefix_len}
+use Rattle.std.{proofs.Common.{ap, ◌∙◌}, specs.List.prefix_len}
 use Rattle.yq_semantics.specs.Tokens.{is_token_blank}
 use Rattle.yq_parser.proofs.Lexing.{boundary_blank}
 use Rattle.yq_parser.proofs.token.past_blank.Goals as goal

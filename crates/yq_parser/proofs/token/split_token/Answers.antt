@@ -1,6 +1,5 @@
 use Rattle.std.proofs.Common.{◌≡◌, Some, sym, ap, ◌∙◌, arith}
-use Rattle.yq_parser.specs.Lexing.{token_measure}
-use Rattle.yq_parser.proofs.Lexing.{boundary_token, token_some}
+use Rattle.yq_parser.{specs.Lexing.token_measure, proofs.Lexing.{boundary_token, token_some}}
 use Rattle.yq_parser.proofs.token.split_token.Goals as goal
 
 pub split_at-requires : goal.split_at-requires

@@ -1,7 +1,6 @@
 use Rattle.std.proofs.Common.{◌≡◌, drop, ◌+◌, ◌*◌}
-use Rattle.yq_core.specs.View.{inline_view, items_end, entries_end}
+use Rattle.yq_core.{specs.View.{inline_view, items_end, entries_end}, specs.Spans.PartsHaveSpans}
 use Rattle.yq_documents.specs.KeyReading.{parts_fit}
-use Rattle.yq_core.specs.Spans.{PartsHaveSpans}
 use Rattle.yq_outline.proofs.SizeLaws.{node_size, parts_size}
 use Rattle.yq_row_heads.proofs.flow_keys.+fits.Given as goal
 

@@ -1,13 +1,9 @@
-use Rattle.std.proofs.Common.{◌≡◌, Option, Some, w64, subst, sym, ap, ◌∙◌}
-use Rattle.std.proofs.lemmas.Int.{to_z-of_z}
-use Rattle.std.specs.Prelude.{IfOk}
-use Rattle.yq_core.specs.Tree.{Node}
-use Rattle.yq_core.specs.Places.{Placed}
-use Rattle.yq_core.specs.Answers.{Gives}
-use Rattle.yq_core.specs.Scalars.{is_quoted}
+use Rattle.std.{proofs.Common.{◌≡◌, Option, Some, w64, subst, sym, ap, ◌∙◌}, proofs.lemmas.Int.to_z-of_z, specs.Prelude.IfOk}
+use Rattle.yq_core.{specs.Tree.Node, specs.Places.Placed, specs.Answers.Gives, specs.Scalars.is_quoted}
 use Rattle.yq_outline.specs.View.{head_flow, head_view}
 use Rattle.yq_documents.specs.RowReading.{is_block_head}
-use Rattle.yq_row_heads.proofs.HeadCases.{same_empty, block_head, block_flow, quoted_head, quoted_flow, plain_head, plain_flow, node_head, node_flow}
+use Rattle.yq_row_heads.proofs.HeadCases.{same_empty, block_head, block_flow, quoted_head, quoted_flow, plain_head, plain_flow, node_head}
+use Rattle.yq_row_heads.proofs.HeadCases.{node_flow}
 use Rattle.yq_row_heads.proofs.head.read_head.Goals as goal
 
 pub returns-then-is_block_head-clause-view : goal.returns-then-is_block_head-clause-view

@@ -1,11 +1,8 @@
-use Rattle.std.proofs.Common.{◌≡◌, rules, List, ℕ, true, sym, ◌∙◌, subst, SFits, w64}
-use Rattle.std.proofs.lemmas.Int.{to_z-of_z}
+use Rattle.std.{proofs.Common.{◌≡◌, rules, List, ℕ, true, sym, ◌∙◌, subst, SFits, w64}, proofs.lemmas.Int.to_z-of_z}
 use Rattle.std.proofs.lemmas.Option.{same_Some}
-use Rattle.yq_core.specs.Scalars.{is_quoted}
+use Rattle.yq_core.{specs.Scalars.is_quoted, specs.Quoted.IsQuotedText}
 use Rattle.yq_row_table.specs.View.{row_view}
-use Rattle.yq_core.specs.Quoted.{IsQuotedText}
-use Rattle.yq_documents.proofs.RowFlowLaws.{flow_again}
-use Rattle.yq_documents.proofs.RowLineLaws.{quoted_again, head_again}
+use Rattle.yq_documents.{proofs.RowFlowLaws.flow_again, proofs.RowLineLaws.{quoted_again, head_again}}
 use Rattle.yq_row_heads.proofs.head.row_head.Goals as goal
 
 pub read_head-requires-clause-quoted : goal.read_head-requires-clause-quoted

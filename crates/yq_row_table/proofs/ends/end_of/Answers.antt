@@ -1,6 +1,6 @@
 use Rattle.std.proofs.Common.{ℕ, length, sym, refl, subst}
-use Rattle.yq_row_table.specs.Ends as spec
 use Rattle.yq_row_table.proofs.EndPlaceLaws.{end_stands, start_is, end_lengths}
+use Rattle.yq_row_table.specs.Ends as spec
 use Rattle.yq_row_table.proofs.ends.end_of.Goals as goal
 
 pub returns-clause-stands : goal.returns-clause-stands

@@ -1,5 +1,4 @@
-use Rattle.std.proofs.Common.{arith, eqb}
-use Rattle.std.proofs.lemmas.List.Sums.{count_by-le-length}
+use Rattle.std.{proofs.Common.{arith, eqb}, proofs.lemmas.List.Sums.count_by-le-length}
 use Rattle.yq_row_walk.proofs.extent.before_last.Goals as goal
 
 pub returns-then-dashes-le1 : goal.returns-then-dashes-le1

@@ -1,6 +1,5 @@
 use Rattle.std.proofs.Common.{◌-◌, ap, ◌∙◌}
-use Rattle.yq_outline.specs.Extents.{dash_count}
-use Rattle.yq_outline.proofs.RowLaws.{none_before, before_colon, before_last}
+use Rattle.yq_outline.{specs.Extents.dash_count, proofs.RowLaws.{none_before, before_colon, before_last}}
 use Rattle.yq_row_walk.proofs.extent.lines_before_mark.Goals as goal
 
 pub returns-then-not-has_dashes : goal.returns-then-not-has_dashes

@@ -1,6 +1,5 @@
 use Rattle.std.proofs.Common.{◌≤◌}
-use Rattle.yq_outline.specs.RowWalk.{IsKnown}
-use Rattle.yq_outline.proofs.KnownLaws.{moved_to}
+use Rattle.yq_outline.{specs.RowWalk.IsKnown, proofs.KnownLaws.moved_to}
 use Rattle.yq_row_walk.proofs.known_count.known_back.Given as goal
 
 abbrev pub decreases-rows : goal.decreases-rows

@@ -1,6 +1,5 @@
 use Rattle.std.proofs.Common.{rules, arith}
-use Rattle.yq_outline.proofs.KnownWalks.{goes_on, known_line}
-use Rattle.yq_outline.proofs.WalkPositions.{line_position}
+use Rattle.yq_outline.{proofs.KnownWalks.{goes_on, known_line}, proofs.WalkPositions.line_position}
 use Rattle.yq_row_walk.proofs.known_item.walk_begin.Goals as goal
 
 pub returns-clause-found : goal.returns-clause-found

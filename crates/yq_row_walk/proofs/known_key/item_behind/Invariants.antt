@@ -1,5 +1,4 @@
-use Rattle.yq_outline.specs.RowWalk.{IsKnown}
-use Rattle.yq_outline.proofs.KnownLaws.{moved_to}
+use Rattle.yq_outline.{specs.RowWalk.IsKnown, proofs.KnownLaws.moved_to}
 use Rattle.yq_row_walk.proofs.known_key.item_behind.Given as goal
 
 -- so many items are passed before this row

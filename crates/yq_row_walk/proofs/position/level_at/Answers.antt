@@ -1,6 +1,5 @@
 use Rattle.std.proofs.Common.{ap, sym, ◌∙◌}
-use Rattle.yq_outline.specs.RowWalk.{line_level}
-use Rattle.yq_outline.proofs.FirstLevels.{view_level}
+use Rattle.yq_outline.{specs.RowWalk.line_level, proofs.FirstLevels.view_level}
 use Rattle.yq_row_walk.proofs.position.level_at.Goals as goal
 
 pub returns-then-position-eq0 : goal.returns-then-position-eq0

@@ -1,6 +1,5 @@
 use Rattle.std.proofs.Common.{length, ap, ◌∙◌, arith, rules}
-use Rattle.yq_outline.proofs.FirstLevels.{level_most, bare_level_at, dashed_level}
-use Rattle.yq_outline.proofs.LengthLaws.{row_fits, view_small}
+use Rattle.yq_outline.{proofs.FirstLevels.{level_most, bare_level_at, dashed_level}, proofs.LengthLaws.{row_fits, view_small}}
 use Rattle.yq_outline.proofs.WalkPositions.{has_row}
 use Rattle.yq_row_walk.proofs.position.level_within.Goals as goal
 

@@ -1,7 +1,5 @@
 use Rattle.std.proofs.Common.{rules, sym, ap, ◌∙◌}
-use Rattle.yq_outline.specs.RowWalk.{line_rank}
-use Rattle.yq_outline.proofs.FirstLevels.{first_rank}
-use Rattle.yq_outline.proofs.WalkLevels.{rank_of_level}
+use Rattle.yq_outline.{specs.RowWalk.line_rank, proofs.FirstLevels.first_rank, proofs.WalkLevels.rank_of_level}
 use Rattle.yq_row_walk.proofs.position.rank_at.Goals as goal
 
 pub returns-then-position-eq0 : goal.returns-then-position-eq0

@@ -1,6 +1,5 @@
 use Rattle.std.proofs.Common.{sym, ◌∙◌, arith}
-use Rattle.yq_outline.proofs.WalkRows.{under_more, under_stop}
-use Rattle.yq_outline.proofs.WalkPositions.{has_row}
+use Rattle.yq_outline.{proofs.WalkRows.{under_more, under_stop}, proofs.WalkPositions.has_row}
 use Rattle.yq_row_walk.proofs.position.rows_under.Goals as goal
 
 pub returns-then-level_at-level-clause-value : goal.returns-then-level_at-level-clause-value

@@ -1,12 +1,8 @@
 use Rattle.std.proofs.Common.{refl, sym, ap, ◌∙◌}
 use Rattle.yq_core.specs.Paths.{Nth}
-use Rattle.yq_outline.specs.Ends.{part}
-use Rattle.yq_outline.specs.Places.{find_row}
-use Rattle.yq_outline.specs.Positions.{position}
-use Rattle.yq_outline.specs.Lines.{lines_of_rows}
+use Rattle.yq_outline.{specs.Ends.part, specs.Places.find_row, specs.Positions.position, specs.Lines.lines_of_rows}
 use Rattle.yq_outline.proofs.PositionLaws.{position_here, position_passed, position_end, here_item, further_item}
-use Rattle.yq_outline.specs.RowWalk.{line_number}
-use Rattle.yq_outline.proofs.WalkPositions.{located, position_line}
+use Rattle.yq_outline.{specs.RowWalk.line_number, proofs.WalkPositions.{located, position_line}}
 use Rattle.yq_row_walk.proofs.position_find.find_item.Goals as goal
 
 pub lines-init : goal.lines-init

@@ -1,9 +1,7 @@
 use Rattle.std.proofs.Common.{refl, sym, ◌∙◌}
 use Rattle.yq_core.specs.Paths.{To}
-use Rattle.yq_outline.specs.Lines.{lines_of_rows}
-use Rattle.yq_outline.proofs.PositionLaws.{position_here, position_passed, position_end}
-use Rattle.yq_outline.specs.RowWalk.{line_number}
-use Rattle.yq_outline.proofs.WalkPositions.{located, position_line}
+use Rattle.yq_outline.{specs.Lines.lines_of_rows, proofs.PositionLaws.{position_here, position_passed, position_end}}
+use Rattle.yq_outline.{specs.RowWalk.line_number, proofs.WalkPositions.{located, position_line}}
 use Rattle.yq_row_walk.proofs.position_find.find_key.Goals as goal
 
 pub lines-init : goal.lines-init

@@ -1,9 +1,6 @@
 use Rattle.std.proofs.Common.{◌≡◌, ◌-◌}
 use Rattle.yq_core.specs.Paths.{To}
-use Rattle.yq_outline.specs.Ends.{part}
-use Rattle.yq_outline.specs.Places.{find_row}
-use Rattle.yq_outline.specs.Positions.{position}
-use Rattle.yq_outline.specs.Lines.{lines_of_rows}
+use Rattle.yq_outline.{specs.Ends.part, specs.Places.find_row, specs.Positions.position, specs.Lines.lines_of_rows}
 use Rattle.yq_outline.specs.RowWalk.{HasDocument, IsPosition, line_number}
 use Rattle.yq_row_walk.proofs.position_find.find_key.Given as goal
 

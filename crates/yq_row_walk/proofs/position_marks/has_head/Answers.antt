@@ -1,8 +1,6 @@
-use Rattle.std.proofs.Common.{true, false, eqb, sym, ap, ◌∙◌}
-use Rattle.std.proofs.lemmas.Bool.{eq-eqb, ne_eqb}
+use Rattle.std.{proofs.Common.{true, false, eqb, sym, ap, ◌∙◌}, proofs.lemmas.Bool.{eq-eqb, ne_eqb}}
 use Rattle.yq_row_table.specs.View.{slices}
-use Rattle.yq_outline.proofs.WalkMarks.{head_agrees}
-use Rattle.yq_outline.proofs.WalkPositions.{located}
+use Rattle.yq_outline.{proofs.WalkMarks.head_agrees, proofs.WalkPositions.located}
 use Rattle.yq_row_walk.proofs.position_marks.has_head.Goals as goal
 
 pub returns-then-position-lines_before_mark : goal.returns-then-position-lines_before_mark

@@ -1,5 +1,4 @@
-use Rattle.std.proofs.Common.{rules}
-use Rattle.std.proofs.lemmas.Bool.{eq-eqb}
+use Rattle.std.{proofs.Common.rules, proofs.lemmas.Bool.eq-eqb}
 use Rattle.yq_outline.proofs.WalkMarks.{item_agrees}
 use Rattle.yq_row_walk.proofs.position_marks.is_item_at.Goals as goal
 

@@ -1,9 +1,7 @@
 use Rattle.std.proofs.Common.{refl, sym, ap, ◌∙◌}
-use Rattle.yq_outline.specs.Lines.{lines_of_rows}
-use Rattle.yq_outline.specs.Positions as positions
-use Rattle.yq_outline.proofs.EndsLaws.{deeper_line, not_end, part_row}
-use Rattle.yq_outline.specs.RowWalk.{line_number}
+use Rattle.yq_outline.{specs.Lines.lines_of_rows, proofs.EndsLaws.{deeper_line, not_end, part_row}, specs.RowWalk.line_number}
 use Rattle.yq_outline.proofs.WalkPositions.{located, position_line}
+use Rattle.yq_outline.specs.Positions as positions
 use Rattle.yq_row_walk.proofs.position_reach.begins_with_node.Goals as goal
 
 pub returns-clause-test : goal.returns-clause-test

@@ -1,9 +1,6 @@
-use Rattle.std.proofs.Common.{map, rules}
-use Rattle.std.proofs.lemmas.List.{length-map}
+use Rattle.std.{proofs.Common.{map, rules}, proofs.lemmas.List.length-map}
 use Rattle.yq_core.specs.Entries.{tree_step}
-use Rattle.yq_outline.specs.Lines.{lines_of_rows}
-use Rattle.yq_outline.proofs.PathLines.{last_line, no_last_line}
-use Rattle.yq_outline.proofs.WalkPositions.{no_line}
+use Rattle.yq_outline.{specs.Lines.lines_of_rows, proofs.PathLines.{last_line, no_last_line}, proofs.WalkPositions.no_line}
 use Rattle.yq_row_walk.proofs.position_reach.line_at.Goals as goal
 
 pub returns-then-is_empty-clause-found : goal.returns-then-is_empty-clause-found

@@ -1,10 +1,7 @@
 use Rattle.std.proofs.Common.{◌∷◌, option_map, ap, ◌∙◌, rules}
 use Rattle.yq_core.specs.Entries.{tree_step}
-use Rattle.yq_outline.specs.Lines.{lines_of_rows}
-use Rattle.yq_outline.specs.Positions.{reach_in, reach_from}
-use Rattle.yq_outline.specs.RowWalk.{line_number}
-use Rattle.yq_outline.proofs.EntryKeys.{root_keys}
-use Rattle.yq_outline.proofs.WalkPositions.{first_number}
+use Rattle.yq_outline.{specs.Lines.lines_of_rows, specs.Positions.{reach_in, reach_from}, specs.RowWalk.line_number}
+use Rattle.yq_outline.{proofs.EntryKeys.root_keys, proofs.WalkPositions.first_number}
 use Rattle.yq_row_walk.proofs.position_reach.next_at.Goals as goal
 
 pub next_in-requires-clause-keys : goal.next_in-requires-clause-keys

@@ -1,16 +1,8 @@
-use Rattle.std.proofs.Common.{◌≡◌, ap, sym, ◌∙◌, rules}
-use Rattle.std.specs.Prelude.{option_and_then}
-use Rattle.yq_core.specs.Entries.{tree_step}
-use Rattle.yq_core.specs.Inline.{depth_limit}
-use Rattle.yq_core.specs.Keys.{are_distinct, keys_of}
-use Rattle.yq_outline.specs.Lines.{lines_of_rows}
-use Rattle.yq_outline.specs.Ends.{part}
-use Rattle.yq_outline.specs.Outline.{children, level}
-use Rattle.yq_outline.specs.Positions.{reach_under}
+use Rattle.std.{proofs.Common.{◌≡◌, ap, sym, ◌∙◌, rules}, specs.Prelude.option_and_then}
+use Rattle.yq_core.{specs.Entries.tree_step, specs.Inline.depth_limit, specs.Keys.{are_distinct, keys_of}}
+use Rattle.yq_outline.{specs.Lines.lines_of_rows, specs.Ends.part, specs.Outline.{children, level}, specs.Positions.reach_under}
+use Rattle.yq_outline.{specs.RowWalk.line_number, proofs.EntryKeys.line_keys, proofs.WalkPositions.{located, head_here, head_none}}
 use Rattle.yq_row_table.specs.View.{slices}
-use Rattle.yq_outline.specs.RowWalk.{line_number}
-use Rattle.yq_outline.proofs.EntryKeys.{line_keys}
-use Rattle.yq_outline.proofs.WalkPositions.{located, head_here, head_none}
 use Rattle.yq_row_walk.proofs.position_reach.next_from.Goals as goal
 
 pub returns-then-has_head-clause-found : goal.returns-then-has_head-clause-found

@@ -1,10 +1,6 @@
-use Rattle.std.proofs.Common.{Some, sym}
-use Rattle.std.proofs.lemmas.Option.{slice_get_within}
+use Rattle.std.{proofs.Common.{Some, sym}, proofs.lemmas.Option.slice_get_within}
 use Rattle.yq_core.specs.Entries.{tree_step}
-use Rattle.yq_outline.specs.Lines.{lines_of_rows}
-use Rattle.yq_outline.proofs.PathLines.{step_line}
-use Rattle.yq_outline.specs.RowWalk.{line_number}
-use Rattle.yq_outline.proofs.WalkPositions.{located}
+use Rattle.yq_outline.{specs.Lines.lines_of_rows, proofs.PathLines.step_line, specs.RowWalk.line_number, proofs.WalkPositions.located}
 use Rattle.yq_row_walk.proofs.position_reach.next_in.Goals as goal
 
 pub returns-clause-found : goal.returns-clause-found

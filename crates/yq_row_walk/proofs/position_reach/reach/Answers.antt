@@ -1,8 +1,6 @@
-use Rattle.std.proofs.Common.{arith, map}
-use Rattle.std.proofs.lemmas.Grind.{common_steps}
+use Rattle.std.{proofs.Common.{arith, map}, proofs.lemmas.Grind.common_steps}
 use Rattle.yq_core.specs.Entries.{tree_step}
-use Rattle.yq_outline.specs.Lines.{lines_of_rows}
-use Rattle.yq_outline.proofs.PathLines.{from_root}
+use Rattle.yq_outline.{specs.Lines.lines_of_rows, proofs.PathLines.from_root}
 use Rattle.yq_row_walk.proofs.position_reach.reach.Goals as goal
 
 pub steps-init : goal.steps-init

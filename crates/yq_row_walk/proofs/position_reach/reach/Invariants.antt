@@ -1,9 +1,6 @@
-use Rattle.std.proofs.Common.{◌≡◌, length, map, option_map}
-use Rattle.std.specs.Prelude.{IfSome}
+use Rattle.std.{proofs.Common.{◌≡◌, length, map, option_map}, specs.Prelude.IfSome}
 use Rattle.yq_core.specs.Entries.{tree_step}
-use Rattle.yq_outline.specs.Ends.{reached}
-use Rattle.yq_outline.specs.Positions.{reach_from}
-use Rattle.yq_outline.specs.Lines.{lines_of_rows}
+use Rattle.yq_outline.{specs.Ends.reached, specs.Positions.reach_from, specs.Lines.lines_of_rows}
 use Rattle.yq_outline.specs.RowWalk.{HasDocument, IsLine, line_number}
 use Rattle.yq_row_walk.proofs.position_reach.reach.Given as goal
 

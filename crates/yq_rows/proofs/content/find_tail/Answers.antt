@@ -1,6 +1,5 @@
 use Rattle.std.proofs.Common.{arith, ap, sym, ◌∙◌}
-use Rattle.yq_core.specs.Nodes.{begins_with}
-use Rattle.yq_core.proofs.Bounds.{boundary_first}
+use Rattle.yq_core.{specs.Nodes.begins_with, proofs.Bounds.boundary_first}
 use Rattle.yq_row_table.proofs.WordFronts.{feed_tail}
 use Rattle.yq_rows.proofs.content.find_tail.Goals as goal
 

@@ -1,8 +1,7 @@
-use Rattle.std.proofs.Common.{arith, rules, w64}
-use Rattle.std.proofs.lemmas.Int.{to_z-of_z}
-use Rattle.std.proofs.lemmas.Str.{IsCharBoundary-start}
+use Rattle.std.{proofs.Common.{arith, rules, w64}, proofs.lemmas.Int.to_z-of_z, proofs.lemmas.Str.IsCharBoundary-start}
 use Rattle.yq_core.proofs.BlockFound.{block_of_text}
-use Rattle.yq_row_table.proofs.BlockSlicing.{anchor_missing, block_read, head_boundary, tail_boundary, raw_boundary, block_some, block_refused}
+use Rattle.yq_row_table.proofs.BlockSlicing.{anchor_missing, block_read, head_boundary, tail_boundary, raw_boundary, block_some}
+use Rattle.yq_row_table.proofs.BlockSlicing.{block_refused}
 use Rattle.yq_rows.proofs.content.read_block_content.Goals as goal
 
 pub returns-then-anchor-eq1-clause-read : goal.returns-then-anchor-eq1-clause-read

@@ -1,15 +1,9 @@
-use Rattle.std.proofs.Common.{Some, None, false, sym, ap, ◌∙◌, subst, w64}
-use Rattle.std.proofs.lemmas.Int.{to_z-of_z}
-use Rattle.yq_core.specs.Answers.{Gives}
-use Rattle.yq_core.specs.Text.{front}
-use Rattle.yq_core.specs.Scalars.{begins_scalar}
-use Rattle.yq_row_table.specs.Slicing.{begins_other}
-use Rattle.yq_rows.specs.ReadPieces.{filling_view}
-use Rattle.yq_row_table.specs.Reading.{is_alphanumeric}
-use Rattle.yq_row_table.proofs.MarkAgain.{scalar_node}
-use Rattle.yq_row_table.proofs.ScalarSlicing.{other_node, no_node}
-use Rattle.yq_row_table.proofs.RowSlicing.{content_block, content_inline, content_nothing}
+use Rattle.std.{proofs.Common.{Some, None, false, sym, ap, ◌∙◌, subst, w64}, proofs.lemmas.Int.to_z-of_z}
+use Rattle.yq_core.{specs.Answers.Gives, specs.Text.front, specs.Scalars.begins_scalar}
+use Rattle.yq_row_table.{specs.Slicing.begins_other, specs.Reading.is_alphanumeric, proofs.MarkAgain.scalar_node}
+use Rattle.yq_row_table.{proofs.ScalarSlicing.{other_node, no_node}, proofs.RowSlicing.{content_block, content_inline, content_nothing}}
 use Rattle.yq_row_table.proofs.WordFronts.{word_scalar, word_other, word_block}
+use Rattle.yq_rows.specs.ReadPieces.{filling_view}
 use Rattle.yq_rows.proofs.content.read_content.Goals as goal
 
 pub read_scalar_content-requires : goal.read_scalar_content-requires

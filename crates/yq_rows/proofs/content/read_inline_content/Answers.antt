@@ -1,11 +1,9 @@
-use Rattle.std.proofs.Common.{◌≡◌, Some, List, ℕ, Bool, rules, sym, ap, ◌∙◌, not, ◌&&◌, w64}
-use Rattle.std.proofs.lemmas.Int.{to_z-of_z}
-use Rattle.yq_core.specs.Piece.{deeper}
-use Rattle.yq_core.specs.Text.{is_empty}
+use Rattle.std.{proofs.Common.{◌≡◌, Some, List, ℕ, Bool, rules, sym, ap, ◌∙◌, not, ◌&&◌, w64}, proofs.lemmas.Int.to_z-of_z}
+use Rattle.yq_core.{specs.Piece.deeper, specs.Text.is_empty}
 use Rattle.yq_row_table.proofs.InlineSlicing.{lead_here, head_within, head_boundary, inline_some, inline_no_tail}
 use Rattle.yq_rows.proofs.MeasuredSlicing.{known, none_known}
-use Rattle.yq_rows.proofs.content.read_inline_content.Goals as goal
 use Rattle.yq_rows.proofs.content.read_inline_content.Goals.{in-Some-no_further_line, in-None-no_further_line}
+use Rattle.yq_rows.proofs.content.read_inline_content.Goals as goal
 
 pub returns-in-Err-clause-read : goal.returns-in-Err-clause-read
 returns-in-Err-clause-read c =

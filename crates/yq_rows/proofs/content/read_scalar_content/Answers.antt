@@ -1,7 +1,5 @@
-use Rattle.std.proofs.Common.{◌≡◌, Some, w64, sym, ap, ◌∙◌, not}
-use Rattle.std.proofs.lemmas.Int.{to_z-of_z}
-use Rattle.yq_core.specs.Piece.{deeper}
-use Rattle.yq_core.specs.Scalars.{is_quoted}
+use Rattle.std.{proofs.Common.{◌≡◌, Some, w64, sym, ap, ◌∙◌, not}, proofs.lemmas.Int.to_z-of_z}
+use Rattle.yq_core.{specs.Piece.deeper, specs.Scalars.is_quoted}
 use Rattle.yq_row_table.proofs.ScalarSlicing.{scalar_none, scalar_no_tail, scalar_some}
 use Rattle.yq_rows.proofs.content.read_scalar_content.Goals as goal
 

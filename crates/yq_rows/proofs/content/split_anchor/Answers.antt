@@ -1,5 +1,4 @@
-use Rattle.std.proofs.Common.{◌≡◌, ap, ◌∙◌, arith}
-use Rattle.std.specs.List.{prefix_len}
+use Rattle.std.{proofs.Common.{◌≡◌, ap, ◌∙◌, arith}, specs.List.prefix_len}
 use Rattle.yq_core.specs.Nodes.{in_name}
 use Rattle.yq_row_table.proofs.InlineSlicing.{anchor_some, anchor_within, anchor_boundary}
 use Rattle.yq_rows.proofs.content.split_anchor.Goals as goal

@@ -1,11 +1,8 @@
-use Rattle.std.proofs.Common.{◌+◌, ◌-◌, ◌<◌, ◌^◌, List, ◌++◌, map, take, refl, ap, sym, subst, ◌∙◌, arith}
-use Rattle.std.specs.List.{All}
+use Rattle.std.{proofs.Common.{◌+◌, ◌-◌, ◌<◌, ◌^◌, List, ◌++◌, map, take, refl, ap, sym, subst, ◌∙◌, arith}, specs.List.All}
 use Rattle.yq_row_table.specs.Kept.{raised, placed_rows}
-use Rattle.yq_row_table.specs.declared.offsets.Offsets as declared
-use Rattle.yq_rows.specs.Exchanging.{IsMovable, joined_ends}
-use Rattle.yq_rows.specs.Sides.{origin}
-use Rattle.yq_rows.specs.declared.sides.Side.{Side}
+use Rattle.yq_rows.{specs.Exchanging.{IsMovable, joined_ends}, specs.Sides.origin, specs.declared.sides.Side.Side}
 use Rattle.yq_rows.proofs.ExchangeLaws.{ends_behind, ends_movable, exchanged, numbers, rows_movable}
+use Rattle.yq_row_table.specs.declared.offsets.Offsets as declared
 use Rattle.yq_rows.proofs.exchanging.exchange.Goals as goal
 
 pub overflow_sub-kept : goal.overflow_sub-kept

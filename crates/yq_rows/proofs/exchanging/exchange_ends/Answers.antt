@@ -1,8 +1,6 @@
 use Rattle.std.proofs.Common.{◌≡◌, ◌+◌, ◌<◌, ap, arith, drop, get_or, length, length-drop, slice_set, subst, sym, ◌∙◌, rules}
-use Rattle.std.proofs.lemmas.List.{get_or-drop}
-use Rattle.std.proofs.lemmas.List.Elements.{All-get_or}
-use Rattle.yq_rows.specs.Exchanging.{IsMovable}
-use Rattle.yq_rows.proofs.ExchangeLaws.{moved_last}
+use Rattle.std.{proofs.lemmas.List.get_or-drop, proofs.lemmas.List.Elements.All-get_or}
+use Rattle.yq_rows.{specs.Exchanging.IsMovable, proofs.ExchangeLaws.moved_last}
 use Rattle.yq_rows.proofs.exchanging.exchange_ends.Goals as goal
 
 pub moved_end-requires : goal.moved_end-requires

@@ -1,7 +1,5 @@
-use Rattle.std.proofs.Common.{sym, subst}
-use Rattle.std.specs.List.{All}
-use Rattle.yq_rows.specs.Exchanging.{IsMovable}
-use Rattle.yq_rows.proofs.ExchangeLaws.{ends_left, ends_pushed}
+use Rattle.std.{proofs.Common.{sym, subst}, specs.List.All}
+use Rattle.yq_rows.{specs.Exchanging.IsMovable, proofs.ExchangeLaws.{ends_left, ends_pushed}}
 use Rattle.yq_rows.proofs.exchanging.join_ends.Goals as goal
 
 pub returns : goal.returns

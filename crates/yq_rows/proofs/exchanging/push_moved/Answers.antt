@@ -1,8 +1,6 @@
-use Rattle.std.proofs.Common.{List, ◌++◌, map, ap, ◌∙◌}
-use Rattle.std.proofs.lemmas.List.{take_all}
+use Rattle.std.{proofs.Common.{List, ◌++◌, map, ap, ◌∙◌}, proofs.lemmas.List.take_all}
 use Rattle.yq_row_table.specs.declared.ends.EndPlace.{EndPlace}
-use Rattle.yq_rows.specs.Exchanging.{moved_from}
-use Rattle.yq_rows.proofs.ExchangeLaws.{end_more}
+use Rattle.yq_rows.{specs.Exchanging.moved_from, proofs.ExchangeLaws.end_more}
 use Rattle.yq_rows.proofs.exchanging.push_moved.Goals as goal
 
 pub ends-preserved : goal.ends-preserved

@@ -1,7 +1,7 @@
 use Rattle.std.proofs.Common.{◌≡◌, ◌+◌, ◌++◌, ◌∷◌, [], List, map, take, is_ok, true, vec_len, ap, sym, ◌∙◌, append_assoc, arith, ◌<◌, ◌^◌}
 use Rattle.yq_row_table.specs.Kept.{placed_rows, raised}
-use Rattle.yq_row_table.specs.declared.offsets.Offsets as declared
 use Rattle.yq_rows.proofs.ExchangeLaws.{row_more, place_has}
+use Rattle.yq_row_table.specs.declared.offsets.Offsets as declared
 use Rattle.yq_rows.proofs.exchanging.push_rows.Goals as goal
 
 pub rows-preserved : goal.rows-preserved

@@ -1,15 +1,11 @@
 use Rattle.std.proofs.Common.{◌≡◌, ◌∙◌, ◌++◌, List, [], ℕ, eqb-true, length, refl, sym, ap, subst, ◌+◌, ◌-◌, ◌≤◌}
-use Rattle.std.proofs.lemmas.List.{nil_from_length}
+use Rattle.std.{proofs.lemmas.List.nil_from_length, specs.Str.IsCharBoundary}
 use Rattle.yq_text.specs.TextGapBuffer.{buffer_text}
-use Rattle.yq_row_table.specs.Grammar.{IsCut}
-use Rattle.yq_row_table.specs.Meter.{count_after, line_count}
-use Rattle.yq_rows.specs.Dropping.{DropsLast}
-use Rattle.yq_rows.specs.Exchanging.{TextChange}
-use Rattle.yq_rows.specs.Following.{Follows, exchanged}
+use Rattle.yq_row_table.{specs.Grammar.IsCut, specs.Meter.{count_after, line_count}}
+use Rattle.yq_rows.{specs.Dropping.DropsLast, specs.Exchanging.TextChange, specs.Following.{Follows, exchanged}}
 use Rattle.yq_rows.specs.Reading.{AreEdges, Comes, IsRead, read_part, region_text}
 use Rattle.yq_rows.proofs.DoneLaws.{gives_way, moved_follows, new_places, placed_before, same_places, still_placed}
 use Rattle.yq_rows.proofs.DropLaws.{dropped_places, dropped_text, kept_text}
-use Rattle.std.specs.Str.{IsCharBoundary}
 use Rattle.yq_rows.proofs.following.follow.Goals as goal
 
 pub move_split-requires : goal.move_split-requires

@@ -1,10 +1,7 @@
-use Rattle.std.proofs.Common.{◌≡◌, ℕ, Bool, false, List, [], ◌∷◌, ◌==◌, ◌||◌, drop, length, sym, ap, ◌∙◌}
-use Rattle.std.proofs.lemmas.Bool.{false≢true}
+use Rattle.std.{proofs.Common.{◌≡◌, ℕ, Bool, false, List, [], ◌∷◌, ◌==◌, ◌||◌, drop, length, sym, ap, ◌∙◌}, proofs.lemmas.Bool.false≢true}
 use Rattle.std.specs.List.{prefix_len}
-use Rattle.yq_core.specs.Lines.{is_hash}
-use Rattle.yq_core.specs.Text.{ends_line, past_white}
-use Rattle.yq_row_table.specs.Reading.{begins_gap}
-use Rattle.yq_row_table.proofs.WordFronts.{row_gap, indented_gap, behind_spaces}
+use Rattle.yq_core.{specs.Lines.is_hash, specs.Text.{ends_line, past_white}}
+use Rattle.yq_row_table.{specs.Reading.begins_gap, proofs.WordFronts.{row_gap, indented_gap, behind_spaces}}
 use Rattle.yq_rows.proofs.gap.begins_gap.Goals as goal
 
 pub returns-then-begins_row : goal.returns-then-begins_row

@@ -1,11 +1,8 @@
 use Rattle.std.proofs.Common.{◌∙◌, ap, arith, length}
-use Rattle.yq_row_table.specs.Offsets as spec
 use Rattle.yq_rows.specs.ReadPieces.{read_slices}
-use Rattle.yq_row_table.proofs.FrontLaws.{front_join, front_le}
-use Rattle.yq_row_table.proofs.OffsetLaws.{row_same, row_stands}
-use Rattle.yq_row_table.proofs.ParentLaws.{row_known}
-use Rattle.yq_row_table.proofs.RowSlicing.{row_spelled}
-use Rattle.yq_row_table.proofs.SliceLaws.{slices-length}
+use Rattle.yq_row_table.{proofs.FrontLaws.{front_join, front_le}, proofs.OffsetLaws.{row_same, row_stands}, proofs.ParentLaws.row_known}
+use Rattle.yq_row_table.{proofs.RowSlicing.row_spelled, proofs.SliceLaws.slices-length}
+use Rattle.yq_row_table.specs.Offsets as spec
 use Rattle.yq_rows.proofs.lengths.offsets_of.Goals as goal
 
 pub measure-requires-clause-small : goal.measure-requires-clause-small

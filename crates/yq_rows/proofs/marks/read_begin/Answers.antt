@@ -1,9 +1,7 @@
 use Rattle.std.proofs.Common.{◌≡◌, ◌-◌, length, take, rules, refl, sym, ap, ◌∙◌, true, false, arith}
-use Rattle.yq_row_table.specs.Reading.{is_dash, read_marks}
-use Rattle.yq_row_table.specs.Slicing.{begun}
+use Rattle.yq_row_table.{specs.Reading.{is_dash, read_marks}, specs.Slicing.begun}
 use Rattle.yq_row_table.proofs.BeginSteps.{dash_further, dash_boundary, dash_last, no_dash, mark_within}
-use Rattle.yq_row_table.proofs.DashSteps.{dash_goes, none_goes, key_goes, dash_keyed}
-use Rattle.yq_row_table.proofs.FrontLaws.{front_join, front_boundary}
+use Rattle.yq_row_table.{proofs.DashSteps.{dash_goes, none_goes, key_goes, dash_keyed}, proofs.FrontLaws.{front_join, front_boundary}}
 use Rattle.yq_rows.proofs.Columns.{behind_dash, front_none}
 use Rattle.yq_rows.proofs.marks.read_begin.Goals as goal
 

@@ -1,7 +1,5 @@
-use Rattle.std.proofs.Common.{◌≡◌, ◌-◌, ◌≤◌, length, take, drop}
-use Rattle.std.specs.Str.{IsUtf8}
-use Rattle.yq_row_table.specs.Slicing.{begun, with_dashes}
-use Rattle.yq_row_table.specs.Reading.{read_marks}
+use Rattle.std.{proofs.Common.{◌≡◌, ◌-◌, ◌≤◌, length, take, drop}, specs.Str.IsUtf8}
+use Rattle.yq_row_table.{specs.Slicing.{begun, with_dashes}, specs.Reading.read_marks}
 use Rattle.yq_rows.proofs.marks.read_begin.Given as goal
 
 abbrev pub decreases-dashes : goal.decreases-dashes

@@ -1,5 +1,4 @@
-use Rattle.std.proofs.Common.{rules, arith, sym, ap, ◌∙◌}
-use Rattle.std.proofs.lemmas.Result.{IfOk-weaker}
+use Rattle.std.{proofs.Common.{rules, arith, sym, ap, ◌∙◌}, proofs.lemmas.Result.IfOk-weaker}
 use Rattle.yq_core.specs.Reading.{name_at}
 use Rattle.yq_rows.proofs.MeasureSteps.{node_apart, node_some, item_shorter, parts_some}
 use Rattle.yq_rows.proofs.measuring.+ends.Goals as goal

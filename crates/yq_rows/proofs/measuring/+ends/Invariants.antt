@@ -1,5 +1,4 @@
-use Rattle.std.proofs.Common.{◌≡◌, ◌+◌, ◌*◌, ◌≤◌, length}
-use Rattle.std.specs.Str.{IsUtf8}
+use Rattle.std.{proofs.Common.{◌≡◌, ◌+◌, ◌*◌, ◌≤◌, length}, specs.Str.IsUtf8}
 use Rattle.yq_rows.specs.Measured.{closing_byte, past_node}
 use Rattle.yq_core.specs.PlacedReading.{placed_items}
 use Rattle.yq_rows.proofs.measuring.+ends.Given as goal

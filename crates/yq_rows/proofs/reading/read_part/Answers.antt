@@ -1,11 +1,7 @@
 use Rattle.std.proofs.Common.{◌≡◌, ◌-◌, length, true, false, ◌||◌, List, ℕ, sym, ap, ◌∙◌}
-use Rattle.yq_row_table.specs.Kept.{rows_placed}
-use Rattle.yq_row_table.specs.Slicing.{rows_sliced}
-use Rattle.yq_row_table.specs.Offsets.{rows_in}
-use Rattle.yq_row_table.specs.Reading.{cut_gap}
-use Rattle.yq_row_table.proofs.RowSlicing.{part_same, part_shut}
+use Rattle.yq_row_table.{specs.Kept.rows_placed, specs.Slicing.rows_sliced, specs.Offsets.rows_in, specs.Reading.cut_gap}
+use Rattle.yq_row_table.{proofs.RowSlicing.{part_same, part_shut}, specs.Grammar.ends_part}
 use Rattle.yq_rows.proofs.reading.read_part.Goals as goal
-use Rattle.yq_row_table.specs.Grammar.{ends_part}
 
 pub returns-then-not-may_begin-clause-found : goal.returns-then-not-may_begin-clause-found
 returns-then-not-may_begin-clause-found c =

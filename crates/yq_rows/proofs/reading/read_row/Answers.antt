@@ -1,15 +1,7 @@
-use Rattle.std.proofs.Common.{◌≡◌, SFits, Some, ap, arith, length, rules, sym, w64, ◌+◌, ◌∙◌}
-use Rattle.std.proofs.lemmas.Int.{to_z-of_z}
-use Rattle.yq_row_table.specs.Grammar.{Limit}
-use Rattle.yq_row_table.specs.Slicing.{limit_by}
-use Rattle.yq_rows.specs.ReadPieces.{mark_view, read_slices}
-use Rattle.yq_row_table.specs.Offsets.{offsets_of}
-use Rattle.yq_row_table.specs.Rows.{parent_of}
-use Rattle.yq_row_table.specs.View.{Slices}
-use Rattle.yq_rows.specs.ReadPieces.{limit_view}
-use Rattle.yq_row_table.proofs.Failing.{fails_by}
-use Rattle.yq_row_table.proofs.RowSlicing.{row_as}
-use Rattle.yq_rows.proofs.Columns.{column_small}
+use Rattle.std.{proofs.Common.{◌≡◌, SFits, Some, ap, arith, length, rules, sym, w64, ◌+◌, ◌∙◌}, proofs.lemmas.Int.to_z-of_z}
+use Rattle.yq_row_table.{specs.Grammar.Limit, specs.Slicing.limit_by, specs.Offsets.offsets_of, specs.Rows.parent_of, specs.View.Slices}
+use Rattle.yq_row_table.{proofs.Failing.fails_by, proofs.RowSlicing.row_as}
+use Rattle.yq_rows.{specs.ReadPieces.{mark_view, read_slices, limit_view}, proofs.Columns.column_small}
 use Rattle.yq_rows.proofs.reading.read_row.Goals as goal
 
 pub returns-in-Err-clause-read : goal.returns-in-Err-clause-read

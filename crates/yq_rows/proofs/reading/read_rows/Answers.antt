@@ -1,16 +1,10 @@
-use Rattle.std.proofs.Common.{◌≡◌, ◌-◌, length, true, false, refl, rules, sym, subst, ap, ◌∙◌}
-use Rattle.std.proofs.lemmas.List.Elements.{All-push}
-use Rattle.yq_row_table.specs.Offsets.{Stand, IsCutIn, rows_in, slices_in}
-use Rattle.yq_rows.specs.ReadPieces.{limit_view}
-use Rattle.yq_row_table.proofs.Failing.{fails_by}
+use Rattle.std.{proofs.Common.{◌≡◌, ◌-◌, length, true, false, refl, rules, sym, subst, ap, ◌∙◌}, proofs.lemmas.List.Elements.All-push}
+use Rattle.yq_row_table.{specs.Offsets.{Stand, IsCutIn, rows_in, slices_in}, proofs.Failing.fails_by}
 use Rattle.yq_row_table.proofs.NearLaws.{rows_placed_end, rows_placed_none, rows_placed_step}
 use Rattle.yq_row_table.proofs.OffsetLaws.{ends_next, row_then, rows_push}
 use Rattle.yq_row_table.proofs.RowSlicing.{at_gap, gap_joined, loop_smaller, loop_step, no_row, row_joined, rows_end}
-use Rattle.yq_row_table.specs.Grammar.{Limit, ends_part}
-use Rattle.yq_row_table.specs.Kept.{rows_placed}
-use Rattle.yq_row_table.specs.Reading.{all_rows}
-use Rattle.yq_row_table.specs.Slicing.{rows_sliced}
-use Rattle.yq_rows.proofs.Columns.{ends_within}
+use Rattle.yq_row_table.{specs.Grammar.{Limit, ends_part}, specs.Kept.rows_placed, specs.Reading.all_rows, specs.Slicing.rows_sliced}
+use Rattle.yq_rows.{specs.ReadPieces.limit_view, proofs.Columns.ends_within}
 use Rattle.yq_rows.proofs.reading.read_rows.Goals as goal
 
 pub returns-then-ends_part-clause-found : goal.returns-then-ends_part-clause-found

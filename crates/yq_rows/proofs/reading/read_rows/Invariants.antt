@@ -1,9 +1,5 @@
-use Rattle.std.proofs.Common.{◌≡◌, ◌-◌, length}
-use Rattle.std.specs.Str.{IsUtf8}
-use Rattle.yq_row_table.specs.Grammar.{unlimited}
-use Rattle.yq_row_table.specs.Kept.{rows_placed}
-use Rattle.yq_row_table.specs.Slicing.{rows_sliced}
-use Rattle.yq_row_table.specs.Offsets.{Ends, Stand, rows_in}
+use Rattle.std.{proofs.Common.{◌≡◌, ◌-◌, length}, specs.Str.IsUtf8}
+use Rattle.yq_row_table.{specs.Grammar.unlimited, specs.Kept.rows_placed, specs.Slicing.rows_sliced, specs.Offsets.{Ends, Stand, rows_in}}
 use Rattle.yq_row_table.specs.Reading.{all_rows}
 use Rattle.yq_rows.specs.ReadPieces.{limit_view}
 use Rattle.yq_rows.proofs.reading.read_rows.Given as goal

@@ -1,19 +1,15 @@
 use Rattle.std.proofs.Common.{◌≡◌, ℕ, ◌+◌, List, [], ◌++◌, true, false, ◌-◌, Some, length, rules, refl, sym, subst, ap, arith, ◌∙◌}
 use Rattle.std.proofs.lemmas.List.Elements.{All-push}
 use Rattle.yq_core.specs.Text.{is_empty}
-use Rattle.yq_row_table.specs.Grammar.{begins_document}
-use Rattle.yq_row_table.specs.Offsets.{Ends, rows_in}
-use Rattle.yq_row_table.specs.Ends.{EndStands, EndsStand, bounds_in}
-use Rattle.yq_row_table.specs.declared.places.Places.{Places}
-use Rattle.yq_row_table.proofs.EndsNear.{ends_placed_end, ends_placed_step, kept_part}
-use Rattle.yq_row_table.proofs.Failing.{fails_by}
-use Rattle.yq_row_table.proofs.NearLaws.{near_read, parts_placed_end, parts_placed_step}
+use Rattle.yq_row_table.{specs.Grammar.begins_document, specs.Offsets.{Ends, rows_in}, specs.Ends.{EndStands, EndsStand, bounds_in}}
+use Rattle.yq_row_table.{specs.declared.places.Places.Places, proofs.EndsNear.{ends_placed_end, ends_placed_step, kept_part}}
+use Rattle.yq_row_table.{proofs.Failing.fails_by, proofs.NearLaws.{near_read, parts_placed_end, parts_placed_step}}
 use Rattle.yq_row_table.proofs.OffsetLaws.{ends_next, rows_length}
-use Rattle.yq_row_table.proofs.PartSlicing.{one_part, end_ends, empty_by, bounds_push, part_is_marker, part_smaller, parts_none, parts_unmarked, parts_end, parts_more}
-use Rattle.yq_row_table.proofs.PartsLaws.{marker_takes}
+use Rattle.yq_row_table.proofs.PartSlicing.{one_part, end_ends, empty_by, bounds_push, part_is_marker, part_smaller, parts_none}
+use Rattle.yq_row_table.{proofs.PartSlicing.{parts_unmarked, parts_end, parts_more}, proofs.PartsLaws.marker_takes}
 use Rattle.yq_row_table.proofs.PlacedLaws.{Scanned, scanned_places, scanned_view}
-use Rattle.yq_rows.proofs.scanning.cut.Goals as goal
 use Rattle.yq_rows.proofs.scanning.cut.Goals.{After-of-text}
+use Rattle.yq_rows.proofs.scanning.cut.Goals as goal
 
 pub returns-in-Err-clause-read : goal.returns-in-Err-clause-read
 returns-in-Err-clause-read c = fails_by c.in-Err.e _ _ c.in-Err.ensures.found (λ none. sym c.parts.invariant.so_far ∙ parts_none (rows_in c.args.text.now c.parts.rows.items) (bounds_in c.args.text.now c.parts.ends.items) c.parts.is_open c.parts.rest.now none)

@@ -1,10 +1,6 @@
-use Rattle.std.proofs.Common.{◌≡◌, ◌-◌, [], length, true}
-use Rattle.std.specs.Str.{IsUtf8}
-use Rattle.yq_row_table.specs.Ends.{EndsStand, bounds_in}
-use Rattle.yq_row_table.specs.Kept.{ends_placed, parts_placed}
-use Rattle.yq_row_table.specs.Slicing.{read_view, parts_sliced}
-use Rattle.yq_row_table.specs.Offsets.{Ends, Stand, rows_in}
-use Rattle.yq_row_table.specs.Reading.{all_parts}
+use Rattle.std.{proofs.Common.{◌≡◌, ◌-◌, [], length, true}, specs.Str.IsUtf8}
+use Rattle.yq_row_table.{specs.Ends.{EndsStand, bounds_in}, specs.Kept.{ends_placed, parts_placed}, specs.Slicing.{read_view, parts_sliced}}
+use Rattle.yq_row_table.{specs.Offsets.{Ends, Stand, rows_in}, specs.Reading.all_parts}
 use Rattle.yq_rows.proofs.scanning.cut.Given as goal
 
 abbrev pub decreases-parts : goal.decreases-parts

@@ -1,5 +1,4 @@
-use Rattle.std.proofs.Common.{refl, sym}
-use Rattle.std.proofs.lemmas.Option.{same_Some}
+use Rattle.std.{proofs.Common.{refl, sym}, proofs.lemmas.Option.same_Some}
 use Rattle.yq_rows.proofs.ReadLaws.{comes, ends_read, no_fault, part_edge, parted}
 use Rattle.yq_rows.proofs.session_reading.read.Goals as goal
 

@@ -1,7 +1,6 @@
 use Rattle.std.proofs.Common.{◌≡◌, ◌∙◌, ◌-◌, sym, ap, take, length, Option, slice_set, refl, arith}
 use Rattle.yq_row_table.specs.declared.ends.EndPlace.{EndPlace}
-use Rattle.yq_rows.specs.Reading.{settled_ends}
-use Rattle.yq_rows.proofs.ReadLaws.{settled_set}
+use Rattle.yq_rows.{specs.Reading.settled_ends, proofs.ReadLaws.settled_set}
 use Rattle.yq_rows.proofs.session_reading.settle.Goals as goal
 
 pub returns-in-Some : goal.returns-in-Some

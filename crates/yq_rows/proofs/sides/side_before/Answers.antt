@@ -1,6 +1,5 @@
 use Rattle.std.proofs.Common.{◌-◌, ℕ, ap, ◌∙◌, arith}
-use Rattle.yq_rows.specs.Sides.{ends_before}
-use Rattle.yq_rows.proofs.SideLaws.{NoEndBehind, before_end, before_none, before_row}
+use Rattle.yq_rows.{specs.Sides.ends_before, proofs.SideLaws.{NoEndBehind, before_end, before_none, before_row}}
 use Rattle.yq_rows.proofs.sides.side_before.Goals.{then-ends-gt0+else-end-rows, else-ends-gt0}
 use Rattle.yq_rows.proofs.sides.side_before.Goals as goal
 

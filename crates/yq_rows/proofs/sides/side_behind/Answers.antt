@@ -1,9 +1,8 @@
 use Rattle.std.proofs.Common.{◌≡◌, inl, inr, ◌+◌, ◌-◌, ℕ, List, length, reverse, ap, subst, ◌∙◌, arith}
-use Rattle.yq_row_table.specs.declared.offsets.Offsets as declared
-use Rattle.yq_rows.specs.Sides.{IsSplitAt, ends_before, nearer, not_in_back, side_of, text_length}
-use Rattle.yq_rows.specs.declared.sides.Side.{Side}
+use Rattle.yq_rows.{specs.Sides.{IsSplitAt, ends_before, nearer, not_in_back, side_of, text_length}, specs.declared.sides.Side.Side}
 use Rattle.yq_rows.proofs.BackLaws.{ByEnds, ByRows, behind_is}
 use Rattle.yq_rows.proofs.sides.side_behind.Goals.{then-rows-gt0, else-rows-gt0, then-ends-len, else-ends-len}
+use Rattle.yq_row_table.specs.declared.offsets.Offsets as declared
 use Rattle.yq_rows.proofs.sides.side_behind.Goals as goal
 
 pub returns : goal.returns

@@ -1,7 +1,6 @@
 use Rattle.std.proofs.Common.{◌∙◌, ap, reverse}
 use Rattle.yq_row_table.specs.declared.places.Places.{Places}
-use Rattle.yq_rows.specs.Sides.{first_byte}
-use Rattle.yq_rows.proofs.ItemPlaces.{behind_in, front_in, moved_sides, placed_in}
+use Rattle.yq_rows.{specs.Sides.first_byte, proofs.ItemPlaces.{behind_in, front_in, moved_sides, placed_in}}
 use Rattle.yq_rows.proofs.split.move_split.Goals as goal
 
 pub move_rows-moved-requires-clause-within : goal.move_rows-moved-requires-clause-within

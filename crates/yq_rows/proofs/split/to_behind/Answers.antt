@@ -1,10 +1,8 @@
-use Rattle.std.proofs.Common.{◌≡◌, ◌∙◌, ◌++◌, ◌∷◌, [], List, ap, sym, subst, arith, ℕ, ◌<◌}
-use Rattle.std.proofs.lemmas.List.Elements.{All-push}
+use Rattle.std.{proofs.Common.{◌≡◌, ◌∙◌, ◌++◌, ◌∷◌, [], List, ap, sym, subst, arith, ℕ, ◌<◌}, proofs.lemmas.List.Elements.All-push}
 use Rattle.std.specs.List.{All}
-use Rattle.yq_rows.specs.Sides.{both_sides}
-use Rattle.yq_row_table.specs.declared.offsets.Offsets as declared
-use Rattle.yq_rows.proofs.PassingLaws.{all_popped, passed_behind, popped, last_is, none_last}
+use Rattle.yq_rows.{specs.Sides.both_sides, proofs.PassingLaws.{all_popped, passed_behind, popped, last_is, none_last}}
 use Rattle.yq_rows.proofs.SplitLaws.{Within}
+use Rattle.yq_row_table.specs.declared.offsets.Offsets as declared
 use Rattle.yq_rows.proofs.split.to_behind.Goals as goal
 
 pub rows-preserved : goal.rows-preserved

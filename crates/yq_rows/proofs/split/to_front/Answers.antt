@@ -1,8 +1,7 @@
 use Rattle.std.proofs.Common.{◌≡◌, ◌<◌, ◌∙◌, ◌++◌, ◌∷◌, [], List, ap, sym, subst, arith}
-use Rattle.yq_row_table.specs.declared.offsets.Offsets as declared
-use Rattle.yq_rows.specs.Sides.{LastBefore, both_sides}
-use Rattle.yq_rows.proofs.PassingLaws.{all_popped, last_pushed, passed_front, popped}
+use Rattle.yq_rows.{specs.Sides.{LastBefore, both_sides}, proofs.PassingLaws.{all_popped, last_pushed, passed_front, popped}}
 use Rattle.yq_rows.proofs.SplitLaws.{Within}
+use Rattle.yq_row_table.specs.declared.offsets.Offsets as declared
 use Rattle.yq_rows.proofs.split.to_front.Goals as goal
 
 pub rows-preserved : goal.rows-preserved

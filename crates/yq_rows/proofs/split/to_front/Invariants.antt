@@ -1,5 +1,4 @@
-use Rattle.std.proofs.Common.{◌≡◌, ◌≤◌, length}
-use Rattle.std.specs.List.{All}
+use Rattle.std.{proofs.Common.{◌≡◌, ◌≤◌, length}, specs.List.All}
 use Rattle.yq_rows.specs.Sides.{LastBefore, both_sides}
 use Rattle.yq_rows.proofs.split.to_front.Given as goal
 

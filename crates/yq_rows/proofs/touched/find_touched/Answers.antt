@@ -1,6 +1,5 @@
 use Rattle.std.proofs.Common.{◌∙◌, ◌-◌, ℕ, ap, subst}
-use Rattle.yq_rows.specs.Sides.{IsSideBehind, IsSplitAt, marked_end}
-use Rattle.yq_rows.proofs.FollowLaws.{changes}
+use Rattle.yq_rows.{specs.Sides.{IsSideBehind, IsSplitAt, marked_end}, proofs.FollowLaws.changes}
 use Rattle.yq_rows.proofs.touched.find_touched.Goals as goal
 
 pub returns : goal.returns

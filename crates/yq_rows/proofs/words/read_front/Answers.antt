@@ -1,7 +1,6 @@
 use Rattle.std.proofs.Common.{Some, ap, sym, ◌∙◌}
 use Rattle.yq_core.specs.Text.{front}
-use Rattle.yq_row_table.specs.Reading.{is_alphanumeric}
-use Rattle.yq_row_table.proofs.WordFronts.{word_at}
+use Rattle.yq_row_table.{specs.Reading.is_alphanumeric, proofs.WordFronts.word_at}
 use Rattle.yq_rows.proofs.words.read_front.Goals as goal
 
 pub returns-then-begins_word-clause-read : goal.returns-then-begins_word-clause-read

@@ -1,10 +1,7 @@
-use Rattle.std.proofs.Common.{◌≡◌, ℕ, List, Err, string_bytes, sym, ap, ◌∙◌, subst}
-use Rattle.std.proofs.lemmas.Result.{err_from_is_err_and}
+use Rattle.std.{proofs.Common.{◌≡◌, ℕ, List, Err, string_bytes, sym, ap, ◌∙◌, subst}, proofs.lemmas.Result.err_from_is_err_and}
 use Rattle.yq_history.proofs.MoveLaws.{on_ok_map}
 use Rattle.yq_semantics.specs.View.{program_of}
-use Rattle.yq_commands.specs.Editing.{edited, program_edits}
-use Rattle.yq_commands.specs.FileEdits.{IsTextEdited}
-use Rattle.yq_commands.proofs.EditEffects.{edit_fails}
+use Rattle.yq_commands.{specs.Editing.{edited, program_edits}, specs.FileEdits.IsTextEdited, proofs.EditEffects.edit_fails}
 use Rattle.yq_commands.proofs.FileEditLaws.{holds_comes}
 use Rattle.yq_run.proofs.editing.edit_from.Goals as goal
 

@@ -1,5 +1,4 @@
-use Rattle.std.proofs.Common.{Err, ap, ◌∙◌}
-use Rattle.std.proofs.lemmas.Result.{err_from_is_err_and}
+use Rattle.std.{proofs.Common.{Err, ap, ◌∙◌}, proofs.lemmas.Result.err_from_is_err_and}
 use Rattle.yq_semantics.specs.View.{program_of}
 use Rattle.yq_commands.proofs.FileEditLaws.{parsed_free, printed_comes, unparsed_fault}
 use Rattle.yq_run.proofs.evaluating.evaluate.Goals as goal

@@ -1,8 +1,6 @@
-use Rattle.std.proofs.Common.{ℕ, Some, Err, refl, sym, ap, ◌∙◌}
-use Rattle.std.proofs.lemmas.Result.{err_from_is_err_and}
+use Rattle.std.{proofs.Common.{ℕ, Some, Err, refl, sym, ap, ◌∙◌}, proofs.lemmas.Result.err_from_is_err_and}
 use Rattle.yq_semantics.specs.View.{program_of}
-use Rattle.yq_commands.specs.Evaluation.{shows}
-use Rattle.yq_commands.proofs.ShowLaws.{show_refused, show_done, report_is}
+use Rattle.yq_commands.{specs.Evaluation.shows, proofs.ShowLaws.{show_refused, show_done, report_is}}
 use Rattle.yq_run.proofs.evaluating.evaluate_program.Goals as goal
 
 pub returns-in_err-report-clause-arrives : goal.returns-in_err-report-clause-arrives

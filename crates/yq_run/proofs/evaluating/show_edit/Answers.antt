@@ -1,9 +1,6 @@
-use Rattle.std.proofs.Common.{Err, ap, ◌∙◌}
-use Rattle.std.proofs.lemmas.Result.{err_from_is_err_and}
+use Rattle.std.{proofs.Common.{Err, ap, ◌∙◌}, proofs.lemmas.Result.err_from_is_err_and}
 use Rattle.yq_semantics.specs.View.{program_of}
-use Rattle.yq_commands.specs.Evaluation.{show_edit}
-use Rattle.yq_commands.proofs.FileEditLaws.{text_same}
-use Rattle.yq_commands.proofs.ShowLaws.{edit_fails, edit_shows}
+use Rattle.yq_commands.{specs.Evaluation.show_edit, proofs.FileEditLaws.text_same, proofs.ShowLaws.{edit_fails, edit_shows}}
 use Rattle.yq_run.proofs.evaluating.show_edit.Goals as goal
 
 pub returns-in_err-text-clause-err : goal.returns-in_err-text-clause-err

@@ -1,22 +1,15 @@
-use Rattle.std.proofs.Common.{◌≡◌, Bool, true, false, Option, OnOk, refl, sym, ap, ◌∙◌, subst, true≢false}
-use Rattle.std.proofs.lemmas.Bool.{false≢true}
-use Rattle.std.proofs.lemmas.Option.{none-some}
-use Rattle.std.specs.FinMap.{get}
-use Rattle.std.specs.String.{string_bytes}
+use Rattle.std.{proofs.Common.{◌≡◌, Bool, true, false, Option, OnOk, refl, sym, ap, ◌∙◌, subst, true≢false}, proofs.lemmas.Bool.false≢true}
+use Rattle.std.{proofs.lemmas.Option.none-some, specs.FinMap.get, specs.String.string_bytes}
 use Rattle.yq_journal.specs.History.{History}
-use Rattle.yq_journal.specs.declared.moves.Move.TheVariants as move
-use Rattle.yq_history.specs.Effects.{from_names, listing_effect, move_effect, printed_by, squash_effect}
-use Rattle.yq_history.specs.Listing.{listing_output}
-use Rattle.yq_history.specs.Pair.{GoodIn}
-use Rattle.yq_history.specs.Report.{Report, report_by, text}
-use Rattle.yq_history.specs.Steps.{listing_cause, move_cause, move_next, squash_cause, squash_next}
-use Rattle.yq_history.proofs.EffectLaws.{on_ok}
+use Rattle.yq_history.{specs.Effects.{from_names, listing_effect, move_effect, printed_by, squash_effect}, specs.Listing.listing_output}
+use Rattle.yq_history.{specs.Pair.GoodIn, specs.Report.{Report, report_by, text}}
+use Rattle.yq_history.{specs.Steps.{listing_cause, move_cause, move_next, squash_cause, squash_next}, proofs.EffectLaws.on_ok}
 use Rattle.yq_args.specs.declared.command.Command.TheVariants.{Eval}
-use Rattle.yq_commands.specs.CommandEffects.{expression_fault, fault_of}
-use Rattle.yq_commands.specs.Editing.{program_in}
-use Rattle.yq_commands.specs.Prints.{prints, reads_journal}
-use Rattle.yq_commands.proofs.ExecuteLaws.{ArrivesOn, EditsOn, ListsOn, OthersOn, ShowsOn, WorksOn, by_names, evaluate_arrives, evaluate_edits, evaluate_shows, pair_arrives, pair_others, pair_works, update_arrives, update_edits, update_works}
-use Rattle.yq_commands.proofs.OutcomeLaws.{each_error, memory_counted, memory_no_output}
+use Rattle.yq_commands.{specs.CommandEffects.{expression_fault, fault_of}, specs.Editing.program_in, specs.Prints.{prints, reads_journal}}
+use Rattle.yq_commands.proofs.ExecuteLaws.{ArrivesOn, EditsOn, ListsOn, OthersOn, ShowsOn, WorksOn, by_names, evaluate_arrives}
+use Rattle.yq_commands.proofs.ExecuteLaws.{evaluate_edits, evaluate_shows, pair_arrives, pair_others, pair_works, update_arrives}
+use Rattle.yq_commands.{proofs.ExecuteLaws.{update_edits, update_works}, proofs.OutcomeLaws.{each_error, memory_counted, memory_no_output}}
+use Rattle.yq_journal.specs.declared.moves.Move.TheVariants as move
 use Rattle.yq_run.proofs.executing.execute.Goals as goal
 
 pub returns-in-Undo : goal.returns-in-Undo

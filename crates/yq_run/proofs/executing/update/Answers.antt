@@ -1,16 +1,11 @@
-use Rattle.std.proofs.Common.{◌≡◌, ℕ, List, false, Ok, Err, IfErr, sym, ap, ◌∙◌, subst}
-use Rattle.yq_journal.specs.State.{State}
-use Rattle.std.proofs.lemmas.Result.{err_from_is_err_and}
-use Rattle.yq_semantics.specs.View.{program_of}
-use Rattle.yq_commands.specs.Editing.{program_edits}
-use Rattle.yq_commands.specs.CommandEffects.{edit_effect}
-use Rattle.yq_history.proofs.EffectLaws.{not_opened, from_opened}
+use Rattle.std.{proofs.Common.{◌≡◌, ℕ, List, false, Ok, Err, IfErr, sym, ap, ◌∙◌, subst}, proofs.lemmas.Result.err_from_is_err_and}
 use Rattle.std.specs.FinMap.{get}
-use Rattle.yq_commands.proofs.EditEffects.{not_parsed, parsed_works}
-use Rattle.yq_commands.proofs.FileEditLaws.{file_comes, parsed_free, unparsed_fault}
-use Rattle.yq_commands.specs.CommandSteps.{update_cause, update_next}
-use Rattle.yq_history.specs.Faults.{failures_after, is_outer_fault}
+use Rattle.yq_journal.specs.State.{State}
+use Rattle.yq_semantics.specs.View.{program_of}
+use Rattle.yq_commands.{specs.Editing.program_edits, specs.CommandEffects.edit_effect, proofs.EditEffects.{not_parsed, parsed_works}}
+use Rattle.yq_commands.{proofs.FileEditLaws.{file_comes, parsed_free, unparsed_fault}, specs.CommandSteps.{update_cause, update_next}}
 use Rattle.yq_commands.proofs.OutcomeLaws.{arrives_as, opened}
+use Rattle.yq_history.{proofs.EffectLaws.{not_opened, from_opened}, specs.Faults.{failures_after, is_outer_fault}}
 use Rattle.yq_run.proofs.executing.update.Goals as goal
 
 pub returns : goal.returns

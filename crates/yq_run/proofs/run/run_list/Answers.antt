@@ -1,15 +1,12 @@
-use Rattle.std.proofs.Common.{rules, ◌≡◌, ◌∷◌, ◌++◌, [], ◌+◌, ◌-◌, ◌^◌, ◌<◌, min, take, length, sym, ap, ◌∙◌, subst, arith, is_ok, true, vec_len, if◌then◌else◌}
-use Rattle.std.specs.List.{list_all}
-use Rattle.std.proofs.lemmas.Grind.{common_steps}
+use Rattle.std.proofs.Common.{rules, ◌≡◌, ◌∷◌, ◌++◌, [], ◌+◌, ◌-◌, ◌^◌, ◌<◌, min, take, length, sym, ap, ◌∙◌, subst, arith, is_ok, true}
+use Rattle.std.{proofs.Common.{vec_len, if◌then◌else◌}, specs.List.list_all, proofs.lemmas.Grind.common_steps}
 use Rattle.std.proofs.lemmas.List.{append-nil, take_more}
 use Rattle.yq_store.specs.Count.{count_plus_one}
 use Rattle.yq_commands.specs.CommandNames.{IsNotNamed}
 use Rattle.yq_commands.specs.Lists.{Keeps, failures_in, output_failures_in, reports_failure, reports_output}
+use Rattle.yq_commands.{proofs.CountLaws.{count_more, no_answers, put_more, put_passing}, proofs.KeepLaws.{keeps_more, left_by, run_of}}
+use Rattle.yq_commands.{proofs.ListLaws.{all_inside, exact_run, is_inside}, proofs.ReplyLaws.{answers_more, reply, taken_more}}
 use Rattle.yq_history.specs.Report.{report_by}
-use Rattle.yq_commands.proofs.CountLaws.{count_more, no_answers, put_more, put_passing}
-use Rattle.yq_commands.proofs.KeepLaws.{keeps_more, left_by, run_of}
-use Rattle.yq_commands.proofs.ListLaws.{all_inside, exact_run, is_inside}
-use Rattle.yq_commands.proofs.ReplyLaws.{answers_more, reply, taken_more}
 use Rattle.yq_run.proofs.run.run_list.Goals as goal
 
 pub commands-init : goal.commands-init

@@ -1,7 +1,6 @@
 use Rattle.std.proofs.Common.{◌≡◌, ◌+◌, ◌-◌, ◌^◌, ◌<◌, ◌≤◌, ℕ, List, ◌++◌, IsTrue, take, length, min, vec_len, vec_capacity, All}
 use Rattle.std.specs.FinMap.{get}
-use Rattle.yq_commands.specs.CommandNames.{IsNotNamed}
-use Rattle.yq_commands.specs.Lists.{Keeps, Reply, answers_in, printed_in, failures_in, output_failures_in}
+use Rattle.yq_commands.{specs.CommandNames.IsNotNamed, specs.Lists.{Keeps, Reply, answers_in, printed_in, failures_in, output_failures_in}}
 use Rattle.yq_run.proofs.run.run_list.Given as goal
 
 abbrev pub invariant-commands : goal.invariant-commands

@@ -1,6 +1,5 @@
 use Rattle.std.proofs.Common.{arith}
-use Rattle.yq_core.proofs.HeaderLaws.{head_length, tail_length}
-use Rattle.yq_core.proofs.BlockFound.{raw_within, piece_is}
+use Rattle.yq_core.{proofs.HeaderLaws.{head_length, tail_length}, proofs.BlockFound.{raw_within, piece_is}}
 use Rattle.yq_scalar.proofs.block.read_at.Goals as goal
 
 pub overflow_sub-head_end : goal.overflow_sub-head_end

@@ -1,7 +1,5 @@
 use Rattle.std.proofs.Common.{rules}
-use Rattle.yq_core.specs.Answers.{ReadsAs}
-use Rattle.yq_core.specs.BlockReading.{block_from}
-use Rattle.yq_core.proofs.BlockFound.{found_by, only_by}
+use Rattle.yq_core.{specs.Answers.ReadsAs, specs.BlockReading.block_from, proofs.BlockFound.{found_by, only_by}}
 use Rattle.yq_core.proofs.ScalarPieceLaws.{block_is_piece}
 use Rattle.yq_scalar.proofs.block.read_block.Goals as goal
 

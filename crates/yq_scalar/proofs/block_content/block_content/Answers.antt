@@ -1,8 +1,5 @@
-use Rattle.std.proofs.Common.{rules, string_bytes, IfOk, ◌≡◌}
-use Rattle.std.specs.Str.{IsCharBoundary}
-use Rattle.yq_core.specs.BlockReading.{block_piece_content}
-use Rattle.yq_core.proofs.BlockPieceLaws.{stands, content_is}
-use Rattle.yq_core.proofs.ContentLaws.{if_ok_same}
+use Rattle.std.{proofs.Common.{rules, string_bytes, IfOk, ◌≡◌}, specs.Str.IsCharBoundary}
+use Rattle.yq_core.{specs.BlockReading.block_piece_content, proofs.BlockPieceLaws.{stands, content_is}, proofs.ContentLaws.if_ok_same}
 use Rattle.yq_scalar.proofs.block_content.block_content.Goals as goal
 
 pub range-raw-requires-clause-start_boundary : goal.range-raw-requires-clause-start_boundary

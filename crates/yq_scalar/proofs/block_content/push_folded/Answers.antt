@@ -1,7 +1,5 @@
-use Rattle.std.proofs.Common.{arith, rules}
-use Rattle.std.proofs.lemmas.Result.{on_ok_weaker}
-use Rattle.yq_core.proofs.BlockSteps.{at_cut, at_end}
-use Rattle.yq_core.proofs.BlockContentSteps.{fold_blank, fold_text, fold_end}
+use Rattle.std.{proofs.Common.{arith, rules}, proofs.lemmas.Result.on_ok_weaker}
+use Rattle.yq_core.{proofs.BlockSteps.{at_cut, at_end}, proofs.BlockContentSteps.{fold_blank, fold_text, fold_end}}
 use Rattle.yq_scalar.proofs.block_content.push_folded.Goals as goal
 
 pub each-smaller-then-is_empty : goal.each-smaller-then-is_empty

@@ -1,9 +1,6 @@
-use Rattle.std.proofs.Common.{◌≡◌, ◌++◌, ◌+◌, ◌≤◌, length}
-use Rattle.std.specs.Str.{IsUtf8}
-use Rattle.std.specs.String.{string_bytes}
-use Rattle.yq_core.specs.Text.{text_lines}
+use Rattle.std.{proofs.Common.{◌≡◌, ◌++◌, ◌+◌, ◌≤◌, length}, specs.Str.IsUtf8, specs.String.string_bytes}
+use Rattle.yq_core.{specs.Text.text_lines, specs.declared.block_types.LineBefore.TheVariants.Nothing}
 use Rattle.yq_core.specs.BlockContent as spec
-use Rattle.yq_core.specs.declared.block_types.LineBefore.TheVariants.{Nothing}
 use Rattle.yq_scalar.proofs.block_content.push_folded.Given as goal
 
 abbrev pub decreases-each : goal.decreases-each

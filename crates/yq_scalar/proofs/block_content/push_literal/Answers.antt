@@ -1,6 +1,5 @@
 use Rattle.std.proofs.Common.{rules}
-use Rattle.yq_core.proofs.BlockSteps.{at_cut, at_end}
-use Rattle.yq_core.proofs.BlockContentSteps.{literal_step, literal_end}
+use Rattle.yq_core.{proofs.BlockSteps.{at_cut, at_end}, proofs.BlockContentSteps.{literal_step, literal_end}}
 use Rattle.yq_scalar.proofs.block_content.push_literal.Goals as goal
 
 pub each-smaller : goal.each-smaller

@@ -1,7 +1,7 @@
 use Rattle.std.proofs.Common.{◌≤◌, arith}
 use Rattle.yq_core.proofs.Boundaries.{boundary_in_spaces}
-use Rattle.yq_scalar.proofs.block_content.unindented.Goals as goal
 use Rattle.yq_scalar.proofs.block_content.unindented.Goals.{then-indent, else-indent}
+use Rattle.yq_scalar.proofs.block_content.unindented.Goals as goal
 
 pub split_at-requires : goal.split_at-requires
 split_at-requires c =

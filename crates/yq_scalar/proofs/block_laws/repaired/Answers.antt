@@ -1,6 +1,5 @@
 use Rattle.std.proofs.Common.{true}
-use Rattle.yq_core.proofs.BlockRepairLaws.{repair_ends, repair_comments}
-use Rattle.yq_core.proofs.BlockRepairText.{repair_stands}
+use Rattle.yq_core.{proofs.BlockRepairLaws.{repair_ends, repair_comments}, proofs.BlockRepairText.repair_stands}
 use Rattle.yq_scalar.proofs.block_laws.repaired.Goals as goal
 
 pub returns-clause-stands : goal.returns-clause-stands

@@ -1,8 +1,6 @@
-use Rattle.std.proofs.Common.{rules, string_bytes}
-use Rattle.std.proofs.lemmas.Result.{on_ok_weaker}
+use Rattle.std.{proofs.Common.{rules, string_bytes}, proofs.lemmas.Result.on_ok_weaker}
 use Rattle.yq_scalar.proofs.Pushes.{on_pushed}
-use Rattle.yq_core.proofs.BlockSteps.{at_cut, at_end}
-use Rattle.yq_core.proofs.BlockRepairSteps.{blank_step, comment_step, repair_end}
+use Rattle.yq_core.{proofs.BlockSteps.{at_cut, at_end}, proofs.BlockRepairSteps.{blank_step, comment_step, repair_end}}
 use Rattle.yq_scalar.proofs.block_repair.push_gap.Goals as goal
 
 pub returns-then-not-is_blank : goal.returns-then-not-is_blank

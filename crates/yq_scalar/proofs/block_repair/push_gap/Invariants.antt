@@ -1,6 +1,4 @@
-use Rattle.std.proofs.Common.{◌≡◌, ◌++◌, length}
-use Rattle.std.specs.Str.{IsUtf8}
-use Rattle.std.specs.String.{string_bytes}
+use Rattle.std.{proofs.Common.{◌≡◌, ◌++◌, length}, specs.Str.IsUtf8, specs.String.string_bytes}
 use Rattle.yq_core.specs.Text.{text_lines, joined}
 use Rattle.yq_core.specs.BlockRepair as spec
 use Rattle.yq_scalar.proofs.block_repair.push_gap.Given as goal

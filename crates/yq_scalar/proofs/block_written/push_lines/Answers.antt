@@ -1,7 +1,5 @@
 use Rattle.std.proofs.Common.{rules, ap, List, ℕ}
-use Rattle.yq_core.specs.BlockWritten.{break_text}
-use Rattle.yq_core.proofs.BlockSteps.{at_cut, at_end}
-use Rattle.yq_core.proofs.BlockWrittenHeader.{write_step, write_end}
+use Rattle.yq_core.{specs.BlockWritten.break_text, proofs.BlockSteps.{at_cut, at_end}, proofs.BlockWrittenHeader.{write_step, write_end}}
 use Rattle.yq_scalar.proofs.block_written.push_lines.Goals as goal
 
 pub each-smaller : goal.each-smaller

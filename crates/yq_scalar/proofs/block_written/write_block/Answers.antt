@@ -1,6 +1,5 @@
 use Rattle.std.proofs.Common.{ap, sym, ◌∙◌}
-use Rattle.yq_core.specs.BlockWritten.{header_text}
-use Rattle.yq_core.proofs.BlockWrittenHeader.{chomping_is}
+use Rattle.yq_core.{specs.BlockWritten.header_text, proofs.BlockWrittenHeader.chomping_is}
 use Rattle.yq_scalar.proofs.block_written.write_block.Goals as goal
 
 pub returns-in-Ok-clause-header : goal.returns-in-Ok-clause-header

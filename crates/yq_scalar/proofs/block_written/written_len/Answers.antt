@@ -1,7 +1,5 @@
 use Rattle.std.proofs.Common.{rules, ap, arith, List, ℕ}
-use Rattle.yq_core.specs.BlockWritten.{break_text}
-use Rattle.yq_core.proofs.BlockSteps.{at_cut, at_end}
-use Rattle.yq_core.proofs.BlockWrittenLengths.{len_step, len_end}
+use Rattle.yq_core.{specs.BlockWritten.break_text, proofs.BlockSteps.{at_cut, at_end}, proofs.BlockWrittenLengths.{len_step, len_end}}
 use Rattle.yq_scalar.proofs.block_written.written_len.Goals as goal
 
 pub each-smaller : goal.each-smaller

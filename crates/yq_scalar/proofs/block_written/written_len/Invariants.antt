@@ -1,5 +1,4 @@
-use Rattle.std.proofs.Common.{◌≡◌, ◌+◌, ◌-◌, ◌≤◌, ◌^◌, length, min}
-use Rattle.std.specs.Str.{IsUtf8}
+use Rattle.std.{proofs.Common.{◌≡◌, ◌+◌, ◌-◌, ◌≤◌, ◌^◌, length, min}, specs.Str.IsUtf8}
 use Rattle.yq_core.specs.Text.{text_lines, joined}
 use Rattle.yq_core.specs.BlockWritten as spec
 use Rattle.yq_scalar.proofs.block_written.written_len.Given as goal

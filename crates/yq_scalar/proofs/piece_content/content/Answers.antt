@@ -1,6 +1,5 @@
 use Rattle.std.proofs.Common.{string_bytes}
-use Rattle.yq_core.proofs.ContentLaws.{if_ok_same}
-use Rattle.yq_core.proofs.PieceContentLaws.{plain_piece_content, quoted_piece_content, block_piece_content}
+use Rattle.yq_core.{proofs.ContentLaws.if_ok_same, proofs.PieceContentLaws.{plain_piece_content, quoted_piece_content, block_piece_content}}
 use Rattle.yq_scalar.proofs.piece_content.content.Goals as goal
 
 pub returns : goal.returns

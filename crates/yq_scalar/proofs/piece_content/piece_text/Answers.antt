@@ -1,6 +1,4 @@
-use Rattle.std.proofs.Common.{sym, subst, List, ℕ}
-use Rattle.std.proofs.lemmas.Str.{IsUtf8-drop}
-use Rattle.std.specs.Str.{IsUtf8}
+use Rattle.std.{proofs.Common.{sym, subst, List, ℕ}, proofs.lemmas.Str.IsUtf8-drop, specs.Str.IsUtf8}
 use Rattle.yq_core.proofs.PieceContentLaws.{scalar_of, boundary_end}
 use Rattle.yq_scalar.proofs.piece_content.piece_text.Goals as goal
 

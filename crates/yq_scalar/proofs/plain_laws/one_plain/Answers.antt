@@ -1,5 +1,4 @@
-use Rattle.yq_core.proofs.PlainLaws.{plain_takes, plain_again}
-use Rattle.yq_core.proofs.PlainSpells.{plain_one}
+use Rattle.yq_core.{proofs.PlainLaws.{plain_takes, plain_again}, proofs.PlainSpells.plain_one}
 use Rattle.yq_scalar.proofs.plain_laws.one_plain.Goals as goal
 
 pub returns-clause-takes : goal.returns-clause-takes

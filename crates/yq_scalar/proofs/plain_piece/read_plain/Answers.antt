@@ -1,7 +1,5 @@
-use Rattle.std.proofs.Common.{w64}
-use Rattle.std.proofs.lemmas.Int.{to_z-of_z}
-use Rattle.yq_core.proofs.ScalarPieceLaws.{plain_is_piece}
-use Rattle.yq_core.proofs.PieceLaws.{only_by, found_by}
+use Rattle.std.{proofs.Common.w64, proofs.lemmas.Int.to_z-of_z}
+use Rattle.yq_core.{proofs.ScalarPieceLaws.plain_is_piece, proofs.PieceLaws.{only_by, found_by}}
 use Rattle.yq_scalar.proofs.plain_piece.read_plain.Goals as goal
 
 pub returns-clause-only : goal.returns-clause-only

@@ -1,6 +1,4 @@
-use Rattle.yq_core.specs.Quoted.{last}
-use Rattle.yq_core.specs.Written.{double, single}
-use Rattle.yq_core.proofs.WrittenLaws.{double_spells, single_spells}
+use Rattle.yq_core.{specs.Quoted.last, specs.Written.{double, single}, proofs.WrittenLaws.{double_spells, single_spells}}
 use Rattle.yq_core.proofs.WrittenText.{line_is_text, line_holds, double_is_line, single_is_line}
 use Rattle.yq_scalar.proofs.quoted_laws.quoted_spells.Goals as goal
 

@@ -1,5 +1,4 @@
-use Rattle.yq_core.proofs.ScalarPieceLaws.{quoted_is_piece}
-use Rattle.yq_core.proofs.QuotedPieceLaws.{only_by}
+use Rattle.yq_core.{proofs.ScalarPieceLaws.quoted_is_piece, proofs.QuotedPieceLaws.only_by}
 use Rattle.yq_scalar.proofs.quoted_piece.read_quoted.Goals as goal
 
 pub returns-clause-only : goal.returns-clause-only

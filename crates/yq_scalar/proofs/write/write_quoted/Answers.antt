@@ -1,8 +1,6 @@
 use Rattle.std.proofs.lemmas.List.{flat_map_more}
 use Rattle.std.proofs.Common.{◌≡◌, ◌==◌, ◌++◌, encode_utf8, flat_map, if◌then◌else◌, sym, ap, ◌∙◌, map-id, append_assoc, ℕ, List}
-use Rattle.std.specs.Str.{chars}
-use Rattle.std.proofs.lemmas.Iterator.{YieldsList-from_chars}
-use Rattle.std.proofs.lemmas.Iterator.Consumers.{YieldsList-end}
+use Rattle.std.{specs.Str.chars, proofs.lemmas.Iterator.YieldsList-from_chars, proofs.lemmas.Iterator.Consumers.YieldsList-end}
 use Rattle.yq_core.specs.Written.{in_double, in_single}
 use Rattle.yq_scalar.proofs.write.write_quoted.Goals as goal
 

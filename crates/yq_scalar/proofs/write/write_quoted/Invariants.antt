@@ -1,5 +1,4 @@
-use Rattle.std.proofs.Common.{◌≡◌, ◌++◌, ◌==◌, encode_utf8, flat_map, if◌then◌else◌}
-use Rattle.std.specs.String.{string_bytes}
+use Rattle.std.{proofs.Common.{◌≡◌, ◌++◌, ◌==◌, encode_utf8, flat_map, if◌then◌else◌}, specs.String.string_bytes}
 use Rattle.yq_core.specs.Written.{in_double, in_single}
 use Rattle.yq_scalar.proofs.write.write_quoted.Given as goal
 

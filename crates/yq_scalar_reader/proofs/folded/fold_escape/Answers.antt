@@ -1,10 +1,6 @@
-use Rattle.std.proofs.Common.{◌≡◌, ◌++◌, drop, true, false, [], Some, None, sym, ap, ◌∙◌, subst, List, ℕ}
-use Rattle.std.proofs.lemmas.Str.{IsUtf8-drop}
-use Rattle.std.proofs.Math.Utf8.{encode}
-use Rattle.std.specs.Str.{IsUtf8, IsCharBoundary}
-use Rattle.yq_core.specs.Text.{is_break}
-use Rattle.yq_core.specs.ContentReading.{content_on, after, within, break_len}
-use Rattle.yq_core.specs.Quoted.{joined}
+use Rattle.std.{proofs.Common.{◌≡◌, ◌++◌, drop, true, false, [], Some, None, sym, ap, ◌∙◌, subst, List, ℕ}, proofs.lemmas.Str.IsUtf8-drop}
+use Rattle.std.{proofs.Math.Utf8.encode, specs.Str.{IsUtf8, IsCharBoundary}}
+use Rattle.yq_core.{specs.Text.is_break, specs.ContentReading.{content_on, after, within, break_len}, specs.Quoted.joined}
 use Rattle.yq_core.specs.QuotedReading.{leading_escape}
 use Rattle.yq_core.proofs.ItemLaws.{boundary_slash, boundary_break, boundary_escape, escape_break, escape_none, escape_some}
 use Rattle.yq_scalar_reader.proofs.folded.fold_escape.Goals as goal

@@ -1,6 +1,6 @@
 use Rattle.std.proofs.Common.{◌∙◌, ◌-◌, ap, List, ℕ, slice_index, take, drop, length}
-use Rattle.yq_core.specs.ContentReading as spec
 use Rattle.yq_core.proofs.ContentLaws.{boundary_open, boundary_close, between_quotes}
+use Rattle.yq_core.specs.ContentReading as spec
 use Rattle.yq_scalar_reader.proofs.folded.inside.Goals as goal
 
 pub split_at-requires : goal.split_at-requires

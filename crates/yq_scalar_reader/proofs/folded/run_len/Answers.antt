@@ -1,7 +1,5 @@
 use Rattle.std.proofs.Common.{arith, sym, ◌∙◌}
-use Rattle.yq_core.specs.ContentReading.{ends_run}
-use Rattle.yq_core.proofs.Across.{rest_length, upto_next, upto_none}
-use Rattle.yq_core.proofs.Upto.{upto_here}
+use Rattle.yq_core.{specs.ContentReading.ends_run, proofs.Across.{rest_length, upto_next, upto_none}, proofs.Upto.upto_here}
 use Rattle.yq_scalar_reader.proofs.folded.run_len.Goals as goal
 
 pub returns-then-ends_run : goal.returns-then-ends_run

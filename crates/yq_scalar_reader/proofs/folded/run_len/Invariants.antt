@@ -1,6 +1,5 @@
 use Rattle.std.proofs.Common.{◌≡◌, ◌+◌, length}
-use Rattle.yq_core.specs.Text.{upto}
-use Rattle.yq_core.specs.ContentReading.{ends_run}
+use Rattle.yq_core.{specs.Text.upto, specs.ContentReading.ends_run}
 use Rattle.yq_scalar_reader.proofs.folded.run_len.Given as goal
 
 abbrev pub decreases-each : goal.decreases-each

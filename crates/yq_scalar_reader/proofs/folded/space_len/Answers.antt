@@ -1,7 +1,5 @@
 use Rattle.std.proofs.Common.{not, arith, ap, sym, ◌∙◌}
-use Rattle.yq_core.specs.Plain.{no_gap}
-use Rattle.yq_core.proofs.Across.{rest_length, upto_next, upto_none}
-use Rattle.yq_core.proofs.Upto.{upto_here}
+use Rattle.yq_core.{specs.Plain.no_gap, proofs.Across.{rest_length, upto_next, upto_none}, proofs.Upto.upto_here}
 use Rattle.yq_scalar_reader.proofs.folded.space_len.Goals as goal
 
 pub returns-then-not-is_space : goal.returns-then-not-is_space

@@ -1,7 +1,6 @@
 use Rattle.std.proofs.Common.{◌≡◌, ◌+◌, length}
-use Rattle.yq_core.specs.Text.{upto}
+use Rattle.yq_core.{specs.Text.upto, specs.Plain.no_gap}
 use Rattle.yq_scalar_reader.proofs.folded.space_len.Given as goal
-use Rattle.yq_core.specs.Plain.{no_gap}
 
 abbrev pub decreases-each : goal.decreases-each
 decreases-each l = length l.rest

@@ -1,8 +1,7 @@
-use Rattle.std.proofs.Common.{◌≡◌, ◌++◌, [], length}
-use Rattle.std.specs.String.{string_bytes}
-use Rattle.yq_core.specs.ContentReading as spec
+use Rattle.std.{proofs.Common.{◌≡◌, ◌++◌, [], length}, specs.String.string_bytes}
 use denote.Shadow.{shadow}
 use denote.Text.{Utf8}
+use Rattle.yq_core.specs.ContentReading as spec
 use Rattle.yq_scalar_reader.proofs.folding.fold.Given as goal
 
 abbrev pub decreases-each : goal.decreases-each

@@ -1,6 +1,5 @@
 use Rattle.std.proofs.Common.{string_bytes}
-use Rattle.yq_core.proofs.ContentLaws.{if_ok_same}
-use Rattle.yq_core.proofs.PlainContentLaws.{plain_content_is}
+use Rattle.yq_core.{proofs.ContentLaws.if_ok_same, proofs.PlainContentLaws.plain_content_is}
 use Rattle.yq_scalar_reader.proofs.folding.plain_content.Goals as goal
 
 pub returns-clause-found : goal.returns-clause-found

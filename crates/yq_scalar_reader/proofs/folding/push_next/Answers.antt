@@ -1,11 +1,7 @@
-use Rattle.std.proofs.Common.{◌++◌, ℕ, List, [], sym, ap, ◌∙◌, append_assoc}
-use Rattle.std.specs.String.{string_bytes}
-use Rattle.yq_core.specs.ContentReading.{content_on, before_of}
+use Rattle.std.{proofs.Common.{◌++◌, ℕ, List, [], sym, ap, ◌∙◌, append_assoc}, specs.String.string_bytes}
+use Rattle.yq_core.{specs.ContentReading.{content_on, before_of}, specs.Plain.no_gap, specs.Text.is_space}
+use Rattle.yq_core.{proofs.FoldLaws.{content_next, space_ends}, proofs.ItemLaws.{cut_within, shorter_still}}
 use Rattle.yq_scalar_reader.specs.Folded.{folded_text}
-use Rattle.yq_core.specs.Plain.{no_gap}
-use Rattle.yq_core.specs.Text.{is_space}
-use Rattle.yq_core.proofs.FoldLaws.{content_next, space_ends}
-use Rattle.yq_core.proofs.ItemLaws.{cut_within, shorter_still}
 use Rattle.yq_scalar_reader.proofs.folding.push_next.Goals as goal
 
 pub fold_item-item-requires : goal.fold_item-item-requires

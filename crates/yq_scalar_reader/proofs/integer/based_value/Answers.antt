@@ -1,6 +1,6 @@
 use Rattle.std.proofs.Common.{◌∙◌, sym, ap}
-use Rattle.yq_core.specs.SchemaReading as spec
 use Rattle.yq_scalar_reader.proofs.IntegerLaws.{based_parsed}
+use Rattle.yq_core.specs.SchemaReading as spec
 use Rattle.yq_scalar_reader.proofs.integer.based_value.Goals as goal
 
 pub returns-then-are_digits : goal.returns-then-are_digits

@@ -1,6 +1,6 @@
 use Rattle.std.proofs.Common.{sym, ◌∙◌, ap, arith}
-use Rattle.yq_core.specs.SchemaReading as spec
 use Rattle.yq_scalar_reader.proofs.IntegerLaws.{boundary_base}
+use Rattle.yq_core.specs.SchemaReading as spec
 use Rattle.yq_scalar_reader.proofs.integer.number_of.Goals as goal
 
 pub split_at-requires : goal.split_at-requires

@@ -1,5 +1,4 @@
-use Rattle.std.proofs.Common.{refl, sym, ◌∙◌, arith}
-use Rattle.std.proofs.lemmas.Bool.{false≢true}
+use Rattle.std.{proofs.Common.{refl, sym, ◌∙◌, arith}, proofs.lemmas.Bool.false≢true}
 use Rattle.yq_scalar_reader.proofs.DistinctKeys.{AreDistinct-from_before, DiffersBefore-from_distinct}
 use Rattle.yq_scalar_reader.proofs.keys.all_differ.Goals as goal
 

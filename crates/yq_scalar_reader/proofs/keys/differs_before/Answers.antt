@@ -1,5 +1,4 @@
-use Rattle.std.proofs.Common.{refl, sym, ◌∙◌, arith}
-use Rattle.std.proofs.lemmas.Bool.{false≢true}
+use Rattle.std.{proofs.Common.{refl, sym, ◌∙◌, arith}, proofs.lemmas.Bool.false≢true}
 use Rattle.yq_scalar_reader.proofs.DistinctKeys.{DiffersBefore-from_places, DifferAt-from_before}
 use Rattle.yq_scalar_reader.proofs.keys.differs_before.Goals as goal
 

@@ -1,6 +1,5 @@
 use Rattle.std.proofs.Common.{◌≡◌, ◌+◌, length, true}
-use Rattle.yq_core.specs.Answers.{more}
-use Rattle.yq_core.specs.PlainReading.{across}
+use Rattle.yq_core.{specs.Answers.more, specs.PlainReading.across}
 use Rattle.yq_scalar_reader.proofs.plain.across.Given as goal
 
 abbrev pub decreases-each : goal.decreases-each

@@ -1,8 +1,7 @@
 use Rattle.std.proofs.Common.{arith, ◌≡◌, ◌+◌, drop, true, ℕ, List, ◌∙◌, sym}
 use Rattle.yq_core.specs.Plain.{ends_plain}
 use Rattle.yq_core.proofs.Across.{rest_length, across_bounds, across_some, across_upto, plain_stop, plain_colon, plain_next}
-use Rattle.yq_core.proofs.PlainRuns.{run_behind}
-use Rattle.yq_core.proofs.Upto.{upto_le_length}
+use Rattle.yq_core.{proofs.PlainRuns.run_behind, proofs.Upto.upto_le_length}
 use Rattle.yq_scalar_reader.proofs.plain.plain_len.Goals as goal
 
 pub overflow_add-n-in-Some : goal.overflow_add-n-in-Some

@@ -1,6 +1,5 @@
 use Rattle.std.proofs.Common.{◌≡◌, ◌+◌, length}
-use Rattle.yq_core.specs.Text.{upto}
-use Rattle.yq_core.specs.Plain.{ends_plain}
+use Rattle.yq_core.{specs.Text.upto, specs.Plain.ends_plain}
 use Rattle.yq_scalar_reader.proofs.plain.plain_len.Given as goal
 
 abbrev pub decreases-each : goal.decreases-each

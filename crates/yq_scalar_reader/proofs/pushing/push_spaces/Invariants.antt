@@ -1,5 +1,4 @@
-use Rattle.std.proofs.Common.{◌≡◌, ◌++◌, replicate}
-use Rattle.std.specs.String.{string_bytes}
+use Rattle.std.{proofs.Common.{◌≡◌, ◌++◌, replicate}, specs.String.string_bytes}
 use Rattle.yq_scalar_reader.proofs.pushing.push_spaces.Given as goal
 
 abbrev pub invariant-loop : goal.invariant-loop

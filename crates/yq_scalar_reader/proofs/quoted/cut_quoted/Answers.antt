@@ -1,6 +1,6 @@
 use Rattle.std.proofs.Common.{◌∙◌, ap}
-use Rattle.yq_core.specs.QuotedReading as spec
 use Rattle.yq_core.proofs.QuotedFound.{boundary_quoted}
+use Rattle.yq_core.specs.QuotedReading as spec
 use Rattle.yq_scalar_reader.proofs.quoted.cut_quoted.Goals as goal
 
 pub split_at-requires : goal.split_at-requires

@@ -1,6 +1,5 @@
 use Rattle.std.proofs.Common.{sym, ap, ◌∙◌}
-use Rattle.yq_core.specs.QuotedReading.{hex}
-use Rattle.yq_core.proofs.EscapeLaws.{hex_none, hex_some, hex_within}
+use Rattle.yq_core.{specs.QuotedReading.hex, proofs.EscapeLaws.{hex_none, hex_some, hex_within}}
 use Rattle.yq_scalar_reader.proofs.quoted.hex_four.Goals as goal
 
 pub split_at-requires : goal.split_at-requires

@@ -1,6 +1,5 @@
 use Rattle.std.proofs.Common.{ℕ, ◌+◌, ◌≤◌, List, length, sym, ◌∙◌, arith}
-use Rattle.yq_core.proofs.EscapeLaws.{item_within, go_item}
-use Rattle.yq_core.proofs.Across.{rest_of, rest_length}
+use Rattle.yq_core.{proofs.EscapeLaws.{item_within, go_item}, proofs.Across.{rest_of, rest_length}}
 use Rattle.yq_core.proofs.QuotedRuns.{closed_here, no_item, quoted_behind, unclosed}
 use Rattle.yq_scalar_reader.proofs.quoted.quoted_len.Goals as goal
 

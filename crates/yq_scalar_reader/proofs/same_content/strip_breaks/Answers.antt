@@ -1,5 +1,4 @@
-use Rattle.std.proofs.Common.{◌≡◌, ◌≢◌, ◌∷◌, ℕ, List, arith, subst, rules}
-use Rattle.std.proofs.lemmas.Str.Pattern.{strip_prefix_char}
+use Rattle.std.{proofs.Common.{◌≡◌, ◌≢◌, ◌∷◌, ℕ, List, arith, subst, rules}, proofs.lemmas.Str.Pattern.strip_prefix_char}
 use Rattle.std.specs.Prelude.{MatchOption}
 use Rattle.yq_scalar_reader.proofs.SameContentLaws.{feed_missing, feed_stripped}
 use Rattle.yq_scalar_reader.proofs.same_content.strip_breaks.Goals as goal

@@ -1,6 +1,5 @@
 use Rattle.std.proofs.Common.{sym, subst}
-use Rattle.yq_scalar_reader.specs.Folded.{folded_text, StripsText}
-use Rattle.yq_scalar_reader.proofs.SameContentLaws.{strips_text, strips_char}
+use Rattle.yq_scalar_reader.{specs.Folded.{folded_text, StripsText}, proofs.SameContentLaws.{strips_text, strips_char}}
 use Rattle.yq_scalar_reader.proofs.same_content.strip_folded.Goals as goal
 
 pub returns-in-Text : goal.returns-in-Text

@@ -1,9 +1,7 @@
-use Rattle.std.proofs.Common.{ap}
-use Rattle.std.proofs.lemmas.Result.{err_from_is_err_and}
+use Rattle.std.{proofs.Common.ap, proofs.lemmas.Result.err_from_is_err_and}
 use Rattle.yq_semantics.specs.Operations.{operation_of}
+use Rattle.yq_edit_laws.{specs.Edit.by_reading, proofs.TextFaults.edit_not_read}
 use Rattle.yq_edit_laws.specs.Carried as spec
-use Rattle.yq_edit_laws.specs.Edit.{by_reading}
-use Rattle.yq_edit_laws.proofs.TextFaults.{edit_not_read}
 use Rattle.yq_splice.proofs.carrying.carry.Goals as goal
 
 pub returns-in_err-documents : goal.returns-in_err-documents

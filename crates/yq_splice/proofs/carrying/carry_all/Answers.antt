@@ -1,11 +1,8 @@
-use Rattle.std.proofs.Common.{ap, sym, ◌∙◌, subst, eqb-true, List, ℕ, arith}
-use Rattle.yq_edit_laws.specs.Answers.{Edits, EditFails}
-use Rattle.yq_edit_laws.specs.Edit.{edit_after, gives}
+use Rattle.std.{proofs.Common.{ap, sym, ◌∙◌, subst, eqb-true, List, ℕ, arith}, proofs.lemmas.Result.err_from_is_err_and}
+use Rattle.yq_edit_laws.{specs.Answers.{Edits, EditFails}, specs.Edit.{edit_after, gives}}
 use Rattle.yq_edit_laws.proofs.OperationsLaws.{last_comes, others_come, others_served, first_fails, first_fits, none_come}
-use Rattle.std.proofs.lemmas.Result.{err_from_is_err_and}
+use Rattle.yq_edit_laws.{specs.Carried.carry_all, specs.Valid.AreServed}
 use Rattle.yq_semantics.specs.Operations.{operations_of}
-use Rattle.yq_edit_laws.specs.Carried.{carry_all}
-use Rattle.yq_edit_laws.specs.Valid.{AreServed}
 use Rattle.yq_splice.proofs.carrying.carry_all.Goals as goal
 
 pub operations-preserved : goal.operations-preserved

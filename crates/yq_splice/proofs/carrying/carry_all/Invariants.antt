@@ -1,9 +1,6 @@
-use Rattle.std.proofs.Common.{◌≡◌, length}
-use Rattle.std.specs.String.{string_bytes}
+use Rattle.std.{proofs.Common.{◌≡◌, length}, specs.String.string_bytes}
 use Rattle.yq_semantics.specs.Operations.{operations_of}
-use Rattle.yq_edit_laws.specs.Carried.{carry_all}
-use Rattle.yq_edit_laws.specs.Edit.{edit_after}
-use Rattle.yq_edit_laws.specs.Valid.{AreServed}
+use Rattle.yq_edit_laws.{specs.Carried.carry_all, specs.Edit.edit_after, specs.Valid.AreServed}
 use Rattle.yq_splice.proofs.carrying.carry_all.Given as goal
 
 abbrev pub invariant-operations : goal.invariant-operations

@@ -1,10 +1,7 @@
 use Rattle.std.proofs.Common.{◌≡◌, List, ◌<◌, ◌-◌, length, take, drop, length-take, sym, ap, ◌∙◌, subst, arith}
 use Rattle.std.proofs.lemmas.Result.{err_from_is_err_and}
 use Rattle.yq_semantics.specs.Operations.{operation_of}
-use Rattle.yq_edit_laws.specs.Answers.{EditFails}
-use Rattle.yq_edit_laws.specs.Carried.{carry_one}
-use Rattle.yq_edit_laws.specs.Edit.{by_reading}
-use Rattle.yq_edit_laws.proofs.OperationsLaws.{last_comes}
+use Rattle.yq_edit_laws.{specs.Answers.EditFails, specs.Carried.carry_one, specs.Edit.by_reading, proofs.OperationsLaws.last_comes}
 use Rattle.yq_splice.proofs.carrying.carry_at_once.Goals as goal
 
 -- a sole operation is the last one

@@ -2,10 +2,7 @@ use Rattle.std.proofs.Common.{List, ℕ, sym, ap, ◌∙◌, subst}
 use Rattle.yq_semantics.specs.Operations.{operations_of}
 use Rattle.yq_documents.specs.Reading.{cut_of, read_at}
 use Rattle.yq_row_table.specs.Kept.{IsPlaced}
-use Rattle.yq_edit_laws.specs.Answers.{Edits}
-use Rattle.yq_edit_laws.specs.Carried.{carry_all}
-use Rattle.yq_edit_laws.specs.Edit.{edit_after}
-use Rattle.yq_edit_laws.specs.Valid.{AreServed}
+use Rattle.yq_edit_laws.{specs.Answers.Edits, specs.Carried.carry_all, specs.Edit.edit_after, specs.Valid.AreServed}
 use Rattle.yq_splice.proofs.carrying.carry_each.Goals as goal
 
 pub carry_all-requires-clause-serves : goal.carry_all-requires-clause-serves

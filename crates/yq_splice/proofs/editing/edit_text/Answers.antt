@@ -1,6 +1,5 @@
 use Rattle.std.proofs.Common.{◌<◌, sym, ◌∙◌, arith}
-use Rattle.yq_semantics.specs.Program.{update_count}
-use Rattle.yq_semantics.specs.View.{program_of}
+use Rattle.yq_semantics.{specs.Program.update_count, specs.View.program_of}
 use Rattle.yq_splice.proofs.AnswerLaws.{none_edited, none_refused, each_exact, each_edited, each_refused}
 use Rattle.yq_splice.proofs.editing.edit_text.Goals as goal
 

@@ -1,11 +1,8 @@
-use Rattle.std.proofs.Common.{Some, None, sym, ap, ◌∙◌}
-use Rattle.std.proofs.lemmas.Result.{err_from_is_err_and}
+use Rattle.std.{proofs.Common.{Some, None, sym, ap, ◌∙◌}, proofs.lemmas.Result.err_from_is_err_and}
 use Rattle.yq_documents.specs.Reading.{read_at, cut_of}
 use Rattle.yq_semantics.specs.View.{program_of}
-use Rattle.yq_edit_laws.specs.Carried.{edit_of}
-use Rattle.yq_edit_laws.specs.Edit.{gives}
+use Rattle.yq_edit_laws.{specs.Carried.edit_of, specs.Edit.gives, proofs.TextFaults.edit_not_read}
 use Rattle.yq_splice.proofs.AnswerLaws.{none_edit, none_done}
-use Rattle.yq_edit_laws.proofs.TextFaults.{edit_not_read}
 use Rattle.yq_splice.proofs.editing.no_updates.Goals as goal
 
 pub returns : goal.returns

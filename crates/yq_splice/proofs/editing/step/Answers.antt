@@ -1,17 +1,11 @@
-use Rattle.std.proofs.Common.{◌≡◌, ℕ, List, Some, sym, ap, subst, ◌∙◌}
-use Rattle.std.proofs.lemmas.Result.{err_from_is_err_and}
-use Rattle.std.specs.Prelude.{Vec}
+use Rattle.std.{proofs.Common.{◌≡◌, ℕ, List, Some, sym, ap, subst, ◌∙◌}, proofs.lemmas.Result.err_from_is_err_and, specs.Prelude.Vec}
 use Rattle.std.specs.declared.alloc.Global.{Global}
 use Rattle.yq_documents.specs.Reading.{cut_of, documents, read_at}
-use Rattle.yq_semantics.specs.Operations.{Operation, operations_of}
-use Rattle.yq_semantics.specs.declared.op.Op.{Op}
-use Rattle.yq_semantics.specs.View.{program_of}
-use Rattle.yq_edit_laws.specs.Answers.{Edits}
-use Rattle.yq_edit_laws.specs.Carried.{carry_all}
-use Rattle.yq_edit_laws.specs.Edit.{edit_after}
-use Rattle.yq_edit_laws.specs.Valid.{AreServed, HaveOperands}
+use Rattle.yq_semantics.{specs.Operations.{Operation, operations_of}, specs.declared.op.Op.Op, specs.View.program_of}
+use Rattle.yq_edit_laws.{specs.Answers.Edits, specs.Carried.carry_all, specs.Edit.edit_after, specs.Valid.{AreServed, HaveOperands}}
 use Rattle.yq_edit_laws.proofs.MeaningLaws.{plan_serves}
-use Rattle.yq_edit_laws.proofs.UpdateLaws.{update_not_read, update_unplanned, update_planned, update_holds, update_there, update_ok, update_err}
+use Rattle.yq_edit_laws.proofs.UpdateLaws.{update_not_read, update_unplanned, update_planned, update_holds, update_there, update_ok}
+use Rattle.yq_edit_laws.proofs.UpdateLaws.{update_err}
 use Rattle.yq_splice.proofs.editing.step.Goals as goal
 
 pub returns-in_err-documents-clause-err : goal.returns-in_err-documents-clause-err

@@ -1,10 +1,7 @@
-use Rattle.std.proofs.Common.{◌<◌, ℕ, List, length, take, refl, sym, ap, subst, ◌∙◌, arith}
-use Rattle.std.specs.String.{string_bytes}
+use Rattle.std.{proofs.Common.{◌<◌, ℕ, List, length, take, refl, sym, ap, subst, ◌∙◌, arith}, specs.String.string_bytes}
 use Rattle.std.proofs.lemmas.Result.{err_from_is_err_and}
-use Rattle.yq_semantics.specs.Program.{update_count}
-use Rattle.yq_semantics.specs.View.{program_of}
-use Rattle.yq_edit_laws.specs.Theorems.{InOrder}
-use Rattle.yq_edit_laws.specs.Valid.{IsStep}
+use Rattle.yq_semantics.{specs.Program.update_count, specs.View.program_of}
+use Rattle.yq_edit_laws.{specs.Theorems.InOrder, specs.Valid.IsStep}
 use Rattle.yq_splice.proofs.AnswerLaws.{step_more, step_fails, all_done_so}
 use Rattle.yq_splice.proofs.editing.update_each.Goals as goal
 

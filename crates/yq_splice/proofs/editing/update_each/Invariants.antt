@@ -1,9 +1,6 @@
-use Rattle.std.proofs.Common.{◌≡◌, ◌≤◌, ◌-◌, List, take}
-use Rattle.std.specs.String.{string_bytes}
-use Rattle.yq_semantics.specs.Program.{Update, update_count, updates}
-use Rattle.yq_semantics.specs.View.{program_of}
-use Rattle.yq_edit_laws.specs.Theorems.{InOrder}
-use Rattle.yq_edit_laws.specs.Valid.{IsStep}
+use Rattle.std.{proofs.Common.{◌≡◌, ◌≤◌, ◌-◌, List, take}, specs.String.string_bytes}
+use Rattle.yq_semantics.{specs.Program.{Update, update_count, updates}, specs.View.program_of}
+use Rattle.yq_edit_laws.{specs.Theorems.InOrder, specs.Valid.IsStep}
 use Rattle.yq_splice.proofs.editing.update_each.Given as goal
 
 abbrev pub invariant-updates : goal.invariant-updates

@@ -1,10 +1,6 @@
-use Rattle.std.proofs.Common.{arith, ◌∙◌, sym, ap}
-use Rattle.std.specs.FinMap.{find, get-from_entries}
-use Rattle.std.specs.Ordering.{nat_cmp}
-use Rattle.std.specs.Cmp.Lexicographic.{slice_cmp, nat_list_cmp_total}
-use Rattle.std.proofs.lemmas.Grind.{common_steps}
-use Rattle.yq_store.specs.FileMap.{log_entries}
-use Rattle.yq_store.proofs.Found.{found_first, found_later}
+use Rattle.std.{proofs.Common.{arith, ◌∙◌, sym, ap}, specs.FinMap.{find, get-from_entries}, specs.Ordering.nat_cmp}
+use Rattle.std.{specs.Cmp.Lexicographic.{slice_cmp, nat_list_cmp_total}, proofs.lemmas.Grind.common_steps}
+use Rattle.yq_store.{specs.FileMap.log_entries, proofs.Found.{found_first, found_later}}
 use Rattle.yq_store.proofs.memory.find_bytes.Goals as goal
 
 pub entries-init : goal.entries-init

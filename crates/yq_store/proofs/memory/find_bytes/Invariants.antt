@@ -1,7 +1,4 @@
-use Rattle.std.proofs.Common.{◌≡◌}
-use Rattle.std.specs.Ordering.{nat_cmp}
-use Rattle.std.specs.Cmp.Lexicographic.{slice_cmp}
-use Rattle.std.specs.FinMap.{get, find}
+use Rattle.std.{proofs.Common.◌≡◌, specs.Ordering.nat_cmp, specs.Cmp.Lexicographic.slice_cmp, specs.FinMap.{get, find}}
 use Rattle.std.specs.VecDeque.Iter.{deque_iter_rest}
 use Rattle.yq_store.specs.FileMap.{file_bytes, log_entries}
 use Rattle.yq_store.proofs.memory.find_bytes.Given as goal

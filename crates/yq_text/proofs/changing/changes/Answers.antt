@@ -1,9 +1,6 @@
 use Rattle.std.proofs.Common.{ap, sym, ◌∙◌, subst}
-use Rattle.yq_text.specs.Changing.{IsChange}
-use Rattle.yq_text.specs.Script.{to_last}
-use Rattle.yq_text.specs.Segments.{segments_of}
-use Rattle.yq_text.specs.declared.changed.ChangedMiddle.{ChangedMiddle}
-use Rattle.yq_text.proofs.ChangeLaws.{change_is, inner_small}
+use Rattle.yq_text.{specs.Changing.IsChange, specs.Script.to_last, specs.Segments.segments_of}
+use Rattle.yq_text.{specs.declared.changed.ChangedMiddle.ChangedMiddle, proofs.ChangeLaws.{change_is, inner_small}}
 use Rattle.yq_text.proofs.changing.changes.Goals as goal
 
 pub build-requires : goal.build-requires

@@ -1,12 +1,7 @@
-use Rattle.std.proofs.lemmas.Grind.{common_steps}
-use Rattle.std.proofs.Common.{◌∙◌, ap, arith, length, length-append, subst, sym, ◌-◌, take, drop}
-use Rattle.std.proofs.lemmas.Str.{IsUtf8-nil}
-use Rattle.std.specs.Str.{IsUtf8}
-use Rattle.yq_text.specs.Halves.{whole}
-use Rattle.yq_text.specs.Script.{from_first, kept_front, old_text}
-use Rattle.yq_text.specs.Segments.{segments_of}
-use Rattle.yq_text.proofs.FirstSegment.{keeps_first, later, none_left}
-use Rattle.yq_text.proofs.LoopLaws.{front_more}
+use Rattle.std.{proofs.lemmas.Grind.common_steps, proofs.Common.{◌∙◌, ap, arith, length, length-append, subst, sym, ◌-◌, take, drop}}
+use Rattle.std.{proofs.lemmas.Str.IsUtf8-nil, specs.Str.IsUtf8}
+use Rattle.yq_text.{specs.Halves.whole, specs.Script.{from_first, kept_front, old_text}, specs.Segments.segments_of}
+use Rattle.yq_text.{proofs.FirstSegment.{keeps_first, later, none_left}, proofs.LoopLaws.front_more}
 use Rattle.yq_text.proofs.changing.from_first.Goals as goal
 
 pub overflow_add-len : goal.overflow_add-len

@@ -1,7 +1,5 @@
-use Rattle.std.proofs.Common.{◌≡◌, ◌+◌, length}
-use Rattle.std.specs.Str.{IsUtf8}
-use Rattle.yq_text.specs.Script.{old_text, kept_front, from_first}
-use Rattle.yq_text.specs.Segments.{segments_of}
+use Rattle.std.{proofs.Common.{◌≡◌, ◌+◌, length}, specs.Str.IsUtf8}
+use Rattle.yq_text.{specs.Script.{old_text, kept_front, from_first}, specs.Segments.segments_of}
 use Rattle.yq_text.proofs.changing.from_first.Given as goal
 
 abbrev pub invariant-segments : goal.invariant-segments

@@ -1,12 +1,7 @@
 use Rattle.std.proofs.Common.{◌-◌, ap, arith, length, length-append, length-take-le, subst, sym, take}
-use Rattle.std.proofs.lemmas.Str.{IsUtf8-append, IsUtf8-nil}
-use Rattle.std.specs.Str.{IsUtf8}
-use Rattle.yq_text.specs.Halves.{whole}
-use Rattle.yq_text.specs.Script.{kept_back}
-use Rattle.yq_text.specs.Segments.{segments_of}
-use Rattle.yq_text.proofs.FirstSegment.{none_left}
-use Rattle.yq_text.proofs.KeptSegments.{back_within}
-use Rattle.yq_text.proofs.LoopLaws.{back_kept, back_put, but_last_fewer}
+use Rattle.std.{proofs.lemmas.Str.{IsUtf8-append, IsUtf8-nil}, specs.Str.IsUtf8}
+use Rattle.yq_text.{specs.Halves.whole, specs.Script.kept_back, specs.Segments.segments_of, proofs.FirstSegment.none_left}
+use Rattle.yq_text.{proofs.KeptSegments.back_within, proofs.LoopLaws.{back_kept, back_put, but_last_fewer}}
 use Rattle.yq_text.proofs.changing.kept_back.Goals as goal
 
 pub text_len-len-requires : goal.text_len-len-requires

@@ -1,6 +1,5 @@
 use Rattle.std.proofs.Common.{◌≡◌, ◌≤◌, length}
-use Rattle.yq_text.specs.Script.{to_last}
-use Rattle.yq_text.specs.Segments.{segments_of}
+use Rattle.yq_text.{specs.Script.to_last, specs.Segments.segments_of}
 use Rattle.yq_text.proofs.changing.to_last.Given as goal
 
 abbrev pub invariant-segments : goal.invariant-segments

@@ -1,10 +1,8 @@
 use Rattle.std.proofs.Common.{◌≡◌, ◌+◌, ◌∷◌, ◌++◌, ◌∙◌, ap, append_assoc, arith, length, length-append, nat_eq, sym, []}
-use Rattle.std.proofs.lemmas.Bool.{eqb-true}
-use Rattle.std.specs.String.{string_bytes}
-use Rattle.yq_text.specs.Halves.{whole}
-use Rattle.yq_text.specs.Script.{keep, new_text, put_before, merged, splices_at}
-use Rattle.yq_text.specs.Segments.{segments_of}
-use Rattle.yq_text.proofs.FirstSegment.{build_gives, kept_found, kept_once, keeps_first, later, later_fewer, none_long, put_found, puts_first}
+use Rattle.std.{proofs.lemmas.Bool.eqb-true, specs.String.string_bytes}
+use Rattle.yq_text.{specs.Halves.whole, specs.Script.{keep, new_text, put_before, merged, splices_at}, specs.Segments.segments_of}
+use Rattle.yq_text.proofs.FirstSegment.{build_gives, kept_found, kept_once, keeps_first, later, later_fewer, none_long, put_found}
+use Rattle.yq_text.proofs.FirstSegment.{puts_first}
 use Rattle.yq_text.proofs.exchanging.build.Goals as goal
 
 pub keep-requires : goal.keep-requires

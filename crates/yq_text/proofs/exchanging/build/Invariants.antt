@@ -1,7 +1,5 @@
-use Rattle.std.proofs.Common.{◌≡◌, ◌+◌, ◌++◌, length}
-use Rattle.std.specs.String.{string_bytes}
-use Rattle.yq_text.specs.Script.{new_text, put_before, merged, splices_at}
-use Rattle.yq_text.specs.Segments.{segments_of}
+use Rattle.std.{proofs.Common.{◌≡◌, ◌+◌, ◌++◌, length}, specs.String.string_bytes}
+use Rattle.yq_text.{specs.Script.{new_text, put_before, merged, splices_at}, specs.Segments.segments_of}
 use Rattle.yq_text.proofs.exchanging.build.Given as goal
 
 abbrev pub invariant-segments : goal.invariant-segments

@@ -1,7 +1,5 @@
 use Rattle.std.proofs.Common.{◌≡◌, ◌+◌, ◌≤◌, length}
-use Rattle.yq_text.specs.Limit.{text_limit}
-use Rattle.yq_text.specs.Script.{new_text}
-use Rattle.yq_text.specs.Segments.{segments_of}
+use Rattle.yq_text.{specs.Limit.text_limit, specs.Script.new_text, specs.Segments.segments_of}
 use Rattle.yq_text.proofs.exchanging.new_len.Given as goal
 
 abbrev pub invariant-segments : goal.invariant-segments

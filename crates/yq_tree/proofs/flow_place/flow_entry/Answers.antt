@@ -1,19 +1,11 @@
-use Rattle.std.proofs.Common.{◌≡◌, eqb, List, ℕ, Option, true, map, option_map, sym, ap, ◌∙◌, subst}
-use Rattle.std.proofs.lemmas.List.{length-map}
-use Rattle.yq_core.specs.Entries.{tree_step}
-use Rattle.yq_core.specs.Places.{Placed}
-use Rattle.yq_outline.specs.Ends.{reached}
-use Rattle.yq_row_table.specs.Grammar.{IsCut}
-use Rattle.yq_row_table.specs.View.{rows_view}
-use Rattle.yq_outline.specs.Lines.{lines_of_rows}
-use Rattle.yq_documents.specs.Located.{steps_of}
-use Rattle.yq_documents.specs.Decoded.{decoded_flow}
-use Rattle.yq_documents.specs.Reading.{all_documents, cut_of}
-use Rattle.yq_places.specs.EntryReading.{flow_entry_at, flow_entry_of}
-use Rattle.yq_places.specs.RowWalk.{document_row_range}
-use Rattle.yq_places.proofs.EntryPlaceLaws.{no_flow, no_flow_left}
+use Rattle.std.{proofs.Common.{◌≡◌, eqb, List, ℕ, Option, true, map, option_map, sym, ap, ◌∙◌, subst}, proofs.lemmas.List.length-map}
+use Rattle.yq_core.{specs.Entries.tree_step, specs.Places.Placed}
+use Rattle.yq_outline.{specs.Ends.reached, specs.Lines.lines_of_rows}
+use Rattle.yq_row_table.{specs.Grammar.IsCut, specs.View.rows_view}
+use Rattle.yq_documents.{specs.Located.steps_of, specs.Decoded.decoded_flow, specs.Reading.{all_documents, cut_of}}
+use Rattle.yq_places.{specs.EntryReading.{flow_entry_at, flow_entry_of}, specs.RowWalk.document_row_range}
+use Rattle.yq_places.{proofs.EntryPlaceLaws.{no_flow, no_flow_left}, proofs.WalkDocuments.{found_document, no_place_found, place_found}}
 use Rattle.yq_tree.proofs.FlowEntries.{flow_found}
-use Rattle.yq_places.proofs.WalkDocuments.{found_document, no_place_found, place_found}
 use Rattle.yq_tree.proofs.flow_place.flow_entry.Goals as goal
 
 pub returns-in_err-document : goal.returns-in_err-document

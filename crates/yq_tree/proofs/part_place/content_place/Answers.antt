@@ -1,8 +1,7 @@
 use Rattle.std.proofs.Common.{option_and_then, sym, ap, ◌∙◌}
 use Rattle.yq_core.specs.Entries.{PlacedEntry, content_place}
 use Rattle.yq_documents.specs.Reading.{cut_of}
-use Rattle.yq_places.specs.EntryReading.{flow_entry_at, line_content_at}
-use Rattle.yq_places.proofs.EntryPlaceLaws.{TextSpan, or_flow, content_either}
+use Rattle.yq_places.{specs.EntryReading.{flow_entry_at, line_content_at}, proofs.EntryPlaceLaws.{TextSpan, or_flow, content_either}}
 use Rattle.yq_places.proofs.PieceHolds.{spans_are}
 use Rattle.yq_tree.proofs.part_place.content_place.Goals as goal
 

@@ -1,8 +1,7 @@
 use Rattle.std.proofs.Common.{Some, option_map, sym, ap, ◌∙◌}
 use Rattle.yq_core.specs.Entries.{entry_place}
 use Rattle.yq_documents.specs.Reading.{cut_of}
-use Rattle.yq_places.specs.EntryReading.{flow_entry_at, line_entry_at}
-use Rattle.yq_places.proofs.EntryPlaceLaws.{TextSpan, or_flow, entry_either}
+use Rattle.yq_places.{specs.EntryReading.{flow_entry_at, line_entry_at}, proofs.EntryPlaceLaws.{TextSpan, or_flow, entry_either}}
 use Rattle.yq_places.proofs.PieceHolds.{spans_are}
 use Rattle.yq_tree.proofs.part_place.entry_place.Goals as goal
 

@@ -1,7 +1,5 @@
 use Rattle.std.proofs.Common.{◌∙◌, sym, subst}
-use Rattle.yq_documents.specs.Reading.{cut_of}
-use Rattle.yq_documents.specs.Ready.{TextIsReady}
-use Rattle.yq_documents.proofs.ReadLaws.{read_as_text, read_takes, only_by, none_by}
+use Rattle.yq_documents.{specs.Reading.cut_of, specs.Ready.TextIsReady, proofs.ReadLaws.{read_as_text, read_takes, only_by, none_by}}
 use Rattle.yq_tree.proofs.reading.read.Goals as goal
 
 pub returns-in-Ok-read_text-clause-found : goal.returns-in-Ok-read_text-clause-found

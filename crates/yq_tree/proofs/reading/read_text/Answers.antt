@@ -1,6 +1,5 @@
 use Rattle.std.proofs.Common.{Some, sym, ap, ◌∙◌}
-use Rattle.yq_documents.specs.Reading.{cut_of}
-use Rattle.yq_documents.proofs.ReadLaws.{scan_fails, text_read}
+use Rattle.yq_documents.{specs.Reading.cut_of, proofs.ReadLaws.{scan_fails, text_read}}
 use Rattle.yq_tree.proofs.DeniedLaws.{text_denied}
 use Rattle.yq_tree.proofs.reading.read_text.Goals as goal
 

@@ -1,6 +1,4 @@
-use Rattle.std.proofs.Common.{refl}
-use Rattle.std.proofs.lemmas.Bool.{false_from_ne_true}
-use Rattle.std.proofs.lemmas.Str.{is_utf8-from_IsUtf8, IsUtf8-from_is_utf8}
+use Rattle.std.{proofs.Common.refl, proofs.lemmas.Bool.false_from_ne_true, proofs.lemmas.Str.{is_utf8-from_IsUtf8, IsUtf8-from_is_utf8}}
 use Rattle.std.specs.Str.{is_utf8}
 use Rattle.yq_tree.proofs.reading.text_of.Goals as goal
 

@@ -1,5 +1,4 @@
-use Rattle.std.proofs.Common.{ℕ, List, ◌++◌, append_assoc, ap, ◌∙◌}
-use Rattle.std.specs.String.{string_bytes}
+use Rattle.std.{proofs.Common.{ℕ, List, ◌++◌, append_assoc, ap, ◌∙◌}, specs.String.string_bytes}
 use Rattle.yq_batch.proofs.run.PutRun.end.Goals as goal
 
 pub returns-clause-text : goal.returns-clause-text

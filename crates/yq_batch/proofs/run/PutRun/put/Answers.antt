@@ -1,5 +1,4 @@
-use Rattle.std.proofs.Common.{ℕ, List, ◌++◌, ap, ◌∙◌, subst}
-use Rattle.std.specs.Prelude.{IfErr, OnOk}
+use Rattle.std.{proofs.Common.{ℕ, List, ◌++◌, ap, ◌∙◌, subst}, specs.Prelude.{IfErr, OnOk}}
 use Rattle.yq_text.specs.Halves.{whole}
 use Rattle.yq_batch.specs.Runs.{HasPut, PutFails}
 use Rattle.yq_batch.proofs.run.PutRun.put.Goals as goal

@@ -1,6 +1,6 @@
 use Rattle.std.proofs.Common.{◌≡◌, None, drop, map}
-use Rattle.yq_core.specs.Entries as spec
 use Rattle.yq_core.specs.View.{inline_view}
+use Rattle.yq_core.specs.Entries as spec
 use Rattle.yq_core.proofs.inline.Inline.find.Given as goal
 
 abbrev pub invariant-steps : goal.invariant-steps

@@ -1,8 +1,6 @@
 use Rattle.std.proofs.Common.{refl, ap, ◌∙◌}
-use Rattle.yq_core.proofs.BlockSteps.{at_cut, at_end}
-use Rattle.yq_core.specs.Text.{text_lines}
-use Rattle.yq_documents.specs.Texts.{texts}
-use Rattle.yq_documents.proofs.CommentLaws.{no_text, one_text, none_left}
+use Rattle.yq_core.{proofs.BlockSteps.{at_cut, at_end}, specs.Text.text_lines}
+use Rattle.yq_documents.{specs.Texts.texts, proofs.CommentLaws.{no_text, one_text, none_left}}
 use Rattle.yq_documents.proofs.comment.CommentsIterator.next.Goals as goal
 
 pub returns-then-is_empty-clause-steps : goal.returns-then-is_empty-clause-steps

@@ -1,7 +1,5 @@
 use Rattle.std.proofs.Common.{◌∙◌, length, ap, subst, sym}
-use Rattle.yq_documents.specs.Decoded.{IsDecodedBy, Rise, decoded_at}
-use Rattle.yq_documents.specs.Reading.{cut_of}
-use Rattle.yq_documents.proofs.HoldLaws.{agrees_held}
+use Rattle.yq_documents.{specs.Decoded.{IsDecodedBy, Rise, decoded_at}, specs.Reading.cut_of, proofs.HoldLaws.agrees_held}
 use Rattle.yq_documents.proofs.documents.Documents.decoded.Goals as goal
 
 pub decoded_at-requires : goal.decoded_at-requires

@@ -1,5 +1,4 @@
-use Rattle.std.proofs.Common.{refl, ◌∙◌, arith}
-use Rattle.std.proofs.lemmas.Option.{slice_get_read}
+use Rattle.std.{proofs.Common.{refl, ◌∙◌, arith}, proofs.lemmas.Option.slice_get_read}
 use Rattle.yq_documents.proofs.HoldLaws.{count_held, lead_held}
 use Rattle.yq_documents.proofs.documents.Documents.lead.Goals as goal
 

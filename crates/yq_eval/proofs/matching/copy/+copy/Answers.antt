@@ -1,14 +1,10 @@
-use Rattle.std.proofs.Common.{ℕ, List, [], ◌∷◌, ◌++◌, map, refl, sym, ap, ◌∙◌, subst, arith}
-use Rattle.std.proofs.lemmas.List.{map_push}
-use Rattle.yq_core.specs.Values.{field_of, value_node}
-use Rattle.yq_core.specs.Tree.{Node}
-use Rattle.yq_nodes.specs.Children.{left_of}
-use Rattle.yq_nodes.specs.Nodes.{label_of, node_of}
-use Rattle.yq_semantics.specs.Copies.{item_copies, entry_copies}
-use Rattle.yq_eval.specs.PlaceView.{put_behind}
-use Rattle.yq_eval.specs.TreeScalars.{EachHasScalars}
-use Rattle.yq_eval.proofs.CopyLaws.{items_more, entries_more, map_copied, depth_below, items_done, entries_done, fewer, count_within, deep_within}
-use Rattle.yq_semantics.proofs.ValueMaps.{node_of-map}
+use Rattle.std.{proofs.Common.{ℕ, List, [], ◌∷◌, ◌++◌, map, refl, sym, ap, ◌∙◌, subst, arith}, proofs.lemmas.List.map_push}
+use Rattle.yq_core.{specs.Values.{field_of, value_node}, specs.Tree.Node}
+use Rattle.yq_nodes.{specs.Children.left_of, specs.Nodes.{label_of, node_of}}
+use Rattle.yq_semantics.{specs.Copies.{item_copies, entry_copies}, proofs.ValueMaps.node_of-map}
+use Rattle.yq_eval.{specs.PlaceView.put_behind, specs.TreeScalars.EachHasScalars}
+use Rattle.yq_eval.proofs.CopyLaws.{items_more, entries_more, map_copied, depth_below, items_done, entries_done, fewer, count_within}
+use Rattle.yq_eval.proofs.CopyLaws.{deep_within}
 use Rattle.yq_eval.proofs.matching.copy.+copy.Goals as goal
 
 pub copy-returns-in_ok-entry_copies-in-Map : goal.copy-returns-in_ok-entry_copies-in-Map

@@ -1,13 +1,9 @@
 use Rattle.std.proofs.Common.{◌≡◌, ◌+◌, ◌*◌, ◌≤◌, map}
-use Rattle.yq_core.specs.Values.{field_of, value_node}
-use Rattle.yq_core.specs.Keys.{depth, deepest}
-use Rattle.yq_core.specs.Tree.{children_of}
-use Rattle.yq_nodes.specs.Children.{left_of}
+use Rattle.yq_core.{specs.Values.{field_of, value_node}, specs.Keys.{depth, deepest}, specs.Tree.children_of}
+use Rattle.yq_nodes.{specs.Children.left_of, specs.Nodes.node_of}
 use Rattle.yq_outline.specs.Counts.{count}
-use Rattle.yq_nodes.specs.Nodes.{node_of}
+use Rattle.yq_eval.{specs.PlaceView.put_behind, specs.TreeScalars.EachHasScalars}
 use Rattle.yq_semantics.specs.Copies as spec
-use Rattle.yq_eval.specs.PlaceView.{put_behind}
-use Rattle.yq_eval.specs.TreeScalars.{EachHasScalars}
 use Rattle.yq_eval.proofs.matching.copy.+copy.Given as goal
 
 abbrev pub decreases-copy : goal.decreases-copy

@@ -1,9 +1,7 @@
 use Rattle.std.proofs.Common.{rules, sym, ap, ◌∙◌, subst}
 use Rattle.yq_nodes.specs.Nodes.{node_of}
-use Rattle.yq_eval.specs.FoundView.{child_places, found_places}
-use Rattle.yq_eval.specs.PlaceView.{path_of, places_of}
-use Rattle.yq_semantics.specs.Judgement.{Judges, gives}
-use Rattle.yq_semantics.specs.Places.{for_each, step_on}
+use Rattle.yq_eval.{specs.FoundView.{child_places, found_places}, specs.PlaceView.{path_of, places_of}}
+use Rattle.yq_semantics.{specs.Judgement.{Judges, gives}, specs.Places.{for_each, step_on}}
 use Rattle.yq_eval.specs.declared.matching.place.FoundPlace as declared
 use Rattle.yq_eval.proofs.matching.found.all_of.Goals as goal
 

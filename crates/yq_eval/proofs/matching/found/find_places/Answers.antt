@@ -1,15 +1,10 @@
-use Rattle.std.proofs.Common.{◌≡◌, List, [], ◌∷◌, Err, map, sym, ap, ◌∙◌, subst}
-use Rattle.std.proofs.lemmas.Result.{err_from_is_err_and}
+use Rattle.std.{proofs.Common.{◌≡◌, List, [], ◌∷◌, Err, map, sym, ap, ◌∙◌, subst}, proofs.lemmas.Result.err_from_is_err_and}
 use Rattle.yq_nodes.specs.Nodes.{node_of}
-use Rattle.yq_eval.specs.FoundView.{found_places}
-use Rattle.yq_eval.specs.PlaceView.{places_of}
-use Rattle.yq_eval.specs.declared.matching.place.FoundPlace as declared
-use Rattle.yq_semantics.specs.Judgement.{MatchFails, Judges, and_then}
-use Rattle.yq_semantics.specs.Places.{Place, root_place, for_each, step_on, traverse}
-use Rattle.yq_semantics.specs.Program.{each}
-use Rattle.yq_semantics.specs.View.{stage_of, program_step}
-use Rattle.yq_eval.proofs.EachLaws.{fails_then, failed}
+use Rattle.yq_eval.{specs.FoundView.found_places, specs.PlaceView.places_of, proofs.EachLaws.{fails_then, failed}}
 use Rattle.yq_eval.proofs.FoundLaws.{each_last}
+use Rattle.yq_semantics.{specs.Judgement.{MatchFails, Judges, and_then}, specs.Places.{Place, root_place, for_each, step_on, traverse}}
+use Rattle.yq_semantics.{specs.Program.each, specs.View.{stage_of, program_step}}
+use Rattle.yq_eval.specs.declared.matching.place.FoundPlace as declared
 use Rattle.yq_eval.proofs.matching.found.find_places.Goals as goal
 
 pub returns-in_err-places : goal.returns-in_err-places

@@ -1,9 +1,7 @@
-use Rattle.std.proofs.Common.{Err, ap, ◌∙◌}
-use Rattle.std.proofs.lemmas.Result.{err_from_is_err_and}
-use Rattle.yq_semantics.specs.Pipes as spec
-use Rattle.yq_eval.specs.PlaceView.{places_of}
+use Rattle.std.{proofs.Common.{Err, ap, ◌∙◌}, proofs.lemmas.Result.err_from_is_err_and}
+use Rattle.yq_eval.{specs.PlaceView.places_of, proofs.EachLaws.{chain_more, chain_fails, failed}}
 use Rattle.yq_semantics.specs.View.{stage_of}
-use Rattle.yq_eval.proofs.EachLaws.{chain_more, chain_fails, failed}
+use Rattle.yq_semantics.specs.Pipes as spec
 use Rattle.yq_eval.proofs.matching.pipe.pipe_on.Goals as goal
 
 pub returns-in_err-places : goal.returns-in_err-places

@@ -1,7 +1,7 @@
 use Rattle.std.proofs.Common.{◌≡◌, drop, map}
-use Rattle.yq_semantics.specs.Pipes as spec
 use Rattle.yq_eval.specs.PlaceView.{places_of}
 use Rattle.yq_semantics.specs.View.{stage_of}
+use Rattle.yq_semantics.specs.Pipes as spec
 use Rattle.yq_eval.proofs.matching.pipe.pipe_on.Given as goal
 
 abbrev pub invariant-stages : goal.invariant-stages

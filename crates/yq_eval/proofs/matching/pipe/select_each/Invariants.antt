@@ -1,8 +1,6 @@
 use Rattle.std.proofs.Common.{◌≡◌, drop}
-use Rattle.yq_semantics.specs.Pipes.{select_on}
+use Rattle.yq_semantics.{specs.Pipes.select_on, specs.Places.for_each, specs.View.condition_of}
 use Rattle.yq_eval.specs.PlaceView.{places_of, put_behind}
-use Rattle.yq_semantics.specs.Places.{for_each}
-use Rattle.yq_semantics.specs.View.{condition_of}
 use Rattle.yq_eval.proofs.matching.pipe.select_each.Given as goal
 
 abbrev pub invariant-places : goal.invariant-places

@@ -1,7 +1,6 @@
 use Rattle.yq_nodes.specs.Nodes.{node_of}
 use Rattle.yq_core.specs.Tree.{children_of}
-use Rattle.std.proofs.lemmas.Int.{to_z-of_z}
-use Rattle.std.proofs.Common.{w64, Some}
+use Rattle.std.{proofs.lemmas.Int.to_z-of_z, proofs.Common.{w64, Some}}
 use Rattle.yq_eval.proofs.StepLaws.{item_found}
 use Rattle.yq_eval.proofs.matching.step.item.Goals as goal
 

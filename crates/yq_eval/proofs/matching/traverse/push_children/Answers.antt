@@ -1,11 +1,9 @@
 use Rattle.std.proofs.Common.{◌≡◌, ◌+◌, ◌++◌, map, sym, ap, ◌∙◌, append-nil, arith}
 use Rattle.yq_core.specs.Tree.{Children}
-use Rattle.yq_nodes.specs.Children.{left_of}
+use Rattle.yq_nodes.{specs.Children.left_of, specs.Nodes.{label_of, node_of}}
 use Rattle.yq_outline.specs.Counts.{count}
-use Rattle.yq_nodes.specs.Nodes.{label_of, node_of}
-use Rattle.yq_eval.specs.PlaceView.{place_of, places_of}
+use Rattle.yq_eval.{specs.PlaceView.{place_of, places_of}, proofs.PlaceLaws.{children_more, none_counted, next_fits}}
 use Rattle.yq_semantics.specs.Places.{Place, child_place, stepped}
-use Rattle.yq_eval.proofs.PlaceLaws.{children_more, none_counted, next_fits}
 use Rattle.yq_eval.proofs.matching.traverse.push_children.Goals as goal
 
 pub each-preserved : goal.each-preserved

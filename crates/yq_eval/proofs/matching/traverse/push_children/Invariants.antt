@@ -1,8 +1,7 @@
 use Rattle.std.proofs.Common.{◌≡◌, ◌+◌, ◌-◌, ◌++◌, map}
 use Rattle.yq_core.specs.Tree.{children_of}
-use Rattle.yq_nodes.specs.Children.{left_of}
+use Rattle.yq_nodes.{specs.Children.left_of, specs.Nodes.node_of}
 use Rattle.yq_outline.specs.Counts.{count}
-use Rattle.yq_nodes.specs.Nodes.{node_of}
 use Rattle.yq_eval.specs.PlaceView.{path_of, place_of, places_of}
 use Rattle.yq_semantics.specs.Places.{child_place, stepped}
 use Rattle.yq_eval.proofs.matching.traverse.push_children.Given as goal

@@ -1,5 +1,4 @@
-use Rattle.std.proofs.Common.{[], ◌∷◌, ◌++◌, sym, ap, ◌∙◌}
-use Rattle.std.proofs.lemmas.List.{map_push}
+use Rattle.std.{proofs.Common.{[], ◌∷◌, ◌++◌, sym, ap, ◌∙◌}, proofs.lemmas.List.map_push}
 use Rattle.yq_eval.specs.PlaceView.{path_of, place_of, places_of}
 use Rattle.yq_semantics.specs.Places.{Place}
 use Rattle.yq_eval.proofs.matching.traverse.push_found.Goals as goal

@@ -1,8 +1,6 @@
 use Rattle.std.proofs.Common.{ap, ◌∙◌, sym}
-use Rattle.yq_eval.specs.PlaceView.{missing_of, place_of, places_of}
-use Rattle.yq_semantics.specs.View.{program_step}
-use Rattle.yq_eval.proofs.StepLaws.{one_missing, step_missed}
-use Rattle.yq_semantics.specs.Judgement.{gives}
+use Rattle.yq_eval.{specs.PlaceView.{missing_of, place_of, places_of}, proofs.StepLaws.{one_missing, step_missed}}
+use Rattle.yq_semantics.{specs.View.program_step, specs.Judgement.gives}
 use Rattle.yq_eval.proofs.matching.traverse.push_step.Goals as goal
 
 pub returns-in-Further : goal.returns-in-Further

@@ -1,9 +1,7 @@
-use Rattle.std.proofs.Common.{Err, ap, ◌∙◌}
-use Rattle.std.proofs.lemmas.Result.{err_from_is_err_and}
-use Rattle.yq_eval.specs.PlaceView.{place_of, places_of}
-use Rattle.yq_semantics.specs.Places as spec
+use Rattle.std.{proofs.Common.{Err, ap, ◌∙◌}, proofs.lemmas.Result.err_from_is_err_and}
+use Rattle.yq_eval.{specs.PlaceView.{place_of, places_of}, proofs.EachLaws.{each_more, each_fails, failed, each_all}}
 use Rattle.yq_semantics.specs.View.{program_step}
-use Rattle.yq_eval.proofs.EachLaws.{each_more, each_fails, failed, each_all}
+use Rattle.yq_semantics.specs.Places as spec
 use Rattle.yq_eval.proofs.matching.traverse.step_each.Goals as goal
 
 pub returns-in_err-push_step : goal.returns-in_err-push_step

@@ -1,7 +1,7 @@
 use Rattle.std.proofs.Common.{◌≡◌, drop}
 use Rattle.yq_eval.specs.PlaceView.{places_of, put_behind}
-use Rattle.yq_semantics.specs.Places as spec
 use Rattle.yq_semantics.specs.View.{program_step}
+use Rattle.yq_semantics.specs.Places as spec
 use Rattle.yq_eval.proofs.matching.traverse.step_each.Given as goal
 
 abbrev pub invariant-places : goal.invariant-places

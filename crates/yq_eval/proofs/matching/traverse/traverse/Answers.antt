@@ -1,12 +1,8 @@
-use Rattle.std.proofs.Common.{List, Err, drop, map, ap, ◌∙◌}
-use Rattle.std.proofs.lemmas.Result.{err_from_is_err_and}
-use Rattle.yq_semantics.specs.Judgement.{Judgement}
-use Rattle.yq_eval.specs.PlaceView.{places_of}
+use Rattle.std.{proofs.Common.{List, Err, drop, map, ap, ◌∙◌}, proofs.lemmas.Result.err_from_is_err_and}
+use Rattle.yq_semantics.{specs.Judgement.Judgement, specs.Program.PathStep, specs.View.program_step}
+use Rattle.yq_eval.{specs.PlaceView.places_of, proofs.EachLaws.{chain_more, chain_fails, failed, chain_all}}
 use Rattle.yq_semantics.specs.Places as spec
-use Rattle.yq_semantics.specs.Program.{PathStep}
-use Rattle.yq_semantics.specs.View.{program_step}
 use Rattle.yq_eval.specs.declared.matching.place.FoundPlace as declared
-use Rattle.yq_eval.proofs.EachLaws.{chain_more, chain_fails, failed, chain_all}
 use Rattle.yq_eval.proofs.matching.traverse.traverse.Goals as goal
 
 -- what a step does to all places

@@ -1,7 +1,7 @@
 use Rattle.std.proofs.Common.{◌≡◌, drop, map}
 use Rattle.yq_eval.specs.PlaceView.{places_of}
-use Rattle.yq_semantics.specs.Places as spec
 use Rattle.yq_semantics.specs.View.{program_step}
+use Rattle.yq_semantics.specs.Places as spec
 use Rattle.yq_eval.proofs.matching.traverse.traverse.Given as goal
 
 abbrev pub invariant-steps : goal.invariant-steps

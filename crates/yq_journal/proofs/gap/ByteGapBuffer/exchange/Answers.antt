@@ -1,7 +1,5 @@
-use Rattle.std.proofs.Common.{rules}
-use Rattle.std.proofs.lemmas.Bool.{both_ways}
-use Rattle.yq_journal.specs.ByteGapBuffer.{buffer_bytes}
-use Rattle.yq_journal.proofs.GapLaws.{exchanged, not_exchanged, not_reached}
+use Rattle.std.{proofs.Common.rules, proofs.lemmas.Bool.both_ways}
+use Rattle.yq_journal.{specs.ByteGapBuffer.buffer_bytes, proofs.GapLaws.{exchanged, not_exchanged, not_reached}}
 use Rattle.yq_journal.proofs.gap.ByteGapBuffer.exchange.Goals as goal
 
 pub returns-then-not-branch : goal.returns-then-not-branch

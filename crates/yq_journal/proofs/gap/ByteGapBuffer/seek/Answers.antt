@@ -1,5 +1,4 @@
-use Rattle.std.proofs.Common.{arith, rules}
-use Rattle.std.proofs.lemmas.Grind.{common_steps}
+use Rattle.std.{proofs.Common.{arith, rules}, proofs.lemmas.Grind.common_steps}
 use Rattle.yq_journal.proofs.GapLaws.{moved_back}
 use Rattle.yq_journal.proofs.gap.ByteGapBuffer.seek.Goals as goal
 

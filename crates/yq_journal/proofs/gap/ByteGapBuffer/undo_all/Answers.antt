@@ -1,7 +1,5 @@
-use Rattle.std.proofs.Common.{arith}
-use Rattle.std.proofs.lemmas.Grind.{common_steps}
-use Rattle.yq_journal.specs.ByteGapBuffer.{buffer_bytes}
-use Rattle.yq_journal.proofs.RecordLaws.{undone_step}
+use Rattle.std.{proofs.Common.arith, proofs.lemmas.Grind.common_steps}
+use Rattle.yq_journal.{specs.ByteGapBuffer.buffer_bytes, proofs.RecordLaws.undone_step}
 use Rattle.yq_journal.proofs.gap.ByteGapBuffer.undo_all.Goals as goal
 
 pub splices-preserved : goal.splices-preserved

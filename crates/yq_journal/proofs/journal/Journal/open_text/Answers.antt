@@ -1,12 +1,9 @@
 use Rattle.std.proofs.Common.{◌≡◌, ◌++◌, ℕ, Some, Vec, Global, IsUtf8, string_bytes, sym, ap, ap₂, ◌∙◌, subst, rules}
 use Rattle.std.proofs.str.Laws.{IsUtf8-had}
-use Rattle.base64.specs.Engines.{standard}
-use Rattle.base64.specs.GeneralPurpose.{encode_of}
+use Rattle.base64.{specs.Engines.standard, specs.GeneralPurpose.encode_of}
 use Rattle.json.specs.Print.{escape}
-use Rattle.yq_journal.specs.Json.{journal_in, journal_text, kind_text}
-use Rattle.yq_journal.specs.OpenText.{journal_text_before, journal_text_after}
-use Rattle.yq_journal.specs.State.{Pending, State, state}
-use Rattle.yq_journal.proofs.OpenTextLaws.{ArePieces, reads_back, whole_text}
+use Rattle.yq_journal.{specs.Json.{journal_in, journal_text, kind_text}, specs.OpenText.{journal_text_before, journal_text_after}}
+use Rattle.yq_journal.{specs.State.{Pending, State, state}, proofs.OpenTextLaws.{ArePieces, reads_back, whole_text}}
 use Rattle.yq_journal.proofs.journal.Journal.open_text.Goals as goal
 
 -- the journal, and its open move

@@ -1,7 +1,6 @@
 use Rattle.std.proofs.Common.{◌+◌, ◌++◌, drop, option_map, sym, ap, ◌∙◌, arith}
 use Rattle.serde_json.specs.View.{items_view}
-use Rattle.yq_journal.specs.Json.{each_of, splice_of}
-use Rattle.yq_journal.proofs.JsonLaws.{read_all, read_more, read_none}
+use Rattle.yq_journal.{specs.Json.{each_of, splice_of}, proofs.JsonLaws.{read_all, read_more, read_none}}
 use Rattle.yq_journal.proofs.read.edits.splices.Goals as goal
 
 pub values-preserved : goal.values-preserved

@@ -1,6 +1,5 @@
 use Rattle.std.proofs.Common.{subst, rules}
-use Rattle.yq_journal.specs.Record.{IsRecord}
-use Rattle.yq_journal.proofs.JoinLaws.{IsRecord-join}
+use Rattle.yq_journal.{specs.Record.IsRecord, proofs.JoinLaws.IsRecord-join}
 use Rattle.yq_journal.proofs.squash.Parts.join.Goals as goal
 
 pub returns-clause-valid : goal.returns-clause-valid

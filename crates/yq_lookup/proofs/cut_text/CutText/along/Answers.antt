@@ -1,8 +1,7 @@
 use Rattle.yq_documents.specs.Reading.{cut_of}
-use Rattle.yq_places.proofs.WalkDocuments.{found_document}
+use Rattle.yq_places.{proofs.WalkDocuments.found_document, proofs.HeldLaws.cut_agrees}
 use Rattle.yq_lookup.proofs.CutRows.{rows_are_view, items_known}
 use Rattle.yq_text.specs.Halves.{whole}
-use Rattle.yq_places.proofs.HeldLaws.{cut_agrees}
 use Rattle.yq_lookup.proofs.cut_text.CutText.along.Goals as goal
 
 pub known_along-requires-clause-document : goal.known_along-requires-clause-document

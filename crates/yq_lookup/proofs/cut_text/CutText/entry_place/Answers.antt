@@ -1,9 +1,7 @@
 use Rattle.std.proofs.Common.{List, ℕ, map, ap, ◌∙◌}
 use Rattle.yq_core.specs.Entries.{tree_step}
-use Rattle.yq_documents.specs.Located.{steps_of}
-use Rattle.yq_documents.specs.Reading.{cut_of}
-use Rattle.yq_places.specs.EntryReading.{line_entry_of}
-use Rattle.yq_places.proofs.WalkDocuments.{found_document, no_place_found, place_found}
+use Rattle.yq_documents.{specs.Located.steps_of, specs.Reading.cut_of}
+use Rattle.yq_places.{specs.EntryReading.line_entry_of, proofs.WalkDocuments.{found_document, no_place_found, place_found}}
 use Rattle.yq_lookup.proofs.CutRows.{rows_are_view, items_known}
 use Rattle.yq_lookup.proofs.cut_text.CutText.entry_place.Goals as goal
 

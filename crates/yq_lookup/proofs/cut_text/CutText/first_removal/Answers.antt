@@ -1,10 +1,7 @@
-use Rattle.std.proofs.Common.{ℕ, List, ◌-◌, Some, take, drop, sym, ap, ◌∙◌, subst}
-use Rattle.std.specs.Str.{IsUtf8, IsCharBoundary}
-use Rattle.yq_places.specs.FirstPlaces.{first_out}
-use Rattle.yq_places.specs.FirstViews.{piece_between}
-use Rattle.yq_documents.specs.Reading.{cut_of}
-use Rattle.yq_places.specs.RowLineReading.{line_view}
+use Rattle.std.{proofs.Common.{ℕ, List, ◌-◌, Some, take, drop, sym, ap, ◌∙◌, subst}, specs.Str.{IsUtf8, IsCharBoundary}}
+use Rattle.yq_places.{specs.FirstPlaces.first_out, specs.FirstViews.piece_between, specs.RowLineReading.line_view}
 use Rattle.yq_places.proofs.FirstLaws.{entry_stands, first_is, no_first_entry, no_first_row_line, other_first_line}
+use Rattle.yq_documents.specs.Reading.{cut_of}
 use Rattle.yq_lookup.proofs.cut_text.CutText.first_removal.Goals as goal
 
 pub returns-in_err-row_line : goal.returns-in_err-row_line

@@ -1,16 +1,11 @@
 use Rattle.std.proofs.Common.{ℕ, List, length, map, Some, None, refl, sym, ap, ◌∙◌}
-use Rattle.yq_core.specs.Entries.{tree_step}
-use Rattle.yq_outline.specs.View.{head_flow}
-use Rattle.yq_places.specs.FlowNodes.{flow_collection}
-use Rattle.yq_places.specs.NodeReading.{place_view}
-use Rattle.yq_outline.specs.RowWalk.{line_number}
-use Rattle.yq_core.specs.Paths.{Step}
-use Rattle.yq_outline.specs.Lines.{lines_of_rows}
+use Rattle.yq_core.{specs.Entries.tree_step, specs.Paths.Step}
+use Rattle.yq_outline.{specs.View.head_flow, specs.RowWalk.line_number, specs.Lines.lines_of_rows}
+use Rattle.yq_places.{specs.FlowNodes.flow_collection, specs.NodeReading.place_view}
+use Rattle.yq_places.proofs.FlowNodeLaws.{collection_is, agrees_for, head_line_at, head_for, no_collection, no_flow_agrees, no_head_at}
+use Rattle.yq_places.{proofs.FlowNodeLaws.{other_head, rows_collection}, proofs.RowHeads.{line_fit, line_within, row_start, row_text}}
+use Rattle.yq_places.{proofs.WalkDocuments.{found_document, found_in_cut, place_found}, proofs.WalkNodes.{row_is, row_in_cut}}
 use Rattle.yq_documents.specs.Reading.{cut_of}
-use Rattle.yq_places.proofs.FlowNodeLaws.{collection_is, agrees_for, head_line_at, head_for, no_collection, no_flow_agrees, no_head_at, other_head, rows_collection}
-use Rattle.yq_places.proofs.RowHeads.{line_fit, line_within, row_start, row_text}
-use Rattle.yq_places.proofs.WalkDocuments.{found_document, found_in_cut, place_found}
-use Rattle.yq_places.proofs.WalkNodes.{row_is, row_in_cut}
 use Rattle.yq_lookup.proofs.CutRows.{rows_are_view, items_known, line_known}
 use Rattle.yq_lookup.proofs.cut_text.CutText.flow_head.Goals as goal
 

@@ -1,8 +1,7 @@
 use Rattle.std.proofs.Common.{◌≡◌, ◌-◌, length, map, take, option_map, sym, ap, ◌∙◌, arith}
 use Rattle.yq_core.specs.Entries.{tree_step}
 use Rattle.yq_documents.specs.Reading.{cut_of}
-use Rattle.yq_places.specs.NodesAt.{node_in, node_view}
-use Rattle.yq_places.specs.RemovalPlaces.{has_several}
+use Rattle.yq_places.{specs.NodesAt.{node_in, node_view}, specs.RemovalPlaces.has_several}
 use Rattle.yq_places.proofs.NodeAtLaws.{several_agrees, none_agrees, steps_above}
 use Rattle.yq_lookup.proofs.cut_text.CutText.has_others.Goals as goal
 

@@ -1,5 +1,4 @@
-use Rattle.yq_places.specs.RowLineReading.{line_view}
-use Rattle.yq_places.proofs.WalkDocuments.{room_agrees}
+use Rattle.yq_places.{specs.RowLineReading.line_view, proofs.WalkDocuments.room_agrees}
 use Rattle.yq_lookup.proofs.cut_text.CutText.has_room.Goals as goal
 
 pub returns : goal.returns

@@ -1,16 +1,10 @@
 use Rattle.std.proofs.Common.{option_map, sym, ap, ◌∙◌}
 use Rattle.yq_text.specs.Halves.{whole}
-use Rattle.yq_places.specs.CommentReading.{head_comment_in, head_comment_span}
+use Rattle.yq_places.{specs.CommentReading.{head_comment_in, head_comment_span}, specs.PathPieces.path_piece}
+use Rattle.yq_places.{specs.RowLineReading.{line_view, numbers}, proofs.CommentPlaceLaws.above_view, proofs.HeldLaws.cut_view}
+use Rattle.yq_places.{proofs.CommentSpans.comment_spans, proofs.RowLineSpans.{part_agrees, no_part, row_within}}
+use Rattle.yq_documents.{specs.Pieces.piece_span, specs.Reading.cut_of, specs.LinesInRows.{document_row, row_line_at}}
 use Rattle.yq_documents.specs.declared.path.Part.TheVariants as parts
-use Rattle.yq_documents.specs.Pieces.{piece_span}
-use Rattle.yq_places.specs.PathPieces.{path_piece}
-use Rattle.yq_documents.specs.Reading.{cut_of}
-use Rattle.yq_places.specs.RowLineReading.{line_view, numbers}
-use Rattle.yq_documents.specs.LinesInRows.{document_row, row_line_at}
-use Rattle.yq_places.proofs.CommentPlaceLaws.{above_view}
-use Rattle.yq_places.proofs.HeldLaws.{cut_view}
-use Rattle.yq_places.proofs.CommentSpans.{comment_spans}
-use Rattle.yq_places.proofs.RowLineSpans.{part_agrees, no_part, row_within}
 use Rattle.yq_lookup.proofs.cut_text.CutText.head_comment_place.Goals as goal
 
 pub returns-in_err-row_line : goal.returns-in_err-row_line

@@ -1,16 +1,10 @@
-use Rattle.std.proofs.Common.{option_map, sym, ap, ◌∙◌, subst}
-use Rattle.std.proofs.lemmas.Option.{same_Some}
-use Rattle.std.specs.Str.{IsUtf8}
+use Rattle.std.{proofs.Common.{option_map, sym, ap, ◌∙◌, subst}, proofs.lemmas.Option.same_Some, specs.Str.IsUtf8}
 use Rattle.yq_text.specs.Halves.{whole}
-use Rattle.yq_places.specs.CommentPlaces as spec
-use Rattle.yq_places.specs.CommentViews.{above_view}
-use Rattle.yq_documents.specs.Located.{steps_of}
-use Rattle.yq_documents.specs.Reading.{cut_of}
-use Rattle.yq_places.specs.RowLineReading.{line_view, numbers}
-use Rattle.yq_documents.specs.LinesInRows.{document_row, row_line_at}
+use Rattle.yq_places.{specs.CommentViews.above_view, specs.RowLineReading.{line_view, numbers}}
+use Rattle.yq_places.{proofs.CommentEndLaws.{no_lines_above, other_lines_above, gap_stands, lines_above_is}, proofs.RowLineSpans.row_within}
+use Rattle.yq_documents.{specs.Located.steps_of, specs.Reading.cut_of, specs.LinesInRows.{document_row, row_line_at}}
 use Rattle.yq_row_table.specs.View.{Slices}
-use Rattle.yq_places.proofs.CommentEndLaws.{no_lines_above, other_lines_above, gap_stands, lines_above_is}
-use Rattle.yq_places.proofs.RowLineSpans.{row_within}
+use Rattle.yq_places.specs.CommentPlaces as spec
 use Rattle.yq_lookup.proofs.cut_text.CutText.lines_above.Goals as goal
 
 pub returns-in_err-row_line : goal.returns-in_err-row_line

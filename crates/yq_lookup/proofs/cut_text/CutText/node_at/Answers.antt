@@ -1,16 +1,10 @@
-use Rattle.std.proofs.Common.{ℕ, List, map, Option, None, sym, ap, ◌∙◌}
-use Rattle.std.proofs.lemmas.Result.{IfOk-weaker}
-use Rattle.yq_core.specs.Entries.{tree_step}
-use Rattle.yq_core.specs.Answers.{◌>>=◌}
-use Rattle.yq_core.specs.Paths.{Step}
-use Rattle.yq_outline.specs.Lines.{lines_of_rows}
+use Rattle.std.{proofs.Common.{ℕ, List, map, Option, None, sym, ap, ◌∙◌}, proofs.lemmas.Result.IfOk-weaker}
+use Rattle.yq_core.{specs.Entries.tree_step, specs.Answers.◌>>=◌, specs.Paths.Step}
+use Rattle.yq_outline.{specs.Lines.lines_of_rows, specs.View.head_view}
 use Rattle.yq_documents.specs.Reading.{cut_of}
-use Rattle.yq_outline.specs.View.{head_view}
 use Rattle.yq_places.specs.NodeReading.{NodePlace, place_node, place_view}
-use Rattle.yq_places.proofs.NodeAtLaws.{node_among, block_numbers_of, head_agrees, node_is}
-use Rattle.yq_places.proofs.RowHeads.{line_fit, line_within}
-use Rattle.yq_places.proofs.WalkDocuments.{found_document, found_in_cut, place_found}
-use Rattle.yq_places.proofs.WalkNodes.{row_is, row_in_cut}
+use Rattle.yq_places.{proofs.NodeAtLaws.{node_among, block_numbers_of, head_agrees, node_is}, proofs.RowHeads.{line_fit, line_within}}
+use Rattle.yq_places.{proofs.WalkDocuments.{found_document, found_in_cut, place_found}, proofs.WalkNodes.{row_is, row_in_cut}}
 use Rattle.yq_lookup.proofs.CutRows.{rows_are_view, items_known, line_known}
 use Rattle.yq_lookup.proofs.cut_text.CutText.node_at.Goals as goal
 

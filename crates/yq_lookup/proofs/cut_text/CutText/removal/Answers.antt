@@ -1,8 +1,6 @@
 use Rattle.std.proofs.Common.{Some, sym, ap, ◌∙◌}
-use Rattle.yq_documents.specs.Located.{steps_of}
-use Rattle.yq_documents.specs.Reading.{cut_of}
-use Rattle.yq_places.specs.RemovalPlaces.{removal_place}
-use Rattle.yq_places.proofs.RemovalViewLaws.{none_taken, taken_at}
+use Rattle.yq_documents.{specs.Located.steps_of, specs.Reading.cut_of}
+use Rattle.yq_places.{specs.RemovalPlaces.removal_place, proofs.RemovalViewLaws.{none_taken, taken_at}}
 use Rattle.yq_lookup.proofs.cut_text.CutText.removal.Goals as goal
 
 pub returns-in_err-marks : goal.returns-in_err-marks

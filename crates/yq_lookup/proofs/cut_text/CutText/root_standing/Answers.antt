@@ -1,9 +1,7 @@
 use Rattle.std.proofs.Common.{[], Some, option_map, sym, ap, ◌∙◌}
 use Rattle.yq_documents.specs.Reading.{cut_of}
-use Rattle.yq_places.specs.Standings.{standing_at}
-use Rattle.yq_places.specs.StandingViews.{no_rows_view}
-use Rattle.yq_places.proofs.RootStandingLaws.{bare_stands, none_stands, root_found}
-use Rattle.yq_places.proofs.WalkDocuments.{found_document}
+use Rattle.yq_places.{specs.Standings.standing_at, specs.StandingViews.no_rows_view}
+use Rattle.yq_places.{proofs.RootStandingLaws.{bare_stands, none_stands, root_found}, proofs.WalkDocuments.found_document}
 use Rattle.yq_lookup.proofs.cut_text.CutText.root_standing.Goals as goal
 
 pub returns-in-Some : goal.returns-in-Some

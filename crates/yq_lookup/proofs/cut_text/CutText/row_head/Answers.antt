@@ -1,13 +1,9 @@
-use Rattle.std.proofs.Common.{◌≤◌, ℕ, List, length, drop, sym, ap, ◌∙◌, subst, arith}
-use Rattle.std.specs.Str.{IsCharBoundary}
-use Rattle.yq_text.specs.Halves.{whole}
-use Rattle.yq_text.specs.Limit.{text_limit}
+use Rattle.std.{proofs.Common.{◌≤◌, ℕ, List, length, drop, sym, ap, ◌∙◌, subst, arith}, specs.Str.IsCharBoundary}
+use Rattle.yq_text.{specs.Halves.whole, specs.Limit.text_limit}
 use Rattle.yq_row_table.specs.View.{row_view, rows_of}
 use Rattle.yq_documents.specs.Reading.{cut_of}
-use Rattle.yq_outline.specs.Extents.{IsRowsView}
-use Rattle.yq_places.proofs.FoundEntries.{within_some}
-use Rattle.yq_outline.proofs.LengthLaws.{row_fits, view_small}
-use Rattle.yq_places.proofs.RowHeads.{head_boundary, has_head, row_boundary, row_taken, slices_are}
+use Rattle.yq_outline.{specs.Extents.IsRowsView, proofs.LengthLaws.{row_fits, view_small}}
+use Rattle.yq_places.{proofs.FoundEntries.within_some, proofs.RowHeads.{head_boundary, has_head, row_boundary, row_taken, slices_are}}
 use Rattle.yq_lookup.proofs.CutRows.{row_within, rows_are_view}
 use Rattle.yq_lookup.proofs.cut_text.CutText.row_head.Goals as goal
 

@@ -1,9 +1,7 @@
 use Rattle.std.proofs.Common.{map, option_and_then, option_map, sym, ap, ◌∙◌}
-use Rattle.yq_core.specs.Entries.{tree_step}
-use Rattle.yq_core.specs.Answers.{◌>>=◌}
+use Rattle.yq_core.{specs.Entries.tree_step, specs.Answers.◌>>=◌}
 use Rattle.yq_documents.specs.Reading.{cut_of}
-use Rattle.yq_places.specs.NodesAt.{node_in, node_view, scalar_in, summary_scalar}
-use Rattle.yq_places.proofs.NodeAtLaws.{scalar_agrees}
+use Rattle.yq_places.{specs.NodesAt.{node_in, node_view, scalar_in, summary_scalar}, proofs.NodeAtLaws.scalar_agrees}
 use Rattle.yq_lookup.proofs.cut_text.CutText.scalar_at.Goals as goal
 
 pub returns-in-Some : goal.returns-in-Some

@@ -1,11 +1,8 @@
-use Rattle.std.proofs.Common.{rules, ◌≡◌, length, Some, sym, ap, ◌∙◌}
-use Rattle.std.specs.Vec.{vec_len}
+use Rattle.std.{proofs.Common.{rules, ◌≡◌, length, Some, sym, ap, ◌∙◌}, specs.Vec.vec_len}
 use Rattle.yq_core.specs.Entries.{tree_step}
 use Rattle.yq_text.specs.Halves.{whole}
-use Rattle.yq_documents.specs.Located.{steps_of}
-use Rattle.yq_documents.specs.Reading.{cut_of}
-use Rattle.yq_places.specs.Standings.{standing_at}
-use Rattle.yq_places.proofs.EntryNumbers.{entry_found}
+use Rattle.yq_documents.{specs.Located.steps_of, specs.Reading.cut_of}
+use Rattle.yq_places.{specs.Standings.standing_at, proofs.EntryNumbers.entry_found}
 use Rattle.yq_places.proofs.StandingViewLaws.{no_standing, some_steps, standing_there}
 use Rattle.yq_lookup.proofs.cut_text.CutText.standing.Goals as goal
 

@@ -1,9 +1,7 @@
 use Rattle.std.proofs.Common.{◌≡◌, Bool, true, false, cond, List, refl, ap, ◌∙◌}
-use Rattle.yq_outline.specs.Outline.{Line}
+use Rattle.yq_outline.{specs.Outline.Line, specs.Lines.lines_of_rows}
 use Rattle.yq_documents.specs.Reading.{cut_of}
-use Rattle.yq_outline.specs.Lines.{lines_of_rows}
-use Rattle.yq_places.specs.Steps.{IndentSteps, first_step, is_kind, steps_in}
-use Rattle.yq_places.proofs.StepLaws.{steps_found}
+use Rattle.yq_places.{specs.Steps.{IndentSteps, first_step, is_kind, steps_in}, proofs.StepLaws.steps_found}
 use Rattle.yq_places.proofs.WalkDocuments.{found_document}
 use Rattle.yq_lookup.proofs.cut_text.CutText.step.Goals as goal
 

@@ -1,8 +1,5 @@
-use Rattle.std.proofs.Common.{rules}
-use Rattle.std.proofs.lemmas.Bool.{cond-true}
-use Rattle.std.proofs.lemmas.Str.{is_utf8-from_IsUtf8}
-use Rattle.yq_documents.specs.Reading.{read_at}
-use Rattle.yq_documents.proofs.ReadLaws.{text_again}
+use Rattle.std.{proofs.Common.rules, proofs.lemmas.Bool.cond-true, proofs.lemmas.Str.is_utf8-from_IsUtf8}
+use Rattle.yq_documents.{specs.Reading.read_at, proofs.ReadLaws.text_again}
 use Rattle.yq_lookup.proofs.cut_text.CutText.text.Goals as goal
 
 pub returns-clause-read : goal.returns-clause-read

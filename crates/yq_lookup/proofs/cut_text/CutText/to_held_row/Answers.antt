@@ -1,15 +1,10 @@
-use Rattle.std.proofs.Common.{map, subst}
-use Rattle.std.proofs.lemmas.Option.{IfSome_then}
-use Rattle.std.specs.Prelude.{IfSome}
+use Rattle.std.{proofs.Common.{map, subst}, proofs.lemmas.Option.IfSome_then, specs.Prelude.IfSome}
 use Rattle.yq_core.specs.Entries.{tree_step}
-use Rattle.yq_documents.specs.Located.{steps_of}
-use Rattle.yq_documents.specs.Reading.{cut_of}
-use Rattle.yq_places.specs.RowWalk.{IsLineAt}
-use Rattle.yq_places.proofs.HeldRowLaws.{held_row_is, line_in}
-use Rattle.yq_places.proofs.WalkDocuments.{found_document}
+use Rattle.yq_documents.{specs.Located.steps_of, specs.Reading.cut_of}
+use Rattle.yq_places.{specs.RowWalk.IsLineAt, proofs.HeldRowLaws.{held_row_is, line_in}, proofs.WalkDocuments.found_document}
+use Rattle.yq_places.proofs.HeldLaws.{cut_agrees}
 use Rattle.yq_lookup.proofs.CutRows.{rows_are_view, items_known}
 use Rattle.yq_text.specs.Halves.{whole}
-use Rattle.yq_places.proofs.HeldLaws.{cut_agrees}
 use Rattle.yq_lookup.proofs.cut_text.CutText.to_held_row.Goals as goal
 
 pub known_along-at-requires-clause-document : goal.known_along-at-requires-clause-document

@@ -1,5 +1,4 @@
-use Rattle.std.proofs.Common.{subst}
-use Rattle.std.specs.Str.{IsUtf8}
+use Rattle.std.{proofs.Common.subst, specs.Str.IsUtf8}
 use Rattle.yq_lookup.proofs.cut_text.CutText.whole.Goals as goal
 
 pub returns-clause-utf8 : goal.returns-clause-utf8

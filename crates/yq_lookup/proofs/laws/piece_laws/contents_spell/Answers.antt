@@ -1,5 +1,4 @@
-use Rattle.yq_places.proofs.PieceBegins.{contents_begin}
-use Rattle.yq_places.proofs.PieceSpelling.{contents_spell}
+use Rattle.yq_places.{proofs.PieceBegins.contents_begin, proofs.PieceSpelling.contents_spell}
 use Rattle.yq_lookup.proofs.laws.piece_laws.contents_spell.Goals as goal
 
 pub returns-clause-spelled : goal.returns-clause-spelled

@@ -1,5 +1,4 @@
-use Rattle.yq_places.proofs.PieceHolds.{pieces_hold}
-use Rattle.yq_places.proofs.PieceSpelling.{lines_stand}
+use Rattle.yq_places.{proofs.PieceHolds.pieces_hold, proofs.PieceSpelling.lines_stand}
 use Rattle.yq_lookup.proofs.laws.piece_laws.pieces_hold.Goals as goal
 
 pub returns-clause-lines : goal.returns-clause-lines

@@ -1,8 +1,6 @@
 use Rattle.std.proofs.Common.{refl, arith}
-use Rattle.yq_outline.specs.Ends.{IsEndOf}
-use Rattle.yq_documents.specs.Stretches.{document_lines, number_of}
-use Rattle.yq_outline.proofs.ChildLaws.{first_child}
-use Rattle.yq_documents.proofs.WalkedRows.{line_here, stands, agrees_rows}
+use Rattle.yq_outline.{specs.Ends.IsEndOf, proofs.ChildLaws.first_child}
+use Rattle.yq_documents.{specs.Stretches.{document_lines, number_of}, proofs.WalkedRows.{line_here, stands, agrees_rows}}
 use Rattle.yq_documents.proofs.NodeLines.{no_children}
 use Rattle.yq_nodes.proofs.nodes.children.behind_first.Goals as goal
 

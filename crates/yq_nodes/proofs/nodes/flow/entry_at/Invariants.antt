@@ -1,7 +1,5 @@
 use Rattle.std.proofs.Common.{◌≡◌, drop}
-use Rattle.yq_core.specs.Trees.{parts_tree}
-use Rattle.yq_core.specs.View.{entries_end}
-use Rattle.yq_core.specs.Paths.{To}
+use Rattle.yq_core.{specs.Trees.parts_tree, specs.View.entries_end, specs.Paths.To}
 use Rattle.yq_outline.specs.Labelled.{labelled_at}
 use Rattle.yq_nodes.proofs.nodes.flow.entry_at.Given as goal
 

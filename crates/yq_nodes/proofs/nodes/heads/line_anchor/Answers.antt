@@ -1,6 +1,5 @@
 use Rattle.std.proofs.Common.{◌≤◌, arith, ◌∙◌}
-use Rattle.yq_documents.proofs.WalkedRows.{row_in}
-use Rattle.yq_documents.proofs.LineWritten.{anchor_before, anchor_last}
+use Rattle.yq_documents.{proofs.WalkedRows.row_in, proofs.LineWritten.{anchor_before, anchor_last}}
 use Rattle.yq_nodes.proofs.nodes.heads.line_anchor.Goals as goal
 
 pub lines_before_mark-requires : goal.lines_before_mark-requires

@@ -1,6 +1,5 @@
 use Rattle.std.proofs.Common.{arith}
-use Rattle.yq_documents.proofs.WalkedRows.{row_in}
-use Rattle.yq_documents.proofs.LineWritten.{gap_first, gap_later}
+use Rattle.yq_documents.{proofs.WalkedRows.row_in, proofs.LineWritten.{gap_first, gap_later}}
 use Rattle.yq_nodes.proofs.nodes.heads.line_gap.Goals as goal
 
 pub returns-then-at-gt0 : goal.returns-then-at-gt0

@@ -1,8 +1,6 @@
-use Rattle.std.proofs.Common.{◌≡◌, List, ℕ, false, true, ap, subst, sym, ◌∙◌}
-use Rattle.std.specs.Prelude.{is_some}
-use Rattle.yq_core.specs.Scalars.{is_quoted}
+use Rattle.std.{proofs.Common.{◌≡◌, List, ℕ, false, true, ap, subst, sym, ◌∙◌}, specs.Prelude.is_some}
+use Rattle.yq_core.{specs.Scalars.is_quoted, specs.Quoted.IsQuotedText}
 use Rattle.yq_row_table.specs.View.{slices}
-use Rattle.yq_core.specs.Quoted.{IsQuotedText}
 use Rattle.yq_documents.specs.Decoded.{borrowed_head, decoded_or}
 use Rattle.yq_documents.proofs.WalkedRows.{line_here, located_in, of_line, row_in, row_there, stands}
 use Rattle.yq_documents.proofs.LineWritten.{head_none, head_quoted, head_some}

@@ -1,8 +1,7 @@
 use Rattle.std.proofs.Common.{Some, option_map, ap, ◌∙◌}
 use Rattle.yq_row_table.specs.View.{slices}
 use Rattle.yq_outline.proofs.WalkMarks.{quoted_agrees}
-use Rattle.yq_documents.specs.Decoded.{decoded_key}
-use Rattle.yq_documents.proofs.WalkedRows.{line_here, located_in, row_in, row_there, stands}
+use Rattle.yq_documents.{specs.Decoded.decoded_key, proofs.WalkedRows.{line_here, located_in, row_in, row_there, stands}}
 use Rattle.yq_documents.proofs.LineWritten.{no_key, own_key}
 use Rattle.yq_nodes.proofs.nodes.heads.line_key.Goals as goal
 

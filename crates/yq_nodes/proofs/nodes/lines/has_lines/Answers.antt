@@ -1,6 +1,5 @@
 use Rattle.std.proofs.Common.{◌≡◌, not}
-use Rattle.yq_outline.specs.Ends.{has_no_lines, part}
-use Rattle.yq_outline.proofs.WalkPositions.{position_line}
+use Rattle.yq_outline.{specs.Ends.{has_no_lines, part}, proofs.WalkPositions.position_line}
 use Rattle.yq_documents.proofs.WalkedRows.{line_back, position_here, stands, agrees_rows}
 use Rattle.yq_nodes.proofs.nodes.lines.has_lines.Goals as goal
 

@@ -1,7 +1,5 @@
-use Rattle.std.proofs.Common.{◌≡◌, ◌+◌, ap, sym, ◌∙◌, arith}
-use Rattle.std.proofs.lemmas.Option.{slice_get_within}
-use Rattle.yq_outline.specs.Ends.{part}
-use Rattle.yq_outline.specs.Outline.{level}
+use Rattle.std.{proofs.Common.{◌≡◌, ◌+◌, ap, sym, ◌∙◌, arith}, proofs.lemmas.Option.slice_get_within}
+use Rattle.yq_outline.{specs.Ends.part, specs.Outline.level}
 use Rattle.yq_documents.specs.Stretches.{document_lines, number_of}
 use Rattle.yq_documents.proofs.WalkedRows.{line_here, located_in, own_line, row_in, stands, agrees_rows}
 use Rattle.yq_nodes.proofs.nodes.lines.under_line.Goals as goal

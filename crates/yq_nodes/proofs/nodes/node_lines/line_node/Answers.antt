@@ -1,6 +1,5 @@
 use Rattle.std.proofs.Common.{ap, ◌∙◌}
-use Rattle.yq_outline.specs.Bodies.{borrowed}
-use Rattle.yq_outline.specs.Outline.{anchored, head_or, value}
+use Rattle.yq_outline.{specs.Bodies.borrowed, specs.Outline.{anchored, head_or, value}}
 use Rattle.yq_nodes.specs.Bodies.{body_node}
 use Rattle.yq_documents.specs.Stretches.{lines_under}
 use Rattle.yq_nodes.proofs.nodes.node_lines.line_node.Goals as goal

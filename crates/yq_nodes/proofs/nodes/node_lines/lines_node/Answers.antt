@@ -1,8 +1,6 @@
 use Rattle.std.proofs.Common.{refl, sym, ap, ◌∙◌}
-use Rattle.yq_outline.specs.Bodies.{borrowed}
-use Rattle.yq_outline.specs.Outline.{first_anchor, anchored, head_or, value}
-use Rattle.yq_outline.proofs.EndsLaws.{deeper_line, not_end}
-use Rattle.yq_outline.proofs.NodeLaws.{map_value, list_value, bare_value}
+use Rattle.yq_outline.{specs.Bodies.borrowed, specs.Outline.{first_anchor, anchored, head_or, value}}
+use Rattle.yq_outline.{proofs.EndsLaws.{deeper_line, not_end}, proofs.NodeLaws.{map_value, list_value, bare_value}}
 use Rattle.yq_nodes.specs.Bodies.{body_node}
 use Rattle.yq_documents.specs.Stretches.{document_lines, number_of, lines_under}
 use Rattle.yq_documents.proofs.NodeLines.{bare_mark, dash_mark, key_mark, no_value}

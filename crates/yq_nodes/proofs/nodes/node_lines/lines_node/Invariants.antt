@@ -1,8 +1,6 @@
 use Rattle.std.proofs.Common.{◌≡◌}
-use Rattle.yq_outline.specs.Bodies.{borrowed}
-use Rattle.yq_outline.specs.Outline.{anchored, value}
-use Rattle.yq_nodes.specs.Bodies.{body_outline}
-use Rattle.yq_nodes.specs.Children.{lines_left}
+use Rattle.yq_outline.{specs.Bodies.borrowed, specs.Outline.{anchored, value}}
+use Rattle.yq_nodes.{specs.Bodies.body_outline, specs.Children.lines_left}
 use Rattle.yq_nodes.proofs.nodes.node_lines.lines_node.Given as goal
 
 -- what the lines stand for is what those from here on do

@@ -1,8 +1,6 @@
 use Rattle.std.proofs.Common.{◌≡◌, None, Some, sym}
 use Rattle.yq_core.specs.Paths.{Nth}
-use Rattle.yq_outline.specs.Ends.{part}
-use Rattle.yq_outline.specs.Places.{find_row}
-use Rattle.yq_outline.specs.Positions.{line_here, position}
+use Rattle.yq_outline.{specs.Ends.part, specs.Places.find_row, specs.Positions.{line_here, position}}
 use Rattle.yq_outline.proofs.ChildLaws.{child_position, child_found}
 use Rattle.yq_nodes.specs.Nodes.{label_of, node_of}
 use Rattle.yq_documents.specs.Stretches.{document_lines, number_of}

@@ -1,14 +1,10 @@
-use Rattle.std.proofs.Common.{rules, arith, ◌≡◌, ◌∙◌, sym, refl, ap, Some, map, true, false}
-use Rattle.std.specs.Prelude.{codes}
+use Rattle.std.{proofs.Common.{rules, arith, ◌≡◌, ◌∙◌, sym, refl, ap, Some, map, true, false}, specs.Prelude.codes}
 use Rattle.std.proofs.lemmas.Result.{err_from_is_err_and}
 use Rattle.yq_parser.proofs.LoopSteps.{failed, onto_new, parted_more, parted_end, parted_fails, item_lessens, field_lessens}
-use Rattle.yq_parser.proofs.ReadSteps.{bind_gives, bind_fails, either_some, either_none, fails_as, gives_as, closed_reads, test_fails, test_holds, deeper}
-use Rattle.yq_parser.specs.Parse.{literal_at, field_at}
-use Rattle.yq_parser.specs.Lexing.{tokens}
-use Rattle.yq_core.proofs.NodesWrittenLaws.{node_list}
+use Rattle.yq_parser.proofs.ReadSteps.{bind_gives, bind_fails, either_some, either_none, fails_as, gives_as, closed_reads, test_fails}
+use Rattle.yq_parser.{proofs.ReadSteps.{test_holds, deeper}, specs.Parse.{literal_at, field_at}, specs.Lexing.tokens}
+use Rattle.yq_core.{proofs.NodesWrittenLaws.node_list, specs.Values.{value_node, field_of}, specs.Keys.are_distinct}
 use Rattle.yq_semantics.proofs.ValueMaps.{node_of-map}
-use Rattle.yq_core.specs.Values.{value_node, field_of}
-use Rattle.yq_core.specs.Keys.{are_distinct}
 use Rattle.yq_parser.proofs.parse.literal.+literal.Goals as goal
 
 pub literal-returns-then-branch-clause-value : goal.literal-returns-then-branch-clause-value

@@ -1,11 +1,8 @@
-use Rattle.std.proofs.Common.{◌≡◌, ◌+◌, ◌*◌, ◌≤◌, length, map}
-use Rattle.std.specs.Prelude.{codes}
+use Rattle.std.{proofs.Common.{◌≡◌, ◌+◌, ◌*◌, ◌≤◌, length, map}, specs.Prelude.codes}
 use denote.Text.{Utf8}
 use denote.Shadow.{shadow}
-use Rattle.yq_parser.specs.Lexing.{tokens}
-use Rattle.yq_parser.specs.Parse.{parted_at, field_at, literal_at}
+use Rattle.yq_parser.{specs.Lexing.tokens, specs.Parse.{parted_at, field_at, literal_at}, proofs.LoopSteps.onto}
 use Rattle.yq_core.specs.Values.{value_node, field_of}
-use Rattle.yq_parser.proofs.LoopSteps.{onto}
 use Rattle.yq_parser.proofs.parse.literal.+literal.Given as goal
 
 abbrev pub decreases-literal : goal.decreases-literal

@@ -1,5 +1,4 @@
-use Rattle.std.proofs.Common.{◌∙◌, ap, map, List, ℕ}
-use Rattle.std.specs.Borrow.{Bor}
+use Rattle.std.{proofs.Common.{◌∙◌, ap, map, List, ℕ}, specs.Borrow.Bor}
 use Rattle.yq_core.specs.Keys.{are_distinct}
 use Rattle.yq_parser.proofs.Keys.{tested, keys_of_fields}
 use Rattle.yq_parser.proofs.parse.literal.keys_differ.Goals as goal

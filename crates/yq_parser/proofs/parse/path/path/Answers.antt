@@ -1,8 +1,5 @@
-use Rattle.std.proofs.Common.{◌≡◌, ◌∙◌, sym, ap, false}
-use Rattle.std.specs.Prelude.{is_some, codes, ◌==◌}
-use Rattle.yq_parser.proofs.ReadSteps.{bind_gives, test_fails, seen_as, path_plain}
-use Rattle.yq_parser.specs.Lexing.{tokens, after}
-use Rattle.yq_parser.specs.Parse.{path_at}
+use Rattle.std.{proofs.Common.{◌≡◌, ◌∙◌, sym, ap, false}, specs.Prelude.{is_some, codes, ◌==◌}}
+use Rattle.yq_parser.{proofs.ReadSteps.{bind_gives, test_fails, seen_as, path_plain}, specs.Lexing.{tokens, after}, specs.Parse.path_at}
 use Rattle.yq_semantics.specs.View.{program_step}
 use Rattle.yq_parser.proofs.parse.path.path.Goals as goal
 

@@ -1,9 +1,6 @@
-use Rattle.std.proofs.Common.{rules, arith, ap, ◌∙◌, map}
-use Rattle.std.proofs.lemmas.Result.{err_from_is_err_and}
+use Rattle.std.{proofs.Common.{rules, arith, ap, ◌∙◌, map}, proofs.lemmas.Result.err_from_is_err_and}
 use Rattle.yq_parser.proofs.LoopSteps.{onto, step_end, loop_fails, failed, before_some, step_lessens}
-use Rattle.yq_parser.proofs.ReadSteps.{onto_nothing, step_pushed}
-use Rattle.yq_parser.specs.Lexing.{tokens}
-use Rattle.yq_parser.specs.Parse.{step_at, many}
+use Rattle.yq_parser.{proofs.ReadSteps.{onto_nothing, step_pushed}, specs.Lexing.tokens, specs.Parse.{step_at, many}}
 use Rattle.yq_semantics.specs.View.{program_step}
 use Rattle.yq_parser.proofs.parse.path.steps.Goals as goal
 

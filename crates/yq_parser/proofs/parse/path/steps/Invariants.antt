@@ -1,10 +1,8 @@
 use Rattle.std.proofs.Common.{◌≡◌, ◌<◌, ◌≤◌, vec_len, length, map}
 use denote.Text.{Utf8}
 use denote.Shadow.{shadow}
-use Rattle.yq_parser.specs.Lexing.{tokens}
-use Rattle.yq_parser.specs.Parse.{many, step_at}
+use Rattle.yq_parser.{specs.Lexing.tokens, specs.Parse.{many, step_at}, proofs.LoopSteps.onto}
 use Rattle.yq_semantics.specs.View.{program_step}
-use Rattle.yq_parser.proofs.LoopSteps.{onto}
 use Rattle.yq_parser.proofs.parse.path.steps.Given as goal
 
 abbrev pub invariant-steps : goal.invariant-steps

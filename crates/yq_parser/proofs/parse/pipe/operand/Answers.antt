@@ -1,9 +1,6 @@
-use Rattle.std.proofs.Common.{rules, ◌≡◌, true, false, map, sym, ap, ◌∙◌}
-use Rattle.std.specs.List.{list_all}
+use Rattle.std.{proofs.Common.{rules, ◌≡◌, true, false, map, sym, ap, ◌∙◌}, specs.List.list_all}
 use Rattle.yq_parser.specs.Parse.{operand_at}
-use Rattle.yq_semantics.specs.Program.{is_single, is_simple}
-use Rattle.yq_semantics.specs.View.{program_step}
-use Rattle.yq_semantics.proofs.Lists.{list_all_map}
+use Rattle.yq_semantics.{specs.Program.{is_single, is_simple}, specs.View.program_step, proofs.Lists.list_all_map}
 use Rattle.yq_parser.proofs.parse.pipe.operand.Goals as goal
 
 pub returns-then-is_simple-clause-value : goal.returns-then-is_simple-clause-value

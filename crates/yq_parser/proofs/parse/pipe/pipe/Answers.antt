@@ -1,6 +1,4 @@
-use Rattle.std.proofs.Common.{rules, arith, sym}
-use Rattle.std.specs.Prelude.{codes}
-use Rattle.std.proofs.lemmas.Result.{err_from_is_err_and}
+use Rattle.std.{proofs.Common.{rules, arith, sym}, specs.Prelude.codes, proofs.lemmas.Result.err_from_is_err_and}
 use Rattle.yq_parser.proofs.LoopSteps.{failed, onto_new, parted_more, parted_end, parted_fails, stage_lessens}
 use Rattle.yq_parser.specs.Parse.{stage_at, pipe_at}
 use Rattle.yq_semantics.specs.View.{stage_of}

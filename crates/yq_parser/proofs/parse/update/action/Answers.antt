@@ -1,6 +1,5 @@
 use Rattle.std.proofs.Common.{arith, sym, refl}
-use Rattle.yq_parser.proofs.ReadSteps.{bind_gives, either_some}
-use Rattle.yq_parser.specs.Parse.{action_at}
+use Rattle.yq_parser.{proofs.ReadSteps.{bind_gives, either_some}, specs.Parse.action_at}
 use Rattle.yq_parser.proofs.parse.update.action.Goals as goal
 
 pub returns-in-Some-clause-value : goal.returns-in-Some-clause-value

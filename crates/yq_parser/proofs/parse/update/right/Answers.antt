@@ -1,10 +1,7 @@
-use Rattle.std.proofs.Common.{rules, arith, sym}
-use Rattle.std.specs.Prelude.{codes}
-use Rattle.std.proofs.lemmas.Result.{err_from_is_err_and}
+use Rattle.std.{proofs.Common.{rules, arith, sym}, specs.Prelude.codes, proofs.lemmas.Result.err_from_is_err_and}
 use Rattle.yq_parser.proofs.LoopSteps.{failed, onto_new, parted_more, parted_end, parted_fails, term_lessens}
-use Rattle.yq_semantics.specs.Grammar.{literal_depth}
 use Rattle.yq_parser.specs.Parse.{term_at, right_at}
-use Rattle.yq_semantics.specs.View.{term_of}
+use Rattle.yq_semantics.{specs.Grammar.literal_depth, specs.View.term_of}
 use Rattle.yq_parser.proofs.parse.update.right.Goals as goal
 
 pub returns-in_err-term-clause-value : goal.returns-in_err-term-clause-value

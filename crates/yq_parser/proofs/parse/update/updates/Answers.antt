@@ -1,10 +1,6 @@
-use Rattle.std.proofs.Common.{rules, arith, sym}
-use Rattle.std.specs.Prelude.{codes}
-use Rattle.std.proofs.lemmas.Result.{err_from_is_err_and}
-use Rattle.yq_parser.proofs.LoopSteps.{failed, onto_new, parted_more, parted_end, parted_fails, update_lessens}
-use Rattle.yq_semantics.specs.Grammar.{literal_depth}
-use Rattle.yq_parser.specs.Parse.{parse_update}
-use Rattle.yq_semantics.specs.View.{update_of}
+use Rattle.std.{proofs.Common.{rules, arith, sym}, specs.Prelude.codes, proofs.lemmas.Result.err_from_is_err_and}
+use Rattle.yq_parser.{proofs.LoopSteps.{failed, onto_new, parted_more, parted_end, parted_fails, update_lessens}, specs.Parse.parse_update}
+use Rattle.yq_semantics.{specs.Grammar.literal_depth, specs.View.update_of}
 use Rattle.yq_parser.proofs.parse.update.updates.Goals as goal
 
 pub returns-in_err-update-clause-value : goal.returns-in_err-update-clause-value

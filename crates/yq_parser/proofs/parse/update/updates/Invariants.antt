@@ -1,12 +1,8 @@
-use Rattle.std.proofs.Common.{◌≡◌, ◌≤◌, length, map}
-use Rattle.std.specs.Prelude.{codes}
+use Rattle.std.{proofs.Common.{◌≡◌, ◌≤◌, length, map}, specs.Prelude.codes}
 use denote.Text.{Utf8}
 use denote.Shadow.{shadow}
-use Rattle.yq_semantics.specs.Grammar.{literal_depth}
-use Rattle.yq_parser.specs.Lexing.{tokens}
-use Rattle.yq_parser.specs.Parse.{parted_at, parse_update}
-use Rattle.yq_semantics.specs.View.{update_of}
-use Rattle.yq_parser.proofs.LoopSteps.{onto}
+use Rattle.yq_semantics.{specs.Grammar.literal_depth, specs.View.update_of}
+use Rattle.yq_parser.{specs.Lexing.tokens, specs.Parse.{parted_at, parse_update}, proofs.LoopSteps.onto}
 use Rattle.yq_parser.proofs.parse.update.updates.Given as goal
 
 abbrev pub invariant-updates : goal.invariant-updates

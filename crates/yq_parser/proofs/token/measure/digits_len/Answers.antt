@@ -1,5 +1,4 @@
-use Rattle.std.proofs.Common.{arith, sym, ◌∙◌}
-use Rattle.std.specs.Char.{is_ascii_digit}
+use Rattle.std.{proofs.Common.{arith, sym, ◌∙◌}, specs.Char.is_ascii_digit}
 use Rattle.yq_core.proofs.Prefixes.{prefix_more, prefix_stop, prefix_end}
 use Rattle.yq_parser.proofs.token.measure.digits_len.Goals as goal
 

@@ -1,7 +1,6 @@
 use Rattle.std.proofs.Common.{◌≡◌, ◌++◌, ◌∙◌, ℕ, List, length, ap, sym, arith, rules, length-drop, string_bytes}
 use Rattle.yq_core.specs.Text.{unless, upto}
-use Rattle.yq_parser.specs.Lexing.{is_plain_byte}
-use Rattle.yq_parser.proofs.Content.{content_next, content_done}
+use Rattle.yq_parser.{specs.Lexing.is_plain_byte, proofs.Content.{content_next, content_done}}
 use Rattle.yq_parser.proofs.token.unescape.content.Goals as goal
 
 pub runs-preserved : goal.runs-preserved

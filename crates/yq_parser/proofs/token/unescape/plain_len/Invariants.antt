@@ -1,5 +1,4 @@
-use Rattle.std.proofs.Common.{◌≡◌, ◌+◌, ◌-◌, ◌≤◌, length, drop}
-use Rattle.std.specs.List.{prefix_len}
+use Rattle.std.{proofs.Common.{◌≡◌, ◌+◌, ◌-◌, ◌≤◌, length, drop}, specs.List.prefix_len}
 use Rattle.yq_parser.specs.Lexing.{is_plain_byte}
 use Rattle.yq_parser.proofs.token.unescape.plain_len.Given as goal
 

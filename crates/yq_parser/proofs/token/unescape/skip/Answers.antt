@@ -1,6 +1,4 @@
-use Rattle.std.proofs.Common.{◌≡◌, ◌+◌, ◌-◌, subst, arith}
-use Rattle.std.proofs.lemmas.Str.{IsCharBoundary-after_ascii}
-use Rattle.std.specs.Str.{IsCharBoundary}
+use Rattle.std.{proofs.Common.{◌≡◌, ◌+◌, ◌-◌, subst, arith}, proofs.lemmas.Str.IsCharBoundary-after_ascii, specs.Str.IsCharBoundary}
 use Rattle.yq_parser.proofs.token.unescape.skip.Goals as goal
 
 pub range_from-requires : goal.range_from-requires

@@ -1,7 +1,5 @@
-use Rattle.std.proofs.Common.{ap, ◌∙◌}
-use Rattle.std.specs.List.{prefix_len}
-use Rattle.yq_parser.specs.Lexing.{is_plain_byte}
-use Rattle.yq_parser.proofs.Content.{boundary_plain}
+use Rattle.std.{proofs.Common.{ap, ◌∙◌}, specs.List.prefix_len}
+use Rattle.yq_parser.{specs.Lexing.is_plain_byte, proofs.Content.boundary_plain}
 use Rattle.yq_parser.proofs.token.unescape.split_plain.Goals as goal
 
 pub split_at-requires : goal.split_at-requires

@@ -1,12 +1,9 @@
-use Rattle.std.proofs.Common.{◌≡◌, eqb, map, Some, refl, sym, ap, ◌∙◌, subst}
-use Rattle.std.proofs.lemmas.List.{length-map}
-use Rattle.yq_outline.specs.Lines.{lines_of_rows}
+use Rattle.std.{proofs.Common.{◌≡◌, eqb, map, Some, refl, sym, ap, ◌∙◌, subst}, proofs.lemmas.List.length-map}
+use Rattle.yq_outline.{specs.Lines.lines_of_rows, specs.RowWalk.line_number}
 use Rattle.yq_core.specs.Entries.{tree_step}
 use Rattle.yq_places.specs.EntryReading.{head_extent, line_content_of, line_head, lines_content}
 use Rattle.yq_places.specs.NodeReading.{IsPlace, at_head, at_lines, node_place, place_view}
-use Rattle.yq_outline.specs.RowWalk.{line_number}
-use Rattle.yq_places.proofs.NodePlaceLaws.{said_further, said_nowhere, said_there}
-use Rattle.yq_places.proofs.WalkNodes.{row_known}
+use Rattle.yq_places.{proofs.NodePlaceLaws.{said_further, said_nowhere, said_there}, proofs.WalkNodes.row_known}
 use Rattle.yq_places.proofs.places.content_place.content_of.Goals as goal
 
 pub returns-in_err-place : goal.returns-in_err-place

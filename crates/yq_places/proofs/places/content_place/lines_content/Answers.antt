@@ -1,11 +1,7 @@
 use Rattle.std.proofs.Common.{◌-◌, cond, Some, refl, ap, ◌∙◌, arith}
-use Rattle.yq_outline.specs.Lines.{lines_of_rows}
-use Rattle.yq_outline.specs.Positions.{has_no_mark}
-use Rattle.yq_outline.proofs.EndsLaws.{deeper_line, not_end}
-use Rattle.yq_places.specs.EntryReading.{head_extent, line_head, lines_place}
-use Rattle.yq_outline.specs.RowWalk.{line_number, lines_stop}
-use Rattle.yq_places.proofs.WalkNodes.{first_here, none_here, row_known}
-use Rattle.yq_outline.proofs.WalkPositions.{located, position_line}
+use Rattle.yq_outline.{specs.Lines.lines_of_rows, specs.Positions.has_no_mark, proofs.EndsLaws.{deeper_line, not_end}}
+use Rattle.yq_outline.{specs.RowWalk.{line_number, lines_stop}, proofs.WalkPositions.{located, position_line}}
+use Rattle.yq_places.{specs.EntryReading.{head_extent, line_head, lines_place}, proofs.WalkNodes.{first_here, none_here, row_known}}
 use Rattle.yq_places.proofs.places.content_place.lines_content.Goals as goal
 
 pub returns-then-not-is_deeper : goal.returns-then-not-is_deeper

@@ -1,11 +1,8 @@
-use Rattle.std.proofs.Common.{◌-◌, ℕ, Option, ap, ◌∙◌, arith}
-use Rattle.std.proofs.lemmas.Option.{slice_get_within}
+use Rattle.std.{proofs.Common.{◌-◌, ℕ, Option, ap, ◌∙◌, arith}, proofs.lemmas.Option.slice_get_within}
 use Rattle.yq_core.specs.Answers.{◌>>=◌}
-use Rattle.yq_outline.specs.Lines.{lines_of_rows}
-use Rattle.yq_outline.proofs.LineEnds.{end_agrees}
-use Rattle.yq_places.specs.EntryReading.{line_entry, lines_place}
-use Rattle.yq_outline.specs.RowWalk.{line_number}
+use Rattle.yq_outline.{specs.Lines.lines_of_rows, proofs.LineEnds.end_agrees, specs.RowWalk.line_number}
 use Rattle.yq_outline.proofs.WalkPositions.{line_position, located}
+use Rattle.yq_places.specs.EntryReading.{line_entry, lines_place}
 use Rattle.yq_places.proofs.places.entry_place.entry_of.Goals as goal
 
 pub returns-in_err-at : goal.returns-in_err-at

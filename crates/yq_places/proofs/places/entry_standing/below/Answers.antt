@@ -1,12 +1,9 @@
-use Rattle.std.proofs.Common.{◌≡◌, ◌+◌, sym, ap, ◌∙◌}
-use Rattle.std.proofs.lemmas.Option.{same_Some}
+use Rattle.std.{proofs.Common.{◌≡◌, ◌+◌, sym, ap, ◌∙◌}, proofs.lemmas.Option.same_Some}
 use Rattle.yq_text.specs.Halves.{whole}
-use Rattle.yq_row_table.specs.Rows.{rows_text}
-use Rattle.yq_row_table.specs.View.{Slices}
-use Rattle.yq_places.specs.Standings as spec
-use Rattle.yq_places.specs.Standings.{behind_entry}
-use Rattle.yq_places.proofs.EntryRowLaws.{pieces_at, row_valid, row_within}
+use Rattle.yq_row_table.{specs.Rows.rows_text, specs.View.Slices}
+use Rattle.yq_places.{specs.Standings.behind_entry, proofs.EntryRowLaws.{pieces_at, row_valid, row_within}}
 use Rattle.yq_places.proofs.StandingViewLaws.{alone_is, has_under, next_entry, none_below, under_is}
+use Rattle.yq_places.specs.Standings as spec
 use Rattle.yq_places.proofs.places.entry_standing.below.Goals as goal
 
 pub returns-then-next-at : goal.returns-then-next-at

@@ -1,14 +1,11 @@
-use Rattle.std.proofs.Common.{[], ◌≡◌, ◌∙◌, ◌+◌, ◌<◌, suc, not, ◌||◌, length, refl, sym, ap, arith}
-use Rattle.std.proofs.lemmas.Option.{same_Some}
+use Rattle.std.{proofs.Common.{[], ◌≡◌, ◌∙◌, ◌+◌, ◌<◌, suc, not, ◌||◌, length, refl, sym, ap, arith}, proofs.lemmas.Option.same_Some}
 use Rattle.yq_text.specs.Halves.{whole}
 use Rattle.yq_core.specs.Text.{is_empty}
 use Rattle.yq_row_table.specs.View.{Slices, row_view}
-use Rattle.yq_places.specs.CommentPlaces.{end_in_line}
-use Rattle.yq_places.specs.LineReading.{lines_view}
-use Rattle.yq_outline.specs.RowWalk.{line_column}
-use Rattle.yq_places.proofs.EntryRowLaws.{column_fits, last_within, pieces_at, row_within, is_view}
-use Rattle.yq_places.proofs.HeldTexts.{column_is}
+use Rattle.yq_places.{specs.CommentPlaces.end_in_line, specs.LineReading.lines_view}
+use Rattle.yq_places.{proofs.EntryRowLaws.{column_fits, last_within, pieces_at, row_within, is_view}, proofs.HeldTexts.column_is}
 use Rattle.yq_places.proofs.LoneLaws.{dash_cut, dash_fits, dash_lines}
+use Rattle.yq_outline.specs.RowWalk.{line_column}
 use Rattle.yq_places.proofs.places.entry_standing.compact_in.Goals as goal
 
 pub row-row-requires : goal.row-row-requires

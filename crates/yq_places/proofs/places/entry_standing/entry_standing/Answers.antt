@@ -1,14 +1,11 @@
-use Rattle.std.proofs.Common.{ℕ, Bool, option_map, sym, ap, ◌∙◌}
-use Rattle.std.proofs.lemmas.Option.{same_Some}
+use Rattle.std.{proofs.Common.{ℕ, Bool, option_map, sym, ap, ◌∙◌}, proofs.lemmas.Option.same_Some}
 use Rattle.yq_text.specs.Halves.{whole}
 use Rattle.yq_core.specs.Text.{is_empty}
-use Rattle.yq_row_table.specs.Removal.{block_of}
-use Rattle.yq_row_table.specs.View.{Slices}
+use Rattle.yq_row_table.{specs.Removal.block_of, specs.View.Slices}
 use Rattle.yq_documents.specs.Reading.{cut_of}
-use Rattle.yq_places.specs.Standings as spec
-use Rattle.yq_places.proofs.EntryRowLaws.{first_at, pieces_at, row_within}
-use Rattle.yq_places.proofs.LinesCutLaws.{none_is}
+use Rattle.yq_places.{proofs.EntryRowLaws.{first_at, pieces_at, row_within}, proofs.LinesCutLaws.none_is}
 use Rattle.yq_places.proofs.StandingViewLaws.{below_here, beside_here, block_here, no_block, some_block}
+use Rattle.yq_places.specs.Standings as spec
 use Rattle.yq_places.proofs.places.entry_standing.entry_standing.Goals as goal
 
 pub block-requires : goal.block-requires

@@ -1,8 +1,7 @@
 use Rattle.std.proofs.Common.{refl}
 use Rattle.yq_text.specs.Halves.{whole}
 use Rattle.yq_row_table.specs.View.{row_view}
-use Rattle.yq_places.proofs.EntryRowLaws.{row_within, is_view}
-use Rattle.yq_places.proofs.LoneLaws.{end_boundary, lone_is, start_boundary}
+use Rattle.yq_places.{proofs.EntryRowLaws.{row_within, is_view}, proofs.LoneLaws.{end_boundary, lone_is, start_boundary}}
 use Rattle.yq_places.proofs.places.entry_standing.lone_in.Goals as goal
 
 pub row-row-requires : goal.row-row-requires

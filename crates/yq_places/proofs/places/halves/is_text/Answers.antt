@@ -1,5 +1,4 @@
-use Rattle.std.proofs.Common.{rules}
-use Rattle.std.proofs.lemmas.Str.{IsUtf8-append}
+use Rattle.std.{proofs.Common.rules, proofs.lemmas.Str.IsUtf8-append}
 use Rattle.yq_places.proofs.places.halves.is_text.Goals as goal
 
 pub returns : goal.returns

@@ -1,10 +1,6 @@
-use Rattle.std.proofs.Common.{length, take, drop, sym, ap, ◌∙◌, subst}
-use Rattle.std.proofs.Math.Seq.{take-append_seam}
-use Rattle.std.specs.Str.{IsCharBoundary}
+use Rattle.std.{proofs.Common.{length, take, drop, sym, ap, ◌∙◌, subst}, proofs.Math.Seq.take-append_seam, specs.Str.IsCharBoundary}
 use Rattle.yq_text.specs.Halves.{whole}
-use Rattle.yq_places.specs.PrintedLines.{less_break, last_break}
-use Rattle.yq_places.proofs.FinishLaws.{break_boundary}
-use Rattle.yq_places.proofs.PrintedTexts.{less_is}
+use Rattle.yq_places.{specs.PrintedLines.{less_break, last_break}, proofs.FinishLaws.break_boundary, proofs.PrintedTexts.less_is}
 use Rattle.yq_places.proofs.places.halves.split_break.Goals as goal
 
 pub split_at-requires : goal.split_at-requires

@@ -1,5 +1,4 @@
-use Rattle.std.proofs.Common.{rules}
-use Rattle.std.proofs.lemmas.Str.{IsUtf8-append}
+use Rattle.std.{proofs.Common.rules, proofs.lemmas.Str.IsUtf8-append}
 use Rattle.yq_text.specs.Halves.{whole}
 use Rattle.yq_core.proofs.Boundaries.{boundary_line}
 use Rattle.yq_places.proofs.places.halves.split_line.Goals as goal

@@ -1,8 +1,6 @@
-use Rattle.std.proofs.Common.{rules, eqb, refl, sym, ◌∙◌}
-use Rattle.std.proofs.lemmas.Str.{IsUtf8-append}
+use Rattle.std.{proofs.Common.{rules, eqb, refl, sym, ◌∙◌}, proofs.lemmas.Str.IsUtf8-append}
 use Rattle.yq_text.specs.Halves.{whole}
-use Rattle.yq_core.proofs.Boundaries.{boundary_spaces}
-use Rattle.yq_core.proofs.Upto.{upto_unless}
+use Rattle.yq_core.{proofs.Boundaries.boundary_spaces, proofs.Upto.upto_unless}
 use Rattle.yq_places.proofs.places.halves.split_spaces.Goals as goal
 
 pub split_at-requires : goal.split_at-requires

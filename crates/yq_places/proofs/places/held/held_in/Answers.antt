@@ -1,5 +1,4 @@
-use Rattle.std.proofs.Common.{ℕ, refl, ap, ◌∙◌, arith}
-use Rattle.std.specs.Str.{IsUtf8}
+use Rattle.std.{proofs.Common.{ℕ, refl, ap, ◌∙◌, arith}, specs.Str.IsUtf8}
 use Rattle.yq_text.specs.Halves.{whole}
 use Rattle.yq_row_table.specs.View.{row_view}
 use Rattle.yq_places.specs.LineReading.{LinesIn, lines_view, tail_view}

@@ -1,7 +1,6 @@
 use Rattle.std.proofs.Common.{map}
 use Rattle.yq_core.specs.Entries.{tree_step}
-use Rattle.yq_outline.proofs.PathLines.{from_root}
-use Rattle.yq_outline.specs.Lines.{lines_of_rows}
+use Rattle.yq_outline.{proofs.PathLines.from_root, specs.Lines.lines_of_rows}
 use Rattle.yq_places.proofs.places.known_at.known_along.Goals as goal
 
 pub steps-init : goal.steps-init

@@ -1,5 +1,4 @@
-use Rattle.yq_outline.specs.RowWalk.{IsKnown}
-use Rattle.yq_outline.proofs.KnownLaws.{moved_to}
+use Rattle.yq_outline.{specs.RowWalk.IsKnown, proofs.KnownLaws.moved_to}
 use Rattle.yq_places.proofs.places.known_end.known_last.Given as goal
 
 -- the last row is known, and so many items are passed before this one

@@ -1,7 +1,6 @@
 use Rattle.std.proofs.Common.{sym, subst, ◌∙◌}
 use Rattle.yq_text.specs.Halves.{whole}
-use Rattle.yq_places.specs.LineReading.{IsLastBreak}
-use Rattle.yq_places.proofs.LinesCutLaws.{last_is, lines_are}
+use Rattle.yq_places.{specs.LineReading.IsLastBreak, proofs.LinesCutLaws.{last_is, lines_are}}
 use Rattle.yq_places.proofs.places.lines_cut.cut_lines.Goals as goal
 
 pub last_break-requires : goal.last_break-requires

@@ -1,5 +1,4 @@
-use Rattle.std.proofs.Common.{sym, ap, eqb, map, ◌∙◌}
-use Rattle.std.proofs.lemmas.List.{length-map}
+use Rattle.std.{proofs.Common.{sym, ap, eqb, map, ◌∙◌}, proofs.lemmas.List.length-map}
 use Rattle.yq_core.specs.Entries.{tree_step}
 use Rattle.yq_outline.specs.View.{content_view}
 use Rattle.yq_places.proofs.NodeAtLaws.{scalar_steps, scalar_there}

@@ -1,6 +1,5 @@
 use Rattle.std.proofs.Common.{Some, ap, option_map, ◌∙◌}
-use Rattle.yq_places.specs.NodesAt.{node_summary}
-use Rattle.yq_places.proofs.NodeAtLaws.{items_agrees, entries_agrees}
+use Rattle.yq_places.{specs.NodesAt.node_summary, proofs.NodeAtLaws.{items_agrees, entries_agrees}}
 use Rattle.yq_places.proofs.places.node_at.inline_node.Goals as goal
 
 pub returns-in-List : goal.returns-in-List

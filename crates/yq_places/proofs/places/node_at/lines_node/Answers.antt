@@ -1,10 +1,7 @@
 use Rattle.std.proofs.Common.{cond, not, refl, sym, ap, ◌∙◌}
-use Rattle.yq_outline.specs.Lines.{lines_of_rows}
-use Rattle.yq_outline.specs.Ends.{has_no_lines, part}
-use Rattle.yq_places.specs.NodesAt.{list, map as mapping}
-use Rattle.yq_outline.specs.RowWalk.{line_number}
-use Rattle.yq_places.proofs.NodeAtLaws.{collection_view}
+use Rattle.yq_outline.{specs.Lines.lines_of_rows, specs.Ends.{has_no_lines, part}, specs.RowWalk.line_number}
 use Rattle.yq_outline.proofs.WalkPositions.{located, position_line}
+use Rattle.yq_places.{specs.NodesAt.{list, map as mapping}, proofs.NodeAtLaws.collection_view}
 use Rattle.yq_places.proofs.places.node_at.lines_node.Goals as goal
 
 pub returns-then-is_item_at : goal.returns-then-is_item_at

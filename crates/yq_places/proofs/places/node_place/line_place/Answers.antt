@@ -1,13 +1,8 @@
-use Rattle.std.proofs.Common.{◌≡◌, eqb, map, sym, ap, ◌∙◌}
-use Rattle.std.proofs.lemmas.List.{length-map}
-use Rattle.std.proofs.lemmas.Option.{same_Some}
+use Rattle.std.{proofs.Common.{◌≡◌, eqb, map, sym, ap, ◌∙◌}, proofs.lemmas.List.length-map, proofs.lemmas.Option.same_Some}
 use Rattle.yq_core.specs.Entries.{tree_step}
-use Rattle.yq_outline.specs.Outline.{level}
+use Rattle.yq_outline.{specs.Outline.level, specs.RowWalk.line_number, proofs.WalkPositions.located}
 use Rattle.yq_row_table.specs.View.{slices}
-use Rattle.yq_outline.specs.RowWalk.{line_number}
-use Rattle.yq_places.proofs.NodeAtLaws.{lines_place}
-use Rattle.yq_places.proofs.WalkNodes.{no_steps}
-use Rattle.yq_outline.proofs.WalkPositions.{located}
+use Rattle.yq_places.{proofs.NodeAtLaws.lines_place, proofs.WalkNodes.no_steps}
 use Rattle.yq_places.proofs.places.node_place.line_place.Goals as goal
 
 pub returns-clause-agrees : goal.returns-clause-agrees

@@ -1,10 +1,7 @@
 use Rattle.std.proofs.Common.{map}
-use Rattle.yq_outline.specs.Lines.{lines_of_rows}
+use Rattle.yq_outline.{specs.Lines.lines_of_rows, specs.RowWalk.line_number, proofs.WalkPositions.located}
 use Rattle.yq_core.specs.Entries.{tree_step}
-use Rattle.yq_places.specs.NodeReading.{place_view}
-use Rattle.yq_outline.specs.RowWalk.{line_number}
-use Rattle.yq_places.proofs.NodeAtLaws.{placed_at}
-use Rattle.yq_outline.proofs.WalkPositions.{located}
+use Rattle.yq_places.{specs.NodeReading.place_view, proofs.NodeAtLaws.placed_at}
 use Rattle.yq_places.proofs.places.node_place.node_place.Goals as goal
 
 pub returns-clause-found : goal.returns-clause-found

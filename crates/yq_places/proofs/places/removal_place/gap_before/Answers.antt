@@ -1,5 +1,4 @@
-use Rattle.std.proofs.Common.{rules}
-use Rattle.std.proofs.lemmas.Option.{slice_get_past}
+use Rattle.std.{proofs.Common.rules, proofs.lemmas.Option.slice_get_past}
 use Rattle.yq_places.proofs.EntryPlaceLaws.{range_first, range_none}
 use Rattle.yq_places.proofs.places.removal_place.gap_before.Goals as goal
 

@@ -1,7 +1,5 @@
 use Rattle.std.proofs.Common.{rules, sym, ap, ◌∙◌}
-use Rattle.yq_core.specs.Lines.{is_blank}
-use Rattle.yq_core.specs.Text.{text_lines}
-use Rattle.yq_core.proofs.BlockSteps.{at_cut, at_end}
+use Rattle.yq_core.{specs.Lines.is_blank, specs.Text.text_lines, proofs.BlockSteps.{at_cut, at_end}}
 use Rattle.yq_row_table.specs.Removal.{hold_comment}
 use Rattle.yq_places.proofs.RemovalPlaceLaws.{held_here, held_on, none_held}
 use Rattle.yq_places.proofs.places.removal_place.holds_comment.Goals as goal

@@ -1,5 +1,4 @@
-use Rattle.std.proofs.Common.{◌≡◌, length}
-use Rattle.std.specs.Str.{IsUtf8}
+use Rattle.std.{proofs.Common.{◌≡◌, length}, specs.Str.IsUtf8}
 use Rattle.yq_core.specs.Text.{text_lines}
 use Rattle.yq_row_table.specs.Removal.{hold_comment}
 use Rattle.yq_places.proofs.places.removal_place.holds_comment.Given as goal

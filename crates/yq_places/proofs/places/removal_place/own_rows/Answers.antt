@@ -1,13 +1,8 @@
-use Rattle.std.proofs.Common.{◌-◌, map, arith}
-use Rattle.std.proofs.lemmas.Option.{slice_get_within}
+use Rattle.std.{proofs.Common.{◌-◌, map, arith}, proofs.lemmas.Option.slice_get_within}
 use Rattle.yq_core.specs.Entries.{tree_step}
-use Rattle.yq_outline.specs.Lines.{lines_of_rows}
-use Rattle.yq_outline.proofs.LineEnds.{end_agrees}
-use Rattle.yq_outline.specs.RowWalk.{line_number}
-use Rattle.yq_places.proofs.RemovalPlaceLaws.{no_own, not_own, own_agrees}
-use Rattle.yq_places.proofs.WalkDocuments.{row_line_number}
-use Rattle.yq_outline.proofs.WalkRows.{rows_length}
+use Rattle.yq_outline.{specs.Lines.lines_of_rows, proofs.LineEnds.end_agrees, specs.RowWalk.line_number, proofs.WalkRows.rows_length}
 use Rattle.yq_outline.proofs.WalkPositions.{located}
+use Rattle.yq_places.{proofs.RemovalPlaceLaws.{no_own, not_own, own_agrees}, proofs.WalkDocuments.row_line_number}
 use Rattle.yq_places.proofs.places.removal_place.own_rows.Goals as goal
 
 pub returns-in_err-at : goal.returns-in_err-at

@@ -1,12 +1,9 @@
 use Rattle.std.proofs.Common.{◌+◌, ◌-◌, ℕ, ◌++◌, length, length-append, take, drop, option_map, ap, ◌∙◌, arith}
 use Rattle.yq_text.specs.Halves.{whole}
 use Rattle.yq_core.specs.Text.{joined, text_lines}
-use Rattle.yq_row_table.specs.Removal.{block_numbers, last_block}
-use Rattle.yq_row_table.specs.View.{row_view}
-use Rattle.yq_documents.specs.Pieces.{before_run}
-use Rattle.yq_documents.specs.Reading.{cut_of}
-use Rattle.yq_places.specs.RemovalPlaces.{seam_behind, rows_out}
-use Rattle.yq_places.proofs.RemovalViewLaws.{code_agrees, out_agrees, own_view}
+use Rattle.yq_row_table.{specs.Removal.{block_numbers, last_block}, specs.View.row_view}
+use Rattle.yq_documents.{specs.Pieces.before_run, specs.Reading.cut_of}
+use Rattle.yq_places.{specs.RemovalPlaces.{seam_behind, rows_out}, proofs.RemovalViewLaws.{code_agrees, out_agrees, own_view}}
 use Rattle.yq_places.proofs.places.removal_place.rows_out.Goals as goal
 
 pub row-requires : goal.row-requires

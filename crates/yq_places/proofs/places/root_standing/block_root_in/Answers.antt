@@ -1,11 +1,8 @@
-use Rattle.std.proofs.Common.{◌∙◌, refl, sym, ap}
-use Rattle.std.proofs.lemmas.Option.{same_Some}
+use Rattle.std.{proofs.Common.{◌∙◌, refl, sym, ap}, proofs.lemmas.Option.same_Some}
 use Rattle.yq_text.specs.Halves.{whole}
 use Rattle.yq_row_table.specs.View.{Slices}
-use Rattle.yq_places.specs.LineReading.{lines_view}
-use Rattle.yq_places.specs.StandingReading.{root_entry}
-use Rattle.yq_places.proofs.EntryRowLaws.{last_within, pieces_at, row_within, is_view}
-use Rattle.yq_places.proofs.RootStandingLaws.{root_cut, root_lines}
+use Rattle.yq_places.{specs.LineReading.lines_view, specs.StandingReading.root_entry}
+use Rattle.yq_places.{proofs.EntryRowLaws.{last_within, pieces_at, row_within, is_view}, proofs.RootStandingLaws.{root_cut, root_lines}}
 use Rattle.yq_places.proofs.places.root_standing.block_root_in.Goals as goal
 
 pub row-requires : goal.row-requires

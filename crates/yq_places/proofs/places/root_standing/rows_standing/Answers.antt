@@ -1,11 +1,9 @@
-use Rattle.std.proofs.Common.{sym, ap, ◌∙◌}
-use Rattle.std.proofs.lemmas.Option.{same_Some}
+use Rattle.std.{proofs.Common.{sym, ap, ◌∙◌}, proofs.lemmas.Option.same_Some}
 use Rattle.yq_text.specs.Halves.{whole}
 use Rattle.yq_row_table.specs.Rows.{rows_text}
-use Rattle.yq_places.specs.Standings as spec
-use Rattle.yq_places.specs.StandingReading.{root_entry}
-use Rattle.yq_places.proofs.EntryRowLaws.{pieces_at, row_valid, row_within}
+use Rattle.yq_places.{specs.StandingReading.root_entry, proofs.EntryRowLaws.{pieces_at, row_valid, row_within}}
 use Rattle.yq_places.proofs.RootStandingLaws.{root_alone, root_block}
+use Rattle.yq_places.specs.Standings as spec
 use Rattle.yq_places.proofs.places.root_standing.rows_standing.Goals as goal
 
 pub row-requires : goal.row-requires

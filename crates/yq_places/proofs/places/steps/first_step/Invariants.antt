@@ -1,8 +1,6 @@
 use Rattle.std.proofs.Common.{◌≡◌, ◌-◌, drop}
-use Rattle.yq_outline.specs.Lines.{lines_of_rows}
-use Rattle.yq_outline.specs.RowWalk.{HasRows}
-use Rattle.yq_places.specs.Steps.{first_step, is_kind}
-use Rattle.yq_places.proofs.StepLaws.{step_behind}
+use Rattle.yq_outline.{specs.Lines.lines_of_rows, specs.RowWalk.HasRows}
+use Rattle.yq_places.{specs.Steps.{first_step, is_kind}, proofs.StepLaws.step_behind}
 use Rattle.yq_places.proofs.places.steps.first_step.Given as goal
 
 -- the step that is looked for is that of the lines from this row on

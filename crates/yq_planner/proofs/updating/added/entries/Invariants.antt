@@ -1,9 +1,7 @@
 use Rattle.std.proofs.Common.{◌≡◌, drop, ◌++◌, map}
-use Rattle.yq_core.specs.Values.{entries_of}
-use Rattle.yq_core.specs.Tree.{Children}
+use Rattle.yq_core.{specs.Values.entries_of, specs.Tree.Children}
 use Rattle.yq_semantics.specs.Changes.{additions}
-use Rattle.yq_planner.specs.ChangeView.{addition_of}
-use Rattle.yq_planner.specs.Indexes.{IsIndex}
+use Rattle.yq_planner.{specs.ChangeView.addition_of, specs.Indexes.IsIndex}
 use Rattle.yq_planner.proofs.updating.added.entries.Given as goal
 
 abbrev pub invariant-each : goal.invariant-each

@@ -1,6 +1,5 @@
 use Rattle.std.proofs.Common.{◌≡◌, drop, ◌++◌, map}
-use Rattle.yq_core.specs.Values.{items_of}
-use Rattle.yq_core.specs.Tree.{none}
+use Rattle.yq_core.{specs.Values.items_of, specs.Tree.none}
 use Rattle.yq_semantics.specs.Changes.{additions}
 use Rattle.yq_planner.specs.ChangeView.{addition_of}
 use Rattle.yq_planner.proofs.updating.added.items.Given as goal

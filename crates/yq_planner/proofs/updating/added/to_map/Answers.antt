@@ -1,10 +1,7 @@
 use Rattle.std.proofs.Common.{List, sym, ap, ◌∙◌}
-use Rattle.yq_core.specs.Values.{value_node}
-use Rattle.yq_core.specs.Tree.{children_of}
+use Rattle.yq_core.{specs.Values.value_node, specs.Tree.children_of}
 use Rattle.yq_nodes.specs.Nodes.{node_of}
-use Rattle.yq_semantics.specs.Changes.{Addition, adds, added_entries}
-use Rattle.yq_semantics.specs.Judgement.{gives}
-use Rattle.yq_semantics.proofs.ValueMaps.{node_of-map}
+use Rattle.yq_semantics.{specs.Changes.{Addition, adds, added_entries}, specs.Judgement.gives, proofs.ValueMaps.node_of-map}
 use Rattle.yq_planner.proofs.updating.added.to_map.Goals as goal
 
 pub returns : goal.returns

@@ -1,11 +1,9 @@
 use Rattle.std.proofs.Common.{sym, ap, ◌∙◌, cond}
 use Rattle.yq_core.specs.Anchors.{names_of}
 use Rattle.yq_nodes.specs.Nodes.{node_of}
-use Rattle.yq_semantics.specs.Changes.{is_too_deep}
-use Rattle.yq_planner.specs.ChangeView.{change_of}
-use Rattle.yq_semantics.specs.Judgement.{gives, refuses}
+use Rattle.yq_semantics.{specs.Changes.is_too_deep, specs.Judgement.{gives, refuses}}
 use Rattle.yq_semantics.specs.declared.refusal.Refusal.TheVariants.{AnchorInUse}
-use Rattle.yq_planner.proofs.UsedLaws.{allowed_by}
+use Rattle.yq_planner.{specs.ChangeView.change_of, proofs.UsedLaws.allowed_by}
 use Rattle.yq_planner.proofs.updating.allowed.allow.Goals as goal
 
 pub returns-then-branch-2 : goal.returns-then-branch-2

@@ -1,8 +1,7 @@
 use Rattle.std.proofs.Common.{sym, ◌∙◌, ◌≤◌, length, arith}
 use Rattle.yq_core.specs.Tree.{children_of}
 use Rattle.yq_nodes.specs.Nodes.{node_of}
-use Rattle.yq_planner.specs.ChangeView.{addition_of}
-use Rattle.yq_planner.specs.TakenNames.{overwrites_at}
+use Rattle.yq_planner.{specs.ChangeView.addition_of, specs.TakenNames.overwrites_at}
 use Rattle.yq_semantics.proofs.Lists.{any_here, any_further, any_done}
 use Rattle.yq_planner.proofs.updating.allowed.some_overwrites_used.Goals as goal
 

@@ -1,11 +1,7 @@
-use Rattle.std.proofs.Common.{◌≡◌, List, drop}
-use Rattle.std.specs.List.{list_any}
-use Rattle.yq_core.specs.Anchors.{Name}
-use Rattle.yq_core.specs.Tree.{children_of}
+use Rattle.std.{proofs.Common.{◌≡◌, List, drop}, specs.List.list_any}
+use Rattle.yq_core.{specs.Anchors.Name, specs.Tree.children_of}
 use Rattle.yq_nodes.specs.Nodes.{node_of}
-use Rattle.yq_planner.specs.ChangeView.{addition_of}
-use Rattle.yq_planner.specs.Indexes.{HasAliases}
-use Rattle.yq_planner.specs.TakenNames.{overwrites_at}
+use Rattle.yq_planner.{specs.ChangeView.addition_of, specs.Indexes.HasAliases, specs.TakenNames.overwrites_at}
 use Rattle.yq_planner.proofs.updating.allowed.some_overwrites_used.Given as goal
 
 abbrev pub invariant-each : goal.invariant-each

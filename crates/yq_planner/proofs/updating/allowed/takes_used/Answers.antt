@@ -1,14 +1,9 @@
-use Rattle.std.proofs.Common.{sym, ap, ◌∙◌, subst, IfOk, ◌≡◌}
-use Rattle.std.proofs.lemmas.List.{nil_from_length}
-use Rattle.std.specs.List.{list_any}
+use Rattle.std.{proofs.Common.{sym, ap, ◌∙◌, subst, IfOk, ◌≡◌}, proofs.lemmas.List.nil_from_length, specs.List.list_any}
 use Rattle.yq_core.specs.Tree.{children_of}
 use Rattle.yq_nodes.specs.Nodes.{node_of}
-use Rattle.yq_planner.specs.ChangeView.{addition_of, change_of}
-use Rattle.yq_planner.specs.TakenNames.{overwrites_at, takes_at}
-use Rattle.yq_planner.specs.declared.updating.change.Change.{Change}
-use Rattle.yq_planner.proofs.IndexLaws.{no_aliases}
+use Rattle.yq_planner.{specs.ChangeView.{addition_of, change_of}, specs.TakenNames.{overwrites_at, takes_at}}
+use Rattle.yq_planner.{specs.declared.updating.change.Change.Change, proofs.IndexLaws.no_aliases, proofs.UsedLaws.none_taken}
 use Rattle.yq_semantics.proofs.Lists.{list_any_map}
-use Rattle.yq_planner.proofs.UsedLaws.{none_taken}
 use Rattle.yq_planner.proofs.updating.allowed.takes_used.Goals as goal
 
 pub returns-then-is_empty : goal.returns-then-is_empty

@@ -1,13 +1,9 @@
 use Rattle.std.proofs.Common.{is_some, sym, ap, ◌∙◌, arith}
-use Rattle.yq_core.specs.Keys.{deepest}
-use Rattle.yq_core.specs.Tree.{alias}
-use Rattle.yq_nodes.specs.Children.{left_of}
+use Rattle.yq_core.{specs.Keys.deepest, specs.Tree.alias}
+use Rattle.yq_nodes.{specs.Children.left_of, specs.Nodes.{label_of, node_of}}
 use Rattle.yq_outline.specs.Counts.{count}
-use Rattle.yq_nodes.specs.Nodes.{label_of, node_of}
 use Rattle.yq_semantics.specs.Changes.{refers_to}
-use Rattle.yq_planner.specs.Indexes.{get_text}
-use Rattle.yq_planner.proofs.IndexLaws.{put_text, alias_put}
-use Rattle.yq_planner.proofs.UsedLaws.{alias_is, named_more}
+use Rattle.yq_planner.{specs.Indexes.get_text, proofs.IndexLaws.{put_text, alias_put}, proofs.UsedLaws.{alias_is, named_more}}
 use Rattle.yq_planner.proofs.updating.anchors.+aliases.Goals as goal
 
 pub put_aliases-returns-in_ok-insert-in-Alias : goal.put_aliases-returns-in_ok-insert-in-Alias

@@ -1,11 +1,7 @@
-use Rattle.std.proofs.Common.{◌≡◌, ℕ, ◌+◌, ◌*◌, ◌≤◌, ◌||◌, List, is_some}
-use Rattle.std.specs.List.{list_any}
-use Rattle.yq_core.specs.Keys.{depth, deepest}
-use Rattle.yq_core.specs.Tree.{children_of}
-use Rattle.yq_core.specs.Anchors.{names_in}
-use Rattle.yq_nodes.specs.Children.{left_of}
+use Rattle.std.{proofs.Common.{◌≡◌, ℕ, ◌+◌, ◌*◌, ◌≤◌, ◌||◌, List, is_some}, specs.List.list_any}
+use Rattle.yq_core.{specs.Keys.{depth, deepest}, specs.Tree.children_of, specs.Anchors.names_in}
+use Rattle.yq_nodes.{specs.Children.left_of, specs.Nodes.node_of}
 use Rattle.yq_outline.specs.Counts.{count}
-use Rattle.yq_nodes.specs.Nodes.{node_of}
 use Rattle.yq_semantics.specs.Changes.{refers_to}
 use Rattle.yq_planner.specs.Indexes.{get_text}
 use Rattle.yq_planner.proofs.updating.anchors.+aliases.Given as goal

@@ -1,8 +1,7 @@
 use Rattle.std.proofs.Common.{sym, ap, ◌∙◌, arith}
 use Rattle.yq_core.specs.Keys.{deepest}
-use Rattle.yq_nodes.specs.Children.{left_of}
+use Rattle.yq_nodes.{specs.Children.left_of, specs.Nodes.{label_of, node_of}}
 use Rattle.yq_outline.specs.Counts.{count}
-use Rattle.yq_nodes.specs.Nodes.{label_of, node_of}
 use Rattle.yq_planner.proofs.UsedLaws.{used_own, used_inside, used_more, used_here}
 use Rattle.yq_planner.proofs.updating.anchors.+used.Goals as goal
 

@@ -1,11 +1,7 @@
-use Rattle.std.proofs.Common.{◌≡◌, ◌+◌, ◌*◌, ◌≤◌, List}
-use Rattle.std.specs.List.{list_any}
-use Rattle.yq_core.specs.Keys.{depth, deepest}
-use Rattle.yq_core.specs.Tree.{children_of}
-use Rattle.yq_core.specs.Anchors.{Name, names_in}
-use Rattle.yq_nodes.specs.Children.{left_of}
+use Rattle.std.{proofs.Common.{◌≡◌, ◌+◌, ◌*◌, ◌≤◌, List}, specs.List.list_any}
+use Rattle.yq_core.{specs.Keys.{depth, deepest}, specs.Tree.children_of, specs.Anchors.{Name, names_in}}
+use Rattle.yq_nodes.{specs.Children.left_of, specs.Nodes.node_of}
 use Rattle.yq_outline.specs.Counts.{count}
-use Rattle.yq_nodes.specs.Nodes.{node_of}
 use Rattle.yq_semantics.specs.Changes.{is_used}
 use Rattle.yq_planner.specs.Indexes.{HasAliases}
 use Rattle.yq_planner.proofs.updating.anchors.+used.Given as goal

@@ -1,7 +1,6 @@
 use Rattle.yq_core.specs.Anchors.{names_of}
 use Rattle.yq_nodes.specs.Nodes.{node_of}
-use Rattle.yq_planner.proofs.IndexLaws.{without_aliases}
-use Rattle.yq_planner.proofs.UsedLaws.{none_refer}
+use Rattle.yq_planner.{proofs.IndexLaws.without_aliases, proofs.UsedLaws.none_refer}
 use Rattle.yq_planner.proofs.updating.anchors.aliases_of.Goals as goal
 
 pub returns-then-not-may_refer : goal.returns-then-not-may_refer

@@ -1,5 +1,4 @@
-use Rattle.std.proofs.Common.{◌≡◌, drop, suc}
-use Rattle.std.specs.List.{list_any}
+use Rattle.std.{proofs.Common.{◌≡◌, drop, suc}, specs.List.list_any}
 use Rattle.yq_semantics.specs.Changes.{is_deep, value_in}
 use Rattle.yq_planner.specs.ChangeView.{addition_of}
 use Rattle.yq_planner.proofs.updating.change_limits.some_adds_too_deep.Given as goal

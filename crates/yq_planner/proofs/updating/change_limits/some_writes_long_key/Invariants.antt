@@ -1,5 +1,4 @@
-use Rattle.std.proofs.Common.{◌≡◌, drop}
-use Rattle.std.specs.List.{list_any}
+use Rattle.std.{proofs.Common.{◌≡◌, drop}, specs.List.list_any}
 use Rattle.yq_semantics.specs.Changes.{writes_long_key}
 use Rattle.yq_planner.specs.ChangeView.{addition_of}
 use Rattle.yq_planner.proofs.updating.change_limits.some_writes_long_key.Given as goal

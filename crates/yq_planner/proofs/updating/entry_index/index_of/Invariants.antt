@@ -1,10 +1,7 @@
-use Rattle.std.proofs.Common.{◌≡◌, ℕ, List, option_map}
-use Rattle.std.specs.Option.{option_or}
-use Rattle.yq_core.specs.Paths.{To, child_at}
-use Rattle.yq_core.specs.Tree.{children_of}
-use Rattle.yq_nodes.specs.Children.{left_of}
+use Rattle.std.{proofs.Common.{◌≡◌, ℕ, List, option_map}, specs.Option.option_or}
+use Rattle.yq_core.{specs.Paths.{To, child_at}, specs.Tree.children_of}
+use Rattle.yq_nodes.{specs.Children.left_of, specs.Nodes.node_of}
 use Rattle.yq_outline.specs.Counts.{count}
-use Rattle.yq_nodes.specs.Nodes.{node_of}
 use Rattle.yq_planner.specs.Indexes.{get_text}
 use Rattle.yq_planner.proofs.updating.entry_index.index_of.Given as goal
 

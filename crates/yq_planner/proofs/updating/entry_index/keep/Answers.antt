@@ -1,7 +1,6 @@
 use Rattle.std.proofs.Common.{option_map, sym, ap, ◌∙◌, bytes_eq}
 use Rattle.yq_nodes.specs.Nodes.{label_of, node_of}
-use Rattle.yq_planner.specs.Indexes.{get_text}
-use Rattle.yq_planner.proofs.IndexLaws.{put_text, map_put, new_kept, map_none}
+use Rattle.yq_planner.{specs.Indexes.get_text, proofs.IndexLaws.{put_text, map_put, new_kept, map_none}}
 use Rattle.yq_planner.proofs.updating.entry_index.keep.Goals as goal
 
 pub returns-in_ok-insert : goal.returns-in_ok-insert

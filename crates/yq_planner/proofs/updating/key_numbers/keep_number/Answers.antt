@@ -1,8 +1,6 @@
-use Rattle.std.proofs.Common.{ℕ, List, is_some, string_bytes, sym, ap, ◌∙◌}
-use Rattle.std.proofs.lemmas.Map.Text.{btree_map_updates_text}
+use Rattle.std.{proofs.Common.{ℕ, List, is_some, string_bytes, sym, ap, ◌∙◌}, proofs.lemmas.Map.Text.btree_map_updates_text}
 use Rattle.std.specs.BTreeMap.{get_by_text}
-use Rattle.yq_planner.specs.EntryNumbers.{number_kept}
-use Rattle.yq_planner.proofs.IndexLaws.{new_number}
+use Rattle.yq_planner.{specs.EntryNumbers.number_kept, proofs.IndexLaws.new_number}
 use Rattle.yq_planner.proofs.updating.key_numbers.keep_number.Goals as goal
 
 pub returns-in_ok-insert : goal.returns-in_ok-insert

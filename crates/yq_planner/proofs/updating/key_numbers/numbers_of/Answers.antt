@@ -1,7 +1,5 @@
-use Rattle.std.proofs.Common.{String, string_bytes, sym, ap, ◌∙◌}
-use Rattle.std.specs.declared.alloc.Global.{Global}
-use Rattle.yq_core.specs.Values.{field_of}
-use Rattle.yq_core.specs.declared.value.Value.{Value}
+use Rattle.std.{proofs.Common.{String, string_bytes, sym, ap, ◌∙◌}, specs.declared.alloc.Global.Global}
+use Rattle.yq_core.{specs.Values.field_of, specs.declared.value.Value.Value}
 use Rattle.yq_planner.proofs.SumLaws.{numbered_more}
 use Rattle.yq_planner.proofs.updating.key_numbers.numbers_of.Goals as goal
 

@@ -1,5 +1,4 @@
-use Rattle.std.proofs.Common.{rules}
-use Rattle.std.proofs.lemmas.Grind.{common_steps}
+use Rattle.std.{proofs.Common.rules, proofs.lemmas.Grind.common_steps}
 use Rattle.yq_semantics.proofs.ValueMaps.{node_of-map}
 use Rattle.yq_planner.proofs.LimitLaws.{one_deeper}
 use Rattle.yq_planner.proofs.updating.limits.+deeper.Goals as goal

@@ -1,6 +1,5 @@
 use Rattle.std.proofs.Common.{◌≡◌, drop, nat_lt}
-use Rattle.yq_core.specs.Values.{entries_of, items_of}
-use Rattle.yq_core.specs.Keys.{deepest}
+use Rattle.yq_core.{specs.Values.{entries_of, items_of}, specs.Keys.deepest}
 use Rattle.yq_planner.proofs.updating.limits.+deeper.Given as goal
 
 abbrev pub invariant-some_item_is_deeper-each : goal.invariant-some_item_is_deeper-each

@@ -1,7 +1,6 @@
 use Rattle.std.proofs.Common.{◌≡◌, Bool, IfOk, sym, ap, ◌∙◌, subst}
 use Rattle.yq_core.specs.Values.{value_node}
-use Rattle.yq_semantics.specs.Changes.{has_long_key}
-use Rattle.yq_semantics.proofs.ValueMaps.{node_of-map}
+use Rattle.yq_semantics.{specs.Changes.has_long_key, proofs.ValueMaps.node_of-map}
 use Rattle.yq_planner.proofs.updating.limits.+long.Goals as goal
 
 pub holds_long_key-returns-in-Map : goal.holds_long_key-returns-in-Map

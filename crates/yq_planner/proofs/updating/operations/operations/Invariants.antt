@@ -1,8 +1,6 @@
-use Rattle.std.proofs.Common.{◌≡◌, ◌+◌, ◌++◌, length}
-use Rattle.std.specs.Vec.Iter.{into_iter_items, into_iter_len}
+use Rattle.std.{proofs.Common.{◌≡◌, ◌+◌, ◌++◌, length}, specs.Vec.Iter.{into_iter_items, into_iter_len}}
 use Rattle.yq_planner.specs.ChangeView.{all_changed_of}
-use Rattle.yq_semantics.specs.Operations.{operations_of}
-use Rattle.yq_semantics.specs.Plans.{all_ops}
+use Rattle.yq_semantics.{specs.Operations.operations_of, specs.Plans.all_ops}
 use Rattle.yq_planner.proofs.updating.operations.operations.Given as goal
 
 abbrev pub invariant-documents : goal.invariant-documents

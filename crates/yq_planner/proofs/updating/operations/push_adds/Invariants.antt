@@ -1,9 +1,7 @@
-use Rattle.std.proofs.Common.{◌≡◌, ◌++◌, map, length}
-use Rattle.std.specs.Vec.Iter.{into_iter_items, into_iter_len}
+use Rattle.std.{proofs.Common.{◌≡◌, ◌++◌, map, length}, specs.Vec.Iter.{into_iter_items, into_iter_len}}
 use Rattle.yq_documents.specs.Located.{steps_of}
 use Rattle.yq_planner.specs.ChangeView.{addition_of}
-use Rattle.yq_semantics.specs.Operations.{operations_of}
-use Rattle.yq_semantics.specs.Plans.{add_op}
+use Rattle.yq_semantics.{specs.Operations.operations_of, specs.Plans.add_op}
 use Rattle.yq_planner.proofs.updating.operations.push_adds.Given as goal
 
 abbrev pub invariant-each : goal.invariant-each

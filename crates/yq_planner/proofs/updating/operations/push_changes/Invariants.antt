@@ -1,8 +1,6 @@
-use Rattle.std.proofs.Common.{◌≡◌, ◌++◌, map, length}
-use Rattle.std.specs.Vec.Iter.{into_iter_items, into_iter_len}
+use Rattle.std.{proofs.Common.{◌≡◌, ◌++◌, map, length}, specs.Vec.Iter.{into_iter_items, into_iter_len}}
 use Rattle.yq_planner.specs.ChangeView.{changed_of}
-use Rattle.yq_semantics.specs.Operations.{operations_of}
-use Rattle.yq_semantics.specs.Plans.{ops_of}
+use Rattle.yq_semantics.{specs.Operations.operations_of, specs.Plans.ops_of}
 use Rattle.yq_planner.proofs.updating.operations.push_changes.Given as goal
 
 abbrev pub invariant-each : goal.invariant-each

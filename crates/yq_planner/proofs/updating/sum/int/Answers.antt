@@ -1,7 +1,6 @@
 use Rattle.std.proofs.Common.{ap, ◌∙◌, string_bytes, rules}
 use Rattle.yq_core.specs.SchemaReading.{resolve}
-use Rattle.yq_planner.proofs.ScalarValues.{scalar_value}
-use Rattle.yq_planner.proofs.SumLaws.{int_written, int_agrees}
+use Rattle.yq_planner.{proofs.ScalarValues.scalar_value, proofs.SumLaws.{int_written, int_agrees}}
 use Rattle.yq_planner.proofs.updating.sum.int.Goals as goal
 
 pub of_kind-requires : goal.of_kind-requires

@@ -1,5 +1,4 @@
-use Rattle.std.proofs.Common.{rules}
-use Rattle.std.proofs.lemmas.List.{map_push, nil_from_length}
+use Rattle.std.{proofs.Common.rules, proofs.lemmas.List.{map_push, nil_from_length}}
 use Rattle.yq_planner.proofs.SumLaws.{followed_none, item_more}
 use Rattle.yq_planner.proofs.updating.sum.push_all.Goals as goal
 

@@ -1,7 +1,5 @@
-use Rattle.std.proofs.Common.{◌≡◌, length}
-use Rattle.std.specs.Vec.Iter.{into_iter_items, into_iter_len}
-use Rattle.yq_core.specs.Paths.{append_children}
-use Rattle.yq_core.specs.Values.{items_of}
+use Rattle.std.{proofs.Common.{◌≡◌, length}, specs.Vec.Iter.{into_iter_items, into_iter_len}}
+use Rattle.yq_core.{specs.Paths.append_children, specs.Values.items_of}
 use Rattle.yq_planner.proofs.updating.sum.push_all.Given as goal
 
 abbrev pub invariant-each : goal.invariant-each

@@ -1,11 +1,8 @@
-use Rattle.std.proofs.Common.{List, map, refl, ap, ◌∙◌}
-use Rattle.std.proofs.lemmas.List.{map_push}
-use Rattle.yq_core.specs.Values.{items, value_node}
-use Rattle.yq_core.specs.declared.value.Value.TheVariants as values
-use Rattle.yq_core.specs.Tree.{Node}
+use Rattle.std.{proofs.Common.{List, map, refl, ap, ◌∙◌}, proofs.lemmas.List.map_push}
+use Rattle.yq_core.{specs.Values.{items, value_node}, specs.Tree.Node}
 use Rattle.yq_semantics.proofs.ValueMaps.{node_of-map}
-use Rattle.yq_planner.proofs.ScalarValues.{scalar_value}
-use Rattle.yq_planner.proofs.SumLaws.{one_item}
+use Rattle.yq_planner.{proofs.ScalarValues.scalar_value, proofs.SumLaws.one_item}
+use Rattle.yq_core.specs.declared.value.Value.TheVariants as values
 use Rattle.yq_planner.proofs.updating.sum.push_items.Goals as goal
 
 pub returns-in_ok-push-in-Scalar : goal.returns-in_ok-push-in-Scalar

@@ -1,5 +1,4 @@
-use Rattle.std.proofs.Common.{rules}
-use Rattle.std.proofs.lemmas.List.{nil_from_length}
+use Rattle.std.{proofs.Common.rules, proofs.lemmas.List.nil_from_length}
 use Rattle.yq_planner.proofs.updating.sum.put_entries.Goals as goal
 
 pub each-preserved : goal.each-preserved

@@ -1,5 +1,4 @@
-use Rattle.std.proofs.Common.{◌≡◌, length, map}
-use Rattle.std.specs.Vec.Iter.{into_iter_items, into_iter_len}
+use Rattle.std.{proofs.Common.{◌≡◌, length, map}, specs.Vec.Iter.{into_iter_items, into_iter_len}}
 use Rattle.yq_core.specs.Values.{entries_of, field_of}
 use Rattle.yq_planner.specs.EntryNumbers.{AreNumbered}
 use Rattle.yq_semantics.specs.RightValues.{with_entries}

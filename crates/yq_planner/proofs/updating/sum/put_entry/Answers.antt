@@ -1,9 +1,6 @@
 use Rattle.std.proofs.Common.{◌≡◌, ℕ, List, Some, String, length, map, string_bytes, sym, ap, ◌∙◌, rules}
-use Rattle.std.proofs.lemmas.List.{length-map, map-set, map_push}
-use Rattle.std.specs.declared.alloc.Global.{Global}
-use Rattle.yq_core.specs.Values.{entries, field_of, value_node}
-use Rattle.yq_core.specs.declared.value.Value.{Value}
-use Rattle.yq_core.specs.Tree.{Node}
+use Rattle.std.{proofs.lemmas.List.{length-map, map-set, map_push}, specs.declared.alloc.Global.Global}
+use Rattle.yq_core.{specs.Values.{entries, field_of, value_node}, specs.declared.value.Value.Value, specs.Tree.Node}
 use Rattle.yq_planner.specs.EntryNumbers.{entry_number}
 use Rattle.yq_planner.proofs.SumLaws.{map_get, number_same, numbered_push, number_within, with_absent, with_present}
 use Rattle.yq_planner.proofs.updating.sum.put_entry.Goals as goal

@@ -1,5 +1,4 @@
-use Rattle.std.proofs.Common.{rules}
-use Rattle.std.proofs.lemmas.Grind.{common_steps}
+use Rattle.std.{proofs.Common.rules, proofs.lemmas.Grind.common_steps}
 use Rattle.yq_semantics.proofs.ValueMaps.{node_of-map}
 use Rattle.yq_planner.proofs.SumLaws.{map_sum}
 use Rattle.yq_planner.proofs.updating.sum.value_sum.Goals as goal

@@ -1,6 +1,5 @@
 use Rattle.std.proofs.Common.{◌∙◌, arith}
-use Rattle.yq_row_table.specs.Offsets.{pieces_of}
-use Rattle.yq_row_table.proofs.PieceCuts.{piece_at}
+use Rattle.yq_row_table.{specs.Offsets.pieces_of, proofs.PieceCuts.piece_at}
 use Rattle.yq_row_table.proofs.offsets.Offsets.key.Goals as goal
 
 pub piece-requires : goal.piece-requires

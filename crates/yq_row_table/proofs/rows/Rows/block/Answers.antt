@@ -1,12 +1,7 @@
-use Rattle.std.proofs.Common.{SFits, ap, option_map, rules, slice_get, sym, true, w64, ◌∙◌}
-use Rattle.std.proofs.lemmas.Int.{to_z-of_z}
+use Rattle.std.{proofs.Common.{SFits, ap, option_map, rules, slice_get, sym, true, w64, ◌∙◌}, proofs.lemmas.Int.to_z-of_z}
 use Rattle.std.proofs.lemmas.Option.{same_Some, slice_get-map}
-use Rattle.yq_row_table.specs.BlockNumbers.{block_numbers_of}
-use Rattle.yq_row_table.specs.Exchange.{behind_row}
-use Rattle.yq_row_table.specs.Rows.{parent_indent}
-use Rattle.yq_row_table.specs.View.{RowsView, Slices, rows_of, slices}
-use Rattle.yq_row_table.proofs.BlockNumberLaws.{block_by_pieces}
-use Rattle.yq_row_table.proofs.PlaceLaws.{row_in}
+use Rattle.yq_row_table.{specs.BlockNumbers.block_numbers_of, specs.Exchange.behind_row, specs.Rows.parent_indent}
+use Rattle.yq_row_table.{specs.View.{RowsView, Slices, rows_of, slices}, proofs.BlockNumberLaws.block_by_pieces, proofs.PlaceLaws.row_in}
 use Rattle.yq_row_table.proofs.rows.Rows.block.Goals as goal
 
 pub returns : goal.returns

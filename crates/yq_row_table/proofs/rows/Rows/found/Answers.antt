@@ -1,9 +1,6 @@
-use Rattle.yq_row_table.proofs.KeptReads.{kept_within}
-use Rattle.std.proofs.Common.{arith, ◌-◌, List, ℕ, Some, ap, drop, length, slice_get, subst, sym, ◌∙◌}
-use Rattle.std.specs.Str.{IsCharBoundary}
-use Rattle.yq_row_table.specs.Offsets.{AreCuts, lengths, pieces_of}
-use Rattle.yq_row_table.specs.View.{RowsView}
+use Rattle.yq_row_table.{proofs.KeptReads.kept_within, specs.Offsets.{AreCuts, lengths, pieces_of}, specs.View.RowsView}
 use Rattle.yq_row_table.proofs.KeptPlaces.{back_found, back_within, front_found, row_back, row_front}
+use Rattle.std.{proofs.Common.{arith, ◌-◌, List, ℕ, Some, ap, drop, length, slice_get, subst, sym, ◌∙◌}, specs.Str.IsCharBoundary}
 use Rattle.yq_row_table.proofs.rows.Rows.found.Goals as goal
 
 pub split_at-requires : goal.split_at-requires

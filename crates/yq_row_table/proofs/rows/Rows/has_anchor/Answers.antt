@@ -1,7 +1,5 @@
 use Rattle.std.proofs.Common.{ap, slice_get, ◌∙◌}
-use Rattle.yq_row_table.specs.View.{RowsView}
-use Rattle.yq_row_table.proofs.KeptPlaces.{kept_lengths}
-use Rattle.yq_row_table.proofs.KeptReads.{kept_within}
+use Rattle.yq_row_table.{specs.View.RowsView, proofs.KeptPlaces.kept_lengths, proofs.KeptReads.kept_within}
 use Rattle.yq_row_table.proofs.rows.Rows.has_anchor.Goals as goal
 
 pub returns : goal.returns

@@ -1,6 +1,5 @@
 use Rattle.std.proofs.Common.{subst}
-use Rattle.yq_row_table.specs.Kept.{IsPlaced}
-use Rattle.yq_row_table.proofs.PlacedLaws.{places_of}
+use Rattle.yq_row_table.{specs.Kept.IsPlaced, proofs.PlacedLaws.places_of}
 use Rattle.yq_row_table.proofs.rows.Rows.into_places.Goals as goal
 
 pub returns : goal.returns

@@ -1,8 +1,6 @@
 use Rattle.std.proofs.Common.{◌-◌, ◌<◌, ◌∷◌, ◌∙◌, [], List, Some, ap, arith, drop, length, slice_get, subst, sym, ℕ}
 use Rattle.std.specs.Str.{IsCharBoundary}
-use Rattle.yq_row_table.specs.Ends.{bound_at}
-use Rattle.yq_row_table.specs.Offsets.{AreCuts}
-use Rattle.yq_row_table.specs.View.{Bound, RowsView}
+use Rattle.yq_row_table.{specs.Ends.bound_at, specs.Offsets.AreCuts, specs.View.{Bound, RowsView}}
 use Rattle.yq_row_table.proofs.KeptPlaces.{end_at_index, end_cuts, from_back, from_front}
 use Rattle.yq_row_table.proofs.rows.Rows.part.Goals as goal
 

@@ -1,9 +1,5 @@
-use Rattle.std.proofs.Common.{ap, get_or, slice_get, sym, ◌∙◌, ◌++◌}
-use Rattle.yq_row_table.specs.RowStarts.{part_end}
-use Rattle.yq_row_table.specs.View.{RowsView}
-use Rattle.yq_row_table.specs.declared.ends.EndPlace.{EndPlace}
-use Rattle.std.specs.Prelude.{List}
-use Rattle.yq_row_table.proofs.EndsNear.{part_ends}
+use Rattle.std.{proofs.Common.{ap, get_or, slice_get, sym, ◌∙◌, ◌++◌}, specs.Prelude.List}
+use Rattle.yq_row_table.{specs.RowStarts.part_end, specs.View.RowsView, specs.declared.ends.EndPlace.EndPlace, proofs.EndsNear.part_ends}
 use Rattle.yq_row_table.proofs.HalfLaws.{have_view}
 use Rattle.yq_row_table.proofs.rows.Rows.part_end.Goals as goal
 

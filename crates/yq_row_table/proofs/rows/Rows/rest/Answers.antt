@@ -1,9 +1,7 @@
 use Rattle.std.proofs.Common.{◌++◌, ◌≡◌, ◌+◌, ◌-◌, ◌≤◌, length, List, take, drop, leb, ltb, rules, ap, sym, subst, ◌∙◌}
-use Rattle.std.specs.List.Sorted.{IsNonDecreasingBy}
-use Rattle.std.proofs.lemmas.List.{take_rest}
+use Rattle.std.{specs.List.Sorted.IsNonDecreasingBy, proofs.lemmas.List.take_rest}
 use Rattle.std.proofs.lemmas.List.Sorted.{IsPartitionPoint-from_clause, IsPartitionedBy-leb, IsPartitionedBy-ltb, IsNonDecreasingBy-drop}
-use Rattle.yq_row_table.specs.Ends.{bounds_in_halves}
-use Rattle.yq_row_table.specs.View.{Bound, bounds_at, RowsView}
+use Rattle.yq_row_table.{specs.Ends.bounds_in_halves, specs.View.{Bound, bounds_at, RowsView}}
 use Rattle.yq_row_table.proofs.RestSlicing.{ends_rise, rest_sliced, rest_range, range_within}
 use Rattle.yq_row_table.proofs.rows.Rows.rest.Goals as goal
 

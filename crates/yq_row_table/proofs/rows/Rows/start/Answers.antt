@@ -1,8 +1,6 @@
-use Rattle.yq_row_table.proofs.KeptReads.{kept_within}
-use Rattle.std.proofs.Common.{◌<◌, ◌∙◌, ap, arith, length, length-append, subst, sym}
-use Rattle.yq_row_table.specs.RowStarts.{row_start}
-use Rattle.yq_row_table.specs.View.{RowsView}
+use Rattle.yq_row_table.{proofs.KeptReads.kept_within, specs.RowStarts.row_start, specs.View.RowsView}
 use Rattle.yq_row_table.proofs.KeptPlaces.{back_within, halves_small, start_back, start_front}
+use Rattle.std.proofs.Common.{◌<◌, ◌∙◌, ap, arith, length, length-append, subst, sym}
 use Rattle.yq_row_table.proofs.rows.Rows.start.Goals as goal
 
 pub returns-then-i-len : goal.returns-then-i-len

@@ -1,6 +1,5 @@
 use Rattle.yq_rows.proofs.laws.splices.rows_spliced.Goals as goal
-use Rattle.yq_row_table.proofs.splices.SpliceLaws.{spliced}
-use Rattle.yq_row_table.proofs.splices.SpliceTexts.{new_text, old_text}
+use Rattle.yq_row_table.{proofs.splices.SpliceLaws.spliced, proofs.splices.SpliceTexts.{new_text, old_text}}
 
 pub returns-clause-cut : goal.returns-clause-cut
 returns-clause-cut c = spliced

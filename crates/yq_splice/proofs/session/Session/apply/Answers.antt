@@ -1,14 +1,11 @@
-use Rattle.std.proofs.Common.{◌≡◌, inl, ℕ, List, sym, ap, ◌∙◌, subst}
-use Rattle.std.proofs.lemmas.Result.{err_from_is_err_and}
+use Rattle.std.{proofs.Common.{◌≡◌, inl, ℕ, List, sym, ap, ◌∙◌, subst}, proofs.lemmas.Result.err_from_is_err_and}
 use Rattle.yq_text.specs.TextGapBuffer.{buffer_text}
 use Rattle.yq_semantics.specs.Operations.{operation_of}
 use Rattle.yq_rows.specs.Following.{CountsWritten, Follows, exchanged}
-use Rattle.yq_edit_laws.specs.Edit.{gives}
+use Rattle.yq_edit_laws.{specs.Edit.gives, specs.Theorems.IsApplied, proofs.ApplyLaws.refused_by}
 use Rattle.yq_splice.specs.Session.{SessionState, HasPlaces, KnowsItems}
-use Rattle.yq_edit_laws.specs.Theorems.{IsApplied}
-use Rattle.yq_edit_laws.proofs.ApplyLaws.{refused_by}
-use Rattle.yq_splice.proofs.FollowLaws.{applied_none, applied_some, carried_none, carried_some, follows, kept_after, no_splices, scans, some_splices}
-use Rattle.yq_splice.proofs.SessionLaws.{known_here, places_stay}
+use Rattle.yq_splice.proofs.FollowLaws.{applied_none, applied_some, carried_none, carried_some, follows, kept_after, no_splices, scans}
+use Rattle.yq_splice.{proofs.FollowLaws.some_splices, proofs.SessionLaws.{known_here, places_stay}}
 use Rattle.yq_splice.proofs.session.Session.apply.Goals as goal
 
 pub returns-in_err-changed-clause-refused : goal.returns-in_err-changed-clause-refused

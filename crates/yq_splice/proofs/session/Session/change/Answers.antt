@@ -1,15 +1,12 @@
 use Rattle.std.proofs.Common.{IfOk, IfErr, List, ℕ, sym, ap, ◌∙◌, subst}
-use Rattle.yq_text.specs.TextGapBuffer.{buffer_text}
+use Rattle.yq_text.{specs.TextGapBuffer.buffer_text, specs.Changing.IsChange}
 use Rattle.yq_documents.specs.Reading.{cut_of}
 use Rattle.yq_semantics.specs.Operations.{operation_of}
-use Rattle.yq_text.specs.Changing.{IsChange}
 use Rattle.yq_places.specs.RowWalk.{StayKnown}
-use Rattle.yq_edit_laws.specs.Answers.{EditFails}
-use Rattle.yq_edit_laws.specs.Carried.{carried}
-use Rattle.yq_edit_laws.specs.Edit.{Edit}
+use Rattle.yq_edit_laws.{specs.Answers.EditFails, specs.Carried.carried, specs.Edit.Edit, specs.Valid.segments_by}
 use Rattle.yq_splice.specs.Session.{SessionState, HasPlaces, KnowsItems}
-use Rattle.yq_edit_laws.specs.Valid.{segments_by}
-use Rattle.yq_splice.proofs.SessionLaws.{carried_on, cut_borrowed, known_borrowed, moved_same, places_back, places_borrowed, split_is, split_borrowed, whole_borrowed}
+use Rattle.yq_splice.proofs.SessionLaws.{carried_on, cut_borrowed, known_borrowed, moved_same, places_back, places_borrowed, split_is}
+use Rattle.yq_splice.proofs.SessionLaws.{split_borrowed, whole_borrowed}
 use Rattle.yq_splice.proofs.session.Session.change.Goals as goal
 
 pub move_split-requires : goal.move_split-requires

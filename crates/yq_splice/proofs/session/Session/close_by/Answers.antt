@@ -1,13 +1,10 @@
-use Rattle.std.proofs.Common.{string_bytes, sym, ap, ◌∙◌, subst}
-use Rattle.std.proofs.lemmas.Result.{err_from_is_err_and}
+use Rattle.std.{proofs.Common.{string_bytes, sym, ap, ◌∙◌, subst}, proofs.lemmas.Result.err_from_is_err_and}
 use Rattle.yq_text.specs.TextGapBuffer.{buffer_text}
 use Rattle.yq_semantics.specs.Operations.{operation_of}
-use Rattle.yq_edit_laws.specs.Answers.{EditFails}
-use Rattle.yq_edit_laws.specs.Carried.{carried}
-use Rattle.yq_edit_laws.specs.Edit.{edit_after, gives}
+use Rattle.yq_edit_laws.{specs.Answers.EditFails, specs.Carried.carried, specs.Edit.{edit_after, gives}, proofs.OrderLaws.fails_behind}
 use Rattle.yq_splice.specs.Session.{SessionState}
-use Rattle.yq_edit_laws.proofs.OrderLaws.{fails_behind}
-use Rattle.yq_splice.proofs.SessionLaws.{carried_on, cut_borrowed, known_borrowed, places_borrowed, split_is, split_borrowed, whole_borrowed}
+use Rattle.yq_splice.proofs.SessionLaws.{carried_on, cut_borrowed, known_borrowed, places_borrowed, split_is, split_borrowed}
+use Rattle.yq_splice.proofs.SessionLaws.{whole_borrowed}
 use Rattle.yq_splice.proofs.session.Session.close_by.Goals as goal
 
 pub move_split-requires : goal.move_split-requires

@@ -1,5 +1,4 @@
-use Rattle.std.proofs.Common.{◌≡◌, ℕ, List, ◌++◌, append-nil, sym, ◌∙◌, subst}
-use Rattle.std.specs.String.{string_bytes}
+use Rattle.std.{proofs.Common.{◌≡◌, ℕ, List, ◌++◌, append-nil, sym, ◌∙◌, subst}, specs.String.string_bytes}
 use Rattle.yq_text.specs.TextGapBuffer.{buffer_text}
 use Rattle.yq_splice.specs.Session.{HasPlaces}
 use Rattle.yq_splice.proofs.session.Session.of.Goals as goal

@@ -1,10 +1,8 @@
-use Rattle.std.proofs.Common.{rules, ap, sym, ◌∙◌, ◌≡◌, ℕ, List, Some, ◌++◌, append-nil, subst}
-use Rattle.std.proofs.lemmas.Result.{err_from_is_err_and}
+use Rattle.std.{proofs.Common.{rules, ap, sym, ◌∙◌, ◌≡◌, ℕ, List, Some, ◌++◌, append-nil, subst}, proofs.lemmas.Result.err_from_is_err_and}
 use Rattle.yq_documents.specs.Reading.{cut_of, read_at}
 use Rattle.yq_splice.proofs.SessionLaws.{has_reading, not_opened}
 use Rattle.yq_text.specs.TextGapBuffer.{buffer_text}
-use Rattle.yq_row_table.specs.Kept.{IsPlaced}
-use Rattle.yq_row_table.specs.Meter.{count_after, line_count}
+use Rattle.yq_row_table.{specs.Kept.IsPlaced, specs.Meter.{count_after, line_count}}
 use Rattle.yq_splice.proofs.session.Session.open.Goals as goal
 
 pub returns-in_err-documents-clause-refused : goal.returns-in_err-documents-clause-refused

@@ -1,7 +1,6 @@
 use Rattle.std.proofs.Common.{subst}
-use Rattle.yq_splice.specs.Session.{SessionState}
+use Rattle.yq_splice.{specs.Session.SessionState, proofs.SessionLaws.has_reading}
 use Rattle.yq_edit_laws.specs.Theorems.{HasReading}
-use Rattle.yq_splice.proofs.SessionLaws.{has_reading}
 use Rattle.yq_splice.proofs.session.Session.text.Goals as goal
 
 pub returns-clause-read : goal.returns-clause-read

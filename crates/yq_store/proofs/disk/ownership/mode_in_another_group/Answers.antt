@@ -1,6 +1,4 @@
-use Rattle.std.proofs.Common.{◌≡◌, ◌∙◌, ℕ, bit_and, ap, sym}
-use Rattle.std.proofs.lemmas.Nat.{and_assoc, and_comm}
-use Rattle.std.specs.Int.Bits.{and_self}
+use Rattle.std.{proofs.Common.{◌≡◌, ◌∙◌, ℕ, bit_and, ap, sym}, proofs.lemmas.Nat.{and_assoc, and_comm}, specs.Int.Bits.and_self}
 use Rattle.yq_store.proofs.disk.ownership.mode_in_another_group.Goals as goal
 
 -- what is left of m has no bit that m hasn't

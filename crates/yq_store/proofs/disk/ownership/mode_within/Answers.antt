@@ -1,6 +1,4 @@
-use Rattle.std.proofs.Common.{◌∙◌, bit_and, ap}
-use Rattle.std.proofs.lemmas.Nat.{and_assoc}
-use Rattle.std.specs.Int.Bits.{and_self}
+use Rattle.std.{proofs.Common.{◌∙◌, bit_and, ap}, proofs.lemmas.Nat.and_assoc, specs.Int.Bits.and_self}
 use Rattle.yq_store.proofs.disk.ownership.mode_within.Goals as goal
 
 pub returns : goal.returns

@@ -1,5 +1,4 @@
-use Rattle.std.proofs.Math.Nat.{le_of_lt}
-use Rattle.std.proofs.Common.{◌∙◌}
+use Rattle.std.{proofs.Math.Nat.le_of_lt, proofs.Common.◌∙◌}
 use Rattle.yq_text.proofs.HalvesLaws.{drop_past, first_cut}
 use Rattle.yq_text.proofs.halves.Halves.split_at.Goals as goal
 

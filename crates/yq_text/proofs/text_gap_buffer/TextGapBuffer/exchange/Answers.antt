@@ -1,8 +1,5 @@
-use Rattle.yq_text.proofs.RoomLaws.{is_room}
-use Rattle.yq_text.specs.TextGapBuffer.{TextGapView}
-use Rattle.std.proofs.Common.{sym, subst, length, ◌≤◌, ◌+◌}
-use Rattle.std.specs.Str.{IsCharBoundary}
-use Rattle.yq_text.proofs.SplitLaws.{kept_written, written_back}
+use Rattle.yq_text.{proofs.RoomLaws.is_room, specs.TextGapBuffer.TextGapView, proofs.SplitLaws.{kept_written, written_back}}
+use Rattle.std.{proofs.Common.{sym, subst, length, ◌≤◌, ◌+◌}, specs.Str.IsCharBoundary}
 use Rattle.yq_text.proofs.text_gap_buffer.TextGapBuffer.exchange.Goals as goal
 
 pub invariant_of-self : goal.invariant_of-self

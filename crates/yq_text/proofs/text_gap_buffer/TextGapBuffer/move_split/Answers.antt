@@ -1,7 +1,5 @@
-use Rattle.std.proofs.Common.{sym, subst, rules}
-use Rattle.std.specs.Str.{IsCharBoundary}
-use Rattle.yq_text.specs.TextGapBuffer.{buffer_text}
-use Rattle.yq_text.proofs.SplitLaws.{moved_back, moved_on}
+use Rattle.std.{proofs.Common.{sym, subst, rules}, specs.Str.IsCharBoundary}
+use Rattle.yq_text.{specs.TextGapBuffer.buffer_text, proofs.SplitLaws.{moved_back, moved_on}}
 use Rattle.yq_text.proofs.text_gap_buffer.TextGapBuffer.move_split.Goals as goal
 
 pub invariant_of-self : goal.invariant_of-self

@@ -1,5 +1,4 @@
-use Rattle.std.proofs.Common.{rules}
-use Rattle.std.proofs.lemmas.Str.{IsUtf8-string_bytes}
+use Rattle.std.{proofs.Common.rules, proofs.lemmas.Str.IsUtf8-string_bytes}
 use Rattle.yq_text.proofs.SplitLaws.{all_front}
 use Rattle.yq_text.proofs.text_gap_buffer.TextGapBuffer.of.Goals as goal
 

@@ -1,11 +1,7 @@
 use Rattle.std.proofs.Common.{rules, ◌≡◌, List, [], ◌∷◌, ◌++◌, sym, ap, ◌∙◌}
 use Rattle.yq_nodes.specs.Nodes.{node_of}
-use Rattle.yq_eval.proofs.PlaceLaws.{null_there}
-use Rattle.yq_eval.specs.PlaceView.{missing_of}
-use Rattle.yq_eval.specs.declared.matching.place.Missing.{the_lemmas}
-use Rattle.yq_semantics.specs.Conditions.{node_there}
-use Rattle.yq_semantics.specs.Program.{PathStep}
-use Rattle.yq_semantics.specs.View.{program_step}
+use Rattle.yq_eval.{proofs.PlaceLaws.null_there, specs.PlaceView.missing_of, specs.declared.matching.place.Missing.the_lemmas}
+use Rattle.yq_semantics.{specs.Conditions.node_there, specs.Program.PathStep, specs.View.program_step}
 use Rattle.yq_eval.proofs.matching.place.FoundPlace.found.Goals as goal
 
 pub returns-in-Further : goal.returns-in-Further

@@ -1,9 +1,7 @@
-use Rattle.std.proofs.Common.{◌+◌, ◌∙◌, Some, option_and_then, drop, map, sym, ap, arith}
-use Rattle.std.proofs.lemmas.List.{drop_all}
+use Rattle.std.{proofs.Common.{◌+◌, ◌∙◌, Some, option_and_then, drop, map, sym, ap, arith}, proofs.lemmas.List.drop_all}
 use Rattle.yq_core.specs.Entries.{tree_step}
 use Rattle.yq_outline.specs.Labelled.{labelled_from}
-use Rattle.yq_nodes.specs.Nodes.{labelled_of}
-use Rattle.yq_nodes.proofs.WalkLaws.{path_next, path_node}
+use Rattle.yq_nodes.{specs.Nodes.labelled_of, proofs.WalkLaws.{path_next, path_node}}
 use Rattle.yq_nodes.proofs.nodes.node.Node.descend.Goals as goal
 
 pub returns-in_err-node-clause-labelled : goal.returns-in_err-node-clause-labelled

@@ -1,8 +1,7 @@
 use Rattle.std.proofs.Common.{ap, ◌∙◌}
 use Rattle.yq_core.specs.Paths.{Nth}
 use Rattle.yq_outline.specs.Labelled.{labelled_at}
-use Rattle.yq_nodes.specs.Nodes.{node_of}
-use Rattle.yq_nodes.proofs.WalkLaws.{child_node}
+use Rattle.yq_nodes.{specs.Nodes.node_of, proofs.WalkLaws.child_node}
 use Rattle.yq_nodes.proofs.nodes.node.Node.item.Goals as goal
 
 pub returns-clause-node : goal.returns-clause-node

@@ -1,9 +1,6 @@
 use Rattle.std.proofs.Common.{ap, None, ◌∙◌}
-use Rattle.yq_outline.specs.Ends.{part}
-use Rattle.yq_outline.specs.Outline.{anchored, value}
-use Rattle.yq_outline.proofs.NameLaws.{all_value}
-use Rattle.yq_documents.specs.Stretches.{document_lines}
-use Rattle.yq_documents.proofs.WalkedRows.{first_is, root_is}
+use Rattle.yq_outline.{specs.Ends.part, specs.Outline.{anchored, value}, proofs.NameLaws.all_value}
+use Rattle.yq_documents.{specs.Stretches.document_lines, proofs.WalkedRows.{first_is, root_is}}
 use Rattle.yq_nodes.proofs.nodes.node.Node.root.Goals as goal
 
 pub returns-clause-node : goal.returns-clause-node
