@@ -1,4 +1,4 @@
--- A text that is kept in two halves, with room between them (own).
+-- What a gap buffer of text holds: two halves, with room between them (own).
 use Rattle.std.specs.Prelude.{ℕ, List, ◌++◌, ◌≤◌, length, take, drop}
 use Rattle.std.specs.Str.{IsUtf8}
 
