@@ -1,6 +1,6 @@
-//! Why words are no command.
+//! What is wrong with words that are no command.
 
-/// Why words are no command.
+/// What is wrong with words that are no command.
 #[derive(Clone, Copy, Debug, PartialEq, Eq)]
 pub enum UsageCause {
     /// A word isn't UTF-8.

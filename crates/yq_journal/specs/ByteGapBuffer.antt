@@ -1,4 +1,4 @@
--- A text cut in two at a cursor.
+-- What a gap buffer of bytes holds: a text cut in two at a cursor.
 use Rattle.std.specs.Prelude.{List, ℕ, ◌++◌}
 use Rattle.yq_text.specs.Splice.{Splice}
 

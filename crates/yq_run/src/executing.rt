@@ -64,8 +64,7 @@ pub fn execute<D: Store>(
         IsOn file journal command.now → (h : Option History) →
         GoodIn (D.content store.old) file journal h →
         Arrives (D.content store.new) file journal
-        (cause_of command.now h) h (next_of command.now h)
-        result }
+        (cause_of command.now h) h (next_of command.now h) result }
     ensures effect { IsTrue D.keeps → (file journal : List ℕ) → file ≢ journal →
         IsOn file journal command.now →
         OfEffect command.now (map.get (D.content store.old) file)

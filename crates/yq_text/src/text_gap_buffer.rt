@@ -1,4 +1,4 @@
-//! A text that is kept in two halves, with room between them.
+//! A gap buffer of text: two halves, with room between them.
 ghost use Rattle.std.specs.Prelude.{◌≡◌, ◌+◌, ◌-◌, ◌≤◌, ◌<◌, ◌^◌, ◌++◌, [], drop, length, take, OnOk, OnErr, string_bytes};
 ghost use Rattle.std.specs.Str.{IsCharBoundary};
 ghost use Rattle.yq_text.specs.TextGapBuffer.{TextGapView, buffer_text};
@@ -9,7 +9,7 @@ use std::alloc::AllocError;
 use std::cmp::max;
 use std::marker::Model;
 
-/// A text that is kept in two halves with room between them: what is written there moves no other byte,
+/// A gap buffer of text, two halves with room between them: what is written there moves no other byte,
 /// and to move the split costs the bytes between its old place and its new one.
 #[derive(Drop)]
 pub struct TextGapBuffer {
