@@ -1,8 +1,8 @@
 //! A gap buffer of bytes, where splices are done in turn.
-ghost use Rattle.std.specs.Prelude.{◌≡◌, ◌↔◌, ◌+◌, ◌<◌, ◌≤◌, [], ◌++◌, false, None, Some, IsTrue, IfOk, OnOk, length, drop, option_map, reverse, if◌then◌else◌};
-ghost use Rattle.yq_journal.specs.ByteGapBuffer.{splice_of_parts, buffer_bytes};
+ghost use Rattle.std.specs.Prelude.{◌≡◌, ◌↔◌, ◌+◌, ◌<◌, ◌≤◌, [], ◌++◌, false, None, Some, IsTrue, IfOk, OnOk, length, drop, option_map};
+ghost use Rattle.std.specs.Prelude.{reverse, if◌then◌else◌};
+ghost use Rattle.yq_journal.{specs.ByteGapBuffer.{splice_of_parts, buffer_bytes}, specs.Turned.flipped_if};
 ghost use Rattle.yq_text.specs.Splice.{all_done, change_done, flipped};
-ghost use Rattle.yq_journal.specs.Turned.{flipped_if};
 
 use std::alloc::{AllocError, Global};
 use std::marker::Model;

@@ -1,6 +1,5 @@
 -- What a gap buffer of text holds: two halves, with room between them (own).
-use Rattle.std.specs.Prelude.{ℕ, List, ◌++◌, ◌≤◌, length, take, drop}
-use Rattle.std.specs.Str.{IsUtf8}
+use Rattle.std.{specs.Prelude.{ℕ, List, ◌++◌, ◌≤◌, length, take, drop}, specs.Str.IsUtf8}
 
 -- A text in front of a split and behind it, and for how many bytes there is room between the two (own).
 pub record TextGapView : Type 0 where
